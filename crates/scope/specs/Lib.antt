@@ -1,0 +1,15 @@
+pub mod Bytes
+pub mod Limits
+pub mod Line
+pub mod Keys
+pub mod Content
+pub mod Reading
+pub mod Modifications
+pub mod Refusals
+pub mod Canonical
+pub mod Tables
+pub mod Positions
+pub mod Placements
+pub mod Masses
+pub mod Answers
+pub mod Register

@@ -1,0 +1,81 @@
+-- Masses: a bracket's, the total, the ledger of a placement, and the display.
+use Prim.Native.Nat.{ℕ, _+_, _^_}
+use mathlib.Core.Bool.{Bool, true, false, not, cond, _&&_}
+use mathlib.Core.Option.{Option, none, some}
+use mathlib.Core.List.{List, [], _∷_, _++_, map}
+use lib.Dec.{eqb}
+use lib.IntN.{ℤ, pos, _+ℤ_, _*ℤ_}
+use lib.Ieee.{Float, binary64, div, ofInt}
+use Rattle.scope.specs.declared.grammar.Key.the-variants.{Obs}
+use Rattle.scope.specs.declared.grammar.Kind.{Kind}
+use Rattle.scope.specs.declared.grammar.Kind.the-variants.{Unknown, Labile, NTerm, OnResidue, OnRange, CTerm}
+use Rattle.scope.specs.Limits.{positionLimit, decimalLimit}
+use Rattle.scope.specs.Line.{Value, mass, text, reference, Part, Bracket, Line}
+use Rattle.scope.specs.Content.{given}
+use Rattle.scope.specs.Modifications.{keep, isKey, isModification}
+use Rattle.scope.specs.Tables.{millionths, tabled}
+use Rattle.scope.specs.Positions.{isPlaced, floaters}
+
+-- ---- "A bracket's mass is its first mass without `Obs`, else its first `Obs` mass, else none. Parts are synonyms and never added up."
+abbrev pub valueMass : {P : Type 0} → Value P → Option ℤ
+valueMass (mass n) = some (millionths n)
+valueMass (text t) = none
+valueMass reference = none
+
+unfoldable pub firstMass : {P : Type 0} → List (Part P) → Option ℤ
+firstMass [] = none
+firstMass (p ∷ ps) = given (valueMass (p .value)) some (firstMass ps)
+
+unfoldable pub massOf : {P : Type 0} → Bracket P → Option ℤ
+massOf k = given (firstMass (keep (λ p. not (isKey Obs p)) (k .parts))) some (firstMass (keep (isKey Obs) (k .parts)))
+
+-- ---- "The total is the sum over all modifications, counts multiplied, labile included, labels once."
+unfoldable pub sum : List ℤ → ℤ
+sum [] = pos 0
+sum (m ∷ ms) = m +ℤ sum ms
+
+abbrev pub modifications : {P : Type 0} → Line P → List (Bracket P)
+modifications t = keep isModification (t .brackets)
+
+abbrev pub massOr0 : {P : Type 0} → Bracket P → ℤ
+massOr0 k = given (massOf k) (λ m. m) (pos 0)
+
+unfoldable pub total : {P : Type 0} → Line P → ℤ
+total t = sum (map (λ k. pos (k .count) *ℤ massOr0 k) (modifications t))
+
+-- 16 "how many have none, each copy counted"
+unfoldable pub sumℕ : List ℕ → ℕ
+sumℕ [] = 0
+sumℕ (n ∷ ns) = n + sumℕ ns
+
+unfoldable pub lacking : {P : Type 0} → Line P → ℕ
+lacking t = sumℕ (map (λ k. given (massOf k) (λ m. 0) (k .count)) (modifications t))
+
+-- ---- "The ledger of a placement has one entry for each of the 256 positions ..; each holds the masses of the modifications placed there and of
+-- the floating copy put there, nothing else"
+unfoldable pub placedAt : {P : Type 0} → ℕ → List (Bracket P) → ℤ
+placedAt x ks = sum (map massOr0 (keep (λ k. isPlaced k && eqb (k .first) x) ks))
+
+unfoldable pub putAt : {P : Type 0} → ℕ → List (Bracket P) → List ℕ → ℤ
+putAt x [] p = pos 0
+putAt x (k ∷ ks) [] = pos 0
+putAt x (k ∷ ks) (y ∷ p) = cond (eqb x y) (massOr0 k) (pos 0) +ℤ putAt x ks p
+
+unfoldable pub ledger : {P : Type 0} → Line P → List ℕ → List ℤ
+ledger t p = tabled (λ x. placedAt x (t .brackets) +ℤ putAt x (floaters t) p) 0 positionLimit
+
+-- the labile ones, which no ledger books
+abbrev pub isLabile : Kind → Bool
+isLabile Unknown = false
+isLabile Labile = true
+isLabile NTerm = false
+isLabile OnResidue = false
+isLabile OnRange = false
+isLabile CTerm = false
+
+unfoldable pub labileMass : {P : Type 0} → Line P → ℤ
+labileMass t = sum (map massOr0 (keep (λ k. isLabile (k .kind)) (modifications t)))
+
+-- ---- "the whole number becomes a double with nothing lost and is divided once by 1,000,000"
+abbrev pub daltons : ℤ → Float
+daltons m = div binary64 (ofInt binary64 m) (ofInt binary64 (pos (10 ^ decimalLimit)))

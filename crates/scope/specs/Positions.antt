@@ -1,0 +1,102 @@
+-- Positions: where modifications are placed, where floating copies may stand, and the rows.
+use Prim.Native.Nat.{ℕ, _+_, min}
+use mathlib.Core.Bool.{Bool, true, false, not, cond, _&&_, _||_}
+use mathlib.Core.Option.{Option, none, some}
+use mathlib.Core.List.{List, [], _∷_, _++_, map}
+use lib.Dec.{eqb, leb}
+use lib.ListN.{length, take, replicate}
+use Rattle.scope.specs.declared.grammar.Kind.{Kind}
+use Rattle.scope.specs.declared.grammar.Kind.the-variants.{Unknown, Labile, NTerm, OnResidue, OnRange, CTerm}
+use Rattle.scope.specs.declared.answers.Site.{Site}
+use Rattle.scope.specs.Limits.{rowLimit}
+use Rattle.scope.specs.Line.{Bracket, Line}
+use Rattle.scope.specs.Modifications.{keep, flat, isModification, isLabelled, copies, definedBy, referredBy}
+use Rattle.scope.specs.Refusals.{shared}
+use Rattle.scope.specs.Tables.{tabled}
+
+unfoldable pub member : ℕ → List ℕ → Bool
+member x [] = false
+member x (y ∷ l) = eqb x y || member x l
+
+-- ---- "A modification is placed when it is unlabelled and stands on a residue or terminus"
+abbrev pub onOnePosition : Kind → Bool
+onOnePosition Unknown = false
+onOnePosition Labile = false
+onOnePosition NTerm = true
+onOnePosition OnResidue = true
+onOnePosition OnRange = false
+onOnePosition CTerm = true
+
+unfoldable pub isPlaced : {P : Type 0} → Bracket P → Bool
+isPlaced k = isModification k && not (isLabelled k) && onOnePosition (k .kind)
+
+-- "A position with a placed modification is struck out"
+unfoldable pub struckOut : {P : Type 0} → List (Bracket P) → List ℕ
+struckOut ks = map (λ k. k .first) (keep isPlaced ks)
+
+-- ---- "Floating copies, in order of their brackets": each copy is given by its bracket
+unfoldable pub floaters : {P : Type 0} → Line P → List (Bracket P)
+floaters t = flat (λ k. replicate (copies k) k) (t .brackets)
+
+-- ---- "Permitted positions: residues 1 to n for an unlabelled unknown one; the residues of its range; for a label, the position or range of its
+-- definition, if it has one in the sequence or at a terminus, and those of its references, each once."
+abbrev pub between : ℕ → ℕ → ℕ → Bool
+between a e x = leb a x && leb x e
+
+abbrev pub ownPosition : {P : Type 0} → Bracket P → ℕ → Kind → Bool
+ownPosition k x Unknown = false
+ownPosition k x Labile = false
+ownPosition k x NTerm = between (k .first) (k .last) x
+ownPosition k x OnResidue = between (k .first) (k .last) x
+ownPosition k x OnRange = between (k .first) (k .last) x
+ownPosition k x CTerm = between (k .first) (k .last) x
+
+-- some reference to one of the bracket's labels stands at x
+unfoldable pub referredAt : {P : Type 0} → Bracket P → ℕ → List (Bracket P) → Bool
+referredAt k x [] = false
+referredAt k x (r ∷ rs) = shared (definedBy k) (referredBy r) && between (r .first) (r .last) x || referredAt k x rs
+
+abbrev pub isUnlabelledUnknown : {P : Type 0} → Bracket P → Kind → Bool
+isUnlabelledUnknown k Unknown = not (isLabelled k)
+isUnlabelledUnknown k Labile = false
+isUnlabelledUnknown k NTerm = false
+isUnlabelledUnknown k OnResidue = false
+isUnlabelledUnknown k OnRange = false
+isUnlabelledUnknown k CTerm = false
+
+unfoldable pub mayStand : {P : Type 0} → Line P → Bracket P → ℕ → Bool
+mayStand t k x =
+    cond (isUnlabelledUnknown k (k .kind)) (between 1 (length (t .residues)) x)
+    (ownPosition k x (k .kind) || referredAt k x (t .brackets))
+
+-- all positions: "Position 0 is the N-terminus, 1 to n the residues, n+1 the C-terminus"
+abbrev pub positions : {P : Type 0} → Line P → List ℕ
+positions t = tabled (λ x. x) 0 (length (t .residues) + 2)
+
+unfoldable pub permitted : {P : Type 0} → Line P → Bracket P → List ℕ
+permitted t k = keep (λ x. mayStand t k x && not (member x (struckOut (t .brackets)))) (positions t)
+
+-- for each floater, in order
+abbrev pub permittedPositions : {P : Type 0} → Line P → List (List ℕ)
+permittedPositions t = map (permitted t) (floaters t)
+
+-- ---- "rows of floater and position, ascending, with their number, floaters counted from 1"
+unfoldable pub rowsFrom : ℕ → List (List ℕ) → List Site
+rowsFrom f [] = []
+rowsFrom f (q ∷ qs) = map (λ x. record { floater = f; position = x }) q ++ rowsFrom (f + 1) qs
+
+unfoldable pub rowsOf : {P : Type 0} → Line P → List Site
+rowsOf t = rowsFrom 1 (permittedPositions t)
+
+-- ---- "A lookup in any rows, ordered or not, gives the index (from 0) and the position of a floater's first row among the first so many"
+pub record Found : Type 0 where
+  pub index : ℕ
+  pub position : ℕ
+
+unfoldable pub firstRow : ℕ → ℕ → List Site → Option Found
+firstRow f i [] = none
+firstRow f i (r ∷ rs) = cond (eqb (r .floater) f) (some (record { index = i; position = r .position })) (firstRow f (i + 1) rs)
+
+-- "a number above 2,048 is read as 2,048"
+abbrev pub lookup : List Site → ℕ → ℕ → Option Found
+lookup rs n f = firstRow f 0 (take (min n rowLimit) rs)

@@ -1,0 +1,243 @@
+-- Refusals 1 to 12: for each number the places at which it is due, and the lowest number.
+use Prim.Native.Nat.{ℕ, _+_, _-_, _*_, _^_, min}
+use mathlib.Core.Bool.{Bool, true, false, not, cond, _&&_, _||_}
+use mathlib.Core.Option.{Option, none, some}
+use mathlib.Core.List.{List, [], _∷_, _++_, map}
+use lib.Dec.{eqb, leb, ltb}
+use lib.ListN.{length, drop, take}
+use Rattle.scope.specs.declared.grammar.Key.{Key}
+use Rattle.scope.specs.declared.grammar.Key.the-variants.{NoKey, U, M, Formula, Glycan, Position, Limit}
+use Rattle.scope.specs.declared.grammar.Kind.{Kind}
+use Rattle.scope.specs.declared.grammar.Kind.the-variants.{Unknown, Labile, NTerm, OnResidue, OnRange, CTerm}
+use Rattle.scope.specs.Bytes.{bytes, isPrintable, isDigit, isOpening, isShutting, sameFolded}
+use Rattle.scope.specs.Limits.{lineLimit, residueLimit, bracketLimit, partLimit, textLimit, labelLimit, depthLimit, sizeLimit, decimalLimit, countLimit, copyLimit}
+use Rattle.scope.specs.Line.{Number, Label, Value, mass, text, reference, Part, Bracket, Residue, Line}
+use Rattle.scope.specs.Keys.{written}
+use Rattle.scope.specs.Content.{given, none?}
+use Rattle.scope.specs.Reading.{Reading, stuck, holds, reading}
+use Rattle.scope.specs.Modifications.{all, keep, flat, among, isKey, onlyInfo, isReferring, namesOf, isLabelled, copies, definedBy, referredBy, defined, referredTo}
+
+-- the place i, where the test holds
+abbrev pub dueAt : Bool → ℕ → List ℕ
+dueAt true i = i ∷ []
+dueAt false i = []
+
+-- "at its first place in the line"
+unfoldable pub least : List ℕ → Option ℕ
+least [] = none
+least (i ∷ l) = some (given (least l) (min i) i)
+
+-- ---- 1 "line empty", at 0
+unfoldable pub refusal1 : List ℕ → Option ℕ
+refusal1 s = cond (none? s) (some 0) none
+
+-- ---- 2 "line too long", at 4,096
+unfoldable pub refusal2 : List ℕ → Option ℕ
+refusal2 s = cond (ltb lineLimit (length s)) (some lineLimit) none
+
+-- ---- 3 "a byte outside 32 to 126", at "that byte"
+unfoldable pub unprintable : ℕ → List ℕ → List ℕ
+unprintable i [] = []
+unprintable i (b ∷ s) = dueAt (not (isPrintable b)) i ++ unprintable (i + 1) s
+
+unfoldable pub refusal3 : List ℕ → Option ℕ
+refusal3 s = least (unprintable 0 s)
+
+-- ---- 4 "not of the order above, limits apart"
+abbrev pub refusal4 : Reading → Option ℕ
+refusal4 (stuck i) = some i
+refusal4 (holds l) = none
+
+-- ---- 5 "pairs too deep", at "the opening byte"
+-- how many pairs are open behind a byte
+abbrev pub depthAfter : ℕ → ℕ → ℕ
+depthAfter d b = cond (isOpening b) (d + 1) (cond (isShutting b) (d - 1) d)
+
+-- from a place of a text on, with d pairs open
+unfoldable pub tooDeep : ℕ → ℕ → List ℕ → List ℕ
+tooDeep d i [] = []
+tooDeep d i (b ∷ t) = dueAt (isOpening b && leb depthLimit d) i ++ tooDeep (depthAfter d b) (i + 1) t
+
+abbrev pub textIn : {P : Type 0} → Value P → List ℕ
+textIn (mass n) = []
+textIn (text t) = t
+textIn reference = []
+
+-- a part's text, behind its key
+abbrev pub textOf : {P : Type 0} → Part P → List ℕ
+textOf p = textIn (p .value)
+
+abbrev pub deepPart : Part ℕ → List ℕ
+deepPart p = tooDeep 0 (p .at + length (written (p .key))) (textOf p)
+
+unfoldable pub refusal5 : Line ℕ → Option ℕ
+refusal5 l = least (flat (λ k. flat deepPart (k .parts)) (l .brackets))
+
+-- ---- 6 "residues, brackets, parts, text or label over the limit", at "first byte of the residue, bracket, part or label text"
+abbrev pub longText : Part ℕ → List ℕ
+longText p = dueAt (ltb textLimit (length (textOf p))) (p .at)
+
+abbrev pub longLabel : Part ℕ → List ℕ
+longLabel p = given (p .label) (λ l. dueAt (ltb labelLimit (length (l .name))) (l .at)) []
+
+abbrev pub overIn : Bracket ℕ → List ℕ
+overIn k = drop partLimit (map (λ p. p .at) (k .parts)) ++ flat (λ p. longText p ++ longLabel p) (k .parts)
+
+unfoldable pub refusal6 : Line ℕ → Option ℕ
+refusal6 l =
+    least
+    (drop residueLimit (map (λ r. r .at) (l .residues))
+    ++ (drop bracketLimit (map (λ k. k .at) (l .brackets))
+    ++ flat overIn (l .brackets)))
+
+-- ---- 7 "mass, score or count out of range", at "its first byte, sign included"
+-- "below 1,000,000 in size with at most 6 decimals"
+abbrev pub inRange : {P : Type 0} → Number P → Bool
+inRange n = leb (n .decimals) decimalLimit && ltb (n .digits) (sizeLimit * 10 ^ (n .decimals))
+
+abbrev pub wide : Number ℕ → List ℕ
+wide n = dueAt (not (inRange n)) (n .at)
+
+abbrev pub wideMass : Value ℕ → List ℕ
+wideMass (mass n) = wide n
+wideMass (text t) = []
+wideMass reference = []
+
+abbrev pub wideScore : Part ℕ → List ℕ
+wideScore p = given (p .label) (λ l. given (l .score) wide []) []
+
+-- "count 1 to 99"
+abbrev pub wideCount : Bracket ℕ → List ℕ
+wideCount k = given (k .counted) (dueAt (eqb (k .count) 0 || ltb countLimit (k .count))) []
+
+unfoldable pub refusal7 : Line ℕ → Option ℕ
+refusal7 l = least (flat (λ k. wideCount k ++ flat (λ p. wideMass (p .value) ++ wideScore p) (k .parts)) (l .brackets))
+
+-- ---- 8 "part begins `Formula:` `Glycan:` `Position:` `Limit:`, or is CoMKP, CoMUP or their long names, or its label begins XL or is BRANCH;
+-- any case", at "the part, or the `#` of a reference"
+abbrev pub isRule : {P : Type 0} → Part P → Bool
+isRule p =
+    isKey NoKey p
+    && (sameFolded (bytes "CoMKP") (textOf p)
+    || sameFolded (bytes "CoMUP") (textOf p)
+    || sameFolded (bytes "ColocaliseModificationsOfKnownPosition") (textOf p)
+    || sameFolded (bytes "ColocaliseModificationsOfUnknownPosition") (textOf p))
+
+abbrev pub isLink : List ℕ → Bool
+isLink name = sameFolded (bytes "XL") (take 2 name) || sameFolded (bytes "BRANCH") name
+
+abbrev pub notHere : {P : Type 0} → Part P → Bool
+notHere p =
+    isKey Formula p || isKey Glycan p || isKey Position p || isKey Limit p || isRule p
+    || given (p .label) (λ l. isLink (l .name)) false
+
+unfoldable pub refusal8 : Line ℕ → Option ℕ
+refusal8 l = least (flat (λ k. flat (λ p. dueAt (notHere p) (p .at)) (k .parts)) (l .brackets))
+
+-- ---- 9 "prefix U or M and a name all digits (6.2.2)", at "the part"
+abbrev pub isNumberName : {P : Type 0} → Part P → Bool
+isNumberName p = (isKey U p || isKey M p) && not (none? (textOf p)) && all isDigit (textOf p)
+
+unfoldable pub refusal9 : Line ℕ → Option ℕ
+refusal9 l = least (flat (λ k. flat (λ p. dueAt (isNumberName p) (p .at)) (k .parts)) (l .brackets))
+
+-- ---- 10 "only INFO in an unknown or labile bracket", at "the bracket"
+abbrev pub unknownOrLabile : Kind → Bool
+unknownOrLabile Unknown = true
+unknownOrLabile Labile = true
+unknownOrLabile NTerm = false
+unknownOrLabile OnResidue = false
+unknownOrLabile OnRange = false
+unknownOrLabile CTerm = false
+
+unfoldable pub refusal10 : Line ℕ → Option ℕ
+refusal10 l = least (flat (λ k. dueAt (unknownOrLabile (k .kind) && onlyInfo k) (k .at)) (l .brackets))
+
+-- ---- 11, at "the bracket"
+abbrev pub isUnknown : Kind → Bool
+isUnknown Unknown = true
+isUnknown Labile = false
+isUnknown NTerm = false
+isUnknown OnResidue = false
+isUnknown OnRange = false
+isUnknown CTerm = false
+
+-- "second label in a bracket"
+abbrev pub secondLabel : {P : Type 0} → Bracket P → Bool
+secondLabel k = ltb 1 (length (namesOf k))
+
+-- one of the names is among the others
+unfoldable pub shared : List (List ℕ) → List (List ℕ) → Bool
+shared [] others = false
+shared (x ∷ l) others = among x others || shared l others
+
+-- "label defined again": by a bracket before this one
+abbrev pub definedAgain : {P : Type 0} → List (List ℕ) → Bracket P → Bool
+definedAgain before k = shared (definedBy k) before
+
+-- "reference without definition"
+abbrev pub undefined : {P : Type 0} → List (List ℕ) → Bracket P → Bool
+undefined definitions k = not (all (λ x. among x definitions) (referredBy k))
+
+-- "count (`^1` too) on a labelled bracket"
+abbrev pub countedLabel : {P : Type 0} → Bracket P → Bool
+countedLabel k = isLabelled k && given (k .counted) (λ p. true) false
+
+-- "label defined in an unknown run and never referred to"
+abbrev pub unreferred : {P : Type 0} → List (List ℕ) → Bracket P → Bool
+unreferred references k = isUnknown (k .kind) && not (all (λ x. among x references) (definedBy k))
+
+abbrev pub wrongLabels : {P : Type 0} → List (List ℕ) → List (List ℕ) → List (List ℕ) → Bracket P → Bool
+wrongLabels before definitions references k =
+    secondLabel k || definedAgain before k || undefined definitions k || countedLabel k || unreferred references k
+
+unfoldable pub wronglyLabelled : List (List ℕ) → List (List ℕ) → List (List ℕ) → List (Bracket ℕ) → List ℕ
+wronglyLabelled before definitions references [] = []
+wronglyLabelled before definitions references (k ∷ ks) =
+    dueAt (wrongLabels before definitions references k) (k .at)
+    ++ wronglyLabelled (before ++ definedBy k) definitions references ks
+
+unfoldable pub refusal11 : Line ℕ → Option ℕ
+refusal11 l = least (wronglyLabelled [] (defined (l .brackets)) (referredTo (l .brackets)) (l .brackets))
+
+-- ---- 12 "more than 8 floating copies", at "the bracket that passes 8"
+-- from a bracket on, with so many copies before it
+unfoldable pub passing : ℕ → List (Bracket ℕ) → List ℕ
+passing before [] = []
+passing before (k ∷ ks) = dueAt (leb before copyLimit && ltb copyLimit (before + copies k)) (k .at) ++ passing (before + copies k) ks
+
+unfoldable pub refusal12 : Line ℕ → Option ℕ
+refusal12 l = least (passing 0 (l .brackets))
+
+-- ---- "the lowest number wins": the refusals in the order of trying, each with its first place
+pub record Due : Type 0 where
+  pub number : ℕ
+  pub place : Option ℕ
+
+abbrev pub due : ℕ → Option ℕ → Due
+due k p = record { number = k; place = p }
+
+-- what a line is refused for, or what it holds
+pub data Outcome : Type 0 where
+  accepted : Line ℕ → Outcome
+  refused : ℕ → ℕ → Outcome
+
+unfoldable pub firstDue : List Due → Outcome → Outcome
+firstDue [] o = o
+firstDue (d ∷ ds) o = given (d .place) (refused (d .number)) (firstDue ds o)
+
+abbrev pub lineRefusals : Line ℕ → List Due
+lineRefusals l =
+    due 5 (refusal5 l) ∷ due 6 (refusal6 l) ∷ due 7 (refusal7 l) ∷ due 8 (refusal8 l) ∷ due 9 (refusal9 l)
+    ∷ due 10 (refusal10 l) ∷ due 11 (refusal11 l) ∷ due 12 (refusal12 l) ∷ []
+
+abbrev pub judged : Reading → Outcome
+judged (stuck i) = refused 4 i
+judged (holds l) = firstDue (lineRefusals l) (accepted l)
+
+abbrev pub byteRefusals : List ℕ → List Due
+byteRefusals s = due 1 (refusal1 s) ∷ due 2 (refusal2 s) ∷ due 3 (refusal3 s) ∷ []
+
+-- "Reading tries .. 1 to 12 in that order; the lowest number wins, at its first place in the line"
+unfoldable pub outcome : List ℕ → Outcome
+outcome s = firstDue (byteRefusals s) (judged (reading s))

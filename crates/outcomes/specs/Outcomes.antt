@@ -14,7 +14,7 @@ use Rattle.scope.specs.Modifications.{all, keep, flat, among, copies}
 use Rattle.scope.specs.Refusals.{least, refusal1, refusal2, unprintable, refusal3, tooDeep, refusal5, refusal6, refusal7, refusal8, refusal9, refusal10, shared, wronglyLabelled, refusal11, passing, refusal12, firstDue, outcome, Outcome, accepted, refused}
 use Rattle.scope.specs.Canonical.{decimalUpTo, decimal, lastDigits, decimals, size, partText, partsText, sequenceText, canonical}
 use Rattle.scope.specs.Tables.{tablesOf, partRows, scoreOf, rows, bytesOf, numbersOf, tabled, partIn, bracketIn, tablesIn, padded}
-use Rattle.scope.specs.Positions.{member, isPlaced, struckOut, floaters, referredAt, mayStand, permitted, rowsFrom, rowsOf, firstRow}
+use Rattle.scope.specs.Positions.{member, isPlaced, struckOut, floaters, referredAt, mayStand, permitted, rowsFrom, rowsOf, firstRow, permittedPositions}
 use Rattle.scope.specs.Placements.{distinct, fits, allowed, less, choices, placements, firstPlacement, nextPlacement, requested}
 use Rattle.scope.specs.Masses.{firstMass, massOf, sum, total, sumℕ, lacking, placedAt, putAt, ledger, labileMass}
 use Rattle.scope.specs.Answers.{sameNumbers, areTables}
@@ -30,14 +30,14 @@ abbrev totalOf : String → Option ℤ
 totalOf s = of (outcome (bytes s)) total
 
 abbrev placementsOf : String → Option (List (List ℕ))
-placementsOf s = of (outcome (bytes s)) placements
+placementsOf s = of (outcome (bytes s)) (λ l. placements (permittedPositions l))
 
 abbrev lineWritten : String → Option (List ℕ)
 lineWritten s = of (outcome (bytes s)) canonical
 
 -- under the first placement
 abbrev ledgerOf : String → Option (List ℤ)
-ledgerOf s = of (outcome (bytes s)) (λ l. given (firstPlacement l) (ledger l) [])
+ledgerOf s = of (outcome (bytes s)) (λ l. given (firstPlacement (permittedPositions l)) (ledger l) [])
 
 -- a number or a list without its sign, its unused entries or its zeros
 abbrev minus : ℕ → ℤ

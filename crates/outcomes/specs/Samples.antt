@@ -17,7 +17,7 @@ use Rattle.scope.specs.Modifications.{all, keep, flat, among, copies}
 use Rattle.scope.specs.Refusals.{least, refusal1, refusal2, unprintable, refusal3, tooDeep, refusal5, refusal6, refusal7, refusal8, refusal9, refusal10, shared, wronglyLabelled, refusal11, passing, refusal12, firstDue, outcome, Outcome, accepted, refused}
 use Rattle.scope.specs.Canonical.{decimalUpTo, decimal, lastDigits, decimals, size, partText, partsText, sequenceText, canonical}
 use Rattle.scope.specs.Tables.{tablesOf, partRows, scoreOf, rows, bytesOf, numbersOf, tabled, partIn, bracketIn, tablesIn, padded}
-use Rattle.scope.specs.Positions.{member, isPlaced, struckOut, floaters, referredAt, mayStand, permitted, rowsFrom, rowsOf, firstRow}
+use Rattle.scope.specs.Positions.{member, isPlaced, struckOut, floaters, referredAt, mayStand, permitted, rowsFrom, rowsOf, firstRow, permittedPositions}
 use Rattle.scope.specs.Placements.{distinct, fits, allowed, less, choices, placements, firstPlacement, nextPlacement, requested}
 use Rattle.scope.specs.Masses.{firstMass, massOf, sum, total, sumℕ, lacking, placedAt, putAt, ledger, labileMass}
 use Rattle.scope.specs.Answers.{sameNumbers, areTables}
@@ -133,9 +133,12 @@ abbrev of : {A : Type 0} → Outcome → (Line ℕ → A) → Option A
 of (accepted l) f = some (f l)
 of (refused number place) f = none
 
+abbrev placementsIn : Line ℕ → List (List ℕ)
+placementsIn l = placements (permittedPositions l)
+
 -- up to the C-terminus, under the first placement
 abbrev ledgerIn : Line ℕ → List ℤ
-ledgerIn l = take (length (l .residues) + 2) (given (firstPlacement l) (ledger l) [])
+ledgerIn l = take (length (l .residues) + 2) (given (firstPlacement (permittedPositions l)) (ledger l) [])
 
 -- the areas that a line is read to hold its tables, and are accepted as tables
 abbrev isRead : Line ℕ → Bool
@@ -143,43 +146,43 @@ isRead l = areTables (bytesOf l) (numbersOf l)
 
 pub placed-alike :
     (of (outcome (bytes "[+3]^1?A[INFO:z]")) rowsOf ≡ some (site 1 1 ∷ []))
-    × (of (outcome (bytes "[+3]^1?A[INFO:z]")) placements ≡ some (placed (1 ∷ []) ∷ []))
+    × (of (outcome (bytes "[+3]^1?A[INFO:z]")) placementsIn ≡ some (placed (1 ∷ []) ∷ []))
     × (of (outcome (bytes "[+3]^1?A[INFO:z]")) ledgerIn ≡ some (pos 0 ∷ pos 3000000 ∷ pos 0 ∷ []))
     × (of (outcome (bytes "[+3]^1?A[INFO:z]")) isRead ≡ some true)
     × (of (outcome (bytes "[-1.50#1]?FH[#1]g")) rowsOf ≡ some (site 1 2 ∷ []))
-    × (of (outcome (bytes "[-1.50#1]?FH[#1]g")) placements ≡ some (placed (2 ∷ []) ∷ []))
+    × (of (outcome (bytes "[-1.50#1]?FH[#1]g")) placementsIn ≡ some (placed (2 ∷ []) ∷ []))
     × (of (outcome (bytes "[-1.50#1]?FH[#1]g")) ledgerIn ≡ some (pos 0 ∷ pos 0 ∷ minus 1500000 ∷ pos 0 ∷ pos 0 ∷ []))
     × (of (outcome (bytes "[-1.50#1]?FH[#1]g")) isRead ≡ some true)
     × (of (outcome (bytes "[Obs:+2#a]-CA[INFO:z]")) rowsOf ≡ some (site 1 0 ∷ []))
-    × (of (outcome (bytes "[Obs:+2#a]-CA[INFO:z]")) placements ≡ some (placed (0 ∷ []) ∷ []))
+    × (of (outcome (bytes "[Obs:+2#a]-CA[INFO:z]")) placementsIn ≡ some (placed (0 ∷ []) ∷ []))
     × (of (outcome (bytes "[Obs:+2#a]-CA[INFO:z]")) ledgerIn ≡ some (pos 2000000 ∷ pos 0 ∷ pos 0 ∷ pos 0 ∷ []))
     × (of (outcome (bytes "[Obs:+2#a]-CA[INFO:z]")) isRead ≡ some true)
     × (of (outcome (bytes "[GNO:LLp3k|+5506]?shQML")) rowsOf ≡ some (site 1 1 ∷ site 1 2 ∷ site 1 3 ∷ site 1 4 ∷ site 1 5 ∷ []))
-    × (of (outcome (bytes "[GNO:LLp3k|+5506]?shQML")) placements ≡ some (placed (1 ∷ []) ∷ placed (2 ∷ []) ∷ placed (3 ∷ []) ∷ placed (4 ∷ []) ∷ placed (5 ∷ []) ∷ []))
+    × (of (outcome (bytes "[GNO:LLp3k|+5506]?shQML")) placementsIn ≡ some (placed (1 ∷ []) ∷ placed (2 ∷ []) ∷ placed (3 ∷ []) ∷ placed (4 ∷ []) ∷ placed (5 ∷ []) ∷ []))
     × (of (outcome (bytes "[GNO:LLp3k|+5506]?shQML")) ledgerIn ≡ some (pos 0 ∷ pos 5506000000 ∷ pos 0 ∷ pos 0 ∷ pos 0 ∷ pos 0 ∷ pos 0 ∷ []))
     × (of (outcome (bytes "[GNO:LLp3k|+5506]?shQML")) isRead ≡ some true)
     × (of (outcome (bytes "[-95|RESID:T]?(W)[-0.5]")) rowsOf ≡ some (site 1 1 ∷ site 2 1 ∷ []))
-    × (of (outcome (bytes "[-95|RESID:T]?(W)[-0.5]")) placements ≡ some ([]))
+    × (of (outcome (bytes "[-95|RESID:T]?(W)[-0.5]")) placementsIn ≡ some ([]))
     × (of (outcome (bytes "[-95|RESID:T]?(W)[-0.5]")) isRead ≡ some true)
     × (of (outcome (bytes "(?A)C[#a(1)]D[Obs:+2#a]C")) rowsOf ≡ some (site 1 2 ∷ site 1 3 ∷ []))
-    × (of (outcome (bytes "(?A)C[#a(1)]D[Obs:+2#a]C")) placements ≡ some (placed (2 ∷ []) ∷ placed (3 ∷ []) ∷ []))
+    × (of (outcome (bytes "(?A)C[#a(1)]D[Obs:+2#a]C")) placementsIn ≡ some (placed (2 ∷ []) ∷ placed (3 ∷ []) ∷ []))
     × (of (outcome (bytes "(?A)C[#a(1)]D[Obs:+2#a]C")) ledgerIn ≡ some (pos 0 ∷ pos 0 ∷ pos 2000000 ∷ pos 0 ∷ pos 0 ∷ pos 0 ∷ []))
     × (of (outcome (bytes "(?A)C[#a(1)]D[Obs:+2#a]C")) isRead ≡ some true)
     × (of (outcome (bytes "R[-1.700#c](S[#c(2)])[INFO:y]")) rowsOf ≡ some (site 1 1 ∷ site 1 2 ∷ []))
-    × (of (outcome (bytes "R[-1.700#c](S[#c(2)])[INFO:y]")) placements ≡ some (placed (1 ∷ []) ∷ placed (2 ∷ []) ∷ []))
+    × (of (outcome (bytes "R[-1.700#c](S[#c(2)])[INFO:y]")) placementsIn ≡ some (placed (1 ∷ []) ∷ placed (2 ∷ []) ∷ []))
     × (of (outcome (bytes "R[-1.700#c](S[#c(2)])[INFO:y]")) ledgerIn ≡ some (pos 0 ∷ minus 1700000 ∷ pos 0 ∷ pos 0 ∷ []))
     × (of (outcome (bytes "R[-1.700#c](S[#c(2)])[INFO:y]")) isRead ≡ some true)
     × (of (outcome (bytes "[+1#L0]?C[#L0](Y[#L0]Z)[+9][+9]FL")) rowsOf ≡ some (site 1 1 ∷ site 1 2 ∷ site 2 2 ∷ site 2 3 ∷ site 3 2 ∷ site 3 3 ∷ []))
-    × (of (outcome (bytes "[+1#L0]?C[#L0](Y[#L0]Z)[+9][+9]FL")) placements ≡ some (placed (1 ∷ 2 ∷ 3 ∷ []) ∷ placed (1 ∷ 3 ∷ 2 ∷ []) ∷ []))
+    × (of (outcome (bytes "[+1#L0]?C[#L0](Y[#L0]Z)[+9][+9]FL")) placementsIn ≡ some (placed (1 ∷ 2 ∷ 3 ∷ []) ∷ placed (1 ∷ 3 ∷ 2 ∷ []) ∷ []))
     × (of (outcome (bytes "[+1#L0]?C[#L0](Y[#L0]Z)[+9][+9]FL")) ledgerIn ≡ some (pos 0 ∷ pos 1000000 ∷ pos 9000000 ∷ pos 9000000 ∷ pos 0 ∷ pos 0 ∷ pos 0 ∷ []))
     × (of (outcome (bytes "[+1#L0]?C[#L0](Y[#L0]Z)[+9][+9]FL")) isRead ≡ some true)
     × (of (outcome (bytes "Iz[+1.50#X(-0.01)][#X(671138)]w[#X]")) rowsOf ≡ some (site 1 2 ∷ site 1 3 ∷ []))
-    × (of (outcome (bytes "Iz[+1.50#X(-0.01)][#X(671138)]w[#X]")) placements ≡ some (placed (2 ∷ []) ∷ placed (3 ∷ []) ∷ []))
+    × (of (outcome (bytes "Iz[+1.50#X(-0.01)][#X(671138)]w[#X]")) placementsIn ≡ some (placed (2 ∷ []) ∷ placed (3 ∷ []) ∷ []))
     × (of (outcome (bytes "Iz[+1.50#X(-0.01)][#X(671138)]w[#X]")) ledgerIn ≡ some (pos 0 ∷ pos 0 ∷ pos 1500000 ∷ pos 0 ∷ pos 0 ∷ []))
     × (of (outcome (bytes "Iz[+1.50#X(-0.01)][#X(671138)]w[#X]")) isRead ≡ some true)
     × (of (outcome (bytes "[-2]^3?F[UNIMOD:90724][INFO:Glu->pyro-Glu##]")) rowsOf ≡ some ([]))
-    × (of (outcome (bytes "[-2]^3?F[UNIMOD:90724][INFO:Glu->pyro-Glu##]")) placements ≡ some ([]))
+    × (of (outcome (bytes "[-2]^3?F[UNIMOD:90724][INFO:Glu->pyro-Glu##]")) placementsIn ≡ some ([]))
     × (of (outcome (bytes "(A[#g1(+771.7742)]U[INFO:a^2|G:::][#g1][R:493#g1])[-1]")) rowsOf ≡ some (site 1 1 ∷ site 2 1 ∷ []))
-    × (of (outcome (bytes "(A[#g1(+771.7742)]U[INFO:a^2|G:::][#g1][R:493#g1])[-1]")) placements ≡ some ([]))
+    × (of (outcome (bytes "(A[#g1(+771.7742)]U[INFO:a^2|G:::][#g1][R:493#g1])[-1]")) placementsIn ≡ some ([]))
 unfolding upper sameFolded same spell keys keyAmong keyOf written digitStep numberEnd textStep partEnd valueEnd textEnd colonAfter innerStep element further groupFirst inGroup undecided counted referred act onLast perform resume step run reading all keep flat among copies least refusal1 refusal2 unprintable refusal3 tooDeep refusal5 refusal6 refusal7 refusal8 refusal9 refusal10 shared wronglyLabelled refusal11 passing refusal12 firstDue outcome decimalUpTo decimal lastDigits decimals size partText partsText sequenceText canonical tablesOf partRows scoreOf rows bytesOf numbersOf tabled partIn bracketIn tablesIn member isPlaced struckOut floaters referredAt mayStand permitted rowsFrom rowsOf firstRow distinct fits allowed less choices placements firstPlacement nextPlacement requested firstMass massOf sum total sumℕ lacking placedAt putAt ledger labileMass sameNumbers areTables fields printed
 placed-alike = (refl, refl, refl, refl, refl, refl, refl, refl, refl, refl, refl, refl, refl, refl, refl, refl, refl, refl, refl, refl, refl, refl, refl, refl, refl, refl, refl, refl, refl, refl, refl, refl, refl, refl, refl, refl, refl, refl, refl)

@@ -1,4 +1,5 @@
 // The lent areas, read number by number.
+use scope::answers::Placement;
 use scope::tables::Tables;
 ghost use mathlib.Core.Path.{_≡_};
 ghost use Prim.Native.Nat.{_+_, _*_, _<_, _≤_};
@@ -6,6 +7,12 @@ ghost use lib.IntN.{pos};
 ghost use lib.ListN.{length, getD};
 ghost use Rattle.scope.specs.Limits.{bracketLimit, partLimit};
 ghost use Rattle.scope.specs.Tables.{bytesSize, numbersSize, rowSize, partSize, numberRowSize, byteAt, rowAt, partAt};
+
+// The floaters: how many there are, and the number of each one's bracket.
+pub struct Floaters {
+    pub count: usize,
+    pub index: [u8; Placement::COPIES],
+}
 
 // How many residues there are.
 pub fn residues(bytes: &[u8]) -> usize

@@ -1,0 +1,33 @@
+-- The floaters of the tables in areas, and a table of bytes of where each may stand.
+use mathlib.Core.Path.{_≡_}
+use mathlib.Core.List.{List, map}
+use Prim.Native.Nat.{ℕ, _+_, _*_, _≤_}
+use lib.Dec.{eqb}
+use lib.IntN.{ℤ}
+use lib.ListN.{length, getD, take}
+use Rattle.scope.specs.Limits.{copyLimit, rowLimit, positionLimit}
+use Rattle.scope.specs.Modifications.{keep}
+use Rattle.scope.specs.Tables.{tabled, bracketIn, tablesIn}
+use Rattle.scope.specs.Positions.{floaters, permittedPositions}
+
+-- the positions of floater f: those x whose byte, among the 256 of f, is 1
+unfoldable pub listIn : List ℕ → ℕ → List ℕ
+listIn tab f = keep (λ x. eqb (getD tab (f * positionLimit + x) 0) 1) (tabled (λ x. x) 0 positionLimit)
+
+-- of the first so many floaters
+unfoldable pub listsIn : List ℕ → ℕ → List (List ℕ)
+listsIn tab count = tabled (listIn tab) 0 count
+
+-- a table with room for every floater, and so many of them
+pub record Sized (tab : List ℕ) (count : ℕ) : Type 0 where
+  pub room : rowLimit ≤ length tab
+  pub few : count ≤ copyLimit
+
+-- so many floaters, each with the number of its bracket, and the table of where they may stand
+pub record FloatersAre (bs : List ℕ) (ns : List ℤ) (count : ℕ) (index : List ℕ) : Type 0 where
+  pub many : count ≡ length (floaters (tablesIn bs ns))
+  pub few : count ≤ copyLimit
+  pub brackets : floaters (tablesIn bs ns) ≡ map (bracketIn bs ns) (take count index)
+
+abbrev pub TableIs : List ℕ → List ℤ → List ℕ → ℕ → Type 0
+TableIs bs ns tab count = listsIn tab count ≡ permittedPositions (tablesIn bs ns)

@@ -1,0 +1,396 @@
+//! "Positions and placements": floaters, the positions they may take, the
+//! allowed placements in order, and the listing in hand.
+
+use crate::line::{Bracket, Kind, Line, Refusal};
+
+/// "A placement has 8 entries, unused ones 0, ordered as number lists."
+pub type Placement = [u8; Line::MOST_FLOATERS];
+
+/// The placement of a line without floaters.
+const ALL_ZEROS: Placement = [0; Line::MOST_FLOATERS];
+
+/// A set of the 256 positions.
+#[derive(Clone, Copy, Debug, PartialEq, Eq, Default)]
+pub struct Positions {
+    words: [u64; 4],
+}
+
+impl Positions {
+    pub const EMPTY: Self = Self { words: [0; 4] };
+
+    pub fn insert(&mut self, position: u8) {
+        self.words[usize::from(position / 64)] |= 1 << (position % 64);
+    }
+
+    pub fn remove(&mut self, position: u8) {
+        self.words[usize::from(position / 64)] &= !(1 << (position % 64));
+    }
+
+    pub fn contains(&self, position: u8) -> bool {
+        self.words[usize::from(position / 64)] >> (position % 64) & 1 == 1
+    }
+
+    pub fn len(&self) -> usize {
+        self.words
+            .iter()
+            .map(|word| word.count_ones() as usize)
+            .sum()
+    }
+
+    pub fn is_empty(&self) -> bool {
+        self.words == [0; 4]
+    }
+
+    pub fn union(self, other: Self) -> Self {
+        self.combine(other, |one, two| one | two)
+    }
+
+    pub fn without(self, other: Self) -> Self {
+        self.combine(other, |one, two| one & !two)
+    }
+
+    fn combine(self, other: Self, with: impl Fn(u64, u64) -> u64) -> Self {
+        let mut words = self.words;
+        for (word, &second) in words.iter_mut().zip(&other.words) {
+            *word = with(*word, second);
+        }
+        Self { words }
+    }
+
+    /// The least member that is this position or above it.
+    pub fn at_or_above(&self, position: u8) -> Option<u8> {
+        let first_word = usize::from(position / 64);
+        let mut mask = u64::MAX << (position % 64);
+        for (index, word) in self.words.iter().enumerate().skip(first_word) {
+            let left = word & mask;
+            if left != 0 {
+                return Some((index * 64) as u8 + left.trailing_zeros() as u8);
+            }
+            mask = u64::MAX;
+        }
+        None
+    }
+
+    /// The members that are this position or above it, ascending.
+    pub fn starting_at(&self, position: u8) -> impl Iterator<Item = u8> + '_ {
+        std::iter::successors(self.at_or_above(position), |&member| {
+            self.at_or_above(member.checked_add(1)?)
+        })
+    }
+
+    /// The members, ascending.
+    pub fn iter(&self) -> impl Iterator<Item = u8> + '_ {
+        self.starting_at(0)
+    }
+}
+
+/// One floating copy.
+#[derive(Clone, Copy, Debug, PartialEq, Eq)]
+pub struct Floater {
+    /// The index of its bracket.
+    pub bracket: usize,
+    /// Its permitted positions that are not struck out.
+    pub permitted: Positions,
+}
+
+/// The floating copies, "in order of their brackets".
+pub fn floaters(line: &Line) -> Vec<Floater> {
+    let struck_out = struck_out(line);
+    let mut floaters = Vec::new();
+    for (index, bracket) in line.brackets.iter().enumerate() {
+        let copies = line.floating_copies(bracket);
+        if copies > 0 {
+            let floater = Floater {
+                bracket: index,
+                permitted: permitted(line, bracket).without(struck_out),
+            };
+            floaters.extend(std::iter::repeat_n(floater, copies));
+        }
+    }
+    floaters
+}
+
+/// "A position with a placed modification is struck out".
+fn struck_out(line: &Line) -> Positions {
+    let mut struck_out = Positions::EMPTY;
+    for bracket in line.brackets.iter().filter(|one| line.is_placed(one)) {
+        struck_out.insert(bracket.first as u8);
+    }
+    struck_out
+}
+
+/// "Permitted positions: residues 1 to n for an unlabelled unknown one; the
+/// residues of its range; for a label, the position or range of its
+/// definition, if it has one in the sequence or at a terminus, and those of
+/// its references, each once."
+fn permitted(line: &Line, bracket: &Bracket) -> Positions {
+    let mut permitted = Positions::EMPTY;
+    let mut insert = |first: usize, last: usize| {
+        (first..=last).for_each(|position| permitted.insert(position as u8));
+    };
+    let label = line.label_of(bracket).map(|label| label.name);
+    if bracket.kind != Kind::Unknown {
+        insert(bracket.first, bracket.last);
+    } else if label.is_none() {
+        insert(1, line.residues.len());
+    }
+    if label.is_some() {
+        let references = line.brackets.iter().filter(|one| line.is_reference(one));
+        for reference in references {
+            if line.label_of(reference).map(|label| label.name) == label {
+                insert(reference.first, reference.last);
+            }
+        }
+    }
+    permitted
+}
+
+/// One of the "rows of floater and position, [..] floaters counted from 1".
+#[derive(Clone, Copy, Debug, PartialEq, Eq, PartialOrd, Ord)]
+pub struct Row {
+    pub floater: u8,
+    pub position: u8,
+}
+
+/// "room is 2,048 rows"
+pub const MOST_ROWS: usize = 2048;
+
+/// The permitted positions as rows, ascending.
+pub fn rows(floaters: &[Floater]) -> Vec<Row> {
+    let mut rows = Vec::new();
+    for (number, floater) in (1..).zip(floaters) {
+        rows.extend(floater.permitted.iter().map(|position| Row {
+            floater: number,
+            position,
+        }));
+    }
+    rows
+}
+
+/// "A lookup in any rows, ordered or not, gives the index (from 0) and the
+/// position of a floater's first row among the first so many; a number above
+/// 2,048 is read as 2,048." Refusal 13 where the lent rows are fewer than
+/// 2,048, and 17: "in the row lookup, no such row".
+pub fn first_row(rows: &[Row], so_many: usize, floater: u8) -> Result<(usize, u8), Refusal> {
+    if rows.len() < MOST_ROWS {
+        return Err(Refusal::new(13, 0));
+    }
+    rows[..so_many.min(MOST_ROWS)]
+        .iter()
+        .position(|row| row.floater == floater)
+        .map(|index| (index, rows[index].position))
+        .ok_or(Refusal::new(17, 0))
+}
+
+/// Whether a placement is an allowed one: every floater at a permitted
+/// position, "no two floaters share one", unused entries 0.
+pub fn is_allowed(floaters: &[Floater], placement: &Placement) -> bool {
+    let (used, unused) = placement.split_at(floaters.len());
+    let mut taken = Positions::EMPTY;
+    unused.iter().all(|&entry| entry == 0)
+        && floaters.iter().zip(used).all(|(floater, &position)| {
+            let free = !taken.contains(position);
+            taken.insert(position);
+            free && floater.permitted.contains(position)
+        })
+}
+
+/// Whether floaters can all be put somewhere, none at a taken position. By
+/// Hall's theorem they can exactly when any so many of them have at least so
+/// many free positions between them; often each has enough by itself.
+fn can_all_be_put(floaters: &[Floater], taken: Positions) -> bool {
+    let enough = |one: &Floater| one.permitted.without(taken).len() >= floaters.len();
+    if floaters.iter().all(enough) {
+        return true;
+    }
+    let mut free_for = [Positions::EMPTY; 1 << Line::MOST_FLOATERS];
+    (1_usize..1 << floaters.len()).all(|some| {
+        let last = some.ilog2() as usize;
+        let others = some & !(1 << last);
+        let free = floaters[last].permitted.without(taken);
+        free_for[some] = free_for[others].union(free);
+        free_for[some].len() >= some.count_ones() as usize
+    })
+}
+
+/// The allowed placements, ascending, up to a cap, and whether these are all.
+pub fn all_placements(floaters: &[Floater], cap: usize) -> (Vec<Placement>, bool) {
+    let mut found = Vec::new();
+    let complete = extend(floaters, 0, ALL_ZEROS, Positions::EMPTY, cap, &mut found);
+    (found, complete)
+}
+
+/// Adds the allowed placements that begin as this one does, `level` entries
+/// long; whether the cap left room for all.
+fn extend(
+    floaters: &[Floater],
+    level: usize,
+    mut placement: Placement,
+    taken: Positions,
+    cap: usize,
+    found: &mut Vec<Placement>,
+) -> bool {
+    let Some((floater, rest)) = floaters[level..].split_first() else {
+        if found.len() == cap {
+            return false;
+        }
+        found.push(placement);
+        return true;
+    };
+    for position in floater.permitted.without(taken).iter() {
+        let mut now_taken = taken;
+        now_taken.insert(position);
+        placement[level] = position;
+        let fits = can_all_be_put(rest, now_taken);
+        if fits && !extend(floaters, level + 1, placement, now_taken, cap, found) {
+            return false;
+        }
+    }
+    true
+}
+
+/// The first allowed placement.
+pub fn first_placement(floaters: &[Floater]) -> Option<Placement> {
+    can_all_be_put(floaters, Positions::EMPTY).then(|| fill(floaters, 0, ALL_ZEROS))
+}
+
+/// The allowed placement after an allowed one.
+pub fn next_placement(floaters: &[Floater], after: &Placement) -> Option<Placement> {
+    for level in (0..floaters.len()).rev() {
+        let mut placement = ALL_ZEROS;
+        placement[..level].copy_from_slice(&after[..level]);
+        if let Some(above) = after[level].checked_add(1) {
+            if let Some(position) = least_position(floaters, level, &placement, above) {
+                placement[level] = position;
+                return Some(fill(floaters, level + 1, placement));
+            }
+        }
+    }
+    None
+}
+
+/// The least placement that begins as this one does, `level` entries long;
+/// the floaters left can all be put.
+fn fill(floaters: &[Floater], level: usize, mut placement: Placement) -> Placement {
+    for level in level..floaters.len() {
+        match least_position(floaters, level, &placement, 0) {
+            Some(position) => placement[level] = position,
+            None => unreachable!("the floaters left can all be put"),
+        }
+    }
+    placement
+}
+
+/// The least position at or above one for the floater at this level, so that
+/// the floaters behind it can all be put.
+fn least_position(
+    floaters: &[Floater],
+    level: usize,
+    placement: &Placement,
+    at_or_above: u8,
+) -> Option<u8> {
+    let mut taken = Positions::EMPTY;
+    placement[..level].iter().for_each(|&one| taken.insert(one));
+    let free = floaters[level].permitted.without(taken);
+    let fitting = free.starting_at(at_or_above).find(|&position| {
+        let mut now_taken = taken;
+        now_taken.insert(position);
+        can_all_be_put(&floaters[level + 1..], now_taken)
+    });
+    fitting
+}
+
+/// What a search with a budget came to.
+#[derive(Clone, Copy, Debug, PartialEq, Eq)]
+pub enum Search {
+    Found(Placement),
+    NoneLeft,
+    OutOfBudget,
+}
+
+/// The first placement, or the next one after an allowed one, by plain
+/// backtracking and nothing else: the reference for the quicker ways. Each
+/// position tried takes one from the budget.
+pub fn plain_next(floaters: &[Floater], after: Option<&Placement>, budget: u64) -> Search {
+    let mut backtracking = Backtracking {
+        floaters,
+        after: after.copied().unwrap_or(ALL_ZEROS),
+        placement: ALL_ZEROS,
+        budget,
+    };
+    let answer = backtracking.descend(0, after.is_none());
+    answer.unwrap_or(Search::NoneLeft)
+}
+
+struct Backtracking<'f> {
+    floaters: &'f [Floater],
+    after: Placement,
+    placement: Placement,
+    budget: u64,
+}
+
+impl Backtracking<'_> {
+    /// `above` tells that the entries so far are already above `after`.
+    fn descend(&mut self, level: usize, above: bool) -> Option<Search> {
+        if level == self.floaters.len() {
+            return above.then_some(Search::Found(self.placement));
+        }
+        let least = if above { 0 } else { self.after[level] };
+        let permitted = self.floaters[level].permitted;
+        for position in permitted.starting_at(least) {
+            if self.budget == 0 {
+                return Some(Search::OutOfBudget);
+            }
+            self.budget -= 1;
+            if self.placement[..level].contains(&position) {
+                continue;
+            }
+            self.placement[level] = position;
+            let now_above = above || position > self.after[level];
+            let answer = self.descend(level + 1, now_above);
+            if answer.is_some() {
+                return answer;
+            }
+        }
+        self.placement[level] = 0;
+        None
+    }
+}
+
+/// "The listing in hand is a small record that each request moves on: fresh
+/// (marked so, with eight zeros), or unmarked with the placement last handed
+/// out, any allowed one being taken as that."
+#[derive(Clone, Copy, Debug, PartialEq, Eq)]
+pub struct Listing {
+    pub fresh: bool,
+    pub placement: Placement,
+}
+
+impl Listing {
+    pub const FRESH: Self = Self {
+        fresh: true,
+        placement: ALL_ZEROS,
+    };
+
+    /// Hands out the next placement and moves on. "At the last placement it
+    /// stays there and answers 17; any other content gets 18."
+    pub fn request(&mut self, floaters: &[Floater]) -> Result<Placement, Refusal> {
+        let next = if self.fresh {
+            if self.placement != ALL_ZEROS {
+                return Err(Refusal::new(18, 0));
+            }
+            first_placement(floaters)
+        } else {
+            if !is_allowed(floaters, &self.placement) {
+                return Err(Refusal::new(18, 0));
+            }
+            next_placement(floaters, &self.placement)
+        };
+        let placement = next.ok_or(Refusal::new(17, 0))?;
+        *self = Self {
+            fresh: false,
+            placement,
+        };
+        Ok(placement)
+    }
+}

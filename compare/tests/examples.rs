@@ -1,0 +1,395 @@
+//! The examples of document 01, of the readings of it, and of document 001
+//! where they lie within document 01.
+
+use compare::canonical::canonical;
+use compare::masses::{display, ledger, missing, total, Display};
+use compare::positions::{all_placements, floaters, rows, Row};
+use compare::reader::{read, Refusal};
+
+fn line(text: &str) -> compare::line::Line<'_> {
+    read(text.as_bytes()).unwrap_or_else(|refusal| panic!("{text}: {refusal:?}"))
+}
+
+fn check_accepted(lines: &[&str]) {
+    for text in lines {
+        line(text);
+    }
+}
+
+fn check_refused(lines: &[(&str, u8, usize)]) {
+    for &(text, number, place) in lines {
+        let refusal = read(text.as_bytes()).err();
+        assert_eq!(refusal, Some(Refusal { number, place }), "{text}");
+    }
+}
+
+fn check_written(lines: &[(&str, &str)]) {
+    for &(text, written) in lines {
+        assert_eq!(canonical(&line(text)), written.as_bytes(), "{text}");
+    }
+}
+
+/// The used entries of all placements.
+fn placements(text: &str) -> Vec<Vec<u8>> {
+    let floaters = floaters(&line(text));
+    let (all, complete) = all_placements(&floaters, 1000);
+    assert!(complete);
+    let used = |placement: &[u8; 8]| placement[..floaters.len()].to_vec();
+    all.iter().map(used).collect()
+}
+
+fn pairs(rows: &[Row]) -> Vec<(u8, u8)> {
+    rows.iter().map(|row| (row.floater, row.position)).collect()
+}
+
+// Document 01, "Lines with known outcomes"
+
+#[test]
+fn known_totals() {
+    for (text, millionths) in [
+        ("AM[+15.995]C[-18.01]", -2_015_000),
+        ("[+1]^2?AC", 2_000_000),
+        ("[+1]^2?A", 2_000_000),
+        ("[+1]?A[+2]", 3_000_000),
+        ("M[+16#a]C[#a]", 16_000_000),
+        ("A[Obs:+2|+1]", 1_000_000),
+    ] {
+        assert_eq!(total(&line(text)), Ok(millionths), "{text}");
+        let daltons = Display::Daltons(millionths as f64 / 1e6);
+        assert_eq!(display(&line(text)), daltons, "{text}");
+    }
+}
+
+#[test]
+fn known_placements() {
+    assert_eq!(placements("[+1]^2?AC"), [[1, 2], [2, 1]]);
+    assert!(placements("[+1]^2?A").is_empty());
+    assert!(placements("[+1]?A[+2]").is_empty());
+    assert_eq!(placements("[+1]?A[INFO:x]"), [[1]]);
+    assert_eq!(placements("[+1#a]?AC[#a(0.5)]"), [[2]]);
+    assert_eq!(placements("M[+16#a]C[#a]"), [[1], [2]]);
+}
+
+#[test]
+fn known_ledger() {
+    let ledger = ledger(&line("AM[+15.995]C[-18.01]"), &[0; 8]).unwrap();
+    assert_eq!(ledger[..5], [0, 0, 15_995_000, -18_010_000, 0]);
+    assert!(ledger[5..].iter().all(|&entry| entry == 0));
+}
+
+#[test]
+fn known_canonical_lines() {
+    check_written(&[
+        ("a[+01.50]", "A[+1.50]"),
+        ("A[-0]", "A[+0]"),
+        ("[+1]?[+2]^1?A", "[+1][+2]?A"),
+    ]);
+}
+
+#[test]
+fn known_refusals() {
+    check_refused(&[
+        ("A[U:35]", 9, 2),
+        ("A[x]y]", 4, 5),
+        ("A[", 4, 2),
+        ("[A]^2-B", 4, 5),
+        ("A[+1.]", 4, 5),
+        ("(AC)", 4, 4),
+        ("A/2", 4, 1),
+        ("A[#a]", 11, 1),
+        ("A[+1000000]", 7, 2),
+        (&"A".repeat(255), 6, 254),
+    ]);
+}
+
+#[test]
+fn known_accepted() {
+    check_accepted(&["A[Cation:Mg[II]]", "A[+999999.999999]", &"A".repeat(254)]);
+}
+
+#[test]
+fn errors_a_careful_reader_still_makes() {
+    // "Counting a label at each site."
+    assert_eq!(total(&line("A[+1#a]C[#a]D[#a]")), Ok(1_000_000));
+    // "Letting an INFO bracket block a residue."
+    assert_eq!(placements("[+1]?A[INFO:x]C[+2]"), [[1]]);
+    // "Treating `+1.5` and `+1.50` as equal tables."
+    assert_ne!(line("A[+1.5]"), line("A[+1.50]"));
+    // "Splitting at a `|` inside a pair."
+    assert_eq!(line("A[x[y|z]]").parts.len(), 1);
+    // "Taking the first floater's lowest position and giving up when the last
+    // has none."
+    assert_eq!(placements("[+1#a][+2#b]?A[#a][#b]C[#a]"), [[2, 1]]);
+}
+
+// The readings
+
+#[test]
+fn the_order_of_a_line() {
+    check_accepted(&["{x}{y}A", "(A[#a]C)[+1#a]", "A[[]]", "A[Obs:+1#a]"]);
+    check_refused(&[
+        ("-A", 4, 0),
+        ("A-", 4, 2),
+        ("?A", 4, 0),
+        ("[+1]??A", 4, 5),
+        ("A()[x]", 4, 2),
+        ("A(?)", 4, 3),
+        ("[x]A", 4, 3),
+        ("[x]{y}A", 4, 3),
+        ("{x}[y]?A", 4, 6),
+        ("[x]^2[y]-A", 4, 8),
+        ("[#a]?A", 4, 4),
+        ("[x][#a]^2?A", 4, 7),
+        ("[x]^2[#a]?A", 4, 6),
+        ("(AC)[#a]", 4, 5),
+        ("{#a}A", 4, 1),
+        ("A[+1#a]C[#a|INFO:x]", 4, 11),
+        ("A[x|#a]", 4, 4),
+        ("(?AC)[+1]", 4, 5),
+        ("(A(?C))[x]", 4, 2),
+        ("A[x}y]", 4, 3),
+        ("A[a{b]c}]", 4, 5),
+    ]);
+}
+
+#[test]
+fn the_order_of_a_part() {
+    check_accepted(&[
+        "{x|INFO:a#b}A",
+        "A[U:INFO:x]",
+        "A[U:U:35]",
+        "A[35]",
+        "A[1.5]",
+        "A[INFO:#a]",
+        "A[U :35]",
+        "A[MODx:1]",
+        "A[RESID:AA0581]",
+    ]);
+    check_refused(&[
+        ("A[U:]", 4, 4),
+        ("A[INFO:]", 4, 7),
+        ("A[U:#a]", 4, 4),
+        ("{x#a}A", 4, 2),
+        ("A[-x]", 4, 3),
+        ("A[+5 x]", 4, 4),
+        ("A[U:+x]", 4, 5),
+        ("A[UNIMOD:x]", 4, 9),
+        ("A[UNIMOD:1x]", 4, 10),
+        ("A[Obs:2]", 4, 6),
+        ("A[Obs:x]", 4, 6),
+        ("A[Formula:x", 4, 11),
+        ("A[x#a(+.5)]", 4, 7),
+        ("A[x#a(]", 4, 6),
+        ("A[x#a(1)b]", 4, 8),
+        ("A[x#]", 4, 4),
+        ("A[]", 4, 2),
+        ("A[x||y]", 4, 4),
+        ("A[INFO:x#a|]", 4, 11),
+    ]);
+}
+
+#[test]
+fn limits_and_places() {
+    let bytes = |count: usize| "0".repeat(count);
+    let zeros = |length: usize| format!("A[+{}]", bytes(length - 4));
+    check_accepted(&[
+        "A[+00000000001]",
+        "[x]^08?A",
+        &format!("A[{}]", "x".repeat(128)),
+        &format!("A[UNIMOD:{}]", bytes(128)),
+        &format!("A[x#{}]", "a".repeat(16)),
+        "A[x[[[[[[[[]]]]]]]]]",
+        "A[x{[{[{[{[]}]}]}]}]",
+        &zeros(4096),
+    ]);
+    check_refused(&[
+        ("", 1, 0),
+        (&zeros(4097), 2, 4096),
+        (&"\n".repeat(5000), 2, 4096),
+        ("A[\u{7f}", 3, 2),
+        ("A\r", 3, 1),
+        ("A\nC", 3, 1),
+        ("]]\0", 3, 2),
+        ("A[x[[[[[[[[[]]]]]]]]]]", 5, 11),
+        ("A[INFO:{[{[{[{[{}]}]}]}]}]", 5, 15),
+        (&format!("A[INFO:{}]", "x".repeat(129)), 6, 2),
+        (&format!("A[u:{}]", "x".repeat(129)), 6, 2),
+        (&format!("A[UNIMOD:{}]", bytes(129)), 6, 2),
+        (&format!("A[x#{}]", "a".repeat(17)), 6, 4),
+        (&format!("A[#{}]", "a".repeat(17)), 6, 3),
+        ("A[a|b|c|d|e]", 6, 10),
+        (&format!("A{}", "[x]".repeat(65)), 6, 193),
+        ("A[+1.0000000]", 7, 2),
+        ("A[U:+1000000]", 7, 4),
+        ("A[x#a(-1000000)]", 7, 6),
+        ("[x]^100?A", 7, 4),
+        ("[x]^0?A", 7, 4),
+        ("[x]^00?A", 7, 4),
+    ]);
+}
+
+#[test]
+fn numbers_eight_to_twelve() {
+    check_accepted(&[
+        "A[U:CoMKP]",
+        "A[x#BRANCH1]",
+        "A[x#X]",
+        "A[R:35]",
+        "A[U:35a]",
+        "A[INFO:x]",
+        "A[x#a]",
+        "A[#a]C[x#a]",
+        "A[x#a]C[y#A]",
+        "[x]^8?A",
+    ]);
+    check_refused(&[
+        ("A[formula:x]", 8, 2),
+        ("A[x|GLYCAN:x]", 8, 4),
+        ("A[Position:#]", 8, 2),
+        ("A[limit:2]", 8, 2),
+        ("A[comkp]", 8, 2),
+        ("A[CoMUP#a]", 8, 2),
+        ("A[ColocaliseModificationsOfKnownPosition]", 8, 2),
+        ("A[colocalisemodificationsofunknownposition]", 8, 2),
+        ("A[+1#xl]", 8, 2),
+        ("A[x|+1#XL1]", 8, 4),
+        ("A[#Branch]", 8, 2),
+        ("A[m:35#a]", 9, 2),
+        ("[INFO:x|info:y]?A", 10, 0),
+        ("{x}{INFO:x}A", 10, 3),
+        ("A[x#a|y#a]", 11, 1),
+        ("A[x#a|y#b]", 11, 1),
+        ("A[#b]C[x#a|y#b]", 11, 6),
+        ("[+1#a]?A[+2#a]", 11, 0),
+        ("A[x#a]C[y#a]", 11, 7),
+        ("[x#a]^1?A[#a]", 11, 0),
+        ("[x][y#a]?A", 11, 3),
+        ("[x]^9?A", 12, 0),
+        ("[x]^8?A[y#a]", 12, 7),
+        ("[x]^8?(A)[INFO:y][z]", 12, 17),
+    ]);
+}
+
+#[test]
+fn floaters_positions_and_masses() {
+    let rows_of = |text: &str| pairs(&rows(&floaters(&line(text))));
+    assert_eq!(rows_of("[+1]?A[+2]C"), [(1, 2)]);
+    assert_eq!(rows_of("[+1]?(AC)[+2](?D)-[x]").len(), 3 + 2);
+    assert_eq!(rows_of("A[#a][#a]C[x#a]-[#a]"), [(1, 1), (1, 2), (1, 3)]);
+    assert_eq!(rows_of("[#a]-A(CD)[x#a]"), [(1, 0), (1, 2), (1, 3)]);
+    assert!(placements("A[x#a][y]").is_empty());
+    assert_eq!(placements("A"), [[0; 0]]);
+    assert_eq!(total(&line("A[Obs:+1|U:+2]")), Ok(2_000_000));
+    assert_eq!(total(&line("A[x#a|+2]C[#a]")), Ok(2_000_000));
+    assert_eq!(missing(&line("[x]^3?{y}A")), 4);
+    assert_eq!(missing(&line("A[INFO:x]")), 0);
+}
+
+#[test]
+fn what_a_ledger_refuses() {
+    let refused = |text: &str, placement: [u8; 8]| ledger(&line(text), &placement).err();
+    let nowhere = [0; 8];
+    let at = |position: u8| [position, 0, 0, 0, 0, 0, 0, 0];
+    assert_eq!(refused("{x}A", nowhere), Some(Refusal::new(16, 1)));
+    assert_eq!(refused("[y]?{x}A", at(9)), Some(Refusal::new(16, 2)));
+    assert_eq!(refused("[+1]?A", nowhere), Some(Refusal::new(18, 0)));
+    assert_eq!(refused("A", at(1)), Some(Refusal::new(18, 0)));
+    assert_eq!(refused("[+1]?A", at(1)), None);
+}
+
+// Document 001
+
+#[test]
+fn sequences_of_document_001_within_document_01() {
+    check_accepted(&[
+        "AHAFCKUTO",
+        "PEM[Oxidation]AT",
+        "PEM[monohydroxylated residue]AT",
+        "PEM[MOD:425]AT",
+        "[Carbamyl]-QPEPTIDE",
+        "PEPTIDE-[Methyl]",
+        "PEX[+147.035]AT",
+        "EM[Oxidation]EVEES[Phospho]PEK",
+        "EM[L-methionine sulfoxide]EVEES[O-phospho-L-serine]PEK",
+        "EM[R:L-methionine sulfone]EVEES[O-phospho-L-serine]PEK",
+        "NEEYN[GNO:G59626AS]K",
+        "NEEYN[G:G59626AS]K",
+        "EM[U:Oxidation]EVEES[U:Phospho]PEK",
+        "EM[M:L-methionine sulfoxide]EVEES[M:O-phospho-L-serine]PEK",
+        "EM[Oxidation]EVE[Cation:Mg[II]]ES[Phospho]PEK",
+        "PEL[(2S,4R)-5-hydroxyleucine]TIDE",
+        "E[Glu->pyro-Glu]KDTYL",
+        "EM[MOD:00719]EVEES[MOD:00046]PEK",
+        "EM[UNIMOD:35]EVEES[UNIMOD:56]PEK",
+        "EM[+15.9949]EVEES[+79.9663]PEK",
+        "EM[+15.995]EVEES[-18.01]PEK",
+        "[iTRAQ4plex]-EM[Oxidation]EVNES[Phospho]PEK[iTRAQ4plex]-[Methyl]",
+        "PEPTIDEG-[Methyl][Amidated]",
+        "[Acetyl][Carbamyl]-QPEPTIDE",
+        "MPGLVDSNW[Oxidation][Carboxymethyl]PAPPESQE",
+        "MPGLVDSNPAPPESQEKPLK(PCCACPETKKARDACIIEKGEEHCGHLIEAHKECMRALGFKI)\
+         [Oxidation][Oxidation][half cystine][half cystine]",
+        "ELV[INFO:AnyString]IS",
+        "ELV[info:AnyString]IS",
+        "ELVIS[Phospho|INFO:newly discovered|INFO:really awesome]K",
+        "ELVIS[Phospho|INFO:newly discovered|INFO:Created by software Tool1]K",
+        "EDTAVYYC(SRWGGDGFAMDY)[Info:CDR3]WGQGTL",
+        "EM[U:+15.9949]EVEES[U:+79.9663]PEK",
+        "EM[U:+15.995]EVEES[Obs:+79.978]PEK",
+        "RTAAX[+367.0537]WT",
+        "ELVIS[U:Phospho|+79.966331]K",
+        "ELVIS[U:Phospho|Obs:+79.978]K",
+        "ELVIS[UNIMOD:21|MOD:00046]K",
+        "ELVIS[Obs:+79.966|Phospho|Sulfo]K",
+        "[Phospho]?EM[Oxidation]EVTSESPEK",
+        "[Phospho][Phospho]?[Acetyl]-EM[Oxidation]EVTSESPEK",
+        "[Phospho]^2?[Acetyl]-EM[Oxidation]EVTSESPEK",
+        "EM[Oxidation]EVT[#g1]S[#g1]ES[Phospho#g1]PEK",
+        "PRT(ESFRMS)[+19.0523]ISK",
+        "PRT(EC[Carbamidomethyl]FRMS)[+19.0523]ISK",
+        "EM[Oxidation]EVT[#g1(0.01)]S[#g1(0.09)]ES[Phospho#g1(0.90)]PEK",
+        "[Phospho#s1]?EM[Oxidation]EVT[#s1(0.01)]S[#s1(0.09)]ES[#s1(0.90)]PEK",
+        "PRT(ESFRMS)[+19.0523#g1(0.01)]ISK[#g1(0.99)]",
+        "PR[#g1(0.91)]T(EC[Carbamidomethyl]FRMS)[+19.05233#g1(0.09)]ISK",
+        "(?DQ)NGTWEM[Oxidation]ESNENFEGYM[Oxidation]K",
+        "(?N)NGTWEM[Oxidation]ESNENFEGYM[Oxidation]K",
+        "EM[RESID:AA0581]EVEES[RESID:AA0037]PEK",
+        "EMEVTK[XLMOD:02001]SESPEK",
+        "EVTSEKC[half cystine]LEMSC[half cystine]EFD",
+        "EVTSEKC[UNIMOD:374]LEMSC[UNIMOD:374]EFD",
+        "YPVLN[GNO:G62765YT]VTMPN[GNO:G02815KT]NSNGKFDK",
+        "[Oxidation]^4?PEPTIDE",
+        "PETIEM[Dioxidation#1][Oxidation#2]REM[#1][#2]REM[#2]RM[#1]PEPTIDE",
+        "[Oxidation#1][Oxidation#2]?PTIM[#1][#2]ERM[#1][#2]ERM[#1][#2]ERM[#1][#2]DE",
+        "PEPTID-[b-type-ion]",
+        // Its `Glycan` without a colon is a name.
+        "YPVLN[#g1]VTMPN[Glycan#g1]NSNGKFDK",
+    ]);
+}
+
+#[test]
+fn sequences_of_document_001_beyond_document_01() {
+    check_refused(&[
+        ("EM[M:00719]EVEES[M:00046]PEK", 9, 3),
+        ("EM[U:35]EVEES[U:56]PEK", 9, 3),
+        ("{Glycan:Hex}EM[U:Oxidation]EV", 8, 1),
+        ("SEQUEN[Formula:[13C2][12C-2]H2N]CE", 8, 7),
+        ("EMEVTK[X:DSS#XL1]SESPEK", 8, 7),
+        ("G-[#BRANCH]", 8, 3),
+        ("[Oxidation|Limit:2]^4?PEPTIDE", 8, 11),
+        ("[Oxidation|CoMKP]?PEPT[Phospho]IDE", 8, 11),
+        ("PTI(MERMERME)[+32|Position:E]PTIDE", 8, 18),
+        ("ELVIS[Phospho|INFO:newly]discovered]K", 4, 35),
+        ("ELVIS[Phospho|INFO:newly[discovered]K", 4, 37),
+        ("[Acetyl]-[Phospho]^2?EM[Oxidation]EVTSESPEK", 4, 9),
+        ("PEPTIDEC(ACC)[Oxidation]^2[half cystine]", 4, 24),
+        ("P(RT(ESFRMS)[+19.0523]IS)[+19.0523]K", 4, 4),
+        ("EM[x]EVT[#g1]S[Phospho#g1]ES[Phospho#g1]PEK", 11, 28),
+        ("(>Heavy chain)EVQLVESG", 4, 1),
+        ("<13C>CARBON", 4, 0),
+        ("NEEYN+SEQUEN", 4, 5),
+        ("SEQUEN/2", 4, 6),
+        ("EK//SEFD", 4, 2),
+        ("PROT([#g1]EOC)[+19.0523#g1]ISK", 4, 5),
+    ]);
+}

@@ -1,0 +1,350 @@
+//! What holds for every line, tried on generated ones.
+
+use compare::areas::{decode, encode, tables_of_some_line, BYTES_SIZE, NUMBERS_SIZE};
+use compare::canonical::canonical;
+use compare::generate::{Generator, Random};
+use compare::line::Line;
+use compare::masses::{display_areas, ledger, missing, total, Display};
+use compare::positions::{
+    all_placements, first_placement, first_row, floaters, is_allowed, next_placement, plain_next,
+    rows, Listing, Row, Search, MOST_ROWS,
+};
+use compare::reader::{read, Refusal};
+
+/// Calls with each of so many generated lines.
+fn for_generated(seed: u64, count: usize, mut check: impl FnMut(&[u8])) {
+    for line in Generator::new(seed).take(count) {
+        check(&line);
+    }
+}
+
+/// The same with the accepted ones only and what they read to.
+fn for_accepted(seed: u64, count: usize, mut check: impl FnMut(&[u8], &Line)) {
+    for_generated(seed, count, |bytes| {
+        if let Ok(line) = read(bytes) {
+            check(bytes, &line);
+        }
+    });
+}
+
+fn shown(line: &[u8]) -> String {
+    String::from_utf8_lossy(line).into_owned()
+}
+
+#[test]
+fn canonical_line_is_accepted_reads_to_the_same_and_is_no_longer() {
+    for_accepted(11, 50_000, |bytes, line| {
+        let written = canonical(line);
+        let again = read(&written).unwrap_or_else(|no| panic!("{no:?} {}", shown(bytes)));
+        assert!(encode(&again) == encode(line), "{}", shown(bytes));
+        assert!(written.len() <= bytes.len(), "{}", shown(bytes));
+        assert_eq!(canonical(&again), written, "{}", shown(bytes));
+    });
+}
+
+#[test]
+fn areas_give_back_the_line() {
+    for_accepted(12, 50_000, |bytes, line| {
+        let (area, numbers) = encode(line);
+        assert_eq!((area.len(), numbers.len()), (6782, 320));
+        let decoded = decode(&area, &numbers);
+        assert!(decoded.as_ref() == Some(line), "{}", shown(bytes));
+        let written = tables_of_some_line(&area, &numbers);
+        assert!(written == Some(canonical(line)), "{}", shown(bytes));
+    });
+}
+
+/// Areas with a few entries changed are of some line only if a line reads to
+/// just these.
+#[test]
+fn changed_areas_are_refused_or_of_another_line() {
+    let mut random = Random::new(13);
+    let mut of_another = 0;
+    let mut refused = 0;
+    for_accepted(13, 20_000, |_, line| {
+        let (mut area, mut numbers) = encode(line);
+        let before = (area.clone(), numbers.clone());
+        for _ in 0..random.between(1, 2) {
+            change(&mut random, line, &mut area, &mut numbers);
+        }
+        match tables_of_some_line(&area, &numbers) {
+            Some(written) => {
+                let read = read(&written).expect("a line of these tables");
+                assert!(encode(&read) == (area.clone(), numbers.clone()));
+                of_another += usize::from((area, numbers) != before);
+            }
+            None => {
+                refused += 1;
+                assert_eq!(display_areas(&area, &numbers), Display::Refused(14));
+            }
+        }
+    });
+    assert!(
+        of_another > 1000 && refused > 2000,
+        "{of_another} {refused}"
+    );
+}
+
+/// Changes one entry, most often one that is in use.
+fn change(random: &mut Random, line: &Line, area: &mut [u8], numbers: &mut [i64]) {
+    let brackets = line.brackets.len().max(1);
+    match random.below(6) {
+        0 => area[random.below(2)] = random.below(256) as u8,
+        1 => area[2 + random.below(line.residues.len())] = b'A' + random.below(27) as u8,
+        2 => area[256 + random.below(line.residues.len())] = random.below(6) as u8,
+        3 => area[510 + random.below(brackets * 34)] = random.below(16) as u8,
+        4 => area[random.below(BYTES_SIZE)] = random.between(32, 127) as u8,
+        _ => {
+            let value = [0, 1, -5, 1_000_000, 999_999_999_999, i64::MIN][random.below(6)];
+            numbers[random.below(brackets * 5)] = value;
+        }
+    }
+}
+
+#[test]
+fn noise_in_areas_is_refused() {
+    let mut random = Random::new(14);
+    for _ in 0..2000 {
+        let mut area = vec![0; BYTES_SIZE];
+        area.fill_with(|| random.below(256) as u8);
+        area[0] = random.between(1, 254) as u8;
+        area[1] = random.below(65) as u8;
+        let mut numbers = vec![0; NUMBERS_SIZE];
+        numbers.fill_with(|| random.below(1 << 20) as i64);
+        assert_eq!(tables_of_some_line(&area, &numbers), None);
+    }
+}
+
+#[test]
+fn areas_that_are_too_short_or_longer() {
+    let (mut area, mut numbers) = encode(&read(b"A[+1.5]").unwrap());
+    let daltons = Display::Daltons(1.5);
+    assert_eq!(display_areas(&area, &numbers), daltons);
+    assert_eq!(display_areas(&area[1..], &numbers), Display::Refused(13));
+    assert_eq!(display_areas(&area, &numbers[1..]), Display::Refused(13));
+    area.push(7);
+    numbers.push(7);
+    assert_eq!(display_areas(&area, &numbers), daltons);
+}
+
+/// The layout by hand, once.
+#[test]
+fn layout_of_the_areas() {
+    let line = read(b"[u:x#ab(0.50)]?{-2.5|INFO:yz}d(Ec[+1])[G:p|obs:+7](?k)-[#ab]").unwrap();
+    let (area, numbers) = encode(&line);
+    let mut expected = vec![0; 6782];
+    expected[..2].copy_from_slice(&[4, 5]);
+    expected[2..6].copy_from_slice(b"DECK");
+    expected[256..260].copy_from_slice(&[0, 1, 2, 3]);
+    let rows: [&[u8]; 5] = [
+        &[1, 0, 0, 1, 1, 3, 2, 1, 0, 1, 2, 0, 0],
+        &[2, 0, 0, 1, 2, 0, 1, 0, 1, 0, 0, 0, 0, 2, 13, 0, 2, 0, 3, 0],
+        &[4, 3, 3, 1, 1, 0, 1, 0, 0, 0, 0, 0, 0],
+        &[5, 2, 3, 1, 2, 0, 2, 5, 0, 1, 0, 5, 0, 1, 7, 0, 0, 0, 0, 0],
+        &[6, 5, 5, 1, 1, 0, 3, 0, 0, 0, 2, 6, 0],
+    ];
+    for (index, row) in rows.iter().enumerate() {
+        expected[510 + index * 34..][..row.len()].copy_from_slice(row);
+    }
+    expected[2686..2694].copy_from_slice(b"xabyzpab");
+    assert_eq!(area, expected);
+    let mut expected = vec![0; 320];
+    expected[4] = 500_000;
+    expected[5] = -2_500_000;
+    expected[10] = 1_000_000;
+    expected[16] = 7_000_000;
+    assert_eq!(numbers, expected);
+}
+
+/// The quick ways to placements against plain backtracking and against the
+/// whole list.
+#[test]
+fn placements_agree_with_plain_backtracking() {
+    const CAP: usize = 60;
+    const BUDGET: u64 = 20_000;
+    let mut checked = 0;
+    for_accepted(15, 30_000, |bytes, line| {
+        let floaters = floaters(line);
+        let (all, complete) = all_placements(&floaters, CAP);
+        assert!(all.windows(2).all(|pair| pair[0] < pair[1]), "ascending");
+        assert_eq!(first_placement(&floaters), all.first().copied());
+        let mut after = None;
+        for index in 0..all.len() + usize::from(complete) {
+            let expected = all.get(index).copied();
+            let plain = plain_next(&floaters, after.as_ref(), BUDGET);
+            match plain {
+                Search::OutOfBudget => {}
+                Search::Found(found) => assert_eq!(Some(found), expected, "{}", shown(bytes)),
+                Search::NoneLeft => assert_eq!(None, expected, "{}", shown(bytes)),
+            }
+            checked += usize::from(plain != Search::OutOfBudget);
+            if let Some(after) = after {
+                assert_eq!(next_placement(&floaters, &after), expected);
+            }
+            after = expected;
+        }
+    });
+    assert!(checked > 50_000, "{checked}");
+}
+
+#[test]
+fn allowed_placements_are_those_in_the_list() {
+    let mut random = Random::new(16);
+    for_accepted(16, 20_000, |_, line| {
+        let floaters = floaters(line);
+        let (all, complete) = all_placements(&floaters, 5000);
+        if !complete {
+            return;
+        }
+        for _ in 0..8 {
+            let mut placement = match all.len() {
+                0 => [0; 8],
+                count => all[random.below(count)],
+            };
+            let entry = random.below(8);
+            placement[entry] = random.below(line.c_terminus() + 1) as u8;
+            let listed = all.binary_search(&placement).is_ok();
+            assert_eq!(is_allowed(&floaters, &placement), listed);
+        }
+    });
+}
+
+#[test]
+fn a_listing_answers_seventeen_and_eighteen() {
+    let line = read(b"[+1]^2?AC").unwrap();
+    let floaters = floaters(&line);
+    let refused = |fresh: bool, placement: [u8; 8], number: u8| {
+        let mut listing = Listing { fresh, placement };
+        let before = listing;
+        let answer = listing.request(&floaters);
+        assert_eq!(answer, Err(Refusal::new(number, 0)));
+        assert_eq!(listing, before, "a refusal changes no record");
+    };
+    refused(true, [1, 2, 0, 0, 0, 0, 0, 0], 18);
+    refused(false, [0; 8], 18);
+    refused(false, [1, 1, 0, 0, 0, 0, 0, 0], 18);
+    refused(false, [1, 2, 0, 0, 0, 0, 0, 1], 18);
+    refused(false, [2, 1, 0, 0, 0, 0, 0, 0], 17);
+    let mut listing = Listing::FRESH;
+    assert_eq!(listing.request(&floaters), Ok([1, 2, 0, 0, 0, 0, 0, 0]));
+    assert_eq!(listing.request(&floaters), Ok([2, 1, 0, 0, 0, 0, 0, 0]));
+    let mut listing = Listing::FRESH;
+    assert_eq!(listing.request(&[]), Ok([0; 8]));
+    assert_eq!(listing.request(&[]), Err(Refusal::new(17, 0)));
+}
+
+#[test]
+fn lookup_among_rows() {
+    let row = |floater, position| Row { floater, position };
+    let mut rows = vec![row(0, 0); MOST_ROWS];
+    rows[3] = row(2, 9);
+    rows[5] = row(2, 4);
+    rows[2047] = row(7, 1);
+    rows.push(row(8, 1));
+    assert_eq!(first_row(&rows, 6, 2), Ok((3, 9)));
+    assert_eq!(first_row(&rows, 3, 2), Err(Refusal::new(17, 0)));
+    assert_eq!(first_row(&rows, 2048, 7), Ok((2047, 1)));
+    assert_eq!(first_row(&rows, usize::MAX, 8), Err(Refusal::new(17, 0)));
+    assert_eq!(first_row(&rows[..2047], 1, 0), Err(Refusal::new(13, 0)));
+}
+
+#[test]
+fn rows_ledgers_and_totals_agree() {
+    for_accepted(17, 30_000, |bytes, line| {
+        let floaters = floaters(line);
+        let rows = rows(&floaters);
+        assert!(rows.len() <= MOST_ROWS);
+        assert!(rows.windows(2).all(|pair| pair[0] < pair[1]), "ascending");
+        let (all, _) = all_placements(&floaters, 5);
+        for placement in &all {
+            match ledger(line, placement) {
+                Ok(ledger) => {
+                    let labile = total(line).unwrap() - ledger.iter().sum::<i64>();
+                    assert_eq!(labile, labile_total(line), "{}", shown(bytes));
+                }
+                Err(refusal) => assert_eq!(refusal, Refusal::new(16, missing(line))),
+            }
+        }
+    });
+}
+
+/// What a ledger leaves out of the total.
+fn labile_total(line: &Line) -> i64 {
+    let mut only_labile = line.clone();
+    let is_labile = |bracket: &compare::line::Bracket| bracket.kind == compare::line::Kind::Labile;
+    only_labile.brackets.retain(is_labile);
+    total(&only_labile).unwrap()
+}
+
+/// "first byte with which no line of any length begins so": up to that byte
+/// the line can be completed, and with it nothing that follows matters.
+#[test]
+fn refusal_four_stands_at_the_first_wrong_byte() {
+    let mut checked = 0;
+    for_generated(18, 20_000, |bytes| {
+        let Err(Refusal { number: 4, place }) = read(bytes) else {
+            return;
+        };
+        checked += 1;
+        let mut begun = bytes[..place].to_vec();
+        assert!(can_be_completed(&mut begun, 60), "{}", shown(bytes));
+        if place < bytes.len() {
+            let mut wrong = bytes[..=place].to_vec();
+            for ending in [&b""[..], b"]", b"1)]A", b"?A", b"-[x]"] {
+                wrong.truncate(place + 1);
+                wrong.extend_from_slice(ending);
+                assert_eq!(read(&wrong).err(), Some(Refusal::new(4, place)));
+            }
+        }
+    });
+    assert!(checked > 1000, "{checked}");
+}
+
+/// Whether some so many bytes at most make a line of the order of this.
+fn can_be_completed(begun: &mut Vec<u8>, bytes_left: usize) -> bool {
+    match read(begun) {
+        Err(Refusal { number: 1, .. }) => {}
+        Err(Refusal { number: 4, place }) if place < begun.len() => return false,
+        Err(Refusal { number: 4, .. }) => {}
+        _ => return true,
+    }
+    if bytes_left == 0 {
+        return false;
+    }
+    b"]})?A-1[".iter().any(|&byte| {
+        begun.push(byte);
+        let completed = can_be_completed(begun, bytes_left - 1);
+        begun.pop();
+        completed
+    })
+}
+
+#[test]
+fn generated_lines_meet_every_number() {
+    const COUNT: usize = 50_000;
+    let mut outcomes = [0; 13];
+    for_generated(19, COUNT, |bytes| {
+        assert!(!bytes.contains(&10), "no byte 10");
+        match read(bytes) {
+            Ok(_) => outcomes[0] += 1,
+            Err(refusal) => outcomes[usize::from(refusal.number)] += 1,
+        }
+    });
+    assert!(outcomes[0] >= COUNT / 4, "{outcomes:?}");
+    let refused = &outcomes[1..];
+    assert!(
+        refused[..2].iter().all(|&lines| lines >= COUNT / 200),
+        "{outcomes:?}"
+    );
+    assert!(
+        refused[2..].iter().all(|&lines| lines >= COUNT / 100),
+        "{outcomes:?}"
+    );
+}
+
+#[test]
+fn generated_lines_follow_from_their_seed() {
+    let lines = |seed| Generator::new(seed).take(200).collect::<Vec<_>>();
+    assert_eq!(lines(5), lines(5));
+    assert_ne!(lines(5), lines(6));
+}

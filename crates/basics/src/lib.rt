@@ -1,0 +1,1 @@
+// No code: small laws that many proofs cite.

@@ -1,0 +1,467 @@
+-- Whole lines: the brackets in front of a line, and the theorem over all states of the reader.
+use mathlib.Core.Path.{_≡_, refl, sym, ap, _∙_, subst}
+use mathlib.Core.Option.{Option, none, some, Option·none-ne-some}
+use mathlib.Core.Bool.{Bool, true, false, cond, true≢false, false≢true}
+use mathlib.Core.List.{List, [], _∷_, _++_, append-assoc, append-nil, map, map-append}
+use Prim.Native.Nat.{ℕ, suc, _+_, _*_, _^_, _≤_, _<_}
+use native.Mathlib.Omega.{arith}
+use lib.Dec.{eqb}
+use lib.ListN.{length, length-append}
+use Rattle.scope.specs.declared.grammar.Kind.{Kind}
+use Rattle.scope.specs.declared.grammar.Kind.the-variants.{Unknown, Labile, NTerm, CTerm}
+use Rattle.scope.specs.declared.grammar.Mode.{Mode}
+use Rattle.scope.specs.declared.grammar.Mode.the-variants.{Front, Undecided, Counted, Referred, Caret, Counting, Labiles, NTerms, Start, Single, Opened, UnsureOpened, InRange, InUnsure, RangeEnd, Ranged, UnsureEnd, CStart, CTerms}
+use Rattle.scope.specs.declared.grammar.Slot.{Slot}
+use Rattle.scope.specs.declared.grammar.Act.the-variants.{Begin, RunEnds, TermEnds}
+use Rattle.scope.specs.Bytes.{isDigit, openSquare, shutSquare, openCurly, caret, question, dash}
+use Rattle.scope.specs.Line.{Bracket}
+use Rattle.scope.specs.Content.{value, none?}
+use Rattle.scope.specs.Reading.{square, front, undecided, counted, referred, act, mayEnd, Held, countDigit, asNTerm, State, dead, outside, inside, perform, refers?, step, run, start, lineOf}
+use Rattle.scope.specs.Modifications.{keep, flat}
+use Rattle.scope.specs.Canonical.{decimal, partsText, squareText, curlyText, countText, unknownText, kindCode, ofKind, closedBy, ledBy, sequenceText, canonical}
+use Rattle.canonical_laws.specs.Lists.{branch, All, all-append, all-front, all-back, all-map, keep-append, flat-append}
+use Rattle.canonical_laws.specs.Numbers.{digit-below, decimal-length}
+use Rattle.canonical_laws.specs.Brackets.{Place, Parts}
+use Rattle.canonical_laws.specs.Runs.{lineRun, line-nil, line-cons, line-further, Reads}
+use Rattle.canonical_laws.specs.Unknowns.{Brackets, unknown, normal, FitsBracket, Square, IsUnknown, held, on-last, front-run, map-same, IsTerm, terms-end}
+use Rattle.canonical_laws.specs.Sequence.{hasKind, Low, flat-one}
+use Rattle.canonical_laws.specs.Lines.{unknowns, labiles, nterms, cterms, head, body, text, norm, Written, Within, Gather, Fresh, Outside, ClosedBy, Reached, begins, goes-on, closed-most, closed-least, square-length, bare-body, step-labile, step-element, step-single, step-opened, step-unsureOpened, step-inRange, step-inUnsure, step-rangeEnd, step-ranged, step-unsureEnd, step-start, step-cStart, step-cTerms, step-labiles, step-nterms, between-front, after}
+
+-- ---- brackets of unknown position, by kind
+kind-is : (k : Bracket Place) → IsUnknown k → k .kind ≡ Unknown
+kind-is k w = ap (λ (z : Bracket Place). z .kind) (w .is)
+
+unknown-kind : (bs : Brackets) → All IsUnknown bs → ofKind Unknown bs ≡ bs
+unfolding keep
+unknown-kind [] w = refl
+unknown-kind (k ∷ bs) w =
+    ap (λ z. cond (eqb (kindCode z) 1) (k ∷ []) [] ++ ofKind Unknown bs) (kind-is k (w .0)) ∙ ap (λ z. k ∷ z) (unknown-kind bs (w .1))
+
+other-kind : (c : Kind) (bs : Brackets) → eqb 1 (kindCode c) ≡ false → All IsUnknown bs → ofKind c bs ≡ []
+unfolding keep
+other-kind c [] e w = refl
+other-kind c (k ∷ bs) e w =
+    ap (λ z. cond (eqb (kindCode z) (kindCode c)) (k ∷ []) [] ++ ofKind c bs) (kind-is k (w .0)) ∙ ap (λ z. cond z (k ∷ []) [] ++ ofKind c bs) e ∙ other-kind c bs e (w .1)
+
+unknown-low : (bs : Brackets) → All IsUnknown bs → Low 0 bs
+unknown-low bs w = all-map IsUnknown (λ k. k .last ≤ 0) bs (λ k v. omega (arith, ap (λ (z : Bracket Place). z .last) (v .is))) w
+
+front-text : (bs : Brackets) → All IsUnknown bs → text Front (held bs []) ≡ closedBy (flat unknownText bs) question
+unfolding text flat
+front-text bs w =
+    bare-body (held bs []) refl (other-kind NTerm bs refl w)
+    ∙ ap (λ z. unknowns bs ++ flat curlyText z) (other-kind Labile bs refl w)
+    ∙ append-nil (unknowns bs)
+    ∙ ap (λ z. closedBy (flat unknownText z) question) (unknown-kind bs w)
+
+front-written : (bs : Brackets) (n : ℕ) → All IsUnknown bs → length (closedBy (flat unknownText bs) question) ≤ n → Written n Front (held bs [])
+front-written bs n w h = record { path = λ fits. ap (lineRun start) (front-text bs w) ∙ front-run bs w fits; short = rw (front-text bs w) h }
+
+front-within : (bs : Brackets) → All IsUnknown bs → Within (held bs [])
+front-within bs w = record { low = unknown-low bs w; no-cterm = other-kind CTerm bs refl w }
+
+-- ---- lengths of runs
+flat-unknown : (rs : Brackets) (k : Bracket Place) → flat unknownText (rs ++ (k ∷ [])) ≡ flat unknownText rs ++ unknownText k
+unfolding flat
+flat-unknown rs k = flat-append unknownText rs (k ∷ []) ∙ ap (λ z. flat unknownText rs ++ z) (append-nil (unknownText k))
+
+fresh-length : (rs : Brackets) (o : Option Place) (ps : Parts) → length (flat unknownText (rs ++ (unknown 1 o ps ∷ []))) ≡ length (flat unknownText rs) + (length (partsText ps) + 2)
+fresh-length rs o ps =
+    ap length (flat-unknown rs (unknown 1 o ps))
+    ∙ length-append (flat unknownText rs) (unknownText (unknown 1 o ps))
+    ∙ ap (λ z. length (flat unknownText rs) + z) (ap length (append-nil (squareText (unknown 1 o ps))) ∙ square-length (unknown 1 o ps))
+
+term-length : (rs : Brackets) (ps : Parts) → length (flat squareText (rs ++ (unknown 1 none ps ∷ []))) ≡ length (flat squareText rs) + (length (partsText ps) + 2)
+term-length rs ps =
+    ap length (flat-one rs (unknown 1 none ps)) ∙ length-append (flat squareText rs) (squareText (unknown 1 none ps)) ∙ ap (λ z. length (flat squareText rs) + z) (square-length (unknown 1 none ps))
+
+fewer : (rs : Brackets) → length (flat squareText rs) ≤ length (flat unknownText rs)
+unfolding flat
+fewer [] = omega arith
+fewer (k ∷ rs) =
+    rw (length-append (squareText k) (flat squareText rs), length-append (unknownText k) (flat unknownText rs), length-append (squareText k) (countText (k .count))) (omega (arith, fewer rs))
+
+-- ---- a bracket more at the front
+squares : (s : Slot) (j : ℕ) (ps : Parts) → s .shut ≡ shutSquare → ClosedBy s j ps → Square ps
+squares s j ps e g r f a = subst (λ (z : ℕ). Reads z r ps) e (g r .path f a)
+
+is-term : (ps : Parts) → Square ps → IsTerm (unknown 1 none ps)
+is-term ps w = record { is = refl; reads = w }
+
+is-unknown : (n : ℕ) (o : Option Place) (ps : Parts) → refers? ps ≡ false → (o ≡ none → n ≡ 1) → Square ps → IsUnknown (unknown n o ps)
+is-unknown n o ps e h w = record { is = refl; plain = e; once = h; reads = w }
+
+all-one : {A : Type 0} (P : A → Type 0) (l : List A) (x : A) → All P l → P x → All P (l ++ (x ∷ []))
+all-one P l x w v = all-append P l (x ∷ []) w (v, tt)
+
+gather : (bs rs : Brackets) → All IsUnknown bs → Gather (held bs rs)
+gather bs rs w = record { is = refl; settledOnes = w }
+
+fresh : (rs : Brackets) (ps : Parts) → Fresh (rs ++ (unknown 1 none ps ∷ []))
+fresh rs ps = record { before = rs; parts = ps; is = refl }
+
+abbrev sizeOf : Brackets → ℕ
+sizeOf bs = length (closedBy (flat unknownText bs) question)
+
+step-lead : (bs rs : Brackets) (b n : ℕ) → All IsUnknown bs → All IsUnknown rs → All IsTerm rs → sizeOf bs + length (flat unknownText rs) ≤ n → Reached (suc n) (perform tt b (held bs rs) (Begin front))
+unfolding Outside
+step-lead bs rs b n w u v h =
+    begins n b front (held bs rs)
+    (λ ps j g.
+    branch (refers? ps) (λ m. Outside (suc n + j) m (held bs (rs ++ (unknown 1 none ps ∷ [])))) Referred Undecided
+    (λ e. (
+      gather bs (rs ++ (unknown 1 none ps ∷ [])) w,
+      all-one IsTerm rs (unknown 1 none ps) v (is-term ps (squares front j ps refl g)),
+      fresh rs ps,
+      rw (term-length rs ps) (omega (arith, g true .short, fewer rs)),
+    ))
+    (λ e. (
+      gather bs (rs ++ (unknown 1 none ps ∷ [])) w,
+      all-one IsUnknown rs (unknown 1 none ps) u (is-unknown 1 none ps e (λ z. refl) (squares front j ps refl g)),
+      all-one IsTerm rs (unknown 1 none ps) v (is-term ps (squares front j ps refl g)),
+      fresh rs ps,
+      rw (fresh-length rs none ps) (omega (arith, g true .short)),
+    )))
+
+no-reference : (ps : Parts) → (refers? ps ≡ true → false ≡ true) → refers? ps ≡ false
+no-reference ps f = go (refers? ps) f
+  where
+    go : (t : Bool) → (t ≡ true → false ≡ true) → t ≡ false
+    go true f = sym (f refl)
+    go false f = refl
+
+step-more : (bs rs : Brackets) (b n : ℕ) → All IsUnknown bs → All IsUnknown rs → sizeOf bs + length (flat unknownText rs) ≤ n → Reached (suc n) (perform tt b (held bs rs) (Begin (square Unknown false Counted)))
+unfolding Outside
+step-more bs rs b n w u h =
+    begins n b (square Unknown false Counted) (held bs rs)
+    (λ ps j g.
+    after ps Counted (suc n + j) (held bs (rs ++ (unknown 1 none ps ∷ []))) (
+      gather bs (rs ++ (unknown 1 none ps ∷ [])) w,
+      all-one IsUnknown rs (unknown 1 none ps) u (is-unknown 1 none ps (no-reference ps (g true .refs)) (λ z. refl) (squares (square Unknown false Counted) j ps refl g)),
+      fresh rs ps,
+      rw (fresh-length rs none ps) (omega (arith, g true .short)),
+    ))
+
+step-refer : (bs rs : Brackets) (b n : ℕ) → All IsUnknown bs → All IsTerm rs → sizeOf bs + length (flat squareText rs) ≤ n → Reached (suc n) (perform tt b (held bs rs) (Begin (square Unknown true Referred)))
+unfolding Outside
+step-refer bs rs b n w v h =
+    begins n b (square Unknown true Referred) (held bs rs)
+    (λ ps j g.
+    after ps Referred (suc n + j) (held bs (rs ++ (unknown 1 none ps ∷ []))) (
+      gather bs (rs ++ (unknown 1 none ps ∷ [])) w,
+      all-one IsTerm rs (unknown 1 none ps) v (is-term ps (squares (square Unknown true Referred) j ps refl g)),
+      fresh rs ps,
+      rw (term-length rs ps) (omega (arith, g true .short)),
+    ))
+
+-- ---- `?` and `-`
+step-runEnds : (bs rs : Brackets) (b n : ℕ) → All IsUnknown bs → All IsUnknown rs → sizeOf bs + length (flat unknownText rs) ≤ n → Reached (suc n) (perform tt b (held bs rs) RunEnds)
+unfolding Reached Outside perform
+step-runEnds bs rs b n w u h =
+    subst (λ (z : Brackets). Gather (held (bs ++ z) []) × (_≡_ {A = Brackets} [] []) × (sizeOf (bs ++ z) ≤ suc n)) (sym (map-same rs))
+    (gather (bs ++ rs) [] (all-append IsUnknown bs rs w u), refl, short)
+  where
+    short : sizeOf (bs ++ rs) ≤ suc n
+    short =
+        let e : length (flat unknownText (bs ++ rs)) ≡ length (flat unknownText bs) + length (flat unknownText rs) = ap length (flat-append unknownText bs rs) ∙ length-append (flat unknownText bs) (flat unknownText rs) in
+        omega (arith, closed-most (flat unknownText (bs ++ rs)) question, closed-least (flat unknownText bs) question)
+
+term-kind : (rs : Brackets) → ofKind NTerm (map asNTerm rs) ≡ map asNTerm rs
+unfolding keep
+term-kind [] = refl
+term-kind (k ∷ rs) = ap (λ z. asNTerm k ∷ z) (term-kind rs)
+
+term-other : (c : Kind) (rs : Brackets) → eqb 3 (kindCode c) ≡ false → ofKind c (map asNTerm rs) ≡ []
+unfolding keep
+term-other c [] e = refl
+term-other c (k ∷ rs) e = ap (λ z. cond z (asNTerm k ∷ []) [] ++ ofKind c (map asNTerm rs)) e ∙ term-other c rs e
+
+term-texts : (rs : Brackets) → flat squareText (map asNTerm rs) ≡ flat squareText rs
+unfolding flat
+term-texts [] = refl
+term-texts (k ∷ rs) = ap (λ z. squareText k ++ z) (term-texts rs)
+
+term-fits : (rs : Brackets) → All FitsBracket (map asNTerm rs) → All FitsBracket rs
+term-fits [] w = tt
+term-fits (k ∷ rs) w = (w .0, term-fits rs (w .1))
+
+term-normal : (rs : Brackets) → All IsTerm rs → map normal (map asNTerm rs) ≡ map asNTerm rs
+term-normal [] w = refl
+term-normal (k ∷ rs) w = both (ap (λ (z : Bracket Place). normal (asNTerm z)) (w .0 .is) ∙ sym (ap asNTerm (w .0 .is))) (term-normal rs (w .1))
+  where
+    both : normal (asNTerm k) ≡ asNTerm k → map normal (map asNTerm rs) ≡ map asNTerm rs → _≡_ {A = Brackets} (normal (asNTerm k) ∷ map normal (map asNTerm rs)) (asNTerm k ∷ map asNTerm rs)
+    both e f = cc
+
+term-low : (rs : Brackets) → All IsTerm rs → Low 0 (map asNTerm rs)
+term-low [] w = tt
+term-low (k ∷ rs) w = (omega (arith, ap (λ (z : Bracket Place). z .last) (w .0 .is)), term-low rs (w .1))
+
+kinds-append : (c : Kind) (l m : Brackets) → ofKind c (l ++ m) ≡ ofKind c l ++ ofKind c m
+kinds-append c l m = keep-append (hasKind c) l m
+
+term-text : (bs rs : Brackets) → All IsUnknown bs → text Start (held (bs ++ map asNTerm rs) []) ≡ closedBy (flat unknownText bs) question ++ closedBy (flat squareText rs) dash
+unfolding text head sequenceText flat
+term-text bs rs w =
+    append-nil (head (bs ++ map asNTerm rs))
+    ∙ ap (λ z. closedBy (flat unknownText z) question ++ labiles (bs ++ map asNTerm rs) ++ closedBy (nterms (bs ++ map asNTerm rs)) dash)
+    (kinds-append Unknown bs (map asNTerm rs) ∙ ap (λ z. ofKind Unknown bs ++ z) (term-other Unknown rs refl) ∙ append-nil (ofKind Unknown bs) ∙ unknown-kind bs w)
+    ∙ ap (λ z. closedBy (flat unknownText bs) question ++ flat curlyText z ++ closedBy (nterms (bs ++ map asNTerm rs)) dash)
+    (kinds-append Labile bs (map asNTerm rs) ∙ ap (λ z. ofKind Labile bs ++ z) (term-other Labile rs refl) ∙ append-nil (ofKind Labile bs) ∙ other-kind Labile bs refl w)
+    ∙ ap (λ z. z ++ closedBy (nterms (bs ++ map asNTerm rs)) dash) (append-nil (closedBy (flat unknownText bs) question))
+    ∙ ap (λ z. closedBy (flat unknownText bs) question ++ closedBy (flat squareText z) dash)
+    (kinds-append NTerm bs (map asNTerm rs) ∙ ap (λ z. z ++ ofKind NTerm (map asNTerm rs)) (other-kind NTerm bs refl w) ∙ term-kind rs)
+    ∙ ap (λ z. closedBy (flat unknownText bs) question ++ closedBy z dash) (term-texts rs)
+
+step-termEnds : (bs : Brackets) (k : Bracket Place) (ns : Brackets) (b n : ℕ) → All IsUnknown bs → All IsTerm (k ∷ ns) → sizeOf bs + length (flat squareText (k ∷ ns)) ≤ n → Reached (suc n) (perform tt b (held bs (k ∷ ns)) TermEnds)
+unfolding Reached Outside perform
+step-termEnds bs k ns b n w v h = (
+  record {
+    path = λ fits.
+        ap (lineRun start) (term-text bs (k ∷ ns) w)
+        ∙ line-further (closedBy (flat unknownText bs) question) (closedBy (flat squareText (k ∷ ns)) dash) start (outside Front (held (map normal bs) [])) _
+        (front-run bs w (all-front FitsBracket bs (map asNTerm (k ∷ ns)) fits))
+        (terms-end (map normal bs) k ns v (term-fits (k ∷ ns) (all-back FitsBracket bs (map asNTerm (k ∷ ns)) fits)))
+        ∙ ap (λ (z : Brackets). outside Start (held z [])) (ap (λ z. map normal bs ++ z) (sym (term-normal (k ∷ ns) v)) ∙ sym (map-append normal bs (map asNTerm (k ∷ ns))));
+    short =
+        rw (term-text bs (k ∷ ns) w, length-append (closedBy (flat unknownText bs) question) (closedBy (flat squareText (k ∷ ns)) dash)) (omega (arith, closed-most (flat squareText (k ∷ ns)) dash));
+  },
+  record {
+    low = all-append (λ q. q .last ≤ 0) bs (map asNTerm (k ∷ ns)) (unknown-low bs w) (term-low (k ∷ ns) v);
+    no-cterm = kinds-append CTerm bs (map asNTerm (k ∷ ns)) ∙ ap (λ z. z ++ ofKind CTerm (map asNTerm (k ∷ ns))) (other-kind CTerm bs refl w) ∙ term-other CTerm (k ∷ ns) refl;
+  },
+)
+
+-- ---- the orders at the front, one byte further
+front-held : (n : ℕ) (h : Held Place) → Outside n Front h → h ≡ held (h .brackets) []
+unfolding Outside
+front-held n h w = w .0 .is ∙ ap (held (h .brackets)) (w .1)
+
+front-at : (bs : Brackets) (b n : ℕ) → All IsUnknown bs → sizeOf bs ≤ n → Reached (suc n) (perform tt b (held bs []) (act Front b))
+unfolding act flat
+front-at bs b n w h =
+    branch (eqb b openSquare) (λ a. Reached (suc n) (perform tt b (held bs []) a)) _ _ (λ e. step-lead bs [] b n w tt tt (omega arith))
+    (λ e.
+    branch (eqb b openCurly) (λ a. Reached (suc n) (perform tt b (held bs []) a)) _ _
+    (λ q. step-labile Front (held bs []) b n refl between-front (front-written bs n w h) (front-within bs w) refl (other-kind NTerm bs refl w))
+    (λ q. step-element Front (held bs []) b n between-front (front-written bs n w h) (front-within bs w)))
+
+step-front : (h : Held Place) (b n : ℕ) → Outside n Front h → Reached (suc n) (perform tt b h (act Front b))
+unfolding Outside
+step-front h b n w = subst (λ (z : Held Place). Reached (suc n) (perform tt b z (act Front b))) (sym (front-held n h w)) (front-at (h .brackets) b n (w .0 .settledOnes) (w .2))
+
+counted-at : (bs rs : Brackets) (b n : ℕ) → All IsUnknown bs → All IsUnknown rs → sizeOf bs + length (flat unknownText rs) ≤ n → Reached (suc n) (perform tt b (held bs rs) (counted b))
+unfolding counted Reached perform
+counted-at bs rs b n w u h =
+    branch (eqb b openSquare) (λ a. Reached (suc n) (perform tt b (held bs rs) a)) _ _ (λ e. step-more bs rs b n w u h)
+    (λ e. branch (eqb b question) (λ a. Reached (suc n) (perform tt b (held bs rs) a)) _ _ (λ q. step-runEnds bs rs b n w u h) (λ q. tt))
+
+ends-at : (bs rs : Brackets) (b n : ℕ) → Fresh rs → All IsUnknown bs → All IsTerm rs → sizeOf bs + length (flat squareText rs) ≤ n → Reached (suc n) (perform tt b (held bs rs) TermEnds)
+ends-at bs [] b n f w v h = absurd (never (f .before) (f .is))
+  where
+    never : (l : Brackets) → [] ≡ l ++ (unknown 1 none (f .parts) ∷ []) → ⊥
+    never [] e = let z : _≡_ {A = ℕ} 0 1 = cc in omega arith
+    never (x ∷ l) e = let z : _≡_ {A = ℕ} 0 1 = cc in omega arith
+ends-at bs (k ∷ ns) b n f w v h = step-termEnds bs k ns b n w v h
+
+-- the rest of what is known moves to the shape that is held
+at-shape : (n : ℕ) (b : ℕ) (m : Mode) (h : Held Place) → Gather h → Reached (suc n) (perform tt b (held (h .brackets) (h .run)) (act m b)) → Reached (suc n) (perform tt b h (act m b))
+at-shape n b m h g r = subst (λ (z : Held Place). Reached (suc n) (perform tt b z (act m b))) (sym (g .is)) r
+
+step-undecided : (h : Held Place) (b n : ℕ) → Outside n Undecided h → Reached (suc n) (perform tt b h (act Undecided b))
+unfolding act undecided Reached Outside perform
+step-undecided h b n w =
+    at-shape n b Undecided h (w .0)
+    (branch (eqb b caret) (λ a. Reached (suc n) (perform tt b g a)) _ _ (λ e. (gather (h .brackets) (h .run) (w .0 .settledOnes), w .1, w .3, omega (arith, w .4)))
+    (λ e.
+    branch (eqb b openSquare) (λ a. Reached (suc n) (perform tt b g a)) _ _ (λ q. step-lead (h .brackets) (h .run) b n (w .0 .settledOnes) (w .1) (w .2) (w .4))
+    (λ q.
+    branch (eqb b question) (λ a. Reached (suc n) (perform tt b g a)) _ _ (λ p. step-runEnds (h .brackets) (h .run) b n (w .0 .settledOnes) (w .1) (w .4))
+    (λ p.
+    branch (eqb b dash) (λ a. Reached (suc n) (perform tt b g a)) _ _
+    (λ d. ends-at (h .brackets) (h .run) b n (w .3) (w .0 .settledOnes) (w .2) (omega (arith, w .4, fewer (h .run)))) (λ d. tt)))))
+  where
+    g : Held Place
+    g = held (h .brackets) (h .run)
+
+step-counted : (h : Held Place) (b n : ℕ) → Outside n Counted h → Reached (suc n) (perform tt b h (act Counted b))
+unfolding act Reached Outside perform
+step-counted h b n w =
+    at-shape n b Counted h (w .0)
+    (branch (eqb b caret) (λ a. Reached (suc n) (perform tt b (held (h .brackets) (h .run)) a)) _ _ (λ e. (gather (h .brackets) (h .run) (w .0 .settledOnes), w .1, w .2, omega (arith, w .3)))
+    (λ e. counted-at (h .brackets) (h .run) b n (w .0 .settledOnes) (w .1) (w .3)))
+
+step-referred : (h : Held Place) (b n : ℕ) → Outside n Referred h → Reached (suc n) (perform tt b h (act Referred b))
+unfolding act referred Reached Outside perform
+step-referred h b n w =
+    at-shape n b Referred h (w .0)
+    (branch (eqb b openSquare) (λ a. Reached (suc n) (perform tt b (held (h .brackets) (h .run)) a)) _ _ (λ e. step-refer (h .brackets) (h .run) b n (w .0 .settledOnes) (w .1) (w .3))
+    (λ e.
+    branch (eqb b dash) (λ a. Reached (suc n) (perform tt b (held (h .brackets) (h .run)) a)) _ _
+    (λ q. ends-at (h .brackets) (h .run) b n (w .2) (w .0 .settledOnes) (w .1) (w .3)) (λ q. tt)))
+
+-- ---- counts
+some-place : (p : Place) (n : ℕ) → some p ≡ none → n ≡ 1
+some-place p n e = absurd (Option·none-ne-some p (sym e))
+
+recount : (rs : Brackets) (n n′ : ℕ) (o : Option Place) (ps : Parts) → All IsUnknown (rs ++ (unknown n o ps ∷ [])) → All IsUnknown (rs ++ (unknown n′ (some tt) ps ∷ []))
+recount rs n n′ o ps w =
+    let k = all-back IsUnknown rs (unknown n o ps ∷ []) w .0 in
+    all-one IsUnknown rs (unknown n′ (some tt) ps) (all-front IsUnknown rs (unknown n o ps ∷ []) w) (is-unknown n′ (some tt) ps (k .plain) (some-place tt n′) (k .reads))
+
+caret-at : (bs rs : Brackets) (ps : Parts) (b n : ℕ) → All IsUnknown bs → All IsUnknown (rs ++ (unknown 1 none ps ∷ [])) → sizeOf bs + length (flat unknownText (rs ++ (unknown 1 none ps ∷ []))) + 1 ≤ n
+    → Reached (suc n) (perform tt b (held bs (rs ++ (unknown 1 none ps ∷ []))) (act Caret b))
+unfolding act Reached Outside perform
+caret-at bs rs ps b n w u h =
+    branch (isDigit b) (λ a. Reached (suc n) (perform tt b (held bs (rs ++ (unknown 1 none ps ∷ []))) a)) _ _
+    (λ e.
+    subst (λ (z : Brackets). Outside (suc n) Counting (held bs z)) (sym (on-last (countDigit tt b) rs (unknown 1 none ps))) (
+      gather bs (rs ++ (unknown (value b) (some tt) ps ∷ [])) w,
+      recount rs 1 (value b) none ps u,
+      record {
+        before = rs;
+        count = value b;
+        parts = ps;
+        digits = 1;
+        is = refl;
+        some-digits = omega arith;
+        below = digit-below b e;
+        short = omega (arith, fresh-length rs none ps);
+      },
+    ))
+    (λ e. tt)
+
+step-caret : (h : Held Place) (b n : ℕ) → Outside n Caret h → Reached (suc n) (perform tt b h (act Caret b))
+unfolding Outside
+step-caret h b n w =
+    at-shape n b Caret h (w .0)
+    (subst (λ (z : Brackets). Reached (suc n) (perform tt b (held (h .brackets) z) (act Caret b))) (sym (w .2 .is))
+    (caret-at (h .brackets) (w .2 .before) (w .2 .parts) b n (w .0 .settledOnes) (subst (λ (z : Brackets). All IsUnknown z) (w .2 .is) (w .1))
+    (subst (λ (z : Brackets). sizeOf (h .brackets) + length (flat unknownText z) + 1 ≤ n) (w .2 .is) (w .3))))
+
+count-length : (c d : ℕ) → 1 ≤ d → c < 10 ^ d → length (countText c) ≤ 1 + d
+unfolding decimal
+count-length c d h w = branch (eqb c 1) (λ l. length l ≤ 1 + d) [] (caret ∷ decimal c) (λ e. omega arith) (λ e. omega (arith, decimal-length 19 c d h w))
+
+counts-length : (rs : Brackets) (c : ℕ) (ps : Parts) → length (flat unknownText (rs ++ (unknown c (some tt) ps ∷ []))) ≡ length (flat unknownText rs) + (length (partsText ps) + 2 + length (countText c))
+counts-length rs c ps =
+    ap length (flat-unknown rs (unknown c (some tt) ps))
+    ∙ length-append (flat unknownText rs) (unknownText (unknown c (some tt) ps))
+    ∙ ap (λ z. length (flat unknownText rs) + z) (length-append (squareText (unknown c (some tt) ps)) (countText c) ∙ ap (λ z. z + length (countText c)) (square-length (unknown c (some tt) ps)))
+
+counting-at : (bs rs : Brackets) (c : ℕ) (ps : Parts) (d b n : ℕ) → All IsUnknown bs → All IsUnknown (rs ++ (unknown c (some tt) ps ∷ [])) → 1 ≤ d → c < 10 ^ d
+    → sizeOf bs + length (flat unknownText rs) + (length (partsText ps) + 2) + 1 + d ≤ n → Reached (suc n) (perform tt b (held bs (rs ++ (unknown c (some tt) ps ∷ []))) (act Counting b))
+unfolding act Reached Outside perform
+counting-at bs rs c ps d b n w u s l h =
+    branch (isDigit b) (λ a. Reached (suc n) (perform tt b (held bs (rs ++ (unknown c (some tt) ps ∷ []))) a)) _ _
+    (λ e.
+    subst (λ (z : Brackets). Outside (suc n) Counting (held bs z)) (sym (on-last (countDigit tt b) rs (unknown c (some tt) ps))) (
+      gather bs (rs ++ (unknown (c * 10 + value b) (some tt) ps ∷ [])) w,
+      recount rs c (c * 10 + value b) (some tt) ps u,
+      record {
+        before = rs;
+        count = c * 10 + value b;
+        parts = ps;
+        digits = suc d;
+        is = refl;
+        some-digits = omega arith;
+        below = omega (arith, digit-below b e);
+        short = omega arith;
+      },
+    ))
+    (λ e. counted-at bs (rs ++ (unknown c (some tt) ps ∷ [])) b n w u (omega (arith, counts-length rs c ps, count-length c d s l)))
+
+step-counting : (h : Held Place) (b n : ℕ) → Outside n Counting h → Reached (suc n) (perform tt b h (act Counting b))
+unfolding Outside
+step-counting h b n w =
+    let c = w .2 in
+    at-shape n b Counting h (w .0)
+    (subst (λ (z : Brackets). Reached (suc n) (perform tt b (held (h .brackets) z) (act Counting b))) (sym (c .is))
+    (counting-at (h .brackets) (c .before) (c .count) (c .parts) (c .digits) b n (w .0 .settledOnes) (subst (λ (z : Brackets). All IsUnknown z) (c .is) (w .1)) (c .some-digits) (c .below) (c .short)))
+
+-- ---- all states
+reached-outside : (m : Mode) (h : Held Place) (b n : ℕ) → Outside n m h → Reached (suc n) (perform tt b h (act m b))
+reached-outside Front h b n w = step-front h b n w
+reached-outside Undecided h b n w = step-undecided h b n w
+reached-outside Counted h b n w = step-counted h b n w
+reached-outside Referred h b n w = step-referred h b n w
+reached-outside Caret h b n w = step-caret h b n w
+reached-outside Counting h b n w = step-counting h b n w
+reached-outside Labiles h b n w = step-labiles h b n w
+reached-outside NTerms h b n w = step-nterms h b n w
+reached-outside Start h b n w = step-start h b n w
+reached-outside Single h b n w = step-single h b n w
+reached-outside Opened h b n w = step-opened h b n w
+reached-outside UnsureOpened h b n w = step-unsureOpened h b n w
+reached-outside InRange h b n w = step-inRange h b n w
+reached-outside InUnsure h b n w = step-inUnsure h b n w
+reached-outside RangeEnd h b n w = step-rangeEnd h b n w
+reached-outside Ranged h b n w = step-ranged h b n w
+reached-outside UnsureEnd h b n w = step-unsureEnd h b n w
+reached-outside CStart h b n w = step-cStart h b n w
+reached-outside CTerms h b n w = step-cTerms h b n w
+
+reached-step : (s : State Place) (b n : ℕ) → Reached n s → Reached (suc n) (step tt s b)
+unfolding Reached step
+reached-step (dead p) b n w = tt
+reached-step (outside m h) b n w = reached-outside m h b n w
+reached-step (inside s at h c) b n w = goes-on n s h c b w
+
+reached-run : (l : List ℕ) (s : State Place) (n : ℕ) → Reached n s → Reached (n + length l) (lineRun s l)
+reached-run [] s n w = subst (λ (z : State Place). Reached (n + 0) z) (sym (line-nil s)) (subst (λ (z : ℕ). Reached z s) (let e : n ≡ n + 0 = omega arith in e) w)
+reached-run (b ∷ l) s n w =
+    subst (λ (z : State Place). Reached (n + suc (length l)) z) (sym (line-cons s b l))
+    (subst (λ (z : ℕ). Reached z (lineRun (step tt s b) l)) (let e : suc n + length l ≡ n + suc (length l) = omega arith in e) (reached-run l (step tt s b) (suc n) (reached-step s b n w)))
+
+reached-start : Reached 0 start
+unfolding Reached Outside flat
+reached-start = (gather [] [] tt, refl, omega arith)
+
+-- ---- where a line may end, the text is the canonical line
+body-canonical : (h : Held Place) → ofKind CTerm (h .brackets) ≡ [] → body h ≡ canonical (lineOf h)
+unfolding canonical head flat
+body-canonical h e =
+    simp append-assoc
+    (ap (λ z. unknowns (h .brackets) ++ (labiles (h .brackets) ++ (closedBy (nterms (h .brackets)) dash ++ z))) (sym (append-nil (sequenceText (h .brackets) 1 (h .residues)))
+    ∙ ap (λ z. sequenceText (h .brackets) 1 (h .residues) ++ ledBy dash (flat squareText z)) (sym e)))
+
+led-some : (l : List ℕ) (b : ℕ) → none? l ≡ false → ledBy b l ≡ b ∷ l
+led-some [] b e = absurd (true≢false e)
+led-some (x ∷ l) b e = refl
+
+cterm-canonical : (h : Held Place) → none? (cterms (h .brackets)) ≡ false → body h ++ (dash ∷ cterms (h .brackets)) ≡ canonical (lineOf h)
+unfolding canonical head
+cterm-canonical h e = ap (λ z. body h ++ z) (sym (led-some (cterms (h .brackets)) dash e)) ∙ simp append-assoc
+
+-- what is read is read back from its canonical line, which is no longer
+pub record Again (n : ℕ) (m : Mode) (h : Held Place) : Type 0 where
+  pub path : All FitsBracket (h .brackets) → lineRun start (canonical (lineOf h)) ≡ outside m (norm h)
+  pub short : length (canonical (lineOf h)) ≤ n
+
+again : (n : ℕ) (m : Mode) (h : Held Place) → text m h ≡ canonical (lineOf h) → Written n m h → Again n m h
+again n m h e w = record { path = λ fits. ap (lineRun start) (sym e) ∙ w .path fits; short = rw (← e) (w .short) }
+
+again-end : (n : ℕ) (m : Mode) (h : Held Place) → mayEnd m ≡ true → Outside n m h → Again n m h
+unfolding Outside text
+again-end n Front h e w = absurd (false≢true e)
+again-end n Undecided h e w = absurd (false≢true e)
+again-end n Counted h e w = absurd (false≢true e)
+again-end n Referred h e w = absurd (false≢true e)
+again-end n Caret h e w = absurd (false≢true e)
+again-end n Counting h e w = absurd (false≢true e)
+again-end n Labiles h e w = absurd (false≢true e)
+again-end n NTerms h e w = absurd (false≢true e)
+again-end n Start h e w = absurd (false≢true e)
+again-end n Single h e w = again n Single h (body-canonical h (w .1 .no-cterm)) (w .0)
+again-end n Opened h e w = absurd (false≢true e)
+again-end n UnsureOpened h e w = absurd (false≢true e)
+again-end n InRange h e w = absurd (false≢true e)
+again-end n InUnsure h e w = absurd (false≢true e)
+again-end n RangeEnd h e w = absurd (false≢true e)
+again-end n Ranged h e w = again n Ranged h (body-canonical h (w .1 .no-cterm)) (w .0)
+again-end n UnsureEnd h e w = again n UnsureEnd h (body-canonical h (w .1 .no-cterm)) (w .0)
+again-end n CStart h e w = absurd (false≢true e)
+again-end n CTerms h e w = again n CTerms h (cterm-canonical h (w .1)) (w .0)
+
+pub read-again : (s : List ℕ) (m : Mode) (h : Held Place) → lineRun start s ≡ outside m h → mayEnd m ≡ true → Again (length s) m h
+unfolding Reached
+read-again s m h e f = again-end (length s) m h f (subst (λ (z : State Place). Reached (length s) z) e (subst (λ (z : ℕ). Reached z (lineRun start s)) (let g : 0 + length s ≡ length s = omega arith in g) (reached-run s start 0 reached-start)))

@@ -1,0 +1,14 @@
+pub mod Laws
+pub mod Lists
+pub mod Numbers
+pub mod Brackets
+pub mod Runs
+pub mod Unknowns
+pub mod Sequence
+pub mod Lines
+pub mod Fronts
+pub mod Forgotten
+pub mod Counts
+pub mod Refusals
+pub mod Accepted
+pub mod Proved

@@ -1,0 +1,71 @@
+-- Facts about lists and tests that the laws of the canonical line use.
+use mathlib.Core.Path.{_≡_, refl, sym, ap, _∙_}
+use mathlib.Core.Bool.{Bool, true, false, cond, _&&_, true≢false, false≢true}
+use mathlib.Core.Option.{Option, none, some}
+use mathlib.Core.List.{List, [], _∷_, _++_, append-assoc}
+use Rattle.scope.specs.Content.{given}
+use Rattle.scope.specs.Modifications.{keep, flat}
+
+-- ---- tests
+pub branch : {A : Type 0} (t : Bool) (P : A → Type 0) (x y : A) → (t ≡ true → P x) → (t ≡ false → P y) → P (cond t x y)
+branch true P x y f g = f refl
+branch false P x y f g = g refl
+
+pub branchO : {A B : Type 0} (o : Option A) (P : B → Type 0) (x : A → B) (y : B) → ((a : A) → o ≡ some a → P (x a)) → (o ≡ none → P y) → P (given o x y)
+branchO none P x y f g = g refl
+branchO (some a) P x y f g = f a refl
+
+pub and-l : (a b : Bool) → (a && b) ≡ true → a ≡ true
+and-l true b e = refl
+and-l false b e = e
+
+pub and-r : (a b : Bool) → (a && b) ≡ true → b ≡ true
+and-r true b e = e
+and-r false true e = refl
+and-r false false e = e
+
+-- ---- all elements of a list
+abbrev pub All : {A : Type 0} → (A → Type 0) → List A → Type 0
+All P [] = Unit {0}
+All P (x ∷ l) = P x × All P l
+
+pub all-append : {A : Type 0} (P : A → Type 0) (l m : List A) → All P l → All P m → All P (l ++ m)
+all-append P [] m u v = v
+all-append P (x ∷ l) m u v = (u .0, all-append P l m (u .1) v)
+
+pub all-front : {A : Type 0} (P : A → Type 0) (l m : List A) → All P (l ++ m) → All P l
+all-front P [] m u = tt
+all-front P (x ∷ l) m u = (u .0, all-front P l m (u .1))
+
+pub all-back : {A : Type 0} (P : A → Type 0) (l m : List A) → All P (l ++ m) → All P m
+all-back P [] m u = u
+all-back P (x ∷ l) m u = all-back P l m (u .1)
+
+pub all-map : {A : Type 0} (P Q : A → Type 0) (l : List A) → ((x : A) → P x → Q x) → All P l → All Q l
+all-map P Q [] f u = tt
+all-map P Q (x ∷ l) f u = (f x (u .0), all-map P Q l f (u .1))
+
+-- ---- keep and flat
+pub flat-append : {A B : Type 0} (f : A → List B) (l m : List A) → flat f (l ++ m) ≡ flat f l ++ flat f m
+unfolding flat
+flat-append f [] m = refl
+flat-append f (x ∷ l) m = ap (λ z. f x ++ z) (flat-append f l m) ∙ sym (append-assoc (f x) (flat f l) (flat f m))
+
+pub keep-append : {A : Type 0} (f : A → Bool) (l m : List A) → keep f (l ++ m) ≡ keep f l ++ keep f m
+unfolding keep
+keep-append f [] m = refl
+keep-append f (x ∷ l) m = ap (λ z. cond (f x) (x ∷ []) [] ++ z) (keep-append f l m) ∙ sym (append-assoc (cond (f x) (x ∷ []) []) (keep f l) (keep f m))
+
+pub pick-true : {A : Type 0} (t : Bool) (x y : A) → t ≡ true → cond t x y ≡ x
+pick-true true x y e = refl
+pick-true false x y e = absurd (false≢true e)
+
+pub pick-false : {A : Type 0} (t : Bool) (x y : A) → t ≡ false → cond t x y ≡ y
+pick-false true x y e = absurd (true≢false e)
+pick-false false x y e = refl
+
+pub pick-some : {A B : Type 0} (o : Option A) (f : A → B) (y : B) (x : A) → o ≡ some x → given o f y ≡ f x
+pick-some o f y x e = ap (λ z. given z f y) e
+
+pub pick-none : {A B : Type 0} (o : Option A) (f : A → B) (y : B) → o ≡ none → given o f y ≡ y
+pick-none o f y e = ap (λ z. given z f y) e

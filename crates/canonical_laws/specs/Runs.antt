@@ -1,0 +1,196 @@
+-- A run of bytes over a whole line, where nothing is noted of places; brackets and letters in it.
+use mathlib.Core.Path.{_≡_, refl, sym, ap, _∙_}
+use mathlib.Core.Bool.{Bool, true, false, cond, _||_, false≢true}
+use mathlib.Core.List.{List, [], _∷_, _++_}
+use Prim.Native.Nat.{ℕ, _+_, _-_, _≤_, _<_}
+use native.Mathlib.Omega.{arith}
+use lib.Dec.{leb, eqb}
+use borrow.Author.Tests.{ne-eqb, leb-true, le-leb, lt-leb}
+use Rattle.scope.specs.declared.grammar.Section.{Section}
+use Rattle.scope.specs.declared.grammar.Section.the-variants.{Plain, RangeFirst, RangeNext, UnsureFirst, UnsureNext}
+use Rattle.scope.specs.declared.grammar.Mode.{Mode}
+use Rattle.scope.specs.declared.grammar.Mode.the-variants.{Front, Labiles, Start, Single, Opened, UnsureOpened, InRange, InUnsure, Ranged, UnsureEnd}
+use Rattle.scope.specs.declared.grammar.Slot.{Slot}
+use Rattle.scope.specs.declared.grammar.Act.the-variants.{Residue as aResidue, Begin}
+use Rattle.scope.specs.Bytes.{upper, isUpper, isLower, isLetter, openSquare, openCurly, question, dash}
+use Rattle.scope.specs.Content.{Inner, begin, Content, lost, closed, going, innerStep}
+use Rattle.scope.specs.Reading.{element, further, groupFirst, inGroup, act, Held, withResidue, withBracket, State, outside, inside, perform, refers?, modeAfter, resume, step, run}
+use Rattle.scope.specs.Canonical.{partsText}
+use Rattle.canonical_laws.specs.Lists.{and-l, and-r, pick-true, pick-false}
+use Rattle.canonical_laws.specs.Brackets.{Place, Parts, context, contentStep, contentRun}
+
+unfoldable pub lineRun : State Place → List ℕ → State Place
+lineRun s [] = s
+lineRun s (b ∷ l) = lineRun (step tt s b) l
+
+pub line-append : (l m : List ℕ) (s : State Place) → lineRun s (l ++ m) ≡ lineRun (lineRun s l) m
+unfolding lineRun
+line-append [] m s = refl
+line-append (b ∷ l) m s = line-append l m (step tt s b)
+
+pub line-nil : (s : State Place) → lineRun s [] ≡ s
+unfolding lineRun
+line-nil s = refl
+
+pub line-cons : (s : State Place) (b : ℕ) (l : List ℕ) → lineRun s (b ∷ l) ≡ lineRun (step tt s b) l
+unfolding lineRun
+line-cons s b l = refl
+
+pub line-one : (m : Mode) (h : Held Place) (b : ℕ) → lineRun (outside m h) (b ∷ []) ≡ perform tt b h (act m b)
+unfolding lineRun step
+line-one m h b = refl
+
+-- where nothing is noted of places, the reader is this run
+pub run-line : (i : ℕ) (s : State Place) (l : List ℕ) → run (λ j. tt) i s l ≡ lineRun s l
+unfolding lineRun run
+run-line i s [] = refl
+run-line i s (b ∷ l) = run-line (i + 1) (step tt s b) l
+
+-- one piece more
+pub line-further : (t l : List ℕ) (s x y : State Place) → lineRun s t ≡ x → lineRun x l ≡ y → lineRun s (t ++ l) ≡ y
+line-further t l s x y e f = line-append t l s ∙ ap (λ z. lineRun z l) e ∙ f
+
+-- ---- a bracket
+lost-run : (l : List ℕ) → contentRun lost l ≡ lost
+unfolding contentRun contentStep
+lost-run [] = refl
+lost-run (b ∷ l) = lost-run l
+
+lost-closed : (ps : Parts) → lost ≡ closed ps → ⊥
+lost-closed ps e = let z : _≡_ {A = ℕ} 0 1 = cc in omega arith
+
+going-closed : (c : Inner Place) (ps : Parts) → going c ≡ closed ps → ⊥
+going-closed c ps e = let z : _≡_ {A = ℕ} 0 1 = cc in omega arith
+
+closed-same : (ps qs : Parts) → closed ps ≡ closed qs → ps ≡ qs
+closed-same ps qs e = cc
+
+-- a run of the inside lifts to the line
+pub lift : (s : Slot) (h : Held Place) (l : List ℕ) (c : Inner Place) (ps : Parts) → contentRun (going c) l ≡ closed ps → lineRun (inside s tt h c) l ≡ outside (modeAfter s ps) (withBracket (s .kind) tt ps h)
+unfolding contentRun contentStep lineRun step resume
+lift s h [] c ps e = absurd (going-closed c ps e)
+lift s h (b ∷ l) c ps e = go (innerStep tt c b) l e (λ d f. lift s h l d ps f)
+  where
+    go : (x : Content Place) (l : List ℕ) → contentRun x l ≡ closed ps → ((d : Inner Place) → contentRun (going d) l ≡ closed ps → lineRun (inside s tt h d) l ≡ outside (modeAfter s ps) (withBracket (s .kind) tt ps h))
+        → lineRun (resume s tt h tt x) l ≡ outside (modeAfter s ps) (withBracket (s .kind) tt ps h)
+    go lost l e ih = absurd (lost-closed ps (sym (lost-run l) ∙ e))
+    go (closed qs) [] e ih = ap (λ z. outside (modeAfter s z) (withBracket (s .kind) tt z h)) (closed-same qs ps e)
+    go (closed qs) (y ∷ l) e ih = absurd (lost-closed ps (sym (lost-run l) ∙ e))
+    go (going d) l e ih = ih d e
+
+-- the bytes behind the opening one
+abbrev pub Reads : ℕ → Bool → Parts → Type 0
+Reads shut r ps = contentRun (going (begin (context shut r []))) (partsText ps ++ (shut ∷ [])) ≡ closed ps
+
+pub bracket-run : (m : Mode) (s : Slot) (h : Held Place) (b : ℕ) (ps : Parts) → act m b ≡ Begin s → Reads (s .shut) (s .refers) ps
+    → lineRun (outside m h) (b ∷ (partsText ps ++ (s .shut ∷ []))) ≡ outside (modeAfter s ps) (withBracket (s .kind) tt ps h)
+unfolding step perform
+bracket-run m s h b ps e f =
+    line-cons (outside m h) b (partsText ps ++ (s .shut ∷ []))
+    ∙ ap (λ z. lineRun (perform tt b h z) (partsText ps ++ (s .shut ∷ []))) e
+    ∙ lift s h (partsText ps ++ (s .shut ∷ [])) (begin (context (s .shut) (s .refers) [])) ps f
+
+pub same-mode : (ps : Parts) (m : Mode) → cond (refers? ps) m m ≡ m
+same-mode ps m = go (refers? ps)
+  where
+    go : (t : Bool) → cond t m m ≡ m
+    go true = refl
+    go false = refl
+
+-- ---- letters: "residues in upper case"
+pub record Letter (a : ℕ) : Type 0 where
+  pub low : 65 ≤ a
+  pub high : a ≤ 90
+
+pub letter-of : (b : ℕ) → isLetter b ≡ true → Letter (upper b)
+unfolding upper
+letter-of b e = go (isLower b) refl e
+  where
+    low-case : isLower b ≡ true → Letter (b - 32)
+    low-case f = record { low = omega (arith, leb-true 97 b (and-l (leb 97 b) (leb b 122) f)); high = omega (arith, leb-true b 122 (and-r (leb 97 b) (leb b 122) f)) }
+
+    go : (t : Bool) → isLower b ≡ t → (isUpper b || t) ≡ true → Letter (cond t (b - 32) b)
+    go true f e = low-case f
+    go false f e = either (isUpper b) refl e
+      where
+        either : (u : Bool) → isUpper b ≡ u → (u || false) ≡ true → Letter b
+        either true g e = record { low = leb-true 65 b (and-l (leb 65 b) (leb b 90) g); high = leb-true b 90 (and-r (leb 65 b) (leb b 90) g) }
+        either false g e = absurd (false≢true e)
+
+pub upper-same : (a : ℕ) → Letter a → upper a ≡ a
+unfolding upper
+upper-same a l = pick-false (isLower a) _ _ (rw (lt-leb 97 a (omega (arith, l .high))))
+
+is-letter : (a : ℕ) → Letter a → isLetter a ≡ true
+is-letter a l = rw (le-leb 65 a (l .low), le-leb a 90 (l .high))
+
+not-byte : (a c : ℕ) → Letter a → (c < 65) → eqb a c ≡ false
+not-byte a c l h = ne-eqb a c (λ e. omega (arith, l .low))
+
+not-later : (a c : ℕ) → Letter a → (90 < c) → eqb a c ≡ false
+not-later a c l h = ne-eqb a c (λ e. omega (arith, l .high))
+
+element-letter : (a : ℕ) → Letter a → element a ≡ aResidue Plain Single
+unfolding element
+element-letter a l = pick-true (isLetter a) _ _ (is-letter a l)
+
+further-letter : (a : ℕ) → Letter a → further a ≡ aResidue Plain Single
+unfolding further
+further-letter a l = pick-false (eqb a dash) _ _ (not-byte a dash l (omega arith)) ∙ element-letter a l
+
+pub front-letter : (a : ℕ) → Letter a → act Front a ≡ aResidue Plain Single
+unfolding act
+front-letter a l = pick-false (eqb a openSquare) _ _ (not-later a openSquare l (omega arith)) ∙ pick-false (eqb a openCurly) _ _ (not-later a openCurly l (omega arith)) ∙ element-letter a l
+
+pub labiles-letter : (a : ℕ) → Letter a → act Labiles a ≡ aResidue Plain Single
+unfolding act
+labiles-letter a l = pick-false (eqb a openCurly) _ _ (not-later a openCurly l (omega arith)) ∙ pick-false (eqb a openSquare) _ _ (not-later a openSquare l (omega arith)) ∙ element-letter a l
+
+pub start-letter : (a : ℕ) → Letter a → act Start a ≡ aResidue Plain Single
+unfolding act
+start-letter a l = element-letter a l
+
+pub single-letter : (a : ℕ) → Letter a → act Single a ≡ aResidue Plain Single
+unfolding act
+single-letter a l = pick-false (eqb a openSquare) _ _ (not-later a openSquare l (omega arith)) ∙ further-letter a l
+
+pub ranged-letter : (a : ℕ) → Letter a → act Ranged a ≡ aResidue Plain Single
+unfolding act
+ranged-letter a l = pick-false (eqb a openSquare) _ _ (not-later a openSquare l (omega arith)) ∙ further-letter a l
+
+pub unsureEnd-letter : (a : ℕ) → Letter a → act UnsureEnd a ≡ aResidue Plain Single
+unfolding act
+unsureEnd-letter a l = further-letter a l
+
+pub opened-letter : (a : ℕ) → Letter a → act Opened a ≡ aResidue RangeFirst InRange
+unfolding act groupFirst
+opened-letter a l = pick-false (eqb a question) _ _ (not-byte a question l (omega arith)) ∙ pick-true (isLetter a) _ _ (is-letter a l)
+
+pub unsureOpened-letter : (a : ℕ) → Letter a → act UnsureOpened a ≡ aResidue UnsureFirst InUnsure
+unfolding act groupFirst
+unsureOpened-letter a l = pick-true (isLetter a) _ _ (is-letter a l)
+
+pub inRange-letter : (a : ℕ) → Letter a → act InRange a ≡ aResidue RangeNext InRange
+unfolding act inGroup
+inRange-letter a l = pick-true (isLetter a) _ _ (is-letter a l)
+
+pub inUnsure-letter : (a : ℕ) → Letter a → act InUnsure a ≡ aResidue UnsureNext InUnsure
+unfolding act inGroup
+inUnsure-letter a l = pick-true (isLetter a) _ _ (is-letter a l)
+
+-- a residue is read again from its letter in upper case
+pub residue-run : (m m′ : Mode) (h : Held Place) (b : ℕ) (s : Section) → isLetter b ≡ true → act m (upper b) ≡ aResidue s m′
+    → lineRun (outside m h) (upper b ∷ []) ≡ outside m′ (withResidue tt b s h)
+unfolding perform
+residue-run m m′ h b s e f =
+    line-one m h (upper b) ∙ ap (perform tt (upper b) h) f
+    ∙ ap
+    (λ z.
+    outside m′
+    (record {
+      residues = h .residues ++ (record { letter = z; section = s; at = tt } ∷ []);
+      brackets = h .brackets;
+      run = h .run;
+      first = withResidue tt b s h .first;
+    }))
+    (upper-same (upper b) (letter-of b e))

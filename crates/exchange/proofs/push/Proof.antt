@@ -1,0 +1,100 @@
+use mathlib.Core.Path.{_≡_, sym, _∙_}
+use mathlib.Core.Bool.{true, false, true≢false}
+use mathlib.Core.List.{List}
+use Prim.Native.Nat.{ℕ, _≤_, _<_, _-_}
+use native.Mathlib.Omega.{arith}
+use denote.Ref.{now}
+use lib.ListN.{length}
+use Rattle.exchange.specs.Table.{place, mayIn, Growing}
+use Rattle.exchange.proofs.Laws.{yes, no, grown-le, grown-less, grew-same, grew-push, stands-well}
+use borrow.Author.Needs.{needs}
+use Rattle.scope.specs.Limits.{copyLimit}
+use Rattle.exchange.proofs.push.Statement.{statement}
+use Rattle.exchange.proofs.push.Tie as tie
+
+few : {tab : List ℕ} {k f h : ℕ} {w : List ℕ} {n : ℕ} {order parent : List ℕ} → Growing tab k f h w n order parent → n ≤ copyLimit
+few {tab} {k} {f} {h} {w} {n} {order} {parent} g =
+    omega (arith, g .sized .few, grown-le (mayIn tab) k f (place order 0) (place w) n (place order) (place parent) (g .grown))
+
+module _ (c : tie.Then2) where
+  abbrev start : tie.Start
+  start = c .before .before .before .before .before .before .before
+
+  new : (a : ℕ) → a < start .args .t7 .n → place (start .args .t7 .order) a ≡ start .args .t → ⊥
+  new = no _ _ (c .before .before .before .before .if1 .left) (c .before .before .before .before .before .listed .ensures)
+
+  may-ok : mayIn (now (start .args .tab)) (place (start .args .t7 .order) (start .args .h)) (place (start .args .t2 .at) (start .args .t)) ≡ true
+  may-ok = sym (c .before .may .ensures) ∙ c .if2 .taken
+
+  lower : start .args .t7 .n < copyLimit
+  lower = let g = start .pre .0 in
+      omega (arith, g .sized .few, grown-less _ _ _ _ _ _ _ _ (start .args .h) (start .args .t) (g .grown) (start .pre .1) (start .pre .2) (g .inside) new may-ok)
+
+listed-requires : tie.Need-listed-requires
+listed-requires c κs = let g = c .before .pre .0 in omega (arith, few g)
+
+returns : tie.Need-returns
+returns c =
+    let s = c .before .before .before in grew-same _ _ _ _ _ (s .args .t) _ _ _ (s .pre .0) (λ o. yes _ _ (c .if1 .taken) (c .before .listed .ensures))
+
+mul-s : tie.Need-mul-s
+mul-s c = let g = c .before .before .before .pre .0 in omega (arith, few g, g .inside)
+
+element-copy-out-s : tie.Need-element-copy-out-s
+element-copy-out-s c = let g = c .before .before .before .pre .0 in omega (arith, few g, g .inside)
+
+mul-x : tie.Need-mul-x
+mul-x c = search needs
+
+element-copy-out-x : tie.Need-element-copy-out-x
+element-copy-out-x c = search needs
+
+may-requires : tie.Need-may-requires
+may-requires c κs = let s = c .before .before .before .before .before in
+    let g = s .pre .0 in
+    let new = no _ _ (c .before .before .if1 .left) (c .before .before .before .listed .ensures) in
+    (g .sized .room, omega (arith, g .grown .high (s .args .h) (g .inside), g .sized .few), stands-well (now (s .args .tab)) _ _ (s .args .t) (s .args .t2 .at) (g .but) (s .pre .2) (λ e. new 0 (g .grown .some) (sym e)))
+
+mul-g : tie.Need-mul-g
+mul-g c = omega (arith, lower c)
+
+element-write-g : tie.Need-element-write-g
+element-write-g c = lower c
+
+mul-g-2 : tie.Need-mul-g-2
+mul-g-2 c = omega (arith, lower c)
+
+element-write-g-2 : tie.Need-element-write-g-2
+element-write-g-2 c = lower c
+
+add-g : tie.Need-add-g
+add-g c = omega (arith, lower c)
+
+returns-2 : tie.Need-returns-2
+returns-2 c = let s = c .before .before .before .before .before .before .before in
+    let o8 : length (s .args .t7 .order) ≡ copyLimit = search needs in
+    let p8 : length (s .args .t7 .parent) ≡ copyLimit = search needs in
+    grew-push _ _ _ _ _ (s .args .t) _ _ _ (s .pre .0) (s .pre .1) (s .pre .2) (new c) (may-ok c) (rw o8 (lower c)) (rw p8 (lower c))
+
+returns-3 : tie.Need-returns-3
+returns-3 c = let s = c .before .before .before .before .before .before .before in
+    grew-same _ _ _ _ _ (s .args .t) _ _ _ (s .pre .0) (λ o. absurd (true≢false (sym o ∙ sym (c .before .may .ensures) ∙ c .if2 .left)))
+
+pub push-spec : {M : Type 1} → statement M
+push-spec =
+    tie.close
+    (tie.spec
+    listed-requires
+    returns
+    mul-s
+    element-copy-out-s
+    mul-x
+    element-copy-out-x
+    may-requires
+    mul-g
+    element-write-g
+    mul-g-2
+    element-write-g-2
+    add-g
+    returns-2
+    returns-3)

@@ -1,0 +1,54 @@
+use mathlib.Core.Path.{_≡_}
+use mathlib.Core.Bool.{true}
+use Prim.Native.Nat.{ℕ, _≤_, _<_, _-_}
+use native.Mathlib.Omega.{arith}
+use borrow.Author.Count.{below-more}
+use Rattle.scope.specs.Limits.{positionLimit}
+use Rattle.exchange.specs.Table.{place, mayIn}
+use Rattle.exchange.proofs.Laws.{ok-small, yes, no}
+use Rattle.exchange.proofs.spare.Statement.{statement}
+use Rattle.exchange.proofs.spare.Tie as tie
+
+abbrev Inv-loop : tie.InvT-loop
+Inv-loop tab w k but s x₀ x =
+    (x ≤ positionLimit) × ((y : ℕ) → y < x → mayIn tab s y ≡ true → (t : ℕ) × (t < k) × (t ≡ but → ⊥) × (place (w .at) t ≡ y))
+
+abbrev μ-loop : tie.MeasureT-loop
+μ-loop tab w k but s x₀ x = positionLimit - x
+
+loop-holds : tie.Need-loop-holds Inv-loop μ-loop
+loop-holds c = (omega arith, λ y l. absurd (omega arith))
+
+open-at-requires : tie.Need-open-at-requires Inv-loop μ-loop
+open-at-requires c κs = let p = c .before .before .before .pre in (p .0, p .1, c .loop-test .taken)
+
+returns : tie.Need-returns Inv-loop μ-loop
+returns c =
+    let v = yes _ _ (c .if1 .taken) (c .before .open-at .ensures) in record { may = λ l. v .0; clear = λ l. v .1; taken = λ l. absurd (omega arith) }
+
+add-x : tie.Need-add-x Inv-loop μ-loop
+add-x c = omega arith
+
+loop-less : tie.Need-loop-less Inv-loop μ-loop
+loop-less c = omega arith
+
+loop-again : tie.Need-loop-again Inv-loop μ-loop
+loop-again c = (omega arith, below-more _ _ (c .before .before .before .loop .inv .1) (no _ _ (c .if1 .left) (c .before .open-at .ensures)))
+
+returns-2 : tie.Need-returns-2 Inv-loop μ-loop
+returns-2 c =
+    record { may = λ l. absurd (omega arith); clear = λ l. absurd (omega arith); taken = λ l x o. c .before .loop .inv .1 x (omega (arith, ok-small _ _ x o)) o }
+
+pub spare-spec : {M : Type 1} → statement M
+spare-spec =
+    tie.close
+    (tie.spec
+    Inv-loop
+    μ-loop
+    loop-holds
+    open-at-requires
+    returns
+    add-x
+    loop-less
+    loop-again
+    returns-2)

@@ -1,0 +1,3 @@
+pub mod Where
+pub mod Order
+pub mod Table

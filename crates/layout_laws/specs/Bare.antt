@@ -1,0 +1,343 @@
+-- Places do not matter: what a line without its places writes, lays out, permits and weighs is what the line does.
+use mathlib.Core.Path.{_≡_, refl, sym, ap, ap₂, _∙_}
+use mathlib.Core.Bool.{Bool, not, _&&_}
+use mathlib.Core.Option.{Option, none, some}
+use mathlib.Core.List.{List, [], _∷_, _++_, map}
+use Prim.Native.Nat.{ℕ, _+_}
+use lib.Dec.{eqb}
+use lib.IntN.{pos, _+ℤ_, _*ℤ_}
+use lib.ListN.{length, replicate, length-map}
+use Rattle.scope.specs.declared.grammar.Key.the-variants.{Obs, Info}
+use Rattle.scope.specs.declared.grammar.Kind.{Kind}
+use Rattle.scope.specs.declared.grammar.Kind.the-variants.{Unknown, Labile, NTerm, OnResidue, OnRange, CTerm}
+use Rattle.scope.specs.Line.{Number, Label, Value, mass, text, reference, Part, Bracket, Residue, Line}
+use Rattle.scope.specs.Content.{given, isReference}
+use Rattle.scope.specs.Reading.{refers?}
+use Rattle.scope.specs.Refusals.{textIn}
+use Rattle.scope.specs.Modifications.{keep, flat, isKey, isModification, nameOf, namesOf, copies, definedBy, referredBy}
+use Rattle.scope.specs.Canonical.{size, scoreText, valueText, labelText, partText, partsText, squareText, curlyText, unknownText, ofKind, endingAt, goesOn, sequenceText, canonical}
+use Rattle.scope.specs.Tables.{bareNumber, optional, bareLabel, bareValue, barePart, bareBracket, bareResidue, tablesOf, millionths, massIn, decimalsIn, packed, valueCode, partRow, partRows, scoreOf, scoreCode, bracketRow, bracketTexts, rows, sectionCode, bytesOf, numberRow, numbersOf, tabled}
+use Rattle.scope.specs.Positions.{isPlaced, struckOut, floaters, referredAt, mayStand, permitted, permittedPositions, ownPosition, isUnlabelledUnknown, member, positions}
+use Rattle.scope.specs.Masses.{valueMass, firstMass, massOf, massOr0, modifications, sum, sumℕ, total, lacking, placedAt, putAt, ledger}
+use Rattle.layout_laws.specs.Lists.{map-map, flat-map, all-map, keep-map, keep-same, map-replicate, map-flat, tabled-same}
+
+module _ {P : Type 0} where
+  -- ---- the canonical line
+  value-text : (v : Value P) → valueText (bareValue v) ≡ valueText v
+  unfolding size
+  value-text (mass n) = refl
+  value-text (text t) = refl
+  value-text reference = refl
+
+  score-text :
+      (s : Option (Number P))
+      → given (optional bareNumber s) (λ n. 40 ∷ (scoreText n ++ (41 ∷ []))) [] ≡ given s (λ n. 40 ∷ (scoreText n ++ (41 ∷ []))) []
+  unfolding size
+  score-text none = refl
+  score-text (some n) = refl
+
+  label-text : (l : Option (Label P)) → given (optional bareLabel l) labelText [] ≡ given l labelText []
+  label-text none = refl
+  label-text (some l) = ap (λ z. 35 ∷ (l .name ++ z)) (score-text (l .score))
+
+  part-text : (p : Part P) → partText (barePart p) ≡ partText p
+  unfolding partText
+  part-text p = rw (value-text (p .value), label-text (p .label))
+
+  pub parts-text : (ps : List (Part P)) → partsText (map barePart ps) ≡ partsText ps
+  unfolding partsText
+  parts-text [] = refl
+  parts-text (p ∷ []) = part-text p
+  parts-text (p ∷ q ∷ ps) = ap₂ (λ x y. x ++ (124 ∷ y)) (part-text p) (parts-text (q ∷ ps))
+
+  square-text : (k : Bracket P) → squareText (bareBracket k) ≡ squareText k
+  square-text k = rw (parts-text (k .parts))
+
+  curly-text : (k : Bracket P) → curlyText (bareBracket k) ≡ curlyText k
+  curly-text k = rw (parts-text (k .parts))
+
+  unknown-text : (k : Bracket P) → unknownText (bareBracket k) ≡ unknownText k
+  unknown-text k = rw (parts-text (k .parts))
+
+  of-kind : (c : Kind) (ks : List (Bracket P)) → ofKind c (map bareBracket ks) ≡ map bareBracket (ofKind c ks)
+  of-kind c ks = keep-map _ _ bareBracket (λ k. refl) ks
+
+  ending-at : (c : Kind) (i : ℕ) (ks : List (Bracket P)) → endingAt c i (map bareBracket ks) ≡ map bareBracket (endingAt c i ks)
+  ending-at c i ks = ap (keep (λ k. eqb (k .last) i)) (of-kind c ks) ∙ keep-map _ _ bareBracket (λ k. refl) (ofKind c ks)
+
+  squares-at : (c : Kind) (i : ℕ) (ks : List (Bracket P)) → flat squareText (endingAt c i (map bareBracket ks)) ≡ flat squareText (endingAt c i ks)
+  squares-at c i ks = ap (flat squareText) (ending-at c i ks) ∙ flat-map squareText squareText bareBracket square-text (endingAt c i ks)
+
+  squares-of : (c : Kind) (ks : List (Bracket P)) → flat squareText (ofKind c (map bareBracket ks)) ≡ flat squareText (ofKind c ks)
+  squares-of c ks = ap (flat squareText) (of-kind c ks) ∙ flat-map squareText squareText bareBracket square-text (ofKind c ks)
+
+  goes-on : (rs : List (Residue P)) → goesOn (map bareResidue rs) ≡ goesOn rs
+  goes-on [] = refl
+  goes-on (r ∷ rs) = refl
+
+  sequence-text :
+      (ks : List (Bracket P)) (i : ℕ) (rs : List (Residue P)) → sequenceText (map bareBracket ks) i (map bareResidue rs) ≡ sequenceText ks i rs
+  unfolding sequenceText
+  sequence-text ks i [] = refl
+  sequence-text ks i (r ∷ rs) = rw (squares-at OnResidue i ks, squares-at OnRange i ks, goes-on rs, sequence-text ks (i + 1) rs)
+
+  pub canonical-bare : (l : Line P) → canonical (tablesOf l) ≡ canonical l
+  unfolding canonical tablesOf
+  canonical-bare l =
+      let ks = l .brackets in
+      let u : flat unknownText (ofKind Unknown (map bareBracket ks)) ≡ flat unknownText (ofKind Unknown ks) = ap (flat unknownText)
+      (of-kind Unknown ks) ∙ flat-map unknownText unknownText bareBracket unknown-text (ofKind Unknown ks) in
+      let v : flat curlyText (ofKind Labile (map bareBracket ks)) ≡ flat curlyText (ofKind Labile ks) = ap (flat curlyText) (of-kind Labile ks)
+      ∙ flat-map curlyText curlyText bareBracket curly-text (ofKind Labile ks) in
+      rw (u, v, squares-of NTerm ks, squares-of CTerm ks, sequence-text ks 1 (l .residues))
+
+  -- ---- the areas
+  text-in : (v : Value P) → textIn (bareValue v) ≡ textIn v
+  text-in (mass n) = refl
+  text-in (text t) = refl
+  text-in reference = refl
+
+  label-of : (l : Option (Label P)) → given (optional bareLabel l) (λ l. l .name) [] ≡ given l (λ l. l .name) []
+  label-of none = refl
+  label-of (some l) = refl
+
+  value-code : (v : Value P) → valueCode (bareValue v) ≡ valueCode v
+  value-code (mass n) = refl
+  value-code (text t) = refl
+  value-code reference = refl
+
+  decimals-in : (v : Value P) → decimalsIn (bareValue v) ≡ decimalsIn v
+  decimals-in (mass n) = refl
+  decimals-in (text t) = refl
+  decimals-in reference = refl
+
+  mass-in : (v : Value P) → massIn (bareValue v) ≡ massIn v
+  mass-in (mass n) = refl
+  mass-in (text t) = refl
+  mass-in reference = refl
+
+  packed-bare : (p : Part P) → packed (barePart p) ≡ packed p
+  packed-bare p = rw (text-in (p .value), label-of (p .label))
+
+  part-row : (i : ℕ) (p : Part P) → partRow i (barePart p) ≡ partRow i p
+  part-row i p = rw (text-in (p .value), label-of (p .label), value-code (p .value), decimals-in (p .value))
+
+  part-rows : (i : ℕ) (ps : List (Part P)) → partRows i (map barePart ps) ≡ partRows i ps
+  unfolding partRows
+  part-rows i [] = refl
+  part-rows i (p ∷ ps) = ap₂ _++_ (part-row i p)
+      (ap (λ t. partRows (i + length t) (map barePart ps)) (packed-bare p) ∙ part-rows (i + length (packed p)) ps)
+
+  score-of : (ps : List (Part P)) → scoreOf (map barePart ps) ≡ optional bareNumber (scoreOf ps)
+  unfolding scoreOf
+  score-of [] = refl
+  score-of (p ∷ ps) = go (p .label) (score-of ps)
+    where
+      inLabel :
+          (s : Option (Number P)) → scoreOf (map barePart ps) ≡ optional bareNumber (scoreOf ps)
+          → given (optional bareNumber s) some (scoreOf (map barePart ps)) ≡ optional bareNumber (given s some (scoreOf ps))
+      inLabel none e = e
+      inLabel (some n) e = refl
+
+      go :
+          (l : Option (Label P)) → scoreOf (map barePart ps) ≡ optional bareNumber (scoreOf ps)
+          → given (optional bareLabel l) (λ l. given (l .score) some (scoreOf (map barePart ps))) (scoreOf (map barePart ps))
+          ≡ optional bareNumber (given l (λ l. given (l .score) some (scoreOf ps)) (scoreOf ps))
+      go none e = e
+      go (some l) e = inLabel (l .score) e
+
+  score-code : (s : Option (Number P)) → scoreCode (optional bareNumber s) ≡ scoreCode s
+  score-code none = refl
+  score-code (some n) = refl
+
+  score-millionths : (s : Option (Number P)) → given (optional bareNumber s) millionths (pos 0) ≡ given s millionths (pos 0)
+  score-millionths none = refl
+  score-millionths (some n) = refl
+
+  pub bracket-texts : (k : Bracket P) → bracketTexts (bareBracket k) ≡ bracketTexts k
+  bracket-texts k = flat-map packed packed barePart packed-bare (k .parts)
+
+  bracket-row : (i : ℕ) (k : Bracket P) → bracketRow i (bareBracket k) ≡ bracketRow i k
+  bracket-row i k =
+      rw (part-rows i (k .parts), length-map (k .parts) barePart, score-of (k .parts), score-code (scoreOf (k .parts)))
+
+  bracket-rows : (i : ℕ) (ks : List (Bracket P)) → rows i (map bareBracket ks) ≡ rows i ks
+  unfolding rows
+  bracket-rows i [] = refl
+  bracket-rows i (k ∷ ks) = ap₂ _++_ (bracket-row i k)
+      (ap (λ t. rows (i + length t) (map bareBracket ks)) (bracket-texts k) ∙ bracket-rows (i + length (bracketTexts k)) ks)
+
+  pub bytes-bare : (l : Line P) → bytesOf (tablesOf l) ≡ bytesOf l
+  unfolding bytesOf tablesOf
+  bytes-bare l =
+      rw (
+        length-map (l .residues) bareResidue,
+        length-map (l .brackets) bareBracket,
+        map-map (λ r. r .letter) (λ r. r .letter) bareResidue (λ r. refl) (l .residues),
+        map-map (λ r. sectionCode (r .section)) (λ r. sectionCode (r .section)) bareResidue (λ r. refl) (l .residues),
+        bracket-rows 0 (l .brackets),
+        flat-map bracketTexts bracketTexts bareBracket bracket-texts (l .brackets),
+      )
+
+  number-row : (k : Bracket P) → numberRow (bareBracket k) ≡ numberRow k
+  number-row k =
+      rw (
+        map-map (λ p. massIn (p .value)) (λ p. massIn (p .value)) barePart (λ p. mass-in (p .value)) (k .parts),
+        score-of (k .parts),
+        score-millionths (scoreOf (k .parts)),
+      )
+
+  pub numbers-bare : (l : Line P) → numbersOf (tablesOf l) ≡ numbersOf l
+  unfolding numbersOf tablesOf
+  numbers-bare l = rw (flat-map numberRow numberRow bareBracket number-row (l .brackets))
+
+  -- ---- modifications and floaters
+  refers-bare : (ps : List (Part P)) → refers? (map barePart ps) ≡ refers? ps
+  refers-bare [] = refl
+  refers-bare (p ∷ ps) = go (p .value)
+    where
+      go : (v : Value P) → isReference (bareValue v) ≡ isReference v
+      go (mass n) = refl
+      go (text t) = refl
+      go reference = refl
+
+  is-modification : (k : Bracket P) → isModification (bareBracket k) ≡ isModification k
+  is-modification k = rw (all-map (isKey Info) (isKey Info) barePart (λ p. refl) (k .parts), refers-bare (k .parts))
+
+  pub names-of : (k : Bracket P) → namesOf (bareBracket k) ≡ namesOf k
+  names-of k = flat-map nameOf nameOf barePart (λ p. go (p .label)) (k .parts)
+    where
+      go : (l : Option (Label P)) → given (optional bareLabel l) (λ l. l .name ∷ []) [] ≡ given l (λ l. l .name ∷ []) []
+      go none = refl
+      go (some l) = refl
+
+  defined-by : (k : Bracket P) → definedBy (bareBracket k) ≡ definedBy k
+  defined-by k = rw (names-of k, refers-bare (k .parts))
+
+  referred-by : (k : Bracket P) → referredBy (bareBracket k) ≡ referredBy k
+  referred-by k = rw (names-of k, refers-bare (k .parts))
+
+  pub copies-bare : (k : Bracket P) → copies (bareBracket k) ≡ copies k
+  unfolding copies
+  copies-bare k = rw (is-modification k, names-of k)
+
+  is-placed : (k : Bracket P) → isPlaced (bareBracket k) ≡ isPlaced k
+  unfolding isPlaced
+  is-placed k = rw (is-modification k, names-of k)
+
+  struck-out : (ks : List (Bracket P)) → struckOut (map bareBracket ks) ≡ struckOut ks
+  unfolding struckOut
+  struck-out ks =
+      ap (map (λ k. k .first)) (keep-map isPlaced isPlaced bareBracket is-placed ks)
+      ∙ map-map (λ k. k .first) (λ k. k .first) bareBracket (λ k. refl) (keep isPlaced ks)
+
+  pub floaters-bare : (l : Line P) → floaters (tablesOf l) ≡ map bareBracket (floaters l)
+  unfolding floaters tablesOf
+  floaters-bare l =
+      flat-map (λ k. replicate (copies k) k) (λ k. replicate (copies k) (bareBracket k)) bareBracket
+      (λ k. ap (λ n. replicate n (bareBracket k)) (copies-bare k)) (l .brackets)
+      ∙ sym (map-flat bareBracket (λ k. replicate (copies k) k) (λ k. replicate (copies k) (bareBracket k))
+      (λ k. map-replicate bareBracket (copies k) k) (l .brackets))
+
+  referred-at : (k : Bracket P) (x : ℕ) (ks : List (Bracket P)) → referredAt (bareBracket k) x (map bareBracket ks) ≡ referredAt k x ks
+  unfolding referredAt
+  referred-at k x [] = refl
+  referred-at k x (r ∷ rs) = rw (defined-by k, referred-by r, referred-at k x rs)
+
+  own-position : (k : Bracket P) (x : ℕ) (c : Kind) → ownPosition (bareBracket k) x c ≡ ownPosition k x c
+  own-position k x Unknown = refl
+  own-position k x Labile = refl
+  own-position k x NTerm = refl
+  own-position k x OnResidue = refl
+  own-position k x OnRange = refl
+  own-position k x CTerm = refl
+
+  is-unlabelled-unknown : (k : Bracket P) (c : Kind) → isUnlabelledUnknown (bareBracket k) c ≡ isUnlabelledUnknown k c
+  is-unlabelled-unknown k Unknown = rw (names-of k)
+  is-unlabelled-unknown k Labile = refl
+  is-unlabelled-unknown k NTerm = refl
+  is-unlabelled-unknown k OnResidue = refl
+  is-unlabelled-unknown k OnRange = refl
+  is-unlabelled-unknown k CTerm = refl
+
+  may-stand : (l : Line P) (k : Bracket P) (x : ℕ) → mayStand (tablesOf l) (bareBracket k) x ≡ mayStand l k x
+  unfolding mayStand tablesOf
+  may-stand l k x = rw
+      (is-unlabelled-unknown k (k .kind), own-position k x (k .kind), referred-at k x (l .brackets), length-map (l .residues) bareResidue)
+
+  permitted-bare : (l : Line P) (k : Bracket P) → permitted (tablesOf l) (bareBracket k) ≡ permitted l k
+  unfolding permitted tablesOf
+  permitted-bare l k =
+      keep-same _ _ (λ x. ap₂ (λ a b. a && not (member x b)) (may-stand l k x) (struck-out (l .brackets))) (positions (tablesOf l))
+      ∙ ap (λ n. keep (λ x. mayStand l k x && not (member x (struckOut (l .brackets)))) (tabled (λ x. x) 0 (n + 2)))
+      (length-map (l .residues) bareResidue)
+
+  pub permitted-positions-bare : (l : Line P) → permittedPositions (tablesOf l) ≡ permittedPositions l
+  permitted-positions-bare l = ap (map (permitted (tablesOf l))) (floaters-bare l) ∙ map-map (permitted (tablesOf l)) (permitted l) bareBracket
+      (permitted-bare l) (floaters l)
+
+  -- ---- masses
+  value-mass : (v : Value P) → valueMass (bareValue v) ≡ valueMass v
+  value-mass (mass n) = refl
+  value-mass (text t) = refl
+  value-mass reference = refl
+
+  first-mass : (ps : List (Part P)) → firstMass (map barePart ps) ≡ firstMass ps
+  unfolding firstMass
+  first-mass [] = refl
+  first-mass (p ∷ ps) = rw (value-mass (p .value), first-mass ps)
+
+  first-mass-kept :
+      (f : Part (Unit {0}) → Bool) (h : Part P → Bool) → ((p : Part P) → f (barePart p) ≡ h p) → (ps : List (Part P))
+      → firstMass (keep f (map barePart ps)) ≡ firstMass (keep h ps)
+  first-mass-kept f h e ps = ap firstMass (keep-map f h barePart e ps) ∙ first-mass (keep h ps)
+
+  pub mass-of : (k : Bracket P) → massOf (bareBracket k) ≡ massOf k
+  unfolding massOf
+  mass-of k =
+      rw (
+        first-mass-kept (λ p. not (isKey Obs p)) (λ p. not (isKey Obs p)) (λ p. refl) (k .parts),
+        first-mass-kept (isKey Obs) (isKey Obs) (λ p. refl) (k .parts),
+      )
+
+  mass-or-0 : (k : Bracket P) → massOr0 (bareBracket k) ≡ massOr0 k
+  mass-or-0 k = rw (mass-of k)
+
+  modifications-bare : (l : Line P) → modifications (tablesOf l) ≡ map bareBracket (modifications l)
+  unfolding tablesOf
+  modifications-bare l = keep-map isModification isModification bareBracket is-modification (l .brackets)
+
+  pub total-bare : (l : Line P) → total (tablesOf l) ≡ total l
+  unfolding total
+  total-bare l =
+      ap sum
+      (ap (map (λ k. pos (k .count) *ℤ massOr0 k)) (modifications-bare l)
+      ∙ map-map (λ k. pos (k .count) *ℤ massOr0 k) (λ k. pos (k .count) *ℤ massOr0 k) bareBracket (λ k. ap (λ m. pos (k .count) *ℤ m) (mass-or-0 k))
+      (modifications l))
+
+  pub lacking-bare : (l : Line P) → lacking (tablesOf l) ≡ lacking l
+  unfolding lacking
+  lacking-bare l =
+      ap sumℕ
+      (ap (map (λ k. given (massOf k) (λ m. 0) (k .count))) (modifications-bare l)
+      ∙ map-map (λ k. given (massOf k) (λ m. 0) (k .count)) (λ k. given (massOf k) (λ m. 0) (k .count)) bareBracket
+      (λ k. ap (λ m. given m (λ m. 0) (k .count)) (mass-of k)) (modifications l))
+
+  placed-at : (x : ℕ) (ks : List (Bracket P)) → placedAt x (map bareBracket ks) ≡ placedAt x ks
+  unfolding placedAt
+  placed-at x ks =
+      ap (λ z. sum (map massOr0 z))
+      (keep-map (λ k. isPlaced k && eqb (k .first) x) (λ k. isPlaced k && eqb (k .first) x) bareBracket
+      (λ k. ap (λ t. t && eqb (k .first) x) (is-placed k)) ks)
+      ∙ ap sum (map-map massOr0 massOr0 bareBracket mass-or-0 (keep (λ k. isPlaced k && eqb (k .first) x) ks))
+
+  put-at : (x : ℕ) (ks : List (Bracket P)) (q : List ℕ) → putAt x (map bareBracket ks) q ≡ putAt x ks q
+  unfolding putAt
+  put-at x [] q = refl
+  put-at x (k ∷ ks) [] = refl
+  put-at x (k ∷ ks) (y ∷ q) = rw (mass-or-0 k, put-at x ks q)
+
+  pub ledger-bare : (l : Line P) (q : List ℕ) → ledger (tablesOf l) q ≡ ledger l q
+  unfolding ledger tablesOf
+  ledger-bare l q =
+      tabled-same _ _ (λ x. ap₂ _+ℤ_ (placed-at x (l .brackets)) (ap (λ ks. putAt x ks q) (floaters-bare l) ∙ put-at x (floaters l) q)) 0 256

@@ -1,0 +1,306 @@
+-- The areas of a line keep to the bounds, and each of their bytes is one.
+use mathlib.Core.Path.{_≡_, subst}
+use mathlib.Core.Option.{Option, none, some}
+use mathlib.Core.List.{List, [], _∷_, _++_, map}
+use Prim.Native.Nat.{ℕ, zero, suc, _+_, _/_, _%_, _≤_, _<_}
+use native.Mathlib.Omega.{arith}
+use native.Mathlib.Nat.{add-zero, zero-add}
+use lib.Dec.{lit<}
+use lib.IntN.{ℤ, pos}
+use lib.ListN.{length, getD, length-append}
+use Rattle.scope.specs.declared.grammar.Section.{Section}
+use Rattle.scope.specs.declared.grammar.Section.the-variants.{Plain, RangeFirst, RangeNext, UnsureFirst, UnsureNext}
+use Rattle.scope.specs.declared.grammar.Kind.{Kind}
+use Rattle.scope.specs.declared.grammar.Kind.the-variants.{Unknown, Labile, NTerm, OnResidue, OnRange, CTerm}
+use Rattle.scope.specs.Line.{Number, Label, Value, mass, text, reference, Part, Bracket, Line}
+use Rattle.scope.specs.Keys.{keyCode}
+use Rattle.scope.specs.Content.{given}
+use Rattle.scope.specs.Modifications.{flat}
+use Rattle.scope.specs.Refusals.{textIn, textOf}
+use Rattle.scope.specs.Canonical.{kindCode}
+use Rattle.scope.specs.Tables.{padded, sectionCode, valueCode, millionths, massIn, decimalsIn, labelOf, packed, offset, partRow, partRows, scoreOf, scoreCode, bracketRow, bracketTexts, rows, bytesOf, numbersOf, byteAt}
+use Rattle.areas.specs.Bounds.{Small, PartBounds, BracketBounds, Bounds}
+use Rattle.layout_laws.specs.Within.{Each, OfGiven, Byte, NumberWithin, LabelWithin, ValueWithin, PartWithin, Stands, BracketWithin, Within}
+use Rattle.layout_laws.specs.Each.{each-append, each-padded, each-map, each-all}
+use Rattle.layout_laws.specs.Numbers.{few-decimals, small}
+use Rattle.layout_laws.specs.Layout.{PartRead, PartsRead, BracketRead, BracketsRead, score-within, areas-read, bytes-length, numbers-length}
+
+-- ---- what a part holds is small
+module _ {P : Type 0} where
+  decimals-few : (p : Part P) (v : Value P) → ValueWithin p v → decimalsIn v ≤ 6
+  decimals-few p (mass n) w = few-decimals n w
+  decimals-few p (text t) w = omega arith
+  decimals-few p reference w = omega arith
+
+  text-short : (p : Part P) (v : Value P) → ValueWithin p v → length (textIn v) ≤ 128
+  text-short p (mass n) w = omega arith
+  text-short p (text t) w = w .short-text
+  text-short p reference w = omega arith
+
+  label-short : (l : Option (Label P)) → OfGiven LabelWithin l → length (given l (λ l. l .name) []) ≤ 16
+  label-short none w = omega arith
+  label-short (some l) w = w .short-name
+
+  mass-small : (p : Part P) (v : Value P) → ValueWithin p v → Small (massIn v)
+  mass-small p (mass n) w = small n w
+  mass-small p (text t) w = lit< tt
+  mass-small p reference w = lit< tt
+
+  score-small : (s : Option (Number P)) → OfGiven NumberWithin s → Small (given s millionths (pos 0))
+  score-small none w = lit< tt
+  score-small (some n) w = small n w
+
+  score-few : (s : Option (Number P)) → OfGiven NumberWithin s → scoreCode s ≤ 7
+  score-few none w = omega arith
+  score-few (some n) w = let h : n .decimals ≤ 6 = few-decimals n w in omega arith
+
+pub first-few : (k : Kind) (first last n : ℕ) → Stands k first last n → first ≤ n + 1
+first-few Unknown first last n s = omega arith
+first-few Labile first last n s = omega arith
+first-few NTerm first last n s = omega arith
+first-few OnResidue first last n s = omega arith
+first-few OnRange first last n s = omega arith
+first-few CTerm first last n s = omega arith
+
+pub last-few : (k : Kind) (first last n : ℕ) → Stands k first last n → last ≤ n + 1
+last-few Unknown first last n s = omega arith
+last-few Labile first last n s = omega arith
+last-few NTerm first last n s = omega arith
+last-few OnResidue first last n s = omega arith
+last-few OnRange first last n s = omega arith
+last-few CTerm first last n s = omega arith
+
+offset-few : (l : List ℕ) (i : ℕ) → offset l i ≤ i
+offset-few [] i = omega arith
+offset-few (b ∷ l) i = omega arith
+
+-- ---- the bounds
+module _ {P : Type 0} (bs : List ℕ) (ns : List ℤ) where
+  part-bounds : (k j i : ℕ) (p : Part P) → PartWithin p → PartRead bs ns k j i p → i + length (packed p) ≤ 4096 → PartBounds bs ns k j
+  part-bounds k j i p w r h =
+      let o = offset-few (packed p) i in
+      let e = length-append (textOf p) (labelOf p) in
+      record {
+        few-decimals = rw (r .decimals) (decimals-few p (p .value) (w .value));
+        short-text = rw (r .text-length) (text-short p (p .value) (w .value));
+        short-label = rw (r .label-length) (label-short (p .label) (w .label));
+        inside = rw (r .from, r .text-length, r .label-length) (omega arith);
+        small = rw (r .number) (mass-small p (p .value) (w .value));
+      }
+
+  parts-bounds :
+      (k j i : ℕ) (ps : List (Part P)) → Each PartWithin ps → PartsRead bs ns k j i ps → i + length (flat packed ps) ≤ 4096 →
+      (x : ℕ) → x < length ps → PartBounds bs ns k (j + x)
+  unfolding flat
+  parts-bounds k j i [] w r h x lt = absurd (omega arith)
+  parts-bounds k j i (p ∷ ps) w r h zero lt =
+      let e = length-append (packed p) (flat packed ps) in
+      rw (add-zero j) (part-bounds k j i p (w .0) (r .0) (omega arith))
+  parts-bounds k j i (p ∷ ps) w r h (suc x) lt =
+      let e = length-append (packed p) (flat packed ps) in
+      let s : j + suc x ≡ j + 1 + x = omega arith in
+      rw s (parts-bounds k (j + 1) (i + length (packed p)) ps (w .1) (r .1) (omega arith) x (omega arith))
+
+  bracket-bounds :
+      (n k i : ℕ) (b : Bracket P) → byteAt bs 0 ≡ n → BracketWithin n b → BracketRead bs ns k i b → i + length (bracketTexts b) ≤ 4096
+      → BracketBounds bs ns k
+  bracket-bounds n k i b e w r h =
+      record {
+        first = rw (e, r .first) (first-few (b .kind) (b .first) (b .last) n (w .stands));
+        last = rw (e, r .last) (last-few (b .kind) (b .first) (b .last) n (w .stands));
+        some-count = rw (r .count) (w .some-count);
+        few-counts = rw (r .count) (w .few-counts);
+        few-parts = rw (r .many) (w .few-parts);
+        score = rw (r .score) (score-few (scoreOf (b .parts)) (score-within (b .parts) (w .parts)));
+        small = rw (r .number) (score-small (scoreOf (b .parts)) (score-within (b .parts) (w .parts)));
+        part = λ j lt. subst (λ z. PartBounds bs ns k z) (zero-add j) (parts-bounds k 0 i (b .parts) (w .parts) (r .parts) h j (rw (r .many) at lt));
+      }
+
+  brackets-bounds :
+      (n k i : ℕ) (ks : List (Bracket P)) → byteAt bs 0 ≡ n → Each (BracketWithin n) ks → BracketsRead bs ns k i ks → i + length
+      (flat bracketTexts ks) ≤ 4096
+      → (x : ℕ) → x < length ks → BracketBounds bs ns (k + x)
+  unfolding flat
+  brackets-bounds n k i [] q w r h x lt = absurd (omega arith)
+  brackets-bounds n k i (b ∷ ks) q w r h zero lt =
+      let e = length-append (bracketTexts b) (flat bracketTexts ks) in
+      rw (add-zero k) (bracket-bounds n k i b q (w .0) (r .0) (omega arith))
+  brackets-bounds n k i (b ∷ ks) q w r h (suc x) lt =
+      let e = length-append (bracketTexts b) (flat bracketTexts ks) in
+      let s : k + suc x ≡ k + 1 + x = omega arith in
+      rw s (brackets-bounds n (k + 1) (i + length (bracketTexts b)) ks q (w .1) (r .1) (omega arith) x (omega arith))
+
+module _ {P : Type 0} (l : Line P) (within : Within l) where
+  pub bounds : (w : List ℕ) (v : List ℤ) → Bounds (bytesOf l ++ w) (numbersOf l ++ v)
+  bounds w v =
+      let r = areas-read l within w v in
+      let a = bytes-length l within in
+      let b = numbers-length l within in
+      let c = length-append (bytesOf l) w in
+      let d = length-append (numbersOf l) v in
+      let t = within .texts in
+      record {
+        bytes-room = omega arith;
+        numbers-room = omega arith;
+        some-residue = rw (r .residues-many) (within .some-residue);
+        few-residues = rw (r .residues-many) (within .few-residues);
+        few-brackets = rw (r .brackets-many) (within .few-brackets);
+        bracket =
+            λ k lt.
+            subst (λ z. BracketBounds (bytesOf l ++ w) (numbersOf l ++ v) z) (zero-add k)
+            (brackets-bounds (bytesOf l ++ w) (numbersOf l ++ v) (length (l .residues)) 0 0 (l .brackets) (r .residues-many) (within .brackets)
+            (r .brackets) (omega arith) k (rw (r .brackets-many) at lt));
+      }
+
+-- ---- bytes
+section-byte : (s : Section) → Byte (sectionCode s)
+section-byte Plain = omega arith
+section-byte RangeFirst = omega arith
+section-byte RangeNext = omega arith
+section-byte UnsureFirst = omega arith
+section-byte UnsureNext = omega arith
+
+kind-byte : (k : Kind) → Byte (kindCode k)
+kind-byte Unknown = omega arith
+kind-byte Labile = omega arith
+kind-byte NTerm = omega arith
+kind-byte OnResidue = omega arith
+kind-byte OnRange = omega arith
+kind-byte CTerm = omega arith
+
+high-byte : (n : ℕ) → n ≤ 4096 → Byte (n / 256)
+high-byte n h = omega arith
+
+low-byte : (n : ℕ) → Byte (n % 256)
+low-byte n = omega arith
+
+module _ {P : Type 0} where
+  value-byte : (v : Value P) → Byte (valueCode v)
+  value-byte (mass n) = omega arith
+  value-byte (text t) = omega arith
+  value-byte reference = omega arith
+
+  text-bytes : (p : Part P) (v : Value P) → ValueWithin p v → Each Byte (textIn v)
+  text-bytes p (mass n) w = tt
+  text-bytes p (text t) w = w .bytes
+  text-bytes p reference w = tt
+
+  label-bytes : (l : Option (Label P)) → OfGiven LabelWithin l → Each Byte (given l (λ l. l .name) [])
+  label-bytes none w = tt
+  label-bytes (some l) w = w .bytes
+
+  packed-bytes : (ps : List (Part P)) → Each PartWithin ps → Each Byte (flat packed ps)
+  unfolding flat
+  packed-bytes [] w = tt
+  packed-bytes (p ∷ ps) w =
+      each-append Byte (packed p) (flat packed ps)
+      (each-append Byte (textOf p) (labelOf p) (text-bytes p (p .value) (w .0 .value)) (label-bytes (p .label) (w .0 .label)))
+      (packed-bytes ps (w .1))
+
+  part-row-bytes : (i : ℕ) (p : Part P) → i ≤ 4096 → PartWithin p → Each Byte (partRow i p)
+  part-row-bytes i p h w =
+      let o = offset-few (packed p) i in
+      let a : keyCode (p .key) ≤ 13 = w .key in
+      let b = decimals-few p (p .value) (w .value) in
+      let c = text-short p (p .value) (w .value) in
+      let d = label-short (p .label) (w .label) in (
+        value-byte (p .value),
+        (
+          omega arith,
+          (
+            omega arith,
+            (
+              omega arith,
+              (
+                omega arith,
+                (
+                  low-byte (offset (packed p) i),
+                  (high-byte (offset (packed p) i) (omega arith), tt),
+                ),
+              ),
+            ),
+          ),
+        ),
+      )
+
+  part-rows-bytes : (i : ℕ) (ps : List (Part P)) → i + length (flat packed ps) ≤ 4096 → Each PartWithin ps → Each Byte (partRows i ps)
+  unfolding partRows flat
+  part-rows-bytes i [] h w = tt
+  part-rows-bytes i (p ∷ ps) h w =
+      let e = length-append (packed p) (flat packed ps) in
+      each-append Byte (partRow i p) (partRows (i + length (packed p)) ps)
+      (part-row-bytes i p (omega arith) (w .0))
+      (part-rows-bytes (i + length (packed p)) ps (omega arith) (w .1))
+
+  bracket-row-bytes : (n i : ℕ) (b : Bracket P) → n ≤ 254 → i + length (bracketTexts b) ≤ 4096 → BracketWithin n b → Each Byte (bracketRow i b)
+  bracket-row-bytes n i b q h w =
+      let x = first-few (b .kind) (b .first) (b .last) n (w .stands) in
+      let y = last-few (b .kind) (b .first) (b .last) n (w .stands) in
+      let c : b .count ≤ 99 = w .few-counts in
+      let d : length (b .parts) ≤ 4 = w .few-parts in
+      let s = score-few (scoreOf (b .parts)) (score-within (b .parts) (w .parts)) in (
+        kind-byte (b .kind),
+        (
+          omega arith,
+          (
+            omega arith,
+            (
+              omega arith,
+              (
+                omega arith,
+                (omega arith, each-padded Byte 0 28 (partRows i (b .parts)) (omega arith) (part-rows-bytes i (b .parts) h (w .parts))),
+              ),
+            ),
+          ),
+        ),
+      )
+
+  rows-bytes :
+      (n i : ℕ) (ks : List (Bracket P)) → n ≤ 254 → i + length (flat bracketTexts ks) ≤ 4096 → Each (BracketWithin n) ks → Each Byte (rows i ks)
+  unfolding rows flat
+  rows-bytes n i [] q h w = tt
+  rows-bytes n i (b ∷ ks) q h w =
+      let e = length-append (bracketTexts b) (flat bracketTexts ks) in
+      each-append Byte (bracketRow i b) (rows (i + length (bracketTexts b)) ks)
+      (bracket-row-bytes n i b q (omega arith) (w .0))
+      (rows-bytes n (i + length (bracketTexts b)) ks q (omega arith) (w .1))
+
+  texts-bytes : (n : ℕ) (ks : List (Bracket P)) → Each (BracketWithin n) ks → Each Byte (flat bracketTexts ks)
+  unfolding flat
+  texts-bytes n [] w = tt
+  texts-bytes n (b ∷ ks) w = each-append Byte (bracketTexts b) (flat bracketTexts ks) (packed-bytes (b .parts) (w .0 .parts))
+      (texts-bytes n ks (w .1))
+
+  pub bytes-are-bytes : (l : Line P) → Within l → Each Byte (bytesOf l)
+  unfolding bytesOf
+  bytes-are-bytes l w =
+      let n = length (l .residues) in
+      let a : n ≤ 254 = w .few-residues in
+      let b : length (l .brackets) ≤ 64 = w .few-brackets in
+      let t : length (flat bracketTexts (l .brackets)) ≤ 4096 = w .texts in
+      let zero-byte : Byte 0 = omega arith in
+      let letters = map (λ r. r .letter) (l .residues) in
+      let sections = map (λ r. sectionCode (r .section)) (l .residues) in
+      let texts = padded 0 4096 (flat bracketTexts (l .brackets)) in (
+        omega arith,
+        (
+          omega arith,
+          each-append Byte (padded 0 254 letters) (padded 0 254 sections ++ (padded 0 2176 (rows 0 (l .brackets)) ++ texts))
+              (each-padded Byte 0 254 letters zero-byte (each-map Byte (λ r. r .letter) (l .residues) (w .letters)))
+              (each-append Byte (padded 0 254 sections) (padded 0 2176 (rows 0 (l .brackets)) ++ texts)
+              (each-padded Byte 0 254 sections zero-byte
+              (each-map Byte (λ r. sectionCode (r .section)) (l .residues)
+              (each-all (λ r. Byte (sectionCode (r .section))) (l .residues) (λ r. section-byte (r .section)))))
+              (each-append Byte (padded 0 2176 (rows 0 (l .brackets))) texts
+              (each-padded Byte 0 2176 (rows 0 (l .brackets)) zero-byte (rows-bytes n 0 (l .brackets) a (omega arith) (w .brackets)))
+              (each-padded Byte 0 4096 (flat bracketTexts (l .brackets)) zero-byte (texts-bytes n (l .brackets) (w .brackets))))),
+        ),
+      )
+
+each-at : (l : List ℕ) → Each Byte l → (i : ℕ) → getD l i 0 < 256
+each-at [] h i = lit< tt
+each-at (x ∷ l) h zero = h .0
+each-at (x ∷ l) h (suc i) = each-at l (h .1) i
+
+pub byte-below : {P : Type 0} (l : Line P) → Within l → (i : ℕ) → getD (bytesOf l) i 0 < 256
+byte-below l w i = each-at (bytesOf l) (bytes-are-bytes l w) i

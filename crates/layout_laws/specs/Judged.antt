@@ -1,0 +1,289 @@
+-- What a line keeps to because no refusal is due.
+use mathlib.Core.Path.{_≡_, refl, sym, ap, _∙_}
+use mathlib.Core.Bool.{Bool, true, false, not, cond, _&&_, _||_, false≢true, true≢false}
+use mathlib.Core.Option.{Option, none, some}
+use mathlib.Core.List.{List, [], _∷_, _++_, map}
+use Prim.Native.Nat.{ℕ, _+_, _≤_, _<_}
+use native.Mathlib.Omega.{arith}
+use lib.Dec.{eqb, leb, ltb}
+use lib.ListN.{length, drop, length-drop, length-map, length-append, length-replicate, replicate}
+use borrow.Author.Tests.{ltb-false, le-leb, eqb-false, not-false}
+use Rattle.scope.specs.declared.grammar.Key.{Key}
+use Rattle.scope.specs.declared.grammar.Key.the-variants.{NoKey, U, M, R, X, G, C, Obs, Unimod, Mod, Xlmod, Resid, Gno, Info, Formula, Glycan, Position, Limit}
+use Rattle.scope.specs.Bytes.{isPrintable}
+use Rattle.scope.specs.Line.{Number, Label, Value, mass, text, reference, Part, Bracket, Line}
+use Rattle.scope.specs.Keys.{keyCode}
+use Rattle.scope.specs.Content.{given}
+use Rattle.scope.specs.Reading.{Reading, stuck, holds, reading}
+use Rattle.scope.specs.Modifications.{flat, namesOf, isLabelled, copies, definedBy, defined, referredTo}
+use Rattle.scope.specs.Refusals.{dueAt, least, unprintable, refusal1, refusal2, refusal3, refusal5, refusal6, refusal7, refusal8, refusal9, refusal10, refusal11, refusal12, textOf, longText, longLabel, overIn, inRange, wide, wideMass, wideScore, wideCount, notHere, isRule, isLink, secondLabel, definedAgain, undefined, countedLabel, unreferred, wrongLabels, wronglyLabelled, passing, Outcome, accepted, refused, firstDue, judged, outcome}
+use Rattle.scope.specs.Positions.{floaters}
+use Rattle.layout_laws.specs.Lists.{or-left, or-right}
+use Rattle.layout_laws.specs.Within.{Each, OfGiven}
+use Rattle.layout_laws.specs.Each.{each-three}
+
+-- ---- no refusal is due
+none-due : (p : Option ℕ) (n : ℕ) (o : Outcome) (l : Line ℕ) → given p (refused n) o ≡ accepted l → (p ≡ none) × (o ≡ accepted l)
+none-due none n o l e = (refl, e)
+none-due (some i) n o l e = let z : _≡_ {A = ℕ} 0 1 = cc in absurd (omega arith)
+
+pub record Good (s : List ℕ) (l : Line ℕ) : Type 0 where
+  pub read : reading s ≡ holds l
+  pub no2 : refusal2 s ≡ none
+  pub no3 : refusal3 s ≡ none
+  pub no6 : refusal6 l ≡ none
+  pub no7 : refusal7 l ≡ none
+  pub no8 : refusal8 l ≡ none
+  pub no11 : refusal11 l ≡ none
+  pub no12 : refusal12 l ≡ none
+
+pub good : (s : List ℕ) (l : Line ℕ) → outcome s ≡ accepted l → Good s l
+unfolding outcome firstDue
+good s l e =
+    let a1 = none-due (refusal1 s) 1 _ l e in
+    let a2 = none-due (refusal2 s) 2 _ l (a1 .1) in
+    let a3 = none-due (refusal3 s) 3 _ l (a2 .1) in
+    go (reading s) refl (a2 .0) (a3 .0) (a3 .1)
+  where
+    go : (r : Reading) → reading s ≡ r → refusal2 s ≡ none → refusal3 s ≡ none → judged r ≡ accepted l → Good s l
+    go (stuck i) q n2 n3 f = let z : _≡_ {A = ℕ} 0 1 = cc in absurd (omega arith)
+    go (holds m) q n2 n3 f =
+        let a5 = none-due (refusal5 m) 5 _ l f in
+        let a6 = none-due (refusal6 m) 6 _ l (a5 .1) in
+        let a7 = none-due (refusal7 m) 7 _ l (a6 .1) in
+        let a8 = none-due (refusal8 m) 8 _ l (a7 .1) in
+        let a9 = none-due (refusal9 m) 9 _ l (a8 .1) in
+        let a10 = none-due (refusal10 m) 10 _ l (a9 .1) in
+        let a11 = none-due (refusal11 m) 11 _ l (a10 .1) in
+        let a12 = none-due (refusal12 m) 12 _ l (a11 .1) in
+        let h : accepted m ≡ accepted l = a12 .1 in
+        let same : m ≡ l = cc in
+        record {
+          read = q ∙ ap holds same;
+          no2 = n2;
+          no3 = n3;
+          no6 = rw same at (a6 .0);
+          no7 = rw same at (a7 .0);
+          no8 = rw same at (a8 .0);
+          no11 = rw same at (a11 .0);
+          no12 = rw same at (a12 .0);
+        }
+
+-- ---- nothing is due
+least-none : (l : List ℕ) → least l ≡ none → l ≡ []
+unfolding least
+least-none [] e = refl
+least-none (i ∷ l) e = let z : _≡_ {A = ℕ} 0 1 = cc in absurd (omega arith)
+
+first-none : {A : Type 0} (l m : List A) → l ++ m ≡ [] → l ≡ []
+first-none [] m e = refl
+first-none (x ∷ l) m e = let z : _≡_ {A = ℕ} 0 1 = cc in absurd (omega arith)
+
+rest-none : {A : Type 0} (l m : List A) → l ++ m ≡ [] → m ≡ []
+rest-none [] m e = e
+rest-none (x ∷ l) m e = let z : _≡_ {A = ℕ} 0 1 = cc in absurd (omega arith)
+
+flat-none : {A B : Type 0} (f : A → List B) (l : List A) → flat f l ≡ [] → Each (λ x. f x ≡ []) l
+unfolding flat
+flat-none f [] e = tt
+flat-none f (x ∷ l) e = (first-none (f x) (flat f l) e, flat-none f l (rest-none (f x) (flat f l) e))
+
+not-due : (t : Bool) (i : ℕ) → dueAt t i ≡ [] → t ≡ false
+not-due true i e = let z : _≡_ {A = ℕ} 0 1 = cc in absurd (omega arith)
+not-due false i e = refl
+
+none-dropped : {A : Type 0} (f : A → ℕ) (n : ℕ) (l : List A) → drop n (map f l) ≡ [] → length l ≤ n
+none-dropped f n l e =
+    let a = length-drop n (map f l) in
+    let b : length (drop n (map f l)) ≡ 0 = ap length e in
+    let c = length-map l f in
+    omega arith
+
+-- ---- parts
+abbrev pub MassRange : {P : Type 0} → Value P → Type 0
+MassRange (mass n) = inRange n ≡ true
+MassRange (text t) = Unit {0}
+MassRange reference = Unit {0}
+
+pub record JudgedPart (p : Part ℕ) : Type 0 where
+  pub short-text : length (textOf p) ≤ 128
+  pub short-label : OfGiven (λ l. length (l .name) ≤ 16) (p .label)
+  pub mass-range : MassRange (p .value)
+  pub score-range : OfGiven (λ l. OfGiven (λ n. inRange n ≡ true) (l .score)) (p .label)
+  pub key : keyCode (p .key) ≤ 13
+
+short-label-of : (l : Option (Label ℕ)) → given l (λ l. dueAt (ltb 16 (length (l .name))) (l .at)) [] ≡ [] → OfGiven (λ l. length (l .name) ≤ 16) l
+short-label-of none e = tt
+short-label-of (some l) e = ltb-false 16 (length (l .name)) (not-due _ (l .at) e)
+
+in-range : (n : Number ℕ) → wide n ≡ [] → inRange n ≡ true
+in-range n e = not-false (inRange n) (not-due _ (n .at) e)
+
+mass-range-of : (v : Value ℕ) → wideMass v ≡ [] → MassRange v
+mass-range-of (mass n) e = in-range n e
+mass-range-of (text t) e = tt
+mass-range-of reference e = tt
+
+score-range-of :
+    (l : Option (Label ℕ)) → given l (λ l. given (l .score) wide []) [] ≡ [] → OfGiven (λ l. OfGiven (λ n. inRange n ≡ true) (l .score)) l
+score-range-of none e = tt
+score-range-of (some l) e = go (l .score) e
+  where
+    go : (n : Option (Number ℕ)) → given n wide [] ≡ [] → OfGiven (λ n. inRange n ≡ true) n
+    go none q = tt
+    go (some n) q = in-range n q
+
+key-few : (k : Key) → (eqb (keyCode k) 14 || eqb (keyCode k) 15 || eqb (keyCode k) 16 || eqb (keyCode k) 17) ≡ false → keyCode k ≤ 13
+key-few NoKey e = omega arith
+key-few U e = omega arith
+key-few M e = omega arith
+key-few R e = omega arith
+key-few X e = omega arith
+key-few G e = omega arith
+key-few C e = omega arith
+key-few Obs e = omega arith
+key-few Unimod e = omega arith
+key-few Mod e = omega arith
+key-few Xlmod e = omega arith
+key-few Resid e = omega arith
+key-few Gno e = omega arith
+key-few Info e = omega arith
+key-few Formula e = absurd (true≢false e)
+key-few Glycan e = absurd (true≢false e)
+key-few Position e = absurd (true≢false e)
+key-few Limit e = absurd (true≢false e)
+
+judged-part : (p : Part ℕ) → longText p ++ longLabel p ≡ [] → wideMass (p .value) ++ wideScore p ≡ [] → dueAt (notHere p) (p .at) ≡ [] → JudgedPart p
+judged-part p a b c =
+    record {
+      short-text = ltb-false 128 (length (textOf p)) (not-due _ (p .at) (first-none (longText p) (longLabel p) a));
+      short-label = short-label-of (p .label) (rest-none (longText p) (longLabel p) a);
+      mass-range = mass-range-of (p .value) (first-none (wideMass (p .value)) (wideScore p) b);
+      score-range = score-range-of (p .label) (rest-none (wideMass (p .value)) (wideScore p) b);
+      key = key-few (p .key) (or-left _ (isRule p) (or-left _ (given (p .label) (λ l. isLink (l .name)) false) (not-due (notHere p) (p .at) c)));
+    }
+
+-- ---- brackets
+pub record JudgedBracket (k : Bracket ℕ) : Type 0 where
+  pub few-parts : length (k .parts) ≤ 4
+  pub count-range : OfGiven (λ i. (0 < k .count) × (k .count ≤ 99)) (k .counted)
+  pub one-label : length (namesOf k) ≤ 1
+  pub uncounted : isLabelled k ≡ true → k .counted ≡ none
+  pub parts : Each JudgedPart (k .parts)
+
+count-range-of : (n : ℕ) (c : Option ℕ) → given c (dueAt (eqb n 0 || ltb 99 n)) [] ≡ [] → OfGiven (λ i. (0 < n) × (n ≤ 99)) c
+count-range-of n none e = tt
+count-range-of n (some i) e =
+    let t = not-due (eqb n 0 || ltb 99 n) i e in
+    let a : n ≡ 0 → ⊥ = eqb-false n 0 (or-left (eqb n 0) _ t) in
+    let b : n ≤ 99 = ltb-false 99 n (or-right (eqb n 0) _ t) in
+    (omega (arith, a), b)
+
+uncounted-of : (t : Bool) (c : Option ℕ) → (t && given c (λ p. true) false) ≡ false → t ≡ true → c ≡ none
+uncounted-of t none e h = refl
+uncounted-of true (some i) e h = absurd (true≢false e)
+uncounted-of false (some i) e h = absurd (false≢true h)
+
+judged-bracket :
+    (before definitions references : List (List ℕ)) (k : Bracket ℕ) → overIn k ≡ [] → wideCount k ++ flat (λ p. wideMass (p .value) ++ wideScore p)
+    (k .parts) ≡ []
+    → flat (λ p. dueAt (notHere p) (p .at)) (k .parts) ≡ [] → wrongLabels before definitions references k ≡ false → JudgedBracket k
+judged-bracket before definitions references k a b c d =
+    let long = drop 4 (map (λ p. p .at) (k .parts)) in
+    let d1 = or-left _ (unreferred references k) d in
+    let d2 = or-left _ (countedLabel k) d1 in
+    let d3 = or-left _ (undefined definitions k) d2 in
+    let d4 : secondLabel k ≡ false = or-left _ (definedAgain before k) d3 in
+    record {
+      few-parts = none-dropped (λ p. p .at) 4 (k .parts) (first-none long (flat (λ p. longText p ++ longLabel p) (k .parts)) a);
+      count-range = count-range-of (k .count) (k .counted) (first-none (wideCount k) (flat (λ p. wideMass (p .value) ++ wideScore p) (k .parts)) b);
+      one-label = ltb-false 1 (length (namesOf k)) d4;
+      uncounted = uncounted-of (isLabelled k) (k .counted)
+          (or-right (secondLabel k || definedAgain before k || undefined definitions k) (countedLabel k) d1);
+      parts =
+          each-three _ _ _ JudgedPart judged-part (k .parts)
+          (flat-none (λ p. longText p ++ longLabel p) (k .parts) (rest-none long (flat (λ p. longText p ++ longLabel p) (k .parts)) a))
+          (flat-none (λ p. wideMass (p .value) ++ wideScore p) (k .parts)
+          (rest-none (wideCount k) (flat (λ p. wideMass (p .value) ++ wideScore p) (k .parts)) b))
+          (flat-none (λ p. dueAt (notHere p) (p .at)) (k .parts) c);
+    }
+
+judged-brackets :
+    (before definitions references : List (List ℕ)) (ks : List (Bracket ℕ)) → Each (λ k. overIn k ≡ []) ks
+    → Each (λ k. wideCount k ++ flat (λ p. wideMass (p .value) ++ wideScore p) (k .parts) ≡ []) ks → Each
+    (λ k. flat (λ p. dueAt (notHere p) (p .at)) (k .parts) ≡ []) ks
+    → wronglyLabelled before definitions references ks ≡ [] → Each JudgedBracket ks
+unfolding wronglyLabelled
+judged-brackets before definitions references [] a b c d = tt
+judged-brackets before definitions references (k ∷ ks) a b c d =
+    let here = dueAt (wrongLabels before definitions references k) (k .at) in
+    let rest = wronglyLabelled (before ++ definedBy k) definitions references ks in (
+      judged-bracket before definitions references k (a .0) (b .0) (c .0) (not-due _ (k .at) (first-none here rest d)),
+      judged-brackets (before ++ definedBy k) definitions references ks (a .1) (b .1) (c .1) (rest-none here rest d),
+    )
+
+few-copies-of :
+    (before : ℕ) (ks : List (Bracket ℕ)) → before ≤ 8 → passing before ks ≡ [] → before + length (flat (λ k. replicate (copies k) k) ks) ≤ 8
+unfolding passing flat
+few-copies-of before [] h e = omega arith
+few-copies-of before (k ∷ ks) h e =
+    let here = dueAt (leb before 8 && ltb 8 (before + copies k)) (k .at) in
+    let rest = passing (before + copies k) ks in
+    let t : (leb before 8 && ltb 8 (before + copies k)) ≡ false = not-due _ (k .at) (first-none here rest e) in
+    let u : ltb 8 (before + copies k) ≡ false = ap (λ z. z && ltb 8 (before + copies k)) (sym (le-leb before 8 h)) ∙ t in
+    let v : before + copies k ≤ 8 = ltb-false 8 (before + copies k) u in
+    let w = few-copies-of (before + copies k) ks v (rest-none here rest e) in
+    let x = length-append (replicate (copies k) k) (flat (λ k. replicate (copies k) k) ks) in
+    let y = length-replicate (copies k) k in
+    omega arith
+
+all-printable : (i : ℕ) (s : List ℕ) → unprintable i s ≡ [] → Each (λ b. isPrintable b ≡ true) s
+unfolding unprintable
+all-printable i [] e = tt
+all-printable i (b ∷ s) e =
+    let here = dueAt (not (isPrintable b)) i in (
+      not-false (isPrintable b) (not-due _ i (first-none here (unprintable (i + 1) s) e)),
+      all-printable (i + 1) s
+          (rest-none here (unprintable (i + 1) s) e),
+    )
+
+-- ---- lines
+pub record Judged (s : List ℕ) (l : Line ℕ) : Type 0 where
+  pub read : reading s ≡ holds l
+  pub short : length s ≤ 4096
+  pub printable : Each (λ b. isPrintable b ≡ true) s
+  pub few-residues : length (l .residues) ≤ 254
+  pub few-brackets : length (l .brackets) ≤ 64
+  pub brackets : Each JudgedBracket (l .brackets)
+  pub few-copies : length (floaters l) ≤ 8
+
+short-of : (n : ℕ) → cond {A = Option ℕ} (ltb 4096 n) (some 4096) none ≡ none → n ≤ 4096
+short-of n e = ltb-false 4096 n (go (ltb 4096 n) e)
+  where
+    go : (t : Bool) → cond {A = Option ℕ} t (some 4096) none ≡ none → t ≡ false
+    go true q = let z : _≡_ {A = ℕ} 0 1 = cc in absurd (omega arith)
+    go false q = refl
+
+pub judged-line : (s : List ℕ) (l : Line ℕ) → outcome s ≡ accepted l → Judged s l
+unfolding refusal2 refusal3 refusal6 refusal7 refusal8 refusal11 refusal12 floaters
+judged-line s l e =
+    let g = good s l e in
+    let rs = drop 254 (map (λ r. r .at) (l .residues)) in
+    let ks = drop 64 (map (λ k. k .at) (l .brackets)) in
+    let a : rs ++ (ks ++ flat overIn (l .brackets)) ≡ [] = least-none _ (g .no6) in
+    let b = rest-none rs (ks ++ flat overIn (l .brackets)) a in
+    let c = few-copies-of 0 (l .brackets) (omega arith) (least-none _ (g .no12)) in
+    record {
+      read = g .read;
+      short = short-of (length s) (g .no2);
+      printable = all-printable 0 s (least-none _ (g .no3));
+      few-residues = none-dropped (λ r. r .at) 254 (l .residues) (first-none rs (ks ++ flat overIn (l .brackets)) a);
+      few-brackets = none-dropped (λ k. k .at) 64 (l .brackets) (first-none ks (flat overIn (l .brackets)) b);
+      brackets =
+          judged-brackets [] (defined (l .brackets)) (referredTo (l .brackets)) (l .brackets)
+          (flat-none overIn (l .brackets) (rest-none ks (flat overIn (l .brackets)) b))
+          (flat-none (λ k. wideCount k ++ flat (λ p. wideMass (p .value) ++ wideScore p) (k .parts)) (l .brackets) (least-none _ (g .no7)))
+          (flat-none (λ k. flat (λ p. dueAt (notHere p) (p .at)) (k .parts)) (l .brackets) (least-none _ (g .no8)))
+          (least-none _ (g .no11));
+      few-copies = omega arith;
+    }

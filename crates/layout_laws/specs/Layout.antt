@@ -1,0 +1,495 @@
+-- The tables of a line lie in its areas: what is read there is what the line holds, without its places.
+use mathlib.Core.Path.{_≡_, refl, sym, ap, ap₂, _∙_}
+use mathlib.Core.Bool.{false}
+use mathlib.Core.Option.{Option, none, some}
+use mathlib.Core.List.{List, [], _∷_, _++_, map}
+use Prim.Native.Nat.{ℕ, _+_, _-_, _*_, _≤_, _<_}
+use native.Mathlib.Omega.{arith}
+use native.Mathlib.Nat.{mod-add-div}
+use lib.Dec.{eqb}
+use lib.IntN.{ℤ, pos}
+use lib.ListN.{length, getD, replicate, length-append, length-replicate, length-map}
+use borrow.Author.Tests.{ne-eqb}
+use Rattle.scope.specs.declared.grammar.Section.{Section}
+use Rattle.scope.specs.declared.grammar.Section.the-variants.{Plain, RangeFirst, RangeNext, UnsureFirst, UnsureNext}
+use Rattle.scope.specs.declared.grammar.Key.{Key}
+use Rattle.scope.specs.declared.grammar.Key.the-variants.{NoKey, U, M, R, X, G, C, Obs, Unimod, Mod, Xlmod, Resid, Gno, Info, Formula, Glycan, Position, Limit}
+use Rattle.scope.specs.declared.grammar.Kind.{Kind}
+use Rattle.scope.specs.declared.grammar.Kind.the-variants.{Unknown, Labile, NTerm, OnResidue, OnRange, CTerm}
+use Rattle.scope.specs.Line.{Number, Label, Value, mass, text, reference, Part, Bracket, Residue, Line}
+use Rattle.scope.specs.Keys.{keys, keyCode, keyIn}
+use Rattle.scope.specs.Content.{given}
+use Rattle.scope.specs.Modifications.{flat, nameOf}
+use Rattle.scope.specs.Refusals.{textIn, textOf}
+use Rattle.scope.specs.Canonical.{kindCode}
+use Rattle.scope.specs.Tables.{bareNumber, optional, bareLabel, bareValue, barePart, bareBracket, bareResidue, tablesOf, padded, sectionCode, valueCode, millionths, massIn, decimalsIn, labelOf, packed, offset, partRow, partRows, scoreOf, scoreCode, bracketRow, bracketTexts, rows, bytesOf, numberRow, numbersOf, sectionIn, kindIn, part, tabled, byteAt, rowAt, partAt, textFrom, scoreIn, valueIn, labelIn, partIn, bracketIn, residueIn, tablesIn}
+use Rattle.layout_laws.specs.Within.{Each, OfGiven, NumberWithin, LabelWithin, ValueWithin, PartWithin, BracketWithin, Within}
+use Rattle.layout_laws.specs.At.{At, at-read, at-head, at-first, at-next, at-part, at-start}
+use Rattle.layout_laws.specs.Numbers.{number-back}
+
+-- ---- codes
+key-back : (k : Key) → keyIn (keyCode k) ≡ k
+unfolding keys
+key-back NoKey = refl
+key-back U = refl
+key-back M = refl
+key-back R = refl
+key-back X = refl
+key-back G = refl
+key-back C = refl
+key-back Obs = refl
+key-back Unimod = refl
+key-back Mod = refl
+key-back Xlmod = refl
+key-back Resid = refl
+key-back Gno = refl
+key-back Info = refl
+key-back Formula = refl
+key-back Glycan = refl
+key-back Position = refl
+key-back Limit = refl
+
+kind-back : (k : Kind) → kindIn (kindCode k) ≡ k
+kind-back Unknown = refl
+kind-back Labile = refl
+kind-back NTerm = refl
+kind-back OnResidue = refl
+kind-back OnRange = refl
+kind-back CTerm = refl
+
+section-back : (s : Section) → sectionIn (sectionCode s) ≡ s
+section-back Plain = refl
+section-back RangeFirst = refl
+section-back RangeNext = refl
+section-back UnsureFirst = refl
+section-back UnsureNext = refl
+
+-- ---- sizes of rows
+pub padded-length : {A : Type 0} (z : A) (n : ℕ) (l : List A) → length l ≤ n → length (padded z n l) ≡ n
+padded-length z n l h = length-append l (replicate (n - length l) z) ∙ ap (λ m. length l + m) (length-replicate (n - length l) z) ∙ omega arith
+
+module _ {P : Type 0} where
+  pub part-rows-length : (i : ℕ) (ps : List (Part P)) → length (partRows i ps) ≡ length ps * 7
+  unfolding partRows
+  part-rows-length i [] = refl
+  part-rows-length i (p ∷ ps) = let e : length (partRows (i + length (packed p)) ps) ≡ length ps * 7 = part-rows-length
+      (i + length (packed p)) ps in omega arith
+
+  pub bracket-row-length : (i : ℕ) (k : Bracket P) → length (k .parts) ≤ 4 → length (bracketRow i k) ≡ 34
+  bracket-row-length i k h =
+      let e : length (partRows i (k .parts)) ≡ length (k .parts) * 7 = part-rows-length i (k .parts) in
+      let f : length (padded 0 28 (partRows i (k .parts))) ≡ 28 = padded-length 0 28 (partRows i (k .parts)) (omega arith) in
+      omega arith
+
+  pub number-row-length : (k : Bracket P) → length (k .parts) ≤ 4 → length (numberRow k) ≡ 5
+  number-row-length k h =
+      length-append (padded (pos 0) 4 (map (λ p. massIn (p .value)) (k .parts))) (given (scoreOf (k .parts)) millionths (pos 0) ∷ [])
+      ∙ ap (λ m. m + 1) (padded-length (pos 0) 4 (map (λ p. massIn (p .value)) (k .parts)) (rw (length-map (k .parts) (λ p. massIn (p .value))) h))
+
+-- ---- one part
+abbrev OfValue : {P : Type 0} → Value P → Type 0
+OfValue (mass n) = NumberWithin n
+OfValue (text t) = 0 < length t
+OfValue reference = Unit {0}
+
+offset-at : (l : List ℕ) (i : ℕ) → 0 < length l → offset l i ≡ i
+offset-at [] i h = absurd (omega arith)
+offset-at (b ∷ l) i h = refl
+
+module _ {P : Type 0} (bs : List ℕ) (ns : List ℤ) (k j : ℕ) where
+  value-back :
+      (v : Value P) → OfValue v → byteAt bs (partAt k j) ≡ valueCode v → byteAt bs (partAt k j + 2) ≡ decimalsIn v → byteAt bs
+      (partAt k j + 3) ≡ length (textIn v)
+      → getD ns (k * 5 + j) (pos 0) ≡ massIn v
+      → (0 < length (textIn v) → part (2686 + textFrom bs (partAt k j)) (length (textIn v)) bs ≡ textIn v)
+      → valueIn bs ns k j ≡ bareValue v
+  value-back (mass n) w c d e m t = rw (c, d, m) (ap mass (number-back n w))
+  value-back (text x) w c d e m t = rw (c, e) (ap text (t w))
+  value-back reference w c d e m t = rw (c)
+
+  label-back :
+      (l : Option (Label P)) → OfGiven LabelWithin l → byteAt bs (partAt k j + 4) ≡ length (given l (λ l. l .name) [])
+      → (0 < length (given l (λ l. l .name) []) → part (2686 + textFrom bs (partAt k j) + byteAt bs (partAt k j + 3))
+      (length (given l (λ l. l .name) [])) bs ≡ given l (λ l. l .name) [])
+      → OfGiven (λ l. scoreIn bs ns k ≡ optional bareNumber (l .score)) l
+      → labelIn bs ns k j ≡ optional bareLabel l
+  label-back none w e t s = rw e
+  label-back (some l) w e t s =
+      let z : eqb (length (l .name)) 0 ≡ false = ne-eqb (length (l .name)) 0 (λ q. let h : 0 < length (l .name) = w .some-name in omega arith) in
+      rw (e, z) (ap₂ (λ a b. some (record { name = a; score = b; at = tt })) (t (w .some-name)) s)
+
+-- what is read of part j of bracket k, whose texts begin at i among the texts
+pub record PartRead {P : Type 0} (bs : List ℕ) (ns : List ℤ) (k j i : ℕ) (p : Part P) : Type 0 where
+  pub code : byteAt bs (partAt k j) ≡ valueCode (p .value)
+  pub key : byteAt bs (partAt k j + 1) ≡ keyCode (p .key)
+  pub decimals : byteAt bs (partAt k j + 2) ≡ decimalsIn (p .value)
+  pub text-length : byteAt bs (partAt k j + 3) ≡ length (textOf p)
+  pub label-length : byteAt bs (partAt k j + 4) ≡ length (labelOf p)
+  pub from : textFrom bs (partAt k j) ≡ offset (packed p) i
+  pub number : getD ns (k * 5 + j) (pos 0) ≡ massIn (p .value)
+  pub texts : At bs (2686 + i) (packed p)
+
+-- of the parts from part j on
+abbrev pub PartsRead : {P : Type 0} → List ℕ → List ℤ → ℕ → ℕ → ℕ → List (Part P) → Type 0
+PartsRead bs ns k j i [] = Unit {0}
+PartsRead bs ns k j i (p ∷ ps) = PartRead bs ns k j i p × PartsRead bs ns k (j + 1) (i + length (packed p)) ps
+
+module _ {P : Type 0} (bs : List ℕ) (ns : List ℤ) (k : ℕ) where
+  part-read :
+      (j i : ℕ) (p : Part P) → At bs (partAt k j) (partRow i p) → getD ns (k * 5 + j) (pos 0) ≡ massIn (p .value) → At bs (2686 + i) (packed p)
+      → PartRead bs ns k j i p
+  part-read j i p a m t =
+      record {
+        code = at-head bs (partAt k j) _ _ a 0;
+        key = at-read bs (partAt k j) (partRow i p) a 1 0;
+        decimals = at-read bs (partAt k j) (partRow i p) a 2 0;
+        text-length = at-read bs (partAt k j) (partRow i p) a 3 0;
+        label-length = at-read bs (partAt k j) (partRow i p) a 4 0;
+        from =
+            ap₂ (λ x y. x + 256 * y) (at-read bs (partAt k j) (partRow i p) a 5 0) (at-read bs (partAt k j) (partRow i p) a 6 0)
+            ∙ mod-add-div (offset (packed p) i) 256;
+        number = m;
+        texts = t;
+      }
+
+  pub parts-read :
+      (j i : ℕ) (ps : List (Part P)) → At bs (partAt k j) (partRows i ps) → At ns (k * 5 + j) (map (λ p. massIn (p .value)) ps) → At bs (2686 + i)
+      (flat packed ps)
+      → PartsRead bs ns k j i ps
+  unfolding partRows flat
+  parts-read j i [] a m t = tt
+  parts-read j i (p ∷ ps) a m t = (
+    part-read j i p (at-first bs (partAt k j) (partRow i p) (partRows (i + length (packed p)) ps) a) (at-head ns (k * 5 + j) _ _ m (pos 0))
+        (at-first bs (2686 + i) (packed p) (flat packed ps) t),
+    parts-read (j + 1) (i + length (packed p)) ps
+        (at-next bs (partAt k j) (partRow i p) (partRows (i + length (packed p)) ps) 7 (partAt k (j + 1)) refl (omega arith) a)
+        (at-next ns (k * 5 + j) (massIn (p .value) ∷ []) (map (λ p. massIn (p .value)) ps) 1 (k * 5 + (j + 1)) refl (omega arith) m)
+        (at-next bs (2686 + i) (packed p) (flat packed ps) (length (packed p)) (2686 + (i + length (packed p))) refl (omega arith) t),
+  )
+
+  value-of : (p : Part P) → PartWithin p → OfValue (p .value)
+  value-of p w = go (p .value) (w .value)
+    where
+      go : (v : Value P) → ValueWithin p v → OfValue v
+      go (mass n) h = h
+      go (text t) h = h .some-text
+      go reference h = tt
+
+  part-back :
+      (j i : ℕ) (p : Part P) → PartWithin p → PartRead bs ns k j i p → OfGiven (λ l. scoreIn bs ns k ≡ optional bareNumber (l .score)) (p .label)
+      → partIn bs ns k j ≡ barePart p
+  unfolding partIn
+  part-back j i p w r s =
+      let from : 0 < length (packed p) → textFrom bs (partAt k j) ≡ i = λ h. r .from ∙ offset-at (packed p) i h in
+      let sum : length (packed p) ≡ length (textOf p) + length (labelOf p) = length-append (textOf p) (labelOf p) in
+      let t : 0 < length (textOf p) → part (2686 + textFrom bs (partAt k j)) (length (textOf p)) bs ≡ textOf p =
+      λ h. ap (λ z. part (2686 + z) (length (textOf p)) bs) (from (omega arith)) ∙ at-part bs (2686 + i) (textOf p)
+      (at-first bs (2686 + i) (textOf p) (labelOf p) (r .texts)) in
+      let u : 0 < length (labelOf p) → part (2686 + textFrom bs (partAt k j) + byteAt bs (partAt k j + 3)) (length (labelOf p)) bs ≡ labelOf p =
+      λ h. ap₂ (λ y z. part (2686 + y + z) (length (labelOf p)) bs) (from (omega arith)) (r .text-length)
+      ∙ at-part bs (2686 + i + length (textOf p)) (labelOf p)
+      (at-next bs (2686 + i) (textOf p) (labelOf p) (length (textOf p)) (2686 + i + length (textOf p)) refl refl (r .texts)) in
+      let a : keyIn (byteAt bs (partAt k j + 1)) ≡ p .key = ap keyIn (r .key) ∙ key-back (p .key) in
+      let b : valueIn bs ns k j ≡ bareValue (p .value) = value-back bs ns k j (p .value) (value-of p w) (r .code) (r .decimals) (r .text-length)
+      (r .number) t in
+      let c : labelIn bs ns k j ≡ optional bareLabel (p .label) = label-back bs ns k j (p .label) (w .label) (r .label-length) u s in
+      λ d. record { key = a d; value = b d; label = c d; at = tt }
+
+  pub parts-back :
+      (j i : ℕ) (ps : List (Part P)) → Each PartWithin ps → PartsRead bs ns k j i ps → Each
+      (λ p. OfGiven (λ l. scoreIn bs ns k ≡ optional bareNumber (l .score)) (p .label)) ps
+      → tabled (partIn bs ns k) j (length ps) ≡ map barePart ps
+  unfolding tabled
+  parts-back j i [] w r s = refl
+  parts-back j i (p ∷ ps) w r s = ap₂ _∷_ (part-back j i p (w .0) (r .0) (s .0)) (parts-back (j + 1) (i + length (packed p)) ps (w .1) (r .1) (s .1))
+
+-- ---- scores: a bracket has at most one label, so its score is that label's
+module _ {P : Type 0} where
+  score-none : (ps : List (Part P)) → length (flat nameOf ps) ≤ 0 → scoreOf ps ≡ none
+  unfolding scoreOf flat
+  score-none [] h = refl
+  score-none (p ∷ ps) h = go (p .label) h (score-none ps)
+    where
+      go :
+          (l : Option (Label P)) → length (given l (λ l. l .name ∷ []) [] ++ flat nameOf ps) ≤ 0 → (length (flat nameOf ps) ≤ 0 → scoreOf ps ≡ none)
+          → given l (λ l. given (l .score) some (scoreOf ps)) (scoreOf ps) ≡ none
+      go none h e = e h
+      go (some l) h e = absurd (omega arith)
+
+  nothing-given : (Q : Label P → Type 0) (ps : List (Part P)) → length (flat nameOf ps) ≤ 0 → Each (λ p. OfGiven Q (p .label)) ps
+  unfolding flat
+  nothing-given Q [] h = tt
+  nothing-given Q (p ∷ ps) h = go (p .label) h (nothing-given Q ps)
+    where
+      go :
+          (l : Option (Label P)) → length (given l (λ l. l .name ∷ []) [] ++ flat nameOf ps) ≤ 0
+          → (length (flat nameOf ps) ≤ 0 → Each (λ p. OfGiven Q (p .label)) ps) → OfGiven Q l × Each (λ p. OfGiven Q (p .label)) ps
+      go none h e = (tt, e h)
+      go (some l) h e = absurd (omega arith)
+
+  or-none : (s : Option (Number P)) → given s some none ≡ s
+  or-none none = refl
+  or-none (some n) = refl
+
+  pub one-score : (ps : List (Part P)) → length (flat nameOf ps) ≤ 1 → Each (λ p. OfGiven (λ l. l .score ≡ scoreOf ps) (p .label)) ps
+  unfolding scoreOf flat
+  one-score [] h = tt
+  one-score (p ∷ ps) h = go (p .label) h (one-score ps)
+    where
+      go :
+          (l : Option (Label P)) → length (given l (λ l. l .name ∷ []) [] ++ flat nameOf ps) ≤ 1
+          → (length (flat nameOf ps) ≤ 1 → Each (λ p. OfGiven (λ l. l .score ≡ scoreOf ps) (p .label)) ps)
+          → OfGiven (λ m. m .score ≡ given l (λ l. given (l .score) some (scoreOf ps)) (scoreOf ps)) l
+          × Each (λ p. OfGiven (λ m. m .score ≡ given l (λ l. given (l .score) some (scoreOf ps)) (scoreOf ps)) (p .label)) ps
+      go none h e = (tt, e h)
+      go (some l) h e =
+          let z : length (flat nameOf ps) ≤ 0 = omega arith in (
+            sym (or-none (l .score)) ∙ ap (λ s. given (l .score) some s) (sym (score-none ps z)),
+            nothing-given (λ m. m .score ≡ given (l .score) some (scoreOf ps)) ps z,
+          )
+
+  pub score-within : (ps : List (Part P)) → Each PartWithin ps → OfGiven NumberWithin (scoreOf ps)
+  unfolding scoreOf
+  score-within [] w = tt
+  score-within (p ∷ ps) w = go (p .label) (w .0 .label) (score-within ps (w .1))
+    where
+      inLabel :
+          (s : Option (Number P)) → OfGiven NumberWithin s → OfGiven NumberWithin (scoreOf ps) → OfGiven NumberWithin (given s some (scoreOf ps))
+      inLabel none h e = e
+      inLabel (some n) h e = h
+
+      go :
+          (l : Option (Label P)) → OfGiven LabelWithin l → OfGiven NumberWithin (scoreOf ps)
+          → OfGiven NumberWithin (given l (λ l. given (l .score) some (scoreOf ps)) (scoreOf ps))
+      go none h e = e
+      go (some l) h e = inLabel (l .score) (h .score) e
+
+-- ---- brackets
+-- what is read of bracket k, whose texts begin at i among the texts
+pub record BracketRead {P : Type 0} (bs : List ℕ) (ns : List ℤ) (k i : ℕ) (b : Bracket P) : Type 0 where
+  pub kind : byteAt bs (rowAt k) ≡ kindCode (b .kind)
+  pub first : byteAt bs (rowAt k + 1) ≡ b .first
+  pub last : byteAt bs (rowAt k + 2) ≡ b .last
+  pub count : byteAt bs (rowAt k + 3) ≡ b .count
+  pub many : byteAt bs (rowAt k + 4) ≡ length (b .parts)
+  pub score : byteAt bs (rowAt k + 5) ≡ scoreCode (scoreOf (b .parts))
+  pub number : getD ns (k * 5 + 4) (pos 0) ≡ given (scoreOf (b .parts)) millionths (pos 0)
+  pub parts : PartsRead bs ns k 0 i (b .parts)
+
+-- of the brackets from bracket k on
+abbrev pub BracketsRead : {P : Type 0} → List ℕ → List ℤ → ℕ → ℕ → List (Bracket P) → Type 0
+BracketsRead bs ns k i [] = Unit {0}
+BracketsRead bs ns k i (b ∷ ks) = BracketRead bs ns k i b × BracketsRead bs ns (k + 1) (i + length (bracketTexts b)) ks
+
+module _ {P : Type 0} (bs : List ℕ) (ns : List ℤ) where
+  bracket-read :
+      (k i : ℕ) (b : Bracket P) → length (b .parts) ≤ 4 → At bs (rowAt k) (bracketRow i b) → At ns (k * 5) (numberRow b)
+      → At bs (2686 + i) (bracketTexts b) → BracketRead bs ns k i b
+  bracket-read k i b h a m t =
+      let masses = map (λ p. massIn (p .value)) (b .parts) in
+      let score = given (scoreOf (b .parts)) millionths (pos 0) in
+      let e : length (padded (pos 0) 4 masses) ≡ 4 = padded-length (pos 0) 4 masses (rw (length-map (b .parts) (λ p. massIn (p .value))) h) in
+      record {
+        kind = at-head bs (rowAt k) _ _ a 0;
+        first = at-read bs (rowAt k) (bracketRow i b) a 1 0;
+        last = at-read bs (rowAt k) (bracketRow i b) a 2 0;
+        count = at-read bs (rowAt k) (bracketRow i b) a 3 0;
+        many = at-read bs (rowAt k) (bracketRow i b) a 4 0;
+        score = at-read bs (rowAt k) (bracketRow i b) a 5 0;
+        number = at-head ns (k * 5 + 4) score [] (at-next ns (k * 5) (padded (pos 0) 4 masses) (score ∷ []) 4 (k * 5 + 4) e refl m) (pos 0);
+        parts =
+            parts-read bs ns k 0 i (b .parts)
+            (at-first bs (partAt k 0) (partRows i (b .parts)) (replicate (28 - length (partRows i (b .parts))) 0)
+            (at-next bs (rowAt k) (kindCode (b .kind) ∷ b .first ∷ b .last ∷ b .count ∷ length (b .parts) ∷ scoreCode (scoreOf (b .parts)) ∷ [])
+            (padded 0 28 (partRows i (b .parts))) 6 (partAt k 0) refl (omega arith) a))
+            (at-first ns (k * 5 + 0) masses (replicate (4 - length masses) (pos 0))
+            (at-next ns (k * 5) [] (padded (pos 0) 4 masses) 0 (k * 5 + 0) refl refl
+            (at-first ns (k * 5) (padded (pos 0) 4 masses) (score ∷ []) m)))
+            t;
+      }
+
+  pub brackets-read :
+      (n k i : ℕ) (ks : List (Bracket P)) → Each (BracketWithin n) ks → At bs (rowAt k) (rows i ks) → At ns (k * 5) (flat numberRow ks) → At bs
+      (2686 + i) (flat bracketTexts ks)
+      → BracketsRead bs ns k i ks
+  unfolding rows flat
+  brackets-read n k i [] w a m t = tt
+  brackets-read n k i (b ∷ ks) w a m t =
+      let few : length (b .parts) ≤ 4 = w .0 .few-parts in
+      let next = i + length (bracketTexts b) in (
+        bracket-read k i b few
+            (at-first bs (rowAt k) (bracketRow i b) (rows next ks) a)
+            (at-first ns (k * 5) (numberRow b) (flat numberRow ks) m)
+            (at-first bs (2686 + i) (bracketTexts b) (flat bracketTexts ks) t),
+        brackets-read n (k + 1) next ks (w .1)
+            (at-next bs (rowAt k) (bracketRow i b) (rows next ks) 34 (rowAt (k + 1)) (bracket-row-length i b few) (omega arith) a)
+            (at-next ns (k * 5) (numberRow b) (flat numberRow ks) 5 ((k + 1) * 5) (number-row-length b few) (omega arith) m)
+            (at-next bs (2686 + i) (bracketTexts b) (flat bracketTexts ks) (length (bracketTexts b)) (2686 + next) refl (omega arith) t),
+      )
+
+  score-back :
+      (k : ℕ) (s : Option (Number P)) → OfGiven NumberWithin s → byteAt bs (rowAt k + 5) ≡ scoreCode s → getD ns (k * 5 + 4)
+      (pos 0) ≡ given s millionths (pos 0)
+      → scoreIn bs ns k ≡ optional bareNumber s
+  score-back k none w e m = rw e
+  score-back k (some n) w e m =
+      let z : eqb (n .decimals + 1) 0 ≡ false = ne-eqb (n .decimals + 1) 0 (λ q. omega arith) in
+      let d : n .decimals + 1 - 1 ≡ n .decimals = omega arith in
+      rw (e, m, z, d) (ap some (number-back n w))
+
+  scores-back :
+      (k : ℕ) (s : Option (Number P)) (ps : List (Part P)) → scoreIn bs ns k ≡ optional bareNumber s
+      → Each (λ p. OfGiven (λ l. l .score ≡ s) (p .label)) ps
+      → Each (λ p. OfGiven (λ l. scoreIn bs ns k ≡ optional bareNumber (l .score)) (p .label)) ps
+  scores-back k s [] e h = tt
+  scores-back k s (p ∷ ps) e h = (go (p .label) (h .0), scores-back k s ps e (h .1))
+    where
+      go : (l : Option (Label P)) → OfGiven (λ l. l .score ≡ s) l → OfGiven (λ l. scoreIn bs ns k ≡ optional bareNumber (l .score)) l
+      go none q = tt
+      go (some l) q = e ∙ ap (optional bareNumber) (sym q)
+
+  bracket-back : (n k i : ℕ) (b : Bracket P) → BracketWithin n b → BracketRead bs ns k i b → bracketIn bs ns k ≡ bareBracket b
+  unfolding bracketIn
+  bracket-back n k i b w r =
+      let s : scoreIn bs ns k ≡ optional bareNumber (scoreOf (b .parts)) = score-back k (scoreOf (b .parts)) (score-within (b .parts) (w .parts))
+      (r .score) (r .number) in
+      let ps : tabled (partIn bs ns k) 0 (byteAt bs (rowAt k + 4)) ≡ map barePart (b .parts) =
+      ap (tabled (partIn bs ns k) 0) (r .many)
+      ∙ parts-back bs ns k 0 i (b .parts) (w .parts) (r .parts)
+      (scores-back k (scoreOf (b .parts)) (b .parts) s (one-score (b .parts) (w .one-label))) in
+      let c : kindIn (byteAt bs (rowAt k)) ≡ b .kind = ap kindIn (r .kind) ∙ kind-back (b .kind) in
+      λ d. record { kind = c d; first = r .first d; last = r .last d; count = r .count d; counted = none; parts = ps d; at = tt }
+
+  pub brackets-back :
+      (n k i : ℕ) (ks : List (Bracket P)) → Each (BracketWithin n) ks → BracketsRead bs ns k i ks
+      → tabled (bracketIn bs ns) k (length ks) ≡ map bareBracket ks
+  unfolding tabled
+  brackets-back n k i [] w r = refl
+  brackets-back n k i (b ∷ ks) w r = ap₂ _∷_ (bracket-back n k i b (w .0) (r .0))
+      (brackets-back n (k + 1) (i + length (bracketTexts b)) ks (w .1) (r .1))
+
+-- ---- residues
+residues-back :
+    {P : Type 0} (bs : List ℕ) (i : ℕ) (rs : List (Residue P)) → At bs (2 + i) (map (λ r. r .letter) rs) → At bs (256 + i)
+    (map (λ r. sectionCode (r .section)) rs)
+    → tabled (residueIn bs) i (length rs) ≡ map bareResidue rs
+unfolding tabled
+residues-back bs i [] a c = refl
+residues-back bs i (r ∷ rs) a c =
+    let x : byteAt bs (2 + i) ≡ r .letter = at-head bs (2 + i) _ _ a 0 in
+    let y : sectionIn (byteAt bs (256 + i)) ≡ r .section = ap sectionIn (at-head bs (256 + i) _ _ c 0) ∙ section-back (r .section) in
+    ap₂ _∷_ (λ d. record { letter = x d; section = y d; at = tt })
+    (residues-back bs (i + 1) rs
+    (at-next bs (2 + i) (r .letter ∷ []) (map (λ r. r .letter) rs) 1 (2 + (i + 1)) refl (omega arith) a)
+    (at-next bs (256 + i) (sectionCode (r .section) ∷ []) (map (λ r. sectionCode (r .section)) rs) 1 (256 + (i + 1)) refl (omega arith) c))
+
+-- ---- the whole areas
+pub record AreasRead {P : Type 0} (bs : List ℕ) (ns : List ℤ) (l : Line P) : Type 0 where
+  pub residues-many : byteAt bs 0 ≡ length (l .residues)
+  pub brackets-many : byteAt bs 1 ≡ length (l .brackets)
+  pub letters : At bs 2 (map (λ r. r .letter) (l .residues))
+  pub sections : At bs 256 (map (λ r. sectionCode (r .section)) (l .residues))
+  pub brackets : BracketsRead bs ns 0 0 (l .brackets)
+
+module _ {P : Type 0} where
+  pub rows-length : (n i : ℕ) (ks : List (Bracket P)) → Each (BracketWithin n) ks → length (rows i ks) ≡ length ks * 34
+  unfolding rows
+  rows-length n i [] w = refl
+  rows-length n i (k ∷ ks) w =
+      let e = bracket-row-length i k (w .0 .few-parts) in
+      let f = rows-length n (i + length (bracketTexts k)) ks (w .1) in
+      length-append (bracketRow i k) (rows (i + length (bracketTexts k)) ks) ∙ omega arith
+
+  pub number-rows-length : (n : ℕ) (ks : List (Bracket P)) → Each (BracketWithin n) ks → length (flat numberRow ks) ≡ length ks * 5
+  unfolding flat
+  number-rows-length n [] w = refl
+  number-rows-length n (k ∷ ks) w =
+      let e = number-row-length k (w .0 .few-parts) in
+      let f = number-rows-length n ks (w .1) in
+      length-append (numberRow k) (flat numberRow ks) ∙ omega arith
+
+module _ {P : Type 0} (l : Line P) (within : Within l) where
+  -- the five pieces of the area of bytes
+  abbrev numbers : List ℕ
+  numbers = length (l .residues) ∷ length (l .brackets) ∷ []
+
+  abbrev letters : List ℕ
+  letters = padded 0 254 (map (λ r. r .letter) (l .residues))
+
+  abbrev sections : List ℕ
+  sections = padded 0 254 (map (λ r. sectionCode (r .section)) (l .residues))
+
+  abbrev brackets : List ℕ
+  brackets = padded 0 2176 (rows 0 (l .brackets))
+
+  abbrev texts : List ℕ
+  texts = padded 0 4096 (flat bracketTexts (l .brackets))
+
+  letters-length : length letters ≡ 254
+  letters-length = padded-length 0 254 (map (λ r. r .letter) (l .residues)) (rw (length-map (l .residues) (λ r. r .letter)) (within .few-residues))
+
+  sections-length : length sections ≡ 254
+  sections-length = padded-length 0 254 (map (λ r. sectionCode (r .section)) (l .residues))
+      (rw (length-map (l .residues) (λ r. sectionCode (r .section))) (within .few-residues))
+
+  brackets-length : length brackets ≡ 2176
+  brackets-length =
+      let e = rows-length (length (l .residues)) 0 (l .brackets) (within .brackets) in
+      let few = within .few-brackets in
+      padded-length 0 2176 (rows 0 (l .brackets)) (omega arith)
+
+  texts-length : length texts ≡ 4096
+  texts-length = padded-length 0 4096 (flat bracketTexts (l .brackets)) (within .texts)
+
+  pub bytes-length : length (bytesOf l) ≡ 6782
+  unfolding bytesOf
+  bytes-length =
+      let a = letters-length in
+      let b = sections-length in
+      let c = brackets-length in
+      let d = texts-length in
+      let e = length-append letters (sections ++ (brackets ++ texts)) in
+      let f = length-append sections (brackets ++ texts) in
+      let g = length-append brackets texts in
+      omega arith
+
+  pub numbers-length : length (numbersOf l) ≡ 320
+  unfolding numbersOf
+  numbers-length =
+      let e = number-rows-length (length (l .residues)) (l .brackets) (within .brackets) in
+      let few = within .few-brackets in
+      padded-length (pos 0) 320 (flat numberRow (l .brackets)) (omega arith)
+
+  pub areas-read : (w : List ℕ) (v : List ℤ) → AreasRead (bytesOf l ++ w) (numbersOf l ++ v) l
+  unfolding bytesOf numbersOf
+  areas-read w v =
+      let bs = bytesOf l ++ w in
+      let ns = numbersOf l ++ v in
+      let a0 : At bs 0 (numbers ++ (letters ++ (sections ++ (brackets ++ texts)))) = at-start (bytesOf l) w in
+      let a1 : At bs 2 (letters ++ (sections ++ (brackets ++ texts))) = at-next bs 0 numbers
+      (letters ++ (sections ++ (brackets ++ texts))) 2 2 refl refl a0 in
+      let a2 : At bs 256 (sections ++ (brackets ++ texts)) = at-next bs 2 letters (sections ++ (brackets ++ texts)) 254 256 letters-length refl a1 in
+      let a3 : At bs 510 (brackets ++ texts) = at-next bs 256 sections (brackets ++ texts) 254 510 sections-length refl a2 in
+      let a4 : At bs 2686 texts = at-next bs 510 brackets texts 2176 2686 brackets-length refl a3 in
+      record {
+        residues-many = refl;
+        brackets-many = refl;
+        letters = at-first bs 2 (map (λ r. r .letter) (l .residues)) _ (at-first bs 2 letters (sections ++ (brackets ++ texts)) a1);
+        sections = at-first bs 256 (map (λ r. sectionCode (r .section)) (l .residues)) _ (at-first bs 256 sections (brackets ++ texts) a2);
+        brackets =
+            brackets-read bs ns (length (l .residues)) 0 0 (l .brackets) (within .brackets)
+            (at-first bs 510 (rows 0 (l .brackets)) _ (at-first bs 510 brackets texts a3))
+            (at-first ns 0 (flat numberRow (l .brackets)) _ (at-start (numbersOf l) v))
+            (at-first bs 2686 (flat bracketTexts (l .brackets)) _ a4);
+      }
+
+  pub tables-read : (bs : List ℕ) (ns : List ℤ) → AreasRead bs ns l → tablesIn bs ns ≡ tablesOf l
+  unfolding tablesIn tablesOf
+  tables-read bs ns r =
+      ap₂ (λ a b. record { residues = a; brackets = b })
+      (ap (tabled (residueIn bs) 0) (r .residues-many) ∙ residues-back bs 0 (l .residues) (r .letters) (r .sections))
+      (ap (tabled (bracketIn bs ns) 0) (r .brackets-many) ∙ brackets-back bs ns (length (l .residues)) 0 0 (l .brackets) (within .brackets)
+      (r .brackets))
+
+  pub tables-back : (w : List ℕ) (v : List ℤ) → tablesIn (bytesOf l ++ w) (numbersOf l ++ v) ≡ tablesOf l
+  tables-back w v = tables-read (bytesOf l ++ w) (numbersOf l ++ v) (areas-read w v)

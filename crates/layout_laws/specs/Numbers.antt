@@ -1,0 +1,55 @@
+-- A mass or score in millionths: its number is read back from it, and its size is bounded.
+use mathlib.Core.Path.{_≡_, refl, sym, ap, ap₂, _∙_}
+use mathlib.Core.Bool.{Bool, true, false}
+use Prim.Native.Nat.{ℕ, zero, suc, _+_, _-_, _*_, _/_, _^_, _≤_, _<_}
+use native.Mathlib.Omega.{arith}
+use native.Mathlib.Nat.{mul-pos, mul-assoc, mul-div-cancel, mul-lt-mul-of-pos-right, one-le-pow}
+use lib.Dec.{leb}
+use lib.IntN.{natAbs}
+use lib.Pow.{pow-add}
+use borrow.Author.Tests.{leb-true, ltb-true}
+use Rattle.scope.specs.Line.{Number}
+use Rattle.scope.specs.Tables.{bareNumber, signed, millionths, isNegative, numberIn}
+use Rattle.areas.specs.Bounds.{Small}
+use Rattle.layout_laws.specs.Lists.{and-left, and-right}
+use Rattle.layout_laws.specs.Within.{NumberWithin}
+
+sign-back : (s : Bool) (m : ℕ) → (s ≡ true → 0 < m) → isNegative (signed s m) ≡ s
+sign-back true zero h = let z : 0 < 0 = h refl in absurd (omega arith)
+sign-back true (suc m) h = refl
+sign-back false m h = refl
+
+size-back : (s : Bool) (m : ℕ) → natAbs (signed s m) ≡ m
+size-back true zero = refl
+size-back true (suc m) = refl
+size-back false m = refl
+
+tens : (d : ℕ) → 0 < 10 ^ d
+tens d = one-le-pow d 10 (omega arith)
+
+module _ {P : Type 0} (n : Number P) (w : NumberWithin n) where
+  pub few-decimals : n .decimals ≤ 6
+  few-decimals = leb-true (n .decimals) 6 (and-left _ _ (w .range))
+
+  pub number-back : numberIn (millionths n) (n .decimals) ≡ bareNumber n
+  number-back =
+      ap₂ (λ a b. record { minus = a; digits = b; decimals = n .decimals; at = tt })
+      (sign-back (n .minus) (n .digits * 10 ^ (6 - n .decimals)) (λ e. mul-pos (w .sign e) (tens (6 - n .decimals))))
+      (ap (λ z. z / 10 ^ (6 - n .decimals)) (size-back (n .minus) (n .digits * 10 ^ (6 - n .decimals))) ∙ mul-div-cancel (n .digits)
+      (tens (6 - n .decimals)))
+
+  full : 1000000 * 10 ^ (n .decimals) * 10 ^ (6 - n .decimals) ≡ 1000000 * 10 ^ 6
+  full =
+      mul-assoc 1000000 (10 ^ (n .decimals)) (10 ^ (6 - n .decimals))
+      ∙ ap (λ z. 1000000 * z) (sym (pow-add 10 (n .decimals) (6 - n .decimals)))
+      ∙ ap (λ z. 1000000 * 10 ^ z) (sum few-decimals)
+    where
+      sum : n .decimals ≤ 6 → n .decimals + (6 - n .decimals) ≡ 6
+      sum h = omega arith
+
+  pub small : Small (millionths n)
+  small =
+      rw (size-back (n .minus) (n .digits * 10 ^ (6 - n .decimals)))
+      (rw full at
+      (mul-lt-mul-of-pos-right (ltb-true (n .digits) (1000000 * 10 ^ (n .decimals)) (and-right (leb (n .decimals) 6) _ (w .range)))
+      (tens (6 - n .decimals))))

@@ -1,0 +1,554 @@
+-- What the reader's state keeps to, byte by byte, and so what every line that is read keeps to, limits apart.
+use mathlib.Core.Path.{_≡_, refl, sym, ap, ap₂, _∙_, subst}
+use mathlib.Core.Bool.{Bool, true, false, not, cond, _&&_, _||_, false≢true, true≢false}
+use mathlib.Core.Option.{Option, none, some}
+use mathlib.Core.List.{List, [], _∷_, _++_, map}
+use Prim.Native.Nat.{ℕ, suc, _+_, _*_, _-_, _≤_, _<_}
+use native.Mathlib.Omega.{arith}
+use native.Mathlib.Nat.{add-zero}
+use lib.Dec.{eqb}
+use lib.ListN.{length, length-append}
+use Rattle.scope.specs.declared.grammar.Section.{Section}
+use Rattle.scope.specs.declared.grammar.Section.the-variants.{Plain, RangeFirst, RangeNext, UnsureFirst, UnsureNext}
+use Rattle.scope.specs.declared.grammar.Kind.{Kind}
+use Rattle.scope.specs.declared.grammar.Kind.the-variants.{Unknown, Labile, NTerm, OnResidue, OnRange, CTerm}
+use Rattle.scope.specs.declared.grammar.Mode.{Mode}
+use Rattle.scope.specs.declared.grammar.Mode.the-variants.{Front, Undecided, Counted, Referred, Caret, Counting, Labiles, NTerms, Start, Single, Opened, UnsureOpened, InRange, InUnsure, RangeEnd, Ranged, UnsureEnd, CStart, CTerms}
+use Rattle.scope.specs.declared.grammar.Slot.{Slot}
+use Rattle.scope.specs.declared.grammar.Act.{Act}
+use Rattle.scope.specs.declared.grammar.Act.the-variants.{Stop, Go, Residue as aResidue, Begin, Digit, RunEnds, TermEnds}
+use Rattle.scope.specs.Bytes.{upper, isLower, isLetter, isDigit, openSquare, openCurly, openRound, shutRound, caret, question, dash}
+use Rattle.scope.specs.Line.{Part, Bracket, Residue, Line}
+use Rattle.scope.specs.Content.{given, isReference, Inner, Content, lost, closed, going, innerStep}
+use Rattle.scope.specs.Reading.{square, front, labile, element, further, groupFirst, inGroup, undecided, counted, referred, act, mayEnd, Held, firstOf, withResidue, firstPosition, lastPosition, bracketOf, settled, waiting, withBracket, times, countDigit, onLast, withDigit, asNTerm, settledRun, State, dead, outside, inside, perform, refers?, resume, step, run, start, stuck, holds, lineOf, ended, reading}
+use Rattle.scope.specs.Modifications.{flat}
+use Rattle.scope.specs.Refusals.{isUnknown}
+use Rattle.scope.specs.Tables.{bracketTexts}
+use Rattle.layout_laws.specs.Within.{Each, Byte, Nowhere, Stands}
+use Rattle.layout_laws.specs.Lists.{and-left, and-right}
+use Rattle.layout_laws.specs.Each.{each-append, each-map, each-one, each-two}
+use Rattle.layout_laws.specs.Inside.{branch, flat-append, flat-one, PartShape, PartsShape, Carried, InnerKeeps, ContentKeeps, inner-step}
+
+-- ---- the order of a line: where a residue was read, and where no count was
+abbrev late : Mode → Bool
+late Front = false
+late Undecided = false
+late Counted = false
+late Referred = false
+late Caret = false
+late Counting = false
+late Labiles = false
+late NTerms = false
+late Start = false
+late Single = true
+late Opened = false
+late UnsureOpened = false
+late InRange = true
+late InUnsure = true
+late RangeEnd = true
+late Ranged = true
+late UnsureEnd = true
+late CStart = true
+late CTerms = true
+
+abbrev countless : Mode → Bool
+countless Front = true
+countless Undecided = true
+countless Counted = false
+countless Referred = true
+countless Caret = false
+countless Counting = false
+countless Labiles = false
+countless NTerms = false
+countless Start = false
+countless Single = false
+countless Opened = false
+countless UnsureOpened = false
+countless InRange = false
+countless InUnsure = false
+countless RangeEnd = false
+countless Ranged = false
+countless UnsureEnd = false
+countless CStart = false
+countless CTerms = false
+
+-- what is kept to in m is kept to in n, where nothing is read between them
+abbrev leads : Mode → Mode → Bool
+leads m n = (not (late n) || late m) && (not (countless n) || countless m)
+
+abbrev ActKeeps : Mode → Act → Type 0
+ActKeeps m Stop = Unit {0}
+ActKeeps m (Go n) = leads m n ≡ true
+ActKeeps m (aResidue s n) = countless n ≡ false
+ActKeeps m (Begin s) = (leads m (s .after) ≡ true) × (leads m (s .referred) ≡ true)
+ActKeeps m Digit = Unit {0}
+ActKeeps m RunEnds = Unit {0}
+ActKeeps m TermEnds = countless m ≡ true
+
+either : (m : Mode) (t : Bool) (x y : Act) → ActKeeps m x → ActKeeps m y → ActKeeps m (cond t x y)
+either m t x y f g = branch t (ActKeeps m) x y (λ e. f) (λ e. g)
+
+element-keeps : (m : Mode) (b : ℕ) → ActKeeps m (element b)
+unfolding element
+element-keeps m b = either m (isLetter b) (aResidue Plain Single) _ refl (either m (eqb b openRound) (Go Opened) Stop refl tt)
+
+further-keeps : (m : Mode) (b : ℕ) → late m ≡ true → ActKeeps m (further b)
+unfolding further
+further-keeps m b e = either m (eqb b dash) (Go CStart) (element b) (rw e) (element-keeps m b)
+
+pub act-keeps : (m : Mode) (b : ℕ) → ActKeeps m (act m b)
+unfolding act groupFirst inGroup undecided counted referred
+act-keeps Front b = either Front (eqb b openSquare) (Begin front) _ (refl, refl)
+    (either Front (eqb b openCurly) (Begin labile) (element b) (refl, refl) (element-keeps Front b))
+act-keeps Undecided b =
+    either Undecided (eqb b caret) (Go Caret) _ refl
+    (either Undecided (eqb b openSquare) (Begin front) _ (refl, refl)
+    (either Undecided (eqb b question) RunEnds _ tt
+    (either Undecided (eqb b dash) TermEnds Stop refl tt)))
+act-keeps Counted b =
+    either Counted (eqb b caret) (Go Caret) _ refl
+    (either Counted (eqb b openSquare) (Begin (square Unknown false Counted)) _ (refl, refl) (either Counted (eqb b question) RunEnds Stop tt tt))
+act-keeps Referred b = either Referred (eqb b openSquare) (Begin (square Unknown true Referred)) _ (refl, refl)
+    (either Referred (eqb b dash) TermEnds Stop refl tt)
+act-keeps Caret b = either Caret (isDigit b) Digit Stop tt tt
+act-keeps Counting b =
+    either Counting (isDigit b) Digit _ tt
+    (either Counting (eqb b openSquare) (Begin (square Unknown false Counted)) _ (refl, refl) (either Counting (eqb b question) RunEnds Stop tt tt))
+act-keeps Labiles b =
+    either Labiles (eqb b openCurly) (Begin labile) _ (refl, refl)
+    (either Labiles (eqb b openSquare) (Begin (square NTerm true NTerms)) (element b) (refl, refl) (element-keeps Labiles b))
+act-keeps NTerms b = either NTerms (eqb b openSquare) (Begin (square NTerm true NTerms)) _ (refl, refl)
+    (either NTerms (eqb b dash) (Go Start) Stop refl tt)
+act-keeps Start b = element-keeps Start b
+act-keeps Single b = either Single (eqb b openSquare) (Begin (square OnResidue true Single)) (further b) (refl, refl) (further-keeps Single b refl)
+act-keeps Opened b = either Opened (eqb b question) (Go UnsureOpened) _ refl (either Opened (isLetter b) (aResidue RangeFirst InRange) Stop refl tt)
+act-keeps UnsureOpened b = either UnsureOpened (isLetter b) (aResidue UnsureFirst InUnsure) Stop refl tt
+act-keeps InRange b =
+    either InRange (isLetter b) (aResidue RangeNext InRange) _ refl
+    (either InRange (eqb b openSquare) (Begin (square OnResidue true InRange)) _ (refl, refl)
+    (either InRange (eqb b shutRound) (Go RangeEnd) Stop refl tt))
+act-keeps InUnsure b =
+    either InUnsure (isLetter b) (aResidue UnsureNext InUnsure) _ refl
+    (either InUnsure (eqb b openSquare) (Begin (square OnResidue true InUnsure)) _ (refl, refl)
+    (either InUnsure (eqb b shutRound) (Go UnsureEnd) Stop refl tt))
+act-keeps RangeEnd b = either RangeEnd (eqb b openSquare) (Begin (square OnRange false Ranged)) Stop (refl, refl) tt
+act-keeps Ranged b = either Ranged (eqb b openSquare) (Begin (square OnRange false Ranged)) (further b) (refl, refl) (further-keeps Ranged b refl)
+act-keeps UnsureEnd b = further-keeps UnsureEnd b refl
+act-keeps CStart b = either CStart (eqb b openSquare) (Begin (square CTerm true CTerms)) Stop (refl, refl) tt
+act-keeps CTerms b = either CTerms (eqb b openSquare) (Begin (square CTerm true CTerms)) Stop (refl, refl) tt
+
+end-late : (m : Mode) → mayEnd m ≡ true → late m ≡ true
+end-late Front e = e
+end-late Undecided e = e
+end-late Counted e = e
+end-late Referred e = e
+end-late Caret e = e
+end-late Counting e = e
+end-late Labiles e = e
+end-late NTerms e = e
+end-late Start e = e
+end-late Single e = e
+end-late Opened e = e
+end-late UnsureOpened e = e
+end-late InRange e = refl
+end-late InUnsure e = refl
+end-late RangeEnd e = refl
+end-late Ranged e = e
+end-late UnsureEnd e = e
+end-late CStart e = refl
+end-late CTerms e = e
+
+-- ---- what is read so far
+pub record BracketShape {P : Type 0} (n : ℕ) (k : Bracket P) : Type 0 where
+  pub some-part : 0 < length (k .parts)
+  pub parts : Each PartShape (k .parts)
+  pub lone : Each (λ p. isReference (p .value) ≡ true → length (k .parts) ≡ 1) (k .parts)
+  pub stands : Stands (k .kind) (k .first) (k .last) n
+  pub uncounted : isUnknown (k .kind) ≡ false → k .counted ≡ none
+  pub single : k .counted ≡ none → k .count ≡ 1
+
+-- a bracket at the front, whose kind is not settled
+pub record RunShape {P : Type 0} (k : Bracket P) : Type 0 where
+  pub some-part : 0 < length (k .parts)
+  pub parts : Each PartShape (k .parts)
+  pub lone : Each (λ p. isReference (p .value) ≡ true → length (k .parts) ≡ 1) (k .parts)
+  pub unknown : k .kind ≡ Unknown
+  pub stands : Nowhere (k .first) (k .last)
+  pub single : k .counted ≡ none → k .count ≡ 1
+
+-- of m bytes read
+pub record HeldKeeps {P : Type 0} (m : ℕ) (h : Held P) : Type 0 where
+  pub letters : Each (λ r. Byte (r .letter)) (h .residues)
+  pub group : h .first ≤ length (h .residues)
+  pub brackets : Each (BracketShape (length (h .residues))) (h .brackets)
+  pub run : Each RunShape (h .run)
+  pub fits : length (flat bracketTexts (h .brackets)) + length (flat bracketTexts (h .run)) ≤ m
+
+pub record ModeKeeps {P : Type 0} (m : Mode) (h : Held P) : Type 0 where
+  pub some-residue : late m ≡ true → 0 < length (h .residues)
+  pub uncounted : countless m ≡ true → Each (λ k. k .counted ≡ none) (h .run)
+
+pub record InsideKeeps {P : Type 0} (m : ℕ) (s : Slot) (h : Held P) (c : Inner P) : Type 0 where
+  pub before : ℕ
+  pub inner : ℕ
+  pub fits : before + inner ≤ m
+  pub held : HeldKeeps before h
+  pub content : InnerKeeps inner c
+  pub after : ModeKeeps (s .after) h
+  pub referred : ModeKeeps (s .referred) h
+
+abbrev pub StateKeeps : {P : Type 0} → ℕ → State P → Type 0
+StateKeeps m (dead p) = Unit {0}
+StateKeeps m (outside o h) = HeldKeeps m h × ModeKeeps o h
+StateKeeps m (inside s at h c) = InsideKeeps m s h c
+
+implied : (a b : Bool) → (not a || b) ≡ true → a ≡ true → b ≡ true
+implied true b e f = e
+implied false b e f = absurd (false≢true f)
+
+upper-byte : (b : ℕ) → Byte b → Byte (upper b)
+unfolding upper
+upper-byte b h = branch (isLower b) Byte (b - 32) b (λ e. omega arith) (λ e. h)
+
+-- one residue more leaves brackets where they stand
+stands-more : (k : Kind) (first last n : ℕ) → Stands k first last n → Stands k first last (n + 1)
+stands-more Unknown first last n s = s
+stands-more Labile first last n s = s
+stands-more NTerm first last n s = s
+stands-more OnResidue first last n s = omega arith
+stands-more OnRange first last n s = omega arith
+stands-more CTerm first last n s = omega arith
+
+stands-new : (k : Kind) (a n : ℕ) → a ≤ n → Stands k (firstPosition k n a) (lastPosition k n) n
+stands-new Unknown a n h = omega arith
+stands-new Labile a n h = omega arith
+stands-new NTerm a n h = omega arith
+stands-new OnResidue a n h = omega arith
+stands-new OnRange a n h = omega arith
+stands-new CTerm a n h = omega arith
+
+first-new : (s : Section) (a n : ℕ) → a ≤ n → firstOf s (n + 1) a ≤ n + 1
+first-new Plain a n h = omega arith
+first-new RangeFirst a n h = omega arith
+first-new RangeNext a n h = omega arith
+first-new UnsureFirst a n h = omega arith
+first-new UnsureNext a n h = omega arith
+
+unknown-not : (k : Kind) → k ≡ Unknown → isUnknown k ≡ false → ⊥
+unknown-not k e f = true≢false (sym (ap isUnknown e) ∙ f)
+
+module _ {P : Type 0} where
+  lead : (m n : Mode) (h : Held P) → leads m n ≡ true → ModeKeeps m h → ModeKeeps n h
+  lead m n h e w =
+      record {
+        some-residue = λ f. w .some-residue (implied (late n) (late m) (and-left _ _ e) f);
+        uncounted = λ f. w .uncounted (implied (countless n) (countless m) (and-right (not (late n) || late m) _ e) f);
+      }
+
+  held-more : (h : Held P) (m n : ℕ) → m ≤ n → HeldKeeps m h → HeldKeeps n h
+  held-more h m n e w = let x = w .fits in record { letters = w .letters; group = w .group; brackets = w .brackets; run = w .run; fits = omega arith }
+
+  shape-more : (n : ℕ) (k : Bracket P) → BracketShape n k → BracketShape (n + 1) k
+  shape-more n k w =
+      record {
+        some-part = w .some-part;
+        parts = w .parts;
+        lone = w .lone;
+        stands = stands-more (k .kind) (k .first) (k .last) n (w .stands);
+        uncounted = w .uncounted;
+        single = w .single;
+      }
+
+  residue-keeps : (i : P) (b : ℕ) (s : Section) (h : Held P) (m : ℕ) → Byte b → HeldKeeps m h → HeldKeeps m (withResidue i b s h)
+  residue-keeps i b s h m q w =
+      let new : List (Residue P) = record { letter = upper b; section = s; at = i } ∷ [] in
+      let l : length (h .residues ++ new) ≡ length (h .residues) + 1 = length-append (h .residues) new in
+      record {
+        letters = each-append (λ r. Byte (r .letter)) (h .residues) new (w .letters) (upper-byte b q, tt);
+        group = rw l (first-new s (h .first) (length (h .residues)) (w .group));
+        brackets = rw l
+            (each-one (BracketShape (length (h .residues))) (BracketShape (length (h .residues) + 1)) (shape-more (length (h .residues)))
+            (h .brackets) (w .brackets));
+        run = w .run;
+        fits = w .fits;
+      }
+
+  -- ---- a bracket is closed
+  bracket-shape :
+      (k : Kind) (i : P) (ps : List (Part P)) (h : Held P) (q : ℕ) → h .first ≤ length (h .residues) → PartsShape q ps
+      → BracketShape (length (h .residues)) (bracketOf k i ps h)
+  bracket-shape k i ps h q g w =
+      record {
+        some-part = w .some-part;
+        parts = w .parts;
+        lone = w .lone;
+        stands = stands-new k (h .first) (length (h .residues)) g;
+        uncounted = λ e. refl;
+        single = λ e. refl;
+      }
+
+  settled-keeps :
+      (k : Bracket P) (h : Held P) (m q : ℕ) → HeldKeeps m h → BracketShape (length (h .residues)) k → length (bracketTexts k) ≤ q
+      → HeldKeeps (m + q) (settled k h)
+  settled-keeps k h m q w s e =
+      let x = w .fits in
+      let y = flat-append bracketTexts (h .brackets) (k ∷ []) in
+      let z = flat-one bracketTexts k in
+      record {
+        letters = w .letters;
+        group = w .group;
+        brackets = each-append (BracketShape (length (h .residues))) (h .brackets) (k ∷ []) (w .brackets) (s, tt);
+        run = w .run;
+        fits = omega arith;
+      }
+
+  waiting-keeps : (k : Bracket P) (h : Held P) (m q : ℕ) → HeldKeeps m h → RunShape k → length (bracketTexts k) ≤ q → HeldKeeps (m + q) (waiting k h)
+  waiting-keeps k h m q w s e =
+      let x = w .fits in
+      let y = flat-append bracketTexts (h .run) (k ∷ []) in
+      let z = flat-one bracketTexts k in
+      record {
+        letters = w .letters;
+        group = w .group;
+        brackets = w .brackets;
+        run = each-append RunShape (h .run) (k ∷ []) (w .run) (s, tt);
+        fits = omega arith;
+      }
+
+  bracket-keeps :
+      (k : Kind) (i : P) (ps : List (Part P)) (h : Held P) (m q : ℕ) → HeldKeeps m h → PartsShape q ps → HeldKeeps (m + q) (withBracket k i ps h)
+  bracket-keeps Unknown i ps h m q w s =
+      waiting-keeps (bracketOf Unknown i ps h) h m q w
+      (record {
+        some-part = s .some-part;
+        parts = s .parts;
+        lone = s .lone;
+        unknown = refl;
+        stands =
+            record { first-0 = refl; last-0 = refl };
+        single = λ e. refl;
+      })
+      (s .fits)
+  bracket-keeps Labile i ps h m q w s = settled-keeps (bracketOf Labile i ps h) h m q w (bracket-shape Labile i ps h q (w .group) s) (s .fits)
+  bracket-keeps NTerm i ps h m q w s = settled-keeps (bracketOf NTerm i ps h) h m q w (bracket-shape NTerm i ps h q (w .group) s) (s .fits)
+  bracket-keeps OnResidue i ps h m q w s = settled-keeps (bracketOf OnResidue i ps h) h m q w (bracket-shape OnResidue i ps h q (w .group) s)
+      (s .fits)
+  bracket-keeps OnRange i ps h m q w s = settled-keeps (bracketOf OnRange i ps h) h m q w (bracket-shape OnRange i ps h q (w .group) s) (s .fits)
+  bracket-keeps CTerm i ps h m q w s = settled-keeps (bracketOf CTerm i ps h) h m q w (bracket-shape CTerm i ps h q (w .group) s) (s .fits)
+
+  bracket-mode : (o : Mode) (k : Kind) (i : P) (ps : List (Part P)) (h : Held P) → ModeKeeps o h → ModeKeeps o (withBracket k i ps h)
+  bracket-mode o Unknown i ps h w =
+      record {
+        some-residue = w .some-residue;
+        uncounted = λ e. each-append (λ k. k .counted ≡ none) (h .run) (bracketOf Unknown i ps h ∷ []) (w .uncounted e) (refl, tt);
+      }
+  bracket-mode o Labile i ps h w = record { some-residue = w .some-residue; uncounted = w .uncounted }
+  bracket-mode o NTerm i ps h w = record { some-residue = w .some-residue; uncounted = w .uncounted }
+  bracket-mode o OnResidue i ps h w = record { some-residue = w .some-residue; uncounted = w .uncounted }
+  bracket-mode o OnRange i ps h w = record { some-residue = w .some-residue; uncounted = w .uncounted }
+  bracket-mode o CTerm i ps h w = record { some-residue = w .some-residue; uncounted = w .uncounted }
+
+  -- ---- counts
+  counted-shape : (n : ℕ) (i : P) (k : Bracket P) → RunShape k → RunShape (times n i k)
+  counted-shape n i k w =
+      record {
+        some-part = w .some-part;
+        parts = w .parts;
+        lone = w .lone;
+        unknown = w .unknown;
+        stands = w .stands;
+        single = λ e. let z : _≡_ {A = ℕ} 0 1 = cc in absurd (omega arith);
+      }
+
+  digit-shape : (i : P) (b : ℕ) (k : Bracket P) → RunShape k → RunShape (countDigit i b k)
+  digit-shape i b k w = go (k .counted)
+    where
+      go : (c : Option P) → RunShape (given c (λ p. times (k .count * 10 + (b - 48)) p k) (times (b - 48) i k))
+      go none = counted-shape (b - 48) i k w
+      go (some p) = counted-shape (k .count * 10 + (b - 48)) p k w
+
+  digit-texts : (i : P) (b : ℕ) (k : Bracket P) → bracketTexts (countDigit i b k) ≡ bracketTexts k
+  digit-texts i b k = go (k .counted)
+    where
+      go : (c : Option P) → bracketTexts (given c (λ p. times (k .count * 10 + (b - 48)) p k) (times (b - 48) i k)) ≡ bracketTexts k
+      go none = refl
+      go (some p) = refl
+
+  last-shape : (i : P) (b : ℕ) (ks : List (Bracket P)) → Each RunShape ks → Each RunShape (onLast (countDigit i b) ks)
+  unfolding onLast
+  last-shape i b [] w = tt
+  last-shape i b (k ∷ []) w = (digit-shape i b k (w .0), tt)
+  last-shape i b (k ∷ j ∷ ks) w = (w .0, last-shape i b (j ∷ ks) (w .1))
+
+  last-texts : (i : P) (b : ℕ) (ks : List (Bracket P)) → flat bracketTexts (onLast (countDigit i b) ks) ≡ flat bracketTexts ks
+  unfolding onLast flat
+  last-texts i b [] = refl
+  last-texts i b (k ∷ []) = ap (λ t. t ++ []) (digit-texts i b k)
+  last-texts i b (k ∷ j ∷ ks) = ap (λ t. bracketTexts k ++ t) (last-texts i b (j ∷ ks))
+
+  digit-keeps : (i : P) (b : ℕ) (h : Held P) (m : ℕ) → HeldKeeps m h → HeldKeeps m (withDigit i b h)
+  digit-keeps i b h m w =
+      record {
+        letters = w .letters;
+        group = w .group;
+        brackets = w .brackets;
+        run = last-shape i b (h .run) (w .run);
+        fits = rw (last-texts i b (h .run)) (w .fits);
+      }
+
+  -- ---- the brackets at the front are settled
+  run-shape : (n : ℕ) (k : Bracket P) → RunShape k → BracketShape n k
+  run-shape n k w =
+      record {
+        some-part = w .some-part;
+        parts = w .parts;
+        lone = w .lone;
+        stands = rw (w .unknown) (w .stands);
+        uncounted = λ e. absurd (unknown-not (k .kind) (w .unknown) e);
+        single = w .single;
+      }
+
+  term-shape : (n : ℕ) (k : Bracket P) → RunShape k → k .counted ≡ none → BracketShape n (asNTerm k)
+  term-shape n k w e =
+      record {
+        some-part = w .some-part;
+        parts = w .parts;
+        lone = w .lone;
+        stands = w .stands;
+        uncounted = λ f. e;
+        single = w .single;
+      }
+
+  texts-same :
+      (f : Bracket P → Bracket P) → ((k : Bracket P) → bracketTexts (f k) ≡ bracketTexts k) → (ks : List (Bracket P))
+      → flat bracketTexts (map f ks) ≡ flat bracketTexts ks
+  unfolding flat
+  texts-same f e [] = refl
+  texts-same f e (k ∷ ks) = ap₂ _++_ (e k) (texts-same f e ks)
+
+  run-keeps :
+      (f : Bracket P → Bracket P) → ((k : Bracket P) → bracketTexts (f k) ≡ bracketTexts k) → (h : Held P) (m : ℕ) → HeldKeeps m h
+      → Each (λ k. BracketShape (length (h .residues)) (f k)) (h .run) → HeldKeeps m (settledRun f h)
+  unfolding flat
+  run-keeps f e h m w s =
+      let x = w .fits in
+      let y = flat-append bracketTexts (h .brackets) (map f (h .run)) in
+      let z = ap length (texts-same f e (h .run)) in
+      record {
+        letters = w .letters;
+        group = w .group;
+        brackets = each-append (BracketShape (length (h .residues))) (h .brackets) (map f (h .run)) (w .brackets)
+            (each-map (BracketShape (length (h .residues))) f (h .run) s);
+        run = tt;
+        fits = omega arith;
+      }
+
+  -- ---- one byte more
+  begins : (s : Slot) → Carried {P = P} (record { shut = s .shut; refers = s .refers; parts = [] }) 0 0
+  unfolding flat
+  begins s = record { parts = tt; none-refers = tt; fits = omega arith }
+
+  perform-keeps :
+      (i : P) (b m : ℕ) (o : Mode) (h : Held P) (a : Act) → Byte b → HeldKeeps m h → ModeKeeps o h → ActKeeps o a → StateKeeps (m + 1) (perform i b h a)
+  unfolding perform
+  perform-keeps i b m o h Stop q w e g = tt
+  perform-keeps i b m o h (Go n) q w e g = (held-more h m (m + 1) (omega arith) w, lead o n h g e)
+  perform-keeps i b m o h (aResidue s n) q w e g =
+      let new : List (Residue P) = record { letter = upper b; section = s; at = i } ∷ [] in
+      let l = length-append (h .residues) new in (
+        held-more (withResidue i b s h) m (m + 1) (omega arith) (residue-keeps i b s h m q w),
+        record { some-residue = λ f. omega arith; uncounted = λ f. absurd (false≢true (sym g ∙ f)) },
+      )
+  perform-keeps i b m o h (Begin s) q w e g =
+      record {
+        before = m;
+        inner = 0;
+        fits = omega arith;
+        held = w;
+        content = begins s;
+        after = lead o (s .after) h (g .0) e;
+        referred = lead o (s .referred) h (g .1) e;
+      }
+  perform-keeps i b m o h Digit q w e g = (
+    held-more (withDigit i b h) m (m + 1) (omega arith) (digit-keeps i b h m w),
+    record { some-residue = λ f. absurd (false≢true f); uncounted = λ f. absurd (false≢true f) },
+  )
+  perform-keeps i b m o h RunEnds q w e g = (
+    held-more (settledRun (λ k. k) h) m (m + 1) (omega arith)
+        (run-keeps (λ k. k) (λ k. refl) h m w
+        (each-one RunShape (BracketShape (length (h .residues))) (run-shape (length (h .residues))) (h .run) (w .run))),
+    record { some-residue = λ f. absurd (false≢true f); uncounted = λ f. tt },
+  )
+  perform-keeps i b m o h TermEnds q w e g = (
+    held-more (settledRun asNTerm h) m (m + 1) (omega arith)
+        (run-keeps asNTerm (λ k. refl) h m w
+        (each-two RunShape (λ k. k .counted ≡ none) (λ k. BracketShape (length (h .residues)) (asNTerm k)) (term-shape (length (h .residues)))
+        (h .run) (w .run) (e .uncounted g))),
+    record { some-residue = λ f. absurd (false≢true f); uncounted = λ f. absurd (false≢true f) },
+  )
+
+  resume-keeps :
+      (s : Slot) (at i : P) (h : Held P) (m x y : ℕ) (c : Content P) → x + y ≤ m → HeldKeeps x h → ModeKeeps (s .after) h → ModeKeeps (s .referred) h
+      → ContentKeeps y c → StateKeeps m (resume s at h i c)
+  unfolding resume
+  resume-keeps s at i h m x y lost e w a r g = tt
+  resume-keeps s at i h m x y (closed ps) e w a r g = (
+    held-more (withBracket (s .kind) at ps h) (x + y) m e (bracket-keeps (s .kind) at ps h x y w g),
+    branch (refers? ps) (λ o. ModeKeeps o (withBracket (s .kind) at ps h)) (s .referred) (s .after)
+        (λ t. bracket-mode (s .referred) (s .kind) at ps h r)
+        (λ t. bracket-mode (s .after) (s .kind) at ps h a),
+  )
+  resume-keeps s at i h m x y (going c) e w a r g = record { before = x; inner = y; fits = e; held = w; content = g; after = a; referred = r }
+
+  pub step-keeps : (i : P) (s : State P) (b m : ℕ) → Byte b → StateKeeps m s → StateKeeps (m + 1) (step i s b)
+  unfolding step
+  step-keeps i (dead p) b m q w = tt
+  step-keeps i (outside o h) b m q w = perform-keeps i b m o h (act o b) q (w .0) (w .1) (act-keeps o b)
+  step-keeps i (inside s at h c) b m q w =
+      let x = w .fits in
+      resume-keeps s at i h (m + 1) (w .before) (w .inner + 1) (innerStep i c b) (omega arith) (w .held) (w .after) (w .referred)
+      (inner-step i c b (w .inner) q (w .content))
+
+  pub reader-keeps :
+      (note : ℕ → P) (i : ℕ) (s : State P) (l : List ℕ) (m : ℕ) → Each Byte l → StateKeeps m s → StateKeeps (m + length l) (run note i s l)
+  unfolding run
+  reader-keeps note i s [] m q w = rw (add-zero m) w
+  reader-keeps note i s (b ∷ l) m q w =
+      let e : m + suc (length l) ≡ m + 1 + length l = omega arith in
+      rw e (reader-keeps note (i + 1) (step (note i) s b) l (m + 1) (q .1) (step-keeps (note i) s b m (q .0) w))
+
+-- ---- a line that is read whole
+pub record LineShape {P : Type 0} (m : ℕ) (l : Line P) : Type 0 where
+  pub some-residue : 0 < length (l .residues)
+  pub letters : Each (λ r. Byte (r .letter)) (l .residues)
+  pub brackets : Each (BracketShape (length (l .residues))) (l .brackets)
+  pub fits : length (flat bracketTexts (l .brackets)) ≤ m
+
+ended-shape : (m n : ℕ) (s : State ℕ) (l : Line ℕ) → StateKeeps m s → ended n s ≡ holds l → LineShape m l
+ended-shape m n (dead p) l w e = let z : _≡_ {A = ℕ} 0 1 = cc in absurd (omega arith)
+ended-shape m n (outside o h) l w e = go (mayEnd o) refl e
+  where
+    go : (t : Bool) → mayEnd o ≡ t → cond t (holds (lineOf h)) (stuck n) ≡ holds l → LineShape m l
+    go true q f =
+        let x = w .0 .fits in
+        let same : lineOf h ≡ l = cc in
+        subst (LineShape m) same
+        (record {
+          some-residue = w .1 .some-residue (end-late o q);
+          letters = w .0 .letters;
+          brackets = w .0 .brackets;
+          fits = omega arith;
+        })
+    go false q f = let z : _≡_ {A = ℕ} 0 1 = cc in absurd (omega arith)
+ended-shape m n (inside s at h c) l w e = let z : _≡_ {A = ℕ} 0 1 = cc in absurd (omega arith)
+
+start-keeps : StateKeeps {P = ℕ} 0 start
+unfolding flat
+start-keeps = (
+  record { letters = tt; group = omega arith; brackets = tt; run = tt; fits = omega arith },
+  record { some-residue = λ e. absurd (false≢true e); uncounted = λ e. tt },
+)
+
+pub line-shape : (s : List ℕ) (l : Line ℕ) → Each Byte s → reading s ≡ holds l → LineShape (0 + length s) l
+unfolding reading
+line-shape s l q e = ended-shape (0 + length s) (length s) (run (λ i. i) 0 start s) l (reader-keeps (λ i. i) 0 start s 0 q start-keeps) e

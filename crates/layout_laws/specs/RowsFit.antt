@@ -1,0 +1,55 @@
+-- The rows of permitted positions fit into their room.
+use mathlib.Core.Path.{_≡_, refl}
+use mathlib.Core.Bool.{Bool, true, false, not, cond, _&&_}
+use mathlib.Core.List.{List, [], _∷_, _++_, map}
+use Prim.Native.Nat.{ℕ, zero, suc, _+_, _*_, _≤_}
+use native.Mathlib.Omega.{arith}
+use lib.ListN.{length, length-append, length-map}
+use Rattle.scope.specs.declared.answers.Site.{Site}
+use Rattle.scope.specs.Line.{Bracket, Line}
+use Rattle.scope.specs.Modifications.{keep}
+use Rattle.scope.specs.Tables.{tabled}
+use Rattle.scope.specs.Positions.{permitted, permittedPositions, positions, mayStand, member, struckOut, floaters, rowsFrom, rowsOf}
+use Rattle.layout_laws.specs.Within.{Each, Within}
+use Rattle.layout_laws.specs.Each.{each-all, each-map}
+
+pub kept-fewer : {A : Type 0} (f : A → Bool) (l : List A) → length (keep f l) ≤ length l
+unfolding keep
+kept-fewer f [] = omega arith
+kept-fewer f (x ∷ l) = go (f x) (kept-fewer f l)
+  where
+    go : (t : Bool) → length (keep f l) ≤ length l → length (cond t (x ∷ []) [] ++ keep f l) ≤ suc (length l)
+    go true h = omega arith
+    go false h = omega arith
+
+pub tabled-length : {A : Type 0} (f : ℕ → A) (i n : ℕ) → length (tabled f i n) ≡ n
+unfolding tabled
+tabled-length f i zero = refl
+tabled-length f i (suc n) = let e = tabled-length f (i + 1) n in omega arith
+
+permitted-few : {P : Type 0} (l : Line P) (k : Bracket P) → length (l .residues) ≤ 254 → length (permitted l k) ≤ 256
+unfolding permitted
+permitted-few l k h =
+    let a = kept-fewer (λ x. mayStand l k x && not (member x (struckOut (l .brackets)))) (positions l) in
+    let b = tabled-length (λ x. x) 0 (length (l .residues) + 2) in
+    omega arith
+
+rows-few : (f : ℕ) (qs : List (List ℕ)) → Each (λ q. length q ≤ 256) qs → length (rowsFrom f qs) ≤ length qs * 256
+unfolding rowsFrom
+rows-few f [] w = omega arith
+rows-few f (q ∷ qs) w =
+    let a = length-append (map (λ x. record { floater = f; position = x }) q) (rowsFrom (f + 1) qs) in
+    let b = length-map {B = Site} q (λ x. record { floater = f; position = x }) in
+    let c = rows-few (f + 1) qs (w .1) in
+    let d = w .0 in
+    omega arith
+
+pub rows-fit : {P : Type 0} (l : Line P) → Within l → length (rowsOf l) ≤ 2048
+unfolding rowsOf
+rows-fit l w =
+    let a = rows-few 1 (permittedPositions l)
+    (each-map (λ q. length q ≤ 256) (permitted l) (floaters l)
+    (each-all (λ k. length (permitted l k) ≤ 256) (floaters l) (λ k. permitted-few l k (w .few-residues)))) in
+    let b = length-map (floaters l) (permitted l) in
+    let c = w .few-copies in
+    omega arith

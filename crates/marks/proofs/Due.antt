@@ -1,0 +1,78 @@
+-- What is due for a part is what is due for its value and what is due for its label. Assumes nothing.
+use mathlib.Core.Path.{_≡_, refl, sym, ap, _∙_}
+use mathlib.Core.Bool.{Bool, false, _||_}
+use mathlib.Core.Option.{Option}
+use mathlib.Core.List.{append-nil}
+use Prim.Native.Nat.{ℕ, _+_}
+use lib.ListN.{length}
+use Rattle.scope.specs.declared.grammar.Key.{Key}
+use Rattle.scope.specs.declared.grammar.Key.the-variants.{NoKey, U, M, R, X, G, C, Obs, Unimod, Mod, Xlmod, Resid, Gno, Info, Formula, Glycan, Position, Limit}
+use Rattle.scope.specs.Content.{given}
+use Rattle.scope.specs.Keys.{written}
+use Rattle.scope.specs.Line.{Value, Label, Part}
+use Rattle.scope.specs.Refusals.{least, dueAt, textIn, textOf, tooDeep, isLink, notHere, isNumberName}
+use Rattle.marks.specs.declared.Marks.{Marks as Marked}
+use Rattle.marks.specs.Marks.{coded, both, partDues, MarksAre}
+use Rattle.marks.specs.Sorts.{sortOf, isShortRule, isRuleName, barredText, numberText}
+use Rattle.marks.specs.ValueAndLabel.{valueDues, labelDues}
+use Rattle.marks.proofs.Least.{due-either}
+
+abbrev linked : Option (Label ℕ) → Bool
+linked l = given l (λ x. isLink (x .name)) false
+
+not-here : (k : Key) (v : Value ℕ) (l : Option (Label ℕ)) (i : ℕ) → notHere (record { key = k; value = v; label = l; at = i }) ≡ (barredText (sortOf k) (textIn v) || linked l)
+unfolding isShortRule isRuleName
+not-here NoKey v l i = refl
+not-here U v l i = refl
+not-here M v l i = refl
+not-here R v l i = refl
+not-here X v l i = refl
+not-here G v l i = refl
+not-here C v l i = refl
+not-here Obs v l i = refl
+not-here Unimod v l i = refl
+not-here Mod v l i = refl
+not-here Xlmod v l i = refl
+not-here Resid v l i = refl
+not-here Gno v l i = refl
+not-here Info v l i = refl
+not-here Formula v l i = refl
+not-here Glycan v l i = refl
+not-here Position v l i = refl
+not-here Limit v l i = refl
+
+number-name : (k : Key) (v : Value ℕ) (l : Option (Label ℕ)) (i : ℕ) → isNumberName (record { key = k; value = v; label = l; at = i }) ≡ numberText (sortOf k) (textIn v)
+number-name NoKey v l i = refl
+number-name U v l i = refl
+number-name M v l i = refl
+number-name R v l i = refl
+number-name X v l i = refl
+number-name G v l i = refl
+number-name C v l i = refl
+number-name Obs v l i = refl
+number-name Unimod v l i = refl
+number-name Mod v l i = refl
+number-name Xlmod v l i = refl
+number-name Resid v l i = refl
+number-name Gno v l i = refl
+number-name Info v l i = refl
+number-name Formula v l i = refl
+number-name Glycan v l i = refl
+number-name Position v l i = refl
+number-name Limit v l i = refl
+
+pub of-part : (m : Marked) (q : Part ℕ) → MarksAre m (both (valueDues (q .at) (q .key) (q .value)) (labelDues (q .at) (q .label))) → MarksAre m (partDues q)
+of-part m q g =
+    record {
+      deep = g .deep ∙ ap (λ x. coded (least x)) (append-nil (tooDeep 0 (q .at + length (written (q .key))) (textOf q)));
+      over = g .over;
+      wide = g .wide;
+      barred =
+          g .barred
+          ∙ ap coded (due-either (barredText (sortOf (q .key)) (textOf q)) (linked (q .label)) (q .at))
+          ∙ ap (λ x. coded (least (dueAt x (q .at)))) (sym (not-here (q .key) (q .value) (q .label) (q .at)));
+      digits =
+          g .digits
+          ∙ ap (λ x. coded (least x)) (append-nil (dueAt (numberText (sortOf (q .key)) (textOf q)) (q .at)))
+          ∙ ap (λ x. coded (least (dueAt x (q .at)))) (sym (number-name (q .key) (q .value) (q .label) (q .at)));
+    }

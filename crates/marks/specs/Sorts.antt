@@ -1,0 +1,60 @@
+-- What refusals 8 and 9 ask of a part's key, and of its text.
+use mathlib.Core.Bool.{Bool, true, false, not, _&&_, _||_}
+use mathlib.Core.List.{List}
+use Prim.Native.Nat.{ℕ}
+use Rattle.scope.specs.declared.grammar.Key.{Key}
+use Rattle.scope.specs.declared.grammar.Key.the-variants.{NoKey, U, M, R, X, G, C, Obs, Unimod, Mod, Xlmod, Resid, Gno, Info, Formula, Glycan, Position, Limit}
+use Rattle.scope.specs.Bytes.{bytes, isDigit, sameFolded}
+use Rattle.scope.specs.Content.{none?}
+use Rattle.scope.specs.Modifications.{all}
+use Rattle.marks.specs.declared.Sort.{Sort}
+use Rattle.marks.specs.declared.Sort.the-variants.{Bare, Barred, Numbering, Other}
+
+abbrev pub sortOf : Key → Sort
+sortOf NoKey = Bare
+sortOf U = Numbering
+sortOf M = Numbering
+sortOf R = Other
+sortOf X = Other
+sortOf G = Other
+sortOf C = Other
+sortOf Obs = Other
+sortOf Unimod = Other
+sortOf Mod = Other
+sortOf Xlmod = Other
+sortOf Resid = Other
+sortOf Gno = Other
+sortOf Info = Other
+sortOf Formula = Barred
+sortOf Glycan = Barred
+sortOf Position = Barred
+sortOf Limit = Barred
+
+abbrev pub isBarred : Sort → Bool
+isBarred Bare = false
+isBarred Barred = true
+isBarred Numbering = false
+isBarred Other = false
+
+unfoldable pub isShortRule : List ℕ → Bool
+isShortRule t = sameFolded (bytes "CoMKP") t || sameFolded (bytes "CoMUP") t
+
+-- "CoMKP, CoMUP or their long names"
+unfoldable pub isRuleName : List ℕ → Bool
+isRuleName t =
+    isShortRule t
+    || sameFolded (bytes "ColocaliseModificationsOfKnownPosition") t
+    || sameFolded (bytes "ColocaliseModificationsOfUnknownPosition") t
+
+-- a text behind a key of this sort is refused by 8, by 9
+abbrev pub barredText : Sort → List ℕ → Bool
+barredText Bare t = isRuleName t
+barredText Barred t = true
+barredText Numbering t = false
+barredText Other t = false
+
+abbrev pub numberText : Sort → List ℕ → Bool
+numberText Bare t = false
+numberText Barred t = false
+numberText Numbering t = not (none? t) && all isDigit t
+numberText Other t = false

@@ -1,0 +1,328 @@
+// The first places at which refusals 5 to 9 are due.
+use parts::PartRead;
+use parts::Score;
+use parts::Value;
+use scope::grammar::Key;
+use scope::tables::Tables;
+ghost use mathlib.Core.Path.{_≡_};
+ghost use mathlib.Core.Option.{Option};
+ghost use mathlib.Core.List.{List, [], _∷_, _++_};
+ghost use Prim.Native.Nat.{ℕ, _+_, _-_, _<_, _≤_, _^_};
+ghost use lib.ListN.{length};
+ghost use Rattle.scope.specs.Line.{Number, Label, Part, text};
+ghost use Rattle.scope.specs.Line.{Value as Written};
+ghost use Rattle.scope.specs.Content.{given};
+ghost use Rattle.scope.specs.Refusals.{least, dueAt, tooDeep, isLink, wide};
+ghost use Rattle.scope.specs.Tables.{part};
+ghost use Rattle.parts.specs.Says.{ValueIs, ScoreIs, LabelIs, PartIs};
+ghost use Rattle.marks.specs.Marks.{coded, Dues, both, partDues, MarksAre};
+ghost use Rattle.marks.specs.Sorts.{sortOf, isBarred, isShortRule, isRuleName, barredText, numberText};
+ghost use Rattle.marks.specs.ValueAndLabel.{TextFits, ValueFits, valueDues, labelDues};
+
+// Each is 0 where the refusal is not due, else one more than its place: 5 deep, 6 over, 7 wide, 8 barred, 9 digits.
+pub struct Marks {
+    pub deep: usize,
+    pub over: usize,
+    pub wide: usize,
+    pub barred: usize,
+    pub digits: usize,
+}
+
+impl Marks {
+    pub fn none() -> Self
+        ensures { λ r. ⌜ r ≡ record { deep = 0; over = 0; wide = 0; barred = 0; digits = 0 } ⌝ }
+    {
+        Marks {
+            deep: 0,
+            over: 0,
+            wide: 0,
+            barred: 0,
+            digits: 0,
+        }
+    }
+}
+
+// The earlier of two places, each 0 where there is none, else one more than the place.
+pub fn first_of(a: usize, b: usize) -> usize
+    ensures { λ r. ⌜ ((x y : List ℕ) → a ≡ coded (least x) → b ≡ coded (least y) → r ≡ coded (least (x ++ y))) ⌝ }
+{
+    if a == 0 {
+        return b;
+    }
+    if b == 0 {
+        return a;
+    }
+    if a < b {
+        return a;
+    }
+    b
+}
+
+// The marks of both.
+pub fn joined(a: Marks, b: Marks) -> Marks
+    ensures { λ r. ⌜ ((d e : Dues) → MarksAre a d → MarksAre b e → MarksAre r (both d e)) ⌝ }
+{
+    Marks {
+        deep: first_of(a.deep, b.deep),
+        over: first_of(a.over, b.over),
+        wide: first_of(a.wide, b.wide),
+        barred: first_of(a.barred, b.barred),
+        digits: first_of(a.digits, b.digits),
+    }
+}
+
+// The marks with one more place at which 6 is due.
+pub fn over_at(m: Marks, place: usize) -> Marks
+    requires { ⌜ place < 2 ^ 63 ⌝ }
+    ensures { λ r. ⌜ ((d : Dues) → MarksAre m d → MarksAre r (record { deep = d .deep; over = d .over ++ (place ∷ []); wide = d .wide; barred = d .barred; digits = d .digits })) ⌝ }
+{
+    Marks {
+        deep: m.deep,
+        over: first_of(m.over, place + 1),
+        wide: m.wide,
+        barred: m.barred,
+        digits: m.digits,
+    }
+}
+
+// The marks with one more place at which 7 is due.
+pub fn wide_at(m: Marks, place: usize) -> Marks
+    requires { ⌜ place < 2 ^ 63 ⌝ }
+    ensures { λ r. ⌜ ((d : Dues) → MarksAre m d → MarksAre r (record { deep = d .deep; over = d .over; wide = d .wide ++ (place ∷ []); barred = d .barred; digits = d .digits })) ⌝ }
+{
+    Marks {
+        deep: m.deep,
+        over: m.over,
+        wide: first_of(m.wide, place + 1),
+        barred: m.barred,
+        digits: m.digits,
+    }
+}
+
+// The marks of one part.
+pub fn part_marks(line: &[u8], r: PartRead) -> Marks
+    requires { ⌜ ((q : Part ℕ) × PartIs (now line) r q) ⌝ }
+    ensures { λ m. ⌜ ((q : Part ℕ) → PartIs (now (line .entry)) r q → MarksAre m (partDues q)) ⌝ }
+{
+    let key = r.key;
+    let value = r.value;
+    let score = r.score;
+    let a = value_marks(line, r.at, key, r.sign, value);
+    let b = label_marks(line, r.at, r.label, r.ends, score);
+    joined(a, b)
+}
+
+// Of its key and its value.
+fn value_marks(line: &[u8], at: usize, key: Key, sign: usize, value: Value) -> Marks
+    requires { ⌜ (ValueFits (now line) at key value) × (at ≤ length (now line)) × (sign ≤ length (now line)) ⌝ }
+    ensures { λ r. ⌜ ((v : Written ℕ) → ValueIs (now (line .entry)) sign value v → MarksAre r (valueDues at key v)) ⌝ }
+{
+    match value {
+        Value::Mass {
+            millionths: _,
+            decimals: _,
+        } => key_marks(at, key, 0),
+        Value::Wide => key_marks(at, key, sign + 1),
+        Value::Text { from, to } => text_marks(line, at, key, from, to),
+        Value::Reference => key_marks(at, key, 0),
+    }
+}
+
+// Of a part with a text, its label apart.
+fn text_marks(line: &[u8], at: usize, key: Key, from: usize, to: usize) -> Marks
+    requires { ⌜ TextFits (now line) at key from to ⌝ }
+    ensures { λ r. ⌜ MarksAre r (valueDues at key (text (part from (to - from) (now (line .entry))))) ⌝ }
+{
+    let sort = sort_of(key);
+    Marks {
+        deep: deep_in(line, from, to),
+        over: due_at(Tables::TEXT < to - from, at),
+        wide: 0,
+        barred: due_at(text_barred(line, sort, from, to), at),
+        digits: due_at(text_numbers(line, sort, from, to), at),
+    }
+}
+
+// Of a part with no text, its label apart.
+fn key_marks(at: usize, key: Key, wide: usize) -> Marks
+    requires { ⌜ at < 2 ^ 63 ⌝ }
+    ensures { λ r. ⌜ r ≡ record { deep = 0; over = 0; wide = wide; barred = coded (least (dueAt (isBarred (sortOf key)) at)); digits = 0 } ⌝ }
+{
+    let sort = sort_of(key);
+    Marks {
+        deep: 0,
+        over: 0,
+        wide,
+        barred: due_at(is_barred(sort), at),
+        digits: 0,
+    }
+}
+
+// Of the label from `from` to `to`, and its score, of the part at `at`.
+fn label_marks(line: &[u8], at: usize, from: usize, to: usize, score: Score) -> Marks
+    requires { ⌜ ((l : Option (Label ℕ)) × LabelIs (now line) from to score l) × (at ≤ length (now line)) ⌝ }
+    ensures { λ r. ⌜ ((l : Option (Label ℕ)) → LabelIs (now (line .entry)) from to score l → MarksAre r (labelDues at l)) ⌝ }
+{
+    if from == to {
+        return Marks::none();
+    }
+    Marks {
+        deep: 0,
+        over: due_at(Tables::LABEL < to - from, from),
+        wide: score_due(score, to + 1),
+        barred: due_at(is_link(line, from, to), at),
+        digits: 0,
+    }
+}
+
+// Of a score at a place.
+fn score_due(score: Score, place: usize) -> usize
+    requires { ⌜ place < 2 ^ 64 - 1 ⌝ }
+    ensures { λ r. ⌜ ((s : Option (Number ℕ)) → ScoreIs place score s → r ≡ coded (least (given s wide []))) ⌝ }
+{
+    match score {
+        Score::Unscored => 0,
+        Score::Scored {
+            millionths: _,
+            decimals: _,
+        } => 0,
+        Score::WideScore => place + 1,
+    }
+}
+
+// The mark of the place, where the refusal is due there.
+fn due_at(due: bool, place: usize) -> usize
+    requires { ⌜ place < 2 ^ 63 ⌝ }
+    ensures { λ r. ⌜ r ≡ coded (least (dueAt due place)) ⌝ }
+{
+    if due {
+        return place + 1;
+    }
+    0
+}
+
+// What refusals 8 and 9 ask of a part's key.
+enum Sort {
+    // no key: the text may be one of the names under refusal 8
+    Bare,
+    // refused by 8
+    Barred,
+    // refused by 9 where digits only stand behind it
+    Numbering,
+    Other,
+}
+
+fn sort_of(key: Key) -> Sort
+    ensures { λ r. ⌜ r ≡ sortOf key ⌝ }
+{
+    match key {
+        Key::NoKey => Sort::Bare,
+        Key::U => Sort::Numbering,
+        Key::M => Sort::Numbering,
+        Key::R => Sort::Other,
+        Key::X => Sort::Other,
+        Key::G => Sort::Other,
+        Key::C => Sort::Other,
+        Key::Obs => Sort::Other,
+        Key::Unimod => Sort::Other,
+        Key::Mod => Sort::Other,
+        Key::Xlmod => Sort::Other,
+        Key::Resid => Sort::Other,
+        Key::Gno => Sort::Other,
+        Key::Info => Sort::Other,
+        Key::Formula => Sort::Barred,
+        Key::Glycan => Sort::Barred,
+        Key::Position => Sort::Barred,
+        Key::Limit => Sort::Barred,
+    }
+}
+
+// Whether 8 refuses the part by its key alone.
+fn is_barred(sort: Sort) -> bool
+    ensures { λ r. ⌜ r ≡ isBarred sort ⌝ }
+{
+    match sort {
+        Sort::Bare => false,
+        Sort::Barred => true,
+        Sort::Numbering => false,
+        Sort::Other => false,
+    }
+}
+
+// Whether 8 refuses the text, by its key.
+fn text_barred(line: &[u8], sort: Sort, from: usize, to: usize) -> bool
+    requires { ⌜ (from < to) × (to ≤ length (now line)) ⌝ }
+    ensures { λ r. ⌜ r ≡ barredText sort (part from (to - from) (now (line .entry))) ⌝ }
+{
+    match sort {
+        Sort::Bare => is_rule(line, from, to),
+        Sort::Barred => true,
+        Sort::Numbering => false,
+        Sort::Other => false,
+    }
+}
+
+// Whether 9 refuses the text, by its key.
+fn text_numbers(line: &[u8], sort: Sort, from: usize, to: usize) -> bool
+    requires { ⌜ (from < to) × (to ≤ length (now line)) ⌝ }
+    ensures { λ r. ⌜ r ≡ numberText sort (part from (to - from) (now (line .entry))) ⌝ }
+{
+    match sort {
+        Sort::Bare => false,
+        Sort::Barred => false,
+        Sort::Numbering => to <= classes::digit_end(line, from),
+        Sort::Other => false,
+    }
+}
+
+// Whether the text from `from` to `to` is CoMKP, CoMUP or one of their long names.
+fn is_rule(line: &[u8], from: usize, to: usize) -> bool
+    requires { ⌜ (from ≤ to) × (to ≤ length (now line)) ⌝ }
+    ensures { λ r. ⌜ r ≡ isRuleName (part from (to - from) (now (line .entry))) ⌝ }
+{
+    match to - from {
+        5 => is_short_rule(line, from),
+        38 => classes::key_at(line, from, b"ColocaliseModificationsOfKnownPosition"),
+        40 => classes::key_at(line, from, b"ColocaliseModificationsOfUnknownPosition"),
+        _ => false,
+    }
+}
+
+fn is_short_rule(line: &[u8], from: usize) -> bool
+    requires { ⌜ from + 5 ≤ length (now line) ⌝ }
+    ensures { λ r. ⌜ r ≡ isShortRule (part from 5 (now (line .entry))) ⌝ }
+{
+    if classes::key_at(line, from, b"CoMKP") {
+        return true;
+    }
+    classes::key_at(line, from, b"CoMUP")
+}
+
+// Whether the label from `from` to `to` begins XL or is BRANCH.
+fn is_link(line: &[u8], from: usize, to: usize) -> bool
+    requires { ⌜ (from ≤ to) × (to ≤ length (now line)) ⌝ }
+    ensures { λ r. ⌜ r ≡ isLink (part from (to - from) (now (line .entry))) ⌝ }
+{
+    if to - from < 2 {
+        return false;
+    }
+    if classes::key_at(line, from, b"XL") {
+        return true;
+    }
+    if to - from == 6 {
+        return classes::key_at(line, from, b"BRANCH");
+    }
+    false
+}
+
+// The first place at which a pair is too deep, in the text from `from` to `to`.
+fn deep_in(line: &[u8], from: usize, to: usize) -> usize
+    requires { ⌜ (from ≤ to) × (to ≤ length (now line)) ⌝ }
+    ensures { λ r. ⌜ r ≡ coded (least (tooDeep 0 from (part from (to - from) (now (line .entry))))) ⌝ }
+{
+    let i = texts::deep_at(line, from, to);
+    if i == to {
+        return 0;
+    }
+    i + 1
+}

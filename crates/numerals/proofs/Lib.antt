@@ -1,0 +1,5 @@
+pub mod DigitLaws
+pub mod NumberLaws
+pub mod Ranges
+pub mod Bounds
+pub mod Scores

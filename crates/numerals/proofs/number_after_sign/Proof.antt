@@ -1,0 +1,24 @@
+use Rattle.scope.specs.Bytes.{isDigit}
+use Rattle.classes.proofs.Runs.{run-done}
+use Rattle.numerals.proofs.NumberLaws.{sign-none, sign-some}
+use borrow.Author.Needs.{needs}
+use Rattle.numerals.proofs.number_after_sign.Statement.{statement}
+use Rattle.numerals.proofs.number_after_sign.Tie as tie
+
+digit-run-requires : tie.Need-digit-run-requires
+digit-run-requires c κs = search needs
+
+returns : tie.Need-returns
+returns c = λ p. sign-none _ _ _ _ (c .before .digit-run .ensures) (c .if1 .taken)
+
+after-whole-requires : tie.Need-after-whole-requires
+after-whole-requires c κs = c .before .digit-run .ensures .low
+
+returns-2 : tie.Need-returns-2
+returns-2 c = λ p.
+    let d = c .before .before .digit-run .ensures in
+    sign-some p _ _ _ d (c .before .if1 .left) (c .after-whole .ensures p _ (d .valued) (run-done isDigit _ _ _ (d .ends)))
+
+pub number-after-sign-spec : {M : Type 1} → statement M
+number-after-sign-spec =
+    tie.close (tie.spec digit-run-requires returns after-whole-requires returns-2)

@@ -1,0 +1,9 @@
+pub mod Terms
+pub mod Laws
+pub mod Lists
+pub mod Order
+pub mod Members
+pub mod Sorted
+pub mod Leasts
+pub mod Requests
+pub mod Lines

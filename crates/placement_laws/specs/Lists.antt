@@ -1,0 +1,142 @@
+-- What stands in a list that is kept, joined or mapped; tests.
+use mathlib.Core.Path.{_≡_, refl, sym, ap, _∙_, subst}
+use mathlib.Core.Logic.{_⊎_, inl, inr, ⊎-elim}
+use mathlib.Core.Bool.{Bool, true, false, cond, _&&_, _||_, false≢true}
+use mathlib.Core.List.{List, [], _∷_, _++_, map}
+use Prim.Native.Nat.{ℕ}
+use lib.Dec.{eqb}
+use borrow.Author.Tests.{eqb-true, eq-eqb}
+use Rattle.scope.specs.Modifications.{keep, flat}
+use Rattle.scope.specs.Positions.{member}
+use Rattle.placement_laws.specs.Terms.{In}
+
+-- ---- tests
+pub and-true : (a b : Bool) → (a && b) ≡ true → (a ≡ true) × (b ≡ true)
+and-true true b e = (refl, e)
+and-true false b e = absurd (false≢true e)
+
+pub and-both : (a b : Bool) → a ≡ true → b ≡ true → (a && b) ≡ true
+and-both true b e f = f
+and-both false b e f = absurd (false≢true e)
+
+pub or-true : (a b : Bool) → (a || b) ≡ true → (a ≡ true) ⊎ (b ≡ true)
+or-true true b e = inl refl
+or-true false b e = inr e
+
+pub or-left : (a b : Bool) → a ≡ true → (a || b) ≡ true
+or-left true b e = refl
+or-left false b e = absurd (false≢true e)
+
+pub or-right : (a b : Bool) → b ≡ true → (a || b) ≡ true
+or-right true b e = refl
+or-right false b e = e
+
+pub by-test : (b : Bool) → (b ≡ true → ⊥) → b ≡ false
+by-test true f = absurd (f refl)
+by-test false f = refl
+
+pub test : (b : Bool) → (b ≡ true) ⊎ (b ≡ false)
+test true = inl refl
+test false = inr refl
+
+-- two tests that say yes together are the same
+pub same-test : (a b : Bool) → (a ≡ true → b ≡ true) → (b ≡ true → a ≡ true) → a ≡ b
+same-test true b f g = sym (f refl)
+same-test false true f g = g refl
+same-test false false f g = refl
+
+-- ---- positions
+pub member-cons : (x y : ℕ) (l : List ℕ) → member x (y ∷ l) ≡ true → (x ≡ y) ⊎ (member x l ≡ true)
+unfolding member
+member-cons x y l e = ⊎-elim (λ h. inl (eqb-true x y h)) (λ h. inr h) (or-true (eqb x y) (member x l) e)
+
+pub member-here : (x y : ℕ) (l : List ℕ) → x ≡ y → member x (y ∷ l) ≡ true
+unfolding member
+member-here x y l e = or-left (eqb x y) (member x l) (eq-eqb x y e)
+
+pub member-there : (x y : ℕ) (l : List ℕ) → member x l ≡ true → member x (y ∷ l) ≡ true
+unfolding member
+member-there x y l e = or-right (eqb x y) (member x l) e
+
+pub member-none : {A : Type 0} (x : ℕ) → member x [] ≡ true → A
+unfolding member
+member-none x e = absurd (false≢true e)
+
+pub member-in : (x : ℕ) (l : List ℕ) → member x l ≡ true → In x l
+member-in x [] e = member-none x e
+member-in x (y ∷ l) e = ⊎-elim (λ h. inl h) (λ h. inr (member-in x l h)) (member-cons x y l e)
+
+pub in-member : (x : ℕ) (l : List ℕ) → In x l → member x l ≡ true
+in-member x [] h = absurd h
+in-member x (y ∷ l) (inl e) = member-here x y l e
+in-member x (y ∷ l) (inr h) = member-there x y l (in-member x l h)
+
+module _ {A : Type 0} where
+  -- ---- one list behind the other
+  pub in-left : (x : A) (l m : List A) → In x l → In x (l ++ m)
+  in-left x [] m h = absurd h
+  in-left x (y ∷ l) m (inl e) = inl e
+  in-left x (y ∷ l) m (inr h) = inr (in-left x l m h)
+
+  pub in-right : (x : A) (l m : List A) → In x m → In x (l ++ m)
+  in-right x [] m h = h
+  in-right x (y ∷ l) m h = inr (in-right x l m h)
+
+  pub in-either : (x : A) (l m : List A) → In x (l ++ m) → In x l ⊎ In x m
+  in-either x [] m h = inr h
+  in-either x (y ∷ l) m (inl e) = inl (inl e)
+  in-either x (y ∷ l) m (inr h) = ⊎-elim (λ g. inl (inr g)) (λ g. inr g) (in-either x l m h)
+
+  -- ---- those that a test keeps
+  pub keep-yes : (f : A → Bool) (x : A) (l : List A) → f x ≡ true → keep f (x ∷ l) ≡ x ∷ keep f l
+  unfolding keep
+  keep-yes f x l e = rw e
+
+  pub keep-no : (f : A → Bool) (x : A) (l : List A) → f x ≡ false → keep f (x ∷ l) ≡ keep f l
+  unfolding keep
+  keep-no f x l e = rw e
+
+  pub in-keep : (f : A → Bool) (x : A) (l : List A) → In x (keep f l) → In x l × (f x ≡ true)
+  unfolding keep
+  in-keep f x [] h = absurd h
+  in-keep f x (y ∷ l) h = go (f y) refl (λ k. in-keep f x l k) h
+    where
+      go : (b : Bool) → f y ≡ b → (In x (keep f l) → In x l × (f x ≡ true)) → In x (cond b (y ∷ []) [] ++ keep f l) → In x (y ∷ l) × (f x ≡ true)
+      go true e ih (inl q) = (inl q, ap f q ∙ e)
+      go true e ih (inr k) = let z = ih k in (inr (z .0), z .1)
+      go false e ih k = let z = ih k in (inr (z .0), z .1)
+
+  pub keep-in : (f : A → Bool) (x : A) (l : List A) → In x l → f x ≡ true → In x (keep f l)
+  keep-in f x [] h e = absurd h
+  keep-in f x (y ∷ l) h e = go h (λ k. keep-in f x l k e) (test (f y))
+    where
+      go : In x (y ∷ l) → (In x l → In x (keep f l)) → (f y ≡ true) ⊎ (f y ≡ false) → In x (keep f (y ∷ l))
+      go (inl q) ih t = rw (keep-yes f y l (sym (ap f q) ∙ e)) (inl q)
+      go (inr k) ih (inl t) = rw (keep-yes f y l t) (inr (ih k))
+      go (inr k) ih (inr t) = rw (keep-no f y l t) (ih k)
+
+module _ {A B : Type 0} where
+  pub in-map : (f : A → B) (y : B) (l : List A) → In y (map f l) → (x : A) × In x l × (y ≡ f x)
+  in-map f y [] h = absurd h
+  in-map f y (x ∷ l) (inl e) = (x, inl refl, e)
+  in-map f y (x ∷ l) (inr h) = let z = in-map f y l h in (z .0, inr (z .1), z .2)
+
+  pub map-in : (f : A → B) (x : A) (l : List A) → In x l → In (f x) (map f l)
+  map-in f x [] h = absurd h
+  map-in f x (y ∷ l) (inl e) = inl (ap f e)
+  map-in f x (y ∷ l) (inr h) = inr (map-in f x l h)
+
+  pub in-flat : (f : A → List B) (y : B) (l : List A) → In y (flat f l) → (x : A) × In x l × In y (f x)
+  unfolding flat
+  in-flat f y [] h = absurd h
+  in-flat f y (x ∷ l) h = go (λ k. in-flat f y l k) (in-either y (f x) (flat f l) h)
+    where
+      go : (In y (flat f l) → (z : A) × In z l × In y (f z)) → In y (f x) ⊎ In y (flat f l) → (z : A) × In z (x ∷ l) × In y (f z)
+      go ih (inl k) = (x, inl refl, k)
+      go ih (inr k) = let z = ih k in (z .0, inr (z .1), z .2)
+
+  pub flat-in : (f : A → List B) (x : A) (y : B) (l : List A) → In x l → In y (f x) → In y (flat f l)
+  unfolding flat
+  flat-in f x y [] h k = absurd h
+  flat-in f x y (z ∷ l) (inl e) k = in-left y (f z) (flat f l) (subst (λ v. In y (f v)) e k)
+  flat-in f x y (z ∷ l) (inr h) k = in-right y (f z) (flat f l) (flat-in f x y l h k)

@@ -1,0 +1,63 @@
+-- "ordered as number lists": the order of placements.
+use mathlib.Core.Path.{_≡_, refl, sym, ap}
+use mathlib.Core.Logic.{_⊎_, inl, inr, ⊎-elim}
+use mathlib.Core.Option.{Option, none, some}
+use mathlib.Core.Bool.{true, false, _&&_, false≢true}
+use mathlib.Core.List.{List, [], _∷_, _++_}
+use Prim.Native.Nat.{ℕ, _<_}
+use native.Mathlib.Omega.{arith}
+use lib.Dec.{eqb, ltb}
+use lib.ListN.{length}
+use borrow.Author.Tests.{eqb-true, eq-eqb, ltb-true, lt-ltb}
+use Rattle.scope.specs.Placements.{less}
+use Rattle.placement_laws.specs.Terms.{Least}
+use Rattle.placement_laws.specs.Lists.{and-true, and-both, or-true, or-left, or-right}
+
+pub less-cases : (x y : ℕ) (p q : List ℕ) → less (x ∷ p) (y ∷ q) ≡ true → (x < y) ⊎ ((x ≡ y) × (less p q ≡ true))
+unfolding less
+less-cases x y p q e =
+    ⊎-elim (λ h. inl (ltb-true x y h)) (λ h. let z = and-true (eqb x y) (less p q) h in inr (eqb-true x y (z .0), z .1)) (or-true (ltb x y) (eqb x y && less p q) e)
+
+pub less-here : (x y : ℕ) (p q : List ℕ) → x < y → less (x ∷ p) (y ∷ q) ≡ true
+unfolding less
+less-here x y p q h = or-left (ltb x y) (eqb x y && less p q) (lt-ltb x y h)
+
+pub less-there : (x y : ℕ) (p q : List ℕ) → x ≡ y → less p q ≡ true → less (x ∷ p) (y ∷ q) ≡ true
+unfolding less
+less-there x y p q e h = or-right (ltb x y) (eqb x y && less p q) (and-both (eqb x y) (less p q) (eq-eqb x y e) h)
+
+pub less-asym : (p q : List ℕ) → less p q ≡ true → less q p ≡ true → ⊥
+unfolding less
+less-asym [] [] h k = false≢true h
+less-asym [] (y ∷ q) h k = false≢true k
+less-asym (x ∷ p) [] h k = false≢true h
+less-asym (x ∷ p) (y ∷ q) h k = ⊎-elim
+    (λ a. ⊎-elim (λ b. omega arith) (λ b. let e = b .0 in omega arith) (less-cases y x q p k))
+    (λ a. ⊎-elim (λ b. let e = a .0 in omega arith) (λ b. less-asym p q (a .1) (b .1)) (less-cases y x q p k))
+    (less-cases x y p q h)
+
+pub less-self : (p : List ℕ) → less p p ≡ true → ⊥
+less-self p h = less-asym p p h h
+
+-- lists of one length, whatever stands behind them
+pub less-append : (p q a b : List ℕ) → length p ≡ length q → less p q ≡ true → less (p ++ a) (q ++ b) ≡ true
+unfolding less
+less-append [] [] a b e h = absurd (false≢true h)
+less-append [] (y ∷ q) a b e h = absurd (omega arith)
+less-append (x ∷ p) [] a b e h = absurd (omega arith)
+less-append (x ∷ p) (y ∷ q) a b e h = ⊎-elim
+    (λ k. less-here x y (p ++ a) (q ++ b) k)
+    (λ k. less-there x y (p ++ a) (q ++ b) (k .0) (less-append p q a b (omega arith) (k .1)))
+    (less-cases x y p q h)
+
+-- there is only one least
+pub least-unique : (P : List ℕ → Type 0) (a b : Option (List ℕ)) → Least P a → Least P b → a ≡ b
+least-unique P none none h k = refl
+least-unique P none (some q) h k = absurd (h q (k .0))
+least-unique P (some p) none h k = absurd (k p (h .0))
+least-unique P (some p) (some q) h k =
+    ap some (⊎-elim (λ e. e) (λ l. ⊎-elim (λ e. sym e) (λ m. absurd (less-asym p q l m)) (k .1 p (h .0))) (h .1 q (k .0)))
+
+pub least-iff : (P Q : List ℕ → Type 0) → ((p : List ℕ) → P p → Q p) → ((p : List ℕ) → Q p → P p) → (r : Option (List ℕ)) → Least P r → Least Q r
+least-iff P Q f g none h = λ q k. h q (g q k)
+least-iff P Q f g (some p) h = (f p (h .0), λ q k. h .1 q (g q k))

@@ -1,0 +1,26 @@
+-- Turns of the loops.
+use mathlib.Core.Path.{_≡_, sym, _∙_, subst}
+use mathlib.Core.Logic.{_⊎_, ⊎-elim}
+use mathlib.Core.Bool.{Bool, true, false}
+use mathlib.Core.List.{List}
+use Prim.Native.Nat.{ℕ, _<_, _+_, _-_}
+use native.Mathlib.Omega.{arith}
+use lib.ListN.{length, set}
+use Rattle.scope.specs.Placements.{fits}
+use Rattle.exchange.specs.Where.{Same}
+use Rattle.exchange.proofs.Exchange.{same?}
+use Rattle.exchange.specs.Table.{place, Open}
+use Rattle.exchange.proofs.Laws.{put-set}
+use Rattle.placements.specs.Steps.{Zeros, Alone}
+
+pub same-set : (p w : List ℕ) (s v : ℕ) → s < length w → Same s (place p) (place w) → v ≡ place p s → Same (s + 1) (place p) (place (set w s v))
+same-set p w s v l h e t m =
+    let q = put-set w s v l in
+    ⊎-elim (λ (d : t ≡ s). subst (λ z. place p z ≡ place (set w s v) z) (sym d) (sym e ∙ sym (q .here))) (λ d. h t (omega arith) ∙ sym (q .else t d)) (same? t s)
+
+pub zeros-set : (w : List ℕ) (s v : ℕ) → s < length w → Zeros s w → Zeros (s + 1) (set w s v)
+zeros-set w s v l h t m g = put-set w s v l .else t (λ e. omega arith) ∙ h t (omega arith) g
+
+pub alone-open : (tab : List ℕ) (k : ℕ) (w : List ℕ) (s : ℕ) (r : Bool) → s < k → Open tab w k s s (place w s) r → Alone tab k w s r
+alone-open tab k w s true l h = (h .0, λ t m e. ⊎-elim (λ d. sym d) (λ d. absurd (h .1 t m d (sym e))) (same? t s))
+alone-open tab k w s false l h = λ f. let z = h (f .fits s l) in z .2 (f .apart (z .0) s (z .1) l (z .3))

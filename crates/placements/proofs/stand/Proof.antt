@@ -1,0 +1,53 @@
+use mathlib.Core.Path.{_≡_}
+use mathlib.Core.Bool.{true}
+use Prim.Native.Nat.{ℕ, _≤_, _<_, _-_}
+use native.Mathlib.Omega.{arith}
+use borrow.Author.Tests.{not-true, not-false}
+use borrow.Author.Count.{below-more}
+use Rattle.exchange.specs.Table.{place, mayIn}
+use Rattle.exchange.proofs.Laws.{yes, no}
+use Rattle.placements.proofs.stand.Statement.{statement}
+use Rattle.placements.proofs.stand.Tie as tie
+
+abbrev Inv-loop : tie.InvT-loop
+Inv-loop tab k w s₀ s =
+    (s ≤ k) × ((u : ℕ) → u < s → (mayIn tab u (place (w .at) u) ≡ true) × ((t : ℕ) → t < k → place (w .at) u ≡ place (w .at) t → u ≡ t))
+
+abbrev μ-loop : tie.MeasureT-loop
+μ-loop tab k w s₀ s = k - s
+
+loop-holds : tie.Need-loop-holds Inv-loop μ-loop
+loop-holds c = (omega arith, λ u l. absurd (omega arith))
+
+alone-requires : tie.Need-alone-requires Inv-loop μ-loop
+alone-requires c κs = (c .before .before .before .pre, c .loop-test .taken)
+
+returns : tie.Need-returns Inv-loop μ-loop
+returns c = no _ _ (not-true (c .before .alone .result) (c .if1 .taken)) (c .before .alone .ensures)
+
+add-s : tie.Need-add-s Inv-loop μ-loop
+add-s c = let p = c .before .before .before .before .before .pre in omega (arith, p .few)
+
+loop-less : tie.Need-loop-less Inv-loop μ-loop
+loop-less c = omega arith
+
+loop-again : tie.Need-loop-again Inv-loop μ-loop
+loop-again c =
+    (omega arith, below-more _ _ (c .before .before .before .loop .inv .1) (yes _ _ (not-false (c .before .alone .result) (c .if1 .left)) (c .before .alone .ensures)))
+
+returns-2 : tie.Need-returns-2 Inv-loop μ-loop
+returns-2 c = let h = c .before .loop .inv .1 in record { fits = λ s l. h s (omega arith) .0; apart = λ s t l m e. h s (omega arith) .1 t m e }
+
+pub stand-spec : {M : Type 1} → statement M
+stand-spec =
+    tie.close
+    (tie.spec
+    Inv-loop
+    μ-loop
+    loop-holds
+    alone-requires
+    returns
+    add-s
+    loop-less
+    loop-again
+    returns-2)

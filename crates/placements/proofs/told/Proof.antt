@@ -1,0 +1,17 @@
+use Rattle.placements.proofs.Answers.{told-found}
+use borrow.Author.Needs.{needs}
+use Rattle.placements.proofs.told.Statement.{statement}
+use Rattle.placements.proofs.told.Tie as tie
+
+narrowed-requires : tie.Need-narrowed-requires
+narrowed-requires c κs = let s = c .before .before in (s .pre .0, s .pre .1 (c .before .if1 .taken))
+
+returns : tie.Need-returns
+returns c =
+    let s = c .before .before .before in told-found (s .args .k) (s .args .a .ok) (s .args .a .at .at) (c .narrowed .result) (s .args .l) (c .before .before .if1 .taken) (c .narrowed .ensures)
+
+returns-2 : tie.Need-returns-2
+returns-2 c = search needs
+
+pub told-spec : {M : Type 1} → statement M
+told-spec = tie.close (tie.spec narrowed-requires returns returns-2)

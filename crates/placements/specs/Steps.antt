@@ -1,0 +1,46 @@
+-- What the steps of a request promise.
+use mathlib.Core.Path.{_≡_}
+use mathlib.Core.Option.{Option, none, some}
+use mathlib.Core.Bool.{Bool, true, false}
+use mathlib.Core.List.{List}
+use Prim.Native.Nat.{ℕ, _<_, _≤_}
+use lib.ListN.{take}
+use Rattle.scope.specs.declared.answers.Listing.{Listing}
+use Rattle.scope.specs.Limits.{copyLimit, positionLimit}
+use Rattle.scope.specs.Tables.{padded}
+use Rattle.scope.specs.Placements.{Listed}
+use Rattle.exchange.specs.Where.{Full}
+use Rattle.exchange.specs.Order.{Verdict}
+use Rattle.exchange.specs.Table.{place, mayIn}
+
+-- "unused ones 0"
+abbrev pub Zeros : ℕ → List ℕ → Type 0
+Zeros k p = (s : ℕ) → k ≤ s → s < copyLimit → place p s ≡ 0
+
+abbrev pub Unused : ℕ → List ℕ → Bool → Type 0
+Unused k p r = Verdict r (Zeros k p) (Zeros k p → ⊥)
+
+-- s stands where it may, and nobody else there; or not all stand so
+abbrev pub Alone : List ℕ → ℕ → List ℕ → ℕ → Bool → Type 0
+Alone tab k w s r =
+    Verdict r ((mayIn tab s (place w s) ≡ true) × ((t : ℕ) → t < k → place w s ≡ place w t → s ≡ t)) (Full (mayIn tab) k (place w) → ⊥)
+
+abbrev pub Stand : List ℕ → ℕ → List ℕ → Bool → Type 0
+Stand tab k w r = Verdict r (Full (mayIn tab) k (place w)) (Full (mayIn tab) k (place w) → ⊥)
+
+-- each of the first k is a position
+abbrev pub Small : ℕ → List ℕ → Type 0
+Small k w = (s : ℕ) → s < k → place w s < positionLimit
+
+-- the first k, as a placement: "A placement has 8 entries, unused ones 0"
+abbrev pub entries : ℕ → List ℕ → List ℕ
+entries k w = padded 0 copyLimit (take k w)
+
+-- where they all stand, if that is so
+abbrev pub found : ℕ → Bool → List ℕ → Option (List ℕ)
+found k true w = some (entries k w)
+found k false w = none
+
+-- a number and a record, as a request answers them
+abbrev pub Tells : Listed → ℕ → Listing → Type 0
+Tells a n r = (n ≡ a .number) × (r ≡ a .after)

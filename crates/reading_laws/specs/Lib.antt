@@ -1,0 +1,12 @@
+pub mod Laws
+pub mod Cases
+pub mod Places
+pub mod Run
+pub mod Reached
+pub mod Finished
+pub mod Stuck
+pub mod Precedence
+pub mod Within
+pub mod Inside
+pub mod Printable
+pub mod Proved

@@ -1,0 +1,1 @@
+// No code: laws of the reader and of the refusals, as theorems over the definitions (specs/).

@@ -1,0 +1,101 @@
+-- Laws of the step of a text, and of `scanText` at a place. Assumes nothing.
+use Prim.Native.Nat.{ℕ, suc, _+_, _-_, _≤_, _<_}
+use mathlib.Core.Path.{_≡_, refl, sym, ap, _∙_}
+use mathlib.Core.Bool.{Bool, true, false, not, cond, _&&_, _||_, true≢false, and-true}
+use mathlib.Core.Option.{some}
+use mathlib.Core.List.{List, [], _∷_}
+use native.Mathlib.Numerals.{add-one}
+use native.Mathlib.Omega.{arith}
+use lib.Dec.{eqb}
+use lib.ListN.{length, getD, drop, drop-of-length-le}
+use lib.Seq.{drop-cons, drop-drop}
+use borrow.Author.Tests.{ne-eqb, eqb-true, not-true}
+use Rattle.scope.specs.Bytes.{isPrintable, isOpening, isShutting}
+use Rattle.scope.specs.Content.{given, isPlain, textStep}
+use Rattle.classes.proofs.Classes.{both}
+use Rattle.classes.specs.Runs.{span}
+use Rattle.texts.specs.Texts.{stopped, scanText, isOuter, isInner}
+
+-- a byte is no opening one where it is a shutting one
+pub shut-not-open : (b : ℕ) → isShutting b ≡ true → isOpening b ≡ false
+shut-not-open b e = go (eqb b 93) refl
+  where
+    go : (x : Bool) → eqb b 93 ≡ x → isOpening b ≡ false
+    go true q = rw (eqb-true b 93 q)
+    go false q =
+        let f : eqb b 125 ≡ true = rw q at e in
+        rw (eqb-true b 125 f)
+
+-- a plain byte leaves the closers as they are, outside every pair and inside one
+pub outer-step : (hashes : Bool) (b : ℕ) → isOuter hashes b ≡ true → textStep hashes [] b ≡ some []
+unfolding textStep isOuter
+outer-step hashes b e = rw e
+
+pub inner-step : (hashes : Bool) (c : ℕ) (cs : List ℕ) → isShutting c ≡ true → (b : ℕ) → isInner b ≡ true → textStep hashes (c ∷ cs) b ≡ some (c ∷ cs)
+unfolding textStep isInner
+inner-step hashes c cs h b e =
+    let p = both (isPrintable b && not (isShutting b)) (not (isOpening b)) e in
+    let q = both (isPrintable b) (not (isShutting b)) (p .0) in
+    let o : isOpening b ≡ false = not-true (isOpening b) (p .1) in
+    let d : eqb b c ≡ false = ne-eqb b c (λ z. true≢false (sym h ∙ ap isShutting (sym z) ∙ not-true (isShutting b) (q .1))) in
+    rw (o, d, p .0)
+
+-- bytes that leave the closers as they are
+module _ (p : ℕ → Bool) (hashes : Bool) (cs : List ℕ) (still : (b : ℕ) → p b ≡ true → textStep hashes cs b ≡ some cs) where
+  scan-over : (l : List ℕ) (i : ℕ) → scanText hashes cs l i ≡ scanText hashes cs (drop (span p l) l) (i + span p l)
+  unfolding scanText span
+  scan-over [] i =
+      let e : i + 0 ≡ i = omega arith in
+      rw e
+  scan-over (b ∷ l) i = go (p b) refl (scan-over l (i + 1))
+    where
+      go : (x : Bool) → p b ≡ x → scanText hashes cs l (i + 1) ≡ scanText hashes cs (drop (span p l) l) (i + 1 + span p l)
+          → scanText hashes cs (b ∷ l) i ≡ scanText hashes cs (drop (cond x (suc (span p l)) 0) (b ∷ l)) (i + cond x (suc (span p l)) 0)
+      go true e ih =
+          let f : i + 1 + span p l ≡ i + suc (span p l) = omega arith in
+          ap (λ o. given o (λ cs′. scanText hashes cs′ l (i + 1)) (stopped cs i)) (still b e) ∙ ih ∙ ap (scanText hashes cs (drop (span p l) l)) f
+      go false e ih =
+          let f : i + 0 ≡ i = omega arith in
+          rw f
+
+  pub scan-run : (s : List ℕ) (at i : ℕ) → i ≡ at + span p (drop at s) → scanText hashes cs (drop at s) at ≡ scanText hashes cs (drop i s) i
+  scan-run s at i e =
+      scan-over (drop at s) at
+      ∙ ap (λ l. scanText hashes cs l (at + span p (drop at s))) (drop-drop (span p (drop at s)) at s)
+      ∙ ap (λ j. scanText hashes cs (drop j s) j) (sym e)
+
+-- one byte of a text, and none
+pub scan-at : (hashes : Bool) (cs s : List ℕ) (i : ℕ) → i < length s
+    → scanText hashes cs (drop i s) i ≡ given (textStep hashes cs (getD s i 0)) (λ cs′. scanText hashes cs′ (drop (i + 1) s) (i + 1)) (stopped cs i)
+unfolding scanText
+scan-at hashes cs s i h = rw (drop-cons s i 0, add-one)
+
+pub scan-end : (hashes : Bool) (cs s : List ℕ) (i : ℕ) → length s ≤ i → scanText hashes cs (drop i s) i ≡ stopped cs i
+unfolding scanText
+scan-end hashes cs s i h = rw (drop-of-length-le s h)
+
+third : (x y z : Bool) → x ≡ false → y ≡ false → x || y || z ≡ z
+third x y z p q = rw (p, q)
+
+-- the cases of a byte outside every pair
+module _ (b : ℕ) where
+  pub outer-plain : (hashes : Bool) → isPlain b ≡ true → true ≡ isOuter hashes b
+  unfolding isOuter
+  outer-plain hashes e = rw e
+
+  pub outer-colon : (hashes : Bool) → b ≡ 58 → true ≡ isOuter hashes b
+  unfolding isOuter
+  outer-colon hashes e = rw e
+
+  pub outer-hash : (hashes : Bool) → isPlain b ≡ false → (b ≡ 58 → ⊥) → hashes ≡ true → eqb b 35 ≡ isOuter hashes b
+  unfolding isOuter
+  outer-hash hashes e c h = rw h (sym (third (isPlain b) (eqb b 58) (eqb b 35) e (ne-eqb b 58 c)))
+
+  pub outer-not : (hashes : Bool) → isPlain b ≡ false → (b ≡ 58 → ⊥) → hashes ≡ false → false ≡ isOuter hashes b
+  unfolding isOuter
+  outer-not hashes e c h = rw h (sym (third (isPlain b) (eqb b 58) false e (ne-eqb b 58 c)))
+
+-- a byte that opens and closes nothing is plain inside a pair where it is printable
+pub inner-else : (b : ℕ) → (b ≡ 91 → ⊥) → (b ≡ 93 → ⊥) → (b ≡ 123 → ⊥) → (b ≡ 125 → ⊥) → isPrintable b ≡ isInner b
+unfolding isInner
+inner-else b p q r s = simp (ne-eqb _ _ p, ne-eqb _ _ q, ne-eqb _ _ r, ne-eqb _ _ s, and-true)

@@ -1,0 +1,172 @@
+// Texts: "a text is plain bytes and closed pairs that hold texts".
+use scope::tables::Tables;
+ghost use mathlib.Core.Path.{_≡_};
+ghost use mathlib.Core.Bool.{true};
+ghost use mathlib.Core.List.{[]};
+ghost use Prim.Native.Nat.{_+_, _-_, _≤_};
+ghost use lib.ListN.{length, drop};
+ghost use Rattle.scope.specs.Bytes.{isShutting, closerOf};
+ghost use Rattle.scope.specs.Content.{given};
+ghost use Rattle.scope.specs.Tables.{part};
+ghost use Rattle.scope.specs.Refusals.{least, tooDeep, depthAfter};
+ghost use Rattle.scope.specs.Limits.{depthLimit};
+ghost use Rattle.classes.specs.Runs.{span};
+ghost use Rattle.texts.specs.Texts.{isOuter, isInner, scanText, Closed, opensTooDeep};
+
+// Where a text ends, or where it is stuck inside a pair.
+pub enum TextEnd {
+    Ends(usize),
+    Stuck(usize),
+}
+
+// Where the text that starts at `at` ends; `hashes` says whether `#` is plain in it.
+pub fn text_end(line: &[u8], at: usize, hashes: bool) -> TextEnd
+    ensures { λ r. ⌜ r ≡ scanText hashes [] (drop at (now (line .entry))) at ⌝ }
+{
+    let i = outer_end(line, at, hashes);
+    if line.len() <= i {
+        return TextEnd::Ends(i);
+    }
+    let b = line[i];
+    if classes::is_opening(b) {
+        let e = pair_end(line, i + 1, closer_of(b));
+        match e {
+            TextEnd::Ends(next) => text_end(line, next, hashes),
+            TextEnd::Stuck(k) => TextEnd::Stuck(k),
+        }
+    } else {
+        TextEnd::Ends(i)
+    }
+}
+
+// From inside a pair that `closer` closes: the place behind its closer.
+pub fn pair_end(line: &[u8], at: usize, closer: u8) -> TextEnd
+    requires { ⌜ isShutting closer ≡ true ⌝ }
+    ensures { λ r. ⌜ Closed (now (line .entry)) at closer r ⌝ }
+{
+    let i = inner_end(line, at);
+    if line.len() <= i {
+        return TextEnd::Stuck(i);
+    }
+    let b = line[i];
+    if b == closer {
+        return TextEnd::Ends(i + 1);
+    }
+    if classes::is_opening(b) {
+        let e = pair_end(line, i + 1, closer_of(b));
+        match e {
+            TextEnd::Ends(next) => pair_end(line, next, closer),
+            TextEnd::Stuck(k) => TextEnd::Stuck(k),
+        }
+    } else {
+        TextEnd::Stuck(i)
+    }
+}
+
+// The byte that closes the pair which `b` opens.
+fn closer_of(b: u8) -> u8
+    ensures { λ r. ⌜ (r ≡ closerOf b) × (isShutting r ≡ true) ⌝ }
+{
+    if b == b'[' { b']' } else { b'}' }
+}
+
+// A byte that leaves a text as it is, outside every pair.
+fn is_outer(b: u8, hashes: bool) -> bool
+    ensures { λ r. ⌜ r ≡ isOuter hashes b ⌝ }
+{
+    if classes::is_plain(b) {
+        return true;
+    }
+    if b == b':' {
+        return true;
+    }
+    if hashes {
+        return b == b'#';
+    }
+    false
+}
+
+// A byte that leaves a text as it is, inside a pair.
+fn is_inner(b: u8) -> bool
+    ensures { λ r. ⌜ r ≡ isInner b ⌝ }
+{
+    match b {
+        b'[' => false,
+        b']' => false,
+        b'{' => false,
+        b'}' => false,
+        _ => classes::is_printable(b),
+    }
+}
+
+fn outer_end(line: &[u8], at: usize, hashes: bool) -> usize
+    ensures { λ r. ⌜ r ≡ at + span (isOuter hashes) (drop at (now (line .entry))) ⌝ }
+{
+    let mut i = at;
+    while i < line.len() {
+        if is_outer(line[i], hashes) {
+            i += 1;
+        } else {
+            return i;
+        }
+    }
+    i
+}
+
+fn inner_end(line: &[u8], at: usize) -> usize
+    ensures { λ r. ⌜ r ≡ at + span isInner (drop at (now (line .entry))) ⌝ }
+{
+    let mut i = at;
+    while i < line.len() {
+        if is_inner(line[i]) {
+            i += 1;
+        } else {
+            return i;
+        }
+    }
+    i
+}
+
+// The first place before `end` at which a pair is opened while eight are open, or `end`.
+pub fn deep_at(line: &[u8], at: usize, end: usize) -> usize
+    requires { ⌜ end ≤ length (now line) ⌝ }
+    ensures { λ r. ⌜ given (least (tooDeep 0 at (part at (end - at) (now (line .entry))))) (λ i. i) end ≡ r ⌝ }
+{
+    let mut d: usize = 0;
+    let mut i = at;
+    while i < end {
+        let b = line[i];
+        if opens_too_deep(d, b) {
+            return i;
+        }
+        d = depth_after(d, b);
+        i += 1;
+    }
+    end
+}
+
+fn opens_too_deep(d: usize, b: u8) -> bool
+    ensures { λ r. ⌜ r ≡ opensTooDeep d b ⌝ }
+{
+    if classes::is_opening(b) {
+        return Tables::DEPTH <= d;
+    }
+    false
+}
+
+// How many pairs are open behind a byte.
+fn depth_after(d: usize, b: u8) -> usize
+    requires { ⌜ d ≤ depthLimit ⌝ }
+    ensures { λ r. ⌜ r ≡ depthAfter d b ⌝ }
+{
+    if classes::is_opening(b) {
+        return d + 1;
+    }
+    if classes::is_shutting(b) {
+        if d == 0 {
+            return 0;
+        }
+        return d - 1;
+    }
+    d
+}

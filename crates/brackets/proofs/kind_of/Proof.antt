@@ -1,0 +1,28 @@
+-- `brackets::kind_of` meets its contract. Assumes nothing.
+use mathlib.Core.Path.{sym, ap}
+use Rattle.scope.specs.Tables.{kindIn}
+use Rattle.brackets.proofs.Laws.{other-kind}
+use Rattle.brackets.proofs.kind_of.Statement.{statement}
+use Rattle.brackets.proofs.kind_of.Tie as tie
+
+returns : tie.Need-returns
+returns c = ap kindIn (sym (c .if1 .taken))
+
+returns-2 : tie.Need-returns-2
+returns-2 c = ap kindIn (sym (c .if2 .taken))
+
+returns-3 : tie.Need-returns-3
+returns-3 c = ap kindIn (sym (c .if3 .taken))
+
+returns-4 : tie.Need-returns-4
+returns-4 c = ap kindIn (sym (c .if4 .taken))
+
+returns-5 : tie.Need-returns-5
+returns-5 c = ap kindIn (sym (c .if5 .taken))
+
+returns-6 : tie.Need-returns-6
+returns-6 c =
+    other-kind _ (c .before .before .before .before .if1 .left) (c .before .before .before .if2 .left) (c .before .before .if3 .left) (c .before .if4 .left) (c .if5 .left)
+
+pub kind-of-spec : {M : Type 1} → statement M
+kind-of-spec = tie.close (tie.spec returns returns-2 returns-3 returns-4 returns-5 returns-6)

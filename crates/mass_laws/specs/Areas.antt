@@ -1,0 +1,28 @@
+-- The tables in areas that keep to their bounds are limited so.
+use mathlib.Core.List.{List}
+use Prim.Native.Nat.{ℕ, zero, suc, _+_, _≤_, _<_}
+use native.Mathlib.Omega.{arith}
+use lib.IntN.{ℤ, natAbs}
+use lib.ListN.{length}
+use Rattle.scope.specs.Limits.{copyLimit}
+use Rattle.scope.specs.Tables.{tabled, byteAt, bracketIn, tablesIn}
+use Rattle.scope.specs.Positions.{floaters}
+use Rattle.scope.specs.Masses.{massOr0}
+use Rattle.areas.specs.Bounds.{Bounds}
+use Rattle.brackets.specs.Tabled.{length-tabled}
+use Rattle.masses.proofs.TallyLaws.{mass-small}
+use Rattle.mass_laws.specs.Terms.{Each, Limited}
+
+each-tabled : {A : Type 0} (Q : A → Type 0) (f : ℕ → A) (j n : ℕ) → ((i : ℕ) → i < j + n → Q (f i)) → Each Q (tabled f j n)
+unfolding tabled
+each-tabled Q f j zero h = tt
+each-tabled Q f j (suc n) h = (h j (omega arith), each-tabled Q f (j + 1) n (λ i q. h i (omega arith)))
+
+pub limited-in : {bs : List ℕ} {ns : List ℤ} → Bounds bs ns → length (floaters (tablesIn bs ns)) ≤ copyLimit → Limited (tablesIn bs ns)
+unfolding tablesIn
+limited-in {bs} {ns} b few =
+    record {
+      few-brackets = rw (length-tabled (bracketIn bs ns) 0 (byteAt bs 1)) (b .few-brackets);
+      few-copies = few;
+      small = each-tabled (λ k. natAbs (massOr0 k) < 1000000000000) (bracketIn bs ns) 0 (byteAt bs 1) (λ i h. mass-small (record { bounds = b; inside = omega arith }));
+    }

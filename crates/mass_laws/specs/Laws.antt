@@ -1,0 +1,64 @@
+-- The laws of masses and ledgers. What they ask of a line, `Fair` and `Limited` of Terms.antt, are facts of every accepted line; a placement is an
+-- allowed one.
+use mathlib.Core.Path.{_≡_, sym, ap, _∙_}
+use mathlib.Core.Bool.{true, false}
+use mathlib.Core.List.{List}
+use Prim.Native.Nat.{ℕ, _+_, _*_, _^_, _≤_, _<_}
+use native.Mathlib.Omega.{arith}
+use lib.IntN.{ℤ, pos, natAbs, _+ℤ_}
+use lib.ListN.{length, getD, take}
+use Rattle.scope.specs.Limits.{positionLimit, copyLimit}
+use Rattle.scope.specs.Line.{Bracket, Line}
+use Rattle.scope.specs.Tables.{tablesIn}
+use Rattle.scope.specs.Positions.{member, struckOut, floaters, permittedPositions}
+use Rattle.scope.specs.Placements.{allowed}
+use Rattle.scope.specs.Masses.{massOr0, sum, total, labileMass, placedAt, ledger}
+use Rattle.areas.specs.Bounds.{Bounds}
+use Rattle.mass_laws.specs.Terms.{Fair, Limited}
+use Rattle.mass_laws.specs.Shares as shares
+use Rattle.mass_laws.specs.Splits as splits
+use Rattle.mass_laws.specs.Sizes as sizes
+use Rattle.mass_laws.specs.Areas as areas
+
+module _ {P : Type 0} (t : Line P) (fair : Fair t) where
+  module _ (p : List ℕ) (ok : allowed (permittedPositions t) p ≡ true) where
+    -- "The total is the sum over all modifications, counts multiplied, labile included, labels once." The ledger books each of them once, but the
+    -- labile ones: its entries and the labile masses add up to the total.
+    pub adds-up : sum (ledger t p) +ℤ labileMass t ≡ total t
+    adds-up = ap (λ z. z +ℤ labileMass t) (shares.ledger-sum t fair p ok) ∙ splits.total-splits t fair
+
+    -- "each holds the masses .. of the floating copy put there, nothing else": at the position of floating copy i its mass stands, alone
+    pub own-entry : (i : ℕ) (d : Bracket P) → i < length (floaters t) → getD (ledger t p) (getD p i 0) (pos 0) ≡ massOr0 (getD (floaters t) i d)
+    own-entry i d h = shares.own-entry t fair p ok i d h
+
+    -- "no two floaters share one": so its mass stands at no other position, since those of the other copies have theirs alone, and the rest, by
+    -- `only-placed`, have none
+    pub apart : (i j : ℕ) → i < length (floaters t) → j < length (floaters t) → getD p i 0 ≡ getD p j 0 → i ≡ j
+    apart i j h k e = shares.apart t p ok i j h k e
+
+    -- "entries past n+1 stay zero"
+    pub past : (x : ℕ) → length (t .residues) + 1 < x → getD (ledger t p) x (pos 0) ≡ pos 0
+    past x h = shares.past-zero t fair p ok x h
+
+  -- so the ledgers of all placements have one sum
+  pub one-sum : (p q : List ℕ) → allowed (permittedPositions t) p ≡ true → allowed (permittedPositions t) q ≡ true → sum (ledger t p) ≡ sum (ledger t q)
+  one-sum p q e f = shares.ledger-sum t fair p e ∙ sym (shares.ledger-sum t fair q f)
+
+  -- "Below 71 times 10^12, it fits under 2^53."
+  pub total-below : Limited t → natAbs (total t) < 71 * 10 ^ 12
+  total-below l = sizes.total-size t fair l
+
+-- the tables in areas are limited so where they keep to the areas' bounds and have no more than eight floaters
+pub limited-in : {bs : List ℕ} {ns : List ℤ} → Bounds bs ns → length (floaters (tablesIn bs ns)) ≤ copyLimit → Limited (tablesIn bs ns)
+limited-in b few = areas.limited-in b few
+
+-- of any numbers as placement: a position where no copy is put has what the placed modifications leave there
+pub only-placed : {P : Type 0} (t : Line P) (p : List ℕ) (x : ℕ) → x < positionLimit → member x (take (length (floaters t)) p) ≡ false → getD (ledger t p) x (pos 0) ≡ placedAt x (t .brackets)
+only-placed t p x h e = shares.only-placed t p x h e
+
+-- "zero at the start": an entry is zero where nothing is placed and nothing put
+pub untouched : {P : Type 0} (t : Line P) (p : List ℕ) (x : ℕ) → member x (struckOut (t .brackets)) ≡ false → member x (take (length (floaters t)) p) ≡ false → getD (ledger t p) x (pos 0) ≡ pos 0
+untouched t p x e f = shares.untouched t p x e f
+
+pub under-2^53 : 71 * 10 ^ 12 < 2 ^ 53
+under-2^53 = omega arith

@@ -1,0 +1,99 @@
+-- The total, split into what is placed, what floats and what is labile.
+use mathlib.Core.Path.{_≡_, refl, sym, ap, ap₂, _∙_}
+use mathlib.Core.Bool.{Bool, true, false, not, cond, _&&_, false≢true, true≢false}
+use mathlib.Core.List.{List, [], _∷_, map}
+use Prim.Native.Nat.{ℕ}
+use lib.IntN.{ℤ, pos, _+ℤ_, _*ℤ_, +ℤ-idl, +ℤ-idr, +ℤ-assoc, zero-*ℤ, sucℤ-*ℤ}
+use lib.ListN.{length}
+use Rattle.scope.specs.declared.grammar.Kind.{Kind}
+use Rattle.scope.specs.declared.grammar.Kind.the-variants.{Unknown, Labile, NTerm, OnResidue, OnRange, CTerm}
+use Rattle.scope.specs.Line.{Bracket, Line}
+use Rattle.scope.specs.Modifications.{keep, isModification, isLabelled, unlabelledCopies, copies}
+use Rattle.scope.specs.Positions.{onOnePosition, isPlaced, floaters}
+use Rattle.scope.specs.Masses.{massOr0, sum, total, isLabile, labileMass}
+use Rattle.masses.specs.Weights.{weight, placedMass}
+use Rattle.mass_laws.specs.Terms.{Each, FairBracket, Fair}
+use Rattle.mass_laws.specs.Sums.{six, sum-keep, sum-flat}
+
+-- what a bracket adds to the labile masses
+unfoldable pub labileOf : {P : Type 0} → Bracket P → ℤ
+labileOf k = cond (isModification k) (cond (isLabile (k .kind)) (massOr0 k) (pos 0)) (pos 0)
+
+-- ---- each modification is one of the three
+once : (m : ℤ) → pos 1 *ℤ m ≡ m
+once m = sucℤ-*ℤ (pos 0) m ∙ ap (λ z. z +ℤ m) (zero-*ℤ m) ∙ +ℤ-idl m
+
+onlyPlaced : (c : ℕ) (m : ℤ) → c ≡ 1 → pos c *ℤ m ≡ m +ℤ (pos 0 *ℤ m +ℤ pos 0)
+onlyPlaced c m e = ap (λ n. pos n *ℤ m) e ∙ once m ∙ sym (+ℤ-idr m) ∙ ap (λ z. m +ℤ z) (sym (ap (λ z. z +ℤ pos 0) (zero-*ℤ m)))
+
+onlyFloating : (c d : ℕ) (m : ℤ) → c ≡ d → pos c *ℤ m ≡ pos 0 +ℤ (pos d *ℤ m +ℤ pos 0)
+onlyFloating c d m e = ap (λ n. pos n *ℤ m) e ∙ sym (+ℤ-idl (pos d *ℤ m +ℤ pos 0) ∙ +ℤ-idr (pos d *ℤ m))
+
+onlyLabile : (c : ℕ) (m : ℤ) → c ≡ 1 → pos c *ℤ m ≡ pos 0 +ℤ (pos 0 *ℤ m +ℤ m)
+onlyLabile c m e = ap (λ n. pos n *ℤ m) e ∙ once m ∙ sym (+ℤ-idl (pos 0 *ℤ m +ℤ m) ∙ ap (λ z. z +ℤ m) (zero-*ℤ m) ∙ +ℤ-idl m)
+
+neither : (m : ℤ) → pos 0 ≡ pos 0 +ℤ (pos 0 *ℤ m +ℤ pos 0)
+neither m = sym (+ℤ-idl (pos 0 *ℤ m +ℤ pos 0) ∙ +ℤ-idr (pos 0 *ℤ m) ∙ zero-*ℤ m)
+
+-- no other kind is the unknown one
+abbrev pub isUnknown : Kind → Bool
+isUnknown Unknown = true
+isUnknown Labile = false
+isUnknown NTerm = false
+isUnknown OnResidue = false
+isUnknown OnRange = false
+isUnknown CTerm = false
+
+pub other-than-unknown : (k : Kind) → isUnknown k ≡ false → k ≡ Unknown → ⊥
+other-than-unknown k e q = false≢true (sym e ∙ ap isUnknown q)
+
+split-by : (a l : Bool) (k : Kind) (c : ℕ) (m : ℤ) → ((k ≡ Unknown → ⊥) → c ≡ 1) → (l ≡ true → c ≡ 1) → (k ≡ Labile → l ≡ false)
+    → cond a (pos c *ℤ m) (pos 0) ≡ cond (a && not l && onOnePosition k) m (pos 0) +ℤ (pos (cond a (cond l 1 (unlabelledCopies k c)) 0) *ℤ m +ℤ cond a (cond (isLabile k) m (pos 0)) (pos 0))
+split-by false l k c m s u v = neither m
+split-by true true Unknown c m s u v = onlyFloating c 1 m (u refl)
+split-by true true Labile c m s u v = absurd (true≢false (v refl))
+split-by true true NTerm c m s u v = onlyFloating c 1 m (u refl)
+split-by true true OnResidue c m s u v = onlyFloating c 1 m (u refl)
+split-by true true OnRange c m s u v = onlyFloating c 1 m (u refl)
+split-by true true CTerm c m s u v = onlyFloating c 1 m (u refl)
+split-by true false Unknown c m s u v = onlyFloating c c m refl
+split-by true false Labile c m s u v = onlyLabile c m (s (other-than-unknown Labile refl))
+split-by true false NTerm c m s u v = onlyPlaced c m (s (other-than-unknown NTerm refl))
+split-by true false OnResidue c m s u v = onlyPlaced c m (s (other-than-unknown OnResidue refl))
+split-by true false OnRange c m s u v = onlyFloating c 1 m (s (other-than-unknown OnRange refl))
+split-by true false CTerm c m s u v = onlyPlaced c m (s (other-than-unknown CTerm refl))
+
+module _ {P : Type 0} where
+  split : (n : ℕ) (k : Bracket P) → FairBracket n k → weight k ≡ placedMass k +ℤ (pos (copies k) *ℤ massOr0 k +ℤ labileOf k)
+  unfolding weight placedMass isPlaced copies labileOf
+  split n k f = split-by (isModification k) (isLabelled k) (k .kind) (k .count) (massOr0 k) (f .single) (f .labelled-single) (f .labile-unlabelled)
+
+  -- ---- over all brackets
+  splits : (n : ℕ) (ks : List (Bracket P)) → Each (FairBracket n) ks → sum (map weight ks) ≡ sum (map placedMass ks) +ℤ (sum (map (λ k. pos (copies k) *ℤ massOr0 k) ks) +ℤ sum (map labileOf ks))
+  unfolding sum
+  splits n [] f = refl
+  splits n (k ∷ ks) f =
+      ap₂ _+ℤ_ (split n k (f .0)) (splits n ks (f .1))
+      ∙ six (placedMass k) (pos (copies k) *ℤ massOr0 k) (labileOf k) (sum (map placedMass ks)) (sum (map (λ b. pos (copies b) *ℤ massOr0 b) ks)) (sum (map labileOf ks))
+
+  pub total-is : (t : Line P) → total t ≡ sum (map weight (t .brackets))
+  unfolding total weight
+  total-is t = sum-keep isModification (λ k. pos (k .count) *ℤ massOr0 k) (t .brackets)
+
+  labile-is : (t : Line P) → labileMass t ≡ sum (map labileOf (t .brackets))
+  unfolding labileMass labileOf
+  labile-is t =
+      sum-keep (λ k. isLabile (k .kind)) massOr0 (keep isModification (t .brackets))
+      ∙ sum-keep isModification (λ k. cond (isLabile (k .kind)) (massOr0 k) (pos 0)) (t .brackets)
+
+  floating-is : (t : Line P) → sum (map massOr0 (floaters t)) ≡ sum (map (λ k. pos (copies k) *ℤ massOr0 k) (t .brackets))
+  unfolding floaters
+  floating-is t = sum-flat copies massOr0 (t .brackets)
+
+  -- what is placed, what floats and what is labile add up to the total
+  pub total-splits : (t : Line P) → Fair t → (sum (map placedMass (t .brackets)) +ℤ sum (map massOr0 (floaters t))) +ℤ labileMass t ≡ total t
+  total-splits t f =
+      +ℤ-assoc (sum (map placedMass (t .brackets))) (sum (map massOr0 (floaters t))) (labileMass t)
+      ∙ ap (λ z. sum (map placedMass (t .brackets)) +ℤ z) (ap₂ _+ℤ_ (floating-is t) (labile-is t))
+      ∙ sym (splits (length (t .residues)) (t .brackets) (f .each-bracket))
+      ∙ sym (total-is t)

@@ -1,0 +1,43 @@
+-- The terms of the laws: what they ask of a line, each a plain fact that every accepted line has.
+use mathlib.Core.Path.{_≡_}
+use mathlib.Core.Bool.{true, false}
+use mathlib.Core.List.{List, [], _∷_}
+use Prim.Native.Nat.{ℕ, _+_, _*_, _^_, _≤_, _<_}
+use lib.IntN.{natAbs}
+use lib.ListN.{length}
+use Rattle.scope.specs.declared.grammar.Kind.the-variants.{Unknown, Labile}
+use Rattle.scope.specs.Limits.{residueLimit, bracketLimit, copyLimit, sizeLimit, decimalLimit}
+use Rattle.scope.specs.Line.{Bracket, Line}
+use Rattle.scope.specs.Modifications.{isLabelled}
+use Rattle.scope.specs.Positions.{floaters}
+use Rattle.scope.specs.Masses.{massOr0}
+
+-- every element is so
+abbrev pub Each : {A : Type 0} → (A → Type 0) → List A → Type 0
+Each f [] = Unit {0}
+Each f (x ∷ l) = f x × Each f l
+
+-- a bracket of a line with n residues
+pub record FairBracket {P : Type 0} (n : ℕ) (k : Bracket P) : Type 0 where
+  -- "runs of unknown-position brackets .. each bracket perhaps with `^` and a count": no other has one
+  pub single : (k .kind ≡ Unknown → ⊥) → k .count ≡ 1
+  -- 11 "count (`^1` too) on a labelled bracket"
+  pub labelled-single : isLabelled k ≡ true → k .count ≡ 1
+  -- "`{}` holds no label"
+  pub labile-unlabelled : k .kind ≡ Labile → isLabelled k ≡ false
+  -- "Position 0 is the N-terminus, 1 to n the residues, n+1 the C-terminus"
+  pub inside : k .first ≤ n + 1
+
+pub record Fair {P : Type 0} (t : Line P) : Type 0 where
+  -- "residues 1 to 254"
+  pub few-residues : length (t .residues) ≤ residueLimit
+  pub each-bracket : Each (FairBracket (length (t .residues))) (t .brackets)
+
+-- the limits that bound the total
+pub record Limited {P : Type 0} (t : Line P) : Type 0 where
+  -- "brackets, square and curly together, 64"
+  pub few-brackets : length (t .brackets) ≤ bracketLimit
+  -- "floating copies 8"
+  pub few-copies : length (floaters t) ≤ copyLimit
+  -- "a mass or score below 1,000,000 in size", in millionths
+  pub small : Each (λ k. natAbs (massOr0 k) < sizeLimit * 10 ^ decimalLimit) (t .brackets)

@@ -1,0 +1,1 @@
+// Laws of masses and ledgers, over the definitions alone: specs/Laws.antt.

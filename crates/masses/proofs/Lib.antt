@@ -1,0 +1,5 @@
+pub mod Whole
+pub mod PartLaws
+pub mod TallyLaws
+pub mod LedgerLaws
+pub mod Exact

@@ -1,0 +1,171 @@
+-- Laws of the parts of a bracket in the areas: which is the first mass. Assumes nothing.
+use mathlib.Core.Path.{_≡_, refl, sym, ap, _∙_}
+use mathlib.Core.Bool.{Bool, true, false, not, cond, _&&_}
+use mathlib.Core.Option.{Option, none, some}
+use mathlib.Core.List.{List, [], _∷_, _++_}
+use Prim.Native.Nat.{ℕ, _+_, _-_, _*_, _≤_, _<_}
+use native.Mathlib.Nat.{add-zero}
+use native.Mathlib.Omega.{arith}
+use borrow.Author.Tests.{eq-eqb, ne-eqb}
+use lib.Dec.{eqb}
+use lib.IntN.{ℤ, pos}
+use lib.ListN.{length, getD}
+use Rattle.scope.specs.declared.grammar.Key.the-variants.{Obs}
+use mir.Syntax.{w64}
+use mir.Val.{toZ, ofZ}
+use Rattle.scope.specs.Limits.{bracketLimit, partLimit, decimalLimit}
+use Rattle.scope.specs.Line.{Number, Value, mass, text, reference, Part, Bracket}
+use Rattle.scope.specs.Content.{given}
+use Rattle.scope.specs.Modifications.{keep, isKey}
+use Rattle.scope.specs.Tables.{bytesSize, numbersSize, partSize, tabled, byteAt, rowAt, partAt, numberRowSize, millionths, numberIn, partIn, bracketIn}
+use Rattle.scope.specs.Masses.{valueMass, firstMass, massOf, massOr0}
+use Rattle.areas.specs.Bounds.{Small, PartBounds, BracketBounds, Bounds}
+use Rattle.brackets.specs.Row.{Row, row}
+use Rattle.brackets.specs.Tabled.{tabled-at, tabled-end, tabled-all}
+use Rattle.brackets.specs.Codes.{key-is}
+use Rattle.masses.specs.declared.Mass.{Mass}
+use Rattle.masses.specs.declared.Mass.the-variants.{Is, Lacking}
+use Rattle.masses.specs.Reach.{Reach, ReachPart}
+use Rattle.masses.proofs.Whole.{back}
+use Rattle.masses.specs.Weights.{saysMass, wanted}
+
+-- ---- the tests of a part
+pub no-mass : {v b : ℕ} → v ≡ b → (v ≡ 1 → ⊥) → (t : Bool) → false ≡ eqb b 1 && t
+no-mass {v} {b} e h t = sym (ap (λ x. x && t) (ne-eqb b 1 (λ q. h (e ∙ q))))
+
+pub a-mass : {v b : ℕ} → v ≡ b → v ≡ 1 → (t : Bool) → t ≡ eqb b 1 && t
+a-mass {v} {b} e h t = sym (ap (λ x. x && t) (eq-eqb b 1 (sym e ∙ h)))
+
+pub first-cons : (g : Part (Unit {0}) → Bool) (p : Part (Unit {0})) (ps : List (Part (Unit {0}))) → firstMass (keep g (p ∷ ps)) ≡ cond (g p) (given (valueMass (p .value)) some (firstMass (keep g ps))) (firstMass (keep g ps))
+unfolding keep firstMass
+first-cons g p ps = by (g p)
+  where
+    by : (t : Bool) → firstMass (cond t (p ∷ []) [] ++ keep g ps) ≡ cond t (given (valueMass (p .value)) some (firstMass (keep g ps))) (firstMass (keep g ps))
+    by true = refl
+    by false = refl
+
+-- the first mass among the parts from j on: part j's, if it is a mass of the kind asked
+module _ (bs : List ℕ) (ns : List ℤ) (k : ℕ) (obs : Bool) where
+  abbrev pub among : List (Part (Unit {0})) → Option ℤ
+  among ps = firstMass (keep (λ p. wanted obs (isKey Obs p)) ps)
+
+  abbrev pub massAt : ℕ → ℤ
+  massAt j = millionths (numberIn (getD ns (k * numberRowSize + j) (pos 0)) (byteAt bs (partAt k j + 2)))
+
+  abbrev pub hit : ℕ → Bool
+  hit j = eqb (byteAt bs (partAt k j + 0)) 1 && wanted obs (eqb (byteAt bs (partAt k j + 1)) 7)
+
+  by-value : (n : Number (Unit {0})) (x : List ℕ) (t u w : Bool) (r : Option ℤ) → cond w (given (valueMass (cond t (mass n) (cond u (text x) reference))) some r) r ≡ cond (t && w) (some (millionths n)) r
+  by-value n x true u true r = refl
+  by-value n x true u false r = refl
+  by-value n x false true true r = refl
+  by-value n x false true false r = refl
+  by-value n x false false true r = refl
+  by-value n x false false false r = refl
+
+  at-part : (j : ℕ) (ps : List (Part (Unit {0}))) → among (partIn bs ns k j ∷ ps) ≡ cond (hit j) (some (massAt j)) (among ps)
+  unfolding partIn
+  at-part j ps =
+      first-cons (λ p. wanted obs (isKey Obs p)) (partIn bs ns k j) ps
+      ∙ by-value
+      (numberIn (getD ns (k * numberRowSize + j) (pos 0)) (byteAt bs (partAt k j + 2))) _
+      (eqb (byteAt bs (partAt k j)) 1) (eqb (byteAt bs (partAt k j)) 2) (wanted obs (isKey Obs (partIn bs ns k j))) (among ps)
+      ∙ ap (λ x. cond (eqb (byteAt bs x) 1 && wanted obs (isKey Obs (partIn bs ns k j))) (some (massAt j)) (among ps)) (sym (add-zero (partAt k j)))
+      ∙ ap (λ t. cond (eqb (byteAt bs (partAt k j + 0)) 1 && wanted obs t) (some (massAt j)) (among ps)) (key-is (byteAt bs (partAt k j + 1)) 7 (omega arith) (omega arith))
+
+  -- no such mass before part j
+  pub record Before (m j : ℕ) : Type 0 where
+    pub inside : j ≤ m
+    pub many : m ≡ byteAt bs (rowAt k + 4)
+    pub few : m ≤ partLimit
+    pub rest : among (bracketIn bs ns k .parts) ≡ among (tabled (partIn bs ns k) j (m - j))
+
+  pub before-start : (m : ℕ) → m ≡ byteAt bs (rowAt k + 4) → m ≤ partLimit → Before m 0
+  unfolding bracketIn
+  before-start m e few =
+      record {
+        inside = omega arith;
+        many = e;
+        few = few;
+        rest = ap (λ n. among (tabled (partIn bs ns k) 0 n)) (sym e) ∙ ap among (tabled-all (partIn bs ns k) m);
+      }
+
+  pub before-found : {m j : ℕ} {has : Bool} → Before m j → j < m → has ≡ hit j → has ≡ true → some (massAt j) ≡ among (bracketIn bs ns k .parts)
+  before-found {m} {j} b h e t =
+      sym
+      (b .rest ∙ ap among (tabled-at (partIn bs ns k) j m h) ∙ at-part j (tabled (partIn bs ns k) (j + 1) (m - (j + 1)))
+      ∙ ap (λ x. cond x (some (massAt j)) (among (tabled (partIn bs ns k) (j + 1) (m - (j + 1))))) (sym e ∙ t))
+
+  pub before-next : {m j : ℕ} {has : Bool} → Before m j → j < m → has ≡ hit j → has ≡ false → Before m (j + 1)
+  before-next {m} {j} b h e t =
+      record {
+        inside = omega arith;
+        many = b .many;
+        few = b .few;
+        rest =
+            b .rest ∙ ap among (tabled-at (partIn bs ns k) j m h) ∙ at-part j (tabled (partIn bs ns k) (j + 1) (m - (j + 1)))
+            ∙ ap (λ x. cond x (some (massAt j)) (among (tabled (partIn bs ns k) (j + 1) (m - (j + 1))))) (sym e ∙ t);
+      }
+
+  pub before-end : {m j : ℕ} → Before m j → m ≤ j → none ≡ among (bracketIn bs ns k .parts)
+  unfolding keep firstMass
+  before-end {m} {j} b h = sym (b .rest ∙ ap among (tabled-end (partIn bs ns k) j m h))
+
+-- ---- "its first mass without `Obs`, else its first `Obs` mass, else none"
+module _ (b : Bracket (Unit {0})) where
+  pub own-mass : {r : Mass} {m : ℤ} → saysMass r ≡ firstMass (keep (λ p. wanted false (isKey Obs p)) (b .parts)) → r ≡ Is m → some m ≡ massOf b
+  unfolding massOf
+  own-mass {r} {m} e q = ap (λ x. given x some (firstMass (keep (isKey Obs) (b .parts)))) (sym (ap saysMass q) ∙ e)
+
+  pub else-mass : {r : Mass} (s : Mass) → saysMass r ≡ firstMass (keep (λ p. wanted false (isKey Obs p)) (b .parts)) → r ≡ Lacking → saysMass s ≡ firstMass (keep (λ p. wanted true (isKey Obs p)) (b .parts)) → saysMass s ≡ massOf b
+  unfolding massOf
+  else-mass {r} s e q f = f ∙ ap (λ x. given x some (firstMass (keep (isKey Obs) (b .parts)))) (sym (ap saysMass q) ∙ e)
+
+  pub is-mass : {r : Mass} {m : ℤ} → saysMass r ≡ massOf b → r ≡ Is m → m ≡ massOr0 b
+  is-mass {r} {m} e q = ap (λ x. given x (λ z. z) (pos 0)) (sym (ap saysMass q) ∙ e)
+
+  pub no-mass-is-0 : {r : Mass} → saysMass r ≡ massOf b → r ≡ Lacking → pos 0 ≡ massOr0 b
+  no-mass-is-0 {r} e q = ap (λ x. given x (λ z. z) (pos 0)) (sym (ap saysMass q) ∙ e)
+
+pub with-obs : {v b key d : ℕ} {obs : Bool} → v ≡ b → v ≡ 1 → key ≡ d → obs ≡ true → eqb key 7 ≡ eqb b 1 && wanted obs (eqb d 7)
+with-obs {v} {b} {key} {d} e h f t = a-mass e h (eqb key 7) ∙ ap (λ n. eqb b 1 && eqb n 7) f ∙ ap (λ o. eqb b 1 && wanted o (eqb d 7)) (sym t)
+
+pub without-obs : {v b key d : ℕ} {obs : Bool} → v ≡ b → v ≡ 1 → key ≡ d → obs ≡ false → not (eqb key 7) ≡ eqb b 1 && wanted obs (eqb d 7)
+without-obs {v} {b} {key} {d} e h f t =
+    a-mass e h (not (eqb key 7)) ∙ ap (λ n. eqb b 1 && not (eqb n 7)) f ∙ ap (λ o. eqb b 1 && wanted o (eqb d 7)) (sym t)
+
+-- ---- what the bounds give where a bracket or a part of it is read
+module _ {bs : List ℕ} {ns : List ℤ} {k : ℕ} where
+  pub reach-row : Reach bs ns k → Row bs k
+  reach-row r = row (r .bounds) k (r .inside)
+
+  pub reach-next : {m j : ℕ} → Reach bs ns k → m ≡ byteAt bs (rowAt k + 4) → j < m → ReachPart bs ns k j
+  reach-next r e h = record { reach = r; part = rw (← e) h }
+
+module _ {bs : List ℕ} {ns : List ℤ} {k j : ℕ} (r : ReachPart bs ns k j) where
+  few-brackets : k < bracketLimit
+  few-brackets = reach-row (r .reach) .inside
+
+  few-parts : j < partLimit
+  few-parts = omega (arith, r .part, reach-row (r .reach) .few-parts)
+
+  abbrev bounds : PartBounds bs ns k j
+  bounds = r .reach .bounds .bracket k (r .reach .inside) .part j (r .part)
+
+  pub reach-number : (numbersSize ≤ length ns) × (k < bracketLimit) × (j < numberRowSize)
+  reach-number = (r .reach .bounds .numbers-room, few-brackets, omega (arith, few-parts))
+
+  pub reach-byte : (bytesSize ≤ length bs) × (k < bracketLimit) × (j < partLimit) × (2 < partSize)
+  reach-byte = (r .reach .bounds .bytes-room, few-brackets, few-parts, omega arith)
+
+  number-back : {m : ℤ} → m ≡ getD ns (k * numberRowSize + j) (pos 0) → toZ w64 (ofZ w64 m) ≡ m
+  number-back {m} e = back m (rw e (omega (arith, bounds .small)))
+
+  pub reach-decimals : {m : ℤ} {d : ℕ} → m ≡ getD ns (k * numberRowSize + j) (pos 0) → d ≡ byteAt bs (partAt k j + 2) → Small (toZ w64 (ofZ w64 m)) × (d ≤ decimalLimit)
+  reach-decimals {m} {d} e f = (rw (number-back e, e) (bounds .small), rw f (bounds .few-decimals))
+
+  pub mass-is : {x m : ℤ} {d : ℕ} → m ≡ getD ns (k * numberRowSize + j) (pos 0) → d ≡ byteAt bs (partAt k j + 2) → x ≡ millionths (numberIn (toZ w64 (ofZ w64 m)) d)
+      → x ≡ millionths (numberIn (getD ns (k * numberRowSize + j) (pos 0)) (byteAt bs (partAt k j + 2)))
+  mass-is {x} {m} {d} e f g =
+      g ∙ ap (λ z. millionths (numberIn z d)) (number-back e ∙ e)
+      ∙ ap (λ n. millionths (numberIn (getD ns (k * numberRowSize + j) (pos 0)) n)) f

@@ -1,0 +1,279 @@
+-- Laws of the total: every mass is small, and a loop over the brackets adds up what the definition does. Assumes nothing.
+use mathlib.Core.Path.{_≡_, refl, sym, ap, _∙_, subst}
+use mathlib.Core.Bool.{Bool, true, false, not, cond}
+use mathlib.Core.Option.{Option, none, some}
+use mathlib.Core.List.{List, [], _∷_, _++_, map}
+use Prim.Native.Nat.{ℕ, zero, suc, _+_, _-_, _*_, _^_, _≤_, _<_}
+use native.Mathlib.Nat.{add-zero, add-assoc, mul-le-mul}
+use native.Mathlib.Omega.{arith}
+use borrow.Author.Tests.{eq-eqb, ne-eqb}
+use lib.Dec.{eqb}
+use lib.IntN.{ℤ, pos, natAbs, _+ℤ_, _*ℤ_, +ℤ-idl, +ℤ-idr, +ℤ-assoc}
+use lib.ListN.{getD}
+use mir.Syntax.{w64}
+use mir.Val.{toZ, ofZ}
+use Rattle.scope.specs.declared.grammar.Key.the-variants.{Obs}
+use Rattle.scope.specs.Limits.{countLimit}
+use Rattle.scope.specs.Line.{Number, Value, mass, text, reference, Part, Bracket}
+use Rattle.scope.specs.Content.{given}
+use Rattle.scope.specs.Modifications.{keep, isKey, isModification}
+use Rattle.scope.specs.Tables.{tabled, byteAt, rowAt, partAt, numberRowSize, millionths, numberIn, partIn, bracketIn, tablesIn}
+use Rattle.scope.specs.Masses.{valueMass, firstMass, massOf, massOr0, sum, sumℕ, total, lacking}
+use Rattle.areas.specs.Bounds.{Small, PartBounds, BracketBounds, Bounds}
+use Rattle.brackets.specs.Tabled.{tabled-at, tabled-end, tabled-all}
+use Rattle.masses.specs.declared.Mass.{Mass}
+use Rattle.masses.specs.declared.Mass.the-variants.{Is, Lacking}
+use Rattle.masses.specs.declared.Weight.the-variants.{Total, Lacks}
+use Rattle.masses.specs.Reach.{Reach, ReachPart}
+use Rattle.masses.specs.Weights.{saysMass, weight, lack, weightOf}
+use Rattle.masses.specs.Tallies.{Before, CanTally, Tallied}
+use Rattle.masses.proofs.Whole.{abs-add, abs-mul, abs-millionths, back}
+use Rattle.masses.proofs.PartLaws.{first-cons, is-mass, reach-row}
+
+-- ---- every mass is small
+abbrev size : Option ℤ → ℕ
+size o = given o natAbs 0
+
+small-given : (o r : Option ℤ) (b : ℕ) → size o < b → size r < b → size (given o some r) < b
+small-given (some m) r b h k = h
+small-given none r b h k = k
+
+small-cond : (t : Bool) (o r : Option ℤ) (b : ℕ) → size o < b → size r < b → size (cond t (given o some r) r) < b
+small-cond true o r b h k = small-given o r b h k
+small-cond false o r b h k = k
+
+small-first : (g : Part (Unit {0}) → Bool) (f : ℕ → Part (Unit {0})) (b : ℕ) → 0 < b → (j n : ℕ) → ((i : ℕ) → i < j + n → size (valueMass (f i .value)) < b) → size (firstMass (keep g (tabled f j n))) < b
+unfolding tabled keep firstMass
+small-first g f b p j zero h = p
+small-first g f b p j (suc n) h =
+    subst (λ o. size o < b) (sym (first-cons g (f j) (tabled f (j + 1) n)))
+    (small-cond (g (f j)) (valueMass (f j .value)) (firstMass (keep g (tabled f (j + 1) n))) b (h j (omega arith)) (small-first g f b p (j + 1) n (λ i q. h i (omega arith))))
+
+small-value : (n : Number (Unit {0})) (x : List ℕ) (t u : Bool) (b : ℕ) → natAbs (millionths n) < b → size (valueMass (cond t (mass n) (cond u (text x) reference))) < b
+small-value n x true u b h = h
+small-value n x false true b h = omega arith
+small-value n x false false b h = omega arith
+
+size-is : (o : Option ℤ) → size o ≡ natAbs (given o (λ m. m) (pos 0))
+size-is (some m) = refl
+size-is none = refl
+
+module _ {bs : List ℕ} {ns : List ℤ} {k : ℕ} (r : Reach bs ns k) where
+  small-part : (i : ℕ) → i < byteAt bs (rowAt k + 4) → size (valueMass (partIn bs ns k i .value)) < 1000000000000
+  unfolding partIn
+  small-part i h =
+      small-value
+      (numberIn (getD ns (k * numberRowSize + i) (pos 0)) (byteAt bs (partAt k i + 2))) _
+      (eqb (byteAt bs (partAt k i)) 1) (eqb (byteAt bs (partAt k i)) 2) 1000000000000
+      (omega (arith, abs-millionths (getD ns (k * numberRowSize + i) (pos 0)) (byteAt bs (partAt k i + 2)), r .bounds .bracket k (r .inside) .part i h .small))
+
+  pub mass-small : natAbs (massOr0 (bracketIn bs ns k)) < 1000000000000
+  unfolding massOf bracketIn
+  mass-small =
+      subst (λ n. n < 1000000000000) (size-is (massOf (bracketIn bs ns k)))
+      (small-given
+      (firstMass (keep (λ p. not (isKey Obs p)) (tabled (partIn bs ns k) 0 (byteAt bs (rowAt k + 4)))))
+      (firstMass (keep (isKey Obs) (tabled (partIn bs ns k) 0 (byteAt bs (rowAt k + 4)))))
+      1000000000000
+      (small-first (λ p. not (isKey Obs p)) (partIn bs ns k) 1000000000000 (omega arith) 0 (byteAt bs (rowAt k + 4)) (λ i h. small-part i (omega arith)))
+      (small-first (isKey Obs) (partIn bs ns k) 1000000000000 (omega arith) 0 (byteAt bs (rowAt k + 4)) (λ i h. small-part i (omega arith))))
+
+  pub few-copies : bracketIn bs ns k .count ≤ countLimit
+  unfolding bracketIn
+  few-copies = r .bounds .bracket k (r .inside) .few-counts
+
+  weight-by : (t : Bool) → natAbs (cond t (pos (bracketIn bs ns k .count) *ℤ massOr0 (bracketIn bs ns k)) (pos 0)) ≤ 99000000000000
+  weight-by true =
+      let few : bracketIn bs ns k .count ≤ 99 = few-copies in
+      let small : natAbs (massOr0 (bracketIn bs ns k)) ≤ 1000000000000 = omega (arith, mass-small) in
+      omega (arith, abs-mul (bracketIn bs ns k .count) (massOr0 (bracketIn bs ns k)), mul-le-mul few small)
+  weight-by false = omega arith
+
+  pub weight-small : natAbs (weight (bracketIn bs ns k)) ≤ 99000000000000
+  unfolding weight
+  weight-small = weight-by (isModification (bracketIn bs ns k))
+
+  lack-by : (t : Bool) (o : Option ℤ) → cond t (given o (λ m. 0) (bracketIn bs ns k .count)) 0 ≤ 99
+  lack-by true (some m) = omega arith
+  lack-by true none = few-copies
+  lack-by false o = omega arith
+
+  pub lack-few : lack (bracketIn bs ns k) ≤ 99
+  unfolding lack
+  lack-few = lack-by (isModification (bracketIn bs ns k)) (massOf (bracketIn bs ns k))
+
+-- ---- one bracket more
+module _ (b : Bracket (Unit {0})) {is : Bool} (e : is ≡ isModification b) where
+  pub tallied-mass : {n lacks : ℕ} {o : Mass} {m p sum sum′ : ℤ} → is ≡ true → n ≡ b .count → saysMass o ≡ massOf b → o ≡ Is m → p ≡ pos n *ℤ m → sum′ ≡ sum +ℤ p → Tallied b sum lacks sum′ lacks
+  unfolding weight lack
+  tallied-mass {n} {lacks} {o} {m} {p} {sum} t c s i f g =
+      record {
+        sum-is =
+            g ∙ ap (λ x. sum +ℤ x) (f ∙ ap (λ x. pos x *ℤ m) c ∙ ap (λ x. pos (b .count) *ℤ x) (is-mass b s i) ∙ ap (λ x. cond x (pos (b .count) *ℤ massOr0 b) (pos 0)) (sym t ∙ e));
+        lacks-is =
+            sym (add-zero lacks)
+            ∙ ap (λ x. lacks + x) (ap (λ x. given x (λ y. 0) (b .count)) (sym (ap saysMass i) ∙ s) ∙ ap (λ x. cond x (given (massOf b) (λ y. 0) (b .count)) 0) (sym t ∙ e));
+      }
+
+  pub tallied-lack : {n lacks : ℕ} {o : Mass} {sum : ℤ} → is ≡ true → n ≡ b .count → saysMass o ≡ massOf b → o ≡ Lacking → Tallied b sum lacks sum (lacks + n)
+  unfolding weight lack
+  tallied-lack {n} {lacks} {o} {sum} t c s i =
+      record {
+        sum-is =
+            sym (+ℤ-idr sum)
+            ∙ ap (λ x. sum +ℤ x) (times-none (b .count) ∙ ap (λ x. pos (b .count) *ℤ given x (λ y. y) (pos 0)) (sym (ap saysMass i) ∙ s) ∙ ap (λ x. cond x (pos (b .count) *ℤ massOr0 b) (pos 0)) (sym t ∙ e));
+        lacks-is =
+            ap (λ x. lacks + x) (c ∙ ap (λ x. given x (λ y. 0) (b .count)) (sym (ap saysMass i) ∙ s) ∙ ap (λ x. cond x (given (massOf b) (λ y. 0) (b .count)) 0) (sym t ∙ e));
+      }
+    where
+      times-none : (n : ℕ) → pos 0 ≡ pos n *ℤ pos 0
+      times-none n = ap pos (omega arith)
+
+  pub tallied-none : {lacks : ℕ} {sum : ℤ} → is ≡ false → Tallied b sum lacks sum lacks
+  unfolding weight lack
+  tallied-none {lacks} {sum} t =
+      record {
+        sum-is = sym (+ℤ-idr sum) ∙ ap (λ x. sum +ℤ cond x (pos (b .count) *ℤ massOr0 b) (pos 0)) (sym t ∙ e);
+        lacks-is = sym (add-zero lacks) ∙ ap (λ x. lacks + cond x (given (massOf b) (λ y. 0) (b .count)) 0) (sym t ∙ e);
+      }
+
+-- the same, as the machine adds it: what it reads back from the bits of the sum, of the mass and of their product
+module _ {bs : List ℕ} {ns : List ℤ} {k w : ℕ} {s : ℤ} (t : CanTally bs ns k s w) {n : ℕ} {o : Mass} {m m′ : ℤ} (c : n ≡ bracketIn bs ns k .count) (f : saysMass o ≡ massOf (bracketIn bs ns k)) (q : o ≡ Is m) (read : m′ ≡ m) where
+  mass-known : m′ ≡ massOr0 (bracketIn bs ns k)
+  mass-known = read ∙ is-mass (bracketIn bs ns k) f q
+
+  few-known : n ≤ 99
+  few-known = rw c (few-copies (t .reach))
+
+  small-known : natAbs m′ < 1000000000000
+  small-known = rw mass-known (mass-small (t .reach))
+
+  pub asks-times : (n ≤ countLimit) × Small m′
+  asks-times = (few-known, small-known)
+
+  product-small : natAbs (pos n *ℤ m′) ≤ 99000000000000
+  product-small =
+      let small : natAbs m′ ≤ 1000000000000 = omega (arith, small-known) in
+      omega (arith, abs-mul n m′, mul-le-mul few-known small)
+
+  few-before : k < 64
+  few-before = reach-row (t .reach) .inside
+
+  sum-back : toZ w64 (ofZ w64 s) ≡ s
+  sum-back = back s (omega (arith, few-before, t .before .small))
+
+  product-back : {p : ℤ} → p ≡ pos n *ℤ m′ → toZ w64 (ofZ w64 p) ≡ pos n *ℤ m′
+  product-back {p} e = rw e (back (pos n *ℤ m′) (omega (arith, product-small)))
+
+  pub asks-add : {p : ℤ} → p ≡ pos n *ℤ m′ → natAbs (toZ w64 (ofZ w64 s)) + natAbs (toZ w64 (ofZ w64 p)) < 2 ^ 63
+  asks-add {p} e = rw (sum-back, product-back e) (omega (arith, few-before, t .before .small, product-small))
+
+  pub tallied-by-machine : {is : Bool} {p r r′ : ℤ} → is ≡ isModification (bracketIn bs ns k) → is ≡ true → p ≡ pos n *ℤ m′ → r ≡ toZ w64 (ofZ w64 s) +ℤ toZ w64 (ofZ w64 p) → r′ ≡ r → Tallied (bracketIn bs ns k) s w r′ w
+  tallied-by-machine {is} {p} e y g h i =
+      tallied-mass (bracketIn bs ns k) e y c f q (product-back g ∙ ap (λ x. pos n *ℤ x) read) (i ∙ h ∙ ap (λ x. x +ℤ toZ w64 (ofZ w64 p)) sum-back)
+
+pub lacked-by-machine : {bs : List ℕ} {ns : List ℤ} {k w n : ℕ} {s : ℤ} {is : Bool} {o : Mass} → CanTally bs ns k s w → is ≡ isModification (bracketIn bs ns k) → is ≡ true → n ≡ bracketIn bs ns k .count → saysMass o ≡ massOf (bracketIn bs ns k) → o ≡ Lacking
+    → Tallied (bracketIn bs ns k) s w (toZ w64 (ofZ w64 s)) (w + n)
+lacked-by-machine {bs} {ns} {k} {w} {n} {s} t e y c f q =
+    subst (λ x. Tallied (bracketIn bs ns k) s w x (w + n))
+    (sym (back s (omega (arith, reach-row (t .reach) .inside, t .before .small))))
+    (tallied-lack (bracketIn bs ns k) e y c f q)
+
+-- ---- the total of the brackets from k on
+abbrev weights : List (Bracket (Unit {0})) → ℤ
+weights ks = sum (map (λ k. pos (k .count) *ℤ massOr0 k) (keep isModification ks))
+
+abbrev lacks : List (Bracket (Unit {0})) → ℕ
+lacks ks = sumℕ (map (λ k. given (massOf k) (λ m. 0) (k .count)) (keep isModification ks))
+
+weights-cons : (b : Bracket (Unit {0})) (l : List (Bracket (Unit {0}))) → weights (b ∷ l) ≡ weight b +ℤ weights l
+unfolding sum keep weight
+weights-cons b l = by (isModification b)
+  where
+    by : (t : Bool) → sum (map (λ k. pos (k .count) *ℤ massOr0 k) (cond t (b ∷ []) [] ++ keep isModification l)) ≡ cond t (pos (b .count) *ℤ massOr0 b) (pos 0) +ℤ weights l
+    by true = refl
+    by false = sym (+ℤ-idl (weights l))
+
+lacks-cons : (b : Bracket (Unit {0})) (l : List (Bracket (Unit {0}))) → lacks (b ∷ l) ≡ lack b + lacks l
+unfolding sumℕ keep lack
+lacks-cons b l = by (isModification b)
+  where
+    by : (t : Bool) → sumℕ (map (λ k. given (massOf k) (λ m. 0) (k .count)) (cond t (b ∷ []) [] ++ keep isModification l)) ≡ cond t (given (massOf b) (λ m. 0) (b .count)) 0 + lacks l
+    by true = refl
+    by false = omega arith
+
+pub record Weighing (bs : List ℕ) (ns : List ℤ) (n k : ℕ) (s : ℤ) (w : ℕ) : Type 0 where
+  pub bounds : Bounds bs ns
+  pub many : n ≡ byteAt bs 1
+  pub inside : k ≤ n
+  pub before : Before k s w
+  pub sum-is : total (tablesIn bs ns) ≡ s +ℤ weights (tabled (bracketIn bs ns) k (n - k))
+  pub lacks-is : lacking (tablesIn bs ns) ≡ w + lacks (tabled (bracketIn bs ns) k (n - k))
+
+pub weighing-start : {bs : List ℕ} {ns : List ℤ} {n : ℕ} → Bounds bs ns → n ≡ byteAt bs 1 → Weighing bs ns n 0 (pos 0) 0
+unfolding tablesIn total lacking
+weighing-start {bs} {ns} {n} b e =
+    record {
+      bounds = b;
+      many = e;
+      inside = omega arith;
+      before = record { small = omega arith; few = omega arith };
+      sum-is =
+          ap (λ m. weights (tabled (bracketIn bs ns) 0 m)) (sym e) ∙ ap weights (tabled-all (bracketIn bs ns) n)
+          ∙ sym (+ℤ-idl (weights (tabled (bracketIn bs ns) 0 (n - 0))));
+      lacks-is =
+          ap (λ m. lacks (tabled (bracketIn bs ns) 0 m)) (sym e) ∙ ap lacks (tabled-all (bracketIn bs ns) n) ∙ from-0 (lacks (tabled (bracketIn bs ns) 0 (n - 0)));
+    }
+  where
+    from-0 : (x : ℕ) → x ≡ 0 + x
+    from-0 x = omega arith
+
+module _ {bs : List ℕ} {ns : List ℤ} {n k : ℕ} {s : ℤ} {w : ℕ} (i : Weighing bs ns n k s w) where
+  pub weighing-reach : k < n → Reach bs ns k
+  weighing-reach h = record { bounds = i .bounds; inside = rw (← i .many) h }
+
+  pub weighing-asks : k < n → CanTally bs ns k s w
+  weighing-asks h = record { reach = weighing-reach h; before = i .before }
+
+  pub weighing-next : {s′ : ℤ} {w′ : ℕ} → k < n → Tallied (bracketIn bs ns k) s w s′ w′ → Weighing bs ns n (k + 1) s′ w′
+  weighing-next {s′} {w′} h t =
+      record {
+        bounds = i .bounds;
+        many = i .many;
+        inside = omega arith;
+        before =
+            record {
+              small = rw (t .sum-is) (omega (arith, abs-add s (weight (bracketIn bs ns k)), weight-small (weighing-reach h), i .before .small));
+              few = rw (t .lacks-is) (omega (arith, lack-few (weighing-reach h), i .before .few));
+            };
+        sum-is =
+            i .sum-is
+            ∙ ap (λ x. s +ℤ x) (ap weights (tabled-at (bracketIn bs ns) k n h) ∙ weights-cons (bracketIn bs ns k) (tabled (bracketIn bs ns) (k + 1) (n - (k + 1))))
+            ∙ sym (+ℤ-assoc s (weight (bracketIn bs ns k)) (weights (tabled (bracketIn bs ns) (k + 1) (n - (k + 1)))))
+            ∙ ap (λ x. x +ℤ weights (tabled (bracketIn bs ns) (k + 1) (n - (k + 1)))) (sym (t .sum-is));
+        lacks-is =
+            i .lacks-is
+            ∙ ap (λ x. w + x) (ap lacks (tabled-at (bracketIn bs ns) k n h) ∙ lacks-cons (bracketIn bs ns k) (tabled (bracketIn bs ns) (k + 1) (n - (k + 1))))
+            ∙ sym (add-assoc w (lack (bracketIn bs ns k)) (lacks (tabled (bracketIn bs ns) (k + 1) (n - (k + 1)))))
+            ∙ ap (λ x. x + lacks (tabled (bracketIn bs ns) (k + 1) (n - (k + 1)))) (sym (t .lacks-is));
+      }
+
+  total-is : n ≤ k → total (tablesIn bs ns) ≡ s
+  unfolding sum keep
+  total-is h = i .sum-is ∙ ap (λ l. s +ℤ weights l) (tabled-end (bracketIn bs ns) k n h) ∙ +ℤ-idr s
+
+  lacking-is : n ≤ k → lacking (tablesIn bs ns) ≡ w
+  unfolding sumℕ keep
+  lacking-is h = i .lacks-is ∙ ap (λ l. w + lacks l) (tabled-end (bracketIn bs ns) k n h) ∙ add-zero w
+
+  sum-read : toZ w64 (ofZ w64 s) ≡ s
+  sum-read = back s (omega (arith, i .inside, i .many, i .bounds .few-brackets, i .before .small))
+
+  -- the machine reads the sum back from its bits
+  pub weighing-total : n ≤ k → w ≡ 0 → Total (toZ w64 (ofZ w64 s)) ≡ weightOf (tablesIn bs ns)
+  unfolding weightOf
+  weighing-total h z = ap Total sum-read ∙ rw (lacking-is h, total-is h, eq-eqb w 0 z)
+
+  pub weighing-lacks : n ≤ k → (w ≡ 0 → ⊥) → Lacks w ≡ weightOf (tablesIn bs ns)
+  unfolding weightOf
+  weighing-lacks h z = rw (lacking-is h, ne-eqb w 0 z)

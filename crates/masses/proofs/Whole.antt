@@ -1,0 +1,132 @@
+-- Whole numbers of the machine. `omega` reads no ℤ: a size, `natAbs`, is a ℕ, and what follows is said of sizes. Assumes nothing.
+use mathlib.Core.Path.{_≡_, refl, _∙_, subst}
+use mathlib.Core.Bool.{Bool, true, false, cond}
+use Prim.Native.Nat.{ℕ, zero, suc, _+_, _-_, _*_, _/_, _^_, _≤_, _<_}
+use native.Mathlib.Nat.{pow-le-pow-right, div-le-self, div-mul-le-self, zero-mul, mul-le-mul}
+use native.Mathlib.Omega.{arith}
+use borrow.Author.Tests.{ltb-true}
+use lib.Dec.{ltb}
+use lib.IntN.{ℤ, pos, negsuc, natAbs, negℤ, _+ℤ_, _*ℤ_}
+use lib.Signed.{quotZ}
+use mir.Syntax.{w64}
+use mir.Val.{SFits, toZ, ofZ}
+use mir.ValLaws.{toZ-ofZ, toZ-pos}
+use Rattle.scope.specs.Limits.{decimalLimit}
+use Rattle.scope.specs.Tables.{signed, isNegative, millionths, numberIn}
+
+sub-by : (a b : ℕ) (t : Bool) → ltb a b ≡ t → natAbs (cond t (negsuc (b - suc a)) (pos (a - b))) ≤ a + b
+sub-by a b true e = omega (arith, ltb-true a b e)
+sub-by a b false e = omega arith
+
+-- the size of a sum is at most the sizes' sum
+pub abs-add : (x y : ℤ) → natAbs (x +ℤ y) ≤ natAbs x + natAbs y
+abs-add (pos a) (pos b) = omega arith
+abs-add (pos a) (negsuc b) = sub-by a (suc b) (ltb a (suc b)) refl
+abs-add (negsuc a) (pos b) = omega (arith, sub-by b (suc a) (ltb b (suc a)) refl)
+abs-add (negsuc a) (negsuc b) = omega arith
+
+pub abs-neg : (z : ℤ) → natAbs (negℤ z) ≡ natAbs z
+abs-neg (pos zero) = refl
+abs-neg (pos (suc n)) = refl
+abs-neg (negsuc n) = refl
+
+pub abs-mul : (c : ℕ) (z : ℤ) → natAbs (pos c *ℤ z) ≡ c * natAbs z
+abs-mul c (pos b) = refl
+abs-mul c (negsuc b) = abs-neg (pos (c * suc b))
+
+-- a small size fits an `i64`, and is read back from its bits
+pub abs-fits : (z : ℤ) → natAbs z < 2 ^ 63 → SFits w64 z
+abs-fits (pos n) h = record { sfits = h }
+abs-fits (negsuc n) h = record { sfits = omega arith }
+
+pub back : (z : ℤ) → natAbs z < 2 ^ 63 → toZ w64 (ofZ w64 z) ≡ z
+back z h = toZ-ofZ w64 z (abs-fits z h)
+
+-- ---- a sum and a product, by what the machine reads back
+module _ (a b : ℤ) (h : natAbs a + natAbs b < 2 ^ 63) where
+  back-a : toZ w64 (ofZ w64 a) ≡ a
+  back-a = back a (omega arith)
+
+  back-b : toZ w64 (ofZ w64 b) ≡ b
+  back-b = back b (omega arith)
+
+  pub can-add : SFits w64 (toZ w64 (ofZ w64 a) +ℤ toZ w64 (ofZ w64 b))
+  can-add = rw (back-a, back-b) (abs-fits (a +ℤ b) (omega (arith, abs-add a b)))
+
+  pub sum-back : toZ w64 (ofZ w64 (toZ w64 (ofZ w64 a) +ℤ toZ w64 (ofZ w64 b))) ≡ a +ℤ b
+  sum-back = rw (back-a, back-b) (back (a +ℤ b) (omega (arith, abs-add a b)))
+
+module _ (n : ℕ) (m : ℤ) (few : n ≤ 99) (small : natAbs m < 1000000000000) where
+  back-n : toZ w64 n ≡ pos n
+  back-n = toZ-pos w64 n (omega arith)
+
+  back-m : toZ w64 (ofZ w64 m) ≡ m
+  back-m = back m (omega arith)
+
+  product : natAbs (pos n *ℤ m) < 2 ^ 63
+  product =
+      let less : natAbs m ≤ 1000000000000 = omega arith in
+      omega (arith, abs-mul n m, mul-le-mul few less)
+
+  pub can-times : SFits w64 (toZ w64 n *ℤ toZ w64 (ofZ w64 m))
+  can-times = rw (back-n, back-m) (abs-fits (pos n *ℤ m) product)
+
+  pub times-back : toZ w64 (ofZ w64 (toZ w64 n *ℤ toZ w64 (ofZ w64 m))) ≡ pos n *ℤ m
+  times-back = rw (back-n, back-m) (back (pos n *ℤ m) product)
+
+-- ---- a number to so many decimals
+pub unit-some : (d : ℕ) → 0 < 10 ^ (decimalLimit - d)
+unit-some d = pow-le-pow-right {n = 10} (omega arith) {i = 0} {j = decimalLimit - d} (omega arith)
+
+pub unit-few : (d : ℕ) → 10 ^ (decimalLimit - d) ≤ 1000000
+unit-few d = pow-le-pow-right {n = 10} (omega arith) {i = decimalLimit - d} {j = 6} (omega arith)
+
+neg-mul : (n p : ℕ) → negℤ (pos n) *ℤ pos p ≡ negℤ (pos (n * p))
+neg-mul zero p = rw (zero-mul p)
+neg-mul (suc n) p = refl
+
+cut : (m : ℤ) (p : ℕ) → quotZ m (pos p) *ℤ pos p ≡ signed (isNegative m) (natAbs m / p * p)
+cut (pos a) p = refl
+cut (negsuc a) p = neg-mul (suc a / p) p
+
+abs-quot : (m : ℤ) (p : ℕ) → natAbs (quotZ m (pos p)) ≤ natAbs m
+abs-quot (pos a) p = div-le-self a p
+abs-quot (negsuc a) p = rw (abs-neg (pos (suc a / p))) (div-le-self (suc a) p)
+
+abs-signed : (t : Bool) (n : ℕ) → natAbs (signed t n) ≡ n
+abs-signed true n = abs-neg (pos n)
+abs-signed false n = refl
+
+abs-cut : (m : ℤ) (p : ℕ) → natAbs (quotZ m (pos p) *ℤ pos p) ≤ natAbs m
+abs-cut m p = rw (cut m p, abs-signed (isNegative m) (natAbs m / p * p)) (div-mul-le-self (natAbs m) p)
+
+pub abs-millionths : (m : ℤ) (d : ℕ) → natAbs (millionths (numberIn m d)) ≤ natAbs m
+abs-millionths m d = subst (λ z. natAbs z ≤ natAbs m) (cut m (10 ^ (decimalLimit - d))) (abs-cut m (10 ^ (decimalLimit - d)))
+
+-- the machine divides by the unit, and multiplies again
+module _ (m : ℤ) (d : ℕ) (small : natAbs m < 1000000000000) {u : ℤ} (e : u ≡ pos (10 ^ (decimalLimit - d))) where
+  unit-back : toZ w64 (ofZ w64 u) ≡ pos (10 ^ (decimalLimit - d))
+  unit-back = rw e (back (pos (10 ^ (decimalLimit - d))) (omega (arith, unit-few d)))
+
+  mass-back : toZ w64 (ofZ w64 m) ≡ m
+  mass-back = back m (omega arith)
+
+  quot-small : natAbs (quotZ m (pos (10 ^ (decimalLimit - d)))) < 2 ^ 63
+  quot-small = omega (arith, abs-quot m (10 ^ (decimalLimit - d)))
+
+  pub can-divide : (0 < ofZ w64 u) × SFits w64 (quotZ (toZ w64 (ofZ w64 m)) (toZ w64 (ofZ w64 u)))
+  can-divide = (rw e (unit-some d), rw (unit-back, mass-back) (abs-fits (quotZ m (pos (10 ^ (decimalLimit - d)))) quot-small))
+
+  quot-back : toZ w64 (ofZ w64 (quotZ (toZ w64 (ofZ w64 m)) (toZ w64 (ofZ w64 u)))) ≡ quotZ m (pos (10 ^ (decimalLimit - d)))
+  quot-back = rw (unit-back, mass-back) (back (quotZ m (pos (10 ^ (decimalLimit - d)))) quot-small)
+
+  product-small : natAbs (quotZ m (pos (10 ^ (decimalLimit - d))) *ℤ pos (10 ^ (decimalLimit - d))) < 2 ^ 63
+  product-small = omega (arith, abs-cut m (10 ^ (decimalLimit - d)))
+
+  pub can-multiply : SFits w64 (toZ w64 (ofZ w64 (quotZ (toZ w64 (ofZ w64 m)) (toZ w64 (ofZ w64 u)))) *ℤ toZ w64 (ofZ w64 u))
+  can-multiply = rw (quot-back, unit-back) (abs-fits (quotZ m (pos (10 ^ (decimalLimit - d))) *ℤ pos (10 ^ (decimalLimit - d))) product-small)
+
+  pub to-decimals-is : toZ w64 (ofZ w64 (toZ w64 (ofZ w64 (quotZ (toZ w64 (ofZ w64 m)) (toZ w64 (ofZ w64 u)))) *ℤ toZ w64 (ofZ w64 u))) ≡ millionths (numberIn m d)
+  to-decimals-is =
+      rw (quot-back, unit-back)
+      (back (quotZ m (pos (10 ^ (decimalLimit - d))) *ℤ pos (10 ^ (decimalLimit - d))) product-small ∙ cut m (10 ^ (decimalLimit - d)))

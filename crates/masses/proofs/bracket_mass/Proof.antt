@@ -1,0 +1,34 @@
+-- `masses::bracket_mass` meets its contract: each arm is given which constructor the mass without `Obs` is. Assumes nothing.
+use mathlib.Core.Path.{_≡_, ap, _∙_}
+use mathlib.Core.Option.{some}
+use mir.Syntax.{w64}
+use mir.Val.{toZ, ofZ}
+use Rattle.masses.proofs.PartLaws.{own-mass, else-mass}
+use borrow.Author.Needs.{needs}
+use Rattle.masses.proofs.bracket_mass.Statement.{statement}
+use Rattle.masses.proofs.bracket_mass.Tie as tie
+
+first-mass-requires : tie.Need-first-mass-requires
+first-mass-requires c κs = search needs
+
+enum-known-own : tie.Need-enum-known-own
+enum-known-own c = search needs
+
+enum-told : tie.Need-enum-told
+enum-told c = search needs
+
+first-mass-requires-2 : tie.Need-first-mass-requires-2
+first-mass-requires-2 c κs = search needs
+
+returns : tie.Need-returns
+returns c =
+    let read : toZ w64 (ofZ w64 (c .before .own .given .0 .0)) ≡ c .before .own .given .0 .0 = search needs in
+    ap some read ∙ own-mass _ (c .before .before .before .first-mass .ensures) (c .before .own .given .1)
+
+returns-2 : tie.Need-returns-2
+returns-2 c = else-mass _ (c .first-mass2 .result) (c .before .before .before .first-mass .ensures) (c .before .enum-told .given .1) (c .first-mass2 .ensures)
+
+pub bracket-mass-spec : {M : Type 1} → statement M
+bracket-mass-spec =
+    tie.close
+    (tie.spec first-mass-requires enum-known-own enum-told first-mass-requires-2 returns returns-2)

@@ -1,0 +1,29 @@
+-- `masses::mass_or_0` meets its contract. Assumes nothing.
+use mathlib.Core.Path.{_≡_, _∙_}
+use mir.Syntax.{w64}
+use mir.Val.{toZ, ofZ}
+use Rattle.masses.proofs.PartLaws.{is-mass, no-mass-is-0}
+use borrow.Author.Needs.{needs}
+use Rattle.masses.proofs.mass_or_0.Statement.{statement}
+use Rattle.masses.proofs.mass_or_0.Tie as tie
+
+bracket-mass-requires : tie.Need-bracket-mass-requires
+bracket-mass-requires c κs = search needs
+
+enum-known-mass : tie.Need-enum-known-mass
+enum-known-mass c = search needs
+
+enum-told : tie.Need-enum-told
+enum-told c = search needs
+
+returns : tie.Need-returns
+returns c =
+    let read : toZ w64 (ofZ w64 (c .before .mass .given .0 .0)) ≡ c .before .mass .given .0 .0 = search needs in
+    read ∙ is-mass _ (c .before .before .before .bracket-mass .ensures) (c .before .mass .given .1)
+
+returns-2 : tie.Need-returns-2
+returns-2 c = no-mass-is-0 _ (c .before .before .bracket-mass .ensures) (c .enum-told .given .1)
+
+pub mass-or-0-spec : {M : Type 1} → statement M
+mass-or-0-spec =
+    tie.close (tie.spec bracket-mass-requires enum-known-mass enum-told returns returns-2)

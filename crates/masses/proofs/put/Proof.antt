@@ -1,0 +1,82 @@
+-- `masses::put` meets its contract. Assumes nothing.
+use mathlib.Core.Path.{_≡_}
+use Prim.Native.Nat.{_-_}
+use native.Mathlib.Omega.{arith}
+use borrow.Author.Needs.{needs}
+use lib.ListN.{length}
+use mir.Syntax.{w64}
+use mir.Val.{toZ}
+use mir.ValLaws.{toZ-ofZ}
+use Rattle.masses.proofs.LedgerLaws.{Putting, putting-start, putting-few, putting-asks, putting-again, putting-end}
+use Rattle.masses.proofs.put.Statement.{statement}
+use Rattle.masses.proofs.put.Tie as tie
+
+abbrev Inv-loop : tie.InvT-loop
+Inv-loop l₀ i c m at end j₀ l j = Putting l₀ at i c (toZ w64 m) end j l
+
+abbrev μ-loop : tie.MeasureT-loop
+μ-loop l₀ i c m at end j₀ l j = end - j
+
+until-requires : tie.Need-until-requires Inv-loop μ-loop
+until-requires c κs = (c .pre .few, c .pre .count)
+
+loop-holds : tie.Need-loop-holds Inv-loop μ-loop
+loop-holds c =
+    let long : length (c .before .args .t2) ≡ 8 = search needs in
+    putting-start long (c .before .pre) (toZ-ofZ w64 (c .before .args .m) (c .before .fits .m)) (c .until .ensures)
+
+array-read-wide : tie.Need-array-read-wide Inv-loop μ-loop
+array-read-wide c = omega (arith, putting-few (c .before .loop .inv) (c .loop-test .taken), c .before .loop .inv .from)
+
+wide-requires : tie.Need-wide-requires Inv-loop μ-loop
+wide-requires c κs = search needs
+
+mul-old : tie.Need-mul-old Inv-loop μ-loop
+mul-old c = omega arith
+
+element-copy-out-old : tie.Need-element-copy-out-old Inv-loop μ-loop
+element-copy-out-old c = omega arith
+
+add-requires : tie.Need-add-requires Inv-loop μ-loop
+add-requires c κs = putting-asks (c .before .before .before .loop .inv) (c .before .before .loop-test .taken) (c .before .wide .ensures .1)
+
+mul-t15 : tie.Need-mul-t15 Inv-loop μ-loop
+mul-t15 c = omega arith
+
+element-set-from-l : tie.Need-element-set-from-l Inv-loop μ-loop
+element-set-from-l c = omega arith
+
+add-j : tie.Need-add-j Inv-loop μ-loop
+add-j c = omega arith
+
+loop-less : tie.Need-loop-less Inv-loop μ-loop
+loop-less c = omega arith
+
+loop-again : tie.Need-loop-again Inv-loop μ-loop
+loop-again c =
+    putting-again (c .before .before .before .before .loop .inv) (c .before .before .before .loop-test .taken) (c .before .before .wide .ensures .1) (c .before .before .wide .ensures .0) (c .add .ensures)
+
+returns : tie.Need-returns Inv-loop μ-loop
+returns c =
+    let start = c .before .before .before in
+    putting-end (c .before .loop .inv) (c .loop-test .left) (toZ-ofZ w64 (start .args .m) (start .fits .m))
+
+pub put-spec : {M : Type 1} → statement M
+put-spec =
+    tie.close
+    (tie.spec
+    Inv-loop
+    μ-loop
+    until-requires
+    loop-holds
+    array-read-wide
+    wide-requires
+    mul-old
+    element-copy-out-old
+    add-requires
+    mul-t15
+    element-set-from-l
+    add-j
+    loop-less
+    loop-again
+    returns)

@@ -1,0 +1,4 @@
+pub mod Reach
+pub mod Weights
+pub mod Tallies
+pub mod Booking

@@ -1,0 +1,16 @@
+-- What a reading of one bracket's masses asks of the areas.
+use mathlib.Core.List.{List}
+use Prim.Native.Nat.{ℕ, _+_, _<_}
+use lib.IntN.{ℤ}
+use Rattle.scope.specs.Tables.{byteAt, rowAt}
+use Rattle.areas.specs.Bounds.{Bounds}
+
+-- the areas keep to the bounds of tables, and there is a bracket k
+pub record Reach (bs : List ℕ) (ns : List ℤ) (k : ℕ) : Type 0 where
+  pub bounds : Bounds bs ns
+  pub inside : k < byteAt bs 1
+
+-- and it has a part j
+pub record ReachPart (bs : List ℕ) (ns : List ℤ) (k j : ℕ) : Type 0 where
+  pub reach : Reach bs ns k
+  pub part : j < byteAt bs (rowAt k + 4)

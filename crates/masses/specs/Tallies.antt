@@ -1,0 +1,21 @@
+-- What a tally of the brackets before bracket k keeps to, and what bracket k adds to it.
+use mathlib.Core.Path.{_≡_}
+use mathlib.Core.List.{List}
+use Prim.Native.Nat.{ℕ, _+_, _*_, _≤_}
+use lib.IntN.{ℤ, natAbs, _+ℤ_}
+use Rattle.scope.specs.Line.{Bracket}
+use Rattle.masses.specs.Reach.{Reach}
+use Rattle.masses.specs.Weights.{weight, lack}
+
+-- each bracket before adds at most 99 masses below 1,000,000, or 99 that lack one
+pub record Before (k : ℕ) (sum : ℤ) (lacks : ℕ) : Type 0 where
+  pub small : natAbs sum ≤ k * 99000000000000
+  pub few : lacks ≤ k * 99
+
+pub record CanTally (bs : List ℕ) (ns : List ℤ) (k : ℕ) (sum : ℤ) (lacks : ℕ) : Type 0 where
+  pub reach : Reach bs ns k
+  pub before : Before k sum lacks
+
+pub record Tallied (b : Bracket (Unit {0})) (sum : ℤ) (lacks : ℕ) (sum′ : ℤ) (lacks′ : ℕ) : Type 0 where
+  pub sum-is : sum′ ≡ sum +ℤ weight b
+  pub lacks-is : lacks′ ≡ lacks + lack b

@@ -1,0 +1,317 @@
+// Masses: a bracket's, the total, the ledger of a placement, and the display.
+use areas::number;
+use areas::part_byte;
+use areas::wide;
+use brackets::copies_of;
+use brackets::count;
+use brackets::first;
+use brackets::is_modification;
+use brackets::is_placed;
+use brackets::parts;
+use scope::answers::Ledger;
+use scope::answers::Placement;
+ghost use mathlib.Core.Path.{_≡_};
+ghost use mathlib.Core.Bool.{_&&_};
+ghost use Prim.Native.Nat.{min, _+_, _*_, _-_, _<_, _≤_, _^_};
+ghost use lib.Dec.{eqb};
+ghost use lib.IntN.{pos, natAbs, _+ℤ_, _*ℤ_};
+ghost use lib.ListN.{getD};
+ghost use Rattle.scope.specs.declared.grammar.Key.the-variants.{Obs};
+ghost use Rattle.scope.specs.Limits.{partLimit, decimalLimit, countLimit, copyLimit};
+ghost use Rattle.scope.specs.Modifications.{keep, isKey, copies};
+ghost use Rattle.scope.specs.Tables.{byteAt, partAt, numberRowSize, millionths, numberIn, bracketIn, tablesIn};
+ghost use Rattle.scope.specs.Masses.{firstMass, massOf, massOr0, ledger, daltons};
+ghost use Rattle.areas.specs.Bounds.{Small, Bounds};
+ghost use Rattle.brackets.specs.Row.{Row};
+ghost use Rattle.masses.specs.Reach.{Reach, ReachPart};
+ghost use Rattle.masses.specs.Weights.{saysMass, wanted, weightOf, placedMass};
+ghost use Rattle.masses.specs.Tallies.{CanTally, Tallied};
+ghost use Rattle.masses.specs.Booking.{Placed, CanPut, CanFloat, Put};
+
+// The mass of a bracket.
+pub enum Mass {
+    Is(i64),
+    Lacking,
+}
+
+// The total, or how many modifications have no mass.
+pub enum Weight {
+    Total(i64),
+    Lacks(usize),
+}
+
+// The sum so far, and how many modifications had no mass.
+struct Tally {
+    sum: i64,
+    lacks: usize,
+}
+
+// A unit of the last of so many decimals, in millionths.
+fn unit(decimals: u8) -> i64
+    requires { ⌜ decimals ≤ decimalLimit ⌝ }
+    ensures { λ r. ⌜ r ≡ pos (10 ^ (decimalLimit - decimals)) ⌝ }
+{
+    if decimals == 0 {
+        return 1000000;
+    }
+    if decimals == 1 {
+        return 100000;
+    }
+    if decimals == 2 {
+        return 10000;
+    }
+    if decimals == 3 {
+        return 1000;
+    }
+    if decimals == 4 {
+        return 100;
+    }
+    if decimals == 5 {
+        return 10;
+    }
+    1
+}
+
+// So many millionths, to so many decimals. In tables of a line these are all that the number has.
+fn to_decimals(m: i64, decimals: u8) -> i64
+    requires { ⌜ (Small m) × (decimals ≤ decimalLimit) ⌝ }
+    ensures { λ r. ⌜ r ≡ millionths (numberIn m decimals) ⌝ }
+{
+    let u = unit(decimals);
+    let whole = m / u;
+    whole * u
+}
+
+// The mass of part j of bracket k.
+fn part_mass(bytes: &[u8], numbers: &[i64], k: usize, j: usize) -> i64
+    requires { ⌜ ReachPart (now bytes) (now numbers) k j ⌝ }
+    ensures { λ r. ⌜ r ≡ millionths (numberIn (getD (now (numbers .entry)) (k * numberRowSize + j) (pos 0)) (byteAt (now (bytes .entry)) (partAt k j + 2))) ⌝ }
+{
+    to_decimals(number(numbers, k, j), part_byte(bytes, k, j, 2))
+}
+
+// Whether part j of bracket k is a mass, behind `Obs` or not as asked.
+fn has_mass(bytes: &[u8], k: usize, j: usize, obs: bool) -> bool
+    requires { ⌜ (Row (now bytes) k) × (j < partLimit) ⌝ }
+    ensures { λ r. ⌜ r ≡ eqb (byteAt (now (bytes .entry)) (partAt k j + 0)) 1 && wanted obs (eqb (byteAt (now (bytes .entry)) (partAt k j + 1)) 7) ⌝ }
+{
+    let value = part_byte(bytes, k, j, 0);
+    if value != 1 {
+        return false;
+    }
+    let key = part_byte(bytes, k, j, 1);
+    if obs {
+        return key == 7;
+    }
+    key != 7
+}
+
+// The first mass of bracket k, among those behind `Obs` or the others.
+fn first_mass(bytes: &[u8], numbers: &[i64], k: usize, obs: bool) -> Mass
+    requires { ⌜ Reach (now bytes) (now numbers) k ⌝ }
+    ensures { λ r. ⌜ saysMass r ≡ firstMass (keep (λ p. wanted obs (isKey Obs p)) (bracketIn (now (bytes .entry)) (now (numbers .entry)) k .parts)) ⌝ }
+{
+    let m = parts(bytes, k);
+    let mut j: usize = 0;
+    while j < m {
+        if has_mass(bytes, k, j, obs) {
+            return Mass::Is(part_mass(bytes, numbers, k, j));
+        }
+        j += 1;
+    }
+    Mass::Lacking
+}
+
+// "its first mass without `Obs`, else its first `Obs` mass, else none"
+pub fn bracket_mass(bytes: &[u8], numbers: &[i64], k: usize) -> Mass
+    requires { ⌜ Reach (now bytes) (now numbers) k ⌝ }
+    ensures { λ r. ⌜ saysMass r ≡ massOf (bracketIn (now (bytes .entry)) (now (numbers .entry)) k) ⌝ }
+{
+    let own = first_mass(bytes, numbers, k, false);
+    match own {
+        Mass::Is(m) => Mass::Is(m),
+        Mass::Lacking => first_mass(bytes, numbers, k, true),
+    }
+}
+
+// The same, and 0 for none.
+pub fn mass_or_0(bytes: &[u8], numbers: &[i64], k: usize) -> i64
+    requires { ⌜ Reach (now bytes) (now numbers) k ⌝ }
+    ensures { λ r. ⌜ r ≡ massOr0 (bracketIn (now (bytes .entry)) (now (numbers .entry)) k) ⌝ }
+{
+    let mass = bracket_mass(bytes, numbers, k);
+    match mass {
+        Mass::Is(m) => m,
+        Mass::Lacking => 0,
+    }
+}
+
+// A sum that fits.
+fn add(a: i64, b: i64) -> i64
+    requires { ⌜ natAbs a + natAbs b < 2 ^ 63 ⌝ }
+    ensures { λ r. ⌜ r ≡ a +ℤ b ⌝ }
+{
+    a + b
+}
+
+// A mass taken so many times.
+fn times(n: usize, m: i64) -> i64
+    requires { ⌜ (n ≤ countLimit) × (Small m) ⌝ }
+    ensures { λ r. ⌜ r ≡ pos n *ℤ m ⌝ }
+{
+    let c = n as i64;
+    c * m
+}
+
+// The tally with bracket k.
+fn tally_with(bytes: &[u8], numbers: &[i64], k: usize, t: Tally) -> Tally
+    requires { ⌜ CanTally (now bytes) (now numbers) k (t .sum) (t .lacks) ⌝ }
+    ensures { λ r. ⌜ Tallied (bracketIn (now (bytes .entry)) (now (numbers .entry)) k) (t .sum) (t .lacks) (r .sum) (r .lacks) ⌝ }
+{
+    if is_modification(bytes, k) {
+        let n = count(bytes, k);
+        let mass = bracket_mass(bytes, numbers, k);
+        match mass {
+            Mass::Is(m) => {
+                return Tally {
+                    sum: add(t.sum, times(n, m)),
+                    lacks: t.lacks,
+                };
+            }
+            Mass::Lacking => {
+                return Tally {
+                    sum: t.sum,
+                    lacks: t.lacks + n,
+                };
+            }
+        }
+    }
+    t
+}
+
+// The total of the tables, or how many modifications have no mass.
+pub fn weigh(bytes: &[u8], numbers: &[i64]) -> Weight
+    requires { ⌜ Bounds (now bytes) (now numbers) ⌝ }
+    ensures { λ r. ⌜ r ≡ weightOf (tablesIn (now (bytes .entry)) (now (numbers .entry))) ⌝ }
+{
+    let n = areas::brackets(bytes);
+    let mut t = Tally { sum: 0, lacks: 0 };
+    let mut k: usize = 0;
+    while k < n {
+        t = tally_with(bytes, numbers, k, t);
+        k += 1;
+    }
+    let lacks = t.lacks;
+    if lacks == 0 {
+        return Weight::Total(t.sum);
+    }
+    Weight::Lacks(lacks)
+}
+
+// "the whole number becomes a double with nothing lost and is divided once by 1,000,000"
+pub fn as_daltons(total: i64) -> f64
+    requires { ⌜ natAbs total < 71000000000000 ⌝ }
+    ensures { λ r. ⌜ r ≡ daltons total ⌝ }
+{
+    (total as f64) / 1000000.0
+}
+
+// The mass that bracket k adds to the entry of its position.
+fn placed_mass(bytes: &[u8], numbers: &[i64], k: usize) -> i64
+    requires { ⌜ Reach (now bytes) (now numbers) k ⌝ }
+    ensures { λ r. ⌜ r ≡ placedMass (bracketIn (now (bytes .entry)) (now (numbers .entry)) k) ⌝ }
+{
+    if is_placed(bytes, k) {
+        return mass_or_0(bytes, numbers, k);
+    }
+    0
+}
+
+// The ledger with the placed modifications.
+fn placed_ledger(bytes: &[u8], numbers: &[i64]) -> [i64; Ledger::POSITIONS]
+    requires { ⌜ Bounds (now bytes) (now numbers) ⌝ }
+    ensures { λ r. ⌜ Placed (now (bytes .entry)) (now (numbers .entry)) r ⌝ }
+{
+    let mut l = [0; Ledger::POSITIONS];
+    let n = areas::brackets(bytes);
+    let mut k: usize = 0;
+    while k < n {
+        let x = first(bytes, k);
+        let m = placed_mass(bytes, numbers, k);
+        let old = l[x];
+        l[x] = add(old, m);
+        k += 1;
+    }
+    l
+}
+
+// Where c entries of a placement from i on end.
+fn until(i: usize, c: usize) -> usize
+    requires { ⌜ (i ≤ copyLimit) × (c ≤ countLimit) ⌝ }
+    ensures { λ r. ⌜ r ≡ min (i + c) copyLimit ⌝ }
+{
+    let end = i + c;
+    if end < Placement::COPIES {
+        return end;
+    }
+    Placement::COPIES
+}
+
+// c copies of a mass, at the placement's positions from i on. How many copies are put then.
+fn put(
+    l: &mut [i64; Ledger::POSITIONS],
+    at: [u8; Placement::COPIES],
+    i: usize,
+    c: usize,
+    m: i64,
+) -> usize
+    requires { ⌜ CanPut (now l) i c m ⌝ }
+    ensures { λ r. ⌜ Put (now (l .entry)) (now (l .exit)) at i c m r ⌝ }
+{
+    let end = until(i, c);
+    let mut j = i;
+    while j < end {
+        let x = wide(at[j]);
+        let old = l[x];
+        l[x] = add(old, m);
+        j += 1;
+    }
+    end
+}
+
+// The floating copies of bracket k.
+fn put_bracket(
+    bytes: &[u8],
+    numbers: &[i64],
+    k: usize,
+    l: &mut [i64; Ledger::POSITIONS],
+    at: [u8; Placement::COPIES],
+    i: usize,
+) -> usize
+    requires { ⌜ CanFloat (now bytes) (now numbers) k (now l) i ⌝ }
+    ensures { λ r. ⌜ Put (now (l .entry)) (now (l .exit)) at i (copies (bracketIn (now (bytes .entry)) (now (numbers .entry)) k)) (massOr0 (bracketIn (now (bytes .entry)) (now (numbers .entry)) k)) r ⌝ }
+{
+    let c = copies_of(bytes, k);
+    if c == 0 {
+        return i;
+    }
+    let m = mass_or_0(bytes, numbers, k);
+    put(l, at, i, c, m)
+}
+
+// The ledger of a placement.
+pub fn ledger_of(bytes: &[u8], numbers: &[i64], p: Placement) -> [i64; Ledger::POSITIONS]
+    requires { ⌜ Bounds (now bytes) (now numbers) ⌝ }
+    ensures { λ r. ⌜ r ≡ ledger (tablesIn (now (bytes .entry)) (now (numbers .entry))) (p .at) ⌝ }
+{
+    let at = p.at;
+    let mut l = placed_ledger(bytes, numbers);
+    let n = areas::brackets(bytes);
+    let mut k: usize = 0;
+    let mut i: usize = 0;
+    while k < n {
+        i = put_bracket(bytes, numbers, k, &mut l, at, i);
+        k += 1;
+    }
+    l
+}

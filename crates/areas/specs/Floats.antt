@@ -1,13 +1,13 @@
 -- The floaters of the tables in areas, and a table of bytes of where each may stand.
 use mathlib.Core.Path.{_≡_}
 use mathlib.Core.List.{List, map}
-use Prim.Native.Nat.{ℕ, _+_, _*_, _≤_}
+use Prim.Native.Nat.{ℕ, _+_, _*_, _≤_, _<_}
 use lib.Dec.{eqb}
 use lib.IntN.{ℤ}
 use lib.ListN.{length, getD, take}
 use Rattle.scope.specs.Limits.{copyLimit, rowLimit, positionLimit}
 use Rattle.scope.specs.Modifications.{keep}
-use Rattle.scope.specs.Tables.{tabled, bracketIn, tablesIn}
+use Rattle.scope.specs.Tables.{tabled, byteAt, bracketIn, tablesIn}
 use Rattle.scope.specs.Positions.{floaters, permittedPositions}
 
 -- the positions of floater f: those x whose byte, among the 256 of f, is 1
@@ -28,6 +28,7 @@ pub record FloatersAre (bs : List ℕ) (ns : List ℤ) (count : ℕ) (index : Li
   pub many : count ≡ length (floaters (tablesIn bs ns))
   pub few : count ≤ copyLimit
   pub brackets : floaters (tablesIn bs ns) ≡ map (bracketIn bs ns) (take count index)
+  pub inside : (i : ℕ) → i < count → getD index i 0 < byteAt bs 1
 
 abbrev pub TableIs : List ℕ → List ℤ → List ℕ → ℕ → Type 0
 TableIs bs ns tab count = listsIn tab count ≡ permittedPositions (tablesIn bs ns)

@@ -1,0 +1,132 @@
+-- Refusal 12 from the notes. Assumes nothing.
+use Prim.Native.Nat.{ℕ, zero, suc, _+_, _-_, _≤_, _<_, min}
+use mathlib.Core.Path.{_≡_, refl, ap, _∙_}
+use mathlib.Core.Bool.{Bool, true, false, not, cond, _&&_}
+use mathlib.Core.List.{List, [], _∷_, _++_}
+use native.Mathlib.Omega.{arith}
+use lib.Dec.{leb, ltb}
+use lib.ListN.{length, drop, drop-of-length-le}
+use borrow.Author.Tests.{eq-eqb, ne-eqb, le-leb, lt-leb, lt-ltb, le-ltb, ltb-true, ltb-false}
+use Rattle.basics.specs.Choice.{by-test}
+use Rattle.scope.specs.declared.grammar.Kind.{Kind}
+use Rattle.scope.specs.declared.grammar.Kind.the-variants.{Unknown, Labile, NTerm, OnResidue, OnRange, CTerm}
+use Rattle.scope.specs.Canonical.{kindCode}
+use Rattle.scope.specs.Line.{Bracket, Line}
+use Rattle.scope.specs.Modifications.{onlyInfo, isReferring, isLabelled, unlabelledCopies, copies}
+use Rattle.scope.specs.Refusals.{least, dueAt, passing, refusal12}
+use Rattle.notes.specs.Notes.{coded, sortOf, NotesAre}
+use Rattle.notes.specs.Rows.{noteAt, copiesIn, copiesAt, passedAt}
+use Rattle.notes.proofs.Noting.{bracketAt, drop-next, noted-at}
+
+-- what the numbers of a row say
+module _ (sort kind count : ℕ) where
+  pub copies-labelled : {x : ℕ} → x ≡ sort → x ≡ 2 → 1 ≡ copiesIn sort kind count
+  copies-labelled e h = rw (eq-eqb sort 2 (omega arith))
+
+  module _ {x : ℕ} (e : x ≡ sort) (h : x ≡ 2 → ⊥) where
+    pub copies-none : (x ≡ 1 → ⊥) → 0 ≡ copiesIn sort kind count
+    copies-none g = rw (ne-eqb sort 2 (λ z. h (e ∙ z)), ne-eqb sort 1 (λ z. g (e ∙ z)))
+
+    module _ (g : x ≡ 1) {y : ℕ} (f : y ≡ kind) where
+      pub copies-unknown : {z : ℕ} → y ≡ 1 → z ≡ count → z ≡ copiesIn sort kind count
+      copies-unknown l i = rw (ne-eqb sort 2 (λ z. h (e ∙ z)), eq-eqb sort 1 (omega arith), eq-eqb kind 1 (omega arith)) i
+
+      pub copies-ranged : (y ≡ 1 → ⊥) → y ≡ 5 → 1 ≡ copiesIn sort kind count
+      copies-ranged l i =
+          rw (ne-eqb sort 2 (λ z. h (e ∙ z)), eq-eqb sort 1 (omega arith), ne-eqb kind 1 (λ z. l (f ∙ z)), eq-eqb kind 5 (omega arith))
+
+      pub copies-placed : (y ≡ 1 → ⊥) → (y ≡ 5 → ⊥) → 0 ≡ copiesIn sort kind count
+      copies-placed l i =
+          rw (ne-eqb sort 2 (λ z. h (e ∙ z)), eq-eqb sort 1 (omega arith), ne-eqb kind 1 (λ z. l (f ∙ z)), ne-eqb kind 5 (λ z. i (f ∙ z)))
+
+-- the loop: so many copies before the k-th bracket, and no more than 8
+pub record NotPassed (notes : List ℕ) (n before k : ℕ) : Type 0 where
+  pub within : k ≤ n
+  pub low : before ≤ 8
+  pub left : passedAt notes before k (n - k) ≡ passedAt notes 0 0 n
+
+module _ (notes : List ℕ) (n : ℕ) where
+  pub passed-starts : NotPassed notes n 0 0
+  passed-starts =
+      let e : n - 0 ≡ n = omega arith in
+      record { within = omega arith; low = omega arith; left = rw e }
+
+  module _ (before k : ℕ) (s : NotPassed notes n before k) where
+    pub passed-more : {x : ℕ} → k < n → x ≡ copiesAt notes k → before + x ≤ 8 → NotPassed notes n (before + x) (k + 1)
+    unfolding passedAt
+    passed-more h e l =
+        let q : n - k ≡ suc (n - (k + 1)) = omega arith in
+        let g = rw (q, le-ltb 8 (before + copiesAt notes k) (omega (arith, e))) at (s .left) in
+        record { within = omega arith; low = l; left = rw e g }
+
+    pub passed-here : {x y : ℕ} → k < n → x ≡ copiesAt notes k → 8 < before + x → y ≡ noteAt notes k 0 → y + 1 ≡ passedAt notes 0 0 n
+    unfolding passedAt
+    passed-here h e l f =
+        let q : n - k ≡ suc (n - (k + 1)) = omega arith in
+        ap (λ (t : ℕ). t + 1) f ∙ (rw (q, lt-ltb 8 (before + copiesAt notes k) (omega (arith, e))) at (s .left))
+
+    pub passed-ends : n ≤ k → 0 ≡ passedAt notes 0 0 n
+    unfolding passedAt
+    passed-ends h =
+        let e : n - k ≡ 0 = omega arith in
+        rw e at (s .left)
+
+told : (r i l : Bool) (c : Kind) (n : ℕ)
+    → copiesIn (cond r 3 (cond i 0 (cond l 2 1))) (kindCode c) (min 100 n) ≡ min 100 (cond (not i && not r) (cond l 1 (unlabelledCopies c n)) 0)
+told true true l c n = refl
+told true false l c n = refl
+told false true l c n = refl
+told false false true c n = refl
+told false false false Unknown n = refl
+told false false false Labile n = refl
+told false false false NTerm n = refl
+told false false false OnResidue n = refl
+told false false false OnRange n = refl
+told false false false CTerm n = refl
+
+copies-told : (k : Bracket ℕ) → copiesIn (sortOf k) (kindCode (k .kind)) (min 100 (k .count)) ≡ min 100 (copies k)
+unfolding sortOf copies
+copies-told k = told (isReferring k) (onlyInfo k) (isLabelled k) (k .kind) (k .count)
+
+-- no bracket passes 8 where it is passed
+pub passing-none : (before : ℕ) (ks : List (Bracket ℕ)) → 8 < before → passing before ks ≡ []
+unfolding passing
+passing-none before [] h = refl
+passing-none before (b ∷ ks) h = rw (lt-leb before 8 h) (passing-none (before + copies b) ks (omega arith))
+
+step : (before c x at later : ℕ) (rest : List (Bracket ℕ)) → before ≤ 8 → x ≡ min 100 c
+    → (before + c ≤ 8 → later ≡ coded (least (passing (before + c) rest)))
+    → cond (ltb 8 (before + x)) (at + 1) later ≡ coded (least (dueAt (leb before 8 && ltb 8 (before + c)) at ++ passing (before + c) rest))
+unfolding least
+step before c x at later rest h e f =
+    by-test (ltb 8 (before + c))
+    (λ p.
+    let q : 8 < before + c = ltb-true 8 (before + c) p in
+    rw (p, le-leb before 8 h, lt-ltb 8 (before + x) (omega arith), passing-none (before + c) rest q))
+    (λ p.
+    let q : before + c ≤ 8 = ltb-false 8 (before + c) p in
+    rw (p, le-leb before 8 h, le-ltb 8 (before + x) (omega arith)) (f q))
+
+module _ {line notes labels : List ℕ} {ks : List (Bracket ℕ)} (a : NotesAre line ks notes labels) where
+  copies-at : (k : ℕ) → k < length ks → copiesAt notes k ≡ min 100 (copies (bracketAt ks k))
+  copies-at k h =
+      rw (noted-at a k 1 h (omega arith), noted-at a k 2 h (omega arith), noted-at a k 3 h (omega arith)) (copies-told (bracketAt ks k))
+
+  passed-from : (before k m : ℕ) → k + m ≡ length ks → before ≤ 8 → passedAt notes before k m ≡ coded (least (passing before (drop k ks)))
+  unfolding passedAt passing least
+  passed-from before k zero e h =
+      let g : length ks ≤ k = omega arith in
+      rw (drop-of-length-le ks g)
+  passed-from before k (suc m) e h =
+      let g : k < length ks = omega arith in
+      let b = bracketAt ks k in
+      rw (drop-next ks k g, noted-at a k 0 g (omega arith))
+      (step before (copies b) (copiesAt notes k) (b .at) (passedAt notes (before + copiesAt notes k) (k + 1) m) (drop (k + 1) ks) h (copies-at k g)
+      (λ l.
+      let same : copiesAt notes k ≡ copies b = omega (arith, copies-at k g) in
+      rw same (passed-from (before + copies b) (k + 1) m (omega arith) l)))
+
+pub refused12 : {line notes labels : List ℕ} (l : Line ℕ) → NotesAre line (l .brackets) notes labels → (n : ℕ) → n ≡ length (l .brackets)
+    → passedAt notes 0 0 n ≡ coded (refusal12 l)
+unfolding refusal12
+refused12 l a n e = passed-from a 0 0 n (omega arith) (omega arith)

@@ -1,0 +1,293 @@
+-- Laws of marking positions in a row of the table. Assumes nothing.
+use mathlib.Core.Path.{_≡_, refl, sym, ap, _∙_}
+use mathlib.Core.Bool.{Bool, true, false, not, cond, _&&_, _||_, and-true, and-false}
+use mathlib.Core.List.{List, [], _∷_, _++_, map}
+use Prim.Native.Nat.{ℕ, zero, suc, _+_, _-_, _≤_, _<_}
+use native.Mathlib.Nat.{zero-add}
+use native.Mathlib.Numerals.{add-one}
+use native.Mathlib.Omega.{arith}
+use borrow.Author.Tests.{eq-eqb, ne-eqb, eqb-true, eqb-false, leb-true, leb-false, ltb-true, ltb-false, le-leb, lt-ltb, le-ltb}
+use lib.Dec.{eqb, leb, ltb}
+use lib.IntN.{ℤ}
+use lib.ListN.{length, getD, set, length-set}
+use lib.Seq.{getD-set-same, getD-set-other}
+use Rattle.scope.specs.declared.grammar.Kind.{Kind}
+use Rattle.scope.specs.declared.grammar.Kind.the-variants.{Unknown, Labile, NTerm, OnResidue, OnRange, CTerm}
+use Rattle.scope.specs.Limits.{positionLimit}
+use Rattle.scope.specs.Line.{Bracket}
+use Rattle.scope.specs.Modifications.{keep, isLabelled, definedBy, referredBy}
+use Rattle.scope.specs.Refusals.{shared}
+use Rattle.scope.specs.Tables.{tabled, byteAt, bracketIn, tablesIn}
+use Rattle.scope.specs.Positions.{member, struckOut, isPlaced, between, ownPosition, referredAt, isUnlabelledUnknown, mayStand}
+use Rattle.basics.specs.Choice.{by-test}
+use Rattle.brackets.specs.Tabled.{length-tabled}
+use Rattle.positions.specs.Marked.{Marked, RowIs, hasPlace, isUnknown, refersAt, referencesAt, ownAt, placedAt, struckAt}
+use Rattle.positions.proofs.Any.{anyOf, any-last}
+
+-- ---- one position, none, a second marking, another test that says the same
+pub marked-set : {base x v : ℕ} {p : ℕ → Bool} {old cur : List ℕ} (q : ℕ → Bool) → Marked base p v old cur → x < positionLimit → base + positionLimit ≤ length cur → q x ≡ true
+    → ((y : ℕ) → y < positionLimit → (y ≡ x → ⊥) → q y ≡ p y) → Marked base q v old (set cur (base + x) v)
+marked-set {base} {x} {v} {p} {old} {cur} q m h room here there =
+    record {
+      kept = length-set cur (base + x) v ∙ m .kept;
+      inside = λ y l. by-test (eqb y x) (λ t. same y (eqb-true y x t)) (λ t. other y l (eqb-false y x t));
+      before = λ i l. getD-set-other cur (base + x) i v 0 (λ e. omega arith) ∙ m .before i l;
+      after = λ i l. getD-set-other cur (base + x) i v 0 (λ e. omega arith) ∙ m .after i l;
+    }
+  where
+    same : (y : ℕ) → y ≡ x → getD (set cur (base + x) v) (base + y) 0 ≡ cond (q y) v (getD old (base + y) 0)
+    same y e =
+        ap (λ z. getD (set cur (base + x) v) (base + z) 0) e ∙ getD-set-same cur (base + x) v 0 (omega arith)
+        ∙ sym (ap (λ t. cond t v (getD old (base + y) 0)) (ap q e ∙ here))
+
+    other : (y : ℕ) → y < positionLimit → (y ≡ x → ⊥) → getD (set cur (base + x) v) (base + y) 0 ≡ cond (q y) v (getD old (base + y) 0)
+    other y l ne =
+        getD-set-other cur (base + x) (base + y) v 0 (λ e. ne (omega arith)) ∙ m .inside y l
+        ∙ sym (ap (λ t. cond t v (getD old (base + y) 0)) (there y l ne))
+
+pub marked-none : (base v : ℕ) (q : ℕ → Bool) (old : List ℕ) → ((y : ℕ) → y < positionLimit → q y ≡ false) → Marked base q v old old
+marked-none base v q old h =
+    record {
+      kept = refl;
+      inside = λ y l. sym (ap (λ t. cond t v (getD old (base + y) 0)) (h y l));
+      before = λ i l. refl;
+      after = λ i l. refl;
+    }
+
+pub marked-as : {base v : ℕ} {p : ℕ → Bool} {old cur : List ℕ} (q : ℕ → Bool) → Marked base p v old cur → ((y : ℕ) → y < positionLimit → q y ≡ p y) → Marked base q v old cur
+marked-as {base} {v} {p} {old} {cur} q m h =
+    record {
+      kept = m .kept;
+      inside = λ y l. m .inside y l ∙ sym (ap (λ t. cond t v (getD old (base + y) 0)) (h y l));
+      before = m .before;
+      after = m .after;
+    }
+
+twice : {A : Type 0} (s t : Bool) (v o : A) → cond t v (cond s v o) ≡ cond (s || t) v o
+twice true true v o = refl
+twice true false v o = refl
+twice false t v o = refl
+
+pub marked-then : {base v : ℕ} {p q : ℕ → Bool} {old cur new : List ℕ} → Marked base p v old cur → Marked base q v cur new → Marked base (λ x. p x || q x) v old new
+marked-then {base} {v} {p} {q} {old} {cur} {new} m n =
+    record {
+      kept = n .kept ∙ m .kept;
+      inside = λ y l. n .inside y l ∙ ap (λ o. cond (q y) v o) (m .inside y l) ∙ twice (p y) (q y) v (getD old (base + y) 0);
+      before = λ i l. n .before i l ∙ m .before i l;
+      after = λ i l. n .after i l ∙ m .after i l;
+    }
+
+-- ---- positions a to e, one after the other: those before x are set
+pub record Spread (base a e v x : ℕ) (old cur : List ℕ) : Type 0 where
+  pub low : a ≤ x
+  pub high : x ≤ e + 1 + (a - (e + 1))
+  pub room : base + positionLimit ≤ length cur
+  pub marked : Marked base (λ y. leb a y && ltb y x) v old cur
+
+not-yet : (a x y : ℕ) → x ≤ a → (leb a y && ltb y x) ≡ false
+not-yet a x y h = by-test (leb a y) (λ t. ap (λ s. s && ltb y x) t ∙ le-ltb y x (omega (arith, leb-true a y t))) (λ t. ap (λ s. s && ltb y x) t)
+
+pub spread-start : {base a e v : ℕ} {old : List ℕ} → base + positionLimit ≤ length old → Spread base a e v a old old
+spread-start {base} {a} {e} {v} {old} h =
+    record { low = omega arith; high = omega arith; room = h; marked = marked-none base v (λ y. leb a y && ltb y a) old (λ y l. not-yet a a y (omega arith)) }
+
+one-more : (x y : ℕ) → (y ≡ x → ⊥) → ltb y (x + 1) ≡ ltb y x
+one-more x y ne =
+    by-test (ltb y x) (λ t. lt-ltb y (x + 1) (omega (arith, ltb-true y x t)) ∙ sym t)
+    (λ t. le-ltb y (x + 1) (let f : x ≤ y = ltb-false y x t in omega arith) ∙ sym t)
+
+pub spread-next : {base a e v x : ℕ} {old cur : List ℕ} → Spread base a e v x old cur → e < positionLimit → x ≤ e → Spread base a e v (x + 1) old (set cur (base + x) v)
+spread-next {base} {a} {e} {v} {x} {old} {cur} s h l =
+    let lo : a ≤ x = s .low in
+    let hi : x ≤ e + 1 + (a - (e + 1)) = s .high in
+    let rm : base + positionLimit ≤ length cur = s .room in
+    record {
+      low = omega arith;
+      high = omega arith;
+      room = omega (arith, length-set cur (base + x) v);
+      marked =
+          marked-set (λ y. leb a y && ltb y (x + 1)) (s .marked) (omega arith) rm
+          (ap (λ t. t && ltb x (x + 1)) (le-leb a x lo) ∙ lt-ltb x (x + 1) (omega arith))
+          (λ y i ne. ap (λ t. leb a y && t) (one-more x y ne));
+    }
+
+all-of-them : (a e x y : ℕ) → a ≤ x → x ≤ e + 1 + (a - (e + 1)) → e < x → (leb a y && leb y e) ≡ (leb a y && ltb y x)
+all-of-them a e x y lo hi h =
+    by-test (leb a y) (λ t. ap (λ s. s && leb y e) t ∙ inner (leb-true a y t) ∙ sym (ap (λ s. s && ltb y x) t))
+    (λ t. ap (λ s. s && leb y e) t ∙ sym (ap (λ s. s && ltb y x) t))
+  where
+    inner : a ≤ y → leb y e ≡ ltb y x
+    inner l =
+        by-test (leb y e) (λ t. t ∙ sym (lt-ltb y x (let f : y ≤ e = leb-true y e t in omega arith)))
+        (λ t. t ∙ sym (le-ltb y x (let f : e < y = leb-false y e t in omega arith)))
+
+pub spread-end : {base a e v x : ℕ} {old cur : List ℕ} → Spread base a e v x old cur → e < x → Marked base (between a e) v old cur
+spread-end {base} {a} {e} {v} {x} {old} {cur} s h = marked-as (between a e) (s .marked) (λ y l. all-of-them a e x y (s .low) (s .high) h)
+
+-- ---- a marking for each of b brackets, one after the other: those before k are done
+pub record Passed (base v b k : ℕ) (q : List ℤ → ℕ → ℕ → Bool) (old cur : List ℕ) : Type 0 where
+  pub within : k ≤ b
+  pub kept : length cur ≡ length old
+  pub marked : (ns : List ℤ) → Marked base (λ x. anyOf (λ j. q ns j x) 0 k) v old cur
+
+pub passed-start : (base v b : ℕ) (q : List ℤ → ℕ → ℕ → Bool) (old : List ℕ) → Passed base v b 0 q old old
+unfolding anyOf
+passed-start base v b q old = record { within = omega arith; kept = refl; marked = λ ns. marked-none base v (λ x. false) old (λ y l. refl) }
+
+pub passed-next : {base v b k : ℕ} {q : List ℤ → ℕ → ℕ → Bool} {old cur new : List ℕ} → Passed base v b k q old cur → k < b → ((ns : List ℤ) → Marked base (λ x. q ns k x) v cur new) → Passed base v b (k + 1) q old new
+passed-next {base} {v} {b} {k} {q} {old} {cur} {new} p h m =
+    record {
+      within = omega arith;
+      kept = m [] .kept ∙ p .kept;
+      marked =
+          λ ns. marked-as (λ x. anyOf (λ j. q ns j x) 0 (k + 1)) (marked-then (p .marked ns) (m ns))
+          (λ y l. ap (anyOf (λ j. q ns j y) 0) (add-one k) ∙ any-last (λ j. q ns j y) 0 k ∙ ap (λ j. anyOf (λ j. q ns j y) 0 k || q ns j y) (zero-add k));
+    }
+
+passed-end : {base v b k : ℕ} {q : List ℤ → ℕ → ℕ → Bool} {old cur : List ℕ} → Passed base v b k q old cur → b ≤ k → (whole : List ℤ → ℕ → Bool) → ((ns : List ℤ) (x : ℕ) → whole ns x ≡ anyOf (λ j. q ns j x) 0 b) → (ns : List ℤ) → Marked base (whole ns) v old cur
+passed-end {base} {v} {b} {k} {q} {old} {cur} p h whole e ns =
+    let w : k ≤ b = p .within in
+    marked-as (whole ns) (p .marked ns) (λ y l. e ns y ∙ ap (anyOf (λ j. q ns j y) 0) (omega arith))
+
+-- ---- a range that is marked, and a position, where a test holds
+marked-range : (base v a e a′ e′ : ℕ) {old cur : List ℕ} {t : Bool} → Marked base (between a e) v old cur → a ≡ a′ → e ≡ e′ → t ≡ true → Marked base (λ x. t && between a′ e′ x) v old cur
+marked-range base v a e a′ e′ {old} {cur} {t} m p q f =
+    marked-as (λ x. t && between a′ e′ x) m
+    (λ y l. ap (λ s. s && between a′ e′ y) f ∙ ap (λ i. between i e′ y) (sym p) ∙ ap (λ i. between a i y) (sym q))
+
+marked-not : (base v : ℕ) (p : ℕ → Bool) (old : List ℕ) {t : Bool} → t ≡ false → Marked base (λ x. t && p x) v old old
+marked-not base v p old {t} f = marked-none base v (λ x. t && p x) old (λ y l. ap (λ s. s && p y) f)
+
+module _ (bs : List ℕ) (k r : ℕ) {base : ℕ} {old : List ℕ} {z : Bool} (refers : (ns : List ℤ) → z ≡ shared (definedBy (bracketIn bs ns k)) (referredBy (bracketIn bs ns r))) where
+  pub reference-marked : {a e : ℕ} {cur : List ℕ} → z ≡ true → Marked base (between a e) 1 old cur → ((ns : List ℤ) → a ≡ bracketIn bs ns r .first) → ((ns : List ℤ) → e ≡ bracketIn bs ns r .last) → (ns : List ℤ) → Marked base (refersAt bs ns k r) 1 old cur
+  reference-marked {a} {e} t m p q ns = marked-range base 1 a e (bracketIn bs ns r .first) (bracketIn bs ns r .last) m (p ns) (q ns) (sym (refers ns) ∙ t)
+
+  pub no-reference : z ≡ false → (ns : List ℤ) → Marked base (refersAt bs ns k r) 1 old old
+  no-reference t ns = marked-not base 1 (between (bracketIn bs ns r .first) (bracketIn bs ns r .last)) old (sym (refers ns) ∙ t)
+
+module _ (bs : List ℕ) (k : ℕ) {base : ℕ} {old : List ℕ} {z : Bool} (placed : (ns : List ℤ) → z ≡ isPlaced (bracketIn bs ns k)) where
+  pub struck : {x : ℕ} → z ≡ true → ((ns : List ℤ) → x ≡ bracketIn bs ns k .first) → x < positionLimit → base + positionLimit ≤ length old → (ns : List ℤ) → Marked base (placedAt bs ns k) 0 old (set old (base + x) 0)
+  struck {x} t p h room ns =
+      marked-set (placedAt bs ns k) (marked-none base 0 (λ y. false) old (λ y l. refl)) h room
+      (ap (λ s. s && eqb x (bracketIn bs ns k .first)) (sym (placed ns) ∙ t) ∙ eq-eqb x (bracketIn bs ns k .first) (p ns))
+      (λ y l ne. ap (λ s. s && eqb y (bracketIn bs ns k .first)) (sym (placed ns) ∙ t) ∙ ne-eqb y (bracketIn bs ns k .first) (λ i. ne (i ∙ sym (p ns))))
+
+  pub not-struck : z ≡ false → (ns : List ℤ) → Marked base (placedAt bs ns k) 0 old old
+  not-struck t ns = marked-not base 0 (λ y. eqb y (bracketIn bs ns k .first)) old (sym (placed ns) ∙ t)
+
+-- ---- references and placed modifications, bracket by bracket
+referred-tabled : (k : Bracket (Unit {0})) (x : ℕ) (f : ℕ → Bracket (Unit {0})) (i n : ℕ) → referredAt k x (tabled f i n) ≡ anyOf (λ r. shared (definedBy k) (referredBy (f r)) && between (f r .first) (f r .last) x) i n
+unfolding referredAt tabled anyOf
+referred-tabled k x f i zero = refl
+referred-tabled k x f i (suc n) = ap (λ t. shared (definedBy k) (referredBy (f i)) && between (f i .first) (f i .last) x || t) (referred-tabled k x f (i + 1) n)
+
+struck-cons : (x : ℕ) (k : Bracket (Unit {0})) (ks : List (Bracket (Unit {0}))) → member x (struckOut (k ∷ ks)) ≡ isPlaced k && eqb x (k .first) || member x (struckOut ks)
+unfolding struckOut keep member
+struck-cons x k ks = go (isPlaced k)
+  where
+    go : (t : Bool) → member x (map (λ k. k .first) (cond t (k ∷ []) [] ++ keep isPlaced ks)) ≡ t && eqb x (k .first) || member x (map (λ k. k .first) (keep isPlaced ks))
+    go true = refl
+    go false = refl
+
+struck-tabled : (x : ℕ) (f : ℕ → Bracket (Unit {0})) (i n : ℕ) → member x (struckOut (tabled f i n)) ≡ anyOf (λ k. isPlaced (f k) && eqb x (f k .first)) i n
+unfolding tabled anyOf struckOut keep member
+struck-tabled x f i zero = refl
+struck-tabled x f i (suc n) = struck-cons x (f i) (tabled f (i + 1) n) ∙ ap (λ t. isPlaced (f i) && eqb x (f i .first) || t) (struck-tabled x f (i + 1) n)
+
+pub references-at : (bs : List ℕ) (ns : List ℤ) (k b x : ℕ) → b ≡ byteAt bs 1 → referencesAt bs ns k x ≡ anyOf (λ r. refersAt bs ns k r x) 0 b
+unfolding tablesIn
+references-at bs ns k b x e = rw e (referred-tabled (bracketIn bs ns k) x (bracketIn bs ns) 0 (byteAt bs 1))
+
+struck-at : (bs : List ℕ) (ns : List ℤ) (b x : ℕ) → b ≡ byteAt bs 1 → struckAt bs ns x ≡ anyOf (λ k. placedAt bs ns k x) 0 b
+unfolding tablesIn
+struck-at bs ns b x e = rw e (struck-tabled x (bracketIn bs ns) 0 (byteAt bs 1))
+
+pub references-end : (bs : List ℕ) (k : ℕ) {base b r : ℕ} {old cur : List ℕ} → Passed base 1 b r (λ ns j. refersAt bs ns k j) old cur → b ≤ r → b ≡ byteAt bs 1 → (ns : List ℤ) → Marked base (referencesAt bs ns k) 1 old cur
+references-end bs k {b = b} p h e = passed-end p h (λ ns. referencesAt bs ns k) (λ ns x. references-at bs ns k b x e)
+
+pub struck-end : (bs : List ℕ) {base b k : ℕ} {old cur : List ℕ} → Passed base 0 b k (placedAt bs) old cur → b ≤ k → b ≡ byteAt bs 1 → (ns : List ℤ) → Marked base (struckAt bs ns) 0 old cur
+struck-end bs {b = b} p h e = passed-end p h (struckAt bs) (λ ns x. struck-at bs ns b x e)
+
+-- ---- which positions a floater has
+unknown-by : (k : Bracket (Unit {0})) (c : Kind) → isUnlabelledUnknown k c ≡ isUnknown c && not (isLabelled k)
+unknown-by k Unknown = refl
+unknown-by k Labile = refl
+unknown-by k NTerm = refl
+unknown-by k OnResidue = refl
+unknown-by k OnRange = refl
+unknown-by k CTerm = refl
+
+module _ (bs : List ℕ) (k : ℕ) {l : Bool} (labelled : (ns : List ℤ) → l ≡ isLabelled (bracketIn bs ns k)) where
+  pub not-anywhere : l ≡ true → (ns : List ℤ) → false ≡ isUnlabelledUnknown (bracketIn bs ns k) (bracketIn bs ns k .kind)
+  not-anywhere t ns =
+      sym
+      (unknown-by (bracketIn bs ns k) (bracketIn bs ns k .kind) ∙ ap (λ s. isUnknown (bracketIn bs ns k .kind) && not s) (sym (labelled ns) ∙ t)
+      ∙ and-false (isUnknown (bracketIn bs ns k .kind)))
+
+  pub anywhere-by-kind : {r : Bool} {c : Kind} → l ≡ false → ((ns : List ℤ) → c ≡ bracketIn bs ns k .kind) → r ≡ isUnknown c → (ns : List ℤ) → r ≡ isUnlabelledUnknown (bracketIn bs ns k) (bracketIn bs ns k .kind)
+  anywhere-by-kind t g h ns =
+      h ∙ ap isUnknown (g ns)
+      ∙ sym
+      (unknown-by (bracketIn bs ns k) (bracketIn bs ns k .kind) ∙ ap (λ s. isUnknown (bracketIn bs ns k .kind) && not s) (sym (labelled ns) ∙ t)
+      ∙ and-true (isUnknown (bracketIn bs ns k .kind)))
+
+own-place : (k : Bracket (Unit {0})) (x : ℕ) (c : Kind) → ownPosition k x c ≡ hasPlace c && between (k .first) (k .last) x
+own-place k x Unknown = refl
+own-place k x Labile = refl
+own-place k x NTerm = refl
+own-place k x OnResidue = refl
+own-place k x OnRange = refl
+own-place k x CTerm = refl
+
+pub own-at : (bs : List ℕ) (ns : List ℤ) (k x : ℕ) → ownAt bs ns k x ≡ hasPlace (bracketIn bs ns k .kind) && between (bracketIn bs ns k .first) (bracketIn bs ns k .last) x
+own-at bs ns k x = own-place (bracketIn bs ns k) x (bracketIn bs ns k .kind)
+
+module _ (bs : List ℕ) (k : ℕ) {base : ℕ} {old : List ℕ} {z : Bool} {c : Kind} (kind : (ns : List ℤ) → c ≡ bracketIn bs ns k .kind) (place : z ≡ hasPlace c) where
+  pub own-marked : {a e : ℕ} {cur : List ℕ} → z ≡ true → Marked base (between a e) 1 old cur → ((ns : List ℤ) → a ≡ bracketIn bs ns k .first) → ((ns : List ℤ) → e ≡ bracketIn bs ns k .last) → (ns : List ℤ) → Marked base (ownAt bs ns k) 1 old cur
+  own-marked {a} {e} t m p q ns =
+      marked-as (ownAt bs ns k)
+      (marked-range base 1 a e (bracketIn bs ns k .first) (bracketIn bs ns k .last) m (p ns) (q ns) (sym (place ∙ ap hasPlace (kind ns)) ∙ t))
+      (λ y l. own-at bs ns k y)
+
+  pub no-own : z ≡ false → (ns : List ℤ) → Marked base (ownAt bs ns k) 1 old old
+  no-own t ns =
+      marked-as (ownAt bs ns k)
+      (marked-not base 1 (between (bracketIn bs ns k .first) (bracketIn bs ns k .last)) old (sym (place ∙ ap hasPlace (kind ns)) ∙ t))
+      (λ y l. own-at bs ns k y)
+
+pub stands-anywhere : (bs : List ℕ) (ns : List ℤ) (k x : ℕ) → isUnlabelledUnknown (bracketIn bs ns k) (bracketIn bs ns k .kind) ≡ true → mayStand (tablesIn bs ns) (bracketIn bs ns k) x ≡ between 1 (byteAt bs 0) x
+unfolding mayStand tablesIn
+stands-anywhere bs ns k x t = rw (t, length-tabled)
+
+pub stands-by-place : (bs : List ℕ) (ns : List ℤ) (k x : ℕ) → isUnlabelledUnknown (bracketIn bs ns k) (bracketIn bs ns k .kind) ≡ false → mayStand (tablesIn bs ns) (bracketIn bs ns k) x ≡ ownAt bs ns k x || referencesAt bs ns k x
+unfolding mayStand
+stands-by-place bs ns k x t = rw t
+
+module _ (bs : List ℕ) (k : ℕ) {base : ℕ} {old : List ℕ} {u : Bool} (anywhere : (ns : List ℤ) → u ≡ isUnlabelledUnknown (bracketIn bs ns k) (bracketIn bs ns k .kind)) where
+  pub all-residues : {n : ℕ} {cur : List ℕ} → u ≡ true → Marked base (between 1 n) 1 old cur → n ≡ byteAt bs 0 → (ns : List ℤ) → Marked base (mayStand (tablesIn bs ns) (bracketIn bs ns k)) 1 old cur
+  all-residues {n} t m e ns =
+      marked-as (mayStand (tablesIn bs ns) (bracketIn bs ns k)) m (λ y l. stands-anywhere bs ns k y (sym (anywhere ns) ∙ t) ∙ ap (λ i. between 1 i y) (sym e))
+
+  pub own-and-referred : {cur new : List ℕ} → u ≡ false → ((ns : List ℤ) → Marked base (ownAt bs ns k) 1 old cur) → ((ns : List ℤ) → Marked base (referencesAt bs ns k) 1 cur new) → (ns : List ℤ) → Marked base (mayStand (tablesIn bs ns) (bracketIn bs ns k)) 1 old new
+  own-and-referred t m n ns =
+      marked-as (mayStand (tablesIn bs ns) (bracketIn bs ns k)) (marked-then (m ns) (n ns)) (λ y l. stands-by-place bs ns k y (sym (anywhere ns) ∙ t))
+
+-- ---- the row: cleared, marked, struck out
+left : (m s : Bool) → _≡_ {A = ℕ} (cond s 0 (cond m 1 0)) (cond (m && not s) 1 0)
+left true true = refl
+left true false = refl
+left false true = refl
+left false false = refl
+
+pub cleared : {base : ℕ} {old new : List ℕ} → Marked base (between 0 255) 0 old new → Marked base (λ x. true) 0 old new
+cleared m = marked-as (λ x. true) m (λ x h. sym (ap (λ t. t && leb x 255) (le-leb 0 x (omega arith)) ∙ le-leb x 255 (omega arith)))
+
+pub row-is : {base : ℕ} {p s : ℕ → Bool} {old clear marks new : List ℕ} → Marked base (λ x. true) 0 old clear → Marked base p 1 clear marks → Marked base s 0 marks new → RowIs base (λ x. p x && not (s x)) old new
+row-is {base} {p} {s} {old} {clear} {marks} {new} a b c =
+    record {
+      kept = c .kept ∙ b .kept ∙ a .kept;
+      inside =
+          λ x l. c .inside x l ∙ ap (λ o. cond (s x) 0 o) (b .inside x l ∙ ap (λ o. cond (p x) 1 o) (a .inside x l)) ∙ left (p x) (s x);
+      before = λ i l. c .before i l ∙ b .before i l ∙ a .before i l;
+      after = λ i l. c .after i l ∙ b .after i l ∙ a .after i l;
+    }

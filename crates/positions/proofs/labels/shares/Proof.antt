@@ -1,0 +1,57 @@
+-- `positions::labels::shares` meets its contract. Assumes nothing.
+use mathlib.Core.Path.{_∙_}
+use Prim.Native.Nat.{_-_}
+use Rattle.scope.specs.Modifications.{nameOf, namesOf}
+use Rattle.scope.specs.Refusals.{shared}
+use Rattle.scope.specs.Tables.{partIn, bracketIn}
+use Rattle.positions.proofs.Any.{Unfound, unfound-start, unfound-next, unfound-end, found}
+use Rattle.positions.proofs.Names.{shared-names}
+use borrow.Author.Needs.{needs}
+use native.Mathlib.Omega.{arith}
+use Rattle.positions.proofs.labels.shares.Statement.{statement}
+use Rattle.positions.proofs.labels.shares.Tie as tie
+
+abbrev Inv-loop : tie.InvT-loop
+Inv-loop bytes k r p j₀ j = Unfound p j (λ ns i. shared (nameOf (partIn bytes ns k i)) (namesOf (bracketIn bytes ns r)))
+
+abbrev μ-loop : tie.MeasureT-loop
+μ-loop bytes k r p j₀ j = p - j
+
+parts-requires : tie.Need-parts-requires Inv-loop μ-loop
+parts-requires c κs = c .before .pre .0 .row
+
+loop-holds : tie.Need-loop-holds Inv-loop μ-loop
+loop-holds c = unfound-start _ _
+
+shares-label-requires : tie.Need-shares-label-requires Inv-loop μ-loop
+shares-label-requires c κs = (c .before .before .before .before .pre .0, omega arith, c .before .before .before .before .pre .1)
+
+returns : tie.Need-returns Inv-loop μ-loop
+returns c = λ ns. found (c .before .before .before .loop .inv) (c .before .before .loop-test .taken) (c .before .shares-label .ensures) (c .if1 .taken) ns ∙ shared-names _ ns _ _ _ (c .before .before .before .before .parts .ensures .0)
+
+add-j : tie.Need-add-j Inv-loop μ-loop
+add-j c = search needs
+
+loop-less : tie.Need-loop-less Inv-loop μ-loop
+loop-less c = omega arith
+
+loop-again : tie.Need-loop-again Inv-loop μ-loop
+loop-again c = unfound-next (c .before .before .before .loop .inv) (c .before .before .loop-test .taken) (c .before .shares-label .ensures) (c .if1 .left)
+
+returns-2 : tie.Need-returns-2 Inv-loop μ-loop
+returns-2 c = λ ns. unfound-end (c .before .loop .inv) (c .loop-test .left) ns ∙ shared-names _ ns _ _ _ (c .before .before .parts .ensures .0)
+
+pub shares-spec : {M : Type 1} → statement M
+shares-spec =
+    tie.close
+    (tie.spec
+    Inv-loop
+    μ-loop
+    parts-requires
+    loop-holds
+    shares-label-requires
+    returns
+    add-j
+    loop-less
+    loop-again
+    returns-2)

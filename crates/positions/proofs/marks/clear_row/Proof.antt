@@ -1,0 +1,20 @@
+-- `positions::marks::clear_row` meets its contract. Assumes nothing.
+use Rattle.positions.proofs.Rows.{cleared}
+use borrow.Author.Needs.{needs}
+use Rattle.positions.proofs.marks.clear_row.Statement.{statement}
+use Rattle.positions.proofs.marks.clear_row.Tie as tie
+
+sub-put : tie.Need-sub-put
+sub-put c = search needs
+
+put-requires : tie.Need-put-requires
+put-requires c κs = search needs
+
+same-length : tie.Need-same-length
+same-length c = c .before .before .put .ensures .kept
+
+returns : tie.Need-returns
+returns c = cleared (c .before .before .put .ensures)
+
+pub clear-row-spec : {M : Type 1} → statement M
+clear-row-spec = tie.close (tie.spec sub-put put-requires same-length returns)

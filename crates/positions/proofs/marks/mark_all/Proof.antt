@@ -1,0 +1,47 @@
+-- `positions::marks::mark_all` meets its contract. Assumes nothing.
+use Rattle.positions.proofs.Rows.{all-residues, own-and-referred}
+use borrow.Author.Needs.{needs}
+use native.Mathlib.Omega.{arith}
+use Rattle.positions.proofs.marks.mark_all.Statement.{statement}
+use Rattle.positions.proofs.marks.mark_all.Tie as tie
+
+is-anywhere-requires : tie.Need-is-anywhere-requires
+is-anywhere-requires c κs = c .before .before .pre .0 .bracket (c .before .before .args .k) (c .before .before .pre .1) .named .row
+
+residues-requires : tie.Need-residues-requires
+residues-requires c κs = c .before .before .before .before .pre .0 .room
+
+put-requires : tie.Need-put-requires
+put-requires c κs = search needs
+
+same-length : tie.Need-same-length
+same-length c = c .before .before .put .ensures .kept
+
+returns : tie.Need-returns
+returns c = all-residues _ _ (c .before .before .before .before .before .before .is-anywhere .ensures) (c .before .before .before .before .before .if1 .taken) (c .before .before .put .ensures) (c .before .before .before .before .residues .ensures .0)
+
+mark-own-requires : tie.Need-mark-own-requires
+mark-own-requires c κs = search needs
+
+mark-references-requires : tie.Need-mark-references-requires
+mark-references-requires c κs = (c .before .before .before .before .before .before .before .before .before .pre .0, c .before .before .before .before .before .before .before .before .before .pre .1, omega (arith, c .before .before .before .mark-own .kept))
+
+same-length-2 : tie.Need-same-length-2
+same-length-2 c = omega (arith, c .before .before .before .before .before .before .mark-own .kept, c .before .before .mark-references .kept)
+
+returns-2 : tie.Need-returns-2
+returns-2 c = own-and-referred _ _ (c .before .before .before .before .before .before .before .before .before .is-anywhere .ensures) (c .before .before .before .before .before .before .before .before .if1 .left) (c .before .before .before .before .before .before .mark-own .ensures) (c .before .before .mark-references .ensures)
+
+pub mark-all-spec : {M : Type 1} → statement M
+mark-all-spec =
+    tie.close
+    (tie.spec
+    is-anywhere-requires
+    residues-requires
+    put-requires
+    same-length
+    returns
+    mark-own-requires
+    mark-references-requires
+    same-length-2
+    returns-2)

@@ -1,0 +1,42 @@
+-- `positions::marks::mark_own` meets its contract. Assumes nothing.
+use Rattle.positions.proofs.Rows.{own-marked, no-own}
+use borrow.Author.Needs.{needs}
+use Rattle.positions.proofs.marks.mark_own.Statement.{statement}
+use Rattle.positions.proofs.marks.mark_own.Tie as tie
+
+kind-requires : tie.Need-kind-requires
+kind-requires c κs = c .before .before .pre .0 .bracket (c .before .before .args .k) (c .before .before .pre .1) .named .row
+
+has-place-requires : tie.Need-has-place-requires
+has-place-requires c κs = search needs
+
+first-requires : tie.Need-first-requires
+first-requires c κs = c .before .before .before .before .before .pre .0 .bracket (c .before .before .before .before .before .args .k) (c .before .before .before .before .before .pre .1) .named .row
+
+last-requires : tie.Need-last-requires
+last-requires c κs = c .before .before .before .before .before .before .pre .0 .bracket (c .before .before .before .before .before .before .args .k) (c .before .before .before .before .before .before .pre .1) .named .row
+
+put-requires : tie.Need-put-requires
+put-requires c κs = search needs
+
+same-length : tie.Need-same-length
+same-length c = c .before .before .put .ensures .kept
+
+returns : tie.Need-returns
+returns c = own-marked _ _ (c .before .before .before .before .before .before .before .before .kind .ensures) (c .before .before .before .before .before .before .before .has-place .ensures) (c .before .before .before .before .before .before .if1 .taken) (c .before .before .put .ensures) (c .before .before .before .before .before .first .ensures .0) (c .before .before .before .before .last .ensures .0)
+
+returns-2 : tie.Need-returns-2
+returns-2 c = no-own _ _ (c .before .before .kind .ensures) (c .before .has-place .ensures) (c .if1 .left)
+
+pub mark-own-spec : {M : Type 1} → statement M
+mark-own-spec =
+    tie.close
+    (tie.spec
+    kind-requires
+    has-place-requires
+    first-requires
+    last-requires
+    put-requires
+    same-length
+    returns
+    returns-2)

@@ -1,0 +1,38 @@
+-- `positions::marks::mark_reference` meets its contract. Assumes nothing.
+use Rattle.positions.proofs.Rows.{reference-marked, no-reference}
+use borrow.Author.Needs.{needs}
+use Rattle.positions.proofs.marks.mark_reference.Statement.{statement}
+use Rattle.positions.proofs.marks.mark_reference.Tie as tie
+
+refers-to-requires : tie.Need-refers-to-requires
+refers-to-requires c κs = (c .before .before .pre .0 .bracket (c .before .before .args .k) (c .before .before .pre .1) .named, c .before .before .pre .0 .bracket (c .before .before .args .r) (c .before .before .pre .2) .named)
+
+first-requires : tie.Need-first-requires
+first-requires c κs = c .before .before .before .before .pre .0 .bracket (c .before .before .before .before .args .r) (c .before .before .before .before .pre .2) .named .row
+
+last-requires : tie.Need-last-requires
+last-requires c κs = c .before .before .before .before .before .pre .0 .bracket (c .before .before .before .before .before .args .r) (c .before .before .before .before .before .pre .2) .named .row
+
+put-requires : tie.Need-put-requires
+put-requires c κs = search needs
+
+same-length : tie.Need-same-length
+same-length c = c .before .before .put .ensures .kept
+
+returns : tie.Need-returns
+returns c = reference-marked _ _ _ (c .before .before .before .before .before .before .before .refers-to .ensures) (c .before .before .before .before .before .before .if1 .taken) (c .before .before .put .ensures) (c .before .before .before .before .before .first .ensures .0) (c .before .before .before .before .last .ensures .0)
+
+returns-2 : tie.Need-returns-2
+returns-2 c = no-reference _ _ _ (c .before .refers-to .ensures) (c .if1 .left)
+
+pub mark-reference-spec : {M : Type 1} → statement M
+mark-reference-spec =
+    tie.close
+    (tie.spec
+    refers-to-requires
+    first-requires
+    last-requires
+    put-requires
+    same-length
+    returns
+    returns-2)

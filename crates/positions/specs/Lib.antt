@@ -1,0 +1,3 @@
+pub mod Legible
+pub mod Marked
+pub mod Lists

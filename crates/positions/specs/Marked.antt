@@ -1,0 +1,87 @@
+-- What is done to the table of bytes of where each floater may stand.
+use mathlib.Core.Path.{_≡_}
+use mathlib.Core.Bool.{Bool, true, false, not, cond, _&&_}
+use mathlib.Core.List.{List}
+use Prim.Native.Nat.{ℕ, _+_, _*_, _≤_, _<_}
+use lib.Dec.{eqb}
+use lib.IntN.{ℤ}
+use lib.ListN.{length, getD, drop}
+use Rattle.scope.specs.declared.grammar.Kind.{Kind}
+use Rattle.scope.specs.declared.grammar.Kind.the-variants.{Unknown, Labile, NTerm, OnResidue, OnRange, CTerm}
+use Rattle.scope.specs.Limits.{rowLimit, positionLimit}
+use Rattle.scope.specs.Modifications.{definedBy, referredBy}
+use Rattle.scope.specs.Refusals.{shared}
+use Rattle.scope.specs.Tables.{bracketIn, tablesIn}
+use Rattle.scope.specs.Positions.{between, isPlaced, ownPosition, referredAt, mayStand, member, struckOut}
+use Rattle.areas.specs.Floats.{TableIs}
+
+-- in the row of 256 positions that begins at base, those of a test are set to v; all else is as before
+pub record Marked (base : ℕ) (test : ℕ → Bool) (v : ℕ) (old new : List ℕ) : Type 0 where
+  pub kept : length new ≡ length old
+  pub inside : (x : ℕ) → x < positionLimit → getD new (base + x) 0 ≡ cond (test x) v (getD old (base + x) 0)
+  pub before : (i : ℕ) → i < base → getD new i 0 ≡ getD old i 0
+  pub after : (i : ℕ) → base + positionLimit ≤ i → getD new i 0 ≡ getD old i 0
+
+-- that row has 1 at the positions of a test and 0 at the others; all else is as before
+pub record RowIs (base : ℕ) (test : ℕ → Bool) (old new : List ℕ) : Type 0 where
+  pub kept : length new ≡ length old
+  pub inside : (x : ℕ) → x < positionLimit → getD new (base + x) 0 ≡ cond (test x) 1 0
+  pub before : (i : ℕ) → i < base → getD new i 0 ≡ getD old i 0
+  pub after : (i : ℕ) → base + positionLimit ≤ i → getD new i 0 ≡ getD old i 0
+
+-- which kinds have a position or range of their own, "in the sequence or at a terminus", and which is of unknown position
+abbrev pub hasPlace : Kind → Bool
+hasPlace Unknown = false
+hasPlace Labile = false
+hasPlace NTerm = true
+hasPlace OnResidue = true
+hasPlace OnRange = true
+hasPlace CTerm = true
+
+abbrev pub isUnknown : Kind → Bool
+isUnknown Unknown = true
+isUnknown Labile = false
+isUnknown NTerm = false
+isUnknown OnResidue = false
+isUnknown OnRange = false
+isUnknown CTerm = false
+
+-- bracket r is a reference to a label of bracket k, and stands at x
+abbrev pub refersAt : List ℕ → List ℤ → ℕ → ℕ → ℕ → Bool
+refersAt bs ns k r x =
+    shared (definedBy (bracketIn bs ns k)) (referredBy (bracketIn bs ns r)) && between (bracketIn bs ns r .first) (bracketIn bs ns r .last) x
+
+-- a reference to a label of bracket k stands at x
+abbrev pub referencesAt : List ℕ → List ℤ → ℕ → ℕ → Bool
+referencesAt bs ns k x = referredAt (bracketIn bs ns k) x (tablesIn bs ns .brackets)
+
+-- x is a position of bracket k's own
+abbrev pub ownAt : List ℕ → List ℤ → ℕ → ℕ → Bool
+ownAt bs ns k x = ownPosition (bracketIn bs ns k) x (bracketIn bs ns k .kind)
+
+-- bracket k is placed at x
+abbrev pub placedAt : List ℕ → List ℤ → ℕ → ℕ → Bool
+placedAt bs ns k x = isPlaced (bracketIn bs ns k) && eqb x (bracketIn bs ns k .first)
+
+-- x is struck out
+abbrev pub struckAt : List ℕ → List ℤ → ℕ → Bool
+struckAt bs ns x = member x (struckOut (tablesIn bs ns .brackets))
+
+-- where the floater of bracket k may stand: on a permitted position that is not struck out
+abbrev pub standsAt : List ℕ → List ℤ → ℕ → ℕ → Bool
+standsAt bs ns k x = mayStand (tablesIn bs ns) (bracketIn bs ns k) x && not (struckAt bs ns x)
+
+-- the rows of the floaters from so many on are zero
+pub record Cleared (from : ℕ) (old new : List ℕ) : Type 0 where
+  pub kept : length new ≡ length old
+  pub before : (i : ℕ) → i < from * positionLimit → getD new i 0 ≡ getD old i 0
+  pub zeros : (i : ℕ) → from * positionLimit ≤ i → i < rowLimit → getD new i 0 ≡ 0
+  pub after : (i : ℕ) → rowLimit ≤ i → getD new i 0 ≡ getD old i 0
+
+-- the table of so many floaters: each byte of it is known, and what lies past it is as before
+pub record Filled (bs : List ℕ) (ns : List ℤ) (count : ℕ) (old new : List ℕ) : Type 0 where
+  pub table : TableIs bs ns new count
+  pub bits : (i : ℕ) → i < rowLimit → getD new i 0 ≤ 1
+  pub unused : (i : ℕ) → count * positionLimit ≤ i → i < rowLimit → getD new i 0 ≡ 0
+  pub past : drop rowLimit new ≡ drop rowLimit old
+  pub kept : length new ≡ length old

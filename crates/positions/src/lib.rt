@@ -1,0 +1,102 @@
+// The floaters of the tables in areas, and the table of bytes of where each may stand.
+use crate::marks::clear_row;
+use crate::marks::fill_row;
+use areas::Floaters;
+use areas::brackets;
+use areas::wide;
+use brackets::copies_of;
+use brackets::is_referring;
+use scope::answers::Ledger;
+use scope::answers::Placement;
+ghost use mathlib.Core.Path.{_≡_};
+ghost use mathlib.Core.List.{List, _++_};
+ghost use Prim.Native.Nat.{_+_, _≤_, _<_};
+ghost use lib.IntN.{ℤ};
+ghost use lib.ListN.{length, take, replicate};
+ghost use Rattle.scope.specs.Limits.{copyLimit, rowLimit};
+ghost use Rattle.scope.specs.Modifications.{copies};
+ghost use Rattle.scope.specs.Tables.{bracketIn, tablesIn};
+ghost use Rattle.scope.specs.Positions.{floaters};
+ghost use Rattle.areas.specs.Bounds.{Bounds};
+ghost use Rattle.areas.specs.Floats.{FloatersAre};
+ghost use Rattle.brackets.specs.Row.{Row};
+ghost use Rattle.positions.specs.Marked.{Cleared, Filled};
+
+pub mod labels;
+pub mod marks;
+
+// The next m floaters are copies of bracket k.
+pub fn add_copies(f: Floaters, m: usize, k: u8) -> Floaters
+    requires { ⌜ f .count + m ≤ copyLimit ⌝ }
+    ensures { λ r. ⌜ (r .count ≡ f .count + m) × (take (f .count + m) (r .index) ≡ take (f .count) (f .index) ++ replicate m k) × (length (r .index) ≡ copyLimit) ⌝ }
+{
+    let n = f.count;
+    let mut index = f.index;
+    let mut j: usize = 0;
+    while j < m {
+        index[n + j] = k;
+        j += 1;
+    }
+    Floaters {
+        count: n + m,
+        index,
+    }
+}
+
+// How many floaters bracket k gives. A label floats once, at its definition: a reference gives none.
+pub fn copies_at(bytes: &[u8], k: usize) -> usize
+    requires { ⌜ Row (now bytes) k ⌝ }
+    ensures { λ r. ⌜ ((ns : List ℤ) → r ≡ copies (bracketIn (now (bytes .entry)) ns k)) ⌝ }
+{
+    if is_referring(bytes, k) {
+        return 0;
+    }
+    copies_of(bytes, k)
+}
+
+// The floaters of tables with at most 8 of them.
+pub fn find_floaters(bytes: &[u8], numbers: &[i64]) -> Floaters
+    requires { ⌜ (Bounds (now bytes) (now numbers)) × (length (floaters (tablesIn (now bytes) (now numbers))) ≤ copyLimit) ⌝ }
+    ensures { λ r. ⌜ FloatersAre (now (bytes .entry)) (now (numbers .entry)) (r .count) (r .index) ⌝ }
+{
+    let b = brackets(bytes);
+    let mut f = Floaters {
+        count: 0,
+        index: [0; Placement::COPIES],
+    };
+    let mut k: usize = 0;
+    while k < b {
+        let m = copies_at(bytes, k);
+        f = add_copies(f, m, k as u8);
+        k += 1;
+    }
+    f
+}
+
+// The rows of the floaters from so many on are set to zero.
+pub fn clear_rest(tab: &mut [u8], from: usize)
+    requires { ⌜ (from ≤ copyLimit) × (rowLimit ≤ length (now tab)) ⌝ }
+    ensures { λ _. ⌜ Cleared from (now (tab .entry)) (now (tab .exit)) ⌝ }
+{
+    let mut g = from;
+    while g < Placement::COPIES {
+        clear_row(tab, g * Ledger::POSITIONS);
+        g += 1;
+    }
+}
+
+// The table of where each floater may stand.
+pub fn fill_table(bytes: &[u8], numbers: &[i64], f: Floaters, tab: &mut [u8])
+    requires { ⌜ (Bounds (now bytes) (now numbers)) × (FloatersAre (now bytes) (now numbers) (f .count) (f .index)) × (rowLimit ≤ length (now tab)) ⌝ }
+    ensures { λ _. ⌜ Filled (now (bytes .entry)) (now (numbers .entry)) (f .count) (now (tab .entry)) (now (tab .exit)) ⌝ }
+{
+    let count = f.count;
+    let index = f.index;
+    let mut g: usize = 0;
+    while g < count {
+        let k = wide(index[g]);
+        fill_row(bytes, k, tab, g * Ledger::POSITIONS);
+        g += 1;
+    }
+    clear_rest(tab, count);
+}

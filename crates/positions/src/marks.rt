@@ -1,0 +1,166 @@
+// The row of one floater in the table: ranges of positions are marked, and positions with a placed modification are struck out.
+use crate::labels::refers_to;
+use areas::brackets;
+use areas::residues;
+use brackets::first;
+use brackets::is_labelled;
+use brackets::is_placed;
+use brackets::kind;
+use brackets::last;
+use scope::answers::Ledger;
+use scope::grammar::Kind;
+ghost use mathlib.Core.Path.{_≡_};
+ghost use mathlib.Core.Bool.{true};
+ghost use mathlib.Core.List.{List};
+ghost use Prim.Native.Nat.{_+_, _<_, _≤_};
+ghost use lib.IntN.{ℤ};
+ghost use lib.ListN.{length};
+ghost use Rattle.scope.specs.Limits.{positionLimit};
+ghost use Rattle.scope.specs.Tables.{byteAt, bracketIn, tablesIn};
+ghost use Rattle.scope.specs.Positions.{between, isUnlabelledUnknown, mayStand};
+ghost use Rattle.brackets.specs.Row.{Row};
+ghost use Rattle.positions.specs.Legible.{Legible};
+ghost use Rattle.positions.specs.Marked.{Marked, RowIs, hasPlace, isUnknown, refersAt, referencesAt, ownAt, placedAt, struckAt, standsAt};
+
+// Positions a to e of the row at base are set to v.
+pub fn put(tab: &mut [u8], base: usize, a: usize, e: usize, v: u8)
+    requires { ⌜ (e < positionLimit) × (base + positionLimit ≤ length (now tab)) ⌝ }
+    ensures { λ _. ⌜ Marked base (between a e) v (now (tab .entry)) (now (tab .exit)) ⌝ }
+{
+    let mut x = a;
+    while x <= e {
+        tab[base + x] = v;
+        x += 1;
+    }
+}
+
+// The positions of bracket r are marked if it is a reference to a label of bracket k.
+pub fn mark_reference(bytes: &[u8], k: usize, r: usize, tab: &mut [u8], base: usize)
+    requires { ⌜ (Legible (now bytes)) × (k < byteAt (now bytes) 1) × (r < byteAt (now bytes) 1) × (base + positionLimit ≤ length (now tab)) ⌝ }
+    ensures { λ _. ⌜ ((ns : List ℤ) → Marked base (refersAt (now (bytes .entry)) ns k r) 1 (now (tab .entry)) (now (tab .exit))) ⌝ }
+{
+    if refers_to(bytes, r, k) {
+        let a = first(bytes, r);
+        let e = last(bytes, r);
+        put(tab, base, a, e, 1);
+    }
+}
+
+// The positions of every reference to a label of bracket k are marked.
+pub fn mark_references(bytes: &[u8], k: usize, tab: &mut [u8], base: usize)
+    requires { ⌜ (Legible (now bytes)) × (k < byteAt (now bytes) 1) × (base + positionLimit ≤ length (now tab)) ⌝ }
+    ensures { λ _. ⌜ ((ns : List ℤ) → Marked base (referencesAt (now (bytes .entry)) ns k) 1 (now (tab .entry)) (now (tab .exit))) ⌝ }
+{
+    let b = brackets(bytes);
+    let mut r: usize = 0;
+    while r < b {
+        mark_reference(bytes, k, r, tab, base);
+        r += 1;
+    }
+}
+
+// Whether a bracket of this kind has a position or range of its own: in the sequence or at a terminus.
+pub fn has_place(kind: Kind) -> bool
+    ensures { λ r. ⌜ r ≡ hasPlace kind ⌝ }
+{
+    match kind {
+        Kind::Unknown => false,
+        Kind::Labile => false,
+        Kind::NTerm => true,
+        Kind::OnResidue => true,
+        Kind::OnRange => true,
+        Kind::CTerm => true,
+    }
+}
+
+// Whether bracket k is an unlabelled one of unknown position.
+pub fn is_anywhere(bytes: &[u8], k: usize) -> bool
+    requires { ⌜ Row (now bytes) k ⌝ }
+    ensures { λ r. ⌜ ((ns : List ℤ) → r ≡ isUnlabelledUnknown (bracketIn (now (bytes .entry)) ns k) (bracketIn (now (bytes .entry)) ns k .kind)) ⌝ }
+{
+    if is_labelled(bytes, k) {
+        return false;
+    }
+    is_unknown(kind(bytes, k))
+}
+
+pub fn is_unknown(kind: Kind) -> bool
+    ensures { λ r. ⌜ r ≡ isUnknown kind ⌝ }
+{
+    match kind {
+        Kind::Unknown => true,
+        Kind::Labile => false,
+        Kind::NTerm => false,
+        Kind::OnResidue => false,
+        Kind::OnRange => false,
+        Kind::CTerm => false,
+    }
+}
+
+// The positions of bracket k are marked if it has some of its own.
+pub fn mark_own(bytes: &[u8], k: usize, tab: &mut [u8], base: usize)
+    requires { ⌜ (Legible (now bytes)) × (k < byteAt (now bytes) 1) × (base + positionLimit ≤ length (now tab)) ⌝ }
+    ensures { λ _. ⌜ ((ns : List ℤ) → Marked base (ownAt (now (bytes .entry)) ns k) 1 (now (tab .entry)) (now (tab .exit))) ⌝ }
+{
+    if has_place(kind(bytes, k)) {
+        let a = first(bytes, k);
+        let e = last(bytes, k);
+        put(tab, base, a, e, 1);
+    }
+}
+
+// Every position where bracket k may stand is marked.
+pub fn mark_all(bytes: &[u8], k: usize, tab: &mut [u8], base: usize)
+    requires { ⌜ (Legible (now bytes)) × (k < byteAt (now bytes) 1) × (base + positionLimit ≤ length (now tab)) ⌝ }
+    ensures { λ _. ⌜ ((ns : List ℤ) → Marked base (mayStand (tablesIn (now (bytes .entry)) ns) (bracketIn (now (bytes .entry)) ns k)) 1 (now (tab .entry)) (now (tab .exit))) ⌝ }
+{
+    if is_anywhere(bytes, k) {
+        let n = residues(bytes);
+        put(tab, base, 1, n, 1);
+        return;
+    }
+    mark_own(bytes, k, tab, base);
+    mark_references(bytes, k, tab, base);
+}
+
+// The position of bracket k is struck out if it is placed.
+pub fn strike(bytes: &[u8], k: usize, tab: &mut [u8], base: usize)
+    requires { ⌜ (Legible (now bytes)) × (k < byteAt (now bytes) 1) × (base + positionLimit ≤ length (now tab)) ⌝ }
+    ensures { λ _. ⌜ ((ns : List ℤ) → Marked base (placedAt (now (bytes .entry)) ns k) 0 (now (tab .entry)) (now (tab .exit))) ⌝ }
+{
+    if is_placed(bytes, k) {
+        let x = first(bytes, k);
+        tab[base + x] = 0;
+    }
+}
+
+// Every position with a placed modification is struck out.
+pub fn strike_out(bytes: &[u8], tab: &mut [u8], base: usize)
+    requires { ⌜ (Legible (now bytes)) × (base + positionLimit ≤ length (now tab)) ⌝ }
+    ensures { λ _. ⌜ ((ns : List ℤ) → Marked base (struckAt (now (bytes .entry)) ns) 0 (now (tab .entry)) (now (tab .exit))) ⌝ }
+{
+    let b = brackets(bytes);
+    let mut k: usize = 0;
+    while k < b {
+        strike(bytes, k, tab, base);
+        k += 1;
+    }
+}
+
+// The row at base is set to zero.
+pub fn clear_row(tab: &mut [u8], base: usize)
+    requires { ⌜ base + positionLimit ≤ length (now tab) ⌝ }
+    ensures { λ _. ⌜ Marked base (λ x. true) 0 (now (tab .entry)) (now (tab .exit)) ⌝ }
+{
+    put(tab, base, 0, Ledger::POSITIONS - 1, 0);
+}
+
+// The row at base has 1 where the floater of bracket k may stand, and 0 elsewhere.
+pub fn fill_row(bytes: &[u8], k: usize, tab: &mut [u8], base: usize)
+    requires { ⌜ (Legible (now bytes)) × (k < byteAt (now bytes) 1) × (base + positionLimit ≤ length (now tab)) ⌝ }
+    ensures { λ _. ⌜ ((ns : List ℤ) → RowIs base (standsAt (now (bytes .entry)) ns k) (now (tab .entry)) (now (tab .exit))) ⌝ }
+{
+    clear_row(tab, base);
+    mark_all(bytes, k, tab, base);
+    strike_out(bytes, tab, base);
+}

@@ -1,0 +1,3 @@
+pub mod Ones
+pub mod Firsts
+pub mod Truth

@@ -1,0 +1,130 @@
+// The permitted positions as rows of floater and position, in a lent slice of structs: one thin fill and one thin first-row lookup over
+// functions on plain numbers.
+use scope::answers::Ledger;
+use scope::answers::Lookup;
+use scope::answers::Placement;
+use scope::answers::Site;
+ghost use mathlib.Core.Path.{_≡_};
+ghost use Prim.Native.Nat.{_+_, _*_, _<_, _≤_};
+ghost use lib.ListN.{length, getD};
+ghost use Rattle.scope.specs.Limits.{rowLimit};
+ghost use Rattle.scope.specs.Tables.{laid};
+ghost use Rattle.scope.specs.Positions.{rowsFrom};
+ghost use Rattle.scope.specs.Answers.{saysLookup, looksUp};
+ghost use Rattle.areas.specs.Floats.{listsIn, Sized};
+ghost use Rattle.rows.specs.Places.{onesFrom, siteOf};
+ghost use Rattle.rows.specs.First.{seen, codeOf, BytePositions, boundOf, saysCode};
+
+// The first place from one on whose byte is 1, or the end.
+pub fn next_place(tab: &[u8], from: usize, end: usize) -> usize
+    requires { ⌜ (from ≤ end) × (end ≤ length (now tab)) ⌝ }
+    ensures { λ r. ⌜ r ≡ getD (onesFrom (now (tab .entry)) from end) 0 end ⌝ }
+{
+    let mut x = from;
+    while x < end {
+        if tab[x] == 1 {
+            return x;
+        }
+        x += 1;
+    }
+    end
+}
+
+// The row of a place in the table.
+pub fn site_of(at: usize) -> Site
+    requires { ⌜ at < rowLimit ⌝ }
+    ensures { λ r. ⌜ r ≡ siteOf at ⌝ }
+{
+    let f = (at / Ledger::POSITIONS + 1) as u8;
+    let p = (at % Ledger::POSITIONS) as u8;
+    Site {
+        floater: f,
+        position: p,
+    }
+}
+
+// The rows of so many floaters are filled in, and counted.
+pub fn fill_rows<'a, 'b>(tab: &'a [u8], count: usize, out: &'b mut [Site]) -> usize
+    requires { ⌜ (Sized (now tab) count) × (rowLimit ≤ length (now out)) ⌝ }
+    ensures { λ r. ⌜ (r ≡ length (rowsFrom 1 (listsIn (now (tab .entry)) count))) × (now (out .exit) ≡ laid (rowsFrom 1 (listsIn (now (tab .entry)) count)) (now (out .entry))) ⌝ }
+{
+    let end = count * Ledger::POSITIONS;
+    let mut at = next_place(tab, 0, end);
+    let mut i: usize = 0;
+    while at < end {
+        out[i] = site_of(at);
+        at = next_place(tab, at + 1, end);
+        i += 1;
+    }
+    i
+}
+
+// One row more is looked at.
+pub fn see(code: usize, i: usize, floater: u8, position: u8, wanted: u8) -> usize
+    requires { ⌜ i < rowLimit ⌝ }
+    ensures { λ r. ⌜ r ≡ seen code i floater position wanted ⌝ }
+{
+    if code == 0 {
+        if floater == wanted {
+            let p = position as usize;
+            return 1 + 256 * i + p;
+        }
+        return 0;
+    }
+    code
+}
+
+// The first row of a floater among the first n, as one number.
+pub fn first_code(rows: &[Site], n: usize, wanted: u8) -> usize
+    requires { ⌜ (n ≤ length (now rows)) × (n ≤ rowLimit) ⌝ }
+    ensures { λ r. ⌜ (r ≡ codeOf (now (rows .entry)) wanted n) × (BytePositions (now (rows .entry)) n) ⌝ }
+{
+    let mut code: usize = 0;
+    let mut i: usize = 0;
+    while i < n {
+        let s = rows[i];
+        code = see(code, i, s.floater, s.position, wanted);
+        i += 1;
+    }
+    code
+}
+
+// How many rows are looked at.
+pub fn bound(n: usize, room: usize) -> usize
+    ensures { λ r. ⌜ (r ≡ boundOf n room) × (r ≤ room) × (r ≤ rowLimit) ⌝ }
+{
+    if room < Placement::ROWS {
+        return 0;
+    }
+    if n < Placement::ROWS {
+        return n;
+    }
+    Placement::ROWS
+}
+
+// The answer of a code.
+pub fn row_of(code: usize, room: usize) -> Lookup
+    ensures { λ r. ⌜ saysLookup r ≡ saysCode code room ⌝ }
+{
+    if room < Placement::ROWS {
+        return Lookup::Refused { number: 13 };
+    }
+    if code == 0 {
+        return Lookup::Refused { number: 17 };
+    }
+    let c = code - 1;
+    let p = (c % 256) as u8;
+    Lookup::Row {
+        index: c / 256,
+        position: p,
+    }
+}
+
+// "the index (from 0) and the position of a floater's first row among the first so many"
+pub fn first_row(rows: &[Site], n: usize, floater: u8) -> Lookup
+    ensures { λ r. ⌜ saysLookup r ≡ looksUp (now (rows .entry)) n floater ⌝ }
+{
+    let room = rows.len();
+    let m = bound(n, room);
+    row_of(first_code(rows, m, floater), room)
+}

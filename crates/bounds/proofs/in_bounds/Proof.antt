@@ -1,0 +1,42 @@
+-- `bounds::in_bounds` meets its contract. Assumes nothing.
+use Rattle.bounds.proofs.Laws.{room, areas-law}
+use borrow.Author.Needs.{needs}
+use Rattle.bounds.proofs.in_bounds.Statement.{statement}
+use Rattle.bounds.proofs.in_bounds.Tie as tie
+
+residues-requires : tie.Need-residues-requires
+residues-requires c κs = search needs
+
+returns : tie.Need-returns
+returns c = search needs
+
+returns-2 : tie.Need-returns-2
+returns-2 c = search needs
+
+brackets-requires : tie.Need-brackets-requires
+brackets-requires c κs = search needs
+
+returns-3 : tie.Need-returns-3
+returns-3 c = search needs
+
+brackets-in-bounds-requires : tie.Need-brackets-in-bounds-requires
+brackets-in-bounds-requires c κs = search needs
+
+returns-4 : tie.Need-returns-4
+returns-4 c =
+    let three = c .before in
+    let two = three .before .before in
+    let one = two .before in
+    areas-law (c .brackets-in-bounds .result) (room (one .before .before .before .pre)) (one .before .residues .ensures .0) (three .before .brackets .ensures .0) (one .if1 .left) (two .if2 .left) (three .if3 .left) (c .brackets-in-bounds .ensures)
+
+pub in-bounds-spec : {M : Type 1} → statement M
+in-bounds-spec =
+    tie.close
+    (tie.spec
+    residues-requires
+    returns
+    returns-2
+    brackets-requires
+    returns-3
+    brackets-in-bounds-requires
+    returns-4)

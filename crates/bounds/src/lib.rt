@@ -1,0 +1,216 @@
+// Whether the numbers in lent areas keep to the bounds of tables, and whether two areas hold the same. The areas may hold anything.
+use areas::bracket_byte;
+use areas::brackets;
+use areas::number;
+use areas::part_byte;
+use areas::residues;
+use areas::wide;
+use scope::tables::Number;
+use scope::tables::Tables;
+ghost use mathlib.Core.Path.{_≡_};
+ghost use mathlib.Core.List.{_++_};
+ghost use Prim.Native.Nat.{_+_, _*_, _<_, _≤_};
+ghost use lib.ListN.{length, take, drop};
+ghost use Rattle.scope.specs.Limits.{bracketLimit, partLimit};
+ghost use Rattle.scope.specs.Bytes.{same};
+ghost use Rattle.scope.specs.Tables.{bytesSize, numbersSize, partAt, textFrom, byteAt, rowAt};
+ghost use Rattle.scope.specs.Answers.{sameNumbers};
+ghost use Rattle.areas.specs.Bounds.{Small, PartBounds, BracketBounds, Bounds};
+ghost use Rattle.bounds.specs.Verdict.{Verdict};
+ghost use Rattle.bounds.specs.Pieces.{Room, RowRoom, PlaceBounds, HeadBounds, PartsBounds, BracketsBounds};
+
+// What a mass or score stays below in size, in millionths.
+const CAP: i64 = (Number::SIZE as i64) * 1000000;
+
+// Is a mass or score below 1,000,000 in size?
+pub fn is_small(m: i64) -> bool
+    ensures { λ r. ⌜ Verdict r (Small m) ⌝ }
+{
+    if m < CAP {
+        return 0 - CAP < m;
+    }
+    false
+}
+
+// Where the text of part j of bracket k begins, by what its row says.
+fn text_from(bytes: &[u8], k: usize, j: usize) -> usize
+    requires { ⌜ (bytesSize ≤ length (now bytes)) × (k < bracketLimit) × (j < partLimit) ⌝ }
+    ensures { λ r. ⌜ (r ≡ textFrom (now (bytes .entry)) (partAt k j)) × (r < 65536) ⌝ }
+{
+    let low = wide(part_byte(bytes, k, j, 5));
+    let high = wide(part_byte(bytes, k, j, 6));
+    low + 256 * high
+}
+
+// Does part j of bracket k keep to its bounds?
+fn part_in_bounds(bytes: &[u8], numbers: &[i64], k: usize, j: usize) -> bool
+    requires { ⌜ RowRoom (now bytes) (now numbers) k × (j < partLimit) ⌝ }
+    ensures { λ r. ⌜ Verdict r (PartBounds (now (bytes .entry)) (now (numbers .entry)) k j) ⌝ }
+{
+    let decimals = part_byte(bytes, k, j, 2);
+    if Number::DECIMALS < decimals {
+        return false;
+    }
+    let text = wide(part_byte(bytes, k, j, 3));
+    if Tables::TEXT < text {
+        return false;
+    }
+    let label = wide(part_byte(bytes, k, j, 4));
+    if Tables::LABEL < label {
+        return false;
+    }
+    let from = text_from(bytes, k, j);
+    if Tables::LINE < from + text + label {
+        return false;
+    }
+    is_small(number(numbers, k, j))
+}
+
+// Do the positions of bracket k?
+fn place_in_bounds(bytes: &[u8], k: usize) -> bool
+    requires { ⌜ (bytesSize ≤ length (now bytes)) × (k < bracketLimit) ⌝ }
+    ensures { λ r. ⌜ Verdict r (PlaceBounds (now (bytes .entry)) k) ⌝ }
+{
+    let end = residues(bytes) + 1;
+    if end < wide(bracket_byte(bytes, k, 1)) {
+        return false;
+    }
+    wide(bracket_byte(bytes, k, 2)) <= end
+}
+
+// Do its count, its number of parts and its score?
+fn head_in_bounds(bytes: &[u8], numbers: &[i64], k: usize) -> bool
+    requires { ⌜ RowRoom (now bytes) (now numbers) k ⌝ }
+    ensures { λ r. ⌜ Verdict r (HeadBounds (now (bytes .entry)) (now (numbers .entry)) k) ⌝ }
+{
+    let count = wide(bracket_byte(bytes, k, 3));
+    if count == 0 {
+        return false;
+    }
+    if Tables::COUNT < count {
+        return false;
+    }
+    let parts = wide(bracket_byte(bytes, k, 4));
+    if Tables::PARTS < parts {
+        return false;
+    }
+    let score = bracket_byte(bytes, k, 5);
+    if Number::DECIMALS + 1 < score {
+        return false;
+    }
+    is_small(number(numbers, k, Tables::PARTS))
+}
+
+// Do its parts, of which there are at most as many as a row holds?
+fn parts_in_bounds(bytes: &[u8], numbers: &[i64], k: usize) -> bool
+    requires { ⌜ RowRoom (now bytes) (now numbers) k × (byteAt (now bytes) (rowAt k + 4) ≤ partLimit) ⌝ }
+    ensures { λ r. ⌜ Verdict r (PartsBounds (now (bytes .entry)) (now (numbers .entry)) k) ⌝ }
+{
+    let m = wide(bracket_byte(bytes, k, 4));
+    let mut j: usize = 0;
+    while j < m {
+        if part_in_bounds(bytes, numbers, k, j) {
+            j += 1;
+        } else {
+            return false;
+        }
+    }
+    true
+}
+
+// Does bracket k?
+fn bracket_in_bounds(bytes: &[u8], numbers: &[i64], k: usize) -> bool
+    requires { ⌜ RowRoom (now bytes) (now numbers) k ⌝ }
+    ensures { λ r. ⌜ Verdict r (BracketBounds (now (bytes .entry)) (now (numbers .entry)) k) ⌝ }
+{
+    if place_in_bounds(bytes, k) {
+        if head_in_bounds(bytes, numbers, k) {
+            return parts_in_bounds(bytes, numbers, k);
+        }
+    }
+    false
+}
+
+// Do the first n brackets, of which there are at most as many as the areas have rows for?
+fn brackets_in_bounds(bytes: &[u8], numbers: &[i64], n: usize) -> bool
+    requires { ⌜ Room (now bytes) (now numbers) × (n ≤ bracketLimit) ⌝ }
+    ensures { λ r. ⌜ Verdict r (BracketsBounds (now (bytes .entry)) (now (numbers .entry)) n) ⌝ }
+{
+    let mut k: usize = 0;
+    while k < n {
+        if bracket_in_bounds(bytes, numbers, k) {
+            k += 1;
+        } else {
+            return false;
+        }
+    }
+    true
+}
+
+// Do the numbers in the areas keep to the bounds of tables?
+pub fn in_bounds(bytes: &[u8], numbers: &[i64]) -> bool
+    requires { ⌜ (bytesSize ≤ length (now bytes)) × (numbersSize ≤ length (now numbers)) ⌝ }
+    ensures { λ r. ⌜ Verdict r (Bounds (now (bytes .entry)) (now (numbers .entry))) ⌝ }
+{
+    let n = residues(bytes);
+    if n == 0 {
+        return false;
+    }
+    if Tables::RESIDUES < n {
+        return false;
+    }
+    let m = brackets(bytes);
+    if Tables::BRACKETS < m {
+        return false;
+    }
+    brackets_in_bounds(bytes, numbers, m)
+}
+
+// Are the first n bytes of two areas the same? Compared from the last on down.
+pub fn same_bytes(a: &[u8], b: &[u8], n: usize) -> bool
+    requires { ⌜ (n ≤ length (now a)) × (n ≤ length (now b)) ⌝ }
+    ensures { λ r. ⌜ r ≡ same (take n (now (a .entry))) (take n (now (b .entry))) ⌝ }
+{
+    let mut left = n;
+    while 0 < left {
+        left -= 1;
+        if a[left] != b[left] {
+            return false;
+        }
+    }
+    true
+}
+
+// Are two whole numbers the same?
+fn is_same(x: i64, y: i64) -> bool
+    ensures { λ r. ⌜ Verdict r (x ≡ y) ⌝ }
+{
+    x == y
+}
+
+// Are the first n numbers of two areas the same? Compared from the last on down.
+pub fn same_whole(a: &[i64], b: &[i64], n: usize) -> bool
+    requires { ⌜ (n ≤ length (now a)) × (n ≤ length (now b)) ⌝ }
+    ensures { λ r. ⌜ r ≡ sameNumbers (take n (now (a .entry))) (take n (now (b .entry))) ⌝ }
+{
+    let mut i = n;
+    while 0 < i {
+        i -= 1;
+        if !is_same(a[i], b[i]) {
+            return false;
+        }
+    }
+    true
+}
+
+// The first n bytes of one area into another, whose other bytes stay.
+pub fn copy_bytes(from: &[u8], n: usize, to: &mut [u8])
+    requires { ⌜ (n ≤ length (now from)) × (n ≤ length (now to)) ⌝ }
+    ensures { λ r. ⌜ now (to .exit) ≡ take n (now (from .entry)) ++ drop n (now (to .entry)) ⌝ }
+{
+    let mut i: usize = 0;
+    while i < n {
+        to[i] = from[i];
+        i += 1;
+    }
+}

@@ -1,0 +1,5 @@
+pub mod Answers
+pub mod Lists
+pub mod OnePart
+pub mod Table
+pub mod Reading

@@ -1,0 +1,12 @@
+use Rattle.bracketed.proofs.Answers.{first-part, later-part}
+use Rattle.bracketed.proofs.may_refer.Statement.{statement}
+use Rattle.bracketed.proofs.may_refer.Tie as tie
+
+returns : tie.Need-returns
+returns c = first-part _ _ (c .if1 .taken)
+
+returns-2 : tie.Need-returns-2
+returns-2 c = later-part (c .before .args .refers) _ (c .if1 .left)
+
+pub may-refer-spec : {M : Type 1} → statement M
+may-refer-spec = tie.close (tie.spec returns returns-2)

@@ -1,0 +1,2 @@
+pub mod Bracketed
+pub mod Progress

@@ -1,0 +1,127 @@
+-- Demands 2 and 3 and refusal 14, stated over the definitions alone. Their proofs: specs/Proved.antt, and the files that it cites.
+use mathlib.Core.Path.{_≡_}
+use mathlib.Core.Bool.{true, false}
+use mathlib.Core.Logic.{_↔_}
+use mathlib.Core.List.{List, []}
+use Prim.Native.Nat.{ℕ, _+_, _*_, _^_, _≤_, _<_}
+use lib.IntN.{ℤ, pos, natAbs, _+ℤ_}
+use lib.ListN.{length, take, getD}
+use Rattle.scope.specs.Limits.{rowLimit}
+use Rattle.scope.specs.Line.{Bracket, Line}
+use Rattle.scope.specs.Refusals.{accepted, outcome}
+use Rattle.scope.specs.Canonical.{canonical}
+use Rattle.scope.specs.Tables.{tablesOf, bytesOf, numbersOf, bytesSize, numbersSize, laid, tablesIn}
+use Rattle.scope.specs.Positions.{floaters, permittedPositions, rowsOf}
+use Rattle.scope.specs.Placements.{allowed, placements, freshListing, requested}
+use Rattle.scope.specs.Masses.{massOr0, sum, total, lacking, ledger, labileMass}
+use Rattle.scope.specs.Answers.{tooShort, areTables}
+use Rattle.placement_laws.specs.Terms.{In, Ascending, afterRequests, handedOut}
+
+-- what reading a line that holds l leaves in the lent areas
+abbrev pub bytesRead : Line ℕ → List ℕ → List ℕ
+bytesRead l bs = laid (bytesOf l) bs
+
+abbrev pub numbersRead : Line ℕ → List ℤ → List ℤ
+numbersRead l ns = laid (numbersOf l) ns
+
+-- the canonical line that is written from areas
+abbrev pub writtenFrom : List ℕ → List ℤ → List ℕ
+writtenFrom bs ns = canonical (tablesIn bs ns)
+
+-- ---- 14 "tables that no accepted line reads to": some accepted line reads to what the areas begin with
+pub record SomeLine (bs : List ℕ) (ns : List ℤ) : Type 0 where
+  pub text : List ℕ
+  pub line : Line ℕ
+  pub reads : outcome text ≡ accepted line
+  pub bytes : take bytesSize bs ≡ bytesOf line
+  pub numbers : take numbersSize ns ≡ numbersOf line
+
+-- ---- demand 2
+
+-- the areas hold the tables of l, and every call takes them: neither 13 nor 14 is given
+pub record HoldTables (l : Line ℕ) (bs : List ℕ) (ns : List ℤ) : Type 0 where
+  pub long-enough : tooShort bs ns ≡ false
+  pub taken : areTables bs ns ≡ true
+  pub tables : tablesIn bs ns ≡ tablesOf l
+  pub written : writtenFrom bs ns ≡ canonical l
+
+-- the line c is accepted, and reading it into the areas leaves them as they are
+pub record ReadsBack (c : List ℕ) (bs : List ℕ) (ns : List ℤ) : Type 0 where
+  pub line : Line ℕ
+  pub reads : outcome c ≡ accepted line
+  pub bytes : bytesRead line bs ≡ bs
+  pub numbers : numbersRead line ns ≡ ns
+
+pub record Demand2 : Type 0 where
+  -- 14 is given exactly when no accepted line reads to the areas
+  pub exactly-tables : (bs : List ℕ) (ns : List ℤ) → areTables bs ns ≡ true ↔ SomeLine bs ns
+  -- an accepted line leaves its tables in any areas
+  pub read : (s : List ℕ) (l : Line ℕ) → outcome s ≡ accepted l → (bs : List ℕ) (ns : List ℤ) → HoldTables l (bytesRead l bs) (numbersRead l ns)
+  -- "Tables are written as one canonical line that reads back to the same tables"
+  pub reads-back : (bs : List ℕ) (ns : List ℤ) → areTables bs ns ≡ true → ReadsBack (writtenFrom bs ns) bs ns
+  -- "two accepted lines share it exactly when their tables are equal"
+  pub one-entry :
+      (s s′ : List ℕ) (l l′ : Line ℕ) → outcome s ≡ accepted l → outcome s′ ≡ accepted l′
+      → canonical l ≡ canonical l′ ↔ ((bytesOf l ≡ bytesOf l′) × (numbersOf l ≡ numbersOf l′))
+  -- the same of any areas that hold tables
+  pub one-entry-in :
+      (bs bs′ : List ℕ) (ns ns′ : List ℤ) → areTables bs ns ≡ true → areTables bs′ ns′ ≡ true
+      → writtenFrom bs ns ≡ writtenFrom bs′ ns′ ↔ ((take bytesSize bs ≡ take bytesSize bs′) × (take numbersSize ns ≡ take numbersSize ns′))
+  -- it is no longer than any line that reads to the tables
+  pub no-longer : (s : List ℕ) (l : Line ℕ) → outcome s ≡ accepted l → (bs : List ℕ) (ns : List ℤ) → length (writtenFrom (bytesRead l bs) (numbersRead l ns)) ≤ length s
+
+-- ---- demand 3
+
+-- n requests from a fresh record hand these out
+abbrev pub listed : {P : Type 0} → Line P → ℕ → List (List ℕ)
+listed t n = handedOut (permittedPositions t) n freshListing
+
+-- how many placements there are
+abbrev pub many : {P : Type 0} → Line P → ℕ
+many t = length (placements (permittedPositions t))
+
+pub record Demand3 {P : Type 0} (t : Line P) : Type 0 where
+  -- "The listing hands out every allowed placement once, ascending": in as many requests as there are placements, and none in any later one
+  pub every-allowed : (p : List ℕ) → In p (listed t (many t)) ↔ (allowed (permittedPositions t) p ≡ true)
+  pub ascending : Ascending (listed t (many t))
+  pub once : (i j : ℕ) → i < many t → j < many t → getD (listed t (many t)) i [] ≡ getD (listed t (many t)) j [] → i ≡ j
+  pub no-further : (n : ℕ) → many t ≤ n → listed t n ≡ listed t (many t)
+  -- 17 "no placement, or no further one"
+  pub then-17 :
+      (n : ℕ) → many t ≤ n
+      → requested (permittedPositions t) (afterRequests (permittedPositions t) n freshListing)
+      ≡ record { number = 17; after = afterRequests (permittedPositions t) n freshListing }
+  -- "'none' exactly when none exists"
+  pub none-at-first : (requested (permittedPositions t) freshListing .number ≡ 17) ↔ ((p : List ℕ) → allowed (permittedPositions t) p ≡ true → ⊥)
+  -- "the masses at all positions under any allowed placement plus the labile ones equal the line's total, exactly"
+  pub adds-up : (p : List ℕ) → allowed (permittedPositions t) p ≡ true → sum (ledger t p) +ℤ labileMass t ≡ total t
+  -- "each holds the masses .. of the floating copy put there, nothing else"; "entries past n+1 stay zero"
+  pub own-entry :
+      (p : List ℕ) → allowed (permittedPositions t) p ≡ true → (i : ℕ) (d : Bracket P) → i < length (floaters t)
+      → getD (ledger t p) (getD p i 0) (pos 0) ≡ massOr0 (getD (floaters t) i d)
+  pub past : (p : List ℕ) → allowed (permittedPositions t) p ≡ true → (x : ℕ) → length (t .residues) + 1 < x → getD (ledger t p) x (pos 0) ≡ pos 0
+  -- "Below 71 times 10^12, it fits under 2^53."
+  pub total-below : natAbs (total t) < 71 * 10 ^ 12
+  -- "room is 2,048 rows"
+  pub rows-fit : length (rowsOf t) ≤ rowLimit
+
+-- what is answered for l is what is answered for t
+pub record SameAnswers {P Q : Type 0} (l : Line P) (t : Line Q) : Type 0 where
+  pub residues : length (t .residues) ≡ length (l .residues)
+  pub brackets : length (t .brackets) ≡ length (l .brackets)
+  pub floating : length (floaters t) ≡ length (floaters l)
+  pub rows : rowsOf t ≡ rowsOf l
+  pub positions : permittedPositions t ≡ permittedPositions l
+  pub whole : total t ≡ total l
+  pub missing : lacking t ≡ lacking l
+  pub labile : labileMass t ≡ labileMass l
+  pub entries : (p : List ℕ) → ledger t p ≡ ledger l p
+
+-- ---- all of it
+pub record Demands : Type 0 where
+  pub demand-2 : Demand2
+  -- of every accepted line, and of every tables that a call takes
+  pub demand-3 : (s : List ℕ) (l : Line ℕ) → outcome s ≡ accepted l → Demand3 l
+  pub demand-3-in : (bs : List ℕ) (ns : List ℤ) → areTables bs ns ≡ true → Demand3 (tablesIn bs ns)
+  -- the tables in the areas answer for the line
+  pub answers : (s : List ℕ) (l : Line ℕ) → outcome s ≡ accepted l → (bs : List ℕ) (ns : List ℤ) → SameAnswers l (tablesIn (bytesRead l bs) (numbersRead l ns))

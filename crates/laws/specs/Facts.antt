@@ -1,0 +1,88 @@
+-- Every accepted line, and the tables that it reads to, are as the laws of masses ask.
+use mathlib.Core.Path.{_≡_, refl, sym, subst}
+use mathlib.Core.Bool.{false}
+use mathlib.Core.List.{List, [], _∷_, map}
+use Prim.Native.Nat.{ℕ, _≤_, _<_}
+use lib.IntN.{natAbs}
+use lib.ListN.{length}
+use Rattle.scope.specs.declared.grammar.Kind.{Kind}
+use Rattle.scope.specs.declared.grammar.Kind.the-variants.{Unknown, Labile, NTerm, OnResidue, OnRange, CTerm}
+use Rattle.scope.specs.Line.{Bracket, Line}
+use Rattle.scope.specs.Refusals.{isUnknown, accepted, outcome}
+use Rattle.scope.specs.Tables.{bareBracket, tablesOf}
+use Rattle.scope.specs.Positions.{floaters}
+use Rattle.scope.specs.Masses.{massOr0}
+use Rattle.layout_laws.specs.Within.{Each, BracketWithin, Within}
+use Rattle.layout_laws.specs.Each.{each-map, each-one}
+use Rattle.layout_laws.specs.Bare.{names-of, mass-of}
+use Rattle.layout_laws.specs.Judged.{judged-line}
+use Rattle.layout_laws.specs.Laws.{accepted-within, first-within, tables-within, tables-back, laid-bounds}
+use Rattle.mass_laws.specs.Terms.{Each as Every, FairBracket, Fair, Limited}
+use Rattle.mass_laws.specs.Laws.{limited-in}
+use Rattle.laws.specs.Curly.{LabileUnlabelled, labile-unlabelled}
+
+other-kind : (k : Kind) → (k ≡ Unknown → ⊥) → isUnknown k ≡ false
+other-kind Unknown h = absurd (h refl)
+other-kind Labile h = refl
+other-kind NTerm h = refl
+other-kind OnResidue h = refl
+other-kind OnRange h = refl
+other-kind CTerm h = refl
+
+module _ {P : Type 0} where
+  fair-bracket : (n : ℕ) (k : Bracket P) → BracketWithin n k → LabileUnlabelled k → FairBracket n k
+  fair-bracket n k w u =
+      record {
+        single = λ h. w .one-copy (other-kind (k .kind) h);
+        labelled-single = w .one-labelled;
+        labile-unlabelled = u;
+        inside = first-within n k w;
+      }
+
+  every-fair : (n : ℕ) (ks : List (Bracket P)) → Each (BracketWithin n) ks → Each LabileUnlabelled ks → Every (FairBracket n) ks
+  every-fair n [] w u = tt
+  every-fair n (k ∷ ks) w u = (fair-bracket n k (w .0) (u .0), every-fair n ks (w .1) (u .1))
+
+  fair-of : (l : Line P) → Within l → Each LabileUnlabelled (l .brackets) → Fair l
+  fair-of l w u = record { few-residues = w .few-residues; each-bracket = every-fair (length (l .residues)) (l .brackets) (w .brackets) u }
+
+  -- places do not matter
+  unlabelled-bare : (k : Bracket P) → LabileUnlabelled k → LabileUnlabelled (bareBracket k)
+  unlabelled-bare k u e = rw (names-of k) (u e)
+
+  all-unlabelled-bare : (l : Line P) → Each LabileUnlabelled (l .brackets) → Each LabileUnlabelled (tablesOf l .brackets)
+  unfolding tablesOf
+  all-unlabelled-bare l u =
+      each-map LabileUnlabelled bareBracket (l .brackets)
+      (each-one LabileUnlabelled (λ k. LabileUnlabelled (bareBracket k)) unlabelled-bare (l .brackets) u)
+
+  small-bare :
+      (ks : List (Bracket P)) → Every (λ k. natAbs (massOr0 k) < 1000000000000) (map bareBracket ks)
+      → Every (λ k. natAbs (massOr0 k) < 1000000000000) ks
+  small-bare [] w = tt
+  small-bare (k ∷ ks) w = (rw (mass-of k) at (w .0), small-bare ks (w .1))
+
+  limited-tables : (l : Line P) → Within l → Limited (tablesOf l)
+  limited-tables l w =
+      let back = tables-back l w [] [] in
+      subst Limited back (limited-in (laid-bounds l w [] []) (subst (λ t. length (floaters t) ≤ 8) (sym back) (tables-within l w .few-copies)))
+
+  limited-of : (l : Line P) → Within l → Limited l
+  unfolding tablesOf
+  limited-of l w =
+      record { few-brackets = w .few-brackets; few-copies = w .few-copies; small = small-bare (l .brackets) (limited-tables l w .small) }
+
+-- ---- of accepted lines
+module _ (s : List ℕ) (l : Line ℕ) (e : outcome s ≡ accepted l) where
+  pub accepted-fair : Fair l
+  accepted-fair = fair-of l (accepted-within s l e) (labile-unlabelled s l (judged-line s l e .read))
+
+  pub accepted-limited : Limited l
+  accepted-limited = limited-of l (accepted-within s l e)
+
+  -- of the tables that they read to
+  pub tables-fair : Fair (tablesOf l)
+  tables-fair = fair-of (tablesOf l) (tables-within l (accepted-within s l e)) (all-unlabelled-bare l (labile-unlabelled s l (judged-line s l e .read)))
+
+  pub tables-limited : Limited (tablesOf l)
+  tables-limited = limited-tables l (accepted-within s l e)

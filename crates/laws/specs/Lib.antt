@@ -1,0 +1,6 @@
+pub mod Demands
+pub mod Proved
+pub mod Curly
+pub mod Facts
+pub mod Bare
+pub mod Areas

@@ -1,0 +1,80 @@
+-- The demands of specs/Demands.antt hold.
+use mathlib.Core.Path.{_≡_, refl, sym, ap, _∙_, subst}
+use mathlib.Core.Bool.{true}
+use mathlib.Core.List.{List, [], map}
+use Prim.Native.Nat.{ℕ, _≤_, _<_}
+use native.Mathlib.Omega.{arith}
+use lib.IntN.{ℤ}
+use lib.ListN.{length, getD, length-map}
+use Rattle.scope.specs.Limits.{copyLimit}
+use Rattle.scope.specs.Line.{Line}
+use Rattle.scope.specs.Refusals.{accepted, outcome}
+use Rattle.scope.specs.Tables.{bareBracket, bareResidue, tablesOf, tablesIn}
+use Rattle.scope.specs.Positions.{floaters, permittedPositions}
+use Rattle.scope.specs.Placements.{placements, freshListing}
+use Rattle.scope.specs.Answers.{areTables}
+use Rattle.layout_laws.specs.Within.{Within}
+use Rattle.layout_laws.specs.Laws as layout
+use Rattle.placement_laws.specs.Terms.{Ascending, handedOut}
+use Rattle.placement_laws.specs.Laws as placing
+use Rattle.mass_laws.specs.Terms.{Fair, Limited}
+use Rattle.mass_laws.specs.Laws as masses
+use Rattle.laws.specs.Demands.{bytesRead, numbersRead, listed, many, Demand3, SameAnswers, Demands}
+use Rattle.laws.specs.Facts.{accepted-fair, accepted-limited, tables-fair, tables-limited}
+use Rattle.laws.specs.Bare.{rows-bare, labile-bare}
+use Rattle.laws.specs.Areas
+
+-- ---- demand 3
+demand-3-of : {P : Type 0} (t : Line P) → Within t → Fair t → Limited t → Demand3 t
+demand-3-of t w fair limited =
+    let qs = permittedPositions t in
+    let n = length (placements qs) in
+    let few : length qs ≤ 8 = rw (placing.line-many t) (w .few-copies) in
+    let rising = placing.line-rising t in
+    let all : handedOut qs n freshListing ≡ placements qs = placing.whole qs few rising n (omega arith) in
+    record {
+      every-allowed = placing.complete qs few rising;
+      ascending = subst Ascending (sym all) (placing.ascending qs few rising);
+      once = λ i j h k e. placing.once qs few rising i j h k (sym (ap (λ l. getD l i []) all) ∙ e ∙ ap (λ l. getD l j []) all);
+      no-further = λ m h. placing.whole qs few rising m h ∙ sym all;
+      then-17 = placing.ended qs few rising;
+      none-at-first = placing.no-placement qs few rising;
+      adds-up = masses.adds-up t fair;
+      own-entry = masses.own-entry t fair;
+      past = masses.past t fair;
+      total-below = masses.total-below t fair limited;
+      rows-fit = layout.rows-fit t w;
+    }
+
+demand-3 : (s : List ℕ) (l : Line ℕ) → outcome s ≡ accepted l → Demand3 l
+demand-3 s l e = demand-3-of l (layout.accepted-within s l e) (accepted-fair s l e) (accepted-limited s l e)
+
+demand-3-in : (bs : List ℕ) (ns : List ℤ) → areTables bs ns ≡ true → Demand3 (tablesIn bs ns)
+demand-3-in bs ns e =
+    let h = layout.tables-held bs ns e in
+    let l = h .0 in
+    let r = h .1 .reads in
+    subst (λ t. Demand3 t) (sym (h .1 .tables))
+    (demand-3-of (tablesOf l) (layout.tables-within l (h .1 .within)) (tables-fair _ l r) (tables-limited _ l r))
+
+-- ---- the tables answer for the line
+same-answers : {P : Type 0} (l : Line P) → SameAnswers l (tablesOf l)
+unfolding tablesOf
+same-answers l =
+    record {
+      residues = length-map (l .residues) bareResidue;
+      brackets = length-map (l .brackets) bareBracket;
+      floating = ap length (layout.same-floaters l) ∙ length-map (floaters l) bareBracket;
+      rows = rows-bare l;
+      positions = layout.same-permitted l;
+      whole = layout.same-total l;
+      missing = layout.same-lacking l;
+      labile = labile-bare l;
+      entries = layout.same-ledger l;
+    }
+
+answers : (s : List ℕ) (l : Line ℕ) → outcome s ≡ accepted l → (bs : List ℕ) (ns : List ℤ) → SameAnswers l (tablesIn (bytesRead l bs) (numbersRead l ns))
+answers s l e bs ns = subst (λ t. SameAnswers l t) (sym (layout.tables-back l (layout.accepted-within s l e) bs ns)) (same-answers l)
+
+pub demands : Demands
+demands = record { demand-2 = Areas.demand-2; demand-3 = demand-3; demand-3-in = demand-3-in; answers = answers }

@@ -1,0 +1,47 @@
+-- Lists of brackets whose ranks do not fall.
+use mathlib.Core.Path.{_≡_, refl, ap, ap₂}
+use mathlib.Core.Bool.{Bool, true, _&&_}
+use mathlib.Core.List.{List, [], _∷_, _++_, map}
+use Prim.Native.Nat.{ℕ, _≤_}
+use native.Mathlib.Omega.{arith}
+use lib.Dec.{leb}
+use borrow.Author.Tests.{le-leb}
+use Rattle.scope.specs.Line.{Bracket, Line}
+use Rattle.scope.specs.Tables.{bareBracket, tablesOf}
+use Rattle.order_laws.specs.Ranks.{rank, rising, orderedb}
+
+-- from q up to c
+abbrev pub Climbs : {P : Type 0} → ℕ → List (Bracket P) → ℕ → Type 0
+Climbs q [] c = q ≤ c
+Climbs q (k ∷ ks) c = (q ≤ rank k) × Climbs (rank k) ks c
+
+both : (s t : Bool) → s ≡ true → t ≡ true → (s && t) ≡ true
+both s t e f = rw (e, f)
+
+module _ {P : Type 0} where
+  lower : (p q : ℕ) (ks : List (Bracket P)) (c : ℕ) → p ≤ q → Climbs q ks c → Climbs p ks c
+  lower p q [] c h w = omega arith
+  lower p q (k ∷ ks) c h w = let x = w .0 in (omega arith, w .1)
+
+  pub higher : (q : ℕ) (ks : List (Bracket P)) (c d : ℕ) → c ≤ d → Climbs q ks c → Climbs q ks d
+  higher q [] c d h w = omega arith
+  higher q (k ∷ ks) c d h w = (w .0, higher (rank k) ks c d h (w .1))
+
+  pub climbs-append : (q c d : ℕ) (ks js : List (Bracket P)) → Climbs q ks c → Climbs c js d → Climbs q (ks ++ js) d
+  climbs-append q c d [] js w v = lower q c js d w v
+  climbs-append q c d (k ∷ ks) js w v = (w .0, climbs-append (rank k) c d ks js (w .1) v)
+
+  pub climbs-rising : (q : ℕ) (ks : List (Bracket P)) (c : ℕ) → Climbs q ks c → rising q ks ≡ true
+  unfolding rising
+  climbs-rising q [] c w = refl
+  climbs-rising q (k ∷ ks) c w = both (leb q (rank k)) (rising (rank k) ks) (le-leb q (rank k) (w .0)) (climbs-rising (rank k) ks c (w .1))
+
+  -- places do not matter
+  rising-bare : (q : ℕ) (ks : List (Bracket P)) → rising q (map bareBracket ks) ≡ rising q ks
+  unfolding rising
+  rising-bare q [] = refl
+  rising-bare q (k ∷ ks) = ap (λ t. leb q (rank k) && t) (rising-bare (rank k) ks)
+
+  pub ordered-bare : (l : Line P) → orderedb (tablesOf l) ≡ orderedb l
+  unfolding orderedb tablesOf
+  ordered-bare l = rising-bare 0 (l .brackets)

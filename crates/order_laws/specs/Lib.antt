@@ -1,0 +1,5 @@
+pub mod Ranks
+pub mod Laws
+pub mod Climbs
+pub mod Modes
+pub mod Reader

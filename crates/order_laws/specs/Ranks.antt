@@ -1,0 +1,33 @@
+-- "A line has this order": where a bracket of each kind stands in it, as a number. The brackets of a line's tables do not fall in it.
+use mathlib.Core.Path.{_≡_}
+use mathlib.Core.Bool.{Bool, true, _&&_}
+use mathlib.Core.List.{List, [], _∷_}
+use Prim.Native.Nat.{ℕ, _+_, _*_}
+use lib.Dec.{leb}
+use Rattle.scope.specs.declared.grammar.Kind.{Kind}
+use Rattle.scope.specs.declared.grammar.Kind.the-variants.{Unknown, Labile, NTerm, OnResidue, OnRange, CTerm}
+use Rattle.scope.specs.Line.{Bracket, Line}
+
+-- a bracket on a residue stands behind it, one on a range behind the range's last residue and the brackets on that one; one at the C-terminus behind
+-- all that a line may have by "residues 1 to 254"
+abbrev pub rankOf : Kind → ℕ → ℕ
+rankOf Unknown last = 0
+rankOf Labile last = 1
+rankOf NTerm last = 2
+rankOf OnResidue last = 3 + 2 * last
+rankOf OnRange last = 4 + 2 * last
+rankOf CTerm last = 2000
+
+abbrev pub rank : {P : Type 0} → Bracket P → ℕ
+rank k = rankOf (k .kind) (k .last)
+
+-- no rank below q, and none below one before it
+unfoldable pub rising : {P : Type 0} → ℕ → List (Bracket P) → Bool
+rising q [] = true
+rising q (k ∷ ks) = leb q (rank k) && rising (rank k) ks
+
+unfoldable pub orderedb : {P : Type 0} → Line P → Bool
+orderedb l = rising 0 (l .brackets)
+
+abbrev pub Ordered : {P : Type 0} → Line P → Type 0
+Ordered l = orderedb l ≡ true

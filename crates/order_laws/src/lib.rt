@@ -1,0 +1,1 @@
+// No code: the order of a line's brackets, as theorems over the definitions (specs/).

@@ -1,9 +1,9 @@
 -- Demand 2 and refusal 14, proved.
-use mathlib.Core.Path.{_≡_, refl, sym, ap, ap₂, _∙_, subst}
-use mathlib.Core.Bool.{Bool, true, false, _&&_, _||_}
+use mathlib.Core.Path.{_≡_, sym, ap, _∙_, subst}
+use mathlib.Core.Bool.{Bool, true, false, cond, _&&_, _||_}
 use mathlib.Core.Logic.{_↔_}
-use mathlib.Core.List.{List, [], _∷_, _++_}
-use Prim.Native.Nat.{ℕ, _+_, _≤_}
+use mathlib.Core.List.{List, _++_}
+use Prim.Native.Nat.{ℕ, _≤_}
 use native.Mathlib.Omega.{arith}
 use lib.Dec.{ltb}
 use lib.IntN.{ℤ}
@@ -13,11 +13,9 @@ use Rattle.scope.specs.Bytes.{same}
 use Rattle.scope.specs.Line.{Line}
 use Rattle.scope.specs.Refusals.{Outcome, accepted, outcome}
 use Rattle.scope.specs.Canonical.{canonical}
-use Rattle.scope.specs.Tables.{tablesOf, bytesOf, numbersOf, bytesSize, numbersSize, laid, tablesIn}
-use Rattle.scope.specs.Answers.{sameNumbers, readsTo, tooShort, areTables}
-use Rattle.layout_laws.specs.Within.{Within}
+use Rattle.scope.specs.Tables.{Tables, tablesOf, bytesOf, numbersOf, bytesSize, numbersSize, laid, tablesIn}
+use Rattle.scope.specs.Answers.{Said, refuses, sameNumbers, readsTo, tooShort, areTables, overTables}
 use Rattle.layout_laws.specs.Laws.{accepted-within, same-bytes, same-numbers, bytes-fill, numbers-fill, tables-back, laid-bytes, laid-numbers, areas-determine, same-law, same-numbers-law, tables-held, accepted-held}
-use Rattle.canonical_laws.specs.Laws.{ReadsTo}
 use Rattle.canonical_laws.specs.Proved as canonical-laws
 use Rattle.laws.specs.Demands.{bytesRead, numbersRead, writtenFrom, SomeLine, HoldTables, ReadsBack, Demand2}
 
@@ -64,6 +62,18 @@ read s l e bs ns =
       tables = tables-back l w bs ns;
       written = ap canonical (tables-back l w bs ns) ∙ canonical-laws.laws .of-tables l;
     }
+
+passed : {A : Type 0} (s t : Bool) (x y z : A) → s ≡ false → t ≡ true → cond s x (cond t y z) ≡ y
+passed s t x y z e f = rw (e, f)
+
+pub calls :
+    {A : Type 0} (f : Tables → Said A) (s : List ℕ) (l : Line ℕ) → outcome s ≡ accepted l → (bs : List ℕ) (ns : List ℤ)
+    → overTables (bytesRead l bs) (numbersRead l ns) f ≡ f (tablesOf l)
+calls f s l e bs ns =
+    let h = read s l e bs ns in
+    passed (tooShort (bytesRead l bs) (numbersRead l ns)) (areTables (bytesRead l bs) (numbersRead l ns)) (refuses 13 0)
+    (f (tablesIn (bytesRead l bs) (numbersRead l ns))) (refuses 14 0) (h .long-enough) (h .taken)
+    ∙ ap f (h .tables)
 
 -- ---- writing
 laid-over : {A : Type 0} (n : ℕ) (l xs : List A) → length l ≡ n → take n xs ≡ l → laid l xs ≡ xs

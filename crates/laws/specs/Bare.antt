@@ -1,7 +1,6 @@
 -- Places do not matter to the rows and to the labile masses.
 use mathlib.Core.Path.{_≡_, refl, ap, _∙_}
 use mathlib.Core.List.{List, [], _∷_, map}
-use lib.ListN.{length}
 use Rattle.scope.specs.declared.grammar.Key.the-variants.{Info}
 use Rattle.scope.specs.Line.{Value, mass, text, reference, Part, Bracket, Line}
 use Rattle.scope.specs.Content.{isReference}

@@ -19,11 +19,11 @@ use Rattle.scope.specs.declared.grammar.Slot.{Slot}
 use Rattle.scope.specs.declared.grammar.Act.{Act}
 use Rattle.scope.specs.declared.grammar.Act.the-variants.{Stop, Go, Residue as aResidue, Begin, Digit, RunEnds, TermEnds}
 use Rattle.scope.specs.Bytes.{isLetter, isDigit, isSign, shutSquare, shutCurly, openSquare, openCurly, openRound, shutRound, caret, question, dash, bar, hash, colon}
-use Rattle.scope.specs.Line.{Number, Value, mass, text, reference, Part, Bracket, Line}
+use Rattle.scope.specs.Line.{mass, text, Part, Bracket, Line}
 use Rattle.scope.specs.Keys.{keyOf, Form, massOrName, massOnly, digits, alnums, free, form, hashIsPlain}
 use Rattle.scope.specs.Content.{given, digitStep, numberEnd, isPlain, textStep, Context, Inner, begin, plain, keyed, inNumber, inCode, inText, hashed, inLabel, scoring, inScore, scored, Content, lost, closed, going, with, unlabelled, isReference, partEnd, valueEnd, textEnd, behindKey, colonAfter, accessionByte, nameBehind, none?, innerStep}
 use Rattle.scope.specs.Reading.{square, front, labile, element, further, groupFirst, inGroup, undecided, counted, referred, act, mayEnd, Held, bracketOf, withBracket, times, countDigit, onLast, asNTerm, State, dead, outside, inside, perform, resume, step, run, start, stuck, holds, lineOf, ended, reading}
-use Rattle.scope.specs.Modifications.{flat, nameOf, namesOf, isLabelled}
+use Rattle.scope.specs.Modifications.{flat, nameOf, isLabelled}
 use Rattle.scope.specs.Masses.{isLabile}
 use Rattle.layout_laws.specs.Within.{Each}
 use Rattle.layout_laws.specs.Lists.{and-left, and-right}

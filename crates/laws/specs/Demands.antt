@@ -10,11 +10,12 @@ use Rattle.scope.specs.Limits.{rowLimit}
 use Rattle.scope.specs.Line.{Bracket, Line}
 use Rattle.scope.specs.Refusals.{accepted, outcome}
 use Rattle.scope.specs.Canonical.{canonical}
-use Rattle.scope.specs.Tables.{tablesOf, bytesOf, numbersOf, bytesSize, numbersSize, laid, tablesIn}
+use Rattle.scope.specs.Tables.{Tables, tablesOf, bytesOf, numbersOf, bytesSize, numbersSize, laid, tablesIn}
 use Rattle.scope.specs.Positions.{floaters, permittedPositions, rowsOf}
 use Rattle.scope.specs.Placements.{allowed, placements, freshListing, requested}
 use Rattle.scope.specs.Masses.{massOr0, sum, total, lacking, ledger, labileMass}
-use Rattle.scope.specs.Answers.{tooShort, areTables}
+use Rattle.scope.specs.Answers.{Said, tooShort, areTables, overTables}
+use Rattle.mass_laws.specs.Terms.{Fair, Limited}
 use Rattle.placement_laws.specs.Terms.{In, Ascending, afterRequests, handedOut}
 
 -- what reading a line that holds l leaves in the lent areas
@@ -118,9 +119,16 @@ pub record SameAnswers {P Q : Type 0} (l : Line P) (t : Line Q) : Type 0 where
   pub entries : (p : List ℕ) → ledger t p ≡ ledger l p
 
 -- ---- all of it
-pub record Demands : Type 0 where
+pub record Demands : Type 1 where
   pub demand-2 : Demand2
-  -- of every accepted line, and of every tables that a call takes
+  -- a call that takes tables answers, over areas that a line was read into, what it answers of the line's tables
+  pub calls :
+      {A : Type 0} (f : Tables → Said A) (s : List ℕ) (l : Line ℕ) → outcome s ≡ accepted l → (bs : List ℕ) (ns : List ℤ)
+      → overTables (bytesRead l bs) (numbersRead l ns) f ≡ f (tablesOf l)
+  -- what the laws of masses ask is so of every accepted line and of its tables
+  pub fair : (s : List ℕ) (l : Line ℕ) → outcome s ≡ accepted l → Fair l × Fair (tablesOf l)
+  pub limited : (s : List ℕ) (l : Line ℕ) → outcome s ≡ accepted l → Limited l × Limited (tablesOf l)
+  -- of every accepted line, and of all tables that a call takes
   pub demand-3 : (s : List ℕ) (l : Line ℕ) → outcome s ≡ accepted l → Demand3 l
   pub demand-3-in : (bs : List ℕ) (ns : List ℤ) → areTables bs ns ≡ true → Demand3 (tablesIn bs ns)
   -- the tables in the areas answer for the line

@@ -1,12 +1,11 @@
 -- The demands of specs/Demands.antt hold.
-use mathlib.Core.Path.{_≡_, refl, sym, ap, _∙_, subst}
+use mathlib.Core.Path.{_≡_, sym, ap, _∙_, subst}
 use mathlib.Core.Bool.{true}
-use mathlib.Core.List.{List, [], map}
-use Prim.Native.Nat.{ℕ, _≤_, _<_}
+use mathlib.Core.List.{List, []}
+use Prim.Native.Nat.{ℕ, _≤_}
 use native.Mathlib.Omega.{arith}
 use lib.IntN.{ℤ}
 use lib.ListN.{length, getD, length-map}
-use Rattle.scope.specs.Limits.{copyLimit}
 use Rattle.scope.specs.Line.{Line}
 use Rattle.scope.specs.Refusals.{accepted, outcome}
 use Rattle.scope.specs.Tables.{bareBracket, bareResidue, tablesOf, tablesIn}
@@ -19,7 +18,7 @@ use Rattle.placement_laws.specs.Terms.{Ascending, handedOut}
 use Rattle.placement_laws.specs.Laws as placing
 use Rattle.mass_laws.specs.Terms.{Fair, Limited}
 use Rattle.mass_laws.specs.Laws as masses
-use Rattle.laws.specs.Demands.{bytesRead, numbersRead, listed, many, Demand3, SameAnswers, Demands}
+use Rattle.laws.specs.Demands.{bytesRead, numbersRead, Demand3, SameAnswers, Demands}
 use Rattle.laws.specs.Facts.{accepted-fair, accepted-limited, tables-fair, tables-limited}
 use Rattle.laws.specs.Bare.{rows-bare, labile-bare}
 use Rattle.laws.specs.Areas
@@ -77,4 +76,13 @@ answers : (s : List ℕ) (l : Line ℕ) → outcome s ≡ accepted l → (bs : L
 answers s l e bs ns = subst (λ t. SameAnswers l t) (sym (layout.tables-back l (layout.accepted-within s l e) bs ns)) (same-answers l)
 
 pub demands : Demands
-demands = record { demand-2 = Areas.demand-2; demand-3 = demand-3; demand-3-in = demand-3-in; answers = answers }
+demands =
+    record {
+      demand-2 = Areas.demand-2;
+      calls = Areas.calls;
+      fair = λ s l e. (accepted-fair s l e, tables-fair s l e);
+      limited = λ s l e. (accepted-limited s l e, tables-limited s l e);
+      demand-3 = demand-3;
+      demand-3-in = demand-3-in;
+      answers = answers;
+    }

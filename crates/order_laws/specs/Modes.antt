@@ -1,13 +1,11 @@
 -- How high the ranks of the brackets read so far may be, by how far the order of a line has come; and what each byte does to that.
-use mathlib.Core.Path.{_≡_, refl}
 use mathlib.Core.Bool.{Bool, true, false, cond}
 use Prim.Native.Nat.{ℕ, _+_, _*_, _≤_}
 use native.Mathlib.Omega.{arith}
 use lib.Dec.{eqb}
-use Rattle.scope.specs.declared.grammar.Section.{Section}
 use Rattle.scope.specs.declared.grammar.Section.the-variants.{Plain, RangeFirst, RangeNext, UnsureFirst, UnsureNext}
 use Rattle.scope.specs.declared.grammar.Kind.{Kind}
-use Rattle.scope.specs.declared.grammar.Kind.the-variants.{Unknown, Labile, NTerm, OnResidue, OnRange, CTerm}
+use Rattle.scope.specs.declared.grammar.Kind.the-variants.{Unknown, NTerm, OnResidue, OnRange, CTerm}
 use Rattle.scope.specs.declared.grammar.Mode.{Mode}
 use Rattle.scope.specs.declared.grammar.Mode.the-variants.{Front, Undecided, Counted, Referred, Caret, Counting, Labiles, NTerms, Start, Single, Opened, UnsureOpened, InRange, InUnsure, RangeEnd, Ranged, UnsureEnd, CStart, CTerms}
 use Rattle.scope.specs.declared.grammar.Slot.{Slot}

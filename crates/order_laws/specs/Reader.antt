@@ -1,27 +1,25 @@
 -- What the reader has settled is in order, byte by byte, as long as the residues are within their limit.
-use mathlib.Core.Path.{_≡_, refl, sym, ap, _∙_, subst}
+use mathlib.Core.Path.{_≡_, refl, sym, _∙_, subst}
 use mathlib.Core.Bool.{Bool, true, false, cond}
 use mathlib.Core.Option.{Option, none, some}
 use mathlib.Core.List.{List, [], _∷_, _++_, map}
 use Prim.Native.Nat.{ℕ, _+_, _*_, _-_, _≤_}
 use native.Mathlib.Omega.{arith}
 use lib.ListN.{length, length-append}
-use Rattle.scope.specs.declared.grammar.Section.{Section}
 use Rattle.scope.specs.declared.grammar.Kind.{Kind}
 use Rattle.scope.specs.declared.grammar.Kind.the-variants.{Unknown, Labile, NTerm, OnResidue, OnRange, CTerm}
 use Rattle.scope.specs.declared.grammar.Mode.{Mode}
-use Rattle.scope.specs.declared.grammar.Mode.the-variants.{Front, Start, Counting}
 use Rattle.scope.specs.declared.grammar.Slot.{Slot}
 use Rattle.scope.specs.declared.grammar.Act.{Act}
 use Rattle.scope.specs.declared.grammar.Act.the-variants.{Stop, Go, Residue as aResidue, Begin, Digit, RunEnds, TermEnds}
 use Rattle.scope.specs.Bytes.{upper}
 use Rattle.scope.specs.Limits.{residueLimit}
 use Rattle.scope.specs.Line.{Part, Bracket, Residue, Line}
-use Rattle.scope.specs.Content.{given, Inner, Content, lost, closed, going, innerStep}
-use Rattle.scope.specs.Reading.{act, mayEnd, Held, withResidue, bracketOf, settled, withBracket, times, countDigit, onLast, withDigit, asNTerm, settledRun, State, dead, outside, inside, perform, refers?, modeAfter, resume, step, run, start, stuck, holds, lineOf, ended, reading}
+use Rattle.scope.specs.Content.{given, Content, lost, closed, going, innerStep}
+use Rattle.scope.specs.Reading.{act, mayEnd, Held, bracketOf, settled, withBracket, times, countDigit, onLast, asNTerm, State, dead, outside, inside, perform, refers?, modeAfter, resume, step, run, start, stuck, holds, lineOf, ended, reading}
 use Rattle.order_laws.specs.Ranks.{rank, Ordered, orderedb}
 use Rattle.order_laws.specs.Climbs.{Climbs, higher, climbs-append, climbs-rising}
-use Rattle.order_laws.specs.Modes.{ceiling, rankNow, SlotKeeps, ActKeeps, act-keeps}
+use Rattle.order_laws.specs.Modes.{ceiling, rankNow, ActKeeps, act-keeps}
 
 -- the brackets at the front wait as unknown ones
 abbrev Waits : {P : Type 0} → List (Bracket P) → Type 0

@@ -10,5 +10,6 @@ pub mod generate;
 pub mod line;
 pub mod masses;
 pub mod positions;
+pub mod proved;
 pub mod reader;
 pub mod register;

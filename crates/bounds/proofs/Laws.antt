@@ -7,13 +7,13 @@ use native.Mathlib.Omega.{arith}
 use borrow.Author.Tests.{ltb-true, ltb-false, leb-true, leb-false}
 use borrow.Author.Count.{below-more}
 use lib.Dec.{leb}
-use lib.IntN.{ℤ, pos, negsuc, natAbs}
+use lib.IntN.{ℤ, pos, negsuc}
 use lib.ListN.{length, getD}
 use lib.Signed.{ltZ}
 use Rattle.scope.specs.Limits.{lineLimit, residueLimit, bracketLimit, partLimit, textLimit, labelLimit, countLimit, decimalLimit}
 use Rattle.scope.specs.Tables.{bytesSize, numbersSize, numberRowSize, byteAt, rowAt, partAt, textFrom}
 use Rattle.areas.specs.Bounds.{Small, PartBounds, BracketBounds, Bounds}
-use Rattle.bounds.specs.Verdict.{Verdict, yes, no, decides}
+use Rattle.bounds.specs.Verdict.{Verdict, decides}
 use Rattle.bounds.specs.Pieces.{Room, RowRoom, PlaceBounds, HeadBounds, PartsBounds, BracketsBounds}
 
 pub verdict : {A : Type 0} (t : Bool) → (t ≡ true → A) → (t ≡ false → A → ⊥) → Verdict t A

@@ -1,5 +1,5 @@
 -- An answer that decides a fact.
-use mathlib.Core.Path.{_≡_, refl}
+use mathlib.Core.Path.{_≡_}
 use mathlib.Core.Bool.{Bool, true, false}
 
 -- A where the answer is yes, and not A where it is no

@@ -12,10 +12,14 @@ head-in-bounds-requires : tie.Need-head-in-bounds-requires
 head-in-bounds-requires c κs = search needs
 
 parts-in-bounds-requires : tie.Need-parts-in-bounds-requires
-parts-in-bounds-requires c κs = (c .before .before .before .before .before .pre, yes _ (c .before .head-in-bounds .ensures) (c .if2 .taken) .few-parts)
+parts-in-bounds-requires c κs =
+    (c .before .before .before .before .before .pre, yes _ (c .before .head-in-bounds .ensures) (c .if2 .taken) .few-parts)
 
 returns : tie.Need-returns
-returns c = bracket-law (c .parts-in-bounds .result) (yes _ (c .before .before .before .before .place-in-bounds .ensures) (c .before .before .before .if1 .taken)) (yes _ (c .before .before .head-in-bounds .ensures) (c .before .if2 .taken)) (c .parts-in-bounds .ensures)
+returns c =
+    bracket-law (c .parts-in-bounds .result)
+    (yes _ (c .before .before .before .before .place-in-bounds .ensures) (c .before .before .before .if1 .taken))
+    (yes _ (c .before .before .head-in-bounds .ensures) (c .before .if2 .taken)) (c .parts-in-bounds .ensures)
 
 returns-2 : tie.Need-returns-2
 returns-2 c = λ b. no _ (c .before .head-in-bounds .ensures) (c .if2 .left) (head-of b)

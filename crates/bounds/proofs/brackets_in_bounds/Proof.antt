@@ -25,7 +25,9 @@ loop-less : tie.Need-loop-less Inv-loop μ-loop
 loop-less c = omega arith
 
 loop-again : tie.Need-loop-again Inv-loop μ-loop
-loop-again c = rows-more (c .before .before .before .loop .inv) (c .before .before .loop-test .taken) (yes _ (c .before .bracket-in-bounds .ensures) (c .if1 .taken))
+loop-again c =
+    rows-more (c .before .before .before .loop .inv) (c .before .before .loop-test .taken)
+    (yes _ (c .before .bracket-in-bounds .ensures) (c .if1 .taken))
 
 returns : tie.Need-returns Inv-loop μ-loop
 returns c = rows-out (c .before .before .loop-test .taken) (no _ (c .before .bracket-in-bounds .ensures) (c .if1 .left))

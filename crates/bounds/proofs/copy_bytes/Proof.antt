@@ -1,7 +1,6 @@
 -- `bounds::copy_bytes` meets its contract. The loop: i bytes are copied. Assumes nothing.
 use Prim.Native.Nat.{_-_}
 use native.Mathlib.Omega.{arith}
-use borrow.Author.Needs.{needs}
 use Rattle.bounds.proofs.Lists.{Copied, copied-start, copied-more, copied-all}
 use Rattle.bounds.proofs.copy_bytes.Statement.{statement}
 use Rattle.bounds.proofs.copy_bytes.Tie as tie

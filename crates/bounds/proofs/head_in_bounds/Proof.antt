@@ -52,7 +52,10 @@ returns-5 c =
     let one = two .before in
     let read : toZ w64 (ofZ w64 (c .before .number .result)) ≡ c .before .number .result = search needs in
     let s = one .before .before .before .before in
-    head-law (now (s .args .bytes)) (now (s .args .numbers)) (s .args .k) (c .is-small .result) (one .before .wide .ensures .0 ∙ one .before .before .bracket-byte .ensures) (three .before .wide2 .ensures .0 ∙ three .before .before .bracket-byte2 .ensures) (four .before .bracket-byte3 .ensures) (read ∙ c .before .number .ensures) (one .if1 .left) (two .if2 .left) (three .if3 .left) (four .if4 .left) (c .is-small .ensures)
+    head-law (now (s .args .bytes)) (now (s .args .numbers)) (s .args .k) (c .is-small .result)
+    (one .before .wide .ensures .0 ∙ one .before .before .bracket-byte .ensures)
+    (three .before .wide2 .ensures .0 ∙ three .before .before .bracket-byte2 .ensures) (four .before .bracket-byte3 .ensures)
+    (read ∙ c .before .number .ensures) (one .if1 .left) (two .if2 .left) (three .if3 .left) (four .if4 .left) (c .is-small .ensures)
 
 pub head-in-bounds-spec : {M : Type 1} → statement M
 head-in-bounds-spec =

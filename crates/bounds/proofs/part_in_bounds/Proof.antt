@@ -58,7 +58,10 @@ returns-5 c =
     let one = two .before .before .before in
     let read : toZ w64 (ofZ w64 (c .before .number .result)) ≡ c .before .number .result = search needs in
     let s = one .before .before .before in
-    part-law (now (s .args .bytes)) (now (s .args .numbers)) (s .args .k) (s .args .j) (c .is-small .result) (one .before .part-byte .ensures) (two .before .wide .ensures .0 ∙ two .before .before .part-byte2 .ensures) (three .before .wide2 .ensures .0 ∙ three .before .before .part-byte3 .ensures) (four .before .text-from .ensures .0) (read ∙ c .before .number .ensures) (one .if1 .left) (two .if2 .left) (three .if3 .left) (four .if4 .left) (c .is-small .ensures)
+    part-law (now (s .args .bytes)) (now (s .args .numbers)) (s .args .k) (s .args .j) (c .is-small .result)
+    (one .before .part-byte .ensures) (two .before .wide .ensures .0 ∙ two .before .before .part-byte2 .ensures)
+    (three .before .wide2 .ensures .0 ∙ three .before .before .part-byte3 .ensures) (four .before .text-from .ensures .0)
+    (read ∙ c .before .number .ensures) (one .if1 .left) (two .if2 .left) (three .if3 .left) (four .if4 .left) (c .is-small .ensures)
 
 pub part-in-bounds-spec : {M : Type 1} → statement M
 part-in-bounds-spec =

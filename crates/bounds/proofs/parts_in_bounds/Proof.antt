@@ -1,6 +1,6 @@
 -- `bounds::parts_in_bounds` meets its contract. The loop: the parts below j keep to their bounds. Assumes nothing.
 use mathlib.Core.Path.{_∙_}
-use Prim.Native.Nat.{ℕ, _≤_, _<_, _-_}
+use Prim.Native.Nat.{_-_}
 use native.Mathlib.Omega.{arith}
 use borrow.Author.Needs.{needs}
 use Rattle.bounds.specs.Verdict.{yes, no}
@@ -21,7 +21,9 @@ wide-requires : tie.Need-wide-requires Inv-loop μ-loop
 wide-requires c κs = search needs
 
 loop-holds : tie.Need-loop-holds Inv-loop μ-loop
-loop-holds c = parts-start (c .before .before .before .pre .0) (c .before .before .before .pre .1) (c .wide .ensures .0 ∙ c .before .bracket-byte .ensures)
+loop-holds c =
+    parts-start (c .before .before .before .pre .0) (c .before .before .before .pre .1)
+    (c .wide .ensures .0 ∙ c .before .bracket-byte .ensures)
 
 part-in-bounds-requires : tie.Need-part-in-bounds-requires Inv-loop μ-loop
 part-in-bounds-requires c κs = parts-row (c .before .loop .inv) (c .loop-test .taken)
@@ -33,10 +35,14 @@ loop-less : tie.Need-loop-less Inv-loop μ-loop
 loop-less c = omega arith
 
 loop-again : tie.Need-loop-again Inv-loop μ-loop
-loop-again c = parts-more (c .before .before .before .loop .inv) (c .before .before .loop-test .taken) (yes _ (c .before .part-in-bounds .ensures) (c .if1 .taken))
+loop-again c =
+    parts-more (c .before .before .before .loop .inv) (c .before .before .loop-test .taken)
+    (yes _ (c .before .part-in-bounds .ensures) (c .if1 .taken))
 
 returns : tie.Need-returns Inv-loop μ-loop
-returns c = parts-out (c .before .before .before .loop .inv) (c .before .before .loop-test .taken) (no _ (c .before .part-in-bounds .ensures) (c .if1 .left))
+returns c =
+    parts-out (c .before .before .before .loop .inv) (c .before .before .loop-test .taken)
+    (no _ (c .before .part-in-bounds .ensures) (c .if1 .left))
 
 returns-2 : tie.Need-returns-2 Inv-loop μ-loop
 returns-2 c = parts-all (c .before .loop .inv) (c .loop-test .left)

@@ -32,7 +32,9 @@ returns-2 : tie.Need-returns-2
 returns-2 c =
     let w = c .before .before .before in
     let s = w .before .before .before .before in
-    place-law (now (s .args .bytes)) (s .args .k) (ap (λ n. n + 1) (w .before .before .residues .ensures .0)) (w .wide .ensures .0 ∙ w .before .bracket-byte .ensures) (c .wide2 .ensures .0 ∙ c .before .bracket-byte2 .ensures) (c .before .before .if1 .left)
+    place-law (now (s .args .bytes)) (s .args .k) (ap (λ n. n + 1) (w .before .before .residues .ensures .0))
+    (w .wide .ensures .0 ∙ w .before .bracket-byte .ensures) (c .wide2 .ensures .0 ∙ c .before .bracket-byte2 .ensures)
+    (c .before .before .if1 .left)
 
 pub place-in-bounds-spec : {M : Type 1} → statement M
 place-in-bounds-spec =

@@ -35,10 +35,10 @@ loop-less : tie.Need-loop-less Inv-loop μ-loop
 loop-less c = omega arith
 
 loop-again : tie.Need-loop-again Inv-loop μ-loop
-loop-again c = alike-more _ _ _ _ (c .before .before .before .before .loop .inv) (c .before .before .before .loop-test .taken) (c .if1 .left)
+loop-again c = alike-more _ _ _ _ (c .before .before .before .before .loop .inv) (omega arith) (c .if1 .left)
 
 returns-2 : tie.Need-returns-2 Inv-loop μ-loop
-returns-2 c = let p = c .before .before .pre in agrees _ _ _ _ same-law (c .before .loop .inv) (c .loop-test .left) (p .0) (p .1)
+returns-2 c = let p = c .before .before .pre in agrees _ _ _ _ same-law (c .before .loop .inv) (omega arith) (p .0) (p .1)
 
 pub same-bytes-spec : {M : Type 1} → statement M
 same-bytes-spec =

@@ -66,11 +66,11 @@ loop-again c =
     let y = getD (now (s .args .b)) at (pos 0) in
     let read-x : toZ w64 (ofZ w64 x) ≡ x = search needs in
     let read-y : toZ w64 (ofZ w64 y) ≡ y = search needs in
-    alike-more _ _ _ _ (at-loop .loop .inv) (c .before .before .before .before .loop-test .taken)
+    alike-more _ _ _ _ (at-loop .loop .inv) (omega arith)
     (sym read-x ∙ yes _ (c .before .is-same .ensures) (not-false (c .before .is-same .result) (c .if1 .left)) ∙ read-y)
 
 returns-2 : tie.Need-returns-2 Inv-loop μ-loop
-returns-2 c = let p = c .before .before .pre in agrees _ _ _ _ same-numbers-law (c .before .loop .inv) (c .loop-test .left) (p .0) (p .1)
+returns-2 c = let p = c .before .before .pre in agrees _ _ _ _ same-numbers-law (c .before .loop .inv) (omega arith) (p .0) (p .1)
 
 pub same-whole-spec : {M : Type 1} → statement M
 same-whole-spec =

@@ -1,0 +1,80 @@
+//! The proved library against the independent reader: on the outside vectors, on generated lines, on lines of every awkward length.
+
+use compare::generate::Generator;
+use compare::{proved, reader};
+
+fn alike(line: &[u8]) {
+    let theirs = proved::verdict(line);
+    let ours = reader::read(line).map(|_| ());
+    assert_eq!(theirs, ours, "{:?}", String::from_utf8_lossy(line));
+}
+
+#[test]
+fn vectors() {
+    let lines = include_bytes!("../vectors/lines.in");
+    let outs = include_str!("../vectors/lines.out");
+    let mut count = 0;
+    for (line, out) in lines.split(|&b| b == 10).zip(outs.lines()) {
+        let words: Vec<&str> = out.splitn(5, ' ').collect();
+        let said = proved::verdict(line);
+        if words[1] == "ok" {
+            assert!(said.is_ok(), "{out}");
+        } else {
+            let refusal = said.expect_err(out);
+            assert_eq!(refusal.number.to_string(), words[2], "{out}");
+            assert_eq!(refusal.place.to_string(), words[3], "{out}");
+        }
+        count += 1;
+    }
+    assert_eq!(count, 2400);
+}
+
+#[test]
+fn generated_lines() {
+    let count = std::env::var("HWEMIDUK_LINES").ok().and_then(|n| n.parse().ok()).unwrap_or(200_000);
+    let mut refused = [0usize; 13];
+    for line in Generator::new(20261115).take(count) {
+        alike(&line);
+        if let Err(refusal) = reader::read(&line) {
+            refused[refusal.number as usize] += 1;
+        }
+    }
+    // a test that met no refusal of some number would show nothing of it
+    for (number, met) in refused.iter().enumerate().skip(3) {
+        assert!(*met * 200 >= count, "refusal {number} was met {met} times");
+    }
+}
+
+#[test]
+fn awkward_lengths() {
+    for n in [0usize, 1, 253, 254, 255, 4095, 4096, 4097, 100_000] {
+        alike(&vec![b'A'; n]);
+        alike(&vec![b'['; n]);
+        alike(&vec![b' '; n]);
+        alike(&vec![0; n]);
+        alike(&vec![255; n]);
+        let mut text = b"A[".to_vec();
+        text.resize(n.max(3), b'x');
+        alike(&text);
+        let mut deep = b"A[".to_vec();
+        while deep.len() + 2 < n {
+            deep.extend(b"{[");
+        }
+        alike(&deep);
+        let mut zeros = b"A[+".to_vec();
+        zeros.resize(n.max(5) - 1, b'0');
+        zeros.push(b']');
+        alike(&zeros);
+    }
+}
+
+#[test]
+fn every_single_byte_and_pair() {
+    for a in 0..=255u8 {
+        alike(&[a]);
+        for b in 0..=255u8 {
+            alike(&[a, b]);
+            alike(&[b'A', b'[', a, b, b']']);
+        }
+    }
+}

@@ -1,0 +1,35 @@
+// The boundary to C, Rust and Python: numbers and lent slices.
+use scope::answers::Read;
+ghost use mathlib.Core.Path.{_≡_};
+ghost use Rattle.scope.specs.Refusals.{outcome};
+ghost use Rattle.scope.specs.Answers.{saysRead, saysOutcome};
+ghost use Rattle.export.specs.Numbers.{numberOf, placeOf};
+
+// The number of an answer, and its place.
+fn number_of(r: Read) -> u8
+    ensures { λ n. ⌜ n ≡ numberOf (saysRead r) ⌝ }
+{
+    match r {
+        Read::Accepted => 0,
+        Read::Refused { number, place: _ } => number,
+    }
+}
+
+fn place_of(r: Read) -> usize
+    ensures { λ n. ⌜ n ≡ placeOf (saysRead r) ⌝ }
+{
+    match r {
+        Read::Accepted => 0,
+        Read::Refused { number: _, place } => place,
+    }
+}
+
+// 0 where the line is accepted, else the number of its refusal, with the place in `place`. Takes any bytes.
+#[no_mangle]
+pub extern "C" fn hwemiduk_verdict(line: &[u8], place: &mut usize) -> u8
+    ensures { λ r. ⌜ (r ≡ numberOf (saysOutcome (outcome (now (line .entry))))) × (now (place .exit) ≡ placeOf (saysOutcome (outcome (now (line .entry))))) ⌝ }
+{
+    let r = verdict::verdict_on(line);
+    *place = place_of(r);
+    number_of(r)
+}

@@ -1,0 +1,3 @@
+pub mod Codes
+pub mod Judged
+pub mod Whole

@@ -3,7 +3,7 @@ use scope::answers::Read;
 ghost use mathlib.Core.Path.{_≡_};
 ghost use Rattle.scope.specs.Refusals.{outcome};
 ghost use Rattle.scope.specs.Answers.{saysRead, saysOutcome};
-ghost use Rattle.export.specs.Numbers.{numberOf, placeOf};
+ghost use Rattle.export.specs.Numbers.{numberOf, placeOf, Exported};
 
 // The number of an answer, and its place.
 fn number_of(r: Read) -> u8
@@ -30,6 +30,22 @@ pub extern "C" fn hwemiduk_verdict(line: &[u8], place: &mut usize) -> u8
     ensures { λ r. ⌜ (r ≡ numberOf (saysOutcome (outcome (now (line .entry))))) × (now (place .exit) ≡ placeOf (saysOutcome (outcome (now (line .entry))))) ⌝ }
 {
     let r = verdict::verdict_on(line);
+    *place = place_of(r);
+    number_of(r)
+}
+
+// Reads any bytes into the two areas: 0 where the line is accepted, with its tables in the areas and what lies past the fixed sizes as it was; else the number of
+// the refusal, with the place in `place` and the areas as they were.
+#[no_mangle]
+pub extern "C" fn hwemiduk_read(
+    line: &[u8],
+    bytes: &mut [u8],
+    numbers: &mut [i64],
+    place: &mut usize,
+) -> u8
+    ensures { λ r. ⌜ Exported (now (line .entry)) (now (bytes .entry)) (now (numbers .entry)) r (now (place .exit)) (now (bytes .exit)) (now (numbers .exit)) ⌝ }
+{
+    let r = reader::read(line, bytes, numbers);
     *place = place_of(r);
     number_of(r)
 }

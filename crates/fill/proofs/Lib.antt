@@ -1,0 +1,12 @@
+pub mod Stores
+pub mod PutPart
+pub mod Bounded
+pub mod Settled
+pub mod FoundLaws
+pub mod StepLaws
+pub mod AreaLaws
+pub mod PartsLaws
+pub mod HeldLaws
+pub mod FillLaws
+pub mod BracketLaws
+pub mod WholeLaws

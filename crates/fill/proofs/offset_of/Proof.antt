@@ -1,0 +1,16 @@
+use Prim.Native.Nat.{_≤_}
+use native.Mathlib.Omega.{arith}
+use borrow.Author.Tests.{eq-eqb, ne-eqb}
+use Rattle.fill.proofs.offset_of.Statement.{statement}
+use Rattle.fill.proofs.offset_of.Tie as tie
+use Rattle.fill.proofs.offset_of.Reads as reads
+use Rattle.fill.proofs.offset_of.Lts as lts
+
+returns : tie.Need-returns
+returns c = (rw (eq-eqb _ _ (c .if1 .taken)), omega arith)
+
+returns-2 : tie.Need-returns-2
+returns-2 c = (rw (ne-eqb _ _ (c .if1 .left)), omega arith)
+
+pub offset-of-spec : {M : Type 1} → statement M
+offset-of-spec = tie.close (tie.spec returns returns-2)

@@ -1,0 +1,121 @@
+use mathlib.Core.Path.{ap, ap₂, subst, sym, _∙_}
+use mir.Facts.{toZ-ofZ}
+use Rattle.fill.specs.declared.Step.the-variants.{More, Closed}
+use Rattle.fill.specs.Found.{FewDecimals, codeAfter, massAfter}
+use Rattle.fill.proofs.Stores.{back}
+use Rattle.fill.proofs.StepLaws.{found-put, shut-step, more-step}
+use borrow.Author.Needs.{needs}
+use Rattle.fill.proofs.put_found.Statement.{statement}
+use Rattle.fill.proofs.put_found.Tie as tie
+use Rattle.fill.proofs.put_found.Reads as reads
+use Rattle.fill.proofs.put_found.Lts as lts
+use Rattle.fill.proofs.is_reference.Reads as is-reference-reads
+use Rattle.fill.proofs.label_score.Reads as label-score-reads
+use Rattle.fill.proofs.put_part.Reads as put-part-reads
+use Rattle.fill.proofs.score_code.Reads as score-code-reads
+use Rattle.fill.proofs.score_mass.Reads as score-mass-reads
+
+label-score-requires : tie.Need-label-score-requires
+label-score-requires c κs = search needs
+
+mul-put-part : tie.Need-mul-put-part
+mul-put-part c = search needs
+
+add-put-part : tie.Need-add-put-part
+add-put-part c = search needs
+
+mul-put-part-2 : tie.Need-mul-put-part-2
+mul-put-part-2 c = search needs
+
+add-put-part-2 : tie.Need-add-put-part-2
+add-put-part-2 c = search needs
+
+mul-put-part-3 : tie.Need-mul-put-part-3
+mul-put-part-3 c = search needs
+
+add-put-part-3 : tie.Need-add-put-part-3
+add-put-part-3 c = search needs
+
+put-part-requires : tie.Need-put-part-requires
+put-part-requires c κs = search needs
+
+score-code-requires : tie.Need-score-code-requires
+score-code-requires c κs =
+    let l = c .before .before .before .before .before .before in
+    subst FewDecimals (sym (l .label-score .ensures)) (l .before .before .before .pre .score)
+
+score-mass-requires : tie.Need-score-mass-requires
+score-mass-requires c κs = search needs
+
+is-reference-requires : tie.Need-is-reference-requires
+is-reference-requires c κs = search needs
+
+shared-slice-read-if1 : tie.Need-shared-slice-read-if1
+shared-slice-read-if1 c = search needs
+
+add-t33 : tie.Need-add-t33
+add-t33 c = search needs
+
+same-length : tie.Need-same-length
+same-length c = search needs
+
+same-length-2 : tie.Need-same-length-2
+same-length-2 c = search needs
+
+returns : tie.Need-returns
+returns c =
+    let i = c .before .before in
+    let m = i .before in
+    let d = m .before in
+    let p = d .before .before .before .before in
+    let l = p .before .before .before in
+    let s = l .before .before .before in
+    found-put (p .put-part .ensures) (d .score-code .ensures ∙ ap (codeAfter (s .args .code)) (l .label-score .ensures))
+    (back _ (m .score-mass .ok) (m .score-mass .ensures ∙ ap₂ (λ a b. massAfter (s .args .code) a b) (toZ-ofZ (s .fits .mass)) (l .label-score .ensures)))
+    (i .is-reference .ensures) Closed (shut-step (s .args .line .now) (s .args .p) (s .args .shut) (s .args .t) (s .args .code) (s .args .mass) (c .if1 .taken))
+
+add-t24 : tie.Need-add-t24
+add-t24 c = search needs
+
+same-length-3 : tie.Need-same-length-3
+same-length-3 c = search needs
+
+same-length-4 : tie.Need-same-length-4
+same-length-4 c = search needs
+
+returns-2 : tie.Need-returns-2
+returns-2 c =
+    let i = c .before .before in
+    let m = i .before in
+    let d = m .before in
+    let p = d .before .before .before .before in
+    let l = p .before .before .before in
+    let s = l .before .before .before in
+    found-put (p .put-part .ensures) (d .score-code .ensures ∙ ap (codeAfter (s .args .code)) (l .label-score .ensures))
+    (back _ (m .score-mass .ok) (m .score-mass .ensures ∙ ap₂ (λ a b. massAfter (s .args .code) a b) (toZ-ofZ (s .fits .mass)) (l .label-score .ensures)))
+    (i .is-reference .ensures) More (more-step (s .args .line .now) (s .args .p) (s .args .shut) (s .args .t) (s .args .code) (s .args .mass) (c .if1 .left))
+
+pub put-found-spec : {M : Type 1} → statement M
+put-found-spec =
+    tie.close
+    (tie.spec
+    label-score-requires
+    mul-put-part
+    add-put-part
+    mul-put-part-2
+    add-put-part-2
+    mul-put-part-3
+    add-put-part-3
+    put-part-requires
+    score-code-requires
+    score-mass-requires
+    is-reference-requires
+    shared-slice-read-if1
+    add-t33
+    same-length
+    same-length-2
+    returns
+    add-t24
+    same-length-3
+    same-length-4
+    returns-2)

@@ -1,0 +1,190 @@
+-- What the areas hold when a line is read up to a place, and what fill does.
+use mathlib.Core.Path.{_≡_}
+use mathlib.Core.Bool.{Bool, true, false, cond}
+use mathlib.Core.Option.{Option, none, some}
+use mathlib.Core.List.{List, [], _∷_, _++_, map}
+use Prim.Native.Nat.{ℕ, zero, suc, _+_, _-_, _*_, _<_, _≤_}
+use lib.Dec.{eqb}
+use lib.IntN.{ℤ, pos}
+use lib.ListN.{length, take, drop, set, replicate}
+use Rattle.scope.specs.declared.grammar.Section.{Section}
+use Rattle.scope.specs.declared.grammar.Kind.{Kind}
+use Rattle.scope.specs.declared.grammar.Kind.the-variants.{Unknown, Labile, NTerm, OnResidue, OnRange, CTerm}
+use Rattle.scope.specs.declared.grammar.Mode.{Mode}
+use Rattle.scope.specs.declared.grammar.Mode.the-variants.{Front}
+use Rattle.scope.specs.declared.grammar.Slot.{Slot}
+use Rattle.scope.specs.Bytes.{upper}
+use Rattle.scope.specs.Line.{Bracket, Line}
+use Rattle.scope.specs.Content.{given, begin}
+use Rattle.scope.specs.Reading.{Held, firstOf, outside, inside, holds}
+use Rattle.scope.specs.Modifications.{flat}
+use Rattle.scope.specs.Refusals.{outcome, accepted}
+use Rattle.scope.specs.Tables.{padded, sectionCode, bracketTexts, rows, numberRow, bytesOf, numbersOf, laid, bytesSize, numbersSize}
+use Rattle.reading_laws.specs.Run.{rest}
+use Rattle.layout_laws.specs.Within.{Within}
+use Rattle.fill.specs.declared.Progress.{Progress}
+use Rattle.fill.specs.States.{Settled}
+use Rattle.fill.specs.Steps.{contextIn, bracketsIn, textsIn, Roomy}
+use Rattle.fill.specs.Areas.{areaWith, numbersWith}
+
+-- ---- the areas of what is held
+abbrev pub allOf : Held ℕ → List (Bracket ℕ)
+allOf h = h .brackets ++ h .run
+
+abbrev pub lettersFor : Held ℕ → List ℕ
+lettersFor h = map (λ r. r .letter) (h .residues)
+
+abbrev pub sectionsFor : Held ℕ → List ℕ
+sectionsFor h = map (λ r. sectionCode (r .section)) (h .residues)
+
+abbrev pub frontWith : List ℕ → List ℕ → List ℕ
+frontWith letters sections = (0 ∷ 0 ∷ []) ++ (padded 0 254 letters ++ padded 0 254 sections)
+
+abbrev pub bytesFor : Held ℕ → List ℕ → List ℕ
+bytesFor h old = areaWith (frontWith (lettersFor h) (sectionsFor h)) (rows 0 (allOf h)) (flat bracketTexts (allOf h)) (drop 6782 old)
+
+abbrev pub numbersFor : Held ℕ → List ℤ → List ℤ
+numbersFor h old = numbersWith (flat numberRow (allOf h)) (drop 320 old)
+
+-- the count so far of the last bracket at the front
+abbrev pub countOf : Bracket ℕ → ℕ
+countOf k = given (k .counted) (λ p. k .count) 0
+
+unfoldable pub countIn : List (Bracket ℕ) → ℕ
+countIn [] = 0
+countIn (k ∷ []) = countOf k
+countIn (k ∷ j ∷ ks) = countIn (j ∷ ks)
+
+pub record Counts (h : Held ℕ) (s : Progress) : Type 0 where
+  pub residues-are : length (h .residues) ≡ s .residues
+  pub brackets-are : bracketsIn h ≡ s .brackets
+  pub texts-are : textsIn h ≡ s .texts
+  pub run-is : length (h .run) ≡ s .run
+  pub first-is : h .first ≡ s .first
+  pub first-few : s .first ≤ s .residues
+  pub count-is : countIn (h .run) ≡ s .count
+
+pub record Filling (line : List ℕ) (l : Line ℕ) (old : List ℕ) (oldNumbers : List ℤ) (s : Progress) (bytes : List ℕ) (numbers : List ℤ) : Type 0 where
+  pub held : Held ℕ
+  pub reads : rest line (s .at) (outside (s .mode) held) ≡ holds l
+  pub within : Within l
+  pub settled : Settled (outside (s .mode) held)
+  pub in-line : s .at ≤ length line
+  pub counts : Counts held s
+  pub bytes-are : bytes ≡ bytesFor held old
+  pub numbers-are : numbers ≡ numbersFor held oldNumbers
+  pub roomy : Roomy bytes numbers
+
+-- behind the byte that opens a bracket
+pub record Opened (line : List ℕ) (l : Line ℕ) (old : List ℕ) (oldNumbers : List ℤ) (s : Progress) (slot : Slot) (next : ℕ) (bytes : List ℕ) (numbers : List ℤ) : Type 0 where
+  pub held : Held ℕ
+  pub place : ℕ
+  pub reads : rest line next (inside slot place held (begin (contextIn slot []))) ≡ holds l
+  pub within : Within l
+  pub settled : Settled (inside slot place held (begin (contextIn slot [])))
+  pub in-line : next ≤ length line
+  pub counts : Counts held s
+  pub bytes-are : bytes ≡ bytesFor held old
+  pub numbers-are : numbers ≡ numbersFor held oldNumbers
+  pub roomy : Roomy bytes numbers
+
+-- for some line and old areas
+pub record SomeFilling (line : List ℕ) (s : Progress) (bytes : List ℕ) (numbers : List ℤ) : Type 0 where
+  pub holds-line : Line ℕ
+  pub old : List ℕ
+  pub old-numbers : List ℤ
+  pub filling : Filling line holds-line old old-numbers s bytes numbers
+  pub more : s .at < length line
+
+pub record SomeOpened (line : List ℕ) (s : Progress) (slot : Slot) (next : ℕ) (bytes : List ℕ) (numbers : List ℤ) : Type 0 where
+  pub holds-line : Line ℕ
+  pub old : List ℕ
+  pub old-numbers : List ℤ
+  pub opened : Opened line holds-line old old-numbers s slot next bytes numbers
+
+-- one step on
+pub record FilledOn (line : List ℕ) (l : Line ℕ) (old : List ℕ) (oldNumbers : List ℤ) (at : ℕ) (r : Progress) (bytes : List ℕ) (numbers : List ℤ) : Type 0 where
+  pub filling : Filling line l old oldNumbers r bytes numbers
+  pub past : at < r .at
+
+-- ---- the steps outside brackets
+abbrev pub moved : Progress → ℕ → Mode → Progress
+moved s next m =
+    record { at = next; mode = m; residues = s .residues; brackets = s .brackets; texts = s .texts; run = s .run; first = s .first; count = s .count }
+
+abbrev pub grown : Progress → ℕ → Section → Mode → Progress
+grown s next c m =
+    record {
+      at = next;
+      mode = m;
+      residues = s .residues + 1;
+      brackets = s .brackets;
+      texts = s .texts;
+      run = s .run;
+      first = firstOf c (s .residues + 1) (s .first);
+      count = s .count;
+    }
+
+abbrev pub runOver : Progress → ℕ → Mode → Progress
+runOver s next m = record { at = next; mode = m; residues = s .residues; brackets = s .brackets; texts = s .texts; run = 0; first = s .first; count = 0 }
+
+abbrev pub countedTo : Progress → ℕ → Mode → ℕ → Progress
+countedTo s next m c =
+    record { at = next; mode = m; residues = s .residues; brackets = s .brackets; texts = s .texts; run = s .run; first = s .first; count = c }
+
+-- brackets from one to another are N-terminal
+unfoldable pub marked : List ℕ → ℕ → ℕ → List ℕ
+marked bytes from zero = bytes
+marked bytes from (suc n) = set (marked bytes from n) (510 + (from + n) * 34) 3
+
+abbrev pub runAfter : Kind → ℕ → ℕ
+runAfter Unknown n = n + 1
+runAfter Labile n = n
+runAfter NTerm n = n
+runAfter OnResidue n = n
+runAfter OnRange n = n
+runAfter CTerm n = n
+
+abbrev pub countAfter : Kind → ℕ → ℕ
+countAfter Unknown n = 0
+countAfter Labile n = n
+countAfter NTerm n = n
+countAfter OnResidue n = n
+countAfter OnRange n = n
+countAfter CTerm n = n
+
+-- a digit of the count of the last bracket that waits, where one waits
+pub record DigitFits (bytes : List ℕ) (s : Progress) (b : ℕ) : Type 0 where
+  pub digit : 48 ≤ b
+  pub few-run : s .run ≤ s .brackets
+  pub few-brackets : s .brackets ≤ 64
+  pub count : (s .run ≡ 0 → ⊥) → s .count * 10 + (b - 48) ≤ 99
+  pub size : 6782 ≤ length bytes
+
+abbrev pub nextCount : Progress → ℕ → ℕ
+nextCount s b = cond (eqb (s .run) 0) (s .count) (s .count * 10 + (b - 48))
+
+abbrev pub countPut : List ℕ → Progress → ℕ → List ℕ
+countPut bytes s b = cond (eqb (s .run) 0) bytes (set bytes (510 + (s .brackets - 1) * 34 + 3) (s .count * 10 + (b - 48)))
+
+pub record TermsFit (bytes : List ℕ) (s : Progress) : Type 0 where
+  pub few-run : s .run ≤ s .brackets
+  pub few-brackets : s .brackets ≤ 64
+  pub size : 6782 ≤ length bytes
+
+-- nothing is read yet
+abbrev pub fresh : Progress
+fresh = record { at = 0; mode = Front; residues = 0; brackets = 0; texts = 0; run = 0; first = 0; count = 0 }
+
+-- ---- the contract of fill
+pub record Fills (line bytes : List ℕ) (numbers : List ℤ) : Type 0 where
+  pub holds-line : Line ℕ
+  pub is-accepted : outcome line ≡ accepted holds-line
+  pub bytes-long : bytesSize ≤ length bytes
+  pub bytes-zero : take bytesSize bytes ≡ replicate bytesSize 0
+  pub numbers-long : numbersSize ≤ length numbers
+  pub numbers-zero : take numbersSize numbers ≡ replicate numbersSize (pos 0)
+
+pub record FilledAll (line bytes : List ℕ) (numbers : List ℤ) (bytes′ : List ℕ) (numbers′ : List ℤ) (l : Line ℕ) : Type 0 where
+  pub bytes-are : bytes′ ≡ laid (bytesOf l) bytes
+  pub numbers-are : numbers′ ≡ laid (numbersOf l) numbers

@@ -1,0 +1,838 @@
+// The tables of a line that is accepted, put into the lent areas.
+use parts::Found;
+use parts::PartRead;
+use parts::Score;
+use parts::Value;
+use scope::grammar::Act;
+use scope::grammar::Key;
+use scope::grammar::Kind;
+use scope::grammar::Mode;
+use scope::grammar::Section;
+use scope::grammar::Slot;
+ghost use mathlib.Core.Path.{_≡_};
+ghost use Prim.Native.Nat.{ℕ, _+_, _-_, _*_, _/_, _%_, _<_, _≤_};
+ghost use mathlib.Core.Bool.{false, cond};
+ghost use lib.Dec.{eqb};
+ghost use mathlib.Core.List.{List, [], _∷_, _++_};
+ghost use lib.IntN.{ℤ, pos};
+ghost use lib.ListN.{length, take, drop, set, replicate};
+ghost use lib.Seq.{sets};
+ghost use Rattle.scope.specs.Keys.{keyCode};
+ghost use Rattle.scope.specs.Canonical.{kindCode};
+ghost use Rattle.scope.specs.Tables.{bytesSize, numbersSize, sectionCode, part};
+ghost use Rattle.scope.specs.Line.{Part};
+ghost use Rattle.fill.specs.Steps.{refersOf, FoundFits, FoundPut, Opening, textsIn, Begun, Starts, StepSays};
+ghost use Rattle.scope.specs.Line.{Line};
+ghost use Rattle.scope.specs.Bytes.{upper};
+ghost use Rattle.scope.specs.Reading.{firstOf, firstPosition, lastPosition};
+ghost use Rattle.scope.specs.Refusals.{outcome, accepted};
+ghost use Rattle.fill.specs.Filled.{SomeFilling, Filling, SomeOpened, Opened, FilledOn, moved, grown, runOver, countedTo, marked, runAfter, countAfter, DigitFits, nextCount, countPut, TermsFit, Fills, FilledAll, fresh};
+ghost use Rattle.fill.specs.Areas.{Before, Laid, CloseFits, HeadPut, PutSays};
+ghost use Rattle.fill.specs.Found.{Copies, codeOf, decimalsOf, massOf, fromOf, toOf, offsetOf, PutsPart, PartPut, FewDecimals, scoreCodeOf, scoreMassOf, codeAfter, massAfter, scoreFound};
+
+// What there is behind a part of a bracket: the place, the bytes of texts, the score of the bracket (0, or one more than its decimals) with its
+// millionths, and whether the part is a reference.
+pub struct Parted {
+    pub at: usize,
+    pub texts: usize,
+    pub code: u8,
+    pub mass: i64,
+    pub refers: bool,
+}
+
+// A part is read: another follows, or the bracket is closed.
+pub enum Step {
+    Lost,
+    More(Parted),
+    Closed(Parted),
+}
+
+// A bracket is put: the place behind it, the bytes of texts, and whether it is a reference.
+pub enum Put {
+    NotPut,
+    Done {
+        at: usize,
+        texts: usize,
+        refers: bool,
+    },
+}
+
+// How far the line is read: the place and the mode; how many residues, brackets and bytes of texts there are; how many brackets at the front wait for
+// their kind; where the group began; the count so far of the last bracket that waits.
+pub struct Progress {
+    pub at: usize,
+    pub mode: Mode,
+    pub residues: usize,
+    pub brackets: usize,
+    pub texts: usize,
+    pub run: usize,
+    pub first: usize,
+    pub count: usize,
+}
+
+// ---- zeros
+
+fn clear_bytes(bytes: &mut [u8])
+    requires { ⌜ bytesSize ≤ length (now bytes) ⌝ }
+    ensures { λ _. ⌜ now (bytes .exit) ≡ replicate bytesSize 0 ++ drop bytesSize (now (bytes .entry)) ⌝ }
+{
+    let mut i: usize = 0;
+    while i < 6782 {
+        bytes[i] = 0;
+        i += 1;
+    }
+}
+
+fn clear_numbers(numbers: &mut [i64])
+    requires { ⌜ numbersSize ≤ length (now numbers) ⌝ }
+    ensures { λ _. ⌜ now (numbers .exit) ≡ replicate numbersSize (pos 0) ++ drop numbersSize (now (numbers .entry)) ⌝ }
+{
+    let mut i: usize = 0;
+    while i < 320 {
+        numbers[i] = 0;
+        i += 1;
+    }
+}
+
+// Zeros in the room of the tables; what lies past it stays.
+pub fn clear(bytes: &mut [u8], numbers: &mut [i64])
+    requires { ⌜ (bytesSize ≤ length (now bytes)) × (numbersSize ≤ length (now numbers)) ⌝ }
+    ensures { λ _. ⌜ (now (bytes .exit) ≡ replicate bytesSize 0 ++ drop bytesSize (now (bytes .entry))) × (now (numbers .exit) ≡ replicate numbersSize (pos 0) ++ drop numbersSize (now (numbers .entry))) ⌝ }
+{
+    clear_bytes(bytes);
+    clear_numbers(numbers);
+}
+
+// ---- bytes of the line
+
+// The bytes from `from` up to `end`, to the place `to`.
+fn copy(bytes: &mut [u8], to: usize, line: &[u8], from: usize, end: usize)
+    requires { ⌜ Copies (now bytes) to (now line) from end ⌝ }
+    ensures { λ _. ⌜ now (bytes .exit) ≡ sets (now (bytes .entry)) to (part from (end - from) (now (line .entry))) ⌝ }
+{
+    let mut i = from;
+    let mut j = to;
+    while i < end {
+        bytes[j] = line[i];
+        i += 1;
+        j += 1;
+    }
+}
+
+// ---- codes
+
+fn key_code(key: Key) -> u8
+    ensures { λ r. ⌜ r ≡ keyCode key ⌝ }
+{
+    match key {
+        Key::NoKey => 0,
+        Key::U => 1,
+        Key::M => 2,
+        Key::R => 3,
+        Key::X => 4,
+        Key::G => 5,
+        Key::C => 6,
+        Key::Obs => 7,
+        Key::Unimod => 8,
+        Key::Mod => 9,
+        Key::Xlmod => 10,
+        Key::Resid => 11,
+        Key::Gno => 12,
+        Key::Info => 13,
+        Key::Formula => 14,
+        Key::Glycan => 15,
+        Key::Position => 16,
+        Key::Limit => 17,
+    }
+}
+
+fn section_code(section: Section) -> u8
+    ensures { λ r. ⌜ r ≡ sectionCode section ⌝ }
+{
+    match section {
+        Section::Plain => 0,
+        Section::RangeFirst => 1,
+        Section::RangeNext => 2,
+        Section::UnsureFirst => 3,
+        Section::UnsureNext => 4,
+    }
+}
+
+fn kind_code(kind: Kind) -> u8
+    ensures { λ r. ⌜ r ≡ kindCode kind ⌝ }
+{
+    match kind {
+        Kind::Unknown => 1,
+        Kind::Labile => 2,
+        Kind::NTerm => 3,
+        Kind::OnResidue => 4,
+        Kind::OnRange => 5,
+        Kind::CTerm => 6,
+    }
+}
+
+// ---- a part's value
+
+fn value_code(value: Value) -> u8
+    ensures { λ r. ⌜ r ≡ codeOf value ⌝ }
+{
+    match value {
+        Value::Mass {
+            millionths: _,
+            decimals: _,
+        } => 1,
+        Value::Wide => 1,
+        Value::Text { from: _, to: _ } => 2,
+        Value::Reference => 3,
+    }
+}
+
+fn value_decimals(value: Value) -> u8
+    ensures { λ r. ⌜ r ≡ decimalsOf value ⌝ }
+{
+    match value {
+        Value::Mass {
+            millionths: _,
+            decimals,
+        } => decimals,
+        Value::Wide => 0,
+        Value::Text { from: _, to: _ } => 0,
+        Value::Reference => 0,
+    }
+}
+
+fn value_mass(value: Value) -> i64
+    ensures { λ r. ⌜ r ≡ massOf value ⌝ }
+{
+    match value {
+        Value::Mass {
+            millionths,
+            decimals: _,
+        } => millionths,
+        Value::Wide => 0,
+        Value::Text { from: _, to: _ } => 0,
+        Value::Reference => 0,
+    }
+}
+
+fn text_start(value: Value) -> usize
+    ensures { λ r. ⌜ r ≡ fromOf value ⌝ }
+{
+    match value {
+        Value::Mass {
+            millionths: _,
+            decimals: _,
+        } => 0,
+        Value::Wide => 0,
+        Value::Text { from, to: _ } => from,
+        Value::Reference => 0,
+    }
+}
+
+fn text_stop(value: Value) -> usize
+    ensures { λ r. ⌜ r ≡ toOf value ⌝ }
+{
+    match value {
+        Value::Mass {
+            millionths: _,
+            decimals: _,
+        } => 0,
+        Value::Wide => 0,
+        Value::Text { from: _, to } => to,
+        Value::Reference => 0,
+    }
+}
+
+// ---- a part
+
+fn offset_of(length: usize, t: usize) -> usize
+    ensures { λ r. ⌜ (r ≡ offsetOf length t) × (r ≤ t) ⌝ }
+{
+    if length == 0 {
+        return 0;
+    }
+    t
+}
+
+fn put_row(bytes: &mut [u8], at: usize, a: u8, b: u8, c: u8, d: u8, e: u8, f: u8, g: u8)
+    requires { ⌜ at + 7 ≤ length (now bytes) ⌝ }
+    ensures { λ _. ⌜ now (bytes .exit) ≡ sets (now (bytes .entry)) at (a ∷ b ∷ c ∷ d ∷ e ∷ f ∷ g ∷ []) ⌝ }
+{
+    bytes[at] = a;
+    bytes[at + 1] = b;
+    bytes[at + 2] = c;
+    bytes[at + 3] = d;
+    bytes[at + 4] = e;
+    bytes[at + 5] = f;
+    bytes[at + 6] = g;
+}
+
+// A part's row at `at`, its mass at `number`, its text and label behind `t` bytes of others. Answers how many bytes of texts there are then.
+fn put_part(
+    line: &[u8],
+    bytes: &mut [u8],
+    numbers: &mut [i64],
+    value: Value,
+    key: Key,
+    label: usize,
+    ends: usize,
+    at: usize,
+    number: usize,
+    t: usize,
+) -> usize
+    requires { ⌜ PutsPart (now line) (now bytes) (now numbers) value label ends at number t ⌝ }
+    ensures { λ r. ⌜ PartPut (now (line .entry)) (now (bytes .entry)) (now (numbers .entry)) value key label ends at number t r (now (bytes .exit)) (now (numbers .exit)) ⌝ }
+{
+    let from = text_start(value);
+    let to = text_stop(value);
+    let n = to - from;
+    let m = ends - label;
+    copy(bytes, 2686 + t, line, from, to);
+    copy(bytes, 2686 + t + n, line, label, ends);
+    let o = offset_of(n + m, t);
+    put_row(
+        bytes,
+        at,
+        value_code(value),
+        key_code(key),
+        value_decimals(value),
+        n as u8,
+        m as u8,
+        (o % 256) as u8,
+        (o / 256) as u8,
+    );
+    numbers[number] = value_mass(value);
+    t + n + m
+}
+
+// ---- a score
+
+fn new_code(score: Score) -> u8
+    requires { ⌜ FewDecimals score ⌝ }
+    ensures { λ r. ⌜ r ≡ scoreCodeOf score ⌝ }
+{
+    match score {
+        Score::Unscored => 0,
+        Score::Scored {
+            millionths: _,
+            decimals,
+        } => decimals + 1,
+        Score::WideScore => 0,
+    }
+}
+
+fn new_mass(score: Score) -> i64
+    ensures { λ r. ⌜ r ≡ scoreMassOf score ⌝ }
+{
+    match score {
+        Score::Unscored => 0,
+        Score::Scored {
+            millionths,
+            decimals: _,
+        } => millionths,
+        Score::WideScore => 0,
+    }
+}
+
+fn label_score(label: usize, ends: usize, score: Score) -> Score
+    ensures { λ r. ⌜ r ≡ scoreFound label ends score ⌝ }
+{
+    if label == ends {
+        return Score::Unscored;
+    }
+    score
+}
+
+fn score_code(code: u8, score: Score) -> u8
+    requires { ⌜ FewDecimals score ⌝ }
+    ensures { λ r. ⌜ r ≡ codeAfter code score ⌝ }
+{
+    if code == 0 {
+        return new_code(score);
+    }
+    code
+}
+
+fn score_mass(code: u8, mass: i64, score: Score) -> i64
+    ensures { λ r. ⌜ r ≡ massAfter code mass score ⌝ }
+{
+    if code == 0 {
+        return new_mass(score);
+    }
+    mass
+}
+
+fn is_reference(value: Value) -> bool
+    ensures { λ r. ⌜ r ≡ refersOf value ⌝ }
+{
+    match value {
+        Value::Mass {
+            millionths: _,
+            decimals: _,
+        } => false,
+        Value::Wide => false,
+        Value::Text { from: _, to: _ } => false,
+        Value::Reference => true,
+    }
+}
+
+// ---- a part of a bracket
+
+// A part that was found: the part `j` of the bracket `k`.
+fn put_found(
+    line: &[u8],
+    bytes: &mut [u8],
+    numbers: &mut [i64],
+    p: PartRead,
+    shut: u8,
+    k: usize,
+    j: usize,
+    t: usize,
+    code: u8,
+    mass: i64,
+) -> Step
+    requires { ⌜ FoundFits (now line) (now bytes) (now numbers) p k j t ⌝ }
+    ensures { λ r. ⌜ FoundPut (now (line .entry)) (now (bytes .entry)) (now (numbers .entry)) p shut k j t code mass r (now (bytes .exit)) (now (numbers .exit)) ⌝ }
+{
+    let value = p.value;
+    let key = p.key;
+    let found = p.score;
+    let score = label_score(p.label, p.ends, found);
+    let next = p.next;
+    let texts = put_part(
+        line,
+        bytes,
+        numbers,
+        value,
+        key,
+        p.label,
+        p.ends,
+        516 + k * 34 + j * 7,
+        k * 5 + j,
+        t,
+    );
+    let code2 = score_code(code, score);
+    let mass2 = score_mass(code, mass, score);
+    let refers = is_reference(value);
+    if line[next] == shut {
+        return Step::Closed(Parted {
+            at: next + 1,
+            texts,
+            code: code2,
+            mass: mass2,
+            refers,
+        });
+    }
+    Step::More(Parted {
+        at: next + 1,
+        texts,
+        code: code2,
+        mass: mass2,
+        refers,
+    })
+}
+
+// The part `j` of the bracket `k`, from its first byte on.
+fn part_step(
+    line: &[u8],
+    bytes: &mut [u8],
+    numbers: &mut [i64],
+    at: usize,
+    shut: u8,
+    refers: bool,
+    k: usize,
+    j: usize,
+    t: usize,
+    code: u8,
+    mass: i64,
+) -> Step
+    requires { ⌜ Starts (now line) (now bytes) (now numbers) at shut refers k j t code mass ⌝ }
+    ensures { λ r. ⌜ ((g : Opening) (ps : List (Part ℕ)) → Begun (now (line .entry)) g ps at shut refers k j t code mass → StepSays (now (line .entry)) g ps at shut k j t (now (bytes .entry)) (now (numbers .entry)) r (now (bytes .exit)) (now (numbers .exit))) ⌝ }
+{
+    let found = parts::part_at(line, at, shut, refers);
+    match found {
+        Found::Stuck(_) => Step::Lost,
+        Found::Read(p) => put_found(line, bytes, numbers, p, shut, k, j, t, code, mass),
+    }
+}
+
+// ---- a bracket
+
+fn put_head(bytes: &mut [u8], at: usize, a: u8, b: u8, c: u8, d: u8, e: u8, f: u8)
+    requires { ⌜ at + 6 ≤ length (now bytes) ⌝ }
+    ensures { λ _. ⌜ now (bytes .exit) ≡ sets (now (bytes .entry)) at (a ∷ b ∷ c ∷ d ∷ e ∷ f ∷ []) ⌝ }
+{
+    bytes[at] = a;
+    bytes[at + 1] = b;
+    bytes[at + 2] = c;
+    bytes[at + 3] = d;
+    bytes[at + 4] = e;
+    bytes[at + 5] = f;
+}
+
+// Whether a bracket with a reference as its part `j` is one.
+fn is_lone(j: usize, refers: bool) -> bool
+    ensures { λ r. ⌜ r ≡ cond (eqb j 0) refers false ⌝ }
+{
+    if j == 0 {
+        return refers;
+    }
+    false
+}
+
+// The head of the bracket `k`, whose last part is the part `j`.
+fn close(
+    bytes: &mut [u8],
+    numbers: &mut [i64],
+    k: usize,
+    kind: u8,
+    first: u8,
+    last: u8,
+    j: usize,
+    p: Parted,
+) -> Put
+    requires { ⌜ CloseFits (now bytes) (now numbers) k j ⌝ }
+    ensures { λ r. ⌜ HeadPut (now (bytes .entry)) (now (numbers .entry)) k kind first last j p r (now (bytes .exit)) (now (numbers .exit)) ⌝ }
+{
+    let refers = is_lone(j, p.refers);
+    put_head(
+        bytes,
+        510 + k * 34,
+        kind,
+        first,
+        last,
+        1,
+        (j + 1) as u8,
+        p.code,
+    );
+    let mass = p.mass;
+    numbers[k * 5 + 4] = mass;
+    Put::Done {
+        at: p.at,
+        texts: p.texts,
+        refers,
+    }
+}
+
+// The bracket `k`, from its part `j` on.
+fn put_parts(
+    line: &[u8],
+    bytes: &mut [u8],
+    numbers: &mut [i64],
+    at: usize,
+    shut: u8,
+    refers: bool,
+    k: usize,
+    j: usize,
+    t: usize,
+    code: u8,
+    mass: i64,
+    kind: u8,
+    first: u8,
+    last: u8,
+) -> Put
+    requires { ⌜ Starts (now line) (now bytes) (now numbers) at shut refers k j t code mass ⌝ }
+    ensures { λ r. ⌜ ((g : Opening) (ps : List (Part ℕ)) (a : Before) → Begun (now (line .entry)) g ps at shut refers k j t code mass → Laid a ps k (textsIn (g .held)) (now (bytes .entry)) (now (numbers .entry)) → PutSays (now (line .entry)) g a at kind first last r (now (bytes .exit)) (now (numbers .exit))) ⌝ }
+{
+    let s = part_step(line, bytes, numbers, at, shut, refers, k, j, t, code, mass);
+    match s {
+        Step::Lost => Put::NotPut,
+        Step::Closed(p) => close(bytes, numbers, k, kind, first, last, j, p),
+        Step::More(p) => put_parts(
+            line,
+            bytes,
+            numbers,
+            p.at,
+            shut,
+            false,
+            k,
+            j + 1,
+            p.texts,
+            p.code,
+            p.mass,
+            kind,
+            first,
+            last,
+        ),
+    }
+}
+
+// ---- outside brackets
+
+fn first_of(section: Section, here: usize, old: usize) -> usize
+    ensures { λ r. ⌜ r ≡ firstOf section here old ⌝ }
+{
+    match section {
+        Section::Plain => here,
+        Section::RangeFirst => here,
+        Section::RangeNext => old,
+        Section::UnsureFirst => here,
+        Section::UnsureNext => old,
+    }
+}
+
+fn first_position(kind: Kind, n: usize, a: usize) -> usize
+    requires { ⌜ n ≤ 254 ⌝ }
+    ensures { λ r. ⌜ r ≡ firstPosition kind n a ⌝ }
+{
+    match kind {
+        Kind::Unknown => 0,
+        Kind::Labile => 0,
+        Kind::NTerm => 0,
+        Kind::OnResidue => n,
+        Kind::OnRange => a,
+        Kind::CTerm => n + 1,
+    }
+}
+
+fn last_position(kind: Kind, n: usize) -> usize
+    requires { ⌜ n ≤ 254 ⌝ }
+    ensures { λ r. ⌜ r ≡ lastPosition kind n ⌝ }
+{
+    match kind {
+        Kind::Unknown => 0,
+        Kind::Labile => 0,
+        Kind::NTerm => 0,
+        Kind::OnResidue => n,
+        Kind::OnRange => n,
+        Kind::CTerm => n + 1,
+    }
+}
+
+fn run_after(kind: Kind, n: usize) -> usize
+    requires { ⌜ n < 64 ⌝ }
+    ensures { λ r. ⌜ r ≡ runAfter kind n ⌝ }
+{
+    match kind {
+        Kind::Unknown => n + 1,
+        Kind::Labile => n,
+        Kind::NTerm => n,
+        Kind::OnResidue => n,
+        Kind::OnRange => n,
+        Kind::CTerm => n,
+    }
+}
+
+fn count_after(kind: Kind, n: usize) -> usize
+    ensures { λ r. ⌜ r ≡ countAfter kind n ⌝ }
+{
+    match kind {
+        Kind::Unknown => 0,
+        Kind::Labile => n,
+        Kind::NTerm => n,
+        Kind::OnResidue => n,
+        Kind::OnRange => n,
+        Kind::CTerm => n,
+    }
+}
+
+fn mode_after(slot: Slot, refers: bool) -> Mode
+    ensures { λ r. ⌜ r ≡ cond refers (slot .referred) (slot .after) ⌝ }
+{
+    if refers {
+        return slot.referred;
+    }
+    slot.after
+}
+
+fn go(s: Progress, next: usize, mode: Mode) -> Progress
+    ensures { λ r. ⌜ r ≡ moved s next mode ⌝ }
+{
+    Progress {
+        at: next,
+        mode,
+        residues: s.residues,
+        brackets: s.brackets,
+        texts: s.texts,
+        run: s.run,
+        first: s.first,
+        count: s.count,
+    }
+}
+
+fn run_over(s: Progress, next: usize, mode: Mode) -> Progress
+    ensures { λ r. ⌜ r ≡ runOver s next mode ⌝ }
+{
+    Progress {
+        at: next,
+        mode,
+        residues: s.residues,
+        brackets: s.brackets,
+        texts: s.texts,
+        run: 0,
+        first: s.first,
+        count: 0,
+    }
+}
+
+// A residue behind those that there are.
+fn put_residue(
+    bytes: &mut [u8],
+    s: Progress,
+    next: usize,
+    b: u8,
+    section: Section,
+    mode: Mode,
+) -> Progress
+    requires { ⌜ (s .residues < 254) × (6782 ≤ length (now bytes)) ⌝ }
+    ensures { λ r. ⌜ (r ≡ grown s next section mode) × (now (bytes .exit) ≡ set (set (now (bytes .entry)) (2 + s .residues) (upper b)) (256 + s .residues) (sectionCode section)) ⌝ }
+{
+    let n = s.residues;
+    let first = first_of(section, n + 1, s.first);
+    bytes[2 + n] = classes::upper(b);
+    bytes[256 + n] = section_code(section);
+    Progress {
+        at: next,
+        mode,
+        residues: n + 1,
+        brackets: s.brackets,
+        texts: s.texts,
+        run: s.run,
+        first,
+        count: s.count,
+    }
+}
+
+// The brackets from one to another are N-terminal.
+fn mark_terms(bytes: &mut [u8], from: usize, n: usize)
+    requires { ⌜ (from + n ≤ 64) × (6782 ≤ length (now bytes)) ⌝ }
+    ensures { λ _. ⌜ now (bytes .exit) ≡ marked (now (bytes .entry)) from n ⌝ }
+{
+    let mut i: usize = 0;
+    while i < n {
+        bytes[510 + (from + i) * 34] = 3;
+        i += 1;
+    }
+}
+
+// One digit more of the count of the last bracket that waits.
+fn put_digit(bytes: &mut [u8], s: Progress, next: usize, b: u8) -> Progress
+    requires { ⌜ DigitFits (now bytes) s b ⌝ }
+    ensures { λ r. ⌜ (r ≡ countedTo s next Mode.Counting (nextCount s b)) × (now (bytes .exit) ≡ countPut (now (bytes .entry)) s b) ⌝ }
+{
+    let run = s.run;
+    if run == 0 {
+        return go(s, next, Mode::Counting);
+    }
+    let k = s.brackets - 1;
+    let count = s.count * 10 + (b - 48) as usize;
+    bytes[510 + k * 34 + 3] = count as u8;
+    Progress {
+        at: next,
+        mode: Mode::Counting,
+        residues: s.residues,
+        brackets: s.brackets,
+        texts: s.texts,
+        run: s.run,
+        first: s.first,
+        count,
+    }
+}
+
+// The brackets that wait are N-terminal.
+fn put_terms(bytes: &mut [u8], s: Progress, next: usize) -> Progress
+    requires { ⌜ TermsFit (now bytes) s ⌝ }
+    ensures { λ r. ⌜ (r ≡ runOver s next Mode.Start) × (now (bytes .exit) ≡ marked (now (bytes .entry)) (s .brackets - s .run) (s .run)) ⌝ }
+{
+    mark_terms(bytes, s.brackets - s.run, s.run);
+    run_over(s, next, Mode::Start)
+}
+
+// A bracket, from the byte behind the one that opens it.
+fn put_bracket(
+    line: &[u8],
+    bytes: &mut [u8],
+    numbers: &mut [i64],
+    s: Progress,
+    slot: Slot,
+    next: usize,
+) -> Progress
+    requires { ⌜ SomeOpened (now line) s slot next (now bytes) (now numbers) ⌝ }
+    ensures { λ r. ⌜ ((l : Line ℕ) (old : List ℕ) (oldNumbers : List ℤ) → Opened (now (line .entry)) l old oldNumbers s slot next (now (bytes .entry)) (now (numbers .entry)) → FilledOn (now (line .entry)) l old oldNumbers next r (now (bytes .exit)) (now (numbers .exit))) ⌝ }
+{
+    let kind = slot.kind;
+    let n = s.residues;
+    let first = first_position(kind, n, s.first);
+    let last = last_position(kind, n);
+    let run = run_after(kind, s.run);
+    let count = count_after(kind, s.count);
+    let put = put_parts(
+        line,
+        bytes,
+        numbers,
+        next,
+        slot.shut,
+        slot.refers,
+        s.brackets,
+        0,
+        s.texts,
+        0,
+        0,
+        kind_code(kind),
+        first as u8,
+        last as u8,
+    );
+    match put {
+        Put::NotPut => s,
+        Put::Done { at, texts, refers } => Progress {
+            at,
+            mode: mode_after(slot, refers),
+            residues: n,
+            brackets: s.brackets + 1,
+            texts,
+            run,
+            first: s.first,
+            count,
+        },
+    }
+}
+
+// One byte outside brackets, or one bracket.
+fn one_step(line: &[u8], bytes: &mut [u8], numbers: &mut [i64], s: Progress) -> Progress
+    requires { ⌜ SomeFilling (now line) s (now bytes) (now numbers) ⌝ }
+    ensures { λ r. ⌜ ((l : Line ℕ) (old : List ℕ) (oldNumbers : List ℤ) → Filling (now (line .entry)) l old oldNumbers s (now (bytes .entry)) (now (numbers .entry)) → FilledOn (now (line .entry)) l old oldNumbers (s .at) r (now (bytes .exit)) (now (numbers .exit))) ⌝ }
+{
+    let at = s.at;
+    let mode = s.mode;
+    let b = line[at];
+    let next = at + 1;
+    let act = order::act_of(mode, b);
+    match act {
+        Act::Stop => s,
+        Act::Go(m) => go(s, next, m),
+        Act::Residue(section, m) => put_residue(bytes, s, next, b, section, m),
+        Act::Begin(slot) => put_bracket(line, bytes, numbers, s, slot, next),
+        Act::Digit => put_digit(bytes, s, next, b),
+        Act::RunEnds => run_over(s, next, Mode::Front),
+        Act::TermEnds => put_terms(bytes, s, next),
+    }
+}
+
+// Nothing is read yet.
+fn begin() -> Progress
+    ensures { λ r. ⌜ r ≡ fresh ⌝ }
+{
+    Progress {
+        at: 0,
+        mode: Mode::Front,
+        residues: 0,
+        brackets: 0,
+        texts: 0,
+        run: 0,
+        first: 0,
+        count: 0,
+    }
+}
+
+// The tables of an accepted line, into areas whose room for them is zero.
+pub fn fill(line: &[u8], bytes: &mut [u8], numbers: &mut [i64])
+    requires { ⌜ Fills (now line) (now bytes) (now numbers) ⌝ }
+    ensures { λ _. ⌜ ((l : Line ℕ) → outcome (now (line .entry)) ≡ accepted l → FilledAll (now (line .entry)) (now (bytes .entry)) (now (numbers .entry)) (now (bytes .exit)) (now (numbers .exit)) l) ⌝ }
+{
+    let mut s = begin();
+    while s.at < line.len() {
+        s = one_step(line, bytes, numbers, s);
+    }
+    bytes[0] = s.residues as u8;
+    bytes[1] = s.brackets as u8;
+}

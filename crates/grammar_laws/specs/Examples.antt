@@ -1,0 +1,69 @@
+-- Some lines and trees that spell them.
+use Prim.Native.Nat.{ℕ}
+use mathlib.Core.Path.{_≡_, refl}
+use mathlib.Core.Bool.{true, false}
+use mathlib.Core.Option.{none, some}
+use mathlib.Core.List.{List, [], _∷_}
+use Rattle.scope.specs.declared.grammar.Key.the-variants.{NoKey, U}
+use Rattle.scope.specs.Bytes.{bytes, sameFolded, upper}
+use Rattle.scope.specs.Keys.{spell}
+use Rattle.grammar_laws.specs.Grammar.{allOf, Numeral, over, byte, square, printText, goodText, Word, leadKey, delta, wording, printPieces, goodPieces, Inside, parts, refers, Spot, single, unsure, each, every, Spelling, print, good}
+
+abbrev none-first : Word
+none-first = record { key = NoKey; spelled = [] }
+
+abbrev whole : List ℕ → Numeral
+whole ds = record { whole = ds; behind = none }
+
+-- a mass alone in its bracket
+abbrev massive : Numeral → Inside
+massive n = parts (record { base = delta none-first false n; tag = none }) []
+
+abbrev bare : ℕ → Spot
+bare b = record { letter = b; brackets = [] }
+
+-- `a[+01.50]`
+abbrev zeros : Spelling
+zeros =
+    record {
+      runs = [];
+      labiles = [];
+      front = [];
+      first = single (record { letter = 97; brackets = massive (record { whole = bytes "01"; behind = some (bytes "50") }) ∷ [] });
+      more = [];
+      back = [];
+    }
+
+-- `[+1]^2?AC`
+abbrev twice : Spelling
+twice =
+    record {
+      runs = record { first = record { inside = massive (whole (bytes "1")); count = some (bytes "2") }; more = [] } ∷ [];
+      labiles = [];
+      front = [];
+      first = single (bare 65);
+      more = single (bare 67) ∷ [];
+      back = [];
+    }
+
+-- `[#a]-(?AC[u:x[|]])`
+abbrev nested : Spelling
+nested =
+    record {
+      runs = [];
+      labiles = [];
+      front = refers (record { name = bytes "a"; score = none }) ∷ [];
+      first =
+          unsure (bare 65)
+          (record {
+            letter = 67;
+            brackets = parts (record { base = wording (record { key = U; spelled = bytes "u" }) (byte 120 (square (byte 124 over) over)); tag = none }) [] ∷ [];
+          }
+          ∷ []);
+      more = [];
+      back = [];
+    }
+
+pub examples : (print zeros ≡ bytes "a[+01.50]") × (good zeros ≡ true) × (print twice ≡ bytes "[+1]^2?AC") × (good twice ≡ true) × (print nested ≡ bytes "[#a]-(?AC[u:x[|]])") × (good nested ≡ true)
+unfolding each every printPieces goodPieces printText goodText allOf leadKey sameFolded spell upper
+examples = (refl, refl, refl, refl, refl, refl)

@@ -1,0 +1,435 @@
+-- The grammar of lines, apart from any reader: what may be spelled how, as trees with every freedom of spelling; the bytes that a tree prints;
+-- whether it is good; and what it means, without places. Of the reader's own files it cites only the value of a digit and two tests, of an empty list
+-- and of a byte of an accession.
+use Prim.Native.Nat.{ℕ, _+_, _*_}
+use mathlib.Core.Bool.{Bool, true, false, not, cond, _&&_, _||_}
+use mathlib.Core.Option.{Option, none, some}
+use mathlib.Core.List.{List, [], _∷_, _++_, map}
+use lib.Dec.{eqb}
+use lib.ListN.{length}
+use Rattle.scope.specs.declared.grammar.Key.{Key}
+use Rattle.scope.specs.declared.grammar.Key.the-variants.{NoKey}
+use Rattle.scope.specs.declared.grammar.Section.{Section}
+use Rattle.scope.specs.declared.grammar.Section.the-variants.{Plain, RangeFirst, RangeNext, UnsureFirst, UnsureNext}
+use Rattle.scope.specs.declared.grammar.Kind.{Kind}
+use Rattle.scope.specs.declared.grammar.Kind.the-variants.{Unknown, Labile, NTerm, OnResidue, OnRange, CTerm}
+use Rattle.scope.specs.Bytes.{upper, isLetter, caret, question, isPrintable, isDigit, isAlnum, isSign, isOpening, isShutting, shutSquare, openSquare, shutCurly, openCurly, bar, hash, colon, plus, dash, dot, openRound, shutRound, sameFolded}
+use Rattle.scope.specs.Line.{Number, Label, Value, mass, text, reference, Part, Bracket, Residue, Line}
+use Rattle.scope.specs.Keys.{spell, keyOf, Form, massOrName, massOnly, digits, alnums, free, form}
+use Rattle.scope.specs.Content.{value, none?, accessionByte}
+
+abbrev pub Place : Type 0
+Place = Unit {0}
+
+-- ---- lists of bytes
+-- each byte passes
+unfoldable pub allOf : (ℕ → Bool) → List ℕ → Bool
+allOf f [] = true
+allOf f (b ∷ l) = f b && allOf f l
+
+-- one or more, and each passes
+abbrev pub someOf : (ℕ → Bool) → List ℕ → Bool
+someOf f l = not (none? l) && allOf f l
+
+abbrev pub there? : {A : Type 0} → Option A → Bool
+there? none = false
+there? (some x) = true
+
+-- ---- numbers: "digits, perhaps `.` and digits", leading zeros allowed
+pub record Numeral : Type 0 where
+  pub whole : List ℕ
+  pub behind : Option (List ℕ)
+
+abbrev pub printBehind : Option (List ℕ) → List ℕ
+printBehind none = []
+printBehind (some f) = dot ∷ f
+
+abbrev pub printNumeral : Numeral → List ℕ
+printNumeral n = n .whole ++ printBehind (n .behind)
+
+abbrev pub goodBehind : Option (List ℕ) → Bool
+goodBehind none = true
+goodBehind (some f) = someOf isDigit f
+
+abbrev pub goodNumeral : Numeral → Bool
+goodNumeral n = someOf isDigit (n .whole) && goodBehind (n .behind)
+
+-- the digits as one number, behind those that make m
+unfoldable pub valueOn : ℕ → List ℕ → ℕ
+valueOn m [] = m
+valueOn m (b ∷ l) = valueOn (m * 10 + value b) l
+
+abbrev pub fraction : Option (List ℕ) → List ℕ
+fraction none = []
+fraction (some f) = f
+
+-- "A number keeps its value in millionths and its count of decimals. The sign of zero, leading zeros .. are not kept."
+abbrev pub signedBy : Bool → ℕ → ℕ → Number Place
+signedBy minus m d = record { minus = minus && not (eqb m 0); digits = m; decimals = d; at = tt }
+
+abbrev pub meansNumeral : Bool → Numeral → Number Place
+meansNumeral minus n = signedBy minus (valueOn 0 (n .whole ++ fraction (n .behind))) (length (fraction (n .behind)))
+
+abbrev pub signByte : Bool → ℕ
+signByte minus = cond minus dash plus
+
+-- ---- texts: "a text is plain bytes and closed pairs that hold texts; the pairs are `[]` and `{}`"; "a pair may be" empty
+pub data Text : Type 0 where
+  over : Text
+  byte : ℕ → Text → Text
+  square : Text → Text → Text
+  curly : Text → Text → Text
+
+unfoldable pub printText : Text → List ℕ
+printText over = []
+printText (byte b t) = b ∷ printText t
+printText (square u t) = openSquare ∷ (printText u ++ (shutSquare ∷ printText t))
+printText (curly u t) = openCurly ∷ (printText u ++ (shutCurly ∷ printText t))
+
+-- a byte that opens or closes no pair
+abbrev pub plainByte : ℕ → Bool
+plainByte b = isPrintable b && not (isOpening b) && not (isShutting b)
+
+-- "`|` and `#` inside a pair are plain. .. Elsewhere `#` starts a label, .. except in INFO and in the four keys under refusal 8, where `#` is plain"
+abbrev pub outerByte : Bool → ℕ → Bool
+outerByte hashes b = plainByte b && not (eqb b bar) && (hashes || not (eqb b hash))
+
+-- the bytes outside every pair pass the test, those within one are plain
+unfoldable pub goodText : (ℕ → Bool) → Text → Bool
+goodText f over = true
+goodText f (byte b t) = f b && goodText f t
+goodText f (square u t) = goodText plainByte u && goodText f t
+goodText f (curly u t) = goodText plainByte u && goodText f t
+
+-- ---- keys: "The key words and prefixes are matched in either case"
+pub record Word : Type 0 where
+  pub key : Key
+  pub spelled : List ℕ
+
+abbrev pub goodWord : Word → Bool
+goodWord w = sameFolded (spell (w .key)) (w .spelled)
+
+-- with its colon; nothing where there is no key
+abbrev pub withColon : List ℕ → List ℕ
+withColon [] = []
+withColon (b ∷ l) = (b ∷ l) ++ (colon ∷ [])
+
+abbrev pub printWord : Word → List ℕ
+printWord w = withColon (w .spelled)
+
+-- the key with whose colon a text begins, behind the bytes w
+unfoldable pub leadKey : List ℕ → List ℕ → Option Key
+leadKey w [] = none
+leadKey w (b ∷ t) = cond (eqb b colon) (keyOf w) (leadKey (w ++ (b ∷ [])) t)
+
+-- "A part that starts as one kind is never tried as another: `+5 x` is no name": a name begins with no sign and, where it has no prefix, with no key
+abbrev pub firstSign : List ℕ → Bool
+firstSign [] = false
+firstSign (b ∷ l) = isSign b
+
+abbrev pub keyless : List ℕ → List ℕ → Bool
+keyless [] t = not (there? (leadKey [] t))
+keyless (x ∷ w) t = true
+
+-- ---- what a part says, its label apart
+pub data Base : Type 0 where
+  delta : Word → Bool → Numeral → Base  -- "sign, digits, perhaps `.` and digits: a delta mass"
+  code : Word → List ℕ → Base  -- "`UNIMOD:` `MOD:` `XLMOD:` and digits; `RESID:` `GNO:` and letters or digits"
+  wording : Word → Text → Base  -- "`INFO:` and a text; a key of refusal 8 and a text"; "a name: a text, perhaps after one of the six one-letter prefixes"
+
+abbrev pub printBase : Base → List ℕ
+printBase (delta w minus n) = printWord w ++ (signByte minus ∷ printNumeral n)
+printBase (code w t) = printWord w ++ t
+printBase (wording w t) = printWord w ++ printText t
+
+-- "It may follow `U:` `M:` `R:` `X:` `G:` `C:` `Obs:`. After `Obs:` nothing else may stand."
+abbrev pub takesMass : Form → Bool
+takesMass massOrName = true
+takesMass massOnly = true
+takesMass digits = false
+takesMass alnums = false
+takesMass free = false
+
+abbrev pub goodWording : Form → List ℕ → Text → Bool
+goodWording massOrName w t = goodText (outerByte false) t && (not (firstSign (printText t)) && keyless w (printText t))
+goodWording massOnly w t = false
+goodWording digits w t = false
+goodWording alnums w t = false
+goodWording free w t = goodText (outerByte true) t
+
+-- "A part's whole text and a label are never empty"
+abbrev pub goodBase : Base → Bool
+goodBase (delta w minus n) = goodWord w && (takesMass (form (w .key)) && goodNumeral n)
+goodBase (code w t) = goodWord w && someOf (accessionByte (form (w .key))) t
+goodBase (wording w t) = goodWord w && (not (none? (printText t)) && goodWording (form (w .key)) (w .spelled) t)
+
+abbrev pub keyIn : Base → Key
+keyIn (delta w minus n) = w .key
+keyIn (code w t) = w .key
+keyIn (wording w t) = w .key
+
+abbrev pub valueIn : Base → Value Place
+valueIn (delta w minus n) = mass (meansNumeral minus n)
+valueIn (code w t) = text t
+valueIn (wording w t) = text (printText t)
+
+-- ---- labels: "A label is letters and digits, then perhaps a score `(number)` with an optional sign."
+pub record Score : Type 0 where
+  pub sign : Option Bool
+  pub number : Numeral
+
+abbrev pub printSign : Option Bool → List ℕ
+printSign none = []
+printSign (some minus) = signByte minus ∷ []
+
+abbrev pub isMinus : Option Bool → Bool
+isMinus none = false
+isMinus (some minus) = minus
+
+abbrev pub printScore : Option Score → List ℕ
+printScore none = []
+printScore (some s) = openRound ∷ (printSign (s .sign) ++ (printNumeral (s .number) ++ (shutRound ∷ [])))
+
+abbrev pub goodScore : Option Score → Bool
+goodScore none = true
+goodScore (some s) = goodNumeral (s .number)
+
+abbrev pub meansScore : Option Score → Option (Number Place)
+meansScore none = none
+meansScore (some s) = some (meansNumeral (isMinus (s .sign)) (s .number))
+
+pub record Tag : Type 0 where
+  pub name : List ℕ
+  pub score : Option Score
+
+abbrev pub printTag : Option Tag → List ℕ
+printTag none = []
+printTag (some t) = hash ∷ (t .name ++ printScore (t .score))
+
+abbrev pub goodTag : Option Tag → Bool
+goodTag none = true
+goodTag (some t) = someOf isAlnum (t .name) && goodScore (t .score)
+
+abbrev pub meansTag : Option Tag → Option (Label Place)
+meansTag none = none
+meansTag (some t) = some (record { name = t .name; score = meansScore (t .score); at = tt })
+
+-- ---- parts
+pub record Piece : Type 0 where
+  pub base : Base
+  pub tag : Option Tag
+
+abbrev pub printPiece : Piece → List ℕ
+printPiece p = printBase (p .base) ++ printTag (p .tag)
+
+-- where a part may have a label: "`{}` holds no label"; where `#` is plain there is none
+abbrev pub formIn : Base → Form
+formIn b = form (keyIn b)
+
+abbrev pub tagFits : Form → Bool
+tagFits massOrName = true
+tagFits massOnly = true
+tagFits digits = true
+tagFits alnums = true
+tagFits free = false
+
+abbrev pub goodPiece : Bool → Piece → Bool
+goodPiece labels p = goodBase (p .base) && (goodTag (p .tag) && (not (there? (p .tag)) || (labels && tagFits (formIn (p .base)))))
+
+abbrev pub meansPiece : Piece → Part Place
+meansPiece p = record { key = keyIn (p .base); value = valueIn (p .base); label = meansTag (p .tag); at = tt }
+
+-- ---- brackets: "A bracket is parts split by `|`, none empty, or a lone reference `#label`."
+unfoldable pub printPieces : Piece → List Piece → List ℕ
+printPieces p [] = printPiece p
+printPieces p (q ∷ ps) = printPiece p ++ (bar ∷ printPieces q ps)
+
+unfoldable pub goodPieces : Bool → Piece → List Piece → Bool
+goodPieces labels p [] = goodPiece labels p
+goodPieces labels p (q ∷ ps) = goodPiece labels p && goodPieces labels q ps
+
+pub data Inside : Type 0 where
+  parts : Piece → List Piece → Inside
+  refers : Tag → Inside
+
+abbrev pub printInside : Inside → List ℕ
+printInside (parts p ps) = printPieces p ps
+printInside (refers t) = printTag (some t)
+
+-- by the byte that closes the bracket, and whether a reference may stand in it
+abbrev pub goodInside : ℕ → Bool → Inside → Bool
+goodInside shut references (parts p ps) = goodPieces (eqb shut shutSquare) p ps
+goodInside shut references (refers t) = references && goodTag (some t)
+
+-- a reference is its bracket's only part, with a label and nothing else
+abbrev pub meansReference : Tag → Part Place
+meansReference t = record { key = NoKey; value = reference; label = meansTag (some t); at = tt }
+
+abbrev pub meansInside : Inside → List (Part Place)
+meansInside (parts p ps) = map meansPiece (p ∷ ps)
+meansInside (refers t) = meansReference t ∷ []
+
+-- ---- brackets in a line
+abbrev pub printSquare : Inside → List ℕ
+printSquare x = openSquare ∷ (printInside x ++ (shutSquare ∷ []))
+
+abbrev pub printCurly : Inside → List ℕ
+printCurly x = openCurly ∷ (printInside x ++ (shutCurly ∷ []))
+
+-- the texts of all elements, in order
+unfoldable pub each : {A B : Type 0} → (A → List B) → List A → List B
+each f [] = []
+each f (x ∷ l) = f x ++ each f l
+
+unfoldable pub every : {A : Type 0} → (A → Bool) → List A → Bool
+every f [] = true
+every f (x ∷ l) = f x && every f l
+
+abbrev pub printSquares : List Inside → List ℕ
+printSquares xs = each printSquare xs
+
+-- "A reference may not stand in an unknown run, in `{}` or on a range."
+abbrev pub goodSquares : Bool → List Inside → Bool
+goodSquares references xs = every (goodInside shutSquare references) xs
+
+abbrev pub goodCurlies : List Inside → Bool
+goodCurlies xs = every (goodInside shutCurly false) xs
+
+abbrev pub bracketAt : Kind → ℕ → ℕ → Inside → Bracket Place
+bracketAt k first last x = record { kind = k; first = first; last = last; count = 1; counted = none; parts = meansInside x; at = tt }
+
+-- ---- "runs of unknown-position brackets, each run closed by `?`, each bracket perhaps with `^` and a count"
+pub record Marked : Type 0 where
+  pub inside : Inside
+  pub count : Option (List ℕ)
+
+abbrev pub printCount : Option (List ℕ) → List ℕ
+printCount none = []
+printCount (some ds) = caret ∷ ds
+
+abbrev pub goodCount : Option (List ℕ) → Bool
+goodCount none = true
+goodCount (some ds) = someOf isDigit ds
+
+abbrev pub printMarked : Marked → List ℕ
+printMarked m = printSquare (m .inside) ++ printCount (m .count)
+
+abbrev pub goodMarked : Marked → Bool
+goodMarked m = goodInside shutSquare false (m .inside) && goodCount (m .count)
+
+-- a count that is written is noted; the tables do not keep whether it was
+abbrev pub counting : Option (List ℕ) → Bracket Place → Bracket Place
+counting none k = k
+counting (some ds) k = record { kind = k .kind; first = k .first; last = k .last; count = valueOn 0 ds; counted = some tt; parts = k .parts; at = tt }
+
+abbrev pub meansMarked : Marked → Bracket Place
+meansMarked m = counting (m .count) (bracketAt Unknown 0 0 (m .inside))
+
+pub record Run : Type 0 where
+  pub first : Marked
+  pub more : List Marked
+
+abbrev pub marks : Run → List Marked
+marks r = r .first ∷ r .more
+
+abbrev pub printRun : Run → List ℕ
+printRun r = each printMarked (marks r) ++ (question ∷ [])
+
+abbrev pub goodRun : Run → Bool
+goodRun r = every goodMarked (marks r)
+
+abbrev pub meansRun : Run → List (Bracket Place)
+meansRun r = map meansMarked (marks r)
+
+-- ---- "The sequence is one or more of: a residue with its brackets; `(` residues with their brackets `)` followed by at least one bracket (a range);
+-- `(?` residues with their brackets `)`. Ranges don't nest."
+pub record Spot : Type 0 where
+  pub letter : ℕ
+  pub brackets : List Inside
+
+pub data Element : Type 0 where
+  single : Spot → Element
+  range : Spot → List Spot → Inside → List Inside → Element
+  unsure : Spot → List Spot → Element
+
+abbrev pub printSpot : Spot → List ℕ
+printSpot s = s .letter ∷ printSquares (s .brackets)
+
+abbrev pub printElement : Element → List ℕ
+printElement (single s) = printSpot s
+printElement (range s ss x xs) = openRound ∷ (each printSpot (s ∷ ss) ++ (shutRound ∷ printSquares (x ∷ xs)))
+printElement (unsure s ss) = openRound ∷ (question ∷ (each printSpot (s ∷ ss) ++ (shutRound ∷ [])))
+
+-- "one-letter residues (all 26 letters ..)", in either case
+abbrev pub goodSpot : Spot → Bool
+goodSpot s = isLetter (s .letter) && goodSquares true (s .brackets)
+
+abbrev pub goodElement : Element → Bool
+goodElement (single s) = goodSpot s
+goodElement (range s ss x xs) = every goodSpot (s ∷ ss) && goodSquares false (x ∷ xs)
+goodElement (unsure s ss) = every goodSpot (s ∷ ss)
+
+-- "residues in upper case with their section"
+abbrev pub residueOf : Section → Spot → Residue Place
+residueOf c s = record { letter = upper (s .letter); section = c; at = tt }
+
+abbrev pub residuesIn : Element → List (Residue Place)
+residuesIn (single s) = residueOf Plain s ∷ []
+residuesIn (range s ss x xs) = residueOf RangeFirst s ∷ map (residueOf RangeNext) ss
+residuesIn (unsure s ss) = residueOf UnsureFirst s ∷ map (residueOf UnsureNext) ss
+
+-- the brackets on residues, the first of which stands at the position i
+unfoldable pub bracketsOn : ℕ → List Spot → List (Bracket Place)
+bracketsOn i [] = []
+bracketsOn i (s ∷ ss) = map (bracketAt OnResidue i i) (s .brackets) ++ bracketsOn (i + 1) ss
+
+-- the brackets of an element behind n residues
+abbrev pub bracketsIn : ℕ → Element → List (Bracket Place)
+bracketsIn n (single s) = bracketsOn (n + 1) (s ∷ [])
+bracketsIn n (range s ss x xs) = bracketsOn (n + 1) (s ∷ ss) ++ map (bracketAt OnRange (n + 1) (n + 1 + length ss)) (x ∷ xs)
+bracketsIn n (unsure s ss) = bracketsOn (n + 1) (s ∷ ss)
+
+unfoldable pub bracketsAlong : ℕ → List Element → List (Bracket Place)
+bracketsAlong n [] = []
+bracketsAlong n (e ∷ es) = bracketsIn n e ++ bracketsAlong (n + length (residuesIn e)) es
+
+-- ---- "A line has this order: runs of unknown-position brackets ..; labile `{..}`; N-terminal brackets and `-`; the sequence; `-` and C-terminal
+-- brackets. All but the sequence may be missing."
+pub record Spelling : Type 0 where
+  pub runs : List Run
+  pub labiles : List Inside
+  pub front : List Inside
+  pub first : Element
+  pub more : List Element
+  pub back : List Inside
+
+abbrev pub elements : Spelling → List Element
+elements t = t .first ∷ t .more
+
+abbrev pub printFront : List Inside → List ℕ
+printFront [] = []
+printFront (x ∷ xs) = printSquares (x ∷ xs) ++ (dash ∷ [])
+
+abbrev pub printBack : List Inside → List ℕ
+printBack [] = []
+printBack (x ∷ xs) = dash ∷ printSquares (x ∷ xs)
+
+abbrev pub print : Spelling → List ℕ
+print t = each printRun (t .runs) ++ (each printCurly (t .labiles) ++ (printFront (t .front) ++ (each printElement (elements t) ++ printBack (t .back))))
+
+abbrev pub good : Spelling → Bool
+good t = every goodRun (t .runs) && (goodCurlies (t .labiles) && (goodSquares true (t .front) && (every goodElement (elements t) && goodSquares true (t .back))))
+
+abbrev pub residuesOf : Spelling → List (Residue Place)
+residuesOf t = each residuesIn (elements t)
+
+abbrev pub means : Spelling → Line Place
+means t =
+    record {
+      residues = residuesOf t;
+      brackets =
+          each meansRun (t .runs)
+          ++ (map (bracketAt Labile 0 0) (t .labiles)
+          ++ (map (bracketAt NTerm 0 0) (t .front)
+          ++ (bracketsAlong 0 (elements t) ++ map (bracketAt CTerm (length (residuesOf t) + 1) (length (residuesOf t) + 1)) (t .back))));
+    }

@@ -1,0 +1,12 @@
+pub mod Grammar
+pub mod Lists
+pub mod Numerals
+pub mod Texts
+pub mod Words
+pub mod Printed
+pub mod Spelled
+pub mod Written
+pub mod Parsed
+pub mod Examples
+pub mod Laws
+pub mod Proved

@@ -1,0 +1,56 @@
+-- Facts about tests and lists of bytes.
+use Prim.Native.Nat.{ℕ, _+_, _*_}
+use native.Mathlib.Omega.{arith}
+use mathlib.Core.Path.{_≡_, refl, ap}
+use mathlib.Core.Bool.{Bool, true, false, not, _&&_, false≢true}
+use mathlib.Core.List.{List, [], _∷_, _++_}
+use Rattle.scope.specs.Content.{value, none?}
+use Rattle.canonical_laws.specs.Lists.{and-l, and-r}
+use Rattle.grammar_laws.specs.Grammar.{allOf, someOf, valueOn}
+
+pub both : (a b : Bool) → a ≡ true → b ≡ true → (a && b) ≡ true
+both a b e f = rw (e, f)
+
+pub no : (a : Bool) → not a ≡ true → a ≡ false
+no true e = absurd (false≢true e)
+no false e = refl
+
+pub all-append : (f : ℕ → Bool) (l m : List ℕ) → allOf f l ≡ true → allOf f m ≡ true → allOf f (l ++ m) ≡ true
+unfolding allOf
+all-append f [] m e g = g
+all-append f (b ∷ l) m e g = both (f b) (allOf f (l ++ m)) (and-l (f b) (allOf f l) e) (all-append f l m (and-r (f b) (allOf f l) e) g)
+
+pub all-nil : (f : ℕ → Bool) → allOf f [] ≡ true
+unfolding allOf
+all-nil f = refl
+
+pub all-one : (f : ℕ → Bool) (b : ℕ) → f b ≡ true → allOf f (b ∷ []) ≡ true
+unfolding allOf
+all-one f b e = rw (e, allOf)
+
+pub all-snoc : (f : ℕ → Bool) (l : List ℕ) (b : ℕ) → allOf f l ≡ true → f b ≡ true → allOf f (l ++ (b ∷ [])) ≡ true
+all-snoc f l b e g = all-append f l (b ∷ []) e (all-one f b g)
+
+pub not-none : (l : List ℕ) (b : ℕ) → none? (l ++ (b ∷ [])) ≡ false
+not-none [] b = refl
+not-none (x ∷ l) b = refl
+
+pub some-snoc : (f : ℕ → Bool) (l : List ℕ) (b : ℕ) → allOf f l ≡ true → f b ≡ true → someOf f (l ++ (b ∷ [])) ≡ true
+some-snoc f l b e g = both (not (none? (l ++ (b ∷ [])))) (allOf f (l ++ (b ∷ []))) (ap not (not-none l b)) (all-snoc f l b e g)
+
+pub some-all : (f : ℕ → Bool) (l : List ℕ) → someOf f l ≡ true → allOf f l ≡ true
+some-all f [] e = absurd (false≢true e)
+some-all f (b ∷ l) e = e
+
+pub value-append : (m : ℕ) (l r : List ℕ) → valueOn m (l ++ r) ≡ valueOn (valueOn m l) r
+unfolding valueOn
+value-append m [] r = refl
+value-append m (b ∷ l) r = value-append (m * 10 + value b) l r
+
+pub value-snoc : (m : ℕ) (l : List ℕ) (b : ℕ) → valueOn m (l ++ (b ∷ [])) ≡ valueOn m l * 10 + value b
+unfolding valueOn
+value-snoc m l b = value-append m l (b ∷ [])
+
+pub value-one : (b : ℕ) → value b ≡ valueOn 0 (b ∷ [])
+unfolding valueOn
+value-one b = omega arith

@@ -1,0 +1,720 @@
+-- From the reader to trees: a line that the reader accepts is printed by a good spelling.
+use Prim.Native.Nat.{ℕ, zero, suc, _≤_}
+use native.Mathlib.Omega.{arith}
+use mathlib.Core.Path.{_≡_, refl, sym, ap, _∙_, subst}
+use mathlib.Core.Bool.{Bool, true, false, cond, true≢false, false≢true}
+use mathlib.Core.Option.{Option, none, some}
+use mathlib.Core.List.{List, [], _∷_, _++_, append-assoc, append-nil}
+use lib.Dec.{eqb}
+use lib.ListN.{length, length-append}
+use borrow.Author.Tests.{eqb-true}
+use Rattle.scope.specs.declared.grammar.Section.{Section}
+use Rattle.scope.specs.declared.grammar.Section.the-variants.{RangeNext, UnsureNext}
+use Rattle.scope.specs.declared.grammar.Kind.{Kind}
+use Rattle.scope.specs.declared.grammar.Kind.the-variants.{Unknown, NTerm, OnResidue, OnRange, CTerm}
+use Rattle.scope.specs.declared.grammar.Mode.{Mode}
+use Rattle.scope.specs.declared.grammar.Mode.the-variants.{Front, Undecided, Counted, Referred, Caret, Counting, Labiles, NTerms, Start, Single, Opened, UnsureOpened, InRange, InUnsure, RangeEnd, Ranged, UnsureEnd, CStart, CTerms}
+use Rattle.scope.specs.declared.grammar.Slot.{Slot}
+use Rattle.scope.specs.declared.grammar.Act.{Act}
+use Rattle.scope.specs.declared.grammar.Act.the-variants.{Stop, Go, Residue as aResidue, Begin, Digit, RunEnds, TermEnds}
+use Rattle.scope.specs.Bytes.{isLetter, isDigit, openSquare, shutSquare, openCurly, shutCurly, openRound, shutRound, caret, question, dash}
+use Rattle.scope.specs.Content.{begin, Inner, Content, lost, closed, going, innerStep}
+use Rattle.scope.specs.Reading.{square, front, labile, element, further, groupFirst, inGroup, undecided, counted, referred, act, mayEnd, Held, withResidue, withBracket, withDigit, asNTerm, settledRun, State, dead, outside, inside, perform, refers?, modeAfter, resume, step, start, lineOf}
+use Rattle.reading_laws.specs.Run.{told}
+use Rattle.canonical_laws.specs.Brackets.{Place, Parts, context, contentRun}
+use Rattle.canonical_laws.specs.Runs.{lineRun, line-nil, line-cons, same-mode}
+use Rattle.grammar_laws.specs.Grammar.{there?, allOf, someOf, Inside, parts, refers, printInside, goodInside, meansInside, printSquare, printCurly, each, every, printSquares, goodSquares, goodCurlies, Marked, printCount, goodCount, printMarked, goodMarked, Run, printRun, goodRun, Spot, Element, single, range, unsure, printSpot, printElement, goodSpot, goodElement, Spelling, elements, printFront, printBack, print, good}
+use Rattle.grammar_laws.specs.Lists.{both}
+use Rattle.grammar_laws.specs.Printed.{content-cons}
+use Rattle.grammar_laws.specs.Spelled.{closed-spelled}
+
+-- ---- what is left of a line, by the mode in which it is left
+pub record Squares (r : Bool) (T : List ℕ → Type 0) (l : List ℕ) : Type 0 where
+  pub brackets : List Inside
+  pub good : goodSquares r brackets ≡ true
+  pub rest : List ℕ
+  pub all : l ≡ printSquares brackets ++ rest
+  pub then : T rest
+
+pub record SomeSquares (r : Bool) (T : List ℕ → Type 0) (l : List ℕ) : Type 0 where
+  pub one : Inside
+  pub more : List Inside
+  pub good : goodSquares r (one ∷ more) ≡ true
+  pub rest : List ℕ
+  pub all : l ≡ printSquares (one ∷ more) ++ rest
+  pub then : T rest
+
+abbrev Empty : List ℕ → Type 0
+Empty l = l ≡ []
+
+-- further elements, and the C-terminus
+pub record Tail (l : List ℕ) : Type 0 where
+  pub elems : List Element
+  pub good : every goodElement elems ≡ true
+  pub back : List Inside
+  pub good-back : goodSquares true back ≡ true
+  pub all : l ≡ each printElement elems ++ printBack back
+
+pub record Sequence (l : List ℕ) : Type 0 where
+  pub first : Element
+  pub good : goodElement first ≡ true
+  pub rest : List ℕ
+  pub all : l ≡ printElement first ++ rest
+  pub then : Tail rest
+
+pub record Spots (T : List ℕ → Type 0) (l : List ℕ) : Type 0 where
+  pub spots : List Spot
+  pub good : every goodSpot spots ≡ true
+  pub rest : List ℕ
+  pub all : l ≡ each printSpot spots ++ (shutRound ∷ rest)
+  pub then : T rest
+
+pub record Dashed (l : List ℕ) : Type 0 where
+  pub rest : List ℕ
+  pub all : l ≡ dash ∷ rest
+  pub then : Sequence rest
+
+pub record Curlies (l : List ℕ) : Type 0 where
+  pub labiles : List Inside
+  pub good : goodCurlies labiles ≡ true
+  pub front : List Inside
+  pub good-front : goodSquares true front ≡ true
+  pub rest : List ℕ
+  pub all : l ≡ each printCurly labiles ++ (printFront front ++ rest)
+  pub then : Sequence rest
+
+pub record Whole (l : List ℕ) : Type 0 where
+  pub runs : List Run
+  pub good : every goodRun runs ≡ true
+  pub rest : List ℕ
+  pub all : l ≡ each printRun runs ++ rest
+  pub then : Curlies rest
+
+-- the rest of a run, from further brackets on
+pub record Marks (l : List ℕ) : Type 0 where
+  pub marked : List Marked
+  pub good : every goodMarked marked ≡ true
+  pub rest : List ℕ
+  pub all : l ≡ each printMarked marked ++ (question ∷ rest)
+  pub then : Whole rest
+
+pub record Counts (l : List ℕ) : Type 0 where
+  pub count : Option (List ℕ)
+  pub good : goodCount count ≡ true
+  pub rest : List ℕ
+  pub all : l ≡ printCount count ++ rest
+  pub then : Marks rest
+
+pub record DigitsLeft (l : List ℕ) : Type 0 where
+  pub bytes : List ℕ
+  pub good : allOf isDigit bytes ≡ true
+  pub rest : List ℕ
+  pub all : l ≡ bytes ++ rest
+  pub then : Marks rest
+
+pub record SomeDigits (l : List ℕ) : Type 0 where
+  pub bytes : List ℕ
+  pub good : someOf isDigit bytes ≡ true
+  pub rest : List ℕ
+  pub all : l ≡ bytes ++ rest
+  pub then : Marks rest
+
+pub data Either (l : List ℕ) : Type 0 where
+  in-run : Counts l → Either l
+  in-front : Squares true Dashed l → Either l
+
+abbrev Left : Mode → List ℕ → Type 0
+Left Front l = Whole l
+Left Undecided l = Either l
+Left Counted l = Counts l
+Left Referred l = Squares true Dashed l
+Left Caret l = SomeDigits l
+Left Counting l = DigitsLeft l
+Left Labiles l = Curlies l
+Left NTerms l = Squares true Dashed l
+Left Start l = Sequence l
+Left Single l = Squares true Tail l
+Left Opened l = Sequence (openRound ∷ l)
+Left UnsureOpened l = Sequence (openRound ∷ (question ∷ l))
+Left InRange l = Squares true (Spots (SomeSquares false Tail)) l
+Left InUnsure l = Squares true (Spots Tail) l
+Left RangeEnd l = SomeSquares false Tail l
+Left Ranged l = Squares false Tail l
+Left UnsureEnd l = Tail l
+Left CStart l = SomeSquares true Empty l
+Left CTerms l = Squares true Empty l
+
+-- ---- what a byte leaves, by what it does
+record Taken (s : Slot) (l : List ℕ) : Type 0 where
+  pub tree : Inside
+  pub good : goodInside (s .shut) (s .refers) tree ≡ true
+  pub rest : List ℕ
+  pub all : l ≡ (printInside tree ++ (s .shut ∷ [])) ++ rest
+  pub then : Left (modeAfter s (meansInside tree)) rest
+
+After : Act → List ℕ → Type 0
+After Stop l = ⊥
+After (Go m) l = Left m l
+After (aResidue s m) l = Left m l
+After (Begin s) l = Taken s l
+After Digit l = Left Counting l
+After RunEnds l = Left Front l
+After TermEnds l = Left Start l
+
+by : {G : Type 0} (t : Bool) (x y : Act) (l : List ℕ) → After (cond t x y) l → (t ≡ true → After x l → G) → (t ≡ false → After y l → G) → G
+by true x y l a f g = f refl a
+by false x y l a f g = g refl a
+
+every-cons : {A : Type 0} (f : A → Bool) (x : A) (l : List A) → f x ≡ true → every f l ≡ true → every f (x ∷ l) ≡ true
+unfolding every
+every-cons f x l e g = both (f x) (every f l) e g
+
+every-nil : {A : Type 0} (f : A → Bool) → every f [] ≡ true
+unfolding every
+every-nil f = refl
+
+each-cons : {A B : Type 0} (f : A → List B) (x : A) (l : List A) → each f (x ∷ l) ≡ f x ++ each f l
+unfolding each
+each-cons f x l = refl
+
+each-nil : {A B : Type 0} (f : A → List B) → each f [] ≡ []
+unfolding each
+each-nil f = refl
+
+-- one text more in front
+each-front : {A : Type 0} (f : A → List ℕ) (x : A) (xs : List A) (l v w : List ℕ) → l ≡ f x ++ v → v ≡ each f xs ++ w → l ≡ each f (x ∷ xs) ++ w
+each-front f x xs l v w e g = e ∙ ap (λ z. f x ++ z) g ∙ sym (append-assoc (f x) (each f xs) w) ∙ ap (λ z. z ++ w) (sym (each-cons f x xs))
+
+each-none : {A : Type 0} (f : A → List ℕ) (l : List ℕ) → l ≡ each f [] ++ l
+each-none f l = ap (λ z. z ++ l) (sym (each-nil f))
+
+-- ---- squares
+no-squares : (r : Bool) (T : List ℕ → Type 0) (l : List ℕ) → T l → Squares r T l
+no-squares r T l t = record { brackets = []; good = every-nil (goodInside shutSquare r); rest = l; all = each-none printSquare l; then = t }
+
+square-bytes : (b : ℕ) (x : Inside) (l v : List ℕ) → b ≡ openSquare → l ≡ (printInside x ++ (shutSquare ∷ [])) ++ v → b ∷ l ≡ printSquare x ++ v
+square-bytes b x l v e g = ap (λ z. z ∷ l) e ∙ ap (λ z. openSquare ∷ z) g
+
+squares-cons : (r : Bool) (T : List ℕ → Type 0) (b : ℕ) (x : Inside) (l v : List ℕ) → b ≡ openSquare → goodInside shutSquare r x ≡ true → l ≡ (printInside x ++ (shutSquare ∷ [])) ++ v → Squares r T v → Squares r T (b ∷ l)
+squares-cons r T b x l v e g a w =
+    record {
+      brackets = x ∷ w .brackets;
+      good = every-cons (goodInside shutSquare r) x (w .brackets) g (w .good);
+      rest = w .rest;
+      all = each-front printSquare x (w .brackets) (b ∷ l) v (w .rest) (square-bytes b x l v e a) (w .all);
+      then = w .then;
+    }
+
+some-squares : (r : Bool) (T : List ℕ → Type 0) (b : ℕ) (x : Inside) (l v : List ℕ) → b ≡ openSquare → goodInside shutSquare r x ≡ true → l ≡ (printInside x ++ (shutSquare ∷ [])) ++ v → Squares r T v → SomeSquares r T (b ∷ l)
+some-squares r T b x l v e g a w =
+    record {
+      one = x;
+      more = w .brackets;
+      good = every-cons (goodInside shutSquare r) x (w .brackets) g (w .good);
+      rest = w .rest;
+      all = each-front printSquare x (w .brackets) (b ∷ l) v (w .rest) (square-bytes b x l v e a) (w .all);
+      then = w .then;
+    }
+
+-- a bracket whose mode does not ask for a reference
+same-left : (k : Kind) (r : Bool) (m : Mode) (l : List ℕ) (w : Taken (square k r m) l) → Left m (w .rest)
+same-left k r m l w = subst (λ (z : Mode). Left z (w .rest)) (same-mode (meansInside (w .tree)) m) (w .then)
+
+-- ---- elements
+element-left : (b : ℕ) (l : List ℕ) → After (element b) l → Sequence (b ∷ l)
+unfolding element After
+element-left b l a =
+    by (isLetter b) _ _ l a
+    (λ e (w : Squares true Tail l). record {
+      first = single (record { letter = b; brackets = w .brackets });
+      good = both (isLetter b) (goodSquares true (w .brackets)) e (w .good);
+      rest = w .rest;
+      all = ap (λ z. b ∷ z) (w .all);
+      then = w .then;
+    })
+    (λ e c. by (eqb b openRound) _ _ l c (λ f w. subst (λ (z : ℕ). Sequence (z ∷ l)) (sym (eqb-true b openRound f)) w) (λ f w. absurd w))
+
+tail-of : (l : List ℕ) → Sequence l → Tail l
+tail-of l w =
+    record {
+      elems = w .first ∷ w .then .elems;
+      good = every-cons goodElement (w .first) (w .then .elems) (w .good) (w .then .good);
+      back = w .then .back;
+      good-back = w .then .good-back;
+      all = each-front printElement (w .first) (w .then .elems) l (w .rest) (printBack (w .then .back)) (w .all) (w .then .all);
+    }
+
+further-left : (b : ℕ) (l : List ℕ) → After (further b) l → Tail (b ∷ l)
+unfolding further After
+further-left b l a =
+    by (eqb b dash) _ _ l a
+    (λ e (w : SomeSquares true Empty l). record {
+      elems = [];
+      good = every-nil goodElement;
+      back = w .one ∷ w .more;
+      good-back = w .good;
+      all = ap (λ z. z ∷ l) (eqb-true b dash e) ∙ ap (λ z. dash ∷ z) (w .all ∙ ap (λ z. printSquares (w .one ∷ w .more) ++ z) (w .then) ∙ append-nil (printSquares (w .one ∷ w .more))) ∙ each-none printElement _;
+    })
+    (λ e c. tail-of (b ∷ l) (element-left b l c))
+
+-- ---- each mode, one byte earlier: the sequence
+single-left : (b : ℕ) (l : List ℕ) → After (act Single b) l → Squares true Tail (b ∷ l)
+unfolding act After
+single-left b l a =
+    by (eqb b openSquare) _ _ l a
+    (λ e (w : Taken (square OnResidue true Single) l). squares-cons true Tail b (w .tree) l (w .rest) (eqb-true b openSquare e) (w .good) (w .all) (same-left OnResidue true Single l w))
+    (λ e c. no-squares true Tail (b ∷ l) (further-left b l c))
+
+ranged-left : (b : ℕ) (l : List ℕ) → After (act Ranged b) l → Squares false Tail (b ∷ l)
+unfolding act After
+ranged-left b l a =
+    by (eqb b openSquare) _ _ l a
+    (λ e (w : Taken (square OnRange false Ranged) l). squares-cons false Tail b (w .tree) l (w .rest) (eqb-true b openSquare e) (w .good) (w .all) (same-left OnRange false Ranged l w))
+    (λ e c. no-squares false Tail (b ∷ l) (further-left b l c))
+
+rangeEnd-left : (b : ℕ) (l : List ℕ) → After (act RangeEnd b) l → SomeSquares false Tail (b ∷ l)
+unfolding act After
+rangeEnd-left b l a =
+    by (eqb b openSquare) _ _ l a
+    (λ e (w : Taken (square OnRange false Ranged) l). some-squares false Tail b (w .tree) l (w .rest) (eqb-true b openSquare e) (w .good) (w .all) (same-left OnRange false Ranged l w))
+    (λ e c. absurd c)
+
+cterms-left : (b : ℕ) (l : List ℕ) → After (act CTerms b) l → Squares true Empty (b ∷ l)
+unfolding act After
+cterms-left b l a =
+    by (eqb b openSquare) _ _ l a
+    (λ e (w : Taken (square CTerm true CTerms) l). squares-cons true Empty b (w .tree) l (w .rest) (eqb-true b openSquare e) (w .good) (w .all) (same-left CTerm true CTerms l w))
+    (λ e c. absurd c)
+
+cstart-left : (b : ℕ) (l : List ℕ) → After (act CStart b) l → SomeSquares true Empty (b ∷ l)
+unfolding act After
+cstart-left b l a =
+    by (eqb b openSquare) _ _ l a
+    (λ e (w : Taken (square CTerm true CTerms) l). some-squares true Empty b (w .tree) l (w .rest) (eqb-true b openSquare e) (w .good) (w .all) (same-left CTerm true CTerms l w))
+    (λ e c. absurd c)
+
+-- a residue of a group in front
+spot-cons : (T : List ℕ → Type 0) (b : ℕ) (l : List ℕ) → isLetter b ≡ true → Squares true (Spots T) l → Spots T (b ∷ l)
+spot-cons T b l e w =
+    let s : Spot = record { letter = b; brackets = w .brackets } in
+    record {
+      spots = s ∷ w .then .spots;
+      good = every-cons goodSpot s (w .then .spots) (both (isLetter b) (goodSquares true (w .brackets)) e (w .good)) (w .then .good);
+      rest = w .then .rest;
+      all = each-front printSpot s (w .then .spots) (b ∷ l) (w .rest) (shutRound ∷ w .then .rest) (ap (λ z. b ∷ z) (w .all)) (w .then .all);
+      then = w .then .then;
+    }
+
+module _ (c : Section) (m end : Mode) (T : List ℕ → Type 0) (self : (l : List ℕ) → Left m l → Squares true (Spots T) l) (over : (l : List ℕ) → Left end l → T l) where
+  group-left : (b : ℕ) (l : List ℕ) → After (inGroup c m end b) l → Squares true (Spots T) (b ∷ l)
+  unfolding inGroup After
+  group-left b l a =
+      by (isLetter b) _ _ l a (λ e w. no-squares true (Spots T) (b ∷ l) (spot-cons T b l e (self l w)))
+      (λ e d.
+      by (eqb b openSquare) _ _ l d
+      (λ f (w : Taken (square OnResidue true m) l). squares-cons true (Spots T) b (w .tree) l (w .rest) (eqb-true b openSquare f) (w .good) (w .all) (self (w .rest) (same-left OnResidue true m l w)))
+      (λ f d′.
+      by (eqb b shutRound) _ _ l d′
+      (λ g w. no-squares true (Spots T) (b ∷ l) (record { spots = []; good = every-nil goodSpot; rest = l; all = ap (λ z. z ∷ l) (eqb-true b shutRound g) ∙ each-none printSpot _; then = over l w }))
+      (λ g w. absurd w)))
+
+range-left : (b : ℕ) (l : List ℕ) → After (act InRange b) l → Squares true (Spots (SomeSquares false Tail)) (b ∷ l)
+unfolding act
+range-left b l a = group-left RangeNext InRange RangeEnd (SomeSquares false Tail) (λ l w. w) (λ l w. w) b l a
+
+inUnsure-left : (b : ℕ) (l : List ℕ) → After (act InUnsure b) l → Squares true (Spots Tail) (b ∷ l)
+unfolding act
+inUnsure-left b l a = group-left UnsureNext InUnsure UnsureEnd Tail (λ l w. w) (λ l w. w) b l a
+
+group-all : (x y z : List ℕ) → x ++ (shutRound ∷ (y ++ z)) ≡ (x ++ (shutRound ∷ y)) ++ z
+group-all x y z = sym (append-assoc x (shutRound ∷ y) z)
+
+made-range : (b : ℕ) (l : List ℕ) → isLetter b ≡ true → Squares true (Spots (SomeSquares false Tail)) l → Sequence (openRound ∷ (b ∷ l))
+made-range b l e w =
+    let s : Spot = record { letter = b; brackets = w .brackets } in
+    let u = w .then in
+    let v = u .then in
+    let i = spot-cons (SomeSquares false Tail) b l e w in
+    record {
+      first = range s (u .spots) (v .one) (v .more);
+      good = both (every goodSpot (s ∷ u .spots)) (goodSquares false (v .one ∷ v .more)) (every-cons goodSpot s (u .spots) (both (isLetter b) (goodSquares true (w .brackets)) e (w .good)) (u .good)) (v .good);
+      rest = v .rest;
+      all =
+          ap (λ z. openRound ∷ z)
+          (each-front printSpot s (u .spots) (b ∷ l) (w .rest) (shutRound ∷ u .rest) (ap (λ z. b ∷ z) (w .all)) (u .all)
+          ∙ ap (λ z. each printSpot (s ∷ u .spots) ++ (shutRound ∷ z)) (v .all)
+          ∙ group-all (each printSpot (s ∷ u .spots)) (printSquares (v .one ∷ v .more)) (v .rest));
+      then = v .then;
+    }
+
+made-unsure : (b : ℕ) (l : List ℕ) → isLetter b ≡ true → Squares true (Spots Tail) l → Sequence (openRound ∷ (question ∷ (b ∷ l)))
+made-unsure b l e w =
+    let s : Spot = record { letter = b; brackets = w .brackets } in
+    let u = w .then in
+    record {
+      first = unsure s (u .spots);
+      good = every-cons goodSpot s (u .spots) (both (isLetter b) (goodSquares true (w .brackets)) e (w .good)) (u .good);
+      rest = u .rest;
+      all =
+          ap (λ z. openRound ∷ (question ∷ z))
+          (each-front printSpot s (u .spots) (b ∷ l) (w .rest) (shutRound ∷ u .rest) (ap (λ z. b ∷ z) (w .all)) (u .all)
+          ∙ group-all (each printSpot (s ∷ u .spots)) [] (u .rest));
+      then = u .then;
+    }
+
+unsureOpened-left : (b : ℕ) (l : List ℕ) → After (act UnsureOpened b) l → Sequence (openRound ∷ (question ∷ (b ∷ l)))
+unfolding act groupFirst After
+unsureOpened-left b l a = by (isLetter b) _ _ l a (λ e w. made-unsure b l e w) (λ e w. absurd w)
+
+opened-left : (b : ℕ) (l : List ℕ) → After (act Opened b) l → Sequence (openRound ∷ (b ∷ l))
+unfolding act groupFirst After
+opened-left b l a =
+    by (eqb b question) _ _ l a (λ e w. subst (λ (z : ℕ). Sequence (openRound ∷ (z ∷ l))) (sym (eqb-true b question e)) w)
+    (λ e c. by (isLetter b) _ _ l c (λ f w. made-range b l f w) (λ f w. absurd w))
+
+-- ---- the N-terminus and labile brackets
+dashed : (b : ℕ) (l : List ℕ) → b ≡ dash → Sequence l → Squares true Dashed (b ∷ l)
+dashed b l e w = no-squares true Dashed (b ∷ l) (record { rest = l; all = ap (λ z. z ∷ l) e; then = w })
+
+nterms-left : (b : ℕ) (l : List ℕ) → After (act NTerms b) l → Squares true Dashed (b ∷ l)
+unfolding act After
+nterms-left b l a =
+    by (eqb b openSquare) _ _ l a
+    (λ e (w : Taken (square NTerm true NTerms) l). squares-cons true Dashed b (w .tree) l (w .rest) (eqb-true b openSquare e) (w .good) (w .all) (same-left NTerm true NTerms l w))
+    (λ e c. by (eqb b dash) _ _ l c (λ f w. dashed b l (eqb-true b dash f) w) (λ f w. absurd w))
+
+referred-left : (b : ℕ) (l : List ℕ) → After (act Referred b) l → Squares true Dashed (b ∷ l)
+unfolding act referred After
+referred-left b l a =
+    by (eqb b openSquare) _ _ l a
+    (λ e (w : Taken (square Unknown true Referred) l). squares-cons true Dashed b (w .tree) l (w .rest) (eqb-true b openSquare e) (w .good) (w .all) (same-left Unknown true Referred l w))
+    (λ e c. by (eqb b dash) _ _ l c (λ f w. dashed b l (eqb-true b dash f) w) (λ f w. absurd w))
+
+no-curlies : (l : List ℕ) → Sequence l → Curlies l
+no-curlies l w = record { labiles = []; good = every-nil (goodInside shutCurly false); front = []; good-front = every-nil (goodInside shutSquare true); rest = l; all = each-none printCurly l; then = w }
+
+-- N-terminal brackets, the first of which begins here
+fronted : (b : ℕ) (x : Inside) (l v : List ℕ) → b ≡ openSquare → goodInside shutSquare true x ≡ true → l ≡ (printInside x ++ (shutSquare ∷ [])) ++ v → Squares true Dashed v → Curlies (b ∷ l)
+fronted b x l v e g a w =
+    let d = w .then in
+    record {
+      labiles = [];
+      good = every-nil (goodInside shutCurly false);
+      front = x ∷ w .brackets;
+      good-front = every-cons (goodInside shutSquare true) x (w .brackets) g (w .good);
+      rest = d .rest;
+      all =
+          each-front printSquare x (w .brackets) (b ∷ l) v (w .rest) (square-bytes b x l v e a) (w .all)
+          ∙ ap (λ z. printSquares (x ∷ w .brackets) ++ z) (d .all)
+          ∙ sym (append-assoc (printSquares (x ∷ w .brackets)) (dash ∷ []) (d .rest))
+          ∙ each-none printCurly _;
+      then = d .then;
+    }
+
+curly-cons : (b : ℕ) (l : List ℕ) → b ≡ openCurly → Taken labile l → Curlies (b ∷ l)
+curly-cons b l e w =
+    let c : Curlies (w .rest) = subst (λ (z : Mode). Left z (w .rest)) (same-mode (meansInside (w .tree)) Labiles) (w .then) in
+    record {
+      labiles = w .tree ∷ c .labiles;
+      good = every-cons (goodInside shutCurly false) (w .tree) (c .labiles) (w .good) (c .good);
+      front = c .front;
+      good-front = c .good-front;
+      rest = c .rest;
+      all = each-front printCurly (w .tree) (c .labiles) (b ∷ l) (w .rest) (printFront (c .front) ++ c .rest) (ap (λ z. z ∷ l) e ∙ ap (λ z. openCurly ∷ z) (w .all)) (c .all);
+      then = c .then;
+    }
+
+labiles-left : (b : ℕ) (l : List ℕ) → After (act Labiles b) l → Curlies (b ∷ l)
+unfolding act After
+labiles-left b l a =
+    by (eqb b openCurly) _ _ l a (λ e (w : Taken labile l). curly-cons b l (eqb-true b openCurly e) w)
+    (λ e c.
+    by (eqb b openSquare) _ _ l c
+    (λ f (w : Taken (square NTerm true NTerms) l). fronted b (w .tree) l (w .rest) (eqb-true b openSquare f) (w .good) (w .all) (same-left NTerm true NTerms l w))
+    (λ f d. no-curlies (b ∷ l) (element-left b l d)))
+
+-- ---- runs
+run-over : (b : ℕ) (l : List ℕ) → b ≡ question → Whole l → Marks (b ∷ l)
+run-over b l e w = record { marked = []; good = every-nil goodMarked; rest = l; all = ap (λ z. z ∷ l) e ∙ each-none printMarked _; then = w }
+
+mark-cons : (b : ℕ) (x : Inside) (l v : List ℕ) → b ≡ openSquare → goodInside shutSquare false x ≡ true → l ≡ (printInside x ++ (shutSquare ∷ [])) ++ v → Counts v → Marks (b ∷ l)
+mark-cons b x l v e g a w =
+    let k : Marked = record { inside = x; count = w .count } in
+    let n = w .then in
+    record {
+      marked = k ∷ n .marked;
+      good = every-cons goodMarked k (n .marked) (both (goodInside shutSquare false x) (goodCount (w .count)) g (w .good)) (n .good);
+      rest = n .rest;
+      all = each-front printMarked k (n .marked) (b ∷ l) (w .rest) (question ∷ n .rest) (square-bytes b x l v e a ∙ ap (λ z. printSquare x ++ z) (w .all) ∙ sym (append-assoc (printSquare x) (printCount (w .count)) (w .rest))) (n .all);
+      then = n .then;
+    }
+
+uncounted : (l : List ℕ) → Marks l → Counts l
+uncounted l w = record { count = none; good = refl; rest = l; all = refl; then = w }
+
+counts : (b : ℕ) (l : List ℕ) → b ≡ caret → SomeDigits l → Counts (b ∷ l)
+counts b l e w = record { count = some (w .bytes); good = w .good; rest = w .rest; all = ap (λ z. z ∷ l) e ∙ ap (λ z. caret ∷ z) (w .all); then = w .then }
+
+marks-left : (b : ℕ) (l : List ℕ) → After (counted b) l → Marks (b ∷ l)
+unfolding counted After
+marks-left b l a =
+    by (eqb b openSquare) _ _ l a
+    (λ e (w : Taken (square Unknown false Counted) l). mark-cons b (w .tree) l (w .rest) (eqb-true b openSquare e) (w .good) (w .all) (same-left Unknown false Counted l w))
+    (λ e c. by (eqb b question) _ _ l c (λ f w. run-over b l (eqb-true b question f) w) (λ f w. absurd w))
+
+counted-left : (b : ℕ) (l : List ℕ) → After (act Counted b) l → Counts (b ∷ l)
+unfolding act After
+counted-left b l a = by (eqb b caret) _ _ l a (λ e w. counts b l (eqb-true b caret e) w) (λ e c. uncounted (b ∷ l) (marks-left b l c))
+
+counting-left : (b : ℕ) (l : List ℕ) → After (act Counting b) l → DigitsLeft (b ∷ l)
+unfolding act After allOf
+counting-left b l a =
+    by (isDigit b) _ _ l a
+    (λ e (w : DigitsLeft l). record { bytes = b ∷ w .bytes; good = both (isDigit b) (allOf isDigit (w .bytes)) e (w .good); rest = w .rest; all = ap (λ z. b ∷ z) (w .all); then = w .then })
+    (λ e c. record { bytes = []; good = refl; rest = b ∷ l; all = refl; then = marks-left b l c })
+
+caret-left : (b : ℕ) (l : List ℕ) → After (act Caret b) l → SomeDigits (b ∷ l)
+unfolding act After allOf
+caret-left b l a =
+    by (isDigit b) _ _ l a
+    (λ e (w : DigitsLeft l). record { bytes = b ∷ w .bytes; good = both (isDigit b) (allOf isDigit (w .bytes)) e (w .good); rest = w .rest; all = ap (λ z. b ∷ z) (w .all); then = w .then })
+    (λ e w. absurd w)
+
+-- ---- the front
+no-tag : (x : Inside) → refers? (meansInside x) ≡ false → goodInside shutSquare true x ≡ true → goodInside shutSquare false x ≡ true
+no-tag (parts p ps) e g = g
+no-tag (refers t) e g = absurd (true≢false e)
+
+-- a bracket at the front: its kind is open, or it is a reference
+pub data Opening (b : ℕ) (l : List ℕ) : Type 0 where
+  as-run : Marks (b ∷ l) → Opening b l
+  as-front : (x : Inside) (v : List ℕ) → goodInside shutSquare true x ≡ true → l ≡ (printInside x ++ (shutSquare ∷ [])) ++ v → Squares true Dashed v → Opening b l
+
+opening : (b : ℕ) (l : List ℕ) → b ≡ openSquare → Taken front l → Opening b l
+opening b l e w = go (refers? (meansInside (w .tree))) refl (w .then)
+  where
+    either : refers? (meansInside (w .tree)) ≡ false → Either (w .rest) → Opening b l
+    either f (in-run c) = as-run (mark-cons b (w .tree) l (w .rest) e (no-tag (w .tree) f (w .good)) (w .all) c)
+    either f (in-front s) = as-front (w .tree) (w .rest) (w .good) (w .all) s
+
+    go : (t : Bool) → refers? (meansInside (w .tree)) ≡ t → Left (cond t Referred Undecided) (w .rest) → Opening b l
+    go true f s = as-front (w .tree) (w .rest) (w .good) (w .all) s
+    go false f s = either f s
+
+opening-either : (b : ℕ) (l : List ℕ) → b ≡ openSquare → Opening b l → Either (b ∷ l)
+opening-either b l e (as-run m) = in-run (uncounted (b ∷ l) m)
+opening-either b l e (as-front x v g a s) = in-front (squares-cons true Dashed b x l v e g a s)
+
+undecided-left : (b : ℕ) (l : List ℕ) → After (act Undecided b) l → Either (b ∷ l)
+unfolding act undecided After
+undecided-left b l a =
+    by (eqb b caret) _ _ l a (λ e w. in-run (counts b l (eqb-true b caret e) w))
+    (λ e c.
+    by (eqb b openSquare) _ _ l c (λ f (w : Taken front l). opening-either b l (eqb-true b openSquare f) (opening b l (eqb-true b openSquare f) w))
+    (λ f d.
+    by (eqb b question) _ _ l d (λ g w. in-run (uncounted (b ∷ l) (run-over b l (eqb-true b question g) w)))
+    (λ g d′. by (eqb b dash) _ _ l d′ (λ h w. in-front (dashed b l (eqb-true b dash h) w)) (λ h w. absurd w))))
+
+no-runs : (l : List ℕ) → Curlies l → Whole l
+no-runs l w = record { runs = []; good = every-nil goodRun; rest = l; all = each-none printRun l; then = w }
+
+head-of : List ℕ → ℕ
+head-of [] = 0
+head-of (b ∷ l) = b
+
+-- a run that a bracket begins
+runs-cons : (b : ℕ) (l : List ℕ) → b ≡ openSquare → Marks (b ∷ l) → Whole (b ∷ l)
+unfolding head-of
+runs-cons b l e w = go (w .marked) (w .good) (w .all)
+  where
+    go : (ms : List Marked) → every goodMarked ms ≡ true → b ∷ l ≡ each printMarked ms ++ (question ∷ w .rest) → Whole (b ∷ l)
+    go [] g a =
+        let z : b ≡ question = ap head-of (a ∙ ap (λ v. v ++ (question ∷ w .rest)) (each-nil printMarked)) in
+        absurd (omega arith)
+    go (k ∷ ms) g a =
+        let r : Run = record { first = k; more = ms } in
+        let t = w .then in
+        record {
+          runs = r ∷ t .runs;
+          good = every-cons goodRun r (t .runs) g (t .good);
+          rest = t .rest;
+          all = each-front printRun r (t .runs) (b ∷ l) (w .rest) (t .rest) (a ∙ sym (append-assoc (each printMarked (k ∷ ms)) (question ∷ []) (w .rest))) (t .all);
+          then = t .then;
+        }
+
+opening-whole : (b : ℕ) (l : List ℕ) → b ≡ openSquare → Opening b l → Whole (b ∷ l)
+opening-whole b l e (as-run m) = runs-cons b l e m
+opening-whole b l e (as-front x v g a s) = no-runs (b ∷ l) (fronted b x l v e g a s)
+
+front-left : (b : ℕ) (l : List ℕ) → After (act Front b) l → Whole (b ∷ l)
+unfolding act After
+front-left b l a =
+    by (eqb b openSquare) _ _ l a (λ e (w : Taken front l). opening-whole b l (eqb-true b openSquare e) (opening b l (eqb-true b openSquare e) w))
+    (λ e c.
+    by (eqb b openCurly) _ _ l c (λ f (w : Taken labile l). no-runs (b ∷ l) (curly-cons b l (eqb-true b openCurly f) w))
+    (λ f d. no-runs (b ∷ l) (no-curlies (b ∷ l) (element-left b l d))))
+
+start-left : (b : ℕ) (l : List ℕ) → After (act Start b) l → Sequence (b ∷ l)
+unfolding act
+start-left b l a = element-left b l a
+
+unsureEnd-left : (b : ℕ) (l : List ℕ) → After (act UnsureEnd b) l → Tail (b ∷ l)
+unfolding act
+unsureEnd-left b l a = further-left b l a
+
+-- ---- all modes
+left-cons : (m : Mode) (b : ℕ) (l : List ℕ) → After (act m b) l → Left m (b ∷ l)
+left-cons Front b l a = front-left b l a
+left-cons Undecided b l a = undecided-left b l a
+left-cons Counted b l a = counted-left b l a
+left-cons Referred b l a = referred-left b l a
+left-cons Caret b l a = caret-left b l a
+left-cons Counting b l a = counting-left b l a
+left-cons Labiles b l a = labiles-left b l a
+left-cons NTerms b l a = nterms-left b l a
+left-cons Start b l a = start-left b l a
+left-cons Single b l a = single-left b l a
+left-cons Opened b l a = opened-left b l a
+left-cons UnsureOpened b l a = unsureOpened-left b l a
+left-cons InRange b l a = range-left b l a
+left-cons InUnsure b l a = inUnsure-left b l a
+left-cons RangeEnd b l a = rangeEnd-left b l a
+left-cons Ranged b l a = ranged-left b l a
+left-cons UnsureEnd b l a = unsureEnd-left b l a
+left-cons CStart b l a = cstart-left b l a
+left-cons CTerms b l a = cterms-left b l a
+
+no-tail : Tail []
+no-tail = record { elems = []; good = every-nil goodElement; back = []; good-back = every-nil (goodInside shutSquare true); all = each-none printElement [] }
+
+left-nil : (m : Mode) → mayEnd m ≡ true → Left m []
+left-nil Front e = absurd (false≢true e)
+left-nil Undecided e = absurd (false≢true e)
+left-nil Counted e = absurd (false≢true e)
+left-nil Referred e = absurd (false≢true e)
+left-nil Caret e = absurd (false≢true e)
+left-nil Counting e = absurd (false≢true e)
+left-nil Labiles e = absurd (false≢true e)
+left-nil NTerms e = absurd (false≢true e)
+left-nil Start e = absurd (false≢true e)
+left-nil Single e = no-squares true Tail [] no-tail
+left-nil Opened e = absurd (false≢true e)
+left-nil UnsureOpened e = absurd (false≢true e)
+left-nil InRange e = absurd (false≢true e)
+left-nil InUnsure e = absurd (false≢true e)
+left-nil RangeEnd e = absurd (false≢true e)
+left-nil Ranged e = no-squares false Tail [] no-tail
+left-nil UnsureEnd e = no-tail
+left-nil CStart e = absurd (false≢true e)
+left-nil CTerms e = no-squares true Empty [] refl
+
+-- ---- a line that is accepted from a state on
+abbrev Accepts : State Place → List ℕ → Type 0
+Accepts s l = there? (told (lineRun s l)) ≡ true
+
+dead-run : (l : List ℕ) → lineRun (dead tt) l ≡ dead tt
+unfolding lineRun step
+dead-run [] = refl
+dead-run (b ∷ l) = dead-run l
+
+dead-not : (l : List ℕ) → Accepts (dead tt) l → ⊥
+dead-not l e = false≢true (ap (λ s. there? (told s)) (sym (dead-run l)) ∙ e)
+
+ends : (m : Mode) (h : Held Place) → Accepts (outside m h) [] → mayEnd m ≡ true
+ends m h e = go (mayEnd m) (ap (λ s. there? (told s)) (sym (line-nil (outside m h))) ∙ e)
+  where
+    go : (t : Bool) → there? (cond t (some (lineOf h)) none) ≡ true → t ≡ true
+    go true f = refl
+    go false f = absurd (false≢true f)
+
+run-nil : (x : Content Place) → contentRun x [] ≡ x
+unfolding contentRun
+run-nil x = refl
+
+-- a bracket closes
+record Split (s : Slot) (h : Held Place) (c : Inner Place) (l : List ℕ) : Type 0 where
+  pub inner : List ℕ
+  pub parts : Parts
+  pub rest : List ℕ
+  pub all : l ≡ inner ++ rest
+  pub closes : contentRun (going c) inner ≡ closed parts
+  pub accepts : Accepts (outside (modeAfter s parts) (withBracket (s .kind) tt parts h)) rest
+
+split : (l : List ℕ) (s : Slot) (h : Held Place) (c : Inner Place) → Accepts (inside s tt h c) l → Split s h c l
+unfolding step resume
+split [] s h c e = absurd (false≢true (ap (λ z. there? (told z)) (sym (line-nil (inside s tt h c))) ∙ e))
+split (b ∷ l) s h c e = go (innerStep tt c b) refl (ap (λ z. there? (told z)) (sym (line-cons (inside s tt h c) b l)) ∙ e) (λ d f. split l s h d f)
+  where
+    go : (x : Content Place) → innerStep tt c b ≡ x → Accepts (resume s tt h tt x) l → ((d : Inner Place) → Accepts (inside s tt h d) l → Split s h d l) → Split s h c (b ∷ l)
+    go lost q f ih = absurd (dead-not l f)
+    go (closed ps) q f ih = record { inner = b ∷ []; parts = ps; rest = l; all = refl; closes = content-cons c b [] ∙ ap (λ z. contentRun z []) q ∙ run-nil (closed ps); accepts = f }
+    go (going d) q f ih =
+        let i = ih d f in
+        record { inner = b ∷ i .inner; parts = i .parts; rest = i .rest; all = ap (λ z. b ∷ z) (i .all); closes = content-cons c b (i .inner) ∙ ap (λ z. contentRun z (i .inner)) q ∙ i .closes; accepts = i .accepts }
+
+abbrev Upto : ℕ → Type 0
+Upto n = (m : Mode) (h : Held Place) (l : List ℕ) → length l ≤ n → Accepts (outside m h) l → Left m l
+
+taken : (n : ℕ) → Upto n → (s : Slot) (h : Held Place) (l : List ℕ) → length l ≤ n → Accepts (inside s tt h (begin (context (s .shut) (s .refers) []))) l → Taken s l
+taken n ih s h l k e =
+    let i = split l s h (begin (context (s .shut) (s .refers) [])) e in
+    let j = closed-spelled (s .shut) (s .refers) (i .inner) (i .parts) (i .closes) in
+    let short : length (i .rest) ≤ n = omega (arith, ap length (i .all) ∙ length-append (i .inner) (i .rest)) in
+    record {
+      tree = j .tree;
+      good = j .good;
+      rest = i .rest;
+      all = i .all ∙ ap (λ z. z ++ i .rest) (j .prints);
+      then = subst (λ (z : Parts). Left (modeAfter s z) (i .rest)) (j .means) (ih (modeAfter s (i .parts)) (withBracket (s .kind) tt (i .parts) h) (i .rest) short (i .accepts));
+    }
+
+after : (n : ℕ) → Upto n → (a : Act) (h : Held Place) (b : ℕ) (l : List ℕ) → length l ≤ n → Accepts (perform tt b h a) l → After a l
+unfolding perform After
+after n ih Stop h b l k e = dead-not l e
+after n ih (Go m) h b l k e = ih m h l k e
+after n ih (aResidue s m) h b l k e = ih m (withResidue tt b s h) l k e
+after n ih (Begin s) h b l k e = taken n ih s h l k e
+after n ih Digit h b l k e = ih Counting (withDigit tt b h) l k e
+after n ih RunEnds h b l k e = ih Front (settledRun (λ q. q) h) l k e
+after n ih TermEnds h b l k e = ih Start (settledRun asNTerm h) l k e
+
+none-left : Upto 0
+none-left m h [] k e = left-nil m (ends m h e)
+none-left m h (b ∷ l) k e = absurd (omega arith)
+
+one-more : (n : ℕ) → Upto n → Upto (suc n)
+unfolding step
+one-more n ih m h [] k e = left-nil m (ends m h e)
+one-more n ih m h (b ∷ l) k e = left-cons m b l (after n ih (act m b) h b l (omega arith) (ap (λ z. there? (told z)) (sym (line-cons (outside m h) b l)) ∙ e))
+
+left : (n : ℕ) → Upto n
+left zero = none-left
+left (suc n) = one-more n (left n)
+
+-- ---- a whole line
+pub record Spelt (l : List ℕ) : Type 0 where
+  pub tree : Spelling
+  pub fine : good tree ≡ true
+  pub prints : l ≡ print tree
+
+spelt : (l : List ℕ) → Whole l → Spelt l
+spelt l w =
+    let c = w .then in
+    let s = c .then in
+    let t = s .then in
+    let x : Spelling = record { runs = w .runs; labiles = c .labiles; front = c .front; first = s .first; more = t .elems; back = t .back } in
+    record {
+      tree = x;
+      fine =
+          both (every goodRun (w .runs)) _ (w .good)
+          (both (goodCurlies (c .labiles)) _ (c .good)
+          (both (goodSquares true (c .front)) _ (c .good-front) (both (every goodElement (elements x)) (goodSquares true (t .back)) (every-cons goodElement (s .first) (t .elems) (s .good) (t .good)) (t .good-back))));
+      prints =
+          w .all
+          ∙ ap (λ z. each printRun (w .runs) ++ z) (c .all
+          ∙ ap (λ z. each printCurly (c .labiles) ++ (printFront (c .front) ++ z)) (each-front printElement (s .first) (t .elems) (c .rest) (s .rest) (printBack (t .back)) (s .all) (t .all)));
+    }
+
+-- what the reader accepts is printed by a good spelling
+pub accepted-spelt : (l : List ℕ) → there? (told (lineRun start l)) ≡ true → Spelt l
+accepted-spelt l e = spelt l (left (length l) Front _ l (omega arith) e)

@@ -1,0 +1,48 @@
+-- Cleared areas, filled with an accepted line's tables.
+use mathlib.Core.Path.{_≡_, refl, sym, ap, _∙_}
+use mathlib.Core.List.{List, _++_}
+use Prim.Native.Nat.{ℕ, _+_, _-_, _≤_}
+use native.Mathlib.Omega.{arith}
+use lib.IntN.{ℤ, pos}
+use lib.ListN.{length, take, drop, replicate, length-append, length-drop, length-replicate}
+use lib.Seq.{take-at, drop-at}
+use Rattle.scope.specs.Line.{Line}
+use Rattle.scope.specs.Refusals.{accepted, outcome}
+use Rattle.scope.specs.Tables.{bytesSize, numbersSize, bytesOf, numbersOf, laid}
+use Rattle.layout_laws.specs.Laws.{accepted-within, bytes-fill, numbers-fill}
+use Rattle.fill.specs.Filled.{Fills, FilledAll}
+use Rattle.reader.specs.ReadSays.{Stores, Stored}
+
+-- the first n elements cleared
+abbrev cleared : {A : Type 0} → A → ℕ → List A → List A
+cleared z n l = replicate n z ++ drop n l
+
+cleared-long : {A : Type 0} (z : A) (n : ℕ) (l : List A) → n ≤ length (cleared z n l)
+cleared-long z n l = let a = length-append (replicate n z) (drop n l) in let b = length-replicate n z in omega arith
+
+cleared-zero : {A : Type 0} (z : A) (n : ℕ) (l : List A) → take n (cleared z n l) ≡ replicate n z
+cleared-zero z n l = take-at (replicate n z) (drop n l) n (length-replicate n z)
+
+-- what is laid over cleared areas is laid over the areas
+laid-over : {A : Type 0} (z : A) (n : ℕ) (t l : List A) → length t ≡ n → laid t (cleared z n l) ≡ laid t l
+laid-over z n t l e = rw e (ap (λ x. t ++ x) (drop-at (replicate n z) (drop n l) n (length-replicate n z)))
+
+module _ (line bs : List ℕ) (ns : List ℤ) (bs₁ : List ℕ) (ns₁ : List ℤ) (b : bs₁ ≡ cleared 0 bytesSize bs) (n : ns₁ ≡ cleared (pos 0) numbersSize ns) where
+  pub fills : Stores line bs ns → Fills line bs₁ ns₁
+  fills w =
+      rw (b, n)
+      (record {
+        holds-line = w .held;
+        is-accepted = w .accepts;
+        bytes-long = cleared-long 0 bytesSize bs;
+        bytes-zero = cleared-zero 0 bytesSize bs;
+        numbers-long = cleared-long (pos 0) numbersSize ns;
+        numbers-zero = cleared-zero (pos 0) numbersSize ns;
+      })
+
+  pub stores : (bs′ : List ℕ) (ns′ : List ℤ) → ((l : Line ℕ) → outcome line ≡ accepted l → FilledAll line bs₁ ns₁ bs′ ns′ l) → Stored line bs ns bs′ ns′
+  stores bs′ ns′ f =
+      record {
+        bytes-now = λ l e. f l e .bytes-are ∙ ap (λ x. laid (bytesOf l) x) b ∙ laid-over 0 bytesSize (bytesOf l) bs (bytes-fill l (accepted-within line l e));
+        numbers-now = λ l e. f l e .numbers-are ∙ ap (λ x. laid (numbersOf l) x) n ∙ laid-over (pos 0) numbersSize (numbersOf l) ns (numbers-fill l (accepted-within line l e));
+      }

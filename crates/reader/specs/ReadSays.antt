@@ -1,0 +1,27 @@
+-- What reading a line answers, and what it leaves in the lent areas: each an equation with the definitions of crate scope.
+use mathlib.Core.Path.{_≡_}
+use mathlib.Core.List.{List}
+use Prim.Native.Nat.{ℕ, _≤_}
+use lib.IntN.{ℤ}
+use lib.ListN.{length}
+use Rattle.scope.specs.declared.answers.Read.{Read}
+use Rattle.scope.specs.Line.{Line}
+use Rattle.scope.specs.Refusals.{accepted, outcome}
+use Rattle.scope.specs.Tables.{bytesSize, numbersSize, bytesOf, numbersOf, laid}
+use Rattle.scope.specs.Answers.{saysRead, saysOutcome, readOutcome, bytesAfter, numbersAfter}
+
+pub record ReadSays (line bytes : List ℕ) (numbers : List ℤ) (r : Read) (bytes′ : List ℕ) (numbers′ : List ℤ) : Type 0 where
+  pub says : saysRead r ≡ saysOutcome (readOutcome bytes numbers line)
+  pub bytes-after : bytes′ ≡ bytesAfter (readOutcome bytes numbers line) bytes
+  pub numbers-after : numbers′ ≡ numbersAfter (readOutcome bytes numbers line) numbers
+
+-- an accepted line, and areas that have room
+pub record Stores (line bytes : List ℕ) (numbers : List ℤ) : Type 0 where
+  pub held : Line ℕ
+  pub accepts : outcome line ≡ accepted held
+  pub bytes-room : bytesSize ≤ length bytes
+  pub numbers-room : numbersSize ≤ length numbers
+
+pub record Stored (line bytes : List ℕ) (numbers : List ℤ) (bytes′ : List ℕ) (numbers′ : List ℤ) : Type 0 where
+  pub bytes-now : (l : Line ℕ) → outcome line ≡ accepted l → bytes′ ≡ laid (bytesOf l) bytes
+  pub numbers-now : (l : Line ℕ) → outcome line ≡ accepted l → numbers′ ≡ laid (numbersOf l) numbers

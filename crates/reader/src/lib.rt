@@ -1,0 +1,39 @@
+// Reading a line into the lent areas.
+use scope::answers::Read;
+use scope::tables::Tables;
+ghost use Rattle.reader.specs.ReadSays.{ReadSays, Stores, Stored};
+
+// An accepted line's tables, in cleared areas.
+fn store(line: &[u8], bytes: &mut [u8], numbers: &mut [i64])
+    requires { ⌜ Stores (now line) (now bytes) (now numbers) ⌝ }
+    ensures { λ _. ⌜ Stored (now (line .entry)) (now (bytes .entry)) (now (numbers .entry)) (now (bytes .exit)) (now (numbers .exit)) ⌝ }
+{
+    fill::clear(bytes, numbers);
+    fill::fill(line, bytes, numbers);
+}
+
+// Any line of bytes, into any areas: accepted, with the line's tables in the areas; or refused with number and place, and nothing changed.
+pub fn read(line: &[u8], bytes: &mut [u8], numbers: &mut [i64]) -> Read
+    ensures { λ r. ⌜ ReadSays (now (line .entry)) (now (bytes .entry)) (now (numbers .entry)) r (now (bytes .exit)) (now (numbers .exit)) ⌝ }
+{
+    if bytes.len() < Tables::BYTES {
+        return Read::Refused {
+            number: 13,
+            place: 0,
+        };
+    }
+    if numbers.len() < Tables::NUMBERS {
+        return Read::Refused {
+            number: 13,
+            place: 0,
+        };
+    }
+    let r = verdict::verdict_on(line);
+    match r {
+        Read::Accepted => {
+            store(line, bytes, numbers);
+            Read::Accepted
+        }
+        Read::Refused { number, place } => Read::Refused { number, place },
+    }
+}

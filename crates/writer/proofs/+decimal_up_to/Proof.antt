@@ -1,0 +1,62 @@
+-- The proof of the cycle of calls {decimal_up_to}. The measure is k. Assumes nothing.
+use Prim.Native.Nat.{ℕ, _<_}
+use native.Mathlib.Omega.{arith}
+use borrow.Author.Needs.{needs}
+use borrow.Fn.Kinds.{In}
+use borrow.Fn.PlainCycle.{Measures, is, falls, and}
+use Rattle.writer.proofs.Storing.{puts-of, puts-within, puts-join}
+use Rattle.writer.proofs.Digits.{decimal-none, decimal-one, decimal-more, tenth-small, single}
+use Rattle.writer.proofs.decimal_up_to.Reads as decimal-up-to
+use Rattle.writer.proofs.decimal_up_to.Kinds as kinds
+use Rattle.writer.proofs.+decimal_up_to.Lts-decimal_up_to as lts
+use Rattle.writer.proofs.put_digit.Reads as put-digit-reads
+use Rattle.writer.proofs.+decimal_up_to.{statement}
+use Rattle.writer.proofs.+decimal_up_to.Tie.{close}
+
+abbrev μ : Measures 1 kinds.ps ℕ
+μ κs a = a .0
+
+abbrev Pre : ℕ → In 1 kinds.ps
+Pre t = and 1 kinds.ps (is 1 kinds.ps μ t) decimal-up-to.Pre
+
+abbrev Less : ℕ → In 1 kinds.ps
+Less t = and 1 kinds.ps (falls 1 kinds.ps _<_ μ t) decimal-up-to.Pre
+
+abbrev claims : ℕ → lts.Claims
+claims t = (put-digit-reads.Asked, put-digit-reads.Learnt, Less t, decimal-up-to.Post)
+
+module _ (t : ℕ) where
+  put-requires : lts.Need-put-digit-requires (claims t) (Pre t) decimal-up-to.Post
+  put-requires c κs = (single _ _ (c .before .if1 .taken) (c .before .before .before .pre .1 .0), omega arith)
+
+  returns : lts.Need-returns (claims t) (Pre t) decimal-up-to.Post
+  returns c =
+      let p = c .before .before in
+      puts-of (decimal-none _ _ (p .before .before .if1 .taken)) (puts-within (omega arith) (p .put-digit .ensures))
+
+  returns-2 : lts.Need-returns-2 (claims t) (Pre t) decimal-up-to.Post
+  returns-2 c =
+      let p = c .before .before in
+      puts-of (decimal-one _ _ (p .before .before .if2 .taken)) (puts-within (omega arith) (p .put-digit2 .ensures))
+
+  less-requires : lts.Need-decimal-up-to-requires (claims t) (Pre t) decimal-up-to.Post
+  less-requires c κs =
+      let e = c .before .before in
+      let s = e .before .before in
+      (omega arith, (tenth-small _ _ (e .if1 .left) (s .pre .1 .0), omega arith))
+
+  last-requires : lts.Need-put-digit-requires-3 (claims t) (Pre t) decimal-up-to.Post
+  last-requires c κs = (omega arith, omega arith)
+
+  returns-3 : lts.Need-returns-3 (claims t) (Pre t) decimal-up-to.Post
+  returns-3 c =
+      let p = c .before .before in
+      let d = p .before .before .before .before in
+      let e = d .before .before in
+      puts-of (decimal-more _ _ (e .before .if1 .left) (e .if2 .left)) (puts-within (omega arith) (puts-join (d .decimal-up-to .ensures) (p .put-digit3 .ensures)))
+
+pub +decimal-up-to-spec : {M : Type 1} → statement M
++decimal-up-to-spec =
+    close μ λ t. lts.spec (claims t) (Pre t) decimal-up-to.Post
+    (put-requires t) (λ c. search needs) (returns t) (λ c κs. search needs) (λ c. search needs) (returns-2 t)
+    (λ c. search needs) (less-requires t) (last-requires t) (λ c. search needs) (returns-3 t)

@@ -1,0 +1,95 @@
+-- Laws of the digits of a number. Assumes nothing.
+use mathlib.Core.Path.{_≡_, refl}
+use mathlib.Core.List.{[], _∷_, _++_}
+use Prim.Native.Nat.{ℕ, zero, suc, _+_, _-_, _*_, _/_, _%_, _^_, _≤_, _<_}
+use native.Mathlib.Nat.{pow-suc, div-lt-iff-lt-mul, div-le-self, one-le-pow}
+use native.Mathlib.Numerals.{add-one}
+use native.Mathlib.Omega.{arith}
+use borrow.Author.Tests.{lt-ltb, le-ltb}
+use mathlib.Core.Bool.{Bool, true, false}
+use borrow.Author.Tests.{ne-eqb}
+use Rattle.scope.specs.Bytes.{plus, dash, dot, caret}
+use Rattle.scope.specs.Canonical.{decimalUpTo, decimal, lastDigits, decimals, size, countText}
+use Rattle.writer.specs.Written.{numberOf, signText, numberText}
+
+pub decimal-none : (k n : ℕ) → k ≡ 0 → (48 + n) ∷ [] ≡ decimalUpTo k n
+unfolding decimalUpTo
+decimal-none k n e = rw e
+
+pub decimal-one : (k n : ℕ) → n < 10 → (48 + n) ∷ [] ≡ decimalUpTo k n
+unfolding decimalUpTo
+decimal-one zero n h = refl
+decimal-one (suc k) n h = rw (lt-ltb n 10 h)
+
+pub decimal-more : (k n : ℕ) → (k ≡ 0 → ⊥) → 10 ≤ n → decimalUpTo (k - 1) (n / 10) ++ ((48 + n % 10) ∷ []) ≡ decimalUpTo k n
+unfolding decimalUpTo
+decimal-more zero n z h = absurd (z refl)
+decimal-more (suc k) n z h =
+    let e : suc k - 1 ≡ k = omega arith in
+    rw (e, le-ltb n 10 h)
+
+pub tenth-small : (k n : ℕ) → (k ≡ 0 → ⊥) → n < 10 ^ (k + 1) → n / 10 < 10 ^ (k - 1 + 1)
+tenth-small zero n z h = absurd (z refl)
+tenth-small (suc k) n z h =
+    let e : suc k - 1 + 1 ≡ suc k = omega arith in
+    let p : 10 ^ (suc k + 1) ≡ 10 ^ suc k * 10 = rw (add-one (suc k)) (pow-suc 10 (suc k)) in
+    rw e (div-lt-iff-lt-mul {k = 10} {x = n} {y = 10 ^ suc k} (omega arith) .1 (rw p at h))
+
+pub last-none : (d n : ℕ) → d ≡ 0 → [] ≡ lastDigits d n
+unfolding lastDigits
+last-none d n e = rw e
+
+pub last-more : (d n : ℕ) → (d ≡ 0 → ⊥) → lastDigits (d - 1) (n / 10) ++ ((48 + n % 10) ∷ []) ≡ lastDigits d n
+unfolding lastDigits
+last-more zero n z = absurd (z refl)
+last-more (suc d) n z =
+    let e : suc d - 1 ≡ d = omega arith in
+    rw e
+
+pub single : (k n : ℕ) → k ≡ 0 → n < 10 ^ (k + 1) → n < 10
+single k n e h = rw e at h
+
+-- ---- numbers with their point and sign
+pub decimals-none : (d n : ℕ) → d ≡ 0 → [] ≡ decimals d n
+unfolding decimals
+decimals-none d n e = rw e
+
+pub decimals-some : (d n : ℕ) → (d ≡ 0 → ⊥) → (dot ∷ []) ++ lastDigits d n ≡ decimals d n
+unfolding decimals
+decimals-some zero n z = absurd (z refl)
+decimals-some (suc d) n z = refl
+
+pub power-positive : (d : ℕ) → 0 < 10 ^ d
+power-positive d = one-le-pow d 10 (omega arith)
+
+pub quotient-small : (n p : ℕ) → n < 1000000000000 → n / p < 1000000000000
+quotient-small n p h = omega (arith, div-le-self n p)
+
+module _ (minus : Bool) (n d : ℕ) where
+  pub size-text : (p : ℕ) → p ≡ 10 ^ d → decimal (n / p) ++ decimals d n ≡ size (numberOf minus n d)
+  unfolding size
+  size-text p f = rw f
+
+pub number-text : (always minus : Bool) (n d : ℕ) → signText always minus ++ size (numberOf minus n d) ≡ numberText always (numberOf minus n d)
+number-text true true n d = refl
+number-text true false n d = refl
+number-text false true n d = refl
+number-text false false n d = refl
+
+pub sign-minus : (always minus : Bool) → minus ≡ true → dash ∷ [] ≡ signText always minus
+sign-minus always minus e = rw e
+
+pub sign-plus : (always minus : Bool) → minus ≡ false → always ≡ true → plus ∷ [] ≡ signText always minus
+sign-plus always minus e f = rw (e, f)
+
+pub sign-none : (always minus : Bool) → minus ≡ false → always ≡ false → [] ≡ signText always minus
+sign-none always minus e f = rw (e, f)
+
+pub count-one : (n : ℕ) → n ≡ 1 → [] ≡ countText n
+count-one n e = rw e
+
+pub count-more : (n : ℕ) → (n ≡ 1 → ⊥) → (caret ∷ []) ++ decimal n ≡ countText n
+count-more n z = rw (ne-eqb n 1 z)
+
+pub up : (k n : ℕ) → n ≤ k → (k ≡ n → ⊥) → n + 1 ≤ k
+up k n h e = omega arith

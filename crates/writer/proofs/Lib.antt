@@ -1,0 +1,8 @@
+pub mod Storing
+pub mod Digits
+pub mod Signs
+pub mod PartTexts
+pub mod RankLaws
+pub mod RunLaws
+pub mod Walking
+pub mod LineLaws

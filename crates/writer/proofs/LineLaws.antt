@@ -1,0 +1,329 @@
+-- What the pieces of a line are, by rank, and how they make up the canonical line. Assumes nothing.
+use mathlib.Core.Path.{_≡_, refl, sym, ap, ap₂, _∙_}
+use mathlib.Core.Bool.{Bool, true, false, cond, _&&_}
+use mathlib.Core.List.{List, [], _∷_, _++_, append-assoc, append-nil}
+use Prim.Native.Nat.{ℕ, zero, suc, _+_, _-_, _*_, _≤_, _<_}
+use native.Mathlib.Nat.{zero-add}
+use native.Mathlib.Omega.{arith}
+use lib.Dec.{eqb}
+use lib.IntN.{ℤ}
+use lib.ListN.{length, drop}
+use lib.Seq.{take-all}
+use borrow.Author.Tests.{eq-eqb, ne-eqb, eqb-true, eqb-false}
+use Rattle.basics.specs.Choice.{took, by-test}
+use Rattle.scope.specs.declared.grammar.Kind.{Kind}
+use Rattle.scope.specs.declared.grammar.Kind.the-variants.{Unknown, Labile, NTerm, OnResidue, OnRange, CTerm}
+use Rattle.scope.specs.Bytes.{question, dash}
+use Rattle.scope.specs.Limits.{residueLimit}
+use Rattle.scope.specs.Line.{Bracket, Residue}
+use Rattle.scope.specs.Canonical.{squareText, curlyText, unknownText, kindCode, ofKind, endingAt, closedBy, ledBy, opening, ending, isNext, goesOn, sequenceText, canonical}
+use Rattle.scope.specs.Modifications.{keep, flat}
+use Rattle.scope.specs.Tables.{tabled, byteAt, rowAt, sectionIn, sectionsAt, lettersAt, residueIn, bracketIn, tablesIn, laid}
+use Rattle.areas.specs.Bounds.{Bounds}
+use Rattle.writer.specs.Written.{Puts, WholeLine, ceiling}
+use Rattle.writer.specs.Ranks.{rankOf, rank, rankIn, Ready, rankedText, runText, Walks, residueText}
+use Rattle.writer.proofs.Storing.{stored-whole}
+use Rattle.writer.proofs.RankLaws.{rank-is, tabled-from, tabled-over}
+use Rattle.writer.proofs.RunLaws.{quiet, run-one, run-empty}
+use Rattle.writer.proofs.Walking.{walks-of, walks-then, walks-before, walks-up}
+
+-- ---- sections
+pub opening-other : (c : ℕ) → (c ≡ 1 → ⊥) → (c ≡ 3 → ⊥) → [] ≡ opening (sectionIn c)
+opening-other zero p q = refl
+opening-other (suc zero) p q = absurd (p refl)
+opening-other (suc (suc zero)) p q = refl
+opening-other (suc (suc (suc zero))) p q = absurd (q refl)
+opening-other (suc (suc (suc (suc zero)))) p q = refl
+opening-other (suc (suc (suc (suc (suc c))))) p q = refl
+
+pub next-other : (c : ℕ) → (c ≡ 2 → ⊥) → (c ≡ 4 → ⊥) → false ≡ isNext (sectionIn c)
+next-other zero p q = refl
+next-other (suc zero) p q = refl
+next-other (suc (suc zero)) p q = absurd (p refl)
+next-other (suc (suc (suc zero))) p q = refl
+next-other (suc (suc (suc (suc zero)))) p q = absurd (q refl)
+next-other (suc (suc (suc (suc (suc c))))) p q = refl
+
+pub ending-other : (c : ℕ) (t : List ℕ) → (c ≡ 1 → ⊥) → (c ≡ 2 → ⊥) → (c ≡ 3 → ⊥) → (c ≡ 4 → ⊥) → [] ≡ ending (sectionIn c) t
+ending-other zero t p q r s = refl
+ending-other (suc zero) t p q r s = absurd (p refl)
+ending-other (suc (suc zero)) t p q r s = absurd (q refl)
+ending-other (suc (suc (suc zero))) t p q r s = absurd (r refl)
+ending-other (suc (suc (suc (suc zero)))) t p q r s = absurd (s refl)
+ending-other (suc (suc (suc (suc (suc c))))) t p q r s = refl
+
+pub opening-of : (c n : ℕ) → c ≡ n → opening (sectionIn n) ≡ opening (sectionIn c)
+opening-of c n e = rw e
+
+pub ending-of : (c n : ℕ) (t : List ℕ) → c ≡ n → ending (sectionIn n) t ≡ ending (sectionIn c) t
+ending-of c n t e = rw e
+
+module _ (bs : List ℕ) (p n : ℕ) where
+  pub goes-over : n ≤ p → false ≡ goesOn (tabled (residueIn bs) p (n - p))
+  goes-over h = sym (ap goesOn (tabled-over (residueIn bs) p n h))
+
+  pub goes-next : {c : ℕ} {t : Bool} → p < n → c ≡ byteAt bs (sectionsAt + p) → t ≡ isNext (sectionIn c) → t ≡ goesOn (tabled (residueIn bs) p (n - p))
+  goes-next h e f = f ∙ ap (λ c. isNext (sectionIn c)) e ∙ sym (ap goesOn (tabled-from (residueIn bs) p n h))
+
+-- ---- kinds by rank
+pub keep-same : {A : Type 0} (f h : A → Bool) → ((x : A) → f x ≡ h x) → (l : List A) → keep f l ≡ keep h l
+unfolding keep
+keep-same f h e [] = refl
+keep-same f h e (x ∷ l) = ap₂ (λ t m. cond t (x ∷ []) [] ++ m) (e x) (keep-same f h e l)
+
+keep-row :
+    {A : Type 0} (p r : A → Bool) (f : ℕ → A) (k n : ℕ) → ((i : ℕ) → k ≤ i → i < k + n → p (f i) ≡ r (f i)) → keep p (tabled f k n) ≡ keep r (tabled f k n)
+unfolding keep tabled
+keep-row p r f k zero h = refl
+keep-row p r f k (suc n) h =
+    ap₂ (λ t m. cond t (f k ∷ []) [] ++ m) (h k (omega arith) (omega arith)) (keep-row p r f (k + 1) n (λ i a b. h i (omega arith) (omega arith)))
+
+kept-once : {A : Type 0} (p : A → Bool) (x : A) (t : Bool) (l m : List A) → keep p l ≡ m → keep p (cond t (x ∷ []) [] ++ l) ≡ cond (t && p x) (x ∷ []) [] ++ m
+unfolding keep
+kept-once p x true l m e = ap (λ z. cond (p x) (x ∷ []) [] ++ z) e
+kept-once p x false l m e = e
+
+keep-twice : {A : Type 0} (p r : A → Bool) (l : List A) → keep p (keep r l) ≡ keep (λ x. r x && p x) l
+unfolding keep
+keep-twice p r [] = refl
+keep-twice p r (x ∷ l) = kept-once p x (r x) (keep r l) (keep (λ x. r x && p x) l) (keep-twice p r l)
+
+never : (a b : ℕ) → (a ≡ b → ⊥) → false ≡ eqb a b
+never a b z = sym (ne-eqb a b z)
+
+same-test : (a b c d : ℕ) → (a ≡ b → c ≡ d) → (c ≡ d → a ≡ b) → eqb a b ≡ eqb c d
+same-test a b c d f g =
+    by-test (eqb a b)
+    (λ t. t ∙ sym (eq-eqb c d (f (eqb-true a b t))))
+    (λ t. t ∙ sym (ne-eqb c d (λ e. eqb-false a b t (g e))))
+
+test-unknown : (k : Kind) (last : ℕ) → eqb (kindCode k) 1 ≡ eqb (rankOf k last) 0
+test-unknown Unknown last = refl
+test-unknown Labile last = refl
+test-unknown NTerm last = refl
+test-unknown OnResidue last = never (3 + 2 * last) 0 (λ e. omega arith)
+test-unknown OnRange last = never (4 + 2 * last) 0 (λ e. omega arith)
+test-unknown CTerm last = refl
+
+test-labile : (k : Kind) (last : ℕ) → eqb (kindCode k) 2 ≡ eqb (rankOf k last) 1
+test-labile Unknown last = refl
+test-labile Labile last = refl
+test-labile NTerm last = refl
+test-labile OnResidue last = never (3 + 2 * last) 1 (λ e. omega arith)
+test-labile OnRange last = never (4 + 2 * last) 1 (λ e. omega arith)
+test-labile CTerm last = refl
+
+test-n-term : (k : Kind) (last : ℕ) → eqb (kindCode k) 3 ≡ eqb (rankOf k last) 2
+test-n-term Unknown last = refl
+test-n-term Labile last = refl
+test-n-term NTerm last = refl
+test-n-term OnResidue last = never (3 + 2 * last) 2 (λ e. omega arith)
+test-n-term OnRange last = never (4 + 2 * last) 2 (λ e. omega arith)
+test-n-term CTerm last = refl
+
+test-c-term : (k : Kind) (last : ℕ) → last < 998 → eqb (kindCode k) 6 ≡ eqb (rankOf k last) 2000
+test-c-term Unknown last h = refl
+test-c-term Labile last h = refl
+test-c-term NTerm last h = refl
+test-c-term OnResidue last h = never (3 + 2 * last) 2000 (λ e. omega arith)
+test-c-term OnRange last h = never (4 + 2 * last) 2000 (λ e. omega arith)
+test-c-term CTerm last h = refl
+
+test-residue : (k : Kind) (last i : ℕ) → (eqb (kindCode k) 4 && eqb last i) ≡ eqb (rankOf k last) (3 + 2 * i)
+test-residue Unknown last i = never 0 (3 + 2 * i) (λ e. omega arith)
+test-residue Labile last i = never 1 (3 + 2 * i) (λ e. omega arith)
+test-residue NTerm last i = never 2 (3 + 2 * i) (λ e. omega arith)
+test-residue OnResidue last i = same-test last i (3 + 2 * last) (3 + 2 * i) (λ e. omega arith) (λ e. omega arith)
+test-residue OnRange last i = never (4 + 2 * last) (3 + 2 * i) (λ e. omega arith)
+test-residue CTerm last i = never 2000 (3 + 2 * i) (λ e. omega arith)
+
+test-range : (k : Kind) (last i : ℕ) → i < 998 → (eqb (kindCode k) 5 && eqb last i) ≡ eqb (rankOf k last) (4 + 2 * i)
+test-range Unknown last i h = never 0 (4 + 2 * i) (λ e. omega arith)
+test-range Labile last i h = never 1 (4 + 2 * i) (λ e. omega arith)
+test-range NTerm last i h = never 2 (4 + 2 * i) (λ e. omega arith)
+test-range OnResidue last i h = never (3 + 2 * last) (4 + 2 * i) (λ e. omega arith)
+test-range OnRange last i h = same-test last i (4 + 2 * last) (4 + 2 * i) (λ e. omega arith) (λ e. omega arith)
+test-range CTerm last i h = never 2000 (4 + 2 * i) (λ e. omega arith)
+
+module _ (ks : List (Bracket (Unit {0}))) where
+  unknown-run : runText 0 0 ks ≡ flat unknownText (ofKind Unknown ks)
+  unknown-run = ap (flat unknownText) (sym (keep-same (λ k. eqb (kindCode (k .kind)) 1) (λ k. eqb (rank k) 0) (λ k. test-unknown (k .kind) (k .last)) ks))
+
+  labile-run : runText 1 1 ks ≡ flat curlyText (ofKind Labile ks)
+  labile-run = ap (flat curlyText) (sym (keep-same (λ k. eqb (kindCode (k .kind)) 2) (λ k. eqb (rank k) 1) (λ k. test-labile (k .kind) (k .last)) ks))
+
+  n-term-run : runText 2 2 ks ≡ flat squareText (ofKind NTerm ks)
+  n-term-run = ap (flat squareText) (sym (keep-same (λ k. eqb (kindCode (k .kind)) 3) (λ k. eqb (rank k) 2) (λ k. test-n-term (k .kind) (k .last)) ks))
+
+  pub residue-run : (i : ℕ) → runText 2 (3 + 2 * i) ks ≡ flat squareText (endingAt OnResidue i ks)
+  residue-run i =
+      ap (flat squareText)
+      (sym
+      (keep-twice (λ k. eqb (k .last) i) (λ k. eqb (kindCode (k .kind)) 4) ks
+      ∙ keep-same (λ k. eqb (kindCode (k .kind)) 4 && eqb (k .last) i) (λ k. eqb (rank k) (3 + 2 * i)) (λ k. test-residue (k .kind) (k .last) i) ks))
+
+  pub range-run : (i : ℕ) → i < 998 → runText 2 (4 + 2 * i) ks ≡ flat squareText (endingAt OnRange i ks)
+  range-run i h =
+      ap (flat squareText)
+      (sym
+      (keep-twice (λ k. eqb (k .last) i) (λ k. eqb (kindCode (k .kind)) 5) ks
+      ∙ keep-same (λ k. eqb (kindCode (k .kind)) 5 && eqb (k .last) i) (λ k. eqb (rank k) (4 + 2 * i)) (λ k. test-range (k .kind) (k .last) i h) ks))
+
+last-is : (bs : List ℕ) (ns : List ℤ) (k : ℕ) → bracketIn bs ns k .last ≡ byteAt bs (rowAt k + 2)
+unfolding bracketIn
+last-is bs ns k = refl
+
+c-term-run : (bs : List ℕ) (ns : List ℤ) → Bounds bs ns → runText 2 2000 (tablesIn bs ns .brackets) ≡ flat squareText (ofKind CTerm (tablesIn bs ns .brackets))
+unfolding tablesIn
+c-term-run bs ns b =
+    ap (flat squareText)
+    (sym
+    (keep-row (λ k. eqb (kindCode (k .kind)) 6) (λ k. eqb (rank k) 2000) (bracketIn bs ns) 0 (byteAt bs 1)
+    (λ i h l. test-c-term (bracketIn bs ns i .kind) (bracketIn bs ns i .last) (omega (arith, last-is bs ns i, b .few-residues, b .bracket i (omega arith) .last)))))
+
+-- ---- the sequence
+sequence-step :
+    {P : Type 0} (ks : List (Bracket P)) (i : ℕ) (r : Residue P) (rs : List (Residue P))
+    → sequenceText ks i (r ∷ rs) ≡ residueText ks i r rs ++ sequenceText ks (i + 1) rs
+unfolding sequenceText
+sequence-step ks i r rs =
+    let a = flat squareText (endingAt OnResidue i ks) in
+    let b = cond (goesOn rs) [] (ending (r .section) (flat squareText (endingAt OnRange i ks))) in
+    let s = sequenceText ks (i + 1) rs in
+    sym (append-assoc (opening (r .section)) (r .letter ∷ (a ++ b)) s ∙ ap (λ t. opening (r .section) ++ (r .letter ∷ t)) (append-assoc a b s))
+
+module _ (bs : List ℕ) (ks : List (Bracket (Unit {0}))) (p : ℕ) (rs : List (Residue (Unit {0}))) {c b : ℕ} (e : c ≡ byteAt bs (sectionsAt + p)) (f : b ≡ byteAt bs (lettersAt + p)) where
+  at-residue : runText 2 (5 + 2 * p) ks ≡ flat squareText (endingAt OnResidue (p + 1) ks)
+  at-residue =
+      let q : 5 + 2 * p ≡ 3 + 2 * (p + 1) = omega arith in
+      ap (λ q. runText 2 q ks) q ∙ residue-run ks (p + 1)
+
+  pub residue-on : goesOn rs ≡ true → opening (sectionIn c) ++ ((b ∷ []) ++ runText 2 (5 + 2 * p) ks) ≡ residueText ks (p + 1) (residueIn bs p) rs
+  residue-on g = rw (g, e, f, at-residue, append-nil)
+
+  pub residue-off :
+      p < 900 → goesOn rs ≡ false
+      → (opening (sectionIn c) ++ ((b ∷ []) ++ runText 2 (5 + 2 * p) ks)) ++ ending (sectionIn c) (runText 2 (4 + 2 * (p + 1)) ks)
+      ≡ residueText ks (p + 1) (residueIn bs p) rs
+  residue-off h g =
+      append-assoc (opening (sectionIn c)) ((b ∷ []) ++ runText 2 (5 + 2 * p) ks) (ending (sectionIn c) (runText 2 (4 + 2 * (p + 1)) ks))
+      ∙ rw (g, e, f, at-residue, range-run ks (p + 1) (omega arith))
+
+-- the first p residues are written
+pub record Spelt (bs : List ℕ) (ns : List ℤ) (n from : ℕ) (o : List ℕ) (at : ℕ) (out : List ℕ) (p j a : ℕ) : Type 0 where
+  pub low : p ≤ n
+  pub done : List ℕ
+  pub rest :
+      done ++ sequenceText (tablesIn bs ns .brackets) (p + 1) (tabled (residueIn bs) p (n - p))
+      ≡ sequenceText (tablesIn bs ns .brackets) 1 (tabled (residueIn bs) 0 n)
+  pub walks : Walks bs (4 * p) from (5 + 2 * p) o at done out a j
+
+module _ (bs : List ℕ) (ns : List ℤ) (n from : ℕ) (o : List ℕ) (at : ℕ) where
+  pub spelt-start : Walks bs 0 from 3 o at [] o at from → Spelt bs ns n from o at o 0 from at
+  spelt-start w =
+      record {
+        low = omega arith;
+        done = [];
+        rest = ap (λ k. sequenceText (tablesIn bs ns .brackets) 1 (tabled (residueIn bs) 0 k)) (omega arith);
+        walks = walks-up (omega arith) (omega arith) w;
+      }
+
+  module _ {out : List ℕ} {p j a : ℕ} (s : Spelt bs ns n from o at out p j a) where
+    pub spelt-more :
+        p < n → {out′ : List ℕ} {j′ a′ : ℕ}
+        → Walks bs 4 j (5 + 2 * (p + 1)) out a (residueText (tablesIn bs ns .brackets) (p + 1) (residueIn bs p) (tabled (residueIn bs) (p + 1) (n - (p + 1)))) out′ a′ j′
+        → Spelt bs ns n from o at out′ (p + 1) j′ a′
+    spelt-more h {out′} {j′} {a′} w =
+        let ks = tablesIn bs ns .brackets in
+        let t = residueText ks (p + 1) (residueIn bs p) (tabled (residueIn bs) (p + 1) (n - (p + 1))) in
+        let v = sequenceText ks (p + 1 + 1) (tabled (residueIn bs) (p + 1) (n - (p + 1))) in
+        let e : t ++ v ≡ sequenceText ks (p + 1) (tabled (residueIn bs) p (n - p)) =
+        sym (ap (sequenceText ks (p + 1)) (tabled-from (residueIn bs) p n h) ∙ sequence-step ks (p + 1) (residueIn bs p) (tabled (residueIn bs) (p + 1) (n - (p + 1)))) in
+        record {
+          low = omega arith;
+          done = s .done ++ t;
+          rest = append-assoc (s .done) t v ∙ ap (λ z. s .done ++ z) e ∙ s .rest;
+          walks = walks-then (4 * (p + 1)) (omega arith) (s .walks) w;
+        }
+
+    pub spelt-over :
+        n ≤ p → n ≡ byteAt bs 0 → n ≤ residueLimit
+        → Walks bs 1016 from 2000 o at (sequenceText (tablesIn bs ns .brackets) 1 (tablesIn bs ns .residues)) out a j
+    unfolding tablesIn sequenceText
+    spelt-over h e l =
+        let q : sequenceText (tablesIn bs ns .brackets) (p + 1) (tabled (residueIn bs) p (n - p)) ≡ [] =
+        ap (sequenceText (tablesIn bs ns .brackets) (p + 1)) (tabled-over (residueIn bs) p n h) in
+        walks-of
+        (sym (append-nil (s .done))
+        ∙ ap (λ z. s .done ++ z) (sym q)
+        ∙ s .rest
+        ∙ ap (λ k. sequenceText (tablesIn bs ns .brackets) 1 (tabled (residueIn bs) 0 k)) e)
+        (walks-up (omega (arith, s .low)) (omega (arith, s .low)) (s .walks))
+
+-- ---- what closes and what leads
+closed-none : (t : List ℕ) (b : ℕ) → length t ≡ 0 → t ≡ closedBy t b
+closed-none [] b e = refl
+closed-none (x ∷ t) b e = absurd (omega arith)
+
+closed-some : (t : List ℕ) (b : ℕ) → (length t ≡ 0 → ⊥) → t ++ (b ∷ []) ≡ closedBy t b
+closed-some [] b z = absurd (z refl)
+closed-some (x ∷ t) b z = refl
+
+module _ (b : ℕ) {bs : List ℕ} {from q : ℕ} {o : List ℕ} {at : ℕ} {t left : List ℕ} {place next : ℕ} (w : Walks bs 0 from q o at t left place next) where
+  pub walks-open : place ≡ at → Walks bs 1 from q o at (closedBy t b) left place next
+  walks-open e = walks-of (closed-none t b (omega (arith, w .puts .ends))) (walks-up (omega arith) (omega arith) w)
+
+  pub walks-closed : (place ≡ at → ⊥) → {left′ : List ℕ} {r : ℕ} → Puts 1 left place (b ∷ []) left′ r → Walks bs 1 from q o at (closedBy t b) left′ r next
+  walks-closed z a = walks-of (closed-some t b (λ e. z (omega (arith, w .puts .ends)))) (walks-before 1 (omega arith) w a)
+
+led : (b : ℕ) (s : List ℕ) (x : ℕ) (u : List ℕ) → b ∷ (s ++ (x ∷ u)) ≡ ledBy b (s ++ (x ∷ u))
+led b [] x u = refl
+led b (y ∷ s) x u = refl
+
+module _ (bs : List ℕ) (ns : List ℤ) {m : ℕ} (e : m ≡ byteAt bs 1) where
+  no-c-term : ((i : ℕ) → i < m → rankIn bs i < 2000) → runText 2 2000 (tablesIn bs ns .brackets) ≡ []
+  unfolding tablesIn
+  no-c-term h =
+      ap (λ n. runText 2 2000 (tabled (bracketIn bs ns) 0 n)) (sym e ∙ sym (zero-add m))
+      ∙ quiet 2 2000 (bracketIn bs ns) 0 m (λ i a b w. omega (arith, h i (omega arith), sym (rank-is bs ns i) ∙ w))
+      ∙ run-empty 2 2000 (bracketIn bs ns)
+
+  pub c-term-none : m ≡ 0 → [] ≡ ledBy dash (runText 2 2000 (tablesIn bs ns .brackets))
+  c-term-none z = sym (ap (ledBy dash) (no-c-term (λ i h. absurd (omega arith))))
+
+  module _ (d : Ready bs ns) (z : m ≡ 0 → ⊥) {r : ℕ} (f : r ≡ rankIn bs (m - 1)) where
+    pub c-term-below : r < 2000 → [] ≡ ledBy dash (runText 2 2000 (tablesIn bs ns .brackets))
+    c-term-below h = sym (ap (ledBy dash) (no-c-term (λ i l. omega (arith, d .sorted i (m - 1) (omega arith) (omega arith), f))))
+
+    pub c-term-some : r ≤ 2000 → 2000 ≤ r → dash ∷ runText 2 2000 (tablesIn bs ns .brackets) ≡ ledBy dash (runText 2 2000 (tablesIn bs ns .brackets))
+    unfolding tablesIn
+    c-term-some l h =
+        let q : byteAt bs 1 ≡ m - 1 + 1 = omega arith in
+        let k = bracketIn bs ns (m - 1) in
+        let y : rankedText 2 2000 k ≡ squareText k = sym (took _ _ _ (eq-eqb (rank k) 2000 (rank-is bs ns (m - 1) ∙ sym f ∙ omega arith))) in
+        let w : runText 2 2000 (tabled (bracketIn bs ns) 0 (byteAt bs 1)) ≡ runText 2 2000 (tabled (bracketIn bs ns) 0 (m - 1)) ++ squareText k =
+        ap (λ n. runText 2 2000 (tabled (bracketIn bs ns) 0 n)) q
+        ∙ sym (run-one 2 2000 (bracketIn bs ns) (m - 1))
+        ∙ ap (λ t. runText 2 2000 (tabled (bracketIn bs ns) 0 (m - 1)) ++ t) y in
+        rw w (led dash (runText 2 2000 (tabled (bracketIn bs ns) 0 (m - 1))) _ _)
+
+-- ---- the line
+pub line-text :
+    (bs : List ℕ) (ns : List ℤ) → Bounds bs ns
+    → closedBy (runText 0 0 (tablesIn bs ns .brackets)) question
+    ++ (runText 1 1 (tablesIn bs ns .brackets)
+    ++ (closedBy (runText 2 2 (tablesIn bs ns .brackets)) dash
+    ++ (sequenceText (tablesIn bs ns .brackets) 1 (tablesIn bs ns .residues) ++ ledBy dash (runText 2 2000 (tablesIn bs ns .brackets)))))
+    ≡ canonical (tablesIn bs ns)
+unfolding canonical
+line-text bs ns b =
+    rw
+    (unknown-run (tablesIn bs ns .brackets), labile-run (tablesIn bs ns .brackets), n-term-run (tablesIn bs ns .brackets), c-term-run bs ns b)
+
+pub whole-line : {k : ℕ} {c o left : List ℕ} {r : ℕ} → k ≤ ceiling → Puts k o 0 c left r → WholeLine c o left r
+whole-line {c = c} {o = o} h a =
+    record { long = omega (arith, a .ends); holds = a .holds ∙ stored-whole o c; low = omega (arith, a .near) }
+
+-- where the output is long enough
+pub line-laid : {c o left : List ℕ} {r : ℕ} → WholeLine c o left r → length c ≤ length o → left ≡ laid c o
+line-laid {c} {o} w h = w .holds ∙ ap (λ l. l ++ drop (length c) o) (take-all (length o) c h)

@@ -1,0 +1,177 @@
+-- Laws of ranks: of what the areas hold, of brackets in order, and of those of one rank. Assumes nothing.
+use mathlib.Core.Path.{_≡_, refl, sym, ap, ap₂, _∙_}
+use mathlib.Core.Bool.{Bool, true, false, _&&_, false≢true}
+use mathlib.Core.List.{List, [], _∷_, _++_, append-assoc}
+use Prim.Native.Nat.{ℕ, zero, suc, _+_, _-_, _≤_, _<_}
+use native.Mathlib.Nat.{add-zero, zero-add, le-trans, le-refl}
+use native.Mathlib.Numerals.{add-one}
+use native.Mathlib.Omega.{arith}
+use lib.Dec.{leb}
+use lib.IntN.{ℤ}
+use lib.ListN.{List·getD-eq-default}
+use borrow.Author.Tests.{ne-eqb, le-leb, lt-leb, leb-true, leb-false}
+use Rattle.basics.specs.Choice.{by-test}
+use Rattle.scope.specs.declared.grammar.Kind.the-variants.{Unknown, Labile, NTerm, OnResidue, OnRange, CTerm}
+use Rattle.scope.specs.Line.{Part, Bracket}
+use Rattle.scope.specs.Bytes.{bar}
+use Rattle.scope.specs.Canonical.{partText, partsText}
+use Rattle.scope.specs.Tables.{tabled, byteAt, rowAt, kindIn, bracketIn, tablesIn}
+use Rattle.areas.specs.Bounds.{Bounds}
+use Rattle.writer.specs.Here.{BracketHere, PartHere}
+use Rattle.writer.specs.Written.{nextText}
+use Rattle.writer.specs.Ranks.{rankOf, rank, rising, orderedb, Ordered, rankIn, Ready}
+
+-- ---- lists of what stands in a row
+module _ {A : Type 0} (f : ℕ → A) where
+  tabled-snoc : (i n : ℕ) → tabled f i (suc n) ≡ tabled f i n ++ (f (i + n) ∷ [])
+  unfolding tabled
+  tabled-snoc i zero = rw (add-zero i)
+  tabled-snoc i (suc n) = ap (λ l. f i ∷ l) (tabled-snoc (i + 1) n ∙ ap (λ k. tabled f (i + 1) n ++ (f k ∷ [])) (omega arith))
+
+  pub tabled-more : (n : ℕ) → tabled f 0 (n + 1) ≡ tabled f 0 n ++ (f n ∷ [])
+  tabled-more n = ap (tabled f 0) (add-one n) ∙ tabled-snoc 0 n ∙ ap (λ k. tabled f 0 n ++ (f k ∷ [])) (zero-add n)
+
+  pub tabled-from : (k m : ℕ) → k < m → tabled f k (m - k) ≡ f k ∷ tabled f (k + 1) (m - (k + 1))
+  unfolding tabled
+  tabled-from k m h =
+      let e : m - k ≡ suc (m - (k + 1)) = omega arith in
+      rw e
+
+  pub tabled-over : (k m : ℕ) → m ≤ k → tabled f k (m - k) ≡ []
+  unfolding tabled
+  tabled-over k m h =
+      let e : m - k ≡ 0 = omega arith in
+      rw e
+
+-- ---- parts
+parts-snoc : {P : Type 0} (q : Part P) (l : List (Part P)) (p : Part P) → partsText ((q ∷ l) ++ (p ∷ [])) ≡ partsText (q ∷ l) ++ (bar ∷ partText p)
+unfolding partsText
+parts-snoc q [] p = refl
+parts-snoc q (r ∷ l) p =
+    ap (λ t. partText q ++ (bar ∷ t)) (parts-snoc r l p) ∙ sym (append-assoc (partText q) (bar ∷ partsText (r ∷ l)) (bar ∷ partText p))
+
+pub parts-more : {P : Type 0} (f : ℕ → Part P) (j : ℕ) → partsText (tabled f 0 j) ++ nextText j (f j) ≡ partsText (tabled f 0 (j + 1))
+unfolding partsText tabled
+parts-more f zero = refl
+parts-more f (suc j) =
+    rw (ne-eqb (suc j) 0 (λ e. omega arith)) (sym (ap partsText (tabled-more f (suc j)) ∙ parts-snoc (f 0) (tabled f (0 + 1) j) (f (suc j))))
+
+pub no-parts : {P : Type 0} (f : ℕ → Part P) → [] ≡ partsText (tabled f 0 0)
+unfolding partsText tabled
+no-parts f = refl
+
+-- ---- what lies inside the areas
+pub bracket-here : (bs : List ℕ) (ns : List ℤ) (k : ℕ) → Bounds bs ns → k < byteAt bs 1 → BracketHere bs ns k
+bracket-here bs ns k b h =
+    let l = b .bracket k h in
+    record {
+      bytes-room = b .bytes-room;
+      numbers-room = b .numbers-room;
+      low = omega (arith, b .few-brackets);
+      few-counts = l .few-counts;
+      few-parts = l .few-parts;
+      score = l .score;
+      small-score = l .small;
+      part = l .part;
+    }
+
+pub part-here : (bs : List ℕ) (ns : List ℤ) (k j : ℕ) → BracketHere bs ns k → j < byteAt bs (rowAt k + 4) → PartHere bs ns k j
+part-here bs ns k j b h = record { bracket = b; low = omega (arith, b .few-parts); bounds = b .part j h }
+
+-- ---- the rank in a row
+kind-high : (c : ℕ) → 7 ≤ c → kindIn c ≡ Unknown
+kind-high c h = List·getD-eq-default (Unknown ∷ Labile ∷ NTerm ∷ OnResidue ∷ OnRange ∷ CTerm ∷ []) Unknown {n = c - 1} (omega arith)
+
+pub rank-other :
+    (c last : ℕ) → (c ≡ 2 → ⊥) → (c ≡ 3 → ⊥) → (c ≡ 4 → ⊥) → (c ≡ 5 → ⊥) → (c ≡ 6 → ⊥) → 0 ≡ rankOf (kindIn c) last
+rank-other zero last p q r s t = refl
+rank-other (suc zero) last p q r s t = refl
+rank-other (suc (suc zero)) last p q r s t = absurd (p refl)
+rank-other (suc (suc (suc zero))) last p q r s t = absurd (q refl)
+rank-other (suc (suc (suc (suc zero)))) last p q r s t = absurd (r refl)
+rank-other (suc (suc (suc (suc (suc zero))))) last p q r s t = absurd (s refl)
+rank-other (suc (suc (suc (suc (suc (suc zero)))))) last p q r s t = absurd (t refl)
+rank-other (suc (suc (suc (suc (suc (suc (suc c))))))) last p q r s t = rw (kind-high (suc (suc (suc (suc (suc (suc (suc c))))))) (omega arith))
+
+pub rank-row : {c last r : ℕ} (bs : List ℕ) (k : ℕ) → c ≡ byteAt bs (rowAt k + 0) → last ≡ byteAt bs (rowAt k + 2) → r ≡ rankOf (kindIn c) last → r ≡ rankIn bs k
+rank-row bs k e f g = g ∙ ap₂ (λ c last. rankOf (kindIn c) last) (e ∙ ap (byteAt bs) (add-zero (rowAt k))) f
+
+pub rank-is : (bs : List ℕ) (ns : List ℤ) (k : ℕ) → rank (bracketIn bs ns k) ≡ rankIn bs k
+unfolding bracketIn
+rank-is bs ns k = refl
+
+-- ---- whether they rise
+pub record Risen (bs : List ℕ) (m k q : ℕ) : Type 0 where
+  pub low : k ≤ m
+  pub same : (ns : List ℤ) → orderedb (tablesIn bs ns) ≡ rising q (tabled (bracketIn bs ns) k (m - k))
+
+pub risen-start : (bs : List ℕ) (m : ℕ) → m ≡ byteAt bs 1 → Risen bs m 0 0
+unfolding orderedb tablesIn
+risen-start bs m e =
+    record {
+      low = omega arith;
+      same = λ ns.
+          let p : byteAt bs 1 ≡ m - 0 = omega (arith, e) in
+          ap (λ n. rising 0 (tabled (bracketIn bs ns) 0 n)) p;
+    }
+
+rising-first : {P : Type 0} (q r : ℕ) (x : Bracket P) (l : List (Bracket P)) (t : Bool) → rank x ≡ r → leb q r ≡ t → rising q (x ∷ l) ≡ (t && rising r l)
+unfolding rising
+rising-first q r x l t e f = rw (e, f)
+
+module _ {bs : List ℕ} {m k q : ℕ} (a : Risen bs m k q) (h : k < m) {r : ℕ} (e : r ≡ rankIn bs k) where
+  pub risen-more : q ≤ r → Risen bs m (k + 1) r
+  risen-more g =
+      record {
+        low = omega arith;
+        same = λ ns.
+            a .same ns ∙ ap (rising q) (tabled-from (bracketIn bs ns) k m h) ∙ rising-first q r _ _ true (rank-is bs ns k ∙ sym e) (le-leb q r g);
+      }
+
+  pub risen-stop : r < q → (ns : List ℤ) → false ≡ orderedb (tablesIn bs ns)
+  risen-stop g ns =
+      sym
+      (a .same ns ∙ ap (rising q) (tabled-from (bracketIn bs ns) k m h) ∙ rising-first q r _ _ false (rank-is bs ns k ∙ sym e) (lt-leb q r g))
+
+pub risen-end : {bs : List ℕ} {m k q : ℕ} → Risen bs m k q → m ≤ k → (ns : List ℤ) → true ≡ orderedb (tablesIn bs ns)
+unfolding rising
+risen-end {bs} {m} {k} {q} a h ns = sym (a .same ns ∙ ap (rising q) (tabled-over (bracketIn bs ns) k m h))
+
+-- ---- in order, by index
+both : (a b : Bool) → a && b ≡ true → (a ≡ true) × (b ≡ true)
+both true b e = (refl, e)
+both false b e = absurd (false≢true e)
+
+module _ (f : ℕ → Bracket (Unit {0})) where
+  rising-least : (n k q : ℕ) → rising q (tabled f k n) ≡ true → (i : ℕ) → k ≤ i → i < k + n → q ≤ rank (f i)
+  unfolding rising tabled
+  rising-least zero k q e i h l = absurd (omega arith)
+  rising-least (suc n) k q e i h l =
+      let p = both (leb q (rank (f k))) _ e in
+      let a : q ≤ rank (f k) = leb-true _ _ (p .0) in
+      by-test (leb (k + 1) i)
+      (λ t. le-trans a (rising-least n (k + 1) (rank (f k)) (p .1) i (leb-true _ _ t) (omega arith)))
+      (λ t. let g : k ≡ i = omega (arith, leb-false (k + 1) i t) in rw g at a)
+
+  rising-sorted : (n k q : ℕ) → rising q (tabled f k n) ≡ true → (i j : ℕ) → k ≤ i → i ≤ j → j < k + n → rank (f i) ≤ rank (f j)
+  unfolding rising tabled
+  rising-sorted zero k q e i j h g l = absurd (omega arith)
+  rising-sorted (suc n) k q e i j h g l =
+      let p = both (leb q (rank (f k))) _ e in
+      by-test (leb (k + 1) i)
+      (λ t. rising-sorted n (k + 1) (rank (f k)) (p .1) i j (leb-true _ _ t) g (omega arith))
+      (λ t.
+      let u : k ≡ i = omega (arith, leb-false (k + 1) i t) in
+      by-test (leb (k + 1) j)
+      (λ s. let a = rising-least n (k + 1) (rank (f k)) (p .1) j (leb-true _ _ s) (omega arith) in rw u at a)
+      (λ s. let v : i ≡ j = omega (arith, leb-false (k + 1) j s) in rw v (le-refl (rank (f j)))))
+
+pub ready : (bs : List ℕ) (ns : List ℤ) → Bounds bs ns → Ordered (tablesIn bs ns) → Ready bs ns
+unfolding orderedb tablesIn
+ready bs ns b o =
+    record {
+      bounds = b;
+      sorted = λ i k h l.
+          let a = rising-sorted (bracketIn bs ns) (byteAt bs 1) 0 0 o i k (omega arith) h (omega arith) in
+          rw (rank-is bs ns i, rank-is bs ns k) at a;
+    }

@@ -1,0 +1,49 @@
+-- Laws of `Walks`: bytes before, behind and between walks over the brackets. Assumes nothing.
+use mathlib.Core.Path.{_≡_}
+use mathlib.Core.List.{List, _++_}
+use Prim.Native.Nat.{ℕ, _+_, _≤_, _<_}
+use native.Mathlib.Omega.{arith}
+use Rattle.scope.specs.Tables.{byteAt}
+use Rattle.writer.specs.Written.{Puts}
+use Rattle.writer.specs.Ranks.{rankIn, Walks}
+use Rattle.writer.proofs.Storing.{puts-of, puts-within, puts-join}
+
+module _ {bs : List ℕ} where
+  pub walks-still :
+      {n from q : ℕ} {o : List ℕ} {at : ℕ} {t left : List ℕ} {place : ℕ} → Puts n o at t left place → from ≤ byteAt bs 1
+      → ((i : ℕ) → i < from → rankIn bs i < q) → Walks bs n from q o at t left place from
+  walks-still p h b = record { puts = puts-within (omega arith) p; forth = omega arith; within = h; below = b }
+
+  pub walks-of :
+      {n from q : ℕ} {o : List ℕ} {at : ℕ} {s t left : List ℕ} {place next : ℕ} → s ≡ t → Walks bs n from q o at s left place next
+      → Walks bs n from q o at t left place next
+  walks-of e w = record { puts = puts-of e (w .puts); forth = w .forth; within = w .within; below = w .below }
+
+  module _ {m n : ℕ} (k : ℕ) (fits : m + n ≤ k) {from : ℕ} {o : List ℕ} {at : ℕ} {s p : List ℕ} {e : ℕ} where
+    pub walks-after :
+        {q : ℕ} {t left : List ℕ} {place next : ℕ} → Puts m o at s p e → Walks bs n from q p e t left place next
+        → Walks bs k from q o at (s ++ t) left place next
+    walks-after a w = record { puts = puts-within (omega arith) (puts-join a (w .puts)); forth = w .forth; within = w .within; below = w .below }
+
+    pub walks-then :
+        {q mid r : ℕ} {t left : List ℕ} {place next : ℕ} → Walks bs m from q o at s p e mid → Walks bs n mid r p e t left place next
+        → Walks bs k from r o at (s ++ t) left place next
+    walks-then v w =
+        record {
+          puts = puts-within (omega (arith, v .forth, w .forth)) (puts-join (v .puts) (w .puts));
+          forth = omega (arith, v .forth, w .forth);
+          within = w .within;
+          below = w .below;
+        }
+
+    pub walks-before :
+        {q next : ℕ} {t left : List ℕ} {place : ℕ} → Walks bs m from q o at s p e next → Puts n p e t left place
+        → Walks bs k from q o at (s ++ t) left place next
+    walks-before v a =
+        record { puts = puts-within (omega arith) (puts-join (v .puts) a); forth = v .forth; within = v .within; below = v .below }
+
+  pub walks-up :
+      {m k from q r : ℕ} {o : List ℕ} {at : ℕ} {t left : List ℕ} {place next : ℕ} → m ≤ k → q ≤ r → Walks bs m from q o at t left place next
+      → Walks bs k from r o at t left place next
+  walks-up h g w =
+      record { puts = puts-within (omega arith) (w .puts); forth = w .forth; within = w .within; below = λ i l. omega (arith, w .below i l) }

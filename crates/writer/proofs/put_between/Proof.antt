@@ -1,0 +1,33 @@
+use Rattle.scope.specs.Tables.{bracketIn}
+use Rattle.writer.proofs.Storing.{puts-join}
+use borrow.Author.Needs.{needs}
+use Rattle.writer.proofs.put_between.Statement.{statement}
+use Rattle.writer.proofs.put_between.Tie as tie
+use Rattle.writer.proofs.put_between.Reads as reads
+use Rattle.writer.proofs.put_between.Lts as lts
+use Rattle.writer.proofs.put.Reads as put-reads
+use Rattle.writer.proofs.put_parts.Reads as put-parts-reads
+
+put-requires : tie.Need-put-requires
+put-requires c κs = search needs
+
+put-parts-requires : tie.Need-put-parts-requires
+put-parts-requires c κs = search needs
+
+put-requires-2 : tie.Need-put-requires-2
+put-requires-2 c κs = search needs
+
+same-length : tie.Need-same-length
+same-length c = search needs
+
+returns : tie.Need-returns
+unfolding bracketIn
+returns c =
+    let p = c .before .before in
+    let v = p .before .before .before .before in
+    let q = v .before .before .before .before in
+    puts-join (q .put .ensures) (puts-join (v .put-parts .ensures) (p .put2 .ensures))
+
+pub put-between-spec : {M : Type 1} → statement M
+put-between-spec =
+    tie.close (tie.spec put-requires put-parts-requires put-requires-2 same-length returns)

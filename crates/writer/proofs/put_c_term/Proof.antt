@@ -1,0 +1,69 @@
+use native.Mathlib.Omega.{arith}
+use Rattle.writer.proofs.Storing.{puts-none, puts-of, puts-within, puts-join}
+use Rattle.writer.proofs.LineLaws.{c-term-none, c-term-below, c-term-some}
+use borrow.Author.Needs.{needs}
+use Rattle.writer.proofs.put_c_term.Statement.{statement}
+use Rattle.writer.proofs.put_c_term.Tie as tie
+use Rattle.writer.proofs.put_c_term.Reads as reads
+use Rattle.writer.proofs.put_c_term.Lts as lts
+use Rattle.areas.proofs.brackets.Reads as brackets-reads
+use Rattle.writer.proofs.put.Reads as put-reads
+use Rattle.writer.proofs.put_run.Reads as put-run-reads
+use Rattle.writer.proofs.rank_at.Reads as rank-at-reads
+
+brackets-requires : tie.Need-brackets-requires
+brackets-requires c κs = search needs
+
+returns : tie.Need-returns
+returns c =
+    let a = c .before .before .before .before .args in
+    puts-of (c-term-none (a .bytes .now) (a .numbers .now) (c .before .brackets .ensures .0) (c .if1 .taken)) (puts-within (omega arith) (puts-none _ _))
+
+sub-rank-at : tie.Need-sub-rank-at
+sub-rank-at c = search needs
+
+rank-at-requires : tie.Need-rank-at-requires
+rank-at-requires c κs = search needs
+
+returns-2 : tie.Need-returns-2
+returns-2 c =
+    let i = c .before .before in
+    let s = i .before .before .before .before in
+    puts-of (c-term-below (s .args .bytes .now) (s .args .numbers .now) (i .before .brackets .ensures .0) (s .pre .0) (i .if1 .left) (c .before .rank-at .ensures .0) (c .if2 .taken))
+    (puts-within (omega arith) (puts-none _ _))
+
+put-requires : tie.Need-put-requires
+put-requires c κs = search needs
+
+put-run-requires : tie.Need-put-run-requires
+put-run-requires c κs = search needs
+
+same-length : tie.Need-same-length
+same-length c = search needs
+
+returns-3 : tie.Need-returns-3
+returns-3 c =
+    let w = c .before .before in
+    let p = w .before .before .before .before in
+    let e = p .before .before in
+    let i = e .before .before in
+    let s = i .before .before .before .before in
+    let v = w .put-run .ensures in
+    puts-of
+    (c-term-some (s .args .bytes .now) (s .args .numbers .now) (i .before .brackets .ensures .0) (s .pre .0) (i .if1 .left) (e .before .rank-at .ensures .0)
+    (e .before .rank-at .ensures .1) (e .if2 .left))
+    (puts-within (omega (arith, v .within, s .pre .0 .bounds .few-brackets)) (puts-join (p .put .ensures) (v .puts)))
+
+pub put-c-term-spec : {M : Type 1} → statement M
+put-c-term-spec =
+    tie.close
+    (tie.spec
+    brackets-requires
+    returns
+    sub-rank-at
+    rank-at-requires
+    returns-2
+    put-requires
+    put-run-requires
+    same-length
+    returns-3)

@@ -1,0 +1,33 @@
+use Rattle.writer.proofs.LineLaws.{walks-open, walks-closed}
+use borrow.Author.Needs.{needs}
+use Rattle.writer.proofs.put_closed.Statement.{statement}
+use Rattle.writer.proofs.put_closed.Tie as tie
+use Rattle.writer.proofs.put_closed.Reads as reads
+use Rattle.writer.proofs.put_closed.Lts as lts
+use Rattle.writer.proofs.put.Reads as put-reads
+use Rattle.writer.proofs.put_run.Reads as put-run-reads
+
+put-run-requires : tie.Need-put-run-requires
+put-run-requires c κs = search needs
+
+same-length : tie.Need-same-length
+same-length c = search needs
+
+returns : tie.Need-returns
+returns c = walks-open _ (c .before .before .before .put-run .ensures) (c .if1 .taken)
+
+put-requires : tie.Need-put-requires
+put-requires c κs = search needs
+
+same-length-2 : tie.Need-same-length-2
+same-length-2 c = search needs
+
+returns-2 : tie.Need-returns-2
+returns-2 c =
+    let p = c .before .before in
+    let i = p .before .before in
+    walks-closed _ (i .before .before .before .put-run .ensures) (i .if1 .left) (p .put .ensures)
+
+pub put-closed-spec : {M : Type 1} → statement M
+put-closed-spec =
+    tie.close (tie.spec put-run-requires same-length returns put-requires same-length-2 returns-2)

@@ -1,0 +1,32 @@
+use native.Mathlib.Omega.{arith}
+use Rattle.writer.proofs.Storing.{puts-none, puts-of, puts-within, puts-join}
+use Rattle.writer.proofs.Digits.{count-one, count-more}
+use borrow.Author.Needs.{needs}
+use Rattle.writer.proofs.put_count.Statement.{statement}
+use Rattle.writer.proofs.put_count.Tie as tie
+use Rattle.writer.proofs.put_count.Reads as reads
+use Rattle.writer.proofs.put_count.Lts as lts
+use Rattle.writer.proofs.put.Reads as put-reads
+use Rattle.writer.proofs.put_decimal.Reads as put-decimal-reads
+
+returns : tie.Need-returns
+returns c = puts-of (count-one _ (c .if1 .taken)) (puts-within (omega arith) (puts-none _ _))
+
+put-requires : tie.Need-put-requires
+put-requires c κs = search needs
+
+put-decimal-requires : tie.Need-put-decimal-requires
+put-decimal-requires c κs = search needs
+
+same-length : tie.Need-same-length
+same-length c = search needs
+
+returns-2 : tie.Need-returns-2
+returns-2 c =
+    let p = c .before .before in
+    let q = p .before .before .before .before in
+    puts-of (count-more _ (q .before .before .if1 .left)) (puts-within (omega arith) (puts-join (q .put .ensures) (p .put-decimal .ensures)))
+
+pub put-count-spec : {M : Type 1} → statement M
+put-count-spec =
+    tie.close (tie.spec returns put-requires put-decimal-requires same-length returns-2)

@@ -1,0 +1,32 @@
+use native.Mathlib.Omega.{arith}
+use Rattle.writer.proofs.Storing.{puts-none, puts-of, puts-within, puts-join}
+use Rattle.writer.proofs.Digits.{decimals-none, decimals-some}
+use borrow.Author.Needs.{needs}
+use Rattle.writer.proofs.put_decimals.Statement.{statement}
+use Rattle.writer.proofs.put_decimals.Tie as tie
+use Rattle.writer.proofs.put_decimals.Reads as reads
+use Rattle.writer.proofs.put_decimals.Lts as lts
+use Rattle.writer.proofs.last_digits.Reads as last-digits-reads
+use Rattle.writer.proofs.put.Reads as put-reads
+
+returns : tie.Need-returns
+returns c = puts-of (decimals-none _ _ (c .if1 .taken)) (puts-within (omega arith) (puts-none _ _))
+
+put-requires : tie.Need-put-requires
+put-requires c κs = search needs
+
+last-digits-requires : tie.Need-last-digits-requires
+last-digits-requires c κs = search needs
+
+same-length : tie.Need-same-length
+same-length c = search needs
+
+returns-2 : tie.Need-returns-2
+returns-2 c =
+    let p = c .before .before in
+    let q = p .before .before .before .before in
+    puts-of (decimals-some _ _ (q .before .before .if1 .left)) (puts-within (omega arith) (puts-join (q .put .ensures) (p .last-digits .ensures)))
+
+pub put-decimals-spec : {M : Type 1} → statement M
+put-decimals-spec =
+    tie.close (tie.spec returns put-requires last-digits-requires same-length returns-2)

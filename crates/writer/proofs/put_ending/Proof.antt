@@ -1,0 +1,85 @@
+use native.Mathlib.Omega.{arith}
+use Rattle.writer.proofs.Storing.{puts-none, puts-within}
+use Rattle.writer.proofs.Walking.{walks-of, walks-still}
+use Rattle.writer.proofs.LineLaws.{ending-of, ending-other}
+use borrow.Author.Needs.{needs}
+use Rattle.writer.proofs.put_ending.Statement.{statement}
+use Rattle.writer.proofs.put_ending.Tie as tie
+use Rattle.writer.proofs.put_ending.Reads as reads
+use Rattle.writer.proofs.put_ending.Lts as lts
+use Rattle.writer.proofs.put.Reads as put-reads
+use Rattle.writer.proofs.put_range_end.Reads as put-range-end-reads
+
+put-range-end-requires : tie.Need-put-range-end-requires
+put-range-end-requires c κs = search needs
+
+same-length : tie.Need-same-length
+same-length c = search needs
+
+returns : tie.Need-returns
+returns c =
+    let p = c .before .before in
+    walks-of (ending-of _ 1 _ (p .before .before .if1 .taken)) (p .put-range-end .ensures)
+
+put-range-end-requires-2 : tie.Need-put-range-end-requires-2
+put-range-end-requires-2 c κs = search needs
+
+same-length-2 : tie.Need-same-length-2
+same-length-2 c = search needs
+
+returns-2 : tie.Need-returns-2
+returns-2 c =
+    let p = c .before .before in
+    walks-of (ending-of _ 2 _ (p .before .before .if2 .taken)) (p .put-range-end2 .ensures)
+
+put-requires : tie.Need-put-requires
+put-requires c κs = search needs
+
+same-length-3 : tie.Need-same-length-3
+same-length-3 c = search needs
+
+returns-3 : tie.Need-returns-3
+returns-3 c =
+    let p = c .before .before in
+    let i = p .before .before in
+    let s = i .before .before .before .before .before in
+    walks-of (ending-of _ 3 _ (i .if3 .taken)) (walks-still (p .put .ensures) (s .pre .1) (λ k l. omega (arith, s .pre .2 k l)))
+
+put-requires-2 : tie.Need-put-requires-2
+put-requires-2 c κs = search needs
+
+same-length-4 : tie.Need-same-length-4
+same-length-4 c = search needs
+
+returns-4 : tie.Need-returns-4
+returns-4 c =
+    let p = c .before .before in
+    let i = p .before .before in
+    let s = i .before .before .before .before .before .before in
+    walks-of (ending-of _ 4 _ (i .if4 .taken)) (walks-still (p .put2 .ensures) (s .pre .1) (λ k l. omega (arith, s .pre .2 k l)))
+
+returns-5 : tie.Need-returns-5
+returns-5 c =
+    let e = c .before in
+    let d = e .before in
+    let s = d .before .before .before .before in
+    walks-of (ending-other _ _ (d .before .if1 .left) (d .if2 .left) (e .if3 .left) (c .if4 .left))
+    (walks-still (puts-within (omega arith) (puts-none _ _)) (s .pre .1) (λ k l. omega (arith, s .pre .2 k l)))
+
+pub put-ending-spec : {M : Type 1} → statement M
+put-ending-spec =
+    tie.close
+    (tie.spec
+    put-range-end-requires
+    same-length
+    returns
+    put-range-end-requires-2
+    same-length-2
+    returns-2
+    put-requires
+    same-length-3
+    returns-3
+    put-requires-2
+    same-length-4
+    returns-4
+    returns-5)

@@ -1,0 +1,48 @@
+use native.Mathlib.Omega.{arith}
+use Rattle.writer.proofs.Storing.{puts-of, puts-join, puts-within}
+use Rattle.writer.proofs.PartTexts.{next-first, next-later}
+use borrow.Author.Needs.{needs}
+use Rattle.writer.proofs.put_next_part.Statement.{statement}
+use Rattle.writer.proofs.put_next_part.Tie as tie
+use Rattle.writer.proofs.put_next_part.Reads as reads
+use Rattle.writer.proofs.put_next_part.Lts as lts
+use Rattle.writer.proofs.put.Reads as put-reads
+use Rattle.writer.proofs.put_part.Reads as put-part-reads
+
+put-part-requires : tie.Need-put-part-requires
+put-part-requires c κs = search needs
+
+same-length : tie.Need-same-length
+same-length c = search needs
+
+returns : tie.Need-returns
+returns c =
+    let p = c .before .before in
+    puts-of (next-first _ _ (p .before .before .if1 .taken)) (puts-within (omega arith) (p .put-part .ensures))
+
+put-requires : tie.Need-put-requires
+put-requires c κs = search needs
+
+put-part-requires-2 : tie.Need-put-part-requires-2
+put-part-requires-2 c κs = search needs
+
+same-length-2 : tie.Need-same-length-2
+same-length-2 c = search needs
+
+returns-2 : tie.Need-returns-2
+returns-2 c =
+    let p = c .before .before in
+    let q = p .before .before .before .before in
+    puts-of (next-later _ _ (q .before .before .if1 .left)) (puts-join (q .put .ensures) (p .put-part2 .ensures))
+
+pub put-next-part-spec : {M : Type 1} → statement M
+put-next-part-spec =
+    tie.close
+    (tie.spec
+    put-part-requires
+    same-length
+    returns
+    put-requires
+    put-part-requires-2
+    same-length-2
+    returns-2)

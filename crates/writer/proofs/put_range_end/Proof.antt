@@ -1,0 +1,34 @@
+use native.Mathlib.Omega.{arith}
+use Rattle.writer.proofs.Walking.{walks-after, walks-up}
+use borrow.Author.Needs.{needs}
+use Rattle.writer.proofs.put_range_end.Statement.{statement}
+use Rattle.writer.proofs.put_range_end.Tie as tie
+use Rattle.writer.proofs.put_range_end.Reads as reads
+use Rattle.writer.proofs.put_range_end.Lts as lts
+use Rattle.writer.proofs.put.Reads as put-reads
+use Rattle.writer.proofs.put_run.Reads as put-run-reads
+
+put-requires : tie.Need-put-requires
+put-requires c κs = search needs
+
+mul-put-run : tie.Need-mul-put-run
+mul-put-run c = search needs
+
+add-put-run : tie.Need-add-put-run
+add-put-run c = search needs
+
+put-run-requires : tie.Need-put-run-requires
+put-run-requires c κs = search needs
+
+same-length : tie.Need-same-length
+same-length c = search needs
+
+returns : tie.Need-returns
+returns c =
+    let p = c .before .before in
+    let q = p .before .before .before .before in
+    walks-up (omega arith) (omega arith) (walks-after 1 (omega arith) (q .put .ensures) (p .put-run .ensures))
+
+pub put-range-end-spec : {M : Type 1} → statement M
+put-range-end-spec =
+    tie.close (tie.spec put-requires mul-put-run add-put-run put-run-requires same-length returns)

@@ -1,0 +1,30 @@
+use native.Mathlib.Omega.{arith}
+use Rattle.writer.proofs.Storing.{puts-of, puts-within, puts-none}
+use Rattle.writer.proofs.RunLaws.{ranked-yes, ranked-no}
+use borrow.Author.Needs.{needs}
+use Rattle.writer.proofs.put_ranked.Statement.{statement}
+use Rattle.writer.proofs.put_ranked.Tie as tie
+use Rattle.writer.proofs.put_ranked.Reads as reads
+use Rattle.writer.proofs.put_ranked.Lts as lts
+use Rattle.writer.proofs.put_bracket.Reads as put-bracket-reads
+
+put-bracket-requires : tie.Need-put-bracket-requires
+put-bracket-requires c κs = search needs
+
+same-length : tie.Need-same-length
+same-length c = search needs
+
+returns : tie.Need-returns
+returns c =
+    let p = c .before .before in
+    let i = p .before .before in
+    let a = i .before .before .before .args in
+    puts-of (ranked-yes (a .bytes .now) (a .numbers .now) (a .k) (a .shape) (i .before .before .before .pre .1) (i .if1 .taken)) (p .put-bracket .ensures)
+
+returns-2 : tie.Need-returns-2
+returns-2 c =
+    let a = c .before .before .before .args in
+    puts-of (ranked-no (a .bytes .now) (a .numbers .now) (a .k) (a .shape) (c .before .before .before .pre .1) (c .if1 .left)) (puts-within (omega arith) (puts-none _ _))
+
+pub put-ranked-spec : {M : Type 1} → statement M
+put-ranked-spec = tie.close (tie.spec put-bracket-requires same-length returns returns-2)

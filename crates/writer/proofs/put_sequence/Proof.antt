@@ -1,0 +1,72 @@
+use borrow.Author.Needs.{needs}
+use Prim.Native.Nat.{_-_}
+use native.Mathlib.Omega.{arith}
+use Rattle.writer.proofs.Storing.{puts-none, puts-length}
+use Rattle.writer.proofs.Walking.{walks-still}
+use Rattle.writer.proofs.LineLaws.{Spelt, spelt-start, spelt-more, spelt-over}
+use Rattle.writer.proofs.put_sequence.Statement.{statement}
+use Rattle.writer.proofs.put_sequence.Tie as tie
+use Rattle.writer.proofs.put_sequence.Reads as reads
+use Rattle.writer.proofs.put_sequence.Lts as lts
+use Rattle.areas.proofs.residues.Reads as residues-reads
+use Rattle.writer.proofs.put_residue.Reads as put-residue-reads
+
+abbrev Inv-loop : tie.InvT-loop
+Inv-loop bytes numbers from out₀ at n p₀ a₀ j₀ out p a j = Spelt bytes numbers n from out₀ at out p j a
+
+abbrev μ-loop : tie.MeasureT-loop
+μ-loop bytes numbers from out₀ at n p₀ a₀ j₀ out p a j = n - p
+
+residues-requires : tie.Need-residues-requires Inv-loop μ-loop
+residues-requires c κs = c .before .before .pre .0 .bounds .bytes-room
+
+loop-holds : tie.Need-loop-holds Inv-loop μ-loop
+loop-holds c =
+    let s = c .before .before .before in
+    spelt-start _ _ _ _ _ _ (walks-still (puts-none _ _) (s .pre .1) (s .pre .2))
+
+put-residue-requires : tie.Need-put-residue-requires Inv-loop μ-loop
+put-residue-requires c κs =
+    let l = c .before .before in
+    let r = l .before in
+    let s = r .before .before .before in
+    let b = s .pre .0 .bounds in
+    let w = l .loop .inv .walks in
+    (s .pre .0, w .within, w .below, omega (arith, w .puts .near, w .within, b .few-brackets, b .few-residues, r .residues .ensures .0), r .residues .ensures .0, c .before .loop-test .taken)
+
+add-p : tie.Need-add-p Inv-loop μ-loop
+add-p c = search needs
+
+loop-less : tie.Need-loop-less Inv-loop μ-loop
+loop-less c = search needs
+
+loop-again : tie.Need-loop-again Inv-loop μ-loop
+loop-again c =
+    let p = c .before .before in
+    let l = p .before .before in
+    spelt-more _ _ _ _ _ _ (l .before .loop .inv) (l .loop-test .taken) (p .put-residue .ensures)
+
+same-length : tie.Need-same-length Inv-loop μ-loop
+same-length c = puts-length (c .before .loop .inv .walks .puts)
+
+returns : tie.Need-returns Inv-loop μ-loop
+returns c =
+    let r = c .before .before in
+    let b = r .before .before .before .pre .0 .bounds in
+    let e = r .residues .ensures .0 in
+    spelt-over _ _ _ _ _ _ (c .before .loop .inv) (c .loop-test .left) e (omega (arith, b .few-residues, e))
+
+pub put-sequence-spec : {M : Type 1} → statement M
+put-sequence-spec =
+    tie.close
+    (tie.spec
+    Inv-loop
+    μ-loop
+    residues-requires
+    loop-holds
+    put-residue-requires
+    add-p
+    loop-less
+    loop-again
+    same-length
+    returns)

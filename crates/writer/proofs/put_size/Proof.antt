@@ -1,0 +1,43 @@
+use native.Mathlib.Omega.{arith}
+use Rattle.writer.proofs.Storing.{puts-of, puts-join}
+use Rattle.writer.proofs.Digits.{power-positive, quotient-small, size-text}
+use borrow.Author.Needs.{needs}
+use Rattle.writer.proofs.put_size.Statement.{statement}
+use Rattle.writer.proofs.put_size.Tie as tie
+use Rattle.writer.proofs.put_size.Reads as reads
+use Rattle.writer.proofs.put_size.Lts as lts
+use Rattle.writer.proofs.power.Reads as power-reads
+use Rattle.writer.proofs.put_decimal.Reads as put-decimal-reads
+use Rattle.writer.proofs.put_decimals.Reads as put-decimals-reads
+
+power-requires : tie.Need-power-requires
+power-requires c κs = search needs
+
+div-put-decimal : tie.Need-div-put-decimal
+div-put-decimal c = rw (c .power .ensures) (power-positive _)
+
+put-decimal-requires : tie.Need-put-decimal-requires
+put-decimal-requires c κs = (quotient-small _ _ (c .before .before .before .pre .0), omega arith)
+
+put-decimals-requires : tie.Need-put-decimals-requires
+put-decimals-requires c κs = search needs
+
+same-length : tie.Need-same-length
+same-length c = search needs
+
+returns : tie.Need-returns
+returns c =
+    let p = c .before .before in
+    let q = p .before .before .before .before in
+    puts-of (size-text (q .before .before .before .before .args .minus) _ _ _ (q .before .before .power .ensures)) (puts-join (q .put-decimal .ensures) (p .put-decimals .ensures))
+
+pub put-size-spec : {M : Type 1} → statement M
+put-size-spec =
+    tie.close
+    (tie.spec
+    power-requires
+    div-put-decimal
+    put-decimal-requires
+    put-decimals-requires
+    same-length
+    returns)

@@ -1,0 +1,55 @@
+-- "A line has this order": where a bracket of each kind stands in it, as a number. The brackets of a line's tables do not fall in it.
+use mathlib.Core.Path.{_≡_}
+use mathlib.Core.Bool.{Bool, true, cond, _&&_}
+use mathlib.Core.List.{List, [], _∷_, _++_}
+use Prim.Native.Nat.{ℕ, _+_, _-_, _*_, _≤_, _<_}
+use lib.Dec.{leb, eqb}
+use lib.IntN.{ℤ}
+use Rattle.scope.specs.declared.grammar.Kind.{Kind}
+use Rattle.scope.specs.declared.grammar.Kind.the-variants.{Unknown, Labile, NTerm, OnResidue, OnRange, CTerm}
+use Rattle.scope.specs.Line.{Bracket, Residue, Line}
+use Rattle.scope.specs.Modifications.{keep, flat}
+use Rattle.scope.specs.Canonical.{unknownText, curlyText, squareText, endingAt, opening, ending, goesOn}
+use Rattle.scope.specs.Tables.{byteAt, rowAt, kindIn}
+use Rattle.areas.specs.Bounds.{Bounds}
+use Rattle.writer.specs.Written.{Puts}
+pub use Rattle.order_laws.specs.Ranks.{rankOf, rank, Ordered}
+unfoldable pub use Rattle.order_laws.specs.Ranks.{rising, orderedb}
+
+-- ---- the same in the areas
+abbrev pub rankIn : List ℕ → ℕ → ℕ
+rankIn bs k = rankOf (kindIn (byteAt bs (rowAt k))) (byteAt bs (rowAt k + 2))
+
+-- tables within bounds whose brackets are in order
+pub record Ready (bs : List ℕ) (ns : List ℤ) : Type 0 where
+  pub bounds : Bounds bs ns
+  pub sorted : (i k : ℕ) → i ≤ k → k < byteAt bs 1 → rankIn bs i ≤ rankIn bs k
+
+-- ---- runs of brackets
+-- how a bracket is written: 0 of unknown position, 1 labile, 2 any other
+abbrev pub textAs : {P : Type 0} → ℕ → Bracket P → List ℕ
+textAs shape k = cond (eqb shape 0) (unknownText k) (cond (eqb shape 1) (curlyText k) (squareText k))
+
+-- a bracket, where it has the rank that is asked for
+abbrev pub rankedText : {P : Type 0} → ℕ → ℕ → Bracket P → List ℕ
+rankedText shape q k = cond (eqb (rank k) q) (textAs shape k) []
+
+-- those of a rank
+abbrev pub runText : {P : Type 0} → ℕ → ℕ → List (Bracket P) → List ℕ
+runText shape q ks = flat (textAs shape) (keep (λ k. eqb (rank k) q) ks)
+
+-- a step from bracket `from` to bracket `next`: the text t was put, with so many bytes outside brackets at most; every bracket before `next` has a
+-- rank below q
+pub record Walks (bs : List ℕ) (more from q : ℕ) (o : List ℕ) (at : ℕ) (t left : List ℕ) (place next : ℕ) : Type 0 where
+  pub puts : Puts (800 * (next - from) + more) o at t left place
+  pub forth : from ≤ next
+  pub within : next ≤ byteAt bs 1
+  pub below : (i : ℕ) → i < next → rankIn bs i < q
+
+-- ---- residues
+-- residue i with its section and brackets, before the residues rs
+abbrev pub residueText : {P : Type 0} → List (Bracket P) → ℕ → Residue P → List (Residue P) → List ℕ
+residueText ks i r rs =
+    opening (r .section)
+    ++ (r .letter
+    ∷ (flat squareText (endingAt OnResidue i ks) ++ cond (goesOn rs) [] (ending (r .section) (flat squareText (endingAt OnRange i ks)))))

@@ -1,0 +1,716 @@
+// Writes the canonical line of the tables in the areas.
+use scope::tables::Tables;
+ghost use mathlib.Core.Path.{_≡_};
+ghost use mathlib.Core.List.{List, [], _∷_, _++_};
+ghost use Prim.Native.Nat.{ℕ, _+_, _-_, _*_, _/_, _^_, _<_, _≤_};
+ghost use lib.IntN.{ℤ, natAbs, pos};
+ghost use lib.ListN.{length, getD};
+ghost use Rattle.scope.specs.Bytes.{dash, shutRound};
+ghost use Rattle.scope.specs.Canonical.{decimalUpTo, decimal, lastDigits, decimals, size, countText, valueText, labelText, partText, partsText, opening, ending, isNext, goesOn, sequenceText, closedBy, ledBy, canonical};
+ghost use Rattle.scope.specs.Content.{given};
+ghost use Rattle.scope.specs.Keys.{written, keyIn};
+ghost use Rattle.scope.specs.Limits.{decimalLimit, residueLimit, bracketLimit, partLimit};
+ghost use Rattle.scope.specs.Tables.{part, isNegative, bytesSize, textsAt, textFrom, partAt, numbersSize, numberRowSize, scoreIn, labelIn, valueIn, partIn, tabled, byteAt, rowAt, kindIn, sectionIn, lettersAt, sectionsAt, residueIn, bracketIn, tablesIn};
+ghost use Rattle.areas.specs.Bounds.{Small, Bounds};
+ghost use Rattle.writer.specs.Written.{Puts, ceiling, numberOf, signText, numberText, scoredText, nextText, WholeLine};
+ghost use Rattle.writer.specs.Here.{BracketHere, PartHere};
+ghost use Rattle.writer.specs.Ranks.{rankOf, rankIn, orderedb, Ready, textAs, rankedText, runText, Walks, residueText, Ordered};
+
+// One byte at a place: stored where there is room, and counted.
+fn put(out: &mut [u8], at: usize, b: u8) -> usize
+    requires { ⌜ at + 1 ≤ ceiling ⌝ }
+    ensures { λ r. ⌜ Puts 1 (now (out .entry)) at (b ∷ []) (now (out .exit)) r ⌝ }
+{
+    if at < out.len() {
+        out[at] = b;
+        return at + 1;
+    }
+    at + 1
+}
+
+// A run of bytes of an area.
+fn copy(from: &[u8], start: usize, n: usize, out: &mut [u8], at: usize) -> usize
+    requires { ⌜ (start + n ≤ length (now from)) × (at + n ≤ ceiling) ⌝ }
+    ensures { λ r. ⌜ Puts n (now (out .entry)) at (part start n (now (from .entry))) (now (out .exit)) r ⌝ }
+{
+    let mut i = 0;
+    let mut a = at;
+    while i < n {
+        a = put(out, a, from[start + i]);
+        i += 1;
+    }
+    a
+}
+
+// A fixed byte string.
+fn word(w: &[u8], out: &mut [u8], at: usize) -> usize
+    requires { ⌜ (length (now w) ≤ 16) × (at + 16 ≤ ceiling) ⌝ }
+    ensures { λ r. ⌜ Puts 16 (now (out .entry)) at (now (w .entry)) (now (out .exit)) r ⌝ }
+{
+    copy(w, 0, w.len(), out, at)
+}
+
+fn digit(n: u64) -> u8
+    requires { ⌜ n < 10 ⌝ }
+    ensures { λ r. ⌜ r ≡ 48 + n ⌝ }
+{
+    48 + n as u8
+}
+
+fn put_digit(n: u64, out: &mut [u8], at: usize) -> usize
+    requires { ⌜ (n < 10) × (at + 1 ≤ ceiling) ⌝ }
+    ensures { λ r. ⌜ Puts 1 (now (out .entry)) at ((48 + n) ∷ []) (now (out .exit)) r ⌝ }
+{
+    put(out, at, digit(n))
+}
+
+// The digits of n, at most k + 1 of them.
+fn decimal_up_to(k: usize, n: u64, out: &mut [u8], at: usize) -> usize
+    requires { ⌜ (n < 10 ^ (k + 1)) × (at + k + 1 ≤ ceiling) ⌝ }
+    ensures { λ r. ⌜ Puts (k + 1) (now (out .entry)) at (decimalUpTo k n) (now (out .exit)) r ⌝ }
+{
+    if k == 0 {
+        return put_digit(n, out, at);
+    }
+    if n < 10 {
+        return put_digit(n, out, at);
+    }
+    let a = decimal_up_to(k - 1, n / 10, out, at);
+    put_digit(n % 10, out, a)
+}
+
+// The last d digits of n.
+fn last_digits(d: usize, n: u64, out: &mut [u8], at: usize) -> usize
+    requires { ⌜ at + d ≤ ceiling ⌝ }
+    ensures { λ r. ⌜ Puts d (now (out .entry)) at (lastDigits d n) (now (out .exit)) r ⌝ }
+{
+    if d == 0 {
+        return at;
+    }
+    let a = last_digits(d - 1, n / 10, out, at);
+    put_digit(n % 10, out, a)
+}
+
+// ---- numbers
+
+// 10^d, for as many decimals as there may be.
+fn power(d: usize) -> u64
+    requires { ⌜ d ≤ decimalLimit ⌝ }
+    ensures { λ r. ⌜ r ≡ 10 ^ d ⌝ }
+{
+    match d {
+        0 => 1,
+        1 => 10,
+        2 => 100,
+        3 => 1000,
+        4 => 10000,
+        5 => 100000,
+        _ => 1000000,
+    }
+}
+
+// The size of a number in millionths.
+fn magnitude(m: i64) -> u64
+    requires { ⌜ Small m ⌝ }
+    ensures { λ r. ⌜ r ≡ natAbs m ⌝ }
+{
+    if m < 0 {
+        return (0 - m) as u64;
+    }
+    m as u64
+}
+
+// Whether number j of bracket k is negative.
+fn minus_at(numbers: &[i64], k: usize, j: usize) -> bool
+    requires { ⌜ (numbersSize ≤ length (now numbers)) × (k < bracketLimit) × (j < numberRowSize) ⌝ }
+    ensures { λ r. ⌜ r ≡ isNegative (getD (now (numbers .entry)) (k * numberRowSize + j) (pos 0)) ⌝ }
+{
+    areas::number(numbers, k, j) < 0
+}
+
+// The digits of number j of bracket k, which has d decimals.
+fn digits_at(numbers: &[i64], k: usize, j: usize, d: usize) -> u64
+    requires { ⌜ (numbersSize ≤ length (now numbers)) × (k < bracketLimit) × (j < numberRowSize) × (d ≤ decimalLimit) × Small (getD (now numbers) (k * numberRowSize + j) (pos 0)) ⌝ }
+    ensures { λ r. ⌜ (r ≡ natAbs (getD (now (numbers .entry)) (k * numberRowSize + j) (pos 0)) / 10 ^ (decimalLimit - d)) × (r < 1000000000000) ⌝ }
+{
+    magnitude(areas::number(numbers, k, j)) / power(6 - d)
+}
+
+// A number without leading zeros.
+fn put_decimal(n: u64, out: &mut [u8], at: usize) -> usize
+    requires { ⌜ (n < 1000000000000) × (at + 20 ≤ ceiling) ⌝ }
+    ensures { λ r. ⌜ Puts 20 (now (out .entry)) at (decimal n) (now (out .exit)) r ⌝ }
+{
+    decimal_up_to(19, n, out, at)
+}
+
+// The point and what stands behind it, where there are decimals.
+fn put_decimals(d: usize, n: u64, out: &mut [u8], at: usize) -> usize
+    requires { ⌜ (d ≤ decimalLimit) × (at + 7 ≤ ceiling) ⌝ }
+    ensures { λ r. ⌜ Puts 7 (now (out .entry)) at (decimals d n) (now (out .exit)) r ⌝ }
+{
+    if d == 0 {
+        return at;
+    }
+    let a = put(out, at, b'.');
+    last_digits(d, n, out, a)
+}
+
+// A number without its sign: "decimals as many as written".
+fn put_size(minus: bool, n: u64, d: usize, out: &mut [u8], at: usize) -> usize
+    requires { ⌜ (n < 1000000000000) × (d ≤ decimalLimit) × (at + 27 ≤ ceiling) ⌝ }
+    ensures { λ r. ⌜ Puts 27 (now (out .entry)) at (size (numberOf minus n d)) (now (out .exit)) r ⌝ }
+{
+    let a = put_decimal(n / power(d), out, at);
+    put_decimals(d, n, out, a)
+}
+
+// A sign: where it is always written, and else where there is a minus.
+fn put_sign(minus: bool, always: bool, out: &mut [u8], at: usize) -> usize
+    requires { ⌜ at + 1 ≤ ceiling ⌝ }
+    ensures { λ r. ⌜ Puts 1 (now (out .entry)) at (signText always minus) (now (out .exit)) r ⌝ }
+{
+    if minus {
+        return put(out, at, b'-');
+    }
+    if always {
+        return put(out, at, b'+');
+    }
+    at
+}
+
+// "masses always signed, scores signed only when negative"
+fn put_number(minus: bool, n: u64, d: usize, always: bool, out: &mut [u8], at: usize) -> usize
+    requires { ⌜ (n < 1000000000000) × (d ≤ decimalLimit) × (at + 28 ≤ ceiling) ⌝ }
+    ensures { λ r. ⌜ Puts 28 (now (out .entry)) at (numberText always (numberOf minus n d)) (now (out .exit)) r ⌝ }
+{
+    let a = put_sign(minus, always, out, at);
+    put_size(minus, n, d, out, a)
+}
+
+// "`^1` .. not kept"
+fn put_count(n: usize, out: &mut [u8], at: usize) -> usize
+    requires { ⌜ (n < 1000) × (at + 21 ≤ ceiling) ⌝ }
+    ensures { λ r. ⌜ Puts 21 (now (out .entry)) at (countText n) (now (out .exit)) r ⌝ }
+{
+    if n == 1 {
+        return at;
+    }
+    let a = put(out, at, b'^');
+    put_decimal(n as u64, out, a)
+}
+
+// ---- parts
+
+// The prefixes and key words, "written in the spelling given here".
+fn put_key(c: usize, out: &mut [u8], at: usize) -> usize
+    requires { ⌜ at + 16 ≤ ceiling ⌝ }
+    ensures { λ r. ⌜ Puts 16 (now (out .entry)) at (written (keyIn c)) (now (out .exit)) r ⌝ }
+{
+    match c {
+        0 => at,
+        1 => word(b"U:", out, at),
+        2 => word(b"M:", out, at),
+        3 => word(b"R:", out, at),
+        4 => word(b"X:", out, at),
+        5 => word(b"G:", out, at),
+        6 => word(b"C:", out, at),
+        7 => word(b"Obs:", out, at),
+        _ => put_key_word(c, out, at),
+    }
+}
+
+fn put_key_word(c: usize, out: &mut [u8], at: usize) -> usize
+    requires { ⌜ (8 ≤ c) × (at + 16 ≤ ceiling) ⌝ }
+    ensures { λ r. ⌜ Puts 16 (now (out .entry)) at (written (keyIn c)) (now (out .exit)) r ⌝ }
+{
+    match c {
+        8 => word(b"UNIMOD:", out, at),
+        9 => word(b"MOD:", out, at),
+        10 => word(b"XLMOD:", out, at),
+        11 => word(b"RESID:", out, at),
+        12 => word(b"GNO:", out, at),
+        13 => word(b"INFO:", out, at),
+        _ => put_refused_key(c, out, at),
+    }
+}
+
+// The keys that only tables of no accepted line hold.
+fn put_refused_key(c: usize, out: &mut [u8], at: usize) -> usize
+    requires { ⌜ (14 ≤ c) × (at + 16 ≤ ceiling) ⌝ }
+    ensures { λ r. ⌜ Puts 16 (now (out .entry)) at (written (keyIn c)) (now (out .exit)) r ⌝ }
+{
+    match c {
+        14 => word(b"Formula:", out, at),
+        15 => word(b"Glycan:", out, at),
+        16 => word(b"Position:", out, at),
+        17 => word(b"Limit:", out, at),
+        _ => at,
+    }
+}
+
+// Where the text of part j of bracket k begins.
+fn text_from(bytes: &[u8], k: usize, j: usize) -> usize
+    requires { ⌜ (bytesSize ≤ length (now bytes)) × (k < bracketLimit) × (j < partLimit) ⌝ }
+    ensures { λ r. ⌜ r ≡ textsAt + textFrom (now (bytes .entry)) (partAt k j) ⌝ }
+{
+    let low = areas::wide(areas::part_byte(bytes, k, j, 5));
+    let high = areas::wide(areas::part_byte(bytes, k, j, 6));
+    Tables::TEXTS + (low + 256 * high)
+}
+
+// A score in its round brackets, where there is one.
+fn put_scored(bytes: &[u8], numbers: &[i64], k: usize, out: &mut [u8], at: usize) -> usize
+    requires { ⌜ BracketHere (now bytes) (now numbers) k × (at + 30 ≤ ceiling) ⌝ }
+    ensures { λ r. ⌜ Puts 30 (now (out .entry)) at (scoredText (scoreIn (now (bytes .entry)) (now (numbers .entry)) k)) (now (out .exit)) r ⌝ }
+{
+    let c = areas::wide(areas::bracket_byte(bytes, k, 5));
+    if c == 0 {
+        return at;
+    }
+    let d = c - 1;
+    let minus = minus_at(numbers, k, 4);
+    let n = digits_at(numbers, k, 4, d);
+    let a = put(out, at, b'(');
+    let e = put_number(minus, n, d, false, out, a);
+    put(out, e, b')')
+}
+
+// `#` and the label of part j, where it has one.
+fn put_label(bytes: &[u8], numbers: &[i64], k: usize, j: usize, out: &mut [u8], at: usize) -> usize
+    requires { ⌜ PartHere (now bytes) (now numbers) k j × (at + 47 ≤ ceiling) ⌝ }
+    ensures { λ r. ⌜ Puts 47 (now (out .entry)) at (given (labelIn (now (bytes .entry)) (now (numbers .entry)) k j) labelText []) (now (out .exit)) r ⌝ }
+{
+    let n = areas::wide(areas::part_byte(bytes, k, j, 4));
+    if n == 0 {
+        return at;
+    }
+    let t = areas::wide(areas::part_byte(bytes, k, j, 3));
+    let from = text_from(bytes, k, j);
+    let a = put(out, at, b'#');
+    let e = copy(bytes, from + t, n, out, a);
+    put_scored(bytes, numbers, k, out, e)
+}
+
+// The mass or the text of part j.
+fn put_value(bytes: &[u8], numbers: &[i64], k: usize, j: usize, out: &mut [u8], at: usize) -> usize
+    requires { ⌜ PartHere (now bytes) (now numbers) k j × (at + 128 ≤ ceiling) ⌝ }
+    ensures { λ r. ⌜ Puts 128 (now (out .entry)) at (valueText (valueIn (now (bytes .entry)) (now (numbers .entry)) k j)) (now (out .exit)) r ⌝ }
+{
+    let v = areas::wide(areas::part_byte(bytes, k, j, 0));
+    if v == 1 {
+        let d = areas::wide(areas::part_byte(bytes, k, j, 2));
+        let minus = minus_at(numbers, k, j);
+        let n = digits_at(numbers, k, j, d);
+        return put_number(minus, n, d, true, out, at);
+    }
+    if v == 2 {
+        let n = areas::wide(areas::part_byte(bytes, k, j, 3));
+        let from = text_from(bytes, k, j);
+        return copy(bytes, from, n, out, at);
+    }
+    at
+}
+
+// Part j of bracket k.
+fn put_part(bytes: &[u8], numbers: &[i64], k: usize, j: usize, out: &mut [u8], at: usize) -> usize
+    requires { ⌜ PartHere (now bytes) (now numbers) k j × (at + 191 ≤ ceiling) ⌝ }
+    ensures { λ r. ⌜ Puts 191 (now (out .entry)) at (partText (partIn (now (bytes .entry)) (now (numbers .entry)) k j)) (now (out .exit)) r ⌝ }
+{
+    let c = areas::wide(areas::part_byte(bytes, k, j, 1));
+    let a = put_key(c, out, at);
+    let e = put_value(bytes, numbers, k, j, out, a);
+    put_label(bytes, numbers, k, j, out, e)
+}
+
+// Part j, behind a `|` where it is not the first.
+fn put_next_part(
+    bytes: &[u8],
+    numbers: &[i64],
+    k: usize,
+    j: usize,
+    out: &mut [u8],
+    at: usize,
+) -> usize
+    requires { ⌜ PartHere (now bytes) (now numbers) k j × (at + 192 ≤ ceiling) ⌝ }
+    ensures { λ r. ⌜ Puts 192 (now (out .entry)) at (nextText j (partIn (now (bytes .entry)) (now (numbers .entry)) k j)) (now (out .exit)) r ⌝ }
+{
+    if j == 0 {
+        return put_part(bytes, numbers, k, j, out, at);
+    }
+    let a = put(out, at, b'|');
+    put_part(bytes, numbers, k, j, out, a)
+}
+
+// ---- brackets
+
+// The parts of bracket k, split by `|`.
+fn put_parts(bytes: &[u8], numbers: &[i64], k: usize, out: &mut [u8], at: usize) -> usize
+    requires { ⌜ BracketHere (now bytes) (now numbers) k × (at + 768 ≤ ceiling) ⌝ }
+    ensures { λ r. ⌜ Puts 768 (now (out .entry)) at (partsText (tabled (partIn (now (bytes .entry)) (now (numbers .entry)) k) 0 (byteAt (now (bytes .entry)) (rowAt k + 4)))) (now (out .exit)) r ⌝ }
+{
+    let n = areas::wide(areas::bracket_byte(bytes, k, 4));
+    let mut j = 0;
+    let mut a = at;
+    while j < n {
+        a = put_next_part(bytes, numbers, k, j, out, a);
+        j += 1;
+    }
+    a
+}
+
+// Bracket k between two bytes.
+fn put_between(
+    bytes: &[u8],
+    numbers: &[i64],
+    k: usize,
+    opener: u8,
+    closer: u8,
+    out: &mut [u8],
+    at: usize,
+) -> usize
+    requires { ⌜ BracketHere (now bytes) (now numbers) k × (at + 770 ≤ ceiling) ⌝ }
+    ensures { λ r. ⌜ Puts 770 (now (out .entry)) at (opener ∷ (partsText (bracketIn (now (bytes .entry)) (now (numbers .entry)) k .parts) ++ (closer ∷ []))) (now (out .exit)) r ⌝ }
+{
+    let a = put(out, at, opener);
+    let e = put_parts(bytes, numbers, k, out, a);
+    put(out, e, closer)
+}
+
+// Bracket k, by its shape: of unknown position with its count, labile, any other.
+fn put_bracket(
+    bytes: &[u8],
+    numbers: &[i64],
+    k: usize,
+    shape: usize,
+    out: &mut [u8],
+    at: usize,
+) -> usize
+    requires { ⌜ BracketHere (now bytes) (now numbers) k × (at + 800 ≤ ceiling) ⌝ }
+    ensures { λ r. ⌜ Puts 800 (now (out .entry)) at (textAs shape (bracketIn (now (bytes .entry)) (now (numbers .entry)) k)) (now (out .exit)) r ⌝ }
+{
+    if shape == 0 {
+        let n = areas::wide(areas::bracket_byte(bytes, k, 3));
+        let a = put_between(bytes, numbers, k, b'[', b']', out, at);
+        return put_count(n, out, a);
+    }
+    if shape == 1 {
+        return put_between(bytes, numbers, k, b'{', b'}', out, at);
+    }
+    put_between(bytes, numbers, k, b'[', b']', out, at)
+}
+
+// ---- ranks
+
+// The rank of a bracket of kind c that ends at a position.
+fn rank_of(c: usize, last: usize) -> usize
+    requires { ⌜ last < 256 ⌝ }
+    ensures { λ r. ⌜ (r ≡ rankOf (kindIn c) last) × (r ≤ 2000) ⌝ }
+{
+    match c {
+        2 => 1,
+        3 => 2,
+        4 => 3 + 2 * last,
+        5 => 4 + 2 * last,
+        6 => 2000,
+        _ => 0,
+    }
+}
+
+fn rank_at(bytes: &[u8], k: usize) -> usize
+    requires { ⌜ (bytesSize ≤ length (now bytes)) × (k < bracketLimit) ⌝ }
+    ensures { λ r. ⌜ (r ≡ rankIn (now (bytes .entry)) k) × (r ≤ 2000) ⌝ }
+{
+    let c = areas::wide(areas::bracket_byte(bytes, k, 0));
+    let last = areas::wide(areas::bracket_byte(bytes, k, 2));
+    rank_of(c, last)
+}
+
+// Whether the brackets are in the order of a line.
+pub fn in_order(bytes: &[u8]) -> bool
+    requires { ⌜ (bytesSize ≤ length (now bytes)) × (byteAt (now bytes) 1 ≤ bracketLimit) ⌝ }
+    ensures { λ r. ⌜ ((ns : List ℤ) → r ≡ orderedb (tablesIn (now (bytes .entry)) ns)) ⌝ }
+{
+    let m = areas::brackets(bytes);
+    let mut k = 0;
+    let mut q = 0;
+    while k < m {
+        let r = rank_at(bytes, k);
+        if r < q {
+            return false;
+        }
+        q = r;
+        k += 1;
+    }
+    true
+}
+
+// Bracket k, where its rank r is the one that is asked for.
+fn put_ranked(
+    bytes: &[u8],
+    numbers: &[i64],
+    k: usize,
+    r: usize,
+    q: usize,
+    shape: usize,
+    out: &mut [u8],
+    at: usize,
+) -> usize
+    requires { ⌜ BracketHere (now bytes) (now numbers) k × (r ≡ rankIn (now bytes) k) × (at + 800 ≤ ceiling) ⌝ }
+    ensures { λ r. ⌜ Puts 800 (now (out .entry)) at (rankedText shape q (bracketIn (now (bytes .entry)) (now (numbers .entry)) k)) (now (out .exit)) r ⌝ }
+{
+    if r == q {
+        return put_bracket(bytes, numbers, k, shape, out, at);
+    }
+    at
+}
+
+// Where the writer stands: in the output, and among the brackets.
+pub struct Pen {
+    pub place: usize,
+    pub next: usize,
+}
+
+// The brackets of rank q, none of which stands before bracket `from`.
+fn put_run(
+    bytes: &[u8],
+    numbers: &[i64],
+    from: usize,
+    q: usize,
+    shape: usize,
+    out: &mut [u8],
+    at: usize,
+) -> Pen
+    requires { ⌜ Ready (now bytes) (now numbers) × (from ≤ byteAt (now bytes) 1) × ((i : ℕ) → i < from → rankIn (now bytes) i < q) × (at + 60000 ≤ ceiling) × (q ≤ 2000) ⌝ }
+    ensures { λ r. ⌜ Walks (now (bytes .entry)) 0 from (q + 1) (now (out .entry)) at (runText shape q (tablesIn (now (bytes .entry)) (now (numbers .entry)) .brackets)) (now (out .exit)) (r .place) (r .next) ⌝ }
+{
+    let m = areas::brackets(bytes);
+    let mut j = from;
+    let mut a = at;
+    while j < m {
+        let r = rank_at(bytes, j);
+        if q < r {
+            return Pen { place: a, next: j };
+        }
+        a = put_ranked(bytes, numbers, j, r, q, shape, out, a);
+        j += 1;
+    }
+    Pen { place: a, next: j }
+}
+
+// ---- residues
+
+fn letter_at(bytes: &[u8], p: usize) -> u8
+    requires { ⌜ (bytesSize ≤ length (now bytes)) × (p < residueLimit) ⌝ }
+    ensures { λ r. ⌜ r ≡ byteAt (now (bytes .entry)) (lettersAt + p) ⌝ }
+{
+    bytes[Tables::LETTERS + p]
+}
+
+fn section_at(bytes: &[u8], p: usize) -> usize
+    requires { ⌜ (bytesSize ≤ length (now bytes)) × (p < residueLimit) ⌝ }
+    ensures { λ r. ⌜ r ≡ byteAt (now (bytes .entry)) (sectionsAt + p) ⌝ }
+{
+    areas::wide(bytes[Tables::SECTIONS + p])
+}
+
+// `(` or `(?` before the first residue of a group.
+fn put_opening(c: usize, out: &mut [u8], at: usize) -> usize
+    requires { ⌜ at + 2 ≤ ceiling ⌝ }
+    ensures { λ r. ⌜ Puts 2 (now (out .entry)) at (opening (sectionIn c)) (now (out .exit)) r ⌝ }
+{
+    if c == 1 {
+        return put(out, at, b'(');
+    }
+    if c == 3 {
+        let a = put(out, at, b'(');
+        return put(out, a, b'?');
+    }
+    at
+}
+
+fn is_next(c: usize) -> bool
+    ensures { λ r. ⌜ r ≡ isNext (sectionIn c) ⌝ }
+{
+    if c == 2 {
+        return true;
+    }
+    if c == 4 {
+        return true;
+    }
+    false
+}
+
+// Whether the residue with index p, if there is one, goes on with the group of the one before it.
+fn goes_on(bytes: &[u8], p: usize, n: usize) -> bool
+    requires { ⌜ (bytesSize ≤ length (now bytes)) × (n ≤ residueLimit) ⌝ }
+    ensures { λ r. ⌜ r ≡ goesOn (tabled (residueIn (now (bytes .entry))) p (n - p)) ⌝ }
+{
+    if n <= p {
+        return false;
+    }
+    is_next(section_at(bytes, p))
+}
+
+// `)` and the brackets on the range that ends at position i.
+fn put_range_end(
+    bytes: &[u8],
+    numbers: &[i64],
+    i: usize,
+    from: usize,
+    out: &mut [u8],
+    at: usize,
+) -> Pen
+    requires { ⌜ Ready (now bytes) (now numbers) × (from ≤ byteAt (now bytes) 1) × ((k : ℕ) → k < from → rankIn (now bytes) k < 4 + 2 * i) × (at + 60001 ≤ ceiling) × (i ≤ residueLimit) ⌝ }
+    ensures { λ r. ⌜ Walks (now (bytes .entry)) 1 from (5 + 2 * i) (now (out .entry)) at (shutRound ∷ runText 2 (4 + 2 * i) (tablesIn (now (bytes .entry)) (now (numbers .entry)) .brackets)) (now (out .exit)) (r .place) (r .next) ⌝ }
+{
+    let a = put(out, at, b')');
+    put_run(bytes, numbers, from, 4 + 2 * i, 2, out, a)
+}
+
+// What closes a group of section c that ends at position i.
+fn put_ending(
+    bytes: &[u8],
+    numbers: &[i64],
+    c: usize,
+    i: usize,
+    from: usize,
+    out: &mut [u8],
+    at: usize,
+) -> Pen
+    requires { ⌜ Ready (now bytes) (now numbers) × (from ≤ byteAt (now bytes) 1) × ((k : ℕ) → k < from → rankIn (now bytes) k < 4 + 2 * i) × (at + 60001 ≤ ceiling) × (i ≤ residueLimit) ⌝ }
+    ensures { λ r. ⌜ Walks (now (bytes .entry)) 1 from (5 + 2 * i) (now (out .entry)) at (ending (sectionIn c) (runText 2 (4 + 2 * i) (tablesIn (now (bytes .entry)) (now (numbers .entry)) .brackets))) (now (out .exit)) (r .place) (r .next) ⌝ }
+{
+    if c == 1 {
+        return put_range_end(bytes, numbers, i, from, out, at);
+    }
+    if c == 2 {
+        return put_range_end(bytes, numbers, i, from, out, at);
+    }
+    if c == 3 {
+        let a = put(out, at, b')');
+        return Pen {
+            place: a,
+            next: from,
+        };
+    }
+    if c == 4 {
+        let a = put(out, at, b')');
+        return Pen {
+            place: a,
+            next: from,
+        };
+    }
+    Pen {
+        place: at,
+        next: from,
+    }
+}
+
+// The residue with index p, of n, with its section and brackets.
+fn put_residue(
+    bytes: &[u8],
+    numbers: &[i64],
+    p: usize,
+    n: usize,
+    from: usize,
+    out: &mut [u8],
+    at: usize,
+) -> Pen
+    requires { ⌜ Ready (now bytes) (now numbers) × (from ≤ byteAt (now bytes) 1) × ((k : ℕ) → k < from → rankIn (now bytes) k < 5 + 2 * p) × (at + 120000 ≤ ceiling) × (n ≡ byteAt (now bytes) 0) × (p < n) ⌝ }
+    ensures { λ r. ⌜ Walks (now (bytes .entry)) 4 from (5 + 2 * (p + 1)) (now (out .entry)) at (residueText (tablesIn (now (bytes .entry)) (now (numbers .entry)) .brackets) (p + 1) (residueIn (now (bytes .entry)) p) (tabled (residueIn (now (bytes .entry))) (p + 1) (n - (p + 1)))) (now (out .exit)) (r .place) (r .next) ⌝ }
+{
+    let c = section_at(bytes, p);
+    let b = letter_at(bytes, p);
+    let a = put_opening(c, out, at);
+    let e = put(out, a, b);
+    let pen = put_run(bytes, numbers, from, 5 + 2 * p, 2, out, e);
+    let place = pen.place;
+    let next = pen.next;
+    if goes_on(bytes, p + 1, n) {
+        return pen;
+    }
+    put_ending(bytes, numbers, c, p + 1, next, out, place)
+}
+
+// The sequence.
+fn put_sequence(bytes: &[u8], numbers: &[i64], from: usize, out: &mut [u8], at: usize) -> Pen
+    requires { ⌜ Ready (now bytes) (now numbers) × (from ≤ byteAt (now bytes) 1) × ((k : ℕ) → k < from → rankIn (now bytes) k < 3) × (at + 200000 ≤ ceiling) ⌝ }
+    ensures { λ r. ⌜ Walks (now (bytes .entry)) 1016 from 2000 (now (out .entry)) at (sequenceText (tablesIn (now (bytes .entry)) (now (numbers .entry)) .brackets) 1 (tablesIn (now (bytes .entry)) (now (numbers .entry)) .residues)) (now (out .exit)) (r .place) (r .next) ⌝ }
+{
+    let n = areas::residues(bytes);
+    let mut p = 0;
+    let mut a = at;
+    let mut j = from;
+    while p < n {
+        let pen = put_residue(bytes, numbers, p, n, j, out, a);
+        a = pen.place;
+        j = pen.next;
+        p += 1;
+    }
+    Pen { place: a, next: j }
+}
+
+// ---- the line
+
+// The brackets of rank q and the byte behind them, where there are any.
+fn put_closed(
+    bytes: &[u8],
+    numbers: &[i64],
+    from: usize,
+    q: usize,
+    shape: usize,
+    closer: u8,
+    out: &mut [u8],
+    at: usize,
+) -> Pen
+    requires { ⌜ Ready (now bytes) (now numbers) × (from ≤ byteAt (now bytes) 1) × ((i : ℕ) → i < from → rankIn (now bytes) i < q) × (at + 60001 ≤ ceiling) × (q ≤ 2000) ⌝ }
+    ensures { λ r. ⌜ Walks (now (bytes .entry)) 1 from (q + 1) (now (out .entry)) at (closedBy (runText shape q (tablesIn (now (bytes .entry)) (now (numbers .entry)) .brackets)) closer) (now (out .exit)) (r .place) (r .next) ⌝ }
+{
+    let pen = put_run(bytes, numbers, from, q, shape, out, at);
+    let place = pen.place;
+    let next = pen.next;
+    if place == at {
+        return pen;
+    }
+    let a = put(out, place, closer);
+    Pen { place: a, next }
+}
+
+// `-` and the C-terminal brackets, where there are any.
+fn put_c_term(bytes: &[u8], numbers: &[i64], from: usize, out: &mut [u8], at: usize) -> usize
+    requires { ⌜ Ready (now bytes) (now numbers) × (from ≤ byteAt (now bytes) 1) × ((i : ℕ) → i < from → rankIn (now bytes) i < 2000) × (at + 60001 ≤ ceiling) ⌝ }
+    ensures { λ r. ⌜ Puts 60000 (now (out .entry)) at (ledBy dash (runText 2 2000 (tablesIn (now (bytes .entry)) (now (numbers .entry)) .brackets))) (now (out .exit)) r ⌝ }
+{
+    let m = areas::brackets(bytes);
+    if m == 0 {
+        return at;
+    }
+    let r = rank_at(bytes, m - 1);
+    if r < 2000 {
+        return at;
+    }
+    let a = put(out, at, b'-');
+    let pen = put_run(bytes, numbers, from, 2000, 2, out, a);
+    pen.place
+}
+
+// The canonical line, as much of it as fits into the output, and its length.
+pub fn write_line(bytes: &[u8], numbers: &[i64], out: &mut [u8]) -> usize
+    requires { ⌜ Bounds (now bytes) (now numbers) × Ordered (tablesIn (now bytes) (now numbers)) ⌝ }
+    ensures { λ r. ⌜ WholeLine (canonical (tablesIn (now (bytes .entry)) (now (numbers .entry)))) (now (out .entry)) (now (out .exit)) r ⌝ }
+{
+    let unknown = put_closed(bytes, numbers, 0, 0, 0, b'?', out, 0);
+    let a = unknown.place;
+    let i = unknown.next;
+    let labile = put_run(bytes, numbers, i, 1, 1, out, a);
+    let b = labile.place;
+    let j = labile.next;
+    let start = put_closed(bytes, numbers, j, 2, 2, b'-', out, b);
+    let c = start.place;
+    let k = start.next;
+    let sequence = put_sequence(bytes, numbers, k, out, c);
+    let d = sequence.place;
+    let l = sequence.next;
+    put_c_term(bytes, numbers, l, out, d)
+}

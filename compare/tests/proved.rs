@@ -1,12 +1,43 @@
 //! The proved library against the independent reader: on the outside vectors, on generated lines, on lines of every awkward length.
 
+use compare::areas::{encode, BYTES_SIZE, NUMBERS_SIZE};
 use compare::generate::Generator;
+use compare::line::Refusal;
 use compare::{proved, reader};
 
+const JUNK_BYTE: u8 = 0xA5;
+const JUNK_NUMBER: i64 = -6_148_914_691_236_517_205;
+
+/// The answer, and every byte and number of areas that were full of junk and longer than they need be.
 fn alike(line: &[u8]) {
-    let theirs = proved::verdict(line);
-    let ours = reader::read(line).map(|_| ());
-    assert_eq!(theirs, ours, "{:?}", String::from_utf8_lossy(line));
+    let shown = String::from_utf8_lossy(line);
+    let ours = reader::read(line);
+    assert_eq!(proved::verdict(line), ours.clone().map(|_| ()), "{shown:?}");
+    let mut bytes = vec![JUNK_BYTE; BYTES_SIZE + 3];
+    let mut numbers = vec![JUNK_NUMBER; NUMBERS_SIZE + 2];
+    let theirs = proved::read(line, &mut bytes, &mut numbers);
+    assert_eq!(theirs, ours.clone().map(|_| ()), "{shown:?}");
+    let (mut want_bytes, mut want_numbers) = match &ours {
+        Ok(held) => encode(held),
+        Err(_) => (vec![JUNK_BYTE; BYTES_SIZE], vec![JUNK_NUMBER; NUMBERS_SIZE]),
+    };
+    want_bytes.resize(BYTES_SIZE + 3, JUNK_BYTE);
+    want_numbers.resize(NUMBERS_SIZE + 2, JUNK_NUMBER);
+    assert!(bytes == want_bytes, "bytes of {shown:?}");
+    assert!(numbers == want_numbers, "numbers of {shown:?}");
+}
+
+#[test]
+fn short_areas() {
+    let thirteen = Err(Refusal { number: 13, place: 0 });
+    for (b, n) in [(BYTES_SIZE - 1, NUMBERS_SIZE), (BYTES_SIZE, NUMBERS_SIZE - 1), (0, 0), (0, NUMBERS_SIZE), (BYTES_SIZE, 0)] {
+        for line in [&b"A"[..], b"", b"A[", &[0]] {
+            let mut bytes = vec![JUNK_BYTE; b];
+            let mut numbers = vec![JUNK_NUMBER; n];
+            assert_eq!(proved::read(line, &mut bytes, &mut numbers), thirteen);
+            assert!(bytes.iter().all(|&x| x == JUNK_BYTE) && numbers.iter().all(|&x| x == JUNK_NUMBER));
+        }
+    }
 }
 
 #[test]

@@ -1,0 +1,168 @@
+-- From the refusals that every call tries to its answer.
+use mathlib.Core.Path.{_≡_, refl, sym, ap, _∙_, subst}
+use mathlib.Core.Bool.{Bool, true, false, cond, _||_}
+use mathlib.Core.List.{List}
+use Prim.Native.Nat.{ℕ, _<_, _≤_}
+use native.Mathlib.Omega.{arith}
+use borrow.Author.Tests.{lt-ltb, le-ltb, ne-eqb}
+use lib.Dec.{ltb, eqb}
+use lib.IntN.{ℤ}
+use lib.ListN.{length}
+use Rattle.scope.specs.Tables.{Tables, bytesSize, numbersSize, byteAt, residueIn, bracketIn, tablesIn}
+use Rattle.scope.specs.Masses.{total, lacking, daltons}
+use Rattle.scope.specs.Placements.{allowed, requested}
+use Rattle.scope.specs.Positions.{permittedPositions}
+use Rattle.scope.specs.declared.answers.Listing.{Listing}
+use Rattle.scope.specs.Answers.{saysNumber, requests, listingAfter, allows, bookable, books, entries, Said, good, refuses, Display, aMass, lack, tooShort, areTables, overTables, weighed, residueCount, bracketCount}
+use Rattle.layout_laws.specs.Laws.{tables-held}
+use Rattle.laws.specs.Proved.{demands}
+use Rattle.brackets.specs.Tabled.{length-tabled}
+use Rattle.masses.specs.declared.Weight.{Weight}
+use Rattle.masses.specs.declared.Weight.the-variants.{Total, Lacks}
+use Rattle.masses.specs.Weights.{weightOf, saysWeight, weight-said}
+use Rattle.calls.specs.Held.{whyNot, Held}
+
+-- ---- 13 and 14
+pub short-bytes : (bs : List ℕ) (ns : List ℤ) → length bs < bytesSize → whyNot bs ns ≡ 13
+unfolding whyNot
+short-bytes bs ns h = rw (lt-ltb (length bs) bytesSize h)
+
+pub short-numbers : (bs : List ℕ) (ns : List ℤ) → bytesSize ≤ length bs → length ns < numbersSize → whyNot bs ns ≡ 13
+unfolding whyNot
+short-numbers bs ns k h = rw (le-ltb (length bs) bytesSize k, lt-ltb (length ns) numbersSize h)
+
+pub tried : (bs : List ℕ) (ns : List ℤ) → bytesSize ≤ length bs → numbersSize ≤ length ns → whyNot bs ns ≡ cond (areTables bs ns) 0 14
+unfolding whyNot
+tried bs ns k h = rw (le-ltb (length bs) bytesSize k, le-ltb (length ns) numbersSize h)
+
+pub tried-yes : (bs : List ℕ) (ns : List ℤ) {r : Bool} → bytesSize ≤ length bs → numbersSize ≤ length ns → r ≡ areTables bs ns → r ≡ true → whyNot bs ns ≡ 0
+tried-yes bs ns {r} k h e y = tried bs ns k h ∙ ap (λ b. cond b 0 14) (sym e ∙ y)
+
+pub tried-no : (bs : List ℕ) (ns : List ℤ) {r : Bool} → bytesSize ≤ length bs → numbersSize ≤ length ns → r ≡ areTables bs ns → r ≡ false → whyNot bs ns ≡ 14
+tried-no bs ns {r} k h e y = tried bs ns k h ∙ ap (λ b. cond b 0 14) (sym e ∙ y)
+
+-- the number of the refusal that is due
+abbrev numberOf : Bool → Bool → ℕ
+numberOf a b = cond a 13 (cond b 0 14)
+
+neither : (a b : Bool) → numberOf a b ≡ 0 → (a ≡ false) × (b ≡ true)
+neither true b e = absurd (omega arith)
+neither false true e = (refl, refl)
+neither false false e = absurd (omega arith)
+
+pub held-of : (bs : List ℕ) (ns : List ℤ) → tooShort bs ns ≡ false → areTables bs ns ≡ true → Held bs ns
+held-of bs ns a e =
+    let h = tables-held bs ns e .1 in
+    record { long = a; tables = e; bounds = h .bounds; few = h .tables-within .few-copies; below = demands .demand-3-in bs ns e .total-below }
+
+pub held : {bs : List ℕ} {ns : List ℤ} {w : ℕ} → w ≡ whyNot bs ns → w ≡ 0 → Held bs ns
+unfolding whyNot
+held {bs} {ns} {w} e z = let n = neither (tooShort bs ns) (areTables bs ns) (sym e ∙ z) in held-of bs ns (n .0) (n .1)
+
+refused-so : {A : Type 0} (a b : Bool) (w : ℕ) (x : Said A) → w ≡ numberOf a b → (w ≡ 0 → ⊥) → refuses w 0 ≡ cond a (refuses 13 0) (cond b x (refuses 14 0))
+refused-so true b w x e n = ap (λ z. refuses z 0) e
+refused-so false true w x e n = absurd (n e)
+refused-so false false w x e n = ap (λ z. refuses z 0) e
+
+-- the refusal that is due
+pub refused-law : {A : Type 0} (bs : List ℕ) (ns : List ℤ) {w : ℕ} → w ≡ whyNot bs ns → (w ≡ 0 → ⊥) → (f : Tables → Said A) → refuses w 0 ≡ overTables bs ns f
+unfolding whyNot
+refused-law bs ns {w} e n f = refused-so (tooShort bs ns) (areTables bs ns) w (f (tablesIn bs ns)) e n
+
+-- what the call answers by itself
+pub answers : {A : Type 0} {bs : List ℕ} {ns : List ℤ} (f : Tables → Said A) → Held bs ns → overTables bs ns f ≡ f (tablesIn bs ns)
+answers {A} {bs} {ns} f h = rw (h .long, h .tables)
+
+-- ---- counts
+pub residues-many : (bs : List ℕ) (ns : List ℤ) → residueCount (tablesIn bs ns) ≡ byteAt bs 0
+unfolding tablesIn
+residues-many bs ns = length-tabled (residueIn bs) 0 (byteAt bs 0)
+
+pub brackets-many : (bs : List ℕ) (ns : List ℤ) → bracketCount (tablesIn bs ns) ≡ byteAt bs 1
+unfolding tablesIn
+brackets-many bs ns = length-tabled (bracketIn bs ns) 0 (byteAt bs 1)
+
+-- ---- the total
+pub weighed-so : (t : Tables) {w v : Weight} → w ≡ weightOf t → w ≡ v → saysWeight v ≡ weighed t (total t)
+weighed-so t {w} {v} e f = ap saysWeight (sym f ∙ e) ∙ weight-said t
+
+total-is : (b : Bool) (x m : ℤ) (n : ℕ) → cond b (Total x) (Lacks n) ≡ Total m → x ≡ m
+total-is true x m n e = cc
+total-is false x m n e = absurd (let z : _≡_ {A = ℕ} 0 1 = cc in omega arith)
+
+pub weight-total : (t : Tables) {w : Weight} {m : ℤ} → w ≡ weightOf t → w ≡ Total m → total t ≡ m
+unfolding weightOf
+weight-total t {w} {m} e f = total-is (eqb (lacking t) 0) (total t) m (lacking t) (sym e ∙ f)
+
+abbrev pub saysDisplay : Weight → Display
+saysDisplay (Total m) = aMass (daltons m)
+saysDisplay (Lacks n) = lack n
+
+display-of : (b : Bool) (x : ℤ) (n : ℕ) → saysDisplay (cond b (Total x) (Lacks n)) ≡ cond b (aMass (daltons x)) (lack n)
+display-of true x n = refl
+display-of false x n = refl
+
+pub displayed : (t : Tables) {w v : Weight} → w ≡ weightOf t → w ≡ v → saysDisplay v ≡ cond (eqb (lacking t) 0) (aMass (daltons (total t))) (lack (lacking t))
+unfolding weightOf
+displayed t {w} {v} e f = ap saysDisplay (sym f ∙ e) ∙ display-of (eqb (lacking t) 0) (total t) (lacking t)
+
+-- ---- placements
+pub allowed-yes : (t : Tables) (p : List ℕ) {r : Bool} → r ≡ allowed (permittedPositions t) p → r ≡ true
+    → good (tt {0}) ≡ cond (allowed (permittedPositions t) p) (good (tt {0})) (refuses 18 0)
+allowed-yes t p {r} e y = ap (λ b. cond b (good (tt {0})) (refuses 18 0)) (sym y ∙ e)
+
+pub allowed-no : (t : Tables) (p : List ℕ) {r : Bool} → r ≡ allowed (permittedPositions t) p → r ≡ false
+    → refuses 18 0 ≡ cond (allowed (permittedPositions t) p) (good (tt {0})) (refuses 18 0)
+allowed-no t p {r} e y = ap (λ b. cond b (good (tt {0})) (refuses 18 0)) (sym y ∙ e)
+
+pub listing-kept : (bs : List ℕ) (ns : List ℤ) {w : ℕ} (l : Listing) → w ≡ whyNot bs ns → (w ≡ 0 → ⊥) → l ≡ listingAfter bs ns l
+unfolding whyNot
+listing-kept bs ns {w} l e n = go (tooShort bs ns) (areTables bs ns) e
+  where
+    go : (a b : Bool) → w ≡ numberOf a b → l ≡ cond a l (cond b (requested (permittedPositions (tablesIn bs ns)) l .after) l)
+    go true b q = refl
+    go false true q = absurd (n q)
+    go false false q = refl
+
+pub listing-moved : {bs : List ℕ} {ns : List ℤ} (l : Listing) → Held bs ns → listingAfter bs ns l ≡ requested (permittedPositions (tablesIn bs ns)) l .after
+listing-moved {bs} {ns} l h = rw (h .long, h .tables)
+
+pub met : {n m : ℕ} → n ≡ m → n ≡ 0 → good tt ≡ saysNumber m
+met {n} {m} e z = ap saysNumber (sym z ∙ e)
+
+pub unmet : {n m : ℕ} → n ≡ m → (n ≡ 0 → ⊥) → refuses n 0 ≡ saysNumber m
+unmet {n} {m} e z = rw (sym e) (rw (ne-eqb n 0 z))
+
+-- ---- the ledger
+pub booked-16 : (t : Tables) (p : List ℕ) {w : Weight} {n : ℕ} → w ≡ weightOf t → w ≡ Lacks n → refuses 16 n ≡ bookable t p
+unfolding weightOf
+booked-16 t p {w} {n} e f = go (eqb (lacking t) 0) (lacking t) (sym e ∙ f)
+  where
+    go : (b : Bool) (m : ℕ) → cond b (Total (total t)) (Lacks m) ≡ Lacks n
+        → refuses 16 n ≡ cond b (cond (allowed (permittedPositions t) p) (good (tt {0})) (refuses 18 0)) (refuses 16 m)
+    go true m q = absurd (let z : _≡_ {A = ℕ} 0 1 = cc in omega arith)
+    go false m q = let z : m ≡ n = cc in ap (refuses 16) (sym z)
+
+pub booked-rest : (t : Tables) (p : List ℕ) {w : Weight} {m : ℤ} → w ≡ weightOf t → w ≡ Total m
+    → bookable t p ≡ cond (allowed (permittedPositions t) p) (good (tt {0})) (refuses 18 0)
+unfolding weightOf
+booked-rest t p {w} {m} e f = go (eqb (lacking t) 0) (sym e ∙ f)
+  where
+    go : (b : Bool) → cond b (Total (total t)) (Lacks (lacking t)) ≡ Total m
+        → cond b (cond (allowed (permittedPositions t) p) (good (tt {0})) (refuses 18 0)) (refuses 16 (lacking t))
+        ≡ cond (allowed (permittedPositions t) p) (good (tt {0})) (refuses 18 0)
+    go true q = refl
+    go false q = absurd (let z : _≡_ {A = ℕ} 0 1 = cc in omega arith)
+
+-- only areas that hold tables are booked from
+pub booked-held : (bs : List ℕ) (ns : List ℤ) (p : List ℕ) → good (tt {0}) ≡ books bs ns p → Held bs ns
+booked-held bs ns p e = let n = go (tooShort bs ns) (areTables bs ns) e in held-of bs ns (n .0) (n .1)
+  where
+    go : (a b : Bool) → good (tt {0}) ≡ cond a (refuses 13 0) (cond b (bookable (tablesIn bs ns) p) (refuses 14 0)) → (a ≡ false) × (b ≡ true)
+    go true b q = absurd (let z : _≡_ {A = ℕ} 0 1 = cc in omega arith)
+    go false true q = (refl, refl)
+    go false false q = absurd (let z : _≡_ {A = ℕ} 0 1 = cc in omega arith)
+
+pub booked-entries : (bs : List ℕ) (ns : List ℤ) (p : List ℕ) {s : Said (Unit {0})} → s ≡ books bs ns p
+    → entries s (tablesIn bs ns) p ≡ entries (books bs ns p) (tablesIn bs ns) p
+booked-entries bs ns p {s} e = ap (λ z. entries z (tablesIn bs ns) p) e

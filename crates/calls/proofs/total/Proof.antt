@@ -1,0 +1,46 @@
+-- `calls::total` meets its contract.
+use mathlib.Core.Path.{_≡_, sym, ap, _∙_}
+use Rattle.scope.specs.Answers.{good, weighed}
+use Rattle.scope.specs.Masses.{total}
+use Rattle.calls.proofs.Laws.{refused-law, held, answers, weighed-so}
+use mir.Syntax.{w64}
+use mir.Val.{toZ, ofZ}
+use borrow.Author.Needs.{needs}
+use Rattle.calls.proofs.total.Statement.{statement}
+use Rattle.calls.proofs.total.Tie as tie
+
+why-not-requires : tie.Need-why-not-requires
+why-not-requires c κs = search needs
+
+returns : tie.Need-returns
+returns c = refused-law _ _ (c .before .why-not .ensures) (c .if1 .taken) (λ t. weighed t (total t))
+
+weigh-requires : tie.Need-weigh-requires
+weigh-requires c κs = held (c .before .why-not .ensures) (c .if1 .left) .bounds
+
+enum-known-w : tie.Need-enum-known-w
+enum-known-w c = search needs
+
+enum-known-w-2 : tie.Need-enum-known-w-2
+enum-known-w-2 c = search needs
+
+returns-2 : tie.Need-returns-2
+returns-2 c =
+    let m = c .before .w .given .0 .0 in
+    let read : toZ w64 (ofZ w64 m) ≡ m = search needs in
+    ap good read ∙ weighed-so _ (c .before .before .before .weigh .ensures) (c .before .w .given .1) ∙ sym (answers (λ t. weighed t (total t)) (held (c .before .before .before .before .before .why-not .ensures) (c .before .before .before .before .if1 .left)))
+
+returns-3 : tie.Need-returns-3
+returns-3 c = weighed-so _ (c .before .before .before .weigh .ensures) (c .before .w2 .given .1) ∙ sym (answers (λ t. weighed t (total t)) (held (c .before .before .before .before .before .why-not .ensures) (c .before .before .before .before .if1 .left)))
+
+pub total-spec : {M : Type 1} → statement M
+total-spec =
+    tie.close
+    (tie.spec
+    why-not-requires
+    returns
+    weigh-requires
+    enum-known-w
+    enum-known-w-2
+    returns-2
+    returns-3)

@@ -1,0 +1,265 @@
+// The calls over lent areas. Each answers whatever the areas hold: 13 where one is too short, 14 where they are no tables, else its own.
+use masses::Weight;
+use masses::as_daltons;
+use masses::ledger_of;
+use masses::weigh;
+use placements::Moved;
+use positions::fill_table;
+use positions::find_floaters;
+use scope::answers::Booked;
+use scope::answers::Count;
+use scope::answers::Ledger;
+use scope::answers::Listing;
+use scope::answers::Placement;
+use scope::answers::Request;
+use scope::answers::Shown;
+use scope::answers::Total;
+use scope::tables::Tables;
+ghost use mathlib.Core.Path.{_≡_};
+ghost use Prim.Native.Nat.{_≤_};
+ghost use lib.ListN.{length};
+ghost use Rattle.scope.specs.Tables.{bytesSize, numbersSize, tablesIn};
+ghost use Rattle.scope.specs.Limits.{copyLimit, rowLimit};
+ghost use Rattle.scope.specs.Positions.{floaters, permittedPositions};
+ghost use Rattle.scope.specs.Placements.{allowed, requested};
+ghost use Rattle.areas.specs.Bounds.{Bounds};
+ghost use Rattle.scope.specs.Answers.{saysRequest, saysBooked, allows, requests, listingAfter, books, entries, saysCount, saysTotal, saysShown, areTables, counts, residueCount, bracketCount, floaterCount, totals, shows};
+ghost use Rattle.calls.specs.Held.{whyNot};
+ghost use Rattle.calls.specs.Rows.{RowsReady};
+
+// 13, 14, or 0 where the areas hold tables.
+fn why_not(bytes: &[u8], numbers: &[i64]) -> u8
+    ensures { λ r. ⌜ r ≡ whyNot (now (bytes .entry)) (now (numbers .entry)) ⌝ }
+{
+    if bytes.len() < Tables::BYTES {
+        return 13;
+    }
+    if numbers.len() < Tables::NUMBERS {
+        return 13;
+    }
+    if tabled::are_tables(bytes, numbers) {
+        return 0;
+    }
+    14
+}
+
+// How many residues there are.
+pub fn residue_count(bytes: &[u8], numbers: &[i64]) -> Count
+    ensures { λ r. ⌜ saysCount r ≡ counts (now (bytes .entry)) (now (numbers .entry)) residueCount ⌝ }
+{
+    let why = why_not(bytes, numbers);
+    if why != 0 {
+        return Count::Refused {
+            number: why,
+            place: 0,
+        };
+    }
+    Count::Is(areas::residues(bytes))
+}
+
+// How many brackets.
+pub fn bracket_count(bytes: &[u8], numbers: &[i64]) -> Count
+    ensures { λ r. ⌜ saysCount r ≡ counts (now (bytes .entry)) (now (numbers .entry)) bracketCount ⌝ }
+{
+    let why = why_not(bytes, numbers);
+    if why != 0 {
+        return Count::Refused {
+            number: why,
+            place: 0,
+        };
+    }
+    Count::Is(areas::brackets(bytes))
+}
+
+// How many floating copies.
+pub fn floater_count(bytes: &[u8], numbers: &[i64]) -> Count
+    ensures { λ r. ⌜ saysCount r ≡ counts (now (bytes .entry)) (now (numbers .entry)) floaterCount ⌝ }
+{
+    let why = why_not(bytes, numbers);
+    if why != 0 {
+        return Count::Refused {
+            number: why,
+            place: 0,
+        };
+    }
+    let f = find_floaters(bytes, numbers);
+    Count::Is(f.count)
+}
+
+// The total in millionths.
+pub fn total(bytes: &[u8], numbers: &[i64]) -> Total
+    ensures { λ r. ⌜ saysTotal r ≡ totals (now (bytes .entry)) (now (numbers .entry)) ⌝ }
+{
+    let why = why_not(bytes, numbers);
+    if why != 0 {
+        return Total::Refused {
+            number: why,
+            place: 0,
+        };
+    }
+    let w = weigh(bytes, numbers);
+    match w {
+        Weight::Total(m) => Total::Millionths(m),
+        Weight::Lacks(n) => Total::Refused {
+            number: 16,
+            place: n,
+        },
+    }
+}
+
+// "either a mass as a double or the number of modifications without one"
+pub fn shown(bytes: &[u8], numbers: &[i64]) -> Shown
+    ensures { λ r. ⌜ saysShown r ≡ shows (now (bytes .entry)) (now (numbers .entry)) ⌝ }
+{
+    let why = why_not(bytes, numbers);
+    if why != 0 {
+        return Shown::Refused { number: why };
+    }
+    let w = weigh(bytes, numbers);
+    match w {
+        Weight::Total(m) => Shown::Daltons(as_daltons(m)),
+        Weight::Lacks(n) => Shown::Missing(n),
+    }
+}
+
+// Whether a placement is allowed by the tables.
+fn is_allowed_by(bytes: &[u8], numbers: &[i64], p: Placement) -> bool
+    requires { ⌜ (Bounds (now bytes) (now numbers)) × (length (floaters (tablesIn (now bytes) (now numbers))) ≤ copyLimit) ⌝ }
+    ensures { λ r. ⌜ r ≡ allowed (permittedPositions (tablesIn (now (bytes .entry)) (now (numbers .entry)))) (p .at) ⌝ }
+{
+    let f = find_floaters(bytes, numbers);
+    let mut tab = [0u8; 2048];
+    fill_table(bytes, numbers, f, &mut tab);
+    let k = f.count;
+    placements::is_allowed(&tab, k, p)
+}
+
+// Whether a placement is an allowed one.
+pub fn is_allowed(bytes: &[u8], numbers: &[i64], p: Placement) -> Request
+    ensures { λ r. ⌜ saysRequest r ≡ allows (now (bytes .entry)) (now (numbers .entry)) (p .at) ⌝ }
+{
+    let why = why_not(bytes, numbers);
+    if why != 0 {
+        return Request::Refused { number: why };
+    }
+    if is_allowed_by(bytes, numbers, p) {
+        return Request::Met;
+    }
+    Request::Refused { number: 18 }
+}
+
+// What a request is answered, and the listing after it.
+pub struct Next {
+    pub request: Request,
+    pub listing: Listing,
+}
+
+// A listing moved on by the tables.
+fn moved_by(bytes: &[u8], numbers: &[i64], l: Listing) -> Moved
+    requires { ⌜ (Bounds (now bytes) (now numbers)) × (length (floaters (tablesIn (now bytes) (now numbers))) ≤ copyLimit) ⌝ }
+    ensures { λ r. ⌜ (r .number ≡ requested (permittedPositions (tablesIn (now (bytes .entry)) (now (numbers .entry)))) l .number) × (r .listing ≡ requested (permittedPositions (tablesIn (now (bytes .entry)) (now (numbers .entry)))) l .after) ⌝ }
+{
+    let f = find_floaters(bytes, numbers);
+    let mut tab = [0u8; 2048];
+    fill_table(bytes, numbers, f, &mut tab);
+    let k = f.count;
+    placements::request(&tab, k, l)
+}
+
+// "The listing in hand is a small record that each request moves on"
+pub fn next_placement(bytes: &[u8], numbers: &[i64], l: Listing) -> Next
+    ensures { λ r. ⌜ (saysRequest (r .request) ≡ requests (now (bytes .entry)) (now (numbers .entry)) l) × (r .listing ≡ listingAfter (now (bytes .entry)) (now (numbers .entry)) l) ⌝ }
+{
+    let why = why_not(bytes, numbers);
+    if why != 0 {
+        return Next {
+            request: Request::Refused { number: why },
+            listing: l,
+        };
+    }
+    let m = moved_by(bytes, numbers, l);
+    let listing = m.listing;
+    let number = m.number;
+    if number != 0 {
+        return Next {
+            request: Request::Refused { number },
+            listing,
+        };
+    }
+    Next {
+        request: Request::Met,
+        listing,
+    }
+}
+
+// Whether a ledger is booked: 16 before 18.
+fn bookable(bytes: &[u8], numbers: &[i64], p: Placement) -> Booked
+    ensures { λ r. ⌜ saysBooked r ≡ books (now (bytes .entry)) (now (numbers .entry)) (p .at) ⌝ }
+{
+    let why = why_not(bytes, numbers);
+    if why != 0 {
+        return Booked::Refused {
+            number: why,
+            place: 0,
+        };
+    }
+    let w = weigh(bytes, numbers);
+    match w {
+        Weight::Lacks(n) => Booked::Refused {
+            number: 16,
+            place: n,
+        },
+        Weight::Total(m) => {
+            if is_allowed_by(bytes, numbers, p) {
+                return Booked::Done;
+            }
+            Booked::Refused {
+                number: 18,
+                place: 0,
+            }
+        }
+    }
+}
+
+// "The ledger of a placement"; on a refusal its entries are zero.
+pub fn ledger(bytes: &[u8], numbers: &[i64], p: Placement) -> Ledger
+    ensures { λ r. ⌜ (saysBooked (r .booked) ≡ books (now (bytes .entry)) (now (numbers .entry)) (p .at)) × (r .at ≡ entries (books (now (bytes .entry)) (now (numbers .entry)) (p .at)) (tablesIn (now (bytes .entry)) (now (numbers .entry))) (p .at)) ⌝ }
+{
+    let b = bookable(bytes, numbers, p);
+    match b {
+        Booked::Done => {
+            let at = ledger_of(bytes, numbers, p);
+            Ledger {
+                booked: Booked::Done,
+                at,
+            }
+        }
+        Booked::Refused { number, place } => Ledger {
+            booked: Booked::Refused { number, place },
+            at: [0; Ledger::POSITIONS],
+        },
+    }
+}
+
+// Before rows are filled in: 13 for their room, then for the areas, and 14; else the table of where each floater may stand, and how many there are.
+fn table_for(bytes: &[u8], numbers: &[i64], room: usize, tab: &mut [u8]) -> Count
+    requires { ⌜ rowLimit ≤ length (now tab) ⌝ }
+    ensures { λ r. ⌜ RowsReady (now (bytes .entry)) (now (numbers .entry)) room r (now (tab .exit)) ⌝ }
+{
+    if room < Placement::ROWS {
+        return Count::Refused {
+            number: 13,
+            place: 0,
+        };
+    }
+    let why = why_not(bytes, numbers);
+    if why != 0 {
+        return Count::Refused {
+            number: why,
+            place: 0,
+        };
+    }
+    let f = find_floaters(bytes, numbers);
+    fill_table(bytes, numbers, f, tab);
+    Count::Is(f.count)
+}

@@ -1,0 +1,102 @@
+-- 14 "tables that no accepted line reads to": the ways in which areas fail to be tables.
+use mathlib.Core.Path.{_≡_, refl, sym, ap, _∙_, subst}
+use mathlib.Core.Bool.{Bool, true, false, cond, _&&_, _||_, false≢true}
+use mathlib.Core.Option.{Option, none, some}
+use mathlib.Core.List.{List, [], _∷_, _++_}
+use Prim.Native.Nat.{ℕ, _<_, _≤_}
+use native.Mathlib.Omega.{arith}
+use borrow.Author.Tests.{lt-ltb, le-ltb}
+use lib.Dec.{ltb, leb}
+use lib.IntN.{ℤ, pos}
+use lib.ListN.{length, take, drop}
+use lib.Seq.{take-all, take-append-seam}
+use Rattle.scope.specs.declared.answers.Read.{Read}
+use Rattle.scope.specs.declared.answers.Read.the-variants.{Accepted, Refused}
+use Rattle.scope.specs.Limits.{lineLimit}
+use Rattle.scope.specs.Bytes.{same}
+use Rattle.scope.specs.declared.grammar.Kind.{Kind}
+use Rattle.scope.specs.declared.grammar.Kind.the-variants.{Unknown, Labile, NTerm, OnResidue, OnRange, CTerm}
+use Rattle.scope.specs.Line.{Bracket, Line}
+use Rattle.scope.specs.Content.{given}
+use Rattle.scope.specs.Refusals.{Due, due, Outcome, accepted, refused, firstDue, refusal1, refusal2, refusal3, judged, outcome}
+use Rattle.scope.specs.Reading.{reading}
+use Rattle.scope.specs.Canonical.{canonical}
+use Rattle.scope.specs.Tables.{Tables, bytesSize, numbersSize, bytesOf, numbersOf, laid, tablesOf, tablesIn}
+use Rattle.scope.specs.Answers.{good, refuses, saysRead, saysOutcome, readOutcome, bytesAfter, numbersAfter, sameNumbers, readsTo, areTables}
+use Rattle.basics.specs.Choice.{by-test}
+use Rattle.layout_laws.specs.Laws.{tables-held, accepted-within, laid-bytes, laid-numbers}
+use Rattle.order_laws.specs.Ranks.{orderedb}
+use Rattle.order_laws.specs.Laws.{accepted-ordered, same-order}
+use Rattle.reader.specs.ReadSays.{ReadSays}
+use Rattle.writer.specs.Written.{WholeLine}
+
+-- ---- the brackets of tables are in order
+pub tables-ordered : (bs : List ℕ) (ns : List ℤ) → areTables bs ns ≡ true → orderedb (tablesIn bs ns) ≡ true
+tables-ordered bs ns e =
+    let h = tables-held bs ns e in
+    ap orderedb (h .1 .tables) ∙ same-order (h .0) ∙ accepted-ordered (canonical (tablesIn bs ns)) (h .0) (h .1 .reads)
+
+pub order-needed : (bs : List ℕ) (ns : List ℤ) → orderedb (tablesIn bs ns) ≡ false → areTables bs ns ≡ false
+order-needed bs ns n =
+    by-test (areTables bs ns) (λ e. absurd (false≢true (sym n ∙ tables-ordered bs ns e))) (λ e. e)
+
+-- ---- "line 1 to 4,096 bytes": a canonical line over that is refused
+not-read : (o : Option ℕ) (n : ℕ) (ds : List Due) (p : Outcome) (bs : List ℕ) (ns : List ℤ) → readsTo (firstDue ds p) bs ns ≡ false
+    → readsTo (given o (refused n) (firstDue ds p)) bs ns ≡ false
+not-read none n ds p bs ns e = e
+not-read (some i) n ds p bs ns e = refl
+
+pub too-long : (s bs : List ℕ) (ns : List ℤ) → lineLimit < length s → readsTo (outcome s) bs ns ≡ false
+unfolding outcome firstDue refusal2
+too-long s bs ns h = not-read (refusal1 s) 1 (due 2 (refusal2 s) ∷ due 3 (refusal3 s) ∷ []) (judged (reading s)) bs ns (rw (lt-ltb lineLimit (length s) h))
+
+pub length-needed : (bs : List ℕ) (ns : List ℤ) → lineLimit < length (canonical (tablesIn bs ns)) → areTables bs ns ≡ false
+unfolding areTables
+length-needed bs ns h = too-long (canonical (tablesIn bs ns)) (take bytesSize bs) (take numbersSize ns) h
+
+-- ---- what is written at the front of an output that has room for it
+pub front : (c o left : List ℕ) (r : ℕ) → WholeLine c o left r → r ≤ length o → take r left ≡ c
+front c o left r w h =
+    let k : length c ≤ length o = rw (w .long) at h in
+    ap (λ z. take z left) (w .long) ∙ ap (take (length c)) (w .holds ∙ ap (λ z. z ++ drop (length c) o) (take-all (length o) c k)) ∙ take-append-seam c (drop (length c) o)
+
+-- ---- the line of what areas hold, written to an output
+pub written-too-long : (bs : List ℕ) (ns : List ℤ) {o left : List ℕ} {r : ℕ} → WholeLine (canonical (tablesIn bs ns)) o left r → lineLimit < r
+    → areTables bs ns ≡ false
+written-too-long bs ns {o} {left} {r} w h = length-needed bs ns (subst (λ z. lineLimit < z) (w .long) h)
+
+pub written-read : (bs : List ℕ) (ns : List ℤ) {o left : List ℕ} {r : ℕ} → WholeLine (canonical (tablesIn bs ns)) o left r → r ≤ length o
+    → readsTo (outcome (take r left)) (take bytesSize bs) (take numbersSize ns) ≡ areTables bs ns
+unfolding areTables
+written-read bs ns {o} {left} {r} w h =
+    ap (λ s. readsTo (outcome s) (take bytesSize bs) (take numbersSize ns)) (front (canonical (tablesIn bs ns)) o left r w h)
+
+-- ---- what is read back
+roomy : (s bs : List ℕ) (ns : List ℤ) → bytesSize ≤ length bs → numbersSize ≤ length ns → readOutcome bs ns s ≡ outcome s
+roomy s bs ns k h = rw (le-ltb (length bs) bytesSize k, le-ltb (length ns) numbersSize h)
+
+refused-to : (o : Outcome) (n p : ℕ) (xs : List ℕ) (ys : List ℤ) → refuses n p ≡ saysOutcome o → readsTo o xs ys ≡ false
+refused-to (accepted l) n p xs ys e = absurd (let z : _≡_ {A = ℕ} 0 1 = cc in omega arith)
+refused-to (refused m q) n p xs ys e = refl
+
+pub read-refused : (s bs : List ℕ) (ns : List ℤ) (r : Read) (n p : ℕ) (bs′ : List ℕ) (ns′ : List ℤ) → ReadSays s bs ns r bs′ ns′ → r ≡ Refused n p
+    → bytesSize ≤ length bs → numbersSize ≤ length ns → (xs : List ℕ) (ys : List ℤ) → readsTo (outcome s) xs ys ≡ false
+read-refused s bs ns r n p bs′ ns′ w e k h xs ys =
+    refused-to (outcome s) n p xs ys (ap saysRead (sym e) ∙ w .says ∙ ap saysOutcome (roomy s bs ns k h))
+
+accepted-is : (o : Outcome) → good tt ≡ saysOutcome o → (l : Line ℕ) × (o ≡ accepted l)
+accepted-is (accepted l) e = (l, refl)
+accepted-is (refused m q) e = absurd (let z : _≡_ {A = ℕ} 0 1 = cc in omega arith)
+
+pub read-accepted : (s bs : List ℕ) (ns : List ℤ) (r : Read) (bs′ : List ℕ) (ns′ : List ℤ) → ReadSays s bs ns r bs′ ns′ → r ≡ Accepted
+    → bytesSize ≤ length bs → numbersSize ≤ length ns → (xs : List ℕ) (ys : List ℤ)
+    → (same (take bytesSize bs′) xs && sameNumbers (take numbersSize ns′) ys) ≡ readsTo (outcome s) xs ys
+read-accepted s bs ns r bs′ ns′ w e k h xs ys =
+    let a = accepted-is (outcome s) (ap saysRead (sym e) ∙ w .says ∙ ap saysOutcome (roomy s bs ns k h)) in
+    let l = a .0 in
+    let o : readOutcome bs ns s ≡ accepted l = roomy s bs ns k h ∙ a .1 in
+    let v = accepted-within s l (a .1) in
+    let b : take bytesSize bs′ ≡ bytesOf l = ap (take bytesSize) (w .bytes-after ∙ ap (λ z. bytesAfter z bs) o) ∙ laid-bytes l v bs in
+    let n : take numbersSize ns′ ≡ numbersOf l = ap (take numbersSize) (w .numbers-after ∙ ap (λ z. numbersAfter z ns) o) ∙ laid-numbers l v ns in
+    ap (λ z. same z xs && sameNumbers (take numbersSize ns′) ys) b ∙ ap (λ z. same (bytesOf l) xs && sameNumbers z ys) n
+    ∙ ap (λ z. readsTo z xs ys) (sym (a .1))

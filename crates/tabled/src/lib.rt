@@ -1,0 +1,79 @@
+// Refusal 14: whether the areas hold tables that some accepted line reads to. They may hold anything.
+use bounds::in_bounds;
+use bounds::same_bytes;
+use bounds::same_whole;
+use scope::answers::Read;
+use scope::tables::Tables;
+use writer::in_order;
+use writer::write_line;
+ghost use mathlib.Core.Path.{_≡_};
+ghost use mathlib.Core.Bool.{_&&_};
+ghost use Prim.Native.Nat.{_≤_};
+ghost use lib.ListN.{length, take};
+ghost use Rattle.scope.specs.Bytes.{same};
+ghost use Rattle.scope.specs.Refusals.{outcome};
+ghost use Rattle.scope.specs.Tables.{bytesSize, numbersSize, tablesIn};
+ghost use Rattle.scope.specs.Answers.{sameNumbers, readsTo, areTables};
+ghost use Rattle.areas.specs.Bounds.{Bounds};
+ghost use Rattle.writer.specs.Ranks.{Ordered};
+ghost use Rattle.reader.specs.ReadSays.{ReadSays};
+
+// Do two pairs of areas hold the same, as far as their fixed sizes?
+fn same_areas(ab: &[u8], an: &[i64], bytes: &[u8], numbers: &[i64]) -> bool
+    requires { ⌜ (bytesSize ≤ length (now ab)) × (numbersSize ≤ length (now an)) × (bytesSize ≤ length (now bytes)) × (numbersSize ≤ length (now numbers)) ⌝ }
+    ensures { λ r. ⌜ r ≡ same (take bytesSize (now (ab .entry))) (take bytesSize (now (bytes .entry))) && sameNumbers (take numbersSize (now (an .entry))) (take numbersSize (now (numbers .entry))) ⌝ }
+{
+    if same_bytes(ab, bytes, Tables::BYTES) {
+        return same_whole(an, numbers, Tables::NUMBERS);
+    }
+    false
+}
+
+// Does a line read to what the areas hold?
+fn reads_to(line: &[u8], bytes: &[u8], numbers: &[i64]) -> bool
+    requires { ⌜ (bytesSize ≤ length (now bytes)) × (numbersSize ≤ length (now numbers)) ⌝ }
+    ensures { λ r. ⌜ r ≡ readsTo (outcome (now (line .entry))) (take bytesSize (now (bytes .entry))) (take numbersSize (now (numbers .entry))) ⌝ }
+{
+    let mut b = [0u8; 6782];
+    let mut n = [0i64; 320];
+    let answer = reader::read(line, &mut b, &mut n);
+    match answer {
+        Read::Accepted => same_areas(&b, &n, bytes, numbers),
+        Read::Refused { number, place } => false,
+    }
+}
+
+// Do the first n bytes?
+fn front_reads_to(line: &[u8], n: usize, bytes: &[u8], numbers: &[i64]) -> bool
+    requires { ⌜ (n ≤ length (now line)) × (bytesSize ≤ length (now bytes)) × (numbersSize ≤ length (now numbers)) ⌝ }
+    ensures { λ r. ⌜ r ≡ readsTo (outcome (take n (now (line .entry)))) (take bytesSize (now (bytes .entry))) (take numbersSize (now (numbers .entry))) ⌝ }
+{
+    let front = &line[0..n];
+    reads_to(front, bytes, numbers)
+}
+
+// Does the canonical line of what the areas hold read to it, where its numbers keep to their bounds and its brackets to their order?
+fn reads_back(bytes: &[u8], numbers: &[i64]) -> bool
+    requires { ⌜ Bounds (now bytes) (now numbers) × Ordered (tablesIn (now bytes) (now numbers)) ⌝ }
+    ensures { λ r. ⌜ r ≡ areTables (now (bytes .entry)) (now (numbers .entry)) ⌝ }
+{
+    let mut line = [0u8; 4096];
+    let n = write_line(bytes, numbers, &mut line);
+    if Tables::LINE < n {
+        return false;
+    }
+    front_reads_to(&line, n, bytes, numbers)
+}
+
+// Are the areas tables of an accepted line?
+pub fn are_tables(bytes: &[u8], numbers: &[i64]) -> bool
+    requires { ⌜ (bytesSize ≤ length (now bytes)) × (numbersSize ≤ length (now numbers)) ⌝ }
+    ensures { λ r. ⌜ r ≡ areTables (now (bytes .entry)) (now (numbers .entry)) ⌝ }
+{
+    if in_bounds(bytes, numbers) {
+        if in_order(bytes) {
+            return reads_back(bytes, numbers);
+        }
+    }
+    false
+}

@@ -14,6 +14,7 @@ use scope::answers::Placement;
 use scope::answers::Request;
 use scope::answers::Shown;
 use scope::answers::Total;
+use scope::answers::Write;
 use scope::tables::Tables;
 ghost use mathlib.Core.Path.{_≡_};
 ghost use Prim.Native.Nat.{_≤_};
@@ -26,6 +27,7 @@ ghost use Rattle.areas.specs.Bounds.{Bounds};
 ghost use Rattle.scope.specs.Answers.{saysRequest, saysBooked, allows, requests, listingAfter, books, entries, saysCount, saysTotal, saysShown, areTables, counts, residueCount, bracketCount, floaterCount, totals, shows};
 ghost use Rattle.calls.specs.Held.{whyNot};
 ghost use Rattle.calls.specs.Rows.{RowsReady};
+ghost use Rattle.calls.specs.Writing.{WriteSays};
 
 // 13, 14, or 0 where the areas hold tables.
 fn why_not(bytes: &[u8], numbers: &[i64]) -> u8
@@ -41,6 +43,40 @@ fn why_not(bytes: &[u8], numbers: &[i64]) -> u8
         return 0;
     }
     14
+}
+
+// The canonical line of tables, into an output of any length: how many bytes were written; or a refusal, the output as it was.
+pub fn write(bytes: &[u8], numbers: &[i64], out: &mut [u8]) -> Write
+    ensures { λ r. ⌜ WriteSays (now (bytes .entry)) (now (numbers .entry)) (now (out .entry)) r (now (out .exit)) ⌝ }
+{
+    if bytes.len() < Tables::BYTES {
+        return Write::Refused {
+            number: 13,
+            place: 0,
+        };
+    }
+    if numbers.len() < Tables::NUMBERS {
+        return Write::Refused {
+            number: 13,
+            place: 0,
+        };
+    }
+    let mut line = [0u8; 4096];
+    let n = tabled::line_of(bytes, numbers, &mut line);
+    if n == 0 {
+        return Write::Refused {
+            number: 14,
+            place: 0,
+        };
+    }
+    if out.len() < n {
+        return Write::Refused {
+            number: 15,
+            place: n,
+        };
+    }
+    bounds::copy_bytes(&line, n, out);
+    Write::Written(n)
 }
 
 // How many residues there are.

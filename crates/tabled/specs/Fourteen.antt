@@ -1,12 +1,12 @@
 -- 14 "tables that no accepted line reads to": the ways in which areas fail to be tables.
 use mathlib.Core.Path.{_≡_, refl, sym, ap, _∙_, subst}
-use mathlib.Core.Bool.{Bool, true, false, cond, _&&_, _||_, false≢true}
+use mathlib.Core.Bool.{Bool, true, false, cond, not, _&&_, _||_, false≢true}
 use mathlib.Core.Option.{Option, none, some}
 use mathlib.Core.List.{List, [], _∷_, _++_}
 use Prim.Native.Nat.{ℕ, _<_, _≤_}
 use native.Mathlib.Omega.{arith}
-use borrow.Author.Tests.{lt-ltb, le-ltb}
-use lib.Dec.{ltb, leb}
+use borrow.Author.Tests.{lt-ltb, le-ltb, ne-eqb}
+use lib.Dec.{ltb, leb, eqb}
 use lib.IntN.{ℤ, pos}
 use lib.ListN.{length, take, drop}
 use lib.Seq.{take-all, take-append-seam}
@@ -29,6 +29,7 @@ use Rattle.order_laws.specs.Ranks.{orderedb}
 use Rattle.order_laws.specs.Laws.{accepted-ordered, same-order}
 use Rattle.reader.specs.ReadSays.{ReadSays}
 use Rattle.writer.specs.Written.{WholeLine}
+use Rattle.tabled.specs.LineOf.{TablesLine, LineOf}
 
 -- ---- the brackets of tables are in order
 pub tables-ordered : (bs : List ℕ) (ns : List ℤ) → areTables bs ns ≡ true → orderedb (tablesIn bs ns) ≡ true
@@ -71,6 +72,11 @@ unfolding areTables
 written-read bs ns {o} {left} {r} w h =
     ap (λ s. readsTo (outcome s) (take bytesSize bs) (take numbersSize ns)) (front (canonical (tablesIn bs ns)) o left r w h)
 
+-- what reading it back says
+pub read-back : (bs : List ℕ) (ns : List ℤ) {o left : List ℕ} {r : ℕ} → WholeLine (canonical (tablesIn bs ns)) o left r → r ≤ length o → {b t : Bool}
+    → b ≡ readsTo (outcome (take r left)) (take bytesSize bs) (take numbersSize ns) → b ≡ t → areTables bs ns ≡ t
+read-back bs ns w h e f = sym (written-read bs ns w h) ∙ sym e ∙ f
+
 -- ---- what is read back
 roomy : (s bs : List ℕ) (ns : List ℤ) → bytesSize ≤ length bs → numbersSize ≤ length ns → readOutcome bs ns s ≡ outcome s
 roomy s bs ns k h = rw (le-ltb (length bs) bytesSize k, le-ltb (length ns) numbersSize h)
@@ -100,3 +106,33 @@ read-accepted s bs ns r bs′ ns′ w e k h xs ys =
     let n : take numbersSize ns′ ≡ numbersOf l = ap (take numbersSize) (w .numbers-after ∙ ap (λ z. numbersAfter z ns) o) ∙ laid-numbers l v ns in
     ap (λ z. same z xs && sameNumbers (take numbersSize ns′) ys) b ∙ ap (λ z. same (bytesOf l) xs && sameNumbers z ys) n
     ∙ ap (λ z. readsTo z xs ys) (sym (a .1))
+
+-- ---- the line of tables, written
+some-bytes : (s bs : List ℕ) (ns : List ℤ) → readsTo (outcome s) bs ns ≡ true → 1 ≤ length s
+unfolding outcome firstDue refusal1
+some-bytes [] bs ns e = absurd (false≢true e)
+some-bytes (b ∷ s) bs ns e = omega arith
+
+pub no-line : (bs : List ℕ) (ns : List ℤ) {line : List ℕ} → areTables bs ns ≡ false → LineOf bs ns line 0
+no-line bs ns n = record { none = λ _. refl; tables = λ e. absurd (false≢true (sym n ∙ e)) }
+
+pub its-line : (bs : List ℕ) (ns : List ℤ) {o left : List ℕ} {r : ℕ} → WholeLine (canonical (tablesIn bs ns)) o left r → r ≤ length o → r ≤ lineLimit
+    → areTables bs ns ≡ true → LineOf bs ns left r
+unfolding areTables
+its-line bs ns {o} {left} {r} w h k y =
+    record {
+      none = λ n. absurd (false≢true (sym n ∙ y));
+      tables = λ e. record {
+        long = w .long;
+        front = front (canonical (tablesIn bs ns)) o left r w h;
+        some = subst (λ z. 1 ≤ z) (sym (w .long)) (some-bytes (canonical (tablesIn bs ns)) (take bytesSize bs) (take numbersSize ns) y);
+        low = k;
+      };
+    }
+
+-- whether there is a line says whether they are tables
+pub said-by-line : (bs : List ℕ) (ns : List ℤ) {line : List ℕ} {r : ℕ} → LineOf bs ns line r → not (eqb r 0) ≡ areTables bs ns
+said-by-line bs ns {line} {r} w =
+    by-test (areTables bs ns)
+    (λ e. let k = w .tables e .some in rw (ne-eqb r 0 (omega arith), e))
+    (λ e. rw (w .none e, e))

@@ -1,1 +1,2 @@
 pub mod Fourteen
+pub mod LineOf

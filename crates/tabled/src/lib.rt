@@ -11,12 +11,13 @@ ghost use mathlib.Core.Bool.{_&&_};
 ghost use Prim.Native.Nat.{_≤_};
 ghost use lib.ListN.{length, take};
 ghost use Rattle.scope.specs.Bytes.{same};
+ghost use Rattle.scope.specs.Limits.{lineLimit};
 ghost use Rattle.scope.specs.Refusals.{outcome};
 ghost use Rattle.scope.specs.Tables.{bytesSize, numbersSize, tablesIn};
 ghost use Rattle.scope.specs.Answers.{sameNumbers, readsTo, areTables};
 ghost use Rattle.areas.specs.Bounds.{Bounds};
 ghost use Rattle.writer.specs.Ranks.{Ordered};
-ghost use Rattle.reader.specs.ReadSays.{ReadSays};
+ghost use Rattle.tabled.specs.LineOf.{LineOf};
 
 // Do two pairs of areas hold the same, as far as their fixed sizes?
 fn same_areas(ab: &[u8], an: &[i64], bytes: &[u8], numbers: &[i64]) -> bool
@@ -52,17 +53,32 @@ fn front_reads_to(line: &[u8], n: usize, bytes: &[u8], numbers: &[i64]) -> bool
     reads_to(front, bytes, numbers)
 }
 
-// Does the canonical line of what the areas hold read to it, where its numbers keep to their bounds and its brackets to their order?
-fn reads_back(bytes: &[u8], numbers: &[i64]) -> bool
-    requires { ⌜ Bounds (now bytes) (now numbers) × Ordered (tablesIn (now bytes) (now numbers)) ⌝ }
-    ensures { λ r. ⌜ r ≡ areTables (now (bytes .entry)) (now (numbers .entry)) ⌝ }
+// The length of the canonical line of what the areas hold, where it reads to them, else 0. Their numbers keep to their bounds, their brackets to their order.
+fn line_back(bytes: &[u8], numbers: &[i64], line: &mut [u8]) -> usize
+    requires { ⌜ Bounds (now bytes) (now numbers) × Ordered (tablesIn (now bytes) (now numbers)) × (length (now line) ≡ lineLimit) ⌝ }
+    ensures { λ r. ⌜ LineOf (now (bytes .entry)) (now (numbers .entry)) (now (line .exit)) r ⌝ }
 {
-    let mut line = [0u8; 4096];
-    let n = write_line(bytes, numbers, &mut line);
+    let n = write_line(bytes, numbers, line);
     if Tables::LINE < n {
-        return false;
+        return 0;
     }
-    front_reads_to(&line, n, bytes, numbers)
+    if front_reads_to(line, n, bytes, numbers) {
+        return n;
+    }
+    0
+}
+
+// The canonical line of tables, and its length; 0 where the areas are no tables of an accepted line.
+pub fn line_of(bytes: &[u8], numbers: &[i64], line: &mut [u8]) -> usize
+    requires { ⌜ (bytesSize ≤ length (now bytes)) × (numbersSize ≤ length (now numbers)) × (length (now line) ≡ lineLimit) ⌝ }
+    ensures { λ r. ⌜ LineOf (now (bytes .entry)) (now (numbers .entry)) (now (line .exit)) r ⌝ }
+{
+    if in_bounds(bytes, numbers) {
+        if in_order(bytes) {
+            return line_back(bytes, numbers, line);
+        }
+    }
+    0
 }
 
 // Are the areas tables of an accepted line?
@@ -70,10 +86,7 @@ pub fn are_tables(bytes: &[u8], numbers: &[i64]) -> bool
     requires { ⌜ (bytesSize ≤ length (now bytes)) × (numbersSize ≤ length (now numbers)) ⌝ }
     ensures { λ r. ⌜ r ≡ areTables (now (bytes .entry)) (now (numbers .entry)) ⌝ }
 {
-    if in_bounds(bytes, numbers) {
-        if in_order(bytes) {
-            return reads_back(bytes, numbers);
-        }
-    }
-    false
+    let mut line = [0u8; 4096];
+    let n = line_of(bytes, numbers, &mut line);
+    n != 0
 }

@@ -1,0 +1,384 @@
+-- The promises of specs/Promises.antt are kept.
+use mathlib.Core.Path.{_≡_, refl, sym, ap, _∙_, subst}
+use mathlib.Core.Logic.{_↔_}
+use mathlib.Core.Bool.{Bool, true, false, cond, _&&_, _||_}
+use mathlib.Core.Option.{Option, none, some}
+use mathlib.Core.List.{List, [], _∷_, _++_}
+use Prim.Native.Nat.{ℕ, zero, suc, _+_, _≤_}
+use native.Mathlib.Omega.{arith}
+use borrow.Author.Tests.{eqb-true, le-ltb}
+use lib.Dec.{eqb, ltb}
+use lib.IntN.{ℤ, pos, _+ℤ_}
+use lib.ListN.{length, take, drop, getD, getElem?}
+use lib.Seq.{take-append-seam, drop-append-seam}
+use Rattle.scope.specs.declared.answers.Read.{Read}
+use Rattle.scope.specs.declared.answers.Read.the-variants.{Accepted, Refused as readRefused}
+use Rattle.scope.specs.declared.answers.Write.{Write}
+use Rattle.scope.specs.declared.answers.Write.the-variants.{Written, Refused as writeRefused}
+use Rattle.scope.specs.declared.answers.Request.{Request}
+use Rattle.scope.specs.declared.answers.Request.the-variants.{Met, Refused}
+use Rattle.scope.specs.declared.answers.Booked.{Booked}
+use Rattle.scope.specs.declared.answers.Booked.the-variants.{Done, Refused as bookedRefused}
+use Rattle.scope.specs.declared.answers.Total.the-variants.{Millionths}
+use Rattle.scope.specs.declared.answers.Placement.{Placement}
+use Rattle.scope.specs.declared.answers.Listing.{Listing}
+use Rattle.scope.specs.declared.answers.Ledger.{Ledger}
+use Rattle.scope.specs.Limits.{copyLimit}
+use Rattle.scope.specs.Line.{Line}
+use Rattle.scope.specs.Modifications.{all}
+use Rattle.scope.specs.Refusals.{Outcome, accepted, refused, outcome}
+use Rattle.scope.specs.Canonical.{canonical}
+use Rattle.scope.specs.Tables.{Tables, bytesOf, numbersOf, laid, tablesIn}
+use Rattle.scope.specs.Positions.{floaters, permittedPositions}
+use Rattle.scope.specs.Placements.{allowed, placements, firstPlacement, nextPlacement, freshListing, Listed, handed, notAllowed, requested}
+use Rattle.scope.specs.Masses.{sum, total, lacking, ledger, labileMass}
+use Rattle.scope.specs.Answers.{Said, good, refuses, saysRead, saysWrite, saysRequest, saysBooked, saysNumber, tooShort, areTables, readOutcome, saysOutcome, bytesAfter, numbersAfter, fitting, writes, outputAfter, requests, listingAfter, allows, totals, weighed, bookable, books, entries}
+use Rattle.layout_laws.specs.Laws.{tables-held}
+use Rattle.placement_laws.specs.Terms.{In, Ascending, AllRising, afterRequests, outOf, handedOut}
+use Rattle.placement_laws.specs.Laws as placing
+use Rattle.laws.specs.Demands as laws
+use Rattle.laws.specs.Proved.{demands}
+use Rattle.reader.specs.ReadSays.{ReadSays}
+use Rattle.calls.specs.declared.Next.{Next}
+use Rattle.calls.specs.Writing.{WriteSays}
+use Rattle.promises.specs.Promises.{NextSays, AllowedSays, TotalSays, LedgerSays, Entered, HandsOut, Demand2, Demand3, Promises}
+
+-- ---- an answer from what it says
+not-good : {A : Type 0} {a : A} {n p : ℕ} → good a ≡ refuses n p → ⊥
+not-good e = let z : _≡_ {A = ℕ} 0 1 = cc in omega arith
+
+read-good : (r : Read) → saysRead r ≡ good tt → r ≡ Accepted
+read-good Accepted e = refl
+read-good (readRefused n p) e = absurd (not-good (sym e))
+
+write-good : (w : Write) (n : ℕ) → saysWrite w ≡ good n → w ≡ Written n
+write-good (Written m) n e = let z : m ≡ n = cc in ap Written z
+write-good (writeRefused m p) n e = absurd (not-good (sym e))
+
+booked-good : (b : Booked) → saysBooked b ≡ good (tt {0}) → b ≡ Done
+booked-good Done e = refl
+booked-good (bookedRefused n p) e = absurd (not-good (sym e))
+
+request-refused : (r : Request) (n : ℕ) → saysRequest r ≡ refuses n 0 → r ≡ Refused n
+request-refused Met n e = absurd (not-good e)
+request-refused (Refused m) n e = let z : m ≡ n = cc in ap Refused z
+
+-- the answer with a number
+abbrev requestOf : ℕ → Request
+requestOf n = cond (eqb n 0) Met (Refused n)
+
+saysRequest-of : (n : ℕ) → saysRequest (requestOf n) ≡ saysNumber n
+saysRequest-of n = go (eqb n 0)
+  where
+    go : (b : Bool) → saysRequest (cond b Met (Refused n)) ≡ cond b (good (tt {0})) (refuses n 0)
+    go true = refl
+    go false = refl
+
+-- ---- a list at a place, and at its end
+past-end : (l : List (List ℕ)) (n : ℕ) → length l ≤ n → (getElem? l n ≡ none) × (drop n l ≡ [])
+past-end [] zero h = (refl, refl)
+past-end [] (suc n) h = (refl, refl)
+past-end (p ∷ l) zero h = absurd (omega arith)
+past-end (p ∷ l) (suc n) h = past-end l n (omega arith)
+
+at-place : (l : List (List ℕ)) (n : ℕ) → suc n ≤ length l → (getElem? l n ≡ some (getD l n [])) × (drop n l ≡ getD l n [] ∷ drop (suc n) l)
+at-place [] n h = absurd (omega arith)
+at-place (p ∷ l) zero h = (refl, refl)
+at-place (p ∷ l) (suc n) h = at-place l n (omega arith)
+
+-- ---- after a successful read
+pub record WasRead (s bs : List ℕ) (ns : List ℤ) (bs′ : List ℕ) (ns′ : List ℤ) : Type 0 where
+  pub line : Line ℕ
+  pub reads : outcome s ≡ accepted line
+  pub bytes : bs′ ≡ laid (bytesOf line) bs
+  pub numbers : ns′ ≡ laid (numbersOf line) ns
+
+accepted-so : (a : Bool) (o : Outcome) → good (tt {0}) ≡ saysOutcome (cond a (refused 13 0) o) → (l : Line ℕ) × (a ≡ false) × (o ≡ accepted l)
+accepted-so true o e = absurd (not-good e)
+accepted-so false (accepted l) e = (l, refl, refl)
+accepted-so false (refused n p) e = absurd (not-good e)
+
+was-read : (s bs : List ℕ) (ns : List ℤ) (bs′ : List ℕ) (ns′ : List ℤ) → ReadSays s bs ns Accepted bs′ ns′ → WasRead s bs ns bs′ ns′
+was-read s bs ns bs′ ns′ w =
+    let a = accepted-so (tooShort bs ns) (outcome s) (w .says) in
+    let o : readOutcome bs ns s ≡ accepted (a .0) = ap (λ b. cond b (refused 13 0) (outcome s)) (a .1) ∙ a .2 in
+    record {
+      line = a .0;
+      reads = a .2;
+      bytes = w .bytes-after ∙ ap (λ z. bytesAfter z bs) o;
+      numbers = w .numbers-after ∙ ap (λ z. numbersAfter z ns) o;
+    }
+
+-- what its areas hold: tables of the line
+held-after : {s bs : List ℕ} {ns : List ℤ} {bs′ : List ℕ} {ns′ : List ℤ} → (r : WasRead s bs ns bs′ ns′) → laws.HoldTables (r .line) bs′ ns′
+held-after {s} {bs} {ns} {bs′} {ns′} r =
+    subst (λ b. laws.HoldTables (r .line) b ns′) (sym (r .bytes))
+    (subst (λ n. laws.HoldTables (r .line) (laid (bytesOf (r .line)) bs) n) (sym (r .numbers)) (demands .demand-2 .read s (r .line) (r .reads) bs ns))
+
+-- ---- demand 2
+-- the line of areas that hold tables, where it fits
+fits : (c : List ℕ) (n : ℕ) → length c ≤ n → fitting c n ≡ good (length c)
+fits c n h = rw (le-ltb n (length c) h)
+
+written-so : (bs : List ℕ) (ns : List ℤ) (out : List ℕ) → tooShort bs ns ≡ false → areTables bs ns ≡ true
+    → writes bs ns out ≡ fitting (canonical (tablesIn bs ns)) (length out)
+written-so bs ns out a e = rw (a, e)
+
+-- reading a line into areas that it reads to
+read-again : (c bs : List ℕ) (ns : List ℤ) → tooShort bs ns ≡ false → laws.ReadsBack c bs ns → (r : Read) (bs′ : List ℕ) (ns′ : List ℤ)
+    → ReadSays c bs ns r bs′ ns′ → (r ≡ Accepted) × (bs′ ≡ bs) × (ns′ ≡ ns)
+read-again c bs ns a b r bs′ ns′ w =
+    let o : readOutcome bs ns c ≡ accepted (b .line) = ap (λ z. cond z (refused 13 0) (outcome c)) a ∙ b .reads in (
+      read-good r (w .says ∙ ap saysOutcome o),
+      w .bytes-after ∙ ap (λ z. bytesAfter z bs) o ∙ b .bytes,
+      w .numbers-after ∙ ap (λ z. numbersAfter z ns) o ∙ b .numbers,
+    )
+
+reads-back : (s bs : List ℕ) (ns : List ℤ) (bs′ : List ℕ) (ns′ : List ℤ) → ReadSays s bs ns Accepted bs′ ns′
+    → (out : List ℕ) (w : Write) (out′ : List ℕ) → WriteSays bs′ ns′ out w out′ → length s ≤ length out → Entered s bs′ ns′ out w out′
+reads-back s bs ns bs′ ns′ rd out w out′ wr h =
+    let r = was-read s bs ns bs′ ns′ rd in
+    let t = held-after r in
+    let c = canonical (tablesIn bs′ ns′) in
+    let k : length c ≤ length s =
+    subst (λ b. length (canonical (tablesIn b ns′)) ≤ length s) (sym (r .bytes))
+    (subst (λ n. length (canonical (tablesIn (laid (bytesOf (r .line)) bs) n)) ≤ length s) (sym (r .numbers)) (demands .demand-2 .no-longer s (r .line) (r .reads) bs ns))
+    in
+    let g : writes bs′ ns′ out ≡ good (length c) = written-so bs′ ns′ out (t .long-enough) (t .taken) ∙ fits c (length out) (omega arith) in
+    let o : out′ ≡ c ++ drop (length c) out = wr .output-after ∙ ap (λ z. outputAfter z c out) g in
+    record {
+      long = length c;
+      says = write-good w (length c) (wr .says ∙ g);
+      no-longer = k;
+      rest = ap (drop (length c)) o ∙ drop-append-seam c (drop (length c) out);
+      back =
+          subst (λ z. (q : Read) (b : List ℕ) (n : List ℤ) → ReadSays z bs′ ns′ q b n → (q ≡ Accepted) × (b ≡ bs′) × (n ≡ ns′))
+          (sym (ap (take (length c)) o ∙ take-append-seam c (drop (length c) out)))
+          (read-again c bs′ ns′ (t .long-enough) (demands .demand-2 .reads-back bs′ ns′ (t .taken)));
+    }
+
+-- the line that was written
+line-written : (bs : List ℕ) (ns : List ℤ) (out out′ : List ℕ) (n : ℕ) → tooShort bs ns ≡ false → areTables bs ns ≡ true → WriteSays bs ns out (Written n) out′
+    → take n out′ ≡ canonical (tablesIn bs ns)
+line-written bs ns out out′ n a e w =
+    let c = canonical (tablesIn bs ns) in
+    let f : good n ≡ fitting c (length out) = w .says ∙ written-so bs ns out a e in
+    let m : n ≡ length c = go (ltb (length out) (length c)) (length c) f in
+    let o : out′ ≡ c ++ drop (length c) out = w .output-after ∙ ap (λ z. outputAfter z c out) (sym (w .says)) in
+    ap (λ k. take k out′) m ∙ ap (take (length c)) o ∙ take-append-seam c (drop (length c) out)
+  where
+    go : (b : Bool) (k : ℕ) → good n ≡ cond b (refuses 15 k) (good k) → n ≡ k
+    go true k q = absurd (not-good q)
+    go false k q = cc
+
+one-entry : (bs : List ℕ) (ns : List ℤ) (s bs₁ : List ℕ) (ns₁ : List ℤ) → ReadSays s bs ns Accepted bs₁ ns₁ → (t bs₂ : List ℕ) (ns₂ : List ℤ)
+    → ReadSays t bs ns Accepted bs₂ ns₂ → (out out₁ : List ℕ) (m : ℕ) → WriteSays bs₁ ns₁ out (Written m) out₁ → (out′ out₂ : List ℕ) (n : ℕ)
+    → WriteSays bs₂ ns₂ out′ (Written n) out₂ → take m out₁ ≡ take n out₂ ↔ ((bs₁ ≡ bs₂) × (ns₁ ≡ ns₂))
+one-entry bs ns s bs₁ ns₁ r₁ t bs₂ ns₂ r₂ out out₁ m w₁ out′ out₂ n w₂ =
+    let a = was-read s bs ns bs₁ ns₁ r₁ in
+    let b = was-read t bs ns bs₂ ns₂ r₂ in
+    let h = held-after a in
+    let k = held-after b in
+    let e : take m out₁ ≡ canonical (a .line) = line-written bs₁ ns₁ out out₁ m (h .long-enough) (h .taken) w₁ ∙ h .written in
+    let f : take n out₂ ≡ canonical (b .line) = line-written bs₂ ns₂ out′ out₂ n (k .long-enough) (k .taken) w₂ ∙ k .written in
+    let one = demands .demand-2 .one-entry s t (a .line) (b .line) (a .reads) (b .reads) in (
+      (λ q.
+          let z = one .0 (sym e ∙ q ∙ f) in
+          (a .bytes ∙ ap (λ x. laid x bs) (z .0) ∙ sym (b .bytes), a .numbers ∙ ap (λ x. laid x ns) (z .1) ∙ sym (b .numbers))),
+      (λ q. e ∙ sym (h .written) ∙ ap (λ x. canonical (tablesIn x ns₁)) (q .0) ∙ ap (λ x. canonical (tablesIn bs₂ x)) (q .1) ∙ k .written ∙ sym f),
+    )
+
+-- ---- demand 3: requests
+number-met : (n : ℕ) → good (tt {0}) ≡ saysNumber n → n ≡ 0
+number-met n e = go (eqb n 0) (eqb-true n 0) e
+  where
+    go : (b : Bool) → (b ≡ true → n ≡ 0) → good (tt {0}) ≡ cond b (good (tt {0})) (refuses n 0) → n ≡ 0
+    go true f q = f refl
+    go false f q = absurd (not-good q)
+
+number-refused : (n m : ℕ) → refuses m 0 ≡ saysNumber n → n ≡ m
+number-refused n m e = go (eqb n 0) e
+  where
+    go : (b : Bool) → refuses m 0 ≡ cond b (good (tt {0})) (refuses n 0) → n ≡ m
+    go true q = absurd (not-good (sym q))
+    go false q = cc
+
+-- a request that finds none leaves the record
+handed-stays : (l : Listing) (o : Option (List ℕ)) → handed l o .number ≡ 17 → handed l o .after ≡ l
+handed-stays l none e = refl
+handed-stays l (some p) e = absurd (omega arith)
+
+requested-stays : (l : Listing) (a b c : Bool) (o q : Option (List ℕ))
+    → cond a (cond b (handed l o) (notAllowed l)) (cond c (handed l q) (notAllowed l)) .number ≡ 17
+    → cond a (cond b (handed l o) (notAllowed l)) (cond c (handed l q) (notAllowed l)) .after ≡ l
+requested-stays l true true c o q e = handed-stays l o e
+requested-stays l true false c o q e = refl
+requested-stays l false b true o q e = handed-stays l q e
+requested-stays l false b false o q e = refl
+
+stays : (qs : List (List ℕ)) (l : Listing) → requested qs l .number ≡ 17 → requested qs l .after ≡ l
+unfolding requested
+stays qs l e =
+    requested-stays l (l .fresh) (eqb (length (l .at)) copyLimit && all (eqb 0) (l .at)) (allowed qs (l .at)) (firstPlacement qs) (nextPlacement qs (l .at)) e
+
+none-further : (qs : List (List ℕ)) (l : Listing) → requested qs l .number ≡ 17 → (n : ℕ) → handedOut qs n l ≡ []
+unfolding handedOut
+none-further qs l e zero = refl
+none-further qs l e (suc n) =
+    ap (λ m. cond (eqb m 0) (requested qs l .after .at ∷ []) [] ++ handedOut qs n (requested qs l .after)) e
+    ∙ ap (handedOut qs n) (stays qs l e) ∙ none-further qs l e n
+
+-- over areas that hold tables a request is answered by the definition
+pub record Taken (bs : List ℕ) (ns : List ℤ) : Type 0 where
+  pub long-enough : tooShort bs ns ≡ false
+  pub taken : areTables bs ns ≡ true
+
+module _ (bs : List ℕ) (ns : List ℤ) (h : Taken bs ns) where
+  abbrev t : Tables
+  t = tablesIn bs ns
+
+  abbrev qs : List (List ℕ)
+  qs = permittedPositions t
+
+  requests-so : (l : Listing) → requests bs ns l ≡ saysNumber (requested qs l .number)
+  requests-so l = rw (h .long-enough, h .taken)
+
+  after-so : (l : Listing) → listingAfter bs ns l ≡ requested qs l .after
+  after-so l = rw (h .long-enough, h .taken)
+
+  allows-so : (p : List ℕ) → allows bs ns p ≡ cond (allowed qs p) (good (tt {0})) (refuses 18 0)
+  allows-so p = rw (h .long-enough, h .taken)
+
+  met-by : (p : Placement) → allowed qs (p .at) ≡ true → AllowedSays bs ns p Met
+  met-by p e = sym (allows-so (p .at) ∙ ap (λ b. cond b (good (tt {0})) (refuses 18 0)) e)
+
+  allowed-by : (p : List ℕ) → good (tt {0}) ≡ allows bs ns p → allowed qs p ≡ true
+  allowed-by p e = go (allowed qs p) (e ∙ allows-so p)
+    where
+      go : (b : Bool) → good (tt {0}) ≡ cond b (good (tt {0})) (refuses 18 0) → b ≡ true
+      go true q = refl
+      go false q = absurd (not-good q)
+
+  number-17 : (l : Listing) (r : Next) → NextSays bs ns l r → r .request ≡ Refused 17 → requested qs l .number ≡ 17
+  number-17 l r w e = number-refused (requested qs l .number) 17 (ap saysRequest (sym e) ∙ w .0 ∙ requests-so l)
+
+  number-0 : (l : Listing) (r : Next) → NextSays bs ns l r → r .request ≡ Met → requested qs l .number ≡ 0
+  number-0 l r w e = number-met (requested qs l .number) (ap saysRequest (sym e) ∙ w .0 ∙ requests-so l)
+
+  -- what is handed out until 17 is what as many requests hand out, or more
+  handed-so : (ps : List (List ℕ)) (l : Listing) → HandsOut bs ns l ps → (n : ℕ) → length ps ≤ n → handedOut qs n l ≡ ps
+  unfolding handedOut
+  handed-so [] l w n k = none-further qs l (number-17 l (w .0) (w .1 .0) (w .1 .1)) n
+  handed-so (p ∷ ps) l w zero k = absurd (omega arith)
+  handed-so (p ∷ ps) l w (suc n) k =
+      let e = number-0 l (w .0) (w .1 .0) (w .1 .1 .0) in
+      let f : w .0 .listing ≡ requested qs l .after = w .1 .0 .1 ∙ after-so l in
+      ap (λ m. cond (eqb m 0) (requested qs l .after .at ∷ []) [] ++ handedOut qs n (requested qs l .after)) e
+      ∙ ap (λ x. x .at ∷ handedOut qs n x) (sym f)
+      ∙ ap (λ x. x ∷ handedOut qs n (w .0 .listing)) (w .1 .1 .1 .0)
+      ∙ ap (λ x. p ∷ x) (handed-so ps (w .0 .listing) (w .1 .1 .1 .1) n (omega arith))
+
+  all-handed : (ps : List (List ℕ)) → HandsOut bs ns freshListing ps → ps ≡ laws.listed t (laws.many t)
+  all-handed ps w =
+      let n = length ps + laws.many t in
+      sym (handed-so ps freshListing w n (omega arith)) ∙ demands .demand-3-in bs ns (h .taken) .no-further n (omega arith)
+
+  every-allowed : (ps : List (List ℕ)) → HandsOut bs ns freshListing ps → (p : Placement) → In (p .at) ps ↔ AllowedSays bs ns p Met
+  every-allowed ps w p =
+      let d = demands .demand-3-in bs ns (h .taken) .every-allowed (p .at) in
+      let e = all-handed ps w in
+      ((λ q. met-by p (d .0 (subst (λ x. In (p .at) x) e q))), (λ q. subst (λ x. In (p .at) x) (sym e) (d .1 (allowed-by (p .at) q))))
+
+  ascending : (ps : List (List ℕ)) → HandsOut bs ns freshListing ps → Ascending ps
+  ascending ps w = subst Ascending (sym (all-handed ps w)) (demands .demand-3-in bs ns (h .taken) .ascending)
+
+  -- ---- masses
+  total-so : (m : ℤ) → TotalSays bs ns (Millionths m) → (eqb (lacking t) 0 ≡ true) × (total t ≡ m)
+  total-so m w = go (eqb (lacking t) 0) (w ∙ answered)
+    where
+      answered : totals bs ns ≡ weighed t (total t)
+      answered = rw (h .long-enough, h .taken)
+
+      go : (b : Bool) → good m ≡ cond b (good (total t)) (refuses 16 (lacking t)) → (b ≡ true) × (total t ≡ m)
+      go true q = (refl, cc)
+      go false q = absurd (not-good q)
+
+  adds-up : (m : ℤ) → TotalSays bs ns (Millionths m) → (p : Placement) → AllowedSays bs ns p Met → (r : Ledger) → LedgerSays bs ns p r
+      → (r .booked ≡ Done) × (sum (r .at) +ℤ labileMass (tablesIn bs ns) ≡ m)
+  adds-up m w p a r l =
+      let e = total-so m w in
+      let k = allowed-by (p .at) a in
+      let b : books bs ns (p .at) ≡ good (tt {0}) = rw (h .long-enough, h .taken, e .0, k) in (
+        booked-good (r .booked) (l .0 ∙ b),
+        ap (λ x. sum x +ℤ labileMass t) (l .1 ∙ ap (λ x. entries x t (p .at)) b) ∙ demands .demand-3-in bs ns (h .taken) .adds-up (p .at) k ∙ e .1,
+      )
+
+  -- ---- "'none' exactly when none exists"
+  none-exists : (r : Next) → NextSays bs ns freshListing r → (r .request ≡ Refused 17) ↔ ((p : Placement) → AllowedSays bs ns p Met → ⊥)
+  none-exists r w =
+      let d = demands .demand-3-in bs ns (h .taken) .none-at-first in (
+        (λ e p a. d .0 (number-17 freshListing r w e) (p .at) (allowed-by (p .at) a)),
+        (λ f.
+            let e : requested qs freshListing .number ≡ 17 = d .1 (λ p a. f (record { at = p }) (met-by (record { at = p }) a)) in
+            request-refused (r .request) 17 (w .0 ∙ requests-so freshListing ∙ ap saysNumber e)),
+      )
+
+  -- ---- the requests end
+  few : length qs ≤ copyLimit
+  few = rw (placing.line-many t) (tables-held bs ns (h .taken) .1 .tables-within .few-copies)
+
+  -- the answer of a call, from what is requested
+  abbrev answerOf : Listing → Next
+  answerOf l = record { request = requestOf (requested qs l .number); listing = requested qs l .after }
+
+  answered-so : (l : Listing) → NextSays bs ns l (answerOf l)
+  answered-so l = (saysRequest-of (requested qs l .number) ∙ sym (requests-so l), sym (after-so l))
+
+  requested-nth : (n : ℕ) → requested qs (afterRequests qs n freshListing) ≡ handed (afterRequests qs n freshListing) (getElem? (placements qs) n)
+  requested-nth n = placing.request qs few (placing.line-rising t) n
+
+  after-next : (n : ℕ) (l : Listing) → afterRequests qs (suc n) l ≡ requested qs (afterRequests qs n l) .after
+  unfolding afterRequests
+  after-next zero l = refl
+  after-next (suc n) l = after-next n (requested qs l .after)
+
+  -- from the record after n requests on
+  handed-from : (k n : ℕ) → length (placements qs) ≡ n + k → HandsOut bs ns (afterRequests qs n freshListing) (drop n (placements qs))
+  handed-from zero n e =
+      let l = afterRequests qs n freshListing in
+      let p = past-end (placements qs) n (omega arith) in
+      subst (HandsOut bs ns l) (sym (p .1))
+      (answerOf l, (answered-so l, ap (λ a. requestOf (a .number)) (requested-nth n ∙ ap (handed l) (p .0))))
+  handed-from (suc k) n e =
+      let l = afterRequests qs n freshListing in
+      let p = at-place (placements qs) n (omega arith) in
+      let q = requested-nth n ∙ ap (handed l) (p .0) in
+      subst (HandsOut bs ns l) (sym (p .1)) (
+        answerOf l,
+        (
+          answered-so l,
+          (
+            ap (λ a. requestOf (a .number)) q,
+            (
+              ap (λ a. a .after .at) q,
+              subst (λ x. HandsOut bs ns x (drop (suc n) (placements qs))) (after-next n freshListing) (handed-from k (suc n) (omega arith)),
+            ),
+          ),
+        ),
+      )
+
+  ends : (ps : List (List ℕ)) × HandsOut bs ns freshListing ps
+  unfolding afterRequests
+  ends = (placements qs, handed-from (length (placements qs)) 0 (omega arith))
+
+  demand-3 : Demand3 bs ns
+  demand-3 = record { ends = ends; every-allowed = every-allowed; ascending = ascending; none = none-exists; adds-up = adds-up }
+
+pub promises : Promises
+promises =
+    record {
+      demand-2 = record { reads-back = reads-back; one-entry = one-entry };
+      demand-3 = λ s bs ns bs′ ns′ w.
+          let t = held-after (was-read s bs ns bs′ ns′ w) in
+          demand-3 bs′ ns′ (record { long-enough = t .long-enough; taken = t .taken });
+    }

@@ -1,0 +1,90 @@
+-- Demands 2 and 3 of the tender, over what the calls ensure. `ReadSays`, `WriteSays`, `NextSays`, `TotalSays`, `AllowedSays` and `LedgerSays` are what
+-- `reader::read` and `calls::{write, next_placement, total, is_allowed, ledger}` ensure. Their proofs: specs/Kept.antt.
+use mathlib.Core.Path.{_≡_}
+use mathlib.Core.Logic.{_↔_}
+use mathlib.Core.List.{List, [], _∷_}
+use Prim.Native.Nat.{ℕ, _≤_}
+use lib.IntN.{ℤ, _+ℤ_}
+use lib.ListN.{length, take, drop}
+use Rattle.scope.specs.declared.answers.Read.{Read}
+use Rattle.scope.specs.declared.answers.Read.the-variants.{Accepted}
+use Rattle.scope.specs.declared.answers.Write.{Write}
+use Rattle.scope.specs.declared.answers.Write.the-variants.{Written}
+use Rattle.scope.specs.declared.answers.Request.{Request}
+use Rattle.scope.specs.declared.answers.Request.the-variants.{Met, Refused}
+use Rattle.scope.specs.declared.answers.Booked.the-variants.{Done}
+use Rattle.scope.specs.declared.answers.Total.{Total}
+use Rattle.scope.specs.declared.answers.Total.the-variants.{Millionths}
+use Rattle.scope.specs.declared.answers.Placement.{Placement}
+use Rattle.scope.specs.declared.answers.Listing.{Listing}
+use Rattle.scope.specs.declared.answers.Ledger.{Ledger}
+use Rattle.scope.specs.Tables.{tablesIn}
+use Rattle.scope.specs.Placements.{freshListing}
+use Rattle.scope.specs.Masses.{sum, labileMass}
+use Rattle.scope.specs.Answers.{saysRequest, saysTotal, saysBooked, requests, listingAfter, allows, totals, books, entries}
+use Rattle.placement_laws.specs.Terms.{In, Ascending}
+use Rattle.reader.specs.ReadSays.{ReadSays}
+use Rattle.calls.specs.declared.Next.{Next}
+use Rattle.calls.specs.Writing.{WriteSays}
+
+-- ---- what the other calls ensure
+abbrev pub NextSays : List ℕ → List ℤ → Listing → Next → Type 0
+NextSays bs ns l r = (saysRequest (r .request) ≡ requests bs ns l) × (r .listing ≡ listingAfter bs ns l)
+
+abbrev pub AllowedSays : List ℕ → List ℤ → Placement → Request → Type 0
+AllowedSays bs ns p r = saysRequest r ≡ allows bs ns (p .at)
+
+abbrev pub TotalSays : List ℕ → List ℤ → Total → Type 0
+TotalSays bs ns r = saysTotal r ≡ totals bs ns
+
+abbrev pub LedgerSays : List ℕ → List ℤ → Placement → Ledger → Type 0
+LedgerSays bs ns p r = (saysBooked (r .booked) ≡ books bs ns (p .at)) × (r .at ≡ entries (books bs ns (p .at)) (tablesIn bs ns) (p .at))
+
+-- ---- demand 2
+
+-- areas that a line s was read into, and an output that was written from them
+pub record Entered (s bs : List ℕ) (ns : List ℤ) (out : List ℕ) (w : Write) (out′ : List ℕ) : Type 0 where
+  -- the line is written, and is no longer than s; the rest of the output is as it was
+  pub long : ℕ
+  pub says : w ≡ Written long
+  pub no-longer : long ≤ length s
+  pub rest : drop long out′ ≡ drop long out
+  -- reading it is a success, and leaves the areas as they are
+  pub back : (r : Read) (bs′ : List ℕ) (ns′ : List ℤ) → ReadSays (take long out′) bs ns r bs′ ns′ → (r ≡ Accepted) × (bs′ ≡ bs) × (ns′ ≡ ns)
+
+pub record Demand2 : Type 0 where
+  -- "Tables are written as one canonical line that reads back to the same tables"
+  pub reads-back :
+      (s bs : List ℕ) (ns : List ℤ) (bs′ : List ℕ) (ns′ : List ℤ) → ReadSays s bs ns Accepted bs′ ns′
+      → (out : List ℕ) (w : Write) (out′ : List ℕ) → WriteSays bs′ ns′ out w out′ → length s ≤ length out → Entered s bs′ ns′ out w out′
+  -- "two accepted lines share it exactly when their tables are equal"
+  pub one-entry :
+      (bs : List ℕ) (ns : List ℤ) (s bs₁ : List ℕ) (ns₁ : List ℤ) → ReadSays s bs ns Accepted bs₁ ns₁ → (t bs₂ : List ℕ) (ns₂ : List ℤ)
+      → ReadSays t bs ns Accepted bs₂ ns₂ → (out out₁ : List ℕ) (m : ℕ) → WriteSays bs₁ ns₁ out (Written m) out₁ → (out′ out₂ : List ℕ) (n : ℕ)
+      → WriteSays bs₂ ns₂ out′ (Written n) out₂ → take m out₁ ≡ take n out₂ ↔ ((bs₁ ≡ bs₂) × (ns₁ ≡ ns₂))
+
+-- ---- demand 3
+
+-- requests one after another, the record moved on by each, hand out these placements, and then one answers 17
+abbrev pub HandsOut : List ℕ → List ℤ → Listing → List (List ℕ) → Type 0
+HandsOut bs ns l [] = (r : Next) × (NextSays bs ns l r × (r .request ≡ Refused 17))
+HandsOut bs ns l (p ∷ ps) = (r : Next) × (NextSays bs ns l r × ((r .request ≡ Met) × ((r .listing .at ≡ p) × HandsOut bs ns (r .listing) ps)))
+
+-- over areas that a line was read into
+pub record Demand3 (bs : List ℕ) (ns : List ℤ) : Type 0 where
+  -- "The listing hands out every allowed placement once, ascending"
+  pub ends : (ps : List (List ℕ)) × HandsOut bs ns freshListing ps
+  pub every-allowed : (ps : List (List ℕ)) → HandsOut bs ns freshListing ps → (p : Placement) → In (p .at) ps ↔ AllowedSays bs ns p Met
+  pub ascending : (ps : List (List ℕ)) → HandsOut bs ns freshListing ps → Ascending ps
+  -- "'none' exactly when none exists"
+  pub none : (r : Next) → NextSays bs ns freshListing r → (r .request ≡ Refused 17) ↔ ((p : Placement) → AllowedSays bs ns p Met → ⊥)
+  -- "the masses at all positions under any allowed placement plus the labile ones equal the line's total, exactly"
+  pub adds-up :
+      (m : ℤ) → TotalSays bs ns (Millionths m) → (p : Placement) → AllowedSays bs ns p Met → (r : Ledger) → LedgerSays bs ns p r
+      → (r .booked ≡ Done) × (sum (r .at) +ℤ labileMass (tablesIn bs ns) ≡ m)
+
+-- ---- both
+pub record Promises : Type 0 where
+  pub demand-2 : Demand2
+  pub demand-3 :
+      (s bs : List ℕ) (ns : List ℤ) (bs′ : List ℕ) (ns′ : List ℤ) → ReadSays s bs ns Accepted bs′ ns′ → Demand3 bs′ ns′

@@ -1,6 +1,8 @@
-//! The proved library, as it is exported: a slice passes as a pointer and a length.
+//! The proved library, as it is exported: a slice passes as a pointer and a length, a record as a pointer. Each call here begins with junk in
+//! every out-parameter, which the library must overwrite, and checks that a refusal leaves in them what it promises.
 
 use crate::line::Refusal;
+use crate::masses::Display;
 
 extern "C" {
     fn hwemiduk_verdict(line: *const u8, len: usize, place: *mut usize) -> u8;
@@ -13,11 +15,48 @@ extern "C" {
         numbers_len: usize,
         place: *mut usize,
     ) -> u8;
+    fn hwemiduk_residues(bytes: *const u8, bytes_len: usize, numbers: *const i64, numbers_len: usize, count: *mut usize) -> u8;
+    fn hwemiduk_brackets(bytes: *const u8, bytes_len: usize, numbers: *const i64, numbers_len: usize, count: *mut usize) -> u8;
+    fn hwemiduk_floaters(bytes: *const u8, bytes_len: usize, numbers: *const i64, numbers_len: usize, count: *mut usize) -> u8;
+    fn hwemiduk_total(
+        bytes: *const u8,
+        bytes_len: usize,
+        numbers: *const i64,
+        numbers_len: usize,
+        millionths: *mut i64,
+        place: *mut usize,
+    ) -> u8;
+    fn hwemiduk_shown(
+        bytes: *const u8,
+        bytes_len: usize,
+        numbers: *const i64,
+        numbers_len: usize,
+        daltons: *mut f64,
+        missing: *mut usize,
+    ) -> u8;
+    fn hwemiduk_allowed(
+        bytes: *const u8,
+        bytes_len: usize,
+        numbers: *const i64,
+        numbers_len: usize,
+        placement: *const u8,
+        placement_len: usize,
+    ) -> u8;
+    fn hwemiduk_ledger(
+        bytes: *const u8,
+        bytes_len: usize,
+        numbers: *const i64,
+        numbers_len: usize,
+        placement: *const u8,
+        placement_len: usize,
+        entries: *mut i64,
+        entries_len: usize,
+        place: *mut usize,
+    ) -> u8;
 }
 
 /// Whether a line is accepted, or its refusal.
 pub fn verdict(line: &[u8]) -> Result<(), Refusal> {
-    // junk, which the call must overwrite
     let mut place = usize::MAX;
     let number = unsafe { hwemiduk_verdict(line.as_ptr(), line.len(), &mut place) };
     answer(number, place)
@@ -42,9 +81,113 @@ pub fn read(line: &[u8], bytes: &mut [u8], numbers: &mut [i64]) -> Result<(), Re
 
 fn answer(number: u8, place: usize) -> Result<(), Refusal> {
     if number == 0 {
-        assert_eq!(place, 0, "an accepted line has place 0");
+        assert_eq!(place, 0, "success has place 0");
         Ok(())
     } else {
         Err(Refusal { number, place })
     }
+}
+
+/// How many residues the tables in two areas have.
+pub fn residues(bytes: &[u8], numbers: &[i64]) -> Result<usize, Refusal> {
+    count(hwemiduk_residues, bytes, numbers)
+}
+
+/// How many brackets.
+pub fn brackets(bytes: &[u8], numbers: &[i64]) -> Result<usize, Refusal> {
+    count(hwemiduk_brackets, bytes, numbers)
+}
+
+/// How many floating copies.
+pub fn floaters(bytes: &[u8], numbers: &[i64]) -> Result<usize, Refusal> {
+    count(hwemiduk_floaters, bytes, numbers)
+}
+
+type CountCall = unsafe extern "C" fn(*const u8, usize, *const i64, usize, *mut usize) -> u8;
+
+fn count(call: CountCall, bytes: &[u8], numbers: &[i64]) -> Result<usize, Refusal> {
+    let mut count = usize::MAX;
+    let number = unsafe { call(bytes.as_ptr(), bytes.len(), numbers.as_ptr(), numbers.len(), &mut count) };
+    if number == 0 {
+        return Ok(count);
+    }
+    assert_eq!(count, 0, "a refusal counts none");
+    Err(Refusal::new(number, 0))
+}
+
+/// The total in millionths.
+pub fn total(bytes: &[u8], numbers: &[i64]) -> Result<i64, Refusal> {
+    let mut millionths = i64::MIN;
+    let mut place = usize::MAX;
+    let number = unsafe {
+        hwemiduk_total(
+            bytes.as_ptr(),
+            bytes.len(),
+            numbers.as_ptr(),
+            numbers.len(),
+            &mut millionths,
+            &mut place,
+        )
+    };
+    assert!(number == 0 || millionths == 0, "a refused total is 0");
+    answer(number, place).map(|()| millionths)
+}
+
+/// The total for display.
+pub fn shown(bytes: &[u8], numbers: &[i64]) -> Display {
+    let mut daltons = f64::NAN;
+    let mut missing = usize::MAX;
+    let number = unsafe {
+        hwemiduk_shown(
+            bytes.as_ptr(),
+            bytes.len(),
+            numbers.as_ptr(),
+            numbers.len(),
+            &mut daltons,
+            &mut missing,
+        )
+    };
+    if number == 0 && missing == 0 {
+        return Display::Daltons(daltons);
+    }
+    assert_eq!(daltons.to_bits(), 0, "where there is no mass, 0.0");
+    if number == 0 {
+        return Display::Missing(missing);
+    }
+    assert_eq!(missing, 0, "a refusal counts none");
+    Display::Refused(number)
+}
+
+/// Whether a placement is an allowed one: the first entries of the slice count.
+pub fn allowed(bytes: &[u8], numbers: &[i64], placement: &[u8]) -> Result<(), Refusal> {
+    let number = unsafe {
+        hwemiduk_allowed(
+            bytes.as_ptr(),
+            bytes.len(),
+            numbers.as_ptr(),
+            numbers.len(),
+            placement.as_ptr(),
+            placement.len(),
+        )
+    };
+    answer(number, 0)
+}
+
+/// Writes the ledger of a placement into the first entries.
+pub fn ledger(bytes: &[u8], numbers: &[i64], placement: &[u8], entries: &mut [i64]) -> Result<(), Refusal> {
+    let mut place = usize::MAX;
+    let number = unsafe {
+        hwemiduk_ledger(
+            bytes.as_ptr(),
+            bytes.len(),
+            numbers.as_ptr(),
+            numbers.len(),
+            placement.as_ptr(),
+            placement.len(),
+            entries.as_mut_ptr(),
+            entries.len(),
+            &mut place,
+        )
+    };
+    answer(number, place)
 }

@@ -1,0 +1,214 @@
+//! Counts, totals, totals for display and ledgers of the proved library, against the vectors and the independent code.
+
+#[allow(dead_code)]
+mod json;
+mod lines;
+
+use compare::areas::{BYTES_SIZE, NUMBERS_SIZE};
+use compare::generate::Random;
+use compare::line::{Kind, Line, Refusal};
+use compare::masses::{bracket_mass, display, ledger, total, Display, Ledger};
+use compare::positions::{all_placements, floaters, is_allowed, Placement};
+use compare::proved;
+use compare::reader::read;
+use json::Json;
+use lines::{for_crowded, for_generated, for_vectors, shown, Lent, JUNK_NUMBER};
+
+const THIRTEEN: Refusal = Refusal::new(13, 0);
+
+/// What a ledger call answers, with the entries in a slice that is longer than it need be; these are junk where nothing is written.
+fn booked(lent: &Lent, placement: &[u8]) -> Result<Ledger, Refusal> {
+    let mut entries = vec![JUNK_NUMBER; 256 + 5];
+    let answer = proved::ledger(&lent.bytes, &lent.numbers, placement, &mut entries);
+    let (written, behind) = entries.split_at(256);
+    assert!(behind.iter().all(|&one| one == JUNK_NUMBER));
+    if answer.is_err() {
+        assert!(written.iter().all(|&one| one == JUNK_NUMBER));
+    }
+    answer.map(|()| Ledger::try_from(written).unwrap())
+}
+
+/// Bit for bit: a display is compared by what its double is made of.
+fn alike(one: Display, two: Display) -> bool {
+    match (one, two) {
+        (Display::Daltons(one), Display::Daltons(two)) => one.to_bits() == two.to_bits(),
+        _ => one == two,
+    }
+}
+
+fn check_sums(line: &[u8], held: &Line) {
+    let lent = Lent::of(held);
+    let before = lent.clone();
+    let (bytes, numbers) = (&lent.bytes, &lent.numbers);
+    assert_eq!(proved::residues(bytes, numbers), Ok(held.residues.len()), "{}", shown(line));
+    assert_eq!(proved::brackets(bytes, numbers), Ok(held.brackets.len()), "{}", shown(line));
+    assert_eq!(proved::floaters(bytes, numbers), Ok(held.floaters()), "{}", shown(line));
+    assert_eq!(proved::total(bytes, numbers), total(held), "{}", shown(line));
+    assert!(alike(proved::shown(bytes, numbers), display(held)), "{}", shown(line));
+    if let Ok(millionths) = total(held) {
+        let daltons = Display::Daltons(millionths as f64 / 1e6);
+        assert!(alike(proved::shown(bytes, numbers), daltons), "{}", shown(line));
+    }
+    assert!(lent.same(&before));
+}
+
+#[test]
+fn sums_of_vectors() {
+    for_vectors(|line, held, outcome| {
+        check_sums(line, held);
+        let outcome = Json::read(outcome);
+        let lent = Lent::of(held);
+        let counts = [proved::residues, proved::brackets, proved::floaters].map(|call| call(&lent.bytes, &lent.numbers));
+        let expected = ["res", "br", "fl"].map(|name| Ok(outcome.get(name).number() as usize));
+        assert_eq!(counts, expected, "{}", shown(line));
+        let missing = outcome.get("missing").number() as usize;
+        let expected = if missing == 0 {
+            Ok(outcome.get("total").number() as i64)
+        } else {
+            Err(Refusal::new(16, missing))
+        };
+        assert_eq!(proved::total(&lent.bytes, &lent.numbers), expected, "{}", shown(line));
+    });
+}
+
+#[test]
+fn sums_of_generated_lines() {
+    let (mut summed, mut lacking) = (0, 0);
+    let mut check = |line: &[u8], held: &Line| {
+        check_sums(line, held);
+        match total(held) {
+            Ok(millionths) => summed += usize::from(millionths != 0),
+            Err(_) => lacking += 1,
+        }
+    };
+    for_generated(31, 60_000, &mut check);
+    for_crowded(32, 20_000, 12, &mut check);
+    assert!(summed > 10_000 && lacking > 2_000, "{summed} {lacking}");
+}
+
+/// The largest totals that a line can have: "Below 71 times 10^12".
+#[test]
+fn largest_totals() {
+    for (sign, size) in [('+', 1), ('-', -1)] {
+        let mass = format!("{sign}999999.999999");
+        let mut line = format!("[{mass}]^8?");
+        for _ in 0..63 {
+            line += &format!("{{{mass}}}");
+        }
+        line.push('A');
+        let held = read(line.as_bytes()).unwrap();
+        let lent = Lent::of(&held);
+        let expected = size * 71 * 999_999_999_999;
+        assert_eq!(proved::total(&lent.bytes, &lent.numbers), Ok(expected));
+        let daltons = Display::Daltons(expected as f64 / 1e6);
+        assert!(alike(proved::shown(&lent.bytes, &lent.numbers), daltons));
+    }
+}
+
+#[test]
+fn ledgers_of_vectors() {
+    let mut met = 0;
+    for_vectors(|line, held, outcome| {
+        let outcome = Json::read(outcome);
+        let placements = outcome.get("placements").list();
+        let Some(first) = placements.first() else { return };
+        if outcome.get("missing").number() > 0 {
+            return;
+        }
+        let first: Vec<u8> = first.numbers().iter().map(|&entry| entry as u8).collect();
+        let mut expected = outcome.get("ledger").numbers().iter().map(|&entry| entry as i64).collect::<Vec<_>>();
+        expected.resize(256, 0);
+        assert_eq!(booked(&Lent::of(held), &first).unwrap().to_vec(), expected, "{}", shown(line));
+        met += 1;
+    });
+    assert!(met > 300, "{met}");
+}
+
+/// The masses of labile modifications, which no entry holds.
+fn labile(held: &Line) -> i64 {
+    let labile = held.brackets.iter().filter(|one| one.kind == Kind::Labile);
+    labile.filter(|one| held.is_modification(one)).map(|one| bracket_mass(held.parts_of(one)).unwrap()).sum()
+}
+
+#[test]
+fn ledgers_of_every_placement() {
+    let (mut written, mut lacking) = (0, 0);
+    for_crowded(33, 4_000, 5, |line, held| {
+        let lent = Lent::of(held);
+        let before = lent.clone();
+        let (placements, _) = all_placements(&floaters(held), 60);
+        for placement in &placements {
+            let expected = ledger(held, placement);
+            assert_eq!(booked(&lent, placement), expected, "{} {placement:?}", shown(line));
+            match total(held) {
+                Ok(total) => {
+                    assert_eq!(expected.unwrap().iter().sum::<i64>() + labile(held), total);
+                    written += 1;
+                }
+                Err(sixteen) => {
+                    assert_eq!(expected, Err(sixteen));
+                    lacking += 1;
+                }
+            }
+        }
+        assert!(lent.same(&before));
+    });
+    assert!(written > 8_000 && lacking > 500, "{written} {lacking}");
+}
+
+/// Placements of any content: 18 where they are not allowed, but 16 before it.
+#[test]
+fn ledgers_of_any_placement() {
+    let mut random = Random::new(34);
+    let mut met = [0; 19];
+    for_crowded(35, 20_000, 4, |line, held| {
+        let lent = Lent::of(held);
+        let floaters = floaters(held);
+        let mut placement: Placement = [0; 8];
+        let used = if random.chance(80) { floaters.len() } else { 8 };
+        placement[..used].fill_with(|| random.below(held.residues.len() + 3) as u8);
+        let answer = booked(&lent, &placement);
+        assert_eq!(answer, ledger(held, &placement), "{} {placement:?}", shown(line));
+        met[answer.err().map_or(0, |refusal| usize::from(refusal.number))] += 1;
+        // further entries of the slice do not count
+        let mut longer = placement.to_vec();
+        longer.push(7);
+        assert_eq!(booked(&lent, &longer), answer);
+        let allowed = is_allowed(&floaters, &placement);
+        let expected = if allowed { Ok(()) } else { Err(Refusal::new(18, 0)) };
+        for slice in [&placement[..], &longer] {
+            assert_eq!(proved::allowed(&lent.bytes, &lent.numbers, slice), expected, "{} {placement:?}", shown(line));
+        }
+    });
+    assert!(met[0] > 1_000 && met[16] > 500 && met[18] > 1_000, "{met:?}");
+}
+
+#[test]
+fn what_is_too_short() {
+    let held = read(b"[+1]?A[x]").unwrap();
+    let lent = Lent::of(&held);
+    let placement = [9; 8];
+    let mut entries = vec![JUNK_NUMBER; 256];
+    for (b, n) in [(BYTES_SIZE - 1, NUMBERS_SIZE), (BYTES_SIZE, NUMBERS_SIZE - 1), (0, 0)] {
+        let (bytes, numbers) = (&lent.bytes[..b], &lent.numbers[..n]);
+        for call in [proved::residues, proved::brackets, proved::floaters] {
+            assert_eq!(call(bytes, numbers), Err(THIRTEEN));
+        }
+        assert_eq!(proved::total(bytes, numbers), Err(THIRTEEN));
+        assert_eq!(proved::shown(bytes, numbers), Display::Refused(13));
+        assert_eq!(proved::allowed(bytes, numbers, &placement), Err(THIRTEEN));
+        assert_eq!(proved::ledger(bytes, numbers, &placement, &mut entries), Err(THIRTEEN));
+    }
+    let (bytes, numbers) = (&lent.bytes, &lent.numbers);
+    for short in 0..8 {
+        assert_eq!(proved::allowed(bytes, numbers, &placement[..short]), Err(THIRTEEN));
+        assert_eq!(proved::ledger(bytes, numbers, &placement[..short], &mut entries), Err(THIRTEEN));
+    }
+    for short in [0, 1, 8, 255] {
+        assert_eq!(proved::ledger(bytes, numbers, &placement, &mut entries[..short]), Err(THIRTEEN));
+    }
+    assert!(entries.iter().all(|&one| one == JUNK_NUMBER));
+    // with room enough it is the mass that is missing, not the placement
+    assert_eq!(proved::ledger(bytes, numbers, &placement, &mut entries), Err(Refusal::new(16, 1)));
+    assert_eq!(proved::allowed(bytes, numbers, &placement), Err(Refusal::new(18, 0)));
+}

@@ -1,0 +1,39 @@
+-- `export::tables::hwemiduk_allowed` meets its contract.
+use mathlib.Core.Path.{sym, ap, _∙_}
+use Rattle.scope.specs.Answers.{allows}
+use Rattle.export.specs.Numbers.{numberOf}
+use Rattle.export.proofs.Lent.{allows-short, allows-long}
+use denote.Ref.{now}
+use borrow.Author.Needs.{needs}
+use Rattle.export.proofs.tables.hwemiduk_allowed.Statement.{statement}
+use Rattle.export.proofs.tables.hwemiduk_allowed.Tie as tie
+
+returns : tie.Need-returns
+returns c =
+    let a = c .before .before .before .args in
+    ap numberOf (sym (allows-short (now (a .bytes)) (now (a .numbers)) (now (a .placement)) (c .if1 .taken)))
+
+placement-in-requires : tie.Need-placement-in-requires
+placement-in-requires c κs = search needs
+
+is-allowed-requires : tie.Need-is-allowed-requires
+is-allowed-requires c κs = search needs
+
+number-of-request-requires : tie.Need-number-of-request-requires
+number-of-request-requires c κs = search needs
+
+returns-2 : tie.Need-returns-2
+returns-2 c =
+    let a = c .before .before .before .before .before .before .args in
+    let begins = ap (allows (now (a .bytes)) (now (a .numbers))) (c .before .before .placement-in .ensures) in
+    c .number-of-request .ensures ∙ ap numberOf (c .before .is-allowed .ensures ∙ begins ∙ sym (allows-long (now (a .bytes)) (now (a .numbers)) (now (a .placement)) (c .before .before .before .if1 .left)))
+
+pub hwemiduk-allowed-spec : {M : Type 1} → statement M
+hwemiduk-allowed-spec =
+    tie.close
+    (tie.spec
+    returns
+    placement-in-requires
+    is-allowed-requires
+    number-of-request-requires
+    returns-2)

@@ -1,0 +1,72 @@
+-- `export::tables::hwemiduk_ledger` meets its contract.
+use mathlib.Core.Path.{_≡_, sym, ap, _∙_}
+use native.Mathlib.Omega.{arith}
+use lib.ListN.{length}
+use Rattle.scope.specs.Limits.{positionLimit}
+use Rattle.scope.specs.Answers.{saysBooked}
+use Rattle.export.proofs.Lent.{short-placement, short-entries, refused-long, booked-long}
+use borrow.Author.Needs.{needs}
+use Rattle.export.proofs.tables.hwemiduk_ledger.Statement.{statement}
+use Rattle.export.proofs.tables.hwemiduk_ledger.Tie as tie
+
+returns : tie.Need-returns
+returns c = short-placement _ _ _ _ (c .if1 .taken)
+
+returns-2 : tie.Need-returns-2
+returns-2 c = short-entries _ _ _ _ (c .before .if1 .left) (c .if2 .taken)
+
+placement-in-requires : tie.Need-placement-in-requires
+placement-in-requires c κs = search needs
+
+ledger-requires : tie.Need-ledger-requires
+ledger-requires c κs = search needs
+
+enum-told : tie.Need-enum-told
+enum-told c = search needs
+
+slice-aggregate-copy-entries : tie.Need-slice-aggregate-copy-entries
+slice-aggregate-copy-entries c = search needs
+
+copy-entries-requires : tie.Need-copy-entries-requires
+copy-entries-requires c κs =
+    let called = c .before .before .before .before .before in
+    let long : length (called .ledger .result .at) ≡ positionLimit = search needs in
+    (omega arith, called .before .before .if2 .left)
+
+enum-known-booked : tie.Need-enum-known-booked
+enum-known-booked c = search needs
+
+same-length : tie.Need-same-length
+same-length c = search needs
+
+returns-3 : tie.Need-returns-3
+returns-3 c =
+    let called = c .before .before .before .before .before .before .before in
+    let long : length (called .ledger .result .at) ≡ positionLimit = search needs in
+    booked-long _ _ _ _ _ (called .before .placement-in .ensures) (called .before .before .before .if1 .left) (called .before .before .if2 .left)
+    (ap saysBooked (sym (c .before .before .before .before .enum-told .given .1)) ∙ called .ledger .ensures .0)
+    (called .ledger .ensures .1)
+    long
+    (c .before .copy-entries .ensures)
+
+returns-4 : tie.Need-returns-4
+returns-4 c =
+    let called = c .before .before .before .before in
+    refused-long _ _ _ _ _ (called .before .placement-in .ensures) (called .before .before .before .if1 .left) (called .before .before .if2 .left)
+    (ap saysBooked (sym (c .before .booked .given .1)) ∙ called .ledger .ensures .0)
+
+pub hwemiduk-ledger-spec : {M : Type 1} → statement M
+hwemiduk-ledger-spec =
+    tie.close
+    (tie.spec
+    returns
+    returns-2
+    placement-in-requires
+    ledger-requires
+    enum-told
+    slice-aggregate-copy-entries
+    copy-entries-requires
+    enum-known-booked
+    same-length
+    returns-3
+    returns-4)

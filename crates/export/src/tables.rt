@@ -1,0 +1,208 @@
+// The calls over tables in lent areas: the two areas are only read, and any content of theirs is answered.
+use scope::answers::Booked;
+use scope::answers::Count;
+use scope::answers::Ledger;
+use scope::answers::Placement;
+use scope::answers::Request;
+use scope::answers::Shown;
+use scope::answers::Total;
+ghost use mathlib.Core.Path.{_≡_};
+ghost use mathlib.Core.List.{_++_};
+ghost use Prim.Native.Nat.{_≤_};
+ghost use lib.ListN.{length, take, drop};
+ghost use Rattle.scope.specs.Limits.{copyLimit};
+ghost use Rattle.scope.specs.Answers.{saysCount, saysTotal, saysShown, saysRequest, saysBooked, counts, residueCount, bracketCount, floaterCount, totals, shows};
+ghost use Rattle.export.specs.Numbers.{numberOf, placeOf};
+ghost use Rattle.export.specs.Shapes.{Counted, Totalled, Displayed, allowsLent, Entered};
+
+// A count, handed out.
+fn tell_count(c: Count, count: &mut usize) -> u8
+    ensures { λ r. ⌜ Counted (saysCount c) r (now (count .exit)) ⌝ }
+{
+    match c {
+        Count::Is(n) => {
+            *count = n;
+            0
+        }
+        Count::Refused { number, place } => {
+            *count = place;
+            number
+        }
+    }
+}
+
+// How many residues there are: 0 and the count; else 13 or 14, and 0.
+#[no_mangle]
+pub extern "C" fn hwemiduk_residues(bytes: &[u8], numbers: &[i64], count: &mut usize) -> u8
+    ensures { λ r. ⌜ Counted (counts (now (bytes .entry)) (now (numbers .entry)) residueCount) r (now (count .exit)) ⌝ }
+{
+    let c = calls::residue_count(bytes, numbers);
+    tell_count(c, count)
+}
+
+// How many brackets, likewise.
+#[no_mangle]
+pub extern "C" fn hwemiduk_brackets(bytes: &[u8], numbers: &[i64], count: &mut usize) -> u8
+    ensures { λ r. ⌜ Counted (counts (now (bytes .entry)) (now (numbers .entry)) bracketCount) r (now (count .exit)) ⌝ }
+{
+    let c = calls::bracket_count(bytes, numbers);
+    tell_count(c, count)
+}
+
+// How many floating copies, likewise.
+#[no_mangle]
+pub extern "C" fn hwemiduk_floaters(bytes: &[u8], numbers: &[i64], count: &mut usize) -> u8
+    ensures { λ r. ⌜ Counted (counts (now (bytes .entry)) (now (numbers .entry)) floaterCount) r (now (count .exit)) ⌝ }
+{
+    let c = calls::floater_count(bytes, numbers);
+    tell_count(c, count)
+}
+
+// A total, handed out.
+fn tell_total(t: Total, millionths: &mut i64, place: &mut usize) -> u8
+    ensures { λ r. ⌜ Totalled (saysTotal t) r (now (millionths .exit)) (now (place .exit)) ⌝ }
+{
+    match t {
+        Total::Millionths(m) => {
+            *millionths = m;
+            *place = 0;
+            0
+        }
+        Total::Refused { number, place: p } => {
+            *millionths = 0;
+            *place = p;
+            number
+        }
+    }
+}
+
+// The total: 0 and the millionths; else 13, 14 or 16, no millionths, and in `place` how many modifications lack a mass (16) or 0.
+#[no_mangle]
+pub extern "C" fn hwemiduk_total(
+    bytes: &[u8],
+    numbers: &[i64],
+    millionths: &mut i64,
+    place: &mut usize,
+) -> u8
+    ensures { λ r. ⌜ Totalled (totals (now (bytes .entry)) (now (numbers .entry))) r (now (millionths .exit)) (now (place .exit)) ⌝ }
+{
+    let t = calls::total(bytes, numbers);
+    tell_total(t, millionths, place)
+}
+
+// A display, handed out.
+fn tell_shown(s: Shown, daltons: &mut f64, missing: &mut usize) -> u8
+    ensures { λ r. ⌜ Displayed (saysShown s) r (now (daltons .exit)) (now (missing .exit)) ⌝ }
+{
+    match s {
+        Shown::Daltons(x) => {
+            *daltons = x;
+            *missing = 0;
+            0
+        }
+        Shown::Missing(n) => {
+            *daltons = 0.0;
+            *missing = n;
+            0
+        }
+        Shown::Refused { number } => {
+            *daltons = 0.0;
+            *missing = 0;
+            number
+        }
+    }
+}
+
+// The total for display: 0 with the mass and none missing, or with 0.0 and how many lack one; else 13 or 14, with 0.0 and 0.
+#[no_mangle]
+pub extern "C" fn hwemiduk_shown(
+    bytes: &[u8],
+    numbers: &[i64],
+    daltons: &mut f64,
+    missing: &mut usize,
+) -> u8
+    ensures { λ r. ⌜ Displayed (shows (now (bytes .entry)) (now (numbers .entry))) r (now (daltons .exit)) (now (missing .exit)) ⌝ }
+{
+    let s = calls::shown(bytes, numbers);
+    tell_shown(s, daltons, missing)
+}
+
+// The placement that a slice begins with.
+fn placement_in(s: &[u8]) -> Placement
+    requires { ⌜ copyLimit ≤ length (now s) ⌝ }
+    ensures { λ r. ⌜ r .at ≡ take copyLimit (now (s .entry)) ⌝ }
+{
+    let mut at = [0u8; Placement::COPIES];
+    bounds::copy_bytes(s, Placement::COPIES, &mut at);
+    Placement { at }
+}
+
+// The number of a request's answer.
+fn number_of_request(r: Request) -> u8
+    ensures { λ n. ⌜ n ≡ numberOf (saysRequest r) ⌝ }
+{
+    match r {
+        Request::Met => 0,
+        Request::Refused { number } => number,
+    }
+}
+
+// Whether the placement in the first eight entries is an allowed one: 0, or 13, 14, 18.
+#[no_mangle]
+pub extern "C" fn hwemiduk_allowed(bytes: &[u8], numbers: &[i64], placement: &[u8]) -> u8
+    ensures { λ r. ⌜ r ≡ numberOf (allowsLent (now (bytes .entry)) (now (numbers .entry)) (now (placement .entry))) ⌝ }
+{
+    if placement.len() < Placement::COPIES {
+        return 13;
+    }
+    let p = placement_in(placement);
+    let r = calls::is_allowed(bytes, numbers, p);
+    number_of_request(r)
+}
+
+// The first n entries of one slice into another, whose other entries stay.
+fn copy_entries(from: &[i64], n: usize, to: &mut [i64])
+    requires { ⌜ (n ≤ length (now from)) × (n ≤ length (now to)) ⌝ }
+    ensures { λ r. ⌜ now (to .exit) ≡ take n (now (from .entry)) ++ drop n (now (to .entry)) ⌝ }
+{
+    let mut i: usize = 0;
+    while i < n {
+        to[i] = from[i];
+        i += 1;
+    }
+}
+
+// The ledger of the placement in the first eight entries: 0 with the first 256 entries written; else 13, 14, 16 (with how many modifications lack a mass in
+// `place`, which is 0 else) or 18, and the entries as they were.
+#[no_mangle]
+pub extern "C" fn hwemiduk_ledger(
+    bytes: &[u8],
+    numbers: &[i64],
+    placement: &[u8],
+    entries: &mut [i64],
+    place: &mut usize,
+) -> u8
+    ensures { λ r. ⌜ Entered (now (bytes .entry)) (now (numbers .entry)) (now (placement .entry)) (now (entries .entry)) r (now (place .exit)) (now (entries .exit)) ⌝ }
+{
+    *place = 0;
+    if placement.len() < Placement::COPIES {
+        return 13;
+    }
+    if entries.len() < Ledger::POSITIONS {
+        return 13;
+    }
+    let p = placement_in(placement);
+    let l = calls::ledger(bytes, numbers, p);
+    let booked = l.booked;
+    let at = l.at;
+    match booked {
+        Booked::Done => {
+            copy_entries(&at, Ledger::POSITIONS, entries);
+            0
+        }
+        Booked::Refused { number, place: why } => {
+            *place = why;
+            number
+        }
+    }
+}

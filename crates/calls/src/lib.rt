@@ -278,7 +278,7 @@ pub fn ledger(bytes: &[u8], numbers: &[i64], p: Placement) -> Ledger
 }
 
 // Before rows are filled in: 13 for their room, then for the areas, and 14; else the table of where each floater may stand, and how many there are.
-fn table_for(bytes: &[u8], numbers: &[i64], room: usize, tab: &mut [u8]) -> Count
+pub fn table_for(bytes: &[u8], numbers: &[i64], room: usize, tab: &mut [u8]) -> Count
     requires { ⌜ rowLimit ≤ length (now tab) ⌝ }
     ensures { λ r. ⌜ RowsReady (now (bytes .entry)) (now (numbers .entry)) room r (now (tab .exit)) ⌝ }
 {

@@ -7,7 +7,7 @@ use scope::answers::Site;
 ghost use mathlib.Core.Path.{_≡_};
 ghost use Prim.Native.Nat.{_+_, _*_, _<_, _≤_};
 ghost use lib.ListN.{length, getD};
-ghost use Rattle.scope.specs.Limits.{rowLimit};
+ghost use Rattle.scope.specs.Limits.{rowLimit, positionLimit};
 ghost use Rattle.scope.specs.Tables.{laid};
 ghost use Rattle.scope.specs.Positions.{rowsFrom};
 ghost use Rattle.scope.specs.Answers.{saysLookup, looksUp};
@@ -45,7 +45,7 @@ pub fn site_of(at: usize) -> Site
 
 // The rows of so many floaters are filled in, and counted.
 pub fn fill_rows<'a, 'b>(tab: &'a [u8], count: usize, out: &'b mut [Site]) -> usize
-    requires { ⌜ (Sized (now tab) count) × (rowLimit ≤ length (now out)) ⌝ }
+    requires { ⌜ (Sized (now tab) count) × (count * positionLimit ≤ length (now out)) ⌝ }
     ensures { λ r. ⌜ (r ≡ length (rowsFrom 1 (listsIn (now (tab .entry)) count))) × (now (out .exit) ≡ laid (rowsFrom 1 (listsIn (now (tab .entry)) count)) (now (out .entry))) ⌝ }
 {
     let end = count * Ledger::POSITIONS;

@@ -49,7 +49,7 @@ use denote.Triple.Table.{entered, cited}
 use denote.Triple.Walked.{says, needs, Stays, stay-none, stay-none-slice, stay-slice, walkOf, goes-none, goes-none-slice, goes-slice, Walks, ends-at, walked, walk-meets}
 use denote.Triple.Clauses.{ensured, lasts}
 use denote.Exit.{yes}
-use Rattle.scope.specs.Limits.{rowLimit}
+use Rattle.scope.specs.Limits.{positionLimit}
 use Rattle.scope.specs.Positions.{rowsFrom}
 use Rattle.scope.specs.Tables.{laid}
 use Rattle.areas.specs.Floats.{listsIn, Sized}
@@ -97,7 +97,7 @@ Next 𝓤 H A mem run = tripleOf 𝓤 H A next-place.signature (next-place.spec 
 abbrev SiteOf : {M : Type 1} (𝓤 : URA M) (H : Heap 𝓤) (A : Atoms 𝓤) (mem : Memory → SProp 𝓤) (run : Routine → Fun 𝓤) → Contract 𝓤
 SiteOf 𝓤 H A mem run = tripleOf 𝓤 H A site-of.signature (site-of.spec 𝓤 H A mem run)
 
-module _ {M : Type 1} (𝓤 : URA M) (H : Heap 𝓤) (A : Atoms 𝓤) (W : Given 𝓤 H A) (mem : Memory → SProp 𝓤) (run : Routine → Fun 𝓤) (κ κ′ : Lft) (q q′ : Share) (b₁ o₁ : ℕ) (γ₁ : GName) (ys : List ℕ) (cnt : ℕ) (b o : ℕ) (γ : GName) (xs : List Site) (room₁ : Room u8 (length ys)) (cnt-fits : cnt < 2 ^ 64) (room : Room R (length xs)) (pre : Sized ys cnt × (rowLimit ≤ length xs)) where
+module _ {M : Type 1} (𝓤 : URA M) (H : Heap 𝓤) (A : Atoms 𝓤) (W : Given 𝓤 H A) (mem : Memory → SProp 𝓤) (run : Routine → Fun 𝓤) (κ κ′ : Lft) (q q′ : Share) (b₁ o₁ : ℕ) (γ₁ : GName) (ys : List ℕ) (cnt : ℕ) (b o : ℕ) (γ : GName) (xs : List Site) (room₁ : Room u8 (length ys)) (cnt-fits : cnt < 2 ^ 64) (room : Room R (length xs)) (pre : Sized ys cnt × (cnt * positionLimit ≤ length xs)) where
   abbrev x₁ : RefT (List ℕ)
   x₁ = record { ptr = (b₁, o₁); name = γ₁; now = ys }
 
@@ -145,7 +145,7 @@ module _ {M : Type 1} (𝓤 : URA M) (H : Heap 𝓤) (A : Atoms 𝓤) (W : Given
   abbrev mach : Site → Val
   mach s = LL.val S.the-type S′.the-laws s
 
-  fits-E : (E ≤ 2048) × (E ≤ length ys) × (2048 ≤ length xs)
+  fits-E : (E ≤ 2048) × (E ≤ length ys) × (E ≤ length xs)
   fits-E = (omega (arith, pre .0 .few), omega (arith, pre .0 .few, pre .0 .room), pre .1)
 
   fits-N : (N ≤ 2048) × (N ≤ length xs)

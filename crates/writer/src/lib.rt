@@ -109,13 +109,12 @@ fn power(d: usize) -> u64
     }
 }
 
-// The size of a number in millionths.
-fn magnitude(m: i64) -> u64
-    requires { ⌜ Small m ⌝ }
+// The size of a number: of a negative one by way of one less, which fits.
+pub fn magnitude(m: i64) -> u64
     ensures { λ r. ⌜ r ≡ natAbs m ⌝ }
 {
     if m < 0 {
-        return (0 - m) as u64;
+        return (-1 - m) as u64 + 1;
     }
     m as u64
 }

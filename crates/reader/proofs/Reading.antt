@@ -37,7 +37,7 @@ pub refuses-numbers : (line bs : List ℕ) (ns : List ℤ) → bytesSize ≤ len
 refuses-numbers line bs ns k h = refuses-all line bs ns 13 0 (short-numbers line bs ns k h)
 
 -- ---- the verdict
-refused-is : (o : Outcome) (n p : ℕ) → refuses n p ≡ saysOutcome o → o ≡ refused n p
+pub refused-is : (o : Outcome) (n p : ℕ) → refuses n p ≡ saysOutcome o → o ≡ refused n p
 refused-is (accepted l) n p e = absurd (let z : _≡_ {A = ℕ} 0 1 = cc in omega arith)
 refused-is (refused m q) n p e = cc
 

@@ -11,7 +11,7 @@ use Rattle.scope.specs.Refusals.{accepted, outcome}
 use Rattle.scope.specs.Tables.{bytesSize, numbersSize, bytesOf, numbersOf, laid}
 use Rattle.layout_laws.specs.Laws.{accepted-within, bytes-fill, numbers-fill}
 use Rattle.fill.specs.Filled.{Fills, FilledAll}
-use Rattle.reader.specs.ReadSays.{Stores, Stored}
+use Rattle.reader.specs.ReadSays.{Clean, Lays, Stores, Stored}
 
 -- the first n elements cleared
 abbrev cleared : {A : Type 0} → A → ℕ → List A → List A
@@ -27,22 +27,38 @@ cleared-zero z n l = take-at (replicate n z) (drop n l) n (length-replicate n z)
 laid-over : {A : Type 0} (z : A) (n : ℕ) (t l : List A) → length t ≡ n → laid t (cleared z n l) ≡ laid t l
 laid-over z n t l e = rw e (ap (λ x. t ++ x) (drop-at (replicate n z) (drop n l) n (length-replicate n z)))
 
-module _ (line bs : List ℕ) (ns : List ℤ) (bs₁ : List ℕ) (ns₁ : List ℤ) (b : bs₁ ≡ cleared 0 bytesSize bs) (n : ns₁ ≡ cleared (pos 0) numbersSize ns) where
-  pub fills : Stores line bs ns → Fills line bs₁ ns₁
-  fills w =
-      rw (b, n)
-      (record {
-        holds-line = w .held;
-        is-accepted = w .accepts;
-        bytes-long = cleared-long 0 bytesSize bs;
-        bytes-zero = cleared-zero 0 bytesSize bs;
-        numbers-long = cleared-long (pos 0) numbersSize ns;
-        numbers-zero = cleared-zero (pos 0) numbersSize ns;
-      })
+pub cleared-clean : (bs : List ℕ) (ns : List ℤ) {bs₁ : List ℕ} {ns₁ : List ℤ} → bs₁ ≡ cleared 0 bytesSize bs → ns₁ ≡ cleared (pos 0) numbersSize ns → Clean bs₁ ns₁
+cleared-clean bs ns b n =
+    rw (b, n)
+    (record {
+      bytes-room = cleared-long 0 bytesSize bs;
+      bytes-zero = cleared-zero 0 bytesSize bs;
+      numbers-room = cleared-long (pos 0) numbersSize ns;
+      numbers-zero = cleared-zero (pos 0) numbersSize ns;
+    })
 
-  pub stores : (bs′ : List ℕ) (ns′ : List ℤ) → ((l : Line ℕ) → outcome line ≡ accepted l → FilledAll line bs₁ ns₁ bs′ ns′ l) → Stored line bs ns bs′ ns′
-  stores bs′ ns′ f =
+pub fills : {line bs : List ℕ} {ns : List ℤ} → Lays line bs ns → Fills line bs ns
+fills w =
+    record {
+      holds-line = w .held;
+      is-accepted = w .accepts;
+      bytes-long = w .clean .bytes-room;
+      bytes-zero = w .clean .bytes-zero;
+      numbers-long = w .clean .numbers-room;
+      numbers-zero = w .clean .numbers-zero;
+    }
+
+pub filled : {line bs : List ℕ} {ns : List ℤ} {bs′ : List ℕ} {ns′ : List ℤ} → ((l : Line ℕ) → outcome line ≡ accepted l → FilledAll line bs ns bs′ ns′ l)
+    → Stored line bs ns bs′ ns′
+filled f = record { bytes-now = λ l e. f l e .bytes-are; numbers-now = λ l e. f l e .numbers-are }
+
+module _ (line bs : List ℕ) (ns : List ℤ) (bs₁ : List ℕ) (ns₁ : List ℤ) (b : bs₁ ≡ cleared 0 bytesSize bs) (n : ns₁ ≡ cleared (pos 0) numbersSize ns) where
+  pub lays : Stores line bs ns → Lays line bs₁ ns₁
+  lays w = record { held = w .held; accepts = w .accepts; clean = cleared-clean bs ns b n }
+
+  pub stores : (bs′ : List ℕ) (ns′ : List ℤ) → Stored line bs₁ ns₁ bs′ ns′ → Stored line bs ns bs′ ns′
+  stores bs′ ns′ w =
       record {
-        bytes-now = λ l e. f l e .bytes-are ∙ ap (λ x. laid (bytesOf l) x) b ∙ laid-over 0 bytesSize (bytesOf l) bs (bytes-fill l (accepted-within line l e));
-        numbers-now = λ l e. f l e .numbers-are ∙ ap (λ x. laid (numbersOf l) x) n ∙ laid-over (pos 0) numbersSize (numbersOf l) ns (numbers-fill l (accepted-within line l e));
+        bytes-now = λ l e. w .bytes-now l e ∙ ap (λ x. laid (bytesOf l) x) b ∙ laid-over 0 bytesSize (bytesOf l) bs (bytes-fill l (accepted-within line l e));
+        numbers-now = λ l e. w .numbers-now l e ∙ ap (λ x. laid (numbersOf l) x) n ∙ laid-over (pos 0) numbersSize (numbersOf l) ns (numbers-fill l (accepted-within line l e));
       }

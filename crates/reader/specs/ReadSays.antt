@@ -2,8 +2,8 @@
 use mathlib.Core.Path.{_≡_}
 use mathlib.Core.List.{List}
 use Prim.Native.Nat.{ℕ, _≤_}
-use lib.IntN.{ℤ}
-use lib.ListN.{length}
+use lib.IntN.{ℤ, pos}
+use lib.ListN.{length, take, replicate}
 use Rattle.scope.specs.declared.answers.Read.{Read}
 use Rattle.scope.specs.Line.{Line}
 use Rattle.scope.specs.Refusals.{accepted, outcome}
@@ -14,6 +14,19 @@ pub record ReadSays (line bytes : List ℕ) (numbers : List ℤ) (r : Read) (byt
   pub says : saysRead r ≡ saysOutcome (readOutcome bytes numbers line)
   pub bytes-after : bytes′ ≡ bytesAfter (readOutcome bytes numbers line) bytes
   pub numbers-after : numbers′ ≡ numbersAfter (readOutcome bytes numbers line) numbers
+
+-- areas that have room, and whose room is zero
+pub record Clean (bytes : List ℕ) (numbers : List ℤ) : Type 0 where
+  pub bytes-room : bytesSize ≤ length bytes
+  pub bytes-zero : take bytesSize bytes ≡ replicate bytesSize 0
+  pub numbers-room : numbersSize ≤ length numbers
+  pub numbers-zero : take numbersSize numbers ≡ replicate numbersSize (pos 0)
+
+-- an accepted line, and clean areas
+pub record Lays (line bytes : List ℕ) (numbers : List ℤ) : Type 0 where
+  pub held : Line ℕ
+  pub accepts : outcome line ≡ accepted held
+  pub clean : Clean bytes numbers
 
 -- an accepted line, and areas that have room
 pub record Stores (line bytes : List ℕ) (numbers : List ℤ) : Type 0 where

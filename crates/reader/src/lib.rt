@@ -1,15 +1,23 @@
 // Reading a line into the lent areas.
 use scope::answers::Read;
 use scope::tables::Tables;
-ghost use Rattle.reader.specs.ReadSays.{ReadSays, Stores, Stored};
+ghost use Rattle.reader.specs.ReadSays.{ReadSays, Lays, Stores, Stored};
 
-// An accepted line's tables, in cleared areas.
+// An accepted line's tables, in areas whose room is zero.
+pub fn put(line: &[u8], bytes: &mut [u8], numbers: &mut [i64])
+    requires { ⌜ Lays (now line) (now bytes) (now numbers) ⌝ }
+    ensures { λ _. ⌜ Stored (now (line .entry)) (now (bytes .entry)) (now (numbers .entry)) (now (bytes .exit)) (now (numbers .exit)) ⌝ }
+{
+    fill::fill(line, bytes, numbers);
+}
+
+// An accepted line's tables, in areas that held anything.
 fn store(line: &[u8], bytes: &mut [u8], numbers: &mut [i64])
     requires { ⌜ Stores (now line) (now bytes) (now numbers) ⌝ }
     ensures { λ _. ⌜ Stored (now (line .entry)) (now (bytes .entry)) (now (numbers .entry)) (now (bytes .exit)) (now (numbers .exit)) ⌝ }
 {
     fill::clear(bytes, numbers);
-    fill::fill(line, bytes, numbers);
+    put(line, bytes, numbers);
 }
 
 // Any line of bytes, into any areas: accepted, with the line's tables in the areas; or refused with number and place, and nothing changed.

@@ -1,7 +1,7 @@
 -- Laws of `stored` and of `Puts`: nothing, one byte, one run behind another, and what the whole leaves. Assumes nothing.
 use mathlib.Core.Path.{_≡_, refl, sym, ap, _∙_}
 use mathlib.Core.List.{List, [], _∷_, _++_}
-use Prim.Native.Nat.{ℕ, suc, _+_, _≤_, _<_}
+use Prim.Native.Nat.{ℕ, zero, suc, _+_, _≤_, _<_}
 use native.Mathlib.Nat.{add-zero}
 use native.Mathlib.Numerals.{add-one}
 use native.Mathlib.Omega.{arith}
@@ -32,6 +32,12 @@ unfolding stored
 stored-whole [] c = stored-nowhere 0 c ∙ sym (drop-nil (length c))
 stored-whole (x ∷ o) [] = refl
 stored-whole (x ∷ o) (b ∷ c) = stored-behind b o 0 c ∙ ap (λ l. b ∷ l) (stored-whole o c)
+
+-- from a place on, and from the first place of what stands there
+pub stored-from : (at : ℕ) (o t : List ℕ) → stored o at t ≡ take at o ++ stored (drop at o) 0 t
+stored-from zero o t = refl
+stored-from (suc at) [] t = stored-nowhere (suc at) t ∙ sym (stored-nowhere 0 t)
+stored-from (suc at) (x ∷ o) t = stored-behind x o at t ∙ ap (λ l. x ∷ l) (stored-from at o t)
 
 -- ---- steps of the writer
 pub puts-none : (o : List ℕ) (at : ℕ) → Puts 0 o at [] o at
@@ -67,6 +73,10 @@ length-stored o at (b ∷ t) = length-stored (set o at b) (at + 1) t ∙ length-
 
 pub puts-length : {m : ℕ} {o : List ℕ} {at : ℕ} {s : List ℕ} {p : List ℕ} {q : ℕ} → Puts m o at s p q → length p ≡ length o
 puts-length {o = o} {at = at} {s = s} a = ap length (a .holds) ∙ length-stored o at s
+
+-- no more than the text has
+pub puts-exact : {m n : ℕ} {o : List ℕ} {at : ℕ} {s : List ℕ} {p : List ℕ} {q : ℕ} → length s ≤ n → Puts m o at s p q → Puts n o at s p q
+puts-exact h a = record { holds = a .holds; ends = a .ends; near = omega (arith, a .ends) }
 
 -- where the most is known by an equation
 pub puts-under :

@@ -27,6 +27,10 @@ pub record Puts (most : ℕ) (o : List ℕ) (at : ℕ) (t : List ℕ) (left : Li
 abbrev pub ceiling : ℕ
 ceiling = 1000000
 
+-- so many bytes has the canonical line of any tables within bounds, at most
+abbrev pub lineMost : ℕ
+lineMost = 400000
+
 -- the number of the tables with this sign, these digits and so many decimals
 abbrev pub numberOf : Bool → ℕ → ℕ → Number (Unit {0})
 numberOf minus digits decimals = record { minus = minus; digits = digits; decimals = decimals; at = tt }

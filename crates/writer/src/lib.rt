@@ -12,12 +12,12 @@ ghost use Rattle.scope.specs.Keys.{written, keyIn};
 ghost use Rattle.scope.specs.Limits.{decimalLimit, residueLimit, bracketLimit, partLimit};
 ghost use Rattle.scope.specs.Tables.{part, isNegative, bytesSize, textsAt, textFrom, partAt, numbersSize, numberRowSize, scoreIn, labelIn, valueIn, partIn, tabled, byteAt, rowAt, kindIn, sectionIn, lettersAt, sectionsAt, residueIn, bracketIn, tablesIn};
 ghost use Rattle.areas.specs.Bounds.{Small, Bounds};
-ghost use Rattle.writer.specs.Written.{Puts, ceiling, numberOf, signText, numberText, scoredText, nextText, WholeLine};
+ghost use Rattle.writer.specs.Written.{Puts, ceiling, lineMost, numberOf, signText, numberText, scoredText, nextText, WholeLine};
 ghost use Rattle.writer.specs.Here.{BracketHere, PartHere};
 ghost use Rattle.writer.specs.Ranks.{rankOf, rankIn, orderedb, Ready, textAs, rankedText, runText, Walks, residueText, Ordered};
 
 // One byte at a place: stored where there is room, and counted.
-fn put(out: &mut [u8], at: usize, b: u8) -> usize
+pub fn put(out: &mut [u8], at: usize, b: u8) -> usize
     requires { ⌜ at + 1 ≤ ceiling ⌝ }
     ensures { λ r. ⌜ Puts 1 (now (out .entry)) at (b ∷ []) (now (out .exit)) r ⌝ }
 {
@@ -43,7 +43,7 @@ fn copy(from: &[u8], start: usize, n: usize, out: &mut [u8], at: usize) -> usize
 }
 
 // A fixed byte string.
-fn word(w: &[u8], out: &mut [u8], at: usize) -> usize
+pub fn word(w: &[u8], out: &mut [u8], at: usize) -> usize
     requires { ⌜ (length (now w) ≤ 16) × (at + 16 ≤ ceiling) ⌝ }
     ensures { λ r. ⌜ Puts 16 (now (out .entry)) at (now (w .entry)) (now (out .exit)) r ⌝ }
 {
@@ -109,13 +109,12 @@ fn power(d: usize) -> u64
     }
 }
 
-// The size of a number in millionths.
-fn magnitude(m: i64) -> u64
-    requires { ⌜ Small m ⌝ }
+// The size of a number: of a negative one by way of one less, which fits.
+pub fn magnitude(m: i64) -> u64
     ensures { λ r. ⌜ r ≡ natAbs m ⌝ }
 {
     if m < 0 {
-        return (0 - m) as u64;
+        return (-1 - m) as u64 + 1;
     }
     m as u64
 }
@@ -137,8 +136,8 @@ fn digits_at(numbers: &[i64], k: usize, j: usize, d: usize) -> u64
 }
 
 // A number without leading zeros.
-fn put_decimal(n: u64, out: &mut [u8], at: usize) -> usize
-    requires { ⌜ (n < 1000000000000) × (at + 20 ≤ ceiling) ⌝ }
+pub fn put_decimal(n: u64, out: &mut [u8], at: usize) -> usize
+    requires { ⌜ at + 20 ≤ ceiling ⌝ }
     ensures { λ r. ⌜ Puts 20 (now (out .entry)) at (decimal n) (now (out .exit)) r ⌝ }
 {
     decimal_up_to(19, n, out, at)
@@ -695,12 +694,12 @@ fn put_c_term(bytes: &[u8], numbers: &[i64], from: usize, out: &mut [u8], at: us
     pen.place
 }
 
-// The canonical line, as much of it as fits into the output, and its length.
-pub fn write_line(bytes: &[u8], numbers: &[i64], out: &mut [u8]) -> usize
-    requires { ⌜ Bounds (now bytes) (now numbers) × Ordered (tablesIn (now bytes) (now numbers)) ⌝ }
-    ensures { λ r. ⌜ WholeLine (canonical (tablesIn (now (bytes .entry)) (now (numbers .entry)))) (now (out .entry)) (now (out .exit)) r ⌝ }
+// The canonical line from a place on, as much of it as fits into the output.
+pub fn put_line(bytes: &[u8], numbers: &[i64], out: &mut [u8], at: usize) -> usize
+    requires { ⌜ Bounds (now bytes) (now numbers) × Ordered (tablesIn (now bytes) (now numbers)) × (at + lineMost ≤ ceiling) ⌝ }
+    ensures { λ r. ⌜ Puts lineMost (now (out .entry)) at (canonical (tablesIn (now (bytes .entry)) (now (numbers .entry)))) (now (out .exit)) r ⌝ }
 {
-    let unknown = put_closed(bytes, numbers, 0, 0, 0, b'?', out, 0);
+    let unknown = put_closed(bytes, numbers, 0, 0, 0, b'?', out, at);
     let a = unknown.place;
     let i = unknown.next;
     let labile = put_run(bytes, numbers, i, 1, 1, out, a);
@@ -713,4 +712,12 @@ pub fn write_line(bytes: &[u8], numbers: &[i64], out: &mut [u8]) -> usize
     let d = sequence.place;
     let l = sequence.next;
     put_c_term(bytes, numbers, l, out, d)
+}
+
+// The canonical line, as much of it as fits into the output, and its length.
+pub fn write_line(bytes: &[u8], numbers: &[i64], out: &mut [u8]) -> usize
+    requires { ⌜ Bounds (now bytes) (now numbers) × Ordered (tablesIn (now bytes) (now numbers)) ⌝ }
+    ensures { λ r. ⌜ WholeLine (canonical (tablesIn (now (bytes .entry)) (now (numbers .entry)))) (now (out .entry)) (now (out .exit)) r ⌝ }
+{
+    put_line(bytes, numbers, out, 0)
 }

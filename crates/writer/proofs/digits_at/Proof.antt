@@ -18,8 +18,7 @@ number-requires : tie.Need-number-requires
 number-requires c κs = search needs
 
 magnitude-requires : tie.Need-magnitude-requires
-magnitude-requires c κs =
-    rw (toZ-ofZ {w = w64} {z = c .number .result} (record { sfits = c .number .ok }), c .number .ensures) (c .before .pre .4)
+magnitude-requires c κs = search needs
 
 sub-power : tie.Need-sub-power
 sub-power c = search needs

@@ -1,6 +1,6 @@
 use native.Mathlib.Omega.{arith}
 use Rattle.writer.proofs.Storing.{puts-of, puts-join}
-use Rattle.writer.proofs.Digits.{power-positive, quotient-small, size-text}
+use Rattle.writer.proofs.Digits.{power-positive, size-text}
 use borrow.Author.Needs.{needs}
 use Rattle.writer.proofs.put_size.Statement.{statement}
 use Rattle.writer.proofs.put_size.Tie as tie
@@ -17,7 +17,7 @@ div-put-decimal : tie.Need-div-put-decimal
 div-put-decimal c = rw (c .power .ensures) (power-positive _)
 
 put-decimal-requires : tie.Need-put-decimal-requires
-put-decimal-requires c κs = (quotient-small _ _ (c .before .before .before .pre .0), omega arith)
+put-decimal-requires c κs = search needs
 
 put-decimals-requires : tie.Need-put-decimals-requires
 put-decimals-requires c κs = search needs

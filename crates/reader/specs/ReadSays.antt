@@ -8,6 +8,7 @@ use Rattle.scope.specs.declared.answers.Read.{Read}
 use Rattle.scope.specs.Line.{Line}
 use Rattle.scope.specs.Refusals.{accepted, outcome}
 use Rattle.scope.specs.Tables.{bytesSize, numbersSize, bytesOf, numbersOf, laid}
+use Rattle.layout_laws.specs.Holds.{Holds}
 use Rattle.scope.specs.Answers.{saysRead, saysOutcome, readOutcome, bytesAfter, numbersAfter}
 
 pub record ReadSays (line bytes : List ℕ) (numbers : List ℤ) (r : Read) (bytes′ : List ℕ) (numbers′ : List ℤ) : Type 0 where
@@ -27,6 +28,13 @@ pub record Lays (line bytes : List ℕ) (numbers : List ℤ) : Type 0 where
   pub held : Line ℕ
   pub accepts : outcome line ≡ accepted held
   pub clean : Clean bytes numbers
+
+-- areas that hold the tables of an accepted line of n bytes
+pub record HoldSome (n : ℕ) (bytes : List ℕ) (numbers : List ℤ) : Type 0 where
+  pub text : List ℕ
+  pub long : length text ≡ n
+  pub held : Line ℕ
+  pub holds : Holds bytes numbers text held
 
 -- an accepted line, and areas that have room
 pub record Stores (line bytes : List ℕ) (numbers : List ℤ) : Type 0 where

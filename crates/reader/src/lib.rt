@@ -1,7 +1,7 @@
 // Reading a line into the lent areas.
 use scope::answers::Read;
 use scope::tables::Tables;
-ghost use Rattle.reader.specs.ReadSays.{ReadSays, Lays, Stores, Stored};
+ghost use Rattle.reader.specs.ReadSays.{ReadSays, Clean, Lays, HoldSome, Stores, Stored};
 
 // An accepted line's tables, in areas whose room is zero.
 pub fn put(line: &[u8], bytes: &mut [u8], numbers: &mut [i64])
@@ -9,6 +9,14 @@ pub fn put(line: &[u8], bytes: &mut [u8], numbers: &mut [i64])
     ensures { λ _. ⌜ Stored (now (line .entry)) (now (bytes .entry)) (now (numbers .entry)) (now (bytes .exit)) (now (numbers .exit)) ⌝ }
 {
     fill::fill(line, bytes, numbers);
+}
+
+// Areas that hold the tables of an accepted line of n bytes, clean again.
+pub fn wipe(n: usize, bytes: &mut [u8], numbers: &mut [i64])
+    requires { ⌜ HoldSome n (now bytes) (now numbers) ⌝ }
+    ensures { λ _. ⌜ Clean (now (bytes .exit)) (now (numbers .exit)) ⌝ }
+{
+    fill::clear(bytes, numbers);
 }
 
 // An accepted line's tables, in areas that held anything.

@@ -1,9 +1,9 @@
 -- What reading a line answers, and what it leaves in the lent areas: each an equation with the definitions of crate scope.
 use mathlib.Core.Path.{_≡_}
-use mathlib.Core.List.{List}
-use Prim.Native.Nat.{ℕ, _≤_}
+use mathlib.Core.List.{List, _++_}
+use Prim.Native.Nat.{ℕ, _+_, _≤_}
 use lib.IntN.{ℤ, pos}
-use lib.ListN.{length, take, replicate}
+use lib.ListN.{length, take, drop, replicate}
 use Rattle.scope.specs.declared.answers.Read.{Read}
 use Rattle.scope.specs.Line.{Line}
 use Rattle.scope.specs.Refusals.{accepted, outcome}
@@ -46,3 +46,7 @@ pub record Stores (line bytes : List ℕ) (numbers : List ℤ) : Type 0 where
 pub record Stored (line bytes : List ℕ) (numbers : List ℤ) (bytes′ : List ℕ) (numbers′ : List ℤ) : Type 0 where
   pub bytes-now : (l : Line ℕ) → outcome line ≡ accepted l → bytes′ ≡ laid (bytesOf l) bytes
   pub numbers-now : (l : Line ℕ) → outcome line ≡ accepted l → numbers′ ≡ laid (numbersOf l) numbers
+
+-- n elements from a place on are z
+abbrev pub wiped : {A : Type 0} → A → ℕ → ℕ → List A → List A
+wiped z from n l = take from l ++ (replicate n z ++ drop (from + n) l)

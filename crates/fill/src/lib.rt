@@ -72,23 +72,24 @@ pub struct Progress {
 
 // ---- zeros
 
-fn clear_bytes(bytes: &mut [u8])
-    requires { ⌜ bytesSize ≤ length (now bytes) ⌝ }
-    ensures { λ _. ⌜ now (bytes .exit) ≡ replicate bytesSize 0 ++ drop bytesSize (now (bytes .entry)) ⌝ }
+// The first n numbers; what lies past them stays.
+pub fn zero_bytes(bytes: &mut [u8], n: usize)
+    requires { ⌜ n ≤ length (now bytes) ⌝ }
+    ensures { λ _. ⌜ now (bytes .exit) ≡ replicate n 0 ++ drop n (now (bytes .entry)) ⌝ }
 {
     let mut i: usize = 0;
-    while i < 6782 {
+    while i < n {
         bytes[i] = 0;
         i += 1;
     }
 }
 
-fn clear_numbers(numbers: &mut [i64])
-    requires { ⌜ numbersSize ≤ length (now numbers) ⌝ }
-    ensures { λ _. ⌜ now (numbers .exit) ≡ replicate numbersSize (pos 0) ++ drop numbersSize (now (numbers .entry)) ⌝ }
+pub fn zero_numbers(numbers: &mut [i64], n: usize)
+    requires { ⌜ n ≤ length (now numbers) ⌝ }
+    ensures { λ _. ⌜ now (numbers .exit) ≡ replicate n (pos 0) ++ drop n (now (numbers .entry)) ⌝ }
 {
     let mut i: usize = 0;
-    while i < 320 {
+    while i < n {
         numbers[i] = 0;
         i += 1;
     }
@@ -99,8 +100,8 @@ pub fn clear(bytes: &mut [u8], numbers: &mut [i64])
     requires { ⌜ (bytesSize ≤ length (now bytes)) × (numbersSize ≤ length (now numbers)) ⌝ }
     ensures { λ _. ⌜ (now (bytes .exit) ≡ replicate bytesSize 0 ++ drop bytesSize (now (bytes .entry))) × (now (numbers .exit) ≡ replicate numbersSize (pos 0) ++ drop numbersSize (now (numbers .entry))) ⌝ }
 {
-    clear_bytes(bytes);
-    clear_numbers(numbers);
+    zero_bytes(bytes, 6782);
+    zero_numbers(numbers, 320);
 }
 
 // ---- bytes of the line

@@ -49,7 +49,7 @@ fills w =
       numbers-zero = w .clean .numbers-zero;
     }
 
-pub filled : {line bs : List ℕ} {ns : List ℤ} {bs′ : List ℕ} {ns′ : List ℤ} → ((l : Line ℕ) → outcome line ≡ accepted l → FilledAll line bs ns bs′ ns′ l)
+pub filled : {line bs : List ℕ} {ns : List ℤ} {bs′ : List ℕ} {ns′ : List ℤ} → ((l : Line ℕ) → outcome line ≡ accepted l → FilledAll bs ns bs′ ns′ l)
     → Stored line bs ns bs′ ns′
 filled f = record { bytes-now = λ l e. f l e .bytes-are; numbers-now = λ l e. f l e .numbers-are }
 

@@ -1,4 +1,6 @@
 // The boundary to C, Rust and Python: numbers and lent slices.
+mod handed;
+
 use scope::answers::Read;
 ghost use mathlib.Core.Path.{_≡_};
 ghost use Rattle.scope.specs.Refusals.{outcome};

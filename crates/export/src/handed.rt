@@ -20,7 +20,8 @@ fn request_number(r: Request) -> u8
     }
 }
 
-// The listing moved on: 0 with the next placement in it, else the number of the refusal (13, 14, 17, 18) with the listing as it was.
+// The listing moved on: 0 with the next placement in it, else the number of the refusal (13, 14, 17, 18) with the listing as it was. Its `fresh` is 0 or 1 when it is
+// lent.
 #[no_mangle]
 pub extern "C" fn hwemiduk_next(bytes: &[u8], numbers: &[i64], listing: &mut Listing) -> u8
     ensures { λ r. ⌜ (r ≡ numberOf (requests (now (bytes .entry)) (now (numbers .entry)) (now (listing .entry)))) × (now (listing .exit) ≡ listingAfter (now (bytes .entry)) (now (numbers .entry)) (now (listing .entry))) ⌝ }

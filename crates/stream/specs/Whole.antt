@@ -27,9 +27,9 @@ pub outcome-front : (s : List ℕ) → outcome (take holdLimit s) ≡ outcome s
 outcome-front s =
     by-test (leb (length s) holdLimit) (λ q. ap outcome (take-all holdLimit s (leb-true (length s) holdLimit q)))
     (λ q.
-    let g = leb-false (length s) holdLimit q in
-    let l = length-take-le holdLimit s (omega arith) in
-    too-long (take holdLimit s) (omega arith) ∙ sym (too-long s (omega arith)))
+      let g = leb-false (length s) holdLimit q in
+      let l = length-take-le holdLimit s (omega arith) in
+      too-long (take holdLimit s) (omega arith) ∙ sym (too-long s (omega arith)))
 
 pub entry-front : (n : ℕ) (s : List ℕ) → entry n (take holdLimit s) ≡ entry n s
 unfolding printed

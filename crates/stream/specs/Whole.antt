@@ -13,7 +13,8 @@ use Rattle.scope.specs.Limits.{lineLimit}
 use Rattle.scope.specs.Refusals.{refused, refusal1, refusal2, firstDue, outcome}
 use Rattle.scope.specs.Canonical.{decimal}
 use Rattle.scope.specs.Register.{report, printed}
-use Rattle.stream.specs.Lines.{lineEnd, grown, inFront, lines, entry, entriesFrom, register}
+use Rattle.entries.specs.Entry.{entry}
+use Rattle.stream.specs.Lines.{lineEnd, grown, inFront, lines, entriesFrom, register}
 use Rattle.stream.specs.Feeding.{holdLimit, State, holding, start, kept, ended, stepped, after, put, lastPut, finished, joined, afterAll, putAll}
 use Rattle.stream.specs.Laws.{after-append, put-append, kept-twice}
 

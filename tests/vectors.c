@@ -112,27 +112,51 @@ static void placements(const uint8_t *bytes, const int64_t *numbers, bool has_to
     free(listing);
 }
 
-/* Areas with some byte or number changed: every call agrees whether they are tables. */
+/* Any content of the areas: every call agrees whether it is tables. */
+static void any_content(const uint8_t *bytes, const int64_t *numbers)
+{
+    hwemiduk_listing listing = HWEMIDUK_FRESH;
+    hwemiduk_site *row = (hwemiduk_site *)room(limits.rows * sizeof *row);
+    uint8_t *out = (uint8_t *)room(limits.line), *placement = (uint8_t *)room(limits.copies);
+    int64_t *entries = (int64_t *)room(limits.positions * sizeof *entries), total;
+    size_t count;
+    double daltons;
+    uint8_t written = hwemiduk_write(TABLES, out, limits.line, &count);
+    bool none = written == HWEMIDUK_NO_TABLES;
+    expect(written == HWEMIDUK_OK || none, "a line, or no tables");
+    memset(placement, 0, limits.copies);
+    expect((hwemiduk_residues(TABLES, &count) == HWEMIDUK_NO_TABLES) == none, "residues of tables");
+    expect((hwemiduk_brackets(TABLES, &count) == HWEMIDUK_NO_TABLES) == none, "brackets of tables");
+    expect((hwemiduk_floaters(TABLES, &count) == HWEMIDUK_NO_TABLES) == none, "floaters of tables");
+    expect((hwemiduk_total(TABLES, &total, &count) == HWEMIDUK_NO_TABLES) == none, "a total of tables");
+    expect((hwemiduk_shown(TABLES, &daltons, &count) == HWEMIDUK_NO_TABLES) == none, "a display of tables");
+    expect((hwemiduk_allowed(TABLES, placement, limits.copies) == HWEMIDUK_NO_TABLES) == none, "a placement of tables");
+    expect((hwemiduk_ledger(TABLES, placement, limits.copies, entries, limits.positions, &count) == HWEMIDUK_NO_TABLES) == none, "a ledger of tables");
+    expect((hwemiduk_next(TABLES, &listing) == HWEMIDUK_NO_TABLES) == none, "a listing of tables");
+    expect((hwemiduk_rows(TABLES, row, limits.rows, &count) == HWEMIDUK_NO_TABLES) == none, "rows of tables");
+    free(entries);
+    free(placement);
+    free(out);
+    free(row);
+}
+
+/* A byte or a number changed, then another; then all texts full of openings; then all bytes alike. */
 static void changed(uint8_t *bytes, int64_t *numbers)
 {
     static uint64_t state = 20261115;
-    state = state * 6364136223846793005u + 1442695040888963407u;
-    size_t used = limits.bytes - limits.line + 64;
-    if (state >> 62 == 0)
-        numbers[(state >> 33) % 20] ^= (int64_t)(state >> 20 & 0xFFFF);
-    else
-        bytes[(state >> 33) % (state >> 61 & 1 ? 8 : used)] ^= (uint8_t)(state >> 20 | 1);
-    hwemiduk_listing listing = HWEMIDUK_FRESH;
-    hwemiduk_site *row = (hwemiduk_site *)room(limits.rows * sizeof *row);
-    uint8_t *out = (uint8_t *)room(limits.line);
-    size_t length, count;
-    uint8_t written = hwemiduk_write(TABLES, out, limits.line, &length);
-    uint8_t handed = hwemiduk_rows(TABLES, row, limits.rows, &count);
-    uint8_t moved = hwemiduk_next(TABLES, &listing);
-    expect(written == HWEMIDUK_OK || written == HWEMIDUK_NO_TABLES, "a line, or no tables");
-    expect(handed == written && (moved == HWEMIDUK_NO_TABLES) == (written == HWEMIDUK_NO_TABLES), "every call finds the same tables");
-    free(out);
-    free(row);
+    size_t texts = limits.bytes - limits.line;
+    for (int i = 0; i < 2; i++) {
+        state = state * 6364136223846793005u + 1442695040888963407u;
+        if (state >> 62 == 0)
+            numbers[(state >> 33) % 20] ^= (int64_t)(state >> 20 & 0xFFFF);
+        else
+            bytes[(state >> 33) % (state >> 61 & 1 ? 8 : texts + 64)] ^= (uint8_t)(state >> 20 | 1);
+        any_content(bytes, numbers);
+    }
+    memset(bytes + texts, '[', limits.line);
+    any_content(bytes, numbers);
+    memset(bytes, (int)(state >> 50 & 0xFF), limits.bytes);
+    any_content(bytes, numbers);
 }
 
 static void accepted(uint8_t *bytes, int64_t *numbers)

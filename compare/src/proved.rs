@@ -18,6 +18,15 @@ extern "C" {
     fn hwemiduk_residues(bytes: *const u8, bytes_len: usize, numbers: *const i64, numbers_len: usize, count: *mut usize) -> u8;
     fn hwemiduk_brackets(bytes: *const u8, bytes_len: usize, numbers: *const i64, numbers_len: usize, count: *mut usize) -> u8;
     fn hwemiduk_floaters(bytes: *const u8, bytes_len: usize, numbers: *const i64, numbers_len: usize, count: *mut usize) -> u8;
+    fn hwemiduk_write(
+        bytes: *const u8,
+        bytes_len: usize,
+        numbers: *const i64,
+        numbers_len: usize,
+        out: *mut u8,
+        out_len: usize,
+        length: *mut usize,
+    ) -> u8;
     fn hwemiduk_total(
         bytes: *const u8,
         bytes_len: usize,
@@ -113,6 +122,27 @@ fn count(call: CountCall, bytes: &[u8], numbers: &[i64]) -> Result<usize, Refusa
     }
     assert_eq!(count, 0, "a refusal counts none");
     Err(Refusal::new(number, 0))
+}
+
+/// Writes the canonical line into an output of any length: how many bytes.
+pub fn write(bytes: &[u8], numbers: &[i64], out: &mut [u8]) -> Result<usize, Refusal> {
+    let mut length = usize::MAX;
+    let number = unsafe {
+        hwemiduk_write(
+            bytes.as_ptr(),
+            bytes.len(),
+            numbers.as_ptr(),
+            numbers.len(),
+            out.as_mut_ptr(),
+            out.len(),
+            &mut length,
+        )
+    };
+    if number == 0 {
+        Ok(length)
+    } else {
+        Err(Refusal::new(number, length))
+    }
 }
 
 /// The total in millionths.

@@ -1,11 +1,12 @@
 -- Laws of `tabled`: the list f i, f (i + 1), .. up to f (m - 1), as a loop from i to m sees it.
 use mathlib.Core.Path.{_≡_, refl, sym, ap, _∙_}
-use mathlib.Core.List.{[], _∷_}
+use mathlib.Core.List.{List, [], _∷_}
 use Prim.Native.Nat.{ℕ, zero, suc, _+_, _-_, _≤_, _<_}
 use native.Mathlib.Nat.{add-zero, not-suc-le-zero, le-of-suc-le-suc}
 use native.Mathlib.Omega.{arith}
+use lib.IntN.{ℤ}
 use lib.ListN.{length, getD}
-use Rattle.scope.specs.Tables.{tabled}
+use Rattle.scope.specs.Tables.{tabled, byteAt, residueIn, bracketIn, tablesIn}
 
 pub tabled-at : {A : Type 0} (f : ℕ → A) (i m : ℕ) → i < m → tabled f i (m - i) ≡ f i ∷ tabled f (i + 1) (m - (i + 1))
 unfolding tabled
@@ -34,3 +35,13 @@ unfolding tabled
 getD-tabled f i zero j d h = absurd (not-suc-le-zero h)
 getD-tabled f i (suc n) zero d h = ap f (sym (add-zero i))
 getD-tabled f i (suc n) (suc j) d h = getD-tabled f (i + 1) n j d (le-of-suc-le-suc h) ∙ ap f (omega arith)
+
+-- how many residues and brackets the tables in areas have
+module _ (bs : List ℕ) (ns : List ℤ) where
+  pub residues-many : length (tablesIn bs ns .residues) ≡ byteAt bs 0
+  unfolding tablesIn
+  residues-many = length-tabled (residueIn bs) 0 (byteAt bs 0)
+
+  pub brackets-many : length (tablesIn bs ns .brackets) ≡ byteAt bs 1
+  unfolding tablesIn
+  brackets-many = length-tabled (bracketIn bs ns) 0 (byteAt bs 1)

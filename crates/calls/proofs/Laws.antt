@@ -8,15 +8,14 @@ use borrow.Author.Tests.{lt-ltb, le-ltb, ne-eqb}
 use lib.Dec.{ltb, eqb}
 use lib.IntN.{ℤ}
 use lib.ListN.{length}
-use Rattle.scope.specs.Tables.{Tables, bytesSize, numbersSize, byteAt, residueIn, bracketIn, tablesIn}
+use Rattle.scope.specs.Tables.{Tables, bytesSize, numbersSize, tablesIn}
 use Rattle.scope.specs.Masses.{total, lacking, daltons}
 use Rattle.scope.specs.Placements.{allowed, requested}
 use Rattle.scope.specs.Positions.{permittedPositions}
 use Rattle.scope.specs.declared.answers.Listing.{Listing}
-use Rattle.scope.specs.Answers.{saysNumber, requests, listingAfter, allows, bookable, books, entries, Said, good, refuses, Display, aMass, lack, tooShort, areTables, overTables, weighed, residueCount, bracketCount}
+use Rattle.scope.specs.Answers.{saysNumber, requests, listingAfter, allows, bookable, books, entries, Said, good, refuses, Display, aMass, lack, tooShort, areTables, overTables, weighed}
 use Rattle.layout_laws.specs.Laws.{tables-held}
 use Rattle.laws.specs.Proved.{demands}
-use Rattle.brackets.specs.Tabled.{length-tabled}
 use Rattle.masses.specs.declared.Weight.{Weight}
 use Rattle.masses.specs.declared.Weight.the-variants.{Total, Lacks}
 use Rattle.masses.specs.Weights.{weightOf, saysWeight, weight-said}
@@ -72,15 +71,6 @@ refused-law bs ns {w} e n f = refused-so (tooShort bs ns) (areTables bs ns) w (f
 -- what the call answers by itself
 pub answers : {A : Type 0} {bs : List ℕ} {ns : List ℤ} (f : Tables → Said A) → Held bs ns → overTables bs ns f ≡ f (tablesIn bs ns)
 answers {A} {bs} {ns} f h = rw (h .long, h .tables)
-
--- ---- counts
-pub residues-many : (bs : List ℕ) (ns : List ℤ) → residueCount (tablesIn bs ns) ≡ byteAt bs 0
-unfolding tablesIn
-residues-many bs ns = length-tabled (residueIn bs) 0 (byteAt bs 0)
-
-pub brackets-many : (bs : List ℕ) (ns : List ℤ) → bracketCount (tablesIn bs ns) ≡ byteAt bs 1
-unfolding tablesIn
-brackets-many bs ns = length-tabled (bracketIn bs ns) 0 (byteAt bs 1)
 
 -- ---- the total
 pub weighed-so : (t : Tables) {w v : Weight} → w ≡ weightOf t → w ≡ v → saysWeight v ≡ weighed t (total t)

@@ -8,9 +8,10 @@ use lib.IntN.{ℤ, pos}
 use lib.Ieee.{Float}
 use lib.ListN.{length, take}
 use Rattle.scope.specs.Limits.{copyLimit, positionLimit}
+use Rattle.scope.specs.Canonical.{canonical}
 use Rattle.scope.specs.Tables.{Tables, laid, tablesIn}
 use Rattle.scope.specs.Masses.{ledger, daltons}
-use Rattle.scope.specs.Answers.{Said, good, refuses, Display, aMass, lack, allows, books}
+use Rattle.scope.specs.Answers.{Said, good, refuses, Display, aMass, lack, writes, outputAfter, allows, books}
 use Rattle.export.specs.Numbers.{numberOf, placeOf}
 
 -- ---- a count: how many there are, or what the refusal leaves (15 "length needed"; 13 and 14 leave 0)
@@ -21,6 +22,11 @@ countOf (refuses number place) = place
 pub record Counted (said : Said ℕ) (number count : ℕ) : Type 0 where
   pub number-is : number ≡ numberOf said
   pub count-is : count ≡ countOf said
+
+-- ---- a line that was written: the count of its bytes, and the output
+pub record Written (bs : List ℕ) (ns : List ℤ) (old : List ℕ) (number count : ℕ) (new : List ℕ) : Type 0 where
+  pub counted : Counted (writes bs ns old) number count
+  pub output-after : new ≡ outputAfter (writes bs ns old) (canonical (tablesIn bs ns)) old
 
 -- ---- a total in millionths, 0 on a refusal, with the refusal's place (16 "how many have none")
 abbrev pub millionthsOf : Said ℤ → ℤ

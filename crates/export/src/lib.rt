@@ -1,4 +1,5 @@
 // The boundary to C, Rust and Python: numbers and lent slices.
+mod handed;
 mod tables;
 
 use scope::answers::Read;

@@ -6,14 +6,15 @@ use scope::answers::Placement;
 use scope::answers::Request;
 use scope::answers::Shown;
 use scope::answers::Total;
+use scope::answers::Write;
 ghost use mathlib.Core.Path.{_≡_};
 ghost use mathlib.Core.List.{_++_};
 ghost use Prim.Native.Nat.{_≤_};
 ghost use lib.ListN.{length, take, drop};
 ghost use Rattle.scope.specs.Limits.{copyLimit};
-ghost use Rattle.scope.specs.Answers.{saysCount, saysTotal, saysShown, saysRequest, saysBooked, counts, residueCount, bracketCount, floaterCount, totals, shows};
+ghost use Rattle.scope.specs.Answers.{saysCount, saysWrite, saysTotal, saysShown, saysRequest, saysBooked, counts, residueCount, bracketCount, floaterCount, totals, shows};
 ghost use Rattle.export.specs.Numbers.{numberOf, placeOf};
-ghost use Rattle.export.specs.Shapes.{Counted, Totalled, Displayed, allowsLent, Entered};
+ghost use Rattle.export.specs.Shapes.{Counted, Written, Totalled, Displayed, allowsLent, Entered};
 
 // A count, handed out.
 fn tell_count(c: Count, count: &mut usize) -> u8
@@ -56,6 +57,37 @@ pub extern "C" fn hwemiduk_floaters(bytes: &[u8], numbers: &[i64], count: &mut u
 {
     let c = calls::floater_count(bytes, numbers);
     tell_count(c, count)
+}
+
+// A writer's answer, handed out.
+fn tell_write(w: Write, length: &mut usize) -> u8
+    ensures { λ r. ⌜ Counted (saysWrite w) r (now (length .exit)) ⌝ }
+{
+    match w {
+        Write::Written(n) => {
+            *length = n;
+            0
+        }
+        Write::Refused { number, place } => {
+            *length = place;
+            number
+        }
+    }
+}
+
+// The canonical line into an output of any length: 0 and how many bytes were written, with those behind them as they were; else 15 and the length needed, or 13
+// or 14 and 0, with the output as it was.
+#[no_mangle]
+pub extern "C" fn hwemiduk_write(
+    bytes: &[u8],
+    numbers: &[i64],
+    out: &mut [u8],
+    length: &mut usize,
+) -> u8
+    ensures { λ r. ⌜ Written (now (bytes .entry)) (now (numbers .entry)) (now (out .entry)) r (now (length .exit)) (now (out .exit)) ⌝ }
+{
+    let w = calls::write(bytes, numbers, out);
+    tell_write(w, length)
 }
 
 // A total, handed out.

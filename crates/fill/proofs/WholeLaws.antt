@@ -87,7 +87,7 @@ module _ {line : List ℕ} {l : Line ℕ} {old : List ℕ} {oldNumbers : List �
       let k = kept-now w in
       (omega (arith, k .few-residues, w .counts .residues-are), omega (arith, k .few-brackets, w .counts .brackets-are))
 
-  pub end-fills : length line ≤ s .at → FilledAll line old oldNumbers (set (set bytes 0 (s .residues)) 1 (s .brackets)) numbers l
+  pub end-fills : length line ≤ s .at → FilledAll old oldNumbers (set (set bytes 0 (s .residues)) 1 (s .brackets)) numbers l
   end-fills over =
       let h = w .held in
       let e = ends-as (length line) (s .mode) h l (sym (rest-end line (s .at) (outside (s .mode) h) over) ∙ w .reads) in

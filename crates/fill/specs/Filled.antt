@@ -185,6 +185,6 @@ pub record Fills (line bytes : List ℕ) (numbers : List ℤ) : Type 0 where
   pub numbers-long : numbersSize ≤ length numbers
   pub numbers-zero : take numbersSize numbers ≡ replicate numbersSize (pos 0)
 
-pub record FilledAll (line bytes : List ℕ) (numbers : List ℤ) (bytes′ : List ℕ) (numbers′ : List ℤ) (l : Line ℕ) : Type 0 where
+pub record FilledAll (bytes : List ℕ) (numbers : List ℤ) (bytes′ : List ℕ) (numbers′ : List ℤ) (l : Line ℕ) : Type 0 where
   pub bytes-are : bytes′ ≡ laid (bytesOf l) bytes
   pub numbers-are : numbers′ ≡ laid (numbersOf l) numbers

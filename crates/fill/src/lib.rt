@@ -9,6 +9,7 @@ use scope::grammar::Kind;
 use scope::grammar::Mode;
 use scope::grammar::Section;
 use scope::grammar::Slot;
+use scope::tables::Tables;
 ghost use mathlib.Core.Path.{_≡_};
 ghost use Prim.Native.Nat.{ℕ, _+_, _-_, _*_, _/_, _%_, _<_, _≤_};
 ghost use mathlib.Core.Bool.{false, cond};
@@ -70,25 +71,32 @@ pub struct Progress {
     pub count: usize,
 }
 
+// where the first part of the first bracket begins: behind the six numbers of its head
+const FIRST_PART: usize = Tables::ROWS + 6;
+
+// a bracket's numbers: the masses of its parts, and its score
+const MASSES: usize = Tables::PARTS + 1;
+
 // ---- zeros
 
-fn clear_bytes(bytes: &mut [u8])
-    requires { ⌜ bytesSize ≤ length (now bytes) ⌝ }
-    ensures { λ _. ⌜ now (bytes .exit) ≡ replicate bytesSize 0 ++ drop bytesSize (now (bytes .entry)) ⌝ }
+// The first n numbers; what lies past them stays.
+pub fn zero_bytes(bytes: &mut [u8], n: usize)
+    requires { ⌜ n ≤ length (now bytes) ⌝ }
+    ensures { λ _. ⌜ now (bytes .exit) ≡ replicate n 0 ++ drop n (now (bytes .entry)) ⌝ }
 {
     let mut i: usize = 0;
-    while i < 6782 {
+    while i < n {
         bytes[i] = 0;
         i += 1;
     }
 }
 
-fn clear_numbers(numbers: &mut [i64])
-    requires { ⌜ numbersSize ≤ length (now numbers) ⌝ }
-    ensures { λ _. ⌜ now (numbers .exit) ≡ replicate numbersSize (pos 0) ++ drop numbersSize (now (numbers .entry)) ⌝ }
+pub fn zero_numbers(numbers: &mut [i64], n: usize)
+    requires { ⌜ n ≤ length (now numbers) ⌝ }
+    ensures { λ _. ⌜ now (numbers .exit) ≡ replicate n (pos 0) ++ drop n (now (numbers .entry)) ⌝ }
 {
     let mut i: usize = 0;
-    while i < 320 {
+    while i < n {
         numbers[i] = 0;
         i += 1;
     }
@@ -99,8 +107,8 @@ pub fn clear(bytes: &mut [u8], numbers: &mut [i64])
     requires { ⌜ (bytesSize ≤ length (now bytes)) × (numbersSize ≤ length (now numbers)) ⌝ }
     ensures { λ _. ⌜ (now (bytes .exit) ≡ replicate bytesSize 0 ++ drop bytesSize (now (bytes .entry))) × (now (numbers .exit) ≡ replicate numbersSize (pos 0) ++ drop numbersSize (now (numbers .entry))) ⌝ }
 {
-    clear_bytes(bytes);
-    clear_numbers(numbers);
+    zero_bytes(bytes, 6782);
+    zero_numbers(numbers, 320);
 }
 
 // ---- bytes of the line
@@ -287,8 +295,8 @@ fn put_part(
     let to = text_stop(value);
     let n = to - from;
     let m = ends - label;
-    copy(bytes, 2686 + t, line, from, to);
-    copy(bytes, 2686 + t + n, line, label, ends);
+    copy(bytes, Tables::TEXTS + t, line, from, to);
+    copy(bytes, Tables::TEXTS + t + n, line, label, ends);
     let o = offset_of(n + m, t);
     put_row(
         bytes,
@@ -407,8 +415,8 @@ fn put_found(
         key,
         p.label,
         p.ends,
-        516 + k * 34 + j * 7,
-        k * 5 + j,
+        FIRST_PART + k * Tables::ROW + j * Tables::PART,
+        k * MASSES + j,
         t,
     );
     let code2 = score_code(code, score);
@@ -497,7 +505,7 @@ fn close(
     let refers = is_lone(j, p.refers);
     put_head(
         bytes,
-        510 + k * 34,
+        Tables::ROWS + k * Tables::ROW,
         kind,
         first,
         last,
@@ -506,7 +514,7 @@ fn close(
         p.code,
     );
     let mass = p.mass;
-    numbers[k * 5 + 4] = mass;
+    numbers[k * MASSES + Tables::PARTS] = mass;
     Put::Done {
         at: p.at,
         texts: p.texts,
@@ -679,8 +687,8 @@ fn put_residue(
 {
     let n = s.residues;
     let first = first_of(section, n + 1, s.first);
-    bytes[2 + n] = classes::upper(b);
-    bytes[256 + n] = section_code(section);
+    bytes[Tables::LETTERS + n] = classes::upper(b);
+    bytes[Tables::SECTIONS + n] = section_code(section);
     Progress {
         at: next,
         mode,
@@ -700,7 +708,7 @@ fn mark_terms(bytes: &mut [u8], from: usize, n: usize)
 {
     let mut i: usize = 0;
     while i < n {
-        bytes[510 + (from + i) * 34] = 3;
+        bytes[Tables::ROWS + (from + i) * Tables::ROW] = 3;
         i += 1;
     }
 }
@@ -716,7 +724,7 @@ fn put_digit(bytes: &mut [u8], s: Progress, next: usize, b: u8) -> Progress
     }
     let k = s.brackets - 1;
     let count = s.count * 10 + (b - 48) as usize;
-    bytes[510 + k * 34 + 3] = count as u8;
+    bytes[Tables::ROWS + k * Tables::ROW + 3] = count as u8;
     Progress {
         at: next,
         mode: Mode::Counting,
@@ -827,7 +835,7 @@ fn begin() -> Progress
 // The tables of an accepted line, into areas whose room for them is zero.
 pub fn fill(line: &[u8], bytes: &mut [u8], numbers: &mut [i64])
     requires { ⌜ Fills (now line) (now bytes) (now numbers) ⌝ }
-    ensures { λ _. ⌜ ((l : Line ℕ) → outcome (now (line .entry)) ≡ accepted l → FilledAll (now (line .entry)) (now (bytes .entry)) (now (numbers .entry)) (now (bytes .exit)) (now (numbers .exit)) l) ⌝ }
+    ensures { λ _. ⌜ ((l : Line ℕ) → outcome (now (line .entry)) ≡ accepted l → FilledAll (now (bytes .entry)) (now (numbers .entry)) (now (bytes .exit)) (now (numbers .exit)) l) ⌝ }
 {
     let mut s = begin();
     while s.at < line.len() {

@@ -3,20 +3,22 @@ use mathlib.Core.Path.{_≡_, refl}
 use mathlib.Core.Bool.{true}
 use mathlib.Core.Option.{Option, none, some}
 use mathlib.Core.List.{List}
-use Prim.Native.Nat.{ℕ, _≤_, _<_}
+use Prim.Native.Nat.{ℕ, _+_, _≤_, _<_}
 use native.Mathlib.Omega.{arith}
 use lib.Dec.{leb}
 use lib.ListN.{length}
 use borrow.Author.Tests.{leb-true}
 use Rattle.scope.specs.Bytes.{isPrintable}
 use Rattle.scope.specs.Line.{Number, Label, Value, mass, text, reference, Part, Bracket, Line}
+use Rattle.scope.specs.Modifications.{flat}
 use Rattle.scope.specs.Refusals.{inRange, textIn, accepted, outcome}
+use Rattle.scope.specs.Tables.{bracketTexts}
 use Rattle.layout_laws.specs.Within.{OfGiven, Byte, NumberWithin, LabelWithin, ValueWithin, PartWithin, BracketWithin, Within}
 use Rattle.layout_laws.specs.Lists.{and-right}
 use Rattle.layout_laws.specs.Each.{each-one, each-two}
 use Rattle.layout_laws.specs.Judged.{MassRange, JudgedPart, JudgedBracket, judged-line}
 use Rattle.layout_laws.specs.Inside.{Signed, LabelShape, ValueShape, PartShape}
-use Rattle.layout_laws.specs.Outside.{BracketShape, line-shape}
+use Rattle.layout_laws.specs.Outside.{BracketShape, LineShape, line-shape}
 
 value-within : (p : Part ℕ) (v : Value ℕ) → ValueShape p v → MassRange v → length (textIn v) ≤ 128 → ValueWithin p v
 value-within p (mass n) w r h = record { range = r; sign = w }
@@ -67,10 +69,16 @@ bracket-within n k w j =
 printable-byte : (b : ℕ) → isPrintable b ≡ true → Byte b
 printable-byte b e = let h : b ≤ 126 = leb-true b 126 (and-right (leb 32 b) _ e) in omega arith
 
+shape-accepted : (s : List ℕ) (l : Line ℕ) → outcome s ≡ accepted l → LineShape (0 + length s) l
+shape-accepted s l e = let j = judged-line s l e in line-shape s l (each-one (λ b. isPrintable b ≡ true) Byte printable-byte s (j .printable)) (j .read)
+
+pub texts-accepted : (s : List ℕ) (l : Line ℕ) → outcome s ≡ accepted l → length (flat bracketTexts (l .brackets)) ≤ length s
+texts-accepted s l e = let fits = shape-accepted s l e .fits in omega arith
+
 pub within-accepted : (s : List ℕ) (l : Line ℕ) → outcome s ≡ accepted l → Within l
 within-accepted s l e =
     let j = judged-line s l e in
-    let w = line-shape s l (each-one (λ b. isPrintable b ≡ true) Byte printable-byte s (j .printable)) (j .read) in
+    let w = shape-accepted s l e in
     let short = j .short in
     let fits = w .fits in
     record {

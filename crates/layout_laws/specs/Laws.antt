@@ -10,11 +10,12 @@ use lib.IntN.{ℤ}
 use lib.ListN.{length, take, drop, getD, length-append, length-drop}
 use lib.Seq.{take-at}
 use Rattle.scope.specs.Bytes.{same}
-use Rattle.scope.specs.Limits.{rowLimit}
+use Rattle.scope.specs.Limits.{lineLimit, rowLimit}
 use Rattle.scope.specs.Line.{Bracket, Line}
 use Rattle.scope.specs.Refusals.{accepted, outcome}
 use Rattle.scope.specs.Canonical.{canonical}
-use Rattle.scope.specs.Tables.{bareBracket, tablesOf, bytesOf, numbersOf, bytesSize, numbersSize, laid, tablesIn}
+use Rattle.scope.specs.Modifications.{flat}
+use Rattle.scope.specs.Tables.{bareBracket, bracketTexts, tablesOf, bytesOf, numbersOf, bytesSize, numbersSize, laid, tablesIn}
 use Rattle.scope.specs.Positions.{floaters, permittedPositions, rowsOf}
 use Rattle.scope.specs.Masses.{total, lacking, ledger}
 use Rattle.scope.specs.Answers.{sameNumbers, areTables}
@@ -26,12 +27,21 @@ use Rattle.layout_laws.specs.BareWithin
 use Rattle.layout_laws.specs.Layout
 use Rattle.layout_laws.specs.Bounded
 use Rattle.layout_laws.specs.RowsFit
+use Rattle.layout_laws.specs.Judged
 use Rattle.layout_laws.specs.Accepted
 use Rattle.layout_laws.specs.Same
 
 -- ---- what every accepted line keeps to
 pub accepted-within : (s : List ℕ) (l : Line ℕ) → outcome s ≡ accepted l → Within l
 accepted-within s l e = Accepted.within-accepted s l e
+
+-- "line 1 to 4,096 bytes"
+pub accepted-short : (s : List ℕ) (l : Line ℕ) → outcome s ≡ accepted l → length s ≤ lineLimit
+accepted-short s l e = Judged.judged-line s l e .short
+
+-- the packed texts are no longer than the line
+pub accepted-texts : (s : List ℕ) (l : Line ℕ) → outcome s ≡ accepted l → length (flat bracketTexts (l .brackets)) ≤ length s
+accepted-texts s l e = Accepted.texts-accepted s l e
 
 -- "1 to n the residues, n+1 the C-terminus": positions of brackets
 pub first-within : {P : Type 0} (n : ℕ) (k : Bracket P) → BracketWithin n k → k .first ≤ n + 1

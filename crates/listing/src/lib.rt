@@ -55,7 +55,7 @@ fn ready_for(bytes: &[u8], numbers: &[i64], room: usize) -> Ready
 }
 
 // The permitted positions as rows, ascending, with their number.
-pub fn rows<'a, 'b, 'c>(bytes: &'a [u8], numbers: &'b [i64], room: &'c mut [Site]) -> Count
+pub fn rows(bytes: &[u8], numbers: &[i64], room: &mut [Site]) -> Count
     ensures { λ r. ⌜ (saysCount r ≡ rowsSaid (now (bytes .entry)) (now (numbers .entry)) (now (room .entry))) × (now (room .exit) ≡ rowsAfter (rowsSaid (now (bytes .entry)) (now (numbers .entry)) (now (room .entry))) (tablesIn (now (bytes .entry)) (now (numbers .entry))) (now (room .entry))) ⌝ }
 {
     let ready = ready_for(bytes, numbers, room.len());
@@ -65,7 +65,7 @@ pub fn rows<'a, 'b, 'c>(bytes: &'a [u8], numbers: &'b [i64], room: &'c mut [Site
 }
 
 // The listing moved on, in place.
-pub fn step<'a, 'b, 'c>(bytes: &'a [u8], numbers: &'b [i64], listing: &'c mut Listing) -> Request
+pub fn step(bytes: &[u8], numbers: &[i64], listing: &mut Listing) -> Request
     ensures { λ r. ⌜ (saysRequest r ≡ requests (now (bytes .entry)) (now (numbers .entry)) (now (listing .entry))) × (now (listing .exit) ≡ listingAfter (now (bytes .entry)) (now (numbers .entry)) (now (listing .entry))) ⌝ }
 {
     let n = calls::next_placement(bytes, numbers, *listing);

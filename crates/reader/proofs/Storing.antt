@@ -4,12 +4,13 @@ use mathlib.Core.List.{List, _++_}
 use Prim.Native.Nat.{ℕ, _+_, _-_, _≤_}
 use native.Mathlib.Omega.{arith}
 use lib.IntN.{ℤ, pos}
-use lib.ListN.{length, take, drop, replicate, length-append, length-drop, length-replicate}
+use lib.ListN.{length, take, drop, replicate, length-append, length-replicate}
 use lib.Seq.{take-at, drop-at}
 use Rattle.scope.specs.Line.{Line}
 use Rattle.scope.specs.Refusals.{accepted, outcome}
 use Rattle.scope.specs.Tables.{bytesSize, numbersSize, bytesOf, numbersOf, laid}
-use Rattle.layout_laws.specs.Laws.{accepted-within, bytes-fill, numbers-fill}
+use Rattle.layout_laws.specs.Holds.{Holds}
+use Rattle.layout_laws.specs.Laws.{accepted-within, accepted-held, bytes-fill, numbers-fill, laid-bytes, laid-numbers}
 use Rattle.fill.specs.Filled.{Fills, FilledAll}
 use Rattle.reader.specs.ReadSays.{Clean, Lays, Stores, Stored}
 
@@ -48,7 +49,7 @@ fills w =
       numbers-zero = w .clean .numbers-zero;
     }
 
-pub filled : {line bs : List ℕ} {ns : List ℤ} {bs′ : List ℕ} {ns′ : List ℤ} → ((l : Line ℕ) → outcome line ≡ accepted l → FilledAll line bs ns bs′ ns′ l)
+pub filled : {line bs : List ℕ} {ns : List ℤ} {bs′ : List ℕ} {ns′ : List ℤ} → ((l : Line ℕ) → outcome line ≡ accepted l → FilledAll bs ns bs′ ns′ l)
     → Stored line bs ns bs′ ns′
 filled f = record { bytes-now = λ l e. f l e .bytes-are; numbers-now = λ l e. f l e .numbers-are }
 
@@ -62,3 +63,9 @@ module _ (line bs : List ℕ) (ns : List ℤ) (bs₁ : List ℕ) (ns₁ : List �
         bytes-now = λ l e. w .bytes-now l e ∙ ap (λ x. laid (bytesOf l) x) b ∙ laid-over 0 bytesSize (bytesOf l) bs (bytes-fill l (accepted-within line l e));
         numbers-now = λ l e. w .numbers-now l e ∙ ap (λ x. laid (numbersOf l) x) n ∙ laid-over (pos 0) numbersSize (numbersOf l) ns (numbers-fill l (accepted-within line l e));
       }
+
+-- the areas hold what was stored
+pub holds-of : {line bs : List ℕ} {ns : List ℤ} {bs′ : List ℕ} {ns′ : List ℤ} (l : Line ℕ) → outcome line ≡ accepted l → Stored line bs ns bs′ ns′ → Holds bs′ ns′ line l
+holds-of {line} {bs} {ns} {bs′} {ns′} l e w =
+    let v = accepted-within line l e in
+    accepted-held bs′ ns′ line l e (ap (take bytesSize) (w .bytes-now l e) ∙ laid-bytes l v bs) (ap (take numbersSize) (w .numbers-now l e) ∙ laid-numbers l v ns)

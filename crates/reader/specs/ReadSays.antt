@@ -1,13 +1,14 @@
 -- What reading a line answers, and what it leaves in the lent areas: each an equation with the definitions of crate scope.
 use mathlib.Core.Path.{_≡_}
-use mathlib.Core.List.{List}
-use Prim.Native.Nat.{ℕ, _≤_}
+use mathlib.Core.List.{List, _++_}
+use Prim.Native.Nat.{ℕ, _+_, _≤_}
 use lib.IntN.{ℤ, pos}
-use lib.ListN.{length, take, replicate}
+use lib.ListN.{length, take, drop, replicate}
 use Rattle.scope.specs.declared.answers.Read.{Read}
 use Rattle.scope.specs.Line.{Line}
 use Rattle.scope.specs.Refusals.{accepted, outcome}
 use Rattle.scope.specs.Tables.{bytesSize, numbersSize, bytesOf, numbersOf, laid}
+use Rattle.layout_laws.specs.Holds.{Holds}
 use Rattle.scope.specs.Answers.{saysRead, saysOutcome, readOutcome, bytesAfter, numbersAfter}
 
 pub record ReadSays (line bytes : List ℕ) (numbers : List ℤ) (r : Read) (bytes′ : List ℕ) (numbers′ : List ℤ) : Type 0 where
@@ -28,6 +29,13 @@ pub record Lays (line bytes : List ℕ) (numbers : List ℤ) : Type 0 where
   pub accepts : outcome line ≡ accepted held
   pub clean : Clean bytes numbers
 
+-- areas that hold the tables of an accepted line of n bytes
+pub record HoldSome (n : ℕ) (bytes : List ℕ) (numbers : List ℤ) : Type 0 where
+  pub text : List ℕ
+  pub long : length text ≡ n
+  pub held : Line ℕ
+  pub holds : Holds bytes numbers text held
+
 -- an accepted line, and areas that have room
 pub record Stores (line bytes : List ℕ) (numbers : List ℤ) : Type 0 where
   pub held : Line ℕ
@@ -38,3 +46,7 @@ pub record Stores (line bytes : List ℕ) (numbers : List ℤ) : Type 0 where
 pub record Stored (line bytes : List ℕ) (numbers : List ℤ) (bytes′ : List ℕ) (numbers′ : List ℤ) : Type 0 where
   pub bytes-now : (l : Line ℕ) → outcome line ≡ accepted l → bytes′ ≡ laid (bytesOf l) bytes
   pub numbers-now : (l : Line ℕ) → outcome line ≡ accepted l → numbers′ ≡ laid (numbersOf l) numbers
+
+-- n elements from a place on are z
+abbrev pub wiped : {A : Type 0} → A → ℕ → ℕ → List A → List A
+wiped z from n l = take from l ++ (replicate n z ++ drop (from + n) l)

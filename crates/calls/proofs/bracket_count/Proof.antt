@@ -1,7 +1,8 @@
 -- `calls::bracket_count` meets its contract.
 use mathlib.Core.Path.{sym, ap, _∙_}
 use Rattle.scope.specs.Answers.{good, bracketCount}
-use Rattle.calls.proofs.Laws.{refused-law, held, answers, brackets-many}
+use Rattle.calls.proofs.Laws.{refused-law, held, answers}
+use Rattle.brackets.specs.Tabled.{brackets-many}
 use borrow.Author.Needs.{needs}
 use Rattle.calls.proofs.bracket_count.Statement.{statement}
 use Rattle.calls.proofs.bracket_count.Tie as tie

@@ -1,22 +1,27 @@
 use native.Mathlib.Omega.{arith}
 use Prim.Native.Nat.{_-_}
+use borrow.Author.Needs.{needs}
+use lib.IntN.{pos}
 use Rattle.fill.proofs.Stores.{Zeroing, zeroing-start, zeroing-room, zeroing-next, zeroing-end}
-use Rattle.fill.proofs.clear_bytes.Statement.{statement}
-use Rattle.fill.proofs.clear_bytes.Tie as tie
-use Rattle.fill.proofs.clear_bytes.Reads as reads
-use Rattle.fill.proofs.clear_bytes.Lts as lts
+use Rattle.fill.proofs.zero_numbers.Statement.{statement}
+use Rattle.fill.proofs.zero_numbers.Tie as tie
+use Rattle.fill.proofs.zero_numbers.Reads as reads
+use Rattle.fill.proofs.zero_numbers.Lts as lts
 
 abbrev Inv-loop : tie.InvT-loop
-Inv-loop bytes₀ i₀ bytes i = Zeroing 0 6782 bytes₀ i bytes
+Inv-loop numbers₀ n i₀ numbers i = Zeroing (pos 0) n numbers₀ i numbers
 
 abbrev μ-loop : tie.MeasureT-loop
-μ-loop bytes₀ i₀ bytes i = 6782 - i
+μ-loop numbers₀ n i₀ numbers i = n - i
 
 loop-holds : tie.Need-loop-holds Inv-loop μ-loop
-loop-holds c = zeroing-start 0 6782 _ (c .pre)
+loop-holds c = zeroing-start (pos 0) _ _ (c .pre)
 
-slice-write-bytes : tie.Need-slice-write-bytes Inv-loop μ-loop
-slice-write-bytes c = zeroing-room (c .before .loop .inv) (c .loop-test .taken)
+mul-numbers : tie.Need-mul-numbers Inv-loop μ-loop
+mul-numbers c = search needs
+
+slice-set-of-numbers : tie.Need-slice-set-of-numbers Inv-loop μ-loop
+slice-set-of-numbers c = zeroing-room (c .before .loop .inv) (c .loop-test .taken)
 
 add-i : tie.Need-add-i Inv-loop μ-loop
 add-i c = omega (arith, c .before .loop .inv .upto)
@@ -33,14 +38,15 @@ same-length c = c .before .loop .inv .long
 returns : tie.Need-returns Inv-loop μ-loop
 returns c = zeroing-end (c .before .loop .inv) (c .loop-test .left)
 
-pub clear-bytes-spec : {M : Type 1} → statement M
-clear-bytes-spec =
+pub zero-numbers-spec : {M : Type 1} → statement M
+zero-numbers-spec =
     tie.close
     (tie.spec
     Inv-loop
     μ-loop
     loop-holds
-    slice-write-bytes
+    mul-numbers
+    slice-set-of-numbers
     add-i
     loop-less
     loop-again

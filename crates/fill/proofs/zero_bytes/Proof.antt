@@ -1,27 +1,22 @@
 use native.Mathlib.Omega.{arith}
 use Prim.Native.Nat.{_-_}
-use borrow.Author.Needs.{needs}
-use lib.IntN.{pos}
 use Rattle.fill.proofs.Stores.{Zeroing, zeroing-start, zeroing-room, zeroing-next, zeroing-end}
-use Rattle.fill.proofs.clear_numbers.Statement.{statement}
-use Rattle.fill.proofs.clear_numbers.Tie as tie
-use Rattle.fill.proofs.clear_numbers.Reads as reads
-use Rattle.fill.proofs.clear_numbers.Lts as lts
+use Rattle.fill.proofs.zero_bytes.Statement.{statement}
+use Rattle.fill.proofs.zero_bytes.Tie as tie
+use Rattle.fill.proofs.zero_bytes.Reads as reads
+use Rattle.fill.proofs.zero_bytes.Lts as lts
 
 abbrev Inv-loop : tie.InvT-loop
-Inv-loop numbers₀ i₀ numbers i = Zeroing (pos 0) 320 numbers₀ i numbers
+Inv-loop bytes₀ n i₀ bytes i = Zeroing 0 n bytes₀ i bytes
 
 abbrev μ-loop : tie.MeasureT-loop
-μ-loop numbers₀ i₀ numbers i = 320 - i
+μ-loop bytes₀ n i₀ bytes i = n - i
 
 loop-holds : tie.Need-loop-holds Inv-loop μ-loop
-loop-holds c = zeroing-start (pos 0) 320 _ (c .pre)
+loop-holds c = zeroing-start 0 _ _ (c .pre)
 
-mul-numbers : tie.Need-mul-numbers Inv-loop μ-loop
-mul-numbers c = search needs
-
-slice-set-of-numbers : tie.Need-slice-set-of-numbers Inv-loop μ-loop
-slice-set-of-numbers c = zeroing-room (c .before .loop .inv) (c .loop-test .taken)
+slice-write-bytes : tie.Need-slice-write-bytes Inv-loop μ-loop
+slice-write-bytes c = zeroing-room (c .before .loop .inv) (c .loop-test .taken)
 
 add-i : tie.Need-add-i Inv-loop μ-loop
 add-i c = omega (arith, c .before .loop .inv .upto)
@@ -38,15 +33,14 @@ same-length c = c .before .loop .inv .long
 returns : tie.Need-returns Inv-loop μ-loop
 returns c = zeroing-end (c .before .loop .inv) (c .loop-test .left)
 
-pub clear-numbers-spec : {M : Type 1} → statement M
-clear-numbers-spec =
+pub zero-bytes-spec : {M : Type 1} → statement M
+zero-bytes-spec =
     tie.close
     (tie.spec
     Inv-loop
     μ-loop
     loop-holds
-    mul-numbers
-    slice-set-of-numbers
+    slice-write-bytes
     add-i
     loop-less
     loop-again

@@ -1,0 +1,48 @@
+use mathlib.Core.List.{[], _∷_}
+use Rattle.scope.specs.Canonical.{canonical}
+use Rattle.scope.specs.Tables.{tablesIn}
+use Rattle.scope.specs.Register.{totalText}
+use Rattle.entries.specs.Entry.{countFields}
+use Rattle.writer.proofs.Storing.{puts-of, puts-join, puts-exact}
+use Rattle.entries.proofs.Texts.{field-then, field-last, fields-append}
+use borrow.Author.Needs.{needs}
+use Rattle.entries.proofs.put_accepted.Statement.{statement}
+use Rattle.entries.proofs.put_accepted.Tie as tie
+
+put-counts-requires : tie.Need-put-counts-requires
+put-counts-requires c κs = search needs
+
+put-total-requires : tie.Need-put-total-requires
+put-total-requires c κs = search needs
+
+put-requires : tie.Need-put-requires
+put-requires c κs = search needs
+
+put-line-requires : tie.Need-put-line-requires
+put-line-requires c κs = search needs
+
+same-length : tie.Need-same-length
+same-length c = search needs
+
+returns : tie.Need-returns
+returns c =
+    let l = c .before .before in
+    let p = l .before .before .before .before in
+    let t = p .before .before .before .before in
+    let k = t .before .before .before .before in
+    let s = k .before .before .before .before in
+    let m = tablesIn (s .args .bytes .now) (s .args .numbers .now) in
+    puts-of (fields-append (countFields m) (totalText m ∷ canonical m ∷ []))
+    (puts-join (k .put-counts .ensures)
+    (field-then (t .put-total .ensures) _ (field-last (puts-join (p .put .ensures) (puts-exact {n = 4096} (s .pre .0 .short) (l .put-line .ensures))))))
+
+pub put-accepted-spec : {M : Type 1} → statement M
+put-accepted-spec =
+    tie.close
+    (tie.spec
+    put-counts-requires
+    put-total-requires
+    put-requires
+    put-line-requires
+    same-length
+    returns)

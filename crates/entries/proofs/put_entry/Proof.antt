@@ -1,0 +1,51 @@
+use Rattle.writer.proofs.Storing.{puts-length}
+use Rattle.entries.proofs.Texts.{puts-from}
+use borrow.Author.Needs.{needs}
+use Rattle.entries.proofs.put_entry.Statement.{statement}
+use Rattle.entries.proofs.put_entry.Tie as tie
+
+sub-put-front : tie.Need-sub-put-front
+sub-put-front c = search needs
+
+part-put-front-start : tie.Need-part-put-front-start
+part-put-front-start c = search needs
+
+part-put-front-end : tie.Need-part-put-front-end
+part-put-front-end c = search needs
+
+put-front-requires : tie.Need-put-front-requires
+put-front-requires c κs = search needs
+
+add-result : tie.Need-add-result
+add-result c = search needs
+
+same-length : tie.Need-same-length
+same-length c = search needs
+
+same-length-2 : tie.Need-same-length-2
+same-length-2 c = search needs
+
+same-length-3 : tie.Need-same-length-3
+same-length-3 c = search needs
+
+returns : tie.Need-returns
+returns c =
+    let f = c .before .before .before .before .before in
+    let s = f .before .before .before .before .before .before .before in
+    let w = f .put-front .ensures in
+    let t = puts-from (s .args .at) (s .args .out .now) (w .puts) in
+    record { puts = t; clean = w .clean; out-long = puts-length t; bytes-long = w .bytes-long; numbers-long = w .numbers-long }
+
+pub put-entry-spec : {M : Type 1} → statement M
+put-entry-spec =
+    tie.close
+    (tie.spec
+    sub-put-front
+    part-put-front-start
+    part-put-front-end
+    put-front-requires
+    add-result
+    same-length
+    same-length-2
+    same-length-3
+    returns)

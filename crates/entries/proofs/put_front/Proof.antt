@@ -1,0 +1,44 @@
+use Rattle.writer.proofs.Storing.{puts-of, puts-join, puts-length}
+use Rattle.entries.proofs.Texts.{entry-text}
+use borrow.Author.Needs.{needs}
+use Rattle.entries.proofs.put_front.Statement.{statement}
+use Rattle.entries.proofs.put_front.Tie as tie
+
+put-decimal-requires : tie.Need-put-decimal-requires
+put-decimal-requires c κs = search needs
+
+put-report-requires : tie.Need-put-report-requires
+put-report-requires c κs = search needs
+
+put-requires : tie.Need-put-requires
+put-requires c κs = search needs
+
+same-length : tie.Need-same-length
+same-length c = search needs
+
+same-length-2 : tie.Need-same-length-2
+same-length-2 c = search needs
+
+same-length-3 : tie.Need-same-length-3
+same-length-3 c = search needs
+
+returns : tie.Need-returns
+returns c =
+    let p = c .before .before in
+    let r = p .before .before .before .before .before .before .before in
+    let d = r .before .before .before .before .before .before in
+    let w = r .put-report .ensures in
+    let t = puts-of (entry-text _ _) (puts-join (d .put-decimal .ensures) (puts-join (w .puts) (p .put .ensures))) in
+    record { puts = t; clean = w .clean; out-long = puts-length t; bytes-long = w .bytes-long; numbers-long = w .numbers-long }
+
+pub put-front-spec : {M : Type 1} → statement M
+put-front-spec =
+    tie.close
+    (tie.spec
+    put-decimal-requires
+    put-report-requires
+    put-requires
+    same-length
+    same-length-2
+    same-length-3
+    returns)

@@ -1,0 +1,39 @@
+use native.Mathlib.Omega.{arith}
+use Rattle.writer.proofs.Storing.{puts-exact}
+use Rattle.entries.proofs.Texts.{field-then, field-last}
+use borrow.Author.Needs.{needs}
+use Rattle.entries.proofs.put_refused.Statement.{statement}
+use Rattle.entries.proofs.put_refused.Tie as tie
+
+slice-aggregate-word : tie.Need-slice-aggregate-word
+slice-aggregate-word c = search needs
+
+word-requires : tie.Need-word-requires
+word-requires c κs = search needs
+
+put-field-requires : tie.Need-put-field-requires
+put-field-requires c κs = search needs
+
+put-field-requires-2 : tie.Need-put-field-requires-2
+put-field-requires-2 c κs = search needs
+
+same-length : tie.Need-same-length
+same-length c = search needs
+
+returns : tie.Need-returns
+returns c =
+    let f2 = c .before .before in
+    let f1 = f2 .before .before .before .before in
+    let w = f1 .before .before .before .before in
+    field-then (puts-exact {n = 3} (omega arith) (w .word .ensures)) _ (field-then (f1 .put-field .ensures) _ (field-last (f2 .put-field2 .ensures)))
+
+pub put-refused-spec : {M : Type 1} → statement M
+put-refused-spec =
+    tie.close
+    (tie.spec
+    slice-aggregate-word
+    word-requires
+    put-field-requires
+    put-field-requires-2
+    same-length
+    returns)

@@ -1,0 +1,56 @@
+use Rattle.writer.proofs.Storing.{puts-of, puts-join}
+use Rattle.entries.proofs.Texts.{minus-text, plus-text}
+use borrow.Author.Needs.{needs}
+use Rattle.entries.proofs.put_signed.Statement.{statement}
+use Rattle.entries.proofs.put_signed.Tie as tie
+
+magnitude-requires : tie.Need-magnitude-requires
+magnitude-requires c κs = search needs
+
+put-requires : tie.Need-put-requires
+put-requires c κs = search needs
+
+put-decimal-requires : tie.Need-put-decimal-requires
+put-decimal-requires c κs = search needs
+
+same-length : tie.Need-same-length
+same-length c = search needs
+
+returns : tie.Need-returns
+returns c =
+    let d = c .before .before in
+    let p = d .before .before .before .before in
+    let i = p .before .before in
+    let m = i .before in
+    puts-of (minus-text _ (m .before .before .fits .m) (m .magnitude .ensures) (i .if1 .taken)) (puts-join (p .put .ensures) (d .put-decimal .ensures))
+
+put-requires-2 : tie.Need-put-requires-2
+put-requires-2 c κs = search needs
+
+put-decimal-requires-2 : tie.Need-put-decimal-requires-2
+put-decimal-requires-2 c κs = search needs
+
+same-length-2 : tie.Need-same-length-2
+same-length-2 c = search needs
+
+returns-2 : tie.Need-returns-2
+returns-2 c =
+    let d = c .before .before in
+    let p = d .before .before .before .before in
+    let i = p .before .before in
+    let m = i .before in
+    puts-of (plus-text _ (m .before .before .fits .m) (m .magnitude .ensures) (i .if1 .left)) (puts-join (p .put2 .ensures) (d .put-decimal2 .ensures))
+
+pub put-signed-spec : {M : Type 1} → statement M
+put-signed-spec =
+    tie.close
+    (tie.spec
+    magnitude-requires
+    put-requires
+    put-decimal-requires
+    same-length
+    returns
+    put-requires-2
+    put-decimal-requires-2
+    same-length-2
+    returns-2)

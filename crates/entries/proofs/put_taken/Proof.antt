@@ -1,0 +1,59 @@
+use native.Mathlib.Omega.{arith}
+use mathlib.Core.Path.{refl}
+use Rattle.reader.proofs.Storing.{holds-of}
+use Rattle.writer.proofs.Storing.{puts-of, puts-length}
+use Rattle.entries.proofs.Taken.{known, taken-text}
+use borrow.Author.Needs.{needs}
+use Rattle.entries.proofs.put_taken.Statement.{statement}
+use Rattle.entries.proofs.put_taken.Tie as tie
+
+put-requires : tie.Need-put-requires
+put-requires c κs = search needs
+
+put-accepted-requires : tie.Need-put-accepted-requires
+put-accepted-requires c κs =
+    let p = c .before .before .before .before .before .before in
+    let s = p .before .before .before .before .before .before in
+    (known (s .pre .0 .held) (s .pre .0 .accepts) (p .put .ensures), omega arith)
+
+wipe-requires : tie.Need-wipe-requires
+wipe-requires c κs =
+    let a = c .before .before .before .before in
+    let p = a .before .before .before .before .before .before .before in
+    let s = p .before .before .before .before .before .before in
+    record { text = s .args .line .now; long = refl; held = s .pre .0 .held; holds = holds-of (s .pre .0 .held) (s .pre .0 .accepts) (p .put .ensures) }
+
+same-length : tie.Need-same-length
+same-length c = search needs
+
+same-length-2 : tie.Need-same-length-2
+same-length-2 c = search needs
+
+same-length-3 : tie.Need-same-length-3
+same-length-3 c = search needs
+
+returns : tie.Need-returns
+returns c =
+    let k = c .before .before .before in
+    let a = k .before .before .before .before .before in
+    let p = a .before .before .before .before .before .before .before in
+    let s = p .before .before .before .before .before .before in
+    record {
+      puts = puts-of (taken-text (s .pre .0 .held) (s .pre .0 .accepts) (p .put .ensures)) (a .put-accepted .ensures);
+      clean = k .wipe .ensures;
+      out-long = puts-length (a .put-accepted .ensures);
+      bytes-long = search needs;
+      numbers-long = search needs;
+    }
+
+pub put-taken-spec : {M : Type 1} → statement M
+put-taken-spec =
+    tie.close
+    (tie.spec
+    put-requires
+    put-accepted-requires
+    wipe-requires
+    same-length
+    same-length-2
+    same-length-3
+    returns)

@@ -1,0 +1,29 @@
+use mathlib.Core.Path.{ap, _∙_}
+use Rattle.entries.specs.Entry.{weightText}
+use Rattle.writer.proofs.Storing.{puts-of, puts-join}
+use Rattle.entries.proofs.Texts.{weight-text}
+use borrow.Author.Needs.{needs}
+use Rattle.entries.proofs.put_total.Statement.{statement}
+use Rattle.entries.proofs.put_total.Tie as tie
+
+weigh-requires : tie.Need-weigh-requires
+weigh-requires c κs = search needs
+
+put-requires : tie.Need-put-requires
+put-requires c κs = search needs
+
+put-weight-requires : tie.Need-put-weight-requires
+put-weight-requires c κs = search needs
+
+same-length : tie.Need-same-length
+same-length c = search needs
+
+returns : tie.Need-returns
+returns c =
+    let d = c .before .before in
+    let p = d .before .before .before .before in
+    puts-join (p .put .ensures) (puts-of (ap weightText (p .before .before .weigh .ensures) ∙ weight-text _) (d .put-weight .ensures))
+
+pub put-total-spec : {M : Type 1} → statement M
+put-total-spec =
+    tie.close (tie.spec weigh-requires put-requires put-weight-requires same-length returns)

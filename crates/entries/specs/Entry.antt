@@ -1,0 +1,59 @@
+-- The entry of a line: what the register prints for it, in an output that the caller lends.
+use mathlib.Core.Path.{_≡_}
+use mathlib.Core.List.{List, [], _∷_, _++_}
+use Prim.Native.Nat.{ℕ, _≤_}
+use lib.IntN.{ℤ}
+use lib.ListN.{length}
+use Rattle.scope.specs.Bytes.{bytes, question}
+use Rattle.scope.specs.Limits.{lineLimit, copyLimit}
+use Rattle.scope.specs.Line.{Line}
+use Rattle.scope.specs.Refusals.{outcome}
+use Rattle.scope.specs.Canonical.{decimal, canonical}
+use Rattle.scope.specs.Tables.{tablesIn}
+use Rattle.scope.specs.Positions.{floaters}
+use Rattle.scope.specs.Register.{signedText, totalText, report, printed}
+use Rattle.areas.specs.Bounds.{Bounds}
+use Rattle.order_laws.specs.Ranks.{Ordered}
+use Rattle.masses.specs.declared.Weight.{Weight}
+use Rattle.masses.specs.declared.Weight.the-variants.{Total, Lacks}
+use Rattle.reader.specs.ReadSays.{Clean}
+use Rattle.writer.specs.Written.{Puts}
+
+-- what is printed for the line s with the number n, and the byte behind it
+abbrev pub entry : ℕ → List ℕ → List ℕ
+entry n s = printed n s ++ (10 ∷ [])
+
+-- the fields behind the number of an accepted line
+abbrev pub countFields : {P : Type 0} → Line P → List (List ℕ)
+countFields l = bytes "ok" ∷ decimal (length (l .residues)) ∷ decimal (length (l .brackets)) ∷ decimal (length (floaters l)) ∷ []
+
+abbrev pub okFields : {P : Type 0} → Line P → List (List ℕ)
+okFields l = countFields l ++ (totalText l ∷ canonical l ∷ [])
+
+-- and of a refused one
+abbrev pub noFields : ℕ → ℕ → List (List ℕ)
+noFields number place = bytes "no" ∷ decimal number ∷ decimal place ∷ []
+
+-- "total in millionths (signed, zero as `+0`; or `?` and how many lack a mass)"
+abbrev pub weightText : Weight → List ℕ
+weightText (Total m) = signedText m
+weightText (Lacks n) = question ∷ decimal n
+
+-- an entry has at most so many bytes: a line of 4,096 and 110 beside it, each number counted with 20 digits
+abbrev pub entryLimit : ℕ
+entryLimit = 4206
+
+-- what is known of the tables of an accepted line, and need not be looked for in them
+pub record Known (bs : List ℕ) (ns : List ℤ) : Type 0 where
+  pub bounds : Bounds bs ns
+  pub ordered : Ordered (tablesIn bs ns)
+  pub few : length (floaters (tablesIn bs ns)) ≤ copyLimit
+  pub short : length (canonical (tablesIn bs ns)) ≤ lineLimit
+
+-- a text was put into the output, and the areas are clean again
+pub record Printed (most : ℕ) (o : List ℕ) (at : ℕ) (t left : List ℕ) (r : ℕ) (bytes : List ℕ) (numbers : List ℤ) (bytes′ : List ℕ) (numbers′ : List ℤ) : Type 0 where
+  pub puts : Puts most o at t left r
+  pub clean : Clean bytes′ numbers′
+  pub out-long : length left ≡ length o
+  pub bytes-long : length bytes′ ≡ length bytes
+  pub numbers-long : length numbers′ ≡ length numbers

@@ -1,0 +1,163 @@
+// The register's entries: what it prints for a line. The areas are lent clean and given back clean, and what reading has shown of the tables is not tried again.
+use masses::Weight;
+use masses::weigh;
+use positions::find_floaters;
+use scope::answers::Read;
+ghost use mathlib.Core.Path.{_≡_};
+ghost use mathlib.Core.List.{List, [], _∷_, _++_};
+ghost use Prim.Native.Nat.{ℕ, _+_, _≤_};
+ghost use lib.ListN.{length};
+ghost use Rattle.scope.specs.Canonical.{decimal};
+ghost use Rattle.scope.specs.Register.{signedText, totalText, fields, report};
+ghost use Rattle.scope.specs.Refusals.{outcome};
+ghost use Rattle.scope.specs.Tables.{tablesIn};
+ghost use Rattle.reader.specs.ReadSays.{Clean, Lays};
+ghost use Rattle.writer.specs.Written.{Puts, ceiling};
+ghost use Rattle.entries.specs.Entry.{entry, entryLimit, countFields, okFields, noFields, weightText, Known, Printed};
+
+// ---- fields, each with a space before it
+
+fn put_field(n: u64, out: &mut [u8], at: usize) -> usize
+    requires { ⌜ at + 21 ≤ ceiling ⌝ }
+    ensures { λ r. ⌜ Puts 21 (now (out .entry)) at (32 ∷ decimal n) (now (out .exit)) r ⌝ }
+{
+    let a = writer::put(out, at, b' ');
+    writer::put_decimal(n, out, a)
+}
+
+// "signed, zero as `+0`"
+fn put_signed(m: i64, out: &mut [u8], at: usize) -> usize
+    requires { ⌜ at + 21 ≤ ceiling ⌝ }
+    ensures { λ r. ⌜ Puts 21 (now (out .entry)) at (signedText m) (now (out .exit)) r ⌝ }
+{
+    let n = writer::magnitude(m);
+    if m < 0 {
+        let a = writer::put(out, at, b'-');
+        return writer::put_decimal(n, out, a);
+    }
+    let a = writer::put(out, at, b'+');
+    writer::put_decimal(n, out, a)
+}
+
+// The total, or `?` and how many lack a mass.
+fn put_weight(w: Weight, out: &mut [u8], at: usize) -> usize
+    requires { ⌜ at + 21 ≤ ceiling ⌝ }
+    ensures { λ r. ⌜ Puts 21 (now (out .entry)) at (weightText w) (now (out .exit)) r ⌝ }
+{
+    match w {
+        Weight::Total(m) => put_signed(m, out, at),
+        Weight::Lacks(n) => {
+            let a = writer::put(out, at, b'?');
+            writer::put_decimal(n as u64, out, a)
+        }
+    }
+}
+
+// ---- "no, number, place"
+
+fn put_refused(number: u8, place: usize, out: &mut [u8], at: usize) -> usize
+    requires { ⌜ at + 58 ≤ ceiling ⌝ }
+    ensures { λ r. ⌜ Puts 45 (now (out .entry)) at (fields (noFields number place)) (now (out .exit)) r ⌝ }
+{
+    let a = writer::word(b" no", out, at);
+    let b = put_field(number as u64, out, a);
+    put_field(place as u64, out, b)
+}
+
+// ---- "ok, residues, brackets, floaters, total .., canonical line"
+
+fn put_counts(bytes: &[u8], numbers: &[i64], out: &mut [u8], at: usize) -> usize
+    requires { ⌜ Known (now bytes) (now numbers) × (at + 79 ≤ ceiling) ⌝ }
+    ensures { λ r. ⌜ Puts 66 (now (out .entry)) at (fields (countFields (tablesIn (now (bytes .entry)) (now (numbers .entry))))) (now (out .exit)) r ⌝ }
+{
+    let residues = areas::residues(bytes);
+    let brackets = areas::brackets(bytes);
+    let f = find_floaters(bytes, numbers);
+    let floaters = f.count;
+    let a = writer::word(b" ok", out, at);
+    let b = put_field(residues as u64, out, a);
+    let c = put_field(brackets as u64, out, b);
+    put_field(floaters as u64, out, c)
+}
+
+fn put_total(bytes: &[u8], numbers: &[i64], out: &mut [u8], at: usize) -> usize
+    requires { ⌜ Known (now bytes) (now numbers) × (at + 22 ≤ ceiling) ⌝ }
+    ensures { λ r. ⌜ Puts 22 (now (out .entry)) at (32 ∷ totalText (tablesIn (now (bytes .entry)) (now (numbers .entry)))) (now (out .exit)) r ⌝ }
+{
+    let w = weigh(bytes, numbers);
+    let a = writer::put(out, at, b' ');
+    put_weight(w, out, a)
+}
+
+// Of tables that are known to be those of an accepted line.
+fn put_accepted(bytes: &[u8], numbers: &[i64], out: &mut [u8], at: usize) -> usize
+    requires { ⌜ Known (now bytes) (now numbers) × (at + 500000 ≤ ceiling) ⌝ }
+    ensures { λ r. ⌜ Puts 4185 (now (out .entry)) at (fields (okFields (tablesIn (now (bytes .entry)) (now (numbers .entry))))) (now (out .exit)) r ⌝ }
+{
+    let a = put_counts(bytes, numbers, out, at);
+    let b = put_total(bytes, numbers, out, a);
+    let c = writer::put(out, b, b' ');
+    writer::put_line(bytes, numbers, out, c)
+}
+
+// Of an accepted line, by way of its tables.
+fn put_taken(line: &[u8], bytes: &mut [u8], numbers: &mut [i64], out: &mut [u8], at: usize) -> usize
+    requires { ⌜ Lays (now line) (now bytes) (now numbers) × (at + 500000 ≤ ceiling) ⌝ }
+    ensures { λ r. ⌜ Printed 4185 (now (out .entry)) at (report (outcome (now (line .entry)))) (now (out .exit)) r (now (bytes .entry)) (now (numbers .entry)) (now (bytes .exit)) (now (numbers .exit)) ⌝ }
+{
+    reader::put(line, bytes, numbers);
+    let r = put_accepted(bytes, numbers, out, at);
+    reader::wipe(line.len(), bytes, numbers);
+    r
+}
+
+// ---- the entry
+
+fn put_report(
+    line: &[u8],
+    bytes: &mut [u8],
+    numbers: &mut [i64],
+    out: &mut [u8],
+    at: usize,
+) -> usize
+    requires { ⌜ Clean (now bytes) (now numbers) × (at + 500000 ≤ ceiling) ⌝ }
+    ensures { λ r. ⌜ Printed 4185 (now (out .entry)) at (report (outcome (now (line .entry)))) (now (out .exit)) r (now (bytes .entry)) (now (numbers .entry)) (now (bytes .exit)) (now (numbers .exit)) ⌝ }
+{
+    let v = verdict::verdict_on(line);
+    match v {
+        Read::Accepted => put_taken(line, bytes, numbers, out, at),
+        Read::Refused { number, place } => put_refused(number, place, out, at),
+    }
+}
+
+// At the front of an output.
+fn put_front(
+    number: u64,
+    line: &[u8],
+    bytes: &mut [u8],
+    numbers: &mut [i64],
+    out: &mut [u8],
+) -> usize
+    requires { ⌜ Clean (now bytes) (now numbers) ⌝ }
+    ensures { λ r. ⌜ Printed entryLimit (now (out .entry)) 0 (entry number (now (line .entry))) (now (out .exit)) r (now (bytes .entry)) (now (numbers .entry)) (now (bytes .exit)) (now (numbers .exit)) ⌝ }
+{
+    let a = writer::put_decimal(number, out, 0);
+    let b = put_report(line, bytes, numbers, out, a);
+    writer::put(out, b, 10)
+}
+
+// What the register prints for a line, and byte 10, from a place of the output on. The areas' room is zero before and after.
+pub fn put_entry(
+    number: u64,
+    line: &[u8],
+    bytes: &mut [u8],
+    numbers: &mut [i64],
+    out: &mut [u8],
+    at: usize,
+) -> usize
+    requires { ⌜ Clean (now bytes) (now numbers) × (at + entryLimit ≤ length (now out)) ⌝ }
+    ensures { λ r. ⌜ Printed entryLimit (now (out .entry)) at (entry number (now (line .entry))) (now (out .exit)) r (now (bytes .entry)) (now (numbers .entry)) (now (bytes .exit)) (now (numbers .exit)) ⌝ }
+{
+    let n = put_front(number, line, bytes, numbers, &mut out[at..]);
+    at + n
+}

@@ -1,0 +1,153 @@
+-- Areas that hold an accepted line's tables, wiped as far as such a line uses them.
+use mathlib.Core.Path.{_≡_, refl, sym, ap, ap₂, _∙_}
+use mathlib.Core.List.{List, [], _∷_, _++_, map, append-assoc, append-nil}
+use Prim.Native.Nat.{ℕ, _+_, _-_, _*_, _≤_}
+use native.Mathlib.Omega.{arith}
+use lib.IntN.{ℤ, pos}
+use lib.ListN.{length, take, drop, replicate, length-append, length-drop, length-map, length-replicate, replicate-append-replicate, take-append-drop, drop-of-length-le}
+use lib.Seq.{take-all, take-at, drop-at, drop-append-le, drop-append-add, drop-drop}
+use Rattle.scope.specs.Line.{Line}
+use Rattle.scope.specs.Modifications.{flat}
+use Rattle.scope.specs.Tables.{bytesSize, numbersSize, byteAt, padded, sectionCode, bracketTexts, rows, numberRow, bytesOf, numbersOf}
+use Rattle.layout_laws.specs.Layout.{padded-length, rows-length, number-rows-length}
+use Rattle.layout_laws.specs.Laws.{accepted-short, accepted-texts}
+use Rattle.reader.specs.ReadSays.{Clean, HoldSome, wiped}
+use Rattle.reader.proofs.Storing.{cleared-clean}
+
+-- ---- from a place on, by way of the part that begins there
+pub part-wiped : {A : Type 0} (z : A) (from n : ℕ) (l p : List A) → p ≡ replicate n z ++ drop n (take (length l - from) (drop from l))
+    → take from l ++ (p ++ drop (length l - from) (drop from l)) ≡ wiped z from n l
+part-wiped z from n l p e =
+    let h = length-drop from l in
+    let whole : take (length l - from) (drop from l) ≡ drop from l = take-all (length l - from) (drop from l) (omega arith) in
+    let none : drop (length l - from) (drop from l) ≡ [] = drop-of-length-le (drop from l) {i = length l - from} (omega arith) in
+    ap (λ x. take from l ++ (p ++ x)) none
+    ∙ ap (λ x. take from l ++ x) (append-nil p ∙ e ∙ ap (λ x. replicate n z ++ x) (ap (drop n) whole ∙ drop-drop n from l))
+
+-- ---- a table with its unused room
+module _ {A : Type 0} (z : A) where
+  drop-replicate : (j k : ℕ) → j ≤ k → drop j (replicate k z) ≡ replicate (k - j) z
+  drop-replicate j k h =
+      ap (λ n. drop j (replicate n z)) (let e : k ≡ j + (k - j) = omega arith in e)
+      ∙ ap (drop j) (sym (replicate-append-replicate j (k - j) z))
+      ∙ drop-at (replicate j z) (replicate (k - j) z) j (length-replicate j z)
+
+  drop-padded : (m n : ℕ) (t : List A) → length t ≤ n → n ≤ m → drop n (padded z m t) ≡ replicate (m - n) z
+  drop-padded m n t h k =
+      ap (λ i. drop i (padded z m t)) (let e : n ≡ length t + (n - length t) = omega arith in e)
+      ∙ drop-append-add t (replicate (m - length t) z) (n - length t)
+      ∙ drop-replicate (n - length t) (m - length t) (omega arith)
+      ∙ ap (λ i. replicate i z) (let e : m - length t - (n - length t) ≡ m - n = omega arith in e)
+
+  zeros : (m n : ℕ) (x : List A) → replicate m z ++ (replicate n z ++ x) ≡ replicate (m + n) z ++ x
+  zeros m n x = sym (append-assoc (replicate m z) (replicate n z) x) ∙ ap (λ y. y ++ x) (replicate-append-replicate m n z)
+
+  -- the next table behind zeros becomes zeros
+  pub wiped-next :
+      (k m n : ℕ) (t back : List A) → length t ≤ n → n ≤ m → {x y : List A} → x ≡ replicate k z ++ (padded z m t ++ back) → y ≡ wiped z k n x
+      → y ≡ replicate (k + m) z ++ back
+  wiped-next k m n t back h g {x} {y} e f =
+      let r = replicate k z in
+      let l = padded-length z m t (omega arith) in
+      let past : drop (k + n) (r ++ (padded z m t ++ back)) ≡ replicate (m - n) z ++ back =
+      sym (drop-drop n k (r ++ (padded z m t ++ back)))
+      ∙ ap (drop n) (drop-at r (padded z m t ++ back) k (length-replicate k z))
+      ∙ drop-append-le n (padded z m t) back (omega arith)
+      ∙ ap (λ y. y ++ back) (drop-padded m n t h g) in
+      f
+      ∙ ap (wiped z k n) e
+      ∙ ap₂ (λ a b. a ++ (replicate n z ++ b)) (take-at r (padded z m t ++ back) k (length-replicate k z)) past
+      ∙ ap (λ b. r ++ b) (zeros n (m - n) back)
+      ∙ zeros k (n + (m - n)) back
+      ∙ ap (λ i. replicate i z ++ back) (let e : k + (n + (m - n)) ≡ k + m = omega arith in e)
+
+-- ---- the areas
+lead : (a b : ℕ) (t : List ℕ) → (a ∷ b ∷ []) ++ padded 0 254 t ≡ padded 0 256 (a ∷ b ∷ t)
+lead a b t = ap (λ k. (a ∷ b ∷ t) ++ replicate k 0) (let e : 254 - length t ≡ 256 - length (a ∷ b ∷ t) = omega arith in e)
+
+regroup : (h a b c d p : List ℕ) → (h ++ (a ++ (b ++ (c ++ d)))) ++ p ≡ (h ++ a) ++ (b ++ (c ++ (d ++ p)))
+regroup h a b c d p = simp append-assoc
+
+abbrev headOf : Line ℕ → List ℕ
+headOf l = length (l .residues) ∷ length (l .brackets) ∷ map (λ r. r .letter) (l .residues)
+
+abbrev sectionsOf : Line ℕ → List ℕ
+sectionsOf l = map (λ r. sectionCode (r .section)) (l .residues)
+
+module _ (l : Line ℕ) (past : List ℕ) where
+  area-is :
+      bytesOf l ++ past
+      ≡ padded 0 256 (headOf l)
+      ++ (padded 0 254 (sectionsOf l) ++ (padded 0 2176 (rows 0 (l .brackets)) ++ (padded 0 4096 (flat bracketTexts (l .brackets)) ++ past)))
+  unfolding bytesOf
+  area-is =
+      regroup (length (l .residues) ∷ length (l .brackets) ∷ []) (padded 0 254 (map (λ r. r .letter) (l .residues))) (padded 0 254 (sectionsOf l))
+      (padded 0 2176 (rows 0 (l .brackets))) (padded 0 4096 (flat bracketTexts (l .brackets))) past
+      ∙ ap
+      (λ x. x ++ (padded 0 254 (sectionsOf l) ++ (padded 0 2176 (rows 0 (l .brackets)) ++ (padded 0 4096 (flat bracketTexts (l .brackets)) ++ past))))
+      (lead (length (l .residues)) (length (l .brackets)) (map (λ r. r .letter) (l .residues)))
+
+  residues-first : byteAt (bytesOf l ++ past) 0 ≡ length (l .residues)
+  unfolding bytesOf
+  residues-first = refl
+
+  brackets-second : byteAt (bytesOf l ++ past) 1 ≡ length (l .brackets)
+  unfolding bytesOf
+  brackets-second = refl
+
+module _ {n : ℕ} {bs : List ℕ} {ns : List ℤ} (w : HoldSome n bs ns) where
+  bytes-are : bs ≡ bytesOf (w .held) ++ drop bytesSize bs
+  bytes-are = sym (take-append-drop bytesSize bs) ∙ ap (λ x. x ++ drop bytesSize bs) (w .holds .bytes)
+
+  numbers-are : ns ≡ padded (pos 0) 320 (flat numberRow (w .held .brackets)) ++ drop numbersSize ns
+  unfolding numbersOf
+  numbers-are = sym (take-append-drop numbersSize ns) ∙ ap (λ x. x ++ drop numbersSize ns) (w .holds .numbers)
+
+  residues-are : byteAt bs 0 ≡ length (w .held .residues)
+  residues-are = ap (λ x. byteAt x 0) bytes-are ∙ residues-first (w .held) (drop bytesSize bs)
+
+  brackets-are : byteAt bs 1 ≡ length (w .held .brackets)
+  brackets-are = ap (λ x. byteAt x 1) bytes-are ∙ brackets-second (w .held) (drop bytesSize bs)
+
+  pub line-short : n ≤ 4096
+  line-short = let e = w .long in let h = accepted-short (w .text) (w .held) (w .holds .reads) in omega arith
+
+  module _ {r k : ℕ} (e : r ≡ byteAt bs 0) (f : k ≡ byteAt bs 1) where
+    bytes-wiped :
+        {b₁ b₂ b₃ b₄ : List ℕ} → b₁ ≡ wiped 0 0 (2 + r) bs → b₂ ≡ wiped 0 256 r b₁ → b₃ ≡ wiped 0 510 (k * 34) b₂ → b₄ ≡ wiped 0 2686 n b₃
+        → b₄ ≡ replicate bytesSize 0 ++ drop bytesSize bs
+    bytes-wiped e₁ e₂ e₃ e₄ =
+        let l = w .held in
+        let v = w .holds .within in
+        let few-r = v .few-residues in
+        let few-k = v .few-brackets in
+        let rs = residues-are in
+        let ks = brackets-are in
+        let long = w .long in
+        let ls = length-map (l .residues) (λ r. r .letter) in
+        let ss = length-map (l .residues) (λ r. sectionCode (r .section)) in
+        let rows-long = rows-length (length (l .residues)) 0 (l .brackets) (v .brackets) in
+        let texts-long = accepted-texts (w .text) l (w .holds .reads) in
+        let short = line-short in
+        let texts = padded 0 4096 (flat bracketTexts (l .brackets)) ++ drop bytesSize bs in
+        let all-rows = padded 0 2176 (rows 0 (l .brackets)) ++ texts in
+        let sections = padded 0 254 (sectionsOf l) ++ all-rows in
+        wiped-next 0 2686 4096 n (flat bracketTexts (l .brackets)) (drop bytesSize bs) (omega arith) (omega arith)
+        (wiped-next 0 510 2176 (k * 34) (rows 0 (l .brackets)) texts (omega arith) (omega arith)
+        (wiped-next 0 256 254 r (sectionsOf l) all-rows (omega arith) (omega arith)
+        (wiped-next 0 0 256 (2 + r) (headOf l) sections (omega arith) (omega arith) (bytes-are ∙ area-is l (drop bytesSize bs)) e₁) e₂) e₃) e₄
+
+    numbers-wiped : {m : List ℤ} → m ≡ replicate (k * 5) (pos 0) ++ drop (k * 5) ns → m ≡ replicate numbersSize (pos 0) ++ drop numbersSize ns
+    numbers-wiped {m} g =
+        let l = w .held in
+        let v = w .holds .within in
+        let few-k = v .few-brackets in
+        let ks = brackets-are in
+        let rows-long = number-rows-length (length (l .residues)) (l .brackets) (v .brackets) in
+        wiped-next (pos 0) 0 320 (k * 5) (flat numberRow (l .brackets)) (drop numbersSize ns) (omega arith) (omega arith) numbers-are
+        (g ∙ ap (λ i. replicate (k * 5) (pos 0) ++ drop i ns) (let z : k * 5 ≡ 0 + k * 5 = omega arith in z))
+
+    pub wiped-clean :
+        {b₁ b₂ b₃ b₄ : List ℕ} {m : List ℤ} → b₁ ≡ wiped 0 0 (2 + r) bs → b₂ ≡ wiped 0 256 r b₁ → b₃ ≡ wiped 0 510 (k * 34) b₂
+        → b₄ ≡ wiped 0 2686 n b₃ → m ≡ replicate (k * 5) (pos 0) ++ drop (k * 5) ns → Clean b₄ m
+    wiped-clean e₁ e₂ e₃ e₄ g = cleared-clean bs ns (bytes-wiped e₁ e₂ e₃ e₄) (numbers-wiped g)

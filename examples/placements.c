@@ -1,0 +1,45 @@
+/* Lists the placements of a line with their ledgers, and its total: placements '[+1]^2?AC' */
+#include <hwemiduk.h>
+#include <inttypes.h>
+#include <stdio.h>
+#include <string.h>
+
+static uint8_t bytes[HWEMIDUK_BYTES];
+static int64_t numbers[HWEMIDUK_NUMBERS];
+static int64_t ledger[HWEMIDUK_POSITIONS];
+
+int main(int argc, char **argv)
+{
+    if (argc != 2) {
+        fprintf(stderr, "usage: placements LINE\n");
+        return 2;
+    }
+    size_t place, floaters, missing;
+    uint8_t refusal = hwemiduk_read((const uint8_t *)argv[1], strlen(argv[1]), bytes, HWEMIDUK_BYTES, numbers, HWEMIDUK_NUMBERS, &place);
+    if (refusal != HWEMIDUK_OK) {
+        printf("refused: %d at %zu\n", refusal, place);
+        return 1;
+    }
+    hwemiduk_floaters(bytes, HWEMIDUK_BYTES, numbers, HWEMIDUK_NUMBERS, &floaters);
+    hwemiduk_listing listing = HWEMIDUK_FRESH;
+    while (hwemiduk_next(bytes, HWEMIDUK_BYTES, numbers, HWEMIDUK_NUMBERS, &listing) == HWEMIDUK_OK) {
+        printf("placement");
+        for (size_t i = 0; i < floaters; i++)
+            printf(" %d", listing.at[i]);
+        printf(":");
+        if (hwemiduk_ledger(bytes, HWEMIDUK_BYTES, numbers, HWEMIDUK_NUMBERS, listing.at, HWEMIDUK_COPIES, ledger, HWEMIDUK_POSITIONS, &missing) == HWEMIDUK_OK) {
+            for (size_t position = 0; position < HWEMIDUK_POSITIONS; position++)
+                if (ledger[position] != 0)
+                    printf(" %" PRId64 " at %zu", ledger[position], position);
+        } else {
+            printf(" %zu without a mass", missing);
+        }
+        printf("\n");
+    }
+    int64_t total;
+    if (hwemiduk_total(bytes, HWEMIDUK_BYTES, numbers, HWEMIDUK_NUMBERS, &total, &missing) == HWEMIDUK_OK)
+        printf("total: %" PRId64 "\n", total);
+    else
+        printf("total: %zu without a mass\n", missing);
+    return 0;
+}

@@ -1,0 +1,259 @@
+/*
+ * Takes each line of standard input through every call and prints it as the register does. All that is lent lies on the heap in exactly the sizes asked for, and
+ * is not set before it is written: under valgrind, a call that reads or writes past what it is lent, or uses what nobody wrote, is found out.
+ */
+#include <hwemiduk.h>
+#include <inttypes.h>
+#include <stdio.h>
+#include <stdlib.h>
+#include <string.h>
+
+#define JUNK 0xA5
+#define TABLES bytes, limits.bytes, numbers, limits.numbers
+
+static hwemiduk_limits_t limits;
+static size_t line_number;
+
+static void expect(bool holds, const char *what)
+{
+    if (!holds) {
+        printf("line %zu: not so: %s\n", line_number, what);
+        exit(1);
+    }
+}
+
+static void *room(size_t size)
+{
+    void *lent = malloc(size);
+    expect(lent != NULL, "there is memory");
+    return lent;
+}
+
+static bool is_junk(const void *area, size_t size)
+{
+    const uint8_t *byte = (const uint8_t *)area;
+    for (size_t i = 0; i < size; i++)
+        if (byte[i] != JUNK)
+            return false;
+    return true;
+}
+
+/* A refused line leaves the areas as they were. */
+static void refused(const uint8_t *line, size_t length, uint8_t *bytes, int64_t *numbers)
+{
+    size_t place;
+    memset(bytes, JUNK, limits.bytes);
+    memset(numbers, JUNK, limits.numbers * sizeof *numbers);
+    expect(hwemiduk_read(line, length, TABLES, &place) != HWEMIDUK_OK, "a refused line is refused again");
+    expect(is_junk(bytes, limits.bytes) && is_junk(numbers, limits.numbers * sizeof *numbers), "a refusal changes no area");
+}
+
+/* The canonical line into an output one byte too short, and into one that just has room. */
+static void canonical(const uint8_t *bytes, const int64_t *numbers)
+{
+    size_t needed, length;
+    uint8_t *out = (uint8_t *)room(0);
+    expect(hwemiduk_write(TABLES, out, 0, &needed) == HWEMIDUK_SHORT_OUTPUT, "no room is too short");
+    free(out);
+    out = (uint8_t *)room(needed - 1);
+    memset(out, JUNK, needed - 1);
+    expect(hwemiduk_write(TABLES, out, needed - 1, &length) == HWEMIDUK_SHORT_OUTPUT && length == needed, "one byte less is too short");
+    expect(is_junk(out, needed - 1), "a refusal changes no output");
+    free(out);
+    out = (uint8_t *)room(needed);
+    expect(hwemiduk_write(TABLES, out, needed, &length) == HWEMIDUK_OK && length == needed, "the length needed is enough");
+    fwrite(out, 1, length, stdout);
+    free(out);
+}
+
+/* The rows, and the first row of each floater and of two that there are not. */
+static void rows(const uint8_t *bytes, const int64_t *numbers, size_t floaters)
+{
+    hwemiduk_site *row = (hwemiduk_site *)room(limits.rows * sizeof *row);
+    size_t count;
+    expect(hwemiduk_rows(TABLES, row, limits.rows, &count) == HWEMIDUK_OK, "there are rows");
+    for (size_t floater = 0; floater <= floaters + 1; floater++) {
+        size_t first = 0, index;
+        uint8_t position;
+        while (first < count && row[first].floater != floater)
+            first++;
+        uint8_t answer = hwemiduk_first_row(row, limits.rows, count, (uint8_t)floater, &index, &position);
+        if (first == count)
+            expect(answer == HWEMIDUK_NO_FURTHER && index == 0 && position == 0, "no such row");
+        else
+            expect(answer == HWEMIDUK_OK && index == first && position == row[first].position, "the first row");
+    }
+    free(row);
+}
+
+/* The first placements, each allowed, with their ledgers, where there is a total. */
+static void placements(const uint8_t *bytes, const int64_t *numbers, bool has_total)
+{
+    hwemiduk_listing *listing = (hwemiduk_listing *)room(sizeof *listing);
+    uint8_t *placement = (uint8_t *)room(limits.copies);
+    int64_t *entries = (int64_t *)room(limits.positions * sizeof *entries);
+    size_t place;
+    const hwemiduk_listing fresh = HWEMIDUK_FRESH;
+    *listing = fresh;
+    for (int i = 0; i < 3 && hwemiduk_next(TABLES, listing) == HWEMIDUK_OK; i++) {
+        memcpy(placement, listing->at, limits.copies);
+        expect(!listing->fresh, "a listing moved on is not fresh");
+        expect(hwemiduk_allowed(TABLES, placement, limits.copies) == HWEMIDUK_OK, "a placement handed out is allowed");
+        uint8_t answer = hwemiduk_ledger(TABLES, placement, limits.copies, entries, limits.positions, &place);
+        expect(answer == (has_total ? HWEMIDUK_OK : HWEMIDUK_NO_MASS), "a ledger where there is a total");
+    }
+    memset(placement, JUNK, limits.copies);
+    memset(listing, 0, sizeof *listing);
+    memset(listing->at, JUNK, limits.copies);
+    expect(hwemiduk_allowed(TABLES, placement, limits.copies) == HWEMIDUK_NOT_ALLOWED, "junk is no placement");
+    expect(hwemiduk_next(TABLES, listing) == HWEMIDUK_NOT_ALLOWED && is_junk(listing->at, limits.copies), "junk is no listing, and stays");
+    free(entries);
+    free(placement);
+    free(listing);
+}
+
+/* Any content of the areas: every call agrees whether it is tables. */
+static void any_content(const uint8_t *bytes, const int64_t *numbers)
+{
+    hwemiduk_listing listing = HWEMIDUK_FRESH;
+    hwemiduk_site *row = (hwemiduk_site *)room(limits.rows * sizeof *row);
+    uint8_t *out = (uint8_t *)room(limits.line), *placement = (uint8_t *)room(limits.copies);
+    int64_t *entries = (int64_t *)room(limits.positions * sizeof *entries), total;
+    size_t count;
+    double daltons;
+    uint8_t written = hwemiduk_write(TABLES, out, limits.line, &count);
+    bool none = written == HWEMIDUK_NO_TABLES;
+    expect(written == HWEMIDUK_OK || none, "a line, or no tables");
+    memset(placement, 0, limits.copies);
+    expect((hwemiduk_residues(TABLES, &count) == HWEMIDUK_NO_TABLES) == none, "residues of tables");
+    expect((hwemiduk_brackets(TABLES, &count) == HWEMIDUK_NO_TABLES) == none, "brackets of tables");
+    expect((hwemiduk_floaters(TABLES, &count) == HWEMIDUK_NO_TABLES) == none, "floaters of tables");
+    expect((hwemiduk_total(TABLES, &total, &count) == HWEMIDUK_NO_TABLES) == none, "a total of tables");
+    expect((hwemiduk_shown(TABLES, &daltons, &count) == HWEMIDUK_NO_TABLES) == none, "a display of tables");
+    expect((hwemiduk_allowed(TABLES, placement, limits.copies) == HWEMIDUK_NO_TABLES) == none, "a placement of tables");
+    expect((hwemiduk_ledger(TABLES, placement, limits.copies, entries, limits.positions, &count) == HWEMIDUK_NO_TABLES) == none, "a ledger of tables");
+    expect((hwemiduk_next(TABLES, &listing) == HWEMIDUK_NO_TABLES) == none, "a listing of tables");
+    expect((hwemiduk_rows(TABLES, row, limits.rows, &count) == HWEMIDUK_NO_TABLES) == none, "rows of tables");
+    free(entries);
+    free(placement);
+    free(out);
+    free(row);
+}
+
+/* A byte or a number changed, then another; then all texts full of openings; then all bytes alike. */
+static void changed(uint8_t *bytes, int64_t *numbers)
+{
+    static uint64_t state = 20261115;
+    size_t texts = limits.bytes - limits.line;
+    for (int i = 0; i < 2; i++) {
+        state = state * 6364136223846793005u + 1442695040888963407u;
+        if (state >> 62 == 0)
+            numbers[(state >> 33) % 20] ^= (int64_t)(state >> 20 & 0xFFFF);
+        else
+            bytes[(state >> 33) % (state >> 61 & 1 ? 8 : texts + 64)] ^= (uint8_t)(state >> 20 | 1);
+        any_content(bytes, numbers);
+    }
+    memset(bytes + texts, '[', limits.line);
+    any_content(bytes, numbers);
+    memset(bytes, (int)(state >> 50 & 0xFF), limits.bytes);
+    any_content(bytes, numbers);
+}
+
+static void accepted(uint8_t *bytes, int64_t *numbers)
+{
+    size_t residues, brackets, floaters, without, missing;
+    int64_t total;
+    double daltons;
+    expect(hwemiduk_residues(TABLES, &residues) == HWEMIDUK_OK, "residues");
+    expect(hwemiduk_brackets(TABLES, &brackets) == HWEMIDUK_OK, "brackets");
+    expect(hwemiduk_floaters(TABLES, &floaters) == HWEMIDUK_OK, "floaters");
+    bool has_total = hwemiduk_total(TABLES, &total, &without) == HWEMIDUK_OK;
+    expect(hwemiduk_shown(TABLES, &daltons, &missing) == HWEMIDUK_OK && missing == without, "as many without a mass on display");
+    expect(daltons == (double)total / 1e6, "the total, divided once");
+    printf("%zu ok %zu %zu %zu ", line_number, residues, brackets, floaters);
+    if (has_total)
+        printf("%+" PRId64 " ", total);
+    else
+        printf("?%zu ", without);
+    canonical(bytes, numbers);
+    printf("\n");
+    rows(bytes, numbers, floaters);
+    placements(bytes, numbers, has_total);
+    changed(bytes, numbers);
+}
+
+static void take(const uint8_t *start, size_t length)
+{
+    uint8_t *line = (uint8_t *)room(length);
+    uint8_t *bytes = (uint8_t *)room(limits.bytes);
+    int64_t *numbers = (int64_t *)room(limits.numbers * sizeof *numbers);
+    size_t place, read_place;
+    memcpy(line, start, length);
+    uint8_t refusal = hwemiduk_verdict(line, length, &place);
+    expect(hwemiduk_read(line, length, TABLES, &read_place) == refusal && read_place == place, "reading answers what the verdict is");
+    if (refusal == HWEMIDUK_OK) {
+        accepted(bytes, numbers);
+    } else {
+        printf("%zu no %d %zu\n", line_number, refusal, place);
+        refused(line, length, bytes, numbers);
+    }
+    free(numbers);
+    free(bytes);
+    free(line);
+}
+
+/* Every call over areas one element short, and every other slice one short: 13, and nothing is touched. */
+static void short_areas(size_t bytes_len, size_t numbers_len, size_t copies, size_t positions, size_t rows_len)
+{
+    uint8_t *bytes = (uint8_t *)room(bytes_len), *placement = (uint8_t *)room(copies), position, line = 'A';
+    int64_t *numbers = (int64_t *)room(numbers_len * sizeof *numbers), *entries = (int64_t *)room(positions * sizeof *entries), total;
+    hwemiduk_site *row = (hwemiduk_site *)room(rows_len * sizeof *row);
+    hwemiduk_listing listing = HWEMIDUK_FRESH;
+    size_t count;
+    double daltons;
+    bool tables = bytes_len < limits.bytes || numbers_len < limits.numbers;
+    memset(entries, JUNK, positions * sizeof *entries);
+    memset(row, JUNK, rows_len * sizeof *row);
+#define SHORT bytes, bytes_len, numbers, numbers_len
+#define THIRTEEN(when, call) expect(!(when) || (call) == HWEMIDUK_SHORT_AREA, #call)
+    THIRTEEN(tables, hwemiduk_read(&line, 1, SHORT, &count));
+    THIRTEEN(tables, hwemiduk_write(SHORT, placement, copies, &count));
+    THIRTEEN(tables, hwemiduk_residues(SHORT, &count));
+    THIRTEEN(tables, hwemiduk_brackets(SHORT, &count));
+    THIRTEEN(tables, hwemiduk_floaters(SHORT, &count));
+    THIRTEEN(tables, hwemiduk_total(SHORT, &total, &count));
+    THIRTEEN(tables, hwemiduk_shown(SHORT, &daltons, &count));
+    THIRTEEN(tables, hwemiduk_next(SHORT, &listing));
+    THIRTEEN(tables || copies < limits.copies, hwemiduk_allowed(SHORT, placement, copies));
+    THIRTEEN(tables || copies < limits.copies || positions < limits.positions, hwemiduk_ledger(SHORT, placement, copies, entries, positions, &count));
+    THIRTEEN(tables || rows_len < limits.rows, hwemiduk_rows(SHORT, row, rows_len, &count));
+    THIRTEEN(rows_len < limits.rows, hwemiduk_first_row(row, rows_len, rows_len, 1, &count, &position));
+    expect(is_junk(entries, positions * sizeof *entries) && is_junk(row, rows_len * sizeof *row), "13 changes nothing");
+    free(row);
+    free(entries);
+    free(numbers);
+    free(placement);
+    free(bytes);
+}
+
+int main(void)
+{
+    static uint8_t input[1 << 20];
+    size_t size = fread(input, 1, sizeof input, stdin);
+    expect(size < sizeof input, "the input is below 1 MiB");
+    hwemiduk_limits(&limits);
+    short_areas(limits.bytes - 1, limits.numbers, limits.copies, limits.positions, limits.rows);
+    short_areas(limits.bytes, limits.numbers - 1, limits.copies, limits.positions, limits.rows);
+    short_areas(limits.bytes, limits.numbers, limits.copies - 1, limits.positions, limits.rows);
+    short_areas(limits.bytes, limits.numbers, limits.copies, limits.positions - 1, limits.rows);
+    short_areas(limits.bytes, limits.numbers, limits.copies, limits.positions, limits.rows - 1);
+    short_areas(0, 0, 0, 0, 0);
+    for (size_t start = 0; start < size;) {
+        uint8_t *end = (uint8_t *)memchr(input + start, '\n', size - start);
+        size_t length = end == NULL ? size - start : (size_t)(end - (input + start));
+        line_number++;
+        take(input + start, length);
+        start += length + 1;
+    }
+    return 0;
+}

@@ -1,11 +1,11 @@
 -- Cleared areas, filled with an accepted line's tables.
-use mathlib.Core.Path.{_≡_, sym, ap, _∙_}
-use mathlib.Core.List.{List, [], _++_, append-nil}
+use mathlib.Core.Path.{_≡_, ap, _∙_}
+use mathlib.Core.List.{List, _++_}
 use Prim.Native.Nat.{ℕ, _≤_}
 use native.Mathlib.Omega.{arith}
 use lib.IntN.{ℤ, pos}
 use lib.ListN.{length, take, drop, replicate, length-append, length-replicate}
-use lib.Seq.{take-at, drop-at, drop-nil}
+use lib.Seq.{take-at, drop-at}
 use Rattle.scope.specs.Line.{Line}
 use Rattle.scope.specs.Refusals.{accepted, outcome}
 use Rattle.scope.specs.Tables.{bytesSize, numbersSize, bytesOf, numbersOf, laid}
@@ -37,13 +37,6 @@ cleared-clean bs ns b n =
       numbers-room = cleared-long (pos 0) numbersSize ns;
       numbers-zero = cleared-zero (pos 0) numbersSize ns;
     })
-
--- areas of zeros are clean
-all-cleared : {A : Type 0} (z : A) (n : ℕ) → replicate n z ≡ cleared z n []
-all-cleared z n = sym (append-nil (replicate n z)) ∙ ap (λ x. replicate n z ++ x) (sym (drop-nil n))
-
-pub zeros-clean : {bs : List ℕ} {ns : List ℤ} → bs ≡ replicate bytesSize 0 → ns ≡ replicate numbersSize (pos 0) → Clean bs ns
-zeros-clean b n = cleared-clean [] [] (b ∙ all-cleared 0 bytesSize) (n ∙ all-cleared (pos 0) numbersSize)
 
 pub fills : {line bs : List ℕ} {ns : List ℤ} → Lays line bs ns → Fills line bs ns
 fills w =

@@ -6,6 +6,7 @@
 
 pub mod areas;
 pub mod canonical;
+pub mod floating;
 pub mod generate;
 pub mod line;
 pub mod masses;

@@ -62,6 +62,72 @@ extern "C" {
         entries_len: usize,
         place: *mut usize,
     ) -> u8;
+    fn hwemiduk_rows(
+        bytes: *const u8,
+        bytes_len: usize,
+        numbers: *const i64,
+        numbers_len: usize,
+        rows: *mut Site,
+        rows_len: usize,
+        count: *mut usize,
+    ) -> u8;
+    fn hwemiduk_first_row(rows: *const Site, rows_len: usize, n: usize, floater: u8, index: *mut usize, position: *mut u8) -> u8;
+    fn hwemiduk_next(bytes: *const u8, bytes_len: usize, numbers: *const i64, numbers_len: usize, listing: *mut Listing) -> u8;
+    fn hwemiduk_limits(limits: *mut Limits);
+}
+
+/// A row of floater and position.
+#[derive(Clone, Copy, Debug, PartialEq, Eq)]
+#[repr(C)]
+pub struct Site {
+    pub floater: u8,
+    pub position: u8,
+}
+
+/// The listing in hand.
+#[derive(Clone, Copy, Debug, PartialEq, Eq)]
+#[repr(C)]
+pub struct Listing {
+    pub at: [u8; 8],
+    pub fresh: bool,
+}
+
+impl Listing {
+    pub const FRESH: Self = Self { at: [0; 8], fresh: true };
+}
+
+/// The limits and sizes, which the library names.
+#[derive(Clone, Copy, Debug, Default, PartialEq, Eq)]
+#[repr(C)]
+pub struct Limits {
+    pub line: usize,
+    pub residues: usize,
+    pub brackets: usize,
+    pub parts: usize,
+    pub text: usize,
+    pub label: usize,
+    pub depth: usize,
+    pub count: usize,
+    pub copies: usize,
+    pub rows: usize,
+    pub positions: usize,
+    pub size: u64,
+    pub decimals: u8,
+    pub bytes: usize,
+    pub numbers: usize,
+}
+
+/// Asks the library for its limits.
+pub fn limits() -> Limits {
+    let mut limits = Limits::default();
+    unsafe { hwemiduk_limits(&mut limits) };
+    limits
+}
+
+/// Two areas, of the sizes that the library names.
+pub fn areas() -> (Vec<u8>, Vec<i64>) {
+    let limits = limits();
+    (vec![0; limits.bytes], vec![0; limits.numbers])
 }
 
 /// Whether a line is accepted, or its refusal.
@@ -220,4 +286,43 @@ pub fn ledger(bytes: &[u8], numbers: &[i64], placement: &[u8], entries: &mut [i6
         )
     };
     answer(number, place)
+}
+
+/// Hands out the permitted positions as rows: how many.
+pub fn rows(bytes: &[u8], numbers: &[i64], rows: &mut [Site]) -> Result<usize, Refusal> {
+    let mut count = usize::MAX;
+    let number = unsafe {
+        hwemiduk_rows(
+            bytes.as_ptr(),
+            bytes.len(),
+            numbers.as_ptr(),
+            numbers.len(),
+            rows.as_mut_ptr(),
+            rows.len(),
+            &mut count,
+        )
+    };
+    if number == 0 {
+        return Ok(count);
+    }
+    assert_eq!(count, 0, "a refusal counts none");
+    Err(Refusal::new(number, 0))
+}
+
+/// The index and the position of a floater's first row among the first n.
+pub fn first_row(rows: &[Site], n: usize, floater: u8) -> Result<(usize, u8), Refusal> {
+    let mut index = usize::MAX;
+    let mut position = u8::MAX;
+    let number = unsafe { hwemiduk_first_row(rows.as_ptr(), rows.len(), n, floater, &mut index, &mut position) };
+    if number == 0 {
+        return Ok((index, position));
+    }
+    assert_eq!((index, position), (0, 0), "a refusal finds none");
+    Err(Refusal::new(number, 0))
+}
+
+/// Moves a listing on to the next placement.
+pub fn next(bytes: &[u8], numbers: &[i64], listing: &mut Listing) -> Result<(), Refusal> {
+    let number = unsafe { hwemiduk_next(bytes.as_ptr(), bytes.len(), numbers.as_ptr(), numbers.len(), listing) };
+    answer(number, 0)
 }

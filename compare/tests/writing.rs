@@ -9,7 +9,7 @@ use compare::canonical::canonical;
 use compare::generate::Random;
 use compare::line::{Line, Refusal};
 use compare::masses::Display;
-use compare::proved;
+use compare::proved::{self, Listing, Site};
 use compare::reader::read;
 use json::Json;
 use lines::{for_crowded, for_generated, for_vectors, shown, Lent, JUNK_BYTE, JUNK_NUMBER};
@@ -149,6 +149,13 @@ fn check_fourteen(bytes: &[u8], numbers: &[i64]) {
     assert_eq!(proved::allowed(bytes, numbers, &[0; 8]), Err(FOURTEEN));
     assert_eq!(proved::ledger(bytes, numbers, &[0; 8], &mut entries), Err(FOURTEEN));
     assert!(out.iter().all(|&byte| byte == JUNK_BYTE) && entries.iter().all(|&one| one == JUNK_NUMBER));
+    let mut listing = Listing::FRESH;
+    assert_eq!(proved::next(bytes, numbers, &mut listing), Err(FOURTEEN));
+    assert_eq!(listing, Listing::FRESH);
+    let junk = Site { floater: JUNK_BYTE, position: JUNK_BYTE };
+    let mut rows = [junk; 2048];
+    assert_eq!(proved::rows(bytes, numbers, &mut rows), Err(FOURTEEN));
+    assert!(rows.iter().all(|&row| row == junk));
 }
 
 #[test]

@@ -2,6 +2,7 @@
 #![allow(dead_code)]
 
 use compare::areas::encode;
+use compare::floating::crowded;
 use compare::generate::{Generator, Random};
 use compare::line::Line;
 use compare::reader::read;
@@ -50,10 +51,24 @@ pub fn for_vectors(mut check: impl FnMut(&[u8], &Line, &str)) {
     assert_eq!(met, 1132);
 }
 
+/// So many times more lines, and other ones, on request.
+fn asked(name: &str, otherwise: usize) -> usize {
+    std::env::var(name).ok().and_then(|value| value.parse().ok()).unwrap_or(otherwise)
+}
+
+fn seeded(seed: u64) -> u64 {
+    seed + 1_000 * asked("HWEMIDUK_SEED", 0) as u64
+}
+
+fn many(count: usize) -> usize {
+    count * asked("HWEMIDUK_TIMES", 1)
+}
+
 /// Calls with each accepted one of so many generated lines.
 pub fn for_generated(seed: u64, count: usize, mut check: impl FnMut(&[u8], &Line)) {
     let mut met = 0;
-    for line in Generator::new(seed).take(count) {
+    let count = many(count);
+    for line in Generator::new(seeded(seed)).take(count) {
         if let Ok(held) = read(&line) {
             check(&line, &held);
             met += 1;
@@ -64,103 +79,14 @@ pub fn for_generated(seed: u64, count: usize, mut check: impl FnMut(&[u8], &Line
 
 /// Calls with so many short lines full of floating copies.
 pub fn for_crowded(seed: u64, count: usize, most_residues: usize, mut check: impl FnMut(&[u8], &Line)) {
-    let mut random = Random::new(seed);
+    let mut random = Random::new(seeded(seed));
     let mut met = 0;
+    let count = many(count);
     while met < count {
         let line = crowded(&mut random, most_residues);
         if let Ok(held) = read(&line) {
             check(&line, &held);
             met += 1;
         }
-    }
-}
-
-/// A line with floating copies of every sort: unknown ones with counts, ones on ranges, labels that are defined anywhere and referred to on
-/// residues and termini; and placed modifications, which strike positions out, and INFO, which does not.
-fn crowded(random: &mut Random, most_residues: usize) -> Vec<u8> {
-    let n = random.between(1, most_residues);
-    let mut front = String::new();
-    // 0 the N-terminus, 1 to n the residues, n + 1 the C-terminus; then the ranges, by their last residue
-    let mut at = vec![String::new(); n + 2];
-    let mut on_range = vec![String::new(); n + 1];
-    let mut ranges = Vec::new();
-    let mut residue = 1;
-    while residue <= n {
-        let last = (residue + random.below(3)).min(n);
-        if random.chance(40) {
-            ranges.push((residue, last));
-            on_range[last] += &bracket(random, "");
-        }
-        residue = last + 1;
-    }
-    let mut left = random.below(9_usize.saturating_sub(ranges.len()));
-    let mut name = b'a';
-    while left > 0 {
-        left -= 1;
-        if random.chance(50) {
-            front += &bracket(random, "");
-            let count = random.between(1, left + 1);
-            if random.chance(40) {
-                front += &format!("^{count}");
-                left -= count - 1;
-            }
-            continue;
-        }
-        let label = format!("#{}", name as char);
-        name += 1;
-        let defined = bracket(random, &label);
-        match random.below(3) {
-            0 => front += &defined,
-            1 if !ranges.is_empty() => on_range[ranges[random.below(ranges.len())].1] += &defined,
-            _ => at[random.below(n + 2)] += &defined,
-        }
-        for _ in 0..random.between(1, 4) {
-            at[random.below(n + 2)] += &format!("[{label}]");
-        }
-    }
-    for one in at.iter_mut() {
-        if random.chance(12) {
-            *one += &bracket(random, "");
-        }
-        if random.chance(6) {
-            *one += "[INFO:x]";
-        }
-    }
-    let mut line = front.clone();
-    if !front.is_empty() {
-        line.push('?');
-    }
-    if random.chance(15) {
-        line += &format!("{{+{}}}", random.below(50));
-    }
-    if !at[0].is_empty() {
-        line += &at[0];
-        line.push('-');
-    }
-    for residue in 1..=n {
-        if ranges.iter().any(|range| range.0 == residue) {
-            line.push('(');
-        }
-        line.push((b'A' + random.below(26) as u8) as char);
-        line += &at[residue];
-        if ranges.iter().any(|range| range.1 == residue) {
-            line.push(')');
-            line += &on_range[residue];
-        }
-    }
-    if !at[n + 1].is_empty() {
-        line.push('-');
-        line += &at[n + 1];
-    }
-    line.into_bytes()
-}
-
-/// A bracket with a mass, or now and then without one.
-fn bracket(random: &mut Random, label: &str) -> String {
-    let mass = random.between(1, 99);
-    match random.below(40) {
-        0 => format!("[Oxidation{label}]"),
-        1..=9 => format!("[Obs:+7|-{mass}.5{label}]"),
-        _ => format!("[+{mass}{label}]"),
     }
 }

@@ -8,6 +8,7 @@ use areas::wide;
 use scope::tables::Number;
 use scope::tables::Tables;
 ghost use mathlib.Core.Path.{_≡_};
+ghost use mathlib.Core.Bool.{true};
 ghost use mathlib.Core.List.{_++_};
 ghost use Prim.Native.Nat.{_+_, _*_, _<_, _≤_};
 ghost use lib.ListN.{length, take, drop};
@@ -166,41 +167,46 @@ pub fn in_bounds(bytes: &[u8], numbers: &[i64]) -> bool
     brackets_in_bounds(bytes, numbers, m)
 }
 
-// Are the first n bytes of two areas the same? Compared from the last on down.
+// Is it so, and are two bytes the same?
+fn and_same(so: bool, x: u8, y: u8) -> bool
+    ensures { λ r. ⌜ Verdict r ((so ≡ true) × (x ≡ y)) ⌝ }
+{
+    so & (x == y)
+}
+
+// Are the first n bytes of two areas the same? All are compared, many at a time.
 pub fn same_bytes(a: &[u8], b: &[u8], n: usize) -> bool
     requires { ⌜ (n ≤ length (now a)) × (n ≤ length (now b)) ⌝ }
     ensures { λ r. ⌜ r ≡ same (take n (now (a .entry))) (take n (now (b .entry))) ⌝ }
 {
-    let mut left = n;
-    while 0 < left {
-        left -= 1;
-        if a[left] != b[left] {
-            return false;
-        }
+    let mut so = true;
+    let mut i: usize = 0;
+    while i < n {
+        so = and_same(so, a[i], b[i]);
+        i += 1;
     }
-    true
+    so
 }
 
-// Are two whole numbers the same?
-fn is_same(x: i64, y: i64) -> bool
-    ensures { λ r. ⌜ Verdict r (x ≡ y) ⌝ }
+// Is it so, and are two whole numbers the same?
+fn and_same_whole(so: bool, x: i64, y: i64) -> bool
+    ensures { λ r. ⌜ Verdict r ((so ≡ true) × (x ≡ y)) ⌝ }
 {
-    x == y
+    so & (x == y)
 }
 
-// Are the first n numbers of two areas the same? Compared from the last on down.
+// Are the first n numbers of two areas the same?
 pub fn same_whole(a: &[i64], b: &[i64], n: usize) -> bool
     requires { ⌜ (n ≤ length (now a)) × (n ≤ length (now b)) ⌝ }
     ensures { λ r. ⌜ r ≡ sameNumbers (take n (now (a .entry))) (take n (now (b .entry))) ⌝ }
 {
-    let mut i = n;
-    while 0 < i {
-        i -= 1;
-        if !is_same(a[i], b[i]) {
-            return false;
-        }
+    let mut so = true;
+    let mut k: usize = 0;
+    while k < n {
+        so = and_same_whole(so, a[k], b[k]);
+        k += 1;
     }
-    true
+    so
 }
 
 // The first n bytes of one area into another, whose other bytes stay.

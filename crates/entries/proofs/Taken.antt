@@ -1,17 +1,16 @@
 -- From an accepted line and its tables in the areas to what is printed.
 use mathlib.Core.Path.{_≡_, sym, ap, ap₂, _∙_}
 use mathlib.Core.List.{List, [], _∷_, _++_}
-use Prim.Native.Nat.{ℕ, _≤_}
+use Prim.Native.Nat.{ℕ}
 use native.Mathlib.Omega.{arith}
 use lib.IntN.{ℤ}
 use lib.ListN.{length, length-map}
-use Rattle.scope.specs.Limits.{lineLimit}
 use Rattle.scope.specs.Line.{Line}
-use Rattle.scope.specs.Refusals.{Outcome, accepted, refused, outcome}
-use Rattle.scope.specs.Canonical.{decimal, canonical}
+use Rattle.scope.specs.Refusals.{accepted, refused, outcome}
+use Rattle.scope.specs.Canonical.{canonical}
 use Rattle.scope.specs.Tables.{bareBracket, bareResidue, tablesOf, tablesIn}
 use Rattle.scope.specs.Positions.{floaters}
-use Rattle.scope.specs.Register.{signedText, totalText, fields, report}
+use Rattle.scope.specs.Register.{totalText, fields, report}
 use Rattle.order_laws.specs.Ranks.{orderedb}
 use Rattle.order_laws.specs.Laws.{accepted-ordered, same-order}
 use Rattle.layout_laws.specs.Laws.{accepted-short, same-canonical, same-floaters, same-total, same-lacking}

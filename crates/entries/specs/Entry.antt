@@ -7,11 +7,10 @@ use lib.ListN.{length}
 use Rattle.scope.specs.Bytes.{bytes, question}
 use Rattle.scope.specs.Limits.{lineLimit, copyLimit}
 use Rattle.scope.specs.Line.{Line}
-use Rattle.scope.specs.Refusals.{outcome}
 use Rattle.scope.specs.Canonical.{decimal, canonical}
 use Rattle.scope.specs.Tables.{tablesIn}
 use Rattle.scope.specs.Positions.{floaters}
-use Rattle.scope.specs.Register.{signedText, totalText, report, printed}
+use Rattle.scope.specs.Register.{signedText, totalText, printed}
 use Rattle.areas.specs.Bounds.{Bounds}
 use Rattle.order_laws.specs.Ranks.{Ordered}
 use Rattle.masses.specs.declared.Weight.{Weight}

@@ -11,7 +11,7 @@ ghost use Rattle.export.specs.Numbers.{numberOf};
 ghost use Rattle.export.specs.Handed.{countIn, indexIn, positionIn, RowsHanded, theLimits};
 
 // The number of a request's answer.
-fn request_number(r: Request) -> u8
+pub fn request_number(r: Request) -> u8
     ensures { λ n. ⌜ n ≡ numberOf (saysRequest r) ⌝ }
 {
     match r {

@@ -1,9 +1,9 @@
 // The calls over tables in lent areas: the two areas are only read, and any content of theirs is answered.
+use crate::handed::request_number;
 use scope::answers::Booked;
 use scope::answers::Count;
 use scope::answers::Ledger;
 use scope::answers::Placement;
-use scope::answers::Request;
 use scope::answers::Shown;
 use scope::answers::Total;
 use scope::answers::Write;
@@ -12,8 +12,8 @@ ghost use mathlib.Core.List.{_++_};
 ghost use Prim.Native.Nat.{_≤_};
 ghost use lib.ListN.{length, take, drop};
 ghost use Rattle.scope.specs.Limits.{copyLimit};
-ghost use Rattle.scope.specs.Answers.{saysCount, saysWrite, saysTotal, saysShown, saysRequest, saysBooked, counts, residueCount, bracketCount, floaterCount, totals, shows};
-ghost use Rattle.export.specs.Numbers.{numberOf, placeOf};
+ghost use Rattle.scope.specs.Answers.{saysCount, saysWrite, saysTotal, saysShown, counts, residueCount, bracketCount, floaterCount, totals, shows};
+ghost use Rattle.export.specs.Numbers.{numberOf};
 ghost use Rattle.export.specs.Shapes.{Counted, Written, Totalled, Displayed, allowsLent, Entered};
 
 // A count, handed out.
@@ -169,16 +169,6 @@ fn placement_in(s: &[u8]) -> Placement
     Placement { at }
 }
 
-// The number of a request's answer.
-fn number_of_request(r: Request) -> u8
-    ensures { λ n. ⌜ n ≡ numberOf (saysRequest r) ⌝ }
-{
-    match r {
-        Request::Met => 0,
-        Request::Refused { number } => number,
-    }
-}
-
 // Whether the placement in the first eight entries is an allowed one: 0, or 13, 14, 18.
 #[no_mangle]
 pub extern "C" fn hwemiduk_allowed(bytes: &[u8], numbers: &[i64], placement: &[u8]) -> u8
@@ -189,7 +179,7 @@ pub extern "C" fn hwemiduk_allowed(bytes: &[u8], numbers: &[i64], placement: &[u
     }
     let p = placement_in(placement);
     let r = calls::is_allowed(bytes, numbers, p);
-    number_of_request(r)
+    request_number(r)
 }
 
 // The first n entries of one slice into another, whose other entries stay.

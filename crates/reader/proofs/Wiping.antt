@@ -4,7 +4,7 @@ use mathlib.Core.List.{List, [], _∷_, _++_, map, append-assoc, append-nil}
 use Prim.Native.Nat.{ℕ, _+_, _-_, _*_, _≤_}
 use native.Mathlib.Omega.{arith}
 use lib.IntN.{ℤ, pos}
-use lib.ListN.{length, take, drop, replicate, length-append, length-drop, length-map, length-replicate, replicate-append-replicate, take-append-drop, drop-of-length-le}
+use lib.ListN.{length, take, drop, replicate, length-drop, length-map, length-replicate, replicate-append-replicate, take-append-drop, drop-of-length-le}
 use lib.Seq.{take-all, take-at, drop-at, drop-append-le, drop-append-add, drop-drop}
 use Rattle.scope.specs.Line.{Line}
 use Rattle.scope.specs.Modifications.{flat}

@@ -8,7 +8,7 @@ use native.Mathlib.Omega.{arith}
 use borrow.Author.Tests.{lt-ltb, le-ltb, ne-eqb}
 use lib.Dec.{ltb, leb, eqb}
 use lib.IntN.{ℤ, pos}
-use lib.ListN.{length, take, drop}
+use lib.ListN.{length, take, drop, replicate, length-replicate}
 use lib.Seq.{take-all, take-append-seam}
 use Rattle.scope.specs.declared.answers.Read.{Read}
 use Rattle.scope.specs.declared.answers.Read.the-variants.{Accepted, Refused}
@@ -22,14 +22,14 @@ use Rattle.scope.specs.Refusals.{Due, due, Outcome, accepted, refused, firstDue
 use Rattle.scope.specs.Reading.{reading}
 use Rattle.scope.specs.Canonical.{canonical}
 use Rattle.scope.specs.Tables.{Tables, bytesSize, numbersSize, bytesOf, numbersOf, laid, tablesOf, tablesIn}
-use Rattle.scope.specs.Answers.{good, refuses, saysRead, saysOutcome, readOutcome, bytesAfter, numbersAfter, sameNumbers, readsTo, areTables}
+use Rattle.scope.specs.Answers.{good, refuses, saysRead, saysOutcome, sameNumbers, readsTo, areTables}
 use Rattle.basics.specs.Choice.{by-test}
 use Rattle.layout_laws.specs.Laws.{tables-held, accepted-within, laid-bytes, laid-numbers}
 use Rattle.order_laws.specs.Ranks.{orderedb}
 use Rattle.order_laws.specs.Laws.{accepted-ordered, same-order}
-use Rattle.reader.specs.ReadSays.{ReadSays}
+use Rattle.reader.specs.ReadSays.{Lays, Stored}
 use Rattle.writer.specs.Written.{WholeLine}
-use Rattle.tabled.specs.LineOf.{TablesLine, LineOf}
+use Rattle.tabled.specs.LineOf.{IsAccepted, TablesLine, LineOf}
 
 -- ---- the brackets of tables are in order
 pub tables-ordered : (bs : List ℕ) (ns : List ℤ) → areTables bs ns ≡ true → orderedb (tablesIn bs ns) ≡ true
@@ -78,34 +78,46 @@ pub read-back : (bs : List ℕ) (ns : List ℤ) {o left : List ℕ} {r : ℕ} �
 read-back bs ns w h e f = sym (written-read bs ns w h) ∙ sym e ∙ f
 
 -- ---- what is read back
-roomy : (s bs : List ℕ) (ns : List ℤ) → bytesSize ≤ length bs → numbersSize ≤ length ns → readOutcome bs ns s ≡ outcome s
-roomy s bs ns k h = rw (le-ltb (length bs) bytesSize k, le-ltb (length ns) numbersSize h)
-
 refused-to : (o : Outcome) (n p : ℕ) (xs : List ℕ) (ys : List ℤ) → refuses n p ≡ saysOutcome o → readsTo o xs ys ≡ false
 refused-to (accepted l) n p xs ys e = absurd (let z : _≡_ {A = ℕ} 0 1 = cc in omega arith)
 refused-to (refused m q) n p xs ys e = refl
 
-pub read-refused : (s bs : List ℕ) (ns : List ℤ) (r : Read) (n p : ℕ) (bs′ : List ℕ) (ns′ : List ℤ) → ReadSays s bs ns r bs′ ns′ → r ≡ Refused n p
-    → bytesSize ≤ length bs → numbersSize ≤ length ns → (xs : List ℕ) (ys : List ℤ) → readsTo (outcome s) xs ys ≡ false
-read-refused s bs ns r n p bs′ ns′ w e k h xs ys =
-    refused-to (outcome s) n p xs ys (ap saysRead (sym e) ∙ w .says ∙ ap saysOutcome (roomy s bs ns k h))
+pub read-refused : (s : List ℕ) {r : Read} {n p : ℕ} → saysRead r ≡ saysOutcome (outcome s) → r ≡ Refused n p → (xs : List ℕ) (ys : List ℤ)
+    → readsTo (outcome s) xs ys ≡ false
+read-refused s {r} {n} {p} w e xs ys = refused-to (outcome s) n p xs ys (ap saysRead (sym e) ∙ w)
 
 accepted-is : (o : Outcome) → good tt ≡ saysOutcome o → (l : Line ℕ) × (o ≡ accepted l)
 accepted-is (accepted l) e = (l, refl)
 accepted-is (refused m q) e = absurd (let z : _≡_ {A = ℕ} 0 1 = cc in omega arith)
 
-pub read-accepted : (s bs : List ℕ) (ns : List ℤ) (r : Read) (bs′ : List ℕ) (ns′ : List ℤ) → ReadSays s bs ns r bs′ ns′ → r ≡ Accepted
-    → bytesSize ≤ length bs → numbersSize ≤ length ns → (xs : List ℕ) (ys : List ℤ)
+pub is-accepted : (s : List ℕ) {r : Read} → saysRead r ≡ saysOutcome (outcome s) → r ≡ Accepted → IsAccepted s
+is-accepted s {r} w e = let a = accepted-is (outcome s) (ap saysRead (sym e) ∙ w) in record { held = a .0; accepts = a .1 }
+
+-- an accepted line is laid into zeros
+pub lays-in : (s bs : List ℕ) (ns : List ℤ) → IsAccepted s → bs ≡ replicate bytesSize 0 → ns ≡ replicate numbersSize (pos 0) → Lays s bs ns
+lays-in s bs ns a e f =
+    let b : length bs ≡ bytesSize = ap length e ∙ length-replicate {A = ℕ} bytesSize 0 in
+    let n : length ns ≡ numbersSize = ap length f ∙ length-replicate numbersSize (pos 0) in
+    record {
+      held = a .held;
+      accepts = a .accepts;
+      clean = record {
+        bytes-room = omega arith;
+        bytes-zero = take-all bytesSize bs (omega arith) ∙ e;
+        numbers-room = omega arith;
+        numbers-zero = take-all numbersSize ns (omega arith) ∙ f;
+      };
+    }
+
+pub read-accepted : (s bs : List ℕ) (ns : List ℤ) {bs′ : List ℕ} {ns′ : List ℤ} → IsAccepted s → Stored s bs ns bs′ ns′ → (xs : List ℕ) (ys : List ℤ)
     → (same (take bytesSize bs′) xs && sameNumbers (take numbersSize ns′) ys) ≡ readsTo (outcome s) xs ys
-read-accepted s bs ns r bs′ ns′ w e k h xs ys =
-    let a = accepted-is (outcome s) (ap saysRead (sym e) ∙ w .says ∙ ap saysOutcome (roomy s bs ns k h)) in
-    let l = a .0 in
-    let o : readOutcome bs ns s ≡ accepted l = roomy s bs ns k h ∙ a .1 in
-    let v = accepted-within s l (a .1) in
-    let b : take bytesSize bs′ ≡ bytesOf l = ap (take bytesSize) (w .bytes-after ∙ ap (λ z. bytesAfter z bs) o) ∙ laid-bytes l v bs in
-    let n : take numbersSize ns′ ≡ numbersOf l = ap (take numbersSize) (w .numbers-after ∙ ap (λ z. numbersAfter z ns) o) ∙ laid-numbers l v ns in
+read-accepted s bs ns {bs′} {ns′} a w xs ys =
+    let l = a .held in
+    let v = accepted-within s l (a .accepts) in
+    let b : take bytesSize bs′ ≡ bytesOf l = ap (take bytesSize) (w .bytes-now l (a .accepts)) ∙ laid-bytes l v bs in
+    let n : take numbersSize ns′ ≡ numbersOf l = ap (take numbersSize) (w .numbers-now l (a .accepts)) ∙ laid-numbers l v ns in
     ap (λ z. same z xs && sameNumbers (take numbersSize ns′) ys) b ∙ ap (λ z. same (bytesOf l) xs && sameNumbers z ys) n
-    ∙ ap (λ z. readsTo z xs ys) (sym (a .1))
+    ∙ ap (λ z. readsTo z xs ys) (sym (a .accepts))
 
 -- ---- the line of tables, written
 some-bytes : (s bs : List ℕ) (ns : List ℤ) → readsTo (outcome s) bs ns ≡ true → 1 ≤ length s

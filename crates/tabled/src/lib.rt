@@ -17,7 +17,7 @@ ghost use Rattle.scope.specs.Tables.{bytesSize, numbersSize, tablesIn};
 ghost use Rattle.scope.specs.Answers.{sameNumbers, readsTo, areTables};
 ghost use Rattle.areas.specs.Bounds.{Bounds};
 ghost use Rattle.writer.specs.Ranks.{Ordered};
-ghost use Rattle.tabled.specs.LineOf.{LineOf};
+ghost use Rattle.tabled.specs.LineOf.{IsAccepted, LineOf};
 
 // Do two pairs of areas hold the same, as far as their fixed sizes?
 fn same_areas(ab: &[u8], an: &[i64], bytes: &[u8], numbers: &[i64]) -> bool
@@ -30,16 +30,25 @@ fn same_areas(ab: &[u8], an: &[i64], bytes: &[u8], numbers: &[i64]) -> bool
     false
 }
 
+// Are the tables of an accepted line what the areas hold?
+fn holds_tables_of(line: &[u8], bytes: &[u8], numbers: &[i64]) -> bool
+    requires { ⌜ (IsAccepted (now line)) × (bytesSize ≤ length (now bytes)) × (numbersSize ≤ length (now numbers)) ⌝ }
+    ensures { λ r. ⌜ r ≡ readsTo (outcome (now (line .entry))) (take bytesSize (now (bytes .entry))) (take numbersSize (now (numbers .entry))) ⌝ }
+{
+    let mut b = [0u8; 6782];
+    let mut n = [0i64; 320];
+    reader::put(line, &mut b, &mut n);
+    same_areas(&b, &n, bytes, numbers)
+}
+
 // Does a line read to what the areas hold?
 fn reads_to(line: &[u8], bytes: &[u8], numbers: &[i64]) -> bool
     requires { ⌜ (bytesSize ≤ length (now bytes)) × (numbersSize ≤ length (now numbers)) ⌝ }
     ensures { λ r. ⌜ r ≡ readsTo (outcome (now (line .entry))) (take bytesSize (now (bytes .entry))) (take numbersSize (now (numbers .entry))) ⌝ }
 {
-    let mut b = [0u8; 6782];
-    let mut n = [0i64; 320];
-    let answer = reader::read(line, &mut b, &mut n);
+    let answer = verdict::verdict_on(line);
     match answer {
-        Read::Accepted => same_areas(&b, &n, bytes, numbers),
+        Read::Accepted => holds_tables_of(line, bytes, numbers),
         Read::Refused { number, place } => false,
     }
 }

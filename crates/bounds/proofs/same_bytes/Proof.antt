@@ -1,44 +1,43 @@
--- `bounds::same_bytes` meets its contract. The loop: what lies from `left` on is alike. Assumes nothing.
-use denote.Ref.{now}
+-- `bounds::same_bytes` meets its contract. The loop: the answer so far decides of the first i bytes. Assumes nothing.
 use Prim.Native.Nat.{_-_}
 use native.Mathlib.Omega.{arith}
+use borrow.Author.Needs.{needs}
 use Rattle.layout_laws.specs.Laws.{same-law}
-use Rattle.bounds.proofs.Lists.{Alike, alike-start, alike-more, differs, agrees}
+use Rattle.bounds.proofs.Lists.{Compared, compared-start, compared-more, compared-all}
 use Rattle.bounds.proofs.same_bytes.Statement.{statement}
 use Rattle.bounds.proofs.same_bytes.Tie as tie
 
 abbrev Inv-loop : tie.InvT-loop
-Inv-loop a b n left₀ left = Alike 0 a b n left
+Inv-loop a b n so₀ i₀ so i = Compared 0 a b n i so
 
 abbrev μ-loop : tie.MeasureT-loop
-μ-loop a b n left₀ left = left
+μ-loop a b n so₀ i₀ so i = n - i
 
 loop-holds : tie.Need-loop-holds Inv-loop μ-loop
-loop-holds c = alike-start _ _ _ _
+loop-holds c = compared-start _ _ _ _
 
-sub-left : tie.Need-sub-left Inv-loop μ-loop
-sub-left c = omega arith
+shared-slice-read-and-same : tie.Need-shared-slice-read-and-same Inv-loop μ-loop
+shared-slice-read-and-same c = omega arith
 
-shared-slice-read-if1 : tie.Need-shared-slice-read-if1 Inv-loop μ-loop
-shared-slice-read-if1 c = omega arith
+shared-slice-read-and-same-2 : tie.Need-shared-slice-read-and-same-2 Inv-loop μ-loop
+shared-slice-read-and-same-2 c = omega arith
 
-shared-slice-read-if1-2 : tie.Need-shared-slice-read-if1-2 Inv-loop μ-loop
-shared-slice-read-if1-2 c = omega arith
+and-same-requires : tie.Need-and-same-requires Inv-loop μ-loop
+and-same-requires c κs = search needs
 
-returns : tie.Need-returns Inv-loop μ-loop
-returns c =
-    let at-loop = c .before .before .before .before in
-    let s = at-loop .before in
-    differs 0 (now (s .args .a)) (now (s .args .b)) (s .args .n) (at-loop .loop .left - 1) same-law (omega arith) (c .if1 .taken)
+add-i : tie.Need-add-i Inv-loop μ-loop
+add-i c = omega arith
 
 loop-less : tie.Need-loop-less Inv-loop μ-loop
 loop-less c = omega arith
 
 loop-again : tie.Need-loop-again Inv-loop μ-loop
-loop-again c = alike-more _ _ _ _ (c .before .before .before .before .loop .inv) (omega arith) (c .if1 .left)
+loop-again c = compared-more _ _ _ _ (c .before .before .before .before .loop .inv) (omega arith) (c .and-same .ensures)
 
-returns-2 : tie.Need-returns-2 Inv-loop μ-loop
-returns-2 c = let p = c .before .before .pre in agrees _ _ _ _ same-law (c .before .loop .inv) (omega arith) (p .0) (p .1)
+returns : tie.Need-returns Inv-loop μ-loop
+returns c =
+    let p = c .before .before .before .before .pre in
+    compared-all _ _ _ _ same-law (c .before .loop .inv) (omega arith) (p .0) (p .1)
 
 pub same-bytes-spec : {M : Type 1} → statement M
 same-bytes-spec =
@@ -47,10 +46,10 @@ same-bytes-spec =
     Inv-loop
     μ-loop
     loop-holds
-    sub-left
-    shared-slice-read-if1
-    shared-slice-read-if1-2
-    returns
+    shared-slice-read-and-same
+    shared-slice-read-and-same-2
+    and-same-requires
+    add-i
     loop-less
     loop-again
-    returns-2)
+    returns)

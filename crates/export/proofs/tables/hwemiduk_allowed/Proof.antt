@@ -19,14 +19,14 @@ placement-in-requires c κs = search needs
 is-allowed-requires : tie.Need-is-allowed-requires
 is-allowed-requires c κs = search needs
 
-number-of-request-requires : tie.Need-number-of-request-requires
-number-of-request-requires c κs = search needs
+request-number-requires : tie.Need-request-number-requires
+request-number-requires c κs = search needs
 
 returns-2 : tie.Need-returns-2
 returns-2 c =
     let a = c .before .before .before .before .before .before .args in
     let begins = ap (allows (now (a .bytes)) (now (a .numbers))) (c .before .before .placement-in .ensures) in
-    c .number-of-request .ensures ∙ ap numberOf (c .before .is-allowed .ensures ∙ begins ∙ sym (allows-long (now (a .bytes)) (now (a .numbers)) (now (a .placement)) (c .before .before .before .if1 .left)))
+    c .request-number .ensures ∙ ap numberOf (c .before .is-allowed .ensures ∙ begins ∙ sym (allows-long (now (a .bytes)) (now (a .numbers)) (now (a .placement)) (c .before .before .before .if1 .left)))
 
 pub hwemiduk-allowed-spec : {M : Type 1} → statement M
 hwemiduk-allowed-spec =
@@ -35,5 +35,5 @@ hwemiduk-allowed-spec =
     returns
     placement-in-requires
     is-allowed-requires
-    number-of-request-requires
+    request-number-requires
     returns-2)

@@ -1,0 +1,232 @@
+//! How long the calls of the proved library take, beside the independent code doing the same, in one run:
+//! `cargo run --release --bin bench` (after `rt staticlib export`).
+
+use std::hint::black_box;
+use std::time::{Duration, Instant};
+
+use compare::areas::{encode, tables_of_some_line};
+use compare::floating::adversarial;
+use compare::generate::{Generator, Random};
+use compare::line::Line;
+use compare::positions::{first_placement, floaters, next_placement, Placement};
+use compare::proved::{self, Listing};
+use compare::{masses, reader};
+
+/// How many lines of a sort: few enough that their areas stay in the cache.
+const LINES: usize = 200;
+/// How many calls a round has at least.
+const CALLS: usize = 1_000;
+/// Each measurement is the quickest of so many rounds over all lines.
+const ROUNDS: usize = 40;
+
+fn main() {
+    measure("typical", &typical());
+    measure("mixed", &mixed());
+    let worst = worst();
+    let lines: Vec<Vec<u8>> = worst.iter().map(|(_, line)| line.clone()).collect();
+    measure("worst", &lines);
+    println!("worst lines, each read");
+    for (name, line) in &worst {
+        reading(name, &held(std::slice::from_ref(line)));
+    }
+    requests();
+}
+
+/// 7 to 40 residues with up to four modifications of the usual sorts.
+fn typical() -> Vec<Vec<u8>> {
+    let mut random = Random::new(1);
+    let mut lines = Vec::new();
+    while lines.len() < LINES {
+        let n = random.between(7, 40);
+        let mut after = vec![String::new(); n];
+        let (mut before, mut behind) = (String::new(), String::new());
+        for _ in 0..random.below(5) {
+            let at = random.below(n);
+            match random.below(10) {
+                0 => before = "[Acetyl]-".to_owned(),
+                1 if before.is_empty() => before = "[+79.966331]?".to_owned(),
+                2 => behind = "-[Amidated]".to_owned(),
+                3 => after[at] = "[UNIMOD:21]".to_owned(),
+                4 | 5 => after[at] = "[+15.994915]".to_owned(),
+                6 => after[at] = "[Carbamidomethyl]".to_owned(),
+                7 => after[at] = "[U:Phospho|+79.966331]".to_owned(),
+                _ => after[at] = "[Oxidation]".to_owned(),
+            }
+        }
+        let mut line = before;
+        for one in &after {
+            line.push(b"ACDEFGHIKLMNPQRSTVWY"[random.below(20)] as char);
+            line += one;
+        }
+        lines.push((line + &behind).into_bytes());
+    }
+    lines
+}
+
+fn mixed() -> Vec<Vec<u8>> {
+    let accepted = |line: &Vec<u8>| reader::read(line).is_ok();
+    Generator::new(2).filter(accepted).take(LINES).collect()
+}
+
+/// Lines of up to 4,096 bytes that each cost as much as a line of its sort can.
+fn worst() -> Vec<(&'static str, Vec<u8>)> {
+    let keys = [
+        "UNIMO", "MO", "XLMO", "RESI", "GN", "INF", "OB", "Formul", "Glyca", "Positio", "Limi", "CoMK", "CoMU", "U", "M", "R", "X", "G", "C", "UNIMODx:", "INFOx:", "GNOx:",
+    ];
+    let deep = "[{".repeat(4) + &"}]".repeat(4);
+    let names: Vec<String> = (0..20).map(|at| keys.iter().cycle().skip(at).take(20).copied().collect::<Vec<_>>().join("-")).collect();
+    let insides = [
+        ("pairs eight deep", deep.repeat(8)),
+        ("four parts, each bracket", format!("{}|+1.500000|U:Oxidation|Obs:-99999.123456", "x".repeat(14))),
+        ("200 zeros in a mass", format!("+{}1.5", "0".repeat(200))),
+        ("like every key", names.iter().map(|name| &name[..60]).take(4).collect::<Vec<_>>().join("|")),
+        ("texts of 128 bytes", "x".repeat(128)),
+        ("INFO of 120 bytes", format!("INFO:{}", "#!".repeat(60))),
+    ];
+    let mut lines = Vec::new();
+    for (name, inside) in &insides {
+        let mut line = "A".to_owned();
+        for _ in 0..Line::MOST_BRACKETS {
+            let next = format!("A[{inside}]");
+            if line.len() + next.len() <= Line::LONGEST {
+                line += &next;
+            }
+        }
+        lines.push((*name, line.into_bytes()));
+    }
+    lines.push(("64 brackets", "A[+1]".repeat(64).into_bytes()));
+    lines.push(("254 residues", vec![b'A'; 254]));
+    lines.push(("8 copies, 254 residues", format!("[+1]^8?{}", "A".repeat(254)).into_bytes()));
+    lines
+}
+
+/// What the independent code makes of lent areas, with refusal 14 tried as the library tries it.
+fn line_of(bytes: &[u8], numbers: &[i64]) -> Vec<u8> {
+    tables_of_some_line(bytes, numbers).expect("tables of a line")
+}
+
+struct Held<'a> {
+    line: &'a [u8],
+    bytes: Vec<u8>,
+    numbers: Vec<i64>,
+    first: Option<Placement>,
+    weighed: bool,
+}
+
+/// Lines with the areas that they read to, as the independent code has them.
+fn held(lines: &[Vec<u8>]) -> Vec<Held<'_>> {
+    let held = lines.iter().map(|line| {
+        let held = reader::read(line).unwrap_or_else(|no| panic!("{no:?} {}", String::from_utf8_lossy(line)));
+        let (bytes, numbers) = encode(&held);
+        let first = first_placement(&floaters(&held));
+        let weighed = masses::missing(&held) == 0;
+        Held { line, bytes, numbers, first, weighed }
+    });
+    held.collect()
+}
+
+fn reading(name: &str, lines: &[Held]) {
+    let all: Vec<&Held> = lines.iter().collect();
+    let (mut area, mut sums) = proved::areas();
+    beside(name, &all, |one| proved::read(one.line, &mut area, &mut sums).is_ok(), |one| !encode(&reader::read(one.line).unwrap()).0.is_empty());
+}
+
+fn measure(name: &str, lines: &[Vec<u8>]) {
+    let all = held(lines);
+    let placed: Vec<&Held> = all.iter().filter(|one| one.first.is_some()).collect();
+    let weighed: Vec<&Held> = placed.iter().copied().filter(|one| one.weighed).collect();
+    let bytes: usize = lines.iter().map(Vec::len).sum();
+    println!("{name}: {} lines of {} bytes on average", lines.len(), bytes / lines.len());
+    println!("  {:<24} {:>12} {:>8} {:>16} {:>8}", "call", "ns per line", "MB/s", "independent ns", "ratio");
+
+    let mut out = vec![0; proved::limits().line];
+    let mut entries = vec![0; proved::limits().positions];
+    reading("read", &all);
+    let all: Vec<&Held> = all.iter().collect();
+    beside("verdict", &all, |one| proved::verdict(one.line).is_ok(), |one| reader::read(one.line).is_ok());
+    beside("write", &all, |one| proved::write(&one.bytes, &one.numbers, &mut out).is_ok(), |one| !line_of(&one.bytes, &one.numbers).is_empty());
+    beside("counts", &all, |one| counts(one), |one| independent_counts(one));
+    beside("total", &all, |one| proved::total(&one.bytes, &one.numbers).is_ok() == one.weighed, |one| {
+        let line = line_of(&one.bytes, &one.numbers);
+        masses::total(&reader::read(&line).unwrap()).is_ok() == one.weighed
+    });
+    beside("first", &placed, |one| proved::next(&one.bytes, &one.numbers, &mut Listing::FRESH.clone()).is_ok(), |one| {
+        let line = line_of(&one.bytes, &one.numbers);
+        first_placement(&floaters(&reader::read(&line).unwrap())).is_some()
+    });
+    beside("next", &placed, |one| {
+        let mut listing = Listing { at: one.first.unwrap(), fresh: false };
+        black_box(proved::next(&one.bytes, &one.numbers, &mut listing)).map_or(true, |()| true)
+    }, |one| {
+        let line = line_of(&one.bytes, &one.numbers);
+        black_box(next_placement(&floaters(&reader::read(&line).unwrap()), &one.first.unwrap())).map_or(true, |_| true)
+    });
+    beside("ledger", &weighed, |one| proved::ledger(&one.bytes, &one.numbers, &one.first.unwrap(), &mut entries).is_ok(), |one| {
+        let line = line_of(&one.bytes, &one.numbers);
+        masses::ledger(&reader::read(&line).unwrap(), &one.first.unwrap()).is_ok()
+    });
+}
+
+fn counts(one: &Held) -> bool {
+    let calls = [proved::residues, proved::brackets, proved::floaters];
+    calls.iter().all(|call| call(&one.bytes, &one.numbers).is_ok())
+}
+
+fn independent_counts(one: &Held) -> bool {
+    let count = [|held: &Line| held.residues.len(), |held: &Line| held.brackets.len(), |held: &Line| held.floaters()];
+    count.iter().all(|count| {
+        let line = line_of(&one.bytes, &one.numbers);
+        black_box(count(&reader::read(&line).unwrap())) < 4096
+    })
+}
+
+/// One call over some lines, by the library and by the independent code, in turns: the quickest round of each.
+fn beside(call: &str, lines: &[&Held], mut ours: impl FnMut(&Held) -> bool, mut theirs: impl FnMut(&Held) -> bool) {
+    if lines.is_empty() {
+        return;
+    }
+    let (mut proved, mut independent) = (f64::MAX, f64::MAX);
+    for _ in 0..ROUNDS {
+        proved = proved.min(round(lines, &mut ours));
+        independent = independent.min(round(lines, &mut theirs));
+    }
+    let bytes = lines.iter().map(|one| one.line.len()).sum::<usize>() as f64 / lines.len() as f64;
+    println!("  {call:<24} {proved:>12.0} {:>8.1} {independent:>16.0} {:>8.2}", bytes / proved * 1e3, proved / independent);
+}
+
+/// The nanoseconds that a line takes in one round over all lines.
+fn round(lines: &[&Held], call: &mut impl FnMut(&Held) -> bool) -> f64 {
+    let times = CALLS.div_ceil(lines.len());
+    let start = Instant::now();
+    for _ in 0..times {
+        for one in lines {
+            assert!(black_box(call(black_box(one))));
+        }
+    }
+    start.elapsed().as_nanos() as f64 / (times * lines.len()) as f64
+}
+
+/// The slowest request on lines that a plain search does not end on: the first, and those that follow.
+fn requests() {
+    let mut worst = (Duration::ZERO, String::new());
+    for line in adversarial() {
+        let held = reader::read(line.as_bytes()).expect("an accepted line");
+        let (bytes, numbers) = encode(&held);
+        let mut listing = Listing::FRESH;
+        for _ in 0..1_000 {
+            let before = listing;
+            let mut quickest = Duration::MAX;
+            for _ in 0..3 {
+                listing = before;
+                let start = Instant::now();
+                let _ = black_box(proved::next(&bytes, &numbers, &mut listing));
+                quickest = quickest.min(start.elapsed());
+            }
+            if quickest > worst.0 {
+                worst = (quickest, line.clone());
+            }
+        }
+    }
+    let (time, line) = worst;
+    println!("slowest request on adversarial lines: {} ns, on {}", time.as_nanos(), &line[..line.len().min(60)]);
+}

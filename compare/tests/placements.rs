@@ -1,0 +1,471 @@
+//! Rows, lookups, allowed placements and listings of the proved library, against the vectors, plain enumeration and the independent code.
+
+#[allow(dead_code)]
+mod json;
+mod lines;
+
+use std::time::{Duration, Instant};
+
+use compare::floating::adversarial;
+use compare::generate::Random;
+use compare::line::{Line, Refusal};
+use compare::positions::{self, floaters, is_allowed, next_placement, plain_next, Floater, Placement, Row, Search};
+use compare::proved::{self, Limits, Listing, Site};
+use compare::reader::read;
+use json::Json;
+use lines::{for_crowded, for_generated, for_vectors, shown, Lent};
+
+const THIRTEEN: Refusal = Refusal::new(13, 0);
+const SEVENTEEN: Refusal = Refusal::new(17, 0);
+const EIGHTEEN: Refusal = Refusal::new(18, 0);
+const NONE: Placement = [0; 8];
+const JUNK: Site = Site { floater: 0xA5, position: 0x5A };
+
+/// "The limits stand once": as document 01 has them, and the sizes that these give.
+#[test]
+fn limits() {
+    let expected = Limits {
+        line: 4096,
+        residues: 254,
+        brackets: 64,
+        parts: 4,
+        text: 128,
+        label: 16,
+        depth: 8,
+        count: 99,
+        copies: 8,
+        rows: 2048,
+        positions: 256,
+        size: 1_000_000,
+        decimals: 6,
+        bytes: 2 + 254 + 254 + 64 * (6 + 4 * 7) + 4096,
+        numbers: 64 * 5,
+    };
+    assert_eq!(proved::limits(), expected);
+    let (mut bytes, mut numbers) = proved::areas();
+    proved::read(b"A", &mut bytes, &mut numbers).unwrap();
+    assert_eq!(proved::read(b"A", &mut bytes[1..], &mut numbers), Err(THIRTEEN));
+    assert_eq!(proved::read(b"A", &mut bytes, &mut numbers[1..]), Err(THIRTEEN));
+}
+
+/// One request: what it answers, and what the record then holds.
+fn request(lent: &Lent, listing: &mut Listing) -> Result<Placement, Refusal> {
+    let before = *listing;
+    let answer = proved::next(&lent.bytes, &lent.numbers, listing);
+    match answer {
+        Ok(()) => {
+            assert!(!listing.fresh);
+            Ok(listing.at)
+        }
+        Err(refusal) => {
+            assert_eq!(*listing, before, "a refusal changes no record");
+            Err(refusal)
+        }
+    }
+}
+
+/// Every placement that requests from a fresh record give, up to so many; the last answer, where there was one.
+fn listed(lent: &Lent, most: usize) -> (Vec<Placement>, Option<Refusal>) {
+    let mut listing = Listing::FRESH;
+    let mut found = Vec::new();
+    while found.len() < most {
+        match request(lent, &mut listing) {
+            Ok(placement) => found.push(placement),
+            Err(refusal) => return (found, Some(refusal)),
+        }
+    }
+    (found, None)
+}
+
+/// Plain enumeration: every way to give each floater one of its positions, as number lists ascending, of which those stay that use no position twice.
+fn enumerated(floaters: &[Floater]) -> Vec<Placement> {
+    let mut ways = vec![(NONE, 0)];
+    for floater in floaters {
+        let positions: Vec<u8> = (0..=255).filter(|&one| floater.permitted.contains(one)).collect();
+        let longer = ways.iter().flat_map(|&(way, used)| {
+            positions.iter().map(move |&position| {
+                let mut way: Placement = way;
+                way[used] = position;
+                (way, used + 1)
+            })
+        });
+        ways = longer.collect();
+    }
+    let distinct = |way: &[u8]| (1..way.len()).all(|at| !way[..at].contains(&way[at]));
+    ways.retain(|(way, used)| distinct(&way[..*used]));
+    ways.into_iter().map(|(way, _)| way).collect()
+}
+
+/// How many ways there are before those that use a position twice are left out.
+fn ways(floaters: &[Floater]) -> usize {
+    floaters.iter().map(|one| one.permitted.len()).fold(1, usize::saturating_mul)
+}
+
+#[test]
+fn placements_of_vectors() {
+    let (mut listed_whole, mut without) = (0, 0);
+    for_vectors(|line, held, outcome| {
+        let outcome = Json::read(outcome);
+        let given: Vec<Vec<u8>> = outcome.get("placements").list().iter().map(|one| one.numbers().iter().map(|&entry| entry as u8).collect()).collect();
+        let lent = Lent::of(held);
+        let before = lent.clone();
+        // the vectors may give only the first placements
+        let (found, last) = listed(&lent, given.len().max(1));
+        assert!(found.iter().map(|one| one.to_vec()).eq(given.iter().cloned()), "{}", shown(line));
+        assert_eq!(last, given.is_empty().then_some(SEVENTEEN), "{}", shown(line));
+        // -1 where they were too many to count
+        let number = outcome.get("nplace").number();
+        if (0..=2_000).contains(&number) {
+            let (found, last) = listed(&lent, number as usize + 1);
+            assert_eq!((found.len() as i64, last), (number, Some(SEVENTEEN)), "{}", shown(line));
+            listed_whole += 1;
+        }
+        without += usize::from(number == 0);
+        assert!(lent.same(&before));
+    });
+    assert!(listed_whole > 800 && without > 50, "{listed_whole} {without}");
+}
+
+#[test]
+fn placements_by_plain_enumeration() {
+    let (mut met, mut without, mut handed) = (0, 0, 0);
+    for_crowded(41, 30_000, 6, |line, held| {
+        let floaters = floaters(held);
+        if ways(&floaters) > 4_000 {
+            return;
+        }
+        let expected = enumerated(&floaters);
+        let lent = Lent::of(held);
+        let (found, last) = listed(&lent, expected.len() + 1);
+        assert_eq!(found, expected, "{}", shown(line));
+        assert_eq!(last, Some(SEVENTEEN), "{}", shown(line));
+        met += 1;
+        without += usize::from(expected.is_empty());
+        handed += expected.len();
+    });
+    assert!(met > 20_000 && without > 5_000 && handed > 60_000, "{met} {without} {handed}");
+}
+
+/// At the last placement a record stays there, and answers 17 as often as it is asked.
+#[test]
+fn last_placement() {
+    let held = read(b"[+1]^2?AC").unwrap();
+    let lent = Lent::of(&held);
+    let mut listing = Listing::FRESH;
+    assert_eq!(request(&lent, &mut listing), Ok([1, 2, 0, 0, 0, 0, 0, 0]));
+    assert_eq!(request(&lent, &mut listing), Ok([2, 1, 0, 0, 0, 0, 0, 0]));
+    for _ in 0..3 {
+        assert_eq!(request(&lent, &mut listing), Err(SEVENTEEN));
+    }
+    // with no floater there is one placement, all zeros
+    let lent = Lent::of(&read(b"A").unwrap());
+    let mut listing = Listing::FRESH;
+    assert_eq!(request(&lent, &mut listing), Ok(NONE));
+    assert_eq!(listing, Listing { at: NONE, fresh: false });
+    assert_eq!(request(&lent, &mut listing), Err(SEVENTEEN));
+}
+
+/// Records of any content, near an allowed placement and far from one.
+#[test]
+fn any_record() {
+    let mut random = Random::new(42);
+    let mut met = [0; 19];
+    let mut check = |line: &[u8], held: &Line| {
+        let floaters = floaters(held);
+        let lent = Lent::of(held);
+        for round in 0..4 {
+            let mut at = NONE;
+            if round < 2 {
+                for (entry, floater) in at.iter_mut().zip(&floaters) {
+                    let positions: Vec<u8> = floater.permitted.iter().collect();
+                    *entry = if positions.is_empty() { 0 } else { positions[random.below(positions.len())] };
+                }
+            }
+            if round % 2 == 1 {
+                at[random.below(8)] = random.below(held.residues.len() + 3) as u8;
+            }
+            let fresh = random.chance(15);
+            let mut listing = Listing { at, fresh };
+            let mut ours = positions::Listing { fresh, placement: at };
+            let answer = request(&lent, &mut listing);
+            assert_eq!(answer, ours.request(&floaters), "{} {at:?}", shown(line));
+            assert_eq!((listing.fresh, listing.at), (ours.fresh, ours.placement), "{} {at:?}", shown(line));
+            met[answer.err().map_or(0, |refusal| usize::from(refusal.number))] += 1;
+            let expected = if is_allowed(&floaters, &at) { Ok(()) } else { Err(EIGHTEEN) };
+            assert_eq!(proved::allowed(&lent.bytes, &lent.numbers, &at), expected, "{} {at:?}", shown(line));
+        }
+    };
+    for_crowded(43, 15_000, 12, &mut check);
+    for_generated(44, 20_000, &mut check);
+    assert!(met[0] > 5_000 && met[17] > 2_000 && met[18] > 20_000, "{met:?}");
+}
+
+/// Every pair of positions, and every unused entry, on a line with two floaters.
+#[test]
+fn every_record_of_two_floaters() {
+    for line in [&b"[+1#a]?(AC)[+2]D[#a]-[#a]"[..], b"[+1]^2?AC[+3]D", b"[+1#a]?[#a]-AC[#a](DE)[x]"] {
+        let held = read(line).unwrap();
+        let floaters = floaters(&held);
+        let lent = Lent::of(&held);
+        let allowed = enumerated(&floaters);
+        for one in 0..=255 {
+            for two in (0..10).chain([127, 128, 254, 255]) {
+                for unused in [0, 1] {
+                    let at = [one, two, 0, 0, 0, 0, 0, unused];
+                    let mut listing = Listing { at, fresh: false };
+                    let expected = match allowed.iter().position(|way| *way == at) {
+                        None => Err(EIGHTEEN),
+                        Some(index) => allowed.get(index + 1).copied().ok_or(SEVENTEEN),
+                    };
+                    assert_eq!(request(&lent, &mut listing), expected, "{} {at:?}", shown(line));
+                }
+            }
+        }
+    }
+}
+
+/// The quickest of three times that one request takes, and what it answers.
+fn timed(lent: &Lent, listing: &mut Listing) -> (Duration, Result<Placement, Refusal>) {
+    let before = *listing;
+    let mut quickest = Duration::MAX;
+    let mut answer = Err(THIRTEEN);
+    for _ in 0..3 {
+        *listing = before;
+        let start = Instant::now();
+        answer = request(lent, listing);
+        quickest = quickest.min(start.elapsed());
+    }
+    (quickest, answer)
+}
+
+#[test]
+fn requests_are_quick() {
+    let mut random = Random::new(45);
+    let mut worst = Duration::ZERO;
+    let (mut first, mut none) = (0, 0);
+    for line in adversarial() {
+        let held = read(line.as_bytes()).unwrap_or_else(|refusal| panic!("{refusal:?} {line}"));
+        let lent = Lent::of(&held);
+        let floaters = floaters(&held);
+        let mut listing = Listing::FRESH;
+        for _ in 0..40 {
+            let before = listing;
+            let (time, answer) = timed(&lent, &mut listing);
+            worst = worst.max(time);
+            let expected = if before.fresh {
+                positions::first_placement(&floaters)
+            } else {
+                next_placement(&floaters, &before.at)
+            };
+            assert_eq!(answer, expected.ok_or(SEVENTEEN), "{line}");
+            if before.fresh {
+                first += usize::from(answer.is_ok());
+                none += usize::from(answer.is_err());
+            }
+        }
+        // from allowed placements anywhere among them
+        for _ in 0..300 {
+            let mut at = NONE;
+            for (entry, floater) in at.iter_mut().zip(&floaters) {
+                let positions: Vec<u8> = floater.permitted.iter().collect();
+                let high = random.chance(60);
+                *entry = if positions.is_empty() { 0 } else { positions[if high { positions.len() - 1 - random.below(positions.len().min(9)) } else { random.below(positions.len()) }] };
+            }
+            let mut listing = Listing { at, fresh: false };
+            let (time, answer) = timed(&lent, &mut listing);
+            worst = worst.max(time);
+            let expected = if is_allowed(&floaters, &at) { next_placement(&floaters, &at).ok_or(SEVENTEEN) } else { Err(EIGHTEEN) };
+            assert_eq!(answer, expected, "{line} {at:?}");
+        }
+    }
+    assert!(first >= 7 && none >= 5, "{first} {none}");
+    assert!(worst < Duration::from_millis(10), "{worst:?}");
+}
+
+/// Placements on adversarial lines that are plain to see.
+#[test]
+fn plain_to_see() {
+    let first = |line: String| request(&Lent::of(&read(line.as_bytes()).unwrap()), &mut Listing::FRESH.clone());
+    let free = "A".repeat(253);
+    assert_eq!(first(format!("[+1]^6?(A)[+2][+3]{free}")), Err(SEVENTEEN));
+    assert_eq!(first(format!("[+1]^7?(A)[+2]{free}")), Ok([2, 3, 4, 5, 6, 7, 8, 1]));
+    assert_eq!(first(format!("[+1]^7?{free}(A)[+2]")), Ok([1, 2, 3, 4, 5, 6, 7, 254]));
+    assert_eq!(first("[+1]^8?AAAAAAA".to_owned()), Err(SEVENTEEN));
+    let lent = Lent::of(&read(format!("[+1]^8?A{free}").as_bytes()).unwrap());
+    let mut last = Listing { at: [254, 253, 252, 251, 250, 249, 248, 247], fresh: false };
+    assert_eq!(request(&lent, &mut last), Err(SEVENTEEN));
+    let mut carried = Listing { at: [1, 254, 253, 252, 251, 250, 249, 248], fresh: false };
+    assert_eq!(request(&lent, &mut carried), Ok([2, 1, 3, 4, 5, 6, 7, 8]));
+}
+
+/// Eight floaters on eight positions: all 40,320 orders, ascending.
+#[test]
+fn eight_on_eight() {
+    let lent = Lent::of(&read(b"[+1]^8?AAAAAAAA").unwrap());
+    let mut listing = Listing::FRESH;
+    let mut order: Placement = [1, 2, 3, 4, 5, 6, 7, 8];
+    let mut met = 0;
+    loop {
+        assert_eq!(request(&lent, &mut listing), Ok(order));
+        met += 1;
+        // the next order of the same numbers
+        let Some(at) = (0..7).rev().find(|&at| order[at] < order[at + 1]) else { break };
+        let with = (0..8).rev().find(|&with| order[with] > order[at]).unwrap();
+        order.swap(at, with);
+        order[at + 1..].reverse();
+    }
+    assert_eq!(met, 40_320);
+    assert_eq!(request(&lent, &mut listing), Err(SEVENTEEN));
+}
+
+/// Long lines: the next placement by plain backtracking, where that ends within its budget.
+#[test]
+fn placements_of_long_lines() {
+    let (mut met, mut over) = (0, 0);
+    for_crowded(46, 4_000, 60, |line, held| {
+        let floaters = floaters(held);
+        let lent = Lent::of(held);
+        let mut listing = Listing::FRESH;
+        for _ in 0..5 {
+            let before = listing;
+            let answer = request(&lent, &mut listing);
+            match plain_next(&floaters, (!before.fresh).then_some(&before.at), 20_000) {
+                Search::Found(placement) => assert_eq!(answer, Ok(placement), "{}", shown(line)),
+                Search::NoneLeft => assert_eq!(answer, Err(SEVENTEEN), "{}", shown(line)),
+                Search::OutOfBudget => over += 1,
+            }
+            met += 1;
+        }
+    });
+    assert!(met - over > 15_000, "{met} {over}");
+}
+
+/// The rows that are handed out into so much room that is full of junk; all of it stays on a refusal.
+fn handed(lent: &Lent, room: usize) -> Result<Vec<Site>, Refusal> {
+    let mut rows = vec![JUNK; room];
+    let answer = proved::rows(&lent.bytes, &lent.numbers, &mut rows);
+    let behind = rows.split_off(answer.unwrap_or(0));
+    assert!(behind.iter().all(|&row| row == JUNK));
+    answer.map(|_| rows)
+}
+
+fn check_rows(line: &[u8], held: &Line) -> usize {
+    let lent = Lent::of(held);
+    let before = lent.clone();
+    let expected: Vec<Site> = positions::rows(&floaters(held)).iter().map(|row| Site { floater: row.floater, position: row.position }).collect();
+    for room in [2048, 2051] {
+        assert_eq!(handed(&lent, room), Ok(expected.clone()), "{}", shown(line));
+    }
+    assert_eq!(handed(&lent, 2047), Err(THIRTEEN));
+    assert!(lent.same(&before));
+    expected.len()
+}
+
+#[test]
+fn rows_of_lines() {
+    let mut met = 0;
+    for_vectors(|line, held, outcome| {
+        check_rows(line, held);
+        let given: Vec<Vec<i64>> = Json::read(outcome).get("rows").list().iter().map(|row| row.numbers()).collect();
+        let found = handed(&Lent::of(held), 2048).unwrap();
+        let found: Vec<Vec<i64>> = found.iter().map(|row| vec![i64::from(row.floater), i64::from(row.position)]).collect();
+        assert_eq!(found, given, "{}", shown(line));
+        met += given.len();
+    });
+    for_generated(47, 20_000, |line, held| met += check_rows(line, held));
+    for_crowded(48, 10_000, 12, |line, held| met += check_rows(line, held));
+    assert!(met > 50_000, "{met}");
+    // the most rows that a line has: eight floaters on 254 residues
+    let line = format!("[+1]^8?{}", "A".repeat(254));
+    assert_eq!(check_rows(line.as_bytes(), &read(line.as_bytes()).unwrap()), 8 * 254);
+}
+
+#[test]
+fn lookups_in_any_rows() {
+    let mut random = Random::new(49);
+    let (mut found, mut missed) = (0, 0);
+    for round in 0..4_000 {
+        let room = 2048 + round % 3;
+        let mut rows = vec![JUNK; room];
+        let few = [3, 9, 256][round % 3];
+        let filled = random.below(room + 1);
+        rows[..filled].fill_with(|| Site { floater: random.below(few) as u8, position: random.below(256) as u8 });
+        if round % 2 == 0 {
+            rows.sort_by_key(|row| (row.floater, row.position));
+        }
+        let ours: Vec<Row> = rows.iter().map(|row| Row { floater: row.floater, position: row.position }).collect();
+        for n in [0, 1, filled, random.below(2049), 2047, 2048, 2049, usize::MAX] {
+            for floater in [0, 1, random.below(few + 1) as u8, JUNK.floater, 255] {
+                let expected = positions::first_row(&ours, n, floater);
+                assert_eq!(proved::first_row(&rows, n, floater), expected, "{n} {floater}");
+                match expected {
+                    Ok(_) => found += 1,
+                    Err(_) => missed += 1,
+                }
+            }
+        }
+        let kept: Vec<Row> = rows.iter().map(|row| Row { floater: row.floater, position: row.position }).collect();
+        assert!(kept == ours);
+    }
+    assert!(found > 20_000 && missed > 20_000, "{found} {missed}");
+    // rows past the first 2,048 do not count
+    let mut rows = vec![JUNK; 2049];
+    rows[2048] = Site { floater: 1, position: 7 };
+    assert_eq!(proved::first_row(&rows, usize::MAX, 1), Err(SEVENTEEN));
+    rows[2047] = Site { floater: 1, position: 9 };
+    assert_eq!(proved::first_row(&rows, 2048, 1), Ok((2047, 9)));
+    assert_eq!(proved::first_row(&rows, 2047, 1), Err(SEVENTEEN));
+    for short in [0, 1, 2047] {
+        assert_eq!(proved::first_row(&rows[..short], 1, JUNK.floater), Err(THIRTEEN));
+    }
+}
+
+/// The rows of a line, shuffled: the first row of each floater is still found.
+#[test]
+fn lookups_in_shuffled_rows() {
+    let mut random = Random::new(50);
+    for_crowded(51, 2_000, 12, |line, held| {
+        let rows = handed(&Lent::of(held), 2048).unwrap();
+        let count = rows.len();
+        let mut shuffled = rows.clone();
+        for at in (1..count).rev() {
+            shuffled.swap(at, random.below(at + 1));
+        }
+        for mut one in [rows, shuffled] {
+            one.resize(2048, JUNK);
+            for floater in 0..=9 {
+                let index = (0..count).find(|&at| one[at].floater == floater);
+                let expected = index.map(|at| (at, one[at].position)).ok_or(SEVENTEEN);
+                assert_eq!(proved::first_row(&one, count, floater), expected, "{} {floater}", shown(line));
+            }
+        }
+    });
+}
+
+#[test]
+fn areas_that_are_too_short_or_no_tables() {
+    let lent = Lent::of(&read(b"[+1]?AC").unwrap());
+    let limits = proved::limits();
+    let mut rows = vec![JUNK; limits.rows];
+    let mut check = |bytes: &[u8], numbers: &[i64], number: u8| {
+        let refusal = Err(Refusal::new(number, 0));
+        for before in [Listing::FRESH, Listing { at: [1, 0, 0, 0, 0, 0, 0, 0], fresh: false }, Listing { at: [9; 8], fresh: true }] {
+            let mut listing = before;
+            assert_eq!(proved::next(bytes, numbers, &mut listing), refusal);
+            assert_eq!(listing, before);
+        }
+        assert_eq!(proved::rows(bytes, numbers, &mut rows), Err(Refusal::new(number, 0)));
+        assert!(rows.iter().all(|&row| row == JUNK));
+    };
+    check(&lent.bytes[..limits.bytes - 1], &lent.numbers, 13);
+    check(&lent.bytes, &lent.numbers[..limits.numbers - 1], 13);
+    check(&[], &[], 13);
+    let mut none = lent.clone();
+    none.bytes[2] = b'a';
+    check(&none.bytes, &none.numbers, 14);
+    none.bytes[2] = b'A';
+    none.numbers[1] = 1;
+    check(&none.bytes, &none.numbers, 14);
+    // 13 for the room of rows comes before 14
+    assert_eq!(proved::rows(&none.bytes, &none.numbers, &mut []), Err(THIRTEEN));
+}

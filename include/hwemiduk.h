@@ -133,12 +133,15 @@ enum hwemiduk_key {
 
 /* ---- Reading and writing */
 
-/* Whether a line is accepted: 0, or 1 to 12. *place is 0, or the refusal's place in the line: the byte, counted from 0, at which the rule is broken. */
+/*
+ * Whether a line is accepted: 0, or the lowest of 1 to 12 that is due. *place is 0, or the refusal's first place in the line, bytes counted from 0; where the line
+ * should go on and ends, it is the line's length.
+ */
 uint8_t hwemiduk_verdict(const uint8_t *line, size_t line_len, size_t *place);
 
 /*
- * Reads a line: 0 with its tables in the areas; or 13 if an area is shorter than limits.bytes or limits.numbers, else 1 to 12, the lowest that is due.
- * *place is 0, or the refusal's place in the line.
+ * Reads a line: 0 with its tables in the areas; or 13, if an area is shorter than limits.bytes or limits.numbers, with 0 in *place; or 1 to 12 and *place as
+ * hwemiduk_verdict gives them.
  */
 uint8_t hwemiduk_read(const uint8_t *line, size_t line_len, uint8_t *bytes, size_t bytes_len, int64_t *numbers, size_t numbers_len, size_t *place);
 

@@ -1,5 +1,6 @@
 """The Python module against document 01's lines with known outcomes, and against the outside vectors of compare/vectors."""
 
+import doctest
 import json
 import pickle
 import random
@@ -31,6 +32,13 @@ def refusal(call, *arguments):
     except Refusal as error:
         return error.number, error.place
     return None
+
+
+def load_tests(loader, tests, pattern):
+    """Adds the examples of the module and of the README."""
+    tests.addTests(doctest.DocTestSuite(hwemiduk))
+    tests.addTests(doctest.DocFileSuite(str(ROOT / "README.md"), module_relative=False))
+    return tests
 
 
 class KnownLines(unittest.TestCase):

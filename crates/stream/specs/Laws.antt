@@ -1,0 +1,70 @@
+-- Laws of feeding: chunks may be cut anywhere, and bytes that end no line are held.
+use mathlib.Core.Path.{_≡_, refl, sym, ap, _∙_}
+use mathlib.Core.Bool.{Bool, true, false, cond, false≢true}
+use mathlib.Core.List.{List, [], _∷_, _++_, append-assoc, append-nil}
+use Prim.Native.Nat.{ℕ, _+_, _<_, _≤_}
+use native.Mathlib.Omega.{arith}
+use borrow.Author.Tests.{leb-true, leb-false}
+use lib.Dec.{eqb, leb}
+use lib.ListN.{length, take, length-take}
+use lib.Seq.{take-all, take-append-le, take-take, length-take-le}
+use Rattle.basics.specs.Choice.{by-test}
+use Rattle.stream.specs.Lines.{lineEnd, entry}
+use Rattle.stream.specs.Feeding.{holdLimit, State, holding, kept, behind, ended, stepped, after, put, plain}
+
+-- ---- "fed s (a ++ b)" is fed twice
+pub after-append : (s : State) (a b : List ℕ) → after s (a ++ b) ≡ after (after s a) b
+unfolding after
+after-append s [] b = refl
+after-append s (x ∷ a) b = after-append (stepped (eqb x lineEnd) s x) a b
+
+pub put-append : (s : State) (a b : List ℕ) → put s (a ++ b) ≡ put s a ++ put (after s a) b
+unfolding put after
+put-append s [] b = refl
+put-append s (x ∷ a) b =
+    let t = stepped (eqb x lineEnd) s x in
+    ap (λ z. ended (eqb x lineEnd) s ++ z) (put-append t a b) ∙ sym (append-assoc (ended (eqb x lineEnd) s) (put t a) (put (after t a) b))
+
+-- ---- what is held of a line is the front of it, however it came
+kept-twice : (h t u : List ℕ) → kept (kept h t) u ≡ kept h (t ++ u)
+kept-twice h t u =
+    by-test (leb (length (h ++ t)) holdLimit)
+    (λ q. ap (λ z. kept z u) (take-all holdLimit (h ++ t) (leb-true (length (h ++ t)) holdLimit q)) ∙ ap (take holdLimit) (append-assoc h t u))
+    (λ q.
+    let g = leb-false (length (h ++ t)) holdLimit q in
+    let l : length (kept h t) ≡ holdLimit = length-take-le holdLimit (h ++ t) (omega arith) in
+    take-append-le holdLimit (kept h t) u (omega arith) ∙ take-take holdLimit holdLimit (h ++ t) (omega arith)
+    ∙ sym (take-append-le holdLimit (h ++ t) u (omega arith)) ∙ ap (take holdLimit) (append-assoc h t u))
+
+held-front : (h t : List ℕ) → length (kept h t) ≤ holdLimit
+held-front h t = omega (arith, length-take holdLimit (h ++ t))
+
+kept-none : (h : List ℕ) → length h ≤ holdLimit → h ≡ kept h []
+kept-none h k = sym (ap (take holdLimit) (append-nil h) ∙ take-all holdLimit h k)
+
+-- ---- bytes that end no line
+pub after-plain : (n : ℕ) (h t : List ℕ) → length h ≤ holdLimit → plain t ≡ true → after (holding n h) t ≡ holding n (kept h t)
+unfolding after plain
+after-plain n h [] k e = ap (holding n) (kept-none h k)
+after-plain n h (b ∷ t) k e =
+    by-test (eqb b lineEnd) (λ q. absurd (false≢true (rw q at e)))
+    (λ q. rw q (after-plain n (kept h (b ∷ [])) t (held-front h (b ∷ [])) (rw q at e) ∙ ap (holding n) (kept-twice h (b ∷ []) t)))
+
+pub put-plain : (n : ℕ) (h t : List ℕ) → plain t ≡ true → put (holding n h) t ≡ []
+unfolding put plain
+put-plain n h [] e = refl
+put-plain n h (b ∷ t) e =
+    by-test (eqb b lineEnd) (λ q. absurd (false≢true (rw q at e))) (λ q. rw q (put-plain n (kept h (b ∷ [])) t (rw q at e)))
+
+-- ---- a line
+pub after-line : (n : ℕ) (h t : List ℕ) → length h ≤ holdLimit → plain t ≡ true
+    → after (holding n h) (t ++ (lineEnd ∷ [])) ≡ behind true (holding n (kept h t))
+unfolding after
+after-line n h t k e = after-append (holding n h) t (lineEnd ∷ []) ∙ ap (λ s. after s (lineEnd ∷ [])) (after-plain n h t k e)
+
+pub put-line : (n : ℕ) (h t : List ℕ) → length h ≤ holdLimit → plain t ≡ true
+    → put (holding n h) (t ++ (lineEnd ∷ [])) ≡ ended true (holding n (kept h t))
+unfolding put
+put-line n h t k e =
+    put-append (holding n h) t (lineEnd ∷ []) ∙ ap (λ z. z ++ put (after (holding n h) t) (lineEnd ∷ [])) (put-plain n h t e)
+    ∙ ap (λ s. put s (lineEnd ∷ [])) (after-plain n h t k e) ∙ append-nil (entry n (kept h t))

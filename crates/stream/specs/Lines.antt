@@ -1,0 +1,38 @@
+-- The lines of an input, and what the register prints for all of them.
+use Prim.Native.Nat.{ℕ, suc}
+use mathlib.Core.Bool.{Bool, true, false}
+use mathlib.Core.List.{List, [], _∷_, _++_}
+use lib.Dec.{eqb}
+use Rattle.scope.specs.Register.{printed}
+
+-- "Byte 10 ends a line"
+abbrev pub lineEnd : ℕ
+lineEnd = 10
+
+-- a byte at the front of the first line
+abbrev pub grown : ℕ → List (List ℕ) → List (List ℕ)
+grown b [] = (b ∷ []) ∷ []
+grown b (l ∷ ls) = (b ∷ l) ∷ ls
+
+-- a byte in front of lines, and whether it is byte 10: then it ends a line that has nothing else
+abbrev pub inFront : Bool → ℕ → List (List ℕ) → List (List ℕ)
+inFront true b ls = [] ∷ ls
+inFront false b ls = grown b ls
+
+-- "Byte 10 ends a line and is no part of it; nothing after the last one is no line."
+unfoldable pub lines : List ℕ → List (List ℕ)
+lines [] = []
+lines (b ∷ s) = inFront (eqb b lineEnd) b (lines s)
+
+-- what is printed for a line, and byte 10
+abbrev pub entry : ℕ → List ℕ → List ℕ
+entry n l = printed n l ++ (lineEnd ∷ [])
+
+-- for lines that are numbered from n on
+unfoldable pub entriesFrom : ℕ → List (List ℕ) → List ℕ
+entriesFrom n [] = []
+entriesFrom n (l ∷ ls) = entry n l ++ entriesFrom (suc n) ls
+
+-- what the register program prints for an input
+unfoldable pub register : List ℕ → List ℕ
+register s = entriesFrom 1 (lines s)

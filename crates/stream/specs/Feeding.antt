@@ -58,7 +58,11 @@ lastPut n (b ∷ h) = entry n (b ∷ h)
 abbrev pub finished : State → List ℕ
 finished s = lastPut (s .number) (s .held)
 
--- chunk upon chunk
+-- chunk upon chunk, and the input that they are put together
+unfoldable pub joined : List (List ℕ) → List ℕ
+joined [] = []
+joined (c ∷ cs) = c ++ joined cs
+
 unfoldable pub afterAll : State → List (List ℕ) → State
 afterAll s [] = s
 afterAll s (c ∷ cs) = afterAll (after s c) cs

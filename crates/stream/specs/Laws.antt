@@ -26,7 +26,7 @@ put-append s (x ∷ a) b =
     ap (λ z. ended (eqb x lineEnd) s ++ z) (put-append t a b) ∙ sym (append-assoc (ended (eqb x lineEnd) s) (put t a) (put (after t a) b))
 
 -- ---- what is held of a line is the front of it, however it came
-kept-twice : (h t u : List ℕ) → kept (kept h t) u ≡ kept h (t ++ u)
+pub kept-twice : (h t u : List ℕ) → kept (kept h t) u ≡ kept h (t ++ u)
 kept-twice h t u =
     by-test (leb (length (h ++ t)) holdLimit)
     (λ q. ap (λ z. kept z u) (take-all holdLimit (h ++ t) (leb-true (length (h ++ t)) holdLimit q)) ∙ ap (take holdLimit) (append-assoc h t u))

@@ -1,3 +1,4 @@
 pub mod Lines
 pub mod Feeding
 pub mod Laws
+pub mod Whole

@@ -1,0 +1,108 @@
+-- However an input is cut into chunks, what is put out is what the register program prints for it.
+use mathlib.Core.Path.{_≡_, refl, sym, ap, _∙_}
+use mathlib.Core.Bool.{Bool, true, false}
+use mathlib.Core.List.{List, [], _∷_, _++_, append-nil, append-assoc}
+use Prim.Native.Nat.{ℕ, suc, _+_, _<_, _≤_}
+use native.Mathlib.Omega.{arith}
+use borrow.Author.Tests.{lt-ltb, leb-true, leb-false}
+use lib.Dec.{eqb, leb}
+use lib.ListN.{length, take}
+use lib.Seq.{take-all, length-take-le}
+use Rattle.basics.specs.Choice.{by-test}
+use Rattle.scope.specs.Limits.{lineLimit}
+use Rattle.scope.specs.Refusals.{refused, refusal1, refusal2, firstDue, outcome}
+use Rattle.scope.specs.Canonical.{decimal}
+use Rattle.scope.specs.Register.{report, printed}
+use Rattle.stream.specs.Lines.{lineEnd, grown, inFront, lines, entry, entriesFrom, register}
+use Rattle.stream.specs.Feeding.{holdLimit, State, holding, start, kept, ended, stepped, after, put, lastPut, finished, joined, afterAll, putAll}
+use Rattle.stream.specs.Laws.{after-append, put-append, kept-twice}
+
+-- ---- a line too long is answered by its first 4,097 bytes
+pub too-long : (s : List ℕ) → lineLimit < length s → outcome s ≡ refused 2 lineLimit
+unfolding outcome firstDue refusal1 refusal2
+too-long [] h = absurd (omega arith)
+too-long (b ∷ s) h = rw (lt-ltb lineLimit (length (b ∷ s)) h)
+
+pub outcome-front : (s : List ℕ) → outcome (take holdLimit s) ≡ outcome s
+outcome-front s =
+    by-test (leb (length s) holdLimit) (λ q. ap outcome (take-all holdLimit s (leb-true (length s) holdLimit q)))
+    (λ q.
+      let g = leb-false (length s) holdLimit q in
+      let l = length-take-le holdLimit s (omega arith) in
+      too-long (take holdLimit s) (omega arith) ∙ sym (too-long s (omega arith)))
+
+pub entry-front : (n : ℕ) (s : List ℕ) → entry n (take holdLimit s) ≡ entry n s
+unfolding printed
+entry-front n s = ap (λ o. (decimal n ++ report o) ++ (lineEnd ∷ [])) (outcome-front s)
+
+-- ---- bytes that end no line, in front of lines
+abbrev ahead : List ℕ → List (List ℕ) → List (List ℕ)
+ahead [] ls = ls
+ahead (b ∷ h) ls = grown b (ahead h ls)
+
+ahead-more : (h : List ℕ) (b : ℕ) (ls : List (List ℕ)) → ahead (h ++ (b ∷ [])) ls ≡ ahead h (grown b ls)
+ahead-more [] b ls = refl
+ahead-more (a ∷ h) b ls = ap (grown a) (ahead-more h b ls)
+
+ahead-line : (h : List ℕ) (ls : List (List ℕ)) → ahead h ([] ∷ ls) ≡ h ∷ ls
+ahead-line [] ls = refl
+ahead-line (b ∷ h) ls = ap (grown b) (ahead-line h ls)
+
+ahead-end : (b : ℕ) (h : List ℕ) → ahead (b ∷ h) [] ≡ (b ∷ h) ∷ []
+ahead-end b [] = refl
+ahead-end b (a ∷ h) = ap (grown b) (ahead-end a h)
+
+-- ---- from a line on, of which some bytes came already
+last : (n : ℕ) (h : List ℕ) → lastPut n (take holdLimit h) ≡ entriesFrom n (ahead h [])
+unfolding entriesFrom
+last n [] = refl
+last n (b ∷ h) = entry-front n (b ∷ h) ∙ sym (append-nil (entry n (b ∷ h))) ∙ ap (entriesFrom n) (sym (ahead-end b h))
+
+-- all that is put out from a state on
+abbrev rest : State → List ℕ → List ℕ
+rest s t = put s t ++ finished (after s t)
+
+rest-cons : (s : State) (b : ℕ) (t : List ℕ) → rest s (b ∷ t) ≡ ended (eqb b lineEnd) s ++ rest (stepped (eqb b lineEnd) s b) t
+unfolding put after
+rest-cons s b t =
+    let r = stepped (eqb b lineEnd) s b in
+    append-assoc (ended (eqb b lineEnd) s) (put r t) (finished (after r t))
+
+held-more : (h : List ℕ) (b : ℕ) → kept (take holdLimit h) (b ∷ []) ≡ take holdLimit (h ++ (b ∷ []))
+held-more h b = ap (λ z. kept (take holdLimit z) (b ∷ [])) (sym (append-nil h)) ∙ kept-twice h [] (b ∷ [])
+
+-- a byte more, and whether it is byte 10, in front of bytes for which it is known
+one-more : (e : Bool) (n : ℕ) (h : List ℕ) (b : ℕ) (s : List ℕ)
+    → ((m : ℕ) (g : List ℕ) → rest (holding m (take holdLimit g)) s ≡ entriesFrom m (ahead g (lines s)))
+    → ended e (holding n (take holdLimit h)) ++ rest (stepped e (holding n (take holdLimit h)) b) s ≡ entriesFrom n (ahead h (inFront e b (lines s)))
+unfolding entriesFrom
+one-more true n h b s known =
+    ap (λ z. z ++ rest (holding (suc n) []) s) (entry-front n h) ∙ ap (λ z. entry n h ++ z) (known (suc n) []) ∙ ap (entriesFrom n) (sym (ahead-line h (lines s)))
+one-more false n h b s known =
+    ap (λ z. rest (holding n z) s) (held-more h b) ∙ known n (h ++ (b ∷ [])) ∙ ap (entriesFrom n) (ahead-more h b (lines s))
+
+from-here : (n : ℕ) (h s : List ℕ) → rest (holding n (take holdLimit h)) s ≡ entriesFrom n (ahead h (lines s))
+unfolding put after lines
+from-here n h [] = last n h
+from-here n h (b ∷ s) = rest-cons (holding n (take holdLimit h)) b s ∙ one-more (eqb b lineEnd) n h b s (λ m g. from-here m g s)
+
+-- ---- an input in one piece
+pub in-one : (s : List ℕ) → put start s ++ finished (after start s) ≡ register s
+unfolding register
+in-one s = from-here 1 [] s
+
+-- ---- and in any chunks
+after-joined : (s : State) (cs : List (List ℕ)) → afterAll s cs ≡ after s (joined cs)
+unfolding afterAll joined after
+after-joined s [] = refl
+after-joined s (c ∷ cs) = after-joined (after s c) cs ∙ sym (after-append s c (joined cs))
+
+put-joined : (s : State) (cs : List (List ℕ)) → putAll s cs ≡ put s (joined cs)
+unfolding putAll joined put
+put-joined s [] = refl
+put-joined s (c ∷ cs) = ap (λ z. put s c ++ z) (put-joined (after s c) cs) ∙ sym (put-append s c (joined cs))
+
+pub in-chunks : (cs : List (List ℕ)) → putAll start cs ++ finished (afterAll start cs) ≡ register (joined cs)
+in-chunks cs =
+    ap (λ z. z ++ finished (afterAll start cs)) (put-joined start cs) ∙ ap (λ z. put start (joined cs) ++ finished z) (after-joined start cs)
+    ∙ in-one (joined cs)

@@ -13,3 +13,4 @@ pub mod positions;
 pub mod proved;
 pub mod reader;
 pub mod register;
+pub mod trials;

@@ -5,7 +5,8 @@ use mathlib.Core.List.{List, [], _∷_, _++_}
 use Prim.Native.Nat.{ℕ, suc, _+_, _-_, _<_, _≤_}
 use lib.Dec.{eqb}
 use lib.ListN.{length, take, drop, getD}
-use Rattle.stream.specs.Lines.{lineEnd, entry}
+use Rattle.entries.specs.Entry.{entry}
+use Rattle.stream.specs.Lines.{lineEnd}
 
 -- so many bytes of a line are held: one more than a line may have, so that a line too long is still too long
 abbrev pub holdLimit : ℕ

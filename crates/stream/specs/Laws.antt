@@ -9,7 +9,8 @@ use lib.Dec.{eqb, leb}
 use lib.ListN.{length, take, length-take}
 use lib.Seq.{take-all, take-append-le, take-take, length-take-le}
 use Rattle.basics.specs.Choice.{by-test}
-use Rattle.stream.specs.Lines.{lineEnd, entry}
+use Rattle.entries.specs.Entry.{entry}
+use Rattle.stream.specs.Lines.{lineEnd}
 use Rattle.stream.specs.Feeding.{holdLimit, State, holding, kept, behind, ended, stepped, after, put, plain}
 
 -- ---- "fed s (a ++ b)" is fed twice

@@ -1,4 +1,5 @@
 pub mod Lines
 pub mod Feeding
+pub mod Serving
 pub mod Laws
 pub mod Whole

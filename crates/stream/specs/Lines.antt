@@ -3,7 +3,7 @@ use Prim.Native.Nat.{ℕ, suc}
 use mathlib.Core.Bool.{Bool, true, false}
 use mathlib.Core.List.{List, [], _∷_, _++_}
 use lib.Dec.{eqb}
-use Rattle.scope.specs.Register.{printed}
+use Rattle.entries.specs.Entry.{entry}
 
 -- "Byte 10 ends a line"
 abbrev pub lineEnd : ℕ
@@ -24,11 +24,7 @@ unfoldable pub lines : List ℕ → List (List ℕ)
 lines [] = []
 lines (b ∷ s) = inFront (eqb b lineEnd) b (lines s)
 
--- what is printed for a line, and byte 10
-abbrev pub entry : ℕ → List ℕ → List ℕ
-entry n l = printed n l ++ (lineEnd ∷ [])
-
--- for lines that are numbered from n on
+-- the entries of lines that are numbered from n on
 unfoldable pub entriesFrom : ℕ → List (List ℕ) → List ℕ
 entriesFrom n [] = []
 entriesFrom n (l ∷ ls) = entry n l ++ entriesFrom (suc n) ls

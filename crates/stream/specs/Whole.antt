@@ -13,7 +13,8 @@ use Rattle.scope.specs.Limits.{lineLimit}
 use Rattle.scope.specs.Refusals.{refused, refusal1, refusal2, firstDue, outcome}
 use Rattle.scope.specs.Canonical.{decimal}
 use Rattle.scope.specs.Register.{report, printed}
-use Rattle.stream.specs.Lines.{lineEnd, grown, inFront, lines, entry, entriesFrom, register}
+use Rattle.entries.specs.Entry.{entry}
+use Rattle.stream.specs.Lines.{lineEnd, grown, inFront, lines, entriesFrom, register}
 use Rattle.stream.specs.Feeding.{holdLimit, State, holding, start, kept, ended, stepped, after, put, lastPut, finished, joined, afterAll, putAll}
 use Rattle.stream.specs.Laws.{after-append, put-append, kept-twice}
 
@@ -27,9 +28,9 @@ pub outcome-front : (s : List ℕ) → outcome (take holdLimit s) ≡ outcome s
 outcome-front s =
     by-test (leb (length s) holdLimit) (λ q. ap outcome (take-all holdLimit s (leb-true (length s) holdLimit q)))
     (λ q.
-      let g = leb-false (length s) holdLimit q in
-      let l = length-take-le holdLimit s (omega arith) in
-      too-long (take holdLimit s) (omega arith) ∙ sym (too-long s (omega arith)))
+    let g = leb-false (length s) holdLimit q in
+    let l = length-take-le holdLimit s (omega arith) in
+    too-long (take holdLimit s) (omega arith) ∙ sym (too-long s (omega arith)))
 
 pub entry-front : (n : ℕ) (s : List ℕ) → entry n (take holdLimit s) ≡ entry n s
 unfolding printed

@@ -15,7 +15,7 @@ numberLimit = 18446744073709551615
 
 -- so many bytes are read at once, at most
 abbrev pub readLimit : ℕ
-readLimit = 16384
+readLimit = 8192
 
 -- the hold has so many bytes of a line, the areas are clean, and the output has room for an entry
 pub record Ready (hold : List ℕ) (held : ℕ) (bytes : List ℕ) (numbers : List ℤ) (out : List ℕ) : Type 0 where

@@ -3,6 +3,7 @@ use bounds::copy_bytes;
 use entries::put_entry;
 use libc::STDIN_FILENO;
 use libc::STDOUT_FILENO;
+use scope::tables::Tables;
 ghost use mathlib.Core.Path.{_≡_};
 ghost use Prim.Native.Nat.{_+_, _-_, _<_, _≤_, min};
 ghost use lib.ListN.{length, take, drop};
@@ -11,11 +12,24 @@ ghost use Rattle.reader.specs.ReadSays.{Clean};
 ghost use Rattle.stream.specs.Feeding.{holdLimit, holding, finished, LineEnd, Keeps, Cuts};
 ghost use Rattle.stream.specs.Serving.{numberLimit, readLimit, Ready, Fronts, Feeds, Drains, Turns};
 
+// So many bytes are read at once, at most; so many of a line are held, one more than a line may have; so many has the output, of which an entry takes
+// no more than the last.
+const READ: usize = 8192;
+
+const HOLD: usize = Tables::LINE + 1;
+
+const OUTPUT: usize = 20480;
+
+const ENTRY: usize = 4206;
+
+// More reads than any run makes: at a million a second, 35 years.
+const TURNS: u64 = 1 << 50;
+
 // A chunk cut behind the end of a line, or at its own: where the next byte stands, and how many bytes are held of the line.
-pub struct Cut {
-    pub next: usize,
-    pub held: usize,
-    pub ended: bool,
+struct Cut {
+    next: usize,
+    held: usize,
+    ended: bool,
 }
 
 // The place of the first byte 10 from a place of the chunk on, or the chunk's length.
@@ -53,7 +67,7 @@ fn keep(chunk: &[u8], from: usize, end: usize, hold: &mut [u8], held: usize) -> 
 }
 
 // Takes bytes of the chunk in from a place on, up to the end of a line or of the chunk. What is past 4,097 bytes of a line is passed over.
-pub fn gather(chunk: &[u8], from: usize, hold: &mut [u8], held: usize) -> Cut
+fn gather(chunk: &[u8], from: usize, hold: &mut [u8], held: usize) -> Cut
     requires { ⌜ (from ≤ length (now chunk)) × (held ≤ holdLimit) × (length (now hold) ≡ holdLimit) ⌝ }
     ensures { λ r. ⌜ Cuts (now (chunk .entry)) from (now (hold .entry)) held (now (hold .exit)) (r .held) (r .next) (r .ended) ⌝ }
 {
@@ -73,25 +87,19 @@ pub fn gather(chunk: &[u8], from: usize, hold: &mut [u8], held: usize) -> Cut
     }
 }
 
-// Room that an entry takes at most.
-const ENTRY: usize = 4206;
-
-// More reads than any run makes: at a million a second, 17 years.
-const TURNS: u64 = 1 << 49;
-
 // How far a chunk is taken in; the number of the line that is begun or comes next, and how many bytes are held of it; how many bytes are put.
-pub struct Fed {
-    pub next: usize,
-    pub number: u64,
-    pub held: usize,
-    pub put: usize,
+struct Fed {
+    next: usize,
+    number: u64,
+    held: usize,
+    put: usize,
 }
 
 // What is kept from one chunk to the next, and whether there is more to do: the input has not ended, and the output takes what is written.
-pub struct Kept {
-    pub number: u64,
-    pub held: usize,
-    pub more: bool,
+struct Kept {
+    number: u64,
+    held: usize,
+    more: bool,
 }
 
 // The entry of the line that is held, from a place of the output on; the place behind it.
@@ -111,7 +119,7 @@ fn put_held(
 }
 
 // Takes a chunk in from a place on, and puts the entries of the lines that end there at the front of the output, while it has room for one more.
-pub fn feed(
+fn feed(
     chunk: &[u8],
     from: usize,
     number: u64,
@@ -190,7 +198,7 @@ fn drain(
 }
 
 // At the end of the input the entry of a line that is begun is put at the front of the output; how many bytes are put.
-pub fn finish(
+fn finish(
     number: u64,
     hold: &[u8],
     held: usize,
@@ -255,10 +263,10 @@ fn serve(room: &mut [u8], hold: &mut [u8], bytes: &mut [u8], numbers: &mut [i64]
 // The register program: the lines of standard input, and their entries to standard output. A read that fails ends the input; a write that fails ends
 // the program.
 pub fn run() {
-    let mut room = [0u8; 16384];
-    let mut hold = [0u8; 4097];
-    let mut bytes = [0u8; 6782];
-    let mut numbers = [0i64; 320];
-    let mut out = [0u8; 20480];
+    let mut room = [0u8; READ];
+    let mut hold = [0u8; HOLD];
+    let mut bytes = [0u8; Tables::BYTES];
+    let mut numbers = [0i64; Tables::NUMBERS];
+    let mut out = [0u8; OUTPUT];
     serve(&mut room, &mut hold, &mut bytes, &mut numbers, &mut out);
 }

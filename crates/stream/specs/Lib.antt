@@ -3,3 +3,4 @@ pub mod Feeding
 pub mod Serving
 pub mod Laws
 pub mod Whole
+pub mod Examples

@@ -1,14 +1,41 @@
--- What the functions promise that take a chunk in and put entries into an output.
+-- What the functions of this crate promise.
 use mathlib.Core.Path.{_≡_}
-use mathlib.Core.Bool.{Bool, true}
+use mathlib.Core.Bool.{Bool, true, false}
 use mathlib.Core.List.{List}
-use Prim.Native.Nat.{ℕ, _+_, _-_, _<_, _≤_}
+use Prim.Native.Nat.{ℕ, _+_, _<_, _≤_}
 use lib.IntN.{ℤ}
-use lib.ListN.{length, take, drop}
+use lib.ListN.{length, take, drop, getD}
 use Rattle.reader.specs.ReadSays.{Clean}
 use Rattle.entries.specs.Entry.{entryLimit}
-use Rattle.stream.specs.Feeding.{holdLimit, holding, after, put, finished, part}
+use Rattle.stream.specs.Lines.{lineEnd}
+use Rattle.stream.specs.Feeding.{holdLimit, holding, kept, behind, ended, after, put, part, plain}
 
+-- ---- a chunk, cut at the end of a line
+-- the first byte 10 from a place of a chunk on stands at r, or there is none and r is the chunk's end
+pub record LineEnd (chunk : List ℕ) (from r : ℕ) : Type 0 where
+  pub past : from ≤ r
+  pub within : r ≤ length chunk
+  pub before : plain (part from r chunk) ≡ true
+  pub there : r < length chunk → getD chunk r 0 ≡ lineEnd
+
+-- so many bytes of the hold, n, are those before and a part of the chunk behind them
+pub record Keeps (chunk : List ℕ) (from end : ℕ) (hold : List ℕ) (held : ℕ) (holds : List ℕ) (n : ℕ) : Type 0 where
+  pub room : length holds ≡ holdLimit
+  pub within : n ≤ holdLimit
+  pub are : take n holds ≡ kept (take held hold) (part from end chunk)
+
+-- bytes of a chunk are taken in, up to the end of a line or of the chunk: n bytes are held then, and the next one stands at `next`
+pub record Cuts (chunk : List ℕ) (from : ℕ) (hold : List ℕ) (held : ℕ) (holds : List ℕ) (n next : ℕ) (ends : Bool) : Type 0 where
+  pub room : length holds ≡ holdLimit
+  pub within : n ≤ holdLimit
+  pub past : from ≤ next
+  pub inside : next ≤ length chunk
+  pub goes : ends ≡ true → from < next
+  pub whole : ends ≡ false → next ≡ length chunk
+  pub leaves : (k : ℕ) → after (holding k (take held hold)) (part from next chunk) ≡ behind ends (holding k (take n holds))
+  pub puts : (k : ℕ) → put (holding k (take held hold)) (part from next chunk) ≡ ended ends (holding k (take n holds))
+
+-- ---- a chunk taken in, with an output
 -- the largest number that a line can have
 abbrev pub numberLimit : ℕ
 numberLimit = 18446744073709551615
@@ -43,7 +70,7 @@ pub record Drains (chunk : List ℕ) (number : ℕ) (hold : List ℕ) (held line
   pub count : line ≤ number + length chunk
   pub leaves : more ≡ true → after (holding number (take held hold)) chunk ≡ holding line (take n holds)
 
--- one read
+-- ---- one read
 pub record Turns (number line : ℕ) (holds : List ℕ) (n : ℕ) (bytes : List ℕ) (numbers : List ℤ) (out : List ℕ) (more : Bool) : Type 0 where
   pub count : line ≤ number + readLimit
   pub ready : more ≡ true → Ready holds n bytes numbers out

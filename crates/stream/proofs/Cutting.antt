@@ -1,6 +1,6 @@
 -- Laws of the parts of a chunk. Assumes nothing.
-use mathlib.Core.Path.{_≡_, refl, sym, ap, _∙_, subst}
-use mathlib.Core.Bool.{Bool, true, false, cond, false≢true}
+use mathlib.Core.Path.{_≡_, sym, ap, _∙_}
+use mathlib.Core.Bool.{true, false, false≢true}
 use mathlib.Core.List.{List, [], _∷_, _++_, append-assoc}
 use Prim.Native.Nat.{ℕ, suc, _+_, _-_, _<_, _≤_, min}
 use native.Mathlib.Omega.{arith}
@@ -12,7 +12,8 @@ use lib.ListN.{length, take, drop, getD, length-drop, length-take}
 use lib.Seq.{take-suc, getD-drop, take-all, take-at, length-take-le, take-append-add}
 use Rattle.basics.specs.Choice.{by-test}
 use Rattle.stream.specs.Lines.{lineEnd}
-use Rattle.stream.specs.Feeding.{holdLimit, holding, kept, behind, ended, after, put, part, plain, LineEnd, Keeps, Cuts}
+use Rattle.stream.specs.Feeding.{holdLimit, holding, kept, behind, ended, after, put, part, plain}
+use Rattle.stream.specs.Promises.{LineEnd, Keeps, Cuts}
 use Rattle.stream.specs.Laws.{after-plain, put-plain, after-line, put-line}
 
 -- one byte more

@@ -9,12 +9,11 @@ use lib.IntN.{ℤ, pos}
 use lib.ListN.{length, take, drop, replicate, length-append, length-replicate}
 use lib.Seq.{take-add, drop-drop, take-all, take-append-seam, drop-append-seam, length-take-le}
 use Rattle.scope.specs.Tables.{bytesSize, numbersSize}
-use Rattle.reader.specs.ReadSays.{Clean}
-use Rattle.writer.specs.Written.{stored, Puts}
+use Rattle.writer.specs.Written.{stored}
 use Rattle.writer.proofs.Storing.{stored-append, stored-whole}
 use Rattle.entries.specs.Entry.{entry, entryLimit, Printed}
-use Rattle.stream.specs.Feeding.{holdLimit, State, holding, after, put, lastPut, finished, part, Cuts}
-use Rattle.stream.specs.Serving.{numberLimit, readLimit, Ready, Fronts, Feeds, Drains, Turns}
+use Rattle.stream.specs.Feeding.{holdLimit, State, holding, after, put, lastPut, finished, part}
+use Rattle.stream.specs.Promises.{Cuts, numberLimit, readLimit, Ready, Fronts, Feeds, Drains, Turns}
 use Rattle.stream.specs.Laws.{after-append, put-append}
 use Rattle.stream.proofs.Cutting.{part-none}
 

@@ -1,16 +1,16 @@
 -- An input read chunk by chunk: what is kept between two bytes, and what is put out.
-use mathlib.Core.Path.{_≡_}
 use mathlib.Core.Bool.{Bool, true, false, cond}
 use mathlib.Core.List.{List, [], _∷_, _++_}
-use Prim.Native.Nat.{ℕ, suc, _+_, _-_, _<_, _≤_}
+use Prim.Native.Nat.{ℕ, suc, _+_, _-_}
 use lib.Dec.{eqb}
-use lib.ListN.{length, take, drop, getD}
+use lib.ListN.{take, drop}
+use Rattle.scope.specs.Limits.{lineLimit}
 use Rattle.entries.specs.Entry.{entry}
 use Rattle.stream.specs.Lines.{lineEnd}
 
 -- so many bytes of a line are held: one more than a line may have, so that a line too long is still too long
 abbrev pub holdLimit : ℕ
-holdLimit = 4097
+holdLimit = lineLimit + 1
 
 -- the number of the line that is begun or comes next, and what is held of it
 pub record State : Type 0 where
@@ -80,27 +80,3 @@ part from end chunk = take (end - from) (drop from chunk)
 unfoldable pub plain : List ℕ → Bool
 plain [] = true
 plain (b ∷ t) = cond (eqb b lineEnd) false (plain t)
-
--- the first byte 10 from a place of a chunk on stands at r, or there is none and r is the chunk's end
-pub record LineEnd (chunk : List ℕ) (from r : ℕ) : Type 0 where
-  pub past : from ≤ r
-  pub within : r ≤ length chunk
-  pub before : plain (part from r chunk) ≡ true
-  pub there : r < length chunk → getD chunk r 0 ≡ lineEnd
-
--- so many bytes of the hold, n, are those before and a part of the chunk behind them
-pub record Keeps (chunk : List ℕ) (from end : ℕ) (hold : List ℕ) (held : ℕ) (holds : List ℕ) (n : ℕ) : Type 0 where
-  pub room : length holds ≡ holdLimit
-  pub within : n ≤ holdLimit
-  pub are : take n holds ≡ kept (take held hold) (part from end chunk)
-
--- bytes of a chunk are taken in, up to the end of a line or of the chunk: n bytes are held then, and the next one stands at `next`
-pub record Cuts (chunk : List ℕ) (from : ℕ) (hold : List ℕ) (held : ℕ) (holds : List ℕ) (n next : ℕ) (ends : Bool) : Type 0 where
-  pub room : length holds ≡ holdLimit
-  pub within : n ≤ holdLimit
-  pub past : from ≤ next
-  pub inside : next ≤ length chunk
-  pub goes : ends ≡ true → from < next
-  pub whole : ends ≡ false → next ≡ length chunk
-  pub leaves : (k : ℕ) → after (holding k (take held hold)) (part from next chunk) ≡ behind ends (holding k (take n holds))
-  pub puts : (k : ℕ) → put (holding k (take held hold)) (part from next chunk) ≡ ended ends (holding k (take n holds))

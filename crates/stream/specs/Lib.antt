@@ -1,6 +1,6 @@
 pub mod Lines
 pub mod Feeding
-pub mod Serving
+pub mod Promises
 pub mod Laws
 pub mod Whole
 pub mod Examples

@@ -5,12 +5,12 @@ use libc::STDIN_FILENO;
 use libc::STDOUT_FILENO;
 use scope::tables::Tables;
 ghost use mathlib.Core.Path.{_≡_};
-ghost use Prim.Native.Nat.{_+_, _-_, _<_, _≤_, min};
-ghost use lib.ListN.{length, take, drop};
+ghost use Prim.Native.Nat.{_+_, _≤_, min};
+ghost use lib.ListN.{length, take};
 ghost use Rattle.entries.specs.Entry.{entry, entryLimit, Printed};
 ghost use Rattle.reader.specs.ReadSays.{Clean};
-ghost use Rattle.stream.specs.Feeding.{holdLimit, holding, finished, LineEnd, Keeps, Cuts};
-ghost use Rattle.stream.specs.Serving.{numberLimit, readLimit, Ready, Fronts, Feeds, Drains, Turns};
+ghost use Rattle.stream.specs.Feeding.{holdLimit, holding, finished};
+ghost use Rattle.stream.specs.Promises.{LineEnd, Keeps, Cuts, numberLimit, readLimit, Ready, Fronts, Feeds, Drains, Turns};
 
 // So many bytes are read at once, at most; so many of a line are held, one more than a line may have; so many has the output, of which an entry takes
 // no more than the last.

@@ -4,7 +4,7 @@
 use std::hint::black_box;
 use std::time::{Duration, Instant};
 
-use compare::areas::{encode, tables_of_some_line};
+use compare::areas::{decode, encode, tables_of_some_line};
 use compare::floating::adversarial;
 use compare::generate::{Generator, Random};
 use compare::line::Line;
@@ -101,8 +101,9 @@ fn worst() -> Vec<(&'static str, Vec<u8>)> {
 }
 
 /// What the independent code makes of lent areas, with refusal 14 tried as the library tries it.
-fn line_of(bytes: &[u8], numbers: &[i64]) -> Vec<u8> {
-    tables_of_some_line(bytes, numbers).expect("tables of a line")
+fn tables<'a>(one: &'a Held) -> Line<'a> {
+    assert!(tables_of_some_line(&one.bytes, &one.numbers).is_some());
+    decode(&one.bytes, &one.numbers).expect("tables of a line")
 }
 
 struct Held<'a> {
@@ -144,26 +145,22 @@ fn measure(name: &str, lines: &[Vec<u8>]) {
     reading("read", &all);
     let all: Vec<&Held> = all.iter().collect();
     beside("verdict", &all, |one| proved::verdict(one.line).is_ok(), |one| reader::read(one.line).is_ok());
-    beside("write", &all, |one| proved::write(&one.bytes, &one.numbers, &mut out).is_ok(), |one| !line_of(&one.bytes, &one.numbers).is_empty());
+    beside("write", &all, |one| proved::write(&one.bytes, &one.numbers, &mut out).is_ok(), |one| tables_of_some_line(&one.bytes, &one.numbers).is_some());
     beside("counts", &all, |one| counts(one), |one| independent_counts(one));
     beside("total", &all, |one| proved::total(&one.bytes, &one.numbers).is_ok() == one.weighed, |one| {
-        let line = line_of(&one.bytes, &one.numbers);
-        masses::total(&reader::read(&line).unwrap()).is_ok() == one.weighed
+        masses::total(&tables(one)).is_ok() == one.weighed
     });
     beside("first", &placed, |one| proved::next(&one.bytes, &one.numbers, &mut Listing::FRESH.clone()).is_ok(), |one| {
-        let line = line_of(&one.bytes, &one.numbers);
-        first_placement(&floaters(&reader::read(&line).unwrap())).is_some()
+        first_placement(&floaters(&tables(one))).is_some()
     });
     beside("next", &placed, |one| {
         let mut listing = Listing { at: one.first.unwrap(), fresh: false };
         black_box(proved::next(&one.bytes, &one.numbers, &mut listing)).map_or(true, |()| true)
     }, |one| {
-        let line = line_of(&one.bytes, &one.numbers);
-        black_box(next_placement(&floaters(&reader::read(&line).unwrap()), &one.first.unwrap())).map_or(true, |_| true)
+        black_box(next_placement(&floaters(&tables(one)), &one.first.unwrap())).map_or(true, |_| true)
     });
     beside("ledger", &weighed, |one| proved::ledger(&one.bytes, &one.numbers, &one.first.unwrap(), &mut entries).is_ok(), |one| {
-        let line = line_of(&one.bytes, &one.numbers);
-        masses::ledger(&reader::read(&line).unwrap(), &one.first.unwrap()).is_ok()
+        masses::ledger(&tables(one), &one.first.unwrap()).is_ok()
     });
 }
 
@@ -175,8 +172,7 @@ fn counts(one: &Held) -> bool {
 fn independent_counts(one: &Held) -> bool {
     let count = [|held: &Line| held.residues.len(), |held: &Line| held.brackets.len(), |held: &Line| held.floaters()];
     count.iter().all(|count| {
-        let line = line_of(&one.bytes, &one.numbers);
-        black_box(count(&reader::read(&line).unwrap())) < 4096
+        black_box(count(&tables(one))) < 4096
     })
 }
 

@@ -4,3 +4,4 @@ pub mod Curly
 pub mod Facts
 pub mod Bare
 pub mod Areas
+pub mod Idle

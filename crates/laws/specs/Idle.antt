@@ -1,0 +1,109 @@
+-- A bracket that is no modification (only INFO, or a reference) strikes nothing out, floats nowhere and weighs nothing: with it or without it.
+use mathlib.Core.Path.{_≡_, refl, sym, ap, _∙_}
+use mathlib.Core.Bool.{Bool, true, false, not, cond, _&&_, _||_}
+use mathlib.Core.List.{List, [], _∷_, _++_, map}
+use Prim.Native.Nat.{ℕ}
+use lib.IntN.{pos, _*ℤ_}
+use lib.ListN.{length, replicate}
+use Rattle.scope.specs.declared.grammar.Key.the-variants.{Info}
+use Rattle.scope.specs.Line.{Bracket, Residue, Line}
+use Rattle.scope.specs.Content.{given}
+use Rattle.scope.specs.Refusals.{shared}
+use Rattle.scope.specs.Modifications.{keep, flat, among, onlyInfo, isReferring, isModification, copies, definedBy, referredBy, namesOf}
+use Rattle.scope.specs.Positions.{member, isPlaced, struckOut, floaters, between, referredAt, isUnlabelledUnknown, ownPosition, mayStand, positions, permitted, permittedPositions}
+use Rattle.scope.specs.Masses.{massOf, massOr0, sum, sumℕ, modifications, total, lacking, isLabile, labileMass}
+use Rattle.canonical_laws.specs.Lists.{flat-append, keep-append}
+
+-- ---- an element that is not kept, or gives nothing
+keep-without : {A : Type 0} (f : A → Bool) (l m : List A) (x : A) → f x ≡ false → keep f (l ++ (x ∷ m)) ≡ keep f (l ++ m)
+unfolding keep
+keep-without f l m x e =
+    keep-append f l (x ∷ m) ∙ ap (λ b. keep f l ++ (cond b (x ∷ []) [] ++ keep f m)) e ∙ sym (keep-append f l m)
+
+flat-without : {A B : Type 0} (f : A → List B) (l m : List A) (x : A) → f x ≡ [] → flat f (l ++ (x ∷ m)) ≡ flat f (l ++ m)
+unfolding flat
+flat-without f l m x e = flat-append f l (x ∷ m) ∙ ap (λ z. flat f l ++ (z ++ flat f m)) e ∙ sym (flat-append f l m)
+
+keep-alike : {A : Type 0} (f g : A → Bool) → ((x : A) → f x ≡ g x) → (l : List A) → keep f l ≡ keep g l
+unfolding keep
+keep-alike f g h [] = refl
+keep-alike f g h (x ∷ l) = ap (λ b. cond b (x ∷ []) [] ++ keep f l) (h x) ∙ ap (λ z. cond (g x) (x ∷ []) [] ++ z) (keep-alike f g h l)
+
+map-alike : {A B : Type 0} (f g : A → B) → ((x : A) → f x ≡ g x) → (l : List A) → map f l ≡ map g l
+map-alike f g h [] = refl
+map-alike f g h (x ∷ l) = ap (λ z. z ∷ map f l) (h x) ∙ ap (λ z. g x ∷ z) (map-alike f g h l)
+
+shared-none : (l : List (List ℕ)) → shared l [] ≡ false
+unfolding shared among
+shared-none [] = refl
+shared-none (x ∷ l) = shared-none l
+
+module _ {P : Type 0} (rs : List (Residue P)) (ks ls : List (Bracket P)) (k : Bracket P) where
+  -- the line with the bracket, and without it
+  abbrev withIt : Line P
+  withIt = record { residues = rs; brackets = ks ++ (k ∷ ls) }
+
+  abbrev withoutIt : Line P
+  withoutIt = record { residues = rs; brackets = ks ++ ls }
+
+  module _ (idle : isModification k ≡ false) where
+    pub strikes-nothing : struckOut (withIt .brackets) ≡ struckOut (withoutIt .brackets)
+    unfolding struckOut isPlaced
+    strikes-nothing = ap (map (λ b. b .first)) (keep-without isPlaced ks ls k (rw idle))
+
+    pub floats-nowhere : floaters withIt ≡ floaters withoutIt
+    unfolding floaters copies
+    floats-nowhere = flat-without (λ b. replicate (copies b) b) ks ls k (rw idle)
+
+    same-modifications : modifications withIt ≡ modifications withoutIt
+    same-modifications = keep-without isModification ks ls k idle
+
+    pub weighs-nothing : total withIt ≡ total withoutIt
+    unfolding total
+    weighs-nothing = ap (λ ms. sum (map (λ b. pos (b .count) *ℤ massOr0 b) ms)) same-modifications
+
+    pub lacks-nothing : lacking withIt ≡ lacking withoutIt
+    unfolding lacking
+    lacks-nothing = ap (λ ms. sumℕ (map (λ b. given (massOf b) (λ m. 0) (b .count)) ms)) same-modifications
+
+    pub no-labile-mass : labileMass withIt ≡ labileMass withoutIt
+    unfolding labileMass
+    no-labile-mass = ap (λ ms. sum (map massOr0 (keep (λ b. isLabile (b .kind)) ms))) same-modifications
+
+  -- "A bracket with only INFO is no modification"
+  pub info-is-idle : onlyInfo k ≡ true → isModification k ≡ false
+  info-is-idle e = rw e
+
+  pub reference-is-idle : isReferring k ≡ true → isModification k ≡ false
+  reference-is-idle e = go (onlyInfo k) (isReferring k) e
+    where
+      go : (a b : Bool) → b ≡ true → (not a && not b) ≡ false
+      go true b q = refl
+      go false b q = rw q
+
+  -- no label is referred to by a bracket that is no reference
+  referred-without : (d : Bracket P) (x : ℕ) → isReferring k ≡ false → (l : List (Bracket P)) → referredAt d x (l ++ (k ∷ ls)) ≡ referredAt d x (l ++ ls)
+  unfolding referredAt
+  referred-without d x e [] =
+      ap (λ b. shared (definedBy d) (cond b (namesOf k) []) && between (k .first) (k .last) x || referredAt d x ls) e
+      ∙ ap (λ b. b && between (k .first) (k .last) x || referredAt d x ls) (shared-none (definedBy d))
+  referred-without d x e (r ∷ l) =
+      ap (λ b. shared (definedBy d) (referredBy r) && between (r .first) (r .last) x || b) (referred-without d x e l)
+
+  may-stand-without : (d : Bracket P) (x : ℕ) → isReferring k ≡ false → mayStand withIt d x ≡ mayStand withoutIt d x
+  unfolding mayStand
+  may-stand-without d x e =
+      ap (λ b. cond (isUnlabelledUnknown d (d .kind)) (between 1 (length rs) x) (ownPosition d x (d .kind) || b)) (referred-without d x e ks)
+
+  permitted-without : isModification k ≡ false → isReferring k ≡ false → (d : Bracket P) → permitted withIt d ≡ permitted withoutIt d
+  unfolding permitted
+  permitted-without idle e d =
+      keep-alike (λ x. mayStand withIt d x && not (member x (struckOut (ks ++ (k ∷ ls))))) (λ x. mayStand withoutIt d x && not (member x (struckOut (ks ++ ls))))
+      (λ x. ap (λ b. b && not (member x (struckOut (ks ++ (k ∷ ls))))) (may-stand-without d x e) ∙ ap (λ l. mayStand withoutIt d x && not (member x l)) (strikes-nothing idle))
+      (positions withIt)
+
+  -- so it blocks nothing: the floaters have the positions that they have without it
+  pub info-blocks-nothing : onlyInfo k ≡ true → isReferring k ≡ false → permittedPositions withIt ≡ permittedPositions withoutIt
+  info-blocks-nothing e f =
+      ap (map (permitted withIt)) (floats-nowhere (info-is-idle e))
+      ∙ map-alike (permitted withIt) (permitted withoutIt) (permitted-without (info-is-idle e) f) (floaters withoutIt)

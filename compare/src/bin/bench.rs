@@ -1,7 +1,10 @@
 //! How long the calls of the proved library take, beside the independent code doing the same, in one run:
-//! `cargo run --release --bin bench` (after `rt staticlib export`).
+//! `cargo run --release --bins && ../target/compare/release/bench` (after `rt staticlib export` and `rt check register`).
 
+use std::fs::File;
 use std::hint::black_box;
+use std::path::Path;
+use std::process::{Command, Stdio};
 use std::time::{Duration, Instant};
 
 use compare::areas::{decode, encode, tables_of_some_line};
@@ -20,7 +23,7 @@ const CALLS: usize = 1_000;
 const ROUNDS: usize = 40;
 
 fn main() {
-    measure("typical", &typical());
+    measure("typical", &typical(LINES));
     measure("mixed", &mixed());
     let worst = worst();
     let lines: Vec<Vec<u8>> = worst.iter().map(|(_, line)| line.clone()).collect();
@@ -30,13 +33,14 @@ fn main() {
         reading(name, &held(std::slice::from_ref(line)));
     }
     requests();
+    program();
 }
 
 /// 7 to 40 residues with up to four modifications of the usual sorts.
-fn typical() -> Vec<Vec<u8>> {
+fn typical(count: usize) -> Vec<Vec<u8>> {
     let mut random = Random::new(1);
     let mut lines = Vec::new();
-    while lines.len() < LINES {
+    while lines.len() < count {
         let n = random.between(7, 40);
         let mut after = vec![String::new(); n];
         let (mut before, mut behind) = (String::new(), String::new());
@@ -225,4 +229,27 @@ fn requests() {
     }
     let (time, line) = worst;
     println!("slowest request on adversarial lines: {} ns, on {}", time.as_nanos(), &line[..line.len().min(60)]);
+}
+
+/// The whole program on 300,000 typical lines, from a file to nowhere, beside the independent one: the quickest of five runs each.
+fn program() {
+    let lines = typical(300_000);
+    let input: Vec<u8> = lines.iter().flat_map(|line| line.iter().copied().chain([b'\n'])).collect();
+    let file = std::env::temp_dir().join(format!("hwemiduk-bench-{}", std::process::id()));
+    std::fs::write(&file, &input).expect("room for the input");
+    let ours = Path::new(env!("CARGO_MANIFEST_DIR")).join("../target/bin/register");
+    let theirs = std::env::current_exe().expect("a path").with_file_name("register");
+    let mut quickest = [Duration::MAX; 2];
+    for _ in 0..5 {
+        for (program, time) in [&ours, &theirs].into_iter().zip(&mut quickest) {
+            let start = Instant::now();
+            let run = Command::new(program).stdin(File::open(&file).expect("the input")).stdout(Stdio::null()).status();
+            assert!(run.is_ok_and(|status| status.success()), "{} must be built", program.display());
+            *time = (*time).min(start.elapsed());
+        }
+    }
+    std::fs::remove_file(&file).expect("the input");
+    let [proved, independent] = quickest.map(|time| time.as_nanos() as f64 / lines.len() as f64);
+    let rate = input.len() as f64 / lines.len() as f64 / proved * 1e3;
+    println!("the register program on 300,000 typical lines: {proved:.0} ns per line, {rate:.1} MB/s; independent {independent:.0} ns, ratio {:.2}", proved / independent);
 }

@@ -10,3 +10,4 @@ pub mod HeldLaws
 pub mod FillLaws
 pub mod BracketLaws
 pub mod WholeLaws
+pub mod RunLaws

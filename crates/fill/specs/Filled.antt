@@ -11,7 +11,7 @@ use Rattle.scope.specs.declared.grammar.Section.{Section}
 use Rattle.scope.specs.declared.grammar.Kind.{Kind}
 use Rattle.scope.specs.declared.grammar.Kind.the-variants.{Unknown, Labile, NTerm, OnResidue, OnRange, CTerm}
 use Rattle.scope.specs.declared.grammar.Mode.{Mode}
-use Rattle.scope.specs.declared.grammar.Mode.the-variants.{Front}
+use Rattle.scope.specs.declared.grammar.Mode.the-variants.{Front, Single}
 use Rattle.scope.specs.declared.grammar.Slot.{Slot}
 use Rattle.scope.specs.Bytes.{upper}
 use Rattle.scope.specs.Line.{Bracket, Line}
@@ -106,6 +106,20 @@ pub record SomeOpened (line : List ℕ) (s : Progress) (slot : Slot) (next : ℕ
 pub record FilledOn (line : List ℕ) (l : Line ℕ) (old : List ℕ) (oldNumbers : List ℤ) (at : ℕ) (r : Progress) (bytes : List ℕ) (numbers : List ℤ) : Type 0 where
   pub filling : Filling line l old oldNumbers r bytes numbers
   pub past : at < r .at
+
+-- behind a residue by itself
+pub record SomeRun (line : List ℕ) (s : Progress) (bytes : List ℕ) : Type 0 where
+  pub mode : s .mode ≡ Single
+  pub holds-line : Line ℕ
+  pub old : List ℕ
+  pub numbers : List ℤ
+  pub old-numbers : List ℤ
+  pub filling : Filling line holds-line old old-numbers s bytes numbers
+
+-- some residues on, or none
+pub record RunOn (line : List ℕ) (s : Progress) (bytes : List ℕ) (r : Progress) (bytes′ : List ℕ) : Type 0 where
+  pub fills : {l : Line ℕ} {old : List ℕ} {numbers oldNumbers : List ℤ} → Filling line l old oldNumbers s bytes numbers → Filling line l old oldNumbers r bytes′ numbers
+  pub not-back : s .at ≤ r .at
 
 -- ---- the steps outside brackets
 abbrev pub moved : Progress → ℕ → Mode → Progress

@@ -27,7 +27,7 @@ ghost use Rattle.scope.specs.Line.{Line};
 ghost use Rattle.scope.specs.Bytes.{upper};
 ghost use Rattle.scope.specs.Reading.{firstOf, firstPosition, lastPosition};
 ghost use Rattle.scope.specs.Refusals.{outcome, accepted};
-ghost use Rattle.fill.specs.Filled.{SomeFilling, Filling, SomeOpened, Opened, FilledOn, moved, grown, runOver, countedTo, marked, runAfter, countAfter, DigitFits, nextCount, countPut, TermsFit, Fills, FilledAll, fresh};
+ghost use Rattle.fill.specs.Filled.{SomeFilling, Filling, SomeOpened, Opened, FilledOn, SomeRun, RunOn, moved, grown, runOver, countedTo, marked, runAfter, countAfter, DigitFits, nextCount, countPut, TermsFit, Fills, FilledAll, fresh};
 ghost use Rattle.fill.specs.Areas.{Before, Laid, CloseFits, HeadPut, PutSays};
 ghost use Rattle.fill.specs.Found.{Copies, codeOf, decimalsOf, massOf, fromOf, toOf, offsetOf, PutsPart, PartPut, FewDecimals, scoreCodeOf, scoreMassOf, codeAfter, massAfter, scoreFound};
 
@@ -816,6 +816,37 @@ fn one_step(line: &[u8], bytes: &mut [u8], numbers: &mut [i64], s: Progress) -> 
     }
 }
 
+// Residues by themselves, one behind another, as far as they go.
+fn residue_run(line: &[u8], bytes: &mut [u8], s: Progress) -> Progress
+    requires { ⌜ SomeRun (now line) s (now bytes) ⌝ }
+    ensures { λ r. ⌜ RunOn (now (line .entry)) s (now (bytes .entry)) r (now (bytes .exit)) ⌝ }
+{
+    let mut r = s;
+    while r.at < line.len() {
+        let at = r.at;
+        let b = line[at];
+        if classes::is_letter(b) {
+            r = put_residue(bytes, r, at + 1, b, Section::Plain, Mode::Single);
+        } else {
+            return r;
+        }
+    }
+    r
+}
+
+// One step, and the residues by themselves behind it.
+fn step_on(line: &[u8], bytes: &mut [u8], numbers: &mut [i64], s: Progress) -> Progress
+    requires { ⌜ SomeFilling (now line) s (now bytes) (now numbers) ⌝ }
+    ensures { λ r. ⌜ ((l : Line ℕ) (old : List ℕ) (oldNumbers : List ℤ) → Filling (now (line .entry)) l old oldNumbers s (now (bytes .entry)) (now (numbers .entry)) → FilledOn (now (line .entry)) l old oldNumbers (s .at) r (now (bytes .exit)) (now (numbers .exit))) ⌝ }
+{
+    let r = one_step(line, bytes, numbers, s);
+    let mode = r.mode;
+    let Mode::Single = mode else {
+        return r;
+    };
+    residue_run(line, bytes, r)
+}
+
 // Nothing is read yet.
 fn begin() -> Progress
     ensures { λ r. ⌜ r ≡ fresh ⌝ }
@@ -839,7 +870,7 @@ pub fn fill(line: &[u8], bytes: &mut [u8], numbers: &mut [i64])
 {
     let mut s = begin();
     while s.at < line.len() {
-        s = one_step(line, bytes, numbers, s);
+        s = step_on(line, bytes, numbers, s);
     }
     bytes[0] = s.residues as u8;
     bytes[1] = s.brackets as u8;

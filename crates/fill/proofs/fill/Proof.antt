@@ -9,7 +9,7 @@ use Rattle.fill.proofs.fill.Tie as tie
 use Rattle.fill.proofs.fill.Reads as reads
 use Rattle.fill.proofs.fill.Lts as lts
 use Rattle.fill.proofs.begin.Reads as begin-reads
-use Rattle.fill.proofs.one_step.Reads as one-step-reads
+use Rattle.fill.proofs.step_on.Reads as step-on-reads
 
 abbrev Inv-loop : tie.InvT-loop
 Inv-loop line bytes₀ numbers₀ s₀ bytes numbers s = Looping line bytes₀ numbers₀ s bytes numbers
@@ -23,8 +23,8 @@ begin-requires c κs = search needs
 loop-holds : tie.Need-loop-holds Inv-loop μ-loop
 loop-holds c = looping-start (c .before .before .before .pre) (c .begin .ensures)
 
-one-step-requires : tie.Need-one-step-requires Inv-loop μ-loop
-one-step-requires c κs =
+step-on-requires : tie.Need-step-on-requires Inv-loop μ-loop
+step-on-requires c κs =
     let l = c .before .before .before .before in
     let s = l .before .before .before .before in
     some-filling (s .pre) (l .loop .inv) (c .before .before .if1 .taken)
@@ -34,14 +34,14 @@ loop-less c =
     let l = c .before .before .before .before .before .before .before .before in
     let s = l .before .before .before .before in
     let r = c .before .before .before in
-    omega (arith, on-past (s .pre) (l .loop .inv) (r .one-step .ensures), r .before .before .before .if1 .taken)
+    omega (arith, on-past (s .pre) (l .loop .inv) (r .step-on .ensures), r .before .before .before .if1 .taken)
 
 loop-again : tie.Need-loop-again Inv-loop μ-loop
 loop-again c =
     let l = c .before .before .before .before .before .before .before .before in
     let s = l .before .before .before .before in
     let r = c .before .before .before in
-    looping-next (s .pre) (l .loop .inv) (r .one-step .ensures) (r .one-step .kept .1 .0) (r .one-step .kept .1 .1 .0)
+    looping-next (s .pre) (l .loop .inv) (r .step-on .ensures) (r .step-on .kept .1 .0) (r .step-on .kept .1 .1 .0)
 
 cast-bytes : tie.Need-cast-bytes Inv-loop μ-loop
 cast-bytes c =
@@ -93,7 +93,7 @@ fill-spec =
     μ-loop
     begin-requires
     loop-holds
-    one-step-requires
+    step-on-requires
     loop-less
     loop-again
     cast-bytes

@@ -1,0 +1,60 @@
+-- Residues by themselves, one behind another.
+use mathlib.Core.Path.{_≡_, refl, sym, ap, _∙_}
+use mathlib.Core.Bool.{true, false, false≢true}
+use mathlib.Core.List.{List}
+use Prim.Native.Nat.{ℕ, _+_, _≤_, _<_}
+use native.Mathlib.Omega.{arith}
+use lib.Dec.{eqb}
+use lib.IntN.{ℤ}
+use lib.ListN.{length, getD, set}
+use borrow.Author.Tests.{eqb-true}
+use Rattle.basics.specs.Choice.{by-test}
+use Rattle.scope.specs.declared.grammar.Section.the-variants.{Plain}
+use Rattle.scope.specs.declared.grammar.Mode.the-variants.{Single}
+use Rattle.scope.specs.declared.grammar.Act.the-variants.{Residue as aResidue}
+use Rattle.scope.specs.Bytes.{upper, isLetter, openSquare, dash}
+use Rattle.scope.specs.Line.{Line}
+use Rattle.scope.specs.Reading.{element, further, act}
+use Rattle.fill.specs.declared.Progress.{Progress}
+use Rattle.fill.specs.Filled.{Filling, FilledOn, SomeRun, RunOn, grown}
+use Rattle.fill.proofs.FillLaws.{residue-fits, grows}
+use Rattle.fill.proofs.BracketLaws.{progress-is}
+
+no-letter : (b k : ℕ) → isLetter k ≡ false → isLetter b ≡ true → eqb b k ≡ false
+no-letter b k f e = by-test (eqb b k) (λ t. absurd (false≢true (sym f ∙ ap isLetter (sym (eqb-true b k t)) ∙ e))) (λ t. t)
+
+-- a letter behind a residue by itself is another
+pub single-letter : (b : ℕ) → isLetter b ≡ true → act Single b ≡ aResidue Plain Single
+unfolding act further element
+single-letter b e = rw (no-letter b openSquare refl e, no-letter b dash refl e, e)
+
+-- ---- the loop
+pub record Running (line : List ℕ) (s : Progress) (bytes₀ : List ℕ) (r : Progress) (bytes : List ℕ) : Type 0 where
+  pub mode : r .mode ≡ Single
+  pub on : RunOn line s bytes₀ r bytes
+  pub long : length bytes ≡ length bytes₀
+
+pub running-start : {line bytes : List ℕ} {s : Progress} → s .mode ≡ Single → Running line s bytes s bytes
+running-start e = record { mode = e; on = record { fills = λ w. w; not-back = omega arith }; long = refl }
+
+module _ {line bytes₀ : List ℕ} {s r : Progress} {bytes : List ℕ} (w : Running line s bytes₀ r bytes) (more : r .at < length line)
+    (letter : isLetter (getD line (r .at) 0) ≡ true) where
+  acts : act (r .mode) (getD line (r .at) 0) ≡ aResidue Plain Single
+  acts = ap (λ m. act m (getD line (r .at) 0)) (w .mode) ∙ single-letter _ letter
+
+  pub run-fits : SomeRun line s bytes₀ → (r .residues < 254) × (6782 ≤ length bytes)
+  run-fits f = residue-fits (w .on .fills (f .filling)) more _ refl _ _ acts
+
+  pub running-next : {q : Progress} {bytes′ : List ℕ} → q ≡ grown r (r .at + 1) Plain Single
+      → bytes′ ≡ set (set bytes (2 + r .residues) (upper (getD line (r .at) 0))) (256 + r .residues) 0 → length bytes′ ≡ length bytes → Running line s bytes₀ q bytes′
+  running-next e f n =
+      record {
+        mode = ap (λ x. x .mode) e;
+        on = record { fills = λ v. progress-is e (grows (w .on .fills v) more _ refl _ _ acts f) .filling; not-back = omega (arith, w .on .not-back, ap (λ x. x .at) e) };
+        long = n ∙ w .long;
+      }
+
+-- ---- behind a step
+pub run-behind : {line : List ℕ} {l : Line ℕ} {old : List ℕ} {oldNumbers : List ℤ} {at : ℕ} {s r : Progress} {bytes bytes′ : List ℕ} {numbers : List ℤ}
+    → FilledOn line l old oldNumbers at s bytes numbers → RunOn line s bytes r bytes′ → FilledOn line l old oldNumbers at r bytes′ numbers
+run-behind f g = record { filling = g .fills (f .filling); past = omega (arith, f .past, g .not-back) }

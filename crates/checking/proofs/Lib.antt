@@ -4,5 +4,6 @@ pub mod Rows
 pub mod Dues
 pub mod Counts
 pub mod Further
+pub mod Singles
 pub mod OneBracket
 pub mod OneCount

@@ -1,6 +1,6 @@
 -- How far a line is checked, and what is known there.
 use mathlib.Core.Path.{_≡_}
-use mathlib.Core.Bool.{cond}
+use mathlib.Core.Bool.{true, cond}
 use mathlib.Core.Option.{none}
 use mathlib.Core.List.{List, [], _∷_, _++_, map}
 use Prim.Native.Nat.{ℕ, _+_, _-_, _*_, _≤_, _<_}
@@ -14,8 +14,8 @@ use Rattle.scope.specs.declared.grammar.Mode.the-variants.{Front, Undecided, Co
 use Rattle.scope.specs.declared.grammar.Slot.{Slot}
 use Rattle.scope.specs.declared.grammar.Act.{Act}
 use Rattle.scope.specs.declared.grammar.Act.the-variants.{Begin}
-use Rattle.scope.specs.Bytes.{isDigit}
-use Rattle.scope.specs.Limits.{bracketLimit, partLimit, lineLimit}
+use Rattle.scope.specs.Bytes.{isLetter, isDigit}
+use Rattle.scope.specs.Limits.{residueLimit, bracketLimit, partLimit, lineLimit}
 use Rattle.scope.specs.Line.{Bracket, Residue}
 use Rattle.scope.specs.Modifications.{flat, namesOf}
 use Rattle.scope.specs.Reading.{Held, act, asNTerm, outside, stuck, reading}
@@ -110,6 +110,16 @@ pub record Does (line : List ℕ) (s : Stage) (a : Act) (notes labels : List ℕ
   pub here : s .at < length line
   pub short : length line ≤ lineLimit
   pub does : act (s .mode) (getD line (s .at) 0) ≡ a
+
+-- a letter stands here, and no limit is passed with one residue more
+pub record OneMore (line : List ℕ) (at residues : ℕ) : Type 0 where
+  pub here : at < length line
+  pub few : residues < residueLimit
+  pub letter : isLetter (getD line at 0) ≡ true
+
+-- what is known at a stage gives what is known at another, no less far
+abbrev pub Leads : List ℕ → Stage → Stage → Type 0
+Leads line s t = (notes labels : List ℕ) → length line ≤ lineLimit → Upto line s notes labels → Upto line t notes labels × (s .at ≤ t .at)
 
 -- the bracket at hand is read
 pub record Behind (line : List ℕ) (s : Stage) (slot : Slot) (b : Bracketed) (notes labels labels′ : List ℕ) : Type 0 where

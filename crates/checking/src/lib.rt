@@ -1,6 +1,7 @@
 // A line, checked: refusal 4, and what refusals 5 to 12 ask for.
 use bracketed::BracketAt;
 use bracketed::Bracketed;
+use classes::is_letter;
 use marks::Marks;
 use scope::grammar::Act;
 use scope::grammar::Kind;
@@ -8,7 +9,7 @@ use scope::grammar::Mode;
 use scope::grammar::Slot;
 use scope::tables::Tables;
 ghost use mathlib.Core.Path.{_≡_};
-ghost use mathlib.Core.Bool.{_||_};
+ghost use mathlib.Core.Bool.{true, _||_};
 ghost use mathlib.Core.List.{List, [], _∷_};
 ghost use Prim.Native.Nat.{ℕ, _+_, _*_, _<_, _≤_, _^_};
 ghost use lib.Dec.{eqb, ltb};
@@ -21,7 +22,7 @@ ghost use Rattle.scope.specs.Refusals.{dueAt};
 ghost use Rattle.marks.specs.Marks.{Dues, MarksAre};
 ghost use Rattle.notes.specs.Notes.{noteSize, notesRoom, labelsRoom};
 ghost use Rattle.checking.specs.Check.{CheckSays};
-ghost use Rattle.checking.specs.Stages.{withOver, withWide, Upto, Low, Does, Behind, StepSays, modeBehind, firstBehind, RowFits, RowPut, CountPut, Settled, SettledWhere};
+ghost use Rattle.checking.specs.Stages.{withOver, withWide, Upto, Low, Does, OneMore, Leads, Behind, StepSays, modeBehind, firstBehind, RowFits, RowPut, CountPut, Settled, SettledWhere};
 
 // What is due, and the number of brackets noted.
 pub struct Checked {
@@ -120,6 +121,51 @@ fn residue_read(s: Stage, mode: Mode) -> Stage
         labels: s.labels,
         marks,
     }
+}
+
+// Whether a letter stands here, and no limit is passed with one residue more.
+fn one_more(line: &[u8], at: usize, residues: usize) -> bool
+    ensures { λ r. ⌜ (r ≡ true → OneMore (now (line .entry)) at residues) ⌝ }
+{
+    if at < line.len() {
+        if residues < Tables::RESIDUES {
+            return is_letter(line[at]);
+        }
+    }
+    false
+}
+
+// Residues by themselves, one behind another, up to the limit.
+fn residue_run(line: &[u8], s: Stage) -> Stage
+    ensures { λ r. ⌜ (s .mode ≡ Mode.Single → Leads (now (line .entry)) s r) ⌝ }
+{
+    let mut at = s.at;
+    let mut residues = s.residues;
+    while one_more(line, at, residues) {
+        at += 1;
+        residues += 1;
+    }
+    let marks = s.marks;
+    Stage {
+        at,
+        mode: Mode::Single,
+        residues,
+        brackets: s.brackets,
+        first: s.first,
+        labels: s.labels,
+        marks,
+    }
+}
+
+// Those behind a residue, where it stands by itself.
+fn run_behind(line: &[u8], s: Stage) -> Stage
+    ensures { λ r. ⌜ Leads (now (line .entry)) s r ⌝ }
+{
+    let mode = s.mode;
+    if let Mode::Single = mode {
+        return residue_run(line, s);
+    }
+    s
 }
 
 // `?`: the brackets at the front are a run of unknown position.
@@ -348,7 +394,7 @@ fn step_from(line: &[u8], notes: &mut [u16], labels: &mut [u16], s: Stage) -> St
     match act {
         Act::Stop => Step::Stuck(at),
         Act::Go(m) => Step::More(gone(s, m)),
-        Act::Residue(_, m) => Step::More(residue_read(s, m)),
+        Act::Residue(_, m) => Step::More(run_behind(line, residue_read(s, m))),
         Act::Begin(slot) => bracket_read(line, notes, labels, s, slot),
         Act::Digit => Step::More(count_read(line, notes, s)),
         Act::RunEnds => Step::More(run_ended(s)),

@@ -1,3 +1,4 @@
+use native.Mathlib.Omega.{arith}
 use Rattle.checking.proofs.Further.{low, stopped, does-this}
 use borrow.Author.Needs.{needs}
 use Rattle.checking.proofs.step_from.Statement.{statement}
@@ -23,6 +24,9 @@ enum-known-act-2 c = search needs
 
 residue-read-requires : tie.Need-residue-read-requires
 residue-read-requires c κs = low _ _ _ _ _ (does-this _ _ _ _ (c .before .before .before .before .before .before .before .before .pre .0) (c .before .before .before .before .before .before .before .before .pre .1) (c .before .before .before .before .before .before .before .before .pre .2) _ _ (c .before .before .before .act-of .ensures) (c .before .act2 .given .1))
+
+run-behind-requires : tie.Need-run-behind-requires
+run-behind-requires c κs = search needs
 
 enum-known-act-3 : tie.Need-enum-known-act-3
 enum-known-act-3 c = search needs
@@ -55,7 +59,12 @@ returns-2 : tie.Need-returns-2
 returns-2 c = c .gone .ensures _ _ _ (does-this _ _ _ _ (c .before .before .before .before .before .before .before .before .before .pre .0) (c .before .before .before .before .before .before .before .before .before .pre .1) (c .before .before .before .before .before .before .before .before .before .pre .2) _ _ (c .before .before .before .before .act-of .ensures) (c .before .before .act .given .1))
 
 returns-3 : tie.Need-returns-3
-returns-3 c = c .residue-read .ensures _ _ _ _ (does-this _ _ _ _ (c .before .before .before .before .before .before .before .before .before .pre .0) (c .before .before .before .before .before .before .before .before .before .pre .1) (c .before .before .before .before .before .before .before .before .before .pre .2) _ _ (c .before .before .before .before .act-of .ensures) (c .before .before .act2 .given .1))
+returns-3 c =
+    let r = c .before in
+    let s = r .before .before .before .before .before .before .before .before .before in
+    let u = r .residue-read .ensures _ _ _ _ (does-this _ _ _ _ (s .pre .0) (s .pre .1) (s .pre .2) _ _ (r .before .before .before .before .act-of .ensures) (r .before .before .act2 .given .1)) in
+    let v = c .run-behind .ensures _ _ (s .pre .0) (u .0) in
+    (v .0, omega (arith, u .1, v .1))
 
 same-length : tie.Need-same-length
 same-length c = search needs
@@ -92,6 +101,7 @@ step-from-spec =
     gone-requires
     enum-known-act-2
     residue-read-requires
+    run-behind-requires
     enum-known-act-3
     bracket-read-requires
     enum-told-2

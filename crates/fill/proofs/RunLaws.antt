@@ -1,32 +1,22 @@
 -- Residues by themselves, one behind another.
 use mathlib.Core.Path.{_≡_, refl, sym, ap, _∙_}
-use mathlib.Core.Bool.{true, false, false≢true}
+use mathlib.Core.Bool.{true}
 use mathlib.Core.List.{List}
 use Prim.Native.Nat.{ℕ, _+_, _≤_, _<_}
 use native.Mathlib.Omega.{arith}
-use lib.Dec.{eqb}
 use lib.IntN.{ℤ}
 use lib.ListN.{length, getD, set}
-use borrow.Author.Tests.{eqb-true}
-use Rattle.basics.specs.Choice.{by-test}
 use Rattle.scope.specs.declared.grammar.Section.the-variants.{Plain}
 use Rattle.scope.specs.declared.grammar.Mode.the-variants.{Single}
 use Rattle.scope.specs.declared.grammar.Act.the-variants.{Residue as aResidue}
-use Rattle.scope.specs.Bytes.{upper, isLetter, openSquare, dash}
+use Rattle.scope.specs.Bytes.{upper, isLetter}
 use Rattle.scope.specs.Line.{Line}
-use Rattle.scope.specs.Reading.{element, further, act}
+use Rattle.scope.specs.Reading.{act}
+use Rattle.order.specs.Letters.{single-letter}
 use Rattle.fill.specs.declared.Progress.{Progress}
 use Rattle.fill.specs.Filled.{Filling, FilledOn, SomeRun, RunOn, grown}
 use Rattle.fill.proofs.FillLaws.{residue-fits, grows}
 use Rattle.fill.proofs.BracketLaws.{progress-is}
-
-no-letter : (b k : ℕ) → isLetter k ≡ false → isLetter b ≡ true → eqb b k ≡ false
-no-letter b k f e = by-test (eqb b k) (λ t. absurd (false≢true (sym f ∙ ap isLetter (sym (eqb-true b k t)) ∙ e))) (λ t. t)
-
--- a letter behind a residue by itself is another
-pub single-letter : (b : ℕ) → isLetter b ≡ true → act Single b ≡ aResidue Plain Single
-unfolding act further element
-single-letter b e = rw (no-letter b openSquare refl e, no-letter b dash refl e, e)
 
 -- ---- the loop
 pub record Running (line : List ℕ) (s : Progress) (bytes₀ : List ℕ) (r : Progress) (bytes : List ℕ) : Type 0 where

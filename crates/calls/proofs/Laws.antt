@@ -1,10 +1,10 @@
 -- From the refusals that every call tries to its answer.
 use mathlib.Core.Path.{_≡_, refl, sym, ap, _∙_, subst}
-use mathlib.Core.Bool.{Bool, true, false, cond, _||_}
+use mathlib.Core.Bool.{Bool, true, false, cond, _||_, true≢false}
 use mathlib.Core.List.{List}
 use Prim.Native.Nat.{ℕ, _<_, _≤_}
 use native.Mathlib.Omega.{arith}
-use borrow.Author.Tests.{lt-ltb, le-ltb, ne-eqb}
+use borrow.Author.Tests.{lt-ltb, le-ltb, ltb-false, ne-eqb}
 use lib.Dec.{ltb, eqb}
 use lib.IntN.{ℤ}
 use lib.ListN.{length}
@@ -22,23 +22,27 @@ use Rattle.masses.specs.Weights.{weightOf, saysWeight, weight-said}
 use Rattle.calls.specs.Held.{whyNot, Held}
 
 -- ---- 13 and 14
-pub short-bytes : (bs : List ℕ) (ns : List ℤ) → length bs < bytesSize → whyNot bs ns ≡ 13
-unfolding whyNot
+pub short-bytes : (bs : List ℕ) (ns : List ℤ) → length bs < bytesSize → true ≡ tooShort bs ns
 short-bytes bs ns h = rw (lt-ltb (length bs) bytesSize h)
 
-pub short-numbers : (bs : List ℕ) (ns : List ℤ) → bytesSize ≤ length bs → length ns < numbersSize → whyNot bs ns ≡ 13
+pub long-bytes : (bs : List ℕ) (ns : List ℤ) → bytesSize ≤ length bs → ltb (length ns) numbersSize ≡ tooShort bs ns
+long-bytes bs ns h = rw (le-ltb (length bs) bytesSize h)
+
+-- areas that are long enough
+pub roomy : (bs : List ℕ) (ns : List ℤ) {r : Bool} → r ≡ tooShort bs ns → r ≡ false → (bytesSize ≤ length bs) × (numbersSize ≤ length ns)
+roomy bs ns {r} e f = go (ltb (length bs) bytesSize) (ltb (length ns) numbersSize) (ltb-false (length bs) bytesSize) (ltb-false (length ns) numbersSize) (sym e ∙ f)
+  where
+    go : (a b : Bool) → (a ≡ false → bytesSize ≤ length bs) → (b ≡ false → numbersSize ≤ length ns) → (a || b) ≡ false → (bytesSize ≤ length bs) × (numbersSize ≤ length ns)
+    go true b f g q = absurd (true≢false q)
+    go false b f g q = (f refl, g q)
+
+pub tried-short : (bs : List ℕ) (ns : List ℤ) {r : Bool} → r ≡ tooShort bs ns → r ≡ true → whyNot bs ns ≡ 13
 unfolding whyNot
-short-numbers bs ns k h = rw (le-ltb (length bs) bytesSize k, lt-ltb (length ns) numbersSize h)
+tried-short bs ns {r} e y = ap (λ b. cond b 13 (cond (areTables bs ns) 0 14)) (sym e ∙ y)
 
-pub tried : (bs : List ℕ) (ns : List ℤ) → bytesSize ≤ length bs → numbersSize ≤ length ns → whyNot bs ns ≡ cond (areTables bs ns) 0 14
+pub tried : (bs : List ℕ) (ns : List ℤ) {r t : Bool} → r ≡ tooShort bs ns → r ≡ false → t ≡ areTables bs ns → whyNot bs ns ≡ cond t 0 14
 unfolding whyNot
-tried bs ns k h = rw (le-ltb (length bs) bytesSize k, le-ltb (length ns) numbersSize h)
-
-pub tried-yes : (bs : List ℕ) (ns : List ℤ) {r : Bool} → bytesSize ≤ length bs → numbersSize ≤ length ns → r ≡ areTables bs ns → r ≡ true → whyNot bs ns ≡ 0
-tried-yes bs ns {r} k h e y = tried bs ns k h ∙ ap (λ b. cond b 0 14) (sym e ∙ y)
-
-pub tried-no : (bs : List ℕ) (ns : List ℤ) {r : Bool} → bytesSize ≤ length bs → numbersSize ≤ length ns → r ≡ areTables bs ns → r ≡ false → whyNot bs ns ≡ 14
-tried-no bs ns {r} k h e y = tried bs ns k h ∙ ap (λ b. cond b 0 14) (sym e ∙ y)
+tried bs ns {r} {t} e f g = ap (λ b. cond b 13 (cond (areTables bs ns) 0 14)) (sym e ∙ f) ∙ ap (λ b. cond b 0 14) (sym g)
 
 -- the number of the refusal that is due
 abbrev numberOf : Bool → Bool → ℕ

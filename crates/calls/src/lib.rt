@@ -24,19 +24,26 @@ ghost use Rattle.scope.specs.Limits.{copyLimit, rowLimit};
 ghost use Rattle.scope.specs.Positions.{floaters, permittedPositions};
 ghost use Rattle.scope.specs.Placements.{allowed, requested};
 ghost use Rattle.areas.specs.Bounds.{Bounds};
-ghost use Rattle.scope.specs.Answers.{saysRequest, saysBooked, allows, requests, listingAfter, books, entries, saysCount, saysTotal, saysShown, areTables, counts, residueCount, bracketCount, floaterCount, totals, shows};
+ghost use Rattle.scope.specs.Answers.{saysRequest, saysBooked, allows, requests, listingAfter, books, entries, saysCount, saysTotal, saysShown, tooShort, areTables, counts, residueCount, bracketCount, floaterCount, totals, shows};
 ghost use Rattle.calls.specs.Held.{whyNot};
 ghost use Rattle.calls.specs.Rows.{RowsReady};
 ghost use Rattle.calls.specs.Writing.{WriteSays};
+
+// "a lent area is shorter than its fixed size"
+fn too_short(bytes: &[u8], numbers: &[i64]) -> bool
+    ensures { λ r. ⌜ r ≡ tooShort (now (bytes .entry)) (now (numbers .entry)) ⌝ }
+{
+    if bytes.len() < Tables::BYTES {
+        return true;
+    }
+    numbers.len() < Tables::NUMBERS
+}
 
 // 13, 14, or 0 where the areas hold tables.
 fn why_not(bytes: &[u8], numbers: &[i64]) -> u8
     ensures { λ r. ⌜ r ≡ whyNot (now (bytes .entry)) (now (numbers .entry)) ⌝ }
 {
-    if bytes.len() < Tables::BYTES {
-        return 13;
-    }
-    if numbers.len() < Tables::NUMBERS {
+    if too_short(bytes, numbers) {
         return 13;
     }
     if tabled::are_tables(bytes, numbers) {
@@ -49,13 +56,7 @@ fn why_not(bytes: &[u8], numbers: &[i64]) -> u8
 pub fn write(bytes: &[u8], numbers: &[i64], out: &mut [u8]) -> Write
     ensures { λ r. ⌜ WriteSays (now (bytes .entry)) (now (numbers .entry)) (now (out .entry)) r (now (out .exit)) ⌝ }
 {
-    if bytes.len() < Tables::BYTES {
-        return Write::Refused {
-            number: 13,
-            place: 0,
-        };
-    }
-    if numbers.len() < Tables::NUMBERS {
+    if too_short(bytes, numbers) {
         return Write::Refused {
             number: 13,
             place: 0,

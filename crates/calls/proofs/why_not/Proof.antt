@@ -1,24 +1,29 @@
 -- `calls::why_not` meets its contract.
 use mathlib.Core.Path.{sym, ap, _∙_}
-use Rattle.calls.proofs.Laws.{short-bytes, short-numbers, tried-yes, tried-no}
+use mathlib.Core.Bool.{cond}
+use denote.Ref.{now}
+use Rattle.calls.proofs.Laws.{roomy, tried-short, tried}
 use borrow.Author.Needs.{needs}
 use Rattle.calls.proofs.why_not.Statement.{statement}
 use Rattle.calls.proofs.why_not.Tie as tie
 
-returns : tie.Need-returns
-returns c = sym (short-bytes _ _ (c .if1 .taken))
+too-short-requires : tie.Need-too-short-requires
+too-short-requires c κs = search needs
 
-returns-2 : tie.Need-returns-2
-returns-2 c = sym (short-numbers _ _ (c .before .if1 .left) (c .if2 .taken))
+returns : tie.Need-returns
+returns c = sym (tried-short _ _ (c .before .too-short .ensures) (c .if1 .taken))
 
 are-tables-requires : tie.Need-are-tables-requires
-are-tables-requires c κs = search needs
+are-tables-requires c κs = roomy (now (c .before .before .before .args .bytes)) (now (c .before .before .before .args .numbers)) (c .before .too-short .ensures) (c .if1 .left)
+
+returns-2 : tie.Need-returns-2
+returns-2 c =
+    sym (tried _ _ (c .before .before .before .too-short .ensures) (c .before .before .if1 .left) (c .before .are-tables .ensures) ∙ ap (λ b. cond b 0 14) (c .if2 .taken))
 
 returns-3 : tie.Need-returns-3
-returns-3 c = sym (tried-yes _ _ (c .before .before .before .if1 .left) (c .before .before .if2 .left) (c .before .are-tables .ensures) (c .if3 .taken))
-
-returns-4 : tie.Need-returns-4
-returns-4 c = sym (tried-no _ _ (c .before .before .before .if1 .left) (c .before .before .if2 .left) (c .before .are-tables .ensures) (c .if3 .left))
+returns-3 c =
+    sym (tried _ _ (c .before .before .before .too-short .ensures) (c .before .before .if1 .left) (c .before .are-tables .ensures) ∙ ap (λ b. cond b 0 14) (c .if2 .left))
 
 pub why-not-spec : {M : Type 1} → statement M
-why-not-spec = tie.close (tie.spec returns returns-2 are-tables-requires returns-3 returns-4)
+why-not-spec =
+    tie.close (tie.spec too-short-requires returns are-tables-requires returns-2 returns-3)

@@ -3,7 +3,7 @@ use Prim.Native.Nat.{ℕ, zero, suc, _+_, _-_, _≤_, _<_}
 use mathlib.Core.Path.{_≡_, refl, sym, ap, _∙_}
 use mathlib.Core.Bool.{Bool, true, false}
 use mathlib.Core.Option.{some}
-use mathlib.Core.List.{List, [], _∷_}
+use mathlib.Core.List.{List, _∷_}
 use native.Mathlib.Numerals.{add-one}
 use native.Mathlib.Omega.{arith}
 use lib.Dec.{ltb}
@@ -14,7 +14,6 @@ use Rattle.scope.specs.Bytes.{isOpening, isShutting, closerOf}
 use Rattle.scope.specs.Content.{textStep}
 use Rattle.classes.specs.Runs.{span}
 use Rattle.classes.proofs.Runs.{run-next}
-use Rattle.texts.specs.declared.TextEnd.{TextEnd}
 use Rattle.texts.specs.declared.TextEnd.the-variants.{Ends, Stuck}
 use Rattle.texts.specs.Texts.{scanText, isInner, Closed}
 use Rattle.texts.proofs.Steps.{inner-step, scan-run, scan-end}

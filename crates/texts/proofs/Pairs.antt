@@ -1,20 +1,18 @@
 -- Laws of one byte inside a pair and outside every pair, and one law for each arm of `text_end`. Assumes nothing.
-use Prim.Native.Nat.{ℕ, _+_, _-_, _≤_, _<_}
+use Prim.Native.Nat.{ℕ, _+_, _≤_, _<_}
 use mathlib.Core.Path.{_≡_, refl, sym, ap, _∙_}
 use mathlib.Core.Bool.{Bool, true, false, not, _&&_, and-true}
 use mathlib.Core.Option.{Option, none, some}
 use mathlib.Core.List.{List, [], _∷_}
-use native.Mathlib.Omega.{arith}
 use lib.ListN.{length, getD, drop}
 use borrow.Author.Tests.{eq-eqb, ne-eqb}
 use Rattle.scope.specs.Bytes.{isPrintable, isOpening, isShutting, closerOf}
 use Rattle.scope.specs.Content.{given, textStep}
 use Rattle.classes.specs.Runs.{span}
 use Rattle.classes.proofs.Runs.{run-next}
-use Rattle.texts.specs.declared.TextEnd.{TextEnd}
 use Rattle.texts.specs.declared.TextEnd.the-variants.{Ends, Stuck}
 use Rattle.texts.specs.Texts.{scanText, isOuter, isInner, Closed}
-use Rattle.texts.proofs.Steps.{shut-not-open, outer-step, inner-step, scan-run, scan-at, scan-end}
+use Rattle.texts.proofs.Steps.{shut-not-open, outer-step, scan-run, scan-at, scan-end}
 
 -- the step of a byte that is not plain
 outer-open : (hashes : Bool) (b : ℕ) → isOuter hashes b ≡ false → isOpening b ≡ true → textStep hashes [] b ≡ some (closerOf b ∷ [])

@@ -45,7 +45,7 @@ abbrev ν : lts.MeasureT-loop
 
 module _ (t : ℕ) where
   loop-holds : lts.Need-loop-holds (claims t) (Pre t) pair-end.Post Inv ν
-  loop-holds c = pauses _ _ _ _ _ _ _ _ (inside-starts 64 _ _ _ _ refl (c .before .before .pre .1)) (c .inner-end .ensures)
+  loop-holds c = pauses _ _ _ _ _ _ _ _ (inside-starts _ _ _ _ _ refl (c .before .before .pre .1)) (c .inner-end .ensures)
 
   returns : lts.Need-returns (claims t) (Pre t) pair-end.Post Inv ν
   returns c =

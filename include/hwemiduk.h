@@ -11,7 +11,7 @@
  * - Any bytes and any numbers are answered: junk in the areas is refused with 14, a slice that is too short with 13.
  * - A slice passes as a pointer and the number of its elements, which must be there; slices may be longer than is asked for. No pointer may be null, not even
  *   with a length of 0. What is written overlaps nothing else that is lent in the same call.
- * - The library has no state, takes no memory but at most 512 KiB of stack, and does no input or output. Calls may run at the same time on areas of their own.
+ * - The library has no state, takes no memory but at most 64 KiB of stack, and does no input or output. Calls may run at the same time on areas of their own.
  */
 #ifndef HWEMIDUK_H
 #define HWEMIDUK_H

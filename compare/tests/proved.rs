@@ -99,6 +99,28 @@ fn awkward_lengths() {
     }
 }
 
+/// Pairs as deep as one call of the proved reader keeps closers for, less deep and deeper: closed, with one closer that is another's, and with one too few.
+#[test]
+fn nested_pairs() {
+    for depth in [1usize, 2, 8, 9, 62, 63, 64, 65, 66, 127, 128, 129, 130, 193, 700, 2046] {
+        let square = |level: usize| (level * level / 3) % 2 == 0;
+        let opening: Vec<u8> = (0..depth).map(|level| if square(level) { b'[' } else { b'{' }).collect();
+        let closing: Vec<u8> = (0..depth).rev().map(|level| if square(level) { b']' } else { b'}' }).collect();
+        let line = |closing: &[u8]| [b"A[", &opening[..], closing, b"]"].concat();
+        alike(&line(&closing));
+        alike(&line(&closing[1..]));
+        for at in [0, 1, depth / 2, depth.saturating_sub(65), depth.saturating_sub(64), depth.saturating_sub(63), depth - 1] {
+            if at < depth {
+                let mut other = closing.clone();
+                other[at] ^= b']' ^ b'}';
+                alike(&line(&other));
+            }
+        }
+        // more pairs behind the innermost one, and behind all of them
+        alike(&line(&[b"[]{x}[]", &closing[..], b"{[]}x[]"].concat()));
+    }
+}
+
 #[test]
 fn every_single_byte_and_pair() {
     for a in 0..=255u8 {

@@ -1,4 +1,5 @@
 pub mod Steps
 pub mod Pairs
+pub mod Owed
 pub mod Bounds
 pub mod Deep

@@ -19,48 +19,72 @@ pub enum TextEnd {
     Stuck(usize),
 }
 
+// How many closers one call of `pair_end` keeps.
+const KEPT: usize = 64;
+
 // Where the text that starts at `at` ends; `hashes` says whether `#` is plain in it.
 pub fn text_end(line: &[u8], at: usize, hashes: bool) -> TextEnd
     ensures { λ r. ⌜ r ≡ scanText hashes [] (drop at (now (line .entry))) at ⌝ }
 {
-    let i = outer_end(line, at, hashes);
-    if line.len() <= i {
-        return TextEnd::Ends(i);
-    }
-    let b = line[i];
-    if classes::is_opening(b) {
-        let e = pair_end(line, i + 1, closer_of(b));
-        match e {
-            TextEnd::Ends(next) => text_end(line, next, hashes),
-            TextEnd::Stuck(k) => TextEnd::Stuck(k),
+    let mut i = outer_end(line, at, hashes);
+    while i < line.len() {
+        let b = line[i];
+        if classes::is_opening(b) {
+            let e = pair_end(line, i + 1, closer_of(b));
+            match e {
+                TextEnd::Ends(next) => {
+                    i = outer_end(line, next, hashes);
+                }
+                TextEnd::Stuck(k) => {
+                    return TextEnd::Stuck(k);
+                }
+            }
+        } else {
+            return TextEnd::Ends(i);
         }
-    } else {
-        TextEnd::Ends(i)
     }
+    TextEnd::Ends(i)
 }
 
-// From inside a pair that `closer` closes: the place behind its closer.
+// From inside a pair that `closer` closes: the place behind its closer. The closers of the pairs that stand open are kept in a table,
+// the innermost one last; a pair that is opened when the table is full is read by a call.
 pub fn pair_end(line: &[u8], at: usize, closer: u8) -> TextEnd
     requires { ⌜ isShutting closer ≡ true ⌝ }
     ensures { λ r. ⌜ Closed (now (line .entry)) at closer r ⌝ }
 {
-    let i = inner_end(line, at);
-    if line.len() <= i {
-        return TextEnd::Stuck(i);
-    }
-    let b = line[i];
-    if b == closer {
-        return TextEnd::Ends(i + 1);
-    }
-    if classes::is_opening(b) {
-        let e = pair_end(line, i + 1, closer_of(b));
-        match e {
-            TextEnd::Ends(next) => pair_end(line, next, closer),
-            TextEnd::Stuck(k) => TextEnd::Stuck(k),
+    let mut owed = [0u8; KEPT];
+    owed[0] = closer;
+    let mut depth: usize = 1;
+    let mut i = inner_end(line, at);
+    while i < line.len() {
+        let b = line[i];
+        if b == owed[depth - 1] {
+            if depth == 1 {
+                return TextEnd::Ends(i + 1);
+            }
+            depth -= 1;
+            i = inner_end(line, i + 1);
+        } else if classes::is_opening(b) {
+            if depth < KEPT {
+                owed[depth] = closer_of(b);
+                depth += 1;
+                i = inner_end(line, i + 1);
+            } else {
+                let e = pair_end(line, i + 1, closer_of(b));
+                match e {
+                    TextEnd::Ends(next) => {
+                        i = inner_end(line, next);
+                    }
+                    TextEnd::Stuck(k) => {
+                        return TextEnd::Stuck(k);
+                    }
+                }
+            }
+        } else {
+            return TextEnd::Stuck(i);
         }
-    } else {
-        TextEnd::Stuck(i)
     }
+    TextEnd::Stuck(i)
 }
 
 // The byte that closes the pair which `b` opens.

@@ -1,12 +1,12 @@
--- The proof of the cycle of calls {pair_end}. The measure is the number of bytes left. Each return cites the law of its arm. Assumes nothing.
+-- The proof of the cycle of calls {pair_end}. The measure is the number of bytes left. Each return and each turn cites the law of its arm. Assumes nothing.
 use Prim.Native.Nat.{ℕ, _<_, _-_}
-use mathlib.Core.Path.{sym, _∙_}
+use mathlib.Core.Path.{refl, sym, _∙_}
 use native.Mathlib.Omega.{arith}
 use lib.ListN.{length}
 use borrow.Author.Needs.{needs}
 use borrow.Fn.Kinds.{In}
 use borrow.Fn.PlainCycle.{Measures, is, falls, and}
-use Rattle.texts.proofs.Pairs.{closed-end, closed-shut, closed-stuck, closed-pair, closed-lost}
+use Rattle.texts.proofs.Owed.{Paused, inside-starts, pauses, paused-over, paused-stuck, paused-last, paused-shut, paused-open, paused-behind, paused-lost}
 use Rattle.texts.proofs.pair_end.Reads as pair-end
 use Rattle.texts.proofs.pair_end.Kinds as pair-end-kinds
 use Rattle.texts.proofs.+pair_end.Lts-pair_end as lts
@@ -37,62 +37,88 @@ claims t = (
   pair-end.Post,
 )
 
+abbrev Inv : lts.InvT-loop
+Inv line at closer owed₀ depth₀ i₀ owed depth i = Paused 64 line at closer owed depth i
+
+abbrev ν : lts.MeasureT-loop
+ν line at closer owed₀ depth₀ i₀ owed depth i = length line - i
+
 module _ (t : ℕ) where
-  returns : lts.Need-returns (claims t) (Pre t) pair-end.Post
+  loop-holds : lts.Need-loop-holds (claims t) (Pre t) pair-end.Post Inv ν
+  loop-holds c = pauses _ _ _ _ _ _ _ _ (inside-starts _ _ _ _ _ refl (c .before .before .pre .1)) (c .inner-end .ensures)
+
+  returns : lts.Need-returns (claims t) (Pre t) pair-end.Post Inv ν
   returns c =
-      let n = c .before in
-      closed-end _ _ _ _ (n .before .before .pre .1) (n .inner-end .ensures) (c .if1 .taken)
+      let a = c .before in
+      let l = a .before .before in
+      paused-last _ _ _ _ _ _ _ (l .before .loop .inv) (l .loop-test .taken) (a .if1 .taken) (c .if2 .taken)
 
-  returns-2 : lts.Need-returns-2 (claims t) (Pre t) pair-end.Post
-  returns-2 c =
-      let l = c .before .before in
-      let n = l .before in
-      closed-shut _ _ _ _ (n .before .before .pre .1) (n .inner-end .ensures) (l .if1 .left) (c .if2 .taken)
+  loop-again : lts.Need-loop-again (claims t) (Pre t) pair-end.Post Inv ν
+  loop-again c =
+      let f = c .before in
+      let a = f .before in
+      let l = a .before .before in
+      pauses _ _ _ _ _ _ _ _ (paused-shut _ _ _ _ _ _ _ (l .before .loop .inv) (l .loop-test .taken) (a .if1 .taken) (f .if2 .left)) (c .inner-end2 .ensures)
 
-  inner-requires : lts.Need-pair-end-requires (claims t) (Pre t) pair-end.Post
-  inner-requires c κs =
-      let l = c .before .before .before .before .before in
-      let e = l .before .inner-end .ensures in
-      (omega (arith, e), c .closer-of .ensures .1)
+  loop-again-2 : lts.Need-loop-again-2 (claims t) (Pre t) pair-end.Post Inv ν
+  loop-again-2 c =
+      let d = c .before in
+      let f = d .before in
+      let o = f .before in
+      let l = o .before .before .before .before in
+      pauses _ _ _ _ _ _ _ _
+      (paused-open _ _ _ _ _ _ _ (l .before .loop .inv) (l .loop-test .taken) (sym (o .before .is-opening .ensures) ∙ o .if3 .taken) _
+      (d .closer-of .ensures .0) (f .if4 .taken) (d .closer-of .ensures .1))
+      (c .inner-end3 .ensures)
 
-  next-requires : lts.Need-pair-end-requires-2 (claims t) (Pre t) pair-end.Post
-  next-requires c κs =
-      let e = c .before in
-      let p = e .before .before in
-      let l = p .before .before .before .before .before .before in
-      let q = rw (e .e .given .1) at (p .pair-end .ensures) in
-      (omega (arith, l .before .inner-end .ensures, q .past), l .before .before .before .pre .1)
+  pair-end-requires : lts.Need-pair-end-requires (claims t) (Pre t) pair-end.Post Inv ν
+  pair-end-requires c κs =
+      let l = c .before .before .before .before .before .before in
+      (omega (arith, l .before .loop .inv .inside .later, l .before .before .before .before .pre .0), c .closer-of2 .ensures .1)
 
-  returns-3 : lts.Need-returns-3 (claims t) (Pre t) pair-end.Post
-  returns-3 c =
+  loop-less-3 : lts.Need-loop-less-3 (claims t) (Pre t) pair-end.Post Inv ν
+  loop-less-3 c =
       let e = c .before .before in
       let p = e .before .before in
-      let o = p .before .before in
-      let l = o .before .before .before .before in
-      let n = l .before in
-      closed-pair _ _ _ _ (n .before .before .pre .1) (n .inner-end .ensures) (l .if1 .left) (sym (o .before .is-opening .ensures) ∙ o .if3 .taken) _
-      (p .before .closer-of .ensures .0) _ (rw (e .e .given .1) at (p .pair-end .ensures)) (c .pair-end2 .ensures)
+      let q = rw (e .e .given .1) at (p .pair-end .ensures) in
+      omega (arith, q .past, c .inner-end4 .ensures)
 
-  returns-4 : lts.Need-returns-4 (claims t) (Pre t) pair-end.Post
-  returns-4 c =
+  loop-again-3 : lts.Need-loop-again-3 (claims t) (Pre t) pair-end.Post Inv ν
+  loop-again-3 c =
+      let e = c .before .before in
+      let p = e .before .before in
+      let d = p .before in
+      let o = d .before .before in
+      let l = o .before .before .before .before in
+      pauses _ _ _ _ _ _ _ _
+      (paused-behind _ _ _ _ _ _ _ (l .before .loop .inv) (l .loop-test .taken) (sym (o .before .is-opening .ensures) ∙ o .if3 .taken) _
+      (d .closer-of2 .ensures .0) _ (rw (e .e .given .1) at (p .pair-end .ensures)))
+      (c .inner-end4 .ensures)
+
+  returns-2 : lts.Need-returns-2 (claims t) (Pre t) pair-end.Post Inv ν
+  returns-2 c =
       let e = c .before in
       let p = e .before .before in
-      let o = p .before .before in
+      let d = p .before in
+      let o = d .before .before in
       let l = o .before .before .before .before in
-      let n = l .before in
-      closed-lost _ _ _ _ (n .before .before .pre .1) (n .inner-end .ensures) (l .if1 .left) (sym (o .before .is-opening .ensures) ∙ o .if3 .taken) _
-      (p .before .closer-of .ensures .0) _ (rw (e .e2 .given .1) at (p .pair-end .ensures))
+      paused-lost _ _ _ _ _ _ _ (l .before .loop .inv) (l .loop-test .taken) (sym (o .before .is-opening .ensures) ∙ o .if3 .taken) _
+      (d .closer-of2 .ensures .0) _ (rw (e .e2 .given .1) at (p .pair-end .ensures))
 
-  returns-5 : lts.Need-returns-5 (claims t) (Pre t) pair-end.Post
-  returns-5 c =
+  returns-3 : lts.Need-returns-3 (claims t) (Pre t) pair-end.Post Inv ν
+  returns-3 c =
       let d = c .before .before in
       let l = d .before .before in
-      let n = l .before in
-      closed-stuck _ _ _ _ (n .before .before .pre .1) (n .inner-end .ensures) (l .if1 .left) (sym (c .before .is-opening .ensures) ∙ c .if3 .left) (d .if2 .left)
+      paused-stuck _ _ _ _ _ _ _ (l .before .loop .inv) (l .loop-test .taken) (sym (c .before .is-opening .ensures) ∙ c .if3 .left) (d .if1 .left)
+
+  returns-4 : lts.Need-returns-4 (claims t) (Pre t) pair-end.Post Inv ν
+  returns-4 c = paused-over _ _ _ _ _ _ _ (c .before .loop .inv) (c .loop-test .left)
 
 pub +pair-end-spec : {M : Type 1} → statement M
 +pair-end-spec =
-    close μ λ t. lts.spec (claims t) (Pre t) pair-end.Post
-    (λ c κs. search needs) (returns t) (λ c. search needs) (λ c. search needs) (returns-2 t) (λ c κs. search needs) (λ c. search needs)
-    (λ c κs. search needs) (inner-requires t) (λ c. search needs) (next-requires t) (λ c. search needs)
-    (returns-3 t) (returns-4 t) (returns-5 t)
+    close μ λ t. lts.spec (claims t) (Pre t) pair-end.Post Inv ν
+    (λ c. search needs) (λ c κs. search needs) (loop-holds t) (λ c. search needs) (λ c. search needs) (λ c. search needs) (λ c. search needs)
+    (returns t) (λ c. search needs) (λ c. search needs) (λ c κs. search needs) (λ c. search needs) (loop-again t) (λ c κs. search needs)
+    (λ c κs. search needs) (λ c. search needs) (λ c. search needs) (λ c. search needs) (λ c κs. search needs) (λ c. search needs) (loop-again-2 t)
+    (λ c. search needs) (λ c κs. search needs) (pair-end-requires t) (λ c. search needs) (λ c κs. search needs) (loop-less-3 t) (loop-again-3 t)
+    (λ c. search needs) (returns-2 t) (returns-3 t) (returns-4 t)

@@ -18,7 +18,6 @@ ghost use mathlib.Core.List.{List, [], _∷_, _++_};
 ghost use lib.IntN.{ℤ, pos};
 ghost use lib.ListN.{length, take, drop, set, replicate};
 ghost use lib.Seq.{sets};
-ghost use Rattle.scope.specs.Keys.{keyCode};
 ghost use Rattle.scope.specs.Canonical.{kindCode};
 ghost use Rattle.scope.specs.Tables.{bytesSize, numbersSize, sectionCode, part};
 ghost use Rattle.scope.specs.Line.{Part};
@@ -128,31 +127,6 @@ fn copy(bytes: &mut [u8], to: usize, line: &[u8], from: usize, end: usize)
 }
 
 // ---- codes
-
-fn key_code(key: Key) -> u8
-    ensures { λ r. ⌜ r ≡ keyCode key ⌝ }
-{
-    match key {
-        Key::NoKey => 0,
-        Key::U => 1,
-        Key::M => 2,
-        Key::R => 3,
-        Key::X => 4,
-        Key::G => 5,
-        Key::C => 6,
-        Key::Obs => 7,
-        Key::Unimod => 8,
-        Key::Mod => 9,
-        Key::Xlmod => 10,
-        Key::Resid => 11,
-        Key::Gno => 12,
-        Key::Info => 13,
-        Key::Formula => 14,
-        Key::Glycan => 15,
-        Key::Position => 16,
-        Key::Limit => 17,
-    }
-}
 
 fn section_code(section: Section) -> u8
     ensures { λ r. ⌜ r ≡ sectionCode section ⌝ }
@@ -302,7 +276,7 @@ fn put_part(
         bytes,
         at,
         value_code(value),
-        key_code(key),
+        keywords::key_code(key),
         value_decimals(value),
         n as u8,
         m as u8,

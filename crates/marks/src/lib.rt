@@ -215,26 +215,17 @@ enum Sort {
 fn sort_of(key: Key) -> Sort
     ensures { λ r. ⌜ r ≡ sortOf key ⌝ }
 {
-    match key {
-        Key::NoKey => Sort::Bare,
-        Key::U => Sort::Numbering,
-        Key::M => Sort::Numbering,
-        Key::R => Sort::Other,
-        Key::X => Sort::Other,
-        Key::G => Sort::Other,
-        Key::C => Sort::Other,
-        Key::Obs => Sort::Other,
-        Key::Unimod => Sort::Other,
-        Key::Mod => Sort::Other,
-        Key::Xlmod => Sort::Other,
-        Key::Resid => Sort::Other,
-        Key::Gno => Sort::Other,
-        Key::Info => Sort::Other,
-        Key::Formula => Sort::Barred,
-        Key::Glycan => Sort::Barred,
-        Key::Position => Sort::Barred,
-        Key::Limit => Sort::Barred,
+    let code = keywords::key_code(key);
+    if code == 0 {
+        return Sort::Bare;
     }
+    if code < 3 {
+        return Sort::Numbering;
+    }
+    if code < 14 {
+        return Sort::Other;
+    }
+    Sort::Barred
 }
 
 // Whether 8 refuses the part by its key alone.

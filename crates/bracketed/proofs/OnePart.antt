@@ -20,7 +20,8 @@ use Rattle.parts.specs.declared.PartRead.{PartRead}
 use Rattle.parts.specs.declared.Score.{Score}
 use Rattle.parts.specs.Says.{ValueIs, LabelIs, PartIs}
 use Rattle.marks.specs.declared.Marks.{Marks}
-use Rattle.marks.specs.Marks.{coded, Dues, both, partDues, MarksAre}
+use Rattle.places.specs.Places.{coded}
+use Rattle.marks.specs.Marks.{Dues, both, partDues, MarksAre}
 use Rattle.marks.proofs.Names.{part-length}
 use Rattle.notes.specs.Notes.{Stands}
 use Rattle.bracketed.specs.declared.Parts.{Parts}

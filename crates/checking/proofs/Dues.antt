@@ -16,10 +16,12 @@ use Rattle.scope.specs.Modifications.{flat}
 use Rattle.scope.specs.Reading.{asNTerm, times}
 use Rattle.scope.specs.Refusals.{dueAt, least, deepPart, overIn, wideCount, wideMass, wideScore, notHere, isNumberName}
 use Rattle.marks.specs.declared.Marks.{Marks}
-use Rattle.marks.specs.Marks.{coded, Dues, both, MarksAre}
+use Rattle.places.specs.Places.{coded}
+use Rattle.marks.specs.Marks.{Dues, both, MarksAre}
 use Rattle.bracketed.specs.Bracketed.{partsDues}
 use Rattle.checking.specs.Stages.{dues, withOver, withWide}
-use Rattle.checking.proofs.Lists.{flat-append, flat-more, flat-map, map-append, map-same, past-more, least-swap, least-cong, least-none}
+use Rattle.places.proofs.Least.{least-swap, least-cong}
+use Rattle.checking.proofs.Lists.{flat-append, flat-more, flat-map, map-append, map-same, past-more, least-none}
 
 -- the marks of lists with the same first places
 abbrev code : List ℕ → ℕ

@@ -1,9 +1,10 @@
 -- What is due for a part is what is due for its value and what is due for its label. Assumes nothing.
 use mathlib.Core.Path.{_≡_, refl, sym, ap, _∙_}
-use mathlib.Core.Bool.{Bool, false, _||_}
-use mathlib.Core.Option.{Option}
-use mathlib.Core.List.{append-nil}
-use Prim.Native.Nat.{ℕ, _+_}
+use mathlib.Core.Bool.{Bool, true, false, _||_}
+use mathlib.Core.Option.{Option, some}
+use mathlib.Core.List.{_++_, append-nil}
+use Prim.Native.Nat.{ℕ, _+_, min}
+use native.Mathlib.Omega.{arith}
 use lib.ListN.{length}
 use Rattle.scope.specs.declared.grammar.Key.{Key}
 use Rattle.scope.specs.declared.grammar.Key.the-variants.{NoKey, U, M, R, X, G, C, Obs, Unimod, Mod, Xlmod, Resid, Gno, Info, Formula, Glycan, Position, Limit}
@@ -12,13 +13,20 @@ use Rattle.scope.specs.Keys.{written}
 use Rattle.scope.specs.Line.{Value, Label, Part}
 use Rattle.scope.specs.Refusals.{least, dueAt, textIn, textOf, tooDeep, isLink, notHere, isNumberName}
 use Rattle.marks.specs.declared.Marks.{Marks as Marked}
-use Rattle.marks.specs.Marks.{coded, both, partDues, MarksAre}
+use Rattle.places.specs.Places.{coded}
+use Rattle.marks.specs.Marks.{both, partDues, MarksAre}
 use Rattle.marks.specs.Sorts.{sortOf, isShortRule, isRuleName, barredText, numberText}
 use Rattle.marks.specs.ValueAndLabel.{valueDues, labelDues}
-use Rattle.marks.proofs.Least.{due-either}
 
 abbrev linked : Option (Label ℕ) → Bool
 linked l = given l (λ x. isLink (x .name)) false
+
+-- one test or another
+due-either : (t u : Bool) (i : ℕ) → least (dueAt t i ++ dueAt u i) ≡ least (dueAt (t || u) i)
+unfolding least
+due-either true true i = ap some (let e : min i i ≡ i = omega arith in e)
+due-either true false i = refl
+due-either false u i = refl
 
 -- what 8 and 9 ask of a part, by the sort of its key
 asked : (k : Key) (v : Value ℕ) (l : Option (Label ℕ)) (i : ℕ)

@@ -1,6 +1,6 @@
 -- What is due for a value, a label, a part that was found. Assumes nothing.
 use mathlib.Core.Path.{_≡_, refl, sym, ap, subst, _∙_}
-use mathlib.Core.Bool.{Bool, true, false, not}
+use mathlib.Core.Bool.{Bool, true, false}
 use mathlib.Core.Option.{Option, none, some}
 use mathlib.Core.List.{List, []}
 use Prim.Native.Nat.{ℕ, _+_, _-_, _<_, _≤_}
@@ -25,7 +25,8 @@ use Rattle.parts.specs.declared.Value.{Value as Found-value}
 use Rattle.marks.specs.declared.Marks.{Marks as Marked}
 use Rattle.marks.specs.declared.Sort.{Sort}
 use Rattle.marks.specs.declared.Sort.the-variants.{Bare, Barred, Numbering, Other}
-use Rattle.marks.specs.Marks.{coded, Dues, both, partDues, MarksAre}
+use Rattle.places.specs.Places.{coded}
+use Rattle.marks.specs.Marks.{Dues, both, partDues, MarksAre}
 use Rattle.marks.specs.Sorts.{sortOf, isBarred, isShortRule, isRuleName, barredText, numberText}
 use Rattle.marks.specs.ValueAndLabel.{TextFits, ValueFits, valueDues, labelDues}
 use Rattle.marks.proofs.Due.{of-part}

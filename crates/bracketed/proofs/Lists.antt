@@ -2,7 +2,7 @@
 use mathlib.Core.Path.{_≡_, refl, sym, ap, _∙_}
 use mathlib.Core.Bool.{Bool, true, false, cond, not, _&&_}
 use mathlib.Core.Option.{Option, none, some}
-use mathlib.Core.List.{List, [], _∷_, _++_, map, append-assoc, append-nil}
+use mathlib.Core.List.{List, [], _∷_, _++_, map}
 use Prim.Native.Nat.{ℕ, suc, _+_, _≤_}
 use native.Mathlib.Omega.{arith}
 use borrow.Author.Tests.{eq-eqb, ne-eqb, ltb-true, ltb-false}
@@ -17,11 +17,6 @@ use Rattle.scope.specs.Modifications.{flat, all, nameOf}
 use Rattle.scope.specs.Reading.{refers?}
 use Rattle.places.proofs.Least.{earlier, least-append, earlier-assoc, earlier-comm}
 use Rattle.notes.specs.Notes.{Stands, AllStand}
-
-pub flat-snoc : {A B : Type 0} (f : A → List B) (l : List A) (x : A) → flat f (l ++ (x ∷ [])) ≡ flat f l ++ f x
-unfolding flat
-flat-snoc f [] x = append-nil (f x)
-flat-snoc f (y ∷ l) x = ap (λ z. f y ++ z) (flat-snoc f l x) ∙ sym (append-assoc (f y) (flat f l) (f x))
 
 pub map-snoc : {A B : Type 0} (f : A → B) (l : List A) (x : A) → map f (l ++ (x ∷ [])) ≡ map f l ++ (f x ∷ [])
 map-snoc f [] x = refl

@@ -28,7 +28,7 @@ ghost use Rattle.scope.specs.Reading.{firstOf, firstPosition, lastPosition};
 ghost use Rattle.scope.specs.Refusals.{outcome, accepted};
 ghost use Rattle.fill.specs.Filled.{SomeFilling, Filling, SomeOpened, Opened, FilledOn, moved, grown, runOver, countedTo, marked, runAfter, countAfter, DigitFits, nextCount, countPut, TermsFit, Fills, FilledAll, fresh};
 ghost use Rattle.fill.specs.Areas.{Before, Laid, CloseFits, HeadPut, PutSays};
-ghost use Rattle.fill.specs.Found.{Copies, codeOf, decimalsOf, massOf, fromOf, toOf, offsetOf, PutsPart, PartPut, FewDecimals, scoreCodeOf, scoreMassOf, codeAfter, massAfter, scoreFound};
+ghost use Rattle.fill.specs.Found.{Copies, codeOf, decimalsOf, massOf, fromOf, toOf, offsetOf, PutsPart, PartPut, FewDecimals, scoreCodeOf, scoreMassOf, codeAfter, massAfter};
 
 // What there is behind a part of a bracket: the place, the bytes of texts, the score of the bracket (0, or one more than its decimals) with its
 // millionths, and whether the part is a reference.
@@ -316,15 +316,6 @@ fn new_mass(score: Score) -> i64
     }
 }
 
-fn label_score(label: usize, ends: usize, score: Score) -> Score
-    ensures { λ r. ⌜ r ≡ scoreFound label ends score ⌝ }
-{
-    if label == ends {
-        return Score::Unscored;
-    }
-    score
-}
-
 fn score_code(code: u8, score: Score) -> u8
     requires { ⌜ FewDecimals score ⌝ }
     ensures { λ r. ⌜ r ≡ codeAfter code score ⌝ }
@@ -378,8 +369,7 @@ fn put_found(
 {
     let value = p.value;
     let key = p.key;
-    let found = p.score;
-    let score = label_score(p.label, p.ends, found);
+    let score = p.score;
     let next = p.next;
     let texts = put_part(
         line,

@@ -59,7 +59,7 @@ module _ (i : ℕ) where
 -- ---- labels
 module _ (line : List ℕ) (a e : ℕ) (s : Score) where
   pub label-room : ((l : Option (Label ℕ)) × LabelIs line a e s l) → (a ≡ e → ⊥) → (a < e) × (e ≤ length line)
-  label-room (none, g) h = absurd (h g)
+  label-room (none, g) h = absurd (h (g .0))
   label-room (some l, (n, p, k, room, w)) h = (k, room)
 
   pub no-label : (m : Marked) (i : ℕ) → m ≡ record { deep = 0; over = 0; wide = 0; barred = 0; digits = 0 } → a ≡ e
@@ -76,7 +76,7 @@ module _ (line : List ℕ) (a e : ℕ) (s : Score) where
     pub a-label : (a ≡ e → ⊥) → (l : Option (Label ℕ)) → LabelIs line a e s l
         → MarksAre (record { deep = 0; over = over; wide = wides; barred = barred; digits = 0 }) (labelDues i l)
     unfolding least
-    a-label h none g = absurd (h g)
+    a-label h none g = absurd (h (g .0))
     a-label h (some l) (n, p, k, room, g) =
         let t : length (l .name) ≡ e - a = ap length n ∙ part-length line a e room in
         record {

@@ -2,8 +2,8 @@
 use mathlib.Core.Path.{_≡_, refl, sym, ap, _∙_}
 use mathlib.Core.Bool.{Bool, true, false, cond, not, _&&_}
 use mathlib.Core.Option.{Option, none, some}
-use mathlib.Core.List.{List, [], _∷_, _++_, map, append-assoc, append-nil}
-use Prim.Native.Nat.{ℕ, suc, _+_, _≤_, min}
+use mathlib.Core.List.{List, [], _∷_, _++_, map}
+use Prim.Native.Nat.{ℕ, suc, _+_, _≤_}
 use native.Mathlib.Omega.{arith}
 use borrow.Author.Tests.{eq-eqb, ne-eqb, ltb-true, ltb-false}
 use lib.Dec.{eqb, ltb}
@@ -15,13 +15,8 @@ use Rattle.scope.specs.Content.{given, none?, isReference}
 use Rattle.scope.specs.Refusals.{least}
 use Rattle.scope.specs.Modifications.{flat, all, nameOf}
 use Rattle.scope.specs.Reading.{refers?}
-use Rattle.marks.proofs.Least.{earlier, least-append}
+use Rattle.places.proofs.Least.{earlier, least-append, earlier-assoc, earlier-comm}
 use Rattle.notes.specs.Notes.{Stands, AllStand}
-
-pub flat-snoc : {A B : Type 0} (f : A → List B) (l : List A) (x : A) → flat f (l ++ (x ∷ [])) ≡ flat f l ++ f x
-unfolding flat
-flat-snoc f [] x = append-nil (f x)
-flat-snoc f (y ∷ l) x = ap (λ z. f y ++ z) (flat-snoc f l x) ∙ sym (append-assoc (f y) (flat f l) (f x))
 
 pub map-snoc : {A B : Type 0} (f : A → B) (l : List A) (x : A) → map f (l ++ (x ∷ [])) ≡ map f l ++ (f x ∷ [])
 map-snoc f [] x = refl
@@ -56,18 +51,6 @@ pub length-snoc : {A : Type 0} (l : List A) (x : A) → length (l ++ (x ∷ []))
 length-snoc l x = length-append l (x ∷ [])
 
 -- ---- the first place of four lists, whatever their order
-earlier-assoc : (a b c : Option ℕ) → earlier (earlier a b) c ≡ earlier a (earlier b c)
-earlier-assoc none b c = refl
-earlier-assoc (some i) none c = refl
-earlier-assoc (some i) (some j) none = refl
-earlier-assoc (some i) (some j) (some k) = ap some (let e : min (min i j) k ≡ min i (min j k) = omega arith in e)
-
-earlier-comm : (a b : Option ℕ) → earlier a b ≡ earlier b a
-earlier-comm none none = refl
-earlier-comm none (some j) = refl
-earlier-comm (some i) none = refl
-earlier-comm (some i) (some j) = ap some (let e : min i j ≡ min j i = omega arith in e)
-
 last-second : (a b f g : Option ℕ) → earlier (earlier (earlier a b) f) g ≡ earlier (earlier a g) (earlier b f)
 last-second a b f g =
     ap (λ z. earlier z g) (earlier-assoc a b f)

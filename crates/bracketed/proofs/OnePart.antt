@@ -20,13 +20,15 @@ use Rattle.parts.specs.declared.PartRead.{PartRead}
 use Rattle.parts.specs.declared.Score.{Score}
 use Rattle.parts.specs.Says.{ValueIs, LabelIs, PartIs}
 use Rattle.marks.specs.declared.Marks.{Marks}
-use Rattle.marks.specs.Marks.{coded, Dues, both, partDues, MarksAre}
+use Rattle.places.specs.Places.{coded}
+use Rattle.marks.specs.Marks.{Dues, both, partDues, MarksAre}
 use Rattle.marks.proofs.Names.{part-length}
 use Rattle.notes.specs.Notes.{Stands}
+use Rattle.basics.specs.Lists.{flat-snoc}
 use Rattle.bracketed.specs.declared.Parts.{Parts}
 use Rattle.bracketed.specs.Bracketed.{partsDues}
 use Rattle.bracketed.specs.Progress.{PartsAre, fifth, nameCount}
-use Rattle.bracketed.proofs.Lists.{flat-snoc, map-snoc, length-map, all-snoc, drop-snoc, length-snoc, least-places, refers-snoc, stand-snoc}
+use Rattle.bracketed.proofs.Lists.{map-snoc, length-map, all-snoc, drop-snoc, length-snoc, least-places, refers-snoc, stand-snoc}
 
 -- ---- the label of a part
 module _ (line : List ℕ) (a e : ℕ) (s : Score) where

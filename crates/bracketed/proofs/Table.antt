@@ -14,8 +14,9 @@ use Rattle.scope.specs.Modifications.{flat, nameOf}
 use Rattle.parts.specs.declared.PartRead.{PartRead}
 use Rattle.parts.specs.Says.{PartIs}
 use Rattle.notes.specs.Notes.{labelRow, labelsRoom}
+use Rattle.basics.specs.Lists.{flat-snoc}
 use Rattle.bracketed.specs.Progress.{Keeps, Stored, Noted, nameCount}
-use Rattle.bracketed.proofs.Lists.{flat-snoc, length-snoc, few-names}
+use Rattle.bracketed.proofs.Lists.{length-snoc, few-names}
 use Rattle.bracketed.proofs.OnePart.{label-row, no-row}
 
 pub keeps-itself : (label : ℕ) (l : List ℕ) → Keeps label l l

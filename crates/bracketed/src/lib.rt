@@ -236,26 +236,7 @@ fn first_refers(count: usize, before: bool, here: bool) -> bool
 fn is_info(key: Key) -> bool
     ensures { λ r. ⌜ r ≡ eqb (keyCode key) (keyCode Key.Info) ⌝ }
 {
-    match key {
-        Key::NoKey => false,
-        Key::U => false,
-        Key::M => false,
-        Key::R => false,
-        Key::X => false,
-        Key::G => false,
-        Key::C => false,
-        Key::Obs => false,
-        Key::Unimod => false,
-        Key::Mod => false,
-        Key::Xlmod => false,
-        Key::Resid => false,
-        Key::Gno => false,
-        Key::Info => true,
-        Key::Formula => false,
-        Key::Glycan => false,
-        Key::Position => false,
-        Key::Limit => false,
-    }
+    keywords::key_code(key) == 13
 }
 
 fn is_reference(value: Value) -> bool

@@ -1,7 +1,7 @@
 -- Accepted lines: what is known of them, and of what they hold with places forgotten.
 use Prim.Native.Nat.{ℕ, _*_, _/_, _^_, _<_}
 use mathlib.Core.Path.{_≡_, refl, sym, ap, _∙_, subst}
-use mathlib.Core.Bool.{Bool, true, false, not, cond, _||_, true≢false}
+use mathlib.Core.Bool.{Bool, true, false, not, cond, _||_}
 use mathlib.Core.Option.{Option, none, some, Option·none-ne-some}
 use mathlib.Core.List.{List, [], _∷_, _++_, map}
 use native.Mathlib.Omega.{arith}
@@ -19,13 +19,15 @@ use Rattle.scope.specs.Tables.{optional, bareBracket}
 use Rattle.reading_laws.specs.Laws.{Clear}
 use Rattle.reading_laws.specs.Places.{mapNumber, mapLabel, mapValue, mapPart, mapBracket, mapState, bareBracket-map}
 use Rattle.reading_laws.specs.Run.{run-map, unnoted}
-use Rattle.canonical_laws.specs.Lists.{All, and-r, pick-true}
+use Rattle.basics.specs.Lists.{nil-front, nil-back, least-none, not-due}
+use Rattle.basics.specs.Tests.{and-right, or-right}
+use Rattle.canonical_laws.specs.Lists.{All, pick-true}
 use Rattle.canonical_laws.specs.Numbers.{some-power}
 use Rattle.canonical_laws.specs.Brackets.{Place, FitsNumber, FitsValue, FitsScore, FitsLabel, FitsPart}
 use Rattle.canonical_laws.specs.Runs.{lineRun, run-line}
 use Rattle.canonical_laws.specs.Unknowns.{normal, FitsBracket}
 use Rattle.canonical_laws.specs.Counts.{Once}
-use Rattle.canonical_laws.specs.Refusals.{nil-front, nil-back, least-nil, due-false, Same, Alike}
+use Rattle.canonical_laws.specs.Refusals.{Same, Alike}
 
 -- ---- an accepted line is of the order, and nothing is due
 pub record Taken (s : List ℕ) (l : Line ℕ) : Type 0 where
@@ -100,8 +102,8 @@ flat-all F (x ∷ l) e = (nil-front (F x) (flat F l) e, flat-all F l (nil-back (
 
 fits-number : (n : Number ℕ) → wide n ≡ [] → FitsNumber (mapNumber unnoted n)
 fits-number n e =
-    let r : inRange n ≡ true = not-false (inRange n) (due-false (not (inRange n)) (n .at) e) in
-    let b : n .digits < sizeLimit * 10 ^ (n .decimals) = ltb-true (n .digits) (sizeLimit * 10 ^ (n .decimals)) (and-r (leb (n .decimals) 6) (ltb (n .digits) (sizeLimit * 10 ^ (n .decimals))) r) in
+    let r : inRange n ≡ true = not-false (inRange n) (not-due (not (inRange n)) (n .at) e) in
+    let b : n .digits < sizeLimit * 10 ^ (n .decimals) = ltb-true (n .digits) (sizeLimit * 10 ^ (n .decimals)) (and-right (leb (n .decimals) 6) (ltb (n .digits) (sizeLimit * 10 ^ (n .decimals))) r) in
     let c : n .digits / 10 ^ (n .decimals) < sizeLimit = div-lt-iff-lt-mul (some-power (n .decimals)) .1 b in
     omega arith
 
@@ -122,16 +124,12 @@ fits-parts : (ps : List (Part ℕ)) → All (λ p. wideMass (p .value) ++ wideSc
 fits-parts [] w = tt
 fits-parts (p ∷ ps) w = ((fits-value (p .value) (nil-front _ (wideScore p) (w .0)), fits-label (p .label) (nil-back (wideMass (p .value)) _ (w .0))), fits-parts ps (w .1))
 
-or-last : (a b : Bool) → (a || b) ≡ false → b ≡ false
-or-last true b e = absurd (true≢false e)
-or-last false b e = e
-
 fits-count : (k : Bracket ℕ) → Once k → wideCount k ≡ [] → k .count < 10 ^ 20
 fits-count k w e = go (k .counted) refl e
   where
     go : (o : Option ℕ) → k .counted ≡ o → given o (dueAt (eqb (k .count) 0 || ltb countLimit (k .count))) [] ≡ [] → k .count < 10 ^ 20
     go none f e = omega (arith, w f)
-    go (some i) f e = omega (arith, ltb-false countLimit (k .count) (or-last (eqb (k .count) 0) (ltb countLimit (k .count)) (due-false (eqb (k .count) 0 || ltb countLimit (k .count)) i e)))
+    go (some i) f e = omega (arith, ltb-false countLimit (k .count) (or-right (eqb (k .count) 0) (ltb countLimit (k .count)) (not-due (eqb (k .count) 0 || ltb countLimit (k .count)) i e)))
 
 fits-brackets : (ks : List (Bracket ℕ)) → All Once ks → All (λ k. wideCount k ++ flat (λ p. wideMass (p .value) ++ wideScore p) (k .parts) ≡ []) ks → All FitsBracket (map (mapBracket unnoted) ks)
 fits-brackets [] w e = tt
@@ -145,7 +143,7 @@ fits-brackets (k ∷ ks) w e = (
 
 pub fits-line : (l : Line ℕ) → All Once (l .brackets) → refusal7 l ≡ none → All FitsBracket (map (mapBracket unnoted) (l .brackets))
 unfolding refusal7
-fits-line l w e = fits-brackets (l .brackets) w (flat-all (λ k. wideCount k ++ flat (λ p. wideMass (p .value) ++ wideScore p) (k .parts)) (l .brackets) (least-nil _ e))
+fits-line l w e = fits-brackets (l .brackets) w (flat-all (λ k. wideCount k ++ flat (λ p. wideMass (p .value) ++ wideScore p) (k .parts)) (l .brackets) (least-none _ e))
 
 -- ---- brackets that are read back
 same-of : (k q : Bracket ℕ) → Once k → mapBracket unnoted q ≡ normal (mapBracket unnoted k) → Same k q

@@ -17,7 +17,9 @@ use Rattle.scope.specs.Content.{given, Digits, signed, whole, pointed, broken, 
 use Rattle.scope.specs.Reading.{refers?}
 use Rattle.scope.specs.Modifications.{flat}
 use Rattle.scope.specs.Canonical.{size, massText, scoreText, valueText, partText, partsText}
-use Rattle.canonical_laws.specs.Lists.{branch, branchO, and-l, and-r, All, all-front, all-back, flat-append, pick-true, pick-false, pick-some, pick-none}
+use Rattle.basics.specs.Lists.{flat-append}
+use Rattle.basics.specs.Tests.{and-left, and-right}
+use Rattle.canonical_laws.specs.Lists.{branch, branchO, All, all-front, all-back, pick-true, pick-false, pick-some, pick-none}
 use Rattle.canonical_laws.specs.Numbers.{digitRun, run-cons, allRead, size-run, Ended, end-again, step-none, Sized, Over, over, size-head, sized-some, step-signed, is-digit, digit-value, digit-below}
 
 abbrev pub Place : Type 0
@@ -92,7 +94,7 @@ unfolding sameFolded
 folded-length [] [] e = refl
 folded-length [] (y ∷ m) e = absurd (false≢true e)
 folded-length (x ∷ l) [] e = absurd (false≢true e)
-folded-length (x ∷ l) (y ∷ m) e = ap suc (folded-length l m (and-r (eqb (upper x) (upper y)) (sameFolded l m) e))
+folded-length (x ∷ l) (y ∷ m) e = ap suc (folded-length l m (and-right (eqb (upper x) (upper y)) (sameFolded l m) e))
 
 pub record Found (t : List ℕ) (k : Key) : Type 0 where
   pub run : KeyRun k
@@ -288,13 +290,13 @@ module _ (shut : ℕ) (r₀ r : Bool) where
 
       bars : eqb b shut ≡ false → (eqb b bar && not (isReference (p .value))) ≡ true → Lead (context shut r₀ (ps ++ (p ∷ []))) 0 (suc n)
       bars e g =
-          let q : isReference (p .value) ≡ false = not-true (isReference (p .value)) (and-r (eqb b bar) (not (isReference (p .value))) g) in
+          let q : isReference (p .value) ≡ false = not-true (isReference (p .value)) (and-right (eqb b bar) (not (isReference (p .value))) g) in
           record {
             is = refl;
             first = first-of ps p (w .first) q;
             path = λ k.
                 ap (contentRun (home [])) (lead-snoc ps p)
-                ∙ reach bar (eqb-true b bar (and-l (eqb b bar) (not (isReference (p .value))) g)) k (λ z. absurd (false≢true (sym q ∙ z)))
+                ∙ reach bar (eqb-true b bar (and-left (eqb b bar) (not (isReference (p .value))) g)) k (λ z. absurd (false≢true (sym q ∙ z)))
                 ∙ pick-false (eqb b shut) _ _ e
                 ∙ pick-true (eqb b bar && not (isReference (p .value))) _ _ g;
             short = rw (lead-snoc ps p, length-append (lead ps) (partText p ++ (bar ∷ [])), length-append (partText p) (bar ∷ [])) (omega (arith, w .short));
@@ -310,7 +312,7 @@ module _ (shut : ℕ) (r₀ r : Bool) where
         lead-on c j (suc (length (written k ++ valueText v))) n (suc n) w (omega arith),
         (λ z. absurd (false≢true (sym q ∙ z))),
         (λ g o.
-            ap (λ z. contentRun (home (c .parts)) ((written k ++ valueText v) ++ (z ∷ []))) (sym (eqb-true b hash (and-l (eqb b hash) (eqb shut shutSquare) e)))
+            ap (λ z. contentRun (home (c .parts)) ((written k ++ valueText v) ++ (z ∷ []))) (sym (eqb-true b hash (and-left (eqb b hash) (eqb shut shutSquare) e)))
             ∙ f g
             ∙ pick-true (eqb b hash && eqb shut shutSquare) _ _ e),
       ))
@@ -360,8 +362,8 @@ module _ (shut : ℕ) (r₀ r : Bool) where
       branch (eqb b hash && r₀ && none? (c .parts)) (InvC (suc n)) _ _
       (λ e. (
         lead-on c 0 1 n (suc n) w (omega arith),
-        (λ z. (nil-of (c .parts) (and-r (eqb b hash && r₀) (none? (c .parts)) e), and-r (eqb b hash) r₀ (and-l (eqb b hash && r₀) (none? (c .parts)) e))),
-        (λ f o. content-one _ hash ∙ begin-hash (c .parts) (o refl) (nil-of (c .parts) (and-r (eqb b hash && r₀) (none? (c .parts)) e))),
+        (λ z. (nil-of (c .parts) (and-right (eqb b hash && r₀) (none? (c .parts)) e), and-right (eqb b hash) r₀ (and-left (eqb b hash && r₀) (none? (c .parts)) e))),
+        (λ f o. content-one _ hash ∙ begin-hash (c .parts) (o refl) (nil-of (c .parts) (and-right (eqb b hash && r₀) (none? (c .parts)) e))),
       ))
       (λ e. tt))))
 

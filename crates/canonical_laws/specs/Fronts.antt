@@ -19,7 +19,8 @@ use Rattle.scope.specs.Content.{value, none?}
 use Rattle.scope.specs.Reading.{square, front, undecided, counted, referred, act, mayEnd, Held, countDigit, asNTerm, State, dead, outside, inside, perform, refers?, step, run, start, lineOf}
 use Rattle.scope.specs.Modifications.{keep, flat}
 use Rattle.scope.specs.Canonical.{decimal, partsText, squareText, curlyText, countText, unknownText, kindCode, ofKind, closedBy, ledBy, sequenceText, canonical}
-use Rattle.canonical_laws.specs.Lists.{branch, All, all-append, all-front, all-back, all-map, keep-append, flat-append}
+use Rattle.basics.specs.Lists.{keep-append, flat-append}
+use Rattle.canonical_laws.specs.Lists.{branch, All, all-append, all-front, all-back, all-map}
 use Rattle.canonical_laws.specs.Numbers.{digit-below, decimal-length}
 use Rattle.canonical_laws.specs.Brackets.{Place, Parts}
 use Rattle.canonical_laws.specs.Runs.{lineRun, line-nil, line-cons, line-further, Reads}

@@ -7,7 +7,6 @@ pub mod Unknowns
 pub mod Sequence
 pub mod Lines
 pub mod Fronts
-pub mod Forgotten
 pub mod Counts
 pub mod Refusals
 pub mod Accepted

@@ -21,7 +21,8 @@ use Rattle.scope.specs.Content.{none?, Inner, Content, lost, closed, going, inn
 use Rattle.scope.specs.Reading.{square, labile, element, further, groupFirst, inGroup, act, Held, withResidue, bracketOf, settled, put, withBracket, State, dead, outside, inside, perform, refers?, modeAfter, resume, run, start}
 use Rattle.scope.specs.Modifications.{flat}
 use Rattle.scope.specs.Canonical.{partsText, squareText, curlyText, unknownText, ofKind, endingAt, closedBy, opening, ending, isNext, sequenceText}
-use Rattle.canonical_laws.specs.Lists.{branch, All, all-append, all-front, all-back, all-map, flat-append}
+use Rattle.basics.specs.Lists.{flat-append}
+use Rattle.canonical_laws.specs.Lists.{branch, All, all-append, all-front, all-back, all-map}
 use Rattle.canonical_laws.specs.Brackets.{Place, Parts, Inv, InvC, Closed, inner-step, inner-start}
 use Rattle.canonical_laws.specs.Runs.{lineRun, line-one, line-further, bracket-run, same-mode, Letter, letter-of, front-letter, labiles-letter, start-letter, single-letter, ranged-letter, unsureEnd-letter, opened-letter, unsureOpened-letter, inRange-letter, inUnsure-letter, residue-run}
 use Rattle.canonical_laws.specs.Unknowns.{Brackets, unknown, normal, FitsBracket, IsUnknown, held, moved, IsTerm}

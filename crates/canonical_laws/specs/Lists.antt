@@ -1,10 +1,9 @@
 -- Facts about lists and tests that the laws of the canonical line use.
-use mathlib.Core.Path.{_≡_, refl, sym, ap, _∙_}
-use mathlib.Core.Bool.{Bool, true, false, cond, _&&_, true≢false, false≢true}
+use mathlib.Core.Path.{_≡_, refl, ap}
+use mathlib.Core.Bool.{Bool, true, false, cond, true≢false, false≢true}
 use mathlib.Core.Option.{Option, none, some}
-use mathlib.Core.List.{List, [], _∷_, _++_, append-assoc}
+use mathlib.Core.List.{List, [], _∷_, _++_}
 use Rattle.scope.specs.Content.{given}
-use Rattle.scope.specs.Modifications.{keep, flat}
 
 -- ---- tests
 pub branch : {A : Type 0} (t : Bool) (P : A → Type 0) (x y : A) → (t ≡ true → P x) → (t ≡ false → P y) → P (cond t x y)
@@ -14,15 +13,6 @@ branch false P x y f g = g refl
 pub branchO : {A B : Type 0} (o : Option A) (P : B → Type 0) (x : A → B) (y : B) → ((a : A) → o ≡ some a → P (x a)) → (o ≡ none → P y) → P (given o x y)
 branchO none P x y f g = g refl
 branchO (some a) P x y f g = f a refl
-
-pub and-l : (a b : Bool) → (a && b) ≡ true → a ≡ true
-and-l true b e = refl
-and-l false b e = e
-
-pub and-r : (a b : Bool) → (a && b) ≡ true → b ≡ true
-and-r true b e = e
-and-r false true e = refl
-and-r false false e = e
 
 -- ---- all elements of a list
 abbrev pub All : {A : Type 0} → (A → Type 0) → List A → Type 0
@@ -46,16 +36,6 @@ all-map P Q [] f u = tt
 all-map P Q (x ∷ l) f u = (f x (u .0), all-map P Q l f (u .1))
 
 -- ---- keep and flat
-pub flat-append : {A B : Type 0} (f : A → List B) (l m : List A) → flat f (l ++ m) ≡ flat f l ++ flat f m
-unfolding flat
-flat-append f [] m = refl
-flat-append f (x ∷ l) m = ap (λ z. f x ++ z) (flat-append f l m) ∙ sym (append-assoc (f x) (flat f l) (flat f m))
-
-pub keep-append : {A : Type 0} (f : A → Bool) (l m : List A) → keep f (l ++ m) ≡ keep f l ++ keep f m
-unfolding keep
-keep-append f [] m = refl
-keep-append f (x ∷ l) m = ap (λ z. cond (f x) (x ∷ []) [] ++ z) (keep-append f l m) ∙ sym (append-assoc (cond (f x) (x ∷ []) []) (keep f l) (keep f m))
-
 pub pick-true : {A : Type 0} (t : Bool) (x y : A) → t ≡ true → cond t x y ≡ x
 pick-true true x y e = refl
 pick-true false x y e = absurd (false≢true e)

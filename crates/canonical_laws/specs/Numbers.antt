@@ -14,7 +14,8 @@ use Rattle.scope.specs.Bytes.{isDigit, dot}
 use Rattle.scope.specs.Line.{Number}
 use Rattle.scope.specs.Content.{given, Digits, signed, whole, pointed, broken, value, digitStep, numberEnd}
 use Rattle.scope.specs.Canonical.{decimalUpTo, decimal, lastDigits, decimals, size}
-use Rattle.canonical_laws.specs.Lists.{and-l, and-r, branch}
+use Rattle.basics.specs.Tests.{and-left, and-right}
+use Rattle.canonical_laws.specs.Lists.{branch}
 
 -- ---- a run of digits
 unfoldable pub digitRun : Digits → List ℕ → Option Digits
@@ -168,7 +169,7 @@ Sized (pointed s m) j = Sizes m 0 j
 Sized (broken s m d) j = Sizes m d j × (1 ≤ d)
 
 pub digit-below : (b : ℕ) → isDigit b ≡ true → b - 48 < 10
-digit-below b e = omega (arith, leb-true 48 b (and-l (leb 48 b) (leb b 57) e), leb-true b 57 (and-r (leb 48 b) (leb b 57) e))
+digit-below b e = omega (arith, leb-true 48 b (and-left (leb 48 b) (leb b 57) e), leb-true b 57 (and-right (leb 48 b) (leb b 57) e))
 
 one-more : (m v d : ℕ) → v < 10 → (m * 10 + v) / 10 ^ suc d ≡ m / 10 ^ d
 one-more m v d h = ap (λ x. (m * 10 + v) / x) (pow-succ' 10 d) ∙ sym (div-div-eq-div-mul (m * 10 + v) 10 (10 ^ d)) ∙ ap (λ x. x / 10 ^ d) (omega arith)

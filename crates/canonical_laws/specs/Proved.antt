@@ -20,6 +20,7 @@ use Rattle.reading_laws.specs.Laws.{Clear}
 use Rattle.reading_laws.specs.Places.{mapBracket, mapResidue, mapLine, mapHeld, mapState, tables-map}
 use Rattle.reading_laws.specs.Run.{unnoted}
 use Rattle.reading_laws.specs.Printable.{order-printable}
+use Rattle.layout_laws.specs.Bare.{canonical-bare}
 use Rattle.canonical_laws.specs.Laws.{ReadsTo, Laws}
 use Rattle.canonical_laws.specs.Lists.{All, pick-true, pick-false}
 use Rattle.canonical_laws.specs.Brackets.{Place}
@@ -27,7 +28,6 @@ use Rattle.canonical_laws.specs.Runs.{lineRun}
 use Rattle.canonical_laws.specs.Unknowns.{Brackets, normal}
 use Rattle.canonical_laws.specs.Lines.{norm}
 use Rattle.canonical_laws.specs.Fronts.{Again, read-again}
-use Rattle.canonical_laws.specs.Forgotten.{of-tables}
 use Rattle.canonical_laws.specs.Counts.{Once, OnceIn, once-read}
 use Rattle.canonical_laws.specs.Refusals.{Alike, none-5, none-6, none-7, none-8, none-9, none-10, none-11, none-12}
 use Rattle.canonical_laws.specs.Accepted.{Taken, taken, taken-back, not-stuck, stopped, unnoted-run, fits-line, alike-of}
@@ -43,7 +43,7 @@ pub record Back (s : List ℕ) (l : Line ℕ) : Type 0 where
 
 -- what is noted of places does not enter the canonical line
 canonical-unnoted : (l : Line ℕ) → canonical (mapLine unnoted l) ≡ canonical l
-canonical-unnoted l = sym (of-tables (mapLine unnoted l)) ∙ ap canonical (tables-map unnoted l) ∙ of-tables l
+canonical-unnoted l = sym (canonical-bare (mapLine unnoted l)) ∙ ap canonical (tables-map unnoted l) ∙ canonical-bare l
 
 -- a state that is as one outside brackets, with places forgotten, is outside brackets
 pub record Outer (s : State ℕ) (m : Mode) (h : Held Place) : Type 0 where
@@ -162,7 +162,7 @@ same-line : (l m : Line ℕ) → accepted l ≡ accepted m → l ≡ m
 same-line l m e = cc
 
 one-entry : (s s′ : List ℕ) (l l′ : Line ℕ) → outcome s ≡ accepted l → outcome s′ ≡ accepted l′ → canonical l ≡ canonical l′ ↔ tablesOf l ≡ tablesOf l′
-one-entry s s′ l l′ e f = (there, λ g. sym (of-tables l) ∙ ap canonical g ∙ of-tables l′)
+one-entry s s′ l l′ e f = (there, λ g. sym (canonical-bare l) ∙ ap canonical g ∙ canonical-bare l′)
   where
     there : canonical l ≡ canonical l′ → tablesOf l ≡ tablesOf l′
     there g =
@@ -176,7 +176,7 @@ no-longer s l e = back s l (taken s l e) .short
 itself : (s : List ℕ) (l l′ : Line ℕ) → outcome s ≡ accepted l → outcome (canonical l) ≡ accepted l′ → canonical l′ ≡ canonical l
 itself s l l′ e f =
     let a = reads-back s l e in
-    sym (of-tables l′) ∙ ap canonical (ap tablesOf (same-line l′ (a .line) (sym f ∙ a .taken)) ∙ a .tables) ∙ of-tables l
+    sym (canonical-bare l′) ∙ ap canonical (ap tablesOf (same-line l′ (a .line) (sym f ∙ a .taken)) ∙ a .tables) ∙ canonical-bare l
 
 some-line : (t : Tables) → ((s : List ℕ) × ReadsTo s t) ↔ ReadsTo (canonical t) t
 some-line t = (there, λ r. (canonical t, r))
@@ -184,7 +184,7 @@ some-line t = (there, λ r. (canonical t, r))
     there : (s : List ℕ) × ReadsTo s t → ReadsTo (canonical t) t
     there r =
         subst (λ (z : Tables). ReadsTo (canonical z) z) (r .1 .tables)
-        (subst (λ (z : List ℕ). ReadsTo z (tablesOf (r .1 .line))) (sym (of-tables (r .1 .line))) (reads-back (r .0) (r .1 .line) (r .1 .taken)))
+        (subst (λ (z : List ℕ). ReadsTo z (tablesOf (r .1 .line))) (sym (canonical-bare (r .1 .line))) (reads-back (r .0) (r .1 .line) (r .1 .taken)))
 
 pub laws : Laws
-laws = record { reads-back = reads-back; one-entry = one-entry; no-longer = no-longer; itself = itself; of-tables = of-tables; some-line = some-line }
+laws = record { reads-back = reads-back; one-entry = one-entry; no-longer = no-longer; itself = itself; of-tables = canonical-bare; some-line = some-line }

@@ -17,39 +17,24 @@ use Rattle.scope.specs.Reading.{refers?}
 use Rattle.scope.specs.Modifications.{all, flat, among, isKey, onlyInfo, isReferring, nameOf, namesOf, isLabelled, copies, definedBy, referredBy, defined, referredTo}
 use Rattle.scope.specs.Refusals.{dueAt, least, depthAfter, tooDeep, textIn, textOf, deepPart, refusal5, longText, longLabel, overIn, refusal6, inRange, wide, wideMass, wideScore, wideCount, refusal7, isLink, notHere, refusal8, isNumberName, refusal9, unknownOrLabile, refusal10, isUnknown, secondLabel, shared, definedAgain, undefined, countedLabel, unreferred, wrongLabels, wronglyLabelled, refusal11, passing, refusal12}
 use Rattle.scope.specs.Tables.{optional, bareNumber, bareLabel, bareValue, barePart, bareBracket}
+use Rattle.basics.specs.Lists.{least-none, not-due, nil-front, nil-back}
+use Rattle.basics.specs.Tests.{or-left, or-right, neither}
 use Rattle.canonical_laws.specs.Counts.{Once}
 
 -- ---- lists of places
-pub nil-front : {A : Type 0} (l m : List A) → l ++ m ≡ [] → l ≡ []
-nil-front [] m e = refl
-nil-front (x ∷ l) m e = absurd (let z : _≡_ {A = ℕ} 0 1 = cc in omega arith)
-
-pub nil-back : {A : Type 0} (l m : List A) → l ++ m ≡ [] → m ≡ []
-nil-back [] m e = e
-nil-back (x ∷ l) m e = absurd (let z : _≡_ {A = ℕ} 0 1 = cc in omega arith)
-
 nil-both : {A : Type 0} (l m : List A) → l ≡ [] → m ≡ [] → l ++ m ≡ []
 nil-both l m e f = rw e f
-
-pub least-nil : (l : List ℕ) → least l ≡ none → l ≡ []
-unfolding least
-least-nil [] e = refl
-least-nil (i ∷ l) e = absurd (Option·none-ne-some _ (sym e))
 
 pub nil-least : (l : List ℕ) → l ≡ [] → least l ≡ none
 unfolding least
 nil-least l e = rw e
-
-pub due-false : (t : Bool) (i : ℕ) → dueAt t i ≡ [] → t ≡ false
-due-false true i e = absurd (let z : _≡_ {A = ℕ} 0 1 = cc in omega arith)
-due-false false i e = refl
 
 false-due : (t : Bool) (i : ℕ) → t ≡ false → dueAt t i ≡ []
 false-due t i e = rw e
 
 -- the same test at another place
 due-moves : (t u : Bool) (i j : ℕ) → t ≡ u → dueAt t i ≡ [] → dueAt u j ≡ []
-due-moves t u i j e h = false-due u j (sym e ∙ due-false t i h)
+due-moves t u i j e h = false-due u j (sym e ∙ not-due t i h)
 
 drop-moves : {A B : Type 0} (n : ℕ) (f : A → ℕ) (g : B → ℕ) (l : List A) (m : List B) → length l ≡ length m → drop n (map f l) ≡ [] → drop n (map g m) ≡ []
 drop-moves n f g l m e h =
@@ -147,7 +132,7 @@ deep-part p q e h = deep-moves 0 (p .at + length (written (p .key))) _ (textOf q
 
 pub none-5 : (l m : Line ℕ) → Alike (l .brackets) (m .brackets) → refusal5 l ≡ none → refusal5 m ≡ none
 unfolding refusal5
-none-5 l m w h = nil-least _ (alike-moves (λ k. flat deepPart (k .parts)) (parts-move deepPart deep-part) (l .brackets) (m .brackets) w (least-nil _ h))
+none-5 l m w h = nil-least _ (alike-moves (λ k. flat deepPart (k .parts)) (parts-move deepPart deep-part) (l .brackets) (m .brackets) w (least-none _ h))
 
 -- ---- 6
 over-part : (p q : Part ℕ) → barePart p ≡ barePart q → longText p ++ longLabel p ≡ [] → longText q ++ longLabel q ≡ []
@@ -166,7 +151,7 @@ over-bracket k q w h =
 pub none-6 : (l m : Line ℕ) → length (l .residues) ≡ length (m .residues) → Alike (l .brackets) (m .brackets) → refusal6 l ≡ none → refusal6 m ≡ none
 unfolding refusal6
 none-6 l m r w h =
-    let z = least-nil (drop residueLimit (map (λ r. r .at) (l .residues)) ++ (drop bracketLimit (map (λ k. k .at) (l .brackets)) ++ flat overIn (l .brackets))) h in
+    let z = least-none (drop residueLimit (map (λ r. r .at) (l .residues)) ++ (drop bracketLimit (map (λ k. k .at) (l .brackets)) ++ flat overIn (l .brackets))) h in
     let y = nil-back (drop residueLimit (map (λ r. r .at) (l .residues))) (drop bracketLimit (map (λ k. k .at) (l .brackets)) ++ flat overIn (l .brackets)) z in
     nil-least _
     (nil-both (drop residueLimit (map (λ r. r .at) (m .residues))) _
@@ -216,7 +201,7 @@ none-7 l m w h =
     (λ k q s g.
     nil-both (wideCount q) _ (count-moves k q s (nil-front (wideCount k) (flat (λ p. wideMass (p .value) ++ wideScore p) (k .parts)) g))
     (parts-move (λ p. wideMass (p .value) ++ wideScore p) wide-part k q s (nil-back (wideCount k) (flat (λ p. wideMass (p .value) ++ wideScore p) (k .parts)) g)))
-    (l .brackets) (m .brackets) w (least-nil _ h))
+    (l .brackets) (m .brackets) w (least-none _ h))
 
 -- ---- 8 and 9
 test-moves : (T : Part ℕ → Bool) (B : Part (Unit {0}) → Bool) → ((p : Part ℕ) → B (barePart p) ≡ T p) → (p q : Part ℕ) → barePart p ≡ barePart q → dueAt (T p) (p .at) ≡ [] → dueAt (T q) (q .at) ≡ []
@@ -233,7 +218,7 @@ pub none-8 : (l m : Line ℕ) → Alike (l .brackets) (m .brackets) → refusal8
 unfolding refusal8
 none-8 l m w h =
     nil-least _
-    (alike-moves (λ k. flat (λ p. dueAt (notHere p) (p .at)) (k .parts)) (parts-move (λ p. dueAt (notHere p) (p .at)) (test-moves notHere notHere notHere-bare)) (l .brackets) (m .brackets) w (least-nil _ h))
+    (alike-moves (λ k. flat (λ p. dueAt (notHere p) (p .at)) (k .parts)) (parts-move (λ p. dueAt (notHere p) (p .at)) (test-moves notHere notHere notHere-bare)) (l .brackets) (m .brackets) w (least-none _ h))
 
 name-bare : (p : Part ℕ) → isNumberName (barePart p) ≡ isNumberName p
 name-bare p = rw (text-bare p)
@@ -242,7 +227,7 @@ pub none-9 : (l m : Line ℕ) → Alike (l .brackets) (m .brackets) → refusal9
 unfolding refusal9
 none-9 l m w h =
     nil-least _
-    (alike-moves (λ k. flat (λ p. dueAt (isNumberName p) (p .at)) (k .parts)) (parts-move (λ p. dueAt (isNumberName p) (p .at)) (test-moves isNumberName isNumberName name-bare)) (l .brackets) (m .brackets) w (least-nil _ h))
+    (alike-moves (λ k. flat (λ p. dueAt (isNumberName p) (p .at)) (k .parts)) (parts-move (λ p. dueAt (isNumberName p) (p .at)) (test-moves isNumberName isNumberName name-bare)) (l .brackets) (m .brackets) w (least-none _ h))
 
 -- ---- 10
 info-bare : (ps : List (Part ℕ)) → all (isKey Info) (map barePart ps) ≡ all (isKey Info) ps
@@ -265,7 +250,7 @@ none-10 l m w h =
     nil-least _
     (alike-moves (λ k. dueAt (unknownOrLabile (k .kind) && onlyInfo k) (k .at))
     (λ k q s g. due-moves _ _ (k .at) (q .at) (ap (λ z. unknownOrLabile z && onlyInfo k) (same-kind k q s) ∙ ap (λ z. unknownOrLabile (q .kind) && z) (same-info k q s)) g)
-    (l .brackets) (m .brackets) w (least-nil _ h))
+    (l .brackets) (m .brackets) w (least-none _ h))
 
 -- ---- labels
 refers-bare : (ps : List (Part ℕ)) → refers? (map barePart ps) ≡ refers? ps
@@ -306,17 +291,6 @@ alike-flat F g (k ∷ ks) [] w = absurd w
 alike-flat F g (k ∷ ks) (q ∷ qs) w = ap (λ z. z ++ flat F ks) (g k q (w .0)) ∙ ap (λ z. F q ++ z) (alike-flat F g ks qs (w .1))
 
 -- ---- 11
-or-l : (a b : Bool) → (a || b) ≡ false → a ≡ false
-or-l true b e = e
-or-l false b e = refl
-
-or-r : (a b : Bool) → (a || b) ≡ false → b ≡ false
-or-r true b e = absurd (true≢false e)
-or-r false b e = e
-
-or-both : (a b : Bool) → a ≡ false → b ≡ false → (a || b) ≡ false
-or-both a b e f = rw e f
-
 counted-moves : (k q : Bracket ℕ) → Same k q → countedLabel k ≡ false → countedLabel q ≡ false
 counted-moves k q w h = go (isLabelled k) (isLabelled q) (ap (λ z. not (none? z)) (same-names k q w)) h (k .counted) (q .counted) refl refl
   where
@@ -329,26 +303,26 @@ counted-moves k q w h = go (isLabelled k) (isLabelled q) (ap (λ z. not (none? z
 
 wrong-moves : (b d r : List (List ℕ)) (k q : Bracket ℕ) → Same k q → wrongLabels b d r k ≡ false → wrongLabels b d r q ≡ false
 wrong-moves b d r k q w h =
-    or-both _ (unreferred r q)
-    (or-both _ (countedLabel q)
-    (or-both _ (undefined d q)
-    (or-both (secondLabel q) (definedAgain b q)
-    (ap (λ z. ltb 1 (length z)) (sym (same-names k q w)) ∙ or-l (secondLabel k) (definedAgain b k) three)
-    (ap (λ z. shared z b) (sym (same-defined k q w)) ∙ or-r (secondLabel k) (definedAgain b k) three))
-    (ap (λ z. not (all (λ x. among x d) z)) (sym (same-referred k q w)) ∙ or-r (secondLabel k || definedAgain b k) (undefined d k) two))
-    (counted-moves k q w (or-r (secondLabel k || definedAgain b k || undefined d k) (countedLabel k) one)))
+    neither _ (unreferred r q)
+    (neither _ (countedLabel q)
+    (neither _ (undefined d q)
+    (neither (secondLabel q) (definedAgain b q)
+    (ap (λ z. ltb 1 (length z)) (sym (same-names k q w)) ∙ or-left (secondLabel k) (definedAgain b k) three)
+    (ap (λ z. shared z b) (sym (same-defined k q w)) ∙ or-right (secondLabel k) (definedAgain b k) three))
+    (ap (λ z. not (all (λ x. among x d) z)) (sym (same-referred k q w)) ∙ or-right (secondLabel k || definedAgain b k) (undefined d k) two))
+    (counted-moves k q w (or-right (secondLabel k || definedAgain b k || undefined d k) (countedLabel k) one)))
     (ap (λ z. isUnknown z && not (all (λ x. among x r) (definedBy q))) (sym (same-kind k q w))
     ∙ ap (λ z. isUnknown (k .kind) && not (all (λ x. among x r) z)) (sym (same-defined k q w))
-    ∙ or-r (secondLabel k || definedAgain b k || undefined d k || countedLabel k) (unreferred r k) h)
+    ∙ or-right (secondLabel k || definedAgain b k || undefined d k || countedLabel k) (unreferred r k) h)
   where
     one : (secondLabel k || definedAgain b k || undefined d k || countedLabel k) ≡ false
-    one = or-l (secondLabel k || definedAgain b k || undefined d k || countedLabel k) (unreferred r k) h
+    one = or-left (secondLabel k || definedAgain b k || undefined d k || countedLabel k) (unreferred r k) h
 
     two : (secondLabel k || definedAgain b k || undefined d k) ≡ false
-    two = or-l (secondLabel k || definedAgain b k || undefined d k) (countedLabel k) one
+    two = or-left (secondLabel k || definedAgain b k || undefined d k) (countedLabel k) one
 
     three : (secondLabel k || definedAgain b k) ≡ false
-    three = or-l (secondLabel k || definedAgain b k) (undefined d k) two
+    three = or-left (secondLabel k || definedAgain b k) (undefined d k) two
 
 labelled-moves : (b d r : List (List ℕ)) (ks qs : List (Bracket ℕ)) → Alike ks qs → wronglyLabelled b d r ks ≡ [] → wronglyLabelled b d r qs ≡ []
 unfolding wronglyLabelled
@@ -357,7 +331,7 @@ labelled-moves b d r [] (q ∷ qs) w h = absurd w
 labelled-moves b d r (k ∷ ks) [] w h = absurd w
 labelled-moves b d r (k ∷ ks) (q ∷ qs) w h =
     nil-both (dueAt (wrongLabels b d r q) (q .at)) (wronglyLabelled (b ++ definedBy q) d r qs)
-    (false-due (wrongLabels b d r q) (q .at) (wrong-moves b d r k q (w .0) (due-false (wrongLabels b d r k) (k .at) (nil-front _ (wronglyLabelled (b ++ definedBy k) d r ks) h))))
+    (false-due (wrongLabels b d r q) (q .at) (wrong-moves b d r k q (w .0) (not-due (wrongLabels b d r k) (k .at) (nil-front _ (wronglyLabelled (b ++ definedBy k) d r ks) h))))
     (subst (λ (z : List (List ℕ)). wronglyLabelled (b ++ z) d r qs ≡ []) (same-defined k q (w .0))
     (labelled-moves (b ++ definedBy k) d r ks qs (w .1) (nil-back (dueAt (wrongLabels b d r k) (k .at)) _ h)))
 
@@ -367,7 +341,7 @@ none-11 l m w h =
     nil-least _
     (subst (λ (z : List (List ℕ)). wronglyLabelled [] z (referredTo (m .brackets)) (m .brackets) ≡ []) (alike-flat definedBy same-defined (l .brackets) (m .brackets) w)
     (subst (λ (z : List (List ℕ)). wronglyLabelled [] (defined (l .brackets)) z (m .brackets) ≡ []) (alike-flat referredBy same-referred (l .brackets) (m .brackets) w)
-    (labelled-moves [] (defined (l .brackets)) (referredTo (l .brackets)) (l .brackets) (m .brackets) w (least-nil _ h))))
+    (labelled-moves [] (defined (l .brackets)) (referredTo (l .brackets)) (l .brackets) (m .brackets) w (least-none _ h))))
 
 -- ---- 12
 same-copies : (k q : Bracket ℕ) → Same k q → copies k ≡ copies q
@@ -386,4 +360,4 @@ passing-moves n (k ∷ ks) (q ∷ qs) w h =
 
 pub none-12 : (l m : Line ℕ) → Alike (l .brackets) (m .brackets) → refusal12 l ≡ none → refusal12 m ≡ none
 unfolding refusal12
-none-12 l m w h = nil-least _ (passing-moves 0 (l .brackets) (m .brackets) w (least-nil _ h))
+none-12 l m w h = nil-least _ (passing-moves 0 (l .brackets) (m .brackets) w (least-none _ h))

@@ -16,7 +16,8 @@ use Rattle.scope.specs.Bytes.{upper, isUpper, isLower, isLetter, openSquare, op
 use Rattle.scope.specs.Content.{Inner, begin, Content, lost, closed, going, innerStep}
 use Rattle.scope.specs.Reading.{element, further, groupFirst, inGroup, act, Held, withResidue, withBracket, State, outside, inside, perform, refers?, modeAfter, resume, step, run}
 use Rattle.scope.specs.Canonical.{partsText}
-use Rattle.canonical_laws.specs.Lists.{and-l, and-r, pick-true, pick-false}
+use Rattle.basics.specs.Tests.{and-left, and-right}
+use Rattle.canonical_laws.specs.Lists.{pick-true, pick-false}
 use Rattle.canonical_laws.specs.Brackets.{Place, Parts, context, contentStep, contentRun}
 
 unfoldable pub lineRun : State Place → List ℕ → State Place
@@ -107,14 +108,14 @@ unfolding upper
 letter-of b e = go (isLower b) refl e
   where
     low-case : isLower b ≡ true → Letter (b - 32)
-    low-case f = record { low = omega (arith, leb-true 97 b (and-l (leb 97 b) (leb b 122) f)); high = omega (arith, leb-true b 122 (and-r (leb 97 b) (leb b 122) f)) }
+    low-case f = record { low = omega (arith, leb-true 97 b (and-left (leb 97 b) (leb b 122) f)); high = omega (arith, leb-true b 122 (and-right (leb 97 b) (leb b 122) f)) }
 
     go : (t : Bool) → isLower b ≡ t → (isUpper b || t) ≡ true → Letter (cond t (b - 32) b)
     go true f e = low-case f
     go false f e = either (isUpper b) refl e
       where
         either : (u : Bool) → isUpper b ≡ u → (u || false) ≡ true → Letter b
-        either true g e = record { low = leb-true 65 b (and-l (leb 65 b) (leb b 90) g); high = leb-true b 90 (and-r (leb 65 b) (leb b 90) g) }
+        either true g e = record { low = leb-true 65 b (and-left (leb 65 b) (leb b 90) g); high = leb-true b 90 (and-right (leb 65 b) (leb b 90) g) }
         either false g e = absurd (false≢true e)
 
 pub upper-same : (a : ℕ) → Letter a → upper a ≡ a

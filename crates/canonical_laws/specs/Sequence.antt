@@ -13,7 +13,8 @@ use Rattle.scope.specs.declared.grammar.Kind.the-variants.{OnResidue, OnRange}
 use Rattle.scope.specs.Line.{Bracket, Residue}
 use Rattle.scope.specs.Modifications.{keep, flat}
 use Rattle.scope.specs.Canonical.{squareText, kindCode, ofKind, endingAt, opening, ending, isNext, goesOn, sequenceText}
-use Rattle.canonical_laws.specs.Lists.{pick-true, pick-false, All, keep-append, flat-append}
+use Rattle.basics.specs.Lists.{keep-append, flat-append}
+use Rattle.canonical_laws.specs.Lists.{pick-true, pick-false, All}
 use Rattle.canonical_laws.specs.Brackets.{Place}
 use Rattle.canonical_laws.specs.Unknowns.{Brackets}
 

@@ -16,10 +16,13 @@ use Rattle.scope.specs.Modifications.{flat}
 use Rattle.scope.specs.Reading.{asNTerm, times}
 use Rattle.scope.specs.Refusals.{dueAt, least, deepPart, overIn, wideCount, wideMass, wideScore, notHere, isNumberName}
 use Rattle.marks.specs.declared.Marks.{Marks}
-use Rattle.marks.specs.Marks.{coded, Dues, both, MarksAre}
+use Rattle.places.specs.Places.{coded}
+use Rattle.marks.specs.Marks.{Dues, both, MarksAre}
 use Rattle.bracketed.specs.Bracketed.{partsDues}
+use Rattle.basics.specs.Lists.{flat-append, flat-snoc, least-none}
 use Rattle.checking.specs.Stages.{dues, withOver, withWide}
-use Rattle.checking.proofs.Lists.{flat-append, flat-more, flat-map, map-append, map-same, past-more, least-swap, least-cong, least-none}
+use Rattle.places.proofs.Least.{least-swap, least-cong}
+use Rattle.checking.proofs.Lists.{flat-map, map-append, map-same, past-more}
 
 -- the marks of lists with the same first places
 abbrev code : List ℕ → ℕ
@@ -57,22 +60,22 @@ bracket-due m rs ks k n e z g =
     let u : wideIn k ≡ flat (λ p. wideMass (p .value) ++ wideScore p) (k .parts) =
     ap (λ o. given o (dueAt (eqb (k .count) 0 || ltb countLimit (k .count))) [] ++ flat (λ p. wideMass (p .value) ++ wideScore p) (k .parts)) z in
     record {
-      deep = g .deep ∙ ap code (sym (flat-more (λ k. flat deepPart (k .parts)) ks k));
+      deep = g .deep ∙ ap code (sym (flat-snoc (λ k. flat deepPart (k .parts)) ks k));
       over =
           g .over
           ∙ ap code (ap (λ t. t ++ c) (append-assoc r (a ++ b) (overIn k)) ∙ append-assoc r ((a ++ b) ++ overIn k) c)
           ∙ ap coded (least-cong r (((a ++ b) ++ overIn k) ++ c) ((a ++ c) ++ (b ++ overIn k))
           (ap (λ t. least (t ++ c)) (append-assoc a b (overIn k)) ∙ least-swap a (b ++ overIn k) c))
           ∙ ap (λ t. code (r ++ (t ++ (b ++ overIn k)))) (sym f)
-          ∙ ap (λ t. code (r ++ (drop bracketLimit (map (λ k. k .at) (ks ++ (k ∷ []))) ++ t))) (sym (flat-more overIn ks k));
-      wide = g .wide ∙ ap (λ t. code (flat wideIn ks ++ t)) (sym u) ∙ ap code (sym (flat-more wideIn ks k));
-      barred = g .barred ∙ ap code (sym (flat-more (λ k. flat (λ p. dueAt (notHere p) (p .at)) (k .parts)) ks k));
-      digits = g .digits ∙ ap code (sym (flat-more (λ k. flat (λ p. dueAt (isNumberName p) (p .at)) (k .parts)) ks k));
+          ∙ ap (λ t. code (r ++ (drop bracketLimit (map (λ k. k .at) (ks ++ (k ∷ []))) ++ t))) (sym (flat-snoc overIn ks k));
+      wide = g .wide ∙ ap (λ t. code (flat wideIn ks ++ t)) (sym u) ∙ ap code (sym (flat-snoc wideIn ks k));
+      barred = g .barred ∙ ap code (sym (flat-snoc (λ k. flat (λ p. dueAt (notHere p) (p .at)) (k .parts)) ks k));
+      digits = g .digits ∙ ap code (sym (flat-snoc (λ k. flat (λ p. dueAt (isNumberName p) (p .at)) (k .parts)) ks k));
     }
 
 -- what is due of a bracket, its count apart, does not depend on its count
 pub last-same : {A : Type 0} (f : Bracket ℕ → List A) (ks : List (Bracket ℕ)) (k x : Bracket ℕ) → f k ≡ f x → flat f (ks ++ (k ∷ [])) ≡ flat f (ks ++ (x ∷ []))
-last-same f ks k x e = flat-more f ks k ∙ ap (λ t. flat f ks ++ t) e ∙ sym (flat-more f ks x)
+last-same f ks k x e = flat-snoc f ks k ∙ ap (λ t. flat f ks ++ t) e ∙ sym (flat-snoc f ks x)
 
 wide-same : (v c : ℕ) → v ≡ min 100 c → (eqb v 0 || ltb countLimit v) ≡ (eqb c 0 || ltb countLimit c)
 wide-same v c e =
@@ -100,9 +103,9 @@ count-due m rs ks k v c p e z g =
           ∙ ap (λ t. code (r ++ (drop bracketLimit (map (λ k. k .at) (ks ++ (times c p k ∷ []))) ++ t))) (last-same overIn ks k (times c p k) refl);
       wide =
           g .wide ∙ ap (λ t. code (flat wideIn (ks ++ (k ∷ [])) ++ t)) q
-          ∙ ap (λ t. code (t ++ d)) (flat-more wideIn ks k ∙ ap (λ t. flat wideIn ks ++ t) u)
+          ∙ ap (λ t. code (t ++ d)) (flat-snoc wideIn ks k ∙ ap (λ t. flat wideIn ks ++ t) u)
           ∙ ap coded (least-swap (flat wideIn ks) x d)
-          ∙ ap code (append-assoc (flat wideIn ks) d x ∙ sym (flat-more wideIn ks (times c p k)));
+          ∙ ap code (append-assoc (flat wideIn ks) d x ∙ sym (flat-snoc wideIn ks (times c p k)));
       barred = g .barred ∙ ap code (last-same (λ k. flat (λ p. dueAt (notHere p) (p .at)) (k .parts)) ks k (times c p k) refl);
       digits = g .digits ∙ ap code (last-same (λ k. flat (λ p. dueAt (isNumberName p) (p .at)) (k .parts)) ks k (times c p k) refl);
     }

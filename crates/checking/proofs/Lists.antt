@@ -1,30 +1,17 @@
 -- Lists in pieces: what each definition says of one element more. Assumes nothing.
 use mathlib.Core.Path.{_≡_, refl, sym, ap, _∙_}
 use mathlib.Core.Option.{Option, none, some}
-use mathlib.Core.List.{List, [], _∷_, _++_, map, append-assoc, append-nil}
-use Prim.Native.Nat.{ℕ, zero, suc, _+_, _*_, _≤_, min}
+use mathlib.Core.List.{List, [], _∷_, _++_, map}
+use Prim.Native.Nat.{ℕ, zero, suc, _+_, _*_, _≤_}
 use native.Mathlib.Omega.{arith}
 use lib.Dec.{leb, leb·zero, leb·suc-zero, leb·suc-suc}
 use lib.ListN.{length, drop, length-append}
 use Rattle.scope.specs.Content.{given}
 use Rattle.scope.specs.Line.{Label, Part, Bracket}
 use Rattle.scope.specs.Modifications.{flat, nameOf, namesOf}
-use Rattle.scope.specs.Refusals.{dueAt, least}
+use Rattle.scope.specs.Refusals.{dueAt}
 use Rattle.scope.specs.Reading.{onLast, asNTerm, times}
-use Rattle.marks.proofs.Least.{earlier, least-append}
 use Rattle.notes.specs.Notes.{noteRow, notesFrom, labelRow, labelRows, NamesStand}
-
-pub flat-append : {A B : Type 0} (f : A → List B) (l m : List A) → flat f (l ++ m) ≡ flat f l ++ flat f m
-unfolding flat
-flat-append f [] m = refl
-flat-append f (x ∷ l) m = ap (λ t. f x ++ t) (flat-append f l m) ∙ sym (append-assoc (f x) (flat f l) (flat f m))
-
-pub flat-one : {A B : Type 0} (f : A → List B) (x : A) → flat f (x ∷ []) ≡ f x
-unfolding flat
-flat-one f x = append-nil (f x)
-
-pub flat-more : {A B : Type 0} (f : A → List B) (l : List A) (x : A) → flat f (l ++ (x ∷ [])) ≡ flat f l ++ f x
-flat-more f l x = flat-append f l (x ∷ []) ∙ ap (λ t. flat f l ++ t) (flat-one f x)
 
 pub flat-map : {A B : Type 0} (f : A → List B) (g : A → A) → ((x : A) → f (g x) ≡ f x) → (l : List A) → flat f (map g l) ≡ flat f l
 unfolding flat
@@ -60,40 +47,6 @@ past-none (suc n) (x ∷ l) e = let h = past-none n l e in omega arith
 pub append-none : {A : Type 0} (a b : List A) → a ++ b ≡ [] → (a ≡ []) × (b ≡ [])
 append-none [] b e = (refl, e)
 append-none (x ∷ a) b e = let z : suc (length (a ++ b)) ≡ 0 = ap length e in absurd (omega arith)
-
--- `least` does not change when pieces change places
-earlier-none : (o : Option ℕ) → earlier o none ≡ o
-earlier-none none = refl
-earlier-none (some i) = refl
-
-earlier-comm : (o p : Option ℕ) → earlier o p ≡ earlier p o
-earlier-comm none p = sym (earlier-none p)
-earlier-comm (some i) none = refl
-earlier-comm (some i) (some j) = ap some (let e : min i j ≡ min j i = omega arith in e)
-
-earlier-assoc : (o p q : Option ℕ) → earlier (earlier o p) q ≡ earlier o (earlier p q)
-earlier-assoc none p q = refl
-earlier-assoc (some i) none q = refl
-earlier-assoc (some i) (some j) none = refl
-earlier-assoc (some i) (some j) (some k) = ap some (let e : min (min i j) k ≡ min i (min j k) = omega arith in e)
-
-swap : (o p q : Option ℕ) → earlier (earlier o p) q ≡ earlier (earlier o q) p
-swap o p q = earlier-assoc o p q ∙ ap (earlier o) (earlier-comm p q) ∙ sym (earlier-assoc o q p)
-
-pub least-swap : (a b c : List ℕ) → least ((a ++ b) ++ c) ≡ least ((a ++ c) ++ b)
-least-swap a b c =
-    least-append (a ++ b) c ∙ ap (λ o. earlier o (least c)) (least-append a b)
-    ∙ swap (least a) (least b) (least c)
-    ∙ sym (least-append (a ++ c) b ∙ ap (λ o. earlier o (least b)) (least-append a c))
-
--- a piece in front of another
-pub least-cong : (a b c : List ℕ) → least b ≡ least c → least (a ++ b) ≡ least (a ++ c)
-least-cong a b c e = least-append a b ∙ ap (earlier (least a)) e ∙ sym (least-append a c)
-
-pub least-none : (l : List ℕ) → least l ≡ none → l ≡ []
-unfolding least
-least-none [] e = refl
-least-none (i ∷ l) e = let z : _≡_ {A = ℕ} 0 1 = cc in absurd (omega arith)
 
 -- the last of a list
 pub on-last : {A : Type 0} (f : A → A) (l : List A) (x : A) → onLast f (l ++ (x ∷ [])) ≡ l ++ (f x ∷ [])

@@ -27,9 +27,10 @@ use Rattle.bracketed.specs.declared.Bracketed.{Bracketed}
 use Rattle.bracketed.specs.declared.BracketAt.{BracketAt}
 use Rattle.bracketed.specs.declared.BracketAt.the-variants.{Stuck, Read}
 use Rattle.bracketed.specs.Bracketed.{partsDues, BracketSays}
+use Rattle.basics.specs.Lists.{flat-snoc, not-due}
 use Rattle.checking.specs.declared.Stage.{Stage}
 use Rattle.checking.specs.Stages.{dues, withOver, ModeFits, Noted, heldBrackets, Upto, Does, Behind, modeBehind, firstBehind, RowFits, RowPut}
-use Rattle.checking.proofs.Lists.{flat-more, append-none, past-none, few-names, stand-append}
+use Rattle.checking.proofs.Lists.{append-none, past-none, few-names, stand-append}
 use Rattle.checking.proofs.Modes.{SlotFits}
 use Rattle.checking.proofs.Rows.{row-more}
 use Rattle.checking.proofs.Dues.{bracket-due, none-over, over-none}
@@ -119,10 +120,6 @@ record Free (m : Marks) (ps : List (Part ℕ)) (n : ℕ) : Type 0 where
   parts : length ps ≤ partLimit
   few : n < bracketLimit
 
-not-due : (t : Bool) (i : ℕ) → dueAt t i ≡ [] → t ≡ false
-not-due true i e = let z : _≡_ {A = ℕ} 1 0 = ap length e in absurd (omega arith)
-not-due false i e = refl
-
 free : (m m′ : Marks) (d : Dues) (ps : List (Part ℕ)) (n i : ℕ) → MarksAre m d
     → MarksAre m′ (withOver (both d (partsDues ps)) (dueAt (leb bracketLimit n) i)) → m′ .over ≡ 0 → Free m ps n
 free m m′ d ps n i f g z =
@@ -181,7 +178,7 @@ module _ (line : List ℕ) (s : Stage) (slot : Slot) (b : Bracketed) (notes labe
         let p = f .closes .parts in
         let n : next ≡ s .labels + b .labels = g .goes-on z in
         let l : length (ks ++ (k ∷ [])) ≡ length ks + 1 = length-append ks (k ∷ []) in
-        let a : flat namesOf (ks ++ (k ∷ [])) ≡ flat namesOf ks ++ flat nameOf p = flat-more namesOf ks k in
+        let a : flat namesOf (ks ++ (k ∷ [])) ≡ flat namesOf ks ++ flat nameOf p = flat-snoc namesOf ks k in
         let c : length (flat namesOf (ks ++ (k ∷ []))) ≡ length (flat namesOf ks) + length (flat nameOf p) = ap length a ∙ length-append (flat namesOf ks) (flat nameOf p) in
         let row : (s .at ∷ kind ∷ sort ∷ 1 ∷ 0 ∷ s .labels ∷ b .labels ∷ []) ≡ noteRow (length (flat namesOf ks)) k =
         ap (λ t. s .at ∷ t ∷ sort ∷ 1 ∷ 0 ∷ s .labels ∷ b .labels ∷ []) same-kind
@@ -196,7 +193,7 @@ module _ (line : List ℕ) (s : Stage) (slot : Slot) (b : Bracketed) (notes labe
           many = omega (arith, n, c, o .many, f .closes .many);
           places =
               ap (λ t. take (2 * t) labels′) n ∙ f .closes .noted (w .parts) low
-              ∙ ap (λ t. t ++ flat labelRow p) (o .places) ∙ sym (flat-more labelRows ks k);
+              ∙ ap (λ t. t ++ flat labelRow p) (o .places) ∙ sym (flat-snoc labelRows ks k);
           stand = stand-append line ks (k ∷ []) (o .stand) (f .closes .stand, tt);
           few = omega (arith, l, r .few, u .brackets);
           few-labels = omega (arith, l, n, r .low-label, r .low-many, u .brackets);

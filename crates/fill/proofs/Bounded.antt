@@ -1,12 +1,12 @@
 -- A state from which an accepted line is read keeps to the limits: what it holds is held at the end too.
-use mathlib.Core.Path.{_≡_, refl, sym, ap, ap₂, subst, _∙_}
-use mathlib.Core.Bool.{Bool, true, false, not, cond, _&&_}
+use mathlib.Core.Path.{_≡_, refl, ap, ap₂, subst}
+use mathlib.Core.Bool.{false, not, _&&_}
 use mathlib.Core.Option.{Option, none, some}
-use mathlib.Core.List.{List, [], _∷_, _++_, map, append-nil, append-assoc}
-use Prim.Native.Nat.{ℕ, suc, _+_, _*_, _≤_, _<_}
+use mathlib.Core.List.{List, [], _∷_, _++_, map}
+use Prim.Native.Nat.{ℕ, suc, _+_, _*_, _≤_}
 use native.Mathlib.Omega.{arith}
 use lib.Dec.{eqb}
-use lib.ListN.{length, getD, drop, length-append, length-map}
+use lib.ListN.{length, length-append, length-map}
 use Rattle.scope.specs.declared.grammar.Kind.{Kind}
 use Rattle.scope.specs.declared.grammar.Kind.the-variants.{Unknown, Labile, NTerm, OnResidue, OnRange, CTerm}
 use Rattle.scope.specs.declared.grammar.Section.{Section}
@@ -14,17 +14,16 @@ use Rattle.scope.specs.declared.grammar.Key.{Key}
 use Rattle.scope.specs.declared.grammar.Slot.{Slot}
 use Rattle.scope.specs.declared.grammar.Act.{Act}
 use Rattle.scope.specs.declared.grammar.Act.the-variants.{Stop, Go, Residue as aResidue, Begin, Digit, RunEnds, TermEnds}
-use Rattle.scope.specs.Bytes.{upper, isDigit, isAlnum, isSign, bar, hash, colon, dash, openRound, shutRound, shutSquare}
+use Rattle.scope.specs.Bytes.{upper, isDigit, isAlnum, isSign, bar, hash, colon, openRound, shutRound, shutSquare}
 use Rattle.scope.specs.Keys.{keyOf, Form, massOrName, massOnly, digits, alnums, free, form, hashIsPlain}
-use Rattle.scope.specs.Line.{Number, Label, Value, mass, text, reference, Part, Bracket, Residue, Line}
-use Rattle.scope.specs.Content.{given, value, Digits, digitStep, numberEnd, isPlain, textStep, none?, Context, Inner, begin, plain, keyed, inNumber, inCode, inText, hashed, inLabel, scoring, inScore, scored, Content, lost, closed, going, with, isReference, partEnd, valueEnd, textEnd, behindKey, colonAfter, accessionByte, nameBehind, innerStep}
-use Rattle.scope.specs.Reading.{act, mayEnd, Held, withResidue, withBracket, put, bracketOf, settled, waiting, times, countDigit, onLast, withDigit, asNTerm, settledRun, State, dead, outside, inside, perform, resume, step, run, Reading, stuck, holds, lineOf, ended}
+use Rattle.scope.specs.Line.{Part, Bracket}
+use Rattle.scope.specs.Content.{given, value, digitStep, numberEnd, isPlain, textStep, none?, Context, Inner, begin, plain, keyed, inNumber, inCode, inText, hashed, inLabel, scoring, inScore, scored, Content, lost, closed, going, isReference, partEnd, valueEnd, textEnd, behindKey, colonAfter, accessionByte, nameBehind, innerStep}
+use Rattle.scope.specs.Reading.{act, Held, withResidue, withBracket, put, bracketOf, settled, waiting, times, countDigit, onLast, asNTerm, settledRun, State, dead, outside, inside, perform, resume, step, run}
 use Rattle.scope.specs.Modifications.{flat}
 use Rattle.scope.specs.Tables.{packed, bracketTexts}
 use Rattle.reading_laws.specs.Cases.{branch, onGiven}
-use Rattle.reading_laws.specs.Run.{rest}
-use Rattle.layout_laws.specs.Within.{Each, OfGiven, PartWithin, BracketWithin, Within}
-use Rattle.layout_laws.specs.Each.{each-append, each-one}
+use Rattle.layout_laws.specs.Within.{Each, OfGiven, PartWithin, BracketWithin}
+use Rattle.basics.specs.Lists.{flat-append, flat-one}
 
 -- ---- lists
 pub each-left : {A : Type 0} (Q : A → Type 0) (l m : List A) → Each Q (l ++ m) → Each Q l
@@ -34,15 +33,6 @@ each-left Q (x ∷ l) m h = (h .0, each-left Q l m (h .1))
 pub each-right : {A : Type 0} (Q : A → Type 0) (l m : List A) → Each Q (l ++ m) → Each Q m
 each-right Q [] m h = h
 each-right Q (x ∷ l) m h = each-right Q l m (h .1)
-
-pub flat-append : {A B : Type 0} (f : A → List B) (l m : List A) → flat f (l ++ m) ≡ flat f l ++ flat f m
-unfolding flat
-flat-append f [] m = refl
-flat-append f (x ∷ l) m = ap (λ z. f x ++ z) (flat-append f l m) ∙ sym (append-assoc (f x) (flat f l) (flat f m))
-
-pub flat-one : {A B : Type 0} (f : A → List B) (x : A) → flat f (x ∷ []) ≡ f x
-unfolding flat
-flat-one f x = append-nil (f x)
 
 -- ---- what a bracket keeps to
 pub record Kept (k : Bracket ℕ) : Type 0 where

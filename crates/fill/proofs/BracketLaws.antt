@@ -18,13 +18,14 @@ use Rattle.scope.specs.Modifications.{flat}
 use Rattle.scope.specs.Canonical.{kindCode}
 use Rattle.scope.specs.Tables.{padded, sectionCode, packed, partRows, scoreOf, bracketRow, bracketTexts, rows, numberRow}
 use Rattle.reading_laws.specs.Run.{rest}
+use Rattle.basics.specs.Lists.{flat-append, flat-one}
 use Rattle.fill.specs.declared.Progress.{Progress}
 use Rattle.fill.specs.States.{Settled}
 use Rattle.fill.specs.Steps.{Opening, contextIn, bracketsIn, textsIn, Begun, Roomy, Starts}
 use Rattle.fill.specs.declared.Put.{Put}
 use Rattle.fill.specs.Areas.{Before, areaWith, numbersWith, Laid, rowWith, massesWith, BracketPut, PutSays}
 use Rattle.fill.specs.Filled.{allOf, lettersFor, sectionsFor, frontWith, bytesFor, numbersFor, countIn, Counts, Filling, Opened, FilledOn, runAfter, countAfter}
-use Rattle.fill.proofs.Bounded.{Kept, HeldKept, PartsKept, StateKept, flat-append, flat-one}
+use Rattle.fill.proofs.Bounded.{Kept, HeldKept, PartsKept, StateKept}
 use Rattle.fill.proofs.Settled.{rest-kept, closed-settled}
 use Rattle.fill.proofs.AreaLaws.{absorb-zeros}
 use Rattle.fill.proofs.HeldLaws.{rows-more, rows-size, numbers-size, all-texts, all-length, all-put, put-residues, put-first, put-run, put-count, sizes-put}

@@ -32,12 +32,13 @@ use Rattle.reading_laws.specs.Run.{rest, rest-step, rest-dead}
 use Rattle.layout_laws.specs.Within.{Each, Within}
 use Rattle.layout_laws.specs.Each.{each-append}
 use Rattle.layout_laws.specs.Lists.{map-append}
+use Rattle.basics.specs.Lists.{flat-append, flat-one}
 use Rattle.fill.specs.declared.Progress.{Progress}
 use Rattle.fill.specs.States.{Settled}
 use Rattle.fill.specs.Steps.{Opening, contextIn, bracketsIn, textsIn, Begun, Roomy, Starts}
 use Rattle.fill.specs.Areas.{Before, areaWith, numbersWith, Laid, rowWith, massesWith, BracketPut}
 use Rattle.fill.specs.Filled.{allOf, lettersFor, sectionsFor, frontWith, bytesFor, numbersFor, countIn, Counts, Filling, Opened, FilledOn, moved, grown, runOver, countedTo, marked, runAfter, countAfter, DigitFits, nextCount, countPut, TermsFit}
-use Rattle.fill.proofs.Bounded.{Kept, HeldKept, PartsKept, StateKept, flat-append, flat-one, last-texts, last-length, map-texts}
+use Rattle.fill.proofs.Bounded.{Kept, HeldKept, PartsKept, StateKept, last-texts, last-length, map-texts}
 use Rattle.fill.proofs.Settled.{rest-kept, step-settled, closed-settled}
 use Rattle.fill.proofs.AreaLaws.{absorb-zeros}
 use Rattle.fill.proofs.HeldLaws.{rows-more, rows-size, numbers-size, all-texts, all-length, all-put, put-residues, put-first, put-run, put-count, sizes-put, residue-front, front-size, DigitLaw, digit-law, mark-all, terms-numbers}

@@ -23,7 +23,7 @@ use Rattle.parts.specs.declared.Score.{Score}
 use Rattle.parts.specs.declared.Score.the-variants.{Unscored, Scored, WideScore}
 use Rattle.parts.specs.declared.PartRead.{PartRead}
 use Rattle.parts.specs.Says.{ValueIs, ScoreIs, LabelIs, PartIs}
-use Rattle.fill.specs.Found.{codeOf, decimalsOf, massOf, fromOf, toOf, textLength, textsOf, offsetOf, rowOf, PutsPart, FewDecimals, scoreCodeOf, scoreMassOf, codeAfter, massAfter, scoreFound}
+use Rattle.fill.specs.Found.{codeOf, decimalsOf, massOf, fromOf, toOf, textLength, textsOf, offsetOf, rowOf, PutsPart, FewDecimals, scoreCodeOf, scoreMassOf, codeAfter, massAfter}
 use Rattle.fill.specs.Steps.{refersOf}
 use Rattle.fill.proofs.PutPart.{run-length}
 
@@ -160,18 +160,14 @@ pub record ScoreAgrees (s : Score) (o : Option (Number ℕ)) : Type 0 where
   pub code : scoreCodeOf s ≡ scoreCode o
   pub mass-is : scoreMassOf s ≡ given o millionths (pos 0)
 
-label-score : (line : List ℕ) (a e : ℕ) (s : Score) (o : Option (Label ℕ)) → LabelIs line a e s o → OfGiven LabelWithin o → ScoreAgrees (scoreFound a e s) (scoreIn o)
+label-score : (line : List ℕ) (a e : ℕ) (s : Score) (o : Option (Label ℕ)) → LabelIs line a e s o → OfGiven LabelWithin o → ScoreAgrees s (scoreIn o)
 unfolding scoreIn
-label-score line a e s none w k = rw (eq-eqb a e w) (record { few = tt; code = refl; mass-is = refl })
+label-score line a e s none w k = rw (w .1) (record { few = tt; code = refl; mass-is = refl })
 label-score line a e s (some l) w k =
-    let n : eqb a e ≡ false = ne-eqb a e (λ q. less a e (w .2) q) in
     let g = score-agrees (e + 1) s (l .score) (w .4) (k .score) in
-    rw n (record { few = g .0; code = g .1; mass-is = g .2 })
-  where
-    less : (a e : ℕ) → a < e → a ≡ e → ⊥
-    less a e h q = omega arith
+    record { few = g .0; code = g .1; mass-is = g .2 }
 
-pub found-score : {line : List ℕ} {r : PartRead} {q : Part ℕ} → PartIs line r q → PartWithin q → ScoreAgrees (scoreFound (r .label) (r .ends) (r .score)) (scoreIn (q .label))
+pub found-score : {line : List ℕ} {r : PartRead} {q : Part ℕ} → PartIs line r q → PartWithin q → ScoreAgrees (r .score) (scoreIn (q .label))
 found-score {line} {r} {q} w k = label-score line (r .label) (r .ends) (r .score) (q .label) (w .label) (k .label)
 
 -- ---- the score of a bracket with one part more

@@ -24,10 +24,11 @@ use Rattle.layout_laws.specs.Within.{Each}
 use Rattle.layout_laws.specs.Layout.{padded-length, bracket-row-length, number-row-length}
 use Rattle.layout_laws.specs.Lists.{map-append}
 use Rattle.layout_laws.specs.Each.{each-append}
+use Rattle.basics.specs.Lists.{flat-append, flat-one}
 use Rattle.fill.specs.Steps.{bracketsIn, textsIn}
 use Rattle.fill.specs.Areas.{areaWith}
 use Rattle.fill.specs.Filled.{allOf, lettersFor, sectionsFor, frontWith, countOf, countIn, runAfter, countAfter, marked}
-use Rattle.fill.proofs.Bounded.{Kept, flat-append, flat-one, each-left, each-right, digit-parts}
+use Rattle.fill.proofs.Bounded.{Kept, each-left, each-right, digit-parts}
 use Rattle.fill.proofs.AreaLaws.{store-end, change-rows}
 
 -- ---- rows of brackets

@@ -1,8 +1,8 @@
 -- A bracket in the areas: one part more, and its head.
 use mathlib.Core.Path.{_≡_, refl, sym, ap, ap₂, subst, _∙_}
-use mathlib.Core.Bool.{Bool, true, false, cond}
+use mathlib.Core.Bool.{Bool, false, cond}
 use mathlib.Core.List.{List, [], _∷_, _++_, map, append-assoc, append-nil}
-use Prim.Native.Nat.{ℕ, zero, suc, _+_, _-_, _*_, _≤_, _<_}
+use Prim.Native.Nat.{ℕ, _+_, _-_, _*_, _≤_, _<_}
 use native.Mathlib.Nat.{add-zero}
 use native.Mathlib.Omega.{arith}
 use lib.Dec.{eqb}
@@ -11,19 +11,17 @@ use lib.ListN.{length, set, replicate, length-append, length-map, length-set}
 use lib.Seq.{sets, length-sets}
 use Rattle.scope.specs.Line.{Part}
 use Rattle.scope.specs.Content.{given}
-use Rattle.scope.specs.Reading.{refers?}
 use Rattle.scope.specs.Modifications.{flat}
 use Rattle.scope.specs.Tables.{padded, millionths, massIn, packed, partRow, partRows, scoreOf, scoreCode}
 use Rattle.layout_laws.specs.Layout.{padded-length, part-rows-length}
 use Rattle.layout_laws.specs.Lists.{map-append}
+use Rattle.basics.specs.Lists.{flat-append, flat-one}
 use Rattle.fill.specs.declared.Parted.{Parted}
 use Rattle.fill.specs.declared.Step.{Step}
-use Rattle.fill.specs.declared.Step.the-variants.{Lost, More, Closed}
 use Rattle.fill.specs.declared.Put.{Put}
 use Rattle.fill.specs.declared.Put.the-variants.{NotPut, Done}
 use Rattle.fill.specs.Steps.{rowPlace, massPlace, Opening, textsIn, Begun, Roomy, Starts, PartStored, Stepped, ClosedBy, StepSays}
 use Rattle.fill.specs.Areas.{Before, areaWith, numbersWith, Laid, rowWith, massesWith, CloseFits, HeadPut, BracketPut, PutSays}
-use Rattle.fill.proofs.Bounded.{flat-append, flat-one}
 use Rattle.fill.proofs.AreaLaws.{absorb, store-end, put-texts, put-rows, change-rows}
 
 -- ---- rows of parts

@@ -27,7 +27,7 @@ use Rattle.reading_laws.specs.Cases.{branch, branch-on}
 use Rattle.reading_laws.specs.Run.{rest}
 use Rattle.layout_laws.specs.Within.{Each, BracketWithin, Within}
 use Rattle.layout_laws.specs.Each.{each-one}
-use Rattle.layout_laws.specs.Lists.{and-left, and-right}
+use Rattle.basics.specs.Tests.{and-left, and-right}
 use Rattle.fill.specs.States.{decided, NoneWaits, NoneWaitsBehind, Settled}
 use Rattle.fill.proofs.Bounded.{Kept, HeldKept, StateKept, runs-back, bracket-kept}
 

@@ -20,26 +20,27 @@ use Rattle.scope.specs.Modifications.{flat}
 use Rattle.scope.specs.Tables.{millionths, massIn, packed, partRow, scoreOf, scoreCode}
 use Rattle.reading_laws.specs.Run.{rest, rest-dead}
 use Rattle.layout_laws.specs.Within.{Each, PartWithin, Within}
-use Rattle.layout_laws.specs.Lists.{and-left, and-right}
 use Rattle.parts.specs.declared.PartRead.{PartRead}
 use Rattle.parts.specs.declared.Found.{Found}
 use Rattle.parts.specs.declared.Found.the-variants.{Stuck, Read}
 use Rattle.parts.specs.Says.{PartIs, through, Stops, Reads, Says, Opens}
 use Rattle.parts.proofs.Through.{through-rest, through-byte}
+use Rattle.basics.specs.Lists.{flat-append, flat-one}
+use Rattle.basics.specs.Tests.{and-left, and-right}
 use Rattle.fill.specs.declared.Parted.{Parted}
 use Rattle.fill.specs.declared.Step.{Step}
 use Rattle.fill.specs.declared.Step.the-variants.{Lost, More, Closed as Shut}
-use Rattle.fill.specs.Found.{textLength, textsOf, rowOf, massOf, codeAfter, massAfter, scoreFound, PartPut}
+use Rattle.fill.specs.Found.{textLength, textsOf, rowOf, massOf, codeAfter, massAfter, PartPut}
 use Rattle.fill.specs.Steps.{refersOf, rowPlace, massPlace, FoundFits, partedOf, stepOf, FoundPut, Opening, contextIn, bracketsIn, textsIn, Begun, Roomy, PartStored, Stepped, ClosedBy, StepSays}
 use Rattle.fill.specs.States.{Settled}
-use Rattle.fill.proofs.Bounded.{HeldKept, PartsKept, StateKept, Closed, closed-kept, each-right, flat-append, flat-one}
+use Rattle.fill.proofs.Bounded.{HeldKept, PartsKept, StateKept, Closed, closed-kept, each-right}
 use Rattle.fill.proofs.Settled.{rest-kept, closed-settled}
 use Rattle.fill.proofs.FoundLaws.{found-texts, found-length, found-row, found-mass, found-refers, found-fits, found-score, scoreIn, score-snoc, code-after, mass-after}
 
 -- ---- what put_found answers
 pub found-put : {line bytes : List ℕ} {numbers : List ℤ} {p : PartRead} {shut k j t code : ℕ} {mass : ℤ} {x c : ℕ} {m : ℤ} {b : Bool} {bytes′ : List ℕ} {numbers′ : List ℤ}
     → PartPut line bytes numbers (p .value) (p .key) (p .label) (p .ends) (rowPlace k j) (massPlace k j) t x bytes′ numbers′
-    → c ≡ codeAfter code (scoreFound (p .label) (p .ends) (p .score)) → m ≡ massAfter code mass (scoreFound (p .label) (p .ends) (p .score)) → b ≡ refersOf (p .value)
+    → c ≡ codeAfter code (p .score) → m ≡ massAfter code mass (p .score) → b ≡ refersOf (p .value)
     → (f : Parted → Step) → stepOf line p shut t code mass ≡ f (partedOf p t code mass)
     → FoundPut line bytes numbers p shut k j t code mass (f (record { at = p .next + 1; texts = x; code = c; mass = m; refers = b })) bytes′ numbers′
 found-put w ec em eb f s =
@@ -185,14 +186,14 @@ module _ {line : List ℕ} {g : Opening} {ps : List (Part ℕ)} {at shut : ℕ} 
     texts-next : t + (textLength (r .value) + (r .ends - r .label)) ≡ t + length (packed q)
     texts-next = ap (λ n. t + n) (sym (found-length (reads .is) within-part))
 
-    code-next : codeAfter code (scoreFound (r .label) (r .ends) (r .score)) ≡ scoreCode (scoreOf all)
+    code-next : codeAfter code (r .score) ≡ scoreCode (scoreOf all)
     code-next =
-        code-after (scoreFound (r .label) (r .ends) (r .score)) (scoreOf ps) (scoreIn (q .label)) code (w .score-code) (found-score (reads .is) within-part)
+        code-after (r .score) (scoreOf ps) (scoreIn (q .label)) code (w .score-code) (found-score (reads .is) within-part)
         ∙ ap scoreCode (sym (score-snoc ps q))
 
-    mass-next : massAfter code mass (scoreFound (r .label) (r .ends) (r .score)) ≡ given (scoreOf all) millionths (pos 0)
+    mass-next : massAfter code mass (r .score) ≡ given (scoreOf all) millionths (pos 0)
     mass-next =
-        mass-after (scoreFound (r .label) (r .ends) (r .score)) (scoreOf ps) (scoreIn (q .label)) code mass (w .score-code) (w .score-mass) (found-score (reads .is) within-part)
+        mass-after (r .score) (scoreOf ps) (scoreIn (q .label)) code mass (w .score-code) (w .score-mass) (found-score (reads .is) within-part)
         ∙ ap (λ o. given o millionths (pos 0)) (sym (score-snoc ps q))
 
     -- whether the bracket is a reference

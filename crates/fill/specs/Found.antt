@@ -1,8 +1,8 @@
 -- What a part that was found puts into the areas.
 use mathlib.Core.Path.{_≡_}
-use mathlib.Core.Bool.{Bool, true, false, cond}
+use mathlib.Core.Bool.{cond}
 use mathlib.Core.List.{List, [], _∷_, _++_}
-use Prim.Native.Nat.{ℕ, _+_, _-_, _*_, _/_, _%_, _<_, _≤_}
+use Prim.Native.Nat.{ℕ, _+_, _-_, _/_, _%_, _<_, _≤_}
 use lib.Dec.{eqb}
 use lib.IntN.{ℤ, pos}
 use lib.ListN.{length, set}
@@ -107,7 +107,3 @@ codeAfter code s = cond (eqb code 0) (scoreCodeOf s) code
 
 abbrev pub massAfter : ℕ → ℤ → Score → ℤ
 massAfter code m s = cond (eqb code 0) (scoreMassOf s) m
-
--- only a label has a score
-abbrev pub scoreFound : ℕ → ℕ → Score → Score
-scoreFound label ends s = cond (eqb label ends) Unscored s

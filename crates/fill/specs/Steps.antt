@@ -21,7 +21,7 @@ use Rattle.parts.specs.declared.PartRead.{PartRead}
 use Rattle.fill.specs.declared.Parted.{Parted}
 use Rattle.fill.specs.declared.Step.{Step}
 use Rattle.fill.specs.declared.Step.the-variants.{Lost, More, Closed}
-use Rattle.fill.specs.Found.{textLength, textsOf, rowOf, massOf, PutsPart, FewDecimals, codeAfter, massAfter, scoreFound}
+use Rattle.fill.specs.Found.{textLength, textsOf, rowOf, massOf, PutsPart, FewDecimals, codeAfter, massAfter}
 use Rattle.fill.specs.States.{Settled}
 
 -- ---- a part that was found
@@ -42,7 +42,7 @@ pub record FoundFits (line bytes : List ℕ) (numbers : List ℤ) (p : PartRead)
   pub few-brackets : k < 64
   pub few-parts : j < 4
   pub puts : PutsPart line bytes numbers (p .value) (p .label) (p .ends) (rowPlace k j) (massPlace k j) t
-  pub score : FewDecimals (scoreFound (p .label) (p .ends) (p .score))
+  pub score : FewDecimals (p .score)
   pub inside : p .next < length line
 
 abbrev pub partedOf : PartRead → ℕ → ℕ → ℤ → Parted
@@ -50,8 +50,8 @@ partedOf p t code mass =
     record {
       at = p .next + 1;
       texts = t + (textLength (p .value) + (p .ends - p .label));
-      code = codeAfter code (scoreFound (p .label) (p .ends) (p .score));
-      mass = massAfter code mass (scoreFound (p .label) (p .ends) (p .score));
+      code = codeAfter code (p .score);
+      mass = massAfter code mass (p .score);
       refers = refersOf (p .value);
     }
 

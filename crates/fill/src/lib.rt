@@ -18,7 +18,6 @@ ghost use mathlib.Core.List.{List, [], _∷_, _++_};
 ghost use lib.IntN.{ℤ, pos};
 ghost use lib.ListN.{length, take, drop, set, replicate};
 ghost use lib.Seq.{sets};
-ghost use Rattle.scope.specs.Keys.{keyCode};
 ghost use Rattle.scope.specs.Canonical.{kindCode};
 ghost use Rattle.scope.specs.Tables.{bytesSize, numbersSize, sectionCode, part};
 ghost use Rattle.scope.specs.Line.{Part};
@@ -29,7 +28,7 @@ ghost use Rattle.scope.specs.Reading.{firstOf, firstPosition, lastPosition};
 ghost use Rattle.scope.specs.Refusals.{outcome, accepted};
 ghost use Rattle.fill.specs.Filled.{SomeFilling, Filling, SomeOpened, Opened, FilledOn, SomeRun, RunOn, moved, grown, runOver, countedTo, marked, runAfter, countAfter, DigitFits, nextCount, countPut, TermsFit, Fills, FilledAll, fresh};
 ghost use Rattle.fill.specs.Areas.{Before, Laid, CloseFits, HeadPut, PutSays};
-ghost use Rattle.fill.specs.Found.{Copies, codeOf, decimalsOf, massOf, fromOf, toOf, offsetOf, PutsPart, PartPut, FewDecimals, scoreCodeOf, scoreMassOf, codeAfter, massAfter, scoreFound};
+ghost use Rattle.fill.specs.Found.{Copies, codeOf, decimalsOf, massOf, fromOf, toOf, offsetOf, PutsPart, PartPut, FewDecimals, scoreCodeOf, scoreMassOf, codeAfter, massAfter};
 
 // What there is behind a part of a bracket: the place, the bytes of texts, the score of the bracket (0, or one more than its decimals) with its
 // millionths, and whether the part is a reference.
@@ -128,31 +127,6 @@ fn copy(bytes: &mut [u8], to: usize, line: &[u8], from: usize, end: usize)
 }
 
 // ---- codes
-
-fn key_code(key: Key) -> u8
-    ensures { λ r. ⌜ r ≡ keyCode key ⌝ }
-{
-    match key {
-        Key::NoKey => 0,
-        Key::U => 1,
-        Key::M => 2,
-        Key::R => 3,
-        Key::X => 4,
-        Key::G => 5,
-        Key::C => 6,
-        Key::Obs => 7,
-        Key::Unimod => 8,
-        Key::Mod => 9,
-        Key::Xlmod => 10,
-        Key::Resid => 11,
-        Key::Gno => 12,
-        Key::Info => 13,
-        Key::Formula => 14,
-        Key::Glycan => 15,
-        Key::Position => 16,
-        Key::Limit => 17,
-    }
-}
 
 fn section_code(section: Section) -> u8
     ensures { λ r. ⌜ r ≡ sectionCode section ⌝ }
@@ -302,7 +276,7 @@ fn put_part(
         bytes,
         at,
         value_code(value),
-        key_code(key),
+        keywords::key_code(key),
         value_decimals(value),
         n as u8,
         m as u8,
@@ -340,15 +314,6 @@ fn new_mass(score: Score) -> i64
         } => millionths,
         Score::WideScore => 0,
     }
-}
-
-fn label_score(label: usize, ends: usize, score: Score) -> Score
-    ensures { λ r. ⌜ r ≡ scoreFound label ends score ⌝ }
-{
-    if label == ends {
-        return Score::Unscored;
-    }
-    score
 }
 
 fn score_code(code: u8, score: Score) -> u8
@@ -404,8 +369,7 @@ fn put_found(
 {
     let value = p.value;
     let key = p.key;
-    let found = p.score;
-    let score = label_score(p.label, p.ends, found);
+    let score = p.score;
     let next = p.next;
     let texts = put_part(
         line,

@@ -2,14 +2,11 @@
 use Prim.Native.Nat.{ℕ, _+_, _*_}
 use native.Mathlib.Omega.{arith}
 use mathlib.Core.Path.{_≡_, refl, ap}
-use mathlib.Core.Bool.{Bool, true, false, not, _&&_, false≢true}
+use mathlib.Core.Bool.{Bool, true, false, not, false≢true}
 use mathlib.Core.List.{List, [], _∷_, _++_}
 use Rattle.scope.specs.Content.{value, none?}
-use Rattle.canonical_laws.specs.Lists.{and-l, and-r}
+use Rattle.basics.specs.Tests.{and-left, and-right, both}
 use Rattle.grammar_laws.specs.Grammar.{allOf, someOf, valueOn}
-
-pub both : (a b : Bool) → a ≡ true → b ≡ true → (a && b) ≡ true
-both a b e f = rw (e, f)
 
 pub no : (a : Bool) → not a ≡ true → a ≡ false
 no true e = absurd (false≢true e)
@@ -18,7 +15,7 @@ no false e = refl
 pub all-append : (f : ℕ → Bool) (l m : List ℕ) → allOf f l ≡ true → allOf f m ≡ true → allOf f (l ++ m) ≡ true
 unfolding allOf
 all-append f [] m e g = g
-all-append f (b ∷ l) m e g = both (f b) (allOf f (l ++ m)) (and-l (f b) (allOf f l) e) (all-append f l m (and-r (f b) (allOf f l) e) g)
+all-append f (b ∷ l) m e g = both (f b) (allOf f (l ++ m)) (and-left (f b) (allOf f l) e) (all-append f l m (and-right (f b) (allOf f l) e) g)
 
 pub all-nil : (f : ℕ → Bool) → allOf f [] ≡ true
 unfolding allOf

@@ -11,10 +11,11 @@ use borrow.Author.Tests.{eqb-true}
 use Rattle.scope.specs.Bytes.{isDigit, dot}
 use Rattle.scope.specs.Line.{Number}
 use Rattle.scope.specs.Content.{Digits, signed, whole, pointed, broken, value, digitStep, numberEnd}
-use Rattle.canonical_laws.specs.Lists.{branch, and-l, and-r, pick-true, pick-false}
+use Rattle.canonical_laws.specs.Lists.{branch, pick-true, pick-false}
 use Rattle.canonical_laws.specs.Numbers.{digitRun, run-append, run-cons, allRead}
+use Rattle.basics.specs.Tests.{and-left, and-right, both}
 use Rattle.grammar_laws.specs.Grammar.{Place, allOf, someOf, Numeral, printBehind, printNumeral, goodBehind, goodNumeral, valueOn, fraction, signedBy, meansNumeral}
-use Rattle.grammar_laws.specs.Lists.{both, all-nil, some-snoc, some-all, value-append, value-snoc, value-one}
+use Rattle.grammar_laws.specs.Lists.{all-nil, some-snoc, some-all, value-append, value-snoc, value-one}
 
 run-nil : (d : Digits) → digitRun d [] ≡ some d
 unfolding digitRun
@@ -45,31 +46,31 @@ whole-run : (s : Bool) (m : ℕ) (l : List ℕ) → allOf isDigit l ≡ true →
 unfolding digitRun allOf valueOn
 whole-run s m [] e = refl
 whole-run s m (b ∷ l) e =
-    run-cons (whole s m) (whole s (m * 10 + value b)) b l (step-whole s m b (and-l (isDigit b) (allOf isDigit l) e))
-    ∙ whole-run s (m * 10 + value b) l (and-r (isDigit b) (allOf isDigit l) e)
+    run-cons (whole s m) (whole s (m * 10 + value b)) b l (step-whole s m b (and-left (isDigit b) (allOf isDigit l) e))
+    ∙ whole-run s (m * 10 + value b) l (and-right (isDigit b) (allOf isDigit l) e)
 
 broken-run : (s : Bool) (m d : ℕ) (l : List ℕ) → allOf isDigit l ≡ true → digitRun (broken s m d) l ≡ some (broken s (valueOn m l) (d + length l))
 unfolding digitRun allOf valueOn
 broken-run s m d [] e = ap (λ z. some (broken s m z)) (omega arith)
 broken-run s m d (b ∷ l) e =
-    run-cons (broken s m d) (broken s (m * 10 + value b) (d + 1)) b l (step-broken s m d b (and-l (isDigit b) (allOf isDigit l) e))
-    ∙ broken-run s (m * 10 + value b) (d + 1) l (and-r (isDigit b) (allOf isDigit l) e)
+    run-cons (broken s m d) (broken s (m * 10 + value b) (d + 1)) b l (step-broken s m d b (and-left (isDigit b) (allOf isDigit l) e))
+    ∙ broken-run s (m * 10 + value b) (d + 1) l (and-right (isDigit b) (allOf isDigit l) e)
     ∙ ap (λ z. some (broken s (valueOn (m * 10 + value b) l) z)) (omega arith)
 
 front-run : (s : Bool) (a : List ℕ) → someOf isDigit a ≡ true → digitRun (signed s) a ≡ some (whole s (valueOn 0 a))
 unfolding allOf valueOn
 front-run s [] e = absurd (false≢true e)
 front-run s (b ∷ a) e =
-    run-cons (signed s) (whole s (0 * 10 + value b)) b a (step-signed s b (and-l (isDigit b) (allOf isDigit a) e))
-    ∙ whole-run s (0 * 10 + value b) a (and-r (isDigit b) (allOf isDigit a) e)
+    run-cons (signed s) (whole s (0 * 10 + value b)) b a (step-signed s b (and-left (isDigit b) (allOf isDigit a) e))
+    ∙ whole-run s (0 * 10 + value b) a (and-right (isDigit b) (allOf isDigit a) e)
 
 point-run : (s : Bool) (m : ℕ) (f : List ℕ) → someOf isDigit f ≡ true → digitRun (whole s m) (dot ∷ f) ≡ some (allRead s (valueOn m f) (length f))
 unfolding allOf valueOn allRead
 point-run s m [] e = absurd (false≢true e)
 point-run s m (b ∷ f) e =
     run-cons (whole s m) (pointed s m) dot (b ∷ f) (step-dot s m)
-    ∙ run-cons (pointed s m) (broken s (m * 10 + value b) 1) b f (step-pointed s m b (and-l (isDigit b) (allOf isDigit f) e))
-    ∙ broken-run s (m * 10 + value b) 1 f (and-r (isDigit b) (allOf isDigit f) e)
+    ∙ run-cons (pointed s m) (broken s (m * 10 + value b) 1) b f (step-pointed s m b (and-left (isDigit b) (allOf isDigit f) e))
+    ∙ broken-run s (m * 10 + value b) 1 f (and-right (isDigit b) (allOf isDigit f) e)
     ∙ ap (λ z. some (broken s (valueOn (m * 10 + value b) f) z)) (omega arith)
 
 -- how a number stands that means n
@@ -78,13 +79,13 @@ readAs s n = allRead s (valueOn 0 (n .whole ++ fraction (n .behind))) (length (f
 
 pub numeral-run : (s : Bool) (n : Numeral) → goodNumeral n ≡ true → digitRun (signed s) (printNumeral n) ≡ some (readAs s n)
 unfolding allRead
-numeral-run s n e = go (n .behind) (and-r (someOf isDigit (n .whole)) (goodBehind (n .behind)) e)
+numeral-run s n e = go (n .behind) (and-right (someOf isDigit (n .whole)) (goodBehind (n .behind)) e)
   where
     a : List ℕ
     a = n .whole
 
     front : digitRun (signed s) a ≡ some (whole s (valueOn 0 a))
-    front = front-run s a (and-l (someOf isDigit a) (goodBehind (n .behind)) e)
+    front = front-run s a (and-left (someOf isDigit a) (goodBehind (n .behind)) e)
 
     go : (o : Option (List ℕ)) → goodBehind o ≡ true → digitRun (signed s) (a ++ printBehind o) ≡ some (allRead s (valueOn 0 (a ++ fraction o)) (length (fraction o)))
     go none g = rw (append-nil a) front

@@ -23,8 +23,8 @@ use Rattle.scope.specs.Reading.{square, front, labile, element, further, groupF
 use Rattle.reading_laws.specs.Run.{told}
 use Rattle.canonical_laws.specs.Brackets.{Place, Parts, context, contentRun}
 use Rattle.canonical_laws.specs.Runs.{lineRun, line-nil, line-cons, same-mode}
+use Rattle.basics.specs.Tests.{both}
 use Rattle.grammar_laws.specs.Grammar.{there?, allOf, someOf, Inside, parts, refers, printInside, goodInside, meansInside, printSquare, printCurly, each, every, printSquares, goodSquares, goodCurlies, Marked, printCount, goodCount, printMarked, goodMarked, Run, printRun, goodRun, Spot, Element, single, range, unsure, printSpot, printElement, goodSpot, goodElement, Spelling, elements, printFront, printBack, print, good}
-use Rattle.grammar_laws.specs.Lists.{both}
 use Rattle.grammar_laws.specs.Printed.{content-cons}
 use Rattle.grammar_laws.specs.Spelled.{closed-spelled}
 

@@ -13,9 +13,10 @@ use Rattle.scope.specs.Bytes.{isPrintable, isUpper, isLower, isLetter, isDigit,
 use Rattle.scope.specs.Line.{mass, text, reference, Part}
 use Rattle.scope.specs.Keys.{spell, keyOf, Form, massOrName, massOnly, digits, alnums, free, form, hashIsPlain}
 use Rattle.scope.specs.Content.{given, Digits, signed, whole, value, digitStep, numberEnd, isPlain, textStep, Context, Inner, begin, plain, keyed, inNumber, inCode, inText, hashed, inLabel, scoring, inScore, scored, Content, closed, going, with, unlabelled, labelled, isReference, partEnd, valueEnd, textEnd, behindKey, colonAfter, accessionByte, nameBehind, none?, innerStep}
-use Rattle.canonical_laws.specs.Lists.{and-l, and-r, pick-true, pick-false, pick-some, pick-none}
+use Rattle.canonical_laws.specs.Lists.{pick-true, pick-false, pick-some, pick-none}
 use Rattle.canonical_laws.specs.Numbers.{digitRun, run-cons}
 use Rattle.canonical_laws.specs.Brackets.{Place, context, contentStep, contentRun, content-append}
+use Rattle.basics.specs.Tests.{and-left, and-right}
 use Rattle.grammar_laws.specs.Grammar.{allOf, someOf, there?, Numeral, printNumeral, goodNumeral, goodBehind, printBehind, meansNumeral, signByte, Text, printText, goodText, outerByte, goodWord, withColon, leadKey, firstSign, keyless, Base, delta, code, wording, printBase, takesMass, goodWording, goodBase, keyIn, valueIn, Score, printSign, isMinus, printScore, goodScore, meansScore, Tag, printTag, goodTag, meansTag, Piece, printPiece, formIn, tagFits, goodPiece, meansPiece, printPieces, goodPieces, Inside, parts, refers, printInside, goodInside, meansInside}
 use Rattle.grammar_laws.specs.Lists.{no}
 use Rattle.grammar_laws.specs.Numerals.{readAs, numeral-run, numeral-end, numeral-stops}
@@ -117,12 +118,12 @@ lettered b e = go (isUpper b) refl e
 
     go : (u : Bool) → isUpper b ≡ u → (u || isLower b) ≡ true → Letter b
     go true f w =
-        let x = leb-true 65 b (and-l (leb 65 b) (leb b 90) f) in
-        let y = leb-true b 90 (and-r (leb 65 b) (leb b 90) f) in
+        let x = leb-true 65 b (and-left (leb 65 b) (leb b 90) f) in
+        let y = leb-true b 90 (and-right (leb 65 b) (leb b 90) f) in
         made (omega arith) (omega arith) (λ z. omega arith) (λ z. omega arith)
     go false f w =
-        let x = leb-true 97 b (and-l (leb 97 b) (leb b 122) w) in
-        let y = leb-true b 122 (and-r (leb 97 b) (leb b 122) w) in
+        let x = leb-true 97 b (and-left (leb 97 b) (leb b 122) w) in
+        let y = leb-true b 122 (and-right (leb 97 b) (leb b 122) w) in
         made (omega arith) (omega arith) (λ z. omega arith) (λ z. omega arith)
 
 plain-stays : (b : ℕ) → isPlain b ≡ true → textStep false [] b ≡ some []
@@ -138,7 +139,7 @@ colon-stays b q = pick-true (outer false b) _ _ (ap (λ z. isPlain b || z || fal
     last false = refl
 
 plain-colon : (b : ℕ) → isPlain b ≡ true → eqb b colon ≡ false
-plain-colon b e = no (eqb b colon) (and-r (isPrintable b && not (isOpening b) && not (isShutting b) && not (eqb b bar) && not (eqb b hash)) (not (eqb b colon)) e)
+plain-colon b e = no (eqb b colon) (and-right (isPrintable b && not (isOpening b) && not (isShutting b) && not (eqb b bar) && not (eqb b hash)) (not (eqb b colon)) e)
 
 -- ---- runs within a state
 module _ (c : Context Place) where
@@ -177,24 +178,24 @@ module _ (c : Context Place) where
   unfolding contentRun contentStep allOf innerStep
   in-code k t [] e = ap (λ z. going (inCode c tt k z)) (sym (append-nil t))
   in-code k t (b ∷ l) e =
-      ap (λ z. contentRun z l) (pick-true (accessionByte (form k) b) _ _ (and-l (accessionByte (form k) b) (allOf (accessionByte (form k)) l) e))
-      ∙ in-code k (t ++ (b ∷ [])) l (and-r (accessionByte (form k) b) (allOf (accessionByte (form k)) l) e)
+      ap (λ z. contentRun z l) (pick-true (accessionByte (form k) b) _ _ (and-left (accessionByte (form k) b) (allOf (accessionByte (form k)) l) e))
+      ∙ in-code k (t ++ (b ∷ [])) l (and-right (accessionByte (form k) b) (allOf (accessionByte (form k)) l) e)
       ∙ ap (λ z. going (inCode c tt k z)) (append-assoc t (b ∷ []) l)
 
   in-word : (t l : List ℕ) → allOf isLetter l ≡ true → contentRun (going (plain c tt t)) l ≡ going (plain c tt (t ++ l))
   unfolding contentRun contentStep allOf innerStep
   in-word t [] e = ap (λ z. going (plain c tt z)) (sym (append-nil t))
   in-word t (b ∷ l) e =
-      ap (λ z. contentRun z l) (pick-true (isPlain b) _ _ (lettered b (and-l (isLetter b) (allOf isLetter l) e) .plain))
-      ∙ in-word (t ++ (b ∷ [])) l (and-r (isLetter b) (allOf isLetter l) e)
+      ap (λ z. contentRun z l) (pick-true (isPlain b) _ _ (lettered b (and-left (isLetter b) (allOf isLetter l) e) .plain))
+      ∙ in-word (t ++ (b ∷ [])) l (and-right (isLetter b) (allOf isLetter l) e)
       ∙ ap (λ z. going (plain c tt z)) (append-assoc t (b ∷ []) l)
 
   in-label : (p : Part Place) (t l : List ℕ) → allOf isAlnum l ≡ true → contentRun (going (inLabel c p tt t)) l ≡ going (inLabel c p tt (t ++ l))
   unfolding contentRun contentStep allOf innerStep
   in-label p t [] e = ap (λ z. going (inLabel c p tt z)) (sym (append-nil t))
   in-label p t (b ∷ l) e =
-      ap (λ z. contentRun z l) (pick-true (isAlnum b) _ _ (and-l (isAlnum b) (allOf isAlnum l) e))
-      ∙ in-label p (t ++ (b ∷ [])) l (and-r (isAlnum b) (allOf isAlnum l) e)
+      ap (λ z. contentRun z l) (pick-true (isAlnum b) _ _ (and-left (isAlnum b) (allOf isAlnum l) e))
+      ∙ in-label p (t ++ (b ∷ [])) l (and-right (isAlnum b) (allOf isAlnum l) e)
       ∙ ap (λ z. going (inLabel c p tt z)) (append-assoc t (b ∷ []) l)
 
   -- ---- the end of what a part says
@@ -313,9 +314,9 @@ module _ (c : Context Place) where
   word-run k x t e =
       let f : keyOf (x ∷ t) ≡ some k = word-key k x t e in
       let g : allOf isLetter (x ∷ t) ≡ true = key-letters (x ∷ t) k f in
-      let l : Letter x = lettered x (and-l (isLetter x) (allOf isLetter t) g) in
+      let l : Letter x = lettered x (and-left (isLetter x) (allOf isLetter t) g) in
       then (begin c) (plain c tt (x ∷ [])) x (t ++ (colon ∷ [])) _ (pick-false (isSign x) _ _ (l .sign) ∙ pick-true (isPlain x) _ _ (l .plain))
-      (onward (plain c tt (x ∷ [])) (plain c tt (x ∷ t)) t (colon ∷ []) _ (in-word (x ∷ []) t (and-r (isLetter x) (allOf isLetter t) g))
+      (onward (plain c tt (x ∷ [])) (plain c tt (x ∷ t)) t (colon ∷ []) _ (in-word (x ∷ []) t (and-right (isLetter x) (allOf isLetter t) g))
       (content-one (plain c tt (x ∷ t)) colon ∙ ap going (colon-key (x ∷ t) k f)))
 
   -- ---- what a part says
@@ -396,9 +397,9 @@ module _ (c : Context Place) where
   text-behind : (f : Form) (k : Key) (w : List ℕ) (t : Text) (e : ℕ) → form k ≡ f → stops e ≡ true → Ended f e → none? (printText t) ≡ false → goodWording f w t ≡ true
       → contentRun (going (behindKey c tt k f)) (printText t ++ (e ∷ [])) ≡ valueEnd c (unlabelled tt k (text (printText t))) e
   text-behind massOrName k w t e q h d n g =
-      let g′ = and-r (goodText (outerByte false) t) (not (firstSign (printText t)) && keyless w (printText t)) g in
-      prefixed-run k (printText t) e q (stop e h) (outer-run false t (and-l (goodText (outerByte false) t) (not (firstSign (printText t)) && keyless w (printText t)) g)) n
-      (no (firstSign (printText t)) (and-l (not (firstSign (printText t))) (keyless w (printText t)) g′))
+      let g′ = and-right (goodText (outerByte false) t) (not (firstSign (printText t)) && keyless w (printText t)) g in
+      prefixed-run k (printText t) e q (stop e h) (outer-run false t (and-left (goodText (outerByte false) t) (not (firstSign (printText t)) && keyless w (printText t)) g)) n
+      (no (firstSign (printText t)) (and-left (not (firstSign (printText t))) (keyless w (printText t)) g′))
   text-behind massOnly k w t e q h d n g = absurd (false≢true g)
   text-behind digits k w t e q h d n g = absurd (false≢true g)
   text-behind alnums k w t e q h d n g = absurd (false≢true g)
@@ -410,28 +411,28 @@ module _ (c : Context Place) where
   wording-run k [] t e f h d n g =
       let z : k ≡ NoKey = word-none k f in
       let g₀ : goodWording massOrName [] t ≡ true = ap (λ v. goodWording (form v) [] t) (sym z) ∙ g in
-      let g₁ = and-r (goodText (outerByte false) t) (not (firstSign (printText t)) && keyless [] (printText t)) g₀ in
-      name-run (printText t) e (stop e h) (outer-run false t (and-l (goodText (outerByte false) t) (not (firstSign (printText t)) && keyless [] (printText t)) g₀)) n
-      (no (firstSign (printText t)) (and-l (not (firstSign (printText t))) (keyless [] (printText t)) g₁))
-      (no-key (leadKey [] (printText t)) (and-r (not (firstSign (printText t))) (keyless [] (printText t)) g₁))
+      let g₁ = and-right (goodText (outerByte false) t) (not (firstSign (printText t)) && keyless [] (printText t)) g₀ in
+      name-run (printText t) e (stop e h) (outer-run false t (and-left (goodText (outerByte false) t) (not (firstSign (printText t)) && keyless [] (printText t)) g₀)) n
+      (no (firstSign (printText t)) (and-left (not (firstSign (printText t))) (keyless [] (printText t)) g₁))
+      (no-key (leadKey [] (printText t)) (and-right (not (firstSign (printText t))) (keyless [] (printText t)) g₁))
       ∙ ap (λ v. valueEnd c (unlabelled tt v (text (printText t))) e) (sym z)
   wording-run k (x ∷ w) t e f h d n g = behind-run k x w (printText t) e _ f (text-behind (form k) k (x ∷ w) t e refl h d n g)
 
   base-run : (b : Base) (e : ℕ) → goodBase b ≡ true → stops e ≡ true → Ended (formIn b) e
       → contentRun (going (begin c)) (printBase b ++ (e ∷ [])) ≡ valueEnd c (unlabelled tt (keyIn b) (valueIn b)) e
   base-run (delta w m n) e g h d =
-      let g₁ = and-r (goodWord w) (takesMass (form (w .key)) && goodNumeral n) g in
-      delta-run (w .key) (w .spelled) m n e (and-l (goodWord w) (takesMass (form (w .key)) && goodNumeral n) g) (and-l (takesMass (form (w .key))) (goodNumeral n) g₁)
-      (and-r (takesMass (form (w .key))) (goodNumeral n) g₁) (stop e h)
+      let g₁ = and-right (goodWord w) (takesMass (form (w .key)) && goodNumeral n) g in
+      delta-run (w .key) (w .spelled) m n e (and-left (goodWord w) (takesMass (form (w .key)) && goodNumeral n) g) (and-left (takesMass (form (w .key))) (goodNumeral n) g₁)
+      (and-right (takesMass (form (w .key))) (goodNumeral n) g₁) (stop e h)
   base-run (code w t) e g h d =
-      let g₁ = and-r (goodWord w) (someOf (accessionByte (form (w .key))) t) g in
-      code-run (w .key) (w .spelled) t e (and-l (goodWord w) (someOf (accessionByte (form (w .key))) t) g) (stop e h)
-      (no (none? t) (and-l (not (none? t)) (allOf (accessionByte (form (w .key))) t) g₁)) (and-r (not (none? t)) (allOf (accessionByte (form (w .key))) t) g₁)
+      let g₁ = and-right (goodWord w) (someOf (accessionByte (form (w .key))) t) g in
+      code-run (w .key) (w .spelled) t e (and-left (goodWord w) (someOf (accessionByte (form (w .key))) t) g) (stop e h)
+      (no (none? t) (and-left (not (none? t)) (allOf (accessionByte (form (w .key))) t) g₁)) (and-right (not (none? t)) (allOf (accessionByte (form (w .key))) t) g₁)
   base-run (wording w t) e g h d =
-      let g₁ = and-r (goodWord w) (not (none? (printText t)) && goodWording (form (w .key)) (w .spelled) t) g in
-      wording-run (w .key) (w .spelled) t e (and-l (goodWord w) (not (none? (printText t)) && goodWording (form (w .key)) (w .spelled) t) g) h d
-      (no (none? (printText t)) (and-l (not (none? (printText t))) (goodWording (form (w .key)) (w .spelled) t) g₁))
-      (and-r (not (none? (printText t))) (goodWording (form (w .key)) (w .spelled) t) g₁)
+      let g₁ = and-right (goodWord w) (not (none? (printText t)) && goodWording (form (w .key)) (w .spelled) t) g in
+      wording-run (w .key) (w .spelled) t e (and-left (goodWord w) (not (none? (printText t)) && goodWording (form (w .key)) (w .spelled) t) g) h d
+      (no (none? (printText t)) (and-left (not (none? (printText t))) (goodWording (form (w .key)) (w .spelled) t) g₁))
+      (and-right (not (none? (printText t))) (goodWording (form (w .key)) (w .spelled) t) g₁)
 
   -- ---- labels
   score-none : (p : Part Place) (name : List ℕ) (e : ℕ) → closes e ≡ true → innerStep tt (inLabel c p tt name) e ≡ partEnd c (labelled p tt name none) e
@@ -458,7 +459,7 @@ module _ (c : Context Place) where
 
   digit-sign : (b : ℕ) → isDigit b ≡ true → isSign b ≡ false
   digit-sign b e =
-      let x = leb-true 48 b (and-l (leb 48 b) (leb b 57) e) in
+      let x = leb-true 48 b (and-left (leb 48 b) (leb b 57) e) in
       rw (ne-eqb b plus (λ z. omega arith), ne-eqb b dash (λ z. omega arith))
 
   score-digit : (p : Part Place) (name : List ℕ) (b : ℕ) → isDigit b ≡ true → innerStep tt (scoring c p tt name) b ≡ going (inScore c p tt name tt (whole false (value b)))
@@ -475,13 +476,13 @@ module _ (c : Context Place) where
   unfolding allOf
   score-number p name (some m) n g =
       then (scoring c p tt name) (inScore c p tt name tt (signed m)) (signByte m) (printNumeral n) _ (score-sign p name m) (in-score p name (printNumeral n) (signed m) (readAs m n) (numeral-run m n g))
-  score-number p name none n g = go (n .whole) (and-l (someOf isDigit (n .whole)) (goodBehind (n .behind)) g) (numeral-run false n g)
+  score-number p name none n g = go (n .whole) (and-left (someOf isDigit (n .whole)) (goodBehind (n .behind)) g) (numeral-run false n g)
     where
       go : (a : List ℕ) → someOf isDigit a ≡ true → digitRun (signed false) (a ++ printBehind (n .behind)) ≡ some (readAs false n)
           → contentRun (going (scoring c p tt name)) (a ++ printBehind (n .behind)) ≡ going (inScore c p tt name tt (readAs false n))
       go [] e f = absurd (false≢true e)
       go (b ∷ a) e f =
-          let d : isDigit b ≡ true = and-l (isDigit b) (allOf isDigit a) e in
+          let d : isDigit b ≡ true = and-left (isDigit b) (allOf isDigit a) e in
           then (scoring c p tt name) (inScore c p tt name tt (whole false (value b))) b (a ++ printBehind (n .behind)) _ (score-digit p name b d)
           (in-score p name (a ++ printBehind (n .behind)) (whole false (value b)) (readAs false n) (sym (run-cons (signed false) (whole false (value b)) b (a ++ printBehind (n .behind)) (first-digit b d)) ∙ f))
 
@@ -502,15 +503,15 @@ module _ (c : Context Place) where
   tag-run : (p : Part Place) (t : Tag) (e : ℕ) → goodTag (some t) ≡ true → closes e ≡ true
       → contentRun (going (hashed c p)) ((t .name ++ printScore (t .score)) ++ (e ∷ [])) ≡ partEnd c (labelled p tt (t .name) (meansScore (t .score))) e
   unfolding allOf innerStep
-  tag-run p t e g h = go (t .name) (and-l (someOf isAlnum (t .name)) (goodScore (t .score)) g)
+  tag-run p t e g h = go (t .name) (and-left (someOf isAlnum (t .name)) (goodScore (t .score)) g)
     where
       go : (n : List ℕ) → someOf isAlnum n ≡ true → contentRun (going (hashed c p)) ((n ++ printScore (t .score)) ++ (e ∷ [])) ≡ partEnd c (labelled p tt n (meansScore (t .score))) e
       go [] q = absurd (false≢true q)
       go (b ∷ n) q =
-          then (hashed c p) (inLabel c p tt (b ∷ [])) b ((n ++ printScore (t .score)) ++ (e ∷ [])) _ (pick-true (isAlnum b) _ _ (and-l (isAlnum b) (allOf isAlnum n) q))
+          then (hashed c p) (inLabel c p tt (b ∷ [])) b ((n ++ printScore (t .score)) ++ (e ∷ [])) _ (pick-true (isAlnum b) _ _ (and-left (isAlnum b) (allOf isAlnum n) q))
           (ap (contentRun (going (inLabel c p tt (b ∷ [])))) (append-assoc n (printScore (t .score)) (e ∷ []))
-          ∙ onward (inLabel c p tt (b ∷ [])) (inLabel c p tt (b ∷ n)) n (printScore (t .score) ++ (e ∷ [])) _ (in-label p (b ∷ []) n (and-r (isAlnum b) (allOf isAlnum n) q))
-          (score-run p (b ∷ n) (t .score) e (and-r (someOf isAlnum (t .name)) (goodScore (t .score)) g) h))
+          ∙ onward (inLabel c p tt (b ∷ [])) (inLabel c p tt (b ∷ n)) n (printScore (t .score) ++ (e ∷ [])) _ (in-label p (b ∷ []) n (and-right (isAlnum b) (allOf isAlnum n) q))
+          (score-run p (b ∷ n) (t .score) e (and-right (someOf isAlnum (t .name)) (goodScore (t .score)) g) h))
 
   -- ---- parts
   value-part : (p : Part Place) (e : ℕ) → closes e ≡ true → valueEnd c p e ≡ partEnd c p e
@@ -523,13 +524,13 @@ module _ (c : Context Place) where
 
   piece-run : (p : Piece) (e : ℕ) → goodPiece (eqb (c .shut) shutSquare) p ≡ true → closes e ≡ true
       → contentRun (going (begin c)) (printPiece p ++ (e ∷ [])) ≡ partEnd c (meansPiece p) e
-  piece-run p e g h = go (p .tag) (and-r (goodBase (p .base)) _ g)
+  piece-run p e g h = go (p .tag) (and-right (goodBase (p .base)) _ g)
     where
       b : Base
       b = p .base
 
       ok : goodBase b ≡ true
-      ok = and-l (goodBase b) (goodTag (p .tag) && (not (there? (p .tag)) || (eqb (c .shut) shutSquare && tagFits (formIn b)))) g
+      ok = and-left (goodBase b) (goodTag (p .tag) && (not (there? (p .tag)) || (eqb (c .shut) shutSquare && tagFits (formIn b)))) g
 
       go : (o : Option Tag) → (goodTag o && (not (there? o) || (eqb (c .shut) shutSquare && tagFits (formIn b)))) ≡ true
           → contentRun (going (begin c)) ((printBase b ++ printTag o) ++ (e ∷ [])) ≡ partEnd c (record { key = keyIn b; value = valueIn b; label = meansTag o; at = tt }) e
@@ -538,11 +539,11 @@ module _ (c : Context Place) where
           ∙ base-run b e ok (close e h) (λ z. absurd (false≢true (sym (close-hash e h) ∙ z)))
           ∙ value-part _ e h
       go (some t) q =
-          let r = and-r (goodTag (some t)) (eqb (c .shut) shutSquare && tagFits (formIn b)) q in
+          let r = and-right (goodTag (some t)) (eqb (c .shut) shutSquare && tagFits (formIn b)) q in
           ap (contentRun (going (begin c))) (group (printBase b) (t .name ++ printScore (t .score)))
           ∙ onward (begin c) (hashed c (unlabelled tt (keyIn b) (valueIn b))) (printBase b ++ (hash ∷ [])) ((t .name ++ printScore (t .score)) ++ (e ∷ [])) _
-          (base-run b hash ok refl (λ z. and-r (eqb (c .shut) shutSquare) (tagFits (formIn b)) r) ∙ value-hash _ (and-l (eqb (c .shut) shutSquare) (tagFits (formIn b)) r))
-          (tag-run (unlabelled tt (keyIn b) (valueIn b)) t e (and-l (goodTag (some t)) (eqb (c .shut) shutSquare && tagFits (formIn b)) q) h)
+          (base-run b hash ok refl (λ z. and-right (eqb (c .shut) shutSquare) (tagFits (formIn b)) r) ∙ value-hash _ (and-left (eqb (c .shut) shutSquare) (tagFits (formIn b)) r))
+          (tag-run (unlabelled tt (keyIn b) (valueIn b)) t e (and-left (goodTag (some t)) (eqb (c .shut) shutSquare && tagFits (formIn b)) q) h)
         where
           group : (x y : List ℕ) → (x ++ (hash ∷ y)) ++ (e ∷ []) ≡ (x ++ (hash ∷ [])) ++ (y ++ (e ∷ []))
           group x y = simp append-assoc
@@ -578,8 +579,8 @@ pieces-run [] p c s g = piece-run c p (c .shut) g (shut-closes (c .shut) s) ∙ 
 pieces-run (q ∷ ps) p c s g =
     ap (contentRun (going (begin c))) (group (printPiece p) (printPieces q ps))
     ∙ onward (begin c) (begin (with c (meansPiece p))) (printPiece p ++ (bar ∷ [])) (printPieces q ps ++ (c .shut ∷ [])) _
-    (piece-run c p bar (and-l (goodPiece (eqb (c .shut) shutSquare) p) (goodPieces (eqb (c .shut) shutSquare) q ps) g) refl ∙ part-bar c (meansPiece p) s (no-reference (p .base)))
-    (pieces-run ps q (with c (meansPiece p)) s (and-r (goodPiece (eqb (c .shut) shutSquare) p) (goodPieces (eqb (c .shut) shutSquare) q ps) g)
+    (piece-run c p bar (and-left (goodPiece (eqb (c .shut) shutSquare) p) (goodPieces (eqb (c .shut) shutSquare) q ps) g) refl ∙ part-bar c (meansPiece p) s (no-reference (p .base)))
+    (pieces-run ps q (with c (meansPiece p)) s (and-right (goodPiece (eqb (c .shut) shutSquare) p) (goodPieces (eqb (c .shut) shutSquare) q ps) g)
     ∙ ap closed (append-assoc (c .parts) (meansPiece p ∷ []) (map meansPiece (q ∷ ps))))
   where
     group : (x y : List ℕ) → (x ++ (bar ∷ y)) ++ (c .shut ∷ []) ≡ (x ++ (bar ∷ [])) ++ (y ++ (c .shut ∷ []))

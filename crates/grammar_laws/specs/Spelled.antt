@@ -12,10 +12,11 @@ use Rattle.scope.specs.Bytes.{isPrintable, isLetter, isDigit, isAlnum, isSign, 
 use Rattle.scope.specs.Line.{Number, mass, text, reference, Part}
 use Rattle.scope.specs.Keys.{spell, keyOf, Form, massOrName, massOnly, digits, alnums, free, form, hashIsPlain}
 use Rattle.scope.specs.Content.{Digits, signed, value, digitStep, numberEnd, isPlain, textStep, Context, Inner, begin, plain, keyed, inNumber, inCode, inText, hashed, inLabel, scoring, inScore, scored, Content, lost, closed, going, with, unlabelled, labelled, isReference, partEnd, valueEnd, textEnd, behindKey, colonAfter, accessionByte, nameBehind, none?, innerStep}
-use Rattle.canonical_laws.specs.Lists.{branch, branchO, and-l, and-r, pick-true, pick-false, All, all-append}
+use Rattle.canonical_laws.specs.Lists.{branch, branchO, pick-true, pick-false, All, all-append}
 use Rattle.canonical_laws.specs.Brackets.{Place, Parts, context, contentStep, contentRun}
+use Rattle.basics.specs.Tests.{and-left, and-right, both}
 use Rattle.grammar_laws.specs.Grammar.{allOf, someOf, there?, printNumeral, goodNumeral, signByte, Text, printText, goodText, outerByte, withColon, leadKey, firstSign, keyless, Base, delta, code, wording, printBase, takesMass, goodWording, goodBase, keyIn, valueIn, printSign, isMinus, meansScore, Tag, printTag, goodTag, Piece, printPiece, formIn, tagFits, goodPiece, meansPiece, printPieces, goodPieces, Inside, parts, refers, printInside, goodInside, meansReference, meansInside}
-use Rattle.grammar_laws.specs.Lists.{both, all-nil, all-one, all-snoc, some-snoc, some-all, not-none}
+use Rattle.grammar_laws.specs.Lists.{all-nil, all-one, all-snoc, some-snoc, some-all, not-none}
 use Rattle.grammar_laws.specs.Numerals.{SoFar, so-further, so-first, Spelt, so-ended}
 use Rattle.grammar_laws.specs.Texts.{textRun, text-append, text-cons, text-nil, outer, whole-text}
 use Rattle.grammar_laws.specs.Words.{key-word, key-none, no-word, lead-over, lead-colon, lead-none}
@@ -92,12 +93,12 @@ opens b cs e f g = go (isOpening b) (sym (pick-false (outer false b) (some []) (
     go false h = absurd (Option·none-ne-some cs h)
 
 plain-colon : (b : ℕ) → isPlain b ≡ true → not (eqb b colon) ≡ true
-plain-colon b e = and-r (isPrintable b && not (isOpening b) && not (isShutting b) && not (eqb b bar) && not (eqb b hash)) (not (eqb b colon)) e
+plain-colon b e = and-right (isPrintable b && not (isOpening b) && not (isShutting b) && not (eqb b bar) && not (eqb b hash)) (not (eqb b colon)) e
 
 plain-colons : (t : List ℕ) → allOf isPlain t ≡ true → allOf (λ b. not (eqb b colon)) t ≡ true
 unfolding allOf
 plain-colons [] e = refl
-plain-colons (b ∷ t) e = both (not (eqb b colon)) (allOf (λ x. not (eqb x colon)) t) (plain-colon b (and-l (isPlain b) (allOf isPlain t) e)) (plain-colons t (and-r (isPlain b) (allOf isPlain t) e))
+plain-colons (b ∷ t) e = both (not (eqb b colon)) (allOf (λ x. not (eqb x colon)) t) (plain-colon b (and-left (isPlain b) (allOf isPlain t) e)) (plain-colons t (and-right (isPlain b) (allOf isPlain t) e))
 
 plain-step : (b : ℕ) → isPlain b ≡ true → textStep false [] b ≡ some []
 unfolding textStep
@@ -106,7 +107,7 @@ plain-step b q = pick-true (outer false b) _ _ (ap (λ z. z || eqb b colon || fa
 plain-text : (t : List ℕ) → allOf isPlain t ≡ true → textRun false [] t ≡ some []
 unfolding allOf
 plain-text [] e = text-nil false []
-plain-text (b ∷ t) e = text-cons false b t [] [] (plain-step b (and-l (isPlain b) (allOf isPlain t) e)) ∙ plain-text t (and-r (isPlain b) (allOf isPlain t) e)
+plain-text (b ∷ t) e = text-cons false b t [] [] (plain-step b (and-left (isPlain b) (allOf isPlain t) e)) ∙ plain-text t (and-right (isPlain b) (allOf isPlain t) e)
 
 text-snoc : (h : Bool) (t cs cs′ : List ℕ) (b : ℕ) → textRun h [] t ≡ some cs → textStep h cs b ≡ some cs′ → textRun h [] (t ++ (b ∷ [])) ≡ some cs′
 text-snoc h t cs cs′ b e f = text-append h t (b ∷ []) [] cs e ∙ text-cons h b [] cs cs′ f ∙ text-nil h cs′
@@ -355,11 +356,11 @@ module _ (shut : ℕ) (r : Bool) where
         all =
             ap (λ z. z ++ (b ∷ [])) (x .all ∙ ap (λ z. z ++ printPiece (x .piece)) (x .lead .all))
             ∙ append-assoc (fronts ps) (printPiece (x .piece)) (b ∷ [])
-            ∙ ap (λ z. fronts ps ++ (printPiece (x .piece) ++ (z ∷ []))) (eqb-true b bar (and-l (eqb b bar) (not (isReference (p .value))) e))
+            ∙ ap (λ z. fronts ps ++ (printPiece (x .piece) ++ (z ∷ []))) (eqb-true b bar (and-left (eqb b bar) (not (isReference (p .value))) e))
             ∙ sym (fronts-snoc ps (x .piece));
       }
   part-bars c p b w e (made-reference x) =
-      let h : not (isReference (p .value)) ≡ true = and-r (eqb b bar) (not (isReference (p .value))) e in
+      let h : not (isReference (p .value)) ≡ true = and-right (eqb b bar) (not (isReference (p .value))) e in
       absurd (false≢true (ap (λ z. not (isReference (z .value))) (sym (x .is)) ∙ h))
 
   part-end : (c : Context Place) (p : Part Place) (b : ℕ) (w : List ℕ) → Made c p w → InvC (w ++ (b ∷ [])) (partEnd c p b)
@@ -386,8 +387,8 @@ module _ (shut : ℕ) (r : Bool) where
   value-end c p b w x f =
       branch (eqb b hash && eqb (c .shut) shutSquare) (InvC (w ++ (b ∷ []))) _ _
       (λ e.
-      let h : eqb b hash ≡ true = and-l (eqb b hash) (eqb (c .shut) shutSquare) e in
-      let l : labels ≡ true = ap (λ z. eqb z shutSquare) (sym (shut-is c (x .lead .pieces) (x .lead .is))) ∙ and-r (eqb b hash) (eqb (c .shut) shutSquare) e in
+      let h : eqb b hash ≡ true = and-left (eqb b hash) (eqb (c .shut) shutSquare) e in
+      let l : labels ≡ true = ap (λ z. eqb z shutSquare) (sym (shut-is c (x .lead .pieces) (x .lead .is))) ∙ and-right (eqb b hash) (eqb (c .shut) shutSquare) e in
       record { front = w; tagged = a-part x (both labels (tagFits (formIn (x .base))) l (f h)); all = ap (λ z. w ++ (z ∷ [])) (eqb-true b hash h) })
       (λ e. part-end c p b w (piece-of c p w x))
 
@@ -546,12 +547,12 @@ module _ (shut : ℕ) (r : Bool) where
 
       lonely : (eqb b hash && c .refers && none? (c .parts)) ≡ true → Labelled c (unlabelled tt NoKey reference) [] (w ++ (b ∷ []))
       lonely h =
-          let z : x .pieces ≡ [] = empty (x .pieces) (ap none? (sym (parts-is c (x .pieces) (x .is))) ∙ and-r (eqb b hash && c .refers) (none? (c .parts)) h) in
-          let a : r ≡ true = sym (ap (λ v. v .refers) (x .is)) ∙ and-r (eqb b hash) (c .refers) (and-l (eqb b hash && c .refers) (none? (c .parts)) h) in
+          let z : x .pieces ≡ [] = empty (x .pieces) (ap none? (sym (parts-is c (x .pieces) (x .is))) ∙ and-right (eqb b hash && c .refers) (none? (c .parts)) h) in
+          let a : r ≡ true = sym (ap (λ v. v .refers) (x .is)) ∙ and-right (eqb b hash) (c .refers) (and-left (eqb b hash && c .refers) (none? (c .parts)) h) in
           record {
             front = w;
             tagged = a-reference a (x .is ∙ ap (λ v. context shut r (map meansPiece v)) z) refl (x .all ∙ ap fronts z ∙ fronts-nil);
-            all = ap (λ v. w ++ (v ∷ [])) (eqb-true b hash (and-l (eqb b hash) (c .refers) (and-l (eqb b hash && c .refers) (none? (c .parts)) h)));
+            all = ap (λ v. w ++ (v ∷ [])) (eqb-true b hash (and-left (eqb b hash) (c .refers) (and-left (eqb b hash && c .refers) (none? (c .parts)) h)));
           }
 
   behind-key : (f : Form) (c : Context Place) (k : Key) (w : List ℕ) → form k ≡ f → (x : Behind c k [] w) → none? (x .word) ≡ false → Inv w (behindKey c tt k f)
@@ -674,7 +675,7 @@ module _ (shut : ℕ) (r : Bool) where
             is = refl;
             all = x .all;
           })
-          (λ q. code-tag (form k) y (and-l (accessionByte (form k) y) (allOf (accessionByte (form k)) t) g))
+          (λ q. code-tag (form k) y (and-left (accessionByte (form k) y) (allOf (accessionByte (form k)) t) g))
 
   step-text : (c : Context Place) (k : Key) (t cs : List ℕ) (b : ℕ) (w : List ℕ) (x : Behind c k t w) → textRun (hashIsPlain (form k)) [] t ≡ some cs → Begun (form k) (x .word) t → InvC (w ++ (b ∷ [])) (innerStep tt (inText c tt k t cs) b)
   unfolding innerStep InvC Inv textEnd named behind-more

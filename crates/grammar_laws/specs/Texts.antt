@@ -9,9 +9,10 @@ use lib.Dec.{eqb}
 use borrow.Author.Tests.{eqb-true, ne-eqb}
 use Rattle.scope.specs.Bytes.{isPrintable, isOpening, isShutting, closerOf, openSquare, shutSquare, openCurly, shutCurly, bar, hash, colon}
 use Rattle.scope.specs.Content.{given, isPlain, textStep}
-use Rattle.canonical_laws.specs.Lists.{and-l, and-r, pick-true, pick-false, pick-some}
+use Rattle.canonical_laws.specs.Lists.{pick-true, pick-false, pick-some}
+use Rattle.basics.specs.Tests.{and-left, and-right, both}
 use Rattle.grammar_laws.specs.Grammar.{Text, over, byte, square, curly, printText, plainByte, outerByte, goodText}
-use Rattle.grammar_laws.specs.Lists.{both, no}
+use Rattle.grammar_laws.specs.Lists.{no}
 
 -- the closers owed after some bytes
 unfoldable pub textRun : Bool → List ℕ → List ℕ → Option (List ℕ)
@@ -77,9 +78,9 @@ outer-step hashes b e = pick-true (outer hashes b) _ _ (outer-byte hashes b ∙ 
 inner-step : (hashes : Bool) (c : ℕ) (cs : List ℕ) (b : ℕ) → isShutting c ≡ true → plainByte b ≡ true → textStep hashes (c ∷ cs) b ≡ some (c ∷ cs)
 unfolding textStep
 inner-step hashes c cs b h e =
-    let p : isPrintable b ≡ true = and-l (isPrintable b) (not (isOpening b)) (and-l (isPrintable b && not (isOpening b)) (not (isShutting b)) e) in
-    let o : isOpening b ≡ false = no (isOpening b) (and-r (isPrintable b) (not (isOpening b)) (and-l (isPrintable b && not (isOpening b)) (not (isShutting b)) e)) in
-    let s : not (isShutting b) ≡ true = and-r (isPrintable b && not (isOpening b)) (not (isShutting b)) e in
+    let p : isPrintable b ≡ true = and-left (isPrintable b) (not (isOpening b)) (and-left (isPrintable b && not (isOpening b)) (not (isShutting b)) e) in
+    let o : isOpening b ≡ false = no (isOpening b) (and-right (isPrintable b) (not (isOpening b)) (and-left (isPrintable b && not (isOpening b)) (not (isShutting b)) e)) in
+    let s : not (isShutting b) ≡ true = and-right (isPrintable b && not (isOpening b)) (not (isShutting b)) e in
     let d : eqb b c ≡ false = ne-eqb b c (λ z. true≢false (sym h ∙ ap isShutting (sym z) ∙ no (isShutting b) s)) in
     pick-false (isOpening b) _ _ o ∙ pick-false (eqb b c) _ _ d ∙ pick-true (isPrintable b && not (isShutting b)) _ _ (both (isPrintable b) (not (isShutting b)) p s)
 
@@ -123,27 +124,27 @@ module _ (hashes : Bool) where
   unfolding goodText printText
   inner-run over c cs h e = text-nil hashes (c ∷ cs)
   inner-run (byte b t) c cs h e =
-      text-cons hashes b (printText t) (c ∷ cs) (c ∷ cs) (inner-step hashes c cs b h (and-l (plainByte b) (goodText plainByte t) e))
-      ∙ inner-run t c cs h (and-r (plainByte b) (goodText plainByte t) e)
+      text-cons hashes b (printText t) (c ∷ cs) (c ∷ cs) (inner-step hashes c cs b h (and-left (plainByte b) (goodText plainByte t) e))
+      ∙ inner-run t c cs h (and-right (plainByte b) (goodText plainByte t) e)
   inner-run (square u t) c cs h e =
-      square-run hashes (c ∷ cs) (printText u) (printText t) _ (inner-run u shutSquare (c ∷ cs) refl (and-l (goodText plainByte u) (goodText plainByte t) e))
-      (inner-run t c cs h (and-r (goodText plainByte u) (goodText plainByte t) e))
+      square-run hashes (c ∷ cs) (printText u) (printText t) _ (inner-run u shutSquare (c ∷ cs) refl (and-left (goodText plainByte u) (goodText plainByte t) e))
+      (inner-run t c cs h (and-right (goodText plainByte u) (goodText plainByte t) e))
   inner-run (curly u t) c cs h e =
-      curly-run hashes (c ∷ cs) (printText u) (printText t) _ (inner-run u shutCurly (c ∷ cs) refl (and-l (goodText plainByte u) (goodText plainByte t) e))
-      (inner-run t c cs h (and-r (goodText plainByte u) (goodText plainByte t) e))
+      curly-run hashes (c ∷ cs) (printText u) (printText t) _ (inner-run u shutCurly (c ∷ cs) refl (and-left (goodText plainByte u) (goodText plainByte t) e))
+      (inner-run t c cs h (and-right (goodText plainByte u) (goodText plainByte t) e))
 
   pub outer-run : (t : Text) → goodText (outerByte hashes) t ≡ true → textRun hashes [] (printText t) ≡ some []
   unfolding goodText printText
   outer-run over e = text-nil hashes []
   outer-run (byte b t) e =
-      text-cons hashes b (printText t) [] [] (outer-step hashes b (and-l (outerByte hashes b) (goodText (outerByte hashes) t) e))
-      ∙ outer-run t (and-r (outerByte hashes b) (goodText (outerByte hashes) t) e)
+      text-cons hashes b (printText t) [] [] (outer-step hashes b (and-left (outerByte hashes b) (goodText (outerByte hashes) t) e))
+      ∙ outer-run t (and-right (outerByte hashes b) (goodText (outerByte hashes) t) e)
   outer-run (square u t) e =
-      square-run hashes [] (printText u) (printText t) _ (inner-run u shutSquare [] refl (and-l (goodText plainByte u) (goodText (outerByte hashes) t) e))
-      (outer-run t (and-r (goodText plainByte u) (goodText (outerByte hashes) t) e))
+      square-run hashes [] (printText u) (printText t) _ (inner-run u shutSquare [] refl (and-left (goodText plainByte u) (goodText (outerByte hashes) t) e))
+      (outer-run t (and-right (goodText plainByte u) (goodText (outerByte hashes) t) e))
   outer-run (curly u t) e =
-      curly-run hashes [] (printText u) (printText t) _ (inner-run u shutCurly [] refl (and-l (goodText plainByte u) (goodText (outerByte hashes) t) e))
-      (outer-run t (and-r (goodText plainByte u) (goodText (outerByte hashes) t) e))
+      curly-run hashes [] (printText u) (printText t) _ (inner-run u shutCurly [] refl (and-left (goodText plainByte u) (goodText (outerByte hashes) t) e))
+      (outer-run t (and-right (goodText plainByte u) (goodText (outerByte hashes) t) e))
 
 -- ---- bytes that leave no closer owed are texts: one up to each closer, and one behind the last
 pub record Whole (hashes : Bool) (l : List ℕ) : Type 0 where
@@ -298,7 +299,7 @@ module _ (hashes : Bool) where
           go false true z p q r g = subst (λ (y : ℕ). Nested hashes (c ∷ cs) (y ∷ l)) (sym (eqb-true b c q)) (shuts c cs l (ih cs g))
           go false false true p q r g =
               plain-inner c cs l b
-              (both (isPrintable b && not (isOpening b)) (not (isShutting b)) (both (isPrintable b) (not (isOpening b)) (and-l (isPrintable b) (not (isShutting b)) r) (ap not p)) (and-r (isPrintable b) (not (isShutting b)) r))
+              (both (isPrintable b && not (isOpening b)) (not (isShutting b)) (both (isPrintable b) (not (isOpening b)) (and-left (isPrintable b) (not (isShutting b)) r) (ap not p)) (and-right (isPrintable b) (not (isShutting b)) r))
               (ih (c ∷ cs) g)
           go false false false p q r g = absurd (Option·none-ne-some [] g)
 

@@ -11,9 +11,10 @@ use Rattle.scope.specs.declared.grammar.Key.{Key}
 use Rattle.scope.specs.declared.grammar.Key.the-variants.{NoKey, U, M, R, X, G, C, Obs, Unimod, Mod, Xlmod, Resid, Gno, Info, Formula, Glycan, Position, Limit}
 use Rattle.scope.specs.Bytes.{upper, isUpper, isLower, isLetter, colon, sameFolded}
 use Rattle.scope.specs.Keys.{spell, keys, keyAmong, keyOf}
-use Rattle.canonical_laws.specs.Lists.{branch, and-l, and-r, pick-true, pick-false, All}
+use Rattle.canonical_laws.specs.Lists.{branch, pick-true, pick-false, All}
+use Rattle.basics.specs.Tests.{and-left, and-right, both}
 use Rattle.grammar_laws.specs.Grammar.{allOf, leadKey, there?}
-use Rattle.grammar_laws.specs.Lists.{both, no}
+use Rattle.grammar_laws.specs.Lists.{no}
 
 -- ---- two spellings that fold to one
 folded-both : (x a b : List ℕ) → sameFolded a b ≡ true → sameFolded x a ≡ sameFolded x b
@@ -26,8 +27,8 @@ folded-both (w ∷ x) [] [] e = refl
 folded-both (w ∷ x) [] (z ∷ b) e = absurd (false≢true e)
 folded-both (w ∷ x) (y ∷ a) [] e = absurd (false≢true e)
 folded-both (w ∷ x) (y ∷ a) (z ∷ b) e =
-    ap (λ u. eqb (upper w) u && sameFolded x a) (eqb-true (upper y) (upper z) (and-l (eqb (upper y) (upper z)) (sameFolded a b) e))
-    ∙ ap (λ u. eqb (upper w) (upper z) && u) (folded-both x a b (and-r (eqb (upper y) (upper z)) (sameFolded a b) e))
+    ap (λ u. eqb (upper w) u && sameFolded x a) (eqb-true (upper y) (upper z) (and-left (eqb (upper y) (upper z)) (sameFolded a b) e))
+    ∙ ap (λ u. eqb (upper w) (upper z) && u) (folded-both x a b (and-right (eqb (upper y) (upper z)) (sameFolded a b) e))
 
 among-folded : (ks : List Key) (a b : List ℕ) → sameFolded a b ≡ true → keyAmong ks a ≡ keyAmong ks b
 unfolding keyAmong
@@ -125,8 +126,8 @@ folded-letter x y e h = go (isLower x) (isLower y) refl refl
   where
     capital : (z : ℕ) → isLower z ≡ true → isUpper (z - 32) ≡ true
     capital z q =
-        let a = leb-true 97 z (and-l (leb 97 z) (leb z 122) q) in
-        let b = leb-true z 122 (and-r (leb 97 z) (leb z 122) q) in
+        let a = leb-true 97 z (and-left (leb 97 z) (leb z 122) q) in
+        let b = leb-true z 122 (and-right (leb 97 z) (leb z 122) q) in
         both (leb 65 (z - 32)) (leb (z - 32) 90) (le-leb 65 (z - 32) (omega arith)) (le-leb (z - 32) 90 (omega arith))
 
     either : (u v : Bool) → (u || v) ≡ true → v ≡ false → u ≡ true
@@ -156,8 +157,8 @@ folded-letters [] (y ∷ b) e h = absurd (false≢true e)
 folded-letters (x ∷ a) [] e h = absurd (false≢true e)
 folded-letters (x ∷ a) (y ∷ b) e h =
     both (isLetter y) (allOf isLetter b)
-    (folded-letter x y (eqb-true (upper x) (upper y) (and-l (eqb (upper x) (upper y)) (sameFolded a b) e)) (and-l (isLetter x) (allOf isLetter a) h))
-    (folded-letters a b (and-r (eqb (upper x) (upper y)) (sameFolded a b) e) (and-r (isLetter x) (allOf isLetter a) h))
+    (folded-letter x y (eqb-true (upper x) (upper y) (and-left (eqb (upper x) (upper y)) (sameFolded a b) e)) (and-left (isLetter x) (allOf isLetter a) h))
+    (folded-letters a b (and-right (eqb (upper x) (upper y)) (sameFolded a b) e) (and-right (isLetter x) (allOf isLetter a) h))
 
 pub key-letters : (t : List ℕ) (k : Key) → keyOf t ≡ some k → allOf isLetter t ≡ true
 key-letters t k e = folded-letters (spell k) t (named t k e .folds) (named t k e .letters)
@@ -184,8 +185,8 @@ pub lead-over : (w t r : List ℕ) → allOf (λ b. not (eqb b colon)) t ≡ tru
 unfolding leadKey allOf
 lead-over w [] r e = ap (λ z. leadKey z r) (sym (append-nil w))
 lead-over w (b ∷ t) r e =
-    pick-false (eqb b colon) _ _ (no (eqb b colon) (and-l (not (eqb b colon)) (allOf (λ b. not (eqb b colon)) t) e))
-    ∙ lead-over (w ++ (b ∷ [])) t r (and-r (not (eqb b colon)) (allOf (λ b. not (eqb b colon)) t) e)
+    pick-false (eqb b colon) _ _ (no (eqb b colon) (and-left (not (eqb b colon)) (allOf (λ b. not (eqb b colon)) t) e))
+    ∙ lead-over (w ++ (b ∷ [])) t r (and-right (not (eqb b colon)) (allOf (λ b. not (eqb b colon)) t) e)
     ∙ ap (λ z. leadKey z r) (append-assoc w (b ∷ []) t)
 
 pub lead-colon : (w r : List ℕ) → leadKey w (colon ∷ r) ≡ keyOf w

@@ -20,9 +20,10 @@ use Rattle.scope.specs.Bytes.{isLetter, isDigit, isShutting, openSquare, shutSq
 use Rattle.scope.specs.Line.{Bracket, Residue}
 use Rattle.scope.specs.Content.{value, isReference, begin}
 use Rattle.scope.specs.Reading.{square, front, labile, element, further, groupFirst, inGroup, undecided, counted, referred, act, mayEnd, Held, nothing, firstOf, withResidue, firstPosition, lastPosition, settled, waiting, put, withBracket, times, countDigit, onLast, withDigit, asNTerm, settledRun, State, outside, inside, perform, refers?, modeAfter, step, start}
-use Rattle.canonical_laws.specs.Lists.{and-l, and-r, pick-true, pick-false}
+use Rattle.canonical_laws.specs.Lists.{pick-true, pick-false}
 use Rattle.canonical_laws.specs.Brackets.{Place, context}
 use Rattle.canonical_laws.specs.Runs.{lineRun, line-nil, line-cons, line-one, line-further, lift, same-mode}
+use Rattle.basics.specs.Tests.{and-left, and-right}
 use Rattle.grammar_laws.specs.Grammar.{allOf, someOf, valueOn, Base, delta, code, wording, valueIn, Inside, parts, refers, printInside, goodInside, meansInside, printSquare, printCurly, each, every, printSquares, goodSquares, goodCurlies, bracketAt, Marked, printCount, goodCount, printMarked, goodMarked, counting, meansMarked, Run, marks, printRun, goodRun, meansRun, Spot, Element, single, range, unsure, printSpot, printElement, goodSpot, goodElement, residueOf, residuesIn, bracketsOn, bracketsIn, bracketsAlong, Spelling, elements, printFront, printBack, print, good, residuesOf, means}
 use Rattle.reading_laws.specs.Run.{told}
 use Rattle.grammar_laws.specs.Printed.{inside-run}
@@ -60,11 +61,11 @@ each-cons f x l = refl
 
 every-head : {A : Type 0} (f : A → Bool) (x : A) (l : List A) → every f (x ∷ l) ≡ true → f x ≡ true
 unfolding every
-every-head f x l e = and-l (f x) (every f l) e
+every-head f x l e = and-left (f x) (every f l) e
 
 every-tail : {A : Type 0} (f : A → Bool) (x : A) (l : List A) → every f (x ∷ l) ≡ true → every f l ≡ true
 unfolding every
-every-tail f x l e = and-r (f x) (every f l) e
+every-tail f x l e = and-right (f x) (every f l) e
 
 -- brackets of a settled kind, one behind another
 module _ (k : Kind) (r : Bool) (m : Mode) (opens : act m openSquare ≡ Begin (square k r m)) (settles : (b : Bracket Place) (h : Held Place) → put k b h ≡ settled b h) where
@@ -111,7 +112,7 @@ module _ (m m′ : Mode) (c : Section) (own : act m′ openSquare ≡ Begin (squ
   spot-run s h e g =
       line-cons (outside m h) (s .letter) (printSquares (s .brackets))
       ∙ ap (λ z. lineRun (perform tt (s .letter) h z) (printSquares (s .brackets))) e
-      ∙ squares-run OnResidue true m′ own (λ b q. refl) (s .brackets) (withResidue tt (s .letter) c h) (and-r (isLetter (s .letter)) (goodSquares true (s .brackets)) g)
+      ∙ squares-run OnResidue true m′ own (λ b q. refl) (s .brackets) (withResidue tt (s .letter) c h) (and-right (isLetter (s .letter)) (goodSquares true (s .brackets)) g)
       ∙ ap (λ z. outside m′ (held (h .residues ++ (residueOf c s ∷ [])) (h .brackets ++ map (bracketAt OnResidue z z) (s .brackets)) (h .run) (firstOf c (length (h .residues) + 1) (h .first)))) (snoc-length (h .residues) (residueOf c s))
 
 on-nil : (i : ℕ) → bracketsOn i [] ≡ []
@@ -137,7 +138,7 @@ module _ (m : Mode) (c : Section) (takes : (b : ℕ) → isLetter b ≡ true →
       let n = length (h .residues) in
       let h₁ : Held Place = held (h .residues ++ (residueOf c s ∷ [])) (h .brackets ++ map (bracketAt OnResidue (n + 1) (n + 1)) (s .brackets)) (h .run) (firstOf c (n + 1) (h .first)) in
       ap (lineRun (outside m h)) (each-cons printSpot s ss)
-      ∙ line-further (printSpot s) (each printSpot ss) (outside m h) (outside m h₁) _ (spot-run m m c own s h (takes (s .letter) (and-l (isLetter (s .letter)) (goodSquares true (s .brackets)) (every-head goodSpot s ss g))) (every-head goodSpot s ss g))
+      ∙ line-further (printSpot s) (each printSpot ss) (outside m h) (outside m h₁) _ (spot-run m m c own s h (takes (s .letter) (and-left (isLetter (s .letter)) (goodSquares true (s .brackets)) (every-head goodSpot s ss g))) (every-head goodSpot s ss g))
       (spots-run ss h₁ (every-tail goodSpot s ss g))
       ∙ ap (λ z. outside m (held z ((h .brackets ++ map (bracketAt OnResidue (n + 1) (n + 1)) (s .brackets)) ++ bracketsOn (length (h .residues ++ (residueOf c s ∷ [])) + 1) ss) (h .run) (firstOf c (n + 1) (h .first)))) (append-assoc (h .residues) (residueOf c s ∷ []) (map (residueOf c) ss))
       ∙ ap (λ z. outside m (held (h .residues ++ map (residueOf c) (s ∷ ss)) ((h .brackets ++ map (bracketAt OnResidue (n + 1) (n + 1)) (s .brackets)) ++ bracketsOn (z + 1) ss) (h .run) (firstOf c (n + 1) (h .first)))) (snoc-length (h .residues) (residueOf c s))
@@ -151,7 +152,7 @@ module _ (m : Mode) (c : Section) (takes : (b : ℕ) → isLetter b ≡ true →
       let n = length (h .residues) in
       let h₁ : Held Place = held (h .residues ++ (residueOf c₀ s ∷ [])) (h .brackets ++ map (bracketAt OnResidue (n + 1) (n + 1)) (s .brackets)) (h .run) (firstOf c₀ (n + 1) (h .first)) in
       ap (lineRun (outside m₀ h)) (each-cons printSpot s ss)
-      ∙ line-further (printSpot s) (each printSpot ss) (outside m₀ h) (outside m h₁) _ (spot-run m₀ m c₀ own s h (takes₀ (s .letter) (and-l (isLetter (s .letter)) (goodSquares true (s .brackets)) (every-head goodSpot s ss g))) (every-head goodSpot s ss g))
+      ∙ line-further (printSpot s) (each printSpot ss) (outside m₀ h) (outside m h₁) _ (spot-run m₀ m c₀ own s h (takes₀ (s .letter) (and-left (isLetter (s .letter)) (goodSquares true (s .brackets)) (every-head goodSpot s ss g))) (every-head goodSpot s ss g))
       (spots-run ss h₁ (every-tail goodSpot s ss g))
       ∙ ap (λ z. outside m (held z ((h .brackets ++ map (bracketAt OnResidue (n + 1) (n + 1)) (s .brackets)) ++ bracketsOn (length (h .residues ++ (residueOf c₀ s ∷ [])) + 1) ss) (h .run) (firstOf c₀ (n + 1) (h .first)))) (append-assoc (h .residues) (residueOf c₀ s ∷ []) (map (residueOf c) ss))
       ∙ ap (λ z. outside m (held (h .residues ++ (residueOf c₀ s ∷ map (residueOf c) ss)) ((h .brackets ++ map (bracketAt OnResidue (n + 1) (n + 1)) (s .brackets)) ++ bracketsOn (z + 1) ss) (h .run) (firstOf c₀ (n + 1) (h .first)))) (snoc-length (h .residues) (residueOf c₀ s))
@@ -276,7 +277,7 @@ group-length rs x c ss = length-append rs (x ∷ map (residueOf c) ss) ∙ (let 
 
 element-run : (e : Element) (m : Mode) (h : Held Place) → Begins m → goodElement e ≡ true → lineRun (outside m h) (printElement e) ≡ outside (endOf e) (grown h e)
 element-run (single s) m h w g =
-    spot-run m Single Plain own-single s h (w .letter (s .letter) (and-l (isLetter (s .letter)) (goodSquares true (s .brackets)) g)) g
+    spot-run m Single Plain own-single s h (w .letter (s .letter) (and-left (isLetter (s .letter)) (goodSquares true (s .brackets)) g)) g
     ∙ ap (λ z. outside Single (held (h .residues ++ (residueOf Plain s ∷ [])) (h .brackets ++ z) (h .run) (length (h .residues) + 1))) (sym (on-one (length (h .residues) + 1) s))
 element-run (range s ss x xs) m h w g =
     let n = length (h .residues) in
@@ -285,9 +286,9 @@ element-run (range s ss x xs) m h w g =
     let h₁ : Held Place = held rs ks (h .run) (n + 1) in
     line-then (outside m h) (outside Opened h) _ openRound _ (go m Opened h openRound (w .round))
     (line-further (each printSpot (s ∷ ss)) (shutRound ∷ printSquares (x ∷ xs)) (outside Opened h) (outside InRange h₁) _
-    (group-run InRange RangeNext range-letter own-range (λ a b. refl) Opened RangeFirst s ss h opened-letter (λ a b. refl) (and-l (every goodSpot (s ∷ ss)) (goodSquares false (x ∷ xs)) g))
+    (group-run InRange RangeNext range-letter own-range (λ a b. refl) Opened RangeFirst s ss h opened-letter (λ a b. refl) (and-left (every goodSpot (s ∷ ss)) (goodSquares false (x ∷ xs)) g))
     (line-then (outside InRange h₁) (outside RangeEnd h₁) _ shutRound (printSquares (x ∷ xs)) (go InRange RangeEnd h₁ shutRound range-ends)
-    (squares-from OnRange false Ranged ranged-open (λ b q. refl) RangeEnd x xs h₁ end-open (and-r (every goodSpot (s ∷ ss)) (goodSquares false (x ∷ xs)) g))))
+    (squares-from OnRange false Ranged ranged-open (λ b q. refl) RangeEnd x xs h₁ end-open (and-right (every goodSpot (s ∷ ss)) (goodSquares false (x ∷ xs)) g))))
     ∙ ap (λ z. outside Ranged (held rs (ks ++ map (bracketAt OnRange (n + 1) z) (x ∷ xs)) (h .run) (n + 1))) (group-length (h .residues) (residueOf RangeFirst s) RangeNext ss)
     ∙ ap (λ z. outside Ranged (held rs z (h .run) (n + 1))) (append-assoc (h .brackets) (bracketsOn (n + 1) (s ∷ ss)) _)
 element-run (unsure s ss) m h w g =
@@ -486,8 +487,8 @@ digits-run : (ds : List ℕ) (rs : Residues) (ks l : Brackets) (f v : ℕ) (k : 
 unfolding allOf valueOn
 digits-run [] rs ks l f v k e = line-nil _
 digits-run (b ∷ ds) rs ks l f v k e =
-    line-then (outside Counting (held rs ks (l ++ (times v tt k ∷ [])) f)) _ _ b ds (digit-run Counting (held rs ks (l ++ (times v tt k ∷ [])) f) b (counting-digit b (and-l (isDigit b) (allOf isDigit ds) e)))
-    (ap (λ z. lineRun (outside Counting (held rs ks z f)) ds) (last-snoc (countDigit tt b) l (times v tt k)) ∙ digits-run ds rs ks l f (v * 10 + value b) k (and-r (isDigit b) (allOf isDigit ds) e))
+    line-then (outside Counting (held rs ks (l ++ (times v tt k ∷ [])) f)) _ _ b ds (digit-run Counting (held rs ks (l ++ (times v tt k ∷ [])) f) b (counting-digit b (and-left (isDigit b) (allOf isDigit ds) e)))
+    (ap (λ z. lineRun (outside Counting (held rs ks z f)) ds) (last-snoc (countDigit tt b) l (times v tt k)) ∙ digits-run ds rs ks l f (v * 10 + value b) k (and-right (isDigit b) (allOf isDigit ds) e))
 
 count-run : (ds : List ℕ) (rs : Residues) (ks l : Brackets) (f : ℕ) (x : Inside) → someOf isDigit ds ≡ true
     → lineRun (outside Caret (held rs ks (l ++ (bracketAt Unknown 0 0 x ∷ [])) f)) ds ≡ outside Counting (held rs ks (l ++ (times (valueOn 0 ds) tt (bracketAt Unknown 0 0 x) ∷ [])) f)
@@ -495,9 +496,9 @@ unfolding allOf valueOn
 count-run [] rs ks l f x e = absurd (false≢true e)
 count-run (b ∷ ds) rs ks l f x e =
     let k : Bracket Place = bracketAt Unknown 0 0 x in
-    line-then (outside Caret (held rs ks (l ++ (k ∷ [])) f)) _ _ b ds (digit-run Caret (held rs ks (l ++ (k ∷ [])) f) b (caret-digit b (and-l (isDigit b) (allOf isDigit ds) e)))
+    line-then (outside Caret (held rs ks (l ++ (k ∷ [])) f)) _ _ b ds (digit-run Caret (held rs ks (l ++ (k ∷ [])) f) b (caret-digit b (and-left (isDigit b) (allOf isDigit ds) e)))
     (ap (λ z. lineRun (outside Counting (held rs ks z f)) ds) (last-snoc (countDigit tt b) l k)
-    ∙ digits-run ds rs ks l f (value b) k (and-r (isDigit b) (allOf isDigit ds) e)
+    ∙ digits-run ds rs ks l f (value b) k (and-right (isDigit b) (allOf isDigit ds) e)
     ∙ ap (λ z. outside Counting (held rs ks (l ++ (times (valueOn z ds) tt k ∷ [])) f)) (omega arith))
 
 pub record Noted (m : Mode) (h : Held Place) (l : List ℕ) (ks : Brackets) : Type 0 where
@@ -519,7 +520,7 @@ counted-mark (some ds) m h x g w =
 
 mark-run : (x : Marked) (m : Mode) (h : Held Place) → InRun m → goodMarked x ≡ true → Noted m h (printMarked x) (meansMarked x ∷ [])
 mark-run x m h w g =
-    counted-mark (x .count) m h (x .inside) (and-r (goodInside shutSquare false (x .inside)) (goodCount (x .count)) g) (waits m h (x .inside) w (and-l (goodInside shutSquare false (x .inside)) (goodCount (x .count)) g))
+    counted-mark (x .count) m h (x .inside) (and-right (goodInside shutSquare false (x .inside)) (goodCount (x .count)) g) (waits m h (x .inside) w (and-left (goodInside shutSquare false (x .inside)) (goodCount (x .count)) g))
 
 marks-on : (xs : List Marked) (x : Marked) (m : Mode) (h : Held Place) → every goodMarked xs ≡ true → Noted m h (printMarked x) (meansMarked x ∷ []) → Noted m h (each printMarked (x ∷ xs)) (map meansMarked (x ∷ xs))
 marks-on [] x m h g w =
@@ -549,7 +550,7 @@ run-run r rs ks f g =
     let h : Held Place = held rs ks [] f in
     let x = r .first in
     let g₀ = every-head goodMarked x (r .more) g in
-    let i = marks-on (r .more) x Front h (every-tail goodMarked x (r .more) g) (counted-mark (x .count) Front h (x .inside) (and-r (goodInside shutSquare false (x .inside)) (goodCount (x .count)) g₀) (wait-front Front h (x .inside) front-opens (and-l (goodInside shutSquare false (x .inside)) (goodCount (x .count)) g₀))) in
+    let i = marks-on (r .more) x Front h (every-tail goodMarked x (r .more) g) (counted-mark (x .count) Front h (x .inside) (and-right (goodInside shutSquare false (x .inside)) (goodCount (x .count)) g₀) (wait-front Front h (x .inside) front-opens (and-left (goodInside shutSquare false (x .inside)) (goodCount (x .count)) g₀))) in
     line-further (each printMarked (marks r)) (question ∷ []) (outside Front h) _ _ (i .path) (run-over (i .mode) _ (i .run))
     ∙ ap (λ z. outside Front (held rs (ks ++ z) [] f)) (map-id (meansRun r))
 
@@ -712,15 +713,15 @@ line-run t g =
     let c = goodSquares true (t .front) in
     let d = every goodElement (elements t) in
     let e = goodSquares true (t .back) in
-    let g₁ : (b && (c && (d && e))) ≡ true = and-r a (b && (c && (d && e))) g in
-    let g₂ : (c && (d && e)) ≡ true = and-r b (c && (d && e)) g₁ in
-    let g₃ : (d && e) ≡ true = and-r c (d && e) g₂ in
+    let g₁ : (b && (c && (d && e))) ≡ true = and-right a (b && (c && (d && e))) g in
+    let g₂ : (c && (d && e)) ≡ true = and-right b (c && (d && e)) g₁ in
+    let g₃ : (d && e) ≡ true = and-right c (d && e) g₂ in
     let k₁ : Brackets = each meansRun (t .runs) in
     let k₂ : Brackets = map (bracketAt Labile 0 0) (t .labiles) in
     let k₃ : Brackets = map (bracketAt NTerm 0 0) (t .front) in
-    let i = curlies-run (t .labiles) [] k₁ 0 (and-l b (c && (d && e)) g₁) in
-    let j = front-run (t .front) (i .mode) [] (k₁ ++ k₂) 0 (i .fronts) (and-l c (d && e) g₂) in
-    let q = sequence-run (t .first) (t .more) (t .back) (j .mode) ((k₁ ++ k₂) ++ k₃) 0 (j .begins) (and-l d e g₃) (and-r d e g₃) in
+    let i = curlies-run (t .labiles) [] k₁ 0 (and-left b (c && (d && e)) g₁) in
+    let j = front-run (t .front) (i .mode) [] (k₁ ++ k₂) 0 (i .fronts) (and-left c (d && e) g₂) in
+    let q = sequence-run (t .first) (t .more) (t .back) (j .mode) ((k₁ ++ k₂) ++ k₃) 0 (j .begins) (and-left d e g₃) (and-right d e g₃) in
     record {
       mode = q .mode;
       first = q .first;
@@ -728,7 +729,7 @@ line-run t g =
       path =
           whole-run (each printRun (t .runs)) (each printCurly (t .labiles)) (printFront (t .front)) (each printElement (elements t) ++ printBack (t .back)) k₁ k₂ k₃
           (bracketsAlong 0 (elements t) ++ map (bracketAt CTerm (length (residuesOf t) + 1) (length (residuesOf t) + 1)) (t .back)) (residuesOf t) (i .mode) (j .mode) (q .mode) (q .first)
-          (runs-run (t .runs) [] [] 0 (and-l a (b && (c && (d && e))) g)) (i .path) (j .path) (q .path);
+          (runs-run (t .runs) [] [] 0 (and-left a (b && (c && (d && e))) g)) (i .path) (j .path) (q .path);
     }
 
 -- what a good spelling prints is read to what it means

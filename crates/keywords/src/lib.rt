@@ -4,6 +4,7 @@ ghost use mathlib.Core.Path.{_≡_};
 ghost use mathlib.Core.List.{[], _∷_};
 ghost use Prim.Native.Nat.{_+_, _-_, _≤_};
 ghost use lib.ListN.{length};
+ghost use Rattle.scope.specs.Keys.{keyCode};
 ghost use Rattle.scope.specs.Tables.{part};
 ghost use Rattle.keywords.specs.KeyWords.{keyFound, foundAmong, ones, threes, fours, fives, sixes, sevens, eights};
 
@@ -112,4 +113,30 @@ fn of_eight(line: &[u8], at: usize) -> Key
         return Key::Position;
     }
     Key::NoKey
+}
+
+// The number of a key in the tables.
+pub fn key_code(key: Key) -> u8
+    ensures { λ r. ⌜ r ≡ keyCode key ⌝ }
+{
+    match key {
+        Key::NoKey => 0,
+        Key::U => 1,
+        Key::M => 2,
+        Key::R => 3,
+        Key::X => 4,
+        Key::G => 5,
+        Key::C => 6,
+        Key::Obs => 7,
+        Key::Unimod => 8,
+        Key::Mod => 9,
+        Key::Xlmod => 10,
+        Key::Resid => 11,
+        Key::Gno => 12,
+        Key::Info => 13,
+        Key::Formula => 14,
+        Key::Glycan => 15,
+        Key::Position => 16,
+        Key::Limit => 17,
+    }
 }

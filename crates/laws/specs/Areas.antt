@@ -1,6 +1,6 @@
 -- Demand 2 and refusal 14, proved.
 use mathlib.Core.Path.{_≡_, sym, ap, _∙_, subst}
-use mathlib.Core.Bool.{Bool, true, false, cond, _&&_, _||_}
+use mathlib.Core.Bool.{Bool, true, false, cond}
 use mathlib.Core.Logic.{_↔_}
 use mathlib.Core.List.{List, _++_}
 use Prim.Native.Nat.{ℕ, _≤_}
@@ -17,13 +17,8 @@ use Rattle.scope.specs.Tables.{Tables, tablesOf, bytesOf, numbersOf, bytesSize,
 use Rattle.scope.specs.Answers.{Said, refuses, sameNumbers, readsTo, tooShort, areTables, overTables}
 use Rattle.layout_laws.specs.Laws.{accepted-within, same-bytes, same-numbers, bytes-fill, numbers-fill, tables-back, laid-bytes, laid-numbers, areas-determine, same-law, same-numbers-law, tables-held, accepted-held}
 use Rattle.canonical_laws.specs.Proved as canonical-laws
+use Rattle.basics.specs.Tests.{both, neither}
 use Rattle.laws.specs.Demands.{bytesRead, numbersRead, writtenFrom, SomeLine, HoldTables, ReadsBack, Demand2}
-
-both : (s t : Bool) → s ≡ true → t ≡ true → (s && t) ≡ true
-both s t e f = rw (e, f)
-
-neither : (s t : Bool) → s ≡ false → t ≡ false → (s || t) ≡ false
-neither s t e f = rw (e, f)
 
 -- ---- 14
 reads-to : (o : Outcome) (l : Line ℕ) (bs : List ℕ) (ns : List ℤ) → o ≡ accepted l → bytesOf l ≡ bs → numbersOf l ≡ ns → readsTo o bs ns ≡ true

@@ -26,9 +26,9 @@ use Rattle.scope.specs.Reading.{square, front, labile, element, further, groupF
 use Rattle.scope.specs.Modifications.{flat, nameOf, isLabelled}
 use Rattle.scope.specs.Masses.{isLabile}
 use Rattle.layout_laws.specs.Within.{Each}
-use Rattle.layout_laws.specs.Lists.{and-left, and-right}
 use Rattle.layout_laws.specs.Each.{each-append, each-map, each-one}
 use Rattle.layout_laws.specs.Inside.{branch, branch-given}
+use Rattle.basics.specs.Tests.{and-left, and-right}
 
 -- ---- inside a bracket that `}` closes
 abbrev NoLabels : {P : Type 0} → List (Part P) → Type 0

@@ -13,8 +13,8 @@ use Rattle.scope.specs.Line.{Number, Label, Value, mass, text, reference, Part,
 use Rattle.scope.specs.Modifications.{flat}
 use Rattle.scope.specs.Refusals.{inRange, textIn, accepted, outcome}
 use Rattle.scope.specs.Tables.{bracketTexts}
+use Rattle.basics.specs.Tests.{and-right}
 use Rattle.layout_laws.specs.Within.{OfGiven, Byte, NumberWithin, LabelWithin, ValueWithin, PartWithin, BracketWithin, Within}
-use Rattle.layout_laws.specs.Lists.{and-right}
 use Rattle.layout_laws.specs.Each.{each-one, each-two}
 use Rattle.layout_laws.specs.Judged.{MassRange, JudgedPart, JudgedBracket, judged-line}
 use Rattle.layout_laws.specs.Inside.{Signed, LabelShape, ValueShape, PartShape}

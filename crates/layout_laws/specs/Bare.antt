@@ -201,7 +201,7 @@ module _ {P : Type 0} where
       go (text t) = refl
       go reference = refl
 
-  is-modification : (k : Bracket P) → isModification (bareBracket k) ≡ isModification k
+  pub is-modification : (k : Bracket P) → isModification (bareBracket k) ≡ isModification k
   is-modification k = rw (all-map (isKey Info) (isKey Info) barePart (λ p. refl) (k .parts), refers-bare (k .parts))
 
   pub names-of : (k : Bracket P) → namesOf (bareBracket k) ≡ namesOf k
@@ -300,10 +300,10 @@ module _ {P : Type 0} where
         first-mass-kept (isKey Obs) (isKey Obs) (λ p. refl) (k .parts),
       )
 
-  mass-or-0 : (k : Bracket P) → massOr0 (bareBracket k) ≡ massOr0 k
+  pub mass-or-0 : (k : Bracket P) → massOr0 (bareBracket k) ≡ massOr0 k
   mass-or-0 k = rw (mass-of k)
 
-  modifications-bare : (l : Line P) → modifications (tablesOf l) ≡ map bareBracket (modifications l)
+  pub modifications-bare : (l : Line P) → modifications (tablesOf l) ≡ map bareBracket (modifications l)
   unfolding tablesOf
   modifications-bare l = keep-map isModification isModification bareBracket is-modification (l .brackets)
 

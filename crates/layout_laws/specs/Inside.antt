@@ -18,8 +18,8 @@ use Rattle.scope.specs.Content.{given, Digits, signed, whole, pointed, broken, 
 use Rattle.scope.specs.Modifications.{flat}
 use Rattle.scope.specs.Refusals.{textIn, textOf}
 use Rattle.scope.specs.Tables.{packed}
+use Rattle.basics.specs.Tests.{and-right}
 use Rattle.layout_laws.specs.Within.{Each, OfGiven, Byte, ReferenceWithin}
-use Rattle.layout_laws.specs.Lists.{and-right}
 use Rattle.layout_laws.specs.Each.{each-append, each-one}
 
 -- ---- what holds of a branch

@@ -16,9 +16,10 @@ use Rattle.scope.specs.Keys.{keyCode}
 use Rattle.scope.specs.Content.{given}
 use Rattle.scope.specs.Reading.{Reading, stuck, holds, reading}
 use Rattle.scope.specs.Modifications.{flat, namesOf, isLabelled, copies, definedBy, defined, referredTo}
-use Rattle.scope.specs.Refusals.{dueAt, least, unprintable, refusal1, refusal2, refusal3, refusal5, refusal6, refusal7, refusal8, refusal9, refusal10, refusal11, refusal12, textOf, longText, longLabel, overIn, inRange, wide, wideMass, wideScore, wideCount, notHere, isRule, isLink, secondLabel, definedAgain, undefined, countedLabel, unreferred, wrongLabels, wronglyLabelled, passing, Outcome, accepted, refused, firstDue, judged, outcome}
+use Rattle.scope.specs.Refusals.{dueAt, unprintable, refusal1, refusal2, refusal3, refusal5, refusal6, refusal7, refusal8, refusal9, refusal10, refusal11, refusal12, textOf, longText, longLabel, overIn, inRange, wide, wideMass, wideScore, wideCount, notHere, isRule, isLink, secondLabel, definedAgain, undefined, countedLabel, unreferred, wrongLabels, wronglyLabelled, passing, Outcome, accepted, refused, firstDue, judged, outcome}
 use Rattle.scope.specs.Positions.{floaters}
-use Rattle.layout_laws.specs.Lists.{or-left, or-right}
+use Rattle.basics.specs.Lists.{least-none, not-due, nil-front, nil-back}
+use Rattle.basics.specs.Tests.{or-left, or-right}
 use Rattle.layout_laws.specs.Within.{Each, OfGiven}
 use Rattle.layout_laws.specs.Each.{each-three}
 
@@ -70,27 +71,10 @@ good s l e =
         }
 
 -- ---- nothing is due
-least-none : (l : List ℕ) → least l ≡ none → l ≡ []
-unfolding least
-least-none [] e = refl
-least-none (i ∷ l) e = let z : _≡_ {A = ℕ} 0 1 = cc in absurd (omega arith)
-
-first-none : {A : Type 0} (l m : List A) → l ++ m ≡ [] → l ≡ []
-first-none [] m e = refl
-first-none (x ∷ l) m e = let z : _≡_ {A = ℕ} 0 1 = cc in absurd (omega arith)
-
-rest-none : {A : Type 0} (l m : List A) → l ++ m ≡ [] → m ≡ []
-rest-none [] m e = e
-rest-none (x ∷ l) m e = let z : _≡_ {A = ℕ} 0 1 = cc in absurd (omega arith)
-
 flat-none : {A B : Type 0} (f : A → List B) (l : List A) → flat f l ≡ [] → Each (λ x. f x ≡ []) l
 unfolding flat
 flat-none f [] e = tt
-flat-none f (x ∷ l) e = (first-none (f x) (flat f l) e, flat-none f l (rest-none (f x) (flat f l) e))
-
-not-due : (t : Bool) (i : ℕ) → dueAt t i ≡ [] → t ≡ false
-not-due true i e = let z : _≡_ {A = ℕ} 0 1 = cc in absurd (omega arith)
-not-due false i e = refl
+flat-none f (x ∷ l) e = (nil-front (f x) (flat f l) e, flat-none f l (nil-back (f x) (flat f l) e))
 
 none-dropped : {A : Type 0} (f : A → ℕ) (n : ℕ) (l : List A) → drop n (map f l) ≡ [] → length l ≤ n
 none-dropped f n l e =
@@ -156,10 +140,10 @@ key-few Limit e = absurd (true≢false e)
 judged-part : (p : Part ℕ) → longText p ++ longLabel p ≡ [] → wideMass (p .value) ++ wideScore p ≡ [] → dueAt (notHere p) (p .at) ≡ [] → JudgedPart p
 judged-part p a b c =
     record {
-      short-text = ltb-false 128 (length (textOf p)) (not-due _ (p .at) (first-none (longText p) (longLabel p) a));
-      short-label = short-label-of (p .label) (rest-none (longText p) (longLabel p) a);
-      mass-range = mass-range-of (p .value) (first-none (wideMass (p .value)) (wideScore p) b);
-      score-range = score-range-of (p .label) (rest-none (wideMass (p .value)) (wideScore p) b);
+      short-text = ltb-false 128 (length (textOf p)) (not-due _ (p .at) (nil-front (longText p) (longLabel p) a));
+      short-label = short-label-of (p .label) (nil-back (longText p) (longLabel p) a);
+      mass-range = mass-range-of (p .value) (nil-front (wideMass (p .value)) (wideScore p) b);
+      score-range = score-range-of (p .label) (nil-back (wideMass (p .value)) (wideScore p) b);
       key = key-few (p .key) (or-left _ (isRule p) (or-left _ (given (p .label) (λ l. isLink (l .name)) false) (not-due (notHere p) (p .at) c)));
     }
 
@@ -195,16 +179,16 @@ judged-bracket before definitions references k a b c d =
     let d3 = or-left _ (undefined definitions k) d2 in
     let d4 : secondLabel k ≡ false = or-left _ (definedAgain before k) d3 in
     record {
-      few-parts = none-dropped (λ p. p .at) 4 (k .parts) (first-none long (flat (λ p. longText p ++ longLabel p) (k .parts)) a);
-      count-range = count-range-of (k .count) (k .counted) (first-none (wideCount k) (flat (λ p. wideMass (p .value) ++ wideScore p) (k .parts)) b);
+      few-parts = none-dropped (λ p. p .at) 4 (k .parts) (nil-front long (flat (λ p. longText p ++ longLabel p) (k .parts)) a);
+      count-range = count-range-of (k .count) (k .counted) (nil-front (wideCount k) (flat (λ p. wideMass (p .value) ++ wideScore p) (k .parts)) b);
       one-label = ltb-false 1 (length (namesOf k)) d4;
       uncounted = uncounted-of (isLabelled k) (k .counted)
           (or-right (secondLabel k || definedAgain before k || undefined definitions k) (countedLabel k) d1);
       parts =
           each-three _ _ _ JudgedPart judged-part (k .parts)
-          (flat-none (λ p. longText p ++ longLabel p) (k .parts) (rest-none long (flat (λ p. longText p ++ longLabel p) (k .parts)) a))
+          (flat-none (λ p. longText p ++ longLabel p) (k .parts) (nil-back long (flat (λ p. longText p ++ longLabel p) (k .parts)) a))
           (flat-none (λ p. wideMass (p .value) ++ wideScore p) (k .parts)
-          (rest-none (wideCount k) (flat (λ p. wideMass (p .value) ++ wideScore p) (k .parts)) b))
+          (nil-back (wideCount k) (flat (λ p. wideMass (p .value) ++ wideScore p) (k .parts)) b))
           (flat-none (λ p. dueAt (notHere p) (p .at)) (k .parts) c);
     }
 
@@ -218,8 +202,8 @@ judged-brackets before definitions references [] a b c d = tt
 judged-brackets before definitions references (k ∷ ks) a b c d =
     let here = dueAt (wrongLabels before definitions references k) (k .at) in
     let rest = wronglyLabelled (before ++ definedBy k) definitions references ks in (
-      judged-bracket before definitions references k (a .0) (b .0) (c .0) (not-due _ (k .at) (first-none here rest d)),
-      judged-brackets (before ++ definedBy k) definitions references ks (a .1) (b .1) (c .1) (rest-none here rest d),
+      judged-bracket before definitions references k (a .0) (b .0) (c .0) (not-due _ (k .at) (nil-front here rest d)),
+      judged-brackets (before ++ definedBy k) definitions references ks (a .1) (b .1) (c .1) (nil-back here rest d),
     )
 
 few-copies-of :
@@ -229,10 +213,10 @@ few-copies-of before [] h e = omega arith
 few-copies-of before (k ∷ ks) h e =
     let here = dueAt (leb before 8 && ltb 8 (before + copies k)) (k .at) in
     let rest = passing (before + copies k) ks in
-    let t : (leb before 8 && ltb 8 (before + copies k)) ≡ false = not-due _ (k .at) (first-none here rest e) in
+    let t : (leb before 8 && ltb 8 (before + copies k)) ≡ false = not-due _ (k .at) (nil-front here rest e) in
     let u : ltb 8 (before + copies k) ≡ false = ap (λ z. z && ltb 8 (before + copies k)) (sym (le-leb before 8 h)) ∙ t in
     let v : before + copies k ≤ 8 = ltb-false 8 (before + copies k) u in
-    let w = few-copies-of (before + copies k) ks v (rest-none here rest e) in
+    let w = few-copies-of (before + copies k) ks v (nil-back here rest e) in
     let x = length-append (replicate (copies k) k) (flat (λ k. replicate (copies k) k) ks) in
     let y = length-replicate (copies k) k in
     omega arith
@@ -242,9 +226,9 @@ unfolding unprintable
 all-printable i [] e = tt
 all-printable i (b ∷ s) e =
     let here = dueAt (not (isPrintable b)) i in (
-      not-false (isPrintable b) (not-due _ i (first-none here (unprintable (i + 1) s) e)),
+      not-false (isPrintable b) (not-due _ i (nil-front here (unprintable (i + 1) s) e)),
       all-printable (i + 1) s
-          (rest-none here (unprintable (i + 1) s) e),
+          (nil-back here (unprintable (i + 1) s) e),
     )
 
 -- ---- lines
@@ -271,17 +255,17 @@ judged-line s l e =
     let rs = drop 254 (map (λ r. r .at) (l .residues)) in
     let ks = drop 64 (map (λ k. k .at) (l .brackets)) in
     let a : rs ++ (ks ++ flat overIn (l .brackets)) ≡ [] = least-none _ (g .no6) in
-    let b = rest-none rs (ks ++ flat overIn (l .brackets)) a in
+    let b = nil-back rs (ks ++ flat overIn (l .brackets)) a in
     let c = few-copies-of 0 (l .brackets) (omega arith) (least-none _ (g .no12)) in
     record {
       read = g .read;
       short = short-of (length s) (g .no2);
       printable = all-printable 0 s (least-none _ (g .no3));
-      few-residues = none-dropped (λ r. r .at) 254 (l .residues) (first-none rs (ks ++ flat overIn (l .brackets)) a);
-      few-brackets = none-dropped (λ k. k .at) 64 (l .brackets) (first-none ks (flat overIn (l .brackets)) b);
+      few-residues = none-dropped (λ r. r .at) 254 (l .residues) (nil-front rs (ks ++ flat overIn (l .brackets)) a);
+      few-brackets = none-dropped (λ k. k .at) 64 (l .brackets) (nil-front ks (flat overIn (l .brackets)) b);
       brackets =
           judged-brackets [] (defined (l .brackets)) (referredTo (l .brackets)) (l .brackets)
-          (flat-none overIn (l .brackets) (rest-none ks (flat overIn (l .brackets)) b))
+          (flat-none overIn (l .brackets) (nil-back ks (flat overIn (l .brackets)) b))
           (flat-none (λ k. wideCount k ++ flat (λ p. wideMass (p .value) ++ wideScore p) (k .parts)) (l .brackets) (least-none _ (g .no7)))
           (flat-none (λ k. flat (λ p. dueAt (notHere p) (p .at)) (k .parts)) (l .brackets) (least-none _ (g .no8)))
           (least-none _ (g .no11));

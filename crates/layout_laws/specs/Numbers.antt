@@ -11,7 +11,7 @@ use borrow.Author.Tests.{leb-true, ltb-true}
 use Rattle.scope.specs.Line.{Number}
 use Rattle.scope.specs.Tables.{bareNumber, signed, millionths, isNegative, numberIn}
 use Rattle.areas.specs.Bounds.{Small}
-use Rattle.layout_laws.specs.Lists.{and-left, and-right}
+use Rattle.basics.specs.Tests.{and-left, and-right}
 use Rattle.layout_laws.specs.Within.{NumberWithin}
 
 sign-back : (s : Bool) (m : ℕ) → (s ≡ true → 0 < m) → isNegative (signed s m) ≡ s

@@ -24,8 +24,8 @@ use Rattle.scope.specs.Reading.{square, front, labile, element, further, groupF
 use Rattle.scope.specs.Modifications.{flat}
 use Rattle.scope.specs.Refusals.{isUnknown}
 use Rattle.scope.specs.Tables.{bracketTexts}
+use Rattle.basics.specs.Tests.{and-left, and-right}
 use Rattle.layout_laws.specs.Within.{Each, Byte, Nowhere, Stands}
-use Rattle.layout_laws.specs.Lists.{and-left, and-right}
 use Rattle.layout_laws.specs.Each.{each-append, each-map, each-one, each-two}
 use Rattle.layout_laws.specs.Inside.{branch, flat-append, flat-one, PartShape, PartsShape, Carried, InnerKeeps, ContentKeeps, inner-step}
 

@@ -15,9 +15,9 @@ use Rattle.scope.specs.Canonical.{canonical}
 use Rattle.scope.specs.Tables.{tablesOf, bytesOf, numbersOf, tablesIn, bytesSize, numbersSize}
 use Rattle.scope.specs.Answers.{sameNumber, sameNumbers, readsTo, areTables}
 use Rattle.areas.specs.Bounds.{Bounds}
+use Rattle.basics.specs.Tests.{and-left, and-right}
 use Rattle.layout_laws.specs.Within.{Within}
 use Rattle.layout_laws.specs.Holds.{Holds}
-use Rattle.layout_laws.specs.Lists.{and-left, and-right}
 use Rattle.layout_laws.specs.Layout.{tables-back}
 use Rattle.layout_laws.specs.Bounded.{bounds}
 use Rattle.layout_laws.specs.BareWithin.{within-bare}

@@ -12,7 +12,7 @@ use Rattle.scope.specs.Limits.{depthLimit}
 use Rattle.scope.specs.Content.{given}
 use Rattle.scope.specs.Refusals.{least, dueAt, depthAfter, tooDeep}
 use Rattle.scope.specs.Tables.{part}
-use Rattle.marks.specs.Marks.{coded}
+use Rattle.places.specs.Places.{coded}
 use Rattle.marks.proofs.Names.{part-length}
 
 -- what is found stands before n

@@ -1,6 +1,6 @@
 -- What is due for a value, a label, a part that was found. Assumes nothing.
 use mathlib.Core.Path.{_≡_, refl, sym, ap, subst, _∙_}
-use mathlib.Core.Bool.{Bool, true, false, not}
+use mathlib.Core.Bool.{Bool, true, false}
 use mathlib.Core.Option.{Option, none, some}
 use mathlib.Core.List.{List, []}
 use Prim.Native.Nat.{ℕ, _+_, _-_, _<_, _≤_}
@@ -25,7 +25,8 @@ use Rattle.parts.specs.declared.Value.{Value as Found-value}
 use Rattle.marks.specs.declared.Marks.{Marks as Marked}
 use Rattle.marks.specs.declared.Sort.{Sort}
 use Rattle.marks.specs.declared.Sort.the-variants.{Bare, Barred, Numbering, Other}
-use Rattle.marks.specs.Marks.{coded, Dues, both, partDues, MarksAre}
+use Rattle.places.specs.Places.{coded}
+use Rattle.marks.specs.Marks.{Dues, both, partDues, MarksAre}
 use Rattle.marks.specs.Sorts.{sortOf, isBarred, isShortRule, isRuleName, barredText, numberText}
 use Rattle.marks.specs.ValueAndLabel.{TextFits, ValueFits, valueDues, labelDues}
 use Rattle.marks.proofs.Due.{of-part}
@@ -58,7 +59,7 @@ module _ (i : ℕ) where
 -- ---- labels
 module _ (line : List ℕ) (a e : ℕ) (s : Score) where
   pub label-room : ((l : Option (Label ℕ)) × LabelIs line a e s l) → (a ≡ e → ⊥) → (a < e) × (e ≤ length line)
-  label-room (none, g) h = absurd (h g)
+  label-room (none, g) h = absurd (h (g .0))
   label-room (some l, (n, p, k, room, w)) h = (k, room)
 
   pub no-label : (m : Marked) (i : ℕ) → m ≡ record { deep = 0; over = 0; wide = 0; barred = 0; digits = 0 } → a ≡ e
@@ -75,7 +76,7 @@ module _ (line : List ℕ) (a e : ℕ) (s : Score) where
     pub a-label : (a ≡ e → ⊥) → (l : Option (Label ℕ)) → LabelIs line a e s l
         → MarksAre (record { deep = 0; over = over; wide = wides; barred = barred; digits = 0 }) (labelDues i l)
     unfolding least
-    a-label h none g = absurd (h g)
+    a-label h none g = absurd (h (g .0))
     a-label h (some l) (n, p, k, room, g) =
         let t : length (l .name) ≡ e - a = ap length n ∙ part-length line a e room in
         record {

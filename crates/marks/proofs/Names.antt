@@ -1,23 +1,16 @@
 -- Laws of the names under refusal 8, by their lengths. Assumes nothing.
 use mathlib.Core.Path.{_≡_, refl, sym, ap, _∙_}
-use mathlib.Core.Bool.{Bool, true, false, _||_, or-false, and-false}
-use mathlib.Core.List.{List, [], _∷_}
-use Prim.Native.Nat.{ℕ, suc, _-_, _<_, _≤_}
+use mathlib.Core.Bool.{Bool, true, false, _||_, or-false}
+use mathlib.Core.List.{List}
+use Prim.Native.Nat.{ℕ, _-_, _<_, _≤_}
 use native.Mathlib.Omega.{arith}
-use lib.Dec.{eqb}
 use lib.ListN.{length, take, drop, length-take, length-drop}
 use lib.Seq.{take-take}
-use Rattle.scope.specs.Bytes.{bytes, upper, sameFolded}
+use Rattle.scope.specs.Bytes.{bytes, sameFolded}
 use Rattle.scope.specs.Refusals.{isLink}
 use Rattle.scope.specs.Tables.{part}
+use Rattle.keywords.proofs.ByLength.{folded-other}
 use Rattle.marks.specs.Sorts.{isRuleName, isShortRule}
-
-folded-other : (x y : List ℕ) → (length x ≡ length y → ⊥) → sameFolded x y ≡ false
-unfolding sameFolded
-folded-other [] [] h = absurd (h refl)
-folded-other [] (d ∷ y) h = refl
-folded-other (b ∷ x) [] h = refl
-folded-other (b ∷ x) (d ∷ y) h = rw (folded-other x y (λ e. h (ap suc e))) (and-false (eqb (upper b) (upper d)))
 
 other : (x y : List ℕ) (n : ℕ) → length y ≡ n → (length x ≡ n → ⊥) → sameFolded x y ≡ false
 other x y n e h = folded-other x y (λ q. h (q ∙ e))

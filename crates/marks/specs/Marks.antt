@@ -1,15 +1,11 @@
 -- The first places at which refusals 5 to 9 are due, as far as a line is read: each is 0 where the refusal is not due, else one more than its place.
 use mathlib.Core.Path.{_≡_}
-use mathlib.Core.Option.{Option, none, some}
 use mathlib.Core.List.{List, _++_}
-use Prim.Native.Nat.{ℕ, _+_}
+use Prim.Native.Nat.{ℕ}
 use Rattle.scope.specs.Line.{Part}
 use Rattle.scope.specs.Refusals.{dueAt, least, deepPart, longText, longLabel, wideMass, wideScore, notHere, isNumberName}
+use Rattle.places.specs.Places.{coded}
 use Rattle.marks.specs.declared.Marks.{Marks as Marked}
-
-abbrev pub coded : Option ℕ → ℕ
-coded none = 0
-coded (some i) = i + 1
 
 -- the places at which each refusal is due
 pub record Dues : Type 0 where

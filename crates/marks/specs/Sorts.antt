@@ -1,34 +1,22 @@
 -- What refusals 8 and 9 ask of a part's key, and of its text.
-use mathlib.Core.Bool.{Bool, true, false, not, _&&_, _||_}
+use mathlib.Core.Bool.{Bool, true, false, not, cond, _&&_, _||_}
 use mathlib.Core.List.{List}
 use Prim.Native.Nat.{ℕ}
+use lib.Dec.{eqb, ltb}
 use Rattle.scope.specs.declared.grammar.Key.{Key}
-use Rattle.scope.specs.declared.grammar.Key.the-variants.{NoKey, U, M, R, X, G, C, Obs, Unimod, Mod, Xlmod, Resid, Gno, Info, Formula, Glycan, Position, Limit}
+use Rattle.scope.specs.Keys.{keyCode}
 use Rattle.scope.specs.Bytes.{bytes, isDigit, sameFolded}
 use Rattle.scope.specs.Content.{none?}
 use Rattle.scope.specs.Modifications.{all}
 use Rattle.marks.specs.declared.Sort.{Sort}
 use Rattle.marks.specs.declared.Sort.the-variants.{Bare, Barred, Numbering, Other}
 
+-- by the number of the key: 0 is no key, 1 and 2 are U and M, 14 to 17 are the four keys that 8 names
+abbrev pub sortIn : ℕ → Sort
+sortIn n = cond (eqb n 0) Bare (cond (ltb n 3) Numbering (cond (ltb n 14) Other Barred))
+
 abbrev pub sortOf : Key → Sort
-sortOf NoKey = Bare
-sortOf U = Numbering
-sortOf M = Numbering
-sortOf R = Other
-sortOf X = Other
-sortOf G = Other
-sortOf C = Other
-sortOf Obs = Other
-sortOf Unimod = Other
-sortOf Mod = Other
-sortOf Xlmod = Other
-sortOf Resid = Other
-sortOf Gno = Other
-sortOf Info = Other
-sortOf Formula = Barred
-sortOf Glycan = Barred
-sortOf Position = Barred
-sortOf Limit = Barred
+sortOf k = sortIn (keyCode k)
 
 abbrev pub isBarred : Sort → Bool
 isBarred Bare = false

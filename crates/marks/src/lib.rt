@@ -6,7 +6,7 @@ use scope::grammar::Key;
 use scope::tables::Tables;
 ghost use mathlib.Core.Path.{_≡_};
 ghost use mathlib.Core.Option.{Option};
-ghost use mathlib.Core.List.{List, [], _∷_, _++_};
+ghost use mathlib.Core.List.{[], _∷_, _++_};
 ghost use Prim.Native.Nat.{ℕ, _+_, _-_, _<_, _≤_, _^_};
 ghost use lib.ListN.{length};
 ghost use Rattle.scope.specs.Line.{Number, Label, Part, text};
@@ -15,7 +15,8 @@ ghost use Rattle.scope.specs.Content.{given};
 ghost use Rattle.scope.specs.Refusals.{least, dueAt, tooDeep, isLink, wide};
 ghost use Rattle.scope.specs.Tables.{part};
 ghost use Rattle.parts.specs.Says.{ValueIs, ScoreIs, LabelIs, PartIs};
-ghost use Rattle.marks.specs.Marks.{coded, Dues, both, partDues, MarksAre};
+ghost use Rattle.places.specs.Places.{coded};
+ghost use Rattle.marks.specs.Marks.{Dues, both, partDues, MarksAre};
 ghost use Rattle.marks.specs.Sorts.{sortOf, isBarred, isShortRule, isRuleName, barredText, numberText};
 ghost use Rattle.marks.specs.ValueAndLabel.{TextFits, ValueFits, valueDues, labelDues};
 
@@ -42,32 +43,16 @@ impl Marks {
     }
 }
 
-// The earlier of two places, each 0 where there is none, else one more than the place.
-pub fn first_of(a: usize, b: usize) -> usize
-    ensures { λ r. ⌜ ((x y : List ℕ) → a ≡ coded (least x) → b ≡ coded (least y) → r ≡ coded (least (x ++ y))) ⌝ }
-{
-    if a == 0 {
-        return b;
-    }
-    if b == 0 {
-        return a;
-    }
-    if a < b {
-        return a;
-    }
-    b
-}
-
 // The marks of both.
 pub fn joined(a: Marks, b: Marks) -> Marks
     ensures { λ r. ⌜ ((d e : Dues) → MarksAre a d → MarksAre b e → MarksAre r (both d e)) ⌝ }
 {
     Marks {
-        deep: first_of(a.deep, b.deep),
-        over: first_of(a.over, b.over),
-        wide: first_of(a.wide, b.wide),
-        barred: first_of(a.barred, b.barred),
-        digits: first_of(a.digits, b.digits),
+        deep: places::sooner(a.deep, b.deep),
+        over: places::sooner(a.over, b.over),
+        wide: places::sooner(a.wide, b.wide),
+        barred: places::sooner(a.barred, b.barred),
+        digits: places::sooner(a.digits, b.digits),
     }
 }
 
@@ -78,7 +63,7 @@ pub fn over_at(m: Marks, place: usize) -> Marks
 {
     Marks {
         deep: m.deep,
-        over: first_of(m.over, place + 1),
+        over: places::sooner(m.over, place + 1),
         wide: m.wide,
         barred: m.barred,
         digits: m.digits,
@@ -93,7 +78,7 @@ pub fn wide_at(m: Marks, place: usize) -> Marks
     Marks {
         deep: m.deep,
         over: m.over,
-        wide: first_of(m.wide, place + 1),
+        wide: places::sooner(m.wide, place + 1),
         barred: m.barred,
         digits: m.digits,
     }
@@ -215,26 +200,17 @@ enum Sort {
 fn sort_of(key: Key) -> Sort
     ensures { λ r. ⌜ r ≡ sortOf key ⌝ }
 {
-    match key {
-        Key::NoKey => Sort::Bare,
-        Key::U => Sort::Numbering,
-        Key::M => Sort::Numbering,
-        Key::R => Sort::Other,
-        Key::X => Sort::Other,
-        Key::G => Sort::Other,
-        Key::C => Sort::Other,
-        Key::Obs => Sort::Other,
-        Key::Unimod => Sort::Other,
-        Key::Mod => Sort::Other,
-        Key::Xlmod => Sort::Other,
-        Key::Resid => Sort::Other,
-        Key::Gno => Sort::Other,
-        Key::Info => Sort::Other,
-        Key::Formula => Sort::Barred,
-        Key::Glycan => Sort::Barred,
-        Key::Position => Sort::Barred,
-        Key::Limit => Sort::Barred,
+    let code = keywords::key_code(key);
+    if code == 0 {
+        return Sort::Bare;
     }
+    if code < 3 {
+        return Sort::Numbering;
+    }
+    if code < 14 {
+        return Sort::Other;
+    }
+    Sort::Barred
 }
 
 // Whether 8 refuses the part by its key alone.

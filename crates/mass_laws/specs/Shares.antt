@@ -21,9 +21,10 @@ use Rattle.scope.specs.Masses.{massOr0, sum, placedAt, putAt, ledger}
 use Rattle.brackets.specs.Tabled.{getD-tabled, length-tabled}
 use Rattle.masses.specs.Weights.{placedMass}
 use Rattle.masses.proofs.LedgerLaws.{eqb-sym, placed-cons}
+use Rattle.basics.specs.Tests.{and-left, and-right}
 use Rattle.mass_laws.specs.Terms.{Each, FairBracket, Fair}
 use Rattle.mass_laws.specs.Sums.{tabled-same, sum-both, sum-zero, share, share-here, share-else, sum-share}
-use Rattle.mass_laws.specs.Members.{and-left, and-right, not-first, not-rest, member-at, permitted-inside, permitted-free}
+use Rattle.mass_laws.specs.Members.{not-first, not-rest, member-at, permitted-inside, permitted-free}
 
 -- ---- the placed ones
 placed-none : (P : Type 0) (x : ℕ) → placedAt {P = P} x [] ≡ pos 0

@@ -3,7 +3,7 @@ use Prim.Native.Nat.{ℕ, zero, suc, _+_, _*_, _<_}
 use mathlib.Core.Path.{_≡_, refl, sym, ap, _∙_}
 use mathlib.Core.Bool.{Bool, true, false, cond}
 use mathlib.Core.Option.{none}
-use mathlib.Core.List.{List, [], _∷_, _++_, append-assoc, append-nil}
+use mathlib.Core.List.{List, [], _∷_, _++_}
 use native.Mathlib.Numerals.{add-one}
 use native.Mathlib.Omega.{arith}
 use lib.Dec.{eqb}
@@ -12,6 +12,7 @@ use lib.Seq.{drop-cons, take-suc, getD-take, getD-append-add}
 use Rattle.scope.specs.declared.grammar.Kind.the-variants.{Unknown}
 use Rattle.scope.specs.Line.{Bracket}
 use Rattle.scope.specs.Modifications.{flat, onlyInfo, isReferring, namesOf, isLabelled}
+use Rattle.basics.specs.Lists.{flat-append, flat-one}
 use Rattle.notes.specs.Notes.{noteRow, notesFrom, sortOf, NotesAre}
 use Rattle.notes.specs.Rows.{noteAt}
 
@@ -30,15 +31,6 @@ drop-next ks k h = rw (add-one, drop-cons ks k noBracket)
 
 pub take-next : (ks : List (Bracket ℕ)) (k : ℕ) → k < length ks → take (k + 1) ks ≡ take k ks ++ (bracketAt ks k ∷ [])
 take-next ks k h = rw (add-one, take-suc ks k noBracket)
-
-pub flat-append : {A B : Type 0} (f : A → List B) (a b : List A) → flat f (a ++ b) ≡ flat f a ++ flat f b
-unfolding flat
-flat-append f [] b = refl
-flat-append f (x ∷ a) b = rw (flat-append f a b) (sym (append-assoc (f x) (flat f a) (flat f b)))
-
-pub flat-one : {A B : Type 0} (f : A → List B) (x : A) → flat f (x ∷ []) ≡ f x
-unfolding flat
-flat-one f x = append-nil (f x)
 
 pub flat-next : {B : Type 0} (f : Bracket ℕ → List B) (ks : List (Bracket ℕ)) (k : ℕ) → k < length ks
     → flat f (take (k + 1) ks) ≡ flat f (take k ks) ++ f (bracketAt ks k)

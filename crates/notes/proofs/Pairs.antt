@@ -10,9 +10,10 @@ use Rattle.scope.specs.Content.{given}
 use Rattle.scope.specs.Line.{Label, Part, Bracket}
 use Rattle.scope.specs.Modifications.{flat, nameOf, namesOf}
 use Rattle.scope.specs.Tables.{part, tabled}
+use Rattle.basics.specs.Lists.{flat-append}
 use Rattle.notes.specs.Notes.{labelRow, labelRows, Stands, AllStand, NamesStand, NotesAre}
 use Rattle.notes.specs.Rows.{noteAt, nameAt, labelFrom, labelTo, Legible, AllLegible, namesAt}
-use Rattle.notes.proofs.Noting.{bracketAt, labelsBefore, drop-next, flat-append, noted-at}
+use Rattle.notes.proofs.Noting.{bracketAt, labelsBefore, drop-next, noted-at}
 
 -- names, and for each where it starts and where it ends
 pub data Pairs (line : List ℕ) : List (List ℕ) → List ℕ → Type 0 where

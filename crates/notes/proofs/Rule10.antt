@@ -13,9 +13,11 @@ use Rattle.scope.specs.Canonical.{kindCode}
 use Rattle.scope.specs.Line.{Bracket, Line}
 use Rattle.scope.specs.Modifications.{flat, onlyInfo, isReferring, isLabelled}
 use Rattle.scope.specs.Refusals.{least, dueAt, unknownOrLabile, refusal10}
-use Rattle.notes.specs.Notes.{coded, sortOf, NotesAre}
-use Rattle.notes.specs.Rows.{Apart, noteAt, infoOnlyAt, sooner, soonest}
-use Rattle.notes.proofs.Soonest.{least-append, least-due, soonest-least}
+use Rattle.places.specs.Places.{coded, sooner}
+use Rattle.places.proofs.Soon.{least-sooner, least-due}
+use Rattle.notes.specs.Notes.{sortOf, NotesAre}
+use Rattle.notes.specs.Rows.{Apart, noteAt, infoOnlyAt, soonest}
+use Rattle.notes.proofs.Soonest.{soonest-least}
 use Rattle.notes.proofs.Noting.{bracketAt, drop-next, noted-at}
 
 -- what the numbers of a row say
@@ -68,7 +70,7 @@ module _ {line notes labels : List ℕ} {ks : List (Bracket ℕ)} (a : NotesAre 
   rest-next : (i : ℕ) → i < length ks → coded (least (restIn ks i)) ≡ sooner (infoOnlyAt notes i) (coded (least (restIn ks (i + 1))))
   unfolding flat
   rest-next i h =
-      rw (drop-next ks i h, info-at i h) (least-append (dueIn (bracketAt ks i)) (restIn ks (i + 1)))
+      rw (drop-next ks i h, info-at i h) (least-sooner (dueIn (bracketAt ks i)) (restIn ks (i + 1)))
 
   info-least : (n : ℕ) → n ≡ length ks → soonest (infoOnlyAt notes) 0 n ≡ coded (least (flat dueIn ks))
   unfolding flat

@@ -17,9 +17,11 @@ use Rattle.scope.specs.Line.{Bracket, Line}
 use Rattle.scope.specs.Modifications.{all, flat, among, isReferring, namesOf, definedBy, defined, referredTo}
 use Rattle.scope.specs.Refusals.{least, dueAt, isUnknown, shared, wrongLabels, wronglyLabelled, refusal11}
 use Rattle.scope.specs.Tables.{tabled}
-use Rattle.notes.specs.Notes.{coded, countedCode, NotesAre}
-use Rattle.notes.specs.Rows.{noteAt, nameAt, refersAt, sideAt, sideFrom, wrongAt, wrongPlace, sooner, soonest}
-use Rattle.notes.proofs.Soonest.{least-append, least-due, soonest-least}
+use Rattle.places.specs.Places.{coded, sooner}
+use Rattle.places.proofs.Soon.{least-sooner, least-due}
+use Rattle.notes.specs.Notes.{countedCode, NotesAre}
+use Rattle.notes.specs.Rows.{noteAt, nameAt, refersAt, sideAt, sideFrom, wrongAt, wrongPlace, soonest}
+use Rattle.notes.proofs.Soonest.{soonest-least}
 use Rattle.notes.proofs.Noting.{bracketAt, drop-next, flat-next, noted-at, sort-refers}
 use Rattle.notes.proofs.Pairs.{names-at}
 
@@ -146,7 +148,7 @@ module _ {line notes labels : List ℕ} {ks : List (Bracket ℕ)} (a : NotesAre 
     rest-next i h =
         ap (λ (t : List (Bracket ℕ)). coded (least (wronglyLabelled (defined (take i ks)) (defined ks) (referredTo ks) t))) (drop-next ks i h)
         ∙ (ap (λ (t : List (List ℕ)). coded (least (dueAt (wrongIn ks i) (bracketAt ks i .at) ++ wronglyLabelled t (defined ks) (referredTo ks) (drop (i + 1) ks)))) (sym (flat-next definedBy ks i h))
-        ∙ (least-append (dueAt (wrongIn ks i) (bracketAt ks i .at)) (restIn ks (i + 1))
+        ∙ (least-sooner (dueAt (wrongIn ks i) (bracketAt ks i .at)) (restIn ks (i + 1))
         ∙ ap (λ (t : ℕ). sooner t (coded (least (restIn ks (i + 1))))) (sym (place-at i h))))
 
     wrong-least : soonest (wrongPlace line notes labels n) 0 n ≡ coded (least (restIn ks 0))

@@ -14,7 +14,8 @@ use Rattle.scope.specs.Canonical.{kindCode}
 use Rattle.scope.specs.Line.{Bracket, Line}
 use Rattle.scope.specs.Modifications.{onlyInfo, isReferring, isLabelled, unlabelledCopies, copies}
 use Rattle.scope.specs.Refusals.{least, dueAt, passing, refusal12}
-use Rattle.notes.specs.Notes.{coded, sortOf, NotesAre}
+use Rattle.places.specs.Places.{coded}
+use Rattle.notes.specs.Notes.{sortOf, NotesAre}
 use Rattle.notes.specs.Rows.{noteAt, copiesIn, copiesAt, passedAt}
 use Rattle.notes.proofs.Noting.{bracketAt, drop-next, noted-at}
 

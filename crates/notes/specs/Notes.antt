@@ -1,6 +1,6 @@
 -- What is noted of each bracket while a line is checked: as much as refusals 10 to 12 ask for. Seven numbers a bracket, and for each label where it stands.
 use mathlib.Core.Path.{_≡_}
-use mathlib.Core.Bool.{Bool, true, false, cond}
+use mathlib.Core.Bool.{cond}
 use mathlib.Core.Option.{Option, none, some}
 use mathlib.Core.List.{List, [], _∷_, _++_}
 use Prim.Native.Nat.{ℕ, _+_, _*_, _≤_, min}
@@ -11,11 +11,6 @@ use Rattle.scope.specs.Content.{given}
 use Rattle.scope.specs.Modifications.{flat, onlyInfo, isReferring, namesOf, isLabelled}
 use Rattle.scope.specs.Canonical.{kindCode}
 use Rattle.scope.specs.Tables.{part}
-
--- the first place of a refusal as a number: 0 where it is not due, else one more than the place
-abbrev pub coded : Option ℕ → ℕ
-coded none = 0
-coded (some i) = i + 1
 
 -- what a bracket is: 0 only INFO, 1 an unlabelled modification, 2 a labelled one, 3 a reference
 unfoldable pub sortOf : {P : Type 0} → Bracket P → ℕ

@@ -2,13 +2,14 @@
 use mathlib.Core.Path.{_≡_}
 use mathlib.Core.Bool.{Bool, true, false, not, cond, _&&_}
 use mathlib.Core.List.{List, [], _∷_, _++_}
-use Prim.Native.Nat.{ℕ, zero, suc, _+_, _-_, _*_, _≤_, _<_, min}
+use Prim.Native.Nat.{ℕ, zero, suc, _+_, _-_, _*_, _≤_, _<_}
 use lib.Dec.{eqb, leb, ltb}
 use lib.ListN.{length, getD}
 use Rattle.scope.specs.Limits.{bracketLimit, copyLimit}
 use Rattle.scope.specs.Line.{Bracket}
 use Rattle.scope.specs.Modifications.{onlyInfo, isReferring, among}
 use Rattle.scope.specs.Tables.{part, tabled}
+use Rattle.places.specs.Places.{sooner}
 use Rattle.notes.specs.Notes.{noteSize, notesRoom, NotesAre}
 
 -- the tables note n brackets of some line
@@ -25,10 +26,6 @@ Apart (k ∷ ks) = (isReferring k && onlyInfo k ≡ false) × Apart ks
 -- the j-th number of the k-th bracket
 abbrev pub noteAt : List ℕ → ℕ → ℕ → ℕ
 noteAt notes k j = getD notes (k * noteSize + j) 0
-
--- the sooner of two places, each 0 where there is none, else one more than the place
-unfoldable pub sooner : ℕ → ℕ → ℕ
-sooner x y = cond (eqb x 0) y (cond (eqb y 0) x (min x y))
 
 -- the soonest of f k, f (k + 1), .., for m brackets
 unfoldable pub soonest : (ℕ → ℕ) → ℕ → ℕ → ℕ

@@ -11,9 +11,9 @@ ghost use Rattle.scope.specs.Line.{Line};
 ghost use Rattle.scope.specs.Modifications.{among};
 ghost use Rattle.scope.specs.Refusals.{refusal10, refusal11, refusal12};
 ghost use Rattle.scope.specs.Tables.{tabled};
-ghost use Rattle.notes.specs.Notes.{coded, noteSize, notesRoom, NotesAre};
+ghost use Rattle.places.specs.Places.{coded};
+ghost use Rattle.notes.specs.Notes.{noteSize, notesRoom, NotesAre};
 ghost use Rattle.notes.specs.Rows.{Noted, Apart, noteAt, infoOnlyAt, nameAt, Legible, AllLegible, sideAt, sideFrom, wrongLabel, wrongAt, wrongPlace, copiesAt};
-ghost use Rattle.notes.specs.Rows.{sooner as soonerOf};
 
 // Seven numbers a bracket: place, kind, sort, count, whether it is written, number of its first label, number of labels.
 const NOTE: usize = 7;
@@ -32,22 +32,6 @@ fn note(notes: &[u16], k: usize, j: usize) -> usize
     ensures { λ r. ⌜ (r ≡ noteAt (now (notes .entry)) k j) × (r < 65536) ⌝ }
 {
     number(notes, k * NOTE + j)
-}
-
-// The sooner of two places, each 0 where there is none, else one more than the place.
-fn sooner(x: usize, y: usize) -> usize
-    ensures { λ r. ⌜ r ≡ soonerOf x y ⌝ }
-{
-    if x == 0 {
-        return y;
-    }
-    if y == 0 {
-        return x;
-    }
-    if y < x {
-        return y;
-    }
-    x
 }
 
 // The k-th bracket's place, where it has only INFO and is an unknown or labile one.
@@ -72,7 +56,7 @@ pub fn first_info_only(notes: &[u16], n: usize) -> usize
     let mut found = 0;
     let mut k = 0;
     while k < n {
-        found = sooner(found, info_only(notes, k));
+        found = places::sooner(found, info_only(notes, k));
         k += 1;
     }
     found
@@ -195,7 +179,7 @@ pub fn first_wrong_label(line: &[u8], notes: &[u16], labels: &[u16], n: usize) -
     let mut found = 0;
     let mut k = 0;
     while k < n {
-        found = sooner(found, wrong_place(line, notes, labels, n, k));
+        found = places::sooner(found, wrong_place(line, notes, labels, n, k));
         k += 1;
     }
     found

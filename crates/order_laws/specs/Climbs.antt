@@ -1,6 +1,6 @@
 -- Lists of brackets whose ranks do not fall.
 use mathlib.Core.Path.{_≡_, refl, ap}
-use mathlib.Core.Bool.{Bool, true, _&&_}
+use mathlib.Core.Bool.{true, _&&_}
 use mathlib.Core.List.{List, [], _∷_, _++_, map}
 use Prim.Native.Nat.{ℕ, _≤_}
 use native.Mathlib.Omega.{arith}
@@ -8,15 +8,13 @@ use lib.Dec.{leb}
 use borrow.Author.Tests.{le-leb}
 use Rattle.scope.specs.Line.{Bracket, Line}
 use Rattle.scope.specs.Tables.{bareBracket, tablesOf}
+use Rattle.basics.specs.Tests.{both}
 use Rattle.order_laws.specs.Ranks.{rank, rising, orderedb}
 
 -- from q up to c
 abbrev pub Climbs : {P : Type 0} → ℕ → List (Bracket P) → ℕ → Type 0
 Climbs q [] c = q ≤ c
 Climbs q (k ∷ ks) c = (q ≤ rank k) × Climbs (rank k) ks c
-
-both : (s t : Bool) → s ≡ true → t ≡ true → (s && t) ≡ true
-both s t e f = rw (e, f)
 
 module _ {P : Type 0} where
   lower : (p q : ℕ) (ks : List (Bracket P)) (c : ℕ) → p ≤ q → Climbs q ks c → Climbs p ks c

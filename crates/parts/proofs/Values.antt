@@ -116,7 +116,7 @@ module _ (line : List ℕ) (at : ℕ) (key : Key) (sign shut j : ℕ) (d : Digit
         place = refl;
         key = refl;
         value = is (told .2);
-        label = refl;
+        label = (refl, refl);
         behind-key = st;
         at-inside = omega arith;
         sign-inside = sign-in;
@@ -233,7 +233,7 @@ module _ (line : List ℕ) (at : ℕ) (key : Key) (from to shut : ℕ) (behind :
         place = refl;
         key = refl;
         value = (refl, apart f, inside);
-        label = refl;
+        label = (refl, refl);
         behind-key = behind;
         at-inside = omega arith;
         sign-inside = omega arith;

@@ -91,7 +91,7 @@ module _ (line : List ℕ) (at shut : ℕ) (refers? : Bool) (inside : at < lengt
         place = refl;
         key = refl;
         value = tt;
-        label = refl;
+        label = (refl, refl);
         behind-key = tt;
         at-inside = omega arith;
         sign-inside = omega arith;

@@ -49,7 +49,7 @@ ScoreIs at WideScore (some n) = (inRange n ≡ false) × (n .at ≡ at)
 
 -- from a to e, its score behind `(`
 abbrev pub LabelIs : List ℕ → ℕ → ℕ → Score → Option (Label ℕ) → Type 0
-LabelIs line a e s none = a ≡ e
+LabelIs line a e s none = (a ≡ e) × (s ≡ Unscored)
 LabelIs line a e s (some l) = (l .name ≡ part a (e - a) line) × (l .at ≡ a) × (a < e) × (e ≤ length line) × ScoreIs (e + 1) s (l .score)
 
 -- a label stands from a to e

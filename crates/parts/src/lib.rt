@@ -7,12 +7,11 @@ ghost use mathlib.Core.Option.{none, some};
 ghost use Prim.Native.Nat.{ℕ, _+_, _-_, _<_, _≤_};
 ghost use mathlib.Core.List.{[]};
 ghost use mathlib.Core.Bool.{false};
-ghost use lib.Dec.{eqb};
 ghost use lib.ListN.{length, drop, getD};
 ghost use Rattle.scope.specs.Bytes.{hash, colon, isSign};
 ghost use Rattle.scope.specs.Line.{Number, Label, Part};
 ghost use Rattle.scope.specs.Tables.{part};
-ghost use Rattle.scope.specs.Keys.{written, form, hashIsPlain, massOrName, massOnly, digits, alnums, keyCode};
+ghost use Rattle.scope.specs.Keys.{written, form, hashIsPlain, massOrName, massOnly, digits, alnums};
 ghost use Rattle.scope.specs.Content.{Digits, begin, plain, keyed, inNumber, inCode, inText, inScore, hashed, scoring, innerStep, partEnd, valueEnd, textEnd, labelled, behindKey};
 ghost use Rattle.numerals.specs.Numerals.{scanNumber, numOf};
 ghost use Rattle.parts.specs.Says.{PartIs, LabelIs, ScoreIs, Named, scoreEnd, Says, ShutBy, Opens};
@@ -363,39 +362,13 @@ fn behind_key(line: &[u8], at: usize, key: Key, from: usize, shut: u8) -> Found
     }
 }
 
-// Whether there is no key.
-fn is_no_key(key: Key) -> bool
-    ensures { λ r. ⌜ r ≡ eqb (keyCode key) 0 ⌝ }
-{
-    match key {
-        Key::NoKey => true,
-        Key::U => false,
-        Key::M => false,
-        Key::R => false,
-        Key::X => false,
-        Key::G => false,
-        Key::C => false,
-        Key::Obs => false,
-        Key::Unimod => false,
-        Key::Mod => false,
-        Key::Xlmod => false,
-        Key::Resid => false,
-        Key::Gno => false,
-        Key::Info => false,
-        Key::Formula => false,
-        Key::Glycan => false,
-        Key::Position => false,
-        Key::Limit => false,
-    }
-}
-
 // Plain bytes from `at` to `end`, and a colon.
 fn colon_at(line: &[u8], at: usize, end: usize, shut: u8) -> Found
     requires { ⌜ (at < end) × (end < length (now line)) ⌝ }
     ensures { λ r. ⌜ (getD (now (line .entry)) end 0 ≡ colon → Says (now (line .entry)) end (ShutBy shut) (λ c. innerStep end (plain c at (part at (end - at) (now (line .entry))))) r) ⌝ }
 {
     let key = keywords::key_in(line, at, end);
-    if is_no_key(key) {
+    if keywords::key_code(key) == 0 {
         return text_from(line, at, Key::NoKey, at, end, false, shut);
     }
     behind_key(line, at, key, end + 1, shut)

@@ -1,7 +1,7 @@
 -- Laws of `map`, `keep` and `tabled`.
 use mathlib.Core.Path.{_≡_, refl, sym, ap, _∙_}
 use mathlib.Core.Bool.{Bool, false, cond}
-use mathlib.Core.List.{List, [], _∷_, _++_, map, append-assoc}
+use mathlib.Core.List.{List, [], _∷_, _++_, map}
 use Prim.Native.Nat.{ℕ, zero, suc, _+_, _≤_, _<_}
 use native.Mathlib.Nat.{add-zero, zero-add, le-of-suc-le-suc}
 use native.Mathlib.Omega.{arith}
@@ -53,11 +53,6 @@ tabled-append i zero m = ap (tabled (λ x. x) i) (zero-add m) ∙ ap (λ j. tabl
 tabled-append i (suc n) m =
     ap (tabled (λ x. x) i) (let e : suc n + m ≡ suc (n + m) = omega arith in e)
     ∙ ap (λ r. i ∷ r) (tabled-append (i + 1) n m ∙ ap (λ j. tabled (λ x. x) (i + 1) n ++ tabled (λ x. x) j m) (omega arith))
-
-pub keep-append : (p : ℕ → Bool) (l m : List ℕ) → keep p (l ++ m) ≡ keep p l ++ keep p m
-unfolding keep
-keep-append p [] m = refl
-keep-append p (x ∷ l) m = ap (λ r. cond (p x) (x ∷ []) [] ++ r) (keep-append p l m) ∙ sym (append-assoc (cond (p x) (x ∷ []) []) (keep p l) (keep p m))
 
 -- ---- a list by an index
 pub tabled-map : {A : Type 0} (h g : ℕ → A) (index : List ℕ) (count : ℕ) → count ≤ length index → ((i : ℕ) → i < count → h i ≡ g (getD index i 0)) → tabled h 0 count ≡ map g (take count index)

@@ -39,6 +39,7 @@ use Rattle.placement_laws.specs.Laws as placing
 use Rattle.laws.specs.Demands as laws
 use Rattle.laws.specs.Proved.{demands}
 use Rattle.reader.specs.ReadSays.{ReadSays}
+use Rattle.reader.proofs.Reading.{accepted-is}
 use Rattle.calls.specs.declared.Next.{Next}
 use Rattle.calls.specs.Writing.{WriteSays}
 use Rattle.promises.specs.Promises.{NextSays, AllowedSays, TotalSays, LedgerSays, Entered, HandsOut, Demand2, Demand3, Promises}
@@ -95,8 +96,7 @@ pub record WasRead (s bs : List ℕ) (ns : List ℤ) (bs′ : List ℕ) (ns′ :
 
 accepted-so : (a : Bool) (o : Outcome) → good (tt {0}) ≡ saysOutcome (cond a (refused 13 0) o) → (l : Line ℕ) × (a ≡ false) × (o ≡ accepted l)
 accepted-so true o e = absurd (not-good e)
-accepted-so false (accepted l) e = (l, refl, refl)
-accepted-so false (refused n p) e = absurd (not-good e)
+accepted-so false o e = let a = accepted-is o e in (a .0, refl, a .1)
 
 was-read : (s bs : List ℕ) (ns : List ℤ) (bs′ : List ℕ) (ns′ : List ℤ) → ReadSays s bs ns Accepted bs′ ns′ → WasRead s bs ns bs′ ns′
 was-read s bs ns bs′ ns′ w =

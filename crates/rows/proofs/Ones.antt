@@ -17,7 +17,8 @@ use Rattle.scope.specs.Tables.{tabled, laid}
 use Rattle.areas.specs.Floats.{listIn, listsIn}
 use Rattle.basics.specs.Choice.{by-test}
 use Rattle.brackets.specs.Tabled.{tabled-at, tabled-end}
-use Rattle.positions.specs.Lists.{map-append, keep-append, tabled-append}
+use Rattle.positions.specs.Lists.{map-append, tabled-append}
+use Rattle.basics.specs.Lists.{keep-append}
 use Rattle.rows.specs.Places.{onesFrom, siteOf}
 
 -- ---- a search from one place on

@@ -1,12 +1,12 @@
 -- 14 "tables that no accepted line reads to": the ways in which areas fail to be tables.
 use mathlib.Core.Path.{_≡_, refl, sym, ap, _∙_, subst}
-use mathlib.Core.Bool.{Bool, true, false, cond, not, _&&_, _||_, false≢true}
+use mathlib.Core.Bool.{Bool, true, false, not, _&&_, false≢true}
 use mathlib.Core.Option.{Option, none, some}
 use mathlib.Core.List.{List, [], _∷_, _++_}
 use Prim.Native.Nat.{ℕ, _<_, _≤_}
 use native.Mathlib.Omega.{arith}
-use borrow.Author.Tests.{lt-ltb, le-ltb, ne-eqb}
-use lib.Dec.{ltb, leb, eqb}
+use borrow.Author.Tests.{lt-ltb, ne-eqb}
+use lib.Dec.{eqb}
 use lib.IntN.{ℤ, pos}
 use lib.ListN.{length, take, drop, replicate, length-replicate}
 use lib.Seq.{take-all, take-append-seam}
@@ -14,22 +14,20 @@ use Rattle.scope.specs.declared.answers.Read.{Read}
 use Rattle.scope.specs.declared.answers.Read.the-variants.{Accepted, Refused}
 use Rattle.scope.specs.Limits.{lineLimit}
 use Rattle.scope.specs.Bytes.{same}
-use Rattle.scope.specs.declared.grammar.Kind.{Kind}
-use Rattle.scope.specs.declared.grammar.Kind.the-variants.{Unknown, Labile, NTerm, OnResidue, OnRange, CTerm}
-use Rattle.scope.specs.Line.{Bracket, Line}
 use Rattle.scope.specs.Content.{given}
 use Rattle.scope.specs.Refusals.{Due, due, Outcome, accepted, refused, firstDue, refusal1, refusal2, refusal3, judged, outcome}
 use Rattle.scope.specs.Reading.{reading}
 use Rattle.scope.specs.Canonical.{canonical}
-use Rattle.scope.specs.Tables.{Tables, bytesSize, numbersSize, bytesOf, numbersOf, laid, tablesOf, tablesIn}
-use Rattle.scope.specs.Answers.{good, refuses, saysRead, saysOutcome, sameNumbers, readsTo, areTables}
+use Rattle.scope.specs.Tables.{bytesSize, numbersSize, bytesOf, numbersOf, tablesIn}
+use Rattle.scope.specs.Answers.{refuses, saysRead, saysOutcome, sameNumbers, readsTo, areTables}
 use Rattle.basics.specs.Choice.{by-test}
 use Rattle.layout_laws.specs.Laws.{tables-held, accepted-within, laid-bytes, laid-numbers}
 use Rattle.order_laws.specs.Ranks.{orderedb}
 use Rattle.order_laws.specs.Laws.{accepted-ordered, same-order}
 use Rattle.reader.specs.ReadSays.{Lays, Stored}
+use Rattle.reader.proofs.Reading.{accepted-is}
 use Rattle.writer.specs.Written.{WholeLine}
-use Rattle.tabled.specs.LineOf.{IsAccepted, TablesLine, LineOf}
+use Rattle.tabled.specs.LineOf.{IsAccepted, LineOf}
 
 -- ---- the brackets of tables are in order
 pub tables-ordered : (bs : List ℕ) (ns : List ℤ) → areTables bs ns ≡ true → orderedb (tablesIn bs ns) ≡ true
@@ -85,10 +83,6 @@ refused-to (refused m q) n p xs ys e = refl
 pub read-refused : (s : List ℕ) {r : Read} {n p : ℕ} → saysRead r ≡ saysOutcome (outcome s) → r ≡ Refused n p → (xs : List ℕ) (ys : List ℤ)
     → readsTo (outcome s) xs ys ≡ false
 read-refused s {r} {n} {p} w e xs ys = refused-to (outcome s) n p xs ys (ap saysRead (sym e) ∙ w)
-
-accepted-is : (o : Outcome) → good tt ≡ saysOutcome o → (l : Line ℕ) × (o ≡ accepted l)
-accepted-is (accepted l) e = (l, refl)
-accepted-is (refused m q) e = absurd (let z : _≡_ {A = ℕ} 0 1 = cc in omega arith)
 
 pub is-accepted : (s : List ℕ) {r : Read} → saysRead r ≡ saysOutcome (outcome s) → r ≡ Accepted → IsAccepted s
 is-accepted s {r} w e = let a = accepted-is (outcome s) (ap saysRead (sym e) ∙ w) in record { held = a .0; accepts = a .1 }

@@ -12,7 +12,7 @@ use Rattle.basics.specs.Choice.{by-test}
 use Rattle.scope.specs.Bytes.{isPrintable}
 use Rattle.scope.specs.Content.{given}
 use Rattle.scope.specs.Refusals.{dueAt, least, unprintable, refusal3}
-use Rattle.marks.specs.Marks.{coded}
+use Rattle.places.specs.Places.{coded}
 
 pub coded-none : (x : Option ℕ) (n : ℕ) → n ≡ coded x → n ≤ 0 → x ≡ none
 coded-none none n e h = refl

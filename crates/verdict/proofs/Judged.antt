@@ -20,7 +20,7 @@ use Rattle.notes.specs.Rows.{Apart}
 use Rattle.layout_laws.specs.Within.{Each, Byte}
 use Rattle.layout_laws.specs.Inside.{PartShape, ValueShape}
 use Rattle.layout_laws.specs.Outside.{BracketShape, LineShape, line-shape}
-use Rattle.marks.specs.Marks.{coded}
+use Rattle.places.specs.Places.{coded}
 use Rattle.verdict.specs.Ruled.{Clean, Checks, ruled}
 use Rattle.verdict.proofs.Codes.{coded-none, coded-some}
 

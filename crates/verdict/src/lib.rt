@@ -11,7 +11,7 @@ ghost use Rattle.scope.specs.Reading.{reading};
 ghost use Rattle.scope.specs.Refusals.{refusal3, judged, outcome};
 ghost use Rattle.scope.specs.Answers.{Said, refuses, saysRead, saysOutcome};
 ghost use Rattle.layout_laws.specs.Within.{Each, Byte};
-ghost use Rattle.marks.specs.Marks.{coded};
+ghost use Rattle.places.specs.Places.{coded};
 ghost use Rattle.verdict.specs.Ruled.{Clean, Checks, ruled};
 
 // The first byte outside 32 to 126: 0 where there is none, else one more than its place.

@@ -2,7 +2,7 @@
 use mathlib.Core.Path.{_≡_, refl}
 use mathlib.Core.List.{[], _∷_, _++_}
 use Prim.Native.Nat.{ℕ, zero, suc, _+_, _-_, _*_, _/_, _%_, _^_, _≤_, _<_}
-use native.Mathlib.Nat.{pow-suc, div-lt-iff-lt-mul, div-le-self, one-le-pow}
+use native.Mathlib.Nat.{pow-suc, div-lt-iff-lt-mul, one-le-pow}
 use native.Mathlib.Numerals.{add-one}
 use native.Mathlib.Omega.{arith}
 use borrow.Author.Tests.{lt-ltb, le-ltb}
@@ -61,9 +61,6 @@ decimals-some (suc d) n z = refl
 
 pub power-positive : (d : ℕ) → 0 < 10 ^ d
 power-positive d = one-le-pow d 10 (omega arith)
-
-pub quotient-small : (n p : ℕ) → n < 1000000000000 → n / p < 1000000000000
-quotient-small n p h = omega (arith, div-le-self n p)
 
 module _ (minus : Bool) (n d : ℕ) where
   pub size-text : (p : ℕ) → p ≡ 10 ^ d → decimal (n / p) ++ decimals d n ≡ size (numberOf minus n d)

@@ -1,7 +1,7 @@
 -- Brackets, those of one rank in a list of them, and the walk over them. Assumes nothing.
 use mathlib.Core.Path.{_≡_, refl, sym, ap, _∙_}
 use mathlib.Core.Bool.{Bool, true, false, cond}
-use mathlib.Core.List.{List, [], _∷_, _++_, append-assoc, append-nil}
+use mathlib.Core.List.{List, [], _∷_, _++_, append-nil}
 use Prim.Native.Nat.{ℕ, zero, suc, _+_, _-_, _*_, _≤_, _<_}
 use native.Mathlib.Nat.{add-zero, zero-add}
 use native.Mathlib.Omega.{arith}
@@ -13,6 +13,7 @@ use Rattle.scope.specs.Line.{Bracket}
 use Rattle.scope.specs.Canonical.{squareText, curlyText, countText}
 use Rattle.scope.specs.Modifications.{keep, flat}
 use Rattle.scope.specs.Tables.{tabled, byteAt, rowAt, bracketIn, tablesIn}
+use Rattle.basics.specs.Lists.{keep-append, flat-append}
 use Rattle.writer.specs.Written.{Puts}
 use Rattle.writer.specs.Ranks.{rank, rankIn, Ready, textAs, rankedText, runText, Walks}
 use Rattle.writer.proofs.Storing.{puts-none, puts-of, puts-within, puts-join}
@@ -38,16 +39,6 @@ module _ (bs : List ℕ) (ns : List ℤ) (k : ℕ) where
     ranked-no z = passed _ _ _ _ (ne-eqb (rank (bracketIn bs ns k)) q (λ h. z (e ∙ sym (rank-is bs ns k) ∙ h))) refl
 
 -- ---- lists of them
-pub keep-append : {A : Type 0} (f : A → Bool) (l m : List A) → keep f (l ++ m) ≡ keep f l ++ keep f m
-unfolding keep
-keep-append f [] m = refl
-keep-append f (x ∷ l) m = ap (λ t. cond (f x) (x ∷ []) [] ++ t) (keep-append f l m) ∙ sym (append-assoc (cond (f x) (x ∷ []) []) (keep f l) (keep f m))
-
-pub flat-append : {A B : Type 0} (f : A → List B) (l m : List A) → flat f (l ++ m) ≡ flat f l ++ flat f m
-unfolding flat
-flat-append f [] m = refl
-flat-append f (x ∷ l) m = ap (λ t. f x ++ t) (flat-append f l m) ∙ sym (append-assoc (f x) (flat f l) (flat f m))
-
 one-kept : {A B : Type 0} (f : A → List B) (p : A → Bool) (x : A) (t : Bool) → p x ≡ t → flat f (keep p (x ∷ [])) ≡ cond t (f x) []
 unfolding flat keep
 one-kept f p x true e = rw e (append-nil (f x))

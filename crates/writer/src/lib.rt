@@ -130,7 +130,7 @@ fn minus_at(numbers: &[i64], k: usize, j: usize) -> bool
 // The digits of number j of bracket k, which has d decimals.
 fn digits_at(numbers: &[i64], k: usize, j: usize, d: usize) -> u64
     requires { ⌜ (numbersSize ≤ length (now numbers)) × (k < bracketLimit) × (j < numberRowSize) × (d ≤ decimalLimit) × Small (getD (now numbers) (k * numberRowSize + j) (pos 0)) ⌝ }
-    ensures { λ r. ⌜ (r ≡ natAbs (getD (now (numbers .entry)) (k * numberRowSize + j) (pos 0)) / 10 ^ (decimalLimit - d)) × (r < 1000000000000) ⌝ }
+    ensures { λ r. ⌜ r ≡ natAbs (getD (now (numbers .entry)) (k * numberRowSize + j) (pos 0)) / 10 ^ (decimalLimit - d) ⌝ }
 {
     magnitude(areas::number(numbers, k, j)) / power(6 - d)
 }
@@ -157,7 +157,7 @@ fn put_decimals(d: usize, n: u64, out: &mut [u8], at: usize) -> usize
 
 // A number without its sign: "decimals as many as written".
 fn put_size(minus: bool, n: u64, d: usize, out: &mut [u8], at: usize) -> usize
-    requires { ⌜ (n < 1000000000000) × (d ≤ decimalLimit) × (at + 27 ≤ ceiling) ⌝ }
+    requires { ⌜ (d ≤ decimalLimit) × (at + 27 ≤ ceiling) ⌝ }
     ensures { λ r. ⌜ Puts 27 (now (out .entry)) at (size (numberOf minus n d)) (now (out .exit)) r ⌝ }
 {
     let a = put_decimal(n / power(d), out, at);
@@ -180,7 +180,7 @@ fn put_sign(minus: bool, always: bool, out: &mut [u8], at: usize) -> usize
 
 // "masses always signed, scores signed only when negative"
 fn put_number(minus: bool, n: u64, d: usize, always: bool, out: &mut [u8], at: usize) -> usize
-    requires { ⌜ (n < 1000000000000) × (d ≤ decimalLimit) × (at + 28 ≤ ceiling) ⌝ }
+    requires { ⌜ (d ≤ decimalLimit) × (at + 28 ≤ ceiling) ⌝ }
     ensures { λ r. ⌜ Puts 28 (now (out .entry)) at (numberText always (numberOf minus n d)) (now (out .exit)) r ⌝ }
 {
     let a = put_sign(minus, always, out, at);

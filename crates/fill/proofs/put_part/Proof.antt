@@ -8,7 +8,7 @@ use Rattle.fill.proofs.put_part.Tie as tie
 use Rattle.fill.proofs.put_part.Reads as reads
 use Rattle.fill.proofs.put_part.Lts as lts
 use Rattle.fill.proofs.copy.Reads as copy-reads
-use Rattle.fill.proofs.key_code.Reads as key-code-reads
+use Rattle.keywords.proofs.key_code.Reads as key-code-reads
 use Rattle.fill.proofs.offset_of.Reads as offset-of-reads
 use Rattle.fill.proofs.put_row.Reads as put-row-reads
 use Rattle.fill.proofs.text_start.Reads as text-start-reads

@@ -1,4 +1,5 @@
-use Rattle.marks.proofs.Least.{due-code, due-none}
+use mathlib.Core.Bool.{true, false}
+use Rattle.places.proofs.Soon.{least-due}
 use borrow.Author.Needs.{needs}
 use Rattle.marks.proofs.due_at.Statement.{statement}
 use Rattle.marks.proofs.due_at.Tie as tie
@@ -9,10 +10,10 @@ add-result : tie.Need-add-result
 add-result c = search needs
 
 returns : tie.Need-returns
-returns c = due-code _ _ (c .if1 .taken)
+returns c = rw (c .if1 .taken) (least-due true _)
 
 returns-2 : tie.Need-returns-2
-returns-2 c = due-none _ _ (c .if1 .left)
+returns-2 c = rw (c .if1 .left) (least-due false 0)
 
 pub due-at-spec : {M : Type 1} → statement M
 due-at-spec = tie.close (tie.spec add-result returns returns-2)

@@ -1,42 +1,42 @@
 use borrow.Author.Needs.{needs}
+use Rattle.places.proofs.Soon.{sooner-least}
 use Rattle.marks.proofs.joined.Statement.{statement}
 use Rattle.marks.proofs.joined.Tie as tie
 use Rattle.marks.proofs.joined.Reads as reads
 use Rattle.marks.proofs.joined.Lts as lts
-use Rattle.marks.proofs.first_of.Reads as first-of-reads
 
-first-of-requires : tie.Need-first-of-requires
-first-of-requires c κs = search needs
+sooner-requires : tie.Need-sooner-requires
+sooner-requires c κs = search needs
 
-first-of-requires-2 : tie.Need-first-of-requires-2
-first-of-requires-2 c κs = search needs
+sooner-requires-2 : tie.Need-sooner-requires-2
+sooner-requires-2 c κs = search needs
 
-first-of-requires-3 : tie.Need-first-of-requires-3
-first-of-requires-3 c κs = search needs
+sooner-requires-3 : tie.Need-sooner-requires-3
+sooner-requires-3 c κs = search needs
 
-first-of-requires-4 : tie.Need-first-of-requires-4
-first-of-requires-4 c κs = search needs
+sooner-requires-4 : tie.Need-sooner-requires-4
+sooner-requires-4 c κs = search needs
 
-first-of-requires-5 : tie.Need-first-of-requires-5
-first-of-requires-5 c κs = search needs
+sooner-requires-5 : tie.Need-sooner-requires-5
+sooner-requires-5 c κs = search needs
 
 returns : tie.Need-returns
 returns c =
     λ d e p q. record {
-      deep = c .before .before .before .before .first-of .ensures _ _ (p .deep) (q .deep);
-      over = c .before .before .before .first-of2 .ensures _ _ (p .over) (q .over);
-      wide = c .before .before .first-of3 .ensures _ _ (p .wide) (q .wide);
-      barred = c .before .first-of4 .ensures _ _ (p .barred) (q .barred);
-      digits = c .first-of5 .ensures _ _ (p .digits) (q .digits);
+      deep = sooner-least _ _ (c .before .before .before .before .sooner .ensures) (p .deep) (q .deep);
+      over = sooner-least _ _ (c .before .before .before .sooner2 .ensures) (p .over) (q .over);
+      wide = sooner-least _ _ (c .before .before .sooner3 .ensures) (p .wide) (q .wide);
+      barred = sooner-least _ _ (c .before .sooner4 .ensures) (p .barred) (q .barred);
+      digits = sooner-least _ _ (c .sooner5 .ensures) (p .digits) (q .digits);
     }
 
 pub joined-spec : {M : Type 1} → statement M
 joined-spec =
     tie.close
     (tie.spec
-    first-of-requires
-    first-of-requires-2
-    first-of-requires-3
-    first-of-requires-4
-    first-of-requires-5
+    sooner-requires
+    sooner-requires-2
+    sooner-requires-3
+    sooner-requires-4
+    sooner-requires-5
     returns)

@@ -16,14 +16,14 @@ use Rattle.parts.proofs.colon_at.Tie as tie
 key-in-requires : tie.Need-key-in-requires
 key-in-requires c κs = search needs
 
-is-no-key-requires : tie.Need-is-no-key-requires
-is-no-key-requires c κs = search needs
+key-code-requires : tie.Need-key-code-requires
+key-code-requires c κs = search needs
 
 text-from-requires : tie.Need-text-from-requires
 text-from-requires c κs = search needs
 
 returns : tie.Need-returns
-returns c = λ e. colon-text _ _ _ _ (c .before .before .before .before .before .pre) _ (c .before .before .before .key-in .ensures) (sym (c .before .before .is-no-key .ensures) ∙ c .before .if1 .taken) e _ (c .text-from .ensures refl (no-key-behind _) (search needs) (search needs))
+returns c = λ e. colon-text _ _ _ _ (c .before .before .before .before .before .pre) _ (c .before .before .before .key-in .ensures) (eq-eqb _ _ (rw (c .before .before .key-code .ensures) at (c .before .if1 .taken))) e _ (c .text-from .ensures refl (no-key-behind _) (search needs) (search needs))
 
 add-behind-key : tie.Need-add-behind-key
 add-behind-key c = search needs
@@ -32,14 +32,14 @@ behind-key-requires : tie.Need-behind-key-requires
 behind-key-requires c κs = search needs
 
 returns-2 : tie.Need-returns-2
-returns-2 c = λ e. colon-key _ _ _ _ (c .before .before .before .before .before .pre) _ (c .before .before .before .key-in .ensures) (sym (c .before .before .is-no-key .ensures) ∙ c .before .if1 .left) e _ (λ w. c .behind-key .ensures w (search needs))
+returns-2 c = λ e. colon-key _ _ _ _ (c .before .before .before .before .before .pre) _ (c .before .before .before .key-in .ensures) (ne-eqb _ _ (rw (c .before .before .key-code .ensures) at (c .before .if1 .left))) e _ (λ w. c .behind-key .ensures w (search needs))
 
 pub colon-at-spec : {M : Type 1} → statement M
 colon-at-spec =
     tie.close
     (tie.spec
     key-in-requires
-    is-no-key-requires
+    key-code-requires
     text-from-requires
     returns
     add-behind-key

@@ -1,10 +1,9 @@
 use mathlib.Core.Path.{ap, ap₂, _∙_}
 use Prim.Native.Nat.{_/_}
-use native.Mathlib.Omega.{arith}
 use lib.IntN.{natAbs}
 use mir.Syntax.{w64}
 use mir.Facts.{toZ-ofZ}
-use Rattle.writer.proofs.Digits.{power-positive, quotient-small}
+use Rattle.writer.proofs.Digits.{power-positive}
 use borrow.Author.Needs.{needs}
 use Rattle.writer.proofs.digits_at.Statement.{statement}
 use Rattle.writer.proofs.digits_at.Tie as tie
@@ -33,7 +32,7 @@ returns : tie.Need-returns
 returns c =
     let n = c .before .before in
     let e = c .before .magnitude .ensures ∙ ap natAbs (toZ-ofZ {w = w64} {z = n .number .result} (record { sfits = n .number .ok }) ∙ n .number .ensures) in
-    (ap₂ _/_ e (c .power .ensures), quotient-small _ _ (omega (arith, e, n .before .pre .4)))
+    ap₂ _/_ e (c .power .ensures)
 
 pub digits-at-spec : {M : Type 1} → statement M
 digits-at-spec =

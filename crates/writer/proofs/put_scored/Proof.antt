@@ -55,7 +55,7 @@ returns-2 c =
     let d = q .before .before in
     let i = d .before .before in
     let a = i .before .before .before .before .before .args in
-    puts-of (scored-some (a .bytes .now) (a .numbers .now) (a .k) (i .before .wide .ensures .0 ∙ i .before .before .bracket-byte .ensures) (i .if1 .left) (d .before .minus-at .ensures) (d .digits-at .ensures .0))
+    puts-of (scored-some (a .bytes .now) (a .numbers .now) (a .k) (i .before .wide .ensures .0 ∙ i .before .before .bracket-byte .ensures) (i .if1 .left) (d .before .minus-at .ensures) (d .digits-at .ensures))
     (puts-join (q .put .ensures) (puts-join (s .put-number .ensures) (p .put2 .ensures)))
 
 pub put-scored-spec : {M : Type 1} → statement M

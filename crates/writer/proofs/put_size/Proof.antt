@@ -1,4 +1,3 @@
-use native.Mathlib.Omega.{arith}
 use Rattle.writer.proofs.Storing.{puts-of, puts-join}
 use Rattle.writer.proofs.Digits.{power-positive, size-text}
 use borrow.Author.Needs.{needs}

@@ -48,7 +48,7 @@ returns c =
     let a = i .before .before .before .before .before .args in
     puts-of
     (value-mass (a .bytes .now) (a .numbers .now) (a .k) (a .j) (i .before .wide .ensures .0 ∙ i .before .before .part-byte .ensures) (i .if1 .taken)
-    (w .wide2 .ensures .0 ∙ w .before .part-byte2 .ensures) (d .before .minus-at .ensures) (d .digits-at .ensures .0))
+    (w .wide2 .ensures .0 ∙ w .before .part-byte2 .ensures) (d .before .minus-at .ensures) (d .digits-at .ensures))
     (puts-within (omega arith) (p .put-number .ensures))
 
 part-byte-requires-3 : tie.Need-part-byte-requires-3

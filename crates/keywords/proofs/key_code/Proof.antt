@@ -1,8 +1,8 @@
 use borrow.Author.Needs.{needs}
-use Rattle.fill.proofs.key_code.Statement.{statement}
-use Rattle.fill.proofs.key_code.Tie as tie
-use Rattle.fill.proofs.key_code.Reads as reads
-use Rattle.fill.proofs.key_code.Lts as lts
+use Rattle.keywords.proofs.key_code.Statement.{statement}
+use Rattle.keywords.proofs.key_code.Tie as tie
+use Rattle.keywords.proofs.key_code.Reads as reads
+use Rattle.keywords.proofs.key_code.Lts as lts
 
 enum-told : tie.Need-enum-told
 enum-told c = search needs

@@ -1,6 +1,6 @@
-use Rattle.notes.proofs.Soonest.{sooner-first, sooner-second, sooner-less, sooner-more}
-use Rattle.notes.proofs.sooner.Statement.{statement}
-use Rattle.notes.proofs.sooner.Tie as tie
+use Rattle.places.proofs.Soon.{sooner-first, sooner-second, sooner-less, sooner-more}
+use Rattle.places.proofs.sooner.Statement.{statement}
+use Rattle.places.proofs.sooner.Tie as tie
 
 returns : tie.Need-returns
 returns c = sooner-first _ _ (c .if1 .taken)

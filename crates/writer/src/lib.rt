@@ -465,7 +465,7 @@ fn put_ranked(
     at
 }
 
-// Where the writer stands: in the output, and among the brackets.
+// Where the writer stands: in the output, and among the brackets or the residues.
 pub struct Pen {
     pub place: usize,
     pub next: usize,
@@ -657,7 +657,7 @@ fn is_bare(bytes: &[u8], p: usize, n: usize, q: usize) -> bool
     false
 }
 
-// The residues from index p on that stand by themselves, as far as their ranks are below q; the place behind them, and the residue.
+// The residues from index p on that stand by themselves, as far as their ranks are below q.
 fn put_letters(bytes: &[u8], p: usize, n: usize, q: usize, out: &mut [u8], at: usize) -> Pen
     requires { ⌜ (bytesSize ≤ length (now bytes)) × (n ≤ residueLimit) × (at + 1000 ≤ ceiling) ⌝ }
     ensures { λ r. ⌜ (p ≤ r .next) × Spells (now (bytes .entry)) n q (now (out .entry)) p at (now (out .exit)) (r .next) (r .place) ⌝ }

@@ -2,7 +2,7 @@
 ghost use mathlib.Core.Path.{_≡_};
 ghost use Prim.Native.Nat.{_+_, _≤_};
 ghost use lib.ListN.{length, drop};
-ghost use Rattle.scope.specs.Bytes.{isPrintable, isLetter, isDigit, isAlnum, isSign, isOpening, isShutting, same, sameFolded};
+ghost use Rattle.scope.specs.Bytes.{isPrintable, isUpper, isLower, isLetter, isDigit, isAlnum, isSign, isOpening, isShutting, same, sameFolded};
 ghost use Rattle.scope.specs.Bytes.{upper as inUpper};
 ghost use Rattle.scope.specs.Content.{isPlain};
 ghost use Rattle.scope.specs.Tables.{part};
@@ -42,19 +42,31 @@ pub fn is_digit(b: u8) -> bool
     b <= b'9'
 }
 
-pub fn is_letter(b: u8) -> bool
-    ensures { λ r. ⌜ r ≡ isLetter b ⌝ }
+fn is_upper(b: u8) -> bool
+    ensures { λ r. ⌜ r ≡ isUpper b ⌝ }
 {
     if b < b'A' {
         return false;
     }
-    if b <= b'Z' {
-        return true;
-    }
+    b <= b'Z'
+}
+
+fn is_lower(b: u8) -> bool
+    ensures { λ r. ⌜ r ≡ isLower b ⌝ }
+{
     if b < b'a' {
         return false;
     }
     b <= b'z'
+}
+
+pub fn is_letter(b: u8) -> bool
+    ensures { λ r. ⌜ r ≡ isLetter b ⌝ }
+{
+    if is_upper(b) {
+        return true;
+    }
+    is_lower(b)
 }
 
 // A letter or a digit.

@@ -12,7 +12,7 @@ use Rattle.scope.specs.Refusals.{shared}
 use Rattle.scope.specs.Modifications.{keep, flat, among, onlyInfo, isReferring, isModification, copies, definedBy, referredBy, namesOf}
 use Rattle.scope.specs.Positions.{member, isPlaced, struckOut, floaters, between, referredAt, isUnlabelledUnknown, ownPosition, mayStand, positions, permitted, permittedPositions}
 use Rattle.scope.specs.Masses.{massOf, massOr0, sum, sumℕ, modifications, total, lacking, isLabile, labileMass}
-use Rattle.canonical_laws.specs.Lists.{flat-append, keep-append}
+use Rattle.basics.specs.Lists.{flat-append, keep-append}
 
 -- ---- an element that is not kept, or gives nothing
 keep-without : {A : Type 0} (f : A → Bool) (l m : List A) (x : A) → f x ≡ false → keep f (l ++ (x ∷ m)) ≡ keep f (l ++ m)

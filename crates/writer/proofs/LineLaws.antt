@@ -5,11 +5,11 @@ use mathlib.Core.List.{List, [], _∷_, _++_, append-assoc, append-nil}
 use Prim.Native.Nat.{ℕ, zero, suc, _+_, _-_, _*_, _≤_, _<_}
 use native.Mathlib.Nat.{zero-add}
 use native.Mathlib.Omega.{arith}
-use lib.Dec.{eqb}
+use lib.Dec.{eqb, leb}
 use lib.IntN.{ℤ}
 use lib.ListN.{length, drop}
 use lib.Seq.{take-all}
-use borrow.Author.Tests.{eq-eqb, ne-eqb, eqb-true, eqb-false}
+use borrow.Author.Tests.{eq-eqb, ne-eqb, eqb-true, eqb-false, leb-true, leb-false}
 use Rattle.basics.specs.Choice.{took, by-test}
 use Rattle.scope.specs.declared.grammar.Kind.{Kind}
 use Rattle.scope.specs.declared.grammar.Kind.the-variants.{Unknown, Labile, NTerm, OnResidue, OnRange, CTerm}
@@ -21,11 +21,11 @@ use Rattle.scope.specs.Modifications.{keep, flat}
 use Rattle.scope.specs.Tables.{tabled, byteAt, rowAt, sectionIn, sectionsAt, lettersAt, residueIn, bracketIn, tablesIn, laid}
 use Rattle.areas.specs.Bounds.{Bounds}
 use Rattle.writer.specs.Written.{Puts, WholeLine, ceiling}
-use Rattle.writer.specs.Ranks.{rankOf, rank, rankIn, Ready, rankedText, runText, Walks, residueText}
-use Rattle.writer.proofs.Storing.{stored-whole}
+use Rattle.writer.specs.Ranks.{rankOf, rank, rankIn, Ready, rankedText, runText, Walks, residueText, Spelt, Clear, Bare, Spells}
+use Rattle.writer.proofs.Storing.{stored-whole, puts-within, puts-length}
 use Rattle.writer.proofs.RankLaws.{rank-is, tabled-from, tabled-over}
-use Rattle.writer.proofs.RunLaws.{quiet, run-one, run-empty}
-use Rattle.writer.proofs.Walking.{walks-of, walks-then, walks-before, walks-up}
+use Rattle.writer.proofs.RunLaws.{quiet, run-one, run-empty, none-of}
+use Rattle.writer.proofs.Walking.{walks-of, walks-still, walks-then, walks-before, walks-up}
 
 -- ---- sections
 pub opening-other : (c : ℕ) → (c ≡ 1 → ⊥) → (c ≡ 3 → ⊥) → [] ≡ opening (sectionIn c)
@@ -192,11 +192,20 @@ sequence-step ks i r rs =
     let s = sequenceText ks (i + 1) rs in
     sym (append-assoc (opening (r .section)) (r .letter ∷ (a ++ b)) s ∙ ap (λ t. opening (r .section) ++ (r .letter ∷ t)) (append-assoc a b s))
 
+nothing-else : (t : Bool) (l : List ℕ) → l ≡ l ++ cond t [] []
+nothing-else true l = sym (append-nil l)
+nothing-else false l = sym (append-nil l)
+
 module _ (bs : List ℕ) (ks : List (Bracket (Unit {0}))) (p : ℕ) (rs : List (Residue (Unit {0}))) {c b : ℕ} (e : c ≡ byteAt bs (sectionsAt + p)) (f : b ≡ byteAt bs (lettersAt + p)) where
   at-residue : runText 2 (5 + 2 * p) ks ≡ flat squareText (endingAt OnResidue (p + 1) ks)
   at-residue =
       let q : 5 + 2 * p ≡ 3 + 2 * (p + 1) = omega arith in
       ap (λ q. runText 2 q ks) q ∙ residue-run ks (p + 1)
+
+  pub residue-plain : c ≡ 0 → (b ∷ []) ++ runText 2 (5 + 2 * p) ks ≡ residueText ks (p + 1) (residueIn bs p) rs
+  residue-plain z =
+      let w : byteAt bs (sectionsAt + p) ≡ 0 = sym e ∙ z in
+      rw (w, f, at-residue) (ap (λ t. byteAt bs (lettersAt + p) ∷ t) (nothing-else (goesOn rs) _))
 
   pub residue-on : goesOn rs ≡ true → opening (sectionIn c) ++ ((b ∷ []) ++ runText 2 (5 + 2 * p) ks) ≡ residueText ks (p + 1) (residueIn bs p) rs
   residue-on g = rw (g, e, f, at-residue, append-nil)
@@ -208,15 +217,6 @@ module _ (bs : List ℕ) (ks : List (Bracket (Unit {0}))) (p : ℕ) (rs : List (
   residue-off h g =
       append-assoc (opening (sectionIn c)) ((b ∷ []) ++ runText 2 (5 + 2 * p) ks) (ending (sectionIn c) (runText 2 (4 + 2 * (p + 1)) ks))
       ∙ rw (g, e, f, at-residue, range-run ks (p + 1) (omega arith))
-
--- the first p residues are written
-pub record Spelt (bs : List ℕ) (ns : List ℤ) (n from : ℕ) (o : List ℕ) (at : ℕ) (out : List ℕ) (p j a : ℕ) : Type 0 where
-  pub low : p ≤ n
-  pub done : List ℕ
-  pub rest :
-      done ++ sequenceText (tablesIn bs ns .brackets) (p + 1) (tabled (residueIn bs) p (n - p))
-      ≡ sequenceText (tablesIn bs ns .brackets) 1 (tabled (residueIn bs) 0 n)
-  pub walks : Walks bs (4 * p) from (5 + 2 * p) o at done out a j
 
 module _ (bs : List ℕ) (ns : List ℤ) (n from : ℕ) (o : List ℕ) (at : ℕ) where
   pub spelt-start : Walks bs 0 from 3 o at [] o at from → Spelt bs ns n from o at o 0 from at
@@ -246,6 +246,24 @@ module _ (bs : List ℕ) (ns : List ℤ) (n from : ℕ) (o : List ℕ) (at : ℕ
           walks = walks-then (4 * (p + 1)) (omega arith) (s .walks) w;
         }
 
+    -- a residue by itself, with no bracket
+    pub spelt-bare :
+        {q b : ℕ} → Clear bs j q → Bare bs p n q → b ≡ byteAt bs (lettersAt + p) → {out′ : List ℕ} {a′ : ℕ} → Puts 1 out a (b ∷ []) out′ a′
+        → Spelt bs ns n from o at out′ (p + 1) j a′
+    unfolding tablesIn
+    spelt-bare {b = b} c h f g =
+        let w = s .walks in
+        let ks = tablesIn bs ns .brackets in
+        let none : runText 2 (5 + 2 * p) ks ≡ [] =
+        none-of bs ns 2 (5 + 2 * p) (byteAt bs 1)
+        (λ i l e.
+        by-test (leb j i)
+        (λ t. omega (arith, c i (leb-true j i t) l, h .below, e))
+        (λ t. omega (arith, w .below i (omega (arith, leb-false j i t)), e))) in
+        spelt-more (h .here)
+        (walks-of (ap (λ t. b ∷ t) (sym none) ∙ residue-plain bs ks p (tabled (residueIn bs) (p + 1) (n - (p + 1))) refl f (h .plain))
+        (walks-still (puts-within (omega arith) g) (w .within) (λ i l. omega (arith, w .below i l))))
+
     pub spelt-over :
         n ≤ p → n ≡ byteAt bs 0 → n ≤ residueLimit
         → Walks bs 1016 from 2000 o at (sequenceText (tablesIn bs ns .brackets) 1 (tablesIn bs ns .residues)) out a j
@@ -259,6 +277,28 @@ module _ (bs : List ℕ) (ns : List ℤ) (n from : ℕ) (o : List ℕ) (at : ℕ
         ∙ s .rest
         ∙ ap (λ k. sequenceText (tablesIn bs ns .brackets) 1 (tabled (residueIn bs) 0 k)) e)
         (walks-up (omega (arith, s .low)) (omega (arith, s .low)) (s .walks))
+
+-- the residues from index p up to index i stand by themselves, and are written
+pub record Lettered (bs : List ℕ) (n q : ℕ) (o : List ℕ) (p at : ℕ) (out : List ℕ) (i a : ℕ) : Type 0 where
+  pub forth : p ≤ i
+  pub near : a ≡ at + (i - p)
+  pub kept : length out ≡ length o
+  pub spells : Spells bs n q o p at out i a
+
+module _ (bs : List ℕ) (n q : ℕ) (o : List ℕ) (p at : ℕ) where
+  pub lettered-start : Lettered bs n q o p at o p at
+  lettered-start = record { forth = omega arith; near = omega arith; kept = refl; spells = λ ns from j first start c s. s }
+
+  pub lettered-more :
+      {out : List ℕ} {i a b : ℕ} → Lettered bs n q o p at out i a → Bare bs i n q → b ≡ byteAt bs (lettersAt + i) → {out′ : List ℕ} {a′ : ℕ}
+      → Puts 1 out a (b ∷ []) out′ a′ → Lettered bs n q o p at out′ (i + 1) a′
+  lettered-more l h f g =
+      record {
+        forth = omega (arith, l .forth);
+        near = omega (arith, l .forth, l .near, g .ends);
+        kept = puts-length g ∙ l .kept;
+        spells = λ ns from j first start c s. spelt-bare bs ns n from first start (l .spells ns from j first start c s) c h f g;
+      }
 
 -- ---- what closes and what leads
 closed-none : (t : List ℕ) (b : ℕ) → length t ≡ 0 → t ≡ closedBy t b

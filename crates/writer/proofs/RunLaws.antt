@@ -72,6 +72,14 @@ module _ (shape q : ℕ) where
     unfolding flat keep tabled
     run-empty = refl
 
+-- where none of the first n brackets has the rank, nothing of it is written
+pub none-of :
+    (bs : List ℕ) (ns : List ℤ) (shape q n : ℕ) → ((i : ℕ) → i < n → rankIn bs i ≡ q → ⊥) → runText shape q (tabled (bracketIn bs ns) 0 n) ≡ []
+none-of bs ns shape q n h =
+    ap (λ n. runText shape q (tabled (bracketIn bs ns) 0 n)) (sym (zero-add n))
+    ∙ quiet shape q (bracketIn bs ns) 0 n (λ i g l w. h i (omega arith) (sym (rank-is bs ns i) ∙ w))
+    ∙ run-empty shape q (bracketIn bs ns)
+
 -- ---- the walk over the brackets for one rank
 pub record Running (bs : List ℕ) (ns : List ℤ) (m from q shape : ℕ) (o : List ℕ) (at : ℕ) (out : List ℕ) (j a : ℕ) : Type 0 where
   pub count : m ≡ byteAt bs 1
@@ -83,10 +91,7 @@ pub record Running (bs : List ℕ) (ns : List ℤ) (m from q shape : ℕ) (o : L
 module _ (bs : List ℕ) (ns : List ℤ) (m from q shape : ℕ) (o : List ℕ) (at : ℕ) where
   pub run-start : m ≡ byteAt bs 1 → from ≤ byteAt bs 1 → ((i : ℕ) → i < from → rankIn bs i < q) → Running bs ns m from q shape o at o from at
   run-start e h b =
-      let none : runText shape q (tabled (bracketIn bs ns) 0 from) ≡ [] =
-      ap (λ n. runText shape q (tabled (bracketIn bs ns) 0 n)) (sym (zero-add from))
-      ∙ quiet shape q (bracketIn bs ns) 0 from (λ i g l w. omega (arith, b i (omega arith), sym (rank-is bs ns i) ∙ w))
-      ∙ run-empty shape q (bracketIn bs ns) in
+      let none = none-of bs ns shape q from (λ i l w. omega (arith, b i l, w)) in
       record {
         count = e;
         forth = omega arith;

@@ -9,8 +9,8 @@ use Rattle.scope.specs.declared.grammar.Kind.{Kind}
 use Rattle.scope.specs.declared.grammar.Kind.the-variants.{Unknown, Labile, NTerm, OnResidue, OnRange, CTerm}
 use Rattle.scope.specs.Line.{Bracket, Residue, Line}
 use Rattle.scope.specs.Modifications.{keep, flat}
-use Rattle.scope.specs.Canonical.{unknownText, curlyText, squareText, endingAt, opening, ending, goesOn}
-use Rattle.scope.specs.Tables.{byteAt, rowAt, kindIn}
+use Rattle.scope.specs.Canonical.{unknownText, curlyText, squareText, endingAt, opening, ending, goesOn, sequenceText}
+use Rattle.scope.specs.Tables.{tabled, byteAt, rowAt, kindIn, sectionsAt, residueIn, tablesIn}
 use Rattle.areas.specs.Bounds.{Bounds}
 use Rattle.writer.specs.Written.{Puts}
 pub use Rattle.order_laws.specs.Ranks.{rankOf, rank, Ordered}
@@ -53,3 +53,27 @@ residueText ks i r rs =
     opening (r .section)
     ++ (r .letter
     ∷ (flat squareText (endingAt OnResidue i ks) ++ cond (goesOn rs) [] (ending (r .section) (flat squareText (endingAt OnRange i ks)))))
+
+-- the first p residues are written
+pub record Spelt (bs : List ℕ) (ns : List ℤ) (n from : ℕ) (o : List ℕ) (at : ℕ) (out : List ℕ) (p j a : ℕ) : Type 0 where
+  pub low : p ≤ n
+  pub done : List ℕ
+  pub rest :
+      done ++ sequenceText (tablesIn bs ns .brackets) (p + 1) (tabled (residueIn bs) p (n - p))
+      ≡ sequenceText (tablesIn bs ns .brackets) 1 (tabled (residueIn bs) 0 n)
+  pub walks : Walks bs (4 * p) from (5 + 2 * p) o at done out a j
+
+-- no bracket from bracket j on has a rank below q
+abbrev pub Clear : List ℕ → ℕ → ℕ → Type 0
+Clear bs j q = (k : ℕ) → j ≤ k → k < byteAt bs 1 → q ≤ rankIn bs k
+
+-- the residue with index p, of n, stands by itself, and the rank of its brackets is below q
+pub record Bare (bs : List ℕ) (p n q : ℕ) : Type 0 where
+  pub here : p < n
+  pub below : 5 + 2 * p < q
+  pub plain : byteAt bs (sectionsAt + p) ≡ 0
+
+-- where the first p residues were written, the first i are
+abbrev pub Spells : List ℕ → ℕ → ℕ → List ℕ → ℕ → ℕ → List ℕ → ℕ → ℕ → Type 0
+Spells bs n q o p at left i a =
+    (ns : List ℤ) (from j : ℕ) (first : List ℕ) (start : ℕ) → Clear bs j q → Spelt bs ns n from first start o p j at → Spelt bs ns n from first start left i j a

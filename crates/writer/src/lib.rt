@@ -1,6 +1,7 @@
 // Writes the canonical line of the tables in the areas.
 use scope::tables::Tables;
 ghost use mathlib.Core.Path.{_≡_};
+ghost use mathlib.Core.Bool.{true};
 ghost use mathlib.Core.List.{List, [], _∷_, _++_};
 ghost use Prim.Native.Nat.{ℕ, _+_, _-_, _*_, _/_, _^_, _<_, _≤_};
 ghost use lib.IntN.{ℤ, natAbs, pos};
@@ -14,7 +15,7 @@ ghost use Rattle.scope.specs.Tables.{part, isNegative, bytesSize, textsAt, text
 ghost use Rattle.areas.specs.Bounds.{Small, Bounds};
 ghost use Rattle.writer.specs.Written.{Puts, ceiling, lineMost, numberOf, signText, numberText, scoredText, nextText, WholeLine};
 ghost use Rattle.writer.specs.Here.{BracketHere, PartHere};
-ghost use Rattle.writer.specs.Ranks.{rankOf, rankIn, orderedb, Ready, textAs, rankedText, runText, Walks, residueText, Ordered};
+ghost use Rattle.writer.specs.Ranks.{rankOf, rankIn, orderedb, Ready, textAs, rankedText, runText, Walks, residueText, Clear, Bare, Spells, Ordered};
 
 // One byte at a place: stored where there is room, and counted.
 pub fn put(out: &mut [u8], at: usize, b: u8) -> usize
@@ -464,7 +465,7 @@ fn put_ranked(
     at
 }
 
-// Where the writer stands: in the output, and among the brackets.
+// Where the writer stands: in the output, and among the brackets or the residues.
 pub struct Pen {
     pub place: usize,
     pub next: usize,
@@ -632,6 +633,44 @@ fn put_residue(
     put_ending(bytes, numbers, c, p + 1, next, out, place)
 }
 
+// The rank of bracket j, or that of the C-terminus where there is no such bracket.
+fn next_rank(bytes: &[u8], j: usize) -> usize
+    requires { ⌜ (bytesSize ≤ length (now bytes)) × (byteAt (now bytes) 1 ≤ bracketLimit) ⌝ }
+    ensures { λ r. ⌜ ((ns : List ℤ) → Ready (now (bytes .entry)) ns → Clear (now (bytes .entry)) j r) ⌝ }
+{
+    if j < areas::brackets(bytes) {
+        return rank_at(bytes, j);
+    }
+    2000
+}
+
+// Whether the residue with index p, of n, stands by itself and its rank is below q.
+fn is_bare(bytes: &[u8], p: usize, n: usize, q: usize) -> bool
+    requires { ⌜ (bytesSize ≤ length (now bytes)) × (n ≤ residueLimit) ⌝ }
+    ensures { λ r. ⌜ (r ≡ true → Bare (now (bytes .entry)) p n q) ⌝ }
+{
+    if p < n {
+        if 5 + 2 * p < q {
+            return section_at(bytes, p) == 0;
+        }
+    }
+    false
+}
+
+// The residues from index p on that stand by themselves, as far as their ranks are below q.
+fn put_letters(bytes: &[u8], p: usize, n: usize, q: usize, out: &mut [u8], at: usize) -> Pen
+    requires { ⌜ (bytesSize ≤ length (now bytes)) × (n ≤ residueLimit) × (at + 1000 ≤ ceiling) ⌝ }
+    ensures { λ r. ⌜ (p ≤ r .next) × Spells (now (bytes .entry)) n q (now (out .entry)) p at (now (out .exit)) (r .next) (r .place) ⌝ }
+{
+    let mut i = p;
+    let mut a = at;
+    while is_bare(bytes, i, n, q) {
+        a = put(out, a, letter_at(bytes, i));
+        i += 1;
+    }
+    Pen { place: a, next: i }
+}
+
 // The sequence.
 fn put_sequence(bytes: &[u8], numbers: &[i64], from: usize, out: &mut [u8], at: usize) -> Pen
     requires { ⌜ Ready (now bytes) (now numbers) × (from ≤ byteAt (now bytes) 1) × ((k : ℕ) → k < from → rankIn (now bytes) k < 3) × (at + 200000 ≤ ceiling) ⌝ }
@@ -643,9 +682,11 @@ fn put_sequence(bytes: &[u8], numbers: &[i64], from: usize, out: &mut [u8], at: 
     let mut j = from;
     while p < n {
         let pen = put_residue(bytes, numbers, p, n, j, out, a);
-        a = pen.place;
         j = pen.next;
-        p += 1;
+        let place = pen.place;
+        let letters = put_letters(bytes, p + 1, n, next_rank(bytes, j), out, place);
+        a = letters.place;
+        p = letters.next;
     }
     Pen { place: a, next: j }
 }

@@ -1,9 +1,10 @@
 use borrow.Author.Needs.{needs}
 use Prim.Native.Nat.{_-_}
 use native.Mathlib.Omega.{arith}
+use Rattle.writer.specs.Ranks.{Spelt}
 use Rattle.writer.proofs.Storing.{puts-none, puts-length}
 use Rattle.writer.proofs.Walking.{walks-still}
-use Rattle.writer.proofs.LineLaws.{Spelt, spelt-start, spelt-more, spelt-over}
+use Rattle.writer.proofs.LineLaws.{spelt-start, spelt-more, spelt-over}
 use Rattle.writer.proofs.put_sequence.Statement.{statement}
 use Rattle.writer.proofs.put_sequence.Tie as tie
 use Rattle.writer.proofs.put_sequence.Reads as reads
@@ -34,17 +35,40 @@ put-residue-requires c κs =
     let w = l .loop .inv .walks in
     (s .pre .0, w .within, w .below, omega (arith, w .puts .near, w .within, b .few-brackets, b .few-residues, r .residues .ensures .0), r .residues .ensures .0, c .before .loop-test .taken)
 
-add-p : tie.Need-add-p Inv-loop μ-loop
-add-p c = search needs
+add-put-letters : tie.Need-add-put-letters Inv-loop μ-loop
+add-put-letters c = search needs
+
+next-rank-requires : tie.Need-next-rank-requires Inv-loop μ-loop
+next-rank-requires c κs =
+    let s = c .before .before .before .before .before .before .before .before .before in
+    let b = s .pre .0 .bounds in
+    (b .bytes-room, b .few-brackets)
+
+put-letters-requires : tie.Need-put-letters-requires Inv-loop μ-loop
+put-letters-requires c κs =
+    let p = c .before .before .before .before in
+    let l = p .before .before .before in
+    let r = l .before in
+    let s = r .before .before .before in
+    let b = s .pre .0 .bounds in
+    let w = l .loop .inv .walks in
+    let v = p .put-residue .ensures in
+    (b .bytes-room, omega (arith, b .few-residues, r .residues .ensures .0), omega (arith, v .puts .near, v .forth, v .within, w .puts .near, w .forth, w .within, b .few-brackets, b .few-residues, r .residues .ensures .0, s .pre .3, p .before .before .loop-test .taken))
 
 loop-less : tie.Need-loop-less Inv-loop μ-loop
-loop-less c = search needs
+loop-less c =
+    let p = c .before .before in
+    let t = p .before .before .before .before .before .before .before in
+    omega (arith, p .put-letters .ensures .0, t .loop-test .taken)
 
 loop-again : tie.Need-loop-again Inv-loop μ-loop
 loop-again c =
     let p = c .before .before in
-    let l = p .before .before in
-    spelt-more _ _ _ _ _ _ (l .before .loop .inv) (l .loop-test .taken) (p .put-residue .ensures)
+    let k = p .before .before in
+    let r = k .before .before .before in
+    let l = r .before .before in
+    let s = l .before .before .before .before .before in
+    p .put-letters .ensures .1 _ _ _ _ _ (k .next-rank .ensures _ (s .pre .0)) (spelt-more _ _ _ _ _ _ (l .before .loop .inv) (l .loop-test .taken) (r .put-residue .ensures))
 
 same-length : tie.Need-same-length Inv-loop μ-loop
 same-length c = puts-length (c .before .loop .inv .walks .puts)
@@ -65,7 +89,9 @@ put-sequence-spec =
     residues-requires
     loop-holds
     put-residue-requires
-    add-p
+    add-put-letters
+    next-rank-requires
+    put-letters-requires
     loop-less
     loop-again
     same-length

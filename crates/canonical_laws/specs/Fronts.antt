@@ -1,7 +1,7 @@
 -- Whole lines: the brackets in front of a line, and the theorem over all states of the reader.
 use mathlib.Core.Path.{_≡_, refl, sym, ap, _∙_, subst}
 use mathlib.Core.Option.{Option, none, some, Option·none-ne-some}
-use mathlib.Core.Bool.{Bool, true, false, cond, true≢false, false≢true}
+use mathlib.Core.Bool.{Bool, true, false, cond, true≢false}
 use mathlib.Core.List.{List, [], _∷_, _++_, append-assoc, append-nil, map, map-append}
 use Prim.Native.Nat.{ℕ, suc, _+_, _*_, _^_, _≤_, _<_}
 use native.Mathlib.Omega.{arith}
@@ -20,6 +20,7 @@ use Rattle.scope.specs.Reading.{square, front, undecided, counted, referred, ac
 use Rattle.scope.specs.Modifications.{keep, flat}
 use Rattle.scope.specs.Canonical.{decimal, partsText, squareText, curlyText, countText, unknownText, kindCode, ofKind, closedBy, ledBy, sequenceText, canonical}
 use Rattle.basics.specs.Lists.{keep-append, flat-append}
+use Rattle.reading_laws.specs.Acts.{Ending, single-ends, ranged-ends, unsure-ends, cterms-end, ending}
 use Rattle.canonical_laws.specs.Lists.{branch, All, all-append, all-front, all-back, all-map}
 use Rattle.canonical_laws.specs.Numbers.{digit-below, decimal-length}
 use Rattle.canonical_laws.specs.Brackets.{Place, Parts}
@@ -441,28 +442,13 @@ pub record Again (n : ℕ) (m : Mode) (h : Held Place) : Type 0 where
 again : (n : ℕ) (m : Mode) (h : Held Place) → text m h ≡ canonical (lineOf h) → Written n m h → Again n m h
 again n m h e w = record { path = λ fits. ap (lineRun start) (sym e) ∙ w .path fits; short = rw (← e) (w .short) }
 
-again-end : (n : ℕ) (m : Mode) (h : Held Place) → mayEnd m ≡ true → Outside n m h → Again n m h
+again-end : (n : ℕ) (m : Mode) (h : Held Place) → Ending m → Outside n m h → Again n m h
 unfolding Outside text
-again-end n Front h e w = absurd (false≢true e)
-again-end n Undecided h e w = absurd (false≢true e)
-again-end n Counted h e w = absurd (false≢true e)
-again-end n Referred h e w = absurd (false≢true e)
-again-end n Caret h e w = absurd (false≢true e)
-again-end n Counting h e w = absurd (false≢true e)
-again-end n Labiles h e w = absurd (false≢true e)
-again-end n NTerms h e w = absurd (false≢true e)
-again-end n Start h e w = absurd (false≢true e)
-again-end n Single h e w = again n Single h (body-canonical h (w .1 .no-cterm)) (w .0)
-again-end n Opened h e w = absurd (false≢true e)
-again-end n UnsureOpened h e w = absurd (false≢true e)
-again-end n InRange h e w = absurd (false≢true e)
-again-end n InUnsure h e w = absurd (false≢true e)
-again-end n RangeEnd h e w = absurd (false≢true e)
-again-end n Ranged h e w = again n Ranged h (body-canonical h (w .1 .no-cterm)) (w .0)
-again-end n UnsureEnd h e w = again n UnsureEnd h (body-canonical h (w .1 .no-cterm)) (w .0)
-again-end n CStart h e w = absurd (false≢true e)
-again-end n CTerms h e w = again n CTerms h (cterm-canonical h (w .1)) (w .0)
+again-end n Single h single-ends w = again n Single h (body-canonical h (w .1 .no-cterm)) (w .0)
+again-end n Ranged h ranged-ends w = again n Ranged h (body-canonical h (w .1 .no-cterm)) (w .0)
+again-end n UnsureEnd h unsure-ends w = again n UnsureEnd h (body-canonical h (w .1 .no-cterm)) (w .0)
+again-end n CTerms h cterms-end w = again n CTerms h (cterm-canonical h (w .1)) (w .0)
 
 pub read-again : (s : List ℕ) (m : Mode) (h : Held Place) → lineRun start s ≡ outside m h → mayEnd m ≡ true → Again (length s) m h
 unfolding Reached
-read-again s m h e f = again-end (length s) m h f (subst (λ (z : State Place). Reached (length s) z) e (subst (λ (z : ℕ). Reached z (lineRun start s)) (let g : 0 + length s ≡ length s = omega arith in g) (reached-run s start 0 reached-start)))
+read-again s m h e f = again-end (length s) m h (ending m f) (subst (λ (z : State Place). Reached (length s) z) e (subst (λ (z : ℕ). Reached z (lineRun start s)) (let g : 0 + length s ≡ length s = omega arith in g) (reached-run s start 0 reached-start)))

@@ -4,6 +4,7 @@ use mathlib.Core.Bool.{Bool, true, false, cond, true≢false, false≢true}
 use mathlib.Core.Option.{Option, none, some}
 use mathlib.Core.List.{List, [], _∷_, _++_}
 use Rattle.scope.specs.Content.{given}
+use Rattle.reading_laws.specs.Cases.{Every}
 
 -- ---- tests
 pub branch : {A : Type 0} (t : Bool) (P : A → Type 0) (x y : A) → (t ≡ true → P x) → (t ≡ false → P y) → P (cond t x y)
@@ -16,8 +17,7 @@ branchO (some a) P x y f g = f a refl
 
 -- ---- all elements of a list
 abbrev pub All : {A : Type 0} → (A → Type 0) → List A → Type 0
-All P [] = Unit {0}
-All P (x ∷ l) = P x × All P l
+All P l = Every P l
 
 pub all-append : {A : Type 0} (P : A → Type 0) (l m : List A) → All P l → All P m → All P (l ++ m)
 all-append P [] m u v = v

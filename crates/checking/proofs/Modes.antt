@@ -18,6 +18,7 @@ use Rattle.scope.specs.declared.grammar.Act.the-variants.{Stop, Go, Residue as 
 use Rattle.scope.specs.Bytes.{isLetter, isDigit, openSquare, openCurly, openRound, shutRound, caret, question, dash}
 use Rattle.scope.specs.Line.{Part, Bracket}
 use Rattle.scope.specs.Reading.{front, element, further, groupFirst, inGroup, undecided, counted, referred, act, mayEnd, refers?, modeAfter}
+use Rattle.reading_laws.specs.Acts.{Ending, single-ends, ranged-ends, unsure-ends, cterms-end, ending}
 use Rattle.classes.specs.Runs.{span}
 use Rattle.checking.specs.Stages.{LastFresh, ModeFits}
 
@@ -148,27 +149,12 @@ act-fits UnsureEnd b = at-further UnsureEnd none-is b
 act-fits CStart b = by (ActFits CStart b) (eqb b openSquare) _ _ (λ r l f. (f, settled-fits CTerms (λ l. refl))) tt
 act-fits CTerms b = by (ActFits CTerms b) (eqb b openSquare) _ _ (λ r l f. (f, settled-fits CTerms (λ l. refl))) tt
 
-never : {A : Type 0} → false ≡ true → A
-never e = let z : _≡_ {A = ℕ} 0 1 = ap (λ t. cond t 1 0) e in absurd (omega arith)
-
 -- where a line may end no run waits
 pub ends-settled : (m : Mode) (r : List (Bracket ℕ)) (l : List ℕ) → mayEnd m ≡ true → ModeFits m r l → r ≡ []
-ends-settled Front r l e f = never e
-ends-settled Undecided r l e f = never e
-ends-settled Counted r l e f = never e
-ends-settled Referred r l e f = never e
-ends-settled Caret r l e f = never e
-ends-settled Counting r l e f = never e
-ends-settled Labiles r l e f = never e
-ends-settled NTerms r l e f = never e
-ends-settled Start r l e f = never e
-ends-settled Single r l e f = f
-ends-settled Opened r l e f = never e
-ends-settled UnsureOpened r l e f = never e
-ends-settled InRange r l e f = never e
-ends-settled InUnsure r l e f = never e
-ends-settled RangeEnd r l e f = never e
-ends-settled Ranged r l e f = f
-ends-settled UnsureEnd r l e f = f
-ends-settled CStart r l e f = never e
-ends-settled CTerms r l e f = f
+ends-settled m r l e = go (ending m e)
+  where
+    go : {m : Mode} → Ending m → ModeFits m r l → r ≡ []
+    go single-ends f = f
+    go ranged-ends f = f
+    go unsure-ends f = f
+    go cterms-end f = f

@@ -1,27 +1,24 @@
 -- A state from which an accepted line is read keeps to the limits: what it holds is held at the end too.
-use mathlib.Core.Path.{_≡_, refl, ap, ap₂, subst}
-use mathlib.Core.Bool.{false, not, _&&_}
+use mathlib.Core.Path.{_≡_, refl, sym, ap, ap₂, subst}
 use mathlib.Core.Option.{Option, none, some}
 use mathlib.Core.List.{List, [], _∷_, _++_, map}
 use Prim.Native.Nat.{ℕ, suc, _+_, _*_, _≤_}
 use native.Mathlib.Omega.{arith}
-use lib.Dec.{eqb}
 use lib.ListN.{length, length-append, length-map}
 use Rattle.scope.specs.declared.grammar.Kind.{Kind}
-use Rattle.scope.specs.declared.grammar.Kind.the-variants.{Unknown, Labile, NTerm, OnResidue, OnRange, CTerm}
 use Rattle.scope.specs.declared.grammar.Section.{Section}
-use Rattle.scope.specs.declared.grammar.Key.{Key}
 use Rattle.scope.specs.declared.grammar.Slot.{Slot}
 use Rattle.scope.specs.declared.grammar.Act.{Act}
 use Rattle.scope.specs.declared.grammar.Act.the-variants.{Stop, Go, Residue as aResidue, Begin, Digit, RunEnds, TermEnds}
-use Rattle.scope.specs.Bytes.{upper, isDigit, isAlnum, isSign, bar, hash, colon, openRound, shutRound, shutSquare}
-use Rattle.scope.specs.Keys.{keyOf, Form, massOrName, massOnly, digits, alnums, free, form, hashIsPlain}
+use Rattle.scope.specs.Bytes.{upper}
 use Rattle.scope.specs.Line.{Part, Bracket}
-use Rattle.scope.specs.Content.{given, value, digitStep, numberEnd, isPlain, textStep, none?, Context, Inner, begin, plain, keyed, inNumber, inCode, inText, hashed, inLabel, scoring, inScore, scored, Content, lost, closed, going, isReference, partEnd, valueEnd, textEnd, behindKey, colonAfter, accessionByte, nameBehind, innerStep}
-use Rattle.scope.specs.Reading.{act, Held, withResidue, withBracket, put, bracketOf, settled, waiting, times, countDigit, onLast, asNTerm, settledRun, State, dead, outside, inside, perform, resume, step, run}
+use Rattle.scope.specs.Content.{given, value, Context, Inner, Content, lost, closed, going, innerStep}
+use Rattle.scope.specs.Reading.{act, Held, withResidue, withBracket, bracketOf, settled, waiting, times, countDigit, onLast, asNTerm, settledRun, State, dead, outside, inside, perform, resume, step, run}
 use Rattle.scope.specs.Modifications.{flat}
 use Rattle.scope.specs.Tables.{packed, bracketTexts}
-use Rattle.reading_laws.specs.Cases.{branch, onGiven}
+use Rattle.reading_laws.specs.Cases.{onGiven}
+use Rattle.reading_laws.specs.Goes.{Goes, stops, goes-on, part-over, shuts, goes, contextOf, over-context, on-context}
+use Rattle.reading_laws.specs.Kept.{put-by, digit-by}
 use Rattle.layout_laws.specs.Within.{Each, OfGiven, PartWithin, BracketWithin}
 use Rattle.basics.specs.Lists.{flat-append, flat-one}
 
@@ -54,19 +51,6 @@ pub record PartsKept (h : Held ℕ) (ps : List (Part ℕ)) : Type 0 where
   pub few-parts : length ps + 1 ≤ 4
   pub parts : Each PartWithin ps
   pub texts : length (flat bracketTexts (h .brackets)) + length (flat bracketTexts (h .run)) + length (flat packed ps) ≤ 4096
-
-abbrev pub contextOf : Inner ℕ → Context ℕ
-contextOf (begin c) = c
-contextOf (plain c at t) = c
-contextOf (keyed c at k) = c
-contextOf (inNumber c at k n d) = c
-contextOf (inCode c at k t) = c
-contextOf (inText c at k t cs) = c
-contextOf (hashed c p) = c
-contextOf (inLabel c p at name) = c
-contextOf (scoring c p at name) = c
-contextOf (inScore c p at name n d) = c
-contextOf (scored c p) = c
 
 unfoldable pub StateKept : State ℕ → Type 0
 StateKept (dead p) = ⊥
@@ -147,15 +131,9 @@ module _ (h : Held ℕ) (s : Slot) (at : ℕ) where
       }
 
   pub closed-kept : (k : Kind) (ps : List (Part ℕ)) → HeldKept (withBracket k at ps h) → Closed ps
-  closed-kept k ps = go k (bracketOf k at ps h) refl
-    where
-      go : (j : Kind) (b : Bracket ℕ) → b .parts ≡ ps → HeldKept (put j b h) → Closed ps
-      go Unknown b e w = subst Closed e (waiting-kept b w)
-      go Labile b e w = subst Closed e (settled-kept b w)
-      go NTerm b e w = subst Closed e (settled-kept b w)
-      go OnResidue b e w = subst Closed e (settled-kept b w)
-      go OnRange b e w = subst Closed e (settled-kept b w)
-      go CTerm b e w = subst Closed e (settled-kept b w)
+  closed-kept k ps =
+      let x = bracketOf k at ps h in
+      put-by (λ r. HeldKept r → Closed ps) k x h (λ u. waiting-kept x) (λ u. settled-kept x)
 
   -- the parts before the last
   before : (ps : List (Part ℕ)) (p : Part ℕ) → Closed (ps ++ (p ∷ [])) → PartsKept h ps
@@ -175,71 +153,13 @@ module _ (h : Held ℕ) (s : Slot) (at : ℕ) where
   Back : Context ℕ → Content ℕ → Type 0
   Back c x = ContentKept h s at x → PartsKept h (c .parts)
 
-  none-kept : (c : Context ℕ) → Back c lost
+  goes-back : {i b : ℕ} {c : Inner ℕ} {x : Content ℕ} → Goes i b c x → Back (contextOf c) x
   unfolding Back ContentKept
-  none-kept c w = absurd w
-
-  partEnd-back : (c : Context ℕ) (p : Part ℕ) (b : ℕ) → Back c (partEnd c p b)
-  unfolding Back ContentKept partEnd
-  partEnd-back c p b =
-      branch (Back c) (eqb b (c .shut)) (λ w. before (c .parts) p (closed-kept (s .kind) (c .parts ++ (p ∷ [])) w))
-      (branch (Back c) (eqb b bar && not (isReference (p .value))) (λ w. without (c .parts) p w) (none-kept c))
-
-  valueEnd-back : (c : Context ℕ) (p : Part ℕ) (b : ℕ) → Back c (valueEnd c p b)
-  unfolding Back ContentKept valueEnd
-  valueEnd-back c p b = branch (Back c) (eqb b hash && eqb (c .shut) shutSquare) (λ w. w) (partEnd-back c p b)
-
-  textEnd-back : (c : Context ℕ) (i : ℕ) (k : Key) (t cs : List ℕ) (b : ℕ) → Back c (textEnd c i k t cs b)
-  unfolding Back ContentKept textEnd
-  textEnd-back c i k [] cs b = none-kept c
-  textEnd-back c i k (x ∷ t) [] b = valueEnd-back c _ b
-  textEnd-back c i k (x ∷ t) (o ∷ cs) b = none-kept c
-
-  behindKey-back : (c : Context ℕ) (i : ℕ) (k : Key) (q : Form) → Back c (going (behindKey c i k q))
-  unfolding Back ContentKept
-  behindKey-back c i k massOrName = λ w. w
-  behindKey-back c i k massOnly = λ w. w
-  behindKey-back c i k digits = λ w. w
-  behindKey-back c i k alnums = λ w. w
-  behindKey-back c i k free = λ w. w
-
-  colonAfter-back : (c : Context ℕ) (i : ℕ) (t : List ℕ) → Back c (going (colonAfter c i t))
-  unfolding Back ContentKept colonAfter
-  colonAfter-back c i t = onGiven (λ x. Back c (going x)) (keyOf t) (λ k e. behindKey-back c i k (form k)) (λ w. w)
-
-  nameBehind-back : (c : Context ℕ) (i : ℕ) (k : Key) (q : Form) (b : ℕ) → Back c (nameBehind c i k q b)
-  unfolding Back ContentKept
-  nameBehind-back c i k massOrName b = onGiven (Back c) (textStep false [] b) (λ cs e w. w) (none-kept c)
-  nameBehind-back c i k massOnly b = none-kept c
-  nameBehind-back c i k digits b = none-kept c
-  nameBehind-back c i k alnums b = none-kept c
-  nameBehind-back c i k free b = none-kept c
-
-  innerStep-back : (i : ℕ) (c : Inner ℕ) (b : ℕ) → Back (contextOf c) (innerStep i c b)
-  unfolding Back ContentKept innerStep
-  innerStep-back i (begin c) b =
-      branch (Back c) (isSign b) (λ w. w)
-      (branch (Back c) (isPlain b) (λ w. w)
-      (onGiven (Back c) (textStep false [] b) (λ cs e w. w)
-      (branch (Back c) (eqb b hash && c .refers && none? (c .parts)) (λ w. w) (none-kept c))))
-  innerStep-back i (plain c at t) b =
-      branch (Back c) (isPlain b) (λ w. w)
-      (branch (Back c) (eqb b colon) (colonAfter-back c at t)
-      (onGiven (Back c) (textStep false [] b) (λ cs e w. w) (valueEnd-back c _ b)))
-  innerStep-back i (keyed c at k) b = branch (Back c) (isSign b) (λ w. w) (nameBehind-back c at k (form k) b)
-  innerStep-back i (inNumber c at k n d) b =
-      onGiven (Back c) (digitStep d b) (λ d′ e w. w) (onGiven (Back c) (numberEnd n d) (λ x e. valueEnd-back c _ b) (none-kept c))
-  innerStep-back i (inCode c at k t) b = branch (Back c) (accessionByte (form k) b) (λ w. w) (textEnd-back c at k t [] b)
-  innerStep-back i (inText c at k t cs) b =
-      onGiven (Back c) (textStep (hashIsPlain (form k)) cs b) (λ cs′ e w. w) (textEnd-back c at k t cs b)
-  innerStep-back i (hashed c p) b = branch (Back c) (isAlnum b) (λ w. w) (none-kept c)
-  innerStep-back i (inLabel c p at name) b =
-      branch (Back c) (isAlnum b) (λ w. w) (branch (Back c) (eqb b openRound) (λ w. w) (partEnd-back c _ b))
-  innerStep-back i (scoring c p at name) b = branch (Back c) (isSign b) (λ w. w) (branch (Back c) (isDigit b) (λ w. w) (none-kept c))
-  innerStep-back i (inScore c p at name n d) b =
-      onGiven (Back c) (digitStep d b) (λ d′ e w. w)
-      (branch (Back c) (eqb b shutRound) (onGiven (Back c) (numberEnd n d) (λ x e w. w) (none-kept c)) (none-kept c))
-  innerStep-back i (scored c p) b = partEnd-back c p b
+  goes-back stops w = absurd w
+  goes-back (goes-on o) w = subst (λ c. PartsKept h (c .parts)) (sym (on-context o)) w
+  goes-back (part-over {c = c} {p = p} o e) w = subst (λ c. PartsKept h (c .parts)) (sym (over-context o)) (without (c .parts) p w)
+  goes-back (shuts {c = c} {p = p} o e) w =
+      subst (λ c. PartsKept h (c .parts)) (sym (over-context o)) (before (c .parts) p (closed-kept (s .kind) (c .parts ++ (p ∷ [])) w))
 
 -- ---- back over one byte outside
 residue-back : (i b : ℕ) (s : Section) (h : Held ℕ) → HeldKept (withResidue i b s h) → HeldKept h
@@ -278,11 +198,7 @@ last-back i b (k ∷ j ∷ ks) w = (w .0, last-back i b (j ∷ ks) (w .1))
 
 -- the texts do not change with the count, nor with the kind
 pub digit-parts : (i b : ℕ) (k : Bracket ℕ) → countDigit i b k .parts ≡ k .parts
-digit-parts i b k = go (k .counted)
-  where
-    go : (o : Option ℕ) → given o (λ p. times (k .count * 10 + value b) p k) (times (value b) i k) .parts ≡ k .parts
-    go none = refl
-    go (some p) = refl
+digit-parts i b k = digit-by (λ j. j .parts ≡ k .parts) i b k (λ n p. refl)
 
 pub last-texts : (i b : ℕ) (ks : List (Bracket ℕ)) → flat bracketTexts (onLast (countDigit i b) ks) ≡ flat bracketTexts ks
 unfolding onLast flat
@@ -353,7 +269,7 @@ step-back : (i : ℕ) (s : State ℕ) (b : ℕ) → StateKept (step i s b) → S
 unfolding step StateKept
 step-back i (dead p) b w = absurd w
 step-back i (outside m h) b w = perform-back i b h (act m b) w
-step-back i (inside s at h c) b w = resume-back s at i h c (innerStep i c b) (innerStep-back h s at i c b) w
+step-back i (inside s at h c) b w = resume-back s at i h c (innerStep i c b) (goes-back h s at (goes i b c)) w
 
 pub runs-back : (i : ℕ) (s : State ℕ) (l : List ℕ) → StateKept (run (λ j. j) i s l) → StateKept s
 unfolding run

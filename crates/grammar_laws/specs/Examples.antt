@@ -2,12 +2,15 @@
 use Prim.Native.Nat.{ℕ}
 use mathlib.Core.Path.{_≡_, refl}
 use mathlib.Core.Bool.{true, false}
-use mathlib.Core.Option.{none, some}
-use mathlib.Core.List.{List, [], _∷_}
+use mathlib.Core.Option.{Option, none, some}
+use mathlib.Core.List.{List, [], _∷_, map}
 use Rattle.scope.specs.declared.grammar.Key.the-variants.{NoKey, U}
 use Rattle.scope.specs.Bytes.{bytes, sameFolded, upper}
+use Rattle.scope.specs.Line.{Label, Line}
 use Rattle.scope.specs.Keys.{spell}
-use Rattle.grammar_laws.specs.Grammar.{allOf, Numeral, over, byte, square, printText, goodText, Word, leadKey, delta, wording, printPieces, goodPieces, Inside, parts, refers, Spot, single, unsure, each, every, Spelling, print, good}
+use Rattle.scope.specs.Content.{given}
+use Rattle.scope.specs.Modifications.{flat}
+use Rattle.grammar_laws.specs.Grammar.{allOf, Numeral, over, byte, square, printText, goodText, Word, leadKey, delta, wording, printPieces, goodPieces, Inside, parts, refers, Spot, single, unsure, each, along, eachAlong, every, meansPieces, bracketsOn, bracketsAlong, valueOn, Spelling, print, good, means}
 
 abbrev none-first : Word
 none-first = record { key = NoKey; spelled = [] }
@@ -67,3 +70,23 @@ nested =
 pub examples : (print zeros ≡ bytes "a[+01.50]") × (good zeros ≡ true) × (print twice ≡ bytes "[+1]^2?AC") × (good twice ≡ true) × (print nested ≡ bytes "[#a]-(?AC[u:x[|]])") × (good nested ≡ true)
 unfolding each every printPieces goodPieces printText goodText allOf leadKey sameFolded spell upper
 examples = (refl, refl, refl, refl, refl, refl)
+
+-- the places of a line's residues, of its brackets, of their parts, of the labels, and of the counts that are written
+abbrev residuePlaces : Line ℕ → List ℕ
+residuePlaces l = map (λ r. r .at) (l .residues)
+
+abbrev bracketPlaces : Line ℕ → List ℕ
+bracketPlaces l = map (λ k. k .at) (l .brackets)
+
+abbrev partPlaces : Line ℕ → List ℕ
+partPlaces l = flat (λ k. map (λ p. p .at) (k .parts)) (l .brackets)
+
+abbrev labelPlaces : Line ℕ → List ℕ
+labelPlaces l = flat (λ k. flat (λ p. given (p .label) (λ (x : Label ℕ). x .at ∷ []) []) (k .parts)) (l .brackets)
+
+abbrev countPlaces : Line ℕ → List (Option ℕ)
+countPlaces l = map (λ k. k .counted) (l .brackets)
+
+pub places : (residuePlaces (means twice) ≡ 7 ∷ 8 ∷ []) × (bracketPlaces (means twice) ≡ 0 ∷ []) × (partPlaces (means twice) ≡ 1 ∷ []) × (countPlaces (means twice) ≡ some 5 ∷ []) × (residuePlaces (means nested) ≡ 7 ∷ 8 ∷ []) × (bracketPlaces (means nested) ≡ 0 ∷ 9 ∷ []) × (partPlaces (means nested) ≡ 1 ∷ 10 ∷ []) × (labelPlaces (means nested) ≡ 2 ∷ [])
+unfolding each along eachAlong printPieces printText meansPieces bracketsOn bracketsAlong valueOn flat
+places = (refl, refl, refl, refl, refl, refl, refl, refl)

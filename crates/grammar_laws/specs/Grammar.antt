@@ -1,10 +1,11 @@
 -- The grammar of lines, apart from any reader: what may be spelled how, as trees with every freedom of spelling; the bytes that a tree prints;
--- whether it is good; and what it means, without places. Of the reader's own files it cites only the value of a digit and two tests, of an empty list
--- and of a byte of an accession.
+-- whether it is good; and what it means. Each `means..` takes the place at which its text begins, and so gives every residue, bracket, part, label,
+-- number and count its place: the number of bytes that are printed before it. Of the reader's own files it cites only the value of a digit and two
+-- tests, of an empty list and of a byte of an accession.
 use Prim.Native.Nat.{ℕ, _+_, _*_}
 use mathlib.Core.Bool.{Bool, true, false, not, cond, _&&_, _||_}
 use mathlib.Core.Option.{Option, none, some}
-use mathlib.Core.List.{List, [], _∷_, _++_, map}
+use mathlib.Core.List.{List, [], _∷_, _++_}
 use lib.Dec.{eqb}
 use lib.ListN.{length}
 use Rattle.scope.specs.declared.grammar.Key.{Key}
@@ -17,9 +18,6 @@ use Rattle.scope.specs.Bytes.{upper, isLetter, caret, question, isPrintable, is
 use Rattle.scope.specs.Line.{Number, Label, Value, mass, text, reference, Part, Bracket, Residue, Line}
 use Rattle.scope.specs.Keys.{spell, keyOf, Form, massOrName, massOnly, digits, alnums, free, form}
 use Rattle.scope.specs.Content.{value, none?, accessionByte}
-
-abbrev pub Place : Type 0
-Place = Unit {0}
 
 -- ---- lists of bytes
 -- each byte passes
@@ -64,11 +62,12 @@ fraction none = []
 fraction (some f) = f
 
 -- "A number keeps its value in millionths and its count of decimals. The sign of zero, leading zeros .. are not kept."
-abbrev pub signedBy : Bool → ℕ → ℕ → Number Place
-signedBy minus m d = record { minus = minus && not (eqb m 0); digits = m; decimals = d; at = tt }
+abbrev pub signedBy : {P : Type 0} → P → Bool → ℕ → ℕ → Number P
+signedBy i minus m d = record { minus = minus && not (eqb m 0); digits = m; decimals = d; at = i }
 
-abbrev pub meansNumeral : Bool → Numeral → Number Place
-meansNumeral minus n = signedBy minus (valueOn 0 (n .whole ++ fraction (n .behind))) (length (fraction (n .behind)))
+-- a number at the place i, "sign included"
+abbrev pub meansNumeral : {P : Type 0} → P → Bool → Numeral → Number P
+meansNumeral i minus n = signedBy i minus (valueOn 0 (n .whole ++ fraction (n .behind))) (length (fraction (n .behind)))
 
 abbrev pub signByte : Bool → ℕ
 signByte minus = cond minus dash plus
@@ -168,10 +167,11 @@ keyIn (delta w minus n) = w .key
 keyIn (code w t) = w .key
 keyIn (wording w t) = w .key
 
-abbrev pub valueIn : Base → Value Place
-valueIn (delta w minus n) = mass (meansNumeral minus n)
-valueIn (code w t) = text t
-valueIn (wording w t) = text (printText t)
+-- a mass stands behind its key
+abbrev pub valueIn : ℕ → Base → Value ℕ
+valueIn i (delta w minus n) = mass (meansNumeral (i + length (printWord w)) minus n)
+valueIn i (code w t) = text t
+valueIn i (wording w t) = text (printText t)
 
 -- ---- labels: "A label is letters and digits, then perhaps a score `(number)` with an optional sign."
 pub record Score : Type 0 where
@@ -194,9 +194,10 @@ abbrev pub goodScore : Option Score → Bool
 goodScore none = true
 goodScore (some s) = goodNumeral (s .number)
 
-abbrev pub meansScore : Option Score → Option (Number Place)
-meansScore none = none
-meansScore (some s) = some (meansNumeral (isMinus (s .sign)) (s .number))
+-- the score whose `(` is at the place i
+abbrev pub meansScore : ℕ → Option Score → Option (Number ℕ)
+meansScore i none = none
+meansScore i (some s) = some (meansNumeral (i + 1) (isMinus (s .sign)) (s .number))
 
 pub record Tag : Type 0 where
   pub name : List ℕ
@@ -210,9 +211,10 @@ abbrev pub goodTag : Option Tag → Bool
 goodTag none = true
 goodTag (some t) = someOf isAlnum (t .name) && goodScore (t .score)
 
-abbrev pub meansTag : Option Tag → Option (Label Place)
-meansTag none = none
-meansTag (some t) = some (record { name = t .name; score = meansScore (t .score); at = tt })
+-- the label whose `#` is at the place i; "first byte of the .. label text"
+abbrev pub meansTag : ℕ → Option Tag → Option (Label ℕ)
+meansTag i none = none
+meansTag i (some t) = some (record { name = t .name; score = meansScore (i + 1 + length (t .name)) (t .score); at = i + 1 })
 
 -- ---- parts
 pub record Piece : Type 0 where
@@ -236,8 +238,8 @@ tagFits free = false
 abbrev pub goodPiece : Bool → Piece → Bool
 goodPiece labels p = goodBase (p .base) && (goodTag (p .tag) && (not (there? (p .tag)) || (labels && tagFits (formIn (p .base)))))
 
-abbrev pub meansPiece : Piece → Part Place
-meansPiece p = record { key = keyIn (p .base); value = valueIn (p .base); label = meansTag (p .tag); at = tt }
+abbrev pub meansPiece : ℕ → Piece → Part ℕ
+meansPiece i p = record { key = keyIn (p .base); value = valueIn i (p .base); label = meansTag (i + length (printBase (p .base))) (p .tag); at = i }
 
 -- ---- brackets: "A bracket is parts split by `|`, none empty, or a lone reference `#label`."
 unfoldable pub printPieces : Piece → List Piece → List ℕ
@@ -247,6 +249,11 @@ printPieces p (q ∷ ps) = printPiece p ++ (bar ∷ printPieces q ps)
 unfoldable pub goodPieces : Bool → Piece → List Piece → Bool
 goodPieces labels p [] = goodPiece labels p
 goodPieces labels p (q ∷ ps) = goodPiece labels p && goodPieces labels q ps
+
+-- each part behind the `|` of the one before it
+unfoldable pub meansPieces : ℕ → Piece → List Piece → List (Part ℕ)
+meansPieces i p [] = meansPiece i p ∷ []
+meansPieces i p (q ∷ ps) = meansPiece i p ∷ meansPieces (i + length (printPiece p) + 1) q ps
 
 pub data Inside : Type 0 where
   parts : Piece → List Piece → Inside
@@ -261,13 +268,13 @@ abbrev pub goodInside : ℕ → Bool → Inside → Bool
 goodInside shut references (parts p ps) = goodPieces (eqb shut shutSquare) p ps
 goodInside shut references (refers t) = references && goodTag (some t)
 
--- a reference is its bracket's only part, with a label and nothing else
-abbrev pub meansReference : Tag → Part Place
-meansReference t = record { key = NoKey; value = reference; label = meansTag (some t); at = tt }
+-- a reference is its bracket's only part, with a label and nothing else, at the place of its `#`
+abbrev pub meansReference : ℕ → Tag → Part ℕ
+meansReference i t = record { key = NoKey; value = reference; label = meansTag i (some t); at = i }
 
-abbrev pub meansInside : Inside → List (Part Place)
-meansInside (parts p ps) = map meansPiece (p ∷ ps)
-meansInside (refers t) = meansReference t ∷ []
+abbrev pub meansInside : ℕ → Inside → List (Part ℕ)
+meansInside i (parts p ps) = meansPieces i p ps
+meansInside i (refers t) = meansReference i t ∷ []
 
 -- ---- brackets in a line
 abbrev pub printSquare : Inside → List ℕ
@@ -280,6 +287,16 @@ printCurly x = openCurly ∷ (printInside x ++ (shutCurly ∷ []))
 unfoldable pub each : {A B : Type 0} → (A → List B) → List A → List B
 each f [] = []
 each f (x ∷ l) = f x ++ each f l
+
+-- what all elements mean, in order, the first at the place i and each behind the text of the one before it
+unfoldable pub along : {A B : Type 0} → (A → List ℕ) → (ℕ → A → B) → ℕ → List A → List B
+along prints f i [] = []
+along prints f i (x ∷ l) = f i x ∷ along prints f (i + length (prints x)) l
+
+-- the same where each means several things
+unfoldable pub eachAlong : {A B : Type 0} → (A → List ℕ) → (ℕ → A → List B) → ℕ → List A → List B
+eachAlong prints f i [] = []
+eachAlong prints f i (x ∷ l) = f i x ++ eachAlong prints f (i + length (prints x)) l
 
 unfoldable pub every : {A : Type 0} → (A → Bool) → List A → Bool
 every f [] = true
@@ -295,8 +312,12 @@ goodSquares references xs = every (goodInside shutSquare references) xs
 abbrev pub goodCurlies : List Inside → Bool
 goodCurlies xs = every (goodInside shutCurly false) xs
 
-abbrev pub bracketAt : Kind → ℕ → ℕ → Inside → Bracket Place
-bracketAt k first last x = record { kind = k; first = first; last = last; count = 1; counted = none; parts = meansInside x; at = tt }
+-- a bracket on the positions first to last; its `[` or `{` is at the place i
+abbrev pub bracketAt : Kind → ℕ → ℕ → ℕ → Inside → Bracket ℕ
+bracketAt k first last i x = record { kind = k; first = first; last = last; count = 1; counted = none; parts = meansInside (i + 1) x; at = i }
+
+abbrev pub meansSquares : Kind → ℕ → ℕ → ℕ → List Inside → List (Bracket ℕ)
+meansSquares k first last i xs = along printSquare (bracketAt k first last) i xs
 
 -- ---- "runs of unknown-position brackets, each run closed by `?`, each bracket perhaps with `^` and a count"
 pub record Marked : Type 0 where
@@ -317,13 +338,14 @@ printMarked m = printSquare (m .inside) ++ printCount (m .count)
 abbrev pub goodMarked : Marked → Bool
 goodMarked m = goodInside shutSquare false (m .inside) && goodCount (m .count)
 
--- a count that is written is noted; the tables do not keep whether it was
-abbrev pub counting : Option (List ℕ) → Bracket Place → Bracket Place
-counting none k = k
-counting (some ds) k = record { kind = k .kind; first = k .first; last = k .last; count = valueOn 0 ds; counted = some tt; parts = k .parts; at = tt }
+-- a count that is written is noted, "`^1` too", with the place of its first digit; i is that of `^`. The tables do not keep whether it was written.
+abbrev pub counting : ℕ → Option (List ℕ) → Bracket ℕ → Bracket ℕ
+counting i none k = k
+counting i (some ds) k =
+    record { kind = k .kind; first = k .first; last = k .last; count = valueOn 0 ds; counted = some (i + 1); parts = k .parts; at = k .at }
 
-abbrev pub meansMarked : Marked → Bracket Place
-meansMarked m = counting (m .count) (bracketAt Unknown 0 0 (m .inside))
+abbrev pub meansMarked : ℕ → Marked → Bracket ℕ
+meansMarked i m = counting (i + length (printSquare (m .inside))) (m .count) (bracketAt Unknown 0 0 i (m .inside))
 
 pub record Run : Type 0 where
   pub first : Marked
@@ -338,8 +360,8 @@ printRun r = each printMarked (marks r) ++ (question ∷ [])
 abbrev pub goodRun : Run → Bool
 goodRun r = every goodMarked (marks r)
 
-abbrev pub meansRun : Run → List (Bracket Place)
-meansRun r = map meansMarked (marks r)
+abbrev pub meansRun : ℕ → Run → List (Bracket ℕ)
+meansRun i r = along printMarked meansMarked i (marks r)
 
 -- ---- "The sequence is one or more of: a residue with its brackets; `(` residues with their brackets `)` followed by at least one bracket (a range);
 -- `(?` residues with their brackets `)`. Ranges don't nest."
@@ -370,28 +392,35 @@ goodElement (range s ss x xs) = every goodSpot (s ∷ ss) && goodSquares false (
 goodElement (unsure s ss) = every goodSpot (s ∷ ss)
 
 -- "residues in upper case with their section"
-abbrev pub residueOf : Section → Spot → Residue Place
-residueOf c s = record { letter = upper (s .letter); section = c; at = tt }
+abbrev pub residueOf : Section → ℕ → Spot → Residue ℕ
+residueOf c i s = record { letter = upper (s .letter); section = c; at = i }
 
-abbrev pub residuesIn : Element → List (Residue Place)
-residuesIn (single s) = residueOf Plain s ∷ []
-residuesIn (range s ss x xs) = residueOf RangeFirst s ∷ map (residueOf RangeNext) ss
-residuesIn (unsure s ss) = residueOf UnsureFirst s ∷ map (residueOf UnsureNext) ss
+-- the residues of a group, the first of which is at the place i
+abbrev pub residuesOn : Section → Section → ℕ → Spot → List Spot → List (Residue ℕ)
+residuesOn first next i s ss = residueOf first i s ∷ along printSpot (residueOf next) (i + length (printSpot s)) ss
 
--- the brackets on residues, the first of which stands at the position i
-unfoldable pub bracketsOn : ℕ → List Spot → List (Bracket Place)
-bracketsOn i [] = []
-bracketsOn i (s ∷ ss) = map (bracketAt OnResidue i i) (s .brackets) ++ bracketsOn (i + 1) ss
+-- a group stands behind `(` or `(?`
+abbrev pub residuesIn : ℕ → Element → List (Residue ℕ)
+residuesIn i (single s) = residueOf Plain i s ∷ []
+residuesIn i (range s ss x xs) = residuesOn RangeFirst RangeNext (i + 1) s ss
+residuesIn i (unsure s ss) = residuesOn UnsureFirst UnsureNext (i + 1 + 1) s ss
 
--- the brackets of an element behind n residues
-abbrev pub bracketsIn : ℕ → Element → List (Bracket Place)
-bracketsIn n (single s) = bracketsOn (n + 1) (s ∷ [])
-bracketsIn n (range s ss x xs) = bracketsOn (n + 1) (s ∷ ss) ++ map (bracketAt OnRange (n + 1) (n + 1 + length ss)) (x ∷ xs)
-bracketsIn n (unsure s ss) = bracketsOn (n + 1) (s ∷ ss)
+-- the brackets on residues, the first of which stands at the position n and at the place i
+unfoldable pub bracketsOn : ℕ → ℕ → List Spot → List (Bracket ℕ)
+bracketsOn n i [] = []
+bracketsOn n i (s ∷ ss) = meansSquares OnResidue n n (i + 1) (s .brackets) ++ bracketsOn (n + 1) (i + length (printSpot s)) ss
 
-unfoldable pub bracketsAlong : ℕ → List Element → List (Bracket Place)
-bracketsAlong n [] = []
-bracketsAlong n (e ∷ es) = bracketsIn n e ++ bracketsAlong (n + length (residuesIn e)) es
+-- the brackets of an element behind n residues, at the place i; those of a range stand behind its `)`
+abbrev pub bracketsIn : ℕ → ℕ → Element → List (Bracket ℕ)
+bracketsIn n i (single s) = bracketsOn (n + 1) i (s ∷ [])
+bracketsIn n i (range s ss x xs) =
+    bracketsOn (n + 1) (i + 1) (s ∷ ss)
+    ++ meansSquares OnRange (n + 1) (n + 1 + length ss) (i + 1 + length (each printSpot (s ∷ ss)) + 1) (x ∷ xs)
+bracketsIn n i (unsure s ss) = bracketsOn (n + 1) (i + 1 + 1) (s ∷ ss)
+
+unfoldable pub bracketsAlong : ℕ → ℕ → List Element → List (Bracket ℕ)
+bracketsAlong n i [] = []
+bracketsAlong n i (e ∷ es) = bracketsIn n i e ++ bracketsAlong (n + length (residuesIn i e)) (i + length (printElement e)) es
 
 -- ---- "A line has this order: runs of unknown-position brackets ..; labile `{..}`; N-terminal brackets and `-`; the sequence; `-` and C-terminal
 -- brackets. All but the sequence may be missing."
@@ -420,16 +449,37 @@ print t = each printRun (t .runs) ++ (each printCurly (t .labiles) ++ (printFron
 abbrev pub good : Spelling → Bool
 good t = every goodRun (t .runs) && (goodCurlies (t .labiles) && (goodSquares true (t .front) && (every goodElement (elements t) && goodSquares true (t .back))))
 
-abbrev pub residuesOf : Spelling → List (Residue Place)
-residuesOf t = each residuesIn (elements t)
+-- of a line that begins at the place i: where its labile brackets, its N-terminal ones, its sequence, and what stands behind it begin
+abbrev pub atLabiles : ℕ → Spelling → ℕ
+atLabiles i t = i + length (each printRun (t .runs))
 
-abbrev pub means : Spelling → Line Place
-means t =
+abbrev pub atFront : ℕ → Spelling → ℕ
+atFront i t = atLabiles i t + length (each printCurly (t .labiles))
+
+abbrev pub atSequence : ℕ → Spelling → ℕ
+atSequence i t = atFront i t + length (printFront (t .front))
+
+abbrev pub atBack : ℕ → Spelling → ℕ
+atBack i t = atSequence i t + length (each printElement (elements t))
+
+abbrev pub residuesOf : ℕ → Spelling → List (Residue ℕ)
+residuesOf i t = eachAlong printElement residuesIn (atSequence i t) (elements t)
+
+-- the C-terminal brackets stand behind their `-`, at the position behind the last residue
+abbrev pub backOf : ℕ → Spelling → List (Bracket ℕ)
+backOf i t = meansSquares CTerm (length (residuesOf i t) + 1) (length (residuesOf i t) + 1) (atBack i t + 1) (t .back)
+
+abbrev pub meansAt : ℕ → Spelling → Line ℕ
+meansAt i t =
     record {
-      residues = residuesOf t;
+      residues = residuesOf i t;
       brackets =
-          each meansRun (t .runs)
-          ++ (map (bracketAt Labile 0 0) (t .labiles)
-          ++ (map (bracketAt NTerm 0 0) (t .front)
-          ++ (bracketsAlong 0 (elements t) ++ map (bracketAt CTerm (length (residuesOf t) + 1) (length (residuesOf t) + 1)) (t .back))));
+          eachAlong printRun meansRun i (t .runs)
+          ++ (along printCurly (bracketAt Labile 0 0) (atLabiles i t) (t .labiles)
+          ++ (meansSquares NTerm 0 0 (atFront i t) (t .front)
+          ++ (bracketsAlong 0 (atSequence i t) (elements t) ++ backOf i t)));
     }
+
+-- what a line means by itself
+abbrev pub means : Spelling → Line ℕ
+means t = meansAt 0 t

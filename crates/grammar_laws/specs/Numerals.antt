@@ -14,7 +14,7 @@ use Rattle.scope.specs.Content.{Digits, signed, whole, pointed, broken, value, 
 use Rattle.canonical_laws.specs.Lists.{branch, pick-true, pick-false}
 use Rattle.canonical_laws.specs.Numbers.{digitRun, run-append, run-cons, allRead}
 use Rattle.basics.specs.Tests.{and-left, and-right, both}
-use Rattle.grammar_laws.specs.Grammar.{Place, allOf, someOf, Numeral, printBehind, printNumeral, goodBehind, goodNumeral, valueOn, fraction, signedBy, meansNumeral}
+use Rattle.grammar_laws.specs.Grammar.{allOf, someOf, Numeral, printBehind, printNumeral, goodBehind, goodNumeral, valueOn, fraction, signedBy, meansNumeral}
 use Rattle.grammar_laws.specs.Lists.{all-nil, some-snoc, some-all, value-append, value-snoc, value-one}
 
 run-nil : (d : Digits) → digitRun d [] ≡ some d
@@ -94,11 +94,11 @@ numeral-run s n e = go (n .behind) (and-right (someOf isDigit (n .whole)) (goodB
         ∙ point-run s (valueOn 0 a) f g
         ∙ ap (λ z. some (allRead s z (length f))) (sym (value-append 0 a f))
 
-pub numeral-end : (s : Bool) (n : Numeral) → numberEnd tt (readAs s n) ≡ some (meansNumeral s n)
+pub numeral-end : {P : Type 0} (i : P) (s : Bool) (n : Numeral) → numberEnd i (readAs s n) ≡ some (meansNumeral i s n)
 unfolding numberEnd allRead
-numeral-end s n = go (length (fraction (n .behind)))
+numeral-end i s n = go (length (fraction (n .behind)))
   where
-    go : (d : ℕ) → numberEnd tt (allRead s (valueOn 0 (n .whole ++ fraction (n .behind))) d) ≡ some (signedBy s (valueOn 0 (n .whole ++ fraction (n .behind))) d)
+    go : (d : ℕ) → numberEnd i (allRead s (valueOn 0 (n .whole ++ fraction (n .behind))) d) ≡ some (signedBy i s (valueOn 0 (n .whole ++ fraction (n .behind))) d)
     go zero = refl
     go (suc d) = refl
 
@@ -186,27 +186,27 @@ pub so-first : (b : ℕ) → isDigit b ≡ true → SoFar false (whole false (va
 so-first b e = (refl, record { some = some-snoc isDigit [] b (all-nil isDigit) e; is = value-one b })
 
 -- a number that is read is spelled
-pub record Spelt (s : Bool) (x : Number Place) (w : List ℕ) : Type 0 where
+pub record Spelt {P : Type 0} (i : P) (s : Bool) (x : Number P) (w : List ℕ) : Type 0 where
   pub numeral : Numeral
   pub good : goodNumeral numeral ≡ true
   pub prints : w ≡ printNumeral numeral
-  pub means : x ≡ meansNumeral s numeral
+  pub means : x ≡ meansNumeral i s numeral
 
-pub so-ended : (s : Bool) (d : Digits) (x : Number Place) (w : List ℕ) → SoFar s d w → numberEnd tt d ≡ some x → Spelt s x w
+pub so-ended : {P : Type 0} (i : P) (s : Bool) (d : Digits) (x : Number P) (w : List ℕ) → SoFar s d w → numberEnd i d ≡ some x → Spelt i s x w
 unfolding numberEnd
-so-ended s (signed t) x w f e = absurd (Option·none-ne-some x e)
-so-ended s (whole t m) x w f e =
+so-ended i s (signed t) x w f e = absurd (Option·none-ne-some x e)
+so-ended i s (whole t m) x w f e =
     record {
       numeral = record { whole = w; behind = none };
       good = both (someOf isDigit w) true (f .1 .some) refl;
       prints = sym (append-nil w);
-      means = sym (Option·some-injective _ x e) ∙ ap (λ z. signedBy z m 0) (f .0) ∙ ap (λ z. signedBy s z 0) (f .1 .is ∙ ap (valueOn 0) (sym (append-nil w)));
+      means = sym (Option·some-injective _ x e) ∙ ap (λ z. signedBy i z m 0) (f .0) ∙ ap (λ z. signedBy i s z 0) (f .1 .is ∙ ap (valueOn 0) (sym (append-nil w)));
     }
-so-ended s (pointed t m) x w f e = absurd (Option·none-ne-some x e)
-so-ended s (broken t m d) x w f e =
+so-ended i s (pointed t m) x w f e = absurd (Option·none-ne-some x e)
+so-ended i s (broken t m d) x w f e =
     record {
       numeral = record { whole = f .1 .front; behind = some (f .1 .behind) };
       good = both (someOf isDigit (f .1 .front)) (someOf isDigit (f .1 .behind)) (f .1 .some-front) (f .1 .some-behind);
       prints = f .1 .all;
-      means = sym (Option·some-injective _ x e) ∙ ap (λ z. signedBy z m d) (f .0) ∙ ap (λ z. signedBy s z d) (f .1 .is) ∙ ap (signedBy s _) (f .1 .places);
+      means = sym (Option·some-injective _ x e) ∙ ap (λ z. signedBy i z m d) (f .0) ∙ ap (λ z. signedBy i s z d) (f .1 .is) ∙ ap (signedBy i s _) (f .1 .places);
     }

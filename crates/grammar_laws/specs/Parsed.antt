@@ -21,11 +21,12 @@ use Rattle.scope.specs.Bytes.{isLetter, isDigit, openSquare, shutSquare, openCu
 use Rattle.scope.specs.Content.{begin, Inner, Content, lost, closed, going, innerStep}
 use Rattle.scope.specs.Reading.{square, front, labile, element, further, groupFirst, inGroup, undecided, counted, referred, act, mayEnd, Held, withResidue, withBracket, withDigit, asNTerm, settledRun, State, dead, outside, inside, perform, refers?, modeAfter, resume, step, start, lineOf}
 use Rattle.reading_laws.specs.Run.{told}
-use Rattle.canonical_laws.specs.Brackets.{Place, Parts, context, contentRun}
+use Rattle.canonical_laws.specs.Brackets.{Place, Parts, context, contentStep, contentRun}
 use Rattle.canonical_laws.specs.Runs.{lineRun, line-nil, line-cons, same-mode}
 use Rattle.basics.specs.Tests.{both}
-use Rattle.grammar_laws.specs.Grammar.{there?, allOf, someOf, Inside, parts, refers, printInside, goodInside, meansInside, printSquare, printCurly, each, every, printSquares, goodSquares, goodCurlies, Marked, printCount, goodCount, printMarked, goodMarked, Run, printRun, goodRun, Spot, Element, single, range, unsure, printSpot, printElement, goodSpot, goodElement, Spelling, elements, printFront, printBack, print, good}
-use Rattle.grammar_laws.specs.Printed.{content-cons}
+use Rattle.reading_laws.specs.Acts.{Ending, single-ends, ranged-ends, unsure-ends, cterms-end, ending}
+use Rattle.grammar_laws.specs.Grammar.{there?, allOf, someOf, Inside, parts, refers, printInside, goodInside, printSquare, printCurly, each, every, printSquares, goodSquares, goodCurlies, Marked, printCount, goodCount, printMarked, goodMarked, Run, printRun, goodRun, Spot, Element, single, range, unsure, printSpot, printElement, goodSpot, goodElement, Spelling, elements, printFront, printBack, print, good}
+use Rattle.grammar_laws.specs.Bare.{bareInside}
 use Rattle.grammar_laws.specs.Spelled.{closed-spelled}
 
 -- ---- what is left of a line, by the mode in which it is left
@@ -150,7 +151,7 @@ record Taken (s : Slot) (l : List ℕ) : Type 0 where
   pub good : goodInside (s .shut) (s .refers) tree ≡ true
   pub rest : List ℕ
   pub all : l ≡ (printInside tree ++ (s .shut ∷ [])) ++ rest
-  pub then : Left (modeAfter s (meansInside tree)) rest
+  pub then : Left (modeAfter s (bareInside tree)) rest
 
 After : Act → List ℕ → Type 0
 After Stop l = ⊥
@@ -218,7 +219,7 @@ some-squares r T b x l v e g a w =
 
 -- a bracket whose mode does not ask for a reference
 same-left : (k : Kind) (r : Bool) (m : Mode) (l : List ℕ) (w : Taken (square k r m) l) → Left m (w .rest)
-same-left k r m l w = subst (λ (z : Mode). Left z (w .rest)) (same-mode (meansInside (w .tree)) m) (w .then)
+same-left k r m l w = subst (λ (z : Mode). Left z (w .rest)) (same-mode (bareInside (w .tree)) m) (w .then)
 
 -- ---- elements
 element-left : (b : ℕ) (l : List ℕ) → After (element b) l → Sequence (b ∷ l)
@@ -413,7 +414,7 @@ fronted b x l v e g a w =
 
 curly-cons : (b : ℕ) (l : List ℕ) → b ≡ openCurly → Taken labile l → Curlies (b ∷ l)
 curly-cons b l e w =
-    let c : Curlies (w .rest) = subst (λ (z : Mode). Left z (w .rest)) (same-mode (meansInside (w .tree)) Labiles) (w .then) in
+    let c : Curlies (w .rest) = subst (λ (z : Mode). Left z (w .rest)) (same-mode (bareInside (w .tree)) Labiles) (w .then) in
     record {
       labiles = w .tree ∷ c .labiles;
       good = every-cons (goodInside shutCurly false) (w .tree) (c .labiles) (w .good) (c .good);
@@ -481,7 +482,7 @@ caret-left b l a =
     (λ e w. absurd w)
 
 -- ---- the front
-no-tag : (x : Inside) → refers? (meansInside x) ≡ false → goodInside shutSquare true x ≡ true → goodInside shutSquare false x ≡ true
+no-tag : (x : Inside) → refers? (bareInside x) ≡ false → goodInside shutSquare true x ≡ true → goodInside shutSquare false x ≡ true
 no-tag (parts p ps) e g = g
 no-tag (refers t) e g = absurd (true≢false e)
 
@@ -491,13 +492,13 @@ pub data Opening (b : ℕ) (l : List ℕ) : Type 0 where
   as-front : (x : Inside) (v : List ℕ) → goodInside shutSquare true x ≡ true → l ≡ (printInside x ++ (shutSquare ∷ [])) ++ v → Squares true Dashed v → Opening b l
 
 opening : (b : ℕ) (l : List ℕ) → b ≡ openSquare → Taken front l → Opening b l
-opening b l e w = go (refers? (meansInside (w .tree))) refl (w .then)
+opening b l e w = go (refers? (bareInside (w .tree))) refl (w .then)
   where
-    either : refers? (meansInside (w .tree)) ≡ false → Either (w .rest) → Opening b l
+    either : refers? (bareInside (w .tree)) ≡ false → Either (w .rest) → Opening b l
     either f (in-run c) = as-run (mark-cons b (w .tree) l (w .rest) e (no-tag (w .tree) f (w .good)) (w .all) c)
     either f (in-front s) = as-front (w .tree) (w .rest) (w .good) (w .all) s
 
-    go : (t : Bool) → refers? (meansInside (w .tree)) ≡ t → Left (cond t Referred Undecided) (w .rest) → Opening b l
+    go : (t : Bool) → refers? (bareInside (w .tree)) ≡ t → Left (cond t Referred Undecided) (w .rest) → Opening b l
     go true f s = as-front (w .tree) (w .rest) (w .good) (w .all) s
     go false f s = either f s
 
@@ -587,26 +588,11 @@ left-cons CTerms b l a = cterms-left b l a
 no-tail : Tail []
 no-tail = record { elems = []; good = every-nil goodElement; back = []; good-back = every-nil (goodInside shutSquare true); all = each-none printElement [] }
 
-left-nil : (m : Mode) → mayEnd m ≡ true → Left m []
-left-nil Front e = absurd (false≢true e)
-left-nil Undecided e = absurd (false≢true e)
-left-nil Counted e = absurd (false≢true e)
-left-nil Referred e = absurd (false≢true e)
-left-nil Caret e = absurd (false≢true e)
-left-nil Counting e = absurd (false≢true e)
-left-nil Labiles e = absurd (false≢true e)
-left-nil NTerms e = absurd (false≢true e)
-left-nil Start e = absurd (false≢true e)
-left-nil Single e = no-squares true Tail [] no-tail
-left-nil Opened e = absurd (false≢true e)
-left-nil UnsureOpened e = absurd (false≢true e)
-left-nil InRange e = absurd (false≢true e)
-left-nil InUnsure e = absurd (false≢true e)
-left-nil RangeEnd e = absurd (false≢true e)
-left-nil Ranged e = no-squares false Tail [] no-tail
-left-nil UnsureEnd e = no-tail
-left-nil CStart e = absurd (false≢true e)
-left-nil CTerms e = no-squares true Empty [] refl
+left-nil : (m : Mode) → Ending m → Left m []
+left-nil Single single-ends = no-squares true Tail [] no-tail
+left-nil Ranged ranged-ends = no-squares false Tail [] no-tail
+left-nil UnsureEnd unsure-ends = no-tail
+left-nil CTerms cterms-end = no-squares true Empty [] refl
 
 -- ---- a line that is accepted from a state on
 abbrev Accepts : State Place → List ℕ → Type 0
@@ -626,6 +612,10 @@ ends m h e = go (mayEnd m) (ap (λ s. there? (told s)) (sym (line-nil (outside m
     go : (t : Bool) → there? (cond t (some (lineOf h)) none) ≡ true → t ≡ true
     go true f = refl
     go false f = absurd (false≢true f)
+
+content-cons : (s : Inner Place) (b : ℕ) (l : List ℕ) → contentRun (going s) (b ∷ l) ≡ contentRun (innerStep tt s b) l
+unfolding contentRun contentStep
+content-cons s b l = refl
 
 run-nil : (x : Content Place) → contentRun x [] ≡ x
 unfolding contentRun
@@ -679,12 +669,12 @@ after n ih RunEnds h b l k e = ih Front (settledRun (λ q. q) h) l k e
 after n ih TermEnds h b l k e = ih Start (settledRun asNTerm h) l k e
 
 none-left : Upto 0
-none-left m h [] k e = left-nil m (ends m h e)
+none-left m h [] k e = left-nil m (ending m (ends m h e))
 none-left m h (b ∷ l) k e = absurd (omega arith)
 
 one-more : (n : ℕ) → Upto n → Upto (suc n)
 unfolding step
-one-more n ih m h [] k e = left-nil m (ends m h e)
+one-more n ih m h [] k e = left-nil m (ending m (ends m h e))
 one-more n ih m h (b ∷ l) k e = left-cons m b l (after n ih (act m b) h b l (omega arith) (ap (λ z. there? (told z)) (sym (line-cons (outside m h) b l)) ∙ e))
 
 left : (n : ℕ) → Upto n

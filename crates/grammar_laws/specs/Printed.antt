@@ -1,11 +1,13 @@
 -- From trees to the reader: the bytes that the inside of a good bracket prints are read to what it means.
-use Prim.Native.Nat.{ℕ, _≤_}
+use Prim.Native.Nat.{ℕ, suc, _+_, _≤_}
 use native.Mathlib.Omega.{arith}
 use mathlib.Core.Path.{_≡_, refl, sym, ap, _∙_, subst}
 use mathlib.Core.Bool.{Bool, true, false, not, _&&_, _||_, true≢false, false≢true}
 use mathlib.Core.Option.{Option, none, some, Option·some-injective, Option·none-ne-some}
-use mathlib.Core.List.{List, [], _∷_, _++_, map, append-assoc, append-nil}
+use mathlib.Core.List.{List, [], _∷_, _++_, append-assoc, append-nil}
+use native.Mathlib.Nat.{add-zero}
 use lib.Dec.{eqb, leb}
+use lib.ListN.{length, length-append}
 use borrow.Author.Tests.{eqb-true, eq-eqb, ne-eqb, leb-true, le-leb}
 use Rattle.scope.specs.declared.grammar.Key.{Key}
 use Rattle.scope.specs.declared.grammar.Key.the-variants.{NoKey}
@@ -15,33 +17,13 @@ use Rattle.scope.specs.Keys.{spell, keyOf, Form, massOrName, massOnly, digits, 
 use Rattle.scope.specs.Content.{given, Digits, signed, whole, value, digitStep, numberEnd, isPlain, textStep, Context, Inner, begin, plain, keyed, inNumber, inCode, inText, hashed, inLabel, scoring, inScore, scored, Content, closed, going, with, unlabelled, labelled, isReference, partEnd, valueEnd, textEnd, behindKey, colonAfter, accessionByte, nameBehind, none?, innerStep}
 use Rattle.canonical_laws.specs.Lists.{pick-true, pick-false, pick-some, pick-none}
 use Rattle.canonical_laws.specs.Numbers.{digitRun, run-cons}
-use Rattle.canonical_laws.specs.Brackets.{Place, context, contentStep, contentRun, content-append}
 use Rattle.basics.specs.Tests.{and-left, and-right}
-use Rattle.grammar_laws.specs.Grammar.{allOf, someOf, there?, Numeral, printNumeral, goodNumeral, goodBehind, printBehind, meansNumeral, signByte, Text, printText, goodText, outerByte, goodWord, withColon, leadKey, firstSign, keyless, Base, delta, code, wording, printBase, takesMass, goodWording, goodBase, keyIn, valueIn, Score, printSign, isMinus, printScore, goodScore, meansScore, Tag, printTag, goodTag, meansTag, Piece, printPiece, formIn, tagFits, goodPiece, meansPiece, printPieces, goodPieces, Inside, parts, refers, printInside, goodInside, meansInside}
+use Rattle.grammar_laws.specs.Grammar.{allOf, someOf, there?, Numeral, printNumeral, goodNumeral, goodBehind, printBehind, meansNumeral, signByte, Text, printText, goodText, outerByte, goodWord, withColon, leadKey, firstSign, keyless, Base, delta, code, wording, printBase, takesMass, goodWording, goodBase, keyIn, valueIn, Score, printSign, isMinus, printScore, goodScore, meansScore, Tag, printTag, goodTag, meansTag, Piece, printPiece, formIn, tagFits, goodPiece, meansPiece, printPieces, goodPieces, meansPieces, Inside, parts, refers, printInside, goodInside, meansInside}
 use Rattle.grammar_laws.specs.Lists.{no}
+use Rattle.grammar_laws.specs.Runs.{context, notedStep, notedRun, content-one, then, onward}
 use Rattle.grammar_laws.specs.Numerals.{readAs, numeral-run, numeral-end, numeral-stops}
 use Rattle.grammar_laws.specs.Texts.{textRun, outer, outer-run}
 use Rattle.grammar_laws.specs.Words.{word-key, word-none, key-letters, no-key}
-
-pub content-cons : (s : Inner Place) (b : ℕ) (l : List ℕ) → contentRun (going s) (b ∷ l) ≡ contentRun (innerStep tt s b) l
-unfolding contentRun contentStep
-content-cons s b l = refl
-
-content-nil : (x : Content Place) → contentRun x [] ≡ x
-unfolding contentRun
-content-nil x = refl
-
-content-one : (s : Inner Place) (b : ℕ) → contentRun (going s) (b ∷ []) ≡ innerStep tt s b
-unfolding contentRun contentStep
-content-one s b = refl
-
--- one byte, and those behind it
-then : (s s′ : Inner Place) (b : ℕ) (l : List ℕ) (x : Content Place) → innerStep tt s b ≡ going s′ → contentRun (going s′) l ≡ x → contentRun (going s) (b ∷ l) ≡ x
-then s s′ b l x e f = content-cons s b l ∙ ap (λ z. contentRun z l) e ∙ f
-
--- bytes, and those behind them
-onward : (s s′ : Inner Place) (l m : List ℕ) (x : Content Place) → contentRun (going s) l ≡ going s′ → contentRun (going s′) m ≡ x → contentRun (going s) (l ++ m) ≡ x
-onward s s′ l m x e f = content-append l m (going s) ∙ ap (λ z. contentRun z m) e ∙ f
 
 -- ---- the bytes that end a part, and those that end what it says
 abbrev pub closes : ℕ → Bool
@@ -141,73 +123,77 @@ colon-stays b q = pick-true (outer false b) _ _ (ap (λ z. isPlain b || z || fal
 plain-colon : (b : ℕ) → isPlain b ≡ true → eqb b colon ≡ false
 plain-colon b e = no (eqb b colon) (and-right (isPrintable b && not (isOpening b) && not (isShutting b) && not (eqb b bar) && not (eqb b hash)) (not (eqb b colon)) e)
 
--- ---- runs within a state
-module _ (c : Context Place) where
-  in-number : (k : Key) (l : List ℕ) (d d′ : Digits) → digitRun d l ≡ some d′ → contentRun (going (inNumber c tt k tt d)) l ≡ going (inNumber c tt k tt d′)
-  unfolding contentRun contentStep digitRun innerStep
-  in-number k [] d d′ e = ap (λ z. going (inNumber c tt k tt z)) (Option·some-injective d d′ e)
-  in-number k (b ∷ l) d d′ e = go (digitStep d b) refl (λ m h. in-number k l m d′ h) e
-    where
-      go : (o : Option Digits) → digitStep d b ≡ o → ((m : Digits) → digitRun m l ≡ some d′ → contentRun (going (inNumber c tt k tt m)) l ≡ going (inNumber c tt k tt d′))
-          → given o (λ m. digitRun m l) none ≡ some d′ → contentRun (innerStep tt (inNumber c tt k tt d) b) l ≡ going (inNumber c tt k tt d′)
-      go none f ih e = absurd (Option·none-ne-some d′ e)
-      go (some m) f ih e = ap (λ z. contentRun z l) (rw (f, innerStep)) ∙ ih m e
+-- behind one byte more
+snoc-place : (i : ℕ) (l : List ℕ) (b : ℕ) → i + length (l ++ (b ∷ [])) ≡ i + length l + 1
+snoc-place i l b = let e : length (l ++ (b ∷ [])) ≡ length l + 1 = length-append l (b ∷ []) in omega (arith, e)
 
-  in-score : (p : Part Place) (name : List ℕ) (l : List ℕ) (d d′ : Digits) → digitRun d l ≡ some d′ → contentRun (going (inScore c p tt name tt d)) l ≡ going (inScore c p tt name tt d′)
-  unfolding contentRun contentStep digitRun innerStep
-  in-score p name [] d d′ e = ap (λ z. going (inScore c p tt name tt z)) (Option·some-injective d d′ e)
-  in-score p name (b ∷ l) d d′ e = go (digitStep d b) refl (λ m h. in-score p name l m d′ h) e
+-- ---- runs within a state: i is the place of the first byte, the others are noted already
+module _ (c : Context ℕ) where
+  in-number : (i at n : ℕ) (k : Key) (l : List ℕ) (d d′ : Digits) → digitRun d l ≡ some d′ → notedRun i (going (inNumber c at k n d)) l ≡ going (inNumber c at k n d′)
+  unfolding notedRun notedStep digitRun innerStep
+  in-number i at n k [] d d′ e = ap (λ z. going (inNumber c at k n z)) (Option·some-injective d d′ e)
+  in-number i at n k (b ∷ l) d d′ e = go (digitStep d b) refl (λ m h. in-number (i + 1) at n k l m d′ h) e
     where
-      go : (o : Option Digits) → digitStep d b ≡ o → ((m : Digits) → digitRun m l ≡ some d′ → contentRun (going (inScore c p tt name tt m)) l ≡ going (inScore c p tt name tt d′))
-          → given o (λ m. digitRun m l) none ≡ some d′ → contentRun (innerStep tt (inScore c p tt name tt d) b) l ≡ going (inScore c p tt name tt d′)
+      go : (o : Option Digits) → digitStep d b ≡ o → ((m : Digits) → digitRun m l ≡ some d′ → notedRun (i + 1) (going (inNumber c at k n m)) l ≡ going (inNumber c at k n d′))
+          → given o (λ m. digitRun m l) none ≡ some d′ → notedRun (i + 1) (innerStep i (inNumber c at k n d) b) l ≡ going (inNumber c at k n d′)
       go none f ih e = absurd (Option·none-ne-some d′ e)
-      go (some m) f ih e = ap (λ z. contentRun z l) (rw (f, innerStep)) ∙ ih m e
+      go (some m) f ih e = ap (λ z. notedRun (i + 1) z l) (rw (f, innerStep)) ∙ ih m e
 
-  in-text : (k : Key) (t l cs cs′ : List ℕ) → textRun (hashIsPlain (form k)) cs l ≡ some cs′ → contentRun (going (inText c tt k t cs)) l ≡ going (inText c tt k (t ++ l) cs′)
-  unfolding contentRun contentStep textRun innerStep
-  in-text k t [] cs cs′ e = ap (λ z. going (inText c tt k z cs)) (sym (append-nil t)) ∙ ap (λ z. going (inText c tt k (t ++ []) z)) (Option·some-injective cs cs′ e)
-  in-text k t (b ∷ l) cs cs′ e = go (textStep (hashIsPlain (form k)) cs b) refl (λ m h. in-text k (t ++ (b ∷ [])) l m cs′ h) e
+  in-score : (i at n : ℕ) (p : Part ℕ) (name : List ℕ) (l : List ℕ) (d d′ : Digits) → digitRun d l ≡ some d′ → notedRun i (going (inScore c p at name n d)) l ≡ going (inScore c p at name n d′)
+  unfolding notedRun notedStep digitRun innerStep
+  in-score i at n p name [] d d′ e = ap (λ z. going (inScore c p at name n z)) (Option·some-injective d d′ e)
+  in-score i at n p name (b ∷ l) d d′ e = go (digitStep d b) refl (λ m h. in-score (i + 1) at n p name l m d′ h) e
+    where
+      go : (o : Option Digits) → digitStep d b ≡ o → ((m : Digits) → digitRun m l ≡ some d′ → notedRun (i + 1) (going (inScore c p at name n m)) l ≡ going (inScore c p at name n d′))
+          → given o (λ m. digitRun m l) none ≡ some d′ → notedRun (i + 1) (innerStep i (inScore c p at name n d) b) l ≡ going (inScore c p at name n d′)
+      go none f ih e = absurd (Option·none-ne-some d′ e)
+      go (some m) f ih e = ap (λ z. notedRun (i + 1) z l) (rw (f, innerStep)) ∙ ih m e
+
+  in-text : (i at : ℕ) (k : Key) (t l cs cs′ : List ℕ) → textRun (hashIsPlain (form k)) cs l ≡ some cs′ → notedRun i (going (inText c at k t cs)) l ≡ going (inText c at k (t ++ l) cs′)
+  unfolding notedRun notedStep textRun innerStep
+  in-text i at k t [] cs cs′ e = ap (λ z. going (inText c at k z cs)) (sym (append-nil t)) ∙ ap (λ z. going (inText c at k (t ++ []) z)) (Option·some-injective cs cs′ e)
+  in-text i at k t (b ∷ l) cs cs′ e = go (textStep (hashIsPlain (form k)) cs b) refl (λ m h. in-text (i + 1) at k (t ++ (b ∷ [])) l m cs′ h) e
     where
       go : (o : Option (List ℕ)) → textStep (hashIsPlain (form k)) cs b ≡ o
-          → ((m : List ℕ) → textRun (hashIsPlain (form k)) m l ≡ some cs′ → contentRun (going (inText c tt k (t ++ (b ∷ [])) m)) l ≡ going (inText c tt k ((t ++ (b ∷ [])) ++ l) cs′))
-          → given o (λ m. textRun (hashIsPlain (form k)) m l) none ≡ some cs′ → contentRun (innerStep tt (inText c tt k t cs) b) l ≡ going (inText c tt k (t ++ (b ∷ l)) cs′)
+          → ((m : List ℕ) → textRun (hashIsPlain (form k)) m l ≡ some cs′ → notedRun (i + 1) (going (inText c at k (t ++ (b ∷ [])) m)) l ≡ going (inText c at k ((t ++ (b ∷ [])) ++ l) cs′))
+          → given o (λ m. textRun (hashIsPlain (form k)) m l) none ≡ some cs′ → notedRun (i + 1) (innerStep i (inText c at k t cs) b) l ≡ going (inText c at k (t ++ (b ∷ l)) cs′)
       go none f ih e = absurd (Option·none-ne-some cs′ e)
-      go (some m) f ih e = ap (λ z. contentRun z l) (rw (f, innerStep)) ∙ ih m e ∙ ap (λ z. going (inText c tt k z cs′)) (append-assoc t (b ∷ []) l)
+      go (some m) f ih e = ap (λ z. notedRun (i + 1) z l) (rw (f, innerStep)) ∙ ih m e ∙ ap (λ z. going (inText c at k z cs′)) (append-assoc t (b ∷ []) l)
 
-  in-code : (k : Key) (t l : List ℕ) → allOf (accessionByte (form k)) l ≡ true → contentRun (going (inCode c tt k t)) l ≡ going (inCode c tt k (t ++ l))
-  unfolding contentRun contentStep allOf innerStep
-  in-code k t [] e = ap (λ z. going (inCode c tt k z)) (sym (append-nil t))
-  in-code k t (b ∷ l) e =
-      ap (λ z. contentRun z l) (pick-true (accessionByte (form k) b) _ _ (and-left (accessionByte (form k) b) (allOf (accessionByte (form k)) l) e))
-      ∙ in-code k (t ++ (b ∷ [])) l (and-right (accessionByte (form k) b) (allOf (accessionByte (form k)) l) e)
-      ∙ ap (λ z. going (inCode c tt k z)) (append-assoc t (b ∷ []) l)
+  in-code : (i at : ℕ) (k : Key) (t l : List ℕ) → allOf (accessionByte (form k)) l ≡ true → notedRun i (going (inCode c at k t)) l ≡ going (inCode c at k (t ++ l))
+  unfolding notedRun notedStep allOf innerStep
+  in-code i at k t [] e = ap (λ z. going (inCode c at k z)) (sym (append-nil t))
+  in-code i at k t (b ∷ l) e =
+      ap (λ z. notedRun (i + 1) z l) (pick-true (accessionByte (form k) b) _ _ (and-left (accessionByte (form k) b) (allOf (accessionByte (form k)) l) e))
+      ∙ in-code (i + 1) at k (t ++ (b ∷ [])) l (and-right (accessionByte (form k) b) (allOf (accessionByte (form k)) l) e)
+      ∙ ap (λ z. going (inCode c at k z)) (append-assoc t (b ∷ []) l)
 
-  in-word : (t l : List ℕ) → allOf isLetter l ≡ true → contentRun (going (plain c tt t)) l ≡ going (plain c tt (t ++ l))
-  unfolding contentRun contentStep allOf innerStep
-  in-word t [] e = ap (λ z. going (plain c tt z)) (sym (append-nil t))
-  in-word t (b ∷ l) e =
-      ap (λ z. contentRun z l) (pick-true (isPlain b) _ _ (lettered b (and-left (isLetter b) (allOf isLetter l) e) .plain))
-      ∙ in-word (t ++ (b ∷ [])) l (and-right (isLetter b) (allOf isLetter l) e)
-      ∙ ap (λ z. going (plain c tt z)) (append-assoc t (b ∷ []) l)
+  in-word : (i at : ℕ) (t l : List ℕ) → allOf isLetter l ≡ true → notedRun i (going (plain c at t)) l ≡ going (plain c at (t ++ l))
+  unfolding notedRun notedStep allOf innerStep
+  in-word i at t [] e = ap (λ z. going (plain c at z)) (sym (append-nil t))
+  in-word i at t (b ∷ l) e =
+      ap (λ z. notedRun (i + 1) z l) (pick-true (isPlain b) _ _ (lettered b (and-left (isLetter b) (allOf isLetter l) e) .plain))
+      ∙ in-word (i + 1) at (t ++ (b ∷ [])) l (and-right (isLetter b) (allOf isLetter l) e)
+      ∙ ap (λ z. going (plain c at z)) (append-assoc t (b ∷ []) l)
 
-  in-label : (p : Part Place) (t l : List ℕ) → allOf isAlnum l ≡ true → contentRun (going (inLabel c p tt t)) l ≡ going (inLabel c p tt (t ++ l))
-  unfolding contentRun contentStep allOf innerStep
-  in-label p t [] e = ap (λ z. going (inLabel c p tt z)) (sym (append-nil t))
-  in-label p t (b ∷ l) e =
-      ap (λ z. contentRun z l) (pick-true (isAlnum b) _ _ (and-left (isAlnum b) (allOf isAlnum l) e))
-      ∙ in-label p (t ++ (b ∷ [])) l (and-right (isAlnum b) (allOf isAlnum l) e)
-      ∙ ap (λ z. going (inLabel c p tt z)) (append-assoc t (b ∷ []) l)
+  in-label : (i at : ℕ) (p : Part ℕ) (t l : List ℕ) → allOf isAlnum l ≡ true → notedRun i (going (inLabel c p at t)) l ≡ going (inLabel c p at (t ++ l))
+  unfolding notedRun notedStep allOf innerStep
+  in-label i at p t [] e = ap (λ z. going (inLabel c p at z)) (sym (append-nil t))
+  in-label i at p t (b ∷ l) e =
+      ap (λ z. notedRun (i + 1) z l) (pick-true (isAlnum b) _ _ (and-left (isAlnum b) (allOf isAlnum l) e))
+      ∙ in-label (i + 1) at p (t ++ (b ∷ [])) l (and-right (isAlnum b) (allOf isAlnum l) e)
+      ∙ ap (λ z. going (inLabel c p at z)) (append-assoc t (b ∷ []) l)
 
   -- ---- the end of what a part says
-  number-end : (k : Key) (s : Bool) (n : Numeral) (e : ℕ) → Stop e → innerStep tt (inNumber c tt k tt (readAs s n)) e ≡ valueEnd c (unlabelled tt k (mass (meansNumeral s n))) e
+  number-end : (i at j : ℕ) (k : Key) (s : Bool) (n : Numeral) (e : ℕ) → Stop e → innerStep i (inNumber c at k j (readAs s n)) e ≡ valueEnd c (unlabelled at k (mass (meansNumeral j s n))) e
   unfolding innerStep
-  number-end k s n e h =
-      pick-none (digitStep (readAs s n) e) _ _ (numeral-stops s n e (h .digit) (h .point)) ∙ pick-some (numberEnd tt (readAs s n)) _ _ (meansNumeral s n) (numeral-end s n)
+  number-end i at j k s n e h =
+      pick-none (digitStep (readAs s n) e) _ _ (numeral-stops s n e (h .digit) (h .point)) ∙ pick-some (numberEnd j (readAs s n)) _ _ (meansNumeral j s n) (numeral-end j s n)
 
-  text-end : (k : Key) (t : List ℕ) (e : ℕ) → none? t ≡ false → textEnd c tt k t [] e ≡ valueEnd c (unlabelled tt k (text t)) e
+  text-end : (at : ℕ) (k : Key) (t : List ℕ) (e : ℕ) → none? t ≡ false → textEnd c at k t [] e ≡ valueEnd c (unlabelled at k (text t)) e
   unfolding textEnd
-  text-end k [] e f = absurd (true≢false f)
-  text-end k (x ∷ t) e f = refl
+  text-end at k [] e f = absurd (true≢false f)
+  text-end at k (x ∷ t) e f = refl
 
   code-byte : (f : Form) (e : ℕ) → Stop e → accessionByte f e ≡ false
   code-byte massOrName e h = refl
@@ -216,172 +202,174 @@ module _ (c : Context Place) where
   code-byte alnums e h = h .alnum
   code-byte free e h = refl
 
-  code-end : (k : Key) (t : List ℕ) (e : ℕ) → Stop e → none? t ≡ false → innerStep tt (inCode c tt k t) e ≡ valueEnd c (unlabelled tt k (text t)) e
+  code-end : (i at : ℕ) (k : Key) (t : List ℕ) (e : ℕ) → Stop e → none? t ≡ false → innerStep i (inCode c at k t) e ≡ valueEnd c (unlabelled at k (text t)) e
   unfolding innerStep
-  code-end k t e h f = pick-false (accessionByte (form k) e) _ _ (code-byte (form k) e h) ∙ text-end k t e f
+  code-end i at k t e h f = pick-false (accessionByte (form k) e) _ _ (code-byte (form k) e h) ∙ text-end at k t e f
 
-  in-text-end : (k : Key) (t r cs : List ℕ) (e : ℕ) → textRun (hashIsPlain (form k)) cs r ≡ some [] → none? (t ++ r) ≡ false → textStep (hashIsPlain (form k)) [] e ≡ none
-      → contentRun (going (inText c tt k t cs)) (r ++ (e ∷ [])) ≡ valueEnd c (unlabelled tt k (text (t ++ r))) e
+  in-text-end : (i at : ℕ) (k : Key) (t r cs : List ℕ) (e : ℕ) → textRun (hashIsPlain (form k)) cs r ≡ some [] → none? (t ++ r) ≡ false → textStep (hashIsPlain (form k)) [] e ≡ none
+      → notedRun i (going (inText c at k t cs)) (r ++ (e ∷ [])) ≡ valueEnd c (unlabelled at k (text (t ++ r))) e
   unfolding innerStep
-  in-text-end k t r cs e f g h =
-      onward (inText c tt k t cs) (inText c tt k (t ++ r) []) r (e ∷ []) _ (in-text k t r cs [] f)
-      (content-one (inText c tt k (t ++ r) []) e ∙ pick-none (textStep (hashIsPlain (form k)) [] e) _ _ h ∙ text-end k (t ++ r) e g)
+  in-text-end i at k t r cs e f g h =
+      onward i (inText c at k t cs) (inText c at k (t ++ r) []) r (e ∷ []) _ (in-text i at k t r cs [] f)
+      (content-one (i + length r) (inText c at k (t ++ r) []) e ∙ pick-none (textStep (hashIsPlain (form k)) [] e) _ _ h ∙ text-end at k (t ++ r) e g)
 
   -- ---- a name without prefix
-  colon-after : (t : List ℕ) → keyOf t ≡ none → colonAfter c tt t ≡ inText c tt NoKey (t ++ (colon ∷ [])) []
+  colon-after : (at : ℕ) (t : List ℕ) → keyOf t ≡ none → colonAfter c at t ≡ inText c at NoKey (t ++ (colon ∷ [])) []
   unfolding colonAfter
-  colon-after t e = pick-none (keyOf t) _ _ e
+  colon-after at t e = pick-none (keyOf t) _ _ e
 
-  colon-key : (t : List ℕ) (k : Key) → keyOf t ≡ some k → colonAfter c tt t ≡ behindKey c tt k (form k)
+  colon-key : (at : ℕ) (t : List ℕ) (k : Key) → keyOf t ≡ some k → colonAfter c at t ≡ behindKey c at k (form k)
   unfolding colonAfter
-  colon-key t k e = pick-some (keyOf t) _ _ k e
+  colon-key at t k e = pick-some (keyOf t) _ _ k e
 
   not-empty : (t r : List ℕ) (b : ℕ) → none? ((t ++ (b ∷ [])) ++ r) ≡ false
   not-empty [] r b = refl
   not-empty (x ∷ t) r b = refl
 
-  plain-run : (r t : List ℕ) (e : ℕ) → Stop e → textRun false [] r ≡ some [] → leadKey t r ≡ none
-      → contentRun (going (plain c tt t)) (r ++ (e ∷ [])) ≡ valueEnd c (unlabelled tt NoKey (text (t ++ r))) e
+  plain-run : (i at : ℕ) (r t : List ℕ) (e : ℕ) → Stop e → textRun false [] r ≡ some [] → leadKey t r ≡ none
+      → notedRun i (going (plain c at t)) (r ++ (e ∷ [])) ≡ valueEnd c (unlabelled at NoKey (text (t ++ r))) e
   unfolding innerStep textRun leadKey
-  plain-run [] t e h f g =
-      content-one (plain c tt t) e
+  plain-run i at [] t e h f g =
+      content-one i (plain c at t) e
       ∙ pick-false (isPlain e) _ _ (h .plain)
       ∙ pick-false (eqb e colon) _ _ (h .colon?)
       ∙ pick-none (textStep false [] e) _ _ (h .text)
-      ∙ ap (λ z. valueEnd c (unlabelled tt NoKey (text z)) e) (sym (append-nil t))
-  plain-run (b ∷ r) t e h f g = go (isPlain b) (eqb b colon) (textStep false [] b) refl refl refl (plain-run r (t ++ (b ∷ [])) e h)
+      ∙ ap (λ z. valueEnd c (unlabelled at NoKey (text z)) e) (sym (append-nil t))
+  plain-run i at (b ∷ r) t e h f g = go (isPlain b) (eqb b colon) (textStep false [] b) refl refl refl (plain-run (i + 1) at r (t ++ (b ∷ [])) e h)
     where
-      regroup : valueEnd c (unlabelled tt NoKey (text ((t ++ (b ∷ [])) ++ r))) e ≡ valueEnd c (unlabelled tt NoKey (text (t ++ (b ∷ r)))) e
-      regroup = ap (λ z. valueEnd c (unlabelled tt NoKey (text z)) e) (append-assoc t (b ∷ []) r)
+      regroup : valueEnd c (unlabelled at NoKey (text ((t ++ (b ∷ [])) ++ r))) e ≡ valueEnd c (unlabelled at NoKey (text (t ++ (b ∷ r)))) e
+      regroup = ap (λ z. valueEnd c (unlabelled at NoKey (text z)) e) (append-assoc t (b ∷ []) r)
 
       after : (cs : List ℕ) → textStep false [] b ≡ some cs → textRun false cs r ≡ some []
       after cs q = sym (pick-some (textStep false [] b) (λ z. textRun false z r) none cs q) ∙ f
 
       go : (p q : Bool) (o : Option (List ℕ)) → isPlain b ≡ p → eqb b colon ≡ q → textStep false [] b ≡ o
-          → (textRun false [] r ≡ some [] → leadKey (t ++ (b ∷ [])) r ≡ none → contentRun (going (plain c tt (t ++ (b ∷ [])))) (r ++ (e ∷ [])) ≡ valueEnd c (unlabelled tt NoKey (text ((t ++ (b ∷ [])) ++ r))) e)
-          → contentRun (going (plain c tt t)) (b ∷ (r ++ (e ∷ []))) ≡ valueEnd c (unlabelled tt NoKey (text (t ++ (b ∷ r)))) e
+          → (textRun false [] r ≡ some [] → leadKey (t ++ (b ∷ [])) r ≡ none → notedRun (i + 1) (going (plain c at (t ++ (b ∷ [])))) (r ++ (e ∷ [])) ≡ valueEnd c (unlabelled at NoKey (text ((t ++ (b ∷ [])) ++ r))) e)
+          → notedRun i (going (plain c at t)) (b ∷ (r ++ (e ∷ []))) ≡ valueEnd c (unlabelled at NoKey (text (t ++ (b ∷ r)))) e
       go true q o x y z ih =
-          then (plain c tt t) (plain c tt (t ++ (b ∷ []))) b (r ++ (e ∷ [])) _ (pick-true (isPlain b) _ _ x)
+          then i (plain c at t) (plain c at (t ++ (b ∷ []))) b (r ++ (e ∷ [])) _ (pick-true (isPlain b) _ _ x)
           (ih (after [] (plain-stays b x)) (sym (pick-false (eqb b colon) (keyOf t) (leadKey (t ++ (b ∷ [])) r) (plain-colon b x)) ∙ g) ∙ regroup)
       go false true o x y z ih =
-          then (plain c tt t) (inText c tt NoKey (t ++ (b ∷ [])) []) b (r ++ (e ∷ [])) _
-          (pick-false (isPlain b) _ _ x ∙ pick-true (eqb b colon) _ _ y ∙ ap going (colon-after t (sym (pick-true (eqb b colon) (keyOf t) (leadKey (t ++ (b ∷ [])) r) y) ∙ g)) ∙ ap (λ v. going (inText c tt NoKey (t ++ (v ∷ [])) [])) (sym (eqb-true b colon y)))
-          (in-text-end NoKey (t ++ (b ∷ [])) r [] e (after [] (colon-stays b y)) (not-empty t r b) (h .text) ∙ regroup)
+          then i (plain c at t) (inText c at NoKey (t ++ (b ∷ [])) []) b (r ++ (e ∷ [])) _
+          (pick-false (isPlain b) _ _ x ∙ pick-true (eqb b colon) _ _ y ∙ ap going (colon-after at t (sym (pick-true (eqb b colon) (keyOf t) (leadKey (t ++ (b ∷ [])) r) y) ∙ g)) ∙ ap (λ v. going (inText c at NoKey (t ++ (v ∷ [])) [])) (sym (eqb-true b colon y)))
+          (in-text-end (i + 1) at NoKey (t ++ (b ∷ [])) r [] e (after [] (colon-stays b y)) (not-empty t r b) (h .text) ∙ regroup)
       go false false (some cs) x y z ih =
-          then (plain c tt t) (inText c tt NoKey (t ++ (b ∷ [])) cs) b (r ++ (e ∷ [])) _
+          then i (plain c at t) (inText c at NoKey (t ++ (b ∷ [])) cs) b (r ++ (e ∷ [])) _
           (pick-false (isPlain b) _ _ x ∙ pick-false (eqb b colon) _ _ y ∙ pick-some (textStep false [] b) _ _ cs z)
-          (in-text-end NoKey (t ++ (b ∷ [])) r cs e (after cs z) (not-empty t r b) (h .text) ∙ regroup)
+          (in-text-end (i + 1) at NoKey (t ++ (b ∷ [])) r cs e (after cs z) (not-empty t r b) (h .text) ∙ regroup)
       go false false none x y z ih = absurd (Option·none-ne-some [] (sym (pick-none (textStep false [] b) (λ v. textRun false v r) none z) ∙ f))
 
   -- a name that begins no key, from the begin of its part
-  name-run : (r : List ℕ) (e : ℕ) → Stop e → textRun false [] r ≡ some [] → none? r ≡ false → firstSign r ≡ false → leadKey [] r ≡ none
-      → contentRun (going (begin c)) (r ++ (e ∷ [])) ≡ valueEnd c (unlabelled tt NoKey (text r)) e
+  name-run : (i : ℕ) (r : List ℕ) (e : ℕ) → Stop e → textRun false [] r ≡ some [] → none? r ≡ false → firstSign r ≡ false → leadKey [] r ≡ none
+      → notedRun i (going (begin c)) (r ++ (e ∷ [])) ≡ valueEnd c (unlabelled i NoKey (text r)) e
   unfolding innerStep textRun leadKey
-  name-run [] e h f n s g = absurd (true≢false n)
-  name-run (b ∷ r) e h f n s g = go (isPlain b) (textStep false [] b) refl refl
+  name-run i [] e h f n s g = absurd (true≢false n)
+  name-run i (b ∷ r) e h f n s g = go (isPlain b) (textStep false [] b) refl refl
     where
       after : (cs : List ℕ) → textStep false [] b ≡ some cs → textRun false cs r ≡ some []
       after cs q = sym (pick-some (textStep false [] b) (λ z. textRun false z r) none cs q) ∙ f
 
-      go : (p : Bool) (o : Option (List ℕ)) → isPlain b ≡ p → textStep false [] b ≡ o → contentRun (going (begin c)) (b ∷ (r ++ (e ∷ []))) ≡ valueEnd c (unlabelled tt NoKey (text (b ∷ r))) e
+      go : (p : Bool) (o : Option (List ℕ)) → isPlain b ≡ p → textStep false [] b ≡ o → notedRun i (going (begin c)) (b ∷ (r ++ (e ∷ []))) ≡ valueEnd c (unlabelled i NoKey (text (b ∷ r))) e
       go true o x z =
-          then (begin c) (plain c tt (b ∷ [])) b (r ++ (e ∷ [])) _ (pick-false (isSign b) _ _ s ∙ pick-true (isPlain b) _ _ x)
-          (plain-run r (b ∷ []) e h (after [] (plain-stays b x)) (sym (pick-false (eqb b colon) (keyOf []) (leadKey (b ∷ []) r) (plain-colon b x)) ∙ g))
+          then i (begin c) (plain c i (b ∷ [])) b (r ++ (e ∷ [])) _ (pick-false (isSign b) _ _ s ∙ pick-true (isPlain b) _ _ x)
+          (plain-run (i + 1) i r (b ∷ []) e h (after [] (plain-stays b x)) (sym (pick-false (eqb b colon) (keyOf []) (leadKey (b ∷ []) r) (plain-colon b x)) ∙ g))
       go false (some cs) x z =
-          then (begin c) (inText c tt NoKey (b ∷ []) cs) b (r ++ (e ∷ [])) _
+          then i (begin c) (inText c i NoKey (b ∷ []) cs) b (r ++ (e ∷ [])) _
           (pick-false (isSign b) _ _ s ∙ pick-false (isPlain b) _ _ x ∙ pick-some (textStep false [] b) _ _ cs z)
-          (in-text-end NoKey (b ∷ []) r cs e (after cs z) refl (h .text))
+          (in-text-end (i + 1) i NoKey (b ∷ []) r cs e (after cs z) refl (h .text))
       go false none x z = absurd (Option·none-ne-some [] (sym (pick-none (textStep false [] b) (λ v. textRun false v r) none z) ∙ f))
 
   -- a name behind a prefix
-  prefixed-run : (k : Key) (r : List ℕ) (e : ℕ) → form k ≡ massOrName → Stop e → textRun false [] r ≡ some [] → none? r ≡ false → firstSign r ≡ false
-      → contentRun (going (keyed c tt k)) (r ++ (e ∷ [])) ≡ valueEnd c (unlabelled tt k (text r)) e
+  prefixed-run : (i at : ℕ) (k : Key) (r : List ℕ) (e : ℕ) → form k ≡ massOrName → Stop e → textRun false [] r ≡ some [] → none? r ≡ false → firstSign r ≡ false
+      → notedRun i (going (keyed c at k)) (r ++ (e ∷ [])) ≡ valueEnd c (unlabelled at k (text r)) e
   unfolding innerStep textRun
-  prefixed-run k [] e m h f n s = absurd (true≢false n)
-  prefixed-run k (b ∷ r) e m h f n s = go (textStep false [] b) refl
+  prefixed-run i at k [] e m h f n s = absurd (true≢false n)
+  prefixed-run i at k (b ∷ r) e m h f n s = go (textStep false [] b) refl
     where
-      go : (o : Option (List ℕ)) → textStep false [] b ≡ o → contentRun (going (keyed c tt k)) (b ∷ (r ++ (e ∷ []))) ≡ valueEnd c (unlabelled tt k (text (b ∷ r))) e
+      go : (o : Option (List ℕ)) → textStep false [] b ≡ o → notedRun i (going (keyed c at k)) (b ∷ (r ++ (e ∷ []))) ≡ valueEnd c (unlabelled at k (text (b ∷ r))) e
       go (some cs) z =
-          then (keyed c tt k) (inText c tt k (b ∷ []) cs) b (r ++ (e ∷ [])) _
-          (pick-false (isSign b) _ _ s ∙ ap (λ v. nameBehind c tt k v b) m ∙ pick-some (textStep false [] b) _ _ cs z)
-          (in-text-end k (b ∷ []) r cs e
+          then i (keyed c at k) (inText c at k (b ∷ []) cs) b (r ++ (e ∷ [])) _
+          (pick-false (isSign b) _ _ s ∙ ap (λ v. nameBehind c at k v b) m ∙ pick-some (textStep false [] b) _ _ cs z)
+          (in-text-end (i + 1) at k (b ∷ []) r cs e
           (ap (λ v. textRun (hashIsPlain v) cs r) m ∙ sym (pick-some (textStep false [] b) (λ v. textRun false v r) none cs z) ∙ f) refl (ap (λ v. textStep (hashIsPlain v) [] e) m ∙ h .text))
       go none z = absurd (Option·none-ne-some [] (sym (pick-none (textStep false [] b) (λ v. textRun false v r) none z) ∙ f))
 
   -- ---- a key word and its colon
-  word-run : (k : Key) (x : ℕ) (t : List ℕ) → sameFolded (spell k) (x ∷ t) ≡ true → contentRun (going (begin c)) ((x ∷ t) ++ (colon ∷ [])) ≡ going (behindKey c tt k (form k))
+  word-run : (i : ℕ) (k : Key) (x : ℕ) (t : List ℕ) → sameFolded (spell k) (x ∷ t) ≡ true → notedRun i (going (begin c)) ((x ∷ t) ++ (colon ∷ [])) ≡ going (behindKey c i k (form k))
   unfolding innerStep allOf
-  word-run k x t e =
+  word-run i k x t e =
       let f : keyOf (x ∷ t) ≡ some k = word-key k x t e in
       let g : allOf isLetter (x ∷ t) ≡ true = key-letters (x ∷ t) k f in
       let l : Letter x = lettered x (and-left (isLetter x) (allOf isLetter t) g) in
-      then (begin c) (plain c tt (x ∷ [])) x (t ++ (colon ∷ [])) _ (pick-false (isSign x) _ _ (l .sign) ∙ pick-true (isPlain x) _ _ (l .plain))
-      (onward (plain c tt (x ∷ [])) (plain c tt (x ∷ t)) t (colon ∷ []) _ (in-word (x ∷ []) t (and-right (isLetter x) (allOf isLetter t) g))
-      (content-one (plain c tt (x ∷ t)) colon ∙ ap going (colon-key (x ∷ t) k f)))
+      then i (begin c) (plain c i (x ∷ [])) x (t ++ (colon ∷ [])) _ (pick-false (isSign x) _ _ (l .sign) ∙ pick-true (isPlain x) _ _ (l .plain))
+      (onward (i + 1) (plain c i (x ∷ [])) (plain c i (x ∷ t)) t (colon ∷ []) _ (in-word (i + 1) i (x ∷ []) t (and-right (isLetter x) (allOf isLetter t) g))
+      (content-one (i + 1 + length t) (plain c i (x ∷ t)) colon ∙ ap going (colon-key i (x ∷ t) k f)))
 
   -- ---- what a part says
-  -- a mass, where a sign may stand
-  mass-run : (s : Inner Place) (k : Key) (m : Bool) (n : Numeral) (e : ℕ) → innerStep tt s (signByte m) ≡ going (inNumber c tt k tt (signed m)) → goodNumeral n ≡ true → Stop e
-      → contentRun (going s) ((signByte m ∷ printNumeral n) ++ (e ∷ [])) ≡ valueEnd c (unlabelled tt k (mass (meansNumeral m n))) e
-  mass-run s k m n e f g h =
-      then s (inNumber c tt k tt (signed m)) (signByte m) (printNumeral n ++ (e ∷ [])) _ f
-      (onward (inNumber c tt k tt (signed m)) (inNumber c tt k tt (readAs m n)) (printNumeral n) (e ∷ []) _ (in-number k (printNumeral n) (signed m) (readAs m n) (numeral-run m n g))
-      (content-one (inNumber c tt k tt (readAs m n)) e ∙ number-end k m n e h))
+  -- a mass, where a sign may stand; its place is that of its sign
+  mass-run : (i at : ℕ) (s : Inner ℕ) (k : Key) (m : Bool) (n : Numeral) (e : ℕ) → innerStep i s (signByte m) ≡ going (inNumber c at k i (signed m)) → goodNumeral n ≡ true → Stop e
+      → notedRun i (going s) ((signByte m ∷ printNumeral n) ++ (e ∷ [])) ≡ valueEnd c (unlabelled at k (mass (meansNumeral i m n))) e
+  mass-run i at s k m n e f g h =
+      then i s (inNumber c at k i (signed m)) (signByte m) (printNumeral n ++ (e ∷ [])) _ f
+      (onward (i + 1) (inNumber c at k i (signed m)) (inNumber c at k i (readAs m n)) (printNumeral n) (e ∷ []) _ (in-number (i + 1) at i k (printNumeral n) (signed m) (readAs m n) (numeral-run m n g))
+      (content-one (i + 1 + length (printNumeral n)) (inNumber c at k i (readAs m n)) e ∙ number-end (i + 1 + length (printNumeral n)) at i k m n e h))
 
-  sign-begin : (m : Bool) → innerStep tt (begin c) (signByte m) ≡ going (inNumber c tt NoKey tt (signed m))
+  sign-begin : (i : ℕ) (m : Bool) → innerStep i (begin c) (signByte m) ≡ going (inNumber c i NoKey i (signed m))
   unfolding innerStep
-  sign-begin true = refl
-  sign-begin false = refl
+  sign-begin i true = refl
+  sign-begin i false = refl
 
-  sign-keyed : (k : Key) (m : Bool) → innerStep tt (keyed c tt k) (signByte m) ≡ going (inNumber c tt k tt (signed m))
+  sign-keyed : (i at : ℕ) (k : Key) (m : Bool) → innerStep i (keyed c at k) (signByte m) ≡ going (inNumber c at k i (signed m))
   unfolding innerStep
-  sign-keyed k true = refl
-  sign-keyed k false = refl
+  sign-keyed i at k true = refl
+  sign-keyed i at k false = refl
 
   -- behind a key word
-  behind-run : (k : Key) (x : ℕ) (t l : List ℕ) (e : ℕ) (y : Content Place) → sameFolded (spell k) (x ∷ t) ≡ true → contentRun (going (behindKey c tt k (form k))) (l ++ (e ∷ [])) ≡ y
-      → contentRun (going (begin c)) ((withColon (x ∷ t) ++ l) ++ (e ∷ [])) ≡ y
-  behind-run k x t l e y f g =
-      ap (contentRun (going (begin c))) (append-assoc (withColon (x ∷ t)) l (e ∷ []))
-      ∙ onward (begin c) (behindKey c tt k (form k)) (withColon (x ∷ t)) (l ++ (e ∷ [])) y (word-run k x t f) g
+  behind-run : (i : ℕ) (k : Key) (x : ℕ) (t l : List ℕ) (e : ℕ) (y : Content ℕ) → sameFolded (spell k) (x ∷ t) ≡ true → notedRun (i + length (withColon (x ∷ t))) (going (behindKey c i k (form k))) (l ++ (e ∷ [])) ≡ y
+      → notedRun i (going (begin c)) ((withColon (x ∷ t) ++ l) ++ (e ∷ [])) ≡ y
+  behind-run i k x t l e y f g =
+      ap (notedRun i (going (begin c))) (append-assoc (withColon (x ∷ t)) l (e ∷ []))
+      ∙ onward i (begin c) (behindKey c i k (form k)) (withColon (x ∷ t)) (l ++ (e ∷ [])) y (word-run i k x t f) g
 
-  mass-behind : (f : Form) (k : Key) (m : Bool) (n : Numeral) (e : ℕ) → takesMass f ≡ true → goodNumeral n ≡ true → Stop e
-      → contentRun (going (behindKey c tt k f)) ((signByte m ∷ printNumeral n) ++ (e ∷ [])) ≡ valueEnd c (unlabelled tt k (mass (meansNumeral m n))) e
-  mass-behind massOrName k m n e t g h = mass-run (keyed c tt k) k m n e (sign-keyed k m) g h
-  mass-behind massOnly k m n e t g h = mass-run (keyed c tt k) k m n e (sign-keyed k m) g h
-  mass-behind digits k m n e t g h = absurd (false≢true t)
-  mass-behind alnums k m n e t g h = absurd (false≢true t)
-  mass-behind free k m n e t g h = absurd (false≢true t)
+  mass-behind : (i at : ℕ) (f : Form) (k : Key) (m : Bool) (n : Numeral) (e : ℕ) → takesMass f ≡ true → goodNumeral n ≡ true → Stop e
+      → notedRun i (going (behindKey c at k f)) ((signByte m ∷ printNumeral n) ++ (e ∷ [])) ≡ valueEnd c (unlabelled at k (mass (meansNumeral i m n))) e
+  mass-behind i at massOrName k m n e t g h = mass-run i at (keyed c at k) k m n e (sign-keyed i at k m) g h
+  mass-behind i at massOnly k m n e t g h = mass-run i at (keyed c at k) k m n e (sign-keyed i at k m) g h
+  mass-behind i at digits k m n e t g h = absurd (false≢true t)
+  mass-behind i at alnums k m n e t g h = absurd (false≢true t)
+  mass-behind i at free k m n e t g h = absurd (false≢true t)
 
-  delta-run : (k : Key) (w : List ℕ) (m : Bool) (n : Numeral) (e : ℕ) → sameFolded (spell k) w ≡ true → takesMass (form k) ≡ true → goodNumeral n ≡ true → Stop e
-      → contentRun (going (begin c)) ((withColon w ++ (signByte m ∷ printNumeral n)) ++ (e ∷ [])) ≡ valueEnd c (unlabelled tt k (mass (meansNumeral m n))) e
-  delta-run k [] m n e f t g h =
-      mass-run (begin c) NoKey m n e (sign-begin m) g h ∙ ap (λ z. valueEnd c (unlabelled tt z (mass (meansNumeral m n))) e) (sym (word-none k f))
-  delta-run k (x ∷ w) m n e f t g h = behind-run k x w (signByte m ∷ printNumeral n) e _ f (mass-behind (form k) k m n e t g h)
+  delta-run : (i : ℕ) (k : Key) (w : List ℕ) (m : Bool) (n : Numeral) (e : ℕ) → sameFolded (spell k) w ≡ true → takesMass (form k) ≡ true → goodNumeral n ≡ true → Stop e
+      → notedRun i (going (begin c)) ((withColon w ++ (signByte m ∷ printNumeral n)) ++ (e ∷ [])) ≡ valueEnd c (unlabelled i k (mass (meansNumeral (i + length (withColon w)) m n))) e
+  delta-run i k [] m n e f t g h =
+      mass-run i i (begin c) NoKey m n e (sign-begin i m) g h
+      ∙ ap (λ z. valueEnd c (unlabelled i z (mass (meansNumeral i m n))) e) (sym (word-none k f))
+      ∙ ap (λ z. valueEnd c (unlabelled i k (mass (meansNumeral z m n))) e) (sym (add-zero i))
+  delta-run i k (x ∷ w) m n e f t g h = behind-run i k x w (signByte m ∷ printNumeral n) e _ f (mass-behind (i + length (withColon (x ∷ w))) i (form k) k m n e t g h)
 
   none-of : (l : List ℕ) → allOf (λ b. false) l ≡ true → none? l ≡ false → ⊥
   unfolding allOf
   none-of [] e f = true≢false f
   none-of (b ∷ l) e f = false≢true e
 
-  code-from : (k : Key) (t : List ℕ) (e : ℕ) → Stop e → none? t ≡ false → allOf (accessionByte (form k)) t ≡ true → contentRun (going (inCode c tt k [])) (t ++ (e ∷ [])) ≡ valueEnd c (unlabelled tt k (text t)) e
-  code-from k t e h n a =
-      onward (inCode c tt k []) (inCode c tt k t) t (e ∷ []) _ (in-code k [] t a) (content-one (inCode c tt k t) e ∙ code-end k t e h n)
+  code-from : (i at : ℕ) (k : Key) (t : List ℕ) (e : ℕ) → Stop e → none? t ≡ false → allOf (accessionByte (form k)) t ≡ true → notedRun i (going (inCode c at k [])) (t ++ (e ∷ [])) ≡ valueEnd c (unlabelled at k (text t)) e
+  code-from i at k t e h n a =
+      onward i (inCode c at k []) (inCode c at k t) t (e ∷ []) _ (in-code i at k [] t a) (content-one (i + length t) (inCode c at k t) e ∙ code-end (i + length t) at k t e h n)
 
-  code-behind : (f : Form) (k : Key) (t : List ℕ) (e : ℕ) → form k ≡ f → Stop e → none? t ≡ false → allOf (accessionByte f) t ≡ true
-      → contentRun (going (behindKey c tt k f)) (t ++ (e ∷ [])) ≡ valueEnd c (unlabelled tt k (text t)) e
-  code-behind massOrName k t e q h n a = absurd (none-of t a n)
-  code-behind massOnly k t e q h n a = absurd (none-of t a n)
-  code-behind digits k t e q h n a = code-from k t e h n (rw q a)
-  code-behind alnums k t e q h n a = code-from k t e h n (rw q a)
-  code-behind free k t e q h n a = absurd (none-of t a n)
+  code-behind : (i at : ℕ) (f : Form) (k : Key) (t : List ℕ) (e : ℕ) → form k ≡ f → Stop e → none? t ≡ false → allOf (accessionByte f) t ≡ true
+      → notedRun i (going (behindKey c at k f)) (t ++ (e ∷ [])) ≡ valueEnd c (unlabelled at k (text t)) e
+  code-behind i at massOrName k t e q h n a = absurd (none-of t a n)
+  code-behind i at massOnly k t e q h n a = absurd (none-of t a n)
+  code-behind i at digits k t e q h n a = code-from i at k t e h n (rw q a)
+  code-behind i at alnums k t e q h n a = code-from i at k t e h n (rw q a)
+  code-behind i at free k t e q h n a = absurd (none-of t a n)
 
-  code-run : (k : Key) (w t : List ℕ) (e : ℕ) → sameFolded (spell k) w ≡ true → Stop e → none? t ≡ false → allOf (accessionByte (form k)) t ≡ true
-      → contentRun (going (begin c)) ((withColon w ++ t) ++ (e ∷ [])) ≡ valueEnd c (unlabelled tt k (text t)) e
-  code-run k [] t e f h n a =
+  code-run : (i : ℕ) (k : Key) (w t : List ℕ) (e : ℕ) → sameFolded (spell k) w ≡ true → Stop e → none? t ≡ false → allOf (accessionByte (form k)) t ≡ true
+      → notedRun i (going (begin c)) ((withColon w ++ t) ++ (e ∷ [])) ≡ valueEnd c (unlabelled i k (text t)) e
+  code-run i k [] t e f h n a =
       let b : allOf (accessionByte (form NoKey)) t ≡ true = ap (λ z. allOf (accessionByte (form z)) t) (sym (word-none k f)) ∙ a in
       absurd (none-of t b n)
-  code-run k (x ∷ w) t e f h n a = behind-run k x w t e _ f (code-behind (form k) k t e refl h n a)
+  code-run i k (x ∷ w) t e f h n a = behind-run i k x w t e _ f (code-behind (i + length (withColon (x ∷ w))) i (form k) k t e refl h n a)
 
   -- where `#` is plain, no label ends the text
   abbrev Ended : Form → ℕ → Type 0
@@ -394,137 +382,140 @@ module _ (c : Context Place) where
       go true f g = absurd (false≢true (q f))
       go false f g = close-text e g
 
-  text-behind : (f : Form) (k : Key) (w : List ℕ) (t : Text) (e : ℕ) → form k ≡ f → stops e ≡ true → Ended f e → none? (printText t) ≡ false → goodWording f w t ≡ true
-      → contentRun (going (behindKey c tt k f)) (printText t ++ (e ∷ [])) ≡ valueEnd c (unlabelled tt k (text (printText t))) e
-  text-behind massOrName k w t e q h d n g =
+  text-behind : (i at : ℕ) (f : Form) (k : Key) (w : List ℕ) (t : Text) (e : ℕ) → form k ≡ f → stops e ≡ true → Ended f e → none? (printText t) ≡ false → goodWording f w t ≡ true
+      → notedRun i (going (behindKey c at k f)) (printText t ++ (e ∷ [])) ≡ valueEnd c (unlabelled at k (text (printText t))) e
+  text-behind i at massOrName k w t e q h d n g =
       let g′ = and-right (goodText (outerByte false) t) (not (firstSign (printText t)) && keyless w (printText t)) g in
-      prefixed-run k (printText t) e q (stop e h) (outer-run false t (and-left (goodText (outerByte false) t) (not (firstSign (printText t)) && keyless w (printText t)) g)) n
+      prefixed-run i at k (printText t) e q (stop e h) (outer-run false t (and-left (goodText (outerByte false) t) (not (firstSign (printText t)) && keyless w (printText t)) g)) n
       (no (firstSign (printText t)) (and-left (not (firstSign (printText t))) (keyless w (printText t)) g′))
-  text-behind massOnly k w t e q h d n g = absurd (false≢true g)
-  text-behind digits k w t e q h d n g = absurd (false≢true g)
-  text-behind alnums k w t e q h d n g = absurd (false≢true g)
-  text-behind free k w t e q h d n g =
-      in-text-end k [] (printText t) [] e (ap (λ z. textRun (hashIsPlain z) [] (printText t)) q ∙ outer-run true t g) n (ap (λ z. textStep (hashIsPlain z) [] e) q ∙ free-stop e h d)
+  text-behind i at massOnly k w t e q h d n g = absurd (false≢true g)
+  text-behind i at digits k w t e q h d n g = absurd (false≢true g)
+  text-behind i at alnums k w t e q h d n g = absurd (false≢true g)
+  text-behind i at free k w t e q h d n g =
+      in-text-end i at k [] (printText t) [] e (ap (λ z. textRun (hashIsPlain z) [] (printText t)) q ∙ outer-run true t g) n (ap (λ z. textStep (hashIsPlain z) [] e) q ∙ free-stop e h d)
 
-  wording-run : (k : Key) (w : List ℕ) (t : Text) (e : ℕ) → sameFolded (spell k) w ≡ true → stops e ≡ true → Ended (form k) e → none? (printText t) ≡ false → goodWording (form k) w t ≡ true
-      → contentRun (going (begin c)) ((withColon w ++ printText t) ++ (e ∷ [])) ≡ valueEnd c (unlabelled tt k (text (printText t))) e
-  wording-run k [] t e f h d n g =
+  wording-run : (i : ℕ) (k : Key) (w : List ℕ) (t : Text) (e : ℕ) → sameFolded (spell k) w ≡ true → stops e ≡ true → Ended (form k) e → none? (printText t) ≡ false → goodWording (form k) w t ≡ true
+      → notedRun i (going (begin c)) ((withColon w ++ printText t) ++ (e ∷ [])) ≡ valueEnd c (unlabelled i k (text (printText t))) e
+  wording-run i k [] t e f h d n g =
       let z : k ≡ NoKey = word-none k f in
       let g₀ : goodWording massOrName [] t ≡ true = ap (λ v. goodWording (form v) [] t) (sym z) ∙ g in
       let g₁ = and-right (goodText (outerByte false) t) (not (firstSign (printText t)) && keyless [] (printText t)) g₀ in
-      name-run (printText t) e (stop e h) (outer-run false t (and-left (goodText (outerByte false) t) (not (firstSign (printText t)) && keyless [] (printText t)) g₀)) n
+      name-run i (printText t) e (stop e h) (outer-run false t (and-left (goodText (outerByte false) t) (not (firstSign (printText t)) && keyless [] (printText t)) g₀)) n
       (no (firstSign (printText t)) (and-left (not (firstSign (printText t))) (keyless [] (printText t)) g₁))
       (no-key (leadKey [] (printText t)) (and-right (not (firstSign (printText t))) (keyless [] (printText t)) g₁))
-      ∙ ap (λ v. valueEnd c (unlabelled tt v (text (printText t))) e) (sym z)
-  wording-run k (x ∷ w) t e f h d n g = behind-run k x w (printText t) e _ f (text-behind (form k) k (x ∷ w) t e refl h d n g)
+      ∙ ap (λ v. valueEnd c (unlabelled i v (text (printText t))) e) (sym z)
+  wording-run i k (x ∷ w) t e f h d n g = behind-run i k x w (printText t) e _ f (text-behind (i + length (withColon (x ∷ w))) i (form k) k (x ∷ w) t e refl h d n g)
 
-  base-run : (b : Base) (e : ℕ) → goodBase b ≡ true → stops e ≡ true → Ended (formIn b) e
-      → contentRun (going (begin c)) (printBase b ++ (e ∷ [])) ≡ valueEnd c (unlabelled tt (keyIn b) (valueIn b)) e
-  base-run (delta w m n) e g h d =
+  base-run : (i : ℕ) (b : Base) (e : ℕ) → goodBase b ≡ true → stops e ≡ true → Ended (formIn b) e
+      → notedRun i (going (begin c)) (printBase b ++ (e ∷ [])) ≡ valueEnd c (unlabelled i (keyIn b) (valueIn i b)) e
+  base-run i (delta w m n) e g h d =
       let g₁ = and-right (goodWord w) (takesMass (form (w .key)) && goodNumeral n) g in
-      delta-run (w .key) (w .spelled) m n e (and-left (goodWord w) (takesMass (form (w .key)) && goodNumeral n) g) (and-left (takesMass (form (w .key))) (goodNumeral n) g₁)
+      delta-run i (w .key) (w .spelled) m n e (and-left (goodWord w) (takesMass (form (w .key)) && goodNumeral n) g) (and-left (takesMass (form (w .key))) (goodNumeral n) g₁)
       (and-right (takesMass (form (w .key))) (goodNumeral n) g₁) (stop e h)
-  base-run (code w t) e g h d =
+  base-run i (code w t) e g h d =
       let g₁ = and-right (goodWord w) (someOf (accessionByte (form (w .key))) t) g in
-      code-run (w .key) (w .spelled) t e (and-left (goodWord w) (someOf (accessionByte (form (w .key))) t) g) (stop e h)
+      code-run i (w .key) (w .spelled) t e (and-left (goodWord w) (someOf (accessionByte (form (w .key))) t) g) (stop e h)
       (no (none? t) (and-left (not (none? t)) (allOf (accessionByte (form (w .key))) t) g₁)) (and-right (not (none? t)) (allOf (accessionByte (form (w .key))) t) g₁)
-  base-run (wording w t) e g h d =
+  base-run i (wording w t) e g h d =
       let g₁ = and-right (goodWord w) (not (none? (printText t)) && goodWording (form (w .key)) (w .spelled) t) g in
-      wording-run (w .key) (w .spelled) t e (and-left (goodWord w) (not (none? (printText t)) && goodWording (form (w .key)) (w .spelled) t) g) h d
+      wording-run i (w .key) (w .spelled) t e (and-left (goodWord w) (not (none? (printText t)) && goodWording (form (w .key)) (w .spelled) t) g) h d
       (no (none? (printText t)) (and-left (not (none? (printText t))) (goodWording (form (w .key)) (w .spelled) t) g₁))
       (and-right (not (none? (printText t))) (goodWording (form (w .key)) (w .spelled) t) g₁)
 
   -- ---- labels
-  score-none : (p : Part Place) (name : List ℕ) (e : ℕ) → closes e ≡ true → innerStep tt (inLabel c p tt name) e ≡ partEnd c (labelled p tt name none) e
+  score-none : (i at : ℕ) (p : Part ℕ) (name : List ℕ) (e : ℕ) → closes e ≡ true → innerStep i (inLabel c p at name) e ≡ partEnd c (labelled p at name none) e
   unfolding innerStep
-  score-none p name e h = pick-false (isAlnum e) _ _ (stop e (close e h) .alnum) ∙ pick-false (eqb e openRound) _ _ (stop e (close e h) .round)
+  score-none i at p name e h = pick-false (isAlnum e) _ _ (stop e (close e h) .alnum) ∙ pick-false (eqb e openRound) _ _ (stop e (close e h) .round)
 
-  score-opens : (p : Part Place) (name : List ℕ) → innerStep tt (inLabel c p tt name) openRound ≡ going (scoring c p tt name)
+  score-opens : (i at : ℕ) (p : Part ℕ) (name : List ℕ) → innerStep i (inLabel c p at name) openRound ≡ going (scoring c p at name)
   unfolding innerStep
-  score-opens p name = refl
+  score-opens i at p name = refl
 
-  score-shuts : (p : Part Place) (name : List ℕ) (s : Bool) (n : Numeral) → innerStep tt (inScore c p tt name tt (readAs s n)) shutRound ≡ going (scored c (labelled p tt name (some (meansNumeral s n))))
+  score-shuts : (i at j : ℕ) (p : Part ℕ) (name : List ℕ) (s : Bool) (n : Numeral) → innerStep i (inScore c p at name j (readAs s n)) shutRound ≡ going (scored c (labelled p at name (some (meansNumeral j s n))))
   unfolding innerStep
-  score-shuts p name s n =
-      pick-none (digitStep (readAs s n) shutRound) _ _ (numeral-stops s n shutRound refl refl) ∙ pick-some (numberEnd tt (readAs s n)) _ _ (meansNumeral s n) (numeral-end s n)
+  score-shuts i at j p name s n =
+      pick-none (digitStep (readAs s n) shutRound) _ _ (numeral-stops s n shutRound refl refl) ∙ pick-some (numberEnd j (readAs s n)) _ _ (meansNumeral j s n) (numeral-end j s n)
 
-  scored-end : (p : Part Place) (e : ℕ) → innerStep tt (scored c p) e ≡ partEnd c p e
+  scored-end : (i : ℕ) (p : Part ℕ) (e : ℕ) → innerStep i (scored c p) e ≡ partEnd c p e
   unfolding innerStep
-  scored-end p e = refl
+  scored-end i p e = refl
 
-  score-sign : (p : Part Place) (name : List ℕ) (m : Bool) → innerStep tt (scoring c p tt name) (signByte m) ≡ going (inScore c p tt name tt (signed m))
+  score-sign : (i at : ℕ) (p : Part ℕ) (name : List ℕ) (m : Bool) → innerStep i (scoring c p at name) (signByte m) ≡ going (inScore c p at name i (signed m))
   unfolding innerStep
-  score-sign p name true = refl
-  score-sign p name false = refl
+  score-sign i at p name true = refl
+  score-sign i at p name false = refl
 
   digit-sign : (b : ℕ) → isDigit b ≡ true → isSign b ≡ false
   digit-sign b e =
       let x = leb-true 48 b (and-left (leb 48 b) (leb b 57) e) in
       rw (ne-eqb b plus (λ z. omega arith), ne-eqb b dash (λ z. omega arith))
 
-  score-digit : (p : Part Place) (name : List ℕ) (b : ℕ) → isDigit b ≡ true → innerStep tt (scoring c p tt name) b ≡ going (inScore c p tt name tt (whole false (value b)))
+  score-digit : (i at : ℕ) (p : Part ℕ) (name : List ℕ) (b : ℕ) → isDigit b ≡ true → innerStep i (scoring c p at name) b ≡ going (inScore c p at name i (whole false (value b)))
   unfolding innerStep
-  score-digit p name b e = pick-false (isSign b) _ _ (digit-sign b e) ∙ pick-true (isDigit b) _ _ e
+  score-digit i at p name b e = pick-false (isSign b) _ _ (digit-sign b e) ∙ pick-true (isDigit b) _ _ e
 
   first-digit : (b : ℕ) → isDigit b ≡ true → digitStep (signed false) b ≡ some (whole false (value b))
   unfolding digitStep
   first-digit b e = pick-true (isDigit b) _ _ e
 
   -- the number of a score, with or without sign
-  score-number : (p : Part Place) (name : List ℕ) (o : Option Bool) (n : Numeral) → goodNumeral n ≡ true
-      → contentRun (going (scoring c p tt name)) (printSign o ++ printNumeral n) ≡ going (inScore c p tt name tt (readAs (isMinus o) n))
+  score-number : (i at : ℕ) (p : Part ℕ) (name : List ℕ) (o : Option Bool) (n : Numeral) → goodNumeral n ≡ true
+      → notedRun i (going (scoring c p at name)) (printSign o ++ printNumeral n) ≡ going (inScore c p at name i (readAs (isMinus o) n))
   unfolding allOf
-  score-number p name (some m) n g =
-      then (scoring c p tt name) (inScore c p tt name tt (signed m)) (signByte m) (printNumeral n) _ (score-sign p name m) (in-score p name (printNumeral n) (signed m) (readAs m n) (numeral-run m n g))
-  score-number p name none n g = go (n .whole) (and-left (someOf isDigit (n .whole)) (goodBehind (n .behind)) g) (numeral-run false n g)
+  score-number i at p name (some m) n g =
+      then i (scoring c p at name) (inScore c p at name i (signed m)) (signByte m) (printNumeral n) _ (score-sign i at p name m) (in-score (i + 1) at i p name (printNumeral n) (signed m) (readAs m n) (numeral-run m n g))
+  score-number i at p name none n g = go (n .whole) (and-left (someOf isDigit (n .whole)) (goodBehind (n .behind)) g) (numeral-run false n g)
     where
       go : (a : List ℕ) → someOf isDigit a ≡ true → digitRun (signed false) (a ++ printBehind (n .behind)) ≡ some (readAs false n)
-          → contentRun (going (scoring c p tt name)) (a ++ printBehind (n .behind)) ≡ going (inScore c p tt name tt (readAs false n))
+          → notedRun i (going (scoring c p at name)) (a ++ printBehind (n .behind)) ≡ going (inScore c p at name i (readAs false n))
       go [] e f = absurd (false≢true e)
       go (b ∷ a) e f =
           let d : isDigit b ≡ true = and-left (isDigit b) (allOf isDigit a) e in
-          then (scoring c p tt name) (inScore c p tt name tt (whole false (value b))) b (a ++ printBehind (n .behind)) _ (score-digit p name b d)
-          (in-score p name (a ++ printBehind (n .behind)) (whole false (value b)) (readAs false n) (sym (run-cons (signed false) (whole false (value b)) b (a ++ printBehind (n .behind)) (first-digit b d)) ∙ f))
+          then i (scoring c p at name) (inScore c p at name i (whole false (value b))) b (a ++ printBehind (n .behind)) _ (score-digit i at p name b d)
+          (in-score (i + 1) at i p name (a ++ printBehind (n .behind)) (whole false (value b)) (readAs false n) (sym (run-cons (signed false) (whole false (value b)) b (a ++ printBehind (n .behind)) (first-digit b d)) ∙ f))
 
-  score-run : (p : Part Place) (name : List ℕ) (o : Option Score) (e : ℕ) → goodScore o ≡ true → closes e ≡ true
-      → contentRun (going (inLabel c p tt name)) (printScore o ++ (e ∷ [])) ≡ partEnd c (labelled p tt name (meansScore o)) e
-  score-run p name none e g h = content-one (inLabel c p tt name) e ∙ score-none p name e h
-  score-run p name (some s) e g h =
-      then (inLabel c p tt name) (scoring c p tt name) openRound _ _ (score-opens p name)
-      (ap (contentRun (going (scoring c p tt name))) (group (printSign (s .sign)) (printNumeral (s .number)))
-      ∙ onward (scoring c p tt name) (inScore c p tt name tt (readAs (isMinus (s .sign)) (s .number))) (printSign (s .sign) ++ printNumeral (s .number)) (shutRound ∷ (e ∷ [])) _
-      (score-number p name (s .sign) (s .number) g)
-      (then (inScore c p tt name tt (readAs (isMinus (s .sign)) (s .number))) (scored c (labelled p tt name (some (meansNumeral (isMinus (s .sign)) (s .number))))) shutRound (e ∷ []) _
-      (score-shuts p name (isMinus (s .sign)) (s .number)) (content-one _ e ∙ scored-end _ e)))
+  score-run : (i at : ℕ) (p : Part ℕ) (name : List ℕ) (o : Option Score) (e : ℕ) → goodScore o ≡ true → closes e ≡ true
+      → notedRun i (going (inLabel c p at name)) (printScore o ++ (e ∷ [])) ≡ partEnd c (labelled p at name (meansScore i o)) e
+  score-run i at p name none e g h = content-one i (inLabel c p at name) e ∙ score-none i at p name e h
+  score-run i at p name (some s) e g h =
+      then i (inLabel c p at name) (scoring c p at name) openRound _ _ (score-opens i at p name)
+      (ap (notedRun (i + 1) (going (scoring c p at name))) (group (printSign (s .sign)) (printNumeral (s .number)))
+      ∙ onward (i + 1) (scoring c p at name) (inScore c p at name (i + 1) (readAs (isMinus (s .sign)) (s .number))) (printSign (s .sign) ++ printNumeral (s .number)) (shutRound ∷ (e ∷ [])) _
+      (score-number (i + 1) at p name (s .sign) (s .number) g)
+      (then _ (inScore c p at name (i + 1) (readAs (isMinus (s .sign)) (s .number))) (scored c (labelled p at name (some (meansNumeral (i + 1) (isMinus (s .sign)) (s .number))))) shutRound (e ∷ []) _
+      (score-shuts _ at (i + 1) p name (isMinus (s .sign)) (s .number)) (content-one _ _ e ∙ scored-end _ _ e)))
     where
       group : (x y : List ℕ) → (x ++ (y ++ (shutRound ∷ []))) ++ (e ∷ []) ≡ (x ++ y) ++ (shutRound ∷ (e ∷ []))
       group x y = simp append-assoc
 
-  tag-run : (p : Part Place) (t : Tag) (e : ℕ) → goodTag (some t) ≡ true → closes e ≡ true
-      → contentRun (going (hashed c p)) ((t .name ++ printScore (t .score)) ++ (e ∷ [])) ≡ partEnd c (labelled p tt (t .name) (meansScore (t .score))) e
+  -- i is the place behind `#`
+  tag-run : (i : ℕ) (p : Part ℕ) (t : Tag) (e : ℕ) → goodTag (some t) ≡ true → closes e ≡ true
+      → notedRun i (going (hashed c p)) ((t .name ++ printScore (t .score)) ++ (e ∷ [])) ≡ partEnd c (labelled p i (t .name) (meansScore (i + length (t .name)) (t .score))) e
   unfolding allOf innerStep
-  tag-run p t e g h = go (t .name) (and-left (someOf isAlnum (t .name)) (goodScore (t .score)) g)
+  tag-run i p t e g h = go (t .name) (and-left (someOf isAlnum (t .name)) (goodScore (t .score)) g)
     where
-      go : (n : List ℕ) → someOf isAlnum n ≡ true → contentRun (going (hashed c p)) ((n ++ printScore (t .score)) ++ (e ∷ [])) ≡ partEnd c (labelled p tt n (meansScore (t .score))) e
+      go : (n : List ℕ) → someOf isAlnum n ≡ true → notedRun i (going (hashed c p)) ((n ++ printScore (t .score)) ++ (e ∷ [])) ≡ partEnd c (labelled p i n (meansScore (i + length n) (t .score))) e
       go [] q = absurd (false≢true q)
       go (b ∷ n) q =
-          then (hashed c p) (inLabel c p tt (b ∷ [])) b ((n ++ printScore (t .score)) ++ (e ∷ [])) _ (pick-true (isAlnum b) _ _ (and-left (isAlnum b) (allOf isAlnum n) q))
-          (ap (contentRun (going (inLabel c p tt (b ∷ [])))) (append-assoc n (printScore (t .score)) (e ∷ []))
-          ∙ onward (inLabel c p tt (b ∷ [])) (inLabel c p tt (b ∷ n)) n (printScore (t .score) ++ (e ∷ [])) _ (in-label p (b ∷ []) n (and-right (isAlnum b) (allOf isAlnum n) q))
-          (score-run p (b ∷ n) (t .score) e (and-right (someOf isAlnum (t .name)) (goodScore (t .score)) g) h))
+          let z : i + 1 + length n ≡ i + suc (length n) = omega arith in
+          then i (hashed c p) (inLabel c p i (b ∷ [])) b ((n ++ printScore (t .score)) ++ (e ∷ [])) _ (pick-true (isAlnum b) _ _ (and-left (isAlnum b) (allOf isAlnum n) q))
+          (ap (notedRun (i + 1) (going (inLabel c p i (b ∷ [])))) (append-assoc n (printScore (t .score)) (e ∷ []))
+          ∙ onward (i + 1) (inLabel c p i (b ∷ [])) (inLabel c p i (b ∷ n)) n (printScore (t .score) ++ (e ∷ [])) _ (in-label (i + 1) i p (b ∷ []) n (and-right (isAlnum b) (allOf isAlnum n) q))
+          (score-run (i + 1 + length n) i p (b ∷ n) (t .score) e (and-right (someOf isAlnum (t .name)) (goodScore (t .score)) g) h)
+          ∙ ap (λ v. partEnd c (labelled p i (b ∷ n) (meansScore v (t .score))) e) z)
 
   -- ---- parts
-  value-part : (p : Part Place) (e : ℕ) → closes e ≡ true → valueEnd c p e ≡ partEnd c p e
+  value-part : (p : Part ℕ) (e : ℕ) → closes e ≡ true → valueEnd c p e ≡ partEnd c p e
   unfolding valueEnd
   value-part p e h = pick-false (eqb e hash && eqb (c .shut) shutSquare) _ _ (ap (λ z. z && eqb (c .shut) shutSquare) (close-hash e h))
 
-  value-hash : (p : Part Place) → eqb (c .shut) shutSquare ≡ true → valueEnd c p hash ≡ going (hashed c p)
+  value-hash : (p : Part ℕ) → eqb (c .shut) shutSquare ≡ true → valueEnd c p hash ≡ going (hashed c p)
   unfolding valueEnd
   value-hash p e = pick-true (eqb hash hash && eqb (c .shut) shutSquare) _ _ e
 
-  piece-run : (p : Piece) (e : ℕ) → goodPiece (eqb (c .shut) shutSquare) p ≡ true → closes e ≡ true
-      → contentRun (going (begin c)) (printPiece p ++ (e ∷ [])) ≡ partEnd c (meansPiece p) e
-  piece-run p e g h = go (p .tag) (and-right (goodBase (p .base)) _ g)
+  piece-run : (i : ℕ) (p : Piece) (e : ℕ) → goodPiece (eqb (c .shut) shutSquare) p ≡ true → closes e ≡ true
+      → notedRun i (going (begin c)) (printPiece p ++ (e ∷ [])) ≡ partEnd c (meansPiece i p) e
+  piece-run i p e g h = go (p .tag) (and-right (goodBase (p .base)) _ g)
     where
       b : Base
       b = p .base
@@ -533,17 +524,18 @@ module _ (c : Context Place) where
       ok = and-left (goodBase b) (goodTag (p .tag) && (not (there? (p .tag)) || (eqb (c .shut) shutSquare && tagFits (formIn b)))) g
 
       go : (o : Option Tag) → (goodTag o && (not (there? o) || (eqb (c .shut) shutSquare && tagFits (formIn b)))) ≡ true
-          → contentRun (going (begin c)) ((printBase b ++ printTag o) ++ (e ∷ [])) ≡ partEnd c (record { key = keyIn b; value = valueIn b; label = meansTag o; at = tt }) e
+          → notedRun i (going (begin c)) ((printBase b ++ printTag o) ++ (e ∷ [])) ≡ partEnd c (record { key = keyIn b; value = valueIn i b; label = meansTag (i + length (printBase b)) o; at = i }) e
       go none q =
-          ap (λ z. contentRun (going (begin c)) (z ++ (e ∷ []))) (append-nil (printBase b))
-          ∙ base-run b e ok (close e h) (λ z. absurd (false≢true (sym (close-hash e h) ∙ z)))
+          ap (λ z. notedRun i (going (begin c)) (z ++ (e ∷ []))) (append-nil (printBase b))
+          ∙ base-run i b e ok (close e h) (λ z. absurd (false≢true (sym (close-hash e h) ∙ z)))
           ∙ value-part _ e h
       go (some t) q =
           let r = and-right (goodTag (some t)) (eqb (c .shut) shutSquare && tagFits (formIn b)) q in
-          ap (contentRun (going (begin c))) (group (printBase b) (t .name ++ printScore (t .score)))
-          ∙ onward (begin c) (hashed c (unlabelled tt (keyIn b) (valueIn b))) (printBase b ++ (hash ∷ [])) ((t .name ++ printScore (t .score)) ++ (e ∷ [])) _
-          (base-run b hash ok refl (λ z. and-right (eqb (c .shut) shutSquare) (tagFits (formIn b)) r) ∙ value-hash _ (and-left (eqb (c .shut) shutSquare) (tagFits (formIn b)) r))
-          (tag-run (unlabelled tt (keyIn b) (valueIn b)) t e (and-left (goodTag (some t)) (eqb (c .shut) shutSquare && tagFits (formIn b)) q) h)
+          ap (notedRun i (going (begin c))) (group (printBase b) (t .name ++ printScore (t .score)))
+          ∙ onward i (begin c) (hashed c (unlabelled i (keyIn b) (valueIn i b))) (printBase b ++ (hash ∷ [])) ((t .name ++ printScore (t .score)) ++ (e ∷ [])) _
+          (base-run i b hash ok refl (λ z. and-right (eqb (c .shut) shutSquare) (tagFits (formIn b)) r) ∙ value-hash _ (and-left (eqb (c .shut) shutSquare) (tagFits (formIn b)) r))
+          (tag-run (i + length (printBase b ++ (hash ∷ []))) (unlabelled i (keyIn b) (valueIn i b)) t e (and-left (goodTag (some t)) (eqb (c .shut) shutSquare && tagFits (formIn b)) q) h)
+          ∙ ap (λ v. partEnd c (labelled (unlabelled i (keyIn b) (valueIn i b)) v (t .name) (meansScore (v + length (t .name)) (t .score))) e) (snoc-place i (printBase b) hash)
         where
           group : (x y : List ℕ) → (x ++ (hash ∷ y)) ++ (e ∷ []) ≡ (x ++ (hash ∷ [])) ++ (y ++ (e ∷ []))
           group x y = simp append-assoc
@@ -558,43 +550,44 @@ shut-closes s e = back (eqb s bar) e
 shut-bar : (s : ℕ) → isShutting s ≡ true → eqb bar s ≡ false
 shut-bar s e = ne-eqb bar s (λ z. true≢false (sym e ∙ ap isShutting (sym z)))
 
-no-reference : (b : Base) → isReference (valueIn b) ≡ false
-no-reference (delta w m n) = refl
-no-reference (code w t) = refl
-no-reference (wording w t) = refl
+no-reference : (i : ℕ) (b : Base) → isReference (valueIn i b) ≡ false
+no-reference i (delta w m n) = refl
+no-reference i (code w t) = refl
+no-reference i (wording w t) = refl
 
-part-bar : (c : Context Place) (p : Part Place) → isShutting (c .shut) ≡ true → isReference (p .value) ≡ false → partEnd c p bar ≡ going (begin (with c p))
+part-bar : (c : Context ℕ) (p : Part ℕ) → isShutting (c .shut) ≡ true → isReference (p .value) ≡ false → partEnd c p bar ≡ going (begin (with c p))
 unfolding partEnd
 part-bar c p s e = pick-false (eqb bar (c .shut)) _ _ (shut-bar (c .shut) s) ∙ pick-true (eqb bar bar && not (isReference (p .value))) _ _ (ap not e)
 
-part-shut : (c : Context Place) (p : Part Place) → partEnd c p (c .shut) ≡ closed (c .parts ++ (p ∷ []))
+part-shut : (c : Context ℕ) (p : Part ℕ) → partEnd c p (c .shut) ≡ closed (c .parts ++ (p ∷ []))
 unfolding partEnd
 part-shut c p = pick-true (eqb (c .shut) (c .shut)) _ _ (eq-eqb (c .shut) (c .shut) refl)
 
 -- ---- brackets
-pieces-run : (ps : List Piece) (p : Piece) (c : Context Place) → isShutting (c .shut) ≡ true → goodPieces (eqb (c .shut) shutSquare) p ps ≡ true
-    → contentRun (going (begin c)) (printPieces p ps ++ (c .shut ∷ [])) ≡ closed (c .parts ++ map meansPiece (p ∷ ps))
-unfolding printPieces goodPieces
-pieces-run [] p c s g = piece-run c p (c .shut) g (shut-closes (c .shut) s) ∙ part-shut c (meansPiece p)
-pieces-run (q ∷ ps) p c s g =
-    ap (contentRun (going (begin c))) (group (printPiece p) (printPieces q ps))
-    ∙ onward (begin c) (begin (with c (meansPiece p))) (printPiece p ++ (bar ∷ [])) (printPieces q ps ++ (c .shut ∷ [])) _
-    (piece-run c p bar (and-left (goodPiece (eqb (c .shut) shutSquare) p) (goodPieces (eqb (c .shut) shutSquare) q ps) g) refl ∙ part-bar c (meansPiece p) s (no-reference (p .base)))
-    (pieces-run ps q (with c (meansPiece p)) s (and-right (goodPiece (eqb (c .shut) shutSquare) p) (goodPieces (eqb (c .shut) shutSquare) q ps) g)
-    ∙ ap closed (append-assoc (c .parts) (meansPiece p ∷ []) (map meansPiece (q ∷ ps))))
+pieces-run : (i : ℕ) (ps : List Piece) (p : Piece) (c : Context ℕ) → isShutting (c .shut) ≡ true → goodPieces (eqb (c .shut) shutSquare) p ps ≡ true
+    → notedRun i (going (begin c)) (printPieces p ps ++ (c .shut ∷ [])) ≡ closed (c .parts ++ meansPieces i p ps)
+unfolding printPieces goodPieces meansPieces
+pieces-run i [] p c s g = piece-run c i p (c .shut) g (shut-closes (c .shut) s) ∙ part-shut c (meansPiece i p)
+pieces-run i (q ∷ ps) p c s g =
+    ap (notedRun i (going (begin c))) (group (printPiece p) (printPieces q ps))
+    ∙ onward i (begin c) (begin (with c (meansPiece i p))) (printPiece p ++ (bar ∷ [])) (printPieces q ps ++ (c .shut ∷ [])) _
+    (piece-run c i p bar (and-left (goodPiece (eqb (c .shut) shutSquare) p) (goodPieces (eqb (c .shut) shutSquare) q ps) g) refl ∙ part-bar c (meansPiece i p) s (no-reference i (p .base)))
+    (ap (λ v. notedRun v (going (begin (with c (meansPiece i p)))) (printPieces q ps ++ (c .shut ∷ []))) (snoc-place i (printPiece p) bar)
+    ∙ pieces-run (i + length (printPiece p) + 1) ps q (with c (meansPiece i p)) s (and-right (goodPiece (eqb (c .shut) shutSquare) p) (goodPieces (eqb (c .shut) shutSquare) q ps) g)
+    ∙ ap closed (append-assoc (c .parts) (meansPiece i p ∷ []) (meansPieces (i + length (printPiece p) + 1) q ps)))
   where
     group : (x y : List ℕ) → (x ++ (bar ∷ y)) ++ (c .shut ∷ []) ≡ (x ++ (bar ∷ [])) ++ (y ++ (c .shut ∷ []))
     group x y = simp append-assoc
 
-lone-begins : (shut : ℕ) → innerStep tt (begin (context shut true [])) hash ≡ going (hashed (context shut true []) (unlabelled tt NoKey reference))
+lone-begins : (i shut : ℕ) → innerStep i (begin (context shut true [])) hash ≡ going (hashed (context shut true []) (unlabelled i NoKey reference))
 unfolding innerStep textStep
-lone-begins shut = refl
+lone-begins i shut = refl
 
 -- what a good bracket prints is read, up to the byte that closes it, to what it means
-pub inside-run : (shut : ℕ) (r : Bool) (x : Inside) → isShutting shut ≡ true → goodInside shut r x ≡ true
-    → contentRun (going (begin (context shut r []))) (printInside x ++ (shut ∷ [])) ≡ closed (meansInside x)
-inside-run shut r (parts p ps) s g = pieces-run ps p (context shut r []) s g
-inside-run shut true (refers t) s g =
-    then (begin (context shut true [])) (hashed (context shut true []) (unlabelled tt NoKey reference)) hash ((t .name ++ printScore (t .score)) ++ (shut ∷ [])) _ (lone-begins shut)
-    (tag-run (context shut true []) (unlabelled tt NoKey reference) t shut g (shut-closes shut s) ∙ part-shut (context shut true []) _)
-inside-run shut false (refers t) s g = absurd (false≢true g)
+pub inside-run : (i shut : ℕ) (r : Bool) (x : Inside) → isShutting shut ≡ true → goodInside shut r x ≡ true
+    → notedRun i (going (begin (context shut r []))) (printInside x ++ (shut ∷ [])) ≡ closed (meansInside i x)
+inside-run i shut r (parts p ps) s g = pieces-run i ps p (context shut r []) s g
+inside-run i shut true (refers t) s g =
+    then i (begin (context shut true [])) (hashed (context shut true []) (unlabelled i NoKey reference)) hash ((t .name ++ printScore (t .score)) ++ (shut ∷ [])) _ (lone-begins i shut)
+    (tag-run (context shut true []) (i + 1) (unlabelled i NoKey reference) t shut g (shut-closes shut s) ∙ part-shut (context shut true []) _)
+inside-run i shut false (refers t) s g = absurd (false≢true g)

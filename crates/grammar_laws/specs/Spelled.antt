@@ -15,7 +15,8 @@ use Rattle.scope.specs.Content.{Digits, signed, value, digitStep, numberEnd, is
 use Rattle.canonical_laws.specs.Lists.{branch, branchO, pick-true, pick-false, All, all-append}
 use Rattle.canonical_laws.specs.Brackets.{Place, Parts, context, contentStep, contentRun}
 use Rattle.basics.specs.Tests.{and-left, and-right, both}
-use Rattle.grammar_laws.specs.Grammar.{allOf, someOf, there?, printNumeral, goodNumeral, signByte, Text, printText, goodText, outerByte, withColon, leadKey, firstSign, keyless, Base, delta, code, wording, printBase, takesMass, goodWording, goodBase, keyIn, valueIn, printSign, isMinus, meansScore, Tag, printTag, goodTag, Piece, printPiece, formIn, tagFits, goodPiece, meansPiece, printPieces, goodPieces, Inside, parts, refers, printInside, goodInside, meansReference, meansInside}
+use Rattle.grammar_laws.specs.Grammar.{allOf, someOf, there?, printNumeral, goodNumeral, signByte, Text, printText, goodText, outerByte, withColon, leadKey, firstSign, keyless, Base, delta, code, wording, printBase, takesMass, goodWording, goodBase, keyIn, printSign, isMinus, Tag, printTag, goodTag, Piece, printPiece, formIn, tagFits, goodPiece, printPieces, goodPieces, Inside, parts, refers, printInside, goodInside}
+use Rattle.grammar_laws.specs.Bare.{bareValue, bareScore, barePiece, bareReference, bareInside}
 use Rattle.grammar_laws.specs.Lists.{all-nil, all-one, all-snoc, some-snoc, some-all, not-none}
 use Rattle.grammar_laws.specs.Numerals.{SoFar, so-further, so-first, Spelt, so-ended}
 use Rattle.grammar_laws.specs.Texts.{textRun, text-append, text-cons, text-nil, outer, whole-text}
@@ -35,9 +36,9 @@ unfolding fronts
 fronts-snoc [] p = append-nil (printPiece p ++ (bar ∷ []))
 fronts-snoc (q ∷ ps) p = ap (λ z. (printPiece q ++ (bar ∷ [])) ++ z) (fronts-snoc ps p) ∙ sym (append-assoc (printPiece q ++ (bar ∷ [])) (fronts ps) (printPiece p ++ (bar ∷ [])))
 
-means-snoc : (ps : List Piece) (p : Piece) → map meansPiece (ps ++ (p ∷ [])) ≡ map meansPiece ps ++ (meansPiece p ∷ [])
+means-snoc : (ps : List Piece) (p : Piece) → map barePiece (ps ++ (p ∷ [])) ≡ map barePiece ps ++ (barePiece p ∷ [])
 means-snoc [] p = refl
-means-snoc (q ∷ ps) p = ap (λ z. meansPiece q ∷ z) (means-snoc ps p)
+means-snoc (q ∷ ps) p = ap (λ z. barePiece q ∷ z) (means-snoc ps p)
 
 module _ (labels : Bool) where
   abbrev pub Fine : Piece → Type 0
@@ -216,7 +217,7 @@ module _ (shut : ℕ) (r : Bool) where
   pub record Lead (c : Context Place) (w : List ℕ) : Type 0 where
     pub pieces : List Piece
     pub good : All (Fine labels) pieces
-    pub is : c ≡ context shut r (map meansPiece pieces)
+    pub is : c ≡ context shut r (map barePiece pieces)
     pub all : w ≡ fronts pieces
 
   pub record Plain (c : Context Place) (t w : List ℕ) : Type 0 where
@@ -247,7 +248,7 @@ module _ (shut : ℕ) (r : Bool) where
     pub lead : Lead c before
     pub base : Base
     pub good : goodBase base ≡ true
-    pub is : p ≡ unlabelled tt (keyIn base) (valueIn base)
+    pub is : p ≡ unlabelled tt (keyIn base) (bareValue base)
     pub all : w ≡ before ++ printBase base
 
   -- what a label may follow
@@ -260,7 +261,7 @@ module _ (shut : ℕ) (r : Bool) where
     pub lead : Lead c before
     pub piece : Piece
     pub fine : Fine labels piece
-    pub is : p ≡ meansPiece piece
+    pub is : p ≡ barePiece piece
     pub all : w ≡ before ++ printPiece piece
 
   pub record Refers (c : Context Place) (p : Part Place) (w : List ℕ) : Type 0 where
@@ -268,7 +269,7 @@ module _ (shut : ℕ) (r : Bool) where
     pub context? : c ≡ context shut r []
     pub tag : Tag
     pub good : goodTag (some tag) ≡ true
-    pub is : p ≡ meansReference tag
+    pub is : p ≡ bareReference tag
     pub all : w ≡ printTag (some tag)
 
   pub data Made (c : Context Place) (p : Part Place) (w : List ℕ) : Type 0 where
@@ -303,7 +304,7 @@ module _ (shut : ℕ) (r : Bool) where
     pub tree : Inside
     pub good : goodInside shut r tree ≡ true
     pub prints : w ≡ printInside tree ++ (shut ∷ [])
-    pub means : ps ≡ meansInside tree
+    pub means : ps ≡ bareInside tree
 
   unfoldable pub InvC : List ℕ → Content Place → Type 0
   InvC w lost = Unit {0}
@@ -311,13 +312,13 @@ module _ (shut : ℕ) (r : Bool) where
   InvC w (going s) = Inv w s
 
   -- ---- the end of a part
-  shut-is : (c : Context Place) (ps : List Piece) → c ≡ context shut r (map meansPiece ps) → c .shut ≡ shut
+  shut-is : (c : Context Place) (ps : List Piece) → c ≡ context shut r (map barePiece ps) → c .shut ≡ shut
   shut-is c ps e = ap (λ z. z .shut) e
 
-  parts-is : (c : Context Place) (ps : List Piece) → c ≡ context shut r (map meansPiece ps) → c .parts ≡ map meansPiece ps
+  parts-is : (c : Context Place) (ps : List Piece) → c ≡ context shut r (map barePiece ps) → c .parts ≡ map barePiece ps
   parts-is c ps e = ap (λ z. z .parts) e
 
-  joined : (ps : List Piece) (q : Piece) (w : List ℕ) → All (Fine labels) ps → Fine labels q → w ≡ (fronts ps ++ printPiece q) ++ (shut ∷ []) → Closed (map meansPiece ps ++ (meansPiece q ∷ [])) w
+  joined : (ps : List Piece) (q : Piece) (w : List ℕ) → All (Fine labels) ps → Fine labels q → w ≡ (fronts ps ++ printPiece q) ++ (shut ∷ []) → Closed (map barePiece ps ++ (barePiece q ∷ [])) w
   joined [] q w g f e =
       record {
         tree = parts q [];
@@ -330,13 +331,13 @@ module _ (shut : ℕ) (r : Bool) where
         tree = parts p (ps ++ (q ∷ []));
         good = good-snoc labels p ps q (g .0) (g .1) f;
         prints = e ∙ ap (λ z. z ++ (shut ∷ [])) (sym (print-snoc p ps q));
-        means = ap (λ z. meansPiece p ∷ z) (sym (means-snoc ps q));
+        means = ap (λ z. barePiece p ∷ z) (sym (means-snoc ps q));
       }
 
   part-shuts : (c : Context Place) (p : Part Place) (b : ℕ) (w : List ℕ) → b ≡ c .shut → Made c p w → Closed (c .parts ++ (p ∷ [])) (w ++ (b ∷ []))
   part-shuts c p b w e (made-part x) =
       let ps = x .lead .pieces in
-      subst (λ (z : Parts). Closed z (w ++ (b ∷ []))) (ap (λ z. z ++ (meansPiece (x .piece) ∷ [])) (sym (parts-is c ps (x .lead .is))) ∙ ap (λ z. c .parts ++ (z ∷ [])) (sym (x .is)))
+      subst (λ (z : Parts). Closed z (w ++ (b ∷ []))) (ap (λ z. z ++ (barePiece (x .piece) ∷ [])) (sym (parts-is c ps (x .lead .is))) ∙ ap (λ z. c .parts ++ (z ∷ [])) (sym (x .is)))
       (joined ps (x .piece) (w ++ (b ∷ [])) (x .lead .good) (x .fine) (ap (λ z. z ++ (b ∷ [])) (x .all ∙ ap (λ z. z ++ printPiece (x .piece)) (x .lead .all)) ∙ ap (λ z. (fronts ps ++ printPiece (x .piece)) ++ (z ∷ [])) (e ∙ shut-is c ps (x .lead .is))))
   part-shuts c p b w e (made-reference x) =
       record {
@@ -352,7 +353,7 @@ module _ (shut : ℕ) (r : Bool) where
       record {
         pieces = ps ++ (x .piece ∷ []);
         good = all-append (Fine labels) ps (x .piece ∷ []) (x .lead .good) (x .fine, tt);
-        is = ap (λ z. with z p) (x .lead .is) ∙ ap (λ z. context shut r (map meansPiece ps ++ (z ∷ []))) (x .is) ∙ ap (context shut r) (sym (means-snoc ps (x .piece)));
+        is = ap (λ z. with z p) (x .lead .is) ∙ ap (λ z. context shut r (map barePiece ps ++ (z ∷ []))) (x .is) ∙ ap (context shut r) (sym (means-snoc ps (x .piece)));
         all =
             ap (λ z. z ++ (b ∷ [])) (x .all ∙ ap (λ z. z ++ printPiece (x .piece)) (x .lead .all))
             ∙ append-assoc (fronts ps) (printPiece (x .piece)) (b ∷ [])
@@ -396,7 +397,7 @@ module _ (shut : ℕ) (r : Bool) where
   tag-fine : (b : Base) (t : Tag) → goodBase b ≡ true → goodTag (some t) ≡ true → (labels && tagFits (formIn b)) ≡ true → Fine labels (record { base = b; tag = some t })
   tag-fine b t g h f = both (goodBase b) (goodTag (some t) && (labels && tagFits (formIn b))) g (both (goodTag (some t)) (labels && tagFits (formIn b)) h f)
 
-  tag-made : (c : Context Place) (p : Part Place) (t : Tag) (u w : List ℕ) → Tagged c p u → goodTag (some t) ≡ true → w ≡ u ++ printTag (some t) → Made c (labelled p tt (t .name) (meansScore (t .score))) w
+  tag-made : (c : Context Place) (p : Part Place) (t : Tag) (u w : List ℕ) → Tagged c p u → goodTag (some t) ≡ true → w ≡ u ++ printTag (some t) → Made c (labelled p tt (t .name) (bareScore (t .score))) w
   tag-made c p t u w (a-part x f) g e =
       made-part
       record {
@@ -404,7 +405,7 @@ module _ (shut : ℕ) (r : Bool) where
         lead = x .lead;
         piece = record { base = x .base; tag = some t };
         fine = tag-fine (x .base) t (x .good) g f;
-        is = ap (λ z. labelled z tt (t .name) (meansScore (t .score))) (x .is);
+        is = ap (λ z. labelled z tt (t .name) (bareScore (t .score))) (x .is);
         all = e ∙ ap (λ z. z ++ printTag (some t)) (x .all) ∙ append-assoc (x .before) (printBase (x .base)) (printTag (some t));
       }
   tag-made c p t u w (a-reference q f h i) g e =
@@ -414,7 +415,7 @@ module _ (shut : ℕ) (r : Bool) where
         context? = f;
         tag = t;
         good = g;
-        is = ap (λ z. labelled z tt (t .name) (meansScore (t .score))) h;
+        is = ap (λ z. labelled z tt (t .name) (bareScore (t .score))) h;
         all = e ∙ ap (λ z. z ++ printTag (some t)) i;
       }
 
@@ -488,7 +489,7 @@ module _ (shut : ℕ) (r : Bool) where
       (λ f.
       branchO (numberEnd tt d) (InvC (w ++ (b ∷ []))) _ _
       (λ n h.
-      let s = so-ended (isMinus (x .sign)) d n (x .bytes) (x .so) h in
+      let s = so-ended tt (isMinus (x .sign)) d n (x .bytes) (x .so) h in
       let l = label-more c p _ w b (x .labelled) in
       subst (λ (z : Option _). Made c (labelled p tt name z) (w ++ (b ∷ []))) (ap some (sym (s .means)))
       (tag-made c p (record { name = name; score = some (record { sign = x .sign; number = s .numeral }) }) (l .front) (w ++ (b ∷ [])) (l .tagged)
@@ -541,7 +542,7 @@ module _ (shut : ℕ) (r : Bool) where
       (λ g.
       branch (eqb b hash && c .refers && none? (c .parts)) (InvC (w ++ (b ∷ []))) _ _ (λ h. lonely h) (λ h. tt))))
     where
-      empty : (ps : List Piece) → none? (map meansPiece ps) ≡ true → ps ≡ []
+      empty : (ps : List Piece) → none? (map barePiece ps) ≡ true → ps ≡ []
       empty [] e = refl
       empty (p ∷ ps) e = absurd (false≢true e)
 
@@ -551,7 +552,7 @@ module _ (shut : ℕ) (r : Bool) where
           let a : r ≡ true = sym (ap (λ v. v .refers) (x .is)) ∙ and-right (eqb b hash) (c .refers) (and-left (eqb b hash && c .refers) (none? (c .parts)) h) in
           record {
             front = w;
-            tagged = a-reference a (x .is ∙ ap (λ v. context shut r (map meansPiece v)) z) refl (x .all ∙ ap fronts z ∙ fronts-nil);
+            tagged = a-reference a (x .is ∙ ap (λ v. context shut r (map barePiece v)) z) refl (x .all ∙ ap fronts z ∙ fronts-nil);
             all = ap (λ v. w ++ (v ∷ [])) (eqb-true b hash (and-left (eqb b hash) (c .refers) (and-left (eqb b hash && c .refers) (none? (c .parts)) h)));
           }
 
@@ -644,10 +645,10 @@ module _ (shut : ℕ) (r : Bool) where
       (λ d′ e. record { sign = x .sign; bytes = x .bytes ++ (b ∷ []); so = so-further (x .sign) d d′ b (x .bytes) (x .so) e; behind = behind-more c k (signByte (x .sign) ∷ x .bytes) w b (x .behind); takes = x .takes })
       (λ e.
       branchO (numberEnd tt d) (InvC (w ++ (b ∷ []))) _ _
-      (λ n h. value-end c (unlabelled tt k (mass n)) b w (based n (so-ended (x .sign) d n (x .bytes) (x .so) h)) (λ q. mass-tag (form k) (x .takes)))
+      (λ n h. value-end c (unlabelled tt k (mass n)) b w (based n (so-ended tt (x .sign) d n (x .bytes) (x .so) h)) (λ q. mass-tag (form k) (x .takes)))
       (λ h. tt))
     where
-      based : (n : Number Place) → Spelt (x .sign) n (x .bytes) → Based c (unlabelled tt k (mass n)) w
+      based : (n : Number Place) → Spelt tt (x .sign) n (x .bytes) → Based c (unlabelled tt k (mass n)) w
       based n s =
           record {
             before = x .behind .before;

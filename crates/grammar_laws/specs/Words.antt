@@ -1,19 +1,20 @@
 -- Key words: a word that folds to a key's spelling is that key, and no other; it is of letters alone.
-use Prim.Native.Nat.{ℕ, _-_}
+use Prim.Native.Nat.{ℕ, zero, suc, _+_, _-_}
 use native.Mathlib.Omega.{arith}
 use mathlib.Core.Path.{_≡_, refl, sym, ap, _∙_, subst}
 use mathlib.Core.Bool.{Bool, true, false, not, cond, _&&_, _||_, false≢true}
 use mathlib.Core.Option.{Option, none, some, Option·some-injective, Option·none-ne-some}
 use mathlib.Core.List.{List, [], _∷_, _++_, append-assoc, append-nil}
 use lib.Dec.{eqb, leb}
+use lib.ListN.{length, length-append}
 use borrow.Author.Tests.{eqb-true, leb-true, le-leb}
 use Rattle.scope.specs.declared.grammar.Key.{Key}
 use Rattle.scope.specs.declared.grammar.Key.the-variants.{NoKey, U, M, R, X, G, C, Obs, Unimod, Mod, Xlmod, Resid, Gno, Info, Formula, Glycan, Position, Limit}
 use Rattle.scope.specs.Bytes.{upper, isUpper, isLower, isLetter, colon, sameFolded}
-use Rattle.scope.specs.Keys.{spell, keys, keyAmong, keyOf}
+use Rattle.scope.specs.Keys.{spell, keys, keyAmong, keyOf, written}
 use Rattle.canonical_laws.specs.Lists.{branch, pick-true, pick-false, All}
 use Rattle.basics.specs.Tests.{and-left, and-right, both}
-use Rattle.grammar_laws.specs.Grammar.{allOf, leadKey, there?}
+use Rattle.grammar_laws.specs.Grammar.{allOf, withColon, leadKey, there?}
 use Rattle.grammar_laws.specs.Lists.{no}
 
 -- ---- two spellings that fold to one
@@ -208,3 +209,45 @@ lead-none w r b e f = pick-false (eqb b colon) _ _ f ∙ lead-spoilt w [] r b e
 pub no-key : (o : Option Key) → not (there? o) ≡ true → o ≡ none
 no-key none e = refl
 no-key (some k) e = absurd (false≢true e)
+
+-- ---- a key is as long as it is written
+folded-length : (a b : List ℕ) → sameFolded a b ≡ true → length a ≡ length b
+unfolding sameFolded
+folded-length [] [] e = refl
+folded-length [] (y ∷ b) e = absurd (false≢true e)
+folded-length (x ∷ a) [] e = absurd (false≢true e)
+folded-length (x ∷ a) (y ∷ b) e = ap suc (folded-length a b (and-right (eqb (upper x) (upper y)) (sameFolded a b) e))
+
+-- with a colon, where there is a word
+coloned : ℕ → ℕ
+coloned zero = zero
+coloned (suc n) = suc n + 1
+
+colon-length : (l : List ℕ) → length (withColon l) ≡ coloned (length l)
+unfolding coloned
+colon-length [] = refl
+colon-length (b ∷ l) = length-append (b ∷ l) (colon ∷ [])
+
+written-length : (k : Key) → length (written k) ≡ coloned (length (spell k))
+unfolding written spell coloned
+written-length NoKey = refl
+written-length U = refl
+written-length M = refl
+written-length R = refl
+written-length X = refl
+written-length G = refl
+written-length C = refl
+written-length Obs = refl
+written-length Unimod = refl
+written-length Mod = refl
+written-length Xlmod = refl
+written-length Resid = refl
+written-length Gno = refl
+written-length Info = refl
+written-length Formula = refl
+written-length Glycan = refl
+written-length Position = refl
+written-length Limit = refl
+
+pub word-length : (k : Key) (w : List ℕ) → sameFolded (spell k) w ≡ true → length (withColon w) ≡ length (written k)
+word-length k w e = colon-length w ∙ ap coloned (sym (folded-length (spell k) w e)) ∙ sym (written-length k)

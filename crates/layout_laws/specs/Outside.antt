@@ -1,13 +1,12 @@
 -- What the reader's state keeps to, byte by byte, and so what every line that is read keeps to, limits apart.
 use mathlib.Core.Path.{_≡_, refl, sym, ap, ap₂, _∙_, subst}
-use mathlib.Core.Bool.{Bool, true, false, not, cond, _&&_, _||_, false≢true, true≢false}
-use mathlib.Core.Option.{Option, none, some}
+use mathlib.Core.Bool.{Bool, true, false, not, _&&_, _||_, false≢true, true≢false}
+use mathlib.Core.Option.{none}
 use mathlib.Core.List.{List, [], _∷_, _++_, map}
-use Prim.Native.Nat.{ℕ, suc, _+_, _*_, _-_, _≤_, _<_}
+use Prim.Native.Nat.{ℕ, _+_, _≤_, _<_}
 use native.Mathlib.Omega.{arith}
-use native.Mathlib.Nat.{add-zero}
-use lib.Dec.{eqb}
 use lib.ListN.{length, length-append}
+use borrow.Author.Tests.{not-true}
 use Rattle.scope.specs.declared.grammar.Section.{Section}
 use Rattle.scope.specs.declared.grammar.Section.the-variants.{Plain, RangeFirst, RangeNext, UnsureFirst, UnsureNext}
 use Rattle.scope.specs.declared.grammar.Kind.{Kind}
@@ -17,17 +16,20 @@ use Rattle.scope.specs.declared.grammar.Mode.the-variants.{Front, Undecided, Co
 use Rattle.scope.specs.declared.grammar.Slot.{Slot}
 use Rattle.scope.specs.declared.grammar.Act.{Act}
 use Rattle.scope.specs.declared.grammar.Act.the-variants.{Stop, Go, Residue as aResidue, Begin, Digit, RunEnds, TermEnds}
-use Rattle.scope.specs.Bytes.{upper, isLower, isLetter, isDigit, openSquare, openCurly, openRound, shutRound, caret, question, dash}
+use Rattle.scope.specs.Bytes.{upper, isLower}
 use Rattle.scope.specs.Line.{Part, Bracket, Residue, Line}
-use Rattle.scope.specs.Content.{given, isReference, Inner, Content, lost, closed, going, innerStep}
-use Rattle.scope.specs.Reading.{square, front, labile, element, further, groupFirst, inGroup, undecided, counted, referred, act, mayEnd, Held, firstOf, withResidue, firstPosition, lastPosition, bracketOf, settled, waiting, withBracket, times, countDigit, onLast, withDigit, asNTerm, settledRun, State, dead, outside, inside, perform, refers?, resume, step, run, start, stuck, holds, lineOf, ended, reading}
+use Rattle.scope.specs.Content.{isReference, Inner, Content, lost, closed, going, innerStep}
+use Rattle.scope.specs.Reading.{counted, referred, act, mayEnd, Held, firstOf, withResidue, firstPosition, lastPosition, bracketOf, settled, waiting, withBracket, times, countDigit, onLast, withDigit, asNTerm, settledRun, State, dead, outside, inside, perform, refers?, resume, step, run, start, holds, reading}
 use Rattle.scope.specs.Modifications.{flat}
 use Rattle.scope.specs.Refusals.{isUnknown}
 use Rattle.scope.specs.Tables.{bracketTexts}
 use Rattle.basics.specs.Tests.{and-left, and-right}
+use Rattle.reading_laws.specs.Cases.{branch}
+use Rattle.reading_laws.specs.Acts.{each-mode, act-rule}
+use Rattle.reading_laws.specs.Kept.{Whole, reading-whole-from, put-by, digit-by, every-last}
 use Rattle.layout_laws.specs.Within.{Each, Byte, Nowhere, Stands}
 use Rattle.layout_laws.specs.Each.{each-append, each-map, each-one, each-two}
-use Rattle.layout_laws.specs.Inside.{branch, flat-append, flat-one, PartShape, PartsShape, Carried, InnerKeeps, ContentKeeps, inner-step}
+use Rattle.layout_laws.specs.Inside.{flat-append, flat-one, PartShape, PartsShape, Carried, InnerKeeps, ContentKeeps, inner-step}
 
 -- ---- the order of a line: where a residue was read, and where no count was
 abbrev late : Mode → Bool
@@ -76,87 +78,20 @@ countless CTerms = false
 abbrev leads : Mode → Mode → Bool
 leads m n = (not (late n) || late m) && (not (countless n) || countless m)
 
-abbrev ActKeeps : Mode → Act → Type 0
-ActKeeps m Stop = Unit {0}
-ActKeeps m (Go n) = leads m n ≡ true
-ActKeeps m (aResidue s n) = countless n ≡ false
-ActKeeps m (Begin s) = (leads m (s .after) ≡ true) × (leads m (s .referred) ≡ true)
-ActKeeps m Digit = Unit {0}
-ActKeeps m RunEnds = Unit {0}
-ActKeeps m TermEnds = countless m ≡ true
+abbrev keeps : Mode → Act → Bool
+keeps m Stop = true
+keeps m (Go n) = leads m n
+keeps m (aResidue s n) = not (countless n)
+keeps m (Begin s) = leads m (s .after) && leads m (s .referred)
+keeps m Digit = true
+keeps m RunEnds = true
+keeps m TermEnds = countless m
 
-either : (m : Mode) (t : Bool) (x y : Act) → ActKeeps m x → ActKeeps m y → ActKeeps m (cond t x y)
-either m t x y f g = branch t (ActKeeps m) x y (λ e. f) (λ e. g)
+act-keeps : (m : Mode) (b : ℕ) → keeps m (act m b) ≡ true
+act-keeps = act-rule keeps refl
 
-element-keeps : (m : Mode) (b : ℕ) → ActKeeps m (element b)
-unfolding element
-element-keeps m b = either m (isLetter b) (aResidue Plain Single) _ refl (either m (eqb b openRound) (Go Opened) Stop refl tt)
-
-further-keeps : (m : Mode) (b : ℕ) → late m ≡ true → ActKeeps m (further b)
-unfolding further
-further-keeps m b e = either m (eqb b dash) (Go CStart) (element b) (rw e) (element-keeps m b)
-
-pub act-keeps : (m : Mode) (b : ℕ) → ActKeeps m (act m b)
-unfolding act groupFirst inGroup undecided counted referred
-act-keeps Front b = either Front (eqb b openSquare) (Begin front) _ (refl, refl)
-    (either Front (eqb b openCurly) (Begin labile) (element b) (refl, refl) (element-keeps Front b))
-act-keeps Undecided b =
-    either Undecided (eqb b caret) (Go Caret) _ refl
-    (either Undecided (eqb b openSquare) (Begin front) _ (refl, refl)
-    (either Undecided (eqb b question) RunEnds _ tt
-    (either Undecided (eqb b dash) TermEnds Stop refl tt)))
-act-keeps Counted b =
-    either Counted (eqb b caret) (Go Caret) _ refl
-    (either Counted (eqb b openSquare) (Begin (square Unknown false Counted)) _ (refl, refl) (either Counted (eqb b question) RunEnds Stop tt tt))
-act-keeps Referred b = either Referred (eqb b openSquare) (Begin (square Unknown true Referred)) _ (refl, refl)
-    (either Referred (eqb b dash) TermEnds Stop refl tt)
-act-keeps Caret b = either Caret (isDigit b) Digit Stop tt tt
-act-keeps Counting b =
-    either Counting (isDigit b) Digit _ tt
-    (either Counting (eqb b openSquare) (Begin (square Unknown false Counted)) _ (refl, refl) (either Counting (eqb b question) RunEnds Stop tt tt))
-act-keeps Labiles b =
-    either Labiles (eqb b openCurly) (Begin labile) _ (refl, refl)
-    (either Labiles (eqb b openSquare) (Begin (square NTerm true NTerms)) (element b) (refl, refl) (element-keeps Labiles b))
-act-keeps NTerms b = either NTerms (eqb b openSquare) (Begin (square NTerm true NTerms)) _ (refl, refl)
-    (either NTerms (eqb b dash) (Go Start) Stop refl tt)
-act-keeps Start b = element-keeps Start b
-act-keeps Single b = either Single (eqb b openSquare) (Begin (square OnResidue true Single)) (further b) (refl, refl) (further-keeps Single b refl)
-act-keeps Opened b = either Opened (eqb b question) (Go UnsureOpened) _ refl (either Opened (isLetter b) (aResidue RangeFirst InRange) Stop refl tt)
-act-keeps UnsureOpened b = either UnsureOpened (isLetter b) (aResidue UnsureFirst InUnsure) Stop refl tt
-act-keeps InRange b =
-    either InRange (isLetter b) (aResidue RangeNext InRange) _ refl
-    (either InRange (eqb b openSquare) (Begin (square OnResidue true InRange)) _ (refl, refl)
-    (either InRange (eqb b shutRound) (Go RangeEnd) Stop refl tt))
-act-keeps InUnsure b =
-    either InUnsure (isLetter b) (aResidue UnsureNext InUnsure) _ refl
-    (either InUnsure (eqb b openSquare) (Begin (square OnResidue true InUnsure)) _ (refl, refl)
-    (either InUnsure (eqb b shutRound) (Go UnsureEnd) Stop refl tt))
-act-keeps RangeEnd b = either RangeEnd (eqb b openSquare) (Begin (square OnRange false Ranged)) Stop (refl, refl) tt
-act-keeps Ranged b = either Ranged (eqb b openSquare) (Begin (square OnRange false Ranged)) (further b) (refl, refl) (further-keeps Ranged b refl)
-act-keeps UnsureEnd b = further-keeps UnsureEnd b refl
-act-keeps CStart b = either CStart (eqb b openSquare) (Begin (square CTerm true CTerms)) Stop (refl, refl) tt
-act-keeps CTerms b = either CTerms (eqb b openSquare) (Begin (square CTerm true CTerms)) Stop (refl, refl) tt
-
-end-late : (m : Mode) → mayEnd m ≡ true → late m ≡ true
-end-late Front e = e
-end-late Undecided e = e
-end-late Counted e = e
-end-late Referred e = e
-end-late Caret e = e
-end-late Counting e = e
-end-late Labiles e = e
-end-late NTerms e = e
-end-late Start e = e
-end-late Single e = e
-end-late Opened e = e
-end-late UnsureOpened e = e
-end-late InRange e = refl
-end-late InUnsure e = refl
-end-late RangeEnd e = refl
-end-late Ranged e = e
-end-late UnsureEnd e = e
-end-late CStart e = refl
-end-late CTerms e = e
+end-late : (m : Mode) → (not (mayEnd m) || late m) ≡ true
+end-late = each-mode (λ m. not (mayEnd m) || late m) refl
 
 -- ---- what is read so far
 pub record BracketShape {P : Type 0} (n : ℕ) (k : Bracket P) : Type 0 where
@@ -208,7 +143,7 @@ implied false b e f = absurd (false≢true f)
 
 upper-byte : (b : ℕ) → Byte b → Byte (upper b)
 unfolding upper
-upper-byte b h = branch (isLower b) Byte (b - 32) b (λ e. omega arith) (λ e. h)
+upper-byte b h = branch Byte (isLower b) (omega arith) h
 
 -- one residue more leaves brackets where they stand
 stands-more : (k : Kind) (first last n : ℕ) → Stands k first last n → Stands k first last (n + 1)
@@ -317,36 +252,31 @@ module _ {P : Type 0} where
 
   bracket-keeps :
       (k : Kind) (i : P) (ps : List (Part P)) (h : Held P) (m q : ℕ) → HeldKeeps m h → PartsShape q ps → HeldKeeps (m + q) (withBracket k i ps h)
-  bracket-keeps Unknown i ps h m q w s =
-      waiting-keeps (bracketOf Unknown i ps h) h m q w
+  bracket-keeps k i ps h m q w s =
+      put-by (HeldKeeps (m + q)) k (bracketOf k i ps h) h
+      (λ u.
+      waiting-keeps (bracketOf k i ps h) h m q w
       (record {
         some-part = s .some-part;
         parts = s .parts;
         lone = s .lone;
-        unknown = refl;
+        unknown = u;
         stands =
-            record { first-0 = refl; last-0 = refl };
+            record { first-0 = ap (λ k. firstPosition k (length (h .residues)) (h .first)) u; last-0 = ap (λ k. lastPosition k (length (h .residues))) u };
         single = λ e. refl;
       })
-      (s .fits)
-  bracket-keeps Labile i ps h m q w s = settled-keeps (bracketOf Labile i ps h) h m q w (bracket-shape Labile i ps h q (w .group) s) (s .fits)
-  bracket-keeps NTerm i ps h m q w s = settled-keeps (bracketOf NTerm i ps h) h m q w (bracket-shape NTerm i ps h q (w .group) s) (s .fits)
-  bracket-keeps OnResidue i ps h m q w s = settled-keeps (bracketOf OnResidue i ps h) h m q w (bracket-shape OnResidue i ps h q (w .group) s)
-      (s .fits)
-  bracket-keeps OnRange i ps h m q w s = settled-keeps (bracketOf OnRange i ps h) h m q w (bracket-shape OnRange i ps h q (w .group) s) (s .fits)
-  bracket-keeps CTerm i ps h m q w s = settled-keeps (bracketOf CTerm i ps h) h m q w (bracket-shape CTerm i ps h q (w .group) s) (s .fits)
+      (s .fits))
+      (λ u. settled-keeps (bracketOf k i ps h) h m q w (bracket-shape k i ps h q (w .group) s) (s .fits))
 
   bracket-mode : (o : Mode) (k : Kind) (i : P) (ps : List (Part P)) (h : Held P) → ModeKeeps o h → ModeKeeps o (withBracket k i ps h)
-  bracket-mode o Unknown i ps h w =
+  bracket-mode o k i ps h w =
+      put-by (ModeKeeps o) k (bracketOf k i ps h) h
+      (λ u.
       record {
         some-residue = w .some-residue;
-        uncounted = λ e. each-append (λ k. k .counted ≡ none) (h .run) (bracketOf Unknown i ps h ∷ []) (w .uncounted e) (refl, tt);
-      }
-  bracket-mode o Labile i ps h w = record { some-residue = w .some-residue; uncounted = w .uncounted }
-  bracket-mode o NTerm i ps h w = record { some-residue = w .some-residue; uncounted = w .uncounted }
-  bracket-mode o OnResidue i ps h w = record { some-residue = w .some-residue; uncounted = w .uncounted }
-  bracket-mode o OnRange i ps h w = record { some-residue = w .some-residue; uncounted = w .uncounted }
-  bracket-mode o CTerm i ps h w = record { some-residue = w .some-residue; uncounted = w .uncounted }
+        uncounted = λ e. each-append (λ k. k .counted ≡ none) (h .run) (bracketOf k i ps h ∷ []) (w .uncounted e) (refl, tt);
+      })
+      (λ u. record { some-residue = w .some-residue; uncounted = w .uncounted })
 
   -- ---- counts
   counted-shape : (n : ℕ) (i : P) (k : Bracket P) → RunShape k → RunShape (times n i k)
@@ -361,24 +291,10 @@ module _ {P : Type 0} where
       }
 
   digit-shape : (i : P) (b : ℕ) (k : Bracket P) → RunShape k → RunShape (countDigit i b k)
-  digit-shape i b k w = go (k .counted)
-    where
-      go : (c : Option P) → RunShape (given c (λ p. times (k .count * 10 + (b - 48)) p k) (times (b - 48) i k))
-      go none = counted-shape (b - 48) i k w
-      go (some p) = counted-shape (k .count * 10 + (b - 48)) p k w
+  digit-shape i b k w = digit-by RunShape i b k (λ n p. counted-shape n p k w)
 
   digit-texts : (i : P) (b : ℕ) (k : Bracket P) → bracketTexts (countDigit i b k) ≡ bracketTexts k
-  digit-texts i b k = go (k .counted)
-    where
-      go : (c : Option P) → bracketTexts (given c (λ p. times (k .count * 10 + (b - 48)) p k) (times (b - 48) i k)) ≡ bracketTexts k
-      go none = refl
-      go (some p) = refl
-
-  last-shape : (i : P) (b : ℕ) (ks : List (Bracket P)) → Each RunShape ks → Each RunShape (onLast (countDigit i b) ks)
-  unfolding onLast
-  last-shape i b [] w = tt
-  last-shape i b (k ∷ []) w = (digit-shape i b k (w .0), tt)
-  last-shape i b (k ∷ j ∷ ks) w = (w .0, last-shape i b (j ∷ ks) (w .1))
+  digit-texts i b k = digit-by (λ j. bracketTexts j ≡ bracketTexts k) i b k (λ n p. refl)
 
   last-texts : (i : P) (b : ℕ) (ks : List (Bracket P)) → flat bracketTexts (onLast (countDigit i b) ks) ≡ flat bracketTexts ks
   unfolding onLast flat
@@ -392,7 +308,7 @@ module _ {P : Type 0} where
         letters = w .letters;
         group = w .group;
         brackets = w .brackets;
-        run = last-shape i b (h .run) (w .run);
+        run = every-last RunShape (countDigit i b) (digit-shape i b) (h .run) (w .run);
         fits = rw (last-texts i b (h .run)) (w .fits);
       }
 
@@ -449,7 +365,7 @@ module _ {P : Type 0} where
   begins s = record { parts = tt; none-refers = tt; fits = omega arith }
 
   perform-keeps :
-      (i : P) (b m : ℕ) (o : Mode) (h : Held P) (a : Act) → Byte b → HeldKeeps m h → ModeKeeps o h → ActKeeps o a → StateKeeps (m + 1) (perform i b h a)
+      (i : P) (b m : ℕ) (o : Mode) (h : Held P) (a : Act) → Byte b → HeldKeeps m h → ModeKeeps o h → keeps o a ≡ true → StateKeeps (m + 1) (perform i b h a)
   unfolding perform
   perform-keeps i b m o h Stop q w e g = tt
   perform-keeps i b m o h (Go n) q w e g = (held-more h m (m + 1) (omega arith) w, lead o n h g e)
@@ -457,7 +373,7 @@ module _ {P : Type 0} where
       let new : List (Residue P) = record { letter = upper b; section = s; at = i } ∷ [] in
       let l = length-append (h .residues) new in (
         held-more (withResidue i b s h) m (m + 1) (omega arith) (residue-keeps i b s h m q w),
-        record { some-residue = λ f. omega arith; uncounted = λ f. absurd (false≢true (sym g ∙ f)) },
+        record { some-residue = λ f. omega arith; uncounted = λ f. absurd (false≢true (sym (not-true (countless n) g) ∙ f)) },
       )
   perform-keeps i b m o h (Begin s) q w e g =
       record {
@@ -466,8 +382,8 @@ module _ {P : Type 0} where
         fits = omega arith;
         held = w;
         content = begins s;
-        after = lead o (s .after) h (g .0) e;
-        referred = lead o (s .referred) h (g .1) e;
+        after = lead o (s .after) h (and-left _ _ g) e;
+        referred = lead o (s .referred) h (and-right (leads o (s .after)) _ g) e;
       }
   perform-keeps i b m o h Digit q w e g = (
     held-more (withDigit i b h) m (m + 1) (omega arith) (digit-keeps i b h m w),
@@ -494,9 +410,8 @@ module _ {P : Type 0} where
   resume-keeps s at i h m x y lost e w a r g = tt
   resume-keeps s at i h m x y (closed ps) e w a r g = (
     held-more (withBracket (s .kind) at ps h) (x + y) m e (bracket-keeps (s .kind) at ps h x y w g),
-    branch (refers? ps) (λ o. ModeKeeps o (withBracket (s .kind) at ps h)) (s .referred) (s .after)
-        (λ t. bracket-mode (s .referred) (s .kind) at ps h r)
-        (λ t. bracket-mode (s .after) (s .kind) at ps h a),
+    branch (λ o. ModeKeeps o (withBracket (s .kind) at ps h)) (refers? ps) (bracket-mode (s .referred) (s .kind) at ps h r)
+        (bracket-mode (s .after) (s .kind) at ps h a),
   )
   resume-keeps s at i h m x y (going c) e w a r g = record { before = x; inner = y; fits = e; held = w; content = g; after = a; referred = r }
 
@@ -509,38 +424,12 @@ module _ {P : Type 0} where
       resume-keeps s at i h (m + 1) (w .before) (w .inner + 1) (innerStep i c b) (omega arith) (w .held) (w .after) (w .referred)
       (inner-step i c b (w .inner) q (w .content))
 
-  pub reader-keeps :
-      (note : ℕ → P) (i : ℕ) (s : State P) (l : List ℕ) (m : ℕ) → Each Byte l → StateKeeps m s → StateKeeps (m + length l) (run note i s l)
-  unfolding run
-  reader-keeps note i s [] m q w = rw (add-zero m) w
-  reader-keeps note i s (b ∷ l) m q w =
-      let e : m + suc (length l) ≡ m + 1 + length l = omega arith in
-      rw e (reader-keeps note (i + 1) (step (note i) s b) l (m + 1) (q .1) (step-keeps (note i) s b m (q .0) w))
-
 -- ---- a line that is read whole
 pub record LineShape {P : Type 0} (m : ℕ) (l : Line P) : Type 0 where
   pub some-residue : 0 < length (l .residues)
   pub letters : Each (λ r. Byte (r .letter)) (l .residues)
   pub brackets : Each (BracketShape (length (l .residues))) (l .brackets)
   pub fits : length (flat bracketTexts (l .brackets)) ≤ m
-
-ended-shape : (m n : ℕ) (s : State ℕ) (l : Line ℕ) → StateKeeps m s → ended n s ≡ holds l → LineShape m l
-ended-shape m n (dead p) l w e = let z : _≡_ {A = ℕ} 0 1 = cc in absurd (omega arith)
-ended-shape m n (outside o h) l w e = go (mayEnd o) refl e
-  where
-    go : (t : Bool) → mayEnd o ≡ t → cond t (holds (lineOf h)) (stuck n) ≡ holds l → LineShape m l
-    go true q f =
-        let x = w .0 .fits in
-        let same : lineOf h ≡ l = cc in
-        subst (LineShape m) same
-        (record {
-          some-residue = w .1 .some-residue (end-late o q);
-          letters = w .0 .letters;
-          brackets = w .0 .brackets;
-          fits = omega arith;
-        })
-    go false q f = let z : _≡_ {A = ℕ} 0 1 = cc in absurd (omega arith)
-ended-shape m n (inside s at h c) l w e = let z : _≡_ {A = ℕ} 0 1 = cc in absurd (omega arith)
 
 start-keeps : StateKeeps {P = ℕ} 0 start
 unfolding flat
@@ -550,5 +439,14 @@ start-keeps = (
 )
 
 pub line-shape : (s : List ℕ) (l : Line ℕ) → Each Byte s → reading s ≡ holds l → LineShape (0 + length s) l
-unfolding reading
-line-shape s l q e = ended-shape (0 + length s) (length s) (run (λ i. i) 0 start s) l (reader-keeps (λ i. i) 0 start s 0 q start-keeps) e
+line-shape s l q e =
+    let r = reading-whole-from StateKeeps Byte (λ i t b. step-keeps i t b i) start-keeps s l q e in
+    let w = r .keeps .0 in
+    let x = w .fits in
+    subst (LineShape (0 + length s)) (r .line)
+    (record {
+      some-residue = r .keeps .1 .some-residue (implied (mayEnd (r .mode)) _ (end-late (r .mode)) (r .ends));
+      letters = w .letters;
+      brackets = w .brackets;
+      fits = omega arith;
+    })

@@ -16,11 +16,11 @@ use Rattle.scope.specs.Modifications.{flat, namesOf, isLabelled}
 use Rattle.scope.specs.Refusals.{inRange, isUnknown}
 use Rattle.scope.specs.Tables.{bracketTexts}
 use Rattle.scope.specs.Positions.{floaters}
+use Rattle.reading_laws.specs.Cases.{Every}
 
 -- of each element of a list
 abbrev pub Each : {A : Type 0} → (A → Type 0) → List A → Type 0
-Each Q [] = Unit {0}
-Each Q (x ∷ l) = Q x × Each Q l
+Each Q l = Every Q l
 
 -- of the value, where there is one
 abbrev pub OfGiven : {A : Type 0} → (A → Type 0) → Option A → Type 0

@@ -1,6 +1,6 @@
 -- The promises of specs/Promises.antt are kept.
 use mathlib.Core.Path.{_≡_, refl, sym, ap, _∙_, subst}
-use mathlib.Core.Logic.{_↔_}
+use mathlib.Core.Logic.{_↔_, _⊎_, inl, inr}
 use mathlib.Core.Bool.{Bool, true, false, cond, _&&_, _||_}
 use mathlib.Core.Option.{Option, none, some}
 use mathlib.Core.List.{List, [], _∷_, _++_}
@@ -26,13 +26,19 @@ use Rattle.scope.specs.declared.answers.Ledger.{Ledger}
 use Rattle.scope.specs.Limits.{copyLimit}
 use Rattle.scope.specs.Line.{Line}
 use Rattle.scope.specs.Modifications.{all}
-use Rattle.scope.specs.Refusals.{Outcome, accepted, refused, outcome}
+use Rattle.scope.specs.Reading.{Reading, stuck, holds, reading}
+use Rattle.scope.specs.Refusals.{refusal4, Due, due, Outcome, accepted, refused, byteRefusals, outcome}
 use Rattle.scope.specs.Canonical.{canonical}
-use Rattle.scope.specs.Tables.{Tables, bytesOf, numbersOf, laid, tablesIn}
+use Rattle.scope.specs.Tables.{Tables, tablesOf, bytesOf, numbersOf, laid, tablesIn}
 use Rattle.scope.specs.Positions.{floaters, permittedPositions}
 use Rattle.scope.specs.Placements.{allowed, placements, firstPlacement, nextPlacement, freshListing, Listed, handed, notAllowed, requested}
 use Rattle.scope.specs.Masses.{sum, total, lacking, ledger, labileMass}
 use Rattle.scope.specs.Answers.{Said, good, refuses, saysRead, saysWrite, saysRequest, saysBooked, saysNumber, tooShort, areTables, readOutcome, saysOutcome, bytesAfter, numbersAfter, fitting, writes, outputAfter, requests, listingAfter, allows, totals, weighed, bookable, books, entries}
+use Rattle.reading_laws.specs.Laws.{placeOf, behind, dues}
+use Rattle.reading_laws.specs.Proved as reads
+use Rattle.grammar_laws.specs.Grammar.{Spelling, print, good as wellSpelt, means}
+use Rattle.grammar_laws.specs.Laws.{Accepts, Refuses}
+use Rattle.grammar_laws.specs.Proved as spelled
 use Rattle.layout_laws.specs.Laws.{tables-held}
 use Rattle.placement_laws.specs.Terms.{In, Ascending, AllRising, afterRequests, outOf, handedOut}
 use Rattle.placement_laws.specs.Laws as placing
@@ -42,7 +48,7 @@ use Rattle.reader.specs.ReadSays.{ReadSays}
 use Rattle.reader.proofs.Reading.{accepted-is}
 use Rattle.calls.specs.declared.Next.{Next}
 use Rattle.calls.specs.Writing.{WriteSays}
-use Rattle.promises.specs.Promises.{NextSays, AllowedSays, TotalSays, LedgerSays, Entered, HandsOut, Demand2, Demand3, Promises}
+use Rattle.promises.specs.Promises.{NextSays, AllowedSays, TotalSays, LedgerSays, Reader, Answer, TurnedAway, Demand1, Holding, Accepting, Entered, HandsOut, Demand2, Demand3, Promises}
 
 -- ---- an answer from what it says
 not-good : {A : Type 0} {a : A} {n p : ℕ} → good a ≡ refuses n p → ⊥
@@ -51,6 +57,17 @@ not-good e = let z : _≡_ {A = ℕ} 0 1 = cc in omega arith
 read-good : (r : Read) → saysRead r ≡ good tt → r ≡ Accepted
 read-good Accepted e = refl
 read-good (readRefused n p) e = absurd (not-good (sym e))
+
+read-refused : (r : Read) (n p : ℕ) → saysRead r ≡ refuses n p → r ≡ readRefused n p
+read-refused Accepted n p e = absurd (not-good e)
+read-refused (readRefused m q) n p e =
+    let x : m ≡ n = cc in
+    let y : q ≡ p = cc in
+    ap (λ z. readRefused z q) x ∙ ap (readRefused n) y
+
+read-same : (r q : Read) → saysRead r ≡ saysRead q → r ≡ q
+read-same r Accepted e = read-good r e
+read-same r (readRefused n p) e = read-refused r n p e
 
 write-good : (w : Write) (n : ℕ) → saysWrite w ≡ good n → w ≡ Written n
 write-good (Written m) n e = let z : m ≡ n = cc in ap Written z
@@ -115,7 +132,182 @@ held-after {s} {bs} {ns} {bs′} {ns′} r =
     subst (λ b. laws.HoldTables (r .line) b ns′) (sym (r .bytes))
     (subst (λ n. laws.HoldTables (r .line) (laid (bytesOf (r .line)) bs) n) (sym (r .numbers)) (demands .demand-2 .read s (r .line) (r .reads) bs ns))
 
+-- ---- demand 1
+readOf : Outcome → Read
+readOf (accepted l) = Accepted
+readOf (refused n p) = readRefused n p
+
+says-of : (o : Outcome) → saysRead (readOf o) ≡ saysOutcome o
+unfolding readOf
+says-of (accepted l) = refl
+says-of (refused n p) = refl
+
+some-answer : (s bs : List ℕ) (ns : List ℤ) → Answer ReadSays s bs ns
+some-answer s bs ns =
+    let o = readOutcome bs ns s in
+    record { read = readOf o; bytes = bytesAfter o bs; numbers = numbersAfter o ns; says = record { says = says-of o; bytes-after = refl; numbers-after = refl } }
+
+one-answer : (s bs : List ℕ) (ns : List ℤ) (r : Read) (bs₁ : List ℕ) (ns₁ : List ℤ) → ReadSays s bs ns r bs₁ ns₁ → (q : Read) (bs₂ : List ℕ) (ns₂ : List ℤ)
+    → ReadSays s bs ns q bs₂ ns₂ → (r ≡ q) × (bs₁ ≡ bs₂) × (ns₁ ≡ ns₂)
+one-answer s bs ns r bs₁ ns₁ v q bs₂ ns₂ w =
+    (read-same r q (v .says ∙ sym (w .says)), v .bytes-after ∙ sym (w .bytes-after), v .numbers-after ∙ sym (w .numbers-after))
+
+-- each number of the list is one of 1 to 12
+Numbered : List Due → Type 0
+Numbered [] = Unit {0}
+Numbered (d ∷ ds) = (1 ≤ d .number) × (d .number ≤ 12) × Numbered ds
+
+numbered : (ds : List Due) (k i : ℕ) → Numbered ds → placeOf ds k ≡ some i → (1 ≤ k) × (k ≤ 12)
+unfolding Numbered placeOf
+numbered [] k i n e = let z : _≡_ {A = ℕ} 0 1 = cc in absurd (omega arith)
+numbered (d ∷ ds) k i n e = go (eqb (d .number) k) refl e (numbered ds k i (n .2))
+  where
+    go : (t : Bool) → eqb (d .number) k ≡ t → cond t (d .place) (placeOf ds k) ≡ some i → (placeOf ds k ≡ some i → (1 ≤ k) × (k ≤ 12)) → (1 ≤ k) × (k ≤ 12)
+    go true q f ih = let z = eqb-true (d .number) k q in (omega (arith, n .0), omega (arith, n .1))
+    go false q f ih = ih f
+
+dues-numbered : (s : List ℕ) → Numbered (dues s)
+unfolding dues Numbered
+dues-numbered s = go (reading s)
+  where
+    above : (r : Reading) → Numbered (behind r)
+    above (stuck i) = tt
+    above (holds l) = (omega arith, omega arith, (omega arith, omega arith, (omega arith, omega arith, (omega arith, omega arith, (omega arith, omega arith, (omega arith, omega arith, (omega arith, omega arith, (omega arith, omega arith, tt))))))))
+
+    go : (r : Reading) → Numbered (byteRefusals s ++ (due 4 (refusal4 r) ∷ behind r))
+    go r = (omega arith, omega arith, (omega arith, omega arith, (omega arith, omega arith, (omega arith, omega arith, above r))))
+
+-- a refusal's number and place
+pub record Said13 (s : List ℕ) (n p : ℕ) : Type 0 where
+  pub from-1 : 1 ≤ n
+  pub to-13 : n ≤ 13
+  pub inside : p ≤ length s
+
+said-13 : (s bs : List ℕ) (ns : List ℤ) (n p : ℕ) → readOutcome bs ns s ≡ refused n p → Said13 s n p
+said-13 s bs ns n p e = go (tooShort bs ns) e
+  where
+    go : (t : Bool) → cond t (refused 13 0) (outcome s) ≡ refused n p → Said13 s n p
+    go true f =
+        let x : 13 ≡ n = cc in
+        let y : 0 ≡ p = cc in
+        record { from-1 = omega arith; to-13 = omega arith; inside = omega arith }
+    go false f =
+        let d = reads.laws .lowest-wins s n p .0 f .0 in
+        let r = numbered (dues s) n p (dues-numbered s) d in
+        record { from-1 = r .0; to-13 = omega (arith, r .1); inside = reads.laws .inside-line s n p d .0 }
+
+answered : (s bs : List ℕ) (ns : List ℤ) (r : Read) (bs′ : List ℕ) (ns′ : List ℤ) → ReadSays s bs ns r bs′ ns′ → (r ≡ Accepted) ⊎ TurnedAway s bs ns r bs′ ns′
+answered s bs ns r bs′ ns′ w = go (readOutcome bs ns s) refl
+  where
+    go : (o : Outcome) → readOutcome bs ns s ≡ o → (r ≡ Accepted) ⊎ TurnedAway s bs ns r bs′ ns′
+    go (accepted l) e = inl (read-good r (w .says ∙ ap saysOutcome e))
+    go (refused n p) e =
+        let q = said-13 s bs ns n p e in
+        inr
+        (record {
+          number = n;
+          place = p;
+          says = read-refused r n p (w .says ∙ ap saysOutcome e);
+          from-1 = q .from-1;
+          to-13 = q .to-13;
+          inside = q .inside;
+          bytes = w .bytes-after ∙ ap (λ z. bytesAfter z bs) e;
+          numbers = w .numbers-after ∙ ap (λ z. numbersAfter z ns) e;
+        })
+
 -- ---- demand 2
+accepts : (s bs : List ℕ) (ns : List ℤ) (r : Read) (bs′ : List ℕ) (ns′ : List ℤ) → ReadSays s bs ns r bs′ ns′
+    → (r ≡ Accepted) ↔ ((tooShort bs ns ≡ false) × ((l : Line ℕ) × Accepts s l))
+accepts s bs ns r bs′ ns′ w = (there, back)
+  where
+    there : r ≡ Accepted → (tooShort bs ns ≡ false) × ((l : Line ℕ) × Accepts s l)
+    there e =
+        let a = accepted-so (tooShort bs ns) (outcome s) (ap saysRead (sym e) ∙ w .says) in
+        (a .1, (a .0, spelled.laws .accepts s (a .0) .0 (a .2)))
+
+    back : (tooShort bs ns ≡ false) × ((l : Line ℕ) × Accepts s l) → r ≡ Accepted
+    back a =
+        let o : readOutcome bs ns s ≡ accepted (a .1 .0) = ap (λ z. cond z (refused 13 0) (outcome s)) (a .0) ∙ spelled.laws .accepts s (a .1 .0) .1 (a .1 .1) in
+        read-good r (w .says ∙ ap saysOutcome o)
+
+tables : (s bs : List ℕ) (ns : List ℤ) (bs′ : List ℕ) (ns′ : List ℤ) → ReadSays s bs ns Accepted bs′ ns′
+    → (t : Spelling) → wellSpelt t ≡ true → s ≡ print t → Holding t bs ns bs′ ns′
+tables s bs ns bs′ ns′ w t g p =
+    let r = was-read s bs ns bs′ ns′ w in
+    let a : reading s ≡ holds (r .line) = spelled.laws .lines s (r .line) .1 (spelled.laws .accepts s (r .line) .0 (r .reads) .spelt) in
+    let b : reading s ≡ holds (means t) = spelled.laws .lines s (means t) .1 (record { tree = t; fine = g; prints = p; says = refl }) in
+    let c : holds (r .line) ≡ holds (means t) = sym a ∙ b in
+    let e : r .line ≡ means t = cc in
+    record {
+      tables = held-after r .tables ∙ ap tablesOf e;
+      bytes = r .bytes ∙ ap (λ l. laid (bytesOf l) bs) e;
+      numbers = r .numbers ∙ ap (λ l. laid (numbersOf l) ns) e;
+    }
+
+refuses-by : (s bs : List ℕ) (ns : List ℤ) (r : Read) (bs′ : List ℕ) (ns′ : List ℤ) → ReadSays s bs ns r bs′ ns′ → (k i : ℕ)
+    → (r ≡ readRefused k i) ↔ (((tooShort bs ns ≡ true) × (k ≡ 13) × (i ≡ 0)) ⊎ ((tooShort bs ns ≡ false) × Refuses s k i))
+refuses-by s bs ns r bs′ ns′ w k i = (there, back)
+  where
+    outcome-is : (o : Outcome) → refuses k i ≡ saysOutcome o → o ≡ refused k i
+    outcome-is (accepted l) e = absurd (not-good (sym e))
+    outcome-is (refused m q) e =
+        let x : m ≡ k = cc in
+        let y : q ≡ i = cc in
+        ap (λ z. refused z q) x ∙ ap (refused k) y
+
+    go : (t : Bool) → tooShort bs ns ≡ t → cond t (refused 13 0) (outcome s) ≡ refused k i → ((tooShort bs ns ≡ true) × (k ≡ 13) × (i ≡ 0)) ⊎ ((tooShort bs ns ≡ false) × Refuses s k i)
+    go true e f =
+        let x : k ≡ 13 = cc in
+        let y : i ≡ 0 = cc in
+        inl (e, x, y)
+    go false e f = inr (e, spelled.laws .refuses s k i .0 f)
+
+    there : r ≡ readRefused k i → ((tooShort bs ns ≡ true) × (k ≡ 13) × (i ≡ 0)) ⊎ ((tooShort bs ns ≡ false) × Refuses s k i)
+    there e = go (tooShort bs ns) refl (outcome-is (readOutcome bs ns s) (ap saysRead (sym e) ∙ w .says))
+
+    back : ((tooShort bs ns ≡ true) × (k ≡ 13) × (i ≡ 0)) ⊎ ((tooShort bs ns ≡ false) × Refuses s k i) → r ≡ readRefused k i
+    back (inl a) =
+        let o : readOutcome bs ns s ≡ refused 13 0 = ap (λ z. cond z (refused 13 0) (outcome s)) (a .0) in
+        read-refused r 13 0 (w .says ∙ ap saysOutcome o) ∙ ap (λ z. readRefused z 0) (sym (a .1)) ∙ ap (readRefused k) (sym (a .2))
+    back (inr a) =
+        let o : readOutcome bs ns s ≡ refused k i = ap (λ z. cond z (refused 13 0) (outcome s)) (a .0) ∙ spelled.laws .refuses s k i .1 (a .1) in
+        read-refused r k i (w .says ∙ ap saysOutcome o)
+
+demand-1 : Demand1 ReadSays
+demand-1 = record { some-answer = some-answer; one-answer = one-answer; answered = answered }
+
+accepting : Accepting ReadSays
+accepting = record { accepts = accepts; tables = tables; refuses = refuses-by }
+
+-- ---- no other reader
+only-reader : (Says : Reader) → Demand1 Says → Accepting Says → (s bs : List ℕ) (ns : List ℤ) (r : Read) (bs′ : List ℕ) (ns′ : List ℤ)
+    → Says s bs ns r bs′ ns′ → ReadSays s bs ns r bs′ ns′
+only-reader Says d a s bs ns r bs′ ns′ w = go (some-answer s bs ns .read) (some-answer s bs ns .bytes) (some-answer s bs ns .numbers) (some-answer s bs ns .says)
+  where
+    same : (q : Read) (b : List ℕ) (n : List ℤ) → ReadSays s bs ns q b n → r ≡ q → bs′ ≡ b → ns′ ≡ n → ReadSays s bs ns r bs′ ns′
+    same q b n v e f g = record { says = ap saysRead e ∙ v .says; bytes-after = f ∙ v .bytes-after; numbers-after = g ∙ v .numbers-after }
+
+    taken : (b : List ℕ) (n : List ℤ) → ReadSays s bs ns Accepted b n → (tooShort bs ns ≡ false) × ((l : Line ℕ) × Accepts s l) → ReadSays s bs ns r bs′ ns′
+    taken b n v x =
+        let e : r ≡ Accepted = a .accepts s bs ns r bs′ ns′ w .1 x in
+        let t = x .1 .1 .spelt in
+        let h = a .tables s bs ns bs′ ns′ (subst (λ (z : Read). Says s bs ns z bs′ ns′) e w) (t .tree) (t .fine) (t .prints) in
+        let k = tables s bs ns b n v (t .tree) (t .fine) (t .prints) in
+        same Accepted b n v e (h .bytes ∙ sym (k .bytes)) (h .numbers ∙ sym (k .numbers))
+
+    left : (m p : ℕ) (b : List ℕ) (n : List ℤ) → ReadSays s bs ns (readRefused m p) b n → b ≡ bs → n ≡ ns → r ≡ readRefused m p → (r ≡ Accepted) ⊎ TurnedAway s bs ns r bs′ ns′ → ReadSays s bs ns r bs′ ns′
+    left m p b n v f g e (inl q) = absurd (not-good (ap saysRead (sym q ∙ e)))
+    left m p b n v f g e (inr q) = same (readRefused m p) b n v e (q .bytes ∙ sym f) (q .numbers ∙ sym g)
+
+    turned : (m p : ℕ) (b : List ℕ) (n : List ℤ) → ReadSays s bs ns (readRefused m p) b n → (readRefused m p ≡ Accepted) ⊎ TurnedAway s bs ns (readRefused m p) b n → ReadSays s bs ns r bs′ ns′
+    turned m p b n v (inl q) = absurd (not-good (ap saysRead (sym q)))
+    turned m p b n v (inr q) =
+        left m p b n v (q .bytes) (q .numbers) (a .refuses s bs ns r bs′ ns′ w m p .1 (refuses-by s bs ns (readRefused m p) b n v m p .0 refl)) (d .answered s bs ns r bs′ ns′ w)
+
+    go : (q : Read) (b : List ℕ) (n : List ℤ) → ReadSays s bs ns q b n → ReadSays s bs ns r bs′ ns′
+    go Accepted b n v = taken b n v (accepts s bs ns Accepted b n v .0 refl)
+    go (readRefused m p) b n v = turned m p b n v (answered s bs ns (readRefused m p) b n v)
+
 -- the line of areas that hold tables, where it fits
 fits : (c : List ℕ) (n : ℕ) → length c ≤ n → fitting c n ≡ good (length c)
 fits c n h = rw (le-ltb n (length c) h)
@@ -377,6 +569,9 @@ module _ (bs : List ℕ) (ns : List ℤ) (h : Taken bs ns) where
 pub promises : Promises
 promises =
     record {
+      demand-1 = demand-1;
+      accepting = accepting;
+      only-reader = only-reader;
       demand-2 = record { reads-back = reads-back; one-entry = one-entry };
       demand-3 = λ s bs ns bs′ ns′ w.
           let t = held-after (was-read s bs ns bs′ ns′ w) in

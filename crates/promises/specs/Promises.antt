@@ -1,13 +1,14 @@
--- Demands 2 and 3 of the tender, over what the calls ensure. `ReadSays`, `WriteSays`, `NextSays`, `TotalSays`, `AllowedSays` and `LedgerSays` are what
+-- The demands of the tender, over what the calls ensure. `ReadSays`, `WriteSays`, `NextSays`, `TotalSays`, `AllowedSays` and `LedgerSays` are what
 -- `reader::read` and `calls::{write, next_placement, total, is_allowed, ledger}` ensure. Their proofs: specs/Kept.antt.
 use mathlib.Core.Path.{_≡_}
-use mathlib.Core.Logic.{_↔_}
+use mathlib.Core.Logic.{_↔_, _⊎_}
+use mathlib.Core.Bool.{true, false}
 use mathlib.Core.List.{List, [], _∷_}
 use Prim.Native.Nat.{ℕ, _≤_}
 use lib.IntN.{ℤ, _+ℤ_}
 use lib.ListN.{length, take, drop}
 use Rattle.scope.specs.declared.answers.Read.{Read}
-use Rattle.scope.specs.declared.answers.Read.the-variants.{Accepted}
+use Rattle.scope.specs.declared.answers.Read.the-variants.{Accepted, Refused as readRefused}
 use Rattle.scope.specs.declared.answers.Write.{Write}
 use Rattle.scope.specs.declared.answers.Write.the-variants.{Written}
 use Rattle.scope.specs.declared.answers.Request.{Request}
@@ -18,10 +19,13 @@ use Rattle.scope.specs.declared.answers.Total.the-variants.{Millionths}
 use Rattle.scope.specs.declared.answers.Placement.{Placement}
 use Rattle.scope.specs.declared.answers.Listing.{Listing}
 use Rattle.scope.specs.declared.answers.Ledger.{Ledger}
-use Rattle.scope.specs.Tables.{tablesIn}
+use Rattle.scope.specs.Line.{Line}
+use Rattle.scope.specs.Tables.{tablesOf, bytesOf, numbersOf, laid, tablesIn}
 use Rattle.scope.specs.Placements.{freshListing}
 use Rattle.scope.specs.Masses.{sum, labileMass}
-use Rattle.scope.specs.Answers.{saysRequest, saysTotal, saysBooked, requests, listingAfter, allows, totals, books, entries}
+use Rattle.scope.specs.Answers.{tooShort, saysRequest, saysTotal, saysBooked, requests, listingAfter, allows, totals, books, entries}
+use Rattle.grammar_laws.specs.Grammar.{Spelling, print, good, means}
+use Rattle.grammar_laws.specs.Laws.{Accepts, Refuses}
 use Rattle.placement_laws.specs.Terms.{In, Ascending}
 use Rattle.reader.specs.ReadSays.{ReadSays}
 use Rattle.calls.specs.declared.Next.{Next}
@@ -40,7 +44,62 @@ TotalSays bs ns r = saysTotal r ≡ totals bs ns
 abbrev pub LedgerSays : List ℕ → List ℤ → Placement → Ledger → Type 0
 LedgerSays bs ns p r = (saysBooked (r .booked) ≡ books bs ns (p .at)) × (r .at ≡ entries (books bs ns (p .at)) (tablesIn bs ns) (p .at))
 
+-- ---- reading
+-- what a reader says of a line, two areas, its answer, and the areas afterwards. What follows is stated of any, and promised of `ReadSays`.
+abbrev pub Reader : Type 1
+Reader = List ℕ → List ℕ → List ℤ → Read → List ℕ → List ℤ → Type 0
+
+-- ---- demand 1
+
+pub record Answer (Says : Reader) (s bs : List ℕ) (ns : List ℤ) : Type 0 where
+  pub read : Read
+  pub bytes : List ℕ
+  pub numbers : List ℤ
+  pub says : Says s bs ns read bytes numbers
+
+-- a refusal, with its number and its place; nothing lent is changed
+pub record TurnedAway (s bs : List ℕ) (ns : List ℤ) (r : Read) (bs′ : List ℕ) (ns′ : List ℤ) : Type 0 where
+  pub number : ℕ
+  pub place : ℕ
+  pub says : r ≡ readRefused number place
+  pub from-1 : 1 ≤ number
+  pub to-13 : number ≤ 13
+  pub inside : place ≤ length s
+  pub bytes : bs′ ≡ bs
+  pub numbers : ns′ ≡ ns
+
+pub record Demand1 (Says : Reader) : Type 0 where
+  -- "Every line of bytes .. gets an answer": for any line and any areas there is one that meets what is ensured, and no other
+  pub some-answer : (s bs : List ℕ) (ns : List ℤ) → Answer Says s bs ns
+  pub one-answer :
+      (s bs : List ℕ) (ns : List ℤ) (r : Read) (bs₁ : List ℕ) (ns₁ : List ℤ) → Says s bs ns r bs₁ ns₁ → (q : Read) (bs₂ : List ℕ) (ns₂ : List ℤ)
+      → Says s bs ns q bs₂ ns₂ → (r ≡ q) × (bs₁ ≡ bs₂) × (ns₁ ≡ ns₂)
+  -- "A bad line is refused with a number and a place, and nothing lent changes"
+  pub answered :
+      (s bs : List ℕ) (ns : List ℤ) (r : Read) (bs′ : List ℕ) (ns′ : List ℤ) → Says s bs ns r bs′ ns′
+      → (r ≡ Accepted) ⊎ TurnedAway s bs ns r bs′ ns′
+
 -- ---- demand 2
+
+-- the areas hold the tables of what t means, and nothing else in them is changed
+pub record Holding (t : Spelling) (bs : List ℕ) (ns : List ℤ) (bs′ : List ℕ) (ns′ : List ℤ) : Type 0 where
+  pub tables : tablesIn bs′ ns′ ≡ tablesOf (means t)
+  pub bytes : bs′ ≡ laid (bytesOf (means t)) bs
+  pub numbers : ns′ ≡ laid (numbersOf (means t)) ns
+
+pub record Accepting (Says : Reader) : Type 0 where
+  -- "A line is accepted with exactly the tables that ProForma 2.1 within document 01 gives it": it is accepted exactly when the areas are long enough, a
+  -- good spelling prints it, it is no longer than the limit, and none of 5 to 12 is due of what the spelling means; any spelling of it means these tables
+  pub accepts :
+      (s bs : List ℕ) (ns : List ℤ) (r : Read) (bs′ : List ℕ) (ns′ : List ℤ) → Says s bs ns r bs′ ns′
+      → (r ≡ Accepted) ↔ ((tooShort bs ns ≡ false) × ((l : Line ℕ) × Accepts s l))
+  pub tables :
+      (s bs : List ℕ) (ns : List ℤ) (bs′ : List ℕ) (ns′ : List ℤ) → Says s bs ns Accepted bs′ ns′
+      → (t : Spelling) → good t ≡ true → s ≡ print t → Holding t bs ns bs′ ns′
+  -- "Reading tries 13, then 1 to 12 in that order; the lowest number wins, at its first place in the line"
+  pub refuses :
+      (s bs : List ℕ) (ns : List ℤ) (r : Read) (bs′ : List ℕ) (ns′ : List ℤ) → Says s bs ns r bs′ ns′ → (k i : ℕ)
+      → (r ≡ readRefused k i) ↔ (((tooShort bs ns ≡ true) × (k ≡ 13) × (i ≡ 0)) ⊎ ((tooShort bs ns ≡ false) × Refuses s k i))
 
 -- areas that a line s was read into, and an output that was written from them
 pub record Entered (s bs : List ℕ) (ns : List ℤ) (out : List ℕ) (w : Write) (out′ : List ℕ) : Type 0 where
@@ -83,8 +142,14 @@ pub record Demand3 (bs : List ℕ) (ns : List ℤ) : Type 0 where
       (m : ℤ) → TotalSays bs ns (Millionths m) → (p : Placement) → AllowedSays bs ns p Met → (r : Ledger) → LedgerSays bs ns p r
       → (r .booked ≡ Done) × (sum (r .at) +ℤ labileMass (tablesIn bs ns) ≡ m)
 
--- ---- both
-pub record Promises : Type 0 where
+-- ---- all
+pub record Promises : Type 1 where
+  pub demand-1 : Demand1 ReadSays
+  pub accepting : Accepting ReadSays
+  -- no other reader meets both: one that refuses all, or gives one table for all, or another place, does not
+  pub only-reader :
+      (Says : Reader) → Demand1 Says → Accepting Says → (s bs : List ℕ) (ns : List ℤ) (r : Read) (bs′ : List ℕ) (ns′ : List ℤ)
+      → Says s bs ns r bs′ ns′ → ReadSays s bs ns r bs′ ns′
   pub demand-2 : Demand2
   pub demand-3 :
       (s bs : List ℕ) (ns : List ℤ) (bs′ : List ℕ) (ns′ : List ℤ) → ReadSays s bs ns Accepted bs′ ns′ → Demand3 bs′ ns′

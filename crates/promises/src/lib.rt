@@ -1,1 +1,1 @@
-// The tender's demands 2 and 3, over what the calls ensure: specs/Promises.antt. No code.
+// The tender's demands, over what the calls ensure: specs/Promises.antt. No code.

@@ -19,6 +19,10 @@ pub onGiven : {A B : Type 0} (Q : B → Type 0) (o : Option A) {f : A → B} {y 
 onGiven Q (some x) p q = p x refl
 onGiven Q none p q = q
 
+pub given-on : {A B : Type 0} (Q : B → Type 0) (o : Option A) {f : A → B} {y : B} → ((x : A) → o ≡ some x → Q (f x)) → (o ≡ none → Q y) → Q (given o f y)
+given-on Q (some x) p q = p x refl
+given-on Q none p q = q refl
+
 -- a function of what the branches give
 pub through : {A B : Type 0} (g : A → B) (t : Bool) {x y : A} {x′ y′ : B} → g x ≡ x′ → g y ≡ y′ → g (cond t x y) ≡ cond t x′ y′
 through g true p q = p
@@ -47,8 +51,6 @@ module _ {A : Type 0} (Q : A → Type 0) where
   every-map R f h [] p = tt
   every-map R f h (x ∷ l) p = (h x (p .0), every-map R f h l (p .1))
 
--- where what holds of the value gives what holds of what is made of it
-pub onMaybe : {A B : Type 0} (R : A → Type 0) (Q : B → Type 0) (o : Option A) {f : A → B} {y : B} → Maybe R o → ((x : A) → R x → Q (f x)) → Q y
-    → Q (given o f y)
-onMaybe R Q (some x) a p q = p x a
-onMaybe R Q none a p q = q
+pub every-all : {A : Type 0} {Q : A → Type 0} → ((x : A) → Q x) → (l : List A) → Every Q l
+every-all f [] = tt
+every-all f (x ∷ l) = (f x, every-all f l)

@@ -1,5 +1,8 @@
 pub mod Laws
 pub mod Cases
+pub mod Acts
+pub mod Goes
+pub mod Kept
 pub mod Places
 pub mod Run
 pub mod Reached

@@ -1,24 +1,24 @@
 -- What holds of every state that is reached from the start: a bracket is closed by `]` or `}`, so is each pair in a text, and an accession stands
 -- only behind a key that has one.
-use Prim.Native.Nat.{ℕ, _+_}
-use mathlib.Core.Path.{_≡_, refl}
-use mathlib.Core.Bool.{Bool, true, false, not, cond, _&&_, _||_}
-use mathlib.Core.Option.{Option, none, some}
+use Prim.Native.Nat.{ℕ}
+use mathlib.Core.Path.{_≡_, refl, sym, subst}
+use mathlib.Core.Bool.{Bool, true, false, not, _&&_, _||_}
+use mathlib.Core.Option.{some}
 use mathlib.Core.List.{List, [], _∷_}
 use lib.Dec.{eqb}
-use Rattle.scope.specs.declared.grammar.Section.{Section}
-use Rattle.scope.specs.declared.grammar.Key.{Key}
-use Rattle.scope.specs.declared.grammar.Mode.{Mode}
-use Rattle.scope.specs.declared.grammar.Mode.the-variants.{Front, Undecided, Counted, Referred, Caret, Counting, Labiles, NTerms, Start, Single, Opened, UnsureOpened, InRange, InUnsure, RangeEnd, Ranged, UnsureEnd, CStart, CTerms}
+use borrow.Author.Tests.{eqb-true}
 use Rattle.scope.specs.declared.grammar.Slot.{Slot}
 use Rattle.scope.specs.declared.grammar.Act.{Act}
 use Rattle.scope.specs.declared.grammar.Act.the-variants.{Stop, Go, Residue as aResidue, Begin, Digit, RunEnds, TermEnds}
-use Rattle.scope.specs.Bytes.{isPrintable, isLetter, isDigit, isAlnum, isSign, isOpening, isShutting, closerOf, shutSquare, bar, hash, colon, dash, openSquare, openCurly, openRound, shutRound, caret, question}
-use Rattle.scope.specs.Keys.{keyOf, Form, massOrName, massOnly, digits, alnums, free, form, hashIsPlain}
+use Rattle.scope.specs.Bytes.{isPrintable, isOpening, isShutting, closerOf, hash, colon, openSquare}
+use Rattle.scope.specs.Keys.{form}
 use Rattle.scope.specs.Line.{Part}
-use Rattle.scope.specs.Content.{given, digitStep, numberEnd, isPlain, textStep, Context, Inner, begin, plain, keyed, inNumber, inCode, inText, hashed, inLabel, scoring, inScore, scored, Content, lost, closed, going, isReference, partEnd, valueEnd, textEnd, behindKey, colonAfter, accessionByte, nameBehind, none?, innerStep}
-use Rattle.scope.specs.Reading.{element, further, groupFirst, inGroup, undecided, counted, referred, act, Held, State, dead, outside, inside, perform, resume, step, run}
-use Rattle.reading_laws.specs.Cases.{branch, onGiven, Every, Maybe, onMaybe}
+use Rattle.scope.specs.Content.{isPlain, textStep, Context, Inner, begin, plain, keyed, inNumber, inCode, inText, hashed, inLabel, scoring, inScore, scored, Content, lost, closed, going, accessionByte, innerStep}
+use Rattle.scope.specs.Reading.{act, Held, State, dead, outside, inside, perform, resume, step, run}
+use Rattle.reading_laws.specs.Cases.{branch, Every, Maybe}
+use Rattle.reading_laws.specs.Acts.{ofSlot, act-rule}
+use Rattle.reading_laws.specs.Goes.{Valued, of-plain, of-number, of-code, of-text, Over, of-value, of-label, of-score, On, mass-begins, plain-begins, text-begins, refers, plain-on, plain-text, no-key, key-name, key-code, key-text, keyed-mass, keyed-text, mass-on, code-on, text-on, hash-on, label-begins, label-on, score-opens, score-sign, score-digit, score-on, score-over, Goes, stops, goes-on, part-over, shuts, goes}
+use Rattle.reading_laws.specs.Kept.{kept}
 
 pub data Closer : ℕ → Type 0 where
   square : Closer 93
@@ -58,6 +58,10 @@ textStep-closers h (c ∷ cs) b w =
     branch (Maybe Closers) (isOpening b) (closerOf-closer b, w)
     (branch (Maybe Closers) (eqb b c) (w .1) (branch (Maybe Closers) (isPrintable b && not (isShutting b)) w tt))
 
+-- the closers that are owed after a byte
+closers-after : (h : Bool) (cs : List ℕ) (b : ℕ) (ds : List ℕ) → textStep h cs b ≡ some ds → Closers cs → Closers ds
+closers-after h cs b ds e w = subst (Maybe Closers) e (textStep-closers h cs b w)
+
 -- ---- brackets
 module _ {P : Type 0} where
   GoodContent : Content P → Type 0
@@ -65,137 +69,67 @@ module _ {P : Type 0} where
   GoodContent (closed ps) = Unit {0}
   GoodContent (going c) = Good c
 
-  partEnd-good : (c : Context P) (p : Part P) (b : ℕ) → Closer (c .shut) → GoodContent (partEnd c p b)
-  unfolding partEnd GoodContent
-  partEnd-good c p b g =
-      branch GoodContent (eqb b (c .shut)) tt (branch GoodContent (eqb b bar && not (isReference (p .value))) g tt)
+  pub valued-good : {s : Inner P} {c : Context P} {p : Part P} → Valued s c p → Good s → Closer (c .shut)
+  valued-good of-plain g = g
+  valued-good (of-number e) g = g
+  valued-good of-code g = g .0
+  valued-good of-text g = g .0
 
-  valueEnd-good : (c : Context P) (p : Part P) (b : ℕ) → Closer (c .shut) → GoodContent (valueEnd c p b)
-  unfolding valueEnd GoodContent
-  valueEnd-good c p b g = branch GoodContent (eqb b hash && eqb (c .shut) shutSquare) g (partEnd-good c p b g)
+  pub over-good : {s : Inner P} {c : Context P} {p : Part P} → Over s c p → Good s → Closer (c .shut)
+  over-good (of-value v) g = valued-good v g
+  over-good of-label g = g
+  over-good of-score g = g
 
-  textEnd-good : (c : Context P) (at : P) (k : Key) (t cs : List ℕ) (b : ℕ) → Closer (c .shut) → GoodContent (textEnd c at k t cs b)
-  unfolding textEnd GoodContent
-  textEnd-good c at k [] cs b g = tt
-  textEnd-good c at k (x ∷ t) [] b g = valueEnd-good c _ b g
-  textEnd-good c at k (x ∷ t) (o ∷ cs) b g = tt
+  on-good : {i : P} {b : ℕ} {s t : Inner P} → On i b s t → Good s → Good t
+  on-good (mass-begins e) g = g
+  on-good (plain-begins e) g = g
+  on-good {b = b} (text-begins e) g = (g, closers-after false [] b _ e tt)
+  on-good (refers e) g = g
+  on-good (plain-on e) g = g
+  on-good {b = b} (plain-text e) g = (g, closers-after false [] b _ e tt)
+  on-good (no-key e f) g = (g, tt)
+  on-good (key-name e f a) g = g
+  on-good (key-code e f a) g = (g, a)
+  on-good (key-text e f a) g = (g, tt)
+  on-good (keyed-mass e) g = g
+  on-good {b = b} (keyed-text a e) g = (g, closers-after false [] b _ e tt)
+  on-good (mass-on e) g = g
+  on-good (code-on e) g = g
+  on-good {b = b} (text-on e) g = (g .0, closers-after _ _ b _ e (g .1))
+  on-good (hash-on v e) g = valued-good v g
+  on-good (label-begins e) g = g
+  on-good (label-on e) g = g
+  on-good (score-opens e) g = g
+  on-good (score-sign e) g = g
+  on-good (score-digit e) g = g
+  on-good (score-on e) g = g
+  on-good (score-over e f) g = g
 
-  behindKey-good : (c : Context P) (at : P) (k : Key) (q : Form) → form k ≡ q → Closer (c .shut) → Good (behindKey c at k q)
-  behindKey-good c at k massOrName e g = g
-  behindKey-good c at k massOnly e g = g
-  behindKey-good c at k digits e g = (g, rw e refl)
-  behindKey-good c at k alnums e g = (g, rw e refl)
-  behindKey-good c at k free e g = (g, tt)
-
-  colonAfter-good : (c : Context P) (at : P) (t : List ℕ) → Closer (c .shut) → Good (colonAfter c at t)
-  unfolding colonAfter
-  colonAfter-good c at t g = onGiven Good (keyOf t) (λ k e. behindKey-good c at k (form k) refl g) (g, tt)
-
-  nameBehind-good : (c : Context P) (at : P) (k : Key) (q : Form) (b : ℕ) → Closer (c .shut) → GoodContent (nameBehind c at k q b)
+  goes-good : {i : P} {b : ℕ} {s : Inner P} {x : Content P} → Goes i b s x → Good s → GoodContent x
   unfolding GoodContent
-  nameBehind-good c at k massOrName b g =
-      onMaybe Closers GoodContent (textStep false [] b) (textStep-closers false [] b tt) (λ cs w. (g, w)) tt
-  nameBehind-good c at k massOnly b g = tt
-  nameBehind-good c at k digits b g = tt
-  nameBehind-good c at k alnums b g = tt
-  nameBehind-good c at k free b g = tt
-
-  innerStep-good : (i : P) (c : Inner P) (b : ℕ) → Good c → GoodContent (innerStep i c b)
-  unfolding innerStep GoodContent
-  innerStep-good i (begin c) b g =
-      branch GoodContent (isSign b) g
-      (branch GoodContent (isPlain b) g
-      (onMaybe Closers GoodContent (textStep false [] b) (textStep-closers false [] b tt) (λ cs w. (g, w))
-      (branch GoodContent (eqb b hash && c .refers && none? (c .parts)) g tt)))
-  innerStep-good i (plain c at t) b g =
-      branch GoodContent (isPlain b) g
-      (branch GoodContent (eqb b colon) (colonAfter-good c at t g)
-      (onMaybe Closers GoodContent (textStep false [] b) (textStep-closers false [] b tt) (λ cs w. (g, w)) (valueEnd-good c _ b g)))
-  innerStep-good i (keyed c at k) b g = branch GoodContent (isSign b) g (nameBehind-good c at k (form k) b g)
-  innerStep-good i (inNumber c at k n d) b g =
-      onGiven GoodContent (digitStep d b) (λ d′ e. g) (onGiven GoodContent (numberEnd n d) (λ x e. valueEnd-good c _ b g) tt)
-  innerStep-good i (inCode c at k t) b g = branch GoodContent (accessionByte (form k) b) g (textEnd-good c at k t [] b (g .0))
-  innerStep-good i (inText c at k t cs) b g =
-      onMaybe Closers GoodContent (textStep (hashIsPlain (form k)) cs b) (textStep-closers (hashIsPlain (form k)) cs b (g .1))
-      (λ cs′ w. (g .0, w)) (textEnd-good c at k t cs b (g .0))
-  innerStep-good i (hashed c p) b g = branch GoodContent (isAlnum b) g tt
-  innerStep-good i (inLabel c p at name) b g =
-      branch GoodContent (isAlnum b) g (branch GoodContent (eqb b openRound) g (partEnd-good c _ b g))
-  innerStep-good i (scoring c p at name) b g = branch GoodContent (isSign b) g (branch GoodContent (isDigit b) g tt)
-  innerStep-good i (inScore c p at name n d) b g =
-      onGiven GoodContent (digitStep d b) (λ d′ e. g)
-      (branch GoodContent (eqb b shutRound) (onGiven GoodContent (numberEnd n d) (λ x e. g) tt) tt)
-  innerStep-good i (scored c p) b g = partEnd-good c p b g
+  goes-good stops g = tt
+  goes-good (goes-on o) g = on-good o g
+  goes-good (part-over o e) g = over-good o g
+  goes-good (shuts o e) g = tt
 
 -- ---- lines
-GoodAct : Act → Type 0
-GoodAct Stop = Unit {0}
-GoodAct (Go m) = Unit {0}
-GoodAct (aResidue s m) = Unit {0}
-GoodAct (Begin s) = Closer (s .shut)
-GoodAct Digit = Unit {0}
-GoodAct RunEnds = Unit {0}
-GoodAct TermEnds = Unit {0}
+closer : (n : ℕ) → isShutting n ≡ true → Closer n
+closer n e = go (eqb n 93) (eqb n 125) refl refl e
+  where
+    go : (t u : Bool) → eqb n 93 ≡ t → eqb n 125 ≡ u → (t || u) ≡ true → Closer n
+    go true u p q f = subst Closer (sym (eqb-true n 93 p)) square
+    go false u p q f = subst Closer (sym (eqb-true n 125 (rw f at q))) curly
 
-element-good : (b : ℕ) → GoodAct (element b)
-unfolding element GoodAct
-element-good b = branch GoodAct (isLetter b) tt (branch GoodAct (eqb b openRound) tt tt)
-
-further-good : (b : ℕ) → GoodAct (further b)
-unfolding further GoodAct
-further-good b = branch GoodAct (eqb b dash) tt (element-good b)
-
-groupFirst-good : (s : Section) (m : Mode) (b : ℕ) → GoodAct (groupFirst s m b)
-unfolding groupFirst GoodAct
-groupFirst-good s m b = branch GoodAct (isLetter b) tt tt
-
-inGroup-good : (s : Section) (m end : Mode) (b : ℕ) → GoodAct (inGroup s m end b)
-unfolding inGroup GoodAct
-inGroup-good s m end b =
-    branch GoodAct (isLetter b) tt (branch GoodAct (eqb b openSquare) square (branch GoodAct (eqb b shutRound) tt tt))
-
-undecided-good : (b : ℕ) → GoodAct (undecided b)
-unfolding undecided GoodAct
-undecided-good b =
-    branch GoodAct (eqb b openSquare) square (branch GoodAct (eqb b question) tt (branch GoodAct (eqb b dash) tt tt))
-
-counted-good : (b : ℕ) → GoodAct (counted b)
-unfolding counted GoodAct
-counted-good b = branch GoodAct (eqb b openSquare) square (branch GoodAct (eqb b question) tt tt)
-
-referred-good : (b : ℕ) → GoodAct (referred b)
-unfolding referred GoodAct
-referred-good b = branch GoodAct (eqb b openSquare) square (branch GoodAct (eqb b dash) tt tt)
-
-act-good : (m : Mode) (b : ℕ) → GoodAct (act m b)
-unfolding act GoodAct
-act-good Front b = branch GoodAct (eqb b openSquare) square (branch GoodAct (eqb b openCurly) curly (element-good b))
-act-good Undecided b = branch GoodAct (eqb b caret) tt (undecided-good b)
-act-good Counted b = branch GoodAct (eqb b caret) tt (counted-good b)
-act-good Referred b = referred-good b
-act-good Caret b = branch GoodAct (isDigit b) tt tt
-act-good Counting b = branch GoodAct (isDigit b) tt (counted-good b)
-act-good Labiles b = branch GoodAct (eqb b openCurly) curly (branch GoodAct (eqb b openSquare) square (element-good b))
-act-good NTerms b = branch GoodAct (eqb b openSquare) square (branch GoodAct (eqb b dash) tt tt)
-act-good Start b = element-good b
-act-good Single b = branch GoodAct (eqb b openSquare) square (further-good b)
-act-good Opened b = branch GoodAct (eqb b question) tt (groupFirst-good _ _ b)
-act-good UnsureOpened b = groupFirst-good _ _ b
-act-good InRange b = inGroup-good _ _ _ b
-act-good InUnsure b = inGroup-good _ _ _ b
-act-good RangeEnd b = branch GoodAct (eqb b openSquare) square tt
-act-good Ranged b = branch GoodAct (eqb b openSquare) square (further-good b)
-act-good UnsureEnd b = further-good b
-act-good CStart b = branch GoodAct (eqb b openSquare) square tt
-act-good CTerms b = branch GoodAct (eqb b openSquare) square tt
+abbrev goodAct : Act → Bool
+goodAct a = ofSlot (λ s. isShutting (s .shut)) a
 
 module _ {P : Type 0} where
-  perform-good : (i : P) (b : ℕ) (h : Held P) (a : Act) → GoodAct a → GoodState (perform i b h a)
-  unfolding perform GoodAct
+  perform-good : (i : P) (b : ℕ) (h : Held P) (a : Act) → goodAct a ≡ true → GoodState (perform i b h a)
+  unfolding perform
   perform-good i b h Stop g = tt
   perform-good i b h (Go m) g = tt
   perform-good i b h (aResidue s m) g = tt
-  perform-good i b h (Begin s) g = g
+  perform-good i b h (Begin s) g = closer (s .shut) g
   perform-good i b h Digit g = tt
   perform-good i b h RunEnds g = tt
   perform-good i b h TermEnds g = tt
@@ -209,10 +143,8 @@ module _ {P : Type 0} where
   pub step-good : (i : P) (s : State P) (b : ℕ) → GoodState s → GoodState (step i s b)
   unfolding step
   step-good i (dead p) b g = tt
-  step-good i (outside m h) b g = perform-good i b h (act m b) (act-good m b)
-  step-good i (inside s at h c) b g = resume-good s at h i (innerStep i c b) (innerStep-good i c b g)
+  step-good i (outside m h) b g = perform-good i b h (act m b) (act-rule (λ m. goodAct) refl m b)
+  step-good i (inside s at h c) b g = resume-good s at h i (innerStep i c b) (goes-good (goes i b c) g)
 
   pub run-good : (note : ℕ → P) (i : ℕ) (s : State P) (l : List ℕ) → GoodState s → GoodState (run note i s l)
-  unfolding run
-  run-good note i s [] g = g
-  run-good note i s (b ∷ l) g = run-good note (i + 1) (step (note i) s b) l (step-good (note i) s b g)
+  run-good note = kept note GoodState step-good

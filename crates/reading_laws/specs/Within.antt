@@ -1,35 +1,28 @@
 -- Every place that is noted while n bytes are read is one of theirs, and so is every byte of a part's text.
 use Prim.Native.Nat.{ℕ, suc, _+_, _≤_, _<_}
 use native.Mathlib.Omega.{arith}
-use native.Mathlib.Nat.{add-zero}
 use mathlib.Core.Path.{_≡_, refl, ap, subst}
-use mathlib.Core.Bool.{Bool, true, false, not, cond, _&&_, false≢true}
+use mathlib.Core.Bool.{Bool, true, false, cond, _&&_, false≢true}
 use mathlib.Core.Option.{Option, none, some}
-use mathlib.Core.List.{List, [], _∷_, _++_, map}
+use mathlib.Core.List.{List, [], _∷_, _++_}
 use lib.Dec.{eqb}
 use lib.ListN.{length, length-append}
 use Rattle.scope.specs.declared.grammar.Section.{Section}
 use Rattle.scope.specs.declared.grammar.Key.{Key}
 use Rattle.scope.specs.declared.grammar.Key.the-variants.{NoKey}
 use Rattle.scope.specs.declared.grammar.Kind.{Kind}
-use Rattle.scope.specs.declared.grammar.Kind.the-variants.{Unknown, Labile, NTerm, OnResidue, OnRange, CTerm}
 use Rattle.scope.specs.declared.grammar.Slot.{Slot}
 use Rattle.scope.specs.declared.grammar.Act.{Act}
 use Rattle.scope.specs.declared.grammar.Act.the-variants.{Stop, Go, Residue as aResidue, Begin, Digit, RunEnds, TermEnds}
-use Rattle.scope.specs.Bytes.{sameFolded, upper, isSign, isDigit, isAlnum, bar, hash, colon, openRound, shutRound, shutSquare}
-use Rattle.scope.specs.Keys.{spell, keys, keyAmong, keyOf, Form, massOrName, massOnly, digits, alnums, free, form, hashIsPlain, written}
+use Rattle.scope.specs.Bytes.{sameFolded, upper, colon}
+use Rattle.scope.specs.Keys.{spell, keys, keyAmong, keyOf, written}
 use Rattle.scope.specs.Line.{Number, Label, Value, mass, text, reference, Part, Bracket, Residue, Line}
-use Rattle.scope.specs.Content.{given, value, Digits, signed, whole, pointed, broken, digitStep, numberEnd, isPlain, textStep, Context, Inner, begin, plain, keyed, inNumber, inCode, inText, hashed, inLabel, scoring, inScore, scored, Content, lost, closed, going, unlabelled, labelled, isReference, partEnd, valueEnd, textEnd, behindKey, colonAfter, accessionByte, nameBehind, none?, innerStep}
-use Rattle.scope.specs.Reading.{act, Held, withResidue, bracketOf, settled, put, countDigit, onLast, asNTerm, settledRun, State, dead, outside, inside, perform, resume, step, run, start, stuck, holds, lineOf, mayEnd, ended, reading}
+use Rattle.scope.specs.Content.{given, value, Digits, signed, whole, pointed, broken, numberEnd, Context, Inner, begin, plain, keyed, inNumber, inCode, inText, hashed, inLabel, scoring, inScore, scored, Content, lost, closed, going, unlabelled, labelled, innerStep}
+use Rattle.scope.specs.Reading.{act, Held, withResidue, bracketOf, put, countDigit, asNTerm, settledRun, State, dead, outside, inside, perform, resume, step, run, holds, reading}
 use Rattle.scope.specs.Refusals.{textOf}
-use Rattle.reading_laws.specs.Cases.{branch, onGiven, Every, Maybe, every-append, every-map}
-
--- ---- the last element of a list
-every-last : {A : Type 0} (Q : A → Type 0) (f : A → A) → ((x : A) → Q x → Q (f x)) → (l : List A) → Every Q l → Every Q (onLast f l)
-unfolding onLast
-every-last Q f h [] p = tt
-every-last Q f h (x ∷ []) p = (h x (p .0), tt)
-every-last Q f h (x ∷ y ∷ l) p = (p .0, every-last Q f h (y ∷ l) (p .1))
+use Rattle.reading_laws.specs.Cases.{onGiven, Every, Maybe, every-append, every-map, every-all}
+use Rattle.reading_laws.specs.Goes.{Valued, of-plain, of-number, of-code, of-text, Over, of-value, of-label, of-score, On, mass-begins, plain-begins, text-begins, refers, plain-on, plain-text, no-key, key-name, key-code, key-text, keyed-mass, keyed-text, mass-on, code-on, text-on, hash-on, label-begins, label-on, score-opens, score-sign, score-digit, score-on, score-over, Goes, stops, goes-on, part-over, shuts, goes}
+use Rattle.reading_laws.specs.Kept.{Whole, reading-whole-from, put-by, every-last}
 
 -- ---- what is inside the first n bytes
 module _ (n : ℕ) where
@@ -129,9 +122,9 @@ keyOf-length : (t : List ℕ) (k : Key) → keyOf t ≡ some k → length (writt
 unfolding keyOf
 keyOf-length t k e = subst (Maybe (λ j. length (written j) ≡ length t + 1)) e (among-length keys t all-spelled)
 
-no-key : length (written NoKey) ≡ 0
+no-key-written : length (written NoKey) ≡ 0
 unfolding written spell
-no-key = refl
+no-key-written = refl
 
 snoc-length : (t : List ℕ) (b : ℕ) → length (t ++ (b ∷ [])) ≡ length t + 1
 snoc-length t b = length-append t (b ∷ [])
@@ -144,7 +137,7 @@ module _ (n i : ℕ) (h : i < n) where
 
   -- a text begins at this byte
   fresh : Text n (i + 1) i NoKey 1
-  fresh = record { begun = h; so-far = omega (arith, no-key) }
+  fresh = record { begun = h; so-far = omega (arith, no-key-written) }
 
   -- a text that is over is inside
   over : (at : ℕ) (k : Key) (t : List ℕ) → Text n i at k (length t) → WithinPart n (unlabelled at k (text t))
@@ -157,50 +150,13 @@ module _ (n i : ℕ) (h : i < n) where
       → WithinPart n (labelled p at name s)
   tagged p at name s w q r = record { at = w .at; text = w .text; value = w .value; label = record { at = q; score = r } }
 
-  partEnd-within : (c : Context ℕ) (p : Part ℕ) (b : ℕ) → Every (WithinPart n) (c .parts) → WithinPart n p → WithinContent n (i + 1) (partEnd c p b)
-  unfolding partEnd WithinContent WithinInner
-  partEnd-within c p b g w =
-      let ps = every-append (WithinPart n) (c .parts) (p ∷ []) g (w, tt) in
-      branch (WithinContent n (i + 1)) (eqb b (c .shut)) ps
-      (branch (WithinContent n (i + 1)) (eqb b bar && not (isReference (p .value))) ps tt)
+  -- a key and its colon are read
+  behind : (at : ℕ) (t : List ℕ) (k : Key) → keyOf t ≡ some k → Text n i at NoKey (length t) → Text n (i + 1) at k 0
+  behind at t k e w = record { begun = w .begun; so-far = omega (arith, w .so-far, keyOf-length t k e, no-key-written) }
 
-  valueEnd-within : (c : Context ℕ) (p : Part ℕ) (b : ℕ) → Every (WithinPart n) (c .parts) → WithinPart n p → WithinContent n (i + 1) (valueEnd c p b)
-  unfolding valueEnd WithinContent WithinInner
-  valueEnd-within c p b g w = branch (WithinContent n (i + 1)) (eqb b hash && eqb (c .shut) shutSquare) (g, w) (partEnd-within c p b g w)
-
-  textEnd-within : (c : Context ℕ) (at : ℕ) (k : Key) (t cs : List ℕ) (b : ℕ) → Every (WithinPart n) (c .parts) → Text n i at k (length t)
-      → WithinContent n (i + 1) (textEnd c at k t cs b)
-  unfolding textEnd WithinContent
-  textEnd-within c at k [] cs b g w = tt
-  textEnd-within c at k (x ∷ t) [] b g w = valueEnd-within c _ b g (over at k (x ∷ t) w)
-  textEnd-within c at k (x ∷ t) (o ∷ cs) b g w = tt
-
-  behindKey-within : (c : Context ℕ) (at : ℕ) (k : Key) (q : Form) → Every (WithinPart n) (c .parts) → Text n (i + 1) at k 0
-      → WithinInner n (i + 1) (behindKey c at k q)
-  unfolding WithinInner
-  behindKey-within c at k massOrName g w = (g, w)
-  behindKey-within c at k massOnly g w = (g, w)
-  behindKey-within c at k digits g w = (g, w)
-  behindKey-within c at k alnums g w = (g, w)
-  behindKey-within c at k free g w = (g, w)
-
-  colonAfter-within : (c : Context ℕ) (at : ℕ) (t : List ℕ) → Every (WithinPart n) (c .parts) → Text n i at NoKey (length t)
-      → WithinInner n (i + 1) (colonAfter c at t)
-  unfolding colonAfter WithinInner
-  colonAfter-within c at t g w =
-      onGiven (WithinInner n (i + 1)) (keyOf t)
-      (λ k e. behindKey-within c at k (form k) g (record { begun = w .begun; so-far = omega (arith, w .so-far, keyOf-length t k e, no-key) }))
-      (g, longer at NoKey t colon w)
-
-  nameBehind-within : (c : Context ℕ) (at : ℕ) (k : Key) (q : Form) (b : ℕ) → Every (WithinPart n) (c .parts) → Text n i at k 0
-      → WithinContent n (i + 1) (nameBehind c at k q b)
-  unfolding WithinContent WithinInner
-  nameBehind-within c at k massOrName b g w =
-      onGiven (WithinContent n (i + 1)) (textStep false [] b) (λ cs e. (g, longer at k [] b w)) tt
-  nameBehind-within c at k massOnly b g w = tt
-  nameBehind-within c at k digits b g w = tt
-  nameBehind-within c at k alnums b g w = tt
-  nameBehind-within c at k free b g w = tt
+  -- a part begins at this byte
+  here : WithinPart n (unlabelled i NoKey reference)
+  here = record { at = h; text = omega (arith, no-key-written); value = tt; label = tt }
 
   number-at : (x : ℕ) (d : Digits) (y : Number ℕ) → numberEnd x d ≡ some y → x ≡ y .at
   unfolding numberEnd
@@ -209,63 +165,63 @@ module _ (n i : ℕ) (h : i < n) where
   number-at x (pointed s m) y e = let z : _≡_ {A = ℕ} 0 1 = cc in absurd (omega arith)
   number-at x (broken s m d) y e = ap (λ o. given o (λ z. z .at) x) e
 
-  innerStep-within : (c : Inner ℕ) (b : ℕ) → WithinInner n i c → WithinContent n (i + 1) (innerStep i c b)
-  unfolding innerStep WithinContent WithinInner
-  innerStep-within (begin c) b g =
-      branch (WithinContent n (i + 1)) (isSign b) (g, record { at = h; text = omega (arith, no-key); value = tt; label = tt }, h)
-      (branch (WithinContent n (i + 1)) (isPlain b) (g, fresh)
-      (onGiven (WithinContent n (i + 1)) (textStep false [] b) (λ cs e. (g, fresh))
-      (branch (WithinContent n (i + 1)) (eqb b hash && c .refers && none? (c .parts)) (g, record { at = h; text = omega (arith, no-key); value = tt; label = tt }) tt)))
-  innerStep-within (plain c at t) b g =
-      branch (WithinContent n (i + 1)) (isPlain b) (g .0, longer at NoKey t b (g .1))
-      (branch (WithinContent n (i + 1)) (eqb b colon) (colonAfter-within c at t (g .0) (g .1))
-      (onGiven (WithinContent n (i + 1)) (textStep false [] b) (λ cs e. (g .0, longer at NoKey t b (g .1)))
-      (valueEnd-within c _ b (g .0) (over at NoKey t (g .1)))))
-  innerStep-within (keyed c at k) b g =
-      branch (WithinContent n (i + 1)) (isSign b) (g .0, record { at = g .1 .begun; text = omega (arith, g .1 .so-far); value = tt; label = tt }, h)
-      (nameBehind-within c at k (form k) b (g .0) (g .1))
-  innerStep-within (inNumber c at k x d) b g =
-      onGiven (WithinContent n (i + 1)) (digitStep d b) (λ d′ e. g)
-      (onGiven (WithinContent n (i + 1)) (numberEnd x d)
-      (λ y e. valueEnd-within c _ b (g .0) (weighed at k y (g .1) (subst (λ z. z < n) (number-at x d y e) (g .2)))) tt)
-  innerStep-within (inCode c at k t) b g =
-      branch (WithinContent n (i + 1)) (accessionByte (form k) b) (g .0, longer at k t b (g .1)) (textEnd-within c at k t [] b (g .0) (g .1))
-  innerStep-within (inText c at k t cs) b g =
-      onGiven (WithinContent n (i + 1)) (textStep (hashIsPlain (form k)) cs b) (λ cs′ e. (g .0, longer at k t b (g .1)))
-      (textEnd-within c at k t cs b (g .0) (g .1))
-  innerStep-within (hashed c p) b g = branch (WithinContent n (i + 1)) (isAlnum b) (g .0, g .1, h) tt
-  innerStep-within (inLabel c p at name) b g =
-      branch (WithinContent n (i + 1)) (isAlnum b) g
-      (branch (WithinContent n (i + 1)) (eqb b openRound) g (partEnd-within c _ b (g .0) (tagged p at name none (g .1) (g .2) tt)))
-  innerStep-within (scoring c p at name) b g =
-      branch (WithinContent n (i + 1)) (isSign b) (g .0, g .1, g .2, h)
-      (branch (WithinContent n (i + 1)) (isDigit b) (g .0, g .1, g .2, h) tt)
-  innerStep-within (inScore c p at name x d) b g =
-      onGiven (WithinContent n (i + 1)) (digitStep d b) (λ d′ e. g)
-      (branch (WithinContent n (i + 1)) (eqb b shutRound)
-      (onGiven (WithinContent n (i + 1)) (numberEnd x d)
-      (λ y e. (g .0, tagged p at name (some y) (g .1) (g .2) (subst (λ z. z < n) (number-at x d y e) (g .3)))) tt) tt)
-  innerStep-within (scored c p) b g = partEnd-within c p b (g .0) (g .1)
+  valued-within : {s : Inner ℕ} {c : Context ℕ} {p : Part ℕ} → Valued s c p → WithinInner n i s → Every (WithinPart n) (c .parts) × WithinPart n p
+  unfolding WithinInner
+  valued-within of-plain g = (g .0, over _ NoKey _ (g .1))
+  valued-within (of-number {n = x} {d = d} {x = y} e) g = (g .0, weighed _ _ y (g .1) (subst (λ z. z < n) (number-at x d y e) (g .2)))
+  valued-within of-code g = (g .0, over _ _ _ (g .1))
+  valued-within of-text g = (g .0, over _ _ _ (g .1))
+
+  over-within : {s : Inner ℕ} {c : Context ℕ} {p : Part ℕ} → Over s c p → WithinInner n i s → Every (WithinPart n) (c .parts ++ (p ∷ []))
+  unfolding WithinInner
+  over-within {c = c} {p = p} (of-value v) g = let w = valued-within v g in every-append (WithinPart n) (c .parts) (p ∷ []) (w .0) (w .1, tt)
+  over-within (of-label {c = c} {p = p} {at = at} {name = name}) g =
+      every-append (WithinPart n) (c .parts) _ (g .0) (tagged p at name none (g .1) (g .2) tt, tt)
+  over-within (of-score {c = c}) g = every-append (WithinPart n) (c .parts) _ (g .0) (g .1, tt)
+
+  on-within : {b : ℕ} {s t : Inner ℕ} → On i b s t → WithinInner n i s → WithinInner n (i + 1) t
+  unfolding WithinInner
+  on-within (mass-begins e) g = (g, here, h)
+  on-within (plain-begins e) g = (g, fresh)
+  on-within (text-begins e) g = (g, fresh)
+  on-within (refers e) g = (g, here)
+  on-within {b = b} (plain-on {t = t} e) g = (g .0, longer _ NoKey t b (g .1))
+  on-within {b = b} (plain-text {t = t} e) g = (g .0, longer _ NoKey t b (g .1))
+  on-within (no-key {t = t} e f) g = (g .0, longer _ NoKey t colon (g .1))
+  on-within (key-name {t = t} {k = k} e f a) g = (g .0, behind _ t k f (g .1))
+  on-within (key-code {t = t} {k = k} e f a) g = (g .0, behind _ t k f (g .1))
+  on-within (key-text {t = t} {k = k} e f a) g = (g .0, behind _ t k f (g .1))
+  on-within (keyed-mass e) g = (g .0, record { at = g .1 .begun; text = omega (arith, g .1 .so-far); value = tt; label = tt }, h)
+  on-within {b = b} (keyed-text {k = k} a e) g = (g .0, longer _ k [] b (g .1))
+  on-within (mass-on e) g = g
+  on-within {b = b} (code-on {k = k} {t = t} e) g = (g .0, longer _ k t b (g .1))
+  on-within {b = b} (text-on {k = k} {t = t} e) g = (g .0, longer _ k t b (g .1))
+  on-within (hash-on v e) g = valued-within v g
+  on-within (label-begins e) g = (g .0, g .1, h)
+  on-within (label-on e) g = g
+  on-within (score-opens e) g = g
+  on-within (score-sign e) g = (g .0, g .1, g .2, h)
+  on-within (score-digit e) g = (g .0, g .1, g .2, h)
+  on-within (score-on e) g = g
+  on-within (score-over {p = p} {at = at} {name = name} {n = x} {d = d} {x = y} e f) g =
+      (g .0, tagged p at name (some y) (g .1) (g .2) (subst (λ z. z < n) (number-at x d y f) (g .3)))
+
+  goes-within : {b : ℕ} {s : Inner ℕ} {x : Content ℕ} → Goes i b s x → WithinInner n i s → WithinContent n (i + 1) x
+  unfolding WithinContent WithinInner
+  goes-within stops g = tt
+  goes-within (goes-on o) g = on-within o g
+  goes-within (part-over o e) g = over-within o g
+  goes-within (shuts o e) g = over-within o g
 
   withResidue-within : (b : ℕ) (s : Section) (r : Held ℕ) → WithinHeld n r → WithinHeld n (withResidue i b s r)
   withResidue-within b s r g =
       record { residues = every-append (WithinResidue n) (r .residues) _ (g .residues) (h, tt); brackets = g .brackets; run = g .run }
 
   put-within : (k : Kind) (x : Bracket ℕ) (r : Held ℕ) → WithinBracket n x → WithinHeld n r → WithinHeld n (put k x r)
-  put-within k x r w g = go k
-    where
-      settled-within : WithinHeld n (settled x r)
-      settled-within =
-          record { residues = g .residues; brackets = every-append (WithinBracket n) (r .brackets) _ (g .brackets) (w, tt); run = g .run }
-
-      go : (k : Kind) → WithinHeld n (put k x r)
-      go Unknown =
-          record { residues = g .residues; brackets = g .brackets; run = every-append (WithinBracket n) (r .run) _ (g .run) (w, tt) }
-      go Labile = settled-within
-      go NTerm = settled-within
-      go OnResidue = settled-within
-      go OnRange = settled-within
-      go CTerm = settled-within
+  put-within k x r w g =
+      put-by (WithinHeld n) k x r
+      (λ u. record { residues = g .residues; brackets = g .brackets; run = every-append (WithinBracket n) (r .run) _ (g .run) (w, tt) })
+      (λ u. record { residues = g .residues; brackets = every-append (WithinBracket n) (r .brackets) _ (g .brackets) (w, tt); run = g .run })
 
   countDigit-within : (b : ℕ) (k : Bracket ℕ) → WithinBracket n k → WithinBracket n (countDigit i b k)
   countDigit-within b k w =
@@ -310,30 +266,14 @@ module _ (n i : ℕ) (h : i < n) where
   unfolding step WithinState
   step-within (dead p) b g = tt
   step-within (outside m r) b g = perform-within b r (act m b) g
-  step-within (inside s at r c) b g = resume-within s at r (innerStep i c b) (g .0) (g .1) (innerStep-within c b (g .2))
-
-run-within : (n i : ℕ) (s : State ℕ) (l : List ℕ) → i + length l ≤ n → WithinState n i s → WithinState n (i + length l) (run (λ j. j) i s l)
-unfolding run
-run-within n i s [] h g = rw add-zero g
-run-within n i s (b ∷ l) h g =
-    let e : i + 1 + length l ≡ i + suc (length l) = omega arith in
-    subst (λ k. WithinState n k (run (λ j. j) (i + 1) (step i s b) l)) e
-    (run-within n (i + 1) (step i s b) l (omega arith) (step-within n i (omega arith) s b g))
+  step-within (inside s at r c) b g = resume-within s at r (innerStep i c b) (g .0) (g .1) (goes-within (goes i b c) (g .2))
 
 -- a line of the order holds places inside it
 pub reading-within : (s : List ℕ) (l : Line ℕ) → reading s ≡ holds l → WithinLine (length s) l
-unfolding reading WithinState
+unfolding WithinState
 reading-within s l e =
-    go (run (λ j. j) 0 start s) e
-    (run-within (length s) 0 start s (omega arith) (record { residues = tt; brackets = tt; run = tt }))
-  where
-    ending : (r : Held ℕ) (t : Bool) → cond t (holds (lineOf r)) (stuck (length s)) ≡ holds l → WithinHeld (length s) r → WithinLine (length s) l
-    ending r true f g =
-        let q : lineOf r ≡ l = cc in
-        subst (WithinLine (length s)) q (record { residues = g .residues; brackets = g .brackets })
-    ending r false f g = let z : _≡_ {A = ℕ} 0 1 = cc in absurd (omega arith)
-
-    go : (x : State ℕ) → ended (length s) x ≡ holds l → WithinState (length s) (0 + length s) x → WithinLine (length s) l
-    go (dead p) f g = let z : _≡_ {A = ℕ} 0 1 = cc in absurd (omega arith)
-    go (outside m r) f g = ending r (mayEnd m) f g
-    go (inside k at r c) f g = let z : _≡_ {A = ℕ} 0 1 = cc in absurd (omega arith)
+    let n = length s in
+    let w = reading-whole-from (λ i x. i ≤ n → WithinState n i x) (λ b. Unit {0})
+    (λ i x b r g q. step-within n i (omega arith) x b (g (omega arith))) (λ q. record { residues = tt; brackets = tt; run = tt }) s l (every-all (λ b. tt) s) e in
+    let g = w .keeps (omega arith) in
+    subst (WithinLine n) (w .line) (record { residues = g .residues; brackets = g .brackets })

@@ -1,0 +1,133 @@
+-- Which lines are accepted, and with what the others are refused, over the grammar.
+use Prim.Native.Nat.{ℕ, _+_, _≤_}
+use native.Mathlib.Omega.{arith}
+use mathlib.Core.Path.{_≡_, refl, sym, ap, _∙_, subst}
+use mathlib.Core.Logic.{_⊎_, inl, inr}
+use mathlib.Core.Bool.{Bool, true, false, cond}
+use mathlib.Core.Option.{Option, none, some}
+use mathlib.Core.List.{List, [], _∷_, _++_}
+use lib.Dec.{ltb}
+use lib.ListN.{length, take}
+use borrow.Author.Tests.{ltb-false, le-ltb}
+use Rattle.scope.specs.Limits.{lineLimit}
+use Rattle.scope.specs.Line.{Line}
+use Rattle.scope.specs.Reading.{Reading, stuck, holds, reading, run}
+use Rattle.scope.specs.Refusals.{refusal1, refusal2, Due, Outcome, accepted, refused, firstDue, lineRefusals, judged, byteRefusals, outcome}
+use Rattle.reading_laws.specs.Laws.{Clear, First}
+use Rattle.reading_laws.specs.Proved as reads
+use Rattle.clause_laws.specs.Proved as clauses
+use Rattle.grammar_laws.specs.Grammar.{means}
+use Rattle.grammar_laws.specs.Written.{line-read}
+use Rattle.grammar_laws.specs.Laws.{Begun, Stops, Accepts, Refuses, of-bytes, of-order, of-line}
+use Rattle.grammar_laws.specs.Lines.{spelt-read, read-spelt}
+
+-- ---- the place of refusal 4
+begun-read : (w : List ℕ) → Begun w → (l : List ℕ) × (t : Line ℕ) × (reading (w ++ l) ≡ holds t)
+begun-read w b = (b .more, means (b .tree), ap reading (b .prints) ∙ line-read (b .tree) (b .fine))
+
+read-begun : (w l : List ℕ) (t : Line ℕ) → reading (w ++ l) ≡ holds t → Begun w
+read-begun w l t e = let x = read-spelt (w ++ l) t e in record { more = l; tree = x .tree; fine = x .fine; prints = x .prints }
+
+pub stuck-stops : (s : List ℕ) (i : ℕ) → reading s ≡ stuck i → Stops s i
+stuck-stops s i e =
+    let r = reads.laws .place-of-4 s i .0 e in
+    record {
+      inside = r .inside;
+      begins = read-begun (take i s) (r .begins .0) (r .begins .1) (r .begins .2);
+      stops = λ h b. let q = begun-read (take (i + 1) s) b in r .stops h (q .0) (q .1) (q .2);
+      ends = λ h t g p. r .ends h (means t) (ap reading p ∙ line-read t g);
+    }
+
+pub stops-stuck : (s : List ℕ) (i : ℕ) → Stops s i → reading s ≡ stuck i
+stops-stuck s i w =
+    reads.laws .place-of-4 s i .1
+    (record {
+      inside = w .inside;
+      begins = begun-read (take i s) (w .begins);
+      stops = λ h l t e. w .stops h (read-begun (take (i + 1) s) l t e);
+      ends = λ h t e. let x = read-spelt s t e in w .ends h (x .tree) (x .fine) (x .prints);
+    })
+
+-- ---- acceptance
+not-refused : (l : Line ℕ) (k i : ℕ) → accepted l ≡ refused k i → ⊥
+not-refused l k i e = let z : _≡_ {A = ℕ} 0 1 = cc in omega arith
+
+clear-cases : (ds : List Due) (o : Outcome) (l : Line ℕ) → firstDue ds o ≡ accepted l → Clear ds × (o ≡ accepted l)
+unfolding firstDue
+clear-cases [] o l e = (tt, e)
+clear-cases (d ∷ ds) o l e = go (d .place) refl (clear-cases ds o l)
+  where
+    go : (p : Option ℕ) → d .place ≡ p → (firstDue ds o ≡ accepted l → Clear ds × (o ≡ accepted l)) → Clear (d ∷ ds) × (o ≡ accepted l)
+    go (some p) q ih = absurd (not-refused l (d .number) p (sym (rw q at e)))
+    go none q ih = let c = ih (rw q at e) in ((q, c .0), c .1)
+
+clear-due : (ds : List Due) (o : Outcome) → Clear ds → firstDue ds o ≡ o
+unfolding firstDue
+clear-due [] o c = refl
+clear-due (d ∷ ds) o c = rw (c .0) (clear-due ds o (c .1))
+
+not-long : (s : List ℕ) → refusal2 s ≡ none → length s ≤ lineLimit
+unfolding refusal2
+not-long s e = go (ltb lineLimit (length s)) refl e
+  where
+    go : (t : Bool) → ltb lineLimit (length s) ≡ t → cond t (some lineLimit) none ≡ none → length s ≤ lineLimit
+    go true f e = let z : _≡_ {A = ℕ} 0 1 = cc in absurd (omega arith)
+    go false f e = ltb-false lineLimit (length s) f
+
+long-none : (s : List ℕ) → length s ≤ lineLimit → refusal2 s ≡ none
+unfolding refusal2
+long-none s h = rw (le-ltb lineLimit (length s) h)
+
+empty-none : (s : List ℕ) (l : Line ℕ) → reading s ≡ holds l → refusal1 s ≡ none
+unfolding refusal1 reading run
+empty-none [] l e = let z : _≡_ {A = ℕ} 0 1 = cc in absurd (omega arith)
+empty-none (b ∷ s) l e = refl
+
+pub accepts-so : (s : List ℕ) (l : Line ℕ) → outcome s ≡ accepted l → Accepts s l
+unfolding outcome
+accepts-so s l e =
+    let c = clear-cases (byteRefusals s) (judged (reading s)) l e in
+    go (reading s) refl (not-long s (c .0 .1 .0)) (c .1)
+  where
+    go : (r : Reading) → reading s ≡ r → length s ≤ lineLimit → judged r ≡ accepted l → Accepts s l
+    go (stuck i) q h f = absurd (not-refused l 4 i (sym f))
+    go (holds m) q h f =
+        let c = clear-cases (lineRefusals m) (accepted m) l f in
+        let a : accepted m ≡ accepted l = c .1 in
+        let z : m ≡ l = cc in
+        record { spelt = read-spelt s l (q ∙ ap holds z); short = h; clear = clauses.laws .none-due l .0 (subst (λ (v : Line ℕ). Clear (lineRefusals v)) z (c .0)) }
+
+pub so-accepts : (s : List ℕ) (l : Line ℕ) → Accepts s l → outcome s ≡ accepted l
+unfolding outcome
+so-accepts s l w =
+    let e : reading s ≡ holds l = spelt-read s l (w .spelt) in
+    clear-due (byteRefusals s) (judged (reading s)) (empty-none s l e, (long-none s (w .short), (reads.laws .printable s l e, tt)))
+    ∙ ap judged e ∙ clear-due (lineRefusals l) (accepted l) (clauses.laws .none-due l .1 (w .clear))
+
+-- ---- refusals
+pub refuses-so : (s : List ℕ) (k i : ℕ) → outcome s ≡ refused k i → Refuses s k i
+unfolding outcome
+refuses-so s k i e = by (reads.laws .in-order (byteRefusals s) (judged (reading s)) k i .0 e)
+  where
+    lined : (l : Line ℕ) → reading s ≡ holds l → Clear (byteRefusals s) → First (lineRefusals l) k i ⊎ (Clear (lineRefusals l) × (accepted l ≡ refused k i)) → Refuses s k i
+    lined l q c (inl f) = of-line c l (read-spelt s l q) f
+    lined l q c (inr f) = absurd (not-refused l k i (f .1))
+
+    go : (r : Reading) → reading s ≡ r → Clear (byteRefusals s) → judged r ≡ refused k i → Refuses s k i
+    go (stuck j) q c f =
+        let a : 4 ≡ k = cc in
+        let b : j ≡ i = cc in
+        of-order c (sym a) (stuck-stops s i (q ∙ ap stuck b))
+    go (holds l) q c f = lined l q c (reads.laws .in-order (lineRefusals l) (accepted l) k i .0 f)
+
+    by : First (byteRefusals s) k i ⊎ (Clear (byteRefusals s) × (judged (reading s) ≡ refused k i)) → Refuses s k i
+    by (inl f) = of-bytes f
+    by (inr c) = go (reading s) refl (c .0) (c .1)
+
+pub so-refuses : (s : List ℕ) (k i : ℕ) → Refuses s k i → outcome s ≡ refused k i
+unfolding outcome
+so-refuses s k i (of-bytes f) = reads.laws .in-order (byteRefusals s) (judged (reading s)) k i .1 (inl f)
+so-refuses s k i (of-order c e w) =
+    clear-due (byteRefusals s) (judged (reading s)) c ∙ ap judged (stops-stuck s i w) ∙ ap (λ z. refused z i) (sym e)
+so-refuses s k i (of-line c l w f) =
+    clear-due (byteRefusals s) (judged (reading s)) c ∙ ap judged (spelt-read s l w) ∙ reads.laws .in-order (lineRefusals l) (accepted l) k i .1 (inl f)

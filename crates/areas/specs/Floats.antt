@@ -6,8 +6,8 @@ use lib.Dec.{eqb}
 use lib.IntN.{ℤ}
 use lib.ListN.{length, getD, take}
 use Rattle.scope.specs.Limits.{copyLimit, rowLimit, positionLimit}
-use Rattle.scope.specs.Modifications.{keep}
-use Rattle.scope.specs.Tables.{tabled, byteAt, bracketIn, tablesIn}
+use Rattle.scope.specs.Lists.{keep, tabled}
+use Rattle.scope.specs.Tables.{byteAt, bracketIn, tablesIn}
 use Rattle.scope.specs.Positions.{floaters, permittedPositions}
 
 -- the positions of floater f: those x whose byte, among the 256 of f, is 1

@@ -13,7 +13,7 @@ ghost use mathlib.Core.List.{_++_};
 ghost use Prim.Native.Nat.{_+_, _*_, _<_, _≤_};
 ghost use lib.ListN.{length, take, drop};
 ghost use Rattle.scope.specs.Limits.{bracketLimit, partLimit};
-ghost use Rattle.scope.specs.Bytes.{same};
+ghost use Rattle.scope.specs.Lists.{same};
 ghost use Rattle.scope.specs.Tables.{bytesSize, numbersSize, partAt, textFrom, byteAt, rowAt};
 ghost use Rattle.scope.specs.Answers.{sameNumbers};
 ghost use Rattle.areas.specs.Bounds.{Small, PartBounds, BracketBounds, Bounds};

@@ -10,7 +10,8 @@ use lib.ListN.{length}
 use lib.IntN.{ℤ}
 use Rattle.scope.specs.Bytes.{bar}
 use Rattle.scope.specs.Line.{Value, mass, text, reference, Part}
-use Rattle.scope.specs.Content.{none?, isReference}
+use Rattle.scope.specs.Lists.{none?}
+use Rattle.scope.specs.Content.{isReference}
 use Rattle.parts.specs.declared.Value.{Value as Found-value}
 use Rattle.parts.specs.declared.Value.the-variants.{Mass, Wide, Text, Reference}
 use Rattle.parts.specs.Says.{ValueIs}

@@ -11,9 +11,10 @@ use lib.ListN.{length, drop, length-append, drop-of-length-le}
 use lib.Seq.{drop-append-le}
 use Rattle.basics.specs.Choice.{by-test}
 use Rattle.scope.specs.Line.{Label, Part}
-use Rattle.scope.specs.Content.{given, none?, isReference}
+use Rattle.scope.specs.Lists.{given, none?, flat, all}
+use Rattle.scope.specs.Content.{isReference}
 use Rattle.scope.specs.Refusals.{least}
-use Rattle.scope.specs.Modifications.{flat, all, nameOf}
+use Rattle.scope.specs.Modifications.{nameOf}
 use Rattle.scope.specs.Reading.{refers?}
 use Rattle.places.proofs.Least.{earlier, least-append, earlier-assoc, earlier-comm}
 use Rattle.notes.specs.Notes.{Stands, AllStand}

@@ -12,10 +12,10 @@ use Rattle.scope.specs.declared.grammar.Key.the-variants.{Info}
 use Rattle.scope.specs.Keys.{keyCode}
 use Rattle.scope.specs.Limits.{partLimit}
 use Rattle.scope.specs.Line.{Label, Value, Part}
-use Rattle.scope.specs.Content.{given, isReference}
-use Rattle.scope.specs.Modifications.{flat, all, isKey, nameOf}
+use Rattle.scope.specs.Lists.{given, flat, all, part}
+use Rattle.scope.specs.Content.{isReference}
+use Rattle.scope.specs.Modifications.{isKey, nameOf}
 use Rattle.scope.specs.Refusals.{least, dueAt, deepPart, longText, longLabel, wideMass, wideScore, notHere, isNumberName}
-use Rattle.scope.specs.Tables.{part}
 use Rattle.parts.specs.declared.PartRead.{PartRead}
 use Rattle.parts.specs.declared.Score.{Score}
 use Rattle.parts.specs.Says.{ValueIs, LabelIs, PartIs}

@@ -11,9 +11,10 @@ use Rattle.scope.specs.declared.grammar.Slot.{Slot}
 use Rattle.scope.specs.Bytes.{bar}
 use Rattle.scope.specs.Limits.{lineLimit}
 use Rattle.scope.specs.Line.{Part, Bracket}
-use Rattle.scope.specs.Content.{Context, none?, begin, with, isReference, Content, lost, closed, going, innerStep, partEnd}
+use Rattle.scope.specs.Content.{Context, begin, with, isReference, Content, lost, closed, going, innerStep, partEnd}
+use Rattle.scope.specs.Lists.{none?, flat, all}
 use Rattle.scope.specs.Reading.{Held, inside, resume, Reading, stuck}
-use Rattle.scope.specs.Modifications.{flat, all, nameOf}
+use Rattle.scope.specs.Modifications.{nameOf}
 use Rattle.scope.specs.Refusals.{least}
 use Rattle.reading_laws.specs.Run.{rest, rest-dead}
 use Rattle.parts.specs.declared.PartRead.{PartRead}

@@ -10,7 +10,8 @@ use lib.Seq.{take-set-le, take-suc-set}
 use Rattle.basics.specs.Choice.{by-test}
 use Rattle.scope.specs.Limits.{partLimit, bracketLimit}
 use Rattle.scope.specs.Line.{Part}
-use Rattle.scope.specs.Modifications.{flat, nameOf}
+use Rattle.scope.specs.Lists.{flat}
+use Rattle.scope.specs.Modifications.{nameOf}
 use Rattle.parts.specs.declared.PartRead.{PartRead}
 use Rattle.parts.specs.Says.{PartIs}
 use Rattle.notes.specs.Notes.{labelRow, labelsRoom}

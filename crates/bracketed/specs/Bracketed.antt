@@ -9,7 +9,8 @@ use Rattle.scope.specs.Limits.{partLimit, bracketLimit}
 use Rattle.scope.specs.Line.{Part, Bracket}
 use Rattle.scope.specs.Content.{Context, begin}
 use Rattle.scope.specs.Reading.{Held, inside, outside, modeAfter, withBracket, Reading, stuck}
-use Rattle.scope.specs.Modifications.{flat, nameOf}
+use Rattle.scope.specs.Lists.{flat}
+use Rattle.scope.specs.Modifications.{nameOf}
 use Rattle.scope.specs.Refusals.{dueAt, deepPart, longText, longLabel, wideMass, wideScore, notHere, isNumberName}
 use Rattle.reading_laws.specs.Run.{rest}
 use Rattle.marks.specs.Marks.{Dues, MarksAre}

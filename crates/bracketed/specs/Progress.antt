@@ -12,7 +12,8 @@ use Rattle.scope.specs.Limits.{lineLimit, partLimit, bracketLimit}
 use Rattle.scope.specs.Line.{Part}
 use Rattle.scope.specs.Content.{begin}
 use Rattle.scope.specs.Reading.{Held, inside, refers?, stuck}
-use Rattle.scope.specs.Modifications.{flat, all, isKey, nameOf}
+use Rattle.scope.specs.Lists.{flat, all}
+use Rattle.scope.specs.Modifications.{isKey, nameOf}
 use Rattle.reading_laws.specs.Run.{rest}
 use Rattle.marks.specs.Marks.{MarksAre}
 use Rattle.notes.specs.Notes.{labelRow, AllStand, labelsRoom}

@@ -14,10 +14,12 @@ use Rattle.scope.specs.declared.grammar.Kind.{Kind}
 use Rattle.scope.specs.declared.grammar.Kind.the-variants.{Unknown, Labile, NTerm, OnResidue, OnRange, CTerm}
 use Rattle.scope.specs.Limits.{partLimit}
 use Rattle.scope.specs.Line.{Number, Bracket, mass, text, reference}
-use Rattle.scope.specs.Content.{isReference, none?}
-use Rattle.scope.specs.Modifications.{all, flat, isKey, onlyInfo, isReferring, nameOf, isLabelled, isModification, unlabelledCopies, copies}
-use Rattle.scope.specs.Positions.{onOnePosition, isPlaced}
-use Rattle.scope.specs.Tables.{tabled, byteAt, rowAt, partAt, kindIn, valueIn, partIn, bracketIn}
+use Rattle.scope.specs.Content.{isReference}
+use Rattle.scope.specs.Lists.{none?, all, flat, tabled}
+use Rattle.scope.specs.Modifications.{isKey, onlyInfo, isReferring, nameOf, isLabelled, isModification, unlabelledCopies, copies}
+use Rattle.scope.specs.Kinds.{onOnePosition, kindIn}
+use Rattle.scope.specs.Positions.{isPlaced}
+use Rattle.scope.specs.Tables.{byteAt, rowAt, partAt, valueIn, partIn, bracketIn}
 use Rattle.brackets.specs.Codes.{key-is}
 use Rattle.brackets.specs.Tabled.{tabled-at, tabled-end, tabled-all}
 

@@ -10,7 +10,7 @@ use lib.Dec.{eqb, ltb}
 use lib.ListN.{List·getD-map, List·getD-eq-default}
 use Rattle.scope.specs.declared.grammar.Key.the-variants.{NoKey}
 use Rattle.scope.specs.Keys.{keys, keyCode, keyIn}
-use Rattle.scope.specs.Tables.{tabled}
+use Rattle.scope.specs.Lists.{tabled}
 use Rattle.brackets.specs.Tabled.{getD-tabled}
 
 -- the key of a number, as a number again

@@ -6,7 +6,8 @@ use native.Mathlib.Nat.{add-zero, not-suc-le-zero, le-of-suc-le-suc}
 use native.Mathlib.Omega.{arith}
 use lib.IntN.{ℤ}
 use lib.ListN.{length, getD}
-use Rattle.scope.specs.Tables.{tabled, byteAt, residueIn, bracketIn, tablesIn}
+use Rattle.scope.specs.Lists.{tabled}
+use Rattle.scope.specs.Tables.{byteAt, residueIn, bracketIn, tablesIn}
 
 pub tabled-at : {A : Type 0} (f : ℕ → A) (i m : ℕ) → i < m → tabled f i (m - i) ≡ f i ∷ tabled f (i + 1) (m - (i + 1))
 unfolding tabled

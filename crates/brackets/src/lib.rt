@@ -8,9 +8,10 @@ ghost use mathlib.Core.List.{List};
 ghost use Prim.Native.Nat.{_+_, _<_, _≤_};
 ghost use lib.IntN.{ℤ};
 ghost use Rattle.scope.specs.Limits.{partLimit};
-ghost use Rattle.scope.specs.Tables.{byteAt, rowAt, kindIn, bracketIn};
+ghost use Rattle.scope.specs.Tables.{byteAt, rowAt, bracketIn};
+ghost use Rattle.scope.specs.Kinds.{kindIn, onOnePosition};
 ghost use Rattle.scope.specs.Modifications.{onlyInfo, isReferring, isModification, isLabelled, unlabelledCopies, copies};
-ghost use Rattle.scope.specs.Positions.{onOnePosition, isPlaced};
+ghost use Rattle.scope.specs.Positions.{isPlaced};
 ghost use Rattle.brackets.specs.Row.{Row};
 
 // How many parts there are.

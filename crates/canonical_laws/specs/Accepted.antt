@@ -11,11 +11,10 @@ use borrow.Author.Tests.{eq-eqb, ltb-true, ltb-false, not-false}
 use Rattle.scope.specs.declared.grammar.Mode.{Mode}
 use Rattle.scope.specs.Limits.{sizeLimit, countLimit}
 use Rattle.scope.specs.Line.{Number, Label, Value, mass, text, reference, Part, Bracket, Line}
-use Rattle.scope.specs.Content.{given}
+use Rattle.scope.specs.Lists.{given, flat, optional}
 use Rattle.scope.specs.Reading.{mayEnd, Held, State, dead, outside, inside, run, start, Reading, stuck, holds, lineOf, ended, reading}
-use Rattle.scope.specs.Modifications.{flat}
 use Rattle.scope.specs.Refusals.{dueAt, inRange, wide, wideMass, wideScore, wideCount, refusal7, Due, Outcome, accepted, refused, firstDue, lineRefusals, judged, byteRefusals, outcome}
-use Rattle.scope.specs.Tables.{optional, bareBracket}
+use Rattle.scope.specs.Tables.{bareBracket}
 use Rattle.reading_laws.specs.Laws.{Clear}
 use Rattle.reading_laws.specs.Places.{mapNumber, mapLabel, mapValue, mapPart, mapBracket, mapState, bareBracket-map}
 use Rattle.reading_laws.specs.Run.{run-map, unnoted}

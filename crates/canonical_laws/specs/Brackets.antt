@@ -10,12 +10,12 @@ use lib.ListN.{length, length-append}
 use borrow.Author.Tests.{eqb-true, ne-eqb, not-true}
 use Rattle.scope.specs.declared.grammar.Key.{Key}
 use Rattle.scope.specs.declared.grammar.Key.the-variants.{NoKey}
-use Rattle.scope.specs.Bytes.{isDigit, isAlnum, isSign, shutSquare, bar, hash, colon, plus, dash, dot, openRound, shutRound, upper, sameFolded}
+use Rattle.scope.specs.Bytes.{isDigit, isAlnum, isSign, shutSquare, bar, hash, colon, plus, dash, dot, openRound, shutRound, upper, sameFolded, value}
 use Rattle.scope.specs.Line.{Number, Label, Value, mass, text, reference, Part}
-use Rattle.scope.specs.Keys.{spell, keys, keyAmong, keyOf, Form, massOrName, massOnly, digits, alnums, free, form, hashIsPlain, written}
-use Rattle.scope.specs.Content.{given, Digits, signed, whole, pointed, broken, value, digitStep, numberEnd, isPlain, textStep, Context, Inner, begin, plain, keyed, inNumber, inCode, inText, hashed, inLabel, scoring, inScore, scored, Content, lost, closed, going, unlabelled, labelled, isReference, partEnd, valueEnd, textEnd, behindKey, colonAfter, accessionByte, nameBehind, none?, innerStep}
+use Rattle.scope.specs.Keys.{spell, keys, keyAmong, keyOf, Form, massOrName, massOnly, digits, alnums, free, form, hashIsPlain, written, accessionByte}
+use Rattle.scope.specs.Lists.{given, none?, flat}
+use Rattle.scope.specs.Content.{Digits, signed, whole, pointed, broken, digitStep, numberEnd, isPlain, textStep, Context, Inner, begin, plain, keyed, inNumber, inCode, inText, hashed, inLabel, scoring, inScore, scored, Content, lost, closed, going, unlabelled, labelled, isReference, partEnd, valueEnd, textEnd, behindKey, colonAfter, nameBehind, innerStep}
 use Rattle.scope.specs.Reading.{refers?}
-use Rattle.scope.specs.Modifications.{flat}
 use Rattle.scope.specs.Canonical.{size, massText, scoreText, valueText, partText, partsText}
 use Rattle.basics.specs.Lists.{flat-append}
 use Rattle.basics.specs.Tests.{and-left, and-right}

@@ -13,12 +13,12 @@ use Rattle.scope.specs.declared.grammar.Mode.{Mode}
 use Rattle.scope.specs.declared.grammar.Mode.the-variants.{Front, Undecided, Counted, Referred, Caret, Counting, Labiles, NTerms, Start, Single, Opened, UnsureOpened, InRange, InUnsure, RangeEnd, Ranged, UnsureEnd, CStart, CTerms}
 use Rattle.scope.specs.declared.grammar.Slot.{Slot}
 use Rattle.scope.specs.declared.grammar.Act.the-variants.{Begin, RunEnds, TermEnds}
-use Rattle.scope.specs.Bytes.{isDigit, openSquare, shutSquare, openCurly, caret, question, dash}
+use Rattle.scope.specs.Bytes.{isDigit, openSquare, shutSquare, openCurly, caret, question, dash, value}
 use Rattle.scope.specs.Line.{Bracket}
-use Rattle.scope.specs.Content.{value, none?}
+use Rattle.scope.specs.Lists.{none?, keep, flat}
 use Rattle.scope.specs.Reading.{square, front, undecided, counted, referred, act, mayEnd, Held, countDigit, asNTerm, State, dead, outside, inside, perform, refers?, step, run, start, lineOf}
-use Rattle.scope.specs.Modifications.{keep, flat}
-use Rattle.scope.specs.Canonical.{decimal, partsText, squareText, curlyText, countText, unknownText, kindCode, ofKind, closedBy, ledBy, sequenceText, canonical}
+use Rattle.scope.specs.Canonical.{decimal, partsText, squareText, curlyText, countText, unknownText, ofKind, closedBy, ledBy, sequenceText, canonical}
+use Rattle.scope.specs.Kinds.{kindCode}
 use Rattle.basics.specs.Lists.{keep-append, flat-append}
 use Rattle.reading_laws.specs.Acts.{Ending, single-ends, ranged-ends, unsure-ends, cterms-end, ending}
 use Rattle.canonical_laws.specs.Lists.{branch, All, all-append, all-front, all-back, all-map}

@@ -17,9 +17,9 @@ use Rattle.scope.specs.declared.grammar.Slot.{Slot}
 use Rattle.scope.specs.declared.grammar.Act.the-variants.{Go, Residue as aResidue, Begin}
 use Rattle.scope.specs.Bytes.{upper, isLetter, openSquare, shutSquare, openCurly, shutCurly, openRound, shutRound, question, dash}
 use Rattle.scope.specs.Line.{Bracket, Residue}
-use Rattle.scope.specs.Content.{none?, Inner, Content, lost, closed, going, innerStep}
+use Rattle.scope.specs.Lists.{none?, flat}
+use Rattle.scope.specs.Content.{Inner, Content, lost, closed, going, innerStep}
 use Rattle.scope.specs.Reading.{square, labile, element, further, groupFirst, inGroup, act, Held, withResidue, bracketOf, settled, put, withBracket, State, dead, outside, inside, perform, refers?, modeAfter, resume, run, start}
-use Rattle.scope.specs.Modifications.{flat}
 use Rattle.scope.specs.Canonical.{partsText, squareText, curlyText, unknownText, ofKind, endingAt, closedBy, opening, ending, isNext, sequenceText}
 use Rattle.basics.specs.Lists.{flat-append}
 use Rattle.canonical_laws.specs.Lists.{branch, All, all-append, all-front, all-back, all-map}

@@ -10,9 +10,10 @@ use native.Mathlib.Numerals.{add-one}
 use lib.Dec.{leb, ltb, eqb}
 use lib.ListN.{length, length-append}
 use borrow.Author.Tests.{ltb-true, lt-ltb, le-leb, leb-true}
-use Rattle.scope.specs.Bytes.{isDigit, dot}
+use Rattle.scope.specs.Bytes.{isDigit, dot, value}
 use Rattle.scope.specs.Line.{Number}
-use Rattle.scope.specs.Content.{given, Digits, signed, whole, pointed, broken, value, digitStep, numberEnd}
+use Rattle.scope.specs.Lists.{given}
+use Rattle.scope.specs.Content.{Digits, signed, whole, pointed, broken, digitStep, numberEnd}
 use Rattle.scope.specs.Canonical.{decimalUpTo, decimal, lastDigits, decimals, size}
 use Rattle.basics.specs.Tests.{and-left, and-right}
 use Rattle.canonical_laws.specs.Lists.{branch}

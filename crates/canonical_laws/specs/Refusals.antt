@@ -12,11 +12,13 @@ use Rattle.scope.specs.Bytes.{isOpening}
 use Rattle.scope.specs.Limits.{residueLimit, bracketLimit, partLimit, textLimit, labelLimit, depthLimit, countLimit, copyLimit}
 use Rattle.scope.specs.Line.{Number, Label, Value, mass, text, reference, Part, Bracket, Line}
 use Rattle.scope.specs.Keys.{written}
-use Rattle.scope.specs.Content.{given, none?, isReference}
+use Rattle.scope.specs.Lists.{given, none?, all, flat, among, shared, optional}
+use Rattle.scope.specs.Content.{isReference}
 use Rattle.scope.specs.Reading.{refers?}
-use Rattle.scope.specs.Modifications.{all, flat, among, isKey, onlyInfo, isReferring, nameOf, namesOf, isLabelled, copies, definedBy, referredBy, defined, referredTo}
-use Rattle.scope.specs.Refusals.{dueAt, least, depthAfter, tooDeep, textIn, textOf, deepPart, refusal5, longText, longLabel, overIn, refusal6, inRange, wide, wideMass, wideScore, wideCount, refusal7, isLink, notHere, refusal8, isNumberName, refusal9, unknownOrLabile, refusal10, isUnknown, secondLabel, shared, definedAgain, undefined, countedLabel, unreferred, wrongLabels, wronglyLabelled, refusal11, passing, refusal12}
-use Rattle.scope.specs.Tables.{optional, bareNumber, bareLabel, bareValue, barePart, bareBracket}
+use Rattle.scope.specs.Modifications.{isKey, onlyInfo, isReferring, nameOf, namesOf, isLabelled, copies, definedBy, referredBy, defined, referredTo}
+use Rattle.scope.specs.Refusals.{dueAt, least, depthAfter, tooDeep, textIn, textOf, deepPart, refusal5, longText, longLabel, overIn, refusal6, inRange, wide, wideMass, wideScore, wideCount, refusal7, isLink, notHere, refusal8, isNumberName, refusal9, refusal10, secondLabel, definedAgain, undefined, countedLabel, unreferred, wrongLabels, wronglyLabelled, refusal11, passing, refusal12}
+use Rattle.scope.specs.Kinds.{unknownOrLabile, isUnknown}
+use Rattle.scope.specs.Tables.{bareNumber, bareLabel, bareValue, barePart, bareBracket}
 use Rattle.basics.specs.Lists.{least-none, not-due, nil-front, nil-back}
 use Rattle.basics.specs.Tests.{or-left, or-right, neither}
 use Rattle.canonical_laws.specs.Counts.{Once}

@@ -11,8 +11,9 @@ use borrow.Author.Tests.{ne-eqb, eq-eqb}
 use Rattle.scope.specs.declared.grammar.Kind.{Kind}
 use Rattle.scope.specs.declared.grammar.Kind.the-variants.{OnResidue, OnRange}
 use Rattle.scope.specs.Line.{Bracket, Residue}
-use Rattle.scope.specs.Modifications.{keep, flat}
-use Rattle.scope.specs.Canonical.{squareText, kindCode, ofKind, endingAt, opening, ending, isNext, goesOn, sequenceText}
+use Rattle.scope.specs.Lists.{keep, flat}
+use Rattle.scope.specs.Canonical.{squareText, ofKind, endingAt, opening, ending, isNext, goesOn, sequenceText}
+use Rattle.scope.specs.Kinds.{kindCode}
 use Rattle.basics.specs.Lists.{keep-append, flat-append}
 use Rattle.canonical_laws.specs.Lists.{pick-true, pick-false, All}
 use Rattle.canonical_laws.specs.Brackets.{Place}

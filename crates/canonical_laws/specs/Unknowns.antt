@@ -14,8 +14,8 @@ use Rattle.scope.specs.declared.grammar.Slot.{Slot}
 use Rattle.scope.specs.declared.grammar.Act.the-variants.{Go}
 use Rattle.scope.specs.Bytes.{isDigit, openSquare, shutSquare, caret, question, dash}
 use Rattle.scope.specs.Line.{Bracket}
-use Rattle.scope.specs.Reading.{square, front, undecided, counted, referred, act, Held, countDigit, onLast, asNTerm, settledRun, State, outside, perform, refers?, modeAfter, start}
-use Rattle.scope.specs.Modifications.{flat}
+use Rattle.scope.specs.Reading.{square, front, undecided, counted, referred, act, Held, countDigit, asNTerm, settledRun, State, outside, perform, refers?, modeAfter, start}
+use Rattle.scope.specs.Lists.{onLast, flat}
 use Rattle.scope.specs.Canonical.{decimalUpTo, decimal, partsText, squareText, unknownText, closedBy}
 use Rattle.canonical_laws.specs.Lists.{pick-true, pick-false, All}
 use Rattle.canonical_laws.specs.Numbers.{is-digit, digit-value, below-ten, joined}

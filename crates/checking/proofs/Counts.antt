@@ -11,10 +11,10 @@ use lib.Seq.{drop-cons, drop-drop}
 use Rattle.scope.specs.declared.grammar.Mode.{Mode}
 use Rattle.scope.specs.declared.grammar.Mode.the-variants.{Counting}
 use Rattle.scope.specs.declared.grammar.Act.the-variants.{Digit}
-use Rattle.scope.specs.Bytes.{isDigit}
-use Rattle.scope.specs.Content.{given, value}
+use Rattle.scope.specs.Bytes.{isDigit, value}
+use Rattle.scope.specs.Lists.{given, onLast}
 use Rattle.scope.specs.Line.{Bracket}
-use Rattle.scope.specs.Reading.{Held, State, act, times, countDigit, onLast, outside, perform, step, run, ended}
+use Rattle.scope.specs.Reading.{Held, State, act, times, countDigit, outside, perform, step, run, ended}
 use Rattle.classes.specs.Runs.{span}
 use Rattle.numerals.specs.Numerals.{digitsFrom}
 use Rattle.reading_laws.specs.Run.{rest, rest-step}

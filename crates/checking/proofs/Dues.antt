@@ -9,10 +9,9 @@ use lib.Dec.{leb, eqb, ltb}
 use lib.ListN.{length, drop}
 use borrow.Author.Tests.{eq-eqb, ne-eqb, lt-ltb, le-ltb, eqb-true, eqb-false, ltb-true, ltb-false}
 use Rattle.basics.specs.Choice.{by-test}
-use Rattle.scope.specs.Content.{given}
+use Rattle.scope.specs.Lists.{given, flat}
 use Rattle.scope.specs.Limits.{residueLimit, bracketLimit, countLimit}
 use Rattle.scope.specs.Line.{Bracket, Residue}
-use Rattle.scope.specs.Modifications.{flat}
 use Rattle.scope.specs.Reading.{asNTerm, times}
 use Rattle.scope.specs.Refusals.{dueAt, least, deepPart, overIn, wideCount, wideMass, wideScore, notHere, isNumberName}
 use Rattle.marks.specs.declared.Marks.{Marks}

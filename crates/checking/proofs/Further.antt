@@ -15,7 +15,8 @@ use Rattle.scope.specs.declared.grammar.Act.the-variants.{Stop, Go, Residue as 
 use Rattle.scope.specs.Bytes.{upper}
 use Rattle.scope.specs.Limits.{residueLimit, bracketLimit, lineLimit}
 use Rattle.scope.specs.Line.{Bracket, Residue}
-use Rattle.scope.specs.Modifications.{flat, namesOf}
+use Rattle.scope.specs.Lists.{flat}
+use Rattle.scope.specs.Modifications.{namesOf}
 use Rattle.scope.specs.Reading.{outside, perform, step, withResidue, settledRun, asNTerm, act, mayEnd, nothing, stuck, holds, lineOf, reading}
 use Rattle.scope.specs.Refusals.{dueAt, least}
 use Rattle.reading_laws.specs.Run.{rest, rest-start, rest-step, rest-end, rest-dead}

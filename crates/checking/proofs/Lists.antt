@@ -6,11 +6,11 @@ use Prim.Native.Nat.{ℕ, zero, suc, _+_, _*_, _≤_}
 use native.Mathlib.Omega.{arith}
 use lib.Dec.{leb, leb·zero, leb·suc-zero, leb·suc-suc}
 use lib.ListN.{length, drop, length-append}
-use Rattle.scope.specs.Content.{given}
+use Rattle.scope.specs.Lists.{given, flat, onLast}
 use Rattle.scope.specs.Line.{Label, Part, Bracket}
-use Rattle.scope.specs.Modifications.{flat, nameOf, namesOf}
+use Rattle.scope.specs.Modifications.{nameOf, namesOf}
 use Rattle.scope.specs.Refusals.{dueAt}
-use Rattle.scope.specs.Reading.{onLast, asNTerm, times}
+use Rattle.scope.specs.Reading.{asNTerm, times}
 use Rattle.notes.specs.Notes.{noteRow, notesFrom, labelRow, labelRows, NamesStand}
 
 pub flat-map : {A B : Type 0} (f : A → List B) (g : A → A) → ((x : A) → f (g x) ≡ f x) → (l : List A) → flat f (map g l) ≡ flat f l

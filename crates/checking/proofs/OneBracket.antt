@@ -13,10 +13,11 @@ use Rattle.scope.specs.declared.grammar.Kind.the-variants.{Unknown, Labile, NTe
 use Rattle.scope.specs.declared.grammar.Mode.{Mode}
 use Rattle.scope.specs.declared.grammar.Slot.{Slot}
 use Rattle.scope.specs.declared.grammar.Act.the-variants.{Begin}
-use Rattle.scope.specs.Canonical.{kindCode}
+use Rattle.scope.specs.Kinds.{kindCode}
 use Rattle.scope.specs.Limits.{bracketLimit, partLimit}
 use Rattle.scope.specs.Line.{Part, Bracket}
-use Rattle.scope.specs.Modifications.{flat, onlyInfo, isLabelled, nameOf, namesOf}
+use Rattle.scope.specs.Lists.{flat}
+use Rattle.scope.specs.Modifications.{onlyInfo, isLabelled, nameOf, namesOf}
 use Rattle.scope.specs.Reading.{Held, put, bracketOf, modeAfter, refers?, outside, perform, stuck, reading}
 use Rattle.scope.specs.Refusals.{dueAt}
 use Rattle.reading_laws.specs.Run.{rest}

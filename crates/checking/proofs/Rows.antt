@@ -5,10 +5,11 @@ use Prim.Native.Nat.{ℕ, suc, _+_, _-_, _*_, _≤_, _<_, min}
 use native.Mathlib.Omega.{arith}
 use lib.ListN.{length, take, drop, set, length-append, length-set, length-map}
 use lib.Seq.{take-at, take-set-lt, set-at, sets, sets-eq}
-use Rattle.scope.specs.Canonical.{kindCode}
+use Rattle.scope.specs.Kinds.{kindCode}
 use Rattle.scope.specs.Limits.{countLimit}
 use Rattle.scope.specs.Line.{Bracket}
-use Rattle.scope.specs.Modifications.{flat, namesOf}
+use Rattle.scope.specs.Lists.{flat}
+use Rattle.scope.specs.Modifications.{namesOf}
 use Rattle.scope.specs.Reading.{asNTerm, times}
 use Rattle.notes.specs.Notes.{noteRow, notesFrom, sortOf, countedCode}
 use Rattle.checking.specs.Stages.{Settled}

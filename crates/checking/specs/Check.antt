@@ -5,7 +5,7 @@ use Prim.Native.Nat.{ℕ}
 use lib.ListN.{length, drop}
 use Rattle.scope.specs.Limits.{residueLimit, bracketLimit}
 use Rattle.scope.specs.Line.{Line}
-use Rattle.scope.specs.Modifications.{flat}
+use Rattle.scope.specs.Lists.{flat}
 use Rattle.scope.specs.Reading.{Reading, stuck, holds, reading}
 use Rattle.scope.specs.Refusals.{dueAt, deepPart, overIn, wideCount, wideMass, wideScore, notHere, isNumberName}
 use Rattle.marks.specs.Marks.{Dues, MarksAre}

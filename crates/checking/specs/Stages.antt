@@ -17,7 +17,8 @@ use Rattle.scope.specs.declared.grammar.Act.the-variants.{Begin}
 use Rattle.scope.specs.Bytes.{isLetter, isDigit}
 use Rattle.scope.specs.Limits.{residueLimit, bracketLimit, partLimit, lineLimit}
 use Rattle.scope.specs.Line.{Bracket, Residue}
-use Rattle.scope.specs.Modifications.{flat, namesOf}
+use Rattle.scope.specs.Lists.{flat}
+use Rattle.scope.specs.Modifications.{namesOf}
 use Rattle.scope.specs.Reading.{Held, act, asNTerm, outside, stuck, reading}
 use Rattle.classes.specs.Runs.{span}
 use Rattle.reading_laws.specs.Run.{rest}

@@ -16,7 +16,7 @@ ghost use lib.Dec.{eqb, ltb};
 ghost use lib.ListN.{length};
 ghost use lib.Seq.{sets};
 ghost use Rattle.scope.specs.declared.grammar.Section.{Section};
-ghost use Rattle.scope.specs.Canonical.{kindCode};
+ghost use Rattle.scope.specs.Kinds.{kindCode};
 ghost use Rattle.scope.specs.Limits.{lineLimit, countLimit, bracketLimit};
 ghost use Rattle.scope.specs.Refusals.{dueAt};
 ghost use Rattle.marks.specs.Marks.{Dues, MarksAre};

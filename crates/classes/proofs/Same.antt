@@ -9,8 +9,8 @@ use lib.Dec.{eqb}
 use lib.ListN.{length, getD, drop, drop-of-length-le, length-drop, length-take}
 use lib.Seq.{drop-cons}
 use borrow.Author.Tests.{eq-eqb, ne-eqb}
-use Rattle.scope.specs.Bytes.{upper, same, sameFolded}
-use Rattle.scope.specs.Tables.{part}
+use Rattle.scope.specs.Bytes.{upper, sameFolded}
+use Rattle.scope.specs.Lists.{same, part}
 
 pub drop-next : (s : List ℕ) (k : ℕ) → k < length s → drop k s ≡ getD s k 0 ∷ drop (k + 1) s
 drop-next s k h = rw (add-one, drop-cons s k 0)

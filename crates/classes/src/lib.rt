@@ -2,10 +2,9 @@
 ghost use mathlib.Core.Path.{_≡_};
 ghost use Prim.Native.Nat.{_+_, _≤_};
 ghost use lib.ListN.{length, drop};
-ghost use Rattle.scope.specs.Bytes.{isPrintable, isUpper, isLower, isLetter, isDigit, isAlnum, isSign, isOpening, isShutting, same, sameFolded};
-ghost use Rattle.scope.specs.Bytes.{upper as inUpper};
+ghost use Rattle.scope.specs.Bytes.{isPrintable, isUpper, isLower, isLetter, isDigit, isAlnum, isSign, isOpening, isShutting, sameFolded, upper as inUpper};
+ghost use Rattle.scope.specs.Lists.{same, part};
 ghost use Rattle.scope.specs.Content.{isPlain};
-ghost use Rattle.scope.specs.Tables.{part};
 ghost use Rattle.classes.specs.Runs.{span};
 
 // A byte of a text, outside every pair, that can mean nothing else.

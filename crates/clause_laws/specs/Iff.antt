@@ -5,7 +5,7 @@ use mathlib.Core.Logic.{_↔_, _⊎_, inl, inr}
 use mathlib.Core.Bool.{Bool, true, false, not, _&&_, _||_, true≢false, false≢true}
 use mathlib.Core.Option.{some}
 use mathlib.Core.List.{List, [], _∷_, _++_, List·Memᴰ, List·Memᴰ·head, List·Memᴰ·tail, List·Memᴰ·not-nil, List·Memᴰ·cases-cons}
-use Rattle.scope.specs.Modifications.{all, flat, among}
+use Rattle.scope.specs.Lists.{all, flat, among}
 use Rattle.scope.specs.Refusals.{dueAt, least}
 use Rattle.reading_laws.specs.Proved as reads
 use Rattle.layout_laws.specs.Laws.{same-law}

@@ -5,7 +5,7 @@ use Prim.Native.Nat.{ℕ, zero, suc, _+_, _-_, _*_, _≤_, _<_}
 use native.Mathlib.Omega.{arith}
 use lib.ListN.{length, getD, take, drop, set, replicate, length-append, length-replicate, replicate-append-replicate}
 use lib.Seq.{sets, sets-eq, take-at, drop-at, drop-drop}
-use Rattle.scope.specs.Tables.{padded}
+use Rattle.scope.specs.Lists.{padded}
 use Rattle.layout_laws.specs.Layout.{padded-length}
 use Rattle.fill.specs.Areas.{areaWith}
 

@@ -10,11 +10,11 @@ use Rattle.scope.specs.declared.grammar.Section.{Section}
 use Rattle.scope.specs.declared.grammar.Slot.{Slot}
 use Rattle.scope.specs.declared.grammar.Act.{Act}
 use Rattle.scope.specs.declared.grammar.Act.the-variants.{Stop, Go, Residue as aResidue, Begin, Digit, RunEnds, TermEnds}
-use Rattle.scope.specs.Bytes.{upper}
+use Rattle.scope.specs.Bytes.{upper, value}
 use Rattle.scope.specs.Line.{Part, Bracket}
-use Rattle.scope.specs.Content.{given, value, Context, Inner, Content, lost, closed, going, innerStep}
-use Rattle.scope.specs.Reading.{act, Held, withResidue, withBracket, bracketOf, settled, waiting, times, countDigit, onLast, asNTerm, settledRun, State, dead, outside, inside, perform, resume, step, run}
-use Rattle.scope.specs.Modifications.{flat}
+use Rattle.scope.specs.Lists.{given, onLast, flat}
+use Rattle.scope.specs.Content.{Context, Inner, Content, lost, closed, going, innerStep}
+use Rattle.scope.specs.Reading.{act, Held, withResidue, withBracket, bracketOf, settled, waiting, times, countDigit, asNTerm, settledRun, State, dead, outside, inside, perform, resume, step, run}
 use Rattle.scope.specs.Tables.{packed, bracketTexts}
 use Rattle.reading_laws.specs.Cases.{onGiven}
 use Rattle.reading_laws.specs.Goes.{Goes, stops, goes-on, part-over, shuts, goes, contextOf, over-context, on-context}

@@ -12,11 +12,11 @@ use Rattle.scope.specs.declared.grammar.Kind.the-variants.{Unknown, Labile, NTe
 use Rattle.scope.specs.declared.grammar.Mode.{Mode}
 use Rattle.scope.specs.declared.grammar.Slot.{Slot}
 use Rattle.scope.specs.Line.{Part, Bracket, Line}
-use Rattle.scope.specs.Content.{none?, begin}
+use Rattle.scope.specs.Lists.{none?, flat, padded}
+use Rattle.scope.specs.Content.{begin}
 use Rattle.scope.specs.Reading.{Held, firstPosition, lastPosition, bracketOf, put, withBracket, outside, inside, refers?, modeAfter, holds}
-use Rattle.scope.specs.Modifications.{flat}
-use Rattle.scope.specs.Canonical.{kindCode}
-use Rattle.scope.specs.Tables.{padded, sectionCode, packed, partRows, scoreOf, bracketRow, bracketTexts, rows, numberRow}
+use Rattle.scope.specs.Kinds.{kindCode}
+use Rattle.scope.specs.Tables.{sectionCode, packed, partRows, scoreOf, bracketRow, bracketTexts, rows, numberRow}
 use Rattle.reading_laws.specs.Run.{rest}
 use Rattle.basics.specs.Lists.{flat-append, flat-one}
 use Rattle.fill.specs.declared.Progress.{Progress}

@@ -20,14 +20,13 @@ use Rattle.scope.specs.declared.grammar.Mode.the-variants.{Front, Counting, Sta
 use Rattle.scope.specs.declared.grammar.Slot.{Slot}
 use Rattle.scope.specs.declared.grammar.Act.{Act}
 use Rattle.scope.specs.declared.grammar.Act.the-variants.{Stop, Go, Residue as aResidue, Begin, Digit, RunEnds, TermEnds}
-use Rattle.scope.specs.Bytes.{upper}
+use Rattle.scope.specs.Bytes.{upper, value}
 use Rattle.scope.specs.Line.{Part, Bracket, Residue, Line}
-use Rattle.scope.specs.Content.{given, value, none?, begin}
-use Rattle.scope.specs.Reading.{act, Held, firstOf, withResidue, firstPosition, lastPosition, bracketOf, put, withBracket, countDigit, onLast, withDigit, asNTerm, settledRun, State, dead, outside, inside, perform, refers?, modeAfter, step, stuck, holds}
-use Rattle.scope.specs.Modifications.{flat}
-use Rattle.scope.specs.Refusals.{isUnknown}
-use Rattle.scope.specs.Canonical.{kindCode}
-use Rattle.scope.specs.Tables.{padded, sectionCode, packed, partRows, scoreOf, bracketTexts, rows, numberRow}
+use Rattle.scope.specs.Lists.{given, none?, onLast, flat, padded}
+use Rattle.scope.specs.Content.{begin}
+use Rattle.scope.specs.Reading.{act, Held, firstOf, withResidue, firstPosition, lastPosition, bracketOf, put, withBracket, countDigit, withDigit, asNTerm, settledRun, State, dead, outside, inside, perform, refers?, modeAfter, step, stuck, holds}
+use Rattle.scope.specs.Kinds.{isUnknown, kindCode}
+use Rattle.scope.specs.Tables.{sectionCode, packed, partRows, scoreOf, bracketTexts, rows, numberRow}
 use Rattle.reading_laws.specs.Run.{rest, rest-step, rest-dead}
 use Rattle.layout_laws.specs.Within.{Each, Within}
 use Rattle.layout_laws.specs.Each.{each-append}

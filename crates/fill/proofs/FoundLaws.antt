@@ -12,9 +12,10 @@ use borrow.Author.Tests.{eq-eqb, ne-eqb}
 use Rattle.scope.specs.declared.grammar.Key.{Key}
 use Rattle.scope.specs.Line.{Number, Label, Value, mass, text, reference, Part}
 use Rattle.scope.specs.Keys.{keyCode}
-use Rattle.scope.specs.Content.{given, isReference}
+use Rattle.scope.specs.Lists.{given, part}
+use Rattle.scope.specs.Content.{isReference}
 use Rattle.scope.specs.Refusals.{textIn, textOf, inRange}
-use Rattle.scope.specs.Tables.{valueCode, millionths, massIn, decimalsIn, labelOf, packed, offset, partRow, part, scoreOf, scoreCode}
+use Rattle.scope.specs.Tables.{valueCode, millionths, massIn, decimalsIn, labelOf, packed, offset, partRow, scoreOf, scoreCode}
 use Rattle.layout_laws.specs.Within.{Each, OfGiven, NumberWithin, LabelWithin, ValueWithin, PartWithin}
 use Rattle.layout_laws.specs.Numbers.{few-decimals}
 use Rattle.parts.specs.declared.Value.{Value as FoundValue}

@@ -12,14 +12,12 @@ use lib.Seq.{sets}
 use Rattle.scope.specs.declared.grammar.Section.{Section}
 use Rattle.scope.specs.declared.grammar.Kind.{Kind}
 use Rattle.scope.specs.declared.grammar.Kind.the-variants.{Unknown, Labile, NTerm, OnResidue, OnRange, CTerm}
-use Rattle.scope.specs.Bytes.{upper}
+use Rattle.scope.specs.Bytes.{upper, value}
 use Rattle.scope.specs.Line.{Part, Bracket, Residue}
-use Rattle.scope.specs.Content.{given, value}
-use Rattle.scope.specs.Reading.{Held, withResidue, put, bracketOf, times, countDigit, onLast, asNTerm}
-use Rattle.scope.specs.Modifications.{flat}
-use Rattle.scope.specs.Refusals.{isUnknown}
-use Rattle.scope.specs.Canonical.{kindCode}
-use Rattle.scope.specs.Tables.{padded, sectionCode, millionths, massIn, packed, scoreOf, scoreCode, partRows, bracketRow, bracketTexts, rows, numberRow}
+use Rattle.scope.specs.Lists.{given, onLast, flat, padded}
+use Rattle.scope.specs.Reading.{Held, withResidue, put, bracketOf, times, countDigit, asNTerm}
+use Rattle.scope.specs.Kinds.{isUnknown, kindCode}
+use Rattle.scope.specs.Tables.{sectionCode, millionths, massIn, packed, scoreOf, scoreCode, partRows, bracketRow, bracketTexts, rows, numberRow}
 use Rattle.layout_laws.specs.Within.{Each}
 use Rattle.layout_laws.specs.Layout.{padded-length, bracket-row-length, number-row-length}
 use Rattle.layout_laws.specs.Lists.{map-append}

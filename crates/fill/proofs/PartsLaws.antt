@@ -10,9 +10,8 @@ use lib.IntN.{ℤ, pos}
 use lib.ListN.{length, set, replicate, length-append, length-map, length-set}
 use lib.Seq.{sets, length-sets}
 use Rattle.scope.specs.Line.{Part}
-use Rattle.scope.specs.Content.{given}
-use Rattle.scope.specs.Modifications.{flat}
-use Rattle.scope.specs.Tables.{padded, millionths, massIn, packed, partRow, partRows, scoreOf, scoreCode}
+use Rattle.scope.specs.Lists.{given, flat, padded}
+use Rattle.scope.specs.Tables.{millionths, massIn, packed, partRow, partRows, scoreOf, scoreCode}
 use Rattle.layout_laws.specs.Layout.{padded-length, part-rows-length}
 use Rattle.layout_laws.specs.Lists.{map-append}
 use Rattle.basics.specs.Lists.{flat-append, flat-one}

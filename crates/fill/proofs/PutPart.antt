@@ -12,7 +12,7 @@ use lib.ListN.{length, set}
 use lib.Seq.{sets}
 use Rattle.scope.specs.declared.grammar.Key.{Key}
 use Rattle.scope.specs.Keys.{keyCode}
-use Rattle.scope.specs.Tables.{part}
+use Rattle.scope.specs.Lists.{part}
 use Rattle.parts.specs.declared.Value.{Value}
 use Rattle.fill.specs.Found.{Copies, codeOf, decimalsOf, massOf, fromOf, toOf, textLength, textsOf, offsetOf, rowOf, PutsPart, PartPut}
 use Rattle.fill.proofs.Stores.{sets-append, part-length}

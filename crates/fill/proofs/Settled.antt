@@ -15,8 +15,8 @@ use Rattle.scope.specs.declared.grammar.Act.the-variants.{Stop, Go, Residue as 
 use Rattle.scope.specs.Line.{Part, Bracket, Line}
 use Rattle.scope.specs.Content.{Inner, Content, lost, closed, going, innerStep}
 use Rattle.scope.specs.Reading.{referred, act, mayEnd, Held, withBracket, put, bracketOf, State, dead, outside, inside, perform, refers?, modeAfter, resume, step, run, stuck, holds, lineOf, ended}
-use Rattle.scope.specs.Modifications.{flat}
-use Rattle.scope.specs.Refusals.{isUnknown}
+use Rattle.scope.specs.Lists.{flat}
+use Rattle.scope.specs.Kinds.{isUnknown}
 use Rattle.scope.specs.Tables.{bracketTexts}
 use Rattle.reading_laws.specs.Acts.{each-mode, act-rule, ByteOf, act-byte}
 use Rattle.reading_laws.specs.Kept.{kept, put-by}

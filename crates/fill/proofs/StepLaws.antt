@@ -14,9 +14,9 @@ use Rattle.basics.specs.Choice.{by-test}
 use Rattle.scope.specs.declared.grammar.Slot.{Slot}
 use Rattle.scope.specs.Bytes.{bar}
 use Rattle.scope.specs.Line.{Part, Line}
-use Rattle.scope.specs.Content.{given, none?, isReference, Context, begin, Content, lost, closed, going, partEnd, innerStep}
+use Rattle.scope.specs.Lists.{given, none?, flat}
+use Rattle.scope.specs.Content.{isReference, Context, begin, Content, lost, closed, going, partEnd, innerStep}
 use Rattle.scope.specs.Reading.{Held, withBracket, outside, inside, refers?, modeAfter, resume, stuck, holds}
-use Rattle.scope.specs.Modifications.{flat}
 use Rattle.scope.specs.Tables.{millionths, massIn, packed, partRow, scoreOf, scoreCode}
 use Rattle.reading_laws.specs.Run.{rest, rest-dead}
 use Rattle.layout_laws.specs.Within.{Each, PartWithin, Within}

@@ -12,7 +12,7 @@ use native.Mathlib.Numerals.{add-one}
 use native.Mathlib.Omega.{arith}
 use lib.ListN.{length, getD, take, drop, set, replicate, length-append, length-take, length-drop, length-set, length-replicate, replicate-append-replicate}
 use lib.Seq.{drop-cons, set-at, sets, getD-drop, take-suc}
-use Rattle.scope.specs.Tables.{part}
+use Rattle.scope.specs.Lists.{part}
 use Rattle.fill.specs.Found.{Copies}
 use Rattle.fill.specs.Filled.{marked}
 

@@ -8,9 +8,9 @@ use lib.ListN.{length, take, drop, set, replicate, take-append-drop, replicate-a
 use Rattle.scope.specs.declared.grammar.Mode.{Mode}
 use Rattle.scope.specs.Line.{Bracket, Line}
 use Rattle.scope.specs.Reading.{Held, nothing, start, outside, reading, holds, ended, lineOf}
-use Rattle.scope.specs.Modifications.{flat}
+use Rattle.scope.specs.Lists.{flat, padded, laid}
 use Rattle.scope.specs.Refusals.{outcome, accepted}
-use Rattle.scope.specs.Tables.{padded, sectionCode, bracketTexts, rows, numberRow, bytesOf, numbersOf, laid}
+use Rattle.scope.specs.Tables.{sectionCode, bracketTexts, rows, numberRow, bytesOf, numbersOf}
 use Rattle.reading_laws.specs.Run.{rest, rest-start, rest-end}
 use Rattle.reading_laws.specs.Precedence.{accepted-law}
 use Rattle.layout_laws.specs.Within.{Within}

@@ -15,11 +15,11 @@ use Rattle.scope.specs.declared.grammar.Mode.the-variants.{Front, Single}
 use Rattle.scope.specs.declared.grammar.Slot.{Slot}
 use Rattle.scope.specs.Bytes.{upper}
 use Rattle.scope.specs.Line.{Bracket, Line}
-use Rattle.scope.specs.Content.{given, begin}
+use Rattle.scope.specs.Lists.{given, flat, padded, laid}
+use Rattle.scope.specs.Content.{begin}
 use Rattle.scope.specs.Reading.{Held, firstOf, outside, inside, holds}
-use Rattle.scope.specs.Modifications.{flat}
 use Rattle.scope.specs.Refusals.{outcome, accepted}
-use Rattle.scope.specs.Tables.{padded, sectionCode, bracketTexts, rows, numberRow, bytesOf, numbersOf, laid, bytesSize, numbersSize}
+use Rattle.scope.specs.Tables.{sectionCode, bracketTexts, rows, numberRow, bytesOf, numbersOf, bytesSize, numbersSize}
 use Rattle.reading_laws.specs.Run.{rest}
 use Rattle.layout_laws.specs.Within.{Within}
 use Rattle.fill.specs.declared.Progress.{Progress}

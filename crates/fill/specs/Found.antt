@@ -9,7 +9,7 @@ use lib.ListN.{length, set}
 use lib.Seq.{sets}
 use Rattle.scope.specs.declared.grammar.Key.{Key}
 use Rattle.scope.specs.Keys.{keyCode}
-use Rattle.scope.specs.Tables.{part}
+use Rattle.scope.specs.Lists.{part}
 use Rattle.parts.specs.declared.Value.{Value}
 use Rattle.parts.specs.declared.Value.the-variants.{Mass, Wide, Text, Reference}
 use Rattle.parts.specs.declared.Score.{Score}

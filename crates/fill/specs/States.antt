@@ -7,7 +7,7 @@ use Rattle.scope.specs.declared.grammar.Kind.{Kind}
 use Rattle.scope.specs.declared.grammar.Mode.{Mode}
 use Rattle.scope.specs.declared.grammar.Mode.the-variants.{Front, Undecided, Counted, Referred, Caret, Counting, Labiles, NTerms, Start, Single, Opened, UnsureOpened, InRange, InUnsure, RangeEnd, Ranged, UnsureEnd, CStart, CTerms}
 use Rattle.scope.specs.Reading.{Held, State, dead, outside, inside}
-use Rattle.scope.specs.Refusals.{isUnknown}
+use Rattle.scope.specs.Kinds.{isUnknown}
 
 -- no bracket at the front waits
 abbrev pub decided : Mode → Bool

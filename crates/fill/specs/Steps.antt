@@ -9,9 +9,9 @@ use lib.ListN.{length, getD, set}
 use lib.Seq.{sets}
 use Rattle.scope.specs.declared.grammar.Slot.{Slot}
 use Rattle.scope.specs.Line.{Part, Line}
-use Rattle.scope.specs.Content.{given, none?, isReference, Context, begin}
+use Rattle.scope.specs.Lists.{given, none?, flat}
+use Rattle.scope.specs.Content.{isReference, Context, begin}
 use Rattle.scope.specs.Reading.{Held, withBracket, outside, inside, refers?, modeAfter, holds}
-use Rattle.scope.specs.Modifications.{flat}
 use Rattle.scope.specs.Tables.{millionths, massIn, packed, partRow, scoreOf, scoreCode, bracketTexts}
 use Rattle.reading_laws.specs.Run.{rest}
 use Rattle.layout_laws.specs.Within.{Within}

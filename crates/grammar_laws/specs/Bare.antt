@@ -3,7 +3,7 @@ use mathlib.Core.Option.{Option, none, some}
 use mathlib.Core.List.{List, [], _∷_, map}
 use Rattle.scope.specs.declared.grammar.Key.the-variants.{NoKey}
 use Rattle.scope.specs.Line.{Number, Label, Value, mass, text, reference, Part}
-use Rattle.grammar_laws.specs.Grammar.{meansNumeral, printText, Base, delta, code, wording, keyIn, Score, isMinus, Tag, Piece, Inside, parts, refers}
+use Rattle.scope.specs.Grammar.{meansNumeral, printText, Base, delta, code, wording, keyIn, Score, isMinus, Tag, Piece, Inside, parts, refers}
 
 abbrev pub Place : Type 0
 Place = Unit {0}

@@ -8,9 +8,8 @@ use Rattle.scope.specs.declared.grammar.Key.the-variants.{NoKey, U}
 use Rattle.scope.specs.Bytes.{bytes, sameFolded, upper}
 use Rattle.scope.specs.Line.{Label, Line}
 use Rattle.scope.specs.Keys.{spell}
-use Rattle.scope.specs.Content.{given}
-use Rattle.scope.specs.Modifications.{flat}
-use Rattle.grammar_laws.specs.Grammar.{allOf, Numeral, over, byte, square, printText, goodText, Word, leadKey, delta, wording, printPieces, goodPieces, Inside, parts, refers, Spot, single, unsure, each, along, eachAlong, every, meansPieces, bracketsOn, bracketsAlong, valueOn, Spelling, print, good, means}
+use Rattle.scope.specs.Lists.{given, flat, all as every, flat as each}
+use Rattle.scope.specs.Grammar.{Numeral, over, byte, square, printText, goodText, Word, leadKey, delta, wording, printPieces, goodPieces, Inside, parts, refers, Spot, single, unsure, along, eachAlong, meansPieces, bracketsOn, bracketsAlong, valueOn, Spelling, print, good, means}
 
 abbrev none-first : Word
 none-first = record { key = NoKey; spelled = [] }
@@ -68,7 +67,7 @@ nested =
     }
 
 pub examples : (print zeros ≡ bytes "a[+01.50]") × (good zeros ≡ true) × (print twice ≡ bytes "[+1]^2?AC") × (good twice ≡ true) × (print nested ≡ bytes "[#a]-(?AC[u:x[|]])") × (good nested ≡ true)
-unfolding each every printPieces goodPieces printText goodText allOf leadKey sameFolded spell upper
+unfolding each every printPieces goodPieces printText goodText every leadKey sameFolded spell upper
 examples = (refl, refl, refl, refl, refl, refl)
 
 -- the places of a line's residues, of its brackets, of their parts, of the labels, and of the counts that are written

@@ -16,7 +16,7 @@ use Rattle.scope.specs.Refusals.{refusal1, refusal2, Due, Outcome, accepted, re
 use Rattle.reading_laws.specs.Laws.{Clear, First}
 use Rattle.reading_laws.specs.Proved as reads
 use Rattle.clause_laws.specs.Proved as clauses
-use Rattle.grammar_laws.specs.Grammar.{means}
+use Rattle.scope.specs.Grammar.{means}
 use Rattle.grammar_laws.specs.Written.{line-read}
 use Rattle.grammar_laws.specs.Laws.{Begun, Stops, Accepts, Refuses, of-bytes, of-order, of-line}
 use Rattle.grammar_laws.specs.Lines.{spelt-read, read-spelt}

@@ -1,4 +1,3 @@
-pub mod Grammar
 pub mod Lists
 pub mod Numerals
 pub mod Texts

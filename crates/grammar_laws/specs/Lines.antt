@@ -6,10 +6,11 @@ use mathlib.Core.Option.{Option, none, some, Option·none-ne-some}
 use mathlib.Core.List.{List}
 use Rattle.scope.specs.Line.{Line}
 use Rattle.scope.specs.Reading.{holds, reading, start}
-use Rattle.scope.specs.Tables.{optional, tablesOf}
+use Rattle.scope.specs.Lists.{optional, there?}
+use Rattle.scope.specs.Tables.{tablesOf}
 use Rattle.reading_laws.specs.Run.{tablesRead, told, tables-run}
 use Rattle.canonical_laws.specs.Runs.{lineRun, run-line}
-use Rattle.grammar_laws.specs.Grammar.{there?, means}
+use Rattle.scope.specs.Grammar.{means}
 use Rattle.grammar_laws.specs.Bare.{Place}
 use Rattle.grammar_laws.specs.Written.{line-read}
 use Rattle.grammar_laws.specs.Parsed.{accepted-spelt}

@@ -4,38 +4,39 @@ use native.Mathlib.Omega.{arith}
 use mathlib.Core.Path.{_≡_, refl, ap}
 use mathlib.Core.Bool.{Bool, true, false, not, false≢true}
 use mathlib.Core.List.{List, [], _∷_, _++_}
-use Rattle.scope.specs.Content.{value, none?}
+use Rattle.scope.specs.Bytes.{value}
+use Rattle.scope.specs.Lists.{none?, all as every}
 use Rattle.basics.specs.Tests.{and-left, and-right, both}
-use Rattle.grammar_laws.specs.Grammar.{allOf, someOf, valueOn}
+use Rattle.scope.specs.Grammar.{someOf, valueOn}
 
 pub no : (a : Bool) → not a ≡ true → a ≡ false
 no true e = absurd (false≢true e)
 no false e = refl
 
-pub all-append : (f : ℕ → Bool) (l m : List ℕ) → allOf f l ≡ true → allOf f m ≡ true → allOf f (l ++ m) ≡ true
-unfolding allOf
+pub all-append : (f : ℕ → Bool) (l m : List ℕ) → every f l ≡ true → every f m ≡ true → every f (l ++ m) ≡ true
+unfolding every
 all-append f [] m e g = g
-all-append f (b ∷ l) m e g = both (f b) (allOf f (l ++ m)) (and-left (f b) (allOf f l) e) (all-append f l m (and-right (f b) (allOf f l) e) g)
+all-append f (b ∷ l) m e g = both (f b) (every f (l ++ m)) (and-left (f b) (every f l) e) (all-append f l m (and-right (f b) (every f l) e) g)
 
-pub all-nil : (f : ℕ → Bool) → allOf f [] ≡ true
-unfolding allOf
+pub all-nil : (f : ℕ → Bool) → every f [] ≡ true
+unfolding every
 all-nil f = refl
 
-pub all-one : (f : ℕ → Bool) (b : ℕ) → f b ≡ true → allOf f (b ∷ []) ≡ true
-unfolding allOf
-all-one f b e = rw (e, allOf)
+pub all-one : (f : ℕ → Bool) (b : ℕ) → f b ≡ true → every f (b ∷ []) ≡ true
+unfolding every
+all-one f b e = rw (e, every)
 
-pub all-snoc : (f : ℕ → Bool) (l : List ℕ) (b : ℕ) → allOf f l ≡ true → f b ≡ true → allOf f (l ++ (b ∷ [])) ≡ true
+pub all-snoc : (f : ℕ → Bool) (l : List ℕ) (b : ℕ) → every f l ≡ true → f b ≡ true → every f (l ++ (b ∷ [])) ≡ true
 all-snoc f l b e g = all-append f l (b ∷ []) e (all-one f b g)
 
 pub not-none : (l : List ℕ) (b : ℕ) → none? (l ++ (b ∷ [])) ≡ false
 not-none [] b = refl
 not-none (x ∷ l) b = refl
 
-pub some-snoc : (f : ℕ → Bool) (l : List ℕ) (b : ℕ) → allOf f l ≡ true → f b ≡ true → someOf f (l ++ (b ∷ [])) ≡ true
-some-snoc f l b e g = both (not (none? (l ++ (b ∷ [])))) (allOf f (l ++ (b ∷ []))) (ap not (not-none l b)) (all-snoc f l b e g)
+pub some-snoc : (f : ℕ → Bool) (l : List ℕ) (b : ℕ) → every f l ≡ true → f b ≡ true → someOf f (l ++ (b ∷ [])) ≡ true
+some-snoc f l b e g = both (not (none? (l ++ (b ∷ [])))) (every f (l ++ (b ∷ []))) (ap not (not-none l b)) (all-snoc f l b e g)
 
-pub some-all : (f : ℕ → Bool) (l : List ℕ) → someOf f l ≡ true → allOf f l ≡ true
+pub some-all : (f : ℕ → Bool) (l : List ℕ) → someOf f l ≡ true → every f l ≡ true
 some-all f [] e = absurd (false≢true e)
 some-all f (b ∷ l) e = e
 

@@ -8,13 +8,14 @@ use mathlib.Core.List.{List, [], _∷_, _++_, append-assoc, append-nil}
 use lib.Dec.{eqb}
 use lib.ListN.{length, length-append}
 use borrow.Author.Tests.{eqb-true}
-use Rattle.scope.specs.Bytes.{isDigit, dot}
+use Rattle.scope.specs.Bytes.{isDigit, dot, value}
 use Rattle.scope.specs.Line.{Number}
-use Rattle.scope.specs.Content.{Digits, signed, whole, pointed, broken, value, digitStep, numberEnd}
+use Rattle.scope.specs.Content.{Digits, signed, whole, pointed, broken, digitStep, numberEnd}
 use Rattle.canonical_laws.specs.Lists.{branch, pick-true, pick-false}
 use Rattle.canonical_laws.specs.Numbers.{digitRun, run-append, run-cons, allRead}
 use Rattle.basics.specs.Tests.{and-left, and-right, both}
-use Rattle.grammar_laws.specs.Grammar.{allOf, someOf, Numeral, printBehind, printNumeral, goodBehind, goodNumeral, valueOn, fraction, signedBy, meansNumeral}
+use Rattle.scope.specs.Lists.{all as every}
+use Rattle.scope.specs.Grammar.{someOf, Numeral, printBehind, printNumeral, goodBehind, goodNumeral, valueOn, fraction, signedBy, meansNumeral}
 use Rattle.grammar_laws.specs.Lists.{all-nil, some-snoc, some-all, value-append, value-snoc, value-one}
 
 run-nil : (d : Digits) → digitRun d [] ≡ some d
@@ -42,35 +43,35 @@ step-broken : (s : Bool) (m d b : ℕ) → isDigit b ≡ true → digitStep (bro
 unfolding digitStep
 step-broken s m d b e = pick-true (isDigit b) _ _ e
 
-whole-run : (s : Bool) (m : ℕ) (l : List ℕ) → allOf isDigit l ≡ true → digitRun (whole s m) l ≡ some (whole s (valueOn m l))
-unfolding digitRun allOf valueOn
+whole-run : (s : Bool) (m : ℕ) (l : List ℕ) → every isDigit l ≡ true → digitRun (whole s m) l ≡ some (whole s (valueOn m l))
+unfolding digitRun every valueOn
 whole-run s m [] e = refl
 whole-run s m (b ∷ l) e =
-    run-cons (whole s m) (whole s (m * 10 + value b)) b l (step-whole s m b (and-left (isDigit b) (allOf isDigit l) e))
-    ∙ whole-run s (m * 10 + value b) l (and-right (isDigit b) (allOf isDigit l) e)
+    run-cons (whole s m) (whole s (m * 10 + value b)) b l (step-whole s m b (and-left (isDigit b) (every isDigit l) e))
+    ∙ whole-run s (m * 10 + value b) l (and-right (isDigit b) (every isDigit l) e)
 
-broken-run : (s : Bool) (m d : ℕ) (l : List ℕ) → allOf isDigit l ≡ true → digitRun (broken s m d) l ≡ some (broken s (valueOn m l) (d + length l))
-unfolding digitRun allOf valueOn
+broken-run : (s : Bool) (m d : ℕ) (l : List ℕ) → every isDigit l ≡ true → digitRun (broken s m d) l ≡ some (broken s (valueOn m l) (d + length l))
+unfolding digitRun every valueOn
 broken-run s m d [] e = ap (λ z. some (broken s m z)) (omega arith)
 broken-run s m d (b ∷ l) e =
-    run-cons (broken s m d) (broken s (m * 10 + value b) (d + 1)) b l (step-broken s m d b (and-left (isDigit b) (allOf isDigit l) e))
-    ∙ broken-run s (m * 10 + value b) (d + 1) l (and-right (isDigit b) (allOf isDigit l) e)
+    run-cons (broken s m d) (broken s (m * 10 + value b) (d + 1)) b l (step-broken s m d b (and-left (isDigit b) (every isDigit l) e))
+    ∙ broken-run s (m * 10 + value b) (d + 1) l (and-right (isDigit b) (every isDigit l) e)
     ∙ ap (λ z. some (broken s (valueOn (m * 10 + value b) l) z)) (omega arith)
 
 front-run : (s : Bool) (a : List ℕ) → someOf isDigit a ≡ true → digitRun (signed s) a ≡ some (whole s (valueOn 0 a))
-unfolding allOf valueOn
+unfolding every valueOn
 front-run s [] e = absurd (false≢true e)
 front-run s (b ∷ a) e =
-    run-cons (signed s) (whole s (0 * 10 + value b)) b a (step-signed s b (and-left (isDigit b) (allOf isDigit a) e))
-    ∙ whole-run s (0 * 10 + value b) a (and-right (isDigit b) (allOf isDigit a) e)
+    run-cons (signed s) (whole s (0 * 10 + value b)) b a (step-signed s b (and-left (isDigit b) (every isDigit a) e))
+    ∙ whole-run s (0 * 10 + value b) a (and-right (isDigit b) (every isDigit a) e)
 
 point-run : (s : Bool) (m : ℕ) (f : List ℕ) → someOf isDigit f ≡ true → digitRun (whole s m) (dot ∷ f) ≡ some (allRead s (valueOn m f) (length f))
-unfolding allOf valueOn allRead
+unfolding every valueOn allRead
 point-run s m [] e = absurd (false≢true e)
 point-run s m (b ∷ f) e =
     run-cons (whole s m) (pointed s m) dot (b ∷ f) (step-dot s m)
-    ∙ run-cons (pointed s m) (broken s (m * 10 + value b) 1) b f (step-pointed s m b (and-left (isDigit b) (allOf isDigit f) e))
-    ∙ broken-run s (m * 10 + value b) 1 f (and-right (isDigit b) (allOf isDigit f) e)
+    ∙ run-cons (pointed s m) (broken s (m * 10 + value b) 1) b f (step-pointed s m b (and-left (isDigit b) (every isDigit f) e))
+    ∙ broken-run s (m * 10 + value b) 1 f (and-right (isDigit b) (every isDigit f) e)
     ∙ ap (λ z. some (broken s (valueOn (m * 10 + value b) f) z)) (omega arith)
 
 -- how a number stands that means n

@@ -25,7 +25,8 @@ use Rattle.canonical_laws.specs.Brackets.{Place, Parts, context, contentStep, c
 use Rattle.canonical_laws.specs.Runs.{lineRun, line-nil, line-cons, same-mode}
 use Rattle.basics.specs.Tests.{both}
 use Rattle.reading_laws.specs.Acts.{Ending, single-ends, ranged-ends, unsure-ends, cterms-end, ending}
-use Rattle.grammar_laws.specs.Grammar.{there?, allOf, someOf, Inside, parts, refers, printInside, goodInside, printSquare, printCurly, each, every, printSquares, goodSquares, goodCurlies, Marked, printCount, goodCount, printMarked, goodMarked, Run, printRun, goodRun, Spot, Element, single, range, unsure, printSpot, printElement, goodSpot, goodElement, Spelling, elements, printFront, printBack, print, good}
+use Rattle.scope.specs.Lists.{there?, all as every, flat as each}
+use Rattle.scope.specs.Grammar.{someOf, Inside, parts, refers, printInside, goodInside, printSquare, printCurly, printSquares, goodSquares, goodCurlies, Marked, printCount, goodCount, printMarked, goodMarked, Run, printRun, goodRun, Spot, Element, single, range, unsure, printSpot, printElement, goodSpot, goodElement, Spelling, elements, printFront, printBack, print, good}
 use Rattle.grammar_laws.specs.Bare.{bareInside}
 use Rattle.grammar_laws.specs.Spelled.{closed-spelled}
 
@@ -108,7 +109,7 @@ pub record Counts (l : List ℕ) : Type 0 where
 
 pub record DigitsLeft (l : List ℕ) : Type 0 where
   pub bytes : List ℕ
-  pub good : allOf isDigit bytes ≡ true
+  pub good : every isDigit bytes ≡ true
   pub rest : List ℕ
   pub all : l ≡ bytes ++ rest
   pub then : Marks rest
@@ -468,17 +469,17 @@ unfolding act After
 counted-left b l a = by (eqb b caret) _ _ l a (λ e w. counts b l (eqb-true b caret e) w) (λ e c. uncounted (b ∷ l) (marks-left b l c))
 
 counting-left : (b : ℕ) (l : List ℕ) → After (act Counting b) l → DigitsLeft (b ∷ l)
-unfolding act After allOf
+unfolding act After every
 counting-left b l a =
     by (isDigit b) _ _ l a
-    (λ e (w : DigitsLeft l). record { bytes = b ∷ w .bytes; good = both (isDigit b) (allOf isDigit (w .bytes)) e (w .good); rest = w .rest; all = ap (λ z. b ∷ z) (w .all); then = w .then })
+    (λ e (w : DigitsLeft l). record { bytes = b ∷ w .bytes; good = both (isDigit b) (every isDigit (w .bytes)) e (w .good); rest = w .rest; all = ap (λ z. b ∷ z) (w .all); then = w .then })
     (λ e c. record { bytes = []; good = refl; rest = b ∷ l; all = refl; then = marks-left b l c })
 
 caret-left : (b : ℕ) (l : List ℕ) → After (act Caret b) l → SomeDigits (b ∷ l)
-unfolding act After allOf
+unfolding act After every
 caret-left b l a =
     by (isDigit b) _ _ l a
-    (λ e (w : DigitsLeft l). record { bytes = b ∷ w .bytes; good = both (isDigit b) (allOf isDigit (w .bytes)) e (w .good); rest = w .rest; all = ap (λ z. b ∷ z) (w .all); then = w .then })
+    (λ e (w : DigitsLeft l). record { bytes = b ∷ w .bytes; good = both (isDigit b) (every isDigit (w .bytes)) e (w .good); rest = w .rest; all = ap (λ z. b ∷ z) (w .all); then = w .then })
     (λ e w. absurd w)
 
 -- ---- the front

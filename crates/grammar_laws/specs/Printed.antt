@@ -11,14 +11,15 @@ use lib.ListN.{length, length-append}
 use borrow.Author.Tests.{eqb-true, eq-eqb, ne-eqb, leb-true, le-leb}
 use Rattle.scope.specs.declared.grammar.Key.{Key}
 use Rattle.scope.specs.declared.grammar.Key.the-variants.{NoKey}
-use Rattle.scope.specs.Bytes.{isPrintable, isUpper, isLower, isLetter, isDigit, isAlnum, isSign, isOpening, isShutting, shutSquare, shutCurly, bar, hash, colon, plus, dash, dot, openRound, shutRound, sameFolded}
+use Rattle.scope.specs.Bytes.{isPrintable, isUpper, isLower, isLetter, isDigit, isAlnum, isSign, isOpening, isShutting, shutSquare, shutCurly, bar, hash, colon, plus, dash, dot, openRound, shutRound, sameFolded, value}
 use Rattle.scope.specs.Line.{mass, text, reference, Part}
-use Rattle.scope.specs.Keys.{spell, keyOf, Form, massOrName, massOnly, digits, alnums, free, form, hashIsPlain}
-use Rattle.scope.specs.Content.{given, Digits, signed, whole, value, digitStep, numberEnd, isPlain, textStep, Context, Inner, begin, plain, keyed, inNumber, inCode, inText, hashed, inLabel, scoring, inScore, scored, Content, closed, going, with, unlabelled, labelled, isReference, partEnd, valueEnd, textEnd, behindKey, colonAfter, accessionByte, nameBehind, none?, innerStep}
+use Rattle.scope.specs.Keys.{spell, keyOf, Form, massOrName, massOnly, digits, alnums, free, form, hashIsPlain, accessionByte}
+use Rattle.scope.specs.Lists.{given, none?, all as every, there?}
+use Rattle.scope.specs.Content.{Digits, signed, whole, digitStep, numberEnd, isPlain, textStep, Context, Inner, begin, plain, keyed, inNumber, inCode, inText, hashed, inLabel, scoring, inScore, scored, Content, closed, going, with, unlabelled, labelled, isReference, partEnd, valueEnd, textEnd, behindKey, colonAfter, nameBehind, innerStep}
 use Rattle.canonical_laws.specs.Lists.{pick-true, pick-false, pick-some, pick-none}
 use Rattle.canonical_laws.specs.Numbers.{digitRun, run-cons}
 use Rattle.basics.specs.Tests.{and-left, and-right}
-use Rattle.grammar_laws.specs.Grammar.{allOf, someOf, there?, Numeral, printNumeral, goodNumeral, goodBehind, printBehind, meansNumeral, signByte, Text, printText, goodText, outerByte, goodWord, withColon, leadKey, firstSign, keyless, Base, delta, code, wording, printBase, takesMass, goodWording, goodBase, keyIn, valueIn, Score, printSign, isMinus, printScore, goodScore, meansScore, Tag, printTag, goodTag, meansTag, Piece, printPiece, formIn, tagFits, goodPiece, meansPiece, printPieces, goodPieces, meansPieces, Inside, parts, refers, printInside, goodInside, meansInside}
+use Rattle.scope.specs.Grammar.{someOf, Numeral, printNumeral, goodNumeral, goodBehind, printBehind, meansNumeral, signByte, Text, printText, goodText, outerByte, goodWord, withColon, leadKey, firstSign, keyless, Base, delta, code, wording, printBase, takesMass, goodWording, goodBase, keyIn, valueIn, Score, printSign, isMinus, printScore, goodScore, meansScore, Tag, printTag, goodTag, meansTag, Piece, printPiece, formIn, tagFits, goodPiece, meansPiece, printPieces, goodPieces, meansPieces, Inside, parts, refers, printInside, goodInside, meansInside}
 use Rattle.grammar_laws.specs.Lists.{no}
 use Rattle.grammar_laws.specs.Runs.{context, notedStep, notedRun, content-one, then, onward}
 use Rattle.grammar_laws.specs.Numerals.{readAs, numeral-run, numeral-end, numeral-stops}
@@ -160,28 +161,28 @@ module _ (c : Context ℕ) where
       go none f ih e = absurd (Option·none-ne-some cs′ e)
       go (some m) f ih e = ap (λ z. notedRun (i + 1) z l) (rw (f, innerStep)) ∙ ih m e ∙ ap (λ z. going (inText c at k z cs′)) (append-assoc t (b ∷ []) l)
 
-  in-code : (i at : ℕ) (k : Key) (t l : List ℕ) → allOf (accessionByte (form k)) l ≡ true → notedRun i (going (inCode c at k t)) l ≡ going (inCode c at k (t ++ l))
-  unfolding notedRun notedStep allOf innerStep
+  in-code : (i at : ℕ) (k : Key) (t l : List ℕ) → every (accessionByte (form k)) l ≡ true → notedRun i (going (inCode c at k t)) l ≡ going (inCode c at k (t ++ l))
+  unfolding notedRun notedStep every innerStep
   in-code i at k t [] e = ap (λ z. going (inCode c at k z)) (sym (append-nil t))
   in-code i at k t (b ∷ l) e =
-      ap (λ z. notedRun (i + 1) z l) (pick-true (accessionByte (form k) b) _ _ (and-left (accessionByte (form k) b) (allOf (accessionByte (form k)) l) e))
-      ∙ in-code (i + 1) at k (t ++ (b ∷ [])) l (and-right (accessionByte (form k) b) (allOf (accessionByte (form k)) l) e)
+      ap (λ z. notedRun (i + 1) z l) (pick-true (accessionByte (form k) b) _ _ (and-left (accessionByte (form k) b) (every (accessionByte (form k)) l) e))
+      ∙ in-code (i + 1) at k (t ++ (b ∷ [])) l (and-right (accessionByte (form k) b) (every (accessionByte (form k)) l) e)
       ∙ ap (λ z. going (inCode c at k z)) (append-assoc t (b ∷ []) l)
 
-  in-word : (i at : ℕ) (t l : List ℕ) → allOf isLetter l ≡ true → notedRun i (going (plain c at t)) l ≡ going (plain c at (t ++ l))
-  unfolding notedRun notedStep allOf innerStep
+  in-word : (i at : ℕ) (t l : List ℕ) → every isLetter l ≡ true → notedRun i (going (plain c at t)) l ≡ going (plain c at (t ++ l))
+  unfolding notedRun notedStep every innerStep
   in-word i at t [] e = ap (λ z. going (plain c at z)) (sym (append-nil t))
   in-word i at t (b ∷ l) e =
-      ap (λ z. notedRun (i + 1) z l) (pick-true (isPlain b) _ _ (lettered b (and-left (isLetter b) (allOf isLetter l) e) .plain))
-      ∙ in-word (i + 1) at (t ++ (b ∷ [])) l (and-right (isLetter b) (allOf isLetter l) e)
+      ap (λ z. notedRun (i + 1) z l) (pick-true (isPlain b) _ _ (lettered b (and-left (isLetter b) (every isLetter l) e) .plain))
+      ∙ in-word (i + 1) at (t ++ (b ∷ [])) l (and-right (isLetter b) (every isLetter l) e)
       ∙ ap (λ z. going (plain c at z)) (append-assoc t (b ∷ []) l)
 
-  in-label : (i at : ℕ) (p : Part ℕ) (t l : List ℕ) → allOf isAlnum l ≡ true → notedRun i (going (inLabel c p at t)) l ≡ going (inLabel c p at (t ++ l))
-  unfolding notedRun notedStep allOf innerStep
+  in-label : (i at : ℕ) (p : Part ℕ) (t l : List ℕ) → every isAlnum l ≡ true → notedRun i (going (inLabel c p at t)) l ≡ going (inLabel c p at (t ++ l))
+  unfolding notedRun notedStep every innerStep
   in-label i at p t [] e = ap (λ z. going (inLabel c p at z)) (sym (append-nil t))
   in-label i at p t (b ∷ l) e =
-      ap (λ z. notedRun (i + 1) z l) (pick-true (isAlnum b) _ _ (and-left (isAlnum b) (allOf isAlnum l) e))
-      ∙ in-label (i + 1) at p (t ++ (b ∷ [])) l (and-right (isAlnum b) (allOf isAlnum l) e)
+      ap (λ z. notedRun (i + 1) z l) (pick-true (isAlnum b) _ _ (and-left (isAlnum b) (every isAlnum l) e))
+      ∙ in-label (i + 1) at p (t ++ (b ∷ [])) l (and-right (isAlnum b) (every isAlnum l) e)
       ∙ ap (λ z. going (inLabel c p at z)) (append-assoc t (b ∷ []) l)
 
   -- ---- the end of what a part says
@@ -296,13 +297,13 @@ module _ (c : Context ℕ) where
 
   -- ---- a key word and its colon
   word-run : (i : ℕ) (k : Key) (x : ℕ) (t : List ℕ) → sameFolded (spell k) (x ∷ t) ≡ true → notedRun i (going (begin c)) ((x ∷ t) ++ (colon ∷ [])) ≡ going (behindKey c i k (form k))
-  unfolding innerStep allOf
+  unfolding innerStep every
   word-run i k x t e =
       let f : keyOf (x ∷ t) ≡ some k = word-key k x t e in
-      let g : allOf isLetter (x ∷ t) ≡ true = key-letters (x ∷ t) k f in
-      let l : Letter x = lettered x (and-left (isLetter x) (allOf isLetter t) g) in
+      let g : every isLetter (x ∷ t) ≡ true = key-letters (x ∷ t) k f in
+      let l : Letter x = lettered x (and-left (isLetter x) (every isLetter t) g) in
       then i (begin c) (plain c i (x ∷ [])) x (t ++ (colon ∷ [])) _ (pick-false (isSign x) _ _ (l .sign) ∙ pick-true (isPlain x) _ _ (l .plain))
-      (onward (i + 1) (plain c i (x ∷ [])) (plain c i (x ∷ t)) t (colon ∷ []) _ (in-word (i + 1) i (x ∷ []) t (and-right (isLetter x) (allOf isLetter t) g))
+      (onward (i + 1) (plain c i (x ∷ [])) (plain c i (x ∷ t)) t (colon ∷ []) _ (in-word (i + 1) i (x ∷ []) t (and-right (isLetter x) (every isLetter t) g))
       (content-one (i + 1 + length t) (plain c i (x ∷ t)) colon ∙ ap going (colon-key i (x ∷ t) k f)))
 
   -- ---- what a part says
@@ -347,16 +348,16 @@ module _ (c : Context ℕ) where
       ∙ ap (λ z. valueEnd c (unlabelled i k (mass (meansNumeral z m n))) e) (sym (add-zero i))
   delta-run i k (x ∷ w) m n e f t g h = behind-run i k x w (signByte m ∷ printNumeral n) e _ f (mass-behind (i + length (withColon (x ∷ w))) i (form k) k m n e t g h)
 
-  none-of : (l : List ℕ) → allOf (λ b. false) l ≡ true → none? l ≡ false → ⊥
-  unfolding allOf
+  none-of : (l : List ℕ) → every (λ b. false) l ≡ true → none? l ≡ false → ⊥
+  unfolding every
   none-of [] e f = true≢false f
   none-of (b ∷ l) e f = false≢true e
 
-  code-from : (i at : ℕ) (k : Key) (t : List ℕ) (e : ℕ) → Stop e → none? t ≡ false → allOf (accessionByte (form k)) t ≡ true → notedRun i (going (inCode c at k [])) (t ++ (e ∷ [])) ≡ valueEnd c (unlabelled at k (text t)) e
+  code-from : (i at : ℕ) (k : Key) (t : List ℕ) (e : ℕ) → Stop e → none? t ≡ false → every (accessionByte (form k)) t ≡ true → notedRun i (going (inCode c at k [])) (t ++ (e ∷ [])) ≡ valueEnd c (unlabelled at k (text t)) e
   code-from i at k t e h n a =
       onward i (inCode c at k []) (inCode c at k t) t (e ∷ []) _ (in-code i at k [] t a) (content-one (i + length t) (inCode c at k t) e ∙ code-end (i + length t) at k t e h n)
 
-  code-behind : (i at : ℕ) (f : Form) (k : Key) (t : List ℕ) (e : ℕ) → form k ≡ f → Stop e → none? t ≡ false → allOf (accessionByte f) t ≡ true
+  code-behind : (i at : ℕ) (f : Form) (k : Key) (t : List ℕ) (e : ℕ) → form k ≡ f → Stop e → none? t ≡ false → every (accessionByte f) t ≡ true
       → notedRun i (going (behindKey c at k f)) (t ++ (e ∷ [])) ≡ valueEnd c (unlabelled at k (text t)) e
   code-behind i at massOrName k t e q h n a = absurd (none-of t a n)
   code-behind i at massOnly k t e q h n a = absurd (none-of t a n)
@@ -364,10 +365,10 @@ module _ (c : Context ℕ) where
   code-behind i at alnums k t e q h n a = code-from i at k t e h n (rw q a)
   code-behind i at free k t e q h n a = absurd (none-of t a n)
 
-  code-run : (i : ℕ) (k : Key) (w t : List ℕ) (e : ℕ) → sameFolded (spell k) w ≡ true → Stop e → none? t ≡ false → allOf (accessionByte (form k)) t ≡ true
+  code-run : (i : ℕ) (k : Key) (w t : List ℕ) (e : ℕ) → sameFolded (spell k) w ≡ true → Stop e → none? t ≡ false → every (accessionByte (form k)) t ≡ true
       → notedRun i (going (begin c)) ((withColon w ++ t) ++ (e ∷ [])) ≡ valueEnd c (unlabelled i k (text t)) e
   code-run i k [] t e f h n a =
-      let b : allOf (accessionByte (form NoKey)) t ≡ true = ap (λ z. allOf (accessionByte (form z)) t) (sym (word-none k f)) ∙ a in
+      let b : every (accessionByte (form NoKey)) t ≡ true = ap (λ z. every (accessionByte (form z)) t) (sym (word-none k f)) ∙ a in
       absurd (none-of t b n)
   code-run i k (x ∷ w) t e f h n a = behind-run i k x w t e _ f (code-behind (i + length (withColon (x ∷ w))) i (form k) k t e refl h n a)
 
@@ -415,7 +416,7 @@ module _ (c : Context ℕ) where
   base-run i (code w t) e g h d =
       let g₁ = and-right (goodWord w) (someOf (accessionByte (form (w .key))) t) g in
       code-run i (w .key) (w .spelled) t e (and-left (goodWord w) (someOf (accessionByte (form (w .key))) t) g) (stop e h)
-      (no (none? t) (and-left (not (none? t)) (allOf (accessionByte (form (w .key))) t) g₁)) (and-right (not (none? t)) (allOf (accessionByte (form (w .key))) t) g₁)
+      (no (none? t) (and-left (not (none? t)) (every (accessionByte (form (w .key))) t) g₁)) (and-right (not (none? t)) (every (accessionByte (form (w .key))) t) g₁)
   base-run i (wording w t) e g h d =
       let g₁ = and-right (goodWord w) (not (none? (printText t)) && goodWording (form (w .key)) (w .spelled) t) g in
       wording-run i (w .key) (w .spelled) t e (and-left (goodWord w) (not (none? (printText t)) && goodWording (form (w .key)) (w .spelled) t) g) h d
@@ -461,7 +462,7 @@ module _ (c : Context ℕ) where
   -- the number of a score, with or without sign
   score-number : (i at : ℕ) (p : Part ℕ) (name : List ℕ) (o : Option Bool) (n : Numeral) → goodNumeral n ≡ true
       → notedRun i (going (scoring c p at name)) (printSign o ++ printNumeral n) ≡ going (inScore c p at name i (readAs (isMinus o) n))
-  unfolding allOf
+  unfolding every
   score-number i at p name (some m) n g =
       then i (scoring c p at name) (inScore c p at name i (signed m)) (signByte m) (printNumeral n) _ (score-sign i at p name m) (in-score (i + 1) at i p name (printNumeral n) (signed m) (readAs m n) (numeral-run m n g))
   score-number i at p name none n g = go (n .whole) (and-left (someOf isDigit (n .whole)) (goodBehind (n .behind)) g) (numeral-run false n g)
@@ -470,7 +471,7 @@ module _ (c : Context ℕ) where
           → notedRun i (going (scoring c p at name)) (a ++ printBehind (n .behind)) ≡ going (inScore c p at name i (readAs false n))
       go [] e f = absurd (false≢true e)
       go (b ∷ a) e f =
-          let d : isDigit b ≡ true = and-left (isDigit b) (allOf isDigit a) e in
+          let d : isDigit b ≡ true = and-left (isDigit b) (every isDigit a) e in
           then i (scoring c p at name) (inScore c p at name i (whole false (value b))) b (a ++ printBehind (n .behind)) _ (score-digit i at p name b d)
           (in-score (i + 1) at i p name (a ++ printBehind (n .behind)) (whole false (value b)) (readAs false n) (sym (run-cons (signed false) (whole false (value b)) b (a ++ printBehind (n .behind)) (first-digit b d)) ∙ f))
 
@@ -491,16 +492,16 @@ module _ (c : Context ℕ) where
   -- i is the place behind `#`
   tag-run : (i : ℕ) (p : Part ℕ) (t : Tag) (e : ℕ) → goodTag (some t) ≡ true → closes e ≡ true
       → notedRun i (going (hashed c p)) ((t .name ++ printScore (t .score)) ++ (e ∷ [])) ≡ partEnd c (labelled p i (t .name) (meansScore (i + length (t .name)) (t .score))) e
-  unfolding allOf innerStep
+  unfolding every innerStep
   tag-run i p t e g h = go (t .name) (and-left (someOf isAlnum (t .name)) (goodScore (t .score)) g)
     where
       go : (n : List ℕ) → someOf isAlnum n ≡ true → notedRun i (going (hashed c p)) ((n ++ printScore (t .score)) ++ (e ∷ [])) ≡ partEnd c (labelled p i n (meansScore (i + length n) (t .score))) e
       go [] q = absurd (false≢true q)
       go (b ∷ n) q =
           let z : i + 1 + length n ≡ i + suc (length n) = omega arith in
-          then i (hashed c p) (inLabel c p i (b ∷ [])) b ((n ++ printScore (t .score)) ++ (e ∷ [])) _ (pick-true (isAlnum b) _ _ (and-left (isAlnum b) (allOf isAlnum n) q))
+          then i (hashed c p) (inLabel c p i (b ∷ [])) b ((n ++ printScore (t .score)) ++ (e ∷ [])) _ (pick-true (isAlnum b) _ _ (and-left (isAlnum b) (every isAlnum n) q))
           (ap (notedRun (i + 1) (going (inLabel c p i (b ∷ [])))) (append-assoc n (printScore (t .score)) (e ∷ []))
-          ∙ onward (i + 1) (inLabel c p i (b ∷ [])) (inLabel c p i (b ∷ n)) n (printScore (t .score) ++ (e ∷ [])) _ (in-label (i + 1) i p (b ∷ []) n (and-right (isAlnum b) (allOf isAlnum n) q))
+          ∙ onward (i + 1) (inLabel c p i (b ∷ [])) (inLabel c p i (b ∷ n)) n (printScore (t .score) ++ (e ∷ [])) _ (in-label (i + 1) i p (b ∷ []) n (and-right (isAlnum b) (every isAlnum n) q))
           (score-run (i + 1 + length n) i p (b ∷ n) (t .score) e (and-right (someOf isAlnum (t .name)) (goodScore (t .score)) g) h)
           ∙ ap (λ v. partEnd c (labelled p i (b ∷ n) (meansScore v (t .score))) e) z)
 

@@ -6,13 +6,14 @@ use mathlib.Core.Option.{Option, none, some, Option·some-injective, Option·non
 use mathlib.Core.List.{List, [], _∷_, _++_, map, append-assoc, append-nil}
 use Rattle.scope.specs.Bytes.{isShutting}
 use Rattle.scope.specs.Line.{Number, Part, Line}
-use Rattle.scope.specs.Content.{given, Digits, signed, digitStep, begin, closed, going}
+use Rattle.scope.specs.Lists.{given}
+use Rattle.scope.specs.Content.{Digits, signed, digitStep, begin, closed, going}
 use Rattle.scope.specs.Reading.{Reading, stuck, holds, reading}
 use Rattle.scope.specs.Tables.{Tables, tablesOf}
 use Rattle.reading_laws.specs.Places.{mapPart, mapContent}
 use Rattle.reading_laws.specs.Run.{unnoted}
 use Rattle.canonical_laws.specs.Numbers.{digitRun}
-use Rattle.grammar_laws.specs.Grammar.{Spelling, print, good, means}
+use Rattle.scope.specs.Grammar.{Spelling, print, good, means}
 use Rattle.grammar_laws.specs.Numerals.{numeral-run, numeral-end, readAs, SoFar, so-further, so-ended}
 use Rattle.grammar_laws.specs.Texts.{textRun, outer-run, whole-text}
 use Rattle.grammar_laws.specs.Words.{word-length}

@@ -8,14 +8,15 @@ use lib.Dec.{eqb}
 use borrow.Author.Tests.{eqb-true}
 use Rattle.scope.specs.declared.grammar.Key.{Key}
 use Rattle.scope.specs.declared.grammar.Key.the-variants.{NoKey}
-use Rattle.scope.specs.Bytes.{isPrintable, isLetter, isDigit, isAlnum, isSign, isOpening, isShutting, closerOf, shutSquare, openSquare, openCurly, bar, hash, colon, plus, dash, openRound, shutRound, sameFolded}
+use Rattle.scope.specs.Bytes.{isPrintable, isLetter, isDigit, isAlnum, isSign, isOpening, isShutting, closerOf, shutSquare, openSquare, openCurly, bar, hash, colon, plus, dash, openRound, shutRound, sameFolded, value}
 use Rattle.scope.specs.Line.{Number, mass, text, reference, Part}
-use Rattle.scope.specs.Keys.{spell, keyOf, Form, massOrName, massOnly, digits, alnums, free, form, hashIsPlain}
-use Rattle.scope.specs.Content.{Digits, signed, value, digitStep, numberEnd, isPlain, textStep, Context, Inner, begin, plain, keyed, inNumber, inCode, inText, hashed, inLabel, scoring, inScore, scored, Content, lost, closed, going, with, unlabelled, labelled, isReference, partEnd, valueEnd, textEnd, behindKey, colonAfter, accessionByte, nameBehind, none?, innerStep}
+use Rattle.scope.specs.Keys.{spell, keyOf, Form, massOrName, massOnly, digits, alnums, free, form, hashIsPlain, accessionByte}
+use Rattle.scope.specs.Content.{Digits, signed, digitStep, numberEnd, isPlain, textStep, Context, Inner, begin, plain, keyed, inNumber, inCode, inText, hashed, inLabel, scoring, inScore, scored, Content, lost, closed, going, with, unlabelled, labelled, isReference, partEnd, valueEnd, textEnd, behindKey, colonAfter, nameBehind, innerStep}
+use Rattle.scope.specs.Lists.{none?, all as every, there?}
 use Rattle.canonical_laws.specs.Lists.{branch, branchO, pick-true, pick-false, All, all-append}
 use Rattle.canonical_laws.specs.Brackets.{Place, Parts, context, contentStep, contentRun}
 use Rattle.basics.specs.Tests.{and-left, and-right, both}
-use Rattle.grammar_laws.specs.Grammar.{allOf, someOf, there?, printNumeral, goodNumeral, signByte, Text, printText, goodText, outerByte, withColon, leadKey, firstSign, keyless, Base, delta, code, wording, printBase, takesMass, goodWording, goodBase, keyIn, printSign, isMinus, Tag, printTag, goodTag, Piece, printPiece, formIn, tagFits, goodPiece, printPieces, goodPieces, Inside, parts, refers, printInside, goodInside}
+use Rattle.scope.specs.Grammar.{someOf, printNumeral, goodNumeral, signByte, Text, printText, goodText, outerByte, withColon, leadKey, firstSign, keyless, Base, delta, code, wording, printBase, takesMass, goodWording, goodBase, keyIn, printSign, isMinus, Tag, printTag, goodTag, Piece, printPiece, formIn, tagFits, goodPiece, printPieces, goodPieces, Inside, parts, refers, printInside, goodInside}
 use Rattle.grammar_laws.specs.Bare.{bareValue, bareScore, barePiece, bareReference, bareInside}
 use Rattle.grammar_laws.specs.Lists.{all-nil, all-one, all-snoc, some-snoc, some-all, not-none}
 use Rattle.grammar_laws.specs.Numerals.{SoFar, so-further, so-first, Spelt, so-ended}
@@ -96,19 +97,19 @@ opens b cs e f g = go (isOpening b) (sym (pick-false (outer false b) (some []) (
 plain-colon : (b : ℕ) → isPlain b ≡ true → not (eqb b colon) ≡ true
 plain-colon b e = and-right (isPrintable b && not (isOpening b) && not (isShutting b) && not (eqb b bar) && not (eqb b hash)) (not (eqb b colon)) e
 
-plain-colons : (t : List ℕ) → allOf isPlain t ≡ true → allOf (λ b. not (eqb b colon)) t ≡ true
-unfolding allOf
+plain-colons : (t : List ℕ) → every isPlain t ≡ true → every (λ b. not (eqb b colon)) t ≡ true
+unfolding every
 plain-colons [] e = refl
-plain-colons (b ∷ t) e = both (not (eqb b colon)) (allOf (λ x. not (eqb x colon)) t) (plain-colon b (and-left (isPlain b) (allOf isPlain t) e)) (plain-colons t (and-right (isPlain b) (allOf isPlain t) e))
+plain-colons (b ∷ t) e = both (not (eqb b colon)) (every (λ x. not (eqb x colon)) t) (plain-colon b (and-left (isPlain b) (every isPlain t) e)) (plain-colons t (and-right (isPlain b) (every isPlain t) e))
 
 plain-step : (b : ℕ) → isPlain b ≡ true → textStep false [] b ≡ some []
 unfolding textStep
 plain-step b q = pick-true (outer false b) _ _ (ap (λ z. z || eqb b colon || false) q)
 
-plain-text : (t : List ℕ) → allOf isPlain t ≡ true → textRun false [] t ≡ some []
-unfolding allOf
+plain-text : (t : List ℕ) → every isPlain t ≡ true → textRun false [] t ≡ some []
+unfolding every
 plain-text [] e = text-nil false []
-plain-text (b ∷ t) e = text-cons false b t [] [] (plain-step b (and-left (isPlain b) (allOf isPlain t) e)) ∙ plain-text t (and-right (isPlain b) (allOf isPlain t) e)
+plain-text (b ∷ t) e = text-cons false b t [] [] (plain-step b (and-left (isPlain b) (every isPlain t) e)) ∙ plain-text t (and-right (isPlain b) (every isPlain t) e)
 
 text-snoc : (h : Bool) (t cs cs′ : List ℕ) (b : ℕ) → textRun h [] t ≡ some cs → textStep h cs b ≡ some cs′ → textRun h [] (t ++ (b ∷ [])) ≡ some cs′
 text-snoc h t cs cs′ b e f = text-append h t (b ∷ []) [] cs e ∙ text-cons h b [] cs cs′ f ∙ text-nil h cs′
@@ -224,7 +225,7 @@ module _ (shut : ℕ) (r : Bool) where
     pub before : List ℕ
     pub lead : Lead c before
     pub all : w ≡ before ++ t
-    pub plain : allOf isPlain t ≡ true
+    pub plain : every isPlain t ≡ true
     pub some : none? t ≡ false
     pub sign : firstSign t ≡ false
 
@@ -292,7 +293,7 @@ module _ (shut : ℕ) (r : Bool) where
   Inv w (plain c at t) = Plain c t w
   Inv w (keyed c at k) = (x : Behind c k [] w) × (none? (x .word) ≡ false) × (takesMass (form k) ≡ true)
   Inv w (inNumber c at k p d) = Weighed c k d w
-  Inv w (inCode c at k t) = Behind c k t w × (allOf (accessionByte (form k)) t ≡ true)
+  Inv w (inCode c at k t) = Behind c k t w × (every (accessionByte (form k)) t ≡ true)
   Inv w (inText c at k t cs) = (x : Behind c k t w) × (textRun (hashIsPlain (form k)) [] t ≡ some cs) × Begun (form k) (x .word) t
   Inv w (hashed c p) = Labelled c p [] w
   Inv w (inLabel c p at name) = Labelled c p name w × (someOf isAlnum name ≡ true)
@@ -518,7 +519,7 @@ module _ (shut : ℕ) (r : Bool) where
       record { sign = eqb b dash; bytes = []; so = (refl, refl); behind = subst (λ (z : ℕ). Behind c k (z ∷ []) w) (sign-byte b e) x; takes = m }
 
   -- a byte that begins a name or goes on with it, and is not plain, lets no key follow
-  lead-on : (t : List ℕ) (cs : List ℕ) (b : ℕ) → allOf isPlain t ≡ true → isPlain b ≡ false → (eqb b colon ≡ true → keyOf t ≡ none) → textStep false [] b ≡ some cs → (s : List ℕ) → leadKey [] ((t ++ (b ∷ [])) ++ s) ≡ none
+  lead-on : (t : List ℕ) (cs : List ℕ) (b : ℕ) → every isPlain t ≡ true → isPlain b ≡ false → (eqb b colon ≡ true → keyOf t ≡ none) → textStep false [] b ≡ some cs → (s : List ℕ) → leadKey [] ((t ++ (b ∷ [])) ++ s) ≡ none
   lead-on t cs b e f g h s =
       ap (leadKey []) (append-assoc t (b ∷ []) s) ∙ lead-over [] t (b ∷ s) (plain-colons t e) ∙ go (eqb b colon) refl
     where
@@ -659,12 +660,12 @@ module _ (shut : ℕ) (r : Bool) where
             all = x .behind .all ∙ ap (λ z. x .behind .before ++ (withColon (x .behind .word) ++ (signByte (x .sign) ∷ z))) (s .prints);
           }
 
-  step-code : (c : Context Place) (k : Key) (t : List ℕ) (b : ℕ) (w : List ℕ) → Behind c k t w → allOf (accessionByte (form k)) t ≡ true → InvC (w ++ (b ∷ [])) (innerStep tt (inCode c tt k t) b)
-  unfolding innerStep InvC Inv textEnd allOf
+  step-code : (c : Context Place) (k : Key) (t : List ℕ) (b : ℕ) (w : List ℕ) → Behind c k t w → every (accessionByte (form k)) t ≡ true → InvC (w ++ (b ∷ [])) (innerStep tt (inCode c tt k t) b)
+  unfolding innerStep InvC Inv textEnd every
   step-code c k t b w x g =
       branch (accessionByte (form k) b) (InvC (w ++ (b ∷ []))) _ _ (λ e. (behind-more c k t w b x, all-snoc (accessionByte (form k)) t b g e)) (λ e. go t x g)
     where
-      go : (t : List ℕ) → Behind c k t w → allOf (accessionByte (form k)) t ≡ true → InvC (w ++ (b ∷ [])) (textEnd c tt k t [] b)
+      go : (t : List ℕ) → Behind c k t w → every (accessionByte (form k)) t ≡ true → InvC (w ++ (b ∷ [])) (textEnd c tt k t [] b)
       go [] x g = tt
       go (y ∷ t) x g =
           value-end c (unlabelled tt k (text (y ∷ t))) b w
@@ -672,11 +673,11 @@ module _ (shut : ℕ) (r : Bool) where
             before = x .before;
             lead = x .lead;
             base = code (record { key = k; spelled = x .word }) (y ∷ t);
-            good = both (sameFolded (spell k) (x .word)) (allOf (accessionByte (form k)) (y ∷ t)) (x .folds) g;
+            good = both (sameFolded (spell k) (x .word)) (every (accessionByte (form k)) (y ∷ t)) (x .folds) g;
             is = refl;
             all = x .all;
           })
-          (λ q. code-tag (form k) y (and-left (accessionByte (form k) y) (allOf (accessionByte (form k)) t) g))
+          (λ q. code-tag (form k) y (and-left (accessionByte (form k) y) (every (accessionByte (form k)) t) g))
 
   step-text : (c : Context Place) (k : Key) (t cs : List ℕ) (b : ℕ) (w : List ℕ) (x : Behind c k t w) → textRun (hashIsPlain (form k)) [] t ≡ some cs → Begun (form k) (x .word) t → InvC (w ++ (b ∷ [])) (innerStep tt (inText c tt k t cs) b)
   unfolding innerStep InvC Inv textEnd named behind-more

@@ -14,7 +14,8 @@ use Rattle.scope.specs.Bytes.{upper, isUpper, isLower, isLetter, colon, sameFol
 use Rattle.scope.specs.Keys.{spell, keys, keyAmong, keyOf, written}
 use Rattle.canonical_laws.specs.Lists.{branch, pick-true, pick-false, All}
 use Rattle.basics.specs.Tests.{and-left, and-right, both}
-use Rattle.grammar_laws.specs.Grammar.{allOf, withColon, leadKey, there?}
+use Rattle.scope.specs.Lists.{all as every, there?}
+use Rattle.scope.specs.Grammar.{withColon, leadKey}
 use Rattle.grammar_laws.specs.Lists.{no}
 
 -- ---- two spellings that fold to one
@@ -94,13 +95,13 @@ no-word = refl
 -- ---- a key that is found
 record Named (t : List ℕ) (k : Key) : Type 0 where
   pub folds : sameFolded (spell k) t ≡ true
-  pub letters : allOf isLetter (spell k) ≡ true
+  pub letters : every isLetter (spell k) ≡ true
 
-all-letters : All (λ k. allOf isLetter (spell k) ≡ true) keys
-unfolding keys spell allOf
+all-letters : All (λ k. every isLetter (spell k) ≡ true) keys
+unfolding keys spell every
 all-letters = (refl, (refl, (refl, (refl, (refl, (refl, (refl, (refl, (refl, (refl, (refl, (refl, (refl, (refl, (refl, (refl, (refl, tt)))))))))))))))))
 
-among-named : (ks : List Key) (t : List ℕ) (k : Key) → All (λ q. allOf isLetter (spell q) ≡ true) ks → keyAmong ks t ≡ some k → Named t k
+among-named : (ks : List Key) (t : List ℕ) (k : Key) → All (λ q. every isLetter (spell q) ≡ true) ks → keyAmong ks t ≡ some k → Named t k
 unfolding keyAmong
 among-named [] t k w e = absurd (Option·none-ne-some k e)
 among-named (q ∷ ks) t k w e = go (sameFolded (spell q) t) refl e (λ f. among-named ks t k (w .1) f)
@@ -151,23 +152,23 @@ folded-letter x y e h = go (isLower x) (isLower y) refl refl
         let z : y ≡ x = sym (pick-false (isLower y) (y - 32) y g) ∙ sym e ∙ pick-false (isLower x) (x - 32) x f in
         ap isLetter z ∙ h
 
-folded-letters : (a b : List ℕ) → sameFolded a b ≡ true → allOf isLetter a ≡ true → allOf isLetter b ≡ true
-unfolding sameFolded allOf
+folded-letters : (a b : List ℕ) → sameFolded a b ≡ true → every isLetter a ≡ true → every isLetter b ≡ true
+unfolding sameFolded every
 folded-letters [] [] e h = refl
 folded-letters [] (y ∷ b) e h = absurd (false≢true e)
 folded-letters (x ∷ a) [] e h = absurd (false≢true e)
 folded-letters (x ∷ a) (y ∷ b) e h =
-    both (isLetter y) (allOf isLetter b)
-    (folded-letter x y (eqb-true (upper x) (upper y) (and-left (eqb (upper x) (upper y)) (sameFolded a b) e)) (and-left (isLetter x) (allOf isLetter a) h))
-    (folded-letters a b (and-right (eqb (upper x) (upper y)) (sameFolded a b) e) (and-right (isLetter x) (allOf isLetter a) h))
+    both (isLetter y) (every isLetter b)
+    (folded-letter x y (eqb-true (upper x) (upper y) (and-left (eqb (upper x) (upper y)) (sameFolded a b) e)) (and-left (isLetter x) (every isLetter a) h))
+    (folded-letters a b (and-right (eqb (upper x) (upper y)) (sameFolded a b) e) (and-right (isLetter x) (every isLetter a) h))
 
-pub key-letters : (t : List ℕ) (k : Key) → keyOf t ≡ some k → allOf isLetter t ≡ true
+pub key-letters : (t : List ℕ) (k : Key) → keyOf t ≡ some k → every isLetter t ≡ true
 key-letters t k e = folded-letters (spell k) t (named t k e .folds) (named t k e .letters)
 
 -- a word with a byte in it that is no letter is no key
-unlettered : (t r : List ℕ) (b : ℕ) → isLetter b ≡ false → allOf isLetter (t ++ (b ∷ r)) ≡ false
-unfolding allOf
-unlettered [] r b e = ap (λ z. z && allOf isLetter r) e
+unlettered : (t r : List ℕ) (b : ℕ) → isLetter b ≡ false → every isLetter (t ++ (b ∷ r)) ≡ false
+unfolding every
+unlettered [] r b e = ap (λ z. z && every isLetter r) e
 unlettered (x ∷ t) r b e = ap (λ z. isLetter x && z) (unlettered t r b e) ∙ last (isLetter x)
   where
     last : (z : Bool) → (z && false) ≡ false
@@ -182,12 +183,12 @@ key-unlettered t r b e = go (keyOf (t ++ (b ∷ r))) refl
     go (some k) f = absurd (false≢true (sym (unlettered t r b e) ∙ key-letters (t ++ (b ∷ r)) k f))
 
 -- ---- the key with which bytes begin
-pub lead-over : (w t r : List ℕ) → allOf (λ b. not (eqb b colon)) t ≡ true → leadKey w (t ++ r) ≡ leadKey (w ++ t) r
-unfolding leadKey allOf
+pub lead-over : (w t r : List ℕ) → every (λ b. not (eqb b colon)) t ≡ true → leadKey w (t ++ r) ≡ leadKey (w ++ t) r
+unfolding leadKey every
 lead-over w [] r e = ap (λ z. leadKey z r) (sym (append-nil w))
 lead-over w (b ∷ t) r e =
-    pick-false (eqb b colon) _ _ (no (eqb b colon) (and-left (not (eqb b colon)) (allOf (λ b. not (eqb b colon)) t) e))
-    ∙ lead-over (w ++ (b ∷ [])) t r (and-right (not (eqb b colon)) (allOf (λ b. not (eqb b colon)) t) e)
+    pick-false (eqb b colon) _ _ (no (eqb b colon) (and-left (not (eqb b colon)) (every (λ b. not (eqb b colon)) t) e))
+    ∙ lead-over (w ++ (b ∷ [])) t r (and-right (not (eqb b colon)) (every (λ b. not (eqb b colon)) t) e)
     ∙ ap (λ z. leadKey z r) (append-assoc w (b ∷ []) t)
 
 pub lead-colon : (w r : List ℕ) → leadKey w (colon ∷ r) ≡ keyOf w

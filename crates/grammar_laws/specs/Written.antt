@@ -16,13 +16,14 @@ use Rattle.scope.specs.declared.grammar.Mode.{Mode}
 use Rattle.scope.specs.declared.grammar.Mode.the-variants.{Front, Undecided, Counted, Referred, Caret, Counting, Labiles, NTerms, Start, Single, Opened, UnsureOpened, InRange, InUnsure, RangeEnd, Ranged, UnsureEnd, CStart, CTerms}
 use Rattle.scope.specs.declared.grammar.Slot.{Slot}
 use Rattle.scope.specs.declared.grammar.Act.the-variants.{Go, Residue as aResidue, Begin, Digit, RunEnds, TermEnds}
-use Rattle.scope.specs.Bytes.{isLetter, isDigit, isShutting, openSquare, shutSquare, openCurly, shutCurly, openRound, shutRound, caret, question, dash}
+use Rattle.scope.specs.Bytes.{isLetter, isDigit, isShutting, openSquare, shutSquare, openCurly, shutCurly, openRound, shutRound, caret, question, dash, value}
 use Rattle.scope.specs.Line.{Bracket, Residue}
-use Rattle.scope.specs.Content.{value, isReference, begin}
-use Rattle.scope.specs.Reading.{square, front, labile, element, further, groupFirst, inGroup, undecided, counted, referred, act, mayEnd, Held, nothing, firstOf, withResidue, firstPosition, lastPosition, settled, waiting, put, withBracket, times, countDigit, onLast, withDigit, asNTerm, settledRun, State, outside, inside, perform, refers?, modeAfter, step, run, holds, ended, reading}
+use Rattle.scope.specs.Content.{isReference, begin}
+use Rattle.scope.specs.Reading.{square, front, labile, element, further, groupFirst, inGroup, undecided, counted, referred, act, mayEnd, Held, nothing, firstOf, withResidue, firstPosition, lastPosition, settled, waiting, put, withBracket, times, countDigit, withDigit, asNTerm, settledRun, State, outside, inside, perform, refers?, modeAfter, step, run, holds, ended, reading}
+use Rattle.scope.specs.Lists.{onLast, all as every, flat as each}
 use Rattle.canonical_laws.specs.Lists.{pick-true, pick-false}
 use Rattle.basics.specs.Tests.{and-left, and-right}
-use Rattle.grammar_laws.specs.Grammar.{allOf, someOf, valueOn, Base, delta, code, wording, valueIn, Inside, meansPieces, parts, refers, printInside, goodInside, meansInside, printSquare, printCurly, each, along, eachAlong, every, printSquares, goodSquares, goodCurlies, bracketAt, meansSquares, Marked, printCount, goodCount, printMarked, goodMarked, counting, meansMarked, Run, marks, printRun, goodRun, meansRun, Spot, Element, single, range, unsure, printSpot, printElement, goodSpot, goodElement, residueOf, residuesOn, residuesIn, bracketsOn, bracketsIn, bracketsAlong, Spelling, elements, printFront, printBack, print, good, atLabiles, atFront, atSequence, residuesOf, backOf, meansAt, means}
+use Rattle.scope.specs.Grammar.{someOf, valueOn, Base, delta, code, wording, valueIn, Inside, meansPieces, parts, refers, printInside, goodInside, meansInside, printSquare, printCurly, along, eachAlong, printSquares, goodSquares, goodCurlies, bracketAt, meansSquares, Marked, printCount, goodCount, printMarked, goodMarked, counting, meansMarked, Run, marks, printRun, goodRun, meansRun, Spot, Element, single, range, unsure, printSpot, printElement, goodSpot, goodElement, residueOf, residuesOn, residuesIn, bracketsOn, bracketsIn, bracketsAlong, Spelling, elements, printFront, printBack, print, good, atLabiles, atFront, atSequence, residuesOf, backOf, meansAt, means}
 use Rattle.grammar_laws.specs.Runs.{context, lineRun, line-nil, line-cons, line-one, line-further, lift, same-mode}
 use Rattle.grammar_laws.specs.Printed.{inside-run}
 
@@ -528,23 +529,23 @@ unfolding act
 counting-digit b e = pick-true (isDigit b) _ _ e
 
 -- p is the place of the first digit
-digits-run : (i p : ℕ) (ds : List ℕ) (rs : Residues) (ks l : Brackets) (f v : ℕ) (k : Bracket ℕ) → allOf isDigit ds ≡ true
+digits-run : (i p : ℕ) (ds : List ℕ) (rs : Residues) (ks l : Brackets) (f v : ℕ) (k : Bracket ℕ) → every isDigit ds ≡ true
     → lineRun i (outside Counting (held rs ks (l ++ (times v p k ∷ [])) f)) ds ≡ outside Counting (held rs ks (l ++ (times (valueOn v ds) p k ∷ [])) f)
-unfolding allOf valueOn
+unfolding every valueOn
 digits-run i p [] rs ks l f v k e = line-nil i _
 digits-run i p (b ∷ ds) rs ks l f v k e =
-    line-then i (outside Counting (held rs ks (l ++ (times v p k ∷ [])) f)) _ _ b ds (digit-run i Counting (held rs ks (l ++ (times v p k ∷ [])) f) b (counting-digit b (and-left (isDigit b) (allOf isDigit ds) e)))
-    (ap (λ z. lineRun (i + 1) (outside Counting (held rs ks z f)) ds) (last-snoc (countDigit i b) l (times v p k)) ∙ digits-run (i + 1) p ds rs ks l f (v * 10 + value b) k (and-right (isDigit b) (allOf isDigit ds) e))
+    line-then i (outside Counting (held rs ks (l ++ (times v p k ∷ [])) f)) _ _ b ds (digit-run i Counting (held rs ks (l ++ (times v p k ∷ [])) f) b (counting-digit b (and-left (isDigit b) (every isDigit ds) e)))
+    (ap (λ z. lineRun (i + 1) (outside Counting (held rs ks z f)) ds) (last-snoc (countDigit i b) l (times v p k)) ∙ digits-run (i + 1) p ds rs ks l f (v * 10 + value b) k (and-right (isDigit b) (every isDigit ds) e))
 
 count-run : (i j : ℕ) (ds : List ℕ) (rs : Residues) (ks l : Brackets) (f : ℕ) (x : Inside) → someOf isDigit ds ≡ true
     → lineRun i (outside Caret (held rs ks (l ++ (bracketAt Unknown 0 0 j x ∷ [])) f)) ds ≡ outside Counting (held rs ks (l ++ (times (valueOn 0 ds) i (bracketAt Unknown 0 0 j x) ∷ [])) f)
-unfolding allOf valueOn
+unfolding every valueOn
 count-run i j [] rs ks l f x e = absurd (false≢true e)
 count-run i j (b ∷ ds) rs ks l f x e =
     let k : Bracket ℕ = bracketAt Unknown 0 0 j x in
-    line-then i (outside Caret (held rs ks (l ++ (k ∷ [])) f)) _ _ b ds (digit-run i Caret (held rs ks (l ++ (k ∷ [])) f) b (caret-digit b (and-left (isDigit b) (allOf isDigit ds) e)))
+    line-then i (outside Caret (held rs ks (l ++ (k ∷ [])) f)) _ _ b ds (digit-run i Caret (held rs ks (l ++ (k ∷ [])) f) b (caret-digit b (and-left (isDigit b) (every isDigit ds) e)))
     (ap (λ z. lineRun (i + 1) (outside Counting (held rs ks z f)) ds) (last-snoc (countDigit i b) l k)
-    ∙ digits-run (i + 1) i ds rs ks l f (value b) k (and-right (isDigit b) (allOf isDigit ds) e)
+    ∙ digits-run (i + 1) i ds rs ks l f (value b) k (and-right (isDigit b) (every isDigit ds) e)
     ∙ ap (λ z. outside Counting (held rs ks (l ++ (times (valueOn z ds) i k ∷ [])) f)) (omega arith))
 
 pub record Noted (i : ℕ) (m : Mode) (h : Held ℕ) (l : List ℕ) (ks : Brackets) : Type 0 where

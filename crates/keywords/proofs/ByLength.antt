@@ -13,8 +13,7 @@ use Rattle.scope.specs.declared.grammar.Key.{Key}
 use Rattle.scope.specs.declared.grammar.Key.the-variants.{NoKey}
 use Rattle.scope.specs.Bytes.{upper, sameFolded}
 use Rattle.scope.specs.Keys.{spell, keys, keyAmong, keyOf}
-use Rattle.scope.specs.Modifications.{keep}
-use Rattle.scope.specs.Tables.{part}
+use Rattle.scope.specs.Lists.{keep, part}
 use Rattle.keywords.specs.KeyWords.{keyFound, foundAmong, ones}
 
 pub folded-other : (x y : List ℕ) → (length x ≡ length y → ⊥) → sameFolded x y ≡ false

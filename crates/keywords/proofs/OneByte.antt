@@ -10,7 +10,7 @@ use Rattle.scope.specs.declared.grammar.Key.{Key}
 use Rattle.scope.specs.declared.grammar.Key.the-variants.{NoKey, U, M, R, X, G, C}
 use Rattle.scope.specs.Bytes.{upper, sameFolded}
 use Rattle.scope.specs.Keys.{spell, keyAmong}
-use Rattle.scope.specs.Content.{given}
+use Rattle.scope.specs.Lists.{given}
 use Rattle.keywords.specs.KeyWords.{foundAmong, ones}
 
 is : ℕ → ℕ → Bool

@@ -4,7 +4,7 @@ use mathlib.Core.List.{List, [], _∷_}
 use Rattle.scope.specs.declared.grammar.Key.{Key}
 use Rattle.scope.specs.declared.grammar.Key.the-variants.{NoKey, U, M, R, X, G, C, Obs, Unimod, Mod, Xlmod, Resid, Gno, Info, Formula, Glycan, Position, Limit}
 use Rattle.scope.specs.Keys.{keyAmong, keyOf}
-use Rattle.scope.specs.Content.{given}
+use Rattle.scope.specs.Lists.{given}
 
 -- the first of these keys that the text spells in either case, or NoKey
 abbrev pub foundAmong : List Key → List ℕ → Key

@@ -5,7 +5,7 @@ ghost use mathlib.Core.List.{[], _∷_};
 ghost use Prim.Native.Nat.{_+_, _-_, _≤_};
 ghost use lib.ListN.{length};
 ghost use Rattle.scope.specs.Keys.{keyCode};
-ghost use Rattle.scope.specs.Tables.{part};
+ghost use Rattle.scope.specs.Lists.{part};
 ghost use Rattle.keywords.specs.KeyWords.{keyFound, foundAmong, ones, threes, fours, fives, sixes, sevens, eights};
 
 // The key that the bytes from `at` to `end` spell.

@@ -9,11 +9,11 @@ use lib.Dec.{ltb}
 use lib.IntN.{ℤ}
 use lib.ListN.{length, take, drop, length-append, take-append-drop}
 use borrow.Author.Tests.{le-ltb}
-use Rattle.scope.specs.Bytes.{same}
+use Rattle.scope.specs.Lists.{same, laid}
 use Rattle.scope.specs.Line.{Line}
 use Rattle.scope.specs.Refusals.{Outcome, accepted, outcome}
 use Rattle.scope.specs.Canonical.{canonical}
-use Rattle.scope.specs.Tables.{Tables, tablesOf, bytesOf, numbersOf, bytesSize, numbersSize, laid, tablesIn}
+use Rattle.scope.specs.Tables.{Tables, tablesOf, bytesOf, numbersOf, bytesSize, numbersSize, tablesIn}
 use Rattle.scope.specs.Answers.{Said, refuses, sameNumbers, readsTo, tooShort, areTables, overTables}
 use Rattle.layout_laws.specs.Laws.{accepted-within, same-bytes, same-numbers, bytes-fill, numbers-fill, tables-back, laid-bytes, laid-numbers, areas-determine, same-law, same-numbers-law, tables-held, accepted-held}
 use Rattle.canonical_laws.specs.Proved as canonical-laws

@@ -2,10 +2,11 @@
 use mathlib.Core.Path.{_≡_, refl, ap, _∙_}
 use mathlib.Core.List.{map}
 use Rattle.scope.specs.Line.{Line}
-use Rattle.scope.specs.Modifications.{keep}
+use Rattle.scope.specs.Lists.{keep}
 use Rattle.scope.specs.Tables.{bareBracket, tablesOf}
 use Rattle.scope.specs.Positions.{rowsFrom, rowsOf}
-use Rattle.scope.specs.Masses.{massOr0, sum, modifications, isLabile, labileMass}
+use Rattle.scope.specs.Masses.{massOr0, sum, modifications, labileMass}
+use Rattle.scope.specs.Kinds.{isLabile}
 use Rattle.layout_laws.specs.Lists.{map-map, keep-map}
 use Rattle.layout_laws.specs.Bare.{modifications-bare, mass-or-0}
 use Rattle.layout_laws.specs.Laws.{same-permitted}

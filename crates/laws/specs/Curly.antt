@@ -17,8 +17,9 @@ use Rattle.scope.specs.Bytes.{shutSquare, shutCurly, hash}
 use Rattle.scope.specs.Line.{Part, Bracket, Line}
 use Rattle.scope.specs.Content.{Context, Inner, begin, plain, keyed, inNumber, inCode, inText, hashed, inLabel, scoring, inScore, scored, Content, lost, closed, going, innerStep}
 use Rattle.scope.specs.Reading.{act, Held, bracketOf, withBracket, countDigit, asNTerm, State, dead, outside, inside, perform, resume, step, run, holds, reading}
-use Rattle.scope.specs.Modifications.{flat, nameOf, isLabelled}
-use Rattle.scope.specs.Masses.{isLabile}
+use Rattle.scope.specs.Lists.{flat}
+use Rattle.scope.specs.Modifications.{nameOf, isLabelled}
+use Rattle.scope.specs.Kinds.{isLabile}
 use Rattle.layout_laws.specs.Within.{Each}
 use Rattle.reading_laws.specs.Cases.{every-append}
 use Rattle.reading_laws.specs.Acts.{ofSlot, act-rule}

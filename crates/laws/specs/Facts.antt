@@ -8,7 +8,8 @@ use lib.ListN.{length}
 use Rattle.scope.specs.declared.grammar.Kind.{Kind}
 use Rattle.scope.specs.declared.grammar.Kind.the-variants.{Unknown, Labile, NTerm, OnResidue, OnRange, CTerm}
 use Rattle.scope.specs.Line.{Bracket, Line}
-use Rattle.scope.specs.Refusals.{isUnknown, accepted, outcome}
+use Rattle.scope.specs.Kinds.{isUnknown}
+use Rattle.scope.specs.Refusals.{accepted, outcome}
 use Rattle.scope.specs.Tables.{bareBracket, tablesOf}
 use Rattle.scope.specs.Positions.{floaters}
 use Rattle.scope.specs.Masses.{massOr0}

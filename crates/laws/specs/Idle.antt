@@ -7,11 +7,11 @@ use lib.IntN.{pos, _*ℤ_}
 use lib.ListN.{length, replicate}
 use Rattle.scope.specs.declared.grammar.Key.the-variants.{Info}
 use Rattle.scope.specs.Line.{Bracket, Residue, Line}
-use Rattle.scope.specs.Content.{given}
-use Rattle.scope.specs.Refusals.{shared}
-use Rattle.scope.specs.Modifications.{keep, flat, among, onlyInfo, isReferring, isModification, copies, definedBy, referredBy, namesOf}
-use Rattle.scope.specs.Positions.{member, isPlaced, struckOut, floaters, between, referredAt, isUnlabelledUnknown, ownPosition, mayStand, positions, permitted, permittedPositions}
-use Rattle.scope.specs.Masses.{massOf, massOr0, sum, sumℕ, modifications, total, lacking, isLabile, labileMass}
+use Rattle.scope.specs.Lists.{given, shared, keep, flat, among, member}
+use Rattle.scope.specs.Modifications.{onlyInfo, isReferring, isModification, copies, definedBy, referredBy, namesOf}
+use Rattle.scope.specs.Positions.{isPlaced, struckOut, floaters, between, referredAt, isUnlabelledUnknown, ownPosition, mayStand, positions, permitted, permittedPositions}
+use Rattle.scope.specs.Masses.{massOf, massOr0, sum, sumℕ, modifications, total, lacking, labileMass}
+use Rattle.scope.specs.Kinds.{isLabile}
 use Rattle.basics.specs.Lists.{flat-append, keep-append}
 
 -- ---- an element that is not kept, or gives nothing

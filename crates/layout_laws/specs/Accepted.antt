@@ -10,7 +10,7 @@ use lib.ListN.{length}
 use borrow.Author.Tests.{leb-true}
 use Rattle.scope.specs.Bytes.{isPrintable}
 use Rattle.scope.specs.Line.{Number, Label, Value, mass, text, reference, Part, Bracket, Line}
-use Rattle.scope.specs.Modifications.{flat}
+use Rattle.scope.specs.Lists.{flat}
 use Rattle.scope.specs.Refusals.{inRange, textIn, accepted, outcome}
 use Rattle.scope.specs.Tables.{bracketTexts}
 use Rattle.basics.specs.Tests.{and-right}

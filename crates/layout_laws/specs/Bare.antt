@@ -11,13 +11,14 @@ use Rattle.scope.specs.declared.grammar.Key.the-variants.{Obs, Info}
 use Rattle.scope.specs.declared.grammar.Kind.{Kind}
 use Rattle.scope.specs.declared.grammar.Kind.the-variants.{Unknown, Labile, NTerm, OnResidue, OnRange, CTerm}
 use Rattle.scope.specs.Line.{Number, Label, Value, mass, text, reference, Part, Bracket, Residue, Line}
-use Rattle.scope.specs.Content.{given, isReference}
+use Rattle.scope.specs.Lists.{given, keep, flat, optional, tabled, member}
+use Rattle.scope.specs.Content.{isReference}
 use Rattle.scope.specs.Reading.{refers?}
 use Rattle.scope.specs.Refusals.{textIn}
-use Rattle.scope.specs.Modifications.{keep, flat, isKey, isModification, nameOf, namesOf, copies, definedBy, referredBy}
+use Rattle.scope.specs.Modifications.{isKey, isModification, nameOf, namesOf, copies, definedBy, referredBy}
 use Rattle.scope.specs.Canonical.{size, scoreText, valueText, labelText, partText, partsText, squareText, curlyText, unknownText, ofKind, endingAt, goesOn, sequenceText, canonical}
-use Rattle.scope.specs.Tables.{bareNumber, optional, bareLabel, bareValue, barePart, bareBracket, bareResidue, tablesOf, millionths, massIn, decimalsIn, packed, valueCode, partRow, partRows, scoreOf, scoreCode, bracketRow, bracketTexts, rows, sectionCode, bytesOf, numberRow, numbersOf, tabled}
-use Rattle.scope.specs.Positions.{isPlaced, struckOut, floaters, referredAt, mayStand, permitted, permittedPositions, ownPosition, isUnlabelledUnknown, member, positions}
+use Rattle.scope.specs.Tables.{bareNumber, bareLabel, bareValue, barePart, bareBracket, bareResidue, tablesOf, millionths, massIn, decimalsIn, packed, valueCode, partRow, partRows, scoreOf, scoreCode, bracketRow, bracketTexts, rows, sectionCode, bytesOf, numberRow, numbersOf}
+use Rattle.scope.specs.Positions.{isPlaced, struckOut, floaters, referredAt, mayStand, permitted, permittedPositions, ownPosition, isUnlabelledUnknown, positions}
 use Rattle.scope.specs.Masses.{valueMass, firstMass, massOf, massOr0, modifications, sum, sumℕ, total, lacking, placedAt, putAt, ledger}
 use Rattle.layout_laws.specs.Lists.{map-map, flat-map, all-map, keep-map, keep-same, map-replicate, map-flat, tabled-same}
 

@@ -7,7 +7,8 @@ use Prim.Native.Nat.{ℕ, _≤_}
 use lib.ListN.{length, length-map}
 use Rattle.scope.specs.Line.{Number, Label, Value, mass, text, reference, Part, Bracket, Line}
 use Rattle.scope.specs.Content.{isReference}
-use Rattle.scope.specs.Tables.{bareNumber, optional, bareLabel, bareValue, barePart, bareBracket, bareResidue, tablesOf, bracketTexts}
+use Rattle.scope.specs.Tables.{bareNumber, bareLabel, bareValue, barePart, bareBracket, bareResidue, tablesOf, bracketTexts}
+use Rattle.scope.specs.Lists.{optional}
 use Rattle.scope.specs.Positions.{floaters}
 use Rattle.layout_laws.specs.Within.{OfGiven, IsGiven, Byte, NumberWithin, LabelWithin, ValueWithin, PartWithin, BracketWithin, Within}
 use Rattle.layout_laws.specs.Lists.{flat-map}

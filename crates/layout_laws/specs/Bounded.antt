@@ -14,11 +14,10 @@ use Rattle.scope.specs.declared.grammar.Kind.{Kind}
 use Rattle.scope.specs.declared.grammar.Kind.the-variants.{Unknown, Labile, NTerm, OnResidue, OnRange, CTerm}
 use Rattle.scope.specs.Line.{Number, Label, Value, mass, text, reference, Part, Bracket, Line}
 use Rattle.scope.specs.Keys.{keyCode}
-use Rattle.scope.specs.Content.{given}
-use Rattle.scope.specs.Modifications.{flat}
+use Rattle.scope.specs.Lists.{given, flat, padded}
 use Rattle.scope.specs.Refusals.{textIn, textOf}
-use Rattle.scope.specs.Canonical.{kindCode}
-use Rattle.scope.specs.Tables.{padded, sectionCode, valueCode, millionths, massIn, decimalsIn, labelOf, packed, offset, partRow, partRows, scoreOf, scoreCode, bracketRow, bracketTexts, rows, bytesOf, numbersOf, byteAt}
+use Rattle.scope.specs.Kinds.{kindCode}
+use Rattle.scope.specs.Tables.{sectionCode, valueCode, millionths, massIn, decimalsIn, labelOf, packed, offset, partRow, partRows, scoreOf, scoreCode, bracketRow, bracketTexts, rows, bytesOf, numbersOf, byteAt}
 use Rattle.areas.specs.Bounds.{Small, PartBounds, BracketBounds, Bounds}
 use Rattle.layout_laws.specs.Within.{Each, OfGiven, Byte, NumberWithin, LabelWithin, ValueWithin, PartWithin, Stands, BracketWithin, Within}
 use Rattle.layout_laws.specs.Each.{each-append, each-padded, each-map, each-all}

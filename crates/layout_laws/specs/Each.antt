@@ -2,7 +2,7 @@
 use mathlib.Core.List.{List, [], _∷_, _++_, map}
 use Prim.Native.Nat.{ℕ, zero, suc, _-_}
 use lib.ListN.{length, replicate}
-use Rattle.scope.specs.Tables.{padded}
+use Rattle.scope.specs.Lists.{padded}
 use Rattle.layout_laws.specs.Within.{Each}
 
 module _ {A : Type 0} (Q : A → Type 0) where

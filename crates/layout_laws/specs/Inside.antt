@@ -11,11 +11,11 @@ use lib.ListN.{length, length-append}
 use borrow.Author.Tests.{eqb-false, not-true}
 use Rattle.scope.specs.declared.grammar.Key.{Key}
 use Rattle.scope.specs.declared.grammar.Key.the-variants.{NoKey}
-use Rattle.scope.specs.Bytes.{bar, hash, colon}
+use Rattle.scope.specs.Bytes.{bar, hash, colon, value}
 use Rattle.scope.specs.Line.{Number, Label, Value, mass, text, reference, Part}
 use Rattle.scope.specs.Keys.{digits}
-use Rattle.scope.specs.Content.{Digits, signed, whole, pointed, broken, value, numberOf, numberEnd, Context, Inner, begin, plain, keyed, inNumber, inCode, inText, hashed, inLabel, scoring, inScore, scored, Content, lost, closed, going, unlabelled, labelled, isReference, none?, innerStep}
-use Rattle.scope.specs.Modifications.{flat}
+use Rattle.scope.specs.Content.{Digits, signed, whole, pointed, broken, numberOf, numberEnd, Context, Inner, begin, plain, keyed, inNumber, inCode, inText, hashed, inLabel, scoring, inScore, scored, Content, lost, closed, going, unlabelled, labelled, isReference, innerStep}
+use Rattle.scope.specs.Lists.{none?, flat}
 use Rattle.scope.specs.Refusals.{textIn, textOf}
 use Rattle.scope.specs.Tables.{packed}
 use Rattle.basics.specs.Tests.{and-right}

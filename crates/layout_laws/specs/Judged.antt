@@ -13,9 +13,9 @@ use Rattle.scope.specs.declared.grammar.Key.the-variants.{NoKey, U, M, R, X, G,
 use Rattle.scope.specs.Bytes.{isPrintable}
 use Rattle.scope.specs.Line.{Number, Label, Value, mass, text, reference, Part, Bracket, Line}
 use Rattle.scope.specs.Keys.{keyCode}
-use Rattle.scope.specs.Content.{given}
+use Rattle.scope.specs.Lists.{given, flat}
 use Rattle.scope.specs.Reading.{Reading, stuck, holds, reading}
-use Rattle.scope.specs.Modifications.{flat, namesOf, isLabelled, copies, definedBy, defined, referredTo}
+use Rattle.scope.specs.Modifications.{namesOf, isLabelled, copies, definedBy, defined, referredTo}
 use Rattle.scope.specs.Refusals.{dueAt, unprintable, refusal1, refusal2, refusal3, refusal5, refusal6, refusal7, refusal8, refusal9, refusal10, refusal11, refusal12, textOf, longText, longLabel, overIn, inRange, wide, wideMass, wideScore, wideCount, notHere, isRule, isLink, secondLabel, definedAgain, undefined, countedLabel, unreferred, wrongLabels, wronglyLabelled, passing, Outcome, accepted, refused, firstDue, judged, outcome}
 use Rattle.scope.specs.Positions.{floaters}
 use Rattle.basics.specs.Lists.{least-none, not-due, nil-front, nil-back}

@@ -9,13 +9,12 @@ use native.Mathlib.Omega.{arith}
 use lib.IntN.{ℤ}
 use lib.ListN.{length, take, drop, getD, length-append, length-drop}
 use lib.Seq.{take-at}
-use Rattle.scope.specs.Bytes.{same}
+use Rattle.scope.specs.Lists.{same, flat, laid}
 use Rattle.scope.specs.Limits.{lineLimit, rowLimit}
 use Rattle.scope.specs.Line.{Bracket, Line}
 use Rattle.scope.specs.Refusals.{accepted, outcome}
 use Rattle.scope.specs.Canonical.{canonical}
-use Rattle.scope.specs.Modifications.{flat}
-use Rattle.scope.specs.Tables.{bareBracket, bracketTexts, tablesOf, bytesOf, numbersOf, bytesSize, numbersSize, laid, tablesIn}
+use Rattle.scope.specs.Tables.{bareBracket, bracketTexts, tablesOf, bytesOf, numbersOf, bytesSize, numbersSize, tablesIn}
 use Rattle.scope.specs.Positions.{floaters, permittedPositions, rowsOf}
 use Rattle.scope.specs.Masses.{total, lacking, ledger}
 use Rattle.scope.specs.Answers.{sameNumbers, areTables}

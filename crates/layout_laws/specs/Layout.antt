@@ -18,11 +18,11 @@ use Rattle.scope.specs.declared.grammar.Kind.{Kind}
 use Rattle.scope.specs.declared.grammar.Kind.the-variants.{Unknown, Labile, NTerm, OnResidue, OnRange, CTerm}
 use Rattle.scope.specs.Line.{Number, Label, Value, mass, text, reference, Part, Bracket, Residue, Line}
 use Rattle.scope.specs.Keys.{keys, keyCode, keyIn}
-use Rattle.scope.specs.Content.{given}
-use Rattle.scope.specs.Modifications.{flat, nameOf}
+use Rattle.scope.specs.Lists.{given, flat, optional, padded, part, tabled}
+use Rattle.scope.specs.Modifications.{nameOf}
 use Rattle.scope.specs.Refusals.{textIn, textOf}
-use Rattle.scope.specs.Canonical.{kindCode}
-use Rattle.scope.specs.Tables.{bareNumber, optional, bareLabel, bareValue, barePart, bareBracket, bareResidue, tablesOf, padded, sectionCode, valueCode, millionths, massIn, decimalsIn, labelOf, packed, offset, partRow, partRows, scoreOf, scoreCode, bracketRow, bracketTexts, rows, bytesOf, numberRow, numbersOf, sectionIn, kindIn, part, tabled, byteAt, rowAt, partAt, textFrom, scoreIn, valueIn, labelIn, partIn, bracketIn, residueIn, tablesIn}
+use Rattle.scope.specs.Kinds.{kindCode, kindIn}
+use Rattle.scope.specs.Tables.{bareNumber, bareLabel, bareValue, barePart, bareBracket, bareResidue, tablesOf, sectionCode, valueCode, millionths, massIn, decimalsIn, labelOf, packed, offset, partRow, partRows, scoreOf, scoreCode, bracketRow, bracketTexts, rows, bytesOf, numberRow, numbersOf, sectionIn, byteAt, rowAt, partAt, textFrom, scoreIn, valueIn, labelIn, partIn, bracketIn, residueIn, tablesIn}
 use Rattle.layout_laws.specs.Within.{Each, OfGiven, NumberWithin, LabelWithin, ValueWithin, PartWithin, BracketWithin, Within}
 use Rattle.layout_laws.specs.At.{At, at-read, at-head, at-first, at-next, at-part, at-start}
 use Rattle.layout_laws.specs.Numbers.{number-back}

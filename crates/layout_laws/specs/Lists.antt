@@ -4,8 +4,7 @@ use mathlib.Core.Bool.{Bool, true, false, cond, _&&_}
 use mathlib.Core.List.{List, [], _∷_, _++_, map}
 use Prim.Native.Nat.{ℕ, zero, suc, _+_}
 use lib.ListN.{replicate}
-use Rattle.scope.specs.Modifications.{all, keep, flat}
-use Rattle.scope.specs.Tables.{tabled}
+use Rattle.scope.specs.Lists.{all, keep, flat, tabled}
 
 pub map-map : {A B C : Type 0} (f : B → C) (h : A → C) (g : A → B) → ((x : A) → f (g x) ≡ h x) → (l : List A) → map f (map g l) ≡ map h l
 map-map f h g e [] = refl

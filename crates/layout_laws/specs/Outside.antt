@@ -19,9 +19,9 @@ use Rattle.scope.specs.declared.grammar.Act.the-variants.{Stop, Go, Residue as 
 use Rattle.scope.specs.Bytes.{upper, isLower}
 use Rattle.scope.specs.Line.{Part, Bracket, Residue, Line}
 use Rattle.scope.specs.Content.{isReference, Inner, Content, lost, closed, going, innerStep}
-use Rattle.scope.specs.Reading.{counted, referred, act, mayEnd, Held, firstOf, withResidue, firstPosition, lastPosition, bracketOf, settled, waiting, withBracket, times, countDigit, onLast, withDigit, asNTerm, settledRun, State, dead, outside, inside, perform, refers?, resume, step, run, start, holds, reading}
-use Rattle.scope.specs.Modifications.{flat}
-use Rattle.scope.specs.Refusals.{isUnknown}
+use Rattle.scope.specs.Reading.{counted, referred, act, mayEnd, Held, firstOf, withResidue, firstPosition, lastPosition, bracketOf, settled, waiting, withBracket, times, countDigit, withDigit, asNTerm, settledRun, State, dead, outside, inside, perform, refers?, resume, step, run, start, holds, reading}
+use Rattle.scope.specs.Lists.{onLast, flat}
+use Rattle.scope.specs.Kinds.{isUnknown}
 use Rattle.scope.specs.Tables.{bracketTexts}
 use Rattle.basics.specs.Tests.{and-left, and-right}
 use Rattle.reading_laws.specs.Cases.{branch}

@@ -7,9 +7,8 @@ use native.Mathlib.Omega.{arith}
 use lib.ListN.{length, length-append, length-map}
 use Rattle.scope.specs.declared.answers.Site.{Site}
 use Rattle.scope.specs.Line.{Bracket, Line}
-use Rattle.scope.specs.Modifications.{keep}
-use Rattle.scope.specs.Tables.{tabled}
-use Rattle.scope.specs.Positions.{permitted, permittedPositions, positions, mayStand, member, struckOut, floaters, rowsFrom, rowsOf}
+use Rattle.scope.specs.Lists.{keep, tabled, member}
+use Rattle.scope.specs.Positions.{permitted, permittedPositions, positions, mayStand, struckOut, floaters, rowsFrom, rowsOf}
 use Rattle.layout_laws.specs.Within.{Each, Within}
 use Rattle.layout_laws.specs.Each.{each-all, each-map}
 

@@ -8,7 +8,7 @@ use lib.Dec.{eqb}
 use lib.IntN.{ℤ, pos, negsuc}
 use lib.ListN.{take, drop, take-append-drop}
 use borrow.Author.Tests.{eqb-true, eq-eqb}
-use Rattle.scope.specs.Bytes.{same}
+use Rattle.scope.specs.Lists.{same}
 use Rattle.scope.specs.Line.{Line}
 use Rattle.scope.specs.Refusals.{Outcome, accepted, refused, outcome}
 use Rattle.scope.specs.Canonical.{canonical}

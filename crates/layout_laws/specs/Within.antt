@@ -12,8 +12,10 @@ use Rattle.scope.specs.Limits.{lineLimit, residueLimit, bracketLimit, partLimit
 use Rattle.scope.specs.Line.{Number, Label, Value, mass, text, reference, Part, Bracket, Line}
 use Rattle.scope.specs.Keys.{keyCode}
 use Rattle.scope.specs.Content.{isReference}
-use Rattle.scope.specs.Modifications.{flat, namesOf, isLabelled}
-use Rattle.scope.specs.Refusals.{inRange, isUnknown}
+use Rattle.scope.specs.Lists.{flat}
+use Rattle.scope.specs.Modifications.{namesOf, isLabelled}
+use Rattle.scope.specs.Refusals.{inRange}
+use Rattle.scope.specs.Kinds.{isUnknown}
 use Rattle.scope.specs.Tables.{bracketTexts}
 use Rattle.scope.specs.Positions.{floaters}
 use Rattle.reading_laws.specs.Cases.{Every}

@@ -9,9 +9,8 @@ use lib.Dec.{leb}
 use lib.ListN.{length}
 use Rattle.scope.specs.Bytes.{isOpening}
 use Rattle.scope.specs.Limits.{depthLimit}
-use Rattle.scope.specs.Content.{given}
+use Rattle.scope.specs.Lists.{given, part}
 use Rattle.scope.specs.Refusals.{least, dueAt, depthAfter, tooDeep}
-use Rattle.scope.specs.Tables.{part}
 use Rattle.places.specs.Places.{coded}
 use Rattle.marks.proofs.Names.{part-length}
 

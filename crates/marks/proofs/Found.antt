@@ -9,13 +9,12 @@ use lib.Dec.{ltb}
 use lib.IntN.{ℤ}
 use lib.ListN.{length}
 use Rattle.scope.specs.declared.grammar.Key.{Key}
-use Rattle.scope.specs.Content.{given}
+use Rattle.scope.specs.Lists.{given, part}
 use Rattle.scope.specs.Keys.{written}
 use Rattle.scope.specs.Limits.{textLimit, labelLimit}
 use Rattle.scope.specs.Line.{Number, Label, Value, mass, text, reference, Part}
 use Rattle.scope.specs.Bytes.{sameFolded}
 use Rattle.scope.specs.Refusals.{least, dueAt, textIn, tooDeep, isLink, inRange, wide, wideMass}
-use Rattle.scope.specs.Tables.{part}
 use Rattle.parts.specs.declared.Value.the-variants.{Mass, Wide, Text, Reference}
 use Rattle.parts.specs.declared.Score.{Score}
 use Rattle.parts.specs.declared.Score.the-variants.{Unscored, Scored, WideScore}

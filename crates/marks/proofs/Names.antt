@@ -8,7 +8,7 @@ use lib.ListN.{length, take, drop, length-take, length-drop}
 use lib.Seq.{take-take}
 use Rattle.scope.specs.Bytes.{bytes, sameFolded}
 use Rattle.scope.specs.Refusals.{isLink}
-use Rattle.scope.specs.Tables.{part}
+use Rattle.scope.specs.Lists.{part}
 use Rattle.keywords.proofs.ByLength.{folded-other}
 use Rattle.marks.specs.Sorts.{isRuleName, isShortRule}
 

@@ -9,9 +9,7 @@ use borrow.Author.Tests.{le-leb, lt-leb, leb-true, leb-false}
 use Rattle.basics.specs.Choice.{by-test}
 use lib.ListN.{length, take, drop, length-drop, length-take}
 use Rattle.scope.specs.Bytes.{isDigit}
-use Rattle.scope.specs.Content.{none?}
-use Rattle.scope.specs.Modifications.{all}
-use Rattle.scope.specs.Tables.{part}
+use Rattle.scope.specs.Lists.{none?, all, part}
 use Rattle.classes.specs.Runs.{span}
 
 all-run : (p : ℕ → Bool) (n : ℕ) (l : List ℕ) → n ≤ length l → leb n (span p l) ≡ all p (take n l)

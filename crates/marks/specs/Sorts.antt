@@ -6,8 +6,7 @@ use lib.Dec.{eqb, ltb}
 use Rattle.scope.specs.declared.grammar.Key.{Key}
 use Rattle.scope.specs.Keys.{keyCode}
 use Rattle.scope.specs.Bytes.{bytes, isDigit, sameFolded}
-use Rattle.scope.specs.Content.{none?}
-use Rattle.scope.specs.Modifications.{all}
+use Rattle.scope.specs.Lists.{none?, all}
 use Rattle.marks.specs.declared.Sort.{Sort}
 use Rattle.marks.specs.declared.Sort.the-variants.{Bare, Barred, Numbering, Other}
 

@@ -7,7 +7,7 @@ use Prim.Native.Nat.{ℕ, _+_, _<_, _≤_}
 use lib.Dec.{ltb}
 use lib.ListN.{length}
 use Rattle.scope.specs.declared.grammar.Key.{Key}
-use Rattle.scope.specs.Content.{given}
+use Rattle.scope.specs.Lists.{given}
 use Rattle.scope.specs.Keys.{written}
 use Rattle.scope.specs.Limits.{textLimit, labelLimit}
 use Rattle.scope.specs.Line.{Label, Value}

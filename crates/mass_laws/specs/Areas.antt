@@ -5,7 +5,8 @@ use native.Mathlib.Omega.{arith}
 use lib.IntN.{ℤ, natAbs}
 use lib.ListN.{length}
 use Rattle.scope.specs.Limits.{copyLimit}
-use Rattle.scope.specs.Tables.{tabled, byteAt, bracketIn, tablesIn}
+use Rattle.scope.specs.Lists.{tabled}
+use Rattle.scope.specs.Tables.{byteAt, bracketIn, tablesIn}
 use Rattle.scope.specs.Positions.{floaters}
 use Rattle.scope.specs.Masses.{massOr0}
 use Rattle.areas.specs.Bounds.{Bounds}

@@ -10,7 +10,8 @@ use lib.ListN.{length, getD, take}
 use Rattle.scope.specs.Limits.{positionLimit, copyLimit}
 use Rattle.scope.specs.Line.{Bracket, Line}
 use Rattle.scope.specs.Tables.{tablesIn}
-use Rattle.scope.specs.Positions.{member, struckOut, floaters, permittedPositions}
+use Rattle.scope.specs.Lists.{member}
+use Rattle.scope.specs.Positions.{struckOut, floaters, permittedPositions}
 use Rattle.scope.specs.Placements.{allowed}
 use Rattle.scope.specs.Masses.{massOr0, sum, total, labileMass, placedAt, ledger}
 use Rattle.areas.specs.Bounds.{Bounds}

@@ -8,9 +8,8 @@ use borrow.Author.Tests.{eq-eqb, eqb-true, eqb-false, not-true}
 use lib.Dec.{eqb}
 use lib.ListN.{length, getD}
 use Rattle.scope.specs.Line.{Bracket, Line}
-use Rattle.scope.specs.Modifications.{keep}
-use Rattle.scope.specs.Positions.{member, struckOut, mayStand, positions, permitted}
-use Rattle.scope.specs.Tables.{tabled}
+use Rattle.scope.specs.Lists.{keep, member, tabled}
+use Rattle.scope.specs.Positions.{struckOut, mayStand, positions, permitted}
 use Rattle.basics.specs.Tests.{and-right, or-left, or-right}
 
 -- no member of a list is neither its first element nor one of the others

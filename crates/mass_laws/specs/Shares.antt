@@ -13,10 +13,9 @@ use lib.ListN.{length, getD, take, length-map, List·getD-eq-default}
 use lib.Seq.{length-take-le, getD-take}
 use Rattle.scope.specs.Limits.{positionLimit, residueLimit, copyLimit}
 use Rattle.scope.specs.Line.{Bracket, Line}
-use Rattle.scope.specs.Modifications.{keep}
-use Rattle.scope.specs.Positions.{isPlaced, member, struckOut, floaters, permitted, permittedPositions}
+use Rattle.scope.specs.Lists.{keep, member, tabled}
+use Rattle.scope.specs.Positions.{isPlaced, struckOut, floaters, permitted, permittedPositions}
 use Rattle.scope.specs.Placements.{distinct, fits, allowed}
-use Rattle.scope.specs.Tables.{tabled}
 use Rattle.scope.specs.Masses.{massOr0, sum, placedAt, putAt, ledger}
 use Rattle.brackets.specs.Tabled.{getD-tabled, length-tabled}
 use Rattle.masses.specs.Weights.{placedMass}

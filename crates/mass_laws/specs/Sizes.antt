@@ -11,7 +11,8 @@ use lib.ListN.{length, replicate, length-append, length-replicate}
 use Rattle.scope.specs.declared.grammar.Kind.{Kind}
 use Rattle.scope.specs.declared.grammar.Kind.the-variants.{Unknown, Labile, NTerm, OnResidue, OnRange, CTerm}
 use Rattle.scope.specs.Line.{Bracket, Line}
-use Rattle.scope.specs.Modifications.{flat, isModification, isLabelled, unlabelledCopies, copies}
+use Rattle.scope.specs.Lists.{flat}
+use Rattle.scope.specs.Modifications.{isModification, isLabelled, unlabelledCopies, copies}
 use Rattle.scope.specs.Positions.{floaters}
 use Rattle.scope.specs.Masses.{massOr0, sum, sumℕ, total}
 use Rattle.masses.specs.Weights.{weight}

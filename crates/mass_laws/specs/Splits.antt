@@ -8,9 +8,11 @@ use lib.ListN.{length}
 use Rattle.scope.specs.declared.grammar.Kind.{Kind}
 use Rattle.scope.specs.declared.grammar.Kind.the-variants.{Unknown, Labile, NTerm, OnResidue, OnRange, CTerm}
 use Rattle.scope.specs.Line.{Bracket, Line}
-use Rattle.scope.specs.Modifications.{keep, isModification, isLabelled, unlabelledCopies, copies}
-use Rattle.scope.specs.Positions.{onOnePosition, isPlaced, floaters}
-use Rattle.scope.specs.Masses.{massOr0, sum, total, isLabile, labileMass}
+use Rattle.scope.specs.Lists.{keep}
+use Rattle.scope.specs.Modifications.{isModification, isLabelled, unlabelledCopies, copies}
+use Rattle.scope.specs.Kinds.{onOnePosition, isLabile}
+use Rattle.scope.specs.Positions.{isPlaced, floaters}
+use Rattle.scope.specs.Masses.{massOr0, sum, total, labileMass}
 use Rattle.masses.specs.Weights.{weight, placedMass}
 use Rattle.mass_laws.specs.Terms.{Each, FairBracket, Fair}
 use Rattle.mass_laws.specs.Sums.{six, sum-keep, sum-flat}

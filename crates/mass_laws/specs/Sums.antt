@@ -9,8 +9,7 @@ use borrow.Author.Tests.{eq-eqb, ne-eqb}
 use lib.Dec.{eqb}
 use lib.IntN.{ℤ, pos, _+ℤ_, _*ℤ_, +ℤ-idl, +ℤ-idr, +ℤ-assoc, +ℤ-comm, zero-*ℤ, sucℤ-*ℤ}
 use lib.ListN.{replicate}
-use Rattle.scope.specs.Modifications.{keep, flat}
-use Rattle.scope.specs.Tables.{tabled}
+use Rattle.scope.specs.Lists.{keep, flat, tabled}
 use Rattle.scope.specs.Masses.{sum}
 
 +ℤ-left-comm : (a b c : ℤ) → a +ℤ (b +ℤ c) ≡ b +ℤ (a +ℤ c)

@@ -19,9 +19,10 @@ use Rattle.scope.specs.declared.grammar.Kind.{Kind}
 use Rattle.scope.specs.declared.grammar.Kind.the-variants.{Unknown, Labile, NTerm, OnResidue, OnRange, CTerm}
 use Rattle.scope.specs.Limits.{positionLimit, copyLimit}
 use Rattle.scope.specs.Line.{Bracket}
-use Rattle.scope.specs.Modifications.{keep, flat, copies, isModification, isLabelled, unlabelledCopies}
+use Rattle.scope.specs.Lists.{keep, flat, tabled}
+use Rattle.scope.specs.Modifications.{copies, isModification, isLabelled, unlabelledCopies}
 use Rattle.scope.specs.Positions.{isPlaced, floaters}
-use Rattle.scope.specs.Tables.{tabled, byteAt, bracketIn, tablesIn}
+use Rattle.scope.specs.Tables.{byteAt, bracketIn, tablesIn}
 use Rattle.scope.specs.Masses.{massOr0, sum, placedAt, putAt, ledger}
 use Rattle.areas.specs.Bounds.{Small, BracketBounds, Bounds}
 use Rattle.brackets.specs.Row.{Row, row}

@@ -15,9 +15,9 @@ use mir.Syntax.{w64}
 use mir.Val.{toZ, ofZ}
 use Rattle.scope.specs.Limits.{bracketLimit, partLimit, decimalLimit}
 use Rattle.scope.specs.Line.{Number, Value, mass, text, reference, Part, Bracket}
-use Rattle.scope.specs.Content.{given}
-use Rattle.scope.specs.Modifications.{keep, isKey}
-use Rattle.scope.specs.Tables.{bytesSize, numbersSize, partSize, tabled, byteAt, rowAt, partAt, numberRowSize, millionths, numberIn, partIn, bracketIn}
+use Rattle.scope.specs.Lists.{given, keep, tabled}
+use Rattle.scope.specs.Modifications.{isKey}
+use Rattle.scope.specs.Tables.{bytesSize, numbersSize, partSize, byteAt, rowAt, partAt, numberRowSize, millionths, numberIn, partIn, bracketIn}
 use Rattle.scope.specs.Masses.{valueMass, firstMass, massOf, massOr0}
 use Rattle.areas.specs.Bounds.{Small, PartBounds, BracketBounds, Bounds}
 use Rattle.brackets.specs.Row.{Row, row}

@@ -15,9 +15,9 @@ use mir.Val.{toZ, ofZ}
 use Rattle.scope.specs.declared.grammar.Key.the-variants.{Obs}
 use Rattle.scope.specs.Limits.{countLimit}
 use Rattle.scope.specs.Line.{Number, Value, mass, text, reference, Part, Bracket}
-use Rattle.scope.specs.Content.{given}
-use Rattle.scope.specs.Modifications.{keep, isKey, isModification}
-use Rattle.scope.specs.Tables.{tabled, byteAt, rowAt, partAt, numberRowSize, millionths, numberIn, partIn, bracketIn, tablesIn}
+use Rattle.scope.specs.Lists.{given, keep, tabled}
+use Rattle.scope.specs.Modifications.{isKey, isModification}
+use Rattle.scope.specs.Tables.{byteAt, rowAt, partAt, numberRowSize, millionths, numberIn, partIn, bracketIn, tablesIn}
 use Rattle.scope.specs.Masses.{valueMass, firstMass, massOf, massOr0, sum, sumℕ, total, lacking}
 use Rattle.areas.specs.Bounds.{Small, PartBounds, BracketBounds, Bounds}
 use Rattle.brackets.specs.Tabled.{tabled-at, tabled-end, tabled-all}

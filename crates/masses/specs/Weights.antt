@@ -6,7 +6,7 @@ use Prim.Native.Nat.{ℕ}
 use lib.Dec.{eqb}
 use lib.IntN.{ℤ, pos, _*ℤ_}
 use Rattle.scope.specs.Line.{Bracket, Line}
-use Rattle.scope.specs.Content.{given}
+use Rattle.scope.specs.Lists.{given}
 use Rattle.scope.specs.Modifications.{isModification}
 use Rattle.scope.specs.Positions.{isPlaced}
 use Rattle.scope.specs.Tables.{Tables}

@@ -11,7 +11,8 @@ use lib.ListN.{length, getD, take, drop, length-append, List·getD-append}
 use lib.Seq.{drop-cons, take-suc, getD-take, getD-append-add}
 use Rattle.scope.specs.declared.grammar.Kind.the-variants.{Unknown}
 use Rattle.scope.specs.Line.{Bracket}
-use Rattle.scope.specs.Modifications.{flat, onlyInfo, isReferring, namesOf, isLabelled}
+use Rattle.scope.specs.Lists.{flat}
+use Rattle.scope.specs.Modifications.{onlyInfo, isReferring, namesOf, isLabelled}
 use Rattle.basics.specs.Lists.{flat-append, flat-one}
 use Rattle.notes.specs.Notes.{noteRow, notesFrom, sortOf, NotesAre}
 use Rattle.notes.specs.Rows.{noteAt}

@@ -6,10 +6,9 @@ use mathlib.Core.List.{List, [], _∷_, _++_}
 use native.Mathlib.Omega.{arith}
 use lib.ListN.{length, getD, take, drop, length-append, take-append-drop}
 use lib.Seq.{drop-cons, getD-take, take-append-seam, drop-append-seam}
-use Rattle.scope.specs.Content.{given}
+use Rattle.scope.specs.Lists.{given, flat, part, tabled}
 use Rattle.scope.specs.Line.{Label, Part, Bracket}
-use Rattle.scope.specs.Modifications.{flat, nameOf, namesOf}
-use Rattle.scope.specs.Tables.{part, tabled}
+use Rattle.scope.specs.Modifications.{nameOf, namesOf}
 use Rattle.basics.specs.Lists.{flat-append}
 use Rattle.notes.specs.Notes.{labelRow, labelRows, Stands, AllStand, NamesStand, NotesAre}
 use Rattle.notes.specs.Rows.{noteAt, nameAt, labelFrom, labelTo, Legible, AllLegible, namesAt}

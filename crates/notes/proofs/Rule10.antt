@@ -9,10 +9,11 @@ use lib.ListN.{length, drop, drop-of-length-le}
 use borrow.Author.Tests.{eq-eqb, ne-eqb, le-leb, lt-leb}
 use Rattle.scope.specs.declared.grammar.Kind.{Kind}
 use Rattle.scope.specs.declared.grammar.Kind.the-variants.{Unknown, Labile, NTerm, OnResidue, OnRange, CTerm}
-use Rattle.scope.specs.Canonical.{kindCode}
+use Rattle.scope.specs.Kinds.{kindCode, unknownOrLabile}
 use Rattle.scope.specs.Line.{Bracket, Line}
-use Rattle.scope.specs.Modifications.{flat, onlyInfo, isReferring, isLabelled}
-use Rattle.scope.specs.Refusals.{least, dueAt, unknownOrLabile, refusal10}
+use Rattle.scope.specs.Lists.{flat}
+use Rattle.scope.specs.Modifications.{onlyInfo, isReferring, isLabelled}
+use Rattle.scope.specs.Refusals.{least, dueAt, refusal10}
 use Rattle.places.specs.Places.{coded, sooner}
 use Rattle.places.proofs.Soon.{least-sooner, least-due}
 use Rattle.notes.specs.Notes.{sortOf, NotesAre}

@@ -11,12 +11,11 @@ use lib.Seq.{take-length}
 use borrow.Author.Tests.{ne-eqb, lt-ltb}
 use Rattle.scope.specs.declared.grammar.Kind.{Kind}
 use Rattle.scope.specs.declared.grammar.Kind.the-variants.{Unknown, Labile, NTerm, OnResidue, OnRange, CTerm}
-use Rattle.scope.specs.Canonical.{kindCode}
-use Rattle.scope.specs.Content.{given, none?}
+use Rattle.scope.specs.Kinds.{kindCode, isUnknown}
+use Rattle.scope.specs.Lists.{given, none?, all, flat, among, shared, tabled}
 use Rattle.scope.specs.Line.{Bracket, Line}
-use Rattle.scope.specs.Modifications.{all, flat, among, isReferring, namesOf, definedBy, defined, referredTo}
-use Rattle.scope.specs.Refusals.{least, dueAt, isUnknown, shared, wrongLabels, wronglyLabelled, refusal11}
-use Rattle.scope.specs.Tables.{tabled}
+use Rattle.scope.specs.Modifications.{isReferring, namesOf, definedBy, defined, referredTo}
+use Rattle.scope.specs.Refusals.{least, dueAt, wrongLabels, wronglyLabelled, refusal11}
 use Rattle.places.specs.Places.{coded, sooner}
 use Rattle.places.proofs.Soon.{least-sooner, least-due}
 use Rattle.notes.specs.Notes.{countedCode, NotesAre}

@@ -10,7 +10,7 @@ use borrow.Author.Tests.{eq-eqb, ne-eqb, le-leb, lt-leb, lt-ltb, le-ltb, ltb-tru
 use Rattle.basics.specs.Choice.{by-test}
 use Rattle.scope.specs.declared.grammar.Kind.{Kind}
 use Rattle.scope.specs.declared.grammar.Kind.the-variants.{Unknown, Labile, NTerm, OnResidue, OnRange, CTerm}
-use Rattle.scope.specs.Canonical.{kindCode}
+use Rattle.scope.specs.Kinds.{kindCode}
 use Rattle.scope.specs.Line.{Bracket, Line}
 use Rattle.scope.specs.Modifications.{onlyInfo, isReferring, isLabelled, unlabelledCopies, copies}
 use Rattle.scope.specs.Refusals.{least, dueAt, passing, refusal12}

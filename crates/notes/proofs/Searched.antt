@@ -7,9 +7,7 @@ use native.Mathlib.Omega.{arith}
 use lib.Dec.{eqb}
 use lib.ListN.{length, drop, length-drop, length-take}
 use borrow.Author.Tests.{eq-eqb, ne-eqb, lt-ltb, le-ltb}
-use Rattle.scope.specs.Bytes.{same}
-use Rattle.scope.specs.Modifications.{among}
-use Rattle.scope.specs.Tables.{part, tabled}
+use Rattle.scope.specs.Lists.{same, among, part, tabled}
 use Rattle.notes.specs.Rows.{noteAt, nameAt, labelFrom, labelTo, Legible, AllLegible, namesAt, sideAt, sideFrom, wrongLabel, wrongAt, wrongPlace}
 
 same-length : (x y : List ℕ) → (length x ≡ length y → ⊥) → same x y ≡ false

@@ -7,10 +7,9 @@ use Prim.Native.Nat.{ℕ, _+_, _*_, _≤_, min}
 use lib.ListN.{length, take}
 use Rattle.scope.specs.Limits.{bracketLimit, partLimit, countLimit}
 use Rattle.scope.specs.Line.{Label, Part, Bracket}
-use Rattle.scope.specs.Content.{given}
-use Rattle.scope.specs.Modifications.{flat, onlyInfo, isReferring, namesOf, isLabelled}
-use Rattle.scope.specs.Canonical.{kindCode}
-use Rattle.scope.specs.Tables.{part}
+use Rattle.scope.specs.Lists.{given, flat, part}
+use Rattle.scope.specs.Modifications.{onlyInfo, isReferring, namesOf, isLabelled}
+use Rattle.scope.specs.Kinds.{kindCode}
 
 -- what a bracket is: 0 only INFO, 1 an unlabelled modification, 2 a labelled one, 3 a reference
 unfoldable pub sortOf : {P : Type 0} → Bracket P → ℕ

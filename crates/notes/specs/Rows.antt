@@ -7,8 +7,8 @@ use lib.Dec.{eqb, leb, ltb}
 use lib.ListN.{length, getD}
 use Rattle.scope.specs.Limits.{bracketLimit, copyLimit}
 use Rattle.scope.specs.Line.{Bracket}
-use Rattle.scope.specs.Modifications.{onlyInfo, isReferring, among}
-use Rattle.scope.specs.Tables.{part, tabled}
+use Rattle.scope.specs.Modifications.{onlyInfo, isReferring}
+use Rattle.scope.specs.Lists.{among, part, tabled}
 use Rattle.places.specs.Places.{sooner}
 use Rattle.notes.specs.Notes.{noteSize, notesRoom, NotesAre}
 

@@ -9,9 +9,10 @@ use lib.Dec.{leb, ltb}
 use lib.IntN.{natAbs}
 use lib.ListN.{length, drop, length-drop}
 use borrow.Author.Tests.{leb-true, ltb-true}
-use Rattle.scope.specs.Bytes.{isDigit}
+use Rattle.scope.specs.Bytes.{isDigit, value}
 use Rattle.scope.specs.Line.{Number}
-use Rattle.scope.specs.Content.{given, value, Digits, signed, whole, digitStep, numberEnd}
+use Rattle.scope.specs.Lists.{given}
+use Rattle.scope.specs.Content.{Digits, signed, whole, digitStep, numberEnd}
 use Rattle.scope.specs.Limits.{sizeLimit, decimalLimit}
 use Rattle.scope.specs.Refusals.{inRange}
 use Rattle.scope.specs.Tables.{millionths}

@@ -9,8 +9,7 @@ use lib.Dec.{leb}
 use lib.ListN.{length, getD, drop, drop-of-length-le}
 use lib.Seq.{drop-cons}
 use borrow.Author.Tests.{leb-true}
-use Rattle.scope.specs.Bytes.{isDigit}
-use Rattle.scope.specs.Content.{value}
+use Rattle.scope.specs.Bytes.{isDigit, value}
 use Rattle.classes.proofs.Classes.{both}
 use Rattle.classes.proofs.Runs.{Run, run-starts, run-more, run-stops, run-ends}
 use Rattle.numerals.specs.Numerals.{cap, digitsFrom, DigitsAt}

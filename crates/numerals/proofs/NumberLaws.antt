@@ -8,8 +8,8 @@ use native.Mathlib.Omega.{arith}
 use lib.ListN.{length, getD, drop, drop-of-length-le}
 use lib.Seq.{drop-cons, drop-drop}
 use borrow.Author.Tests.{ne-eqb}
-use Rattle.scope.specs.Bytes.{isDigit}
-use Rattle.scope.specs.Content.{value, signed, whole, pointed, broken, digitStep, numberEnd, numberOf}
+use Rattle.scope.specs.Bytes.{isDigit, value}
+use Rattle.scope.specs.Content.{signed, whole, pointed, broken, digitStep, numberEnd, numberOf}
 use Rattle.classes.specs.Runs.{span}
 use Rattle.classes.proofs.Runs.{run-done}
 use Rattle.numerals.specs.Numerals.{found, lost, scanNumber, numOf, digitsFrom, DigitsAt}

@@ -4,9 +4,10 @@ use mathlib.Core.Path.{_≡_, refl}
 use mathlib.Core.Bool.{Bool, true, false, cond}
 use mathlib.Core.Option.{none, some}
 use mathlib.Core.List.{List}
-use Rattle.scope.specs.Bytes.{isDigit, isSign}
+use Rattle.scope.specs.Bytes.{isDigit, isSign, value}
 use Rattle.scope.specs.Line.{Part}
-use Rattle.scope.specs.Content.{given, value, Digits, signed, whole, digitStep, Context, scoring, inScore, Content, going, lost, innerStep}
+use Rattle.scope.specs.Lists.{given}
+use Rattle.scope.specs.Content.{Digits, signed, whole, digitStep, Context, scoring, inScore, Content, going, lost, innerStep}
 
 unsigned-step : {P : Type 0} (go : Digits → Content P) (d : Digits) (x : Bool)
     → cond x (go d) lost ≡ given (cond x (some d) none) go lost

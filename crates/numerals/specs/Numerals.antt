@@ -4,9 +4,10 @@ use mathlib.Core.Path.{_≡_}
 use mathlib.Core.Bool.{cond}
 use mathlib.Core.List.{List, [], _∷_}
 use lib.ListN.{drop}
-use Rattle.scope.specs.Bytes.{isDigit}
+use Rattle.scope.specs.Bytes.{isDigit, value}
 use Rattle.scope.specs.Line.{Number}
-use Rattle.scope.specs.Content.{given, value, digitStep, numberEnd}
+use Rattle.scope.specs.Lists.{given}
+use Rattle.scope.specs.Content.{digitStep, numberEnd}
 use Rattle.scope.specs.Content as content
 use Rattle.scope.specs.Refusals.{inRange}
 use Rattle.scope.specs.Tables.{millionths}

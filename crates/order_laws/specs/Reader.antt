@@ -15,7 +15,8 @@ use Rattle.scope.specs.Bytes.{upper}
 use Rattle.scope.specs.Limits.{residueLimit}
 use Rattle.scope.specs.Line.{Part, Bracket, Residue, Line}
 use Rattle.scope.specs.Content.{Content, lost, closed, going, innerStep}
-use Rattle.scope.specs.Reading.{act, Held, bracketOf, settled, withBracket, countDigit, onLast, asNTerm, State, dead, outside, inside, perform, refers?, modeAfter, resume, step, holds, reading}
+use Rattle.scope.specs.Reading.{act, Held, bracketOf, settled, withBracket, countDigit, asNTerm, State, dead, outside, inside, perform, refers?, modeAfter, resume, step, holds, reading}
+use Rattle.scope.specs.Lists.{onLast}
 use Rattle.reading_laws.specs.Cases.{branch, Every, every-append}
 use Rattle.reading_laws.specs.Kept.{Whole, reading-whole, put-by, digit-by, every-last}
 use Rattle.order_laws.specs.Ranks.{rank, Ordered, orderedb}

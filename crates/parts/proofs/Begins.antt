@@ -16,10 +16,10 @@ use Rattle.scope.specs.declared.grammar.Key.{Key}
 use Rattle.scope.specs.declared.grammar.Key.the-variants.{NoKey}
 use Rattle.scope.specs.Bytes.{hash, colon, dash, isDigit, isAlnum, isSign, upper, sameFolded}
 use Rattle.scope.specs.Line.{text, reference, Part}
-use Rattle.scope.specs.Keys.{spell, keys, keyAmong, keyOf, Form, massOrName, massOnly, digits, alnums, free, form, hashIsPlain, written, keyCode}
-use Rattle.scope.specs.Content.{given, none?, isPlain, textStep, signed, Context, Inner, begin, plain, keyed, inNumber, inCode, inText, hashed, Content, lost, going, valueEnd, textEnd, unlabelled, accessionByte, nameBehind, behindKey, colonAfter, innerStep}
+use Rattle.scope.specs.Keys.{spell, keys, keyAmong, keyOf, Form, massOrName, massOnly, digits, alnums, free, form, hashIsPlain, written, keyCode, accessionByte}
+use Rattle.scope.specs.Lists.{given, none?, part}
+use Rattle.scope.specs.Content.{isPlain, textStep, signed, Context, Inner, begin, plain, keyed, inNumber, inCode, inText, hashed, Content, lost, going, valueEnd, textEnd, unlabelled, nameBehind, behindKey, colonAfter, innerStep}
 use Rattle.scope.specs.Reading.{Held}
-use Rattle.scope.specs.Tables.{part}
 use Rattle.classes.specs.Runs.{span}
 use Rattle.classes.proofs.Runs.{run-next, run-in}
 use Rattle.parts.specs.declared.Found.{Found}

@@ -12,7 +12,7 @@ use Rattle.basics.specs.Choice.{by-test}
 use Rattle.classes.specs.Runs.{span}
 use Rattle.classes.proofs.Runs.{run-next, run-in}
 use Rattle.scope.specs.Bytes.{hash, shutSquare, openRound, isAlnum}
-use Rattle.scope.specs.Tables.{part}
+use Rattle.scope.specs.Lists.{part}
 use Rattle.scope.specs.declared.grammar.Slot.{Slot}
 use Rattle.scope.specs.declared.grammar.Key.{Key}
 use Rattle.scope.specs.Line.{Number, Label, Value, Part}

@@ -9,7 +9,7 @@ use Rattle.scope.specs.declared.grammar.Key.{Key}
 use Rattle.scope.specs.Bytes.{isSign}
 use Rattle.scope.specs.Keys.{Form, massOrName, massOnly, digits, alnums, free, form}
 use Rattle.scope.specs.Content.{Context, Inner, keyed, inCode, inText, Content, behindKey, innerStep}
-use Rattle.scope.specs.Tables.{part}
+use Rattle.scope.specs.Lists.{part}
 use Rattle.classes.specs.Runs.{span}
 use Rattle.parts.specs.declared.Found.{Found}
 use Rattle.parts.specs.Says.{Says, ShutBy}

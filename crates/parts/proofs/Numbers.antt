@@ -11,7 +11,8 @@ use lib.ListN.{length, getD, drop, length-drop}
 use Rattle.basics.specs.Choice.{by-test}
 use Rattle.scope.specs.declared.grammar.Slot.{Slot}
 use Rattle.scope.specs.Line.{Number}
-use Rattle.scope.specs.Content.{given, Digits, signed, whole, pointed, broken, digitStep, numberEnd, Inner, Content, going, innerStep}
+use Rattle.scope.specs.Lists.{given}
+use Rattle.scope.specs.Content.{Digits, signed, whole, pointed, broken, digitStep, numberEnd, Inner, Content, going, innerStep}
 use Rattle.scope.specs.Content as content
 use Rattle.scope.specs.Reading.{Held, stuck}
 use Rattle.numerals.specs.Numerals.{Scanned, found, lost, ended, scanNumber}

@@ -12,7 +12,7 @@ use Rattle.basics.specs.Choice.{by-test}
 use Rattle.scope.specs.Bytes.{plus, dash, shutRound, isDigit, isSign}
 use Rattle.scope.specs.Line.{Number, Part}
 use Rattle.scope.specs.Content.{Digits, signed, digitStep, numberEnd, Context, Content, lost, going, inScore, scored, scoring, partEnd, labelled, innerStep}
-use Rattle.scope.specs.Tables.{part}
+use Rattle.scope.specs.Lists.{part}
 use Rattle.parts.specs.declared.Found.{Found}
 use Rattle.parts.specs.declared.Found.the-variants.{Stuck}
 use Rattle.parts.specs.Says.{scoreEnd, Says, ShutBy}

@@ -12,7 +12,8 @@ use Rattle.basics.specs.Choice.{by-test}
 use Rattle.scope.specs.declared.grammar.Slot.{Slot}
 use Rattle.scope.specs.declared.grammar.Key.{Key}
 use Rattle.scope.specs.Keys.{form, hashIsPlain}
-use Rattle.scope.specs.Content.{given, Context, Inner, inText, Content, lost, closed, going, textStep, textEnd, innerStep}
+use Rattle.scope.specs.Lists.{given}
+use Rattle.scope.specs.Content.{Context, Inner, inText, Content, lost, closed, going, textStep, textEnd, innerStep}
 use Rattle.scope.specs.Reading.{Held, Reading, stuck}
 use Rattle.texts.specs.declared.TextEnd.{TextEnd}
 use Rattle.texts.specs.declared.TextEnd.the-variants.{Ends, Stuck}

@@ -16,11 +16,12 @@ use Rattle.scope.specs.declared.grammar.Slot.{Slot}
 use Rattle.scope.specs.declared.grammar.Key.{Key}
 use Rattle.scope.specs.Bytes.{shutRound}
 use Rattle.scope.specs.Line.{Number, Label, mass, text, Part}
-use Rattle.scope.specs.Keys.{written, form, hashIsPlain, Form, digits, alnums}
-use Rattle.scope.specs.Content.{given, Digits, digitStep, numberEnd, Context, Inner, inNumber, inText, inCode, inScore, scored, Content, lost, going, partEnd, valueEnd, textEnd, labelled, unlabelled, accessionByte, innerStep}
+use Rattle.scope.specs.Keys.{written, form, hashIsPlain, Form, digits, alnums, accessionByte}
+use Rattle.scope.specs.Lists.{given, part}
+use Rattle.scope.specs.Content.{Digits, digitStep, numberEnd, Context, Inner, inNumber, inText, inCode, inScore, scored, Content, lost, going, partEnd, valueEnd, textEnd, labelled, unlabelled, innerStep}
 use Rattle.scope.specs.Reading.{Held, nothing, front}
 use Rattle.scope.specs.Refusals.{inRange}
-use Rattle.scope.specs.Tables.{millionths, part}
+use Rattle.scope.specs.Tables.{millionths}
 use Rattle.classes.specs.Runs.{span}
 use Rattle.classes.proofs.Runs.{run-next}
 use Rattle.numerals.specs.declared.Num.{Num}

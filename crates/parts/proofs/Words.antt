@@ -12,8 +12,8 @@ use Rattle.scope.specs.declared.grammar.Key.the-variants.{NoKey}
 use Rattle.scope.specs.Bytes.{hash, colon, isSign}
 use Rattle.scope.specs.Line.{reference, Part}
 use Rattle.scope.specs.Keys.{spell, form, written, keyCode, keyOf}
-use Rattle.scope.specs.Content.{given, none?, isPlain, Context, begin, plain, inText, hashed, lost, going, unlabelled, behindKey, innerStep}
-use Rattle.scope.specs.Tables.{part}
+use Rattle.scope.specs.Lists.{given, none?, part}
+use Rattle.scope.specs.Content.{isPlain, Context, begin, plain, inText, hashed, lost, going, unlabelled, behindKey, innerStep}
 use Rattle.classes.specs.Runs.{span}
 use Rattle.classes.proofs.Runs.{run-next, run-in}
 use Rattle.parts.specs.declared.Score.the-variants.{Unscored}

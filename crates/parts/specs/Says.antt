@@ -11,10 +11,11 @@ use Rattle.scope.specs.declared.grammar.Slot.{Slot}
 use Rattle.scope.specs.Bytes.{shutRound}
 use Rattle.scope.specs.Line.{Number, Label, Value, mass, text, reference, Part}
 use Rattle.scope.specs.Keys.{written}
-use Rattle.scope.specs.Content.{none?, Context, scored, Content, lost, going, labelled, partEnd}
+use Rattle.scope.specs.Lists.{none?, part}
+use Rattle.scope.specs.Content.{Context, scored, Content, lost, going, labelled, partEnd}
 use Rattle.scope.specs.Reading.{Held, resume, Reading, stuck}
 use Rattle.scope.specs.Refusals.{inRange}
-use Rattle.scope.specs.Tables.{millionths, part}
+use Rattle.scope.specs.Tables.{millionths}
 use Rattle.reading_laws.specs.Run.{rest}
 use Rattle.parts.specs.declared.Value.{Value as Found-value}
 use Rattle.parts.specs.declared.Value.the-variants.{Mass, Wide, Text, Reference}

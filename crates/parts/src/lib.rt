@@ -10,7 +10,7 @@ ghost use mathlib.Core.Bool.{false};
 ghost use lib.ListN.{length, drop, getD};
 ghost use Rattle.scope.specs.Bytes.{hash, colon, isSign};
 ghost use Rattle.scope.specs.Line.{Number, Label, Part};
-ghost use Rattle.scope.specs.Tables.{part};
+ghost use Rattle.scope.specs.Lists.{part};
 ghost use Rattle.scope.specs.Keys.{written, form, hashIsPlain, massOrName, massOnly, digits, alnums};
 ghost use Rattle.scope.specs.Content.{Digits, begin, plain, keyed, inNumber, inCode, inText, inScore, hashed, scoring, innerStep, partEnd, valueEnd, textEnd, labelled, behindKey};
 ghost use Rattle.numerals.specs.Numerals.{scanNumber, numOf};

@@ -9,7 +9,7 @@ use native.Mathlib.Omega.{arith}
 use lib.ListN.{length, getD, take, replicate, getElem?}
 use Rattle.scope.specs.Limits.{copyLimit}
 use Rattle.scope.specs.Line.{Line}
-use Rattle.scope.specs.Modifications.{keep}
+use Rattle.scope.specs.Lists.{keep}
 use Rattle.scope.specs.Positions.{floaters, permittedPositions}
 use Rattle.scope.specs.Placements.{distinct, allowed, choices, placements, firstPlacement, nextPlacement, freshListing, handed, requested}
 use Rattle.placement_laws.specs.Terms.{In, AllRising, Ascending, Allowed, Further, Least, afterRequests, handedOut}

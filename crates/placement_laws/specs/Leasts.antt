@@ -5,8 +5,8 @@ use mathlib.Core.List.{List, [], _∷_}
 use Prim.Native.Nat.{ℕ, _≤_}
 use lib.ListN.{length}
 use Rattle.scope.specs.Limits.{copyLimit}
-use Rattle.scope.specs.Modifications.{keep}
-use Rattle.scope.specs.Placements.{less, placements, firstIn, firstPlacement, nextPlacement}
+use Rattle.scope.specs.Lists.{keep, firstIn}
+use Rattle.scope.specs.Placements.{less, placements, firstPlacement, nextPlacement}
 use Rattle.placement_laws.specs.Terms.{In, AllRising, Ascending, Allowed, Further, Least}
 use Rattle.placement_laws.specs.Lists.{in-keep, keep-in}
 use Rattle.placement_laws.specs.Members.{among-allowed, allowed-among}

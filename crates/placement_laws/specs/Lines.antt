@@ -7,9 +7,8 @@ use Prim.Native.Nat.{ℕ, zero, suc, _≤_, _+_}
 use native.Mathlib.Omega.{arith}
 use lib.ListN.{length, length-map}
 use Rattle.scope.specs.Line.{Bracket, Line}
-use Rattle.scope.specs.Modifications.{keep}
-use Rattle.scope.specs.Tables.{tabled}
-use Rattle.scope.specs.Positions.{member, floaters, permitted, permittedPositions}
+use Rattle.scope.specs.Lists.{keep, tabled, member}
+use Rattle.scope.specs.Positions.{floaters, permitted, permittedPositions}
 use Rattle.placement_laws.specs.Terms.{Rising, AllRising}
 use Rattle.placement_laws.specs.Lists.{test, member-in, in-member, member-none, member-cons, in-keep, keep-yes, keep-no}
 

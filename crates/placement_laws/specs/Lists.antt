@@ -6,8 +6,7 @@ use mathlib.Core.List.{List, [], _∷_, _++_, map}
 use Prim.Native.Nat.{ℕ}
 use lib.Dec.{eqb}
 use borrow.Author.Tests.{eqb-true, eq-eqb}
-use Rattle.scope.specs.Modifications.{keep, flat}
-use Rattle.scope.specs.Positions.{member}
+use Rattle.scope.specs.Lists.{keep, flat, member}
 use Rattle.placement_laws.specs.Terms.{In}
 
 -- ---- tests

@@ -10,9 +10,7 @@ use lib.ListN.{length, take, replicate, length-append, length-replicate}
 use lib.Seq.{take-append-seam}
 use borrow.Author.Tests.{eqb-true, eq-eqb}
 use Rattle.scope.specs.Limits.{copyLimit}
-use Rattle.scope.specs.Modifications.{all, keep}
-use Rattle.scope.specs.Tables.{padded}
-use Rattle.scope.specs.Positions.{member}
+use Rattle.scope.specs.Lists.{all, keep, padded, member}
 use Rattle.scope.specs.Placements.{distinct, fits, allowed, choices, placements}
 use Rattle.placement_laws.specs.Terms.{In, Allowed}
 use Rattle.placement_laws.specs.Lists.{and-true, and-both, member-in, in-member, in-keep, keep-in, in-map, map-in, in-flat, flat-in}

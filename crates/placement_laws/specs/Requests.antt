@@ -9,8 +9,8 @@ use native.Mathlib.Omega.{arith}
 use lib.ListN.{length, take, getElem?}
 use Rattle.scope.specs.declared.answers.Listing.{Listing}
 use Rattle.scope.specs.Limits.{copyLimit}
-use Rattle.scope.specs.Modifications.{all, keep}
-use Rattle.scope.specs.Placements.{less, placements, firstIn, firstPlacement, nextPlacement, freshListing, Listed, handed, requested}
+use Rattle.scope.specs.Lists.{all, keep, firstIn}
+use Rattle.scope.specs.Placements.{less, placements, firstPlacement, nextPlacement, freshListing, Listed, handed, requested}
 use Rattle.placement_laws.specs.Terms.{In, AllRising, Ascending, Allowed, Least, afterRequests, outOf, handedOut}
 use Rattle.placement_laws.specs.Lists.{by-test, in-right, keep-yes, keep-no}
 use Rattle.placement_laws.specs.Order.{less-self, less-asym}

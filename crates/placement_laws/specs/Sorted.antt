@@ -7,8 +7,7 @@ use Prim.Native.Nat.{ℕ, zero, suc, _<_, _+_, _-_}
 use native.Mathlib.Omega.{arith}
 use lib.ListN.{length, getD, replicate}
 use Rattle.scope.specs.Limits.{copyLimit}
-use Rattle.scope.specs.Modifications.{keep, flat}
-use Rattle.scope.specs.Tables.{padded}
+use Rattle.scope.specs.Lists.{keep, flat, padded}
 use Rattle.scope.specs.Placements.{distinct, less, choices, placements}
 use Rattle.placement_laws.specs.Terms.{In, Rising, AllRising, Ascending}
 use Rattle.placement_laws.specs.Lists.{test, in-member, in-right, in-either, in-keep, keep-yes, keep-no, in-map, in-flat}

@@ -7,7 +7,7 @@ use mathlib.Core.List.{List, [], _∷_, _++_}
 use Prim.Native.Nat.{ℕ, zero, suc, _<_}
 use lib.Dec.{eqb}
 use Rattle.scope.specs.declared.answers.Listing.{Listing}
-use Rattle.scope.specs.Positions.{member}
+use Rattle.scope.specs.Lists.{member}
 use Rattle.scope.specs.Placements.{Listed, allowed, less, requested}
 
 -- x stands in l

@@ -9,7 +9,7 @@ use lib.ListN.{length}
 use borrow.Author.Tests.{eq-eqb}
 use Rattle.scope.specs.declared.answers.Listing.{Listing}
 use Rattle.scope.specs.Limits.{copyLimit}
-use Rattle.scope.specs.Modifications.{all}
+use Rattle.scope.specs.Lists.{all}
 use Rattle.scope.specs.Placements.{allowed, firstPlacement, nextPlacement, Listed, handed, notAllowed, requested}
 use Rattle.areas.specs.Floats.{listsIn, Sized}
 use Rattle.exchange.specs.Where.{Full}

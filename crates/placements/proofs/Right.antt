@@ -10,8 +10,7 @@ use lib.ListN.{length, getD, take}
 use lib.Seq.{getD-take, length-take-le}
 use borrow.Author.Tests.{eqb-true, eq-eqb}
 use Rattle.scope.specs.Limits.{copyLimit}
-use Rattle.scope.specs.Modifications.{all}
-use Rattle.scope.specs.Positions.{member}
+use Rattle.scope.specs.Lists.{all, member}
 use Rattle.scope.specs.Placements.{distinct, fits}
 use Rattle.areas.specs.Floats.{listsIn}
 use Rattle.exchange.specs.Where.{Full}

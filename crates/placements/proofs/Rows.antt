@@ -8,8 +8,7 @@ use native.Mathlib.Omega.{arith}
 use lib.Dec.{eqb}
 use lib.ListN.{length, getD}
 use Rattle.scope.specs.Limits.{positionLimit}
-use Rattle.scope.specs.Tables.{tabled}
-use Rattle.scope.specs.Positions.{member}
+use Rattle.scope.specs.Lists.{tabled, member}
 use Rattle.areas.specs.Floats.{listIn, listsIn}
 use Rattle.exchange.proofs.Exchange.{same?}
 use Rattle.exchange.specs.Table.{mayIn}

@@ -7,7 +7,7 @@ use Prim.Native.Nat.{ℕ, _<_, _≤_}
 use lib.ListN.{take}
 use Rattle.scope.specs.declared.answers.Listing.{Listing}
 use Rattle.scope.specs.Limits.{copyLimit, positionLimit}
-use Rattle.scope.specs.Tables.{padded}
+use Rattle.scope.specs.Lists.{padded}
 use Rattle.scope.specs.Placements.{Listed}
 use Rattle.exchange.specs.Where.{Full}
 use Rattle.exchange.specs.Order.{Verdict}

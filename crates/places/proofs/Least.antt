@@ -4,7 +4,7 @@ use mathlib.Core.Option.{Option, none, some}
 use mathlib.Core.List.{List, [], _∷_, _++_}
 use Prim.Native.Nat.{ℕ, min}
 use native.Mathlib.Omega.{arith}
-use Rattle.scope.specs.Content.{given}
+use Rattle.scope.specs.Lists.{given}
 use Rattle.scope.specs.Refusals.{least}
 
 abbrev pub earlier : Option ℕ → Option ℕ → Option ℕ

@@ -12,9 +12,10 @@ use lib.ListN.{length, getD, take, set, replicate, length-append, length-set, le
 use lib.Seq.{length-take-le, take-suc-set, getD-take, getD-append-add}
 use Rattle.scope.specs.Limits.{copyLimit}
 use Rattle.scope.specs.Line.{Bracket}
-use Rattle.scope.specs.Modifications.{flat, onlyInfo, isReferring, isLabelled, unlabelledCopies, copies}
+use Rattle.scope.specs.Lists.{flat, tabled}
+use Rattle.scope.specs.Modifications.{onlyInfo, isReferring, isLabelled, unlabelledCopies, copies}
 use Rattle.scope.specs.Positions.{floaters}
-use Rattle.scope.specs.Tables.{tabled, byteAt, bracketIn, tablesIn}
+use Rattle.scope.specs.Tables.{byteAt, bracketIn, tablesIn}
 use Rattle.areas.specs.Floats.{FloatersAre}
 use Rattle.basics.specs.Choice.{by-test}
 use Rattle.positions.specs.Lists.{map-append, map-replicate}

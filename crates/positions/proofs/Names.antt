@@ -8,11 +8,10 @@ use borrow.Author.Tests.{eq-eqb, ne-eqb}
 use lib.Dec.{eqb}
 use lib.IntN.{ℤ}
 use lib.ListN.{length, drop, length-take, length-drop}
-use Rattle.scope.specs.Bytes.{same}
+use Rattle.scope.specs.Lists.{same, flat, among, shared, tabled, part}
 use Rattle.scope.specs.Line.{Part}
-use Rattle.scope.specs.Modifications.{flat, among, nameOf, namesOf, isReferring, definedBy, referredBy}
-use Rattle.scope.specs.Refusals.{shared}
-use Rattle.scope.specs.Tables.{tabled, part, byteAt, rowAt, partIn, bracketIn}
+use Rattle.scope.specs.Modifications.{nameOf, namesOf, isReferring, definedBy, referredBy}
+use Rattle.scope.specs.Tables.{byteAt, rowAt, partIn, bracketIn}
 use Rattle.positions.specs.Legible.{labelFrom, labelSize}
 use Rattle.positions.proofs.Any.{anyOf}
 

@@ -15,10 +15,10 @@ use Rattle.scope.specs.declared.grammar.Kind.{Kind}
 use Rattle.scope.specs.declared.grammar.Kind.the-variants.{Unknown, Labile, NTerm, OnResidue, OnRange, CTerm}
 use Rattle.scope.specs.Limits.{positionLimit}
 use Rattle.scope.specs.Line.{Bracket}
-use Rattle.scope.specs.Modifications.{keep, isLabelled, definedBy, referredBy}
-use Rattle.scope.specs.Refusals.{shared}
-use Rattle.scope.specs.Tables.{tabled, byteAt, bracketIn, tablesIn}
-use Rattle.scope.specs.Positions.{member, struckOut, isPlaced, between, ownPosition, referredAt, isUnlabelledUnknown, mayStand}
+use Rattle.scope.specs.Lists.{keep, shared, tabled, member}
+use Rattle.scope.specs.Modifications.{isLabelled, definedBy, referredBy}
+use Rattle.scope.specs.Tables.{byteAt, bracketIn, tablesIn}
+use Rattle.scope.specs.Positions.{struckOut, isPlaced, between, ownPosition, referredAt, isUnlabelledUnknown, mayStand}
 use Rattle.basics.specs.Choice.{by-test}
 use Rattle.brackets.specs.Tabled.{length-tabled}
 use Rattle.positions.specs.Marked.{Marked, RowIs, hasPlace, isUnknown, refersAt, referencesAt, ownAt, placedAt, struckAt}

@@ -10,9 +10,9 @@ use lib.IntN.{ℤ}
 use lib.ListN.{length, getD, take, drop, length-map, length-take, length-drop}
 use lib.Seq.{getD-drop, ext-getD}
 use Rattle.scope.specs.Limits.{copyLimit, rowLimit, positionLimit}
-use Rattle.scope.specs.Modifications.{keep, definedBy, referredBy}
-use Rattle.scope.specs.Refusals.{shared}
-use Rattle.scope.specs.Tables.{tabled, byteAt, bracketIn, tablesIn}
+use Rattle.scope.specs.Lists.{keep, shared, tabled}
+use Rattle.scope.specs.Modifications.{definedBy, referredBy}
+use Rattle.scope.specs.Tables.{byteAt, bracketIn, tablesIn}
 use Rattle.scope.specs.Positions.{between, isUnlabelledUnknown, mayStand, permitted}
 use Rattle.areas.specs.Floats.{listIn, listsIn, FloatersAre, TableIs}
 use Rattle.basics.specs.Choice.{by-test}

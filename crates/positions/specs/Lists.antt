@@ -7,8 +7,7 @@ use native.Mathlib.Nat.{add-zero, zero-add, le-of-suc-le-suc}
 use native.Mathlib.Omega.{arith}
 use lib.ListN.{length, getD, take, replicate, length-map, List·getD-map}
 use lib.Seq.{length-take-le, getD-take, ext-getD}
-use Rattle.scope.specs.Modifications.{keep}
-use Rattle.scope.specs.Tables.{tabled}
+use Rattle.scope.specs.Lists.{keep, tabled}
 use Rattle.brackets.specs.Tabled.{length-tabled, getD-tabled}
 
 -- ---- map

@@ -10,9 +10,9 @@ use Rattle.scope.specs.declared.grammar.Kind.{Kind}
 use Rattle.scope.specs.declared.grammar.Kind.the-variants.{Unknown, Labile, NTerm, OnResidue, OnRange, CTerm}
 use Rattle.scope.specs.Limits.{rowLimit, positionLimit}
 use Rattle.scope.specs.Modifications.{definedBy, referredBy}
-use Rattle.scope.specs.Refusals.{shared}
+use Rattle.scope.specs.Lists.{shared, member}
 use Rattle.scope.specs.Tables.{bracketIn, tablesIn}
-use Rattle.scope.specs.Positions.{between, isPlaced, ownPosition, referredAt, mayStand, member, struckOut}
+use Rattle.scope.specs.Positions.{between, isPlaced, ownPosition, referredAt, mayStand, struckOut}
 use Rattle.areas.specs.Floats.{TableIs}
 
 -- in the row of 256 positions that begins at base, those of a test are set to v; all else is as before

@@ -11,10 +11,9 @@ ghost use Prim.Native.Nat.{_+_, _<_, _≤_};
 ghost use lib.IntN.{ℤ};
 ghost use lib.ListN.{length};
 ghost use Rattle.scope.specs.Limits.{partLimit};
-ghost use Rattle.scope.specs.Bytes.{same};
-ghost use Rattle.scope.specs.Tables.{byteAt, rowAt, part, partIn, bracketIn};
-ghost use Rattle.scope.specs.Modifications.{among, nameOf, namesOf, definedBy, referredBy};
-ghost use Rattle.scope.specs.Refusals.{shared};
+ghost use Rattle.scope.specs.Lists.{same, part, among, shared};
+ghost use Rattle.scope.specs.Tables.{byteAt, rowAt, partIn, bracketIn};
+ghost use Rattle.scope.specs.Modifications.{nameOf, namesOf, definedBy, referredBy};
 ghost use Rattle.brackets.specs.Row.{Row};
 ghost use Rattle.positions.specs.Legible.{labelFrom, labelSize, Named};
 

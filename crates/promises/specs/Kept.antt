@@ -25,18 +25,18 @@ use Rattle.scope.specs.declared.answers.Listing.{Listing}
 use Rattle.scope.specs.declared.answers.Ledger.{Ledger}
 use Rattle.scope.specs.Limits.{copyLimit}
 use Rattle.scope.specs.Line.{Line}
-use Rattle.scope.specs.Modifications.{all}
+use Rattle.scope.specs.Lists.{all, laid}
 use Rattle.scope.specs.Reading.{Reading, stuck, holds, reading}
 use Rattle.scope.specs.Refusals.{refusal4, Due, due, Outcome, accepted, refused, byteRefusals, outcome}
 use Rattle.scope.specs.Canonical.{canonical}
-use Rattle.scope.specs.Tables.{Tables, tablesOf, bytesOf, numbersOf, laid, tablesIn}
+use Rattle.scope.specs.Tables.{Tables, tablesOf, bytesOf, numbersOf, tablesIn}
 use Rattle.scope.specs.Positions.{floaters, permittedPositions}
 use Rattle.scope.specs.Placements.{allowed, placements, firstPlacement, nextPlacement, freshListing, Listed, handed, notAllowed, requested}
 use Rattle.scope.specs.Masses.{sum, total, lacking, ledger, labileMass}
 use Rattle.scope.specs.Answers.{Said, good, refuses, saysRead, saysWrite, saysRequest, saysBooked, saysNumber, tooShort, areTables, readOutcome, saysOutcome, bytesAfter, numbersAfter, fitting, writes, outputAfter, requests, listingAfter, allows, totals, weighed, bookable, books, entries}
 use Rattle.reading_laws.specs.Laws.{placeOf, behind, dues}
 use Rattle.reading_laws.specs.Proved as reads
-use Rattle.grammar_laws.specs.Grammar.{Spelling, print, good as wellSpelt, means}
+use Rattle.scope.specs.Grammar.{Spelling, print, good as wellSpelt, means}
 use Rattle.grammar_laws.specs.Laws.{Accepts, Refuses}
 use Rattle.grammar_laws.specs.Proved as spelled
 use Rattle.layout_laws.specs.Laws.{tables-held}

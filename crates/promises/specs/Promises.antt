@@ -20,11 +20,12 @@ use Rattle.scope.specs.declared.answers.Placement.{Placement}
 use Rattle.scope.specs.declared.answers.Listing.{Listing}
 use Rattle.scope.specs.declared.answers.Ledger.{Ledger}
 use Rattle.scope.specs.Line.{Line}
-use Rattle.scope.specs.Tables.{tablesOf, bytesOf, numbersOf, laid, tablesIn}
+use Rattle.scope.specs.Tables.{tablesOf, bytesOf, numbersOf, tablesIn}
+use Rattle.scope.specs.Lists.{laid}
 use Rattle.scope.specs.Placements.{freshListing}
 use Rattle.scope.specs.Masses.{sum, labileMass}
 use Rattle.scope.specs.Answers.{tooShort, saysRequest, saysTotal, saysBooked, requests, listingAfter, allows, totals, books, entries}
-use Rattle.grammar_laws.specs.Grammar.{Spelling, print, good, means}
+use Rattle.scope.specs.Grammar.{Spelling, print, good, means}
 use Rattle.grammar_laws.specs.Laws.{Accepts, Refuses}
 use Rattle.placement_laws.specs.Terms.{In, Ascending}
 use Rattle.reader.specs.ReadSays.{ReadSays}

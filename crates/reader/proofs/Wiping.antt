@@ -7,8 +7,8 @@ use lib.IntN.{ℤ, pos}
 use lib.ListN.{length, take, drop, replicate, length-drop, length-map, length-replicate, replicate-append-replicate, take-append-drop, drop-of-length-le}
 use lib.Seq.{take-all, take-at, drop-at, drop-append-le, drop-append-add, drop-drop}
 use Rattle.scope.specs.Line.{Line}
-use Rattle.scope.specs.Modifications.{flat}
-use Rattle.scope.specs.Tables.{bytesSize, numbersSize, byteAt, padded, sectionCode, bracketTexts, rows, numberRow, bytesOf, numbersOf}
+use Rattle.scope.specs.Lists.{flat, padded}
+use Rattle.scope.specs.Tables.{bytesSize, numbersSize, byteAt, sectionCode, bracketTexts, rows, numberRow, bytesOf, numbersOf}
 use Rattle.layout_laws.specs.Layout.{padded-length, rows-length, number-rows-length}
 use Rattle.layout_laws.specs.Laws.{accepted-short, accepted-texts}
 use Rattle.reader.specs.ReadSays.{Clean, HoldSome, wiped}

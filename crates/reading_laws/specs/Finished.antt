@@ -11,9 +11,9 @@ use Rattle.scope.specs.declared.grammar.Key.the-variants.{NoKey}
 use Rattle.scope.specs.declared.grammar.Mode.{Mode}
 use Rattle.scope.specs.declared.grammar.Mode.the-variants.{Front, Undecided, Counted, Referred, Caret, Counting, Labiles, NTerms, Start, Single, Opened, UnsureOpened, InRange, InUnsure, RangeEnd, Ranged, UnsureEnd, CStart, CTerms}
 use Rattle.scope.specs.declared.grammar.Slot.{Slot}
-use Rattle.scope.specs.Keys.{Form, massOrName, massOnly, digits, alnums, free, form, hashIsPlain}
+use Rattle.scope.specs.Keys.{Form, massOrName, massOnly, digits, alnums, free, form, hashIsPlain, accessionByte}
 use Rattle.scope.specs.Line.{mass, text, Part}
-use Rattle.scope.specs.Content.{Digits, signed, whole, pointed, broken, digitStep, numberOf, numberEnd, textStep, Context, Inner, begin, plain, keyed, inNumber, inCode, inText, hashed, inLabel, scoring, inScore, scored, closed, going, unlabelled, labelled, partEnd, valueEnd, textEnd, accessionByte, innerStep}
+use Rattle.scope.specs.Content.{Digits, signed, whole, pointed, broken, digitStep, numberOf, numberEnd, textStep, Context, Inner, begin, plain, keyed, inNumber, inCode, inText, hashed, inLabel, scoring, inScore, scored, closed, going, unlabelled, labelled, partEnd, valueEnd, textEnd, innerStep}
 use Rattle.scope.specs.Reading.{element, groupFirst, inGroup, undecided, counted, referred, act, mayEnd, Held, withBracket, State, dead, outside, inside, perform, modeAfter, resume, step, run}
 use Rattle.reading_laws.specs.Run.{run-nil, run-cons}
 use Rattle.reading_laws.specs.Reached.{Closer, square, curly, Closers, Good, GoodState}

@@ -8,10 +8,11 @@ use mathlib.Core.List.{List, [], _∷_, _++_}
 use lib.Dec.{eqb}
 use Rattle.scope.specs.declared.grammar.Key.{Key}
 use Rattle.scope.specs.declared.grammar.Key.the-variants.{NoKey}
-use Rattle.scope.specs.Bytes.{isDigit, isAlnum, isSign, shutSquare, bar, hash, colon, dash, openRound, shutRound}
-use Rattle.scope.specs.Keys.{keyOf, Form, massOrName, massOnly, digits, alnums, free, form, hashIsPlain}
+use Rattle.scope.specs.Bytes.{isDigit, isAlnum, isSign, shutSquare, bar, hash, colon, dash, openRound, shutRound, value}
+use Rattle.scope.specs.Keys.{keyOf, Form, massOrName, massOnly, digits, alnums, free, form, hashIsPlain, accessionByte}
 use Rattle.scope.specs.Line.{Number, mass, text, reference, Part}
-use Rattle.scope.specs.Content.{Digits, signed, whole, value, digitStep, numberEnd, isPlain, textStep, Context, Inner, begin, plain, keyed, inNumber, inCode, inText, hashed, inLabel, scoring, inScore, scored, Content, lost, closed, going, with, unlabelled, labelled, isReference, partEnd, valueEnd, textEnd, behindKey, colonAfter, accessionByte, nameBehind, none?, innerStep}
+use Rattle.scope.specs.Content.{Digits, signed, whole, digitStep, numberEnd, isPlain, textStep, Context, Inner, begin, plain, keyed, inNumber, inCode, inText, hashed, inLabel, scoring, inScore, scored, Content, lost, closed, going, with, unlabelled, labelled, isReference, partEnd, valueEnd, textEnd, behindKey, colonAfter, nameBehind, innerStep}
+use Rattle.scope.specs.Lists.{none?}
 use Rattle.reading_laws.specs.Cases.{branch-on, onGiven, given-on}
 
 -- a mass may stand behind the key

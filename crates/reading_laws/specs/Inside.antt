@@ -12,10 +12,11 @@ use Rattle.scope.specs.Bytes.{isPrintable, isOpening}
 use Rattle.scope.specs.Limits.{lineLimit, residueLimit, bracketLimit, partLimit, textLimit, labelLimit, depthLimit, countLimit, copyLimit}
 use Rattle.scope.specs.Keys.{written}
 use Rattle.scope.specs.Line.{Number, Value, mass, text, reference, Part, Bracket, Line}
-use Rattle.scope.specs.Content.{given}
+use Rattle.scope.specs.Lists.{given, flat}
 use Rattle.scope.specs.Reading.{Reading, stuck, holds, reading}
-use Rattle.scope.specs.Modifications.{flat, onlyInfo, copies, definedBy, defined, referredTo}
-use Rattle.scope.specs.Refusals.{dueAt, least, refusal1, refusal2, unprintable, refusal3, refusal4, depthAfter, tooDeep, textOf, deepPart, refusal5, longText, longLabel, overIn, refusal6, inRange, wide, wideMass, wideScore, refusal7, notHere, refusal8, isNumberName, refusal9, unknownOrLabile, refusal10, wrongLabels, wronglyLabelled, refusal11, passing, refusal12, Due, due, byteRefusals, lineRefusals}
+use Rattle.scope.specs.Modifications.{onlyInfo, copies, definedBy, defined, referredTo}
+use Rattle.scope.specs.Refusals.{dueAt, least, refusal1, refusal2, unprintable, refusal3, refusal4, depthAfter, tooDeep, textOf, deepPart, refusal5, longText, longLabel, overIn, refusal6, inRange, wide, wideMass, wideScore, refusal7, notHere, refusal8, isNumberName, refusal9, refusal10, wrongLabels, wronglyLabelled, refusal11, passing, refusal12, Due, due, byteRefusals, lineRefusals}
+use Rattle.scope.specs.Kinds.{unknownOrLabile}
 use Rattle.reading_laws.specs.Cases.{Every, Maybe, every-append, every-map}
 use Rattle.reading_laws.specs.Laws.{placeOf, behind, dues}
 use Rattle.reading_laws.specs.Precedence.{least-some}

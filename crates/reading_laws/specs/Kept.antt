@@ -11,9 +11,10 @@ use Rattle.scope.specs.declared.grammar.Kind.{Kind}
 use Rattle.scope.specs.declared.grammar.Kind.the-variants.{Unknown, Labile, NTerm, OnResidue, OnRange, CTerm}
 use Rattle.scope.specs.declared.grammar.Mode.{Mode}
 use Rattle.scope.specs.Line.{Bracket, Line}
-use Rattle.scope.specs.Content.{value}
-use Rattle.scope.specs.Reading.{mayEnd, Held, settled, waiting, put, times, countDigit, onLast, State, dead, outside, inside, step, run, start, stuck, holds, lineOf, ended, reading}
-use Rattle.scope.specs.Refusals.{isUnknown}
+use Rattle.scope.specs.Bytes.{value}
+use Rattle.scope.specs.Reading.{mayEnd, Held, settled, waiting, put, times, countDigit, State, dead, outside, inside, step, run, start, stuck, holds, lineOf, ended, reading}
+use Rattle.scope.specs.Lists.{onLast}
+use Rattle.scope.specs.Kinds.{isUnknown}
 use Rattle.reading_laws.specs.Cases.{onGiven, Every}
 
 -- ---- after any bytes

@@ -15,12 +15,13 @@ use Rattle.scope.specs.declared.grammar.Mode.the-variants.{Front, Counting, Sta
 use Rattle.scope.specs.declared.grammar.Slot.{Slot}
 use Rattle.scope.specs.declared.grammar.Act.{Act}
 use Rattle.scope.specs.declared.grammar.Act.the-variants.{Stop, Go, Residue as aResidue, Begin, Digit, RunEnds, TermEnds}
-use Rattle.scope.specs.Bytes.{isSign, isDigit, isAlnum, bar, hash, colon, openRound, shutRound, shutSquare}
-use Rattle.scope.specs.Keys.{keyOf, Form, massOrName, massOnly, digits, alnums, free, form, hashIsPlain}
+use Rattle.scope.specs.Bytes.{isSign, isDigit, isAlnum, bar, hash, colon, openRound, shutRound, shutSquare, value}
+use Rattle.scope.specs.Keys.{keyOf, Form, massOrName, massOnly, digits, alnums, free, form, hashIsPlain, accessionByte}
 use Rattle.scope.specs.Line.{Number, Label, Value, mass, text, reference, Part, Bracket, Residue, Line}
-use Rattle.scope.specs.Content.{given, value, Digits, signed, whole, pointed, broken, digitStep, numberEnd, isPlain, textStep, Context, Inner, begin, plain, keyed, inNumber, inCode, inText, hashed, inLabel, scoring, inScore, scored, Content, lost, closed, going, with, unlabelled, labelled, isReference, partEnd, valueEnd, textEnd, behindKey, colonAfter, accessionByte, nameBehind, none?, innerStep}
-use Rattle.scope.specs.Reading.{act, Held, withResidue, bracketOf, put, withBracket, times, countDigit, onLast, withDigit, asNTerm, settledRun, State, dead, outside, inside, perform, refers?, modeAfter, resume, step}
-use Rattle.scope.specs.Tables.{optional, bareNumber, bareLabel, bareValue, barePart, bareBracket, bareResidue, tablesOf}
+use Rattle.scope.specs.Lists.{given, none?, onLast, optional}
+use Rattle.scope.specs.Content.{Digits, signed, whole, pointed, broken, digitStep, numberEnd, isPlain, textStep, Context, Inner, begin, plain, keyed, inNumber, inCode, inText, hashed, inLabel, scoring, inScore, scored, Content, lost, closed, going, with, unlabelled, labelled, isReference, partEnd, valueEnd, textEnd, behindKey, colonAfter, nameBehind, innerStep}
+use Rattle.scope.specs.Reading.{act, Held, withResidue, bracketOf, put, withBracket, times, countDigit, withDigit, asNTerm, settledRun, State, dead, outside, inside, perform, refers?, modeAfter, resume, step}
+use Rattle.scope.specs.Tables.{bareNumber, bareLabel, bareValue, barePart, bareBracket, bareResidue, tablesOf}
 use Rattle.reading_laws.specs.Cases.{through, throughGiven}
 
 -- ---- every place renamed

@@ -9,7 +9,7 @@ use mathlib.Core.List.{List, [], _∷_, _++_, List·Memᴰ, List·Memᴰ·head, 
 use lib.Dec.{eqb, leb}
 use borrow.Author.Tests.{eq-eqb, ne-eqb, leb-true, leb-false}
 use Rattle.scope.specs.Line.{Line}
-use Rattle.scope.specs.Content.{given}
+use Rattle.scope.specs.Lists.{given}
 use Rattle.scope.specs.Reading.{Reading, stuck, holds, reading}
 use Rattle.scope.specs.Refusals.{least, refusal4, Due, due, Outcome, accepted, refused, firstDue, judged, byteRefusals, outcome}
 use Rattle.reading_laws.specs.Cases.{branch-on}

@@ -11,9 +11,9 @@ use borrow.Author.Tests.{le-leb, leb-true, eqb-true}
 use Rattle.scope.specs.declared.grammar.Mode.{Mode}
 use Rattle.scope.specs.declared.grammar.Act.the-variants.{Stop}
 use Rattle.scope.specs.Bytes.{isPrintable, isLetter, isDigit, isAlnum, isSign, isOpening, isShutting, bar, hash, colon, dot}
-use Rattle.scope.specs.Keys.{Form, massOrName, massOnly, digits, alnums, free, form, hashIsPlain}
+use Rattle.scope.specs.Keys.{Form, massOrName, massOnly, digits, alnums, free, form, hashIsPlain, accessionByte}
 use Rattle.scope.specs.Line.{Line}
-use Rattle.scope.specs.Content.{Digits, signed, whole, pointed, broken, digitStep, isPlain, textStep, Inner, Content, lost, accessionByte}
+use Rattle.scope.specs.Content.{Digits, signed, whole, pointed, broken, digitStep, isPlain, textStep, Inner, Content, lost}
 use Rattle.scope.specs.Reading.{act, State, dead, outside, inside, perform, resume, step, run, start, holds, ended, reading}
 use Rattle.scope.specs.Refusals.{dueAt, unprintable, least, refusal3}
 use Rattle.reading_laws.specs.Acts.{Sort, letter, digit, only, any, isOf, act-none, both}

@@ -11,9 +11,9 @@ use Rattle.scope.specs.declared.grammar.Slot.{Slot}
 use Rattle.scope.specs.declared.grammar.Act.{Act}
 use Rattle.scope.specs.declared.grammar.Act.the-variants.{Stop, Go, Residue as aResidue, Begin, Digit, RunEnds, TermEnds}
 use Rattle.scope.specs.Bytes.{isPrintable, isOpening, isShutting, closerOf, hash, colon, openSquare}
-use Rattle.scope.specs.Keys.{form}
+use Rattle.scope.specs.Keys.{form, accessionByte}
 use Rattle.scope.specs.Line.{Part}
-use Rattle.scope.specs.Content.{isPlain, textStep, Context, Inner, begin, plain, keyed, inNumber, inCode, inText, hashed, inLabel, scoring, inScore, scored, Content, lost, closed, going, accessionByte, innerStep}
+use Rattle.scope.specs.Content.{isPlain, textStep, Context, Inner, begin, plain, keyed, inNumber, inCode, inText, hashed, inLabel, scoring, inScore, scored, Content, lost, closed, going, innerStep}
 use Rattle.scope.specs.Reading.{act, Held, State, dead, outside, inside, perform, resume, step, run}
 use Rattle.reading_laws.specs.Cases.{branch, Every, Maybe}
 use Rattle.reading_laws.specs.Acts.{ofSlot, act-rule}

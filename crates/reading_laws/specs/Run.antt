@@ -11,7 +11,8 @@ use lib.ListN.{length, drop, getD, drop-of-length-le}
 use lib.Seq.{drop-cons}
 use Rattle.scope.specs.Line.{Line}
 use Rattle.scope.specs.Reading.{mayEnd, State, dead, outside, inside, step, run, start, Reading, stuck, holds, lineOf, ended, reading}
-use Rattle.scope.specs.Tables.{Tables, optional, tablesOf}
+use Rattle.scope.specs.Tables.{Tables, tablesOf}
+use Rattle.scope.specs.Lists.{optional}
 use Rattle.reading_laws.specs.Places.{mapLine, mapHeld, mapState, step-map, tables-map}
 
 module _ {P : Type 0} (note : ℕ → P) where

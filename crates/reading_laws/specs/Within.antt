@@ -14,10 +14,11 @@ use Rattle.scope.specs.declared.grammar.Kind.{Kind}
 use Rattle.scope.specs.declared.grammar.Slot.{Slot}
 use Rattle.scope.specs.declared.grammar.Act.{Act}
 use Rattle.scope.specs.declared.grammar.Act.the-variants.{Stop, Go, Residue as aResidue, Begin, Digit, RunEnds, TermEnds}
-use Rattle.scope.specs.Bytes.{sameFolded, upper, colon}
+use Rattle.scope.specs.Bytes.{sameFolded, upper, colon, value}
 use Rattle.scope.specs.Keys.{spell, keys, keyAmong, keyOf, written}
 use Rattle.scope.specs.Line.{Number, Label, Value, mass, text, reference, Part, Bracket, Residue, Line}
-use Rattle.scope.specs.Content.{given, value, Digits, signed, whole, pointed, broken, numberEnd, Context, Inner, begin, plain, keyed, inNumber, inCode, inText, hashed, inLabel, scoring, inScore, scored, Content, lost, closed, going, unlabelled, labelled, innerStep}
+use Rattle.scope.specs.Lists.{given}
+use Rattle.scope.specs.Content.{Digits, signed, whole, pointed, broken, numberEnd, Context, Inner, begin, plain, keyed, inNumber, inCode, inText, hashed, inLabel, scoring, inScore, scored, Content, lost, closed, going, unlabelled, labelled, innerStep}
 use Rattle.scope.specs.Reading.{act, Held, withResidue, bracketOf, put, countDigit, asNTerm, settledRun, State, dead, outside, inside, perform, resume, step, run, holds, reading}
 use Rattle.scope.specs.Refusals.{textOf}
 use Rattle.reading_laws.specs.Cases.{onGiven, Every, Maybe, every-append, every-map, every-all}

@@ -12,7 +12,7 @@ use lib.ListN.{length, getD, take}
 use lib.Seq.{take-suc, length-take-le}
 use Rattle.scope.specs.declared.answers.Site.{Site}
 use Rattle.scope.specs.Limits.{rowLimit}
-use Rattle.scope.specs.Content.{given}
+use Rattle.scope.specs.Lists.{given}
 use Rattle.scope.specs.Positions.{Found, firstRow, lookup}
 use Rattle.scope.specs.Answers.{good, refuses, looksUp}
 use Rattle.basics.specs.Choice.{by-test}

@@ -11,9 +11,8 @@ use lib.ListN.{length, getD, take, drop, set, length-append, length-drop, List·
 use lib.Seq.{drop-cons, take-suc, take-all, length-take-le, set-append-seam}
 use Rattle.scope.specs.declared.answers.Site.{Site}
 use Rattle.scope.specs.Limits.{positionLimit}
-use Rattle.scope.specs.Modifications.{keep}
+use Rattle.scope.specs.Lists.{keep, tabled, laid}
 use Rattle.scope.specs.Positions.{rowsFrom}
-use Rattle.scope.specs.Tables.{tabled, laid}
 use Rattle.areas.specs.Floats.{listIn, listsIn}
 use Rattle.basics.specs.Choice.{by-test}
 use Rattle.brackets.specs.Tabled.{tabled-at, tabled-end}

@@ -5,8 +5,7 @@ use lib.Dec.{eqb}
 use lib.ListN.{getD}
 use Rattle.scope.specs.declared.answers.Site.{Site}
 use Rattle.scope.specs.Limits.{positionLimit}
-use Rattle.scope.specs.Modifications.{keep}
-use Rattle.scope.specs.Tables.{tabled}
+use Rattle.scope.specs.Lists.{keep, tabled}
 
 -- the places from one on, up to an end, whose byte is 1
 abbrev pub onesFrom : List ℕ → ℕ → ℕ → List ℕ

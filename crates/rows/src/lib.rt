@@ -8,7 +8,7 @@ ghost use mathlib.Core.Path.{_≡_};
 ghost use Prim.Native.Nat.{_+_, _*_, _<_, _≤_};
 ghost use lib.ListN.{length, getD};
 ghost use Rattle.scope.specs.Limits.{rowLimit, positionLimit};
-ghost use Rattle.scope.specs.Tables.{laid};
+ghost use Rattle.scope.specs.Lists.{laid};
 ghost use Rattle.scope.specs.Positions.{rowsFrom};
 ghost use Rattle.scope.specs.Answers.{saysLookup, looksUp};
 ghost use Rattle.areas.specs.Floats.{listsIn, Sized};

@@ -71,6 +71,10 @@ isLetter b = isUpper b || isLower b
 abbrev pub isDigit : ℕ → Bool
 isDigit b = leb 48 b && leb b 57
 
+-- the value of a digit
+abbrev pub value : ℕ → ℕ
+value b = b - 48
+
 -- "letters and digits"
 abbrev pub isAlnum : ℕ → Bool
 isAlnum b = isLetter b || isDigit b
@@ -99,10 +103,3 @@ sameFolded [] [] = true
 sameFolded [] (y ∷ m) = false
 sameFolded (x ∷ l) [] = false
 sameFolded (x ∷ l) (y ∷ m) = eqb (upper x) (upper y) && sameFolded l m
-
--- "compared byte for byte"
-unfoldable pub same : List ℕ → List ℕ → Bool
-same [] [] = true
-same [] (y ∷ m) = false
-same (x ∷ l) [] = false
-same (x ∷ l) (y ∷ m) = eqb x y && same l m

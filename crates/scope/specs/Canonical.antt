@@ -9,11 +9,11 @@ use Rattle.scope.specs.declared.grammar.Section.{Section}
 use Rattle.scope.specs.declared.grammar.Section.the-variants.{Plain, RangeFirst, RangeNext, UnsureFirst, UnsureNext}
 use Rattle.scope.specs.declared.grammar.Kind.{Kind}
 use Rattle.scope.specs.declared.grammar.Kind.the-variants.{Unknown, Labile, NTerm, OnResidue, OnRange, CTerm}
+use Rattle.scope.specs.Kinds.{isKind}
 use Rattle.scope.specs.Bytes.{openSquare, shutSquare, openCurly, shutCurly, openRound, shutRound, bar, hash, caret, question, plus, dash, dot}
 use Rattle.scope.specs.Line.{Number, Label, Value, mass, text, reference, Part, Bracket, Residue, Line}
 use Rattle.scope.specs.Keys.{written}
-use Rattle.scope.specs.Content.{given, none?}
-use Rattle.scope.specs.Modifications.{keep, flat}
+use Rattle.scope.specs.Lists.{given, none?, keep, flat}
 
 -- ---- numbers
 
@@ -77,16 +77,8 @@ abbrev pub unknownText : {P : Type 0} → Bracket P → List ℕ
 unknownText k = squareText k ++ countText (k .count)
 
 -- ---- the line
-abbrev pub kindCode : Kind → ℕ
-kindCode Unknown = 1
-kindCode Labile = 2
-kindCode NTerm = 3
-kindCode OnResidue = 4
-kindCode OnRange = 5
-kindCode CTerm = 6
-
 abbrev pub ofKind : {P : Type 0} → Kind → List (Bracket P) → List (Bracket P)
-ofKind c ks = keep (λ k. eqb (kindCode (k .kind)) (kindCode c)) ks
+ofKind c ks = keep (λ k. isKind c (k .kind)) ks
 
 -- those of a kind that end at a position
 abbrev pub endingAt : {P : Type 0} → Kind → ℕ → List (Bracket P) → List (Bracket P)

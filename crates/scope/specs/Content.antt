@@ -1,4 +1,5 @@
--- The inside of a bracket, read byte by byte.
+-- How it is computed: the inside of a bracket, read byte by byte. That this is the grammar of specs/Grammar.antt is proved (crates/grammar_laws, `lines`,
+-- `only-reading`), so nothing of it has to be believed.
 use Prim.Native.Nat.{ℕ, _+_, _*_, _-_}
 use mathlib.Core.Bool.{Bool, true, false, not, cond, _&&_, _||_}
 use mathlib.Core.Option.{Option, none, some}
@@ -6,14 +7,10 @@ use mathlib.Core.List.{List, [], _∷_, _++_}
 use lib.Dec.{eqb}
 use Rattle.scope.specs.declared.grammar.Key.{Key}
 use Rattle.scope.specs.declared.grammar.Key.the-variants.{NoKey}
-use Rattle.scope.specs.Bytes.{isPrintable, isDigit, isAlnum, isSign, isOpening, isShutting, closerOf, shutSquare, bar, hash, colon, dash, dot, openRound, shutRound}
+use Rattle.scope.specs.Lists.{given, none?}
+use Rattle.scope.specs.Bytes.{isPrintable, isDigit, isAlnum, isSign, isOpening, isShutting, closerOf, shutSquare, bar, hash, colon, dash, dot, openRound, shutRound, value}
 use Rattle.scope.specs.Line.{Number, Label, Value, mass, text, reference, Part}
-use Rattle.scope.specs.Keys.{keyOf, Form, massOrName, massOnly, digits, alnums, free, form, hashIsPlain}
-
--- the value, where there is one
-abbrev pub given : {A B : Type 0} → Option A → (A → B) → B → B
-given (some x) f y = f x
-given none f y = y
+use Rattle.scope.specs.Keys.{keyOf, Form, massOrName, massOnly, digits, alnums, free, form, hashIsPlain, accessionByte}
 
 -- ---- numbers: "sign, digits, perhaps `.` and digits"
 
@@ -23,9 +20,6 @@ pub data Digits : Type 0 where
   whole : Bool → ℕ → Digits
   pointed : Bool → ℕ → Digits
   broken : Bool → ℕ → ℕ → Digits
-
-abbrev pub value : ℕ → ℕ
-value b = b - 48
 
 unfoldable pub digitStep : Digits → ℕ → Option Digits
 digitStep (signed s) b = cond (isDigit b) (some (whole s (value b))) none
@@ -131,14 +125,6 @@ behindKey c at k free = inText c at k [] []
 unfoldable pub colonAfter : {P : Type 0} → Context P → P → List ℕ → Inner P
 colonAfter c at t = given (keyOf t) (λ k. behindKey c at k (form k)) (inText c at NoKey (t ++ (colon ∷ [])) [])
 
--- "`UNIMOD:` `MOD:` `XLMOD:` and digits; `RESID:` `GNO:` and letters or digits"
-abbrev pub accessionByte : Form → ℕ → Bool
-accessionByte massOrName b = false
-accessionByte massOnly b = false
-accessionByte digits b = isDigit b
-accessionByte alnums b = isAlnum b
-accessionByte free b = false
-
 -- "It may follow `U:` `M:` `R:` `X:` `G:` `C:` `Obs:`. After `Obs:` nothing else may stand."
 abbrev pub nameBehind : {P : Type 0} → Context P → P → Key → Form → ℕ → Content P
 nameBehind c at k massOrName b = given (textStep false [] b) (λ cs. going (inText c at k (b ∷ []) cs)) lost
@@ -146,10 +132,6 @@ nameBehind c at k massOnly b = lost
 nameBehind c at k digits b = lost
 nameBehind c at k alnums b = lost
 nameBehind c at k free b = lost
-
-abbrev pub none? : {A : Type 0} → List A → Bool
-none? [] = true
-none? (x ∷ l) = false
 
 -- one byte more, at the place i
 unfoldable pub innerStep : {P : Type 0} → P → Inner P → ℕ → Content P

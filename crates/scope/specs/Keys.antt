@@ -6,7 +6,7 @@ use mathlib.Core.List.{List, [], _∷_, _++_}
 use lib.ListN.{getD}
 use Rattle.scope.specs.declared.grammar.Key.{Key}
 use Rattle.scope.specs.declared.grammar.Key.the-variants.{NoKey, U, M, R, X, G, C, Obs, Unimod, Mod, Xlmod, Resid, Gno, Info, Formula, Glycan, Position, Limit}
-use Rattle.scope.specs.Bytes.{bytes, colon, sameFolded}
+use Rattle.scope.specs.Bytes.{bytes, colon, sameFolded, isDigit, isAlnum}
 
 -- "written in the spelling given here"
 unfoldable pub spell : Key → List ℕ
@@ -75,6 +75,14 @@ hashIsPlain massOnly = false
 hashIsPlain digits = false
 hashIsPlain alnums = false
 hashIsPlain free = true
+
+-- "`UNIMOD:` `MOD:` `XLMOD:` and digits; `RESID:` `GNO:` and letters or digits"
+abbrev pub accessionByte : Form → ℕ → Bool
+accessionByte massOrName b = false
+accessionByte massOnly b = false
+accessionByte digits b = isDigit b
+accessionByte alnums b = isAlnum b
+accessionByte free b = false
 
 -- the key as it is written in front of its part
 unfoldable pub written : Key → List ℕ

@@ -1,7 +1,10 @@
+pub mod Lists
 pub mod Bytes
 pub mod Limits
 pub mod Line
 pub mod Keys
+pub mod Kinds
+pub mod Grammar
 pub mod Content
 pub mod Reading
 pub mod Modifications

@@ -9,11 +9,12 @@ use lib.Ieee.{Float, binary64, div, ofInt}
 use Rattle.scope.specs.declared.grammar.Key.the-variants.{Obs}
 use Rattle.scope.specs.declared.grammar.Kind.{Kind}
 use Rattle.scope.specs.declared.grammar.Kind.the-variants.{Unknown, Labile, NTerm, OnResidue, OnRange, CTerm}
+use Rattle.scope.specs.Kinds.{isLabile}
 use Rattle.scope.specs.Limits.{positionLimit, decimalLimit}
 use Rattle.scope.specs.Line.{Value, mass, text, reference, Part, Bracket, Line}
-use Rattle.scope.specs.Content.{given}
-use Rattle.scope.specs.Modifications.{keep, isKey, isModification}
-use Rattle.scope.specs.Tables.{millionths, tabled}
+use Rattle.scope.specs.Lists.{given, keep, tabled}
+use Rattle.scope.specs.Modifications.{isKey, isModification}
+use Rattle.scope.specs.Tables.{millionths}
 use Rattle.scope.specs.Positions.{isPlaced, floaters}
 
 -- ---- "A bracket's mass is its first mass without `Obs`, else its first `Obs` mass, else none. Parts are synonyms and never added up."
@@ -65,14 +66,6 @@ unfoldable pub ledger : {P : Type 0} → Line P → List ℕ → List ℤ
 ledger t p = tabled (λ x. placedAt x (t .brackets) +ℤ putAt x (floaters t) p) 0 positionLimit
 
 -- the labile ones, which no ledger books
-abbrev pub isLabile : Kind → Bool
-isLabile Unknown = false
-isLabile Labile = true
-isLabile NTerm = false
-isLabile OnResidue = false
-isLabile OnRange = false
-isLabile CTerm = false
-
 unfoldable pub labileMass : {P : Type 0} → Line P → ℤ
 labileMass t = sum (map massOr0 (keep (λ k. isLabile (k .kind)) (modifications t)))
 

@@ -8,29 +8,11 @@ use Rattle.scope.specs.declared.grammar.Key.{Key}
 use Rattle.scope.specs.declared.grammar.Key.the-variants.{Info}
 use Rattle.scope.specs.declared.grammar.Kind.{Kind}
 use Rattle.scope.specs.declared.grammar.Kind.the-variants.{Unknown, Labile, NTerm, OnResidue, OnRange, CTerm}
-use Rattle.scope.specs.Bytes.{same}
+use Rattle.scope.specs.Kinds.{isUnknown, isOnRange}
+use Rattle.scope.specs.Lists.{same, given, none?, all, flat}
 use Rattle.scope.specs.Line.{Label, Part, Bracket}
 use Rattle.scope.specs.Keys.{keyCode}
-use Rattle.scope.specs.Content.{given, none?}
 use Rattle.scope.specs.Reading.{refers?}
-
-unfoldable pub all : {A : Type 0} → (A → Bool) → List A → Bool
-all f [] = true
-all f (x ∷ l) = f x && all f l
-
--- the elements that a test keeps, in order
-unfoldable pub keep : {A : Type 0} → (A → Bool) → List A → List A
-keep f [] = []
-keep f (x ∷ l) = cond (f x) (x ∷ []) [] ++ keep f l
-
-unfoldable pub flat : {A B : Type 0} → (A → List B) → List A → List B
-flat f [] = []
-flat f (x ∷ l) = f x ++ flat f l
-
--- x is among the names
-unfoldable pub among : List ℕ → List (List ℕ) → Bool
-among x [] = false
-among x (y ∷ l) = same x y || among x l
 
 abbrev pub isKey : {P : Type 0} → Key → Part P → Bool
 isKey k p = eqb (keyCode (p .key)) (keyCode k)
@@ -57,12 +39,7 @@ isLabelled k = not (none? (namesOf k))
 
 -- "Floating copies ..: each copy of an unlabelled unknown one ..; each unlabelled one on a range; each label's definition"
 abbrev pub unlabelledCopies : Kind → ℕ → ℕ
-unlabelledCopies Unknown count = count
-unlabelledCopies Labile count = 0
-unlabelledCopies NTerm count = 0
-unlabelledCopies OnResidue count = 0
-unlabelledCopies OnRange count = 1
-unlabelledCopies CTerm count = 0
+unlabelledCopies c count = cond (isUnknown c) count (cond (isOnRange c) 1 0)
 
 unfoldable pub copies : {P : Type 0} → Bracket P → ℕ
 copies k = cond (isModification k) (cond (isLabelled k) 1 (unlabelledCopies (k .kind) (k .count))) 0

@@ -8,25 +8,13 @@ use lib.ListN.{length, take, replicate}
 use Rattle.scope.specs.declared.grammar.Kind.{Kind}
 use Rattle.scope.specs.declared.grammar.Kind.the-variants.{Unknown, Labile, NTerm, OnResidue, OnRange, CTerm}
 use Rattle.scope.specs.declared.answers.Site.{Site}
+use Rattle.scope.specs.Kinds.{isUnknown, unknownOrLabile, onOnePosition}
 use Rattle.scope.specs.Limits.{rowLimit}
 use Rattle.scope.specs.Line.{Bracket, Line}
-use Rattle.scope.specs.Modifications.{keep, flat, isModification, isLabelled, copies, definedBy, referredBy}
-use Rattle.scope.specs.Refusals.{shared}
-use Rattle.scope.specs.Tables.{tabled}
-
-unfoldable pub member : ℕ → List ℕ → Bool
-member x [] = false
-member x (y ∷ l) = eqb x y || member x l
+use Rattle.scope.specs.Lists.{keep, flat, shared, tabled, member}
+use Rattle.scope.specs.Modifications.{isModification, isLabelled, copies, definedBy, referredBy}
 
 -- ---- "A modification is placed when it is unlabelled and stands on a residue or terminus"
-abbrev pub onOnePosition : Kind → Bool
-onOnePosition Unknown = false
-onOnePosition Labile = false
-onOnePosition NTerm = true
-onOnePosition OnResidue = true
-onOnePosition OnRange = false
-onOnePosition CTerm = true
-
 unfoldable pub isPlaced : {P : Type 0} → Bracket P → Bool
 isPlaced k = isModification k && not (isLabelled k) && onOnePosition (k .kind)
 
@@ -44,12 +32,7 @@ abbrev pub between : ℕ → ℕ → ℕ → Bool
 between a e x = leb a x && leb x e
 
 abbrev pub ownPosition : {P : Type 0} → Bracket P → ℕ → Kind → Bool
-ownPosition k x Unknown = false
-ownPosition k x Labile = false
-ownPosition k x NTerm = between (k .first) (k .last) x
-ownPosition k x OnResidue = between (k .first) (k .last) x
-ownPosition k x OnRange = between (k .first) (k .last) x
-ownPosition k x CTerm = between (k .first) (k .last) x
+ownPosition k x c = not (unknownOrLabile c) && between (k .first) (k .last) x
 
 -- some reference to one of the bracket's labels stands at x
 unfoldable pub referredAt : {P : Type 0} → Bracket P → ℕ → List (Bracket P) → Bool
@@ -57,12 +40,7 @@ referredAt k x [] = false
 referredAt k x (r ∷ rs) = shared (definedBy k) (referredBy r) && between (r .first) (r .last) x || referredAt k x rs
 
 abbrev pub isUnlabelledUnknown : {P : Type 0} → Bracket P → Kind → Bool
-isUnlabelledUnknown k Unknown = not (isLabelled k)
-isUnlabelledUnknown k Labile = false
-isUnlabelledUnknown k NTerm = false
-isUnlabelledUnknown k OnResidue = false
-isUnlabelledUnknown k OnRange = false
-isUnlabelledUnknown k CTerm = false
+isUnlabelledUnknown k c = isUnknown c && not (isLabelled k)
 
 unfoldable pub mayStand : {P : Type 0} → Line P → Bracket P → ℕ → Bool
 mayStand t k x =

@@ -1,4 +1,5 @@
--- A line, read byte by byte: the order of its parts, and what it holds or the place of refusal 4.
+-- How it is computed: a line, read byte by byte, and what it holds or the place of refusal 4. By `lines` of crates/grammar_laws this is what the grammar
+-- means, places included, and by `place-of-4` its place of 4 is document 01's.
 use Prim.Native.Nat.{ℕ, _+_, _*_}
 use mathlib.Core.Bool.{Bool, true, false, cond}
 use mathlib.Core.Option.{Option, none, some}
@@ -14,9 +15,11 @@ use Rattle.scope.specs.declared.grammar.Mode.the-variants.{Front, Undeci
 use Rattle.scope.specs.declared.grammar.Slot.{Slot}
 use Rattle.scope.specs.declared.grammar.Act.{Act}
 use Rattle.scope.specs.declared.grammar.Act.the-variants.{Stop, Go, Residue as aResidue, Begin, Digit, RunEnds, TermEnds}
-use Rattle.scope.specs.Bytes.{upper, isLetter, isDigit, openSquare, shutSquare, openCurly, shutCurly, openRound, shutRound, caret, question, dash}
+use Rattle.scope.specs.Kinds.{isUnknown}
+use Rattle.scope.specs.Bytes.{upper, isLetter, isDigit, openSquare, shutSquare, openCurly, shutCurly, openRound, shutRound, caret, question, dash, value}
 use Rattle.scope.specs.Line.{Part, Bracket, Residue, Line}
-use Rattle.scope.specs.Content.{given, value, isReference, Inner, begin, Content, lost, closed, going, innerStep}
+use Rattle.scope.specs.Lists.{given, onLast}
+use Rattle.scope.specs.Content.{isReference, Inner, begin, Content, lost, closed, going, innerStep}
 
 -- ---- the order of a line: what each byte does outside brackets
 
@@ -173,12 +176,7 @@ waiting k h = record { residues = h .residues; brackets = h .brackets; run = h .
 
 -- a bracket at the front waits until its kind is known
 abbrev pub put : {P : Type 0} → Kind → Bracket P → Held P → Held P
-put Unknown k h = waiting k h
-put Labile k h = settled k h
-put NTerm k h = settled k h
-put OnResidue k h = settled k h
-put OnRange k h = settled k h
-put CTerm k h = settled k h
+put c k h = cond (isUnknown c) (waiting k h) (settled k h)
 
 abbrev pub withBracket : {P : Type 0} → Kind → P → List (Part P) → Held P → Held P
 withBracket k i ps h = put k (bracketOf k i ps h) h
@@ -198,11 +196,6 @@ times n p k =
 -- one digit more of the count behind a bracket
 abbrev pub countDigit : {P : Type 0} → P → ℕ → Bracket P → Bracket P
 countDigit i b k = given (k .counted) (λ p. times (k .count * 10 + value b) p k) (times (value b) i k)
-
-unfoldable pub onLast : {A : Type 0} → (A → A) → List A → List A
-onLast f [] = []
-onLast f (x ∷ []) = f x ∷ []
-onLast f (x ∷ y ∷ l) = x ∷ onLast f (y ∷ l)
 
 abbrev pub withDigit : {P : Type 0} → P → ℕ → Held P → Held P
 withDigit i b h = record { residues = h .residues; brackets = h .brackets; run = onLast (countDigit i b) (h .run); first = h .first }

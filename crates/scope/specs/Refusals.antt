@@ -9,13 +9,14 @@ use Rattle.scope.specs.declared.grammar.Key.{Key}
 use Rattle.scope.specs.declared.grammar.Key.the-variants.{NoKey, U, M, Formula, Glycan, Position, Limit}
 use Rattle.scope.specs.declared.grammar.Kind.{Kind}
 use Rattle.scope.specs.declared.grammar.Kind.the-variants.{Unknown, Labile, NTerm, OnResidue, OnRange, CTerm}
+use Rattle.scope.specs.Kinds.{isUnknown, unknownOrLabile}
 use Rattle.scope.specs.Bytes.{bytes, isPrintable, isDigit, isOpening, isShutting, sameFolded}
 use Rattle.scope.specs.Limits.{lineLimit, residueLimit, bracketLimit, partLimit, textLimit, labelLimit, depthLimit, sizeLimit, decimalLimit, countLimit, copyLimit}
 use Rattle.scope.specs.Line.{Number, Label, Value, mass, text, reference, Part, Bracket, Residue, Line}
 use Rattle.scope.specs.Keys.{written}
-use Rattle.scope.specs.Content.{given, none?}
+use Rattle.scope.specs.Lists.{given, none?, all, keep, flat, among, shared}
 use Rattle.scope.specs.Reading.{Reading, stuck, holds, reading}
-use Rattle.scope.specs.Modifications.{all, keep, flat, among, isKey, onlyInfo, isReferring, namesOf, isLabelled, copies, definedBy, referredBy, defined, referredTo}
+use Rattle.scope.specs.Modifications.{isKey, onlyInfo, isReferring, namesOf, isLabelled, copies, definedBy, referredBy, defined, referredTo}
 
 -- the place i, where the test holds
 abbrev pub dueAt : Bool → ℕ → List ℕ
@@ -142,34 +143,13 @@ unfoldable pub refusal9 : Line ℕ → Option ℕ
 refusal9 l = least (flat (λ k. flat (λ p. dueAt (isNumberName p) (p .at)) (k .parts)) (l .brackets))
 
 -- ---- 10 "only INFO in an unknown or labile bracket", at "the bracket"
-abbrev pub unknownOrLabile : Kind → Bool
-unknownOrLabile Unknown = true
-unknownOrLabile Labile = true
-unknownOrLabile NTerm = false
-unknownOrLabile OnResidue = false
-unknownOrLabile OnRange = false
-unknownOrLabile CTerm = false
-
 unfoldable pub refusal10 : Line ℕ → Option ℕ
 refusal10 l = least (flat (λ k. dueAt (unknownOrLabile (k .kind) && onlyInfo k) (k .at)) (l .brackets))
 
 -- ---- 11, at "the bracket"
-abbrev pub isUnknown : Kind → Bool
-isUnknown Unknown = true
-isUnknown Labile = false
-isUnknown NTerm = false
-isUnknown OnResidue = false
-isUnknown OnRange = false
-isUnknown CTerm = false
-
 -- "second label in a bracket"
 abbrev pub secondLabel : {P : Type 0} → Bracket P → Bool
 secondLabel k = ltb 1 (length (namesOf k))
-
--- one of the names is among the others
-unfoldable pub shared : List (List ℕ) → List (List ℕ) → Bool
-shared [] others = false
-shared (x ∷ l) others = among x others || shared l others
 
 -- "label defined again": by a bracket before this one
 abbrev pub definedAgain : {P : Type 0} → List (List ℕ) → Bracket P → Bool

@@ -10,14 +10,13 @@ use Rattle.scope.specs.declared.grammar.Section.{Section}
 use Rattle.scope.specs.declared.grammar.Section.the-variants.{Plain, RangeFirst, RangeNext, UnsureFirst, UnsureNext}
 use Rattle.scope.specs.declared.grammar.Kind.{Kind}
 use Rattle.scope.specs.declared.grammar.Kind.the-variants.{Unknown, Labile, NTerm, OnResidue, OnRange, CTerm}
-use Rattle.scope.specs.Bytes.{same}
+use Rattle.scope.specs.Bytes.{value}
+use Rattle.scope.specs.Lists.{same, given, flat, optional, part, tabled, padded}
 use Rattle.scope.specs.Limits.{lineLimit, residueLimit, bracketLimit, partLimit, decimalLimit}
 use Rattle.scope.specs.Line.{Number, Label, Value, mass, text, reference, Part, Bracket, Residue, Line}
 use Rattle.scope.specs.Keys.{keyCode, keyIn}
-use Rattle.scope.specs.Content.{given}
-use Rattle.scope.specs.Modifications.{flat}
 use Rattle.scope.specs.Refusals.{textIn, textOf}
-use Rattle.scope.specs.Canonical.{kindCode}
+use Rattle.scope.specs.Kinds.{kindCode, kindIn}
 
 -- ---- what the tables hold: a line without its places. "The sign of zero, leading zeros, `^1` and the splitting of unknown runs are not kept."
 abbrev pub Tables : Type 0
@@ -25,10 +24,6 @@ Tables = Line (Unit {0})
 
 abbrev pub bareNumber : {P : Type 0} → Number P → Number (Unit {0})
 bareNumber n = record { minus = n .minus; digits = n .digits; decimals = n .decimals; at = tt }
-
-abbrev pub optional : {A B : Type 0} → (A → B) → Option A → Option B
-optional f none = none
-optional f (some x) = some (f x)
 
 abbrev pub bareLabel : {P : Type 0} → Label P → Label (Unit {0})
 bareLabel l = record { name = l .name; score = optional bareNumber (l .score); at = tt }
@@ -95,10 +90,6 @@ abbrev pub numbersSize : ℕ
 numbersSize = bracketLimit * numberRowSize
 
 -- ---- the areas of tables
--- "unused room is zero"
-abbrev pub padded : {A : Type 0} → A → ℕ → List A → List A
-padded z n l = l ++ replicate (n - length l) z
-
 abbrev pub sectionCode : Section → ℕ
 sectionCode Plain = 0
 sectionCode RangeFirst = 1
@@ -186,16 +177,9 @@ numberRow k = padded (pos 0) partLimit (map (λ p. massIn (p .value)) (k .parts)
 unfoldable pub numbersOf : {P : Type 0} → Line P → List ℤ
 numbersOf t = padded (pos 0) numbersSize (flat numberRow (t .brackets))
 
--- "Success leaves output past the written bytes .. unchanged": an area that begins with l now
-abbrev pub laid : {A : Type 0} → List A → List A → List A
-laid l old = l ++ drop (length l) old
-
 -- ---- the tables in areas, whatever they hold
 abbrev pub sectionIn : ℕ → Section
 sectionIn c = getD (Plain ∷ RangeFirst ∷ RangeNext ∷ UnsureFirst ∷ UnsureNext ∷ []) c Plain
-
-abbrev pub kindIn : ℕ → Kind
-kindIn c = getD (Unknown ∷ Labile ∷ NTerm ∷ OnResidue ∷ OnRange ∷ CTerm ∷ []) (c - 1) Unknown
 
 abbrev pub isNegative : ℤ → Bool
 isNegative (pos m) = false
@@ -203,15 +187,6 @@ isNegative (negsuc m) = true
 
 abbrev pub numberIn : ℤ → ℕ → Number (Unit {0})
 numberIn m d = record { minus = isNegative m; digits = natAbs m / 10 ^ (decimalLimit - d); decimals = d; at = tt }
-
--- so many elements from a place on
-abbrev pub part : {A : Type 0} → ℕ → ℕ → List A → List A
-part at n l = take n (drop at l)
-
--- f at i, i + 1, .., for n places
-unfoldable pub tabled : {A : Type 0} → (ℕ → A) → ℕ → ℕ → List A
-tabled f i zero = []
-tabled f i (suc n) = f i ∷ tabled f (i + 1) n
 
 abbrev pub byteAt : List ℕ → ℕ → ℕ
 byteAt bs i = getD bs i 0

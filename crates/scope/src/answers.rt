@@ -65,20 +65,25 @@ impl Placement {
     }
 }
 
-// The listing in hand: fresh, with zeros; or the placement last handed out.
+// The listing in hand: marked fresh, with zeros; or unmarked, with the placement last handed out.
 #[repr(C)]
 pub struct Listing {
     pub at: [u8; Placement::COPIES],
-    pub fresh: bool,
+    pub mark: u8,
 }
 
 impl Listing {
+    // the marks of a record
+    pub const FRESH: u8 = 1;
+
+    pub const UNMARKED: u8 = 0;
+
     pub fn new() -> Self
         ensures { λ r. ⌜ r ≡ freshListing ⌝ }
     {
         Self {
             at: [0; Placement::COPIES],
-            fresh: true,
+            mark: Self::FRESH,
         }
     }
 }

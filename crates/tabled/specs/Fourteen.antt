@@ -13,8 +13,7 @@ use lib.Seq.{take-all, take-append-seam}
 use Rattle.scope.specs.declared.answers.Read.{Read}
 use Rattle.scope.specs.declared.answers.Read.the-variants.{Accepted, Refused}
 use Rattle.scope.specs.Limits.{lineLimit}
-use Rattle.scope.specs.Bytes.{same}
-use Rattle.scope.specs.Content.{given}
+use Rattle.scope.specs.Lists.{same, given}
 use Rattle.scope.specs.Refusals.{Due, due, Outcome, accepted, refused, firstDue, refusal1, refusal2, refusal3, judged, outcome}
 use Rattle.scope.specs.Reading.{reading}
 use Rattle.scope.specs.Canonical.{canonical}

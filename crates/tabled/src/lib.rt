@@ -10,7 +10,7 @@ ghost use mathlib.Core.Path.{_≡_};
 ghost use mathlib.Core.Bool.{_&&_};
 ghost use Prim.Native.Nat.{_≤_};
 ghost use lib.ListN.{length, take};
-ghost use Rattle.scope.specs.Bytes.{same};
+ghost use Rattle.scope.specs.Lists.{same};
 ghost use Rattle.scope.specs.Limits.{lineLimit};
 ghost use Rattle.scope.specs.Refusals.{outcome};
 ghost use Rattle.scope.specs.Tables.{bytesSize, numbersSize, tablesIn};

@@ -6,7 +6,8 @@ use mathlib.Core.Option.{Option, none, some}
 use mathlib.Core.List.{List, [], _∷_}
 use native.Mathlib.Omega.{arith}
 use lib.ListN.{length, drop, length-drop}
-use Rattle.scope.specs.Content.{given, textStep}
+use Rattle.scope.specs.Lists.{given}
+use Rattle.scope.specs.Content.{textStep}
 use Rattle.texts.specs.declared.TextEnd.{TextEnd}
 use Rattle.texts.specs.declared.TextEnd.the-variants.{Ends, Stuck}
 use Rattle.texts.specs.Texts.{stopped, scanText}

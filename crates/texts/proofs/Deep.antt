@@ -9,9 +9,8 @@ use lib.Dec.{leb}
 use lib.ListN.{length, getD}
 use borrow.Author.Tests.{leb-false}
 use Rattle.scope.specs.Bytes.{isOpening, isShutting}
-use Rattle.scope.specs.Content.{given}
+use Rattle.scope.specs.Lists.{given, part}
 use Rattle.scope.specs.Limits.{depthLimit}
-use Rattle.scope.specs.Tables.{part}
 use Rattle.scope.specs.Refusals.{dueAt, least, depthAfter, tooDeep}
 use Rattle.classes.proofs.Same.{part-cons}
 use Rattle.texts.specs.Texts.{opensTooDeep}

@@ -7,7 +7,8 @@ use mathlib.Core.List.{List, [], _∷_}
 use lib.ListN.{length, getD, drop}
 use borrow.Author.Tests.{eq-eqb, ne-eqb}
 use Rattle.scope.specs.Bytes.{isPrintable, isOpening, isShutting, closerOf}
-use Rattle.scope.specs.Content.{given, textStep}
+use Rattle.scope.specs.Lists.{given}
+use Rattle.scope.specs.Content.{textStep}
 use Rattle.classes.specs.Runs.{span}
 use Rattle.classes.proofs.Runs.{run-next}
 use Rattle.texts.specs.declared.TextEnd.the-variants.{Ends, Stuck}

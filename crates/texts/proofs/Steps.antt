@@ -11,7 +11,8 @@ use lib.ListN.{length, getD, drop, drop-of-length-le}
 use lib.Seq.{drop-cons, drop-drop}
 use borrow.Author.Tests.{ne-eqb, eqb-true, not-true}
 use Rattle.scope.specs.Bytes.{isPrintable, isOpening, isShutting}
-use Rattle.scope.specs.Content.{given, isPlain, textStep}
+use Rattle.scope.specs.Lists.{given}
+use Rattle.scope.specs.Content.{isPlain, textStep}
 use Rattle.classes.proofs.Classes.{both}
 use Rattle.classes.specs.Runs.{span}
 use Rattle.texts.specs.Texts.{stopped, scanText, isOuter, isInner}

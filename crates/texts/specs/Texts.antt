@@ -7,7 +7,8 @@ use lib.Dec.{eqb, leb}
 use lib.ListN.{length, drop}
 use Rattle.scope.specs.Bytes.{isPrintable, isOpening, isShutting, colon, hash}
 use Rattle.scope.specs.Limits.{depthLimit}
-use Rattle.scope.specs.Content.{given, isPlain, textStep}
+use Rattle.scope.specs.Lists.{given}
+use Rattle.scope.specs.Content.{isPlain, textStep}
 use Rattle.texts.specs.declared.TextEnd.{TextEnd}
 use Rattle.texts.specs.declared.TextEnd.the-variants.{Ends, Stuck}
 

@@ -10,7 +10,7 @@ use lib.Seq.{drop-cons}
 use native.Mathlib.Numerals.{add-one}
 use Rattle.basics.specs.Choice.{by-test}
 use Rattle.scope.specs.Bytes.{isPrintable}
-use Rattle.scope.specs.Content.{given}
+use Rattle.scope.specs.Lists.{given}
 use Rattle.scope.specs.Refusals.{dueAt, least, unprintable, refusal3}
 use Rattle.places.specs.Places.{coded}
 

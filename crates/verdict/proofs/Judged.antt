@@ -7,11 +7,11 @@ use Prim.Native.Nat.{ℕ, _-_, _<_, _≤_}
 use native.Mathlib.Omega.{arith}
 use lib.ListN.{length}
 use Rattle.scope.specs.Line.{Value, mass, text, reference, Part, Bracket, Line}
-use Rattle.scope.specs.Content.{given, isReference}
-use Rattle.scope.specs.Reading.{Reading, stuck, holds, reading}
+use Rattle.scope.specs.Lists.{given, all}
+use Rattle.scope.specs.Content.{isReference}
+use Rattle.scope.specs.Reading.{Reading, stuck, holds, reading, refers?}
 use Rattle.scope.specs.declared.grammar.Key.the-variants.{Info}
-use Rattle.scope.specs.Reading.{refers?}
-use Rattle.scope.specs.Modifications.{all, isKey, onlyInfo, isReferring}
+use Rattle.scope.specs.Modifications.{isKey, onlyInfo, isReferring}
 use Rattle.scope.specs.Refusals.{refusal5, refusal6, refusal7, refusal8, refusal9, refusal10, refusal11, refusal12, Due, due, firstDue, Outcome, accepted, refused, judged}
 use Rattle.scope.specs.Answers.{Said, good, refuses, saysOutcome}
 use Rattle.scope.specs.Limits.{bracketLimit}

@@ -10,7 +10,7 @@ use lib.Dec.{leb, ltb}
 use lib.ListN.{length}
 use Rattle.scope.specs.Bytes.{isPrintable}
 use Rattle.scope.specs.Limits.{lineLimit}
-use Rattle.scope.specs.Content.{given, none?}
+use Rattle.scope.specs.Lists.{given, none?}
 use Rattle.scope.specs.Reading.{Reading, stuck, reading}
 use Rattle.scope.specs.Refusals.{dueAt, least, unprintable, refusal1, refusal2, refusal3, firstDue, Outcome, accepted, refused, judged, outcome}
 use Rattle.scope.specs.Answers.{Said, good, refuses, saysOutcome}

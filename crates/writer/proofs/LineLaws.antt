@@ -16,9 +16,10 @@ use Rattle.scope.specs.declared.grammar.Kind.the-variants.{Unknown, Labile, NTe
 use Rattle.scope.specs.Bytes.{question, dash}
 use Rattle.scope.specs.Limits.{residueLimit}
 use Rattle.scope.specs.Line.{Bracket, Residue}
-use Rattle.scope.specs.Canonical.{squareText, curlyText, unknownText, kindCode, ofKind, endingAt, closedBy, ledBy, opening, ending, isNext, goesOn, sequenceText, canonical}
-use Rattle.scope.specs.Modifications.{keep, flat}
-use Rattle.scope.specs.Tables.{tabled, byteAt, rowAt, sectionIn, sectionsAt, lettersAt, residueIn, bracketIn, tablesIn, laid}
+use Rattle.scope.specs.Canonical.{squareText, curlyText, unknownText, ofKind, endingAt, closedBy, ledBy, opening, ending, isNext, goesOn, sequenceText, canonical}
+use Rattle.scope.specs.Kinds.{kindCode}
+use Rattle.scope.specs.Lists.{keep, flat, tabled, laid}
+use Rattle.scope.specs.Tables.{byteAt, rowAt, sectionIn, sectionsAt, lettersAt, residueIn, bracketIn, tablesIn}
 use Rattle.areas.specs.Bounds.{Bounds}
 use Rattle.writer.specs.Written.{Puts, WholeLine, ceiling}
 use Rattle.writer.specs.Ranks.{rankOf, rank, rankIn, Ready, rankedText, runText, Walks, residueText, Spelt, Clear, Bare, Spells}

@@ -11,11 +11,11 @@ use borrow.Author.Tests.{eq-eqb, ne-eqb}
 use Rattle.scope.specs.declared.grammar.Key.the-variants.{NoKey}
 use Rattle.scope.specs.Bytes.{openRound, shutRound, hash, bar}
 use Rattle.scope.specs.Canonical.{massText, scoreText, valueText, labelText, partText}
-use Rattle.scope.specs.Content.{given}
+use Rattle.scope.specs.Lists.{given, part}
 use Rattle.scope.specs.Keys.{written, spell, keys, keyIn}
 use Rattle.scope.specs.Limits.{decimalLimit, partLimit}
 use Rattle.scope.specs.Line.{Part}
-use Rattle.scope.specs.Tables.{part, byteAt, rowAt, partAt, textsAt, textFrom, numberRowSize, isNegative, scoreIn, labelIn, valueIn, partIn}
+use Rattle.scope.specs.Tables.{byteAt, rowAt, partAt, textsAt, textFrom, numberRowSize, isNegative, scoreIn, labelIn, valueIn, partIn}
 use Rattle.writer.specs.Written.{numberOf, scoredText, nextText}
 
 -- ---- keys

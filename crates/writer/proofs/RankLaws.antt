@@ -15,7 +15,9 @@ use Rattle.scope.specs.declared.grammar.Kind.the-variants.{Unknown, Labile, NTe
 use Rattle.scope.specs.Line.{Part, Bracket}
 use Rattle.scope.specs.Bytes.{bar}
 use Rattle.scope.specs.Canonical.{partText, partsText}
-use Rattle.scope.specs.Tables.{tabled, byteAt, rowAt, kindIn, bracketIn, tablesIn}
+use Rattle.scope.specs.Lists.{tabled}
+use Rattle.scope.specs.Tables.{byteAt, rowAt, bracketIn, tablesIn}
+use Rattle.scope.specs.Kinds.{kindIn}
 use Rattle.areas.specs.Bounds.{Bounds}
 use Rattle.writer.specs.Here.{BracketHere, PartHere}
 use Rattle.writer.specs.Written.{nextText}

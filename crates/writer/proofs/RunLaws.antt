@@ -11,8 +11,8 @@ use borrow.Author.Tests.{eq-eqb, ne-eqb, leb-true, leb-false}
 use Rattle.basics.specs.Choice.{took, passed, by-test}
 use Rattle.scope.specs.Line.{Bracket}
 use Rattle.scope.specs.Canonical.{squareText, curlyText, countText}
-use Rattle.scope.specs.Modifications.{keep, flat}
-use Rattle.scope.specs.Tables.{tabled, byteAt, rowAt, bracketIn, tablesIn}
+use Rattle.scope.specs.Lists.{keep, flat, tabled}
+use Rattle.scope.specs.Tables.{byteAt, rowAt, bracketIn, tablesIn}
 use Rattle.basics.specs.Lists.{keep-append, flat-append}
 use Rattle.writer.specs.Written.{Puts}
 use Rattle.writer.specs.Ranks.{rank, rankIn, Ready, textAs, rankedText, runText, Walks}

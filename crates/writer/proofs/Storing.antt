@@ -7,7 +7,7 @@ use native.Mathlib.Numerals.{add-one}
 use native.Mathlib.Omega.{arith}
 use lib.ListN.{length, set, take, drop, getD, length-append, length-drop, length-set}
 use lib.Seq.{set-out, drop-nil, take-suc, getD-drop}
-use Rattle.scope.specs.Tables.{part}
+use Rattle.scope.specs.Lists.{part}
 use Rattle.writer.specs.Written.{stored, Puts}
 
 -- ---- runs of stores

@@ -8,9 +8,10 @@ use lib.IntN.{ℤ}
 use Rattle.scope.specs.declared.grammar.Kind.{Kind}
 use Rattle.scope.specs.declared.grammar.Kind.the-variants.{Unknown, Labile, NTerm, OnResidue, OnRange, CTerm}
 use Rattle.scope.specs.Line.{Bracket, Residue, Line}
-use Rattle.scope.specs.Modifications.{keep, flat}
+use Rattle.scope.specs.Lists.{keep, flat, tabled}
 use Rattle.scope.specs.Canonical.{unknownText, curlyText, squareText, endingAt, opening, ending, goesOn, sequenceText}
-use Rattle.scope.specs.Tables.{tabled, byteAt, rowAt, kindIn, sectionsAt, residueIn, tablesIn}
+use Rattle.scope.specs.Tables.{byteAt, rowAt, sectionsAt, residueIn, tablesIn}
+use Rattle.scope.specs.Kinds.{kindIn}
 use Rattle.areas.specs.Bounds.{Bounds}
 use Rattle.writer.specs.Written.{Puts}
 pub use Rattle.order_laws.specs.Ranks.{rankOf, rank, Ordered}

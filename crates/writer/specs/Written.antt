@@ -9,7 +9,7 @@ use mathlib.Core.Option.{Option}
 use lib.Dec.{eqb}
 use Rattle.scope.specs.Bytes.{plus, dash, openRound, shutRound, bar}
 use Rattle.scope.specs.Line.{Number, Part}
-use Rattle.scope.specs.Content.{given}
+use Rattle.scope.specs.Lists.{given}
 use Rattle.scope.specs.Canonical.{massText, scoreText, partText}
 
 -- the output after a run of bytes was stored from a place on, as far as there is room

@@ -1,6 +1,6 @@
 -- `brackets::kind_of` meets its contract. Assumes nothing.
 use mathlib.Core.Path.{sym, ap}
-use Rattle.scope.specs.Tables.{kindIn}
+use Rattle.scope.specs.Kinds.{kindIn}
 use Rattle.brackets.proofs.Laws.{other-kind}
 use Rattle.brackets.proofs.kind_of.Statement.{statement}
 use Rattle.brackets.proofs.kind_of.Tie as tie

@@ -1,5 +1,5 @@
 use Rattle.scope.specs.Keys.{spell, keys}
-use Rattle.scope.specs.Modifications.{keep}
+use Rattle.scope.specs.Lists.{keep}
 use Rattle.keywords.proofs.ByLength.{key-in, key-one, key-none}
 use borrow.Author.Needs.{needs}
 use Rattle.keywords.proofs.key_in.Statement.{statement}

@@ -45,7 +45,8 @@ use denote.Triple.Walked.{says, Stays, gave-slice, stay-none-slice, walkOf, goes
 use denote.Triple.Clauses.{ensured, lasts}
 use denote.Exit.{yes}
 use Rattle.scope.specs.Limits.{positionLimit}
-use Rattle.scope.specs.Tables.{laid, tablesIn}
+use Rattle.scope.specs.Lists.{laid}
+use Rattle.scope.specs.Tables.{tablesIn}
 use Rattle.scope.specs.Positions.{rowsFrom}
 use Rattle.scope.specs.Answers.{saysCount, rowsSaid, rowsAfter}
 use Rattle.areas.specs.Floats.{listsIn, Sized}

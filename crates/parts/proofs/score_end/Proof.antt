@@ -1,6 +1,6 @@
 use borrow.Author.Needs.{needs}
 use Rattle.parts.specs.Says.{ShutBy, scoreEnd}
-use Rattle.scope.specs.Tables.{part}
+use Rattle.scope.specs.Lists.{part}
 use Prim.Native.Nat.{_-_}
 use mathlib.Core.Path.{refl}
 use mathlib.Core.Option.{some}

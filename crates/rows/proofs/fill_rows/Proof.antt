@@ -51,7 +51,7 @@ use denote.Triple.Clauses.{ensured, lasts}
 use denote.Exit.{yes}
 use Rattle.scope.specs.Limits.{positionLimit}
 use Rattle.scope.specs.Positions.{rowsFrom}
-use Rattle.scope.specs.Tables.{laid}
+use Rattle.scope.specs.Lists.{laid}
 use Rattle.areas.specs.Floats.{listsIn, Sized}
 use Rattle.rows.specs.Places.{onesFrom, siteOf}
 use Rattle.rows.proofs.Truth.{holds, fails}

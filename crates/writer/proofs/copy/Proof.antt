@@ -2,7 +2,7 @@
 use Prim.Native.Nat.{_-_, _≤_}
 use mathlib.Core.Path.{_≡_, sym}
 use native.Mathlib.Omega.{arith}
-use Rattle.scope.specs.Tables.{part}
+use Rattle.scope.specs.Lists.{part}
 use Rattle.writer.specs.Written.{Puts}
 use Rattle.writer.proofs.Storing.{puts-none, puts-of, puts-join, puts-length, part-more}
 use borrow.Author.Needs.{needs}

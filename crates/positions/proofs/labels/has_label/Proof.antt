@@ -1,8 +1,9 @@
 -- `positions::labels::has_label` meets its contract. Assumes nothing.
 use mathlib.Core.Path.{_∙_}
 use Prim.Native.Nat.{_-_}
-use Rattle.scope.specs.Modifications.{among, nameOf}
-use Rattle.scope.specs.Tables.{part, partIn}
+use Rattle.scope.specs.Lists.{among, part}
+use Rattle.scope.specs.Modifications.{nameOf}
+use Rattle.scope.specs.Tables.{partIn}
 use Rattle.positions.proofs.Any.{Unfound, unfound-start, unfound-next, unfound-end, found}
 use Rattle.positions.proofs.Names.{among-names}
 use borrow.Author.Needs.{needs}

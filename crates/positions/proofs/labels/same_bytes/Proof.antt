@@ -1,7 +1,6 @@
 -- `positions::labels::same_bytes` meets its contract. Assumes nothing.
 use mathlib.Core.Path.{sym, ap, _∙_}
-use Rattle.scope.specs.Bytes.{same}
-use Rattle.scope.specs.Tables.{part}
+use Rattle.scope.specs.Lists.{same, part}
 use Rattle.positions.proofs.Names.{same-not}
 use borrow.Author.Needs.{needs}
 use Rattle.positions.proofs.labels.same_bytes.Statement.{statement}

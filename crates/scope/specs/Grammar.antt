@@ -1,37 +1,27 @@
--- The grammar of lines, apart from any reader: what may be spelled how, as trees with every freedom of spelling; the bytes that a tree prints;
--- whether it is good; and what it means. Each `means..` takes the place at which its text begins, and so gives every residue, bracket, part, label,
--- number and count its place: the number of bytes that are printed before it. Of the reader's own files it cites only the value of a digit and two
--- tests, of an empty list and of a byte of an accession.
+-- "What a line may hold": the grammar of lines, apart from any reader. Trees with every freedom of spelling; the bytes that a tree prints; whether it
+-- is good; and what it means. Each `means..` takes the place at which its text begins, and so gives every residue, bracket, part, label, number and
+-- count its place: the number of bytes that are printed before it.
 use Prim.Native.Nat.{ℕ, _+_, _*_}
 use mathlib.Core.Bool.{Bool, true, false, not, cond, _&&_, _||_}
 use mathlib.Core.Option.{Option, none, some}
 use mathlib.Core.List.{List, [], _∷_, _++_}
 use lib.Dec.{eqb}
 use lib.ListN.{length}
 use Rattle.scope.specs.declared.grammar.Key.{Key}
 use Rattle.scope.specs.declared.grammar.Key.the-variants.{NoKey}
 use Rattle.scope.specs.declared.grammar.Section.{Section}
 use Rattle.scope.specs.declared.grammar.Section.the-variants.{Plain, RangeFirst, RangeNext, UnsureFirst, UnsureNext}
 use Rattle.scope.specs.declared.grammar.Kind.{Kind}
 use Rattle.scope.specs.declared.grammar.Kind.the-variants.{Unknown, Labile, NTerm, OnResidue, OnRange, CTerm}
-use Rattle.scope.specs.Bytes.{upper, isLetter, caret, question, isPrintable, isDigit, isAlnum, isSign, isOpening, isShutting, shutSquare, openSquare, shutCurly, openCurly, bar, hash, colon, plus, dash, dot, openRound, shutRound, sameFolded}
+use Rattle.scope.specs.Lists.{there?, none?, all, flat}
+use Rattle.scope.specs.Bytes.{upper, value, isLetter, caret, question, isPrintable, isDigit, isAlnum, isSign, isOpening, isShutting, shutSquare, openSquare, shutCurly, openCurly, bar, hash, colon, plus, dash, dot, openRound, shutRound, sameFolded}
 use Rattle.scope.specs.Line.{Number, Label, Value, mass, text, reference, Part, Bracket, Residue, Line}
-use Rattle.scope.specs.Keys.{spell, keyOf, Form, massOrName, massOnly, digits, alnums, free, form}
-use Rattle.scope.specs.Content.{value, none?, accessionByte}
+use Rattle.scope.specs.Keys.{spell, keyOf, Form, massOrName, massOnly, digits, alnums, free, form, accessionByte}
 
 -- ---- lists of bytes
--- each byte passes
-unfoldable pub allOf : (ℕ → Bool) → List ℕ → Bool
-allOf f [] = true
-allOf f (b ∷ l) = f b && allOf f l
-
 -- one or more, and each passes
 abbrev pub someOf : (ℕ → Bool) → List ℕ → Bool
-someOf f l = not (none? l) && allOf f l
-
-abbrev pub there? : {A : Type 0} → Option A → Bool
-there? none = false
-there? (some x) = true
+someOf f l = not (none? l) && all f l
 
 -- ---- numbers: "digits, perhaps `.` and digits", leading zeros allowed
 pub record Numeral : Type 0 where
@@ -283,11 +273,6 @@ printSquare x = openSquare ∷ (printInside x ++ (shutSquare ∷ []))
 abbrev pub printCurly : Inside → List ℕ
 printCurly x = openCurly ∷ (printInside x ++ (shutCurly ∷ []))
 
--- the texts of all elements, in order
-unfoldable pub each : {A B : Type 0} → (A → List B) → List A → List B
-each f [] = []
-each f (x ∷ l) = f x ++ each f l
-
 -- what all elements mean, in order, the first at the place i and each behind the text of the one before it
 unfoldable pub along : {A B : Type 0} → (A → List ℕ) → (ℕ → A → B) → ℕ → List A → List B
 along prints f i [] = []
@@ -298,19 +283,15 @@ unfoldable pub eachAlong : {A B : Type 0} → (A → List ℕ) → (ℕ → A �
 eachAlong prints f i [] = []
 eachAlong prints f i (x ∷ l) = f i x ++ eachAlong prints f (i + length (prints x)) l
 
-unfoldable pub every : {A : Type 0} → (A → Bool) → List A → Bool
-every f [] = true
-every f (x ∷ l) = f x && every f l
-
 abbrev pub printSquares : List Inside → List ℕ
-printSquares xs = each printSquare xs
+printSquares xs = flat printSquare xs
 
 -- "A reference may not stand in an unknown run, in `{}` or on a range."
 abbrev pub goodSquares : Bool → List Inside → Bool
-goodSquares references xs = every (goodInside shutSquare references) xs
+goodSquares references xs = all (goodInside shutSquare references) xs
 
 abbrev pub goodCurlies : List Inside → Bool
-goodCurlies xs = every (goodInside shutCurly false) xs
+goodCurlies xs = all (goodInside shutCurly false) xs
 
 -- a bracket on the positions first to last; its `[` or `{` is at the place i
 abbrev pub bracketAt : Kind → ℕ → ℕ → ℕ → Inside → Bracket ℕ
@@ -355,10 +336,10 @@ abbrev pub marks : Run → List Marked
 marks r = r .first ∷ r .more
 
 abbrev pub printRun : Run → List ℕ
-printRun r = each printMarked (marks r) ++ (question ∷ [])
+printRun r = flat printMarked (marks r) ++ (question ∷ [])
 
 abbrev pub goodRun : Run → Bool
-goodRun r = every goodMarked (marks r)
+goodRun r = all goodMarked (marks r)
 
 abbrev pub meansRun : ℕ → Run → List (Bracket ℕ)
 meansRun i r = along printMarked meansMarked i (marks r)
@@ -379,8 +360,8 @@ printSpot s = s .letter ∷ printSquares (s .brackets)
 
 abbrev pub printElement : Element → List ℕ
 printElement (single s) = printSpot s
-printElement (range s ss x xs) = openRound ∷ (each printSpot (s ∷ ss) ++ (shutRound ∷ printSquares (x ∷ xs)))
-printElement (unsure s ss) = openRound ∷ (question ∷ (each printSpot (s ∷ ss) ++ (shutRound ∷ [])))
+printElement (range s ss x xs) = openRound ∷ (flat printSpot (s ∷ ss) ++ (shutRound ∷ printSquares (x ∷ xs)))
+printElement (unsure s ss) = openRound ∷ (question ∷ (flat printSpot (s ∷ ss) ++ (shutRound ∷ [])))
 
 -- "one-letter residues (all 26 letters ..)", in either case
 abbrev pub goodSpot : Spot → Bool
@@ -388,8 +369,8 @@ goodSpot s = isLetter (s .letter) && goodSquares true (s .brackets)
 
 abbrev pub goodElement : Element → Bool
 goodElement (single s) = goodSpot s
-goodElement (range s ss x xs) = every goodSpot (s ∷ ss) && goodSquares false (x ∷ xs)
-goodElement (unsure s ss) = every goodSpot (s ∷ ss)
+goodElement (range s ss x xs) = all goodSpot (s ∷ ss) && goodSquares false (x ∷ xs)
+goodElement (unsure s ss) = all goodSpot (s ∷ ss)
 
 -- "residues in upper case with their section"
 abbrev pub residueOf : Section → ℕ → Spot → Residue ℕ
@@ -415,7 +396,7 @@ abbrev pub bracketsIn : ℕ → ℕ → Element → List (Bracket ℕ)
 bracketsIn n i (single s) = bracketsOn (n + 1) i (s ∷ [])
 bracketsIn n i (range s ss x xs) =
     bracketsOn (n + 1) (i + 1) (s ∷ ss)
-    ++ meansSquares OnRange (n + 1) (n + 1 + length ss) (i + 1 + length (each printSpot (s ∷ ss)) + 1) (x ∷ xs)
+    ++ meansSquares OnRange (n + 1) (n + 1 + length ss) (i + 1 + length (flat printSpot (s ∷ ss)) + 1) (x ∷ xs)
 bracketsIn n i (unsure s ss) = bracketsOn (n + 1) (i + 1 + 1) (s ∷ ss)
 
 unfoldable pub bracketsAlong : ℕ → ℕ → List Element → List (Bracket ℕ)
@@ -444,23 +425,23 @@ printBack [] = []
 printBack (x ∷ xs) = dash ∷ printSquares (x ∷ xs)
 
 abbrev pub print : Spelling → List ℕ
-print t = each printRun (t .runs) ++ (each printCurly (t .labiles) ++ (printFront (t .front) ++ (each printElement (elements t) ++ printBack (t .back))))
+print t = flat printRun (t .runs) ++ (flat printCurly (t .labiles) ++ (printFront (t .front) ++ (flat printElement (elements t) ++ printBack (t .back))))
 
 abbrev pub good : Spelling → Bool
-good t = every goodRun (t .runs) && (goodCurlies (t .labiles) && (goodSquares true (t .front) && (every goodElement (elements t) && goodSquares true (t .back))))
+good t = all goodRun (t .runs) && (goodCurlies (t .labiles) && (goodSquares true (t .front) && (all goodElement (elements t) && goodSquares true (t .back))))
 
 -- of a line that begins at the place i: where its labile brackets, its N-terminal ones, its sequence, and what stands behind it begin
 abbrev pub atLabiles : ℕ → Spelling → ℕ
-atLabiles i t = i + length (each printRun (t .runs))
+atLabiles i t = i + length (flat printRun (t .runs))
 
 abbrev pub atFront : ℕ → Spelling → ℕ
-atFront i t = atLabiles i t + length (each printCurly (t .labiles))
+atFront i t = atLabiles i t + length (flat printCurly (t .labiles))
 
 abbrev pub atSequence : ℕ → Spelling → ℕ
 atSequence i t = atFront i t + length (printFront (t .front))
 
 abbrev pub atBack : ℕ → Spelling → ℕ
-atBack i t = atSequence i t + length (each printElement (elements t))
+atBack i t = atSequence i t + length (flat printElement (elements t))
 
 abbrev pub residuesOf : ℕ → Spelling → List (Residue ℕ)
 residuesOf i t = eachAlong printElement residuesIn (atSequence i t) (elements t)

@@ -8,7 +8,7 @@ use Rattle.scope.specs.declared.grammar.Key.the-variants.{NoKey, U}
 use Rattle.scope.specs.Bytes.{bytes, sameFolded, upper}
 use Rattle.scope.specs.Line.{Label, Line}
 use Rattle.scope.specs.Keys.{spell}
-use Rattle.scope.specs.Lists.{given, flat, all as every, flat as each}
+use Rattle.scope.specs.Lists.{given, flat, all as every}
 use Rattle.scope.specs.Grammar.{Numeral, over, byte, square, printText, goodText, Word, leadKey, delta, wording, printPieces, goodPieces, Inside, parts, refers, Spot, single, unsure, along, eachAlong, meansPieces, bracketsOn, bracketsAlong, valueOn, Spelling, print, good, means}
 
 abbrev none-first : Word
@@ -67,7 +67,7 @@ nested =
     }
 
 pub examples : (print zeros ≡ bytes "a[+01.50]") × (good zeros ≡ true) × (print twice ≡ bytes "[+1]^2?AC") × (good twice ≡ true) × (print nested ≡ bytes "[#a]-(?AC[u:x[|]])") × (good nested ≡ true)
-unfolding each every printPieces goodPieces printText goodText every leadKey sameFolded spell upper
+unfolding flat every printPieces goodPieces printText goodText leadKey sameFolded spell upper
 examples = (refl, refl, refl, refl, refl, refl)
 
 -- the places of a line's residues, of its brackets, of their parts, of the labels, and of the counts that are written
@@ -87,5 +87,5 @@ abbrev countPlaces : Line ℕ → List (Option ℕ)
 countPlaces l = map (λ k. k .counted) (l .brackets)
 
 pub places : (residuePlaces (means twice) ≡ 7 ∷ 8 ∷ []) × (bracketPlaces (means twice) ≡ 0 ∷ []) × (partPlaces (means twice) ≡ 1 ∷ []) × (countPlaces (means twice) ≡ some 5 ∷ []) × (residuePlaces (means nested) ≡ 7 ∷ 8 ∷ []) × (bracketPlaces (means nested) ≡ 0 ∷ 9 ∷ []) × (partPlaces (means nested) ≡ 1 ∷ 10 ∷ []) × (labelPlaces (means nested) ≡ 2 ∷ [])
-unfolding each along eachAlong printPieces printText meansPieces bracketsOn bracketsAlong valueOn flat
+unfolding flat along eachAlong printPieces printText meansPieces bracketsOn bracketsAlong valueOn
 places = (refl, refl, refl, refl, refl, refl, refl, refl)

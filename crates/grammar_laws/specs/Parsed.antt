@@ -25,7 +25,7 @@ use Rattle.canonical_laws.specs.Brackets.{Place, Parts, context, contentStep, c
 use Rattle.canonical_laws.specs.Runs.{lineRun, line-nil, line-cons, same-mode}
 use Rattle.basics.specs.Tests.{both}
 use Rattle.reading_laws.specs.Acts.{Ending, single-ends, ranged-ends, unsure-ends, cterms-end, ending}
-use Rattle.scope.specs.Lists.{there?, all as every, flat as each}
+use Rattle.scope.specs.Lists.{there?, all as every, flat}
 use Rattle.scope.specs.Grammar.{someOf, Inside, parts, refers, printInside, goodInside, printSquare, printCurly, printSquares, goodSquares, goodCurlies, Marked, printCount, goodCount, printMarked, goodMarked, Run, printRun, goodRun, Spot, Element, single, range, unsure, printSpot, printElement, goodSpot, goodElement, Spelling, elements, printFront, printBack, print, good}
 use Rattle.grammar_laws.specs.Bare.{bareInside}
 use Rattle.grammar_laws.specs.Spelled.{closed-spelled}
@@ -55,7 +55,7 @@ pub record Tail (l : List ℕ) : Type 0 where
   pub good : every goodElement elems ≡ true
   pub back : List Inside
   pub good-back : goodSquares true back ≡ true
-  pub all : l ≡ each printElement elems ++ printBack back
+  pub all : l ≡ flat printElement elems ++ printBack back
 
 pub record Sequence (l : List ℕ) : Type 0 where
   pub first : Element
@@ -68,7 +68,7 @@ pub record Spots (T : List ℕ → Type 0) (l : List ℕ) : Type 0 where
   pub spots : List Spot
   pub good : every goodSpot spots ≡ true
   pub rest : List ℕ
-  pub all : l ≡ each printSpot spots ++ (shutRound ∷ rest)
+  pub all : l ≡ flat printSpot spots ++ (shutRound ∷ rest)
   pub then : T rest
 
 pub record Dashed (l : List ℕ) : Type 0 where
@@ -82,14 +82,14 @@ pub record Curlies (l : List ℕ) : Type 0 where
   pub front : List Inside
   pub good-front : goodSquares true front ≡ true
   pub rest : List ℕ
-  pub all : l ≡ each printCurly labiles ++ (printFront front ++ rest)
+  pub all : l ≡ flat printCurly labiles ++ (printFront front ++ rest)
   pub then : Sequence rest
 
 pub record Whole (l : List ℕ) : Type 0 where
   pub runs : List Run
   pub good : every goodRun runs ≡ true
   pub rest : List ℕ
-  pub all : l ≡ each printRun runs ++ rest
+  pub all : l ≡ flat printRun runs ++ rest
   pub then : Curlies rest
 
 -- the rest of a run, from further brackets on
@@ -97,7 +97,7 @@ pub record Marks (l : List ℕ) : Type 0 where
   pub marked : List Marked
   pub good : every goodMarked marked ≡ true
   pub rest : List ℕ
-  pub all : l ≡ each printMarked marked ++ (question ∷ rest)
+  pub all : l ≡ flat printMarked marked ++ (question ∷ rest)
   pub then : Whole rest
 
 pub record Counts (l : List ℕ) : Type 0 where
@@ -175,19 +175,19 @@ every-nil : {A : Type 0} (f : A → Bool) → every f [] ≡ true
 unfolding every
 every-nil f = refl
 
-each-cons : {A B : Type 0} (f : A → List B) (x : A) (l : List A) → each f (x ∷ l) ≡ f x ++ each f l
-unfolding each
+each-cons : {A B : Type 0} (f : A → List B) (x : A) (l : List A) → flat f (x ∷ l) ≡ f x ++ flat f l
+unfolding flat
 each-cons f x l = refl
 
-each-nil : {A B : Type 0} (f : A → List B) → each f [] ≡ []
-unfolding each
+each-nil : {A B : Type 0} (f : A → List B) → flat f [] ≡ []
+unfolding flat
 each-nil f = refl
 
 -- one text more in front
-each-front : {A : Type 0} (f : A → List ℕ) (x : A) (xs : List A) (l v w : List ℕ) → l ≡ f x ++ v → v ≡ each f xs ++ w → l ≡ each f (x ∷ xs) ++ w
-each-front f x xs l v w e g = e ∙ ap (λ z. f x ++ z) g ∙ sym (append-assoc (f x) (each f xs) w) ∙ ap (λ z. z ++ w) (sym (each-cons f x xs))
+each-front : {A : Type 0} (f : A → List ℕ) (x : A) (xs : List A) (l v w : List ℕ) → l ≡ f x ++ v → v ≡ flat f xs ++ w → l ≡ flat f (x ∷ xs) ++ w
+each-front f x xs l v w e g = e ∙ ap (λ z. f x ++ z) g ∙ sym (append-assoc (f x) (flat f xs) w) ∙ ap (λ z. z ++ w) (sym (each-cons f x xs))
 
-each-none : {A : Type 0} (f : A → List ℕ) (l : List ℕ) → l ≡ each f [] ++ l
+each-none : {A : Type 0} (f : A → List ℕ) (l : List ℕ) → l ≡ flat f [] ++ l
 each-none f l = ap (λ z. z ++ l) (sym (each-nil f))
 
 -- ---- squares
@@ -344,8 +344,8 @@ made-range b l e w =
       all =
           ap (λ z. openRound ∷ z)
           (each-front printSpot s (u .spots) (b ∷ l) (w .rest) (shutRound ∷ u .rest) (ap (λ z. b ∷ z) (w .all)) (u .all)
-          ∙ ap (λ z. each printSpot (s ∷ u .spots) ++ (shutRound ∷ z)) (v .all)
-          ∙ group-all (each printSpot (s ∷ u .spots)) (printSquares (v .one ∷ v .more)) (v .rest));
+          ∙ ap (λ z. flat printSpot (s ∷ u .spots) ++ (shutRound ∷ z)) (v .all)
+          ∙ group-all (flat printSpot (s ∷ u .spots)) (printSquares (v .one ∷ v .more)) (v .rest));
       then = v .then;
     }
 
@@ -360,7 +360,7 @@ made-unsure b l e w =
       all =
           ap (λ z. openRound ∷ (question ∷ z))
           (each-front printSpot s (u .spots) (b ∷ l) (w .rest) (shutRound ∷ u .rest) (ap (λ z. b ∷ z) (w .all)) (u .all)
-          ∙ group-all (each printSpot (s ∷ u .spots)) [] (u .rest));
+          ∙ group-all (flat printSpot (s ∷ u .spots)) [] (u .rest));
       then = u .then;
     }
 
@@ -529,7 +529,7 @@ runs-cons : (b : ℕ) (l : List ℕ) → b ≡ openSquare → Marks (b ∷ l) �
 unfolding head-of
 runs-cons b l e w = go (w .marked) (w .good) (w .all)
   where
-    go : (ms : List Marked) → every goodMarked ms ≡ true → b ∷ l ≡ each printMarked ms ++ (question ∷ w .rest) → Whole (b ∷ l)
+    go : (ms : List Marked) → every goodMarked ms ≡ true → b ∷ l ≡ flat printMarked ms ++ (question ∷ w .rest) → Whole (b ∷ l)
     go [] g a =
         let z : b ≡ question = ap head-of (a ∙ ap (λ v. v ++ (question ∷ w .rest)) (each-nil printMarked)) in
         absurd (omega arith)
@@ -540,7 +540,7 @@ runs-cons b l e w = go (w .marked) (w .good) (w .all)
           runs = r ∷ t .runs;
           good = every-cons goodRun r (t .runs) g (t .good);
           rest = t .rest;
-          all = each-front printRun r (t .runs) (b ∷ l) (w .rest) (t .rest) (a ∙ sym (append-assoc (each printMarked (k ∷ ms)) (question ∷ []) (w .rest))) (t .all);
+          all = each-front printRun r (t .runs) (b ∷ l) (w .rest) (t .rest) (a ∙ sym (append-assoc (flat printMarked (k ∷ ms)) (question ∷ []) (w .rest))) (t .all);
           then = t .then;
         }
 
@@ -702,8 +702,8 @@ spelt l w =
           (both (goodSquares true (c .front)) _ (c .good-front) (both (every goodElement (elements x)) (goodSquares true (t .back)) (every-cons goodElement (s .first) (t .elems) (s .good) (t .good)) (t .good-back))));
       prints =
           w .all
-          ∙ ap (λ z. each printRun (w .runs) ++ z) (c .all
-          ∙ ap (λ z. each printCurly (c .labiles) ++ (printFront (c .front) ++ z)) (each-front printElement (s .first) (t .elems) (c .rest) (s .rest) (printBack (t .back)) (s .all) (t .all)));
+          ∙ ap (λ z. flat printRun (w .runs) ++ z) (c .all
+          ∙ ap (λ z. flat printCurly (c .labiles) ++ (printFront (c .front) ++ z)) (each-front printElement (s .first) (t .elems) (c .rest) (s .rest) (printBack (t .back)) (s .all) (t .all)));
     }
 
 -- what the reader accepts is printed by a good spelling

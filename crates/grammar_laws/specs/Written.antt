@@ -20,7 +20,7 @@ use Rattle.scope.specs.Bytes.{isLetter, isDigit, isShutting, openSquare, shutSq
 use Rattle.scope.specs.Line.{Bracket, Residue}
 use Rattle.scope.specs.Content.{isReference, begin}
 use Rattle.scope.specs.Reading.{square, front, labile, element, further, groupFirst, inGroup, undecided, counted, referred, act, mayEnd, Held, nothing, firstOf, withResidue, firstPosition, lastPosition, settled, waiting, put, withBracket, times, countDigit, withDigit, asNTerm, settledRun, State, outside, inside, perform, refers?, modeAfter, step, run, holds, ended, reading}
-use Rattle.scope.specs.Lists.{onLast, all as every, flat as each}
+use Rattle.scope.specs.Lists.{onLast, all as every, flat}
 use Rattle.canonical_laws.specs.Lists.{pick-true, pick-false}
 use Rattle.basics.specs.Tests.{and-left, and-right}
 use Rattle.scope.specs.Grammar.{someOf, valueOn, Base, delta, code, wording, valueIn, Inside, meansPieces, parts, refers, printInside, goodInside, meansInside, printSquare, printCurly, along, eachAlong, printSquares, goodSquares, goodCurlies, bracketAt, meansSquares, Marked, printCount, goodCount, printMarked, goodMarked, counting, meansMarked, Run, marks, printRun, goodRun, meansRun, Spot, Element, single, range, unsure, printSpot, printElement, goodSpot, goodElement, residueOf, residuesOn, residuesIn, bracketsOn, bracketsIn, bracketsAlong, Spelling, elements, printFront, printBack, print, good, atLabiles, atFront, atSequence, residuesOf, backOf, meansAt, means}
@@ -69,12 +69,12 @@ eachAlong-cons : {A B : Type 0} (p : A → List ℕ) (f : ℕ → A → List B) 
 unfolding eachAlong
 eachAlong-cons p f i x l = refl
 
-each-nil : {A B : Type 0} (f : A → List B) → each f [] ≡ []
-unfolding each
+each-nil : {A B : Type 0} (f : A → List B) → flat f [] ≡ []
+unfolding flat
 each-nil f = refl
 
-each-cons : {A B : Type 0} (f : A → List B) (x : A) (l : List A) → each f (x ∷ l) ≡ f x ++ each f l
-unfolding each
+each-cons : {A B : Type 0} (f : A → List B) (x : A) (l : List A) → flat f (x ∷ l) ≡ f x ++ flat f l
+unfolding flat
 each-cons f x l = refl
 
 every-head : {A : Type 0} (f : A → Bool) (x : A) (l : List A) → every f (x ∷ l) ≡ true → f x ≡ true
@@ -159,7 +159,7 @@ on-one n i s =
 -- further residues of a group
 module _ (m : Mode) (c : Section) (takes : (b : ℕ) → isLetter b ≡ true → act m b ≡ aResidue c m) (own : act m openSquare ≡ Begin (square OnResidue true m)) (next : (here old : ℕ) → firstOf c here old ≡ old) where
   spots-run : (i : ℕ) (ss : List Spot) (h : Held ℕ) → every goodSpot ss ≡ true
-      → lineRun i (outside m h) (each printSpot ss) ≡ outside m (held (h .residues ++ along printSpot (residueOf c) i ss) (h .brackets ++ bracketsOn (length (h .residues) + 1) i ss) (h .run) (h .first))
+      → lineRun i (outside m h) (flat printSpot ss) ≡ outside m (held (h .residues ++ along printSpot (residueOf c) i ss) (h .brackets ++ bracketsOn (length (h .residues) + 1) i ss) (h .run) (h .first))
   spots-run i [] h g =
       ap (lineRun i (outside m h)) (each-nil printSpot) ∙ line-nil i (outside m h)
       ∙ ap (λ z. outside m (held z (h .brackets) (h .run) (h .first))) (sym (append-nil (h .residues)) ∙ ap (λ z. h .residues ++ z) (sym (along-nil printSpot (residueOf c) i)))
@@ -170,7 +170,7 @@ module _ (m : Mode) (c : Section) (takes : (b : ℕ) → isLetter b ≡ true →
       let k : Brackets = meansSquares OnResidue (n + 1) (n + 1) (i + 1) (s .brackets) in
       let h₁ : Held ℕ = held (h .residues ++ (residueOf c i s ∷ [])) (h .brackets ++ k) (h .run) (firstOf c (n + 1) (h .first)) in
       ap (lineRun i (outside m h)) (each-cons printSpot s ss)
-      ∙ line-further i (printSpot s) (each printSpot ss) (outside m h) (outside m h₁) _ (spot-run m m c own i s h (takes (s .letter) (and-left (isLetter (s .letter)) (goodSquares true (s .brackets)) (every-head goodSpot s ss g))) (every-head goodSpot s ss g))
+      ∙ line-further i (printSpot s) (flat printSpot ss) (outside m h) (outside m h₁) _ (spot-run m m c own i s h (takes (s .letter) (and-left (isLetter (s .letter)) (goodSquares true (s .brackets)) (every-head goodSpot s ss g))) (every-head goodSpot s ss g))
       (spots-run j ss h₁ (every-tail goodSpot s ss g))
       ∙ ap (λ z. outside m (held z ((h .brackets ++ k) ++ bracketsOn (length (h .residues ++ (residueOf c i s ∷ [])) + 1) j ss) (h .run) (firstOf c (n + 1) (h .first))))
       (append-assoc (h .residues) (residueOf c i s ∷ []) (along printSpot (residueOf c) j ss) ∙ ap (λ z. h .residues ++ z) (sym (along-cons printSpot (residueOf c) i s ss)))
@@ -180,14 +180,14 @@ module _ (m : Mode) (c : Section) (takes : (b : ℕ) → isLetter b ≡ true →
 
   -- a group, its first residue read in another section
   group-run : (i : ℕ) (m₀ : Mode) (c₀ : Section) (s : Spot) (ss : List Spot) (h : Held ℕ) → ((b : ℕ) → isLetter b ≡ true → act m₀ b ≡ aResidue c₀ m) → ((here old : ℕ) → firstOf c₀ here old ≡ here) → every goodSpot (s ∷ ss) ≡ true
-      → lineRun i (outside m₀ h) (each printSpot (s ∷ ss)) ≡ outside m (held (h .residues ++ residuesOn c₀ c i s ss) (h .brackets ++ bracketsOn (length (h .residues) + 1) i (s ∷ ss)) (h .run) (length (h .residues) + 1))
+      → lineRun i (outside m₀ h) (flat printSpot (s ∷ ss)) ≡ outside m (held (h .residues ++ residuesOn c₀ c i s ss) (h .brackets ++ bracketsOn (length (h .residues) + 1) i (s ∷ ss)) (h .run) (length (h .residues) + 1))
   group-run i m₀ c₀ s ss h takes₀ here g =
       let n = length (h .residues) in
       let j = i + length (printSpot s) in
       let k : Brackets = meansSquares OnResidue (n + 1) (n + 1) (i + 1) (s .brackets) in
       let h₁ : Held ℕ = held (h .residues ++ (residueOf c₀ i s ∷ [])) (h .brackets ++ k) (h .run) (firstOf c₀ (n + 1) (h .first)) in
       ap (lineRun i (outside m₀ h)) (each-cons printSpot s ss)
-      ∙ line-further i (printSpot s) (each printSpot ss) (outside m₀ h) (outside m h₁) _ (spot-run m₀ m c₀ own i s h (takes₀ (s .letter) (and-left (isLetter (s .letter)) (goodSquares true (s .brackets)) (every-head goodSpot s ss g))) (every-head goodSpot s ss g))
+      ∙ line-further i (printSpot s) (flat printSpot ss) (outside m₀ h) (outside m h₁) _ (spot-run m₀ m c₀ own i s h (takes₀ (s .letter) (and-left (isLetter (s .letter)) (goodSquares true (s .brackets)) (every-head goodSpot s ss g))) (every-head goodSpot s ss g))
       (spots-run j ss h₁ (every-tail goodSpot s ss g))
       ∙ ap (λ z. outside m (held z ((h .brackets ++ k) ++ bracketsOn (length (h .residues ++ (residueOf c₀ i s ∷ [])) + 1) j ss) (h .run) (firstOf c₀ (n + 1) (h .first)))) (append-assoc (h .residues) (residueOf c₀ i s ∷ []) (along printSpot (residueOf c) j ss))
       ∙ ap (λ z. outside m (held (h .residues ++ residuesOn c₀ c i s ss) ((h .brackets ++ k) ++ bracketsOn (z + 1) j ss) (h .run) (firstOf c₀ (n + 1) (h .first)))) (snoc-length (h .residues) (residueOf c₀ i s))
@@ -317,12 +317,12 @@ element-run i (single s) m h w g =
     ∙ ap (λ z. outside Single (held (h .residues ++ (residueOf Plain i s ∷ [])) (h .brackets ++ z) (h .run) (length (h .residues) + 1))) (sym (on-one (length (h .residues) + 1) i s))
 element-run i (range s ss x xs) m h w g =
     let n = length (h .residues) in
-    let j = i + 1 + length (each printSpot (s ∷ ss)) in
+    let j = i + 1 + length (flat printSpot (s ∷ ss)) in
     let rs : Residues = h .residues ++ residuesOn RangeFirst RangeNext (i + 1) s ss in
     let ks : Brackets = h .brackets ++ bracketsOn (n + 1) (i + 1) (s ∷ ss) in
     let h₁ : Held ℕ = held rs ks (h .run) (n + 1) in
     line-then i (outside m h) (outside Opened h) _ openRound _ (go i m Opened h openRound (w .round))
-    (line-further (i + 1) (each printSpot (s ∷ ss)) (shutRound ∷ printSquares (x ∷ xs)) (outside Opened h) (outside InRange h₁) _
+    (line-further (i + 1) (flat printSpot (s ∷ ss)) (shutRound ∷ printSquares (x ∷ xs)) (outside Opened h) (outside InRange h₁) _
     (group-run InRange RangeNext range-letter own-range (λ a b. refl) (i + 1) Opened RangeFirst s ss h opened-letter (λ a b. refl) (and-left (every goodSpot (s ∷ ss)) (goodSquares false (x ∷ xs)) g))
     (line-then j (outside InRange h₁) (outside RangeEnd h₁) _ shutRound (printSquares (x ∷ xs)) (go j InRange RangeEnd h₁ shutRound range-ends)
     (squares-from OnRange false Ranged ranged-open (λ b q. refl) (j + 1) RangeEnd x xs h₁ end-open (and-right (every goodSpot (s ∷ ss)) (goodSquares false (x ∷ xs)) g))))
@@ -333,7 +333,7 @@ element-run i (unsure s ss) m h w g =
     let h₁ : Held ℕ = held (h .residues ++ residuesOn UnsureFirst UnsureNext (i + 1 + 1) s ss) (h .brackets ++ bracketsOn (n + 1) (i + 1 + 1) (s ∷ ss)) (h .run) (n + 1) in
     line-then i (outside m h) (outside Opened h) _ openRound _ (go i m Opened h openRound (w .round))
     (line-then (i + 1) (outside Opened h) (outside UnsureOpened h) _ question _ (go (i + 1) Opened UnsureOpened h question opened-unsure)
-    (line-further (i + 1 + 1) (each printSpot (s ∷ ss)) (shutRound ∷ []) (outside UnsureOpened h) (outside InUnsure h₁) _
+    (line-further (i + 1 + 1) (flat printSpot (s ∷ ss)) (shutRound ∷ []) (outside UnsureOpened h) (outside InUnsure h₁) _
     (group-run InUnsure UnsureNext inUnsure-letter own-unsure (λ a b. refl) (i + 1 + 1) UnsureOpened UnsureFirst s ss h unsure-letter (λ a b. refl) g) (go _ InUnsure UnsureEnd h₁ shutRound unsure-shuts)))
 
 -- ---- the sequence
@@ -352,7 +352,7 @@ unfolding bracketsAlong
 brackets-cons n i e es = refl
 
 elements-run : (i : ℕ) (es : List Element) (e : Element) (m : Mode) (h : Held ℕ) → Begins m → every goodElement (e ∷ es) ≡ true
-    → Ran i h m (each printElement (e ∷ es)) (eachAlong printElement residuesIn i (e ∷ es)) (bracketsAlong (length (h .residues)) i (e ∷ es))
+    → Ran i h m (flat printElement (e ∷ es)) (eachAlong printElement residuesIn i (e ∷ es)) (bracketsAlong (length (h .residues)) i (e ∷ es))
 elements-run i [] e m h w g =
     let n = length (h .residues) in
     let j = i + length (printElement e) in
@@ -378,7 +378,7 @@ elements-run i (e′ ∷ es) e m h w g =
       ends = q .ends;
       path =
           ap (lineRun i (outside m h)) (each-cons printElement e (e′ ∷ es))
-          ∙ line-further i (printElement e) (each printElement (e′ ∷ es)) (outside m h) (outside (endOf e) (grown i h e)) _ (element-run i e m h w (every-head goodElement e (e′ ∷ es) g)) (q .path)
+          ∙ line-further i (printElement e) (flat printElement (e′ ∷ es)) (outside m h) (outside (endOf e) (grown i h e)) _ (element-run i e m h w (every-head goodElement e (e′ ∷ es) g)) (q .path)
           ∙ ap (λ z. outside (q .mode) (held z ((h .brackets ++ bracketsIn n i e) ++ bracketsAlong (length (h .residues ++ residuesIn i e)) j (e′ ∷ es)) (h .run) (q .first)))
           (append-assoc (h .residues) (residuesIn i e) (eachAlong printElement residuesIn j (e′ ∷ es)) ∙ ap (λ z. h .residues ++ z) (sym (eachAlong-cons printElement residuesIn i e (e′ ∷ es))))
           ∙ ap (λ z. outside (q .mode) (held (h .residues ++ eachAlong printElement residuesIn i (e ∷ e′ ∷ es)) ((h .brackets ++ bracketsIn n i e) ++ bracketsAlong z j (e′ ∷ es)) (h .run) (q .first))) (length-append (h .residues) (residuesIn i e))
@@ -420,18 +420,18 @@ back-run i (x ∷ xs) m h w g =
 
 -- the sequence and the C-terminus
 sequence-run : (i : ℕ) (e : Element) (es : List Element) (xs : List Inside) (m : Mode) (ks : Brackets) (f : ℕ) → Begins m → every goodElement (e ∷ es) ≡ true → goodSquares true xs ≡ true
-    → Over i (held [] ks [] f) m (each printElement (e ∷ es) ++ printBack xs) (eachAlong printElement residuesIn i (e ∷ es))
-    (ks ++ (bracketsAlong 0 i (e ∷ es) ++ meansSquares CTerm (length (eachAlong printElement residuesIn i (e ∷ es)) + 1) (length (eachAlong printElement residuesIn i (e ∷ es)) + 1) (i + length (each printElement (e ∷ es)) + 1) xs))
+    → Over i (held [] ks [] f) m (flat printElement (e ∷ es) ++ printBack xs) (eachAlong printElement residuesIn i (e ∷ es))
+    (ks ++ (bracketsAlong 0 i (e ∷ es) ++ meansSquares CTerm (length (eachAlong printElement residuesIn i (e ∷ es)) + 1) (length (eachAlong printElement residuesIn i (e ∷ es)) + 1) (i + length (flat printElement (e ∷ es)) + 1) xs))
 sequence-run i e es xs m ks f w g g′ =
     let p = elements-run i es e m (held [] ks [] f) w g in
-    let j = i + length (each printElement (e ∷ es)) in
+    let j = i + length (flat printElement (e ∷ es)) in
     let q = back-run j xs (p .mode) (held (eachAlong printElement residuesIn i (e ∷ es)) (ks ++ bracketsAlong 0 i (e ∷ es)) [] (p .first)) (p .ends) g′ in
     record {
       mode = q .mode;
       first = q .first;
       ends = q .ends;
       path =
-          line-further i (each printElement (e ∷ es)) (printBack xs) (outside m (held [] ks [] f)) _ _ (p .path) (q .path)
+          line-further i (flat printElement (e ∷ es)) (printBack xs) (outside m (held [] ks [] f)) _ _ (p .path) (q .path)
           ∙ ap (λ z. outside (q .mode) (held (eachAlong printElement residuesIn i (e ∷ es)) z [] (q .first))) (append-assoc ks (bracketsAlong 0 i (e ∷ es)) _);
     }
 
@@ -571,7 +571,7 @@ mark-run : (i : ℕ) (x : Marked) (m : Mode) (h : Held ℕ) → InRun m → good
 mark-run i x m h w g =
     counted-mark i (x .count) m h (x .inside) (and-right (goodInside shutSquare false (x .inside)) (goodCount (x .count)) g) (waits i m h (x .inside) w (and-left (goodInside shutSquare false (x .inside)) (goodCount (x .count)) g))
 
-marks-on : (i : ℕ) (xs : List Marked) (x : Marked) (m : Mode) (h : Held ℕ) → every goodMarked xs ≡ true → Noted i m h (printMarked x) (meansMarked i x ∷ []) → Noted i m h (each printMarked (x ∷ xs)) (along printMarked meansMarked i (x ∷ xs))
+marks-on : (i : ℕ) (xs : List Marked) (x : Marked) (m : Mode) (h : Held ℕ) → every goodMarked xs ≡ true → Noted i m h (printMarked x) (meansMarked i x ∷ []) → Noted i m h (flat printMarked (x ∷ xs)) (along printMarked meansMarked i (x ∷ xs))
 marks-on i [] x m h g w =
     record {
       mode = w .mode;
@@ -590,7 +590,7 @@ marks-on i (y ∷ xs) x m h g w =
       run = q .run;
       path =
           ap (lineRun i (outside m h)) (each-cons printMarked x (y ∷ xs))
-          ∙ line-further i (printMarked x) (each printMarked (y ∷ xs)) (outside m h) (outside (w .mode) h₁) _ (w .path) (q .path)
+          ∙ line-further i (printMarked x) (flat printMarked (y ∷ xs)) (outside m h) (outside (w .mode) h₁) _ (w .path) (q .path)
           ∙ ap (λ z. outside (q .mode) (held (h .residues) (h .brackets) z (h .first)))
           (append-assoc (h .run) (meansMarked i x ∷ []) (along printMarked meansMarked j (y ∷ xs)) ∙ ap (λ z. h .run ++ z) (sym (along-cons printMarked meansMarked i x (y ∷ xs))));
     }
@@ -609,15 +609,15 @@ run-run i r rs ks f g =
     let x = r .first in
     let g₀ = every-head goodMarked x (r .more) g in
     let q = marks-on i (r .more) x Front h (every-tail goodMarked x (r .more) g) (counted-mark i (x .count) Front h (x .inside) (and-right (goodInside shutSquare false (x .inside)) (goodCount (x .count)) g₀) (wait-front i Front h (x .inside) front-opens (and-left (goodInside shutSquare false (x .inside)) (goodCount (x .count)) g₀))) in
-    line-further i (each printMarked (marks r)) (question ∷ []) (outside Front h) _ _ (q .path) (run-over _ (q .mode) _ (q .run))
+    line-further i (flat printMarked (marks r)) (question ∷ []) (outside Front h) _ _ (q .path) (run-over _ (q .mode) _ (q .run))
     ∙ ap (λ z. outside Front (held rs (ks ++ z) [] f)) (map-id (meansRun i r))
 
-runs-run : (i : ℕ) (rr : List Run) (rs : Residues) (ks : Brackets) (f : ℕ) → every goodRun rr ≡ true → lineRun i (outside Front (held rs ks [] f)) (each printRun rr) ≡ outside Front (held rs (ks ++ eachAlong printRun meansRun i rr) [] f)
+runs-run : (i : ℕ) (rr : List Run) (rs : Residues) (ks : Brackets) (f : ℕ) → every goodRun rr ≡ true → lineRun i (outside Front (held rs ks [] f)) (flat printRun rr) ≡ outside Front (held rs (ks ++ eachAlong printRun meansRun i rr) [] f)
 runs-run i [] rs ks f g =
     ap (lineRun i (outside Front (held rs ks [] f))) (each-nil printRun) ∙ line-nil i _ ∙ ap (λ z. outside Front (held rs z [] f)) (sym (append-nil ks) ∙ ap (λ z. ks ++ z) (sym (eachAlong-nil printRun meansRun i)))
 runs-run i (r ∷ rr) rs ks f g =
     ap (lineRun i (outside Front (held rs ks [] f))) (each-cons printRun r rr)
-    ∙ line-further i (printRun r) (each printRun rr) (outside Front (held rs ks [] f)) _ _ (run-run i r rs ks f (every-head goodRun r rr g)) (runs-run (i + length (printRun r)) rr rs (ks ++ meansRun i r) f (every-tail goodRun r rr g))
+    ∙ line-further i (printRun r) (flat printRun rr) (outside Front (held rs ks [] f)) _ _ (run-run i r rs ks f (every-head goodRun r rr g)) (runs-run (i + length (printRun r)) rr rs (ks ++ meansRun i r) f (every-tail goodRun r rr g))
     ∙ ap (λ z. outside Front (held rs z [] f)) (append-assoc ks (meansRun i r) (eachAlong printRun meansRun (i + length (printRun r)) rr) ∙ ap (λ z. ks ++ z) (sym (eachAlong-cons printRun meansRun i r rr)))
 
 -- ---- labile brackets
@@ -636,13 +636,13 @@ unfolding act
 front-curly = refl
 
 curlies-from : (i : ℕ) (xs : List Inside) (x : Inside) (m : Mode) (h : Held ℕ) → act m openCurly ≡ Begin labile → goodCurlies (x ∷ xs) ≡ true
-    → lineRun i (outside m h) (each printCurly (x ∷ xs)) ≡ outside Labiles (held (h .residues) (h .brackets ++ meansCurlies i (x ∷ xs)) (h .run) (h .first))
+    → lineRun i (outside m h) (flat printCurly (x ∷ xs)) ≡ outside Labiles (held (h .residues) (h .brackets ++ meansCurlies i (x ∷ xs)) (h .run) (h .first))
 curlies-from i [] x m h e g =
     ap (lineRun i (outside m h)) (each-cons printCurly x [] ∙ ap (λ z. printCurly x ++ z) (each-nil printCurly) ∙ append-nil (printCurly x)) ∙ curly-run i m h x e (every-head (goodInside shutCurly false) x [] g)
     ∙ ap (λ z. outside Labiles (held (h .residues) (h .brackets ++ z) (h .run) (h .first))) (sym (along-one printCurly (bracketAt Labile 0 0) i x))
 curlies-from i (y ∷ xs) x m h e g =
     ap (lineRun i (outside m h)) (each-cons printCurly x (y ∷ xs))
-    ∙ line-further i (printCurly x) (each printCurly (y ∷ xs)) (outside m h) (outside Labiles (settled (bracketAt Labile 0 0 i x) h)) _ (curly-run i m h x e (every-head (goodInside shutCurly false) x (y ∷ xs) g))
+    ∙ line-further i (printCurly x) (flat printCurly (y ∷ xs)) (outside m h) (outside Labiles (settled (bracketAt Labile 0 0 i x) h)) _ (curly-run i m h x e (every-head (goodInside shutCurly false) x (y ∷ xs) g))
     (curlies-from (i + length (printCurly x)) xs y Labiles (settled (bracketAt Labile 0 0 i x) h) labiles-open (every-tail (goodInside shutCurly false) x (y ∷ xs) g))
     ∙ ap (λ z. outside Labiles (held (h .residues) z (h .run) (h .first))) (append-assoc (h .brackets) (bracketAt Labile 0 0 i x ∷ []) _ ∙ ap (λ z. h .brackets ++ z) (sym (along-cons printCurly (bracketAt Labile 0 0) i x (y ∷ xs))))
 
@@ -660,7 +660,7 @@ pub record Labelless (i : ℕ) (rs : Residues) (ks : Brackets) (f : ℕ) (l : Li
   pub fronts : Fronts mode
   pub path : lineRun i (outside Front (held rs ks [] f)) l ≡ outside mode (held rs (ks ++ xs) [] f)
 
-curlies-run : (i : ℕ) (xs : List Inside) (rs : Residues) (ks : Brackets) (f : ℕ) → goodCurlies xs ≡ true → Labelless i rs ks f (each printCurly xs) (meansCurlies i xs)
+curlies-run : (i : ℕ) (xs : List Inside) (rs : Residues) (ks : Brackets) (f : ℕ) → goodCurlies xs ≡ true → Labelless i rs ks f (flat printCurly xs) (meansCurlies i xs)
 curlies-run i [] rs ks f g =
     record {
       mode = Front;
@@ -810,7 +810,7 @@ line-run i t g =
       first = q .first;
       ends = q .ends;
       path =
-          whole-run i (each printRun (t .runs)) (each printCurly (t .labiles)) (printFront (t .front)) (each printElement (elements t) ++ printBack (t .back)) k₁ k₂ k₃
+          whole-run i (flat printRun (t .runs)) (flat printCurly (t .labiles)) (printFront (t .front)) (flat printElement (elements t) ++ printBack (t .back)) k₁ k₂ k₃
           (bracketsAlong 0 (atSequence i t) (elements t) ++ backOf i t) (residuesOf i t) (p .mode) (j .mode) (q .mode) (q .first)
           (runs-run i (t .runs) [] [] 0 (and-left a (b && (c && (d && e))) g)) (p .path) (j .path) (q .path);
     }

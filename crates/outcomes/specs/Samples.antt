@@ -3,7 +3,7 @@
 use mathlib.Core.Path.{_≡_, refl}
 use mathlib.Core.Bool.{Bool, true}
 use mathlib.Core.Option.{Option, none, some}
-use mathlib.Core.List.{List, [], _∷_, map}
+use mathlib.Core.List.{List, [], _∷_, _++_, map}
 use Prim.Native.Nat.{ℕ, _+_}
 use Prim.Native.String.{String}
 use lib.IntN.{ℤ, pos, negℤ}
@@ -19,7 +19,7 @@ use Rattle.scope.specs.Refusals.{least, refusal1, refusal2, unprintable, refusa
 use Rattle.scope.specs.Canonical.{decimalUpTo, decimal, lastDigits, decimals, size, partText, partsText, sequenceText, canonical}
 use Rattle.scope.specs.Tables.{tablesOf, partRows, scoreOf, rows, bytesOf, numbersOf, partIn, bracketIn, tablesIn}
 use Rattle.scope.specs.Positions.{isPlaced, struckOut, floaters, referredAt, mayStand, permitted, rowsFrom, rowsOf, firstRow, permittedPositions}
-use Rattle.scope.specs.Placements.{distinct, fits, allowed, less, choices, placements, firstPlacement, nextPlacement, requested}
+use Rattle.scope.specs.Placements.{distinct, fits, allowed, less, choices, placements, firstPlacement, nextPlacement}
 use Rattle.scope.specs.Masses.{firstMass, massOf, sum, total, sumℕ, lacking, placedAt, putAt, ledger, labileMass}
 use Rattle.scope.specs.Answers.{sameNumbers, areTables}
 use Rattle.scope.specs.Register.{fields, printed}
@@ -117,8 +117,21 @@ samples =
     ∷ sample "[C:0]^8?(Q[UnImOd:440]B[INFO:)vVY|info:Phospho#])[+5]-[INFO: {[]{#}s}b]" 2324 "2324 no 12 49"
     ∷ []
 
-pub printed-alike : all agrees samples ≡ true
-unfolding upper sameFolded same spell keys keyAmong keyOf written digitStep numberEnd textStep partEnd valueEnd textEnd colonAfter innerStep element further groupFirst inGroup undecided counted referred act onLast perform resume step run reading all keep flat among copies least refusal1 refusal2 unprintable refusal3 tooDeep refusal5 refusal6 refusal7 refusal8 refusal9 refusal10 shared wronglyLabelled refusal11 passing refusal12 firstDue outcome decimalUpTo decimal lastDigits decimals size partText partsText sequenceText canonical tablesOf partRows scoreOf rows bytesOf numbersOf tabled partIn bracketIn tablesIn member isPlaced struckOut floaters referredAt mayStand permitted rowsFrom rowsOf firstRow distinct fits allowed less choices placements firstPlacement nextPlacement requested firstMass massOf sum total sumℕ lacking placedAt putAt ledger labileMass sameNumbers areTables fields printed
+-- lines that tell a wrong reading of a single clause apart: `^1` is a count; a second label defines too; a labelled rule, and a rule's long name, are
+-- not here; a long text is refused at its part; 10 asks every part; a score's place is behind its `(`
+abbrev apart : List Sample
+apart =
+    sample "[+1#a]^1?A[#a]" 1 "1 no 11 0"
+    ∷ sample "C[#b]A[+1#a|x#b]" 2 "2 no 11 6"
+    ∷ sample "A[CoMKP#a]" 3 "3 no 8 2"
+    ∷ sample "A[ColocaliseModificationsOfKnownPosition]" 4 "4 no 8 2"
+    ∷ sample "A[INFO:xxxxxxxxxxxxxxxxxxxxxxxxxxxxxxxxxxxxxxxxxxxxxxxxxxxxxxxxxxxxxxxxxxxxxxxxxxxxxxxxxxxxxxxxxxxxxxxxxxxxxxxxxxxxxxxxxxxxxxxxxxxxxxxxx]" 5 "5 no 6 2"
+    ∷ sample "[INFO:x|+1]?A" 6 "6 ok 1 1 1 +1000000 [INFO:x|+1]?A"
+    ∷ sample "A[x#a(1000000)]" 7 "7 no 7 6"
+    ∷ []
+
+pub printed-alike : all agrees (samples ++ apart) ≡ true
+unfolding upper sameFolded same spell keys keyAmong keyOf written digitStep numberEnd textStep partEnd valueEnd textEnd colonAfter innerStep element further groupFirst inGroup undecided counted referred act onLast perform resume step run reading all keep flat among copies least refusal1 refusal2 unprintable refusal3 tooDeep refusal5 refusal6 refusal7 refusal8 refusal9 refusal10 shared wronglyLabelled refusal11 passing refusal12 firstDue outcome decimalUpTo decimal lastDigits decimals size partText partsText sequenceText canonical tablesOf partRows scoreOf rows bytesOf numbersOf tabled partIn bracketIn tablesIn member isPlaced struckOut floaters referredAt mayStand permitted rowsFrom rowsOf firstRow distinct fits allowed less choices placements firstPlacement nextPlacement firstMass massOf sum total sumℕ lacking placedAt putAt ledger labileMass sameNumbers areTables fields printed
 printed-alike = refl
 
 abbrev site : ℕ → ℕ → Site
@@ -185,5 +198,5 @@ pub placed-alike :
     × (of (outcome (bytes "[-2]^3?F[UNIMOD:90724][INFO:Glu->pyro-Glu##]")) placementsIn ≡ some ([]))
     × (of (outcome (bytes "(A[#g1(+771.7742)]U[INFO:a^2|G:::][#g1][R:493#g1])[-1]")) rowsOf ≡ some (site 1 1 ∷ site 2 1 ∷ []))
     × (of (outcome (bytes "(A[#g1(+771.7742)]U[INFO:a^2|G:::][#g1][R:493#g1])[-1]")) placementsIn ≡ some ([]))
-unfolding upper sameFolded same spell keys keyAmong keyOf written digitStep numberEnd textStep partEnd valueEnd textEnd colonAfter innerStep element further groupFirst inGroup undecided counted referred act onLast perform resume step run reading all keep flat among copies least refusal1 refusal2 unprintable refusal3 tooDeep refusal5 refusal6 refusal7 refusal8 refusal9 refusal10 shared wronglyLabelled refusal11 passing refusal12 firstDue outcome decimalUpTo decimal lastDigits decimals size partText partsText sequenceText canonical tablesOf partRows scoreOf rows bytesOf numbersOf tabled partIn bracketIn tablesIn member isPlaced struckOut floaters referredAt mayStand permitted rowsFrom rowsOf firstRow distinct fits allowed less choices placements firstPlacement nextPlacement requested firstMass massOf sum total sumℕ lacking placedAt putAt ledger labileMass sameNumbers areTables fields printed
+unfolding upper sameFolded same spell keys keyAmong keyOf written digitStep numberEnd textStep partEnd valueEnd textEnd colonAfter innerStep element further groupFirst inGroup undecided counted referred act onLast perform resume step run reading all keep flat among copies least refusal1 refusal2 unprintable refusal3 tooDeep refusal5 refusal6 refusal7 refusal8 refusal9 refusal10 shared wronglyLabelled refusal11 passing refusal12 firstDue outcome decimalUpTo decimal lastDigits decimals size partText partsText sequenceText canonical tablesOf partRows scoreOf rows bytesOf numbersOf tabled partIn bracketIn tablesIn member isPlaced struckOut floaters referredAt mayStand permitted rowsFrom rowsOf firstRow distinct fits allowed less choices placements firstPlacement nextPlacement firstMass massOf sum total sumℕ lacking placedAt putAt ledger labileMass sameNumbers areTables fields printed
 placed-alike = (refl, refl, refl, refl, refl, refl, refl, refl, refl, refl, refl, refl, refl, refl, refl, refl, refl, refl, refl, refl, refl, refl, refl, refl, refl, refl, refl, refl, refl, refl, refl, refl, refl, refl, refl, refl, refl, refl, refl)

@@ -102,7 +102,7 @@ pub record Laws : Type 0 where
   -- "A bracket is parts split by `|`, none empty, or a lone reference `#label`": the bytes from the place i on, with the byte that closes it
   pub brackets : (i shut : ℕ) (references : Bool) (w : List ℕ) (ps : List (Part ℕ)) → isShutting shut ≡ true
       → notedRun i (going (begin (context shut references []))) w ≡ closed ps ↔ SpeltBracket i shut references w ps
-  -- "A line has this order": the reader accepts exactly the lines that a good spelling prints, and reads them to what it means, flat residue, bracket,
+  -- "A line has this order": the reader accepts exactly the lines that a good spelling prints, and reads them to what it means, each residue, bracket,
   -- part, label, number and count at its place
   pub lines : (s : List ℕ) (l : Line ℕ) → reading s ≡ holds l ↔ SpeltLine s l
   -- 4 "not of the order above": the reader is stuck at i exactly where no spelling goes on

@@ -9,9 +9,10 @@ use native.Mathlib.Omega.{arith}
 use lib.ListN.{length, getD, take, replicate, getElem?}
 use Rattle.scope.specs.Limits.{copyLimit}
 use Rattle.scope.specs.Line.{Line}
-use Rattle.scope.specs.Lists.{keep}
+use Rattle.scope.specs.Lists.{given, keep}
 use Rattle.scope.specs.Positions.{floaters, permittedPositions}
-use Rattle.scope.specs.Placements.{distinct, allowed, choices, placements, firstPlacement, nextPlacement, freshListing, handed, requested}
+use Rattle.scope.specs.Placements.{distinct, allowed, choices, placements, firstPlacement, nextPlacement, freshListing}
+use Rattle.scope.specs.Answers.{good, refuses, requested}
 use Rattle.placement_laws.specs.Terms.{In, AllRising, Ascending, Allowed, Further, Least, afterRequests, handedOut}
 use Rattle.placement_laws.specs.Members as members
 use Rattle.placement_laws.specs.Sorted as sorted
@@ -52,9 +53,8 @@ module _ (qs : List (List ℕ)) (few : length qs ≤ copyLimit) where
     pub next : (p : List ℕ) → Least (Further qs p) (nextPlacement qs p)
     next p = leasts.next-least qs few rising p
 
-    -- "requests from a fresh record over the same tables": after n of them the next one hands out placement number n (from 0). Past the last one,
-    -- it "stays there and answers 17".
-    pub request : (n : ℕ) → requested qs (afterRequests qs n freshListing) ≡ handed (afterRequests qs n freshListing) (getElem? (placements qs) n)
+    -- "requests from a fresh record over the same tables": after n of them the next one hands out placement number n (from 0), or answers 17
+    pub request : (n : ℕ) → requested qs (afterRequests qs n freshListing) ≡ given (getElem? (placements qs) n) good (refuses 17 0)
     request n = requests.nth-request qs few rising n
 
     -- n of them hand out the first n placements, in order; as many as there are, or more, hand out all
@@ -68,11 +68,10 @@ module _ (qs : List (List ℕ)) (few : length qs ≤ copyLimit) where
     pub complete : (p : List ℕ) → In p (handedOut qs (length (placements qs)) freshListing) ↔ (allowed qs p ≡ true)
     complete p = rw (whole (length (placements qs)) (omega arith)) (among p)
 
-    -- every later one answers 17 and leaves the record
-    pub ended : (n : ℕ) → length (placements qs) ≤ n
-        → requested qs (afterRequests qs n freshListing) ≡ record { number = 17; after = afterRequests qs n freshListing }
+    -- past the last one, every request answers 17
+    pub ended : (n : ℕ) → length (placements qs) ≤ n → requested qs (afterRequests qs n freshListing) ≡ refuses 17 0
     ended n h = requests.ended qs few rising n h
 
     -- 17: "no placement, or no further one"
-    pub no-placement : (requested qs freshListing .number ≡ 17) ↔ ((p : List ℕ) → allowed qs p ≡ true → ⊥)
+    pub no-placement : (requested qs freshListing ≡ refuses 17 0) ↔ ((p : List ℕ) → allowed qs p ≡ true → ⊥)
     no-placement = (requests.none-at-first qs few rising, requests.first-none qs few rising)

@@ -1,7 +1,7 @@
--- Requests in a row, from a fresh record on.
-use mathlib.Core.Path.{_≡_, refl, sym, ap, _∙_}
-use mathlib.Core.Logic.{inl, inr}
-use mathlib.Core.Bool.{true, false}
+-- Requests in a row, from a fresh record on. A record is due the placements that it has yet to hand out (`Due`); each request hands out the first of them.
+use mathlib.Core.Path.{_≡_, refl, sym, ap, _∙_, subst}
+use mathlib.Core.Logic.{_⊎_, inl, inr}
+use mathlib.Core.Bool.{true}
 use mathlib.Core.Option.{Option, none, some}
 use mathlib.Core.List.{List, [], _∷_, _++_, append-assoc}
 use Prim.Native.Nat.{ℕ, zero, suc, _≤_}
@@ -9,8 +9,9 @@ use native.Mathlib.Omega.{arith}
 use lib.ListN.{length, take, getElem?}
 use Rattle.scope.specs.declared.answers.Listing.{Listing}
 use Rattle.scope.specs.Limits.{copyLimit}
-use Rattle.scope.specs.Lists.{all, keep, firstIn}
-use Rattle.scope.specs.Placements.{less, placements, firstPlacement, nextPlacement, freshListing, Listed, handed, requested}
+use Rattle.scope.specs.Lists.{given, all, keep, firstIn}
+use Rattle.scope.specs.Placements.{less, placements, firstPlacement, nextPlacement, noMark, freshListing, takenListing, following}
+use Rattle.scope.specs.Answers.{Said, good, refuses, requested, movedOn}
 use Rattle.placement_laws.specs.Terms.{In, AllRising, Ascending, Allowed, Least, afterRequests, outOf, handedOut}
 use Rattle.placement_laws.specs.Lists.{by-test, in-right, keep-yes, keep-no}
 use Rattle.placement_laws.specs.Order.{less-self, less-asym}
@@ -20,14 +21,18 @@ use Rattle.placement_laws.specs.Leasts.{first-least}
 
 -- the record with p handed out last
 abbrev pub held : List ℕ → Listing
-held p = record { at = p; fresh = false }
+held p = record { at = p; mark = noMark }
 
-pub requested-fresh : (qs : List (List ℕ)) → requested qs freshListing ≡ handed freshListing (firstIn (placements qs))
-unfolding requested all firstPlacement
+-- the placement handed out, or 17
+abbrev pub said : Option (List ℕ) → Said (List ℕ)
+said o = given o good (refuses 17 0)
+
+pub requested-fresh : (qs : List (List ℕ)) → requested qs freshListing ≡ said (firstPlacement qs)
+unfolding requested takenListing following all
 requested-fresh qs = refl
 
-pub requested-held : (qs : List (List ℕ)) (p : List ℕ) → Allowed qs p → requested qs (held p) ≡ handed (held p) (nextPlacement qs p)
-unfolding requested
+pub requested-held : (qs : List (List ℕ)) (p : List ℕ) → Allowed qs p → requested qs (held p) ≡ said (nextPlacement qs p)
+unfolding requested takenListing following
 requested-held qs p e = rw e
 
 -- ---- those above p in an ascending list are those behind it
@@ -57,95 +62,80 @@ take-all (p ∷ l) zero h = absurd (omega arith)
 take-all (p ∷ l) (suc n) h = ap (λ k. p ∷ k) (take-all l n (omega arith))
 
 module _ (qs : List (List ℕ)) (few : length qs ≤ copyLimit) (r : AllRising qs) where
-  -- after p comes what stands behind p
-  step : (l m : List (List ℕ)) (p : List ℕ) → l ++ (p ∷ m) ≡ placements qs → requested qs (held p) ≡ handed (held p) (firstIn m)
-  unfolding nextPlacement
-  step l m p e =
-      requested-held qs p (among-allowed qs p few (rw (sym e) (in-right p l (p ∷ m) (inl refl))))
-      ∙ ap (λ k. handed (held p) (firstIn k)) (ap (keep (less p)) (sym e) ∙ above l m p (rw (sym e) at (placements-ascending qs r)))
+  -- the placements that a record has yet to hand out: all of them where it is fresh, else those behind the one it holds
+  Due : Listing → List (List ℕ) → Type 0
+  Due x m = ((x ≡ freshListing) × (m ≡ placements qs)) ⊎ ((l : List (List ℕ)) × (p : List ℕ) × (x ≡ held p) × (l ++ (p ∷ m) ≡ placements qs))
 
-  onward : (l m : List (List ℕ)) (p q : List ℕ) → l ++ (p ∷ (q ∷ m)) ≡ placements qs → (l ++ (p ∷ [])) ++ (q ∷ m) ≡ placements qs
-  onward l m p q e = append-assoc l (p ∷ []) (q ∷ m) ∙ e
+  fresh-due : Due freshListing (placements qs)
+  unfolding Due
+  fresh-due = inl (refl, refl)
+
+  -- a request hands out the first of them
+  answer : (x : Listing) (m : List (List ℕ)) → Due x m → requested qs x ≡ said (firstIn m)
+  unfolding Due firstPlacement nextPlacement
+  answer x m (inl (e, f)) = ap (requested qs) e ∙ requested-fresh qs ∙ ap (λ k. said (firstIn k)) (sym f)
+  answer x m (inr (l, p, e, f)) =
+      ap (requested qs) e ∙ requested-held qs p (among-allowed qs p few (rw (sym f) (in-right p l (p ∷ m) (inl refl))))
+      ∙ ap (λ k. said (firstIn k)) (ap (keep (less p)) (sym f) ∙ above l m p (rw (sym f) at (placements-ascending qs r)))
+
+  -- and leaves the others due
+  onward : (x : Listing) (q : List ℕ) (m : List (List ℕ)) → Due x (q ∷ m) → Due (held q) m
+  unfolding Due
+  onward x q m (inl (e, f)) = inr ([], q, refl, f)
+  onward x q m (inr (l, p, e, f)) = inr (l ++ (p ∷ []), q, refl, append-assoc l (p ∷ []) (q ∷ m) ∙ f)
 
   -- ---- the answer to each request
-  after-more : (n : ℕ) (x : Listing) (a : Listed) → requested qs x ≡ a → afterRequests qs (suc n) x ≡ afterRequests qs n (a .after)
+  after-more : (n : ℕ) (x : Listing) (a : Said (List ℕ)) → requested qs x ≡ a → afterRequests qs (suc n) x ≡ afterRequests qs n (movedOn x a)
   unfolding afterRequests
-  after-more n x a e = ap (λ z. afterRequests qs n (z .after)) e
+  after-more n x a e = ap (λ z. afterRequests qs n (movedOn x z)) e
 
   after-none : (x : Listing) → afterRequests qs zero x ≡ x
   unfolding afterRequests
   after-none x = refl
 
-  Answers : ℕ → Listing → List (List ℕ) → Type 0
-  Answers n x m = requested qs (afterRequests qs n x) ≡ handed (afterRequests qs n x) (getElem? m n)
+  nth : (n : ℕ) (x : Listing) (m : List (List ℕ)) → Due x m → requested qs (afterRequests qs n x) ≡ said (getElem? m n)
+  nth zero x [] d = rw (after-none x) (answer x [] d)
+  nth zero x (q ∷ m) d = rw (after-none x) (answer x (q ∷ m) d)
+  nth (suc n) x [] d = rw (after-more n x (refuses 17 0) (answer x [] d)) (nth n x [] d)
+  nth (suc n) x (q ∷ m) d = rw (after-more n x (good q) (answer x (q ∷ m) d)) (nth n (held q) m (onward x q m d))
 
-  nth-held : (n : ℕ) (l m : List (List ℕ)) (p : List ℕ) → l ++ (p ∷ m) ≡ placements qs → Answers n (held p) m
-  unfolding Answers
-  nth-held zero l [] p e = rw (after-none (held p)) (step l [] p e)
-  nth-held zero l (q ∷ m) p e = rw (after-none (held p)) (step l (q ∷ m) p e)
-  nth-held (suc n) l [] p e = rw (after-more n (held p) (handed (held p) none) (step l [] p e)) (nth-held n l [] p e)
-  nth-held (suc n) l (q ∷ m) p e =
-      rw (after-more n (held p) (handed (held p) (some q)) (step l (q ∷ m) p e)) (nth-held n (l ++ (p ∷ [])) m q (onward l m p q e))
+  pub nth-request : (n : ℕ) → requested qs (afterRequests qs n freshListing) ≡ said (getElem? (placements qs) n)
+  nth-request n = nth n freshListing (placements qs) fresh-due
 
-  nth-from : (n : ℕ) (m : List (List ℕ)) → m ≡ placements qs → Answers n freshListing m
-  unfolding Answers
-  nth-from zero [] e = rw (after-none freshListing) (requested-fresh qs ∙ ap (λ k. handed freshListing (firstIn k)) (sym e))
-  nth-from zero (q ∷ m) e = rw (after-none freshListing) (requested-fresh qs ∙ ap (λ k. handed freshListing (firstIn k)) (sym e))
-  nth-from (suc n) [] e =
-      rw (after-more n freshListing (handed freshListing none) (requested-fresh qs ∙ ap (λ k. handed freshListing (firstIn k)) (sym e))) (nth-from n [] e)
-  nth-from (suc n) (q ∷ m) e =
-      rw (after-more n freshListing (handed freshListing (some q)) (requested-fresh qs ∙ ap (λ k. handed freshListing (firstIn k)) (sym e))) (nth-held n [] m q e)
-
-  pub nth-request : (n : ℕ) → requested qs (afterRequests qs n freshListing) ≡ handed (afterRequests qs n freshListing) (getElem? (placements qs) n)
-  unfolding Answers
-  nth-request n = nth-from n (placements qs) refl
+  pub ended : (n : ℕ) → length (placements qs) ≤ n → requested qs (afterRequests qs n freshListing) ≡ refuses 17 0
+  ended n h = nth-request n ∙ ap said (past (placements qs) n h)
 
   -- ---- all that is handed out
-  out-more : (n : ℕ) (x : Listing) (a : Listed) → requested qs x ≡ a → handedOut qs (suc n) x ≡ outOf a ++ handedOut qs n (a .after)
+  out-more : (n : ℕ) (x : Listing) (a : Said (List ℕ)) → requested qs x ≡ a → handedOut qs (suc n) x ≡ outOf a ++ handedOut qs n (movedOn x a)
   unfolding handedOut
-  out-more n x a e = ap (λ z. outOf z ++ handedOut qs n (z .after)) e
+  out-more n x a e = ap (λ z. outOf z ++ handedOut qs n (movedOn x z)) e
 
   out-none : (x : Listing) → handedOut qs zero x ≡ []
   unfolding handedOut
   out-none x = refl
 
-  out-held : (n : ℕ) (l m : List (List ℕ)) (p : List ℕ) → l ++ (p ∷ m) ≡ placements qs → handedOut qs n (held p) ≡ take n m
-  out-held zero l m p e = out-none (held p)
-  out-held (suc n) l [] p e = out-more n (held p) (handed (held p) none) (step l [] p e) ∙ out-held n l [] p e ∙ take-none n
-  out-held (suc n) l (q ∷ m) p e =
-      out-more n (held p) (handed (held p) (some q)) (step l (q ∷ m) p e) ∙ ap (λ k. q ∷ k) (out-held n (l ++ (p ∷ [])) m q (onward l m p q e))
-
-  out-from : (n : ℕ) (m : List (List ℕ)) → m ≡ placements qs → handedOut qs n freshListing ≡ take n m
-  out-from zero m e = out-none freshListing
-  out-from (suc n) [] e =
-      out-more n freshListing (handed freshListing none) (requested-fresh qs ∙ ap (λ k. handed freshListing (firstIn k)) (sym e)) ∙ out-from n [] e ∙ take-none n
-  out-from (suc n) (q ∷ m) e =
-      out-more n freshListing (handed freshListing (some q)) (requested-fresh qs ∙ ap (λ k. handed freshListing (firstIn k)) (sym e)) ∙ ap (λ k. q ∷ k) (out-held n [] m q e)
+  out : (n : ℕ) (x : Listing) (m : List (List ℕ)) → Due x m → handedOut qs n x ≡ take n m
+  out zero x m d = out-none x
+  out (suc n) x [] d = out-more n x (refuses 17 0) (answer x [] d) ∙ out n x [] d ∙ take-none n
+  out (suc n) x (q ∷ m) d = out-more n x (good q) (answer x (q ∷ m) d) ∙ ap (λ k. q ∷ k) (out n (held q) m (onward x q m d))
 
   pub all-handed : (n : ℕ) → handedOut qs n freshListing ≡ take n (placements qs)
-  all-handed n = out-from n (placements qs) refl
+  all-handed n = out n freshListing (placements qs) fresh-due
 
   pub whole : (n : ℕ) → length (placements qs) ≤ n → handedOut qs n freshListing ≡ placements qs
   whole n h = all-handed n ∙ take-all (placements qs) n h
 
-  pub ended : (n : ℕ) → length (placements qs) ≤ n → requested qs (afterRequests qs n freshListing) ≡ handed (afterRequests qs n freshListing) none
-  ended n h = nth-request n ∙ ap (handed (afterRequests qs n freshListing)) (past (placements qs) n h)
-
   -- ---- no placement at all
-  number-first : (a : Option (List ℕ)) → Least (Allowed qs) a → handed freshListing a .number ≡ 17 → (p : List ℕ) → Allowed qs p → ⊥
-  number-first none h e = h
-  number-first (some p) h e = absurd (omega arith)
+  none-least : (a : Option (List ℕ)) → Least (Allowed qs) a → said a ≡ refuses 17 0 → (p : List ℕ) → Allowed qs p → ⊥
+  none-least none h e = h
+  none-least (some p) h e = absurd (let z : _≡_ {A = ℕ} 0 1 = cc in omega arith)
 
-  first-number : (a : Option (List ℕ)) → Least (Allowed qs) a → ((p : List ℕ) → Allowed qs p → ⊥) → handed freshListing a .number ≡ 17
-  first-number none h e = refl
-  first-number (some p) h e = absurd (e p (h .0))
+  least-none : (a : Option (List ℕ)) → Least (Allowed qs) a → ((p : List ℕ) → Allowed qs p → ⊥) → said a ≡ refuses 17 0
+  least-none none h e = refl
+  least-none (some p) h e = absurd (e p (h .0))
 
-  least : Least (Allowed qs) (firstIn (placements qs))
-  unfolding firstPlacement
-  least = first-least qs few r
+  pub none-at-first : requested qs freshListing ≡ refuses 17 0 → (p : List ℕ) → Allowed qs p → ⊥
+  none-at-first e = none-least (firstPlacement qs) (first-least qs few r) (sym (requested-fresh qs) ∙ e)
 
-  pub none-at-first : requested qs freshListing .number ≡ 17 → (p : List ℕ) → Allowed qs p → ⊥
-  none-at-first e = number-first (firstIn (placements qs)) least (sym (ap (λ a. a .number) (requested-fresh qs)) ∙ e)
-
-  pub first-none : ((p : List ℕ) → Allowed qs p → ⊥) → requested qs freshListing .number ≡ 17
-  first-none h = ap (λ a. a .number) (requested-fresh qs) ∙ first-number (firstIn (placements qs)) least h
+  pub first-none : ((p : List ℕ) → Allowed qs p → ⊥) → requested qs freshListing ≡ refuses 17 0
+  first-none h = requested-fresh qs ∙ least-none (firstPlacement qs) (first-least qs few r) h

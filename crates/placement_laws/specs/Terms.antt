@@ -1,14 +1,14 @@
 -- The words that the laws of placements are said in.
 use mathlib.Core.Path.{_≡_}
 use mathlib.Core.Logic.{_⊎_}
-use mathlib.Core.Bool.{true, cond}
+use mathlib.Core.Bool.{true}
 use mathlib.Core.Option.{Option, none, some}
 use mathlib.Core.List.{List, [], _∷_, _++_}
 use Prim.Native.Nat.{ℕ, zero, suc, _<_}
-use lib.Dec.{eqb}
 use Rattle.scope.specs.declared.answers.Listing.{Listing}
 use Rattle.scope.specs.Lists.{member}
-use Rattle.scope.specs.Placements.{Listed, allowed, less, requested}
+use Rattle.scope.specs.Placements.{allowed, less}
+use Rattle.scope.specs.Answers.{Said, good, refuses, requested, movedOn}
 
 -- x stands in l
 abbrev pub In : {A : Type 0} → A → List A → Type 0
@@ -44,11 +44,12 @@ Least P (some p) = P p × ((q : List ℕ) → P q → (p ≡ q) ⊎ (less p q �
 -- ---- requests in a row: the record after n of them, and what they hand out
 unfoldable pub afterRequests : List (List ℕ) → ℕ → Listing → Listing
 afterRequests qs zero r = r
-afterRequests qs (suc n) r = afterRequests qs n (requested qs r .after)
+afterRequests qs (suc n) r = afterRequests qs n (movedOn r (requested qs r))
 
-abbrev pub outOf : Listed → List (List ℕ)
-outOf a = cond (eqb (a .number) 0) (a .after .at ∷ []) []
+abbrev pub outOf : Said (List ℕ) → List (List ℕ)
+outOf (good p) = p ∷ []
+outOf (refuses number place) = []
 
 unfoldable pub handedOut : List (List ℕ) → ℕ → Listing → List (List ℕ)
 handedOut qs zero r = []
-handedOut qs (suc n) r = outOf (requested qs r) ++ handedOut qs n (requested qs r .after)
+handedOut qs (suc n) r = outOf (requested qs r) ++ handedOut qs n (movedOn r (requested qs r))

@@ -1,4 +1,4 @@
--- What is answered is what the definitions ask.
+-- What is answered is what the definitions ask: of a placement, and of a request by the listing's mark.
 use mathlib.Core.Path.{_≡_, refl, sym, ap, _∙_, subst}
 use mathlib.Core.Bool.{Bool, true, false, cond, _&&_, false≢true, true≢false}
 use mathlib.Core.List.{List}
@@ -6,18 +6,21 @@ use Prim.Native.Nat.{ℕ, _-_}
 use native.Mathlib.Omega.{arith}
 use lib.Dec.{eqb}
 use lib.ListN.{length}
-use borrow.Author.Tests.{eq-eqb}
+use borrow.Author.Tests.{eq-eqb, ne-eqb}
 use Rattle.scope.specs.declared.answers.Listing.{Listing}
 use Rattle.scope.specs.Limits.{copyLimit}
 use Rattle.scope.specs.Lists.{all}
-use Rattle.scope.specs.Placements.{allowed, firstPlacement, nextPlacement, Listed, handed, notAllowed, requested}
+use Rattle.scope.specs.declared.answers.Request.the-variants.{Met, Refused}
+use Rattle.scope.specs.Placements.{allowed, firstPlacement, nextPlacement, freshMark, noMark, takenListing, following}
+use Rattle.scope.specs.Answers.{Said, refuses, requested}
 use Rattle.areas.specs.Floats.{listsIn, Sized}
 use Rattle.exchange.specs.Where.{Full}
-use Rattle.exchange.specs.Order.{Next, IsFirst}
+use Rattle.exchange.specs.Order.{Next as Following, IsFirst}
 use Rattle.exchange.specs.Table.{place, mayIn}
 use Rattle.exchange.proofs.Laws.{full-small}
 use Rattle.placement_laws.specs.Lists.{and-true, and-both, by-test}
-use Rattle.placements.specs.Steps.{Zeros, Stand, Small, entries, found, Tells}
+use Rattle.placements.specs.declared.Next.{Next}
+use Rattle.placements.specs.Steps.{Zeros, Stand, Small, entries, found, said, Moves}
 use Rattle.placements.proofs.Right.{zeros-at, at-zeros, allowed-right, right-allowed}
 use Rattle.placements.proofs.Found.{first-found, next-found}
 
@@ -37,7 +40,7 @@ allowed-not tab k p s f = sym (by-test (allowed (listsIn tab k) p) (λ a. f (all
 pub allowed-full : (tab : List ℕ) (k : ℕ) (p w : List ℕ) → Sized tab k → w ≡ p → allowed (listsIn tab k) p ≡ true → Full (mayIn tab) k (place w)
 allowed-full tab k p w s q a = subst (λ v. Full (mayIn tab) k (place v)) (sym q) (allowed-right tab k (s .few) p a .full)
 
--- ---- requests
+-- ---- requests, by the listing's mark
 cond-true : {A : Type 0} (b : Bool) (x y : A) → b ≡ true → cond b x y ≡ x
 cond-true true x y e = refl
 cond-true false x y e = absurd (false≢true e)
@@ -46,59 +49,71 @@ cond-false : {A : Type 0} (b : Bool) (x y : A) → b ≡ false → cond b x y �
 cond-false true x y e = absurd (true≢false e)
 cond-false false x y e = refl
 
-fresh-asked : (qs : List (List ℕ)) (l : Listing) → l .fresh ≡ true
-    → requested qs l ≡ cond (eqb (length (l .at)) copyLimit && all (eqb 0) (l .at)) (handed l (firstPlacement qs)) (notAllowed l)
-unfolding requested
-fresh-asked qs l e =
-    cond-true (l .fresh) (cond (eqb (length (l .at)) copyLimit && all (eqb 0) (l .at)) (handed l (firstPlacement qs)) (notAllowed l)) (cond (allowed qs (l .at)) (handed l (nextPlacement qs (l .at))) (notAllowed l)) e
+-- eight zeros
+abbrev zeros : List ℕ → Bool
+zeros p = eqb (length p) copyLimit && all (eqb 0) p
 
-held-asked : (qs : List (List ℕ)) (l : Listing) → l .fresh ≡ false
-    → requested qs l ≡ cond (allowed qs (l .at)) (handed l (nextPlacement qs (l .at))) (notAllowed l)
-unfolding requested
-held-asked qs l e =
-    cond-false (l .fresh) (cond (eqb (length (l .at)) copyLimit && all (eqb 0) (l .at)) (handed l (firstPlacement qs)) (notAllowed l)) (cond (allowed qs (l .at)) (handed l (nextPlacement qs (l .at))) (notAllowed l)) e
+fresh-asked : (qs : List (List ℕ)) (l : Listing) → l .mark ≡ freshMark → requested qs l ≡ cond (zeros (l .at)) (said (firstPlacement qs)) (refuses 18 0)
+unfolding requested takenListing following
+fresh-asked qs l e = rw (eq-eqb (l .mark) freshMark e)
 
-pub begun-found : (tab : List ℕ) (k : ℕ) (l : Listing) (b : Bool) (w : List ℕ) → Sized tab k → l .fresh ≡ true → length (l .at) ≡ copyLimit
+held-asked : (qs : List (List ℕ)) (l : Listing) → l .mark ≡ noMark
+    → requested qs l ≡ cond (allowed qs (l .at)) (said (nextPlacement qs (l .at))) (refuses 18 0)
+unfolding requested takenListing following
+held-asked qs l e = rw (ne-eqb (l .mark) freshMark (λ q. omega arith), eq-eqb (l .mark) noMark e)
+
+pub other-asked : (qs : List (List ℕ)) (l : Listing) → (l .mark ≡ freshMark → ⊥) → (l .mark ≡ noMark → ⊥) → requested qs l ≡ refuses 18 0
+unfolding requested takenListing following
+other-asked qs l f n = rw (ne-eqb (l .mark) freshMark f, ne-eqb (l .mark) noMark n)
+
+pub begun-found : (tab : List ℕ) (k : ℕ) (l : Listing) (b : Bool) (w : List ℕ) → Sized tab k → l .mark ≡ freshMark → length (l .at) ≡ copyLimit
     → Zeros 0 (l .at)
-    → length w ≡ copyLimit → IsFirst (mayIn tab) k b (place w) → requested (listsIn tab k) l ≡ handed l (found k b w)
+    → length w ≡ copyLimit → IsFirst (mayIn tab) k b (place w) → requested (listsIn tab k) l ≡ said (found k b w)
 begun-found tab k l b w s f e z m h =
     fresh-asked (listsIn tab k) l f
-    ∙ cond-true (eqb (length (l .at)) copyLimit && all (eqb 0) (l .at)) (handed l (firstPlacement (listsIn tab k))) (notAllowed l)
+    ∙ cond-true (zeros (l .at)) (said (firstPlacement (listsIn tab k))) (refuses 18 0)
     (and-both (eqb (length (l .at)) copyLimit) (all (eqb 0) (l .at)) (eq-eqb (length (l .at)) copyLimit e) (at-zeros (l .at) (λ i g. z i (omega arith) (omega (arith, e)))))
-    ∙ ap (handed l) (first-found tab k (s .few) b w m h)
+    ∙ ap said (first-found tab k (s .few) b w m h)
 
-pub begun-refused : (tab : List ℕ) (k : ℕ) (l : Listing) → l .fresh ≡ true → (Zeros 0 (l .at) → ⊥) → requested (listsIn tab k) l ≡ notAllowed l
+pub begun-refused : (tab : List ℕ) (k : ℕ) (l : Listing) → l .mark ≡ freshMark → (Zeros 0 (l .at) → ⊥) → requested (listsIn tab k) l ≡ refuses 18 0
 begun-refused tab k l f n =
     fresh-asked (listsIn tab k) l f
-    ∙ cond-false (eqb (length (l .at)) copyLimit && all (eqb 0) (l .at)) (handed l (firstPlacement (listsIn tab k))) (notAllowed l)
-    (by-test (eqb (length (l .at)) copyLimit && all (eqb 0) (l .at)) (λ q. n (λ s g m. zeros-at (l .at) (and-true (eqb (length (l .at)) copyLimit) (all (eqb 0) (l .at)) q .1) s)))
+    ∙ cond-false (zeros (l .at)) (said (firstPlacement (listsIn tab k))) (refuses 18 0)
+    (by-test (zeros (l .at)) (λ q. n (λ s g m. zeros-at (l .at) (and-true (eqb (length (l .at)) copyLimit) (all (eqb 0) (l .at)) q .1) s)))
 
-pub continued-found : (tab : List ℕ) (k : ℕ) (l : Listing) (w : List ℕ) (b : Bool) (v : List ℕ) → Sized tab k → l .fresh ≡ false → w ≡ l .at
+pub continued-found : (tab : List ℕ) (k : ℕ) (l : Listing) (w : List ℕ) (b : Bool) (v : List ℕ) → Sized tab k → l .mark ≡ noMark → w ≡ l .at
     → allowed (listsIn tab k) (l .at) ≡ true
-    → length v ≡ copyLimit → Next (mayIn tab) k (place w) b (place v) → requested (listsIn tab k) l ≡ handed l (found k b v)
+    → length v ≡ copyLimit → Following (mayIn tab) k (place w) b (place v) → requested (listsIn tab k) l ≡ said (found k b v)
 continued-found tab k l w b v s f q a m h =
-    held-asked (listsIn tab k) l f ∙ cond-true (allowed (listsIn tab k) (l .at)) (handed l (nextPlacement (listsIn tab k) (l .at))) (notAllowed l) a
-    ∙ ap (handed l) (next-found tab k (s .few) (l .at) (allowed-right tab k (s .few) (l .at) a) b v m (subst (λ u. Next (mayIn tab) k (place u) b (place v)) q h))
+    held-asked (listsIn tab k) l f ∙ cond-true (allowed (listsIn tab k) (l .at)) (said (nextPlacement (listsIn tab k) (l .at))) (refuses 18 0) a
+    ∙ ap said (next-found tab k (s .few) (l .at) (allowed-right tab k (s .few) (l .at) a) b v m (subst (λ u. Following (mayIn tab) k (place u) b (place v)) q h))
 
-pub continued-refused : (tab : List ℕ) (k : ℕ) (l : Listing) → l .fresh ≡ false → allowed (listsIn tab k) (l .at) ≡ false
-    → requested (listsIn tab k) l ≡ notAllowed l
+pub continued-refused : (tab : List ℕ) (k : ℕ) (l : Listing) → l .mark ≡ noMark → allowed (listsIn tab k) (l .at) ≡ false
+    → requested (listsIn tab k) l ≡ refuses 18 0
 continued-refused tab k l f a =
-    held-asked (listsIn tab k) l f ∙ cond-false (allowed (listsIn tab k) (l .at)) (handed l (nextPlacement (listsIn tab k) (l .at))) (notAllowed l) a
+    held-asked (listsIn tab k) l f ∙ cond-false (allowed (listsIn tab k) (l .at)) (said (nextPlacement (listsIn tab k) (l .at))) (refuses 18 0) a
 
--- an answer that is equal to b's is equal to a's
-pub through : (n : ℕ) (m : Listing) (a b : Listed) → a ≡ b → Tells b n m → Tells a n m
-through n m a b e h = (h .0 ∙ sym (ap (λ z. z .number) e), h .1 ∙ sym (ap (λ z. z .after) e))
+-- ---- the answer, by what is said
+pub through : {a b : Said (List ℕ)} {l : Listing} {r : Next} → a ≡ b → Moves b l r → Moves a l r
+through {l = l} {r = r} e h = subst (λ z. Moves z l r) (sym e) h
+
+pub refused : {a : Said (List ℕ)} {l : Listing} {n : ℕ} → a ≡ refuses n 0 → Moves a l (record { request = Refused n; listing = l })
+refused e = through e (record { says = refl; listing-after = refl })
 
 pub told-found : (k : ℕ) (b : Bool) (w p : List ℕ) (l : Listing) → b ≡ true → p ≡ entries k w
-    → Tells (handed l (found k b w)) 0 (record { at = p; fresh = false })
-told-found k true w p l e q = (refl, ap (λ z. record { at = z; fresh = false }) q)
+    → Moves (said (found k b w)) l (record { request = Met; listing = record { at = p; mark = noMark } })
+told-found k true w p l e q = record { says = refl; listing-after = ap (λ z. record { at = z; mark = noMark }) q }
 told-found k false w p l e q = absurd (false≢true e)
+
+pub told-none : (k : ℕ) (b : Bool) (w : List ℕ) (l : Listing) → b ≡ false → Moves (said (found k b w)) l (record { request = Refused 17; listing = l })
+told-none k true w l e = absurd (true≢false e)
+told-none k false w l e = refused refl
 
 -- where they stand are positions
 pub first-small : (tab : List ℕ) (k : ℕ) (b : Bool) (w : List ℕ) → IsFirst (mayIn tab) k b (place w) → b ≡ true → Small k w
 first-small tab k true w h e s l = full-small tab k s (place w) (h .0) l
 first-small tab k false w h e s l = absurd (false≢true e)
 
-pub next-small : (tab : List ℕ) (k : ℕ) (b : Bool) (p w : List ℕ) → Next (mayIn tab) k (place p) b (place w) → b ≡ true → Small k w
+pub next-small : (tab : List ℕ) (k : ℕ) (b : Bool) (p w : List ℕ) → Following (mayIn tab) k (place p) b (place w) → b ≡ true → Small k w
 next-small tab k true p w h e s l = full-small tab k s (place w) (h .0) l
 next-small tab k false p w h e s l = absurd (false≢true e)

@@ -7,11 +7,12 @@ use Prim.Native.Nat.{ℕ, _<_, _≤_}
 use lib.ListN.{take}
 use Rattle.scope.specs.declared.answers.Listing.{Listing}
 use Rattle.scope.specs.Limits.{copyLimit, positionLimit}
-use Rattle.scope.specs.Lists.{padded}
-use Rattle.scope.specs.Placements.{Listed}
+use Rattle.scope.specs.Lists.{given, padded}
+use Rattle.scope.specs.Answers.{Said, good, refuses, saysRequest, met, movedOn}
 use Rattle.exchange.specs.Where.{Full}
 use Rattle.exchange.specs.Order.{Verdict}
 use Rattle.exchange.specs.Table.{place, mayIn}
+use Rattle.placements.specs.declared.Next.{Next}
 
 -- "unused ones 0"
 abbrev pub Zeros : ℕ → List ℕ → Type 0
@@ -41,6 +42,11 @@ abbrev pub found : ℕ → Bool → List ℕ → Option (List ℕ)
 found k true w = some (entries k w)
 found k false w = none
 
--- a number and a record, as a request answers them
-abbrev pub Tells : Listed → ℕ → Listing → Type 0
-Tells a n r = (n ≡ a .number) × (r ≡ a .after)
+-- the placement handed out, or 17
+abbrev pub said : Option (List ℕ) → Said (List ℕ)
+said o = given o good (refuses 17 0)
+
+-- the answer to a request and the listing after it, by what is said of the request
+pub record Moves (a : Said (List ℕ)) (l : Listing) (r : Next) : Type 0 where
+  pub says : saysRequest (r .request) ≡ met a
+  pub listing-after : r .listing ≡ movedOn l a

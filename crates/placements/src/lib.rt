@@ -4,17 +4,19 @@ use exchange::Standing;
 use scope::answers::Ledger;
 use scope::answers::Listing;
 use scope::answers::Placement;
+use scope::answers::Request;
 ghost use mathlib.Core.Path.{_≡_};
 ghost use mathlib.Core.Bool.{true, false};
 ghost use Prim.Native.Nat.{_<_, _≤_};
 ghost use Rattle.scope.specs.Limits.{copyLimit};
-ghost use Rattle.scope.specs.Placements.{allowed, handed, requested};
+ghost use Rattle.scope.specs.Placements.{allowed, freshMark, noMark};
+ghost use Rattle.scope.specs.Answers.{requested};
 ghost use Rattle.areas.specs.Floats.{listsIn, Sized};
-ghost use Rattle.placements.specs.Steps.{Unused, Alone, Stand, Small, entries, found, Tells};
+ghost use Rattle.placements.specs.Steps.{Unused, Alone, Stand, Small, entries, found, said, Moves};
 
-// What a request answers, and the record after it.
-pub struct Moved {
-    pub number: u8,
+// What a request is answered, and the listing after it.
+pub struct Next {
+    pub request: Request,
     pub listing: Listing,
 }
 
@@ -102,45 +104,48 @@ pub fn is_allowed(tab: &[u8], k: usize, p: Placement) -> bool
     false
 }
 
-// The record moved on to what was found; or 17, and the record as it was.
-fn told(k: usize, a: Answer, l: Listing) -> Moved
+// The listing moved on to what was found; or 17, and the listing as it was.
+fn told(k: usize, a: Answer, l: Listing) -> Next
     requires { ⌜ (k ≤ copyLimit) × (a .ok ≡ true → Small k (a .at .at)) ⌝ }
-    ensures { λ r. ⌜ Tells (handed l (found k (a .ok) (a .at .at))) (r .number) (r .listing) ⌝ }
+    ensures { λ r. ⌜ Moves (said (found k (a .ok) (a .at .at))) l r ⌝ }
 {
     if a.ok {
         let w = a.at;
         let at = narrowed(k, w);
-        return Moved {
-            number: 0,
-            listing: Listing { at, fresh: false },
+        return Next {
+            request: Request::Met,
+            listing: Listing {
+                at,
+                mark: Listing::UNMARKED,
+            },
         };
     }
-    Moved {
-        number: 17,
+    Next {
+        request: Request::Refused { number: 17 },
         listing: l,
     }
 }
 
-// A request to a fresh record.
-fn begun(tab: &[u8], k: usize, l: Listing) -> Moved
-    requires { ⌜ Sized (now tab) k × (l .fresh ≡ true) ⌝ }
-    ensures { λ r. ⌜ Tells (requested (listsIn (now (tab .entry)) k) l) (r .number) (r .listing) ⌝ }
+// A request to a listing marked fresh.
+fn begun(tab: &[u8], k: usize, l: Listing) -> Next
+    requires { ⌜ Sized (now tab) k × (l .mark ≡ freshMark) ⌝ }
+    ensures { λ r. ⌜ Moves (requested (listsIn (now (tab .entry)) k) l) l r ⌝ }
 {
     let at = l.at;
     if unused(at, 0) {
         let least = exchange::first(tab, k);
         return told(k, least, l);
     }
-    Moved {
-        number: 18,
+    Next {
+        request: Request::Refused { number: 18 },
         listing: l,
     }
 }
 
-// A request to a record that holds a placement.
-fn continued(tab: &[u8], k: usize, l: Listing) -> Moved
-    requires { ⌜ Sized (now tab) k × (l .fresh ≡ false) ⌝ }
-    ensures { λ r. ⌜ Tells (requested (listsIn (now (tab .entry)) k) l) (r .number) (r .listing) ⌝ }
+// A request to an unmarked one.
+fn continued(tab: &[u8], k: usize, l: Listing) -> Next
+    requires { ⌜ Sized (now tab) k × (l .mark ≡ noMark) ⌝ }
+    ensures { λ r. ⌜ Moves (requested (listsIn (now (tab .entry)) k) l) l r ⌝ }
 {
     let at = l.at;
     if is_allowed(tab, k, Placement { at }) {
@@ -148,19 +153,25 @@ fn continued(tab: &[u8], k: usize, l: Listing) -> Moved
         let further = exchange::next(tab, k, w);
         return told(k, further, l);
     }
-    Moved {
-        number: 18,
+    Next {
+        request: Request::Refused { number: 18 },
         listing: l,
     }
 }
 
-// "a small record that each request moves on"
-pub fn request(tab: &[u8], k: usize, l: Listing) -> Moved
+// "a small record that each request moves on"; any mark but the two gets 18
+pub fn request(tab: &[u8], k: usize, l: Listing) -> Next
     requires { ⌜ Sized (now tab) k ⌝ }
-    ensures { λ r. ⌜ (r .number ≡ requested (listsIn (now (tab .entry)) k) l .number) × (r .listing ≡ requested (listsIn (now (tab .entry)) k) l .after) ⌝ }
+    ensures { λ r. ⌜ Moves (requested (listsIn (now (tab .entry)) k) l) l r ⌝ }
 {
-    if l.fresh {
+    if l.mark == Listing::FRESH {
         return begun(tab, k, l);
     }
-    continued(tab, k, l)
+    if l.mark == Listing::UNMARKED {
+        return continued(tab, k, l);
+    }
+    Next {
+        request: Request::Refused { number: 18 },
+        listing: l,
+    }
 }

@@ -1,9 +1,10 @@
-use mathlib.Core.Path.{_≡_, refl}
+-- `placements::begun` meets its contract.
+use mathlib.Core.Path.{_≡_}
 use denote.Ref.{now}
 use lib.ListN.{length}
 use Rattle.scope.specs.Limits.{copyLimit}
 use Rattle.exchange.proofs.Laws.{yes, no}
-use Rattle.placements.proofs.Answers.{begun-found, begun-refused, through, first-small}
+use Rattle.placements.proofs.Answers.{begun-found, begun-refused, through, refused, first-small}
 use borrow.Author.Needs.{needs}
 use Rattle.placements.proofs.begun.Statement.{statement}
 use Rattle.placements.proofs.begun.Tie as tie
@@ -23,12 +24,12 @@ returns c = let s = c .before .before .before .before .before .before in
     let f = c .before .first in
     let n : length (s .args .l .at) ≡ copyLimit = search needs in
     let m : length (f .result .at .at) ≡ copyLimit = search needs in
-    through _ _ _ _ (begun-found (now (s .args .tab)) (s .args .k) (s .args .l) (f .result .ok) (f .result .at .at) (s .pre .0) (s .pre .1) n
+    through (begun-found (now (s .args .tab)) (s .args .k) (s .args .l) (f .result .ok) (f .result .at .at) (s .pre .0) (s .pre .1) n
     (yes _ _ (c .before .before .if1 .taken) (c .before .before .before .unused .ensures)) m (f .ensures)) (c .told .ensures)
 
 returns-2 : tie.Need-returns-2
 returns-2 c = let s = c .before .before .before .before in
-    through _ _ _ _ (begun-refused (now (s .args .tab)) (s .args .k) (s .args .l) (s .pre .1) (no _ _ (c .if1 .left) (c .before .unused .ensures))) (refl, refl)
+    refused (begun-refused (now (s .args .tab)) (s .args .k) (s .args .l) (s .pre .1) (no _ _ (c .if1 .left) (c .before .unused .ensures)))
 
 pub begun-spec : {M : Type 1} → statement M
 begun-spec = tie.close (tie.spec unused-requires first-requires told-requires returns returns-2)

@@ -1,8 +1,9 @@
-use mathlib.Core.Path.{_≡_, refl, sym, _∙_}
+-- `placements::continued` meets its contract.
+use mathlib.Core.Path.{_≡_, sym, _∙_}
 use denote.Ref.{now}
 use lib.ListN.{length}
 use Rattle.scope.specs.Limits.{copyLimit}
-use Rattle.placements.proofs.Answers.{allowed-full, continued-found, continued-refused, through, next-small}
+use Rattle.placements.proofs.Answers.{allowed-full, continued-found, continued-refused, through, refused, next-small}
 use borrow.Author.Needs.{needs}
 use Rattle.placements.proofs.continued.Statement.{statement}
 use Rattle.placements.proofs.continued.Tie as tie
@@ -28,12 +29,12 @@ returns : tie.Need-returns
 returns c = let s = c .before .before .before .before .before .before .before in
     let f = c .before .next in
     let w = c .before .before .widened in
-    through _ _ _ _ (continued-found (now (s .args .tab)) (s .args .k) (s .args .l) (w .result .at) (f .result .ok) (f .result .at .at) (s .pre .0) (s .pre .1) (w .ensures)
+    through (continued-found (now (s .args .tab)) (s .args .k) (s .args .l) (w .result .at) (f .result .ok) (f .result .at .at) (s .pre .0) (s .pre .1) (w .ensures)
     (sym (c .before .before .before .before .is-allowed .ensures) ∙ c .before .before .before .if1 .taken) (long (c .before)) (f .ensures)) (c .told .ensures)
 
 returns-2 : tie.Need-returns-2
 returns-2 c = let s = c .before .before .before .before in
-    through _ _ _ _ (continued-refused (now (s .args .tab)) (s .args .k) (s .args .l) (s .pre .1) (sym (c .before .is-allowed .ensures) ∙ c .if1 .left)) (refl, refl)
+    refused (continued-refused (now (s .args .tab)) (s .args .k) (s .args .l) (s .pre .1) (sym (c .before .is-allowed .ensures) ∙ c .if1 .left))
 
 pub continued-spec : {M : Type 1} → statement M
 continued-spec =

@@ -1,4 +1,5 @@
-use Rattle.placements.proofs.Answers.{told-found}
+-- `placements::told` meets its contract.
+use Rattle.placements.proofs.Answers.{told-found, told-none}
 use borrow.Author.Needs.{needs}
 use Rattle.placements.proofs.told.Statement.{statement}
 use Rattle.placements.proofs.told.Tie as tie
@@ -11,7 +12,7 @@ returns c =
     let s = c .before .before .before in told-found (s .args .k) (s .args .a .ok) (s .args .a .at .at) (c .narrowed .result) (s .args .l) (c .before .before .if1 .taken) (c .narrowed .ensures)
 
 returns-2 : tie.Need-returns-2
-returns-2 c = search needs
+returns-2 c = let s = c .before in told-none (s .args .k) (s .args .a .ok) (s .args .a .at .at) (s .args .l) (c .if1 .left)
 
 pub told-spec : {M : Type 1} → statement M
 told-spec = tie.close (tie.spec narrowed-requires returns returns-2)

@@ -14,11 +14,11 @@ use Rattle.scope.specs.Line.{Line}
 use Rattle.scope.specs.Refusals.{Outcome, accepted, outcome}
 use Rattle.scope.specs.Canonical.{canonical}
 use Rattle.scope.specs.Tables.{Tables, tablesOf, bytesOf, numbersOf, bytesSize, numbersSize, tablesIn}
-use Rattle.scope.specs.Answers.{Said, refuses, sameNumbers, readsTo, tooShort, areTables, overTables}
+use Rattle.scope.specs.Answers.{Said, refuses, sameNumbers, readsTo, tooShort, SomeLine, areTables, overTables}
 use Rattle.layout_laws.specs.Laws.{accepted-within, same-bytes, same-numbers, bytes-fill, numbers-fill, tables-back, laid-bytes, laid-numbers, areas-determine, same-law, same-numbers-law, tables-held, accepted-held}
 use Rattle.canonical_laws.specs.Proved as canonical-laws
 use Rattle.basics.specs.Tests.{both, neither}
-use Rattle.laws.specs.Demands.{bytesRead, numbersRead, writtenFrom, SomeLine, HoldTables, ReadsBack, Demand2}
+use Rattle.laws.specs.Demands.{bytesRead, numbersRead, writtenFrom, HoldTables, ReadsBack, Demand2}
 
 -- ---- 14
 reads-to : (o : Outcome) (l : Line ℕ) (bs : List ℕ) (ns : List ℤ) → o ≡ accepted l → bytesOf l ≡ bs → numbersOf l ≡ ns → readsTo o bs ns ≡ true

@@ -13,9 +13,9 @@ use Rattle.scope.specs.Canonical.{canonical}
 use Rattle.scope.specs.Tables.{Tables, tablesOf, bytesOf, numbersOf, bytesSize, numbersSize, tablesIn}
 use Rattle.scope.specs.Lists.{laid}
 use Rattle.scope.specs.Positions.{floaters, permittedPositions, rowsOf}
-use Rattle.scope.specs.Placements.{allowed, placements, freshListing, requested}
+use Rattle.scope.specs.Placements.{allowed, placements, freshListing}
 use Rattle.scope.specs.Masses.{massOr0, sum, total, lacking, ledger, labileMass}
-use Rattle.scope.specs.Answers.{Said, tooShort, areTables, overTables}
+use Rattle.scope.specs.Answers.{Said, refuses, tooShort, SomeLine, areTables, overTables, requested}
 use Rattle.mass_laws.specs.Terms.{Fair, Limited}
 use Rattle.placement_laws.specs.Terms.{In, Ascending, afterRequests, handedOut}
 
@@ -29,14 +29,6 @@ numbersRead l ns = laid (numbersOf l) ns
 -- the canonical line that is written from areas
 abbrev pub writtenFrom : List ℕ → List ℤ → List ℕ
 writtenFrom bs ns = canonical (tablesIn bs ns)
-
--- ---- 14 "tables that no accepted line reads to": some accepted line reads to what the areas begin with
-pub record SomeLine (bs : List ℕ) (ns : List ℤ) : Type 0 where
-  pub text : List ℕ
-  pub line : Line ℕ
-  pub reads : outcome text ≡ accepted line
-  pub bytes : take bytesSize bs ≡ bytesOf line
-  pub numbers : take numbersSize ns ≡ numbersOf line
 
 -- ---- demand 2
 
@@ -91,10 +83,9 @@ pub record Demand3 {P : Type 0} (t : Line P) : Type 0 where
   -- 17 "no placement, or no further one"
   pub then-17 :
       (n : ℕ) → many t ≤ n
-      → requested (permittedPositions t) (afterRequests (permittedPositions t) n freshListing)
-      ≡ record { number = 17; after = afterRequests (permittedPositions t) n freshListing }
+      → requested (permittedPositions t) (afterRequests (permittedPositions t) n freshListing) ≡ refuses 17 0
   -- "'none' exactly when none exists"
-  pub none-at-first : (requested (permittedPositions t) freshListing .number ≡ 17) ↔ ((p : List ℕ) → allowed (permittedPositions t) p ≡ true → ⊥)
+  pub none-at-first : (requested (permittedPositions t) freshListing ≡ refuses 17 0) ↔ ((p : List ℕ) → allowed (permittedPositions t) p ≡ true → ⊥)
   -- "the masses at all positions under any allowed placement plus the labile ones equal the line's total, exactly"
   pub adds-up : (p : List ℕ) → allowed (permittedPositions t) p ≡ true → sum (ledger t p) +ℤ labileMass t ≡ total t
   -- "each holds the masses .. of the floating copy put there, nothing else"; "entries past n+1 stay zero"

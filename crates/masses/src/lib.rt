@@ -8,6 +8,7 @@ use brackets::first;
 use brackets::is_modification;
 use brackets::is_placed;
 use brackets::parts;
+use scope::answers::Booked;
 use scope::answers::Ledger;
 use scope::answers::Placement;
 ghost use mathlib.Core.Path.{_≡_};
@@ -17,6 +18,7 @@ ghost use lib.Dec.{eqb};
 ghost use lib.IntN.{pos, natAbs, _+ℤ_, _*ℤ_};
 ghost use lib.ListN.{getD};
 ghost use Rattle.scope.specs.declared.grammar.Key.the-variants.{Obs};
+ghost use Rattle.scope.specs.declared.answers.Booked.the-variants.{Done};
 ghost use Rattle.scope.specs.Limits.{partLimit, decimalLimit, countLimit, copyLimit};
 ghost use Rattle.scope.specs.Lists.{keep};
 ghost use Rattle.scope.specs.Modifications.{isKey, copies};
@@ -229,18 +231,22 @@ fn placed_mass(bytes: &[u8], numbers: &[i64], k: usize) -> i64
 }
 
 // The ledger with the placed modifications.
-fn placed_ledger(bytes: &[u8], numbers: &[i64]) -> [i64; Ledger::POSITIONS]
+fn placed_ledger(bytes: &[u8], numbers: &[i64]) -> Ledger
     requires { ⌜ Bounds (now bytes) (now numbers) ⌝ }
-    ensures { λ r. ⌜ Placed (now (bytes .entry)) (now (numbers .entry)) r ⌝ }
+    ensures { λ r. ⌜ (r .booked ≡ Done) × (Placed (now (bytes .entry)) (now (numbers .entry)) (r .at)) ⌝ }
 {
-    let mut l = [0; Ledger::POSITIONS];
+    let mut l = Ledger {
+        booked: Booked::Done,
+        at: [0; Ledger::POSITIONS],
+    };
     let n = areas::brackets(bytes);
     let mut k: usize = 0;
     while k < n {
         let x = first(bytes, k);
         let m = placed_mass(bytes, numbers, k);
-        let old = l[x];
-        l[x] = add(old, m);
+        let old = l.at[x];
+        let sum = add(old, m);
+        l.at[x] = sum;
         k += 1;
     }
     l
@@ -301,9 +307,9 @@ fn put_bracket(
 }
 
 // The ledger of a placement.
-pub fn ledger_of(bytes: &[u8], numbers: &[i64], p: Placement) -> [i64; Ledger::POSITIONS]
+pub fn ledger_of(bytes: &[u8], numbers: &[i64], p: Placement) -> Ledger
     requires { ⌜ Bounds (now bytes) (now numbers) ⌝ }
-    ensures { λ r. ⌜ r ≡ ledger (tablesIn (now (bytes .entry)) (now (numbers .entry))) (p .at) ⌝ }
+    ensures { λ r. ⌜ (r .booked ≡ Done) × (r .at ≡ ledger (tablesIn (now (bytes .entry)) (now (numbers .entry))) (p .at)) ⌝ }
 {
     let at = p.at;
     let mut l = placed_ledger(bytes, numbers);
@@ -311,7 +317,7 @@ pub fn ledger_of(bytes: &[u8], numbers: &[i64], p: Placement) -> [i64; Ledger::P
     let mut k: usize = 0;
     let mut i: usize = 0;
     while k < n {
-        i = put_bracket(bytes, numbers, k, &mut l, at, i);
+        i = put_bracket(bytes, numbers, k, &mut l.at, at, i);
         k += 1;
     }
     l

@@ -1,9 +1,9 @@
--- Laws of the closers that `pair_end` keeps in a table, one for each arm. Assumes nothing.
+-- Laws of the closers that are owed inside a pair, kept in a table (`crowd_end`; `pair_end` with one place), one for each arm. Assumes nothing.
 use Prim.Native.Nat.{ℕ, zero, suc, _+_, _-_, _≤_, _<_}
 use mathlib.Core.Path.{_≡_, refl, sym, ap, _∙_}
 use mathlib.Core.Bool.{Bool, true, false}
 use mathlib.Core.Option.{some}
-use mathlib.Core.List.{List, _∷_}
+use mathlib.Core.List.{List, [], _∷_}
 use native.Mathlib.Numerals.{add-one}
 use native.Mathlib.Omega.{arith}
 use lib.Dec.{ltb}
@@ -65,6 +65,10 @@ pub record Inside (m : ℕ) (s : List ℕ) (at c : ℕ) (t : List ℕ) (n i : �
 pub record Paused (m : ℕ) (s : List ℕ) (at c : ℕ) (t : List ℕ) (n i : ℕ) : Type 0 where
   pub inside : Inside m s at c t n i
   pub pause : i < length s → isInner (getD s i 0) ≡ false
+
+-- with a table of one place, which holds c: what a call for a single pair keeps
+abbrev pub Alone : List ℕ → ℕ → ℕ → ℕ → Type 0
+Alone s at c i = Paused 1 s at c (c ∷ []) 1 i
 
 module _ (m : ℕ) (s : List ℕ) (at c : ℕ) (t : List ℕ) where
   pub inside-starts : length (c ∷ t) ≡ m → isShutting c ≡ true → Inside m s at c (c ∷ t) 1 at

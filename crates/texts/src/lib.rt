@@ -18,7 +18,10 @@ pub enum TextEnd {
     Stuck(usize),
 }
 
-// How many closers one call of `pair_end` keeps.
+// A pair with fewer pairs than these around it is read by a call of its own, a deeper one by `crowd_end`.
+const LEVELS: usize = 64;
+
+// How many closers one call of `crowd_end` keeps.
 const KEPT: usize = 64;
 
 // Where the text that starts at `at` ends; `hashes` says whether `#` is plain in it.
@@ -29,7 +32,7 @@ pub fn text_end(line: &[u8], at: usize, hashes: bool) -> TextEnd
     while i < line.len() {
         let b = line[i];
         if classes::is_opening(b) {
-            let e = pair_end(line, i + 1, closer_of(b));
+            let e = pair_end(line, i + 1, closer_of(b), 0);
             match e {
                 TextEnd::Ends(next) => {
                     i = outer_end(line, next, hashes);
@@ -45,9 +48,40 @@ pub fn text_end(line: &[u8], at: usize, hashes: bool) -> TextEnd
     TextEnd::Ends(i)
 }
 
-// From inside a pair that `closer` closes: the place behind its closer. The closers of the pairs that stand open are kept in a table,
+// From inside a pair that `closer` closes, with `level` pairs around it: the place behind its closer. Each pair within is read by a call.
+fn pair_end(line: &[u8], at: usize, closer: u8, level: usize) -> TextEnd
+    requires { ⌜ isShutting closer ≡ true ⌝ }
+    ensures { λ r. ⌜ Closed (now (line .entry)) at closer r ⌝ }
+{
+    if LEVELS <= level {
+        return crowd_end(line, at, closer);
+    }
+    let mut i = inner_end(line, at);
+    while i < line.len() {
+        let b = line[i];
+        if b == closer {
+            return TextEnd::Ends(i + 1);
+        }
+        if classes::is_opening(b) {
+            let e = pair_end(line, i + 1, closer_of(b), level + 1);
+            match e {
+                TextEnd::Ends(next) => {
+                    i = inner_end(line, next);
+                }
+                TextEnd::Stuck(k) => {
+                    return TextEnd::Stuck(k);
+                }
+            }
+        } else {
+            return TextEnd::Stuck(i);
+        }
+    }
+    TextEnd::Stuck(i)
+}
+
+// The same, for pairs so deep that a call for each would take too much stack: the closers of the pairs that stand open are kept in a table,
 // the innermost one last; a pair that is opened when the table is full is read by a call.
-pub fn pair_end(line: &[u8], at: usize, closer: u8) -> TextEnd
+fn crowd_end(line: &[u8], at: usize, closer: u8) -> TextEnd
     requires { ⌜ isShutting closer ≡ true ⌝ }
     ensures { λ r. ⌜ Closed (now (line .entry)) at closer r ⌝ }
 {
@@ -69,7 +103,7 @@ pub fn pair_end(line: &[u8], at: usize, closer: u8) -> TextEnd
                 depth += 1;
                 i = inner_end(line, i + 1);
             } else {
-                let e = pair_end(line, i + 1, closer_of(b));
+                let e = crowd_end(line, i + 1, closer_of(b));
                 match e {
                     TextEnd::Ends(next) => {
                         i = inner_end(line, next);

@@ -1,51 +1,40 @@
--- `masses::ledger_of` meets its contract. Assumes nothing.
+-- `masses::ledger_of` meets its contract: each turn puts the copies of one bracket into the entries of the ledger that is answered. Assumes nothing.
+use mathlib.Core.Path.{_≡_}
 use Prim.Native.Nat.{_-_}
 use native.Mathlib.Omega.{arith}
+use Rattle.scope.specs.declared.answers.Booked.the-variants.{Done}
 use Rattle.masses.proofs.LedgerLaws.{Floating, floating-start, floating-asks, floating-next, floating-end}
 use Rattle.masses.proofs.ledger_of.Statement.{statement}
 use Rattle.masses.proofs.ledger_of.Tie as tie
 
 abbrev Inv-loop : tie.InvT-loop
-Inv-loop bytes numbers at l₀ n k₀ i₀ l k i = Floating bytes numbers at n k l i
+Inv-loop bytes numbers at l₀ n k₀ i₀ l k i = (l .booked ≡ Done) × Floating bytes numbers at n k (l .at) i
 
 abbrev μ-loop : tie.MeasureT-loop
 μ-loop bytes numbers at l₀ n k₀ i₀ l k i = n - k
 
-placed-ledger-requires : tie.Need-placed-ledger-requires Inv-loop μ-loop
-placed-ledger-requires c κs = c .before .before .pre
-
-brackets-requires : tie.Need-brackets-requires Inv-loop μ-loop
-brackets-requires c κs = c .before .before .before .pre .bytes-room
-
 loop-holds : tie.Need-loop-holds Inv-loop μ-loop
-loop-holds c = floating-start (c .before .before .before .before .pre) (c .before .placed-ledger .ensures) (c .brackets .ensures .0)
+loop-holds c =
+    let p = c .before .placed-ledger .ensures in
+    (p .0, floating-start (c .before .before .before .before .pre) (p .1) (c .brackets .ensures .0))
 
 put-bracket-requires : tie.Need-put-bracket-requires Inv-loop μ-loop
-put-bracket-requires c κs = floating-asks (c .before .before .loop .inv) (c .before .loop-test .taken)
-
-add-k : tie.Need-add-k Inv-loop μ-loop
-add-k c = omega arith
-
-loop-less : tie.Need-loop-less Inv-loop μ-loop
-loop-less c = omega arith
+put-bracket-requires c κs = floating-asks (c .before .before .loop .inv .1) (c .before .loop-test .taken)
 
 loop-again : tie.Need-loop-again Inv-loop μ-loop
-loop-again c = floating-next (c .before .before .before .loop .inv) (c .before .before .loop-test .taken) (c .put-bracket .ensures)
+loop-again c =
+    let l = c .before .before in
+    let v = l .before .loop .inv in
+    (v .0, floating-next (v .1) (l .loop-test .taken) (c .put-bracket .ensures))
 
 returns : tie.Need-returns Inv-loop μ-loop
-returns c = floating-end (c .before .loop .inv) (c .loop-test .left)
+returns c =
+    let v = c .before .loop .inv in
+    (v .0, floating-end (v .1) (c .loop-test .left))
 
 pub ledger-of-spec : {M : Type 1} → statement M
 ledger-of-spec =
     tie.close
-    (tie.spec
-    Inv-loop
-    μ-loop
-    placed-ledger-requires
-    brackets-requires
-    loop-holds
-    put-bracket-requires
-    add-k
-    loop-less
-    loop-again
-    returns)
+    (tie.spec Inv-loop μ-loop
+    (λ c κs. c .before .before .pre) (λ c κs. c .before .before .before .pre .bytes-room) loop-holds put-bracket-requires (λ c. omega arith)
+    (λ c. omega arith) loop-again returns)

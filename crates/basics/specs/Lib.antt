@@ -1,3 +1,5 @@
 pub mod Choice
-pub mod Lists
 pub mod Tests
+pub mod Each
+pub mod Lists
+pub mod Tabled

@@ -1,13 +1,21 @@
--- What the definitions over lists say of lists in pieces, and of lists with nothing in them.
-use mathlib.Core.Path.{_≡_, refl, sym, ap, _∙_}
-use mathlib.Core.Bool.{Bool, true, false, cond}
-use mathlib.Core.Option.{none}
-use mathlib.Core.List.{List, [], _∷_, _++_, append-assoc, append-nil}
-use Prim.Native.Nat.{ℕ}
+-- What the definitions over lists say of lists in pieces, of lists that are mapped, and of lists with nothing in them; and that their tests of equality tell
+-- equal lists.
+use mathlib.Core.Path.{_≡_, refl, sym, ap, ap₂, _∙_, subst}
+use mathlib.Core.Bool.{Bool, true, false, cond, _&&_, _||_, false≢true}
+use mathlib.Core.Logic.{_↔_}
+use mathlib.Core.Option.{Option, none, some}
+use mathlib.Core.List.{List, [], _∷_, _++_, map, append-assoc, append-nil, map-append}
+use Prim.Native.Nat.{ℕ, zero, suc, _+_}
 use native.Mathlib.Omega.{arith}
-use Rattle.scope.specs.Lists.{flat, keep}
+use borrow.Author.Tests.{eqb-true, eq-eqb}
+use lib.Dec.{eqb}
+use lib.ListN.{length, replicate, length-append}
+use Rattle.scope.specs.Bytes.{upper, sameFolded}
+use Rattle.scope.specs.Lists.{all, flat, keep, same, among, onLast, optional}
 use Rattle.scope.specs.Refusals.{least, dueAt}
+use Rattle.basics.specs.Tests.{and-left, and-right}
 
+-- ---- lists in pieces
 pub flat-append : {A B : Type 0} (f : A → List B) (l m : List A) → flat f (l ++ m) ≡ flat f l ++ flat f m
 unfolding flat
 flat-append f [] m = refl
@@ -20,11 +28,83 @@ flat-one f x = append-nil (f x)
 pub flat-snoc : {A B : Type 0} (f : A → List B) (l : List A) (x : A) → flat f (l ++ (x ∷ [])) ≡ flat f l ++ f x
 flat-snoc f l x = flat-append f l (x ∷ []) ∙ ap (λ t. flat f l ++ t) (flat-one f x)
 
+pub flat-append-length : {A B : Type 0} (f : A → List B) (l m : List A) → length (flat f (l ++ m)) ≡ length (flat f l) + length (flat f m)
+flat-append-length f l m = ap length (flat-append f l m) ∙ length-append (flat f l) (flat f m)
+
+pub flat-one-length : {A B : Type 0} (f : A → List B) (x : A) → length (flat f (x ∷ [])) ≡ length (f x)
+flat-one-length f x = ap length (flat-one f x)
+
 pub keep-append : {A : Type 0} (f : A → Bool) (l m : List A) → keep f (l ++ m) ≡ keep f l ++ keep f m
 unfolding keep
 keep-append f [] m = refl
 keep-append f (x ∷ l) m = ap (λ t. cond (f x) (x ∷ []) [] ++ t) (keep-append f l m) ∙ sym (append-assoc (cond (f x) (x ∷ []) []) (keep f l) (keep f m))
 
+pub on-last : {A : Type 0} (f : A → A) (l : List A) (x : A) → onLast f (l ++ (x ∷ [])) ≡ l ++ (f x ∷ [])
+unfolding onLast
+on-last f [] x = refl
+on-last f (y ∷ []) x = refl
+on-last f (y ∷ z ∷ l) x = ap (λ t. y ∷ t) (on-last f (z ∷ l) x)
+
+pub among-append : (x : List ℕ) (l m : List (List ℕ)) → among x (l ++ m) ≡ (among x l || among x m)
+unfolding among
+among-append x [] m = refl
+among-append x (y ∷ l) m = go (same x y) (among-append x l m)
+  where
+    go : (t : Bool) → among x (l ++ m) ≡ (among x l || among x m) → (t || among x (l ++ m)) ≡ ((t || among x l) || among x m)
+    go true h = refl
+    go false h = h
+
+-- ---- lists that are mapped
+pub map-map : {A B C : Type 0} (f : B → C) (h : A → C) (g : A → B) → ((x : A) → f (g x) ≡ h x) → (l : List A) → map f (map g l) ≡ map h l
+map-map f h g e [] = refl
+map-map f h g e (x ∷ l) = ap₂ _∷_ (e x) (map-map f h g e l)
+
+pub flat-map : {A B C : Type 0} (f : B → List C) (h : A → List C) (g : A → B) → ((x : A) → f (g x) ≡ h x) → (l : List A) → flat f (map g l) ≡ flat h l
+unfolding flat
+flat-map f h g e [] = refl
+flat-map f h g e (x ∷ l) = ap₂ _++_ (e x) (flat-map f h g e l)
+
+pub all-map : {A B : Type 0} (f : B → Bool) (h : A → Bool) (g : A → B) → ((x : A) → f (g x) ≡ h x) → (l : List A) → all f (map g l) ≡ all h l
+unfolding all
+all-map f h g e [] = refl
+all-map f h g e (x ∷ l) = ap₂ _&&_ (e x) (all-map f h g e l)
+
+kept :
+    {A B : Type 0} (g : A → B) (x : A) (t u : Bool) (k : List B) (m : List A) → t ≡ u → k ≡ map g m
+    → cond t (g x ∷ []) [] ++ k ≡ map g (cond u (x ∷ []) [] ++ m)
+kept g x t true k m e q = rw e (ap (λ z. g x ∷ z) q)
+kept g x t false k m e q = rw e q
+
+pub keep-map :
+    {A B : Type 0} (f : B → Bool) (h : A → Bool) (g : A → B) → ((x : A) → f (g x) ≡ h x) → (l : List A) → keep f (map g l) ≡ map g (keep h l)
+unfolding keep
+keep-map f h g e [] = refl
+keep-map f h g e (x ∷ l) = kept g x (f (g x)) (h x) (keep f (map g l)) (keep h l) (e x) (keep-map f h g e l)
+
+pub map-replicate : {A B : Type 0} (g : A → B) (n : ℕ) (x : A) → map g (replicate n x) ≡ replicate n (g x)
+map-replicate g zero x = refl
+map-replicate g (suc n) x = ap (λ z. g x ∷ z) (map-replicate g n x)
+
+pub map-flat :
+    {A B C : Type 0} (f : B → C) (g : A → List B) (h : A → List C) → ((x : A) → map f (g x) ≡ h x) → (l : List A) → map f (flat g l) ≡ flat h l
+unfolding flat
+map-flat f g h e [] = refl
+map-flat f g h e (x ∷ l) = map-append f (g x) (flat g l) ∙ ap₂ _++_ (e x) (map-flat f g h e l)
+
+pub keep-same : {A : Type 0} (f h : A → Bool) → ((x : A) → f x ≡ h x) → (l : List A) → keep f l ≡ keep h l
+unfolding keep
+keep-same f h e [] = refl
+keep-same f h e (x ∷ l) = ap₂ (λ t m. cond t (x ∷ []) [] ++ m) (e x) (keep-same f h e l)
+
+pub optional-map :
+    {A B C : Type 0} (f : B → C) (h : A → C) (g : A → B) → ((x : A) → f (g x) ≡ h x) → (o : Option A) → optional f (optional g o) ≡ optional h o
+optional-map f h g e none = refl
+optional-map f h g e (some x) = ap some (e x)
+
+pub map-joined : {A B C : Type 0} (g : B → C) (f : A → B) (l : List A) → map (λ x. g (f x)) l ≡ map g (map f l)
+map-joined g f l = sym (map-map g (λ x. g (f x)) f (λ x. refl) l)
+
+-- ---- nothing in them
 pub nil-front : {A : Type 0} (l m : List A) → l ++ m ≡ [] → l ≡ []
 nil-front [] m e = refl
 nil-front (x ∷ l) m e = let z : _≡_ {A = ℕ} 0 1 = cc in absurd (omega arith)
@@ -42,3 +122,27 @@ least-none (i ∷ l) e = let z : _≡_ {A = ℕ} 0 1 = cc in absurd (omega arith
 pub not-due : (t : Bool) (i : ℕ) → dueAt t i ≡ [] → t ≡ false
 not-due true i e = let z : _≡_ {A = ℕ} 0 1 = cc in absurd (omega arith)
 not-due false i e = refl
+
+-- ---- equality
+same-is : (x y : List ℕ) → same x y ≡ true → x ≡ y
+unfolding same
+same-is [] [] e = refl
+same-is [] (b ∷ y) e = absurd (false≢true e)
+same-is (a ∷ x) [] e = absurd (false≢true e)
+same-is (a ∷ x) (b ∷ y) e = ap₂ _∷_ (eqb-true a b (and-left (eqb a b) (same x y) e)) (same-is x y (and-right (eqb a b) (same x y) e))
+
+same-self : (x : List ℕ) → same x x ≡ true
+unfolding same
+same-self [] = refl
+same-self (a ∷ x) = rw (eq-eqb a a refl) (same-self x)
+
+pub same-law : (x y : List ℕ) → (same x y ≡ true) ↔ (x ≡ y)
+same-law x y = (same-is x y, λ e. subst (λ z. same x z ≡ true) e (same-self x))
+
+-- in either case: of one length
+pub folded-length : (x y : List ℕ) → sameFolded x y ≡ true → length x ≡ length y
+unfolding sameFolded
+folded-length [] [] e = refl
+folded-length [] (b ∷ y) e = absurd (false≢true e)
+folded-length (a ∷ x) [] e = absurd (false≢true e)
+folded-length (a ∷ x) (b ∷ y) e = ap suc (folded-length x y (and-right (eqb (upper a) (upper b)) (sameFolded x y) e))

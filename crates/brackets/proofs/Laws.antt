@@ -21,7 +21,7 @@ use Rattle.scope.specs.Kinds.{onOnePosition, kindIn}
 use Rattle.scope.specs.Positions.{isPlaced}
 use Rattle.scope.specs.Tables.{byteAt, rowAt, partAt, valueIn, partIn, bracketIn}
 use Rattle.brackets.specs.Codes.{key-is}
-use Rattle.brackets.specs.Tabled.{tabled-at, tabled-end, tabled-all}
+use Rattle.basics.specs.Tabled.{tabled-at, tabled-end, tabled-all}
 
 -- ---- the kind of a number
 pub other-kind : (n : ℕ) → (n ≡ 2 → ⊥) → (n ≡ 3 → ⊥) → (n ≡ 4 → ⊥) → (n ≡ 5 → ⊥) → (n ≡ 6 → ⊥) → Unknown ≡ kindIn n

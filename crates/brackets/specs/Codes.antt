@@ -11,7 +11,7 @@ use lib.ListN.{List·getD-map, List·getD-eq-default}
 use Rattle.scope.specs.declared.grammar.Key.the-variants.{NoKey}
 use Rattle.scope.specs.Keys.{keys, keyCode, keyIn}
 use Rattle.scope.specs.Lists.{tabled}
-use Rattle.brackets.specs.Tabled.{getD-tabled}
+use Rattle.basics.specs.Tabled.{getD-tabled}
 
 -- the key of a number, as a number again
 key-code : (n : ℕ) → n < 18 → keyCode (keyIn n) ≡ n

@@ -20,10 +20,11 @@ use Rattle.reading_laws.specs.Places.{mapNumber, mapLabel, mapValue, mapPart, m
 use Rattle.reading_laws.specs.Run.{run-map, unnoted}
 use Rattle.basics.specs.Lists.{nil-front, nil-back, least-none, not-due}
 use Rattle.basics.specs.Tests.{and-right, or-right}
-use Rattle.canonical_laws.specs.Lists.{All, pick-true}
+use Rattle.basics.specs.Each.{Each}
+use Rattle.basics.specs.Choice.{pick-true}
 use Rattle.canonical_laws.specs.Numbers.{some-power}
-use Rattle.canonical_laws.specs.Brackets.{Place, FitsNumber, FitsValue, FitsScore, FitsLabel, FitsPart}
-use Rattle.canonical_laws.specs.Runs.{lineRun, run-line}
+use Rattle.canonical_laws.specs.Brackets.{FitsNumber, FitsValue, FitsScore, FitsLabel, FitsPart}
+use Rattle.reading_laws.specs.Unnoted.{Place, lineRun, run-line}
 use Rattle.canonical_laws.specs.Unknowns.{normal, FitsBracket}
 use Rattle.canonical_laws.specs.Counts.{Once}
 use Rattle.canonical_laws.specs.Refusals.{Same, Alike}
@@ -94,7 +95,7 @@ pub unnoted-run : (s : List ℕ) → mapState unnoted (run (λ i. i) 0 start s) 
 unnoted-run s = run-map unnoted (λ i. i) 0 start s ∙ run-line 0 start s
 
 -- ---- numbers of a line that is not refused under 7
-flat-all : {A : Type 0} (F : A → List ℕ) (l : List A) → flat F l ≡ [] → All (λ x. F x ≡ []) l
+flat-all : {A : Type 0} (F : A → List ℕ) (l : List A) → flat F l ≡ [] → Each (λ x. F x ≡ []) l
 unfolding flat
 flat-all F [] e = tt
 flat-all F (x ∷ l) e = (nil-front (F x) (flat F l) e, flat-all F l (nil-back (F x) (flat F l) e))
@@ -119,7 +120,7 @@ fits-label : (o : Option (Label ℕ)) → given o (λ l. given (l .score) wide [
 fits-label none e = tt
 fits-label (some l) e = fits-score (l .score) e
 
-fits-parts : (ps : List (Part ℕ)) → All (λ p. wideMass (p .value) ++ wideScore p ≡ []) ps → All FitsPart (map (mapPart unnoted) ps)
+fits-parts : (ps : List (Part ℕ)) → Each (λ p. wideMass (p .value) ++ wideScore p ≡ []) ps → Each FitsPart (map (mapPart unnoted) ps)
 fits-parts [] w = tt
 fits-parts (p ∷ ps) w = ((fits-value (p .value) (nil-front _ (wideScore p) (w .0)), fits-label (p .label) (nil-back (wideMass (p .value)) _ (w .0))), fits-parts ps (w .1))
 
@@ -130,7 +131,7 @@ fits-count k w e = go (k .counted) refl e
     go none f e = omega (arith, w f)
     go (some i) f e = omega (arith, ltb-false countLimit (k .count) (or-right (eqb (k .count) 0) (ltb countLimit (k .count)) (not-due (eqb (k .count) 0 || ltb countLimit (k .count)) i e)))
 
-fits-brackets : (ks : List (Bracket ℕ)) → All Once ks → All (λ k. wideCount k ++ flat (λ p. wideMass (p .value) ++ wideScore p) (k .parts) ≡ []) ks → All FitsBracket (map (mapBracket unnoted) ks)
+fits-brackets : (ks : List (Bracket ℕ)) → Each Once ks → Each (λ k. wideCount k ++ flat (λ p. wideMass (p .value) ++ wideScore p) (k .parts) ≡ []) ks → Each FitsBracket (map (mapBracket unnoted) ks)
 fits-brackets [] w e = tt
 fits-brackets (k ∷ ks) w e = (
   (
@@ -140,7 +141,7 @@ fits-brackets (k ∷ ks) w e = (
   fits-brackets ks (w .1) (e .1),
 )
 
-pub fits-line : (l : Line ℕ) → All Once (l .brackets) → refusal7 l ≡ none → All FitsBracket (map (mapBracket unnoted) (l .brackets))
+pub fits-line : (l : Line ℕ) → Each Once (l .brackets) → refusal7 l ≡ none → Each FitsBracket (map (mapBracket unnoted) (l .brackets))
 unfolding refusal7
 fits-line l w e = fits-brackets (l .brackets) w (flat-all (λ k. wideCount k ++ flat (λ p. wideMass (p .value) ++ wideScore p) (k .parts)) (l .brackets) (least-none _ e))
 
@@ -159,7 +160,7 @@ same-of k q w e =
     unmarked none e = refl
     unmarked (some i) e = absurd (Option·none-ne-some tt (sym e))
 
-pub alike-of : (ks qs : List (Bracket ℕ)) → All Once ks → map (mapBracket unnoted) qs ≡ map normal (map (mapBracket unnoted) ks) → Alike ks qs
+pub alike-of : (ks qs : List (Bracket ℕ)) → Each Once ks → map (mapBracket unnoted) qs ≡ map normal (map (mapBracket unnoted) ks) → Alike ks qs
 alike-of [] [] w e = tt
 alike-of [] (q ∷ qs) w e = absurd (let z : _≡_ {A = ℕ} 0 1 = cc in omega arith)
 alike-of (k ∷ ks) [] w e = absurd (let z : _≡_ {A = ℕ} 0 1 = cc in omega arith)

@@ -17,42 +17,12 @@ use Rattle.scope.specs.Lists.{given, none?, flat}
 use Rattle.scope.specs.Content.{Digits, signed, whole, pointed, broken, digitStep, numberEnd, isPlain, textStep, Context, Inner, begin, plain, keyed, inNumber, inCode, inText, hashed, inLabel, scoring, inScore, scored, Content, lost, closed, going, unlabelled, labelled, isReference, partEnd, valueEnd, textEnd, behindKey, colonAfter, nameBehind, innerStep}
 use Rattle.scope.specs.Reading.{refers?}
 use Rattle.scope.specs.Canonical.{size, massText, scoreText, valueText, partText, partsText}
-use Rattle.basics.specs.Lists.{flat-append}
+use Rattle.basics.specs.Lists.{flat-append, folded-length}
 use Rattle.basics.specs.Tests.{and-left, and-right}
-use Rattle.canonical_laws.specs.Lists.{branch, branchO, All, all-front, all-back, pick-true, pick-false, pick-some, pick-none}
-use Rattle.canonical_laws.specs.Numbers.{digitRun, run-cons, allRead, size-run, Ended, end-again, step-none, Sized, Over, over, size-head, sized-some, step-signed, is-digit, digit-value, digit-below}
-
-abbrev pub Place : Type 0
-Place = Unit {0}
-
-abbrev pub Parts : Type 0
-Parts = List (Part Place)
-
-abbrev pub context : ℕ → Bool → Parts → Context Place
-context shut r ps = record { shut = shut; refers = r; parts = ps }
-
--- ---- a run of bytes inside a bracket
-unfoldable pub contentStep : Content Place → ℕ → Content Place
-contentStep lost b = lost
-contentStep (closed ps) b = lost
-contentStep (going c) b = innerStep tt c b
-
-unfoldable pub contentRun : Content Place → List ℕ → Content Place
-contentRun x [] = x
-contentRun x (b ∷ l) = contentRun (contentStep x b) l
-
-pub content-append : (l m : List ℕ) (x : Content Place) → contentRun x (l ++ m) ≡ contentRun (contentRun x l) m
-unfolding contentRun
-content-append [] m x = refl
-content-append (b ∷ l) m x = content-append l m (contentStep x b)
-
-content-nil : (x : Content Place) → contentRun x [] ≡ x
-unfolding contentRun
-content-nil x = refl
-
-content-one : (c : Inner Place) (b : ℕ) → contentRun (going c) (b ∷ []) ≡ innerStep tt c b
-unfolding contentRun contentStep
-content-one c b = refl
+use Rattle.basics.specs.Choice.{branch-on, given-on, pick-true, pick-false, pick-some, pick-none}
+use Rattle.basics.specs.Each.{Each, each-front, each-back}
+use Rattle.reading_laws.specs.Unnoted.{Place, Parts, context, contentStep, contentRun, content-append, content-nil, content-one, digitRun, digits-cons, allRead}
+use Rattle.canonical_laws.specs.Numbers.{size-run, Ended, end-again, step-none, Sized, Over, over, size-head, sized-some, step-signed, is-digit, digit-value, digit-below}
 
 -- one byte more
 further : (x : Content Place) (w : List ℕ) (c : Inner Place) (b : ℕ) → contentRun x w ≡ going c → contentRun x (w ++ (b ∷ [])) ≡ innerStep tt c b
@@ -84,23 +54,16 @@ pub record KeyRun (k : Key) : Type 0 where
   pub long : length (written k) ≡ suc (length (spell k))
   pub path : (c : Context Place) → contentRun (going (begin c)) (written k) ≡ going (behindKey c tt k (form k))
 
-all-keys : All KeyRun keys
+all-keys : Each KeyRun keys
 unfolding keys written spell contentRun contentStep innerStep colonAfter keyOf keyAmong sameFolded upper textStep
 all-keys =
     (record { long = refl; path = λ c. refl }, (record { long = refl; path = λ c. refl }, (record { long = refl; path = λ c. refl }, (record { long = refl; path = λ c. refl }, (record { long = refl; path = λ c. refl }, (record { long = refl; path = λ c. refl }, (record { long = refl; path = λ c. refl }, (record { long = refl; path = λ c. refl }, (record { long = refl; path = λ c. refl }, (record { long = refl; path = λ c. refl }, (record { long = refl; path = λ c. refl }, (record { long = refl; path = λ c. refl }, (record { long = refl; path = λ c. refl }, (record { long = refl; path = λ c. refl }, (record { long = refl; path = λ c. refl }, (record { long = refl; path = λ c. refl }, (record { long = refl; path = λ c. refl }, tt)))))))))))))))))
-
-folded-length : (l m : List ℕ) → sameFolded l m ≡ true → length l ≡ length m
-unfolding sameFolded
-folded-length [] [] e = refl
-folded-length [] (y ∷ m) e = absurd (false≢true e)
-folded-length (x ∷ l) [] e = absurd (false≢true e)
-folded-length (x ∷ l) (y ∷ m) e = ap suc (folded-length l m (and-right (eqb (upper x) (upper y)) (sameFolded l m) e))
 
 pub record Found (t : List ℕ) (k : Key) : Type 0 where
   pub run : KeyRun k
   pub long : length (spell k) ≡ length t
 
-key-among : (ks : List Key) (t : List ℕ) (k : Key) → All KeyRun ks → keyAmong ks t ≡ some k → Found t k
+key-among : (ks : List Key) (t : List ℕ) (k : Key) → Each KeyRun ks → keyAmong ks t ≡ some k → Found t k
 unfolding keyAmong
 key-among [] t k w e = absurd (Option·none-ne-some k e)
 key-among (q ∷ ks) t k w e = go (sameFolded (spell q) t) refl e (λ h. key-among ks t k (w .1) h)
@@ -189,7 +152,7 @@ module _ (shut : ℕ) (r₀ r : Bool) where
   pub record Lead (c : Context Place) (j n : ℕ) : Type 0 where
     pub is : c ≡ context shut r₀ (c .parts)
     pub first : refers? (c .parts) ≡ false
-    pub path : All FitsPart (c .parts) → contentRun (home []) (lead (c .parts)) ≡ home (c .parts)
+    pub path : Each FitsPart (c .parts) → contentRun (home []) (lead (c .parts)) ≡ home (c .parts)
     pub short : length (lead (c .parts)) + j ≤ n
 
   -- a state that takes a sign, behind a key
@@ -233,7 +196,7 @@ module _ (shut : ℕ) (r₀ r : Bool) where
   pub record Closed (n : ℕ) (ps : Parts) : Type 0 where
     pub short : length (partsText ps) + 1 ≤ n
     pub refs : refers? ps ≡ true → r₀ ≡ true
-    pub path : All FitsPart ps → (refers? ps ≡ true → r ≡ true) → contentRun (home []) (partsText ps ++ (shut ∷ [])) ≡ closed ps
+    pub path : Each FitsPart ps → (refers? ps ≡ true → r ≡ true) → contentRun (home []) (partsText ps ++ (shut ∷ [])) ≡ closed ps
 
   unfoldable pub InvC : ℕ → Content Place → Type 0
   InvC n lost = Unit {0}
@@ -263,18 +226,18 @@ module _ (shut : ℕ) (r₀ r : Bool) where
       → InvC (suc n) (partEnd (context shut r₀ (c .parts)) p b)
   unfolding partEnd InvC Inv
   part-end c p b j n w h a f =
-      branch (eqb b shut) (InvC (suc n)) _ _ shuts
-      (λ e. branch (eqb b bar && not (isReference (p .value))) (InvC (suc n)) _ _ (bars e) (λ g. tt))
+      branch-on (InvC (suc n)) (eqb b shut) shuts
+      (λ e. branch-on (InvC (suc n)) (eqb b bar && not (isReference (p .value))) (bars e) (λ g. tt))
     where
       ps : Parts
       ps = c .parts
 
-      reach : (y : ℕ) → b ≡ y → All FitsPart (ps ++ (p ∷ [])) → Allowed p → contentRun (home []) (lead ps ++ (partText p ++ (y ∷ []))) ≡ partEnd (context shut r ps) p b
+      reach : (y : ℕ) → b ≡ y → Each FitsPart (ps ++ (p ∷ [])) → Allowed p → contentRun (home []) (lead ps ++ (partText p ++ (y ∷ []))) ≡ partEnd (context shut r ps) p b
       reach y e g o =
           content-append (lead ps) (partText p ++ (y ∷ [])) (home [])
-          ∙ ap (λ z. contentRun z (partText p ++ (y ∷ []))) (w .path (all-front FitsPart ps (p ∷ []) g))
+          ∙ ap (λ z. contentRun z (partText p ++ (y ∷ []))) (w .path (each-front FitsPart ps (p ∷ []) g))
           ∙ ap (λ z. contentRun (home ps) (partText p ++ (z ∷ []))) (sym e)
-          ∙ f (all-back FitsPart ps (p ∷ []) g .0) o
+          ∙ f (each-back FitsPart ps (p ∷ []) g .0) o
 
       shuts : eqb b shut ≡ true → Closed (suc n) (ps ++ (p ∷ []))
       shuts e =
@@ -307,7 +270,7 @@ module _ (shut : ℕ) (r₀ r : Bool) where
       → InvC (suc n) (valueEnd (context shut r₀ (c .parts)) (unlabelled tt k v) b)
   unfolding valueEnd InvC Inv
   value-end c k v b j n w h q f =
-      branch (eqb b hash && eqb shut shutSquare) (InvC (suc n)) _ _
+      branch-on (InvC (suc n)) (eqb b hash && eqb shut shutSquare)
       (λ e. (
         lead-on c j (suc (length (written k ++ valueText v))) n (suc n) w (omega arith),
         (λ z. absurd (false≢true (sym q ∙ z))),
@@ -351,15 +314,15 @@ module _ (shut : ℕ) (r₀ r : Bool) where
   step-begin : (c : Context Place) (b n : ℕ) → Lead c 0 n → InvC (suc n) (innerStep tt (begin (context shut r₀ (c .parts))) b)
   unfolding innerStep InvC Inv Sized written spell
   step-begin c b n w =
-      branch (isSign b) (InvC (suc n)) _ _ (λ e. (0, lead-on c 0 1 n (suc n) w (omega arith), tt, signs-begin (c .parts)))
+      branch-on (InvC (suc n)) (isSign b) (λ e. (0, lead-on c 0 1 n (suc n) w (omega arith), tt, signs-begin (c .parts)))
       (λ s.
-      branch (isPlain b) (InvC (suc n)) _ _
+      branch-on (InvC (suc n)) (isPlain b)
       (λ e. (lead-on c 0 1 n (suc n) w (omega arith), content-one _ b ∙ pick-false (isSign b) _ _ s ∙ pick-true (isPlain b) _ _ e))
       (λ p.
-      branchO (textStep false [] b) (InvC (suc n)) _ _
+      given-on (InvC (suc n)) (textStep false [] b)
       (λ cs e. (lead-on c 0 1 n (suc n) w (omega arith), content-one _ b ∙ pick-false (isSign b) _ _ s ∙ pick-false (isPlain b) _ _ p ∙ pick-some (textStep false [] b) _ _ cs e))
       (λ q.
-      branch (eqb b hash && r₀ && none? (c .parts)) (InvC (suc n)) _ _
+      branch-on (InvC (suc n)) (eqb b hash && r₀ && none? (c .parts))
       (λ e. (
         lead-on c 0 1 n (suc n) w (omega arith),
         (λ z. (nil-of (c .parts) (and-right (eqb b hash && r₀) (none? (c .parts)) e), and-right (eqb b hash) r₀ (and-left (eqb b hash && r₀) (none? (c .parts)) e))),
@@ -383,7 +346,7 @@ module _ (shut : ℕ) (r₀ r : Bool) where
   step-colon : (c : Context Place) (t : List ℕ) (n : ℕ) → Lead c (length t) n → contentRun (home (c .parts)) t ≡ going (plain (context shut r (c .parts)) tt t) → Inv (suc n) (colonAfter (context shut r₀ (c .parts)) tt t)
   unfolding Inv colonAfter written spell
   step-colon c t n w e =
-      branchO (keyOf t) (Inv (suc n)) _ _
+      given-on (Inv (suc n)) (keyOf t)
       (λ k g. let f = key-found t k g in behind c k (form k) (length t) n w (f .run .long ∙ ap suc (f .long)) (f .run .path (context shut r (c .parts))))
       (λ g. (lead-on c (length t) (length (t ++ (colon ∷ []))) n (suc n) w (rw (length-append t (colon ∷ [])) (omega arith)), further _ t _ colon e ∙ plain-colon _ t g))
 
@@ -391,11 +354,11 @@ module _ (shut : ℕ) (r₀ r : Bool) where
   unfolding innerStep InvC Inv written spell
   step-plain c t b n w e =
       let more : Lead (context shut r₀ (c .parts)) (length (t ++ (b ∷ []))) (suc n) = lead-on c (length t) (length (t ++ (b ∷ []))) n (suc n) w (rw (length-append t (b ∷ [])) (omega arith)) in
-      branch (isPlain b) (InvC (suc n)) _ _ (λ p. (more, further _ t _ b e ∙ pick-true (isPlain b) _ _ p))
+      branch-on (InvC (suc n)) (isPlain b) (λ p. (more, further _ t _ b e ∙ pick-true (isPlain b) _ _ p))
       (λ p.
-      branch (eqb b colon) (InvC (suc n)) _ _ (λ q. step-colon c t n w e)
+      branch-on (InvC (suc n)) (eqb b colon) (λ q. step-colon c t n w e)
       (λ q.
-      branchO (textStep false [] b) (InvC (suc n)) _ _
+      given-on (InvC (suc n)) (textStep false [] b)
       (λ cs g. (more, further _ t _ b e ∙ pick-false (isPlain b) _ _ p ∙ pick-false (eqb b colon) _ _ q ∙ pick-some (textStep false [] b) _ _ cs g))
       (λ g.
       value-end c NoKey (text t) b (length t) n w (omega arith) refl
@@ -405,7 +368,7 @@ module _ (shut : ℕ) (r₀ r : Bool) where
       → InvC (suc n) (nameBehind (context shut r₀ (c .parts)) tt k q b)
   unfolding InvC Inv
   step-behind c k massOrName b n w e =
-      branchO (textStep false [] b) (InvC (suc n)) _ _
+      given-on (InvC (suc n)) (textStep false [] b)
       (λ cs g. (
         lead-on c (length (written k)) (length (written k ++ (b ∷ []))) n (suc n) w (rw (length-append (written k) (b ∷ [])) (omega arith)),
         e ∙ pick-some (textStep false [] b) _ _ cs g,
@@ -419,7 +382,7 @@ module _ (shut : ℕ) (r₀ r : Bool) where
   step-keyed : (c : Context Place) (k : Key) (b n : ℕ) → Lead c (length (written k)) n → contentRun (home (c .parts)) (written k) ≡ going (keyed (context shut r (c .parts)) tt k) → InvC (suc n) (innerStep tt (keyed (context shut r₀ (c .parts)) tt k) b)
   unfolding innerStep InvC Inv Sized
   step-keyed c k b n w e =
-      branch (isSign b) (InvC (suc n)) _ _ (λ s. (0, lead-on c (length (written k)) (length (written k) + 1) n (suc n) w (omega arith), tt, signs-keyed (c .parts) k e))
+      branch-on (InvC (suc n)) (isSign b) (λ s. (0, lead-on c (length (written k)) (length (written k) + 1) n (suc n) w (omega arith), tt, signs-keyed (c .parts) k e))
       (λ s. step-behind c k (form k) b n w (further _ (written k) _ b e ∙ pick-false (isSign b) _ _ s))
 
   -- a mass, written and read
@@ -442,9 +405,9 @@ module _ (shut : ℕ) (r₀ r : Bool) where
   step-number : (c : Context Place) (k : Key) (d : Digits) (b n j : ℕ) → Lead c (length (written k) + suc j) n → Sized d j → Signs (c .parts) k → InvC (suc n) (innerStep tt (inNumber (context shut r₀ (c .parts)) tt k tt d) b)
   unfolding innerStep InvC Inv
   step-number c k d b n j w z g =
-      branchO (digitStep d b) (InvC (suc n)) _ _ (λ d′ e. (suc j, lead-on c (length (written k) + suc j) (length (written k) + suc (suc j)) n (suc n) w (omega arith), sized-some d d′ b j z e, g))
+      given-on (InvC (suc n)) (digitStep d b) (λ d′ e. (suc j, lead-on c (length (written k) + suc j) (length (written k) + suc (suc j)) n (suc n) w (omega arith), sized-some d d′ b j z e, g))
       (λ e.
-      branchO (numberEnd tt d) (InvC (suc n)) _ _
+      given-on (InvC (suc n)) (numberEnd tt d)
       (λ x f.
       let o = over tt d x j z f in
       value-end c k (mass x) b (length (written k) + suc j) n w (rw (length-append (written k) (massText x)) (omega (arith, o .short))) refl
@@ -469,7 +432,7 @@ module _ (shut : ℕ) (r₀ r : Bool) where
       → InvC (suc n) (innerStep tt (inCode (context shut r₀ (c .parts)) tt k t) b)
   unfolding innerStep InvC Inv
   step-code c k t b n w e =
-      branch (accessionByte (form k) b) (InvC (suc n)) _ _
+      branch-on (InvC (suc n)) (accessionByte (form k) b)
       (λ a. (longer c (written k) t b n w, regroup _ (written k) t b ∙ further _ (written k ++ t) _ b e ∙ pick-true (accessionByte (form k) b) _ _ a))
       (λ a. text-end c k t [] b n w (further _ (written k ++ t) _ b e ∙ pick-false (accessionByte (form k) b) _ _ a))
 
@@ -477,7 +440,7 @@ module _ (shut : ℕ) (r₀ r : Bool) where
       → InvC (suc n) (innerStep tt (inText (context shut r₀ (c .parts)) tt k t cs) b)
   unfolding innerStep InvC Inv
   step-text c k t cs b n w e =
-      branchO (textStep (hashIsPlain (form k)) cs b) (InvC (suc n)) _ _
+      given-on (InvC (suc n)) (textStep (hashIsPlain (form k)) cs b)
       (λ cs′ g. (longer c (written k) t b n w, regroup _ (written k) t b ∙ further _ (written k ++ t) _ b e ∙ pick-some (textStep (hashIsPlain (form k)) cs b) _ _ cs′ g))
       (λ g. text-end c k t cs b n w (further _ (written k ++ t) _ b e ∙ pick-none (textStep (hashIsPlain (form k)) cs b) _ _ g))
 
@@ -486,7 +449,7 @@ module _ (shut : ℕ) (r₀ r : Bool) where
       → InvC (suc n) (innerStep tt (hashed (context shut r₀ (c .parts)) p) b)
   unfolding innerStep InvC Inv
   step-hashed c p b n w a g =
-      branch (isAlnum b) (InvC (suc n)) _ _
+      branch-on (InvC (suc n)) (isAlnum b)
       (λ e. (lead-on c (suc (length (body p))) (suc (length (body p)) + 1) n (suc n) w (omega arith), a, (λ f o. further _ (body p ++ (hash ∷ [])) _ b (g f o) ∙ pick-true (isAlnum b) _ _ e)))
       (λ e. tt)
 
@@ -498,14 +461,14 @@ module _ (shut : ℕ) (r₀ r : Bool) where
       → InvC (suc n) (innerStep tt (inLabel (context shut r₀ (c .parts)) p tt name) b)
   unfolding innerStep InvC Inv
   step-label c p name b n w a g =
-      branch (isAlnum b) (InvC (suc n)) _ _
+      branch-on (InvC (suc n)) (isAlnum b)
       (λ e. (
         lead-on c (suc (length (body p)) + length name) (suc (length (body p)) + length (name ++ (b ∷ []))) n (suc n) w (rw (length-append name (b ∷ [])) (omega arith)),
         a,
         (λ f o. regroup _ (body p ++ (hash ∷ [])) name b ∙ further _ (body p ++ (hash ∷ []) ++ name) _ b (g f o) ∙ pick-true (isAlnum b) _ _ e),
       ))
       (λ e.
-      branch (eqb b openRound) (InvC (suc n)) _ _
+      branch-on (InvC (suc n)) (eqb b openRound)
       (λ q. (
         lead-on c (suc (length (body p)) + length name) (suc (length (body p)) + length name + 1) n (suc n) w (omega arith),
         a,
@@ -534,8 +497,8 @@ module _ (shut : ℕ) (r₀ r : Bool) where
   unfolding innerStep InvC Inv Sized
   step-scoring c p name b n w a g =
       let more : Lead (context shut r₀ (c .parts)) (suc (length (body p)) + length name + 1 + 1) (suc n) = lead-on c (suc (length (body p)) + length name + 1) (suc (length (body p)) + length name + 1 + 1) n (suc n) w (omega arith) in
-      branch (isSign b) (InvC (suc n)) _ _ (λ e. (1, 0, more, a, g, tt, omega (arith, sign-cost (eqb b dash))))
-      (λ e. branch (isDigit b) (InvC (suc n)) _ _ (λ q. (1, 1, more, a, g, (omega arith, digit-below b q), omega arith)) (λ q. tt))
+      branch-on (InvC (suc n)) (isSign b) (λ e. (1, 0, more, a, g, tt, omega (arith, sign-cost (eqb b dash))))
+      (λ e. branch-on (InvC (suc n)) (isDigit b) (λ q. (1, 1, more, a, g, (omega arith, digit-below b q), omega arith)) (λ q. tt))
 
   sign-kept : (d d′ : Digits) (b : ℕ) → digitStep d b ≡ some d′ → signIn d′ ≡ signIn d
   unfolding digitStep
@@ -613,7 +576,7 @@ module _ (shut : ℕ) (r₀ r : Bool) where
           ∙ content-cons _ (48 + g .head) (g .rest)
           ∙ ap (λ z. contentRun z (g .rest)) (scoring-digit c p name (g .head) (g .below))
           ∙ in-score c p name (g .rest) (whole false (g .head)) _
-          (sym (run-cons (signed false) (whole false (g .head)) (48 + g .head) (g .rest) (step-signed false (g .head) (g .below))) ∙ ap (digitRun (signed false)) (sym (g .is)) ∙ size-run false x f)
+          (sym (digits-cons (signed false) (whole false (g .head)) (48 + g .head) (g .rest) (step-signed false (g .head) (g .below))) ∙ ap (digitRun (signed false)) (sym (g .is)) ∙ size-run false x f)
 
   round-none : (s : Bool) (m d : ℕ) → digitStep (allRead s m d) shutRound ≡ none
   unfolding digitStep allRead
@@ -639,7 +602,7 @@ module _ (shut : ℕ) (r₀ r : Bool) where
       → InvC (suc n) (innerStep tt (inScore (context shut r₀ (c .parts)) p tt name tt d) b)
   unfolding innerStep InvC Inv
   step-score c p name d b n j i w a g z h =
-      branchO (digitStep d b) (InvC (suc n)) _ _
+      given-on (InvC (suc n)) (digitStep d b)
       (λ d′ e. (
         suc j,
         suc i,
@@ -650,9 +613,9 @@ module _ (shut : ℕ) (r₀ r : Bool) where
         rw (sign-kept d d′ b e) (omega arith),
       ))
       (λ e.
-      branch (eqb b shutRound) (InvC (suc n)) _ _
+      branch-on (InvC (suc n)) (eqb b shutRound)
       (λ q.
-      branchO (numberEnd tt d) (InvC (suc n)) _ _
+      given-on (InvC (suc n)) (numberEnd tt d)
       (λ x f.
       let o = over tt d x i z f in (
         lead-on c (suc (length (body p)) + length name + 1 + j) (length (partText (labelled p tt name (some x)))) n (suc n) w (rw (score-length p name x) (omega (arith, score-short d x i j o h))),

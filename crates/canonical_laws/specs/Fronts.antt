@@ -21,10 +21,11 @@ use Rattle.scope.specs.Canonical.{decimal, partsText, squareText, curlyText, co
 use Rattle.scope.specs.Kinds.{kindCode}
 use Rattle.basics.specs.Lists.{keep-append, flat-append}
 use Rattle.reading_laws.specs.Acts.{Ending, single-ends, ranged-ends, unsure-ends, cterms-end, ending}
-use Rattle.canonical_laws.specs.Lists.{branch, All, all-append, all-front, all-back, all-map}
+use Rattle.basics.specs.Choice.{branch-on}
+use Rattle.basics.specs.Each.{Each, each-append, each-front, each-back, each-one}
 use Rattle.canonical_laws.specs.Numbers.{digit-below, decimal-length}
-use Rattle.canonical_laws.specs.Brackets.{Place, Parts}
-use Rattle.canonical_laws.specs.Runs.{lineRun, line-nil, line-cons, line-further, Reads}
+use Rattle.reading_laws.specs.Unnoted.{Place, Parts, lineRun, line-nil, line-cons, line-further}
+use Rattle.canonical_laws.specs.Runs.{Reads}
 use Rattle.canonical_laws.specs.Unknowns.{Brackets, unknown, normal, FitsBracket, Square, IsUnknown, held, on-last, front-run, map-same, IsTerm, terms-end}
 use Rattle.canonical_laws.specs.Sequence.{hasKind, Low, flat-one}
 use Rattle.canonical_laws.specs.Lines.{unknowns, labiles, nterms, cterms, head, body, text, norm, Written, Within, Gather, Fresh, Outside, ClosedBy, Reached, begins, goes-on, closed-most, closed-least, square-length, bare-body, step-labile, step-element, step-single, step-opened, step-unsureOpened, step-inRange, step-inUnsure, step-rangeEnd, step-ranged, step-unsureEnd, step-start, step-cStart, step-cTerms, step-labiles, step-nterms, between-front, after}
@@ -33,22 +34,22 @@ use Rattle.canonical_laws.specs.Lines.{unknowns, labiles, nterms, cterms
 kind-is : (k : Bracket Place) → IsUnknown k → k .kind ≡ Unknown
 kind-is k w = ap (λ (z : Bracket Place). z .kind) (w .is)
 
-unknown-kind : (bs : Brackets) → All IsUnknown bs → ofKind Unknown bs ≡ bs
+unknown-kind : (bs : Brackets) → Each IsUnknown bs → ofKind Unknown bs ≡ bs
 unfolding keep
 unknown-kind [] w = refl
 unknown-kind (k ∷ bs) w =
     ap (λ z. cond (eqb (kindCode z) 1) (k ∷ []) [] ++ ofKind Unknown bs) (kind-is k (w .0)) ∙ ap (λ z. k ∷ z) (unknown-kind bs (w .1))
 
-other-kind : (c : Kind) (bs : Brackets) → eqb 1 (kindCode c) ≡ false → All IsUnknown bs → ofKind c bs ≡ []
+other-kind : (c : Kind) (bs : Brackets) → eqb 1 (kindCode c) ≡ false → Each IsUnknown bs → ofKind c bs ≡ []
 unfolding keep
 other-kind c [] e w = refl
 other-kind c (k ∷ bs) e w =
     ap (λ z. cond (eqb (kindCode z) (kindCode c)) (k ∷ []) [] ++ ofKind c bs) (kind-is k (w .0)) ∙ ap (λ z. cond z (k ∷ []) [] ++ ofKind c bs) e ∙ other-kind c bs e (w .1)
 
-unknown-low : (bs : Brackets) → All IsUnknown bs → Low 0 bs
-unknown-low bs w = all-map IsUnknown (λ k. k .last ≤ 0) bs (λ k v. omega (arith, ap (λ (z : Bracket Place). z .last) (v .is))) w
+unknown-low : (bs : Brackets) → Each IsUnknown bs → Low 0 bs
+unknown-low bs w = each-one IsUnknown (λ k. k .last ≤ 0) (λ k v. omega (arith, ap (λ (z : Bracket Place). z .last) (v .is))) bs w
 
-front-text : (bs : Brackets) → All IsUnknown bs → text Front (held bs []) ≡ closedBy (flat unknownText bs) question
+front-text : (bs : Brackets) → Each IsUnknown bs → text Front (held bs []) ≡ closedBy (flat unknownText bs) question
 unfolding text flat
 front-text bs w =
     bare-body (held bs []) refl (other-kind NTerm bs refl w)
@@ -56,10 +57,10 @@ front-text bs w =
     ∙ append-nil (unknowns bs)
     ∙ ap (λ z. closedBy (flat unknownText z) question) (unknown-kind bs w)
 
-front-written : (bs : Brackets) (n : ℕ) → All IsUnknown bs → length (closedBy (flat unknownText bs) question) ≤ n → Written n Front (held bs [])
+front-written : (bs : Brackets) (n : ℕ) → Each IsUnknown bs → length (closedBy (flat unknownText bs) question) ≤ n → Written n Front (held bs [])
 front-written bs n w h = record { path = λ fits. ap (lineRun start) (front-text bs w) ∙ front-run bs w fits; short = rw (front-text bs w) h }
 
-front-within : (bs : Brackets) → All IsUnknown bs → Within (held bs [])
+front-within : (bs : Brackets) → Each IsUnknown bs → Within (held bs [])
 front-within bs w = record { low = unknown-low bs w; no-cterm = other-kind CTerm bs refl w }
 
 -- ---- lengths of runs
@@ -93,10 +94,10 @@ is-term ps w = record { is = refl; reads = w }
 is-unknown : (n : ℕ) (o : Option Place) (ps : Parts) → refers? ps ≡ false → (o ≡ none → n ≡ 1) → Square ps → IsUnknown (unknown n o ps)
 is-unknown n o ps e h w = record { is = refl; plain = e; once = h; reads = w }
 
-all-one : {A : Type 0} (P : A → Type 0) (l : List A) (x : A) → All P l → P x → All P (l ++ (x ∷ []))
-all-one P l x w v = all-append P l (x ∷ []) w (v, tt)
+all-one : {A : Type 0} (P : A → Type 0) (l : List A) (x : A) → Each P l → P x → Each P (l ++ (x ∷ []))
+all-one P l x w v = each-append P l (x ∷ []) w (v, tt)
 
-gather : (bs rs : Brackets) → All IsUnknown bs → Gather (held bs rs)
+gather : (bs rs : Brackets) → Each IsUnknown bs → Gather (held bs rs)
 gather bs rs w = record { is = refl; settledOnes = w }
 
 fresh : (rs : Brackets) (ps : Parts) → Fresh (rs ++ (unknown 1 none ps ∷ []))
@@ -105,12 +106,12 @@ fresh rs ps = record { before = rs; parts = ps; is = refl }
 abbrev sizeOf : Brackets → ℕ
 sizeOf bs = length (closedBy (flat unknownText bs) question)
 
-step-lead : (bs rs : Brackets) (b n : ℕ) → All IsUnknown bs → All IsUnknown rs → All IsTerm rs → sizeOf bs + length (flat unknownText rs) ≤ n → Reached (suc n) (perform tt b (held bs rs) (Begin front))
+step-lead : (bs rs : Brackets) (b n : ℕ) → Each IsUnknown bs → Each IsUnknown rs → Each IsTerm rs → sizeOf bs + length (flat unknownText rs) ≤ n → Reached (suc n) (perform tt b (held bs rs) (Begin front))
 unfolding Outside
 step-lead bs rs b n w u v h =
     begins n b front (held bs rs)
     (λ ps j g.
-    branch (refers? ps) (λ m. Outside (suc n + j) m (held bs (rs ++ (unknown 1 none ps ∷ [])))) Referred Undecided
+    branch-on (λ m. Outside (suc n + j) m (held bs (rs ++ (unknown 1 none ps ∷ [])))) (refers? ps) {x = Referred} {y = Undecided}
     (λ e. (
       gather bs (rs ++ (unknown 1 none ps ∷ [])) w,
       all-one IsTerm rs (unknown 1 none ps) v (is-term ps (squares front j ps refl g)),
@@ -132,7 +133,7 @@ no-reference ps f = go (refers? ps) f
     go true f = sym (f refl)
     go false f = refl
 
-step-more : (bs rs : Brackets) (b n : ℕ) → All IsUnknown bs → All IsUnknown rs → sizeOf bs + length (flat unknownText rs) ≤ n → Reached (suc n) (perform tt b (held bs rs) (Begin (square Unknown false Counted)))
+step-more : (bs rs : Brackets) (b n : ℕ) → Each IsUnknown bs → Each IsUnknown rs → sizeOf bs + length (flat unknownText rs) ≤ n → Reached (suc n) (perform tt b (held bs rs) (Begin (square Unknown false Counted)))
 unfolding Outside
 step-more bs rs b n w u h =
     begins n b (square Unknown false Counted) (held bs rs)
@@ -144,7 +145,7 @@ step-more bs rs b n w u h =
       rw (fresh-length rs none ps) (omega (arith, g true .short)),
     ))
 
-step-refer : (bs rs : Brackets) (b n : ℕ) → All IsUnknown bs → All IsTerm rs → sizeOf bs + length (flat squareText rs) ≤ n → Reached (suc n) (perform tt b (held bs rs) (Begin (square Unknown true Referred)))
+step-refer : (bs rs : Brackets) (b n : ℕ) → Each IsUnknown bs → Each IsTerm rs → sizeOf bs + length (flat squareText rs) ≤ n → Reached (suc n) (perform tt b (held bs rs) (Begin (square Unknown true Referred)))
 unfolding Outside
 step-refer bs rs b n w v h =
     begins n b (square Unknown true Referred) (held bs rs)
@@ -157,11 +158,11 @@ step-refer bs rs b n w v h =
     ))
 
 -- ---- `?` and `-`
-step-runEnds : (bs rs : Brackets) (b n : ℕ) → All IsUnknown bs → All IsUnknown rs → sizeOf bs + length (flat unknownText rs) ≤ n → Reached (suc n) (perform tt b (held bs rs) RunEnds)
+step-runEnds : (bs rs : Brackets) (b n : ℕ) → Each IsUnknown bs → Each IsUnknown rs → sizeOf bs + length (flat unknownText rs) ≤ n → Reached (suc n) (perform tt b (held bs rs) RunEnds)
 unfolding Reached Outside perform
 step-runEnds bs rs b n w u h =
     subst (λ (z : Brackets). Gather (held (bs ++ z) []) × (_≡_ {A = Brackets} [] []) × (sizeOf (bs ++ z) ≤ suc n)) (sym (map-same rs))
-    (gather (bs ++ rs) [] (all-append IsUnknown bs rs w u), refl, short)
+    (gather (bs ++ rs) [] (each-append IsUnknown bs rs w u), refl, short)
   where
     short : sizeOf (bs ++ rs) ≤ suc n
     short =
@@ -183,25 +184,25 @@ unfolding flat
 term-texts [] = refl
 term-texts (k ∷ rs) = ap (λ z. squareText k ++ z) (term-texts rs)
 
-term-fits : (rs : Brackets) → All FitsBracket (map asNTerm rs) → All FitsBracket rs
+term-fits : (rs : Brackets) → Each FitsBracket (map asNTerm rs) → Each FitsBracket rs
 term-fits [] w = tt
 term-fits (k ∷ rs) w = (w .0, term-fits rs (w .1))
 
-term-normal : (rs : Brackets) → All IsTerm rs → map normal (map asNTerm rs) ≡ map asNTerm rs
+term-normal : (rs : Brackets) → Each IsTerm rs → map normal (map asNTerm rs) ≡ map asNTerm rs
 term-normal [] w = refl
 term-normal (k ∷ rs) w = both (ap (λ (z : Bracket Place). normal (asNTerm z)) (w .0 .is) ∙ sym (ap asNTerm (w .0 .is))) (term-normal rs (w .1))
   where
     both : normal (asNTerm k) ≡ asNTerm k → map normal (map asNTerm rs) ≡ map asNTerm rs → _≡_ {A = Brackets} (normal (asNTerm k) ∷ map normal (map asNTerm rs)) (asNTerm k ∷ map asNTerm rs)
     both e f = cc
 
-term-low : (rs : Brackets) → All IsTerm rs → Low 0 (map asNTerm rs)
+term-low : (rs : Brackets) → Each IsTerm rs → Low 0 (map asNTerm rs)
 term-low [] w = tt
 term-low (k ∷ rs) w = (omega (arith, ap (λ (z : Bracket Place). z .last) (w .0 .is)), term-low rs (w .1))
 
 kinds-append : (c : Kind) (l m : Brackets) → ofKind c (l ++ m) ≡ ofKind c l ++ ofKind c m
 kinds-append c l m = keep-append (hasKind c) l m
 
-term-text : (bs rs : Brackets) → All IsUnknown bs → text Start (held (bs ++ map asNTerm rs) []) ≡ closedBy (flat unknownText bs) question ++ closedBy (flat squareText rs) dash
+term-text : (bs rs : Brackets) → Each IsUnknown bs → text Start (held (bs ++ map asNTerm rs) []) ≡ closedBy (flat unknownText bs) question ++ closedBy (flat squareText rs) dash
 unfolding text head sequenceText flat
 term-text bs rs w =
     append-nil (head (bs ++ map asNTerm rs))
@@ -214,21 +215,21 @@ term-text bs rs w =
     (kinds-append NTerm bs (map asNTerm rs) ∙ ap (λ z. z ++ ofKind NTerm (map asNTerm rs)) (other-kind NTerm bs refl w) ∙ term-kind rs)
     ∙ ap (λ z. closedBy (flat unknownText bs) question ++ closedBy z dash) (term-texts rs)
 
-step-termEnds : (bs : Brackets) (k : Bracket Place) (ns : Brackets) (b n : ℕ) → All IsUnknown bs → All IsTerm (k ∷ ns) → sizeOf bs + length (flat squareText (k ∷ ns)) ≤ n → Reached (suc n) (perform tt b (held bs (k ∷ ns)) TermEnds)
+step-termEnds : (bs : Brackets) (k : Bracket Place) (ns : Brackets) (b n : ℕ) → Each IsUnknown bs → Each IsTerm (k ∷ ns) → sizeOf bs + length (flat squareText (k ∷ ns)) ≤ n → Reached (suc n) (perform tt b (held bs (k ∷ ns)) TermEnds)
 unfolding Reached Outside perform
 step-termEnds bs k ns b n w v h = (
   record {
     path = λ fits.
         ap (lineRun start) (term-text bs (k ∷ ns) w)
         ∙ line-further (closedBy (flat unknownText bs) question) (closedBy (flat squareText (k ∷ ns)) dash) start (outside Front (held (map normal bs) [])) _
-        (front-run bs w (all-front FitsBracket bs (map asNTerm (k ∷ ns)) fits))
-        (terms-end (map normal bs) k ns v (term-fits (k ∷ ns) (all-back FitsBracket bs (map asNTerm (k ∷ ns)) fits)))
+        (front-run bs w (each-front FitsBracket bs (map asNTerm (k ∷ ns)) fits))
+        (terms-end (map normal bs) k ns v (term-fits (k ∷ ns) (each-back FitsBracket bs (map asNTerm (k ∷ ns)) fits)))
         ∙ ap (λ (z : Brackets). outside Start (held z [])) (ap (λ z. map normal bs ++ z) (sym (term-normal (k ∷ ns) v)) ∙ sym (map-append normal bs (map asNTerm (k ∷ ns))));
     short =
         rw (term-text bs (k ∷ ns) w, length-append (closedBy (flat unknownText bs) question) (closedBy (flat squareText (k ∷ ns)) dash)) (omega (arith, closed-most (flat squareText (k ∷ ns)) dash));
   },
   record {
-    low = all-append (λ q. q .last ≤ 0) bs (map asNTerm (k ∷ ns)) (unknown-low bs w) (term-low (k ∷ ns) v);
+    low = each-append (λ q. q .last ≤ 0) bs (map asNTerm (k ∷ ns)) (unknown-low bs w) (term-low (k ∷ ns) v);
     no-cterm = kinds-append CTerm bs (map asNTerm (k ∷ ns)) ∙ ap (λ z. z ++ ofKind CTerm (map asNTerm (k ∷ ns))) (other-kind CTerm bs refl w) ∙ term-other CTerm (k ∷ ns) refl;
   },
 )
@@ -238,12 +239,12 @@ front-held : (n : ℕ) (h : Held Place) → Outside n Front h → h ≡ held (h 
 unfolding Outside
 front-held n h w = w .0 .is ∙ ap (held (h .brackets)) (w .1)
 
-front-at : (bs : Brackets) (b n : ℕ) → All IsUnknown bs → sizeOf bs ≤ n → Reached (suc n) (perform tt b (held bs []) (act Front b))
+front-at : (bs : Brackets) (b n : ℕ) → Each IsUnknown bs → sizeOf bs ≤ n → Reached (suc n) (perform tt b (held bs []) (act Front b))
 unfolding act flat
 front-at bs b n w h =
-    branch (eqb b openSquare) (λ a. Reached (suc n) (perform tt b (held bs []) a)) _ _ (λ e. step-lead bs [] b n w tt tt (omega arith))
+    branch-on (λ a. Reached (suc n) (perform tt b (held bs []) a)) (eqb b openSquare) (λ e. step-lead bs [] b n w tt tt (omega arith))
     (λ e.
-    branch (eqb b openCurly) (λ a. Reached (suc n) (perform tt b (held bs []) a)) _ _
+    branch-on (λ a. Reached (suc n) (perform tt b (held bs []) a)) (eqb b openCurly)
     (λ q. step-labile Front (held bs []) b n refl between-front (front-written bs n w h) (front-within bs w) refl (other-kind NTerm bs refl w))
     (λ q. step-element Front (held bs []) b n between-front (front-written bs n w h) (front-within bs w)))
 
@@ -251,13 +252,13 @@ step-front : (h : Held Place) (b n : ℕ) → Outside n Front h → Reached (suc
 unfolding Outside
 step-front h b n w = subst (λ (z : Held Place). Reached (suc n) (perform tt b z (act Front b))) (sym (front-held n h w)) (front-at (h .brackets) b n (w .0 .settledOnes) (w .2))
 
-counted-at : (bs rs : Brackets) (b n : ℕ) → All IsUnknown bs → All IsUnknown rs → sizeOf bs + length (flat unknownText rs) ≤ n → Reached (suc n) (perform tt b (held bs rs) (counted b))
+counted-at : (bs rs : Brackets) (b n : ℕ) → Each IsUnknown bs → Each IsUnknown rs → sizeOf bs + length (flat unknownText rs) ≤ n → Reached (suc n) (perform tt b (held bs rs) (counted b))
 unfolding counted Reached perform
 counted-at bs rs b n w u h =
-    branch (eqb b openSquare) (λ a. Reached (suc n) (perform tt b (held bs rs) a)) _ _ (λ e. step-more bs rs b n w u h)
-    (λ e. branch (eqb b question) (λ a. Reached (suc n) (perform tt b (held bs rs) a)) _ _ (λ q. step-runEnds bs rs b n w u h) (λ q. tt))
+    branch-on (λ a. Reached (suc n) (perform tt b (held bs rs) a)) (eqb b openSquare) (λ e. step-more bs rs b n w u h)
+    (λ e. branch-on (λ a. Reached (suc n) (perform tt b (held bs rs) a)) (eqb b question) (λ q. step-runEnds bs rs b n w u h) (λ q. tt))
 
-ends-at : (bs rs : Brackets) (b n : ℕ) → Fresh rs → All IsUnknown bs → All IsTerm rs → sizeOf bs + length (flat squareText rs) ≤ n → Reached (suc n) (perform tt b (held bs rs) TermEnds)
+ends-at : (bs rs : Brackets) (b n : ℕ) → Fresh rs → Each IsUnknown bs → Each IsTerm rs → sizeOf bs + length (flat squareText rs) ≤ n → Reached (suc n) (perform tt b (held bs rs) TermEnds)
 ends-at bs [] b n f w v h = absurd (never (f .before) (f .is))
   where
     never : (l : Brackets) → [] ≡ l ++ (unknown 1 none (f .parts) ∷ []) → ⊥
@@ -273,13 +274,13 @@ step-undecided : (h : Held Place) (b n : ℕ) → Outside n Undecided h → Reac
 unfolding act undecided Reached Outside perform
 step-undecided h b n w =
     at-shape n b Undecided h (w .0)
-    (branch (eqb b caret) (λ a. Reached (suc n) (perform tt b g a)) _ _ (λ e. (gather (h .brackets) (h .run) (w .0 .settledOnes), w .1, w .3, omega (arith, w .4)))
+    (branch-on (λ a. Reached (suc n) (perform tt b g a)) (eqb b caret) (λ e. (gather (h .brackets) (h .run) (w .0 .settledOnes), w .1, w .3, omega (arith, w .4)))
     (λ e.
-    branch (eqb b openSquare) (λ a. Reached (suc n) (perform tt b g a)) _ _ (λ q. step-lead (h .brackets) (h .run) b n (w .0 .settledOnes) (w .1) (w .2) (w .4))
+    branch-on (λ a. Reached (suc n) (perform tt b g a)) (eqb b openSquare) (λ q. step-lead (h .brackets) (h .run) b n (w .0 .settledOnes) (w .1) (w .2) (w .4))
     (λ q.
-    branch (eqb b question) (λ a. Reached (suc n) (perform tt b g a)) _ _ (λ p. step-runEnds (h .brackets) (h .run) b n (w .0 .settledOnes) (w .1) (w .4))
+    branch-on (λ a. Reached (suc n) (perform tt b g a)) (eqb b question) (λ p. step-runEnds (h .brackets) (h .run) b n (w .0 .settledOnes) (w .1) (w .4))
     (λ p.
-    branch (eqb b dash) (λ a. Reached (suc n) (perform tt b g a)) _ _
+    branch-on (λ a. Reached (suc n) (perform tt b g a)) (eqb b dash)
     (λ d. ends-at (h .brackets) (h .run) b n (w .3) (w .0 .settledOnes) (w .2) (omega (arith, w .4, fewer (h .run)))) (λ d. tt)))))
   where
     g : Held Place
@@ -289,32 +290,32 @@ step-counted : (h : Held Place) (b n : ℕ) → Outside n Counted h → Reached 
 unfolding act Reached Outside perform
 step-counted h b n w =
     at-shape n b Counted h (w .0)
-    (branch (eqb b caret) (λ a. Reached (suc n) (perform tt b (held (h .brackets) (h .run)) a)) _ _ (λ e. (gather (h .brackets) (h .run) (w .0 .settledOnes), w .1, w .2, omega (arith, w .3)))
+    (branch-on (λ a. Reached (suc n) (perform tt b (held (h .brackets) (h .run)) a)) (eqb b caret) (λ e. (gather (h .brackets) (h .run) (w .0 .settledOnes), w .1, w .2, omega (arith, w .3)))
     (λ e. counted-at (h .brackets) (h .run) b n (w .0 .settledOnes) (w .1) (w .3)))
 
 step-referred : (h : Held Place) (b n : ℕ) → Outside n Referred h → Reached (suc n) (perform tt b h (act Referred b))
 unfolding act referred Reached Outside perform
 step-referred h b n w =
     at-shape n b Referred h (w .0)
-    (branch (eqb b openSquare) (λ a. Reached (suc n) (perform tt b (held (h .brackets) (h .run)) a)) _ _ (λ e. step-refer (h .brackets) (h .run) b n (w .0 .settledOnes) (w .1) (w .3))
+    (branch-on (λ a. Reached (suc n) (perform tt b (held (h .brackets) (h .run)) a)) (eqb b openSquare) (λ e. step-refer (h .brackets) (h .run) b n (w .0 .settledOnes) (w .1) (w .3))
     (λ e.
-    branch (eqb b dash) (λ a. Reached (suc n) (perform tt b (held (h .brackets) (h .run)) a)) _ _
+    branch-on (λ a. Reached (suc n) (perform tt b (held (h .brackets) (h .run)) a)) (eqb b dash)
     (λ q. ends-at (h .brackets) (h .run) b n (w .2) (w .0 .settledOnes) (w .1) (w .3)) (λ q. tt)))
 
 -- ---- counts
 some-place : (p : Place) (n : ℕ) → some p ≡ none → n ≡ 1
 some-place p n e = absurd (Option·none-ne-some p (sym e))
 
-recount : (rs : Brackets) (n n′ : ℕ) (o : Option Place) (ps : Parts) → All IsUnknown (rs ++ (unknown n o ps ∷ [])) → All IsUnknown (rs ++ (unknown n′ (some tt) ps ∷ []))
+recount : (rs : Brackets) (n n′ : ℕ) (o : Option Place) (ps : Parts) → Each IsUnknown (rs ++ (unknown n o ps ∷ [])) → Each IsUnknown (rs ++ (unknown n′ (some tt) ps ∷ []))
 recount rs n n′ o ps w =
-    let k = all-back IsUnknown rs (unknown n o ps ∷ []) w .0 in
-    all-one IsUnknown rs (unknown n′ (some tt) ps) (all-front IsUnknown rs (unknown n o ps ∷ []) w) (is-unknown n′ (some tt) ps (k .plain) (some-place tt n′) (k .reads))
+    let k = each-back IsUnknown rs (unknown n o ps ∷ []) w .0 in
+    all-one IsUnknown rs (unknown n′ (some tt) ps) (each-front IsUnknown rs (unknown n o ps ∷ []) w) (is-unknown n′ (some tt) ps (k .plain) (some-place tt n′) (k .reads))
 
-caret-at : (bs rs : Brackets) (ps : Parts) (b n : ℕ) → All IsUnknown bs → All IsUnknown (rs ++ (unknown 1 none ps ∷ [])) → sizeOf bs + length (flat unknownText (rs ++ (unknown 1 none ps ∷ []))) + 1 ≤ n
+caret-at : (bs rs : Brackets) (ps : Parts) (b n : ℕ) → Each IsUnknown bs → Each IsUnknown (rs ++ (unknown 1 none ps ∷ [])) → sizeOf bs + length (flat unknownText (rs ++ (unknown 1 none ps ∷ []))) + 1 ≤ n
     → Reached (suc n) (perform tt b (held bs (rs ++ (unknown 1 none ps ∷ []))) (act Caret b))
 unfolding act Reached Outside perform
 caret-at bs rs ps b n w u h =
-    branch (isDigit b) (λ a. Reached (suc n) (perform tt b (held bs (rs ++ (unknown 1 none ps ∷ []))) a)) _ _
+    branch-on (λ a. Reached (suc n) (perform tt b (held bs (rs ++ (unknown 1 none ps ∷ []))) a)) (isDigit b)
     (λ e.
     subst (λ (z : Brackets). Outside (suc n) Counting (held bs z)) (sym (on-last (countDigit tt b) rs (unknown 1 none ps))) (
       gather bs (rs ++ (unknown (value b) (some tt) ps ∷ [])) w,
@@ -337,12 +338,12 @@ unfolding Outside
 step-caret h b n w =
     at-shape n b Caret h (w .0)
     (subst (λ (z : Brackets). Reached (suc n) (perform tt b (held (h .brackets) z) (act Caret b))) (sym (w .2 .is))
-    (caret-at (h .brackets) (w .2 .before) (w .2 .parts) b n (w .0 .settledOnes) (subst (λ (z : Brackets). All IsUnknown z) (w .2 .is) (w .1))
+    (caret-at (h .brackets) (w .2 .before) (w .2 .parts) b n (w .0 .settledOnes) (subst (λ (z : Brackets). Each IsUnknown z) (w .2 .is) (w .1))
     (subst (λ (z : Brackets). sizeOf (h .brackets) + length (flat unknownText z) + 1 ≤ n) (w .2 .is) (w .3))))
 
 count-length : (c d : ℕ) → 1 ≤ d → c < 10 ^ d → length (countText c) ≤ 1 + d
 unfolding decimal
-count-length c d h w = branch (eqb c 1) (λ l. length l ≤ 1 + d) [] (caret ∷ decimal c) (λ e. omega arith) (λ e. omega (arith, decimal-length 19 c d h w))
+count-length c d h w = branch-on (λ l. length l ≤ 1 + d) (eqb c 1) {x = []} {y = caret ∷ decimal c} (λ e. omega arith) (λ e. omega (arith, decimal-length 19 c d h w))
 
 counts-length : (rs : Brackets) (c : ℕ) (ps : Parts) → length (flat unknownText (rs ++ (unknown c (some tt) ps ∷ []))) ≡ length (flat unknownText rs) + (length (partsText ps) + 2 + length (countText c))
 counts-length rs c ps =
@@ -350,11 +351,11 @@ counts-length rs c ps =
     ∙ length-append (flat unknownText rs) (unknownText (unknown c (some tt) ps))
     ∙ ap (λ z. length (flat unknownText rs) + z) (length-append (squareText (unknown c (some tt) ps)) (countText c) ∙ ap (λ z. z + length (countText c)) (square-length (unknown c (some tt) ps)))
 
-counting-at : (bs rs : Brackets) (c : ℕ) (ps : Parts) (d b n : ℕ) → All IsUnknown bs → All IsUnknown (rs ++ (unknown c (some tt) ps ∷ [])) → 1 ≤ d → c < 10 ^ d
+counting-at : (bs rs : Brackets) (c : ℕ) (ps : Parts) (d b n : ℕ) → Each IsUnknown bs → Each IsUnknown (rs ++ (unknown c (some tt) ps ∷ [])) → 1 ≤ d → c < 10 ^ d
     → sizeOf bs + length (flat unknownText rs) + (length (partsText ps) + 2) + 1 + d ≤ n → Reached (suc n) (perform tt b (held bs (rs ++ (unknown c (some tt) ps ∷ []))) (act Counting b))
 unfolding act Reached Outside perform
 counting-at bs rs c ps d b n w u s l h =
-    branch (isDigit b) (λ a. Reached (suc n) (perform tt b (held bs (rs ++ (unknown c (some tt) ps ∷ []))) a)) _ _
+    branch-on (λ a. Reached (suc n) (perform tt b (held bs (rs ++ (unknown c (some tt) ps ∷ []))) a)) (isDigit b)
     (λ e.
     subst (λ (z : Brackets). Outside (suc n) Counting (held bs z)) (sym (on-last (countDigit tt b) rs (unknown c (some tt) ps))) (
       gather bs (rs ++ (unknown (c * 10 + value b) (some tt) ps ∷ [])) w,
@@ -378,7 +379,7 @@ step-counting h b n w =
     let c = w .2 in
     at-shape n b Counting h (w .0)
     (subst (λ (z : Brackets). Reached (suc n) (perform tt b (held (h .brackets) z) (act Counting b))) (sym (c .is))
-    (counting-at (h .brackets) (c .before) (c .count) (c .parts) (c .digits) b n (w .0 .settledOnes) (subst (λ (z : Brackets). All IsUnknown z) (c .is) (w .1)) (c .some-digits) (c .below) (c .short)))
+    (counting-at (h .brackets) (c .before) (c .count) (c .parts) (c .digits) b n (w .0 .settledOnes) (subst (λ (z : Brackets). Each IsUnknown z) (c .is) (w .1)) (c .some-digits) (c .below) (c .short)))
 
 -- ---- all states
 reached-outside : (m : Mode) (h : Held Place) (b n : ℕ) → Outside n m h → Reached (suc n) (perform tt b h (act m b))
@@ -436,7 +437,7 @@ cterm-canonical h e = ap (λ z. body h ++ z) (sym (led-some (cterms (h .brackets
 
 -- what is read is read back from its canonical line, which is no longer
 pub record Again (n : ℕ) (m : Mode) (h : Held Place) : Type 0 where
-  pub path : All FitsBracket (h .brackets) → lineRun start (canonical (lineOf h)) ≡ outside m (norm h)
+  pub path : Each FitsBracket (h .brackets) → lineRun start (canonical (lineOf h)) ≡ outside m (norm h)
   pub short : length (canonical (lineOf h)) ≤ n
 
 again : (n : ℕ) (m : Mode) (h : Held Place) → text m h ≡ canonical (lineOf h) → Written n m h → Again n m h

@@ -1,5 +1,4 @@
 pub mod Laws
-pub mod Lists
 pub mod Numbers
 pub mod Brackets
 pub mod Runs

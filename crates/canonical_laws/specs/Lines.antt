@@ -22,9 +22,11 @@ use Rattle.scope.specs.Content.{Inner, Content, lost, closed, going, innerStep}
 use Rattle.scope.specs.Reading.{square, labile, element, further, groupFirst, inGroup, act, Held, withResidue, bracketOf, settled, put, withBracket, State, dead, outside, inside, perform, refers?, modeAfter, resume, run, start}
 use Rattle.scope.specs.Canonical.{partsText, squareText, curlyText, unknownText, ofKind, endingAt, closedBy, opening, ending, isNext, sequenceText}
 use Rattle.basics.specs.Lists.{flat-append}
-use Rattle.canonical_laws.specs.Lists.{branch, All, all-append, all-front, all-back, all-map}
-use Rattle.canonical_laws.specs.Brackets.{Place, Parts, Inv, InvC, Closed, inner-step, inner-start}
-use Rattle.canonical_laws.specs.Runs.{lineRun, line-one, line-further, bracket-run, same-mode, Letter, letter-of, front-letter, labiles-letter, start-letter, single-letter, ranged-letter, unsureEnd-letter, opened-letter, unsureOpened-letter, inRange-letter, inUnsure-letter, residue-run}
+use Rattle.basics.specs.Choice.{branch-on}
+use Rattle.basics.specs.Each.{Each, each-append, each-front, each-back, each-one}
+use Rattle.canonical_laws.specs.Brackets.{Inv, InvC, Closed, inner-step, inner-start}
+use Rattle.reading_laws.specs.Unnoted.{Place, Parts, lineRun, line-one, line-further, same-mode}
+use Rattle.canonical_laws.specs.Runs.{bracket-run, Letter, letter-of, front-letter, labiles-letter, start-letter, single-letter, ranged-letter, unsureEnd-letter, opened-letter, unsureOpened-letter, inRange-letter, inUnsure-letter, residue-run}
 use Rattle.canonical_laws.specs.Unknowns.{Brackets, unknown, normal, FitsBracket, IsUnknown, held, moved, IsTerm}
 use Rattle.canonical_laws.specs.Sequence.{Residues, hasKind, kind-one, kind-none, ending-kind, Low, none-above, own, ranged, openText, lastEnd, open-end, open-first, open-next, last-end, open-own, open-range, ranged-one, sequence-other, flat-one}
 
@@ -79,7 +81,7 @@ norm h = record { residues = h .residues; brackets = map normal (h .brackets); r
 
 -- the canonical text of what is held is read back, and is at most n bytes
 pub record Written (n : ℕ) (m : Mode) (h : Held Place) : Type 0 where
-  pub path : All FitsBracket (h .brackets) → lineRun start (text m h) ≡ outside m (norm h)
+  pub path : Each FitsBracket (h .brackets) → lineRun start (text m h) ≡ outside m (norm h)
   pub short : length (text m h) ≤ n
 
 -- no bracket stands behind the residues yet
@@ -117,7 +119,7 @@ isUnsure UnsureNext = true
 -- ---- brackets at the front
 pub record Gather (h : Held Place) : Type 0 where
   pub is : h ≡ held (h .brackets) (h .run)
-  pub settledOnes : All IsUnknown (h .brackets)
+  pub settledOnes : Each IsUnknown (h .brackets)
 
 abbrev pub frontSize : Held Place → ℕ
 frontSize h = length (closedBy (flat unknownText (h .brackets)) question)
@@ -142,11 +144,11 @@ pub record Counts (n : ℕ) (h : Held Place) : Type 0 where
 -- ---- what holds outside brackets, n bytes read
 unfoldable pub Outside : ℕ → Mode → Held Place → Type 0
 Outside n Front h = Gather h × (h .run ≡ []) × (frontSize h ≤ n)
-Outside n Undecided h = Gather h × All IsUnknown (h .run) × All IsTerm (h .run) × Fresh (h .run) × (frontSize h + length (flat unknownText (h .run)) ≤ n)
-Outside n Counted h = Gather h × All IsUnknown (h .run) × Fresh (h .run) × (frontSize h + length (flat unknownText (h .run)) ≤ n)
-Outside n Referred h = Gather h × All IsTerm (h .run) × Fresh (h .run) × (frontSize h + length (flat squareText (h .run)) ≤ n)
-Outside n Caret h = Gather h × All IsUnknown (h .run) × Fresh (h .run) × (frontSize h + length (flat unknownText (h .run)) + 1 ≤ n)
-Outside n Counting h = Gather h × All IsUnknown (h .run) × Counts n h
+Outside n Undecided h = Gather h × Each IsUnknown (h .run) × Each IsTerm (h .run) × Fresh (h .run) × (frontSize h + length (flat unknownText (h .run)) ≤ n)
+Outside n Counted h = Gather h × Each IsUnknown (h .run) × Fresh (h .run) × (frontSize h + length (flat unknownText (h .run)) ≤ n)
+Outside n Referred h = Gather h × Each IsTerm (h .run) × Fresh (h .run) × (frontSize h + length (flat squareText (h .run)) ≤ n)
+Outside n Caret h = Gather h × Each IsUnknown (h .run) × Fresh (h .run) × (frontSize h + length (flat unknownText (h .run)) + 1 ≤ n)
+Outside n Counting h = Gather h × Each IsUnknown (h .run) × Counts n h
 Outside n Labiles h = Written n Labiles h × Within h × (h .residues ≡ []) × (ofKind NTerm (h .brackets) ≡ [])
 Outside n NTerms h = Written n NTerms h × Within h × (h .residues ≡ []) × (none? (nterms (h .brackets)) ≡ false)
 Outside n Start h = Written n Start h × Within h
@@ -226,18 +228,18 @@ add-square m m′ c refs h ps n j e sets w g f =
     record {
       path = λ fits.
           ap (lineRun start) f
-          ∙ line-further (text m h) (squareText (bracketOf c tt ps h)) start (outside m (norm h)) _ (w .path (all-front FitsBracket (h .brackets) (bracketOf c tt ps h ∷ []) fits))
-          (bracket-run m (square c refs m′) (norm h) openSquare ps e (g refs .path (all-back FitsBracket (h .brackets) (bracketOf c tt ps h ∷ []) fits .0 .0) (g refs .refs))
+          ∙ line-further (text m h) (squareText (bracketOf c tt ps h)) start (outside m (norm h)) _ (w .path (each-front FitsBracket (h .brackets) (bracketOf c tt ps h ∷ []) fits))
+          (bracket-run m (square c refs m′) (norm h) openSquare ps e (g refs .path (each-back FitsBracket (h .brackets) (bracketOf c tt ps h ∷ []) fits .0 .0) (g refs .refs))
           ∙ moved _ m′ _ (same-mode ps m′)
           ∙ ap (outside m′) (sets (bracketOf c tt ps (norm h)) (norm h) ∙ norm-settled c ps h));
       short = rw (f, length-append (text m h) (squareText (bracketOf c tt ps h)), square-length (bracketOf c tt ps h)) (omega (arith, w .short, g refs .short));
     }
 
 low-more : (n n′ : ℕ) (ks : Brackets) → Low n ks → n ≤ n′ → Low n′ ks
-low-more n n′ ks w h = all-map (λ k. k .last ≤ n) (λ k. k .last ≤ n′) ks (λ k e. omega arith) w
+low-more n n′ ks w h = each-one (λ k. k .last ≤ n) (λ k. k .last ≤ n′) (λ k e. omega arith) ks w
 
 low-one : (n : ℕ) (ks : Brackets) (k : Bracket Place) → Low n ks → k .last ≤ n → Low n (ks ++ (k ∷ []))
-low-one n ks k w h = all-append (λ q. q .last ≤ n) ks (k ∷ []) w (h, tt)
+low-one n ks k w h = each-append (λ q. q .last ≤ n) ks (k ∷ []) w (h, tt)
 
 head-other : (ks : Brackets) (k : Bracket Place) → hasKind Unknown k ≡ false → hasKind Labile k ≡ false → hasKind NTerm k ≡ false → head (ks ++ (k ∷ [])) ≡ head ks
 unfolding head
@@ -435,14 +437,14 @@ between-unsure = record { shows = λ h. refl; letters = unsureEnd-letter; opens 
 pub step-element : (m : Mode) (h : Held Place) (b n : ℕ) → Between m → Written n m h → Within h → Reached (suc n) (perform tt b h (element b))
 unfolding Reached Outside perform element text
 step-element m h b n g w v =
-    branch (isLetter b) (λ a. Reached (suc n) (perform tt b h a)) _ _
+    branch-on (λ a. Reached (suc n) (perform tt b h a)) (isLetter b)
     (λ e. (
       add-residue m Single h b Plain n e (g .letters (upper b) (letter-of b e)) w (plain-body h b v ∙ ap (λ z. z ++ (upper b ∷ [])) (sym (g .shows h))),
       within-residue h b Plain v,
       last-residue isPlainly h b Plain refl,
     ))
     (λ e.
-    branch (eqb b openRound) (λ a. Reached (suc n) (perform tt b h a)) _ _
+    branch-on (λ a. Reached (suc n) (perform tt b h a)) (eqb b openRound)
     (λ q. (add-opened, v))
     (λ q. tt))
   where
@@ -452,7 +454,7 @@ step-element m h b n g w v =
 step-further : (m : Mode) (h : Held Place) (b n : ℕ) → Between m → act m dash ≡ Go CStart → Written n m h → Within h → Reached (suc n) (perform tt b h (further b))
 unfolding Reached Outside perform further text
 step-further m h b n g d w v =
-    branch (eqb b dash) (λ a. Reached (suc n) (perform tt b h a)) _ _
+    branch-on (λ a. Reached (suc n) (perform tt b h a)) (eqb b dash)
     (λ e. (add-byte m CStart h dash n d w (ap (λ z. z ++ (dash ∷ [])) (sym (g .shows h))), v))
     (λ e. step-element m h b n g w v)
 
@@ -471,7 +473,7 @@ after ps m n h w = subst (λ (z : Mode). Outside n z h) (sym (same-mode ps m)) w
 pub step-single : (h : Held Place) (b n : ℕ) → Outside n Single h → Reached (suc n) (perform tt b h (act Single b))
 unfolding act Outside further element text
 step-single h b n w =
-    branch (eqb b openSquare) (λ a. Reached (suc n) (perform tt b h a)) _ _
+    branch-on (λ a. Reached (suc n) (perform tt b h a)) (eqb b openSquare)
     (λ e.
     begins n b (square OnResidue true Single) h
     (λ ps j g.
@@ -485,10 +487,10 @@ step-single h b n w =
 pub step-opened : (h : Held Place) (b n : ℕ) → Outside n Opened h → Reached (suc n) (perform tt b h (act Opened b))
 unfolding act groupFirst Reached Outside perform text
 step-opened h b n w =
-    branch (eqb b question) (λ a. Reached (suc n) (perform tt b h a)) _ _
+    branch-on (λ a. Reached (suc n) (perform tt b h a)) (eqb b question)
     (λ e. (add-byte Opened UnsureOpened h question n refl (w .0) (sym (append-assoc (body h) (openRound ∷ []) (question ∷ []))), w .1))
     (λ e.
-    branch (isLetter b) (λ a. Reached (suc n) (perform tt b h a)) _ _
+    branch-on (λ a. Reached (suc n) (perform tt b h a)) (isLetter b)
     (λ l. (
       add-residue Opened InRange h b RangeFirst n l (opened-letter (upper b) (letter-of b l)) (w .0) (open-residue h b RangeFirst (w .1) refl ∙ sym (append-assoc (body h) (openRound ∷ []) (upper b ∷ []))),
       within-residue h b RangeFirst (w .1),
@@ -500,7 +502,7 @@ step-opened h b n w =
 pub step-unsureOpened : (h : Held Place) (b n : ℕ) → Outside n UnsureOpened h → Reached (suc n) (perform tt b h (act UnsureOpened b))
 unfolding act groupFirst Reached Outside perform text
 step-unsureOpened h b n w =
-    branch (isLetter b) (λ a. Reached (suc n) (perform tt b h a)) _ _
+    branch-on (λ a. Reached (suc n) (perform tt b h a)) (isLetter b)
     (λ l. (
       add-residue UnsureOpened InUnsure h b UnsureFirst n l (unsureOpened-letter (upper b) (letter-of b l)) (w .0)
           (open-residue h b UnsureFirst (w .1) refl ∙ sym (append-assoc (body h) (openRound ∷ question ∷ []) (upper b ∷ []))),
@@ -529,7 +531,7 @@ unsure-closes h l =
 pub step-inRange : (h : Held Place) (b n : ℕ) → Outside n InRange h → Reached (suc n) (perform tt b h (act InRange b))
 unfolding act inGroup Reached Outside perform text
 step-inRange h b n w =
-    branch (isLetter b) (λ a. Reached (suc n) (perform tt b h a)) _ _
+    branch-on (λ a. Reached (suc n) (perform tt b h a)) (isLetter b)
     (λ l. (
       add-residue InRange InRange h b RangeNext n l (inRange-letter (upper b) (letter-of b l)) (w .0) (next-residue isRanged h b RangeNext (w .1) (w .2) refl),
       within-residue h b RangeNext (w .1),
@@ -537,7 +539,7 @@ step-inRange h b n w =
       (ap (λ z. endingAt OnRange z (h .brackets)) (residue-length h b RangeNext) ∙ ranged-none h (w .1)),
     ))
     (λ l.
-    branch (eqb b openSquare) (λ a. Reached (suc n) (perform tt b h a)) _ _
+    branch-on (λ a. Reached (suc n) (perform tt b h a)) (eqb b openSquare)
     (λ e.
     begins n b (square OnResidue true InRange) h
     (λ ps j g.
@@ -548,20 +550,20 @@ step-inRange h b n w =
       (ending-kind OnRange (length (h .residues)) (h .brackets) (bracketOf OnResidue tt ps h) refl ∙ w .3),
     )))
     (λ e.
-    branch (eqb b shutRound) (λ a. Reached (suc n) (perform tt b h a)) _ _
+    branch-on (λ a. Reached (suc n) (perform tt b h a)) (eqb b shutRound)
     (λ q. (add-byte InRange RangeEnd h shutRound n refl (w .0) (range-closes h (w .2) (w .3)), w .1, w .2)) (λ q. tt)))
 
 pub step-inUnsure : (h : Held Place) (b n : ℕ) → Outside n InUnsure h → Reached (suc n) (perform tt b h (act InUnsure b))
 unfolding act inGroup Reached Outside perform text
 step-inUnsure h b n w =
-    branch (isLetter b) (λ a. Reached (suc n) (perform tt b h a)) _ _
+    branch-on (λ a. Reached (suc n) (perform tt b h a)) (isLetter b)
     (λ l. (
       add-residue InUnsure InUnsure h b UnsureNext n l (inUnsure-letter (upper b) (letter-of b l)) (w .0) (next-residue isUnsure h b UnsureNext (w .1) (w .2) refl),
       within-residue h b UnsureNext (w .1),
       last-residue isUnsure h b UnsureNext refl,
     ))
     (λ l.
-    branch (eqb b openSquare) (λ a. Reached (suc n) (perform tt b h a)) _ _
+    branch-on (λ a. Reached (suc n) (perform tt b h a)) (eqb b openSquare)
     (λ e.
     begins n b (square OnResidue true InUnsure) h
     (λ ps j g.
@@ -571,13 +573,13 @@ step-inUnsure h b n w =
       last-bracket isUnsure h (bracketOf OnResidue tt ps h) (w .2),
     )))
     (λ e.
-    branch (eqb b shutRound) (λ a. Reached (suc n) (perform tt b h a)) _ _
+    branch-on (λ a. Reached (suc n) (perform tt b h a)) (eqb b shutRound)
     (λ q. (add-byte InUnsure UnsureEnd h shutRound n refl (w .0) (unsure-closes h (w .2)), w .1)) (λ q. tt)))
 
 pub step-rangeEnd : (h : Held Place) (b n : ℕ) → Outside n RangeEnd h → Reached (suc n) (perform tt b h (act RangeEnd b))
 unfolding act Reached Outside perform text
 step-rangeEnd h b n w =
-    branch (eqb b openSquare) (λ a. Reached (suc n) (perform tt b h a)) _ _
+    branch-on (λ a. Reached (suc n) (perform tt b h a)) (eqb b openSquare)
     (λ e.
     begins n b (square OnRange false Ranged) h
     (λ ps j g.
@@ -591,7 +593,7 @@ step-rangeEnd h b n w =
 pub step-ranged : (h : Held Place) (b n : ℕ) → Outside n Ranged h → Reached (suc n) (perform tt b h (act Ranged b))
 unfolding act further element Outside perform text
 step-ranged h b n w =
-    branch (eqb b openSquare) (λ a. Reached (suc n) (perform tt b h a)) _ _
+    branch-on (λ a. Reached (suc n) (perform tt b h a)) (eqb b openSquare)
     (λ e.
     begins n b (square OnRange false Ranged) h
     (λ ps j g.
@@ -618,7 +620,7 @@ some-square (x ∷ l) k = refl
 pub step-cStart : (h : Held Place) (b n : ℕ) → Outside n CStart h → Reached (suc n) (perform tt b h (act CStart b))
 unfolding act Reached Outside perform
 step-cStart h b n w =
-    branch (eqb b openSquare) (λ a. Reached (suc n) (perform tt b h a)) _ _
+    branch-on (λ a. Reached (suc n) (perform tt b h a)) (eqb b openSquare)
     (λ e.
     begins n b (square CTerm true CTerms) h
     (λ ps j g.
@@ -631,7 +633,7 @@ step-cStart h b n w =
 pub step-cTerms : (h : Held Place) (b n : ℕ) → Outside n CTerms h → Reached (suc n) (perform tt b h (act CTerms b))
 unfolding act Reached Outside perform
 step-cTerms h b n w =
-    branch (eqb b openSquare) (λ a. Reached (suc n) (perform tt b h a)) _ _
+    branch-on (λ a. Reached (suc n) (perform tt b h a)) (eqb b openSquare)
     (λ e.
     begins n b (square CTerm true CTerms) h
     (λ ps j g.
@@ -669,8 +671,8 @@ add-curly m h ps n j e w g f =
     record {
       path = λ fits.
           ap (lineRun start) f
-          ∙ line-further (text m h) (curlyText (bracketOf Labile tt ps h)) start (outside m (norm h)) _ (w .path (all-front FitsBracket (h .brackets) (bracketOf Labile tt ps h ∷ []) fits))
-          (bracket-run m labile (norm h) openCurly ps e (g false .path (all-back FitsBracket (h .brackets) (bracketOf Labile tt ps h ∷ []) fits .0 .0) (g false .refs))
+          ∙ line-further (text m h) (curlyText (bracketOf Labile tt ps h)) start (outside m (norm h)) _ (w .path (each-front FitsBracket (h .brackets) (bracketOf Labile tt ps h ∷ []) fits))
+          (bracket-run m labile (norm h) openCurly ps e (g false .path (each-back FitsBracket (h .brackets) (bracketOf Labile tt ps h ∷ []) fits .0 .0) (g false .refs))
           ∙ moved _ Labiles _ (same-mode ps Labiles)
           ∙ ap (outside Labiles) (norm-settled Labile ps h));
       short = rw (f, length-append (text m h) (curlyText (bracketOf Labile tt ps h)), curly-length (bracketOf Labile tt ps h)) (omega (arith, w .short, g false .short));
@@ -722,9 +724,9 @@ step-nterm m h b n e w v r f =
 pub step-labiles : (h : Held Place) (b n : ℕ) → Outside n Labiles h → Reached (suc n) (perform tt b h (act Labiles b))
 unfolding act Outside
 step-labiles h b n w =
-    branch (eqb b openCurly) (λ a. Reached (suc n) (perform tt b h a)) _ _ (λ e. step-labile Labiles h b n refl between-labiles (w .0) (w .1) (w .2) (w .3))
+    branch-on (λ a. Reached (suc n) (perform tt b h a)) (eqb b openCurly) (λ e. step-labile Labiles h b n refl between-labiles (w .0) (w .1) (w .2) (w .3))
     (λ e.
-    branch (eqb b openSquare) (λ a. Reached (suc n) (perform tt b h a)) _ _ (λ q. step-nterm Labiles h b n refl (w .0) (w .1) (w .2) (first-nterm h (w .2) (w .3)))
+    branch-on (λ a. Reached (suc n) (perform tt b h a)) (eqb b openSquare) (λ q. step-nterm Labiles h b n refl (w .0) (w .1) (w .2) (first-nterm h (w .2) (w .3)))
     (λ q. step-element Labiles h b n between-labiles (w .0) (w .1)))
 
 nterms-close : (h : Held Place) → h .residues ≡ [] → none? (nterms (h .brackets)) ≡ false → text Start h ≡ text NTerms h ++ (dash ∷ [])
@@ -738,6 +740,6 @@ nterms-close h e f =
 pub step-nterms : (h : Held Place) (b n : ℕ) → Outside n NTerms h → Reached (suc n) (perform tt b h (act NTerms b))
 unfolding act Reached Outside perform
 step-nterms h b n w =
-    branch (eqb b openSquare) (λ a. Reached (suc n) (perform tt b h a)) _ _ (λ e. step-nterm NTerms h b n refl (w .0) (w .1) (w .2) refl)
+    branch-on (λ a. Reached (suc n) (perform tt b h a)) (eqb b openSquare) (λ e. step-nterm NTerms h b n refl (w .0) (w .1) (w .2) refl)
     (λ e.
-    branch (eqb b dash) (λ a. Reached (suc n) (perform tt b h a)) _ _ (λ q. (add-byte NTerms Start h dash n refl (w .0) (nterms-close h (w .2) (w .3)), w .1)) (λ q. tt))
+    branch-on (λ a. Reached (suc n) (perform tt b h a)) (eqb b dash) (λ q. (add-byte NTerms Start h dash n refl (w .0) (nterms-close h (w .2) (w .3)), w .1)) (λ q. tt))

@@ -16,30 +16,8 @@ use Rattle.scope.specs.Lists.{given}
 use Rattle.scope.specs.Content.{Digits, signed, whole, pointed, broken, digitStep, numberEnd}
 use Rattle.scope.specs.Canonical.{decimalUpTo, decimal, lastDigits, decimals, size}
 use Rattle.basics.specs.Tests.{and-left, and-right}
-use Rattle.canonical_laws.specs.Lists.{branch}
-
--- ---- a run of digits
-unfoldable pub digitRun : Digits → List ℕ → Option Digits
-digitRun d [] = some d
-digitRun d (b ∷ l) = given (digitStep d b) (λ d′. digitRun d′ l) none
-
-pub run-append : (l r : List ℕ) (d d′ : Digits) → digitRun d l ≡ some d′ → digitRun d (l ++ r) ≡ digitRun d′ r
-unfolding digitRun
-run-append [] r d d′ e = ap (λ x. digitRun x r) (Option·some-injective d d′ e)
-run-append (b ∷ l) r d d′ e = go (digitStep d b) (λ m k. run-append l r m d′ k) e
-  where
-    go : (o : Option Digits) → ((m : Digits) → digitRun m l ≡ some d′ → digitRun m (l ++ r) ≡ digitRun d′ r)
-        → given o (λ m. digitRun m l) none ≡ some d′ → given o (λ m. digitRun m (l ++ r)) none ≡ digitRun d′ r
-    go none ih e = absurd (Option·none-ne-some d′ e)
-    go (some m) ih e = ih m e
-
-pub run-cons : (d d′ : Digits) (b : ℕ) (l : List ℕ) → digitStep d b ≡ some d′ → digitRun d (b ∷ l) ≡ digitRun d′ l
-unfolding digitRun
-run-cons d d′ b l e = rw (e, digitRun)
-
-run-one : (d d′ : Digits) (b : ℕ) → digitStep d b ≡ some d′ → digitRun d (b ∷ []) ≡ some d′
-unfolding digitRun
-run-one d d′ b e = rw (e, digitRun)
+use Rattle.reading_laws.specs.Unnoted.{digitRun, digits-append, digits-cons, digits-one, allRead}
+use Rattle.basics.specs.Choice.{branch-on}
 
 pub is-digit : (k : ℕ) → k < 10 → isDigit (48 + k) ≡ true
 is-digit k h = rw (le-leb 48 (48 + k) (omega arith), le-leb (48 + k) 57 (omega arith))
@@ -76,15 +54,15 @@ joined n = omega arith
 -- ---- the digits before the point
 pub decimal-run : (s : Bool) (k n : ℕ) → n < 10 ^ suc k → digitRun (signed s) (decimalUpTo k n) ≡ some (whole s n)
 unfolding decimalUpTo
-decimal-run s zero n h = run-one (signed s) (whole s n) (48 + n) (step-signed s n h)
+decimal-run s zero n h = digits-one (signed s) (whole s n) (48 + n) (step-signed s n h)
 decimal-run s (suc k) n h = go (decimal-run s k (n / 10) (omega arith)) (ltb n 10) refl
   where
     go : digitRun (signed s) (decimalUpTo k (n / 10)) ≡ some (whole s (n / 10)) → (t : Bool) → ltb n 10 ≡ t → digitRun (signed s) (decimalUpTo (suc k) n) ≡ some (whole s n)
-    go ih true e = rw (e, decimalUpTo) (run-one (signed s) (whole s n) (48 + n) (step-signed s n (ltb-true n 10 e)))
+    go ih true e = rw (e, decimalUpTo) (digits-one (signed s) (whole s n) (48 + n) (step-signed s n (ltb-true n 10 e)))
     go ih false e =
         rw (e, decimalUpTo)
-        (run-append (decimalUpTo k (n / 10)) ((48 + n % 10) ∷ []) (signed s) (whole s (n / 10)) ih
-        ∙ run-one (whole s (n / 10)) (whole s (n / 10 * 10 + n % 10)) (48 + n % 10) (step-whole s (n / 10) (n % 10) (below-ten n))
+        (digits-append (decimalUpTo k (n / 10)) ((48 + n % 10) ∷ []) (signed s) (whole s (n / 10)) ih
+        ∙ digits-one (whole s (n / 10)) (whole s (n / 10 * 10 + n % 10)) (48 + n % 10) (step-whole s (n / 10) (n % 10) (below-ten n))
         ∙ ap (λ x. some (whole s x)) (joined n))
 
 -- ---- the digits behind the point
@@ -93,24 +71,20 @@ split-again m d = div-div-eq-div-mul m 10 (10 ^ suc d) ∙ ap (λ x. m / x) (sym
 
 last-run : (s : Bool) (d m : ℕ) → digitRun (pointed s (m / 10 ^ suc d)) (lastDigits (suc d) m) ≡ some (broken s m (suc d))
 unfolding lastDigits
-last-run s zero m = run-one (pointed s (m / 10)) (broken s (m / 10 * 10 + m % 10) 1) (48 + m % 10) (step-pointed s (m / 10) (m % 10) (below-ten m)) ∙ ap (λ x. some (broken s x 1)) (joined m)
+last-run s zero m = digits-one (pointed s (m / 10)) (broken s (m / 10 * 10 + m % 10) 1) (48 + m % 10) (step-pointed s (m / 10) (m % 10) (below-ten m)) ∙ ap (λ x. some (broken s x 1)) (joined m)
 last-run s (suc d) m =
-    run-append (lastDigits (suc d) (m / 10)) ((48 + m % 10) ∷ []) (pointed s (m / 10 ^ suc (suc d))) (broken s (m / 10) (suc d)) (rw (← split-again m d) (last-run s d (m / 10)))
-    ∙ run-one (broken s (m / 10) (suc d)) (broken s (m / 10 * 10 + m % 10) (suc d + 1)) (48 + m % 10) (step-broken s (m / 10) (suc d) (m % 10) (below-ten m))
+    digits-append (lastDigits (suc d) (m / 10)) ((48 + m % 10) ∷ []) (pointed s (m / 10 ^ suc (suc d))) (broken s (m / 10) (suc d)) (rw (← split-again m d) (last-run s d (m / 10)))
+    ∙ digits-one (broken s (m / 10) (suc d)) (broken s (m / 10 * 10 + m % 10) (suc d + 1)) (48 + m % 10) (step-broken s (m / 10) (suc d) (m % 10) (below-ten m))
     ∙ ap (λ x. some (broken s x (suc d + 1))) (joined m)
     ∙ ap (λ x. some (broken s m x)) (omega arith)
 
 -- ---- a whole number, read
-unfoldable pub allRead : Bool → ℕ → ℕ → Digits
-allRead s m zero = whole s m
-allRead s m (suc d) = broken s m (suc d)
-
 size-run-of : (s : Bool) (m d : ℕ) → m / 10 ^ d < 10 ^ 20 → digitRun (signed s) (decimalUpTo 19 (m / 10 ^ d) ++ decimals d m) ≡ some (allRead s m d)
 unfolding decimals allRead
 size-run-of s m zero h = rw (append-nil (decimalUpTo 19 (m / 1))) (decimal-run s 19 (m / 1) h ∙ ap (λ x. some (whole s x)) (omega arith))
 size-run-of s m (suc d) h =
-    run-append (decimalUpTo 19 (m / 10 ^ suc d)) (dot ∷ lastDigits (suc d) m) (signed s) (whole s (m / 10 ^ suc d)) (decimal-run s 19 (m / 10 ^ suc d) h)
-    ∙ run-cons (whole s (m / 10 ^ suc d)) (pointed s (m / 10 ^ suc d)) dot (lastDigits (suc d) m) (step-dot s (m / 10 ^ suc d))
+    digits-append (decimalUpTo 19 (m / 10 ^ suc d)) (dot ∷ lastDigits (suc d) m) (signed s) (whole s (m / 10 ^ suc d)) (decimal-run s 19 (m / 10 ^ suc d) h)
+    ∙ digits-cons (whole s (m / 10 ^ suc d)) (pointed s (m / 10 ^ suc d)) dot (lastDigits (suc d) m) (step-dot s (m / 10 ^ suc d))
     ∙ last-run s d m
 
 -- the canonical digits of a number are read back
@@ -185,15 +159,15 @@ SizedOr (some d) j = Sized d j
 
 pub sized-step : (d : Digits) (b j : ℕ) → Sized d j → SizedOr (digitStep d b) (suc j)
 unfolding Sized digitStep
-sized-step (signed s) b j w = branch (isDigit b) (λ o. SizedOr o (suc j)) _ _ (λ e. (omega arith, omega (arith, digit-below b e, some-power j))) (λ e. tt)
+sized-step (signed s) b j w = branch-on (λ o. SizedOr o (suc j)) (isDigit b) (λ e. (omega arith, omega (arith, digit-below b e, some-power j))) (λ e. tt)
 sized-step (whole s m) b j w =
-    branch (isDigit b) (λ o. SizedOr o (suc j)) _ _ (λ e. (omega arith, omega (arith, digit-below b e, w .1)))
-    (λ e. branch (eqb b dot) (λ o. SizedOr o (suc j)) _ _ (λ e. record { front = j; some-front = w .0; fits = omega arith; below = rw (div-one m) (w .1) }) (λ e. tt))
+    branch-on (λ o. SizedOr o (suc j)) (isDigit b) (λ e. (omega arith, omega (arith, digit-below b e, w .1)))
+    (λ e. branch-on (λ o. SizedOr o (suc j)) (eqb b dot) (λ e. record { front = j; some-front = w .0; fits = omega arith; below = rw (div-one m) (w .1) }) (λ e. tt))
 sized-step (pointed s m) b j w =
-    branch (isDigit b) (λ o. SizedOr o (suc j)) _ _
+    branch-on (λ o. SizedOr o (suc j)) (isDigit b)
     (λ e. (record { front = w .front; some-front = w .some-front; fits = omega (arith, w .fits); below = rw (one-more m (b - 48) 0 (digit-below b e)) (w .below) }, omega arith)) (λ e. tt)
 sized-step (broken s m d) b j w =
-    branch (isDigit b) (λ o. SizedOr o (suc j)) _ _
+    branch-on (λ o. SizedOr o (suc j)) (isDigit b)
     (λ e. (record { front = w .0 .front; some-front = w .0 .some-front; fits = omega (arith, w .0 .fits); below = rw (add-one d, one-more m (b - 48) d (digit-below b e)) (w .0 .below) }, omega arith)) (λ e. tt)
 
 pub decimal-length : (k n j : ℕ) → 1 ≤ j → n < 10 ^ j → length (decimalUpTo k n) ≤ j
@@ -203,7 +177,7 @@ decimal-length (suc k) n zero h w = absurd (omega arith)
 decimal-length (suc k) n (suc zero) h w = rw (lt-ltb n 10 w, decimalUpTo) h
 decimal-length (suc k) n (suc (suc j)) h w =
     let ih = decimal-length k (n / 10) (suc j) (omega arith) (omega arith) in
-    branch (ltb n 10) (λ l. length l ≤ suc (suc j)) ((48 + n) ∷ []) (decimalUpTo k (n / 10) ++ ((48 + n % 10) ∷ [])) (λ e. omega arith)
+    branch-on (λ l. length l ≤ suc (suc j)) (ltb n 10) {x = (48 + n) ∷ []} {y = decimalUpTo k (n / 10) ++ ((48 + n % 10) ∷ [])} (λ e. omega arith)
     (λ e. rw (length-append (decimalUpTo k (n / 10)) ((48 + n % 10) ∷ [])) (omega arith))
 
 last-length : (d m : ℕ) → length (lastDigits d m) ≡ d

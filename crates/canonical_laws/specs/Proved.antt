@@ -20,11 +20,11 @@ use Rattle.reading_laws.specs.Laws.{Clear}
 use Rattle.reading_laws.specs.Places.{mapBracket, mapResidue, mapLine, mapHeld, mapState, tables-map}
 use Rattle.reading_laws.specs.Run.{unnoted}
 use Rattle.reading_laws.specs.Printable.{order-printable}
-use Rattle.layout_laws.specs.Bare.{canonical-bare}
+use Rattle.reading_laws.specs.Bare.{same-canonical}
 use Rattle.canonical_laws.specs.Laws.{ReadsTo, Laws}
-use Rattle.canonical_laws.specs.Lists.{All, pick-true, pick-false}
-use Rattle.canonical_laws.specs.Brackets.{Place}
-use Rattle.canonical_laws.specs.Runs.{lineRun}
+use Rattle.basics.specs.Each.{Each}
+use Rattle.basics.specs.Choice.{pick-true, pick-false}
+use Rattle.reading_laws.specs.Unnoted.{Place, lineRun}
 use Rattle.canonical_laws.specs.Unknowns.{Brackets, normal}
 use Rattle.canonical_laws.specs.Lines.{norm}
 use Rattle.canonical_laws.specs.Fronts.{Again, read-again}
@@ -38,12 +38,12 @@ pub record Back (s : List ℕ) (l : Line ℕ) : Type 0 where
   pub reads : reading (canonical l) ≡ holds line
   pub residues : map (mapResidue unnoted) (line .residues) ≡ map (mapResidue unnoted) (l .residues)
   pub brackets : map (mapBracket unnoted) (line .brackets) ≡ map normal (map (mapBracket unnoted) (l .brackets))
-  pub once : All Once (l .brackets)
+  pub once : Each Once (l .brackets)
   pub short : length (canonical l) ≤ length s
 
 -- what is noted of places does not enter the canonical line
 canonical-unnoted : (l : Line ℕ) → canonical (mapLine unnoted l) ≡ canonical l
-canonical-unnoted l = sym (canonical-bare (mapLine unnoted l)) ∙ ap canonical (tables-map unnoted l) ∙ canonical-bare l
+canonical-unnoted l = sym (same-canonical (mapLine unnoted l)) ∙ ap canonical (tables-map unnoted l) ∙ same-canonical l
 
 -- a state that is as one outside brackets, with places forgotten, is outside brackets
 pub record Outer (s : State ℕ) (m : Mode) (h : Held Place) : Type 0 where
@@ -59,7 +59,7 @@ outer (outside q g) m h e =
     record { held = g; is = ap (λ z. outside z g) f; like = k }
 outer (inside s at g c) m h e = absurd (let z : _≡_ {A = ℕ} 0 1 = cc in omega arith)
 
-once-held : (s : State ℕ) (m : Mode) (h : Held ℕ) → s ≡ outside m h → OnceIn s → All Once (h .brackets)
+once-held : (s : State ℕ) (m : Mode) (h : Held ℕ) → s ≡ outside m h → OnceIn s → Each Once (h .brackets)
 unfolding OnceIn
 once-held s m h e w = subst (λ (z : State ℕ). OnceIn z) e w .0
 
@@ -67,7 +67,7 @@ back-of : (s : List ℕ) (m : Mode) (h : Held ℕ) → run (λ i. i) 0 start s �
 unfolding reading
 back-of s m h e f r =
     let again : Again (length s) m (mapHeld unnoted h) = read-again s m (mapHeld unnoted h) (sym (unnoted-run s) ∙ ap (mapState unnoted) e) f in
-    let once : All Once (h .brackets) = once-held (run (λ i. i) 0 start s) m h e (once-read (λ i. i) s) in
+    let once : Each Once (h .brackets) = once-held (run (λ i. i) 0 start s) m h e (once-read (λ i. i) s) in
     let o : Outer (run (λ i. i) 0 start (canonical (lineOf h))) m (norm (mapHeld unnoted h)) =
     outer (run (λ i. i) 0 start (canonical (lineOf h))) m (norm (mapHeld unnoted h))
     (unnoted-run (canonical (lineOf h)) ∙ ap (lineRun start) (sym (canonical-unnoted (lineOf h))) ∙ again .path (fits-line (lineOf h) once r)) in
@@ -162,7 +162,7 @@ same-line : (l m : Line ℕ) → accepted l ≡ accepted m → l ≡ m
 same-line l m e = cc
 
 one-entry : (s s′ : List ℕ) (l l′ : Line ℕ) → outcome s ≡ accepted l → outcome s′ ≡ accepted l′ → canonical l ≡ canonical l′ ↔ tablesOf l ≡ tablesOf l′
-one-entry s s′ l l′ e f = (there, λ g. sym (canonical-bare l) ∙ ap canonical g ∙ canonical-bare l′)
+one-entry s s′ l l′ e f = (there, λ g. sym (same-canonical l) ∙ ap canonical g ∙ same-canonical l′)
   where
     there : canonical l ≡ canonical l′ → tablesOf l ≡ tablesOf l′
     there g =
@@ -176,7 +176,7 @@ no-longer s l e = back s l (taken s l e) .short
 itself : (s : List ℕ) (l l′ : Line ℕ) → outcome s ≡ accepted l → outcome (canonical l) ≡ accepted l′ → canonical l′ ≡ canonical l
 itself s l l′ e f =
     let a = reads-back s l e in
-    sym (canonical-bare l′) ∙ ap canonical (ap tablesOf (same-line l′ (a .line) (sym f ∙ a .taken)) ∙ a .tables) ∙ canonical-bare l
+    sym (same-canonical l′) ∙ ap canonical (ap tablesOf (same-line l′ (a .line) (sym f ∙ a .taken)) ∙ a .tables) ∙ same-canonical l
 
 some-line : (t : Tables) → ((s : List ℕ) × ReadsTo s t) ↔ ReadsTo (canonical t) t
 some-line t = (there, λ r. (canonical t, r))
@@ -184,7 +184,7 @@ some-line t = (there, λ r. (canonical t, r))
     there : (s : List ℕ) × ReadsTo s t → ReadsTo (canonical t) t
     there r =
         subst (λ (z : Tables). ReadsTo (canonical z) z) (r .1 .tables)
-        (subst (λ (z : List ℕ). ReadsTo z (tablesOf (r .1 .line))) (sym (canonical-bare (r .1 .line))) (reads-back (r .0) (r .1 .line) (r .1 .taken)))
+        (subst (λ (z : List ℕ). ReadsTo z (tablesOf (r .1 .line))) (sym (same-canonical (r .1 .line))) (reads-back (r .0) (r .1 .line) (r .1 .taken)))
 
 pub laws : Laws
-laws = record { reads-back = reads-back; one-entry = one-entry; no-longer = no-longer; itself = itself; of-tables = canonical-bare; some-line = some-line }
+laws = record { reads-back = reads-back; one-entry = one-entry; no-longer = no-longer; itself = itself; of-tables = same-canonical; some-line = some-line }

@@ -17,69 +17,10 @@ use Rattle.scope.specs.Content.{Inner, begin, Content, lost, closed, going, inn
 use Rattle.scope.specs.Reading.{element, further, groupFirst, inGroup, act, Held, withResidue, withBracket, State, outside, inside, perform, refers?, modeAfter, resume, step, run}
 use Rattle.scope.specs.Canonical.{partsText}
 use Rattle.basics.specs.Tests.{and-left, and-right}
-use Rattle.canonical_laws.specs.Lists.{pick-true, pick-false}
-use Rattle.canonical_laws.specs.Brackets.{Place, Parts, context, contentStep, contentRun}
+use Rattle.basics.specs.Choice.{pick-true, pick-false}
+use Rattle.reading_laws.specs.Unnoted.{lineRun, line-append, line-nil, line-cons, line-one, line-further, lift, Place, Parts, context, contentStep, contentRun}
 
-unfoldable pub lineRun : State Place → List ℕ → State Place
-lineRun s [] = s
-lineRun s (b ∷ l) = lineRun (step tt s b) l
-
-pub line-append : (l m : List ℕ) (s : State Place) → lineRun s (l ++ m) ≡ lineRun (lineRun s l) m
-unfolding lineRun
-line-append [] m s = refl
-line-append (b ∷ l) m s = line-append l m (step tt s b)
-
-pub line-nil : (s : State Place) → lineRun s [] ≡ s
-unfolding lineRun
-line-nil s = refl
-
-pub line-cons : (s : State Place) (b : ℕ) (l : List ℕ) → lineRun s (b ∷ l) ≡ lineRun (step tt s b) l
-unfolding lineRun
-line-cons s b l = refl
-
-pub line-one : (m : Mode) (h : Held Place) (b : ℕ) → lineRun (outside m h) (b ∷ []) ≡ perform tt b h (act m b)
-unfolding lineRun step
-line-one m h b = refl
-
--- where nothing is noted of places, the reader is this run
-pub run-line : (i : ℕ) (s : State Place) (l : List ℕ) → run (λ j. tt) i s l ≡ lineRun s l
-unfolding lineRun run
-run-line i s [] = refl
-run-line i s (b ∷ l) = run-line (i + 1) (step tt s b) l
-
--- one piece more
-pub line-further : (t l : List ℕ) (s x y : State Place) → lineRun s t ≡ x → lineRun x l ≡ y → lineRun s (t ++ l) ≡ y
-line-further t l s x y e f = line-append t l s ∙ ap (λ z. lineRun z l) e ∙ f
-
--- ---- a bracket
-lost-run : (l : List ℕ) → contentRun lost l ≡ lost
-unfolding contentRun contentStep
-lost-run [] = refl
-lost-run (b ∷ l) = lost-run l
-
-lost-closed : (ps : Parts) → lost ≡ closed ps → ⊥
-lost-closed ps e = let z : _≡_ {A = ℕ} 0 1 = cc in omega arith
-
-going-closed : (c : Inner Place) (ps : Parts) → going c ≡ closed ps → ⊥
-going-closed c ps e = let z : _≡_ {A = ℕ} 0 1 = cc in omega arith
-
-closed-same : (ps qs : Parts) → closed ps ≡ closed qs → ps ≡ qs
-closed-same ps qs e = cc
-
--- a run of the inside lifts to the line
-pub lift : (s : Slot) (h : Held Place) (l : List ℕ) (c : Inner Place) (ps : Parts) → contentRun (going c) l ≡ closed ps → lineRun (inside s tt h c) l ≡ outside (modeAfter s ps) (withBracket (s .kind) tt ps h)
-unfolding contentRun contentStep lineRun step resume
-lift s h [] c ps e = absurd (going-closed c ps e)
-lift s h (b ∷ l) c ps e = go (innerStep tt c b) l e (λ d f. lift s h l d ps f)
-  where
-    go : (x : Content Place) (l : List ℕ) → contentRun x l ≡ closed ps → ((d : Inner Place) → contentRun (going d) l ≡ closed ps → lineRun (inside s tt h d) l ≡ outside (modeAfter s ps) (withBracket (s .kind) tt ps h))
-        → lineRun (resume s tt h tt x) l ≡ outside (modeAfter s ps) (withBracket (s .kind) tt ps h)
-    go lost l e ih = absurd (lost-closed ps (sym (lost-run l) ∙ e))
-    go (closed qs) [] e ih = ap (λ z. outside (modeAfter s z) (withBracket (s .kind) tt z h)) (closed-same qs ps e)
-    go (closed qs) (y ∷ l) e ih = absurd (lost-closed ps (sym (lost-run l) ∙ e))
-    go (going d) l e ih = ih d e
-
--- the bytes behind the opening one
+-- ---- a bracket: the bytes behind the opening one
 abbrev pub Reads : ℕ → Bool → Parts → Type 0
 Reads shut r ps = contentRun (going (begin (context shut r []))) (partsText ps ++ (shut ∷ [])) ≡ closed ps
 
@@ -90,13 +31,6 @@ bracket-run m s h b ps e f =
     line-cons (outside m h) b (partsText ps ++ (s .shut ∷ []))
     ∙ ap (λ z. lineRun (perform tt b h z) (partsText ps ++ (s .shut ∷ []))) e
     ∙ lift s h (partsText ps ++ (s .shut ∷ [])) (begin (context (s .shut) (s .refers) [])) ps f
-
-pub same-mode : (ps : Parts) (m : Mode) → cond (refers? ps) m m ≡ m
-same-mode ps m = go (refers? ps)
-  where
-    go : (t : Bool) → cond t m m ≡ m
-    go true = refl
-    go false = refl
 
 -- ---- letters: "residues in upper case"
 pub record Letter (a : ℕ) : Type 0 where

@@ -15,8 +15,9 @@ use Rattle.scope.specs.Lists.{keep, flat}
 use Rattle.scope.specs.Canonical.{squareText, ofKind, endingAt, opening, ending, isNext, goesOn, sequenceText}
 use Rattle.scope.specs.Kinds.{kindCode}
 use Rattle.basics.specs.Lists.{keep-append, flat-append}
-use Rattle.canonical_laws.specs.Lists.{pick-true, pick-false, All}
-use Rattle.canonical_laws.specs.Brackets.{Place}
+use Rattle.basics.specs.Choice.{pick-true, pick-false}
+use Rattle.basics.specs.Each.{Each}
+use Rattle.reading_laws.specs.Unnoted.{Place}
 use Rattle.canonical_laws.specs.Unknowns.{Brackets}
 
 abbrev pub Residues : Type 0
@@ -55,7 +56,7 @@ ending-place c i ks k f = go (hasKind c k) refl
 
 -- no bracket ends behind the last residue
 abbrev pub Low : ℕ → Brackets → Type 0
-Low n ks = All (λ k. k .last ≤ n) ks
+Low n ks = Each (λ k. k .last ≤ n) ks
 
 pub none-above : (c : Kind) (i n : ℕ) (ks : Brackets) → Low n ks → n < i → endingAt c i ks ≡ []
 unfolding keep

@@ -17,10 +17,12 @@ use Rattle.scope.specs.Line.{Bracket}
 use Rattle.scope.specs.Reading.{square, front, undecided, counted, referred, act, Held, countDigit, asNTerm, settledRun, State, outside, perform, refers?, modeAfter, start}
 use Rattle.scope.specs.Lists.{onLast, flat}
 use Rattle.scope.specs.Canonical.{decimalUpTo, decimal, partsText, squareText, unknownText, closedBy}
-use Rattle.canonical_laws.specs.Lists.{pick-true, pick-false, All}
+use Rattle.basics.specs.Choice.{pick-true, pick-false}
+use Rattle.basics.specs.Each.{Each}
 use Rattle.canonical_laws.specs.Numbers.{is-digit, digit-value, below-ten, joined}
-use Rattle.canonical_laws.specs.Brackets.{Place, Parts, FitsPart}
-use Rattle.canonical_laws.specs.Runs.{lineRun, line-nil, line-one, line-further, Reads, bracket-run}
+use Rattle.canonical_laws.specs.Brackets.{FitsPart}
+use Rattle.reading_laws.specs.Unnoted.{Place, Parts, lineRun, line-nil, line-one, line-further}
+use Rattle.canonical_laws.specs.Runs.{Reads, bracket-run}
 
 abbrev pub Brackets : Type 0
 Brackets = List (Bracket Place)
@@ -44,11 +46,11 @@ normal k =
 
 -- the numbers of accepted lines are far smaller
 abbrev pub FitsBracket : Bracket Place → Type 0
-FitsBracket k = All FitsPart (k .parts) × (k .count < 10 ^ 20)
+FitsBracket k = Each FitsPart (k .parts) × (k .count < 10 ^ 20)
 
 -- square brackets that are read back, a reference only where it may stand
 abbrev pub Square : Parts → Type 0
-Square ps = (r : Bool) → All FitsPart ps → (refers? ps ≡ true → r ≡ true) → Reads shutSquare r ps
+Square ps = (r : Bool) → Each FitsPart ps → (refers? ps ≡ true → r ≡ true) → Reads shutSquare r ps
 
 pub record IsUnknown (k : Bracket Place) : Type 0 where
   pub is : k ≡ unknown (k .count) (k .counted) (k .parts)
@@ -129,7 +131,7 @@ pub record Opens (m : Mode) (bs rs : Brackets) (ps : Parts) : Type 0 where
   pub carets : act mode caret ≡ Go Caret
   pub path : lineRun (outside m (held bs rs)) (openSquare ∷ (partsText ps ++ (shutSquare ∷ []))) ≡ outside mode (held bs (rs ++ (unknown 1 none ps ∷ [])))
 
-open-run : (m : Mode) (bs rs : Brackets) (ps : Parts) → Gathers m → refers? ps ≡ false → Square ps → All FitsPart ps → Opens m bs rs ps
+open-run : (m : Mode) (bs rs : Brackets) (ps : Parts) → Gathers m → refers? ps ≡ false → Square ps → Each FitsPart ps → Opens m bs rs ps
 unfolding act undecided counted
 open-run Front bs rs ps at-front e w f =
     record { mode = Undecided; past = past-undecided; carets = refl; path = bracket-run Front front (held bs rs) openSquare ps refl (w true f (λ g. refl)) ∙ mode-plain front ps _ e }
@@ -184,7 +186,7 @@ unknown-run m bs rs k g w f = go (eqb (k .count) 1) refl
         }
 
 -- ---- a run
-pub unknowns-run : (m : Mode) (bs rs : Brackets) (k : Bracket Place) (us : Brackets) → Gathers m → All IsUnknown (k ∷ us) → All FitsBracket (k ∷ us)
+pub unknowns-run : (m : Mode) (bs rs : Brackets) (k : Bracket Place) (us : Brackets) → Gathers m → Each IsUnknown (k ∷ us) → Each FitsBracket (k ∷ us)
     → Gathered m (held bs rs) (held bs (rs ++ map normal (k ∷ us))) (flat unknownText (k ∷ us))
 unfolding flat
 unknowns-run m bs rs k [] g w f =
@@ -210,7 +212,7 @@ map-same [] = refl
 map-same (k ∷ l) = ap (λ z. k ∷ z) (map-same l)
 
 -- "at most one unknown run": all brackets of unknown position, read back in one
-pub front-run : (us : Brackets) → All IsUnknown us → All FitsBracket us → lineRun start (closedBy (flat unknownText us) question) ≡ outside Front (held (map normal us) [])
+pub front-run : (us : Brackets) → Each IsUnknown us → Each FitsBracket us → lineRun start (closedBy (flat unknownText us) question) ≡ outside Front (held (map normal us) [])
 unfolding flat
 front-run [] w f = line-nil start
 front-run (k ∷ us) w f =
@@ -262,7 +264,7 @@ term-run m bs rs k g w f = go m g
         same true = refl
         same false = refl
 
-pub terms-run : (m : Mode) (bs rs : Brackets) (k : Bracket Place) (ns : Brackets) → Terms m → All IsTerm (k ∷ ns) → All FitsBracket (k ∷ ns)
+pub terms-run : (m : Mode) (bs rs : Brackets) (k : Bracket Place) (ns : Brackets) → Terms m → Each IsTerm (k ∷ ns) → Each FitsBracket (k ∷ ns)
     → Termed m (held bs rs) (held bs (rs ++ (k ∷ ns))) (flat squareText (k ∷ ns))
 unfolding flat
 terms-run m bs rs k [] g w f =
@@ -282,7 +284,7 @@ unfolding act undecided referred perform
 term-ends Undecided h pastTerm-undecided = line-one Undecided h dash
 term-ends Referred h pastTerm-referred = line-one Referred h dash
 
-pub terms-end : (bs : Brackets) (k : Bracket Place) (ns : Brackets) → All IsTerm (k ∷ ns) → All FitsBracket (k ∷ ns)
+pub terms-end : (bs : Brackets) (k : Bracket Place) (ns : Brackets) → Each IsTerm (k ∷ ns) → Each FitsBracket (k ∷ ns)
     → lineRun (outside Front (held bs [])) (closedBy (flat squareText (k ∷ ns)) dash) ≡ outside Start (held (bs ++ map asNTerm (k ∷ ns)) [])
 unfolding flat
 terms-end bs k ns w f =

@@ -16,16 +16,8 @@ use Rattle.scope.specs.Line.{Number, Label, mass, Part, Bracket, Residue, Line}
 use Rattle.scope.specs.Keys.{written}
 use Rattle.scope.specs.Modifications.{isReferring, namesOf, copies}
 use Rattle.scope.specs.Refusals.{textOf, refusal1, refusal2, refusal3, refusal5, refusal6, refusal7, refusal8, refusal9, refusal10, refusal11, refusal12, lineRefusals}
+use Rattle.basics.specs.Each.{Each, Some}
 use Rattle.reading_laws.specs.Laws.{Clear}
-
--- some element, and each
-abbrev pub Some : {A : Type 0} → (A → Type 0) → List A → Type 0
-Some P [] = ⊥
-Some P (x ∷ l) = P x ⊎ Some P l
-
-abbrev pub Every : {A : Type 0} → (A → Type 0) → List A → Type 0
-Every P [] = Unit {0}
-Every P (x ∷ l) = P x × Every P l
 
 -- some element, by those in front of it
 abbrev pub SomeBehind : {A : Type 0} → (List A → A → Type 0) → List A → List A → Type 0
@@ -118,14 +110,14 @@ Due8 l i = SomePart (λ (p : Part ℕ). (i ≡ p .at) × Barred p) l
 
 -- ---- 9 "prefix U or M and a name all digits", at "the part"
 abbrev pub NumberName : Part ℕ → Type 0
-NumberName p = (((p .key ≡ U) ⊎ (p .key ≡ M)) × (textOf p ≡ [] → ⊥)) × Every (λ b. isDigit b ≡ true) (textOf p)
+NumberName p = (((p .key ≡ U) ⊎ (p .key ≡ M)) × (textOf p ≡ [] → ⊥)) × Each (λ b. isDigit b ≡ true) (textOf p)
 
 abbrev pub Due9 : Line ℕ → ℕ → Type 0
 Due9 l i = SomePart (λ (p : Part ℕ). (i ≡ p .at) × NumberName p) l
 
 -- ---- 10 "only INFO in an unknown or labile bracket", at "the bracket"
 abbrev pub Due10 : Line ℕ → ℕ → Type 0
-Due10 l i = Some (λ (k : Bracket ℕ). (i ≡ k .at) × (((k .kind ≡ Unknown) ⊎ (k .kind ≡ Labile)) × Every (λ (p : Part ℕ). p .key ≡ Info) (k .parts))) (l .brackets)
+Due10 l i = Some (λ (k : Bracket ℕ). (i ≡ k .at) × (((k .kind ≡ Unknown) ⊎ (k .kind ≡ Labile)) × Each (λ (p : Part ℕ). p .key ≡ Info) (k .parts))) (l .brackets)
 
 -- ---- 11, at "the bracket"
 -- the part has the label x

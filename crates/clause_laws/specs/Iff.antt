@@ -8,8 +8,9 @@ use mathlib.Core.List.{List, [], _∷_, _++_, List·Memᴰ, List·Memᴰ·head, 
 use Rattle.scope.specs.Lists.{all, flat, among}
 use Rattle.scope.specs.Refusals.{dueAt, least}
 use Rattle.reading_laws.specs.Proved as reads
-use Rattle.layout_laws.specs.Laws.{same-law}
-use Rattle.clause_laws.specs.Clauses.{Some, Every, FirstAt}
+use Rattle.basics.specs.Lists.{same-law}
+use Rattle.clause_laws.specs.Clauses.{FirstAt}
+use Rattle.basics.specs.Each.{Some, Each}
 
 pub then : {A B C : Type 0} → (A ↔ B) → (B ↔ C) → (A ↔ C)
 then f g = ((λ a. g .0 (f .0 a)), (λ c. f .1 (g .1 c)))
@@ -54,7 +55,7 @@ not-iff a {A} f = ((λ e x. true≢false (sym (f .1 x) ∙ no a e)), back a refl
     back true e h = absurd (h (f .0 e))
     back false e h = refl
 
-pub all-iff : {A : Type 0} (f : A → Bool) (P : A → Type 0) → ((x : A) → f x ≡ true ↔ P x) → (l : List A) → (all f l ≡ true) ↔ Every P l
+pub all-iff : {A : Type 0} (f : A → Bool) (P : A → Type 0) → ((x : A) → f x ≡ true ↔ P x) → (l : List A) → (all f l ≡ true) ↔ Each P l
 unfolding all
 all-iff f P h [] = ((λ e. tt), (λ e. refl))
 all-iff f P h (x ∷ l) = and-iff (f x) (all f l) (h x) (all-iff f P h l)

@@ -17,7 +17,8 @@ use Rattle.scope.specs.Keys.{written}
 use Rattle.scope.specs.Lists.{given, none?, flat}
 use Rattle.scope.specs.Modifications.{copies}
 use Rattle.scope.specs.Refusals.{dueAt, refusal1, refusal2, unprintable, refusal3, depthAfter, tooDeep, textOf, deepPart, refusal5, longText, longLabel, overIn, refusal6, inRange, wide, wideMass, wideScore, wideCount, refusal7, passing, refusal12}
-use Rattle.clause_laws.specs.Clauses.{Some, SomeBehind, FirstAt, Due3, openAfter, Due5, LongLabel, Due6, InRange, WideMass, WideScore, WideCount, Due7, copiesIn, Due12}
+use Rattle.clause_laws.specs.Clauses.{SomeBehind, FirstAt, Due3, openAfter, Due5, LongLabel, Due6, InRange, WideMass, WideScore, WideCount, Due7, copiesIn, Due12}
+use Rattle.basics.specs.Each.{Some}
 use Rattle.clause_laws.specs.Iff.{then, or-iff, and-iff, self, not-iff, either-iff, In, in-append, in-flat, due-iff, first-iff}
 
 -- ---- 1 and 2

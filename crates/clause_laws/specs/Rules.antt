@@ -18,7 +18,8 @@ use Rattle.scope.specs.Lists.{given, none?, flat, among, shared}
 use Rattle.scope.specs.Modifications.{isKey, isReferring, nameOf, namesOf, isLabelled, definedBy, referredBy, defined, referredTo}
 use Rattle.scope.specs.Refusals.{dueAt, textOf, isRule, isLink, notHere, secondLabel, definedAgain, undefined, unreferred, wrongLabels, wronglyLabelled, refusal8, isNumberName, refusal9, refusal10, refusal11}
 use Rattle.scope.specs.Kinds.{unknownOrLabile, isUnknown}
-use Rattle.clause_laws.specs.Clauses.{Some, SomeBehind, FirstAt, Rule, Link, Barred, Due8, Due10, Named, Defines, RefersTo, Second, Again, Undefined, CountedLabel, Unreferred, Due11, NumberName, Due9}
+use Rattle.clause_laws.specs.Clauses.{SomeBehind, FirstAt, Rule, Link, Barred, Due8, Due10, Named, Defines, RefersTo, Second, Again, Undefined, CountedLabel, Unreferred, Due11, NumberName, Due9}
+use Rattle.basics.specs.Each.{Some}
 use Rattle.clause_laws.specs.Iff.{then, or-iff, and-iff, self, all-iff, some-not, either-iff, In, in-append, in-flat, among-iff, due-iff, first-iff}
 
 -- ---- keys and kinds

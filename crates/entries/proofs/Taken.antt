@@ -13,7 +13,8 @@ use Rattle.scope.specs.Positions.{floaters}
 use Rattle.scope.specs.Register.{totalText, fields, report}
 use Rattle.order_laws.specs.Ranks.{orderedb}
 use Rattle.order_laws.specs.Laws.{accepted-ordered, same-order}
-use Rattle.layout_laws.specs.Laws.{accepted-short, same-canonical, same-floaters, same-total, same-lacking}
+use Rattle.accepted_laws.specs.Laws.{accepted-short}
+use Rattle.reading_laws.specs.Bare.{same-canonical, same-floaters, same-total, same-lacking}
 use Rattle.canonical_laws.specs.Proved as canonicals
 use Rattle.reader.specs.ReadSays.{Stored}
 use Rattle.reader.proofs.Storing.{holds-of}

@@ -2,7 +2,7 @@
 use mathlib.Core.Path.{_≡_, refl, sym, ap, ap₂, subst, _∙_}
 use mathlib.Core.Bool.{Bool, true, false, cond, _&&_, and-true}
 use mathlib.Core.Option.{Option, none, some}
-use mathlib.Core.List.{List, [], _∷_, _++_, map, append-assoc, append-nil}
+use mathlib.Core.List.{List, [], _∷_, _++_, map, append-assoc, append-nil, map-append}
 use Prim.Native.Nat.{ℕ, zero, suc, _+_, _-_, _*_, _≤_, _<_}
 use native.Mathlib.Omega.{arith}
 use lib.Dec.{eqb, leb}
@@ -28,9 +28,8 @@ use Rattle.scope.specs.Reading.{act, Held, firstOf, withResidue, firstPosition,
 use Rattle.scope.specs.Kinds.{isUnknown, kindCode}
 use Rattle.scope.specs.Tables.{sectionCode, packed, partRows, scoreOf, bracketTexts, rows, numberRow}
 use Rattle.reading_laws.specs.Run.{rest, rest-step, rest-dead}
-use Rattle.layout_laws.specs.Within.{Each, Within}
-use Rattle.layout_laws.specs.Each.{each-append}
-use Rattle.layout_laws.specs.Lists.{map-append}
+use Rattle.basics.specs.Each.{Each, each-append}
+use Rattle.accepted_laws.specs.Within.{Within}
 use Rattle.basics.specs.Lists.{flat-append, flat-one}
 use Rattle.fill.specs.declared.Progress.{Progress}
 use Rattle.fill.specs.States.{Settled}

@@ -16,7 +16,8 @@ use Rattle.scope.specs.Lists.{given, part}
 use Rattle.scope.specs.Content.{isReference}
 use Rattle.scope.specs.Refusals.{textIn, textOf, inRange}
 use Rattle.scope.specs.Tables.{valueCode, millionths, massIn, decimalsIn, labelOf, packed, offset, partRow, scoreOf, scoreCode}
-use Rattle.layout_laws.specs.Within.{Each, OfGiven, NumberWithin, LabelWithin, ValueWithin, PartWithin}
+use Rattle.basics.specs.Each.{Each, OfGiven}
+use Rattle.accepted_laws.specs.Within.{NumberWithin, LabelWithin, ValueWithin, PartWithin}
 use Rattle.layout_laws.specs.Numbers.{few-decimals}
 use Rattle.parts.specs.declared.Value.{Value as FoundValue}
 use Rattle.parts.specs.declared.Value.the-variants.{Mass, Wide, Text, Reference}

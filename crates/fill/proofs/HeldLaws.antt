@@ -2,7 +2,7 @@
 use mathlib.Core.Path.{_≡_, refl, sym, ap, ap₂, subst, _∙_}
 use mathlib.Core.Bool.{Bool, true, false, cond, true≢false}
 use mathlib.Core.Option.{Option, none, some}
-use mathlib.Core.List.{List, [], _∷_, _++_, map, append-assoc, append-nil}
+use mathlib.Core.List.{List, [], _∷_, _++_, map, append-assoc, append-nil, map-append}
 use Prim.Native.Nat.{ℕ, zero, suc, _+_, _-_, _*_, _≤_, _<_}
 use native.Mathlib.Nat.{add-zero}
 use native.Mathlib.Omega.{arith}
@@ -18,10 +18,8 @@ use Rattle.scope.specs.Lists.{given, onLast, flat, padded}
 use Rattle.scope.specs.Reading.{Held, withResidue, put, bracketOf, times, countDigit, asNTerm}
 use Rattle.scope.specs.Kinds.{isUnknown, kindCode}
 use Rattle.scope.specs.Tables.{sectionCode, millionths, massIn, packed, scoreOf, scoreCode, partRows, bracketRow, bracketTexts, rows, numberRow}
-use Rattle.layout_laws.specs.Within.{Each}
+use Rattle.basics.specs.Each.{Each, each-append}
 use Rattle.layout_laws.specs.Layout.{padded-length, bracket-row-length, number-row-length}
-use Rattle.layout_laws.specs.Lists.{map-append}
-use Rattle.layout_laws.specs.Each.{each-append}
 use Rattle.basics.specs.Lists.{flat-append, flat-one}
 use Rattle.fill.specs.Steps.{bracketsIn, textsIn}
 use Rattle.fill.specs.Areas.{areaWith}

@@ -1,7 +1,7 @@
 -- A bracket in the areas: one part more, and its head.
 use mathlib.Core.Path.{_≡_, refl, sym, ap, ap₂, subst, _∙_}
 use mathlib.Core.Bool.{Bool, false, cond}
-use mathlib.Core.List.{List, [], _∷_, _++_, map, append-assoc, append-nil}
+use mathlib.Core.List.{List, [], _∷_, _++_, map, append-assoc, append-nil, map-append}
 use Prim.Native.Nat.{ℕ, _+_, _-_, _*_, _≤_, _<_}
 use native.Mathlib.Nat.{add-zero}
 use native.Mathlib.Omega.{arith}
@@ -13,7 +13,6 @@ use Rattle.scope.specs.Line.{Part}
 use Rattle.scope.specs.Lists.{given, flat, padded}
 use Rattle.scope.specs.Tables.{millionths, massIn, packed, partRow, partRows, scoreOf, scoreCode}
 use Rattle.layout_laws.specs.Layout.{padded-length, part-rows-length}
-use Rattle.layout_laws.specs.Lists.{map-append}
 use Rattle.basics.specs.Lists.{flat-append, flat-one}
 use Rattle.fill.specs.declared.Parted.{Parted}
 use Rattle.fill.specs.declared.Step.{Step}

@@ -21,8 +21,8 @@ use Rattle.scope.specs.Tables.{bracketTexts}
 use Rattle.reading_laws.specs.Acts.{each-mode, act-rule, ByteOf, act-byte}
 use Rattle.reading_laws.specs.Kept.{kept, put-by}
 use Rattle.reading_laws.specs.Run.{rest}
-use Rattle.layout_laws.specs.Within.{Each, BracketWithin, Within}
-use Rattle.layout_laws.specs.Each.{each-one}
+use Rattle.basics.specs.Each.{Each, each-one}
+use Rattle.accepted_laws.specs.Within.{BracketWithin, Within}
 use Rattle.basics.specs.Tests.{and-left, and-right}
 use Rattle.fill.specs.States.{decided, NoneWaits, NoneWaitsBehind, Settled}
 use Rattle.fill.proofs.Bounded.{Kept, HeldKept, StateKept, runs-back, bracket-kept}

@@ -19,7 +19,8 @@ use Rattle.scope.specs.Content.{isReference, Context, begin, Content, lost, clo
 use Rattle.scope.specs.Reading.{Held, withBracket, outside, inside, refers?, modeAfter, resume, stuck, holds}
 use Rattle.scope.specs.Tables.{millionths, massIn, packed, partRow, scoreOf, scoreCode}
 use Rattle.reading_laws.specs.Run.{rest, rest-dead}
-use Rattle.layout_laws.specs.Within.{Each, PartWithin, Within}
+use Rattle.basics.specs.Each.{Each}
+use Rattle.accepted_laws.specs.Within.{PartWithin, Within}
 use Rattle.parts.specs.declared.PartRead.{PartRead}
 use Rattle.parts.specs.declared.Found.{Found}
 use Rattle.parts.specs.declared.Found.the-variants.{Stuck, Read}

@@ -13,9 +13,9 @@ use Rattle.scope.specs.Refusals.{outcome, accepted}
 use Rattle.scope.specs.Tables.{sectionCode, bracketTexts, rows, numberRow, bytesOf, numbersOf}
 use Rattle.reading_laws.specs.Run.{rest, rest-start, rest-end}
 use Rattle.reading_laws.specs.Precedence.{accepted-law}
-use Rattle.layout_laws.specs.Within.{Within}
+use Rattle.accepted_laws.specs.Within.{Within}
 use Rattle.layout_laws.specs.Layout.{bytes-length, numbers-length}
-use Rattle.layout_laws.specs.Accepted.{within-accepted}
+use Rattle.accepted_laws.specs.Accepted.{within-accepted}
 use Rattle.fill.specs.declared.Progress.{Progress}
 use Rattle.fill.specs.States.{Settled}
 use Rattle.fill.specs.Steps.{bracketsIn, textsIn, Roomy}

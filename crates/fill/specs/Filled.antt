@@ -21,7 +21,7 @@ use Rattle.scope.specs.Reading.{Held, firstOf, outside, inside, holds}
 use Rattle.scope.specs.Refusals.{outcome, accepted}
 use Rattle.scope.specs.Tables.{sectionCode, bracketTexts, rows, numberRow, bytesOf, numbersOf, bytesSize, numbersSize}
 use Rattle.reading_laws.specs.Run.{rest}
-use Rattle.layout_laws.specs.Within.{Within}
+use Rattle.accepted_laws.specs.Within.{Within}
 use Rattle.fill.specs.declared.Progress.{Progress}
 use Rattle.fill.specs.States.{Settled}
 use Rattle.fill.specs.Steps.{contextIn, bracketsIn, textsIn, Roomy}

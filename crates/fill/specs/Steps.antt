@@ -14,7 +14,7 @@ use Rattle.scope.specs.Content.{isReference, Context, begin}
 use Rattle.scope.specs.Reading.{Held, withBracket, outside, inside, refers?, modeAfter, holds}
 use Rattle.scope.specs.Tables.{millionths, massIn, packed, partRow, scoreOf, scoreCode, bracketTexts}
 use Rattle.reading_laws.specs.Run.{rest}
-use Rattle.layout_laws.specs.Within.{Within}
+use Rattle.accepted_laws.specs.Within.{Within}
 use Rattle.parts.specs.declared.Value.{Value}
 use Rattle.parts.specs.declared.Value.the-variants.{Mass, Wide, Text, Reference}
 use Rattle.parts.specs.declared.PartRead.{PartRead}

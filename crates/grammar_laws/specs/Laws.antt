@@ -16,7 +16,7 @@ use Rattle.scope.specs.Refusals.{accepted, refused, lineRefusals, byteRefusals,
 use Rattle.scope.specs.Tables.{Tables, tablesOf}
 use Rattle.reading_laws.specs.Laws.{Clear, First}
 use Rattle.clause_laws.specs.Clauses.{NoneDue}
-use Rattle.canonical_laws.specs.Numbers.{digitRun}
+use Rattle.reading_laws.specs.Unnoted.{digitRun}
 use Rattle.scope.specs.Grammar.{Word, goodWord, printWord, Numeral, printNumeral, goodNumeral, meansNumeral, Text, printText, goodText, outerByte, Inside, printInside, goodInside, meansInside, Spelling, print, good, means}
 use Rattle.grammar_laws.specs.Texts.{textRun}
 use Rattle.grammar_laws.specs.Runs.{context, notedRun}

@@ -9,7 +9,7 @@ use Rattle.scope.specs.Reading.{holds, reading, start}
 use Rattle.scope.specs.Lists.{optional, there?}
 use Rattle.scope.specs.Tables.{tablesOf}
 use Rattle.reading_laws.specs.Run.{tablesRead, told, tables-run}
-use Rattle.canonical_laws.specs.Runs.{lineRun, run-line}
+use Rattle.reading_laws.specs.Unnoted.{lineRun, run-line}
 use Rattle.scope.specs.Grammar.{means}
 use Rattle.grammar_laws.specs.Bare.{Place}
 use Rattle.grammar_laws.specs.Written.{line-read}

@@ -11,8 +11,8 @@ use borrow.Author.Tests.{eqb-true}
 use Rattle.scope.specs.Bytes.{isDigit, dot, value}
 use Rattle.scope.specs.Line.{Number}
 use Rattle.scope.specs.Content.{Digits, signed, whole, pointed, broken, digitStep, numberEnd}
-use Rattle.canonical_laws.specs.Lists.{branch, pick-true, pick-false}
-use Rattle.canonical_laws.specs.Numbers.{digitRun, run-append, run-cons, allRead}
+use Rattle.basics.specs.Choice.{branch-on, pick-true, pick-false}
+use Rattle.reading_laws.specs.Unnoted.{digitRun, digits-append, digits-cons, allRead}
 use Rattle.basics.specs.Tests.{and-left, and-right, both}
 use Rattle.scope.specs.Lists.{all as every}
 use Rattle.scope.specs.Grammar.{someOf, Numeral, printBehind, printNumeral, goodBehind, goodNumeral, valueOn, fraction, signedBy, meansNumeral}
@@ -47,14 +47,14 @@ whole-run : (s : Bool) (m : ℕ) (l : List ℕ) → every isDigit l ≡ true →
 unfolding digitRun every valueOn
 whole-run s m [] e = refl
 whole-run s m (b ∷ l) e =
-    run-cons (whole s m) (whole s (m * 10 + value b)) b l (step-whole s m b (and-left (isDigit b) (every isDigit l) e))
+    digits-cons (whole s m) (whole s (m * 10 + value b)) b l (step-whole s m b (and-left (isDigit b) (every isDigit l) e))
     ∙ whole-run s (m * 10 + value b) l (and-right (isDigit b) (every isDigit l) e)
 
 broken-run : (s : Bool) (m d : ℕ) (l : List ℕ) → every isDigit l ≡ true → digitRun (broken s m d) l ≡ some (broken s (valueOn m l) (d + length l))
 unfolding digitRun every valueOn
 broken-run s m d [] e = ap (λ z. some (broken s m z)) (omega arith)
 broken-run s m d (b ∷ l) e =
-    run-cons (broken s m d) (broken s (m * 10 + value b) (d + 1)) b l (step-broken s m d b (and-left (isDigit b) (every isDigit l) e))
+    digits-cons (broken s m d) (broken s (m * 10 + value b) (d + 1)) b l (step-broken s m d b (and-left (isDigit b) (every isDigit l) e))
     ∙ broken-run s (m * 10 + value b) (d + 1) l (and-right (isDigit b) (every isDigit l) e)
     ∙ ap (λ z. some (broken s (valueOn (m * 10 + value b) l) z)) (omega arith)
 
@@ -62,15 +62,15 @@ front-run : (s : Bool) (a : List ℕ) → someOf isDigit a ≡ true → digitRun
 unfolding every valueOn
 front-run s [] e = absurd (false≢true e)
 front-run s (b ∷ a) e =
-    run-cons (signed s) (whole s (0 * 10 + value b)) b a (step-signed s b (and-left (isDigit b) (every isDigit a) e))
+    digits-cons (signed s) (whole s (0 * 10 + value b)) b a (step-signed s b (and-left (isDigit b) (every isDigit a) e))
     ∙ whole-run s (0 * 10 + value b) a (and-right (isDigit b) (every isDigit a) e)
 
 point-run : (s : Bool) (m : ℕ) (f : List ℕ) → someOf isDigit f ≡ true → digitRun (whole s m) (dot ∷ f) ≡ some (allRead s (valueOn m f) (length f))
 unfolding every valueOn allRead
 point-run s m [] e = absurd (false≢true e)
 point-run s m (b ∷ f) e =
-    run-cons (whole s m) (pointed s m) dot (b ∷ f) (step-dot s m)
-    ∙ run-cons (pointed s m) (broken s (m * 10 + value b) 1) b f (step-pointed s m b (and-left (isDigit b) (every isDigit f) e))
+    digits-cons (whole s m) (pointed s m) dot (b ∷ f) (step-dot s m)
+    ∙ digits-cons (pointed s m) (broken s (m * 10 + value b) 1) b f (step-pointed s m b (and-left (isDigit b) (every isDigit f) e))
     ∙ broken-run s (m * 10 + value b) 1 f (and-right (isDigit b) (every isDigit f) e)
     ∙ ap (λ z. some (broken s (valueOn (m * 10 + value b) f) z)) (omega arith)
 
@@ -91,7 +91,7 @@ numeral-run s n e = go (n .behind) (and-right (someOf isDigit (n .whole)) (goodB
     go : (o : Option (List ℕ)) → goodBehind o ≡ true → digitRun (signed s) (a ++ printBehind o) ≡ some (allRead s (valueOn 0 (a ++ fraction o)) (length (fraction o)))
     go none g = rw (append-nil a) front
     go (some f) g =
-        run-append a (dot ∷ f) (signed s) (whole s (valueOn 0 a)) front
+        digits-append a (dot ∷ f) (signed s) (whole s (valueOn 0 a)) front
         ∙ point-run s (valueOn 0 a) f g
         ∙ ap (λ z. some (allRead s z (length f))) (sym (value-append 0 a f))
 
@@ -172,12 +172,12 @@ SoFarO s (some d) w = SoFar s d w
 digit-step : (s : Bool) (d : Digits) (b : ℕ) (w : List ℕ) → SoFar s d w → SoFarO s (digitStep d b) (w ++ (b ∷ []))
 unfolding digitStep
 digit-step s (signed t) b w f =
-    branch (isDigit b) (λ o. SoFarO s o (w ++ (b ∷ []))) _ _ (λ e. (f .0, rw (f .1) (record { some = some-snoc isDigit [] b (all-nil isDigit) e; is = value-one b }))) (λ e. tt)
+    branch-on (λ o. SoFarO s o (w ++ (b ∷ []))) (isDigit b) (λ e. (f .0, rw (f .1) (record { some = some-snoc isDigit [] b (all-nil isDigit) e; is = value-one b }))) (λ e. tt)
 digit-step s (whole t m) b w f =
-    branch (isDigit b) (λ o. SoFarO s o (w ++ (b ∷ []))) _ _ (λ e. (f .0, front-more m w b (f .1) e))
-    (λ e. branch (eqb b dot) (λ o. SoFarO s o (w ++ (b ∷ []))) _ _ (λ q. (f .0, record { front = w; so = f .1; all = ap (λ z. w ++ (z ∷ [])) (eqb-true b dot q) })) (λ q. tt))
-digit-step s (pointed t m) b w f = branch (isDigit b) (λ o. SoFarO s o (w ++ (b ∷ []))) _ _ (λ e. (f .0, broken-first m w b (f .1) e)) (λ e. tt)
-digit-step s (broken t m d) b w f = branch (isDigit b) (λ o. SoFarO s o (w ++ (b ∷ []))) _ _ (λ e. (f .0, broken-more m d w b (f .1) e)) (λ e. tt)
+    branch-on (λ o. SoFarO s o (w ++ (b ∷ []))) (isDigit b) (λ e. (f .0, front-more m w b (f .1) e))
+    (λ e. branch-on (λ o. SoFarO s o (w ++ (b ∷ []))) (eqb b dot) (λ q. (f .0, record { front = w; so = f .1; all = ap (λ z. w ++ (z ∷ [])) (eqb-true b dot q) })) (λ q. tt))
+digit-step s (pointed t m) b w f = branch-on (λ o. SoFarO s o (w ++ (b ∷ []))) (isDigit b) (λ e. (f .0, broken-first m w b (f .1) e)) (λ e. tt)
+digit-step s (broken t m d) b w f = branch-on (λ o. SoFarO s o (w ++ (b ∷ []))) (isDigit b) (λ e. (f .0, broken-more m d w b (f .1) e)) (λ e. tt)
 
 pub so-further : (s : Bool) (d d′ : Digits) (b : ℕ) (w : List ℕ) → SoFar s d w → digitStep d b ≡ some d′ → SoFar s d′ (w ++ (b ∷ []))
 so-further s d d′ b w f e = subst (λ (o : Option Digits). SoFarO s o (w ++ (b ∷ []))) e (digit-step s d b w f)

@@ -16,8 +16,8 @@ use Rattle.scope.specs.Line.{mass, text, reference, Part}
 use Rattle.scope.specs.Keys.{spell, keyOf, Form, massOrName, massOnly, digits, alnums, free, form, hashIsPlain, accessionByte}
 use Rattle.scope.specs.Lists.{given, none?, all as every, there?}
 use Rattle.scope.specs.Content.{Digits, signed, whole, digitStep, numberEnd, isPlain, textStep, Context, Inner, begin, plain, keyed, inNumber, inCode, inText, hashed, inLabel, scoring, inScore, scored, Content, closed, going, with, unlabelled, labelled, isReference, partEnd, valueEnd, textEnd, behindKey, colonAfter, nameBehind, innerStep}
-use Rattle.canonical_laws.specs.Lists.{pick-true, pick-false, pick-some, pick-none}
-use Rattle.canonical_laws.specs.Numbers.{digitRun, run-cons}
+use Rattle.basics.specs.Choice.{pick-true, pick-false, pick-some, pick-none}
+use Rattle.reading_laws.specs.Unnoted.{digitRun, digits-cons}
 use Rattle.basics.specs.Tests.{and-left, and-right}
 use Rattle.scope.specs.Grammar.{someOf, Numeral, printNumeral, goodNumeral, goodBehind, printBehind, meansNumeral, signByte, Text, printText, goodText, outerByte, goodWord, withColon, leadKey, firstSign, keyless, Base, delta, code, wording, printBase, takesMass, goodWording, goodBase, keyIn, valueIn, Score, printSign, isMinus, printScore, goodScore, meansScore, Tag, printTag, goodTag, meansTag, Piece, printPiece, formIn, tagFits, goodPiece, meansPiece, printPieces, goodPieces, meansPieces, Inside, parts, refers, printInside, goodInside, meansInside}
 use Rattle.grammar_laws.specs.Lists.{no}
@@ -473,7 +473,7 @@ module _ (c : Context ℕ) where
       go (b ∷ a) e f =
           let d : isDigit b ≡ true = and-left (isDigit b) (every isDigit a) e in
           then i (scoring c p at name) (inScore c p at name i (whole false (value b))) b (a ++ printBehind (n .behind)) _ (score-digit i at p name b d)
-          (in-score (i + 1) at i p name (a ++ printBehind (n .behind)) (whole false (value b)) (readAs false n) (sym (run-cons (signed false) (whole false (value b)) b (a ++ printBehind (n .behind)) (first-digit b d)) ∙ f))
+          (in-score (i + 1) at i p name (a ++ printBehind (n .behind)) (whole false (value b)) (readAs false n) (sym (digits-cons (signed false) (whole false (value b)) b (a ++ printBehind (n .behind)) (first-digit b d)) ∙ f))
 
   score-run : (i at : ℕ) (p : Part ℕ) (name : List ℕ) (o : Option Score) (e : ℕ) → goodScore o ≡ true → closes e ≡ true
       → notedRun i (going (inLabel c p at name)) (printScore o ++ (e ∷ [])) ≡ partEnd c (labelled p at name (meansScore i o)) e

@@ -12,7 +12,7 @@ use Rattle.scope.specs.Reading.{Reading, stuck, holds, reading}
 use Rattle.scope.specs.Tables.{Tables, tablesOf}
 use Rattle.reading_laws.specs.Places.{mapPart, mapContent}
 use Rattle.reading_laws.specs.Run.{unnoted}
-use Rattle.canonical_laws.specs.Numbers.{digitRun}
+use Rattle.reading_laws.specs.Unnoted.{digitRun}
 use Rattle.scope.specs.Grammar.{Spelling, print, good, means}
 use Rattle.grammar_laws.specs.Numerals.{numeral-run, numeral-end, readAs, SoFar, so-further, so-ended}
 use Rattle.grammar_laws.specs.Texts.{textRun, outer-run, whole-text}

@@ -13,7 +13,7 @@ use Rattle.scope.specs.Content.{Context, Inner, Content, lost, closed, going, i
 use Rattle.scope.specs.Reading.{act, Held, withBracket, State, outside, inside, perform, refers?, modeAfter, resume, step, run}
 use Rattle.reading_laws.specs.Places.{mapContent, innerStep-map}
 use Rattle.reading_laws.specs.Run.{run-nil, run-cons, run-append, unnoted}
-use Rattle.canonical_laws.specs.Brackets.{contentStep, contentRun}
+use Rattle.reading_laws.specs.Unnoted.{contentStep, contentRun}
 
 abbrev pub Parts : Type 0
 Parts = List (Part ℕ)

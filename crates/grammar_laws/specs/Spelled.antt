@@ -13,8 +13,9 @@ use Rattle.scope.specs.Line.{Number, mass, text, reference, Part}
 use Rattle.scope.specs.Keys.{spell, keyOf, Form, massOrName, massOnly, digits, alnums, free, form, hashIsPlain, accessionByte}
 use Rattle.scope.specs.Content.{Digits, signed, digitStep, numberEnd, isPlain, textStep, Context, Inner, begin, plain, keyed, inNumber, inCode, inText, hashed, inLabel, scoring, inScore, scored, Content, lost, closed, going, with, unlabelled, labelled, isReference, partEnd, valueEnd, textEnd, behindKey, colonAfter, nameBehind, innerStep}
 use Rattle.scope.specs.Lists.{none?, all as every, there?}
-use Rattle.canonical_laws.specs.Lists.{branch, branchO, pick-true, pick-false, All, all-append}
-use Rattle.canonical_laws.specs.Brackets.{Place, Parts, context, contentStep, contentRun}
+use Rattle.basics.specs.Choice.{branch-on, given-on, pick-true, pick-false}
+use Rattle.basics.specs.Each.{Each, each-append}
+use Rattle.reading_laws.specs.Unnoted.{Place, Parts, context, contentStep, contentRun}
 use Rattle.basics.specs.Tests.{and-left, and-right, both}
 use Rattle.scope.specs.Grammar.{someOf, printNumeral, goodNumeral, signByte, Text, printText, goodText, outerByte, withColon, leadKey, firstSign, keyless, Base, delta, code, wording, printBase, takesMass, goodWording, goodBase, keyIn, printSign, isMinus, Tag, printTag, goodTag, Piece, printPiece, formIn, tagFits, goodPiece, printPieces, goodPieces, Inside, parts, refers, printInside, goodInside}
 use Rattle.grammar_laws.specs.Bare.{bareValue, bareScore, barePiece, bareReference, bareInside}
@@ -45,7 +46,7 @@ module _ (labels : Bool) where
   abbrev pub Fine : Piece → Type 0
   Fine p = goodPiece labels p ≡ true
 
-  good-snoc : (q : Piece) (ps : List Piece) (p : Piece) → Fine q → All Fine ps → Fine p → goodPieces labels q (ps ++ (p ∷ [])) ≡ true
+  good-snoc : (q : Piece) (ps : List Piece) (p : Piece) → Fine q → Each Fine ps → Fine p → goodPieces labels q (ps ++ (p ∷ [])) ≡ true
   unfolding goodPieces
   good-snoc q [] p a b c = both (goodPiece labels q) (goodPiece labels p) a c
   good-snoc q (s ∷ ps) p a b c = both (goodPiece labels q) (goodPieces labels s (ps ++ (p ∷ []))) a (good-snoc s ps p (b .0) (b .1) c)
@@ -217,7 +218,7 @@ module _ (shut : ℕ) (r : Bool) where
 
   pub record Lead (c : Context Place) (w : List ℕ) : Type 0 where
     pub pieces : List Piece
-    pub good : All (Fine labels) pieces
+    pub good : Each (Fine labels) pieces
     pub is : c ≡ context shut r (map barePiece pieces)
     pub all : w ≡ fronts pieces
 
@@ -319,7 +320,7 @@ module _ (shut : ℕ) (r : Bool) where
   parts-is : (c : Context Place) (ps : List Piece) → c ≡ context shut r (map barePiece ps) → c .parts ≡ map barePiece ps
   parts-is c ps e = ap (λ z. z .parts) e
 
-  joined : (ps : List Piece) (q : Piece) (w : List ℕ) → All (Fine labels) ps → Fine labels q → w ≡ (fronts ps ++ printPiece q) ++ (shut ∷ []) → Closed (map barePiece ps ++ (barePiece q ∷ [])) w
+  joined : (ps : List Piece) (q : Piece) (w : List ℕ) → Each (Fine labels) ps → Fine labels q → w ≡ (fronts ps ++ printPiece q) ++ (shut ∷ []) → Closed (map barePiece ps ++ (barePiece q ∷ [])) w
   joined [] q w g f e =
       record {
         tree = parts q [];
@@ -353,7 +354,7 @@ module _ (shut : ℕ) (r : Bool) where
       let ps = x .lead .pieces in
       record {
         pieces = ps ++ (x .piece ∷ []);
-        good = all-append (Fine labels) ps (x .piece ∷ []) (x .lead .good) (x .fine, tt);
+        good = each-append (Fine labels) ps (x .piece ∷ []) (x .lead .good) (x .fine, tt);
         is = ap (λ z. with z p) (x .lead .is) ∙ ap (λ z. context shut r (map barePiece ps ++ (z ∷ []))) (x .is) ∙ ap (context shut r) (sym (means-snoc ps (x .piece)));
         all =
             ap (λ z. z ++ (b ∷ [])) (x .all ∙ ap (λ z. z ++ printPiece (x .piece)) (x .lead .all))
@@ -368,8 +369,8 @@ module _ (shut : ℕ) (r : Bool) where
   part-end : (c : Context Place) (p : Part Place) (b : ℕ) (w : List ℕ) → Made c p w → InvC (w ++ (b ∷ [])) (partEnd c p b)
   unfolding partEnd InvC Inv
   part-end c p b w m =
-      branch (eqb b (c .shut)) (InvC (w ++ (b ∷ []))) _ _ (λ e. part-shuts c p b w (eqb-true b (c .shut) e) m)
-      (λ e. branch (eqb b bar && not (isReference (p .value))) (InvC (w ++ (b ∷ []))) _ _ (λ f. part-bars c p b w f m) (λ f. tt))
+      branch-on (InvC (w ++ (b ∷ []))) (eqb b (c .shut)) (λ e. part-shuts c p b w (eqb-true b (c .shut) e) m)
+      (λ e. branch-on (InvC (w ++ (b ∷ []))) (eqb b bar && not (isReference (p .value))) (λ f. part-bars c p b w f m) (λ f. tt))
 
   piece-of : (c : Context Place) (p : Part Place) (w : List ℕ) → Based c p w → Made c p w
   piece-of c p w x =
@@ -387,7 +388,7 @@ module _ (shut : ℕ) (r : Bool) where
   value-end : (c : Context Place) (p : Part Place) (b : ℕ) (w : List ℕ) (x : Based c p w) → (eqb b hash ≡ true → tagFits (formIn (x .base)) ≡ true) → InvC (w ++ (b ∷ [])) (valueEnd c p b)
   unfolding valueEnd InvC Inv
   value-end c p b w x f =
-      branch (eqb b hash && eqb (c .shut) shutSquare) (InvC (w ++ (b ∷ []))) _ _
+      branch-on (InvC (w ++ (b ∷ []))) (eqb b hash && eqb (c .shut) shutSquare)
       (λ e.
       let h : eqb b hash ≡ true = and-left (eqb b hash) (eqb (c .shut) shutSquare) e in
       let l : labels ≡ true = ap (λ z. eqb z shutSquare) (sym (shut-is c (x .lead .pieces) (x .lead .is))) ∙ and-right (eqb b hash) (eqb (c .shut) shutSquare) e in
@@ -429,14 +430,14 @@ module _ (shut : ℕ) (r : Bool) where
   step-hashed : (c : Context Place) (p : Part Place) (b : ℕ) (w : List ℕ) → Labelled c p [] w → InvC (w ++ (b ∷ [])) (innerStep tt (hashed c p) b)
   unfolding innerStep InvC Inv
   step-hashed c p b w x =
-      branch (isAlnum b) (InvC (w ++ (b ∷ []))) _ _ (λ e. (label-more c p [] w b x, some-snoc isAlnum [] b (all-nil isAlnum) e)) (λ e. tt)
+      branch-on (InvC (w ++ (b ∷ []))) (isAlnum b) (λ e. (label-more c p [] w b x, some-snoc isAlnum [] b (all-nil isAlnum) e)) (λ e. tt)
 
   step-label : (c : Context Place) (p : Part Place) (name : List ℕ) (b : ℕ) (w : List ℕ) → Labelled c p name w → someOf isAlnum name ≡ true → InvC (w ++ (b ∷ [])) (innerStep tt (inLabel c p tt name) b)
   unfolding innerStep InvC Inv
   step-label c p name b w x g =
-      branch (isAlnum b) (InvC (w ++ (b ∷ []))) _ _ (λ e. (label-more c p name w b x, some-snoc isAlnum name b (some-all isAlnum name g) e))
+      branch-on (InvC (w ++ (b ∷ []))) (isAlnum b) (λ e. (label-more c p name w b x, some-snoc isAlnum name b (some-all isAlnum name g) e))
       (λ e.
-      branch (eqb b openRound) (InvC (w ++ (b ∷ []))) _ _
+      branch-on (InvC (w ++ (b ∷ []))) (eqb b openRound)
       (λ f. (label-same c p (name ++ (b ∷ [])) (name ++ (openRound ∷ [])) (w ++ (b ∷ [])) (ap (λ z. name ++ (z ∷ [])) (eqb-true b openRound f)) (label-more c p name w b x), g))
       (λ f.
       part-end c (labelled p tt name none) b w
@@ -445,7 +446,7 @@ module _ (shut : ℕ) (r : Bool) where
   step-scoring : (c : Context Place) (p : Part Place) (name : List ℕ) (b : ℕ) (w : List ℕ) → Labelled c p (name ++ (openRound ∷ [])) w → someOf isAlnum name ≡ true → InvC (w ++ (b ∷ [])) (innerStep tt (scoring c p tt name) b)
   unfolding innerStep InvC Inv
   step-scoring c p name b w x g =
-      branch (isSign b) (InvC (w ++ (b ∷ []))) _ _
+      branch-on (InvC (w ++ (b ∷ []))) (isSign b)
       (λ e. (
         record {
           sign = some (eqb b dash);
@@ -457,7 +458,7 @@ module _ (shut : ℕ) (r : Bool) where
         g,
       ))
       (λ e.
-      branch (isDigit b) (InvC (w ++ (b ∷ []))) _ _
+      branch-on (InvC (w ++ (b ∷ []))) (isDigit b)
       (λ f. (
         record {
           sign = none;
@@ -475,7 +476,7 @@ module _ (shut : ℕ) (r : Bool) where
   step-score : (c : Context Place) (p : Part Place) (name : List ℕ) (d : Digits) (b : ℕ) (w : List ℕ) → Scoring c p name d w → someOf isAlnum name ≡ true → InvC (w ++ (b ∷ [])) (innerStep tt (inScore c p tt name tt d) b)
   unfolding innerStep InvC Inv
   step-score c p name d b w x g =
-      branchO (digitStep d b) (InvC (w ++ (b ∷ []))) _ _
+      given-on (InvC (w ++ (b ∷ []))) (digitStep d b)
       (λ d′ e. (
         record {
           sign = x .sign;
@@ -486,9 +487,9 @@ module _ (shut : ℕ) (r : Bool) where
         g,
       ))
       (λ e.
-      branch (eqb b shutRound) (InvC (w ++ (b ∷ []))) _ _
+      branch-on (InvC (w ++ (b ∷ []))) (eqb b shutRound)
       (λ f.
-      branchO (numberEnd tt d) (InvC (w ++ (b ∷ []))) _ _
+      given-on (InvC (w ++ (b ∷ []))) (numberEnd tt d)
       (λ n h.
       let s = so-ended tt (isMinus (x .sign)) d n (x .bytes) (x .so) h in
       let l = label-more c p _ w b (x .labelled) in
@@ -530,18 +531,18 @@ module _ (shut : ℕ) (r : Bool) where
   step-begin : (c : Context Place) (b : ℕ) (w : List ℕ) → Lead c w → InvC (w ++ (b ∷ [])) (innerStep tt (begin c) b)
   unfolding innerStep InvC Inv
   step-begin c b w x =
-      branch (isSign b) (InvC (w ++ (b ∷ []))) _ _ (λ e. weighed c NoKey b (w ++ (b ∷ [])) e refl (unworded c w (b ∷ []) (w ++ (b ∷ [])) x refl))
+      branch-on (InvC (w ++ (b ∷ []))) (isSign b) (λ e. weighed c NoKey b (w ++ (b ∷ [])) e refl (unworded c w (b ∷ []) (w ++ (b ∷ [])) x refl))
       (λ e.
-      branch (isPlain b) (InvC (w ++ (b ∷ []))) _ _ (λ f. record { before = w; lead = x; all = refl; plain = all-one isPlain b f; some = refl; sign = e })
+      branch-on (InvC (w ++ (b ∷ []))) (isPlain b) (λ f. record { before = w; lead = x; all = refl; plain = all-one isPlain b f; some = refl; sign = e })
       (λ f.
-      branchO (textStep false [] b) (InvC (w ++ (b ∷ []))) _ _
+      given-on (InvC (w ++ (b ∷ []))) (textStep false [] b)
       (λ cs g. (
         unworded c w (b ∷ []) (w ++ (b ∷ [])) x refl,
         text-snoc false [] [] cs b (text-nil false []) g,
         (e, refl, unkeyed (b ∷ []) (lead-on [] cs b (all-nil isPlain) f (λ q. key-none) g)),
       ))
       (λ g.
-      branch (eqb b hash && c .refers && none? (c .parts)) (InvC (w ++ (b ∷ []))) _ _ (λ h. lonely h) (λ h. tt))))
+      branch-on (InvC (w ++ (b ∷ []))) (eqb b hash && c .refers && none? (c .parts)) (λ h. lonely h) (λ h. tt))))
     where
       empty : (ps : List Piece) → none? (map barePiece ps) ≡ true → ps ≡ []
       empty [] e = refl
@@ -583,12 +584,12 @@ module _ (shut : ℕ) (r : Bool) where
   step-plain : (c : Context Place) (t : List ℕ) (b : ℕ) (w : List ℕ) → Plain c t w → InvC (w ++ (b ∷ [])) (innerStep tt (plain c tt t) b)
   unfolding innerStep InvC Inv colonAfter named
   step-plain c t b w x =
-      branch (isPlain b) (InvC (w ++ (b ∷ []))) _ _
+      branch-on (InvC (w ++ (b ∷ []))) (isPlain b)
       (λ e. record { before = x .before; lead = x .lead; all = more; plain = all-snoc isPlain t b (x .plain) e; some = not-none t b; sign = sign-snoc t b (x .some) (x .sign) })
       (λ e.
-      branch (eqb b colon) (λ z. InvC (w ++ (b ∷ [])) z) _ _
+      branch-on (λ z. InvC (w ++ (b ∷ [])) z) (eqb b colon)
       (λ f.
-      branchO (keyOf t) (λ z. InvC (w ++ (b ∷ [])) (going z)) _ _
+      given-on (λ z. InvC (w ++ (b ∷ [])) (going z)) (keyOf t)
       (λ k g.
       behind-key (form k) c k (w ++ (b ∷ [])) refl
       (record {
@@ -605,7 +606,7 @@ module _ (shut : ℕ) (r : Bool) where
         (sign-snoc t colon (x .some) (x .sign), not-none t colon, unkeyed (t ++ (colon ∷ [])) (lead-on t [] colon (x .plain) refl (λ q. g) text-colon)),
       )))
       (λ f.
-      branchO (textStep false [] b) (InvC (w ++ (b ∷ []))) _ _
+      given-on (InvC (w ++ (b ∷ []))) (textStep false [] b)
       (λ cs g. (
         unworded c (x .before) (t ++ (b ∷ [])) (w ++ (b ∷ [])) (x .lead) more,
         text-snoc false t [] cs b (plain-text t (x .plain)) g,
@@ -623,11 +624,11 @@ module _ (shut : ℕ) (r : Bool) where
   step-keyed : (c : Context Place) (k : Key) (b : ℕ) (w : List ℕ) (x : Behind c k [] w) → none? (x .word) ≡ false → takesMass (form k) ≡ true → InvC (w ++ (b ∷ [])) (innerStep tt (keyed c tt k) b)
   unfolding innerStep InvC Inv behind-more
   step-keyed c k b w x n m =
-      branch (isSign b) (InvC (w ++ (b ∷ []))) _ _ (λ e. weighed c k b (w ++ (b ∷ [])) e m (behind-more c k [] w b x)) (λ e. go (form k) refl e)
+      branch-on (InvC (w ++ (b ∷ []))) (isSign b) (λ e. weighed c k b (w ++ (b ∷ [])) e m (behind-more c k [] w b x)) (λ e. go (form k) refl e)
     where
       go : (f : Form) → form k ≡ f → isSign b ≡ false → InvC (w ++ (b ∷ [])) (nameBehind c tt k f b)
       go massOrName q e =
-          branchO (textStep false [] b) (InvC (w ++ (b ∷ []))) _ _
+          given-on (InvC (w ++ (b ∷ []))) (textStep false [] b)
           (λ cs g. (
             behind-more c k [] w b x,
             ap (λ z. textRun (hashIsPlain z) [] (b ∷ [])) q ∙ text-snoc false [] [] cs b (text-nil false []) g,
@@ -642,10 +643,10 @@ module _ (shut : ℕ) (r : Bool) where
   step-number : (c : Context Place) (k : Key) (d : Digits) (b : ℕ) (w : List ℕ) → Weighed c k d w → InvC (w ++ (b ∷ [])) (innerStep tt (inNumber c tt k tt d) b)
   unfolding innerStep InvC Inv
   step-number c k d b w x =
-      branchO (digitStep d b) (InvC (w ++ (b ∷ []))) _ _
+      given-on (InvC (w ++ (b ∷ []))) (digitStep d b)
       (λ d′ e. record { sign = x .sign; bytes = x .bytes ++ (b ∷ []); so = so-further (x .sign) d d′ b (x .bytes) (x .so) e; behind = behind-more c k (signByte (x .sign) ∷ x .bytes) w b (x .behind); takes = x .takes })
       (λ e.
-      branchO (numberEnd tt d) (InvC (w ++ (b ∷ []))) _ _
+      given-on (InvC (w ++ (b ∷ []))) (numberEnd tt d)
       (λ n h. value-end c (unlabelled tt k (mass n)) b w (based n (so-ended tt (x .sign) d n (x .bytes) (x .so) h)) (λ q. mass-tag (form k) (x .takes)))
       (λ h. tt))
     where
@@ -663,7 +664,7 @@ module _ (shut : ℕ) (r : Bool) where
   step-code : (c : Context Place) (k : Key) (t : List ℕ) (b : ℕ) (w : List ℕ) → Behind c k t w → every (accessionByte (form k)) t ≡ true → InvC (w ++ (b ∷ [])) (innerStep tt (inCode c tt k t) b)
   unfolding innerStep InvC Inv textEnd every
   step-code c k t b w x g =
-      branch (accessionByte (form k) b) (InvC (w ++ (b ∷ []))) _ _ (λ e. (behind-more c k t w b x, all-snoc (accessionByte (form k)) t b g e)) (λ e. go t x g)
+      branch-on (InvC (w ++ (b ∷ []))) (accessionByte (form k) b) (λ e. (behind-more c k t w b x, all-snoc (accessionByte (form k)) t b g e)) (λ e. go t x g)
     where
       go : (t : List ℕ) → Behind c k t w → every (accessionByte (form k)) t ≡ true → InvC (w ++ (b ∷ [])) (textEnd c tt k t [] b)
       go [] x g = tt
@@ -682,7 +683,7 @@ module _ (shut : ℕ) (r : Bool) where
   step-text : (c : Context Place) (k : Key) (t cs : List ℕ) (b : ℕ) (w : List ℕ) (x : Behind c k t w) → textRun (hashIsPlain (form k)) [] t ≡ some cs → Begun (form k) (x .word) t → InvC (w ++ (b ∷ [])) (innerStep tt (inText c tt k t cs) b)
   unfolding innerStep InvC Inv textEnd named behind-more
   step-text c k t cs b w x e g =
-      branchO (textStep (hashIsPlain (form k)) cs b) (InvC (w ++ (b ∷ []))) _ _
+      given-on (InvC (w ++ (b ∷ []))) (textStep (hashIsPlain (form k)) cs b)
       (λ ds f. (behind-more c k t w b x, text-snoc (hashIsPlain (form k)) t cs ds b e f, begun-more (form k) (x .word) t b g))
       (λ f. go t cs x e g f)
     where

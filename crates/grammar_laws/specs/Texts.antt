@@ -10,7 +10,7 @@ use borrow.Author.Tests.{eqb-true, ne-eqb}
 use Rattle.scope.specs.Bytes.{isPrintable, isOpening, isShutting, closerOf, openSquare, shutSquare, openCurly, shutCurly, bar, hash, colon}
 use Rattle.scope.specs.Lists.{given}
 use Rattle.scope.specs.Content.{isPlain, textStep}
-use Rattle.canonical_laws.specs.Lists.{pick-true, pick-false, pick-some}
+use Rattle.basics.specs.Choice.{pick-true, pick-false, pick-some}
 use Rattle.basics.specs.Tests.{and-left, and-right, both}
 use Rattle.scope.specs.Grammar.{Text, over, byte, square, curly, printText, plainByte, outerByte, goodText}
 use Rattle.grammar_laws.specs.Lists.{no}

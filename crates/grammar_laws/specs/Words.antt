@@ -12,11 +12,13 @@ use Rattle.scope.specs.declared.grammar.Key.{Key}
 use Rattle.scope.specs.declared.grammar.Key.the-variants.{NoKey, U, M, R, X, G, C, Obs, Unimod, Mod, Xlmod, Resid, Gno, Info, Formula, Glycan, Position, Limit}
 use Rattle.scope.specs.Bytes.{upper, isUpper, isLower, isLetter, colon, sameFolded}
 use Rattle.scope.specs.Keys.{spell, keys, keyAmong, keyOf, written}
-use Rattle.canonical_laws.specs.Lists.{branch, pick-true, pick-false, All}
+use Rattle.basics.specs.Choice.{branch-on, pick-true, pick-false}
+use Rattle.basics.specs.Each.{Each}
 use Rattle.basics.specs.Tests.{and-left, and-right, both}
 use Rattle.scope.specs.Lists.{all as every, there?}
 use Rattle.scope.specs.Grammar.{withColon, leadKey}
 use Rattle.grammar_laws.specs.Lists.{no}
+use Rattle.basics.specs.Lists.{folded-length}
 
 -- ---- two spellings that fold to one
 folded-both : (x a b : List ℕ) → sameFolded a b ≡ true → sameFolded x a ≡ sameFolded x b
@@ -97,11 +99,11 @@ record Named (t : List ℕ) (k : Key) : Type 0 where
   pub folds : sameFolded (spell k) t ≡ true
   pub letters : every isLetter (spell k) ≡ true
 
-all-letters : All (λ k. every isLetter (spell k) ≡ true) keys
+all-letters : Each (λ k. every isLetter (spell k) ≡ true) keys
 unfolding keys spell every
 all-letters = (refl, (refl, (refl, (refl, (refl, (refl, (refl, (refl, (refl, (refl, (refl, (refl, (refl, (refl, (refl, (refl, (refl, tt)))))))))))))))))
 
-among-named : (ks : List Key) (t : List ℕ) (k : Key) → All (λ q. every isLetter (spell q) ≡ true) ks → keyAmong ks t ≡ some k → Named t k
+among-named : (ks : List Key) (t : List ℕ) (k : Key) → Each (λ q. every isLetter (spell q) ≡ true) ks → keyAmong ks t ≡ some k → Named t k
 unfolding keyAmong
 among-named [] t k w e = absurd (Option·none-ne-some k e)
 among-named (q ∷ ks) t k w e = go (sameFolded (spell q) t) refl e (λ f. among-named ks t k (w .1) f)
@@ -200,7 +202,7 @@ lead-spoilt : (w v r : List ℕ) (b : ℕ) → isLetter b ≡ false → leadKey 
 unfolding leadKey
 lead-spoilt w v [] b e = refl
 lead-spoilt w v (x ∷ r) b e =
-    branch (eqb x colon) (λ o. o ≡ none) _ _ (λ q. key-unlettered w v b e)
+    branch-on (λ o. o ≡ none) (eqb x colon) (λ q. key-unlettered w v b e)
     (λ q. ap (λ z. leadKey z r) (append-assoc w (b ∷ v) (x ∷ [])) ∙ lead-spoilt w (v ++ (x ∷ [])) r b e)
 
 pub lead-none : (w r : List ℕ) (b : ℕ) → isLetter b ≡ false → eqb b colon ≡ false → leadKey w (b ∷ r) ≡ none
@@ -212,13 +214,6 @@ no-key none e = refl
 no-key (some k) e = absurd (false≢true e)
 
 -- ---- a key is as long as it is written
-folded-length : (a b : List ℕ) → sameFolded a b ≡ true → length a ≡ length b
-unfolding sameFolded
-folded-length [] [] e = refl
-folded-length [] (y ∷ b) e = absurd (false≢true e)
-folded-length (x ∷ a) [] e = absurd (false≢true e)
-folded-length (x ∷ a) (y ∷ b) e = ap suc (folded-length a b (and-right (eqb (upper x) (upper y)) (sameFolded a b) e))
-
 -- with a colon, where there is a word
 coloned : ℕ → ℕ
 coloned zero = zero

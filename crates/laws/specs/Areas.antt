@@ -15,7 +15,10 @@ use Rattle.scope.specs.Refusals.{Outcome, accepted, outcome}
 use Rattle.scope.specs.Canonical.{canonical}
 use Rattle.scope.specs.Tables.{Tables, tablesOf, bytesOf, numbersOf, bytesSize, numbersSize, tablesIn}
 use Rattle.scope.specs.Answers.{Said, refuses, sameNumbers, readsTo, tooShort, SomeLine, areTables, overTables}
-use Rattle.layout_laws.specs.Laws.{accepted-within, same-bytes, same-numbers, bytes-fill, numbers-fill, tables-back, laid-bytes, laid-numbers, areas-determine, same-law, same-numbers-law, tables-held, accepted-held}
+use Rattle.layout_laws.specs.Laws.{bytes-fill, numbers-fill, tables-back, laid-bytes, laid-numbers, areas-determine, same-numbers-law, tables-held, accepted-held}
+use Rattle.accepted_laws.specs.Laws.{accepted-within}
+use Rattle.reading_laws.specs.Bare.{same-bytes, same-numbers}
+use Rattle.basics.specs.Lists.{same-law}
 use Rattle.canonical_laws.specs.Proved as canonical-laws
 use Rattle.basics.specs.Tests.{both, neither}
 use Rattle.laws.specs.Demands.{bytesRead, numbersRead, writtenFrom, HoldTables, ReadsBack, Demand2}

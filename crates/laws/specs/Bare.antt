@@ -7,9 +7,8 @@ use Rattle.scope.specs.Tables.{bareBracket, tablesOf}
 use Rattle.scope.specs.Positions.{rowsFrom, rowsOf}
 use Rattle.scope.specs.Masses.{massOr0, sum, modifications, labileMass}
 use Rattle.scope.specs.Kinds.{isLabile}
-use Rattle.layout_laws.specs.Lists.{map-map, keep-map}
-use Rattle.layout_laws.specs.Bare.{modifications-bare, mass-or-0}
-use Rattle.layout_laws.specs.Laws.{same-permitted}
+use Rattle.basics.specs.Lists.{map-map, keep-map}
+use Rattle.reading_laws.specs.Bare.{modifications-bare, mass-or-0, same-permitted}
 
 module _ {P : Type 0} where
   pub rows-bare : (l : Line P) → rowsOf (tablesOf l) ≡ rowsOf l

@@ -20,12 +20,10 @@ use Rattle.scope.specs.Reading.{act, Held, bracketOf, withBracket, countDigit, 
 use Rattle.scope.specs.Lists.{flat}
 use Rattle.scope.specs.Modifications.{nameOf, isLabelled}
 use Rattle.scope.specs.Kinds.{isLabile}
-use Rattle.layout_laws.specs.Within.{Each}
-use Rattle.reading_laws.specs.Cases.{every-append}
+use Rattle.basics.specs.Each.{Each, each-append as every-append, each-last as every-last, each-map, each-one}
 use Rattle.reading_laws.specs.Acts.{ofSlot, act-rule}
 use Rattle.reading_laws.specs.Goes.{Valued, of-plain, of-number, of-code, of-text, Over, of-value, of-label, of-score, On, mass-begins, plain-begins, text-begins, refers, plain-on, plain-text, no-key, key-name, key-code, key-text, keyed-mass, keyed-text, mass-on, code-on, text-on, hash-on, label-begins, label-on, score-opens, score-sign, score-digit, score-on, score-over, Goes, stops, goes-on, part-over, shuts, goes}
-use Rattle.reading_laws.specs.Kept.{Whole, reading-whole, put-by, digit-by, every-last}
-use Rattle.layout_laws.specs.Each.{each-map, each-one}
+use Rattle.reading_laws.specs.Kept.{Whole, reading-whole, put-by, digit-by}
 use Rattle.basics.specs.Tests.{and-left, and-right}
 
 -- ---- inside a bracket that `}` closes

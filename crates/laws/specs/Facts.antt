@@ -13,12 +13,13 @@ use Rattle.scope.specs.Refusals.{accepted, outcome}
 use Rattle.scope.specs.Tables.{bareBracket, tablesOf}
 use Rattle.scope.specs.Positions.{floaters}
 use Rattle.scope.specs.Masses.{massOr0}
-use Rattle.layout_laws.specs.Within.{Each, BracketWithin, Within}
-use Rattle.layout_laws.specs.Each.{each-map, each-one}
-use Rattle.layout_laws.specs.Bare.{names-of, mass-of}
-use Rattle.layout_laws.specs.Judged.{judged-line}
-use Rattle.layout_laws.specs.Laws.{accepted-within, first-within, tables-within, tables-back, laid-bounds}
-use Rattle.mass_laws.specs.Terms.{Each as Every, FairBracket, Fair, Limited}
+use Rattle.basics.specs.Each.{Each, each-map, each-one, Each as Every}
+use Rattle.accepted_laws.specs.Within.{BracketWithin, Within}
+use Rattle.reading_laws.specs.Bare.{names-of, mass-of}
+use Rattle.accepted_laws.specs.Judged.{judged-line}
+use Rattle.layout_laws.specs.Laws.{tables-back, laid-bounds}
+use Rattle.accepted_laws.specs.Laws.{accepted-within, first-within, tables-within}
+use Rattle.mass_laws.specs.Terms.{FairBracket, Fair, Limited}
 use Rattle.mass_laws.specs.Laws.{limited-in}
 use Rattle.laws.specs.Curly.{LabileUnlabelled, labile-unlabelled}
 

@@ -12,7 +12,7 @@ use Rattle.scope.specs.Tables.{bareBracket, bareResidue, tablesOf, tablesIn}
 use Rattle.scope.specs.Positions.{floaters, permittedPositions}
 use Rattle.scope.specs.Placements.{placements, freshListing}
 use Rattle.scope.specs.Answers.{areTables}
-use Rattle.layout_laws.specs.Within.{Within}
+use Rattle.accepted_laws.specs.Within.{Within}
 use Rattle.layout_laws.specs.Laws as layout
 use Rattle.placement_laws.specs.Terms.{Ascending, handedOut}
 use Rattle.placement_laws.specs.Laws as placing

@@ -19,8 +19,8 @@ use Rattle.scope.specs.Refusals.{textIn, textOf}
 use Rattle.scope.specs.Kinds.{kindCode}
 use Rattle.scope.specs.Tables.{sectionCode, valueCode, millionths, massIn, decimalsIn, labelOf, packed, offset, partRow, partRows, scoreOf, scoreCode, bracketRow, bracketTexts, rows, bytesOf, numbersOf, byteAt}
 use Rattle.areas.specs.Bounds.{Small, PartBounds, BracketBounds, Bounds}
-use Rattle.layout_laws.specs.Within.{Each, OfGiven, Byte, NumberWithin, LabelWithin, ValueWithin, PartWithin, Stands, BracketWithin, Within}
-use Rattle.layout_laws.specs.Each.{each-append, each-padded, each-map, each-all}
+use Rattle.basics.specs.Each.{Each, OfGiven, each-append, each-padded, each-map, each-all}
+use Rattle.accepted_laws.specs.Within.{Byte, NumberWithin, LabelWithin, ValueWithin, PartWithin, Stands, BracketWithin, Within, first-few, last-few}
 use Rattle.layout_laws.specs.Numbers.{few-decimals, small}
 use Rattle.layout_laws.specs.Layout.{PartRead, PartsRead, BracketRead, BracketsRead, score-within, areas-read, bytes-length, numbers-length}
 
@@ -52,22 +52,6 @@ module _ {P : Type 0} where
   score-few : (s : Option (Number P)) → OfGiven NumberWithin s → scoreCode s ≤ 7
   score-few none w = omega arith
   score-few (some n) w = let h : n .decimals ≤ 6 = few-decimals n w in omega arith
-
-pub first-few : (k : Kind) (first last n : ℕ) → Stands k first last n → first ≤ n + 1
-first-few Unknown first last n s = omega arith
-first-few Labile first last n s = omega arith
-first-few NTerm first last n s = omega arith
-first-few OnResidue first last n s = omega arith
-first-few OnRange first last n s = omega arith
-first-few CTerm first last n s = omega arith
-
-pub last-few : (k : Kind) (first last n : ℕ) → Stands k first last n → last ≤ n + 1
-last-few Unknown first last n s = omega arith
-last-few Labile first last n s = omega arith
-last-few NTerm first last n s = omega arith
-last-few OnResidue first last n s = omega arith
-last-few OnRange first last n s = omega arith
-last-few CTerm first last n s = omega arith
 
 offset-few : (l : List ℕ) (i : ℕ) → offset l i ≤ i
 offset-few [] i = omega arith

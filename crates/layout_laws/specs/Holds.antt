@@ -8,7 +8,7 @@ use Rattle.scope.specs.Line.{Line}
 use Rattle.scope.specs.Refusals.{accepted, outcome}
 use Rattle.scope.specs.Tables.{tablesOf, bytesOf, numbersOf, tablesIn, bytesSize, numbersSize}
 use Rattle.areas.specs.Bounds.{Bounds}
-use Rattle.layout_laws.specs.Within.{Within}
+use Rattle.accepted_laws.specs.Within.{Within}
 
 -- the areas hold the tables of the line l, which is what s reads to
 pub record Holds (bs : List ℕ) (ns : List ℤ) (s : List ℕ) (l : Line ℕ) : Type 0 where

@@ -1,5 +1,5 @@
--- The laws of a line's tables: what every accepted line keeps to, how its tables lie in the two lent areas, that they are read back from there, and
--- that places do not matter to what is done with them. Each is proved in the file that it cites.
+-- How the tables of a line that keeps to the limits lie in the two lent areas, and that they are read back from there. Each law is proved in the file that
+-- it cites.
 use mathlib.Core.Path.{_≡_, sym, ap, ap₂, _∙_}
 use mathlib.Core.Bool.{true}
 use mathlib.Core.Logic.{_↔_}
@@ -19,61 +19,14 @@ use Rattle.scope.specs.Positions.{floaters, permittedPositions, rowsOf}
 use Rattle.scope.specs.Masses.{total, lacking, ledger}
 use Rattle.scope.specs.Answers.{sameNumbers, areTables}
 use Rattle.areas.specs.Bounds.{Bounds}
-use Rattle.layout_laws.specs.Within.{Each, Byte, BracketWithin, Within}
+use Rattle.basics.specs.Each.{Each}
+use Rattle.accepted_laws.specs.Within.{Byte, BracketWithin, Within}
+use Rattle.reading_laws.specs.Bare.{same-bytes, same-numbers}
 use Rattle.layout_laws.specs.Holds.{Holds}
-use Rattle.layout_laws.specs.Bare
-use Rattle.layout_laws.specs.BareWithin
 use Rattle.layout_laws.specs.Layout
 use Rattle.layout_laws.specs.Bounded
 use Rattle.layout_laws.specs.RowsFit
-use Rattle.layout_laws.specs.Judged
-use Rattle.layout_laws.specs.Accepted
 use Rattle.layout_laws.specs.Same
-
--- ---- what every accepted line keeps to
-pub accepted-within : (s : List ℕ) (l : Line ℕ) → outcome s ≡ accepted l → Within l
-accepted-within s l e = Accepted.within-accepted s l e
-
--- "line 1 to 4,096 bytes"
-pub accepted-short : (s : List ℕ) (l : Line ℕ) → outcome s ≡ accepted l → length s ≤ lineLimit
-accepted-short s l e = Judged.judged-line s l e .short
-
--- the packed texts are no longer than the line
-pub accepted-texts : (s : List ℕ) (l : Line ℕ) → outcome s ≡ accepted l → length (flat bracketTexts (l .brackets)) ≤ length s
-accepted-texts s l e = Accepted.texts-accepted s l e
-
--- "1 to n the residues, n+1 the C-terminus": positions of brackets
-pub first-within : {P : Type 0} (n : ℕ) (k : Bracket P) → BracketWithin n k → k .first ≤ n + 1
-first-within n k w = Bounded.first-few (k .kind) (k .first) (k .last) n (w .stands)
-
-pub last-within : {P : Type 0} (n : ℕ) (k : Bracket P) → BracketWithin n k → k .last ≤ n + 1
-last-within n k w = Bounded.last-few (k .kind) (k .first) (k .last) n (w .stands)
-
--- ---- places do not matter
-module _ {P : Type 0} (l : Line P) where
-  pub same-bytes : bytesOf (tablesOf l) ≡ bytesOf l
-  same-bytes = Bare.bytes-bare l
-
-  pub same-numbers : numbersOf (tablesOf l) ≡ numbersOf l
-  same-numbers = Bare.numbers-bare l
-
-  pub same-canonical : canonical (tablesOf l) ≡ canonical l
-  same-canonical = Bare.canonical-bare l
-
-  pub same-floaters : floaters (tablesOf l) ≡ map bareBracket (floaters l)
-  same-floaters = Bare.floaters-bare l
-
-  pub same-permitted : permittedPositions (tablesOf l) ≡ permittedPositions l
-  same-permitted = Bare.permitted-positions-bare l
-
-  pub same-total : total (tablesOf l) ≡ total l
-  same-total = Bare.total-bare l
-
-  pub same-lacking : lacking (tablesOf l) ≡ lacking l
-  same-lacking = Bare.lacking-bare l
-
-  pub same-ledger : (p : List ℕ) → ledger (tablesOf l) p ≡ ledger l p
-  same-ledger p = Bare.ledger-bare l p
 
 -- ---- the areas of a line
 laid-length : {A : Type 0} (l old : List A) → length l ≤ length old → length (laid l old) ≡ length old
@@ -83,9 +36,6 @@ laid-length l old h =
     omega arith
 
 module _ {P : Type 0} (l : Line P) (within : Within l) where
-  pub tables-within : Within (tablesOf l)
-  tables-within = BareWithin.within-bare l within
-
   -- "Lent areas have the fixed sizes these give"
   pub bytes-fill : length (bytesOf l) ≡ bytesSize
   bytes-fill = Layout.bytes-length l within
@@ -136,9 +86,6 @@ areas-determine l m w v = (
 )
 
 -- ---- refusal 14
-pub same-law : (x y : List ℕ) → (same x y ≡ true) ↔ (x ≡ y)
-same-law x y = Same.same-law x y
-
 pub same-numbers-law : (x y : List ℤ) → (sameNumbers x y ≡ true) ↔ (x ≡ y)
 same-numbers-law x y = Same.same-numbers-law x y
 

@@ -23,7 +23,8 @@ use Rattle.scope.specs.Modifications.{nameOf}
 use Rattle.scope.specs.Refusals.{textIn, textOf}
 use Rattle.scope.specs.Kinds.{kindCode, kindIn}
 use Rattle.scope.specs.Tables.{bareNumber, bareLabel, bareValue, barePart, bareBracket, bareResidue, tablesOf, sectionCode, valueCode, millionths, massIn, decimalsIn, labelOf, packed, offset, partRow, partRows, scoreOf, scoreCode, bracketRow, bracketTexts, rows, bytesOf, numberRow, numbersOf, sectionIn, byteAt, rowAt, partAt, textFrom, scoreIn, valueIn, labelIn, partIn, bracketIn, residueIn, tablesIn}
-use Rattle.layout_laws.specs.Within.{Each, OfGiven, NumberWithin, LabelWithin, ValueWithin, PartWithin, BracketWithin, Within}
+use Rattle.basics.specs.Each.{Each, OfGiven}
+use Rattle.accepted_laws.specs.Within.{NumberWithin, LabelWithin, ValueWithin, PartWithin, BracketWithin, Within}
 use Rattle.layout_laws.specs.At.{At, at-read, at-head, at-first, at-next, at-part, at-start}
 use Rattle.layout_laws.specs.Numbers.{number-back}
 

@@ -1,17 +1,8 @@
-pub mod Within
 pub mod Holds
 pub mod Laws
-pub mod Lists
-pub mod Each
-pub mod Bare
 pub mod At
 pub mod Numbers
 pub mod Layout
 pub mod Bounded
-pub mod Judged
-pub mod Inside
-pub mod Outside
-pub mod Accepted
 pub mod Same
-pub mod BareWithin
 pub mod RowsFit

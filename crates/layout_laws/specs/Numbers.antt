@@ -12,7 +12,7 @@ use Rattle.scope.specs.Line.{Number}
 use Rattle.scope.specs.Tables.{bareNumber, signed, millionths, isNegative, numberIn}
 use Rattle.areas.specs.Bounds.{Small}
 use Rattle.basics.specs.Tests.{and-left, and-right}
-use Rattle.layout_laws.specs.Within.{NumberWithin}
+use Rattle.accepted_laws.specs.Within.{NumberWithin}
 
 sign-back : (s : Bool) (m : ℕ) → (s ≡ true → 0 < m) → isNegative (signed s m) ≡ s
 sign-back true zero h = let z : 0 < 0 = h refl in absurd (omega arith)

@@ -9,8 +9,8 @@ use Rattle.scope.specs.declared.answers.Site.{Site}
 use Rattle.scope.specs.Line.{Bracket, Line}
 use Rattle.scope.specs.Lists.{keep, tabled, member}
 use Rattle.scope.specs.Positions.{permitted, permittedPositions, positions, mayStand, struckOut, floaters, rowsFrom, rowsOf}
-use Rattle.layout_laws.specs.Within.{Each, Within}
-use Rattle.layout_laws.specs.Each.{each-all, each-map}
+use Rattle.basics.specs.Each.{Each, each-all, each-map}
+use Rattle.accepted_laws.specs.Within.{Within}
 
 pub kept-fewer : {A : Type 0} (f : A → Bool) (l : List A) → length (keep f l) ≤ length l
 unfolding keep

@@ -16,29 +16,15 @@ use Rattle.scope.specs.Tables.{tablesOf, bytesOf, numbersOf, tablesIn, bytesSiz
 use Rattle.scope.specs.Answers.{sameNumber, sameNumbers, readsTo, areTables}
 use Rattle.areas.specs.Bounds.{Bounds}
 use Rattle.basics.specs.Tests.{and-left, and-right}
-use Rattle.layout_laws.specs.Within.{Within}
+use Rattle.basics.specs.Lists.{same-law}
+use Rattle.accepted_laws.specs.Within.{Within}
 use Rattle.layout_laws.specs.Holds.{Holds}
 use Rattle.layout_laws.specs.Layout.{tables-back}
 use Rattle.layout_laws.specs.Bounded.{bounds}
-use Rattle.layout_laws.specs.BareWithin.{within-bare}
-use Rattle.layout_laws.specs.Accepted.{within-accepted}
+use Rattle.accepted_laws.specs.BareWithin.{within-bare}
+use Rattle.accepted_laws.specs.Accepted.{within-accepted}
 
 -- ---- equality
-same-is : (x y : List ℕ) → same x y ≡ true → x ≡ y
-unfolding same
-same-is [] [] e = refl
-same-is [] (b ∷ y) e = absurd (false≢true e)
-same-is (a ∷ x) [] e = absurd (false≢true e)
-same-is (a ∷ x) (b ∷ y) e = ap₂ _∷_ (eqb-true a b (and-left (eqb a b) (same x y) e)) (same-is x y (and-right (eqb a b) (same x y) e))
-
-same-self : (x : List ℕ) → same x x ≡ true
-unfolding same
-same-self [] = refl
-same-self (a ∷ x) = rw (eq-eqb a a refl) (same-self x)
-
-pub same-law : (x y : List ℕ) → (same x y ≡ true) ↔ (x ≡ y)
-same-law x y = (same-is x y, λ e. subst (λ z. same x z ≡ true) e (same-self x))
-
 number-is : (x y : ℤ) → sameNumber x y ≡ true → x ≡ y
 number-is (pos m) (pos n) e = ap pos (eqb-true m n e)
 number-is (pos m) (negsuc n) e = absurd (false≢true e)
@@ -98,7 +84,7 @@ tables-held bs ns e = go (outcome (canonical (tablesIn bs ns))) refl e
     go (accepted l) q t = (
       l,
       holds-of bs ns (canonical (tablesIn bs ns)) l q
-          (sym (same-is (bytesOf l) (take bytesSize bs) (and-left _ (sameNumbers (numbersOf l) (take numbersSize ns)) t)))
+          (sym (same-law (bytesOf l) (take bytesSize bs) .0 (and-left _ (sameNumbers (numbersOf l) (take numbersSize ns)) t)))
           (sym (numbers-are (numbersOf l) (take numbersSize ns) (and-right (same (bytesOf l) (take bytesSize bs)) _ t))),
     )
     go (refused number place) q t = absurd (false≢true t)

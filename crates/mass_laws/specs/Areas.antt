@@ -10,14 +10,10 @@ use Rattle.scope.specs.Tables.{byteAt, bracketIn, tablesIn}
 use Rattle.scope.specs.Positions.{floaters}
 use Rattle.scope.specs.Masses.{massOr0}
 use Rattle.areas.specs.Bounds.{Bounds}
-use Rattle.brackets.specs.Tabled.{length-tabled}
+use Rattle.basics.specs.Tabled.{length-tabled}
 use Rattle.masses.proofs.TallyLaws.{mass-small}
-use Rattle.mass_laws.specs.Terms.{Each, Limited}
-
-each-tabled : {A : Type 0} (Q : A → Type 0) (f : ℕ → A) (j n : ℕ) → ((i : ℕ) → i < j + n → Q (f i)) → Each Q (tabled f j n)
-unfolding tabled
-each-tabled Q f j zero h = tt
-each-tabled Q f j (suc n) h = (h j (omega arith), each-tabled Q f (j + 1) n (λ i q. h i (omega arith)))
+use Rattle.mass_laws.specs.Terms.{Limited}
+use Rattle.basics.specs.Each.{each-tabled}
 
 pub limited-in : {bs : List ℕ} {ns : List ℤ} → Bounds bs ns → length (floaters (tablesIn bs ns)) ≤ copyLimit → Limited (tablesIn bs ns)
 unfolding tablesIn

@@ -17,12 +17,12 @@ use Rattle.scope.specs.Lists.{keep, member, tabled}
 use Rattle.scope.specs.Positions.{isPlaced, struckOut, floaters, permitted, permittedPositions}
 use Rattle.scope.specs.Placements.{distinct, fits, allowed}
 use Rattle.scope.specs.Masses.{massOr0, sum, placedAt, putAt, ledger}
-use Rattle.brackets.specs.Tabled.{getD-tabled, length-tabled}
-use Rattle.masses.specs.Weights.{placedMass}
-use Rattle.masses.proofs.LedgerLaws.{eqb-sym, placed-cons}
-use Rattle.basics.specs.Tests.{and-left, and-right}
-use Rattle.mass_laws.specs.Terms.{Each, FairBracket, Fair}
-use Rattle.mass_laws.specs.Sums.{tabled-same, sum-both, sum-zero, share, share-here, share-else, sum-share}
+use Rattle.basics.specs.Tabled.{getD-tabled, length-tabled, tabled-same}
+use Rattle.mass_laws.specs.Weights.{placedMass, placed-cons}
+use Rattle.basics.specs.Tests.{eqb-sym, and-left, and-right}
+use Rattle.mass_laws.specs.Terms.{FairBracket, Fair}
+use Rattle.basics.specs.Each.{Each}
+use Rattle.mass_laws.specs.Sums.{sum-both, sum-zero, share, share-here, share-else, sum-share}
 use Rattle.mass_laws.specs.Members.{not-first, not-rest, member-at, permitted-inside, permitted-free}
 
 -- ---- the placed ones

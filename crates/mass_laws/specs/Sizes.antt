@@ -15,9 +15,10 @@ use Rattle.scope.specs.Lists.{flat}
 use Rattle.scope.specs.Modifications.{isModification, isLabelled, unlabelledCopies, copies}
 use Rattle.scope.specs.Positions.{floaters}
 use Rattle.scope.specs.Masses.{massOr0, sum, sumℕ, total}
-use Rattle.masses.specs.Weights.{weight}
-use Rattle.masses.proofs.Whole.{abs-add, abs-mul}
-use Rattle.mass_laws.specs.Terms.{Each, FairBracket, Fair, Limited}
+use Rattle.mass_laws.specs.Weights.{weight}
+use Rattle.basics.specs.Wholes.{abs-add, abs-mul}
+use Rattle.mass_laws.specs.Terms.{FairBracket, Fair, Limited}
+use Rattle.basics.specs.Each.{Each}
 use Rattle.mass_laws.specs.Splits.{total-is, other-than-unknown}
 
 -- how often a bracket's mass is in the total

@@ -13,8 +13,9 @@ use Rattle.scope.specs.Modifications.{isModification, isLabelled, unlabelledCop
 use Rattle.scope.specs.Kinds.{onOnePosition, isLabile}
 use Rattle.scope.specs.Positions.{isPlaced, floaters}
 use Rattle.scope.specs.Masses.{massOr0, sum, total, labileMass}
-use Rattle.masses.specs.Weights.{weight, placedMass}
-use Rattle.mass_laws.specs.Terms.{Each, FairBracket, Fair}
+use Rattle.mass_laws.specs.Weights.{weight, placedMass}
+use Rattle.mass_laws.specs.Terms.{FairBracket, Fair}
+use Rattle.basics.specs.Each.{Each}
 use Rattle.mass_laws.specs.Sums.{six, sum-keep, sum-flat}
 
 -- what a bracket adds to the labile masses

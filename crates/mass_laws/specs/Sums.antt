@@ -41,11 +41,6 @@ sum-copies f x zero = sym (zero-*ℤ (f x))
 sum-copies f x (suc n) = ap (λ z. f x +ℤ z) (sum-copies f x n) ∙ +ℤ-comm (f x) (pos n *ℤ f x) ∙ sym (sucℤ-*ℤ (pos n) (f x))
 
 -- ---- sums over positions
-pub tabled-same : {A : Type 0} (f g : ℕ → A) → ((x : ℕ) → f x ≡ g x) → (i n : ℕ) → tabled f i n ≡ tabled g i n
-unfolding tabled
-tabled-same f g h i zero = refl
-tabled-same f g h i (suc n) = ap₂ _∷_ (h i) (tabled-same f g h (i + 1) n)
-
 pub sum-both : (f g : ℕ → ℤ) (i n : ℕ) → sum (tabled (λ x. f x +ℤ g x) i n) ≡ sum (tabled f i n) +ℤ sum (tabled g i n)
 unfolding tabled sum
 sum-both f g i zero = refl

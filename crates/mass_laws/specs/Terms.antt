@@ -11,11 +11,7 @@ use Rattle.scope.specs.Line.{Bracket, Line}
 use Rattle.scope.specs.Modifications.{isLabelled}
 use Rattle.scope.specs.Positions.{floaters}
 use Rattle.scope.specs.Masses.{massOr0}
-
--- every element is so
-abbrev pub Each : {A : Type 0} → (A → Type 0) → List A → Type 0
-Each f [] = Unit {0}
-Each f (x ∷ l) = f x × Each f l
+use Rattle.basics.specs.Each.{Each}
 
 -- a bracket of a line with n residues
 pub record FairBracket {P : Type 0} (n : ℕ) (k : Bracket P) : Type 0 where

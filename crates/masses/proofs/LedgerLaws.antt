@@ -26,11 +26,12 @@ use Rattle.scope.specs.Tables.{byteAt, bracketIn, tablesIn}
 use Rattle.scope.specs.Masses.{massOr0, sum, placedAt, putAt, ledger}
 use Rattle.areas.specs.Bounds.{Small, BracketBounds, Bounds}
 use Rattle.brackets.specs.Row.{Row, row}
-use Rattle.brackets.specs.Tabled.{tabled-at, tabled-end, tabled-all, length-tabled, getD-tabled}
+use Rattle.basics.specs.Tabled.{tabled-at, tabled-end, tabled-all, length-tabled, getD-tabled}
 use Rattle.masses.specs.Reach.{Reach}
-use Rattle.masses.specs.Weights.{placedMass}
+use Rattle.mass_laws.specs.Weights.{placedMass}
 use Rattle.masses.specs.Booking.{Held, Placed, CanPut, CanFloat, Put}
-use Rattle.masses.proofs.Whole.{abs-add, back}
+use Rattle.masses.proofs.Whole.{back}
+use Rattle.basics.specs.Wholes.{abs-add}
 use Rattle.masses.proofs.TallyLaws.{mass-small, few-copies}
 
 pub eqb-sym : (a b : ℕ) → eqb a b ≡ eqb b a

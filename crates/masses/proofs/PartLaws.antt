@@ -21,7 +21,7 @@ use Rattle.scope.specs.Tables.{bytesSize, numbersSize, partSize, byteAt, rowAt,
 use Rattle.scope.specs.Masses.{valueMass, firstMass, massOf, massOr0}
 use Rattle.areas.specs.Bounds.{Small, PartBounds, BracketBounds, Bounds}
 use Rattle.brackets.specs.Row.{Row, row}
-use Rattle.brackets.specs.Tabled.{tabled-at, tabled-end, tabled-all}
+use Rattle.basics.specs.Tabled.{tabled-at, tabled-end, tabled-all}
 use Rattle.brackets.specs.Codes.{key-is}
 use Rattle.masses.specs.declared.Mass.{Mass}
 use Rattle.masses.specs.declared.Mass.the-variants.{Is, Lacking}

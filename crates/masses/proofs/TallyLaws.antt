@@ -20,15 +20,18 @@ use Rattle.scope.specs.Modifications.{isKey, isModification}
 use Rattle.scope.specs.Tables.{byteAt, rowAt, partAt, numberRowSize, millionths, numberIn, partIn, bracketIn, tablesIn}
 use Rattle.scope.specs.Masses.{valueMass, firstMass, massOf, massOr0, sum, sumℕ, total, lacking}
 use Rattle.areas.specs.Bounds.{Small, PartBounds, BracketBounds, Bounds}
-use Rattle.brackets.specs.Tabled.{tabled-at, tabled-end, tabled-all}
+use Rattle.basics.specs.Tabled.{tabled-at, tabled-end, tabled-all}
 use Rattle.masses.specs.declared.Mass.{Mass}
 use Rattle.masses.specs.declared.Mass.the-variants.{Is, Lacking}
 use Rattle.masses.specs.declared.Weight.the-variants.{Total, Lacks}
 use Rattle.masses.specs.Reach.{Reach, ReachPart}
-use Rattle.masses.specs.Weights.{saysMass, weight, lack, weightOf}
+use Rattle.masses.specs.Weights.{saysMass, weightOf}
+use Rattle.mass_laws.specs.Weights.{weight, lack}
 use Rattle.masses.specs.Tallies.{Before, CanTally, Tallied}
-use Rattle.masses.proofs.Whole.{abs-add, abs-mul, abs-millionths, back}
-use Rattle.masses.proofs.PartLaws.{first-cons, is-mass, reach-row}
+use Rattle.masses.proofs.Whole.{abs-millionths, back}
+use Rattle.basics.specs.Wholes.{abs-add, abs-mul}
+use Rattle.masses.proofs.PartLaws.{is-mass, reach-row}
+use Rattle.mass_laws.specs.Small.{first-cons}
 
 -- ---- every mass is small
 abbrev size : Option ℤ → ℕ

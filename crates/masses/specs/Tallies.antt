@@ -5,7 +5,7 @@ use Prim.Native.Nat.{ℕ, _+_, _*_, _≤_}
 use lib.IntN.{ℤ, natAbs, _+ℤ_}
 use Rattle.scope.specs.Line.{Bracket}
 use Rattle.masses.specs.Reach.{Reach}
-use Rattle.masses.specs.Weights.{weight, lack}
+use Rattle.mass_laws.specs.Weights.{weight, lack}
 
 -- each bracket before adds at most 99 masses below 1,000,000, or 99 that lack one
 pub record Before (k : ℕ) (sum : ℤ) (lacks : ℕ) : Type 0 where

@@ -27,7 +27,8 @@ ghost use Rattle.scope.specs.Masses.{firstMass, massOf, massOr0, ledger, dalton
 ghost use Rattle.areas.specs.Bounds.{Small, Bounds};
 ghost use Rattle.brackets.specs.Row.{Row};
 ghost use Rattle.masses.specs.Reach.{Reach, ReachPart};
-ghost use Rattle.masses.specs.Weights.{saysMass, wanted, weightOf, placedMass};
+ghost use Rattle.masses.specs.Weights.{saysMass, wanted, weightOf};
+ghost use Rattle.mass_laws.specs.Weights.{placedMass};
 ghost use Rattle.masses.specs.Tallies.{CanTally, Tallied};
 ghost use Rattle.masses.specs.Booking.{Placed, CanPut, CanFloat, Put};
 

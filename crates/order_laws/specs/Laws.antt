@@ -9,7 +9,7 @@ use Rattle.scope.specs.Line.{Line}
 use Rattle.scope.specs.Reading.{holds, reading}
 use Rattle.scope.specs.Refusals.{accepted, outcome}
 use Rattle.scope.specs.Tables.{tablesOf}
-use Rattle.layout_laws.specs.Judged as judged
+use Rattle.accepted_laws.specs.Judged as judged
 use Rattle.order_laws.specs.Ranks.{orderedb, Ordered}
 use Rattle.order_laws.specs.Climbs as climbs
 use Rattle.order_laws.specs.Reader as reader

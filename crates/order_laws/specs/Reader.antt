@@ -17,15 +17,16 @@ use Rattle.scope.specs.Line.{Part, Bracket, Residue, Line}
 use Rattle.scope.specs.Content.{Content, lost, closed, going, innerStep}
 use Rattle.scope.specs.Reading.{act, Held, bracketOf, settled, withBracket, countDigit, asNTerm, State, dead, outside, inside, perform, refers?, modeAfter, resume, step, holds, reading}
 use Rattle.scope.specs.Lists.{onLast}
-use Rattle.reading_laws.specs.Cases.{branch, Every, every-append}
-use Rattle.reading_laws.specs.Kept.{Whole, reading-whole, put-by, digit-by, every-last}
+use Rattle.basics.specs.Choice.{branch}
+use Rattle.basics.specs.Each.{Each, each-append, each-last}
+use Rattle.reading_laws.specs.Kept.{Whole, reading-whole, put-by, digit-by}
 use Rattle.order_laws.specs.Ranks.{rank, Ordered, orderedb}
 use Rattle.order_laws.specs.Climbs.{Climbs, higher, climbs-append, climbs-rising}
 use Rattle.order_laws.specs.Modes.{level, high, below-high, up, up-high, height, ceiling, rankNow, keeps, slot-keeps, act-keeps}
 
 -- the brackets at the front wait as unknown ones
 abbrev Waits : {P : Type 0} → List (Bracket P) → Type 0
-Waits ks = Every (λ k. k .kind ≡ Unknown) ks
+Waits ks = Each (λ k. k .kind ≡ Unknown) ks
 
 -- the settled brackets climb up to c at most
 record Rises {P : Type 0} (c : ℕ) (h : Held P) : Type 0 where
@@ -47,7 +48,7 @@ module _ {P : Type 0} where
   rises-more c d h e w = record { brackets = higher 0 (h .brackets) c d e (w .brackets); run = w .run }
 
   waits-digit : (i : P) (b : ℕ) (ks : List (Bracket P)) → Waits ks → Waits (onLast (countDigit i b) ks)
-  waits-digit i b = every-last (λ k. k .kind ≡ Unknown) (countDigit i b) (λ k e. digit-by (λ j. j .kind ≡ Unknown) i b k (λ n p. e))
+  waits-digit i b = each-last (λ k. k .kind ≡ Unknown) (countDigit i b) (λ k e. digit-by (λ j. j .kind ≡ Unknown) i b k (λ n p. e))
 
   -- ---- the brackets at the front are settled
   run-climbs : (ks : List (Bracket P)) → Waits ks → Climbs 0 (map (λ k. k) ks) 0
@@ -71,7 +72,7 @@ module _ {P : Type 0} where
       (λ u.
       record {
         brackets = higher 0 (h .brackets) (rankNow k (length (h .residues))) c e (w .brackets);
-        run = every-append (λ k. k .kind ≡ Unknown) (h .run) (bracketOf k i ps h ∷ []) (w .run) (u, tt);
+        run = each-append (λ k. k .kind ≡ Unknown) (h .run) (bracketOf k i ps h ∷ []) (w .run) (u, tt);
       })
       (λ u. settled-rises (bracketOf k i ps h) h c e w)
 

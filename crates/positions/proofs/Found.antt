@@ -1,7 +1,7 @@
 -- Laws of finding the floaters, bracket by bracket. Assumes nothing.
 use mathlib.Core.Path.{_≡_, sym, ap, _∙_, subst}
 use mathlib.Core.Bool.{Bool, true, not, cond, _&&_, and-false}
-use mathlib.Core.List.{List, [], _∷_, _++_, map, append-nil, append-assoc}
+use mathlib.Core.List.{List, [], _∷_, _++_, map, append-nil, append-assoc, map-append}
 use Prim.Native.Nat.{ℕ, suc, _+_, _-_, _≤_, _<_}
 use native.Mathlib.Nat.{add-zero}
 use native.Mathlib.Omega.{arith}
@@ -18,8 +18,8 @@ use Rattle.scope.specs.Positions.{floaters}
 use Rattle.scope.specs.Tables.{byteAt, bracketIn, tablesIn}
 use Rattle.areas.specs.Floats.{FloatersAre}
 use Rattle.basics.specs.Choice.{by-test}
-use Rattle.positions.specs.Lists.{map-append, map-replicate}
-use Rattle.brackets.specs.Tabled.{tabled-at, tabled-end, tabled-all}
+use Rattle.basics.specs.Lists.{map-replicate}
+use Rattle.basics.specs.Tabled.{tabled-at, tabled-end, tabled-all}
 
 -- ---- a reference gives no floater
 pub no-copies : (bs : List ℕ) (k : ℕ) {r : Bool} → ((ns : List ℤ) → r ≡ isReferring (bracketIn bs ns k)) → r ≡ true → (ns : List ℤ) → 0 ≡ copies (bracketIn bs ns k)

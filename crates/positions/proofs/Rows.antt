@@ -20,7 +20,7 @@ use Rattle.scope.specs.Modifications.{isLabelled, definedBy, referredBy}
 use Rattle.scope.specs.Tables.{byteAt, bracketIn, tablesIn}
 use Rattle.scope.specs.Positions.{struckOut, isPlaced, between, ownPosition, referredAt, isUnlabelledUnknown, mayStand}
 use Rattle.basics.specs.Choice.{by-test}
-use Rattle.brackets.specs.Tabled.{length-tabled}
+use Rattle.basics.specs.Tabled.{length-tabled}
 use Rattle.positions.specs.Marked.{Marked, RowIs, hasPlace, isUnknown, refersAt, referencesAt, ownAt, placedAt, struckAt}
 use Rattle.positions.proofs.Any.{anyOf, any-last}
 

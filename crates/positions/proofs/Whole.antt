@@ -16,9 +16,9 @@ use Rattle.scope.specs.Tables.{byteAt, bracketIn, tablesIn}
 use Rattle.scope.specs.Positions.{between, isUnlabelledUnknown, mayStand, permitted}
 use Rattle.areas.specs.Floats.{listIn, listsIn, FloatersAre, TableIs}
 use Rattle.basics.specs.Choice.{by-test}
-use Rattle.brackets.specs.Tabled.{length-tabled}
+use Rattle.basics.specs.Tabled.{length-tabled, keep-as, keep-cut, tabled-map}
 use Rattle.positions.specs.Legible.{Legible}
-use Rattle.positions.specs.Lists.{keep-as, keep-cut, tabled-map, map-map}
+use Rattle.basics.specs.Lists.{map-joined as map-map}
 use Rattle.positions.specs.Marked.{Marked, RowIs, Cleared, Filled, hasPlace, refersAt, referencesAt, struckAt, standsAt}
 use Rattle.positions.proofs.Any.{any-none}
 use Rattle.positions.proofs.Rows.{own-at, references-at, stands-anywhere, stands-by-place}

@@ -1,3 +1,2 @@
 pub mod Legible
 pub mod Marked
-pub mod Lists

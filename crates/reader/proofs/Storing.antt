@@ -11,7 +11,8 @@ use Rattle.scope.specs.Refusals.{accepted, outcome}
 use Rattle.scope.specs.Tables.{bytesSize, numbersSize, bytesOf, numbersOf}
 use Rattle.scope.specs.Lists.{laid}
 use Rattle.layout_laws.specs.Holds.{Holds}
-use Rattle.layout_laws.specs.Laws.{accepted-within, accepted-held, bytes-fill, numbers-fill, laid-bytes, laid-numbers}
+use Rattle.layout_laws.specs.Laws.{accepted-held, bytes-fill, numbers-fill, laid-bytes, laid-numbers}
+use Rattle.accepted_laws.specs.Laws.{accepted-within}
 use Rattle.fill.specs.Filled.{Fills, FilledAll}
 use Rattle.reader.specs.ReadSays.{Clean, Lays, Stores, Stored}
 

@@ -10,7 +10,7 @@ use Rattle.scope.specs.Line.{Line}
 use Rattle.scope.specs.Lists.{flat, padded}
 use Rattle.scope.specs.Tables.{bytesSize, numbersSize, byteAt, sectionCode, bracketTexts, rows, numberRow, bytesOf, numbersOf}
 use Rattle.layout_laws.specs.Layout.{padded-length, rows-length, number-rows-length}
-use Rattle.layout_laws.specs.Laws.{accepted-short, accepted-texts}
+use Rattle.accepted_laws.specs.Laws.{accepted-short, accepted-texts}
 use Rattle.reader.specs.ReadSays.{Clean, HoldSome, wiped}
 use Rattle.reader.proofs.Storing.{cleared-clean}
 

@@ -17,7 +17,8 @@ use Rattle.scope.specs.declared.grammar.Act.{Act}
 use Rattle.scope.specs.declared.grammar.Act.the-variants.{Stop, Go, Residue as aResidue, Begin, Digit, RunEnds, TermEnds}
 use Rattle.scope.specs.Bytes.{isLetter, isDigit, openSquare, openCurly, openRound, shutRound, caret, question, dash}
 use Rattle.scope.specs.Reading.{square, front, labile, element, further, groupFirst, inGroup, undecided, counted, referred, act, mayEnd}
-use Rattle.reading_laws.specs.Cases.{branch-on}
+use Rattle.basics.specs.Choice.{branch-on}
+use Rattle.basics.specs.Tests.{both-of}
 
 -- ---- the table
 pub data Sort : Type 0 where
@@ -162,10 +163,6 @@ pub ending : (m : Mode) → mayEnd m ≡ true → Ending m
 ending m = known m .ends
 
 -- ---- rules over acts
-pub both : (t u : Bool) → (t && u) ≡ true → (t ≡ true) × (u ≡ true)
-both true u e = (refl, e)
-both false u e = absurd (false≢true e)
-
 -- what a byte does passes a test together with a sort that the byte is of; where no line goes on so the sort is `any`
 pub record Told (T : Sort → Act → Bool) (b : ℕ) (a : Act) : Type 0 where
   pub sort : Sort
@@ -184,7 +181,7 @@ pick-told : (T : Sort → Act → Bool) (b : ℕ) (ws : List Way) → passesIn T
 unfolding pick
 pick-told T b [] e = record { sort = any; is = refl; passes = e }
 pick-told T b (w ∷ ws) e =
-    let p = both (T (w .sort) (w .does)) _ e in
+    let p = both-of (T (w .sort) (w .does)) _ e in
     branch-on (Told T b) (isOf (w .sort) b) (λ f. record { sort = w .sort; is = f; passes = p .0 }) (λ f. pick-told T b ws (p .1))
 
 pub act-told : (T : Mode → Sort → Act → Bool) → breaking T ≡ [] → (m : Mode) (b : ℕ) → Told (T m) b (act m b)
@@ -241,7 +238,7 @@ pick-none : (S : Sort → Bool) (b : ℕ) → ((q : Sort) → S q ≡ true → i
 unfolding pick
 pick-none S b f [] e = refl
 pick-none S b f (w ∷ ws) e =
-    let p = both (S (w .sort)) _ e in
+    let p = both-of (S (w .sort)) _ e in
     let g = f (w .sort) (p .0) in
     rw g (pick-none S b f ws (p .1))
 

@@ -13,7 +13,7 @@ use Rattle.scope.specs.Keys.{keyOf, Form, massOrName, massOnly, digits, alnums,
 use Rattle.scope.specs.Line.{Number, mass, text, reference, Part}
 use Rattle.scope.specs.Content.{Digits, signed, whole, digitStep, numberEnd, isPlain, textStep, Context, Inner, begin, plain, keyed, inNumber, inCode, inText, hashed, inLabel, scoring, inScore, scored, Content, lost, closed, going, with, unlabelled, labelled, isReference, partEnd, valueEnd, textEnd, behindKey, colonAfter, nameBehind, innerStep}
 use Rattle.scope.specs.Lists.{none?}
-use Rattle.reading_laws.specs.Cases.{branch-on, onGiven, given-on}
+use Rattle.basics.specs.Choice.{branch-on, onGiven, given-on}
 
 -- a mass may stand behind the key
 abbrev pub takesMass : Form → Bool

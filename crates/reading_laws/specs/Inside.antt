@@ -17,7 +17,7 @@ use Rattle.scope.specs.Reading.{Reading, stuck, holds, reading}
 use Rattle.scope.specs.Modifications.{onlyInfo, copies, definedBy, defined, referredTo}
 use Rattle.scope.specs.Refusals.{dueAt, least, refusal1, refusal2, unprintable, refusal3, refusal4, depthAfter, tooDeep, textOf, deepPart, refusal5, longText, longLabel, overIn, refusal6, inRange, wide, wideMass, wideScore, refusal7, notHere, refusal8, isNumberName, refusal9, refusal10, wrongLabels, wronglyLabelled, refusal11, passing, refusal12, Due, due, byteRefusals, lineRefusals}
 use Rattle.scope.specs.Kinds.{unknownOrLabile}
-use Rattle.reading_laws.specs.Cases.{Every, Maybe, every-append, every-map}
+use Rattle.basics.specs.Each.{Each, OfGiven, each-append, each-through}
 use Rattle.reading_laws.specs.Laws.{placeOf, behind, dues}
 use Rattle.reading_laws.specs.Precedence.{least-some}
 use Rattle.reading_laws.specs.Stuck.{stuck-refused}
@@ -25,7 +25,7 @@ use Rattle.reading_laws.specs.Within.{WithinNumber, WithinLabel, WithinV
 
 module _ (n : ℕ) where
   Under : List ℕ → Type 0
-  Under l = Every (λ j. j < n) l
+  Under l = Each (λ j. j < n) l
 
   under-due : (t : Bool) (i : ℕ) → i < n → Under (dueAt t i)
   unfolding Under
@@ -34,7 +34,7 @@ module _ (n : ℕ) where
 
   under-append : (a b : List ℕ) → Under a → Under b → Under (a ++ b)
   unfolding Under
-  under-append a b p q = every-append (λ j. j < n) a b p q
+  under-append a b p q = each-append (λ j. j < n) a b p q
 
   under-drop : (k : ℕ) (l : List ℕ) → Under l → Under (drop k l)
   unfolding Under
@@ -42,17 +42,17 @@ module _ (n : ℕ) where
   under-drop (suc k) [] p = p
   under-drop (suc k) (x ∷ l) p = under-drop k l (p .1)
 
-  under-map : {A : Type 0} (Q : A → Type 0) (f : A → ℕ) → ((x : A) → Q x → f x < n) → (l : List A) → Every Q l → Under (map f l)
+  under-map : {A : Type 0} (Q : A → Type 0) (f : A → ℕ) → ((x : A) → Q x → f x < n) → (l : List A) → Each Q l → Under (map f l)
   unfolding Under
-  under-map Q f h l p = every-map (λ j. j < n) Q f h l p
+  under-map Q f h l p = each-through (λ j. j < n) Q f h l p
 
-  under-flat : {A : Type 0} (Q : A → Type 0) (f : A → List ℕ) → ((x : A) → Q x → Under (f x)) → (l : List A) → Every Q l → Under (flat f l)
+  under-flat : {A : Type 0} (Q : A → Type 0) (f : A → List ℕ) → ((x : A) → Q x → Under (f x)) → (l : List A) → Each Q l → Under (flat f l)
   unfolding flat Under
   under-flat Q f h [] p = tt
   under-flat Q f h (x ∷ l) p = under-append (f x) (flat f l) (h x (p .0)) (under-flat Q f h l (p .1))
 
   -- where there is a value
-  under-given : {A : Type 0} (Q : A → Type 0) (f : A → List ℕ) → ((x : A) → Q x → Under (f x)) → (o : Option A) → Maybe Q o → Under (given o f [])
+  under-given : {A : Type 0} (Q : A → Type 0) (f : A → List ℕ) → ((x : A) → Q x → Under (f x)) → (o : Option A) → OfGiven Q o → Under (given o f [])
   unfolding Under
   under-given Q f h none p = tt
   under-given Q f h (some x) p = h x p
@@ -104,14 +104,14 @@ module _ (n : ℕ) where
       under-given (WithinLabel n) (λ l. given (l .score) wide [])
       (λ l u. under-given (WithinNumber n) wide under-wide (l .score) (u .score)) (p .label) (w .label)
 
-  under-labels : (a b c : List (List ℕ)) (ks : List (Bracket ℕ)) → Every (WithinBracket n) ks → Under (wronglyLabelled a b c ks)
+  under-labels : (a b c : List (List ℕ)) (ks : List (Bracket ℕ)) → Each (WithinBracket n) ks → Under (wronglyLabelled a b c ks)
   unfolding wronglyLabelled Under
   under-labels a b c [] w = tt
   under-labels a b c (k ∷ ks) w =
       under-append (dueAt (wrongLabels a b c k) (k .at)) (wronglyLabelled (a ++ definedBy k) b c ks)
       (under-due (wrongLabels a b c k) (k .at) (w .0 .at)) (under-labels (a ++ definedBy k) b c ks (w .1))
 
-  under-passing : (m : ℕ) (ks : List (Bracket ℕ)) → Every (WithinBracket n) ks → Under (passing m ks)
+  under-passing : (m : ℕ) (ks : List (Bracket ℕ)) → Each (WithinBracket n) ks → Under (passing m ks)
   unfolding passing Under
   under-passing m [] w = tt
   under-passing m (k ∷ ks) w =
@@ -138,7 +138,7 @@ strictly n k o f i e = let h : i < n = f i e in (omega arith, λ a b. h)
 from-least : (n k : ℕ) (l : List ℕ) → Under n l → InsideDue n (due k (least l))
 from-least n k l u = strictly n k (least l) (λ i e. under-least n l i u e)
 
-place-inside : (n : ℕ) (ds : List Due) (k i : ℕ) → Every (InsideDue n) ds → placeOf ds k ≡ some i → AtPlace n k i
+place-inside : (n : ℕ) (ds : List Due) (k i : ℕ) → Each (InsideDue n) ds → placeOf ds k ≡ some i → AtPlace n k i
 unfolding placeOf InsideDue
 place-inside n [] k i w e = let z : _≡_ {A = ℕ} 0 1 = cc in absurd (omega arith)
 place-inside n (d ∷ ds) k i w e = go (eqb (d .number) k) refl e (place-inside n ds k i (w .1))
@@ -194,7 +194,7 @@ module _ (n : ℕ) (l : Line ℕ) (w : WithinLine n l) where
   unfolding refusal12
   inside12 = from-least n 12 _ (under-passing n 0 (l .brackets) (w .brackets))
 
-  line-inside : Every (InsideDue n) (lineRefusals l)
+  line-inside : Each (InsideDue n) (lineRefusals l)
   line-inside = (inside5, (inside6, (inside7, (inside8, (inside9, (inside10, (inside11, (inside12, tt))))))))
 
 -- 1 to 3
@@ -215,11 +215,11 @@ printable-inside : (s : List ℕ) → InsideDue (length s) (due 3 (refusal3 s))
 unfolding refusal3
 printable-inside s = from-least (length s) 3 (unprintable 0 s) (under-unprintable (length s) 0 s (omega arith))
 
-bytes-inside : (s : List ℕ) → Every (InsideDue (length s)) (byteRefusals s)
+bytes-inside : (s : List ℕ) → Each (InsideDue (length s)) (byteRefusals s)
 bytes-inside s = (empty-inside s, (strictly (length s) 2 (refusal2 s) (long-inside s), (printable-inside s, tt)))
 
 -- 4, and those behind it
-rest-inside : (s : List ℕ) (r : Reading) → reading s ≡ r → Every (InsideDue (length s)) (due 4 (refusal4 r) ∷ behind r)
+rest-inside : (s : List ℕ) (r : Reading) → reading s ≡ r → Each (InsideDue (length s)) (due 4 (refusal4 r) ∷ behind r)
 unfolding InsideDue
 rest-inside s (stuck j) e =
     ((λ i q. let h : j ≡ i = cc in let u = stuck-refused s j e .inside in (omega arith, λ a b. absurd (b refl))), tt)
@@ -228,10 +228,10 @@ rest-inside s (holds l) e = (
   line-inside (length s) l (reading-within s l e),
 )
 
-every-inside : (s : List ℕ) → Every (InsideDue (length s)) (dues s)
+every-inside : (s : List ℕ) → Each (InsideDue (length s)) (dues s)
 unfolding dues
 every-inside s =
-    every-append (InsideDue (length s)) (byteRefusals s) (due 4 (refusal4 (reading s)) ∷ behind (reading s)) (bytes-inside s)
+    each-append (InsideDue (length s)) (byteRefusals s) (due 4 (refusal4 (reading s)) ∷ behind (reading s)) (bytes-inside s)
     (rest-inside s (reading s) refl)
 
 pub dues-inside : (s : List ℕ) (k i : ℕ) → placeOf (dues s) k ≡ some i → (i ≤ length s) × ((k ≡ 1 → ⊥) → (k ≡ 4 → ⊥) → i < length s)

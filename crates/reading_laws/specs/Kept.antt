@@ -1,5 +1,5 @@
 -- What every step keeps holds after any bytes, and so of what a line holds that is read whole. With it, what is made of brackets by the way: a
--- bracket is put where it waits or where it is settled, a count is a count and its place, and the last of a list is changed.
+-- bracket is put where it waits or where it is settled, and a count is a count and its place.
 use Prim.Native.Nat.{ℕ, suc, _+_, _*_}
 use native.Mathlib.Omega.{arith}
 use native.Mathlib.Nat.{add-zero}
@@ -15,13 +15,14 @@ use Rattle.scope.specs.Bytes.{value}
 use Rattle.scope.specs.Reading.{mayEnd, Held, settled, waiting, put, times, countDigit, State, dead, outside, inside, step, run, start, stuck, holds, lineOf, ended, reading}
 use Rattle.scope.specs.Lists.{onLast}
 use Rattle.scope.specs.Kinds.{isUnknown}
-use Rattle.reading_laws.specs.Cases.{onGiven, Every}
+use Rattle.basics.specs.Choice.{onGiven}
+use Rattle.basics.specs.Each.{Each}
 
 -- ---- after any bytes
 module _ {P : Type 0} (note : ℕ → P) where
   -- Q of the number of bytes read, R of each byte
   pub kept-from : (Q : ℕ → State P → Type 0) (R : ℕ → Type 0) → ((i : ℕ) (s : State P) (b : ℕ) → R b → Q i s → Q (i + 1) (step (note i) s b))
-      → (i : ℕ) (s : State P) (l : List ℕ) → Every R l → Q i s → Q (i + length l) (run note i s l)
+      → (i : ℕ) (s : State P) (l : List ℕ) → Each R l → Q i s → Q (i + length l) (run note i s l)
   unfolding run
   kept-from Q R f i s [] r q = rw add-zero q
   kept-from Q R f i s (b ∷ l) r q =
@@ -57,7 +58,7 @@ unfolding reading
 reading-whole Q f q s l e = ended-whole Q (length s) (run (λ i. i) 0 start s) l (kept (λ i. i) Q f 0 start s q) e
 
 pub reading-whole-from : (Q : ℕ → State ℕ → Type 0) (R : ℕ → Type 0) → ((i : ℕ) (s : State ℕ) (b : ℕ) → R b → Q i s → Q (i + 1) (step i s b))
-    → Q 0 start → (s : List ℕ) (l : Line ℕ) → Every R s → reading s ≡ holds l → Whole (Q (0 + length s)) l
+    → Q 0 start → (s : List ℕ) (l : Line ℕ) → Each R s → reading s ≡ holds l → Whole (Q (0 + length s)) l
 unfolding reading
 reading-whole-from Q R f q s l r e =
     ended-whole (Q (0 + length s)) (length s) (run (λ i. i) 0 start s) l (kept-from (λ i. i) Q R f 0 start s r q) e
@@ -77,9 +78,3 @@ module _ {P : Type 0} where
   -- a count, and the place of its first digit
   pub digit-by : (Q : Bracket P → Type 0) (i : P) (b : ℕ) (k : Bracket P) → ((n : ℕ) (p : P) → Q (times n p k)) → Q (countDigit i b k)
   digit-by Q i b k f = onGiven Q (k .counted) (λ p e. f (k .count * 10 + value b) p) (f (value b) i)
-
-pub every-last : {A : Type 0} (Q : A → Type 0) (f : A → A) → ((x : A) → Q x → Q (f x)) → (l : List A) → Every Q l → Every Q (onLast f l)
-unfolding onLast
-every-last Q f h [] p = tt
-every-last Q f h (x ∷ []) p = (h x (p .0), tt)
-every-last Q f h (x ∷ y ∷ l) p = (p .0, every-last Q f h (y ∷ l) (p .1))

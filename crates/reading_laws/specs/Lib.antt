@@ -1,10 +1,11 @@
 pub mod Laws
-pub mod Cases
 pub mod Acts
 pub mod Goes
 pub mod Kept
 pub mod Places
 pub mod Run
+pub mod Unnoted
+pub mod Bare
 pub mod Reached
 pub mod Finished
 pub mod Stuck

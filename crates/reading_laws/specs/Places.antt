@@ -22,7 +22,8 @@ use Rattle.scope.specs.Lists.{given, none?, onLast, optional}
 use Rattle.scope.specs.Content.{Digits, signed, whole, pointed, broken, digitStep, numberEnd, isPlain, textStep, Context, Inner, begin, plain, keyed, inNumber, inCode, inText, hashed, inLabel, scoring, inScore, scored, Content, lost, closed, going, with, unlabelled, labelled, isReference, partEnd, valueEnd, textEnd, behindKey, colonAfter, nameBehind, innerStep}
 use Rattle.scope.specs.Reading.{act, Held, withResidue, bracketOf, put, withBracket, times, countDigit, withDigit, asNTerm, settledRun, State, dead, outside, inside, perform, refers?, modeAfter, resume, step}
 use Rattle.scope.specs.Tables.{bareNumber, bareLabel, bareValue, barePart, bareBracket, bareResidue, tablesOf}
-use Rattle.reading_laws.specs.Cases.{through, throughGiven}
+use Rattle.basics.specs.Choice.{through, throughGiven}
+use Rattle.basics.specs.Lists.{map-map, optional-map}
 
 -- ---- every place renamed
 module _ {P Q : Type 0} (f : P → Q) where
@@ -262,18 +263,9 @@ module _ {P Q : Type 0} (f : P → Q) where
       resume-map s at h i (innerStep i c b) ∙ ap (resume s (f at) (mapHeld f h) (f i)) (innerStep-map i c b)
 
 -- ---- the tables do not depend on the places
-map-by : {A B C : Type 0} (g : B → C) (f : A → B) (h : A → C) → ((x : A) → g (f x) ≡ h x) → (l : List A) → map g (map f l) ≡ map h l
-map-by g f h e [] = refl
-map-by g f h e (x ∷ l) = rw (e x, map-by g f h e l)
-
-optional-by : {A B C : Type 0} (g : B → C) (f : A → B) (h : A → C) → ((x : A) → g (f x) ≡ h x) → (o : Option A)
-    → optional g (optional f o) ≡ optional h o
-optional-by g f h e none = refl
-optional-by g f h e (some x) = rw (e x)
-
 module _ {P Q : Type 0} (f : P → Q) where
   bareLabel-map : (l : Label P) → bareLabel (mapLabel f l) ≡ bareLabel l
-  bareLabel-map l = rw (optional-by bareNumber (mapNumber f) bareNumber (λ x. refl) (l .score))
+  bareLabel-map l = rw (optional-map bareNumber bareNumber (mapNumber f) (λ x. refl) (l .score))
 
   bareValue-map : (v : Value P) → bareValue (mapValue f v) ≡ bareValue v
   bareValue-map (mass n) = refl
@@ -281,15 +273,15 @@ module _ {P Q : Type 0} (f : P → Q) where
   bareValue-map reference = refl
 
   pub barePart-map : (p : Part P) → barePart (mapPart f p) ≡ barePart p
-  barePart-map p = rw (bareValue-map (p .value), optional-by bareLabel (mapLabel f) bareLabel bareLabel-map (p .label))
+  barePart-map p = rw (bareValue-map (p .value), optional-map bareLabel bareLabel (mapLabel f) bareLabel-map (p .label))
 
   pub bareBracket-map : (k : Bracket P) → bareBracket (mapBracket f k) ≡ bareBracket k
-  bareBracket-map k = rw (map-by barePart (mapPart f) barePart barePart-map (k .parts))
+  bareBracket-map k = rw (map-map barePart barePart (mapPart f) barePart-map (k .parts))
 
   pub tables-map : (l : Line P) → tablesOf (mapLine f l) ≡ tablesOf l
   unfolding tablesOf
   tables-map l =
       rw (
-        map-by bareResidue (mapResidue f) bareResidue (λ x. refl) (l .residues),
-        map-by bareBracket (mapBracket f) bareBracket bareBracket-map (l .brackets),
+        map-map bareResidue bareResidue (mapResidue f) (λ x. refl) (l .residues),
+        map-map bareBracket bareBracket (mapBracket f) bareBracket-map (l .brackets),
       )

@@ -12,7 +12,7 @@ use Rattle.scope.specs.Line.{Line}
 use Rattle.scope.specs.Lists.{given}
 use Rattle.scope.specs.Reading.{Reading, stuck, holds, reading}
 use Rattle.scope.specs.Refusals.{least, refusal4, Due, due, Outcome, accepted, refused, firstDue, judged, byteRefusals, outcome}
-use Rattle.reading_laws.specs.Cases.{branch-on}
+use Rattle.basics.specs.Choice.{branch-on}
 use Rattle.reading_laws.specs.Laws.{Clear, First, Least, placeOf, Lowest, behind, dues}
 
 -- ---- any list of refusals

@@ -16,21 +16,14 @@ use Rattle.scope.specs.Line.{Line}
 use Rattle.scope.specs.Content.{Digits, signed, whole, pointed, broken, digitStep, isPlain, textStep, Inner, Content, lost}
 use Rattle.scope.specs.Reading.{act, State, dead, outside, inside, perform, resume, step, run, start, holds, ended, reading}
 use Rattle.scope.specs.Refusals.{dueAt, unprintable, least, refusal3}
-use Rattle.reading_laws.specs.Acts.{Sort, letter, digit, only, any, isOf, act-none, both}
+use Rattle.reading_laws.specs.Acts.{Sort, letter, digit, only, any, isOf, act-none}
+use Rattle.basics.specs.Tests.{both-of, neither, falsely}
 use Rattle.reading_laws.specs.Goes.{On, mass-begins, plain-begins, text-begins, refers, plain-on, plain-text, no-key, key-name, key-code, key-text, keyed-mass, keyed-text, mass-on, code-on, text-on, hash-on, label-begins, label-on, score-opens, score-sign, score-digit, score-on, score-over, Goes, stops, goes-on, part-over, shuts, goes}
 use Rattle.reading_laws.specs.Run.{run-dead}
 use Rattle.reading_laws.specs.Reached.{Closer, square, curly, Closers, Good, GoodState, over-good, step-good}
 use Rattle.reading_laws.specs.Finished.{Alive}
 
 -- ---- tests
-falsely : (t : Bool) → (t ≡ true → ⊥) → t ≡ false
-falsely true f = absurd (f refl)
-falsely false f = refl
-
-neither : (a b : Bool) → a ≡ false → b ≡ false → (a || b) ≡ false
-neither true b p q = p
-neither false b p q = q
-
 first-false : (a b : Bool) → a ≡ false → (a && b) ≡ false
 first-false true b p = absurd (false≢true (sym p))
 first-false false b p = refl
@@ -54,7 +47,7 @@ module _ (b : ℕ) (u : isPrintable b ≡ false) where
   no-range : (m n : ℕ) → 32 ≤ m → n ≤ 126 → (leb m b && leb b n) ≡ false
   no-range m n p q =
       falsely (leb m b && leb b n)
-      (λ e. let f = both (leb m b) (leb b n) e in never u (rw (le-leb 32 b (omega (arith, leb-true m b (f .0))), le-leb b 126 (omega (arith, leb-true b n (f .1)))) refl))
+      (λ e. let f = both-of (leb m b) (leb b n) e in never u (rw (le-leb 32 b (omega (arith, leb-true m b (f .0))), le-leb b 126 (omega (arith, leb-true b n (f .1)))) refl))
 
   is-not : (c : ℕ) → isPrintable c ≡ true → eqb b c ≡ false
   is-not c p = falsely (eqb b c) (λ e. never u (subst (λ x. isPrintable x ≡ true) (sym (eqb-true b c e)) p))

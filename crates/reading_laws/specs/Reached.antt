@@ -15,7 +15,8 @@ use Rattle.scope.specs.Keys.{form, accessionByte}
 use Rattle.scope.specs.Line.{Part}
 use Rattle.scope.specs.Content.{isPlain, textStep, Context, Inner, begin, plain, keyed, inNumber, inCode, inText, hashed, inLabel, scoring, inScore, scored, Content, lost, closed, going, innerStep}
 use Rattle.scope.specs.Reading.{act, Held, State, dead, outside, inside, perform, resume, step, run}
-use Rattle.reading_laws.specs.Cases.{branch, Every, Maybe}
+use Rattle.basics.specs.Choice.{branch}
+use Rattle.basics.specs.Each.{Each, OfGiven}
 use Rattle.reading_laws.specs.Acts.{ofSlot, act-rule}
 use Rattle.reading_laws.specs.Goes.{Valued, of-plain, of-number, of-code, of-text, Over, of-value, of-label, of-score, On, mass-begins, plain-begins, text-begins, refers, plain-on, plain-text, no-key, key-name, key-code, key-text, keyed-mass, keyed-text, mass-on, code-on, text-on, hash-on, label-begins, label-on, score-opens, score-sign, score-digit, score-on, score-over, Goes, stops, goes-on, part-over, shuts, goes}
 use Rattle.reading_laws.specs.Kept.{kept}
@@ -25,7 +26,7 @@ pub data Closer : ℕ → Type 0 where
   curly : Closer 125
 
 abbrev pub Closers : List ℕ → Type 0
-Closers cs = Every Closer cs
+Closers cs = Each Closer cs
 
 abbrev pub Good : {P : Type 0} → Inner P → Type 0
 Good (begin c) = Closer (c .shut)
@@ -49,18 +50,18 @@ GoodState (inside s at h c) = Good c
 closerOf-closer : (b : ℕ) → Closer (closerOf b)
 closerOf-closer b = branch Closer (eqb b openSquare) square curly
 
-textStep-closers : (h : Bool) (cs : List ℕ) (b : ℕ) → Closers cs → Maybe Closers (textStep h cs b)
+textStep-closers : (h : Bool) (cs : List ℕ) (b : ℕ) → Closers cs → OfGiven Closers (textStep h cs b)
 unfolding textStep
 textStep-closers h [] b w =
-    branch (Maybe Closers) (isPlain b || eqb b colon || h && eqb b hash) tt
-    (branch (Maybe Closers) (isOpening b) (closerOf-closer b, tt) tt)
+    branch (OfGiven Closers) (isPlain b || eqb b colon || h && eqb b hash) tt
+    (branch (OfGiven Closers) (isOpening b) (closerOf-closer b, tt) tt)
 textStep-closers h (c ∷ cs) b w =
-    branch (Maybe Closers) (isOpening b) (closerOf-closer b, w)
-    (branch (Maybe Closers) (eqb b c) (w .1) (branch (Maybe Closers) (isPrintable b && not (isShutting b)) w tt))
+    branch (OfGiven Closers) (isOpening b) (closerOf-closer b, w)
+    (branch (OfGiven Closers) (eqb b c) (w .1) (branch (OfGiven Closers) (isPrintable b && not (isShutting b)) w tt))
 
 -- the closers that are owed after a byte
 closers-after : (h : Bool) (cs : List ℕ) (b : ℕ) (ds : List ℕ) → textStep h cs b ≡ some ds → Closers cs → Closers ds
-closers-after h cs b ds e w = subst (Maybe Closers) e (textStep-closers h cs b w)
+closers-after h cs b ds e w = subst (OfGiven Closers) e (textStep-closers h cs b w)
 
 -- ---- brackets
 module _ {P : Type 0} where

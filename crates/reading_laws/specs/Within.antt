@@ -21,9 +21,11 @@ use Rattle.scope.specs.Lists.{given}
 use Rattle.scope.specs.Content.{Digits, signed, whole, pointed, broken, numberEnd, Context, Inner, begin, plain, keyed, inNumber, inCode, inText, hashed, inLabel, scoring, inScore, scored, Content, lost, closed, going, unlabelled, labelled, innerStep}
 use Rattle.scope.specs.Reading.{act, Held, withResidue, bracketOf, put, countDigit, asNTerm, settledRun, State, dead, outside, inside, perform, resume, step, run, holds, reading}
 use Rattle.scope.specs.Refusals.{textOf}
-use Rattle.reading_laws.specs.Cases.{onGiven, Every, Maybe, every-append, every-map, every-all}
+use Rattle.basics.specs.Choice.{onGiven}
+use Rattle.basics.specs.Each.{Each, OfGiven, each-append, each-through, each-all, each-last}
 use Rattle.reading_laws.specs.Goes.{Valued, of-plain, of-number, of-code, of-text, Over, of-value, of-label, of-score, On, mass-begins, plain-begins, text-begins, refers, plain-on, plain-text, no-key, key-name, key-code, key-text, keyed-mass, keyed-text, mass-on, code-on, text-on, hash-on, label-begins, label-on, score-opens, score-sign, score-digit, score-on, score-over, Goes, stops, goes-on, part-over, shuts, goes}
-use Rattle.reading_laws.specs.Kept.{Whole, reading-whole-from, put-by, every-last}
+use Rattle.reading_laws.specs.Kept.{Whole, reading-whole-from, put-by}
+use Rattle.basics.specs.Lists.{folded-length}
 
 -- ---- what is inside the first n bytes
 module _ (n : ℕ) where
@@ -32,7 +34,7 @@ module _ (n : ℕ) where
 
   pub record WithinLabel (l : Label ℕ) : Type 0 where
     pub at : l .at < n
-    pub score : Maybe WithinNumber (l .score)
+    pub score : OfGiven WithinNumber (l .score)
 
   abbrev pub WithinValue : Value ℕ → Type 0
   WithinValue (mass x) = WithinNumber x
@@ -43,24 +45,24 @@ module _ (n : ℕ) where
     pub at : p .at < n
     pub text : p .at + length (written (p .key)) + length (textOf p) ≤ n
     pub value : WithinValue (p .value)
-    pub label : Maybe WithinLabel (p .label)
+    pub label : OfGiven WithinLabel (p .label)
 
   pub record WithinBracket (k : Bracket ℕ) : Type 0 where
     pub at : k .at < n
-    pub counted : Maybe (λ p. p < n) (k .counted)
-    pub parts : Every WithinPart (k .parts)
+    pub counted : OfGiven (λ p. p < n) (k .counted)
+    pub parts : Each WithinPart (k .parts)
 
   abbrev pub WithinResidue : Residue ℕ → Type 0
   WithinResidue r = r .at < n
 
   pub record WithinLine (l : Line ℕ) : Type 0 where
-    pub residues : Every WithinResidue (l .residues)
-    pub brackets : Every WithinBracket (l .brackets)
+    pub residues : Each WithinResidue (l .residues)
+    pub brackets : Each WithinBracket (l .brackets)
 
   pub record WithinHeld (h : Held ℕ) : Type 0 where
-    pub residues : Every WithinResidue (h .residues)
-    pub brackets : Every WithinBracket (h .brackets)
-    pub run : Every WithinBracket (h .run)
+    pub residues : Each WithinResidue (h .residues)
+    pub brackets : Each WithinBracket (h .brackets)
+    pub run : Each WithinBracket (h .run)
 
   -- a part that begins at `at`, behind its key a text of m bytes, and i bytes are read
   record Text (i at : ℕ) (k : Key) (m : ℕ) : Type 0 where
@@ -68,21 +70,21 @@ module _ (n : ℕ) where
     pub so-far : at + length (written k) + m ≡ i
 
   WithinInner : ℕ → Inner ℕ → Type 0
-  WithinInner i (begin c) = Every WithinPart (c .parts)
-  WithinInner i (plain c at t) = Every WithinPart (c .parts) × Text i at NoKey (length t)
-  WithinInner i (keyed c at k) = Every WithinPart (c .parts) × Text i at k 0
-  WithinInner i (inNumber c at k x d) = Every WithinPart (c .parts) × WithinPart (unlabelled at k reference) × (x < n)
-  WithinInner i (inCode c at k t) = Every WithinPart (c .parts) × Text i at k (length t)
-  WithinInner i (inText c at k t cs) = Every WithinPart (c .parts) × Text i at k (length t)
-  WithinInner i (hashed c p) = Every WithinPart (c .parts) × WithinPart p
-  WithinInner i (inLabel c p at name) = Every WithinPart (c .parts) × WithinPart p × (at < n)
-  WithinInner i (scoring c p at name) = Every WithinPart (c .parts) × WithinPart p × (at < n)
-  WithinInner i (inScore c p at name x d) = Every WithinPart (c .parts) × WithinPart p × (at < n) × (x < n)
-  WithinInner i (scored c p) = Every WithinPart (c .parts) × WithinPart p
+  WithinInner i (begin c) = Each WithinPart (c .parts)
+  WithinInner i (plain c at t) = Each WithinPart (c .parts) × Text i at NoKey (length t)
+  WithinInner i (keyed c at k) = Each WithinPart (c .parts) × Text i at k 0
+  WithinInner i (inNumber c at k x d) = Each WithinPart (c .parts) × WithinPart (unlabelled at k reference) × (x < n)
+  WithinInner i (inCode c at k t) = Each WithinPart (c .parts) × Text i at k (length t)
+  WithinInner i (inText c at k t cs) = Each WithinPart (c .parts) × Text i at k (length t)
+  WithinInner i (hashed c p) = Each WithinPart (c .parts) × WithinPart p
+  WithinInner i (inLabel c p at name) = Each WithinPart (c .parts) × WithinPart p × (at < n)
+  WithinInner i (scoring c p at name) = Each WithinPart (c .parts) × WithinPart p × (at < n)
+  WithinInner i (inScore c p at name x d) = Each WithinPart (c .parts) × WithinPart p × (at < n) × (x < n)
+  WithinInner i (scored c p) = Each WithinPart (c .parts) × WithinPart p
 
   WithinContent : ℕ → Content ℕ → Type 0
   WithinContent i lost = Unit {0}
-  WithinContent i (closed ps) = Every WithinPart ps
+  WithinContent i (closed ps) = Each WithinPart ps
   WithinContent i (going c) = WithinInner i c
 
   WithinState : ℕ → State ℕ → Type 0
@@ -91,37 +93,26 @@ module _ (n : ℕ) where
   WithinState i (inside s at h c) = WithinHeld h × (at < n) × WithinInner i c
 
 -- ---- keys: as many bytes as the plain bytes that named them, and the colon
-folded-length : (a b : List ℕ) → sameFolded a b ≡ true → length a ≡ length b
-unfolding sameFolded
-folded-length [] [] e = refl
-folded-length [] (y ∷ b) e = absurd (false≢true e)
-folded-length (x ∷ a) [] e = absurd (false≢true e)
-folded-length (x ∷ a) (y ∷ b) e = ap suc (folded-length a b (second (eqb (upper x) (upper y)) e))
-  where
-    second : (t : Bool) → (t && sameFolded a b) ≡ true → sameFolded a b ≡ true
-    second true q = q
-    second false q = absurd (false≢true q)
-
 Spelled : Key → Type 0
 Spelled k = length (written k) ≡ length (spell k) + 1
 
-among-length : (ks : List Key) (t : List ℕ) → Every Spelled ks → Maybe (λ k. length (written k) ≡ length t + 1) (keyAmong ks t)
+among-length : (ks : List Key) (t : List ℕ) → Each Spelled ks → OfGiven (λ k. length (written k) ≡ length t + 1) (keyAmong ks t)
 unfolding keyAmong Spelled
 among-length [] t w = tt
 among-length (k ∷ ks) t w = go (sameFolded (spell k) t) refl (among-length ks t (w .1))
   where
-    go : (b : Bool) → sameFolded (spell k) t ≡ b → Maybe (λ j. length (written j) ≡ length t + 1) (keyAmong ks t)
-        → Maybe (λ j. length (written j) ≡ length t + 1) (cond b (some k) (keyAmong ks t))
+    go : (b : Bool) → sameFolded (spell k) t ≡ b → OfGiven (λ j. length (written j) ≡ length t + 1) (keyAmong ks t)
+        → OfGiven (λ j. length (written j) ≡ length t + 1) (cond b (some k) (keyAmong ks t))
     go true e ih = omega (arith, w .0, folded-length (spell k) t e)
     go false e ih = ih
 
-all-spelled : Every Spelled keys
+all-spelled : Each Spelled keys
 unfolding keys Spelled written spell
 all-spelled = (refl, (refl, (refl, (refl, (refl, (refl, (refl, (refl, (refl, (refl, (refl, (refl, (refl, (refl, (refl, (refl, (refl, tt)))))))))))))))))
 
 keyOf-length : (t : List ℕ) (k : Key) → keyOf t ≡ some k → length (written k) ≡ length t + 1
 unfolding keyOf
-keyOf-length t k e = subst (Maybe (λ j. length (written j) ≡ length t + 1)) e (among-length keys t all-spelled)
+keyOf-length t k e = subst (OfGiven (λ j. length (written j) ≡ length t + 1)) e (among-length keys t all-spelled)
 
 no-key-written : length (written NoKey) ≡ 0
 unfolding written spell
@@ -147,7 +138,7 @@ module _ (n i : ℕ) (h : i < n) where
   weighed : (at : ℕ) (k : Key) (x : Number ℕ) → WithinPart n (unlabelled at k reference) → x .at < n → WithinPart n (unlabelled at k (mass x))
   weighed at k x w q = record { at = w .at; text = w .text; value = q; label = tt }
 
-  tagged : (p : Part ℕ) (at : ℕ) (name : List ℕ) (s : Option (Number ℕ)) → WithinPart n p → at < n → Maybe (WithinNumber n) s
+  tagged : (p : Part ℕ) (at : ℕ) (name : List ℕ) (s : Option (Number ℕ)) → WithinPart n p → at < n → OfGiven (WithinNumber n) s
       → WithinPart n (labelled p at name s)
   tagged p at name s w q r = record { at = w .at; text = w .text; value = w .value; label = record { at = q; score = r } }
 
@@ -166,19 +157,19 @@ module _ (n i : ℕ) (h : i < n) where
   number-at x (pointed s m) y e = let z : _≡_ {A = ℕ} 0 1 = cc in absurd (omega arith)
   number-at x (broken s m d) y e = ap (λ o. given o (λ z. z .at) x) e
 
-  valued-within : {s : Inner ℕ} {c : Context ℕ} {p : Part ℕ} → Valued s c p → WithinInner n i s → Every (WithinPart n) (c .parts) × WithinPart n p
+  valued-within : {s : Inner ℕ} {c : Context ℕ} {p : Part ℕ} → Valued s c p → WithinInner n i s → Each (WithinPart n) (c .parts) × WithinPart n p
   unfolding WithinInner
   valued-within of-plain g = (g .0, over _ NoKey _ (g .1))
   valued-within (of-number {n = x} {d = d} {x = y} e) g = (g .0, weighed _ _ y (g .1) (subst (λ z. z < n) (number-at x d y e) (g .2)))
   valued-within of-code g = (g .0, over _ _ _ (g .1))
   valued-within of-text g = (g .0, over _ _ _ (g .1))
 
-  over-within : {s : Inner ℕ} {c : Context ℕ} {p : Part ℕ} → Over s c p → WithinInner n i s → Every (WithinPart n) (c .parts ++ (p ∷ []))
+  over-within : {s : Inner ℕ} {c : Context ℕ} {p : Part ℕ} → Over s c p → WithinInner n i s → Each (WithinPart n) (c .parts ++ (p ∷ []))
   unfolding WithinInner
-  over-within {c = c} {p = p} (of-value v) g = let w = valued-within v g in every-append (WithinPart n) (c .parts) (p ∷ []) (w .0) (w .1, tt)
+  over-within {c = c} {p = p} (of-value v) g = let w = valued-within v g in each-append (WithinPart n) (c .parts) (p ∷ []) (w .0) (w .1, tt)
   over-within (of-label {c = c} {p = p} {at = at} {name = name}) g =
-      every-append (WithinPart n) (c .parts) _ (g .0) (tagged p at name none (g .1) (g .2) tt, tt)
-  over-within (of-score {c = c}) g = every-append (WithinPart n) (c .parts) _ (g .0) (g .1, tt)
+      each-append (WithinPart n) (c .parts) _ (g .0) (tagged p at name none (g .1) (g .2) tt, tt)
+  over-within (of-score {c = c}) g = each-append (WithinPart n) (c .parts) _ (g .0) (g .1, tt)
 
   on-within : {b : ℕ} {s t : Inner ℕ} → On i b s t → WithinInner n i s → WithinInner n (i + 1) t
   unfolding WithinInner
@@ -216,18 +207,18 @@ module _ (n i : ℕ) (h : i < n) where
 
   withResidue-within : (b : ℕ) (s : Section) (r : Held ℕ) → WithinHeld n r → WithinHeld n (withResidue i b s r)
   withResidue-within b s r g =
-      record { residues = every-append (WithinResidue n) (r .residues) _ (g .residues) (h, tt); brackets = g .brackets; run = g .run }
+      record { residues = each-append (WithinResidue n) (r .residues) _ (g .residues) (h, tt); brackets = g .brackets; run = g .run }
 
   put-within : (k : Kind) (x : Bracket ℕ) (r : Held ℕ) → WithinBracket n x → WithinHeld n r → WithinHeld n (put k x r)
   put-within k x r w g =
       put-by (WithinHeld n) k x r
-      (λ u. record { residues = g .residues; brackets = g .brackets; run = every-append (WithinBracket n) (r .run) _ (g .run) (w, tt) })
-      (λ u. record { residues = g .residues; brackets = every-append (WithinBracket n) (r .brackets) _ (g .brackets) (w, tt); run = g .run })
+      (λ u. record { residues = g .residues; brackets = g .brackets; run = each-append (WithinBracket n) (r .run) _ (g .run) (w, tt) })
+      (λ u. record { residues = g .residues; brackets = each-append (WithinBracket n) (r .brackets) _ (g .brackets) (w, tt); run = g .run })
 
   countDigit-within : (b : ℕ) (k : Bracket ℕ) → WithinBracket n k → WithinBracket n (countDigit i b k)
   countDigit-within b k w =
       onGiven (WithinBracket n) (k .counted)
-      (λ p e. record { at = w .at; counted = subst (Maybe (λ x. x < n)) e (w .counted); parts = w .parts })
+      (λ p e. record { at = w .at; counted = subst (OfGiven (λ x. x < n)) e (w .counted); parts = w .parts })
       (record { at = w .at; counted = h; parts = w .parts })
 
   settledRun-within : (f : Bracket ℕ → Bracket ℕ) → ((k : Bracket ℕ) → WithinBracket n k → WithinBracket n (f k)) → (r : Held ℕ) → WithinHeld n r
@@ -235,7 +226,7 @@ module _ (n i : ℕ) (h : i < n) where
   settledRun-within f e r g =
       record {
         residues = g .residues;
-        brackets = every-append (WithinBracket n) (r .brackets) _ (g .brackets) (every-map (WithinBracket n) (WithinBracket n) f e (r .run) (g .run));
+        brackets = each-append (WithinBracket n) (r .brackets) _ (g .brackets) (each-through (WithinBracket n) (WithinBracket n) f e (r .run) (g .run));
         run = tt;
       }
 
@@ -249,7 +240,7 @@ module _ (n i : ℕ) (h : i < n) where
       record {
         residues = g .residues;
         brackets = g .brackets;
-        run = every-last (WithinBracket n) (countDigit i b) (countDigit-within b) (r .run) (g .run);
+        run = each-last (WithinBracket n) (countDigit i b) (countDigit-within b) (r .run) (g .run);
       }
   perform-within b r RunEnds g = settledRun-within (λ k. k) (λ k w. w) r g
   perform-within b r TermEnds g =
@@ -275,6 +266,6 @@ unfolding WithinState
 reading-within s l e =
     let n = length s in
     let w = reading-whole-from (λ i x. i ≤ n → WithinState n i x) (λ b. Unit {0})
-    (λ i x b r g q. step-within n i (omega arith) x b (g (omega arith))) (λ q. record { residues = tt; brackets = tt; run = tt }) s l (every-all (λ b. tt) s) e in
+    (λ i x b r g q. step-within n i (omega arith) x b (g (omega arith))) (λ q. record { residues = tt; brackets = tt; run = tt }) s l (each-all (λ b. Unit {0}) s (λ b. tt)) e in
     let g = w .keeps (omega arith) in
     subst (WithinLine n) (w .line) (record { residues = g .residues; brackets = g .brackets })

@@ -1,7 +1,7 @@
 -- Laws of the places that hold 1, and of the rows that they give. Assumes nothing.
 use mathlib.Core.Path.{_≡_, refl, sym, ap, _∙_}
 use mathlib.Core.Bool.{Bool, true, false, cond}
-use mathlib.Core.List.{List, [], _∷_, _++_, map, append-assoc}
+use mathlib.Core.List.{List, [], _∷_, _++_, map, append-assoc, map-append}
 use Prim.Native.Nat.{ℕ, zero, suc, _+_, _-_, _*_, _/_, _%_, _≤_, _<_}
 use native.Mathlib.Nat.{add-zero}
 use native.Mathlib.Omega.{arith}
@@ -15,8 +15,7 @@ use Rattle.scope.specs.Lists.{keep, tabled, laid}
 use Rattle.scope.specs.Positions.{rowsFrom}
 use Rattle.areas.specs.Floats.{listIn, listsIn}
 use Rattle.basics.specs.Choice.{by-test}
-use Rattle.brackets.specs.Tabled.{tabled-at, tabled-end}
-use Rattle.positions.specs.Lists.{map-append, tabled-append}
+use Rattle.basics.specs.Tabled.{tabled-at, tabled-end, tabled-append}
 use Rattle.basics.specs.Lists.{keep-append}
 use Rattle.rows.specs.Places.{onesFrom, siteOf}
 

@@ -20,7 +20,8 @@ use Rattle.scope.specs.Canonical.{canonical}
 use Rattle.scope.specs.Tables.{bytesSize, numbersSize, bytesOf, numbersOf, tablesIn}
 use Rattle.scope.specs.Answers.{refuses, saysRead, saysOutcome, sameNumbers, readsTo, areTables}
 use Rattle.basics.specs.Choice.{by-test}
-use Rattle.layout_laws.specs.Laws.{tables-held, accepted-within, laid-bytes, laid-numbers}
+use Rattle.layout_laws.specs.Laws.{tables-held, laid-bytes, laid-numbers}
+use Rattle.accepted_laws.specs.Laws.{accepted-within}
 use Rattle.order_laws.specs.Ranks.{orderedb}
 use Rattle.order_laws.specs.Laws.{accepted-ordered, same-order}
 use Rattle.reader.specs.ReadSays.{Lays, Stored}

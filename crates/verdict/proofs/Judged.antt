@@ -17,9 +17,10 @@ use Rattle.scope.specs.Answers.{Said, good, refuses, saysOutcome}
 use Rattle.scope.specs.Limits.{bracketLimit}
 use Rattle.checking.specs.declared.Checked.{Checked}
 use Rattle.notes.specs.Rows.{Apart}
-use Rattle.layout_laws.specs.Within.{Each, Byte}
-use Rattle.layout_laws.specs.Inside.{PartShape, ValueShape}
-use Rattle.layout_laws.specs.Outside.{BracketShape, LineShape, line-shape}
+use Rattle.basics.specs.Each.{Each}
+use Rattle.accepted_laws.specs.Within.{Byte}
+use Rattle.accepted_laws.specs.Inside.{PartShape, ValueShape}
+use Rattle.accepted_laws.specs.Outside.{BracketShape, LineShape, line-shape}
 use Rattle.places.specs.Places.{coded}
 use Rattle.verdict.specs.Ruled.{Clean, Checks, ruled}
 use Rattle.verdict.proofs.Codes.{coded-none, coded-some}

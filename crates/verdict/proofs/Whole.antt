@@ -14,7 +14,8 @@ use Rattle.scope.specs.Lists.{given, none?}
 use Rattle.scope.specs.Reading.{Reading, stuck, reading}
 use Rattle.scope.specs.Refusals.{dueAt, least, unprintable, refusal1, refusal2, refusal3, firstDue, Outcome, accepted, refused, judged, outcome}
 use Rattle.scope.specs.Answers.{Said, good, refuses, saysOutcome}
-use Rattle.layout_laws.specs.Within.{Each, Byte}
+use Rattle.basics.specs.Each.{Each}
+use Rattle.accepted_laws.specs.Within.{Byte}
 use Rattle.places.specs.Places.{coded}
 use Rattle.verdict.specs.Ruled.{ruled}
 use Rattle.verdict.proofs.Codes.{coded-none, coded-some}

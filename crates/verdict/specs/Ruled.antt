@@ -10,7 +10,8 @@ use Rattle.scope.specs.Refusals.{refusal5, refusal6, refusal7, refusal8, refusa
 use Rattle.scope.specs.Answers.{Said, saysOutcome}
 use Rattle.notes.specs.Notes.{NotesAre}
 use Rattle.notes.specs.Rows.{Apart}
-use Rattle.layout_laws.specs.Within.{Each, Byte}
+use Rattle.basics.specs.Each.{Each}
+use Rattle.accepted_laws.specs.Within.{Byte}
 use Rattle.checking.specs.declared.Checked.{Checked}
 use Rattle.checking.specs.Check.{Told}
 

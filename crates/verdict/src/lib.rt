@@ -10,7 +10,8 @@ ghost use Rattle.scope.specs.Limits.{lineLimit};
 ghost use Rattle.scope.specs.Reading.{reading};
 ghost use Rattle.scope.specs.Refusals.{refusal3, judged, outcome};
 ghost use Rattle.scope.specs.Answers.{Said, refuses, saysRead, saysOutcome};
-ghost use Rattle.layout_laws.specs.Within.{Each, Byte};
+ghost use Rattle.basics.specs.Each.{Each};
+ghost use Rattle.accepted_laws.specs.Within.{Byte};
 ghost use Rattle.places.specs.Places.{coded};
 ghost use Rattle.verdict.specs.Ruled.{Clean, Checks, ruled};
 

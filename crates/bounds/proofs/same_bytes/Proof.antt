@@ -2,7 +2,7 @@
 use Prim.Native.Nat.{_-_}
 use native.Mathlib.Omega.{arith}
 use borrow.Author.Needs.{needs}
-use Rattle.layout_laws.specs.Laws.{same-law}
+use Rattle.basics.specs.Lists.{same-law}
 use Rattle.bounds.proofs.Lists.{Compared, compared-start, compared-more, compared-all}
 use Rattle.bounds.proofs.same_bytes.Statement.{statement}
 use Rattle.bounds.proofs.same_bytes.Tie as tie

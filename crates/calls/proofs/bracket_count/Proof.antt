@@ -2,7 +2,7 @@
 use mathlib.Core.Path.{sym, ap, _∙_}
 use Rattle.scope.specs.Answers.{good, bracketCount}
 use Rattle.calls.proofs.Laws.{refused-law, held, answers}
-use Rattle.brackets.specs.Tabled.{brackets-many}
+use Rattle.basics.specs.Tabled.{brackets-many}
 use borrow.Author.Needs.{needs}
 use Rattle.calls.proofs.bracket_count.Statement.{statement}
 use Rattle.calls.proofs.bracket_count.Tie as tie

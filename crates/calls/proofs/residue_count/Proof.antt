@@ -2,7 +2,7 @@
 use mathlib.Core.Path.{sym, ap, _∙_}
 use Rattle.scope.specs.Answers.{good, residueCount}
 use Rattle.calls.proofs.Laws.{refused-law, held, answers}
-use Rattle.brackets.specs.Tabled.{residues-many}
+use Rattle.basics.specs.Tabled.{residues-many}
 use borrow.Author.Needs.{needs}
 use Rattle.calls.proofs.residue_count.Statement.{statement}
 use Rattle.calls.proofs.residue_count.Tie as tie

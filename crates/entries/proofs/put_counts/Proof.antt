@@ -2,7 +2,7 @@ use mathlib.Core.Path.{sym, ap, _∙_}
 use mathlib.Core.List.{_∷_}
 use native.Mathlib.Omega.{arith}
 use Rattle.scope.specs.Canonical.{decimal}
-use Rattle.brackets.specs.Tabled.{residues-many, brackets-many}
+use Rattle.basics.specs.Tabled.{residues-many, brackets-many}
 use Rattle.writer.proofs.Storing.{puts-of, puts-exact}
 use Rattle.entries.proofs.Texts.{field-then, field-last}
 use borrow.Author.Needs.{needs}

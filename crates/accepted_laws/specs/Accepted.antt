@@ -14,11 +14,11 @@ use Rattle.scope.specs.Lists.{flat}
 use Rattle.scope.specs.Refusals.{inRange, textIn, accepted, outcome}
 use Rattle.scope.specs.Tables.{bracketTexts}
 use Rattle.basics.specs.Tests.{and-right}
-use Rattle.layout_laws.specs.Within.{OfGiven, Byte, NumberWithin, LabelWithin, ValueWithin, PartWithin, BracketWithin, Within}
-use Rattle.layout_laws.specs.Each.{each-one, each-two}
-use Rattle.layout_laws.specs.Judged.{MassRange, JudgedPart, JudgedBracket, judged-line}
-use Rattle.layout_laws.specs.Inside.{Signed, LabelShape, ValueShape, PartShape}
-use Rattle.layout_laws.specs.Outside.{BracketShape, LineShape, line-shape}
+use Rattle.basics.specs.Each.{OfGiven, each-one, each-two}
+use Rattle.accepted_laws.specs.Within.{Byte, NumberWithin, LabelWithin, ValueWithin, PartWithin, BracketWithin, Within}
+use Rattle.accepted_laws.specs.Judged.{MassRange, JudgedPart, JudgedBracket, judged-line}
+use Rattle.accepted_laws.specs.Inside.{Signed, LabelShape, ValueShape, PartShape}
+use Rattle.accepted_laws.specs.Outside.{BracketShape, LineShape, line-shape}
 
 value-within : (p : Part ℕ) (v : Value ℕ) → ValueShape p v → MassRange v → length (textIn v) ≤ 128 → ValueWithin p v
 value-within p (mass n) w r h = record { range = r; sign = w }

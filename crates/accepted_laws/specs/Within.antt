@@ -4,6 +4,7 @@ use mathlib.Core.Bool.{true, false}
 use mathlib.Core.Option.{Option, none, some}
 use mathlib.Core.List.{List, [], _∷_}
 use Prim.Native.Nat.{ℕ, _+_, _≤_, _<_}
+use native.Mathlib.Omega.{arith}
 use lib.ListN.{length}
 use Rattle.scope.specs.declared.grammar.Key.the-variants.{NoKey}
 use Rattle.scope.specs.declared.grammar.Kind.{Kind}
@@ -18,21 +19,7 @@ use Rattle.scope.specs.Refusals.{inRange}
 use Rattle.scope.specs.Kinds.{isUnknown}
 use Rattle.scope.specs.Tables.{bracketTexts}
 use Rattle.scope.specs.Positions.{floaters}
-use Rattle.reading_laws.specs.Cases.{Every}
-
--- of each element of a list
-abbrev pub Each : {A : Type 0} → (A → Type 0) → List A → Type 0
-Each Q l = Every Q l
-
--- of the value, where there is one
-abbrev pub OfGiven : {A : Type 0} → (A → Type 0) → Option A → Type 0
-OfGiven Q none = Unit {0}
-OfGiven Q (some x) = Q x
-
--- there is one
-abbrev pub IsGiven : {A : Type 0} → Option A → Type 0
-IsGiven none = ⊥
-IsGiven (some x) = Unit {0}
+use Rattle.basics.specs.Each.{Each, OfGiven, IsGiven}
 
 abbrev pub Byte : ℕ → Type 0
 Byte b = b < 256
@@ -112,3 +99,20 @@ pub record Within {P : Type 0} (l : Line P) : Type 0 where
   pub brackets : Each (BracketWithin (length (l .residues))) (l .brackets)
   pub texts : length (flat bracketTexts (l .brackets)) ≤ lineLimit
   pub few-copies : length (floaters l) ≤ copyLimit
+
+-- ---- positions are inside
+pub first-few : (k : Kind) (first last n : ℕ) → Stands k first last n → first ≤ n + 1
+first-few Unknown first last n s = omega arith
+first-few Labile first last n s = omega arith
+first-few NTerm first last n s = omega arith
+first-few OnResidue first last n s = omega arith
+first-few OnRange first last n s = omega arith
+first-few CTerm first last n s = omega arith
+
+pub last-few : (k : Kind) (first last n : ℕ) → Stands k first last n → last ≤ n + 1
+last-few Unknown first last n s = omega arith
+last-few Labile first last n s = omega arith
+last-few NTerm first last n s = omega arith
+last-few OnResidue first last n s = omega arith
+last-few OnRange first last n s = omega arith
+last-few CTerm first last n s = omega arith

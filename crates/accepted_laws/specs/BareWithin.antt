@@ -10,10 +10,10 @@ use Rattle.scope.specs.Content.{isReference}
 use Rattle.scope.specs.Tables.{bareNumber, bareLabel, bareValue, barePart, bareBracket, bareResidue, tablesOf, bracketTexts}
 use Rattle.scope.specs.Lists.{optional}
 use Rattle.scope.specs.Positions.{floaters}
-use Rattle.layout_laws.specs.Within.{OfGiven, IsGiven, Byte, NumberWithin, LabelWithin, ValueWithin, PartWithin, BracketWithin, Within}
-use Rattle.layout_laws.specs.Lists.{flat-map}
-use Rattle.layout_laws.specs.Each.{each-map, each-one}
-use Rattle.layout_laws.specs.Bare.{names-of, bracket-texts, floaters-bare}
+use Rattle.basics.specs.Each.{OfGiven, IsGiven, each-map, each-one}
+use Rattle.accepted_laws.specs.Within.{Byte, NumberWithin, LabelWithin, ValueWithin, PartWithin, BracketWithin, Within}
+use Rattle.basics.specs.Lists.{flat-map}
+use Rattle.reading_laws.specs.Bare.{names-of, bracket-texts, same-floaters}
 
 module _ {P : Type 0} where
   number-within : (n : Number P) → NumberWithin n → NumberWithin (bareNumber n)
@@ -81,5 +81,5 @@ module _ {P : Type 0} where
             (each-one (BracketWithin (length (l .residues))) (λ k. BracketWithin (length (l .residues)) (bareBracket k))
             (bracket-within (length (l .residues))) (l .brackets) (w .brackets)));
         texts = rw (flat-map bracketTexts bracketTexts bareBracket bracket-texts (l .brackets)) (w .texts);
-        few-copies = subst (λ z. z ≤ 8) (sym (ap length (floaters-bare l) ∙ length-map (floaters l) bareBracket)) (w .few-copies);
+        few-copies = subst (λ z. z ≤ 8) (sym (ap length (same-floaters l) ∙ length-map (floaters l) bareBracket)) (w .few-copies);
       }

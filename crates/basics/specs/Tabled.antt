@@ -1,27 +1,48 @@
--- Laws of `map`, `keep` and `tabled`.
-use mathlib.Core.Path.{_≡_, refl, sym, ap, _∙_}
+-- Laws of `tabled`: the list f i, f (i + 1), .. up to f (m - 1), as a loop from i to m sees it; and what a test keeps of the numbers from i on.
+use mathlib.Core.Path.{_≡_, refl, sym, ap, ap₂, _∙_}
 use mathlib.Core.Bool.{Bool, false, cond}
 use mathlib.Core.List.{List, [], _∷_, _++_, map}
-use Prim.Native.Nat.{ℕ, zero, suc, _+_, _≤_, _<_}
-use native.Mathlib.Nat.{add-zero, zero-add, le-of-suc-le-suc}
+use Prim.Native.Nat.{ℕ, zero, suc, _+_, _-_, _≤_, _<_}
+use native.Mathlib.Nat.{add-zero, zero-add, not-suc-le-zero, le-of-suc-le-suc}
 use native.Mathlib.Omega.{arith}
-use lib.ListN.{length, getD, take, replicate, length-map, List·getD-map}
+use lib.IntN.{ℤ}
+use lib.ListN.{length, getD, take, length-map, List·getD-map}
 use lib.Seq.{length-take-le, getD-take, ext-getD}
 use Rattle.scope.specs.Lists.{keep, tabled}
-use Rattle.brackets.specs.Tabled.{length-tabled, getD-tabled}
+use Rattle.scope.specs.Tables.{byteAt, residueIn, bracketIn, tablesIn}
 
--- ---- map
-pub map-append : {A B : Type 0} (f : A → B) (l m : List A) → map f (l ++ m) ≡ map f l ++ map f m
-map-append f [] m = refl
-map-append f (x ∷ l) m = ap (λ r. f x ∷ r) (map-append f l m)
+pub tabled-at : {A : Type 0} (f : ℕ → A) (i m : ℕ) → i < m → tabled f i (m - i) ≡ f i ∷ tabled f (i + 1) (m - (i + 1))
+unfolding tabled
+tabled-at f i m h = go (m - i) (m - (i + 1)) (omega arith)
+  where
+    go : (n n′ : ℕ) → n ≡ suc n′ → tabled f i n ≡ f i ∷ tabled f (i + 1) n′
+    go n n′ e = rw e
 
-pub map-replicate : {A B : Type 0} (f : A → B) (n : ℕ) (x : A) → map f (replicate n x) ≡ replicate n (f x)
-map-replicate f zero x = refl
-map-replicate f (suc n) x = ap (λ r. f x ∷ r) (map-replicate f n x)
+pub tabled-end : {A : Type 0} (f : ℕ → A) (i m : ℕ) → m ≤ i → tabled f i (m - i) ≡ []
+unfolding tabled
+tabled-end f i m h = go (m - i) (omega arith)
+  where
+    go : (n : ℕ) → n ≡ 0 → tabled f i n ≡ []
+    go n e = rw e
 
-pub map-map : {A B C : Type 0} (g : B → C) (f : A → B) (l : List A) → map (λ x. g (f x)) l ≡ map g (map f l)
-map-map g f [] = refl
-map-map g f (x ∷ l) = ap (λ r. g (f x) ∷ r) (map-map g f l)
+pub tabled-all : {A : Type 0} (f : ℕ → A) (m : ℕ) → tabled f 0 m ≡ tabled f 0 (m - 0)
+tabled-all f m = ap (tabled f 0) (omega arith)
+
+pub length-tabled : {A : Type 0} (f : ℕ → A) (i n : ℕ) → length (tabled f i n) ≡ n
+unfolding tabled
+length-tabled f i zero = refl
+length-tabled f i (suc n) = ap suc (length-tabled f (i + 1) n)
+
+pub getD-tabled : {A : Type 0} (f : ℕ → A) (i n j : ℕ) (d : A) → j < n → getD (tabled f i n) j d ≡ f (i + j)
+unfolding tabled
+getD-tabled f i zero j d h = absurd (not-suc-le-zero h)
+getD-tabled f i (suc n) zero d h = ap f (sym (add-zero i))
+getD-tabled f i (suc n) (suc j) d h = getD-tabled f (i + 1) n j d (le-of-suc-le-suc h) ∙ ap f (omega arith)
+
+pub tabled-same : {A : Type 0} (f h : ℕ → A) → ((x : ℕ) → f x ≡ h x) → (i n : ℕ) → tabled f i n ≡ tabled h i n
+unfolding tabled
+tabled-same f h e i zero = refl
+tabled-same f h e i (suc n) = ap₂ _∷_ (e i) (tabled-same f h e (i + 1) n)
 
 -- ---- the numbers from i on that a test keeps
 pub keep-as : (p q : ℕ → Bool) (i n : ℕ) → ((x : ℕ) → i ≤ x → x < i + n → p x ≡ q x) → keep p (tabled (λ x. x) i n) ≡ keep q (tabled (λ x. x) i n)
@@ -63,3 +84,13 @@ tabled-map h g index count l e =
     at i j =
         getD-tabled h 0 count i (g 0) j ∙ ap h (zero-add i) ∙ e i j
         ∙ sym (List·getD-map g (take count index) i 0 ∙ ap g (getD-take count index i 0 j))
+
+-- ---- how many residues and brackets the tables in areas have
+module _ (bs : List ℕ) (ns : List ℤ) where
+  pub residues-many : length (tablesIn bs ns .residues) ≡ byteAt bs 0
+  unfolding tablesIn
+  residues-many = length-tabled (residueIn bs) 0 (byteAt bs 0)
+
+  pub brackets-many : length (tablesIn bs ns .brackets) ≡ byteAt bs 1
+  unfolding tablesIn
+  brackets-many = length-tabled (bracketIn bs ns) 0 (byteAt bs 1)

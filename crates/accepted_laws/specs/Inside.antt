@@ -19,23 +19,10 @@ use Rattle.scope.specs.Lists.{none?, flat}
 use Rattle.scope.specs.Refusals.{textIn, textOf}
 use Rattle.scope.specs.Tables.{packed}
 use Rattle.basics.specs.Tests.{and-right}
+use Rattle.basics.specs.Lists.{flat-append-length, flat-one-length}
 use Rattle.reading_laws.specs.Goes.{Valued, of-plain, of-number, of-code, of-text, Over, of-value, of-label, of-score, On, mass-begins, plain-begins, text-begins, refers, plain-on, plain-text, no-key, key-name, key-code, key-text, keyed-mass, keyed-text, mass-on, code-on, text-on, hash-on, label-begins, label-on, score-opens, score-sign, score-digit, score-on, score-over, Goes, stops, goes-on, part-over, shuts, goes}
-use Rattle.layout_laws.specs.Within.{Each, OfGiven, Byte, ReferenceWithin}
-use Rattle.layout_laws.specs.Each.{each-append, each-one}
-
--- ---- lists
-pub flat-append : {A B : Type 0} (f : A → List B) (l m : List A) → length (flat f (l ++ m)) ≡ length (flat f l) + length (flat f m)
-unfolding flat
-flat-append f [] m = omega arith
-flat-append f (x ∷ l) m =
-    let a = length-append (f x) (flat f (l ++ m)) in
-    let b = length-append (f x) (flat f l) in
-    let c = flat-append f l m in
-    omega arith
-
-pub flat-one : {A B : Type 0} (f : A → List B) (x : A) → length (flat f (x ∷ [])) ≡ length (f x)
-unfolding flat
-flat-one f x = ap length (append-nil (f x))
+use Rattle.basics.specs.Each.{Each, OfGiven, each-append, each-one}
+use Rattle.accepted_laws.specs.Within.{Byte, ReferenceWithin}
 
 -- ---- parts that are read whole
 abbrev pub Signed : {P : Type 0} → Number P → Type 0
@@ -190,7 +177,7 @@ module _ {P : Type 0} where
   all-shaped c p m w f = each-append PartShape (c .parts) (p ∷ []) (w .parts) (f .shape, tt)
 
   all-fit : (c : Context P) (p : Part P) (m : ℕ) → Carried c (length (packed p)) m → length (flat packed (c .parts ++ (p ∷ []))) ≤ m + 1
-  all-fit c p m w = omega (arith, w .fits, flat-append packed (c .parts) (p ∷ []), flat-one packed p)
+  all-fit c p m w = omega (arith, w .fits, flat-append-length packed (c .parts) (p ∷ []), flat-one-length packed p)
 
   -- ---- one byte more
   carry-more : (c : Context P) (t : List ℕ) (b m : ℕ) → Carried c (length t) m → Carried c (length (t ++ (b ∷ []))) (m + 1)

@@ -24,12 +24,13 @@ use Rattle.scope.specs.Lists.{onLast, flat}
 use Rattle.scope.specs.Kinds.{isUnknown}
 use Rattle.scope.specs.Tables.{bracketTexts}
 use Rattle.basics.specs.Tests.{and-left, and-right}
-use Rattle.reading_laws.specs.Cases.{branch}
+use Rattle.basics.specs.Lists.{flat-append-length, flat-one-length}
+use Rattle.basics.specs.Choice.{branch}
 use Rattle.reading_laws.specs.Acts.{each-mode, act-rule}
-use Rattle.reading_laws.specs.Kept.{Whole, reading-whole-from, put-by, digit-by, every-last}
-use Rattle.layout_laws.specs.Within.{Each, Byte, Nowhere, Stands}
-use Rattle.layout_laws.specs.Each.{each-append, each-map, each-one, each-two}
-use Rattle.layout_laws.specs.Inside.{flat-append, flat-one, PartShape, PartsShape, Carried, InnerKeeps, ContentKeeps, inner-step}
+use Rattle.reading_laws.specs.Kept.{Whole, reading-whole-from, put-by, digit-by}
+use Rattle.basics.specs.Each.{each-last, Each, each-append, each-map, each-one, each-two}
+use Rattle.accepted_laws.specs.Within.{Byte, Nowhere, Stands}
+use Rattle.accepted_laws.specs.Inside.{PartShape, PartsShape, Carried, InnerKeeps, ContentKeeps, inner-step}
 
 -- ---- the order of a line: where a residue was read, and where no count was
 abbrev late : Mode → Bool
@@ -227,8 +228,8 @@ module _ {P : Type 0} where
       → HeldKeeps (m + q) (settled k h)
   settled-keeps k h m q w s e =
       let x = w .fits in
-      let y = flat-append bracketTexts (h .brackets) (k ∷ []) in
-      let z = flat-one bracketTexts k in
+      let y = flat-append-length bracketTexts (h .brackets) (k ∷ []) in
+      let z = flat-one-length bracketTexts k in
       record {
         letters = w .letters;
         group = w .group;
@@ -240,8 +241,8 @@ module _ {P : Type 0} where
   waiting-keeps : (k : Bracket P) (h : Held P) (m q : ℕ) → HeldKeeps m h → RunShape k → length (bracketTexts k) ≤ q → HeldKeeps (m + q) (waiting k h)
   waiting-keeps k h m q w s e =
       let x = w .fits in
-      let y = flat-append bracketTexts (h .run) (k ∷ []) in
-      let z = flat-one bracketTexts k in
+      let y = flat-append-length bracketTexts (h .run) (k ∷ []) in
+      let z = flat-one-length bracketTexts k in
       record {
         letters = w .letters;
         group = w .group;
@@ -308,7 +309,7 @@ module _ {P : Type 0} where
         letters = w .letters;
         group = w .group;
         brackets = w .brackets;
-        run = every-last RunShape (countDigit i b) (digit-shape i b) (h .run) (w .run);
+        run = each-last RunShape (countDigit i b) (digit-shape i b) (h .run) (w .run);
         fits = rw (last-texts i b (h .run)) (w .fits);
       }
 
@@ -348,7 +349,7 @@ module _ {P : Type 0} where
   unfolding flat
   run-keeps f e h m w s =
       let x = w .fits in
-      let y = flat-append bracketTexts (h .brackets) (map f (h .run)) in
+      let y = flat-append-length bracketTexts (h .brackets) (map f (h .run)) in
       let z = ap length (texts-same f e (h .run)) in
       record {
         letters = w .letters;

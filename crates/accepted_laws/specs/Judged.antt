@@ -20,8 +20,7 @@ use Rattle.scope.specs.Refusals.{dueAt, unprintable, refusal1, refusal2, refusa
 use Rattle.scope.specs.Positions.{floaters}
 use Rattle.basics.specs.Lists.{least-none, not-due, nil-front, nil-back}
 use Rattle.basics.specs.Tests.{or-left, or-right}
-use Rattle.layout_laws.specs.Within.{Each, OfGiven}
-use Rattle.layout_laws.specs.Each.{each-three}
+use Rattle.basics.specs.Each.{Each, OfGiven, each-three}
 
 -- ---- no refusal is due
 none-due : (p : Option ℕ) (n : ℕ) (o : Outcome) (l : Line ℕ) → given p (refused n) o ≡ accepted l → (p ≡ none) × (o ≡ accepted l)

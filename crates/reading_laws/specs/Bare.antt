@@ -20,7 +20,8 @@ use Rattle.scope.specs.Canonical.{size, scoreText, valueText, labelText, partTe
 use Rattle.scope.specs.Tables.{bareNumber, bareLabel, bareValue, barePart, bareBracket, bareResidue, tablesOf, millionths, massIn, decimalsIn, packed, valueCode, partRow, partRows, scoreOf, scoreCode, bracketRow, bracketTexts, rows, sectionCode, bytesOf, numberRow, numbersOf}
 use Rattle.scope.specs.Positions.{isPlaced, struckOut, floaters, referredAt, mayStand, permitted, permittedPositions, ownPosition, isUnlabelledUnknown, positions}
 use Rattle.scope.specs.Masses.{valueMass, firstMass, massOf, massOr0, modifications, sum, sumℕ, total, lacking, placedAt, putAt, ledger}
-use Rattle.layout_laws.specs.Lists.{map-map, flat-map, all-map, keep-map, keep-same, map-replicate, map-flat, tabled-same}
+use Rattle.basics.specs.Lists.{map-map, flat-map, all-map, keep-map, keep-same, map-replicate, map-flat}
+use Rattle.basics.specs.Tabled.{tabled-same}
 
 module _ {P : Type 0} where
   -- ---- the canonical line
@@ -82,9 +83,9 @@ module _ {P : Type 0} where
   sequence-text ks i [] = refl
   sequence-text ks i (r ∷ rs) = rw (squares-at OnResidue i ks, squares-at OnRange i ks, goes-on rs, sequence-text ks (i + 1) rs)
 
-  pub canonical-bare : (l : Line P) → canonical (tablesOf l) ≡ canonical l
+  pub same-canonical : (l : Line P) → canonical (tablesOf l) ≡ canonical l
   unfolding canonical tablesOf
-  canonical-bare l =
+  same-canonical l =
       let ks = l .brackets in
       let u : flat unknownText (ofKind Unknown (map bareBracket ks)) ≡ flat unknownText (ofKind Unknown ks) = ap (flat unknownText)
       (of-kind Unknown ks) ∙ flat-map unknownText unknownText bareBracket unknown-text (ofKind Unknown ks) in
@@ -168,9 +169,9 @@ module _ {P : Type 0} where
   bracket-rows i (k ∷ ks) = ap₂ _++_ (bracket-row i k)
       (ap (λ t. rows (i + length t) (map bareBracket ks)) (bracket-texts k) ∙ bracket-rows (i + length (bracketTexts k)) ks)
 
-  pub bytes-bare : (l : Line P) → bytesOf (tablesOf l) ≡ bytesOf l
+  pub same-bytes : (l : Line P) → bytesOf (tablesOf l) ≡ bytesOf l
   unfolding bytesOf tablesOf
-  bytes-bare l =
+  same-bytes l =
       rw (
         length-map (l .residues) bareResidue,
         length-map (l .brackets) bareBracket,
@@ -188,9 +189,9 @@ module _ {P : Type 0} where
         score-millionths (scoreOf (k .parts)),
       )
 
-  pub numbers-bare : (l : Line P) → numbersOf (tablesOf l) ≡ numbersOf l
+  pub same-numbers : (l : Line P) → numbersOf (tablesOf l) ≡ numbersOf l
   unfolding numbersOf tablesOf
-  numbers-bare l = rw (flat-map numberRow numberRow bareBracket number-row (l .brackets))
+  same-numbers l = rw (flat-map numberRow numberRow bareBracket number-row (l .brackets))
 
   -- ---- modifications and floaters
   refers-bare : (ps : List (Part P)) → refers? (map barePart ps) ≡ refers? ps
@@ -232,9 +233,9 @@ module _ {P : Type 0} where
       ap (map (λ k. k .first)) (keep-map isPlaced isPlaced bareBracket is-placed ks)
       ∙ map-map (λ k. k .first) (λ k. k .first) bareBracket (λ k. refl) (keep isPlaced ks)
 
-  pub floaters-bare : (l : Line P) → floaters (tablesOf l) ≡ map bareBracket (floaters l)
+  pub same-floaters : (l : Line P) → floaters (tablesOf l) ≡ map bareBracket (floaters l)
   unfolding floaters tablesOf
-  floaters-bare l =
+  same-floaters l =
       flat-map (λ k. replicate (copies k) k) (λ k. replicate (copies k) (bareBracket k)) bareBracket
       (λ k. ap (λ n. replicate n (bareBracket k)) (copies-bare k)) (l .brackets)
       ∙ sym (map-flat bareBracket (λ k. replicate (copies k) k) (λ k. replicate (copies k) (bareBracket k))
@@ -273,8 +274,8 @@ module _ {P : Type 0} where
       ∙ ap (λ n. keep (λ x. mayStand l k x && not (member x (struckOut (l .brackets)))) (tabled (λ x. x) 0 (n + 2)))
       (length-map (l .residues) bareResidue)
 
-  pub permitted-positions-bare : (l : Line P) → permittedPositions (tablesOf l) ≡ permittedPositions l
-  permitted-positions-bare l = ap (map (permitted (tablesOf l))) (floaters-bare l) ∙ map-map (permitted (tablesOf l)) (permitted l) bareBracket
+  pub same-permitted : (l : Line P) → permittedPositions (tablesOf l) ≡ permittedPositions l
+  same-permitted l = ap (map (permitted (tablesOf l))) (same-floaters l) ∙ map-map (permitted (tablesOf l)) (permitted l) bareBracket
       (permitted-bare l) (floaters l)
 
   -- ---- masses
@@ -308,17 +309,17 @@ module _ {P : Type 0} where
   unfolding tablesOf
   modifications-bare l = keep-map isModification isModification bareBracket is-modification (l .brackets)
 
-  pub total-bare : (l : Line P) → total (tablesOf l) ≡ total l
+  pub same-total : (l : Line P) → total (tablesOf l) ≡ total l
   unfolding total
-  total-bare l =
+  same-total l =
       ap sum
       (ap (map (λ k. pos (k .count) *ℤ massOr0 k)) (modifications-bare l)
       ∙ map-map (λ k. pos (k .count) *ℤ massOr0 k) (λ k. pos (k .count) *ℤ massOr0 k) bareBracket (λ k. ap (λ m. pos (k .count) *ℤ m) (mass-or-0 k))
       (modifications l))
 
-  pub lacking-bare : (l : Line P) → lacking (tablesOf l) ≡ lacking l
+  pub same-lacking : (l : Line P) → lacking (tablesOf l) ≡ lacking l
   unfolding lacking
-  lacking-bare l =
+  same-lacking l =
       ap sumℕ
       (ap (map (λ k. given (massOf k) (λ m. 0) (k .count))) (modifications-bare l)
       ∙ map-map (λ k. given (massOf k) (λ m. 0) (k .count)) (λ k. given (massOf k) (λ m. 0) (k .count)) bareBracket
@@ -338,7 +339,7 @@ module _ {P : Type 0} where
   put-at x (k ∷ ks) [] = refl
   put-at x (k ∷ ks) (y ∷ q) = rw (mass-or-0 k, put-at x ks q)
 
-  pub ledger-bare : (l : Line P) (q : List ℕ) → ledger (tablesOf l) q ≡ ledger l q
+  pub same-ledger : (l : Line P) (q : List ℕ) → ledger (tablesOf l) q ≡ ledger l q
   unfolding ledger tablesOf
-  ledger-bare l q =
-      tabled-same _ _ (λ x. ap₂ _+ℤ_ (placed-at x (l .brackets)) (ap (λ ks. putAt x ks q) (floaters-bare l) ∙ put-at x (floaters l) q)) 0 256
+  same-ledger l q =
+      tabled-same _ _ (λ x. ap₂ _+ℤ_ (placed-at x (l .brackets)) (ap (λ ks. putAt x ks q) (same-floaters l) ∙ put-at x (floaters l) q)) 0 256

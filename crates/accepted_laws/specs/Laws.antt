@@ -1,0 +1,37 @@
+-- What every accepted line keeps to, and that its tables keep to the same. Each is proved in the file that it cites.
+use mathlib.Core.Path.{_≡_}
+use mathlib.Core.List.{List}
+use Prim.Native.Nat.{ℕ, _+_, _≤_}
+use lib.ListN.{length}
+use Rattle.scope.specs.Lists.{flat}
+use Rattle.scope.specs.Limits.{lineLimit}
+use Rattle.scope.specs.Line.{Bracket, Line}
+use Rattle.scope.specs.Refusals.{accepted, outcome}
+use Rattle.scope.specs.Tables.{bracketTexts, tablesOf}
+use Rattle.accepted_laws.specs.Within.{BracketWithin, Within, first-few, last-few}
+use Rattle.accepted_laws.specs.BareWithin
+use Rattle.accepted_laws.specs.Judged
+use Rattle.accepted_laws.specs.Accepted
+
+-- "The limits", and the shape of the tables
+pub accepted-within : (s : List ℕ) (l : Line ℕ) → outcome s ≡ accepted l → Within l
+accepted-within s l e = Accepted.within-accepted s l e
+
+-- "line 1 to 4,096 bytes"
+pub accepted-short : (s : List ℕ) (l : Line ℕ) → outcome s ≡ accepted l → length s ≤ lineLimit
+accepted-short s l e = Judged.judged-line s l e .short
+
+-- the packed texts are no longer than the line
+pub accepted-texts : (s : List ℕ) (l : Line ℕ) → outcome s ≡ accepted l → length (flat bracketTexts (l .brackets)) ≤ length s
+accepted-texts s l e = Accepted.texts-accepted s l e
+
+-- "1 to n the residues, n+1 the C-terminus": positions of brackets
+pub first-within : {P : Type 0} (n : ℕ) (k : Bracket P) → BracketWithin n k → k .first ≤ n + 1
+first-within n k w = first-few (k .kind) (k .first) (k .last) n (w .stands)
+
+pub last-within : {P : Type 0} (n : ℕ) (k : Bracket P) → BracketWithin n k → k .last ≤ n + 1
+last-within n k w = last-few (k .kind) (k .first) (k .last) n (w .stands)
+
+-- a line without its places keeps to what the line keeps to
+pub tables-within : {P : Type 0} (l : Line P) → Within l → Within (tablesOf l)
+tables-within l w = BareWithin.within-bare l w

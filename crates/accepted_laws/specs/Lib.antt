@@ -1,0 +1,7 @@
+pub mod Within
+pub mod Laws
+pub mod BareWithin
+pub mod Judged
+pub mod Inside
+pub mod Outside
+pub mod Accepted

@@ -1,0 +1,1 @@
+// No code: what every accepted line keeps to, as theorems over the definitions (specs/).

@@ -3,3 +3,4 @@ pub mod Tests
 pub mod Each
 pub mod Lists
 pub mod Tabled
+pub mod Wholes

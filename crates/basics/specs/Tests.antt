@@ -1,7 +1,11 @@
--- What a test made of two says of each, and the other way round.
-use mathlib.Core.Path.{_≡_, refl}
+-- What a test made of two says of each, and the other way round; and that equality is told either way round.
+use mathlib.Core.Path.{_≡_, refl, sym, _∙_}
 use mathlib.Core.Logic.{_⊎_, inl, inr}
 use mathlib.Core.Bool.{Bool, true, false, _&&_, _||_, false≢true, true≢false}
+use Prim.Native.Nat.{ℕ}
+use native.Mathlib.Decide.{ℕ-discrete}
+use borrow.Author.Tests.{eq-eqb, ne-eqb}
+use lib.Dec.{eqb}
 
 pub and-left : (a b : Bool) → (a && b) ≡ true → a ≡ true
 and-left true b e = refl
@@ -42,3 +46,10 @@ or-second false b e = e
 pub falsely : (t : Bool) → (t ≡ true → ⊥) → t ≡ false
 falsely true f = absurd (f refl)
 falsely false f = refl
+
+pub eqb-sym : (a b : ℕ) → eqb a b ≡ eqb b a
+eqb-sym a b = by (ℕ-discrete a b)
+  where
+    by : Dec (a ≡ b) → eqb a b ≡ eqb b a
+    by (yes e) = eq-eqb a b e ∙ sym (eq-eqb b a (sym e))
+    by (no n) = ne-eqb a b n ∙ sym (ne-eqb b a (λ e. n (sym e)))

@@ -9,9 +9,9 @@ use Rattle.scope.specs.Lists.{tabled}
 use Rattle.scope.specs.Tables.{byteAt, bracketIn, tablesIn}
 use Rattle.scope.specs.Positions.{floaters}
 use Rattle.scope.specs.Masses.{massOr0}
-use Rattle.areas.specs.Bounds.{Bounds}
+use Rattle.areas.specs.Bounds.{Small, Bounds}
 use Rattle.basics.specs.Tabled.{length-tabled}
-use Rattle.masses.proofs.TallyLaws.{mass-small}
+use Rattle.mass_laws.specs.Small.{small-mass}
 use Rattle.mass_laws.specs.Terms.{Limited}
 use Rattle.basics.specs.Each.{each-tabled}
 
@@ -21,5 +21,5 @@ limited-in {bs} {ns} b few =
     record {
       few-brackets = rw (length-tabled (bracketIn bs ns) 0 (byteAt bs 1)) (b .few-brackets);
       few-copies = few;
-      small = each-tabled (λ k. natAbs (massOr0 k) < 1000000000000) (bracketIn bs ns) 0 (byteAt bs 1) (λ i h. mass-small (record { bounds = b; inside = omega arith }));
+      small = each-tabled (λ k. Small (massOr0 k)) (bracketIn bs ns) 0 (byteAt bs 1) (λ i h. small-mass b (omega arith));
     }

@@ -6,3 +6,5 @@ pub mod Splits
 pub mod Sizes
 pub mod Areas
 pub mod Laws
+pub mod Weights
+pub mod Small

@@ -1,8 +1,8 @@
 -- Laws of the ledger: what one booking does, and that bookings one after the other make the entries that the definition sums for each position.
 -- Assumes nothing.
 use mathlib.Core.Path.{_≡_, refl, sym, ap, _∙_, subst}
-use mathlib.Core.Bool.{Bool, true, false, cond, _&&_}
-use mathlib.Core.List.{List, [], _∷_, _++_, map}
+use mathlib.Core.Bool.{Bool, true, false, cond}
+use mathlib.Core.List.{List, [], _∷_, _++_}
 use Prim.Native.Nat.{ℕ, suc, _+_, _-_, _^_, _≤_, _<_, min}
 use native.Mathlib.Nat.{zero-add}
 use native.Mathlib.Numerals.{add-one}
@@ -24,22 +24,16 @@ use Rattle.scope.specs.Modifications.{copies, isModification, isLabelled, unlab
 use Rattle.scope.specs.Positions.{isPlaced, floaters}
 use Rattle.scope.specs.Tables.{byteAt, bracketIn, tablesIn}
 use Rattle.scope.specs.Masses.{massOr0, sum, placedAt, putAt, ledger}
-use Rattle.areas.specs.Bounds.{Small, BracketBounds, Bounds}
+use Rattle.areas.specs.Bounds.{Small, Bounds}
 use Rattle.brackets.specs.Row.{Row, row}
 use Rattle.basics.specs.Tabled.{tabled-at, tabled-end, tabled-all, length-tabled, getD-tabled}
 use Rattle.masses.specs.Reach.{Reach}
-use Rattle.mass_laws.specs.Weights.{placedMass}
+use Rattle.mass_laws.specs.Weights.{placedMass, placed-cons}
 use Rattle.masses.specs.Booking.{Held, Placed, CanPut, CanFloat, Put}
 use Rattle.masses.proofs.Whole.{back}
 use Rattle.basics.specs.Wholes.{abs-add}
 use Rattle.masses.proofs.TallyLaws.{mass-small, few-copies}
-
-pub eqb-sym : (a b : ℕ) → eqb a b ≡ eqb b a
-eqb-sym a b = by (ℕ-discrete a b)
-  where
-    by : Dec (a ≡ b) → eqb a b ≡ eqb b a
-    by (yes e) = eq-eqb a b e ∙ sym (eq-eqb b a (sym e))
-    by (no n) = ne-eqb a b n ∙ sym (ne-eqb b a (λ e. n (sym e)))
+use Rattle.basics.specs.Tests.{eqb-sym}
 
 -- ---- one booking: a mass at position y
 module _ {l : List ℤ} {n : ℕ} (held : Held l n) (y : ℕ) (in-range : y < positionLimit) (m : ℤ) where
@@ -83,16 +77,6 @@ module _ {l : List ℤ} {n : ℕ} (held : Held l n) (y : ℕ) (in-range : y < po
         rw f (back (getD l y (pos 0) +ℤ m) (omega (arith, abs-add (getD l y (pos 0)) m, held .small y in-range)))
 
 -- ---- the placed modifications
-pub placed-cons : {P : Type 0} (x : ℕ) (b : Bracket P) (l : List (Bracket P)) → placedAt x (b ∷ l) ≡ cond (eqb (b .first) x) (placedMass b) (pos 0) +ℤ placedAt x l
-unfolding placedAt sum keep placedMass
-placed-cons x b l = by (isPlaced b) (eqb (b .first) x)
-  where
-    by : (t u : Bool) → sum (map massOr0 (cond (t && u) (b ∷ []) [] ++ keep (λ k. isPlaced k && eqb (k .first) x) l)) ≡ cond u (cond t (massOr0 b) (pos 0)) (pos 0) +ℤ placedAt x l
-    by true true = refl
-    by true false = sym (+ℤ-idl (placedAt x l))
-    by false true = sym (+ℤ-idl (placedAt x l))
-    by false false = sym (+ℤ-idl (placedAt x l))
-
 pub placed-small : {bs : List ℕ} {ns : List ℤ} {k : ℕ} → Reach bs ns k → natAbs (placedMass (bracketIn bs ns k)) < 1000000000000
 unfolding placedMass
 placed-small {bs} {ns} {k} r = by (isPlaced (bracketIn bs ns k))

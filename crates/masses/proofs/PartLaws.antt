@@ -2,7 +2,7 @@
 use mathlib.Core.Path.{_≡_, refl, sym, ap, _∙_}
 use mathlib.Core.Bool.{Bool, true, false, not, cond, _&&_}
 use mathlib.Core.Option.{Option, none, some}
-use mathlib.Core.List.{List, [], _∷_, _++_}
+use mathlib.Core.List.{List, _∷_}
 use Prim.Native.Nat.{ℕ, _+_, _-_, _*_, _≤_, _<_}
 use native.Mathlib.Nat.{add-zero}
 use native.Mathlib.Omega.{arith}
@@ -14,12 +14,12 @@ use Rattle.scope.specs.declared.grammar.Key.the-variants.{Obs}
 use mir.Syntax.{w64}
 use mir.Val.{toZ, ofZ}
 use Rattle.scope.specs.Limits.{bracketLimit, partLimit, decimalLimit}
-use Rattle.scope.specs.Line.{Number, Value, mass, text, reference, Part, Bracket}
+use Rattle.scope.specs.Line.{Number, mass, text, reference, Part, Bracket}
 use Rattle.scope.specs.Lists.{given, keep, tabled}
 use Rattle.scope.specs.Modifications.{isKey}
 use Rattle.scope.specs.Tables.{bytesSize, numbersSize, partSize, byteAt, rowAt, partAt, numberRowSize, millionths, numberIn, partIn, bracketIn}
 use Rattle.scope.specs.Masses.{valueMass, firstMass, massOf, massOr0}
-use Rattle.areas.specs.Bounds.{Small, PartBounds, BracketBounds, Bounds}
+use Rattle.areas.specs.Bounds.{Small, PartBounds}
 use Rattle.brackets.specs.Row.{Row, row}
 use Rattle.basics.specs.Tabled.{tabled-at, tabled-end, tabled-all}
 use Rattle.brackets.specs.Codes.{key-is}
@@ -28,6 +28,7 @@ use Rattle.masses.specs.declared.Mass.the-variants.{Is, Lacking}
 use Rattle.masses.specs.Reach.{Reach, ReachPart}
 use Rattle.masses.proofs.Whole.{back}
 use Rattle.masses.specs.Weights.{saysMass, wanted}
+use Rattle.mass_laws.specs.Small.{first-cons}
 
 -- ---- the tests of a part
 pub no-mass : {v b : ℕ} → v ≡ b → (v ≡ 1 → ⊥) → (t : Bool) → false ≡ eqb b 1 && t
@@ -35,14 +36,6 @@ no-mass {v} {b} e h t = sym (ap (λ x. x && t) (ne-eqb b 1 (λ q. h (e ∙ q))))
 
 pub a-mass : {v b : ℕ} → v ≡ b → v ≡ 1 → (t : Bool) → t ≡ eqb b 1 && t
 a-mass {v} {b} e h t = sym (ap (λ x. x && t) (eq-eqb b 1 (sym e ∙ h)))
-
-pub first-cons : (g : Part (Unit {0}) → Bool) (p : Part (Unit {0})) (ps : List (Part (Unit {0}))) → firstMass (keep g (p ∷ ps)) ≡ cond (g p) (given (valueMass (p .value)) some (firstMass (keep g ps))) (firstMass (keep g ps))
-unfolding keep firstMass
-first-cons g p ps = by (g p)
-  where
-    by : (t : Bool) → firstMass (cond t (p ∷ []) [] ++ keep g ps) ≡ cond t (given (valueMass (p .value)) some (firstMass (keep g ps))) (firstMass (keep g ps))
-    by true = refl
-    by false = refl
 
 -- the first mass among the parts from j on: part j's, if it is a mass of the kind asked
 module _ (bs : List ℕ) (ns : List ℤ) (k : ℕ) (obs : Bool) where

@@ -1,85 +1,38 @@
 -- Laws of the total: every mass is small, and a loop over the brackets adds up what the definition does. Assumes nothing.
 use mathlib.Core.Path.{_≡_, refl, sym, ap, _∙_, subst}
-use mathlib.Core.Bool.{Bool, true, false, not, cond}
+use mathlib.Core.Bool.{Bool, true, false, cond}
 use mathlib.Core.Option.{Option, none, some}
 use mathlib.Core.List.{List, [], _∷_, _++_, map}
-use Prim.Native.Nat.{ℕ, zero, suc, _+_, _-_, _*_, _^_, _≤_, _<_}
+use Prim.Native.Nat.{ℕ, _+_, _-_, _*_, _^_, _≤_, _<_}
 use native.Mathlib.Nat.{add-zero, add-assoc, mul-le-mul}
 use native.Mathlib.Omega.{arith}
 use borrow.Author.Tests.{eq-eqb, ne-eqb}
-use lib.Dec.{eqb}
 use lib.IntN.{ℤ, pos, natAbs, _+ℤ_, _*ℤ_, +ℤ-idl, +ℤ-idr, +ℤ-assoc}
-use lib.ListN.{getD}
 use mir.Syntax.{w64}
 use mir.Val.{toZ, ofZ}
-use Rattle.scope.specs.declared.grammar.Key.the-variants.{Obs}
 use Rattle.scope.specs.Limits.{countLimit}
-use Rattle.scope.specs.Line.{Number, Value, mass, text, reference, Part, Bracket}
+use Rattle.scope.specs.Line.{Bracket}
 use Rattle.scope.specs.Lists.{given, keep, tabled}
-use Rattle.scope.specs.Modifications.{isKey, isModification}
-use Rattle.scope.specs.Tables.{byteAt, rowAt, partAt, numberRowSize, millionths, numberIn, partIn, bracketIn, tablesIn}
-use Rattle.scope.specs.Masses.{valueMass, firstMass, massOf, massOr0, sum, sumℕ, total, lacking}
-use Rattle.areas.specs.Bounds.{Small, PartBounds, BracketBounds, Bounds}
+use Rattle.scope.specs.Modifications.{isModification}
+use Rattle.scope.specs.Tables.{byteAt, bracketIn, tablesIn}
+use Rattle.scope.specs.Masses.{massOf, massOr0, sum, sumℕ, total, lacking}
+use Rattle.areas.specs.Bounds.{Small, Bounds}
 use Rattle.basics.specs.Tabled.{tabled-at, tabled-end, tabled-all}
 use Rattle.masses.specs.declared.Mass.{Mass}
 use Rattle.masses.specs.declared.Mass.the-variants.{Is, Lacking}
 use Rattle.masses.specs.declared.Weight.the-variants.{Total, Lacks}
-use Rattle.masses.specs.Reach.{Reach, ReachPart}
+use Rattle.masses.specs.Reach.{Reach}
 use Rattle.masses.specs.Weights.{saysMass, weightOf}
 use Rattle.mass_laws.specs.Weights.{weight, lack}
 use Rattle.masses.specs.Tallies.{Before, CanTally, Tallied}
-use Rattle.masses.proofs.Whole.{abs-millionths, back}
+use Rattle.masses.proofs.Whole.{back}
 use Rattle.basics.specs.Wholes.{abs-add, abs-mul}
 use Rattle.masses.proofs.PartLaws.{is-mass, reach-row}
-use Rattle.mass_laws.specs.Small.{first-cons}
-
--- ---- every mass is small
-abbrev size : Option ℤ → ℕ
-size o = given o natAbs 0
-
-small-given : (o r : Option ℤ) (b : ℕ) → size o < b → size r < b → size (given o some r) < b
-small-given (some m) r b h k = h
-small-given none r b h k = k
-
-small-cond : (t : Bool) (o r : Option ℤ) (b : ℕ) → size o < b → size r < b → size (cond t (given o some r) r) < b
-small-cond true o r b h k = small-given o r b h k
-small-cond false o r b h k = k
-
-small-first : (g : Part (Unit {0}) → Bool) (f : ℕ → Part (Unit {0})) (b : ℕ) → 0 < b → (j n : ℕ) → ((i : ℕ) → i < j + n → size (valueMass (f i .value)) < b) → size (firstMass (keep g (tabled f j n))) < b
-unfolding tabled keep firstMass
-small-first g f b p j zero h = p
-small-first g f b p j (suc n) h =
-    subst (λ o. size o < b) (sym (first-cons g (f j) (tabled f (j + 1) n)))
-    (small-cond (g (f j)) (valueMass (f j .value)) (firstMass (keep g (tabled f (j + 1) n))) b (h j (omega arith)) (small-first g f b p (j + 1) n (λ i q. h i (omega arith))))
-
-small-value : (n : Number (Unit {0})) (x : List ℕ) (t u : Bool) (b : ℕ) → natAbs (millionths n) < b → size (valueMass (cond t (mass n) (cond u (text x) reference))) < b
-small-value n x true u b h = h
-small-value n x false true b h = omega arith
-small-value n x false false b h = omega arith
-
-size-is : (o : Option ℤ) → size o ≡ natAbs (given o (λ m. m) (pos 0))
-size-is (some m) = refl
-size-is none = refl
+use Rattle.mass_laws.specs.Small.{small-mass}
 
 module _ {bs : List ℕ} {ns : List ℤ} {k : ℕ} (r : Reach bs ns k) where
-  small-part : (i : ℕ) → i < byteAt bs (rowAt k + 4) → size (valueMass (partIn bs ns k i .value)) < 1000000000000
-  unfolding partIn
-  small-part i h =
-      small-value
-      (numberIn (getD ns (k * numberRowSize + i) (pos 0)) (byteAt bs (partAt k i + 2))) _
-      (eqb (byteAt bs (partAt k i)) 1) (eqb (byteAt bs (partAt k i)) 2) 1000000000000
-      (omega (arith, abs-millionths (getD ns (k * numberRowSize + i) (pos 0)) (byteAt bs (partAt k i + 2)), r .bounds .bracket k (r .inside) .part i h .small))
-
-  pub mass-small : natAbs (massOr0 (bracketIn bs ns k)) < 1000000000000
-  unfolding massOf bracketIn
-  mass-small =
-      subst (λ n. n < 1000000000000) (size-is (massOf (bracketIn bs ns k)))
-      (small-given
-      (firstMass (keep (λ p. not (isKey Obs p)) (tabled (partIn bs ns k) 0 (byteAt bs (rowAt k + 4)))))
-      (firstMass (keep (isKey Obs) (tabled (partIn bs ns k) 0 (byteAt bs (rowAt k + 4)))))
-      1000000000000
-      (small-first (λ p. not (isKey Obs p)) (partIn bs ns k) 1000000000000 (omega arith) 0 (byteAt bs (rowAt k + 4)) (λ i h. small-part i (omega arith)))
-      (small-first (isKey Obs) (partIn bs ns k) 1000000000000 (omega arith) 0 (byteAt bs (rowAt k + 4)) (λ i h. small-part i (omega arith))))
+  pub mass-small : Small (massOr0 (bracketIn bs ns k))
+  mass-small = small-mass (r .bounds) (r .inside)
 
   pub few-copies : bracketIn bs ns k .count ≤ countLimit
   unfolding bracketIn

@@ -1,11 +1,9 @@
 -- Whole numbers of the machine. `omega` reads no ℤ: a size, `natAbs`, is a ℕ, and what follows is said of sizes. Assumes nothing.
-use mathlib.Core.Path.{_≡_, refl, _∙_, subst}
-use mathlib.Core.Bool.{Bool, true, false, cond}
+use mathlib.Core.Path.{_≡_, refl, _∙_}
+use mathlib.Core.Bool.{Bool, true, false}
 use Prim.Native.Nat.{ℕ, zero, suc, _+_, _-_, _*_, _/_, _^_, _≤_, _<_}
 use native.Mathlib.Nat.{pow-le-pow-right, div-le-self, div-mul-le-self, zero-mul, mul-le-mul}
 use native.Mathlib.Omega.{arith}
-use borrow.Author.Tests.{ltb-true}
-use lib.Dec.{ltb}
 use lib.IntN.{ℤ, pos, negsuc, natAbs, negℤ, _+ℤ_, _*ℤ_}
 use lib.Signed.{quotZ}
 use mir.Syntax.{w64}
@@ -13,26 +11,7 @@ use mir.Val.{SFits, toZ, ofZ}
 use mir.ValLaws.{toZ-ofZ, toZ-pos}
 use Rattle.scope.specs.Limits.{decimalLimit}
 use Rattle.scope.specs.Tables.{signed, isNegative, millionths, numberIn}
-
-sub-by : (a b : ℕ) (t : Bool) → ltb a b ≡ t → natAbs (cond t (negsuc (b - suc a)) (pos (a - b))) ≤ a + b
-sub-by a b true e = omega (arith, ltb-true a b e)
-sub-by a b false e = omega arith
-
--- the size of a sum is at most the sizes' sum
-pub abs-add : (x y : ℤ) → natAbs (x +ℤ y) ≤ natAbs x + natAbs y
-abs-add (pos a) (pos b) = omega arith
-abs-add (pos a) (negsuc b) = sub-by a (suc b) (ltb a (suc b)) refl
-abs-add (negsuc a) (pos b) = omega (arith, sub-by b (suc a) (ltb b (suc a)) refl)
-abs-add (negsuc a) (negsuc b) = omega arith
-
-pub abs-neg : (z : ℤ) → natAbs (negℤ z) ≡ natAbs z
-abs-neg (pos zero) = refl
-abs-neg (pos (suc n)) = refl
-abs-neg (negsuc n) = refl
-
-pub abs-mul : (c : ℕ) (z : ℤ) → natAbs (pos c *ℤ z) ≡ c * natAbs z
-abs-mul c (pos b) = refl
-abs-mul c (negsuc b) = abs-neg (pos (c * suc b))
+use Rattle.basics.specs.Wholes.{abs-add, abs-neg, abs-mul}
 
 -- a small size fits an `i64`, and is read back from its bits
 pub abs-fits : (z : ℤ) → natAbs z < 2 ^ 63 → SFits w64 z
@@ -99,9 +78,6 @@ abs-signed false n = refl
 
 abs-cut : (m : ℤ) (p : ℕ) → natAbs (quotZ m (pos p) *ℤ pos p) ≤ natAbs m
 abs-cut m p = rw (cut m p, abs-signed (isNegative m) (natAbs m / p * p)) (div-mul-le-self (natAbs m) p)
-
-pub abs-millionths : (m : ℤ) (d : ℕ) → natAbs (millionths (numberIn m d)) ≤ natAbs m
-abs-millionths m d = subst (λ z. natAbs z ≤ natAbs m) (cut m (10 ^ (decimalLimit - d))) (abs-cut m (10 ^ (decimalLimit - d)))
 
 -- the machine divides by the unit, and multiplies again
 module _ (m : ℤ) (d : ℕ) (small : natAbs m < 1000000000000) {u : ℤ} (e : u ≡ pos (10 ^ (decimalLimit - d))) where

@@ -1,17 +1,13 @@
--- What the answers of this crate say, by their cases, and what one bracket adds to the total and to the count of those that lack a mass.
+-- What the answers of this crate say, by their cases.
 use mathlib.Core.Path.{_≡_, refl}
 use mathlib.Core.Bool.{Bool, true, false, not, cond}
 use mathlib.Core.Option.{Option, none, some}
-use Prim.Native.Nat.{ℕ}
 use lib.Dec.{eqb}
-use lib.IntN.{ℤ, pos, _*ℤ_}
-use Rattle.scope.specs.Line.{Bracket, Line}
-use Rattle.scope.specs.Lists.{given}
-use Rattle.scope.specs.Modifications.{isModification}
-use Rattle.scope.specs.Positions.{isPlaced}
+use lib.IntN.{ℤ}
+use Rattle.scope.specs.Line.{Line}
 use Rattle.scope.specs.Tables.{Tables}
 use Rattle.scope.specs.Answers.{Said, good, refuses, weighed}
-use Rattle.scope.specs.Masses.{massOf, massOr0, total, lacking}
+use Rattle.scope.specs.Masses.{total, lacking}
 use Rattle.masses.specs.declared.Mass.{Mass}
 use Rattle.masses.specs.declared.Mass.the-variants.{Is, Lacking}
 use Rattle.masses.specs.declared.Weight.{Weight}
@@ -43,15 +39,3 @@ weight-said t = by (eqb (lacking t) 0)
     by : (b : Bool) → saysWeight (cond b (Total (total t)) (Lacks (lacking t))) ≡ cond b (good (total t)) (refuses 16 (lacking t))
     by true = refl
     by false = refl
-
--- what a bracket adds to the total: "counts multiplied"
-unfoldable pub weight : {P : Type 0} → Bracket P → ℤ
-weight k = cond (isModification k) (pos (k .count) *ℤ massOr0 k) (pos 0)
-
--- what it adds to the count of those without a mass: "each copy counted"
-unfoldable pub lack : {P : Type 0} → Bracket P → ℕ
-lack k = cond (isModification k) (given (massOf k) (λ m. 0) (k .count)) 0
-
--- what it adds to the entry of its position
-unfoldable pub placedMass : {P : Type 0} → Bracket P → ℤ
-placedMass k = cond (isPlaced k) (massOr0 k) (pos 0)

@@ -14,6 +14,8 @@ use Rattle.scope.specs.Placements.{placements, freshListing}
 use Rattle.scope.specs.Answers.{areTables}
 use Rattle.accepted_laws.specs.Within.{Within}
 use Rattle.layout_laws.specs.Laws as layout
+use Rattle.accepted_laws.specs.Laws as kept
+use Rattle.reading_laws.specs.Bare as places
 use Rattle.placement_laws.specs.Terms.{Ascending, handedOut}
 use Rattle.placement_laws.specs.Laws as placing
 use Rattle.mass_laws.specs.Terms.{Fair, Limited}
@@ -46,7 +48,7 @@ demand-3-of t w fair limited =
     }
 
 demand-3 : (s : List ℕ) (l : Line ℕ) → outcome s ≡ accepted l → Demand3 l
-demand-3 s l e = demand-3-of l (layout.accepted-within s l e) (accepted-fair s l e) (accepted-limited s l e)
+demand-3 s l e = demand-3-of l (kept.accepted-within s l e) (accepted-fair s l e) (accepted-limited s l e)
 
 demand-3-in : (bs : List ℕ) (ns : List ℤ) → areTables bs ns ≡ true → Demand3 (tablesIn bs ns)
 demand-3-in bs ns e =
@@ -54,7 +56,7 @@ demand-3-in bs ns e =
     let l = h .0 in
     let r = h .1 .reads in
     subst (λ t. Demand3 t) (sym (h .1 .tables))
-    (demand-3-of (tablesOf l) (layout.tables-within l (h .1 .within)) (tables-fair _ l r) (tables-limited _ l r))
+    (demand-3-of (tablesOf l) (kept.tables-within l (h .1 .within)) (tables-fair _ l r) (tables-limited _ l r))
 
 -- ---- the tables answer for the line
 same-answers : {P : Type 0} (l : Line P) → SameAnswers l (tablesOf l)
@@ -63,17 +65,17 @@ same-answers l =
     record {
       residues = length-map (l .residues) bareResidue;
       brackets = length-map (l .brackets) bareBracket;
-      floating = ap length (layout.same-floaters l) ∙ length-map (floaters l) bareBracket;
+      floating = ap length (places.same-floaters l) ∙ length-map (floaters l) bareBracket;
       rows = rows-bare l;
-      positions = layout.same-permitted l;
-      whole = layout.same-total l;
-      missing = layout.same-lacking l;
+      positions = places.same-permitted l;
+      whole = places.same-total l;
+      missing = places.same-lacking l;
       labile = labile-bare l;
-      entries = layout.same-ledger l;
+      entries = places.same-ledger l;
     }
 
 answers : (s : List ℕ) (l : Line ℕ) → outcome s ≡ accepted l → (bs : List ℕ) (ns : List ℤ) → SameAnswers l (tablesIn (bytesRead l bs) (numbersRead l ns))
-answers s l e bs ns = subst (λ t. SameAnswers l t) (sym (layout.tables-back l (layout.accepted-within s l e) bs ns)) (same-answers l)
+answers s l e bs ns = subst (λ t. SameAnswers l t) (sym (layout.tables-back l (kept.accepted-within s l e) bs ns)) (same-answers l)
 
 pub demands : Demands
 demands =

@@ -1,6 +1,7 @@
 pub mod Laws
 pub mod Lists
 pub mod Numbers
+pub mod Decimal
 pub mod Brackets
 pub mod Runs
 pub mod Unknowns

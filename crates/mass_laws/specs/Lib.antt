@@ -4,5 +4,7 @@ pub mod Members
 pub mod Shares
 pub mod Splits
 pub mod Sizes
+pub mod Exact
+pub mod Stated
 pub mod Areas
 pub mod Laws

@@ -1,5 +1,6 @@
 pub mod Laws
 pub mod Numbers
+pub mod Decimal
 pub mod Brackets
 pub mod Runs
 pub mod Unknowns

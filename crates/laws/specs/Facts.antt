@@ -35,6 +35,7 @@ module _ {P : Type 0} where
   fair-bracket : (n : ℕ) (k : Bracket P) → BracketWithin n k → LabileUnlabelled k → FairBracket n k
   fair-bracket n k w u =
       record {
+        some-count = w .some-count;
         single = λ h. w .one-copy (other-kind (k .kind) h);
         labelled-single = w .one-labelled;
         labile-unlabelled = u;

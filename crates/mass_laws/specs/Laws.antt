@@ -2,23 +2,27 @@
 -- allowed one.
 use mathlib.Core.Path.{_≡_, sym, ap, _∙_}
 use mathlib.Core.Bool.{true, false}
+use mathlib.Core.Logic.{_↔_}
 use mathlib.Core.List.{List}
 use Prim.Native.Nat.{ℕ, _+_, _*_, _^_, _≤_, _<_}
 use native.Mathlib.Omega.{arith}
 use lib.IntN.{ℤ, pos, natAbs, _+ℤ_}
 use lib.ListN.{length, getD, take}
+use lib.Ieee.{binary64, ofInt, toSigned}
 use Rattle.scope.specs.Limits.{positionLimit, copyLimit}
 use Rattle.scope.specs.Line.{Bracket, Line}
 use Rattle.scope.specs.Tables.{tablesIn}
-use Rattle.scope.specs.Lists.{member}
+use Rattle.scope.specs.Lists.{there?, all, member}
 use Rattle.scope.specs.Positions.{struckOut, floaters, permittedPositions}
 use Rattle.scope.specs.Placements.{allowed}
-use Rattle.scope.specs.Masses.{massOr0, sum, total, labileMass, placedAt, ledger}
+use Rattle.scope.specs.Masses.{massOf, modifications, massOr0, sum, total, lacking, labileMass, placedAt, ledger}
 use Rattle.areas.specs.Bounds.{Bounds}
 use Rattle.mass_laws.specs.Terms.{Fair, Limited}
 use Rattle.mass_laws.specs.Shares as shares
 use Rattle.mass_laws.specs.Splits as splits
 use Rattle.mass_laws.specs.Sizes as sizes
+use Rattle.mass_laws.specs.Exact as exact
+use Rattle.mass_laws.specs.Stated as stated
 use Rattle.mass_laws.specs.Areas as areas
 
 module _ {P : Type 0} (t : Line P) (fair : Fair t) where
@@ -48,6 +52,14 @@ module _ {P : Type 0} (t : Line P) (fair : Fair t) where
   -- "Below 71 times 10^12, it fits under 2^53."
   pub total-below : Limited t → natAbs (total t) < 71 * 10 ^ 12
   total-below l = sizes.total-size t fair l
+
+  -- "the whole number becomes a double with nothing lost": cast back, the double is the number
+  pub nothing-lost : Limited t → toSigned 63 (ofInt binary64 (total t)) ≡ total t
+  nothing-lost l = exact.cast-back (total t) (total-below l)
+
+  -- 16 "a modification has no mass": none lacks one exactly when each has one
+  pub all-stated : lacking t ≡ 0 ↔ all (λ k. there? (massOf k)) (modifications t) ≡ true
+  all-stated = stated.all-stated t fair
 
 -- the tables in areas are limited so where they keep to the areas' bounds and have no more than eight floaters
 pub limited-in : {bs : List ℕ} {ns : List ℤ} → Bounds bs ns → length (floaters (tablesIn bs ns)) ≤ copyLimit → Limited (tablesIn bs ns)

@@ -4,6 +4,8 @@ pub mod Members
 pub mod Shares
 pub mod Splits
 pub mod Sizes
+pub mod Exact
+pub mod Stated
 pub mod Areas
 pub mod Laws
 pub mod Weights

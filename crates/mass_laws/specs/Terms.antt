@@ -15,6 +15,8 @@ use Rattle.basics.specs.Each.{Each}
 
 -- a bracket of a line with n residues
 pub record FairBracket {P : Type 0} (n : ℕ) (k : Bracket P) : Type 0 where
+  -- "count 1 to 99"
+  pub some-count : 0 < k .count
   -- "runs of unknown-position brackets .. each bracket perhaps with `^` and a count": no other has one
   pub single : (k .kind ≡ Unknown → ⊥) → k .count ≡ 1
   -- 11 "count (`^1` too) on a labelled bracket"

@@ -31,16 +31,17 @@ use Rattle.scope.specs.Lists.{given}
 use Rattle.scope.specs.Canonical.{canonical}
 use Rattle.scope.specs.Tables.{Tables, tablesIn}
 use Rattle.scope.specs.Positions.{permittedPositions, rowsOf, Found, lookup}
-use Rattle.scope.specs.Placements.{allowed}
+use Rattle.scope.specs.Placements.{allowed, takenListing, following}
 use Rattle.scope.specs.Masses.{total, lacking, daltons}
-use Rattle.scope.specs.Answers.{Said, good, refuses, aMass, lack, saysWrite, saysCount, saysTotal, saysLookup, saysRequest, saysBooked, saysShown, tooShort, areTables, overTables, fitting, writes, outputAfter, counts, weighed, totals, shows, rowsSaid, rowsAfter, looksUp, allows, bookable, books, entries}
+use Rattle.scope.specs.Answers.{Said, good, refuses, aMass, lack, saysWrite, saysCount, saysTotal, saysLookup, saysRequest, saysBooked, saysShown, tooShort, areTables, overTables, fitting, writes, outputAfter, counts, weighed, totals, shows, rowsSaid, rowsAfter, looksUp, allows, met, requested, movedOn, requests, listingAfter, bookable, books, entries}
 use Rattle.placement_laws.specs.Terms.{In}
+use Rattle.placements.specs.declared.Next.{Next}
 use Rattle.calls.specs.Writing.{WriteSays}
-use Rattle.calls.specs.Says.{CountSays, TotalSays, ShownSays, AllowedSays, LedgerSays}
+use Rattle.calls.specs.Says.{CountSays, TotalSays, ShownSays, AllowedSays, NextSays, LedgerSays}
 use Rattle.rows.specs.Says.{LookupSays}
-use Rattle.listing.specs.Says.{RowsSays}
+use Rattle.listing.specs.Says.{RowsSays, StepSays}
 use Rattle.promises.specs.Promises.{Answered, Nothing}
-use Rattle.promises.specs.Said.{not-both, same-number, write-same, count-same, total-same, lookup-same, request-same, booked-same, shown-same}
+use Rattle.promises.specs.Said.{not-both, same-number, met-refused, write-same, count-same, total-same, lookup-same, request-same, booked-same, shown-same}
 
 -- ---- what can be said
 -- an answer says it, and a refusal has one of these numbers
@@ -160,6 +161,38 @@ module _ (bs : List ℕ) (ns : List ℤ) where
 
   pub is-allowed : (p : Placement) → Answered (AllowedSays bs ns p) saysRequest (13 ∷ 14 ∷ 18 ∷ []) Nothing
   is-allowed p = alone request-same (allows-so (p .at))
+
+  -- what is left to hand out, or 17; 18 before it
+  following-so : (o : Option (List ℕ)) → Sayable saysRequest (13 ∷ 14 ∷ 17 ∷ 18 ∷ []) (met (given o good (refuses 17 0)))
+  following-so none = refusal (requestRefused 17) refl (inr (inr (inl refl)))
+  following-so (some p) = success Met refl
+
+  requested-so : (qs : List (List ℕ)) (l : Listing) → Sayable saysRequest (13 ∷ 14 ∷ 17 ∷ 18 ∷ []) (met (requested qs l))
+  unfolding requested
+  requested-so qs l =
+      either (λ s. Sayable saysRequest (13 ∷ 14 ∷ 17 ∷ 18 ∷ []) (met s)) (takenListing qs l) (following-so (following qs l))
+      (refusal (requestRefused 18) refl (inr (inr (inr (inl refl)))))
+
+  requests-so : (l : Listing) → Sayable saysRequest (13 ∷ 14 ∷ 17 ∷ 18 ∷ []) (met (requests bs ns l))
+  requests-so l =
+      over (λ s. Sayable saysRequest (13 ∷ 14 ∷ 17 ∷ 18 ∷ []) (met s)) bs ns (λ t. requested (permittedPositions t) l)
+      (refusal (requestRefused 13) refl (inl refl)) (refusal (requestRefused 14) refl (inr (inl refl)))
+      (requested-so (permittedPositions (tablesIn bs ns)) l)
+
+  stays : (l : Listing) (n p : ℕ) → met (requests bs ns l) ≡ refuses n p → listingAfter bs ns l ≡ l
+  stays l n p q = ap (movedOn l) (met-refused (requests bs ns l) q)
+
+  pub next-placement : (l : Listing) → Answered (NextSays bs ns l) (λ o. saysRequest (o .request)) (13 ∷ 14 ∷ 17 ∷ 18 ∷ []) (λ o. o .listing ≡ l)
+  next-placement l =
+      lent
+      (record { make = λ r k. record { request = r; listing = k }; answer = λ o. o .request; left = λ o. o .listing; whole = λ o. refl; answers = λ r k. refl; leaves = λ r k. refl })
+      {says = saysRequest} (NextSays bs ns l) (listingAfter bs ns l) l (λ o. ((λ w. w), (λ w. w))) request-same (requests-so l) (stays l)
+
+  pub step : (l : Listing)
+      → Answered (λ (o : Request × Listing). StepSays bs ns l (o .0) (o .1)) (λ o. saysRequest (o .0)) (13 ∷ 14 ∷ 17 ∷ 18 ∷ []) (λ o. o .1 ≡ l)
+  step l =
+      lent (pair Request Listing) {says = saysRequest} (λ o. StepSays bs ns l (o .0) (o .1)) (listingAfter bs ns l) l
+      (λ o. ((λ w. w), (λ w. w))) request-same (requests-so l) (stays l)
 
   books-so : (p : List ℕ) → Sayable saysBooked (13 ∷ 14 ∷ 16 ∷ 18 ∷ []) (books bs ns p)
   books-so p =

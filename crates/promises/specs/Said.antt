@@ -22,7 +22,7 @@ use Rattle.scope.specs.declared.answers.Booked.the-variants.{Done, Refused as b
 use Rattle.scope.specs.declared.answers.Shown.{Shown}
 use Rattle.scope.specs.declared.answers.Shown.the-variants.{Daltons, Missing, Refused as shownRefused}
 use Rattle.scope.specs.Positions.{Found}
-use Rattle.scope.specs.Answers.{Said, good, refuses, aMass, lack, saysRead, saysWrite, saysCount, saysTotal, saysLookup, saysRequest, saysBooked, saysShown}
+use Rattle.scope.specs.Answers.{Said, good, refuses, met, aMass, lack, saysRead, saysWrite, saysCount, saysTotal, saysLookup, saysRequest, saysBooked, saysShown}
 
 -- ---- what is said
 pub not-both : {A : Type 0} {a : A} {n p : ℕ} → good a ≡ refuses n p → ⊥
@@ -36,6 +36,15 @@ same-number e = cc
 
 pub same-place : {A : Type 0} {n p m q : ℕ} → _≡_ {A = Said A} (refuses n p) (refuses m q) → p ≡ q
 same-place e = cc
+
+-- a request that is met, or refused
+pub met-good : {A : Type 0} (a : Said A) → met a ≡ good tt → (x : A) × (a ≡ good x)
+met-good (good x) e = (x, refl)
+met-good (refuses n p) e = absurd (not-both (sym e))
+
+pub met-refused : {A : Type 0} (a : Said A) {n p : ℕ} → met a ≡ refuses n p → a ≡ refuses n p
+met-refused (good x) e = absurd (not-both e)
+met-refused (refuses m q) {n} e = ap (λ z. refuses z q) (same-number e) ∙ ap (refuses n) (same-place e)
 
 -- a refusal with its place
 refused : {R A : Type 0} (refuse : ℕ → ℕ → R) {n p m q : ℕ} → _≡_ {A = Said A} (refuses n p) (refuses m q) → refuse n p ≡ refuse m q

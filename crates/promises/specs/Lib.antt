@@ -1,2 +1,9 @@
 pub mod Promises
+pub mod Said
+pub mod Answering
+pub mod Readers
+pub mod Written
+pub mod Weights
+pub mod Rows
+pub mod Listed
 pub mod Kept

@@ -1,86 +1,111 @@
--- The demands of the tender, over what the calls ensure. `ReadSays`, `WriteSays`, `NextSays`, `TotalSays`, `AllowedSays` and `LedgerSays` are what
--- `reader::read` and `calls::{write, next_placement, total, is_allowed, ledger}` ensure. Their proofs: specs/Kept.antt.
+-- The demands of the tender, each sentence above its theorem, over what the calls ensure. `ReadSays` (crate reader), `WriteSays`, `CountSays`, `TotalSays`,
+-- `ShownSays`, `AllowedSays`, `NextSays`, `LedgerSays` (calls), `LookupSays` (rows), `RowsSays` and `StepSays` (listing) stand in the `ensures` of the calls, and
+-- an answer is spoken of by what it says (`saysRead` and its kin). Their proofs: specs/Kept.antt, and the files that it cites.
 use mathlib.Core.Path.{_≡_}
 use mathlib.Core.Logic.{_↔_, _⊎_}
 use mathlib.Core.Bool.{true, false}
 use mathlib.Core.List.{List, [], _∷_}
-use Prim.Native.Nat.{ℕ, _≤_}
-use lib.IntN.{ℤ, _+ℤ_}
-use lib.ListN.{length, take, drop}
+use Prim.Native.Nat.{ℕ, zero, suc, _≤_, _<_}
+use lib.IntN.{ℤ, pos, _+ℤ_}
+use lib.ListN.{length, take, drop, getD, replicate}
 use Rattle.scope.specs.declared.answers.Read.{Read}
-use Rattle.scope.specs.declared.answers.Read.the-variants.{Accepted, Refused as readRefused}
 use Rattle.scope.specs.declared.answers.Write.{Write}
-use Rattle.scope.specs.declared.answers.Write.the-variants.{Written}
-use Rattle.scope.specs.declared.answers.Request.{Request}
-use Rattle.scope.specs.declared.answers.Request.the-variants.{Met, Refused}
-use Rattle.scope.specs.declared.answers.Booked.the-variants.{Done}
+use Rattle.scope.specs.declared.answers.Count.{Count}
 use Rattle.scope.specs.declared.answers.Total.{Total}
-use Rattle.scope.specs.declared.answers.Total.the-variants.{Millionths}
+use Rattle.scope.specs.declared.answers.Shown.{Shown}
+use Rattle.scope.specs.declared.answers.Request.{Request}
 use Rattle.scope.specs.declared.answers.Placement.{Placement}
 use Rattle.scope.specs.declared.answers.Listing.{Listing}
 use Rattle.scope.specs.declared.answers.Ledger.{Ledger}
+use Rattle.scope.specs.declared.answers.Site.{Site}
+use Rattle.scope.specs.declared.answers.Lookup.{Lookup}
+use Rattle.scope.specs.Limits.{rowLimit, positionLimit}
 use Rattle.scope.specs.Line.{Line}
-use Rattle.scope.specs.Tables.{tablesOf, bytesOf, numbersOf, tablesIn}
+use Rattle.scope.specs.Tables.{Tables, tablesOf, bytesOf, numbersOf, tablesIn}
 use Rattle.scope.specs.Lists.{laid}
+use Rattle.scope.specs.Positions.{floaters, permittedPositions, Found}
 use Rattle.scope.specs.Placements.{freshListing}
-use Rattle.scope.specs.Masses.{sum, labileMass}
-use Rattle.scope.specs.Answers.{tooShort, saysRequest, saysTotal, saysBooked, requests, listingAfter, allows, totals, books, entries}
-use Rattle.scope.specs.Grammar.{Spelling, print, good, means}
+use Rattle.scope.specs.Masses.{sum, total, lacking, labileMass, daltons}
+use Rattle.scope.specs.Answers.{Said, good, refuses, aMass, lack, saysRead, saysWrite, saysCount, saysTotal, saysShown, saysLookup, saysRequest, saysBooked, tooShort, residueCount, bracketCount, floaterCount, weighed}
+use Rattle.scope.specs.Grammar.{Spelling, print, good as wellSpelt, means}
 use Rattle.grammar_laws.specs.Laws.{Accepts, Refuses}
 use Rattle.placement_laws.specs.Terms.{In, Ascending}
 use Rattle.reader.specs.ReadSays.{ReadSays}
-use Rattle.calls.specs.declared.Next.{Next}
+use Rattle.placements.specs.declared.Next.{Next}
 use Rattle.calls.specs.Writing.{WriteSays}
+use Rattle.calls.specs.Says.{CountSays, TotalSays, ShownSays, AllowedSays, NextSays, LedgerSays}
+use Rattle.rows.specs.Says.{LookupSays}
+use Rattle.listing.specs.Says.{RowsSays, StepSays}
 
--- ---- what the other calls ensure
-abbrev pub NextSays : List ℕ → List ℤ → Listing → Next → Type 0
-NextSays bs ns l r = (saysRequest (r .request) ≡ requests bs ns l) × (r .listing ≡ listingAfter bs ns l)
+-- ======== demand 1
+-- "Every line of bytes, every set of tables and every lent area gets an answer, and the caller need not have checked anything."
 
-abbrev pub AllowedSays : List ℕ → List ℤ → Placement → Request → Type 0
-AllowedSays bs ns p r = saysRequest r ≡ allows bs ns (p .at)
+-- An outcome is an answer, with everything lent as it is afterwards. Exactly one is as ensured.
+pub record ExactlyOne {O : Type 0} (Ensured : O → Type 0) : Type 0 where
+  pub outcome : O
+  pub ensured : Ensured outcome
+  pub only : (o : O) → Ensured o → o ≡ outcome
 
-abbrev pub TotalSays : List ℕ → List ℤ → Total → Type 0
-TotalSays bs ns r = saysTotal r ≡ totals bs ns
+-- What is said is a success, or a refusal with one of these numbers, and then everything is left so.
+pub record OnlyRefuses {A : Type 0} (numbers : List ℕ) (said : Said A) (Left : Type 0) : Type 0 where
+  pub number : (n p : ℕ) → said ≡ refuses n p → In n numbers
+  pub left : (n p : ℕ) → said ≡ refuses n p → Left
 
-abbrev pub LedgerSays : List ℕ → List ℤ → Placement → Ledger → Type 0
-LedgerSays bs ns p r = (saysBooked (r .booked) ≡ books bs ns (p .at)) × (r .at ≡ entries (books bs ns (p .at)) (tablesIn bs ns) (p .at))
+pub record Answered {O A : Type 0} (Ensured : O → Type 0) (says : O → Said A) (numbers : List ℕ) (Left : O → Type 0) : Type 0 where
+  pub exactly-one : ExactlyOne Ensured
+  pub only-refuses : (o : O) → Ensured o → OnlyRefuses numbers (says o) (Left o)
+
+-- a call that is lent nothing to write to
+abbrev pub Nothing : {O : Type 0} → O → Type 0
+Nothing o = Unit {0}
 
 -- ---- reading
--- what a reader says of a line, two areas, its answer, and the areas afterwards. What follows is stated of any, and promised of `ReadSays`.
+-- What a reader says of a line, two areas, its answer, and the areas afterwards. What follows is stated of any, and promised of `ReadSays`.
 abbrev pub Reader : Type 1
 Reader = List ℕ → List ℕ → List ℤ → Read → List ℕ → List ℤ → Type 0
 
--- ---- demand 1
-
-pub record Answer (Says : Reader) (s bs : List ℕ) (ns : List ℤ) : Type 0 where
-  pub read : Read
-  pub bytes : List ℕ
-  pub numbers : List ℤ
-  pub says : Says s bs ns read bytes numbers
-
--- a refusal, with its number and its place; nothing lent is changed
+-- "A line outside the rules is refused with a number and a place; the tables then hold what they held before."
 pub record TurnedAway (s bs : List ℕ) (ns : List ℤ) (r : Read) (bs′ : List ℕ) (ns′ : List ℤ) : Type 0 where
   pub number : ℕ
   pub place : ℕ
-  pub says : r ≡ readRefused number place
+  pub says : saysRead r ≡ refuses number place
   pub from-1 : 1 ≤ number
   pub to-13 : number ≤ 13
   pub inside : place ≤ length s
   pub bytes : bs′ ≡ bs
   pub numbers : ns′ ≡ ns
 
-pub record Demand1 (Says : Reader) : Type 0 where
-  -- "Every line of bytes .. gets an answer": for any line and any areas there is one that meets what is ensured, and no other
-  pub some-answer : (s bs : List ℕ) (ns : List ℤ) → Answer Says s bs ns
-  pub one-answer :
-      (s bs : List ℕ) (ns : List ℤ) (r : Read) (bs₁ : List ℕ) (ns₁ : List ℤ) → Says s bs ns r bs₁ ns₁ → (q : Read) (bs₂ : List ℕ) (ns₂ : List ℤ)
-      → Says s bs ns q bs₂ ns₂ → (r ≡ q) × (bs₁ ≡ bs₂) × (ns₁ ≡ ns₂)
-  -- "A bad line is refused with a number and a place, and nothing lent changes"
+pub record AnswersLines (Says : Reader) : Type 0 where
+  pub exactly-one : (s bs : List ℕ) (ns : List ℤ) → ExactlyOne (λ (o : Read × List ℕ × List ℤ). Says s bs ns (o .0) (o .1) (o .2))
   pub answered :
       (s bs : List ℕ) (ns : List ℤ) (r : Read) (bs′ : List ℕ) (ns′ : List ℤ) → Says s bs ns r bs′ ns′
-      → (r ≡ Accepted) ⊎ TurnedAway s bs ns r bs′ ns′
+      → (saysRead r ≡ good tt) ⊎ TurnedAway s bs ns r bs′ ns′
 
--- ---- demand 2
+-- ---- every call
+pub record Demand1 : Type 0 where
+  pub read : AnswersLines ReadSays
+  pub write :
+      (bs : List ℕ) (ns : List ℤ) (out : List ℕ)
+      → Answered (λ (o : Write × List ℕ). WriteSays bs ns out (o .0) (o .1)) (λ o. saysWrite (o .0)) (13 ∷ 14 ∷ 15 ∷ []) (λ o. o .1 ≡ out)
+  pub count : (f : Tables → ℕ) (bs : List ℕ) (ns : List ℤ) → Answered (CountSays f bs ns) saysCount (13 ∷ 14 ∷ []) Nothing
+  pub total : (bs : List ℕ) (ns : List ℤ) → Answered (TotalSays bs ns) saysTotal (13 ∷ 14 ∷ 16 ∷ []) Nothing
+  pub shown : (bs : List ℕ) (ns : List ℤ) → Answered (ShownSays bs ns) saysShown (13 ∷ 14 ∷ []) Nothing
+  pub is-allowed : (bs : List ℕ) (ns : List ℤ) (p : Placement) → Answered (AllowedSays bs ns p) saysRequest (13 ∷ 14 ∷ 18 ∷ []) Nothing
+  pub next-placement :
+      (bs : List ℕ) (ns : List ℤ) (l : Listing)
+      → Answered (NextSays bs ns l) (λ o. saysRequest (o .request)) (13 ∷ 14 ∷ 17 ∷ 18 ∷ []) (λ o. o .listing ≡ l)
+  pub step :
+      (bs : List ℕ) (ns : List ℤ) (l : Listing)
+      → Answered (λ (o : Request × Listing). StepSays bs ns l (o .0) (o .1)) (λ o. saysRequest (o .0)) (13 ∷ 14 ∷ 17 ∷ 18 ∷ []) (λ o. o .1 ≡ l)
+  pub ledger :
+      (bs : List ℕ) (ns : List ℤ) (p : Placement)
+      → Answered (LedgerSays bs ns p) (λ o. saysBooked (o .booked)) (13 ∷ 14 ∷ 16 ∷ 18 ∷ []) (λ o. o .at ≡ replicate positionLimit (pos 0))
+  pub rows :
+      (bs : List ℕ) (ns : List ℤ) (room : List Site)
+      → Answered (λ (o : Count × List Site). RowsSays bs ns room (o .0) (o .1)) (λ o. saysCount (o .0)) (13 ∷ 14 ∷ []) (λ o. o .1 ≡ room)
+  pub first-row : (rs : List Site) (n f : ℕ) → Answered (LookupSays rs n f) saysLookup (13 ∷ 17 ∷ []) Nothing
+
+-- ======== demand 2
 
 -- the areas hold the tables of what t means, and nothing else in them is changed
 pub record Holding (t : Spelling) (bs : List ℕ) (ns : List ℤ) (bs′ : List ℕ) (ns′ : List ℤ) : Type 0 where
@@ -89,68 +114,139 @@ pub record Holding (t : Spelling) (bs : List ℕ) (ns : List ℤ) (bs′ : List 
   pub numbers : ns′ ≡ laid (numbersOf (means t)) ns
 
 pub record Accepting (Says : Reader) : Type 0 where
-  -- "A line is accepted with exactly the tables that ProForma 2.1 within document 01 gives it": it is accepted exactly when the areas are long enough, a
-  -- good spelling prints it, it is no longer than the limit, and none of 5 to 12 is due of what the spelling means; any spelling of it means these tables
+  -- "A line is accepted with exactly the tables that ProForma 2.1, within the limits of document 01, gives it": it is accepted exactly when the areas are long
+  -- enough, a good spelling prints it, it is no longer than the limit, and none of 5 to 12 is due of what the spelling means; any spelling of it means these
+  -- tables
   pub accepts :
       (s bs : List ℕ) (ns : List ℤ) (r : Read) (bs′ : List ℕ) (ns′ : List ℤ) → Says s bs ns r bs′ ns′
-      → (r ≡ Accepted) ↔ ((tooShort bs ns ≡ false) × ((l : Line ℕ) × Accepts s l))
+      → (saysRead r ≡ good tt) ↔ ((tooShort bs ns ≡ false) × ((l : Line ℕ) × Accepts s l))
   pub tables :
-      (s bs : List ℕ) (ns : List ℤ) (bs′ : List ℕ) (ns′ : List ℤ) → Says s bs ns Accepted bs′ ns′
-      → (t : Spelling) → good t ≡ true → s ≡ print t → Holding t bs ns bs′ ns′
-  -- "Reading tries 13, then 1 to 12 in that order; the lowest number wins, at its first place in the line"
-  pub refuses :
+      (s bs : List ℕ) (ns : List ℤ) (r : Read) (bs′ : List ℕ) (ns′ : List ℤ) → Says s bs ns r bs′ ns′ → saysRead r ≡ good tt
+      → (t : Spelling) → wellSpelt t ≡ true → s ≡ print t → Holding t bs ns bs′ ns′
+  -- "and otherwise refused as document 01 says": "Reading tries 13, then 1 to 12 in that order; the lowest number wins, at its first place in the line"
+  pub refuses-by :
       (s bs : List ℕ) (ns : List ℤ) (r : Read) (bs′ : List ℕ) (ns′ : List ℤ) → Says s bs ns r bs′ ns′ → (k i : ℕ)
-      → (r ≡ readRefused k i) ↔ (((tooShort bs ns ≡ true) × (k ≡ 13) × (i ≡ 0)) ⊎ ((tooShort bs ns ≡ false) × Refuses s k i))
+      → (saysRead r ≡ refuses k i) ↔ (((tooShort bs ns ≡ true) × (k ≡ 13) × (i ≡ 0)) ⊎ ((tooShort bs ns ≡ false) × Refuses s k i))
 
 -- areas that a line s was read into, and an output that was written from them
 pub record Entered (s bs : List ℕ) (ns : List ℤ) (out : List ℕ) (w : Write) (out′ : List ℕ) : Type 0 where
   -- the line is written, and is no longer than s; the rest of the output is as it was
   pub long : ℕ
-  pub says : w ≡ Written long
+  pub says : saysWrite w ≡ good long
   pub no-longer : long ≤ length s
   pub rest : drop long out′ ≡ drop long out
   -- reading it is a success, and leaves the areas as they are
-  pub back : (r : Read) (bs′ : List ℕ) (ns′ : List ℤ) → ReadSays (take long out′) bs ns r bs′ ns′ → (r ≡ Accepted) × (bs′ ≡ bs) × (ns′ ≡ ns)
+  pub back : (r : Read) (bs′ : List ℕ) (ns′ : List ℤ) → ReadSays (take long out′) bs ns r bs′ ns′ → (saysRead r ≡ good tt) × (bs′ ≡ bs) × (ns′ ≡ ns)
+
+-- a line that was read into areas, and what was then written from them: m bytes of an output
+pub record Filed (s bs : List ℕ) (ns : List ℤ) (bs′ : List ℕ) (ns′ : List ℤ) (out′ : List ℕ) (m : ℕ) : Type 0 where
+  pub answer : Read
+  pub read : ReadSays s bs ns answer bs′ ns′
+  pub accepted : saysRead answer ≡ good tt
+  pub out : List ℕ
+  pub wrote : Write
+  pub written : WriteSays bs′ ns′ out wrote out′
+  pub length-is : saysWrite wrote ≡ good m
 
 pub record Demand2 : Type 0 where
-  -- "Tables are written as one canonical line that reads back to the same tables"
+  -- "Tables are written as one canonical line; reading that line gives the same tables back."
   pub reads-back :
-      (s bs : List ℕ) (ns : List ℤ) (bs′ : List ℕ) (ns′ : List ℤ) → ReadSays s bs ns Accepted bs′ ns′
+      (s bs : List ℕ) (ns : List ℤ) (r : Read) (bs′ : List ℕ) (ns′ : List ℤ) → ReadSays s bs ns r bs′ ns′ → saysRead r ≡ good tt
       → (out : List ℕ) (w : Write) (out′ : List ℕ) → WriteSays bs′ ns′ out w out′ → length s ≤ length out → Entered s bs′ ns′ out w out′
-  -- "two accepted lines share it exactly when their tables are equal"
+  -- "Two accepted lines share a canonical line exactly when their tables are equal", whatever areas they were read into
   pub one-entry :
-      (bs : List ℕ) (ns : List ℤ) (s bs₁ : List ℕ) (ns₁ : List ℤ) → ReadSays s bs ns Accepted bs₁ ns₁ → (t bs₂ : List ℕ) (ns₂ : List ℤ)
-      → ReadSays t bs ns Accepted bs₂ ns₂ → (out out₁ : List ℕ) (m : ℕ) → WriteSays bs₁ ns₁ out (Written m) out₁ → (out′ out₂ : List ℕ) (n : ℕ)
-      → WriteSays bs₂ ns₂ out′ (Written n) out₂ → take m out₁ ≡ take n out₂ ↔ ((bs₁ ≡ bs₂) × (ns₁ ≡ ns₂))
+      (s bs : List ℕ) (ns : List ℤ) (bs₁ : List ℕ) (ns₁ : List ℤ) (out₁ : List ℕ) (m : ℕ) → Filed s bs ns bs₁ ns₁ out₁ m
+      → (t cs : List ℕ) (ms : List ℤ) (bs₂ : List ℕ) (ns₂ : List ℤ) (out₂ : List ℕ) (n : ℕ) → Filed t cs ms bs₂ ns₂ out₂ n
+      → take m out₁ ≡ take n out₂ ↔ (tablesIn bs₁ ns₁ ≡ tablesIn bs₂ ns₂)
+  -- and, read into the same areas, exactly when they leave the same areas
+  pub one-entry-here :
+      (bs : List ℕ) (ns : List ℤ) (s bs₁ : List ℕ) (ns₁ : List ℤ) (out₁ : List ℕ) (m : ℕ) → Filed s bs ns bs₁ ns₁ out₁ m
+      → (t bs₂ : List ℕ) (ns₂ : List ℤ) (out₂ : List ℕ) (n : ℕ) → Filed t bs ns bs₂ ns₂ out₂ n
+      → take m out₁ ≡ take n out₂ ↔ ((bs₁ ≡ bs₂) × (ns₁ ≡ ns₂))
 
--- ---- demand 3
+-- ======== demand 3, over areas that a line was read into
 
--- requests one after another, the record moved on by each, hand out these placements, and then one answers 17
-abbrev pub HandsOut : List ℕ → List ℤ → Listing → List (List ℕ) → Type 0
-HandsOut bs ns l [] = (r : Next) × (NextSays bs ns l r × (r .request ≡ Refused 17))
-HandsOut bs ns l (p ∷ ps) = (r : Next) × (NextSays bs ns l r × ((r .request ≡ Met) × ((r .listing .at ≡ p) × HandsOut bs ns (r .listing) ps)))
+-- ---- the listing
+-- A call that moves a listing on, from a record to its answer and the record afterwards. Requests one after another hand out these placements, and then one
+-- answers 17.
+abbrev pub HandsOut : (Listing → Next → Type 0) → Listing → List (List ℕ) → Type 0
+HandsOut Moves l [] = (r : Next) × (Moves l r × (saysRequest (r .request) ≡ refuses 17 0))
+HandsOut Moves l (p ∷ ps) = (r : Next) × (Moves l r × ((saysRequest (r .request) ≡ good tt) × ((r .listing .at ≡ p) × HandsOut Moves (r .listing) ps)))
 
--- over areas that a line was read into
+pub record Lists (bs : List ℕ) (ns : List ℤ) (Moves : Listing → Next → Type 0) : Type 0 where
+  -- "The listing hands out every allowed placement once, in ascending order"
+  pub ends : (ps : List (List ℕ)) × HandsOut Moves freshListing ps
+  pub every-allowed :
+      (ps : List (List ℕ)) → HandsOut Moves freshListing ps → (p : Placement) (r : Request) → AllowedSays bs ns p r
+      → In (p .at) ps ↔ (saysRequest r ≡ good tt)
+  pub ascending : (ps : List (List ℕ)) → HandsOut Moves freshListing ps → Ascending ps
+  -- "and says 'none' exactly when none exists"
+  pub none :
+      (r : Next) → Moves freshListing r
+      → (saysRequest (r .request) ≡ refuses 17 0) ↔ ((p : Placement) (q : Request) → AllowedSays bs ns p q → saysRequest q ≡ good tt → ⊥)
+
+-- ---- rows
+-- x is a permitted position of floater f, floaters counted from 1
+abbrev pub Permitted : List ℕ → List ℤ → ℕ → ℕ → Type 0
+Permitted bs ns zero x = ⊥
+Permitted bs ns (suc i) x = In x (getD (permittedPositions (tablesIn bs ns)) i [])
+
+-- rows of floater and position, each below all behind it
+abbrev pub Below : Site → Site → Type 0
+Below a b = (a .floater < b .floater) ⊎ ((a .floater ≡ b .floater) × (a .position < b .position))
+
+abbrev pub Climbing : List Site → Type 0
+Climbing [] = Unit {0}
+Climbing (a ∷ rs) = ((b : Site) → In b rs → Below a b) × Climbing rs
+
+-- the least number that P has; 17 exactly where it has none
+abbrev pub LeastOf : (ℕ → Type 0) → Said Found → Type 0
+LeastOf P (good x) = P (x .position) × ((y : ℕ) → P y → x .position ≤ y)
+LeastOf P (refuses number place) = (number ≡ 17) × ((y : ℕ) → P y → ⊥)
+
+-- n rows were handed out: exactly the permitted positions, ascending, and the rows behind them as they were; the first row of a floater among them is its least
+pub record Rowed (bs : List ℕ) (ns : List ℤ) (room room′ : List Site) (n : ℕ) : Type 0 where
+  pub permitted : (f x : ℕ) → In (record { floater = f; position = x }) (take n room′) ↔ Permitted bs ns f x
+  pub climbing : Climbing (take n room′)
+  pub rest : drop n room′ ≡ drop n room
+  pub first : (f : ℕ) (l : Lookup) → LookupSays room′ n f l → LeastOf (Permitted bs ns f) (saysLookup l)
+
 pub record Demand3 (bs : List ℕ) (ns : List ℤ) : Type 0 where
-  -- "The listing hands out every allowed placement once, ascending"
-  pub ends : (ps : List (List ℕ)) × HandsOut bs ns freshListing ps
-  pub every-allowed : (ps : List (List ℕ)) → HandsOut bs ns freshListing ps → (p : Placement) → In (p .at) ps ↔ AllowedSays bs ns p Met
-  pub ascending : (ps : List (List ℕ)) → HandsOut bs ns freshListing ps → Ascending ps
-  -- "'none' exactly when none exists"
-  pub none : (r : Next) → NextSays bs ns freshListing r → (r .request ≡ Refused 17) ↔ ((p : Placement) → AllowedSays bs ns p Met → ⊥)
-  -- "the masses at all positions under any allowed placement plus the labile ones equal the line's total, exactly"
+  -- by the record handed over and handed back, and by the record moved on in place
+  pub by-value : Lists bs ns (NextSays bs ns)
+  pub in-place : Lists bs ns (λ l r. StepSays bs ns l (r .request) (r .listing))
+  -- "Where every modification has a stated mass, the masses at all positions under any allowed placement, plus the labile ones, add to the line's total exactly,
+  -- in millionths of a dalton."
   pub adds-up :
-      (m : ℤ) → TotalSays bs ns (Millionths m) → (p : Placement) → AllowedSays bs ns p Met → (r : Ledger) → LedgerSays bs ns p r
-      → (r .booked ≡ Done) × (sum (r .at) +ℤ labileMass (tablesIn bs ns) ≡ m)
+      (m : ℤ) (q : Total) → TotalSays bs ns q → saysTotal q ≡ good m → (p : Placement) (a : Request) → AllowedSays bs ns p a → saysRequest a ≡ good tt
+      → (r : Ledger) → LedgerSays bs ns p r → (saysBooked (r .booked) ≡ good tt) × (sum (r .at) +ℤ labileMass (tablesIn bs ns) ≡ m)
+  -- the display is that total as a double, or how many modifications have no mass
+  pub displays : (m : ℤ) (q : Total) → TotalSays bs ns q → saysTotal q ≡ good m → (r : Shown) → ShownSays bs ns r → saysShown r ≡ good (aMass (daltons m))
+  pub lacks : (n : ℕ) (q : Total) → TotalSays bs ns q → (r : Shown) → ShownSays bs ns r → (saysShown r ≡ good (lack n)) ↔ (saysTotal q ≡ refuses 16 n)
+  -- "gives each floating modification one of its permitted positions": the rows, wherever there is room for them
+  pub rows :
+      (room : List Site) → rowLimit ≤ length room → (r : Count) (room′ : List Site) → RowsSays bs ns room r room′
+      → (n : ℕ) × ((saysCount r ≡ good n) × Rowed bs ns room room′ n)
 
--- ---- all
+-- "That total is reckoned from the line's entries and counts alone": what is answered of areas that a spelling of t was read into is what t means
+pub record Reckoned (t : Spelling) (bs : List ℕ) (ns : List ℤ) : Type 0 where
+  pub residues : (r : Count) → CountSays residueCount bs ns r → saysCount r ≡ good (length (means t .residues))
+  pub brackets : (r : Count) → CountSays bracketCount bs ns r → saysCount r ≡ good (length (means t .brackets))
+  pub floating : (r : Count) → CountSays floaterCount bs ns r → saysCount r ≡ good (length (floaters (means t)))
+  pub mass : (r : Total) → TotalSays bs ns r → lacking (means t) ≡ 0 → saysTotal r ≡ good (total (means t))
+  pub missing : (r : Total) → TotalSays bs ns r → (lacking (means t) ≡ 0 → ⊥) → saysTotal r ≡ refuses 16 (lacking (means t))
+
+-- ======== all
 pub record Promises : Type 1 where
-  pub demand-1 : Demand1 ReadSays
+  pub demand-1 : Demand1
   pub accepting : Accepting ReadSays
   -- no other reader meets both: one that refuses all, or gives one table for all, or another place, does not
   pub only-reader :
-      (Says : Reader) → Demand1 Says → Accepting Says → (s bs : List ℕ) (ns : List ℤ) (r : Read) (bs′ : List ℕ) (ns′ : List ℤ)
+      (Says : Reader) → AnswersLines Says → Accepting Says → (s bs : List ℕ) (ns : List ℤ) (r : Read) (bs′ : List ℕ) (ns′ : List ℤ)
       → Says s bs ns r bs′ ns′ → ReadSays s bs ns r bs′ ns′
   pub demand-2 : Demand2
   pub demand-3 :
-      (s bs : List ℕ) (ns : List ℤ) (bs′ : List ℕ) (ns′ : List ℤ) → ReadSays s bs ns Accepted bs′ ns′ → Demand3 bs′ ns′
+      (s bs : List ℕ) (ns : List ℤ) (r : Read) (bs′ : List ℕ) (ns′ : List ℤ) → ReadSays s bs ns r bs′ ns′ → saysRead r ≡ good tt → Demand3 bs′ ns′
+  pub reckoned :
+      (s bs : List ℕ) (ns : List ℤ) (r : Read) (bs′ : List ℕ) (ns′ : List ℤ) → ReadSays s bs ns r bs′ ns′ → saysRead r ≡ good tt
+      → (t : Spelling) → wellSpelt t ≡ true → s ≡ print t → Reckoned t bs′ ns′

@@ -1,0 +1,231 @@
+-- Demand 1 for the calls that are no reader: what each says is a success or a refusal with one of its numbers, an answer says it, and only one does.
+use mathlib.Core.Path.{_≡_, refl, sym, ap, _∙_, subst}
+use mathlib.Core.Logic.{_↔_, _⊎_, inl, inr}
+use mathlib.Core.Bool.{Bool, true, false, cond}
+use mathlib.Core.Option.{Option, none, some}
+use mathlib.Core.List.{List, [], _∷_}
+use Prim.Native.Nat.{ℕ}
+use lib.Dec.{eqb, ltb}
+use lib.IntN.{ℤ, pos}
+use lib.ListN.{length, replicate}
+use Rattle.scope.specs.declared.answers.Write.{Write}
+use Rattle.scope.specs.declared.answers.Write.the-variants.{Written, Refused as writeRefused}
+use Rattle.scope.specs.declared.answers.Count.{Count}
+use Rattle.scope.specs.declared.answers.Count.the-variants.{Is, Refused as countRefused}
+use Rattle.scope.specs.declared.answers.Total.{Total}
+use Rattle.scope.specs.declared.answers.Total.the-variants.{Millionths, Refused as totalRefused}
+use Rattle.scope.specs.declared.answers.Lookup.{Lookup}
+use Rattle.scope.specs.declared.answers.Lookup.the-variants.{Row, Refused as lookupRefused}
+use Rattle.scope.specs.declared.answers.Request.{Request}
+use Rattle.scope.specs.declared.answers.Request.the-variants.{Met, Refused as requestRefused}
+use Rattle.scope.specs.declared.answers.Booked.{Booked}
+use Rattle.scope.specs.declared.answers.Booked.the-variants.{Done, Refused as bookedRefused}
+use Rattle.scope.specs.declared.answers.Shown.{Shown}
+use Rattle.scope.specs.declared.answers.Shown.the-variants.{Daltons, Missing, Refused as shownRefused}
+use Rattle.scope.specs.declared.answers.Placement.{Placement}
+use Rattle.scope.specs.declared.answers.Listing.{Listing}
+use Rattle.scope.specs.declared.answers.Ledger.{Ledger}
+use Rattle.scope.specs.declared.answers.Site.{Site}
+use Rattle.scope.specs.Limits.{rowLimit, positionLimit}
+use Rattle.scope.specs.Lists.{given}
+use Rattle.scope.specs.Canonical.{canonical}
+use Rattle.scope.specs.Tables.{Tables, tablesIn}
+use Rattle.scope.specs.Positions.{permittedPositions, rowsOf, Found, lookup}
+use Rattle.scope.specs.Placements.{allowed, takenListing, following}
+use Rattle.scope.specs.Masses.{total, lacking, daltons}
+use Rattle.scope.specs.Answers.{Said, good, refuses, aMass, lack, saysWrite, saysCount, saysTotal, saysLookup, saysRequest, saysBooked, saysShown, tooShort, areTables, overTables, fitting, writes, outputAfter, counts, weighed, totals, shows, rowsSaid, rowsAfter, looksUp, allows, met, requested, movedOn, requests, listingAfter, bookable, books, entries}
+use Rattle.placement_laws.specs.Terms.{In}
+use Rattle.placements.specs.declared.Next.{Next}
+use Rattle.calls.specs.Writing.{WriteSays}
+use Rattle.calls.specs.Says.{CountSays, TotalSays, ShownSays, AllowedSays, NextSays, LedgerSays}
+use Rattle.rows.specs.Says.{LookupSays}
+use Rattle.listing.specs.Says.{RowsSays, StepSays}
+use Rattle.promises.specs.Promises.{Answered, Nothing}
+use Rattle.promises.specs.Said.{not-both, same-number, met-refused, write-same, count-same, total-same, lookup-same, request-same, booked-same, shown-same}
+
+-- ---- what can be said
+-- an answer says it, and a refusal has one of these numbers
+pub record Sayable {R A : Type 0} (says : R → Said A) (numbers : List ℕ) (s : Said A) : Type 0 where
+  pub answer : R
+  pub says-so : says answer ≡ s
+  pub number : (n p : ℕ) → s ≡ refuses n p → In n numbers
+
+pub success : {R A : Type 0} {says : R → Said A} {numbers : List ℕ} (r : R) {x : A} → says r ≡ good x → Sayable says numbers (good x)
+success r e = record { answer = r; says-so = e; number = λ n p q. absurd (not-both q) }
+
+pub refusal : {R A : Type 0} {says : R → Said A} {numbers : List ℕ} (r : R) {m q : ℕ} → says r ≡ refuses m q → In m numbers → Sayable says numbers (refuses m q)
+refusal {numbers = numbers} r e i = record { answer = r; says-so = e; number = λ n p f. subst (λ k. In k numbers) (same-number f) i }
+
+-- ---- by cases: 13, 14, and what the call says itself
+pub either : {A : Type 0} (P : Said A → Type 0) (b : Bool) {x y : Said A} → P x → P y → P (cond b x y)
+either P true x y = x
+either P false x y = y
+
+pub over : {A : Type 0} (P : Said A → Type 0) (bs : List ℕ) (ns : List ℤ) (f : Tables → Said A) → P (refuses 13 0) → P (refuses 14 0) → P (f (tablesIn bs ns))
+    → P (overTables bs ns f)
+over P bs ns f x y z = either P (tooShort bs ns) x (either P (areTables bs ns) z y)
+
+-- ---- an answer alone
+pub alone : {R A : Type 0} {says : R → Said A} {numbers : List ℕ} {s : Said A} → ((x y : R) → says x ≡ says y → x ≡ y) → Sayable says numbers s
+    → Answered (λ (r : R). says r ≡ s) says numbers Nothing
+alone one h =
+    record {
+      exactly-one = record { outcome = h .answer; ensured = h .says-so; only = λ r e. one r (h .answer) (e ∙ sym (h .says-so)) };
+      only-refuses = λ r e. record { number = λ n p q. h .number n p (sym e ∙ q); left = λ n p q. tt };
+    }
+
+-- ---- an answer, and something lent that is `after` then: an outcome is made of the two
+pub record Made (O R L : Type 0) : Type 0 where
+  pub make : R → L → O
+  pub answer : O → R
+  pub left : O → L
+  pub whole : (o : O) → make (answer o) (left o) ≡ o
+  pub answers : (r : R) (l : L) → answer (make r l) ≡ r
+  pub leaves : (r : R) (l : L) → left (make r l) ≡ l
+
+abbrev pub pair : (R L : Type 0) → Made (R × L) R L
+pair R L = record { make = λ r l. (r, l); answer = λ o. o .0; left = λ o. o .1; whole = λ o. refl; answers = λ r l. refl; leaves = λ r l. refl }
+
+pub lent : {O R L A : Type 0} (made : Made O R L) {says : R → Said A} {numbers : List ℕ} {s : Said A} (Ensured : O → Type 0) (after old : L)
+    → ((o : O) → Ensured o ↔ ((says (made .answer o) ≡ s) × (made .left o ≡ after))) → ((x y : R) → says x ≡ says y → x ≡ y) → Sayable says numbers s
+    → ((n p : ℕ) → s ≡ refuses n p → after ≡ old)
+    → Answered Ensured (λ o. says (made .answer o)) numbers (λ o. made .left o ≡ old)
+lent made {says = says} Ensured after old is one h kept =
+    record {
+      exactly-one =
+          record {
+            outcome = made .make (h .answer) after;
+            ensured = is (made .make (h .answer) after) .1 (ap says (made .answers (h .answer) after) ∙ h .says-so, made .leaves (h .answer) after);
+            only = λ o e.
+                sym (made .whole o) ∙ ap (λ r. made .make r (made .left o)) (one (made .answer o) (h .answer) (is o .0 e .0 ∙ sym (h .says-so)))
+                ∙ ap (made .make (h .answer)) (is o .0 e .1);
+          };
+      only-refuses = λ o e.
+          record { number = λ n p q. h .number n p (sym (is o .0 e .0) ∙ q); left = λ n p q. is o .0 e .1 ∙ kept n p (sym (is o .0 e .0) ∙ q) };
+    }
+
+-- ---- each call
+module _ (bs : List ℕ) (ns : List ℤ) where
+  writes-so : (out : List ℕ) → Sayable saysWrite (13 ∷ 14 ∷ 15 ∷ []) (writes bs ns out)
+  writes-so out =
+      let c = canonical (tablesIn bs ns) in
+      over (Sayable saysWrite (13 ∷ 14 ∷ 15 ∷ [])) bs ns (λ t. fitting (canonical t) (length out))
+      (refusal (writeRefused 13 0) refl (inl refl)) (refusal (writeRefused 14 0) refl (inr (inl refl)))
+      (either (Sayable saysWrite (13 ∷ 14 ∷ 15 ∷ [])) (ltb (length out) (length c)) (refusal (writeRefused 15 (length c)) refl (inr (inr (inl refl)))) (success (Written (length c)) refl))
+
+  pub write : (out : List ℕ)
+      → Answered (λ (o : Write × List ℕ). WriteSays bs ns out (o .0) (o .1)) (λ o. saysWrite (o .0)) (13 ∷ 14 ∷ 15 ∷ []) (λ o. o .1 ≡ out)
+  write out =
+      let c = canonical (tablesIn bs ns) in
+      lent (pair Write (List ℕ)) {says = saysWrite} (λ o. WriteSays bs ns out (o .0) (o .1)) (outputAfter (writes bs ns out) c out) out
+      (λ o. ((λ w. (w .says, w .output-after)), (λ w. record { says = w .0; output-after = w .1 }))) write-same (writes-so out)
+      (λ n p q. ap (λ s. outputAfter s c out) q)
+
+  counts-so : (f : Tables → ℕ) → Sayable saysCount (13 ∷ 14 ∷ []) (counts bs ns f)
+  counts-so f =
+      over (Sayable saysCount (13 ∷ 14 ∷ [])) bs ns (λ t. good (f t)) (refusal (countRefused 13 0) refl (inl refl)) (refusal (countRefused 14 0) refl (inr (inl refl)))
+      (success (Is (f (tablesIn bs ns))) refl)
+
+  pub count : (f : Tables → ℕ) → Answered (CountSays f bs ns) saysCount (13 ∷ 14 ∷ []) Nothing
+  count f = alone count-same (counts-so f)
+
+  totals-so : Sayable saysTotal (13 ∷ 14 ∷ 16 ∷ []) (totals bs ns)
+  totals-so =
+      let t = tablesIn bs ns in
+      over (Sayable saysTotal (13 ∷ 14 ∷ 16 ∷ [])) bs ns (λ t. weighed t (total t))
+      (refusal (totalRefused 13 0) refl (inl refl)) (refusal (totalRefused 14 0) refl (inr (inl refl)))
+      (either (Sayable saysTotal (13 ∷ 14 ∷ 16 ∷ [])) (eqb (lacking t) 0) (success (Millionths (total t)) refl) (refusal (totalRefused 16 (lacking t)) refl (inr (inr (inl refl)))))
+
+  pub totalled : Answered (TotalSays bs ns) saysTotal (13 ∷ 14 ∷ 16 ∷ []) Nothing
+  totalled = alone total-same totals-so
+
+  display : (b : Bool) (m : ℤ) (n : ℕ) → Sayable saysShown (13 ∷ 14 ∷ []) (good (cond b (aMass (daltons m)) (lack n)))
+  display true m n = success (Daltons (daltons m)) refl
+  display false m n = success (Missing n) refl
+
+  shows-so : Sayable saysShown (13 ∷ 14 ∷ []) (shows bs ns)
+  shows-so =
+      let t = tablesIn bs ns in
+      over (Sayable saysShown (13 ∷ 14 ∷ [])) bs ns (λ t. good (cond (eqb (lacking t) 0) (aMass (daltons (total t))) (lack (lacking t))))
+      (refusal (shownRefused 13) refl (inl refl)) (refusal (shownRefused 14) refl (inr (inl refl)))
+      (display (eqb (lacking t) 0) (total t) (lacking t))
+
+  pub shown : Answered (ShownSays bs ns) saysShown (13 ∷ 14 ∷ []) Nothing
+  shown = alone shown-same shows-so
+
+  allows-so : (p : List ℕ) → Sayable saysRequest (13 ∷ 14 ∷ 18 ∷ []) (allows bs ns p)
+  allows-so p =
+      over (Sayable saysRequest (13 ∷ 14 ∷ 18 ∷ [])) bs ns (λ t. cond (allowed (permittedPositions t) p) (good tt) (refuses 18 0))
+      (refusal (requestRefused 13) refl (inl refl)) (refusal (requestRefused 14) refl (inr (inl refl)))
+      (either (Sayable saysRequest (13 ∷ 14 ∷ 18 ∷ [])) (allowed (permittedPositions (tablesIn bs ns)) p) (success Met refl) (refusal (requestRefused 18) refl (inr (inr (inl refl)))))
+
+  pub is-allowed : (p : Placement) → Answered (AllowedSays bs ns p) saysRequest (13 ∷ 14 ∷ 18 ∷ []) Nothing
+  is-allowed p = alone request-same (allows-so (p .at))
+
+  -- what is left to hand out, or 17; 18 before it
+  following-so : (o : Option (List ℕ)) → Sayable saysRequest (13 ∷ 14 ∷ 17 ∷ 18 ∷ []) (met (given o good (refuses 17 0)))
+  following-so none = refusal (requestRefused 17) refl (inr (inr (inl refl)))
+  following-so (some p) = success Met refl
+
+  requested-so : (qs : List (List ℕ)) (l : Listing) → Sayable saysRequest (13 ∷ 14 ∷ 17 ∷ 18 ∷ []) (met (requested qs l))
+  unfolding requested
+  requested-so qs l =
+      either (λ s. Sayable saysRequest (13 ∷ 14 ∷ 17 ∷ 18 ∷ []) (met s)) (takenListing qs l) (following-so (following qs l))
+      (refusal (requestRefused 18) refl (inr (inr (inr (inl refl)))))
+
+  requests-so : (l : Listing) → Sayable saysRequest (13 ∷ 14 ∷ 17 ∷ 18 ∷ []) (met (requests bs ns l))
+  requests-so l =
+      over (λ s. Sayable saysRequest (13 ∷ 14 ∷ 17 ∷ 18 ∷ []) (met s)) bs ns (λ t. requested (permittedPositions t) l)
+      (refusal (requestRefused 13) refl (inl refl)) (refusal (requestRefused 14) refl (inr (inl refl)))
+      (requested-so (permittedPositions (tablesIn bs ns)) l)
+
+  stays : (l : Listing) (n p : ℕ) → met (requests bs ns l) ≡ refuses n p → listingAfter bs ns l ≡ l
+  stays l n p q = ap (movedOn l) (met-refused (requests bs ns l) q)
+
+  pub next-placement : (l : Listing) → Answered (NextSays bs ns l) (λ o. saysRequest (o .request)) (13 ∷ 14 ∷ 17 ∷ 18 ∷ []) (λ o. o .listing ≡ l)
+  next-placement l =
+      lent
+      (record { make = λ r k. record { request = r; listing = k }; answer = λ o. o .request; left = λ o. o .listing; whole = λ o. refl; answers = λ r k. refl; leaves = λ r k. refl })
+      {says = saysRequest} (NextSays bs ns l) (listingAfter bs ns l) l (λ o. ((λ w. w), (λ w. w))) request-same (requests-so l) (stays l)
+
+  pub step : (l : Listing)
+      → Answered (λ (o : Request × Listing). StepSays bs ns l (o .0) (o .1)) (λ o. saysRequest (o .0)) (13 ∷ 14 ∷ 17 ∷ 18 ∷ []) (λ o. o .1 ≡ l)
+  step l =
+      lent (pair Request Listing) {says = saysRequest} (λ o. StepSays bs ns l (o .0) (o .1)) (listingAfter bs ns l) l
+      (λ o. ((λ w. w), (λ w. w))) request-same (requests-so l) (stays l)
+
+  books-so : (p : List ℕ) → Sayable saysBooked (13 ∷ 14 ∷ 16 ∷ 18 ∷ []) (books bs ns p)
+  books-so p =
+      let t = tablesIn bs ns in
+      over (Sayable saysBooked (13 ∷ 14 ∷ 16 ∷ 18 ∷ [])) bs ns (λ t. bookable t p)
+      (refusal (bookedRefused 13 0) refl (inl refl)) (refusal (bookedRefused 14 0) refl (inr (inl refl)))
+      (either (Sayable saysBooked (13 ∷ 14 ∷ 16 ∷ 18 ∷ [])) (eqb (lacking t) 0)
+      (either (Sayable saysBooked (13 ∷ 14 ∷ 16 ∷ 18 ∷ [])) (allowed (permittedPositions t) p) (success Done refl) (refusal (bookedRefused 18 0) refl (inr (inr (inr (inl refl))))))
+      (refusal (bookedRefused 16 (lacking t)) refl (inr (inr (inl refl)))))
+
+  pub ledger : (p : Placement)
+      → Answered (LedgerSays bs ns p) (λ o. saysBooked (o .booked)) (13 ∷ 14 ∷ 16 ∷ 18 ∷ []) (λ o. o .at ≡ replicate positionLimit (pos 0))
+  ledger p =
+      lent
+      (record { make = λ b es. record { booked = b; at = es }; answer = λ o. o .booked; left = λ o. o .at; whole = λ o. refl; answers = λ b es. refl; leaves = λ b es. refl })
+      {says = saysBooked} (LedgerSays bs ns p) (entries (books bs ns (p .at)) (tablesIn bs ns) (p .at)) (replicate positionLimit (pos 0))
+      (λ o. ((λ w. w), (λ w. w))) booked-same (books-so (p .at)) (λ n k q. ap (λ s. entries s (tablesIn bs ns) (p .at)) q)
+
+  rows-so : (room : List Site) → Sayable saysCount (13 ∷ 14 ∷ []) (rowsSaid bs ns room)
+  rows-so room =
+      either (Sayable saysCount (13 ∷ 14 ∷ [])) (ltb (length room) rowLimit) (refusal (countRefused 13 0) refl (inl refl)) (counts-so (λ t. length (rowsOf t)))
+
+  pub rows : (room : List Site)
+      → Answered (λ (o : Count × List Site). RowsSays bs ns room (o .0) (o .1)) (λ o. saysCount (o .0)) (13 ∷ 14 ∷ []) (λ o. o .1 ≡ room)
+  rows room =
+      lent (pair Count (List Site)) {says = saysCount} (λ o. RowsSays bs ns room (o .0) (o .1)) (rowsAfter (rowsSaid bs ns room) (tablesIn bs ns) room) room
+      (λ o. ((λ w. w), (λ w. w))) count-same (rows-so room) (λ n p q. ap (λ s. rowsAfter s (tablesIn bs ns) room) q)
+
+found-so : (o : Option Found) → Sayable saysLookup (13 ∷ 17 ∷ []) (given o good (refuses 17 0))
+found-so none = refusal (lookupRefused 17) refl (inr (inl refl))
+found-so (some x) = success (Row (x .index) (x .position)) refl
+
+pub first-row : (rs : List Site) (n f : ℕ) → Answered (LookupSays rs n f) saysLookup (13 ∷ 17 ∷ []) Nothing
+first-row rs n f =
+    alone lookup-same
+    (either (Sayable saysLookup (13 ∷ 17 ∷ [])) (ltb (length rs) rowLimit) (refusal (lookupRefused 13) refl (inl refl)) (found-so (lookup rs n f)))

@@ -3,7 +3,7 @@ use masses::Weight;
 use masses::as_daltons;
 use masses::ledger_of;
 use masses::weigh;
-use placements::Moved;
+use placements::Next;
 use positions::fill_table;
 use positions::find_floaters;
 use scope::answers::Booked;
@@ -22,9 +22,10 @@ ghost use lib.ListN.{length};
 ghost use Rattle.scope.specs.Tables.{bytesSize, numbersSize, tablesIn};
 ghost use Rattle.scope.specs.Limits.{copyLimit, rowLimit};
 ghost use Rattle.scope.specs.Positions.{floaters, permittedPositions};
-ghost use Rattle.scope.specs.Placements.{allowed, requested};
+ghost use Rattle.scope.specs.Placements.{allowed};
 ghost use Rattle.areas.specs.Bounds.{Bounds};
-ghost use Rattle.scope.specs.Answers.{saysRequest, saysBooked, allows, requests, listingAfter, books, entries, saysCount, saysTotal, saysShown, tooShort, areTables, counts, residueCount, bracketCount, floaterCount, totals, shows};
+ghost use Rattle.placements.specs.Steps.{Moves};
+ghost use Rattle.scope.specs.Answers.{saysRequest, saysBooked, allows, requested, requests, books, entries, saysCount, saysTotal, saysShown, tooShort, areTables, counts, residueCount, bracketCount, floaterCount, totals, shows};
 ghost use Rattle.calls.specs.Held.{whyNot};
 ghost use Rattle.calls.specs.Rows.{RowsReady};
 ghost use Rattle.calls.specs.Writing.{WriteSays};
@@ -185,16 +186,10 @@ pub fn is_allowed(bytes: &[u8], numbers: &[i64], p: Placement) -> Request
     Request::Refused { number: 18 }
 }
 
-// What a request is answered, and the listing after it.
-pub struct Next {
-    pub request: Request,
-    pub listing: Listing,
-}
-
 // A listing moved on by the tables.
-fn moved_by(bytes: &[u8], numbers: &[i64], l: Listing) -> Moved
+fn next_by(bytes: &[u8], numbers: &[i64], l: Listing) -> Next
     requires { ⌜ (Bounds (now bytes) (now numbers)) × (length (floaters (tablesIn (now bytes) (now numbers))) ≤ copyLimit) ⌝ }
-    ensures { λ r. ⌜ (r .number ≡ requested (permittedPositions (tablesIn (now (bytes .entry)) (now (numbers .entry)))) l .number) × (r .listing ≡ requested (permittedPositions (tablesIn (now (bytes .entry)) (now (numbers .entry)))) l .after) ⌝ }
+    ensures { λ r. ⌜ Moves (requested (permittedPositions (tablesIn (now (bytes .entry)) (now (numbers .entry)))) l) l r ⌝ }
 {
     let f = find_floaters(bytes, numbers);
     let mut tab = [0u8; 2048];
@@ -205,7 +200,7 @@ fn moved_by(bytes: &[u8], numbers: &[i64], l: Listing) -> Moved
 
 // "The listing in hand is a small record that each request moves on"
 pub fn next_placement(bytes: &[u8], numbers: &[i64], l: Listing) -> Next
-    ensures { λ r. ⌜ (saysRequest (r .request) ≡ requests (now (bytes .entry)) (now (numbers .entry)) l) × (r .listing ≡ listingAfter (now (bytes .entry)) (now (numbers .entry)) l) ⌝ }
+    ensures { λ r. ⌜ Moves (requests (now (bytes .entry)) (now (numbers .entry)) l) l r ⌝ }
 {
     let why = why_not(bytes, numbers);
     if why != 0 {
@@ -214,19 +209,7 @@ pub fn next_placement(bytes: &[u8], numbers: &[i64], l: Listing) -> Next
             listing: l,
         };
     }
-    let m = moved_by(bytes, numbers, l);
-    let listing = m.listing;
-    let number = m.number;
-    if number != 0 {
-        return Next {
-            request: Request::Refused { number },
-            listing,
-        };
-    }
-    Next {
-        request: Request::Met,
-        listing,
-    }
+    next_by(bytes, numbers, l)
 }
 
 // Whether a ledger is booked: 16 before 18.

@@ -25,10 +25,11 @@ ghost use Rattle.scope.specs.Positions.{floaters, permittedPositions};
 ghost use Rattle.scope.specs.Placements.{allowed};
 ghost use Rattle.areas.specs.Bounds.{Bounds};
 ghost use Rattle.placements.specs.Steps.{Moves};
-ghost use Rattle.scope.specs.Answers.{saysRequest, saysBooked, allows, requested, requests, books, entries, saysCount, saysTotal, saysShown, tooShort, areTables, counts, residueCount, bracketCount, floaterCount, totals, shows};
+ghost use Rattle.scope.specs.Answers.{saysBooked, requested, books, tooShort, residueCount, bracketCount, floaterCount};
 ghost use Rattle.calls.specs.Held.{whyNot};
 ghost use Rattle.calls.specs.Rows.{RowsReady};
 ghost use Rattle.calls.specs.Writing.{WriteSays};
+ghost use Rattle.calls.specs.Says.{CountSays, TotalSays, ShownSays, AllowedSays, NextSays, LedgerSays};
 
 // "a lent area is shorter than its fixed size"
 fn too_short(bytes: &[u8], numbers: &[i64]) -> bool
@@ -83,7 +84,7 @@ pub fn write(bytes: &[u8], numbers: &[i64], out: &mut [u8]) -> Write
 
 // How many residues there are.
 pub fn residue_count(bytes: &[u8], numbers: &[i64]) -> Count
-    ensures { λ r. ⌜ saysCount r ≡ counts (now (bytes .entry)) (now (numbers .entry)) residueCount ⌝ }
+    ensures { λ r. ⌜ CountSays residueCount (now (bytes .entry)) (now (numbers .entry)) r ⌝ }
 {
     let why = why_not(bytes, numbers);
     if why != 0 {
@@ -97,7 +98,7 @@ pub fn residue_count(bytes: &[u8], numbers: &[i64]) -> Count
 
 // How many brackets.
 pub fn bracket_count(bytes: &[u8], numbers: &[i64]) -> Count
-    ensures { λ r. ⌜ saysCount r ≡ counts (now (bytes .entry)) (now (numbers .entry)) bracketCount ⌝ }
+    ensures { λ r. ⌜ CountSays bracketCount (now (bytes .entry)) (now (numbers .entry)) r ⌝ }
 {
     let why = why_not(bytes, numbers);
     if why != 0 {
@@ -111,7 +112,7 @@ pub fn bracket_count(bytes: &[u8], numbers: &[i64]) -> Count
 
 // How many floating copies.
 pub fn floater_count(bytes: &[u8], numbers: &[i64]) -> Count
-    ensures { λ r. ⌜ saysCount r ≡ counts (now (bytes .entry)) (now (numbers .entry)) floaterCount ⌝ }
+    ensures { λ r. ⌜ CountSays floaterCount (now (bytes .entry)) (now (numbers .entry)) r ⌝ }
 {
     let why = why_not(bytes, numbers);
     if why != 0 {
@@ -126,7 +127,7 @@ pub fn floater_count(bytes: &[u8], numbers: &[i64]) -> Count
 
 // The total in millionths.
 pub fn total(bytes: &[u8], numbers: &[i64]) -> Total
-    ensures { λ r. ⌜ saysTotal r ≡ totals (now (bytes .entry)) (now (numbers .entry)) ⌝ }
+    ensures { λ r. ⌜ TotalSays (now (bytes .entry)) (now (numbers .entry)) r ⌝ }
 {
     let why = why_not(bytes, numbers);
     if why != 0 {
@@ -147,7 +148,7 @@ pub fn total(bytes: &[u8], numbers: &[i64]) -> Total
 
 // "either a mass as a double or the number of modifications without one"
 pub fn shown(bytes: &[u8], numbers: &[i64]) -> Shown
-    ensures { λ r. ⌜ saysShown r ≡ shows (now (bytes .entry)) (now (numbers .entry)) ⌝ }
+    ensures { λ r. ⌜ ShownSays (now (bytes .entry)) (now (numbers .entry)) r ⌝ }
 {
     let why = why_not(bytes, numbers);
     if why != 0 {
@@ -174,7 +175,7 @@ fn is_allowed_by(bytes: &[u8], numbers: &[i64], p: Placement) -> bool
 
 // Whether a placement is an allowed one.
 pub fn is_allowed(bytes: &[u8], numbers: &[i64], p: Placement) -> Request
-    ensures { λ r. ⌜ saysRequest r ≡ allows (now (bytes .entry)) (now (numbers .entry)) (p .at) ⌝ }
+    ensures { λ r. ⌜ AllowedSays (now (bytes .entry)) (now (numbers .entry)) p r ⌝ }
 {
     let why = why_not(bytes, numbers);
     if why != 0 {
@@ -200,7 +201,7 @@ fn next_by(bytes: &[u8], numbers: &[i64], l: Listing) -> Next
 
 // "The listing in hand is a small record that each request moves on"
 pub fn next_placement(bytes: &[u8], numbers: &[i64], l: Listing) -> Next
-    ensures { λ r. ⌜ Moves (requests (now (bytes .entry)) (now (numbers .entry)) l) l r ⌝ }
+    ensures { λ r. ⌜ NextSays (now (bytes .entry)) (now (numbers .entry)) l r ⌝ }
 {
     let why = why_not(bytes, numbers);
     if why != 0 {
@@ -243,7 +244,7 @@ fn bookable(bytes: &[u8], numbers: &[i64], p: Placement) -> Booked
 
 // "The ledger of a placement"; on a refusal its entries are zero.
 pub fn ledger(bytes: &[u8], numbers: &[i64], p: Placement) -> Ledger
-    ensures { λ r. ⌜ (saysBooked (r .booked) ≡ books (now (bytes .entry)) (now (numbers .entry)) (p .at)) × (r .at ≡ entries (books (now (bytes .entry)) (now (numbers .entry)) (p .at)) (tablesIn (now (bytes .entry)) (now (numbers .entry))) (p .at)) ⌝ }
+    ensures { λ r. ⌜ LedgerSays (now (bytes .entry)) (now (numbers .entry)) p r ⌝ }
 {
     let b = bookable(bytes, numbers, p);
     match b {

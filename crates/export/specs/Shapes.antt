@@ -59,6 +59,9 @@ pub record Displayed (said : Said Display) (number : ℕ) (mass : Float) (missin
 abbrev pub allowsLent : List ℕ → List ℤ → List ℕ → Said (Unit {0})
 allowsLent bs ns p = cond (ltb (length p) copyLimit) (refuses 13 0) (allows bs ns (take copyLimit p))
 
+abbrev pub AllowedLent : List ℕ → List ℤ → List ℕ → ℕ → Type 0
+AllowedLent bs ns p number = number ≡ numberOf (allowsLent bs ns p)
+
 -- ---- a ledger: its entries are laid into a lent slice, of which a shorter one is refused 13; "A refusal changes no lent" entry
 abbrev pub booksLent : List ℕ → List ℤ → List ℕ → List ℤ → Said (Unit {0})
 booksLent bs ns p old = cond (ltb (length p) copyLimit) (refuses 13 0) (cond (ltb (length old) positionLimit) (refuses 13 0) (books bs ns (take copyLimit p)))

@@ -6,9 +6,9 @@ use scope::answers::Request;
 use scope::answers::Site;
 use scope::tables::Limits;
 ghost use mathlib.Core.Path.{_≡_};
-ghost use Rattle.scope.specs.Answers.{saysCount, saysLookup, saysRequest, looksUp, requests, listingAfter};
+ghost use Rattle.scope.specs.Answers.{saysCount, saysLookup, saysRequest};
 ghost use Rattle.export.specs.Numbers.{numberOf};
-ghost use Rattle.export.specs.Handed.{countIn, indexIn, positionIn, RowsHanded, theLimits};
+ghost use Rattle.export.specs.Handed.{countIn, indexIn, positionIn, RowsHanded, LookedUp, MovedOn, theLimits};
 
 // The number of a request's answer.
 pub fn request_number(r: Request) -> u8
@@ -24,7 +24,7 @@ pub fn request_number(r: Request) -> u8
 // lent.
 #[no_mangle]
 pub extern "C" fn hwemiduk_next(bytes: &[u8], numbers: &[i64], listing: &mut Listing) -> u8
-    ensures { λ r. ⌜ (r ≡ numberOf (requests (now (bytes .entry)) (now (numbers .entry)) (now (listing .entry)))) × (now (listing .exit) ≡ listingAfter (now (bytes .entry)) (now (numbers .entry)) (now (listing .entry))) ⌝ }
+    ensures { λ r. ⌜ MovedOn (now (bytes .entry)) (now (numbers .entry)) (now (listing .entry)) r (now (listing .exit)) ⌝ }
 {
     request_number(listing::step(bytes, numbers, listing))
 }
@@ -96,7 +96,7 @@ pub extern "C" fn hwemiduk_first_row(
     index: &mut usize,
     position: &mut u8,
 ) -> u8
-    ensures { λ r. ⌜ (r ≡ numberOf (looksUp (now (rows .entry)) n floater)) × (now (index .exit) ≡ indexIn (looksUp (now (rows .entry)) n floater)) × (now (position .exit) ≡ positionIn (looksUp (now (rows .entry)) n floater)) ⌝ }
+    ensures { λ r. ⌜ LookedUp (now (rows .entry)) n floater r (now (index .exit)) (now (position .exit)) ⌝ }
 {
     let l = lookup_numbers(rows::first_row(rows, n, floater));
     *index = l.index;

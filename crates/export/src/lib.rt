@@ -4,9 +4,8 @@ mod tables;
 
 use scope::answers::Read;
 ghost use mathlib.Core.Path.{_≡_};
-ghost use Rattle.scope.specs.Refusals.{outcome};
-ghost use Rattle.scope.specs.Answers.{saysRead, saysOutcome};
-ghost use Rattle.export.specs.Numbers.{numberOf, placeOf, Exported};
+ghost use Rattle.scope.specs.Answers.{saysRead};
+ghost use Rattle.export.specs.Numbers.{numberOf, placeOf, Judged, Exported};
 
 // The number of an answer, and its place.
 fn number_of(r: Read) -> u8
@@ -30,7 +29,7 @@ fn place_of(r: Read) -> usize
 // 0 where the line is accepted, else the number of its refusal, with the place in `place`. Takes any bytes.
 #[no_mangle]
 pub extern "C" fn hwemiduk_verdict(line: &[u8], place: &mut usize) -> u8
-    ensures { λ r. ⌜ (r ≡ numberOf (saysOutcome (outcome (now (line .entry))))) × (now (place .exit) ≡ placeOf (saysOutcome (outcome (now (line .entry))))) ⌝ }
+    ensures { λ r. ⌜ Judged (now (line .entry)) r (now (place .exit)) ⌝ }
 {
     let r = verdict::verdict_on(line);
     *place = place_of(r);

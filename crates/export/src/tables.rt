@@ -13,8 +13,7 @@ ghost use Prim.Native.Nat.{_≤_};
 ghost use lib.ListN.{length, take, drop};
 ghost use Rattle.scope.specs.Limits.{copyLimit};
 ghost use Rattle.scope.specs.Answers.{saysCount, saysWrite, saysTotal, saysShown, counts, residueCount, bracketCount, floaterCount, totals, shows};
-ghost use Rattle.export.specs.Numbers.{numberOf};
-ghost use Rattle.export.specs.Shapes.{Counted, Written, Totalled, Displayed, allowsLent, Entered};
+ghost use Rattle.export.specs.Shapes.{Counted, Written, Totalled, Displayed, AllowedLent, Entered};
 
 // A count, handed out.
 fn tell_count(c: Count, count: &mut usize) -> u8
@@ -172,7 +171,7 @@ fn placement_in(s: &[u8]) -> Placement
 // Whether the placement in the first eight entries is an allowed one: 0, or 13, 14, 18.
 #[no_mangle]
 pub extern "C" fn hwemiduk_allowed(bytes: &[u8], numbers: &[i64], placement: &[u8]) -> u8
-    ensures { λ r. ⌜ r ≡ numberOf (allowsLent (now (bytes .entry)) (now (numbers .entry)) (now (placement .entry))) ⌝ }
+    ensures { λ r. ⌜ AllowedLent (now (bytes .entry)) (now (numbers .entry)) (now (placement .entry)) r ⌝ }
 {
     if placement.len() < Placement::COPIES {
         return 13;

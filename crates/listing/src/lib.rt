@@ -5,10 +5,10 @@ use scope::answers::Placement;
 use scope::answers::Request;
 use scope::answers::Site;
 ghost use mathlib.Core.Path.{_≡_};
-ghost use Rattle.scope.specs.Tables.{tablesIn};
-ghost use Rattle.scope.specs.Answers.{saysCount, saysRequest, rowsSaid, rowsAfter, requests, listingAfter};
+ghost use Rattle.scope.specs.Answers.{saysCount};
 ghost use Rattle.calls.specs.Rows.{RowsReady};
 ghost use Rattle.listing.specs.Ready.{floatersOf, countSaid};
+ghost use Rattle.listing.specs.Says.{RowsSays, StepSays};
 
 // What is ready before rows are filled in: 13, 14 or how many floaters there are; that number, 0 on a refusal; and the table of where each may stand.
 struct Ready {
@@ -56,7 +56,7 @@ fn ready_for(bytes: &[u8], numbers: &[i64], room: usize) -> Ready
 
 // The permitted positions as rows, ascending, with their number.
 pub fn rows(bytes: &[u8], numbers: &[i64], room: &mut [Site]) -> Count
-    ensures { λ r. ⌜ (saysCount r ≡ rowsSaid (now (bytes .entry)) (now (numbers .entry)) (now (room .entry))) × (now (room .exit) ≡ rowsAfter (rowsSaid (now (bytes .entry)) (now (numbers .entry)) (now (room .entry))) (tablesIn (now (bytes .entry)) (now (numbers .entry))) (now (room .entry))) ⌝ }
+    ensures { λ r. ⌜ RowsSays (now (bytes .entry)) (now (numbers .entry)) (now (room .entry)) r (now (room .exit)) ⌝ }
 {
     let ready = ready_for(bytes, numbers, room.len());
     let tab = ready.tab;
@@ -66,7 +66,7 @@ pub fn rows(bytes: &[u8], numbers: &[i64], room: &mut [Site]) -> Count
 
 // The listing moved on, in place.
 pub fn step(bytes: &[u8], numbers: &[i64], listing: &mut Listing) -> Request
-    ensures { λ r. ⌜ (saysRequest r ≡ requests (now (bytes .entry)) (now (numbers .entry)) (now (listing .entry))) × (now (listing .exit) ≡ listingAfter (now (bytes .entry)) (now (numbers .entry)) (now (listing .entry))) ⌝ }
+    ensures { λ r. ⌜ StepSays (now (bytes .entry)) (now (numbers .entry)) (now (listing .entry)) r (now (listing .exit)) ⌝ }
 {
     let n = calls::next_placement(bytes, numbers, *listing);
     *listing = n.listing;

@@ -10,10 +10,11 @@ ghost use lib.ListN.{length, getD};
 ghost use Rattle.scope.specs.Limits.{rowLimit, positionLimit};
 ghost use Rattle.scope.specs.Lists.{laid};
 ghost use Rattle.scope.specs.Positions.{rowsFrom};
-ghost use Rattle.scope.specs.Answers.{saysLookup, looksUp};
+ghost use Rattle.scope.specs.Answers.{saysLookup};
 ghost use Rattle.areas.specs.Floats.{listsIn, Sized};
 ghost use Rattle.rows.specs.Places.{onesFrom, siteOf};
 ghost use Rattle.rows.specs.First.{seen, codeOf, BytePositions, boundOf, saysCode};
+ghost use Rattle.rows.specs.Says.{LookupSays};
 
 // The first place from one on whose byte is 1, or the end.
 pub fn next_place(tab: &[u8], from: usize, end: usize) -> usize
@@ -122,7 +123,7 @@ pub fn row_of(code: usize, room: usize) -> Lookup
 
 // "the index (from 0) and the position of a floater's first row among the first so many"
 pub fn first_row(rows: &[Site], n: usize, floater: u8) -> Lookup
-    ensures { λ r. ⌜ saysLookup r ≡ looksUp (now (rows .entry)) n floater ⌝ }
+    ensures { λ r. ⌜ LookupSays (now (rows .entry)) n floater r ⌝ }
 {
     let room = rows.len();
     let m = bound(n, room);

@@ -2,6 +2,7 @@
 use mathlib.Core.Path.{sym}
 use Rattle.scope.specs.Positions.{permittedPositions}
 use Rattle.scope.specs.Answers.{requested}
+use Rattle.placements.specs.Steps.{Moves}
 use Rattle.placements.proofs.Answers.{through, refused}
 use Rattle.calls.proofs.Laws.{refused-law, held, answers}
 use borrow.Author.Needs.{needs}
@@ -12,14 +13,19 @@ why-not-requires : tie.Need-why-not-requires
 why-not-requires c κs = search needs
 
 returns : tie.Need-returns
-returns c = refused (sym (refused-law _ _ (c .before .why-not .ensures) (c .if1 .taken) (λ t. requested (permittedPositions t) (c .before .before .before .args .l))))
+returns c =
+    let l = c .before .before .before .args .l in
+    let m : Moves _ l _ = refused (sym (refused-law _ _ (c .before .why-not .ensures) (c .if1 .taken) (λ t. requested (permittedPositions t) l))) in
+    (m .says, m .listing-after)
 
 next-by-requires : tie.Need-next-by-requires
 next-by-requires c κs = let h = held (c .before .why-not .ensures) (c .if1 .left) in (h .bounds, h .few)
 
 returns-2 : tie.Need-returns-2
 returns-2 c =
-    through (answers (λ t. requested (permittedPositions t) (c .before .before .before .before .args .l)) (held (c .before .before .why-not .ensures) (c .before .if1 .left))) (c .next-by .ensures)
+    let l = c .before .before .before .before .args .l in
+    let m = through (answers (λ t. requested (permittedPositions t) l) (held (c .before .before .why-not .ensures) (c .before .if1 .left))) (c .next-by .ensures) in
+    (m .says, m .listing-after)
 
 pub next-placement-spec : {M : Type 1} → statement M
 next-placement-spec = tie.close (tie.spec why-not-requires returns next-by-requires returns-2)

@@ -4,16 +4,15 @@ use mathlib.Core.Bool.{Bool, true, false, cond, _||_, true≢false}
 use mathlib.Core.List.{List}
 use Prim.Native.Nat.{ℕ, _<_, _≤_}
 use native.Mathlib.Omega.{arith}
-use borrow.Author.Tests.{lt-ltb, le-ltb, ltb-false, ne-eqb}
+use borrow.Author.Tests.{lt-ltb, le-ltb, ltb-false}
 use lib.Dec.{ltb, eqb}
 use lib.IntN.{ℤ}
 use lib.ListN.{length}
 use Rattle.scope.specs.Tables.{Tables, bytesSize, numbersSize, tablesIn}
 use Rattle.scope.specs.Masses.{total, lacking, daltons}
-use Rattle.scope.specs.Placements.{allowed, requested}
+use Rattle.scope.specs.Placements.{allowed}
 use Rattle.scope.specs.Positions.{permittedPositions}
-use Rattle.scope.specs.declared.answers.Listing.{Listing}
-use Rattle.scope.specs.Answers.{saysNumber, requests, listingAfter, allows, bookable, books, entries, Said, good, refuses, Display, aMass, lack, tooShort, areTables, overTables, weighed}
+use Rattle.scope.specs.Answers.{allows, bookable, books, entries, Said, good, refuses, Display, aMass, lack, tooShort, areTables, overTables, weighed}
 use Rattle.layout_laws.specs.Laws.{tables-held}
 use Rattle.laws.specs.Proved.{demands}
 use Rattle.masses.specs.declared.Weight.{Weight}
@@ -108,24 +107,6 @@ allowed-yes t p {r} e y = ap (λ b. cond b (good (tt {0})) (refuses 18 0)) (sym 
 pub allowed-no : (t : Tables) (p : List ℕ) {r : Bool} → r ≡ allowed (permittedPositions t) p → r ≡ false
     → refuses 18 0 ≡ cond (allowed (permittedPositions t) p) (good (tt {0})) (refuses 18 0)
 allowed-no t p {r} e y = ap (λ b. cond b (good (tt {0})) (refuses 18 0)) (sym y ∙ e)
-
-pub listing-kept : (bs : List ℕ) (ns : List ℤ) {w : ℕ} (l : Listing) → w ≡ whyNot bs ns → (w ≡ 0 → ⊥) → l ≡ listingAfter bs ns l
-unfolding whyNot
-listing-kept bs ns {w} l e n = go (tooShort bs ns) (areTables bs ns) e
-  where
-    go : (a b : Bool) → w ≡ numberOf a b → l ≡ cond a l (cond b (requested (permittedPositions (tablesIn bs ns)) l .after) l)
-    go true b q = refl
-    go false true q = absurd (n q)
-    go false false q = refl
-
-pub listing-moved : {bs : List ℕ} {ns : List ℤ} (l : Listing) → Held bs ns → listingAfter bs ns l ≡ requested (permittedPositions (tablesIn bs ns)) l .after
-listing-moved {bs} {ns} l h = rw (h .long, h .tables)
-
-pub met : {n m : ℕ} → n ≡ m → n ≡ 0 → good tt ≡ saysNumber m
-met {n} {m} e z = ap saysNumber (sym z ∙ e)
-
-pub unmet : {n m : ℕ} → n ≡ m → (n ≡ 0 → ⊥) → refuses n 0 ≡ saysNumber m
-unmet {n} {m} e z = rw (sym e) (rw (ne-eqb n 0 z))
 
 -- ---- the ledger
 pub booked-16 : (t : Tables) (p : List ℕ) {w : Weight} {n : ℕ} → w ≡ weightOf t → w ≡ Lacks n → refuses 16 n ≡ bookable t p

@@ -13,7 +13,7 @@ use Rattle.scope.specs.declared.answers.Listing.{Listing}
 use Rattle.scope.specs.declared.answers.Ledger.{Ledger}
 use Rattle.scope.specs.Tables.{Tables, tablesIn}
 use Rattle.scope.specs.Answers.{saysCount, saysTotal, saysShown, saysRequest, saysBooked, met, counts, totals, shows, allows, requests, listingAfter, books, entries}
-use Rattle.calls.specs.declared.Next.{Next}
+use Rattle.placements.specs.declared.Next.{Next}
 
 -- `residue_count`, `bracket_count`, `floater_count`: f of the tables
 abbrev pub CountSays : (Tables → ℕ) → List ℕ → List ℤ → Count → Type 0

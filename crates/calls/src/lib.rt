@@ -3,7 +3,7 @@ use masses::Weight;
 use masses::as_daltons;
 use masses::ledger_of;
 use masses::weigh;
-use placements::Moved;
+use placements::Next;
 use positions::fill_table;
 use positions::find_floaters;
 use scope::answers::Booked;
@@ -22,9 +22,10 @@ ghost use lib.ListN.{length};
 ghost use Rattle.scope.specs.Tables.{bytesSize, numbersSize, tablesIn};
 ghost use Rattle.scope.specs.Limits.{copyLimit, rowLimit};
 ghost use Rattle.scope.specs.Positions.{floaters, permittedPositions};
-ghost use Rattle.scope.specs.Placements.{allowed, requested};
+ghost use Rattle.scope.specs.Placements.{allowed};
 ghost use Rattle.areas.specs.Bounds.{Bounds};
-ghost use Rattle.scope.specs.Answers.{saysBooked, books, tooShort, residueCount, bracketCount, floaterCount};
+ghost use Rattle.placements.specs.Steps.{Moves};
+ghost use Rattle.scope.specs.Answers.{saysBooked, requested, books, tooShort, residueCount, bracketCount, floaterCount};
 ghost use Rattle.calls.specs.Held.{whyNot};
 ghost use Rattle.calls.specs.Rows.{RowsReady};
 ghost use Rattle.calls.specs.Writing.{WriteSays};
@@ -186,16 +187,10 @@ pub fn is_allowed(bytes: &[u8], numbers: &[i64], p: Placement) -> Request
     Request::Refused { number: 18 }
 }
 
-// What a request is answered, and the listing after it.
-pub struct Next {
-    pub request: Request,
-    pub listing: Listing,
-}
-
 // A listing moved on by the tables.
-fn moved_by(bytes: &[u8], numbers: &[i64], l: Listing) -> Moved
+fn next_by(bytes: &[u8], numbers: &[i64], l: Listing) -> Next
     requires { ⌜ (Bounds (now bytes) (now numbers)) × (length (floaters (tablesIn (now bytes) (now numbers))) ≤ copyLimit) ⌝ }
-    ensures { λ r. ⌜ (r .number ≡ requested (permittedPositions (tablesIn (now (bytes .entry)) (now (numbers .entry)))) l .number) × (r .listing ≡ requested (permittedPositions (tablesIn (now (bytes .entry)) (now (numbers .entry)))) l .after) ⌝ }
+    ensures { λ r. ⌜ Moves (requested (permittedPositions (tablesIn (now (bytes .entry)) (now (numbers .entry)))) l) l r ⌝ }
 {
     let f = find_floaters(bytes, numbers);
     let mut tab = [0u8; 2048];
@@ -215,19 +210,7 @@ pub fn next_placement(bytes: &[u8], numbers: &[i64], l: Listing) -> Next
             listing: l,
         };
     }
-    let m = moved_by(bytes, numbers, l);
-    let listing = m.listing;
-    let number = m.number;
-    if number != 0 {
-        return Next {
-            request: Request::Refused { number },
-            listing,
-        };
-    }
-    Next {
-        request: Request::Met,
-        listing,
-    }
+    next_by(bytes, numbers, l)
 }
 
 // Whether a ledger is booked: 16 before 18.

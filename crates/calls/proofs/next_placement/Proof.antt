@@ -1,9 +1,10 @@
 -- `calls::next_placement` meets its contract.
-use mathlib.Core.Path.{sym, ap, _∙_}
+use mathlib.Core.Path.{sym}
 use Rattle.scope.specs.Positions.{permittedPositions}
-use Rattle.scope.specs.Placements.{requested}
-use Rattle.scope.specs.Answers.{saysNumber}
-use Rattle.calls.proofs.Laws.{refused-law, held, answers, listing-kept, listing-moved, met, unmet}
+use Rattle.scope.specs.Answers.{requested}
+use Rattle.placements.specs.Steps.{Moves}
+use Rattle.placements.proofs.Answers.{through, refused}
+use Rattle.calls.proofs.Laws.{refused-law, held, answers}
 use borrow.Author.Needs.{needs}
 use Rattle.calls.proofs.next_placement.Statement.{statement}
 use Rattle.calls.proofs.next_placement.Tie as tie
@@ -12,17 +13,19 @@ why-not-requires : tie.Need-why-not-requires
 why-not-requires c κs = search needs
 
 returns : tie.Need-returns
-returns c = (refused-law _ _ (c .before .why-not .ensures) (c .if1 .taken) (λ t. saysNumber (requested (permittedPositions t) (c .before .before .before .args .l) .number)), listing-kept _ _ _ (c .before .why-not .ensures) (c .if1 .taken))
+returns c =
+    let l = c .before .before .before .args .l in
+    let m : Moves _ l _ = refused (sym (refused-law _ _ (c .before .why-not .ensures) (c .if1 .taken) (λ t. requested (permittedPositions t) l))) in
+    (m .says, m .listing-after)
 
-moved-by-requires : tie.Need-moved-by-requires
-moved-by-requires c κs = let h = (held (c .before .why-not .ensures) (c .if1 .left)) in (h .bounds, h .few)
+next-by-requires : tie.Need-next-by-requires
+next-by-requires c κs = let h = held (c .before .why-not .ensures) (c .if1 .left) in (h .bounds, h .few)
 
 returns-2 : tie.Need-returns-2
-returns-2 c = (unmet (c .before .before .moved-by .ensures .0) (c .if2 .taken) ∙ sym (answers (λ t. saysNumber (requested (permittedPositions t) (c .before .before .before .before .before .before .args .l) .number)) (held (c .before .before .before .before .why-not .ensures) (c .before .before .before .if1 .left))), c .before .before .moved-by .ensures .1 ∙ sym (listing-moved _ (held (c .before .before .before .before .why-not .ensures) (c .before .before .before .if1 .left))))
-
-returns-3 : tie.Need-returns-3
-returns-3 c = (met (c .before .before .moved-by .ensures .0) (c .if2 .left) ∙ sym (answers (λ t. saysNumber (requested (permittedPositions t) (c .before .before .before .before .before .before .args .l) .number)) (held (c .before .before .before .before .why-not .ensures) (c .before .before .before .if1 .left))), c .before .before .moved-by .ensures .1 ∙ sym (listing-moved _ (held (c .before .before .before .before .why-not .ensures) (c .before .before .before .if1 .left))))
+returns-2 c =
+    let l = c .before .before .before .before .args .l in
+    let m = through (answers (λ t. requested (permittedPositions t) l) (held (c .before .before .why-not .ensures) (c .before .if1 .left))) (c .next-by .ensures) in
+    (m .says, m .listing-after)
 
 pub next-placement-spec : {M : Type 1} → statement M
-next-placement-spec =
-    tie.close (tie.spec why-not-requires returns moved-by-requires returns-2 returns-3)
+next-placement-spec = tie.close (tie.spec why-not-requires returns next-by-requires returns-2)

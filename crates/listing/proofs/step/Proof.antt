@@ -49,9 +49,9 @@ use Rattle.scope.proofs.answers.Listing as T
 use Rattle.scope.proofs.answers.Listing.Laws as T′
 use Rattle.scope.proofs.answers.Request as E
 use Rattle.scope.proofs.answers.Request.Laws as E′
-use Rattle.calls.specs.declared.Next.{Next}
-use Rattle.calls.proofs.Next as S
-use Rattle.calls.proofs.Next.Laws as S′
+use Rattle.placements.specs.declared.Next.{Next}
+use Rattle.placements.proofs.Next as S
+use Rattle.placements.proofs.Next.Laws as S′
 use Rattle.calls.proofs.next_placement as next
 use Rattle.calls.proofs.next_placement.Symbol as next-def
 use Rattle.calls.proofs.next_placement.Symbol.{name as #calls·next-placement}

@@ -1,9 +1,10 @@
--- `calls::moved_by` meets its contract.
-use mathlib.Core.Path.{ap, _∙_}
-use Rattle.scope.specs.Placements.{requested}
+-- `calls::next_by` meets its contract.
+use mathlib.Core.Path.{ap, sym}
+use Rattle.scope.specs.Answers.{requested}
+use Rattle.placements.proofs.Answers.{through}
 use borrow.Author.Needs.{needs}
-use Rattle.calls.proofs.moved_by.Statement.{statement}
-use Rattle.calls.proofs.moved_by.Tie as tie
+use Rattle.calls.proofs.next_by.Statement.{statement}
+use Rattle.calls.proofs.next_by.Tie as tie
 
 find-floaters-requires : tie.Need-find-floaters-requires
 find-floaters-requires c κs = search needs
@@ -21,10 +22,10 @@ request-requires : tie.Need-request-requires
 request-requires c κs = search needs
 
 returns : tie.Need-returns
-returns c = (c .request .ensures .0 ∙ ap (λ qs. requested qs (c .before .before .before .before .before .before .before .args .l) .number) (c .before .before .before .fill-table .ensures .table), c .request .ensures .1 ∙ ap (λ qs. requested qs (c .before .before .before .before .before .before .before .args .l) .after) (c .before .before .before .fill-table .ensures .table))
+returns c = through (ap (λ qs. requested qs (c .before .before .before .before .before .before .before .args .l)) (sym (c .before .before .before .fill-table .ensures .table))) (c .request .ensures)
 
-pub moved-by-spec : {M : Type 1} → statement M
-moved-by-spec =
+pub next-by-spec : {M : Type 1} → statement M
+next-by-spec =
     tie.close
     (tie.spec
     find-floaters-requires

@@ -7,7 +7,7 @@ use native.Mathlib.Omega.{arith}
 use borrow.Author.Tests.{eq-eqb, ne-eqb, lt-ltb, le-ltb}
 use lib.Dec.{eqb}
 use lib.ListN.{length}
-use lib.IntN.{ℤ}
+use Rattle.scope.specs.declared.tables.Number.{Number as Kept}
 use Rattle.scope.specs.Bytes.{bar}
 use Rattle.scope.specs.Line.{Value, mass, text, reference, Part}
 use Rattle.scope.specs.Lists.{none?}
@@ -79,10 +79,10 @@ module _ (shut : ℕ) (ref : Bool) (next : ℕ) (s : Parts) (b : ℕ) where
 
 -- ---- values
 module _ (l : List ℕ) (i : ℕ) where
-  pub mass-no : (w : Found-value) (m : ℤ) (d : ℕ) → w ≡ Mass m d → (v : Value ℕ) → ValueIs l i w v → false ≡ isReference v
-  mass-no w m d e v g = go v (rw e at g)
+  pub mass-no : (w : Found-value) (x : Kept) → w ≡ Mass x → (v : Value ℕ) → ValueIs l i w v → false ≡ isReference v
+  mass-no w x e v g = go v (rw e at g)
     where
-      go : (v : Value ℕ) → ValueIs l i (Mass m d) v → false ≡ isReference v
+      go : (v : Value ℕ) → ValueIs l i (Mass x) v → false ≡ isReference v
       go (mass n) z = refl
       go (text t) z = refl
       go reference z = absurd z

@@ -1,5 +1,6 @@
 // A bracket, read while a line is checked.
 use marks::Marks;
+use notes::LABEL;
 use parts::Found;
 use parts::PartRead;
 use parts::Value;
@@ -243,10 +244,7 @@ fn is_reference(value: Value) -> bool
     ensures { λ r. ⌜ ((line : List ℕ) (sign : ℕ) (v : Written ℕ) → ValueIs line sign value v → r ≡ isReference v) ⌝ }
 {
     match value {
-        Value::Mass {
-            millionths: _,
-            decimals: _,
-        } => false,
+        Value::Mass(_) => false,
         Value::Wide => false,
         Value::Text { from: _, to: _ } => false,
         Value::Reference => true,
@@ -270,7 +268,7 @@ fn store(labels: &mut [u16], label: usize, n: usize, from: usize, to: usize)
     if Tables::PARTS <= n {
         return;
     }
-    let k = 2 * (label + n);
+    let k = LABEL * (label + n);
     labels[k] = from as u16;
     labels[k + 1] = to as u16;
 }

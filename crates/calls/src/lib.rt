@@ -64,7 +64,7 @@ pub fn write(bytes: &[u8], numbers: &[i64], out: &mut [u8]) -> Write
             place: 0,
         };
     }
-    let mut line = [0u8; 4096];
+    let mut line = [0u8; Tables::LINE];
     let n = tabled::line_of(bytes, numbers, &mut line);
     if n == 0 {
         return Write::Refused {
@@ -167,7 +167,7 @@ fn is_allowed_by(bytes: &[u8], numbers: &[i64], p: Placement) -> bool
     ensures { λ r. ⌜ r ≡ allowed (permittedPositions (tablesIn (now (bytes .entry)) (now (numbers .entry)))) (p .at) ⌝ }
 {
     let f = find_floaters(bytes, numbers);
-    let mut tab = [0u8; 2048];
+    let mut tab = [0u8; Placement::ROWS];
     fill_table(bytes, numbers, f, &mut tab);
     let k = f.count;
     placements::is_allowed(&tab, k, p)
@@ -193,7 +193,7 @@ fn next_by(bytes: &[u8], numbers: &[i64], l: Listing) -> Next
     ensures { λ r. ⌜ Moves (requested (permittedPositions (tablesIn (now (bytes .entry)) (now (numbers .entry)))) l) l r ⌝ }
 {
     let f = find_floaters(bytes, numbers);
-    let mut tab = [0u8; 2048];
+    let mut tab = [0u8; Placement::ROWS];
     fill_table(bytes, numbers, f, &mut tab);
     let k = f.count;
     placements::request(&tab, k, l)
@@ -248,13 +248,7 @@ pub fn ledger(bytes: &[u8], numbers: &[i64], p: Placement) -> Ledger
 {
     let b = bookable(bytes, numbers, p);
     match b {
-        Booked::Done => {
-            let at = ledger_of(bytes, numbers, p);
-            Ledger {
-                booked: Booked::Done,
-                at,
-            }
-        }
+        Booked::Done => ledger_of(bytes, numbers, p),
         Booked::Refused { number, place } => Ledger {
             booked: Booked::Refused { number, place },
             at: [0; Ledger::POSITIONS],

@@ -3,6 +3,7 @@ use bracketed::BracketAt;
 use bracketed::Bracketed;
 use classes::is_letter;
 use marks::Marks;
+use notes::NOTE;
 use scope::grammar::Act;
 use scope::grammar::Kind;
 use scope::grammar::Mode;
@@ -198,7 +199,7 @@ fn row_stored(
     requires { ⌜ RowFits n place label many × (notesRoom ≤ length (now notes)) ⌝ }
     ensures { λ _. ⌜ now (notes .exit) ≡ sets (now (notes .entry)) (noteSize * n) (place ∷ kind ∷ sort ∷ 1 ∷ 0 ∷ label ∷ many ∷ []) ⌝ }
 {
-    let i = 7 * n;
+    let i = NOTE * n;
     notes[i] = place as u16;
     notes[i + 1] = kind;
     notes[i + 2] = sort;
@@ -305,7 +306,7 @@ fn count_noted(notes: &mut [u16], over: usize, n: usize, value: usize)
     ensures { λ _. ⌜ CountPut over n value (now (notes .entry)) (now (notes .exit)) ⌝ }
 {
     if over == 0 {
-        let i = 7 * n - 4;
+        let i = NOTE * n - 4;
         notes[i] = value as u16;
         notes[i + 1] = 1;
     }
@@ -350,7 +351,7 @@ fn rows_settled(notes: &mut [u16], first: usize, end: usize)
 {
     let mut i = first;
     while i < end {
-        notes[7 * i + 1] = 3;
+        notes[NOTE * i + 1] = 3;
         i += 1;
     }
 }

@@ -49,16 +49,16 @@ module _ {line : List ℕ} {l : Line ℕ} {old : List ℕ} {oldNumbers : List �
   unfolding StateKept
   kept-open = rest-kept line next (inside slot (o .place) (o .held) (begin (contextIn slot []))) l (o .reads) (o .within) (o .settled)
 
-  pub few-residues : s .residues ≤ 254
+  pub few-residues : s .tables .residues ≤ 254
   few-residues = omega (arith, kept-open .held .few-residues, o .counts .residues-are)
 
-  pub few-brackets : s .brackets + 1 ≤ 64
+  pub few-brackets : s .tables .brackets + 1 ≤ 64
   few-brackets = omega (arith, kept-open .few-brackets, o .counts .brackets-are)
 
   pub few-run : s .run < 64
   few-run = omega (arith, few-brackets, o .counts .brackets-are, o .counts .run-is)
 
-  pub first-fits : s .first ≤ s .residues
+  pub first-fits : s .first ≤ s .tables .residues
   first-fits = o .counts .first-few
 
   abbrev pub opening : Opening
@@ -75,7 +75,7 @@ module _ {line : List ℕ} {l : Line ℕ} {old : List ℕ} {oldNumbers : List �
         beyond = drop 320 oldNumbers;
       }
 
-  pub begun : Begun line opening [] next (slot .shut) (slot .refers) (s .brackets) 0 (s .texts) 0 (pos 0)
+  pub begun : Begun line opening [] next (slot .shut) (slot .refers) (s .tables .brackets) 0 (s .tables .texts) 0 (pos 0)
   unfolding flat scoreOf
   begun =
       record {
@@ -93,10 +93,10 @@ module _ {line : List ℕ} {l : Line ℕ} {old : List ℕ} {oldNumbers : List �
         score-mass = refl;
       }
 
-  pub starts : Starts line bytes numbers next (slot .shut) (slot .refers) (s .brackets) 0 (s .texts) 0 (pos 0)
+  pub starts : Starts line bytes numbers next (slot .shut) (slot .refers) (s .tables .brackets) 0 (s .tables .texts) 0 (pos 0)
   starts = record { opening = opening; parts = []; begun = begun; roomy = o .roomy }
 
-  pub laid-open : Laid before [] (s .brackets) (textsIn (o .held)) bytes numbers
+  pub laid-open : Laid before [] (s .tables .brackets) (textsIn (o .held)) bytes numbers
   unfolding flat partRows
   laid-open =
       let h = o .held in
@@ -121,11 +121,11 @@ module _ {line : List ℕ} {l : Line ℕ} {old : List ℕ} {oldNumbers : List �
 
   -- the bracket is put
   pub filled : {kind first last at t : ℕ} {refers : Bool} {bytes′ : List ℕ} {numbers′ : List ℤ} {m : Mode} {run count : ℕ}
-      → kind ≡ kindCode (slot .kind) → first ≡ firstPosition (slot .kind) (s .residues) (s .first) → last ≡ lastPosition (slot .kind) (s .residues)
+      → kind ≡ kindCode (slot .kind) → first ≡ firstPosition (slot .kind) (s .tables .residues) (s .first) → last ≡ lastPosition (slot .kind) (s .tables .residues)
       → run ≡ runAfter (slot .kind) (s .run) → count ≡ countAfter (slot .kind) (s .count) → m ≡ cond refers (slot .referred) (slot .after)
       → BracketPut line opening before next kind first last at t refers bytes′ numbers′ → Roomy bytes′ numbers′
       → FilledOn line l old oldNumbers next
-      (record { at = at; mode = m; residues = s .residues; brackets = s .brackets + 1; texts = t; run = run; first = s .first; count = count }) bytes′ numbers′
+      (record { at = at; mode = m; tables = record { residues = s .tables .residues; brackets = s .tables .brackets + 1; texts = t }; run = run; first = s .first; count = count }) bytes′ numbers′
   filled {kind} {first} {last} {at} {t} {refers} {bytes′} {numbers′} {m} {run} {count} ek ef el er ec em p room =
       let h = o .held in
       let ps = p .parts in

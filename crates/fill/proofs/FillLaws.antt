@@ -119,7 +119,7 @@ module _ {line : List ℕ} {l : Line ℕ} {old : List ℕ} {oldNumbers : List �
 
     -- ---- a residue
     module _ (c : Section) (m : Mode) (e : act (s .mode) b ≡ aResidue c m) where
-      pub residue-fits : (s .residues < 254) × (6782 ≤ length bytes)
+      pub residue-fits : (s .tables .residues < 254) × (6782 ≤ length bytes)
       unfolding perform StateKept
       residue-fits =
           let k : HeldKept (withResidue (s .at) b c (w .held)) = kept-on more b is (aResidue c m) e in
@@ -132,7 +132,7 @@ module _ {line : List ℕ} {l : Line ℕ} {old : List ℕ} {oldNumbers : List �
       first-still UnsureFirst n o h = omega arith
       first-still UnsureNext n o h = omega arith
 
-      pub grows : {bytes′ : List ℕ} → bytes′ ≡ set (set bytes (2 + s .residues) (upper b)) (256 + s .residues) (sectionCode c)
+      pub grows : {bytes′ : List ℕ} → bytes′ ≡ set (set bytes (2 + s .tables .residues) (upper b)) (256 + s .tables .residues) (sectionCode c)
           → FilledOn line l old oldNumbers (s .at) (grown s (s .at + 1) c m) bytes′ numbers
       unfolding perform
       grows {bytes′} f =
@@ -154,21 +154,21 @@ module _ {line : List ℕ} {l : Line ℕ} {old : List ℕ} {oldNumbers : List �
                         texts-are = w .counts .texts-are;
                         run-is = w .counts .run-is;
                         first-is = ap₂ (λ x y. firstOf c (x + 1) y) n (w .counts .first-is);
-                        first-few = first-still c (s .residues) (s .first) (w .counts .first-few);
+                        first-few = first-still c (s .tables .residues) (s .first) (w .counts .first-few);
                         count-is = w .counts .count-is;
                       };
                   bytes-are =
                       f
-                      ∙ ap (λ x. set (set x (2 + s .residues) (upper b)) (256 + s .residues) (sectionCode c)) (w .bytes-are)
+                      ∙ ap (λ x. set (set x (2 + s .tables .residues) (upper b)) (256 + s .tables .residues) (sectionCode c)) (w .bytes-are)
                       ∙ residue-front (lettersFor h) (sectionsFor h)
-                      (padded 0 2176 (rows 0 (allOf h)) ++ (padded 0 4096 (flat bracketTexts (allOf h)) ++ drop 6782 old)) (s .residues) (upper b) (sectionCode c)
+                      (padded 0 2176 (rows 0 (allOf h)) ++ (padded 0 4096 (flat bracketTexts (allOf h)) ++ drop 6782 old)) (s .tables .residues) (upper b) (sectionCode c)
                       (length-map (h .residues) (λ x. x .letter) ∙ n) (length-map (h .residues) (λ x. sectionCode (x .section)) ∙ n) (residue-fits .0)
                       ∙ ap₂ (λ x y. areaWith (frontWith x y) (rows 0 (allOf h)) (flat bracketTexts (allOf h)) (drop 6782 old))
                       (sym (map-append (λ x. x .letter) (h .residues) (r ∷ []))) (sym (map-append (λ x. sectionCode (x .section)) (h .residues) (r ∷ [])));
                   numbers-are = w .numbers-are;
                   roomy =
                       roomy-set
-                      (ap length f ∙ length-set (set bytes (2 + s .residues) (upper b)) (256 + s .residues) (sectionCode c) ∙ length-set bytes (2 + s .residues) (upper b)) (w .roomy);
+                      (ap length f ∙ length-set (set bytes (2 + s .tables .residues) (upper b)) (256 + s .tables .residues) (sectionCode c) ∙ length-set bytes (2 + s .tables .residues) (upper b)) (w .roomy);
                 };
             past = omega arith;
           }
@@ -245,13 +245,13 @@ module _ {line : List ℕ} {l : Line ℕ} {old : List ℕ} {oldNumbers : List �
           size = w .roomy .bytes-long;
         }
 
-    pub term-ends : {bytes′ : List ℕ} → act (s .mode) b ≡ TermEnds → bytes′ ≡ marked bytes (s .brackets - s .run) (s .run) → length bytes′ ≡ length bytes
+    pub term-ends : {bytes′ : List ℕ} → act (s .mode) b ≡ TermEnds → bytes′ ≡ marked bytes (s .tables .brackets - s .run) (s .run) → length bytes′ ≡ length bytes
         → FilledOn line l old oldNumbers (s .at) (runOver s (s .at + 1) Start) bytes′ numbers
     unfolding perform
     term-ends {bytes′} e f n =
         let h = w .held in
         let k = kept-now in
-        let from : s .brackets - s .run ≡ length (h .brackets) = omega (arith, w .counts .run-is, w .counts .brackets-are) in
+        let from : s .tables .brackets - s .run ≡ length (h .brackets) = omega (arith, w .counts .run-is, w .counts .brackets-are) in
         let g : h .brackets ++ h .run ≡ h .brackets ++ (h .run ++ []) = ap (λ x. h .brackets ++ x) (sym (append-nil (h .run))) in
         let i : h .brackets ++ (map asNTerm (h .run) ++ []) ≡ (h .brackets ++ map asNTerm (h .run)) ++ [] = sym (append-assoc (h .brackets) (map asNTerm (h .run)) []) in
         record {

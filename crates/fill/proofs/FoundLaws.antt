@@ -25,15 +25,15 @@ use Rattle.parts.specs.declared.Score.{Score}
 use Rattle.parts.specs.declared.Score.the-variants.{Unscored, Scored, WideScore}
 use Rattle.parts.specs.declared.PartRead.{PartRead}
 use Rattle.parts.specs.Says.{ValueIs, ScoreIs, LabelIs, PartIs}
-use Rattle.fill.specs.Found.{codeOf, decimalsOf, massOf, fromOf, toOf, textLength, textsOf, offsetOf, rowOf, PutsPart, FewDecimals, scoreCodeOf, scoreMassOf, codeAfter, massAfter}
+use Rattle.fill.specs.Found.{codeOf, numberOf, fromOf, toOf, textLength, textsOf, offsetOf, rowOf, PutsPart, FewDecimals, scoreCodeOf, scoreMassOf, codeAfter, massAfter}
 use Rattle.fill.specs.Steps.{refersOf}
 use Rattle.fill.proofs.PutPart.{run-length}
 
 -- ---- a value
 pub record ValueAgrees (line : List ℕ) (v : FoundValue) (x : Value ℕ) : Type 0 where
   pub code : codeOf v ≡ valueCode x
-  pub decimals : decimalsOf v ≡ decimalsIn x
-  pub mass-is : massOf v ≡ massIn x
+  pub decimals : numberOf v .decimals ≡ decimalsIn x
+  pub mass-is : numberOf v .millionths ≡ massIn x
   pub text-is : part (fromOf v) (textLength v) line ≡ textIn x
   pub order : fromOf v ≤ toOf v
   pub inside : fromOf v < toOf v → toOf v ≤ length line
@@ -41,12 +41,12 @@ pub record ValueAgrees (line : List ℕ) (v : FoundValue) (x : Value ℕ) : Type
   pub refers : refersOf v ≡ isReference x
 
 pub value-agrees : (line : List ℕ) (at : ℕ) (v : FoundValue) (x : Value ℕ) (p : Part ℕ) → ValueIs line at v x → ValueWithin p x → ValueAgrees line v x
-value-agrees line at (Mass m d) (mass n) p w k =
-    record { code = refl; decimals = sym (w .2); mass-is = sym (w .1); text-is = refl; order = omega arith; inside = λ h. absurd (omega arith); long = refl; refers = refl }
+value-agrees line at (Mass v) (mass n) p w k =
+    record { code = refl; decimals = sym (ap (λ z. z .decimals) (w .1)); mass-is = sym (ap (λ z. z .millionths) (w .1)); text-is = refl; order = omega arith; inside = λ h. absurd (omega arith); long = refl; refers = refl }
 value-agrees line at Wide (mass n) p w k = absurd (false≢true (sym (w .0) ∙ k .range))
 value-agrees line at (Text a e) (mass n) p w k = absurd w
 value-agrees line at Reference (mass n) p w k = absurd w
-value-agrees line at (Mass m d) (text t) p w k = absurd w
+value-agrees line at (Mass v) (text t) p w k = absurd w
 value-agrees line at Wide (text t) p w k = absurd w
 value-agrees line at (Text a e) (text t) p w k =
     record {
@@ -60,7 +60,7 @@ value-agrees line at (Text a e) (text t) p w k =
       refers = refl;
     }
 value-agrees line at Reference (text t) p w k = absurd w
-value-agrees line at (Mass m d) reference p w k = absurd w
+value-agrees line at (Mass v) reference p w k = absurd w
 value-agrees line at Wide reference p w k = absurd w
 value-agrees line at (Text a e) reference p w k = absurd w
 value-agrees line at Reference reference p w k =
@@ -116,13 +116,13 @@ module _ {line : List ℕ} {r : PartRead} {q : Part ℕ} (w : PartIs line r q) (
       let d = sym (la .long) in
       let e = sym (offset-agrees (packed q) (textLength (r .value) + (r .ends - r .label)) t found-length) in
       let f = ap keyCode (sym (w .key)) in
-      ap (λ o. codeOf (r .value) ∷ keyCode (r .key) ∷ decimalsOf (r .value) ∷ textLength (r .value) ∷ (r .ends - r .label) ∷ o % 256 ∷ o / 256 ∷ []) e
-      ∙ ap (λ x. codeOf (r .value) ∷ keyCode (r .key) ∷ decimalsOf (r .value) ∷ textLength (r .value) ∷ x ∷ offset (packed q) t % 256 ∷ offset (packed q) t / 256 ∷ []) d
-      ∙ ap (λ x. codeOf (r .value) ∷ keyCode (r .key) ∷ decimalsOf (r .value) ∷ x ∷ length (labelOf q) ∷ offset (packed q) t % 256 ∷ offset (packed q) t / 256 ∷ []) c
+      ap (λ o. codeOf (r .value) ∷ keyCode (r .key) ∷ numberOf (r .value) .decimals ∷ textLength (r .value) ∷ (r .ends - r .label) ∷ o % 256 ∷ o / 256 ∷ []) e
+      ∙ ap (λ x. codeOf (r .value) ∷ keyCode (r .key) ∷ numberOf (r .value) .decimals ∷ textLength (r .value) ∷ x ∷ offset (packed q) t % 256 ∷ offset (packed q) t / 256 ∷ []) d
+      ∙ ap (λ x. codeOf (r .value) ∷ keyCode (r .key) ∷ numberOf (r .value) .decimals ∷ x ∷ length (labelOf q) ∷ offset (packed q) t % 256 ∷ offset (packed q) t / 256 ∷ []) c
       ∙ ap (λ x. codeOf (r .value) ∷ keyCode (r .key) ∷ x ∷ length (textOf q) ∷ length (labelOf q) ∷ offset (packed q) t % 256 ∷ offset (packed q) t / 256 ∷ []) b
       ∙ ap₂ (λ x y. x ∷ y ∷ decimalsIn (q .value) ∷ length (textOf q) ∷ length (labelOf q) ∷ offset (packed q) t % 256 ∷ offset (packed q) t / 256 ∷ []) a f
 
-  pub found-mass : massOf (r .value) ≡ massIn (q .value)
+  pub found-mass : numberOf (r .value) .millionths ≡ massIn (q .value)
   found-mass = va .mass-is
 
   pub found-refers : refersOf (r .value) ≡ isReference (q .value)
@@ -148,10 +148,10 @@ module _ {line : List ℕ} {r : PartRead} {q : Part ℕ} (w : PartIs line r q) (
 pub score-agrees : (at : ℕ) (s : Score) (o : Option (Number ℕ)) → ScoreIs at s o → OfGiven NumberWithin o
     → FewDecimals s × (scoreCodeOf s ≡ scoreCode o) × (scoreMassOf s ≡ given o millionths (pos 0))
 score-agrees at Unscored none w k = (tt, refl, refl)
-score-agrees at (Scored m d) none w k = absurd w
+score-agrees at (Scored v) none w k = absurd w
 score-agrees at WideScore none w k = absurd w
 score-agrees at Unscored (some n) w k = absurd w
-score-agrees at (Scored m d) (some n) w k = (omega (arith, w .2, few-decimals n k), ap (λ x. x + 1) (sym (w .2)), sym (w .1))
+score-agrees at (Scored v) (some n) w k = (rw (← w .1) (few-decimals n k), ap (λ z. z .decimals + 1) (sym (w .1)), ap (λ z. z .millionths) (sym (w .1)))
 score-agrees at WideScore (some n) w k = absurd (false≢true (sym (w .0) ∙ k .range))
 
 pub scoreIn : Option (Label ℕ) → Option (Number ℕ)

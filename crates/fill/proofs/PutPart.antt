@@ -14,7 +14,7 @@ use Rattle.scope.specs.declared.grammar.Key.{Key}
 use Rattle.scope.specs.Keys.{keyCode}
 use Rattle.scope.specs.Lists.{part}
 use Rattle.parts.specs.declared.Value.{Value}
-use Rattle.fill.specs.Found.{Copies, codeOf, decimalsOf, massOf, fromOf, toOf, textLength, textsOf, offsetOf, rowOf, PutsPart, PartPut}
+use Rattle.fill.specs.Found.{Copies, codeOf, numberOf, fromOf, toOf, textLength, textsOf, offsetOf, rowOf, PutsPart, PartPut}
 use Rattle.fill.proofs.Stores.{sets-append, part-length}
 
 -- so many bytes from one place to another
@@ -38,9 +38,9 @@ module _ {line bytes : List ℕ} {numbers : List ℤ} {v : Value} {label ends at
       → b₁ ≡ sets bytes (2686 + t) (part from (to - from) line)
       → b₂ ≡ sets b₁ (2686 + t + (to - from)) (part label (ends - label) line)
       → o ≡ offsetOf (to - from + (ends - label)) t
-      → a ≡ codeOf v → k ≡ keyCode key → d ≡ decimalsOf v
+      → a ≡ codeOf v → k ≡ keyCode key → d ≡ numberOf v .decimals
       → b₃ ≡ sets b₂ at (a ∷ k ∷ d ∷ (to - from) ∷ (ends - label) ∷ (o % 256) ∷ (o / 256) ∷ [])
-      → x ≡ massOf v
+      → x ≡ numberOf v .millionths
       → PartPut line bytes numbers v key label ends at number t (t + (to - from) + (ends - label)) b₃ (set numbers number x)
   part-put key e₁ e₂ eo ea ek ed e₃ ex =
       let long = run-length (fromOf v) (toOf v) line (h .text-order) (h .text-inside) in

@@ -31,7 +31,7 @@ use Rattle.basics.specs.Tests.{and-left, and-right}
 use Rattle.fill.specs.declared.Parted.{Parted}
 use Rattle.fill.specs.declared.Step.{Step}
 use Rattle.fill.specs.declared.Step.the-variants.{Lost, More, Closed as Shut}
-use Rattle.fill.specs.Found.{textLength, textsOf, rowOf, massOf, codeAfter, massAfter, PartPut}
+use Rattle.fill.specs.Found.{textLength, textsOf, rowOf, codeAfter, massAfter, PartPut}
 use Rattle.fill.specs.Steps.{refersOf, rowPlace, massPlace, FoundFits, partedOf, stepOf, FoundPut, Opening, contextIn, bracketsIn, textsIn, Begun, Roomy, PartStored, Stepped, ClosedBy, StepSays}
 use Rattle.fill.specs.States.{Settled}
 use Rattle.fill.proofs.Bounded.{HeldKept, PartsKept, StateKept, Closed, closed-kept, each-right}

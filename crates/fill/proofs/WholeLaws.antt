@@ -82,20 +82,20 @@ numbers-held h old e = ap (λ ks. padded (pos 0) 320 (flat numberRow ks) ++ drop
 
 module _ {line : List ℕ} {l : Line ℕ} {old : List ℕ} {oldNumbers : List ℤ} {s : Progress} {bytes : List ℕ} {numbers : List ℤ}
     (w : Filling line l old oldNumbers s bytes numbers) where
-  pub small-counts : (s .residues ≤ 254) × (s .brackets ≤ 64)
+  pub small-counts : (s .tables .residues ≤ 254) × (s .tables .brackets ≤ 64)
   small-counts =
       let k = kept-now w in
       (omega (arith, k .few-residues, w .counts .residues-are), omega (arith, k .few-brackets, w .counts .brackets-are))
 
-  pub end-fills : length line ≤ s .at → FilledAll old oldNumbers (set (set bytes 0 (s .residues)) 1 (s .brackets)) numbers l
+  pub end-fills : length line ≤ s .at → FilledAll old oldNumbers (set (set bytes 0 (s .tables .residues)) 1 (s .tables .brackets)) numbers l
   end-fills over =
       let h = w .held in
       let e = ends-as (length line) (s .mode) h l (sym (rest-end line (s .at) (outside (s .mode) h) over) ∙ w .reads) in
       let n = none-waits (s .mode) h l (w .settled) e in
-      let k : length (h .brackets) ≡ s .brackets = omega (arith, w .counts .brackets-are, ap length n) in
+      let k : length (h .brackets) ≡ s .tables .brackets = omega (arith, w .counts .brackets-are, ap length n) in
       record {
         bytes-are =
-            ap₂ (λ x y. set (set x 0 (s .residues)) 1 y) (w .bytes-are) (sym k)
+            ap₂ (λ x y. set (set x 0 (s .tables .residues)) 1 y) (w .bytes-are) (sym k)
             ∙ ap (λ x. set (set (bytesFor h old) 0 x) 1 (length (h .brackets))) (sym (w .counts .residues-are))
             ∙ bytes-held h old n
             ∙ ap (λ x. bytesOf x ++ drop 6782 old) (e .line)

@@ -56,12 +56,12 @@ countIn (k ∷ []) = countOf k
 countIn (k ∷ j ∷ ks) = countIn (j ∷ ks)
 
 pub record Counts (h : Held ℕ) (s : Progress) : Type 0 where
-  pub residues-are : length (h .residues) ≡ s .residues
-  pub brackets-are : bracketsIn h ≡ s .brackets
-  pub texts-are : textsIn h ≡ s .texts
+  pub residues-are : length (h .residues) ≡ s .tables .residues
+  pub brackets-are : bracketsIn h ≡ s .tables .brackets
+  pub texts-are : textsIn h ≡ s .tables .texts
   pub run-is : length (h .run) ≡ s .run
   pub first-is : h .first ≡ s .first
-  pub first-few : s .first ≤ s .residues
+  pub first-few : s .first ≤ s .tables .residues
   pub count-is : countIn (h .run) ≡ s .count
 
 pub record Filling (line : List ℕ) (l : Line ℕ) (old : List ℕ) (oldNumbers : List ℤ) (s : Progress) (bytes : List ℕ) (numbers : List ℤ) : Type 0 where
@@ -124,27 +124,25 @@ pub record RunOn (line : List ℕ) (s : Progress) (bytes : List ℕ) (r : Progre
 -- ---- the steps outside brackets
 abbrev pub moved : Progress → ℕ → Mode → Progress
 moved s next m =
-    record { at = next; mode = m; residues = s .residues; brackets = s .brackets; texts = s .texts; run = s .run; first = s .first; count = s .count }
+    record { at = next; mode = m; tables = s .tables; run = s .run; first = s .first; count = s .count }
 
 abbrev pub grown : Progress → ℕ → Section → Mode → Progress
 grown s next c m =
     record {
       at = next;
       mode = m;
-      residues = s .residues + 1;
-      brackets = s .brackets;
-      texts = s .texts;
+      tables = record { residues = s .tables .residues + 1; brackets = s .tables .brackets; texts = s .tables .texts };
       run = s .run;
-      first = firstOf c (s .residues + 1) (s .first);
+      first = firstOf c (s .tables .residues + 1) (s .first);
       count = s .count;
     }
 
 abbrev pub runOver : Progress → ℕ → Mode → Progress
-runOver s next m = record { at = next; mode = m; residues = s .residues; brackets = s .brackets; texts = s .texts; run = 0; first = s .first; count = 0 }
+runOver s next m = record { at = next; mode = m; tables = s .tables; run = 0; first = s .first; count = 0 }
 
 abbrev pub countedTo : Progress → ℕ → Mode → ℕ → Progress
 countedTo s next m c =
-    record { at = next; mode = m; residues = s .residues; brackets = s .brackets; texts = s .texts; run = s .run; first = s .first; count = c }
+    record { at = next; mode = m; tables = s .tables; run = s .run; first = s .first; count = c }
 
 -- brackets from one to another are N-terminal
 unfoldable pub marked : List ℕ → ℕ → ℕ → List ℕ
@@ -170,8 +168,8 @@ countAfter CTerm n = n
 -- a digit of the count of the last bracket that waits, where one waits
 pub record DigitFits (bytes : List ℕ) (s : Progress) (b : ℕ) : Type 0 where
   pub digit : 48 ≤ b
-  pub few-run : s .run ≤ s .brackets
-  pub few-brackets : s .brackets ≤ 64
+  pub few-run : s .run ≤ s .tables .brackets
+  pub few-brackets : s .tables .brackets ≤ 64
   pub count : (s .run ≡ 0 → ⊥) → s .count * 10 + (b - 48) ≤ 99
   pub size : 6782 ≤ length bytes
 
@@ -179,16 +177,16 @@ abbrev pub nextCount : Progress → ℕ → ℕ
 nextCount s b = cond (eqb (s .run) 0) (s .count) (s .count * 10 + (b - 48))
 
 abbrev pub countPut : List ℕ → Progress → ℕ → List ℕ
-countPut bytes s b = cond (eqb (s .run) 0) bytes (set bytes (510 + (s .brackets - 1) * 34 + 3) (s .count * 10 + (b - 48)))
+countPut bytes s b = cond (eqb (s .run) 0) bytes (set bytes (510 + (s .tables .brackets - 1) * 34 + 3) (s .count * 10 + (b - 48)))
 
 pub record TermsFit (bytes : List ℕ) (s : Progress) : Type 0 where
-  pub few-run : s .run ≤ s .brackets
-  pub few-brackets : s .brackets ≤ 64
+  pub few-run : s .run ≤ s .tables .brackets
+  pub few-brackets : s .tables .brackets ≤ 64
   pub size : 6782 ≤ length bytes
 
 -- nothing is read yet
 abbrev pub fresh : Progress
-fresh = record { at = 0; mode = Front; residues = 0; brackets = 0; texts = 0; run = 0; first = 0; count = 0 }
+fresh = record { at = 0; mode = Front; tables = record { residues = 0; brackets = 0; texts = 0 }; run = 0; first = 0; count = 0 }
 
 -- ---- the contract of fill
 pub record Fills (line bytes : List ℕ) (numbers : List ℤ) : Type 0 where

@@ -8,6 +8,7 @@ use lib.IntN.{ℤ, pos}
 use lib.ListN.{length, set}
 use lib.Seq.{sets}
 use Rattle.scope.specs.declared.grammar.Key.{Key}
+use Rattle.scope.specs.declared.tables.Number.{Number}
 use Rattle.scope.specs.Keys.{keyCode}
 use Rattle.scope.specs.Lists.{part}
 use Rattle.parts.specs.declared.Value.{Value}
@@ -23,31 +24,29 @@ pub record Copies (bytes : List ℕ) (to : ℕ) (line : List ℕ) (from end : �
 
 -- ---- a value
 abbrev pub codeOf : Value → ℕ
-codeOf (Mass m d) = 1
+codeOf (Mass n) = 1
 codeOf Wide = 1
 codeOf (Text a e) = 2
 codeOf Reference = 3
 
-abbrev pub decimalsOf : Value → ℕ
-decimalsOf (Mass m d) = d
-decimalsOf Wide = 0
-decimalsOf (Text a e) = 0
-decimalsOf Reference = 0
+-- its mass, zero where it has none
+abbrev nought : Number
+nought = record { millionths = pos 0; decimals = 0 }
 
-abbrev pub massOf : Value → ℤ
-massOf (Mass m d) = m
-massOf Wide = pos 0
-massOf (Text a e) = pos 0
-massOf Reference = pos 0
+abbrev pub numberOf : Value → Number
+numberOf (Mass n) = n
+numberOf Wide = nought
+numberOf (Text a e) = nought
+numberOf Reference = nought
 
 abbrev pub fromOf : Value → ℕ
-fromOf (Mass m d) = 0
+fromOf (Mass n) = 0
 fromOf Wide = 0
 fromOf (Text a e) = a
 fromOf Reference = 0
 
 abbrev pub toOf : Value → ℕ
-toOf (Mass m d) = 0
+toOf (Mass n) = 0
 toOf Wide = 0
 toOf (Text a e) = e
 toOf Reference = 0
@@ -65,7 +64,7 @@ offsetOf n t = cond (eqb n 0) 0 t
 
 abbrev pub rowOf : ℕ → Value → Key → ℕ → ℕ → List ℕ
 rowOf t v key label ends =
-    codeOf v ∷ keyCode key ∷ decimalsOf v ∷ textLength v ∷ (ends - label)
+    codeOf v ∷ keyCode key ∷ numberOf v .decimals ∷ textLength v ∷ (ends - label)
     ∷ offsetOf (textLength v + (ends - label)) t % 256 ∷ offsetOf (textLength v + (ends - label)) t / 256 ∷ []
 
 -- the part's row at a place, its mass at a place, its texts behind t others
@@ -84,22 +83,22 @@ pub record PutsPart (line bytes : List ℕ) (numbers : List ℤ) (v : Value) (la
 pub record PartPut (line bytes : List ℕ) (numbers : List ℤ) (v : Value) (key : Key) (label ends at number t r : ℕ) (bytes′ : List ℕ) (numbers′ : List ℤ) : Type 0 where
   pub next : r ≡ t + (textLength v + (ends - label))
   pub bytes-are : bytes′ ≡ sets (sets bytes (2686 + t) (textsOf line v label ends)) at (rowOf t v key label ends)
-  pub numbers-are : numbers′ ≡ set numbers number (massOf v)
+  pub numbers-are : numbers′ ≡ set numbers number (numberOf v .millionths)
 
 -- ---- a score: what there is before goes first
 abbrev pub FewDecimals : Score → Type 0
 FewDecimals Unscored = Unit {0}
-FewDecimals (Scored m d) = d ≤ 6
+FewDecimals (Scored n) = n .decimals ≤ 6
 FewDecimals WideScore = Unit {0}
 
 abbrev pub scoreCodeOf : Score → ℕ
 scoreCodeOf Unscored = 0
-scoreCodeOf (Scored m d) = d + 1
+scoreCodeOf (Scored n) = n .decimals + 1
 scoreCodeOf WideScore = 0
 
 abbrev pub scoreMassOf : Score → ℤ
 scoreMassOf Unscored = pos 0
-scoreMassOf (Scored m d) = m
+scoreMassOf (Scored n) = n .millionths
 scoreMassOf WideScore = pos 0
 
 abbrev pub codeAfter : ℕ → Score → ℕ

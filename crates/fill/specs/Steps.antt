@@ -21,12 +21,12 @@ use Rattle.parts.specs.declared.PartRead.{PartRead}
 use Rattle.fill.specs.declared.Parted.{Parted}
 use Rattle.fill.specs.declared.Step.{Step}
 use Rattle.fill.specs.declared.Step.the-variants.{Lost, More, Closed}
-use Rattle.fill.specs.Found.{textLength, textsOf, rowOf, massOf, PutsPart, FewDecimals, codeAfter, massAfter}
+use Rattle.fill.specs.Found.{textLength, textsOf, rowOf, numberOf, PutsPart, FewDecimals, codeAfter, massAfter}
 use Rattle.fill.specs.States.{Settled}
 
 -- ---- a part that was found
 abbrev pub refersOf : Value → Bool
-refersOf (Mass m d) = false
+refersOf (Mass n) = false
 refersOf Wide = false
 refersOf (Text a e) = false
 refersOf Reference = true
@@ -62,7 +62,7 @@ stepOf line p shut t code mass =
 pub record FoundPut (line bytes : List ℕ) (numbers : List ℤ) (p : PartRead) (shut k j t code : ℕ) (mass : ℤ) (r : Step) (bytes′ : List ℕ) (numbers′ : List ℤ) : Type 0 where
   pub step : r ≡ stepOf line p shut t code mass
   pub bytes-are : bytes′ ≡ sets (sets bytes (2686 + t) (textsOf line (p .value) (p .label) (p .ends))) (rowPlace k j) (rowOf t (p .value) (p .key) (p .label) (p .ends))
-  pub numbers-are : numbers′ ≡ set numbers (massPlace k j) (massOf (p .value))
+  pub numbers-are : numbers′ ≡ set numbers (massPlace k j) (numberOf (p .value) .millionths)
 
 -- ---- a bracket of which some parts are read
 -- what stays while it is read

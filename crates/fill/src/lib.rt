@@ -9,6 +9,7 @@ use scope::grammar::Kind;
 use scope::grammar::Mode;
 use scope::grammar::Section;
 use scope::grammar::Slot;
+use scope::tables::Number;
 use scope::tables::Tables;
 ghost use mathlib.Core.Path.{_≡_};
 ghost use Prim.Native.Nat.{ℕ, _+_, _-_, _*_, _/_, _%_, _<_, _≤_};
@@ -28,7 +29,7 @@ ghost use Rattle.scope.specs.Reading.{firstOf, firstPosition, lastPosition};
 ghost use Rattle.scope.specs.Refusals.{outcome, accepted};
 ghost use Rattle.fill.specs.Filled.{SomeFilling, Filling, SomeOpened, Opened, FilledOn, SomeRun, RunOn, moved, grown, runOver, countedTo, marked, runAfter, countAfter, DigitFits, nextCount, countPut, TermsFit, Fills, FilledAll, fresh};
 ghost use Rattle.fill.specs.Areas.{Before, Laid, CloseFits, HeadPut, PutSays};
-ghost use Rattle.fill.specs.Found.{Copies, codeOf, decimalsOf, massOf, fromOf, toOf, offsetOf, PutsPart, PartPut, FewDecimals, scoreCodeOf, scoreMassOf, codeAfter, massAfter};
+ghost use Rattle.fill.specs.Found.{Copies, codeOf, numberOf, fromOf, toOf, offsetOf, PutsPart, PartPut, FewDecimals, scoreCodeOf, scoreMassOf, codeAfter, massAfter};
 
 // What there is behind a part of a bracket: the place, the bytes of texts, the score of the bracket (0, or one more than its decimals) with its
 // millionths, and whether the part is a reference.
@@ -57,14 +58,12 @@ pub enum Put {
     },
 }
 
-// How far the line is read: the place and the mode; how many residues, brackets and bytes of texts there are; how many brackets at the front wait for
-// their kind; where the group began; the count so far of the last bracket that waits.
+// How far the line is read: the place and the mode; what the tables hold; how many brackets at the front wait for their kind; where the group began; the
+// count so far of the last bracket that waits.
 pub struct Progress {
     pub at: usize,
     pub mode: Mode,
-    pub residues: usize,
-    pub brackets: usize,
-    pub texts: usize,
+    pub tables: Tables,
     pub run: usize,
     pub first: usize,
     pub count: usize,
@@ -106,8 +105,8 @@ pub fn clear(bytes: &mut [u8], numbers: &mut [i64])
     requires { ⌜ (bytesSize ≤ length (now bytes)) × (numbersSize ≤ length (now numbers)) ⌝ }
     ensures { λ _. ⌜ (now (bytes .exit) ≡ replicate bytesSize 0 ++ drop bytesSize (now (bytes .entry))) × (now (numbers .exit) ≡ replicate numbersSize (pos 0) ++ drop numbersSize (now (numbers .entry))) ⌝ }
 {
-    zero_bytes(bytes, 6782);
-    zero_numbers(numbers, 320);
+    zero_bytes(bytes, Tables::BYTES);
+    zero_numbers(numbers, Tables::NUMBERS);
 }
 
 // ---- bytes of the line
@@ -159,41 +158,22 @@ fn value_code(value: Value) -> u8
     ensures { λ r. ⌜ r ≡ codeOf value ⌝ }
 {
     match value {
-        Value::Mass {
-            millionths: _,
-            decimals: _,
-        } => 1,
+        Value::Mass(_) => 1,
         Value::Wide => 1,
         Value::Text { from: _, to: _ } => 2,
         Value::Reference => 3,
     }
 }
 
-fn value_decimals(value: Value) -> u8
-    ensures { λ r. ⌜ r ≡ decimalsOf value ⌝ }
+// Its mass, zero where it has none.
+fn value_number(value: Value) -> Number
+    ensures { λ r. ⌜ r ≡ numberOf value ⌝ }
 {
     match value {
-        Value::Mass {
-            millionths: _,
-            decimals,
-        } => decimals,
-        Value::Wide => 0,
-        Value::Text { from: _, to: _ } => 0,
-        Value::Reference => 0,
-    }
-}
-
-fn value_mass(value: Value) -> i64
-    ensures { λ r. ⌜ r ≡ massOf value ⌝ }
-{
-    match value {
-        Value::Mass {
-            millionths,
-            decimals: _,
-        } => millionths,
-        Value::Wide => 0,
-        Value::Text { from: _, to: _ } => 0,
-        Value::Reference => 0,
+        Value::Mass(n) => n,
+        Value::Wide => Number::zero(),
+        Value::Text { from: _, to: _ } => Number::zero(),
+        Value::Reference => Number::zero(),
     }
 }
 
@@ -201,10 +181,7 @@ fn text_start(value: Value) -> usize
     ensures { λ r. ⌜ r ≡ fromOf value ⌝ }
 {
     match value {
-        Value::Mass {
-            millionths: _,
-            decimals: _,
-        } => 0,
+        Value::Mass(_) => 0,
         Value::Wide => 0,
         Value::Text { from, to: _ } => from,
         Value::Reference => 0,
@@ -215,10 +192,7 @@ fn text_stop(value: Value) -> usize
     ensures { λ r. ⌜ r ≡ toOf value ⌝ }
 {
     match value {
-        Value::Mass {
-            millionths: _,
-            decimals: _,
-        } => 0,
+        Value::Mass(_) => 0,
         Value::Wide => 0,
         Value::Text { from: _, to } => to,
         Value::Reference => 0,
@@ -272,18 +246,20 @@ fn put_part(
     copy(bytes, Tables::TEXTS + t, line, from, to);
     copy(bytes, Tables::TEXTS + t + n, line, label, ends);
     let o = offset_of(n + m, t);
+    let v = value_number(value);
     put_row(
         bytes,
         at,
         value_code(value),
         keywords::key_code(key),
-        value_decimals(value),
+        v.decimals,
         n as u8,
         m as u8,
         (o % 256) as u8,
         (o / 256) as u8,
     );
-    numbers[number] = value_mass(value);
+    let mass = v.millionths;
+    numbers[number] = mass;
     t + n + m
 }
 
@@ -295,10 +271,7 @@ fn new_code(score: Score) -> u8
 {
     match score {
         Score::Unscored => 0,
-        Score::Scored {
-            millionths: _,
-            decimals,
-        } => decimals + 1,
+        Score::Scored(n) => n.decimals + 1,
         Score::WideScore => 0,
     }
 }
@@ -308,10 +281,7 @@ fn new_mass(score: Score) -> i64
 {
     match score {
         Score::Unscored => 0,
-        Score::Scored {
-            millionths,
-            decimals: _,
-        } => millionths,
+        Score::Scored(n) => n.millionths,
         Score::WideScore => 0,
     }
 }
@@ -339,10 +309,7 @@ fn is_reference(value: Value) -> bool
     ensures { λ r. ⌜ r ≡ refersOf value ⌝ }
 {
     match value {
-        Value::Mass {
-            millionths: _,
-            decimals: _,
-        } => false,
+        Value::Mass(_) => false,
         Value::Wide => false,
         Value::Text { from: _, to: _ } => false,
         Value::Reference => true,
@@ -610,12 +577,11 @@ fn mode_after(slot: Slot, refers: bool) -> Mode
 fn go(s: Progress, next: usize, mode: Mode) -> Progress
     ensures { λ r. ⌜ r ≡ moved s next mode ⌝ }
 {
+    let tables = s.tables;
     Progress {
         at: next,
         mode,
-        residues: s.residues,
-        brackets: s.brackets,
-        texts: s.texts,
+        tables,
         run: s.run,
         first: s.first,
         count: s.count,
@@ -625,12 +591,11 @@ fn go(s: Progress, next: usize, mode: Mode) -> Progress
 fn run_over(s: Progress, next: usize, mode: Mode) -> Progress
     ensures { λ r. ⌜ r ≡ runOver s next mode ⌝ }
 {
+    let tables = s.tables;
     Progress {
         at: next,
         mode,
-        residues: s.residues,
-        brackets: s.brackets,
-        texts: s.texts,
+        tables,
         run: 0,
         first: s.first,
         count: 0,
@@ -646,19 +611,23 @@ fn put_residue(
     section: Section,
     mode: Mode,
 ) -> Progress
-    requires { ⌜ (s .residues < 254) × (6782 ≤ length (now bytes)) ⌝ }
-    ensures { λ r. ⌜ (r ≡ grown s next section mode) × (now (bytes .exit) ≡ set (set (now (bytes .entry)) (2 + s .residues) (upper b)) (256 + s .residues) (sectionCode section)) ⌝ }
+    requires { ⌜ (s .tables .residues < 254) × (6782 ≤ length (now bytes)) ⌝ }
+    ensures { λ r. ⌜ (r ≡ grown s next section mode) × (now (bytes .exit) ≡ set (set (now (bytes .entry)) (2 + s .tables .residues) (upper b)) (256 + s .tables .residues) (sectionCode section)) ⌝ }
 {
-    let n = s.residues;
+    let old = s.tables;
+    let n = old.residues;
     let first = first_of(section, n + 1, s.first);
     bytes[Tables::LETTERS + n] = classes::upper(b);
     bytes[Tables::SECTIONS + n] = section_code(section);
+    let tables = Tables {
+        residues: n + 1,
+        brackets: old.brackets,
+        texts: old.texts,
+    };
     Progress {
         at: next,
         mode,
-        residues: n + 1,
-        brackets: s.brackets,
-        texts: s.texts,
+        tables,
         run: s.run,
         first,
         count: s.count,
@@ -686,15 +655,14 @@ fn put_digit(bytes: &mut [u8], s: Progress, next: usize, b: u8) -> Progress
     if run == 0 {
         return go(s, next, Mode::Counting);
     }
-    let k = s.brackets - 1;
+    let tables = s.tables;
+    let k = tables.brackets - 1;
     let count = s.count * 10 + (b - 48) as usize;
     bytes[Tables::ROWS + k * Tables::ROW + 3] = count as u8;
     Progress {
         at: next,
         mode: Mode::Counting,
-        residues: s.residues,
-        brackets: s.brackets,
-        texts: s.texts,
+        tables,
         run: s.run,
         first: s.first,
         count,
@@ -704,9 +672,10 @@ fn put_digit(bytes: &mut [u8], s: Progress, next: usize, b: u8) -> Progress
 // The brackets that wait are N-terminal.
 fn put_terms(bytes: &mut [u8], s: Progress, next: usize) -> Progress
     requires { ⌜ TermsFit (now bytes) s ⌝ }
-    ensures { λ r. ⌜ (r ≡ runOver s next Mode.Start) × (now (bytes .exit) ≡ marked (now (bytes .entry)) (s .brackets - s .run) (s .run)) ⌝ }
+    ensures { λ r. ⌜ (r ≡ runOver s next Mode.Start) × (now (bytes .exit) ≡ marked (now (bytes .entry)) (s .tables .brackets - s .run) (s .run)) ⌝ }
 {
-    mark_terms(bytes, s.brackets - s.run, s.run);
+    let tables = s.tables;
+    mark_terms(bytes, tables.brackets - s.run, s.run);
     run_over(s, next, Mode::Start)
 }
 
@@ -723,7 +692,8 @@ fn put_bracket(
     ensures { λ r. ⌜ ((l : Line ℕ) (old : List ℕ) (oldNumbers : List ℤ) → Opened (now (line .entry)) l old oldNumbers s slot next (now (bytes .entry)) (now (numbers .entry)) → FilledOn (now (line .entry)) l old oldNumbers next r (now (bytes .exit)) (now (numbers .exit))) ⌝ }
 {
     let kind = slot.kind;
-    let n = s.residues;
+    let old = s.tables;
+    let n = old.residues;
     let first = first_position(kind, n, s.first);
     let last = last_position(kind, n);
     let run = run_after(kind, s.run);
@@ -735,9 +705,9 @@ fn put_bracket(
         next,
         slot.shut,
         slot.refers,
-        s.brackets,
+        old.brackets,
         0,
-        s.texts,
+        old.texts,
         0,
         0,
         kind_code(kind),
@@ -746,16 +716,21 @@ fn put_bracket(
     );
     match put {
         Put::NotPut => s,
-        Put::Done { at, texts, refers } => Progress {
-            at,
-            mode: mode_after(slot, refers),
-            residues: n,
-            brackets: s.brackets + 1,
-            texts,
-            run,
-            first: s.first,
-            count,
-        },
+        Put::Done { at, texts, refers } => {
+            let tables = Tables {
+                residues: n,
+                brackets: old.brackets + 1,
+                texts,
+            };
+            Progress {
+                at,
+                mode: mode_after(slot, refers),
+                tables,
+                run,
+                first: s.first,
+                count,
+            }
+        }
     }
 }
 
@@ -815,12 +790,11 @@ fn step_on(line: &[u8], bytes: &mut [u8], numbers: &mut [i64], s: Progress) -> P
 fn begin() -> Progress
     ensures { λ r. ⌜ r ≡ fresh ⌝ }
 {
+    let tables = Tables::new();
     Progress {
         at: 0,
         mode: Mode::Front,
-        residues: 0,
-        brackets: 0,
-        texts: 0,
+        tables,
         run: 0,
         first: 0,
         count: 0,
@@ -836,6 +810,7 @@ pub fn fill(line: &[u8], bytes: &mut [u8], numbers: &mut [i64])
     while s.at < line.len() {
         s = step_on(line, bytes, numbers, s);
     }
-    bytes[0] = s.residues as u8;
-    bytes[1] = s.brackets as u8;
+    let tables = s.tables;
+    bytes[0] = tables.residues as u8;
+    bytes[1] = tables.brackets as u8;
 }

@@ -6,12 +6,12 @@ use mathlib.Core.List.{List, []}
 use Prim.Native.Nat.{ℕ, _+_, _-_, _<_, _≤_}
 use native.Mathlib.Omega.{arith}
 use lib.Dec.{ltb}
-use lib.IntN.{ℤ}
 use lib.ListN.{length}
 use Rattle.scope.specs.declared.grammar.Key.{Key}
 use Rattle.scope.specs.Lists.{given, part}
 use Rattle.scope.specs.Keys.{written}
 use Rattle.scope.specs.Limits.{textLimit, labelLimit}
+use Rattle.scope.specs.declared.tables.Number.{Number as Kept}
 use Rattle.scope.specs.Line.{Number, Label, Value, mass, text, reference, Part}
 use Rattle.scope.specs.Bytes.{sameFolded}
 use Rattle.scope.specs.Refusals.{least, dueAt, textIn, tooDeep, isLink, inRange, wide, wideMass}
@@ -47,9 +47,9 @@ module _ (i : ℕ) where
   unscored none g = refl
   unscored (some n) g = absurd g
 
-  pub scored : (m : ℤ) (d : ℕ) (o : Option (Number ℕ)) → ScoreIs i (Scored m d) o → 0 ≡ coded (least (given o wide []))
-  scored m d none g = absurd g
-  scored m d (some n) (e, x, y, z) = in-range n e
+  pub scored : (x : Kept) (o : Option (Number ℕ)) → ScoreIs i (Scored x) o → 0 ≡ coded (least (given o wide []))
+  scored x none g = absurd g
+  scored x (some n) (e, f, g) = in-range n e
 
   pub wide-score : (o : Option (Number ℕ)) → ScoreIs i WideScore o → i + 1 ≡ coded (least (given o wide []))
   wide-score none g = absurd g
@@ -119,10 +119,10 @@ module _ (i : ℕ) (k : Key) where
     abbrev Plain : ℕ → Type 0
     Plain w = m ≡ record { deep = 0; over = 0; wide = w; barred = coded (least (dueAt (isBarred (sortOf k)) i)); digits = 0 }
 
-    pub of-mass : (x : ℤ) (d : ℕ) → Plain 0 → (v : Value ℕ) → ValueIs line s (Mass x d) v → MarksAre m (valueDues i k v)
-    of-mass x d z (mass n) (e, f, g, h) = textless m 0 z (mass n) refl (in-range n e)
-    of-mass x d z (text t) g = absurd g
-    of-mass x d z reference g = absurd g
+    pub of-mass : (x : Kept) → Plain 0 → (v : Value ℕ) → ValueIs line s (Mass x) v → MarksAre m (valueDues i k v)
+    of-mass x z (mass n) (e, f, g) = textless m 0 z (mass n) refl (in-range n e)
+    of-mass x z (text t) g = absurd g
+    of-mass x z reference g = absurd g
 
     pub of-wide : Plain (s + 1) → (v : Value ℕ) → ValueIs line s Wide v → MarksAre m (valueDues i k v)
     of-wide z (mass n) (e, q) = textless m (s + 1) z (mass n) refl (out-of-range n s e q)
@@ -158,7 +158,7 @@ module _ (i : ℕ) (k : Key) where
 
 -- ---- parts
 stands : (line : List ℕ) (i : ℕ) (k : Key) (s : ℕ) (w : Found-value) (v : Value ℕ) → ValueIs line s w v → StandsAt w (i + length (written k)) → ValueFits line i k w
-stands line i k s (Mass x d) v g b = tt
+stands line i k s (Mass x) v g b = tt
 stands line i k s Wide v g b = tt
 stands line i k s (Text a e) (mass n) g b = absurd g
 stands line i k s (Text a e) (text t) (q, h, room) b = record { behind = b; some = h; inside = room }

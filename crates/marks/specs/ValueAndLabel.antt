@@ -24,7 +24,7 @@ pub record TextFits (line : List ℕ) (i : ℕ) (k : Key) (a e : ℕ) : Type 0 w
   pub inside : e ≤ length line
 
 abbrev pub ValueFits : List ℕ → ℕ → Key → Found-value → Type 0
-ValueFits line i k (Mass m d) = Unit {0}
+ValueFits line i k (Mass v) = Unit {0}
 ValueFits line i k Wide = Unit {0}
 ValueFits line i k (Text a e) = TextFits line i k a e
 ValueFits line i k Reference = Unit {0}

@@ -101,10 +101,7 @@ fn value_marks(line: &[u8], at: usize, key: Key, sign: usize, value: Value) -> M
     ensures { λ r. ⌜ ((v : Written ℕ) → ValueIs (now (line .entry)) sign value v → MarksAre r (valueDues at key v)) ⌝ }
 {
     match value {
-        Value::Mass {
-            millionths: _,
-            decimals: _,
-        } => key_marks(at, key, 0),
+        Value::Mass(_) => key_marks(at, key, 0),
         Value::Wide => key_marks(at, key, sign + 1),
         Value::Text { from, to } => text_marks(line, at, key, from, to),
         Value::Reference => key_marks(at, key, 0),
@@ -165,10 +162,7 @@ fn score_due(score: Score, place: usize) -> usize
 {
     match score {
         Score::Unscored => 0,
-        Score::Scored {
-            millionths: _,
-            decimals: _,
-        } => 0,
+        Score::Scored(_) => 0,
         Score::WideScore => place + 1,
     }
 }

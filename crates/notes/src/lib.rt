@@ -1,6 +1,7 @@
 // Refusals 10 to 12, from what is noted of each bracket.
 use classes::same_text;
 use scope::answers::Placement;
+use scope::tables::Tables;
 ghost use mathlib.Core.Path.{_≡_};
 ghost use mathlib.Core.List.{List};
 ghost use Prim.Native.Nat.{ℕ, _*_, _+_, _<_, _≤_};
@@ -14,7 +15,15 @@ ghost use Rattle.notes.specs.Notes.{noteSize, notesRoom, NotesAre};
 ghost use Rattle.notes.specs.Rows.{Noted, Apart, noteAt, infoOnlyAt, nameAt, Legible, AllLegible, sideAt, sideFrom, wrongLabel, wrongAt, wrongPlace, copiesAt};
 
 // Seven numbers a bracket: place, kind, sort, count, whether it is written, number of its first label, number of labels.
-const NOTE: usize = 7;
+pub const NOTE: usize = 7;
+
+// Two numbers a label: its first byte, and the place behind its last.
+pub const LABEL: usize = 2;
+
+// The sizes of the two tables.
+pub const NOTES: usize = Tables::BRACKETS * NOTE;
+
+pub const LABELS: usize = Tables::BRACKETS * Tables::PARTS * LABEL;
 
 // The i-th number of a table.
 fn number(table: &[u16], i: usize) -> usize
@@ -65,10 +74,10 @@ fn same_label(line: &[u8], labels: &[u16], x: usize, y: usize) -> bool
     requires { ⌜ Legible (now line) (now labels) x × Legible (now line) (now labels) y ⌝ }
     ensures { λ r. ⌜ r ≡ same (nameAt (now (line .entry)) (now (labels .entry)) x) (nameAt (now (line .entry)) (now (labels .entry)) y) ⌝ }
 {
-    let a = number(labels, x * 2);
-    let m = number(labels, x * 2 + 1) - a;
-    let b = number(labels, y * 2);
-    let n = number(labels, y * 2 + 1) - b;
+    let a = number(labels, x * LABEL);
+    let m = number(labels, x * LABEL + 1) - a;
+    let b = number(labels, y * LABEL);
+    let n = number(labels, y * LABEL + 1) - b;
     if m != n {
         return false;
     }

@@ -19,13 +19,13 @@ use Rattle.scope.specs.Tables.{millionths}
 use Rattle.scope.specs.Tables as tables
 use Rattle.numerals.specs.declared.Num.{Num}
 use Rattle.numerals.specs.declared.Num.the-variants.{Value, Wide, NoNumber}
-use Rattle.numerals.specs.Numerals.{cap, Scanned, found, lost, scanNumber, numOf}
+use Rattle.numerals.specs.Numerals.{cap, Scanned, found, lost, scanNumber, kept, numOf}
 use Rattle.classes.proofs.Classes.{both}
 use Rattle.numerals.proofs.Ranges.{by-decimals}
 
 -- a number that starts at i ends behind i and before n, with at most 6 decimals and below 1,000,000 where it is in range
 abbrev pub Ended : Num → ℕ → ℕ → Type 0
-Ended (Value z k j) i n = (i < j) × (j ≤ n) × (k ≤ decimalLimit) × (natAbs z < cap)
+Ended (Value v j) i n = (i < j) × (j ≤ n) × (v .decimals ≤ decimalLimit) × (natAbs (v .millionths) < cap)
 Ended (Wide j) i n = (i < j) × (j ≤ n)
 Ended (NoNumber j) i n = (i ≤ j) × (j ≤ n)
 
@@ -66,7 +66,7 @@ small m d h =
 ended-found : (x : Number ℕ) (j i n : ℕ) → i < j → j ≤ n → Ended (numOf (found x j)) i n
 ended-found x j i n h l = go (inRange x) refl
   where
-    go : (b : Bool) → inRange x ≡ b → Ended (cond b (Value (millionths x) (x .decimals) j) (Wide j)) i n
+    go : (b : Bool) → inRange x ≡ b → Ended (cond b (Value (kept x) j) (Wide j)) i n
     go true e =
         let p = both (leb (x .decimals) decimalLimit) (ltb (x .digits) (sizeLimit * 10 ^ (x .decimals))) e in
         let k = leb-true (x .decimals) decimalLimit (p .0) in

@@ -61,7 +61,7 @@ module _ (p : ℕ) (s : Bool) (m d i : ℕ) where
     pub wide-size : cap ≤ v * 10 ^ (decimalLimit - d) → Wide i ≡ numOf (found (numberOf p s m d) i)
     wide-size h = simp (le-leb _ _ l, le-ltb _ _ (over v m e d l h))
 
-    pub in-range : v * 10 ^ (decimalLimit - d) < cap → Value (signed s (v * 10 ^ (decimalLimit - d))) d i ≡ numOf (found (numberOf p s m d) i)
+    pub in-range : v * 10 ^ (decimalLimit - d) < cap → Value (record { millionths = signed s (v * 10 ^ (decimalLimit - d)); decimals = d }) i ≡ numOf (found (numberOf p s m d) i)
     in-range h =
         let u = under v m e d l h in
-        rw (le-leb _ _ l, lt-ltb _ _ (u .0)) (ap (λ z. Value z d i) (ap (λ n. signed s (n * 10 ^ (decimalLimit - d))) (u .1) ∙ sign-kept s m (10 ^ (decimalLimit - d))))
+        rw (le-leb _ _ l, lt-ltb _ _ (u .0)) (ap (λ z. Value (record { millionths = z; decimals = d }) i) (ap (λ n. signed s (n * 10 ^ (decimalLimit - d))) (u .1) ∙ sign-kept s m (10 ^ (decimalLimit - d))))

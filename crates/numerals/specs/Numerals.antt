@@ -4,6 +4,7 @@ use mathlib.Core.Path.{_≡_}
 use mathlib.Core.Bool.{cond}
 use mathlib.Core.List.{List, [], _∷_}
 use lib.ListN.{drop}
+use Rattle.scope.specs.declared.tables.Number.{Number as Kept}
 use Rattle.scope.specs.Bytes.{isDigit, value}
 use Rattle.scope.specs.Line.{Number}
 use Rattle.scope.specs.Lists.{given}
@@ -30,8 +31,11 @@ scanNumber p d [] i = ended p d i
 scanNumber p d (b ∷ l) i = given (digitStep d b) (λ d′. scanNumber p d′ l (i + 1)) (ended p d i)
 
 -- "A number keeps its value in millionths and its count of decimals"
+abbrev pub kept : {P : Type 0} → Number P → Kept
+kept n = record { millionths = millionths n; decimals = n .decimals }
+
 abbrev pub numOf : Scanned → Num
-numOf (found n i) = cond (inRange n) (Value (millionths n) (n .decimals) i) (Wide i)
+numOf (found n i) = cond (inRange n) (Value (kept n) i) (Wide i)
 numOf (lost i) = NoNumber i
 
 -- the digits that the list begins with, behind a number m

@@ -23,11 +23,7 @@ const COUNT_CAP: usize = Tables::COUNT + 1;
 
 // A number that was read; one that is out of range, with the place behind it; or the place where no number goes on.
 pub enum Num {
-    Value {
-        millionths: i64,
-        decimals: u8,
-        next: usize,
-    },
+    Value { number: Number, next: usize },
     Wide(usize),
     NoNumber(usize),
 }
@@ -139,12 +135,11 @@ fn finished(minus: bool, v: u64, d: usize, next: usize) -> Num
     if CAP <= m {
         return Num::Wide(next);
     }
-    let z = with_sign(minus, m);
-    Num::Value {
-        millionths: z,
+    let number = Number {
+        millionths: with_sign(minus, m),
         decimals: d as u8,
-        next,
-    }
+    };
+    Num::Value { number, next }
 }
 
 // v with d decimals, in millionths.

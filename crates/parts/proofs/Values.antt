@@ -8,12 +8,12 @@ use native.Mathlib.Omega.{arith}
 use native.Mathlib.Numerals.{add-one}
 use borrow.Author.Tests.{eq-eqb, ne-eqb, ltb-true, ltb-false}
 use lib.Dec.{eqb, ltb}
-use lib.IntN.{ℤ}
 use lib.ListN.{length, getD, take, drop, length-drop}
 use lib.Seq.{drop-cons, take-add, drop-drop}
 use Rattle.basics.specs.Choice.{by-test}
 use Rattle.scope.specs.declared.grammar.Slot.{Slot}
 use Rattle.scope.specs.declared.grammar.Key.{Key}
+use Rattle.scope.specs.declared.tables.Number.{Number as Kept}
 use Rattle.scope.specs.Bytes.{shutRound}
 use Rattle.scope.specs.Line.{Number, Label, mass, text, Part}
 use Rattle.scope.specs.Keys.{written, form, hashIsPlain, Form, digits, alnums, accessionByte}
@@ -21,12 +21,11 @@ use Rattle.scope.specs.Lists.{given, part}
 use Rattle.scope.specs.Content.{Digits, digitStep, numberEnd, Context, Inner, inNumber, inText, inCode, inScore, scored, Content, lost, going, partEnd, valueEnd, textEnd, labelled, unlabelled, innerStep}
 use Rattle.scope.specs.Reading.{Held, nothing, front}
 use Rattle.scope.specs.Refusals.{inRange}
-use Rattle.scope.specs.Tables.{millionths}
 use Rattle.classes.specs.Runs.{span}
 use Rattle.classes.proofs.Runs.{run-next}
 use Rattle.numerals.specs.declared.Num.{Num}
 use Rattle.numerals.specs.declared.Num.the-variants.{Value as NumValue, Wide as NumWide, NoNumber}
-use Rattle.numerals.specs.Numerals.{Scanned, found, scanNumber, numOf}
+use Rattle.numerals.specs.Numerals.{Scanned, found, scanNumber, kept, numOf}
 use Rattle.numerals.specs.Numerals as scan
 use Rattle.texts.specs.declared.TextEnd.{TextEnd}
 use Rattle.texts.specs.declared.TextEnd.the-variants.{Ends, Stuck as TextStuck}
@@ -45,20 +44,19 @@ use Rattle.parts.proofs.Numbers.{NumberSays, number-says}
 use Rattle.parts.proofs.Ends.{over, lost-there}
 
 -- ---- what a number that was scanned is
-pub record InRange (sc : Scanned) (m : ℤ) (k e : ℕ) : Type 0 where
+pub record InRange (sc : Scanned) (v : Kept) (e : ℕ) : Type 0 where
   pub number : Number ℕ
   pub is : sc ≡ found number e
   pub range : inRange number ≡ true
-  pub value : millionths number ≡ m
-  pub decimals : number .decimals ≡ k
+  pub value : kept number ≡ v
 
-pub in-range : (sc : Scanned) (m : ℤ) (k e : ℕ) → numOf sc ≡ NumValue m k e → InRange sc m k e
-in-range (found n i) m k e w = go (inRange n) refl w
+pub in-range : (sc : Scanned) (v : Kept) (e : ℕ) → numOf sc ≡ NumValue v e → InRange sc v e
+in-range (found n i) v e w = go (inRange n) refl w
   where
-    go : (x : Bool) → inRange n ≡ x → cond x (NumValue (millionths n) (n .decimals) i) (NumWide i) ≡ NumValue m k e → InRange (found n i) m k e
-    go true r v = record { number = n; is = cc; range = r; value = cc; decimals = cc }
-    go false r v = absurd (let z : _≡_ {A = ℕ} 0 1 = cc in omega arith)
-in-range (scan.lost i) m k e w = absurd (let z : _≡_ {A = ℕ} 0 1 = cc in omega arith)
+    go : (x : Bool) → inRange n ≡ x → cond x (NumValue (kept n) i) (NumWide i) ≡ NumValue v e → InRange (found n i) v e
+    go true r u = record { number = n; is = cc; range = r; value = cc }
+    go false r u = absurd (let z : _≡_ {A = ℕ} 0 1 = cc in omega arith)
+in-range (scan.lost i) v e w = absurd (let z : _≡_ {A = ℕ} 0 1 = cc in omega arith)
 
 pub record OutOfRange (sc : Scanned) (e : ℕ) : Type 0 where
   pub number : Number ℕ
@@ -68,7 +66,7 @@ pub record OutOfRange (sc : Scanned) (e : ℕ) : Type 0 where
 pub out-of-range : (sc : Scanned) (e : ℕ) → numOf sc ≡ NumWide e → OutOfRange sc e
 out-of-range (found n i) e w = go (inRange n) refl w
   where
-    go : (x : Bool) → inRange n ≡ x → cond x (NumValue (millionths n) (n .decimals) i) (NumWide i) ≡ NumWide e → OutOfRange (found n i) e
+    go : (x : Bool) → inRange n ≡ x → cond x (NumValue (kept n) i) (NumWide i) ≡ NumWide e → OutOfRange (found n i) e
     go true r v = absurd (let z : _≡_ {A = ℕ} 0 1 = cc in omega arith)
     go false r v = record { number = n; is = cc; range = r }
 out-of-range (scan.lost i) e w = absurd (let z : _≡_ {A = ℕ} 0 1 = cc in omega arith)
@@ -76,7 +74,7 @@ out-of-range (scan.lost i) e w = absurd (let z : _≡_ {A = ℕ} 0 1 = cc in ome
 pub no-number : (sc : Scanned) (e : ℕ) → numOf sc ≡ NoNumber e → sc ≡ scan.lost e
 no-number (found n i) e w = go (inRange n) w
   where
-    go : (x : Bool) → cond x (NumValue (millionths n) (n .decimals) i) (NumWide i) ≡ NoNumber e → found n i ≡ scan.lost e
+    go : (x : Bool) → cond x (NumValue (kept n) i) (NumWide i) ≡ NoNumber e → found n i ≡ scan.lost e
     go true v = absurd (let z : _≡_ {A = ℕ} 0 1 = cc in omega arith)
     go false v = absurd (let z : _≡_ {A = ℕ} 0 1 = cc in omega arith)
 no-number (scan.lost i) e w = cc
@@ -124,11 +122,11 @@ module _ (line : List ℕ) (at : ℕ) (key : Key) (sign shut j : ℕ) (d : Digit
       }) (told .1))
 
   module _ (num : Num) (scanned : num ≡ numOf (scanNumber sign d (drop j line) j)) where
-    pub mass-value : (m m′ : ℤ) (k e : ℕ) → num ≡ NumValue m k e → m′ ≡ m → (p : PartRead) → p ≡ bareRead at key sign (Mass m′ k) e → (r : Found)
+    pub mass-value : (v : Kept) (e : ℕ) → num ≡ NumValue v e → (p : PartRead) → p ≡ bareRead at key sign (Mass v) e → (r : Found)
         → ((q : Part ℕ) → PartIs line p q → p .next ≤ length line → Says line (p .next) (ShutBy shut) (λ c. valueEnd c q) r) → Says line j (ShutBy shut) massStart r
-    mass-value m m′ k e t v p w r says =
-        let i = in-range (scanNumber sign d (drop j line) j) m k e (sym scanned ∙ t) in
-        mass-found (i .number) e (i .is) (Mass m′ k) (λ a. (i .range, i .value ∙ sym v, i .decimals, a)) tt p w r says
+    mass-value v e t p w r says =
+        let i = in-range (scanNumber sign d (drop j line) j) v e (sym scanned ∙ t) in
+        mass-found (i .number) e (i .is) (Mass v) (λ a. (i .range, i .value, a)) tt p w r says
 
     pub mass-wide : (e : ℕ) → num ≡ NumWide e → (p : PartRead) → p ≡ bareRead at key sign Wide e → (r : Found)
         → ((q : Part ℕ) → PartIs line p q → p .next ≤ length line → Says line (p .next) (ShutBy shut) (λ c. valueEnd c q) r) → Says line j (ShutBy shut) massStart r
@@ -186,10 +184,10 @@ module _ (line : List ℕ) (p : PartRead) (q : Part ℕ) (from to shut j : ℕ) 
       (says shut q n is named (w (told .2)) (told .1))
 
   module _ (num : Num) (scanned : num ≡ numOf (scanNumber (to + 1) d (drop j line) j)) where
-    pub score-value : (m m′ : ℤ) (k e : ℕ) → num ≡ NumValue m k e → m′ ≡ m → (r : Found) → Ending (Scored m′ k) e r → Says line j (ShutBy shut) scoreStart r
-    score-value m m′ k e t v r says =
-        let i = in-range (scanNumber (to + 1) d (drop j line) j) m k e (sym scanned ∙ t) in
-        score-found (i .number) e (i .is) (Scored m′ k) (λ a. (i .range, i .value ∙ sym v, i .decimals, a)) r says
+    pub score-value : (v : Kept) (e : ℕ) → num ≡ NumValue v e → (r : Found) → Ending (Scored v) e r → Says line j (ShutBy shut) scoreStart r
+    score-value v e t r says =
+        let i = in-range (scanNumber (to + 1) d (drop j line) j) v e (sym scanned ∙ t) in
+        score-found (i .number) e (i .is) (Scored v) (λ a. (i .range, i .value, a)) r says
 
     pub score-wide : (e : ℕ) → num ≡ NumWide e → (r : Found) → Ending WideScore e r → Says line j (ShutBy shut) scoreStart r
     score-wide e t r says =

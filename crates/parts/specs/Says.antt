@@ -5,7 +5,6 @@ use mathlib.Core.Option.{Option, none, some}
 use mathlib.Core.List.{List, []}
 use Prim.Native.Nat.{ℕ, _+_, _-_, _<_, _≤_}
 use lib.Dec.{eqb, ltb}
-use lib.IntN.{ℤ}
 use lib.ListN.{length, getD}
 use Rattle.scope.specs.declared.grammar.Slot.{Slot}
 use Rattle.scope.specs.Bytes.{shutRound}
@@ -15,8 +14,8 @@ use Rattle.scope.specs.Lists.{none?, part}
 use Rattle.scope.specs.Content.{Context, scored, Content, lost, going, labelled, partEnd}
 use Rattle.scope.specs.Reading.{Held, resume, Reading, stuck}
 use Rattle.scope.specs.Refusals.{inRange}
-use Rattle.scope.specs.Tables.{millionths}
 use Rattle.reading_laws.specs.Run.{rest}
+use Rattle.numerals.specs.Numerals.{kept}
 use Rattle.parts.specs.declared.Value.{Value as Found-value}
 use Rattle.parts.specs.declared.Value.the-variants.{Mass, Wide, Text, Reference}
 use Rattle.parts.specs.declared.Score.{Score}
@@ -27,25 +26,25 @@ use Rattle.parts.specs.declared.Found.the-variants.{Stuck, Read}
 
 -- ---- a value, a score, a label, a part that was found is this one
 abbrev pub ValueIs : List ℕ → ℕ → Found-value → Value ℕ → Type 0
-ValueIs line at (Mass m d) (mass n) = (inRange n ≡ true) × (millionths n ≡ m) × (n .decimals ≡ d) × (n .at ≡ at)
+ValueIs line at (Mass v) (mass n) = (inRange n ≡ true) × (kept n ≡ v) × (n .at ≡ at)
 ValueIs line at Wide (mass n) = (inRange n ≡ false) × (n .at ≡ at)
 ValueIs line at (Text a e) (mass n) = ⊥
 ValueIs line at Reference (mass n) = ⊥
-ValueIs line at (Mass m d) (text t) = ⊥
+ValueIs line at (Mass v) (text t) = ⊥
 ValueIs line at Wide (text t) = ⊥
 ValueIs line at (Text a e) (text t) = (t ≡ part a (e - a) line) × (a < e) × (e ≤ length line)
 ValueIs line at Reference (text t) = ⊥
-ValueIs line at (Mass m d) reference = ⊥
+ValueIs line at (Mass v) reference = ⊥
 ValueIs line at Wide reference = ⊥
 ValueIs line at (Text a e) reference = ⊥
 ValueIs line at Reference reference = Unit {0}
 
 abbrev pub ScoreIs : ℕ → Score → Option (Number ℕ) → Type 0
 ScoreIs at Unscored none = Unit {0}
-ScoreIs at (Scored m d) none = ⊥
+ScoreIs at (Scored v) none = ⊥
 ScoreIs at WideScore none = ⊥
 ScoreIs at Unscored (some n) = ⊥
-ScoreIs at (Scored m d) (some n) = (inRange n ≡ true) × (millionths n ≡ m) × (n .decimals ≡ d) × (n .at ≡ at)
+ScoreIs at (Scored v) (some n) = (inRange n ≡ true) × (kept n ≡ v) × (n .at ≡ at)
 ScoreIs at WideScore (some n) = (inRange n ≡ false) × (n .at ≡ at)
 
 -- from a to e, its score behind `(`
@@ -59,7 +58,7 @@ Named line a e = (a < e) × (e ≤ length line)
 
 -- a text stands right behind its key, at the place i
 abbrev pub StandsAt : Found-value → ℕ → Type 0
-StandsAt (Mass m d) i = Unit {0}
+StandsAt (Mass v) i = Unit {0}
 StandsAt Wide i = Unit {0}
 StandsAt (Text a e) i = a ≡ i
 StandsAt Reference i = Unit {0}

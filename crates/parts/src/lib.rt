@@ -1,6 +1,7 @@
 // One part of a bracket, from its first byte to the byte behind it.
 use numerals::Num;
 use scope::grammar::Key;
+use scope::tables::Number;
 use texts::TextEnd;
 ghost use mathlib.Core.Path.{_≡_};
 ghost use mathlib.Core.Option.{none, some};
@@ -9,16 +10,16 @@ ghost use mathlib.Core.List.{[]};
 ghost use mathlib.Core.Bool.{false};
 ghost use lib.ListN.{length, drop, getD};
 ghost use Rattle.scope.specs.Bytes.{hash, colon, isSign};
-ghost use Rattle.scope.specs.Line.{Number, Label, Part};
+ghost use Rattle.scope.specs.Line.{Number as Written, Label, Part};
 ghost use Rattle.scope.specs.Lists.{part};
 ghost use Rattle.scope.specs.Keys.{written, form, hashIsPlain, massOrName, massOnly, digits, alnums};
 ghost use Rattle.scope.specs.Content.{Digits, begin, plain, keyed, inNumber, inCode, inText, inScore, hashed, scoring, innerStep, partEnd, valueEnd, textEnd, labelled, behindKey};
 ghost use Rattle.numerals.specs.Numerals.{scanNumber, numOf};
 ghost use Rattle.parts.specs.Says.{PartIs, LabelIs, ScoreIs, Named, scoreEnd, Says, ShutBy, Opens};
 
-// The value of a part: a mass in millionths with its decimals, a mass out of range, a text with its place in the line, or a reference.
+// The value of a part: a mass, a mass out of range, a text with its place in the line, or a reference.
 pub enum Value {
-    Mass { millionths: i64, decimals: u8 },
+    Mass(Number),
     Wide,
     Text { from: usize, to: usize },
     Reference,
@@ -27,7 +28,7 @@ pub enum Value {
 // The score of a label, likewise.
 pub enum Score {
     Unscored,
-    Scored { millionths: i64, decimals: u8 },
+    Scored(Number),
     WideScore,
 }
 
@@ -96,7 +97,7 @@ fn label_end(line: &[u8], p: PartRead, from: usize, to: usize, score: Score, nex
 
 // Behind the number of a score.
 fn score_end(line: &[u8], p: PartRead, from: usize, to: usize, score: Score, next: usize) -> Found
-    ensures { λ r. ⌜ ((shut : ℕ) (q : Part ℕ) (n : Number ℕ) → PartIs (now (line .entry)) p q → Named (now (line .entry)) from to → ScoreIs (to + 1) score (some n) → next ≤ length (now (line .entry)) → Says (now (line .entry)) next (ShutBy shut) (λ c. scoreEnd c q from (part from (to - from) (now (line .entry))) n) r) ⌝ }
+    ensures { λ r. ⌜ ((shut : ℕ) (q : Part ℕ) (n : Written ℕ) → PartIs (now (line .entry)) p q → Named (now (line .entry)) from to → ScoreIs (to + 1) score (some n) → next ≤ length (now (line .entry)) → Says (now (line .entry)) next (ShutBy shut) (λ c. scoreEnd c q from (part from (to - from) (now (line .entry))) n) r) ⌝ }
 {
     if line.len() <= next {
         return Found::Stuck(next);
@@ -112,21 +113,7 @@ fn score_of(line: &[u8], p: PartRead, from: usize, to: usize, number: Num) -> Fo
     ensures { λ r. ⌜ ((shut : ℕ) (q : Part ℕ) (j : ℕ) (d : Digits) → PartIs (now (line .entry)) p q → Named (now (line .entry)) from to → j ≤ length (now (line .entry)) → number ≡ numOf (scanNumber (to + 1) d (drop j (now (line .entry))) j) → Says (now (line .entry)) j (ShutBy shut) (λ c. innerStep j (inScore c q from (part from (to - from) (now (line .entry))) (to + 1) d)) r) ⌝ }
 {
     match number {
-        Num::Value {
-            millionths,
-            decimals,
-            next,
-        } => score_end(
-            line,
-            p,
-            from,
-            to,
-            Score::Scored {
-                millionths,
-                decimals,
-            },
-            next,
-        ),
+        Num::Value { number: n, next } => score_end(line, p, from, to, Score::Scored(n), next),
         Num::Wide(next) => score_end(line, p, from, to, Score::WideScore, next),
         Num::NoNumber(i) => Found::Stuck(i),
     }
@@ -202,24 +189,9 @@ fn mass_of(line: &[u8], at: usize, key: Key, sign: usize, number: Num, shut: u8)
     ensures { λ r. ⌜ ((j : ℕ) (d : Digits) → at ≤ sign → sign ≤ length (now (line .entry)) → j ≤ length (now (line .entry)) → number ≡ numOf (scanNumber sign d (drop j (now (line .entry))) j) → Says (now (line .entry)) j (ShutBy shut) (λ c. innerStep j (inNumber c at key sign d)) r) ⌝ }
 {
     match number {
-        Num::Value {
-            millionths,
-            decimals,
-            next,
-        } => value_end(
-            line,
-            bare(
-                at,
-                key,
-                sign,
-                Value::Mass {
-                    millionths,
-                    decimals,
-                },
-                next,
-            ),
-            shut,
-        ),
+        Num::Value { number: n, next } => {
+            value_end(line, bare(at, key, sign, Value::Mass(n), next), shut)
+        }
         Num::Wide(next) => value_end(line, bare(at, key, sign, Value::Wide, next), shut),
         Num::NoNumber(i) => Found::Stuck(i),
     }

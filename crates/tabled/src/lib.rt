@@ -35,8 +35,8 @@ fn holds_tables_of(line: &[u8], bytes: &[u8], numbers: &[i64]) -> bool
     requires { ⌜ (IsAccepted (now line)) × (bytesSize ≤ length (now bytes)) × (numbersSize ≤ length (now numbers)) ⌝ }
     ensures { λ r. ⌜ r ≡ readsTo (outcome (now (line .entry))) (take bytesSize (now (bytes .entry))) (take numbersSize (now (numbers .entry))) ⌝ }
 {
-    let mut b = [0u8; 6782];
-    let mut n = [0i64; 320];
+    let mut b = [0u8; Tables::BYTES];
+    let mut n = [0i64; Tables::NUMBERS];
     reader::put(line, &mut b, &mut n);
     same_areas(&b, &n, bytes, numbers)
 }
@@ -95,7 +95,7 @@ pub fn are_tables(bytes: &[u8], numbers: &[i64]) -> bool
     requires { ⌜ (bytesSize ≤ length (now bytes)) × (numbersSize ≤ length (now numbers)) ⌝ }
     ensures { λ r. ⌜ r ≡ areTables (now (bytes .entry)) (now (numbers .entry)) ⌝ }
 {
-    let mut line = [0u8; 4096];
+    let mut line = [0u8; Tables::LINE];
     let n = line_of(bytes, numbers, &mut line);
     n != 0
 }

@@ -1,6 +1,8 @@
 // Refusals 1 to 12: "the lowest number wins, at its first place in the line".
 use checking::Checked;
 use checking::CheckedLine;
+use notes::LABELS;
+use notes::NOTES;
 use scope::answers::Read;
 use scope::tables::Tables;
 ghost use mathlib.Core.Path.{_≡_};
@@ -89,8 +91,8 @@ fn of_order(line: &[u8]) -> Read
     requires { ⌜ (length (now line) ≤ lineLimit) × Each Byte (now line) ⌝ }
     ensures { λ r. ⌜ saysRead r ≡ ruled (now (line .entry)) ⌝ }
 {
-    let mut notes = [0u16; 448];
-    let mut labels = [0u16; 512];
+    let mut notes = [0u16; NOTES];
+    let mut labels = [0u16; LABELS];
     let checked = checking::check_line(line, &mut notes, &mut labels);
     match checked {
         CheckedLine::Stuck(place) => Read::Refused { number: 4, place },

@@ -16,7 +16,7 @@ enum-told-4 : tie.Need-enum-told-4
 enum-told-4 c = search needs
 
 returns : tie.Need-returns
-returns c = λ l i v g. mass-no l i _ _ _ (c .enum-told .given .1) v g
+returns c = λ l i v g. mass-no l i _ _ (c .enum-told .given .1) v g
 
 returns-2 : tie.Need-returns-2
 returns-2 c = λ l i v g. wide-no l i _ (c .enum-told2 .given .1) v g

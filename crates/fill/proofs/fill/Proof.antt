@@ -45,45 +45,45 @@ loop-again c =
 
 cast-bytes : tie.Need-cast-bytes Inv-loop μ-loop
 cast-bytes c =
-    let l = c .before .before .before in
+    let l = c .before .before .before .before in
     let s = l .before .before .before .before in
     record { fits = omega (arith, small-counts (the-filling (s .pre) (l .loop .inv)) .0) }
 
 slice-write-bytes : tie.Need-slice-write-bytes Inv-loop μ-loop
 slice-write-bytes c =
-    let l = c .before .before .before in
+    let l = c .before .before .before .before in
     let s = l .before .before .before .before in
     omega (arith, the-filling (s .pre) (l .loop .inv) .roomy .bytes-long)
 
 cast-bytes-2 : tie.Need-cast-bytes-2 Inv-loop μ-loop
 cast-bytes-2 c =
-    let l = c .before .before .before .before in
+    let l = c .before .before .before .before .before in
     let s = l .before .before .before .before in
     record { fits = omega (arith, small-counts (the-filling (s .pre) (l .loop .inv)) .1) }
 
 slice-write-bytes-2 : tie.Need-slice-write-bytes-2 Inv-loop μ-loop
 slice-write-bytes-2 c =
-    let l = c .before .before .before .before in
+    let l = c .before .before .before .before .before in
     let s = l .before .before .before .before in
     simp length-set (omega (arith, the-filling (s .pre) (l .loop .inv) .roomy .bytes-long))
 
 same-length : tie.Need-same-length Inv-loop μ-loop
 same-length c =
-    let l = c .before .before .before .before in
+    let l = c .before .before .before .before .before in
     let s = l .before .before .before .before in
     simp length-set (l .loop .inv .bytes-long)
 
 same-length-2 : tie.Need-same-length-2 Inv-loop μ-loop
 same-length-2 c =
-    let l = c .before .before .before .before in
+    let l = c .before .before .before .before .before in
     let s = l .before .before .before .before in
     l .loop .inv .numbers-long
 
 returns : tie.Need-returns Inv-loop μ-loop
 returns c = λ t e.
-    let l = c .before .before .before .before in
+    let l = c .before .before .before .before .before in
     let s = l .before .before .before .before in
-    end-fills (l .loop .inv .fills t e) (c .before .before .if1 .left)
+    end-fills (l .loop .inv .fills t e) (c .before .before .before .if1 .left)
 
 pub fill-spec : {M : Type 1} → statement M
 fill-spec =

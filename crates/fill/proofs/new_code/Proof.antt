@@ -13,7 +13,7 @@ enum-known-score : tie.Need-enum-known-score
 enum-known-score c = search needs
 
 add-result : tie.Need-add-result
-add-result c = omega (arith, rw (c .before .score .given .1) at (c .before .before .before .pre))
+add-result c = omega (arith, rw (c .before .before .score .given .1) at (c .before .before .before .before .pre))
 
 enum-told-2 : tie.Need-enum-told-2
 enum-told-2 c = search needs
@@ -22,7 +22,7 @@ returns : tie.Need-returns
 returns c = search needs
 
 returns-2 : tie.Need-returns-2
-returns-2 c = rw (c .before .score .given .1)
+returns-2 c = rw (c .before .before .score .given .1)
 
 returns-3 : tie.Need-returns-3
 returns-3 c = search needs

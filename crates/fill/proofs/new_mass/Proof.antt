@@ -1,5 +1,3 @@
-use mathlib.Core.Path.{refl}
-use Rattle.fill.proofs.Stores.{back}
 use borrow.Author.Needs.{needs}
 use Rattle.fill.proofs.new_mass.Statement.{statement}
 use Rattle.fill.proofs.new_mass.Tie as tie
@@ -19,7 +17,7 @@ returns : tie.Need-returns
 returns c = rw (c .enum-told .given .1)
 
 returns-2 : tie.Need-returns-2
-returns-2 c = rw (c .before .score .given .1) (back (c .before .score .given .0 .0) (c .known-told .given .0 .1) refl)
+returns-2 c = rw (c .before .before .score .given .1) (search needs)
 
 returns-3 : tie.Need-returns-3
 returns-3 c = rw (c .enum-told2 .given .1)

@@ -15,13 +15,13 @@ use Rattle.fill.proofs.put_parts.Reads as put-parts-reads
 use Rattle.fill.proofs.run_after.Reads as run-after-reads
 
 first-position-requires : tie.Need-first-position-requires
-first-position-requires c κs = few-residues (c .before .before .pre .opened)
+first-position-requires c κs = few-residues (c .before .before .before .pre .opened)
 
 last-position-requires : tie.Need-last-position-requires
-last-position-requires c κs = few-residues (c .before .before .before .pre .opened)
+last-position-requires c κs = few-residues (c .before .before .before .before .pre .opened)
 
 run-after-requires : tie.Need-run-after-requires
-run-after-requires c κs = few-run (c .before .before .before .before .pre .opened)
+run-after-requires c κs = few-run (c .before .before .before .before .before .pre .opened)
 
 count-after-requires : tie.Need-count-after-requires
 count-after-requires c κs = search needs
@@ -32,18 +32,18 @@ kind-code-requires c κs = search needs
 cast-put-parts : tie.Need-cast-put-parts
 cast-put-parts c =
     let f = c .before .before .before .before .before .before in
-    let s = f .before .before .before in
-    record { fits = omega (arith, f .first-position .ensures, position-fits (s .args .slot .kind) (s .args .s .residues) (s .args .s .first) (few-residues (s .pre .opened)) (first-fits (s .pre .opened)) .0) }
+    let s = f .before .before .before .before in
+    record { fits = omega (arith, f .first-position .ensures, position-fits (s .args .slot .kind) (s .args .s .tables .residues) (s .args .s .first) (few-residues (s .pre .opened)) (first-fits (s .pre .opened)) .0) }
 
 cast-put-parts-2 : tie.Need-cast-put-parts-2
 cast-put-parts-2 c =
     let f = c .before .before .before .before .before .before in
-    let s = f .before .before .before in
-    record { fits = omega (arith, c .before .before .before .before .before .last-position .ensures, position-fits (s .args .slot .kind) (s .args .s .residues) (s .args .s .first) (few-residues (s .pre .opened)) (first-fits (s .pre .opened)) .1) }
+    let s = f .before .before .before .before in
+    record { fits = omega (arith, c .before .before .before .before .before .last-position .ensures, position-fits (s .args .slot .kind) (s .args .s .tables .residues) (s .args .s .first) (few-residues (s .pre .opened)) (first-fits (s .pre .opened)) .1) }
 
 put-parts-requires : tie.Need-put-parts-requires
 put-parts-requires c κs =
-    let s = c .before .before .before .before .before .before .before .before .before in
+    let s = c .before .before .before .before .before .before .before .before .before .before in
     starts (s .pre .opened)
 
 enum-told : tie.Need-enum-told
@@ -55,8 +55,8 @@ enum-known-put c = search needs
 mode-after-requires : tie.Need-mode-after-requires
 mode-after-requires c κs = search needs
 
-add-t26 : tie.Need-add-t26
-add-t26 c =
+add-t27 : tie.Need-add-t27
+add-t27 c =
     let n = c .before .before .before .before .before .before .before .before in
     let s = n .before .before .before .before .before .before .before .before .before .before in
     omega (arith, few-brackets (s .pre .opened))
@@ -80,16 +80,15 @@ same-length-4 c = search needs
 
 returns-2 : tie.Need-returns-2
 returns-2 c = λ l old oldNumbers o.
-    let m = c .before in
-    let u = m .before .before in
+    let u = c .before .before .before in
     let n = u .before .before .before .before .before in
     let k = n .before in
     let ca = k .before .before .before in
     let ra = ca .before in
     let la = ra .before in
     let fi = la .before in
-    let s = fi .before .before .before in
-    filled o (k .kind-code .ensures) (fi .first-position .ensures) (la .last-position .ensures) (ra .run-after .ensures) (ca .count-after .ensures) (m .mode-after .ensures)
+    let s = fi .before .before .before .before in
+    filled o (k .kind-code .ensures) (fi .first-position .ensures) (la .last-position .ensures) (ra .run-after .ensures) (ca .count-after .ensures) (c .mode-after .ensures)
     (put-said _ _ (before o) _ _ _ _ _ _ (u .put .given .1) (n .put-parts .ensures (opening o) _ (before o) (begun o) (laid-open o)))
     (roomy-kept (n .put-parts .kept .1 .0) (n .put-parts .kept .1 .1 .0) (s .pre .opened .roomy))
 
@@ -107,8 +106,8 @@ put-bracket-spec =
     put-parts-requires
     enum-told
     enum-known-put
+    add-t27
     mode-after-requires
-    add-t26
     same-length
     same-length-2
     returns

@@ -18,7 +18,7 @@ sub-k : tie.Need-sub-k
 sub-k c = search needs
 
 mul-count : tie.Need-mul-count
-mul-count c = omega (arith, (c .before .before .before .before .pre .count (c .before .before .if1 .left)))
+mul-count c = omega (arith, (c .before .before .before .before .before .pre .count (c .before .before .before .if1 .left)))
 
 sub-count : tie.Need-sub-count
 sub-count c = search needs
@@ -27,10 +27,10 @@ cast-count : tie.Need-cast-count
 cast-count c = search needs
 
 add-count : tie.Need-add-count
-add-count c = omega (arith, (c .before .before .before .before .pre .count (c .before .before .if1 .left)))
+add-count c = omega (arith, (c .before .before .before .before .before .pre .count (c .before .before .before .if1 .left)))
 
 cast-bytes : tie.Need-cast-bytes
-cast-bytes c = record { fits = omega (arith, (c .before .before .before .before .pre .count (c .before .before .if1 .left))) }
+cast-bytes c = record { fits = omega (arith, (c .before .before .before .before .before .pre .count (c .before .before .before .if1 .left))) }
 
 mul-bytes : tie.Need-mul-bytes
 mul-bytes c = search needs
@@ -48,7 +48,7 @@ same-length : tie.Need-same-length
 same-length c = search needs
 
 returns-2 : tie.Need-returns-2
-returns-2 c = rw (ne-eqb _ _ (c .before .before .if1 .left)) (refl, refl)
+returns-2 c = rw (ne-eqb _ _ (c .before .before .before .if1 .left)) (refl, refl)
 
 pub put-digit-spec : {M : Type 1} → statement M
 put-digit-spec =

@@ -36,8 +36,8 @@ add-bytes-2 c = search needs
 slice-write-bytes-2 : tie.Need-slice-write-bytes-2
 slice-write-bytes-2 c = simp length-set (omega arith)
 
-add-t9 : tie.Need-add-t9
-add-t9 c = search needs
+add-t11 : tie.Need-add-t11
+add-t11 c = search needs
 
 same-length : tie.Need-same-length
 same-length c = search needs
@@ -46,8 +46,8 @@ returns : tie.Need-returns
 returns c =
     let u = c .before in
     let f = u .before in
-    let s = f .before .before in
-    (rw (f .first-of .ensures), ap₂ (λ x y. set (set (s .args .bytes .now) (2 + s .args .s .residues) x) (256 + s .args .s .residues) y) (u .upper .ensures) (c .section-code .ensures))
+    let s = f .before .before .before in
+    (rw (f .first-of .ensures), ap₂ (λ x y. set (set (s .args .bytes .now) (2 + s .args .s .tables .residues) x) (256 + s .args .s .tables .residues) y) (u .upper .ensures) (c .section-code .ensures))
 
 pub put-residue-spec : {M : Type 1} → statement M
 put-residue-spec =
@@ -61,6 +61,6 @@ put-residue-spec =
     section-code-requires
     add-bytes-2
     slice-write-bytes-2
-    add-t9
+    add-t11
     same-length
     returns)

@@ -21,7 +21,7 @@ returns : tie.Need-returns
 returns c = λ o g. unscored _ o (rw (c .enum-told .given .1) at g)
 
 returns-2 : tie.Need-returns-2
-returns-2 c = λ o g. scored _ _ _ o (rw (c .enum-told2 .given .1) at g)
+returns-2 c = λ o g. scored _ _ o (rw (c .enum-told2 .given .1) at g)
 
 returns-3 : tie.Need-returns-3
 returns-3 c = λ o g. wide-score _ o (rw (c .enum-told3 .given .1) at g)

@@ -35,7 +35,7 @@ key-marks-requires-3 : tie.Need-key-marks-requires-3
 key-marks-requires-3 c κs = search needs
 
 returns : tie.Need-returns
-returns c = λ v g. of-mass _ _ _ _ _ _ _ (c .key-marks .ensures) v (rw (c .before .enum-told .given .1) at g)
+returns c = λ v g. of-mass _ _ _ _ _ _ (c .key-marks .ensures) v (rw (c .before .enum-told .given .1) at g)
 
 returns-2 : tie.Need-returns-2
 returns-2 c = λ v g. of-wide _ _ _ _ _ (c .key-marks2 .ensures) v (rw (c .before .enum-told2 .given .1) at g)

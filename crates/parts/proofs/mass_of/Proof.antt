@@ -1,6 +1,4 @@
 use borrow.Author.Needs.{needs}
-use mir.Syntax.{w64}
-use mir.ValLaws.{toZ-ofZ}
 use Rattle.parts.proofs.Values.{mass-value, mass-wide, mass-none}
 use Rattle.parts.proofs.mass_of.Statement.{statement}
 use Rattle.parts.proofs.mass_of.Tie as tie
@@ -27,7 +25,7 @@ enum-known-number-3 : tie.Need-enum-known-number-3
 enum-known-number-3 c = search needs
 
 returns : tie.Need-returns
-returns c = λ j d a b k e. mass-value _ _ _ _ _ j d a b k _ e _ _ _ _ (c .before .before .before .number .given .1) (search needs) _ (c .before .bare .ensures) _ (c .value-end .ensures)
+returns c = λ j d a b k e. mass-value _ _ _ _ _ j d a b k _ e _ _ (c .before .before .before .number .given .1) _ (c .before .bare .ensures) _ (c .value-end .ensures)
 
 returns-2 : tie.Need-returns-2
 returns-2 c = λ j d a b k e. mass-wide _ _ _ _ _ j d a b k _ e _ (c .before .before .before .number2 .given .1) _ (c .before .bare2 .ensures) _ (c .value-end2 .ensures)

@@ -1,6 +1,4 @@
 use borrow.Author.Needs.{needs}
-use mir.Syntax.{w64}
-use mir.ValLaws.{toZ-ofZ}
 use Rattle.parts.proofs.Values.{score-value, score-wide, score-none}
 use Rattle.parts.proofs.score_of.Statement.{statement}
 use Rattle.parts.proofs.score_of.Tie as tie
@@ -21,7 +19,7 @@ enum-known-number-3 : tie.Need-enum-known-number-3
 enum-known-number-3 c = search needs
 
 returns : tie.Need-returns
-returns c = λ shut q j d w m k e. score-value _ _ q _ _ shut j d w m k _ e _ _ _ _ (c .before .before .number .given .1) (search needs) _ (c .score-end .ensures)
+returns c = λ shut q j d w m k e. score-value _ _ q _ _ shut j d w m k _ e _ _ (c .before .before .number .given .1) _ (c .score-end .ensures)
 
 returns-2 : tie.Need-returns-2
 returns-2 c = λ shut q j d w m k e. score-wide _ _ q _ _ shut j d w m k _ e _ (c .before .before .number2 .given .1) _ (c .score-end2 .ensures)

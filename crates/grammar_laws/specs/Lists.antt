@@ -9,10 +9,6 @@ use Rattle.scope.specs.Lists.{none?, all as every}
 use Rattle.basics.specs.Tests.{and-left, and-right, both}
 use Rattle.scope.specs.Grammar.{someOf, valueOn}
 
-pub no : (a : Bool) → not a ≡ true → a ≡ false
-no true e = absurd (false≢true e)
-no false e = refl
-
 pub all-append : (f : ℕ → Bool) (l m : List ℕ) → every f l ≡ true → every f m ≡ true → every f (l ++ m) ≡ true
 unfolding every
 all-append f [] m e g = g

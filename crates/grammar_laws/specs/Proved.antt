@@ -12,12 +12,12 @@ use Rattle.scope.specs.Reading.{Reading, stuck, holds, reading}
 use Rattle.scope.specs.Tables.{Tables, tablesOf}
 use Rattle.reading_laws.specs.Places.{mapPart, mapContent}
 use Rattle.reading_laws.specs.Run.{unnoted}
-use Rattle.reading_laws.specs.Unnoted.{digitRun}
+use Rattle.reading_laws.specs.Unnoted.{digitRun, closed-same}
 use Rattle.scope.specs.Grammar.{Spelling, print, good, means}
 use Rattle.grammar_laws.specs.Numerals.{numeral-run, numeral-end, readAs, SoFar, so-further, so-ended}
 use Rattle.grammar_laws.specs.Texts.{textRun, outer-run, whole-text}
 use Rattle.grammar_laws.specs.Words.{word-length}
-use Rattle.grammar_laws.specs.Runs.{context, notedRun, closed-same, run-bare}
+use Rattle.grammar_laws.specs.Runs.{context, notedRun, run-bare}
 use Rattle.grammar_laws.specs.Printed.{inside-run}
 use Rattle.grammar_laws.specs.Spelled.{closed-spelled}
 use Rattle.grammar_laws.specs.Written.{line-read}

@@ -1,4 +1,4 @@
--- Texts: the bytes of a good text leave no closer owed, and bytes that leave none are a good text.
+-- Texts: the bytes of a good text leave not-true closer owed, and bytes that leave none are a good text.
 use Prim.Native.Nat.{ℕ}
 use native.Mathlib.Omega.{arith}
 use mathlib.Core.Path.{_≡_, refl, sym, ap, _∙_, subst}
@@ -6,14 +6,13 @@ use mathlib.Core.Bool.{Bool, true, false, not, cond, _&&_, _||_, true≢false}
 use mathlib.Core.Option.{Option, none, some, Option·some-injective, Option·none-ne-some}
 use mathlib.Core.List.{List, [], _∷_, _++_, append-assoc}
 use lib.Dec.{eqb}
-use borrow.Author.Tests.{eqb-true, ne-eqb}
+use borrow.Author.Tests.{eqb-true, ne-eqb, not-true}
 use Rattle.scope.specs.Bytes.{isPrintable, isOpening, isShutting, closerOf, openSquare, shutSquare, openCurly, shutCurly, bar, hash, colon}
 use Rattle.scope.specs.Lists.{given}
 use Rattle.scope.specs.Content.{isPlain, textStep}
 use Rattle.basics.specs.Choice.{pick-true, pick-false, pick-some}
 use Rattle.basics.specs.Tests.{and-left, and-right, both}
 use Rattle.scope.specs.Grammar.{Text, over, byte, square, curly, printText, plainByte, outerByte, goodText}
-use Rattle.grammar_laws.specs.Lists.{no}
 
 -- the closers owed after some bytes
 unfoldable pub textRun : Bool → List ℕ → List ℕ → Option (List ℕ)
@@ -80,9 +79,9 @@ inner-step : (hashes : Bool) (c : ℕ) (cs : List ℕ) (b : ℕ) → isShutting 
 unfolding textStep
 inner-step hashes c cs b h e =
     let p : isPrintable b ≡ true = and-left (isPrintable b) (not (isOpening b)) (and-left (isPrintable b && not (isOpening b)) (not (isShutting b)) e) in
-    let o : isOpening b ≡ false = no (isOpening b) (and-right (isPrintable b) (not (isOpening b)) (and-left (isPrintable b && not (isOpening b)) (not (isShutting b)) e)) in
+    let o : isOpening b ≡ false = not-true (isOpening b) (and-right (isPrintable b) (not (isOpening b)) (and-left (isPrintable b && not (isOpening b)) (not (isShutting b)) e)) in
     let s : not (isShutting b) ≡ true = and-right (isPrintable b && not (isOpening b)) (not (isShutting b)) e in
-    let d : eqb b c ≡ false = ne-eqb b c (λ z. true≢false (sym h ∙ ap isShutting (sym z) ∙ no (isShutting b) s)) in
+    let d : eqb b c ≡ false = ne-eqb b c (λ z. true≢false (sym h ∙ ap isShutting (sym z) ∙ not-true (isShutting b) s)) in
     pick-false (isOpening b) _ _ o ∙ pick-false (eqb b c) _ _ d ∙ pick-true (isPrintable b && not (isShutting b)) _ _ (both (isPrintable b) (not (isShutting b)) p s)
 
 -- a pair, within others
@@ -147,7 +146,7 @@ module _ (hashes : Bool) where
       curly-run hashes [] (printText u) (printText t) _ (inner-run u shutCurly [] refl (and-left (goodText plainByte u) (goodText (outerByte hashes) t) e))
       (outer-run t (and-right (goodText plainByte u) (goodText (outerByte hashes) t) e))
 
--- ---- bytes that leave no closer owed are texts: one up to each closer, and one behind the last
+-- ---- bytes that leave not-true closer owed are texts: one up to each closer, and one behind the last
 pub record Whole (hashes : Bool) (l : List ℕ) : Type 0 where
   pub tree : Text
   pub good : goodText (outerByte hashes) tree ≡ true
@@ -304,7 +303,12 @@ module _ (hashes : Bool) where
               (ih (c ∷ cs) g)
           go false false false p q r g = absurd (Option·none-ne-some [] g)
 
-  -- bytes that leave no closer owed are a text
+  -- bytes that leave not-true closer owed are a text
   pub whole-text : (l : List ℕ) → textRun hashes [] l ≡ some [] → Whole hashes l
   unfolding Nested
   whole-text l e = nested l [] e
+
+-- a plain byte opens and closes nothing
+pub plain-stays : (b : ℕ) → isPlain b ≡ true → textStep false [] b ≡ some []
+unfolding textStep
+plain-stays b q = pick-true (outer false b) _ _ (ap (λ z. z || eqb b colon || false) q)

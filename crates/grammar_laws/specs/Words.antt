@@ -1,4 +1,4 @@
--- Key words: a word that folds to a key's spelling is that key, and no other; it is of letters alone.
+-- Key words: a word that folds to a key's spelling is that key, and not-true other; it is of letters alone.
 use Prim.Native.Nat.{ℕ, zero, suc, _+_, _-_}
 use native.Mathlib.Omega.{arith}
 use mathlib.Core.Path.{_≡_, refl, sym, ap, _∙_, subst}
@@ -7,17 +7,16 @@ use mathlib.Core.Option.{Option, none, some, Option·some-injective, Option·non
 use mathlib.Core.List.{List, [], _∷_, _++_, append-assoc, append-nil}
 use lib.Dec.{eqb, leb}
 use lib.ListN.{length, length-append}
-use borrow.Author.Tests.{eqb-true, leb-true, le-leb}
+use borrow.Author.Tests.{eqb-true, leb-true, le-leb, not-true}
 use Rattle.scope.specs.declared.grammar.Key.{Key}
 use Rattle.scope.specs.declared.grammar.Key.the-variants.{NoKey, U, M, R, X, G, C, Obs, Unimod, Mod, Xlmod, Resid, Gno, Info, Formula, Glycan, Position, Limit}
 use Rattle.scope.specs.Bytes.{upper, isUpper, isLower, isLetter, colon, sameFolded}
 use Rattle.scope.specs.Keys.{spell, keys, keyAmong, keyOf, written}
 use Rattle.basics.specs.Choice.{branch-on, pick-true, pick-false}
 use Rattle.basics.specs.Each.{Each}
-use Rattle.basics.specs.Tests.{and-left, and-right, both}
+use Rattle.basics.specs.Tests.{and-left, and-right, both, or-first, or-second}
 use Rattle.scope.specs.Lists.{all as every, there?}
 use Rattle.scope.specs.Grammar.{withColon, leadKey}
-use Rattle.grammar_laws.specs.Lists.{no}
 use Rattle.basics.specs.Lists.{folded-length}
 
 -- ---- two spellings that fold to one
@@ -68,7 +67,7 @@ itself Limit x t e = refl
 pub word-key : (k : Key) (x : ℕ) (t : List ℕ) → sameFolded (spell k) (x ∷ t) ≡ true → keyOf (x ∷ t) ≡ some k
 word-key k x t e = sym (key-folded (spell k) (x ∷ t) e) ∙ itself k x t e
 
--- no word, no key
+-- not-true word, not-true key
 pub word-none : (k : Key) → sameFolded (spell k) [] ≡ true → k ≡ NoKey
 unfolding spell sameFolded
 word-none NoKey e = refl
@@ -138,18 +137,11 @@ folded-letter x y e h = go (isLower x) (isLower y) refl refl
     either true v p q = refl
     either false v p q = absurd (false≢true (sym q ∙ p))
 
-    front : (u v : Bool) → u ≡ true → (u || v) ≡ true
-    front u v p = rw p
-
-    back : (u v : Bool) → v ≡ true → (u || v) ≡ true
-    back true v p = refl
-    back false v p = p
-
     go : (p q : Bool) → isLower x ≡ p → isLower y ≡ q → isLetter y ≡ true
-    go p true f g = back (isUpper y) (isLower y) g
+    go p true f g = or-second (isUpper y) (isLower y) g
     go true false f g =
         let z : y ≡ x - 32 = sym (pick-false (isLower y) (y - 32) y g) ∙ sym e ∙ pick-true (isLower x) (x - 32) x f in
-        front (isUpper y) (isLower y) (ap isUpper z ∙ capital x f)
+        or-first (isUpper y) (isLower y) (ap isUpper z ∙ capital x f)
     go false false f g =
         let z : y ≡ x = sym (pick-false (isLower y) (y - 32) y g) ∙ sym e ∙ pick-false (isLower x) (x - 32) x f in
         ap isLetter z ∙ h
@@ -167,7 +159,7 @@ folded-letters (x ∷ a) (y ∷ b) e h =
 pub key-letters : (t : List ℕ) (k : Key) → keyOf t ≡ some k → every isLetter t ≡ true
 key-letters t k e = folded-letters (spell k) t (named t k e .folds) (named t k e .letters)
 
--- a word with a byte in it that is no letter is no key
+-- a word with a byte in it that is not-true letter is not-true key
 unlettered : (t r : List ℕ) (b : ℕ) → isLetter b ≡ false → every isLetter (t ++ (b ∷ r)) ≡ false
 unfolding every
 unlettered [] r b e = ap (λ z. z && every isLetter r) e
@@ -189,7 +181,7 @@ pub lead-over : (w t r : List ℕ) → every (λ b. not (eqb b colon)) t ≡ tru
 unfolding leadKey every
 lead-over w [] r e = ap (λ z. leadKey z r) (sym (append-nil w))
 lead-over w (b ∷ t) r e =
-    pick-false (eqb b colon) _ _ (no (eqb b colon) (and-left (not (eqb b colon)) (every (λ b. not (eqb b colon)) t) e))
+    pick-false (eqb b colon) _ _ (not-true (eqb b colon) (and-left (not (eqb b colon)) (every (λ b. not (eqb b colon)) t) e))
     ∙ lead-over (w ++ (b ∷ [])) t r (and-right (not (eqb b colon)) (every (λ b. not (eqb b colon)) t) e)
     ∙ ap (λ z. leadKey z r) (append-assoc w (b ∷ []) t)
 
@@ -197,7 +189,7 @@ pub lead-colon : (w r : List ℕ) → leadKey w (colon ∷ r) ≡ keyOf w
 unfolding leadKey
 lead-colon w r = refl
 
--- a word that holds a byte that is no letter begins no key
+-- a word that holds a byte that is not-true letter begins not-true key
 lead-spoilt : (w v r : List ℕ) (b : ℕ) → isLetter b ≡ false → leadKey (w ++ (b ∷ v)) r ≡ none
 unfolding leadKey
 lead-spoilt w v [] b e = refl

@@ -27,29 +27,9 @@ use Rattle.basics.specs.Each.{Each, OfGiven}
 use Rattle.accepted_laws.specs.Within.{NumberWithin, LabelWithin, ValueWithin, PartWithin, BracketWithin, Within}
 use Rattle.layout_laws.specs.At.{At, at-read, at-head, at-first, at-next, at-part, at-start}
 use Rattle.layout_laws.specs.Numbers.{number-back}
+use Rattle.basics.specs.Keys.{key-back}
 
 -- ---- codes
-key-back : (k : Key) → keyIn (keyCode k) ≡ k
-unfolding keys
-key-back NoKey = refl
-key-back U = refl
-key-back M = refl
-key-back R = refl
-key-back X = refl
-key-back G = refl
-key-back C = refl
-key-back Obs = refl
-key-back Unimod = refl
-key-back Mod = refl
-key-back Xlmod = refl
-key-back Resid = refl
-key-back Gno = refl
-key-back Info = refl
-key-back Formula = refl
-key-back Glycan = refl
-key-back Position = refl
-key-back Limit = refl
-
 kind-back : (k : Kind) → kindIn (kindCode k) ≡ k
 kind-back Unknown = refl
 kind-back Labile = refl

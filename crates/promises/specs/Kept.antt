@@ -40,7 +40,8 @@ use Rattle.scope.specs.Grammar.{Spelling, print, good as wellSpelt, means}
 use Rattle.grammar_laws.specs.Laws.{Accepts, Refuses}
 use Rattle.grammar_laws.specs.Proved as spelled
 use Rattle.layout_laws.specs.Laws.{tables-held}
-use Rattle.placement_laws.specs.Terms.{In, Ascending, AllRising, afterRequests, outOf, handedOut}
+use Rattle.placement_laws.specs.Terms.{Ascending, AllRising, afterRequests, outOf, handedOut}
+use Rattle.basics.specs.Each.{In}
 use Rattle.placement_laws.specs.Laws as placing
 use Rattle.laws.specs.Demands as laws
 use Rattle.laws.specs.Proved.{demands}

@@ -27,7 +27,8 @@ use Rattle.scope.specs.Masses.{sum, labileMass}
 use Rattle.scope.specs.Answers.{tooShort, saysRequest, saysTotal, saysBooked, requests, listingAfter, allows, totals, books, entries}
 use Rattle.scope.specs.Grammar.{Spelling, print, good, means}
 use Rattle.grammar_laws.specs.Laws.{Accepts, Refuses}
-use Rattle.placement_laws.specs.Terms.{In, Ascending}
+use Rattle.placement_laws.specs.Terms.{Ascending}
+use Rattle.basics.specs.Each.{In}
 use Rattle.reader.specs.ReadSays.{ReadSays}
 use Rattle.calls.specs.declared.Next.{Next}
 use Rattle.calls.specs.Writing.{WriteSays}

@@ -118,14 +118,11 @@ no-key-written : length (written NoKey) ≡ 0
 unfolding written spell
 no-key-written = refl
 
-snoc-length : (t : List ℕ) (b : ℕ) → length (t ++ (b ∷ [])) ≡ length t + 1
-snoc-length t b = length-append t (b ∷ [])
-
 -- ---- one byte more, of n
 module _ (n i : ℕ) (h : i < n) where
   -- a text goes on
   longer : (at : ℕ) (k : Key) (t : List ℕ) (b : ℕ) → Text n i at k (length t) → Text n (i + 1) at k (length (t ++ (b ∷ [])))
-  longer at k t b w = record { begun = w .begun; so-far = omega (arith, w .so-far, snoc-length t b) }
+  longer at k t b w = record { begun = w .begun; so-far = omega (arith, w .so-far, length-append t (b ∷ [])) }
 
   -- a text begins at this byte
   fresh : Text n (i + 1) i NoKey 1

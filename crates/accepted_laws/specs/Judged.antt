@@ -1,4 +1,4 @@
--- What a line keeps to because no refusal is due.
+-- What a line keeps to because no refusal is due: a list of places that is empty says of each element that its test is false.
 use mathlib.Core.Path.{_≡_, refl, sym, ap, _∙_}
 use mathlib.Core.Bool.{Bool, true, false, not, cond, _&&_, _||_, false≢true, true≢false}
 use mathlib.Core.Option.{Option, none, some}
@@ -14,9 +14,9 @@ use Rattle.scope.specs.Bytes.{isPrintable}
 use Rattle.scope.specs.Line.{Number, Label, Value, mass, text, reference, Part, Bracket, Line}
 use Rattle.scope.specs.Keys.{keyCode}
 use Rattle.scope.specs.Lists.{given, flat}
-use Rattle.scope.specs.Reading.{Reading, stuck, holds, reading}
+use Rattle.scope.specs.Reading.{holds, reading}
 use Rattle.scope.specs.Modifications.{namesOf, isLabelled, copies, definedBy, defined, referredTo}
-use Rattle.scope.specs.Refusals.{dueAt, unprintable, refusal1, refusal2, refusal3, refusal5, refusal6, refusal7, refusal8, refusal9, refusal10, refusal11, refusal12, textOf, longText, longLabel, overIn, inRange, wide, wideMass, wideScore, wideCount, notHere, isRule, isLink, secondLabel, definedAgain, undefined, countedLabel, unreferred, wrongLabels, wronglyLabelled, passing, Outcome, accepted, refused, firstDue, judged, outcome}
+use Rattle.scope.specs.Refusals.{dueAt, unprintable, refusal2, refusal3, refusal6, refusal7, refusal8, refusal11, refusal12, textOf, longText, longLabel, overIn, inRange, wide, wideMass, wideScore, wideCount, notHere, isRule, isLink, secondLabel, definedAgain, undefined, countedLabel, unreferred, wrongLabels, wronglyLabelled, passing, accepted, outcome}
 use Rattle.scope.specs.Positions.{floaters}
 use Rattle.basics.specs.Lists.{least-none, not-due, nil-front, nil-back, flat-none}
 use Rattle.basics.specs.Tests.{or-left, or-right}

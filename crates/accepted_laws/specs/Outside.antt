@@ -27,7 +27,7 @@ use Rattle.basics.specs.Tests.{and-left, and-right, implied}
 use Rattle.basics.specs.Lists.{flat-append-length, flat-one-length}
 use Rattle.basics.specs.Choice.{branch}
 use Rattle.reading_laws.specs.Acts.{each-mode, act-rule}
-use Rattle.reading_laws.specs.Kept.{Whole, reading-whole-from, put-by, digit-by}
+use Rattle.reading_laws.specs.Kept.{reading-whole-from, put-by, digit-by}
 use Rattle.basics.specs.Each.{each-last, Each, each-append, each-map, each-one, each-two}
 use Rattle.accepted_laws.specs.Within.{Byte, Nowhere, Stands}
 use Rattle.accepted_laws.specs.Inside.{PartShape, PartsShape, Carried, InnerKeeps, ContentKeeps, inner-step}

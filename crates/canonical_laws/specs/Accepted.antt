@@ -1,21 +1,20 @@
--- Accepted lines: what is known of them, and of what they hold with places forgotten.
+-- What an accepted line gives the way back: its numbers and counts are small enough to be written in full, and two lines that are alike with places forgotten
+-- are alike for every refusal.
 use Prim.Native.Nat.{ℕ, _*_, _/_, _^_, _<_}
-use mathlib.Core.Path.{_≡_, refl, sym, ap, _∙_, subst}
-use mathlib.Core.Bool.{Bool, true, false, not, cond, _||_}
+use mathlib.Core.Path.{_≡_, refl, sym, ap, _∙_}
+use mathlib.Core.Bool.{true, not, _||_}
 use mathlib.Core.Option.{Option, none, some, Option·none-ne-some}
 use mathlib.Core.List.{List, [], _∷_, _++_, map}
 use native.Mathlib.Omega.{arith}
 use native.Mathlib.Nat.{div-lt-iff-lt-mul}
 use lib.Dec.{eqb, leb, ltb}
 use borrow.Author.Tests.{eq-eqb, ltb-true, ltb-false, not-false}
-use Rattle.scope.specs.declared.grammar.Mode.{Mode}
 use Rattle.scope.specs.Limits.{sizeLimit, countLimit}
 use Rattle.scope.specs.Line.{Number, Label, Value, mass, text, reference, Part, Bracket, Line}
 use Rattle.scope.specs.Lists.{given, flat, optional}
-use Rattle.scope.specs.Reading.{mayEnd, Held, State, dead, outside, inside, run, start, Reading, stuck, holds, lineOf, ended, reading}
-use Rattle.scope.specs.Refusals.{dueAt, inRange, wide, wideMass, wideScore, wideCount, refusal7, Due, Outcome, accepted, refused, firstDue, lineRefusals, judged, byteRefusals, outcome}
+use Rattle.scope.specs.Reading.{run, start}
+use Rattle.scope.specs.Refusals.{dueAt, inRange, wide, wideMass, wideScore, wideCount, refusal7}
 use Rattle.scope.specs.Tables.{bareBracket}
-use Rattle.reading_laws.specs.Laws.{Clear}
 use Rattle.reading_laws.specs.Places.{mapNumber, mapLabel, mapValue, mapPart, mapBracket, mapState, bareBracket-map}
 use Rattle.reading_laws.specs.Run.{run-map, unnoted}
 use Rattle.basics.specs.Lists.{nil-front, nil-back, least-none, not-due, flat-none}

@@ -1,4 +1,4 @@
--- The laws of specs/Laws.antt hold.
+-- The laws of specs/Laws.antt hold: what the canonical line reads to differs from the line in places alone, and places enter neither tables nor refusals.
 use Prim.Native.Nat.{ℕ, _≤_}
 use mathlib.Core.Path.{_≡_, refl, sym, ap, _∙_, subst}
 use mathlib.Core.Logic.{_↔_}
@@ -13,7 +13,7 @@ use Rattle.scope.specs.declared.grammar.Mode.{Mode}
 use Rattle.scope.specs.Limits.{lineLimit}
 use Rattle.scope.specs.Line.{Residue, Line}
 use Rattle.scope.specs.Reading.{mayEnd, Held, State, dead, outside, inside, run, start, holds, lineOf, ended, reading}
-use Rattle.scope.specs.Refusals.{refusal1, refusal2, refusal7, accepted, lineRefusals, outcome}
+use Rattle.scope.specs.Refusals.{refusal2, refusal7, accepted, lineRefusals, outcome}
 use Rattle.scope.specs.Canonical.{canonical}
 use Rattle.scope.specs.Tables.{Tables, bareBracket, bareResidue, tablesOf}
 use Rattle.reading_laws.specs.Laws.{Clear}

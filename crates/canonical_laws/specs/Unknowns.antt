@@ -15,7 +15,7 @@ use Rattle.scope.specs.declared.grammar.Act.the-variants.{Go}
 use Rattle.scope.specs.Bytes.{isDigit, openSquare, shutSquare, caret, question, dash}
 use Rattle.scope.specs.Line.{Bracket}
 use Rattle.scope.specs.Reading.{square, front, undecided, counted, referred, act, Held, countDigit, asNTerm, settledRun, State, outside, perform, refers?, modeAfter, start}
-use Rattle.scope.specs.Lists.{onLast, flat}
+use Rattle.scope.specs.Lists.{flat}
 use Rattle.scope.specs.Canonical.{decimalUpTo, decimal, partsText, squareText, unknownText, closedBy}
 use Rattle.basics.specs.Choice.{pick-true, pick-false}
 use Rattle.basics.specs.Each.{Each}

@@ -1,4 +1,4 @@
--- Tests and lists of places, as relations.
+-- A test, and a place in a list of places, as what they say: one equivalence for each way in which Refusals.antt builds a test or a list.
 use Prim.Native.Nat.{ℕ}
 use mathlib.Core.Path.{_≡_, refl, sym, ap, _∙_}
 use mathlib.Core.Logic.{_↔_, _⊎_, inl, inr}

@@ -1,5 +1,5 @@
--- Refusals 1 to 3, 5 to 7 and 12, clause by clause.
-use Prim.Native.Nat.{ℕ, zero, suc, _+_, _-_, _*_, _^_, _≤_, _<_}
+-- Refusals 1 to 3, 5 to 7 and 12 are due exactly as their clauses say: each list of places is opened piece by piece, and a limit is a test.
+use Prim.Native.Nat.{ℕ, zero, suc, _+_, _*_, _^_, _≤_, _<_}
 use native.Mathlib.Omega.{arith}
 use native.Mathlib.Nat.{add-zero}
 use mathlib.Core.Path.{_≡_, refl, sym, ap, _∙_, subst}

@@ -1,4 +1,4 @@
--- Refusals 8 to 11, clause by clause.
+-- Refusals 8 to 11 are due exactly as their clauses say: of keys by their codes, of labels by the names in front of a bracket.
 use Prim.Native.Nat.{ℕ}
 use mathlib.Core.Path.{_≡_, refl, sym, ap, _∙_, subst}
 use mathlib.Core.Logic.{_↔_, _⊎_, inl, inr}
@@ -8,12 +8,12 @@ use mathlib.Core.List.{List, [], _∷_, _++_}
 use lib.ListN.{length}
 use borrow.Author.Tests.{eqb-true, eq-eqb, ltb-true, lt-ltb}
 use Rattle.scope.specs.declared.grammar.Key.{Key}
-use Rattle.scope.specs.declared.grammar.Key.the-variants.{NoKey, U, M, R, X, G, C, Obs, Unimod, Mod, Xlmod, Resid, Gno, Info, Formula, Glycan, Position, Limit}
+use Rattle.scope.specs.declared.grammar.Key.the-variants.{NoKey, U, M, Info, Formula, Glycan, Position, Limit}
 use Rattle.scope.specs.declared.grammar.Kind.{Kind}
 use Rattle.scope.specs.declared.grammar.Kind.the-variants.{Unknown, Labile, NTerm, OnResidue, OnRange, CTerm}
 use Rattle.scope.specs.Bytes.{isDigit}
 use Rattle.scope.specs.Line.{Label, Part, Bracket, Line}
-use Rattle.scope.specs.Keys.{keys, keyCode, keyIn}
+use Rattle.scope.specs.Keys.{keyCode, keyIn}
 use Rattle.scope.specs.Lists.{given, none?, flat, among, shared}
 use Rattle.scope.specs.Modifications.{isKey, isReferring, nameOf, namesOf, isLabelled, definedBy, referredBy, defined, referredTo}
 use Rattle.scope.specs.Refusals.{dueAt, textOf, isRule, isLink, notHere, secondLabel, definedAgain, undefined, unreferred, wrongLabels, wronglyLabelled, refusal8, isNumberName, refusal9, refusal10, refusal11}

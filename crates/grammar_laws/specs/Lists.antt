@@ -1,4 +1,4 @@
--- Facts about tests and lists of bytes.
+-- A list of bytes that all pass a test, with one byte more; and the number that digits mean, digit by digit.
 use Prim.Native.Nat.{ℕ, _+_, _*_}
 use native.Mathlib.Omega.{arith}
 use mathlib.Core.Path.{_≡_, refl, ap}

@@ -21,7 +21,7 @@ use Rattle.scope.specs.Bytes.{isLetter, isDigit, openSquare, shutSquare, openCu
 use Rattle.scope.specs.Content.{begin, Inner, Content, lost, closed, going, innerStep}
 use Rattle.scope.specs.Reading.{square, front, labile, element, further, groupFirst, inGroup, undecided, counted, referred, act, mayEnd, Held, withResidue, withBracket, withDigit, asNTerm, settledRun, State, dead, outside, inside, perform, refers?, modeAfter, resume, step, start, lineOf}
 use Rattle.reading_laws.specs.Run.{told}
-use Rattle.reading_laws.specs.Unnoted.{Place, Parts, context, contentStep, contentRun, lineRun, line-nil, line-cons, same-mode, content-cons, content-nil}
+use Rattle.reading_laws.specs.Unnoted.{Place, Parts, context, contentRun, lineRun, line-nil, line-cons, same-mode, content-cons, content-nil}
 use Rattle.basics.specs.Tests.{both}
 use Rattle.reading_laws.specs.Acts.{Ending, single-ends, ranged-ends, unsure-ends, cterms-end, ending}
 use Rattle.scope.specs.Lists.{there?, all as every, flat}

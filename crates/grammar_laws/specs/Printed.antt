@@ -251,7 +251,7 @@ module _ (c : Context ℕ) where
           (in-text-end (i + 1) at NoKey (t ++ (b ∷ [])) r cs e (after cs z) (not-empty t r b) (h .text) ∙ regroup)
       go false false none x y z ih = absurd (Option·none-ne-some [] (sym (pick-none (textStep false [] b) (λ v. textRun false v r) none z) ∙ f))
 
-  -- a name that begins not-true key, from the begin of its part
+  -- a name that begins no key, from the begin of its part
   name-run : (i : ℕ) (r : List ℕ) (e : ℕ) → Stop e → textRun false [] r ≡ some [] → none? r ≡ false → firstSign r ≡ false → leadKey [] r ≡ none
       → notedRun i (going (begin c)) (r ++ (e ∷ [])) ≡ valueEnd c (unlabelled i NoKey (text r)) e
   unfolding innerStep textRun leadKey
@@ -363,7 +363,7 @@ module _ (c : Context ℕ) where
       absurd (none-of t b n)
   code-run i k (x ∷ w) t e f h n a = behind-run i k x w t e _ f (code-behind (i + length (withColon (x ∷ w))) i (form k) k t e refl h n a)
 
-  -- where `#` is plain, not-true label ends the text
+  -- where `#` is plain, no label ends the text
   abbrev Ended : Form → ℕ → Type 0
   Ended f e = eqb e hash ≡ true → tagFits f ≡ true
 

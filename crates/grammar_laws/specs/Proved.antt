@@ -1,4 +1,4 @@
--- The laws of specs/Laws.antt hold.
+-- The laws of specs/Laws.antt hold: one way by what a tree prints (Printed, Written), the other by the tree that is found for what is read (Spelled, Parsed).
 use Prim.Native.Nat.{ℕ}
 use mathlib.Core.Path.{_≡_, refl, sym, ap, _∙_, subst}
 use mathlib.Core.Bool.{Bool, true}

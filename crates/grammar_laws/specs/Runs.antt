@@ -3,14 +3,14 @@ use Prim.Native.Nat.{ℕ, suc, _+_}
 use native.Mathlib.Omega.{arith}
 use native.Mathlib.Nat.{add-zero}
 use mathlib.Core.Path.{_≡_, refl, sym, ap, _∙_}
-use mathlib.Core.Bool.{Bool, true, false, cond}
+use mathlib.Core.Bool.{Bool}
 use mathlib.Core.List.{List, [], _∷_, _++_}
 use lib.ListN.{length}
 use Rattle.scope.specs.declared.grammar.Mode.{Mode}
 use Rattle.scope.specs.declared.grammar.Slot.{Slot}
 use Rattle.scope.specs.Line.{Part}
 use Rattle.scope.specs.Content.{Context, Inner, Content, lost, closed, going, innerStep}
-use Rattle.scope.specs.Reading.{act, Held, withBracket, State, outside, inside, perform, refers?, modeAfter, resume, step, run}
+use Rattle.scope.specs.Reading.{act, Held, withBracket, State, outside, inside, perform, modeAfter, resume, step, run}
 use Rattle.reading_laws.specs.Places.{mapContent, innerStep-map}
 use Rattle.reading_laws.specs.Run.{run-nil, run-cons, run-append, unnoted}
 use Rattle.reading_laws.specs.Unnoted.{contentStep, contentRun, lost-closed, going-closed, closed-same}

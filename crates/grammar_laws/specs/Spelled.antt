@@ -13,7 +13,7 @@ use Rattle.scope.specs.Line.{Number, mass, text, reference, Part}
 use Rattle.scope.specs.Keys.{spell, keyOf, Form, massOrName, massOnly, digits, alnums, free, form, hashIsPlain, accessionByte}
 use Rattle.scope.specs.Content.{Digits, signed, digitStep, numberEnd, isPlain, textStep, Context, Inner, begin, plain, keyed, inNumber, inCode, inText, hashed, inLabel, scoring, inScore, scored, Content, lost, closed, going, with, unlabelled, labelled, isReference, partEnd, valueEnd, textEnd, behindKey, colonAfter, nameBehind, innerStep}
 use Rattle.scope.specs.Lists.{none?, all as every, there?}
-use Rattle.basics.specs.Choice.{branch-on, given-on, pick-true, pick-false}
+use Rattle.basics.specs.Choice.{branch-on, given-on, pick-false}
 use Rattle.basics.specs.Each.{Each, each-append}
 use Rattle.reading_laws.specs.Unnoted.{Place, Parts, context, contentStep, contentRun}
 use Rattle.basics.specs.Tests.{and-left, and-right, both}

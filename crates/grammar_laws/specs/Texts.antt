@@ -1,4 +1,4 @@
--- Texts: the bytes of a good text leave not-true closer owed, and bytes that leave none are a good text.
+-- Texts: the bytes of a good text leave no closer owed, and bytes that leave none are a good text.
 use Prim.Native.Nat.{ℕ}
 use native.Mathlib.Omega.{arith}
 use mathlib.Core.Path.{_≡_, refl, sym, ap, _∙_, subst}
@@ -146,7 +146,7 @@ module _ (hashes : Bool) where
       curly-run hashes [] (printText u) (printText t) _ (inner-run u shutCurly [] refl (and-left (goodText plainByte u) (goodText (outerByte hashes) t) e))
       (outer-run t (and-right (goodText plainByte u) (goodText (outerByte hashes) t) e))
 
--- ---- bytes that leave not-true closer owed are texts: one up to each closer, and one behind the last
+-- ---- bytes that leave no closer owed are texts: one up to each closer, and one behind the last
 pub record Whole (hashes : Bool) (l : List ℕ) : Type 0 where
   pub tree : Text
   pub good : goodText (outerByte hashes) tree ≡ true
@@ -303,7 +303,7 @@ module _ (hashes : Bool) where
               (ih (c ∷ cs) g)
           go false false false p q r g = absurd (Option·none-ne-some [] g)
 
-  -- bytes that leave not-true closer owed are a text
+  -- bytes that leave no closer owed are a text
   pub whole-text : (l : List ℕ) → textRun hashes [] l ≡ some [] → Whole hashes l
   unfolding Nested
   whole-text l e = nested l [] e

@@ -1,4 +1,4 @@
--- Key words: a word that folds to a key's spelling is that key, and not-true other; it is of letters alone.
+-- Key words: a word that folds to a key's spelling is that key, and no other; it is of letters alone.
 use Prim.Native.Nat.{ℕ, zero, suc, _+_, _-_}
 use native.Mathlib.Omega.{arith}
 use mathlib.Core.Path.{_≡_, refl, sym, ap, _∙_, subst}
@@ -67,7 +67,7 @@ itself Limit x t e = refl
 pub word-key : (k : Key) (x : ℕ) (t : List ℕ) → sameFolded (spell k) (x ∷ t) ≡ true → keyOf (x ∷ t) ≡ some k
 word-key k x t e = sym (key-folded (spell k) (x ∷ t) e) ∙ itself k x t e
 
--- not-true word, not-true key
+-- no word, no key
 pub word-none : (k : Key) → sameFolded (spell k) [] ≡ true → k ≡ NoKey
 unfolding spell sameFolded
 word-none NoKey e = refl
@@ -159,7 +159,7 @@ folded-letters (x ∷ a) (y ∷ b) e h =
 pub key-letters : (t : List ℕ) (k : Key) → keyOf t ≡ some k → every isLetter t ≡ true
 key-letters t k e = folded-letters (spell k) t (named t k e .folds) (named t k e .letters)
 
--- a word with a byte in it that is not-true letter is not-true key
+-- a word with a byte in it that is no letter is no key
 unlettered : (t r : List ℕ) (b : ℕ) → isLetter b ≡ false → every isLetter (t ++ (b ∷ r)) ≡ false
 unfolding every
 unlettered [] r b e = ap (λ z. z && every isLetter r) e
@@ -189,7 +189,7 @@ pub lead-colon : (w r : List ℕ) → leadKey w (colon ∷ r) ≡ keyOf w
 unfolding leadKey
 lead-colon w r = refl
 
--- a word that holds a byte that is not-true letter begins not-true key
+-- a word that holds a byte that is no letter begins no key
 lead-spoilt : (w v r : List ℕ) (b : ℕ) → isLetter b ≡ false → leadKey (w ++ (b ∷ v)) r ≡ none
 unfolding leadKey
 lead-spoilt w v [] b e = refl

@@ -18,12 +18,12 @@ use Rattle.scope.specs.declared.grammar.Slot.{Slot}
 use Rattle.scope.specs.declared.grammar.Act.the-variants.{Go, Residue as aResidue, Begin, Digit, RunEnds, TermEnds}
 use Rattle.scope.specs.Bytes.{isLetter, isDigit, isShutting, openSquare, shutSquare, openCurly, shutCurly, openRound, shutRound, caret, question, dash, value}
 use Rattle.scope.specs.Line.{Bracket, Residue}
-use Rattle.scope.specs.Content.{isReference, begin}
+use Rattle.scope.specs.Content.{begin}
 use Rattle.scope.specs.Reading.{square, front, labile, element, further, groupFirst, inGroup, undecided, counted, referred, act, mayEnd, Held, nothing, firstOf, withResidue, firstPosition, lastPosition, settled, waiting, put, withBracket, times, countDigit, withDigit, asNTerm, settledRun, State, outside, inside, perform, refers?, modeAfter, step, run, holds, ended, reading}
 use Rattle.scope.specs.Lists.{onLast, all as every, flat}
 use Rattle.basics.specs.Choice.{pick-true, pick-false}
 use Rattle.basics.specs.Tests.{and-left, and-right}
-use Rattle.scope.specs.Grammar.{someOf, valueOn, Base, delta, code, wording, valueIn, Inside, meansPieces, parts, refers, printInside, goodInside, meansInside, printSquare, printCurly, along, eachAlong, printSquares, goodSquares, goodCurlies, bracketAt, meansSquares, Marked, printCount, goodCount, printMarked, goodMarked, counting, meansMarked, Run, marks, printRun, goodRun, meansRun, Spot, Element, single, range, unsure, printSpot, printElement, goodSpot, goodElement, residueOf, residuesOn, residuesIn, bracketsOn, bracketsIn, bracketsAlong, Spelling, elements, printFront, printBack, print, good, atLabiles, atFront, atSequence, residuesOf, backOf, meansAt, means}
+use Rattle.scope.specs.Grammar.{someOf, valueOn, Inside, meansPieces, parts, refers, printInside, goodInside, meansInside, printSquare, printCurly, along, eachAlong, printSquares, goodSquares, goodCurlies, bracketAt, meansSquares, Marked, printCount, goodCount, printMarked, goodMarked, counting, meansMarked, Run, marks, printRun, goodRun, meansRun, Spot, Element, single, range, unsure, printSpot, printElement, goodSpot, goodElement, residueOf, residuesOn, residuesIn, bracketsOn, bracketsIn, bracketsAlong, Spelling, elements, printFront, printBack, print, good, atLabiles, atFront, atSequence, residuesOf, backOf, meansAt, means}
 use Rattle.grammar_laws.specs.Runs.{context, lineRun, line-nil, line-cons, line-one, line-further, lift}
 use Rattle.grammar_laws.specs.Printed.{inside-run, no-base}
 use Rattle.basics.specs.Lists.{flat-cons, flat-nil}

@@ -12,12 +12,10 @@ use lib.ListN.{length, getD, replicate, length-append, length-replicate, length-
 use borrow.Author.Tests.{ne-eqb}
 use Rattle.scope.specs.declared.grammar.Section.{Section}
 use Rattle.scope.specs.declared.grammar.Section.the-variants.{Plain, RangeFirst, RangeNext, UnsureFirst, UnsureNext}
-use Rattle.scope.specs.declared.grammar.Key.{Key}
-use Rattle.scope.specs.declared.grammar.Key.the-variants.{NoKey, U, M, R, X, G, C, Obs, Unimod, Mod, Xlmod, Resid, Gno, Info, Formula, Glycan, Position, Limit}
 use Rattle.scope.specs.declared.grammar.Kind.{Kind}
 use Rattle.scope.specs.declared.grammar.Kind.the-variants.{Unknown, Labile, NTerm, OnResidue, OnRange, CTerm}
 use Rattle.scope.specs.Line.{Number, Label, Value, mass, text, reference, Part, Bracket, Residue, Line}
-use Rattle.scope.specs.Keys.{keys, keyCode, keyIn}
+use Rattle.scope.specs.Keys.{keyCode, keyIn}
 use Rattle.scope.specs.Lists.{given, flat, optional, padded, part, tabled}
 use Rattle.scope.specs.Modifications.{nameOf}
 use Rattle.scope.specs.Refusals.{textIn, textOf}

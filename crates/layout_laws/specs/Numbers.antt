@@ -5,7 +5,6 @@ use Prim.Native.Nat.{ℕ, zero, suc, _+_, _-_, _*_, _/_, _^_, _≤_, _<_}
 use native.Mathlib.Omega.{arith}
 use native.Mathlib.Nat.{mul-pos, mul-assoc, mul-div-cancel, mul-lt-mul-of-pos-right, one-le-pow}
 use lib.Dec.{leb}
-use lib.IntN.{natAbs}
 use lib.Pow.{pow-add}
 use borrow.Author.Tests.{leb-true, ltb-true}
 use Rattle.scope.specs.Line.{Number}

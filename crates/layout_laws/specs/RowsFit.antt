@@ -1,13 +1,12 @@
--- The rows of permitted positions fit into their room.
-use mathlib.Core.Path.{_≡_, refl}
+-- The rows of permitted positions fit into their room: at most so many floaters, each with at most so many positions.
 use mathlib.Core.Bool.{Bool, true, false, not, cond, _&&_}
 use mathlib.Core.List.{List, [], _∷_, _++_, map}
-use Prim.Native.Nat.{ℕ, zero, suc, _+_, _*_, _≤_}
+use Prim.Native.Nat.{ℕ, suc, _+_, _*_, _≤_}
 use native.Mathlib.Omega.{arith}
 use lib.ListN.{length, length-append, length-map}
 use Rattle.scope.specs.declared.answers.Site.{Site}
 use Rattle.scope.specs.Line.{Bracket, Line}
-use Rattle.scope.specs.Lists.{keep, tabled, member}
+use Rattle.scope.specs.Lists.{keep, member}
 use Rattle.scope.specs.Positions.{permitted, permittedPositions, positions, mayStand, struckOut, floaters, rowsFrom, rowsOf}
 use Rattle.basics.specs.Each.{Each, each-all, each-map}
 use Rattle.accepted_laws.specs.Within.{Within}

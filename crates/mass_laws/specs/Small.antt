@@ -12,10 +12,10 @@ use lib.IntN.{ℤ, pos, natAbs}
 use lib.ListN.{getD}
 use Rattle.scope.specs.declared.grammar.Key.the-variants.{Obs}
 use Rattle.scope.specs.Limits.{sizeLimit, decimalLimit}
-use Rattle.scope.specs.Line.{Number, Value, mass, text, reference, Part}
+use Rattle.scope.specs.Line.{Number, mass, text, reference, Part}
 use Rattle.scope.specs.Lists.{given, keep, tabled}
 use Rattle.scope.specs.Modifications.{isKey}
-use Rattle.scope.specs.Tables.{byteAt, rowAt, partAt, numberRowSize, signed, isNegative, millionths, numberIn, partIn, bracketIn}
+use Rattle.scope.specs.Tables.{byteAt, rowAt, partAt, numberRowSize, isNegative, millionths, numberIn, partIn, bracketIn}
 use Rattle.scope.specs.Masses.{valueMass, firstMass, massOf, massOr0}
 use Rattle.areas.specs.Bounds.{Small, Bounds}
 use Rattle.basics.specs.Wholes.{abs-signed}

@@ -1,4 +1,4 @@
--- The first and the next placement are the least of their kind.
+-- The first and the next placement are the least of their kind: the head of an ascending list is below all others in it.
 use mathlib.Core.Path.{refl, sym}
 use mathlib.Core.Logic.{_⊎_, inl, inr, ⊎-elim}
 use mathlib.Core.List.{List, [], _∷_}

@@ -1,7 +1,7 @@
--- What stands among the placements is what is allowed.
+-- What stands among the placements is what is allowed: a position from the list of each floater, no two the same, and zeros behind them.
 use mathlib.Core.Path.{_≡_, refl, sym, ap, _∙_, subst}
 use mathlib.Core.Logic.{inl, inr}
-use mathlib.Core.Bool.{true, false, _&&_, false≢true}
+use mathlib.Core.Bool.{true, _&&_, false≢true}
 use mathlib.Core.List.{List, [], _∷_, _++_, map}
 use Prim.Native.Nat.{ℕ, zero, suc, _≤_, _+_, _-_}
 use native.Mathlib.Omega.{arith}

@@ -6,7 +6,7 @@ use mathlib.Core.List.{List, [], _∷_}
 use native.Mathlib.Omega.{arith}
 use Rattle.scope.specs.Line.{Line}
 use Rattle.scope.specs.Reading.{run, Reading, stuck, holds, reading}
-use Rattle.scope.specs.Refusals.{refusal1, accepted, refused, lineRefusals, judged, byteRefusals, outcome}
+use Rattle.scope.specs.Refusals.{refusal1, accepted, lineRefusals, judged, byteRefusals, outcome}
 use Rattle.reading_laws.specs.Laws.{Clear}
 use Rattle.reading_laws.specs.Precedence.{clear-due, clear-cases}
 

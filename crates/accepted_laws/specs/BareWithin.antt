@@ -1,5 +1,5 @@
 -- A line without its places is within the bounds where the line is.
-use mathlib.Core.Path.{_≡_, refl, sym, ap, _∙_, subst}
+use mathlib.Core.Path.{_≡_, sym, ap, _∙_, subst}
 use mathlib.Core.Bool.{true}
 use mathlib.Core.Option.{Option, none, some}
 use mathlib.Core.List.{map}
@@ -13,7 +13,7 @@ use Rattle.scope.specs.Positions.{floaters}
 use Rattle.basics.specs.Each.{OfGiven, IsGiven, each-map, each-one}
 use Rattle.accepted_laws.specs.Within.{Byte, NumberWithin, LabelWithin, ValueWithin, PartWithin, BracketWithin, Within}
 use Rattle.basics.specs.Lists.{flat-map}
-use Rattle.reading_laws.specs.Bare.{names-of, bracket-texts, same-floaters}
+use Rattle.reading_laws.specs.Bare.{names-of, bracket-texts, same-floaters, is-reference}
 
 module _ {P : Type 0} where
   number-within : (n : Number P) → NumberWithin n → NumberWithin (bareNumber n)
@@ -39,11 +39,6 @@ module _ {P : Type 0} where
 
   part-within : (p : Part P) → PartWithin p → PartWithin (barePart p)
   part-within p w = record { key = w .key; value = value-within p (p .value) (w .value); label = label-within (p .label) (w .label) }
-
-  is-reference : (v : Value P) → isReference (bareValue v) ≡ isReference v
-  is-reference (mass n) = refl
-  is-reference (text t) = refl
-  is-reference reference = refl
 
   bracket-within : (n : ℕ) (k : Bracket P) → BracketWithin n k → BracketWithin n (bareBracket k)
   bracket-within n k w =

@@ -1,4 +1,4 @@
--- What a line keeps to because no refusal is due.
+-- What a line keeps to because no refusal is due: a list of places that is empty says of each element that its test is false.
 use mathlib.Core.Path.{_≡_, refl, sym, ap, _∙_}
 use mathlib.Core.Bool.{Bool, true, false, not, cond, _&&_, _||_, false≢true, true≢false}
 use mathlib.Core.Option.{Option, none, some}
@@ -14,67 +14,16 @@ use Rattle.scope.specs.Bytes.{isPrintable}
 use Rattle.scope.specs.Line.{Number, Label, Value, mass, text, reference, Part, Bracket, Line}
 use Rattle.scope.specs.Keys.{keyCode}
 use Rattle.scope.specs.Lists.{given, flat}
-use Rattle.scope.specs.Reading.{Reading, stuck, holds, reading}
+use Rattle.scope.specs.Reading.{holds, reading}
 use Rattle.scope.specs.Modifications.{namesOf, isLabelled, copies, definedBy, defined, referredTo}
-use Rattle.scope.specs.Refusals.{dueAt, unprintable, refusal1, refusal2, refusal3, refusal5, refusal6, refusal7, refusal8, refusal9, refusal10, refusal11, refusal12, textOf, longText, longLabel, overIn, inRange, wide, wideMass, wideScore, wideCount, notHere, isRule, isLink, secondLabel, definedAgain, undefined, countedLabel, unreferred, wrongLabels, wronglyLabelled, passing, Outcome, accepted, refused, firstDue, judged, outcome}
+use Rattle.scope.specs.Refusals.{dueAt, unprintable, refusal2, refusal3, refusal6, refusal7, refusal8, refusal11, refusal12, textOf, longText, longLabel, overIn, inRange, wide, wideMass, wideScore, wideCount, notHere, isRule, isLink, secondLabel, definedAgain, undefined, countedLabel, unreferred, wrongLabels, wronglyLabelled, passing, accepted, outcome}
 use Rattle.scope.specs.Positions.{floaters}
-use Rattle.basics.specs.Lists.{least-none, not-due, nil-front, nil-back}
+use Rattle.basics.specs.Lists.{least-none, not-due, nil-front, nil-back, flat-none}
 use Rattle.basics.specs.Tests.{or-left, or-right}
 use Rattle.basics.specs.Each.{Each, OfGiven, each-three}
-
--- ---- no refusal is due
-none-due : (p : Option ℕ) (n : ℕ) (o : Outcome) (l : Line ℕ) → given p (refused n) o ≡ accepted l → (p ≡ none) × (o ≡ accepted l)
-none-due none n o l e = (refl, e)
-none-due (some i) n o l e = let z : _≡_ {A = ℕ} 0 1 = cc in absurd (omega arith)
-
-pub record Good (s : List ℕ) (l : Line ℕ) : Type 0 where
-  pub read : reading s ≡ holds l
-  pub no2 : refusal2 s ≡ none
-  pub no3 : refusal3 s ≡ none
-  pub no6 : refusal6 l ≡ none
-  pub no7 : refusal7 l ≡ none
-  pub no8 : refusal8 l ≡ none
-  pub no11 : refusal11 l ≡ none
-  pub no12 : refusal12 l ≡ none
-
-pub good : (s : List ℕ) (l : Line ℕ) → outcome s ≡ accepted l → Good s l
-unfolding outcome firstDue
-good s l e =
-    let a1 = none-due (refusal1 s) 1 _ l e in
-    let a2 = none-due (refusal2 s) 2 _ l (a1 .1) in
-    let a3 = none-due (refusal3 s) 3 _ l (a2 .1) in
-    go (reading s) refl (a2 .0) (a3 .0) (a3 .1)
-  where
-    go : (r : Reading) → reading s ≡ r → refusal2 s ≡ none → refusal3 s ≡ none → judged r ≡ accepted l → Good s l
-    go (stuck i) q n2 n3 f = let z : _≡_ {A = ℕ} 0 1 = cc in absurd (omega arith)
-    go (holds m) q n2 n3 f =
-        let a5 = none-due (refusal5 m) 5 _ l f in
-        let a6 = none-due (refusal6 m) 6 _ l (a5 .1) in
-        let a7 = none-due (refusal7 m) 7 _ l (a6 .1) in
-        let a8 = none-due (refusal8 m) 8 _ l (a7 .1) in
-        let a9 = none-due (refusal9 m) 9 _ l (a8 .1) in
-        let a10 = none-due (refusal10 m) 10 _ l (a9 .1) in
-        let a11 = none-due (refusal11 m) 11 _ l (a10 .1) in
-        let a12 = none-due (refusal12 m) 12 _ l (a11 .1) in
-        let h : accepted m ≡ accepted l = a12 .1 in
-        let same : m ≡ l = cc in
-        record {
-          read = q ∙ ap holds same;
-          no2 = n2;
-          no3 = n3;
-          no6 = rw same at (a6 .0);
-          no7 = rw same at (a7 .0);
-          no8 = rw same at (a8 .0);
-          no11 = rw same at (a11 .0);
-          no12 = rw same at (a12 .0);
-        }
+use Rattle.reading_laws.specs.Taken.{taken}
 
 -- ---- nothing is due
-flat-none : {A B : Type 0} (f : A → List B) (l : List A) → flat f l ≡ [] → Each (λ x. f x ≡ []) l
-unfolding flat
-flat-none f [] e = tt
-flat-none f (x ∷ l) e = (nil-front (f x) (flat f l) e, flat-none f l (nil-back (f x) (flat f l) e))
-
 none-dropped : {A : Type 0} (f : A → ℕ) (n : ℕ) (l : List A) → drop n (map f l) ≡ [] → length l ≤ n
 none-dropped f n l e =
     let a = length-drop n (map f l) in
@@ -250,23 +199,28 @@ short-of n e = ltb-false 4096 n (go (ltb 4096 n) e)
 pub judged-line : (s : List ℕ) (l : Line ℕ) → outcome s ≡ accepted l → Judged s l
 unfolding refusal2 refusal3 refusal6 refusal7 refusal8 refusal11 refusal12 floaters
 judged-line s l e =
-    let g = good s l e in
+    let w = taken s l e in
+    let no2 : refusal2 s ≡ none = w .bytes .1 .0 in
+    let no3 : refusal3 s ≡ none = w .bytes .1 .1 .0 in
+    let from6 = w .clear .1 in
+    let from8 = from6 .1 .1 in
+    let from11 = from8 .1 .1 .1 in
     let rs = drop 254 (map (λ r. r .at) (l .residues)) in
     let ks = drop 64 (map (λ k. k .at) (l .brackets)) in
-    let a : rs ++ (ks ++ flat overIn (l .brackets)) ≡ [] = least-none _ (g .no6) in
+    let a : rs ++ (ks ++ flat overIn (l .brackets)) ≡ [] = least-none _ (from6 .0) in
     let b = nil-back rs (ks ++ flat overIn (l .brackets)) a in
-    let c = few-copies-of 0 (l .brackets) (omega arith) (least-none _ (g .no12)) in
+    let c = few-copies-of 0 (l .brackets) (omega arith) (least-none _ (from11 .1 .0)) in
     record {
-      read = g .read;
-      short = short-of (length s) (g .no2);
-      printable = all-printable 0 s (least-none _ (g .no3));
+      read = w .reads;
+      short = short-of (length s) no2;
+      printable = all-printable 0 s (least-none _ no3);
       few-residues = none-dropped (λ r. r .at) 254 (l .residues) (nil-front rs (ks ++ flat overIn (l .brackets)) a);
       few-brackets = none-dropped (λ k. k .at) 64 (l .brackets) (nil-front ks (flat overIn (l .brackets)) b);
       brackets =
           judged-brackets [] (defined (l .brackets)) (referredTo (l .brackets)) (l .brackets)
           (flat-none overIn (l .brackets) (nil-back ks (flat overIn (l .brackets)) b))
-          (flat-none (λ k. wideCount k ++ flat (λ p. wideMass (p .value) ++ wideScore p) (k .parts)) (l .brackets) (least-none _ (g .no7)))
-          (flat-none (λ k. flat (λ p. dueAt (notHere p) (p .at)) (k .parts)) (l .brackets) (least-none _ (g .no8)))
-          (least-none _ (g .no11));
+          (flat-none (λ k. wideCount k ++ flat (λ p. wideMass (p .value) ++ wideScore p) (k .parts)) (l .brackets) (least-none _ (from6 .1 .0)))
+          (flat-none (λ k. flat (λ p. dueAt (notHere p) (p .at)) (k .parts)) (l .brackets) (least-none _ (from8 .0)))
+          (least-none _ (from11 .0));
       few-copies = omega arith;
     }

@@ -23,11 +23,11 @@ use Rattle.scope.specs.Reading.{counted, referred, act, mayEnd, Held, firstOf, 
 use Rattle.scope.specs.Lists.{onLast, flat}
 use Rattle.scope.specs.Kinds.{isUnknown}
 use Rattle.scope.specs.Tables.{bracketTexts}
-use Rattle.basics.specs.Tests.{and-left, and-right}
+use Rattle.basics.specs.Tests.{and-left, and-right, implied}
 use Rattle.basics.specs.Lists.{flat-append-length, flat-one-length}
 use Rattle.basics.specs.Choice.{branch}
 use Rattle.reading_laws.specs.Acts.{each-mode, act-rule}
-use Rattle.reading_laws.specs.Kept.{Whole, reading-whole-from, put-by, digit-by}
+use Rattle.reading_laws.specs.Kept.{reading-whole-from, put-by, digit-by}
 use Rattle.basics.specs.Each.{each-last, Each, each-append, each-map, each-one, each-two}
 use Rattle.accepted_laws.specs.Within.{Byte, Nowhere, Stands}
 use Rattle.accepted_laws.specs.Inside.{PartShape, PartsShape, Carried, InnerKeeps, ContentKeeps, inner-step}
@@ -137,10 +137,6 @@ abbrev pub StateKeeps : {P : Type 0} → ℕ → State P → Type 0
 StateKeeps m (dead p) = Unit {0}
 StateKeeps m (outside o h) = HeldKeeps m h × ModeKeeps o h
 StateKeeps m (inside s at h c) = InsideKeeps m s h c
-
-implied : (a b : Bool) → (not a || b) ≡ true → a ≡ true → b ≡ true
-implied true b e f = e
-implied false b e f = absurd (false≢true f)
 
 upper-byte : (b : ℕ) → Byte b → Byte (upper b)
 unfolding upper

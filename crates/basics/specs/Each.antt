@@ -1,4 +1,5 @@
 -- What holds of each element of a list, of some element, and of a value where there is one.
+use mathlib.Core.Path.{_≡_}
 use mathlib.Core.Logic.{_⊎_}
 use mathlib.Core.Option.{Option, none, some}
 use mathlib.Core.List.{List, [], _∷_, _++_, map}
@@ -14,6 +15,10 @@ Each Q (x ∷ l) = Q x × Each Q l
 abbrev pub Some : {A : Type 0} → (A → Type 0) → List A → Type 0
 Some Q [] = ⊥
 Some Q (x ∷ l) = Q x ⊎ Some Q l
+
+-- x stands in the list
+abbrev pub In : {A : Type 0} → A → List A → Type 0
+In x l = Some (λ y. x ≡ y) l
 
 -- of the value, where there is one
 abbrev pub OfGiven : {A : Type 0} → (A → Type 0) → Option A → Type 0

@@ -14,8 +14,17 @@ use Rattle.scope.specs.Bytes.{upper, sameFolded}
 use Rattle.scope.specs.Lists.{all, flat, keep, same, among, onLast, optional}
 use Rattle.scope.specs.Refusals.{least, dueAt}
 use Rattle.basics.specs.Tests.{and-left, and-right}
+use Rattle.basics.specs.Each.{Each}
 
 -- ---- lists in pieces
+pub flat-nil : {A B : Type 0} (f : A → List B) → flat f [] ≡ []
+unfolding flat
+flat-nil f = refl
+
+pub flat-cons : {A B : Type 0} (f : A → List B) (x : A) (l : List A) → flat f (x ∷ l) ≡ f x ++ flat f l
+unfolding flat
+flat-cons f x l = refl
+
 pub flat-append : {A B : Type 0} (f : A → List B) (l m : List A) → flat f (l ++ m) ≡ flat f l ++ flat f m
 unfolding flat
 flat-append f [] m = refl
@@ -112,6 +121,11 @@ nil-front (x ∷ l) m e = let z : _≡_ {A = ℕ} 0 1 = cc in absurd (omega arit
 pub nil-back : {A : Type 0} (l m : List A) → l ++ m ≡ [] → m ≡ []
 nil-back [] m e = e
 nil-back (x ∷ l) m e = let z : _≡_ {A = ℕ} 0 1 = cc in absurd (omega arith)
+
+pub flat-none : {A B : Type 0} (f : A → List B) (l : List A) → flat f l ≡ [] → Each (λ x. f x ≡ []) l
+unfolding flat
+flat-none f [] e = tt
+flat-none f (x ∷ l) e = (nil-front (f x) (flat f l) e, flat-none f l (nil-back (f x) (flat f l) e))
 
 -- nothing is due
 pub least-none : (l : List ℕ) → least l ≡ none → l ≡ []

@@ -1,7 +1,7 @@
 -- What a test made of two says of each, and the other way round; and that equality is told either way round.
 use mathlib.Core.Path.{_≡_, refl, sym, _∙_}
 use mathlib.Core.Logic.{_⊎_, inl, inr}
-use mathlib.Core.Bool.{Bool, true, false, _&&_, _||_, false≢true, true≢false}
+use mathlib.Core.Bool.{Bool, true, false, not, _&&_, _||_, false≢true, true≢false}
 use Prim.Native.Nat.{ℕ}
 use native.Mathlib.Decide.{ℕ-discrete}
 use borrow.Author.Tests.{eq-eqb, ne-eqb}
@@ -42,6 +42,20 @@ or-first a b e = rw e
 pub or-second : (a b : Bool) → b ≡ true → (a || b) ≡ true
 or-second true b e = refl
 or-second false b e = e
+
+pub implied : (a b : Bool) → (not a || b) ≡ true → a ≡ true → b ≡ true
+implied true b e f = e
+implied false b e f = absurd (false≢true f)
+
+pub test : (t : Bool) → (t ≡ true) ⊎ (t ≡ false)
+test true = inl refl
+test false = inr refl
+
+-- two tests that say yes together are the same
+pub same-test : (a b : Bool) → (a ≡ true → b ≡ true) → (b ≡ true → a ≡ true) → a ≡ b
+same-test true b f g = sym (f refl)
+same-test false true f g = g refl
+same-test false false f g = refl
 
 pub falsely : (t : Bool) → (t ≡ true → ⊥) → t ≡ false
 falsely true f = absurd (f refl)

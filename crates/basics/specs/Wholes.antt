@@ -6,6 +6,7 @@ use native.Mathlib.Omega.{arith}
 use borrow.Author.Tests.{ltb-true}
 use lib.Dec.{ltb}
 use lib.IntN.{ℤ, pos, negsuc, natAbs, negℤ, _+ℤ_, _*ℤ_}
+use Rattle.scope.specs.Tables.{signed}
 
 sub-by : (a b : ℕ) (t : Bool) → ltb a b ≡ t → natAbs (cond t (negsuc (b - suc a)) (pos (a - b))) ≤ a + b
 sub-by a b true e = omega (arith, ltb-true a b e)
@@ -26,3 +27,7 @@ abs-neg (negsuc n) = refl
 pub abs-mul : (c : ℕ) (z : ℤ) → natAbs (pos c *ℤ z) ≡ c * natAbs z
 abs-mul c (pos b) = refl
 abs-mul c (negsuc b) = abs-neg (pos (c * suc b))
+
+pub abs-signed : (t : Bool) (n : ℕ) → natAbs (signed t n) ≡ n
+abs-signed true n = abs-neg (pos n)
+abs-signed false n = refl

@@ -1,24 +1,23 @@
--- Accepted lines: what is known of them, and of what they hold with places forgotten.
+-- What an accepted line gives the way back: its numbers and counts are small enough to be written in full, and two lines that are alike with places forgotten
+-- are alike for every refusal.
 use Prim.Native.Nat.{ℕ, _*_, _/_, _^_, _<_}
-use mathlib.Core.Path.{_≡_, refl, sym, ap, _∙_, subst}
-use mathlib.Core.Bool.{Bool, true, false, not, cond, _||_}
+use mathlib.Core.Path.{_≡_, refl, sym, ap, _∙_}
+use mathlib.Core.Bool.{true, not, _||_}
 use mathlib.Core.Option.{Option, none, some, Option·none-ne-some}
 use mathlib.Core.List.{List, [], _∷_, _++_, map}
 use native.Mathlib.Omega.{arith}
 use native.Mathlib.Nat.{div-lt-iff-lt-mul}
 use lib.Dec.{eqb, leb, ltb}
 use borrow.Author.Tests.{eq-eqb, ltb-true, ltb-false, not-false}
-use Rattle.scope.specs.declared.grammar.Mode.{Mode}
 use Rattle.scope.specs.Limits.{sizeLimit, countLimit}
 use Rattle.scope.specs.Line.{Number, Label, Value, mass, text, reference, Part, Bracket, Line}
 use Rattle.scope.specs.Lists.{given, flat, optional}
-use Rattle.scope.specs.Reading.{mayEnd, Held, State, dead, outside, inside, run, start, Reading, stuck, holds, lineOf, ended, reading}
-use Rattle.scope.specs.Refusals.{dueAt, inRange, wide, wideMass, wideScore, wideCount, refusal7, Due, Outcome, accepted, refused, firstDue, lineRefusals, judged, byteRefusals, outcome}
+use Rattle.scope.specs.Reading.{run, start}
+use Rattle.scope.specs.Refusals.{dueAt, inRange, wide, wideMass, wideScore, wideCount, refusal7}
 use Rattle.scope.specs.Tables.{bareBracket}
-use Rattle.reading_laws.specs.Laws.{Clear}
 use Rattle.reading_laws.specs.Places.{mapNumber, mapLabel, mapValue, mapPart, mapBracket, mapState, bareBracket-map}
 use Rattle.reading_laws.specs.Run.{run-map, unnoted}
-use Rattle.basics.specs.Lists.{nil-front, nil-back, least-none, not-due}
+use Rattle.basics.specs.Lists.{nil-front, nil-back, least-none, not-due, flat-none}
 use Rattle.basics.specs.Tests.{and-right, or-right}
 use Rattle.basics.specs.Each.{Each}
 use Rattle.basics.specs.Choice.{pick-true}
@@ -29,77 +28,11 @@ use Rattle.canonical_laws.specs.Unknowns.{normal, FitsBracket}
 use Rattle.canonical_laws.specs.Counts.{Once}
 use Rattle.canonical_laws.specs.Refusals.{Same, Alike}
 
--- ---- an accepted line is of the order, and nothing is due
-pub record Taken (s : List ℕ) (l : Line ℕ) : Type 0 where
-  pub bytes : Clear (byteRefusals s)
-  pub reads : reading s ≡ holds l
-  pub clear : Clear (lineRefusals l)
-
-not-refused : (k i : ℕ) (l : Line ℕ) → refused k i ≡ accepted l → ⊥
-not-refused k i l e = let z : _≡_ {A = ℕ} 0 1 = cc in omega arith
-
-due-clear : (ds : List Due) (o : Outcome) (l : Line ℕ) → firstDue ds o ≡ accepted l → Clear ds × (o ≡ accepted l)
-unfolding firstDue
-due-clear [] o l e = (tt, e)
-due-clear (d ∷ ds) o l e = go (d .place) refl e (λ f. due-clear ds o l f)
-  where
-    go : (p : Option ℕ) → d .place ≡ p → given p (refused (d .number)) (firstDue ds o) ≡ accepted l → (firstDue ds o ≡ accepted l → Clear ds × (o ≡ accepted l)) → ((d .place ≡ none) × Clear ds) × (o ≡ accepted l)
-    go none f e ih = ((f, ih e .0), ih e .1)
-    go (some i) f e ih = absurd (not-refused (d .number) i l e)
-
-clear-due : (ds : List Due) (o : Outcome) → Clear ds → firstDue ds o ≡ o
-unfolding firstDue
-clear-due [] o w = refl
-clear-due (d ∷ ds) o w = ap (λ z. given z (refused (d .number)) (firstDue ds o)) (w .0) ∙ clear-due ds o (w .1)
-
-pub taken : (s : List ℕ) (l : Line ℕ) → outcome s ≡ accepted l → Taken s l
-unfolding outcome
-taken s l e = go (reading s) refl (due-clear (byteRefusals s) (judged (reading s)) l e .1)
-  where
-    first : Clear (byteRefusals s)
-    first = due-clear (byteRefusals s) (judged (reading s)) l e .0
-
-    go : (r : Reading) → reading s ≡ r → judged r ≡ accepted l → Taken s l
-    go (stuck i) f g = absurd (not-refused 4 i l g)
-    go (holds t) f g =
-        let c = due-clear (lineRefusals t) (accepted t) l g in
-        let e : t ≡ l = let h : accepted t ≡ accepted l = c .1 in cc in
-        record { bytes = first; reads = f ∙ ap holds e; clear = subst (λ (z : Line ℕ). Clear (lineRefusals z)) e (c .0) }
-
-pub taken-back : (s : List ℕ) (l : Line ℕ) → Taken s l → outcome s ≡ accepted l
-unfolding outcome
-taken-back s l w = clear-due (byteRefusals s) (judged (reading s)) (w .bytes) ∙ ap judged (w .reads) ∙ clear-due (lineRefusals l) (accepted l) (w .clear)
-
--- ---- the state in which a line ends
-pub record Stopped (s : State ℕ) (l : Line ℕ) : Type 0 where
-  pub mode : Mode
-  pub held : Held ℕ
-  pub is : s ≡ outside mode held
-  pub ends : mayEnd mode ≡ true
-  pub line : lineOf held ≡ l
-
-pub not-stuck : (i : ℕ) (l : Line ℕ) → stuck i ≡ holds l → ⊥
-not-stuck i l e = let z : _≡_ {A = ℕ} 0 1 = cc in omega arith
-
-pub stopped : (n : ℕ) (s : State ℕ) (l : Line ℕ) → ended n s ≡ holds l → Stopped s l
-stopped n (dead p) l e = absurd (not-stuck p l e)
-stopped n (outside m h) l e = go (mayEnd m) refl e
-  where
-    go : (t : Bool) → mayEnd m ≡ t → cond t (holds (lineOf h)) (stuck n) ≡ holds l → Stopped (outside m h) l
-    go true f e = record { mode = m; held = h; is = refl; ends = f; line = let g : lineOf h ≡ l = cc in g }
-    go false f e = absurd (not-stuck n l e)
-stopped n (inside s at h c) l e = absurd (not-stuck n l e)
-
 -- the same run with places forgotten
 pub unnoted-run : (s : List ℕ) → mapState unnoted (run (λ i. i) 0 start s) ≡ lineRun start s
 unnoted-run s = run-map unnoted (λ i. i) 0 start s ∙ run-line 0 start s
 
 -- ---- numbers of a line that is not refused under 7
-flat-all : {A : Type 0} (F : A → List ℕ) (l : List A) → flat F l ≡ [] → Each (λ x. F x ≡ []) l
-unfolding flat
-flat-all F [] e = tt
-flat-all F (x ∷ l) e = (nil-front (F x) (flat F l) e, flat-all F l (nil-back (F x) (flat F l) e))
-
 fits-number : (n : Number ℕ) → wide n ≡ [] → FitsNumber (mapNumber unnoted n)
 fits-number n e =
     let r : inRange n ≡ true = not-false (inRange n) (not-due (not (inRange n)) (n .at) e) in
@@ -135,7 +68,7 @@ fits-brackets : (ks : List (Bracket ℕ)) → Each Once ks → Each (λ k. wideC
 fits-brackets [] w e = tt
 fits-brackets (k ∷ ks) w e = (
   (
-    fits-parts (k .parts) (flat-all (λ p. wideMass (p .value) ++ wideScore p) (k .parts) (nil-back (wideCount k) _ (e .0))),
+    fits-parts (k .parts) (flat-none (λ p. wideMass (p .value) ++ wideScore p) (k .parts) (nil-back (wideCount k) _ (e .0))),
     fits-count k (w .0) (nil-front (wideCount k) (flat (λ p. wideMass (p .value) ++ wideScore p) (k .parts)) (e .0)),
   ),
   fits-brackets ks (w .1) (e .1),
@@ -143,7 +76,7 @@ fits-brackets (k ∷ ks) w e = (
 
 pub fits-line : (l : Line ℕ) → Each Once (l .brackets) → refusal7 l ≡ none → Each FitsBracket (map (mapBracket unnoted) (l .brackets))
 unfolding refusal7
-fits-line l w e = fits-brackets (l .brackets) w (flat-all (λ k. wideCount k ++ flat (λ p. wideMass (p .value) ++ wideScore p) (k .parts)) (l .brackets) (least-none _ e))
+fits-line l w e = fits-brackets (l .brackets) w (flat-none (λ k. wideCount k ++ flat (λ p. wideMass (p .value) ++ wideScore p) (k .parts)) (l .brackets) (least-none _ e))
 
 -- ---- brackets that are read back
 same-of : (k q : Bracket ℕ) → Once k → mapBracket unnoted q ≡ normal (mapBracket unnoted k) → Same k q

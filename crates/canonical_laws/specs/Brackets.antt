@@ -21,7 +21,7 @@ use Rattle.basics.specs.Lists.{flat-append, folded-length}
 use Rattle.basics.specs.Tests.{and-left, and-right}
 use Rattle.basics.specs.Choice.{branch-on, given-on, pick-true, pick-false, pick-some, pick-none}
 use Rattle.basics.specs.Each.{Each, each-front, each-back}
-use Rattle.reading_laws.specs.Unnoted.{Place, Parts, context, contentStep, contentRun, content-append, content-nil, content-one, digitRun, digits-cons, allRead}
+use Rattle.reading_laws.specs.Unnoted.{Place, Parts, context, contentStep, contentRun, content-append, content-nil, content-one, digitRun, digits-cons, allRead, content-cons}
 use Rattle.canonical_laws.specs.Numbers.{size-run, Ended, end-again, step-none, Sized, Over, over, size-head, sized-some, step-signed, is-digit, digit-value, digit-below}
 
 -- one byte more
@@ -557,10 +557,6 @@ module _ (shut : ℕ) (r₀ r : Bool) where
   scoring-digit : (c : Context Place) (p : Part Place) (name : List ℕ) (h : ℕ) → h < 10 → innerStep tt (scoring c p tt name) (48 + h) ≡ going (inScore c p tt name tt (whole false h))
   unfolding innerStep
   scoring-digit c p name h k = pick-false (isSign (48 + h)) _ _ (no-sign h) ∙ pick-true (isDigit (48 + h)) _ _ (is-digit h k) ∙ ap (λ z. going (inScore c p tt name tt (whole false z))) (digit-value h)
-
-  content-cons : (c : Inner Place) (b : ℕ) (l : List ℕ) → contentRun (going c) (b ∷ l) ≡ contentRun (innerStep tt c b) l
-  unfolding contentRun contentStep
-  content-cons c b l = refl
 
   -- a score, written and read
   score-path : (c : Context Place) (p : Part Place) (name : List ℕ) (x : Number Place) → FitsNumber x

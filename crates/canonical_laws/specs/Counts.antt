@@ -1,4 +1,4 @@
--- A bracket without a written count has the count 1.
+-- A bracket without a written count has the count 1, after any bytes: a count is only ever written with its place.
 use Prim.Native.Nat.{ℕ}
 use mathlib.Core.Path.{_≡_, refl, sym}
 use mathlib.Core.Option.{none, Option·none-ne-some}

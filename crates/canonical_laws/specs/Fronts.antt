@@ -2,7 +2,7 @@
 use mathlib.Core.Path.{_≡_, refl, sym, ap, _∙_, subst}
 use mathlib.Core.Option.{Option, none, some, Option·none-ne-some}
 use mathlib.Core.Bool.{Bool, true, false, cond, true≢false}
-use mathlib.Core.List.{List, [], _∷_, _++_, append-assoc, append-nil, map, map-append}
+use mathlib.Core.List.{List, [], _∷_, _++_, append-assoc, append-nil, map, map-append, map-id}
 use Prim.Native.Nat.{ℕ, suc, _+_, _*_, _^_, _≤_, _<_}
 use native.Mathlib.Omega.{arith}
 use lib.Dec.{eqb}
@@ -19,14 +19,14 @@ use Rattle.scope.specs.Lists.{none?, keep, flat}
 use Rattle.scope.specs.Reading.{square, front, undecided, counted, referred, act, mayEnd, Held, countDigit, asNTerm, State, dead, outside, inside, perform, refers?, step, run, start, lineOf}
 use Rattle.scope.specs.Canonical.{decimal, partsText, squareText, curlyText, countText, unknownText, ofKind, closedBy, ledBy, sequenceText, canonical}
 use Rattle.scope.specs.Kinds.{kindCode}
-use Rattle.basics.specs.Lists.{keep-append, flat-append}
+use Rattle.basics.specs.Lists.{keep-append, flat-append, on-last}
 use Rattle.reading_laws.specs.Acts.{Ending, single-ends, ranged-ends, unsure-ends, cterms-end, ending}
 use Rattle.basics.specs.Choice.{branch-on}
-use Rattle.basics.specs.Each.{Each, each-append, each-front, each-back, each-one}
+use Rattle.basics.specs.Each.{Each, each-append, each-front, each-back, each-one, each-snoc}
 use Rattle.canonical_laws.specs.Numbers.{digit-below, decimal-length}
 use Rattle.reading_laws.specs.Unnoted.{Place, Parts, lineRun, line-nil, line-cons, line-further}
 use Rattle.canonical_laws.specs.Runs.{Reads}
-use Rattle.canonical_laws.specs.Unknowns.{Brackets, unknown, normal, FitsBracket, Square, IsUnknown, held, on-last, front-run, map-same, IsTerm, terms-end}
+use Rattle.canonical_laws.specs.Unknowns.{Brackets, unknown, normal, FitsBracket, Square, IsUnknown, held, front-run, IsTerm, terms-end}
 use Rattle.canonical_laws.specs.Sequence.{hasKind, Low, flat-one}
 use Rattle.canonical_laws.specs.Lines.{unknowns, labiles, nterms, cterms, head, body, text, norm, Written, Within, Gather, Fresh, Outside, ClosedBy, Reached, begins, goes-on, closed-most, closed-least, square-length, bare-body, step-labile, step-element, step-single, step-opened, step-unsureOpened, step-inRange, step-inUnsure, step-rangeEnd, step-ranged, step-unsureEnd, step-start, step-cStart, step-cTerms, step-labiles, step-nterms, between-front, after}
 
@@ -94,9 +94,6 @@ is-term ps w = record { is = refl; reads = w }
 is-unknown : (n : ℕ) (o : Option Place) (ps : Parts) → refers? ps ≡ false → (o ≡ none → n ≡ 1) → Square ps → IsUnknown (unknown n o ps)
 is-unknown n o ps e h w = record { is = refl; plain = e; once = h; reads = w }
 
-all-one : {A : Type 0} (P : A → Type 0) (l : List A) (x : A) → Each P l → P x → Each P (l ++ (x ∷ []))
-all-one P l x w v = each-append P l (x ∷ []) w (v, tt)
-
 gather : (bs rs : Brackets) → Each IsUnknown bs → Gather (held bs rs)
 gather bs rs w = record { is = refl; settledOnes = w }
 
@@ -114,14 +111,14 @@ step-lead bs rs b n w u v h =
     branch-on (λ m. Outside (suc n + j) m (held bs (rs ++ (unknown 1 none ps ∷ [])))) (refers? ps) {x = Referred} {y = Undecided}
     (λ e. (
       gather bs (rs ++ (unknown 1 none ps ∷ [])) w,
-      all-one IsTerm rs (unknown 1 none ps) v (is-term ps (squares front j ps refl g)),
+      each-snoc IsTerm rs (unknown 1 none ps) v (is-term ps (squares front j ps refl g)),
       fresh rs ps,
       rw (term-length rs ps) (omega (arith, g true .short, fewer rs)),
     ))
     (λ e. (
       gather bs (rs ++ (unknown 1 none ps ∷ [])) w,
-      all-one IsUnknown rs (unknown 1 none ps) u (is-unknown 1 none ps e (λ z. refl) (squares front j ps refl g)),
-      all-one IsTerm rs (unknown 1 none ps) v (is-term ps (squares front j ps refl g)),
+      each-snoc IsUnknown rs (unknown 1 none ps) u (is-unknown 1 none ps e (λ z. refl) (squares front j ps refl g)),
+      each-snoc IsTerm rs (unknown 1 none ps) v (is-term ps (squares front j ps refl g)),
       fresh rs ps,
       rw (fresh-length rs none ps) (omega (arith, g true .short)),
     )))
@@ -140,7 +137,7 @@ step-more bs rs b n w u h =
     (λ ps j g.
     after ps Counted (suc n + j) (held bs (rs ++ (unknown 1 none ps ∷ []))) (
       gather bs (rs ++ (unknown 1 none ps ∷ [])) w,
-      all-one IsUnknown rs (unknown 1 none ps) u (is-unknown 1 none ps (no-reference ps (g true .refs)) (λ z. refl) (squares (square Unknown false Counted) j ps refl g)),
+      each-snoc IsUnknown rs (unknown 1 none ps) u (is-unknown 1 none ps (no-reference ps (g true .refs)) (λ z. refl) (squares (square Unknown false Counted) j ps refl g)),
       fresh rs ps,
       rw (fresh-length rs none ps) (omega (arith, g true .short)),
     ))
@@ -152,7 +149,7 @@ step-refer bs rs b n w v h =
     (λ ps j g.
     after ps Referred (suc n + j) (held bs (rs ++ (unknown 1 none ps ∷ []))) (
       gather bs (rs ++ (unknown 1 none ps ∷ [])) w,
-      all-one IsTerm rs (unknown 1 none ps) v (is-term ps (squares (square Unknown true Referred) j ps refl g)),
+      each-snoc IsTerm rs (unknown 1 none ps) v (is-term ps (squares (square Unknown true Referred) j ps refl g)),
       fresh rs ps,
       rw (term-length rs ps) (omega (arith, g true .short)),
     ))
@@ -161,7 +158,7 @@ step-refer bs rs b n w v h =
 step-runEnds : (bs rs : Brackets) (b n : ℕ) → Each IsUnknown bs → Each IsUnknown rs → sizeOf bs + length (flat unknownText rs) ≤ n → Reached (suc n) (perform tt b (held bs rs) RunEnds)
 unfolding Reached Outside perform
 step-runEnds bs rs b n w u h =
-    subst (λ (z : Brackets). Gather (held (bs ++ z) []) × (_≡_ {A = Brackets} [] []) × (sizeOf (bs ++ z) ≤ suc n)) (sym (map-same rs))
+    subst (λ (z : Brackets). Gather (held (bs ++ z) []) × (_≡_ {A = Brackets} [] []) × (sizeOf (bs ++ z) ≤ suc n)) (sym (map-id rs))
     (gather (bs ++ rs) [] (each-append IsUnknown bs rs w u), refl, short)
   where
     short : sizeOf (bs ++ rs) ≤ suc n
@@ -309,7 +306,7 @@ some-place p n e = absurd (Option·none-ne-some p (sym e))
 recount : (rs : Brackets) (n n′ : ℕ) (o : Option Place) (ps : Parts) → Each IsUnknown (rs ++ (unknown n o ps ∷ [])) → Each IsUnknown (rs ++ (unknown n′ (some tt) ps ∷ []))
 recount rs n n′ o ps w =
     let k = each-back IsUnknown rs (unknown n o ps ∷ []) w .0 in
-    all-one IsUnknown rs (unknown n′ (some tt) ps) (each-front IsUnknown rs (unknown n o ps ∷ []) w) (is-unknown n′ (some tt) ps (k .plain) (some-place tt n′) (k .reads))
+    each-snoc IsUnknown rs (unknown n′ (some tt) ps) (each-front IsUnknown rs (unknown n o ps ∷ []) w) (is-unknown n′ (some tt) ps (k .plain) (some-place tt n′) (k .reads))
 
 caret-at : (bs rs : Brackets) (ps : Parts) (b n : ℕ) → Each IsUnknown bs → Each IsUnknown (rs ++ (unknown 1 none ps ∷ [])) → sizeOf bs + length (flat unknownText (rs ++ (unknown 1 none ps ∷ []))) + 1 ≤ n
     → Reached (suc n) (perform tt b (held bs (rs ++ (unknown 1 none ps ∷ []))) (act Caret b))

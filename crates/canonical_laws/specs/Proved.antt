@@ -1,4 +1,4 @@
--- The laws of specs/Laws.antt hold.
+-- The laws of specs/Laws.antt hold: what the canonical line reads to differs from the line in places alone, and places enter neither tables nor refusals.
 use Prim.Native.Nat.{ℕ, _≤_}
 use mathlib.Core.Path.{_≡_, refl, sym, ap, _∙_, subst}
 use mathlib.Core.Logic.{_↔_}
@@ -13,7 +13,7 @@ use Rattle.scope.specs.declared.grammar.Mode.{Mode}
 use Rattle.scope.specs.Limits.{lineLimit}
 use Rattle.scope.specs.Line.{Residue, Line}
 use Rattle.scope.specs.Reading.{mayEnd, Held, State, dead, outside, inside, run, start, holds, lineOf, ended, reading}
-use Rattle.scope.specs.Refusals.{refusal1, refusal2, refusal7, accepted, lineRefusals, outcome}
+use Rattle.scope.specs.Refusals.{refusal2, refusal7, accepted, lineRefusals, outcome}
 use Rattle.scope.specs.Canonical.{canonical}
 use Rattle.scope.specs.Tables.{Tables, bareBracket, bareResidue, tablesOf}
 use Rattle.reading_laws.specs.Laws.{Clear}
@@ -30,7 +30,9 @@ use Rattle.canonical_laws.specs.Lines.{norm}
 use Rattle.canonical_laws.specs.Fronts.{Again, read-again}
 use Rattle.canonical_laws.specs.Counts.{Once, OnceIn, once-read}
 use Rattle.canonical_laws.specs.Refusals.{Alike, none-5, none-6, none-7, none-8, none-9, none-10, none-11, none-12}
-use Rattle.canonical_laws.specs.Accepted.{Taken, taken, taken-back, not-stuck, stopped, unnoted-run, fits-line, alike-of}
+use Rattle.canonical_laws.specs.Accepted.{unnoted-run, fits-line, alike-of}
+use Rattle.reading_laws.specs.Taken.{Taken, taken, taken-back, some-bytes}
+use Rattle.reading_laws.specs.Kept.{ended-whole}
 
 -- ---- the canonical line, read
 pub record Back (s : List ℕ) (l : Line ℕ) : Type 0 where
@@ -83,8 +85,8 @@ back-of s m h e f r =
 back : (s : List ℕ) (l : Line ℕ) → Taken s l → Back s l
 unfolding reading
 back s l w =
-    let g = stopped (length s) (run (λ i. i) 0 start s) l (w .reads) in
-    subst (λ (z : Line ℕ). Back s z) (g .line) (back-of s (g .mode) (g .held) (g .is) (g .ends) (ap refusal7 (g .line) ∙ w .clear .1 .1 .0))
+    let g = ended-whole (λ (z : State ℕ). run (λ i. i) 0 start s ≡ z) (length s) (run (λ i. i) 0 start s) l refl (w .reads) in
+    subst (λ (z : Line ℕ). Back s z) (g .line) (back-of s (g .mode) (g .held) (g .keeps) (g .ends) (ap refusal7 (g .line) ∙ w .clear .1 .1 .0))
 
 -- ---- its tables
 normal-bare : (ks : Brackets) → map bareBracket (map normal ks) ≡ map bareBracket ks
@@ -127,12 +129,6 @@ back-clear s l c b = (
 
     r : length (l .residues) ≡ length (m .residues)
     r = sym (length-map (l .residues) (mapResidue unnoted)) ∙ ap length (sym (b .residues)) ∙ length-map (m .residues) (mapResidue unnoted)
-
--- an empty line is not of the order
-some-bytes : (s : List ℕ) (l : Line ℕ) → reading s ≡ holds l → refusal1 s ≡ none
-unfolding refusal1 reading run
-some-bytes [] l e = absurd (not-stuck 0 l e)
-some-bytes (b ∷ s) l e = refl
 
 not-long : (s t : List ℕ) → length t ≤ length s → refusal2 s ≡ none → refusal2 t ≡ none
 unfolding refusal2

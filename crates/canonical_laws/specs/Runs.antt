@@ -1,7 +1,7 @@
--- A run of bytes over a whole line, where nothing is noted of places; brackets and letters in it.
-use mathlib.Core.Path.{_≡_, refl, sym, ap, _∙_}
+-- A canonical bracket, and a letter in upper case, in the line: where the reader stands outside brackets it reads them as what they were written from.
+use mathlib.Core.Path.{_≡_, refl, ap, _∙_}
 use mathlib.Core.Bool.{Bool, true, false, cond, _||_, false≢true}
-use mathlib.Core.List.{List, [], _∷_, _++_}
+use mathlib.Core.List.{[], _∷_, _++_}
 use Prim.Native.Nat.{ℕ, _+_, _-_, _≤_, _<_}
 use native.Mathlib.Omega.{arith}
 use lib.Dec.{leb, eqb}
@@ -13,12 +13,12 @@ use Rattle.scope.specs.declared.grammar.Mode.the-variants.{Front, Labiles, Star
 use Rattle.scope.specs.declared.grammar.Slot.{Slot}
 use Rattle.scope.specs.declared.grammar.Act.the-variants.{Residue as aResidue, Begin}
 use Rattle.scope.specs.Bytes.{upper, isUpper, isLower, isLetter, openSquare, openCurly, question, dash}
-use Rattle.scope.specs.Content.{Inner, begin, Content, lost, closed, going, innerStep}
-use Rattle.scope.specs.Reading.{element, further, groupFirst, inGroup, act, Held, withResidue, withBracket, State, outside, inside, perform, refers?, modeAfter, resume, step, run}
+use Rattle.scope.specs.Content.{begin, closed, going}
+use Rattle.scope.specs.Reading.{element, further, groupFirst, inGroup, act, Held, withResidue, withBracket, outside, perform, modeAfter, step, run}
 use Rattle.scope.specs.Canonical.{partsText}
 use Rattle.basics.specs.Tests.{and-left, and-right}
 use Rattle.basics.specs.Choice.{pick-true, pick-false}
-use Rattle.reading_laws.specs.Unnoted.{lineRun, line-append, line-nil, line-cons, line-one, line-further, lift, Place, Parts, context, contentStep, contentRun}
+use Rattle.reading_laws.specs.Unnoted.{lineRun, line-cons, line-one, lift, Place, Parts, context, contentRun}
 
 -- ---- a bracket: the bytes behind the opening one
 abbrev pub Reads : ℕ → Bool → Parts → Type 0

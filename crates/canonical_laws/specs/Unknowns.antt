@@ -2,7 +2,7 @@
 use mathlib.Core.Path.{_≡_, refl, sym, ap, _∙_}
 use mathlib.Core.Option.{Option, none, some}
 use mathlib.Core.Bool.{Bool, true, false, cond, false≢true}
-use mathlib.Core.List.{List, [], _∷_, _++_, append-assoc, append-nil, map}
+use mathlib.Core.List.{List, [], _∷_, _++_, append-assoc, append-nil, map, map-id}
 use Prim.Native.Nat.{ℕ, zero, suc, _+_, _*_, _/_, _%_, _^_, _<_}
 use native.Mathlib.Omega.{arith}
 use lib.Dec.{ltb, eqb}
@@ -15,7 +15,7 @@ use Rattle.scope.specs.declared.grammar.Act.the-variants.{Go}
 use Rattle.scope.specs.Bytes.{isDigit, openSquare, shutSquare, caret, question, dash}
 use Rattle.scope.specs.Line.{Bracket}
 use Rattle.scope.specs.Reading.{square, front, undecided, counted, referred, act, Held, countDigit, asNTerm, settledRun, State, outside, perform, refers?, modeAfter, start}
-use Rattle.scope.specs.Lists.{onLast, flat}
+use Rattle.scope.specs.Lists.{flat}
 use Rattle.scope.specs.Canonical.{decimalUpTo, decimal, partsText, squareText, unknownText, closedBy}
 use Rattle.basics.specs.Choice.{pick-true, pick-false}
 use Rattle.basics.specs.Each.{Each}
@@ -23,6 +23,7 @@ use Rattle.canonical_laws.specs.Numbers.{is-digit, digit-value, below-te
 use Rattle.canonical_laws.specs.Brackets.{FitsPart}
 use Rattle.reading_laws.specs.Unnoted.{Place, Parts, lineRun, line-nil, line-one, line-further}
 use Rattle.canonical_laws.specs.Runs.{Reads, bracket-run}
+use Rattle.basics.specs.Lists.{on-last}
 
 abbrev pub Brackets : Type 0
 Brackets = List (Bracket Place)
@@ -62,12 +63,6 @@ abbrev pub held : Brackets → Brackets → Held Place
 held bs rs = record { residues = []; brackets = bs; run = rs; first = 0 }
 
 -- ---- counts
-pub on-last : (f : Bracket Place → Bracket Place) (rs : Brackets) (k : Bracket Place) → onLast f (rs ++ (k ∷ [])) ≡ rs ++ (f k ∷ [])
-unfolding onLast
-on-last f [] k = refl
-on-last f (x ∷ []) k = refl
-on-last f (x ∷ y ∷ rs) k = ap (λ z. x ∷ z) (on-last f (y ∷ rs) k)
-
 caret-digit : (bs rs : Brackets) (ps : Parts) (v : ℕ) → v < 10 → lineRun (outside Caret (held bs (rs ++ (unknown 1 none ps ∷ [])))) ((48 + v) ∷ []) ≡ outside Counting (held bs (rs ++ (unknown v (some tt) ps ∷ [])))
 unfolding act perform
 caret-digit bs rs ps v h =
@@ -207,17 +202,13 @@ run-ends Undecided h past-undecided = line-one Undecided h question
 run-ends Counted h past-counted = line-one Counted h question
 run-ends Counting h past-counting = line-one Counting h question
 
-pub map-same : (l : Brackets) → map (λ k. k) l ≡ l
-map-same [] = refl
-map-same (k ∷ l) = ap (λ z. k ∷ z) (map-same l)
-
 -- "at most one unknown run": all brackets of unknown position, read back in one
 pub front-run : (us : Brackets) → Each IsUnknown us → Each FitsBracket us → lineRun start (closedBy (flat unknownText us) question) ≡ outside Front (held (map normal us) [])
 unfolding flat
 front-run [] w f = line-nil start
 front-run (k ∷ us) w f =
     let o = unknowns-run Front [] [] k us at-front w f in
-    line-further (flat unknownText (k ∷ us)) (question ∷ []) _ _ _ (o .path) (run-ends (o .mode) _ (o .past)) ∙ ap (λ z. outside Front (held z [])) (map-same (map normal (k ∷ us)))
+    line-further (flat unknownText (k ∷ us)) (question ∷ []) _ _ _ (o .path) (run-ends (o .mode) _ (o .past)) ∙ ap (λ z. outside Front (held z [])) (map-id (map normal (k ∷ us)))
 
 -- ---- N-terminal brackets in front
 pub record IsTerm (k : Bracket Place) : Type 0 where

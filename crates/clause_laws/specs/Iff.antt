@@ -1,4 +1,4 @@
--- Tests and lists of places, as relations.
+-- A test, and a place in a list of places, as what they say: one equivalence for each way in which Refusals.antt builds a test or a list.
 use Prim.Native.Nat.{ℕ}
 use mathlib.Core.Path.{_≡_, refl, sym, ap, _∙_}
 use mathlib.Core.Logic.{_↔_, _⊎_, inl, inr}
@@ -10,7 +10,9 @@ use Rattle.scope.specs.Refusals.{dueAt, least}
 use Rattle.reading_laws.specs.Proved as reads
 use Rattle.basics.specs.Lists.{same-law}
 use Rattle.clause_laws.specs.Clauses.{FirstAt}
-use Rattle.basics.specs.Each.{Some, Each}
+use Rattle.basics.specs.Each.{Some, Each, In}
+use borrow.Author.Tests.{not-true}
+use Rattle.basics.specs.Tests.{or-first, or-second}
 
 pub then : {A B C : Type 0} → (A ↔ B) → (B ↔ C) → (A ↔ C)
 then f g = ((λ a. g .0 (f .0 a)), (λ c. f .1 (g .1 c)))
@@ -23,13 +25,9 @@ or-iff a b {A} {B} f g = (there a refl, back)
     there true e q = inl (f .0 e)
     there false e q = inr (g .0 q)
 
-    last : (t : Bool) → (t || true) ≡ true
-    last true = refl
-    last false = refl
-
     back : A ⊎ B → (a || b) ≡ true
-    back (inl x) = ap (λ z. z || b) (f .1 x)
-    back (inr y) = ap (λ z. a || z) (g .1 y) ∙ last a
+    back (inl x) = or-first a b (f .1 x)
+    back (inr y) = or-second a b (g .1 y)
 
 pub and-iff : (a b : Bool) {A B : Type 0} → (a ≡ true ↔ A) → (b ≡ true ↔ B) → ((a && b) ≡ true) ↔ (A × B)
 and-iff a b {A} {B} f g = (there a refl, back)
@@ -45,12 +43,8 @@ pub self : {A : Type 0} → A ↔ A
 self = ((λ a. a), (λ a. a))
 
 pub not-iff : (a : Bool) {A : Type 0} → (a ≡ true ↔ A) → (not a ≡ true) ↔ (A → ⊥)
-not-iff a {A} f = ((λ e x. true≢false (sym (f .1 x) ∙ no a e)), back a refl)
+not-iff a {A} f = ((λ e x. true≢false (sym (f .1 x) ∙ not-true a e)), back a refl)
   where
-    no : (t : Bool) → not t ≡ true → t ≡ false
-    no true e = absurd (false≢true e)
-    no false e = refl
-
     back : (t : Bool) → a ≡ t → (A → ⊥) → not t ≡ true
     back true e h = absurd (h (f .0 e))
     back false e h = refl
@@ -74,13 +68,9 @@ some-not {A} f (x ∷ l) = (there (some-not f l .0) (f x) refl, back (some-not f
     last true = refl
     last false = refl
 
-    no : (t : Bool) → not t ≡ true → t ≡ false
-    no true e = absurd (false≢true e)
-    no false e = refl
-
     back : (Some (λ (y : A). f y ≡ false) l → not (all f l) ≡ true) → (f x ≡ false) ⊎ Some (λ (y : A). f y ≡ false) l → not (f x && all f l) ≡ true
     back ih (inl e) = ap (λ z. not (z && all f l)) e
-    back ih (inr e) = ap (λ z. not (f x && z)) (no (all f l) (ih e)) ∙ last (f x)
+    back ih (inr e) = ap (λ z. not (f x && z)) (not-true (all f l) (ih e)) ∙ last (f x)
 
 -- ---- lists
 pub either-iff : {A B C D : Type 0} → (A ↔ C) → (B ↔ D) → (A ⊎ B) ↔ (C ⊎ D)
@@ -97,10 +87,6 @@ either-iff {A} {B} {C} {D} f g = (there, back)
 pub some-iff : {A : Type 0} (P Q : A → Type 0) → ((x : A) → P x ↔ Q x) → (l : List A) → Some P l ↔ Some Q l
 some-iff P Q h [] = self
 some-iff P Q h (x ∷ l) = either-iff (h x) (some-iff P Q h l)
-
--- x is in the list
-abbrev pub In : {A : Type 0} → A → List A → Type 0
-In x l = Some (λ y. x ≡ y) l
 
 pub in-append : {A : Type 0} (P : A → Type 0) (a b : List A) → Some P (a ++ b) ↔ (Some P a ⊎ Some P b)
 in-append P [] b = ((λ v. inr v), back)

@@ -1,5 +1,5 @@
--- Refusals 1 to 3, 5 to 7 and 12, clause by clause.
-use Prim.Native.Nat.{ℕ, zero, suc, _+_, _-_, _*_, _^_, _≤_, _<_}
+-- Refusals 1 to 3, 5 to 7 and 12 are due exactly as their clauses say: each list of places is opened piece by piece, and a limit is a test.
+use Prim.Native.Nat.{ℕ, zero, suc, _+_, _*_, _^_, _≤_, _<_}
 use native.Mathlib.Omega.{arith}
 use native.Mathlib.Nat.{add-zero}
 use mathlib.Core.Path.{_≡_, refl, sym, ap, _∙_, subst}
@@ -18,8 +18,8 @@ use Rattle.scope.specs.Lists.{given, none?, flat}
 use Rattle.scope.specs.Modifications.{copies}
 use Rattle.scope.specs.Refusals.{dueAt, refusal1, refusal2, unprintable, refusal3, depthAfter, tooDeep, textOf, deepPart, refusal5, longText, longLabel, overIn, refusal6, inRange, wide, wideMass, wideScore, wideCount, refusal7, passing, refusal12}
 use Rattle.clause_laws.specs.Clauses.{SomeBehind, FirstAt, Due3, openAfter, Due5, LongLabel, Due6, InRange, WideMass, WideScore, WideCount, Due7, copiesIn, Due12}
-use Rattle.basics.specs.Each.{Some}
-use Rattle.clause_laws.specs.Iff.{then, or-iff, and-iff, self, not-iff, either-iff, In, in-append, in-flat, due-iff, first-iff}
+use Rattle.basics.specs.Each.{Some, In}
+use Rattle.clause_laws.specs.Iff.{then, or-iff, and-iff, self, not-iff, either-iff, in-append, in-flat, due-iff, first-iff}
 
 -- ---- 1 and 2
 pub exactly-1 : (s : List ℕ) (i : ℕ) → (refusal1 s ≡ some i) ↔ ((s ≡ []) × (i ≡ 0))
@@ -39,9 +39,6 @@ exactly-2 s i = (there (ltb lineLimit (length s)) refl, back)
     back v = ap (λ (t : Bool). cond t (some lineLimit) none) (lt-ltb lineLimit (length s) (v .0)) ∙ ap some (sym (v .1))
 
 -- ---- 3
-snoc-length : (front : List ℕ) (b : ℕ) → length (front ++ (b ∷ [])) ≡ length front + 1
-snoc-length front b = length-append front (b ∷ [])
-
 no-iff : (a : Bool) → (not a ≡ true) ↔ (a ≡ false)
 no-iff true = ((λ e. absurd (false≢true e)), (λ e. absurd (true≢false e)))
 no-iff false = ((λ e. refl), (λ e. refl))
@@ -52,7 +49,7 @@ byte-iff j [] front = self
 byte-iff j (b ∷ s) front =
     then (in-append (λ y. j ≡ y) (dueAt (not (isPrintable b)) (length front)) (unprintable (length front + 1) s))
     (either-iff (due-iff (not (isPrintable b)) (length front) j (no-iff (isPrintable b)))
-    (subst (λ (n : ℕ). In j (unprintable n s) ↔ SomeBehind (λ (f : List ℕ) (b : ℕ). (j ≡ length f) × (isPrintable b ≡ false)) (front ++ (b ∷ [])) s) (snoc-length front b) (byte-iff j s (front ++ (b ∷ [])))))
+    (subst (λ (n : ℕ). In j (unprintable n s) ↔ SomeBehind (λ (f : List ℕ) (b : ℕ). (j ≡ length f) × (isPrintable b ≡ false)) (front ++ (b ∷ [])) s) (length-append front (b ∷ [])) (byte-iff j s (front ++ (b ∷ [])))))
 
 pub exactly-3 : (s : List ℕ) (i : ℕ) → (refusal3 s ≡ some i) ↔ FirstAt (Due3 s) i
 unfolding refusal3
@@ -78,7 +75,7 @@ unfolding tooDeep
 deep-iff at j [] front = self
 deep-iff at j (b ∷ t) front =
     let d = openAfter 0 front in
-    let n : at + length (front ++ (b ∷ [])) ≡ at + length front + 1 = let e = snoc-length front b in omega (arith, e) in
+    let n : at + length (front ++ (b ∷ [])) ≡ at + length front + 1 = let e = length-append front (b ∷ []) in omega (arith, e) in
     let ih : In j (tooDeep (depthAfter d b) (at + length front + 1) t) ↔ SomeBehind (Deep at j) (front ++ (b ∷ [])) t =
     subst (λ (m : ℕ). In j (tooDeep (depthAfter d b) m t) ↔ SomeBehind (Deep at j) (front ++ (b ∷ [])) t) n
     (subst (λ (m : ℕ). In j (tooDeep m (at + length (front ++ (b ∷ []))) t) ↔ SomeBehind (Deep at j) (front ++ (b ∷ [])) t) (open-snoc 0 front b) (deep-iff at j t (front ++ (b ∷ [])))) in

@@ -1,4 +1,4 @@
--- The laws of specs/Clauses.antt hold.
+-- The laws of specs/Clauses.antt hold: one equivalence for each refusal, and a line without any of them.
 use Prim.Native.Nat.{ℕ, zero, suc, _≤_, _<_}
 use native.Mathlib.Omega.{arith}
 use mathlib.Core.Path.{_≡_, refl, sym, _∙_}

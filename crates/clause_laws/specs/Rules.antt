@@ -1,4 +1,4 @@
--- Refusals 8 to 11, clause by clause.
+-- Refusals 8 to 11 are due exactly as their clauses say: of keys by their codes, of labels by the names in front of a bracket.
 use Prim.Native.Nat.{ℕ}
 use mathlib.Core.Path.{_≡_, refl, sym, ap, _∙_, subst}
 use mathlib.Core.Logic.{_↔_, _⊎_, inl, inr}
@@ -8,42 +8,22 @@ use mathlib.Core.List.{List, [], _∷_, _++_}
 use lib.ListN.{length}
 use borrow.Author.Tests.{eqb-true, eq-eqb, ltb-true, lt-ltb}
 use Rattle.scope.specs.declared.grammar.Key.{Key}
-use Rattle.scope.specs.declared.grammar.Key.the-variants.{NoKey, U, M, R, X, G, C, Obs, Unimod, Mod, Xlmod, Resid, Gno, Info, Formula, Glycan, Position, Limit}
+use Rattle.scope.specs.declared.grammar.Key.the-variants.{NoKey, U, M, Info, Formula, Glycan, Position, Limit}
 use Rattle.scope.specs.declared.grammar.Kind.{Kind}
 use Rattle.scope.specs.declared.grammar.Kind.the-variants.{Unknown, Labile, NTerm, OnResidue, OnRange, CTerm}
 use Rattle.scope.specs.Bytes.{isDigit}
 use Rattle.scope.specs.Line.{Label, Part, Bracket, Line}
-use Rattle.scope.specs.Keys.{keys, keyCode, keyIn}
+use Rattle.scope.specs.Keys.{keyCode, keyIn}
 use Rattle.scope.specs.Lists.{given, none?, flat, among, shared}
 use Rattle.scope.specs.Modifications.{isKey, isReferring, nameOf, namesOf, isLabelled, definedBy, referredBy, defined, referredTo}
 use Rattle.scope.specs.Refusals.{dueAt, textOf, isRule, isLink, notHere, secondLabel, definedAgain, undefined, unreferred, wrongLabels, wronglyLabelled, refusal8, isNumberName, refusal9, refusal10, refusal11}
 use Rattle.scope.specs.Kinds.{unknownOrLabile, isUnknown}
 use Rattle.clause_laws.specs.Clauses.{SomeBehind, FirstAt, Rule, Link, Barred, Due8, Due10, Named, Defines, RefersTo, Second, Again, Undefined, CountedLabel, Unreferred, Due11, NumberName, Due9}
-use Rattle.basics.specs.Each.{Some}
-use Rattle.clause_laws.specs.Iff.{then, or-iff, and-iff, self, all-iff, some-not, either-iff, In, in-append, in-flat, among-iff, due-iff, first-iff}
+use Rattle.basics.specs.Each.{Some, In}
+use Rattle.clause_laws.specs.Iff.{then, or-iff, and-iff, self, all-iff, some-not, either-iff, in-append, in-flat, among-iff, due-iff, first-iff}
+use Rattle.basics.specs.Keys.{key-back}
 
 -- ---- keys and kinds
-key-back : (k : Key) → keyIn (keyCode k) ≡ k
-unfolding keys
-key-back NoKey = refl
-key-back U = refl
-key-back M = refl
-key-back R = refl
-key-back X = refl
-key-back G = refl
-key-back C = refl
-key-back Obs = refl
-key-back Unimod = refl
-key-back Mod = refl
-key-back Xlmod = refl
-key-back Resid = refl
-key-back Gno = refl
-key-back Info = refl
-key-back Formula = refl
-key-back Glycan = refl
-key-back Position = refl
-key-back Limit = refl
-
 key-iff : (k : Key) (p : Part ℕ) → (isKey k p ≡ true) ↔ (p .key ≡ k)
 key-iff k p = (
   (λ e. sym (key-back (p .key)) ∙ ap keyIn (eqb-true (keyCode (p .key)) (keyCode k) e) ∙ key-back k),

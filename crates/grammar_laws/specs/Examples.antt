@@ -1,4 +1,4 @@
--- Some lines and trees that spell them.
+-- Some lines and trees that spell them, so that the grammar is seen to print what is meant.
 use Prim.Native.Nat.{ℕ}
 use mathlib.Core.Path.{_≡_, refl}
 use mathlib.Core.Bool.{true, false}

@@ -4,15 +4,15 @@ use native.Mathlib.Omega.{arith}
 use mathlib.Core.Path.{_≡_, refl, sym, ap, _∙_, subst}
 use mathlib.Core.Logic.{_⊎_, inl, inr}
 use mathlib.Core.Bool.{Bool, true, false, cond}
-use mathlib.Core.Option.{Option, none, some}
-use mathlib.Core.List.{List, [], _∷_, _++_}
+use mathlib.Core.Option.{none, some}
+use mathlib.Core.List.{List, _++_}
 use lib.Dec.{ltb}
 use lib.ListN.{length, take}
 use borrow.Author.Tests.{ltb-false, le-ltb}
 use Rattle.scope.specs.Limits.{lineLimit}
 use Rattle.scope.specs.Line.{Line}
-use Rattle.scope.specs.Reading.{Reading, stuck, holds, reading, run}
-use Rattle.scope.specs.Refusals.{refusal1, refusal2, Due, Outcome, accepted, refused, firstDue, lineRefusals, judged, byteRefusals, outcome}
+use Rattle.scope.specs.Reading.{Reading, stuck, holds, reading}
+use Rattle.scope.specs.Refusals.{refusal2, accepted, refused, lineRefusals, judged, byteRefusals, outcome}
 use Rattle.reading_laws.specs.Laws.{Clear, First}
 use Rattle.reading_laws.specs.Proved as reads
 use Rattle.clause_laws.specs.Proved as clauses
@@ -20,6 +20,8 @@ use Rattle.scope.specs.Grammar.{means}
 use Rattle.grammar_laws.specs.Written.{line-read}
 use Rattle.grammar_laws.specs.Laws.{Begun, Stops, Accepts, Refuses, of-bytes, of-order, of-line}
 use Rattle.grammar_laws.specs.Lines.{spelt-read, read-spelt}
+use Rattle.reading_laws.specs.Precedence.{clear-cases, clear-due}
+use Rattle.reading_laws.specs.Taken.{some-bytes}
 
 -- ---- the place of refusal 4
 begun-read : (w : List ℕ) → Begun w → (l : List ℕ) × (t : Line ℕ) × (reading (w ++ l) ≡ holds t)
@@ -52,20 +54,6 @@ stops-stuck s i w =
 not-refused : (l : Line ℕ) (k i : ℕ) → accepted l ≡ refused k i → ⊥
 not-refused l k i e = let z : _≡_ {A = ℕ} 0 1 = cc in omega arith
 
-clear-cases : (ds : List Due) (o : Outcome) (l : Line ℕ) → firstDue ds o ≡ accepted l → Clear ds × (o ≡ accepted l)
-unfolding firstDue
-clear-cases [] o l e = (tt, e)
-clear-cases (d ∷ ds) o l e = go (d .place) refl (clear-cases ds o l)
-  where
-    go : (p : Option ℕ) → d .place ≡ p → (firstDue ds o ≡ accepted l → Clear ds × (o ≡ accepted l)) → Clear (d ∷ ds) × (o ≡ accepted l)
-    go (some p) q ih = absurd (not-refused l (d .number) p (sym (rw q at e)))
-    go none q ih = let c = ih (rw q at e) in ((q, c .0), c .1)
-
-clear-due : (ds : List Due) (o : Outcome) → Clear ds → firstDue ds o ≡ o
-unfolding firstDue
-clear-due [] o c = refl
-clear-due (d ∷ ds) o c = rw (c .0) (clear-due ds o (c .1))
-
 not-long : (s : List ℕ) → refusal2 s ≡ none → length s ≤ lineLimit
 unfolding refusal2
 not-long s e = go (ltb lineLimit (length s)) refl e
@@ -77,11 +65,6 @@ not-long s e = go (ltb lineLimit (length s)) refl e
 long-none : (s : List ℕ) → length s ≤ lineLimit → refusal2 s ≡ none
 unfolding refusal2
 long-none s h = rw (le-ltb lineLimit (length s) h)
-
-empty-none : (s : List ℕ) (l : Line ℕ) → reading s ≡ holds l → refusal1 s ≡ none
-unfolding refusal1 reading run
-empty-none [] l e = let z : _≡_ {A = ℕ} 0 1 = cc in absurd (omega arith)
-empty-none (b ∷ s) l e = refl
 
 pub accepts-so : (s : List ℕ) (l : Line ℕ) → outcome s ≡ accepted l → Accepts s l
 unfolding outcome
@@ -101,7 +84,7 @@ pub so-accepts : (s : List ℕ) (l : Line ℕ) → Accepts s l → outcome s ≡
 unfolding outcome
 so-accepts s l w =
     let e : reading s ≡ holds l = spelt-read s l (w .spelt) in
-    clear-due (byteRefusals s) (judged (reading s)) (empty-none s l e, (long-none s (w .short), (reads.laws .printable s l e, tt)))
+    clear-due (byteRefusals s) (judged (reading s)) (some-bytes s l e, (long-none s (w .short), (reads.laws .printable s l e, tt)))
     ∙ ap judged e ∙ clear-due (lineRefusals l) (accepted l) (clauses.laws .none-due l .1 (w .clear))
 
 -- ---- refusals

@@ -1,4 +1,4 @@
--- Facts about tests and lists of bytes.
+-- A list of bytes that all pass a test, with one byte more; and the number that digits mean, digit by digit.
 use Prim.Native.Nat.{ℕ, _+_, _*_}
 use native.Mathlib.Omega.{arith}
 use mathlib.Core.Path.{_≡_, refl, ap}
@@ -8,10 +8,6 @@ use Rattle.scope.specs.Bytes.{value}
 use Rattle.scope.specs.Lists.{none?, all as every}
 use Rattle.basics.specs.Tests.{and-left, and-right, both}
 use Rattle.scope.specs.Grammar.{someOf, valueOn}
-
-pub no : (a : Bool) → not a ≡ true → a ≡ false
-no true e = absurd (false≢true e)
-no false e = refl
 
 pub all-append : (f : ℕ → Bool) (l m : List ℕ) → every f l ≡ true → every f m ≡ true → every f (l ++ m) ≡ true
 unfolding every

@@ -21,13 +21,14 @@ use Rattle.scope.specs.Bytes.{isLetter, isDigit, openSquare, shutSquare, openCu
 use Rattle.scope.specs.Content.{begin, Inner, Content, lost, closed, going, innerStep}
 use Rattle.scope.specs.Reading.{square, front, labile, element, further, groupFirst, inGroup, undecided, counted, referred, act, mayEnd, Held, withResidue, withBracket, withDigit, asNTerm, settledRun, State, dead, outside, inside, perform, refers?, modeAfter, resume, step, start, lineOf}
 use Rattle.reading_laws.specs.Run.{told}
-use Rattle.reading_laws.specs.Unnoted.{Place, Parts, context, contentStep, contentRun, lineRun, line-nil, line-cons, same-mode}
+use Rattle.reading_laws.specs.Unnoted.{Place, Parts, context, contentRun, lineRun, line-nil, line-cons, same-mode, content-cons, content-nil}
 use Rattle.basics.specs.Tests.{both}
 use Rattle.reading_laws.specs.Acts.{Ending, single-ends, ranged-ends, unsure-ends, cterms-end, ending}
 use Rattle.scope.specs.Lists.{there?, all as every, flat}
 use Rattle.scope.specs.Grammar.{someOf, Inside, parts, refers, printInside, goodInside, printSquare, printCurly, printSquares, goodSquares, goodCurlies, Marked, printCount, goodCount, printMarked, goodMarked, Run, printRun, goodRun, Spot, Element, single, range, unsure, printSpot, printElement, goodSpot, goodElement, Spelling, elements, printFront, printBack, print, good}
 use Rattle.grammar_laws.specs.Bare.{bareInside}
 use Rattle.grammar_laws.specs.Spelled.{closed-spelled}
+use Rattle.basics.specs.Lists.{flat-cons, flat-nil}
 
 -- ---- what is left of a line, by the mode in which it is left
 pub record Squares (r : Bool) (T : List ℕ → Type 0) (l : List ℕ) : Type 0 where
@@ -174,20 +175,12 @@ every-nil : {A : Type 0} (f : A → Bool) → every f [] ≡ true
 unfolding every
 every-nil f = refl
 
-each-cons : {A B : Type 0} (f : A → List B) (x : A) (l : List A) → flat f (x ∷ l) ≡ f x ++ flat f l
-unfolding flat
-each-cons f x l = refl
-
-each-nil : {A B : Type 0} (f : A → List B) → flat f [] ≡ []
-unfolding flat
-each-nil f = refl
-
 -- one text more in front
 each-front : {A : Type 0} (f : A → List ℕ) (x : A) (xs : List A) (l v w : List ℕ) → l ≡ f x ++ v → v ≡ flat f xs ++ w → l ≡ flat f (x ∷ xs) ++ w
-each-front f x xs l v w e g = e ∙ ap (λ z. f x ++ z) g ∙ sym (append-assoc (f x) (flat f xs) w) ∙ ap (λ z. z ++ w) (sym (each-cons f x xs))
+each-front f x xs l v w e g = e ∙ ap (λ z. f x ++ z) g ∙ sym (append-assoc (f x) (flat f xs) w) ∙ ap (λ z. z ++ w) (sym (flat-cons f x xs))
 
 each-none : {A : Type 0} (f : A → List ℕ) (l : List ℕ) → l ≡ flat f [] ++ l
-each-none f l = ap (λ z. z ++ l) (sym (each-nil f))
+each-none f l = ap (λ z. z ++ l) (sym (flat-nil f))
 
 -- ---- squares
 no-squares : (r : Bool) (T : List ℕ → Type 0) (l : List ℕ) → T l → Squares r T l
@@ -530,7 +523,7 @@ runs-cons b l e w = go (w .marked) (w .good) (w .all)
   where
     go : (ms : List Marked) → every goodMarked ms ≡ true → b ∷ l ≡ flat printMarked ms ++ (question ∷ w .rest) → Whole (b ∷ l)
     go [] g a =
-        let z : b ≡ question = ap head-of (a ∙ ap (λ v. v ++ (question ∷ w .rest)) (each-nil printMarked)) in
+        let z : b ≡ question = ap head-of (a ∙ ap (λ v. v ++ (question ∷ w .rest)) (flat-nil printMarked)) in
         absurd (omega arith)
     go (k ∷ ms) g a =
         let r : Run = record { first = k; more = ms } in
@@ -613,14 +606,6 @@ ends m h e = go (mayEnd m) (ap (λ s. there? (told s)) (sym (line-nil (outside m
     go true f = refl
     go false f = absurd (false≢true f)
 
-content-cons : (s : Inner Place) (b : ℕ) (l : List ℕ) → contentRun (going s) (b ∷ l) ≡ contentRun (innerStep tt s b) l
-unfolding contentRun contentStep
-content-cons s b l = refl
-
-run-nil : (x : Content Place) → contentRun x [] ≡ x
-unfolding contentRun
-run-nil x = refl
-
 -- a bracket closes
 record Split (s : Slot) (h : Held Place) (c : Inner Place) (l : List ℕ) : Type 0 where
   pub inner : List ℕ
@@ -637,7 +622,7 @@ split (b ∷ l) s h c e = go (innerStep tt c b) refl (ap (λ z. there? (told z))
   where
     go : (x : Content Place) → innerStep tt c b ≡ x → Accepts (resume s tt h tt x) l → ((d : Inner Place) → Accepts (inside s tt h d) l → Split s h d l) → Split s h c (b ∷ l)
     go lost q f ih = absurd (dead-not l f)
-    go (closed ps) q f ih = record { inner = b ∷ []; parts = ps; rest = l; all = refl; closes = content-cons c b [] ∙ ap (λ z. contentRun z []) q ∙ run-nil (closed ps); accepts = f }
+    go (closed ps) q f ih = record { inner = b ∷ []; parts = ps; rest = l; all = refl; closes = content-cons c b [] ∙ ap (λ z. contentRun z []) q ∙ content-nil (closed ps); accepts = f }
     go (going d) q f ih =
         let i = ih d f in
         record { inner = b ∷ i .inner; parts = i .parts; rest = i .rest; all = ap (λ z. b ∷ z) (i .all); closes = content-cons c b (i .inner) ∙ ap (λ z. contentRun z (i .inner)) q ∙ i .closes; accepts = i .accepts }

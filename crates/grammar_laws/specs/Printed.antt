@@ -8,7 +8,7 @@ use mathlib.Core.List.{List, [], _∷_, _++_, append-assoc, append-nil}
 use native.Mathlib.Nat.{add-zero}
 use lib.Dec.{eqb, leb}
 use lib.ListN.{length, length-append}
-use borrow.Author.Tests.{eqb-true, eq-eqb, ne-eqb, leb-true, le-leb}
+use borrow.Author.Tests.{eqb-true, eq-eqb, ne-eqb, leb-true, le-leb, not-true}
 use Rattle.scope.specs.declared.grammar.Key.{Key}
 use Rattle.scope.specs.declared.grammar.Key.the-variants.{NoKey}
 use Rattle.scope.specs.Bytes.{isPrintable, isUpper, isLower, isLetter, isDigit, isAlnum, isSign, isOpening, isShutting, shutSquare, shutCurly, bar, hash, colon, plus, dash, dot, openRound, shutRound, sameFolded, value}
@@ -18,12 +18,11 @@ use Rattle.scope.specs.Lists.{given, none?, all as every, there?}
 use Rattle.scope.specs.Content.{Digits, signed, whole, digitStep, numberEnd, isPlain, textStep, Context, Inner, begin, plain, keyed, inNumber, inCode, inText, hashed, inLabel, scoring, inScore, scored, Content, closed, going, with, unlabelled, labelled, isReference, partEnd, valueEnd, textEnd, behindKey, colonAfter, nameBehind, innerStep}
 use Rattle.basics.specs.Choice.{pick-true, pick-false, pick-some, pick-none}
 use Rattle.reading_laws.specs.Unnoted.{digitRun, digits-cons}
-use Rattle.basics.specs.Tests.{and-left, and-right}
+use Rattle.basics.specs.Tests.{and-left, and-right, or-second}
 use Rattle.scope.specs.Grammar.{someOf, Numeral, printNumeral, goodNumeral, goodBehind, printBehind, meansNumeral, signByte, Text, printText, goodText, outerByte, goodWord, withColon, leadKey, firstSign, keyless, Base, delta, code, wording, printBase, takesMass, goodWording, goodBase, keyIn, valueIn, Score, printSign, isMinus, printScore, goodScore, meansScore, Tag, printTag, goodTag, meansTag, Piece, printPiece, formIn, tagFits, goodPiece, meansPiece, printPieces, goodPieces, meansPieces, Inside, parts, refers, printInside, goodInside, meansInside}
-use Rattle.grammar_laws.specs.Lists.{no}
 use Rattle.grammar_laws.specs.Runs.{context, notedStep, notedRun, content-one, then, onward}
 use Rattle.grammar_laws.specs.Numerals.{readAs, numeral-run, numeral-end, numeral-stops}
-use Rattle.grammar_laws.specs.Texts.{textRun, outer, outer-run}
+use Rattle.grammar_laws.specs.Texts.{textRun, outer, outer-run, plain-stays}
 use Rattle.grammar_laws.specs.Words.{word-key, word-none, key-letters, no-key}
 
 -- ---- the bytes that end a part, and those that end what it says
@@ -68,11 +67,7 @@ stop b e =
     b e
 
 close : (b : ℕ) → closes b ≡ true → stops b ≡ true
-close b e = back (eqb b hash) (closes b) e
-  where
-    back : (u v : Bool) → v ≡ true → (u || v) ≡ true
-    back true v p = refl
-    back false v p = p
+close b e = or-second (eqb b hash) (closes b) e
 
 close-text : (b : ℕ) → closes b ≡ true → textStep true [] b ≡ none
 unfolding textStep
@@ -109,10 +104,6 @@ lettered b e = go (isUpper b) refl e
         let y = leb-true b 122 (and-right (leb 97 b) (leb b 122) w) in
         made (omega arith) (omega arith) (λ z. omega arith) (λ z. omega arith)
 
-plain-stays : (b : ℕ) → isPlain b ≡ true → textStep false [] b ≡ some []
-unfolding textStep
-plain-stays b q = pick-true (outer false b) _ _ (ap (λ z. z || eqb b colon || false) q)
-
 colon-stays : (b : ℕ) → eqb b colon ≡ true → textStep false [] b ≡ some []
 unfolding textStep
 colon-stays b q = pick-true (outer false b) _ _ (ap (λ z. isPlain b || z || false) q ∙ last (isPlain b))
@@ -122,7 +113,7 @@ colon-stays b q = pick-true (outer false b) _ _ (ap (λ z. isPlain b || z || fal
     last false = refl
 
 plain-colon : (b : ℕ) → isPlain b ≡ true → eqb b colon ≡ false
-plain-colon b e = no (eqb b colon) (and-right (isPrintable b && not (isOpening b) && not (isShutting b) && not (eqb b bar) && not (eqb b hash)) (not (eqb b colon)) e)
+plain-colon b e = not-true (eqb b colon) (and-right (isPrintable b && not (isOpening b) && not (isShutting b) && not (eqb b bar) && not (eqb b hash)) (not (eqb b colon)) e)
 
 -- behind one byte more
 snoc-place : (i : ℕ) (l : List ℕ) (b : ℕ) → i + length (l ++ (b ∷ [])) ≡ i + length l + 1
@@ -388,7 +379,7 @@ module _ (c : Context ℕ) where
   text-behind i at massOrName k w t e q h d n g =
       let g′ = and-right (goodText (outerByte false) t) (not (firstSign (printText t)) && keyless w (printText t)) g in
       prefixed-run i at k (printText t) e q (stop e h) (outer-run false t (and-left (goodText (outerByte false) t) (not (firstSign (printText t)) && keyless w (printText t)) g)) n
-      (no (firstSign (printText t)) (and-left (not (firstSign (printText t))) (keyless w (printText t)) g′))
+      (not-true (firstSign (printText t)) (and-left (not (firstSign (printText t))) (keyless w (printText t)) g′))
   text-behind i at massOnly k w t e q h d n g = absurd (false≢true g)
   text-behind i at digits k w t e q h d n g = absurd (false≢true g)
   text-behind i at alnums k w t e q h d n g = absurd (false≢true g)
@@ -402,7 +393,7 @@ module _ (c : Context ℕ) where
       let g₀ : goodWording massOrName [] t ≡ true = ap (λ v. goodWording (form v) [] t) (sym z) ∙ g in
       let g₁ = and-right (goodText (outerByte false) t) (not (firstSign (printText t)) && keyless [] (printText t)) g₀ in
       name-run i (printText t) e (stop e h) (outer-run false t (and-left (goodText (outerByte false) t) (not (firstSign (printText t)) && keyless [] (printText t)) g₀)) n
-      (no (firstSign (printText t)) (and-left (not (firstSign (printText t))) (keyless [] (printText t)) g₁))
+      (not-true (firstSign (printText t)) (and-left (not (firstSign (printText t))) (keyless [] (printText t)) g₁))
       (no-key (leadKey [] (printText t)) (and-right (not (firstSign (printText t))) (keyless [] (printText t)) g₁))
       ∙ ap (λ v. valueEnd c (unlabelled i v (text (printText t))) e) (sym z)
   wording-run i k (x ∷ w) t e f h d n g = behind-run i k x w (printText t) e _ f (text-behind (i + length (withColon (x ∷ w))) i (form k) k (x ∷ w) t e refl h d n g)
@@ -416,11 +407,11 @@ module _ (c : Context ℕ) where
   base-run i (code w t) e g h d =
       let g₁ = and-right (goodWord w) (someOf (accessionByte (form (w .key))) t) g in
       code-run i (w .key) (w .spelled) t e (and-left (goodWord w) (someOf (accessionByte (form (w .key))) t) g) (stop e h)
-      (no (none? t) (and-left (not (none? t)) (every (accessionByte (form (w .key))) t) g₁)) (and-right (not (none? t)) (every (accessionByte (form (w .key))) t) g₁)
+      (not-true (none? t) (and-left (not (none? t)) (every (accessionByte (form (w .key))) t) g₁)) (and-right (not (none? t)) (every (accessionByte (form (w .key))) t) g₁)
   base-run i (wording w t) e g h d =
       let g₁ = and-right (goodWord w) (not (none? (printText t)) && goodWording (form (w .key)) (w .spelled) t) g in
       wording-run i (w .key) (w .spelled) t e (and-left (goodWord w) (not (none? (printText t)) && goodWording (form (w .key)) (w .spelled) t) g) h d
-      (no (none? (printText t)) (and-left (not (none? (printText t))) (goodWording (form (w .key)) (w .spelled) t) g₁))
+      (not-true (none? (printText t)) (and-left (not (none? (printText t))) (goodWording (form (w .key)) (w .spelled) t) g₁))
       (and-right (not (none? (printText t))) (goodWording (form (w .key)) (w .spelled) t) g₁)
 
   -- ---- labels
@@ -551,10 +542,10 @@ shut-closes s e = back (eqb s bar) e
 shut-bar : (s : ℕ) → isShutting s ≡ true → eqb bar s ≡ false
 shut-bar s e = ne-eqb bar s (λ z. true≢false (sym e ∙ ap isShutting (sym z)))
 
-no-reference : (i : ℕ) (b : Base) → isReference (valueIn i b) ≡ false
-no-reference i (delta w m n) = refl
-no-reference i (code w t) = refl
-no-reference i (wording w t) = refl
+pub no-base : (i : ℕ) (b : Base) → isReference (valueIn i b) ≡ false
+no-base i (delta w m n) = refl
+no-base i (code w t) = refl
+no-base i (wording w t) = refl
 
 part-bar : (c : Context ℕ) (p : Part ℕ) → isShutting (c .shut) ≡ true → isReference (p .value) ≡ false → partEnd c p bar ≡ going (begin (with c p))
 unfolding partEnd
@@ -572,7 +563,7 @@ pieces-run i [] p c s g = piece-run c i p (c .shut) g (shut-closes (c .shut) s) 
 pieces-run i (q ∷ ps) p c s g =
     ap (notedRun i (going (begin c))) (group (printPiece p) (printPieces q ps))
     ∙ onward i (begin c) (begin (with c (meansPiece i p))) (printPiece p ++ (bar ∷ [])) (printPieces q ps ++ (c .shut ∷ [])) _
-    (piece-run c i p bar (and-left (goodPiece (eqb (c .shut) shutSquare) p) (goodPieces (eqb (c .shut) shutSquare) q ps) g) refl ∙ part-bar c (meansPiece i p) s (no-reference i (p .base)))
+    (piece-run c i p bar (and-left (goodPiece (eqb (c .shut) shutSquare) p) (goodPieces (eqb (c .shut) shutSquare) q ps) g) refl ∙ part-bar c (meansPiece i p) s (no-base i (p .base)))
     (ap (λ v. notedRun v (going (begin (with c (meansPiece i p)))) (printPieces q ps ++ (c .shut ∷ []))) (snoc-place i (printPiece p) bar)
     ∙ pieces-run (i + length (printPiece p) + 1) ps q (with c (meansPiece i p)) s (and-right (goodPiece (eqb (c .shut) shutSquare) p) (goodPieces (eqb (c .shut) shutSquare) q ps) g)
     ∙ ap closed (append-assoc (c .parts) (meansPiece i p ∷ []) (meansPieces (i + length (printPiece p) + 1) q ps)))

@@ -1,4 +1,4 @@
--- The laws of specs/Laws.antt hold.
+-- The laws of specs/Laws.antt hold: one way by what a tree prints (Printed, Written), the other by the tree that is found for what is read (Spelled, Parsed).
 use Prim.Native.Nat.{ℕ}
 use mathlib.Core.Path.{_≡_, refl, sym, ap, _∙_, subst}
 use mathlib.Core.Bool.{Bool, true}
@@ -12,12 +12,12 @@ use Rattle.scope.specs.Reading.{Reading, stuck, holds, reading}
 use Rattle.scope.specs.Tables.{Tables, tablesOf}
 use Rattle.reading_laws.specs.Places.{mapPart, mapContent}
 use Rattle.reading_laws.specs.Run.{unnoted}
-use Rattle.reading_laws.specs.Unnoted.{digitRun}
+use Rattle.reading_laws.specs.Unnoted.{digitRun, closed-same}
 use Rattle.scope.specs.Grammar.{Spelling, print, good, means}
 use Rattle.grammar_laws.specs.Numerals.{numeral-run, numeral-end, readAs, SoFar, so-further, so-ended}
 use Rattle.grammar_laws.specs.Texts.{textRun, outer-run, whole-text}
 use Rattle.grammar_laws.specs.Words.{word-length}
-use Rattle.grammar_laws.specs.Runs.{context, notedRun, closed-same, run-bare}
+use Rattle.grammar_laws.specs.Runs.{context, notedRun, run-bare}
 use Rattle.grammar_laws.specs.Printed.{inside-run}
 use Rattle.grammar_laws.specs.Spelled.{closed-spelled}
 use Rattle.grammar_laws.specs.Written.{line-read}

@@ -3,17 +3,17 @@ use Prim.Native.Nat.{ℕ, suc, _+_}
 use native.Mathlib.Omega.{arith}
 use native.Mathlib.Nat.{add-zero}
 use mathlib.Core.Path.{_≡_, refl, sym, ap, _∙_}
-use mathlib.Core.Bool.{Bool, true, false, cond}
+use mathlib.Core.Bool.{Bool}
 use mathlib.Core.List.{List, [], _∷_, _++_}
 use lib.ListN.{length}
 use Rattle.scope.specs.declared.grammar.Mode.{Mode}
 use Rattle.scope.specs.declared.grammar.Slot.{Slot}
 use Rattle.scope.specs.Line.{Part}
 use Rattle.scope.specs.Content.{Context, Inner, Content, lost, closed, going, innerStep}
-use Rattle.scope.specs.Reading.{act, Held, withBracket, State, outside, inside, perform, refers?, modeAfter, resume, step, run}
+use Rattle.scope.specs.Reading.{act, Held, withBracket, State, outside, inside, perform, modeAfter, resume, step, run}
 use Rattle.reading_laws.specs.Places.{mapContent, innerStep-map}
 use Rattle.reading_laws.specs.Run.{run-nil, run-cons, run-append, unnoted}
-use Rattle.reading_laws.specs.Unnoted.{contentStep, contentRun}
+use Rattle.reading_laws.specs.Unnoted.{contentStep, contentRun, lost-closed, going-closed, closed-same}
 
 abbrev pub Parts : Type 0
 Parts = List (Part ℕ)
@@ -79,15 +79,6 @@ unfolding notedRun notedStep
 lost-run i [] = refl
 lost-run i (b ∷ l) = lost-run (i + 1) l
 
-lost-closed : (ps : Parts) → lost ≡ closed ps → ⊥
-lost-closed ps e = let z : _≡_ {A = ℕ} 0 1 = cc in omega arith
-
-going-closed : (c : Inner ℕ) (ps : Parts) → going c ≡ closed ps → ⊥
-going-closed c ps e = let z : _≡_ {A = ℕ} 0 1 = cc in omega arith
-
-pub closed-same : (ps qs : Parts) → closed ps ≡ closed qs → ps ≡ qs
-closed-same ps qs e = cc
-
 -- a run of the inside lifts to the line; the bracket is at the place at
 pub lift : (i : ℕ) (s : Slot) (at : ℕ) (h : Held ℕ) (l : List ℕ) (c : Inner ℕ) (ps : Parts) → notedRun i (going c) l ≡ closed ps → lineRun i (inside s at h c) l ≡ outside (modeAfter s ps) (withBracket (s .kind) at ps h)
 unfolding notedRun notedStep run step resume
@@ -100,13 +91,6 @@ lift i s at h (b ∷ l) c ps e = go (innerStep i c b) l e (λ d f. lift (i + 1) 
     go (closed qs) [] e ih = ap (λ z. outside (modeAfter s z) (withBracket (s .kind) at z h)) (closed-same qs ps e)
     go (closed qs) (y ∷ l) e ih = absurd (lost-closed ps (sym (lost-run (i + 1 + 1) l) ∙ e))
     go (going d) l e ih = ih d e
-
-pub same-mode : (ps : Parts) (m : Mode) → cond (refers? ps) m m ≡ m
-same-mode ps m = go (refers? ps)
-  where
-    go : (t : Bool) → cond t m m ≡ m
-    go true = refl
-    go false = refl
 
 -- ---- places forgotten
 step-bare : (i : ℕ) (x : Content ℕ) (b : ℕ) → mapContent unnoted (notedStep i x b) ≡ contentStep (mapContent unnoted x) b

@@ -13,7 +13,7 @@ use Rattle.scope.specs.Line.{Number, mass, text, reference, Part}
 use Rattle.scope.specs.Keys.{spell, keyOf, Form, massOrName, massOnly, digits, alnums, free, form, hashIsPlain, accessionByte}
 use Rattle.scope.specs.Content.{Digits, signed, digitStep, numberEnd, isPlain, textStep, Context, Inner, begin, plain, keyed, inNumber, inCode, inText, hashed, inLabel, scoring, inScore, scored, Content, lost, closed, going, with, unlabelled, labelled, isReference, partEnd, valueEnd, textEnd, behindKey, colonAfter, nameBehind, innerStep}
 use Rattle.scope.specs.Lists.{none?, all as every, there?}
-use Rattle.basics.specs.Choice.{branch-on, given-on, pick-true, pick-false}
+use Rattle.basics.specs.Choice.{branch-on, given-on, pick-false}
 use Rattle.basics.specs.Each.{Each, each-append}
 use Rattle.reading_laws.specs.Unnoted.{Place, Parts, context, contentStep, contentRun}
 use Rattle.basics.specs.Tests.{and-left, and-right, both}
@@ -21,7 +21,7 @@ use Rattle.scope.specs.Grammar.{someOf, printNumeral, goodNumeral, signByte, Te
 use Rattle.grammar_laws.specs.Bare.{bareValue, bareScore, barePiece, bareReference, bareInside}
 use Rattle.grammar_laws.specs.Lists.{all-nil, all-one, all-snoc, some-snoc, some-all, not-none}
 use Rattle.grammar_laws.specs.Numerals.{SoFar, so-further, so-first, Spelt, so-ended}
-use Rattle.grammar_laws.specs.Texts.{textRun, text-append, text-cons, text-nil, outer, whole-text}
+use Rattle.grammar_laws.specs.Texts.{textRun, text-append, text-cons, text-nil, outer, whole-text, plain-stays}
 use Rattle.grammar_laws.specs.Words.{key-word, key-none, no-word, lead-over, lead-colon, lead-none}
 
 -- ---- parts in front, each with its `|`
@@ -103,14 +103,10 @@ unfolding every
 plain-colons [] e = refl
 plain-colons (b ∷ t) e = both (not (eqb b colon)) (every (λ x. not (eqb x colon)) t) (plain-colon b (and-left (isPlain b) (every isPlain t) e)) (plain-colons t (and-right (isPlain b) (every isPlain t) e))
 
-plain-step : (b : ℕ) → isPlain b ≡ true → textStep false [] b ≡ some []
-unfolding textStep
-plain-step b q = pick-true (outer false b) _ _ (ap (λ z. z || eqb b colon || false) q)
-
 plain-text : (t : List ℕ) → every isPlain t ≡ true → textRun false [] t ≡ some []
 unfolding every
 plain-text [] e = text-nil false []
-plain-text (b ∷ t) e = text-cons false b t [] [] (plain-step b (and-left (isPlain b) (every isPlain t) e)) ∙ plain-text t (and-right (isPlain b) (every isPlain t) e)
+plain-text (b ∷ t) e = text-cons false b t [] [] (plain-stays b (and-left (isPlain b) (every isPlain t) e)) ∙ plain-text t (and-right (isPlain b) (every isPlain t) e)
 
 text-snoc : (h : Bool) (t cs cs′ : List ℕ) (b : ℕ) → textRun h [] t ≡ some cs → textStep h cs b ≡ some cs′ → textRun h [] (t ++ (b ∷ [])) ≡ some cs′
 text-snoc h t cs cs′ b e f = text-append h t (b ∷ []) [] cs e ∙ text-cons h b [] cs cs′ f ∙ text-nil h cs′

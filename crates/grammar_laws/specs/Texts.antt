@@ -6,14 +6,13 @@ use mathlib.Core.Bool.{Bool, true, false, not, cond, _&&_, _||_, true≢false}
 use mathlib.Core.Option.{Option, none, some, Option·some-injective, Option·none-ne-some}
 use mathlib.Core.List.{List, [], _∷_, _++_, append-assoc}
 use lib.Dec.{eqb}
-use borrow.Author.Tests.{eqb-true, ne-eqb}
+use borrow.Author.Tests.{eqb-true, ne-eqb, not-true}
 use Rattle.scope.specs.Bytes.{isPrintable, isOpening, isShutting, closerOf, openSquare, shutSquare, openCurly, shutCurly, bar, hash, colon}
 use Rattle.scope.specs.Lists.{given}
 use Rattle.scope.specs.Content.{isPlain, textStep}
 use Rattle.basics.specs.Choice.{pick-true, pick-false, pick-some}
 use Rattle.basics.specs.Tests.{and-left, and-right, both}
 use Rattle.scope.specs.Grammar.{Text, over, byte, square, curly, printText, plainByte, outerByte, goodText}
-use Rattle.grammar_laws.specs.Lists.{no}
 
 -- the closers owed after some bytes
 unfoldable pub textRun : Bool → List ℕ → List ℕ → Option (List ℕ)
@@ -80,9 +79,9 @@ inner-step : (hashes : Bool) (c : ℕ) (cs : List ℕ) (b : ℕ) → isShutting 
 unfolding textStep
 inner-step hashes c cs b h e =
     let p : isPrintable b ≡ true = and-left (isPrintable b) (not (isOpening b)) (and-left (isPrintable b && not (isOpening b)) (not (isShutting b)) e) in
-    let o : isOpening b ≡ false = no (isOpening b) (and-right (isPrintable b) (not (isOpening b)) (and-left (isPrintable b && not (isOpening b)) (not (isShutting b)) e)) in
+    let o : isOpening b ≡ false = not-true (isOpening b) (and-right (isPrintable b) (not (isOpening b)) (and-left (isPrintable b && not (isOpening b)) (not (isShutting b)) e)) in
     let s : not (isShutting b) ≡ true = and-right (isPrintable b && not (isOpening b)) (not (isShutting b)) e in
-    let d : eqb b c ≡ false = ne-eqb b c (λ z. true≢false (sym h ∙ ap isShutting (sym z) ∙ no (isShutting b) s)) in
+    let d : eqb b c ≡ false = ne-eqb b c (λ z. true≢false (sym h ∙ ap isShutting (sym z) ∙ not-true (isShutting b) s)) in
     pick-false (isOpening b) _ _ o ∙ pick-false (eqb b c) _ _ d ∙ pick-true (isPrintable b && not (isShutting b)) _ _ (both (isPrintable b) (not (isShutting b)) p s)
 
 -- a pair, within others
@@ -308,3 +307,8 @@ module _ (hashes : Bool) where
   pub whole-text : (l : List ℕ) → textRun hashes [] l ≡ some [] → Whole hashes l
   unfolding Nested
   whole-text l e = nested l [] e
+
+-- a plain byte opens and closes nothing
+pub plain-stays : (b : ℕ) → isPlain b ≡ true → textStep false [] b ≡ some []
+unfolding textStep
+plain-stays b q = pick-true (outer false b) _ _ (ap (λ z. z || eqb b colon || false) q)

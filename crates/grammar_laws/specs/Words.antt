@@ -7,17 +7,16 @@ use mathlib.Core.Option.{Option, none, some, Option·some-injective, Option·non
 use mathlib.Core.List.{List, [], _∷_, _++_, append-assoc, append-nil}
 use lib.Dec.{eqb, leb}
 use lib.ListN.{length, length-append}
-use borrow.Author.Tests.{eqb-true, leb-true, le-leb}
+use borrow.Author.Tests.{eqb-true, leb-true, le-leb, not-true}
 use Rattle.scope.specs.declared.grammar.Key.{Key}
 use Rattle.scope.specs.declared.grammar.Key.the-variants.{NoKey, U, M, R, X, G, C, Obs, Unimod, Mod, Xlmod, Resid, Gno, Info, Formula, Glycan, Position, Limit}
 use Rattle.scope.specs.Bytes.{upper, isUpper, isLower, isLetter, colon, sameFolded}
 use Rattle.scope.specs.Keys.{spell, keys, keyAmong, keyOf, written}
 use Rattle.basics.specs.Choice.{branch-on, pick-true, pick-false}
 use Rattle.basics.specs.Each.{Each}
-use Rattle.basics.specs.Tests.{and-left, and-right, both}
+use Rattle.basics.specs.Tests.{and-left, and-right, both, or-first, or-second}
 use Rattle.scope.specs.Lists.{all as every, there?}
 use Rattle.scope.specs.Grammar.{withColon, leadKey}
-use Rattle.grammar_laws.specs.Lists.{no}
 use Rattle.basics.specs.Lists.{folded-length}
 
 -- ---- two spellings that fold to one
@@ -138,18 +137,11 @@ folded-letter x y e h = go (isLower x) (isLower y) refl refl
     either true v p q = refl
     either false v p q = absurd (false≢true (sym q ∙ p))
 
-    front : (u v : Bool) → u ≡ true → (u || v) ≡ true
-    front u v p = rw p
-
-    back : (u v : Bool) → v ≡ true → (u || v) ≡ true
-    back true v p = refl
-    back false v p = p
-
     go : (p q : Bool) → isLower x ≡ p → isLower y ≡ q → isLetter y ≡ true
-    go p true f g = back (isUpper y) (isLower y) g
+    go p true f g = or-second (isUpper y) (isLower y) g
     go true false f g =
         let z : y ≡ x - 32 = sym (pick-false (isLower y) (y - 32) y g) ∙ sym e ∙ pick-true (isLower x) (x - 32) x f in
-        front (isUpper y) (isLower y) (ap isUpper z ∙ capital x f)
+        or-first (isUpper y) (isLower y) (ap isUpper z ∙ capital x f)
     go false false f g =
         let z : y ≡ x = sym (pick-false (isLower y) (y - 32) y g) ∙ sym e ∙ pick-false (isLower x) (x - 32) x f in
         ap isLetter z ∙ h
@@ -189,7 +181,7 @@ pub lead-over : (w t r : List ℕ) → every (λ b. not (eqb b colon)) t ≡ tru
 unfolding leadKey every
 lead-over w [] r e = ap (λ z. leadKey z r) (sym (append-nil w))
 lead-over w (b ∷ t) r e =
-    pick-false (eqb b colon) _ _ (no (eqb b colon) (and-left (not (eqb b colon)) (every (λ b. not (eqb b colon)) t) e))
+    pick-false (eqb b colon) _ _ (not-true (eqb b colon) (and-left (not (eqb b colon)) (every (λ b. not (eqb b colon)) t) e))
     ∙ lead-over (w ++ (b ∷ [])) t r (and-right (not (eqb b colon)) (every (λ b. not (eqb b colon)) t) e)
     ∙ ap (λ z. leadKey z r) (append-assoc w (b ∷ []) t)
 

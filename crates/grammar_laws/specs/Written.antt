@@ -4,7 +4,7 @@ use native.Mathlib.Omega.{arith}
 use mathlib.Core.Path.{_≡_, refl, sym, ap, _∙_}
 use mathlib.Core.Bool.{Bool, true, false, cond, _&&_, true≢false, false≢true}
 use mathlib.Core.Option.{Option, none, some}
-use mathlib.Core.List.{List, [], _∷_, _++_, map, append-assoc, append-nil}
+use mathlib.Core.List.{List, [], _∷_, _++_, map, append-assoc, append-nil, map-id}
 use lib.Dec.{eqb}
 use lib.ListN.{length, length-append}
 use borrow.Author.Tests.{ne-eqb}
@@ -18,14 +18,16 @@ use Rattle.scope.specs.declared.grammar.Slot.{Slot}
 use Rattle.scope.specs.declared.grammar.Act.the-variants.{Go, Residue as aResidue, Begin, Digit, RunEnds, TermEnds}
 use Rattle.scope.specs.Bytes.{isLetter, isDigit, isShutting, openSquare, shutSquare, openCurly, shutCurly, openRound, shutRound, caret, question, dash, value}
 use Rattle.scope.specs.Line.{Bracket, Residue}
-use Rattle.scope.specs.Content.{isReference, begin}
+use Rattle.scope.specs.Content.{begin}
 use Rattle.scope.specs.Reading.{square, front, labile, element, further, groupFirst, inGroup, undecided, counted, referred, act, mayEnd, Held, nothing, firstOf, withResidue, firstPosition, lastPosition, settled, waiting, put, withBracket, times, countDigit, withDigit, asNTerm, settledRun, State, outside, inside, perform, refers?, modeAfter, step, run, holds, ended, reading}
 use Rattle.scope.specs.Lists.{onLast, all as every, flat}
 use Rattle.basics.specs.Choice.{pick-true, pick-false}
 use Rattle.basics.specs.Tests.{and-left, and-right}
-use Rattle.scope.specs.Grammar.{someOf, valueOn, Base, delta, code, wording, valueIn, Inside, meansPieces, parts, refers, printInside, goodInside, meansInside, printSquare, printCurly, along, eachAlong, printSquares, goodSquares, goodCurlies, bracketAt, meansSquares, Marked, printCount, goodCount, printMarked, goodMarked, counting, meansMarked, Run, marks, printRun, goodRun, meansRun, Spot, Element, single, range, unsure, printSpot, printElement, goodSpot, goodElement, residueOf, residuesOn, residuesIn, bracketsOn, bracketsIn, bracketsAlong, Spelling, elements, printFront, printBack, print, good, atLabiles, atFront, atSequence, residuesOf, backOf, meansAt, means}
-use Rattle.grammar_laws.specs.Runs.{context, lineRun, line-nil, line-cons, line-one, line-further, lift, same-mode}
-use Rattle.grammar_laws.specs.Printed.{inside-run}
+use Rattle.scope.specs.Grammar.{someOf, valueOn, Inside, meansPieces, parts, refers, printInside, goodInside, meansInside, printSquare, printCurly, along, eachAlong, printSquares, goodSquares, goodCurlies, bracketAt, meansSquares, Marked, printCount, goodCount, printMarked, goodMarked, counting, meansMarked, Run, marks, printRun, goodRun, meansRun, Spot, Element, single, range, unsure, printSpot, printElement, goodSpot, goodElement, residueOf, residuesOn, residuesIn, bracketsOn, bracketsIn, bracketsAlong, Spelling, elements, printFront, printBack, print, good, atLabiles, atFront, atSequence, residuesOf, backOf, meansAt, means}
+use Rattle.grammar_laws.specs.Runs.{context, lineRun, line-nil, line-cons, line-one, line-further, lift}
+use Rattle.grammar_laws.specs.Printed.{inside-run, no-base}
+use Rattle.basics.specs.Lists.{flat-cons, flat-nil}
+use Rattle.reading_laws.specs.Unnoted.{same-mode}
 
 abbrev Residues : Type 0
 Residues = List (Residue ℕ)
@@ -69,14 +71,6 @@ eachAlong-cons : {A B : Type 0} (p : A → List ℕ) (f : ℕ → A → List B) 
 unfolding eachAlong
 eachAlong-cons p f i x l = refl
 
-each-nil : {A B : Type 0} (f : A → List B) → flat f [] ≡ []
-unfolding flat
-each-nil f = refl
-
-each-cons : {A B : Type 0} (f : A → List B) (x : A) (l : List A) → flat f (x ∷ l) ≡ f x ++ flat f l
-unfolding flat
-each-cons f x l = refl
-
 every-head : {A : Type 0} (f : A → Bool) (x : A) (l : List A) → every f (x ∷ l) ≡ true → f x ≡ true
 unfolding every
 every-head f x l e = and-left (f x) (every f l) e
@@ -109,10 +103,10 @@ module _ (k : Kind) (r : Bool) (m : Mode) (opens : act m openSquare ≡ Begin (s
       → lineRun i (outside m h) (printSquares xs) ≡ outside m (held (h .residues) (h .brackets ++ meansSquares k (firstPosition k (length (h .residues)) (h .first)) (lastPosition k (length (h .residues))) i xs) (h .run) (h .first))
   unfolding at all
   squares-run i [] h g =
-      ap (lineRun i (outside m h)) (each-nil printSquare) ∙ line-nil i (outside m h)
+      ap (lineRun i (outside m h)) (flat-nil printSquare) ∙ line-nil i (outside m h)
       ∙ ap (λ z. outside m (held (h .residues) z (h .run) (h .first))) (sym (append-nil (h .brackets)) ∙ ap (λ z. h .brackets ++ z) (sym (along-nil printSquare _ i)))
   squares-run i (x ∷ xs) h g =
-      ap (lineRun i (outside m h)) (each-cons printSquare x xs)
+      ap (lineRun i (outside m h)) (flat-cons printSquare x xs)
       ∙ line-further i (printSquare x) (printSquares xs) (outside m h) (outside m (settled (at i h x) h)) _ (square-from i m h x opens (every-head (goodInside shutSquare r) x xs g))
       (squares-run (i + length (printSquare x)) xs (settled (at i h x) h) (every-tail (goodInside shutSquare r) x xs g))
       ∙ ap (λ z. outside m (held (h .residues) z (h .run) (h .first))) (regroup i h x xs)
@@ -122,7 +116,7 @@ module _ (k : Kind) (r : Bool) (m : Mode) (opens : act m openSquare ≡ Begin (s
       → lineRun i (outside m₀ h) (printSquares (x ∷ xs)) ≡ outside m (held (h .residues) (h .brackets ++ meansSquares k (firstPosition k (length (h .residues)) (h .first)) (lastPosition k (length (h .residues))) i (x ∷ xs)) (h .run) (h .first))
   unfolding at all
   squares-from i m₀ x xs h e g =
-      ap (lineRun i (outside m₀ h)) (each-cons printSquare x xs)
+      ap (lineRun i (outside m₀ h)) (flat-cons printSquare x xs)
       ∙ line-further i (printSquare x) (printSquares xs) (outside m₀ h) (outside m (settled (at i h x) h)) _ (square-from i m₀ h x e (every-head (goodInside shutSquare r) x xs g))
       (squares-run (i + length (printSquare x)) xs (settled (at i h x) h) (every-tail (goodInside shutSquare r) x xs g))
       ∙ ap (λ z. outside m (held (h .residues) z (h .run) (h .first))) (regroup i h x xs)
@@ -130,9 +124,6 @@ module _ (k : Kind) (r : Bool) (m : Mode) (opens : act m openSquare ≡ Begin (s
 -- ---- residues
 pub letter-not : (b c : ℕ) → isLetter b ≡ true → isLetter c ≡ false → eqb b c ≡ false
 letter-not b c e f = ne-eqb b c (λ z. true≢false (sym e ∙ ap isLetter z ∙ f))
-
-snoc-length : (rs : Residues) (x : Residue ℕ) → length (rs ++ (x ∷ [])) ≡ length rs + 1
-snoc-length rs x = length-append rs (x ∷ [])
 
 module _ (m m′ : Mode) (c : Section) (own : act m′ openSquare ≡ Begin (square OnResidue true m′)) where
   spot-run : (i : ℕ) (s : Spot) (h : Held ℕ) → act m (s .letter) ≡ aResidue c m′ → goodSpot s ≡ true
@@ -142,7 +133,7 @@ module _ (m m′ : Mode) (c : Section) (own : act m′ openSquare ≡ Begin (squ
       line-cons i (outside m h) (s .letter) (printSquares (s .brackets))
       ∙ ap (λ z. lineRun (i + 1) (perform i (s .letter) h z) (printSquares (s .brackets))) e
       ∙ squares-run OnResidue true m′ own (λ b q. refl) (i + 1) (s .brackets) (withResidue i (s .letter) c h) (and-right (isLetter (s .letter)) (goodSquares true (s .brackets)) g)
-      ∙ ap (λ z. outside m′ (held (h .residues ++ (residueOf c i s ∷ [])) (h .brackets ++ meansSquares OnResidue z z (i + 1) (s .brackets)) (h .run) (firstOf c (length (h .residues) + 1) (h .first)))) (snoc-length (h .residues) (residueOf c i s))
+      ∙ ap (λ z. outside m′ (held (h .residues ++ (residueOf c i s ∷ [])) (h .brackets ++ meansSquares OnResidue z z (i + 1) (s .brackets)) (h .run) (firstOf c (length (h .residues) + 1) (h .first)))) (length-append (h .residues) ((residueOf c i s) ∷ []))
 
 on-nil : (n i : ℕ) → bracketsOn n i [] ≡ []
 unfolding bracketsOn
@@ -161,7 +152,7 @@ module _ (m : Mode) (c : Section) (takes : (b : ℕ) → isLetter b ≡ true →
   spots-run : (i : ℕ) (ss : List Spot) (h : Held ℕ) → every goodSpot ss ≡ true
       → lineRun i (outside m h) (flat printSpot ss) ≡ outside m (held (h .residues ++ along printSpot (residueOf c) i ss) (h .brackets ++ bracketsOn (length (h .residues) + 1) i ss) (h .run) (h .first))
   spots-run i [] h g =
-      ap (lineRun i (outside m h)) (each-nil printSpot) ∙ line-nil i (outside m h)
+      ap (lineRun i (outside m h)) (flat-nil printSpot) ∙ line-nil i (outside m h)
       ∙ ap (λ z. outside m (held z (h .brackets) (h .run) (h .first))) (sym (append-nil (h .residues)) ∙ ap (λ z. h .residues ++ z) (sym (along-nil printSpot (residueOf c) i)))
       ∙ ap (λ z. outside m (held (h .residues ++ along printSpot (residueOf c) i []) z (h .run) (h .first))) (sym (append-nil (h .brackets)) ∙ ap (λ z. h .brackets ++ z) (sym (on-nil (length (h .residues) + 1) i)))
   spots-run i (s ∷ ss) h g =
@@ -169,12 +160,12 @@ module _ (m : Mode) (c : Section) (takes : (b : ℕ) → isLetter b ≡ true →
       let j = i + length (printSpot s) in
       let k : Brackets = meansSquares OnResidue (n + 1) (n + 1) (i + 1) (s .brackets) in
       let h₁ : Held ℕ = held (h .residues ++ (residueOf c i s ∷ [])) (h .brackets ++ k) (h .run) (firstOf c (n + 1) (h .first)) in
-      ap (lineRun i (outside m h)) (each-cons printSpot s ss)
+      ap (lineRun i (outside m h)) (flat-cons printSpot s ss)
       ∙ line-further i (printSpot s) (flat printSpot ss) (outside m h) (outside m h₁) _ (spot-run m m c own i s h (takes (s .letter) (and-left (isLetter (s .letter)) (goodSquares true (s .brackets)) (every-head goodSpot s ss g))) (every-head goodSpot s ss g))
       (spots-run j ss h₁ (every-tail goodSpot s ss g))
       ∙ ap (λ z. outside m (held z ((h .brackets ++ k) ++ bracketsOn (length (h .residues ++ (residueOf c i s ∷ [])) + 1) j ss) (h .run) (firstOf c (n + 1) (h .first))))
       (append-assoc (h .residues) (residueOf c i s ∷ []) (along printSpot (residueOf c) j ss) ∙ ap (λ z. h .residues ++ z) (sym (along-cons printSpot (residueOf c) i s ss)))
-      ∙ ap (λ z. outside m (held (h .residues ++ along printSpot (residueOf c) i (s ∷ ss)) ((h .brackets ++ k) ++ bracketsOn (z + 1) j ss) (h .run) (firstOf c (n + 1) (h .first)))) (snoc-length (h .residues) (residueOf c i s))
+      ∙ ap (λ z. outside m (held (h .residues ++ along printSpot (residueOf c) i (s ∷ ss)) ((h .brackets ++ k) ++ bracketsOn (z + 1) j ss) (h .run) (firstOf c (n + 1) (h .first)))) (length-append (h .residues) ((residueOf c i s) ∷ []))
       ∙ ap (λ z. outside m (held (h .residues ++ along printSpot (residueOf c) i (s ∷ ss)) z (h .run) (firstOf c (n + 1) (h .first)))) (append-assoc (h .brackets) k (bracketsOn (n + 1 + 1) j ss) ∙ ap (λ z. h .brackets ++ z) (sym (on-cons (n + 1) i s ss)))
       ∙ ap (λ z. outside m (held (h .residues ++ along printSpot (residueOf c) i (s ∷ ss)) (h .brackets ++ bracketsOn (n + 1) i (s ∷ ss)) (h .run) z)) (next (n + 1) (h .first))
 
@@ -186,11 +177,11 @@ module _ (m : Mode) (c : Section) (takes : (b : ℕ) → isLetter b ≡ true →
       let j = i + length (printSpot s) in
       let k : Brackets = meansSquares OnResidue (n + 1) (n + 1) (i + 1) (s .brackets) in
       let h₁ : Held ℕ = held (h .residues ++ (residueOf c₀ i s ∷ [])) (h .brackets ++ k) (h .run) (firstOf c₀ (n + 1) (h .first)) in
-      ap (lineRun i (outside m₀ h)) (each-cons printSpot s ss)
+      ap (lineRun i (outside m₀ h)) (flat-cons printSpot s ss)
       ∙ line-further i (printSpot s) (flat printSpot ss) (outside m₀ h) (outside m h₁) _ (spot-run m₀ m c₀ own i s h (takes₀ (s .letter) (and-left (isLetter (s .letter)) (goodSquares true (s .brackets)) (every-head goodSpot s ss g))) (every-head goodSpot s ss g))
       (spots-run j ss h₁ (every-tail goodSpot s ss g))
       ∙ ap (λ z. outside m (held z ((h .brackets ++ k) ++ bracketsOn (length (h .residues ++ (residueOf c₀ i s ∷ [])) + 1) j ss) (h .run) (firstOf c₀ (n + 1) (h .first)))) (append-assoc (h .residues) (residueOf c₀ i s ∷ []) (along printSpot (residueOf c) j ss))
-      ∙ ap (λ z. outside m (held (h .residues ++ residuesOn c₀ c i s ss) ((h .brackets ++ k) ++ bracketsOn (z + 1) j ss) (h .run) (firstOf c₀ (n + 1) (h .first)))) (snoc-length (h .residues) (residueOf c₀ i s))
+      ∙ ap (λ z. outside m (held (h .residues ++ residuesOn c₀ c i s ss) ((h .brackets ++ k) ++ bracketsOn (z + 1) j ss) (h .run) (firstOf c₀ (n + 1) (h .first)))) (length-append (h .residues) ((residueOf c₀ i s) ∷ []))
       ∙ ap (λ z. outside m (held (h .residues ++ residuesOn c₀ c i s ss) z (h .run) (firstOf c₀ (n + 1) (h .first)))) (append-assoc (h .brackets) k (bracketsOn (n + 1 + 1) j ss) ∙ ap (λ z. h .brackets ++ z) (sym (on-cons (n + 1) i s ss)))
       ∙ ap (λ z. outside m (held (h .residues ++ residuesOn c₀ c i s ss) (h .brackets ++ bracketsOn (n + 1) i (s ∷ ss)) (h .run) z)) (here (n + 1) (h .first))
 
@@ -361,7 +352,7 @@ elements-run i [] e m h w g =
       first = n + 1;
       ends = end-ends e;
       path =
-          ap (lineRun i (outside m h)) (each-cons printElement e [] ∙ ap (λ z. printElement e ++ z) (each-nil printElement) ∙ append-nil (printElement e))
+          ap (lineRun i (outside m h)) (flat-cons printElement e [] ∙ ap (λ z. printElement e ++ z) (flat-nil printElement) ∙ append-nil (printElement e))
           ∙ element-run i e m h w (every-head goodElement e [] g)
           ∙ ap (λ z. outside (endOf e) (held (h .residues ++ z) (h .brackets ++ bracketsIn n i e) (h .run) (n + 1)))
           (sym (eachAlong-cons printElement residuesIn i e [] ∙ ap (λ z. residuesIn i e ++ z) (eachAlong-nil printElement residuesIn j) ∙ append-nil (residuesIn i e)))
@@ -377,7 +368,7 @@ elements-run i (e′ ∷ es) e m h w g =
       first = q .first;
       ends = q .ends;
       path =
-          ap (lineRun i (outside m h)) (each-cons printElement e (e′ ∷ es))
+          ap (lineRun i (outside m h)) (flat-cons printElement e (e′ ∷ es))
           ∙ line-further i (printElement e) (flat printElement (e′ ∷ es)) (outside m h) (outside (endOf e) (grown i h e)) _ (element-run i e m h w (every-head goodElement e (e′ ∷ es) g)) (q .path)
           ∙ ap (λ z. outside (q .mode) (held z ((h .brackets ++ bracketsIn n i e) ++ bracketsAlong (length (h .residues ++ residuesIn i e)) j (e′ ∷ es)) (h .run) (q .first)))
           (append-assoc (h .residues) (residuesIn i e) (eachAlong printElement residuesIn j (e′ ∷ es)) ∙ ap (λ z. h .residues ++ z) (sym (eachAlong-cons printElement residuesIn i e (e′ ∷ es))))
@@ -436,16 +427,11 @@ sequence-run i e es xs m ks f w g g′ =
     }
 
 -- ---- runs of unknown position
-no-lone : (i : ℕ) (b : Base) → isReference (valueIn i b) ≡ false
-no-lone i (delta w m n) = refl
-no-lone i (code w t) = refl
-no-lone i (wording w t) = refl
-
 -- where no reference may stand, none does
 no-reference : (i : ℕ) (x : Inside) → goodInside shutSquare false x ≡ true → refers? (meansInside i x) ≡ false
 unfolding meansPieces
-no-reference i (parts p []) e = no-lone i (p .base)
-no-reference i (parts p (q ∷ ps)) e = no-lone i (p .base)
+no-reference i (parts p []) e = no-base i (p .base)
+no-reference i (parts p (q ∷ ps)) e = no-base i (p .base)
 no-reference i (refers t) e = absurd (false≢true e)
 
 allowed-too : (x : Inside) → goodInside shutSquare false x ≡ true → goodInside shutSquare true x ≡ true
@@ -577,7 +563,7 @@ marks-on i [] x m h g w =
       mode = w .mode;
       run = w .run;
       path =
-          ap (lineRun i (outside m h)) (each-cons printMarked x [] ∙ ap (λ z. printMarked x ++ z) (each-nil printMarked) ∙ append-nil (printMarked x))
+          ap (lineRun i (outside m h)) (flat-cons printMarked x [] ∙ ap (λ z. printMarked x ++ z) (flat-nil printMarked) ∙ append-nil (printMarked x))
           ∙ w .path
           ∙ ap (λ z. outside (w .mode) (held (h .residues) (h .brackets) (h .run ++ z) (h .first))) (sym (along-one printMarked meansMarked i x));
     }
@@ -589,7 +575,7 @@ marks-on i (y ∷ xs) x m h g w =
       mode = q .mode;
       run = q .run;
       path =
-          ap (lineRun i (outside m h)) (each-cons printMarked x (y ∷ xs))
+          ap (lineRun i (outside m h)) (flat-cons printMarked x (y ∷ xs))
           ∙ line-further i (printMarked x) (flat printMarked (y ∷ xs)) (outside m h) (outside (w .mode) h₁) _ (w .path) (q .path)
           ∙ ap (λ z. outside (q .mode) (held (h .residues) (h .brackets) z (h .first)))
           (append-assoc (h .run) (meansMarked i x ∷ []) (along printMarked meansMarked j (y ∷ xs)) ∙ ap (λ z. h .run ++ z) (sym (along-cons printMarked meansMarked i x (y ∷ xs))));
@@ -598,10 +584,6 @@ marks-on i (y ∷ xs) x m h g w =
 run-over : (i : ℕ) (m : Mode) (h : Held ℕ) → InRun m → lineRun i (outside m h) (question ∷ []) ≡ outside Front (settledRun (λ k. k) h)
 unfolding perform
 run-over i m h w = line-one i m h question ∙ ap (perform i question h) (run-ends m w)
-
-map-id : (l : Brackets) → map (λ k. k) l ≡ l
-map-id [] = refl
-map-id (x ∷ l) = ap (λ z. x ∷ z) (map-id l)
 
 run-run : (i : ℕ) (r : Run) (rs : Residues) (ks : Brackets) (f : ℕ) → goodRun r ≡ true → lineRun i (outside Front (held rs ks [] f)) (printRun r) ≡ outside Front (held rs (ks ++ meansRun i r) [] f)
 run-run i r rs ks f g =
@@ -614,9 +596,9 @@ run-run i r rs ks f g =
 
 runs-run : (i : ℕ) (rr : List Run) (rs : Residues) (ks : Brackets) (f : ℕ) → every goodRun rr ≡ true → lineRun i (outside Front (held rs ks [] f)) (flat printRun rr) ≡ outside Front (held rs (ks ++ eachAlong printRun meansRun i rr) [] f)
 runs-run i [] rs ks f g =
-    ap (lineRun i (outside Front (held rs ks [] f))) (each-nil printRun) ∙ line-nil i _ ∙ ap (λ z. outside Front (held rs z [] f)) (sym (append-nil ks) ∙ ap (λ z. ks ++ z) (sym (eachAlong-nil printRun meansRun i)))
+    ap (lineRun i (outside Front (held rs ks [] f))) (flat-nil printRun) ∙ line-nil i _ ∙ ap (λ z. outside Front (held rs z [] f)) (sym (append-nil ks) ∙ ap (λ z. ks ++ z) (sym (eachAlong-nil printRun meansRun i)))
 runs-run i (r ∷ rr) rs ks f g =
-    ap (lineRun i (outside Front (held rs ks [] f))) (each-cons printRun r rr)
+    ap (lineRun i (outside Front (held rs ks [] f))) (flat-cons printRun r rr)
     ∙ line-further i (printRun r) (flat printRun rr) (outside Front (held rs ks [] f)) _ _ (run-run i r rs ks f (every-head goodRun r rr g)) (runs-run (i + length (printRun r)) rr rs (ks ++ meansRun i r) f (every-tail goodRun r rr g))
     ∙ ap (λ z. outside Front (held rs z [] f)) (append-assoc ks (meansRun i r) (eachAlong printRun meansRun (i + length (printRun r)) rr) ∙ ap (λ z. ks ++ z) (sym (eachAlong-cons printRun meansRun i r rr)))
 
@@ -638,10 +620,10 @@ front-curly = refl
 curlies-from : (i : ℕ) (xs : List Inside) (x : Inside) (m : Mode) (h : Held ℕ) → act m openCurly ≡ Begin labile → goodCurlies (x ∷ xs) ≡ true
     → lineRun i (outside m h) (flat printCurly (x ∷ xs)) ≡ outside Labiles (held (h .residues) (h .brackets ++ meansCurlies i (x ∷ xs)) (h .run) (h .first))
 curlies-from i [] x m h e g =
-    ap (lineRun i (outside m h)) (each-cons printCurly x [] ∙ ap (λ z. printCurly x ++ z) (each-nil printCurly) ∙ append-nil (printCurly x)) ∙ curly-run i m h x e (every-head (goodInside shutCurly false) x [] g)
+    ap (lineRun i (outside m h)) (flat-cons printCurly x [] ∙ ap (λ z. printCurly x ++ z) (flat-nil printCurly) ∙ append-nil (printCurly x)) ∙ curly-run i m h x e (every-head (goodInside shutCurly false) x [] g)
     ∙ ap (λ z. outside Labiles (held (h .residues) (h .brackets ++ z) (h .run) (h .first))) (sym (along-one printCurly (bracketAt Labile 0 0) i x))
 curlies-from i (y ∷ xs) x m h e g =
-    ap (lineRun i (outside m h)) (each-cons printCurly x (y ∷ xs))
+    ap (lineRun i (outside m h)) (flat-cons printCurly x (y ∷ xs))
     ∙ line-further i (printCurly x) (flat printCurly (y ∷ xs)) (outside m h) (outside Labiles (settled (bracketAt Labile 0 0 i x) h)) _ (curly-run i m h x e (every-head (goodInside shutCurly false) x (y ∷ xs) g))
     (curlies-from (i + length (printCurly x)) xs y Labiles (settled (bracketAt Labile 0 0 i x) h) labiles-open (every-tail (goodInside shutCurly false) x (y ∷ xs) g))
     ∙ ap (λ z. outside Labiles (held (h .residues) z (h .run) (h .first))) (append-assoc (h .brackets) (bracketAt Labile 0 0 i x ∷ []) _ ∙ ap (λ z. h .brackets ++ z) (sym (along-cons printCurly (bracketAt Labile 0 0) i x (y ∷ xs))))
@@ -666,7 +648,7 @@ curlies-run i [] rs ks f g =
       mode = Front;
       fronts = at-front;
       path =
-          ap (lineRun i (outside Front (held rs ks [] f))) (each-nil printCurly) ∙ line-nil i _
+          ap (lineRun i (outside Front (held rs ks [] f))) (flat-nil printCurly) ∙ line-nil i _
           ∙ ap (λ z. outside Front (held rs z [] f)) (sym (append-nil ks) ∙ ap (λ z. ks ++ z) (sym (along-nil printCurly (bracketAt Labile 0 0) i)));
     }
 curlies-run i (x ∷ xs) rs ks f g = record { mode = Labiles; fronts = at-labiles; path = curlies-from i xs x Front (held rs ks [] f) front-curly g }
@@ -705,7 +687,7 @@ pend-all i [] x m h g w =
       mode = w .mode;
       waits = w .waits;
       path =
-          ap (lineRun i (outside m h)) (each-cons printSquare x [] ∙ ap (λ z. printSquare x ++ z) (each-nil printSquare) ∙ append-nil (printSquare x))
+          ap (lineRun i (outside m h)) (flat-cons printSquare x [] ∙ ap (λ z. printSquare x ++ z) (flat-nil printSquare) ∙ append-nil (printSquare x))
           ∙ w .path
           ∙ ap (λ z. outside (w .mode) (held (h .residues) (h .brackets) (h .run ++ z) (h .first))) (sym (along-one printSquare (bracketAt Unknown 0 0) i x));
     }
@@ -717,7 +699,7 @@ pend-all i (y ∷ xs) x m h g w =
       mode = q .mode;
       waits = q .waits;
       path =
-          ap (lineRun i (outside m h)) (each-cons printSquare x (y ∷ xs))
+          ap (lineRun i (outside m h)) (flat-cons printSquare x (y ∷ xs))
           ∙ line-further i (printSquare x) (printSquares (y ∷ xs)) (outside m h) (outside (w .mode) h₁) _ (w .path) (q .path)
           ∙ ap (λ z. outside (q .mode) (held (h .residues) (h .brackets) z (h .first)))
           (append-assoc (h .run) (bracketAt Unknown 0 0 i x ∷ []) _ ∙ ap (λ z. h .run ++ z) (sym (along-cons printSquare (bracketAt Unknown 0 0) i x (y ∷ xs))));

@@ -17,7 +17,8 @@ use Rattle.scope.specs.Placements.{allowed, placements, freshListing}
 use Rattle.scope.specs.Masses.{massOr0, sum, total, lacking, ledger, labileMass}
 use Rattle.scope.specs.Answers.{Said, refuses, tooShort, SomeLine, areTables, overTables, requested}
 use Rattle.mass_laws.specs.Terms.{Fair, Limited}
-use Rattle.placement_laws.specs.Terms.{In, Ascending, afterRequests, handedOut}
+use Rattle.placement_laws.specs.Terms.{Ascending, afterRequests, handedOut}
+use Rattle.basics.specs.Each.{In}
 
 -- what reading a line that holds l leaves in the lent areas
 abbrev pub bytesRead : Line ℕ → List ℕ → List ℕ

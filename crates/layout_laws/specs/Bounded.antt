@@ -1,4 +1,4 @@
--- The areas of a line keep to the bounds, and each of their bytes is one.
+-- The areas of a line keep to the bounds, and each of their bytes is one: what stands in a row is what the bracket holds (Layout), which is within the limits.
 use mathlib.Core.Path.{_≡_, subst}
 use mathlib.Core.Option.{Option, none, some}
 use mathlib.Core.List.{List, [], _∷_, _++_, map}
@@ -20,7 +20,7 @@ use Rattle.scope.specs.Kinds.{kindCode}
 use Rattle.scope.specs.Tables.{sectionCode, valueCode, millionths, massIn, decimalsIn, labelOf, packed, offset, partRow, partRows, scoreOf, scoreCode, bracketRow, bracketTexts, rows, bytesOf, numbersOf, byteAt}
 use Rattle.areas.specs.Bounds.{Small, PartBounds, BracketBounds, Bounds}
 use Rattle.basics.specs.Each.{Each, OfGiven, each-append, each-padded, each-map, each-all}
-use Rattle.accepted_laws.specs.Within.{Byte, NumberWithin, LabelWithin, ValueWithin, PartWithin, Stands, BracketWithin, Within, first-few, last-few}
+use Rattle.accepted_laws.specs.Within.{Byte, NumberWithin, LabelWithin, ValueWithin, PartWithin, BracketWithin, Within, first-few, last-few}
 use Rattle.layout_laws.specs.Numbers.{few-decimals, small}
 use Rattle.layout_laws.specs.Layout.{PartRead, PartsRead, BracketRead, BracketsRead, score-within, areas-read, bytes-length, numbers-length}
 

@@ -3,24 +3,23 @@
 use mathlib.Core.Path.{_≡_, sym, ap, ap₂, _∙_}
 use mathlib.Core.Bool.{true}
 use mathlib.Core.Logic.{_↔_}
-use mathlib.Core.List.{List, map, append-nil}
-use Prim.Native.Nat.{ℕ, _+_, _≤_, _<_}
+use mathlib.Core.List.{List, append-nil}
+use Prim.Native.Nat.{ℕ, _≤_, _<_}
 use native.Mathlib.Omega.{arith}
 use lib.IntN.{ℤ}
 use lib.ListN.{length, take, drop, getD, length-append, length-drop}
 use lib.Seq.{take-at}
-use Rattle.scope.specs.Lists.{same, flat, laid}
-use Rattle.scope.specs.Limits.{lineLimit, rowLimit}
-use Rattle.scope.specs.Line.{Bracket, Line}
+use Rattle.scope.specs.Lists.{laid}
+use Rattle.scope.specs.Limits.{rowLimit}
+use Rattle.scope.specs.Line.{Line}
 use Rattle.scope.specs.Refusals.{accepted, outcome}
 use Rattle.scope.specs.Canonical.{canonical}
-use Rattle.scope.specs.Tables.{bareBracket, bracketTexts, tablesOf, bytesOf, numbersOf, bytesSize, numbersSize, tablesIn}
-use Rattle.scope.specs.Positions.{floaters, permittedPositions, rowsOf}
-use Rattle.scope.specs.Masses.{total, lacking, ledger}
+use Rattle.scope.specs.Tables.{tablesOf, bytesOf, numbersOf, bytesSize, numbersSize, tablesIn}
+use Rattle.scope.specs.Positions.{rowsOf}
 use Rattle.scope.specs.Answers.{sameNumbers, areTables}
 use Rattle.areas.specs.Bounds.{Bounds}
 use Rattle.basics.specs.Each.{Each}
-use Rattle.accepted_laws.specs.Within.{Byte, BracketWithin, Within}
+use Rattle.accepted_laws.specs.Within.{Byte, Within}
 use Rattle.reading_laws.specs.Bare.{same-bytes, same-numbers}
 use Rattle.layout_laws.specs.Holds.{Holds}
 use Rattle.layout_laws.specs.Layout

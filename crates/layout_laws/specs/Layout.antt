@@ -12,12 +12,10 @@ use lib.ListN.{length, getD, replicate, length-append, length-replicate, length-
 use borrow.Author.Tests.{ne-eqb}
 use Rattle.scope.specs.declared.grammar.Section.{Section}
 use Rattle.scope.specs.declared.grammar.Section.the-variants.{Plain, RangeFirst, RangeNext, UnsureFirst, UnsureNext}
-use Rattle.scope.specs.declared.grammar.Key.{Key}
-use Rattle.scope.specs.declared.grammar.Key.the-variants.{NoKey, U, M, R, X, G, C, Obs, Unimod, Mod, Xlmod, Resid, Gno, Info, Formula, Glycan, Position, Limit}
 use Rattle.scope.specs.declared.grammar.Kind.{Kind}
 use Rattle.scope.specs.declared.grammar.Kind.the-variants.{Unknown, Labile, NTerm, OnResidue, OnRange, CTerm}
 use Rattle.scope.specs.Line.{Number, Label, Value, mass, text, reference, Part, Bracket, Residue, Line}
-use Rattle.scope.specs.Keys.{keys, keyCode, keyIn}
+use Rattle.scope.specs.Keys.{keyCode, keyIn}
 use Rattle.scope.specs.Lists.{given, flat, optional, padded, part, tabled}
 use Rattle.scope.specs.Modifications.{nameOf}
 use Rattle.scope.specs.Refusals.{textIn, textOf}
@@ -27,29 +25,9 @@ use Rattle.basics.specs.Each.{Each, OfGiven}
 use Rattle.accepted_laws.specs.Within.{NumberWithin, LabelWithin, ValueWithin, PartWithin, BracketWithin, Within}
 use Rattle.layout_laws.specs.At.{At, at-read, at-head, at-first, at-next, at-part, at-start}
 use Rattle.layout_laws.specs.Numbers.{number-back}
+use Rattle.basics.specs.Keys.{key-back}
 
 -- ---- codes
-key-back : (k : Key) → keyIn (keyCode k) ≡ k
-unfolding keys
-key-back NoKey = refl
-key-back U = refl
-key-back M = refl
-key-back R = refl
-key-back X = refl
-key-back G = refl
-key-back C = refl
-key-back Obs = refl
-key-back Unimod = refl
-key-back Mod = refl
-key-back Xlmod = refl
-key-back Resid = refl
-key-back Gno = refl
-key-back Info = refl
-key-back Formula = refl
-key-back Glycan = refl
-key-back Position = refl
-key-back Limit = refl
-
 kind-back : (k : Kind) → kindIn (kindCode k) ≡ k
 kind-back Unknown = refl
 kind-back Labile = refl

@@ -5,7 +5,6 @@ use Prim.Native.Nat.{ℕ, zero, suc, _+_, _-_, _*_, _/_, _^_, _≤_, _<_}
 use native.Mathlib.Omega.{arith}
 use native.Mathlib.Nat.{mul-pos, mul-assoc, mul-div-cancel, mul-lt-mul-of-pos-right, one-le-pow}
 use lib.Dec.{leb}
-use lib.IntN.{natAbs}
 use lib.Pow.{pow-add}
 use borrow.Author.Tests.{leb-true, ltb-true}
 use Rattle.scope.specs.Line.{Number}
@@ -13,16 +12,12 @@ use Rattle.scope.specs.Tables.{bareNumber, signed, millionths, isNegative, numb
 use Rattle.areas.specs.Bounds.{Small}
 use Rattle.basics.specs.Tests.{and-left, and-right}
 use Rattle.accepted_laws.specs.Within.{NumberWithin}
+use Rattle.basics.specs.Wholes.{abs-signed}
 
 sign-back : (s : Bool) (m : ℕ) → (s ≡ true → 0 < m) → isNegative (signed s m) ≡ s
 sign-back true zero h = let z : 0 < 0 = h refl in absurd (omega arith)
 sign-back true (suc m) h = refl
 sign-back false m h = refl
-
-size-back : (s : Bool) (m : ℕ) → natAbs (signed s m) ≡ m
-size-back true zero = refl
-size-back true (suc m) = refl
-size-back false m = refl
 
 tens : (d : ℕ) → 0 < 10 ^ d
 tens d = one-le-pow d 10 (omega arith)
@@ -35,7 +30,7 @@ module _ {P : Type 0} (n : Number P) (w : NumberWithin n) where
   number-back =
       ap₂ (λ a b. record { minus = a; digits = b; decimals = n .decimals; at = tt })
       (sign-back (n .minus) (n .digits * 10 ^ (6 - n .decimals)) (λ e. mul-pos (w .sign e) (tens (6 - n .decimals))))
-      (ap (λ z. z / 10 ^ (6 - n .decimals)) (size-back (n .minus) (n .digits * 10 ^ (6 - n .decimals))) ∙ mul-div-cancel (n .digits)
+      (ap (λ z. z / 10 ^ (6 - n .decimals)) (abs-signed (n .minus) (n .digits * 10 ^ (6 - n .decimals))) ∙ mul-div-cancel (n .digits)
       (tens (6 - n .decimals)))
 
   full : 1000000 * 10 ^ (n .decimals) * 10 ^ (6 - n .decimals) ≡ 1000000 * 10 ^ 6
@@ -49,7 +44,7 @@ module _ {P : Type 0} (n : Number P) (w : NumberWithin n) where
 
   pub small : Small (millionths n)
   small =
-      rw (size-back (n .minus) (n .digits * 10 ^ (6 - n .decimals)))
+      rw (abs-signed (n .minus) (n .digits * 10 ^ (6 - n .decimals)))
       (rw full at
       (mul-lt-mul-of-pos-right (ltb-true (n .digits) (1000000 * 10 ^ (n .decimals)) (and-right (leb (n .decimals) 6) _ (w .range)))
       (tens (6 - n .decimals))))

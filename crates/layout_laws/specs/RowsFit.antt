@@ -1,16 +1,16 @@
--- The rows of permitted positions fit into their room.
-use mathlib.Core.Path.{_≡_, refl}
+-- The rows of permitted positions fit into their room: at most so many floaters, each with at most so many positions.
 use mathlib.Core.Bool.{Bool, true, false, not, cond, _&&_}
 use mathlib.Core.List.{List, [], _∷_, _++_, map}
-use Prim.Native.Nat.{ℕ, zero, suc, _+_, _*_, _≤_}
+use Prim.Native.Nat.{ℕ, suc, _+_, _*_, _≤_}
 use native.Mathlib.Omega.{arith}
 use lib.ListN.{length, length-append, length-map}
 use Rattle.scope.specs.declared.answers.Site.{Site}
 use Rattle.scope.specs.Line.{Bracket, Line}
-use Rattle.scope.specs.Lists.{keep, tabled, member}
+use Rattle.scope.specs.Lists.{keep, member}
 use Rattle.scope.specs.Positions.{permitted, permittedPositions, positions, mayStand, struckOut, floaters, rowsFrom, rowsOf}
 use Rattle.basics.specs.Each.{Each, each-all, each-map}
 use Rattle.accepted_laws.specs.Within.{Within}
+use Rattle.basics.specs.Tabled.{length-tabled}
 
 pub kept-fewer : {A : Type 0} (f : A → Bool) (l : List A) → length (keep f l) ≤ length l
 unfolding keep
@@ -21,16 +21,11 @@ kept-fewer f (x ∷ l) = go (f x) (kept-fewer f l)
     go true h = omega arith
     go false h = omega arith
 
-pub tabled-length : {A : Type 0} (f : ℕ → A) (i n : ℕ) → length (tabled f i n) ≡ n
-unfolding tabled
-tabled-length f i zero = refl
-tabled-length f i (suc n) = let e = tabled-length f (i + 1) n in omega arith
-
 permitted-few : {P : Type 0} (l : Line P) (k : Bracket P) → length (l .residues) ≤ 254 → length (permitted l k) ≤ 256
 unfolding permitted
 permitted-few l k h =
     let a = kept-fewer (λ x. mayStand l k x && not (member x (struckOut (l .brackets)))) (positions l) in
-    let b = tabled-length (λ x. x) 0 (length (l .residues) + 2) in
+    let b = length-tabled (λ x. x) 0 (length (l .residues) + 2) in
     omega arith
 
 rows-few : (f : ℕ) (qs : List (List ℕ)) → Each (λ q. length q ≤ 256) qs → length (rowsFrom f qs) ≤ length qs * 256

@@ -1,10 +1,9 @@
--- The tests of equality, and what tables in areas are tables of.
+-- Areas that are tables (refusal 14) are those of an accepted line, the canonical one: the tests of equality tell equal areas, and the tables are read back.
 use mathlib.Core.Path.{_≡_, refl, sym, ap, ap₂, _∙_, subst, subst₂}
 use mathlib.Core.Bool.{true, false≢true}
 use mathlib.Core.Logic.{_↔_}
 use mathlib.Core.List.{List, [], _∷_, _++_}
 use Prim.Native.Nat.{ℕ}
-use lib.Dec.{eqb}
 use lib.IntN.{ℤ, pos, negsuc}
 use lib.ListN.{take, drop, take-append-drop}
 use borrow.Author.Tests.{eqb-true, eq-eqb}

@@ -1,11 +1,10 @@
--- The tables in areas that keep to their bounds are limited so.
+-- The tables in areas that keep to their bounds are limited as the laws of masses ask.
 use mathlib.Core.List.{List}
-use Prim.Native.Nat.{ℕ, zero, suc, _+_, _≤_, _<_}
+use Prim.Native.Nat.{ℕ, _≤_}
 use native.Mathlib.Omega.{arith}
-use lib.IntN.{ℤ, natAbs}
+use lib.IntN.{ℤ}
 use lib.ListN.{length}
 use Rattle.scope.specs.Limits.{copyLimit}
-use Rattle.scope.specs.Lists.{tabled}
 use Rattle.scope.specs.Tables.{byteAt, bracketIn, tablesIn}
 use Rattle.scope.specs.Positions.{floaters}
 use Rattle.scope.specs.Masses.{massOr0}

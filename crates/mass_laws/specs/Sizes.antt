@@ -1,4 +1,4 @@
--- The size of the total.
+-- The size of the total: a mass is in it once, or as often as it floats, so at most brackets and floating copies together are counted.
 use mathlib.Core.Path.{_≡_, refl, ap₂, _∙_}
 use mathlib.Core.Logic.{_⊎_, inl, inr, ⊎-elim}
 use mathlib.Core.Bool.{Bool, true, false, cond}

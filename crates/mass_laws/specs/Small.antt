@@ -12,19 +12,15 @@ use lib.IntN.{ℤ, pos, natAbs}
 use lib.ListN.{getD}
 use Rattle.scope.specs.declared.grammar.Key.the-variants.{Obs}
 use Rattle.scope.specs.Limits.{sizeLimit, decimalLimit}
-use Rattle.scope.specs.Line.{Number, Value, mass, text, reference, Part}
+use Rattle.scope.specs.Line.{Number, mass, text, reference, Part}
 use Rattle.scope.specs.Lists.{given, keep, tabled}
 use Rattle.scope.specs.Modifications.{isKey}
-use Rattle.scope.specs.Tables.{byteAt, rowAt, partAt, numberRowSize, signed, isNegative, millionths, numberIn, partIn, bracketIn}
+use Rattle.scope.specs.Tables.{byteAt, rowAt, partAt, numberRowSize, isNegative, millionths, numberIn, partIn, bracketIn}
 use Rattle.scope.specs.Masses.{valueMass, firstMass, massOf, massOr0}
 use Rattle.areas.specs.Bounds.{Small, Bounds}
-use Rattle.basics.specs.Wholes.{abs-neg}
+use Rattle.basics.specs.Wholes.{abs-signed}
 
 -- ---- a number to so many decimals
-abs-signed : (t : Bool) (n : ℕ) → natAbs (signed t n) ≡ n
-abs-signed true n = abs-neg (pos n)
-abs-signed false n = refl
-
 abs-millionths : (m : ℤ) (d : ℕ) → natAbs (millionths (numberIn m d)) ≤ natAbs m
 abs-millionths m d =
     rw (abs-signed (isNegative m) (natAbs m / 10 ^ (decimalLimit - d) * 10 ^ (decimalLimit - d))) (div-mul-le-self (natAbs m) (10 ^ (decimalLimit - d)))

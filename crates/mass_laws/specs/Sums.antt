@@ -1,4 +1,4 @@
--- Sums over ℤ.
+-- Sums over ℤ: of joined lists, over positions, of what a test keeps, and of copies; a mass that is booked at one position is summed once.
 use mathlib.Core.Path.{_≡_, refl, sym, ap, ap₂, _∙_}
 use mathlib.Core.Bool.{Bool, true, false, cond}
 use mathlib.Core.List.{List, [], _∷_, _++_, map}

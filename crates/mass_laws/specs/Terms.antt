@@ -1,7 +1,6 @@
 -- The terms of the laws: what they ask of a line, each a plain fact that every accepted line has.
 use mathlib.Core.Path.{_≡_}
 use mathlib.Core.Bool.{true, false}
-use mathlib.Core.List.{List, [], _∷_}
 use Prim.Native.Nat.{ℕ, _+_, _*_, _^_, _≤_, _<_}
 use lib.IntN.{natAbs}
 use lib.ListN.{length}

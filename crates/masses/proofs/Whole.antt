@@ -11,7 +11,7 @@ use mir.Val.{SFits, toZ, ofZ}
 use mir.ValLaws.{toZ-ofZ, toZ-pos}
 use Rattle.scope.specs.Limits.{decimalLimit}
 use Rattle.scope.specs.Tables.{signed, isNegative, millionths, numberIn}
-use Rattle.basics.specs.Wholes.{abs-add, abs-neg, abs-mul}
+use Rattle.basics.specs.Wholes.{abs-add, abs-neg, abs-mul, abs-signed}
 
 -- a small size fits an `i64`, and is read back from its bits
 pub abs-fits : (z : ℤ) → natAbs z < 2 ^ 63 → SFits w64 z
@@ -71,10 +71,6 @@ cut (negsuc a) p = neg-mul (suc a / p) p
 abs-quot : (m : ℤ) (p : ℕ) → natAbs (quotZ m (pos p)) ≤ natAbs m
 abs-quot (pos a) p = div-le-self a p
 abs-quot (negsuc a) p = rw (abs-neg (pos (suc a / p))) (div-le-self (suc a) p)
-
-abs-signed : (t : Bool) (n : ℕ) → natAbs (signed t n) ≡ n
-abs-signed true n = abs-neg (pos n)
-abs-signed false n = refl
 
 abs-cut : (m : ℤ) (p : ℕ) → natAbs (quotZ m (pos p) *ℤ pos p) ≤ natAbs m
 abs-cut m p = rw (cut m p, abs-signed (isNegative m) (natAbs m / p * p)) (div-mul-le-self (natAbs m) p)

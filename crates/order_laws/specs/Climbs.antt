@@ -1,4 +1,4 @@
--- Lists of brackets whose ranks do not fall.
+-- Lists of brackets whose ranks do not fall: such a list goes on with a bracket that is no lower than all before it, and the test of tables says the same.
 use mathlib.Core.Path.{_≡_, refl, ap}
 use mathlib.Core.Bool.{true, _&&_}
 use mathlib.Core.List.{List, [], _∷_, _++_, map}

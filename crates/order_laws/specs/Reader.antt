@@ -19,7 +19,7 @@ use Rattle.scope.specs.Reading.{act, Held, bracketOf, settled, withBracket, cou
 use Rattle.scope.specs.Lists.{onLast}
 use Rattle.basics.specs.Choice.{branch}
 use Rattle.basics.specs.Each.{Each, each-append, each-last}
-use Rattle.reading_laws.specs.Kept.{Whole, reading-whole, put-by, digit-by}
+use Rattle.reading_laws.specs.Kept.{reading-whole, put-by, digit-by}
 use Rattle.order_laws.specs.Ranks.{rank, Ordered, orderedb}
 use Rattle.order_laws.specs.Climbs.{Climbs, higher, climbs-append, climbs-rising}
 use Rattle.order_laws.specs.Modes.{level, high, below-high, up, up-high, height, ceiling, rankNow, keeps, slot-keeps, act-keeps}

@@ -13,7 +13,8 @@ use Rattle.scope.specs.Lists.{given, keep}
 use Rattle.scope.specs.Positions.{floaters, permittedPositions}
 use Rattle.scope.specs.Placements.{distinct, allowed, choices, placements, firstPlacement, nextPlacement, freshListing}
 use Rattle.scope.specs.Answers.{good, refuses, requested}
-use Rattle.placement_laws.specs.Terms.{In, AllRising, Ascending, Allowed, Further, Least, afterRequests, handedOut}
+use Rattle.placement_laws.specs.Terms.{AllRising, Ascending, Allowed, Further, Least, afterRequests, handedOut}
+use Rattle.basics.specs.Each.{In}
 use Rattle.placement_laws.specs.Members as members
 use Rattle.placement_laws.specs.Sorted as sorted
 use Rattle.placement_laws.specs.Leasts as leasts

@@ -1,4 +1,4 @@
--- The first and the next placement are the least of their kind.
+-- The first and the next placement are the least of their kind: the head of an ascending list is below all others in it.
 use mathlib.Core.Path.{refl, sym}
 use mathlib.Core.Logic.{_⊎_, inl, inr, ⊎-elim}
 use mathlib.Core.List.{List, [], _∷_}
@@ -7,8 +7,9 @@ use lib.ListN.{length}
 use Rattle.scope.specs.Limits.{copyLimit}
 use Rattle.scope.specs.Lists.{keep, firstIn}
 use Rattle.scope.specs.Placements.{less, placements, firstPlacement, nextPlacement}
-use Rattle.placement_laws.specs.Terms.{In, AllRising, Ascending, Allowed, Further, Least}
-use Rattle.placement_laws.specs.Lists.{in-keep, keep-in}
+use Rattle.placement_laws.specs.Terms.{AllRising, Ascending, Allowed, Further, Least}
+use Rattle.basics.specs.Each.{In}
+use Rattle.basics.specs.Members.{in-keep, keep-in}
 use Rattle.placement_laws.specs.Members.{among-allowed, allowed-among}
 use Rattle.placement_laws.specs.Sorted.{ascending-keep, placements-ascending}
 

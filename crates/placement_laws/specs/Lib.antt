@@ -1,6 +1,5 @@
 pub mod Terms
 pub mod Laws
-pub mod Lists
 pub mod Order
 pub mod Members
 pub mod Sorted

@@ -10,7 +10,8 @@ use Rattle.scope.specs.Line.{Bracket, Line}
 use Rattle.scope.specs.Lists.{keep, tabled, member}
 use Rattle.scope.specs.Positions.{floaters, permitted, permittedPositions}
 use Rattle.placement_laws.specs.Terms.{Rising, AllRising}
-use Rattle.placement_laws.specs.Lists.{test, member-in, in-member, member-none, member-cons, in-keep, keep-yes, keep-no}
+use Rattle.basics.specs.Tests.{test}
+use Rattle.basics.specs.Members.{member-in, in-member, member-none, member-cons, in-keep, keep-yes, keep-no}
 
 -- ---- the numbers from i on
 pub tabled-low : (i n x : ℕ) → member x (tabled (λ y. y) i n) ≡ true → i ≤ x

@@ -1,7 +1,7 @@
--- What stands among the placements is what is allowed.
+-- What stands among the placements is what is allowed: a position from the list of each floater, no two the same, and zeros behind them.
 use mathlib.Core.Path.{_≡_, refl, sym, ap, _∙_, subst}
 use mathlib.Core.Logic.{inl, inr}
-use mathlib.Core.Bool.{true, false, _&&_, false≢true}
+use mathlib.Core.Bool.{true, _&&_, false≢true}
 use mathlib.Core.List.{List, [], _∷_, _++_, map}
 use Prim.Native.Nat.{ℕ, zero, suc, _≤_, _+_, _-_}
 use native.Mathlib.Omega.{arith}
@@ -12,15 +12,17 @@ use borrow.Author.Tests.{eqb-true, eq-eqb}
 use Rattle.scope.specs.Limits.{copyLimit}
 use Rattle.scope.specs.Lists.{all, keep, padded, member}
 use Rattle.scope.specs.Placements.{distinct, fits, allowed, choices, placements}
-use Rattle.placement_laws.specs.Terms.{In, Allowed}
-use Rattle.placement_laws.specs.Lists.{and-true, and-both, member-in, in-member, in-keep, keep-in, in-map, map-in, in-flat, flat-in}
+use Rattle.placement_laws.specs.Terms.{Allowed}
+use Rattle.basics.specs.Each.{In}
+use Rattle.basics.specs.Tests.{both-of, both}
+use Rattle.basics.specs.Members.{member-in, in-member, in-keep, keep-in, in-map, map-in, in-flat, flat-in}
 
 -- ---- zeros
 pub zeros-of : (p : List ℕ) → all (eqb 0) p ≡ true → p ≡ replicate (length p) 0
 unfolding all
 zeros-of [] e = refl
 zeros-of (x ∷ p) e =
-    let z = and-true (eqb 0 x) (all (eqb 0) p) e in let h : 0 ≡ x = eqb-true 0 x (z .0) in let k : p ≡ replicate (length p) 0 = zeros-of p (z .1) in cc
+    let z = both-of (eqb 0 x) (all (eqb 0) p) e in let h : 0 ≡ x = eqb-true 0 x (z .0) in let k : p ≡ replicate (length p) 0 = zeros-of p (z .1) in cc
 
 pub of-zeros : (n : ℕ) → all (eqb 0) (replicate n 0) ≡ true
 unfolding all
@@ -30,11 +32,11 @@ of-zeros (suc n) = of-zeros n
 -- ---- one of each list
 fits-cons : (q : List ℕ) (qs : List (List ℕ)) (x : ℕ) (p : List ℕ) → fits (q ∷ qs) (x ∷ p) ≡ true → (member x q ≡ true) × (fits qs p ≡ true)
 unfolding fits
-fits-cons q qs x p e = and-true (member x q) (fits qs p) e
+fits-cons q qs x p e = both-of (member x q) (fits qs p) e
 
 cons-fits : (q : List ℕ) (qs : List (List ℕ)) (x : ℕ) (p : List ℕ) → member x q ≡ true → fits qs p ≡ true → fits (q ∷ qs) (x ∷ p) ≡ true
 unfolding fits
-cons-fits q qs x p h k = and-both (member x q) (fits qs p) h k
+cons-fits q qs x p h k = both (member x q) (fits qs p) h k
 
 fits-none : {A : Type 0} (q : List ℕ) (qs : List (List ℕ)) → fits (q ∷ qs) [] ≡ true → A
 unfolding fits
@@ -110,15 +112,15 @@ pub record AllowedParts (qs : List (List ℕ)) (p : List ℕ) : Type 0 where
 pub allowed-parts : (qs : List (List ℕ)) (p : List ℕ) → Allowed qs p → AllowedParts qs p
 unfolding allowed
 allowed-parts qs p e =
-    let a = and-true (eqb (length p) copyLimit && fits qs p) (distinct (take (length qs) p)) e in
-    let b = and-true (eqb (length p) copyLimit) (fits qs p) (a .0) in
+    let a = both-of (eqb (length p) copyLimit && fits qs p) (distinct (take (length qs) p)) e in
+    let b = both-of (eqb (length p) copyLimit) (fits qs p) (a .0) in
     record { eight = eqb-true (length p) copyLimit (b .0); fit = b .1; apart = a .1 }
 
 pub parts-allowed : (qs : List (List ℕ)) (p : List ℕ) → AllowedParts qs p → Allowed qs p
 unfolding allowed
 parts-allowed qs p h =
-    and-both (eqb (length p) copyLimit && fits qs p) (distinct (take (length qs) p))
-    (and-both (eqb (length p) copyLimit) (fits qs p) (eq-eqb (length p) copyLimit (h .eight)) (h .fit)) (h .apart)
+    both (eqb (length p) copyLimit && fits qs p) (distinct (take (length qs) p))
+    (both (eqb (length p) copyLimit) (fits qs p) (eq-eqb (length p) copyLimit (h .eight)) (h .fit)) (h .apart)
 
 pub among-allowed : (qs : List (List ℕ)) (p : List ℕ) → length qs ≤ copyLimit → In p (placements qs) → Allowed qs p
 unfolding placements

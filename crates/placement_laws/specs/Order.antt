@@ -2,7 +2,7 @@
 use mathlib.Core.Path.{_≡_, refl, sym, ap}
 use mathlib.Core.Logic.{_⊎_, inl, inr, ⊎-elim}
 use mathlib.Core.Option.{Option, none, some}
-use mathlib.Core.Bool.{true, false, _&&_, false≢true}
+use mathlib.Core.Bool.{true, _&&_, false≢true}
 use mathlib.Core.List.{List, [], _∷_, _++_}
 use Prim.Native.Nat.{ℕ, _<_}
 use native.Mathlib.Omega.{arith}
@@ -11,20 +11,20 @@ use lib.ListN.{length}
 use borrow.Author.Tests.{eqb-true, eq-eqb, ltb-true, lt-ltb}
 use Rattle.scope.specs.Placements.{less}
 use Rattle.placement_laws.specs.Terms.{Least}
-use Rattle.placement_laws.specs.Lists.{and-true, and-both, or-true, or-left, or-right}
+use Rattle.basics.specs.Tests.{both-of, both, one-of, or-first, or-second}
 
 pub less-cases : (x y : ℕ) (p q : List ℕ) → less (x ∷ p) (y ∷ q) ≡ true → (x < y) ⊎ ((x ≡ y) × (less p q ≡ true))
 unfolding less
 less-cases x y p q e =
-    ⊎-elim (λ h. inl (ltb-true x y h)) (λ h. let z = and-true (eqb x y) (less p q) h in inr (eqb-true x y (z .0), z .1)) (or-true (ltb x y) (eqb x y && less p q) e)
+    ⊎-elim (λ h. inl (ltb-true x y h)) (λ h. let z = both-of (eqb x y) (less p q) h in inr (eqb-true x y (z .0), z .1)) (one-of (ltb x y) (eqb x y && less p q) e)
 
 pub less-here : (x y : ℕ) (p q : List ℕ) → x < y → less (x ∷ p) (y ∷ q) ≡ true
 unfolding less
-less-here x y p q h = or-left (ltb x y) (eqb x y && less p q) (lt-ltb x y h)
+less-here x y p q h = or-first (ltb x y) (eqb x y && less p q) (lt-ltb x y h)
 
 pub less-there : (x y : ℕ) (p q : List ℕ) → x ≡ y → less p q ≡ true → less (x ∷ p) (y ∷ q) ≡ true
 unfolding less
-less-there x y p q e h = or-right (ltb x y) (eqb x y && less p q) (and-both (eqb x y) (less p q) (eq-eqb x y e) h)
+less-there x y p q e h = or-second (ltb x y) (eqb x y && less p q) (both (eqb x y) (less p q) (eq-eqb x y e) h)
 
 pub less-asym : (p q : List ℕ) → less p q ≡ true → less q p ≡ true → ⊥
 unfolding less

@@ -1,5 +1,5 @@
 -- Requests in a row, from a fresh record on. A record is due the placements that it has yet to hand out (`Due`); each request hands out the first of them.
-use mathlib.Core.Path.{_≡_, refl, sym, ap, _∙_, subst}
+use mathlib.Core.Path.{_≡_, refl, sym, ap, _∙_}
 use mathlib.Core.Logic.{_⊎_, inl, inr}
 use mathlib.Core.Bool.{true}
 use mathlib.Core.Option.{Option, none, some}
@@ -12,8 +12,10 @@ use Rattle.scope.specs.Limits.{copyLimit}
 use Rattle.scope.specs.Lists.{given, all, keep, firstIn}
 use Rattle.scope.specs.Placements.{less, placements, firstPlacement, nextPlacement, noMark, freshListing, takenListing, following}
 use Rattle.scope.specs.Answers.{Said, good, refuses, requested, movedOn}
-use Rattle.placement_laws.specs.Terms.{In, AllRising, Ascending, Allowed, Least, afterRequests, outOf, handedOut}
-use Rattle.placement_laws.specs.Lists.{by-test, in-right, keep-yes, keep-no}
+use Rattle.placement_laws.specs.Terms.{AllRising, Ascending, Allowed, Least, afterRequests, outOf, handedOut}
+use Rattle.basics.specs.Each.{In}
+use Rattle.basics.specs.Tests.{falsely}
+use Rattle.basics.specs.Members.{in-right, keep-yes, keep-no}
 use Rattle.placement_laws.specs.Order.{less-self, less-asym}
 use Rattle.placement_laws.specs.Members.{among-allowed}
 use Rattle.placement_laws.specs.Sorted.{placements-ascending}
@@ -42,9 +44,9 @@ keep-all p [] h = refl
 keep-all p (q ∷ m) h = keep-yes (less p) q m (h q (inl refl)) ∙ ap (λ l. q ∷ l) (keep-all p m (λ r k. h r (inr k)))
 
 pub above : (l m : List (List ℕ)) (p : List ℕ) → Ascending (l ++ (p ∷ m)) → keep (less p) (l ++ (p ∷ m)) ≡ m
-above [] m p a = keep-no (less p) p m (by-test (less p p) (less-self p)) ∙ keep-all p m (a .0)
+above [] m p a = keep-no (less p) p m (falsely (less p p) (less-self p)) ∙ keep-all p m (a .0)
 above (q ∷ l) m p a =
-    keep-no (less p) q (l ++ (p ∷ m)) (by-test (less p q) (λ e. less-asym p q e (a .0 p (in-right p l (p ∷ m) (inl refl))))) ∙ above l m p (a .1)
+    keep-no (less p) q (l ++ (p ∷ m)) (falsely (less p q) (λ e. less-asym p q e (a .0 p (in-right p l (p ∷ m) (inl refl))))) ∙ above l m p (a .1)
 
 take-none : (n : ℕ) → take {A = List ℕ} n [] ≡ []
 take-none zero = refl

@@ -9,8 +9,10 @@ use lib.ListN.{length, getD, replicate}
 use Rattle.scope.specs.Limits.{copyLimit}
 use Rattle.scope.specs.Lists.{keep, flat, padded}
 use Rattle.scope.specs.Placements.{distinct, less, choices, placements}
-use Rattle.placement_laws.specs.Terms.{In, Rising, AllRising, Ascending}
-use Rattle.placement_laws.specs.Lists.{test, in-member, in-right, in-either, in-keep, keep-yes, keep-no, in-map, in-flat}
+use Rattle.placement_laws.specs.Terms.{Rising, AllRising, Ascending}
+use Rattle.basics.specs.Each.{In}
+use Rattle.basics.specs.Tests.{test}
+use Rattle.basics.specs.Members.{in-member, in-right, in-either, in-keep, keep-yes, keep-no, in-map, in-flat}
 use Rattle.placement_laws.specs.Order.{less-here, less-there, less-self, less-append}
 use Rattle.placement_laws.specs.Members.{choice-fits}
 

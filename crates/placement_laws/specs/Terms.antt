@@ -9,11 +9,7 @@ use Rattle.scope.specs.declared.answers.Listing.{Listing}
 use Rattle.scope.specs.Lists.{member}
 use Rattle.scope.specs.Placements.{allowed, less}
 use Rattle.scope.specs.Answers.{Said, good, refuses, requested, movedOn}
-
--- x stands in l
-abbrev pub In : {A : Type 0} → A → List A → Type 0
-In x [] = ⊥
-In x (y ∷ l) = (x ≡ y) ⊎ In x l
+use Rattle.basics.specs.Each.{In}
 
 -- a list of positions, each below all behind it
 abbrev pub Rising : List ℕ → Type 0

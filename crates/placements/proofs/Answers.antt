@@ -18,7 +18,7 @@ use Rattle.exchange.specs.Where.{Full}
 use Rattle.exchange.specs.Order.{Next as Following, IsFirst}
 use Rattle.exchange.specs.Table.{place, mayIn}
 use Rattle.exchange.proofs.Laws.{full-small}
-use Rattle.placement_laws.specs.Lists.{and-true, and-both, by-test}
+use Rattle.basics.specs.Tests.{both-of as and-true, both as and-both, falsely as by-test}
 use Rattle.placements.specs.declared.Next.{Next}
 use Rattle.placements.specs.Steps.{Zeros, Stand, Small, entries, found, said, Moves}
 use Rattle.placements.proofs.Right.{zeros-at, at-zeros, allowed-right, right-allowed}

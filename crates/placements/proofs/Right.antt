@@ -16,7 +16,8 @@ use Rattle.areas.specs.Floats.{listsIn}
 use Rattle.exchange.specs.Where.{Full}
 use Rattle.exchange.specs.Table.{place, mayIn}
 use Rattle.placement_laws.specs.Terms.{Allowed}
-use Rattle.placement_laws.specs.Lists.{and-true, and-both, by-test, member-here, member-there, member-cons, member-none}
+use Rattle.basics.specs.Tests.{both-of as and-true, both as and-both, falsely as by-test}
+use Rattle.basics.specs.Members.{member-here, member-there, member-cons, member-none}
 use Rattle.placement_laws.specs.Members.{AllowedParts, allowed-parts, parts-allowed}
 use Rattle.placements.specs.Steps.{Zeros}
 use Rattle.placements.proofs.Rows.{lists-many, lists-at, list-may, may-list}

@@ -13,8 +13,9 @@ use Rattle.areas.specs.Floats.{listIn, listsIn}
 use Rattle.exchange.proofs.Exchange.{same?}
 use Rattle.exchange.specs.Table.{mayIn}
 use Rattle.exchange.proofs.Laws.{ok-small, ok-is}
-use Rattle.placement_laws.specs.Terms.{In, AllRising}
-use Rattle.placement_laws.specs.Lists.{member-in, in-member, in-keep, keep-in}
+use Rattle.placement_laws.specs.Terms.{AllRising}
+use Rattle.basics.specs.Each.{In}
+use Rattle.basics.specs.Members.{member-in, in-member, in-keep, keep-in}
 use Rattle.placement_laws.specs.Lines.{kept-rising}
 
 tabled-many : {A : Type 0} (f : ℕ → A) (i n : ℕ) → length (tabled f i n) ≡ n

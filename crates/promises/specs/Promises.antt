@@ -29,7 +29,8 @@ use Rattle.scope.specs.Masses.{sum, total, lacking, labileMass, daltons}
 use Rattle.scope.specs.Answers.{Said, good, refuses, aMass, lack, saysRead, saysWrite, saysCount, saysTotal, saysShown, saysLookup, saysRequest, saysBooked, tooShort, residueCount, bracketCount, floaterCount, weighed}
 use Rattle.scope.specs.Grammar.{Spelling, print, good as wellSpelt, means}
 use Rattle.grammar_laws.specs.Laws.{Accepts, Refuses}
-use Rattle.placement_laws.specs.Terms.{In, Ascending}
+use Rattle.placement_laws.specs.Terms.{Ascending}
+use Rattle.basics.specs.Each.{In}
 use Rattle.reader.specs.ReadSays.{ReadSays}
 use Rattle.placements.specs.declared.Next.{Next}
 use Rattle.calls.specs.Writing.{WriteSays}

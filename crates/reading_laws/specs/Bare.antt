@@ -194,14 +194,14 @@ module _ {P : Type 0} where
   same-numbers l = rw (flat-map numberRow numberRow bareBracket number-row (l .brackets))
 
   -- ---- modifications and floaters
+  pub is-reference : (v : Value P) → isReference (bareValue v) ≡ isReference v
+  is-reference (mass n) = refl
+  is-reference (text t) = refl
+  is-reference reference = refl
+
   refers-bare : (ps : List (Part P)) → refers? (map barePart ps) ≡ refers? ps
   refers-bare [] = refl
-  refers-bare (p ∷ ps) = go (p .value)
-    where
-      go : (v : Value P) → isReference (bareValue v) ≡ isReference v
-      go (mass n) = refl
-      go (text t) = refl
-      go reference = refl
+  refers-bare (p ∷ ps) = is-reference (p .value)
 
   pub is-modification : (k : Bracket P) → isModification (bareBracket k) ≡ isModification k
   is-modification k = rw (all-map (isKey Info) (isKey Info) barePart (λ p. refl) (k .parts), refers-bare (k .parts))

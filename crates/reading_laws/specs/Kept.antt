@@ -13,7 +13,6 @@ use Rattle.scope.specs.declared.grammar.Mode.{Mode}
 use Rattle.scope.specs.Line.{Bracket, Line}
 use Rattle.scope.specs.Bytes.{value}
 use Rattle.scope.specs.Reading.{mayEnd, Held, settled, waiting, put, times, countDigit, State, dead, outside, inside, step, run, start, stuck, holds, lineOf, ended, reading}
-use Rattle.scope.specs.Lists.{onLast}
 use Rattle.scope.specs.Kinds.{isUnknown}
 use Rattle.basics.specs.Choice.{onGiven}
 use Rattle.basics.specs.Each.{Each}

@@ -10,6 +10,7 @@ pub mod Reached
 pub mod Finished
 pub mod Stuck
 pub mod Precedence
+pub mod Taken
 pub mod Within
 pub mod Inside
 pub mod Printable

@@ -3,7 +3,7 @@ use Prim.Native.Nat.{ℕ, _≤_, _<_, min}
 use native.Mathlib.Omega.{arith}
 use mathlib.Core.Path.{_≡_, refl, sym, ap, _∙_, subst}
 use mathlib.Core.Logic.{_↔_, _⊎_, inl, inr}
-use mathlib.Core.Bool.{Bool, true, false, cond}
+use mathlib.Core.Bool.{Bool, true, false}
 use mathlib.Core.Option.{Option, none, some}
 use mathlib.Core.List.{List, [], _∷_, _++_, List·Memᴰ, List·Memᴰ·head, List·Memᴰ·tail, List·Memᴰ·not-nil, List·Memᴰ·cases-cons, Memᴰ·cast}
 use lib.Dec.{eqb, leb}
@@ -16,7 +16,7 @@ use Rattle.basics.specs.Choice.{branch-on}
 use Rattle.reading_laws.specs.Laws.{Clear, First, Least, placeOf, Lowest, behind, dues}
 
 -- ---- any list of refusals
-clear-due : (ds : List Due) (o : Outcome) → Clear ds → firstDue ds o ≡ o
+pub clear-due : (ds : List Due) (o : Outcome) → Clear ds → firstDue ds o ≡ o
 unfolding firstDue
 clear-due [] o c = refl
 clear-due (d ∷ ds) o c = rw (c .0) (clear-due ds o (c .1))
@@ -211,7 +211,7 @@ given-lowest s k i e = go (due-cases (dues s) (last (reading s)) k i (sym (outco
     go (inr c) = absurd (last-accepted (reading s) k i (sym (at-four s) ∙ clear-none (dues s) 4 (c .0)) (c .1))
 
 -- a line is accepted: none is due
-clear-cases : (ds : List Due) (o : Outcome) (l : Line ℕ) → firstDue ds o ≡ accepted l → Clear ds × (o ≡ accepted l)
+pub clear-cases : (ds : List Due) (o : Outcome) (l : Line ℕ) → firstDue ds o ≡ accepted l → Clear ds × (o ≡ accepted l)
 unfolding firstDue
 clear-cases [] o l e = (tt, e)
 clear-cases (d ∷ ds) o l e = go (d .place) refl (clear-cases ds o l)

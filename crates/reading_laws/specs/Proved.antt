@@ -1,4 +1,4 @@
--- The laws of specs/Laws.antt hold.
+-- The laws of specs/Laws.antt hold: the place of 4 by Stuck, which refusal is given by Precedence, the places of all by Inside.
 use Rattle.reading_laws.specs.Laws.{Laws}
 use Rattle.reading_laws.specs.Stuck.{stuck-refused, refused-stuck, refused-unique}
 use Rattle.reading_laws.specs.Precedence.{least-some, least-none, firstDue-law, refused-law, accepted-law}

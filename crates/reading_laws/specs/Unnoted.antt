@@ -69,6 +69,10 @@ pub content-nil : (x : Content Place) → contentRun x [] ≡ x
 unfolding contentRun
 content-nil x = refl
 
+pub content-cons : (c : Inner Place) (b : ℕ) (l : List ℕ) → contentRun (going c) (b ∷ l) ≡ contentRun (innerStep tt c b) l
+unfolding contentRun contentStep
+content-cons c b l = refl
+
 pub content-one : (c : Inner Place) (b : ℕ) → contentRun (going c) (b ∷ []) ≡ innerStep tt c b
 unfolding contentRun contentStep
 content-one c b = refl
@@ -111,13 +115,13 @@ unfolding contentRun contentStep
 lost-run [] = refl
 lost-run (b ∷ l) = lost-run l
 
-lost-closed : (ps : Parts) → lost ≡ closed ps → ⊥
+pub lost-closed : {P : Type 0} (ps : List (Part P)) → lost ≡ closed ps → ⊥
 lost-closed ps e = let z : _≡_ {A = ℕ} 0 1 = cc in omega arith
 
-going-closed : (c : Inner Place) (ps : Parts) → going c ≡ closed ps → ⊥
+pub going-closed : {P : Type 0} (c : Inner P) (ps : List (Part P)) → going c ≡ closed ps → ⊥
 going-closed c ps e = let z : _≡_ {A = ℕ} 0 1 = cc in omega arith
 
-closed-same : (ps qs : Parts) → closed ps ≡ closed qs → ps ≡ qs
+pub closed-same : {P : Type 0} (ps qs : List (Part P)) → closed ps ≡ closed qs → ps ≡ qs
 closed-same ps qs e = cc
 
 -- a run of the inside lifts to the line
@@ -133,7 +137,7 @@ lift s h (b ∷ l) c ps e = go (innerStep tt c b) l e (λ d f. lift s h l d ps f
     go (closed qs) (y ∷ l) e ih = absurd (lost-closed ps (sym (lost-run l) ∙ e))
     go (going d) l e ih = ih d e
 
-pub same-mode : (ps : Parts) (m : Mode) → cond (refers? ps) m m ≡ m
+pub same-mode : {P : Type 0} (ps : List (Part P)) (m : Mode) → cond (refers? ps) m m ≡ m
 same-mode ps m = go (refers? ps)
   where
     go : (t : Bool) → cond t m m ≡ m

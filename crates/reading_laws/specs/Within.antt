@@ -1,11 +1,10 @@
 -- Every place that is noted while n bytes are read is one of theirs, and so is every byte of a part's text.
-use Prim.Native.Nat.{ℕ, suc, _+_, _≤_, _<_}
+use Prim.Native.Nat.{ℕ, _+_, _≤_, _<_}
 use native.Mathlib.Omega.{arith}
 use mathlib.Core.Path.{_≡_, refl, ap, subst}
-use mathlib.Core.Bool.{Bool, true, false, cond, _&&_, false≢true}
+use mathlib.Core.Bool.{Bool, true, false, cond}
 use mathlib.Core.Option.{Option, none, some}
 use mathlib.Core.List.{List, [], _∷_, _++_}
-use lib.Dec.{eqb}
 use lib.ListN.{length, length-append}
 use Rattle.scope.specs.declared.grammar.Section.{Section}
 use Rattle.scope.specs.declared.grammar.Key.{Key}
@@ -14,7 +13,7 @@ use Rattle.scope.specs.declared.grammar.Kind.{Kind}
 use Rattle.scope.specs.declared.grammar.Slot.{Slot}
 use Rattle.scope.specs.declared.grammar.Act.{Act}
 use Rattle.scope.specs.declared.grammar.Act.the-variants.{Stop, Go, Residue as aResidue, Begin, Digit, RunEnds, TermEnds}
-use Rattle.scope.specs.Bytes.{sameFolded, upper, colon, value}
+use Rattle.scope.specs.Bytes.{sameFolded, colon, value}
 use Rattle.scope.specs.Keys.{spell, keys, keyAmong, keyOf, written}
 use Rattle.scope.specs.Line.{Number, Label, Value, mass, text, reference, Part, Bracket, Residue, Line}
 use Rattle.scope.specs.Lists.{given}
@@ -24,7 +23,7 @@ use Rattle.scope.specs.Refusals.{textOf}
 use Rattle.basics.specs.Choice.{onGiven}
 use Rattle.basics.specs.Each.{Each, OfGiven, each-append, each-through, each-all, each-last}
 use Rattle.reading_laws.specs.Goes.{Valued, of-plain, of-number, of-code, of-text, Over, of-value, of-label, of-score, On, mass-begins, plain-begins, text-begins, refers, plain-on, plain-text, no-key, key-name, key-code, key-text, keyed-mass, keyed-text, mass-on, code-on, text-on, hash-on, label-begins, label-on, score-opens, score-sign, score-digit, score-on, score-over, Goes, stops, goes-on, part-over, shuts, goes}
-use Rattle.reading_laws.specs.Kept.{Whole, reading-whole-from, put-by}
+use Rattle.reading_laws.specs.Kept.{reading-whole-from, put-by}
 use Rattle.basics.specs.Lists.{folded-length}
 
 -- ---- what is inside the first n bytes
@@ -118,14 +117,11 @@ no-key-written : length (written NoKey) ≡ 0
 unfolding written spell
 no-key-written = refl
 
-snoc-length : (t : List ℕ) (b : ℕ) → length (t ++ (b ∷ [])) ≡ length t + 1
-snoc-length t b = length-append t (b ∷ [])
-
 -- ---- one byte more, of n
 module _ (n i : ℕ) (h : i < n) where
   -- a text goes on
   longer : (at : ℕ) (k : Key) (t : List ℕ) (b : ℕ) → Text n i at k (length t) → Text n (i + 1) at k (length (t ++ (b ∷ [])))
-  longer at k t b w = record { begun = w .begun; so-far = omega (arith, w .so-far, snoc-length t b) }
+  longer at k t b w = record { begun = w .begun; so-far = omega (arith, w .so-far, length-append t (b ∷ [])) }
 
   -- a text begins at this byte
   fresh : Text n (i + 1) i NoKey 1

@@ -1,61 +1,27 @@
--- What stands in a list that is kept, joined or mapped; tests.
+-- What stands in a list that is kept, joined or mapped.
 use mathlib.Core.Path.{_≡_, refl, sym, ap, _∙_, subst}
 use mathlib.Core.Logic.{_⊎_, inl, inr, ⊎-elim}
-use mathlib.Core.Bool.{Bool, true, false, cond, _&&_, _||_, false≢true}
+use mathlib.Core.Bool.{Bool, true, false, cond, false≢true}
 use mathlib.Core.List.{List, [], _∷_, _++_, map}
 use Prim.Native.Nat.{ℕ}
 use lib.Dec.{eqb}
 use borrow.Author.Tests.{eqb-true, eq-eqb}
 use Rattle.scope.specs.Lists.{keep, flat, member}
-use Rattle.placement_laws.specs.Terms.{In}
-
--- ---- tests
-pub and-true : (a b : Bool) → (a && b) ≡ true → (a ≡ true) × (b ≡ true)
-and-true true b e = (refl, e)
-and-true false b e = absurd (false≢true e)
-
-pub and-both : (a b : Bool) → a ≡ true → b ≡ true → (a && b) ≡ true
-and-both true b e f = f
-and-both false b e f = absurd (false≢true e)
-
-pub or-true : (a b : Bool) → (a || b) ≡ true → (a ≡ true) ⊎ (b ≡ true)
-or-true true b e = inl refl
-or-true false b e = inr e
-
-pub or-left : (a b : Bool) → a ≡ true → (a || b) ≡ true
-or-left true b e = refl
-or-left false b e = absurd (false≢true e)
-
-pub or-right : (a b : Bool) → b ≡ true → (a || b) ≡ true
-or-right true b e = refl
-or-right false b e = e
-
-pub by-test : (b : Bool) → (b ≡ true → ⊥) → b ≡ false
-by-test true f = absurd (f refl)
-by-test false f = refl
-
-pub test : (b : Bool) → (b ≡ true) ⊎ (b ≡ false)
-test true = inl refl
-test false = inr refl
-
--- two tests that say yes together are the same
-pub same-test : (a b : Bool) → (a ≡ true → b ≡ true) → (b ≡ true → a ≡ true) → a ≡ b
-same-test true b f g = sym (f refl)
-same-test false true f g = g refl
-same-test false false f g = refl
+use Rattle.basics.specs.Each.{In}
+use Rattle.basics.specs.Tests.{one-of, or-first, or-second, test}
 
 -- ---- positions
 pub member-cons : (x y : ℕ) (l : List ℕ) → member x (y ∷ l) ≡ true → (x ≡ y) ⊎ (member x l ≡ true)
 unfolding member
-member-cons x y l e = ⊎-elim (λ h. inl (eqb-true x y h)) (λ h. inr h) (or-true (eqb x y) (member x l) e)
+member-cons x y l e = ⊎-elim (λ h. inl (eqb-true x y h)) (λ h. inr h) (one-of (eqb x y) (member x l) e)
 
 pub member-here : (x y : ℕ) (l : List ℕ) → x ≡ y → member x (y ∷ l) ≡ true
 unfolding member
-member-here x y l e = or-left (eqb x y) (member x l) (eq-eqb x y e)
+member-here x y l e = or-first (eqb x y) (member x l) (eq-eqb x y e)
 
 pub member-there : (x y : ℕ) (l : List ℕ) → member x l ≡ true → member x (y ∷ l) ≡ true
 unfolding member
-member-there x y l e = or-right (eqb x y) (member x l) e
+member-there x y l e = or-second (eqb x y) (member x l) e
 
 pub member-none : {A : Type 0} (x : ℕ) → member x [] ≡ true → A
 unfolding member

@@ -1,0 +1,40 @@
+-- A line is accepted exactly when none of 1 to 3 is due for its bytes, it is of the order, and none of 5 to 12 is due for what it holds.
+use Prim.Native.Nat.{ℕ}
+use mathlib.Core.Path.{_≡_, refl, ap, _∙_, subst}
+use mathlib.Core.Option.{none}
+use mathlib.Core.List.{List, [], _∷_}
+use native.Mathlib.Omega.{arith}
+use Rattle.scope.specs.Line.{Line}
+use Rattle.scope.specs.Reading.{run, Reading, stuck, holds, reading}
+use Rattle.scope.specs.Refusals.{refusal1, accepted, lineRefusals, judged, byteRefusals, outcome}
+use Rattle.reading_laws.specs.Laws.{Clear}
+use Rattle.reading_laws.specs.Precedence.{clear-due, clear-cases}
+
+pub record Taken (s : List ℕ) (l : Line ℕ) : Type 0 where
+  pub bytes : Clear (byteRefusals s)
+  pub reads : reading s ≡ holds l
+  pub clear : Clear (lineRefusals l)
+
+pub taken : (s : List ℕ) (l : Line ℕ) → outcome s ≡ accepted l → Taken s l
+unfolding outcome
+taken s l e = go (reading s) refl (first .1)
+  where
+    first : Clear (byteRefusals s) × (judged (reading s) ≡ accepted l)
+    first = clear-cases (byteRefusals s) (judged (reading s)) l e
+
+    go : (r : Reading) → reading s ≡ r → judged r ≡ accepted l → Taken s l
+    go (stuck i) f g = let z : _≡_ {A = ℕ} 0 1 = cc in absurd (omega arith)
+    go (holds t) f g =
+        let c = clear-cases (lineRefusals t) (accepted t) l g in
+        let e : t ≡ l = let h : accepted t ≡ accepted l = c .1 in cc in
+        record { bytes = first .0; reads = f ∙ ap holds e; clear = subst (λ (z : Line ℕ). Clear (lineRefusals z)) e (c .0) }
+
+pub taken-back : (s : List ℕ) (l : Line ℕ) → Taken s l → outcome s ≡ accepted l
+unfolding outcome
+taken-back s l w = clear-due (byteRefusals s) (judged (reading s)) (w .bytes) ∙ ap judged (w .reads) ∙ clear-due (lineRefusals l) (accepted l) (w .clear)
+
+-- an empty line is not of the order
+pub some-bytes : (s : List ℕ) (l : Line ℕ) → reading s ≡ holds l → refusal1 s ≡ none
+unfolding refusal1 reading run
+some-bytes [] l e = let z : _≡_ {A = ℕ} 0 1 = cc in absurd (omega arith)
+some-bytes (b ∷ s) l e = refl

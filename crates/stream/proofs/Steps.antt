@@ -23,7 +23,7 @@ use Rattle.stream.specs.declared.Got.{Got}
 use Rattle.stream.specs.declared.Got.the-variants.{Came}
 use Rattle.stream.specs.Lines.{lineEnd}
 use Rattle.stream.specs.Feeding.{holdLimit, State, holding, kept, behind, ended, after, put, lastPut, finished, part}
-use Rattle.stream.specs.Promises.{LineEnd, Cuts, numberLimit, readLimit, outputLimit, Ready, Fronts, Runs, Feeds, Owed, OwedLast, Received, lineEnds, noticed, Drains, Closes, Turns}
+use Rattle.stream.specs.Promises.{LineEnd, Cuts, numberLimit, readLimit, outputLimit, Ready, Fronts, Runs, Feeds, Owed, OwedLast, Received, lineEnds, noticeRoom, noticed, Drains, Closes, Turns}
 use Rattle.stream.specs.Laws.{after-append, put-append, after-line, put-line}
 use Rattle.stream.specs.Whole.{entry-front}
 use Rattle.stream.proofs.Cutting.{part-none, part-more}
@@ -430,7 +430,7 @@ pub counted-all : {text : List ℕ} {n i ends : ℕ} → i ≤ n → n ≤ i →
 counted-all {text} {n} {i} h k w = let e : i ≡ n = omega arith in (w .are ∙ ap (λ z. lineEnds (take z text)) e, omega (arith, w .few))
 
 -- words, a number and the end of the line, one behind the other
-pub notice-fronts : (words : List ℕ) (number : ℕ) (out : List ℕ) {one two left : List ℕ} {a r : ℕ} → length words + 21 ≤ length out
+pub notice-fronts : (words : List ℕ) (number : ℕ) (out : List ℕ) {one two left : List ℕ} {a r : ℕ} → length words + noticeRoom ≤ length out
     → one ≡ take (length words) words ++ drop (length words) out → Puts 20 one (length words) (decimal number) two a → Puts 1 two a (lineEnd ∷ []) left r
     → length left ≡ length out → Fronts (noticed words number) out left r
 notice-fronts words number out {one} {two} {left} {a} {r} h e p q l =

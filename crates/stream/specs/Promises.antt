@@ -115,6 +115,10 @@ unfoldable pub lineEnds : List ℕ → ℕ
 lineEnds [] = 0
 lineEnds (b ∷ l) = cond (eqb b lineEnd) 1 0 + lineEnds l
 
+-- a number and the end of the line have at most so many bytes
+abbrev pub noticeRoom : ℕ
+noticeRoom = 21
+
 -- words, a number, and the end of the line
 abbrev pub noticed : List ℕ → ℕ → List ℕ
 noticed words n = words ++ (decimal n ++ (lineEnd ∷ []))

@@ -20,17 +20,17 @@ ghost use Rattle.entries.specs.Entry.{entry, entryLimit, Printed};
 ghost use Rattle.reader.specs.ReadSays.{Clean};
 ghost use Rattle.stream.specs.Lines.{lineEnd};
 ghost use Rattle.stream.specs.Feeding.{holdLimit, holding, finished, part};
-ghost use Rattle.stream.specs.Promises.{LineEnd, Keeps, Cuts, numberLimit, readLimit, outputLimit, Ready, Fronts, Runs, Feeds, Owed, OwedLast, noticed, lineEnds, Received, Drains, Closes, Turns};
+ghost use Rattle.stream.specs.Promises.{LineEnd, Keeps, Cuts, numberLimit, readLimit, outputLimit, Ready, Fronts, Runs, Feeds, Owed, OwedLast, noticeRoom, noticed, lineEnds, Received, Drains, Closes, Turns};
 
-// So many bytes are read at once, at most; so many of a line are held, one more than a line may have; so many has the output, of which an entry takes
-// no more than the last.
+// So many bytes are read at once, at most; so many of a line are held, one more than a line may have; so many has an entry, at most; so many has the
+// output.
 const READ: usize = 8192;
 
 const HOLD: usize = Tables::LINE + 1;
 
-const OUTPUT: usize = 12618;
-
 const ENTRY: usize = 4206;
+
+const OUTPUT: usize = 3 * ENTRY;
 
 // More reads than any run makes: at a million a second, 35 years.
 const TURNS: u64 = 1 << 50;
@@ -337,7 +337,7 @@ fn lines_in(text: &[u8], n: usize) -> u64
 
 // Words and a number as a line at the front of the output; how many bytes it has.
 fn notice(words: &[u8], number: u64, out: &mut [u8]) -> usize
-    requires { ⌜ length (now words) + 21 ≤ length (now out) × (length (now words) ≤ 64) ⌝ }
+    requires { ⌜ (length (now words) + noticeRoom ≤ length (now out)) × (length (now out) ≤ outputLimit) ⌝ }
     ensures { λ r. ⌜ Fronts (noticed (now (words .entry)) number) (now (out .entry)) (now (out .exit)) r ⌝ }
 {
     let n = words.len();
@@ -354,7 +354,7 @@ fn say(words: &[u8], number: u64, out: &[u8], n: usize)
 }
 
 fn tell(words: &[u8], number: u64, out: &mut [u8])
-    requires { ⌜ length (now words) + 21 ≤ length (now out) × (length (now words) ≤ 64) ⌝ }
+    requires { ⌜ (length (now words) + noticeRoom ≤ length (now out)) × (length (now out) ≤ outputLimit) ⌝ }
 {
     let n = notice(words, number, out);
     say(words, number, out, n);

@@ -1,6 +1,7 @@
 -- `stream::run` is safe and ends: its arrays are what `serve` asks. Assumes nothing.
 use native.Mathlib.Omega.{arith}
 use borrow.Author.Needs.{needs}
+use Rattle.stream.specs.Promises.{outputLimit}
 use Rattle.stream.proofs.Steps.{ready-new}
 use Rattle.stream.proofs.run.Statement.{statement}
 use Rattle.stream.proofs.run.Tie as tie
@@ -21,7 +22,7 @@ slice-aggregate-serve-5 : tie.Need-slice-aggregate-serve-5
 slice-aggregate-serve-5 c = search needs
 
 serve-requires : tie.Need-serve-requires
-serve-requires c κs = (omega arith, ready-new 12618 (omega arith) (omega arith))
+serve-requires c κs = (omega arith, ready-new outputLimit (omega arith) (omega arith))
 
 sub-line : tie.Need-sub-line
 sub-line c = c .before .before .before .before .before .before .serve .ensures

@@ -24,7 +24,7 @@ ghost use Rattle.bounds.specs.Pieces.{Room, RowRoom, PlaceBounds, HeadBo
 const CAP: i64 = (Number::SIZE as i64) * 1000000;
 
 // Is a mass or score below 1,000,000 in size?
-pub fn is_small(m: i64) -> bool
+fn is_small(m: i64) -> bool
     ensures { λ r. ⌜ Verdict r (Small m) ⌝ }
 {
     if m < CAP {

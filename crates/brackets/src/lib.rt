@@ -47,7 +47,7 @@ pub fn count(bytes: &[u8], k: usize) -> usize
 }
 
 // The kind of a number.
-pub fn kind_of(code: u8) -> Kind
+fn kind_of(code: u8) -> Kind
     ensures { λ r. ⌜ r ≡ kindIn code ⌝ }
 {
     if code == 2 {
@@ -77,7 +77,7 @@ pub fn kind(bytes: &[u8], k: usize) -> Kind
 }
 
 // Whether all its parts are INFO.
-pub fn only_info(bytes: &[u8], k: usize) -> bool
+fn only_info(bytes: &[u8], k: usize) -> bool
     requires { ⌜ Row (now bytes) k ⌝ }
     ensures { λ r. ⌜ ((ns : List ℤ) → r ≡ onlyInfo (bracketIn (now (bytes .entry)) ns k)) ⌝ }
 {
@@ -144,7 +144,7 @@ pub fn is_modification(bytes: &[u8], k: usize) -> bool
 }
 
 // Whether a bracket of this kind stands on a residue or terminus.
-pub fn on_one_position(kind: Kind) -> bool
+fn on_one_position(kind: Kind) -> bool
     ensures { λ r. ⌜ r ≡ onOnePosition kind ⌝ }
 {
     match kind {
@@ -172,7 +172,7 @@ pub fn is_placed(bytes: &[u8], k: usize) -> bool
 }
 
 // How many copies of an unlabelled modification float.
-pub fn unlabelled_copies(kind: Kind, count: usize) -> usize
+fn unlabelled_copies(kind: Kind, count: usize) -> usize
     ensures { λ r. ⌜ r ≡ unlabelledCopies kind count ⌝ }
 {
     match kind {

@@ -1,12 +1,11 @@
 -- Laws of `same` and `sameFolded` over parts of a list. Assumes nothing.
 use Prim.Native.Nat.{ℕ, suc, _+_, _-_, _≤_, _<_}
-use mathlib.Core.Path.{_≡_, refl}
-use mathlib.Core.Bool.{true, false, and-false}
+use mathlib.Core.Path.{_≡_}
+use mathlib.Core.Bool.{true, false}
 use mathlib.Core.List.{List, [], _∷_}
 use native.Mathlib.Numerals.{add-one}
 use native.Mathlib.Omega.{arith}
-use lib.Dec.{eqb}
-use lib.ListN.{length, getD, drop, drop-of-length-le, length-drop, length-take}
+use lib.ListN.{length, getD, drop, drop-of-length-le}
 use lib.Seq.{drop-cons}
 use borrow.Author.Tests.{eq-eqb, ne-eqb}
 use Rattle.scope.specs.Bytes.{upper, sameFolded}
@@ -93,13 +92,3 @@ module _ (s : List ℕ) (at : ℕ) (ks : List ℕ) where
     pub folded-not : k < length ks → (upper (getD ks k 0) ≡ upper (getD s (at + k) 0) → ⊥) → false ≡ sameFolded ks (part at (length ks) s)
     unfolding sameFolded
     folded-not e q = rw (drop-cons ks k 0 e, part-next s at k (length ks) h e, ne-eqb _ _ q, sameFolded) at (f .left)
-
--- what is shorter than the key is not the key
-pub folded-short : (x y : List ℕ) → length y < length x → sameFolded x y ≡ false
-unfolding sameFolded
-folded-short [] y h = absurd (omega arith)
-folded-short (b ∷ x) [] h = refl
-folded-short (b ∷ x) (d ∷ y) h = rw (folded-short x y (omega arith)) (and-false (eqb (upper b) (upper d)))
-
-pub folded-room : (s : List ℕ) (at : ℕ) (ks : List ℕ) → length s - at < length ks → sameFolded ks (part at (length ks) s) ≡ false
-folded-room s at ks h = folded-short ks (part at (length ks) s) (omega (arith, length-take (length ks) (drop at s), length-drop at s))

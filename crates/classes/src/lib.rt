@@ -2,7 +2,7 @@
 ghost use mathlib.Core.Path.{_≡_};
 ghost use Prim.Native.Nat.{_+_, _≤_};
 ghost use lib.ListN.{length, drop};
-ghost use Rattle.scope.specs.Bytes.{isPrintable, isUpper, isLower, isLetter, isDigit, isAlnum, isSign, isOpening, isShutting, sameFolded, upper as inUpper};
+ghost use Rattle.scope.specs.Bytes.{isPrintable, isUpper, isLower, isLetter, isDigit, isAlnum, isOpening, isShutting, sameFolded, upper as inUpper};
 ghost use Rattle.scope.specs.Lists.{same, part};
 ghost use Rattle.scope.specs.Content.{isPlain};
 ghost use Rattle.classes.specs.Runs.{span};
@@ -69,22 +69,13 @@ pub fn is_letter(b: u8) -> bool
 }
 
 // A letter or a digit.
-pub fn is_alnum(b: u8) -> bool
+fn is_alnum(b: u8) -> bool
     ensures { λ r. ⌜ r ≡ isAlnum b ⌝ }
 {
     if is_letter(b) {
         return true;
     }
     is_digit(b)
-}
-
-pub fn is_sign(b: u8) -> bool
-    ensures { λ r. ⌜ r ≡ isSign b ⌝ }
-{
-    if b == b'+' {
-        return true;
-    }
-    b == b'-'
 }
 
 // The opening byte of a pair.
@@ -182,17 +173,6 @@ pub fn same_text(line: &[u8], a: usize, b: usize, n: usize) -> bool
 }
 
 // Whether the key stands at `at`, in either case.
-pub fn same_folded(line: &[u8], at: usize, key: &[u8]) -> bool
-    requires { ⌜ at ≤ length (now line) ⌝ }
-    ensures { λ r. ⌜ r ≡ sameFolded (now (key .entry)) (part at (length (now (key .entry))) (now (line .entry))) ⌝ }
-{
-    if line.len() - at < key.len() {
-        return false;
-    }
-    key_at(line, at, key)
-}
-
-// The same, where there is room for the key.
 pub fn key_at(line: &[u8], at: usize, key: &[u8]) -> bool
     requires { ⌜ at + length (now key) ≤ length (now line) ⌝ }
     ensures { λ r. ⌜ r ≡ sameFolded (now (key .entry)) (part at (length (now (key .entry))) (now (line .entry))) ⌝ }

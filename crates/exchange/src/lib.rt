@@ -31,7 +31,7 @@ pub struct Tree {
 }
 
 // May floater s stand at x?
-pub fn may(tab: &[u8], s: usize, x: usize) -> bool
+fn may(tab: &[u8], s: usize, x: usize) -> bool
     requires { ⌜ (rowLimit ≤ length (now tab)) × (s < copyLimit) × (x < positionLimit) ⌝ }
     ensures { λ r. ⌜ r ≡ mayIn (now (tab .entry)) s x ⌝ }
 {
@@ -41,7 +41,7 @@ pub fn may(tab: &[u8], s: usize, x: usize) -> bool
 }
 
 // Does t, other than `but`, stand at x?
-pub fn stands(w: Standing, but: usize, x: usize, t: usize) -> bool
+fn stands(w: Standing, but: usize, x: usize, t: usize) -> bool
     requires { ⌜ t < copyLimit ⌝ }
     ensures { λ r. ⌜ Stands (w .at) but x t r ⌝ }
 {
@@ -52,7 +52,7 @@ pub fn stands(w: Standing, but: usize, x: usize, t: usize) -> bool
 }
 
 // The first floater other than `but` that stands at x, or k.
-pub fn owner(w: Standing, k: usize, but: usize, x: usize) -> usize
+fn owner(w: Standing, k: usize, but: usize, x: usize) -> usize
     requires { ⌜ k ≤ copyLimit ⌝ }
     ensures { λ r. ⌜ Owned (w .at) k but x r ⌝ }
 {
@@ -78,7 +78,7 @@ pub fn open_at(tab: &[u8], w: Standing, k: usize, but: usize, s: usize, x: usize
 }
 
 // The first position of floater s on which nobody but `but` stands, or the number of positions.
-pub fn spare(tab: &[u8], w: Standing, k: usize, but: usize, s: usize) -> usize
+fn spare(tab: &[u8], w: Standing, k: usize, but: usize, s: usize) -> usize
     requires { ⌜ Sized (now tab) k × (s < copyLimit) ⌝ }
     ensures { λ r. ⌜ Spare (now (tab .entry)) (w .at) k but s r ⌝ }
 {
@@ -93,7 +93,7 @@ pub fn spare(tab: &[u8], w: Standing, k: usize, but: usize, s: usize) -> usize
 }
 
 // Is t among the first n?
-pub fn listed(tree: Tree, t: usize) -> bool
+fn listed(tree: Tree, t: usize) -> bool
     requires { ⌜ tree .n ≤ copyLimit ⌝ }
     ensures { λ r. ⌜ Listed (tree .order) (tree .n) t r ⌝ }
 {
@@ -109,7 +109,7 @@ pub fn listed(tree: Tree, t: usize) -> bool
 }
 
 // The tree, with t where it is new and stands where the h-th may.
-pub fn push(tab: &[u8], w: Standing, k: usize, f: usize, h: usize, t: usize, tree: Tree) -> Tree
+fn push(tab: &[u8], w: Standing, k: usize, f: usize, h: usize, t: usize, tree: Tree) -> Tree
     requires { ⌜ Growing (now tab) k f h (w .at) (tree .n) (tree .order) (tree .parent) × (f ≤ t) × (t < k) ⌝ }
     ensures { λ r. ⌜ Grew (now (tab .entry)) k f h (w .at) t (t + 1) (tree .n) (tree .order) (r .n) (r .order) (r .parent) ⌝ }
 {
@@ -130,7 +130,7 @@ pub fn push(tab: &[u8], w: Standing, k: usize, f: usize, h: usize, t: usize, tre
 }
 
 // The tree, with every floater from f on that stands where the h-th may.
-pub fn grow(tab: &[u8], w: Standing, k: usize, f: usize, h: usize, tree: Tree) -> Tree
+fn grow(tab: &[u8], w: Standing, k: usize, f: usize, h: usize, tree: Tree) -> Tree
     requires { ⌜ Growing (now tab) k f h (w .at) (tree .n) (tree .order) (tree .parent) ⌝ }
     ensures { λ r. ⌜ Grew (now (tab .entry)) k f h (w .at) f k (tree .n) (tree .order) (r .n) (r .order) (r .parent) ⌝ }
 {
@@ -144,7 +144,7 @@ pub fn grow(tab: &[u8], w: Standing, k: usize, f: usize, h: usize, tree: Tree) -
 }
 
 // The h-th takes x, the one that wanted its place takes that, and so on up to the first.
-pub fn shift(p: Standing, tree: Tree, h: usize, x0: usize) -> Standing
+fn shift(p: Standing, tree: Tree, h: usize, x0: usize) -> Standing
     requires { ⌜ Walkable (tree .n) h (tree .order) (tree .parent) ⌝ }
     ensures { λ r. ⌜ Shifted (p .at) (tree .n) (tree .order) (tree .parent) h x0 (r .at) ⌝ }
 {
@@ -164,7 +164,7 @@ pub fn shift(p: Standing, tree: Tree, h: usize, x0: usize) -> Standing
 }
 
 // All but floater j stand: can j be placed too, when those below f stay?
-pub fn augment(tab: &[u8], k: usize, f: usize, j: usize, w: Standing) -> Answer
+fn augment(tab: &[u8], k: usize, f: usize, j: usize, w: Standing) -> Answer
     requires { ⌜ Augmentable (now tab) k f j (w .at) ⌝ }
     ensures { λ r. ⌜ Augmented (now (tab .entry)) k f (w .at) (r .ok) (r .at .at) ⌝ }
 {
@@ -189,7 +189,7 @@ pub fn augment(tab: &[u8], k: usize, f: usize, j: usize, w: Standing) -> Answer
 }
 
 // Floater i at y, where it may stand, those below i unmoved?
-pub fn placed(tab: &[u8], k: usize, i: usize, y: usize, p: Standing) -> Answer
+fn placed(tab: &[u8], k: usize, i: usize, y: usize, p: Standing) -> Answer
     requires { ⌜ Ready (now tab) k i (p .at) × (mayIn (now tab) i y ≡ true) ⌝ }
     ensures { λ r. ⌜ Tried (mayIn (now (tab .entry))) k i y (place (p .at)) (r .ok) (place (r .at .at)) ⌝ }
 {
@@ -206,7 +206,7 @@ pub fn placed(tab: &[u8], k: usize, i: usize, y: usize, p: Standing) -> Answer
 }
 
 // Floater i at y, those below i unmoved?
-pub fn attempt(tab: &[u8], k: usize, i: usize, y: usize, p: Standing) -> Answer
+fn attempt(tab: &[u8], k: usize, i: usize, y: usize, p: Standing) -> Answer
     requires { ⌜ Ready (now tab) k i (p .at) × (y < positionLimit) ⌝ }
     ensures { λ r. ⌜ Tried (mayIn (now (tab .entry))) k i y (place (p .at)) (r .ok) (place (r .at .at)) ⌝ }
 {
@@ -217,7 +217,7 @@ pub fn attempt(tab: &[u8], k: usize, i: usize, y: usize, p: Standing) -> Answer
 }
 
 // The least y from `from` and below `to` that floater i can take, those below i unmoved.
-pub fn seek(tab: &[u8], k: usize, i: usize, from: usize, to: usize, w: Standing) -> Answer
+fn seek(tab: &[u8], k: usize, i: usize, from: usize, to: usize, w: Standing) -> Answer
     requires { ⌜ Ready (now tab) k i (w .at) × (to ≤ positionLimit) ⌝ }
     ensures { λ r. ⌜ Sought (mayIn (now (tab .entry))) k i from to (place (w .at)) (r .ok) (place (r .at .at)) ⌝ }
 {
@@ -233,7 +233,7 @@ pub fn seek(tab: &[u8], k: usize, i: usize, from: usize, to: usize, w: Standing)
 }
 
 // Floater i at its least, those below i unmoved.
-pub fn lowered(tab: &[u8], k: usize, i: usize, w: Standing) -> Standing
+fn lowered(tab: &[u8], k: usize, i: usize, w: Standing) -> Standing
     requires { ⌜ Ready (now tab) k i (w .at) ⌝ }
     ensures { λ r. ⌜ Lowered (mayIn (now (tab .entry))) k i (place (w .at)) (place (r .at)) ⌝ }
 {
@@ -246,7 +246,7 @@ pub fn lowered(tab: &[u8], k: usize, i: usize, w: Standing) -> Standing
 }
 
 // The least placement that agrees with w below `from`.
-pub fn settle(tab: &[u8], k: usize, from: usize, p: Standing) -> Standing
+fn settle(tab: &[u8], k: usize, from: usize, p: Standing) -> Standing
     requires { ⌜ Sized (now tab) k × (from ≤ k) × Full (mayIn (now tab)) k (place (p .at)) ⌝ }
     ensures { λ r. ⌜ Settled (mayIn (now (tab .entry))) k from (place (p .at)) (place (r .at)) ⌝ }
 {

@@ -18,7 +18,7 @@ ghost use Rattle.brackets.specs.Row.{Row};
 ghost use Rattle.positions.specs.Legible.{labelFrom, labelSize, Named};
 
 // Whether the m bytes from a on are the n bytes from b on.
-pub fn same_bytes(bytes: &[u8], a: usize, m: usize, b: usize, n: usize) -> bool
+fn same_bytes(bytes: &[u8], a: usize, m: usize, b: usize, n: usize) -> bool
     requires { ⌜ (a + m ≤ length (now bytes)) × (b + n ≤ length (now bytes)) ⌝ }
     ensures { λ r. ⌜ r ≡ same (part a m (now (bytes .entry))) (part b n (now (bytes .entry))) ⌝ }
 {
@@ -29,7 +29,7 @@ pub fn same_bytes(bytes: &[u8], a: usize, m: usize, b: usize, n: usize) -> bool
 }
 
 // Where the label of part j of bracket k begins: behind the part's text.
-pub fn label_from(bytes: &[u8], k: usize, j: usize) -> usize
+fn label_from(bytes: &[u8], k: usize, j: usize) -> usize
     requires { ⌜ (Row (now bytes) k) × (j < partLimit) ⌝ }
     ensures { λ r. ⌜ r ≡ labelFrom (now (bytes .entry)) k j ⌝ }
 {
@@ -40,7 +40,7 @@ pub fn label_from(bytes: &[u8], k: usize, j: usize) -> usize
 }
 
 // How long it is.
-pub fn label_size(bytes: &[u8], k: usize, j: usize) -> usize
+fn label_size(bytes: &[u8], k: usize, j: usize) -> usize
     requires { ⌜ (Row (now bytes) k) × (j < partLimit) ⌝ }
     ensures { λ r. ⌜ r ≡ labelSize (now (bytes .entry)) k j ⌝ }
 {
@@ -48,7 +48,7 @@ pub fn label_size(bytes: &[u8], k: usize, j: usize) -> usize
 }
 
 // Whether part j of bracket k has the m bytes from a on as its label.
-pub fn is_label(bytes: &[u8], a: usize, m: usize, k: usize, j: usize) -> bool
+fn is_label(bytes: &[u8], a: usize, m: usize, k: usize, j: usize) -> bool
     requires { ⌜ (Named (now bytes) k) × (j < byteAt (now bytes) (rowAt k + 4)) × (a + m ≤ length (now bytes)) ⌝ }
     ensures { λ r. ⌜ ((ns : List ℤ) → r ≡ among (part a m (now (bytes .entry))) (nameOf (partIn (now (bytes .entry)) ns k j))) ⌝ }
 {
@@ -61,7 +61,7 @@ pub fn is_label(bytes: &[u8], a: usize, m: usize, k: usize, j: usize) -> bool
 }
 
 // Whether a part of bracket k has the m bytes from a on as its label.
-pub fn has_label(bytes: &[u8], a: usize, m: usize, k: usize) -> bool
+fn has_label(bytes: &[u8], a: usize, m: usize, k: usize) -> bool
     requires { ⌜ (Named (now bytes) k) × (a + m ≤ length (now bytes)) ⌝ }
     ensures { λ r. ⌜ ((ns : List ℤ) → r ≡ among (part a m (now (bytes .entry))) (namesOf (bracketIn (now (bytes .entry)) ns k))) ⌝ }
 {
@@ -77,7 +77,7 @@ pub fn has_label(bytes: &[u8], a: usize, m: usize, k: usize) -> bool
 }
 
 // Whether the label of part j of bracket k is one of bracket r.
-pub fn shares_label(bytes: &[u8], k: usize, j: usize, r: usize) -> bool
+fn shares_label(bytes: &[u8], k: usize, j: usize, r: usize) -> bool
     requires { ⌜ (Named (now bytes) k) × (j < byteAt (now bytes) (rowAt k + 4)) × (Named (now bytes) r) ⌝ }
     ensures { λ z. ⌜ ((ns : List ℤ) → z ≡ shared (nameOf (partIn (now (bytes .entry)) ns k j)) (namesOf (bracketIn (now (bytes .entry)) ns r))) ⌝ }
 {
@@ -90,7 +90,7 @@ pub fn shares_label(bytes: &[u8], k: usize, j: usize, r: usize) -> bool
 }
 
 // Whether brackets k and r share a label.
-pub fn shares(bytes: &[u8], k: usize, r: usize) -> bool
+fn shares(bytes: &[u8], k: usize, r: usize) -> bool
     requires { ⌜ (Named (now bytes) k) × (Named (now bytes) r) ⌝ }
     ensures { λ z. ⌜ ((ns : List ℤ) → z ≡ shared (namesOf (bracketIn (now (bytes .entry)) ns k)) (namesOf (bracketIn (now (bytes .entry)) ns r))) ⌝ }
 {

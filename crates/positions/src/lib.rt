@@ -22,11 +22,11 @@ ghost use Rattle.areas.specs.Floats.{FloatersAre};
 ghost use Rattle.brackets.specs.Row.{Row};
 ghost use Rattle.positions.specs.Marked.{Cleared, Filled};
 
-pub mod labels;
-pub mod marks;
+mod labels;
+mod marks;
 
 // The next m floaters are copies of bracket k.
-pub fn add_copies(f: Floaters, m: usize, k: u8) -> Floaters
+fn add_copies(f: Floaters, m: usize, k: u8) -> Floaters
     requires { ⌜ f .count + m ≤ copyLimit ⌝ }
     ensures { λ r. ⌜ (r .count ≡ f .count + m) × (take (f .count + m) (r .index) ≡ take (f .count) (f .index) ++ replicate m k) × (length (r .index) ≡ copyLimit) ⌝ }
 {
@@ -44,7 +44,7 @@ pub fn add_copies(f: Floaters, m: usize, k: u8) -> Floaters
 }
 
 // How many floaters bracket k gives. A label floats once, at its definition: a reference gives none.
-pub fn copies_at(bytes: &[u8], k: usize) -> usize
+fn copies_at(bytes: &[u8], k: usize) -> usize
     requires { ⌜ Row (now bytes) k ⌝ }
     ensures { λ r. ⌜ ((ns : List ℤ) → r ≡ copies (bracketIn (now (bytes .entry)) ns k)) ⌝ }
 {
@@ -74,7 +74,7 @@ pub fn find_floaters(bytes: &[u8], numbers: &[i64]) -> Floaters
 }
 
 // The rows of the floaters from so many on are set to zero.
-pub fn clear_rest(tab: &mut [u8], from: usize)
+fn clear_rest(tab: &mut [u8], from: usize)
     requires { ⌜ (from ≤ copyLimit) × (rowLimit ≤ length (now tab)) ⌝ }
     ensures { λ _. ⌜ Cleared from (now (tab .entry)) (now (tab .exit)) ⌝ }
 {

@@ -23,7 +23,7 @@ ghost use Rattle.positions.specs.Legible.{Legible};
 ghost use Rattle.positions.specs.Marked.{Marked, RowIs, hasPlace, isUnknown, refersAt, referencesAt, ownAt, placedAt, struckAt, standsAt};
 
 // Positions a to e of the row at base are set to v.
-pub fn put(tab: &mut [u8], base: usize, a: usize, e: usize, v: u8)
+fn put(tab: &mut [u8], base: usize, a: usize, e: usize, v: u8)
     requires { ⌜ (e < positionLimit) × (base + positionLimit ≤ length (now tab)) ⌝ }
     ensures { λ _. ⌜ Marked base (between a e) v (now (tab .entry)) (now (tab .exit)) ⌝ }
 {
@@ -35,7 +35,7 @@ pub fn put(tab: &mut [u8], base: usize, a: usize, e: usize, v: u8)
 }
 
 // The positions of bracket r are marked if it is a reference to a label of bracket k.
-pub fn mark_reference(bytes: &[u8], k: usize, r: usize, tab: &mut [u8], base: usize)
+fn mark_reference(bytes: &[u8], k: usize, r: usize, tab: &mut [u8], base: usize)
     requires { ⌜ (Legible (now bytes)) × (k < byteAt (now bytes) 1) × (r < byteAt (now bytes) 1) × (base + positionLimit ≤ length (now tab)) ⌝ }
     ensures { λ _. ⌜ ((ns : List ℤ) → Marked base (refersAt (now (bytes .entry)) ns k r) 1 (now (tab .entry)) (now (tab .exit))) ⌝ }
 {
@@ -47,7 +47,7 @@ pub fn mark_reference(bytes: &[u8], k: usize, r: usize, tab: &mut [u8], base: us
 }
 
 // The positions of every reference to a label of bracket k are marked.
-pub fn mark_references(bytes: &[u8], k: usize, tab: &mut [u8], base: usize)
+fn mark_references(bytes: &[u8], k: usize, tab: &mut [u8], base: usize)
     requires { ⌜ (Legible (now bytes)) × (k < byteAt (now bytes) 1) × (base + positionLimit ≤ length (now tab)) ⌝ }
     ensures { λ _. ⌜ ((ns : List ℤ) → Marked base (referencesAt (now (bytes .entry)) ns k) 1 (now (tab .entry)) (now (tab .exit))) ⌝ }
 {
@@ -60,7 +60,7 @@ pub fn mark_references(bytes: &[u8], k: usize, tab: &mut [u8], base: usize)
 }
 
 // Whether a bracket of this kind has a position or range of its own: in the sequence or at a terminus.
-pub fn has_place(kind: Kind) -> bool
+fn has_place(kind: Kind) -> bool
     ensures { λ r. ⌜ r ≡ hasPlace kind ⌝ }
 {
     match kind {
@@ -74,7 +74,7 @@ pub fn has_place(kind: Kind) -> bool
 }
 
 // Whether bracket k is an unlabelled one of unknown position.
-pub fn is_anywhere(bytes: &[u8], k: usize) -> bool
+fn is_anywhere(bytes: &[u8], k: usize) -> bool
     requires { ⌜ Row (now bytes) k ⌝ }
     ensures { λ r. ⌜ ((ns : List ℤ) → r ≡ isUnlabelledUnknown (bracketIn (now (bytes .entry)) ns k) (bracketIn (now (bytes .entry)) ns k .kind)) ⌝ }
 {
@@ -84,7 +84,7 @@ pub fn is_anywhere(bytes: &[u8], k: usize) -> bool
     is_unknown(kind(bytes, k))
 }
 
-pub fn is_unknown(kind: Kind) -> bool
+fn is_unknown(kind: Kind) -> bool
     ensures { λ r. ⌜ r ≡ isUnknown kind ⌝ }
 {
     match kind {
@@ -98,7 +98,7 @@ pub fn is_unknown(kind: Kind) -> bool
 }
 
 // The positions of bracket k are marked if it has some of its own.
-pub fn mark_own(bytes: &[u8], k: usize, tab: &mut [u8], base: usize)
+fn mark_own(bytes: &[u8], k: usize, tab: &mut [u8], base: usize)
     requires { ⌜ (Legible (now bytes)) × (k < byteAt (now bytes) 1) × (base + positionLimit ≤ length (now tab)) ⌝ }
     ensures { λ _. ⌜ ((ns : List ℤ) → Marked base (ownAt (now (bytes .entry)) ns k) 1 (now (tab .entry)) (now (tab .exit))) ⌝ }
 {
@@ -110,7 +110,7 @@ pub fn mark_own(bytes: &[u8], k: usize, tab: &mut [u8], base: usize)
 }
 
 // Every position where bracket k may stand is marked.
-pub fn mark_all(bytes: &[u8], k: usize, tab: &mut [u8], base: usize)
+fn mark_all(bytes: &[u8], k: usize, tab: &mut [u8], base: usize)
     requires { ⌜ (Legible (now bytes)) × (k < byteAt (now bytes) 1) × (base + positionLimit ≤ length (now tab)) ⌝ }
     ensures { λ _. ⌜ ((ns : List ℤ) → Marked base (mayStand (tablesIn (now (bytes .entry)) ns) (bracketIn (now (bytes .entry)) ns k)) 1 (now (tab .entry)) (now (tab .exit))) ⌝ }
 {
@@ -124,7 +124,7 @@ pub fn mark_all(bytes: &[u8], k: usize, tab: &mut [u8], base: usize)
 }
 
 // The position of bracket k is struck out if it is placed.
-pub fn strike(bytes: &[u8], k: usize, tab: &mut [u8], base: usize)
+fn strike(bytes: &[u8], k: usize, tab: &mut [u8], base: usize)
     requires { ⌜ (Legible (now bytes)) × (k < byteAt (now bytes) 1) × (base + positionLimit ≤ length (now tab)) ⌝ }
     ensures { λ _. ⌜ ((ns : List ℤ) → Marked base (placedAt (now (bytes .entry)) ns k) 0 (now (tab .entry)) (now (tab .exit))) ⌝ }
 {
@@ -135,7 +135,7 @@ pub fn strike(bytes: &[u8], k: usize, tab: &mut [u8], base: usize)
 }
 
 // Every position with a placed modification is struck out.
-pub fn strike_out(bytes: &[u8], tab: &mut [u8], base: usize)
+fn strike_out(bytes: &[u8], tab: &mut [u8], base: usize)
     requires { ⌜ (Legible (now bytes)) × (base + positionLimit ≤ length (now tab)) ⌝ }
     ensures { λ _. ⌜ ((ns : List ℤ) → Marked base (struckAt (now (bytes .entry)) ns) 0 (now (tab .entry)) (now (tab .exit))) ⌝ }
 {

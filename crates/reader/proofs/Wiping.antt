@@ -7,11 +7,11 @@ use lib.IntN.{ℤ, pos}
 use lib.ListN.{length, take, drop, replicate, length-drop, length-map, length-replicate, replicate-append-replicate, take-append-drop, drop-of-length-le}
 use lib.Seq.{take-all, take-at, drop-at, drop-append-le, drop-append-add, drop-drop}
 use Rattle.scope.specs.Line.{Line}
-use Rattle.scope.specs.Lists.{flat, padded}
+use Rattle.scope.specs.Lists.{flat, padded, laid}
 use Rattle.scope.specs.Tables.{bytesSize, numbersSize, byteAt, sectionCode, bracketTexts, rows, numberRow, bytesOf, numbersOf}
 use Rattle.layout_laws.specs.Layout.{padded-length, rows-length, number-rows-length}
 use Rattle.accepted_laws.specs.Laws.{accepted-short, accepted-texts}
-use Rattle.reader.specs.ReadSays.{Clean, HoldSome, wiped}
+use Rattle.reader.specs.ReadSays.{HoldSome, Wiped, wiped}
 use Rattle.reader.proofs.Storing.{cleared-clean}
 
 -- ---- from a place on, by way of the part that begins there
@@ -147,7 +147,13 @@ module _ {n : ℕ} {bs : List ℕ} {ns : List ℤ} (w : HoldSome n bs ns) where
         wiped-next (pos 0) 0 320 (k * 5) (flat numberRow (l .brackets)) (drop numbersSize ns) (omega arith) (omega arith) numbers-are
         (g ∙ ap (λ i. replicate (k * 5) (pos 0) ++ drop i ns) (let z : k * 5 ≡ 0 + k * 5 = omega arith in z))
 
-    pub wiped-clean :
+    zeros-long : {A : Type 0} (n : ℕ) (z : A) (l : List A) → replicate n z ++ drop n l ≡ laid (replicate n z) l
+    zeros-long n z l = ap (λ i. replicate n z ++ drop i l) (sym (length-replicate n z))
+
+    pub all-wiped :
         {b₁ b₂ b₃ b₄ : List ℕ} {m : List ℤ} → b₁ ≡ wiped 0 0 (2 + r) bs → b₂ ≡ wiped 0 256 r b₁ → b₃ ≡ wiped 0 510 (k * 34) b₂
-        → b₄ ≡ wiped 0 2686 n b₃ → m ≡ replicate (k * 5) (pos 0) ++ drop (k * 5) ns → Clean b₄ m
-    wiped-clean e₁ e₂ e₃ e₄ g = cleared-clean bs ns (bytes-wiped e₁ e₂ e₃ e₄) (numbers-wiped g)
+        → b₄ ≡ wiped 0 2686 n b₃ → m ≡ replicate (k * 5) (pos 0) ++ drop (k * 5) ns → Wiped bs ns b₄ m
+    all-wiped e₁ e₂ e₃ e₄ g =
+        let b = bytes-wiped e₁ e₂ e₃ e₄ in
+        let i = numbers-wiped g in
+        record { clean = cleared-clean bs ns b i; bytes-now = b ∙ zeros-long bytesSize 0 bs; numbers-now = i ∙ zeros-long numbersSize (pos 0) ns }

@@ -48,6 +48,12 @@ pub record Stored (line bytes : List ℕ) (numbers : List ℤ) (bytes′ : List 
   pub bytes-now : (l : Line ℕ) → outcome line ≡ accepted l → bytes′ ≡ laid (bytesOf l) bytes
   pub numbers-now : (l : Line ℕ) → outcome line ≡ accepted l → numbers′ ≡ laid (numbersOf l) numbers
 
+-- the areas' room is zero, and what lies behind it is as it was
+pub record Wiped (bytes : List ℕ) (numbers : List ℤ) (bytes′ : List ℕ) (numbers′ : List ℤ) : Type 0 where
+  pub clean : Clean bytes′ numbers′
+  pub bytes-now : bytes′ ≡ laid (replicate bytesSize 0) bytes
+  pub numbers-now : numbers′ ≡ laid (replicate numbersSize (pos 0)) numbers
+
 -- n elements from a place on are z
 abbrev pub wiped : {A : Type 0} → A → ℕ → ℕ → List A → List A
 wiped z from n l = take from l ++ (replicate n z ++ drop (from + n) l)

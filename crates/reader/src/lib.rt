@@ -4,7 +4,7 @@ use scope::tables::Tables;
 ghost use mathlib.Core.Path.{_≡_};
 ghost use Prim.Native.Nat.{_+_, _≤_};
 ghost use lib.ListN.{length};
-ghost use Rattle.reader.specs.ReadSays.{ReadSays, Clean, Lays, HoldSome, Stores, Stored, wiped};
+ghost use Rattle.reader.specs.ReadSays.{ReadSays, Lays, HoldSome, Stores, Stored, Wiped, wiped};
 
 // An accepted line's tables, in areas whose room is zero.
 pub fn put(line: &[u8], bytes: &mut [u8], numbers: &mut [i64])
@@ -24,7 +24,7 @@ fn zero_from(bytes: &mut [u8], from: usize, n: usize)
 // Areas that hold the tables of an accepted line of n bytes, clean again: only what such a line uses is written to.
 pub fn wipe(n: usize, bytes: &mut [u8], numbers: &mut [i64])
     requires { ⌜ HoldSome n (now bytes) (now numbers) ⌝ }
-    ensures { λ _. ⌜ Clean (now (bytes .exit)) (now (numbers .exit)) ⌝ }
+    ensures { λ _. ⌜ Wiped (now (bytes .entry)) (now (numbers .entry)) (now (bytes .exit)) (now (numbers .exit)) ⌝ }
 {
     let residues = areas::residues(bytes);
     let brackets = areas::brackets(bytes);

@@ -87,6 +87,7 @@ keeps chunk from end hold held n ys old rest w k l e a same =
       within = omega arith;
       are = ap (take (held + n)) q ∙ ap (λ z. take (z + n) (h ++ (take n t ++ (old ++ rest)))) (sym hl)
           ∙ front h t (old ++ rest) n (omega arith) ∙ fitting h t n (omega arith) (omega arith);
+      stays = take-at h (ys ++ rest) held hl;
     }
 
 -- ---- a cut behind the end of a line, and one at the end of the chunk
@@ -105,6 +106,7 @@ cut-line chunk from end hold held holds n k w m l =
       inside = omega arith;
       goes = λ _. omega (arith, w .past);
       whole = λ e. absurd (false≢true (sym e));
+      stays = m .stays;
       leaves = λ j. ap (after (holding j (take held hold))) p ∙ after-line j (take held hold) t (short held hold k) (w .before) ∙ ap (λ z. behind true (holding j z)) (sym (m .are));
       puts = λ j. ap (put (holding j (take held hold))) p ∙ put-line j (take held hold) t (short held hold k) (w .before) ∙ ap (λ z. ended true (holding j z)) (sym (m .are));
     }
@@ -120,6 +122,7 @@ cut-chunk chunk from end hold held holds n k w m l =
       inside = w .within;
       goes = λ e. absurd (false≢true e);
       whole = λ _. omega (arith, w .within);
+      stays = m .stays;
       leaves = λ j. after-plain j (take held hold) t (short held hold k) (w .before) ∙ ap (holding j) (sym (m .are));
       puts = λ j. put-plain j (take held hold) t (w .before);
     }

@@ -1,21 +1,32 @@
--- Laws of the loop that takes a chunk in line by line. Assumes nothing.
+-- Laws of the loops: a chunk taken in line by line and handed over, the end of the input, turn upon turn. Assumes nothing.
 use mathlib.Core.Path.{_≡_, refl, sym, ap, _∙_, subst}
-use mathlib.Core.Bool.{Bool, true, false, false≢true}
+use mathlib.Core.Bool.{Bool, true, false, cond, false≢true}
 use mathlib.Core.List.{List, [], _∷_, _++_, append-nil}
-use Prim.Native.Nat.{ℕ, _+_, _-_, _*_, _<_, _≤_}
+use Prim.Native.Nat.{ℕ, suc, _+_, _-_, _*_, _<_, _≤_}
 use native.Mathlib.Omega.{arith}
+use borrow.Author.Tests.{eq-eqb, ne-eqb}
+use lib.Dec.{eqb}
 use native.Mathlib.Numerals.{add-one}
 use lib.IntN.{ℤ, pos}
-use lib.ListN.{length, take, drop, replicate, length-append, length-replicate}
-use lib.Seq.{take-add, drop-drop, take-all, take-append-seam, drop-append-seam, length-take-le}
+use lib.ListN.{length, take, drop, getD, replicate, length-append, length-take, length-replicate}
+use lib.Seq.{take-suc, take-add, drop-drop, take-all, take-append-seam, drop-append-seam, length-take-le}
+use Rattle.basics.specs.Choice.{took, passed}
+use Rattle.scope.specs.Canonical.{decimal}
 use Rattle.scope.specs.Tables.{bytesSize, numbersSize}
-use Rattle.writer.specs.Written.{stored}
+use Rattle.reader.specs.ReadSays.{Clean}
+use Rattle.writer.specs.Written.{stored, Puts}
 use Rattle.writer.proofs.Storing.{stored-append, stored-whole}
 use Rattle.entries.specs.Entry.{entry, entryLimit, Printed}
-use Rattle.stream.specs.Feeding.{holdLimit, State, holding, after, put, lastPut, finished, part}
-use Rattle.stream.specs.Promises.{Cuts, numberLimit, readLimit, Ready, Fronts, Feeds, Drains, Turns}
-use Rattle.stream.specs.Laws.{after-append, put-append}
-use Rattle.stream.proofs.Cutting.{part-none}
+use Rattle.stream.specs.declared.End.{End}
+use Rattle.stream.specs.declared.End.the-variants.{Whole, Unread, Unwritten}
+use Rattle.stream.specs.declared.Got.{Got}
+use Rattle.stream.specs.declared.Got.the-variants.{Came}
+use Rattle.stream.specs.Lines.{lineEnd}
+use Rattle.stream.specs.Feeding.{holdLimit, State, holding, kept, behind, ended, after, put, lastPut, finished, part}
+use Rattle.stream.specs.Promises.{LineEnd, Cuts, numberLimit, readLimit, outputLimit, Ready, Fronts, Runs, Feeds, Owed, OwedLast, Received, lineEnds, noticeRoom, noticed, Drains, Closes, Turns}
+use Rattle.stream.specs.Laws.{after-append, put-append, after-line, put-line}
+use Rattle.stream.specs.Whole.{entry-front}
+use Rattle.stream.proofs.Cutting.{part-none, part-more}
 
 -- ---- parts of a chunk, one behind the other
 pub part-join : (f a b : ℕ) (l : List ℕ) → f ≤ a → a ≤ b → part f b l ≡ part f a l ++ part a b l
@@ -36,46 +47,15 @@ fronts o t left n e m h l =
       rest = ap (λ z. drop z left) m ∙ ap (drop (length t)) w ∙ drop-append-seam t (drop (length t) o) ∙ ap (λ z. drop z o) (sym m);
     }
 
-module _ (chunk : List ℕ) (from number : ℕ) (hold₀ : List ℕ) (held : ℕ) (bytes₀ : List ℕ) (numbers₀ : List ℤ) (out₀ : List ℕ) where
-  abbrev first : State
-  first = holding number (take held hold₀)
+-- a text that stands at the front has the length that is told
+front-length : {t out outs : List ℕ} {n : ℕ} → Fronts t out outs n → n ≡ length t
+front-length {t} {out} {outs} {n} f = sym (length-take-le n outs (f .fits)) ∙ ap length (f .front)
 
-  -- the chunk is taken in up to `next`
-  pub record Goes (next line n : ℕ) (hold bytes : List ℕ) (numbers : List ℤ) (out : List ℕ) (at : ℕ) : Type 0 where
-    pub past : from ≤ next
-    pub inside : next ≤ length chunk
-    pub moved : 0 < at → from < next
-    pub count : line + from ≤ number + next
-    pub leaves : after first (part from next chunk) ≡ holding line (take n hold)
-    pub puts : out ≡ stored out₀ 0 (put first (part from next chunk))
-    pub ends : at ≡ length (put first (part from next chunk))
-    pub fits : at ≤ length out₀
-    pub ready : Ready hold n bytes numbers out
-    pub hold-long : length hold ≡ length hold₀
-    pub bytes-long : length bytes ≡ length bytes₀
-    pub numbers-long : length numbers ≡ length numbers₀
-    pub out-long : length out ≡ length out₀
+pub whole-front : (n : ℕ) (l : List ℕ) → part 0 n l ≡ take n l
+whole-front n l = let e : n - 0 ≡ n = omega arith in ap (λ z. take z l) e
 
-  pub goes-start : from ≤ length chunk → Ready hold₀ held bytes₀ numbers₀ out₀ → Goes from number held hold₀ bytes₀ numbers₀ out₀ 0
-  unfolding after put stored
-  goes-start h w =
-      record {
-        past = omega arith;
-        inside = h;
-        moved = λ l. absurd (omega arith);
-        count = omega arith;
-        leaves = ap (after first) (part-none from chunk);
-        puts = ap (λ z. stored out₀ 0 (put first z)) (sym (part-none from chunk));
-        ends = ap (λ z. length (put first z)) (sym (part-none from chunk));
-        fits = omega arith;
-        ready = w;
-        hold-long = refl;
-        bytes-long = refl;
-        numbers-long = refl;
-        out-long = refl;
-      }
-
-  -- a part more
+-- ---- a part more
+module _ (chunk : List ℕ) (from : ℕ) (first : State) where
   after-more : (next next′ : ℕ) (s : State) → from ≤ next → next ≤ next′ → after first (part from next chunk) ≡ s
       → after first (part from next′ chunk) ≡ after s (part next next′ chunk)
   after-more next next′ s h k e =
@@ -88,88 +68,185 @@ module _ (chunk : List ℕ) (from number : ℕ) (hold₀ : List ℕ) (held : ℕ
       ap (put first) (part-join from next next′ chunk h k) ∙ put-append first (part from next chunk) (part next next′ chunk)
       ∙ ap (λ z. put first (part from next chunk) ++ put z (part next next′ chunk)) e
 
-  -- a line ends
-  pub goes-line : {next line n : ℕ} {hold bytes : List ℕ} {numbers : List ℤ} {out : List ℕ} {at : ℕ} {hold′ : List ℕ} {n′ next′ : ℕ} {out′ : List ℕ} {r : ℕ} {bytes′ : List ℕ} {numbers′ : List ℤ}
-      → Goes next line n hold bytes numbers out at → {e : Bool} → Cuts chunk next hold n hold′ n′ next′ e → e ≡ true
-      → Printed entryLimit out at (entry line (take n′ hold′)) out′ r bytes numbers bytes′ numbers′ → at + entryLimit ≤ length out
-      → Goes next′ (line + 1) 0 hold′ bytes′ numbers′ out′ r
-  goes-line {next} {line} {n} {hold} {bytes} {numbers} {out} {at} {hold′} {n′} {next′} {out′} {r} {bytes′} {numbers′} w c q p h =
-      let m = subst (λ z. Cuts chunk next hold n hold′ n′ next′ z) q c in
-      let s = holding line (take n hold) in
-      let t = put first (part from next chunk) in
-      let e = entry line (take n′ hold′) in
-      let text : put first (part from next′ chunk) ≡ t ++ e = put-more next next′ s (w .past) (m .past) (w .leaves) ∙ ap (λ z. t ++ z) (m .puts line) in
-      let go = m .goes refl in
-      let a : at ≡ 0 + length t = omega (arith, w .ends) in
+-- ---- the lines that lie whole in a chunk
+module _ (chunk : List ℕ) (from number : ℕ) (bytes₀ : List ℕ) (numbers₀ : List ℤ) (out₀ : List ℕ) (at : ℕ) where
+  abbrev first : State
+  first = holding number []
+
+  -- they are put up to `next`
+  pub record Goes (next line n : ℕ) (bytes : List ℕ) (numbers : List ℤ) (out : List ℕ) : Type 0 where
+    pub past : from ≤ next
+    pub inside : next ≤ length chunk
+    pub grows : number ≤ line
+    pub count : line + from ≤ number + next
+    pub leaves : after first (part from next chunk) ≡ holding line []
+    pub puts : out ≡ stored out₀ at (put first (part from next chunk))
+    pub ends : n ≡ at + length (put first (part from next chunk))
+    pub fits : n ≤ length out₀
+    pub clean : Clean bytes numbers
+    pub bytes-long : length bytes ≡ length bytes₀
+    pub numbers-long : length numbers ≡ length numbers₀
+    pub out-long : length out ≡ length out₀
+
+  pub goes-start : from ≤ length chunk → Clean bytes₀ numbers₀ → at ≤ length out₀ → Goes from number at bytes₀ numbers₀ out₀
+  unfolding after put stored
+  goes-start h w k =
+      let none : length (put first (part from from chunk)) ≡ 0 = ap (λ z. length (put first z)) (part-none from chunk) in
+      record {
+        past = omega arith;
+        inside = h;
+        grows = omega arith;
+        count = omega arith;
+        leaves = ap (after first) (part-none from chunk);
+        puts = ap (λ z. stored out₀ at (put first z)) (sym (part-none from chunk));
+        ends = omega (arith, none);
+        fits = k;
+        clean = w;
+        bytes-long = refl;
+        numbers-long = refl;
+        out-long = refl;
+      }
+
+  -- a line more
+  pub goes-line : {next line n : ℕ} {bytes : List ℕ} {numbers : List ℤ} {out : List ℕ} {end : ℕ} {out′ : List ℕ} {r : ℕ} {bytes′ : List ℕ} {numbers′ : List ℤ}
+      → Goes next line n bytes numbers out → LineEnd chunk next end → (end ≡ length chunk → ⊥)
+      → Printed entryLimit out n (entry line (part next end chunk)) out′ r bytes numbers bytes′ numbers′ → n + entryLimit ≤ length out
+      → Goes (end + 1) (line + 1) r bytes′ numbers′ out′
+  goes-line {next} {line} {n} {bytes} {numbers} {out} {end} {out′} {r} w m q p h =
+      let s = holding line [] in
+      let t = part next end chunk in
+      let before = put first (part from next chunk) in
+      let e = entry line t in
+      let l : end < length chunk = omega (arith, m .within, q) in
+      let none : length {A = ℕ} [] ≤ holdLimit = omega arith in
+      let further : next ≤ end + 1 = omega (arith, m .past) in
+      let piece : part next (end + 1) chunk ≡ t ++ (lineEnd ∷ []) = part-more next end chunk (m .past) l ∙ ap (λ z. t ++ (z ∷ [])) (m .there l) in
+      let text : put first (part from (end + 1) chunk) ≡ before ++ e =
+      put-more chunk from first next (end + 1) s (w .past) further (w .leaves)
+      ∙ ap (λ z. before ++ z) (ap (put s) piece ∙ put-line line [] t none (m .before) ∙ entry-front line t) in
+      let a : n ≡ at + length before = w .ends in
       record {
         past = omega (arith, w .past, m .past);
-        inside = m .inside;
-        moved = λ l. omega (arith, w .past, go);
-        count = omega (arith, w .count, go);
-        leaves = after-more next next′ s (w .past) (m .past) (w .leaves) ∙ m .leaves line ∙ ap (λ z. holding z []) (sym (add-one line));
-        puts = p .puts .holds ∙ ap (λ z. stored z at e) (w .puts) ∙ ap (λ z. stored (stored out₀ 0 t) z e) a ∙ sym (stored-append out₀ 0 t e) ∙ ap (stored out₀ 0) (sym text);
-        ends = p .puts .ends ∙ ap (λ z. z + length e) (w .ends) ∙ sym (length-append t e) ∙ ap length (sym text);
+        inside = omega arith;
+        grows = omega (arith, w .grows);
+        count = omega (arith, w .count, m .past);
+        leaves = after-more chunk from first next (end + 1) s (w .past) further (w .leaves) ∙ ap (after s) piece ∙ after-line line [] t none (m .before)
+            ∙ ap (λ z. holding z []) (sym (add-one line));
+        puts = p .puts .holds ∙ ap (λ z. stored z n e) (w .puts) ∙ ap (λ z. stored (stored out₀ at before) z e) a
+            ∙ sym (stored-append out₀ at before e) ∙ ap (stored out₀ at) (sym text);
+        ends = omega (arith, p .puts .ends, a, length-append before e, ap length text);
         fits = omega (arith, p .puts .near, w .out-long);
-        ready = record { room = m .room; within = omega arith; clean = p .clean; wide = omega (arith, w .ready .wide, p .out-long) };
-        hold-long = omega (arith, m .room, w .ready .room, w .hold-long);
+        clean = p .clean;
         bytes-long = p .bytes-long ∙ w .bytes-long;
         numbers-long = p .numbers-long ∙ w .numbers-long;
         out-long = p .out-long ∙ w .out-long;
       }
 
-  -- the chunk ends
-  pub goes-chunk : {next line n : ℕ} {hold bytes : List ℕ} {numbers : List ℤ} {out : List ℕ} {at : ℕ} {hold′ : List ℕ} {n′ next′ : ℕ}
-      → Goes next line n hold bytes numbers out at → {e : Bool} → Cuts chunk next hold n hold′ n′ next′ e → e ≡ false
-      → Feeds chunk from number hold₀ held out₀ next′ line hold′ n′ out at × Ready hold′ n′ bytes numbers out
-  goes-chunk {next} {line} {n} {hold} {bytes} {numbers} {out} {at} {hold′} {n′} {next′} w c q =
-      let m = subst (λ z. Cuts chunk next hold n hold′ n′ next′ z) q c in
-      let s = holding line (take n hold) in
-      let t = put first (part from next chunk) in
-      let text : put first (part from next′ chunk) ≡ t = put-more next next′ s (w .past) (m .past) (w .leaves) ∙ ap (λ z. t ++ z) (m .puts line) ∙ append-nil t in (
-        record {
-          inside = m .inside;
-          goes = λ l. omega (arith, m .whole refl);
-          count = omega (arith, w .count, m .past);
-          leaves = after-more next next′ s (w .past) (m .past) (w .leaves) ∙ m .leaves line;
-          puts = fronts out₀ (put first (part from next′ chunk)) out at (w .puts ∙ ap (stored out₀ 0) (sym text)) (w .ends ∙ ap length (sym text)) (w .fits) (w .out-long);
-        },
-        record { room = m .room; within = m .within; clean = w .ready .clean; wide = w .ready .wide },
-      )
-
-  -- the output has no room for one more
-  pub goes-full : {next line n : ℕ} {hold bytes : List ℕ} {numbers : List ℤ} {out : List ℕ} {at : ℕ}
-      → Goes next line n hold bytes numbers out at → length out - at < entryLimit
-      → Feeds chunk from number hold₀ held out₀ next line hold n out at × Ready hold n bytes numbers out
-  goes-full {next} {line} {n} {hold} {bytes} {numbers} {out} {at} w h = (
+  pub goes-end : {next line n : ℕ} {bytes : List ℕ} {numbers : List ℤ} {out : List ℕ} → Goes next line n bytes numbers out
+      → Runs chunk from number out₀ at next line 0 out n × Clean bytes numbers
+  goes-end w = (
     record {
+      past = w .past;
       inside = w .inside;
-      goes = λ l. w .moved (omega (arith, w .ready .wide));
+      grows = w .grows;
       count = w .count;
+      none-held = refl;
       leaves = w .leaves;
-      puts = fronts out₀ (put first (part from next chunk)) out at (w .puts) (w .ends) (w .fits) (w .out-long);
+      puts = w .puts;
+      ends = w .ends;
+      fits = w .fits;
+      long = w .out-long;
     },
-    w .ready,
+    w .clean,
   )
 
--- ---- a whole chunk: it is taken in up to `from`
+-- ---- a part of a chunk, taken in
+-- the line that is begun goes on past it
+pub feeds-held : {chunk : List ℕ} {from number : ℕ} {hold : List ℕ} {held : ℕ} {bytes : List ℕ} {numbers : List ℤ} {out holds : List ℕ} {n next : ℕ} {e : Bool}
+    → Ready hold held bytes numbers out → Cuts chunk from hold held holds n next e → e ≡ false
+    → Feeds chunk from number hold held out next number holds n out 0 × Ready holds n bytes numbers out
+feeds-held {chunk} {from} {number} {hold} {held} {bytes} {numbers} {out} {holds} {n} {next} w c q =
+    let m = subst (λ z. Cuts chunk from hold held holds n next z) q c in (
+      record {
+        inside = m .inside;
+        goes = λ l. omega (arith, m .whole refl);
+        grows = omega arith;
+        count = omega (arith, m .past);
+        stays = m .stays;
+        leaves = m .leaves number;
+        puts = record { fits = omega arith; front = sym (m .puts number); rest = refl };
+      },
+      record { room = m .room; within = m .within; clean = w .clean; wide = w .wide; narrow = w .narrow },
+    )
+
+-- it ends, and lines behind it
+pub feeds-lines : {chunk : List ℕ} {from number : ℕ} {hold : List ℕ} {held : ℕ} {bytes : List ℕ} {numbers : List ℤ} {out holds : List ℕ} {n next : ℕ} {e : Bool}
+    → {out′ : List ℕ} {at : ℕ} {bytes′ : List ℕ} {numbers′ : List ℤ} {next′ line k : ℕ} {out″ : List ℕ} {m : ℕ} {bytes″ : List ℕ} {numbers″ : List ℤ}
+    → Ready hold held bytes numbers out → Cuts chunk from hold held holds n next e → e ≡ true
+    → Printed entryLimit out 0 (entry number (part 0 n holds)) out′ at bytes numbers bytes′ numbers′
+    → Runs chunk next (number + 1) out′ at next′ line k out″ m → Clean bytes″ numbers″
+    → Feeds chunk from number hold held out next′ line holds k out″ m × Ready holds k bytes″ numbers″ out″
+feeds-lines {chunk} {from} {number} {hold} {held} {bytes} {numbers} {out} {holds} {n} {next} {e} {out′} {at} {bytes′} {numbers′} {next′} {line} {k} {out″} {m} w c q p g clear =
+    let d = subst (λ z. Cuts chunk from hold held holds n next z) q c in
+    let s = holding number (take held hold) in
+    let first = entry number (part 0 n holds) in
+    let more = put (holding (number + 1) []) (part next next′ chunk) in
+    let behind-it : after s (part from next chunk) ≡ holding (number + 1) [] = d .leaves number ∙ ap (λ z. holding z []) (sym (add-one number)) in
+    let put-first : put s (part from next chunk) ≡ first = d .puts number ∙ ap (entry number) (sym (whole-front n holds)) in
+    let text : put s (part from next′ chunk) ≡ first ++ more =
+    put-more chunk from s next next′ (holding (number + 1) []) (d .past) (g .past) behind-it ∙ ap (λ z. z ++ more) put-first in
+    let holds-text : out″ ≡ stored out 0 (first ++ more) =
+    g .puts ∙ ap (λ z. stored z at more) (p .puts .holds) ∙ ap (λ z. stored (stored out 0 first) z more) (p .puts .ends) ∙ sym (stored-append out 0 first more) in
+    let ends-text : m ≡ length (first ++ more) = omega (arith, g .ends, p .puts .ends, length-append first more) in
+    let long : length out″ ≡ length out = g .long ∙ p .out-long in
+    let go = d .goes refl in (
+      record {
+        inside = g .inside;
+        goes = λ l. omega (arith, g .past, go);
+        grows = omega (arith, g .grows);
+        count = omega (arith, g .count, go);
+        stays = d .stays;
+        leaves = after-more chunk from s next next′ (holding (number + 1) []) (d .past) (g .past) behind-it ∙ g .leaves
+            ∙ ap (λ z. holding line (take z holds)) (sym (g .none-held));
+        puts = subst (λ z. Fronts z out out″ m) (sym text) (fronts out (first ++ more) out″ m holds-text ends-text (omega (arith, g .fits, p .out-long)) long);
+      },
+      record { room = d .room; within = omega (arith, g .none-held); clean = clear; wide = omega (arith, w .wide, long); narrow = omega (arith, w .narrow, long) },
+    )
+
+-- so what is handed over is owed
+pub owed : {chunk : List ℕ} {from number : ℕ} {hold : List ℕ} {held : ℕ} {out : List ℕ} {next line : ℕ} {holds : List ℕ} {n : ℕ} {outs : List ℕ} {m : ℕ}
+    → Feeds chunk from number hold held out next line holds n outs m → Owed chunk from next number holds held outs m
+owed {chunk} {from} {number} {next = next} f =
+    record { fits = f .puts .fits; text = f .puts .front ∙ ap (λ z. put (holding number z) (part from next chunk)) (sym (f .stays)) }
+
+-- ---- a whole chunk: it is taken in up to `from`, and what is put out for that was taken
 module _ (chunk : List ℕ) (number : ℕ) (hold₀ : List ℕ) (held : ℕ) (bytes₀ : List ℕ) (numbers₀ : List ℤ) (out₀ : List ℕ) where
-  pub record Taken (from line n : ℕ) (hold bytes : List ℕ) (numbers : List ℤ) (out : List ℕ) : Type 0 where
+  abbrev begun : State
+  begun = holding number (take held hold₀)
+
+  pub record Taken (from line n sent : ℕ) (hold bytes : List ℕ) (numbers : List ℤ) (out : List ℕ) : Type 0 where
     pub inside : from ≤ length chunk
+    pub grows : number ≤ line
     pub count : line ≤ number + from
-    pub leaves : after (holding number (take held hold₀)) (take from chunk) ≡ holding line (take n hold)
+    pub leaves : after begun (take from chunk) ≡ holding line (take n hold)
+    pub given : sent ≡ length (put begun (take from chunk))
+    pub low : sent ≤ from * outputLimit
     pub ready : Ready hold n bytes numbers out
     pub hold-long : length hold ≡ length hold₀
     pub bytes-long : length bytes ≡ length bytes₀
     pub numbers-long : length numbers ≡ length numbers₀
     pub out-long : length out ≡ length out₀
 
-  pub taken-start : Ready hold₀ held bytes₀ numbers₀ out₀ → Taken 0 number held hold₀ bytes₀ numbers₀ out₀
-  unfolding after
+  pub taken-start : Ready hold₀ held bytes₀ numbers₀ out₀ → Taken 0 number held 0 hold₀ bytes₀ numbers₀ out₀
+  unfolding after put
   taken-start w =
       record {
         inside = omega arith;
+        grows = omega arith;
         count = omega arith;
         leaves = refl;
+        given = refl;
+        low = omega arith;
         ready = w;
         hold-long = refl;
         bytes-long = refl;
@@ -177,19 +254,25 @@ module _ (chunk : List ℕ) (number : ℕ) (hold₀ : List ℕ) (held : ℕ) (by
         out-long = refl;
       }
 
-  pub taken-more : {from line n : ℕ} {hold bytes : List ℕ} {numbers : List ℤ} {out : List ℕ} {next line′ n′ : ℕ} {hold′ bytes′ : List ℕ} {numbers′ : List ℤ} {out′ : List ℕ} {m : ℕ}
-      → Taken from line n hold bytes numbers out → from < length chunk → Feeds chunk from line hold n out next line′ hold′ n′ out′ m
-      → Ready hold′ n′ bytes′ numbers′ out′ → length bytes′ ≡ length bytes → length numbers′ ≡ length numbers → length out′ ≡ length out
-      → Taken next line′ n′ hold′ bytes′ numbers′ out′
-  taken-more {from} {line} {n} {hold} {next = next} w l f r b u o =
-      let s = holding number (take held hold₀) in
+  pub taken-more : {from line n sent : ℕ} {hold bytes : List ℕ} {numbers : List ℤ} {out : List ℕ} {next line′ n′ : ℕ} {hold′ bytes′ : List ℕ} {numbers′ : List ℤ} {out′ : List ℕ} {m took : ℕ}
+      → Taken from line n sent hold bytes numbers out → from < length chunk → Feeds chunk from line hold n out next line′ hold′ n′ out′ m
+      → Ready hold′ n′ bytes′ numbers′ out′ → took ≤ m → m ≤ took → length bytes′ ≡ length bytes → length numbers′ ≡ length numbers → length out′ ≡ length out
+      → Taken next line′ n′ (sent + took) hold′ bytes′ numbers′ out′
+  taken-more {from} {line} {n} {sent} {hold} {next = next} {m = m} w l f r a z b u o =
       let go = f .goes l in
+      let s = holding line (take n hold) in
       let e : next ≡ from + (next - from) = omega arith in
-      let p : take next chunk ≡ take from chunk ++ part from next chunk = ap (λ z. take z chunk) e ∙ take-add from (next - from) chunk in
+      let p : take next chunk ≡ take from chunk ++ part from next chunk = ap (λ y. take y chunk) e ∙ take-add from (next - from) chunk in
+      let text : put begun (take next chunk) ≡ put begun (take from chunk) ++ put s (part from next chunk) =
+      ap (put begun) p ∙ put-append begun (take from chunk) (part from next chunk) ∙ ap (λ y. put begun (take from chunk) ++ put y (part from next chunk)) (w .leaves) in
+      let long : m ≡ length (put s (part from next chunk)) = front-length (f .puts) in
       record {
         inside = f .inside;
+        grows = omega (arith, w .grows, f .grows);
         count = omega (arith, w .count, f .count);
-        leaves = ap (after s) p ∙ after-append s (take from chunk) (part from next chunk) ∙ ap (λ z. after z (part from next chunk)) (w .leaves) ∙ f .leaves;
+        leaves = ap (after begun) p ∙ after-append begun (take from chunk) (part from next chunk) ∙ ap (λ y. after y (part from next chunk)) (w .leaves) ∙ f .leaves;
+        given = omega (arith, w .given, long, length-append (put begun (take from chunk)) (put s (part from next chunk)), ap length text);
+        low = omega (arith, w .low, f .puts .fits, r .narrow);
         ready = r;
         hold-long = r .room ∙ sym (w .ready .room) ∙ w .hold-long;
         bytes-long = b ∙ w .bytes-long;
@@ -197,19 +280,47 @@ module _ (chunk : List ℕ) (number : ℕ) (hold₀ : List ℕ) (held : ℕ) (by
         out-long = o ∙ w .out-long;
       }
 
-  pub taken-stop : {from line n : ℕ} {hold bytes : List ℕ} {numbers : List ℤ} {out : List ℕ} → Taken from line n hold bytes numbers out
-      → Drains chunk number hold₀ held line hold n false × Ready hold n bytes numbers out
-  taken-stop w = (record { count = omega (arith, w .count, w .inside); leaves = λ e. absurd (false≢true e) }, w .ready)
+  pub taken-all : {from line n sent : ℕ} {hold bytes : List ℕ} {numbers : List ℤ} {out : List ℕ} → Taken from line n sent hold bytes numbers out
+      → length chunk ≤ from → Drains chunk number hold₀ held line hold n sent true Whole × Ready hold n bytes numbers out
+  taken-all {from} w l =
+      let all = sym (take-all from chunk l) in (
+        record {
+          grows = w .grows;
+          count = λ _. omega (arith, w .count, w .inside);
+          leaves = λ _. ap (after begun) all ∙ w .leaves;
+          taken = λ _. w .given ∙ ap (λ y. length (put begun y)) (sym all);
+          lost = λ e _. absurd (false≢true (sym e));
+        },
+        w .ready,
+      )
 
-  pub taken-all : {from line n : ℕ} {hold bytes : List ℕ} {numbers : List ℤ} {out : List ℕ} → Taken from line n hold bytes numbers out
-      → length chunk ≤ from → Drains chunk number hold₀ held line hold n true × Ready hold n bytes numbers out
-  taken-all {from} w l = (
+-- no other way of ending is the whole one
+abbrev isWhole : End → Bool
+isWhole Whole = true
+isWhole Unread = false
+isWhole Unwritten = false
+
+unread : Unread ≡ Whole → ⊥
+unread e = false≢true (ap isWhole e)
+
+unwritten : Unwritten ≡ Whole → ⊥
+unwritten e = false≢true (ap isWhole e)
+
+-- a write failed
+pub stays-ready : {hold : List ℕ} {held : ℕ} {bytes : List ℕ} {numbers : List ℤ} {out hold′ : List ℕ} {held′ : ℕ} {bytes′ : List ℕ} {numbers′ : List ℤ} {out′ : List ℕ}
+    → Ready hold held bytes numbers out → Ready hold′ held′ bytes′ numbers′ out′ → Ready hold′ held bytes′ numbers′ out′
+stays-ready w r = record { room = r .room; within = w .within; clean = r .clean; wide = r .wide; narrow = r .narrow }
+
+pub drains-lost : {chunk : List ℕ} {number : ℕ} {hold : List ℕ} {held line : ℕ} (ends : ℕ) {holds : List ℕ} {n sent : ℕ} → number ≤ line
+    → Drains chunk number hold held (line + ends) holds n sent false Unwritten
+drains-lost ends h =
     record {
-      count = omega (arith, w .count, w .inside);
-      leaves = λ _. ap (after (holding number (take held hold₀))) (sym (take-all from chunk l)) ∙ w .leaves;
-    },
-    w .ready,
-  )
+      grows = omega arith;
+      count = λ e. absurd (false≢true e);
+      leaves = λ e. absurd (false≢true e);
+      taken = λ e. absurd (false≢true e);
+      lost = λ _ e. unwritten e;
+    }
 
 -- ---- the end of the input
 pub ends-none : (n : ℕ) (hold out : List ℕ) (held : ℕ) → held ≡ 0 → Fronts (finished (holding n (take held hold))) out out 0
@@ -220,17 +331,127 @@ last-entry n [] h = absurd (omega arith)
 last-entry n (b ∷ l) h = refl
 
 pub ends-line : (n : ℕ) (hold out : List ℕ) (held r : ℕ) (out′ bytes : List ℕ) (numbers : List ℤ) (bytes′ : List ℕ) (numbers′ : List ℤ) → Ready hold held bytes numbers out → 0 < held
-    → Printed entryLimit out 0 (entry n (take held hold)) out′ r bytes numbers bytes′ numbers′ → Fronts (finished (holding n (take held hold))) out out′ r
-ends-line n hold out held r out′ bytes numbers bytes′ numbers′ w h p =
+    → Printed entryLimit out 0 (entry n (part 0 held hold)) out′ r bytes numbers bytes′ numbers′ → Fronts (finished (holding n (take held hold))) out out′ r
+ends-line n hold out held r out′ bytes numbers bytes′ numbers′ w h q =
+    let p = subst (λ z. Printed entryLimit out 0 (entry n z) out′ r bytes numbers bytes′ numbers′) (whole-front held hold) q in
     let k : length (take held hold) ≡ held = length-take-le held hold (omega (arith, w .room, w .within)) in
     subst (λ z. Fronts z out out′ r) (sym (last-entry n (take held hold) (omega arith)))
     (fronts out (entry n (take held hold)) out′ r (p .puts .holds) (omega (arith, p .puts .ends)) (omega (arith, p .puts .near, w .wide)) (p .out-long))
+
+pub owed-last : {number : ℕ} {hold : List ℕ} {held : ℕ} {out outs : List ℕ} {n : ℕ} → Fronts (finished (holding number (take held hold))) out outs n
+    → OwedLast number hold held outs n
+owed-last f = record { fits = f .fits; text = f .front }
+
+pub closes-whole : {number : ℕ} {hold : List ℕ} {held : ℕ} {out outs : List ℕ} {n took : ℕ} → Fronts (finished (holding number (take held hold))) out outs n
+    → took ≤ n → n ≤ took → Closes number hold held number took false Whole
+closes-whole f a z = record { same = refl; over = refl; taken = λ _. omega (arith, front-length f) }
+
+pub closes-lost : {number : ℕ} {hold : List ℕ} {held took : ℕ} → Closes number hold held number took false Unwritten
+closes-lost = record { same = refl; over = refl; taken = λ e. absurd (unwritten e) }
+
+-- ---- one read
+pub came-fits : {room room′ n : ℕ} {g : Got} → g ≡ Came n → Received room g → room′ ≡ room → n ≤ room′
+came-fits {room} {room′} {n} e r l = let h : n ≤ room = subst (Received room) e r in omega arith
+
+pub front-fits : (n : ℕ) (l : List ℕ) → length l ≤ readLimit → length (take n l) ≤ readLimit
+front-fits n l h = omega (arith, length-take n l)
+
+module _ {room : List ℕ} {number : ℕ} {hold : List ℕ} {held line : ℕ} {holds : List ℕ} {n : ℕ} {bytes : List ℕ} {numbers : List ℤ} {out : List ℕ} {sent : ℕ} {more : Bool} {end : End} where
+  pub turns-chunk : (got : ℕ) → got ≤ length room → length room ≤ readLimit → Drains (take got room) number hold held line holds n sent more end
+      → Ready holds n bytes numbers out → Turns room number hold held line holds n bytes numbers out sent more end
+  turns-chunk got h k d r =
+      record {
+        grows = d .grows;
+        count = λ e. omega (arith, d .count e, length-take-le got room h);
+        ready = λ _. r;
+        got = got;
+        leaves = d .leaves;
+        taken = d .taken;
+        closed = λ e f. absurd (d .lost e f);
+      }
+
+  pub turns-closed : Closes number hold held line sent more end → Turns room number hold held line holds n bytes numbers out sent more end
+  turns-closed c =
+      record {
+        grows = omega (arith, c .same);
+        count = λ e. absurd (false≢true (sym (c .over) ∙ e));
+        ready = λ e. absurd (false≢true (sym (c .over) ∙ e));
+        got = 0;
+        leaves = λ e. absurd (false≢true (sym (c .over) ∙ e));
+        taken = λ e. absurd (false≢true (sym (c .over) ∙ e));
+        closed = λ _ f. c .taken f;
+      }
+
+pub turns-failed : {room : List ℕ} {number : ℕ} {hold : List ℕ} {held : ℕ} {holds : List ℕ} {n : ℕ} {bytes : List ℕ} {numbers : List ℤ} {out : List ℕ} {sent : ℕ}
+    → Turns room number hold held number holds n bytes numbers out sent false Unread
+turns-failed =
+    record {
+      grows = omega arith;
+      count = λ e. absurd (false≢true e);
+      ready = λ e. absurd (false≢true e);
+      got = 0;
+      leaves = λ e. absurd (false≢true e);
+      taken = λ e. absurd (false≢true e);
+      closed = λ _ f. absurd (unread f);
+    }
+
+-- ---- a failure, told
+pub one-end : (b : ℕ) → b ≡ lineEnd → (_≡_ {A = ℕ} 1 (cond (eqb b lineEnd) 1 0)) × (1 ≤ 1)
+one-end b e = (took (eqb b lineEnd) 1 0 (eq-eqb b lineEnd e), omega arith)
+
+pub no-end : (b : ℕ) → (b ≡ lineEnd → ⊥) → (_≡_ {A = ℕ} 0 (cond (eqb b lineEnd) 1 0)) × (0 ≤ 1)
+no-end b h = (passed (eqb b lineEnd) 1 0 0 (ne-eqb b lineEnd h) refl, omega arith)
+
+-- the ends among the first i bytes are counted
+pub record Counted (text : List ℕ) (i ends : ℕ) : Type 0 where
+  pub are : ends ≡ lineEnds (take i text)
+  pub few : ends ≤ i
+
+ends-append : (l : List ℕ) (b : ℕ) → lineEnds (l ++ (b ∷ [])) ≡ lineEnds l + cond (eqb b lineEnd) 1 0
+unfolding lineEnds
+ends-append [] b = omega arith
+ends-append (x ∷ l) b = omega (arith, ends-append l b)
+
+pub counted-start : (text : List ℕ) → Counted text 0 0
+unfolding lineEnds
+counted-start text = record { are = refl; few = omega arith }
+
+pub counted-more : {text : List ℕ} {i ends one : ℕ} → Counted text i ends → i < length text → (one ≡ cond (eqb (getD text i 0) lineEnd) 1 0) × (one ≤ 1)
+    → Counted text (i + 1) (ends + one)
+counted-more {text} {i} {ends} {one} w l e =
+    let b = getD text i 0 in
+    let one-more : take (i + 1) text ≡ take i text ++ (b ∷ []) = ap (λ z. take z text) (add-one i) ∙ take-suc text i 0 l in
+    record {
+      are = omega (arith, w .are, e .0, ends-append (take i text) b, ap lineEnds one-more);
+      few = omega (arith, w .few, e .1);
+    }
+
+pub counted-all : {text : List ℕ} {n i ends : ℕ} → i ≤ n → n ≤ i → Counted text i ends → (ends ≡ lineEnds (take n text)) × (ends ≤ n)
+counted-all {text} {n} {i} h k w = let e : i ≡ n = omega arith in (w .are ∙ ap (λ z. lineEnds (take z text)) e, omega (arith, w .few))
+
+-- words, a number and the end of the line, one behind the other
+pub notice-fronts : (words : List ℕ) (number : ℕ) (out : List ℕ) {one two left : List ℕ} {a r : ℕ} → length words + noticeRoom ≤ length out
+    → one ≡ take (length words) words ++ drop (length words) out → Puts 20 one (length words) (decimal number) two a → Puts 1 two a (lineEnd ∷ []) left r
+    → length left ≡ length out → Fronts (noticed words number) out left r
+notice-fronts words number out {one} {two} {left} {a} {r} h e p q l =
+    let d = decimal number in
+    let n = length words in
+    let from-front : n ≡ 0 + n = omega arith in
+    let begins : one ≡ stored out 0 words =
+    e ∙ ap (λ z. z ++ drop n out) (take-all n words (omega arith) ∙ sym (take-all (length out) words (omega arith))) ∙ sym (stored-whole out words) in
+    let text : left ≡ stored out 0 (words ++ (d ++ (lineEnd ∷ []))) =
+    q .holds ∙ ap (λ z. stored z a (lineEnd ∷ [])) (p .holds ∙ ap (λ z. stored z n d) begins) ∙ ap (λ z. stored (stored (stored out 0 words) n d) z (lineEnd ∷ [])) (p .ends)
+    ∙ sym (stored-append (stored out 0 words) n d (lineEnd ∷ [])) ∙ ap (λ z. stored (stored out 0 words) z (d ++ (lineEnd ∷ []))) from-front
+    ∙ sym (stored-append out 0 words (d ++ (lineEnd ∷ []))) in
+    fronts out (words ++ (d ++ (lineEnd ∷ []))) left r text
+    (omega (arith, q .ends, p .ends, length-append words (d ++ (lineEnd ∷ [])), length-append d (lineEnd ∷ []))) (omega (arith, q .near, p .near)) l
 
 -- ---- turn upon turn: as many lines are still to be numbered as reads can bring
 module _ (room₀ hold₀ bytes₀ : List ℕ) (numbers₀ : List ℤ) (out₀ : List ℕ) where
   pub record Serves (room hold bytes : List ℕ) (numbers : List ℤ) (out : List ℕ) (number held turns : ℕ) : Type 0 where
     pub room-fits : length room ≤ readLimit
-    pub count : number + readLimit * turns ≤ numberLimit
+    pub some : 1 ≤ number
+    pub count : number + readLimit * turns + outputLimit ≤ numberLimit
     pub ready : Ready hold held bytes numbers out
     pub room-long : length room ≡ length room₀
     pub hold-long : length hold ≡ length hold₀
@@ -238,19 +459,20 @@ module _ (room₀ hold₀ bytes₀ : List ℕ) (numbers₀ : List ℤ) (out₀ :
     pub numbers-long : length numbers ≡ length numbers₀
     pub out-long : length out ≡ length out₀
 
-  pub serves-start : {turns : ℕ} → length room₀ ≤ readLimit → 1 + readLimit * turns ≤ numberLimit → Ready hold₀ 0 bytes₀ numbers₀ out₀
+  pub serves-start : {turns : ℕ} → length room₀ ≤ readLimit → 1 + readLimit * turns + outputLimit ≤ numberLimit → Ready hold₀ 0 bytes₀ numbers₀ out₀
       → Serves room₀ hold₀ bytes₀ numbers₀ out₀ 1 0 turns
   serves-start l n w =
-      record { room-fits = l; count = n; ready = w; room-long = refl; hold-long = refl; bytes-long = refl; numbers-long = refl; out-long = refl }
+      record { room-fits = l; some = omega arith; count = n; ready = w; room-long = refl; hold-long = refl; bytes-long = refl; numbers-long = refl; out-long = refl }
 
-  pub serves-more : {room hold bytes : List ℕ} {numbers : List ℤ} {out : List ℕ} {number held turns : ℕ} {room′ hold′ bytes′ : List ℕ} {numbers′ : List ℤ} {out′ : List ℕ} {line n : ℕ} {more : Bool}
-      → Serves room hold bytes numbers out number held turns → 0 < turns → Turns number line hold′ n bytes′ numbers′ out′ more → more ≡ true
+  pub serves-more : {room hold bytes : List ℕ} {numbers : List ℤ} {out : List ℕ} {number held turns : ℕ} {room′ hold′ bytes′ : List ℕ} {numbers′ : List ℤ} {out′ : List ℕ} {line n sent : ℕ} {more : Bool} {end : End}
+      → Serves room hold bytes numbers out number held turns → 0 < turns → Turns room′ number hold held line hold′ n bytes′ numbers′ out′ sent more end → more ≡ true
       → length room′ ≡ length room → length hold′ ≡ length hold → length bytes′ ≡ length bytes → length numbers′ ≡ length numbers → length out′ ≡ length out
       → Serves room′ hold′ bytes′ numbers′ out′ line n (turns - 1)
   serves-more w l t e r h b u o =
       record {
         room-fits = omega (arith, w .room-fits);
-        count = omega (arith, w .count, t .count);
+        some = omega (arith, w .some, t .grows);
+        count = omega (arith, w .count, t .count e);
         ready = t .ready e;
         room-long = r ∙ w .room-long;
         hold-long = h ∙ w .hold-long;
@@ -263,8 +485,8 @@ module _ (room₀ hold₀ bytes₀ : List ℕ) (numbers₀ : List ℤ) (out₀ :
 zeros-all : {A : Type 0} (n : ℕ) (z : A) → take n (replicate n z) ≡ replicate n z
 zeros-all n z = take-all n (replicate n z) (omega (arith, length-replicate n z))
 
-pub ready-new : (room : ℕ) → entryLimit ≤ room → Ready (replicate holdLimit 0) 0 (replicate bytesSize 0) (replicate numbersSize (pos 0)) (replicate room 0)
-ready-new room h =
+pub ready-new : (room : ℕ) → entryLimit ≤ room → room ≤ outputLimit → Ready (replicate holdLimit 0) 0 (replicate bytesSize 0) (replicate numbersSize (pos 0)) (replicate room 0)
+ready-new room h k =
     record {
       room = length-replicate {A = ℕ} holdLimit 0;
       within = omega arith;
@@ -275,4 +497,5 @@ ready-new room h =
         numbers-zero = zeros-all numbersSize (pos 0);
       };
       wide = omega (arith, length-replicate {A = ℕ} room 0);
+      narrow = omega (arith, length-replicate {A = ℕ} room 0);
     }

@@ -107,3 +107,35 @@ pub in-chunks : (cs : List (List ℕ)) → putAll start cs ++ finished (afterAll
 in-chunks cs =
     ap (λ z. z ++ finished (afterAll start cs)) (put-joined start cs) ∙ ap (λ z. put start (joined cs) ++ finished z) (after-joined start cs)
     ∙ in-one (joined cs)
+
+-- ---- what is handed over, piece by piece: each text is all that is put out for the next bytes of the input, and the last one what is put out at its end
+pub record Piece : Type 0 where
+  pub bytes : List ℕ
+  pub text : List ℕ
+
+unfoldable pub bytesIn : List Piece → List ℕ
+bytesIn [] = []
+bytesIn (p ∷ ps) = p .bytes ++ bytesIn ps
+
+unfoldable pub textsOf : List Piece → List ℕ
+textsOf [] = []
+textsOf (p ∷ ps) = p .text ++ textsOf ps
+
+abbrev pub HandsOver : State → List Piece → List ℕ → Type 0
+HandsOver s [] last = last ≡ finished s
+HandsOver s (p ∷ ps) last = (p .text ≡ put s (p .bytes)) × HandsOver (after s (p .bytes)) ps last
+
+rest-append : (s : State) (a b : List ℕ) → rest s (a ++ b) ≡ put s a ++ rest (after s a) b
+rest-append s a b =
+    ap (λ z. z ++ finished (after s (a ++ b))) (put-append s a b) ∙ ap (λ z. (put s a ++ put (after s a) b) ++ finished z) (after-append s a b)
+    ∙ append-assoc (put s a) (put (after s a) b) (finished (after (after s a) b))
+
+pieces : (s : State) (ps : List Piece) (last : List ℕ) → HandsOver s ps last → textsOf ps ++ last ≡ rest s (bytesIn ps)
+unfolding textsOf bytesIn put after
+pieces s [] last h = h
+pieces s (p ∷ ps) last h =
+    append-assoc (p .text) (textsOf ps) last ∙ ap (λ z. z ++ (textsOf ps ++ last)) (h .0)
+    ∙ ap (λ z. put s (p .bytes) ++ z) (pieces (after s (p .bytes)) ps last (h .1)) ∙ sym (rest-append s (p .bytes) (bytesIn ps))
+
+pub handed-over : (ps : List Piece) (last : List ℕ) → HandsOver start ps last → textsOf ps ++ last ≡ register (bytesIn ps)
+handed-over ps last h = pieces start ps last h ∙ in-one (bytesIn ps)

@@ -1,29 +1,42 @@
 // Lines out of chunks, and the register program over them. "Byte 10 ends a line and is no part of it; nothing after the last one is no line."
+//
+// What is said of the bytes that the program reads and writes. `hand` and `hand_last` alone write to standard output, and each asks that the bytes
+// handed over are exactly those that the definitions put out, in the state before, for the bytes just taken in (`Owed`, `OwedLast`); every caller proves
+// it. `turn` says that the state goes on by the bytes that the room holds from the read, and that as many bytes were taken as are put out for them. Pieces
+// owed so, one behind the other from the start, are `register` of what was read (specs/Whole.antt, `handed-over`). Of the system it is assumed that a
+// read leaves at the front of the room what it answers for, and that a write takes the front of what it is handed, in order, as its answer counts.
 use bounds::copy_bytes;
 use entries::put_entry;
+use libc::STDERR_FILENO;
 use libc::STDIN_FILENO;
 use libc::STDOUT_FILENO;
 use scope::tables::Tables;
 ghost use mathlib.Core.Path.{_≡_};
+ghost use mathlib.Core.Bool.{cond};
 ghost use Prim.Native.Nat.{_+_, _≤_, min};
+ghost use lib.Dec.{eqb};
 ghost use lib.ListN.{length, take};
 ghost use Rattle.entries.specs.Entry.{entry, entryLimit, Printed};
 ghost use Rattle.reader.specs.ReadSays.{Clean};
-ghost use Rattle.stream.specs.Feeding.{holdLimit, holding, finished};
-ghost use Rattle.stream.specs.Promises.{LineEnd, Keeps, Cuts, numberLimit, readLimit, Ready, Fronts, Feeds, Drains, Turns};
+ghost use Rattle.stream.specs.Lines.{lineEnd};
+ghost use Rattle.stream.specs.Feeding.{holdLimit, holding, finished, part};
+ghost use Rattle.stream.specs.Promises.{LineEnd, Keeps, Cuts, numberLimit, readLimit, outputLimit, Ready, Fronts, Runs, Feeds, Owed, OwedLast, noticeRoom, noticed, lineEnds, Received, Drains, Closes, Turns};
 
-// So many bytes are read at once, at most; so many of a line are held, one more than a line may have; so many has the output, of which an entry takes
-// no more than the last.
+// So many bytes are read at once, at most; so many of a line are held, one more than a line may have; so many has an entry, at most; so many has the
+// output.
 const READ: usize = 8192;
 
 const HOLD: usize = Tables::LINE + 1;
 
-const OUTPUT: usize = 20480;
-
 const ENTRY: usize = 4206;
+
+const OUTPUT: usize = 3 * ENTRY;
 
 // More reads than any run makes: at a million a second, 35 years.
 const TURNS: u64 = 1 << 50;
+
+// So often in a row is a call made that is interrupted or would block.
+const PATIENCE: u64 = 1 << 40;
 
 // A chunk cut behind the end of a line, or at its own: where the next byte stands, and how many bytes are held of the line.
 struct Cut {
@@ -95,30 +108,80 @@ struct Fed {
     put: usize,
 }
 
-// What is kept from one chunk to the next, and whether there is more to do: the input has not ended, and the output takes what is written.
+// How reading ended: with the input, with a read or with a write that failed.
+enum End {
+    Whole,
+    Unread,
+    Unwritten,
+}
+
+// What is kept from one chunk to the next, how many bytes were taken by the output, and whether there is more to do; if not, how reading ended, and
+// the number is that of the first line whose entry is not out.
 struct Kept {
     number: u64,
     held: usize,
+    sent: usize,
     more: bool,
+    end: End,
 }
 
-// The entry of the line that is held, from a place of the output on; the place behind it.
-fn put_held(
+// The entry of a line that is a part of some bytes, from a place of the output on; the place behind it.
+fn put_part(
     number: u64,
-    hold: &[u8],
-    held: usize,
+    line: &[u8],
+    from: usize,
+    end: usize,
     bytes: &mut [u8],
     numbers: &mut [i64],
     out: &mut [u8],
     at: usize,
 ) -> usize
-    requires { ⌜ (held ≤ length (now hold)) × Clean (now bytes) (now numbers) × (at + entryLimit ≤ length (now out)) ⌝ }
-    ensures { λ r. ⌜ Printed entryLimit (now (out .entry)) at (entry number (take held (now (hold .entry)))) (now (out .exit)) r (now (bytes .entry)) (now (numbers .entry)) (now (bytes .exit)) (now (numbers .exit)) ⌝ }
+    requires { ⌜ (from ≤ end) × (end ≤ length (now line)) × Clean (now bytes) (now numbers) × (at + entryLimit ≤ length (now out)) ⌝ }
+    ensures { λ r. ⌜ Printed entryLimit (now (out .entry)) at (entry number (part from end (now (line .entry)))) (now (out .exit)) r (now (bytes .entry)) (now (numbers .entry)) (now (bytes .exit)) (now (numbers .exit)) ⌝ }
 {
-    put_entry(number, &hold[..held], bytes, numbers, out, at)
+    put_entry(number, &line[from..end], bytes, numbers, out, at)
 }
 
-// Takes a chunk in from a place on, and puts the entries of the lines that end there at the front of the output, while it has room for one more.
+// The entries of the lines that lie whole in the chunk from a place on, while the output has room for one more.
+fn put_lines(
+    chunk: &[u8],
+    from: usize,
+    number: u64,
+    bytes: &mut [u8],
+    numbers: &mut [i64],
+    out: &mut [u8],
+    at: usize,
+) -> Fed
+    requires { ⌜ (from ≤ length (now chunk)) × (number + length (now chunk) ≤ numberLimit + from) × Clean (now bytes) (now numbers) × (at ≤ length (now out)) ⌝ }
+    ensures { λ r. ⌜ Runs (now (chunk .entry)) from number (now (out .entry)) at (r .next) (r .number) (r .held) (now (out .exit)) (r .put) × Clean (now (bytes .exit)) (now (numbers .exit)) ⌝ }
+{
+    let mut next = from;
+    let mut line = number;
+    let mut n = at;
+    while ENTRY <= out.len() - n {
+        let end = line_end(chunk, next);
+        if end == chunk.len() {
+            return Fed {
+                next,
+                number: line,
+                held: 0,
+                put: n,
+            };
+        }
+        n = put_part(line, chunk, next, end, bytes, numbers, out, n);
+        next = end + 1;
+        line += 1;
+    }
+    Fed {
+        next,
+        number: line,
+        held: 0,
+        put: n,
+    }
+}
+
+// Takes a chunk in from a place on. The line that is begun goes on to the chunk's end; or it ends there, and its entry and those of the lines behind it
+// are put at the front of the output, while it has room. What was held before stays where it is.
 fn feed(
     chunk: &[u8],
     from: usize,
@@ -132,35 +195,174 @@ fn feed(
     requires { ⌜ (from ≤ length (now chunk)) × (number + length (now chunk) ≤ numberLimit + from) × Ready (now hold) held (now bytes) (now numbers) (now out) ⌝ }
     ensures { λ r. ⌜ Feeds (now (chunk .entry)) from number (now (hold .entry)) held (now (out .entry)) (r .next) (r .number) (now (hold .exit)) (r .held) (now (out .exit)) (r .put) × Ready (now (hold .exit)) (r .held) (now (bytes .exit)) (now (numbers .exit)) (now (out .exit)) ⌝ }
 {
-    let mut next = from;
-    let mut line = number;
-    let mut n = held;
-    let mut at: usize = 0;
-    while ENTRY <= out.len() - at {
-        let cut = gather(chunk, next, hold, n);
-        next = cut.next;
-        n = cut.held;
-        if !cut.ended {
-            return Fed {
-                next,
-                number: line,
-                held: n,
-                put: at,
-            };
-        }
-        at = put_held(line, hold, n, bytes, numbers, out, at);
-        line += 1;
-        n = 0;
+    let cut = gather(chunk, from, hold, held);
+    let next = cut.next;
+    let n = cut.held;
+    if !cut.ended {
+        return Fed {
+            next,
+            number,
+            held: n,
+            put: 0,
+        };
     }
-    Fed {
-        next,
-        number: line,
-        held: n,
-        put: at,
-    }
+    let at = put_part(number, hold, 0, n, bytes, numbers, out, 0);
+    put_lines(chunk, next, number + 1, bytes, numbers, out, at)
 }
 
-// Takes a whole chunk in and writes out what it ends.
+// ---- the system calls
+
+// Whether a call that failed is to be made again: it was interrupted; or it would have blocked, and then others run first.
+fn again() -> bool {
+    let e = os::errno();
+    if e == libc::EINTR {
+        return true;
+    }
+    if e == libc::EAGAIN {
+        libc::sched_yield();
+        return true;
+    }
+    false
+}
+
+// How many bytes a write took of those from a place up to another; none, where it failed.
+fn send_some(to: i32, text: &[u8], from: usize, end: usize) -> usize
+    requires { ⌜ (from ≤ end) × (end ≤ length (now text)) ⌝ }
+    ensures { λ r. ⌜ from + r ≤ end ⌝ }
+{
+    let mut tries: u64 = PATIENCE;
+    while tries > 0 {
+        let rest = &text[from..end];
+        let got = libc::write(to, rest);
+        if got >= 0 {
+            return io::count(got, rest);
+        }
+        if !again() {
+            return 0;
+        }
+        tries -= 1;
+    }
+    0
+}
+
+// How many of the first n bytes were taken: all of them, where no write failed.
+fn send(to: i32, text: &[u8], n: usize) -> usize
+    requires { ⌜ n ≤ length (now text) ⌝ }
+    ensures { λ r. ⌜ r ≤ n ⌝ }
+{
+    let mut done: usize = 0;
+    while done < n {
+        let got = send_some(to, text, done, n);
+        if got == 0 {
+            return done;
+        }
+        done += got;
+    }
+    done
+}
+
+// The entries of the lines that end in a part of a chunk, to standard output: the first n bytes of the output, which are all that is put out for that
+// part. How many were taken.
+fn hand(
+    chunk: &[u8],
+    from: usize,
+    next: usize,
+    number: u64,
+    hold: &[u8],
+    held: usize,
+    out: &[u8],
+    n: usize,
+) -> usize
+    requires { ⌜ Owed (now chunk) from next number (now hold) held (now out) n ⌝ }
+    ensures { λ r. ⌜ r ≤ n ⌝ }
+{
+    send(STDOUT_FILENO, out, n)
+}
+
+// The same at the end of the input.
+fn hand_last(number: u64, hold: &[u8], held: usize, out: &[u8], n: usize) -> usize
+    requires { ⌜ OwedLast number (now hold) held (now out) n ⌝ }
+    ensures { λ r. ⌜ r ≤ n ⌝ }
+{
+    send(STDOUT_FILENO, out, n)
+}
+
+// What a read brought: so many bytes at the front of the room, or nothing, as it failed.
+enum Got {
+    Came(usize),
+    Failed,
+}
+
+fn receive(room: &mut [u8]) -> Got
+    ensures { λ r. ⌜ Received (length (now (room .entry))) r ⌝ }
+{
+    let mut tries: u64 = PATIENCE;
+    while tries > 0 {
+        let got = libc::read(STDIN_FILENO, room);
+        if got >= 0 {
+            return Got::Came(io::count(got, room));
+        }
+        if !again() {
+            return Got::Failed;
+        }
+        tries -= 1;
+    }
+    Got::Failed
+}
+
+// ---- a failure, told
+
+fn one_if_end(b: u8) -> u64
+    ensures { λ r. ⌜ (r ≡ cond (eqb b lineEnd) 1 0) × (r ≤ 1) ⌝ }
+{
+    if b == 10 {
+        return 1;
+    }
+    0
+}
+
+// How many lines end among the first n bytes.
+fn lines_in(text: &[u8], n: usize) -> u64
+    requires { ⌜ n ≤ length (now text) ⌝ }
+    ensures { λ r. ⌜ (r ≡ lineEnds (take n (now (text .entry)))) × (r ≤ n) ⌝ }
+{
+    let mut i: usize = 0;
+    let mut ends: u64 = 0;
+    while i < n {
+        ends += one_if_end(text[i]);
+        i += 1;
+    }
+    ends
+}
+
+// Words and a number as a line at the front of the output; how many bytes it has.
+fn notice(words: &[u8], number: u64, out: &mut [u8]) -> usize
+    requires { ⌜ (length (now words) + noticeRoom ≤ length (now out)) × (length (now out) ≤ outputLimit) ⌝ }
+    ensures { λ r. ⌜ Fronts (noticed (now (words .entry)) number) (now (out .entry)) (now (out .exit)) r ⌝ }
+{
+    let n = words.len();
+    copy_bytes(words, n, out);
+    let a = writer::put_decimal(number, out, n);
+    writer::put(out, a, 10)
+}
+
+// A notice to standard error. Whether it is taken is not asked.
+fn say(words: &[u8], number: u64, out: &[u8], n: usize)
+    requires { ⌜ (n ≤ length (now out)) × (take n (now out) ≡ noticed (now words) number) ⌝ }
+{
+    send(STDERR_FILENO, out, n);
+}
+
+fn tell(words: &[u8], number: u64, out: &mut [u8])
+    requires { ⌜ (length (now words) + noticeRoom ≤ length (now out)) × (length (now out) ≤ outputLimit) ⌝ }
+{
+    let n = notice(words, number, out);
+    say(words, number, out, n);
+}
+
+// ---- the program
+
+// Takes a whole chunk in and hands over what it ends, piece by piece.
 fn drain(
     chunk: &[u8],
     number: u64,
@@ -170,30 +372,38 @@ fn drain(
     numbers: &mut [i64],
     out: &mut [u8],
 ) -> Kept
-    requires { ⌜ (number + length (now chunk) ≤ numberLimit) × Ready (now hold) held (now bytes) (now numbers) (now out) ⌝ }
-    ensures { λ r. ⌜ Drains (now (chunk .entry)) number (now (hold .entry)) held (r .number) (now (hold .exit)) (r .held) (r .more) × Ready (now (hold .exit)) (r .held) (now (bytes .exit)) (now (numbers .exit)) (now (out .exit)) ⌝ }
+    requires { ⌜ (length (now chunk) ≤ readLimit) × (number + readLimit + outputLimit ≤ numberLimit) × Ready (now hold) held (now bytes) (now numbers) (now out) ⌝ }
+    ensures { λ r. ⌜ Drains (now (chunk .entry)) number (now (hold .entry)) held (r .number) (now (hold .exit)) (r .held) (r .sent) (r .more) (r .end) × Ready (now (hold .exit)) (r .held) (now (bytes .exit)) (now (numbers .exit)) (now (out .exit)) ⌝ }
 {
     let mut from: usize = 0;
     let mut line = number;
     let mut n = held;
+    let mut sent: usize = 0;
     while from < chunk.len() {
         let fed = feed(chunk, from, line, hold, n, bytes, numbers, out);
-        from = fed.next;
-        line = fed.number;
-        n = fed.held;
+        let next = fed.next;
         let put = fed.put;
-        if !io::write_all(STDOUT_FILENO, &out[..put]) {
+        let taken = hand(chunk, from, next, line, hold, n, out, put);
+        if taken < put {
             return Kept {
-                number: line,
+                number: line + lines_in(out, taken),
                 held: n,
+                sent: sent + taken,
                 more: false,
+                end: End::Unwritten,
             };
         }
+        from = next;
+        line = fed.number;
+        n = fed.held;
+        sent += taken;
     }
     Kept {
         number: line,
         held: n,
+        sent,
         more: true,
+        end: End::Whole,
     }
 }
 
@@ -212,10 +422,62 @@ fn finish(
     if held == 0 {
         return 0;
     }
-    put_held(number, hold, held, bytes, numbers, out, 0)
+    put_part(number, hold, 0, held, bytes, numbers, out, 0)
 }
 
-// One read. What comes is taken in; where nothing comes the input is at its end, and a line that is begun ends with it.
+// The input is at its end, and a line that is begun ends with it.
+fn close(
+    number: u64,
+    hold: &[u8],
+    held: usize,
+    bytes: &mut [u8],
+    numbers: &mut [i64],
+    out: &mut [u8],
+) -> Kept
+    requires { ⌜ Ready (now hold) held (now bytes) (now numbers) (now out) ⌝ }
+    ensures { λ r. ⌜ Closes number (now (hold .entry)) held (r .number) (r .sent) (r .more) (r .end) ⌝ }
+{
+    let put = finish(number, hold, held, bytes, numbers, out);
+    let taken = hand_last(number, hold, held, out, put);
+    if taken < put {
+        return Kept {
+            number,
+            held,
+            sent: taken,
+            more: false,
+            end: End::Unwritten,
+        };
+    }
+    Kept {
+        number,
+        held,
+        sent: taken,
+        more: false,
+        end: End::Whole,
+    }
+}
+
+// What a read brought is taken in; where it brought nothing, that is all.
+fn take_in(
+    room: &[u8],
+    n: usize,
+    number: u64,
+    hold: &mut [u8],
+    held: usize,
+    bytes: &mut [u8],
+    numbers: &mut [i64],
+    out: &mut [u8],
+) -> Kept
+    requires { ⌜ (n ≤ length (now room)) × (length (now room) ≤ readLimit) × (number + readLimit + outputLimit ≤ numberLimit) × Ready (now hold) held (now bytes) (now numbers) (now out) ⌝ }
+    ensures { λ r. ⌜ Turns (now (room .entry)) number (now (hold .entry)) held (r .number) (now (hold .exit)) (r .held) (now (bytes .exit)) (now (numbers .exit)) (now (out .exit)) (r .sent) (r .more) (r .end) ⌝ }
+{
+    if n == 0 {
+        return close(number, hold, held, bytes, numbers, out);
+    }
+    drain(&room[..n], number, hold, held, bytes, numbers, out)
+}
+
+// One read. A line that is begun when a read fails is not answered: nothing says that it has ended.
 fn turn(
     room: &mut [u8],
     number: u64,
@@ -225,26 +487,32 @@ fn turn(
     numbers: &mut [i64],
     out: &mut [u8],
 ) -> Kept
-    requires { ⌜ (length (now room) ≤ readLimit) × (number + readLimit ≤ numberLimit) × Ready (now hold) held (now bytes) (now numbers) (now out) ⌝ }
-    ensures { λ r. ⌜ Turns number (r .number) (now (hold .exit)) (r .held) (now (bytes .exit)) (now (numbers .exit)) (now (out .exit)) (r .more) ⌝ }
+    requires { ⌜ (length (now room) ≤ readLimit) × (number + readLimit + outputLimit ≤ numberLimit) × Ready (now hold) held (now bytes) (now numbers) (now out) ⌝ }
+    ensures { λ r. ⌜ Turns (now (room .exit)) number (now (hold .entry)) held (r .number) (now (hold .exit)) (r .held) (now (bytes .exit)) (now (numbers .exit)) (now (out .exit)) (r .sent) (r .more) (r .end) ⌝ }
 {
-    let got = libc::read(STDIN_FILENO, room);
-    let n = io::count(got, room);
-    if n == 0 {
-        let put = finish(number, hold, held, bytes, numbers, out);
-        io::write_all(STDOUT_FILENO, &out[..put]);
-        return Kept {
+    let got = receive(room);
+    match got {
+        Got::Came(n) => take_in(room, n, number, hold, held, bytes, numbers, out),
+        Got::Failed => Kept {
             number,
             held,
+            sent: 0,
             more: false,
-        };
+            end: End::Unread,
+        },
     }
-    drain(&room[..n], number, hold, held, bytes, numbers, out)
 }
 
 // Reads to the end of the input. A proved loop has to end, and nothing says that the input does: so the loop counts its turns down.
-fn serve(room: &mut [u8], hold: &mut [u8], bytes: &mut [u8], numbers: &mut [i64], out: &mut [u8])
+fn serve(
+    room: &mut [u8],
+    hold: &mut [u8],
+    bytes: &mut [u8],
+    numbers: &mut [i64],
+    out: &mut [u8],
+) -> Kept
     requires { ⌜ (length (now room) ≤ readLimit) × Ready (now hold) 0 (now bytes) (now numbers) (now out) ⌝ }
+    ensures { λ r. ⌜ 1 ≤ r .number ⌝ }
 {
     let mut number: u64 = 1;
     let mut held: usize = 0;
@@ -252,21 +520,43 @@ fn serve(room: &mut [u8], hold: &mut [u8], bytes: &mut [u8], numbers: &mut [i64]
     while turns > 0 {
         let kept = turn(room, number, hold, held, bytes, numbers, out);
         if !kept.more {
-            return;
+            return kept;
         }
         number = kept.number;
         held = kept.held;
         turns -= 1;
     }
+    Kept {
+        number,
+        held,
+        sent: 0,
+        more: false,
+        end: End::Unread,
+    }
 }
 
-// The register program: the lines of standard input, and their entries to standard output. A read that fails ends the input; a write that fails ends
-// the program.
+// The register program: the lines of standard input, and their entries to standard output. Where a read or a write fails for good, a line to standard
+// error says after which line what was read, or what is out, ends.
 pub fn run() {
     let mut room = [0u8; READ];
     let mut hold = [0u8; HOLD];
     let mut bytes = [0u8; Tables::BYTES];
     let mut numbers = [0i64; Tables::NUMBERS];
     let mut out = [0u8; OUTPUT];
-    serve(&mut room, &mut hold, &mut bytes, &mut numbers, &mut out);
+    let last = serve(&mut room, &mut hold, &mut bytes, &mut numbers, &mut out);
+    let line = last.number - 1;
+    let end = last.end;
+    match end {
+        End::Whole => {}
+        End::Unread => tell(
+            b"register: the input could not be read: it ends after line ",
+            line,
+            &mut out,
+        ),
+        End::Unwritten => tell(
+            b"register: the output could not be written: it ends after line ",
+            line,
+            &mut out,
+        ),
+    }
 }

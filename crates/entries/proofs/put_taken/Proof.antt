@@ -40,7 +40,7 @@ returns c =
     let s = p .before .before .before .before .before .before in
     record {
       puts = puts-of (taken-text (s .pre .0 .held) (s .pre .0 .accepts) (p .put .ensures)) (a .put-accepted .ensures);
-      clean = k .wipe .ensures;
+      clean = k .wipe .ensures .clean;
       out-long = puts-length (a .put-accepted .ensures);
       bytes-long = search needs;
       numbers-long = search needs;

@@ -1,5 +1,6 @@
+-- `reader::wipe` meets its contract: each table in turn becomes zeros. Assumes nothing.
 use native.Mathlib.Omega.{arith}
-use Rattle.reader.proofs.Wiping.{line-short, wiped-clean}
+use Rattle.reader.proofs.Wiping.{line-short, all-wiped}
 use borrow.Author.Needs.{needs}
 use Rattle.reader.proofs.wipe.Statement.{statement}
 use Rattle.reader.proofs.wipe.Tie as tie
@@ -57,7 +58,7 @@ returns c =
     let k = b₁ .before .before in
     let r = k .before .before in
     let s = r .before .before .before in
-    wiped-clean (s .pre) (r .residues .ensures .0) (k .brackets .ensures .0) (b₁ .zero-from .ensures) (b₂ .zero-from2 .ensures) (b₃ .zero-from3 .ensures) (b₄ .zero-from4 .ensures)
+    all-wiped (s .pre) (r .residues .ensures .0) (k .brackets .ensures .0) (b₁ .zero-from .ensures) (b₂ .zero-from2 .ensures) (b₃ .zero-from3 .ensures) (b₄ .zero-from4 .ensures)
     (m .zero-numbers .ensures)
 
 pub wipe-spec : {M : Type 1} → statement M

@@ -1,104 +1,56 @@
--- `stream::feed` meets its contract. The loop: the chunk is taken in up to `next`. Assumes nothing.
-use mathlib.Core.Path.{sym, _∙_}
-use Prim.Native.Nat.{_-_}
+-- `stream::feed` meets its contract: the line that is begun goes on past the chunk, or it ends, and lines behind it. Assumes nothing.
 use native.Mathlib.Omega.{arith}
+use borrow.Author.Needs.{needs}
 use borrow.Author.Tests.{not-true, not-false}
-use lib.ListN.{length}
-use Rattle.stream.proofs.Steps.{Goes, goes-start, goes-line, goes-chunk, goes-full}
+use Rattle.stream.proofs.Steps.{feeds-held, feeds-lines}
 use Rattle.stream.proofs.feed.Statement.{statement}
 use Rattle.stream.proofs.feed.Tie as tie
 
-abbrev Inv-loop : tie.InvT-loop
-Inv-loop chunk from number hold₀ held bytes₀ numbers₀ out₀ next₀ line₀ n₀ at₀ hold bytes numbers out next line n at =
-    Goes chunk from number hold₀ held bytes₀ numbers₀ out₀ next line n hold bytes numbers out at
+gather-requires : tie.Need-gather-requires
+gather-requires c κs = let w = c .before .before .before .before .before .pre .2 in (c .before .before .before .before .before .pre .0, w .within, w .room)
 
-abbrev μ-loop : tie.MeasureT-loop
-μ-loop chunk from number hold₀ held bytes₀ numbers₀ out₀ next₀ line₀ n₀ at₀ hold bytes numbers out next line n at = length chunk - next
+same-length : tie.Need-same-length
+same-length c = search needs
 
-loop-holds : tie.Need-loop-holds Inv-loop μ-loop
-loop-holds c = let p = c .before .before .before .before .pre in goes-start _ _ _ _ _ _ _ _ (p .0) (p .2)
+returns : tie.Need-returns
+returns c = feeds-held (c .before .before .before .before .before .before .before .before .before .before .pre .2) (c .before .before .before .before .gather .ensures) (not-true _ (c .if1 .taken))
 
-sub-loop : tie.Need-sub-loop Inv-loop μ-loop
-sub-loop c = let w = c .loop .inv in omega (arith, w .fits, w .out-long)
+put-part-requires : tie.Need-put-part-requires
+put-part-requires c κs = let w = c .before .before .before .before .before .before .before .before .before .before .before .before .before .before .pre .2 in let m = c .before .before .before .before .before .before .before .before .gather .ensures in (omega arith, omega (arith, m .within, m .room), w .clean, omega (arith, w .wide))
 
-gather-requires : tie.Need-gather-requires Inv-loop μ-loop
-gather-requires c κs = let w = c .before .before .loop .inv in (w .inside, w .ready .within, w .ready .room)
+add-put-lines : tie.Need-add-put-lines
+add-put-lines c = let m = c .before .before .before .before .before .before .before .before .before .before .before .before .before .before .gather .ensures in omega (arith, c .before .before .before .before .before .before .before .before .before .before .before .before .before .before .before .before .before .before .before .before .pre .1, m .inside, m .goes (not-false _ (c .before .before .before .before .before .before .before .before .before .before .if1 .left)))
 
-same-length : tie.Need-same-length Inv-loop μ-loop
-same-length c = let w = c .before .before .before .before .before .before .before .loop .inv in c .before .before .before .before .gather .ensures .room ∙ sym (w .ready .room) ∙ w .hold-long
+put-lines-requires : tie.Need-put-lines-requires
+put-lines-requires c κs = let m = c .before .before .before .before .before .before .before .before .before .before .before .before .before .before .before .before .before .gather .ensures in let p = c .before .before .before .before .before .before .before .before .put-part .ensures in (m .inside, omega (arith, c .before .before .before .before .before .before .before .before .before .before .before .before .before .before .before .before .before .before .before .before .before .before .before .pre .1, m .goes (not-false _ (c .before .before .before .before .before .before .before .before .before .before .before .before .before .if1 .left))), p .clean, omega (arith, p .puts .near, p .out-long, c .before .before .before .before .before .before .before .before .before .before .before .before .before .before .before .before .before .before .before .before .before .before .before .pre .2 .wide))
 
-same-length-2 : tie.Need-same-length-2 Inv-loop μ-loop
-same-length-2 c = c .before .before .before .before .before .before .before .loop .inv .bytes-long
+same-length-2 : tie.Need-same-length-2
+same-length-2 c = search needs
 
-same-length-3 : tie.Need-same-length-3 Inv-loop μ-loop
-same-length-3 c = c .before .before .before .before .before .before .before .loop .inv .numbers-long
+same-length-3 : tie.Need-same-length-3
+same-length-3 c = search needs
 
-same-length-4 : tie.Need-same-length-4 Inv-loop μ-loop
-same-length-4 c = c .before .before .before .before .before .before .before .loop .inv .out-long
+same-length-4 : tie.Need-same-length-4
+same-length-4 c = search needs
 
-returns : tie.Need-returns Inv-loop μ-loop
-returns c = goes-chunk _ _ _ _ _ _ _ _ (c .before .before .before .before .before .before .before .loop .inv) (c .before .before .before .before .gather .ensures) (not-true _ (c .if1 .taken))
+same-length-5 : tie.Need-same-length-5
+same-length-5 c = search needs
 
-put-held-requires : tie.Need-put-held-requires Inv-loop μ-loop
-put-held-requires c κs =
-    let w = c .before .before .before .before .before .before .before .before .before .before .before .loop .inv in
-    let m = c .before .before .before .before .before .before .before .before .gather .ensures in
-    (omega (arith, m .within, m .room), w .ready .clean, omega (arith, c .before .before .before .before .before .before .before .before .before .before .loop-test .taken, w .fits, w .out-long))
-
-add-line : tie.Need-add-line Inv-loop μ-loop
-add-line c =
-    let w = c .before .before .before .before .before .before .before .before .before .before .before .before .before .before .before .before .before .loop .inv in
-    let m = c .before .before .before .before .before .before .before .before .before .before .before .before .before .before .gather .ensures in
-    let go = m .goes (not-false _ (c .before .before .before .before .before .before .before .before .before .before .if1 .left)) in
-    omega (arith, w .count, m .inside, go, c .before .before .before .before .before .before .before .before .before .before .before .before .before .before .before .before .before .before .before .before .before .before .pre .1)
-
-loop-less : tie.Need-loop-less Inv-loop μ-loop
-loop-less c =
-    let m = c .before .before .before .before .before .before .before .before .before .before .before .before .before .before .gather .ensures in
-    let go = m .goes (not-false _ (c .before .before .before .before .before .before .before .before .before .before .if1 .left)) in
-    omega (arith, m .inside, go)
-
-loop-again : tie.Need-loop-again Inv-loop μ-loop
-loop-again c =
-    let w = c .before .before .before .before .before .before .before .before .before .before .before .before .before .before .before .before .before .loop .inv in
-    goes-line _ _ _ _ _ _ _ _ w (c .before .before .before .before .before .before .before .before .before .before .before .before .before .before .gather .ensures) (not-false _ (c .before .before .before .before .before .before .before .before .before .before .if1 .left)) (c .before .before .before .before .before .put-held .ensures)
-    (omega (arith, c .before .before .before .before .before .before .before .before .before .before .before .before .before .before .before .before .loop-test .taken, w .fits, w .out-long))
-
-same-length-5 : tie.Need-same-length-5 Inv-loop μ-loop
-same-length-5 c = c .before .loop .inv .hold-long
-
-same-length-6 : tie.Need-same-length-6 Inv-loop μ-loop
-same-length-6 c = c .before .loop .inv .bytes-long
-
-same-length-7 : tie.Need-same-length-7 Inv-loop μ-loop
-same-length-7 c = c .before .loop .inv .numbers-long
-
-same-length-8 : tie.Need-same-length-8 Inv-loop μ-loop
-same-length-8 c = c .before .loop .inv .out-long
-
-returns-2 : tie.Need-returns-2 Inv-loop μ-loop
-returns-2 c = goes-full _ _ _ _ _ _ _ _ (c .before .loop .inv) (c .loop-test .left)
+returns-2 : tie.Need-returns-2
+returns-2 c = feeds-lines (c .before .before .before .before .before .before .before .before .before .before .before .before .before .before .before .before .before .before .before .before .before .before .before .before .before .before .before .before .before .pre .2) (c .before .before .before .before .before .before .before .before .before .before .before .before .before .before .before .before .before .before .before .before .before .before .before .gather .ensures) (not-false _ (c .before .before .before .before .before .before .before .before .before .before .before .before .before .before .before .before .before .before .before .if1 .left)) (c .before .before .before .before .before .before .before .before .before .before .before .before .before .before .put-part .ensures) (c .before .before .before .before .before .put-lines .ensures .0) (c .before .before .before .before .before .put-lines .ensures .1)
 
 pub feed-spec : {M : Type 1} → statement M
 feed-spec =
     tie.close
     (tie.spec
-    Inv-loop
-    μ-loop
-    loop-holds
-    sub-loop
     gather-requires
     same-length
+    returns
+    put-part-requires
+    add-put-lines
+    put-lines-requires
     same-length-2
     same-length-3
     same-length-4
-    returns
-    put-held-requires
-    add-line
-    loop-less
-    loop-again
     same-length-5
-    same-length-6
-    same-length-7
-    same-length-8
     returns-2)

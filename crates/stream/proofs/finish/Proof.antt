@@ -8,8 +8,8 @@ use Rattle.stream.proofs.finish.Tie as tie
 returns : tie.Need-returns
 returns c = ends-none _ _ _ _ (c .if1 .taken)
 
-put-held-requires : tie.Need-put-held-requires
-put-held-requires c κs = search needs
+put-part-requires : tie.Need-put-part-requires
+put-part-requires c κs = let w = c .before .before .before .before .before .before .before .pre in (omega arith, omega (arith, w .within, w .room), w .clean, omega (arith, w .wide))
 
 same-length : tie.Need-same-length
 same-length c = search needs
@@ -21,9 +21,15 @@ same-length-3 : tie.Need-same-length-3
 same-length-3 c = search needs
 
 returns-2 : tie.Need-returns-2
-returns-2 c = ends-line _ _ _ _ _ _ _ _ _ _ (c .before .before .before .before .before .before .before .before .before .before .before .before .before .pre) (omega (arith, c .before .before .before .before .before .before .before .before .before .if1 .left)) (c .before .before .before .before .before .put-held .ensures)
+returns-2 c = ends-line _ _ _ _ _ _ _ _ _ _ (c .before .before .before .before .before .before .before .before .before .before .before .before .before .pre) (omega (arith, c .before .before .before .before .before .before .before .before .before .if1 .left)) (c .before .before .before .before .before .put-part .ensures)
 
 pub finish-spec : {M : Type 1} → statement M
 finish-spec =
     tie.close
-    (tie.spec returns put-held-requires same-length same-length-2 same-length-3 returns-2)
+    (tie.spec
+    returns
+    put-part-requires
+    same-length
+    same-length-2
+    same-length-3
+    returns-2)

@@ -1,6 +1,7 @@
 -- `stream::run` is safe and ends: its arrays are what `serve` asks. Assumes nothing.
 use native.Mathlib.Omega.{arith}
 use borrow.Author.Needs.{needs}
+use Rattle.stream.specs.Promises.{outputLimit}
 use Rattle.stream.proofs.Steps.{ready-new}
 use Rattle.stream.proofs.run.Statement.{statement}
 use Rattle.stream.proofs.run.Tie as tie
@@ -21,10 +22,46 @@ slice-aggregate-serve-5 : tie.Need-slice-aggregate-serve-5
 slice-aggregate-serve-5 c = search needs
 
 serve-requires : tie.Need-serve-requires
-serve-requires c κs = (omega arith, ready-new 20480 (omega arith))
+serve-requires c κs = (omega arith, ready-new outputLimit (omega arith) (omega arith))
+
+sub-line : tie.Need-sub-line
+sub-line c = c .before .before .before .before .before .before .serve .ensures
+
+enum-told : tie.Need-enum-told
+enum-told c = search needs
+
+enum-told-2 : tie.Need-enum-told-2
+enum-told-2 c = search needs
+
+slice-aggregate-tell : tie.Need-slice-aggregate-tell
+slice-aggregate-tell c = search needs
+
+slice-aggregate-tell-2 : tie.Need-slice-aggregate-tell-2
+slice-aggregate-tell-2 c = search needs
+
+tell-requires : tie.Need-tell-requires
+tell-requires c κs = search needs
+
+enum-told-3 : tie.Need-enum-told-3
+enum-told-3 c = search needs
+
+slice-aggregate-tell-3 : tie.Need-slice-aggregate-tell-3
+slice-aggregate-tell-3 c = search needs
+
+slice-aggregate-tell-4 : tie.Need-slice-aggregate-tell-4
+slice-aggregate-tell-4 c = search needs
+
+tell-requires-2 : tie.Need-tell-requires-2
+tell-requires-2 c = search needs
 
 returns : tie.Need-returns
 returns c = search needs
+
+returns-2 : tie.Need-returns-2
+returns-2 c = search needs
+
+returns-3 : tie.Need-returns-3
+returns-3 c = search needs
 
 pub run-spec : {M : Type 1} → statement M
 run-spec =
@@ -36,4 +73,16 @@ run-spec =
     slice-aggregate-serve-4
     slice-aggregate-serve-5
     serve-requires
-    returns)
+    sub-line
+    enum-told
+    enum-told-2
+    slice-aggregate-tell
+    slice-aggregate-tell-2
+    tell-requires
+    enum-told-3
+    slice-aggregate-tell-3
+    slice-aggregate-tell-4
+    tell-requires-2
+    returns
+    returns-2
+    returns-3)

@@ -1,29 +1,21 @@
--- `stream::turn` meets its contract: the end of the input, or a chunk. Assumes nothing.
-use mathlib.Core.Path.{sym}
-use mathlib.Core.Bool.{false≢true}
+-- `stream::turn` meets its contract: a read that brought something, or nothing, or failed. Assumes nothing.
 use native.Mathlib.Omega.{arith}
 use borrow.Author.Needs.{needs}
-use lib.Seq.{length-take-le}
+use Rattle.stream.proofs.Steps.{came-fits, turns-failed}
 use Rattle.stream.proofs.turn.Statement.{statement}
 use Rattle.stream.proofs.turn.Tie as tie
 
-read-requires : tie.Need-read-requires
-read-requires c κs = search needs
+receive-requires : tie.Need-receive-requires
+receive-requires c κs = tt
 
-count-requires : tie.Need-count-requires
-count-requires c κs = search needs
+enum-known-got : tie.Need-enum-known-got
+enum-known-got c = search needs
 
-finish-requires : tie.Need-finish-requires
-finish-requires c κs = search needs
+take-in-requires : tie.Need-take-in-requires
+take-in-requires c κs = let p = c .before .before .before .before .before .before .before .before .before .before .before .before .before .before .before .before .pre in (came-fits (c .before .before .before .before .before .before .got .given .1) (c .before .before .before .before .before .before .before .before .before .before .receive .ensures) (c .before .before .before .before .before .before .before .before .before .room .given), omega (arith, p .0, c .before .before .before .before .before .before .before .before .before .room .given), p .1, p .2)
 
-slice-reshare-prefix-write-all : tie.Need-slice-reshare-prefix-write-all
-slice-reshare-prefix-write-all c = search needs
-
-slice-aggregate-write-all : tie.Need-slice-aggregate-write-all
-slice-aggregate-write-all c = sym (length-take-le _ _ (c .before .before .before .before .before .before .finish .ensures .fits))
-
-write-all-requires : tie.Need-write-all-requires
-write-all-requires c κs = search needs
+enum-told : tie.Need-enum-told
+enum-told c = search needs
 
 same-length : tie.Need-same-length
 same-length c = search needs
@@ -41,57 +33,27 @@ same-length-5 : tie.Need-same-length-5
 same-length-5 c = search needs
 
 returns : tie.Need-returns
-returns c = record { count = omega arith; ready = λ e. absurd (false≢true e) }
-
-slice-reshare-prefix-drain : tie.Need-slice-reshare-prefix-drain
-slice-reshare-prefix-drain c = search needs
-
-slice-aggregate-drain : tie.Need-slice-aggregate-drain
-slice-aggregate-drain c = search needs
-
-drain-requires : tie.Need-drain-requires
-drain-requires c κs = search needs
+returns c = c .before .before .before .before .before .before .before .take-in .ensures
 
 same-length-6 : tie.Need-same-length-6
 same-length-6 c = search needs
 
-same-length-7 : tie.Need-same-length-7
-same-length-7 c = search needs
-
-same-length-8 : tie.Need-same-length-8
-same-length-8 c = search needs
-
-same-length-9 : tie.Need-same-length-9
-same-length-9 c = search needs
-
-same-length-10 : tie.Need-same-length-10
-same-length-10 c = search needs
-
 returns-2 : tie.Need-returns-2
-returns-2 c = search needs
+returns-2 c = turns-failed
 
 pub turn-spec : {M : Type 1} → statement M
 turn-spec =
     tie.close
     (tie.spec
-    read-requires
-    count-requires
-    finish-requires
-    slice-reshare-prefix-write-all
-    slice-aggregate-write-all
-    write-all-requires
+    receive-requires
+    enum-known-got
+    take-in-requires
+    enum-told
     same-length
     same-length-2
     same-length-3
     same-length-4
     same-length-5
     returns
-    slice-reshare-prefix-drain
-    slice-aggregate-drain
-    drain-requires
     same-length-6
-    same-length-7
-    same-length-8
-    same-length-9
-    same-length-10
     returns-2)

@@ -5,6 +5,12 @@
 
 use crate::line::Line;
 
+/// So many; where HWEMIDUK_SHARE is a number n, one of every n of them. The tests take that many generated lines, and expect that much of them.
+pub fn share(count: usize) -> usize {
+    let one_of = std::env::var("HWEMIDUK_SHARE").ok().and_then(|n| n.parse().ok()).unwrap_or(1);
+    count / std::cmp::max(one_of, 1)
+}
+
 /// A xorshift generator with a multiplied output.
 pub struct Random {
     state: u64,

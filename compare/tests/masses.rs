@@ -5,7 +5,7 @@ mod json;
 mod lines;
 
 use compare::areas::{BYTES_SIZE, NUMBERS_SIZE};
-use compare::generate::Random;
+use compare::generate::{share, Random};
 use compare::line::{Kind, Line, Refusal};
 use compare::masses::{bracket_mass, display, ledger, total, Display, Ledger};
 use compare::positions::{all_placements, floaters, is_allowed, Placement};
@@ -83,7 +83,7 @@ fn sums_of_generated_lines() {
     };
     for_generated(31, 60_000, &mut check);
     for_crowded(32, 20_000, 12, &mut check);
-    assert!(summed > 10_000 && lacking > 2_000, "{summed} {lacking}");
+    assert!(summed > share(10_000) && lacking > share(2_000), "{summed} {lacking}");
 }
 
 /// The largest totals that a line can have: "Below 71 times 10^12".
@@ -153,7 +153,7 @@ fn ledgers_of_every_placement() {
         }
         assert!(lent.same(&before));
     });
-    assert!(written > 8_000 && lacking > 500, "{written} {lacking}");
+    assert!(written > share(8_000) && lacking > share(500), "{written} {lacking}");
 }
 
 /// Placements of any content: 18 where they are not allowed, but 16 before it.
@@ -180,7 +180,7 @@ fn ledgers_of_any_placement() {
             assert_eq!(proved::allowed(&lent.bytes, &lent.numbers, slice), expected, "{} {placement:?}", shown(line));
         }
     });
-    assert!(met[0] > 1_000 && met[16] > 500 && met[18] > 1_000, "{met:?}");
+    assert!(met[0] > share(1_000) && met[16] > share(500) && met[18] > share(1_000), "{met:?}");
 }
 
 #[test]

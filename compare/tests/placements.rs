@@ -7,7 +7,7 @@ mod lines;
 use std::time::{Duration, Instant};
 
 use compare::floating::adversarial;
-use compare::generate::Random;
+use compare::generate::{share, Random};
 use compare::line::{Line, Refusal};
 use compare::positions::{self, floaters, is_allowed, next_placement, plain_next, Floater, Placement, Row, Search};
 use compare::proved::{self, Limits, Listing, Site};
@@ -143,7 +143,7 @@ fn placements_by_plain_enumeration() {
         without += usize::from(expected.is_empty());
         handed += expected.len();
     });
-    assert!(met > 20_000 && without > 5_000 && handed > 60_000, "{met} {without} {handed}");
+    assert!(met > share(20_000) && without > share(5_000) && handed > share(60_000), "{met} {without} {handed}");
 }
 
 /// At the last placement a record stays there, and answers 17 as often as it is asked.
@@ -197,7 +197,7 @@ fn any_record() {
     };
     for_crowded(43, 15_000, 12, &mut check);
     for_generated(44, 20_000, &mut check);
-    assert!(met[0] > 5_000 && met[17] > 2_000 && met[18] > 20_000, "{met:?}");
+    assert!(met[0] > share(5_000) && met[17] > share(2_000) && met[18] > share(20_000), "{met:?}");
 }
 
 /// Every pair of positions, and every unused entry, on a line with two floaters.
@@ -337,7 +337,7 @@ fn placements_of_long_lines() {
             met += 1;
         }
     });
-    assert!(met - over > 15_000, "{met} {over}");
+    assert!(met - over > share(15_000), "{met} {over}");
 }
 
 /// The rows that are handed out into so much room that is full of junk; all of it stays on a refusal.
@@ -374,7 +374,7 @@ fn rows_of_lines() {
     });
     for_generated(47, 20_000, |line, held| met += check_rows(line, held));
     for_crowded(48, 10_000, 12, |line, held| met += check_rows(line, held));
-    assert!(met > 50_000, "{met}");
+    assert!(met > share(50_000), "{met}");
     // the most rows that a line has: eight floaters on 254 residues
     let line = format!("[+1]^8?{}", "A".repeat(254));
     assert_eq!(check_rows(line.as_bytes(), &read(line.as_bytes()).unwrap()), 8 * 254);
@@ -384,7 +384,7 @@ fn rows_of_lines() {
 fn lookups_in_any_rows() {
     let mut random = Random::new(49);
     let (mut found, mut missed) = (0, 0);
-    for round in 0..4_000 {
+    for round in 0..share(4_000) {
         let room = 2048 + round % 3;
         let mut rows = vec![JUNK; room];
         let few = [3, 9, 256][round % 3];
@@ -407,7 +407,7 @@ fn lookups_in_any_rows() {
         let kept: Vec<Row> = rows.iter().map(|row| Row { floater: row.floater, position: row.position }).collect();
         assert!(kept == ours);
     }
-    assert!(found > 20_000 && missed > 20_000, "{found} {missed}");
+    assert!(found > share(20_000) && missed > share(20_000), "{found} {missed}");
     // rows past the first 2,048 do not count
     let mut rows = vec![JUNK; 2049];
     rows[2048] = Site { floater: 1, position: 7 };

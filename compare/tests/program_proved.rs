@@ -11,7 +11,7 @@ use std::process::{Child, Stdio};
 use std::thread;
 use std::time::{Duration, Instant};
 
-use compare::generate::Generator;
+use compare::generate::{share, Generator};
 use compare::register::run;
 use programs::{printed, printed_in_chunks, started};
 
@@ -59,7 +59,7 @@ fn lines_of_any_length() {
 
 #[test]
 fn generated_lines() {
-    let input = generated(20261116, 100_000);
+    let input = generated(20261116, share(100_000));
     assert!(printed(&program(), &input) == expected(&input));
 }
 

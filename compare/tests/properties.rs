@@ -2,7 +2,7 @@
 
 use compare::areas::{decode, encode, tables_of_some_line, BYTES_SIZE, NUMBERS_SIZE};
 use compare::canonical::canonical;
-use compare::generate::{Generator, Random};
+use compare::generate::{share, Generator, Random};
 use compare::line::Line;
 use compare::masses::{display_areas, ledger, missing, total, Display};
 use compare::positions::{
@@ -13,7 +13,7 @@ use compare::reader::{read, Refusal};
 
 /// Calls with each of so many generated lines.
 fn for_generated(seed: u64, count: usize, mut check: impl FnMut(&[u8])) {
-    for line in Generator::new(seed).take(count) {
+    for line in Generator::new(seed).take(share(count)) {
         check(&line);
     }
 }
@@ -80,7 +80,7 @@ fn changed_areas_are_refused_or_of_another_line() {
         }
     });
     assert!(
-        of_another > 1000 && refused > 2000,
+        of_another > share(1000) && refused > share(2000),
         "{of_another} {refused}"
     );
 }
@@ -104,7 +104,7 @@ fn change(random: &mut Random, line: &Line, area: &mut [u8], numbers: &mut [i64]
 #[test]
 fn noise_in_areas_is_refused() {
     let mut random = Random::new(14);
-    for _ in 0..2000 {
+    for _ in 0..share(2000) {
         let mut area = vec![0; BYTES_SIZE];
         area.fill_with(|| random.below(256) as u8);
         area[0] = random.between(1, 254) as u8;
@@ -184,7 +184,7 @@ fn placements_agree_with_plain_backtracking() {
             after = expected;
         }
     });
-    assert!(checked > 50_000, "{checked}");
+    assert!(checked > share(50_000), "{checked}");
 }
 
 #[test]
@@ -297,7 +297,7 @@ fn refusal_four_stands_at_the_first_wrong_byte() {
             }
         }
     });
-    assert!(checked > 1000, "{checked}");
+    assert!(checked > share(1000), "{checked}");
 }
 
 /// Whether some so many bytes at most make a line of the order of this.
@@ -330,14 +330,14 @@ fn generated_lines_meet_every_number() {
             Err(refusal) => outcomes[usize::from(refusal.number)] += 1,
         }
     });
-    assert!(outcomes[0] >= COUNT / 4, "{outcomes:?}");
+    assert!(outcomes[0] >= share(COUNT) / 4, "{outcomes:?}");
     let refused = &outcomes[1..];
     assert!(
-        refused[..2].iter().all(|&lines| lines >= COUNT / 200),
+        refused[..2].iter().all(|&lines| lines >= share(COUNT) / 200),
         "{outcomes:?}"
     );
     assert!(
-        refused[2..].iter().all(|&lines| lines >= COUNT / 100),
+        refused[2..].iter().all(|&lines| lines >= share(COUNT) / 100),
         "{outcomes:?}"
     );
 }

@@ -1,7 +1,7 @@
 //! The proved library against the independent reader: on the outside vectors, on generated lines, on lines of every awkward length.
 
 use compare::areas::{encode, BYTES_SIZE, NUMBERS_SIZE};
-use compare::generate::Generator;
+use compare::generate::{share, Generator};
 use compare::line::Refusal;
 use compare::{proved, reader};
 
@@ -62,7 +62,7 @@ fn vectors() {
 
 #[test]
 fn generated_lines() {
-    let count = std::env::var("HWEMIDUK_LINES").ok().and_then(|n| n.parse().ok()).unwrap_or(200_000);
+    let count = std::env::var("HWEMIDUK_LINES").ok().and_then(|n| n.parse().ok()).unwrap_or(share(200_000));
     let mut refused = [0usize; 13];
     for line in Generator::new(20261115).take(count) {
         alike(&line);

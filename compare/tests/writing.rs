@@ -6,7 +6,7 @@ mod lines;
 
 use compare::areas::{encode, tables_of_some_line, BYTES_SIZE, NUMBERS_SIZE};
 use compare::canonical::canonical;
-use compare::generate::Random;
+use compare::generate::{share, Random};
 use compare::line::{Line, Refusal};
 use compare::masses::Display;
 use compare::proved::{self, Listing, Site};
@@ -75,7 +75,7 @@ fn canonical_lines_of_generated_lines() {
     };
     for_generated(21, 100_000, &mut check);
     for_crowded(22, 5_000, 12, &mut check);
-    assert!(shorter > 2_000, "{shorter}");
+    assert!(shorter > share(2_000), "{shorter}");
 }
 
 /// The lines that document 01 names.
@@ -161,7 +161,7 @@ fn check_fourteen(bytes: &[u8], numbers: &[i64]) {
 #[test]
 fn noise_in_areas() {
     let mut random = Random::new(23);
-    for round in 0..3_000 {
+    for round in 0..share(3_000) {
         let most = [2, 16, 128, 256][round % 4];
         let mut bytes = vec![0; BYTES_SIZE];
         bytes.fill_with(|| random.below(most) as u8);
@@ -223,7 +223,7 @@ fn changed_tables() {
     };
     for_generated(25, 100_000, &mut check);
     for_crowded(26, 20_000, 6, &mut check);
-    assert!(other > 5_000 && refused > 30_000, "{other} {refused}");
+    assert!(other > share(5_000) && refused > share(30_000), "{other} {refused}");
 }
 
 /// Every byte and number that is in use, and one behind, one up, one down and far off.

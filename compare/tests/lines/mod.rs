@@ -3,7 +3,7 @@
 
 use compare::areas::encode;
 use compare::floating::crowded;
-use compare::generate::{Generator, Random};
+use compare::generate::{share, Generator, Random};
 use compare::line::Line;
 use compare::reader::read;
 
@@ -61,7 +61,7 @@ fn seeded(seed: u64) -> u64 {
 }
 
 fn many(count: usize) -> usize {
-    count * asked("HWEMIDUK_TIMES", 1)
+    share(count * asked("HWEMIDUK_TIMES", 1))
 }
 
 /// Calls with each accepted one of so many generated lines.

@@ -1,5 +1,6 @@
 //! What any register program must do, whoever wrote it: it is given by its path.
 
+use std::ffi::OsString;
 use std::io::{Read, Write};
 use std::os::fd::OwnedFd;
 use std::os::unix::net::UnixDatagram;
@@ -10,8 +11,11 @@ use std::thread;
 const LINES: &[u8] = include_bytes!("../../vectors/lines.in");
 const ANSWERS: &[u8] = include_bytes!("../../vectors/lines.out");
 
+/// Starts a program; where RUN names an emulator, under it.
 pub fn started(program: &Path, input: Stdio, output: Stdio) -> Child {
-    let child = Command::new(program).stdin(input).stdout(output).spawn();
+    let mut words: Vec<OsString> = std::env::var_os("RUN").filter(|run| !run.is_empty()).into_iter().collect();
+    words.push(program.into());
+    let child = Command::new(&words[0]).args(&words[1..]).stdin(input).stdout(output).spawn();
     child.unwrap_or_else(|error| panic!("{}: {error}", program.display()))
 }
 

@@ -109,7 +109,7 @@ def table(names: List[str], crlf: bool) -> int:
     for name in names:
         with _opened(name) as file:
             for line in read_lines(_lines(name, file), crlf):
-                begin = (name, line.number, line.raw.decode("utf-8", "backslashreplace"))
+                begin = (name, line.number, line.raw.decode("ascii", "backslashreplace"))
                 p = line.peptidoform
                 if p is None:
                     assert line.refusal is not None

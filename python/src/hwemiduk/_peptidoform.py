@@ -324,9 +324,10 @@ def read_lines(file: Iterable[Union[bytes, str]], crlf: bool = False) -> Iterato
         if crlf and raw[-1:] == b"\r":
             raw = raw[:-1]
         try:
-            yield Line(number, raw, Peptidoform(raw), None)
+            line = Line(number, raw, Peptidoform(raw), None)
         except Refusal as refusal:
-            yield Line(number, raw, None, refusal)
+            line = Line(number, raw, None, refusal)
+        yield line
 
 
 def _whole(line: Union[bytes, str]) -> bytes:

@@ -1,28 +1,21 @@
-"""The Python module against document 01's lines with known outcomes, and against the outside vectors of compare/vectors."""
+"""The package against document 01's lines with known outcomes, and against the outside vectors of compare/vectors."""
 
+import dataclasses
 import doctest
 import json
-import pickle
+import os
 import random
-import re
 import sys
 import unittest
 from itertools import islice
 from pathlib import Path
 
 ROOT = Path(__file__).resolve().parent.parent.parent
-sys.path.insert(0, str(ROOT / "python"))
+sys.path.insert(0, str(ROOT / "python" / "src"))
 
 import hwemiduk  # noqa: E402
-from hwemiduk import LIMITS, Bracket, Label, Missing, Number, Part, Refusal, read  # noqa: E402
-
-
-def placed(line):
-    """The placements of a line, each cut to its floaters; the rest of each must be 0."""
-    p = read(line)
-    whole = list(p.placements())
-    assert all(len(one) == 8 and not any(one[p.floaters :]) for one in whole)
-    return [one[: p.floaters] for one in whole]
+from hwemiduk import LIMITS, Bracket, Key, Kind, Label, Number, Part, Refusal, Section, read  # noqa: E402
+from hwemiduk._library import FREE, take  # noqa: E402
 
 
 def refusal(call, *arguments):
@@ -35,7 +28,7 @@ def refusal(call, *arguments):
 
 
 def load_tests(loader, tests, pattern):
-    """Adds the examples of the module and of the README."""
+    """Adds the examples of the package and of the README."""
     tests.addTests(doctest.DocTestSuite(hwemiduk))
     tests.addTests(doctest.DocFileSuite(str(ROOT / "README.md"), module_relative=False))
     return tests
@@ -47,9 +40,10 @@ class KnownLines(unittest.TestCase):
     def test_ledger(self):
         p = read("AM[+15.995]C[-18.01]")
         self.assertEqual(p.total(), -2_015_000)
-        self.assertEqual(list(p.placements()), [(0,) * 8])
-        self.assertEqual(p.ledger((0,) * 8), [0, 0, 15_995_000, -18_010_000, 0])
-        self.assertEqual(p.mass(), -2.015)
+        self.assertEqual(list(p.placements()), [()])
+        self.assertEqual(p.ledger(), [0, 0, 15_995_000, -18_010_000, 0])
+        self.assertEqual(p.ledger(()), p.ledger())
+        self.assertEqual((p.shift(), p.missing), (-2.015, 0))
 
     def test_totals(self):
         for line, total in {
@@ -73,7 +67,7 @@ class KnownLines(unittest.TestCase):
             "A": [()],
         }.items():
             with self.subTest(line):
-                self.assertEqual(placed(line), placements)
+                self.assertEqual(list(read(line).placements()), placements)
 
     def test_canonical(self):
         for line, canonical in {
@@ -85,7 +79,7 @@ class KnownLines(unittest.TestCase):
             "A[Cation:Mg[II]]": "A[Cation:Mg[II]]",
         }.items():
             with self.subTest(line):
-                self.assertEqual(read(line).canonical(), canonical)
+                self.assertEqual(str(read(line)), canonical)
 
     def test_refusals(self):
         for line, number, place in [
@@ -110,10 +104,14 @@ class KnownLines(unittest.TestCase):
 
     def test_display(self):
         p = read("[Acetyl]-A")
-        self.assertEqual(p.mass(), Missing(1))
+        self.assertEqual((p.shift(), p.missing), (None, 1))
         self.assertEqual(refusal(p.total), (16, 1))
-        self.assertEqual(refusal(p.ledger, (0,) * 8), (16, 1))
-        self.assertIsInstance(read("A").mass(), float)
+        self.assertEqual(refusal(p.ledger), (16, 1))
+        self.assertIsInstance(read("A").shift(), float)
+
+    def test_residues_have_no_mass_here(self):
+        p = read("PEPTIDE")
+        self.assertEqual((p.total(), p.shift(), p.missing, p.ledger()), (0, 0.0, 0, [0] * 9))
 
 
 class Vectors(unittest.TestCase):
@@ -135,48 +133,70 @@ class Vectors(unittest.TestCase):
 
     def test_counts_and_canonical_lines(self):
         for p, outcome in self.accepted:
-            self.assertEqual(p.canonical(), outcome["canon"])
-            self.assertEqual((len(p.residues), len(p.brackets), p.floaters), (outcome["res"], outcome["br"], outcome["fl"]), p)
+            self.assertEqual(str(p), outcome["canon"])
+            self.assertEqual((len(p.residues), len(p.brackets), len(p.floaters)), (outcome["res"], outcome["br"], outcome["fl"]), p)
 
     def test_masses(self):
         for p, outcome in self.accepted:
+            self.assertEqual(p.missing, outcome["missing"], p)
             if outcome["missing"]:
                 self.assertEqual(refusal(p.total), (16, outcome["missing"]), p)
-                self.assertEqual(p.mass(), Missing(outcome["missing"]), p)
+                self.assertIsNone(p.shift(), p)
             else:
                 self.assertEqual(p.total(), outcome["total"], p)
-                self.assertEqual(p.mass(), outcome["total"] / 1e6, p)
+                self.assertEqual(p.shift(), outcome["total"] / 1e6, p)
 
     def test_rows(self):
         for p, outcome in self.accepted:
-            self.assertEqual(p.rows(), [tuple(row) for row in outcome["rows"]], p)
+            rows = [tuple(row) for row in outcome["rows"]]
+            self.assertEqual(p.rows(), rows, p)
+            self.assertEqual([(number, position) for number, floater in enumerate(p.floaters, 1) for position in floater.positions], rows, p)
 
     def test_placements(self):
         for p, outcome in self.accepted:
-            first = [tuple(placement) for placement in outcome["placements"]]
+            first = [tuple(placement[: outcome["fl"]]) for placement in outcome["placements"]]
             whole = outcome["nplace"] == len(first)
             self.assertEqual(list(islice(p.placements(), len(first) + 1 if whole else len(first))), first, p)
-            self.assertTrue(all(p.allowed(placement) for placement in first), p)
+            self.assertTrue(all(p.allowed(placement) for placement in first[:3]), p)
 
     def test_ledgers(self):
         for p, outcome in self.accepted:
             if outcome["ledger"] is not None:
-                self.assertEqual(p.ledger(outcome["placements"][0]), outcome["ledger"], p)
+                self.assertEqual(p.ledger(outcome["placements"][0][: outcome["fl"]]), outcome["ledger"], p)
 
-    def test_parts_spell_the_canonical_line(self):
-        """What the brackets hold, written out here by document 01's rules, stands in the canonical line in order."""
+    def test_floaters_weigh_what_their_brackets_do(self):
+        """What stands in the ledger at a floater's position is the mass of its bracket: nothing placed stands there too."""
+        met = 0
+        for p, outcome in self.accepted:
+            if outcome["ledger"] is not None:
+                for floater, position in zip(p.floaters, outcome["placements"][0]):
+                    self.assertEqual(floater.bracket.millionths, outcome["ledger"][position], p)
+                    met += 1
+        self.assertGreater(met, 100)
+
+    def test_modifications_make_the_total(self):
+        """The masses of the modifications, each copy counted, are the total, and those without one are missing."""
+        for p, outcome in self.accepted:
+            held = [bracket for bracket in p.brackets if bracket.is_modification]
+            self.assertEqual(sum(bracket.count for bracket in held if bracket.millionths is None), outcome["missing"], p)
+            if not outcome["missing"]:
+                self.assertEqual(sum(bracket.count * bracket.millionths for bracket in held), outcome["total"], p)
+
+    def test_brackets_spell_the_canonical_line(self):
+        """What the brackets hold, written out here by document 01's rules, stands in the canonical line in order, and is what they say."""
         for p, outcome in self.accepted:
             rest = outcome["canon"]
             for bracket in p.brackets:
                 inside = "|".join(spelled(part) for part in bracket.parts)
-                text = "{" + inside + "}" if bracket.kind == "labile" else "[" + inside + "]"
+                text = "{" + inside + "}" if bracket.kind is Kind.LABILE else "[" + inside + "]"
+                self.assertEqual(str(bracket), text, p)
                 self.assertIn(text, rest, p)
                 rest = rest[rest.index(text) + len(text) :]
 
 
 def spelled(part):
     """A part as document 01 has it written."""
-    text = part.key + ":" if part.key else ""
+    text = part.key.value + ":" if part.key.value else ""
     if part.mass is not None:
         text += "-" * (part.mass.millionths < 0) + "+" * (part.mass.millionths >= 0) + digits(part.mass)
     elif part.text is not None:
@@ -199,88 +219,122 @@ class Tables(unittest.TestCase):
     def test_brackets(self):
         p = read("[u:+01.50]^3?{Obs:-2}[unimod:4]-a(CD[R:x])[y|+0.5#g1(-0.25)](?ef[#g1])-[info:z[#|]]")
         self.assertEqual(p.residues, "ACDEF")
-        self.assertEqual(p.sections, ("plain", "range first", "range next", "unsure first", "unsure next"))
+        self.assertEqual(
+            p.sections, (Section.PLAIN, Section.RANGE_FIRST, Section.RANGE_NEXT, Section.UNSURE_FIRST, Section.UNSURE_NEXT)
+        )
         label = Label("g1", Number(-250_000, 2))
         self.assertEqual(
             p.brackets,
             (
-                Bracket("unknown", range(0), 3, (Part("U", Number(1_500_000, 2), None, None),)),
-                Bracket("labile", range(0), 1, (Part("Obs", Number(-2_000_000, 0), None, None),)),
-                Bracket("n-term", range(0, 1), 1, (Part("UNIMOD", None, "4", None),)),
-                Bracket("residue", range(3, 4), 1, (Part("R", None, "x", None),)),
-                Bracket("range", range(2, 4), 1, (Part("", None, "y", None), Part("", Number(500_000, 1), None, label))),
-                Bracket("residue", range(5, 6), 1, (Part("", None, None, Label("g1", None)),)),
-                Bracket("c-term", range(6, 7), 1, (Part("INFO", None, "z[#|]", None),)),
+                Bracket(Kind.UNKNOWN, range(0), 3, (Part(Key.U, Number(1_500_000, 2), None, None),)),
+                Bracket(Kind.LABILE, range(0), 1, (Part(Key.OBS, Number(-2_000_000, 0), None, None),)),
+                Bracket(Kind.N_TERM, range(0, 1), 1, (Part(Key.UNIMOD, None, "4", None),)),
+                Bracket(Kind.RESIDUE, range(3, 4), 1, (Part(Key.R, None, "x", None),)),
+                Bracket(Kind.RANGE, range(2, 4), 1, (Part(Key.NONE, None, "y", None), Part(Key.NONE, Number(500_000, 1), None, label))),
+                Bracket(Kind.RESIDUE, range(5, 6), 1, (Part(Key.NONE, None, None, Label("g1", None)),)),
+                Bracket(Kind.C_TERM, range(6, 7), 1, (Part(Key.INFO, None, "z[#|]", None),)),
             ),
         )
         self.assertEqual([bracket.label for bracket in p.brackets], [None] * 4 + [label, Label("g1", None), None])
-        self.assertEqual(p.floaters, 4)
+        self.assertEqual([bracket.is_modification for bracket in p.brackets], [True] * 5 + [False] * 2)
+        self.assertEqual([bracket.millionths for bracket in p.brackets], [1_500_000, -2_000_000, None, None, 500_000, None, None])
+
+    def test_floaters(self):
+        """Each copy of the unknown one, then the label of the range, which may stand on its residue without a modification or on the reference's."""
+        p = read("[u:+01.50]^3?{Obs:-2}[unimod:4]-a(CD[R:x])[y|+0.5#g1(-0.25)](?ef[#g1])-[info:z[#|]]")
+        self.assertEqual(
+            [(floater.index, floater.copy, floater.positions) for floater in p.floaters],
+            [(0, 1, (1, 2, 4, 5)), (0, 2, (1, 2, 4, 5)), (0, 3, (1, 2, 4, 5)), (4, 1, (2, 5))],
+        )
+        self.assertEqual([floater.bracket for floater in p.floaters], [p.brackets[0]] * 3 + [p.brackets[4]])
+
+    def test_which_brackets_float(self):
+        for line, expected in {
+            "A": [],
+            "A[+1]": [],
+            "{+1}A": [],
+            "A[INFO:x]": [],
+            "(AC)[INFO:x]": [],
+            "(AC)[+1]": [(0, 1)],
+            "(AC)[+1][+2]": [(0, 1), (1, 1)],
+            "[+1#a]-A[#a]": [(0, 1)],
+            "A[#a]C[+1#a]": [(1, 1)],
+            "[+9]^2[+1#a]?{+2}[+3]-A[#a](C)[+4]-[+5#b]": [(0, 1), (0, 2), (1, 1), (5, 1), (6, 1)],
+        }.items():
+            with self.subTest(line):
+                self.assertEqual([(floater.index, floater.copy) for floater in read(line).floaters], expected)
+
+    def test_picture(self):
+        picture = read("[+1]^2?[+3#g]-AM[+15.995]C[Oxidation#h]K[#h]-[#g]").picture()
+        self.assertEqual(
+            picture.split("\n"),
+            [
+                "  nAMCKc",
+                "1 .o.oo.   [+1]",
+                "2 .o.oo.   [+1]",
+                "3 o....o   [+3#g]",
+                "4 ...oo.   [Oxidation#h]",
+            ],
+        )
+        self.assertEqual(read("AC").picture(), "  nACc")
+
+    def test_numbers(self):
+        number = read("A[-1.50]").brackets[0].parts[0].mass
+        self.assertEqual((float(number), str(number.decimal)), (-1.5, "-1.50"))
+        self.assertEqual(str(read("A[-0.00]").brackets[0].parts[0].mass.decimal), "0.00")
+        self.assertEqual(str(read("A[+999999.999999]").brackets[0].parts[0].mass.decimal), "999999.999999")
 
     def test_one_entry_for_one_molecule(self):
         self.assertEqual(read("a[+01.50]"), read("A[+1.50]"))
         self.assertEqual(len({read("[+1]?[+2]^1?A"), read("[+1][+2]?a")}), 1)
         self.assertNotEqual(read("A[+1.5]"), read("A[+1.50]"))
-        self.assertNotEqual(read("A"), "A")
-        self.assertEqual(repr(read("a")), "hwemiduk.read('A')")
 
     def test_round_trip(self):
         for line in ["AM[+15.995]C[-18.01]", "[+1]^2?ac", "a[+01.50]", "A[Cation:Mg[II]]", "M[+16#a]C[#a]", "{x}[y]-(AC)[z]-[INFO:w]"]:
             p = read(line)
-            again = read(p.canonical())
-            self.assertEqual(again.canonical(), p.canonical())
+            again = read(str(p))
+            self.assertEqual(str(again), str(p))
             self.assertEqual((again.residues, again.sections, again.brackets), (p.residues, p.sections, p.brackets))
 
 
 class Placements(unittest.TestCase):
     def test_not_allowed(self):
         p = read("[+1]^2?AC")
-        for placement in [(0,) * 8, (1, 1) + (0,) * 6, (1, 3) + (0,) * 6, (1, 2, 1) + (0,) * 5, (255,) * 8]:
+        for placement in [(0, 0), (1, 1), (1, 3), (3, 1), (255, 255)]:
             self.assertFalse(p.allowed(placement))
             self.assertEqual(refusal(p.ledger, placement), (18, 0))
-        self.assertEqual(p.ledger([2, 1, 0, 0, 0, 0, 0, 0]), [0, 1_000_000, 1_000_000, 0])
+        self.assertTrue(p.allowed([2, 1]))
+        self.assertEqual(p.ledger([2, 1]), [0, 1_000_000, 1_000_000, 0])
+
+    def test_a_terminus_is_no_entry_left_out(self):
+        """A label may stand at position 0: a placement that is too short must not be taken as one that ends in 0."""
+        p = read("[+1#b][+2#a]?[#a]-A[#b]")
+        self.assertEqual(list(p.placements()), [(1, 0)])
+        self.assertEqual(p.ledger((1, 0)), [2_000_000, 1_000_000, 0])
+        for call in [p.allowed, p.ledger]:
+            with self.assertRaises(ValueError) as caught:
+                call((1,))
+            self.assertNotIsInstance(caught.exception, Refusal)
 
     def test_no_placement_at_all(self):
-        for placement in [(), (1, 2), (0,) * 9, (256,) + (0,) * 7, (-1,) + (0,) * 7]:
-            with self.assertRaises(ValueError):
-                read("A").ledger(placement)
+        for line, placement in [("A", (1,)), ("A", (0,) * 8), ("[+1]^2?AC", ()), ("[+1]^2?AC", (1, 2, 0)), ("[+1]?A", (256,)), ("[+1]?A", (-1,))]:
+            for call in [read(line).ledger, read(line).allowed]:
+                with self.assertRaises(ValueError) as caught:
+                    call(placement)
+                self.assertNotIsInstance(caught.exception, Refusal, (line, placement))
 
     def test_each_listing_is_its_own(self):
         p = read("[+1]^2?AC")
         one, other = p.placements(), p.placements()
         self.assertEqual(next(one), next(other))
-        self.assertEqual((next(one)[:2], next(one, None), next(other)[:2]), ((2, 1), None, (2, 1)))
+        read("[+1]^3?ACDEFG").total()
+        self.assertEqual((next(one), next(one, None), next(other)), ((2, 1), None, (2, 1)))
 
     def test_many(self):
         """Four floaters on six residues: 6 * 5 * 4 * 3 placements, ascending."""
         placements = list(read("[+1]^4?ACDEFG").placements())
         self.assertEqual(len(set(placements)), 360)
         self.assertEqual(placements, sorted(placements))
-
-
-class Refusals(unittest.TestCase):
-    def test_what_it_says(self):
-        with self.assertRaises(Refusal) as caught:
-            read("A[U:35]")
-        error = caught.exception
-        self.assertEqual((error.number, error.place, error.words), (9, 2, "prefix U or M and a name all digits"))
-        self.assertEqual(str(error), "9 at 2: prefix U or M and a name all digits")
-        self.assertEqual(pickle.loads(pickle.dumps(error)).args, error.args)
-
-    def test_words_are_those_of_the_header(self):
-        header = (ROOT / "include" / "hwemiduk.h").read_text()
-        answers = header[header.index("enum hwemiduk_answer") : header.index("};")]
-        words = {int(number): text for number, text in re.findall(r"HWEMIDUK_\w+ = (\d+),? +/\* (.*) \*/", answers)}
-        self.assertEqual(words, hwemiduk.WORDS)
-        self.assertEqual(sorted(words), list(range(1, 19)))
-
-    def test_codes_are_those_of_the_header(self):
-        header = (ROOT / "include" / "hwemiduk.h").read_text()
-        for enum, names in [("section", hwemiduk.SECTIONS), ("kind", hwemiduk.KINDS), ("key", hwemiduk.KEYS)]:
-            start = header.index("enum hwemiduk_" + enum)
-            codes = re.findall(r"HWEMIDUK_(\w+) = (\d+)", header[start : header.index("};", start)])
-            plain = {int(code): re.sub("[^A-Z]|ON_|NO_KEY", "", name) for name, code in codes}
-            self.assertEqual(plain, {code: re.sub("[^A-Z]", "", name.upper()) for code, name in enumerate(names) if code in plain})
-            self.assertEqual(max(plain), len(names) - 1)
 
 
 class Junk(unittest.TestCase):
@@ -300,8 +354,9 @@ class Junk(unittest.TestCase):
     def test_any_bytes(self):
         source = random.Random(20261115)
         likely = b"ACacMm[]{}()?^-+#|:.0123456789xyINFOUobs"
+        share = int(os.environ.get("HWEMIDUK_SHARE", 1))
         accepted = 0
-        for _ in range(20_000):
+        for _ in range(20_000 // share):
             pool = likely if source.random() < 0.9 else bytes(range(256))
             line = bytes(source.choice(pool) for _ in range(source.randrange(12)))
             try:
@@ -309,25 +364,30 @@ class Junk(unittest.TestCase):
             except Refusal as error:
                 self.assertTrue(1 <= error.number <= 12 and 0 <= error.place <= len(line), line)
             else:
-                self.assertEqual(read(p.canonical()), p, line)
+                self.assertEqual(read(str(p)), p, line)
                 accepted += 1
-        self.assertGreater(accepted, 500)
+        self.assertGreater(accepted, 500 // share)
 
     def test_tables_of_no_line(self):
-        """Every call over tables answers 14 where one byte of junk stands in unused room."""
-        p = read("[+1]^2?AC")
-        p._tables[len(p._tables) - 1] = 1
-        for call in [p.canonical, p.total, p.mass, p.rows, lambda: list(p.placements())]:
-            self.assertEqual(refusal(call), (14, 0))
-        for call in [p.allowed, p.ledger]:
-            self.assertEqual(refusal(call, (1, 2, 0, 0, 0, 0, 0, 0)), (14, 0))
+        """The library refuses tables that one byte of junk stands in: what it answers over areas is what is handed on."""
+        areas = take()
+        try:
+            line = b"[+1]^2?AC"
+            library = hwemiduk._library.library
+            self.assertEqual(library.hwemiduk_read(line, len(line), *areas.tables, areas.size_at), 0)
+            areas.data[-1] = 1
+            self.assertEqual(library.hwemiduk_write(*areas.tables, areas.out_at, LIMITS.line, areas.size_at), 14)
+            for call in [hwemiduk._peptidoform._rows, hwemiduk._peptidoform._count]:
+                self.assertEqual(refusal(call, areas), (14, 0))
+        finally:
+            FREE.append(areas)
 
 
 class LimitsOfLines(unittest.TestCase):
     def test_limits(self):
         """Document 01, "The tables", and docs/DECISIONS.md, "The areas"."""
         self.assertEqual(
-            LIMITS._asdict(),
+            dataclasses.asdict(LIMITS),
             {
                 "line": 4096,
                 "residues": 254,
@@ -367,7 +427,7 @@ class LimitsOfLines(unittest.TestCase):
         line = "A" + ("[" + "x" * 128 + "]") * 31
         line += "[" + "y" * (4096 - len(line) - 2) + "]"
         self.assertEqual(len(line), 4096)
-        self.assertEqual(read(line).canonical(), line)
+        self.assertEqual(str(read(line)), line)
         self.assertEqual(refusal(read, line + "A"), (2, 4096))
         self.assertEqual(refusal(read, b"\xff" * 100_000), (2, 4096))
 

@@ -1,0 +1,59 @@
+"""A register of peptidoforms: lines in ProForma 2.1 notation, read, written, placed and weighed by the proved library.
+
+>>> p = Peptidoform("[+1]^2?ac")
+>>> str(p)
+'[+1]^2?AC'
+>>> list(p.placements())
+[(1, 2), (2, 1)]
+>>> p.total(), p.shift(), p.missing
+(2000000, 2.0, 0)
+
+Totals, shifts and ledgers are of the modifications only: the residues' own masses are not in them.
+
+>>> Peptidoform("PEPTIDE").shift()
+0.0
+
+A line that is refused raises a Refusal, a ValueError with a number, a place and words; `read_lines` reads a whole file and raises none.
+
+>>> Peptidoform("A[U:35]")
+Traceback (most recent call last):
+hwemiduk.Refusal: 9 at 2: prefix U or M with a name of digits only
+
+A peptidoform pickles, so many lines are best read by several processes (`multiprocessing`); threads are safe and no quicker.
+
+The library is the file that HWEMIDUK_LIBRARY names; or libhwemiduk.so beside this package, where `pip install ./python` puts it; or, in the repository,
+target/lib/libhwemiduk.so or target/shared/libhwemiduk.so, which bin/build-shared links.
+"""
+
+from ._library import LIMITS, Limits
+from ._peptidoform import Line, Peptidoform, read, read_lines
+from ._refusals import WORDS, Refusal
+from ._tables import Bracket, Floater, Key, Kind, Label, Number, Part, Section
+
+__version__ = "0.1.0"
+
+__all__ = [
+    "LIMITS",
+    "WORDS",
+    "Bracket",
+    "Floater",
+    "Key",
+    "Kind",
+    "Label",
+    "Limits",
+    "Line",
+    "Number",
+    "Part",
+    "Peptidoform",
+    "Refusal",
+    "Section",
+    "__version__",
+    "read",
+    "read_lines",
+]
+
+# They are documented, pickled and shown in tracebacks under the name that users import them by.
+for _name in __all__:
+    if hasattr(globals()[_name], "__module__") and callable(globals()[_name]):
+        globals()[_name].__module__ = __name__
+del _name

@@ -1,0 +1,75 @@
+"""The refusals, and their words."""
+
+from __future__ import annotations
+
+from typing import Any, Optional, Tuple
+
+#: Each refusal in words, by its number.
+WORDS = {
+    1: "the line is empty",
+    2: "the line is longer than 4,096 bytes",
+    3: "a byte outside 32 to 126",
+    4: "not of the order of a line",
+    5: "pairs nested more than eight deep",
+    6: "too many residues (254), brackets (64) or parts (4), a text over 128 bytes or a label over 16",
+    7: "a mass or score of a million or more or with more than 6 decimals, a count outside 1 to 99",
+    8: "something that is not taken here: Formula, Glycan, Position, Limit, CoMKP, CoMUP, labels XL.. and BRANCH",
+    9: "prefix U or M with a name of digits only",
+    10: "only INFO in a bracket of unknown position or a labile one",
+    11: "labels that do not fit: a second one, one defined again, a reference without definition, a count on a labelled bracket, "
+    "one in an unknown run that nothing refers to",
+    12: "more than eight floating copies",
+    13: "a lent area is too short",
+    14: "tables that no accepted line reads to",
+    15: "the output is shorter than the canonical line",
+    16: "a modification has no mass",
+    17: "no placement, no further one, no such row",
+    18: "a placement that is not allowed",
+}
+
+#: Refusals 1 to this one are of a line, and their place is one in the line.
+_LAST_OF_A_LINE = 12
+
+
+class Refusal(ValueError):
+    """What the library refuses: `number` says why (WORDS), and `place` where.
+
+    The place of refusals 1 to 12 is a byte of the line, counted from 0; where the line should go on and ends, it is the line's length. For 16, `place` is how
+    many modifications have no mass, each copy counted. `line` is the line that was refused (bytes), None where no line was read.
+    """
+
+    def __init__(self, number: int, place: int = 0, line: Optional[bytes] = None) -> None:
+        super().__init__(number, place, line)
+        self.number = number
+        self.place = place
+        self.line = line
+
+    @property
+    def words(self) -> str:
+        """What the number says."""
+        return WORDS[self.number]
+
+    @property
+    def column(self) -> Optional[int]:
+        """The place counted from 1, as editors count; None where the refusal is not of a line."""
+        return self.place + 1 if self.number <= _LAST_OF_A_LINE else None
+
+    def __str__(self) -> str:
+        if self.number == 16:
+            return f"16: {self.place} modification{' has' if self.place == 1 else 's have'} no mass"
+        at = f" at {self.place}" if self.column is not None else ""
+        return f"{self.number}{at}: {self.words}"
+
+    def show(self, width: int = 100) -> str:
+        """The line, with a mark under the place: two lines, or none where the refusal is not of a line.
+
+        Every byte that cannot be printed is shown as `?`. Of a long line, `width` bytes around the place are shown.
+        """
+        if self.line is None or self.column is None:
+            return ""
+        begin = max(0, min(self.place - width // 2, len(self.line) - width))
+        text = "".join(chr(byte) if 32 <= byte <= 126 else "?" for byte in self.line[begin : begin + width])
+        return f"{text}\n{' ' * (self.place - begin)}^"
+
+    def __reduce__(self) -> Tuple[Any, ...]:
+        return Refusal, (self.number, self.place, self.line)

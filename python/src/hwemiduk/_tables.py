@@ -1,0 +1,209 @@
+"""What the tables of an accepted line hold."""
+
+from __future__ import annotations
+
+import enum
+from dataclasses import dataclass
+from decimal import Decimal
+from typing import List, Optional, Sequence, Tuple
+
+from ._library import LIMITS, Areas
+
+
+class Kind(enum.Enum):
+    """Where a bracket stands, in the order of their numbers in the tables, from 1."""
+
+    UNKNOWN = "unknown"
+    LABILE = "labile"
+    N_TERM = "n-term"
+    RESIDUE = "residue"
+    RANGE = "range"
+    C_TERM = "c-term"
+
+
+class Section(enum.Enum):
+    """What a residue stands in, in the order of their numbers in the tables, from 0. `UNSURE` is a group `(?..)`."""
+
+    PLAIN = "plain"
+    RANGE_FIRST = "range first"
+    RANGE_NEXT = "range next"
+    UNSURE_FIRST = "unsure first"
+    UNSURE_NEXT = "unsure next"
+
+
+class Key(enum.Enum):
+    """A part's key word or prefix, in the order of their numbers in the tables, from 0; its value is the canonical spelling."""
+
+    NONE = ""
+    U = "U"
+    M = "M"
+    R = "R"
+    X = "X"
+    G = "G"
+    C = "C"
+    OBS = "Obs"
+    UNIMOD = "UNIMOD"
+    MOD = "MOD"
+    XLMOD = "XLMOD"
+    RESID = "RESID"
+    GNO = "GNO"
+    INFO = "INFO"
+
+
+@dataclass(frozen=True)
+class Number:
+    """A mass or a score: its value in millionths, and how many decimals were written."""
+
+    millionths: int
+    decimals: int
+
+    def __float__(self) -> float:
+        return self.millionths / 1_000_000
+
+    @property
+    def decimal(self) -> Decimal:
+        """The number exactly, with the decimals that were written."""
+        return Decimal(self.millionths).scaleb(-6).quantize(Decimal(1).scaleb(-self.decimals))
+
+
+@dataclass(frozen=True)
+class Label:
+    """A label, with its score if it has one."""
+
+    name: str
+    score: Optional[Number]
+
+    def __str__(self) -> str:
+        return "#" + self.name + (f"({self.score.decimal:f})" if self.score is not None else "")
+
+
+@dataclass(frozen=True)
+class Part:
+    """A part of a bracket: a mass, or a text, or (a lone reference) only a label."""
+
+    key: Key
+    mass: Optional[Number]
+    text: Optional[str]
+    label: Optional[Label]
+
+    def __str__(self) -> str:
+        value = self.text or "" if self.mass is None else f"{self.mass.decimal:+f}"
+        return (self.key.value + ":" if self.key is not Key.NONE else "") + value + (str(self.label) if self.label else "")
+
+
+@dataclass(frozen=True)
+class Bracket:
+    """A bracket: what it says, where it stands, and how often (`count`). `str()` is the bracket as it is written, without its count."""
+
+    kind: Kind
+    #: the positions it stands on: 0 is the N-terminus, 1 to n are the residues, n + 1 is the C-terminus; none where it is unknown or labile
+    positions: range
+    count: int
+    parts: Tuple[Part, ...]
+
+    def __str__(self) -> str:
+        inside = "|".join(map(str, self.parts))
+        return "{" + inside + "}" if self.kind is Kind.LABILE else "[" + inside + "]"
+
+    @property
+    def label(self) -> Optional[Label]:
+        """The bracket's label: it has at most one."""
+        return next((part.label for part in self.parts if part.label), None)
+
+    @property
+    def is_modification(self) -> bool:
+        """Whether it is a modification: neither a lone reference nor only INFO."""
+        return any(part.key is not Key.INFO and (part.mass is not None or part.text is not None) for part in self.parts)
+
+    @property
+    def millionths(self) -> Optional[int]:
+        """The mass of one copy in millionths: its first mass without Obs, else its first Obs mass; None where it has none.
+
+        Found here in the parts by document 01's rule; the library exports no call for it.
+        """
+        for observed in (False, True):
+            for part in self.parts:
+                if part.mass is not None and (part.key is Key.OBS) == observed:
+                    return part.mass.millionths
+        return None
+
+
+@dataclass(frozen=True)
+class Floater:
+    """A floating copy: its bracket, which copy of it, and where it may stand."""
+
+    #: its bracket's place in `Peptidoform.brackets`, from 0
+    index: int
+    bracket: Bracket
+    #: which copy of the bracket it is, from 1
+    copy: int
+    #: the permitted positions, ascending: those with a placed modification are struck out
+    positions: Tuple[int, ...]
+
+
+# Where the tables lie in the area of bytes (include/hwemiduk.h).
+_HEAD, _PART = 6, 7
+_ROW = _HEAD + LIMITS.parts * _PART
+_LETTERS = 2
+_SECTIONS = _LETTERS + LIMITS.residues
+_BRACKETS = _SECTIONS + LIMITS.residues
+_TEXTS = _BRACKETS + LIMITS.brackets * _ROW
+_NUMBERS = LIMITS.parts + 1
+if (_TEXTS + LIMITS.line, LIMITS.brackets * _NUMBERS) != (LIMITS.bytes, LIMITS.numbers):
+    raise ImportError("hwemiduk: the library's tables lie otherwise than this package reads them")
+
+# By their numbers in the tables. No accepted line has a bracket of kind 0.
+_kinds = (Kind.UNKNOWN, *Kind)
+_sections = tuple(Section)
+_keys = tuple(Key)
+_MASS, _TEXT = 1, 2
+
+
+def residues(areas: Areas) -> str:
+    data = areas.data
+    return data[_LETTERS : _LETTERS + data[0]].decode("ascii")
+
+
+def sections(areas: Areas) -> Tuple[Section, ...]:
+    data = areas.data
+    return tuple(_sections[code] for code in data[_SECTIONS : _SECTIONS + data[0]])
+
+
+def brackets(areas: Areas) -> Tuple[Bracket, ...]:
+    return tuple(_bracket(areas, index) for index in range(areas.data[1]))
+
+
+def _bracket(areas: Areas, index: int) -> Bracket:
+    row = _BRACKETS + index * _ROW
+    kind, first, last, count, parts, score = areas.data[row : row + _HEAD]
+    numbers = areas.numbers[index * _NUMBERS : (index + 1) * _NUMBERS]
+    scored = Number(numbers[LIMITS.parts], score - 1) if score else None
+    stands = range(0) if _kinds[kind] in (Kind.UNKNOWN, Kind.LABILE) else range(first, last + 1)
+    return Bracket(_kinds[kind], stands, count, tuple(_part(areas.data, row + _HEAD + k * _PART, numbers[k], scored) for k in range(parts)))
+
+
+def _part(data: bytearray, at: int, mass: int, score: Optional[Number]) -> Part:
+    value, key, decimals, text_length, label_length, low, high = data[at : at + _PART]
+    text_at = _TEXTS + low + 256 * high
+    label_at = text_at + text_length
+    text = data[text_at:label_at].decode("ascii") if value == _TEXT else None
+    label = Label(data[label_at : label_at + label_length].decode("ascii"), score) if label_length else None
+    return Part(_keys[key], Number(mass, decimals) if value == _MASS else None, text, label)
+
+
+def floating(held: Sequence[Bracket]) -> List[Tuple[int, int]]:
+    """For each floater, in their order, the place of its bracket (from 0) and which copy of it it is (from 1).
+
+    Derived here from the tables, as document 01 orders floaters ("in order of their brackets": each copy of an unlabelled unknown modification, each unlabelled
+    one on a range, each label's definition). The library exports no call for it: where it does, that call takes this function's place.
+    """
+    found = []
+    for index, bracket in enumerate(held):
+        if not bracket.is_modification:
+            copies = 0
+        elif bracket.label is not None:
+            copies = 1
+        else:
+            copies = {Kind.UNKNOWN: bracket.count, Kind.RANGE: 1}.get(bracket.kind, 0)
+        found += [(index, copy) for copy in range(1, copies + 1)]
+    return found

@@ -106,7 +106,7 @@ lent made {says = says} Ensured after old is one h kept =
 
 -- ---- each call
 module _ (bs : List ℕ) (ns : List ℤ) where
-  writes-so : (out : List ℕ) → Sayable saysWrite (13 ∷ 14 ∷ 15 ∷ []) (writes bs ns out)
+  pub writes-so : (out : List ℕ) → Sayable saysWrite (13 ∷ 14 ∷ 15 ∷ []) (writes bs ns out)
   writes-so out =
       let c = canonical (tablesIn bs ns) in
       over (Sayable saysWrite (13 ∷ 14 ∷ 15 ∷ [])) bs ns (λ t. fitting (canonical t) (length out))
@@ -121,7 +121,7 @@ module _ (bs : List ℕ) (ns : List ℤ) where
       (λ o. ((λ w. (w .says, w .output-after)), (λ w. record { says = w .0; output-after = w .1 }))) write-same (writes-so out)
       (λ n p q. ap (λ s. outputAfter s c out) q)
 
-  counts-so : (f : Tables → ℕ) → Sayable saysCount (13 ∷ 14 ∷ []) (counts bs ns f)
+  pub counts-so : (f : Tables → ℕ) → Sayable saysCount (13 ∷ 14 ∷ []) (counts bs ns f)
   counts-so f =
       over (Sayable saysCount (13 ∷ 14 ∷ [])) bs ns (λ t. good (f t)) (refusal (countRefused 13 0) refl (inl refl)) (refusal (countRefused 14 0) refl (inr (inl refl)))
       (success (Is (f (tablesIn bs ns))) refl)
@@ -129,7 +129,7 @@ module _ (bs : List ℕ) (ns : List ℤ) where
   pub count : (f : Tables → ℕ) → Answered (CountSays f bs ns) saysCount (13 ∷ 14 ∷ []) Nothing
   count f = alone count-same (counts-so f)
 
-  totals-so : Sayable saysTotal (13 ∷ 14 ∷ 16 ∷ []) (totals bs ns)
+  pub totals-so : Sayable saysTotal (13 ∷ 14 ∷ 16 ∷ []) (totals bs ns)
   totals-so =
       let t = tablesIn bs ns in
       over (Sayable saysTotal (13 ∷ 14 ∷ 16 ∷ [])) bs ns (λ t. weighed t (total t))
@@ -143,7 +143,7 @@ module _ (bs : List ℕ) (ns : List ℤ) where
   display true m n = success (Daltons (daltons m)) refl
   display false m n = success (Missing n) refl
 
-  shows-so : Sayable saysShown (13 ∷ 14 ∷ []) (shows bs ns)
+  pub shows-so : Sayable saysShown (13 ∷ 14 ∷ []) (shows bs ns)
   shows-so =
       let t = tablesIn bs ns in
       over (Sayable saysShown (13 ∷ 14 ∷ [])) bs ns (λ t. good (cond (eqb (lacking t) 0) (aMass (daltons (total t))) (lack (lacking t))))
@@ -153,7 +153,7 @@ module _ (bs : List ℕ) (ns : List ℤ) where
   pub shown : Answered (ShownSays bs ns) saysShown (13 ∷ 14 ∷ []) Nothing
   shown = alone shown-same shows-so
 
-  allows-so : (p : List ℕ) → Sayable saysRequest (13 ∷ 14 ∷ 18 ∷ []) (allows bs ns p)
+  pub allows-so : (p : List ℕ) → Sayable saysRequest (13 ∷ 14 ∷ 18 ∷ []) (allows bs ns p)
   allows-so p =
       over (Sayable saysRequest (13 ∷ 14 ∷ 18 ∷ [])) bs ns (λ t. cond (allowed (permittedPositions t) p) (good tt) (refuses 18 0))
       (refusal (requestRefused 13) refl (inl refl)) (refusal (requestRefused 14) refl (inr (inl refl)))
@@ -173,7 +173,7 @@ module _ (bs : List ℕ) (ns : List ℤ) where
       either (λ s. Sayable saysRequest (13 ∷ 14 ∷ 17 ∷ 18 ∷ []) (met s)) (takenListing qs l) (following-so (following qs l))
       (refusal (requestRefused 18) refl (inr (inr (inr (inl refl)))))
 
-  requests-so : (l : Listing) → Sayable saysRequest (13 ∷ 14 ∷ 17 ∷ 18 ∷ []) (met (requests bs ns l))
+  pub requests-so : (l : Listing) → Sayable saysRequest (13 ∷ 14 ∷ 17 ∷ 18 ∷ []) (met (requests bs ns l))
   requests-so l =
       over (λ s. Sayable saysRequest (13 ∷ 14 ∷ 17 ∷ 18 ∷ []) (met s)) bs ns (λ t. requested (permittedPositions t) l)
       (refusal (requestRefused 13) refl (inl refl)) (refusal (requestRefused 14) refl (inr (inl refl)))
@@ -194,7 +194,7 @@ module _ (bs : List ℕ) (ns : List ℤ) where
       lent (pair Request Listing) {says = saysRequest} (λ o. StepSays bs ns l (o .0) (o .1)) (listingAfter bs ns l) l
       (λ o. ((λ w. w), (λ w. w))) request-same (requests-so l) (stays l)
 
-  books-so : (p : List ℕ) → Sayable saysBooked (13 ∷ 14 ∷ 16 ∷ 18 ∷ []) (books bs ns p)
+  pub books-so : (p : List ℕ) → Sayable saysBooked (13 ∷ 14 ∷ 16 ∷ 18 ∷ []) (books bs ns p)
   books-so p =
       let t = tablesIn bs ns in
       over (Sayable saysBooked (13 ∷ 14 ∷ 16 ∷ 18 ∷ [])) bs ns (λ t. bookable t p)
@@ -211,7 +211,7 @@ module _ (bs : List ℕ) (ns : List ℤ) where
       {says = saysBooked} (LedgerSays bs ns p) (entries (books bs ns (p .at)) (tablesIn bs ns) (p .at)) (replicate positionLimit (pos 0))
       (λ o. ((λ w. w), (λ w. w))) booked-same (books-so (p .at)) (λ n k q. ap (λ s. entries s (tablesIn bs ns) (p .at)) q)
 
-  rows-so : (room : List Site) → Sayable saysCount (13 ∷ 14 ∷ []) (rowsSaid bs ns room)
+  pub rows-so : (room : List Site) → Sayable saysCount (13 ∷ 14 ∷ []) (rowsSaid bs ns room)
   rows-so room =
       either (Sayable saysCount (13 ∷ 14 ∷ [])) (ltb (length room) rowLimit) (refusal (countRefused 13 0) refl (inl refl)) (counts-so (λ t. length (rowsOf t)))
 
@@ -225,7 +225,8 @@ found-so : (o : Option Found) → Sayable saysLookup (13 ∷ 17 ∷ []) (given o
 found-so none = refusal (lookupRefused 17) refl (inr (inl refl))
 found-so (some x) = success (Row (x .index) (x .position)) refl
 
+pub looks-so : (rs : List Site) (n f : ℕ) → Sayable saysLookup (13 ∷ 17 ∷ []) (looksUp rs n f)
+looks-so rs n f = either (Sayable saysLookup (13 ∷ 17 ∷ [])) (ltb (length rs) rowLimit) (refusal (lookupRefused 13) refl (inl refl)) (found-so (lookup rs n f))
+
 pub first-row : (rs : List Site) (n f : ℕ) → Answered (LookupSays rs n f) saysLookup (13 ∷ 17 ∷ []) Nothing
-first-row rs n f =
-    alone lookup-same
-    (either (Sayable saysLookup (13 ∷ 17 ∷ [])) (ltb (length rs) rowLimit) (refusal (lookupRefused 13) refl (inl refl)) (found-so (lookup rs n f)))
+first-row rs n f = alone lookup-same (looks-so rs n f)

@@ -27,10 +27,6 @@ demand-1 =
       first-row = calls.first-row;
     }
 
--- areas that a line was read into are taken by every call
-taken : {s bs : List ℕ} {ns : List ℤ} {bs′ : List ℕ} {ns′ : List ℤ} → readers.WasRead s bs ns bs′ ns′ → weights.Taken bs′ ns′
-taken r = let h = readers.held-after r in record { long-enough = h .long-enough; taken = h .taken }
-
 demand-3 : (bs : List ℕ) (ns : List ℤ) → weights.Taken bs ns → Demand3 bs ns
 demand-3 bs ns h =
     record {
@@ -49,8 +45,8 @@ promises =
       accepting = readers.accepting;
       only-reader = readers.only-reader;
       demand-2 = written.demand-2;
-      demand-3 = λ s bs ns r bs′ ns′ w q. demand-3 bs′ ns′ (taken (readers.was-read s bs ns r bs′ ns′ w q));
+      demand-3 = λ s bs ns r bs′ ns′ w q. demand-3 bs′ ns′ (weights.taken-after (readers.was-read s bs ns r bs′ ns′ w q));
       reckoned = λ s bs ns r bs′ ns′ w q t g p.
           let a = readers.was-read s bs ns r bs′ ns′ w q in
-          weights.reckoned a (taken a) t (readers.line-means a t g p);
+          weights.reckoned a (weights.taken-after a) t (readers.line-means a t g p);
     }

@@ -7,3 +7,5 @@ pub mod Weights
 pub mod Rows
 pub mod Listed
 pub mod Kept
+pub mod AnsweringC
+pub mod KeptC

@@ -7,6 +7,7 @@ use mathlib.Core.Bool.{true, false}
 use mathlib.Core.List.{List, [], _∷_}
 use Prim.Native.Nat.{ℕ, zero, suc, _≤_, _<_}
 use lib.IntN.{ℤ, pos, _+ℤ_}
+use lib.Ieee.{Float}
 use lib.ListN.{length, take, drop, getD, replicate}
 use Rattle.scope.specs.declared.answers.Read.{Read}
 use Rattle.scope.specs.declared.answers.Write.{Write}
@@ -19,14 +20,14 @@ use Rattle.scope.specs.declared.answers.Listing.{Listing}
 use Rattle.scope.specs.declared.answers.Ledger.{Ledger}
 use Rattle.scope.specs.declared.answers.Site.{Site}
 use Rattle.scope.specs.declared.answers.Lookup.{Lookup}
-use Rattle.scope.specs.Limits.{rowLimit, positionLimit}
+use Rattle.scope.specs.Limits.{copyLimit, rowLimit, positionLimit}
 use Rattle.scope.specs.Line.{Line}
 use Rattle.scope.specs.Tables.{Tables, tablesOf, bytesOf, numbersOf, tablesIn}
-use Rattle.scope.specs.Lists.{laid}
+use Rattle.scope.specs.Lists.{laid, tabled}
 use Rattle.scope.specs.Positions.{floaters, permittedPositions, Found}
 use Rattle.scope.specs.Placements.{freshListing}
 use Rattle.scope.specs.Masses.{sum, total, lacking, labileMass, daltons}
-use Rattle.scope.specs.Answers.{Said, good, refuses, aMass, lack, saysRead, saysWrite, saysCount, saysTotal, saysShown, saysLookup, saysRequest, saysBooked, tooShort, residueCount, bracketCount, floaterCount, weighed}
+use Rattle.scope.specs.Answers.{Said, good, refuses, aMass, lack, saysRead, saysWrite, saysCount, saysTotal, saysShown, saysLookup, saysRequest, saysBooked, tooShort, counts, residueCount, bracketCount, floaterCount, totals, shows}
 use Rattle.scope.specs.Grammar.{Spelling, print, good as wellSpelt, means}
 use Rattle.grammar_laws.specs.Laws.{Accepts, Refuses}
 use Rattle.placement_laws.specs.Terms.{Ascending}
@@ -37,6 +38,9 @@ use Rattle.calls.specs.Writing.{WriteSays}
 use Rattle.calls.specs.Says.{CountSays, TotalSays, ShownSays, AllowedSays, NextSays, LedgerSays}
 use Rattle.rows.specs.Says.{LookupSays}
 use Rattle.listing.specs.Says.{RowsSays, StepSays}
+use Rattle.export.specs.Numbers.{Judged, Exported}
+use Rattle.export.specs.Handed.{RowsHanded, LookedUp, MovedOn}
+use Rattle.export.specs.Shapes.{Counted, Written, Totalled, Displayed, AllowedLent, Entered as EnteredLent}
 
 -- ======== demand 1
 -- "Every line of bytes, every set of tables and every lent area gets an answer, and the caller need not have checked anything."
@@ -251,3 +255,91 @@ pub record Promises : Type 1 where
   pub reckoned :
       (s bs : List ℕ) (ns : List ℤ) (r : Read) (bs′ : List ℕ) (ns′ : List ℤ) → ReadSays s bs ns r bs′ ns′ → saysRead r ≡ good tt
       → (t : Spelling) → wellSpelt t ≡ true → s ≡ print t → Reckoned t bs′ ns′
+
+-- ======== the same over what a caller in C sees: the contracts of crate export. A number is 0 for a success, and else a refusal's.
+abbrev pub told : ℕ → Said (Unit {0})
+told zero = good tt
+told (suc n) = refuses (suc n) 0
+
+-- demand 1, for every exported call: an outcome is the number, and everything lent as it is afterwards
+pub record Demand1C : Type 0 where
+  pub verdict : (s : List ℕ) → Answered (λ (o : ℕ × ℕ). Judged s (o .0) (o .1)) (λ o. told (o .0)) (tabled (λ n. n) 1 12) (λ o. o .1 ≤ length s)
+  pub read :
+      (s bs : List ℕ) (ns : List ℤ)
+      → Answered (λ (o : ℕ × ℕ × List ℕ × List ℤ). Exported s bs ns (o .0) (o .1) (o .2) (o .3)) (λ o. told (o .0)) (tabled (λ n. n) 1 13)
+      (λ o. (o .1 ≤ length s) × (o .2 ≡ bs) × (o .3 ≡ ns))
+  pub write :
+      (bs : List ℕ) (ns : List ℤ) (out : List ℕ)
+      → Answered (λ (o : ℕ × ℕ × List ℕ). Written bs ns out (o .0) (o .1) (o .2)) (λ o. told (o .0)) (13 ∷ 14 ∷ 15 ∷ []) (λ o. o .2 ≡ out)
+  pub count :
+      (f : Tables → ℕ) (bs : List ℕ) (ns : List ℤ)
+      → Answered (λ (o : ℕ × ℕ). Counted (counts bs ns f) (o .0) (o .1)) (λ o. told (o .0)) (13 ∷ 14 ∷ []) Nothing
+  pub total :
+      (bs : List ℕ) (ns : List ℤ)
+      → Answered (λ (o : ℕ × ℤ × ℕ). Totalled (totals bs ns) (o .0) (o .1) (o .2)) (λ o. told (o .0)) (13 ∷ 14 ∷ 16 ∷ []) Nothing
+  pub shown :
+      (bs : List ℕ) (ns : List ℤ)
+      → Answered (λ (o : ℕ × Float × ℕ). Displayed (shows bs ns) (o .0) (o .1) (o .2)) (λ o. told (o .0)) (13 ∷ 14 ∷ []) Nothing
+  pub allowed : (bs : List ℕ) (ns : List ℤ) (p : List ℕ) → Answered (AllowedLent bs ns p) told (13 ∷ 14 ∷ 18 ∷ []) Nothing
+  pub next :
+      (bs : List ℕ) (ns : List ℤ) (l : Listing)
+      → Answered (λ (o : ℕ × Listing). MovedOn bs ns l (o .0) (o .1)) (λ o. told (o .0)) (13 ∷ 14 ∷ 17 ∷ 18 ∷ []) (λ o. o .1 ≡ l)
+  pub ledger :
+      (bs : List ℕ) (ns : List ℤ) (p : List ℕ) (old : List ℤ)
+      → Answered (λ (o : ℕ × ℕ × List ℤ). EnteredLent bs ns p old (o .0) (o .1) (o .2)) (λ o. told (o .0)) (13 ∷ 14 ∷ 16 ∷ 18 ∷ []) (λ o. o .2 ≡ old)
+  pub rows :
+      (bs : List ℕ) (ns : List ℤ) (room : List Site)
+      → Answered (λ (o : ℕ × ℕ × List Site). RowsHanded bs ns room (o .0) (o .1) (o .2)) (λ o. told (o .0)) (13 ∷ 14 ∷ []) (λ o. o .2 ≡ room)
+  pub first-row :
+      (rs : List Site) (n f : ℕ) → Answered (λ (o : ℕ × ℕ × ℕ). LookedUp rs n f (o .0) (o .1) (o .2)) (λ o. told (o .0)) (13 ∷ 17 ∷ []) Nothing
+
+-- demand 2
+pub record FiledC (s bs : List ℕ) (ns : List ℤ) (bs′ : List ℕ) (ns′ : List ℤ) (out′ : List ℕ) (m : ℕ) : Type 0 where
+  pub place : ℕ
+  pub read : Exported s bs ns 0 place bs′ ns′
+  pub out : List ℕ
+  pub written : Written bs′ ns′ out 0 m out′
+
+pub record EnteredC (s bs : List ℕ) (ns : List ℤ) (out : List ℕ) (number long : ℕ) (out′ : List ℕ) : Type 0 where
+  pub success : number ≡ 0
+  pub no-longer : long ≤ length s
+  pub rest : drop long out′ ≡ drop long out
+  pub back : (n p : ℕ) (bs′ : List ℕ) (ns′ : List ℤ) → Exported (take long out′) bs ns n p bs′ ns′ → (n ≡ 0) × (bs′ ≡ bs) × (ns′ ≡ ns)
+
+-- demand 3
+abbrev pub HandsOutC : List ℕ → List ℤ → Listing → List (List ℕ) → Type 0
+HandsOutC bs ns l [] = (l′ : Listing) × MovedOn bs ns l 17 l′
+HandsOutC bs ns l (p ∷ ps) = (l′ : Listing) × (MovedOn bs ns l 0 l′ × ((l′ .at ≡ p) × HandsOutC bs ns l′ ps))
+
+pub record Demand3C (bs : List ℕ) (ns : List ℤ) : Type 0 where
+  pub ends : (ps : List (List ℕ)) × HandsOutC bs ns freshListing ps
+  pub every-allowed :
+      (ps : List (List ℕ)) → HandsOutC bs ns freshListing ps → (p : List ℕ) → copyLimit ≤ length p → (n : ℕ) → AllowedLent bs ns p n
+      → In (take copyLimit p) ps ↔ (n ≡ 0)
+  pub ascending : (ps : List (List ℕ)) → HandsOutC bs ns freshListing ps → Ascending ps
+  pub none : (n : ℕ) (l′ : Listing) → MovedOn bs ns freshListing n l′ → (n ≡ 17) ↔ ((p : List ℕ) → copyLimit ≤ length p → AllowedLent bs ns p 0 → ⊥)
+  pub adds-up :
+      (m : ℤ) (place : ℕ) → Totalled (totals bs ns) 0 m place → (p : List ℕ) → copyLimit ≤ length p → AllowedLent bs ns p 0
+      → (old : List ℤ) → positionLimit ≤ length old → (n k : ℕ) (new : List ℤ) → EnteredLent bs ns p old n k new
+      → (n ≡ 0) × (sum (take positionLimit new) +ℤ labileMass (tablesIn bs ns) ≡ m)
+
+pub record PromisesC : Type 0 where
+  pub demand-1 : Demand1C
+  pub accepts :
+      (s bs : List ℕ) (ns : List ℤ) (n p : ℕ) (bs′ : List ℕ) (ns′ : List ℤ) → Exported s bs ns n p bs′ ns′
+      → (n ≡ 0) ↔ ((tooShort bs ns ≡ false) × ((l : Line ℕ) × Accepts s l))
+  pub tables :
+      (s bs : List ℕ) (ns : List ℤ) (p : ℕ) (bs′ : List ℕ) (ns′ : List ℤ) → Exported s bs ns 0 p bs′ ns′
+      → (t : Spelling) → wellSpelt t ≡ true → s ≡ print t → Holding t bs ns bs′ ns′
+  pub refuses-by :
+      (s bs : List ℕ) (ns : List ℤ) (n p : ℕ) (bs′ : List ℕ) (ns′ : List ℤ) → Exported s bs ns n p bs′ ns′ → (n ≡ 0 → ⊥)
+      → ((tooShort bs ns ≡ true) × (n ≡ 13) × (p ≡ 0)) ⊎ ((tooShort bs ns ≡ false) × Refuses s n p)
+  pub reads-back :
+      (s bs : List ℕ) (ns : List ℤ) (p : ℕ) (bs′ : List ℕ) (ns′ : List ℤ) → Exported s bs ns 0 p bs′ ns′
+      → (out : List ℕ) (n long : ℕ) (out′ : List ℕ) → Written bs′ ns′ out n long out′ → length s ≤ length out → EnteredC s bs′ ns′ out n long out′
+  pub one-entry :
+      (s bs : List ℕ) (ns : List ℤ) (bs₁ : List ℕ) (ns₁ : List ℤ) (out₁ : List ℕ) (m : ℕ) → FiledC s bs ns bs₁ ns₁ out₁ m
+      → (t cs : List ℕ) (ms : List ℤ) (bs₂ : List ℕ) (ns₂ : List ℤ) (out₂ : List ℕ) (n : ℕ) → FiledC t cs ms bs₂ ns₂ out₂ n
+      → take m out₁ ≡ take n out₂ ↔ (tablesIn bs₁ ns₁ ≡ tablesIn bs₂ ns₂)
+  pub demand-3 :
+      (s bs : List ℕ) (ns : List ℤ) (p : ℕ) (bs′ : List ℕ) (ns′ : List ℤ) → Exported s bs ns 0 p bs′ ns′ → Demand3C bs′ ns′

@@ -116,23 +116,33 @@ dues-numbered s = go (reading s)
     go r = (omega arith, omega arith, (omega arith, omega arith, (omega arith, omega arith, (omega arith, omega arith, above r))))
 
 -- a refusal's number and place
-pub record Said13 (s : List ℕ) (n p : ℕ) : Type 0 where
+pub record Placed (most : ℕ) (s : List ℕ) (n p : ℕ) : Type 0 where
   pub from-1 : 1 ≤ n
-  pub to-13 : n ≤ 13
+  pub to-most : n ≤ most
   pub inside : p ≤ length s
 
-said-13 : (s bs : List ℕ) (ns : List ℤ) (n p : ℕ) → readOutcome bs ns s ≡ refused n p → Said13 s n p
+pub said-12 : (s : List ℕ) (n p : ℕ) → outcome s ≡ refused n p → Placed 12 s n p
+said-12 s n p e =
+    let d = reads.laws .lowest-wins s n p .0 e .0 in
+    let r = numbered (dues s) n p (dues-numbered s) d in
+    record { from-1 = r .0; to-most = r .1; inside = reads.laws .inside-line s n p d .0 }
+
+pub said-13 : (s bs : List ℕ) (ns : List ℤ) (n p : ℕ) → readOutcome bs ns s ≡ refused n p → Placed 13 s n p
 said-13 s bs ns n p e = go (tooShort bs ns) e
   where
-    go : (t : Bool) → cond t (refused 13 0) (outcome s) ≡ refused n p → Said13 s n p
+    go : (t : Bool) → cond t (refused 13 0) (outcome s) ≡ refused n p → Placed 13 s n p
     go true f =
         let x : 13 ≡ n = cc in
         let y : 0 ≡ p = cc in
-        record { from-1 = omega arith; to-13 = omega arith; inside = omega arith }
+        record { from-1 = omega arith; to-most = omega arith; inside = omega arith }
     go false f =
-        let d = reads.laws .lowest-wins s n p .0 f .0 in
-        let r = numbered (dues s) n p (dues-numbered s) d in
-        record { from-1 = r .0; to-13 = omega (arith, r .1); inside = reads.laws .inside-line s n p d .0 }
+        let r = said-12 s n p f in
+        let k = r .to-most in
+        record { from-1 = r .from-1; to-most = omega (arith, k); inside = r .inside }
+
+pub outcome-refused : (o : Outcome) {n p : ℕ} → saysOutcome o ≡ refuses n p → o ≡ refused n p
+outcome-refused (accepted l) e = absurd (not-both e)
+outcome-refused (refused m q) {n} e = ap (λ z. refused z q) (same-number e) ∙ ap (refused n) (same-place e)
 
 answered : (s bs : List ℕ) (ns : List ℤ) (r : Read) (bs′ : List ℕ) (ns′ : List ℤ) → ReadSays s bs ns r bs′ ns′
     → (saysRead r ≡ good tt) ⊎ TurnedAway s bs ns r bs′ ns′
@@ -148,7 +158,7 @@ answered s bs ns r bs′ ns′ w = go (readOutcome bs ns s) refl
           place = p;
           says = w .says ∙ ap saysOutcome e;
           from-1 = q .from-1;
-          to-13 = q .to-13;
+          to-13 = q .to-most;
           inside = q .inside;
           bytes = w .bytes-after ∙ ap (λ z. bytesAfter z bs) e;
           numbers = w .numbers-after ∙ ap (λ z. numbersAfter z ns) e;
@@ -190,10 +200,6 @@ refuses-by : (s bs : List ℕ) (ns : List ℤ) (r : Read) (bs′ : List ℕ) (ns
     → (saysRead r ≡ refuses k i) ↔ RefusedBy s bs ns k i
 refuses-by s bs ns r bs′ ns′ w k i = (there, back)
   where
-    outcome-is : (o : Outcome) → refuses k i ≡ saysOutcome o → o ≡ refused k i
-    outcome-is (accepted l) e = absurd (not-both (sym e))
-    outcome-is (refused m q) e = ap (λ z. refused z q) (sym (same-number e)) ∙ ap (refused k) (sym (same-place e))
-
     go : (t : Bool) → tooShort bs ns ≡ t → cond t (refused 13 0) (outcome s) ≡ refused k i → RefusedBy s bs ns k i
     go true e f =
         let x : k ≡ 13 = cc in
@@ -202,7 +208,7 @@ refuses-by s bs ns r bs′ ns′ w k i = (there, back)
     go false e f = inr (e, spelled.laws .refuses s k i .0 f)
 
     there : saysRead r ≡ refuses k i → RefusedBy s bs ns k i
-    there e = go (tooShort bs ns) refl (outcome-is (readOutcome bs ns s) (sym e ∙ w .says))
+    there e = go (tooShort bs ns) refl (outcome-refused (readOutcome bs ns s) (sym (w .says) ∙ e))
 
     back : RefusedBy s bs ns k i → saysRead r ≡ refuses k i
     back (inl a) =

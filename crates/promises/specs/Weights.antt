@@ -27,12 +27,16 @@ use Rattle.laws.specs.Proved.{demands}
 use Rattle.calls.specs.Says.{CountSays, TotalSays, ShownSays, AllowedSays, LedgerSays}
 use Rattle.promises.specs.Promises.{Reckoned}
 use Rattle.promises.specs.Said.{not-both, same-good, same-place, not-lack, same-lack}
-use Rattle.promises.specs.Readers.{WasRead}
+use Rattle.promises.specs.Readers.{WasRead, held-after}
 
 -- areas that every call takes
 pub record Taken (bs : List ℕ) (ns : List ℤ) : Type 0 where
   pub long-enough : tooShort bs ns ≡ false
   pub taken : areTables bs ns ≡ true
+
+-- those that a line was read into are
+pub taken-after : {s bs : List ℕ} {ns : List ℤ} {bs′ : List ℕ} {ns′ : List ℤ} → WasRead s bs ns bs′ ns′ → Taken bs′ ns′
+taken-after r = let h = held-after r in record { long-enough = h .long-enough; taken = h .taken }
 
 -- what a call says itself
 pub says-itself : {A : Type 0} {bs : List ℕ} {ns : List ℤ} → Taken bs ns → (f : Tables → Said A) → overTables bs ns f ≡ f (tablesIn bs ns)

@@ -1,0 +1,199 @@
+-- Demand 1 over what a caller in C sees: every exported call has exactly one outcome of numbers and lent slices, and refuses only with its own numbers.
+use mathlib.Core.Path.{_≡_, refl, sym, ap, _∙_, subst}
+use mathlib.Core.Logic.{_⊎_, inl, inr}
+use mathlib.Core.Bool.{Bool, true, false}
+use mathlib.Core.List.{List, [], _∷_}
+use Prim.Native.Nat.{ℕ, zero, suc, _+_, _≤_, _<_}
+use native.Mathlib.Omega.{arith}
+use borrow.Author.Tests.{ltb-true, ltb-false}
+use lib.Dec.{ltb}
+use lib.IntN.{ℤ}
+use lib.Ieee.{Float}
+use lib.ListN.{length, take}
+use Rattle.scope.specs.declared.answers.Request.the-variants.{Refused as requestRefused}
+use Rattle.scope.specs.declared.answers.Booked.the-variants.{Refused as bookedRefused}
+use Rattle.scope.specs.declared.answers.Listing.{Listing}
+use Rattle.scope.specs.declared.answers.Site.{Site}
+use Rattle.scope.specs.Limits.{copyLimit, positionLimit}
+use Rattle.scope.specs.Lists.{tabled}
+use Rattle.scope.specs.Refusals.{outcome}
+use Rattle.scope.specs.Canonical.{canonical}
+use Rattle.scope.specs.Tables.{Tables, tablesIn}
+use Rattle.scope.specs.Answers.{Said, good, refuses, met, saysRequest, saysBooked, readOutcome, saysOutcome, bytesAfter, numbersAfter, writes, outputAfter, counts, totals, shows, rowsSaid, rowsAfter, looksUp, requests, listingAfter, movedOn}
+use Rattle.placement_laws.specs.Terms.{In}
+use Rattle.export.specs.Numbers.{numberOf, placeOf, Judged, Exported}
+use Rattle.export.specs.Handed.{countIn, indexIn, positionIn, RowsHanded, LookedUp, MovedOn}
+use Rattle.export.specs.Shapes.{countOf, millionthsOf, massOf, lackOf, Counted, Written, Totalled, Displayed, allowsLent, AllowedLent, booksLent, entriesAfter, Entered as EnteredLent}
+use Rattle.promises.specs.Promises.{Answered, Nothing, told, Demand1C}
+use Rattle.promises.specs.Said.{not-both, same-number}
+use Rattle.promises.specs.Answering as calls
+use Rattle.promises.specs.Readers as readers
+
+-- ---- outcomes of numbers
+pair2 : {A B : Type 0} {a c : A} {b d : B} → a ≡ c → b ≡ d → _≡_ {A = A × B} (a, b) (c, d)
+pair2 {c = c} {b = b} e f = ap (λ x. (x, b)) e ∙ ap (λ y. (c, y)) f
+
+pair3 : {A B C : Type 0} {a d : A} {b e : B} {c f : C} → a ≡ d → b ≡ e → c ≡ f → _≡_ {A = A × B × C} (a, b, c) (d, e, f)
+pair3 {d = d} {b = b} {e = e} {c = c} p q r = ap (λ x. (x, b, c)) p ∙ ap (λ y. (d, y, c)) q ∙ ap (λ z. (d, e, z)) r
+
+pair4 : {A B C D : Type 0} {a e : A} {b f : B} {c g : C} {d h : D} → a ≡ e → b ≡ f → c ≡ g → d ≡ h → _≡_ {A = A × B × C × D} (a, b, c, d) (e, f, g, h)
+pair4 {e = e} {b = b} {f = f} {c = c} {g = g} {d = d} p q r s =
+    ap (λ x. (x, b, c, d)) p ∙ ap (λ x. (e, x, c, d)) q ∙ ap (λ x. (e, f, x, d)) r ∙ ap (λ x. (e, f, g, x)) s
+
+-- a number that is no success is a refusal's
+number-said : {A : Type 0} (s : Said A) (n : ℕ) → numberOf s ≡ suc n → (p : ℕ) × (s ≡ refuses (suc n) p)
+number-said (good x) n e = absurd (omega (arith, e))
+number-said (refuses m q) n e = (q, ap (λ z. refuses z q) e)
+
+told-refused : (k n p : ℕ) → told k ≡ refuses n p → (m : ℕ) × (k ≡ suc m) × (n ≡ suc m)
+told-refused zero n p e = absurd (not-both e)
+told-refused (suc m) n p e = (m, refl, sym (same-number e))
+
+-- an exported call whose number is that of what is said
+in-c : {O A : Type 0} (Ensured Left : O → Type 0) (number : O → ℕ) (s : Said A) {numbers : List ℕ} (x : O) → Ensured x → ((o : O) → Ensured o → o ≡ x)
+    → ((o : O) → Ensured o → number o ≡ numberOf s) → ((n p : ℕ) → s ≡ refuses n p → In n numbers)
+    → ((o : O) → Ensured o → (n p : ℕ) → s ≡ refuses n p → Left o) → Answered Ensured (λ o. told (number o)) numbers Left
+in-c {O} Ensured Left number s x e only is among left =
+    record {
+      exactly-one = record { outcome = x; ensured = e; only = only };
+      only-refuses = λ o w.
+          record {
+            number = λ n p q. let z = said o w n p q in among n (z .0) (z .1);
+            left = λ n p q. let z = said o w n p q in left o w n (z .0) (z .1);
+          };
+    }
+  where
+    said : (o : O) → Ensured o → (n p : ℕ) → told (number o) ≡ refuses n p → (q : ℕ) × (s ≡ refuses n q)
+    said o w n p f =
+        let z = told-refused (number o) n p f in
+        let y = number-said s (z .0) (sym (is o w) ∙ z .1) in
+        (y .0, y .1 ∙ ap (λ k. refuses k (y .0)) (sym (z .2)))
+
+-- the numbers from i on, k of them
+among-numbers : (k i n : ℕ) → i ≤ n → n < i + k → In n (tabled (λ x. x) i k)
+unfolding tabled
+among-numbers zero i n h l = absurd (omega arith)
+among-numbers (suc k) i n h l = go (ltb i n) (ltb-true i n) (ltb-false i n) (λ z. among-numbers k (i + 1) n z (omega arith))
+  where
+    go : (b : Bool) → (b ≡ true → i < n) → (b ≡ false → n ≤ i) → (i + 1 ≤ n → In n (tabled (λ x. x) (i + 1) k)) → (n ≡ i) ⊎ In n (tabled (λ x. x) (i + 1) k)
+    go true f g ih = let z = f refl in inr (ih (omega (arith, z)))
+    go false f g ih = let z = g refl in inl (omega (arith, z))
+
+-- ---- demand 1
+verdict : (s : List ℕ) → Answered (λ (o : ℕ × ℕ). Judged s (o .0) (o .1)) (λ o. told (o .0)) (tabled (λ n. n) 1 12) (λ o. o .1 ≤ length s)
+verdict s =
+    let said = saysOutcome (outcome s) in
+    in-c (λ (o : ℕ × ℕ). Judged s (o .0) (o .1)) (λ o. o .1 ≤ length s) (λ o. o .0) said (numberOf said, placeOf said) (refl, refl) (λ o w. pair2 (w .0) (w .1)) (λ o w. w .0)
+    (λ n p q.
+    let z = readers.said-12 s n p (readers.outcome-refused (outcome s) q) in
+    let a = z .from-1 in
+    let b = z .to-most in
+    among-numbers 12 1 n a (omega (arith, b)))
+    (λ o w n p q. subst (λ k. k ≤ length s) (sym (w .1 ∙ ap placeOf q)) (readers.said-12 s n p (readers.outcome-refused (outcome s) q) .inside))
+
+read : (s bs : List ℕ) (ns : List ℤ)
+    → Answered (λ (o : ℕ × ℕ × List ℕ × List ℤ). Exported s bs ns (o .0) (o .1) (o .2) (o .3)) (λ o. told (o .0)) (tabled (λ n. n) 1 13)
+    (λ o. (o .1 ≤ length s) × (o .2 ≡ bs) × (o .3 ≡ ns))
+read s bs ns =
+    let o = readOutcome bs ns s in
+    in-c (λ (o : ℕ × ℕ × List ℕ × List ℤ). Exported s bs ns (o .0) (o .1) (o .2) (o .3)) (λ o. (o .1 ≤ length s) × (o .2 ≡ bs) × (o .3 ≡ ns)) (λ o. o .0) (saysOutcome o)
+    (numberOf (saysOutcome o), placeOf (saysOutcome o), bytesAfter o bs, numbersAfter o ns)
+    (record { number-is = refl; place-is = refl; bytes-after = refl; numbers-after = refl })
+    (λ o w. pair4 (w .number-is) (w .place-is) (w .bytes-after) (w .numbers-after)) (λ o w. w .number-is)
+    (λ n p q.
+    let z = readers.said-13 s bs ns n p (readers.outcome-refused (readOutcome bs ns s) q) in
+    let a = z .from-1 in
+    let b = z .to-most in
+    among-numbers 13 1 n a (omega (arith, b)))
+    (λ x w n p q.
+    let e = readers.outcome-refused (readOutcome bs ns s) q in (
+      subst (λ k. k ≤ length s) (sym (w .place-is ∙ ap placeOf q)) (readers.said-13 s bs ns n p e .inside),
+      w .bytes-after ∙ ap (λ z. bytesAfter z bs) e,
+      w .numbers-after ∙ ap (λ z. numbersAfter z ns) e,
+    ))
+
+module _ (bs : List ℕ) (ns : List ℤ) where
+  write : (out : List ℕ) → Answered (λ (o : ℕ × ℕ × List ℕ). Written bs ns out (o .0) (o .1) (o .2)) (λ o. told (o .0)) (13 ∷ 14 ∷ 15 ∷ []) (λ o. o .2 ≡ out)
+  write out =
+      let said = writes bs ns out in
+      let c = canonical (tablesIn bs ns) in
+      in-c (λ (o : ℕ × ℕ × List ℕ). Written bs ns out (o .0) (o .1) (o .2)) (λ o. o .2 ≡ out) (λ o. o .0) said (numberOf said, countOf said, outputAfter said c out)
+      (record { counted = record { number-is = refl; count-is = refl }; output-after = refl }) (λ o w. pair3 (w .counted .number-is) (w .counted .count-is) (w .output-after))
+      (λ o w. w .counted .number-is) (calls.writes-so bs ns out .number) (λ o w n p q. w .output-after ∙ ap (λ z. outputAfter z c out) q)
+
+  count : (f : Tables → ℕ) → Answered (λ (o : ℕ × ℕ). Counted (counts bs ns f) (o .0) (o .1)) (λ o. told (o .0)) (13 ∷ 14 ∷ []) Nothing
+  count f =
+      let said = counts bs ns f in
+      in-c (λ (o : ℕ × ℕ). Counted (counts bs ns f) (o .0) (o .1)) Nothing (λ o. o .0) said (numberOf said, countOf said) (record { number-is = refl; count-is = refl })
+      (λ o w. pair2 (w .number-is) (w .count-is)) (λ o w. w .number-is) (calls.counts-so bs ns f .number) (λ o w n p q. tt)
+
+  total : Answered (λ (o : ℕ × ℤ × ℕ). Totalled (totals bs ns) (o .0) (o .1) (o .2)) (λ o. told (o .0)) (13 ∷ 14 ∷ 16 ∷ []) Nothing
+  total =
+      let said = totals bs ns in
+      in-c (λ (o : ℕ × ℤ × ℕ). Totalled (totals bs ns) (o .0) (o .1) (o .2)) Nothing (λ o. o .0) said (numberOf said, millionthsOf said, placeOf said)
+      (record { number-is = refl; millionths-is = refl; place-is = refl }) (λ o w. pair3 (w .number-is) (w .millionths-is) (w .place-is)) (λ o w. w .number-is)
+      (calls.totals-so bs ns .number) (λ o w n p q. tt)
+
+  shown : Answered (λ (o : ℕ × Float × ℕ). Displayed (shows bs ns) (o .0) (o .1) (o .2)) (λ o. told (o .0)) (13 ∷ 14 ∷ []) Nothing
+  shown =
+      let said = shows bs ns in
+      in-c (λ (o : ℕ × Float × ℕ). Displayed (shows bs ns) (o .0) (o .1) (o .2)) Nothing (λ o. o .0) said (numberOf said, massOf said, lackOf said)
+      (record { number-is = refl; mass-is = refl; missing-is = refl }) (λ o w. pair3 (w .number-is) (w .mass-is) (w .missing-is)) (λ o w. w .number-is)
+      (calls.shows-so bs ns .number) (λ o w n p q. tt)
+
+  pub allows-lent-so : (p : List ℕ) → calls.Sayable saysRequest (13 ∷ 14 ∷ 18 ∷ []) (allowsLent bs ns p)
+  allows-lent-so p =
+      calls.either (calls.Sayable saysRequest (13 ∷ 14 ∷ 18 ∷ [])) (ltb (length p) copyLimit) (calls.refusal (requestRefused 13) refl (inl refl)) (calls.allows-so bs ns (take copyLimit p))
+
+  allowed : (p : List ℕ) → Answered (AllowedLent bs ns p) told (13 ∷ 14 ∷ 18 ∷ []) Nothing
+  allowed p =
+      in-c (AllowedLent bs ns p) Nothing (λ o. o) (allowsLent bs ns p) (numberOf (allowsLent bs ns p)) refl (λ o w. w) (λ o w. w) (allows-lent-so p .number) (λ o w n p q. tt)
+
+  next : (l : Listing) → Answered (λ (o : ℕ × Listing). MovedOn bs ns l (o .0) (o .1)) (λ o. told (o .0)) (13 ∷ 14 ∷ 17 ∷ 18 ∷ []) (λ o. o .1 ≡ l)
+  next l =
+      let said = requests bs ns l in
+      in-c (λ (o : ℕ × Listing). MovedOn bs ns l (o .0) (o .1)) (λ o. o .1 ≡ l) (λ o. o .0) said (numberOf said, listingAfter bs ns l) (refl, refl) (λ o w. pair2 (w .0) (w .1)) (λ o w. w .0)
+      (λ n p q. calls.requests-so bs ns l .number n p (ap met q)) (λ o w n p q. w .1 ∙ ap (movedOn l) q)
+
+  books-lent-so : (p : List ℕ) (old : List ℤ) → calls.Sayable saysBooked (13 ∷ 14 ∷ 16 ∷ 18 ∷ []) (booksLent bs ns p old)
+  books-lent-so p old =
+      let P = calls.Sayable saysBooked (13 ∷ 14 ∷ 16 ∷ 18 ∷ []) in
+      calls.either P (ltb (length p) copyLimit) (calls.refusal (bookedRefused 13 0) refl (inl refl))
+      (calls.either P (ltb (length old) positionLimit) (calls.refusal (bookedRefused 13 0) refl (inl refl)) (calls.books-so bs ns (take copyLimit p)))
+
+  entered : (p : List ℕ) (old : List ℤ)
+      → Answered (λ (o : ℕ × ℕ × List ℤ). EnteredLent bs ns p old (o .0) (o .1) (o .2)) (λ o. told (o .0)) (13 ∷ 14 ∷ 16 ∷ 18 ∷ []) (λ o. o .2 ≡ old)
+  entered p old =
+      let said = booksLent bs ns p old in
+      in-c (λ (o : ℕ × ℕ × List ℤ). EnteredLent bs ns p old (o .0) (o .1) (o .2)) (λ o. o .2 ≡ old) (λ o. o .0) said (numberOf said, placeOf said, entriesAfter said (tablesIn bs ns) (take copyLimit p) old)
+      (record { number-is = refl; place-is = refl; entries-after = refl }) (λ o w. pair3 (w .number-is) (w .place-is) (w .entries-after)) (λ o w. w .number-is)
+      (books-lent-so p old .number) (λ o w n k q. w .entries-after ∙ ap (λ z. entriesAfter z (tablesIn bs ns) (take copyLimit p) old) q)
+
+  rows : (room : List Site) → Answered (λ (o : ℕ × ℕ × List Site). RowsHanded bs ns room (o .0) (o .1) (o .2)) (λ o. told (o .0)) (13 ∷ 14 ∷ []) (λ o. o .2 ≡ room)
+  rows room =
+      let said = rowsSaid bs ns room in
+      in-c (λ (o : ℕ × ℕ × List Site). RowsHanded bs ns room (o .0) (o .1) (o .2)) (λ o. o .2 ≡ room) (λ o. o .0) said (numberOf said, countIn said, rowsAfter said (tablesIn bs ns) room)
+      (record { number-is = refl; count-is = refl; rows-after = refl }) (λ o w. pair3 (w .number-is) (w .count-is) (w .rows-after)) (λ o w. w .number-is)
+      (calls.rows-so bs ns room .number) (λ o w n p q. w .rows-after ∙ ap (λ z. rowsAfter z (tablesIn bs ns) room) q)
+
+first-row : (rs : List Site) (n f : ℕ) → Answered (λ (o : ℕ × ℕ × ℕ). LookedUp rs n f (o .0) (o .1) (o .2)) (λ o. told (o .0)) (13 ∷ 17 ∷ []) Nothing
+first-row rs n f =
+    let said = looksUp rs n f in
+    in-c (λ (o : ℕ × ℕ × ℕ). LookedUp rs n f (o .0) (o .1) (o .2)) Nothing (λ o. o .0) said (numberOf said, indexIn said, positionIn said) (refl, refl, refl)
+    (λ o w. pair3 (w .0) (w .1) (w .2)) (λ o w. w .0) (calls.looks-so rs n f .number) (λ o w n p q. tt)
+
+pub demand-1 : Demand1C
+demand-1 =
+    record {
+      verdict = verdict;
+      read = read;
+      write = write;
+      count = λ f bs ns. count bs ns f;
+      total = total;
+      shown = shown;
+      allowed = allowed;
+      next = next;
+      ledger = entered;
+      rows = rows;
+      first-row = first-row;
+    }

@@ -13,7 +13,8 @@ use Rattle.scope.specs.Line.{Bracket, Line}
 use Rattle.scope.specs.Lists.{given, there?, all, keep}
 use Rattle.scope.specs.Modifications.{isModification}
 use Rattle.scope.specs.Masses.{massOf, modifications, sumℕ, lacking}
-use Rattle.mass_laws.specs.Terms.{Each, FairBracket, Fair}
+use Rattle.basics.specs.Each.{Each}
+use Rattle.mass_laws.specs.Terms.{FairBracket, Fair}
 
 lacks-none : (o : Option ℤ) (c : ℕ) → 0 < c → given o (λ m. 0) c ≡ 0 → there? o ≡ true
 lacks-none none c h e = absurd (omega arith)

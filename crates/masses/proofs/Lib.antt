@@ -2,4 +2,3 @@ pub mod Whole
 pub mod PartLaws
 pub mod TallyLaws
 pub mod LedgerLaws
-pub mod Exact

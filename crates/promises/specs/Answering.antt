@@ -34,7 +34,7 @@ use Rattle.scope.specs.Positions.{permittedPositions, rowsOf, Found, lookup}
 use Rattle.scope.specs.Placements.{allowed, takenListing, following}
 use Rattle.scope.specs.Masses.{total, lacking, daltons}
 use Rattle.scope.specs.Answers.{Said, good, refuses, aMass, lack, saysWrite, saysCount, saysTotal, saysLookup, saysRequest, saysBooked, saysShown, tooShort, areTables, overTables, fitting, writes, outputAfter, counts, weighed, totals, shows, rowsSaid, rowsAfter, looksUp, allows, met, requested, movedOn, requests, listingAfter, bookable, books, entries}
-use Rattle.placement_laws.specs.Terms.{In}
+use Rattle.basics.specs.Each.{In}
 use Rattle.placements.specs.declared.Next.{Next}
 use Rattle.calls.specs.Writing.{WriteSays}
 use Rattle.calls.specs.Says.{CountSays, TotalSays, ShownSays, AllowedSays, NextSays, LedgerSays}

@@ -20,7 +20,7 @@ use Rattle.scope.specs.Refusals.{outcome}
 use Rattle.scope.specs.Canonical.{canonical}
 use Rattle.scope.specs.Tables.{Tables, tablesIn}
 use Rattle.scope.specs.Answers.{Said, good, refuses, met, saysRequest, saysBooked, readOutcome, saysOutcome, bytesAfter, numbersAfter, writes, outputAfter, counts, totals, shows, rowsSaid, rowsAfter, looksUp, requests, listingAfter, movedOn}
-use Rattle.placement_laws.specs.Terms.{In}
+use Rattle.basics.specs.Each.{In}
 use Rattle.export.specs.Numbers.{numberOf, placeOf, Judged, Exported}
 use Rattle.export.specs.Handed.{countIn, indexIn, positionIn, RowsHanded, LookedUp, MovedOn}
 use Rattle.export.specs.Shapes.{countOf, millionthsOf, massOf, lackOf, Counted, Written, Totalled, Displayed, allowsLent, AllowedLent, booksLent, entriesAfter, Entered as EnteredLent}

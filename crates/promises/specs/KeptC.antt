@@ -31,7 +31,7 @@ use Rattle.scope.specs.Answers.{Said, good, refuses, met, saysRead, saysWrite, 
 use Rattle.scope.specs.Grammar.{Spelling, print, good as wellSpelt}
 use Rattle.grammar_laws.specs.Laws.{Accepts, Refuses}
 use Rattle.layout_laws.specs.RowsFit.{tabled-length}
-use Rattle.placement_laws.specs.Terms.{In}
+use Rattle.basics.specs.Each.{In}
 use Rattle.placement_laws.specs.Lists.{in-member}
 use Rattle.placement_laws.specs.Members.{allowed-parts}
 use Rattle.placements.specs.declared.Next.{Next}

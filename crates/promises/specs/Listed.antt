@@ -17,7 +17,8 @@ use Rattle.scope.specs.Positions.{permittedPositions}
 use Rattle.scope.specs.Placements.{placements, freshListing}
 use Rattle.scope.specs.Answers.{good, refuses, saysRequest, met, requested, movedOn, requests, listingAfter}
 use Rattle.layout_laws.specs.Laws.{tables-held}
-use Rattle.placement_laws.specs.Terms.{In, Ascending, afterRequests, outOf, handedOut}
+use Rattle.placement_laws.specs.Terms.{Ascending, afterRequests, outOf, handedOut}
+use Rattle.basics.specs.Each.{In}
 use Rattle.placement_laws.specs.Laws as placing
 use Rattle.laws.specs.Demands as laws
 use Rattle.laws.specs.Proved.{demands}

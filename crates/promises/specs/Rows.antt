@@ -19,7 +19,8 @@ use Rattle.scope.specs.Lists.{given, laid}
 use Rattle.scope.specs.Tables.{Tables, tablesIn}
 use Rattle.scope.specs.Positions.{permittedPositions, rowsFrom, rowsOf, Found, firstRow, lookup}
 use Rattle.scope.specs.Answers.{Said, good, refuses, saysCount, saysLookup, tooShort, areTables, rowsSaid, rowsAfter, looksUp}
-use Rattle.placement_laws.specs.Terms.{In, Rising, AllRising}
+use Rattle.placement_laws.specs.Terms.{Rising, AllRising}
+use Rattle.basics.specs.Each.{In}
 use Rattle.placement_laws.specs.Lists.{in-left, in-right, in-either, in-map, map-in, in-member}
 use Rattle.placement_laws.specs.Laws as placing
 use Rattle.laws.specs.Proved.{demands}

@@ -3,7 +3,7 @@ use borrow.Author.Needs.{needs}
 use lib.Ieee.{div, ofInt, ofBits}
 use mir.Syntax.{w64}
 use mir.ValLaws.{toZ-ofZ}
-use Rattle.masses.proofs.Exact.{exact}
+use Rattle.mass_laws.specs.Exact.{exact}
 use Rattle.masses.proofs.as_daltons.Statement.{statement}
 use Rattle.masses.proofs.as_daltons.Tie as tie
 

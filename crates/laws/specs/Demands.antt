@@ -6,15 +6,16 @@ use mathlib.Core.List.{List, []}
 use Prim.Native.Nat.{ℕ, _+_, _*_, _^_, _≤_, _<_}
 use lib.IntN.{ℤ, pos, natAbs, _+ℤ_}
 use lib.ListN.{length, take, getD}
+use lib.Ieee.{binary64, ofInt, toSigned}
 use Rattle.scope.specs.Limits.{rowLimit}
 use Rattle.scope.specs.Line.{Bracket, Line}
 use Rattle.scope.specs.Refusals.{accepted, outcome}
 use Rattle.scope.specs.Canonical.{canonical}
 use Rattle.scope.specs.Tables.{Tables, tablesOf, bytesOf, numbersOf, bytesSize, numbersSize, tablesIn}
-use Rattle.scope.specs.Lists.{laid}
+use Rattle.scope.specs.Lists.{there?, all, laid}
 use Rattle.scope.specs.Positions.{floaters, permittedPositions, rowsOf}
 use Rattle.scope.specs.Placements.{allowed, placements, freshListing}
-use Rattle.scope.specs.Masses.{massOr0, sum, total, lacking, ledger, labileMass}
+use Rattle.scope.specs.Masses.{massOf, modifications, massOr0, sum, total, lacking, ledger, labileMass}
 use Rattle.scope.specs.Answers.{Said, refuses, tooShort, SomeLine, areTables, overTables, requested}
 use Rattle.mass_laws.specs.Terms.{Fair, Limited}
 use Rattle.placement_laws.specs.Terms.{Ascending, afterRequests, handedOut}
@@ -96,6 +97,10 @@ pub record Demand3 {P : Type 0} (t : Line P) : Type 0 where
   pub past : (p : List ℕ) → allowed (permittedPositions t) p ≡ true → (x : ℕ) → length (t .residues) + 1 < x → getD (ledger t p) x (pos 0) ≡ pos 0
   -- "Below 71 times 10^12, it fits under 2^53."
   pub total-below : natAbs (total t) < 71 * 10 ^ 12
+  -- "the whole number becomes a double with nothing lost": cast back, the double is the number
+  pub nothing-lost : toSigned 63 (ofInt binary64 (total t)) ≡ total t
+  -- 16 "a modification has no mass": none lacks one exactly when each has one
+  pub all-stated : lacking t ≡ 0 ↔ all (λ k. there? (massOf k)) (modifications t) ≡ true
   -- "room is 2,048 rows"
   pub rows-fit : length (rowsOf t) ≤ rowLimit
 

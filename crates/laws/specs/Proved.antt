@@ -44,6 +44,8 @@ demand-3-of t w fair limited =
       own-entry = masses.own-entry t fair;
       past = masses.past t fair;
       total-below = masses.total-below t fair limited;
+      nothing-lost = masses.nothing-lost t fair limited;
+      all-stated = masses.all-stated t fair;
       rows-fit = layout.rows-fit t w;
     }
 

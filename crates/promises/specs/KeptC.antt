@@ -32,7 +32,7 @@ use Rattle.scope.specs.Grammar.{Spelling, print, good as wellSpelt}
 use Rattle.grammar_laws.specs.Laws.{Accepts, Refuses}
 use Rattle.layout_laws.specs.RowsFit.{tabled-length}
 use Rattle.basics.specs.Each.{In}
-use Rattle.placement_laws.specs.Lists.{in-member}
+use Rattle.basics.specs.Members.{in-member}
 use Rattle.placement_laws.specs.Members.{allowed-parts}
 use Rattle.placements.specs.declared.Next.{Next}
 use Rattle.reader.specs.ReadSays.{ReadSays}

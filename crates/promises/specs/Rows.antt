@@ -21,7 +21,7 @@ use Rattle.scope.specs.Positions.{permittedPositions, rowsFrom, rowsOf, Found, 
 use Rattle.scope.specs.Answers.{Said, good, refuses, saysCount, saysLookup, tooShort, areTables, rowsSaid, rowsAfter, looksUp}
 use Rattle.placement_laws.specs.Terms.{Rising, AllRising}
 use Rattle.basics.specs.Each.{In}
-use Rattle.placement_laws.specs.Lists.{in-left, in-right, in-either, in-map, map-in, in-member}
+use Rattle.basics.specs.Members.{in-left, in-right, in-either, in-map, map-in, in-member}
 use Rattle.placement_laws.specs.Laws as placing
 use Rattle.laws.specs.Proved.{demands}
 use Rattle.rows.specs.Says.{LookupSays}

@@ -36,15 +36,15 @@ fn widened(p: [u8; Placement::COPIES]) -> Standing
 }
 
 // The first k entries, and zeros.
-fn narrowed(k: usize, w: Standing) -> [u8; Placement::COPIES]
+fn narrowed(k: usize, w: Standing) -> Placement
     requires { ⌜ (k ≤ copyLimit) × Small k (w .at) ⌝ }
-    ensures { λ r. ⌜ r ≡ entries k (w .at) ⌝ }
+    ensures { λ r. ⌜ r .at ≡ entries k (w .at) ⌝ }
 {
-    let mut p = [0u8; Placement::COPIES];
+    let mut p = Placement::none();
     let mut s: usize = 0;
     while s < k {
         let x = w.at[s];
-        p[s] = x as u8;
+        p.at[s] = x as u8;
         s += 1;
     }
     p
@@ -111,7 +111,8 @@ fn told(k: usize, a: Answer, l: Listing) -> Next
 {
     if a.ok {
         let w = a.at;
-        let at = narrowed(k, w);
+        let p = narrowed(k, w);
+        let at = p.at;
         return Next {
             request: Request::Met,
             listing: Listing {

@@ -9,7 +9,9 @@ narrowed-requires c κs = let s = c .before .before in (s .pre .0, s .pre .1 (c 
 
 returns : tie.Need-returns
 returns c =
-    let s = c .before .before .before in told-found (s .args .k) (s .args .a .ok) (s .args .a .at .at) (c .narrowed .result) (s .args .l) (c .before .before .if1 .taken) (c .narrowed .ensures)
+    let n = c .before in
+    let s = n .before .before .before in
+    told-found (s .args .k) (s .args .a .ok) (s .args .a .at .at) (n .narrowed .result .at) (s .args .l) (n .before .before .if1 .taken) (n .narrowed .ensures)
 
 returns-2 : tie.Need-returns-2
 returns-2 c = let s = c .before in told-none (s .args .k) (s .args .a .ok) (s .args .a .at .at) (s .args .l) (c .if1 .left)

@@ -1,0 +1,338 @@
+//! The library's own calls, over slices that the caller lends. Nothing here takes heap.
+//!
+//! A line is read into two areas, one of bytes and one of numbers; the other calls take the tables in these areas. What is lent to be written a refusal leaves
+//! exactly as it was, and success leaves as it was past what the call says it writes. Any content is answered: junk in the areas is refused with 14, a slice that is too
+//! short with 13. Slices may be longer than is asked for.
+//!
+//! ```
+//! use hwemiduk::lent::{self, Listing, BYTES, NUMBERS};
+//!
+//! let (mut bytes, mut numbers) = ([0; BYTES], [0; NUMBERS]);
+//! lent::read(b"M[+16#a]C[#a]", &mut bytes, &mut numbers)?;
+//! assert_eq!(lent::total(&bytes, &numbers), Ok(16_000_000));
+//! let mut listing = Listing::FRESH;
+//! lent::next(&bytes, &numbers, &mut listing)?;
+//! assert_eq!(listing.at[0], 1);
+//! lent::next(&bytes, &numbers, &mut listing)?;
+//! assert_eq!(listing.at[0], 2);
+//! assert_eq!(lent::next(&bytes, &numbers, &mut listing).unwrap_err().number(), 17);
+//! # Ok::<(), hwemiduk::Refusal>(())
+//! ```
+
+use crate::Refusal;
+
+/// Bytes of a line; a canonical line has no more.
+pub const LINE: usize = 4096;
+/// Residues of a line.
+pub const RESIDUES: usize = 254;
+/// Brackets of a line.
+pub const BRACKETS: usize = 64;
+/// Parts of a bracket.
+pub const PARTS: usize = 4;
+/// Floating copies: entries of a placement.
+pub const COPIES: usize = 8;
+/// Entries of a ledger: the N-terminus, the residues, the C-terminus.
+pub const POSITIONS: usize = RESIDUES + 2;
+/// Rows of floater and position.
+pub const ROWS: usize = COPIES * POSITIONS;
+/// The area of bytes.
+pub const BYTES: usize = 6782;
+/// The area of numbers.
+pub const NUMBERS: usize = BRACKETS * (PARTS + 1);
+
+/// A position: 0 is the N-terminus, 1 to n are the residues, n + 1 is the C-terminus.
+pub type Position = u8;
+
+/// A row of floater and position, floaters counted from 1.
+#[derive(Clone, Copy, Debug, PartialEq, Eq)]
+#[repr(C)]
+pub struct Site {
+    /// Which floater, counted from 1.
+    pub floater: u8,
+    /// Where it may stand.
+    pub position: Position,
+}
+
+/// The listing in hand: fresh with zeros, or the placement last handed out.
+#[derive(Clone, Copy, Debug, PartialEq, Eq)]
+#[repr(C)]
+pub struct Listing {
+    /// The position of each floating copy, unused entries 0.
+    pub at: [Position; COPIES],
+    /// Whether no placement has been handed out.
+    pub fresh: bool,
+}
+
+impl Listing {
+    /// The listing from which every placement is handed out.
+    pub const FRESH: Self = Self { at: [0; COPIES], fresh: true };
+}
+
+/// The limits and sizes, which the library names.
+#[derive(Clone, Copy, Debug, Default, PartialEq, Eq)]
+#[repr(C)]
+pub struct Limits {
+    /// Bytes of a line.
+    pub line: usize,
+    /// Residues of a line.
+    pub residues: usize,
+    /// Brackets, square and curly together.
+    pub brackets: usize,
+    /// Parts of a bracket.
+    pub parts: usize,
+    /// Bytes of a part's text, after key or prefix.
+    pub text: usize,
+    /// Bytes of a label.
+    pub label: usize,
+    /// Pairs within a text.
+    pub depth: usize,
+    /// The count behind ^.
+    pub count: usize,
+    /// Floating copies: entries of a placement.
+    pub copies: usize,
+    /// Rows of floater and position.
+    pub rows: usize,
+    /// Entries of a ledger.
+    pub positions: usize,
+    /// Masses and scores are below this in size.
+    pub size: u64,
+    /// Decimals of a mass or a score.
+    pub decimals: u8,
+    /// The area of bytes.
+    pub bytes: usize,
+    /// The area of numbers.
+    pub numbers: usize,
+}
+
+/// The total for display: either a mass or how many have none.
+#[derive(Clone, Copy, Debug, PartialEq)]
+pub enum Shown {
+    /// The sum of the masses of the modifications.
+    Daltons(f64),
+    /// So many modifications have no mass, each copy counted.
+    Missing(usize),
+}
+
+/// All limits and sizes.
+pub fn limits() -> Limits {
+    let mut limits = Limits::default();
+    // SAFETY: the library writes one record of this form.
+    unsafe { hwemiduk_limits(&mut limits) };
+    limits
+}
+
+/// Whether a line is accepted: if not, the lowest of 1 to 12 that is due.
+pub fn verdict(line: &[u8]) -> Result<(), Refusal> {
+    let (number, place) = outs::verdict(line);
+    answer(number, place, ())
+}
+
+/// Reads a line into areas of at least [`BYTES`] and [`NUMBERS`]: 13, else what [`verdict`] says.
+pub fn read(line: &[u8], bytes: &mut [u8], numbers: &mut [i64]) -> Result<(), Refusal> {
+    let (number, place) = outs::read(line, bytes, numbers);
+    answer(number, place, ())
+}
+
+/// Writes the canonical line into an output of any length, and answers how many bytes it has; or 15, with the length needed as its place.
+pub fn write(bytes: &[u8], numbers: &[i64], out: &mut [u8]) -> Result<usize, Refusal> {
+    let (number, length) = outs::write(bytes, numbers, out);
+    answer(number, length, length)
+}
+
+/// How many residues.
+pub fn residues(bytes: &[u8], numbers: &[i64]) -> Result<usize, Refusal> {
+    let (number, count) = outs::residues(bytes, numbers);
+    answer(number, 0, count)
+}
+
+/// How many brackets.
+pub fn brackets(bytes: &[u8], numbers: &[i64]) -> Result<usize, Refusal> {
+    let (number, count) = outs::brackets(bytes, numbers);
+    answer(number, 0, count)
+}
+
+/// How many floating copies: each is a floater of its own, in order of their brackets.
+pub fn floaters(bytes: &[u8], numbers: &[i64]) -> Result<usize, Refusal> {
+    let (number, count) = outs::floaters(bytes, numbers);
+    answer(number, 0, count)
+}
+
+/// The sum of the masses of the modifications in millionths, without the residues; or 16, with how many have none as its place.
+pub fn total(bytes: &[u8], numbers: &[i64]) -> Result<i64, Refusal> {
+    let (number, millionths, place) = outs::total(bytes, numbers);
+    answer(number, place, millionths)
+}
+
+/// The total for display: it is never refused with 16.
+pub fn shown(bytes: &[u8], numbers: &[i64]) -> Result<Shown, Refusal> {
+    let (number, daltons, missing) = outs::shown(bytes, numbers);
+    answer(number, 0, if missing == 0 { Shown::Daltons(daltons) } else { Shown::Missing(missing) })
+}
+
+/// Whether a placement is an allowed one, else 18: the first [`COPIES`] entries of the slice count.
+pub fn allowed(bytes: &[u8], numbers: &[i64], placement: &[Position]) -> Result<(), Refusal> {
+    answer(outs::allowed(bytes, numbers, placement), 0, ())
+}
+
+/// Writes the mass at each position under a placement, in millionths, into the first [`POSITIONS`] entries; or 16, with how many have no mass as its place, or 18.
+pub fn ledger(bytes: &[u8], numbers: &[i64], placement: &[Position], entries: &mut [i64]) -> Result<(), Refusal> {
+    let (number, place) = outs::ledger(bytes, numbers, placement, entries);
+    answer(number, place, ())
+}
+
+/// Moves a listing on to the next placement; or 17 at the last one, or if there is none at all, or 18.
+pub fn next(bytes: &[u8], numbers: &[i64], listing: &mut Listing) -> Result<(), Refusal> {
+    answer(outs::next(bytes, numbers, listing), 0, ())
+}
+
+/// Writes the permitted positions as rows, ascending, into at least [`ROWS`] of them, and answers how many there are.
+pub fn rows(bytes: &[u8], numbers: &[i64], rows: &mut [Site]) -> Result<usize, Refusal> {
+    let (number, count) = outs::rows(bytes, numbers, rows);
+    answer(number, 0, count)
+}
+
+/// The index and the position of a floater's first row among the first n of at least [`ROWS`]; or 17 where there is none.
+pub fn first_row(rows: &[Site], n: usize, floater: u8) -> Result<(usize, Position), Refusal> {
+    let (number, index, position) = outs::first_row(rows, n, floater);
+    answer(number, 0, (index, position))
+}
+
+fn answer<T>(number: u8, place: usize, value: T) -> Result<T, Refusal> {
+    match number {
+        0 => Ok(value),
+        number => Err(Refusal::new(number, place)),
+    }
+}
+
+/// The same calls with all that each of them sets, refused or not; the first is the number, 0 or that of a refusal. Before the call each of them holds what no call
+/// answers, so that one which is not set is seen.
+pub mod outs {
+    use super::*;
+
+    // SAFETY, of every call here: a slice passes as its pointer, which is never null, and the number of its elements; what is written is borrowed for this call alone;
+    // the library reads and writes nothing else, and answers every content.
+
+    /// The number and the place.
+    pub fn verdict(line: &[u8]) -> (u8, usize) {
+        let mut place = usize::MAX;
+        let number = unsafe { hwemiduk_verdict(line.as_ptr(), line.len(), &mut place) };
+        (number, place)
+    }
+
+    /// The number and the place.
+    pub fn read(line: &[u8], bytes: &mut [u8], numbers: &mut [i64]) -> (u8, usize) {
+        let mut place = usize::MAX;
+        let number = unsafe {
+            hwemiduk_read(line.as_ptr(), line.len(), bytes.as_mut_ptr(), bytes.len(), numbers.as_mut_ptr(), numbers.len(), &mut place)
+        };
+        (number, place)
+    }
+
+    /// The number and the length.
+    pub fn write(bytes: &[u8], numbers: &[i64], out: &mut [u8]) -> (u8, usize) {
+        let mut length = usize::MAX;
+        let number =
+            unsafe { hwemiduk_write(bytes.as_ptr(), bytes.len(), numbers.as_ptr(), numbers.len(), out.as_mut_ptr(), out.len(), &mut length) };
+        (number, length)
+    }
+
+    /// The number and the count.
+    pub fn residues(bytes: &[u8], numbers: &[i64]) -> (u8, usize) {
+        let mut count = usize::MAX;
+        let number = unsafe { hwemiduk_residues(bytes.as_ptr(), bytes.len(), numbers.as_ptr(), numbers.len(), &mut count) };
+        (number, count)
+    }
+
+    /// The number and the count.
+    pub fn brackets(bytes: &[u8], numbers: &[i64]) -> (u8, usize) {
+        let mut count = usize::MAX;
+        let number = unsafe { hwemiduk_brackets(bytes.as_ptr(), bytes.len(), numbers.as_ptr(), numbers.len(), &mut count) };
+        (number, count)
+    }
+
+    /// The number and the count.
+    pub fn floaters(bytes: &[u8], numbers: &[i64]) -> (u8, usize) {
+        let mut count = usize::MAX;
+        let number = unsafe { hwemiduk_floaters(bytes.as_ptr(), bytes.len(), numbers.as_ptr(), numbers.len(), &mut count) };
+        (number, count)
+    }
+
+    /// The number, the total in millionths, and the place.
+    pub fn total(bytes: &[u8], numbers: &[i64]) -> (u8, i64, usize) {
+        let (mut millionths, mut place) = (i64::MIN, usize::MAX);
+        let number = unsafe { hwemiduk_total(bytes.as_ptr(), bytes.len(), numbers.as_ptr(), numbers.len(), &mut millionths, &mut place) };
+        (number, millionths, place)
+    }
+
+    /// The number, the mass in Daltons, and how many have none.
+    pub fn shown(bytes: &[u8], numbers: &[i64]) -> (u8, f64, usize) {
+        let (mut daltons, mut missing) = (f64::NAN, usize::MAX);
+        let number = unsafe { hwemiduk_shown(bytes.as_ptr(), bytes.len(), numbers.as_ptr(), numbers.len(), &mut daltons, &mut missing) };
+        (number, daltons, missing)
+    }
+
+    /// The number.
+    pub fn allowed(bytes: &[u8], numbers: &[i64], placement: &[Position]) -> u8 {
+        unsafe { hwemiduk_allowed(bytes.as_ptr(), bytes.len(), numbers.as_ptr(), numbers.len(), placement.as_ptr(), placement.len()) }
+    }
+
+    /// The number and the place.
+    pub fn ledger(bytes: &[u8], numbers: &[i64], placement: &[Position], entries: &mut [i64]) -> (u8, usize) {
+        let mut place = usize::MAX;
+        let (placement, placement_len, entries, entries_len) = (placement.as_ptr(), placement.len(), entries.as_mut_ptr(), entries.len());
+        let number = unsafe {
+            hwemiduk_ledger(
+                bytes.as_ptr(),
+                bytes.len(),
+                numbers.as_ptr(),
+                numbers.len(),
+                placement,
+                placement_len,
+                entries,
+                entries_len,
+                &mut place,
+            )
+        };
+        (number, place)
+    }
+
+    /// The number.
+    pub fn next(bytes: &[u8], numbers: &[i64], listing: &mut Listing) -> u8 {
+        unsafe { hwemiduk_next(bytes.as_ptr(), bytes.len(), numbers.as_ptr(), numbers.len(), listing) }
+    }
+
+    /// The number and the count.
+    pub fn rows(bytes: &[u8], numbers: &[i64], rows: &mut [Site]) -> (u8, usize) {
+        let mut count = usize::MAX;
+        let number =
+            unsafe { hwemiduk_rows(bytes.as_ptr(), bytes.len(), numbers.as_ptr(), numbers.len(), rows.as_mut_ptr(), rows.len(), &mut count) };
+        (number, count)
+    }
+
+    /// The number, the index, and the position.
+    pub fn first_row(rows: &[Site], n: usize, floater: u8) -> (u8, usize, Position) {
+        let (mut index, mut position) = (usize::MAX, Position::MAX);
+        let number = unsafe { hwemiduk_first_row(rows.as_ptr(), rows.len(), n, floater, &mut index, &mut position) };
+        (number, index, position)
+    }
+}
+
+// The calls as include/hwemiduk.h declares them.
+#[rustfmt::skip]
+extern "C" {
+    fn hwemiduk_limits(limits: *mut Limits);
+    fn hwemiduk_verdict(line: *const u8, line_len: usize, place: *mut usize) -> u8;
+    fn hwemiduk_read(line: *const u8, line_len: usize, bytes: *mut u8, bytes_len: usize, numbers: *mut i64, numbers_len: usize, place: *mut usize) -> u8;
+    fn hwemiduk_write(bytes: *const u8, bytes_len: usize, numbers: *const i64, numbers_len: usize, out: *mut u8, out_len: usize, length: *mut usize) -> u8;
+    fn hwemiduk_residues(bytes: *const u8, bytes_len: usize, numbers: *const i64, numbers_len: usize, count: *mut usize) -> u8;
+    fn hwemiduk_brackets(bytes: *const u8, bytes_len: usize, numbers: *const i64, numbers_len: usize, count: *mut usize) -> u8;
+    fn hwemiduk_floaters(bytes: *const u8, bytes_len: usize, numbers: *const i64, numbers_len: usize, count: *mut usize) -> u8;
+    fn hwemiduk_total(bytes: *const u8, bytes_len: usize, numbers: *const i64, numbers_len: usize, millionths: *mut i64, place: *mut usize) -> u8;
+    fn hwemiduk_shown(bytes: *const u8, bytes_len: usize, numbers: *const i64, numbers_len: usize, daltons: *mut f64, missing: *mut usize) -> u8;
+    fn hwemiduk_allowed(bytes: *const u8, bytes_len: usize, numbers: *const i64, numbers_len: usize, placement: *const Position, placement_len: usize) -> u8;
+    fn hwemiduk_next(bytes: *const u8, bytes_len: usize, numbers: *const i64, numbers_len: usize, listing: *mut Listing) -> u8;
+    fn hwemiduk_ledger(bytes: *const u8, bytes_len: usize, numbers: *const i64, numbers_len: usize, placement: *const Position, placement_len: usize,
+        entries: *mut i64, entries_len: usize, place: *mut usize) -> u8;
+    fn hwemiduk_rows(bytes: *const u8, bytes_len: usize, numbers: *const i64, numbers_len: usize, rows: *mut Site, rows_len: usize, count: *mut usize) -> u8;
+    fn hwemiduk_first_row(rows: *const Site, rows_len: usize, n: usize, floater: u8, index: *mut usize, position: *mut Position) -> u8;
+}

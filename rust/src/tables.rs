@@ -1,0 +1,302 @@
+//! What the tables of an accepted line hold.
+
+use std::fmt::{self, Display, Formatter};
+use std::ops::RangeInclusive;
+
+use crate::lent::{Position, BRACKETS, BYTES, LINE, NUMBERS, PARTS, RESIDUES};
+
+/// What a residue stands in.
+#[derive(Clone, Copy, Debug, PartialEq, Eq, Hash)]
+pub enum Section {
+    /// Neither a range nor a group.
+    Plain,
+    /// The first residue of a range `(..)`.
+    RangeFirst,
+    /// A further residue of a range.
+    RangeNext,
+    /// The first residue of a group `(?..)`.
+    UnsureFirst,
+    /// A further residue of a group.
+    UnsureNext,
+}
+
+/// Where a bracket stands.
+#[derive(Clone, Copy, Debug, PartialEq, Eq, Hash)]
+pub enum Kind {
+    /// In a run of unknown positions.
+    Unknown,
+    /// In `{..}`.
+    Labile,
+    /// At the N-terminus.
+    NTerm,
+    /// On a residue.
+    Residue,
+    /// On a range.
+    Range,
+    /// At the C-terminus.
+    CTerm,
+}
+
+/// A part's key word or prefix.
+#[derive(Clone, Copy, Debug, PartialEq, Eq, Hash)]
+#[allow(missing_docs)]
+pub enum Key {
+    None,
+    U,
+    M,
+    R,
+    X,
+    G,
+    C,
+    Obs,
+    Unimod,
+    Mod,
+    Xlmod,
+    Resid,
+    Gno,
+    Info,
+}
+
+// In the order of their numbers in the tables: sections and keys from 0, kinds from 1.
+const SECTIONS: [Section; 5] = [Section::Plain, Section::RangeFirst, Section::RangeNext, Section::UnsureFirst, Section::UnsureNext];
+const KINDS: [Kind; 6] = [Kind::Unknown, Kind::Labile, Kind::NTerm, Kind::Residue, Kind::Range, Kind::CTerm];
+const KEYS: [(Key, &str); 14] = [
+    (Key::None, ""),
+    (Key::U, "U:"),
+    (Key::M, "M:"),
+    (Key::R, "R:"),
+    (Key::X, "X:"),
+    (Key::G, "G:"),
+    (Key::C, "C:"),
+    (Key::Obs, "Obs:"),
+    (Key::Unimod, "UNIMOD:"),
+    (Key::Mod, "MOD:"),
+    (Key::Xlmod, "XLMOD:"),
+    (Key::Resid, "RESID:"),
+    (Key::Gno, "GNO:"),
+    (Key::Info, "INFO:"),
+];
+const MASS: u8 = 1;
+const TEXT: u8 = 2;
+
+impl Key {
+    /// The key in its canonical spelling, with its colon.
+    pub fn spelling(self) -> &'static str {
+        KEYS[self as usize].1
+    }
+}
+
+/// A mass or a score: its value in millionths, and how many decimals were written.
+#[derive(Clone, Copy, Debug, PartialEq, Eq, Hash)]
+pub struct Number {
+    /// The value.
+    pub millionths: i64,
+    /// How many decimals were written.
+    pub decimals: u8,
+}
+
+/// As it is written: a sign where it is negative, or where one is asked for (`{:+}`), and its decimals.
+impl Display for Number {
+    fn fmt(&self, f: &mut Formatter<'_>) -> fmt::Result {
+        let size = self.millionths.unsigned_abs();
+        let sign = match (self.millionths < 0, f.sign_plus()) {
+            (true, _) => "-",
+            (false, true) => "+",
+            (false, false) => "",
+        };
+        write!(f, "{sign}{}", size / 1_000_000)?;
+        if self.decimals > 0 {
+            let places = usize::from(self.decimals);
+            write!(f, ".{:.places$}", format!("{:06}", size % 1_000_000))?;
+        }
+        Ok(())
+    }
+}
+
+/// A label, with its score if it has one.
+#[derive(Clone, Debug, PartialEq, Eq, Hash)]
+pub struct Label {
+    /// Letters and digits.
+    pub name: String,
+    /// Its score.
+    pub score: Option<Number>,
+}
+
+/// What a part says.
+#[derive(Clone, Debug, PartialEq, Eq, Hash)]
+pub enum Content {
+    /// A delta mass.
+    Mass(Number),
+    /// A text, without its key or prefix.
+    Text(String),
+    /// Nothing but its label: a lone reference.
+    Reference,
+}
+
+/// A part of a bracket.
+#[derive(Clone, Debug, PartialEq, Eq, Hash)]
+pub struct Part {
+    /// Its key word or prefix.
+    pub key: Key,
+    /// Its mass or text.
+    pub content: Content,
+    /// Its label.
+    pub label: Option<Label>,
+}
+
+/// As it is written in the canonical line.
+impl Display for Part {
+    fn fmt(&self, f: &mut Formatter<'_>) -> fmt::Result {
+        f.write_str(self.key.spelling())?;
+        match &self.content {
+            Content::Mass(mass) => write!(f, "{mass:+}")?,
+            Content::Text(text) => f.write_str(text)?,
+            Content::Reference => {}
+        }
+        if let Some(label) = &self.label {
+            write!(f, "#{}", label.name)?;
+            if let Some(score) = label.score {
+                write!(f, "({score})")?;
+            }
+        }
+        Ok(())
+    }
+}
+
+/// A bracket: what it says, where it stands, and how often.
+#[derive(Clone, Debug, PartialEq, Eq, Hash)]
+pub struct Bracket {
+    /// Where it stands.
+    pub kind: Kind,
+    /// The positions it stands on; none where it is unknown or labile.
+    pub positions: Option<RangeInclusive<Position>>,
+    /// How many copies; 1 where no count is written.
+    pub count: u8,
+    /// What it says, in synonyms.
+    pub parts: Vec<Part>,
+}
+
+impl Bracket {
+    /// Its label: it has at most one.
+    pub fn label(&self) -> Option<&Label> {
+        self.parts.iter().find_map(|part| part.label.as_ref())
+    }
+
+    /// Whether it is a modification: neither a lone reference nor only INFO.
+    pub fn is_modification(&self) -> bool {
+        self.parts.iter().any(|part| part.key != Key::Info && part.content != Content::Reference)
+    }
+
+    /// The mass of one copy in millionths: its first mass without Obs, else its first Obs mass.
+    ///
+    /// Found here in the parts by document 01's rule; the library exports no call for it.
+    pub fn millionths(&self) -> Option<i64> {
+        let first = |observed: bool| {
+            self.parts.iter().find_map(|part| match part.content {
+                Content::Mass(mass) if (part.key == Key::Obs) == observed => Some(mass.millionths),
+                _ => None,
+            })
+        };
+        first(false).or_else(|| first(true))
+    }
+}
+
+/// As it is written in the canonical line, without its count.
+impl Display for Bracket {
+    fn fmt(&self, f: &mut Formatter<'_>) -> fmt::Result {
+        let (open, close) = if self.kind == Kind::Labile { ("{", "}") } else { ("[", "]") };
+        f.write_str(open)?;
+        for (index, part) in self.parts.iter().enumerate() {
+            write!(f, "{}{part}", if index == 0 { "" } else { "|" })?;
+        }
+        f.write_str(close)
+    }
+}
+
+/// A floating copy: its bracket, which copy of it, and where it may stand.
+#[derive(Clone, Debug, PartialEq, Eq, Hash)]
+pub struct Floater {
+    /// Its bracket's index among the brackets.
+    pub index: usize,
+    /// Its bracket.
+    pub bracket: Bracket,
+    /// Which copy of the bracket it is, counted from 1.
+    pub copy: u8,
+    /// The permitted positions, ascending: those with a placed modification are struck out.
+    pub positions: Vec<Position>,
+}
+
+// Where the tables lie in the areas (include/hwemiduk.h).
+const HEAD: usize = 6;
+const PART: usize = 7;
+const ROW: usize = HEAD + PARTS * PART;
+const LETTERS_AT: usize = 2;
+const SECTIONS_AT: usize = LETTERS_AT + RESIDUES;
+const BRACKETS_AT: usize = SECTIONS_AT + RESIDUES;
+const TEXTS_AT: usize = BRACKETS_AT + BRACKETS * ROW;
+const _: () = assert!(TEXTS_AT + LINE == BYTES);
+
+/// The areas that a line was read into.
+#[derive(Clone)]
+pub(crate) struct Tables {
+    pub bytes: [u8; BYTES],
+    pub numbers: [i64; NUMBERS],
+}
+
+impl Tables {
+    pub fn residues(&self) -> String {
+        self.bytes[LETTERS_AT..].iter().take(usize::from(self.bytes[0])).map(|&letter| char::from(letter)).collect()
+    }
+
+    pub fn sections(&self) -> Vec<Section> {
+        self.bytes[SECTIONS_AT..].iter().take(usize::from(self.bytes[0])).map(|&code| SECTIONS[usize::from(code)]).collect()
+    }
+
+    pub fn brackets(&self) -> Vec<Bracket> {
+        let rows = self.bytes[BRACKETS_AT..TEXTS_AT].chunks_exact(ROW);
+        let numbers = self.numbers.chunks_exact(PARTS + 1);
+        rows.zip(numbers).take(usize::from(self.bytes[1])).map(|(row, numbers)| self.bracket(row, numbers)).collect()
+    }
+
+    fn bracket(&self, row: &[u8], numbers: &[i64]) -> Bracket {
+        let (kind, first, last, count, parts, score) = (row[0], row[1], row[2], row[3], row[4], row[5]);
+        let kind = KINDS[usize::from(kind) - 1];
+        let score = score.checked_sub(1).map(|decimals| Number { millionths: numbers[PARTS], decimals });
+        Bracket {
+            kind,
+            positions: (!matches!(kind, Kind::Unknown | Kind::Labile)).then_some(first..=last),
+            count,
+            parts: row[HEAD..].chunks_exact(PART).zip(numbers).take(usize::from(parts)).map(|(row, &mass)| self.part(row, mass, score)).collect(),
+        }
+    }
+
+    fn part(&self, row: &[u8], mass: i64, score: Option<Number>) -> Part {
+        let (value, key, decimals, text_length, label_length) = (row[0], row[1], row[2], usize::from(row[3]), usize::from(row[4]));
+        let texts = &self.bytes[TEXTS_AT + usize::from(u16::from_le_bytes([row[5], row[6]]))..];
+        let spelled = |bytes: &[u8]| bytes.iter().map(|&byte| char::from(byte)).collect::<String>();
+        Part {
+            key: KEYS[usize::from(key)].0,
+            content: match value {
+                MASS => Content::Mass(Number { millionths: mass, decimals }),
+                TEXT => Content::Text(spelled(&texts[..text_length])),
+                _ => Content::Reference,
+            },
+            label: (label_length > 0).then(|| Label { name: spelled(&texts[text_length..][..label_length]), score }),
+        }
+    }
+}
+
+/// For each floater, in their order, the index of its bracket and which copy of it it is, counted from 1.
+///
+/// Derived here from the tables, as document 01 orders floaters ("in order of their brackets": each copy of an unlabelled unknown modification, each unlabelled one on
+/// a range, each label's definition). The library exports no call for it: where it does, that call takes this function's place.
+pub(crate) fn floating(brackets: &[Bracket]) -> Vec<(usize, u8)> {
+    let copies = |bracket: &Bracket| match bracket.kind {
+        _ if !bracket.is_modification() => 0,
+        _ if bracket.label().is_some() => 1,
+        Kind::Unknown => bracket.count,
+        Kind::Range => 1,
+        _ => 0,
+    };
+    brackets.iter().enumerate().flat_map(|(index, bracket)| (1..=copies(bracket)).map(move |copy| (index, copy))).collect()
+}

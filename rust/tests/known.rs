@@ -1,0 +1,215 @@
+//! Document 01's lines with known outcomes, and what the types promise their users.
+#![forbid(unsafe_code)]
+
+use std::collections::HashSet;
+use std::error::Error;
+use std::iter::FusedIterator;
+
+use hwemiduk::{lent, Bracket, Content, Key, Kind, Label, Missing, Number, Part, Peptidoform, Placement, Placements, Refusal, Section, WORDS};
+
+fn of(line: &str) -> Peptidoform {
+    line.parse().unwrap_or_else(|refusal| panic!("{line}: {refusal}"))
+}
+
+fn placed(line: &str) -> Vec<Vec<hwemiduk::Position>> {
+    of(line).placements().map(|placement| placement.to_vec()).collect()
+}
+
+#[test]
+fn known_totals() {
+    for (line, total) in [
+        ("AM[+15.995]C[-18.01]", -2_015_000),
+        ("[+1]^2?AC", 2_000_000),
+        ("[+1]^2?A", 2_000_000),
+        ("[+1]?A[+2]", 3_000_000),
+        ("M[+16#a]C[#a]", 16_000_000),
+        ("A[Obs:+2|+1]", 1_000_000),
+        ("A[+999999.999999]", 999_999_999_999),
+        ("PEPTIDE", 0),
+    ] {
+        assert_eq!(of(line).total(), Ok(total), "{line}");
+        assert_eq!(of(line).shift(), Some(total as f64 / 1e6), "{line}");
+        assert_eq!(of(line).missing(), 0, "{line}");
+    }
+    let unknown = of("[x]^3?{y}A");
+    assert_eq!((unknown.total(), unknown.shift(), unknown.missing()), (Err(Missing { count: 4 }), None, 4));
+}
+
+#[test]
+fn known_placements() {
+    assert_eq!(placed("[+1]^2?AC"), [[1, 2], [2, 1]]);
+    assert_eq!(placed("[+1]^2?A"), Vec::<Vec<_>>::new());
+    assert_eq!(placed("[+1]?A[+2]"), Vec::<Vec<_>>::new());
+    assert_eq!(placed("[+1]?A[INFO:x]"), [[1]]);
+    assert_eq!(placed("[+1#a]?AC[#a(0.5)]"), [[2]]);
+    assert_eq!(placed("M[+16#a]C[#a]"), [[1], [2]]);
+    assert_eq!(placed("A"), [[0; 0]]);
+}
+
+#[test]
+fn known_ledgers() {
+    assert_eq!(of("AM[+15.995]C[-18.01]").ledger(&[]).unwrap(), [0, 0, 15_995_000, -18_010_000, 0]);
+    assert_eq!(of("[+1]^2?AC").ledger(&[2, 1]).unwrap(), [0, 1_000_000, 1_000_000, 0]);
+    let refused = of("[Acetyl]-A").ledger(&[]).unwrap_err();
+    assert_eq!((refused.number(), refused.place()), (16, 1));
+}
+
+#[test]
+fn known_lines() {
+    for (line, canonical) in [
+        ("a[+01.50]", "A[+1.50]"),
+        ("A[-0]", "A[+0]"),
+        ("[+1]?[+2]^1?A", "[+1][+2]?A"),
+        ("[+1]^2?ac", "[+1]^2?AC"),
+        ("A[Cation:Mg[II]]", "A[Cation:Mg[II]]"),
+    ] {
+        assert_eq!(of(line).as_str(), canonical);
+        assert_eq!(of(line).to_string(), canonical);
+    }
+}
+
+#[test]
+fn known_refusals() {
+    for (line, number, place) in [
+        ("", 1, 0),
+        ("A[U:35]", 9, 2),
+        ("A[x]y]", 4, 5),
+        ("A[", 4, 2),
+        ("[A]^2-B", 4, 5),
+        ("A[+1.]", 4, 5),
+        ("(AC)", 4, 4),
+        ("A/2", 4, 1),
+        ("A[#a]", 11, 1),
+        ("A[+1000000]", 7, 2),
+        ("A\u{e9}", 3, 1),
+    ] {
+        let refusal = line.parse::<Peptidoform>().unwrap_err();
+        assert_eq!((refusal.number(), refusal.place(), refusal.column()), (number, place, Some(place + 1)), "{line}");
+        assert_eq!(Peptidoform::try_from(line.as_bytes()), Err(refusal));
+        assert_eq!(Peptidoform::try_from(line), Err(refusal));
+    }
+    assert_eq!(Peptidoform::read(&[0xff; 5000]).unwrap_err().number(), 2);
+}
+
+/// A placement of another length than there are floaters is not allowed, also where what is left out would be position 0, and where 255 is a position.
+#[test]
+fn placements_of_another_length() {
+    let p = of("[+1#b][+2#a]?[#a]-A[#b]");
+    assert_eq!(placed(p.as_str()), [[1, 0]]);
+    assert!(p.allowed(&[1, 0]));
+    let end = of(&format!("{}A[+1#a]-[#a]", "A".repeat(253)));
+    assert!(end.allowed(&[255]) && end.allowed(&[254]) && !end.allowed(&[253]));
+    for (p, placement) in [(&p, &[1][..]), (&p, &[1, 0, 0]), (&p, &[]), (&p, &[0; 9]), (&end, &[255, 0]), (&end, &[255; 8]), (&of("A"), &[0])] {
+        assert!(!p.allowed(placement), "{p} {placement:?}");
+        assert_eq!(p.ledger(placement).unwrap_err().number(), 18, "{p} {placement:?}");
+    }
+    assert_eq!(of("[x]?A").ledger(&[]).unwrap_err().number(), 16);
+}
+
+#[test]
+fn a_listing_ends_for_good() {
+    let mut placements = of("[+1]?A").placements();
+    assert_eq!(placements.next().map(|placement| placement.to_vec()), Some(vec![1]));
+    let copy = placements.clone();
+    for _ in 0..3 {
+        assert!(placements.next().is_none());
+    }
+    assert_eq!(copy.count(), 0);
+    assert_eq!(of("[+1]^4?ACDEFG").placements().count(), 6 * 5 * 4 * 3);
+    let few: Vec<Placement> = of(&format!("[+1]^8?{}", "A".repeat(254))).placements().take(3).collect();
+    assert!(few[0] < few[1] && few[1] < few[2]);
+    assert_eq!(few[2].len(), 8);
+    assert_eq!(format!("{:?}", few[0]), "Placement([1, 2, 3, 4, 5, 6, 7, 8])");
+}
+
+#[test]
+fn what_the_tables_hold() {
+    let p = of("[u:+01.50]^3?{Obs:-2}[unimod:4]-a(CD[R:x])[y|+0.5#g1(-0.25)](?ef[#g1])-[info:z[#|]]");
+    assert_eq!(p.residues(), "ACDEF");
+    assert_eq!(p.sections(), [Section::Plain, Section::RangeFirst, Section::RangeNext, Section::UnsureFirst, Section::UnsureNext]);
+    let mass = |key, millionths, decimals| Part { key, content: Content::Mass(Number { millionths, decimals }), label: None };
+    let text = |key, text: &str| Part { key, content: Content::Text(text.into()), label: None };
+    let one = |kind, positions, parts| Bracket { kind, positions, count: 1, parts };
+    let label = |score| Some(Label { name: "g1".into(), score });
+    let score = Some(Number { millionths: -250_000, decimals: 2 });
+    let expected = [
+        Bracket { kind: Kind::Unknown, positions: None, count: 3, parts: vec![mass(Key::U, 1_500_000, 2)] },
+        one(Kind::Labile, None, vec![mass(Key::Obs, -2_000_000, 0)]),
+        one(Kind::NTerm, Some(0..=0), vec![text(Key::Unimod, "4")]),
+        one(Kind::Residue, Some(3..=3), vec![text(Key::R, "x")]),
+        one(Kind::Range, Some(2..=3), vec![text(Key::None, "y"), Part { label: label(score), ..mass(Key::None, 500_000, 1) }]),
+        one(Kind::Residue, Some(5..=5), vec![Part { key: Key::None, content: Content::Reference, label: label(None) }]),
+        one(Kind::CTerm, Some(6..=6), vec![text(Key::Info, "z[#|]")]),
+    ];
+    assert_eq!(p.brackets(), expected);
+    let spelled: Vec<String> = expected.iter().map(ToString::to_string).collect();
+    assert_eq!(spelled, ["[U:+1.50]", "{Obs:-2}", "[UNIMOD:4]", "[R:x]", "[y|+0.5#g1(-0.25)]", "[#g1]", "[INFO:z[#|]]"]);
+    let masses: Vec<_> = expected.iter().map(Bracket::millionths).collect();
+    assert_eq!(masses, [Some(1_500_000), Some(-2_000_000), None, None, Some(500_000), None, None]);
+    let floaters: Vec<_> = p.floaters().into_iter().map(|floater| (floater.index, floater.copy, floater.positions)).collect();
+    let free = vec![1, 2, 4, 5];
+    assert_eq!(floaters, [(0, 1, free.clone()), (0, 2, free.clone()), (0, 3, free), (4, 1, vec![2, 5])]);
+}
+
+#[test]
+fn equality_order_and_hash() {
+    assert_eq!(of("a[+01.5]"), of("A[+1.5]"));
+    assert_ne!(of("A[+1.5]"), of("A[+1.50]"));
+    assert_eq!(["A", "a", "C", "[+1]?[+2]^1?A", "[+1][+2]?a"].map(of).into_iter().collect::<HashSet<_>>().len(), 3);
+    let mut lines = ["C", "A", "[+1]-A", "AC"].map(of);
+    lines.sort();
+    assert_eq!(lines.map(|p| p.to_string()), ["A", "AC", "C", "[+1]-A"]);
+    assert_eq!(format!("{:?}", of("a")), "Peptidoform(\"A\")");
+    assert_eq!(format!("{:>4}|", of("a")), "   A|");
+}
+
+#[test]
+fn what_the_types_are() {
+    fn shared<T: Send + Sync + Clone + std::fmt::Debug + 'static>() {}
+    fn ended<T: FusedIterator>() {}
+    fn told<T: Error + Send + Sync + Copy + 'static>() {}
+    shared::<Peptidoform>();
+    shared::<Placements>();
+    ended::<Placements>();
+    told::<Refusal>();
+    told::<Missing>();
+    fn total(line: &str) -> Result<i64, Box<dyn Error>> {
+        Ok(line.parse::<Peptidoform>()?.total()?)
+    }
+    assert_eq!(total("A[+1]").unwrap(), 1_000_000);
+    assert_eq!(total("A[").unwrap_err().to_string(), "4 at 2: not of the order of a line");
+    assert_eq!(total("A[x]").unwrap_err().to_string(), "1 modification has no mass");
+}
+
+#[test]
+fn refusals_in_words() {
+    let refusal = Peptidoform::read(b"A\xff[x").unwrap_err();
+    assert_eq!(refusal.words(), "a byte outside 32 to 126");
+    assert_eq!(refusal.show(b"A\xff[x").to_string(), "3 at 1: a byte outside 32 to 126\nA?[x\n ^");
+    let refusal = Peptidoform::read(b"A[x").unwrap_err();
+    assert_eq!(refusal.show(b"A[x").to_string(), "4 at 3: not of the order of a line\nA[x\n   ^");
+    let (bytes, numbers) = ([0; lent::BYTES], [0; lent::NUMBERS]);
+    let refusal = lent::total(&bytes, &numbers).unwrap_err();
+    assert_eq!((refusal.number(), refusal.column()), (14, None));
+    assert_eq!(refusal.show(b"A").to_string(), "14: tables that no accepted line reads to");
+    assert_eq!(of("[x]^2?A").ledger(&[1, 1]).unwrap_err().to_string(), "16: 2 modifications have no mass");
+}
+
+/// Where the list of words stands at the top of the repository, the words are those of it.
+#[test]
+fn words_are_those_of_the_list() {
+    let Ok(list) = std::fs::read_to_string(concat!(env!("CARGO_MANIFEST_DIR"), "/../refusals.tsv")) else {
+        return;
+    };
+    let rows = list.lines().filter(|row| row.starts_with(|first: char| first.is_ascii_digit()));
+    let rows: Vec<(usize, &str)> = rows.map(|row| row.split('\t').collect::<Vec<_>>()).map(|row| (row[0].parse().unwrap(), row[1])).collect();
+    assert_eq!(rows, (1..).zip(WORDS).collect::<Vec<_>>());
+}
+
+/// The version is that of the repository, where it says one.
+#[test]
+fn version_is_that_of_the_repository() {
+    if let Ok(version) = std::fs::read_to_string(concat!(env!("CARGO_MANIFEST_DIR"), "/../VERSION")) {
+        assert_eq!(version.trim(), env!("CARGO_PKG_VERSION"));
+    }
+}

@@ -9,3 +9,4 @@ pub mod Listed
 pub mod Kept
 pub mod AnsweringC
 pub mod KeptC
+pub mod Linked

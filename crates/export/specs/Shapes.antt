@@ -3,7 +3,7 @@ use Prim.Native.Nat.{ℕ}
 use mathlib.Core.Path.{_≡_}
 use mathlib.Core.Bool.{cond}
 use mathlib.Core.List.{List}
-use lib.Dec.{ltb}
+use lib.Dec.{eqb, ltb}
 use lib.IntN.{ℤ, pos}
 use lib.Ieee.{Float}
 use lib.ListN.{length, take}
@@ -13,47 +13,39 @@ use Rattle.scope.specs.Tables.{Tables, tablesIn}
 use Rattle.scope.specs.Lists.{laid}
 use Rattle.scope.specs.Masses.{ledger, daltons}
 use Rattle.scope.specs.Answers.{Said, good, refuses, Display, aMass, lack, writes, outputAfter, allows, books}
-use Rattle.export.specs.Numbers.{numberOf, placeOf}
+use Rattle.export.specs.Numbers.{numberOf, left, Numbered}
 
--- ---- a count: how many there are, or what the refusal leaves (15 "length needed"; 13 and 14 leave 0)
-abbrev pub countOf : Said ℕ → ℕ
-countOf (good n) = n
-countOf (refuses number place) = place
+-- ---- a line that was written: its length, with 15 the length needed, and the output
+abbrev pub lengthLeft : Said ℕ → ℕ → ℕ
+lengthLeft (good n) old = n
+lengthLeft (refuses number place) old = cond (eqb number 15) place old
 
-pub record Counted (said : Said ℕ) (number count : ℕ) : Type 0 where
+pub record Measured (said : Said ℕ) (count number count′ : ℕ) : Type 0 where
   pub number-is : number ≡ numberOf said
-  pub count-is : count ≡ countOf said
+  pub count-is : count′ ≡ lengthLeft said count
 
--- ---- a line that was written: the count of its bytes, and the output
-pub record Written (bs : List ℕ) (ns : List ℤ) (old : List ℕ) (number count : ℕ) (new : List ℕ) : Type 0 where
-  pub counted : Counted (writes bs ns old) number count
+pub record Written (bs : List ℕ) (ns : List ℤ) (old : List ℕ) (count number count′ : ℕ) (new : List ℕ) : Type 0 where
+  pub measured : Measured (writes bs ns old) count number count′
   pub output-after : new ≡ outputAfter (writes bs ns old) (canonical (tablesIn bs ns)) old
 
--- ---- a total in millionths, 0 on a refusal, with the refusal's place (16 "how many have none")
-abbrev pub millionthsOf : Said ℤ → ℤ
-millionthsOf (good m) = m
-millionthsOf (refuses number place) = pos 0
-
-pub record Totalled (said : Said ℤ) (number : ℕ) (millionths : ℤ) (place : ℕ) : Type 0 where
-  pub number-is : number ≡ numberOf said
-  pub millionths-is : millionths ≡ millionthsOf said
-  pub place-is : place ≡ placeOf said
+-- ---- a total in millionths, and the refusal's place (16 "how many have none")
+pub record Totalled (said : Said ℤ) (millionths : ℤ) (place number : ℕ) (millionths′ : ℤ) (place′ : ℕ) : Type 0 where
+  pub numbered : Numbered said place number place′
+  pub millionths-is : millionths′ ≡ left said (λ m. m) millionths
 
 -- ---- a display: the mass, 0.0 where there is none; how many modifications lack one, else 0
-abbrev pub massOf : Said Display → Float
-massOf (good (aMass x)) = x
-massOf (good (lack n)) = daltons (pos 0)
-massOf (refuses number place) = daltons (pos 0)
+abbrev pub massOf : Display → Float
+massOf (aMass x) = x
+massOf (lack n) = daltons (pos 0)
 
-abbrev pub lackOf : Said Display → ℕ
-lackOf (good (aMass x)) = 0
-lackOf (good (lack n)) = n
-lackOf (refuses number place) = 0
+abbrev pub lackOf : Display → ℕ
+lackOf (aMass x) = 0
+lackOf (lack n) = n
 
-pub record Displayed (said : Said Display) (number : ℕ) (mass : Float) (missing : ℕ) : Type 0 where
+pub record Displayed (said : Said Display) (mass : Float) (missing number : ℕ) (mass′ : Float) (missing′ : ℕ) : Type 0 where
   pub number-is : number ≡ numberOf said
-  pub mass-is : mass ≡ massOf said
-  pub missing-is : missing ≡ lackOf said
+  pub mass-is : mass′ ≡ left said massOf mass
+  pub missing-is : missing′ ≡ left said lackOf missing
 
 -- ---- a placement is lent as a slice, of which the first eight entries count; a shorter one is refused 13
 abbrev pub allowsLent : List ℕ → List ℤ → List ℕ → Said (Unit {0})
@@ -70,7 +62,6 @@ abbrev pub entriesAfter : Said (Unit {0}) → Tables → List ℕ → List ℤ �
 entriesAfter (good x) t p old = laid (ledger t p) old
 entriesAfter (refuses number place) t p old = old
 
-pub record Entered (bs : List ℕ) (ns : List ℤ) (p : List ℕ) (old : List ℤ) (number place : ℕ) (new : List ℤ) : Type 0 where
-  pub number-is : number ≡ numberOf (booksLent bs ns p old)
-  pub place-is : place ≡ placeOf (booksLent bs ns p old)
+pub record Entered (bs : List ℕ) (ns : List ℤ) (p : List ℕ) (old : List ℤ) (place number place′ : ℕ) (new : List ℤ) : Type 0 where
+  pub numbered : Numbered (booksLent bs ns p old) place number place′
   pub entries-after : new ≡ entriesAfter (booksLent bs ns p old) (tablesIn bs ns) (take copyLimit p) old

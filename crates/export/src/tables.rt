@@ -1,7 +1,7 @@
 // The calls over tables in lent areas: the two areas are only read, and any content of theirs is answered.
 use crate::handed::request_number;
+use crate::handed::tell_count;
 use scope::answers::Booked;
-use scope::answers::Count;
 use scope::answers::Ledger;
 use scope::answers::Placement;
 use scope::answers::Shown;
@@ -12,29 +12,14 @@ ghost use mathlib.Core.List.{_++_};
 ghost use Prim.Native.Nat.{_≤_};
 ghost use lib.ListN.{length, take, drop};
 ghost use Rattle.scope.specs.Limits.{copyLimit};
-ghost use Rattle.scope.specs.Answers.{saysCount, saysWrite, saysTotal, saysShown, counts, residueCount, bracketCount, floaterCount, totals, shows};
-ghost use Rattle.export.specs.Shapes.{Counted, Written, Totalled, Displayed, AllowedLent, Entered};
+ghost use Rattle.scope.specs.Answers.{saysWrite, saysTotal, saysShown, counts, residueCount, bracketCount, floaterCount, totals, shows};
+ghost use Rattle.export.specs.Handed.{Counted};
+ghost use Rattle.export.specs.Shapes.{Measured, Written, Totalled, Displayed, AllowedLent, Entered};
 
-// A count, handed out.
-fn tell_count(c: Count, count: &mut usize) -> u8
-    ensures { λ r. ⌜ Counted (saysCount c) r (now (count .exit)) ⌝ }
-{
-    match c {
-        Count::Is(n) => {
-            *count = n;
-            0
-        }
-        Count::Refused { number, place } => {
-            *count = place;
-            number
-        }
-    }
-}
-
-// How many residues there are: 0 and the count; else 13 or 14, and 0.
+// How many residues there are: 0 and the count; else 13 or 14.
 #[no_mangle]
 pub extern "C" fn hwemiduk_residues(bytes: &[u8], numbers: &[i64], count: &mut usize) -> u8
-    ensures { λ r. ⌜ Counted (counts (now (bytes .entry)) (now (numbers .entry)) residueCount) r (now (count .exit)) ⌝ }
+    ensures { λ r. ⌜ Counted (counts (now (bytes .entry)) (now (numbers .entry)) residueCount) (now (count .entry)) r (now (count .exit)) ⌝ }
 {
     let c = calls::residue_count(bytes, numbers);
     tell_count(c, count)
@@ -43,7 +28,7 @@ pub extern "C" fn hwemiduk_residues(bytes: &[u8], numbers: &[i64], count: &mut u
 // How many brackets, likewise.
 #[no_mangle]
 pub extern "C" fn hwemiduk_brackets(bytes: &[u8], numbers: &[i64], count: &mut usize) -> u8
-    ensures { λ r. ⌜ Counted (counts (now (bytes .entry)) (now (numbers .entry)) bracketCount) r (now (count .exit)) ⌝ }
+    ensures { λ r. ⌜ Counted (counts (now (bytes .entry)) (now (numbers .entry)) bracketCount) (now (count .entry)) r (now (count .exit)) ⌝ }
 {
     let c = calls::bracket_count(bytes, numbers);
     tell_count(c, count)
@@ -52,7 +37,7 @@ pub extern "C" fn hwemiduk_brackets(bytes: &[u8], numbers: &[i64], count: &mut u
 // How many floating copies, likewise.
 #[no_mangle]
 pub extern "C" fn hwemiduk_floaters(bytes: &[u8], numbers: &[i64], count: &mut usize) -> u8
-    ensures { λ r. ⌜ Counted (counts (now (bytes .entry)) (now (numbers .entry)) floaterCount) r (now (count .exit)) ⌝ }
+    ensures { λ r. ⌜ Counted (counts (now (bytes .entry)) (now (numbers .entry)) floaterCount) (now (count .entry)) r (now (count .exit)) ⌝ }
 {
     let c = calls::floater_count(bytes, numbers);
     tell_count(c, count)
@@ -60,7 +45,7 @@ pub extern "C" fn hwemiduk_floaters(bytes: &[u8], numbers: &[i64], count: &mut u
 
 // A writer's answer, handed out.
 fn tell_write(w: Write, length: &mut usize) -> u8
-    ensures { λ r. ⌜ Counted (saysWrite w) r (now (length .exit)) ⌝ }
+    ensures { λ r. ⌜ Measured (saysWrite w) (now (length .entry)) r (now (length .exit)) ⌝ }
 {
     match w {
         Write::Written(n) => {
@@ -68,14 +53,17 @@ fn tell_write(w: Write, length: &mut usize) -> u8
             0
         }
         Write::Refused { number, place } => {
-            *length = place;
+            if number == 15 {
+                *length = place;
+                return number;
+            }
             number
         }
     }
 }
 
 // The canonical line into an output of any length: 0 and how many bytes were written, with those behind them as they were; else 15 and the length needed, or 13
-// or 14 and 0, with the output as it was.
+// or 14, with the output as it was.
 #[no_mangle]
 pub extern "C" fn hwemiduk_write(
     bytes: &[u8],
@@ -83,7 +71,7 @@ pub extern "C" fn hwemiduk_write(
     out: &mut [u8],
     length: &mut usize,
 ) -> u8
-    ensures { λ r. ⌜ Written (now (bytes .entry)) (now (numbers .entry)) (now (out .entry)) r (now (length .exit)) (now (out .exit)) ⌝ }
+    ensures { λ r. ⌜ Written (now (bytes .entry)) (now (numbers .entry)) (now (out .entry)) (now (length .entry)) r (now (length .exit)) (now (out .exit)) ⌝ }
 {
     let w = calls::write(bytes, numbers, out);
     tell_write(w, length)
@@ -91,23 +79,21 @@ pub extern "C" fn hwemiduk_write(
 
 // A total, handed out.
 fn tell_total(t: Total, millionths: &mut i64, place: &mut usize) -> u8
-    ensures { λ r. ⌜ Totalled (saysTotal t) r (now (millionths .exit)) (now (place .exit)) ⌝ }
+    ensures { λ r. ⌜ Totalled (saysTotal t) (now (millionths .entry)) (now (place .entry)) r (now (millionths .exit)) (now (place .exit)) ⌝ }
 {
     match t {
         Total::Millionths(m) => {
             *millionths = m;
-            *place = 0;
             0
         }
         Total::Refused { number, place: p } => {
-            *millionths = 0;
             *place = p;
             number
         }
     }
 }
 
-// The total: 0 and the millionths; else 13, 14 or 16, no millionths, and in `place` how many modifications lack a mass (16) or 0.
+// The total: 0 and the millionths; else 13, 14 or 16, and in `place` how many modifications lack a mass (16) or 0.
 #[no_mangle]
 pub extern "C" fn hwemiduk_total(
     bytes: &[u8],
@@ -115,7 +101,7 @@ pub extern "C" fn hwemiduk_total(
     millionths: &mut i64,
     place: &mut usize,
 ) -> u8
-    ensures { λ r. ⌜ Totalled (totals (now (bytes .entry)) (now (numbers .entry))) r (now (millionths .exit)) (now (place .exit)) ⌝ }
+    ensures { λ r. ⌜ Totalled (totals (now (bytes .entry)) (now (numbers .entry))) (now (millionths .entry)) (now (place .entry)) r (now (millionths .exit)) (now (place .exit)) ⌝ }
 {
     let t = calls::total(bytes, numbers);
     tell_total(t, millionths, place)
@@ -123,7 +109,7 @@ pub extern "C" fn hwemiduk_total(
 
 // A display, handed out.
 fn tell_shown(s: Shown, daltons: &mut f64, missing: &mut usize) -> u8
-    ensures { λ r. ⌜ Displayed (saysShown s) r (now (daltons .exit)) (now (missing .exit)) ⌝ }
+    ensures { λ r. ⌜ Displayed (saysShown s) (now (daltons .entry)) (now (missing .entry)) r (now (daltons .exit)) (now (missing .exit)) ⌝ }
 {
     match s {
         Shown::Daltons(x) => {
@@ -136,15 +122,11 @@ fn tell_shown(s: Shown, daltons: &mut f64, missing: &mut usize) -> u8
             *missing = n;
             0
         }
-        Shown::Refused { number } => {
-            *daltons = 0.0;
-            *missing = 0;
-            number
-        }
+        Shown::Refused { number } => number,
     }
 }
 
-// The total for display: 0 with the mass and none missing, or with 0.0 and how many lack one; else 13 or 14, with 0.0 and 0.
+// The total for display: 0 with the mass and none missing, or with 0.0 and how many lack one; else 13 or 14.
 #[no_mangle]
 pub extern "C" fn hwemiduk_shown(
     bytes: &[u8],
@@ -152,7 +134,7 @@ pub extern "C" fn hwemiduk_shown(
     daltons: &mut f64,
     missing: &mut usize,
 ) -> u8
-    ensures { λ r. ⌜ Displayed (shows (now (bytes .entry)) (now (numbers .entry))) r (now (daltons .exit)) (now (missing .exit)) ⌝ }
+    ensures { λ r. ⌜ Displayed (shows (now (bytes .entry)) (now (numbers .entry))) (now (daltons .entry)) (now (missing .entry)) r (now (daltons .exit)) (now (missing .exit)) ⌝ }
 {
     let s = calls::shown(bytes, numbers);
     tell_shown(s, daltons, missing)
@@ -193,8 +175,8 @@ fn copy_entries(from: &[i64], n: usize, to: &mut [i64])
     }
 }
 
-// The ledger of the placement in the first eight entries: 0 with the first 256 entries written; else 13, 14, 16 (with how many modifications lack a mass in
-// `place`, which is 0 else) or 18, and the entries as they were.
+// The ledger of the placement in the first eight entries: 0 with the first 256 entries written; else 13, 14, 16 or 18, the entries as they were, and in `place`
+// how many modifications lack a mass (16) or 0.
 #[no_mangle]
 pub extern "C" fn hwemiduk_ledger(
     bytes: &[u8],
@@ -203,13 +185,14 @@ pub extern "C" fn hwemiduk_ledger(
     entries: &mut [i64],
     place: &mut usize,
 ) -> u8
-    ensures { λ r. ⌜ Entered (now (bytes .entry)) (now (numbers .entry)) (now (placement .entry)) (now (entries .entry)) r (now (place .exit)) (now (entries .exit)) ⌝ }
+    ensures { λ r. ⌜ Entered (now (bytes .entry)) (now (numbers .entry)) (now (placement .entry)) (now (entries .entry)) (now (place .entry)) r (now (place .exit)) (now (entries .exit)) ⌝ }
 {
-    *place = 0;
     if placement.len() < Placement::COPIES {
+        *place = 0;
         return 13;
     }
     if entries.len() < Ledger::POSITIONS {
+        *place = 0;
         return 13;
     }
     let p = placement_in(placement);

@@ -1,7 +1,7 @@
 -- `listing::step` meets its contract: a walk of its MIR, by hand. The borrow is opened, the record is copied out and passed to `next_placement` with the
 -- areas, the record of the answer is stored, and the borrow is closed at it. All that it knows of `next_placement` is that it meets its contract.
 -- Assumes nothing.
-use mathlib.Core.Path.{_≡_, refl, ap}
+use mathlib.Core.Path.{refl, ap}
 use mathlib.Core.List.{[], _∷_, List}
 use Prim.Native.Nat.{ℕ}
 use lib.IntN.{ℤ}
@@ -42,7 +42,6 @@ use denote.Triple.Table.{entered, cited}
 use denote.Triple.Walked.{says, Stays, stay-ref, stay-none-slice, walkOf, goes-none-slice, goes-ref, Walks, ends-at, walked, walk-meets}
 use denote.Triple.Clauses.{ensured, lasts}
 use denote.Exit.{yes}
-use Rattle.scope.specs.Answers.{saysRequest, requests, listingAfter}
 use Rattle.scope.specs.declared.answers.Listing.{Listing}
 use Rattle.scope.specs.declared.answers.Request.{Request}
 use Rattle.scope.proofs.answers.Listing as T
@@ -56,6 +55,7 @@ use Rattle.calls.proofs.next_placement as next
 use Rattle.calls.proofs.next_placement.Symbol as next-def
 use Rattle.calls.proofs.next_placement.Symbol.{name as #calls·next-placement}
 use Rattle.calls.proofs.next_placement.Met as next-thm
+use Rattle.listing.specs.Says.{StepSays}
 use Rattle.listing.proofs.step.Key.{name as #listing·step}
 use Rattle.listing.proofs.step as step
 use Rattle.listing.proofs.step.Statement as stated
@@ -99,7 +99,7 @@ module _ {M : Type 1} (𝓤 : URA M) (H : Heap 𝓤) (A : Atoms 𝓤) (W : Given
 
   -- what is said of the answer
   abbrev Right : Request → Listing → Type 0
-  Right r l = (saysRequest r ≡ requests (x₁ .now) (x₂ .now) h) × (l ≡ listingAfter (x₁ .now) (x₂ .now) h)
+  Right r l = StepSays (x₁ .now) (x₂ .now) h r l
 
   abbrev Post : Val → SProp 𝓤
   Post = walkOf 𝓤 H A step.ended stayed (step.clauses 𝓤 H A at-mem run) .post (((κ₁, (κ₂, (κ, tt))), (q₁, (q₂, (q, tt))), tt, x, at), tt)

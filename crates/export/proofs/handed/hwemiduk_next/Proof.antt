@@ -37,8 +37,11 @@ use denote.Triple.Table.{entered, cited}
 use denote.Triple.Walked.{says, Stays, gave-ref, stay-none-slice, walkOf, goes-none-slice, goes-gave-ref, Walks, ends-at, walked, walk-meets}
 use denote.Triple.Clauses.{ensured, lasts}
 use denote.Exit.{yes}
-use Rattle.scope.specs.Answers.{saysRequest, requests, listingAfter}
+use Rattle.scope.specs.Answers.{saysRequest, requests}
+use Rattle.listing.specs.Says.{StepSays}
 use Rattle.export.specs.Numbers.{numberOf}
+use Rattle.export.specs.Handed.{MovedOn}
+use Rattle.export.proofs.Told.{met-number}
 use Rattle.scope.specs.declared.answers.Listing.{Listing}
 use Rattle.scope.specs.declared.answers.Request.{Request}
 use Rattle.scope.proofs.answers.Listing as T
@@ -105,10 +108,10 @@ module _ {M : Type 1} (𝓤 : URA M) (H : Heap 𝓤) (A : Atoms 𝓤) (W : Given
 
   -- what is said of a step's answer, and of its number
   abbrev Stepped : Request → Listing → Type 0
-  Stepped r l = (saysRequest r ≡ requests (x₁ .now) (x₂ .now) h) × (l ≡ listingAfter (x₁ .now) (x₂ .now) h)
+  Stepped r l = StepSays (x₁ .now) (x₂ .now) h r l
 
   abbrev Right : ℕ → Listing → Type 0
-  Right n l = (n ≡ numberOf (requests (x₁ .now) (x₂ .now) h)) × (l ≡ listingAfter (x₁ .now) (x₂ .now) h)
+  Right n l = MovedOn (x₁ .now) (x₂ .now) h n l
 
   exits : (n : ℕ) (z : Val) (l : Listing) → Right n l → ent 𝓤 (⋆ 𝓤 H A (‵ (u8 .own n (z ∷ [])) ∷ tokens ∷ ‵ (fres γ (T.the-row .coded .code l)) ∷ ‵ Numbers ∷ ‵ Bytes ∷ [])) (Post z)
   exits n z l e =
@@ -164,7 +167,7 @@ module _ {M : Type 1} (𝓤 : URA M) (H : Heap 𝓤) (A : Atoms 𝓤) (W : Given
         land ! (from ! (stop !)) (init ! 15 refl (uint-lawful 𝓤 H A W w8 .typed n _ is₂ .0)) $
         returns ! (look ! 15 refl) $ forget ! 5 refl $ forget ! 7 refl $ forget ! 9 refl $ forget ! 11 refl $ forget ! 13 refl $ forget ! 15 refl $
         move ! (15 ∷ 16 ∷ []) $ free1 ! $ move ! (13 ∷ 14 ∷ []) $ free1 ! $ move ! (11 ∷ 12 ∷ []) $ free1 ! $ move ! (9 ∷ 10 ∷ []) $ free1 ! $ move ! (7 ∷ 8 ∷ []) $ free1 ! $ move ! (5 ∷ 6 ∷ []) $ free1 ! $ free0 ! $
-        by ! (exits n z (ws .1 .1 .0) (g ∙ ap numberOf (e .0), e .1)))))))))))))))))
+        by ! (exits n z (ws .1 .1 .0) (g ∙ ap numberOf (e .0) ∙ met-number (requests (x₁ .now) (x₂ .now) h), e .1)))))))))))))))))
 
 module _ {M : Type 1} (𝓤 : URA M) (H : Heap 𝓤) (A : Atoms 𝓤) (W : Given 𝓤 H A) (mem : Memory → SProp 𝓤) (run : Routine → Fun 𝓤) (𝓣 : Tables 𝓤 H) (known-step : Triple 𝓤 (𝓣 .C #listing·step) (Step 𝓤 H A mem run)) (known-number : Triple 𝓤 (𝓣 .C #export·handed·request-number) (Number 𝓤 H A mem run)) where
   next-walks : Walks 𝓤 H A next.ended stayed (WpFn 𝓤 H (𝓣 .C) (𝓣 .Λ) code.function) (next.clauses 𝓤 H A mem run)

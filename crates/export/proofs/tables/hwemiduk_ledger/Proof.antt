@@ -10,10 +10,10 @@ use Rattle.export.proofs.tables.hwemiduk_ledger.Statement.{statement}
 use Rattle.export.proofs.tables.hwemiduk_ledger.Tie as tie
 
 returns : tie.Need-returns
-returns c = short-placement _ _ _ _ (c .if1 .taken)
+returns c = short-placement _ _ _ _ _ (c .if1 .taken)
 
 returns-2 : tie.Need-returns-2
-returns-2 c = short-entries _ _ _ _ (c .before .if1 .left) (c .if2 .taken)
+returns-2 c = short-entries _ _ _ _ _ (c .before .if1 .left) (c .if2 .taken)
 
 placement-in-requires : tie.Need-placement-in-requires
 placement-in-requires c κs = search needs
@@ -43,7 +43,7 @@ returns-3 : tie.Need-returns-3
 returns-3 c =
     let called = c .before .before .before .before .before .before .before in
     let long : length (called .ledger .result .at) ≡ positionLimit = search needs in
-    booked-long _ _ _ _ _ (called .before .placement-in .ensures) (called .before .before .before .if1 .left) (called .before .before .if2 .left)
+    booked-long _ _ _ _ _ _ (called .before .placement-in .ensures) (called .before .before .before .if1 .left) (called .before .before .if2 .left)
     (ap saysBooked (sym (c .before .before .before .before .enum-told .given .1)) ∙ called .ledger .ensures .0)
     (called .ledger .ensures .1)
     long
@@ -52,7 +52,7 @@ returns-3 c =
 returns-4 : tie.Need-returns-4
 returns-4 c =
     let called = c .before .before .before .before in
-    refused-long _ _ _ _ _ (called .before .placement-in .ensures) (called .before .before .before .if1 .left) (called .before .before .if2 .left)
+    refused-long _ _ _ _ _ _ (called .before .placement-in .ensures) (called .before .before .before .if1 .left) (called .before .before .if2 .left)
     (ap saysBooked (sym (c .before .booked .given .1)) ∙ called .ledger .ensures .0)
 
 pub hwemiduk-ledger-spec : {M : Type 1} → statement M

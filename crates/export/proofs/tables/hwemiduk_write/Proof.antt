@@ -1,5 +1,5 @@
 -- `export::tables::hwemiduk_write` meets its contract.
-use Rattle.export.proofs.Told.{counted-so}
+use Rattle.export.proofs.Told.{measured-so}
 use borrow.Author.Needs.{needs}
 use Rattle.export.proofs.tables.hwemiduk_write.Statement.{statement}
 use Rattle.export.proofs.tables.hwemiduk_write.Tie as tie
@@ -16,7 +16,7 @@ same-length c = search needs
 returns : tie.Need-returns
 returns c =
     let written = c .before .before .before .before .write .ensures in
-    record { counted = counted-so (written .says) (c .tell-write .ensures); output-after = written .output-after }
+    record { measured = measured-so (written .says) (c .tell-write .ensures); output-after = written .output-after }
 
 pub hwemiduk-write-spec : {M : Type 1} → statement M
 hwemiduk-write-spec = tie.close (tie.spec write-requires tell-write-requires same-length returns)

@@ -22,8 +22,7 @@ unfolding div ofInt ofBits
 returns-2 c = rw (c .before .s2 .given .1) (record { number-is = refl; mass-is = refl; missing-is = refl })
 
 returns-3 : tie.Need-returns-3
-unfolding div ofInt ofBits
-returns-3 c = rw (c .before .s3 .given .1) (record { number-is = refl; mass-is = refl; missing-is = refl })
+returns-3 c = search needs
 
 pub tell-shown-spec : {M : Type 1} → statement M
 tell-shown-spec =

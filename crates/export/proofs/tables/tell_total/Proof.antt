@@ -16,7 +16,7 @@ returns : tie.Need-returns
 returns c =
     let m = c .before .t .given .0 .0 in
     let read : toZ w64 (ofZ w64 m) ≡ m = search needs in
-    rw (c .before .t .given .1) (record { number-is = refl; millionths-is = read; place-is = refl })
+    rw (c .before .t .given .1) (record { numbered = record { number-is = refl; place-is = refl }; millionths-is = read })
 
 returns-2 : tie.Need-returns-2
 returns-2 c = search needs

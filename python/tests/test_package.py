@@ -102,10 +102,7 @@ class Objects(unittest.TestCase):
         self.assertFalse(hasattr(Peptidoform, "mass"))
 
     def test_version(self):
-        self.assertRegex(hwemiduk.__version__, r"^\d+\.\d+\.\d+$")
-        version = ROOT / "VERSION"
-        if version.is_file():
-            self.assertEqual(version.read_text().strip(), hwemiduk.__version__)
+        self.assertEqual((ROOT / "VERSION").read_text().strip(), hwemiduk.__version__)
 
 
 class Refusals(unittest.TestCase):
@@ -137,13 +134,10 @@ class Refusals(unittest.TestCase):
         self.assertEqual(mark.strip(" "), "^")
 
     def test_words_are_those_of_the_list(self):
-        """Each number once. Where the list of words stands at the top of the repository, the words are those of it."""
-        self.assertEqual(list(hwemiduk.WORDS), list(range(1, 19)))
-        listed = ROOT / "refusals.tsv"
-        if not listed.is_file():
-            self.skipTest("there is no refusals.tsv")
-        rows = [row.split("\t") for row in listed.read_text().splitlines() if row[:1].isdigit()]
-        self.assertEqual({int(row[0]): row[1] for row in rows}, hwemiduk.WORDS)
+        """The words of each number, in its order, are those of refusals.tsv."""
+        head, *rows = [row.split("\t") for row in (ROOT / "refusals.tsv").read_text().splitlines()]
+        self.assertEqual(head[:2], ["number", "words"])
+        self.assertEqual([(int(row[0]), row[1]) for row in rows], list(hwemiduk.WORDS.items()))
 
     def test_codes_are_those_of_the_header(self):
         header = (ROOT / "include" / "hwemiduk.h").read_text()

@@ -10,7 +10,10 @@ thread_local! {
 
 /// What the example prints is kept.
 macro_rules! println {
-    ($($shown:tt)*) => { PRINTED.with(|printed| printed.borrow_mut().push(format!($($shown)*))) };
+    ($($shown:tt)*) => {{
+        let line = format!($($shown)*);
+        PRINTED.with(|printed| printed.borrow_mut().push(line));
+    }};
 }
 
 #[rustfmt::skip]

@@ -2,6 +2,7 @@
 #![forbid(unsafe_code)]
 
 #[allow(dead_code)]
+#[rustfmt::skip]
 #[path = "../../compare/tests/json/mod.rs"]
 mod json;
 

@@ -23,27 +23,25 @@ __all__ = ["Bracket", "Label", "LIMITS", "Limits", "Missing", "Number", "Part", 
 
 #: What each refusal is given for, by its number.
 WORDS = {
-    1: "line empty",
-    2: "line too long",
+    1: "the line is empty",
+    2: "the line is longer than 4,096 bytes",
     3: "a byte outside 32 to 126",
-    4: "not of the order of a line, limits apart",
-    5: "pairs too deep",
-    6: "residues, brackets, parts, text or label over the limit",
-    7: "mass, score or count out of range",
-    8: "part begins `Formula:` `Glycan:` `Position:` `Limit:`, or is CoMKP, CoMUP or their long names, "
-    "or its label begins XL or is BRANCH; any case",
-    9: "prefix U or M and a name all digits",
-    10: "only INFO in an unknown or labile bracket",
-    11: "second label in a bracket, label defined again, reference without definition, count (`^1` too) on a labelled bracket, "
-    "label defined in an unknown run and never referred to",
-    12: "more than 8 floating copies",
-    13: "a lent area is shorter than its fixed size",
+    4: "not of the order of a line",
+    5: "pairs nested more than eight deep",
+    6: "too many residues (254), brackets (64) or parts (4), a text over 128 bytes or a label over 16",
+    7: "a mass or score of a million or more or with more than 6 decimals, a count outside 1 to 99",
+    8: "something that is not taken here: Formula, Glycan, Position, Limit, CoMKP, CoMUP, labels XL.. and BRANCH",
+    9: "prefix U or M with a name of digits only",
+    10: "only INFO in a bracket of unknown position or a labile one",
+    11: "labels that do not fit: a second one, one defined again, a reference without definition, a count on a labelled bracket, one "
+    "in an unknown run that nothing refers to",
+    12: "more than eight floating copies",
+    13: "a lent area is too short",
     14: "tables that no accepted line reads to",
-    15: "output shorter than the canonical line",
-    16: "the total or ledger is asked for and a modification has no mass",
-    17: "no placement, or no further one; in the row lookup, no such row",
-    18: "the placement handed in, or held by a listing record not marked fresh, isn't an allowed one; "
-    "or a record marked fresh has an entry other than zero",
+    15: "the output is shorter than the canonical line",
+    16: "a modification has no mass",
+    17: "no placement, no further one, no such row",
+    18: "a placement that is not allowed",
 }
 
 

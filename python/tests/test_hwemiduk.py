@@ -262,8 +262,8 @@ class Refusals(unittest.TestCase):
         with self.assertRaises(Refusal) as caught:
             read("A[U:35]")
         error = caught.exception
-        self.assertEqual((error.number, error.place, error.words), (9, 2, "prefix U or M and a name all digits"))
-        self.assertEqual(str(error), "9 at 2: prefix U or M and a name all digits")
+        self.assertEqual((error.number, error.place, error.words), (9, 2, "prefix U or M with a name of digits only"))
+        self.assertEqual(str(error), "9 at 2: prefix U or M with a name of digits only")
         self.assertEqual(pickle.loads(pickle.dumps(error)).args, error.args)
 
     def test_words_are_those_of_the_header(self):

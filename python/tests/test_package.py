@@ -142,7 +142,7 @@ class Refusals(unittest.TestCase):
     def test_codes_are_those_of_the_header(self):
         header = (ROOT / "include" / "hwemiduk.h").read_text()
         for enum, first, members in [("section", 0, Section), ("kind", 1, Kind), ("key", 0, Key)]:
-            start = header.index("enum hwemiduk_" + enum)
+            start = header.index(f"enum hwemiduk_{enum} {{")
             codes = re.findall(r"HWEMIDUK_(\w+) = (\d+)", header[start : header.index("}", start)])
             plain = {int(code): re.sub("^(ON|NO)_|_|^KEY$", "", re.sub("^NO_KEY$", "NONE", name)) for name, code in codes}
             self.assertEqual(plain, {code: member.name.replace("_", "") for code, member in enumerate(members, first)})
@@ -345,9 +345,9 @@ class Library(unittest.TestCase):
         self.assertIsNone(caught.exception.__context__)
 
     def test_where_it_is_looked_for(self):
-        """In the repository: beside the package, then in target/."""
-        folders = [path.parent for path in _library.places() if path.name == "libhwemiduk.so"]
-        self.assertEqual(folders, [ROOT / "python" / "src" / "hwemiduk", ROOT / "target" / "lib", ROOT / "target" / "shared"])
+        """In the repository: beside the package, then in target/lib."""
+        folders = [ROOT / "python" / "src" / "hwemiduk", ROOT / "target" / "lib"]
+        self.assertEqual(_library.places(), [folder / "libhwemiduk.so" for folder in folders])
         with mock.patch.object(_library, "places", return_value=[Path("/a/libhwemiduk.so"), Path("/b/libhwemiduk.so")]), self.assertRaises(ImportError) as caught:
             self.load("")
         self.assertIn("is not at /a/libhwemiduk.so, nor at /b/libhwemiduk.so. bin/build-shared", str(caught.exception))

@@ -4,8 +4,7 @@
 #include <stdio.h>
 #include <string.h>
 
-static uint8_t bytes[HWEMIDUK_BYTES];
-static int64_t numbers[HWEMIDUK_NUMBERS];
+static hwemiduk_tables tables;
 static int64_t ledger[HWEMIDUK_POSITIONS];
 
 int main(int argc, char **argv)
@@ -15,19 +14,19 @@ int main(int argc, char **argv)
         return 2;
     }
     size_t place, floaters, missing;
-    uint8_t refusal = hwemiduk_read((const uint8_t *)argv[1], strlen(argv[1]), bytes, HWEMIDUK_BYTES, numbers, HWEMIDUK_NUMBERS, &place);
+    uint8_t refusal = hwemiduk_read((const uint8_t *)argv[1], strlen(argv[1]), HWEMIDUK_OF(&tables), &place);
     if (refusal != HWEMIDUK_OK) {
-        printf("refused: %d at %zu\n", refusal, place);
+        printf("refused: %d at %zu: %s\n", refusal, place, hwemiduk_words(refusal));
         return 1;
     }
-    hwemiduk_floaters(bytes, HWEMIDUK_BYTES, numbers, HWEMIDUK_NUMBERS, &floaters);
+    hwemiduk_floaters(HWEMIDUK_OF(&tables), &floaters);
     hwemiduk_listing listing = HWEMIDUK_FRESH;
-    while (hwemiduk_next(bytes, HWEMIDUK_BYTES, numbers, HWEMIDUK_NUMBERS, &listing) == HWEMIDUK_OK) {
+    while (hwemiduk_next(HWEMIDUK_OF(&tables), &listing) == HWEMIDUK_OK) {
         printf("placement");
         for (size_t i = 0; i < floaters; i++)
             printf(" %d", listing.at[i]);
         printf(":");
-        if (hwemiduk_ledger(bytes, HWEMIDUK_BYTES, numbers, HWEMIDUK_NUMBERS, listing.at, HWEMIDUK_COPIES, ledger, HWEMIDUK_POSITIONS, &missing) == HWEMIDUK_OK) {
+        if (hwemiduk_ledger(HWEMIDUK_OF(&tables), listing.at, HWEMIDUK_COPIES, ledger, HWEMIDUK_POSITIONS, &missing) == HWEMIDUK_OK) {
             for (size_t position = 0; position < HWEMIDUK_POSITIONS; position++)
                 if (ledger[position] != 0)
                     printf(" %" PRId64 " at %zu", ledger[position], position);
@@ -37,7 +36,7 @@ int main(int argc, char **argv)
         printf("\n");
     }
     int64_t total;
-    if (hwemiduk_total(bytes, HWEMIDUK_BYTES, numbers, HWEMIDUK_NUMBERS, &total, &missing) == HWEMIDUK_OK)
+    if (hwemiduk_total(HWEMIDUK_OF(&tables), &total, &missing) == HWEMIDUK_OK)
         printf("total: %" PRId64 "\n", total);
     else
         printf("total: %zu without a mass\n", missing);

@@ -1,17 +1,26 @@
 /*
  * Hwemiduk: a register of peptidoforms, one molecule a line, in ProForma 2.1 notation.
  *
- * Link target/staticlib/libexport.a, which `rt staticlib export` writes, or target/shared/libhwemiduk.so, which bin/build-shared links from it.
- *
  * A line is read into two lent areas, one of bytes and one of numbers; the other calls take the tables in these areas. Every call answers a number: 0, or the
  * number of a refusal.
  *
  * - What a caller lends to be written (areas, output, rows, entries, a listing) a refusal leaves exactly as it was, and success leaves as it was past what the
  *   call says it writes. Where a result is handed out through a pointer to a single value (place, count, length, ..), it is set by every call, refused or not.
  * - Any bytes and any numbers are answered: junk in the areas is refused with 14, a slice that is too short with 13.
- * - A slice passes as a pointer and the number of its elements, which must be there; slices may be longer than is asked for. No pointer may be null, not even
+ * - A slice passes as a pointer and the number of its elements, which must be there; slices may be longer than is asked for. NO POINTER MAY BE NULL, not even
  *   with a length of 0. What is written overlaps nothing else that is lent in the same call.
- * - The library has no state, takes no memory but at most 64 KiB of stack, and does no input or output. Calls may run at the same time on areas of their own.
+ * - Totals and ledgers are of the modifications only: the masses of the residues themselves are not in them.
+ *
+ * What it needs: a processor and a system of the x86-64 System V convention (Linux), the registers of SSE2, and of the C library `memcpy` and `memset` alone, so that
+ * it also links without one. The code is position independent. It has no state, no locks and no thread storage, takes no memory, and does no input or output: calls
+ * may run at the same time, on areas of their own.
+ *
+ * Stack, in KiB, the most that is measured on lines and areas made to take much (tests/stack.c): hwemiduk_limits and hwemiduk_first_row 1, hwemiduk_verdict and
+ * hwemiduk_read 14, hwemiduk_rows 29, every other call 27. Have 64 KiB free.
+ *
+ * Link libhwemiduk.a or libhwemiduk.so.0 (`make`, `make install`; pkg-config hwemiduk). The number behind .so is raised when a record here (hwemiduk_limits_t,
+ * hwemiduk_listing, hwemiduk_site, the areas) changes its size or form, a call its arguments, or an answer its meaning. A new call or a new refusal does not raise it:
+ * be ready for a number that you do not know.
  */
 #ifndef HWEMIDUK_H
 #define HWEMIDUK_H
@@ -24,75 +33,152 @@
 extern "C" {
 #endif
 
-/* ---- What the calls answer: 0, or the refusal that is given exactly when .. */
+/* ---- The version of this header, as the file VERSION has it; the number is 10000 * major + 100 * minor + patch. */
+#define HWEMIDUK_VERSION "0.1.0"
+#define HWEMIDUK_VERSION_NUMBER 100
+
+/* ---- What the calls answer: 0, or a refusal. docs/SCOPE.md says exactly when each is given. */
 enum hwemiduk_answer {
     HWEMIDUK_OK = 0,
-    HWEMIDUK_EMPTY_LINE = 1,      /* line empty */
-    HWEMIDUK_LONG_LINE = 2,       /* line too long */
+    HWEMIDUK_EMPTY_LINE = 1,      /* the line is empty */
+    HWEMIDUK_LONG_LINE = 2,       /* the line is longer than 4,096 bytes */
     HWEMIDUK_BAD_BYTE = 3,        /* a byte outside 32 to 126 */
-    HWEMIDUK_BAD_ORDER = 4,       /* not of the order of a line, limits apart */
-    HWEMIDUK_TOO_DEEP = 5,        /* pairs too deep */
-    HWEMIDUK_TOO_MANY = 6,        /* residues, brackets, parts, text or label over the limit */
-    HWEMIDUK_OUT_OF_RANGE = 7,    /* mass, score or count out of range */
-    HWEMIDUK_NOT_TAKEN = 8,       /* part begins `Formula:` `Glycan:` `Position:` `Limit:`, or is CoMKP, CoMUP or their long names, or its label begins XL or is BRANCH; any case */
-    HWEMIDUK_NAME_OF_DIGITS = 9,  /* prefix U or M and a name all digits */
-    HWEMIDUK_ONLY_INFO = 10,      /* only INFO in an unknown or labile bracket */
-    HWEMIDUK_BAD_LABEL = 11,      /* second label in a bracket, label defined again, reference without definition, count (`^1` too) on a labelled bracket, label defined in an unknown run and never referred to */
-    HWEMIDUK_MANY_COPIES = 12,    /* more than 8 floating copies */
-    HWEMIDUK_SHORT_AREA = 13,     /* a lent area is shorter than its fixed size */
+    HWEMIDUK_BAD_ORDER = 4,       /* not of the order of a line */
+    HWEMIDUK_TOO_DEEP = 5,        /* pairs nested more than eight deep */
+    HWEMIDUK_TOO_MANY = 6,        /* too many residues (254), brackets (64) or parts (4), a text over 128 bytes or a label over 16 */
+    HWEMIDUK_OUT_OF_RANGE = 7,    /* a mass or score of a million or more or with more than 6 decimals, a count outside 1 to 99 */
+    HWEMIDUK_NOT_TAKEN = 8,       /* something that is not taken here: Formula, Glycan, Position, Limit, CoMKP, CoMUP, labels XL.. and BRANCH */
+    HWEMIDUK_NAME_OF_DIGITS = 9,  /* prefix U or M with a name of digits only */
+    HWEMIDUK_ONLY_INFO = 10,      /* only INFO in a bracket of unknown position or a labile one */
+    HWEMIDUK_BAD_LABEL = 11,      /* labels that do not fit: a second one, one defined again, a reference without definition, a count on a labelled bracket, one in an unknown run that nothing refers to */
+    HWEMIDUK_MANY_COPIES = 12,    /* more than eight floating copies */
+    HWEMIDUK_SHORT_AREA = 13,     /* a lent area is too short */
     HWEMIDUK_NO_TABLES = 14,      /* tables that no accepted line reads to */
-    HWEMIDUK_SHORT_OUTPUT = 15,   /* output shorter than the canonical line */
-    HWEMIDUK_NO_MASS = 16,        /* the total or ledger is asked for and a modification has no mass */
-    HWEMIDUK_NO_FURTHER = 17,     /* no placement, or no further one; in the row lookup, no such row */
-    HWEMIDUK_NOT_ALLOWED = 18     /* the placement handed in, or held by a listing record not marked fresh, isn't an allowed one; or a record marked fresh has an entry other than zero */
+    HWEMIDUK_SHORT_OUTPUT = 15,   /* the output is shorter than the canonical line */
+    HWEMIDUK_NO_MASS = 16,        /* a modification has no mass */
+    HWEMIDUK_NO_FURTHER = 17,     /* no placement, no further one, no such row */
+    HWEMIDUK_NOT_ALLOWED = 18     /* a placement that is not allowed */
 };
 
+/* An answer in words. */
+static inline const char *hwemiduk_words(uint8_t answer)
+{
+    switch (answer) {
+    case HWEMIDUK_OK: return "accepted";
+    case HWEMIDUK_EMPTY_LINE: return "the line is empty";
+    case HWEMIDUK_LONG_LINE: return "the line is longer than 4,096 bytes";
+    case HWEMIDUK_BAD_BYTE: return "a byte outside 32 to 126";
+    case HWEMIDUK_BAD_ORDER: return "not of the order of a line";
+    case HWEMIDUK_TOO_DEEP: return "pairs nested more than eight deep";
+    case HWEMIDUK_TOO_MANY: return "too many residues (254), brackets (64) or parts (4), a text over 128 bytes or a label over 16";
+    case HWEMIDUK_OUT_OF_RANGE: return "a mass or score of a million or more or with more than 6 decimals, a count outside 1 to 99";
+    case HWEMIDUK_NOT_TAKEN: return "something that is not taken here: Formula, Glycan, Position, Limit, CoMKP, CoMUP, labels XL.. and BRANCH";
+    case HWEMIDUK_NAME_OF_DIGITS: return "prefix U or M with a name of digits only";
+    case HWEMIDUK_ONLY_INFO: return "only INFO in a bracket of unknown position or a labile one";
+    case HWEMIDUK_BAD_LABEL: return "labels that do not fit: a second one, one defined again, a reference without definition, a count on a labelled bracket, one in an unknown run that nothing refers to";
+    case HWEMIDUK_MANY_COPIES: return "more than eight floating copies";
+    case HWEMIDUK_SHORT_AREA: return "a lent area is too short";
+    case HWEMIDUK_NO_TABLES: return "tables that no accepted line reads to";
+    case HWEMIDUK_SHORT_OUTPUT: return "the output is shorter than the canonical line";
+    case HWEMIDUK_NO_MASS: return "a modification has no mass";
+    case HWEMIDUK_NO_FURTHER: return "no placement, no further one, no such row";
+    case HWEMIDUK_NOT_ALLOWED: return "a placement that is not allowed";
+    default: return "an answer that this header does not know";
+    }
+}
+
 /* ---- Limits and sizes. hwemiduk_limits gives all of them; the macros are for arrays of fixed size, and the tests hold them against it. */
-#define HWEMIDUK_LINE 4096    /* bytes of a line; a canonical line has no more */
-#define HWEMIDUK_RESIDUES 254
-#define HWEMIDUK_BRACKETS 64
-#define HWEMIDUK_PARTS 4      /* parts of a bracket */
-#define HWEMIDUK_COPIES 8     /* entries of a placement */
+#define HWEMIDUK_LINE 4096       /* bytes of a line; a canonical line has no more */
+#define HWEMIDUK_RESIDUES 254    /* residues of a line */
+#define HWEMIDUK_BRACKETS 64     /* brackets of a line */
+#define HWEMIDUK_PARTS 4         /* parts of a bracket */
+#define HWEMIDUK_COPIES 8        /* floating copies of a line: entries of a placement */
 #define HWEMIDUK_POSITIONS (HWEMIDUK_RESIDUES + 2)              /* entries of a ledger: N-terminus, residues, C-terminus */
 #define HWEMIDUK_ROWS (HWEMIDUK_COPIES * HWEMIDUK_POSITIONS)    /* rows of floater and position */
 
 typedef struct hwemiduk_limits_t {
-    size_t line;       /* bytes of a line */
-    size_t residues;
-    size_t brackets;   /* square and curly together */
+    size_t line;       /* bytes of a line, the end of line not counted */
+    size_t residues;   /* residues of a line */
+    size_t brackets;   /* brackets of a line, square and curly together */
     size_t parts;      /* parts of a bracket */
-    size_t text;       /* bytes of a part's text, after key or prefix */
-    size_t label;      /* bytes of a label */
-    size_t depth;      /* pairs within a text */
-    size_t count;      /* the count behind ^ */
-    size_t copies;     /* floating copies: entries of a placement */
-    size_t rows;       /* rows of floater and position */
-    size_t positions;  /* entries of a ledger */
-    uint64_t size;     /* masses and scores are below this in size */
-    uint8_t decimals;  /* of a mass or a score */
-    size_t bytes;      /* the area of bytes */
-    size_t numbers;    /* the area of numbers */
+    size_t text;       /* bytes of a part's text, behind key or prefix */
+    size_t label;      /* bytes of a label, without its # */
+    size_t depth;      /* pairs [] and {} within each other in a text */
+    size_t count;      /* the largest count behind ^ */
+    size_t copies;     /* floating copies of a line: entries of a placement */
+    size_t rows;       /* rows of floater and position: elements of hwemiduk_site */
+    size_t positions;  /* entries of a ledger: elements of int64_t */
+    uint64_t size;     /* masses and scores are below this many units, signs apart: not millionths */
+    uint8_t decimals;  /* decimals of a mass or a score */
+    size_t bytes;      /* the area of bytes: elements of uint8_t */
+    size_t numbers;    /* the area of numbers: elements of int64_t, not bytes */
 } hwemiduk_limits_t;
 
 /* Writes all limits and sizes. */
 void hwemiduk_limits(hwemiduk_limits_t *limits);
 
-/* ---- The tables in the two areas. The first two bytes are the numbers of residues and of brackets; then, each at its place, */
-#define HWEMIDUK_LETTERS_AT 2                                                    /* a letter for each residue, in upper case */
-#define HWEMIDUK_SECTIONS_AT (HWEMIDUK_LETTERS_AT + HWEMIDUK_RESIDUES)           /* a section for each residue */
-#define HWEMIDUK_BRACKETS_AT (HWEMIDUK_SECTIONS_AT + HWEMIDUK_RESIDUES)          /* a row for each bracket, in order of appearance */
-#define HWEMIDUK_BRACKET_HEAD 6   /* its kind, first and last position, count, number of parts, score (0 for none, else one more than its decimals); its parts: */
-#define HWEMIDUK_PART_ROW 7       /* kind of value, key, decimals of a mass, length of the text, length of the label, offset of the text (low byte, high byte) */
+/*
+ * ---- The tables in the two areas, to the byte
+ *
+ * The area of bytes: the number of residues, the number of brackets; then, each at its place, letters, sections, rows of brackets, and texts. The area of numbers has for
+ * each bracket the masses of its parts and its score, in millionths. Room that is not used is zero, in both.
+ */
+#define HWEMIDUK_RESIDUES_AT 0                                                    /* how many residues */
+#define HWEMIDUK_BRACKETS_USED_AT 1                                               /* how many brackets */
+#define HWEMIDUK_LETTERS_AT 2                                                     /* a letter for each residue, in upper case */
+#define HWEMIDUK_SECTIONS_AT (HWEMIDUK_LETTERS_AT + HWEMIDUK_RESIDUES)            /* a section for each residue (enum hwemiduk_section) */
+#define HWEMIDUK_BRACKETS_AT (HWEMIDUK_SECTIONS_AT + HWEMIDUK_RESIDUES)           /* a row for each bracket, in order of appearance */
+#define HWEMIDUK_BRACKET_HEAD 6                                                   /* bytes before its parts (enum hwemiduk_head) */
+#define HWEMIDUK_PART_ROW 7                                                       /* bytes of a part (enum hwemiduk_part) */
 #define HWEMIDUK_BRACKET_ROW (HWEMIDUK_BRACKET_HEAD + HWEMIDUK_PARTS * HWEMIDUK_PART_ROW)
-#define HWEMIDUK_TEXTS_AT (HWEMIDUK_BRACKETS_AT + HWEMIDUK_BRACKETS * HWEMIDUK_BRACKET_ROW)    /* the texts, each followed by its part's label */
+#define HWEMIDUK_TEXTS_AT (HWEMIDUK_BRACKETS_AT + HWEMIDUK_BRACKETS * HWEMIDUK_BRACKET_ROW)
 #define HWEMIDUK_BYTES (HWEMIDUK_TEXTS_AT + HWEMIDUK_LINE)
-/* and in the area of numbers, in millionths, */
-#define HWEMIDUK_NUMBER_ROW (HWEMIDUK_PARTS + 1)    /* for each bracket the masses of its parts, then the score of its label */
+#define HWEMIDUK_NUMBER_ROW (HWEMIDUK_PARTS + 1)
 #define HWEMIDUK_NUMBERS (HWEMIDUK_BRACKETS * HWEMIDUK_NUMBER_ROW)
 
-/* Unused room is zero. Position 0 is the N-terminus, 1 to n are the residues, n + 1 is the C-terminus. */
+/* Where the row of bracket k and of its part j begins in the bytes, and where its mass and the bracket's score stand in the numbers; k and j count from 0. */
+#define HWEMIDUK_BRACKET_AT(k) (HWEMIDUK_BRACKETS_AT + (k) * HWEMIDUK_BRACKET_ROW)
+#define HWEMIDUK_PART_AT(k, j) (HWEMIDUK_BRACKET_AT(k) + HWEMIDUK_BRACKET_HEAD + (j) * HWEMIDUK_PART_ROW)
+#define HWEMIDUK_MASS_AT(k, j) ((k) * HWEMIDUK_NUMBER_ROW + (j))
+#define HWEMIDUK_SCORE_AT(k) ((k) * HWEMIDUK_NUMBER_ROW + HWEMIDUK_PARTS)
+
+/* Both areas in one, and the four arguments that a call takes for them: hwemiduk_total(HWEMIDUK_OF(&tables), &total, &place). */
+typedef struct hwemiduk_tables {
+    uint8_t bytes[HWEMIDUK_BYTES];
+    int64_t numbers[HWEMIDUK_NUMBERS];
+} hwemiduk_tables;
+#define HWEMIDUK_OF(tables) (tables)->bytes, HWEMIDUK_BYTES, (tables)->numbers, HWEMIDUK_NUMBERS
+
+/* A position: 0 is the N-terminus, 1 to n are the residues, n + 1 is the C-terminus. */
+typedef uint8_t hwemiduk_position;
+
+/* The bytes of a bracket's row before its parts. */
+enum hwemiduk_head {
+    HWEMIDUK_HEAD_KIND = 0,     /* enum hwemiduk_kind */
+    HWEMIDUK_HEAD_FIRST = 1,    /* first position: of a residue, its own; of a range, its first residue's; 0 at the N-terminus, n + 1 at the C-terminus; 0 of an unknown or labile one */
+    HWEMIDUK_HEAD_LAST = 2,     /* last position: of a range, its last residue's; else the first one again */
+    HWEMIDUK_HEAD_COUNT = 3,    /* the count behind ^, 1 to 99; 1 where none is written, and of all that are not of unknown position */
+    HWEMIDUK_HEAD_PARTS = 4,    /* how many parts it has, 1 to 4; the rows of the others are zero */
+    HWEMIDUK_HEAD_SCORE = 5     /* 0 where its label has no score or it has no label, else one more than the score's decimals */
+};
+
+/* The bytes of a part's row. */
+enum hwemiduk_part {
+    HWEMIDUK_PART_VALUE = 0,         /* enum hwemiduk_value */
+    HWEMIDUK_PART_KEY = 1,           /* enum hwemiduk_key */
+    HWEMIDUK_PART_DECIMALS = 2,      /* of a mass, the decimals as written; else 0 */
+    HWEMIDUK_PART_TEXT = 3,          /* bytes of its text, behind key or prefix; 0 of a mass and of a reference */
+    HWEMIDUK_PART_LABEL = 4,         /* bytes of its label; 0 where it has none */
+    HWEMIDUK_PART_OFFSET_LOW = 5,    /* where its text begins, counted from HWEMIDUK_TEXTS_AT, low byte and high; its label directly follows the text. */
+    HWEMIDUK_PART_OFFSET_HIGH = 6    /* A mass or reference with a label has the label there. 0 where it has neither text nor label */
+};
+
+/*
+ * Texts and labels are packed in order of appearance, without anything between them. In the numbers, the mass of a part that is a mass, in millionths, else 0; the
+ * score of the bracket's label, in millionths, else 0.
+ */
 enum hwemiduk_section {
-    HWEMIDUK_PLAIN = 0,
+    HWEMIDUK_PLAIN = 0,          /* in no range and no group */
     HWEMIDUK_RANGE_FIRST = 1,    /* the first residue of a range (..) */
     HWEMIDUK_RANGE_NEXT = 2,
     HWEMIDUK_UNSURE_FIRST = 3,   /* the first residue of a group (?..) */
@@ -100,17 +186,17 @@ enum hwemiduk_section {
 };
 
 enum hwemiduk_kind {
-    HWEMIDUK_UNKNOWN = 1,
-    HWEMIDUK_LABILE = 2,
-    HWEMIDUK_NTERM = 3,
-    HWEMIDUK_ON_RESIDUE = 4,
-    HWEMIDUK_ON_RANGE = 5,
-    HWEMIDUK_CTERM = 6
+    HWEMIDUK_UNKNOWN = 1,       /* of unknown position: in a run closed by ? */
+    HWEMIDUK_LABILE = 2,        /* in {} */
+    HWEMIDUK_NTERM = 3,         /* before - */
+    HWEMIDUK_ON_RESIDUE = 4,    /* behind a residue */
+    HWEMIDUK_ON_RANGE = 5,      /* behind a range (..) */
+    HWEMIDUK_CTERM = 6          /* behind - */
 };
 
 enum hwemiduk_value {
     HWEMIDUK_MASS = 1,
-    HWEMIDUK_TEXT = 2,
+    HWEMIDUK_TEXT = 2,        /* a name, an accession or an INFO */
     HWEMIDUK_REFERENCE = 3    /* a lone reference: its part has a label and nothing else */
 };
 
@@ -157,16 +243,16 @@ uint8_t hwemiduk_brackets(const uint8_t *bytes, size_t bytes_len, const int64_t 
 /* How many floating copies: each is a floater of its own, in order of their brackets. */
 uint8_t hwemiduk_floaters(const uint8_t *bytes, size_t bytes_len, const int64_t *numbers, size_t numbers_len, size_t *count);
 
-/* ---- Masses */
+/* ---- Masses: of the modifications only. The residues' own masses are not in them: the total of a line without modifications is 0. */
 
 /*
- * The total of all modifications in millionths: 0 with it in *millionths and 0 in *place; or 16 with how many modifications have no mass, each copy counted, in
+ * The sum of the masses of all modifications, in millionths of a Dalton, counts multiplied, labile ones too: 0 with it in *millionths and 0 in *place; or 16 with how many modifications have no mass, each copy counted, in
  * *place; or 13 or 14 with 0 in *place. *millionths is 0 on a refusal.
  */
 uint8_t hwemiduk_total(const uint8_t *bytes, size_t bytes_len, const int64_t *numbers, size_t numbers_len, int64_t *millionths, size_t *place);
 
 /*
- * The total for display: 0 with the mass in *daltons and 0 in *missing; or, where modifications have no mass, also 0, with how many in *missing and 0.0 in
+ * The same sum for display: 0 with the mass in *daltons and 0 in *missing; or, where modifications have no mass, also 0, with how many in *missing and 0.0 in
  * *daltons; or 13 or 14 with 0.0 and 0.
  */
 uint8_t hwemiduk_shown(const uint8_t *bytes, size_t bytes_len, const int64_t *numbers, size_t numbers_len, double *daltons, size_t *missing);
@@ -174,11 +260,12 @@ uint8_t hwemiduk_shown(const uint8_t *bytes, size_t bytes_len, const int64_t *nu
 /* ---- Placements: the position of each floating copy, limits.copies entries, unused ones 0. Of a longer slice the first entries count. */
 
 /* Whether a placement is an allowed one: 0, or 13, 14 or 18. */
-uint8_t hwemiduk_allowed(const uint8_t *bytes, size_t bytes_len, const int64_t *numbers, size_t numbers_len, const uint8_t *placement, size_t placement_len);
+uint8_t hwemiduk_allowed(const uint8_t *bytes, size_t bytes_len, const int64_t *numbers, size_t numbers_len, const hwemiduk_position *placement,
+    size_t placement_len);
 
 /* The listing in hand: fresh with zeros, as HWEMIDUK_FRESH gives it, or the placement last handed out. `fresh` is true or false and no other byte. */
 typedef struct hwemiduk_listing {
-    uint8_t at[HWEMIDUK_COPIES];
+    hwemiduk_position at[HWEMIDUK_COPIES];
     bool fresh;
 } hwemiduk_listing;
 
@@ -194,13 +281,13 @@ uint8_t hwemiduk_next(const uint8_t *bytes, size_t bytes_len, const int64_t *num
  * The ledger of a placement: 0 with the mass at each position, in millionths, in the first limits.positions entries; or 16 with how many modifications have no
  * mass in *place; or 13, 14 or 18. *place is 0 but for 16.
  */
-uint8_t hwemiduk_ledger(const uint8_t *bytes, size_t bytes_len, const int64_t *numbers, size_t numbers_len, const uint8_t *placement, size_t placement_len,
-    int64_t *entries, size_t entries_len, size_t *place);
+uint8_t hwemiduk_ledger(const uint8_t *bytes, size_t bytes_len, const int64_t *numbers, size_t numbers_len, const hwemiduk_position *placement,
+    size_t placement_len, int64_t *entries, size_t entries_len, size_t *place);
 
 /* ---- Rows: where each floater may stand, floaters counted from 1. */
 typedef struct hwemiduk_site {
     uint8_t floater;
-    uint8_t position;
+    hwemiduk_position position;
 } hwemiduk_site;
 
 /*
@@ -213,7 +300,7 @@ uint8_t hwemiduk_rows(const uint8_t *bytes, size_t bytes_len, const int64_t *num
  * The first row of a floater among the first n rows, whatever they hold and in whatever order: 0 with its index, counted from 0, and its position; or 13 where
  * fewer than limits.rows rows are lent; or 17 where there is none. *index and *position are 0 on a refusal. An n above limits.rows is read as limits.rows.
  */
-uint8_t hwemiduk_first_row(const hwemiduk_site *rows, size_t rows_len, size_t n, uint8_t floater, size_t *index, uint8_t *position);
+uint8_t hwemiduk_first_row(const hwemiduk_site *rows, size_t rows_len, size_t n, uint8_t floater, size_t *index, hwemiduk_position *position);
 
 #ifdef __cplusplus
 }

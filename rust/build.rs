@@ -12,10 +12,7 @@ fn main() {
         _ => vec![Path::new(env!("CARGO_MANIFEST_DIR")).join("../target/staticlib/libexport.a")],
     };
     let Some(archive) = places.iter().find(|path| path.is_file()) else {
-        eprintln!(
-            "hwemiduk: {} is not there: `rt staticlib export` writes it, or set HWEMIDUK_LIB_DIR to a release's lib/",
-            places[0].display()
-        );
+        eprintln!("hwemiduk: {} is not there: `rt staticlib export` writes it, or set HWEMIDUK_LIB_DIR to a release's lib/", places[0].display());
         exit(1);
     };
     if var("CARGO_CFG_TARGET_ARCH").as_deref() != Ok("x86_64") {

@@ -1,7 +1,7 @@
 """The build backend (PEP 517, PEP 660): writes the wheel of the package with the shared library in it. It needs nothing but Python.
 
-The library is the file that HWEMIDUK_LIBRARY names; else that of target/lib or target/shared, which bin/build-shared links first where the
-proved archive is newer. The wheel is for the processor that the library is for.
+The library is the file that HWEMIDUK_LIBRARY names; else target/lib/libhwemiduk.so, which bin/build-shared links first where the proved
+archive is newer. The wheel is for the processor that the library is for.
 """
 
 import base64
@@ -45,23 +45,16 @@ def metadata():
 def library():
     """The shared library that goes into the wheel."""
     named = os.environ.get("HWEMIDUK_LIBRARY")
-    looked = [Path(named)] if named else [ROOT / "target" / folder / LIBRARY for folder in ("lib", "shared")]
+    path = Path(named) if named else ROOT / "target" / "lib" / LIBRARY
     archive = ROOT / "target" / "staticlib" / "libexport.a"
-    if not named and archive.is_file() and not any(newer(path, archive) for path in looked):
+    if not named and archive.is_file() and not (path.is_file() and path.stat().st_mtime >= archive.stat().st_mtime):
         if subprocess.run([str(ROOT / "bin" / "build-shared")]).returncode:
             raise SystemExit("hwemiduk: bin/build-shared did not link the library: see above")
-    for path in looked:
-        if path.is_file():
-            return path.resolve()
-    raise SystemExit(
-        "hwemiduk: there is no library to put into the package: it is not at "
-        + ", nor at ".join(map(str, looked))
-        + ". bin/build-shared builds it; or set HWEMIDUK_LIBRARY to where it is"
-    )
-
-
-def newer(path, other):
-    return path.is_file() and path.stat().st_mtime >= other.stat().st_mtime
+    if not path.is_file():
+        raise SystemExit(
+            f"hwemiduk: there is no library to put into the package: it is not at {path}. bin/build-shared builds it; or set HWEMIDUK_LIBRARY to where it is"
+        )
+    return path.resolve()
 
 
 def platform(path):

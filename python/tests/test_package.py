@@ -102,10 +102,7 @@ class Objects(unittest.TestCase):
         self.assertFalse(hasattr(Peptidoform, "mass"))
 
     def test_version(self):
-        self.assertRegex(hwemiduk.__version__, r"^\d+\.\d+\.\d+$")
-        version = ROOT / "VERSION"
-        if version.is_file():
-            self.assertEqual(version.read_text().strip(), hwemiduk.__version__)
+        self.assertEqual((ROOT / "VERSION").read_text().strip(), hwemiduk.__version__)
 
 
 class Refusals(unittest.TestCase):
@@ -137,18 +134,15 @@ class Refusals(unittest.TestCase):
         self.assertEqual(mark.strip(" "), "^")
 
     def test_words_are_those_of_the_list(self):
-        """Each number once. Where the list of words stands at the top of the repository, the words are those of it."""
-        self.assertEqual(list(hwemiduk.WORDS), list(range(1, 19)))
-        listed = ROOT / "refusals.tsv"
-        if not listed.is_file():
-            self.skipTest("there is no refusals.tsv")
-        rows = [row.split("\t") for row in listed.read_text().splitlines() if row[:1].isdigit()]
-        self.assertEqual({int(row[0]): row[1] for row in rows}, hwemiduk.WORDS)
+        """The words of each number, in its order, are those of refusals.tsv."""
+        head, *rows = [row.split("\t") for row in (ROOT / "refusals.tsv").read_text().splitlines()]
+        self.assertEqual(head[:2], ["number", "words"])
+        self.assertEqual([(int(row[0]), row[1]) for row in rows], list(hwemiduk.WORDS.items()))
 
     def test_codes_are_those_of_the_header(self):
         header = (ROOT / "include" / "hwemiduk.h").read_text()
         for enum, first, members in [("section", 0, Section), ("kind", 1, Kind), ("key", 0, Key)]:
-            start = header.index("enum hwemiduk_" + enum)
+            start = header.index(f"enum hwemiduk_{enum} {{")
             codes = re.findall(r"HWEMIDUK_(\w+) = (\d+)", header[start : header.index("}", start)])
             plain = {int(code): re.sub("^(ON|NO)_|_|^KEY$", "", re.sub("^NO_KEY$", "NONE", name)) for name, code in codes}
             self.assertEqual(plain, {code: member.name.replace("_", "") for code, member in enumerate(members, first)})
@@ -351,9 +345,9 @@ class Library(unittest.TestCase):
         self.assertIsNone(caught.exception.__context__)
 
     def test_where_it_is_looked_for(self):
-        """In the repository: beside the package, then in target/."""
-        folders = [path.parent for path in _library.places() if path.name == "libhwemiduk.so"]
-        self.assertEqual(folders, [ROOT / "python" / "src" / "hwemiduk", ROOT / "target" / "lib", ROOT / "target" / "shared"])
+        """In the repository: beside the package, then in target/lib."""
+        folders = [ROOT / "python" / "src" / "hwemiduk", ROOT / "target" / "lib"]
+        self.assertEqual(_library.places(), [folder / "libhwemiduk.so" for folder in folders])
         with mock.patch.object(_library, "places", return_value=[Path("/a/libhwemiduk.so"), Path("/b/libhwemiduk.so")]), self.assertRaises(ImportError) as caught:
             self.load("")
         self.assertIn("is not at /a/libhwemiduk.so, nor at /b/libhwemiduk.so. bin/build-shared", str(caught.exception))

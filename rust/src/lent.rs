@@ -222,9 +222,8 @@ pub mod outs {
     /// The number and the place.
     pub fn read(line: &[u8], bytes: &mut [u8], numbers: &mut [i64]) -> (u8, usize) {
         let mut place = usize::MAX;
-        let number = unsafe {
-            hwemiduk_read(line.as_ptr(), line.len(), bytes.as_mut_ptr(), bytes.len(), numbers.as_mut_ptr(), numbers.len(), &mut place)
-        };
+        let number =
+            unsafe { hwemiduk_read(line.as_ptr(), line.len(), bytes.as_mut_ptr(), bytes.len(), numbers.as_mut_ptr(), numbers.len(), &mut place) };
         (number, place)
     }
 
@@ -281,17 +280,7 @@ pub mod outs {
         let mut place = usize::MAX;
         let (placement, placement_len, entries, entries_len) = (placement.as_ptr(), placement.len(), entries.as_mut_ptr(), entries.len());
         let number = unsafe {
-            hwemiduk_ledger(
-                bytes.as_ptr(),
-                bytes.len(),
-                numbers.as_ptr(),
-                numbers.len(),
-                placement,
-                placement_len,
-                entries,
-                entries_len,
-                &mut place,
-            )
+            hwemiduk_ledger(bytes.as_ptr(), bytes.len(), numbers.as_ptr(), numbers.len(), placement, placement_len, entries, entries_len, &mut place)
         };
         (number, place)
     }

@@ -195,21 +195,16 @@ fn refusals_in_words() {
     assert_eq!(of("[x]^2?A").ledger(&[1, 1]).unwrap_err().to_string(), "16: 2 modifications have no mass");
 }
 
-/// Where the list of words stands at the top of the repository, the words are those of it.
+/// The words of each number, in its order, are those of refusals.tsv.
 #[test]
 fn words_are_those_of_the_list() {
-    let Ok(list) = std::fs::read_to_string(concat!(env!("CARGO_MANIFEST_DIR"), "/../refusals.tsv")) else {
-        return;
-    };
-    let rows = list.lines().filter(|row| row.starts_with(|first: char| first.is_ascii_digit()));
-    let rows: Vec<(usize, &str)> = rows.map(|row| row.split('\t').collect::<Vec<_>>()).map(|row| (row[0].parse().unwrap(), row[1])).collect();
-    assert_eq!(rows, (1..).zip(WORDS).collect::<Vec<_>>());
+    let mut rows = include_str!("../../refusals.tsv").lines().map(|row| row.split('\t').collect::<Vec<_>>());
+    assert_eq!(rows.next().unwrap()[..2], ["number", "words"]);
+    let listed: Vec<(usize, &str)> = rows.map(|row| (row[0].parse().unwrap(), row[1])).collect();
+    assert_eq!(listed, (1..).zip(WORDS).collect::<Vec<_>>());
 }
 
-/// The version is that of the repository, where it says one.
 #[test]
 fn version_is_that_of_the_repository() {
-    if let Ok(version) = std::fs::read_to_string(concat!(env!("CARGO_MANIFEST_DIR"), "/../VERSION")) {
-        assert_eq!(version.trim(), env!("CARGO_PKG_VERSION"));
-    }
+    assert_eq!(include_str!("../../VERSION").trim(), env!("CARGO_PKG_VERSION"));
 }

@@ -22,7 +22,7 @@ hwemiduk.Refusal: 9 at 2: prefix U or M with a name of digits only
 A peptidoform pickles, so many lines are best read by several processes (`multiprocessing`); threads are safe and no quicker.
 
 The library is the file that HWEMIDUK_LIBRARY names; or libhwemiduk.so beside this package, where `pip install ./python` puts it; or, in the repository,
-target/lib/libhwemiduk.so or target/shared/libhwemiduk.so, which bin/build-shared links.
+target/lib/libhwemiduk.so, which bin/build-shared links.
 """
 
 from ._library import LIMITS, Limits

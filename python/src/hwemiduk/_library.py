@@ -14,17 +14,15 @@ Position = c_uint8
 #: The type of a listing's mark, and what it is in a fresh one.
 Mark, FRESH = ctypes.c_bool, True
 
-_NAMES = ("libhwemiduk.so", "libhwemiduk.so.0")
+_NAME = "libhwemiduk.so"
 
 
 def places() -> List[Path]:
     """Where the library is looked for where HWEMIDUK_LIBRARY names none: beside the package, then in the repository that the package stands in."""
     here = Path(__file__).resolve().parent
-    folders = [here]
     root = here.parent.parent.parent
-    if (root / "include" / "hwemiduk.h").is_file():
-        folders += [root / "target" / "lib", root / "target" / "shared"]
-    return [folder / name for folder in folders for name in _NAMES]
+    inside = (root / "include" / "hwemiduk.h").is_file()
+    return [here / _NAME] + ([root / "target" / "lib" / _NAME] if inside else [])
 
 
 def _load() -> ctypes.CDLL:
@@ -34,7 +32,7 @@ def _load() -> ctypes.CDLL:
     if path is None:
         raise ImportError(
             "hwemiduk: the library is not at "
-            + ", nor at ".join(str(path) for path in looked if path.name == looked[0].name)
+            + ", nor at ".join(map(str, looked))
             + ". bin/build-shared builds it; or set HWEMIDUK_LIBRARY to where it is"
         )
     try:

@@ -1,0 +1,121 @@
+//! The calls over lent slices: answers, refusals, and what they leave as it was.
+#![forbid(unsafe_code)]
+
+use hwemiduk::lent::{self, Limits, Listing, Shown, Site, BRACKETS, BYTES, COPIES, LINE, NUMBERS, PARTS, POSITIONS, RESIDUES, ROWS};
+use hwemiduk::Refusal;
+
+fn tables(line: &str) -> ([u8; BYTES], [i64; NUMBERS]) {
+    let (mut bytes, mut numbers) = ([0xa5; BYTES], [-7; NUMBERS]);
+    lent::read(line.as_bytes(), &mut bytes, &mut numbers).unwrap();
+    (bytes, numbers)
+}
+
+fn refused<T>(answer: Result<T, Refusal>) -> (u8, usize) {
+    answer.err().map_or((0, 0), |refusal| (refusal.number(), refusal.place()))
+}
+
+#[test]
+fn constants_are_the_library_s() {
+    let expected = Limits {
+        line: LINE,
+        residues: RESIDUES,
+        brackets: BRACKETS,
+        parts: PARTS,
+        copies: COPIES,
+        rows: ROWS,
+        positions: POSITIONS,
+        bytes: BYTES,
+        numbers: NUMBERS,
+        ..lent::limits()
+    };
+    assert_eq!(lent::limits(), expected);
+}
+
+#[test]
+fn read_and_write() {
+    assert_eq!(lent::verdict(b"a[+01.50]"), Ok(()));
+    assert_eq!(refused(lent::verdict(b"A[U:35]")), (9, 2));
+    let (bytes, numbers) = tables("a[+01.50]");
+    let mut out = [0xa5; 12];
+    assert_eq!(lent::write(&bytes, &numbers, &mut out), Ok(8));
+    assert_eq!(&out, b"A[+1.50]\xa5\xa5\xa5\xa5");
+    assert_eq!(refused(lent::write(&bytes, &numbers, &mut [])), (15, 8));
+    assert_eq!(refused(lent::write(&bytes, &numbers, &mut out[..7])), (15, 8));
+}
+
+#[test]
+fn a_refusal_leaves_what_is_lent() {
+    let (mut bytes, mut numbers) = ([0xa5; BYTES], [-7; NUMBERS]);
+    assert_eq!(refused(lent::read(b"A[", &mut bytes, &mut numbers)), (4, 2));
+    assert_eq!(refused(lent::read(b"A", &mut bytes[1..], &mut numbers)), (13, 0));
+    assert_eq!(refused(lent::read(b"A", &mut bytes, &mut numbers[1..])), (13, 0));
+    assert_eq!(refused(lent::read(b"A", &mut [], &mut [])), (13, 0));
+    assert!(bytes == [0xa5; BYTES] && numbers == [-7; NUMBERS]);
+}
+
+#[test]
+fn counts_and_masses() {
+    let (bytes, numbers) = tables("[+1]^2?AC[-0.5]");
+    assert_eq!(lent::residues(&bytes, &numbers), Ok(2));
+    assert_eq!(lent::brackets(&bytes, &numbers), Ok(2));
+    assert_eq!(lent::floaters(&bytes, &numbers), Ok(2));
+    assert_eq!(lent::total(&bytes, &numbers), Ok(1_500_000));
+    assert_eq!(lent::shown(&bytes, &numbers), Ok(Shown::Daltons(1.5)));
+    let (bytes, numbers) = tables("[x]^3?AC");
+    assert_eq!(refused(lent::total(&bytes, &numbers)), (16, 3));
+    assert_eq!(lent::shown(&bytes, &numbers), Ok(Shown::Missing(3)));
+    let mut entries = [-7; POSITIONS];
+    assert_eq!(refused(lent::ledger(&bytes, &numbers, &[0; COPIES], &mut entries)), (16, 3));
+    assert!(entries == [-7; POSITIONS]);
+}
+
+#[test]
+fn placements() {
+    let (bytes, numbers) = tables("[+1]^2?AC");
+    let mut listing = Listing::FRESH;
+    for first_two in [[1, 2], [2, 1]] {
+        assert_eq!(lent::next(&bytes, &numbers, &mut listing), Ok(()));
+        assert_eq!((&listing.at[..2], &listing.at[2..]), (&first_two[..], &[0; COPIES - 2][..]));
+        assert_eq!(lent::allowed(&bytes, &numbers, &listing.at), Ok(()));
+    }
+    assert_eq!(refused(lent::next(&bytes, &numbers, &mut listing)), (17, 0));
+    let mut entries = [-7; POSITIONS];
+    assert_eq!(lent::ledger(&bytes, &numbers, &listing.at, &mut entries), Ok(()));
+    assert_eq!(entries[..5], [0, 1_000_000, 1_000_000, 0, 0]);
+    listing.at[1] = 2;
+    assert_eq!(refused(lent::next(&bytes, &numbers, &mut listing)), (18, 0));
+    assert_eq!(refused(lent::allowed(&bytes, &numbers, &listing.at)), (18, 0));
+    assert_eq!(refused(lent::allowed(&bytes, &numbers, &listing.at[1..])), (13, 0));
+}
+
+#[test]
+fn rows() {
+    let (bytes, numbers) = tables("[+1]?AC[+2]D");
+    let junk = Site { floater: 9, position: 9 };
+    let mut rows = [junk; ROWS];
+    assert_eq!(lent::rows(&bytes, &numbers, &mut rows), Ok(2));
+    assert_eq!(rows[..3], [Site { floater: 1, position: 1 }, Site { floater: 1, position: 3 }, junk]);
+    assert_eq!(lent::first_row(&rows, 2, 1), Ok((0, 1)));
+    assert_eq!(lent::first_row(&rows, 3, 9), Ok((2, 9)));
+    assert_eq!(refused(lent::first_row(&rows, 2, 9)), (17, 0));
+    assert_eq!(refused(lent::first_row(&rows[1..], 2, 1)), (13, 0));
+    assert_eq!(refused(lent::rows(&bytes, &numbers, &mut rows[1..])), (13, 0));
+}
+
+/// Every call that takes tables answers 14 where a byte of junk stands in unused room.
+#[test]
+fn tables_of_no_line() {
+    let (mut bytes, numbers) = tables("[+1]^2?AC");
+    bytes[BYTES - 1] = 1;
+    let fourteen = (14, 0);
+    assert_eq!(refused(lent::write(&bytes, &numbers, &mut [0; LINE])), fourteen);
+    for count in [lent::residues, lent::brackets, lent::floaters] {
+        assert_eq!(refused(count(&bytes, &numbers)), fourteen);
+    }
+    assert_eq!(refused(lent::total(&bytes, &numbers)), fourteen);
+    assert_eq!(refused(lent::shown(&bytes, &numbers)), fourteen);
+    assert_eq!(refused(lent::allowed(&bytes, &numbers, &[0; COPIES])), fourteen);
+    assert_eq!(refused(lent::ledger(&bytes, &numbers, &[0; COPIES], &mut [0; POSITIONS])), fourteen);
+    assert_eq!(refused(lent::next(&bytes, &numbers, &mut Listing::FRESH.clone())), fourteen);
+    assert_eq!(refused(lent::rows(&bytes, &numbers, &mut [Site { floater: 0, position: 0 }; ROWS])), fourteen);
+}

@@ -1,0 +1,88 @@
+//! The outside vectors of compare/vectors: each line with all that follows from it.
+#![forbid(unsafe_code)]
+
+#[allow(dead_code)]
+#[rustfmt::skip]
+#[path = "../../compare/tests/json/mod.rs"]
+mod json;
+
+use hwemiduk::{Missing, Peptidoform, Position};
+use json::Json;
+
+const LINES: &[u8] = include_bytes!("../../compare/vectors/lines.in");
+const OUTCOMES: &str = include_str!("../../compare/vectors/lines.json");
+
+fn positions(numbers: &Json, floaters: usize) -> Vec<Position> {
+    numbers.numbers()[..floaters].iter().map(|&position| position as Position).collect()
+}
+
+#[test]
+fn every_vector() {
+    let (mut accepted, mut refused, mut weighed) = (0, 0, 0);
+    for (line, outcome) in LINES.split(|&byte| byte == 10).zip(OUTCOMES.lines()) {
+        let outcome = Json::read(outcome);
+        let shown = String::from_utf8_lossy(line);
+        let read = Peptidoform::read(line);
+        if outcome.get("ok").number() == 0 {
+            let refusal = read.unwrap_err();
+            let expected = (outcome.get("no").number(), outcome.get("at").number());
+            assert_eq!((refusal.number().into(), refusal.place() as i64), expected, "{shown}");
+            refused += 1;
+            continue;
+        }
+        let p = read.unwrap();
+        let (brackets, floaters) = (p.brackets(), p.floaters());
+        assert_eq!(p.as_str(), outcome.get("canon").text(), "{shown}");
+        let counts = [p.residues().len(), p.sections().len(), brackets.len(), floaters.len()].map(|count| count as i64);
+        let residues = outcome.get("res").number();
+        assert_eq!(counts, [residues, residues, outcome.get("br").number(), outcome.get("fl").number()], "{shown}");
+
+        // what the brackets say stands in the canonical line, in order
+        let mut rest = p.as_str();
+        for bracket in &brackets {
+            let text = bracket.to_string();
+            let at = rest.find(&text).unwrap_or_else(|| panic!("{shown}: {text} in {rest}"));
+            rest = &rest[at + text.len()..];
+        }
+
+        // masses
+        let missing = outcome.get("missing").number() as usize;
+        assert_eq!(p.missing(), missing, "{shown}");
+        let modifications = || brackets.iter().filter(|bracket| bracket.is_modification());
+        let without: usize = modifications().filter(|bracket| bracket.millionths().is_none()).map(|bracket| usize::from(bracket.count)).sum();
+        assert_eq!(without, missing, "{shown}");
+        if missing > 0 {
+            assert_eq!((p.total(), p.shift()), (Err(Missing { count: missing }), None), "{shown}");
+        } else {
+            let total = outcome.get("total").number();
+            assert_eq!((p.total(), p.shift()), (Ok(total), Some(total as f64 / 1e6)), "{shown}");
+            let sum: i64 = modifications().map(|bracket| i64::from(bracket.count) * bracket.millionths().unwrap()).sum();
+            assert_eq!(sum, total, "{shown}");
+        }
+
+        // rows and placements
+        let expected: Vec<Vec<i64>> = outcome.get("rows").list().iter().map(Json::numbers).collect();
+        let rows: Vec<Vec<i64>> = p.rows().iter().map(|row| vec![row.floater.into(), row.position.into()]).collect();
+        assert_eq!(rows, expected, "{shown}");
+        let stands = floaters.iter().zip(1..).flat_map(|(floater, number)| floater.positions.iter().map(move |&at| vec![number, i64::from(at)]));
+        assert_eq!(stands.collect::<Vec<_>>(), expected, "{shown}");
+        let first: Vec<_> = outcome.get("placements").list().iter().map(|one| positions(one, floaters.len())).collect();
+        let whole = outcome.get("nplace").optional().is_some_and(|count| count.number() == first.len() as i64);
+        let listed: Vec<_> = p.placements().take(first.len() + usize::from(whole)).map(|placement| placement.to_vec()).collect();
+        assert_eq!(listed, first, "{shown}");
+        assert!(first.iter().all(|placement| p.allowed(placement)), "{shown}");
+
+        // the ledger of the first placement; what stands at a floater's position is the mass of its bracket
+        if let Some(ledger) = outcome.get("ledger").optional() {
+            let answer = p.ledger(&first[0]).unwrap();
+            assert_eq!(answer, ledger.numbers(), "{shown}");
+            for (floater, &at) in floaters.iter().zip(&first[0]) {
+                assert_eq!(floater.bracket.millionths(), Some(answer[usize::from(at)]), "{shown}");
+            }
+            weighed += 1;
+        }
+        accepted += 1;
+    }
+    assert_eq!((accepted, refused), (1132, 1268));
+    assert!(weighed > 300, "{weighed}");
+}

@@ -1,0 +1,108 @@
+/*
+ * How much stack each call takes at most, over the lines of standard input, and over areas whose texts are full of openings: each call runs on a stack of its own that
+ * is painted before. Prints the most for each, and fails where that is more than the header says.
+ */
+#define _XOPEN_SOURCE 700
+#include <hwemiduk.h>
+#include <stdio.h>
+#include <string.h>
+#include <ucontext.h>
+
+#define SIZE (256 * 1024)
+#define PAINT 0xC3
+
+enum call { NOTHING, LIMITS, VERDICT, READ, WRITE, RESIDUES, BRACKETS, FLOATERS, TOTAL, SHOWN, ALLOWED, NEXT, LEDGER, ROWS, FIRST_ROW, CALLS };
+static const char *const names[CALLS] = { "nothing", "limits", "verdict", "read", "write", "residues", "brackets", "floaters", "total", "shown", "allowed", "next",
+    "ledger", "rows", "first_row" };
+/* in KiB, as the header says */
+static const size_t said[CALLS] = { 0, 1, 14, 14, 27, 27, 27, 27, 27, 27, 27, 27, 27, 29, 1 };
+static size_t most[CALLS];
+
+static _Alignas(64) unsigned char stack[SIZE];
+static ucontext_t here, there;
+static enum call current;
+static const uint8_t *line;
+static size_t length;
+static hwemiduk_tables tables;
+static hwemiduk_site rows[HWEMIDUK_ROWS];
+static hwemiduk_position placement[HWEMIDUK_COPIES];
+static int64_t entries[HWEMIDUK_POSITIONS];
+static uint8_t out[HWEMIDUK_LINE];
+
+static void run(void)
+{
+    static hwemiduk_limits_t limits;
+    static hwemiduk_listing listing;
+    static const hwemiduk_listing fresh = HWEMIDUK_FRESH;
+    static size_t place, index;
+    static int64_t total;
+    static double daltons;
+    static hwemiduk_position position;
+    switch (current) {
+    case LIMITS: hwemiduk_limits(&limits); break;
+    case VERDICT: hwemiduk_verdict(line, length, &place); break;
+    case READ: hwemiduk_read(line, length, HWEMIDUK_OF(&tables), &place); break;
+    case WRITE: hwemiduk_write(HWEMIDUK_OF(&tables), out, sizeof out, &place); break;
+    case RESIDUES: hwemiduk_residues(HWEMIDUK_OF(&tables), &place); break;
+    case BRACKETS: hwemiduk_brackets(HWEMIDUK_OF(&tables), &place); break;
+    case FLOATERS: hwemiduk_floaters(HWEMIDUK_OF(&tables), &place); break;
+    case TOTAL: hwemiduk_total(HWEMIDUK_OF(&tables), &total, &place); break;
+    case SHOWN: hwemiduk_shown(HWEMIDUK_OF(&tables), &daltons, &place); break;
+    case ALLOWED: hwemiduk_allowed(HWEMIDUK_OF(&tables), placement, HWEMIDUK_COPIES); break;
+    case NEXT:
+        listing = fresh;
+        for (int i = 0; i < 3 && hwemiduk_next(HWEMIDUK_OF(&tables), &listing) == HWEMIDUK_OK; i++)
+            memcpy(placement, listing.at, sizeof placement);
+        break;
+    case LEDGER: hwemiduk_ledger(HWEMIDUK_OF(&tables), placement, HWEMIDUK_COPIES, entries, HWEMIDUK_POSITIONS, &place); break;
+    case ROWS: hwemiduk_rows(HWEMIDUK_OF(&tables), rows, HWEMIDUK_ROWS, &place); break;
+    case FIRST_ROW: hwemiduk_first_row(rows, HWEMIDUK_ROWS, HWEMIDUK_ROWS, 9, &index, &position); break;
+    default: break;
+    }
+}
+
+static void measured(enum call call)
+{
+    size_t untouched = 0;
+    memset(stack, PAINT, sizeof stack);
+    current = call;
+    getcontext(&there);
+    there.uc_stack.ss_sp = stack;
+    there.uc_stack.ss_size = sizeof stack;
+    there.uc_link = &here;
+    makecontext(&there, run, 0);
+    swapcontext(&here, &there);
+    while (untouched < sizeof stack && stack[untouched] == PAINT)
+        untouched++;
+    if (sizeof stack - untouched > most[call])
+        most[call] = sizeof stack - untouched;
+}
+
+static void all_from(enum call call)
+{
+    memset(placement, 0, sizeof placement);
+    for (; call < CALLS; call = (enum call)(call + 1))
+        measured(call);
+}
+
+int main(void)
+{
+    static uint8_t input[1 << 20];
+    size_t size = fread(input, 1, sizeof input, stdin), start = 0;
+    int wrong = size == 0;
+    while (start < size) {
+        uint8_t *end = (uint8_t *)memchr(input + start, '\n', size - start);
+        line = input + start;
+        length = end == NULL ? size - start : (size_t)(end - line);
+        all_from(NOTHING);
+        memset(tables.bytes + HWEMIDUK_TEXTS_AT, '[', HWEMIDUK_LINE);
+        all_from(WRITE);
+        start += length + 1;
+    }
+    for (int call = LIMITS; call < CALLS; call++) {
+        size_t took = most[call] > most[NOTHING] ? most[call] - most[NOTHING] : 0;
+        printf("%s %zu%s\n", names[call], took, took > said[call] * 1024 ? ": more than the header says" : "");
+        wrong = wrong || took > said[call] * 1024;
+    }
+    return wrong;
+}

@@ -1,0 +1,80 @@
+/*
+ * The tables of a line to the byte, as the header says that they lie: what is expected here is written by hand from the line. Then the words of each answer, one a line.
+ */
+#include <hwemiduk.h>
+#include <stdio.h>
+#include <string.h>
+
+/* kinds 1 to 6, all sections, a mass with a label, one without, a reference, scores, a count, keys, prefixes, two parts */
+static const char line[] = "[+1#a(0.5)][Acetyl|INFO:x]^2?{Hex}[U:Oxidation]-(?ac)(DE)[M:y|Obs:-2.50]F[#a(-1.25)]-[UNIMOD:35]";
+static const char texts[] = "aAcetylxHexOxidationya35";
+
+static int wrong = 0;
+
+static void same(const char *what, int at, int is, int should)
+{
+    if (is != should) {
+        printf("%s at %d: %d, and not %d\n", what, at, is, should);
+        wrong = 1;
+    }
+}
+
+int main(void)
+{
+    static const struct {
+        int kind, first, last, count, parts, score;
+        long long score_millionths;
+        struct { int value, key, decimals, text, label, offset; long long millionths; } part[2];
+    } rows[7] = {
+        { HWEMIDUK_UNKNOWN, 0, 0, 1, 1, 2, 500000, { { HWEMIDUK_MASS, HWEMIDUK_NO_KEY, 0, 0, 1, 0, 1000000 }, { 0, 0, 0, 0, 0, 0, 0 } } },
+        { HWEMIDUK_UNKNOWN, 0, 0, 2, 2, 0, 0, { { HWEMIDUK_TEXT, HWEMIDUK_NO_KEY, 0, 6, 0, 1, 0 }, { HWEMIDUK_TEXT, HWEMIDUK_INFO, 0, 1, 0, 7, 0 } } },
+        { HWEMIDUK_LABILE, 0, 0, 1, 1, 0, 0, { { HWEMIDUK_TEXT, HWEMIDUK_NO_KEY, 0, 3, 0, 8, 0 }, { 0, 0, 0, 0, 0, 0, 0 } } },
+        { HWEMIDUK_NTERM, 0, 0, 1, 1, 0, 0, { { HWEMIDUK_TEXT, HWEMIDUK_U, 0, 9, 0, 11, 0 }, { 0, 0, 0, 0, 0, 0, 0 } } },
+        { HWEMIDUK_ON_RANGE, 3, 4, 1, 2, 0, 0, { { HWEMIDUK_TEXT, HWEMIDUK_M, 0, 1, 0, 20, 0 }, { HWEMIDUK_MASS, HWEMIDUK_OBS, 2, 0, 0, 0, -2500000 } } },
+        { HWEMIDUK_ON_RESIDUE, 5, 5, 1, 1, 3, -1250000, { { HWEMIDUK_REFERENCE, HWEMIDUK_NO_KEY, 0, 0, 1, 21, 0 }, { 0, 0, 0, 0, 0, 0, 0 } } },
+        { HWEMIDUK_CTERM, 6, 6, 1, 1, 0, 0, { { HWEMIDUK_TEXT, HWEMIDUK_UNIMOD, 0, 2, 0, 22, 0 }, { 0, 0, 0, 0, 0, 0, 0 } } },
+    };
+    static const int sections[5] = { HWEMIDUK_UNSURE_FIRST, HWEMIDUK_UNSURE_NEXT, HWEMIDUK_RANGE_FIRST, HWEMIDUK_RANGE_NEXT, HWEMIDUK_PLAIN };
+    static hwemiduk_tables tables;
+    static uint8_t expected[HWEMIDUK_BYTES];
+    static int64_t numbers[HWEMIDUK_NUMBERS];
+    size_t place;
+    memset(&tables, 0xA5, sizeof tables);
+    same("answer", 0, hwemiduk_read((const uint8_t *)line, strlen(line), HWEMIDUK_OF(&tables), &place), HWEMIDUK_OK);
+
+    expected[HWEMIDUK_RESIDUES_AT] = 5;
+    expected[HWEMIDUK_BRACKETS_USED_AT] = 7;
+    memcpy(expected + HWEMIDUK_LETTERS_AT, "ACDEF", 5);
+    for (int i = 0; i < 5; i++)
+        expected[HWEMIDUK_SECTIONS_AT + i] = (uint8_t)sections[i];
+    for (int k = 0; k < 7; k++) {
+        uint8_t *head = expected + HWEMIDUK_BRACKET_AT(k);
+        head[HWEMIDUK_HEAD_KIND] = (uint8_t)rows[k].kind;
+        head[HWEMIDUK_HEAD_FIRST] = (uint8_t)rows[k].first;
+        head[HWEMIDUK_HEAD_LAST] = (uint8_t)rows[k].last;
+        head[HWEMIDUK_HEAD_COUNT] = (uint8_t)rows[k].count;
+        head[HWEMIDUK_HEAD_PARTS] = (uint8_t)rows[k].parts;
+        head[HWEMIDUK_HEAD_SCORE] = (uint8_t)rows[k].score;
+        numbers[HWEMIDUK_SCORE_AT(k)] = rows[k].score_millionths;
+        for (int j = 0; j < rows[k].parts; j++) {
+            uint8_t *part = expected + HWEMIDUK_PART_AT(k, j);
+            part[HWEMIDUK_PART_VALUE] = (uint8_t)rows[k].part[j].value;
+            part[HWEMIDUK_PART_KEY] = (uint8_t)rows[k].part[j].key;
+            part[HWEMIDUK_PART_DECIMALS] = (uint8_t)rows[k].part[j].decimals;
+            part[HWEMIDUK_PART_TEXT] = (uint8_t)rows[k].part[j].text;
+            part[HWEMIDUK_PART_LABEL] = (uint8_t)rows[k].part[j].label;
+            part[HWEMIDUK_PART_OFFSET_LOW] = (uint8_t)(rows[k].part[j].offset & 0xFF);
+            part[HWEMIDUK_PART_OFFSET_HIGH] = (uint8_t)(rows[k].part[j].offset >> 8);
+            numbers[HWEMIDUK_MASS_AT(k, j)] = rows[k].part[j].millionths;
+        }
+    }
+    memcpy(expected + HWEMIDUK_TEXTS_AT, texts, strlen(texts));
+    for (int i = 0; i < HWEMIDUK_BYTES; i++)
+        same("byte", i, tables.bytes[i], expected[i]);
+    for (int i = 0; i < HWEMIDUK_NUMBERS; i++)
+        same("number", i, tables.numbers[i] == numbers[i], 1);
+
+    for (int answer = 1; answer <= 18; answer++)
+        printf("%d\t%s\n", answer, hwemiduk_words((uint8_t)answer));
+    return wrong;
+}

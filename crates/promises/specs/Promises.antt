@@ -21,10 +21,10 @@ use Rattle.scope.specs.declared.answers.Ledger.{Ledger}
 use Rattle.scope.specs.declared.answers.Site.{Site}
 use Rattle.scope.specs.declared.answers.Lookup.{Lookup}
 use Rattle.scope.specs.Limits.{copyLimit, rowLimit, positionLimit}
-use Rattle.scope.specs.Line.{Line}
+use Rattle.scope.specs.Line.{Bracket, Line}
 use Rattle.scope.specs.Tables.{Tables, tablesOf, bytesOf, numbersOf, tablesIn}
 use Rattle.scope.specs.Lists.{laid, tabled}
-use Rattle.scope.specs.Positions.{floaters, permittedPositions, Found}
+use Rattle.scope.specs.Positions.{isPlaced, floaters, permittedPositions, Found}
 use Rattle.scope.specs.Placements.{freshListing}
 use Rattle.scope.specs.Masses.{sum, total, lacking, labileMass, daltons}
 use Rattle.scope.specs.Answers.{Said, good, refuses, aMass, lack, saysRead, saysWrite, saysCount, saysTotal, saysShown, saysLookup, saysRequest, saysBooked, tooShort, counts, residueCount, bracketCount, floaterCount, totals, shows}
@@ -170,6 +170,18 @@ pub record Demand2 : Type 0 where
 
 -- ======== demand 3, over areas that a line was read into
 
+-- ---- placements
+-- the lists of permitted positions, one for each floater
+abbrev pub permittedIn : List ℕ → List ℤ → List (List ℕ)
+permittedIn bs ns = permittedPositions (tablesIn bs ns)
+
+-- each floater at one of its permitted positions, no position twice; "unused ones 0"
+pub record Placing (qs : List (List ℕ)) (p : List ℕ) : Type 0 where
+  pub eight : length p ≡ copyLimit
+  pub permitted : (i : ℕ) → i < length qs → In (getD p i 0) (getD qs i [])
+  pub apart : (i j : ℕ) → i < length qs → j < length qs → getD p i 0 ≡ getD p j 0 → i ≡ j
+  pub unused : (i : ℕ) → length qs ≤ i → getD p i 0 ≡ 0
+
 -- ---- the listing
 -- A call that moves a listing on, from a record to its answer and the record afterwards. Requests one after another hand out these placements, and then one
 -- answers 17.
@@ -193,7 +205,7 @@ pub record Lists (bs : List ℕ) (ns : List ℤ) (Moves : Listing → Next → T
 -- x is a permitted position of floater f, floaters counted from 1
 abbrev pub Permitted : List ℕ → List ℤ → ℕ → ℕ → Type 0
 Permitted bs ns zero x = ⊥
-Permitted bs ns (suc i) x = In x (getD (permittedPositions (tablesIn bs ns)) i [])
+Permitted bs ns (suc i) x = In x (getD (permittedIn bs ns) i [])
 
 -- rows of floater and position, each below all behind it
 abbrev pub Below : Site → Site → Type 0
@@ -216,6 +228,9 @@ pub record Rowed (bs : List ℕ) (ns : List ℤ) (room room′ : List Site) (n :
   pub first : (f : ℕ) (l : Lookup) → LookupSays room′ n f l → LeastOf (Permitted bs ns f) (saysLookup l)
 
 pub record Demand3 (bs : List ℕ) (ns : List ℤ) : Type 0 where
+  -- "an allowed placement gives each floating modification one of its permitted positions, none that a placed modification has, and no position twice"
+  pub allowed : (p : Placement) (r : Request) → AllowedSays bs ns p r → (saysRequest r ≡ good tt) ↔ Placing (permittedIn bs ns) (p .at)
+  pub free : (f x : ℕ) → Permitted bs ns f x → (k : Bracket (Unit {0})) → In k (tablesIn bs ns .brackets) → isPlaced k ≡ true → k .first ≡ x → ⊥
   -- by the record handed over and handed back, and by the record moved on in place
   pub by-value : Lists bs ns (NextSays bs ns)
   pub in-place : Lists bs ns (λ l r. StepSays bs ns l (r .request) (r .listing))
@@ -227,7 +242,7 @@ pub record Demand3 (bs : List ℕ) (ns : List ℤ) : Type 0 where
   -- the display is that total as a double, or how many modifications have no mass
   pub displays : (m : ℤ) (q : Total) → TotalSays bs ns q → saysTotal q ≡ good m → (r : Shown) → ShownSays bs ns r → saysShown r ≡ good (aMass (daltons m))
   pub lacks : (n : ℕ) (q : Total) → TotalSays bs ns q → (r : Shown) → ShownSays bs ns r → (saysShown r ≡ good (lack n)) ↔ (saysTotal q ≡ refuses 16 n)
-  -- "gives each floating modification one of its permitted positions": the rows, wherever there is room for them
+  -- the permitted positions as rows, wherever there is room for them
   pub rows :
       (room : List Site) → rowLimit ≤ length room → (r : Count) (room′ : List Site) → RowsSays bs ns room r room′
       → (n : ℕ) × ((saysCount r ≡ good n) × Rowed bs ns room room′ n)

@@ -16,6 +16,7 @@ demand-1 : Demand1
 demand-1 =
     record {
       read = readers.answers-lines;
+      verdict = readers.verdict;
       write = calls.write;
       count = λ f bs ns. calls.count bs ns f;
       total = calls.totalled;

@@ -23,7 +23,7 @@ use Rattle.placements.specs.Steps.{Zeros}
 use Rattle.placements.proofs.Rows.{lists-many, lists-at, list-may, may-list}
 
 -- ---- where each stands, and what fits
-fits-at : (qs : List (List ℕ)) (p : List ℕ) → fits qs p ≡ true → (s : ℕ) → s < length qs → member (place p s) (getD qs s []) ≡ true
+pub fits-at : (qs : List (List ℕ)) (p : List ℕ) → fits qs p ≡ true → (s : ℕ) → s < length qs → member (place p s) (getD qs s []) ≡ true
 unfolding fits
 fits-at [] p e s h = absurd (omega arith)
 fits-at (q ∷ qs) [] e s h = absurd (false≢true e)
@@ -41,14 +41,14 @@ unfolding all
 at-zeros [] h = refl
 at-zeros (x ∷ p) h = and-both (eqb 0 x) (all (eqb 0) p) (eq-eqb 0 x (sym (h 0 (omega arith)))) (at-zeros p (λ s l. h (suc s) (omega arith)))
 
-fits-rest : (qs : List (List ℕ)) (p : List ℕ) → fits qs p ≡ true → (s : ℕ) → length qs ≤ s → place p s ≡ 0
+pub fits-rest : (qs : List (List ℕ)) (p : List ℕ) → fits qs p ≡ true → (s : ℕ) → length qs ≤ s → place p s ≡ 0
 unfolding fits
 fits-rest [] p e s h = zeros-at p e s
 fits-rest (q ∷ qs) [] e s h = refl
 fits-rest (q ∷ qs) (x ∷ p) e zero h = absurd (omega arith)
 fits-rest (q ∷ qs) (x ∷ p) e (suc s) h = fits-rest qs p (and-true (member x q) (fits qs p) e .1) s (omega arith)
 
-at-fits : (qs : List (List ℕ)) (p : List ℕ) → length qs ≤ length p → ((s : ℕ) → s < length qs → member (place p s) (getD qs s []) ≡ true)
+pub at-fits : (qs : List (List ℕ)) (p : List ℕ) → length qs ≤ length p → ((s : ℕ) → s < length qs → member (place p s) (getD qs s []) ≡ true)
     → ((s : ℕ) → length qs ≤ s → s < length p → place p s ≡ 0) → fits qs p ≡ true
 unfolding fits
 at-fits [] p l h r = at-zeros p (λ s m. r s (omega arith) m)
@@ -78,7 +78,7 @@ cons-distinct x p h e = and-both (not (member x p)) (distinct p) (ap not (by-tes
 not-in : (x s : ℕ) (p : List ℕ) → not (member x p) ≡ true → s < length p → place p s ≡ x → ⊥
 not-in x s p e h q = false≢true (sym (ap not (at-member p x s h q)) ∙ e)
 
-distinct-at : (p : List ℕ) → distinct p ≡ true → (s t : ℕ) → s < length p → t < length p → place p s ≡ place p t → s ≡ t
+pub distinct-at : (p : List ℕ) → distinct p ≡ true → (s t : ℕ) → s < length p → t < length p → place p s ≡ place p t → s ≡ t
 distinct-at [] d s t l m e = absurd (omega arith)
 distinct-at (x ∷ p) d zero zero l m e = refl
 distinct-at (x ∷ p) d zero (suc t) l m e = absurd (not-in x t p (distinct-cons x p d .0) (omega arith) (sym e))
@@ -89,7 +89,7 @@ no-elements : distinct [] ≡ true
 unfolding distinct
 no-elements = refl
 
-at-distinct : (p : List ℕ) → ((s t : ℕ) → s < length p → t < length p → place p s ≡ place p t → s ≡ t) → distinct p ≡ true
+pub at-distinct : (p : List ℕ) → ((s t : ℕ) → s < length p → t < length p → place p s ≡ place p t → s ≡ t) → distinct p ≡ true
 at-distinct [] h = no-elements
 at-distinct (x ∷ p) h =
     cons-distinct x p (λ e. let z =

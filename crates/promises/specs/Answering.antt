@@ -4,7 +4,9 @@ use mathlib.Core.Logic.{_↔_, _⊎_, inl, inr}
 use mathlib.Core.Bool.{Bool, true, false, cond}
 use mathlib.Core.Option.{Option, none, some}
 use mathlib.Core.List.{List, [], _∷_}
-use Prim.Native.Nat.{ℕ}
+use Prim.Native.Nat.{ℕ, zero, suc, _+_, _≤_, _<_}
+use native.Mathlib.Omega.{arith}
+use borrow.Author.Tests.{ltb-true, ltb-false}
 use lib.Dec.{eqb, ltb}
 use lib.IntN.{ℤ, pos}
 use lib.ListN.{length, replicate}
@@ -27,7 +29,7 @@ use Rattle.scope.specs.declared.answers.Listing.{Listing}
 use Rattle.scope.specs.declared.answers.Ledger.{Ledger}
 use Rattle.scope.specs.declared.answers.Site.{Site}
 use Rattle.scope.specs.Limits.{rowLimit, positionLimit}
-use Rattle.scope.specs.Lists.{given}
+use Rattle.scope.specs.Lists.{given, tabled}
 use Rattle.scope.specs.Canonical.{canonical}
 use Rattle.scope.specs.Tables.{Tables, tablesIn}
 use Rattle.scope.specs.Positions.{permittedPositions, rowsOf, Found, lookup}
@@ -64,6 +66,16 @@ either P false x y = y
 pub over : {A : Type 0} (P : Said A → Type 0) (bs : List ℕ) (ns : List ℤ) (f : Tables → Said A) → P (refuses 13 0) → P (refuses 14 0) → P (f (tablesIn bs ns))
     → P (overTables bs ns f)
 over P bs ns f x y z = either P (tooShort bs ns) x (either P (areTables bs ns) z y)
+
+-- the numbers from i on, k of them
+pub among-numbers : (k i n : ℕ) → i ≤ n → n < i + k → In n (tabled (λ x. x) i k)
+unfolding tabled
+among-numbers zero i n h l = absurd (omega arith)
+among-numbers (suc k) i n h l = go (ltb i n) (ltb-true i n) (ltb-false i n) (λ z. among-numbers k (i + 1) n z (omega arith))
+  where
+    go : (b : Bool) → (b ≡ true → i < n) → (b ≡ false → n ≤ i) → (i + 1 ≤ n → In n (tabled (λ x. x) (i + 1) k)) → (n ≡ i) ⊎ In n (tabled (λ x. x) (i + 1) k)
+    go true f g ih = let z = f refl in inr (ih (omega (arith, z)))
+    go false f g ih = let z = g refl in inl (omega (arith, z))
 
 -- ---- an answer alone
 pub alone : {R A : Type 0} {says : R → Said A} {numbers : List ℕ} {s : Said A} → ((x y : R) → says x ≡ says y → x ≡ y) → Sayable says numbers s

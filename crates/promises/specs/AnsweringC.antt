@@ -1,11 +1,9 @@
 -- Demand 1 over what a caller in C sees: every exported call has exactly one outcome of numbers and lent slices, and refuses only with its own numbers.
 use mathlib.Core.Path.{_≡_, refl, sym, ap, _∙_, subst}
-use mathlib.Core.Logic.{_⊎_, inl, inr}
-use mathlib.Core.Bool.{Bool, true, false}
+use mathlib.Core.Logic.{inl, inr}
 use mathlib.Core.List.{List, [], _∷_}
-use Prim.Native.Nat.{ℕ, zero, suc, _+_, _≤_, _<_}
+use Prim.Native.Nat.{ℕ, zero, suc, _≤_}
 use native.Mathlib.Omega.{arith}
-use borrow.Author.Tests.{ltb-true, ltb-false}
 use lib.Dec.{ltb}
 use lib.IntN.{ℤ}
 use lib.Ieee.{Float}
@@ -21,9 +19,9 @@ use Rattle.scope.specs.Canonical.{canonical}
 use Rattle.scope.specs.Tables.{Tables, tablesIn}
 use Rattle.scope.specs.Answers.{Said, good, refuses, met, saysRequest, saysBooked, readOutcome, saysOutcome, bytesAfter, numbersAfter, writes, outputAfter, counts, totals, shows, rowsSaid, rowsAfter, looksUp, requests, listingAfter, movedOn}
 use Rattle.basics.specs.Each.{In}
-use Rattle.export.specs.Numbers.{numberOf, placeOf, Judged, Exported}
-use Rattle.export.specs.Handed.{countIn, indexIn, positionIn, RowsHanded, LookedUp, MovedOn}
-use Rattle.export.specs.Shapes.{countOf, millionthsOf, massOf, lackOf, Counted, Written, Totalled, Displayed, allowsLent, AllowedLent, booksLent, entriesAfter, Entered as EnteredLent}
+use Rattle.export.specs.Numbers.{numberOf, left, placeLeft, Numbered, Judged, Exported}
+use Rattle.export.specs.Handed.{Counted, RowsHanded, LookedUp, MovedOn}
+use Rattle.export.specs.Shapes.{lengthLeft, massOf, lackOf, Measured, Written, Totalled, Displayed, allowsLent, AllowedLent, booksLent, entriesAfter, Entered as EnteredLent}
 use Rattle.promises.specs.Promises.{Answered, Nothing, told, Demand1C}
 use Rattle.promises.specs.Said.{not-both, same-number}
 use Rattle.promises.specs.Answering as calls
@@ -69,77 +67,74 @@ in-c {O} Ensured Left number s x e only is among left =
         let y = number-said s (z .0) (sym (is o w) ∙ z .1) in
         (y .0, y .1 ∙ ap (λ k. refuses k (y .0)) (sym (z .2)))
 
--- the numbers from i on, k of them
-among-numbers : (k i n : ℕ) → i ≤ n → n < i + k → In n (tabled (λ x. x) i k)
-unfolding tabled
-among-numbers zero i n h l = absurd (omega arith)
-among-numbers (suc k) i n h l = go (ltb i n) (ltb-true i n) (ltb-false i n) (λ z. among-numbers k (i + 1) n z (omega arith))
-  where
-    go : (b : Bool) → (b ≡ true → i < n) → (b ≡ false → n ≤ i) → (i + 1 ≤ n → In n (tabled (λ x. x) (i + 1) k)) → (n ≡ i) ⊎ In n (tabled (λ x. x) (i + 1) k)
-    go true f g ih = let z = f refl in inr (ih (omega (arith, z)))
-    go false f g ih = let z = g refl in inl (omega (arith, z))
-
 -- ---- demand 1
-verdict : (s : List ℕ) → Answered (λ (o : ℕ × ℕ). Judged s (o .0) (o .1)) (λ o. told (o .0)) (tabled (λ n. n) 1 12) (λ o. o .1 ≤ length s)
-verdict s =
+verdict : (s : List ℕ) (place : ℕ) → Answered (λ (o : ℕ × ℕ). Judged s place (o .0) (o .1)) (λ o. told (o .0)) (tabled (λ n. n) 1 12) (λ o. o .1 ≤ length s)
+verdict s place =
     let said = saysOutcome (outcome s) in
-    in-c (λ (o : ℕ × ℕ). Judged s (o .0) (o .1)) (λ o. o .1 ≤ length s) (λ o. o .0) said (numberOf said, placeOf said) (refl, refl) (λ o w. pair2 (w .0) (w .1)) (λ o w. w .0)
+    in-c (λ (o : ℕ × ℕ). Judged s place (o .0) (o .1)) (λ o. o .1 ≤ length s) (λ o. o .0) said (numberOf said, placeLeft said place) (record { number-is = refl; place-is = refl })
+    (λ o w. pair2 (w .number-is) (w .place-is)) (λ o w. w .number-is)
     (λ n p q.
     let z = readers.said-12 s n p (readers.outcome-refused (outcome s) q) in
     let a = z .from-1 in
     let b = z .to-most in
-    among-numbers 12 1 n a (omega (arith, b)))
-    (λ o w n p q. subst (λ k. k ≤ length s) (sym (w .1 ∙ ap placeOf q)) (readers.said-12 s n p (readers.outcome-refused (outcome s) q) .inside))
+    calls.among-numbers 12 1 n a (omega (arith, b)))
+    (λ o w n p q. subst (λ k. k ≤ length s) (sym (w .place-is ∙ ap (λ z. placeLeft z place) q)) (readers.said-12 s n p (readers.outcome-refused (outcome s) q) .inside))
 
-read : (s bs : List ℕ) (ns : List ℤ)
-    → Answered (λ (o : ℕ × ℕ × List ℕ × List ℤ). Exported s bs ns (o .0) (o .1) (o .2) (o .3)) (λ o. told (o .0)) (tabled (λ n. n) 1 13)
+read : (s bs : List ℕ) (ns : List ℤ) (place : ℕ)
+    → Answered (λ (o : ℕ × ℕ × List ℕ × List ℤ). Exported s bs ns place (o .0) (o .1) (o .2) (o .3)) (λ o. told (o .0)) (tabled (λ n. n) 1 13)
     (λ o. (o .1 ≤ length s) × (o .2 ≡ bs) × (o .3 ≡ ns))
-read s bs ns =
+read s bs ns place =
     let o = readOutcome bs ns s in
-    in-c (λ (o : ℕ × ℕ × List ℕ × List ℤ). Exported s bs ns (o .0) (o .1) (o .2) (o .3)) (λ o. (o .1 ≤ length s) × (o .2 ≡ bs) × (o .3 ≡ ns)) (λ o. o .0) (saysOutcome o)
-    (numberOf (saysOutcome o), placeOf (saysOutcome o), bytesAfter o bs, numbersAfter o ns)
-    (record { number-is = refl; place-is = refl; bytes-after = refl; numbers-after = refl })
-    (λ o w. pair4 (w .number-is) (w .place-is) (w .bytes-after) (w .numbers-after)) (λ o w. w .number-is)
+    let said = saysOutcome o in
+    in-c (λ (o : ℕ × ℕ × List ℕ × List ℤ). Exported s bs ns place (o .0) (o .1) (o .2) (o .3)) (λ o. (o .1 ≤ length s) × (o .2 ≡ bs) × (o .3 ≡ ns)) (λ o. o .0) said
+    (numberOf said, placeLeft said place, bytesAfter o bs, numbersAfter o ns)
+    (record { numbered = record { number-is = refl; place-is = refl }; bytes-after = refl; numbers-after = refl })
+    (λ o w. pair4 (w .numbered .number-is) (w .numbered .place-is) (w .bytes-after) (w .numbers-after)) (λ o w. w .numbered .number-is)
     (λ n p q.
     let z = readers.said-13 s bs ns n p (readers.outcome-refused (readOutcome bs ns s) q) in
     let a = z .from-1 in
     let b = z .to-most in
-    among-numbers 13 1 n a (omega (arith, b)))
+    calls.among-numbers 13 1 n a (omega (arith, b)))
     (λ x w n p q.
     let e = readers.outcome-refused (readOutcome bs ns s) q in (
-      subst (λ k. k ≤ length s) (sym (w .place-is ∙ ap placeOf q)) (readers.said-13 s bs ns n p e .inside),
+      subst (λ k. k ≤ length s) (sym (w .numbered .place-is ∙ ap (λ z. placeLeft z place) q)) (readers.said-13 s bs ns n p e .inside),
       w .bytes-after ∙ ap (λ z. bytesAfter z bs) e,
       w .numbers-after ∙ ap (λ z. numbersAfter z ns) e,
     ))
 
 module _ (bs : List ℕ) (ns : List ℤ) where
-  write : (out : List ℕ) → Answered (λ (o : ℕ × ℕ × List ℕ). Written bs ns out (o .0) (o .1) (o .2)) (λ o. told (o .0)) (13 ∷ 14 ∷ 15 ∷ []) (λ o. o .2 ≡ out)
-  write out =
+  write : (out : List ℕ) (count : ℕ)
+      → Answered (λ (o : ℕ × ℕ × List ℕ). Written bs ns out count (o .0) (o .1) (o .2)) (λ o. told (o .0)) (13 ∷ 14 ∷ 15 ∷ []) (λ o. o .2 ≡ out)
+  write out count =
       let said = writes bs ns out in
       let c = canonical (tablesIn bs ns) in
-      in-c (λ (o : ℕ × ℕ × List ℕ). Written bs ns out (o .0) (o .1) (o .2)) (λ o. o .2 ≡ out) (λ o. o .0) said (numberOf said, countOf said, outputAfter said c out)
-      (record { counted = record { number-is = refl; count-is = refl }; output-after = refl }) (λ o w. pair3 (w .counted .number-is) (w .counted .count-is) (w .output-after))
-      (λ o w. w .counted .number-is) (calls.writes-so bs ns out .number) (λ o w n p q. w .output-after ∙ ap (λ z. outputAfter z c out) q)
+      in-c (λ (o : ℕ × ℕ × List ℕ). Written bs ns out count (o .0) (o .1) (o .2)) (λ o. o .2 ≡ out) (λ o. o .0) said (numberOf said, lengthLeft said count, outputAfter said c out)
+      (record { measured = record { number-is = refl; count-is = refl }; output-after = refl }) (λ o w. pair3 (w .measured .number-is) (w .measured .count-is) (w .output-after))
+      (λ o w. w .measured .number-is) (calls.writes-so bs ns out .number) (λ o w n p q. w .output-after ∙ ap (λ z. outputAfter z c out) q)
 
-  count : (f : Tables → ℕ) → Answered (λ (o : ℕ × ℕ). Counted (counts bs ns f) (o .0) (o .1)) (λ o. told (o .0)) (13 ∷ 14 ∷ []) Nothing
-  count f =
+  count : (f : Tables → ℕ) (count : ℕ) → Answered (λ (o : ℕ × ℕ). Counted (counts bs ns f) count (o .0) (o .1)) (λ o. told (o .0)) (13 ∷ 14 ∷ []) (λ o. o .1 ≡ count)
+  count f count =
       let said = counts bs ns f in
-      in-c (λ (o : ℕ × ℕ). Counted (counts bs ns f) (o .0) (o .1)) Nothing (λ o. o .0) said (numberOf said, countOf said) (record { number-is = refl; count-is = refl })
-      (λ o w. pair2 (w .number-is) (w .count-is)) (λ o w. w .number-is) (calls.counts-so bs ns f .number) (λ o w n p q. tt)
+      in-c (λ (o : ℕ × ℕ). Counted (counts bs ns f) count (o .0) (o .1)) (λ o. o .1 ≡ count) (λ o. o .0) said (numberOf said, left said (λ n. n) count)
+      (record { number-is = refl; count-is = refl }) (λ o w. pair2 (w .number-is) (w .count-is)) (λ o w. w .number-is) (calls.counts-so bs ns f .number)
+      (λ o w n p q. w .count-is ∙ ap (λ z. left z (λ n. n) count) q)
 
-  total : Answered (λ (o : ℕ × ℤ × ℕ). Totalled (totals bs ns) (o .0) (o .1) (o .2)) (λ o. told (o .0)) (13 ∷ 14 ∷ 16 ∷ []) Nothing
-  total =
+  total : (m : ℤ) (place : ℕ)
+      → Answered (λ (o : ℕ × ℤ × ℕ). Totalled (totals bs ns) m place (o .0) (o .1) (o .2)) (λ o. told (o .0)) (13 ∷ 14 ∷ 16 ∷ []) (λ o. o .1 ≡ m)
+  total m place =
       let said = totals bs ns in
-      in-c (λ (o : ℕ × ℤ × ℕ). Totalled (totals bs ns) (o .0) (o .1) (o .2)) Nothing (λ o. o .0) said (numberOf said, millionthsOf said, placeOf said)
-      (record { number-is = refl; millionths-is = refl; place-is = refl }) (λ o w. pair3 (w .number-is) (w .millionths-is) (w .place-is)) (λ o w. w .number-is)
-      (calls.totals-so bs ns .number) (λ o w n p q. tt)
+      in-c (λ (o : ℕ × ℤ × ℕ). Totalled (totals bs ns) m place (o .0) (o .1) (o .2)) (λ o. o .1 ≡ m) (λ o. o .0) said (numberOf said, left said (λ x. x) m, placeLeft said place)
+      (record { numbered = record { number-is = refl; place-is = refl }; millionths-is = refl }) (λ o w. pair3 (w .numbered .number-is) (w .millionths-is) (w .numbered .place-is))
+      (λ o w. w .numbered .number-is) (calls.totals-so bs ns .number) (λ o w n p q. w .millionths-is ∙ ap (λ z. left z (λ x. x) m) q)
 
-  shown : Answered (λ (o : ℕ × Float × ℕ). Displayed (shows bs ns) (o .0) (o .1) (o .2)) (λ o. told (o .0)) (13 ∷ 14 ∷ []) Nothing
-  shown =
+  shown : (x : Float) (k : ℕ)
+      → Answered (λ (o : ℕ × Float × ℕ). Displayed (shows bs ns) x k (o .0) (o .1) (o .2)) (λ o. told (o .0)) (13 ∷ 14 ∷ []) (λ o. (o .1 ≡ x) × (o .2 ≡ k))
+  shown x k =
       let said = shows bs ns in
-      in-c (λ (o : ℕ × Float × ℕ). Displayed (shows bs ns) (o .0) (o .1) (o .2)) Nothing (λ o. o .0) said (numberOf said, massOf said, lackOf said)
-      (record { number-is = refl; mass-is = refl; missing-is = refl }) (λ o w. pair3 (w .number-is) (w .mass-is) (w .missing-is)) (λ o w. w .number-is)
-      (calls.shows-so bs ns .number) (λ o w n p q. tt)
+      in-c (λ (o : ℕ × Float × ℕ). Displayed (shows bs ns) x k (o .0) (o .1) (o .2)) (λ o. (o .1 ≡ x) × (o .2 ≡ k)) (λ o. o .0) said
+      (numberOf said, left said massOf x, left said lackOf k) (record { number-is = refl; mass-is = refl; missing-is = refl })
+      (λ o w. pair3 (w .number-is) (w .mass-is) (w .missing-is)) (λ o w. w .number-is) (calls.shows-so bs ns .number)
+      (λ o w n p q. (w .mass-is ∙ ap (λ z. left z massOf x) q, w .missing-is ∙ ap (λ z. left z lackOf k) q))
 
   pub allows-lent-so : (p : List ℕ) → calls.Sayable saysRequest (13 ∷ 14 ∷ 18 ∷ []) (allowsLent bs ns p)
   allows-lent-so p =
@@ -161,26 +156,32 @@ module _ (bs : List ℕ) (ns : List ℤ) where
       calls.either P (ltb (length p) copyLimit) (calls.refusal (bookedRefused 13 0) refl (inl refl))
       (calls.either P (ltb (length old) positionLimit) (calls.refusal (bookedRefused 13 0) refl (inl refl)) (calls.books-so bs ns (take copyLimit p)))
 
-  entered : (p : List ℕ) (old : List ℤ)
-      → Answered (λ (o : ℕ × ℕ × List ℤ). EnteredLent bs ns p old (o .0) (o .1) (o .2)) (λ o. told (o .0)) (13 ∷ 14 ∷ 16 ∷ 18 ∷ []) (λ o. o .2 ≡ old)
-  entered p old =
+  entered : (p : List ℕ) (old : List ℤ) (place : ℕ)
+      → Answered (λ (o : ℕ × ℕ × List ℤ). EnteredLent bs ns p old place (o .0) (o .1) (o .2)) (λ o. told (o .0)) (13 ∷ 14 ∷ 16 ∷ 18 ∷ []) (λ o. o .2 ≡ old)
+  entered p old place =
       let said = booksLent bs ns p old in
-      in-c (λ (o : ℕ × ℕ × List ℤ). EnteredLent bs ns p old (o .0) (o .1) (o .2)) (λ o. o .2 ≡ old) (λ o. o .0) said (numberOf said, placeOf said, entriesAfter said (tablesIn bs ns) (take copyLimit p) old)
-      (record { number-is = refl; place-is = refl; entries-after = refl }) (λ o w. pair3 (w .number-is) (w .place-is) (w .entries-after)) (λ o w. w .number-is)
-      (books-lent-so p old .number) (λ o w n k q. w .entries-after ∙ ap (λ z. entriesAfter z (tablesIn bs ns) (take copyLimit p) old) q)
+      in-c (λ (o : ℕ × ℕ × List ℤ). EnteredLent bs ns p old place (o .0) (o .1) (o .2)) (λ o. o .2 ≡ old) (λ o. o .0) said
+      (numberOf said, placeLeft said place, entriesAfter said (tablesIn bs ns) (take copyLimit p) old)
+      (record { numbered = record { number-is = refl; place-is = refl }; entries-after = refl }) (λ o w. pair3 (w .numbered .number-is) (w .numbered .place-is) (w .entries-after))
+      (λ o w. w .numbered .number-is) (books-lent-so p old .number) (λ o w n k q. w .entries-after ∙ ap (λ z. entriesAfter z (tablesIn bs ns) (take copyLimit p) old) q)
 
-  rows : (room : List Site) → Answered (λ (o : ℕ × ℕ × List Site). RowsHanded bs ns room (o .0) (o .1) (o .2)) (λ o. told (o .0)) (13 ∷ 14 ∷ []) (λ o. o .2 ≡ room)
-  rows room =
+  rows : (room : List Site) (count : ℕ)
+      → Answered (λ (o : ℕ × ℕ × List Site). RowsHanded bs ns room count (o .0) (o .1) (o .2)) (λ o. told (o .0)) (13 ∷ 14 ∷ []) (λ o. (o .1 ≡ count) × (o .2 ≡ room))
+  rows room count =
       let said = rowsSaid bs ns room in
-      in-c (λ (o : ℕ × ℕ × List Site). RowsHanded bs ns room (o .0) (o .1) (o .2)) (λ o. o .2 ≡ room) (λ o. o .0) said (numberOf said, countIn said, rowsAfter said (tablesIn bs ns) room)
-      (record { number-is = refl; count-is = refl; rows-after = refl }) (λ o w. pair3 (w .number-is) (w .count-is) (w .rows-after)) (λ o w. w .number-is)
-      (calls.rows-so bs ns room .number) (λ o w n p q. w .rows-after ∙ ap (λ z. rowsAfter z (tablesIn bs ns) room) q)
+      in-c (λ (o : ℕ × ℕ × List Site). RowsHanded bs ns room count (o .0) (o .1) (o .2)) (λ o. (o .1 ≡ count) × (o .2 ≡ room)) (λ o. o .0) said
+      (numberOf said, left said (λ n. n) count, rowsAfter said (tablesIn bs ns) room) (record { counted = record { number-is = refl; count-is = refl }; rows-after = refl })
+      (λ o w. pair3 (w .counted .number-is) (w .counted .count-is) (w .rows-after)) (λ o w. w .counted .number-is) (calls.rows-so bs ns room .number)
+      (λ o w n p q. (w .counted .count-is ∙ ap (λ z. left z (λ n. n) count) q, w .rows-after ∙ ap (λ z. rowsAfter z (tablesIn bs ns) room) q))
 
-first-row : (rs : List Site) (n f : ℕ) → Answered (λ (o : ℕ × ℕ × ℕ). LookedUp rs n f (o .0) (o .1) (o .2)) (λ o. told (o .0)) (13 ∷ 17 ∷ []) Nothing
-first-row rs n f =
+first-row : (rs : List Site) (n f i x : ℕ)
+    → Answered (λ (o : ℕ × ℕ × ℕ). LookedUp (looksUp rs n f) i x (o .0) (o .1) (o .2)) (λ o. told (o .0)) (13 ∷ 17 ∷ []) (λ o. (o .1 ≡ i) × (o .2 ≡ x))
+first-row rs n f i x =
     let said = looksUp rs n f in
-    in-c (λ (o : ℕ × ℕ × ℕ). LookedUp rs n f (o .0) (o .1) (o .2)) Nothing (λ o. o .0) said (numberOf said, indexIn said, positionIn said) (refl, refl, refl)
-    (λ o w. pair3 (w .0) (w .1) (w .2)) (λ o w. w .0) (calls.looks-so rs n f .number) (λ o w n p q. tt)
+    in-c (λ (o : ℕ × ℕ × ℕ). LookedUp (looksUp rs n f) i x (o .0) (o .1) (o .2)) (λ o. (o .1 ≡ i) × (o .2 ≡ x)) (λ o. o .0) said
+    (numberOf said, left said (λ r. r .index) i, left said (λ r. r .position) x) (record { number-is = refl; index-is = refl; position-is = refl })
+    (λ o w. pair3 (w .number-is) (w .index-is) (w .position-is)) (λ o w. w .number-is) (calls.looks-so rs n f .number)
+    (λ o w n p q. (w .index-is ∙ ap (λ z. left z (λ r. r .index) i) q, w .position-is ∙ ap (λ z. left z (λ r. r .position) x) q))
 
 pub demand-1 : Demand1C
 demand-1 =

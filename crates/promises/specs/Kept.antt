@@ -5,6 +5,7 @@ use Rattle.promises.specs.Answering as calls
 use Rattle.promises.specs.Readers as readers
 use Rattle.promises.specs.Written as written
 use Rattle.promises.specs.Weights as weights
+use Rattle.promises.specs.Placed as placed
 use Rattle.promises.specs.Rows as rows
 use Rattle.promises.specs.Listed as listed
 use mathlib.Core.List.{List}
@@ -15,6 +16,7 @@ demand-1 : Demand1
 demand-1 =
     record {
       read = readers.answers-lines;
+      verdict = readers.verdict;
       write = calls.write;
       count = λ f bs ns. calls.count bs ns f;
       total = calls.totalled;
@@ -30,6 +32,8 @@ demand-1 =
 demand-3 : (bs : List ℕ) (ns : List ℤ) → weights.Taken bs ns → Demand3 bs ns
 demand-3 bs ns h =
     record {
+      allowed = placed.allowed-so bs ns h;
+      free = placed.free bs ns;
       by-value = listed.lists bs ns h;
       in-place = listed.lists bs ns h;
       adds-up = weights.adds-up bs ns h;

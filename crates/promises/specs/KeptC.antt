@@ -11,8 +11,6 @@ use lib.ListN.{length, take, drop}
 use lib.Seq.{take-append-seam, take-all}
 use Rattle.scope.specs.declared.answers.Read.{Read}
 use Rattle.scope.specs.declared.answers.Read.the-variants.{Accepted, Refused as readRefused}
-use Rattle.scope.specs.declared.answers.Write.{Write}
-use Rattle.scope.specs.declared.answers.Write.the-variants.{Written as writeWritten, Refused as writeRefused}
 use Rattle.scope.specs.declared.answers.Total.{Total}
 use Rattle.scope.specs.declared.answers.Total.the-variants.{Millionths, Refused as totalRefused}
 use Rattle.scope.specs.declared.answers.Request.{Request}
@@ -38,9 +36,9 @@ use Rattle.placements.specs.declared.Next.{Next}
 use Rattle.reader.specs.ReadSays.{ReadSays}
 use Rattle.calls.specs.Writing.{WriteSays}
 use Rattle.calls.specs.Says.{TotalSays, AllowedSays, NextSays, LedgerSays}
-use Rattle.export.specs.Numbers.{numberOf, placeOf, Exported}
+use Rattle.export.specs.Numbers.{numberOf, left, placeLeft, Numbered, Exported}
 use Rattle.export.specs.Handed.{MovedOn}
-use Rattle.export.specs.Shapes.{countOf, millionthsOf, Written, Totalled, allowsLent, AllowedLent, booksLent, entriesAfter, Entered as EnteredLent}
+use Rattle.export.specs.Shapes.{lengthLeft, Measured, Written, Totalled, allowsLent, AllowedLent, booksLent, entriesAfter, Entered as EnteredLent}
 use Rattle.promises.specs.Promises.{Holding, Filed, HandsOut, Lists, EnteredC, FiledC, HandsOutC, Demand3C, PromisesC}
 use Rattle.promises.specs.Said.{not-both, same-good, same-number, same-place, met-good, met-refused}
 use Rattle.promises.specs.Answering as calls
@@ -55,10 +53,6 @@ abbrev readTold : ℕ → ℕ → Read
 readTold zero p = Accepted
 readTold (suc n) p = readRefused (suc n) p
 
-abbrev writeTold : ℕ → ℕ → Write
-writeTold zero c = writeWritten c
-writeTold (suc n) c = writeRefused (suc n) c
-
 abbrev totalTold : ℕ → ℤ → ℕ → Total
 totalTold zero m p = Millionths m
 totalTold (suc n) m p = totalRefused (suc n) p
@@ -68,34 +62,29 @@ requestTold zero = Met
 requestTold (suc n) = requestRefused (suc n)
 
 -- no refusal has the number 0
-abbrev Numbered : {A : Type 0} → Said A → Type 0
-Numbered s = (n p : ℕ) → s ≡ refuses n p → 1 ≤ n
+abbrev Above : {A : Type 0} → Said A → Type 0
+Above s = (n p : ℕ) → s ≡ refuses n p → 1 ≤ n
 
 no-zero : (numbers : List ℕ) → member 0 numbers ≡ false → (n : ℕ) → In n numbers → 1 ≤ n
 no-zero numbers e zero i = absurd (true≢false (sym (in-member 0 numbers i) ∙ e))
 no-zero numbers e (suc n) i = omega arith
 
-told-read : (s : Said (Unit {0})) → Numbered s → saysRead (readTold (numberOf s) (placeOf s)) ≡ s
-told-read (good x) h = refl
-told-read (refuses zero p) h = absurd (let z = h zero p refl in omega (arith, z))
-told-read (refuses (suc n) p) h = refl
+told-read : (s : Said (Unit {0})) → Above s → (place : ℕ) → saysRead (readTold (numberOf s) (placeLeft s place)) ≡ s
+told-read (good x) h place = refl
+told-read (refuses zero p) h place = absurd (let z = h zero p refl in omega (arith, z))
+told-read (refuses (suc n) p) h place = refl
 
-told-write : (s : Said ℕ) → Numbered s → saysWrite (writeTold (numberOf s) (countOf s)) ≡ s
-told-write (good x) h = refl
-told-write (refuses zero p) h = absurd (let z = h zero p refl in omega (arith, z))
-told-write (refuses (suc n) p) h = refl
-
-told-total : (s : Said ℤ) → Numbered s → saysTotal (totalTold (numberOf s) (millionthsOf s) (placeOf s)) ≡ s
-told-total (good x) h = refl
-told-total (refuses zero p) h = absurd (let z = h zero p refl in omega (arith, z))
-told-total (refuses (suc n) p) h = refl
+told-total : (s : Said ℤ) → Above s → (m : ℤ) (place : ℕ) → saysTotal (totalTold (numberOf s) (left s (λ x. x) m) (placeLeft s place)) ≡ s
+told-total (good x) h m place = refl
+told-total (refuses zero p) h m place = absurd (let z = h zero p refl in omega (arith, z))
+told-total (refuses (suc n) p) h m place = refl
 
 -- a request's refusal is at 0
 at-0 : (r : Request) {n p : ℕ} → saysRequest r ≡ refuses n p → 0 ≡ p
 at-0 Met e = absurd (not-both e)
 at-0 (requestRefused m) e = same-place e
 
-told-request : (s : Said (Unit {0})) → Numbered s → (r : Request) → saysRequest r ≡ s → saysRequest (requestTold (numberOf s)) ≡ s
+told-request : (s : Said (Unit {0})) → Above s → (r : Request) → saysRequest r ≡ s → saysRequest (requestTold (numberOf s)) ≡ s
 told-request (good x) h r e = refl
 told-request (refuses zero p) h r e = absurd (let z = h zero p refl in omega (arith, z))
 told-request (refuses (suc n) p) h r e = ap (refuses (suc n)) (at-0 r e)
@@ -113,78 +102,81 @@ request-0 : (n : ℕ) → (saysRequest (requestTold n) ≡ good tt) ↔ (n ≡ 0
 request-0 zero = ((λ e. refl), (λ e. refl))
 request-0 (suc n) = ((λ e. absurd (not-both (sym e))), (λ e. absurd (omega (arith, e))))
 
-write-0 : (n c m : ℕ) → saysWrite (writeTold n c) ≡ good m → (n ≡ 0) × (c ≡ m)
-write-0 zero c m e = (refl, same-good e)
-write-0 (suc n) c m e = absurd (not-both (sym e))
-
 request-17 : (n : ℕ) → (saysRequest (requestTold n) ≡ refuses 17 0) ↔ (n ≡ 17)
 request-17 zero = ((λ e. absurd (not-both e)), (λ e. absurd (omega (arith, e))))
 request-17 (suc n) = ((λ e. same-number e), (λ e. ap (λ z. refuses z 0) e))
 
 -- ---- reading
-read-inner : (s bs : List ℕ) (ns : List ℤ) (n p : ℕ) (bs′ : List ℕ) (ns′ : List ℤ) → Exported s bs ns n p bs′ ns′ → ReadSays s bs ns (readTold n p) bs′ ns′
-read-inner s bs ns n p bs′ ns′ w =
+read-inner : (s bs : List ℕ) (ns : List ℤ) (place n p : ℕ) (bs′ : List ℕ) (ns′ : List ℤ) → Exported s bs ns place n p bs′ ns′ → ReadSays s bs ns (readTold n p) bs′ ns′
+read-inner s bs ns place n p bs′ ns′ w =
     let said = saysOutcome (readOutcome bs ns s) in
     record {
       says =
-          ap (λ k. saysRead (readTold k p)) (w .number-is) ∙ ap (λ k. saysRead (readTold (numberOf said) k)) (w .place-is)
-          ∙ told-read said (λ k i q. readers.said-13 s bs ns k i (readers.outcome-refused (readOutcome bs ns s) q) .from-1);
+          ap (λ k. saysRead (readTold k p)) (w .numbered .number-is) ∙ ap (λ k. saysRead (readTold (numberOf said) k)) (w .numbered .place-is)
+          ∙ told-read said (λ k i q. readers.said-13 s bs ns k i (readers.outcome-refused (readOutcome bs ns s) q) .from-1) place;
       bytes-after = w .bytes-after;
       numbers-after = w .numbers-after;
     }
 
-accepts : (s bs : List ℕ) (ns : List ℤ) (n p : ℕ) (bs′ : List ℕ) (ns′ : List ℤ) → Exported s bs ns n p bs′ ns′
+accepts : (s bs : List ℕ) (ns : List ℤ) (place n p : ℕ) (bs′ : List ℕ) (ns′ : List ℤ) → Exported s bs ns place n p bs′ ns′
     → (n ≡ 0) ↔ ((tooShort bs ns ≡ false) × ((l : Line ℕ) × Accepts s l))
-accepts s bs ns n p bs′ ns′ w =
-    let a = readers.accepting .accepts s bs ns (readTold n p) bs′ ns′ (read-inner s bs ns n p bs′ ns′ w) in
+accepts s bs ns place n p bs′ ns′ w =
+    let a = readers.accepting .accepts s bs ns (readTold n p) bs′ ns′ (read-inner s bs ns place n p bs′ ns′ w) in
     ((λ e. a .0 (read-0 n p .0 e)), (λ x. read-0 n p .1 (a .1 x)))
 
-tables : (s bs : List ℕ) (ns : List ℤ) (p : ℕ) (bs′ : List ℕ) (ns′ : List ℤ) → Exported s bs ns 0 p bs′ ns′
+tables : (s bs : List ℕ) (ns : List ℤ) (place p : ℕ) (bs′ : List ℕ) (ns′ : List ℤ) → Exported s bs ns place 0 p bs′ ns′
     → (t : Spelling) → wellSpelt t ≡ true → s ≡ print t → Holding t bs ns bs′ ns′
-tables s bs ns p bs′ ns′ w t g e = readers.accepting .tables s bs ns Accepted bs′ ns′ (read-inner s bs ns 0 p bs′ ns′ w) refl t g e
+tables s bs ns place p bs′ ns′ w t g e = readers.accepting .tables s bs ns Accepted bs′ ns′ (read-inner s bs ns place 0 p bs′ ns′ w) refl t g e
 
-refuses-by : (s bs : List ℕ) (ns : List ℤ) (n p : ℕ) (bs′ : List ℕ) (ns′ : List ℤ) → Exported s bs ns n p bs′ ns′ → (n ≡ 0 → ⊥)
+refuses-by : (s bs : List ℕ) (ns : List ℤ) (place n p : ℕ) (bs′ : List ℕ) (ns′ : List ℤ) → Exported s bs ns place n p bs′ ns′ → (n ≡ 0 → ⊥)
     → ((tooShort bs ns ≡ true) × (n ≡ 13) × (p ≡ 0)) ⊎ ((tooShort bs ns ≡ false) × Refuses s n p)
-refuses-by s bs ns zero p bs′ ns′ w z = absurd (z refl)
-refuses-by s bs ns (suc n) p bs′ ns′ w z =
-    readers.accepting .refuses-by s bs ns (readRefused (suc n) p) bs′ ns′ (read-inner s bs ns (suc n) p bs′ ns′ w) (suc n) p .0 refl
+refuses-by s bs ns place zero p bs′ ns′ w z = absurd (z refl)
+refuses-by s bs ns place (suc n) p bs′ ns′ w z =
+    readers.accepting .refuses-by s bs ns (readRefused (suc n) p) bs′ ns′ (read-inner s bs ns place (suc n) p bs′ ns′ w) (suc n) p .0 refl
 
 -- ---- writing
-write-inner : (bs : List ℕ) (ns : List ℤ) (out : List ℕ) (n c : ℕ) (out′ : List ℕ) → Written bs ns out n c out′ → WriteSays bs ns out (writeTold n c) out′
-unfolding member
-write-inner bs ns out n c out′ w =
-    let said = writes bs ns out in
-    record {
-      says =
-          ap (λ k. saysWrite (writeTold k c)) (w .counted .number-is) ∙ ap (λ k. saysWrite (writeTold (numberOf said) k)) (w .counted .count-is)
-          ∙ told-write said (λ k i q. no-zero (13 ∷ 14 ∷ 15 ∷ []) refl k (calls.writes-so bs ns out .number k i q));
-      output-after = w .output-after;
-    }
+-- the answer that is ensured, of the output as it is
+write-inner : (bs : List ℕ) (ns : List ℤ) (out : List ℕ) (count n long : ℕ) (out′ : List ℕ) → Written bs ns out count n long out′
+    → WriteSays bs ns out (calls.write bs ns out .exactly-one .outcome .0) out′
+write-inner bs ns out count n long out′ w = record { says = calls.write bs ns out .exactly-one .ensured .says; output-after = w .output-after }
 
-reads-back : (s bs : List ℕ) (ns : List ℤ) (p : ℕ) (bs′ : List ℕ) (ns′ : List ℤ) → Exported s bs ns 0 p bs′ ns′
-    → (out : List ℕ) (n long : ℕ) (out′ : List ℕ) → Written bs′ ns′ out n long out′ → length s ≤ length out → EnteredC s bs′ ns′ out n long out′
-reads-back s bs ns p bs′ ns′ w out n long out′ v h =
-    let r = written.demand-2 .reads-back s bs ns Accepted bs′ ns′ (read-inner s bs ns 0 p bs′ ns′ w) refl out (writeTold n long) out′ (write-inner bs′ ns′ out n long out′ v) h in
-    let e = write-0 n long (r .long) (r .says) in
+-- with 0, the count is the length
+said-length : (s : Said ℕ) → Above s → {count long : ℕ} → 0 ≡ numberOf s → long ≡ lengthLeft s count → s ≡ good long
+said-length (good x) h z e = ap good (sym e)
+said-length (refuses n p) h z e = absurd (let k = h n p refl in omega (arith, k, z))
+
+reads-back : (s bs : List ℕ) (ns : List ℤ) (place p : ℕ) (bs′ : List ℕ) (ns′ : List ℤ) → Exported s bs ns place 0 p bs′ ns′
+    → (out : List ℕ) (count n long : ℕ) (out′ : List ℕ) → Written bs′ ns′ out count n long out′ → length s ≤ length out → EnteredC s bs′ ns′ out n long out′
+reads-back s bs ns place p bs′ ns′ w out count n long out′ v h =
+    let x = calls.write bs′ ns′ out .exactly-one in
+    let i = write-inner bs′ ns′ out count n long out′ v in
+    let r = written.demand-2 .reads-back s bs ns Accepted bs′ ns′ (read-inner s bs ns place 0 p bs′ ns′ w) refl out (x .outcome .0) out′ i h in
+    let said : writes bs′ ns′ out ≡ good (r .long) = sym (i .says) ∙ r .says in
+    let e : long ≡ r .long = v .measured .count-is ∙ ap (λ z. lengthLeft z count) said in
     record {
-      success = e .0;
-      no-longer = subst (λ z. z ≤ length s) (sym (e .1)) (r .no-longer);
-      rest = subst (λ z. drop z out′ ≡ drop z out) (sym (e .1)) (r .rest);
-      back = λ k i b m x.
-          let y = r .back (readTold k i) b m (subst (λ z. ReadSays (take z out′) bs′ ns′ (readTold k i) b m) (e .1) (read-inner (take long out′) bs′ ns′ k i b m x)) in
-          (read-0 k i .1 (y .0), y .1, y .2);
+      success = v .measured .number-is ∙ ap numberOf said;
+      no-longer = subst (λ z. z ≤ length s) (sym e) (r .no-longer);
+      rest = subst (λ z. drop z out′ ≡ drop z out) (sym e) (r .rest);
+      back = λ at k q b m y.
+          let o = r .back (readTold k q) b m (subst (λ z. ReadSays (take z out′) bs′ ns′ (readTold k q) b m) e (read-inner (take long out′) bs′ ns′ at k q b m y)) in
+          (read-0 k q .1 (o .0), o .1, o .2);
     }
 
 filed-inner : {s bs : List ℕ} {ns : List ℤ} {bs′ : List ℕ} {ns′ : List ℤ} {out′ : List ℕ} {m : ℕ} → FiledC s bs ns bs′ ns′ out′ m → Filed s bs ns bs′ ns′ out′ m
+unfolding member
 filed-inner {s} {bs} {ns} {bs′} {ns′} {out′} {m} f =
+    let i = write-inner bs′ ns′ (f .out) (f .count) 0 m out′ (f .written) in
+    let g = f .written .measured in
     record {
       answer = Accepted;
-      read = read-inner s bs ns 0 (f .place) bs′ ns′ (f .read);
+      read = read-inner s bs ns (f .place) 0 (f .place′) bs′ ns′ (f .read);
       accepted = refl;
       out = f .out;
-      wrote = writeWritten m;
-      written = write-inner bs′ ns′ (f .out) 0 m out′ (f .written);
-      length-is = refl;
+      wrote = calls.write bs′ ns′ (f .out) .exactly-one .outcome .0;
+      written = i;
+      length-is =
+          i .says
+          ∙ said-length (writes bs′ ns′ (f .out)) (λ k p q. no-zero (13 ∷ 14 ∷ 15 ∷ []) refl k (calls.writes-so bs′ ns′ (f .out) .number k p q)) (g .number-is) (g .count-is);
     }
 
 -- ---- over areas that a line was read into
@@ -251,27 +243,27 @@ module _ (bs : List ℕ) (ns : List ℤ) (h : weights.Taken bs ns) where
       let d = inner .every-allowed ps (to-inner ps freshListing w) (placement p) (requestTold n) (allowed-inner p long n v) in
       ((λ i. request-0 n .0 (d .0 i)), (λ e. d .1 (request-0 n .1 e)))
 
-  total-inner : (n : ℕ) (m : ℤ) (p : ℕ) → Totalled (totals bs ns) n m p → TotalSays bs ns (totalTold n m p)
+  total-inner : (m₀ : ℤ) (k₀ n : ℕ) (m : ℤ) (k : ℕ) → Totalled (totals bs ns) m₀ k₀ n m k → TotalSays bs ns (totalTold n m k)
   unfolding member
-  total-inner n m p w =
+  total-inner m₀ k₀ n m k w =
       let said = totals bs ns in
-      ap (λ k. saysTotal (totalTold k m p)) (w .number-is) ∙ ap (λ k. saysTotal (totalTold (numberOf said) k p)) (w .millionths-is)
-      ∙ ap (λ k. saysTotal (totalTold (numberOf said) (millionthsOf said) k)) (w .place-is)
-      ∙ told-total said (λ k i q. no-zero (13 ∷ 14 ∷ 16 ∷ []) refl k (calls.totals-so bs ns .number k i q))
+      ap (λ z. saysTotal (totalTold z m k)) (w .numbered .number-is) ∙ ap (λ z. saysTotal (totalTold (numberOf said) z k)) (w .millionths-is)
+      ∙ ap (λ z. saysTotal (totalTold (numberOf said) (left said (λ x. x) m₀) z)) (w .numbered .place-is)
+      ∙ told-total said (λ n p q. no-zero (13 ∷ 14 ∷ 16 ∷ []) refl n (calls.totals-so bs ns .number n p q)) m₀ k₀
 
   ledger-long : (t : Tables) (p : List ℕ) → length (ledger t p) ≡ positionLimit
   unfolding ledger
   ledger-long t p = tabled-length _ 0 positionLimit
 
-  adds-up : (m : ℤ) (place : ℕ) → Totalled (totals bs ns) 0 m place → (p : List ℕ) → copyLimit ≤ length p → AllowedLent bs ns p 0
-      → (old : List ℤ) → positionLimit ≤ length old → (n k : ℕ) (new : List ℤ) → EnteredLent bs ns p old n k new
+  adds-up : (m₀ : ℤ) (k₀ : ℕ) (m : ℤ) (k : ℕ) → Totalled (totals bs ns) m₀ k₀ 0 m k → (p : List ℕ) → copyLimit ≤ length p → AllowedLent bs ns p 0
+      → (old : List ℤ) → positionLimit ≤ length old → (i n j : ℕ) (new : List ℤ) → EnteredLent bs ns p old i n j new
       → (n ≡ 0) × (sum (take positionLimit new) +ℤ labileMass (tablesIn bs ns) ≡ m)
-  adds-up m place w p long v old room n k new e =
+  adds-up m₀ k₀ m k w p long v old room i n j new e =
       let t = tablesIn bs ns in
       let q = take copyLimit p in
       let x = calls.ledger bs ns (placement p) .exactly-one in
       let r = x .outcome in
-      let s = weights.adds-up bs ns h m (Millionths m) (total-inner 0 m place w) refl (placement p) Met (allowed-inner p long 0 v) refl r (x .ensured) in
+      let s = weights.adds-up bs ns h m (Millionths m) (total-inner m₀ k₀ 0 m k w) refl (placement p) Met (allowed-inner p long 0 v) refl r (x .ensured) in
       let b : books bs ns q ≡ good tt = sym (x .ensured .0) ∙ s .0 in
       let said : booksLent bs ns p old ≡ good tt = rw (le-ltb (length p) copyLimit long, le-ltb (length old) positionLimit room) b in
       let at : r .at ≡ ledger t q = x .ensured .1 ∙ ap (λ z. entries z t q) b in
@@ -279,7 +271,7 @@ module _ (bs : List ℕ) (ns : List ℤ) (h : weights.Taken bs ns) where
       let front : take positionLimit new ≡ ledger t q =
       ap (take positionLimit) after ∙ ap (λ z. take z (laid (ledger t q) old)) (sym (ledger-long t q)) ∙ take-append-seam (ledger t q) (drop (length (ledger t q)) old)
       in
-      (e .number-is ∙ ap numberOf said, ap (λ z. sum z +ℤ labileMass t) (front ∙ sym at) ∙ s .1)
+      (e .numbered .number-is ∙ ap numberOf said, ap (λ z. sum z +ℤ labileMass t) (front ∙ sym at) ∙ s .1)
 
   demand-3 : Demand3C bs ns
   demand-3 =
@@ -301,6 +293,6 @@ promises-c =
       reads-back = reads-back;
       one-entry = λ s bs ns bs₁ ns₁ out₁ m f t cs ms bs₂ ns₂ out₂ n g.
           written.demand-2 .one-entry s bs ns bs₁ ns₁ out₁ m (filed-inner f) t cs ms bs₂ ns₂ out₂ n (filed-inner g);
-      demand-3 = λ s bs ns p bs′ ns′ w.
-          demand-3 bs′ ns′ (weights.taken-after (readers.was-read s bs ns Accepted bs′ ns′ (read-inner s bs ns 0 p bs′ ns′ w) refl));
+      demand-3 = λ s bs ns place p bs′ ns′ w.
+          demand-3 bs′ ns′ (weights.taken-after (readers.was-read s bs ns Accepted bs′ ns′ (read-inner s bs ns place 0 p bs′ ns′ w) refl));
     }

@@ -4,6 +4,7 @@ pub mod Answering
 pub mod Readers
 pub mod Written
 pub mod Weights
+pub mod Placed
 pub mod Rows
 pub mod Listed
 pub mod Kept

@@ -22,6 +22,8 @@ use Rattle.calls.specs.Writing.{WriteSays}
 use Rattle.calls.specs.Says.{CountSays, TotalSays, ShownSays, AllowedSays, NextSays, LedgerSays}
 use Rattle.rows.specs.Says.{LookupSays}
 use Rattle.listing.specs.Says.{RowsSays, StepSays}
+use Rattle.promises.specs.Promises.{VerdictSays}
+use Rattle.verdict.proofs.verdict_on as verdict-on
 use Rattle.reader.proofs.read as read
 use Rattle.calls.proofs.write as write
 use Rattle.calls.proofs.residue_count as residue-count
@@ -81,6 +83,9 @@ module _ {M : Type 1} (𝓤 : URA M) (H : Heap 𝓤) (A : Atoms 𝓤) (mem : Mem
 
     pub read-is : (s : RefT (List ℕ)) → (read.clauses 𝓤 H A mem run κs (s, (x, (y, tt))) .requires ≡ (λ g. Nothing)) × (read.clauses 𝓤 H A mem run κs (s, (x, (y, tt))) .ensures ≡ (λ g r end. fact 𝓤 (ReadSays (s .now) (x .now) (y .now) r (end .1 .0 .now) (end .1 .1 .0 .now))))
     read-is s = (refl, refl)
+
+  pub verdict-is : (κs : Lfts 1) (s : RefT (List ℕ)) → (verdict-on.clauses 𝓤 H A mem run κs (s, tt) .requires ≡ (λ g. Nothing)) × (verdict-on.clauses 𝓤 H A mem run κs (s, tt) .ensures ≡ (λ g r end. fact 𝓤 (VerdictSays (s .now) r)))
+  verdict-is κs s = (refl, refl)
 
   pub first-row-is : (κs : Lfts 1) (rs : RefT (List Site)) (n f : ℕ) → (first-row.clauses 𝓤 H A mem run κs (rs, (n, (f, tt))) .requires ≡ (λ g. Nothing)) × (first-row.clauses 𝓤 H A mem run κs (rs, (n, (f, tt))) .ensures ≡ (λ g r end. fact 𝓤 (LookupSays (rs .now) n f r)))
   first-row-is κs rs n f = (refl, refl)

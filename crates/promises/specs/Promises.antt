@@ -1,6 +1,7 @@
--- The demands of the tender, each sentence above its theorem, over what the calls ensure. `ReadSays` (crate reader), `WriteSays`, `CountSays`, `TotalSays`,
--- `ShownSays`, `AllowedSays`, `NextSays`, `LedgerSays` (calls), `LookupSays` (rows), `RowsSays` and `StepSays` (listing) stand in the `ensures` of the calls, and
--- an answer is spoken of by what it says (`saysRead` and its kin). Their proofs: specs/Kept.antt, and the files that it cites.
+-- The demands of the tender, each sentence above its theorem, over what the calls ensure: `ReadSays` (crate reader), `WriteSays`, `CountSays`, `TotalSays`,
+-- `ShownSays`, `AllowedSays`, `NextSays`, `LedgerSays` (calls), `LookupSays` (rows), `RowsSays` and `StepSays` (listing). That each call asks nothing, and ensures
+-- exactly its relation, is shown in specs/Linked.antt. An answer is spoken of by what it says (`saysRead` and its kin). The proofs: specs/Kept.antt, for a caller in C
+-- specs/KeptC.antt, and the files that they cite.
 use mathlib.Core.Path.{_≡_}
 use mathlib.Core.Logic.{_↔_, _⊎_}
 use mathlib.Core.Bool.{true, false}
@@ -21,13 +22,14 @@ use Rattle.scope.specs.declared.answers.Ledger.{Ledger}
 use Rattle.scope.specs.declared.answers.Site.{Site}
 use Rattle.scope.specs.declared.answers.Lookup.{Lookup}
 use Rattle.scope.specs.Limits.{copyLimit, rowLimit, positionLimit}
-use Rattle.scope.specs.Line.{Line}
+use Rattle.scope.specs.Line.{Bracket, Line}
+use Rattle.scope.specs.Refusals.{outcome}
 use Rattle.scope.specs.Tables.{Tables, tablesOf, bytesOf, numbersOf, tablesIn}
 use Rattle.scope.specs.Lists.{laid, tabled}
-use Rattle.scope.specs.Positions.{floaters, permittedPositions, Found}
+use Rattle.scope.specs.Positions.{isPlaced, floaters, permittedPositions, Found}
 use Rattle.scope.specs.Placements.{freshListing}
 use Rattle.scope.specs.Masses.{sum, total, lacking, labileMass, daltons}
-use Rattle.scope.specs.Answers.{Said, good, refuses, aMass, lack, saysRead, saysWrite, saysCount, saysTotal, saysShown, saysLookup, saysRequest, saysBooked, tooShort, counts, residueCount, bracketCount, floaterCount, totals, shows}
+use Rattle.scope.specs.Answers.{Said, good, refuses, aMass, lack, saysRead, saysWrite, saysCount, saysTotal, saysShown, saysLookup, saysRequest, saysBooked, saysOutcome, tooShort, counts, residueCount, bracketCount, floaterCount, totals, shows, looksUp}
 use Rattle.scope.specs.Grammar.{Spelling, print, good as wellSpelt, means}
 use Rattle.grammar_laws.specs.Laws.{Accepts, Refuses}
 use Rattle.placement_laws.specs.Terms.{Ascending}
@@ -39,8 +41,8 @@ use Rattle.calls.specs.Says.{CountSays, TotalSays, ShownSays, AllowedSays, Next
 use Rattle.rows.specs.Says.{LookupSays}
 use Rattle.listing.specs.Says.{RowsSays, StepSays}
 use Rattle.export.specs.Numbers.{Judged, Exported}
-use Rattle.export.specs.Handed.{RowsHanded, LookedUp, MovedOn}
-use Rattle.export.specs.Shapes.{Counted, Written, Totalled, Displayed, AllowedLent, Entered as EnteredLent}
+use Rattle.export.specs.Handed.{Counted, RowsHanded, LookedUp, MovedOn}
+use Rattle.export.specs.Shapes.{Written, Totalled, Displayed, AllowedLent, Entered as EnteredLent}
 
 -- ======== demand 1
 -- "Every line of bytes, every set of tables and every lent area gets an answer, and the caller need not have checked anything."
@@ -86,9 +88,14 @@ pub record AnswersLines (Says : Reader) : Type 0 where
       (s bs : List ℕ) (ns : List ℤ) (r : Read) (bs′ : List ℕ) (ns′ : List ℤ) → Says s bs ns r bs′ ns′
       → (saysRead r ≡ good tt) ⊎ TurnedAway s bs ns r bs′ ns′
 
+-- what `verdict::verdict_on` ensures: the same answers, with no areas
+abbrev pub VerdictSays : List ℕ → Read → Type 0
+VerdictSays s r = saysRead r ≡ saysOutcome (outcome s)
+
 -- ---- every call
 pub record Demand1 : Type 0 where
   pub read : AnswersLines ReadSays
+  pub verdict : (s : List ℕ) → Answered (VerdictSays s) saysRead (tabled (λ n. n) 1 12) Nothing
   pub write :
       (bs : List ℕ) (ns : List ℤ) (out : List ℕ)
       → Answered (λ (o : Write × List ℕ). WriteSays bs ns out (o .0) (o .1)) (λ o. saysWrite (o .0)) (13 ∷ 14 ∷ 15 ∷ []) (λ o. o .1 ≡ out)
@@ -171,6 +178,18 @@ pub record Demand2 : Type 0 where
 
 -- ======== demand 3, over areas that a line was read into
 
+-- ---- placements
+-- the lists of permitted positions, one for each floater
+abbrev pub permittedIn : List ℕ → List ℤ → List (List ℕ)
+permittedIn bs ns = permittedPositions (tablesIn bs ns)
+
+-- each floater at one of its permitted positions, no position twice; "unused ones 0"
+pub record Placing (qs : List (List ℕ)) (p : List ℕ) : Type 0 where
+  pub eight : length p ≡ copyLimit
+  pub permitted : (i : ℕ) → i < length qs → In (getD p i 0) (getD qs i [])
+  pub apart : (i j : ℕ) → i < length qs → j < length qs → getD p i 0 ≡ getD p j 0 → i ≡ j
+  pub unused : (i : ℕ) → length qs ≤ i → getD p i 0 ≡ 0
+
 -- ---- the listing
 -- A call that moves a listing on, from a record to its answer and the record afterwards. Requests one after another hand out these placements, and then one
 -- answers 17.
@@ -194,7 +213,7 @@ pub record Lists (bs : List ℕ) (ns : List ℤ) (Moves : Listing → Next → T
 -- x is a permitted position of floater f, floaters counted from 1
 abbrev pub Permitted : List ℕ → List ℤ → ℕ → ℕ → Type 0
 Permitted bs ns zero x = ⊥
-Permitted bs ns (suc i) x = In x (getD (permittedPositions (tablesIn bs ns)) i [])
+Permitted bs ns (suc i) x = In x (getD (permittedIn bs ns) i [])
 
 -- rows of floater and position, each below all behind it
 abbrev pub Below : Site → Site → Type 0
@@ -217,6 +236,9 @@ pub record Rowed (bs : List ℕ) (ns : List ℤ) (room room′ : List Site) (n :
   pub first : (f : ℕ) (l : Lookup) → LookupSays room′ n f l → LeastOf (Permitted bs ns f) (saysLookup l)
 
 pub record Demand3 (bs : List ℕ) (ns : List ℤ) : Type 0 where
+  -- "an allowed placement gives each floating modification one of its permitted positions, none that a placed modification has, and no position twice"
+  pub allowed : (p : Placement) (r : Request) → AllowedSays bs ns p r → (saysRequest r ≡ good tt) ↔ Placing (permittedIn bs ns) (p .at)
+  pub free : (f x : ℕ) → Permitted bs ns f x → (k : Bracket (Unit {0})) → In k (tablesIn bs ns .brackets) → isPlaced k ≡ true → k .first ≡ x → ⊥
   -- by the record handed over and handed back, and by the record moved on in place
   pub by-value : Lists bs ns (NextSays bs ns)
   pub in-place : Lists bs ns (λ l r. StepSays bs ns l (r .request) (r .listing))
@@ -228,7 +250,7 @@ pub record Demand3 (bs : List ℕ) (ns : List ℤ) : Type 0 where
   -- the display is that total as a double, or how many modifications have no mass
   pub displays : (m : ℤ) (q : Total) → TotalSays bs ns q → saysTotal q ≡ good m → (r : Shown) → ShownSays bs ns r → saysShown r ≡ good (aMass (daltons m))
   pub lacks : (n : ℕ) (q : Total) → TotalSays bs ns q → (r : Shown) → ShownSays bs ns r → (saysShown r ≡ good (lack n)) ↔ (saysTotal q ≡ refuses 16 n)
-  -- "gives each floating modification one of its permitted positions": the rows, wherever there is room for them
+  -- the permitted positions as rows, wherever there is room for them
   pub rows :
       (room : List Site) → rowLimit ≤ length room → (r : Count) (room′ : List Site) → RowsSays bs ns room r room′
       → (n : ℕ) × ((saysCount r ≡ good n) × Rowed bs ns room room′ n)
@@ -261,50 +283,57 @@ abbrev pub told : ℕ → Said (Unit {0})
 told zero = good tt
 told (suc n) = refuses (suc n) 0
 
--- demand 1, for every exported call: an outcome is the number, and everything lent as it is afterwards
+-- demand 1, for every exported call: an outcome is the number, and everything lent as it is afterwards. A refusal leaves all as it was, but the place that it says.
 pub record Demand1C : Type 0 where
-  pub verdict : (s : List ℕ) → Answered (λ (o : ℕ × ℕ). Judged s (o .0) (o .1)) (λ o. told (o .0)) (tabled (λ n. n) 1 12) (λ o. o .1 ≤ length s)
+  pub verdict :
+      (s : List ℕ) (place : ℕ) → Answered (λ (o : ℕ × ℕ). Judged s place (o .0) (o .1)) (λ o. told (o .0)) (tabled (λ n. n) 1 12) (λ o. o .1 ≤ length s)
   pub read :
-      (s bs : List ℕ) (ns : List ℤ)
-      → Answered (λ (o : ℕ × ℕ × List ℕ × List ℤ). Exported s bs ns (o .0) (o .1) (o .2) (o .3)) (λ o. told (o .0)) (tabled (λ n. n) 1 13)
+      (s bs : List ℕ) (ns : List ℤ) (place : ℕ)
+      → Answered (λ (o : ℕ × ℕ × List ℕ × List ℤ). Exported s bs ns place (o .0) (o .1) (o .2) (o .3)) (λ o. told (o .0)) (tabled (λ n. n) 1 13)
       (λ o. (o .1 ≤ length s) × (o .2 ≡ bs) × (o .3 ≡ ns))
   pub write :
-      (bs : List ℕ) (ns : List ℤ) (out : List ℕ)
-      → Answered (λ (o : ℕ × ℕ × List ℕ). Written bs ns out (o .0) (o .1) (o .2)) (λ o. told (o .0)) (13 ∷ 14 ∷ 15 ∷ []) (λ o. o .2 ≡ out)
+      (bs : List ℕ) (ns : List ℤ) (out : List ℕ) (count : ℕ)
+      → Answered (λ (o : ℕ × ℕ × List ℕ). Written bs ns out count (o .0) (o .1) (o .2)) (λ o. told (o .0)) (13 ∷ 14 ∷ 15 ∷ []) (λ o. o .2 ≡ out)
   pub count :
-      (f : Tables → ℕ) (bs : List ℕ) (ns : List ℤ)
-      → Answered (λ (o : ℕ × ℕ). Counted (counts bs ns f) (o .0) (o .1)) (λ o. told (o .0)) (13 ∷ 14 ∷ []) Nothing
+      (f : Tables → ℕ) (bs : List ℕ) (ns : List ℤ) (count : ℕ)
+      → Answered (λ (o : ℕ × ℕ). Counted (counts bs ns f) count (o .0) (o .1)) (λ o. told (o .0)) (13 ∷ 14 ∷ []) (λ o. o .1 ≡ count)
   pub total :
-      (bs : List ℕ) (ns : List ℤ)
-      → Answered (λ (o : ℕ × ℤ × ℕ). Totalled (totals bs ns) (o .0) (o .1) (o .2)) (λ o. told (o .0)) (13 ∷ 14 ∷ 16 ∷ []) Nothing
+      (bs : List ℕ) (ns : List ℤ) (m : ℤ) (place : ℕ)
+      → Answered (λ (o : ℕ × ℤ × ℕ). Totalled (totals bs ns) m place (o .0) (o .1) (o .2)) (λ o. told (o .0)) (13 ∷ 14 ∷ 16 ∷ []) (λ o. o .1 ≡ m)
   pub shown :
-      (bs : List ℕ) (ns : List ℤ)
-      → Answered (λ (o : ℕ × Float × ℕ). Displayed (shows bs ns) (o .0) (o .1) (o .2)) (λ o. told (o .0)) (13 ∷ 14 ∷ []) Nothing
+      (bs : List ℕ) (ns : List ℤ) (x : Float) (k : ℕ)
+      → Answered (λ (o : ℕ × Float × ℕ). Displayed (shows bs ns) x k (o .0) (o .1) (o .2)) (λ o. told (o .0)) (13 ∷ 14 ∷ []) (λ o. (o .1 ≡ x) × (o .2 ≡ k))
   pub allowed : (bs : List ℕ) (ns : List ℤ) (p : List ℕ) → Answered (AllowedLent bs ns p) told (13 ∷ 14 ∷ 18 ∷ []) Nothing
   pub next :
       (bs : List ℕ) (ns : List ℤ) (l : Listing)
       → Answered (λ (o : ℕ × Listing). MovedOn bs ns l (o .0) (o .1)) (λ o. told (o .0)) (13 ∷ 14 ∷ 17 ∷ 18 ∷ []) (λ o. o .1 ≡ l)
   pub ledger :
-      (bs : List ℕ) (ns : List ℤ) (p : List ℕ) (old : List ℤ)
-      → Answered (λ (o : ℕ × ℕ × List ℤ). EnteredLent bs ns p old (o .0) (o .1) (o .2)) (λ o. told (o .0)) (13 ∷ 14 ∷ 16 ∷ 18 ∷ []) (λ o. o .2 ≡ old)
+      (bs : List ℕ) (ns : List ℤ) (p : List ℕ) (old : List ℤ) (place : ℕ)
+      → Answered (λ (o : ℕ × ℕ × List ℤ). EnteredLent bs ns p old place (o .0) (o .1) (o .2)) (λ o. told (o .0)) (13 ∷ 14 ∷ 16 ∷ 18 ∷ []) (λ o. o .2 ≡ old)
   pub rows :
-      (bs : List ℕ) (ns : List ℤ) (room : List Site)
-      → Answered (λ (o : ℕ × ℕ × List Site). RowsHanded bs ns room (o .0) (o .1) (o .2)) (λ o. told (o .0)) (13 ∷ 14 ∷ []) (λ o. o .2 ≡ room)
+      (bs : List ℕ) (ns : List ℤ) (room : List Site) (count : ℕ)
+      → Answered (λ (o : ℕ × ℕ × List Site). RowsHanded bs ns room count (o .0) (o .1) (o .2)) (λ o. told (o .0)) (13 ∷ 14 ∷ [])
+      (λ o. (o .1 ≡ count) × (o .2 ≡ room))
   pub first-row :
-      (rs : List Site) (n f : ℕ) → Answered (λ (o : ℕ × ℕ × ℕ). LookedUp rs n f (o .0) (o .1) (o .2)) (λ o. told (o .0)) (13 ∷ 17 ∷ []) Nothing
+      (rs : List Site) (n f i x : ℕ)
+      → Answered (λ (o : ℕ × ℕ × ℕ). LookedUp (looksUp rs n f) i x (o .0) (o .1) (o .2)) (λ o. told (o .0)) (13 ∷ 17 ∷ []) (λ o. (o .1 ≡ i) × (o .2 ≡ x))
 
 -- demand 2
+-- a line that was read into areas, and m bytes of an output that were written from them
 pub record FiledC (s bs : List ℕ) (ns : List ℤ) (bs′ : List ℕ) (ns′ : List ℤ) (out′ : List ℕ) (m : ℕ) : Type 0 where
   pub place : ℕ
-  pub read : Exported s bs ns 0 place bs′ ns′
+  pub place′ : ℕ
+  pub read : Exported s bs ns place 0 place′ bs′ ns′
   pub out : List ℕ
-  pub written : Written bs′ ns′ out 0 m out′
+  pub count : ℕ
+  pub written : Written bs′ ns′ out count 0 m out′
 
 pub record EnteredC (s bs : List ℕ) (ns : List ℤ) (out : List ℕ) (number long : ℕ) (out′ : List ℕ) : Type 0 where
   pub success : number ≡ 0
   pub no-longer : long ≤ length s
   pub rest : drop long out′ ≡ drop long out
-  pub back : (n p : ℕ) (bs′ : List ℕ) (ns′ : List ℤ) → Exported (take long out′) bs ns n p bs′ ns′ → (n ≡ 0) × (bs′ ≡ bs) × (ns′ ≡ ns)
+  pub back :
+      (place n p : ℕ) (bs′ : List ℕ) (ns′ : List ℤ) → Exported (take long out′) bs ns place n p bs′ ns′ → (n ≡ 0) × (bs′ ≡ bs) × (ns′ ≡ ns)
 
 -- demand 3
 abbrev pub HandsOutC : List ℕ → List ℤ → Listing → List (List ℕ) → Type 0
@@ -319,27 +348,27 @@ pub record Demand3C (bs : List ℕ) (ns : List ℤ) : Type 0 where
   pub ascending : (ps : List (List ℕ)) → HandsOutC bs ns freshListing ps → Ascending ps
   pub none : (n : ℕ) (l′ : Listing) → MovedOn bs ns freshListing n l′ → (n ≡ 17) ↔ ((p : List ℕ) → copyLimit ≤ length p → AllowedLent bs ns p 0 → ⊥)
   pub adds-up :
-      (m : ℤ) (place : ℕ) → Totalled (totals bs ns) 0 m place → (p : List ℕ) → copyLimit ≤ length p → AllowedLent bs ns p 0
-      → (old : List ℤ) → positionLimit ≤ length old → (n k : ℕ) (new : List ℤ) → EnteredLent bs ns p old n k new
+      (m₀ : ℤ) (k₀ : ℕ) (m : ℤ) (k : ℕ) → Totalled (totals bs ns) m₀ k₀ 0 m k → (p : List ℕ) → copyLimit ≤ length p → AllowedLent bs ns p 0
+      → (old : List ℤ) → positionLimit ≤ length old → (i n j : ℕ) (new : List ℤ) → EnteredLent bs ns p old i n j new
       → (n ≡ 0) × (sum (take positionLimit new) +ℤ labileMass (tablesIn bs ns) ≡ m)
 
 pub record PromisesC : Type 0 where
   pub demand-1 : Demand1C
   pub accepts :
-      (s bs : List ℕ) (ns : List ℤ) (n p : ℕ) (bs′ : List ℕ) (ns′ : List ℤ) → Exported s bs ns n p bs′ ns′
+      (s bs : List ℕ) (ns : List ℤ) (place n p : ℕ) (bs′ : List ℕ) (ns′ : List ℤ) → Exported s bs ns place n p bs′ ns′
       → (n ≡ 0) ↔ ((tooShort bs ns ≡ false) × ((l : Line ℕ) × Accepts s l))
   pub tables :
-      (s bs : List ℕ) (ns : List ℤ) (p : ℕ) (bs′ : List ℕ) (ns′ : List ℤ) → Exported s bs ns 0 p bs′ ns′
+      (s bs : List ℕ) (ns : List ℤ) (place p : ℕ) (bs′ : List ℕ) (ns′ : List ℤ) → Exported s bs ns place 0 p bs′ ns′
       → (t : Spelling) → wellSpelt t ≡ true → s ≡ print t → Holding t bs ns bs′ ns′
   pub refuses-by :
-      (s bs : List ℕ) (ns : List ℤ) (n p : ℕ) (bs′ : List ℕ) (ns′ : List ℤ) → Exported s bs ns n p bs′ ns′ → (n ≡ 0 → ⊥)
+      (s bs : List ℕ) (ns : List ℤ) (place n p : ℕ) (bs′ : List ℕ) (ns′ : List ℤ) → Exported s bs ns place n p bs′ ns′ → (n ≡ 0 → ⊥)
       → ((tooShort bs ns ≡ true) × (n ≡ 13) × (p ≡ 0)) ⊎ ((tooShort bs ns ≡ false) × Refuses s n p)
   pub reads-back :
-      (s bs : List ℕ) (ns : List ℤ) (p : ℕ) (bs′ : List ℕ) (ns′ : List ℤ) → Exported s bs ns 0 p bs′ ns′
-      → (out : List ℕ) (n long : ℕ) (out′ : List ℕ) → Written bs′ ns′ out n long out′ → length s ≤ length out → EnteredC s bs′ ns′ out n long out′
+      (s bs : List ℕ) (ns : List ℤ) (place p : ℕ) (bs′ : List ℕ) (ns′ : List ℤ) → Exported s bs ns place 0 p bs′ ns′
+      → (out : List ℕ) (count n long : ℕ) (out′ : List ℕ) → Written bs′ ns′ out count n long out′ → length s ≤ length out → EnteredC s bs′ ns′ out n long out′
   pub one-entry :
       (s bs : List ℕ) (ns : List ℤ) (bs₁ : List ℕ) (ns₁ : List ℤ) (out₁ : List ℕ) (m : ℕ) → FiledC s bs ns bs₁ ns₁ out₁ m
       → (t cs : List ℕ) (ms : List ℤ) (bs₂ : List ℕ) (ns₂ : List ℤ) (out₂ : List ℕ) (n : ℕ) → FiledC t cs ms bs₂ ns₂ out₂ n
       → take m out₁ ≡ take n out₂ ↔ (tablesIn bs₁ ns₁ ≡ tablesIn bs₂ ns₂)
   pub demand-3 :
-      (s bs : List ℕ) (ns : List ℤ) (p : ℕ) (bs′ : List ℕ) (ns′ : List ℤ) → Exported s bs ns 0 p bs′ ns′ → Demand3C bs′ ns′
+      (s bs : List ℕ) (ns : List ℤ) (place p : ℕ) (bs′ : List ℕ) (ns′ : List ℤ) → Exported s bs ns place 0 p bs′ ns′ → Demand3C bs′ ns′

@@ -14,7 +14,7 @@ use lib.ListN.{length}
 use Rattle.scope.specs.declared.answers.Read.{Read}
 use Rattle.scope.specs.declared.answers.Read.the-variants.{Accepted, Refused as readRefused}
 use Rattle.scope.specs.Line.{Line}
-use Rattle.scope.specs.Lists.{laid}
+use Rattle.scope.specs.Lists.{laid, tabled}
 use Rattle.scope.specs.Reading.{Reading, stuck, holds, reading}
 use Rattle.scope.specs.Refusals.{refusal4, Due, due, Outcome, accepted, refused, byteRefusals, outcome}
 use Rattle.scope.specs.Tables.{tablesOf, bytesOf, numbersOf}
@@ -28,7 +28,8 @@ use Rattle.laws.specs.Demands as laws
 use Rattle.laws.specs.Proved.{demands}
 use Rattle.reader.specs.ReadSays.{ReadSays}
 use Rattle.reader.proofs.Reading.{accepted-is}
-use Rattle.promises.specs.Promises.{Reader, ExactlyOne, AnswersLines, TurnedAway, Holding, Accepting}
+use Rattle.promises.specs.Promises.{Reader, ExactlyOne, Answered, Nothing, VerdictSays, AnswersLines, TurnedAway, Holding, Accepting}
+use Rattle.promises.specs.Answering.{alone, among-numbers}
 use Rattle.promises.specs.Said.{not-both, same-number, same-place, read-same}
 
 -- ---- after a successful read
@@ -163,6 +164,19 @@ answered s bs ns r bs′ ns′ w = go (readOutcome bs ns s) refl
           bytes = w .bytes-after ∙ ap (λ z. bytesAfter z bs) e;
           numbers = w .numbers-after ∙ ap (λ z. numbersAfter z ns) e;
         })
+
+pub verdict : (s : List ℕ) → Answered (VerdictSays s) saysRead (tabled (λ n. n) 1 12) Nothing
+verdict s =
+    alone read-same
+    (record {
+      answer = readOf (outcome s);
+      says-so = says-of (outcome s);
+      number = λ n p q.
+          let z = said-12 s n p (outcome-refused (outcome s) q) in
+          let a = z .from-1 in
+          let b = z .to-most in
+          among-numbers 12 1 n a (omega (arith, b));
+    })
 
 pub answers-lines : AnswersLines ReadSays
 answers-lines = record { exactly-one = exactly-one; answered = answered }

@@ -21,7 +21,7 @@ int main(int argc, char **argv)
         return 1;
     }
     hwemiduk_floaters(bytes, HWEMIDUK_BYTES, numbers, HWEMIDUK_NUMBERS, &floaters);
-    hwemiduk_listing listing = HWEMIDUK_FRESH;
+    hwemiduk_listing listing = HWEMIDUK_LISTING;
     while (hwemiduk_next(bytes, HWEMIDUK_BYTES, numbers, HWEMIDUK_NUMBERS, &listing) == HWEMIDUK_OK) {
         printf("placement");
         for (size_t i = 0; i < floaters; i++)

@@ -15,7 +15,7 @@ from __future__ import annotations
 
 import ctypes
 import os
-from ctypes import POINTER, byref, c_bool, c_double, c_int64, c_size_t, c_uint8, c_uint64
+from ctypes import POINTER, byref, c_double, c_int64, c_size_t, c_uint8, c_uint64
 from pathlib import Path
 from typing import Any, Iterator, List, NamedTuple, Optional, Sequence, Tuple, Union
 
@@ -185,8 +185,12 @@ if (_TEXTS + LIMITS.line, LIMITS.brackets * (LIMITS.parts + 1)) != (LIMITS.bytes
     raise ImportError("the library's tables lie otherwise than this module reads them")
 
 
+#: The mark of a fresh listing; one that holds a placement has the mark 0.
+_FRESH = 1
+
+
 class _Listing(ctypes.Structure):
-    _fields_ = [("at", c_uint8 * LIMITS.copies), ("fresh", c_bool)]
+    _fields_ = [("at", c_uint8 * LIMITS.copies), ("mark", c_uint8)]
 
 
 _lib.hwemiduk_next.argtypes = (POINTER(c_uint8), c_size_t, POINTER(c_int64), c_size_t, POINTER(_Listing))
@@ -269,7 +273,7 @@ class Peptidoform:
 
     def placements(self) -> Iterator[Tuple[int, ...]]:
         """Every allowed placement once, in ascending order: the position of each floating copy, unused entries 0."""
-        listing = _Listing(fresh=True)
+        listing = _Listing(mark=_FRESH)
         while True:
             number = _lib.hwemiduk_next(*self._areas, byref(listing))
             if number == 17:

@@ -89,11 +89,21 @@ pub struct Site {
 #[repr(C)]
 pub struct Listing {
     pub at: [u8; 8],
-    pub fresh: bool,
+    pub mark: u8,
 }
 
 impl Listing {
-    pub const FRESH: Self = Self { at: [0; 8], fresh: true };
+    /// A fresh one.
+    pub const FRESH: Self = Self { at: [0; 8], mark: 1 };
+
+    /// An unmarked one that holds a placement.
+    pub const fn holding(at: [u8; 8]) -> Self {
+        Self { at, mark: 0 }
+    }
+
+    pub fn is_fresh(&self) -> bool {
+        self.mark == Self::FRESH.mark
+    }
 }
 
 /// The limits and sizes, which the library names.
@@ -154,12 +164,22 @@ pub fn read(line: &[u8], bytes: &mut [u8], numbers: &mut [i64]) -> Result<(), Re
     answer(number, place)
 }
 
+/// The answer of a call that leaves a place: success leaves what was lent for it, which is the largest.
 fn answer(number: u8, place: usize) -> Result<(), Refusal> {
     if number == 0 {
-        assert_eq!(place, 0, "success has place 0");
+        assert_eq!(place, usize::MAX, "success leaves the place as it was");
         Ok(())
     } else {
         Err(Refusal { number, place })
+    }
+}
+
+/// The answer of a call that leaves none.
+fn told(number: u8) -> Result<(), Refusal> {
+    if number == 0 {
+        Ok(())
+    } else {
+        Err(Refusal::new(number, 0))
     }
 }
 
@@ -183,11 +203,8 @@ type CountCall = unsafe extern "C" fn(*const u8, usize, *const i64, usize, *mut 
 fn count(call: CountCall, bytes: &[u8], numbers: &[i64]) -> Result<usize, Refusal> {
     let mut count = usize::MAX;
     let number = unsafe { call(bytes.as_ptr(), bytes.len(), numbers.as_ptr(), numbers.len(), &mut count) };
-    if number == 0 {
-        return Ok(count);
-    }
-    assert_eq!(count, 0, "a refusal counts none");
-    Err(Refusal::new(number, 0))
+    assert!(number == 0 || count == usize::MAX, "a refusal leaves the count as it was");
+    told(number).map(|()| count)
 }
 
 /// Writes the canonical line into an output of any length: how many bytes.
@@ -204,10 +221,13 @@ pub fn write(bytes: &[u8], numbers: &[i64], out: &mut [u8]) -> Result<usize, Ref
             &mut length,
         )
     };
-    if number == 0 {
-        Ok(length)
-    } else {
-        Err(Refusal::new(number, length))
+    match number {
+        0 => Ok(length),
+        15 => Err(Refusal::new(number, length)),
+        _ => {
+            assert_eq!(length, usize::MAX, "13 and 14 leave the length as it was");
+            Err(Refusal::new(number, 0))
+        }
     }
 }
 
@@ -225,7 +245,7 @@ pub fn total(bytes: &[u8], numbers: &[i64]) -> Result<i64, Refusal> {
             &mut place,
         )
     };
-    assert!(number == 0 || millionths == 0, "a refused total is 0");
+    assert!(number == 0 || millionths == i64::MIN, "a refusal leaves the total as it was");
     answer(number, place).map(|()| millionths)
 }
 
@@ -243,15 +263,15 @@ pub fn shown(bytes: &[u8], numbers: &[i64]) -> Display {
             &mut missing,
         )
     };
-    if number == 0 && missing == 0 {
+    if number != 0 {
+        assert!(daltons.is_nan() && missing == usize::MAX, "a refusal leaves both as they were");
+        return Display::Refused(number);
+    }
+    if missing == 0 {
         return Display::Daltons(daltons);
     }
     assert_eq!(daltons.to_bits(), 0, "where there is no mass, 0.0");
-    if number == 0 {
-        return Display::Missing(missing);
-    }
-    assert_eq!(missing, 0, "a refusal counts none");
-    Display::Refused(number)
+    Display::Missing(missing)
 }
 
 /// Whether a placement is an allowed one: the first entries of the slice count.
@@ -266,7 +286,7 @@ pub fn allowed(bytes: &[u8], numbers: &[i64], placement: &[u8]) -> Result<(), Re
             placement.len(),
         )
     };
-    answer(number, 0)
+    told(number)
 }
 
 /// Writes the ledger of a placement into the first entries.
@@ -302,11 +322,8 @@ pub fn rows(bytes: &[u8], numbers: &[i64], rows: &mut [Site]) -> Result<usize, R
             &mut count,
         )
     };
-    if number == 0 {
-        return Ok(count);
-    }
-    assert_eq!(count, 0, "a refusal counts none");
-    Err(Refusal::new(number, 0))
+    assert!(number == 0 || count == usize::MAX, "a refusal leaves the count as it was");
+    told(number).map(|()| count)
 }
 
 /// The index and the position of a floater's first row among the first n.
@@ -314,15 +331,12 @@ pub fn first_row(rows: &[Site], n: usize, floater: u8) -> Result<(usize, u8), Re
     let mut index = usize::MAX;
     let mut position = u8::MAX;
     let number = unsafe { hwemiduk_first_row(rows.as_ptr(), rows.len(), n, floater, &mut index, &mut position) };
-    if number == 0 {
-        return Ok((index, position));
-    }
-    assert_eq!((index, position), (0, 0), "a refusal finds none");
-    Err(Refusal::new(number, 0))
+    assert!(number == 0 || (index, position) == (usize::MAX, u8::MAX), "a refusal leaves both as they were");
+    told(number).map(|()| (index, position))
 }
 
 /// Moves a listing on to the next placement.
 pub fn next(bytes: &[u8], numbers: &[i64], listing: &mut Listing) -> Result<(), Refusal> {
     let number = unsafe { hwemiduk_next(bytes.as_ptr(), bytes.len(), numbers.as_ptr(), numbers.len(), listing) };
-    answer(number, 0)
+    told(number)
 }

@@ -1,5 +1,5 @@
 -- Requests in a row, from a fresh record on. A record is due the placements that it has yet to hand out (`Due`); each request hands out the first of them.
-use mathlib.Core.Path.{_≡_, refl, sym, ap, _∙_, subst}
+use mathlib.Core.Path.{_≡_, refl, sym, ap, _∙_}
 use mathlib.Core.Logic.{_⊎_, inl, inr}
 use mathlib.Core.Bool.{true}
 use mathlib.Core.Option.{Option, none, some}

@@ -1,7 +1,7 @@
 -- The promises of specs/Promises.antt are kept.
 use mathlib.Core.Path.{_≡_, refl, sym, ap, _∙_, subst}
 use mathlib.Core.Logic.{_↔_, _⊎_, inl, inr}
-use mathlib.Core.Bool.{Bool, true, false, cond, _&&_, _||_}
+use mathlib.Core.Bool.{Bool, true, false, cond}
 use mathlib.Core.Option.{Option, none, some}
 use mathlib.Core.List.{List, [], _∷_, _++_}
 use Prim.Native.Nat.{ℕ, zero, suc, _+_, _≤_}
@@ -25,15 +25,15 @@ use Rattle.scope.specs.declared.answers.Listing.{Listing}
 use Rattle.scope.specs.declared.answers.Ledger.{Ledger}
 use Rattle.scope.specs.Limits.{copyLimit}
 use Rattle.scope.specs.Line.{Line}
-use Rattle.scope.specs.Lists.{all, laid}
+use Rattle.scope.specs.Lists.{given, laid}
 use Rattle.scope.specs.Reading.{Reading, stuck, holds, reading}
 use Rattle.scope.specs.Refusals.{refusal4, Due, due, Outcome, accepted, refused, byteRefusals, outcome}
 use Rattle.scope.specs.Canonical.{canonical}
 use Rattle.scope.specs.Tables.{Tables, tablesOf, bytesOf, numbersOf, tablesIn}
 use Rattle.scope.specs.Positions.{floaters, permittedPositions}
-use Rattle.scope.specs.Placements.{allowed, placements, firstPlacement, nextPlacement, freshListing, Listed, handed, notAllowed, requested}
+use Rattle.scope.specs.Placements.{allowed, placements, noMark, freshListing}
 use Rattle.scope.specs.Masses.{sum, total, lacking, ledger, labileMass}
-use Rattle.scope.specs.Answers.{Said, good, refuses, saysRead, saysWrite, saysRequest, saysBooked, saysNumber, tooShort, areTables, readOutcome, saysOutcome, bytesAfter, numbersAfter, fitting, writes, outputAfter, requests, listingAfter, allows, totals, weighed, bookable, books, entries}
+use Rattle.scope.specs.Answers.{Said, good, refuses, saysRead, saysWrite, saysRequest, saysBooked, met, tooShort, areTables, readOutcome, saysOutcome, bytesAfter, numbersAfter, fitting, writes, outputAfter, requested, movedOn, requests, allows, totals, weighed, books, entries}
 use Rattle.reading_laws.specs.Laws.{placeOf, behind, dues}
 use Rattle.reading_laws.specs.Proved as reads
 use Rattle.scope.specs.Grammar.{Spelling, print, good as wellSpelt, means}
@@ -46,9 +46,10 @@ use Rattle.laws.specs.Demands as laws
 use Rattle.laws.specs.Proved.{demands}
 use Rattle.reader.specs.ReadSays.{ReadSays}
 use Rattle.reader.proofs.Reading.{accepted-is}
-use Rattle.calls.specs.declared.Next.{Next}
+use Rattle.placements.specs.declared.Next.{Next}
 use Rattle.calls.specs.Writing.{WriteSays}
-use Rattle.promises.specs.Promises.{NextSays, AllowedSays, TotalSays, LedgerSays, Reader, Answer, TurnedAway, Demand1, Holding, Accepting, Entered, HandsOut, Demand2, Demand3, Promises}
+use Rattle.calls.specs.Says.{NextSays, AllowedSays, TotalSays, LedgerSays}
+use Rattle.promises.specs.Promises.{Reader, Answer, TurnedAway, Demand1, Holding, Accepting, Entered, HandsOut, Demand2, Demand3, Promises}
 
 -- ---- an answer from what it says
 not-good : {A : Type 0} {a : A} {n p : ℕ} → good a ≡ refuses n p → ⊥
@@ -80,17 +81,6 @@ booked-good (bookedRefused n p) e = absurd (not-good (sym e))
 request-refused : (r : Request) (n : ℕ) → saysRequest r ≡ refuses n 0 → r ≡ Refused n
 request-refused Met n e = absurd (not-good e)
 request-refused (Refused m) n e = let z : m ≡ n = cc in ap Refused z
-
--- the answer with a number
-abbrev requestOf : ℕ → Request
-requestOf n = cond (eqb n 0) Met (Refused n)
-
-saysRequest-of : (n : ℕ) → saysRequest (requestOf n) ≡ saysNumber n
-saysRequest-of n = go (eqb n 0)
-  where
-    go : (b : Bool) → saysRequest (cond b Met (Refused n)) ≡ cond b (good (tt {0})) (refuses n 0)
-    go true = refl
-    go false = refl
 
 -- ---- a list at a place, and at its end
 past-end : (l : List (List ℕ)) (n : ℕ) → length l ≤ n → (getElem? l n ≡ none) × (drop n l ≡ [])
@@ -381,44 +371,23 @@ one-entry bs ns s bs₁ ns₁ r₁ t bs₂ ns₂ r₂ out out₁ m w₁ out′ o
     )
 
 -- ---- demand 3: requests
-number-met : (n : ℕ) → good (tt {0}) ≡ saysNumber n → n ≡ 0
-number-met n e = go (eqb n 0) (eqb-true n 0) e
-  where
-    go : (b : Bool) → (b ≡ true → n ≡ 0) → good (tt {0}) ≡ cond b (good (tt {0})) (refuses n 0) → n ≡ 0
-    go true f q = f refl
-    go false f q = absurd (not-good q)
+-- what is said of a request, from its answer
+met-good : (a : Said (List ℕ)) → good (tt {0}) ≡ met a → (p : List ℕ) × (a ≡ good p)
+met-good (good p) e = (p, refl)
+met-good (refuses n k) e = absurd (not-good e)
 
-number-refused : (n m : ℕ) → refuses m 0 ≡ saysNumber n → n ≡ m
-number-refused n m e = go (eqb n 0) e
-  where
-    go : (b : Bool) → refuses m 0 ≡ cond b (good (tt {0})) (refuses n 0) → n ≡ m
-    go true q = absurd (not-good (sym q))
-    go false q = cc
+met-refused : (a : Said (List ℕ)) (n k : ℕ) → refuses n k ≡ met a → a ≡ refuses n k
+met-refused (good p) n k e = absurd (not-good (sym e))
+met-refused (refuses m j) n k e =
+    let x : m ≡ n = cc in
+    let y : j ≡ k = cc in
+    ap (λ z. refuses z j) x ∙ ap (refuses n) y
 
--- a request that finds none leaves the record
-handed-stays : (l : Listing) (o : Option (List ℕ)) → handed l o .number ≡ 17 → handed l o .after ≡ l
-handed-stays l none e = refl
-handed-stays l (some p) e = absurd (omega arith)
-
-requested-stays : (l : Listing) (a b c : Bool) (o q : Option (List ℕ))
-    → cond a (cond b (handed l o) (notAllowed l)) (cond c (handed l q) (notAllowed l)) .number ≡ 17
-    → cond a (cond b (handed l o) (notAllowed l)) (cond c (handed l q) (notAllowed l)) .after ≡ l
-requested-stays l true true c o q e = handed-stays l o e
-requested-stays l true false c o q e = refl
-requested-stays l false b true o q e = handed-stays l q e
-requested-stays l false b false o q e = refl
-
-stays : (qs : List (List ℕ)) (l : Listing) → requested qs l .number ≡ 17 → requested qs l .after ≡ l
-unfolding requested
-stays qs l e =
-    requested-stays l (l .fresh) (eqb (length (l .at)) copyLimit && all (eqb 0) (l .at)) (allowed qs (l .at)) (firstPlacement qs) (nextPlacement qs (l .at)) e
-
-none-further : (qs : List (List ℕ)) (l : Listing) → requested qs l .number ≡ 17 → (n : ℕ) → handedOut qs n l ≡ []
+-- a request that is refused leaves the record, and so are those behind it
+none-further : (qs : List (List ℕ)) (l : Listing) → requested qs l ≡ refuses 17 0 → (n : ℕ) → handedOut qs n l ≡ []
 unfolding handedOut
 none-further qs l e zero = refl
-none-further qs l e (suc n) =
-    ap (λ m. cond (eqb m 0) (requested qs l .after .at ∷ []) [] ++ handedOut qs n (requested qs l .after)) e
-    ∙ ap (handedOut qs n) (stays qs l e) ∙ none-further qs l e n
+none-further qs l e (suc n) = ap (λ a. outOf a ++ handedOut qs n (movedOn l a)) e ∙ none-further qs l e n
 
 -- over areas that hold tables a request is answered by the definition
 pub record Taken (bs : List ℕ) (ns : List ℤ) : Type 0 where
@@ -432,11 +401,8 @@ module _ (bs : List ℕ) (ns : List ℤ) (h : Taken bs ns) where
   abbrev qs : List (List ℕ)
   qs = permittedPositions t
 
-  requests-so : (l : Listing) → requests bs ns l ≡ saysNumber (requested qs l .number)
+  requests-so : (l : Listing) → requests bs ns l ≡ requested qs l
   requests-so l = rw (h .long-enough, h .taken)
-
-  after-so : (l : Listing) → listingAfter bs ns l ≡ requested qs l .after
-  after-so l = rw (h .long-enough, h .taken)
 
   allows-so : (p : List ℕ) → allows bs ns p ≡ cond (allowed qs p) (good (tt {0})) (refuses 18 0)
   allows-so p = rw (h .long-enough, h .taken)
@@ -451,22 +417,23 @@ module _ (bs : List ℕ) (ns : List ℤ) (h : Taken bs ns) where
       go true q = refl
       go false q = absurd (not-good q)
 
-  number-17 : (l : Listing) (r : Next) → NextSays bs ns l r → r .request ≡ Refused 17 → requested qs l .number ≡ 17
-  number-17 l r w e = number-refused (requested qs l .number) 17 (ap saysRequest (sym e) ∙ w .0 ∙ requests-so l)
+  said-17 : (l : Listing) (r : Next) → NextSays bs ns l r → r .request ≡ Refused 17 → requested qs l ≡ refuses 17 0
+  said-17 l r w e = met-refused (requested qs l) 17 0 (ap saysRequest (sym e) ∙ w .0 ∙ ap met (requests-so l))
 
-  number-0 : (l : Listing) (r : Next) → NextSays bs ns l r → r .request ≡ Met → requested qs l .number ≡ 0
-  number-0 l r w e = number-met (requested qs l .number) (ap saysRequest (sym e) ∙ w .0 ∙ requests-so l)
+  said-met : (l : Listing) (r : Next) → NextSays bs ns l r → r .request ≡ Met → requested qs l ≡ good (r .listing .at)
+  said-met l r w e =
+      let z = met-good (requested qs l) (ap saysRequest (sym e) ∙ w .0 ∙ ap met (requests-so l)) in
+      z .1 ∙ ap (λ x. good (x .at)) (sym (w .1 ∙ ap (movedOn l) (requests-so l ∙ z .1)))
 
   -- what is handed out until 17 is what as many requests hand out, or more
   handed-so : (ps : List (List ℕ)) (l : Listing) → HandsOut bs ns l ps → (n : ℕ) → length ps ≤ n → handedOut qs n l ≡ ps
   unfolding handedOut
-  handed-so [] l w n k = none-further qs l (number-17 l (w .0) (w .1 .0) (w .1 .1)) n
+  handed-so [] l w n k = none-further qs l (said-17 l (w .0) (w .1 .0) (w .1 .1)) n
   handed-so (p ∷ ps) l w zero k = absurd (omega arith)
   handed-so (p ∷ ps) l w (suc n) k =
-      let e = number-0 l (w .0) (w .1 .0) (w .1 .1 .0) in
-      let f : w .0 .listing ≡ requested qs l .after = w .1 .0 .1 ∙ after-so l in
-      ap (λ m. cond (eqb m 0) (requested qs l .after .at ∷ []) [] ++ handedOut qs n (requested qs l .after)) e
-      ∙ ap (λ x. x .at ∷ handedOut qs n x) (sym f)
+      let moved : movedOn l (requested qs l) ≡ w .0 .listing = sym (w .1 .0 .1 ∙ ap (movedOn l) (requests-so l)) in
+      ap (λ a. outOf a ++ handedOut qs n (movedOn l (requested qs l))) (said-met l (w .0) (w .1 .0) (w .1 .1 .0))
+      ∙ ap (λ x. w .0 .listing .at ∷ handedOut qs n x) moved
       ∙ ap (λ x. x ∷ handedOut qs n (w .0 .listing)) (w .1 .1 .1 .0)
       ∙ ap (λ x. p ∷ x) (handed-so ps (w .0 .listing) (w .1 .1 .1 .1) n (omega arith))
 
@@ -509,55 +476,41 @@ module _ (bs : List ℕ) (ns : List ℤ) (h : Taken bs ns) where
   none-exists : (r : Next) → NextSays bs ns freshListing r → (r .request ≡ Refused 17) ↔ ((p : Placement) → AllowedSays bs ns p Met → ⊥)
   none-exists r w =
       let d = demands .demand-3-in bs ns (h .taken) .none-at-first in (
-        (λ e p a. d .0 (number-17 freshListing r w e) (p .at) (allowed-by (p .at) a)),
+        (λ e p a. d .0 (said-17 freshListing r w e) (p .at) (allowed-by (p .at) a)),
         (λ f.
-            let e : requested qs freshListing .number ≡ 17 = d .1 (λ p a. f (record { at = p }) (met-by (record { at = p }) a)) in
-            request-refused (r .request) 17 (w .0 ∙ requests-so freshListing ∙ ap saysNumber e)),
+            let e : requested qs freshListing ≡ refuses 17 0 = d .1 (λ p a. f (record { at = p }) (met-by (record { at = p }) a)) in
+            request-refused (r .request) 17 (w .0 ∙ ap met (requests-so freshListing ∙ e))),
       )
 
   -- ---- the requests end
   few : length qs ≤ copyLimit
   few = rw (placing.line-many t) (tables-held bs ns (h .taken) .1 .tables-within .few-copies)
 
-  -- the answer of a call, from what is requested
-  abbrev answerOf : Listing → Next
-  answerOf l = record { request = requestOf (requested qs l .number); listing = requested qs l .after }
+  -- an answer of the call, from what is said
+  answered-so : (l : Listing) (a : Said (List ℕ)) (r : Request) → requested qs l ≡ a → saysRequest r ≡ met a → NextSays bs ns l (record { request = r; listing = movedOn l a })
+  answered-so l a r q e = let s = sym (requests-so l ∙ q) in (e ∙ ap met s, ap (movedOn l) s)
 
-  answered-so : (l : Listing) → NextSays bs ns l (answerOf l)
-  answered-so l = (saysRequest-of (requested qs l .number) ∙ sym (requests-so l), sym (after-so l))
-
-  requested-nth : (n : ℕ) → requested qs (afterRequests qs n freshListing) ≡ handed (afterRequests qs n freshListing) (getElem? (placements qs) n)
-  requested-nth n = placing.request qs few (placing.line-rising t) n
-
-  after-next : (n : ℕ) (l : Listing) → afterRequests qs (suc n) l ≡ requested qs (afterRequests qs n l) .after
+  after-next : (n : ℕ) (l : Listing) → afterRequests qs (suc n) l ≡ movedOn (afterRequests qs n l) (requested qs (afterRequests qs n l))
   unfolding afterRequests
   after-next zero l = refl
-  after-next (suc n) l = after-next n (requested qs l .after)
+  after-next (suc n) l = after-next n (movedOn l (requested qs l))
+
+  requested-nth : (n : ℕ) {o : Option (List ℕ)} → getElem? (placements qs) n ≡ o → requested qs (afterRequests qs n freshListing) ≡ given o good (refuses 17 0)
+  requested-nth n e = placing.request qs few (placing.line-rising t) n ∙ ap (λ o. given o good (refuses 17 0)) e
 
   -- from the record after n requests on
   handed-from : (k n : ℕ) → length (placements qs) ≡ n + k → HandsOut bs ns (afterRequests qs n freshListing) (drop n (placements qs))
   handed-from zero n e =
       let l = afterRequests qs n freshListing in
       let p = past-end (placements qs) n (omega arith) in
-      subst (HandsOut bs ns l) (sym (p .1))
-      (answerOf l, (answered-so l, ap (λ a. requestOf (a .number)) (requested-nth n ∙ ap (handed l) (p .0))))
+      subst (HandsOut bs ns l) (sym (p .1)) (record { request = Refused 17; listing = l }, (answered-so l (refuses 17 0) (Refused 17) (requested-nth n (p .0)) refl, refl))
   handed-from (suc k) n e =
       let l = afterRequests qs n freshListing in
       let p = at-place (placements qs) n (omega arith) in
-      let q = requested-nth n ∙ ap (handed l) (p .0) in
-      subst (HandsOut bs ns l) (sym (p .1)) (
-        answerOf l,
-        (
-          answered-so l,
-          (
-            ap (λ a. requestOf (a .number)) q,
-            (
-              ap (λ a. a .after .at) q,
-              subst (λ x. HandsOut bs ns x (drop (suc n) (placements qs))) (after-next n freshListing) (handed-from k (suc n) (omega arith)),
-            ),
-          ),
-        ),
-      )
+      let x = getD (placements qs) n [] in
+      let q = requested-nth n (p .0) in
+      let next = subst (λ y. HandsOut bs ns y (drop (suc n) (placements qs))) (after-next n freshListing ∙ ap (movedOn l) q) (handed-from k (suc n) (omega arith)) in
+      subst (HandsOut bs ns l) (sym (p .1)) (record { request = Met; listing = record { at = x; mark = noMark } }, (answered-so l (good x) Met q refl, (refl, (refl, next))))
 
   ends : (ps : List (List ℕ)) × HandsOut bs ns freshListing ps
   unfolding afterRequests

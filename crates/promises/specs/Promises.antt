@@ -11,10 +11,8 @@ use Rattle.scope.specs.declared.answers.Read.{Read}
 use Rattle.scope.specs.declared.answers.Read.the-variants.{Accepted, Refused as readRefused}
 use Rattle.scope.specs.declared.answers.Write.{Write}
 use Rattle.scope.specs.declared.answers.Write.the-variants.{Written}
-use Rattle.scope.specs.declared.answers.Request.{Request}
 use Rattle.scope.specs.declared.answers.Request.the-variants.{Met, Refused}
 use Rattle.scope.specs.declared.answers.Booked.the-variants.{Done}
-use Rattle.scope.specs.declared.answers.Total.{Total}
 use Rattle.scope.specs.declared.answers.Total.the-variants.{Millionths}
 use Rattle.scope.specs.declared.answers.Placement.{Placement}
 use Rattle.scope.specs.declared.answers.Listing.{Listing}
@@ -24,26 +22,14 @@ use Rattle.scope.specs.Tables.{tablesOf, bytesOf, numbersOf, tablesIn}
 use Rattle.scope.specs.Lists.{laid}
 use Rattle.scope.specs.Placements.{freshListing}
 use Rattle.scope.specs.Masses.{sum, labileMass}
-use Rattle.scope.specs.Answers.{tooShort, saysRequest, saysTotal, saysBooked, requests, listingAfter, allows, totals, books, entries}
+use Rattle.scope.specs.Answers.{tooShort}
 use Rattle.scope.specs.Grammar.{Spelling, print, good, means}
 use Rattle.grammar_laws.specs.Laws.{Accepts, Refuses}
 use Rattle.placement_laws.specs.Terms.{In, Ascending}
 use Rattle.reader.specs.ReadSays.{ReadSays}
-use Rattle.calls.specs.declared.Next.{Next}
+use Rattle.placements.specs.declared.Next.{Next}
 use Rattle.calls.specs.Writing.{WriteSays}
-
--- ---- what the other calls ensure
-abbrev pub NextSays : List ℕ → List ℤ → Listing → Next → Type 0
-NextSays bs ns l r = (saysRequest (r .request) ≡ requests bs ns l) × (r .listing ≡ listingAfter bs ns l)
-
-abbrev pub AllowedSays : List ℕ → List ℤ → Placement → Request → Type 0
-AllowedSays bs ns p r = saysRequest r ≡ allows bs ns (p .at)
-
-abbrev pub TotalSays : List ℕ → List ℤ → Total → Type 0
-TotalSays bs ns r = saysTotal r ≡ totals bs ns
-
-abbrev pub LedgerSays : List ℕ → List ℤ → Placement → Ledger → Type 0
-LedgerSays bs ns p r = (saysBooked (r .booked) ≡ books bs ns (p .at)) × (r .at ≡ entries (books bs ns (p .at)) (tablesIn bs ns) (p .at))
+use Rattle.calls.specs.Says.{NextSays, AllowedSays, TotalSays, LedgerSays}
 
 -- ---- reading
 -- what a reader says of a line, two areas, its answer, and the areas afterwards. What follows is stated of any, and promised of `ReadSays`.

@@ -4,6 +4,7 @@
  */
 #include <hwemiduk.h>
 #include <inttypes.h>
+#include <stdbool.h>
 #include <stdio.h>
 #include <stdlib.h>
 #include <string.h>
@@ -73,13 +74,13 @@ static void rows(const uint8_t *bytes, const int64_t *numbers, size_t floaters)
     size_t count;
     expect(hwemiduk_rows(TABLES, row, limits.rows, &count) == HWEMIDUK_OK, "there are rows");
     for (size_t floater = 0; floater <= floaters + 1; floater++) {
-        size_t first = 0, index;
-        uint8_t position;
+        size_t first = 0, index = limits.rows;
+        uint8_t position = JUNK;
         while (first < count && row[first].floater != floater)
             first++;
         uint8_t answer = hwemiduk_first_row(row, limits.rows, count, (uint8_t)floater, &index, &position);
         if (first == count)
-            expect(answer == HWEMIDUK_NO_FURTHER && index == 0 && position == 0, "no such row");
+            expect(answer == HWEMIDUK_NO_FURTHER && index == limits.rows && position == JUNK, "no such row, and nothing is set");
         else
             expect(answer == HWEMIDUK_OK && index == first && position == row[first].position, "the first row");
     }
@@ -93,11 +94,11 @@ static void placements(const uint8_t *bytes, const int64_t *numbers, bool has_to
     uint8_t *placement = (uint8_t *)room(limits.copies);
     int64_t *entries = (int64_t *)room(limits.positions * sizeof *entries);
     size_t place;
-    const hwemiduk_listing fresh = HWEMIDUK_FRESH;
+    const hwemiduk_listing fresh = HWEMIDUK_LISTING;
     *listing = fresh;
     for (int i = 0; i < 3 && hwemiduk_next(TABLES, listing) == HWEMIDUK_OK; i++) {
         memcpy(placement, listing->at, limits.copies);
-        expect(!listing->fresh, "a listing moved on is not fresh");
+        expect(listing->mark == HWEMIDUK_UNMARKED, "a listing moved on is unmarked");
         expect(hwemiduk_allowed(TABLES, placement, limits.copies) == HWEMIDUK_OK, "a placement handed out is allowed");
         uint8_t answer = hwemiduk_ledger(TABLES, placement, limits.copies, entries, limits.positions, &place);
         expect(answer == (has_total ? HWEMIDUK_OK : HWEMIDUK_NO_MASS), "a ledger where there is a total");
@@ -107,6 +108,9 @@ static void placements(const uint8_t *bytes, const int64_t *numbers, bool has_to
     memset(listing->at, JUNK, limits.copies);
     expect(hwemiduk_allowed(TABLES, placement, limits.copies) == HWEMIDUK_NOT_ALLOWED, "junk is no placement");
     expect(hwemiduk_next(TABLES, listing) == HWEMIDUK_NOT_ALLOWED && is_junk(listing->at, limits.copies), "junk is no listing, and stays");
+    *listing = fresh;
+    listing->mark = JUNK;
+    expect(hwemiduk_next(TABLES, listing) == HWEMIDUK_NOT_ALLOWED && listing->mark == JUNK, "a mark of another byte is no listing, and stays");
     free(entries);
     free(placement);
     free(listing);
@@ -115,7 +119,7 @@ static void placements(const uint8_t *bytes, const int64_t *numbers, bool has_to
 /* Any content of the areas: every call agrees whether it is tables. */
 static void any_content(const uint8_t *bytes, const int64_t *numbers)
 {
-    hwemiduk_listing listing = HWEMIDUK_FRESH;
+    hwemiduk_listing listing = HWEMIDUK_LISTING;
     hwemiduk_site *row = (hwemiduk_site *)room(limits.rows * sizeof *row);
     uint8_t *out = (uint8_t *)room(limits.line), *placement = (uint8_t *)room(limits.copies);
     int64_t *entries = (int64_t *)room(limits.positions * sizeof *entries), total;
@@ -161,8 +165,8 @@ static void changed(uint8_t *bytes, int64_t *numbers)
 
 static void accepted(uint8_t *bytes, int64_t *numbers)
 {
-    size_t residues, brackets, floaters, without, missing;
-    int64_t total;
+    size_t residues, brackets, floaters, without = 0, missing;
+    int64_t total = 0;
     double daltons;
     expect(hwemiduk_residues(TABLES, &residues) == HWEMIDUK_OK, "residues");
     expect(hwemiduk_brackets(TABLES, &brackets) == HWEMIDUK_OK, "brackets");
@@ -187,7 +191,7 @@ static void take(const uint8_t *start, size_t length)
     uint8_t *line = (uint8_t *)room(length);
     uint8_t *bytes = (uint8_t *)room(limits.bytes);
     int64_t *numbers = (int64_t *)room(limits.numbers * sizeof *numbers);
-    size_t place, read_place;
+    size_t place = 0, read_place = 0;
     memcpy(line, start, length);
     uint8_t refusal = hwemiduk_verdict(line, length, &place);
     expect(hwemiduk_read(line, length, TABLES, &read_place) == refusal && read_place == place, "reading answers what the verdict is");
@@ -205,30 +209,31 @@ static void take(const uint8_t *start, size_t length)
 /* Every call over areas one element short, and every other slice one short: 13, and nothing is touched. */
 static void short_areas(size_t bytes_len, size_t numbers_len, size_t copies, size_t positions, size_t rows_len)
 {
-    uint8_t *bytes = (uint8_t *)room(bytes_len), *placement = (uint8_t *)room(copies), position, line = 'A';
-    int64_t *numbers = (int64_t *)room(numbers_len * sizeof *numbers), *entries = (int64_t *)room(positions * sizeof *entries), total;
+    uint8_t *bytes = (uint8_t *)room(bytes_len), *placement = (uint8_t *)room(copies), position = JUNK, line = 'A';
+    int64_t *numbers = (int64_t *)room(numbers_len * sizeof *numbers), *entries = (int64_t *)room(positions * sizeof *entries), total = JUNK;
     hwemiduk_site *row = (hwemiduk_site *)room(rows_len * sizeof *row);
-    hwemiduk_listing listing = HWEMIDUK_FRESH;
-    size_t count;
-    double daltons;
+    hwemiduk_listing listing = HWEMIDUK_LISTING;
+    size_t count = JUNK, place;
+    double daltons = JUNK;
     bool tables = bytes_len < limits.bytes || numbers_len < limits.numbers;
     memset(entries, JUNK, positions * sizeof *entries);
     memset(row, JUNK, rows_len * sizeof *row);
 #define SHORT bytes, bytes_len, numbers, numbers_len
 #define THIRTEEN(when, call) expect(!(when) || (call) == HWEMIDUK_SHORT_AREA, #call)
-    THIRTEEN(tables, hwemiduk_read(&line, 1, SHORT, &count));
+    THIRTEEN(tables, hwemiduk_read(&line, 1, SHORT, &place));
     THIRTEEN(tables, hwemiduk_write(SHORT, placement, copies, &count));
     THIRTEEN(tables, hwemiduk_residues(SHORT, &count));
     THIRTEEN(tables, hwemiduk_brackets(SHORT, &count));
     THIRTEEN(tables, hwemiduk_floaters(SHORT, &count));
-    THIRTEEN(tables, hwemiduk_total(SHORT, &total, &count));
+    THIRTEEN(tables, hwemiduk_total(SHORT, &total, &place));
     THIRTEEN(tables, hwemiduk_shown(SHORT, &daltons, &count));
     THIRTEEN(tables, hwemiduk_next(SHORT, &listing));
     THIRTEEN(tables || copies < limits.copies, hwemiduk_allowed(SHORT, placement, copies));
-    THIRTEEN(tables || copies < limits.copies || positions < limits.positions, hwemiduk_ledger(SHORT, placement, copies, entries, positions, &count));
+    THIRTEEN(tables || copies < limits.copies || positions < limits.positions, hwemiduk_ledger(SHORT, placement, copies, entries, positions, &place));
     THIRTEEN(tables || rows_len < limits.rows, hwemiduk_rows(SHORT, row, rows_len, &count));
     THIRTEEN(rows_len < limits.rows, hwemiduk_first_row(row, rows_len, rows_len, 1, &count, &position));
     expect(is_junk(entries, positions * sizeof *entries) && is_junk(row, rows_len * sizeof *row), "13 changes nothing");
+    expect(count == JUNK && total == JUNK && daltons == JUNK && position == JUNK, "13 sets nothing");
     free(row);
     free(entries);
     free(numbers);

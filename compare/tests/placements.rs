@@ -54,7 +54,7 @@ fn request(lent: &Lent, listing: &mut Listing) -> Result<Placement, Refusal> {
     let answer = proved::next(&lent.bytes, &lent.numbers, listing);
     match answer {
         Ok(()) => {
-            assert!(!listing.fresh);
+            assert_eq!(listing.mark, 0);
             Ok(listing.at)
         }
         Err(refusal) => {
@@ -161,7 +161,7 @@ fn last_placement() {
     let lent = Lent::of(&read(b"A").unwrap());
     let mut listing = Listing::FRESH;
     assert_eq!(request(&lent, &mut listing), Ok(NONE));
-    assert_eq!(listing, Listing { at: NONE, fresh: false });
+    assert_eq!(listing, Listing::holding(NONE));
     assert_eq!(request(&lent, &mut listing), Err(SEVENTEEN));
 }
 
@@ -185,11 +185,11 @@ fn any_record() {
                 at[random.below(8)] = random.below(held.residues.len() + 3) as u8;
             }
             let fresh = random.chance(15);
-            let mut listing = Listing { at, fresh };
+            let mut listing = Listing { at, mark: u8::from(fresh) };
             let mut ours = positions::Listing { fresh, placement: at };
             let answer = request(&lent, &mut listing);
             assert_eq!(answer, ours.request(&floaters), "{} {at:?}", shown(line));
-            assert_eq!((listing.fresh, listing.at), (ours.fresh, ours.placement), "{} {at:?}", shown(line));
+            assert_eq!((listing.mark, listing.at), (u8::from(ours.fresh), ours.placement), "{} {at:?}", shown(line));
             met[answer.err().map_or(0, |refusal| usize::from(refusal.number))] += 1;
             let expected = if is_allowed(&floaters, &at) { Ok(()) } else { Err(EIGHTEEN) };
             assert_eq!(proved::allowed(&lent.bytes, &lent.numbers, &at), expected, "{} {at:?}", shown(line));
@@ -198,6 +198,17 @@ fn any_record() {
     for_crowded(43, 15_000, 12, &mut check);
     for_generated(44, 20_000, &mut check);
     assert!(met[0] > share(5_000) && met[17] > share(2_000) && met[18] > share(20_000), "{met:?}");
+}
+
+/// A mark of any other byte gets 18, whatever the entries, and stays.
+#[test]
+fn any_mark() {
+    let lent = Lent::of(&read(b"[+1]^2?AC").unwrap());
+    for mark in 2..=255 {
+        for at in [NONE, [1, 2, 0, 0, 0, 0, 0, 0]] {
+            assert_eq!(request(&lent, &mut Listing { at, mark }), Err(EIGHTEEN));
+        }
+    }
 }
 
 /// Every pair of positions, and every unused entry, on a line with two floaters.
@@ -212,7 +223,7 @@ fn every_record_of_two_floaters() {
             for two in (0..10).chain([127, 128, 254, 255]) {
                 for unused in [0, 1] {
                     let at = [one, two, 0, 0, 0, 0, 0, unused];
-                    let mut listing = Listing { at, fresh: false };
+                    let mut listing = Listing::holding(at);
                     let expected = match allowed.iter().position(|way| *way == at) {
                         None => Err(EIGHTEEN),
                         Some(index) => allowed.get(index + 1).copied().ok_or(SEVENTEEN),
@@ -252,13 +263,13 @@ fn requests_are_quick() {
             let before = listing;
             let (time, answer) = timed(&lent, &mut listing);
             worst = worst.max(time);
-            let expected = if before.fresh {
+            let expected = if before.is_fresh() {
                 positions::first_placement(&floaters)
             } else {
                 next_placement(&floaters, &before.at)
             };
             assert_eq!(answer, expected.ok_or(SEVENTEEN), "{line}");
-            if before.fresh {
+            if before.is_fresh() {
                 first += usize::from(answer.is_ok());
                 none += usize::from(answer.is_err());
             }
@@ -271,7 +282,7 @@ fn requests_are_quick() {
                 let high = random.chance(60);
                 *entry = if positions.is_empty() { 0 } else { positions[if high { positions.len() - 1 - random.below(positions.len().min(9)) } else { random.below(positions.len()) }] };
             }
-            let mut listing = Listing { at, fresh: false };
+            let mut listing = Listing::holding(at);
             let (time, answer) = timed(&lent, &mut listing);
             worst = worst.max(time);
             let expected = if is_allowed(&floaters, &at) { next_placement(&floaters, &at).ok_or(SEVENTEEN) } else { Err(EIGHTEEN) };
@@ -292,9 +303,9 @@ fn plain_to_see() {
     assert_eq!(first(format!("[+1]^7?{free}(A)[+2]")), Ok([1, 2, 3, 4, 5, 6, 7, 254]));
     assert_eq!(first("[+1]^8?AAAAAAA".to_owned()), Err(SEVENTEEN));
     let lent = Lent::of(&read(format!("[+1]^8?A{free}").as_bytes()).unwrap());
-    let mut last = Listing { at: [254, 253, 252, 251, 250, 249, 248, 247], fresh: false };
+    let mut last = Listing::holding([254, 253, 252, 251, 250, 249, 248, 247]);
     assert_eq!(request(&lent, &mut last), Err(SEVENTEEN));
-    let mut carried = Listing { at: [1, 254, 253, 252, 251, 250, 249, 248], fresh: false };
+    let mut carried = Listing::holding([1, 254, 253, 252, 251, 250, 249, 248]);
     assert_eq!(request(&lent, &mut carried), Ok([2, 1, 3, 4, 5, 6, 7, 8]));
 }
 
@@ -329,7 +340,7 @@ fn placements_of_long_lines() {
         for _ in 0..5 {
             let before = listing;
             let answer = request(&lent, &mut listing);
-            match plain_next(&floaters, (!before.fresh).then_some(&before.at), 20_000) {
+            match plain_next(&floaters, (!before.is_fresh()).then_some(&before.at), 20_000) {
                 Search::Found(placement) => assert_eq!(answer, Ok(placement), "{}", shown(line)),
                 Search::NoneLeft => assert_eq!(answer, Err(SEVENTEEN), "{}", shown(line)),
                 Search::OutOfBudget => over += 1,
@@ -449,7 +460,7 @@ fn areas_that_are_too_short_or_no_tables() {
     let mut rows = vec![JUNK; limits.rows];
     let mut check = |bytes: &[u8], numbers: &[i64], number: u8| {
         let refusal = Err(Refusal::new(number, 0));
-        for before in [Listing::FRESH, Listing { at: [1, 0, 0, 0, 0, 0, 0, 0], fresh: false }, Listing { at: [9; 8], fresh: true }] {
+        for before in [Listing::FRESH, Listing::holding([1, 0, 0, 0, 0, 0, 0, 0]), Listing { at: [9; 8], ..Listing::FRESH }] {
             let mut listing = before;
             assert_eq!(proved::next(bytes, numbers, &mut listing), refusal);
             assert_eq!(listing, before);

@@ -158,7 +158,7 @@ fn measure(name: &str, lines: &[Vec<u8>]) {
         first_placement(&floaters(&tables(one))).is_some()
     });
     beside("next", &placed, |one| {
-        let mut listing = Listing { at: one.first.unwrap(), fresh: false };
+        let mut listing = Listing::holding(one.first.unwrap());
         black_box(proved::next(&one.bytes, &one.numbers, &mut listing)).map_or(true, |()| true)
     }, |one| {
         black_box(next_placement(&floaters(&tables(one)), &one.first.unwrap())).map_or(true, |_| true)

@@ -1,5 +1,5 @@
 -- From the refusals that every call tries to its answer.
-use mathlib.Core.Path.{_≡_, refl, sym, ap, _∙_, subst}
+use mathlib.Core.Path.{_≡_, refl, sym, ap, _∙_}
 use mathlib.Core.Bool.{Bool, true, false, cond, _||_, true≢false}
 use mathlib.Core.List.{List}
 use Prim.Native.Nat.{ℕ, _<_, _≤_}
@@ -12,7 +12,7 @@ use Rattle.scope.specs.Tables.{Tables, bytesSize, numbersSize, tablesIn}
 use Rattle.scope.specs.Masses.{total, lacking, daltons}
 use Rattle.scope.specs.Placements.{allowed}
 use Rattle.scope.specs.Positions.{permittedPositions}
-use Rattle.scope.specs.Answers.{allows, bookable, books, entries, Said, good, refuses, Display, aMass, lack, tooShort, areTables, overTables, weighed}
+use Rattle.scope.specs.Answers.{bookable, books, entries, Said, good, refuses, Display, aMass, lack, tooShort, areTables, overTables, weighed}
 use Rattle.layout_laws.specs.Laws.{tables-held}
 use Rattle.laws.specs.Proved.{demands}
 use Rattle.masses.specs.declared.Weight.{Weight}

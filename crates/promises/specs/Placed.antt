@@ -19,7 +19,7 @@ use Rattle.scope.specs.Tables.{Tables, tablesIn}
 use Rattle.scope.specs.Positions.{isPlaced, struckOut, floaters, mayStand, positions, permitted, permittedPositions}
 use Rattle.scope.specs.Answers.{good, saysRequest}
 use Rattle.layout_laws.specs.Laws.{tables-held}
-use Rattle.placement_laws.specs.Terms.{In}
+use Rattle.basics.specs.Each.{In}
 use Rattle.placement_laws.specs.Lists.{and-true, in-member, member-in, in-keep, keep-in, map-in}
 use Rattle.placement_laws.specs.Members.{AllowedParts, allowed-parts, parts-allowed}
 use Rattle.placement_laws.specs.Laws as placing

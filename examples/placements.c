@@ -20,7 +20,7 @@ int main(int argc, char **argv)
         return 1;
     }
     hwemiduk_floaters(HWEMIDUK_OF(&tables), &floaters);
-    hwemiduk_listing listing = HWEMIDUK_FRESH;
+    hwemiduk_listing listing = HWEMIDUK_LISTING;
     while (hwemiduk_next(HWEMIDUK_OF(&tables), &listing) == HWEMIDUK_OK) {
         printf("placement");
         for (size_t i = 0; i < floaters; i++)

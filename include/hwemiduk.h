@@ -4,8 +4,8 @@
  * A line is read into two lent areas, one of bytes and one of numbers; the other calls take the tables in these areas. Every call answers a number: 0, or the
  * number of a refusal.
  *
- * - What a caller lends to be written (areas, output, rows, entries, a listing) a refusal leaves exactly as it was, and success leaves as it was past what the
- *   call says it writes. Where a result is handed out through a pointer to a single value (place, count, length, ..), it is set by every call, refused or not.
+ * - What a caller lends to be written (areas, output, rows, entries, a listing, single values) a refusal leaves exactly as it was, and success leaves as it was
+ *   past what the call says it writes. Only a refusal sets *place; only a refusal with 15 sets *length.
  * - Any bytes and any numbers are answered: junk in the areas is refused with 14, a slice that is too short with 13.
  * - A slice passes as a pointer and the number of its elements, which must be there; slices may be longer than is asked for. NO POINTER MAY BE NULL, not even
  *   with a length of 0. What is written overlaps nothing else that is lent in the same call.
@@ -25,7 +25,6 @@
 #ifndef HWEMIDUK_H
 #define HWEMIDUK_H
 
-#include <stdbool.h>
 #include <stddef.h>
 #include <stdint.h>
 
@@ -220,7 +219,7 @@ enum hwemiduk_key {
 /* ---- Reading and writing */
 
 /*
- * Whether a line is accepted: 0, or the lowest of 1 to 12 that is due. *place is 0, or the refusal's first place in the line, bytes counted from 0; where the line
+ * Whether a line is accepted: 0, or the lowest of 1 to 12 that is due, with the refusal's first place in the line in *place, bytes counted from 0; where the line
  * should go on and ends, it is the line's length.
  */
 uint8_t hwemiduk_verdict(const uint8_t *line, size_t line_len, size_t *place);
@@ -233,11 +232,11 @@ uint8_t hwemiduk_read(const uint8_t *line, size_t line_len, uint8_t *bytes, size
 
 /*
  * Writes the canonical line of tables: 0 with the line in out, not ended by a zero, and the number of its bytes in *length; or 15 with the length needed in
- * *length; or 13 or 14 with 0 in *length. out may have any length: asking with a length of 0 tells the length needed.
+ * *length; or 13 or 14. out may have any length: asking with a length of 0 tells the length needed.
  */
 uint8_t hwemiduk_write(const uint8_t *bytes, size_t bytes_len, const int64_t *numbers, size_t numbers_len, uint8_t *out, size_t out_len, size_t *length);
 
-/* ---- Counts: 0 with how many there are in *count; or 13 or 14 with 0 in *count. */
+/* ---- Counts: 0 with how many there are in *count; or 13 or 14. */
 uint8_t hwemiduk_residues(const uint8_t *bytes, size_t bytes_len, const int64_t *numbers, size_t numbers_len, size_t *count);
 uint8_t hwemiduk_brackets(const uint8_t *bytes, size_t bytes_len, const int64_t *numbers, size_t numbers_len, size_t *count);
 /* How many floating copies: each is a floater of its own, in order of their brackets. */
@@ -246,14 +245,14 @@ uint8_t hwemiduk_floaters(const uint8_t *bytes, size_t bytes_len, const int64_t 
 /* ---- Masses: of the modifications only. The residues' own masses are not in them: the total of a line without modifications is 0. */
 
 /*
- * The sum of the masses of all modifications, in millionths of a Dalton, counts multiplied, labile ones too: 0 with it in *millionths and 0 in *place; or 16 with how many modifications have no mass, each copy counted, in
- * *place; or 13 or 14 with 0 in *place. *millionths is 0 on a refusal.
+ * The sum of the masses of all modifications, in millionths of a Dalton, counts multiplied, labile ones too; the residues' own masses are not in it: 0 with it in
+ * *millionths; or 16 with how many modifications have no mass, each copy counted, in *place; or 13 or 14 with 0 in *place.
  */
 uint8_t hwemiduk_total(const uint8_t *bytes, size_t bytes_len, const int64_t *numbers, size_t numbers_len, int64_t *millionths, size_t *place);
 
 /*
  * The same sum for display: 0 with the mass in *daltons and 0 in *missing; or, where modifications have no mass, also 0, with how many in *missing and 0.0 in
- * *daltons; or 13 or 14 with 0.0 and 0.
+ * *daltons; or 13 or 14.
  */
 uint8_t hwemiduk_shown(const uint8_t *bytes, size_t bytes_len, const int64_t *numbers, size_t numbers_len, double *daltons, size_t *missing);
 
@@ -263,23 +262,25 @@ uint8_t hwemiduk_shown(const uint8_t *bytes, size_t bytes_len, const int64_t *nu
 uint8_t hwemiduk_allowed(const uint8_t *bytes, size_t bytes_len, const int64_t *numbers, size_t numbers_len, const hwemiduk_position *placement,
     size_t placement_len);
 
-/* The listing in hand: fresh with zeros, as HWEMIDUK_FRESH gives it, or the placement last handed out. `fresh` is true or false and no other byte. */
+/* The listing in hand: marked fresh, with zeros, as HWEMIDUK_LISTING gives it; or unmarked, with the placement last handed out. Any other content gets 18. */
 typedef struct hwemiduk_listing {
     hwemiduk_position at[HWEMIDUK_COPIES];
-    bool fresh;
+    uint8_t mark;
 } hwemiduk_listing;
 
-#define HWEMIDUK_FRESH { { 0 }, true }
+#define HWEMIDUK_FRESH 1
+#define HWEMIDUK_UNMARKED 0
+#define HWEMIDUK_LISTING { { 0 }, HWEMIDUK_FRESH }
 
 /*
- * Moves a listing on: 0 with the next placement in listing->at, no longer fresh; or 17 at the last one, or if there is none at all; or 13, 14 or 18. From a
+ * Moves a listing on: 0 with the next placement in listing->at, unmarked; or 17 at the last one, or if there is none at all; or 13, 14 or 18. From a
  * fresh listing, every allowed placement is handed out once, in ascending order. With no floater there is one placement, all zeros.
  */
 uint8_t hwemiduk_next(const uint8_t *bytes, size_t bytes_len, const int64_t *numbers, size_t numbers_len, hwemiduk_listing *listing);
 
 /*
  * The ledger of a placement: 0 with the mass at each position, in millionths, in the first limits.positions entries; or 16 with how many modifications have no
- * mass in *place; or 13, 14 or 18. *place is 0 but for 16.
+ * mass in *place; or 13, 14 or 18 with 0 in *place.
  */
 uint8_t hwemiduk_ledger(const uint8_t *bytes, size_t bytes_len, const int64_t *numbers, size_t numbers_len, const hwemiduk_position *placement,
     size_t placement_len, int64_t *entries, size_t entries_len, size_t *place);
@@ -291,14 +292,13 @@ typedef struct hwemiduk_site {
 } hwemiduk_site;
 
 /*
- * The permitted positions: 0 with the rows, ascending, in the first *count of the rows lent; or 13 (also where fewer than limits.rows rows are lent) or 14, with
- * 0 in *count.
+ * The permitted positions: 0 with the rows, ascending, in the first *count of the rows lent; or 13 (also where fewer than limits.rows rows are lent) or 14.
  */
 uint8_t hwemiduk_rows(const uint8_t *bytes, size_t bytes_len, const int64_t *numbers, size_t numbers_len, hwemiduk_site *rows, size_t rows_len, size_t *count);
 
 /*
  * The first row of a floater among the first n rows, whatever they hold and in whatever order: 0 with its index, counted from 0, and its position; or 13 where
- * fewer than limits.rows rows are lent; or 17 where there is none. *index and *position are 0 on a refusal. An n above limits.rows is read as limits.rows.
+ * fewer than limits.rows rows are lent; or 17 where there is none. An n above limits.rows is read as limits.rows.
  */
 uint8_t hwemiduk_first_row(const hwemiduk_site *rows, size_t rows_len, size_t n, uint8_t floater, size_t *index, hwemiduk_position *position);
 

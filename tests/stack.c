@@ -33,7 +33,7 @@ static void run(void)
 {
     static hwemiduk_limits_t limits;
     static hwemiduk_listing listing;
-    static const hwemiduk_listing fresh = HWEMIDUK_FRESH;
+    static const hwemiduk_listing fresh = HWEMIDUK_LISTING;
     static size_t place, index;
     static int64_t total;
     static double daltons;

@@ -1,5 +1,5 @@
-//! The proved library, as `hwemiduk::lent` calls it. Each call there begins with junk in every out-parameter, which the library must overwrite; here it is checked
-//! that success and refusal leave in them what is promised.
+//! The proved library, as `hwemiduk::lent` calls it. Each call there begins with junk in every out-parameter; here it is checked that success and refusal
+//! set what they are to set, and leave the rest as it was.
 
 use crate::line::Refusal;
 use crate::masses::Display;
@@ -14,19 +14,25 @@ pub fn areas() -> (Vec<u8>, Vec<i64>) {
 
 fn answer((number, place): (u8, usize)) -> Result<(), Refusal> {
     if number == 0 {
-        assert_eq!(place, 0, "success has place 0");
+        assert_eq!(place, usize::MAX, "success leaves the place as it was");
         Ok(())
     } else {
         Err(Refusal { number, place })
     }
 }
 
-fn count((number, count): (u8, usize)) -> Result<usize, Refusal> {
+/// The answer of a call that leaves no place.
+fn told(number: u8) -> Result<(), Refusal> {
     if number == 0 {
-        return Ok(count);
+        Ok(())
+    } else {
+        Err(Refusal::new(number, 0))
     }
-    assert_eq!(count, 0, "a refusal counts none");
-    Err(Refusal::new(number, 0))
+}
+
+fn count((number, count): (u8, usize)) -> Result<usize, Refusal> {
+    assert!(number == 0 || count == usize::MAX, "a refusal leaves the count as it was");
+    told(number).map(|()| count)
 }
 
 /// Whether a line is accepted, or its refusal.
@@ -58,34 +64,38 @@ pub fn floaters(bytes: &[u8], numbers: &[i64]) -> Result<usize, Refusal> {
 pub fn write(bytes: &[u8], numbers: &[i64], out: &mut [u8]) -> Result<usize, Refusal> {
     match outs::write(bytes, numbers, out) {
         (0, length) => Ok(length),
-        (number, length) => Err(Refusal::new(number, length)),
+        (15, length) => Err(Refusal::new(15, length)),
+        (number, length) => {
+            assert_eq!(length, usize::MAX, "only 15 tells a length");
+            Err(Refusal::new(number, 0))
+        }
     }
 }
 
 /// The total in millionths.
 pub fn total(bytes: &[u8], numbers: &[i64]) -> Result<i64, Refusal> {
     let (number, millionths, place) = outs::total(bytes, numbers);
-    assert!(number == 0 || millionths == 0, "a refused total is 0");
+    assert!(number == 0 || millionths == i64::MIN, "a refusal leaves the total as it was");
     answer((number, place)).map(|()| millionths)
 }
 
 /// The total for display.
 pub fn shown(bytes: &[u8], numbers: &[i64]) -> Display {
     let (number, daltons, missing) = outs::shown(bytes, numbers);
-    if number == 0 && missing == 0 {
+    if number != 0 {
+        assert!(daltons.is_nan() && missing == usize::MAX, "a refusal leaves both as they were");
+        return Display::Refused(number);
+    }
+    if missing == 0 {
         return Display::Daltons(daltons);
     }
     assert_eq!(daltons.to_bits(), 0, "where there is no mass, 0.0");
-    if number == 0 {
-        return Display::Missing(missing);
-    }
-    assert_eq!(missing, 0, "a refusal counts none");
-    Display::Refused(number)
+    Display::Missing(missing)
 }
 
 /// Whether a placement is an allowed one: the first entries of the slice count.
 pub fn allowed(bytes: &[u8], numbers: &[i64], placement: &[Position]) -> Result<(), Refusal> {
-    answer((outs::allowed(bytes, numbers, placement), 0))
+    told(outs::allowed(bytes, numbers, placement))
 }
 
 /// Writes the ledger of a placement into the first entries.
@@ -104,11 +114,11 @@ pub fn first_row(rows: &[Site], n: usize, floater: u8) -> Result<(usize, Positio
     if number == 0 {
         return Ok((index, position));
     }
-    assert_eq!((index, position), (0, 0), "a refusal finds none");
+    assert_eq!((index, position), (usize::MAX, Position::MAX), "a refusal leaves both as they were");
     Err(Refusal::new(number, 0))
 }
 
 /// Moves a listing on to the next placement.
 pub fn next(bytes: &[u8], numbers: &[i64], listing: &mut Listing) -> Result<(), Refusal> {
-    answer((outs::next(bytes, numbers, listing), 0))
+    told(outs::next(bytes, numbers, listing))
 }

@@ -53,19 +53,29 @@ pub struct Site {
     pub position: Position,
 }
 
-/// The listing in hand: fresh with zeros, or the placement last handed out.
+/// The listing in hand: marked fresh, with zeros, or unmarked, with the placement last handed out. Any other content gets 18.
 #[derive(Clone, Copy, Debug, PartialEq, Eq)]
 #[repr(C)]
 pub struct Listing {
     /// The position of each floating copy, unused entries 0.
     pub at: [Position; COPIES],
-    /// Whether no placement has been handed out.
-    pub fresh: bool,
+    /// 1 in a fresh one, 0 in one that holds a placement.
+    pub mark: u8,
 }
 
 impl Listing {
     /// The listing from which every placement is handed out.
-    pub const FRESH: Self = Self { at: [0; COPIES], fresh: true };
+    pub const FRESH: Self = Self { at: [0; COPIES], mark: 1 };
+
+    /// One that holds a placement: the next one is handed out from it.
+    pub const fn holding(at: [Position; COPIES]) -> Self {
+        Self { at, mark: 0 }
+    }
+
+    /// Whether it is marked fresh.
+    pub const fn is_fresh(&self) -> bool {
+        self.mark == Self::FRESH.mark
+    }
 }
 
 /// The limits and sizes, which the library names.
@@ -136,7 +146,7 @@ pub fn read(line: &[u8], bytes: &mut [u8], numbers: &mut [i64]) -> Result<(), Re
 /// Writes the canonical line into an output of any length, and answers how many bytes it has; or 15, with the length needed as its place.
 pub fn write(bytes: &[u8], numbers: &[i64], out: &mut [u8]) -> Result<usize, Refusal> {
     let (number, length) = outs::write(bytes, numbers, out);
-    answer(number, length, length)
+    answer(number, if number == 15 { length } else { 0 }, length)
 }
 
 /// How many residues.
@@ -204,8 +214,8 @@ fn answer<T>(number: u8, place: usize, value: T) -> Result<T, Refusal> {
     }
 }
 
-/// The same calls with all that each of them sets, refused or not; the first is the number, 0 or that of a refusal. Before the call each of them holds what no call
-/// answers, so that one which is not set is seen.
+/// The same calls with all single values that each of them is lent; the first is the number, 0 or that of a refusal. Before the call each of them holds what no call
+/// answers, so that it is seen which are set: a refusal sets its place alone, and a success everything else.
 pub mod outs {
     use super::*;
 

@@ -12,7 +12,7 @@ from typing import List
 #: The type of a position in a placement, a row and a listing (include/hwemiduk.h).
 Position = c_uint8
 #: The type of a listing's mark, and what it is in a fresh one.
-Mark, FRESH = ctypes.c_bool, True
+Mark, FRESH = c_uint8, 1
 
 _NAME = "libhwemiduk.so"
 
@@ -104,7 +104,7 @@ class Site(ctypes.Structure):
 class Listing(ctypes.Structure):
     """The listing in hand."""
 
-    _fields_ = [("at", Position * LIMITS.copies), ("fresh", Mark)]
+    _fields_ = [("at", Position * LIMITS.copies), ("mark", Mark)]
 
 
 # A line passes as bytes; all else that is lent as an address, which costs least to pass on.

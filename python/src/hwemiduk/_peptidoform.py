@@ -176,7 +176,7 @@ class Peptidoform:
         Each is handed out when it is asked for. There may be very many (eight copies on 254 residues: about 10^19), so take as many as are wanted by
         `itertools.islice`.
         """
-        listing = Listing(fresh=FRESH)
+        listing = Listing(mark=FRESH)
         areas = self._filled()
         try:
             floaters = _count(areas)

@@ -13,7 +13,7 @@ use lib.ListN.{length, replicate, length-append}
 use Rattle.scope.specs.Bytes.{upper, sameFolded}
 use Rattle.scope.specs.Lists.{all, flat, keep, same, among, onLast, optional}
 use Rattle.scope.specs.Refusals.{least, dueAt}
-use Rattle.basics.specs.Tests.{and-left, and-right}
+use Rattle.basics.specs.Tests.{and-left, and-right, falsely}
 use Rattle.basics.specs.Each.{Each}
 
 -- ---- lists in pieces
@@ -110,6 +110,10 @@ pub optional-map :
 optional-map f h g e none = refl
 optional-map f h g e (some x) = ap some (e x)
 
+pub map-same : {A B : Type 0} (f h : A → B) → ((x : A) → f x ≡ h x) → (l : List A) → map f l ≡ map h l
+map-same f h e [] = refl
+map-same f h e (x ∷ l) = ap₂ _∷_ (e x) (map-same f h e l)
+
 pub map-joined : {A B C : Type 0} (g : B → C) (f : A → B) (l : List A) → map (λ x. g (f x)) l ≡ map g (map f l)
 map-joined g f l = sym (map-map g (λ x. g (f x)) f (λ x. refl) l)
 
@@ -152,6 +156,9 @@ same-self (a ∷ x) = rw (eq-eqb a a refl) (same-self x)
 
 pub same-law : (x y : List ℕ) → (same x y ≡ true) ↔ (x ≡ y)
 same-law x y = (same-is x y, λ e. subst (λ z. same x z ≡ true) e (same-self x))
+
+pub same-length : (x y : List ℕ) → (length x ≡ length y → ⊥) → same x y ≡ false
+same-length x y h = falsely (same x y) (λ e. h (ap length (same-law x y .0 e)))
 
 -- in either case: of one length
 pub folded-length : (x y : List ℕ) → sameFolded x y ≡ true → length x ≡ length y

@@ -18,7 +18,7 @@ use Rattle.scope.specs.Reading.{Held, State, act, times, countDigit, outside, p
 use Rattle.classes.specs.Runs.{span}
 use Rattle.numerals.specs.Numerals.{digitsFrom}
 use Rattle.reading_laws.specs.Run.{rest, rest-step}
-use Rattle.checking.proofs.Lists.{on-last}
+use Rattle.basics.specs.Lists.{on-last}
 
 -- the last bracket of the run has the count n, which stands at p
 abbrev pub withCount : Held ℕ → List (Bracket ℕ) → Bracket ℕ → ℕ → ℕ → Held ℕ

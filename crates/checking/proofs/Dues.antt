@@ -2,7 +2,7 @@
 use mathlib.Core.Path.{_≡_, refl, sym, ap, subst, _∙_}
 use mathlib.Core.Bool.{Bool, true, false, _||_}
 use mathlib.Core.Option.{Option, none, some}
-use mathlib.Core.List.{List, [], _∷_, _++_, map, append-assoc, append-nil}
+use mathlib.Core.List.{List, [], _∷_, _++_, map, append-assoc, append-nil, map-append}
 use Prim.Native.Nat.{ℕ, _+_, min}
 use native.Mathlib.Omega.{arith}
 use lib.Dec.{leb, eqb, ltb}
@@ -18,10 +18,10 @@ use Rattle.marks.specs.declared.Marks.{Marks}
 use Rattle.places.specs.Places.{coded}
 use Rattle.marks.specs.Marks.{Dues, both, MarksAre}
 use Rattle.bracketed.specs.Bracketed.{partsDues}
-use Rattle.basics.specs.Lists.{flat-append, flat-snoc, least-none}
+use Rattle.basics.specs.Lists.{flat-append, flat-snoc, least-none, flat-map, map-map}
 use Rattle.checking.specs.Stages.{dues, withOver, withWide}
 use Rattle.places.proofs.Least.{least-swap, least-cong}
-use Rattle.checking.proofs.Lists.{flat-map, map-append, map-same, past-more}
+use Rattle.checking.proofs.Lists.{past-more}
 
 -- the marks of lists with the same first places
 abbrev code : List ℕ → ℕ
@@ -111,13 +111,13 @@ count-due m rs ks k v c p e z g =
 
 -- brackets whose kind is settled
 pub kinds-same : {A : Type 0} (f : Bracket ℕ → List A) (bs ks : List (Bracket ℕ)) → ((x : Bracket ℕ) → f (asNTerm x) ≡ f x) → flat f (bs ++ ks) ≡ flat f (bs ++ map asNTerm ks)
-kinds-same f bs ks e = flat-append f bs ks ∙ ap (λ t. flat f bs ++ t) (sym (flat-map f asNTerm e ks)) ∙ sym (flat-append f bs (map asNTerm ks))
+kinds-same f bs ks e = flat-append f bs ks ∙ ap (λ t. flat f bs ++ t) (sym (flat-map f f asNTerm e ks)) ∙ sym (flat-append f bs (map asNTerm ks))
 
 pub settled-due : (m : Marks) (rs : List (Residue ℕ)) (bs ks : List (Bracket ℕ)) → MarksAre m (dues rs (bs ++ ks)) → MarksAre m (dues rs (bs ++ map asNTerm ks))
 settled-due m rs bs ks g =
     let r = drop residueLimit (map (λ r. r .at) rs) in
     let y : map (λ k. k .at) (bs ++ ks) ≡ map (λ k. k .at) (bs ++ map asNTerm ks) =
-    map-append (λ k. k .at) bs ks ∙ ap (λ t. map (λ k. k .at) bs ++ t) (sym (map-same (λ k. k .at) asNTerm (λ x. refl) ks))
+    map-append (λ k. k .at) bs ks ∙ ap (λ t. map (λ k. k .at) bs ++ t) (sym (map-map (λ k. k .at) (λ k. k .at) asNTerm (λ x. refl) ks))
     ∙ sym (map-append (λ k. k .at) bs (map asNTerm ks)) in
     record {
       deep = g .deep ∙ ap code (kinds-same (λ k. flat deepPart (k .parts)) bs ks (λ x. refl));

@@ -2,7 +2,7 @@
 use mathlib.Core.Path.{_≡_, refl, sym, ap, subst, _∙_}
 use mathlib.Core.Bool.{true, false, cond}
 use mathlib.Core.Option.{none}
-use mathlib.Core.List.{List, [], _∷_, _++_, map, append-nil}
+use mathlib.Core.List.{List, [], _∷_, _++_, map, append-nil, map-id}
 use Prim.Native.Nat.{ℕ, _+_, _-_, _*_, _≤_, _<_}
 use native.Mathlib.Omega.{arith}
 use lib.Dec.{leb}
@@ -28,7 +28,7 @@ use Rattle.checking.specs.declared.Step.{Step}
 use Rattle.checking.specs.declared.Step.the-variants.{Stuck, More}
 use Rattle.checking.specs.Check.{Told}
 use Rattle.checking.specs.Stages.{dues, withOver, Noted, heldBrackets, Upto, Does, Low, Settled, SettledWhere, StepSays}
-use Rattle.checking.proofs.Lists.{map-id, append-none, labels-length, stand-settled}
+use Rattle.checking.proofs.Lists.{append-none, labels-length, stand-settled}
 use Rattle.checking.proofs.Modes.{ActFits, act-fits, ends-settled}
 use Rattle.checking.proofs.Dues.{residue-due, kinds-same, settled-due, none-over, over-none}
 

@@ -1,7 +1,7 @@
 -- Lists in pieces: what each definition says of one element more. Assumes nothing.
 use mathlib.Core.Path.{_≡_, refl, sym, ap, _∙_}
 use mathlib.Core.Option.{Option, none, some}
-use mathlib.Core.List.{List, [], _∷_, _++_, map}
+use mathlib.Core.List.{List, [], _∷_, _++_, map, map-append}
 use Prim.Native.Nat.{ℕ, zero, suc, _+_, _*_, _≤_}
 use native.Mathlib.Omega.{arith}
 use lib.Dec.{leb, leb·zero, leb·suc-zero, leb·suc-suc}
@@ -12,23 +12,6 @@ use Rattle.scope.specs.Modifications.{nameOf, namesOf}
 use Rattle.scope.specs.Refusals.{dueAt}
 use Rattle.scope.specs.Reading.{asNTerm, times}
 use Rattle.notes.specs.Notes.{noteRow, notesFrom, labelRow, labelRows, NamesStand}
-
-pub flat-map : {A B : Type 0} (f : A → List B) (g : A → A) → ((x : A) → f (g x) ≡ f x) → (l : List A) → flat f (map g l) ≡ flat f l
-unfolding flat
-flat-map f g e [] = refl
-flat-map f g e (x ∷ l) = ap (λ t. t ++ flat f (map g l)) (e x) ∙ ap (λ t. f x ++ t) (flat-map f g e l)
-
-pub map-append : {A B : Type 0} (f : A → B) (l m : List A) → map f (l ++ m) ≡ map f l ++ map f m
-map-append f [] m = refl
-map-append f (x ∷ l) m = ap (λ t. f x ∷ t) (map-append f l m)
-
-pub map-same : {A B : Type 0} (f : A → B) (g : A → A) → ((x : A) → f (g x) ≡ f x) → (l : List A) → map f (map g l) ≡ map f l
-map-same f g e [] = refl
-map-same f g e (x ∷ l) = ap (λ t. t ∷ map f (map g l)) (e x) ∙ ap (λ t. f x ∷ t) (map-same f g e l)
-
-pub map-id : {A : Type 0} (l : List A) → map (λ (x : A). x) l ≡ l
-map-id [] = refl
-map-id (x ∷ l) = ap (λ t. x ∷ t) (map-id l)
 
 -- what stands past a limit, with one element more
 pub past-more : {A : Type 0} (f : A → ℕ) (n : ℕ) (l : List A) (x : A)
@@ -47,13 +30,6 @@ past-none (suc n) (x ∷ l) e = let h = past-none n l e in omega arith
 pub append-none : {A : Type 0} (a b : List A) → a ++ b ≡ [] → (a ≡ []) × (b ≡ [])
 append-none [] b e = (refl, e)
 append-none (x ∷ a) b e = let z : suc (length (a ++ b)) ≡ 0 = ap length e in absurd (omega arith)
-
--- the last of a list
-pub on-last : {A : Type 0} (f : A → A) (l : List A) (x : A) → onLast f (l ++ (x ∷ [])) ≡ l ++ (f x ∷ [])
-unfolding onLast
-on-last f [] x = refl
-on-last f (y ∷ []) x = refl
-on-last f (y ∷ z ∷ l) x = ap (λ t. y ∷ t) (on-last f (z ∷ l) x)
 
 -- ---- notes and labels
 notes-append : (n : ℕ) (l m : List (Bracket ℕ)) → notesFrom n (l ++ m) ≡ notesFrom n l ++ notesFrom (n + length (flat namesOf l)) m

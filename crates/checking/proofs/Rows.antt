@@ -1,6 +1,6 @@
 -- Rows stored in the table of notes, and changed there. Assumes nothing.
 use mathlib.Core.Path.{_≡_, refl, sym, ap, _∙_}
-use mathlib.Core.List.{List, [], _∷_, _++_, map, append-assoc, append-nil}
+use mathlib.Core.List.{List, [], _∷_, _++_, map, append-assoc, append-nil, map-append}
 use Prim.Native.Nat.{ℕ, suc, _+_, _-_, _*_, _≤_, _<_, min}
 use native.Mathlib.Omega.{arith}
 use lib.ListN.{length, take, drop, set, length-append, length-set, length-map}
@@ -13,7 +13,7 @@ use Rattle.scope.specs.Modifications.{namesOf}
 use Rattle.scope.specs.Reading.{asNTerm, times}
 use Rattle.notes.specs.Notes.{noteRow, notesFrom, sortOf, countedCode}
 use Rattle.checking.specs.Stages.{Settled}
-use Rattle.checking.proofs.Lists.{map-append, notes-behind, notes-one, notes-length}
+use Rattle.checking.proofs.Lists.{notes-behind, notes-one, notes-length}
 
 -- seven stores, one behind the other
 pub seven : (l : List ℕ) (i a b c d e f g : ℕ)

@@ -12,7 +12,7 @@ use Rattle.scope.specs.Modifications.{onlyInfo, isReferring, isModification, co
 use Rattle.scope.specs.Positions.{isPlaced, struckOut, floaters, between, referredAt, isUnlabelledUnknown, ownPosition, mayStand, positions, permitted, permittedPositions}
 use Rattle.scope.specs.Masses.{massOf, massOr0, sum, sumℕ, modifications, total, lacking, labileMass}
 use Rattle.scope.specs.Kinds.{isLabile}
-use Rattle.basics.specs.Lists.{flat-append, keep-append}
+use Rattle.basics.specs.Lists.{flat-append, keep-append, keep-same, map-same}
 
 -- ---- an element that is not kept, or gives nothing
 keep-without : {A : Type 0} (f : A → Bool) (l m : List A) (x : A) → f x ≡ false → keep f (l ++ (x ∷ m)) ≡ keep f (l ++ m)
@@ -23,15 +23,6 @@ keep-without f l m x e =
 flat-without : {A B : Type 0} (f : A → List B) (l m : List A) (x : A) → f x ≡ [] → flat f (l ++ (x ∷ m)) ≡ flat f (l ++ m)
 unfolding flat
 flat-without f l m x e = flat-append f l (x ∷ m) ∙ ap (λ z. flat f l ++ (z ++ flat f m)) e ∙ sym (flat-append f l m)
-
-keep-alike : {A : Type 0} (f g : A → Bool) → ((x : A) → f x ≡ g x) → (l : List A) → keep f l ≡ keep g l
-unfolding keep
-keep-alike f g h [] = refl
-keep-alike f g h (x ∷ l) = ap (λ b. cond b (x ∷ []) [] ++ keep f l) (h x) ∙ ap (λ z. cond (g x) (x ∷ []) [] ++ z) (keep-alike f g h l)
-
-map-alike : {A B : Type 0} (f g : A → B) → ((x : A) → f x ≡ g x) → (l : List A) → map f l ≡ map g l
-map-alike f g h [] = refl
-map-alike f g h (x ∷ l) = ap (λ z. z ∷ map f l) (h x) ∙ ap (λ z. g x ∷ z) (map-alike f g h l)
 
 shared-none : (l : List (List ℕ)) → shared l [] ≡ false
 unfolding shared among
@@ -98,7 +89,7 @@ module _ {P : Type 0} (rs : List (Residue P)) (ks ls : List (Bracket P)) (k : Br
   permitted-without : isModification k ≡ false → isReferring k ≡ false → (d : Bracket P) → permitted withIt d ≡ permitted withoutIt d
   unfolding permitted
   permitted-without idle e d =
-      keep-alike (λ x. mayStand withIt d x && not (member x (struckOut (ks ++ (k ∷ ls))))) (λ x. mayStand withoutIt d x && not (member x (struckOut (ks ++ ls))))
+      keep-same (λ x. mayStand withIt d x && not (member x (struckOut (ks ++ (k ∷ ls))))) (λ x. mayStand withoutIt d x && not (member x (struckOut (ks ++ ls))))
       (λ x. ap (λ b. b && not (member x (struckOut (ks ++ (k ∷ ls))))) (may-stand-without d x e) ∙ ap (λ l. mayStand withoutIt d x && not (member x l)) (strikes-nothing idle))
       (positions withIt)
 
@@ -106,4 +97,4 @@ module _ {P : Type 0} (rs : List (Residue P)) (ks ls : List (Bracket P)) (k : Br
   pub info-blocks-nothing : onlyInfo k ≡ true → isReferring k ≡ false → permittedPositions withIt ≡ permittedPositions withoutIt
   info-blocks-nothing e f =
       ap (map (permitted withIt)) (floats-nowhere (info-is-idle e))
-      ∙ map-alike (permitted withIt) (permitted withoutIt) (permitted-without (info-is-idle e) f) (floaters withoutIt)
+      ∙ map-same (permitted withIt) (permitted withoutIt) (permitted-without (info-is-idle e) f) (floaters withoutIt)

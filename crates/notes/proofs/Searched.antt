@@ -9,13 +9,7 @@ use lib.ListN.{length, drop, length-drop, length-take}
 use borrow.Author.Tests.{eq-eqb, ne-eqb, lt-ltb, le-ltb}
 use Rattle.scope.specs.Lists.{same, among, part, tabled}
 use Rattle.notes.specs.Rows.{noteAt, nameAt, labelFrom, labelTo, Legible, AllLegible, namesAt, sideAt, sideFrom, wrongLabel, wrongAt, wrongPlace}
-
-same-length : (x y : List ℕ) → (length x ≡ length y → ⊥) → same x y ≡ false
-unfolding same
-same-length [] [] h = absurd (h refl)
-same-length [] (b ∷ y) h = refl
-same-length (a ∷ x) [] h = refl
-same-length (a ∷ x) (b ∷ y) h = rw (same-length x y (λ e. h (ap suc e))) (and-false (eqb a b))
+use Rattle.basics.specs.Lists.{same-length, among-append}
 
 module _ (line labels : List ℕ) where
   name-length : (x : ℕ) → Legible line labels x → length (nameAt line labels x) ≡ labelTo labels x - labelFrom labels x
@@ -38,15 +32,6 @@ module _ (line labels : List ℕ) where
         ∙ (ap (λ (n : ℕ). same (part a n line) (part b (labelTo labels y - labelFrom labels y) line)) i
         ∙ (ap (λ (c : ℕ). same (part c (labelTo labels x - labelFrom labels x) line) (part b (labelTo labels y - labelFrom labels y) line)) p
         ∙ ap (λ (c : ℕ). same (nameAt line labels x) (part c (labelTo labels y - labelFrom labels y) line)) r)))
-
-pub among-append : (x : List ℕ) (a b : List (List ℕ)) → among x (a ++ b) ≡ among x a || among x b
-unfolding among
-among-append x [] b = refl
-among-append x (y ∷ a) b = go (same x y) (among-append x a b)
-  where
-    go : (t : Bool) → among x (a ++ b) ≡ among x a || among x b → t || among x (a ++ b) ≡ (t || among x a) || among x b
-    go true h = refl
-    go false h = h
 
 -- searching m labels from the y-th on
 module _ (x : List ℕ) (f : ℕ → List ℕ) (y m : ℕ) where

@@ -14,21 +14,15 @@ use Rattle.scope.specs.Modifications.{nameOf, namesOf, isReferring, definedBy, 
 use Rattle.scope.specs.Tables.{byteAt, rowAt, partIn, bracketIn}
 use Rattle.positions.specs.Legible.{labelFrom, labelSize}
 use Rattle.positions.proofs.Any.{anyOf}
+use Rattle.basics.specs.Lists.{same-length, among-append}
 
 -- ---- texts of different lengths are not the same
-same-lengths : (x y : List ℕ) → (length x ≡ length y → ⊥) → same x y ≡ false
-unfolding same
-same-lengths [] [] h = absurd (h refl)
-same-lengths [] (b ∷ y) h = refl
-same-lengths (a ∷ x) [] h = refl
-same-lengths (a ∷ x) (b ∷ y) h = rw (same-lengths x y (λ e. h (ap suc e))) (and-false (eqb a b))
-
 length-part : (a m : ℕ) (l : List ℕ) → a + m ≤ length l → length (part a m l) ≡ m
 length-part a m l h = omega (arith, length-take m (drop a l), length-drop a l)
 
 pub same-not : (a m b n : ℕ) (l : List ℕ) → a + m ≤ length l → b + n ≤ length l → (m ≡ n → ⊥) → false ≡ same (part a m l) (part b n l)
 same-not a m b n l h i ne =
-    sym (same-lengths (part a m l) (part b n l) (λ e. ne (sym (length-part a m l h) ∙ e ∙ length-part b n l i)))
+    sym (same-length (part a m l) (part b n l) (λ e. ne (sym (length-part a m l h) ∙ e ∙ length-part b n l i)))
 
 -- ---- the label of a part
 pub name-none : (bs : List ℕ) (ns : List ℤ) (k j : ℕ) → labelSize bs k j ≡ 0 → nameOf (partIn bs ns k j) ≡ []
@@ -62,11 +56,6 @@ module _ (bs : List ℕ) (k j r : ℕ) where
       ∙ sym (ap (λ l. shared l (namesOf (bracketIn bs ns r))) (name-some bs ns k j (λ i. z (e ∙ i))) ∙ or-false _)
 
 -- ---- the labels of a bracket, part by part
-among-append : (x : List ℕ) (l m : List (List ℕ)) → among x (l ++ m) ≡ among x l || among x m
-unfolding among
-among-append x [] m = refl
-among-append x (y ∷ l) m = ap (λ t. same x y || t) (among-append x l m) ∙ sym (or-assoc (same x y) (among x l) (among x m))
-
 shared-append : (l m o : List (List ℕ)) → shared (l ++ m) o ≡ shared l o || shared m o
 unfolding shared
 shared-append [] m o = refl

@@ -28,7 +28,7 @@ use Rattle.scope.specs.Masses.{sum, ledger, labileMass}
 use Rattle.scope.specs.Answers.{Said, good, refuses, met, saysRead, saysWrite, saysTotal, saysRequest, saysBooked, tooShort, readOutcome, saysOutcome, writes, totals, allows, requests, listingAfter, books, entries}
 use Rattle.scope.specs.Grammar.{Spelling, print, good as wellSpelt}
 use Rattle.grammar_laws.specs.Laws.{Accepts, Refuses}
-use Rattle.layout_laws.specs.RowsFit.{tabled-length}
+use Rattle.basics.specs.Tabled.{length-tabled as tabled-length}
 use Rattle.basics.specs.Each.{In}
 use Rattle.basics.specs.Members.{in-member}
 use Rattle.placement_laws.specs.Members.{allowed-parts}

@@ -27,6 +27,7 @@ use Rattle.writer.proofs.Storing.{stored-whole, puts-within, puts-lengt
 use Rattle.writer.proofs.RankLaws.{rank-is, tabled-from, tabled-over}
 use Rattle.writer.proofs.RunLaws.{quiet, run-one, run-empty, none-of}
 use Rattle.writer.proofs.Walking.{walks-of, walks-still, walks-then, walks-before, walks-up}
+use Rattle.basics.specs.Lists.{keep-same}
 
 -- ---- sections
 pub opening-other : (c : ℕ) → (c ≡ 1 → ⊥) → (c ≡ 3 → ⊥) → [] ≡ opening (sectionIn c)
@@ -67,11 +68,6 @@ module _ (bs : List ℕ) (p n : ℕ) where
   goes-next h e f = f ∙ ap (λ c. isNext (sectionIn c)) e ∙ sym (ap goesOn (tabled-from (residueIn bs) p n h))
 
 -- ---- kinds by rank
-pub keep-same : {A : Type 0} (f h : A → Bool) → ((x : A) → f x ≡ h x) → (l : List A) → keep f l ≡ keep h l
-unfolding keep
-keep-same f h e [] = refl
-keep-same f h e (x ∷ l) = ap₂ (λ t m. cond t (x ∷ []) [] ++ m) (e x) (keep-same f h e l)
-
 keep-row :
     {A : Type 0} (p r : A → Bool) (f : ℕ → A) (k n : ℕ) → ((i : ℕ) → k ≤ i → i < k + n → p (f i) ≡ r (f i)) → keep p (tabled f k n) ≡ keep r (tabled f k n)
 unfolding keep tabled

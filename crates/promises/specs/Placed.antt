@@ -20,7 +20,8 @@ use Rattle.scope.specs.Positions.{isPlaced, struckOut, floaters, mayStand, posi
 use Rattle.scope.specs.Answers.{good, saysRequest}
 use Rattle.layout_laws.specs.Laws.{tables-held}
 use Rattle.basics.specs.Each.{In}
-use Rattle.placement_laws.specs.Lists.{and-true, in-member, member-in, in-keep, keep-in, map-in}
+use Rattle.basics.specs.Tests.{both-of as and-true}
+use Rattle.basics.specs.Members.{in-member, member-in, in-keep, keep-in, map-in}
 use Rattle.placement_laws.specs.Members.{AllowedParts, allowed-parts, parts-allowed}
 use Rattle.placement_laws.specs.Laws as placing
 use Rattle.placements.proofs.Right.{fits-at, fits-rest, at-fits, distinct-at, at-distinct}

@@ -28,7 +28,7 @@ use Rattle.scope.specs.Masses.{sum, ledger, labileMass}
 use Rattle.scope.specs.Answers.{Said, good, refuses, met, saysRead, saysWrite, saysTotal, saysRequest, saysBooked, tooShort, readOutcome, saysOutcome, writes, totals, allows, requests, listingAfter, books, entries}
 use Rattle.scope.specs.Grammar.{Spelling, print, good as wellSpelt}
 use Rattle.grammar_laws.specs.Laws.{Accepts, Refuses}
-use Rattle.basics.specs.Tabled.{length-tabled as tabled-length}
+use Rattle.basics.specs.Tabled.{length-tabled}
 use Rattle.basics.specs.Each.{In}
 use Rattle.basics.specs.Members.{in-member}
 use Rattle.placement_laws.specs.Members.{allowed-parts}
@@ -253,7 +253,7 @@ module _ (bs : List ℕ) (ns : List ℤ) (h : weights.Taken bs ns) where
 
   ledger-long : (t : Tables) (p : List ℕ) → length (ledger t p) ≡ positionLimit
   unfolding ledger
-  ledger-long t p = tabled-length _ 0 positionLimit
+  ledger-long t p = length-tabled _ 0 positionLimit
 
   adds-up : (m₀ : ℤ) (k₀ : ℕ) (m : ℤ) (k : ℕ) → Totalled (totals bs ns) m₀ k₀ 0 m k → (p : List ℕ) → copyLimit ≤ length p → AllowedLent bs ns p 0
       → (old : List ℤ) → positionLimit ≤ length old → (i n j : ℕ) (new : List ℤ) → EnteredLent bs ns p old i n j new

@@ -22,7 +22,7 @@ use Rattle.calls.specs.Writing.{WriteSays}
 use Rattle.calls.specs.Says.{CountSays, TotalSays, ShownSays, AllowedSays, NextSays, LedgerSays}
 use Rattle.rows.specs.Says.{LookupSays}
 use Rattle.listing.specs.Says.{RowsSays, StepSays}
-use Rattle.promises.specs.Promises.{VerdictSays}
+use Rattle.verdict.specs.Says.{VerdictSays}
 use Rattle.verdict.proofs.verdict_on as verdict-on
 use Rattle.reader.proofs.read as read
 use Rattle.calls.proofs.write as write

@@ -34,6 +34,7 @@ use Rattle.scope.specs.Grammar.{Spelling, print, good as wellSpelt, means}
 use Rattle.grammar_laws.specs.Laws.{Accepts, Refuses}
 use Rattle.placement_laws.specs.Terms.{Ascending}
 use Rattle.basics.specs.Each.{In}
+use Rattle.verdict.specs.Says.{VerdictSays}
 use Rattle.reader.specs.ReadSays.{ReadSays}
 use Rattle.placements.specs.declared.Next.{Next}
 use Rattle.calls.specs.Writing.{WriteSays}
@@ -88,13 +89,10 @@ pub record AnswersLines (Says : Reader) : Type 0 where
       (s bs : List ℕ) (ns : List ℤ) (r : Read) (bs′ : List ℕ) (ns′ : List ℤ) → Says s bs ns r bs′ ns′
       → (saysRead r ≡ good tt) ⊎ TurnedAway s bs ns r bs′ ns′
 
--- what `verdict::verdict_on` ensures: the same answers, with no areas
-abbrev pub VerdictSays : List ℕ → Read → Type 0
-VerdictSays s r = saysRead r ≡ saysOutcome (outcome s)
-
 -- ---- every call
 pub record Demand1 : Type 0 where
   pub read : AnswersLines ReadSays
+  -- the same answers, with no areas
   pub verdict : (s : List ℕ) → Answered (VerdictSays s) saysRead (tabled (λ n. n) 1 12) Nothing
   pub write :
       (bs : List ℕ) (ns : List ℤ) (out : List ℕ)

@@ -28,7 +28,8 @@ use Rattle.laws.specs.Demands as laws
 use Rattle.laws.specs.Proved.{demands}
 use Rattle.reader.specs.ReadSays.{ReadSays}
 use Rattle.reader.proofs.Reading.{accepted-is}
-use Rattle.promises.specs.Promises.{Reader, ExactlyOne, Answered, Nothing, VerdictSays, AnswersLines, TurnedAway, Holding, Accepting}
+use Rattle.verdict.specs.Says.{VerdictSays}
+use Rattle.promises.specs.Promises.{Reader, ExactlyOne, Answered, Nothing, AnswersLines, TurnedAway, Holding, Accepting}
 use Rattle.promises.specs.Answering.{alone, among-numbers}
 use Rattle.promises.specs.Said.{not-both, same-number, same-place, read-same}
 

@@ -16,6 +16,7 @@ ghost use Rattle.basics.specs.Each.{Each};
 ghost use Rattle.accepted_laws.specs.Within.{Byte};
 ghost use Rattle.places.specs.Places.{coded};
 ghost use Rattle.verdict.specs.Ruled.{Clean, Checks, ruled};
+ghost use Rattle.verdict.specs.Says.{VerdictSays};
 
 // The first byte outside 32 to 126: 0 where there is none, else one more than its place.
 fn first_unprintable(line: &[u8]) -> usize
@@ -102,7 +103,7 @@ fn of_order(line: &[u8]) -> Read
 
 // Whether a line is accepted, or its refusal.
 pub fn verdict_on(line: &[u8]) -> Read
-    ensures { λ r. ⌜ saysRead r ≡ saysOutcome (outcome (now (line .entry))) ⌝ }
+    ensures { λ r. ⌜ VerdictSays (now (line .entry)) r ⌝ }
 {
     let n = line.len();
     if n == 0 {

@@ -3,6 +3,7 @@ use mathlib.Core.Path.{_≡_}
 use Rattle.promises.specs.Promises.{Demand1, Demand3, Promises}
 use Rattle.promises.specs.Answering as calls
 use Rattle.promises.specs.Readers as readers
+use Rattle.promises.specs.Wrong as wrong
 use Rattle.promises.specs.Written as written
 use Rattle.promises.specs.Weights as weights
 use Rattle.promises.specs.Placed as placed
@@ -47,6 +48,8 @@ promises =
     record {
       demand-1 = demand-1;
       accepting = readers.accepting;
+      not-refuses-all = wrong.not-refuses-all;
+      not-one-table = wrong.not-one-table;
       only-reader = readers.only-reader;
       demand-2 = written.demand-2;
       demand-3 = λ s bs ns r bs′ ns′ w q. demand-3 bs′ ns′ (weights.taken-after (readers.was-read s bs ns r bs′ ns′ w q));

@@ -11,3 +11,4 @@ pub mod Kept
 pub mod AnsweringC
 pub mod KeptC
 pub mod Linked
+pub mod Wrong

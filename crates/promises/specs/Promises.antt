@@ -261,11 +261,21 @@ pub record Reckoned (t : Spelling) (bs : List ℕ) (ns : List ℤ) : Type 0 wher
   pub mass : (r : Total) → TotalSays bs ns r → lacking (means t) ≡ 0 → saysTotal r ≡ good (total (means t))
   pub missing : (r : Total) → TotalSays bs ns r → (lacking (means t) ≡ 0 → ⊥) → saysTotal r ≡ refuses 16 (lacking (means t))
 
+-- ======== the wrong readers that document 01 names
+-- "a reader that refuses all, or gives one table for all"
+abbrev pub RefusesAll : Reader
+RefusesAll s bs ns r bs′ ns′ = (saysRead r ≡ refuses 4 0) × (bs′ ≡ bs) × (ns′ ≡ ns)
+
+abbrev pub OneTable : Line ℕ → Reader
+OneTable l s bs ns r bs′ ns′ = (saysRead r ≡ good tt) × (bs′ ≡ laid (bytesOf l) bs) × (ns′ ≡ laid (numbersOf l) ns)
+
 -- ======== all
 pub record Promises : Type 1 where
   pub demand-1 : Demand1
   pub accepting : Accepting ReadSays
-  -- no other reader meets both: one that refuses all, or gives one table for all, or another place, does not
+  pub not-refuses-all : Accepting RefusesAll → ⊥
+  pub not-one-table : (l : Line ℕ) → Accepting (OneTable l) → ⊥
+  -- no other reader meets both
   pub only-reader :
       (Says : Reader) → AnswersLines Says → Accepting Says → (s bs : List ℕ) (ns : List ℤ) (r : Read) (bs′ : List ℕ) (ns′ : List ℤ)
       → Says s bs ns r bs′ ns′ → ReadSays s bs ns r bs′ ns′

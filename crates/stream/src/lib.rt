@@ -3,8 +3,9 @@
 // What is said of the bytes that the program reads and writes. `hand` and `hand_last` alone write to standard output, and each asks that the bytes
 // handed over are exactly those that the definitions put out, in the state before, for the bytes just taken in (`Owed`, `OwedLast`); every caller proves
 // it. `turn` says that the state goes on by the bytes that the room holds from the read, and that as many bytes were taken as are put out for them. Pieces
-// owed so, one behind the other from the start, are `register` of what was read (specs/Whole.antt, `handed-over`). Of the system it is assumed that a
-// read leaves at the front of the room what it answers for, and that a write takes the front of what it is handed, in order, as its answer counts.
+// owed so, one behind the other from the start, are `register` of what was read (specs/Whole.antt, `handed-over`). That `hand` is called once for each
+// part, and `hand_last` once, is to be read in `drain` and `close`: no contract can speak of a call. Of the system it is assumed that a read leaves at the
+// front of the room what it answers for, and that a write takes the front of what it is handed, in order, as its answer counts.
 use bounds::copy_bytes;
 use entries::put_entry;
 use libc::STDERR_FILENO;
@@ -35,7 +36,7 @@ const OUTPUT: usize = 3 * ENTRY;
 // More reads than any run makes: at a million a second, 35 years.
 const TURNS: u64 = 1 << 50;
 
-// So often in a row is a call made that is interrupted or would block.
+// So often in a row is a call made that is interrupted or would block: days, at a million a second.
 const PATIENCE: u64 = 1 << 40;
 
 // A chunk cut behind the end of a line, or at its own: where the next byte stands, and how many bytes are held of the line.

@@ -112,12 +112,12 @@ module _ (bs : List ℕ) (ns : List ℤ) where
       (record { measured = record { number-is = refl; count-is = refl }; output-after = refl }) (λ o w. pair3 (w .measured .number-is) (w .measured .count-is) (w .output-after))
       (λ o w. w .measured .number-is) (calls.writes-so bs ns out .number) (λ o w n p q. w .output-after ∙ ap (λ z. outputAfter z c out) q)
 
-  count : (f : Tables → ℕ) (count : ℕ) → Answered (λ (o : ℕ × ℕ). Counted (counts bs ns f) count (o .0) (o .1)) (λ o. told (o .0)) (13 ∷ 14 ∷ []) (λ o. o .1 ≡ count)
-  count f count =
+  count : (f : Tables → ℕ) (old : ℕ) → Answered (λ (o : ℕ × ℕ). Counted (counts bs ns f) old (o .0) (o .1)) (λ o. told (o .0)) (13 ∷ 14 ∷ []) (λ o. o .1 ≡ old)
+  count f old =
       let said = counts bs ns f in
-      in-c (λ (o : ℕ × ℕ). Counted (counts bs ns f) count (o .0) (o .1)) (λ o. o .1 ≡ count) (λ o. o .0) said (numberOf said, left said (λ n. n) count)
+      in-c (λ (o : ℕ × ℕ). Counted (counts bs ns f) old (o .0) (o .1)) (λ o. o .1 ≡ old) (λ o. o .0) said (numberOf said, left said (λ n. n) old)
       (record { number-is = refl; count-is = refl }) (λ o w. pair2 (w .number-is) (w .count-is)) (λ o w. w .number-is) (calls.counts-so bs ns f .number)
-      (λ o w n p q. w .count-is ∙ ap (λ z. left z (λ n. n) count) q)
+      (λ o w n p q. w .count-is ∙ ap (λ z. left z (λ n. n) old) q)
 
   total : (m : ℤ) (place : ℕ)
       → Answered (λ (o : ℕ × ℤ × ℕ). Totalled (totals bs ns) m place (o .0) (o .1) (o .2)) (λ o. told (o .0)) (13 ∷ 14 ∷ 16 ∷ []) (λ o. o .1 ≡ m)

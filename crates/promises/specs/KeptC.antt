@@ -141,9 +141,9 @@ write-inner : (bs : List ℕ) (ns : List ℤ) (out : List ℕ) (count n long : �
 write-inner bs ns out count n long out′ w = record { says = calls.write bs ns out .exactly-one .ensured .says; output-after = w .output-after }
 
 -- with 0, the count is the length
-said-length : (s : Said ℕ) → Above s → {count long : ℕ} → 0 ≡ numberOf s → long ≡ lengthLeft s count → s ≡ good long
-said-length (good x) h z e = ap good (sym e)
-said-length (refuses n p) h z e = absurd (let k = h n p refl in omega (arith, k, z))
+said-length : (s : Said ℕ) → Above s → (count long : ℕ) → 0 ≡ numberOf s → long ≡ lengthLeft s count → s ≡ good long
+said-length (good x) h count long z e = ap good (sym e)
+said-length (refuses n p) h count long z e = absurd (let k = h n p refl in omega (arith, k, z))
 
 reads-back : (s bs : List ℕ) (ns : List ℤ) (place p : ℕ) (bs′ : List ℕ) (ns′ : List ℤ) → Exported s bs ns place 0 p bs′ ns′
     → (out : List ℕ) (count n long : ℕ) (out′ : List ℕ) → Written bs′ ns′ out count n long out′ → length s ≤ length out → EnteredC s bs′ ns′ out n long out′
@@ -176,7 +176,7 @@ filed-inner {s} {bs} {ns} {bs′} {ns′} {out′} {m} f =
       written = i;
       length-is =
           i .says
-          ∙ said-length (writes bs′ ns′ (f .out)) (λ k p q. no-zero (13 ∷ 14 ∷ 15 ∷ []) refl k (calls.writes-so bs′ ns′ (f .out) .number k p q)) (g .number-is) (g .count-is);
+          ∙ said-length (writes bs′ ns′ (f .out)) (λ k p q. no-zero (13 ∷ 14 ∷ 15 ∷ []) refl k (calls.writes-so bs′ ns′ (f .out) .number k p q)) (f .count) m (g .number-is) (g .count-is);
     }
 
 -- ---- over areas that a line was read into

@@ -14,19 +14,14 @@ use Rattle.scope.specs.declared.answers.Write.{Write}
 use Rattle.scope.specs.declared.answers.Write.the-variants.{Written, Refused as writeRefused}
 use Rattle.scope.specs.declared.answers.Count.{Count}
 use Rattle.scope.specs.declared.answers.Count.the-variants.{Is, Refused as countRefused}
-use Rattle.scope.specs.declared.answers.Total.{Total}
 use Rattle.scope.specs.declared.answers.Total.the-variants.{Millionths, Refused as totalRefused}
-use Rattle.scope.specs.declared.answers.Lookup.{Lookup}
 use Rattle.scope.specs.declared.answers.Lookup.the-variants.{Row, Refused as lookupRefused}
 use Rattle.scope.specs.declared.answers.Request.{Request}
 use Rattle.scope.specs.declared.answers.Request.the-variants.{Met, Refused as requestRefused}
-use Rattle.scope.specs.declared.answers.Booked.{Booked}
 use Rattle.scope.specs.declared.answers.Booked.the-variants.{Done, Refused as bookedRefused}
-use Rattle.scope.specs.declared.answers.Shown.{Shown}
 use Rattle.scope.specs.declared.answers.Shown.the-variants.{Daltons, Missing, Refused as shownRefused}
 use Rattle.scope.specs.declared.answers.Placement.{Placement}
 use Rattle.scope.specs.declared.answers.Listing.{Listing}
-use Rattle.scope.specs.declared.answers.Ledger.{Ledger}
 use Rattle.scope.specs.declared.answers.Site.{Site}
 use Rattle.scope.specs.Limits.{rowLimit, positionLimit}
 use Rattle.scope.specs.Lists.{given, tabled}
@@ -37,7 +32,6 @@ use Rattle.scope.specs.Placements.{allowed, takenListing, following}
 use Rattle.scope.specs.Masses.{total, lacking, daltons}
 use Rattle.scope.specs.Answers.{Said, good, refuses, aMass, lack, saysWrite, saysCount, saysTotal, saysLookup, saysRequest, saysBooked, saysShown, tooShort, areTables, overTables, fitting, writes, outputAfter, counts, weighed, totals, shows, rowsSaid, rowsAfter, looksUp, allows, met, requested, movedOn, requests, listingAfter, bookable, books, entries}
 use Rattle.basics.specs.Each.{In}
-use Rattle.placements.specs.declared.Next.{Next}
 use Rattle.calls.specs.Writing.{WriteSays}
 use Rattle.calls.specs.Says.{CountSays, TotalSays, ShownSays, AllowedSays, NextSays, LedgerSays}
 use Rattle.rows.specs.Says.{LookupSays}

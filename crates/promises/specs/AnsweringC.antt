@@ -1,6 +1,6 @@
 -- Demand 1 over what a caller in C sees: every exported call has exactly one outcome of numbers and lent slices, and refuses only with its own numbers.
 use mathlib.Core.Path.{_≡_, refl, sym, ap, _∙_, subst}
-use mathlib.Core.Logic.{inl, inr}
+use mathlib.Core.Logic.{inl}
 use mathlib.Core.List.{List, [], _∷_}
 use Prim.Native.Nat.{ℕ, zero, suc, _≤_}
 use native.Mathlib.Omega.{arith}
@@ -19,9 +19,9 @@ use Rattle.scope.specs.Canonical.{canonical}
 use Rattle.scope.specs.Tables.{Tables, tablesIn}
 use Rattle.scope.specs.Answers.{Said, good, refuses, met, saysRequest, saysBooked, readOutcome, saysOutcome, bytesAfter, numbersAfter, writes, outputAfter, counts, totals, shows, rowsSaid, rowsAfter, looksUp, requests, listingAfter, movedOn}
 use Rattle.basics.specs.Each.{In}
-use Rattle.export.specs.Numbers.{numberOf, left, placeLeft, Numbered, Judged, Exported}
+use Rattle.export.specs.Numbers.{numberOf, left, placeLeft, Judged, Exported}
 use Rattle.export.specs.Handed.{Counted, RowsHanded, LookedUp, MovedOn}
-use Rattle.export.specs.Shapes.{lengthLeft, massOf, lackOf, Measured, Written, Totalled, Displayed, allowsLent, AllowedLent, booksLent, entriesAfter, Entered as EnteredLent}
+use Rattle.export.specs.Shapes.{lengthLeft, massOf, lackOf, Written, Totalled, Displayed, allowsLent, AllowedLent, booksLent, entriesAfter, Entered as EnteredLent}
 use Rattle.promises.specs.Promises.{Answered, Nothing, told, Demand1C}
 use Rattle.promises.specs.Said.{not-both, same-number}
 use Rattle.promises.specs.Answering as calls

@@ -1,5 +1,4 @@
 -- The promises of specs/Promises.antt are kept.
-use mathlib.Core.Path.{_≡_}
 use Rattle.promises.specs.Promises.{Demand1, Demand3, Promises}
 use Rattle.promises.specs.Answering as calls
 use Rattle.promises.specs.Readers as readers

@@ -1,8 +1,8 @@
 -- Demands 2 and 3 over what a caller in C sees: each exported contract gives the inner one, of the answer that its numbers tell.
 use mathlib.Core.Path.{_≡_, refl, sym, ap, _∙_, subst}
-use mathlib.Core.Logic.{_↔_, _⊎_, inl, inr}
+use mathlib.Core.Logic.{_↔_, _⊎_}
 use mathlib.Core.Bool.{true, false, true≢false}
-use mathlib.Core.List.{List, [], _∷_, _++_}
+use mathlib.Core.List.{List, [], _∷_}
 use Prim.Native.Nat.{ℕ, zero, suc, _≤_}
 use native.Mathlib.Omega.{arith}
 use borrow.Author.Tests.{le-ltb}
@@ -17,30 +17,28 @@ use Rattle.scope.specs.declared.answers.Request.{Request}
 use Rattle.scope.specs.declared.answers.Request.the-variants.{Met, Refused as requestRefused}
 use Rattle.scope.specs.declared.answers.Placement.{Placement}
 use Rattle.scope.specs.declared.answers.Listing.{Listing}
-use Rattle.scope.specs.declared.answers.Ledger.{Ledger}
 use Rattle.scope.specs.Limits.{copyLimit, positionLimit}
 use Rattle.scope.specs.Line.{Line}
 use Rattle.scope.specs.Lists.{member, laid}
 use Rattle.scope.specs.Tables.{Tables, tablesIn}
 use Rattle.scope.specs.Positions.{permittedPositions}
-use Rattle.scope.specs.Placements.{allowed, freshListing}
+use Rattle.scope.specs.Placements.{freshListing}
 use Rattle.scope.specs.Masses.{sum, ledger, labileMass}
-use Rattle.scope.specs.Answers.{Said, good, refuses, met, saysRead, saysWrite, saysTotal, saysRequest, saysBooked, tooShort, readOutcome, saysOutcome, writes, totals, allows, requests, listingAfter, books, entries}
+use Rattle.scope.specs.Answers.{Said, good, refuses, met, saysRead, saysTotal, saysRequest, tooShort, readOutcome, saysOutcome, writes, totals, allows, requests, books, entries}
 use Rattle.scope.specs.Grammar.{Spelling, print, good as wellSpelt}
 use Rattle.grammar_laws.specs.Laws.{Accepts, Refuses}
 use Rattle.basics.specs.Tabled.{length-tabled}
 use Rattle.basics.specs.Each.{In}
 use Rattle.basics.specs.Members.{in-member}
 use Rattle.placement_laws.specs.Members.{allowed-parts}
-use Rattle.placements.specs.declared.Next.{Next}
 use Rattle.reader.specs.ReadSays.{ReadSays}
 use Rattle.calls.specs.Writing.{WriteSays}
-use Rattle.calls.specs.Says.{TotalSays, AllowedSays, NextSays, LedgerSays}
-use Rattle.export.specs.Numbers.{numberOf, left, placeLeft, Numbered, Exported}
+use Rattle.calls.specs.Says.{TotalSays, AllowedSays, NextSays}
+use Rattle.export.specs.Numbers.{numberOf, left, placeLeft, Exported}
 use Rattle.export.specs.Handed.{MovedOn}
-use Rattle.export.specs.Shapes.{lengthLeft, Measured, Written, Totalled, allowsLent, AllowedLent, booksLent, entriesAfter, Entered as EnteredLent}
+use Rattle.export.specs.Shapes.{lengthLeft, Written, Totalled, allowsLent, AllowedLent, booksLent, entriesAfter, Entered as EnteredLent}
 use Rattle.promises.specs.Promises.{Holding, Filed, HandsOut, Lists, EnteredC, FiledC, HandsOutC, Demand3C, PromisesC}
-use Rattle.promises.specs.Said.{not-both, same-good, same-number, same-place, met-good, met-refused}
+use Rattle.promises.specs.Said.{not-both, same-number, same-place, met-good, met-refused}
 use Rattle.promises.specs.Answering as calls
 use Rattle.promises.specs.AnsweringC as exported
 use Rattle.promises.specs.Readers as readers

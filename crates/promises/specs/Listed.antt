@@ -15,7 +15,7 @@ use Rattle.scope.specs.Lists.{given}
 use Rattle.scope.specs.Tables.{Tables, tablesIn}
 use Rattle.scope.specs.Positions.{permittedPositions}
 use Rattle.scope.specs.Placements.{placements, freshListing}
-use Rattle.scope.specs.Answers.{good, refuses, saysRequest, met, requested, movedOn, requests, listingAfter}
+use Rattle.scope.specs.Answers.{good, refuses, saysRequest, met, requested, movedOn, requests}
 use Rattle.layout_laws.specs.Laws.{tables-held}
 use Rattle.placement_laws.specs.Terms.{Ascending, afterRequests, outOf, handedOut}
 use Rattle.basics.specs.Each.{In}

@@ -1,6 +1,6 @@
 -- Demand 3 of a placement: what `is_allowed` allows gives each floater one of its permitted positions, no position twice; and no permitted position has a placed
 -- modification.
-use mathlib.Core.Path.{_≡_, refl, sym, ap, _∙_, subst}
+use mathlib.Core.Path.{_≡_, sym, ap, _∙_}
 use mathlib.Core.Logic.{_↔_}
 use mathlib.Core.Bool.{true, false, not, _&&_, true≢false}
 use mathlib.Core.List.{List, [], _∷_, map}
@@ -14,9 +14,9 @@ use Rattle.scope.specs.declared.answers.Request.{Request}
 use Rattle.scope.specs.declared.answers.Placement.{Placement}
 use Rattle.scope.specs.Limits.{copyLimit}
 use Rattle.scope.specs.Lists.{keep, member}
-use Rattle.scope.specs.Line.{Bracket, Line}
+use Rattle.scope.specs.Line.{Bracket}
 use Rattle.scope.specs.Tables.{Tables, tablesIn}
-use Rattle.scope.specs.Positions.{isPlaced, struckOut, floaters, mayStand, positions, permitted, permittedPositions}
+use Rattle.scope.specs.Positions.{isPlaced, struckOut, floaters, mayStand, positions, permitted}
 use Rattle.scope.specs.Answers.{good, saysRequest}
 use Rattle.layout_laws.specs.Laws.{tables-held}
 use Rattle.basics.specs.Each.{In}

@@ -4,27 +4,25 @@ use mathlib.Core.Logic.{_↔_, _⊎_, inl, inr}
 use mathlib.Core.Bool.{Bool, true, false, cond, true≢false}
 use mathlib.Core.Option.{Option, none, some}
 use mathlib.Core.List.{List, [], _∷_, _++_, map}
-use Prim.Native.Nat.{ℕ, zero, suc, _+_, _-_, _≤_, _<_, min}
+use Prim.Native.Nat.{ℕ, zero, suc, _+_, _≤_, _<_, min}
 use native.Mathlib.Omega.{arith}
 use borrow.Author.Tests.{eqb-true, eq-eqb, le-ltb}
-use lib.Dec.{eqb, ltb}
+use lib.Dec.{eqb}
 use lib.IntN.{ℤ}
 use lib.ListN.{length, take, drop, getD, length-append, length-drop}
 use lib.Seq.{take-append-seam, drop-append-seam}
 use Rattle.scope.specs.declared.answers.Count.{Count}
-use Rattle.scope.specs.declared.answers.Lookup.{Lookup}
 use Rattle.scope.specs.declared.answers.Site.{Site}
 use Rattle.scope.specs.Limits.{rowLimit}
 use Rattle.scope.specs.Lists.{given, laid}
-use Rattle.scope.specs.Tables.{Tables, tablesIn}
+use Rattle.scope.specs.Tables.{tablesIn}
 use Rattle.scope.specs.Positions.{permittedPositions, rowsFrom, rowsOf, Found, firstRow, lookup}
-use Rattle.scope.specs.Answers.{Said, good, refuses, saysCount, saysLookup, tooShort, areTables, rowsSaid, rowsAfter, looksUp}
+use Rattle.scope.specs.Answers.{good, refuses, saysCount, tooShort, areTables, rowsSaid, rowsAfter, looksUp}
 use Rattle.placement_laws.specs.Terms.{Rising, AllRising}
 use Rattle.basics.specs.Each.{In}
 use Rattle.basics.specs.Members.{in-left, in-right, in-either, in-map, map-in, in-member}
 use Rattle.placement_laws.specs.Laws as placing
 use Rattle.laws.specs.Proved.{demands}
-use Rattle.rows.specs.Says.{LookupSays}
 use Rattle.listing.specs.Says.{RowsSays}
 use Rattle.promises.specs.Promises.{Permitted, Below, Climbing, LeastOf, Rowed}
 

@@ -8,23 +8,21 @@ use borrow.Author.Tests.{eq-eqb, ne-eqb}
 use lib.Dec.{eqb}
 use lib.IntN.{ℤ, _+ℤ_}
 use lib.ListN.{length}
-use Rattle.scope.specs.declared.answers.Count.{Count}
 use Rattle.scope.specs.declared.answers.Total.{Total}
 use Rattle.scope.specs.declared.answers.Shown.{Shown}
 use Rattle.scope.specs.declared.answers.Request.{Request}
 use Rattle.scope.specs.declared.answers.Placement.{Placement}
 use Rattle.scope.specs.declared.answers.Ledger.{Ledger}
-use Rattle.scope.specs.Line.{Line}
 use Rattle.scope.specs.Lists.{laid}
-use Rattle.scope.specs.Tables.{Tables, bytesOf, numbersOf, tablesIn}
+use Rattle.scope.specs.Tables.{Tables, bytesOf, tablesIn}
 use Rattle.scope.specs.Positions.{floaters, permittedPositions}
 use Rattle.scope.specs.Placements.{allowed}
 use Rattle.scope.specs.Masses.{sum, total, lacking, labileMass, daltons}
-use Rattle.scope.specs.Answers.{Said, good, refuses, aMass, lack, saysCount, saysTotal, saysShown, saysRequest, saysBooked, tooShort, areTables, overTables, counts, residueCount, bracketCount, floaterCount, weighed, totals, shows, allows, bookable, books, entries}
+use Rattle.scope.specs.Answers.{Said, good, refuses, aMass, lack, saysTotal, saysShown, saysRequest, saysBooked, tooShort, areTables, overTables, residueCount, bracketCount, floaterCount, weighed, bookable, books, entries}
 use Rattle.scope.specs.Grammar.{Spelling, means}
 use Rattle.laws.specs.Demands as laws
 use Rattle.laws.specs.Proved.{demands}
-use Rattle.calls.specs.Says.{CountSays, TotalSays, ShownSays, AllowedSays, LedgerSays}
+use Rattle.calls.specs.Says.{TotalSays, ShownSays, AllowedSays, LedgerSays}
 use Rattle.promises.specs.Promises.{Reckoned}
 use Rattle.promises.specs.Said.{not-both, same-good, same-place, not-lack, same-lack}
 use Rattle.promises.specs.Readers.{WasRead, held-after}

@@ -1,13 +1,11 @@
 -- The two wrong readers that document 01 names do not meet what is promised of reading: the line `A` is to be accepted, and the empty one is not.
-use mathlib.Core.Path.{_≡_, refl, sym, ap, _∙_}
+use mathlib.Core.Path.{_≡_, refl, sym}
 use mathlib.Core.Bool.{false}
 use mathlib.Core.List.{List, [], _∷_}
 use Prim.Native.Nat.{ℕ}
 use native.Mathlib.Omega.{arith}
-use borrow.Author.Tests.{le-ltb}
-use lib.Dec.{ltb}
 use lib.IntN.{ℤ, pos}
-use lib.ListN.{length, replicate, length-replicate}
+use lib.ListN.{replicate}
 use Rattle.scope.specs.declared.answers.Read.the-variants.{Accepted, Refused as readRefused}
 use Rattle.scope.specs.declared.grammar.Section.the-variants.{Plain}
 use Rattle.scope.specs.Bytes.{upper}
@@ -44,7 +42,7 @@ abbrev numbers : List ℤ
 numbers = replicate numbersSize (pos 0)
 
 long : tooShort bytes numbers ≡ false
-long = rw (length-replicate bytesSize 0, length-replicate numbersSize (pos 0)) refl
+long = refl
 
 pub not-refuses-all : Accepting RefusesAll → ⊥
 not-refuses-all a =

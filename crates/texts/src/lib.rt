@@ -19,10 +19,10 @@ pub enum TextEnd {
 }
 
 // A pair with fewer pairs than these around it is read by a call of its own, a deeper one by `crowd_end`.
-const LEVELS: usize = 64;
+const LEVELS: usize = 16;
 
 // How many closers one call of `crowd_end` keeps.
-const KEPT: usize = 64;
+const KEPT: usize = 256;
 
 // Where the text that starts at `at` ends; `hashes` says whether `#` is plain in it.
 pub fn text_end(line: &[u8], at: usize, hashes: bool) -> TextEnd

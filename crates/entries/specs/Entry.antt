@@ -15,7 +15,6 @@ use Rattle.areas.specs.Bounds.{Bounds}
 use Rattle.order_laws.specs.Ranks.{Ordered}
 use Rattle.masses.specs.declared.Weight.{Weight}
 use Rattle.masses.specs.declared.Weight.the-variants.{Total, Lacks}
-use Rattle.reader.specs.ReadSays.{Clean}
 use Rattle.writer.specs.Written.{Puts}
 
 -- what is printed for the line s with the number n, and the byte behind it
@@ -49,10 +48,9 @@ pub record Known (bs : List ℕ) (ns : List ℤ) : Type 0 where
   pub few : length (floaters (tablesIn bs ns)) ≤ copyLimit
   pub short : length (canonical (tablesIn bs ns)) ≤ lineLimit
 
--- a text was put into the output, and the areas are clean again
+-- a text was put into the output, and the areas are as they were
 pub record Printed (most : ℕ) (o : List ℕ) (at : ℕ) (t left : List ℕ) (r : ℕ) (bytes : List ℕ) (numbers : List ℤ) (bytes′ : List ℕ) (numbers′ : List ℤ) : Type 0 where
   pub puts : Puts most o at t left r
-  pub clean : Clean bytes′ numbers′
   pub out-long : length left ≡ length o
-  pub bytes-long : length bytes′ ≡ length bytes
-  pub numbers-long : length numbers′ ≡ length numbers
+  pub bytes-same : bytes′ ≡ bytes
+  pub numbers-same : numbers′ ≡ numbers

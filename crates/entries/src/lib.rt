@@ -146,7 +146,7 @@ fn put_front(
     writer::put(out, b, 10)
 }
 
-// What the register prints for a line, and byte 10, from a place of the output on. The areas' room is zero before and after.
+// What the register prints for a line, and byte 10, from a place of the output on. The areas' room is zero, and they are left as they were.
 pub fn put_entry(
     number: u64,
     line: &[u8],

@@ -10,8 +10,9 @@ use Rattle.scope.specs.Line.{Line}
 use Rattle.scope.specs.Lists.{flat, padded, laid}
 use Rattle.scope.specs.Tables.{bytesSize, numbersSize, byteAt, sectionCode, bracketTexts, rows, numberRow, bytesOf, numbersOf}
 use Rattle.layout_laws.specs.Layout.{padded-length, rows-length, number-rows-length}
-use Rattle.accepted_laws.specs.Laws.{accepted-short, accepted-texts}
-use Rattle.reader.specs.ReadSays.{HoldSome, Wiped, wiped}
+use Rattle.layout_laws.specs.Laws.{bytes-fill, numbers-fill}
+use Rattle.accepted_laws.specs.Laws.{accepted-within, accepted-short, accepted-texts}
+use Rattle.reader.specs.ReadSays.{Lays, HoldSome, Stored, Wiped, wiped}
 use Rattle.reader.proofs.Storing.{cleared-clean}
 
 -- ---- from a place on, by way of the part that begins there
@@ -157,3 +158,20 @@ module _ {n : ℕ} {bs : List ℕ} {ns : List ℤ} (w : HoldSome n bs ns) where
         let b = bytes-wiped e₁ e₂ e₃ e₄ in
         let i = numbers-wiped g in
         record { clean = cleared-clean bs ns b i; bytes-now = b ∙ zeros-long bytesSize 0 bs; numbers-now = i ∙ zeros-long numbersSize (pos 0) ns }
+
+-- ---- areas that were clean, filled and wiped, are as they were
+relaid : {A : Type 0} (z : A) (n : ℕ) (t l : List A) → length t ≡ n → take n l ≡ replicate n z → laid (replicate n z) (laid t l) ≡ l
+relaid z n t l e h =
+    ap (λ i. replicate n z ++ drop i (laid t l)) (length-replicate n z)
+    ∙ ap (λ x. replicate n z ++ x) (drop-at t (drop (length t) l) n e ∙ ap (λ i. drop i l) e)
+    ∙ ap (λ x. x ++ drop n l) (sym h)
+    ∙ take-append-drop n l
+
+pub put-back : {line bs : List ℕ} {ns : List ℤ} {bs₁ : List ℕ} {ns₁ : List ℤ} {bs₂ : List ℕ} {ns₂ : List ℤ}
+    → Lays line bs ns → Stored line bs ns bs₁ ns₁ → Wiped bs₁ ns₁ bs₂ ns₂ → (bs₂ ≡ bs) × (ns₂ ≡ ns)
+put-back {line} {bs} {ns} w p q =
+    let l = w .held in
+    let v = accepted-within line l (w .accepts) in (
+      q .bytes-now ∙ ap (laid (replicate bytesSize 0)) (p .bytes-now l (w .accepts)) ∙ relaid 0 bytesSize (bytesOf l) bs (bytes-fill l v) (w .clean .bytes-zero),
+      q .numbers-now ∙ ap (laid (replicate numbersSize (pos 0))) (p .numbers-now l (w .accepts)) ∙ relaid (pos 0) numbersSize (numbersOf l) ns (numbers-fill l v) (w .clean .numbers-zero),
+    )

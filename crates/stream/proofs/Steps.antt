@@ -47,6 +47,12 @@ fronts o t left n e m h l =
       rest = ap (λ z. drop z left) m ∙ ap (drop (length t)) w ∙ drop-append-seam t (drop (length t) o) ∙ ap (λ z. drop z o) (sym m);
     }
 
+-- areas that are as they were are clean still
+pub still-clean : {most : ℕ} {o : List ℕ} {at : ℕ} {t left : List ℕ} {r : ℕ} {bytes : List ℕ} {numbers : List ℤ} {bytes′ : List ℕ} {numbers′ : List ℤ}
+    → Printed most o at t left r bytes numbers bytes′ numbers′ → Clean bytes numbers → Clean bytes′ numbers′
+still-clean {bytes = bytes} {numbers′ = numbers′} p w =
+    subst (λ z. Clean z numbers′) (sym (p .bytes-same)) (subst (λ z. Clean bytes z) (sym (p .numbers-same)) w)
+
 -- a text that stands at the front has the length that is told
 front-length : {t out outs : List ℕ} {n : ℕ} → Fronts t out outs n → n ≡ length t
 front-length {t} {out} {outs} {n} f = sym (length-take-le n outs (f .fits)) ∙ ap length (f .front)
@@ -136,9 +142,9 @@ module _ (chunk : List ℕ) (from number : ℕ) (bytes₀ : List ℕ) (numbers�
             ∙ sym (stored-append out₀ at before e) ∙ ap (stored out₀ at) (sym text);
         ends = omega (arith, p .puts .ends, a, length-append before e, ap length text);
         fits = omega (arith, p .puts .near, w .out-long);
-        clean = p .clean;
-        bytes-long = p .bytes-long ∙ w .bytes-long;
-        numbers-long = p .numbers-long ∙ w .numbers-long;
+        clean = still-clean p (w .clean);
+        bytes-long = ap length (p .bytes-same) ∙ w .bytes-long;
+        numbers-long = ap length (p .numbers-same) ∙ w .numbers-long;
         out-long = p .out-long ∙ w .out-long;
       }
 

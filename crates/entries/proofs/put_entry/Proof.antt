@@ -34,7 +34,7 @@ returns c =
     let s = f .before .before .before .before .before .before .before in
     let w = f .put-front .ensures in
     let t = puts-from (s .args .at) (s .args .out .now) (w .puts) in
-    record { puts = t; clean = w .clean; out-long = puts-length t; bytes-long = w .bytes-long; numbers-long = w .numbers-long }
+    record { puts = t; out-long = puts-length t; bytes-same = w .bytes-same; numbers-same = w .numbers-same }
 
 pub put-entry-spec : {M : Type 1} → statement M
 put-entry-spec =

@@ -29,7 +29,7 @@ returns c =
     let d = r .before .before .before .before .before .before in
     let w = r .put-report .ensures in
     let t = puts-of (entry-text _ _) (puts-join (d .put-decimal .ensures) (puts-join (w .puts) (p .put .ensures))) in
-    record { puts = t; clean = w .clean; out-long = puts-length t; bytes-long = w .bytes-long; numbers-long = w .numbers-long }
+    record { puts = t; out-long = puts-length t; bytes-same = w .bytes-same; numbers-same = w .numbers-same }
 
 pub put-front-spec : {M : Type 1} → statement M
 put-front-spec =

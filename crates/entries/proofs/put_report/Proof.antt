@@ -51,10 +51,9 @@ returns-2 c =
     let s = o .before .before .before .before in
     record {
       puts = puts-of (refused-text (s .args .line .now) (refused-is _ _ _ (ap saysRead (sym (v .v .given .1)) ∙ o .verdict-on .ensures))) (puts-within (omega arith) (r .put-refused .ensures));
-      clean = s .pre .0;
       out-long = puts-length (r .put-refused .ensures);
-      bytes-long = refl;
-      numbers-long = refl;
+      bytes-same = refl;
+      numbers-same = refl;
     }
 
 pub put-report-spec : {M : Type 1} → statement M

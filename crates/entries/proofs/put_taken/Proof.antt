@@ -1,6 +1,7 @@
 use native.Mathlib.Omega.{arith}
 use mathlib.Core.Path.{refl}
 use Rattle.reader.proofs.Storing.{holds-of}
+use Rattle.reader.proofs.Wiping.{put-back}
 use Rattle.writer.proofs.Storing.{puts-of, puts-length}
 use Rattle.entries.proofs.Taken.{known, taken-text}
 use borrow.Author.Needs.{needs}
@@ -38,12 +39,12 @@ returns c =
     let a = k .before .before .before .before .before in
     let p = a .before .before .before .before .before .before .before in
     let s = p .before .before .before .before .before .before in
+    let same = put-back (s .pre .0) (p .put .ensures) (k .wipe .ensures) in
     record {
       puts = puts-of (taken-text (s .pre .0 .held) (s .pre .0 .accepts) (p .put .ensures)) (a .put-accepted .ensures);
-      clean = k .wipe .ensures .clean;
       out-long = puts-length (a .put-accepted .ensures);
-      bytes-long = search needs;
-      numbers-long = search needs;
+      bytes-same = same .0;
+      numbers-same = same .1;
     }
 
 pub put-taken-spec : {M : Type 1} → statement M

@@ -2,7 +2,7 @@
 use native.Mathlib.Omega.{arith}
 use borrow.Author.Needs.{needs}
 use borrow.Author.Tests.{not-true, not-false}
-use Rattle.stream.proofs.Steps.{feeds-held, feeds-lines}
+use Rattle.stream.proofs.Steps.{still-clean, feeds-held, feeds-lines}
 use Rattle.stream.proofs.feed.Statement.{statement}
 use Rattle.stream.proofs.feed.Tie as tie
 
@@ -22,7 +22,7 @@ add-put-lines : tie.Need-add-put-lines
 add-put-lines c = let m = c .before .before .before .before .before .before .before .before .before .before .before .before .before .before .gather .ensures in omega (arith, c .before .before .before .before .before .before .before .before .before .before .before .before .before .before .before .before .before .before .before .before .pre .1, m .inside, m .goes (not-false _ (c .before .before .before .before .before .before .before .before .before .before .if1 .left)))
 
 put-lines-requires : tie.Need-put-lines-requires
-put-lines-requires c κs = let m = c .before .before .before .before .before .before .before .before .before .before .before .before .before .before .before .before .before .gather .ensures in let p = c .before .before .before .before .before .before .before .before .put-part .ensures in (m .inside, omega (arith, c .before .before .before .before .before .before .before .before .before .before .before .before .before .before .before .before .before .before .before .before .before .before .before .pre .1, m .goes (not-false _ (c .before .before .before .before .before .before .before .before .before .before .before .before .before .if1 .left))), p .clean, omega (arith, p .puts .near, p .out-long, c .before .before .before .before .before .before .before .before .before .before .before .before .before .before .before .before .before .before .before .before .before .before .before .pre .2 .wide))
+put-lines-requires c κs = let m = c .before .before .before .before .before .before .before .before .before .before .before .before .before .before .before .before .before .gather .ensures in let p = c .before .before .before .before .before .before .before .before .put-part .ensures in (m .inside, omega (arith, c .before .before .before .before .before .before .before .before .before .before .before .before .before .before .before .before .before .before .before .before .before .before .before .pre .1, m .goes (not-false _ (c .before .before .before .before .before .before .before .before .before .before .before .before .before .if1 .left))), still-clean p (c .before .before .before .before .before .before .before .before .before .before .before .before .before .before .before .before .before .before .before .before .before .before .before .pre .2 .clean), omega (arith, p .puts .near, p .out-long, c .before .before .before .before .before .before .before .before .before .before .before .before .before .before .before .before .before .before .before .before .before .before .before .pre .2 .wide))
 
 same-length-2 : tie.Need-same-length-2
 same-length-2 c = search needs

@@ -143,7 +143,7 @@ class Refusals(unittest.TestCase):
         header = (ROOT / "include" / "hwemiduk.h").read_text()
         for enum, first, members in [("section", 0, Section), ("kind", 1, Kind), ("key", 0, Key)]:
             start = header.index(f"enum hwemiduk_{enum} {{")
-            codes = re.findall(r"HWEMIDUK_(\w+) = (\d+)", header[start : header.index("}", start)])
+            codes = re.findall(r"HWEMIDUK_(\w+) = (\d+)", header[start : header.index("};", start)])
             plain = {int(code): re.sub("^(ON|NO)_|_|^KEY$", "", re.sub("^NO_KEY$", "NONE", name)) for name, code in codes}
             self.assertEqual(plain, {code: member.name.replace("_", "") for code, member in enumerate(members, first)})
 

@@ -17,6 +17,8 @@ import hwemiduk  # noqa: E402
 from hwemiduk import LIMITS, Bracket, Key, Kind, Label, Number, Part, Refusal, Section, read  # noqa: E402
 from hwemiduk._library import FREE, take  # noqa: E402
 
+SHARE = int(os.environ.get("HWEMIDUK_SHARE", 1))
+
 
 def refusal(call, *arguments):
     """The number and the place of a call's refusal, or None."""
@@ -115,15 +117,15 @@ class KnownLines(unittest.TestCase):
 
 
 class Vectors(unittest.TestCase):
-    """The outside vectors: each line with all that follows from it."""
+    """The outside vectors: each line with all that follows from it. Where HWEMIDUK_SHARE is a number n, one of every n of them."""
 
     @classmethod
     def setUpClass(cls):
         vectors = ROOT / "compare" / "vectors"
         lines = (vectors / "lines.in").read_bytes().split(b"\n")[:-1]
         outcomes = [json.loads(outcome) for outcome in (vectors / "lines.json").read_text().splitlines()]
-        cls.vectors = list(zip(lines, outcomes))
         assert len(lines) == len(outcomes) == 2400
+        cls.vectors = list(zip(lines, outcomes))[::SHARE]
         cls.accepted = [(read(line), outcome) for line, outcome in cls.vectors if outcome["ok"]]
 
     def test_outcomes(self):
@@ -172,7 +174,7 @@ class Vectors(unittest.TestCase):
                 for floater, position in zip(p.floaters, outcome["placements"][0]):
                     self.assertEqual(floater.bracket.millionths, outcome["ledger"][position], p)
                     met += 1
-        self.assertGreater(met, 100)
+        self.assertGreater(met, 100 // SHARE)
 
     def test_modifications_make_the_total(self):
         """The masses of the modifications, each copy counted, are the total, and those without one are missing."""
@@ -354,9 +356,8 @@ class Junk(unittest.TestCase):
     def test_any_bytes(self):
         source = random.Random(20261115)
         likely = b"ACacMm[]{}()?^-+#|:.0123456789xyINFOUobs"
-        share = int(os.environ.get("HWEMIDUK_SHARE", 1))
         accepted = 0
-        for _ in range(20_000 // share):
+        for _ in range(20_000 // SHARE):
             pool = likely if source.random() < 0.9 else bytes(range(256))
             line = bytes(source.choice(pool) for _ in range(source.randrange(12)))
             try:
@@ -366,7 +367,7 @@ class Junk(unittest.TestCase):
             else:
                 self.assertEqual(read(str(p)), p, line)
                 accepted += 1
-        self.assertGreater(accepted, 500 // share)
+        self.assertGreater(accepted, 500 // SHARE)
 
     def test_tables_of_no_line(self):
         """The library refuses tables that one byte of junk stands in: what it answers over areas is what is handed on."""

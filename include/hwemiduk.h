@@ -126,10 +126,10 @@ void hwemiduk_limits(hwemiduk_limits_t *limits);
 #define HWEMIDUK_RESIDUES_AT 0                                                    /* how many residues */
 #define HWEMIDUK_BRACKETS_USED_AT 1                                               /* how many brackets */
 #define HWEMIDUK_LETTERS_AT 2                                                     /* a letter for each residue, in upper case */
-#define HWEMIDUK_SECTIONS_AT (HWEMIDUK_LETTERS_AT + HWEMIDUK_RESIDUES)            /* a section for each residue (enum hwemiduk_section) */
+#define HWEMIDUK_SECTIONS_AT (HWEMIDUK_LETTERS_AT + HWEMIDUK_RESIDUES)            /* a section for each residue (hwemiduk_section) */
 #define HWEMIDUK_BRACKETS_AT (HWEMIDUK_SECTIONS_AT + HWEMIDUK_RESIDUES)           /* a row for each bracket, in order of appearance */
-#define HWEMIDUK_BRACKET_HEAD 6                                                   /* bytes before its parts (enum hwemiduk_head) */
-#define HWEMIDUK_PART_ROW 7                                                       /* bytes of a part (enum hwemiduk_part) */
+#define HWEMIDUK_BRACKET_HEAD 6                                                   /* bytes before its parts (hwemiduk_head) */
+#define HWEMIDUK_PART_ROW 7                                                       /* bytes of a part (hwemiduk_part) */
 #define HWEMIDUK_BRACKET_ROW (HWEMIDUK_BRACKET_HEAD + HWEMIDUK_PARTS * HWEMIDUK_PART_ROW)
 #define HWEMIDUK_TEXTS_AT (HWEMIDUK_BRACKETS_AT + HWEMIDUK_BRACKETS * HWEMIDUK_BRACKET_ROW)
 #define HWEMIDUK_BYTES (HWEMIDUK_TEXTS_AT + HWEMIDUK_LINE)
@@ -154,7 +154,7 @@ typedef uint8_t hwemiduk_position;
 
 /* The bytes of a bracket's row before its parts. */
 enum hwemiduk_head {
-    HWEMIDUK_HEAD_KIND = 0,     /* enum hwemiduk_kind */
+    HWEMIDUK_HEAD_KIND = 0,     /* of hwemiduk_kind */
     HWEMIDUK_HEAD_FIRST = 1,    /* first position: of a residue, its own; of a range, its first residue's; 0 at the N-terminus, n + 1 at the C-terminus; 0 of an unknown or labile one */
     HWEMIDUK_HEAD_LAST = 2,     /* last position: of a range, its last residue's; else the first one again */
     HWEMIDUK_HEAD_COUNT = 3,    /* the count behind ^, 1 to 99; 1 where none is written, and of all that are not of unknown position */
@@ -164,8 +164,8 @@ enum hwemiduk_head {
 
 /* The bytes of a part's row. */
 enum hwemiduk_part {
-    HWEMIDUK_PART_VALUE = 0,         /* enum hwemiduk_value */
-    HWEMIDUK_PART_KEY = 1,           /* enum hwemiduk_key */
+    HWEMIDUK_PART_VALUE = 0,         /* of hwemiduk_value */
+    HWEMIDUK_PART_KEY = 1,           /* of hwemiduk_key */
     HWEMIDUK_PART_DECIMALS = 2,      /* of a mass, the decimals as written; else 0 */
     HWEMIDUK_PART_TEXT = 3,          /* bytes of its text, behind key or prefix; 0 of a mass and of a reference */
     HWEMIDUK_PART_LABEL = 4,         /* bytes of its label; 0 where it has none */

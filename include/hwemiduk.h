@@ -16,7 +16,7 @@
  * may run at the same time, on areas of their own.
  *
  * Stack, in KiB, the most that is measured on lines and areas made to take much (tests/stack.c): hwemiduk_limits and hwemiduk_first_row 1, hwemiduk_verdict and
- * hwemiduk_read 14, hwemiduk_rows 29, every other call 27. Have 64 KiB free.
+ * hwemiduk_read 11, hwemiduk_ledger and hwemiduk_rows 29, every other call 25. Have 64 KiB free.
  *
  * Link libhwemiduk.a or libhwemiduk.so.0 (`make`, `make install`; pkg-config hwemiduk). The number behind .so is raised when a record here (hwemiduk_limits_t,
  * hwemiduk_listing, hwemiduk_site, the areas) changes its size or form, a call its arguments, or an answer its meaning. A new call or a new refusal does not raise it:

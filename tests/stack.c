@@ -15,7 +15,7 @@ enum call { NOTHING, LIMITS, VERDICT, READ, WRITE, RESIDUES, BRACKETS, FLOATERS,
 static const char *const names[CALLS] = { "nothing", "limits", "verdict", "read", "write", "residues", "brackets", "floaters", "total", "shown", "allowed", "next",
     "ledger", "rows", "first_row" };
 /* in KiB, as the header says */
-static const size_t said[CALLS] = { 0, 1, 14, 14, 27, 27, 27, 27, 27, 27, 27, 27, 27, 29, 1 };
+static const size_t said[CALLS] = { 0, 1, 11, 11, 25, 25, 25, 25, 25, 25, 25, 25, 29, 29, 1 };
 static size_t most[CALLS];
 
 static _Alignas(64) unsigned char stack[SIZE];

@@ -7,25 +7,29 @@ use Prim.Native.Nat.{ℕ, zero, suc, _≤_}
 use native.Mathlib.Omega.{arith}
 use borrow.Author.Tests.{le-ltb}
 use lib.IntN.{ℤ, _+ℤ_}
+use lib.Ieee.{Float}
 use lib.ListN.{length, take, drop}
 use lib.Seq.{take-append-seam, take-all}
 use Rattle.scope.specs.declared.answers.Read.{Read}
 use Rattle.scope.specs.declared.answers.Read.the-variants.{Accepted, Refused as readRefused}
+use Rattle.scope.specs.declared.answers.Count.{Count}
+use Rattle.scope.specs.declared.answers.Shown.{Shown}
+use Rattle.scope.specs.declared.answers.Site.{Site}
 use Rattle.scope.specs.declared.answers.Total.{Total}
 use Rattle.scope.specs.declared.answers.Total.the-variants.{Millionths, Refused as totalRefused}
 use Rattle.scope.specs.declared.answers.Request.{Request}
 use Rattle.scope.specs.declared.answers.Request.the-variants.{Met, Refused as requestRefused}
 use Rattle.scope.specs.declared.answers.Placement.{Placement}
 use Rattle.scope.specs.declared.answers.Listing.{Listing}
-use Rattle.scope.specs.Limits.{copyLimit, positionLimit}
+use Rattle.scope.specs.Limits.{copyLimit, positionLimit, rowLimit}
 use Rattle.scope.specs.Line.{Line}
 use Rattle.scope.specs.Lists.{member, laid}
 use Rattle.scope.specs.Tables.{Tables, tablesIn}
-use Rattle.scope.specs.Positions.{permittedPositions}
+use Rattle.scope.specs.Positions.{permittedPositions, floaters}
 use Rattle.scope.specs.Placements.{freshListing}
-use Rattle.scope.specs.Masses.{sum, ledger, labileMass}
-use Rattle.scope.specs.Answers.{Said, good, refuses, met, saysRead, saysTotal, saysRequest, tooShort, readOutcome, saysOutcome, writes, totals, allows, requests, books, entries}
-use Rattle.scope.specs.Grammar.{Spelling, print, good as wellSpelt}
+use Rattle.scope.specs.Masses.{sum, ledger, labileMass, daltons}
+use Rattle.scope.specs.Answers.{Said, good, refuses, met, Display, aMass, lack, saysRead, saysCount, saysShown, saysTotal, saysRequest, counts, residueCount, bracketCount, floaterCount, shows, rowsSaid, tooShort, readOutcome, saysOutcome, writes, totals, allows, requests, books, entries}
+use Rattle.scope.specs.Grammar.{Spelling, print, good as wellSpelt, means}
 use Rattle.grammar_laws.specs.Laws.{Accepts, Refuses}
 use Rattle.basics.specs.Tabled.{length-tabled}
 use Rattle.basics.specs.Each.{In}
@@ -33,17 +37,18 @@ use Rattle.basics.specs.Members.{in-member}
 use Rattle.placement_laws.specs.Members.{allowed-parts}
 use Rattle.reader.specs.ReadSays.{ReadSays}
 use Rattle.calls.specs.Writing.{WriteSays}
-use Rattle.calls.specs.Says.{TotalSays, AllowedSays, NextSays}
+use Rattle.calls.specs.Says.{CountSays, TotalSays, ShownSays, AllowedSays, NextSays}
 use Rattle.export.specs.Numbers.{numberOf, left, placeLeft, Exported}
-use Rattle.export.specs.Handed.{MovedOn}
-use Rattle.export.specs.Shapes.{lengthLeft, Written, Totalled, allowsLent, AllowedLent, booksLent, entriesAfter, Entered as EnteredLent}
-use Rattle.promises.specs.Promises.{Holding, Filed, HandsOut, Lists, EnteredC, FiledC, HandsOutC, Demand3C, PromisesC}
+use Rattle.export.specs.Handed.{MovedOn, RowsHanded}
+use Rattle.export.specs.Shapes.{lengthLeft, massOf, lackOf, Written, Totalled, Displayed, allowsLent, AllowedLent, booksLent, entriesAfter, Entered as EnteredLent}
+use Rattle.promises.specs.Promises.{Holding, Filed, HandsOut, Lists, Rowed, Reckoned, EnteredC, FiledC, HandsOutC, Demand3C, CountedC, ReckonedC, PromisesC}
 use Rattle.promises.specs.Said.{not-both, same-number, same-place, met-good, met-refused}
 use Rattle.promises.specs.Answering as calls
 use Rattle.promises.specs.AnsweringC as exported
 use Rattle.promises.specs.Readers as readers
 use Rattle.promises.specs.Written as written
 use Rattle.promises.specs.Weights as weights
+use Rattle.promises.specs.Rows as rows
 use Rattle.promises.specs.Listed as listed
 
 -- ---- the answers that numbers tell
@@ -271,6 +276,46 @@ module _ (bs : List ℕ) (ns : List ℤ) (h : weights.Taken bs ns) where
       in
       (e .numbered .number-is ∙ ap numberOf said, ap (λ z. sum z +ℤ labileMass t) (front ∙ sym at) ∙ s .1)
 
+  -- the display that is ensured, and what of it is told
+  shown-is : (m₀ : ℤ) (k₀ n : ℕ) (m : ℤ) (k : ℕ) → Totalled (totals bs ns) m₀ k₀ n m k → (d : Display)
+      → ((r : Shown) → ShownSays bs ns r → saysShown r ≡ good d) → shows bs ns ≡ good d
+  shown-is m₀ k₀ n m k w d f = let o = calls.shown bs ns .exactly-one in sym (o .ensured) ∙ f (o .outcome) (o .ensured)
+
+  displays : (m₀ : ℤ) (k₀ : ℕ) (m : ℤ) (k : ℕ) → Totalled (totals bs ns) m₀ k₀ 0 m k
+      → (x₀ : Float) (j₀ n : ℕ) (x : Float) (j : ℕ) → Displayed (shows bs ns) x₀ j₀ n x j → (n ≡ 0) × (x ≡ daltons m) × (j ≡ 0)
+  displays m₀ k₀ m k w x₀ j₀ n x j d =
+      let e = shown-is m₀ k₀ 0 m k w (aMass (daltons m)) (weights.displays bs ns h m (Millionths m) (total-inner m₀ k₀ 0 m k w) refl) in
+      (d .number-is ∙ ap numberOf e, d .mass-is ∙ ap (λ z. left z massOf x₀) e, d .missing-is ∙ ap (λ z. left z lackOf j₀) e)
+
+  lacks : (m₀ : ℤ) (k₀ : ℕ) (m : ℤ) (k : ℕ) → Totalled (totals bs ns) m₀ k₀ 16 m k
+      → (x₀ : Float) (j₀ n : ℕ) (x : Float) (j : ℕ) → Displayed (shows bs ns) x₀ j₀ n x j → (n ≡ 0) × (j ≡ k)
+  lacks m₀ k₀ m k w x₀ j₀ n x j d =
+      let e = shown-is m₀ k₀ 16 m k w (lack k) (λ r v. weights.lacks bs ns h k (totalRefused 16 k) (total-inner m₀ k₀ 16 m k w) r v .1 refl) in
+      (d .number-is ∙ ap numberOf e, d .missing-is ∙ ap (λ z. left z lackOf j₀) e)
+
+  rows-c : (room : List Site) → rowLimit ≤ length room → (c n c′ : ℕ) (room′ : List Site) → RowsHanded bs ns room c n c′ room′
+      → (n ≡ 0) × Rowed bs ns room room′ c′
+  rows-c room long c n c′ room′ w =
+      let o = calls.rows bs ns room .exactly-one in
+      let r = rows.rows-kept bs ns (h .long-enough) (h .taken) room long (o .outcome .0) room′ (o .ensured .0, w .rows-after) in
+      let said : rowsSaid bs ns room ≡ good (r .0) = sym (o .ensured .0) ∙ r .1 .0 in
+      let many : c′ ≡ r .0 = w .counted .count-is ∙ ap (λ z. left z (λ k. k) c) said in
+      (w .counted .number-is ∙ ap numberOf said, subst (λ z. Rowed bs ns room room′ z) (sym many) (r .1 .1))
+
+  counted-c : (f : Tables → ℕ) (many : ℕ) → ((r : Count) → CountSays f bs ns r → saysCount r ≡ good many) → CountedC bs ns f many
+  counted-c f many says c n c′ w =
+      let o = calls.count bs ns f .exactly-one in
+      let said : counts bs ns f ≡ good many = sym (o .ensured) ∙ says (o .outcome) (o .ensured) in
+      (w .number-is ∙ ap numberOf said, w .count-is ∙ ap (λ z. left z (λ k. k) c) said)
+
+  reckoned-c : (t : Spelling) → Reckoned t bs ns → ReckonedC t bs ns
+  reckoned-c t r =
+      record {
+        residues = counted-c residueCount (length (means t .residues)) (r .residues);
+        brackets = counted-c bracketCount (length (means t .brackets)) (r .brackets);
+        floating = counted-c floaterCount (length (floaters (means t))) (r .floating);
+      }
+
   demand-3 : Demand3C bs ns
   demand-3 =
       record {
@@ -279,6 +324,9 @@ module _ (bs : List ℕ) (ns : List ℤ) (h : weights.Taken bs ns) where
         ascending = λ ps w. inner .ascending ps (to-inner ps freshListing w);
         none = none;
         adds-up = adds-up;
+        displays = displays;
+        lacks = lacks;
+        rows = rows-c;
       }
 
 pub promises-c : PromisesC
@@ -293,4 +341,8 @@ promises-c =
           written.demand-2 .one-entry s bs ns bs₁ ns₁ out₁ m (filed-inner f) t cs ms bs₂ ns₂ out₂ n (filed-inner g);
       demand-3 = λ s bs ns place p bs′ ns′ w.
           demand-3 bs′ ns′ (weights.taken-after (readers.was-read s bs ns Accepted bs′ ns′ (read-inner s bs ns place 0 p bs′ ns′ w) refl));
+      reckoned = λ s bs ns place p bs′ ns′ w t g e.
+          let a = readers.was-read s bs ns Accepted bs′ ns′ (read-inner s bs ns place 0 p bs′ ns′ w) refl in
+          let h = weights.taken-after a in
+          reckoned-c bs′ ns′ h t (weights.reckoned a h t (readers.line-means a t g e));
     }

@@ -359,6 +359,24 @@ pub record Demand3C (bs : List ℕ) (ns : List ℤ) : Type 0 where
       (m₀ : ℤ) (k₀ : ℕ) (m : ℤ) (k : ℕ) → Totalled (totals bs ns) m₀ k₀ 0 m k → (p : List ℕ) → copyLimit ≤ length p → AllowedLent bs ns p 0
       → (old : List ℤ) → positionLimit ≤ length old → (i n j : ℕ) (new : List ℤ) → EnteredLent bs ns p old i n j new
       → (n ≡ 0) × (sum (take positionLimit new) +ℤ labileMass (tablesIn bs ns) ≡ m)
+  pub displays :
+      (m₀ : ℤ) (k₀ : ℕ) (m : ℤ) (k : ℕ) → Totalled (totals bs ns) m₀ k₀ 0 m k
+      → (x₀ : Float) (j₀ n : ℕ) (x : Float) (j : ℕ) → Displayed (shows bs ns) x₀ j₀ n x j → (n ≡ 0) × (x ≡ daltons m) × (j ≡ 0)
+  pub lacks :
+      (m₀ : ℤ) (k₀ : ℕ) (m : ℤ) (k : ℕ) → Totalled (totals bs ns) m₀ k₀ 16 m k
+      → (x₀ : Float) (j₀ n : ℕ) (x : Float) (j : ℕ) → Displayed (shows bs ns) x₀ j₀ n x j → (n ≡ 0) × (j ≡ k)
+  pub rows :
+      (room : List Site) → rowLimit ≤ length room → (c n c′ : ℕ) (room′ : List Site) → RowsHanded bs ns room c n c′ room′
+      → (n ≡ 0) × Rowed bs ns room room′ c′
+
+-- a count that is answered, whatever was lent for it
+abbrev pub CountedC : List ℕ → List ℤ → (Tables → ℕ) → ℕ → Type 0
+CountedC bs ns f many = (c n c′ : ℕ) → Counted (counts bs ns f) c n c′ → (n ≡ 0) × (c′ ≡ many)
+
+pub record ReckonedC (t : Spelling) (bs : List ℕ) (ns : List ℤ) : Type 0 where
+  pub residues : CountedC bs ns residueCount (length (means t .residues))
+  pub brackets : CountedC bs ns bracketCount (length (means t .brackets))
+  pub floating : CountedC bs ns floaterCount (length (floaters (means t)))
 
 pub record PromisesC : Type 0 where
   pub demand-1 : Demand1C
@@ -380,3 +398,6 @@ pub record PromisesC : Type 0 where
       → take m out₁ ≡ take n out₂ ↔ (tablesIn bs₁ ns₁ ≡ tablesIn bs₂ ns₂)
   pub demand-3 :
       (s bs : List ℕ) (ns : List ℤ) (place p : ℕ) (bs′ : List ℕ) (ns′ : List ℤ) → Exported s bs ns place 0 p bs′ ns′ → Demand3C bs′ ns′
+  pub reckoned :
+      (s bs : List ℕ) (ns : List ℤ) (place p : ℕ) (bs′ : List ℕ) (ns′ : List ℤ) → Exported s bs ns place 0 p bs′ ns′
+      → (t : Spelling) → wellSpelt t ≡ true → s ≡ print t → ReckonedC t bs′ ns′

@@ -11,4 +11,5 @@ pub mod Kept
 pub mod AnsweringC
 pub mod KeptC
 pub mod Linked
+pub mod LinkedC
 pub mod Wrong

@@ -139,7 +139,7 @@ pub fn bracket_mass(bytes: &[u8], numbers: &[i64], k: usize) -> Mass
 }
 
 // The same, and 0 for none.
-pub fn mass_or_0(bytes: &[u8], numbers: &[i64], k: usize) -> i64
+fn mass_or_0(bytes: &[u8], numbers: &[i64], k: usize) -> i64
     requires { ⌜ Reach (now bytes) (now numbers) k ⌝ }
     ensures { λ r. ⌜ r ≡ massOr0 (bracketIn (now (bytes .entry)) (now (numbers .entry)) k) ⌝ }
 {

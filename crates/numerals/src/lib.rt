@@ -61,7 +61,7 @@ pub fn number_unsigned(line: &[u8], at: usize) -> Num
 }
 
 // The digits from `at` on, behind a number v.
-pub fn digit_run(line: &[u8], at: usize, v: u64) -> DigitRun
+fn digit_run(line: &[u8], at: usize, v: u64) -> DigitRun
     requires { ⌜ v ≤ cap ⌝ }
     ensures { λ r. ⌜ DigitsAt (now (line .entry)) at v (r .value) (r .next) ⌝ }
 {

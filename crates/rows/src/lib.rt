@@ -17,7 +17,7 @@ ghost use Rattle.rows.specs.First.{seen, codeOf, BytePositions, boundOf,
 ghost use Rattle.rows.specs.Says.{LookupSays};
 
 // The first place from one on whose byte is 1, or the end.
-pub fn next_place(tab: &[u8], from: usize, end: usize) -> usize
+fn next_place(tab: &[u8], from: usize, end: usize) -> usize
     requires { ⌜ (from ≤ end) × (end ≤ length (now tab)) ⌝ }
     ensures { λ r. ⌜ r ≡ getD (onesFrom (now (tab .entry)) from end) 0 end ⌝ }
 {
@@ -32,7 +32,7 @@ pub fn next_place(tab: &[u8], from: usize, end: usize) -> usize
 }
 
 // The row of a place in the table.
-pub fn site_of(at: usize) -> Site
+fn site_of(at: usize) -> Site
     requires { ⌜ at < rowLimit ⌝ }
     ensures { λ r. ⌜ r ≡ siteOf at ⌝ }
 {
@@ -61,7 +61,7 @@ pub fn fill_rows<'a, 'b>(tab: &'a [u8], count: usize, out: &'b mut [Site]) -> us
 }
 
 // One row more is looked at.
-pub fn see(code: usize, i: usize, floater: u8, position: u8, wanted: u8) -> usize
+fn see(code: usize, i: usize, floater: u8, position: u8, wanted: u8) -> usize
     requires { ⌜ i < rowLimit ⌝ }
     ensures { λ r. ⌜ r ≡ seen code i floater position wanted ⌝ }
 {
@@ -76,7 +76,7 @@ pub fn see(code: usize, i: usize, floater: u8, position: u8, wanted: u8) -> usiz
 }
 
 // The first row of a floater among the first n, as one number.
-pub fn first_code(rows: &[Site], n: usize, wanted: u8) -> usize
+fn first_code(rows: &[Site], n: usize, wanted: u8) -> usize
     requires { ⌜ (n ≤ length (now rows)) × (n ≤ rowLimit) ⌝ }
     ensures { λ r. ⌜ (r ≡ codeOf (now (rows .entry)) wanted n) × (BytePositions (now (rows .entry)) n) ⌝ }
 {
@@ -91,7 +91,7 @@ pub fn first_code(rows: &[Site], n: usize, wanted: u8) -> usize
 }
 
 // How many rows are looked at.
-pub fn bound(n: usize, room: usize) -> usize
+fn bound(n: usize, room: usize) -> usize
     ensures { λ r. ⌜ (r ≡ boundOf n room) × (r ≤ room) × (r ≤ rowLimit) ⌝ }
 {
     if room < Placement::ROWS {
@@ -104,7 +104,7 @@ pub fn bound(n: usize, room: usize) -> usize
 }
 
 // The answer of a code.
-pub fn row_of(code: usize, room: usize) -> Lookup
+fn row_of(code: usize, room: usize) -> Lookup
     ensures { λ r. ⌜ saysLookup r ≡ saysCode code room ⌝ }
 {
     if room < Placement::ROWS {

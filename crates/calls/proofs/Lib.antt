@@ -1,3 +1,4 @@
 pub mod Laws
 pub mod RowLaws
+pub mod SingleLaws
 pub mod WriteLaws

@@ -1,4 +1,5 @@
 pub mod Held
+pub mod Single
 pub mod Rows
 pub mod Writing
 pub mod Says

@@ -1,4 +1,5 @@
 // The calls over lent areas. Each answers whatever the areas hold: 13 where one is too short, 14 where they are no tables, else its own.
+use masses::Mass;
 use masses::Weight;
 use masses::as_daltons;
 use masses::ledger_of;
@@ -29,7 +30,7 @@ ghost use Rattle.scope.specs.Answers.{saysBooked, requested, books, tooShort, r
 ghost use Rattle.calls.specs.Held.{whyNot};
 ghost use Rattle.calls.specs.Rows.{RowsReady};
 ghost use Rattle.calls.specs.Writing.{WriteSays};
-ghost use Rattle.calls.specs.Says.{CountSays, TotalSays, ShownSays, AllowedSays, NextSays, LedgerSays};
+ghost use Rattle.calls.specs.Says.{CountSays, TotalSays, BracketMassSays, ShownSays, AllowedSays, NextSays, LedgerSays};
 
 // "a lent area is shorter than its fixed size"
 fn too_short(bytes: &[u8], numbers: &[i64]) -> bool
@@ -142,6 +143,35 @@ pub fn total(bytes: &[u8], numbers: &[i64]) -> Total
         Weight::Lacks(n) => Total::Refused {
             number: 16,
             place: n,
+        },
+    }
+}
+
+// A bracket's own mass, in millionths: 17 where there is no such bracket, 16 with its count where it has none.
+pub fn bracket_mass(bytes: &[u8], numbers: &[i64], k: usize) -> Total
+    ensures { λ r. ⌜ BracketMassSays (now (bytes .entry)) (now (numbers .entry)) k r ⌝ }
+{
+    let why = why_not(bytes, numbers);
+    if why != 0 {
+        return Total::Refused {
+            number: why,
+            place: 0,
+        };
+    }
+    let b = areas::brackets(bytes);
+    if b <= k {
+        return Total::Refused {
+            number: 17,
+            place: 0,
+        };
+    }
+    let copies = brackets::count(bytes, k);
+    let mass = masses::bracket_mass(bytes, numbers, k);
+    match mass {
+        Mass::Is(m) => Total::Millionths(m),
+        Mass::Lacking => Total::Refused {
+            number: 16,
+            place: copies,
         },
     }
 }

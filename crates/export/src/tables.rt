@@ -13,6 +13,7 @@ ghost use Prim.Native.Nat.{_≤_};
 ghost use lib.ListN.{length, take, drop};
 ghost use Rattle.scope.specs.Limits.{copyLimit};
 ghost use Rattle.scope.specs.Answers.{saysWrite, saysTotal, saysShown, counts, residueCount, bracketCount, floaterCount, totals, shows};
+ghost use Rattle.calls.specs.Single.{weighsAt};
 ghost use Rattle.export.specs.Handed.{Counted};
 ghost use Rattle.export.specs.Shapes.{Measured, Written, Totalled, Displayed, AllowedLent, Entered};
 
@@ -104,6 +105,21 @@ pub extern "C" fn hwemiduk_total(
     ensures { λ r. ⌜ Totalled (totals (now (bytes .entry)) (now (numbers .entry))) (now (millionths .entry)) (now (place .entry)) r (now (millionths .exit)) (now (place .exit)) ⌝ }
 {
     let t = calls::total(bytes, numbers);
+    tell_total(t, millionths, place)
+}
+
+// A bracket's own mass, brackets counted from 0: 0 and the millionths; else 13, 14, 16 or 17, and in `place` its count (16) or 0.
+#[no_mangle]
+pub extern "C" fn hwemiduk_bracket_mass(
+    bytes: &[u8],
+    numbers: &[i64],
+    bracket: usize,
+    millionths: &mut i64,
+    place: &mut usize,
+) -> u8
+    ensures { λ r. ⌜ Totalled (weighsAt (now (bytes .entry)) (now (numbers .entry)) bracket) (now (millionths .entry)) (now (place .entry)) r (now (millionths .exit)) (now (place .exit)) ⌝ }
+{
+    let t = calls::bracket_mass(bytes, numbers, bracket);
     tell_total(t, millionths, place)
 }
 

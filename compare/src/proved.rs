@@ -79,6 +79,13 @@ pub fn total(bytes: &[u8], numbers: &[i64]) -> Result<i64, Refusal> {
     answer((number, place)).map(|()| millionths)
 }
 
+/// A bracket's own mass in millionths.
+pub fn bracket_mass(bytes: &[u8], numbers: &[i64], bracket: usize) -> Result<i64, Refusal> {
+    let (number, millionths, place) = outs::bracket_mass(bytes, numbers, bracket);
+    assert!(number == 0 || millionths == i64::MIN, "a refusal leaves the mass as it was");
+    answer((number, place)).map(|()| millionths)
+}
+
 /// The total for display.
 pub fn shown(bytes: &[u8], numbers: &[i64]) -> Display {
     let (number, daltons, missing) = outs::shown(bytes, numbers);

@@ -123,6 +123,12 @@ pub enum Shown {
     Missing(usize),
 }
 
+/// The version of the library: 10000 times its first number, 100 times its second, and its third.
+pub fn version() -> u32 {
+    // SAFETY: it takes nothing.
+    unsafe { hwemiduk_version() }
+}
+
 /// All limits and sizes.
 pub fn limits() -> Limits {
     let mut limits = Limits::default();
@@ -170,6 +176,12 @@ pub fn floaters(bytes: &[u8], numbers: &[i64]) -> Result<usize, Refusal> {
 /// The sum of the masses of the modifications in millionths, without the residues; or 16, with how many have none as its place.
 pub fn total(bytes: &[u8], numbers: &[i64]) -> Result<i64, Refusal> {
     let (number, millionths, place) = outs::total(bytes, numbers);
+    answer(number, place, millionths)
+}
+
+/// The mass that a bracket has by itself, in millionths, brackets counted from 0; or 16, with its count as its place, where it has none, or 17 where there is no such bracket.
+pub fn bracket_mass(bytes: &[u8], numbers: &[i64], bracket: usize) -> Result<i64, Refusal> {
+    let (number, millionths, place) = outs::bracket_mass(bytes, numbers, bracket);
     answer(number, place, millionths)
 }
 
@@ -273,6 +285,15 @@ pub mod outs {
         (number, millionths, place)
     }
 
+    /// The number, the mass in millionths, and the place.
+    pub fn bracket_mass(bytes: &[u8], numbers: &[i64], bracket: usize) -> (u8, i64, usize) {
+        let (mut millionths, mut place) = (i64::MIN, usize::MAX);
+        let number = unsafe {
+            hwemiduk_bracket_mass(bytes.as_ptr(), bytes.len(), numbers.as_ptr(), numbers.len(), bracket, &mut millionths, &mut place)
+        };
+        (number, millionths, place)
+    }
+
     /// The number, the mass in Daltons, and how many have none.
     pub fn shown(bytes: &[u8], numbers: &[i64]) -> (u8, f64, usize) {
         let (mut daltons, mut missing) = (f64::NAN, usize::MAX);
@@ -319,6 +340,7 @@ pub mod outs {
 // The calls as include/hwemiduk.h declares them.
 #[rustfmt::skip]
 extern "C" {
+    fn hwemiduk_version() -> u32;
     fn hwemiduk_limits(limits: *mut Limits);
     fn hwemiduk_verdict(line: *const u8, line_len: usize, place: *mut usize) -> u8;
     fn hwemiduk_read(line: *const u8, line_len: usize, bytes: *mut u8, bytes_len: usize, numbers: *mut i64, numbers_len: usize, place: *mut usize) -> u8;
@@ -327,6 +349,8 @@ extern "C" {
     fn hwemiduk_brackets(bytes: *const u8, bytes_len: usize, numbers: *const i64, numbers_len: usize, count: *mut usize) -> u8;
     fn hwemiduk_floaters(bytes: *const u8, bytes_len: usize, numbers: *const i64, numbers_len: usize, count: *mut usize) -> u8;
     fn hwemiduk_total(bytes: *const u8, bytes_len: usize, numbers: *const i64, numbers_len: usize, millionths: *mut i64, place: *mut usize) -> u8;
+    fn hwemiduk_bracket_mass(bytes: *const u8, bytes_len: usize, numbers: *const i64, numbers_len: usize, bracket: usize, millionths: *mut i64,
+        place: *mut usize) -> u8;
     fn hwemiduk_shown(bytes: *const u8, bytes_len: usize, numbers: *const i64, numbers_len: usize, daltons: *mut f64, missing: *mut usize) -> u8;
     fn hwemiduk_allowed(bytes: *const u8, bytes_len: usize, numbers: *const i64, numbers_len: usize, placement: *const Position, placement_len: usize) -> u8;
     fn hwemiduk_next(bytes: *const u8, bytes_len: usize, numbers: *const i64, numbers_len: usize, listing: *mut Listing) -> u8;

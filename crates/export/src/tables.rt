@@ -15,7 +15,7 @@ ghost use Rattle.scope.specs.Limits.{copyLimit};
 ghost use Rattle.scope.specs.Answers.{saysWrite, saysTotal, saysShown, counts, residueCount, bracketCount, floaterCount, totals, shows};
 ghost use Rattle.calls.specs.Single.{weighsAt};
 ghost use Rattle.export.specs.Handed.{Counted};
-ghost use Rattle.export.specs.Shapes.{Measured, Written, Totalled, Displayed, AllowedLent, Entered};
+ghost use Rattle.export.specs.Shapes.{Measured, Written, Totalled, Displayed, AllowedLent, Entered, FloatersHanded};
 
 // How many residues there are: 0 and the count; else 13 or 14.
 #[no_mangle]
@@ -41,6 +41,22 @@ pub extern "C" fn hwemiduk_floaters(bytes: &[u8], numbers: &[i64], count: &mut u
     ensures { λ r. ⌜ Counted (counts (now (bytes .entry)) (now (numbers .entry)) floaterCount) (now (count .entry)) r (now (count .exit)) ⌝ }
 {
     let c = calls::floater_count(bytes, numbers);
+    tell_count(c, count)
+}
+
+// The floaters in order, for each its bracket, counted from 0, and which copy of it it is, counted from 1: 0 with their number, and entries past them as they
+// were; else 13, also where a slice has fewer entries than there may be floaters, or 14.
+#[no_mangle]
+pub extern "C" fn hwemiduk_floater_brackets(
+    bytes: &[u8],
+    numbers: &[i64],
+    brackets: &mut [u8],
+    copies: &mut [u8],
+    count: &mut usize,
+) -> u8
+    ensures { λ r. ⌜ FloatersHanded (now (bytes .entry)) (now (numbers .entry)) (now (brackets .entry)) (now (copies .entry)) (now (count .entry)) r (now (count .exit)) (now (brackets .exit)) (now (copies .exit)) ⌝ }
+{
+    let c = calls::floater_brackets(bytes, numbers, brackets, copies);
     tell_count(c, count)
 }
 

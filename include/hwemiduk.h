@@ -245,6 +245,13 @@ uint8_t hwemiduk_brackets(const uint8_t *bytes, size_t bytes_len, const int64_t 
 /* How many floating copies: each is a floater of its own, in order of their brackets. */
 uint8_t hwemiduk_floaters(const uint8_t *bytes, size_t bytes_len, const int64_t *numbers, size_t numbers_len, size_t *count);
 
+/*
+ * For each floater, in order, its bracket, counted from 0, and which copy of it it is, counted from 1: 0 with the first *count entries of both slices; or 13 (also
+ * where one of the two has fewer than limits.copies entries) or 14.
+ */
+uint8_t hwemiduk_floater_brackets(const uint8_t *bytes, size_t bytes_len, const int64_t *numbers, size_t numbers_len, uint8_t *brackets, size_t brackets_len,
+    uint8_t *copies, size_t copies_len, size_t *count);
+
 /* ---- Masses: of the modifications only. The residues' own masses are not in them: the total of a line without modifications is 0. */
 
 /*

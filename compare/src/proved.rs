@@ -60,6 +60,11 @@ pub fn floaters(bytes: &[u8], numbers: &[i64]) -> Result<usize, Refusal> {
     count(outs::floaters(bytes, numbers))
 }
 
+/// For each floater its bracket and its copy, into two slices: how many.
+pub fn floater_brackets(bytes: &[u8], numbers: &[i64], brackets: &mut [u8], copies: &mut [u8]) -> Result<usize, Refusal> {
+    count(outs::floater_brackets(bytes, numbers, brackets, copies))
+}
+
 /// Writes the canonical line into an output of any length: how many bytes.
 pub fn write(bytes: &[u8], numbers: &[i64], out: &mut [u8]) -> Result<usize, Refusal> {
     match outs::write(bytes, numbers, out) {

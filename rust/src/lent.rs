@@ -173,6 +173,13 @@ pub fn floaters(bytes: &[u8], numbers: &[i64]) -> Result<usize, Refusal> {
     answer(number, 0, count)
 }
 
+/// Writes for each floater, in order, the index of its bracket and which copy of it it is, counted from 1, into two slices of at least [`COPIES`], and answers how many
+/// there are.
+pub fn floater_brackets(bytes: &[u8], numbers: &[i64], brackets: &mut [u8], copies: &mut [u8]) -> Result<usize, Refusal> {
+    let (number, count) = outs::floater_brackets(bytes, numbers, brackets, copies);
+    answer(number, 0, count)
+}
+
 /// The sum of the masses of the modifications in millionths, without the residues; or 16, with how many have none as its place.
 pub fn total(bytes: &[u8], numbers: &[i64]) -> Result<i64, Refusal> {
     let (number, millionths, place) = outs::total(bytes, numbers);
@@ -278,6 +285,16 @@ pub mod outs {
         (number, count)
     }
 
+    /// The number and the count.
+    pub fn floater_brackets(bytes: &[u8], numbers: &[i64], brackets: &mut [u8], copies: &mut [u8]) -> (u8, usize) {
+        let mut count = usize::MAX;
+        let (brackets, brackets_len, copies, copies_len) = (brackets.as_mut_ptr(), brackets.len(), copies.as_mut_ptr(), copies.len());
+        let number = unsafe {
+            hwemiduk_floater_brackets(bytes.as_ptr(), bytes.len(), numbers.as_ptr(), numbers.len(), brackets, brackets_len, copies, copies_len, &mut count)
+        };
+        (number, count)
+    }
+
     /// The number, the total in millionths, and the place.
     pub fn total(bytes: &[u8], numbers: &[i64]) -> (u8, i64, usize) {
         let (mut millionths, mut place) = (i64::MIN, usize::MAX);
@@ -348,6 +365,8 @@ extern "C" {
     fn hwemiduk_residues(bytes: *const u8, bytes_len: usize, numbers: *const i64, numbers_len: usize, count: *mut usize) -> u8;
     fn hwemiduk_brackets(bytes: *const u8, bytes_len: usize, numbers: *const i64, numbers_len: usize, count: *mut usize) -> u8;
     fn hwemiduk_floaters(bytes: *const u8, bytes_len: usize, numbers: *const i64, numbers_len: usize, count: *mut usize) -> u8;
+    fn hwemiduk_floater_brackets(bytes: *const u8, bytes_len: usize, numbers: *const i64, numbers_len: usize, brackets: *mut u8, brackets_len: usize,
+        copies: *mut u8, copies_len: usize, count: *mut usize) -> u8;
     fn hwemiduk_total(bytes: *const u8, bytes_len: usize, numbers: *const i64, numbers_len: usize, millionths: *mut i64, place: *mut usize) -> u8;
     fn hwemiduk_bracket_mass(bytes: *const u8, bytes_len: usize, numbers: *const i64, numbers_len: usize, bracket: usize, millionths: *mut i64,
         place: *mut usize) -> u8;

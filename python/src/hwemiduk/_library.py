@@ -113,6 +113,7 @@ for _name, _arguments in {
     "read": (c_char_p, c_size_t, *_tables, c_void_p),
     "write": (*_tables, c_void_p, c_size_t, c_void_p),
     "floaters": (*_tables, c_void_p),
+    "floater_brackets": (*_tables, POINTER(c_uint8), c_size_t, POINTER(c_uint8), c_size_t, c_void_p),
     "total": (*_tables, POINTER(c_int64), c_void_p),
     "bracket_mass": (*_tables, c_size_t, POINTER(c_int64), c_void_p),
     "shown": (*_tables, POINTER(c_double), c_void_p),

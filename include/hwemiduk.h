@@ -15,8 +15,8 @@
  * it also links without one. The code is position independent. It has no state, no locks and no thread storage, takes no memory, and does no input or output: calls
  * may run at the same time, on areas of their own.
  *
- * Stack, in KiB, the most that is measured on lines and areas made to take much (tests/stack.c): hwemiduk_limits and hwemiduk_first_row 1, hwemiduk_verdict and
- * hwemiduk_read 11, hwemiduk_ledger and hwemiduk_rows 29, every other call 25. Have 64 KiB free.
+ * Stack, in KiB, the most that is measured on lines and areas made to take much (tests/stack.c): hwemiduk_version, hwemiduk_limits and hwemiduk_first_row 1,
+ * hwemiduk_verdict and hwemiduk_read 11, hwemiduk_ledger and hwemiduk_rows 29, every other call 25. Have 64 KiB free.
  *
  * Link libhwemiduk.a or libhwemiduk.so.0 (`make`, `make install`; pkg-config hwemiduk). The number behind .so is raised when a record here (hwemiduk_limits_t,
  * hwemiduk_listing, hwemiduk_site, the areas) changes its size or form, a call its arguments, or an answer its meaning. A new call or a new refusal does not raise it:
@@ -35,6 +35,9 @@ extern "C" {
 /* ---- The version of this header, as the file VERSION has it; the number is 10000 * major + 100 * minor + patch. */
 #define HWEMIDUK_VERSION "0.1.0"
 #define HWEMIDUK_VERSION_NUMBER 100
+
+/* The version of the library that is linked, counted as HWEMIDUK_VERSION_NUMBER is. */
+uint32_t hwemiduk_version(void);
 
 /* ---- What the calls answer: 0, or a refusal. docs/SCOPE.md says exactly when each is given. */
 enum hwemiduk_answer {
@@ -242,6 +245,13 @@ uint8_t hwemiduk_brackets(const uint8_t *bytes, size_t bytes_len, const int64_t 
 /* How many floating copies: each is a floater of its own, in order of their brackets. */
 uint8_t hwemiduk_floaters(const uint8_t *bytes, size_t bytes_len, const int64_t *numbers, size_t numbers_len, size_t *count);
 
+/*
+ * For each floater, in order, its bracket, counted from 0, and which copy of it it is, counted from 1: 0 with the first *count entries of both slices; or 13 (also
+ * where one of the two has fewer than limits.copies entries) or 14.
+ */
+uint8_t hwemiduk_floater_brackets(const uint8_t *bytes, size_t bytes_len, const int64_t *numbers, size_t numbers_len, uint8_t *brackets, size_t brackets_len,
+    uint8_t *copies, size_t copies_len, size_t *count);
+
 /* ---- Masses: of the modifications only. The residues' own masses are not in them: the total of a line without modifications is 0. */
 
 /*
@@ -251,7 +261,14 @@ uint8_t hwemiduk_floaters(const uint8_t *bytes, size_t bytes_len, const int64_t 
 uint8_t hwemiduk_total(const uint8_t *bytes, size_t bytes_len, const int64_t *numbers, size_t numbers_len, int64_t *millionths, size_t *place);
 
 /*
- * The same sum for display: 0 with the mass in *daltons and 0 in *missing; or, where modifications have no mass, also 0, with how many in *missing and 0.0 in
+ * The mass that bracket k has by itself, brackets counted from 0: its first mass that is not behind Obs, else its first one behind Obs; not multiplied by its count. 0
+ * with it in *millionths; or 16, if it has none, with its count in *place; or 17, if there is no such bracket, or 13 or 14, with 0 in *place.
+ */
+uint8_t hwemiduk_bracket_mass(const uint8_t *bytes, size_t bytes_len, const int64_t *numbers, size_t numbers_len, size_t bracket, int64_t *millionths,
+    size_t *place);
+
+/*
+ * The sum of all modifications for display: 0 with the mass in *daltons and 0 in *missing; or, where modifications have no mass, also 0, with how many in *missing and 0.0 in
  * *daltons; or 13 or 14.
  */
 uint8_t hwemiduk_shown(const uint8_t *bytes, size_t bytes_len, const int64_t *numbers, size_t numbers_len, double *daltons, size_t *missing);

@@ -17,6 +17,7 @@ int main(void)
 {
     hwemiduk_limits_t limits;
     hwemiduk_limits(&limits);
+    same("HWEMIDUK_VERSION_NUMBER", HWEMIDUK_VERSION_NUMBER, hwemiduk_version());
     same("HWEMIDUK_LINE", HWEMIDUK_LINE, limits.line);
     same("HWEMIDUK_RESIDUES", HWEMIDUK_RESIDUES, limits.residues);
     same("HWEMIDUK_BRACKETS", HWEMIDUK_BRACKETS, limits.brackets);

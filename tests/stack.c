@@ -11,11 +11,11 @@
 #define SIZE (256 * 1024)
 #define PAINT 0xC3
 
-enum call { NOTHING, LIMITS, VERDICT, READ, WRITE, RESIDUES, BRACKETS, FLOATERS, TOTAL, SHOWN, ALLOWED, NEXT, LEDGER, ROWS, FIRST_ROW, CALLS };
-static const char *const names[CALLS] = { "nothing", "limits", "verdict", "read", "write", "residues", "brackets", "floaters", "total", "shown", "allowed", "next",
+enum call { NOTHING, VERSION, LIMITS, VERDICT, READ, WRITE, RESIDUES, BRACKETS, FLOATERS, FLOATER_BRACKETS, TOTAL, BRACKET_MASS, SHOWN, ALLOWED, NEXT, LEDGER, ROWS, FIRST_ROW, CALLS };
+static const char *const names[CALLS] = { "nothing", "version", "limits", "verdict", "read", "write", "residues", "brackets", "floaters", "floater_brackets", "total", "bracket_mass", "shown", "allowed", "next",
     "ledger", "rows", "first_row" };
 /* in KiB, as the header says */
-static const size_t said[CALLS] = { 0, 1, 11, 11, 25, 25, 25, 25, 25, 25, 25, 25, 29, 29, 1 };
+static const size_t said[CALLS] = { 0, 1, 1, 11, 11, 25, 25, 25, 25, 25, 25, 25, 25, 25, 25, 29, 29, 1 };
 static size_t most[CALLS];
 
 static _Alignas(64) unsigned char stack[SIZE];
@@ -27,7 +27,7 @@ static hwemiduk_tables tables;
 static hwemiduk_site rows[HWEMIDUK_ROWS];
 static hwemiduk_position placement[HWEMIDUK_COPIES];
 static int64_t entries[HWEMIDUK_POSITIONS];
-static uint8_t out[HWEMIDUK_LINE];
+static uint8_t out[HWEMIDUK_LINE], of[HWEMIDUK_COPIES], copy[HWEMIDUK_COPIES];
 
 static void run(void)
 {
@@ -39,6 +39,7 @@ static void run(void)
     static double daltons;
     static hwemiduk_position position;
     switch (current) {
+    case VERSION: hwemiduk_version(); break;
     case LIMITS: hwemiduk_limits(&limits); break;
     case VERDICT: hwemiduk_verdict(line, length, &place); break;
     case READ: hwemiduk_read(line, length, HWEMIDUK_OF(&tables), &place); break;
@@ -46,7 +47,9 @@ static void run(void)
     case RESIDUES: hwemiduk_residues(HWEMIDUK_OF(&tables), &place); break;
     case BRACKETS: hwemiduk_brackets(HWEMIDUK_OF(&tables), &place); break;
     case FLOATERS: hwemiduk_floaters(HWEMIDUK_OF(&tables), &place); break;
+    case FLOATER_BRACKETS: hwemiduk_floater_brackets(HWEMIDUK_OF(&tables), of, sizeof of, copy, sizeof copy, &place); break;
     case TOTAL: hwemiduk_total(HWEMIDUK_OF(&tables), &total, &place); break;
+    case BRACKET_MASS: hwemiduk_bracket_mass(HWEMIDUK_OF(&tables), 0, &total, &place); break;
     case SHOWN: hwemiduk_shown(HWEMIDUK_OF(&tables), &daltons, &place); break;
     case ALLOWED: hwemiduk_allowed(HWEMIDUK_OF(&tables), placement, HWEMIDUK_COPIES); break;
     case NEXT:
@@ -99,7 +102,7 @@ int main(void)
         all_from(WRITE);
         start += length + 1;
     }
-    for (int call = LIMITS; call < CALLS; call++) {
+    for (int call = NOTHING + 1; call < CALLS; call++) {
         size_t took = most[call] > most[NOTHING] ? most[call] - most[NOTHING] : 0;
         printf("%s %zu%s\n", names[call], took, took > said[call] * 1024 ? ": more than the header says" : "");
         wrong = wrong || took > said[call] * 1024;

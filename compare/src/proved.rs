@@ -60,6 +60,11 @@ pub fn floaters(bytes: &[u8], numbers: &[i64]) -> Result<usize, Refusal> {
     count(outs::floaters(bytes, numbers))
 }
 
+/// For each floater its bracket and its copy, into two slices: how many.
+pub fn floater_brackets(bytes: &[u8], numbers: &[i64], brackets: &mut [u8], copies: &mut [u8]) -> Result<usize, Refusal> {
+    count(outs::floater_brackets(bytes, numbers, brackets, copies))
+}
+
 /// Writes the canonical line into an output of any length: how many bytes.
 pub fn write(bytes: &[u8], numbers: &[i64], out: &mut [u8]) -> Result<usize, Refusal> {
     match outs::write(bytes, numbers, out) {
@@ -76,6 +81,13 @@ pub fn write(bytes: &[u8], numbers: &[i64], out: &mut [u8]) -> Result<usize, Ref
 pub fn total(bytes: &[u8], numbers: &[i64]) -> Result<i64, Refusal> {
     let (number, millionths, place) = outs::total(bytes, numbers);
     assert!(number == 0 || millionths == i64::MIN, "a refusal leaves the total as it was");
+    answer((number, place)).map(|()| millionths)
+}
+
+/// A bracket's own mass in millionths.
+pub fn bracket_mass(bytes: &[u8], numbers: &[i64], bracket: usize) -> Result<i64, Refusal> {
+    let (number, millionths, place) = outs::bracket_mass(bytes, numbers, bracket);
+    assert!(number == 0 || millionths == i64::MIN, "a refusal leaves the mass as it was");
     answer((number, place)).map(|()| millionths)
 }
 

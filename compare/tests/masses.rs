@@ -44,6 +44,15 @@ fn check_sums(line: &[u8], held: &Line) {
     assert_eq!(proved::brackets(bytes, numbers), Ok(held.brackets.len()), "{}", shown(line));
     assert_eq!(proved::floaters(bytes, numbers), Ok(held.floaters()), "{}", shown(line));
     assert_eq!(proved::total(bytes, numbers), total(held), "{}", shown(line));
+    for (k, bracket) in held.brackets.iter().enumerate() {
+        let expected = bracket_mass(held.parts_of(bracket)).ok_or(Refusal::new(16, usize::from(bracket.count)));
+        assert_eq!(proved::bracket_mass(bytes, numbers, k), expected, "{} {k}", shown(line));
+    }
+    for none in [held.brackets.len(), 64, 256, usize::MAX] {
+        if none >= held.brackets.len() {
+            assert_eq!(proved::bracket_mass(bytes, numbers, none), Err(Refusal::new(17, 0)), "{} {none}", shown(line));
+        }
+    }
     assert!(alike(proved::shown(bytes, numbers), display(held)), "{}", shown(line));
     if let Ok(millionths) = total(held) {
         let daltons = Display::Daltons(millionths as f64 / 1e6);
@@ -195,6 +204,10 @@ fn what_is_too_short() {
             assert_eq!(call(bytes, numbers), Err(THIRTEEN));
         }
         assert_eq!(proved::total(bytes, numbers), Err(THIRTEEN));
+        for k in [0, 1, 2] {
+            assert_eq!(proved::bracket_mass(bytes, numbers, k), Err(THIRTEEN));
+        }
+        assert_eq!(proved::floater_brackets(bytes, numbers, &mut [0; 8], &mut [0; 8]), Err(THIRTEEN));
         assert_eq!(proved::shown(bytes, numbers), Display::Refused(13));
         assert_eq!(proved::allowed(bytes, numbers, &placement), Err(THIRTEEN));
         assert_eq!(proved::ledger(bytes, numbers, &placement, &mut entries), Err(THIRTEEN));

@@ -360,9 +360,31 @@ fn handed(lent: &Lent, room: usize) -> Result<Vec<Site>, Refusal> {
     answer.map(|_| rows)
 }
 
+/// The bracket and the copy of each floater, from two slices that are full of junk and longer or shorter than they need be; all of it stays on a refusal.
+fn by_brackets(lent: &Lent, rooms: (usize, usize)) -> Result<Vec<(usize, u8)>, Refusal> {
+    let (mut brackets, mut copies) = (vec![0xA5; rooms.0], vec![0x5A; rooms.1]);
+    let answer = proved::floater_brackets(&lent.bytes, &lent.numbers, &mut brackets, &mut copies);
+    let found = answer.unwrap_or(0);
+    assert!(brackets.split_off(found).iter().all(|&one| one == 0xA5) && copies.split_off(found).iter().all(|&one| one == 0x5A));
+    answer.map(|_| brackets.iter().map(|&one| usize::from(one)).zip(copies).collect())
+}
+
+fn check_brackets(line: &[u8], held: &Line, lent: &Lent) {
+    let floaters = floaters(held);
+    let copy = |i: usize| floaters[..=i].iter().filter(|one| one.bracket == floaters[i].bracket).count() as u8;
+    let expected: Vec<(usize, u8)> = (0..floaters.len()).map(|i| (floaters[i].bracket, copy(i))).collect();
+    for rooms in [(8, 8), (11, 9)] {
+        assert_eq!(by_brackets(lent, rooms), Ok(expected.clone()), "{}", shown(line));
+    }
+    for rooms in [(7, 8), (8, 7), (0, 0)] {
+        assert_eq!(by_brackets(lent, rooms), Err(THIRTEEN));
+    }
+}
+
 fn check_rows(line: &[u8], held: &Line) -> usize {
     let lent = Lent::of(held);
     let before = lent.clone();
+    check_brackets(line, held, &lent);
     let expected: Vec<Site> = positions::rows(&floaters(held)).iter().map(|row| Site { floater: row.floater, position: row.position }).collect();
     for room in [2048, 2051] {
         assert_eq!(handed(&lent, room), Ok(expected.clone()), "{}", shown(line));

@@ -145,6 +145,10 @@ fn check_fourteen(bytes: &[u8], numbers: &[i64]) {
         assert_eq!(call(bytes, numbers), Err(FOURTEEN));
     }
     assert_eq!(proved::total(bytes, numbers), Err(FOURTEEN));
+    assert_eq!(proved::bracket_mass(bytes, numbers, 0), Err(FOURTEEN));
+    let (mut brackets, mut copies) = ([JUNK_BYTE; 8], [JUNK_BYTE; 8]);
+    assert_eq!(proved::floater_brackets(bytes, numbers, &mut brackets, &mut copies), Err(FOURTEEN));
+    assert!(brackets.iter().chain(&copies).all(|&byte| byte == JUNK_BYTE));
     assert_eq!(proved::shown(bytes, numbers), Display::Refused(14));
     assert_eq!(proved::allowed(bytes, numbers, &[0; 8]), Err(FOURTEEN));
     assert_eq!(proved::ledger(bytes, numbers, &[0; 8], &mut entries), Err(FOURTEEN));

@@ -123,6 +123,12 @@ pub enum Shown {
     Missing(usize),
 }
 
+/// The version of the library: 10000 times its first number, 100 times its second, and its third.
+pub fn version() -> u32 {
+    // SAFETY: it takes nothing.
+    unsafe { hwemiduk_version() }
+}
+
 /// All limits and sizes.
 pub fn limits() -> Limits {
     let mut limits = Limits::default();
@@ -167,9 +173,22 @@ pub fn floaters(bytes: &[u8], numbers: &[i64]) -> Result<usize, Refusal> {
     answer(number, 0, count)
 }
 
+/// Writes for each floater, in order, the index of its bracket and which copy of it it is, counted from 1, into two slices of at least [`COPIES`], and answers how many
+/// there are.
+pub fn floater_brackets(bytes: &[u8], numbers: &[i64], brackets: &mut [u8], copies: &mut [u8]) -> Result<usize, Refusal> {
+    let (number, count) = outs::floater_brackets(bytes, numbers, brackets, copies);
+    answer(number, 0, count)
+}
+
 /// The sum of the masses of the modifications in millionths, without the residues; or 16, with how many have none as its place.
 pub fn total(bytes: &[u8], numbers: &[i64]) -> Result<i64, Refusal> {
     let (number, millionths, place) = outs::total(bytes, numbers);
+    answer(number, place, millionths)
+}
+
+/// The mass that a bracket has by itself, in millionths, brackets counted from 0; or 16, with its count as its place, where it has none, or 17 where there is no such bracket.
+pub fn bracket_mass(bytes: &[u8], numbers: &[i64], bracket: usize) -> Result<i64, Refusal> {
+    let (number, millionths, place) = outs::bracket_mass(bytes, numbers, bracket);
     answer(number, place, millionths)
 }
 
@@ -266,10 +285,29 @@ pub mod outs {
         (number, count)
     }
 
+    /// The number and the count.
+    pub fn floater_brackets(bytes: &[u8], numbers: &[i64], brackets: &mut [u8], copies: &mut [u8]) -> (u8, usize) {
+        let mut count = usize::MAX;
+        let (brackets, brackets_len, copies, copies_len) = (brackets.as_mut_ptr(), brackets.len(), copies.as_mut_ptr(), copies.len());
+        let number = unsafe {
+            hwemiduk_floater_brackets(bytes.as_ptr(), bytes.len(), numbers.as_ptr(), numbers.len(), brackets, brackets_len, copies, copies_len, &mut count)
+        };
+        (number, count)
+    }
+
     /// The number, the total in millionths, and the place.
     pub fn total(bytes: &[u8], numbers: &[i64]) -> (u8, i64, usize) {
         let (mut millionths, mut place) = (i64::MIN, usize::MAX);
         let number = unsafe { hwemiduk_total(bytes.as_ptr(), bytes.len(), numbers.as_ptr(), numbers.len(), &mut millionths, &mut place) };
+        (number, millionths, place)
+    }
+
+    /// The number, the mass in millionths, and the place.
+    pub fn bracket_mass(bytes: &[u8], numbers: &[i64], bracket: usize) -> (u8, i64, usize) {
+        let (mut millionths, mut place) = (i64::MIN, usize::MAX);
+        let number = unsafe {
+            hwemiduk_bracket_mass(bytes.as_ptr(), bytes.len(), numbers.as_ptr(), numbers.len(), bracket, &mut millionths, &mut place)
+        };
         (number, millionths, place)
     }
 
@@ -319,6 +357,7 @@ pub mod outs {
 // The calls as include/hwemiduk.h declares them.
 #[rustfmt::skip]
 extern "C" {
+    fn hwemiduk_version() -> u32;
     fn hwemiduk_limits(limits: *mut Limits);
     fn hwemiduk_verdict(line: *const u8, line_len: usize, place: *mut usize) -> u8;
     fn hwemiduk_read(line: *const u8, line_len: usize, bytes: *mut u8, bytes_len: usize, numbers: *mut i64, numbers_len: usize, place: *mut usize) -> u8;
@@ -326,7 +365,11 @@ extern "C" {
     fn hwemiduk_residues(bytes: *const u8, bytes_len: usize, numbers: *const i64, numbers_len: usize, count: *mut usize) -> u8;
     fn hwemiduk_brackets(bytes: *const u8, bytes_len: usize, numbers: *const i64, numbers_len: usize, count: *mut usize) -> u8;
     fn hwemiduk_floaters(bytes: *const u8, bytes_len: usize, numbers: *const i64, numbers_len: usize, count: *mut usize) -> u8;
+    fn hwemiduk_floater_brackets(bytes: *const u8, bytes_len: usize, numbers: *const i64, numbers_len: usize, brackets: *mut u8, brackets_len: usize,
+        copies: *mut u8, copies_len: usize, count: *mut usize) -> u8;
     fn hwemiduk_total(bytes: *const u8, bytes_len: usize, numbers: *const i64, numbers_len: usize, millionths: *mut i64, place: *mut usize) -> u8;
+    fn hwemiduk_bracket_mass(bytes: *const u8, bytes_len: usize, numbers: *const i64, numbers_len: usize, bracket: usize, millionths: *mut i64,
+        place: *mut usize) -> u8;
     fn hwemiduk_shown(bytes: *const u8, bytes_len: usize, numbers: *const i64, numbers_len: usize, daltons: *mut f64, missing: *mut usize) -> u8;
     fn hwemiduk_allowed(bytes: *const u8, bytes_len: usize, numbers: *const i64, numbers_len: usize, placement: *const Position, placement_len: usize) -> u8;
     fn hwemiduk_next(bytes: *const u8, bytes_len: usize, numbers: *const i64, numbers_len: usize, listing: *mut Listing) -> u8;

@@ -6,7 +6,7 @@ use std::ops::Deref;
 use std::str::FromStr;
 
 use crate::lent::{self, Listing, Position, Shown, Site, BYTES, COPIES, LINE, NUMBERS, POSITIONS, ROWS};
-use crate::tables::{floating, Bracket, Floater, Section, Tables};
+use crate::tables::{Bracket, Floater, Section, Tables};
 use crate::{Missing, Refusal};
 
 /// An accepted line. It is made by reading one, and holds nothing but the canonical line.
@@ -77,7 +77,9 @@ impl Peptidoform {
         let tables = self.tables();
         let (rows, brackets) = (rows_of(&tables), tables.brackets());
         let of = |number: usize| rows.iter().filter(move |row| usize::from(row.floater) == number).map(|row| row.position);
-        let floating = floating(&brackets).into_iter().zip(1..);
+        let (mut indices, mut copies) = ([0; COPIES], [0; COPIES]);
+        let count = held(lent::floater_brackets(&tables.bytes, &tables.numbers, &mut indices, &mut copies));
+        let floating = indices.into_iter().map(usize::from).zip(copies).take(count).zip(1..);
         floating.map(|((index, copy), number)| Floater { index, bracket: brackets[index].clone(), copy, positions: of(number).collect() }).collect()
     }
 

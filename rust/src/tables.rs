@@ -189,7 +189,7 @@ impl Bracket {
 
     /// The mass of one copy in millionths: its first mass without Obs, else its first Obs mass.
     ///
-    /// Found here in the parts by document 01's rule; the library exports no call for it.
+    /// Found here in the parts by document 01's rule, as [`lent::bracket_mass`](crate::lent::bracket_mass) finds it in the tables.
     pub fn millionths(&self) -> Option<i64> {
         let first = |observed: bool| {
             self.parts.iter().find_map(|part| match part.content {
@@ -284,19 +284,4 @@ impl Tables {
             label: (label_length > 0).then(|| Label { name: spelled(&texts[text_length..][..label_length]), score }),
         }
     }
-}
-
-/// For each floater, in their order, the index of its bracket and which copy of it it is, counted from 1.
-///
-/// Derived here from the tables, as document 01 orders floaters ("in order of their brackets": each copy of an unlabelled unknown modification, each unlabelled one on
-/// a range, each label's definition). The library exports no call for it: where it does, that call takes this function's place.
-pub(crate) fn floating(brackets: &[Bracket]) -> Vec<(usize, u8)> {
-    let copies = |bracket: &Bracket| match bracket.kind {
-        _ if !bracket.is_modification() => 0,
-        _ if bracket.label().is_some() => 1,
-        Kind::Unknown => bracket.count,
-        Kind::Range => 1,
-        _ => 0,
-    };
-    brackets.iter().enumerate().flat_map(|(index, bracket)| (1..=copies(bracket)).map(move |copy| (index, copy))).collect()
 }

@@ -1,3 +1,5 @@
 pub mod Laws
+pub mod FloatLaws
 pub mod RowLaws
+pub mod SingleLaws
 pub mod WriteLaws

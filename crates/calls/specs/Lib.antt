@@ -1,4 +1,6 @@
 pub mod Held
+pub mod Single
+pub mod Floating
 pub mod Rows
 pub mod Writing
 pub mod Says

@@ -14,6 +14,7 @@ use Rattle.scope.specs.declared.answers.Ledger.{Ledger}
 use Rattle.scope.specs.Tables.{Tables, tablesIn}
 use Rattle.scope.specs.Answers.{saysCount, saysTotal, saysShown, saysRequest, saysBooked, met, counts, totals, shows, allows, requests, listingAfter, books, entries}
 use Rattle.placements.specs.declared.Next.{Next}
+use Rattle.calls.specs.Single.{weighsAt}
 
 -- `residue_count`, `bracket_count`, `floater_count`: f of the tables
 abbrev pub CountSays : (Tables → ℕ) → List ℕ → List ℤ → Count → Type 0
@@ -21,6 +22,10 @@ CountSays f bs ns r = saysCount r ≡ counts bs ns f
 
 abbrev pub TotalSays : List ℕ → List ℤ → Total → Type 0
 TotalSays bs ns r = saysTotal r ≡ totals bs ns
+
+-- `bracket_mass`: of bracket i
+abbrev pub BracketMassSays : List ℕ → List ℤ → ℕ → Total → Type 0
+BracketMassSays bs ns i r = saysTotal r ≡ weighsAt bs ns i
 
 abbrev pub ShownSays : List ℕ → List ℤ → Shown → Type 0
 ShownSays bs ns r = saysShown r ≡ shows bs ns

@@ -1,4 +1,6 @@
 // The calls over lent areas. Each answers whatever the areas hold: 13 where one is too short, 14 where they are no tables, else its own.
+use crate::floating::find_copies;
+use masses::Mass;
 use masses::Weight;
 use masses::as_daltons;
 use masses::ledger_of;
@@ -26,10 +28,13 @@ ghost use Rattle.scope.specs.Placements.{allowed};
 ghost use Rattle.areas.specs.Bounds.{Bounds};
 ghost use Rattle.placements.specs.Steps.{Moves};
 ghost use Rattle.scope.specs.Answers.{saysBooked, requested, books, tooShort, residueCount, bracketCount, floaterCount};
+ghost use Rattle.calls.specs.Floating.{FloatersSay};
 ghost use Rattle.calls.specs.Held.{whyNot};
 ghost use Rattle.calls.specs.Rows.{RowsReady};
 ghost use Rattle.calls.specs.Writing.{WriteSays};
-ghost use Rattle.calls.specs.Says.{CountSays, TotalSays, ShownSays, AllowedSays, NextSays, LedgerSays};
+ghost use Rattle.calls.specs.Says.{CountSays, TotalSays, BracketMassSays, ShownSays, AllowedSays, NextSays, LedgerSays};
+
+mod floating;
 
 // "a lent area is shorter than its fixed size"
 fn too_short(bytes: &[u8], numbers: &[i64]) -> bool
@@ -125,6 +130,43 @@ pub fn floater_count(bytes: &[u8], numbers: &[i64]) -> Count
     Count::Is(f.count)
 }
 
+// The floaters in order, into two slices that have an entry for each there may be: how many there are; or a refusal, the slices as they were.
+pub fn floater_brackets(
+    bytes: &[u8],
+    numbers: &[i64],
+    brackets: &mut [u8],
+    copies: &mut [u8],
+) -> Count
+    ensures { λ r. ⌜ FloatersSay (now (bytes .entry)) (now (numbers .entry)) (now (brackets .entry)) (now (copies .entry)) r (now (brackets .exit)) (now (copies .exit)) ⌝ }
+{
+    if brackets.len() < Placement::COPIES {
+        return Count::Refused {
+            number: 13,
+            place: 0,
+        };
+    }
+    if copies.len() < Placement::COPIES {
+        return Count::Refused {
+            number: 13,
+            place: 0,
+        };
+    }
+    let why = why_not(bytes, numbers);
+    if why != 0 {
+        return Count::Refused {
+            number: why,
+            place: 0,
+        };
+    }
+    let f = find_copies(bytes, numbers);
+    let n = f.count;
+    let bracket = f.bracket;
+    let copy = f.copy;
+    bounds::copy_bytes(&bracket, n, brackets);
+    bounds::copy_bytes(&copy, n, copies);
+    Count::Is(n)
+}
+
 // The total in millionths.
 pub fn total(bytes: &[u8], numbers: &[i64]) -> Total
     ensures { λ r. ⌜ TotalSays (now (bytes .entry)) (now (numbers .entry)) r ⌝ }
@@ -142,6 +184,35 @@ pub fn total(bytes: &[u8], numbers: &[i64]) -> Total
         Weight::Lacks(n) => Total::Refused {
             number: 16,
             place: n,
+        },
+    }
+}
+
+// A bracket's own mass, in millionths: 17 where there is no such bracket, 16 with its count where it has none.
+pub fn bracket_mass(bytes: &[u8], numbers: &[i64], k: usize) -> Total
+    ensures { λ r. ⌜ BracketMassSays (now (bytes .entry)) (now (numbers .entry)) k r ⌝ }
+{
+    let why = why_not(bytes, numbers);
+    if why != 0 {
+        return Total::Refused {
+            number: why,
+            place: 0,
+        };
+    }
+    let b = areas::brackets(bytes);
+    if b <= k {
+        return Total::Refused {
+            number: 17,
+            place: 0,
+        };
+    }
+    let copies = brackets::count(bytes, k);
+    let mass = masses::bracket_mass(bytes, numbers, k);
+    match mass {
+        Mass::Is(m) => Total::Millionths(m),
+        Mass::Lacking => Total::Refused {
+            number: 16,
+            place: copies,
         },
     }
 }

@@ -35,3 +35,7 @@ MovedOn bytes numbers listing number listing′ = (number ≡ numberOf (requests
 -- "All limits and sizes"
 abbrev pub theLimits : Limits
 theLimits = record { line = lineLimit; residues = residueLimit; brackets = bracketLimit; parts = partLimit; text = textLimit; label = labelLimit; depth = depthLimit; count = countLimit; copies = copyLimit; rows = rowLimit; positions = positionLimit; size = sizeLimit; decimals = decimalLimit; bytes = bytesSize; numbers = numbersSize }
+
+-- the version, 0.1.0: 10000 times its first number, 100 times its second, and its third
+abbrev pub theVersion : ℕ
+theVersion = 100

@@ -13,7 +13,9 @@ use Rattle.scope.specs.Tables.{Tables, tablesIn}
 use Rattle.scope.specs.Lists.{laid}
 use Rattle.scope.specs.Masses.{ledger, daltons}
 use Rattle.scope.specs.Answers.{Said, good, refuses, Display, aMass, lack, writes, outputAfter, allows, books}
+use Rattle.calls.specs.Floating.{floatersBy, bracketsOf, copiesOf, floatersSaid}
 use Rattle.export.specs.Numbers.{numberOf, left, Numbered}
+use Rattle.export.specs.Handed.{Counted}
 
 -- ---- a line that was written: its length, with 15 the length needed, and the output
 abbrev pub lengthLeft : Said ℕ → ℕ → ℕ
@@ -65,3 +67,9 @@ entriesAfter (refuses number place) t p old = old
 pub record Entered (bs : List ℕ) (ns : List ℤ) (p : List ℕ) (old : List ℤ) (place number place′ : ℕ) (new : List ℤ) : Type 0 where
   pub numbered : Numbered (booksLent bs ns p old) place number place′
   pub entries-after : new ≡ entriesAfter (booksLent bs ns p old) (tablesIn bs ns) (take copyLimit p) old
+
+-- ---- the floaters: how many, and two lent slices
+pub record FloatersHanded (bs : List ℕ) (ns : List ℤ) (brackets copies : List ℕ) (count number count′ : ℕ) (brackets′ copies′ : List ℕ) : Type 0 where
+  pub counted : Counted (floatersSaid bs ns brackets copies) count number count′
+  pub brackets-after : brackets′ ≡ outputAfter (floatersSaid bs ns brackets copies) (bracketsOf (floatersBy (tablesIn bs ns))) brackets
+  pub copies-after : copies′ ≡ outputAfter (floatersSaid bs ns brackets copies) (copiesOf (floatersBy (tablesIn bs ns))) copies

@@ -8,7 +8,7 @@ use scope::tables::Limits;
 ghost use mathlib.Core.Path.{_≡_};
 ghost use Rattle.scope.specs.Answers.{saysCount, saysLookup, saysRequest, looksUp};
 ghost use Rattle.export.specs.Numbers.{numberOf};
-ghost use Rattle.export.specs.Handed.{Counted, RowsHanded, LookedUp, MovedOn, theLimits};
+ghost use Rattle.export.specs.Handed.{Counted, RowsHanded, LookedUp, MovedOn, theLimits, theVersion};
 
 // The number of a request's answer.
 pub fn request_number(r: Request) -> u8
@@ -91,4 +91,12 @@ pub extern "C" fn hwemiduk_limits(limits: &mut Limits)
     ensures { λ _. ⌜ now (limits .exit) ≡ theLimits ⌝ }
 {
     *limits = Limits::new();
+}
+
+// The version: 10000 times its first number, 100 times its second, and its third.
+#[no_mangle]
+pub extern "C" fn hwemiduk_version() -> u32
+    ensures { λ r. ⌜ r ≡ theVersion ⌝ }
+{
+    100
 }

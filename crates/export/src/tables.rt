@@ -13,8 +13,9 @@ ghost use Prim.Native.Nat.{_≤_};
 ghost use lib.ListN.{length, take, drop};
 ghost use Rattle.scope.specs.Limits.{copyLimit};
 ghost use Rattle.scope.specs.Answers.{saysWrite, saysTotal, saysShown, counts, residueCount, bracketCount, floaterCount, totals, shows};
+ghost use Rattle.calls.specs.Single.{weighsAt};
 ghost use Rattle.export.specs.Handed.{Counted};
-ghost use Rattle.export.specs.Shapes.{Measured, Written, Totalled, Displayed, AllowedLent, Entered};
+ghost use Rattle.export.specs.Shapes.{Measured, Written, Totalled, Displayed, AllowedLent, Entered, FloatersHanded};
 
 // How many residues there are: 0 and the count; else 13 or 14.
 #[no_mangle]
@@ -40,6 +41,22 @@ pub extern "C" fn hwemiduk_floaters(bytes: &[u8], numbers: &[i64], count: &mut u
     ensures { λ r. ⌜ Counted (counts (now (bytes .entry)) (now (numbers .entry)) floaterCount) (now (count .entry)) r (now (count .exit)) ⌝ }
 {
     let c = calls::floater_count(bytes, numbers);
+    tell_count(c, count)
+}
+
+// The floaters in order, for each its bracket, counted from 0, and which copy of it it is, counted from 1: 0 with their number, and entries past them as they
+// were; else 13, also where a slice has fewer entries than there may be floaters, or 14.
+#[no_mangle]
+pub extern "C" fn hwemiduk_floater_brackets(
+    bytes: &[u8],
+    numbers: &[i64],
+    brackets: &mut [u8],
+    copies: &mut [u8],
+    count: &mut usize,
+) -> u8
+    ensures { λ r. ⌜ FloatersHanded (now (bytes .entry)) (now (numbers .entry)) (now (brackets .entry)) (now (copies .entry)) (now (count .entry)) r (now (count .exit)) (now (brackets .exit)) (now (copies .exit)) ⌝ }
+{
+    let c = calls::floater_brackets(bytes, numbers, brackets, copies);
     tell_count(c, count)
 }
 
@@ -104,6 +121,21 @@ pub extern "C" fn hwemiduk_total(
     ensures { λ r. ⌜ Totalled (totals (now (bytes .entry)) (now (numbers .entry))) (now (millionths .entry)) (now (place .entry)) r (now (millionths .exit)) (now (place .exit)) ⌝ }
 {
     let t = calls::total(bytes, numbers);
+    tell_total(t, millionths, place)
+}
+
+// A bracket's own mass, brackets counted from 0: 0 and the millionths; else 13, 14, 16 or 17, and in `place` its count (16) or 0.
+#[no_mangle]
+pub extern "C" fn hwemiduk_bracket_mass(
+    bytes: &[u8],
+    numbers: &[i64],
+    bracket: usize,
+    millionths: &mut i64,
+    place: &mut usize,
+) -> u8
+    ensures { λ r. ⌜ Totalled (weighsAt (now (bytes .entry)) (now (numbers .entry)) bracket) (now (millionths .entry)) (now (place .entry)) r (now (millionths .exit)) (now (place .exit)) ⌝ }
+{
+    let t = calls::bracket_mass(bytes, numbers, bracket);
     tell_total(t, millionths, place)
 }
 

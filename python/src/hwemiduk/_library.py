@@ -4,7 +4,7 @@ from __future__ import annotations
 
 import ctypes
 import os
-from ctypes import POINTER, byref, c_char_p, c_double, c_int64, c_size_t, c_uint8, c_uint64, c_void_p
+from ctypes import POINTER, byref, c_char_p, c_double, c_int64, c_size_t, c_uint8, c_uint32, c_uint64, c_void_p
 from dataclasses import dataclass, fields
 from pathlib import Path
 from typing import List
@@ -113,7 +113,9 @@ for _name, _arguments in {
     "read": (c_char_p, c_size_t, *_tables, c_void_p),
     "write": (*_tables, c_void_p, c_size_t, c_void_p),
     "floaters": (*_tables, c_void_p),
+    "floater_brackets": (*_tables, POINTER(c_uint8), c_size_t, POINTER(c_uint8), c_size_t, c_void_p),
     "total": (*_tables, POINTER(c_int64), c_void_p),
+    "bracket_mass": (*_tables, c_size_t, POINTER(c_int64), c_void_p),
     "shown": (*_tables, POINTER(c_double), c_void_p),
     "allowed": (*_tables, POINTER(Position), c_size_t),
     "next": (*_tables, POINTER(Listing)),
@@ -122,6 +124,7 @@ for _name, _arguments in {
 }.items():
     _function = getattr(library, "hwemiduk_" + _name)
     _function.argtypes, _function.restype = _arguments, c_uint8
+library.hwemiduk_version.argtypes, library.hwemiduk_version.restype = (), c_uint32
 
 
 class Areas:

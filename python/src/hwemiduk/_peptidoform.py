@@ -2,7 +2,7 @@
 
 from __future__ import annotations
 
-from ctypes import byref, c_double, c_int64
+from ctypes import byref, c_double, c_int64, c_uint8
 from typing import Any, Callable, Iterable, Iterator, List, NamedTuple, Optional, Sequence, Tuple, Type, TypeVar, Union
 
 from . import _tables
@@ -112,10 +112,10 @@ class Peptidoform:
     @property
     def floaters(self) -> Tuple[Floater, ...]:
         """The floating copies, in the order in which a placement gives their positions, each with its bracket and with where it may stand."""
-        rows, brackets = self._with_tables(lambda areas: (_rows(areas), _tables.brackets(areas)))
+        rows, brackets, floating = self._with_tables(lambda areas: (_rows(areas), _tables.brackets(areas), _floating(areas)))
         return tuple(
             Floater(index, brackets[index], copy, tuple(position for floater, position in rows if floater == number))
-            for number, (index, copy) in enumerate(_tables.floating(brackets), 1)
+            for number, (index, copy) in enumerate(floating, 1)
         )
 
     def rows(self) -> List[Tuple[int, int]]:
@@ -278,6 +278,15 @@ def _rows(areas: Areas) -> List[Tuple[int, int]]:
     if number:
         raise Refusal(number)
     return [(row.floater, row.position) for row in rows[: areas.size.value]]
+
+
+def _floating(areas: Areas) -> List[Tuple[int, int]]:
+    """For each floater, in their order, the place of its bracket (from 0) and which copy of it it is (from 1)."""
+    brackets, copies = (c_uint8 * LIMITS.copies)(), (c_uint8 * LIMITS.copies)()
+    number = library.hwemiduk_floater_brackets(*areas.tables, brackets, LIMITS.copies, copies, LIMITS.copies, areas.size_at)
+    if number:
+        raise Refusal(number)
+    return list(zip(brackets, copies))[: areas.size.value]
 
 
 def _lent(placement: Sequence[int], floaters: int) -> Any:

@@ -5,7 +5,7 @@ from __future__ import annotations
 import enum
 from dataclasses import dataclass
 from decimal import Decimal
-from typing import List, Optional, Sequence, Tuple
+from typing import Optional, Tuple
 
 from ._library import LIMITS, Areas
 
@@ -119,7 +119,7 @@ class Bracket:
     def millionths(self) -> Optional[int]:
         """The mass of one copy in millionths: its first mass without Obs, else its first Obs mass; None where it has none.
 
-        Found here in the parts by document 01's rule; the library exports no call for it.
+        Found here in the parts by document 01's rule, as hwemiduk_bracket_mass finds it in the tables.
         """
         for observed in (False, True):
             for part in self.parts:
@@ -189,21 +189,3 @@ def _part(data: bytearray, at: int, mass: int, score: Optional[Number]) -> Part:
     text = data[text_at:label_at].decode("ascii") if value == _TEXT else None
     label = Label(data[label_at : label_at + label_length].decode("ascii"), score) if label_length else None
     return Part(_keys[key], Number(mass, decimals) if value == _MASS else None, text, label)
-
-
-def floating(held: Sequence[Bracket]) -> List[Tuple[int, int]]:
-    """For each floater, in their order, the place of its bracket (from 0) and which copy of it it is (from 1).
-
-    Derived here from the tables, as document 01 orders floaters ("in order of their brackets": each copy of an unlabelled unknown modification, each unlabelled
-    one on a range, each label's definition). The library exports no call for it: where it does, that call takes this function's place.
-    """
-    found = []
-    for index, bracket in enumerate(held):
-        if not bracket.is_modification:
-            copies = 0
-        elif bracket.label is not None:
-            copies = 1
-        else:
-            copies = {Kind.UNKNOWN: bracket.count, Kind.RANGE: 1}.get(bracket.kind, 0)
-        found += [(index, copy) for copy in range(1, copies + 1)]
-    return found

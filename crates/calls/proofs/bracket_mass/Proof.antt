@@ -1,0 +1,78 @@
+-- `calls::bracket_mass` meets its contract.
+use mathlib.Core.Path.{_≡_, sym, ap, _∙_}
+use Rattle.scope.specs.Answers.{good}
+use Rattle.brackets.specs.Row.{row}
+use Rattle.calls.specs.Single.{massAt}
+use Rattle.calls.proofs.Laws.{refused-law, held, answers}
+use Rattle.calls.proofs.SingleLaws.{mass-17, mass-is, mass-16}
+use native.Mathlib.Omega.{arith}
+use mir.Syntax.{w64}
+use mir.Val.{toZ, ofZ}
+use borrow.Author.Needs.{needs}
+use Rattle.calls.proofs.bracket_mass.Statement.{statement}
+use Rattle.calls.proofs.bracket_mass.Tie as tie
+
+why-not-requires : tie.Need-why-not-requires
+why-not-requires c κs = search needs
+
+returns : tie.Need-returns
+returns c = refused-law _ _ (c .before .why-not .ensures) (c .if1 .taken) (λ t. massAt t (c .before .before .before .args .k))
+
+brackets-requires : tie.Need-brackets-requires
+brackets-requires c κs = held (c .before .why-not .ensures) (c .if1 .left) .bounds .bytes-room
+
+returns-2 : tie.Need-returns-2
+returns-2 c =
+    let h = held (c .before .before .before .why-not .ensures) (c .before .before .if1 .left) in
+    mass-17 _ _ _ (c .before .brackets .ensures .0) (c .if2 .taken) ∙ sym (answers (λ t. massAt t (c .before .before .before .before .before .args .k)) h)
+
+count-requires : tie.Need-count-requires
+count-requires c κs =
+    let h = held (c .before .before .before .why-not .ensures) (c .before .before .if1 .left) in
+    row (h .bounds) _ (omega arith)
+
+bracket-mass-requires : tie.Need-bracket-mass-requires
+bracket-mass-requires c κs =
+    let h = held (c .before .before .before .before .why-not .ensures) (c .before .before .before .if1 .left) in
+    record { bounds = h .bounds; inside = omega arith }
+
+enum-known-mass : tie.Need-enum-known-mass
+enum-known-mass c = search needs
+
+enum-told : tie.Need-enum-told
+enum-told c = search needs
+
+returns-3 : tie.Need-returns-3
+returns-3 c =
+    let m = c .before .mass .given .0 .0 in
+    let read : toZ w64 (ofZ w64 m) ≡ m = search needs in
+    let weighed = c .before .before .before in
+    let tested = weighed .before .before in
+    let tried = tested .before .before .before in
+    let h = held (tried .why-not .ensures) (tested .before .before .if1 .left) in
+    ap good read ∙ mass-is _ _ _ (tested .before .brackets .ensures .0) (tested .if2 .left) (weighed .bracket-mass .ensures) (c .before .mass .given .1)
+    ∙ sym (answers (λ t. massAt t (tried .before .before .args .k)) h)
+
+returns-4 : tie.Need-returns-4
+returns-4 c =
+    let weighed = c .before .before in
+    let tested = weighed .before .before in
+    let tried = tested .before .before .before in
+    let h = held (tried .why-not .ensures) (tested .before .before .if1 .left) in
+    mass-16 _ _ _ (tested .before .brackets .ensures .0) (tested .if2 .left) (weighed .before .count .ensures .0 _) (weighed .bracket-mass .ensures) (c .enum-told .given .1)
+    ∙ sym (answers (λ t. massAt t (tried .before .before .args .k)) h)
+
+pub bracket-mass-spec : {M : Type 1} → statement M
+bracket-mass-spec =
+    tie.close
+    (tie.spec
+    why-not-requires
+    returns
+    brackets-requires
+    returns-2
+    count-requires
+    bracket-mass-requires
+    enum-known-mass
+    enum-told
+    returns-3
+    returns-4)

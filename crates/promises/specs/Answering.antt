@@ -23,17 +23,20 @@ use Rattle.scope.specs.declared.answers.Shown.the-variants.{Daltons, Missing, R
 use Rattle.scope.specs.declared.answers.Placement.{Placement}
 use Rattle.scope.specs.declared.answers.Listing.{Listing}
 use Rattle.scope.specs.declared.answers.Site.{Site}
-use Rattle.scope.specs.Limits.{rowLimit, positionLimit}
+use Rattle.scope.specs.Limits.{rowLimit, positionLimit, copyLimit}
+use Rattle.scope.specs.Line.{Bracket}
 use Rattle.scope.specs.Lists.{given, tabled}
 use Rattle.scope.specs.Canonical.{canonical}
 use Rattle.scope.specs.Tables.{Tables, tablesIn}
 use Rattle.scope.specs.Positions.{permittedPositions, rowsOf, Found, lookup}
 use Rattle.scope.specs.Placements.{allowed, takenListing, following}
-use Rattle.scope.specs.Masses.{total, lacking, daltons}
-use Rattle.scope.specs.Answers.{Said, good, refuses, aMass, lack, saysWrite, saysCount, saysTotal, saysLookup, saysRequest, saysBooked, saysShown, tooShort, areTables, overTables, fitting, writes, outputAfter, counts, weighed, totals, shows, rowsSaid, rowsAfter, looksUp, allows, met, requested, movedOn, requests, listingAfter, bookable, books, entries}
+use Rattle.scope.specs.Masses.{massOf, total, lacking, daltons}
+use Rattle.scope.specs.Answers.{Said, good, refuses, aMass, lack, saysWrite, saysCount, saysTotal, saysLookup, saysRequest, saysBooked, saysShown, tooShort, areTables, overTables, fitting, writes, outputAfter, counts, floaterCount, weighed, totals, shows, rowsSaid, rowsAfter, looksUp, allows, met, requested, movedOn, requests, listingAfter, bookable, books, entries}
 use Rattle.basics.specs.Each.{In}
 use Rattle.calls.specs.Writing.{WriteSays}
-use Rattle.calls.specs.Says.{CountSays, TotalSays, ShownSays, AllowedSays, NextSays, LedgerSays}
+use Rattle.calls.specs.Single.{elementAt, ownMass, massAt, weighsAt}
+use Rattle.calls.specs.Floating.{floatersBy, bracketsOf, copiesOf, floatersSaid, FloatersSay}
+use Rattle.calls.specs.Says.{CountSays, TotalSays, BracketMassSays, ShownSays, AllowedSays, NextSays, LedgerSays}
 use Rattle.rows.specs.Says.{LookupSays}
 use Rattle.listing.specs.Says.{RowsSays, StepSays}
 use Rattle.promises.specs.Promises.{Answered, Nothing}
@@ -145,6 +148,23 @@ module _ (bs : List ℕ) (ns : List ℤ) where
   pub totalled : Answered (TotalSays bs ns) saysTotal (13 ∷ 14 ∷ 16 ∷ []) Nothing
   totalled = alone total-same totals-so
 
+  own-so : (o : Option ℤ) (c : ℕ) → Sayable saysTotal (13 ∷ 14 ∷ 16 ∷ 17 ∷ []) (given o good (refuses 16 c))
+  own-so none c = refusal (totalRefused 16 c) refl (inr (inr (inl refl)))
+  own-so (some m) c = success (Millionths m) refl
+
+  mass-so : (o : Option (Bracket (Unit {0}))) → Sayable saysTotal (13 ∷ 14 ∷ 16 ∷ 17 ∷ []) (given o ownMass (refuses 17 0))
+  mass-so none = refusal (totalRefused 17 0) refl (inr (inr (inr (inl refl))))
+  mass-so (some k) = own-so (massOf k) (k .count)
+
+  pub weighs-so : (i : ℕ) → Sayable saysTotal (13 ∷ 14 ∷ 16 ∷ 17 ∷ []) (weighsAt bs ns i)
+  weighs-so i =
+      over (Sayable saysTotal (13 ∷ 14 ∷ 16 ∷ 17 ∷ [])) bs ns (λ t. massAt t i)
+      (refusal (totalRefused 13 0) refl (inl refl)) (refusal (totalRefused 14 0) refl (inr (inl refl)))
+      (mass-so (elementAt (tablesIn bs ns .brackets) i))
+
+  pub bracket-mass : (i : ℕ) → Answered (BracketMassSays bs ns i) saysTotal (13 ∷ 14 ∷ 16 ∷ 17 ∷ []) Nothing
+  bracket-mass i = alone total-same (weighs-so i)
+
   display : (b : Bool) (m : ℤ) (n : ℕ) → Sayable saysShown (13 ∷ 14 ∷ []) (good (cond b (aMass (daltons m)) (lack n)))
   display true m n = success (Daltons (daltons m)) refl
   display false m n = success (Missing n) refl
@@ -226,6 +246,25 @@ module _ (bs : List ℕ) (ns : List ℤ) where
   rows room =
       lent (pair Count (List Site)) {says = saysCount} (λ o. RowsSays bs ns room (o .0) (o .1)) (rowsAfter (rowsSaid bs ns room) (tablesIn bs ns) room) room
       (λ o. ((λ w. w), (λ w. w))) count-same (rows-so room) (λ n p q. ap (λ s. rowsAfter s (tablesIn bs ns) room) q)
+
+  pub floaters-so : (brs cps : List ℕ) → Sayable saysCount (13 ∷ 14 ∷ []) (floatersSaid bs ns brs cps)
+  floaters-so brs cps =
+      either (Sayable saysCount (13 ∷ 14 ∷ [])) (ltb (length brs) copyLimit) (refusal (countRefused 13 0) refl (inl refl))
+      (either (Sayable saysCount (13 ∷ 14 ∷ [])) (ltb (length cps) copyLimit) (refusal (countRefused 13 0) refl (inl refl)) (counts-so floaterCount))
+
+  pub floater-brackets : (brs cps : List ℕ)
+      → Answered (λ (o : Count × (List ℕ × List ℕ)). FloatersSay bs ns brs cps (o .0) (o .1 .0) (o .1 .1)) (λ o. saysCount (o .0)) (13 ∷ 14 ∷ [])
+      (λ o. o .1 ≡ (brs, cps))
+  floater-brackets brs cps =
+      let said = floatersSaid bs ns brs cps in
+      let l = bracketsOf (floatersBy (tablesIn bs ns)) in
+      let m = copiesOf (floatersBy (tablesIn bs ns)) in
+      lent (pair Count (List ℕ × List ℕ)) {says = saysCount} (λ o. FloatersSay bs ns brs cps (o .0) (o .1 .0) (o .1 .1)) (outputAfter said l brs, outputAfter said m cps) (brs, cps)
+      (λ o. (
+        (λ w. (w .says, ap (λ z. (z, o .1 .1)) (w .brackets-after) ∙ ap (λ z. (outputAfter said l brs, z)) (w .copies-after))),
+        (λ w. record { says = w .0; brackets-after = ap (λ z. z .0) (w .1); copies-after = ap (λ z. z .1) (w .1) }),
+      ))
+      count-same (floaters-so brs cps) (λ n p q. ap (λ s. (outputAfter s l brs, outputAfter s m cps)) q)
 
 found-so : (o : Option Found) → Sayable saysLookup (13 ∷ 17 ∷ []) (given o good (refuses 17 0))
 found-so none = refusal (lookupRefused 17) refl (inr (inl refl))

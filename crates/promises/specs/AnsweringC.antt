@@ -21,7 +21,9 @@ use Rattle.scope.specs.Answers.{Said, good, refuses, met, saysRequest, saysBook
 use Rattle.basics.specs.Each.{In}
 use Rattle.export.specs.Numbers.{numberOf, left, placeLeft, Judged, Exported}
 use Rattle.export.specs.Handed.{Counted, RowsHanded, LookedUp, MovedOn}
-use Rattle.export.specs.Shapes.{lengthLeft, massOf, lackOf, Written, Totalled, Displayed, allowsLent, AllowedLent, booksLent, entriesAfter, Entered as EnteredLent}
+use Rattle.export.specs.Shapes.{lengthLeft, massOf, lackOf, Written, Totalled, Displayed, allowsLent, AllowedLent, booksLent, entriesAfter, Entered as EnteredLent, FloatersHanded}
+use Rattle.calls.specs.Single.{weighsAt}
+use Rattle.calls.specs.Floating.{floatersBy, bracketsOf, copiesOf, floatersSaid}
 use Rattle.promises.specs.Promises.{Answered, Nothing, told, Demand1C}
 use Rattle.promises.specs.Said.{not-both, same-number}
 use Rattle.promises.specs.Answering as calls
@@ -127,6 +129,27 @@ module _ (bs : List ℕ) (ns : List ℤ) where
       (record { numbered = record { number-is = refl; place-is = refl }; millionths-is = refl }) (λ o w. pair3 (w .numbered .number-is) (w .millionths-is) (w .numbered .place-is))
       (λ o w. w .numbered .number-is) (calls.totals-so bs ns .number) (λ o w n p q. w .millionths-is ∙ ap (λ z. left z (λ x. x) m) q)
 
+  bracket-mass : (i : ℕ) (m : ℤ) (place : ℕ)
+      → Answered (λ (o : ℕ × ℤ × ℕ). Totalled (weighsAt bs ns i) m place (o .0) (o .1) (o .2)) (λ o. told (o .0)) (13 ∷ 14 ∷ 16 ∷ 17 ∷ []) (λ o. o .1 ≡ m)
+  bracket-mass i m place =
+      let said = weighsAt bs ns i in
+      in-c (λ (o : ℕ × ℤ × ℕ). Totalled (weighsAt bs ns i) m place (o .0) (o .1) (o .2)) (λ o. o .1 ≡ m) (λ o. o .0) said (numberOf said, left said (λ x. x) m, placeLeft said place)
+      (record { numbered = record { number-is = refl; place-is = refl }; millionths-is = refl }) (λ o w. pair3 (w .numbered .number-is) (w .millionths-is) (w .numbered .place-is))
+      (λ o w. w .numbered .number-is) (calls.weighs-so bs ns i .number) (λ o w n p q. w .millionths-is ∙ ap (λ z. left z (λ x. x) m) q)
+
+  floater-brackets : (brs cps : List ℕ) (count : ℕ)
+      → Answered (λ (o : ℕ × ℕ × List ℕ × List ℕ). FloatersHanded bs ns brs cps count (o .0) (o .1) (o .2) (o .3)) (λ o. told (o .0)) (13 ∷ 14 ∷ [])
+      (λ o. (o .1 ≡ count) × (o .2 ≡ brs) × (o .3 ≡ cps))
+  floater-brackets brs cps count =
+      let said = floatersSaid bs ns brs cps in
+      let l = bracketsOf (floatersBy (tablesIn bs ns)) in
+      let m = copiesOf (floatersBy (tablesIn bs ns)) in
+      in-c (λ (o : ℕ × ℕ × List ℕ × List ℕ). FloatersHanded bs ns brs cps count (o .0) (o .1) (o .2) (o .3)) (λ o. (o .1 ≡ count) × (o .2 ≡ brs) × (o .3 ≡ cps)) (λ o. o .0) said
+      (numberOf said, left said (λ n. n) count, outputAfter said l brs, outputAfter said m cps)
+      (record { counted = record { number-is = refl; count-is = refl }; brackets-after = refl; copies-after = refl })
+      (λ o w. pair4 (w .counted .number-is) (w .counted .count-is) (w .brackets-after) (w .copies-after)) (λ o w. w .counted .number-is) (calls.floaters-so bs ns brs cps .number)
+      (λ o w n p q. (w .counted .count-is ∙ ap (λ z. left z (λ n. n) count) q, w .brackets-after ∙ ap (λ z. outputAfter z l brs) q, w .copies-after ∙ ap (λ z. outputAfter z m cps) q))
+
   shown : (x : Float) (k : ℕ)
       → Answered (λ (o : ℕ × Float × ℕ). Displayed (shows bs ns) x k (o .0) (o .1) (o .2)) (λ o. told (o .0)) (13 ∷ 14 ∷ []) (λ o. (o .1 ≡ x) × (o .2 ≡ k))
   shown x k =
@@ -191,6 +214,8 @@ demand-1 =
       write = write;
       count = λ f bs ns. count bs ns f;
       total = total;
+      bracket-mass = bracket-mass;
+      floater-brackets = floater-brackets;
       shown = shown;
       allowed = allowed;
       next = next;

@@ -19,7 +19,8 @@ use Rattle.scope.specs.declared.answers.Site.{Site}
 use Rattle.scope.specs.Answers.{residueCount, bracketCount, floaterCount}
 use Rattle.reader.specs.ReadSays.{ReadSays}
 use Rattle.calls.specs.Writing.{WriteSays}
-use Rattle.calls.specs.Says.{CountSays, TotalSays, ShownSays, AllowedSays, NextSays, LedgerSays}
+use Rattle.calls.specs.Floating.{FloatersSay}
+use Rattle.calls.specs.Says.{CountSays, TotalSays, BracketMassSays, ShownSays, AllowedSays, NextSays, LedgerSays}
 use Rattle.rows.specs.Says.{LookupSays}
 use Rattle.listing.specs.Says.{RowsSays, StepSays}
 use Rattle.verdict.specs.Says.{VerdictSays}
@@ -30,6 +31,8 @@ use Rattle.calls.proofs.residue_count as residue-count
 use Rattle.calls.proofs.bracket_count as bracket-count
 use Rattle.calls.proofs.floater_count as floater-count
 use Rattle.calls.proofs.total as total
+use Rattle.calls.proofs.bracket_mass as bracket-mass
+use Rattle.calls.proofs.floater_brackets as floater-brackets
 use Rattle.calls.proofs.shown as shown
 use Rattle.calls.proofs.is_allowed as is-allowed
 use Rattle.calls.proofs.next_placement as next-placement
@@ -60,6 +63,9 @@ module _ {M : Type 1} (𝓤 : URA M) (H : Heap 𝓤) (A : Atoms 𝓤) (mem : Mem
     pub shown-is : (shown.clauses 𝓤 H A mem run κs (x, (y, tt)) .requires ≡ (λ g. Nothing)) × (shown.clauses 𝓤 H A mem run κs (x, (y, tt)) .ensures ≡ (λ g r end. fact 𝓤 (ShownSays (x .now) (y .now) r)))
     shown-is = (refl, refl)
 
+    pub bracket-mass-is : (i : ℕ) → (bracket-mass.clauses 𝓤 H A mem run κs (x, (y, (i, tt))) .requires ≡ (λ g. Nothing)) × (bracket-mass.clauses 𝓤 H A mem run κs (x, (y, (i, tt))) .ensures ≡ (λ g r end. fact 𝓤 (BracketMassSays (x .now) (y .now) i r)))
+    bracket-mass-is i = (refl, refl)
+
     -- and a placement or a listing by value
     pub is-allowed-is : (p : Placement) → (is-allowed.clauses 𝓤 H A mem run κs (x, (y, (p, tt))) .requires ≡ (λ g. Nothing)) × (is-allowed.clauses 𝓤 H A mem run κs (x, (y, (p, tt))) .ensures ≡ (λ g r end. fact 𝓤 (AllowedSays (x .now) (y .now) p r)))
     is-allowed-is p = (refl, refl)
@@ -89,3 +95,6 @@ module _ {M : Type 1} (𝓤 : URA M) (H : Heap 𝓤) (A : Atoms 𝓤) (mem : Mem
 
   pub first-row-is : (κs : Lfts 1) (rs : RefT (List Site)) (n f : ℕ) → (first-row.clauses 𝓤 H A mem run κs (rs, (n, (f, tt))) .requires ≡ (λ g. Nothing)) × (first-row.clauses 𝓤 H A mem run κs (rs, (n, (f, tt))) .ensures ≡ (λ g r end. fact 𝓤 (LookupSays (rs .now) n f r)))
   first-row-is κs rs n f = (refl, refl)
+
+  pub floater-brackets-is : (κs : Lfts 4) (x : RefT (List ℕ)) (y : RefT (List ℤ)) (b c : RefT (List ℕ)) → (floater-brackets.clauses 𝓤 H A mem run κs (x, (y, (b, (c, tt)))) .requires ≡ (λ g. Nothing)) × (floater-brackets.clauses 𝓤 H A mem run κs (x, (y, (b, (c, tt)))) .ensures ≡ (λ g r end. fact 𝓤 (FloatersSay (x .now) (y .now) (b .now) (c .now) r (end .1 .1 .0 .now) (end .1 .1 .1 .0 .now))))
+  floater-brackets-is κs x y b c = (refl, refl)

@@ -17,9 +17,10 @@ use denote.Ref.{RefT}
 use Rattle.scope.specs.declared.answers.Listing.{Listing}
 use Rattle.scope.specs.declared.answers.Site.{Site}
 use Rattle.scope.specs.Answers.{counts, residueCount, bracketCount, floaterCount, totals, shows, looksUp}
+use Rattle.calls.specs.Single.{weighsAt}
 use Rattle.export.specs.Numbers.{Judged, Exported}
 use Rattle.export.specs.Handed.{Counted, RowsHanded, LookedUp, MovedOn}
-use Rattle.export.specs.Shapes.{Written, Totalled, Displayed, AllowedLent, Entered}
+use Rattle.export.specs.Shapes.{Written, Totalled, Displayed, AllowedLent, FloatersHanded, Entered}
 use Rattle.export.proofs.hwemiduk_verdict as verdict
 use Rattle.export.proofs.hwemiduk_read as read
 use Rattle.export.proofs.tables.hwemiduk_residues as residues
@@ -27,6 +28,8 @@ use Rattle.export.proofs.tables.hwemiduk_brackets as brackets
 use Rattle.export.proofs.tables.hwemiduk_floaters as floaters
 use Rattle.export.proofs.tables.hwemiduk_write as write
 use Rattle.export.proofs.tables.hwemiduk_total as total
+use Rattle.export.proofs.tables.hwemiduk_bracket_mass as bracket-mass
+use Rattle.export.proofs.tables.hwemiduk_floater_brackets as floater-brackets
 use Rattle.export.proofs.tables.hwemiduk_shown as shown
 use Rattle.export.proofs.tables.hwemiduk_allowed as allowed
 use Rattle.export.proofs.tables.hwemiduk_ledger as ledger
@@ -77,3 +80,9 @@ module _ {M : Type 1} (𝓤 : URA M) (H : Heap 𝓤) (A : Atoms 𝓤) (mem : Mem
 
   pub first-row-is : (κs : Lfts 3) (rs : RefT (List Site)) (n f : ℕ) (i x : RefT ℕ) → (first-row.clauses 𝓤 H A mem run κs (rs, (n, (f, (i, (x, tt))))) .requires ≡ (λ g. Nothing)) × (first-row.clauses 𝓤 H A mem run κs (rs, (n, (f, (i, (x, tt))))) .ensures ≡ (λ g r end. fact 𝓤 (LookedUp (looksUp (rs .now) n f) (i .now) (x .now) r (end .1 .1 .1 .0 .now) (end .1 .1 .1 .1 .0 .now))))
   first-row-is κs rs n f i x = (refl, refl)
+
+  pub bracket-mass-is : (κs : Lfts 4) (bs : RefT (List ℕ)) (ns : RefT (List ℤ)) (i : ℕ) (m : RefT ℤ) (p : RefT ℕ) → (bracket-mass.clauses 𝓤 H A mem run κs (bs, (ns, (i, (m, (p, tt))))) .requires ≡ (λ g. Nothing)) × (bracket-mass.clauses 𝓤 H A mem run κs (bs, (ns, (i, (m, (p, tt))))) .ensures ≡ (λ g r end. fact 𝓤 (Totalled (weighsAt (bs .now) (ns .now) i) (m .now) (p .now) r (end .1 .1 .1 .0 .now) (end .1 .1 .1 .1 .0 .now))))
+  bracket-mass-is κs bs ns i m p = (refl, refl)
+
+  pub floater-brackets-is : (κs : Lfts 5) (bs : RefT (List ℕ)) (ns : RefT (List ℤ)) (b c : RefT (List ℕ)) (k : RefT ℕ) → (floater-brackets.clauses 𝓤 H A mem run κs (bs, (ns, (b, (c, (k, tt))))) .requires ≡ (λ g. Nothing)) × (floater-brackets.clauses 𝓤 H A mem run κs (bs, (ns, (b, (c, (k, tt))))) .ensures ≡ (λ g r end. fact 𝓤 (FloatersHanded (bs .now) (ns .now) (b .now) (c .now) (k .now) r (end .1 .1 .1 .1 .0 .now) (end .1 .1 .0 .now) (end .1 .1 .1 .0 .now))))
+  floater-brackets-is κs bs ns b c k = (refl, refl)

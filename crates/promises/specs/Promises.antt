@@ -38,12 +38,14 @@ use Rattle.verdict.specs.Says.{VerdictSays}
 use Rattle.reader.specs.ReadSays.{ReadSays}
 use Rattle.placements.specs.declared.Next.{Next}
 use Rattle.calls.specs.Writing.{WriteSays}
-use Rattle.calls.specs.Says.{CountSays, TotalSays, ShownSays, AllowedSays, NextSays, LedgerSays}
+use Rattle.calls.specs.Single.{weighsAt}
+use Rattle.calls.specs.Floating.{FloatersSay}
+use Rattle.calls.specs.Says.{CountSays, TotalSays, BracketMassSays, ShownSays, AllowedSays, NextSays, LedgerSays}
 use Rattle.rows.specs.Says.{LookupSays}
 use Rattle.listing.specs.Says.{RowsSays, StepSays}
 use Rattle.export.specs.Numbers.{Judged, Exported}
 use Rattle.export.specs.Handed.{Counted, RowsHanded, LookedUp, MovedOn}
-use Rattle.export.specs.Shapes.{Written, Totalled, Displayed, AllowedLent, Entered as EnteredLent}
+use Rattle.export.specs.Shapes.{Written, Totalled, Displayed, AllowedLent, FloatersHanded, Entered as EnteredLent}
 
 -- ======== demand 1
 -- "Every line of bytes, every set of tables and every lent area gets an answer, and the caller need not have checked anything."
@@ -99,6 +101,11 @@ pub record Demand1 : Type 0 where
       → Answered (λ (o : Write × List ℕ). WriteSays bs ns out (o .0) (o .1)) (λ o. saysWrite (o .0)) (13 ∷ 14 ∷ 15 ∷ []) (λ o. o .1 ≡ out)
   pub count : (f : Tables → ℕ) (bs : List ℕ) (ns : List ℤ) → Answered (CountSays f bs ns) saysCount (13 ∷ 14 ∷ []) Nothing
   pub total : (bs : List ℕ) (ns : List ℤ) → Answered (TotalSays bs ns) saysTotal (13 ∷ 14 ∷ 16 ∷ []) Nothing
+  pub bracket-mass : (bs : List ℕ) (ns : List ℤ) (i : ℕ) → Answered (BracketMassSays bs ns i) saysTotal (13 ∷ 14 ∷ 16 ∷ 17 ∷ []) Nothing
+  pub floater-brackets :
+      (bs : List ℕ) (ns : List ℤ) (brs cps : List ℕ)
+      → Answered (λ (o : Count × (List ℕ × List ℕ)). FloatersSay bs ns brs cps (o .0) (o .1 .0) (o .1 .1)) (λ o. saysCount (o .0)) (13 ∷ 14 ∷ [])
+      (λ o. o .1 ≡ (brs, cps))
   pub shown : (bs : List ℕ) (ns : List ℤ) → Answered (ShownSays bs ns) saysShown (13 ∷ 14 ∷ []) Nothing
   pub is-allowed : (bs : List ℕ) (ns : List ℤ) (p : Placement) → Answered (AllowedSays bs ns p) saysRequest (13 ∷ 14 ∷ 18 ∷ []) Nothing
   pub next-placement :
@@ -308,6 +315,13 @@ pub record Demand1C : Type 0 where
   pub total :
       (bs : List ℕ) (ns : List ℤ) (m : ℤ) (place : ℕ)
       → Answered (λ (o : ℕ × ℤ × ℕ). Totalled (totals bs ns) m place (o .0) (o .1) (o .2)) (λ o. told (o .0)) (13 ∷ 14 ∷ 16 ∷ []) (λ o. o .1 ≡ m)
+  pub bracket-mass :
+      (bs : List ℕ) (ns : List ℤ) (i : ℕ) (m : ℤ) (place : ℕ)
+      → Answered (λ (o : ℕ × ℤ × ℕ). Totalled (weighsAt bs ns i) m place (o .0) (o .1) (o .2)) (λ o. told (o .0)) (13 ∷ 14 ∷ 16 ∷ 17 ∷ []) (λ o. o .1 ≡ m)
+  pub floater-brackets :
+      (bs : List ℕ) (ns : List ℤ) (brs cps : List ℕ) (count : ℕ)
+      → Answered (λ (o : ℕ × ℕ × List ℕ × List ℕ). FloatersHanded bs ns brs cps count (o .0) (o .1) (o .2) (o .3)) (λ o. told (o .0)) (13 ∷ 14 ∷ [])
+      (λ o. (o .1 ≡ count) × (o .2 ≡ brs) × (o .3 ≡ cps))
   pub shown :
       (bs : List ℕ) (ns : List ℤ) (x : Float) (k : ℕ)
       → Answered (λ (o : ℕ × Float × ℕ). Displayed (shows bs ns) x k (o .0) (o .1) (o .2)) (λ o. told (o .0)) (13 ∷ 14 ∷ []) (λ o. (o .1 ≡ x) × (o .2 ≡ k))

@@ -18,7 +18,7 @@ same-length-2 c = search needs
 
 returns : tie.Need-returns
 returns c =
-    let r = c .before .before .before .before .before .floater-brackets .ensures in
+    let r = c .before .before .before .before .before .before .floater-brackets .ensures in
     record { counted = counted-so (r .says) (c .tell-count .ensures); brackets-after = r .brackets-after; copies-after = r .copies-after }
 
 pub hwemiduk-floater-brackets-spec : {M : Type 1} → statement M

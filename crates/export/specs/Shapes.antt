@@ -12,7 +12,8 @@ use Rattle.scope.specs.Canonical.{canonical}
 use Rattle.scope.specs.Tables.{Tables, tablesIn}
 use Rattle.scope.specs.Lists.{laid}
 use Rattle.scope.specs.Masses.{ledger, daltons}
-use Rattle.scope.specs.Answers.{Said, good, refuses, Display, aMass, lack, writes, outputAfter, allows, books}
+use Rattle.scope.specs.Answers.{Said, good, refuses, Display, aMass, lack, writes, outputAfter, allows, books, fitting}
+use Rattle.entries.specs.Entry.{entry}
 use Rattle.calls.specs.Floating.{floatersBy, bracketsOf, copiesOf, floatersSaid}
 use Rattle.export.specs.Numbers.{numberOf, left, Numbered}
 use Rattle.export.specs.Handed.{Counted}
@@ -73,3 +74,12 @@ pub record FloatersHanded (bs : List ℕ) (ns : List ℤ) (brackets copies : Lis
   pub counted : Counted (floatersSaid bs ns brackets copies) count number count′
   pub brackets-after : brackets′ ≡ outputAfter (floatersSaid bs ns brackets copies) (bracketsOf (floatersBy (tablesIn bs ns))) brackets
   pub copies-after : copies′ ≡ outputAfter (floatersSaid bs ns brackets copies) (copiesOf (floatersBy (tablesIn bs ns))) copies
+
+-- ---- a text in a lent output of any length: how many bytes, with 15 the length needed
+pub record Fitted (text old : List ℕ) (count number count′ : ℕ) (new : List ℕ) : Type 0 where
+  pub measured : Measured (fitting text (length old)) count number count′
+  pub output-after : new ≡ outputAfter (fitting text (length old)) text old
+
+-- what the register prints for a line with its number, and byte 10
+abbrev pub EntryHanded : ℕ → List ℕ → List ℕ → ℕ → ℕ → ℕ → List ℕ → Type 0
+EntryHanded number line = Fitted (entry number line)

@@ -1,0 +1,20 @@
+-- `export::printed::hand_out` meets its contract.
+use Rattle.export.proofs.Fits.{part-15, part-0}
+use borrow.Author.Needs.{needs}
+use Rattle.export.proofs.printed.hand_out.Statement.{statement}
+use Rattle.export.proofs.printed.hand_out.Tie as tie
+
+returns : tie.Need-returns
+returns c = part-15 _ _ _ _ (c .before .before .before .pre) (c .if1 .taken)
+
+copy-bytes-requires : tie.Need-copy-bytes-requires
+copy-bytes-requires c κs = search needs
+
+same-length : tie.Need-same-length
+same-length c = search needs
+
+returns-2 : tie.Need-returns-2
+returns-2 c = part-0 _ _ _ _ (c .before .before .before .before .before .before .before .pre) (c .before .before .before .before .if1 .left) (c .before .before .copy-bytes .ensures)
+
+pub hand-out-spec : {M : Type 1} → statement M
+hand-out-spec = tie.close (tie.spec returns copy-bytes-requires same-length returns-2)

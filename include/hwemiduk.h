@@ -91,6 +91,7 @@ static inline const char *hwemiduk_words(uint8_t answer)
 
 /* ---- Limits and sizes. hwemiduk_limits gives all of them; the macros are for arrays of fixed size, and the tests hold them against it. */
 #define HWEMIDUK_LINE 4096       /* bytes of a line; a canonical line has no more */
+#define HWEMIDUK_ENTRY (HWEMIDUK_LINE + 110)    /* bytes of an entry of the register, its end of line among them; none has more */
 #define HWEMIDUK_RESIDUES 254    /* residues of a line */
 #define HWEMIDUK_BRACKETS 64     /* brackets of a line */
 #define HWEMIDUK_PARTS 4         /* parts of a bracket */
@@ -238,6 +239,12 @@ uint8_t hwemiduk_read(const uint8_t *line, size_t line_len, uint8_t *bytes, size
  * *length; or 13 or 14. out may have any length: asking with a length of 0 tells the length needed.
  */
 uint8_t hwemiduk_write(const uint8_t *bytes, size_t bytes_len, const int64_t *numbers, size_t numbers_len, uint8_t *out, size_t out_len, size_t *length);
+
+/*
+ * What the register prints of a line with this number, ended by byte 10: 0 with it in out and the number of its bytes in *length; or 15 with the length needed in
+ * *length. Every line has an entry, a refused one too; HWEMIDUK_ENTRY bytes are enough for each.
+ */
+uint8_t hwemiduk_entry(uint64_t number, const uint8_t *line, size_t line_len, uint8_t *out, size_t out_len, size_t *length);
 
 /* ---- Counts: 0 with how many there are in *count; or 13 or 14. */
 uint8_t hwemiduk_residues(const uint8_t *bytes, size_t bytes_len, const int64_t *numbers, size_t numbers_len, size_t *count);

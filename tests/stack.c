@@ -11,11 +11,11 @@
 #define SIZE (256 * 1024)
 #define PAINT 0xC3
 
-enum call { NOTHING, VERSION, LIMITS, VERDICT, READ, WRITE, RESIDUES, BRACKETS, FLOATERS, FLOATER_BRACKETS, TOTAL, BRACKET_MASS, SHOWN, ALLOWED, NEXT, LEDGER, ROWS, FIRST_ROW, CALLS };
-static const char *const names[CALLS] = { "nothing", "version", "limits", "verdict", "read", "write", "residues", "brackets", "floaters", "floater_brackets", "total", "bracket_mass", "shown", "allowed", "next",
+enum call { NOTHING, VERSION, LIMITS, VERDICT, READ, ENTRY, WRITE, RESIDUES, BRACKETS, FLOATERS, FLOATER_BRACKETS, TOTAL, BRACKET_MASS, SHOWN, ALLOWED, NEXT, LEDGER, ROWS, FIRST_ROW, CALLS };
+static const char *const names[CALLS] = { "nothing", "version", "limits", "verdict", "read", "entry", "write", "residues", "brackets", "floaters", "floater_brackets", "total", "bracket_mass", "shown", "allowed", "next",
     "ledger", "rows", "first_row" };
 /* in KiB, as the header says */
-static const size_t said[CALLS] = { 0, 1, 1, 11, 11, 25, 25, 25, 25, 25, 25, 25, 25, 25, 25, 29, 29, 1 };
+static const size_t said[CALLS] = { 0, 1, 1, 11, 11, 25, 25, 25, 25, 25, 25, 25, 25, 25, 25, 25, 29, 29, 1 };
 static size_t most[CALLS];
 
 static _Alignas(64) unsigned char stack[SIZE];
@@ -27,7 +27,7 @@ static hwemiduk_tables tables;
 static hwemiduk_site rows[HWEMIDUK_ROWS];
 static hwemiduk_position placement[HWEMIDUK_COPIES];
 static int64_t entries[HWEMIDUK_POSITIONS];
-static uint8_t out[HWEMIDUK_LINE], of[HWEMIDUK_COPIES], copy[HWEMIDUK_COPIES];
+static uint8_t entry[HWEMIDUK_ENTRY], out[HWEMIDUK_LINE], of[HWEMIDUK_COPIES], copy[HWEMIDUK_COPIES];
 
 static void run(void)
 {
@@ -43,6 +43,7 @@ static void run(void)
     case LIMITS: hwemiduk_limits(&limits); break;
     case VERDICT: hwemiduk_verdict(line, length, &place); break;
     case READ: hwemiduk_read(line, length, HWEMIDUK_OF(&tables), &place); break;
+    case ENTRY: hwemiduk_entry(UINT64_MAX, line, length, entry, sizeof entry, &place); break;
     case WRITE: hwemiduk_write(HWEMIDUK_OF(&tables), out, sizeof out, &place); break;
     case RESIDUES: hwemiduk_residues(HWEMIDUK_OF(&tables), &place); break;
     case BRACKETS: hwemiduk_brackets(HWEMIDUK_OF(&tables), &place); break;

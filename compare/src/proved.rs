@@ -77,6 +77,14 @@ pub fn write(bytes: &[u8], numbers: &[i64], out: &mut [u8]) -> Result<usize, Ref
     }
 }
 
+/// What the register prints of a line, into an output of any length: how many bytes.
+pub fn entry(number: u64, line: &[u8], out: &mut [u8]) -> Result<usize, Refusal> {
+    match outs::entry(number, line, out) {
+        (0, length) => Ok(length),
+        (answered, length) => Err(Refusal::new(answered, length)),
+    }
+}
+
 /// The total in millionths.
 pub fn total(bytes: &[u8], numbers: &[i64]) -> Result<i64, Refusal> {
     let (number, millionths, place) = outs::total(bytes, numbers);

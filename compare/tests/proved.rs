@@ -3,7 +3,7 @@
 use compare::areas::{encode, BYTES_SIZE, NUMBERS_SIZE};
 use compare::generate::{share, Generator};
 use compare::line::Refusal;
-use compare::{proved, reader};
+use compare::{proved, reader, register};
 
 const JUNK_BYTE: u8 = 0xA5;
 const JUNK_NUMBER: i64 = -6_148_914_691_236_517_205;
@@ -25,6 +25,34 @@ fn alike(line: &[u8]) {
     want_numbers.resize(NUMBERS_SIZE + 2, JUNK_NUMBER);
     assert!(bytes == want_bytes, "bytes of {shown:?}");
     assert!(numbers == want_numbers, "numbers of {shown:?}");
+}
+
+/// The register's entry of a line, into outputs that are longer than need be, just long enough and too short, all of junk.
+fn entered(number: u64, line: &[u8]) {
+    let mut ours = Vec::new();
+    register::answer(number, line, &mut ours);
+    for room in [ours.len() + 5, ours.len(), ours.len() - 1, 0] {
+        let mut out = vec![JUNK_BYTE; room];
+        let answer = proved::entry(number, line, &mut out);
+        if room < ours.len() {
+            assert_eq!(answer, Err(Refusal { number: 15, place: ours.len() }));
+            assert!(out.iter().all(|&x| x == JUNK_BYTE));
+        } else {
+            assert_eq!(answer, Ok(ours.len()));
+            assert!(out[..ours.len()] == ours[..] && out[ours.len()..].iter().all(|&x| x == JUNK_BYTE), "{:?}", String::from_utf8_lossy(line));
+        }
+    }
+}
+
+#[test]
+fn entries() {
+    let lines = include_bytes!("../vectors/lines.in");
+    for (line, number) in lines.split(|&b| b == 10).zip(0..) {
+        entered(number, line);
+    }
+    for line in Generator::new(29).take(share(5_000)) {
+        entered(u64::MAX, &line);
+    }
 }
 
 #[test]

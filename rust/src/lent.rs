@@ -23,6 +23,8 @@ use crate::Refusal;
 
 /// Bytes of a line; a canonical line has no more.
 pub const LINE: usize = 4096;
+/// Bytes of an entry of the register, its end of line among them; none has more.
+pub const ENTRY: usize = LINE + 110;
 /// Residues of a line.
 pub const RESIDUES: usize = 254;
 /// Brackets of a line.
@@ -155,6 +157,13 @@ pub fn write(bytes: &[u8], numbers: &[i64], out: &mut [u8]) -> Result<usize, Ref
     answer(number, if number == 15 { length } else { 0 }, length)
 }
 
+/// Writes what the register prints of a line with this number, ended by byte 10, into an output of any length, and answers how many bytes it has; or 15, with the length
+/// needed as its place. [`ENTRY`] bytes are enough.
+pub fn entry(number: u64, line: &[u8], out: &mut [u8]) -> Result<usize, Refusal> {
+    let (answered, length) = outs::entry(number, line, out);
+    answer(answered, length, length)
+}
+
 /// How many residues.
 pub fn residues(bytes: &[u8], numbers: &[i64]) -> Result<usize, Refusal> {
     let (number, count) = outs::residues(bytes, numbers);
@@ -264,6 +273,13 @@ pub mod outs {
         (number, length)
     }
 
+    /// The number of the answer and the length.
+    pub fn entry(number: u64, line: &[u8], out: &mut [u8]) -> (u8, usize) {
+        let mut length = usize::MAX;
+        let answered = unsafe { hwemiduk_entry(number, line.as_ptr(), line.len(), out.as_mut_ptr(), out.len(), &mut length) };
+        (answered, length)
+    }
+
     /// The number and the count.
     pub fn residues(bytes: &[u8], numbers: &[i64]) -> (u8, usize) {
         let mut count = usize::MAX;
@@ -362,6 +378,7 @@ extern "C" {
     fn hwemiduk_verdict(line: *const u8, line_len: usize, place: *mut usize) -> u8;
     fn hwemiduk_read(line: *const u8, line_len: usize, bytes: *mut u8, bytes_len: usize, numbers: *mut i64, numbers_len: usize, place: *mut usize) -> u8;
     fn hwemiduk_write(bytes: *const u8, bytes_len: usize, numbers: *const i64, numbers_len: usize, out: *mut u8, out_len: usize, length: *mut usize) -> u8;
+    fn hwemiduk_entry(number: u64, line: *const u8, line_len: usize, out: *mut u8, out_len: usize, length: *mut usize) -> u8;
     fn hwemiduk_residues(bytes: *const u8, bytes_len: usize, numbers: *const i64, numbers_len: usize, count: *mut usize) -> u8;
     fn hwemiduk_brackets(bytes: *const u8, bytes_len: usize, numbers: *const i64, numbers_len: usize, count: *mut usize) -> u8;
     fn hwemiduk_floaters(bytes: *const u8, bytes_len: usize, numbers: *const i64, numbers_len: usize, count: *mut usize) -> u8;

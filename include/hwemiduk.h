@@ -56,9 +56,9 @@ enum hwemiduk_answer {
     HWEMIDUK_MANY_COPIES = 12,    /* more than eight floating copies */
     HWEMIDUK_SHORT_AREA = 13,     /* a lent area is too short */
     HWEMIDUK_NO_TABLES = 14,      /* tables that no accepted line reads to */
-    HWEMIDUK_SHORT_OUTPUT = 15,   /* the output is shorter than the canonical line */
+    HWEMIDUK_SHORT_OUTPUT = 15,   /* the output is shorter than what is to be written */
     HWEMIDUK_NO_MASS = 16,        /* a modification has no mass */
-    HWEMIDUK_NO_FURTHER = 17,     /* no placement, no further one, no such row */
+    HWEMIDUK_NO_FURTHER = 17,     /* no placement, no further one, no such row or bracket */
     HWEMIDUK_NOT_ALLOWED = 18     /* a placement that is not allowed */
 };
 
@@ -81,9 +81,9 @@ static inline const char *hwemiduk_words(uint8_t answer)
     case HWEMIDUK_MANY_COPIES: return "more than eight floating copies";
     case HWEMIDUK_SHORT_AREA: return "a lent area is too short";
     case HWEMIDUK_NO_TABLES: return "tables that no accepted line reads to";
-    case HWEMIDUK_SHORT_OUTPUT: return "the output is shorter than the canonical line";
+    case HWEMIDUK_SHORT_OUTPUT: return "the output is shorter than what is to be written";
     case HWEMIDUK_NO_MASS: return "a modification has no mass";
-    case HWEMIDUK_NO_FURTHER: return "no placement, no further one, no such row";
+    case HWEMIDUK_NO_FURTHER: return "no placement, no further one, no such row or bracket";
     case HWEMIDUK_NOT_ALLOWED: return "a placement that is not allowed";
     default: return "an answer that this header does not know";
     }

@@ -18,9 +18,9 @@ pub const WORDS: [&str; 18] = [
     "more than eight floating copies",
     "a lent area is too short",
     "tables that no accepted line reads to",
-    "the output is shorter than the canonical line",
+    "the output is shorter than what is to be written",
     "a modification has no mass",
-    "no placement, no further one, no such row",
+    "no placement, no further one, no such row or bracket",
     "a placement that is not allowed",
 ];
 

@@ -21,9 +21,9 @@ WORDS = {
     12: "more than eight floating copies",
     13: "a lent area is too short",
     14: "tables that no accepted line reads to",
-    15: "the output is shorter than the canonical line",
+    15: "the output is shorter than what is to be written",
     16: "a modification has no mass",
-    17: "no placement, no further one, no such row",
+    17: "no placement, no further one, no such row or bracket",
     18: "a placement that is not allowed",
 }
 

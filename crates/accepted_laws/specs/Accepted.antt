@@ -12,7 +12,7 @@ use Rattle.scope.specs.Bytes.{isPrintable}
 use Rattle.scope.specs.Line.{Number, Label, Value, mass, text, reference, Part, Bracket, Line}
 use Rattle.scope.specs.Lists.{flat}
 use Rattle.scope.specs.Refusals.{inRange, textIn, accepted, outcome}
-use Rattle.scope.specs.Tables.{bracketTexts}
+use Rattle.scope.specs.Layout.{bracketTexts}
 use Rattle.basics.specs.Tests.{and-right}
 use Rattle.basics.specs.Each.{OfGiven, each-one, each-two}
 use Rattle.accepted_laws.specs.Within.{Byte, NumberWithin, LabelWithin, ValueWithin, PartWithin, BracketWithin, Within}

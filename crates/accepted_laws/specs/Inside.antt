@@ -17,7 +17,7 @@ use Rattle.scope.specs.Keys.{digits}
 use Rattle.scope.specs.Content.{Digits, signed, whole, pointed, broken, numberOf, numberEnd, Context, Inner, begin, plain, keyed, inNumber, inCode, inText, hashed, inLabel, scoring, inScore, scored, Content, lost, closed, going, unlabelled, labelled, isReference, innerStep}
 use Rattle.scope.specs.Lists.{none?, flat}
 use Rattle.scope.specs.Refusals.{textIn, textOf}
-use Rattle.scope.specs.Tables.{packed}
+use Rattle.scope.specs.Layout.{packed}
 use Rattle.basics.specs.Tests.{and-right}
 use Rattle.basics.specs.Lists.{flat-append-length, flat-one-length}
 use Rattle.reading_laws.specs.Goes.{Valued, of-plain, of-number, of-code, of-text, Over, of-value, of-label, of-score, On, mass-begins, plain-begins, text-begins, refers, plain-on, plain-text, no-key, key-name, key-code, key-text, keyed-mass, keyed-text, mass-on, code-on, text-on, hash-on, label-begins, label-on, score-opens, score-sign, score-digit, score-on, score-over, Goes, stops, goes-on, part-over, shuts, goes}

@@ -7,7 +7,8 @@ use Rattle.scope.specs.Lists.{flat}
 use Rattle.scope.specs.Limits.{lineLimit}
 use Rattle.scope.specs.Line.{Bracket, Line}
 use Rattle.scope.specs.Refusals.{accepted, outcome}
-use Rattle.scope.specs.Tables.{bracketTexts, tablesOf}
+use Rattle.scope.specs.Tables.{tablesOf}
+use Rattle.scope.specs.Layout.{bracketTexts}
 use Rattle.accepted_laws.specs.Within.{BracketWithin, Within, first-few, last-few}
 use Rattle.accepted_laws.specs.BareWithin
 use Rattle.accepted_laws.specs.Judged

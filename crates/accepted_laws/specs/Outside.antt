@@ -22,7 +22,7 @@ use Rattle.scope.specs.Content.{isReference, Inner, Content, lost, closed, goin
 use Rattle.scope.specs.Reading.{counted, referred, act, mayEnd, Held, firstOf, withResidue, firstPosition, lastPosition, bracketOf, settled, waiting, withBracket, times, countDigit, withDigit, asNTerm, settledRun, State, dead, outside, inside, perform, refers?, resume, step, run, start, holds, reading}
 use Rattle.scope.specs.Lists.{onLast, flat}
 use Rattle.scope.specs.Kinds.{isUnknown}
-use Rattle.scope.specs.Tables.{bracketTexts}
+use Rattle.scope.specs.Layout.{bracketTexts}
 use Rattle.basics.specs.Tests.{and-left, and-right, implied}
 use Rattle.basics.specs.Lists.{flat-append-length, flat-one-length}
 use Rattle.basics.specs.Choice.{branch}

@@ -16,7 +16,7 @@ use Rattle.scope.specs.Lists.{flat}
 use Rattle.scope.specs.Modifications.{namesOf, isLabelled}
 use Rattle.scope.specs.Refusals.{inRange}
 use Rattle.scope.specs.Kinds.{isUnknown}
-use Rattle.scope.specs.Tables.{bracketTexts}
+use Rattle.scope.specs.Layout.{bracketTexts}
 use Rattle.scope.specs.Positions.{floaters}
 use Rattle.basics.specs.Each.{Each, OfGiven, IsGiven}
 

@@ -7,7 +7,7 @@ use lib.IntN.{ℤ}
 use lib.ListN.{length, getD, take}
 use Rattle.scope.specs.Limits.{copyLimit, rowLimit, positionLimit}
 use Rattle.scope.specs.Lists.{keep, tabled}
-use Rattle.scope.specs.Tables.{byteAt, bracketIn, tablesIn}
+use Rattle.scope.specs.Layout.{bracketIn, tablesIn, bracketsField}
 use Rattle.scope.specs.Positions.{floaters, permittedPositions}
 
 -- the positions of floater f: those x whose byte, among the 256 of f, is 1
@@ -28,7 +28,7 @@ pub record FloatersAre (bs : List ℕ) (ns : List ℤ) (count : ℕ) (index : Li
   pub many : count ≡ length (floaters (tablesIn bs ns))
   pub few : count ≤ copyLimit
   pub brackets : floaters (tablesIn bs ns) ≡ map (bracketIn bs ns) (take count index)
-  pub inside : (i : ℕ) → i < count → getD index i 0 < byteAt bs 1
+  pub inside : (i : ℕ) → i < count → getD index i 0 < bracketsField bs
 
 abbrev pub TableIs : List ℕ → List ℤ → List ℕ → ℕ → Type 0
 TableIs bs ns tab count = listsIn tab count ≡ permittedPositions (tablesIn bs ns)

@@ -9,7 +9,7 @@ use lib.IntN.{ℤ}
 use lib.ListN.{length, getD, take, length-map, List·getD-map}
 use lib.Seq.{length-take-le, getD-take, ext-getD}
 use Rattle.scope.specs.Lists.{keep, tabled}
-use Rattle.scope.specs.Tables.{byteAt, residueIn, bracketIn, tablesIn}
+use Rattle.scope.specs.Layout.{residueIn, bracketIn, tablesIn, bracketsField, residuesField}
 
 pub tabled-at : {A : Type 0} (f : ℕ → A) (i m : ℕ) → i < m → tabled f i (m - i) ≡ f i ∷ tabled f (i + 1) (m - (i + 1))
 unfolding tabled
@@ -87,10 +87,10 @@ tabled-map h g index count l e =
 
 -- ---- how many residues and brackets the tables in areas have
 module _ (bs : List ℕ) (ns : List ℤ) where
-  pub residues-many : length (tablesIn bs ns .residues) ≡ byteAt bs 0
+  pub residues-many : length (tablesIn bs ns .residues) ≡ residuesField bs
   unfolding tablesIn
-  residues-many = length-tabled (residueIn bs) 0 (byteAt bs 0)
+  residues-many = length-tabled (residueIn bs) 0 (residuesField bs)
 
-  pub brackets-many : length (tablesIn bs ns .brackets) ≡ byteAt bs 1
+  pub brackets-many : length (tablesIn bs ns .brackets) ≡ bracketsField bs
   unfolding tablesIn
-  brackets-many = length-tabled (bracketIn bs ns) 0 (byteAt bs 1)
+  brackets-many = length-tabled (bracketIn bs ns) 0 (bracketsField bs)

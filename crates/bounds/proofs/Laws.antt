@@ -11,7 +11,7 @@ use lib.IntN.{ℤ, pos, negsuc}
 use lib.ListN.{length, getD}
 use lib.Signed.{ltZ}
 use Rattle.scope.specs.Limits.{lineLimit, residueLimit, bracketLimit, partLimit, textLimit, labelLimit, countLimit, decimalLimit}
-use Rattle.scope.specs.Tables.{bytesSize, numbersSize, numberRowSize, byteAt, rowAt, partAt, textFrom}
+use Rattle.scope.specs.Layout.{bytesSize, numbersSize, bracketsField, countField, decimalsField, firstField, labelField, lastField, massField, offsetField, partsField, residuesField, scoreField, scoreNumber, textField}
 use Rattle.areas.specs.Bounds.{Small, PartBounds, BracketBounds, Bounds}
 use Rattle.bounds.specs.Verdict.{Verdict, decides}
 use Rattle.bounds.specs.Pieces.{Room, RowRoom, PlaceBounds, HeadBounds, PartsBounds, BracketsBounds}
@@ -42,9 +42,9 @@ above m e = subst (λ z. ltZ z (pos 1000000000000) ≡ false → Small m → ⊥
 
 -- ---- a part
 pub part-law :
-    (bs : List ℕ) (ns : List ℤ) (k j : ℕ) {decimals text label from : ℕ} {m : ℤ} (r : Bool) → decimals ≡ byteAt bs (partAt k j + 2)
-    → text ≡ byteAt bs (partAt k j + 3) → label ≡ byteAt bs (partAt k j + 4) → from ≡ textFrom bs (partAt k j)
-    → m ≡ getD ns (k * numberRowSize + j) (pos 0) → decimals ≤ decimalLimit → text ≤ textLimit → label ≤ labelLimit
+    (bs : List ℕ) (ns : List ℤ) (k j : ℕ) {decimals text label from : ℕ} {m : ℤ} (r : Bool) → decimals ≡ decimalsField bs k j
+    → text ≡ textField bs k j → label ≡ labelField bs k j → from ≡ offsetField bs k j
+    → m ≡ massField ns k j → decimals ≤ decimalLimit → text ≤ textLimit → label ≤ labelLimit
     → from + text + label ≤ lineLimit → Verdict r (Small m) → Verdict r (PartBounds bs ns k j)
 part-law bs ns k j r d t l f e few short shorter inside v =
     decides r
@@ -53,15 +53,15 @@ part-law bs ns k j r d t l f e few short shorter inside v =
 
 -- ---- a bracket's row
 pub place-law :
-    (bs : List ℕ) (k : ℕ) {end first last : ℕ} → end ≡ byteAt bs 0 + 1 → first ≡ byteAt bs (rowAt k + 1) → last ≡ byteAt bs (rowAt k + 2) → first ≤ end
+    (bs : List ℕ) (k : ℕ) {end first last : ℕ} → end ≡ residuesField bs + 1 → first ≡ firstField bs k → last ≡ lastField bs k → first ≤ end
     → Verdict (leb last end) (PlaceBounds bs k)
 place-law bs k {end = end} {last = last} e f l h =
     verdict (leb last end) (λ q. record { first = omega arith; last = omega (arith, leb-true last end q) })
     (λ q b. omega (arith, leb-false last end q, b .last))
 
 pub head-law :
-    (bs : List ℕ) (ns : List ℤ) (k : ℕ) {count parts score : ℕ} {m : ℤ} (r : Bool) → count ≡ byteAt bs (rowAt k + 3) → parts ≡ byteAt bs (rowAt k + 4)
-    → score ≡ byteAt bs (rowAt k + 5) → m ≡ getD ns (k * numberRowSize + partLimit) (pos 0) → (count ≡ 0 → ⊥) → count ≤ countLimit
+    (bs : List ℕ) (ns : List ℤ) (k : ℕ) {count parts score : ℕ} {m : ℤ} (r : Bool) → count ≡ countField bs k → parts ≡ partsField bs k
+    → score ≡ scoreField bs k → m ≡ scoreNumber ns k → (count ≡ 0 → ⊥) → count ≤ countLimit
     → parts ≤ partLimit → score ≤ decimalLimit + 1 → Verdict r (Small m) → Verdict r (HeadBounds bs ns k)
 head-law bs ns k r c p s e some few less low v =
     decides r
@@ -97,7 +97,7 @@ pub room : {bs : List ℕ} {ns : List ℤ} → (bytesSize ≤ length bs) × (num
 room h = record { bytes = h .0; numbers = h .1 }
 
 pub areas-law :
-    {bs : List ℕ} {ns : List ℤ} {n m : ℕ} (r : Bool) → Room bs ns → n ≡ byteAt bs 0 → m ≡ byteAt bs 1 → (n ≡ 0 → ⊥) → n ≤ residueLimit
+    {bs : List ℕ} {ns : List ℤ} {n m : ℕ} (r : Bool) → Room bs ns → n ≡ residuesField bs → m ≡ bracketsField bs → (n ≡ 0 → ⊥) → n ≤ residueLimit
     → m ≤ bracketLimit → Verdict r (BracketsBounds bs ns m) → Verdict r (Bounds bs ns)
 areas-law r sizes e f some few less v =
     decides r
@@ -115,13 +115,13 @@ areas-law r sizes e f some few less v =
 -- ---- the loop over a bracket's parts: those below j keep to their bounds
 pub record Parts (bs : List ℕ) (ns : List ℤ) (k m j : ℕ) : Type 0 where
   pub row : RowRoom bs ns k
-  pub many : m ≡ byteAt bs (rowAt k + 4)
+  pub many : m ≡ partsField bs k
   pub few : m ≤ partLimit
   pub inside : j ≤ m
   pub done : (i : ℕ) → i < j → PartBounds bs ns k i
 
 module _ {bs : List ℕ} {ns : List ℤ} {k m : ℕ} where
-  pub parts-start : RowRoom bs ns k → byteAt bs (rowAt k + 4) ≤ partLimit → m ≡ byteAt bs (rowAt k + 4) → Parts bs ns k m 0
+  pub parts-start : RowRoom bs ns k → partsField bs k ≤ partLimit → m ≡ partsField bs k → Parts bs ns k m 0
   parts-start r h e = record { row = r; many = e; few = omega arith; inside = omega arith; done = λ i l. absurd (omega arith) }
 
   pub parts-row : {j : ℕ} → Parts bs ns k m j → j < m → RowRoom bs ns k × (j < partLimit)

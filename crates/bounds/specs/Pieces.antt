@@ -4,7 +4,7 @@ use Prim.Native.Nat.{ℕ, _+_, _*_, _≤_, _<_}
 use lib.IntN.{ℤ, pos}
 use lib.ListN.{length, getD}
 use Rattle.scope.specs.Limits.{bracketLimit, partLimit, countLimit, decimalLimit}
-use Rattle.scope.specs.Tables.{bytesSize, numbersSize, numberRowSize, byteAt, rowAt}
+use Rattle.scope.specs.Layout.{bytesSize, numbersSize, countField, firstField, lastField, partsField, residuesField, scoreField, scoreNumber}
 use Rattle.areas.specs.Bounds.{Small, PartBounds, BracketBounds}
 
 -- areas of the sizes that tables take
@@ -19,20 +19,20 @@ pub record RowRoom (bs : List ℕ) (ns : List ℤ) (k : ℕ) : Type 0 where
 
 -- its positions, which are at most one past the residues
 pub record PlaceBounds (bs : List ℕ) (k : ℕ) : Type 0 where
-  pub first : byteAt bs (rowAt k + 1) ≤ byteAt bs 0 + 1
-  pub last : byteAt bs (rowAt k + 2) ≤ byteAt bs 0 + 1
+  pub first : firstField bs k ≤ residuesField bs + 1
+  pub last : lastField bs k ≤ residuesField bs + 1
 
 -- its numbers
 pub record HeadBounds (bs : List ℕ) (ns : List ℤ) (k : ℕ) : Type 0 where
-  pub some-count : 0 < byteAt bs (rowAt k + 3)
-  pub few-counts : byteAt bs (rowAt k + 3) ≤ countLimit
-  pub few-parts : byteAt bs (rowAt k + 4) ≤ partLimit
-  pub score : byteAt bs (rowAt k + 5) ≤ decimalLimit + 1
-  pub small : Small (getD ns (k * numberRowSize + partLimit) (pos 0))
+  pub some-count : 0 < countField bs k
+  pub few-counts : countField bs k ≤ countLimit
+  pub few-parts : partsField bs k ≤ partLimit
+  pub score : scoreField bs k ≤ decimalLimit + 1
+  pub small : Small (scoreNumber ns k)
 
 -- each of its parts
 abbrev pub PartsBounds : List ℕ → List ℤ → ℕ → Type 0
-PartsBounds bs ns k = (j : ℕ) → j < byteAt bs (rowAt k + 4) → PartBounds bs ns k j
+PartsBounds bs ns k = (j : ℕ) → j < partsField bs k → PartBounds bs ns k j
 
 -- each of the first n brackets
 abbrev pub BracketsBounds : List ℕ → List ℤ → ℕ → Type 0

@@ -14,7 +14,7 @@ ghost use Prim.Native.Nat.{_+_, _*_, _<_, _≤_};
 ghost use lib.ListN.{length, take, drop};
 ghost use Rattle.scope.specs.Limits.{bracketLimit, partLimit};
 ghost use Rattle.scope.specs.Lists.{same};
-ghost use Rattle.scope.specs.Tables.{bytesSize, numbersSize, partAt, textFrom, byteAt, rowAt};
+ghost use Rattle.scope.specs.Layout.{bytesSize, numbersSize, offsetField, partsField};
 ghost use Rattle.scope.specs.Answers.{sameNumbers};
 ghost use Rattle.areas.specs.Bounds.{Small, PartBounds, BracketBounds, Bounds};
 ghost use Rattle.bounds.specs.Verdict.{Verdict};
@@ -36,7 +36,7 @@ fn is_small(m: i64) -> bool
 // Where the text of part j of bracket k begins, by what its row says.
 fn text_from(bytes: &[u8], k: usize, j: usize) -> usize
     requires { ⌜ (bytesSize ≤ length (now bytes)) × (k < bracketLimit) × (j < partLimit) ⌝ }
-    ensures { λ r. ⌜ (r ≡ textFrom (now (bytes .entry)) (partAt k j)) × (r < 65536) ⌝ }
+    ensures { λ r. ⌜ (r ≡ offsetField (now (bytes .entry)) k j) × (r < 65536) ⌝ }
 {
     let low = wide(part_byte(bytes, k, j, 5));
     let high = wide(part_byte(bytes, k, j, 6));
@@ -104,7 +104,7 @@ fn head_in_bounds(bytes: &[u8], numbers: &[i64], k: usize) -> bool
 
 // Do its parts, of which there are at most as many as a row holds?
 fn parts_in_bounds(bytes: &[u8], numbers: &[i64], k: usize) -> bool
-    requires { ⌜ RowRoom (now bytes) (now numbers) k × (byteAt (now bytes) (rowAt k + 4) ≤ partLimit) ⌝ }
+    requires { ⌜ RowRoom (now bytes) (now numbers) k × (partsField (now bytes) k ≤ partLimit) ⌝ }
     ensures { λ r. ⌜ Verdict r (PartsBounds (now (bytes .entry)) (now (numbers .entry)) k) ⌝ }
 {
     let m = wide(bracket_byte(bytes, k, 4));

@@ -19,7 +19,7 @@ use Rattle.scope.specs.Lists.{none?, all, flat, tabled}
 use Rattle.scope.specs.Modifications.{isKey, onlyInfo, isReferring, nameOf, isLabelled, isModification, unlabelledCopies, copies}
 use Rattle.scope.specs.Kinds.{onOnePosition, kindIn}
 use Rattle.scope.specs.Positions.{isPlaced}
-use Rattle.scope.specs.Tables.{byteAt, rowAt, partAt, valueIn, partIn, bracketIn}
+use Rattle.scope.specs.Layout.{byteAt, partAt, valueIn, partIn, bracketIn, keyField, labelField, partsField, valueField}
 use Rattle.brackets.specs.Codes.{key-is}
 use Rattle.basics.specs.Tabled.{tabled-at, tabled-end, tabled-all}
 
@@ -39,7 +39,7 @@ pub record Infos (bs : List ℕ) (k m j : ℕ) : Type 0 where
   pub few : m ≤ partLimit
   pub rest : (ns : List ℤ) → onlyInfo (bracketIn bs ns k) ≡ all (isKey Info) (tabled (partIn bs ns k) j (m - j))
 
-pub infos-start : (bs : List ℕ) (k m : ℕ) → m ≡ byteAt bs (rowAt k + 4) → m ≤ partLimit → Infos bs k m 0
+pub infos-start : (bs : List ℕ) (k m : ℕ) → m ≡ partsField bs k → m ≤ partLimit → Infos bs k m 0
 unfolding bracketIn
 infos-start bs k m e few =
     record {
@@ -48,15 +48,15 @@ infos-start bs k m e few =
       rest = λ ns. ap (λ n. all (isKey Info) (tabled (partIn bs ns k) 0 n)) (sym e) ∙ ap (all (isKey Info)) (tabled-all (partIn bs ns k) m);
     }
 
-info-here : (bs : List ℕ) (ns : List ℤ) (k j key : ℕ) → key ≡ byteAt bs (partAt k j + 1) → isKey Info (partIn bs ns k j) ≡ eqb key 13
+info-here : (bs : List ℕ) (ns : List ℤ) (k j key : ℕ) → key ≡ keyField bs k j → isKey Info (partIn bs ns k j) ≡ eqb key 13
 unfolding partIn
-info-here bs ns k j key e = key-is (byteAt bs (partAt k j + 1)) 13 (omega arith) (omega arith) ∙ ap (λ n. eqb n 13) (sym e)
+info-here bs ns k j key e = key-is (keyField bs k j) 13 (omega arith) (omega arith) ∙ ap (λ n. eqb n 13) (sym e)
 
 all-cons : (bs : List ℕ) (ns : List ℤ) (k m j : ℕ) → j < m → all (isKey Info) (tabled (partIn bs ns k) j (m - j)) ≡ isKey Info (partIn bs ns k j) && all (isKey Info) (tabled (partIn bs ns k) (j + 1) (m - (j + 1)))
 unfolding all
 all-cons bs ns k m j h = rw (tabled-at (partIn bs ns k) j m h)
 
-pub infos-next : {bs : List ℕ} {k m j : ℕ} {key : ℕ} → Infos bs k m j → j < m → key ≡ byteAt bs (partAt k j + 1) → key ≡ 13 → Infos bs k m (j + 1)
+pub infos-next : {bs : List ℕ} {k m j : ℕ} {key : ℕ} → Infos bs k m j → j < m → key ≡ keyField bs k j → key ≡ 13 → Infos bs k m (j + 1)
 infos-next {bs} {k} {m} {j} {key} i h e q =
     record {
       inside = omega arith;
@@ -66,7 +66,7 @@ infos-next {bs} {k} {m} {j} {key} i h e q =
           ∙ ap (λ t. t && all (isKey Info) (tabled (partIn bs ns k) (j + 1) (m - (j + 1)))) (info-here bs ns k j key e ∙ eq-eqb key 13 q);
     }
 
-pub infos-other : {bs : List ℕ} {k m j : ℕ} {key : ℕ} → Infos bs k m j → j < m → key ≡ byteAt bs (partAt k j + 1) → (key ≡ 13 → ⊥) → (ns : List ℤ) → false ≡ onlyInfo (bracketIn bs ns k)
+pub infos-other : {bs : List ℕ} {k m j : ℕ} {key : ℕ} → Infos bs k m j → j < m → key ≡ keyField bs k j → (key ≡ 13 → ⊥) → (ns : List ℤ) → false ≡ onlyInfo (bracketIn bs ns k)
 infos-other {bs} {k} {m} {j} {key} i h e q ns =
     sym
     (i .rest ns ∙ all-cons bs ns k m j h
@@ -82,7 +82,7 @@ pub record NoLabels (bs : List ℕ) (k m j : ℕ) : Type 0 where
   pub few : m ≤ partLimit
   pub rest : (ns : List ℤ) → isLabelled (bracketIn bs ns k) ≡ not (none? (flat nameOf (tabled (partIn bs ns k) j (m - j))))
 
-pub labels-start : (bs : List ℕ) (k m : ℕ) → m ≡ byteAt bs (rowAt k + 4) → m ≤ partLimit → NoLabels bs k m 0
+pub labels-start : (bs : List ℕ) (k m : ℕ) → m ≡ partsField bs k → m ≤ partLimit → NoLabels bs k m 0
 unfolding bracketIn
 labels-start bs k m e few =
     record {
@@ -97,15 +97,15 @@ names-cons : (bs : List ℕ) (ns : List ℤ) (k m j : ℕ) → j < m → flat na
 unfolding flat
 names-cons bs ns k m j h = rw (tabled-at (partIn bs ns k) j m h)
 
-unlabelled-here : (bs : List ℕ) (ns : List ℤ) (k j long : ℕ) → long ≡ byteAt bs (partAt k j + 4) → long ≡ 0 → (l : List (List ℕ)) → nameOf (partIn bs ns k j) ++ l ≡ l
+unlabelled-here : (bs : List ℕ) (ns : List ℤ) (k j long : ℕ) → long ≡ labelField bs k j → long ≡ 0 → (l : List (List ℕ)) → nameOf (partIn bs ns k j) ++ l ≡ l
 unfolding partIn
-unlabelled-here bs ns k j long e q l = rw (eq-eqb (byteAt bs (partAt k j + 4)) 0 (sym e ∙ q))
+unlabelled-here bs ns k j long e q l = rw (eq-eqb (labelField bs k j) 0 (sym e ∙ q))
 
-labelled-here : (bs : List ℕ) (ns : List ℤ) (k j long : ℕ) → long ≡ byteAt bs (partAt k j + 4) → (long ≡ 0 → ⊥) → (l : List (List ℕ)) → none? (nameOf (partIn bs ns k j) ++ l) ≡ false
+labelled-here : (bs : List ℕ) (ns : List ℤ) (k j long : ℕ) → long ≡ labelField bs k j → (long ≡ 0 → ⊥) → (l : List (List ℕ)) → none? (nameOf (partIn bs ns k j) ++ l) ≡ false
 unfolding partIn
-labelled-here bs ns k j long e q l = rw (ne-eqb (byteAt bs (partAt k j + 4)) 0 (λ z. q (e ∙ z)))
+labelled-here bs ns k j long e q l = rw (ne-eqb (labelField bs k j) 0 (λ z. q (e ∙ z)))
 
-pub labels-next : {bs : List ℕ} {k m j : ℕ} {long : ℕ} → NoLabels bs k m j → j < m → long ≡ byteAt bs (partAt k j + 4) → long ≡ 0 → NoLabels bs k m (j + 1)
+pub labels-next : {bs : List ℕ} {k m j : ℕ} {long : ℕ} → NoLabels bs k m j → j < m → long ≡ labelField bs k j → long ≡ 0 → NoLabels bs k m (j + 1)
 labels-next {bs} {k} {m} {j} {long} i h e q =
     record {
       inside = omega arith;
@@ -115,7 +115,7 @@ labels-next {bs} {k} {m} {j} {long} i h e q =
           ∙ ap (λ l. not (none? l)) (names-cons bs ns k m j h ∙ unlabelled-here bs ns k j long e q (flat nameOf (tabled (partIn bs ns k) (j + 1) (m - (j + 1)))));
     }
 
-pub labels-found : {bs : List ℕ} {k m j : ℕ} {long : ℕ} → NoLabels bs k m j → j < m → long ≡ byteAt bs (partAt k j + 4) → (long ≡ 0 → ⊥) → (ns : List ℤ) → true ≡ isLabelled (bracketIn bs ns k)
+pub labels-found : {bs : List ℕ} {k m j : ℕ} {long : ℕ} → NoLabels bs k m j → j < m → long ≡ labelField bs k j → (long ≡ 0 → ⊥) → (ns : List ℤ) → true ≡ isLabelled (bracketIn bs ns k)
 labels-found {bs} {k} {m} {j} {long} i h e q ns =
     sym
     (i .rest ns ∙ ap (λ l. not (none? l)) (names-cons bs ns k m j h)
@@ -126,11 +126,11 @@ unfolding flat
 labels-end {bs} {k} {m} {j} i h ns = sym (i .rest ns ∙ ap (λ l. not (none? (flat nameOf l))) (tabled-end (partIn bs ns k) j m h))
 
 -- ---- a reference is its bracket's first part
-pub no-part : (bs : List ℕ) (k m : ℕ) → m ≡ byteAt bs (rowAt k + 4) → m ≡ 0 → (ns : List ℤ) → false ≡ isReferring (bracketIn bs ns k)
+pub no-part : (bs : List ℕ) (k m : ℕ) → m ≡ partsField bs k → m ≡ 0 → (ns : List ℤ) → false ≡ isReferring (bracketIn bs ns k)
 unfolding bracketIn tabled
 no-part bs k m e q ns = rw (sym e ∙ q)
 
-first-part : (bs : List ℕ) (ns : List ℤ) (k m : ℕ) → m ≡ byteAt bs (rowAt k + 4) → (m ≡ 0 → ⊥) → isReferring (bracketIn bs ns k) ≡ isReference (valueIn bs ns k 0)
+first-part : (bs : List ℕ) (ns : List ℤ) (k m : ℕ) → m ≡ partsField bs k → (m ≡ 0 → ⊥) → isReferring (bracketIn bs ns k) ≡ isReference (valueIn bs ns k 0)
 unfolding bracketIn tabled partIn
 first-part bs ns k zero e q = absurd (q refl)
 first-part bs ns k (suc m) e q = rw (← e)
@@ -150,10 +150,10 @@ of-text v p e = rw (ne-eqb v 1 p, eq-eqb v 2 e)
 pub of-neither : (v : ℕ) → (v ≡ 1 → ⊥) → (v ≡ 2 → ⊥) → true ≡ cond (eqb v 1) false (cond (eqb v 2) false true)
 of-neither v p q = rw (ne-eqb v 1 p, ne-eqb v 2 q)
 
-pub reference-is : (bs : List ℕ) (k m v : ℕ) → m ≡ byteAt bs (rowAt k + 4) → (m ≡ 0 → ⊥) → v ≡ byteAt bs (partAt k 0 + 0) → (ns : List ℤ) → cond (eqb v 1) false (cond (eqb v 2) false true) ≡ isReferring (bracketIn bs ns k)
+pub reference-is : (bs : List ℕ) (k m v : ℕ) → m ≡ partsField bs k → (m ≡ 0 → ⊥) → v ≡ valueField bs k 0 → (ns : List ℤ) → cond (eqb v 1) false (cond (eqb v 2) false true) ≡ isReferring (bracketIn bs ns k)
 reference-is bs k m v e q f ns =
     ap (λ n. cond (eqb n 1) false (cond (eqb n 2) false true)) (f ∙ ap (byteAt bs) (add-zero (partAt k 0)))
-    ∙ sym (by-value _ _ (eqb (byteAt bs (partAt k 0)) 1) (eqb (byteAt bs (partAt k 0)) 2))
+    ∙ sym (by-value _ _ (eqb (valueField bs k 0) 1) (eqb (valueField bs k 0) 2))
     ∙ sym (first-part bs ns k m e q)
 
 -- ---- the tests of a modification, one after the other

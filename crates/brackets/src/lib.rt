@@ -8,7 +8,7 @@ ghost use mathlib.Core.List.{List};
 ghost use Prim.Native.Nat.{_+_, _<_, _≤_};
 ghost use lib.IntN.{ℤ};
 ghost use Rattle.scope.specs.Limits.{partLimit};
-ghost use Rattle.scope.specs.Tables.{byteAt, rowAt, bracketIn};
+ghost use Rattle.scope.specs.Layout.{bracketIn, partsField};
 ghost use Rattle.scope.specs.Kinds.{kindIn, onOnePosition};
 ghost use Rattle.scope.specs.Modifications.{onlyInfo, isReferring, isModification, isLabelled, unlabelledCopies, copies};
 ghost use Rattle.scope.specs.Positions.{isPlaced};
@@ -17,7 +17,7 @@ ghost use Rattle.brackets.specs.Row.{Row};
 // How many parts there are.
 pub fn parts(bytes: &[u8], k: usize) -> usize
     requires { ⌜ Row (now bytes) k ⌝ }
-    ensures { λ r. ⌜ (r ≡ byteAt (now (bytes .entry)) (rowAt k + 4)) × (r ≤ partLimit) ⌝ }
+    ensures { λ r. ⌜ (r ≡ partsField (now (bytes .entry)) k) × (r ≤ partLimit) ⌝ }
 {
     wide(bracket_byte(bytes, k, 4))
 }

@@ -16,7 +16,7 @@ use Rattle.scope.specs.Line.{Bracket, Line}
 use Rattle.scope.specs.Lists.{flat, tabled, laid}
 use Rattle.scope.specs.Modifications.{copies}
 use Rattle.scope.specs.Positions.{floaters}
-use Rattle.scope.specs.Tables.{byteAt, bracketIn, tablesIn}
+use Rattle.scope.specs.Layout.{bracketIn, tablesIn, bracketsField}
 use Rattle.scope.specs.Answers.{Said, good, refuses, saysCount, counts, floaterCount, outputAfter}
 use Rattle.basics.specs.Lists.{map-replicate}
 use Rattle.basics.specs.Tabled.{tabled-at, tabled-end, tabled-all, length-tabled}
@@ -145,7 +145,7 @@ pub record Finding (bs : List ℕ) (ns : List ℤ) (b k n : ℕ) (brs cps : List
   pub brackets : bracketsOf (floatersBy (tablesIn bs ns)) ≡ take n brs ++ bracketsOf (rest bs ns b k)
   pub copies : copiesOf (floatersBy (tablesIn bs ns)) ≡ take n cps ++ copiesOf (rest bs ns b k)
 
-pub finding-start : (bs : List ℕ) (ns : List ℤ) (b : ℕ) (brs cps : List ℕ) → b ≡ byteAt bs 1 → length brs ≡ copyLimit → length cps ≡ copyLimit
+pub finding-start : (bs : List ℕ) (ns : List ℤ) (b : ℕ) (brs cps : List ℕ) → b ≡ bracketsField bs → length brs ≡ copyLimit → length cps ≡ copyLimit
     → Finding bs ns b 0 0 brs cps
 unfolding tablesIn
 finding-start bs ns b brs cps e bl cl =

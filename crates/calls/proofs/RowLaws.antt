@@ -10,7 +10,7 @@ use lib.ListN.{length}
 use Rattle.scope.specs.declared.answers.Site.{Site}
 use Rattle.scope.specs.Limits.{rowLimit}
 use Rattle.scope.specs.Lists.{laid}
-use Rattle.scope.specs.Tables.{tablesIn}
+use Rattle.scope.specs.Layout.{tablesIn}
 use Rattle.scope.specs.Positions.{rowsFrom, rowsOf, permittedPositions}
 use Rattle.scope.specs.Answers.{Said, good, refuses, overTables, rowsSaid, rowsAfter}
 use Rattle.areas.specs.Floats.{listsIn, Sized}

@@ -7,7 +7,7 @@ use native.Mathlib.Nat.{add-zero, not-suc-le-zero, le-of-suc-le-suc}
 use native.Mathlib.Omega.{arith}
 use lib.IntN.{ℤ}
 use Rattle.scope.specs.Lists.{given, tabled}
-use Rattle.scope.specs.Tables.{byteAt, bracketIn, tablesIn}
+use Rattle.scope.specs.Layout.{bracketIn, tablesIn, bracketsField}
 use Rattle.scope.specs.Masses.{massOf}
 use Rattle.scope.specs.Answers.{good, refuses}
 use Rattle.masses.specs.declared.Mass.{Mass}
@@ -29,27 +29,27 @@ no-element f i (suc n) zero h = absurd (not-suc-le-zero h)
 no-element f i (suc n) (suc j) h = no-element f (i + 1) n j (le-of-suc-le-suc h)
 
 module _ (bs : List ℕ) (ns : List ℤ) (i : ℕ) where
-  pub bracket-at : i < byteAt bs 1 → elementAt (tablesIn bs ns .brackets) i ≡ some (bracketIn bs ns i)
+  pub bracket-at : i < bracketsField bs → elementAt (tablesIn bs ns .brackets) i ≡ some (bracketIn bs ns i)
   unfolding tablesIn
-  bracket-at h = element-tabled (bracketIn bs ns) 0 (byteAt bs 1) i h ∙ ap (λ k. some (bracketIn bs ns k)) (omega arith)
+  bracket-at h = element-tabled (bracketIn bs ns) 0 (bracketsField bs) i h ∙ ap (λ k. some (bracketIn bs ns k)) (omega arith)
 
-  no-bracket : byteAt bs 1 ≤ i → elementAt (tablesIn bs ns .brackets) i ≡ none
+  no-bracket : bracketsField bs ≤ i → elementAt (tablesIn bs ns .brackets) i ≡ none
   unfolding tablesIn
-  no-bracket h = no-element (bracketIn bs ns) 0 (byteAt bs 1) i h
+  no-bracket h = no-element (bracketIn bs ns) 0 (bracketsField bs) i h
 
   -- ---- the answers
-  pub mass-17 : {b : ℕ} → b ≡ byteAt bs 1 → b ≤ i → refuses 17 0 ≡ massAt (tablesIn bs ns) i
+  pub mass-17 : {b : ℕ} → b ≡ bracketsField bs → b ≤ i → refuses 17 0 ≡ massAt (tablesIn bs ns) i
   mass-17 e h = sym (ap (λ k. given k ownMass (refuses 17 0)) (no-bracket (omega arith)))
 
-  mass-of : {b : ℕ} {r v : Mass} → b ≡ byteAt bs 1 → i < b → saysMass r ≡ massOf (bracketIn bs ns i) → r ≡ v
+  mass-of : {b : ℕ} {r v : Mass} → b ≡ bracketsField bs → i < b → saysMass r ≡ massOf (bracketIn bs ns i) → r ≡ v
       → massAt (tablesIn bs ns) i ≡ given (saysMass v) good (refuses 16 (bracketIn bs ns i .count))
   mass-of e h s f =
       ap (λ k. given k ownMass (refuses 17 0)) (bracket-at (omega arith))
       ∙ ap (λ m. given m good (refuses 16 (bracketIn bs ns i .count))) (sym s ∙ ap saysMass f)
 
-  pub mass-is : {b : ℕ} {r : Mass} {m : ℤ} → b ≡ byteAt bs 1 → i < b → saysMass r ≡ massOf (bracketIn bs ns i) → r ≡ Is m → good m ≡ massAt (tablesIn bs ns) i
+  pub mass-is : {b : ℕ} {r : Mass} {m : ℤ} → b ≡ bracketsField bs → i < b → saysMass r ≡ massOf (bracketIn bs ns i) → r ≡ Is m → good m ≡ massAt (tablesIn bs ns) i
   mass-is e h s f = sym (mass-of e h s f)
 
-  pub mass-16 : {b c : ℕ} {r : Mass} → b ≡ byteAt bs 1 → i < b → c ≡ bracketIn bs ns i .count → saysMass r ≡ massOf (bracketIn bs ns i) → r ≡ Lacking
+  pub mass-16 : {b c : ℕ} {r : Mass} → b ≡ bracketsField bs → i < b → c ≡ bracketIn bs ns i .count → saysMass r ≡ massOf (bracketIn bs ns i) → r ≡ Lacking
       → refuses 16 c ≡ massAt (tablesIn bs ns) i
   mass-16 e h c s f = ap (refuses 16) c ∙ sym (mass-of e h s f)

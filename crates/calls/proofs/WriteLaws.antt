@@ -13,7 +13,7 @@ use Rattle.scope.specs.declared.answers.Write.the-variants.{Written, Refused}
 use Rattle.scope.specs.Limits.{lineLimit}
 use Rattle.scope.specs.Canonical.{canonical}
 use Rattle.scope.specs.Lists.{laid}
-use Rattle.scope.specs.Tables.{tablesIn}
+use Rattle.scope.specs.Layout.{tablesIn}
 use Rattle.scope.specs.Answers.{Said, good, refuses, saysWrite, tooShort, areTables, fitting, writes, outputAfter}
 use Rattle.basics.specs.Choice.{by-test}
 use Rattle.tabled.specs.LineOf.{TablesLine, LineOf}

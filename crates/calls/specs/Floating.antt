@@ -11,7 +11,8 @@ use Rattle.scope.specs.Limits.{copyLimit}
 use Rattle.scope.specs.Line.{Bracket, Line}
 use Rattle.scope.specs.Lists.{tabled}
 use Rattle.scope.specs.Modifications.{copies}
-use Rattle.scope.specs.Tables.{Tables, tablesIn}
+use Rattle.scope.specs.Tables.{Tables}
+use Rattle.scope.specs.Layout.{tablesIn}
 use Rattle.scope.specs.Answers.{Said, refuses, saysCount, counts, floaterCount, outputAfter}
 
 -- ---- "Floating copies, in order of their brackets": a bracket, counted from 0, and its copy, counted from 1

@@ -11,7 +11,8 @@ use Rattle.scope.specs.declared.answers.Request.{Request}
 use Rattle.scope.specs.declared.answers.Placement.{Placement}
 use Rattle.scope.specs.declared.answers.Listing.{Listing}
 use Rattle.scope.specs.declared.answers.Ledger.{Ledger}
-use Rattle.scope.specs.Tables.{Tables, tablesIn}
+use Rattle.scope.specs.Tables.{Tables}
+use Rattle.scope.specs.Layout.{tablesIn}
 use Rattle.scope.specs.Answers.{saysCount, saysTotal, saysShown, saysRequest, saysBooked, met, counts, totals, shows, allows, requests, listingAfter, books, entries}
 use Rattle.placements.specs.declared.Next.{Next}
 use Rattle.calls.specs.Single.{weighsAt}

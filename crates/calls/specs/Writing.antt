@@ -5,7 +5,7 @@ use Prim.Native.Nat.{ℕ}
 use lib.IntN.{ℤ}
 use Rattle.scope.specs.declared.answers.Write.{Write}
 use Rattle.scope.specs.Canonical.{canonical}
-use Rattle.scope.specs.Tables.{tablesIn}
+use Rattle.scope.specs.Layout.{tablesIn}
 use Rattle.scope.specs.Answers.{saysWrite, writes, outputAfter}
 
 pub record WriteSays (bytes : List ℕ) (numbers : List ℤ) (out : List ℕ) (r : Write) (out′ : List ℕ) : Type 0 where

@@ -4,7 +4,7 @@ use scope::answers::Placement;
 ghost use Prim.Native.Nat.{_+_, _≤_};
 ghost use lib.ListN.{length};
 ghost use Rattle.scope.specs.Limits.{copyLimit};
-ghost use Rattle.scope.specs.Tables.{tablesIn};
+ghost use Rattle.scope.specs.Layout.{tablesIn};
 ghost use Rattle.scope.specs.Positions.{floaters};
 ghost use Rattle.areas.specs.Bounds.{Bounds};
 ghost use Rattle.calls.specs.Floating.{Added, CopiesAre};

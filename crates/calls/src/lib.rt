@@ -21,7 +21,7 @@ use scope::tables::Tables;
 ghost use mathlib.Core.Path.{_≡_};
 ghost use Prim.Native.Nat.{_≤_};
 ghost use lib.ListN.{length};
-ghost use Rattle.scope.specs.Tables.{tablesIn};
+ghost use Rattle.scope.specs.Layout.{tablesIn};
 ghost use Rattle.scope.specs.Limits.{copyLimit, rowLimit};
 ghost use Rattle.scope.specs.Positions.{floaters, permittedPositions};
 ghost use Rattle.scope.specs.Placements.{allowed};

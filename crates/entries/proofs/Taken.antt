@@ -8,7 +8,8 @@ use lib.ListN.{length, length-map}
 use Rattle.scope.specs.Line.{Line}
 use Rattle.scope.specs.Refusals.{accepted, refused, outcome}
 use Rattle.scope.specs.Canonical.{canonical}
-use Rattle.scope.specs.Tables.{bareBracket, bareResidue, tablesOf, tablesIn}
+use Rattle.scope.specs.Tables.{bareBracket, bareResidue, tablesOf}
+use Rattle.scope.specs.Layout.{tablesIn}
 use Rattle.scope.specs.Positions.{floaters}
 use Rattle.scope.specs.Register.{totalText, fields, report}
 use Rattle.order_laws.specs.Ranks.{orderedb}

@@ -17,7 +17,7 @@ use Rattle.scope.specs.Bytes.{question, plus, dash}
 use Rattle.scope.specs.Line.{Line}
 use Rattle.scope.specs.Refusals.{outcome}
 use Rattle.scope.specs.Canonical.{decimal}
-use Rattle.scope.specs.Tables.{isNegative}
+use Rattle.scope.specs.Layout.{isNegative}
 use Rattle.scope.specs.Masses.{total, lacking}
 use Rattle.scope.specs.Register.{signedText, totalText, fields, report, printed}
 use Rattle.masses.specs.declared.Weight.{Weight}

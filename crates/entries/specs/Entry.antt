@@ -8,7 +8,7 @@ use Rattle.scope.specs.Bytes.{bytes, question}
 use Rattle.scope.specs.Limits.{lineLimit, copyLimit}
 use Rattle.scope.specs.Line.{Line}
 use Rattle.scope.specs.Canonical.{decimal, canonical}
-use Rattle.scope.specs.Tables.{tablesIn}
+use Rattle.scope.specs.Layout.{tablesIn}
 use Rattle.scope.specs.Positions.{floaters}
 use Rattle.scope.specs.Register.{signedText, totalText, printed}
 use Rattle.areas.specs.Bounds.{Bounds}

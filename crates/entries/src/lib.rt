@@ -10,7 +10,7 @@ ghost use lib.ListN.{length};
 ghost use Rattle.scope.specs.Canonical.{decimal};
 ghost use Rattle.scope.specs.Register.{signedText, totalText, fields, report};
 ghost use Rattle.scope.specs.Refusals.{outcome};
-ghost use Rattle.scope.specs.Tables.{tablesIn};
+ghost use Rattle.scope.specs.Layout.{tablesIn};
 ghost use Rattle.reader.specs.ReadSays.{Clean, Lays};
 ghost use Rattle.writer.specs.Written.{Puts, ceiling};
 ghost use Rattle.entries.specs.Entry.{entry, entryLimit, countFields, okFields, noFields, weightText, Known, Printed};

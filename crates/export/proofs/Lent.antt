@@ -8,7 +8,7 @@ use lib.Seq.{take-all}
 use native.Mathlib.Omega.{arith}
 use borrow.Author.Tests.{lt-ltb, le-ltb}
 use Rattle.scope.specs.Limits.{copyLimit, positionLimit}
-use Rattle.scope.specs.Tables.{tablesIn}
+use Rattle.scope.specs.Layout.{tablesIn}
 use Rattle.scope.specs.Lists.{laid}
 use Rattle.scope.specs.Masses.{ledger}
 use Rattle.scope.specs.Answers.{Said, good, refuses, allows, books, entries}

@@ -7,7 +7,7 @@ use Rattle.scope.specs.declared.answers.Site.{Site}
 use Rattle.scope.specs.declared.answers.Listing.{Listing}
 use Rattle.scope.specs.declared.tables.Limits.{Limits}
 use Rattle.scope.specs.Limits.{lineLimit, residueLimit, bracketLimit, partLimit, textLimit, labelLimit, depthLimit, countLimit, copyLimit, rowLimit, positionLimit, sizeLimit, decimalLimit}
-use Rattle.scope.specs.Tables.{bytesSize, numbersSize, tablesIn}
+use Rattle.scope.specs.Layout.{bytesSize, numbersSize, tablesIn}
 use Rattle.scope.specs.Positions.{Found}
 use Rattle.scope.specs.Answers.{Said, rowsSaid, rowsAfter, requests, listingAfter}
 use Rattle.export.specs.Numbers.{numberOf, left}

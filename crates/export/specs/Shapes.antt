@@ -9,7 +9,8 @@ use lib.Ieee.{Float}
 use lib.ListN.{length, take}
 use Rattle.scope.specs.Limits.{copyLimit, positionLimit}
 use Rattle.scope.specs.Canonical.{canonical}
-use Rattle.scope.specs.Tables.{Tables, tablesIn}
+use Rattle.scope.specs.Tables.{Tables}
+use Rattle.scope.specs.Layout.{tablesIn}
 use Rattle.scope.specs.Lists.{laid}
 use Rattle.scope.specs.Masses.{ledger, daltons}
 use Rattle.scope.specs.Answers.{Said, good, refuses, Display, aMass, lack, writes, outputAfter, allows, books, fitting}

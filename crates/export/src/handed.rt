@@ -1,24 +1,13 @@
 // Counts, rows, their lookup, the listing and the limits for C, Rust and Python: values and structs that the caller lends.
-use scope::answers::Count;
+use crate::request_number;
+use crate::tell_count;
 use scope::answers::Listing;
 use scope::answers::Lookup;
-use scope::answers::Request;
 use scope::answers::Site;
 use scope::tables::Limits;
 ghost use mathlib.Core.Path.{_≡_};
-ghost use Rattle.scope.specs.Answers.{saysCount, saysLookup, saysRequest, looksUp};
-ghost use Rattle.export.specs.Numbers.{numberOf};
-ghost use Rattle.export.specs.Handed.{Counted, RowsHanded, LookedUp, MovedOn, theLimits, theVersion};
-
-// The number of a request's answer.
-pub fn request_number(r: Request) -> u8
-    ensures { λ n. ⌜ n ≡ numberOf (saysRequest r) ⌝ }
-{
-    match r {
-        Request::Met => 0,
-        Request::Refused { number } => number,
-    }
-}
+ghost use Rattle.scope.specs.Answers.{saysLookup, looksUp};
+ghost use Rattle.export.specs.Handed.{RowsHanded, LookedUp, MovedOn, theLimits, theVersion};
 
 // The listing moved on: 0 with the next placement in it, else the number of the refusal (13, 14, 17, 18) with the listing as it was. It may hold any bytes.
 #[no_mangle]
@@ -26,19 +15,6 @@ pub extern "C" fn hwemiduk_next(bytes: &[u8], numbers: &[i64], listing: &mut Lis
     ensures { λ r. ⌜ MovedOn (now (bytes .entry)) (now (numbers .entry)) (now (listing .entry)) r (now (listing .exit)) ⌝ }
 {
     request_number(listing::step(bytes, numbers, listing))
-}
-
-// A count, handed out.
-pub fn tell_count(c: Count, count: &mut usize) -> u8
-    ensures { λ r. ⌜ Counted (saysCount c) (now (count .entry)) r (now (count .exit)) ⌝ }
-{
-    match c {
-        Count::Is(n) => {
-            *count = n;
-            0
-        }
-        Count::Refused { number, place: _ } => number,
-    }
 }
 
 // The permitted positions as rows, ascending: 0 with their number in `count`, and rows past them as they were; else the number of the refusal (13, 14).

@@ -3,9 +3,13 @@ pub mod handed;
 pub mod printed;
 pub mod tables;
 
+use scope::answers::Count;
 use scope::answers::Read;
-ghost use Rattle.scope.specs.Answers.{saysRead};
-ghost use Rattle.export.specs.Numbers.{Numbered, Judged, Exported};
+use scope::answers::Request;
+ghost use mathlib.Core.Path.{_≡_};
+ghost use Rattle.scope.specs.Answers.{saysRead, saysCount, saysRequest};
+ghost use Rattle.export.specs.Numbers.{Numbered, Judged, Exported, numberOf};
+ghost use Rattle.export.specs.Handed.{Counted};
 
 // A reader's answer, handed out.
 fn tell_read(r: Read, place: &mut usize) -> u8
@@ -17,6 +21,29 @@ fn tell_read(r: Read, place: &mut usize) -> u8
             *place = p;
             number
         }
+    }
+}
+
+// The number of a request's answer.
+fn request_number(r: Request) -> u8
+    ensures { λ n. ⌜ n ≡ numberOf (saysRequest r) ⌝ }
+{
+    match r {
+        Request::Met => 0,
+        Request::Refused { number } => number,
+    }
+}
+
+// A count, handed out.
+fn tell_count(c: Count, count: &mut usize) -> u8
+    ensures { λ r. ⌜ Counted (saysCount c) (now (count .entry)) r (now (count .exit)) ⌝ }
+{
+    match c {
+        Count::Is(n) => {
+            *count = n;
+            0
+        }
+        Count::Refused { number, place: _ } => number,
     }
 }
 

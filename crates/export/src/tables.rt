@@ -1,6 +1,6 @@
 // The calls over tables in lent areas: the two areas are only read, and any content of theirs is answered.
-use crate::handed::request_number;
-use crate::handed::tell_count;
+use crate::request_number;
+use crate::tell_count;
 use scope::answers::Booked;
 use scope::answers::Ledger;
 use scope::answers::Placement;

@@ -15,7 +15,7 @@ use Rattle.scope.specs.Line.{Part, Bracket}
 use Rattle.scope.specs.Lists.{given, onLast, flat}
 use Rattle.scope.specs.Content.{Context, Inner, Content, lost, closed, going, innerStep}
 use Rattle.scope.specs.Reading.{act, Held, withResidue, withBracket, bracketOf, settled, waiting, times, countDigit, asNTerm, settledRun, State, dead, outside, inside, perform, resume, step, run}
-use Rattle.scope.specs.Tables.{packed, bracketTexts}
+use Rattle.scope.specs.Layout.{packed, bracketTexts}
 use Rattle.basics.specs.Choice.{onGiven}
 use Rattle.reading_laws.specs.Goes.{Goes, stops, goes-on, part-over, shuts, goes, contextOf, over-context, on-context}
 use Rattle.reading_laws.specs.Kept.{put-by, digit-by}

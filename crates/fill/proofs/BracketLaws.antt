@@ -16,7 +16,8 @@ use Rattle.scope.specs.Lists.{none?, flat, padded}
 use Rattle.scope.specs.Content.{begin}
 use Rattle.scope.specs.Reading.{Held, firstPosition, lastPosition, bracketOf, put, withBracket, outside, inside, refers?, modeAfter, holds}
 use Rattle.scope.specs.Kinds.{kindCode}
-use Rattle.scope.specs.Tables.{sectionCode, packed, partRows, scoreOf, bracketRow, bracketTexts, rows, numberRow}
+use Rattle.scope.specs.Tables.{scoreOf}
+use Rattle.scope.specs.Layout.{sectionCode, packed, partRows, bracketRow, bracketTexts, rows, numberRow}
 use Rattle.reading_laws.specs.Run.{rest}
 use Rattle.basics.specs.Lists.{flat-append, flat-one}
 use Rattle.fill.specs.declared.Progress.{Progress}

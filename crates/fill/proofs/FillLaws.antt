@@ -26,7 +26,8 @@ use Rattle.scope.specs.Lists.{given, none?, onLast, flat, padded}
 use Rattle.scope.specs.Content.{begin}
 use Rattle.scope.specs.Reading.{act, Held, firstOf, withResidue, firstPosition, lastPosition, bracketOf, put, withBracket, countDigit, withDigit, asNTerm, settledRun, State, dead, outside, inside, perform, refers?, modeAfter, step, stuck, holds}
 use Rattle.scope.specs.Kinds.{isUnknown, kindCode}
-use Rattle.scope.specs.Tables.{sectionCode, packed, partRows, scoreOf, bracketTexts, rows, numberRow}
+use Rattle.scope.specs.Tables.{scoreOf}
+use Rattle.scope.specs.Layout.{sectionCode, packed, partRows, bracketTexts, rows, numberRow}
 use Rattle.reading_laws.specs.Run.{rest, rest-step, rest-dead}
 use Rattle.basics.specs.Each.{Each, each-append}
 use Rattle.accepted_laws.specs.Within.{Within}

@@ -15,7 +15,8 @@ use Rattle.scope.specs.Keys.{keyCode}
 use Rattle.scope.specs.Lists.{given, part}
 use Rattle.scope.specs.Content.{isReference}
 use Rattle.scope.specs.Refusals.{textIn, textOf, inRange}
-use Rattle.scope.specs.Tables.{valueCode, millionths, massIn, decimalsIn, labelOf, packed, offset, partRow, scoreOf, scoreCode}
+use Rattle.scope.specs.Tables.{millionths, labelOf, scoreOf}
+use Rattle.scope.specs.Layout.{valueCode, massIn, decimalsIn, packed, offset, partRow, scoreCode}
 use Rattle.basics.specs.Each.{Each, OfGiven}
 use Rattle.accepted_laws.specs.Within.{NumberWithin, LabelWithin, ValueWithin, PartWithin}
 use Rattle.layout_laws.specs.Numbers.{few-decimals}

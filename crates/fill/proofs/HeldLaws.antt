@@ -17,7 +17,8 @@ use Rattle.scope.specs.Line.{Part, Bracket, Residue}
 use Rattle.scope.specs.Lists.{given, onLast, flat, padded}
 use Rattle.scope.specs.Reading.{Held, withResidue, put, bracketOf, times, countDigit, asNTerm}
 use Rattle.scope.specs.Kinds.{isUnknown, kindCode}
-use Rattle.scope.specs.Tables.{sectionCode, millionths, massIn, packed, scoreOf, scoreCode, partRows, bracketRow, bracketTexts, rows, numberRow}
+use Rattle.scope.specs.Tables.{millionths, scoreOf}
+use Rattle.scope.specs.Layout.{sectionCode, massIn, packed, scoreCode, partRows, bracketRow, bracketTexts, rows, numberRow}
 use Rattle.basics.specs.Each.{Each, each-append}
 use Rattle.layout_laws.specs.Layout.{padded-length, bracket-row-length, number-row-length}
 use Rattle.basics.specs.Lists.{flat-append, flat-one}

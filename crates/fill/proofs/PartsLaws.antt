@@ -11,7 +11,8 @@ use lib.ListN.{length, set, replicate, length-append, length-map, length-set}
 use lib.Seq.{sets, length-sets}
 use Rattle.scope.specs.Line.{Part}
 use Rattle.scope.specs.Lists.{given, flat, padded}
-use Rattle.scope.specs.Tables.{millionths, massIn, packed, partRow, partRows, scoreOf, scoreCode}
+use Rattle.scope.specs.Tables.{millionths, scoreOf}
+use Rattle.scope.specs.Layout.{massIn, packed, partRow, partRows, scoreCode}
 use Rattle.layout_laws.specs.Layout.{padded-length, part-rows-length}
 use Rattle.basics.specs.Lists.{flat-append, flat-one}
 use Rattle.fill.specs.declared.Parted.{Parted}

@@ -17,7 +17,7 @@ use Rattle.scope.specs.Content.{Inner, Content, lost, closed, going, innerStep}
 use Rattle.scope.specs.Reading.{referred, act, mayEnd, Held, withBracket, put, bracketOf, State, dead, outside, inside, perform, refers?, modeAfter, resume, step, run, stuck, holds, lineOf, ended}
 use Rattle.scope.specs.Lists.{flat}
 use Rattle.scope.specs.Kinds.{isUnknown}
-use Rattle.scope.specs.Tables.{bracketTexts}
+use Rattle.scope.specs.Layout.{bracketTexts}
 use Rattle.reading_laws.specs.Acts.{each-mode, act-rule, ByteOf, act-byte}
 use Rattle.reading_laws.specs.Kept.{kept, put-by}
 use Rattle.reading_laws.specs.Run.{rest}

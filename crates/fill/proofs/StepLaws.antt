@@ -17,7 +17,8 @@ use Rattle.scope.specs.Line.{Part, Line}
 use Rattle.scope.specs.Lists.{given, none?, flat}
 use Rattle.scope.specs.Content.{isReference, Context, begin, Content, lost, closed, going, partEnd, innerStep}
 use Rattle.scope.specs.Reading.{Held, withBracket, outside, inside, refers?, modeAfter, resume, stuck, holds}
-use Rattle.scope.specs.Tables.{millionths, massIn, packed, partRow, scoreOf, scoreCode}
+use Rattle.scope.specs.Tables.{millionths, scoreOf}
+use Rattle.scope.specs.Layout.{massIn, packed, partRow, scoreCode}
 use Rattle.reading_laws.specs.Run.{rest, rest-dead}
 use Rattle.basics.specs.Each.{Each}
 use Rattle.accepted_laws.specs.Within.{PartWithin, Within}

@@ -10,7 +10,7 @@ use Rattle.scope.specs.Line.{Bracket, Line}
 use Rattle.scope.specs.Reading.{Held, nothing, start, outside, reading, holds, ended, lineOf}
 use Rattle.scope.specs.Lists.{flat, padded, laid}
 use Rattle.scope.specs.Refusals.{outcome, accepted}
-use Rattle.scope.specs.Tables.{sectionCode, bracketTexts, rows, numberRow, bytesOf, numbersOf}
+use Rattle.scope.specs.Layout.{sectionCode, bracketTexts, rows, numberRow, bytesOf, numbersOf}
 use Rattle.reading_laws.specs.Run.{rest, rest-start, rest-end}
 use Rattle.reading_laws.specs.Precedence.{accepted-law}
 use Rattle.accepted_laws.specs.Within.{Within}

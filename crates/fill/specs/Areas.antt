@@ -10,7 +10,8 @@ use lib.Seq.{sets}
 use Rattle.scope.specs.Line.{Part}
 use Rattle.scope.specs.Lists.{given, flat, padded}
 use Rattle.scope.specs.Reading.{withBracket, outside, refers?, modeAfter, holds}
-use Rattle.scope.specs.Tables.{millionths, massIn, packed, partRows, scoreOf, scoreCode}
+use Rattle.scope.specs.Tables.{millionths, scoreOf}
+use Rattle.scope.specs.Layout.{massIn, packed, partRows, scoreCode}
 use Rattle.reading_laws.specs.Run.{rest}
 use Rattle.fill.specs.declared.Parted.{Parted}
 use Rattle.fill.specs.declared.Put.{Put}

@@ -19,7 +19,7 @@ use Rattle.scope.specs.Lists.{given, flat, padded, laid}
 use Rattle.scope.specs.Content.{begin}
 use Rattle.scope.specs.Reading.{Held, firstOf, outside, inside, holds}
 use Rattle.scope.specs.Refusals.{outcome, accepted}
-use Rattle.scope.specs.Tables.{sectionCode, bracketTexts, rows, numberRow, bytesOf, numbersOf, bytesSize, numbersSize}
+use Rattle.scope.specs.Layout.{sectionCode, bracketTexts, rows, numberRow, bytesOf, numbersOf, bytesSize, numbersSize}
 use Rattle.reading_laws.specs.Run.{rest}
 use Rattle.accepted_laws.specs.Within.{Within}
 use Rattle.fill.specs.declared.Progress.{Progress}

@@ -12,7 +12,8 @@ use Rattle.scope.specs.Line.{Part, Line}
 use Rattle.scope.specs.Lists.{given, none?, flat}
 use Rattle.scope.specs.Content.{isReference, Context, begin}
 use Rattle.scope.specs.Reading.{Held, withBracket, outside, inside, refers?, modeAfter, holds}
-use Rattle.scope.specs.Tables.{millionths, massIn, packed, partRow, scoreOf, scoreCode, bracketTexts}
+use Rattle.scope.specs.Tables.{millionths, scoreOf}
+use Rattle.scope.specs.Layout.{massIn, packed, partRow, scoreCode, bracketTexts}
 use Rattle.reading_laws.specs.Run.{rest}
 use Rattle.accepted_laws.specs.Within.{Within}
 use Rattle.parts.specs.declared.Value.{Value}

@@ -20,7 +20,7 @@ ghost use lib.IntN.{ℤ, pos};
 ghost use lib.ListN.{length, take, drop, set, replicate};
 ghost use lib.Seq.{sets};
 ghost use Rattle.scope.specs.Kinds.{kindCode};
-ghost use Rattle.scope.specs.Tables.{bytesSize, numbersSize, sectionCode};
+ghost use Rattle.scope.specs.Layout.{bytesSize, numbersSize, sectionCode};
 ghost use Rattle.scope.specs.Lists.{part};
 ghost use Rattle.scope.specs.Line.{Part, Line};
 ghost use Rattle.fill.specs.Steps.{refersOf, FoundFits, FoundPut, Opening, textsIn, Begun, Starts, StepSays};

@@ -13,7 +13,8 @@ use Rattle.scope.specs.Lists.{same, laid}
 use Rattle.scope.specs.Line.{Line}
 use Rattle.scope.specs.Refusals.{Outcome, accepted, outcome}
 use Rattle.scope.specs.Canonical.{canonical}
-use Rattle.scope.specs.Tables.{Tables, tablesOf, bytesOf, numbersOf, bytesSize, numbersSize, tablesIn}
+use Rattle.scope.specs.Tables.{Tables, tablesOf}
+use Rattle.scope.specs.Layout.{bytesOf, numbersOf, bytesSize, numbersSize, tablesIn}
 use Rattle.scope.specs.Answers.{Said, refuses, sameNumbers, readsTo, tooShort, SomeLine, areTables, overTables}
 use Rattle.layout_laws.specs.Laws.{bytes-fill, numbers-fill, tables-back, laid-bytes, laid-numbers, areas-determine, same-numbers-law, tables-held, accepted-held}
 use Rattle.accepted_laws.specs.Laws.{accepted-within}

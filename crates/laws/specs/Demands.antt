@@ -11,7 +11,8 @@ use Rattle.scope.specs.Limits.{rowLimit}
 use Rattle.scope.specs.Line.{Bracket, Line}
 use Rattle.scope.specs.Refusals.{accepted, outcome}
 use Rattle.scope.specs.Canonical.{canonical}
-use Rattle.scope.specs.Tables.{Tables, tablesOf, bytesOf, numbersOf, bytesSize, numbersSize, tablesIn}
+use Rattle.scope.specs.Tables.{Tables, tablesOf}
+use Rattle.scope.specs.Layout.{bytesOf, numbersOf, bytesSize, numbersSize, tablesIn}
 use Rattle.scope.specs.Lists.{there?, all, laid}
 use Rattle.scope.specs.Positions.{floaters, permittedPositions, rowsOf}
 use Rattle.scope.specs.Placements.{allowed, placements, freshListing}

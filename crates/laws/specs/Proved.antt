@@ -8,7 +8,8 @@ use lib.IntN.{ℤ}
 use lib.ListN.{length, getD, length-map}
 use Rattle.scope.specs.Line.{Line}
 use Rattle.scope.specs.Refusals.{accepted, outcome}
-use Rattle.scope.specs.Tables.{bareBracket, bareResidue, tablesOf, tablesIn}
+use Rattle.scope.specs.Tables.{bareBracket, bareResidue, tablesOf}
+use Rattle.scope.specs.Layout.{tablesIn}
 use Rattle.scope.specs.Positions.{floaters, permittedPositions}
 use Rattle.scope.specs.Placements.{placements, freshListing}
 use Rattle.scope.specs.Answers.{areTables}

@@ -17,7 +17,8 @@ use Rattle.scope.specs.Keys.{keyCode}
 use Rattle.scope.specs.Lists.{given, flat, padded}
 use Rattle.scope.specs.Refusals.{textIn, textOf}
 use Rattle.scope.specs.Kinds.{kindCode}
-use Rattle.scope.specs.Tables.{sectionCode, valueCode, millionths, massIn, decimalsIn, labelOf, packed, offset, partRow, partRows, scoreOf, scoreCode, bracketRow, bracketTexts, rows, bytesOf, numbersOf, byteAt}
+use Rattle.scope.specs.Tables.{millionths, labelOf, scoreOf}
+use Rattle.scope.specs.Layout.{sectionCode, valueCode, massIn, decimalsIn, packed, offset, partRow, partRows, scoreCode, bracketRow, bracketTexts, rows, bytesOf, numbersOf, residuesField}
 use Rattle.areas.specs.Bounds.{Small, PartBounds, BracketBounds, Bounds}
 use Rattle.basics.specs.Each.{Each, OfGiven, each-append, each-padded, each-map, each-all}
 use Rattle.accepted_laws.specs.Within.{Byte, NumberWithin, LabelWithin, ValueWithin, PartWithin, BracketWithin, Within, first-few, last-few}
@@ -85,7 +86,7 @@ module _ {P : Type 0} (bs : List ℕ) (ns : List ℤ) where
       rw s (parts-bounds k (j + 1) (i + length (packed p)) ps (w .1) (r .1) (omega arith) x (omega arith))
 
   bracket-bounds :
-      (n k i : ℕ) (b : Bracket P) → byteAt bs 0 ≡ n → BracketWithin n b → BracketRead bs ns k i b → i + length (bracketTexts b) ≤ 4096
+      (n k i : ℕ) (b : Bracket P) → residuesField bs ≡ n → BracketWithin n b → BracketRead bs ns k i b → i + length (bracketTexts b) ≤ 4096
       → BracketBounds bs ns k
   bracket-bounds n k i b e w r h =
       record {
@@ -100,7 +101,7 @@ module _ {P : Type 0} (bs : List ℕ) (ns : List ℤ) where
       }
 
   brackets-bounds :
-      (n k i : ℕ) (ks : List (Bracket P)) → byteAt bs 0 ≡ n → Each (BracketWithin n) ks → BracketsRead bs ns k i ks → i + length
+      (n k i : ℕ) (ks : List (Bracket P)) → residuesField bs ≡ n → Each (BracketWithin n) ks → BracketsRead bs ns k i ks → i + length
       (flat bracketTexts ks) ≤ 4096
       → (x : ℕ) → x < length ks → BracketBounds bs ns (k + x)
   unfolding flat

@@ -6,7 +6,8 @@ use lib.IntN.{ℤ}
 use lib.ListN.{take}
 use Rattle.scope.specs.Line.{Line}
 use Rattle.scope.specs.Refusals.{accepted, outcome}
-use Rattle.scope.specs.Tables.{tablesOf, bytesOf, numbersOf, tablesIn, bytesSize, numbersSize}
+use Rattle.scope.specs.Tables.{tablesOf}
+use Rattle.scope.specs.Layout.{bytesOf, numbersOf, tablesIn, bytesSize, numbersSize}
 use Rattle.areas.specs.Bounds.{Bounds}
 use Rattle.accepted_laws.specs.Within.{Within}
 

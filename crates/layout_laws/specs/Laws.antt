@@ -14,7 +14,8 @@ use Rattle.scope.specs.Limits.{rowLimit}
 use Rattle.scope.specs.Line.{Line}
 use Rattle.scope.specs.Refusals.{accepted, outcome}
 use Rattle.scope.specs.Canonical.{canonical}
-use Rattle.scope.specs.Tables.{tablesOf, bytesOf, numbersOf, bytesSize, numbersSize, tablesIn}
+use Rattle.scope.specs.Tables.{tablesOf}
+use Rattle.scope.specs.Layout.{bytesOf, numbersOf, bytesSize, numbersSize, tablesIn}
 use Rattle.scope.specs.Positions.{rowsOf}
 use Rattle.scope.specs.Answers.{sameNumbers, areTables}
 use Rattle.areas.specs.Bounds.{Bounds}

@@ -20,7 +20,8 @@ use Rattle.scope.specs.Lists.{given, flat, optional, padded, part, tabled}
 use Rattle.scope.specs.Modifications.{nameOf}
 use Rattle.scope.specs.Refusals.{textIn, textOf}
 use Rattle.scope.specs.Kinds.{kindCode, kindIn}
-use Rattle.scope.specs.Tables.{bareNumber, bareLabel, bareValue, barePart, bareBracket, bareResidue, tablesOf, sectionCode, valueCode, millionths, massIn, decimalsIn, labelOf, packed, offset, partRow, partRows, scoreOf, scoreCode, bracketRow, bracketTexts, rows, bytesOf, numberRow, numbersOf, sectionIn, byteAt, rowAt, partAt, textFrom, scoreIn, valueIn, labelIn, partIn, bracketIn, residueIn, tablesIn}
+use Rattle.scope.specs.Tables.{bareNumber, bareLabel, bareValue, barePart, bareBracket, bareResidue, tablesOf, millionths, labelOf, scoreOf}
+use Rattle.scope.specs.Layout.{sectionCode, valueCode, massIn, decimalsIn, packed, offset, partRow, partRows, scoreCode, bracketRow, bracketTexts, rows, bytesOf, numberRow, numbersOf, sectionIn, byteAt, rowAt, partAt, scoreIn, valueIn, labelIn, partIn, bracketIn, residueIn, tablesIn, bracketsField, countField, decimalsField, firstField, keyField, kindField, labelField, lastField, offsetField, partsField, residuesField, scoreField, textField, valueField}
 use Rattle.basics.specs.Each.{Each, OfGiven}
 use Rattle.accepted_laws.specs.Within.{NumberWithin, LabelWithin, ValueWithin, PartWithin, BracketWithin, Within}
 use Rattle.layout_laws.specs.At.{At, at-read, at-head, at-first, at-next, at-part, at-start}
@@ -77,18 +78,18 @@ offset-at (b ∷ l) i h = refl
 
 module _ {P : Type 0} (bs : List ℕ) (ns : List ℤ) (k j : ℕ) where
   value-back :
-      (v : Value P) → OfValue v → byteAt bs (partAt k j) ≡ valueCode v → byteAt bs (partAt k j + 2) ≡ decimalsIn v → byteAt bs
+      (v : Value P) → OfValue v → valueField bs k j ≡ valueCode v → decimalsField bs k j ≡ decimalsIn v → byteAt bs
       (partAt k j + 3) ≡ length (textIn v)
       → getD ns (k * 5 + j) (pos 0) ≡ massIn v
-      → (0 < length (textIn v) → part (2686 + textFrom bs (partAt k j)) (length (textIn v)) bs ≡ textIn v)
+      → (0 < length (textIn v) → part (2686 + offsetField bs k j) (length (textIn v)) bs ≡ textIn v)
       → valueIn bs ns k j ≡ bareValue v
   value-back (mass n) w c d e m t = rw (c, d, m) (ap mass (number-back n w))
   value-back (text x) w c d e m t = rw (c, e) (ap text (t w))
   value-back reference w c d e m t = rw (c)
 
   label-back :
-      (l : Option (Label P)) → OfGiven LabelWithin l → byteAt bs (partAt k j + 4) ≡ length (given l (λ l. l .name) [])
-      → (0 < length (given l (λ l. l .name) []) → part (2686 + textFrom bs (partAt k j) + byteAt bs (partAt k j + 3))
+      (l : Option (Label P)) → OfGiven LabelWithin l → labelField bs k j ≡ length (given l (λ l. l .name) [])
+      → (0 < length (given l (λ l. l .name) []) → part (2686 + offsetField bs k j + textField bs k j)
       (length (given l (λ l. l .name) [])) bs ≡ given l (λ l. l .name) [])
       → OfGiven (λ l. scoreIn bs ns k ≡ optional bareNumber (l .score)) l
       → labelIn bs ns k j ≡ optional bareLabel l
@@ -99,12 +100,12 @@ module _ {P : Type 0} (bs : List ℕ) (ns : List ℤ) (k j : ℕ) where
 
 -- what is read of part j of bracket k, whose texts begin at i among the texts
 pub record PartRead {P : Type 0} (bs : List ℕ) (ns : List ℤ) (k j i : ℕ) (p : Part P) : Type 0 where
-  pub code : byteAt bs (partAt k j) ≡ valueCode (p .value)
-  pub key : byteAt bs (partAt k j + 1) ≡ keyCode (p .key)
-  pub decimals : byteAt bs (partAt k j + 2) ≡ decimalsIn (p .value)
-  pub text-length : byteAt bs (partAt k j + 3) ≡ length (textOf p)
-  pub label-length : byteAt bs (partAt k j + 4) ≡ length (labelOf p)
-  pub from : textFrom bs (partAt k j) ≡ offset (packed p) i
+  pub code : valueField bs k j ≡ valueCode (p .value)
+  pub key : keyField bs k j ≡ keyCode (p .key)
+  pub decimals : decimalsField bs k j ≡ decimalsIn (p .value)
+  pub text-length : textField bs k j ≡ length (textOf p)
+  pub label-length : labelField bs k j ≡ length (labelOf p)
+  pub from : offsetField bs k j ≡ offset (packed p) i
   pub number : getD ns (k * 5 + j) (pos 0) ≡ massIn (p .value)
   pub texts : At bs (2686 + i) (packed p)
 
@@ -159,16 +160,16 @@ module _ {P : Type 0} (bs : List ℕ) (ns : List ℤ) (k : ℕ) where
       → partIn bs ns k j ≡ barePart p
   unfolding partIn
   part-back j i p w r s =
-      let from : 0 < length (packed p) → textFrom bs (partAt k j) ≡ i = λ h. r .from ∙ offset-at (packed p) i h in
+      let from : 0 < length (packed p) → offsetField bs k j ≡ i = λ h. r .from ∙ offset-at (packed p) i h in
       let sum : length (packed p) ≡ length (textOf p) + length (labelOf p) = length-append (textOf p) (labelOf p) in
-      let t : 0 < length (textOf p) → part (2686 + textFrom bs (partAt k j)) (length (textOf p)) bs ≡ textOf p =
+      let t : 0 < length (textOf p) → part (2686 + offsetField bs k j) (length (textOf p)) bs ≡ textOf p =
       λ h. ap (λ z. part (2686 + z) (length (textOf p)) bs) (from (omega arith)) ∙ at-part bs (2686 + i) (textOf p)
       (at-first bs (2686 + i) (textOf p) (labelOf p) (r .texts)) in
-      let u : 0 < length (labelOf p) → part (2686 + textFrom bs (partAt k j) + byteAt bs (partAt k j + 3)) (length (labelOf p)) bs ≡ labelOf p =
+      let u : 0 < length (labelOf p) → part (2686 + offsetField bs k j + textField bs k j) (length (labelOf p)) bs ≡ labelOf p =
       λ h. ap₂ (λ y z. part (2686 + y + z) (length (labelOf p)) bs) (from (omega arith)) (r .text-length)
       ∙ at-part bs (2686 + i + length (textOf p)) (labelOf p)
       (at-next bs (2686 + i) (textOf p) (labelOf p) (length (textOf p)) (2686 + i + length (textOf p)) refl refl (r .texts)) in
-      let a : keyIn (byteAt bs (partAt k j + 1)) ≡ p .key = ap keyIn (r .key) ∙ key-back (p .key) in
+      let a : keyIn (keyField bs k j) ≡ p .key = ap keyIn (r .key) ∙ key-back (p .key) in
       let b : valueIn bs ns k j ≡ bareValue (p .value) = value-back bs ns k j (p .value) (value-of p w) (r .code) (r .decimals) (r .text-length)
       (r .number) t in
       let c : labelIn bs ns k j ≡ optional bareLabel (p .label) = label-back bs ns k j (p .label) (w .label) (r .label-length) u s in
@@ -246,12 +247,12 @@ module _ {P : Type 0} where
 -- ---- brackets
 -- what is read of bracket k, whose texts begin at i among the texts
 pub record BracketRead {P : Type 0} (bs : List ℕ) (ns : List ℤ) (k i : ℕ) (b : Bracket P) : Type 0 where
-  pub kind : byteAt bs (rowAt k) ≡ kindCode (b .kind)
-  pub first : byteAt bs (rowAt k + 1) ≡ b .first
-  pub last : byteAt bs (rowAt k + 2) ≡ b .last
-  pub count : byteAt bs (rowAt k + 3) ≡ b .count
-  pub many : byteAt bs (rowAt k + 4) ≡ length (b .parts)
-  pub score : byteAt bs (rowAt k + 5) ≡ scoreCode (scoreOf (b .parts))
+  pub kind : kindField bs k ≡ kindCode (b .kind)
+  pub first : firstField bs k ≡ b .first
+  pub last : lastField bs k ≡ b .last
+  pub count : countField bs k ≡ b .count
+  pub many : partsField bs k ≡ length (b .parts)
+  pub score : scoreField bs k ≡ scoreCode (scoreOf (b .parts))
   pub number : getD ns (k * 5 + 4) (pos 0) ≡ given (scoreOf (b .parts)) millionths (pos 0)
   pub parts : PartsRead bs ns k 0 i (b .parts)
 
@@ -307,7 +308,7 @@ module _ {P : Type 0} (bs : List ℕ) (ns : List ℤ) where
       )
 
   score-back :
-      (k : ℕ) (s : Option (Number P)) → OfGiven NumberWithin s → byteAt bs (rowAt k + 5) ≡ scoreCode s → getD ns (k * 5 + 4)
+      (k : ℕ) (s : Option (Number P)) → OfGiven NumberWithin s → scoreField bs k ≡ scoreCode s → getD ns (k * 5 + 4)
       (pos 0) ≡ given s millionths (pos 0)
       → scoreIn bs ns k ≡ optional bareNumber s
   score-back k none w e m = rw e
@@ -332,11 +333,11 @@ module _ {P : Type 0} (bs : List ℕ) (ns : List ℤ) where
   bracket-back n k i b w r =
       let s : scoreIn bs ns k ≡ optional bareNumber (scoreOf (b .parts)) = score-back k (scoreOf (b .parts)) (score-within (b .parts) (w .parts))
       (r .score) (r .number) in
-      let ps : tabled (partIn bs ns k) 0 (byteAt bs (rowAt k + 4)) ≡ map barePart (b .parts) =
+      let ps : tabled (partIn bs ns k) 0 (partsField bs k) ≡ map barePart (b .parts) =
       ap (tabled (partIn bs ns k) 0) (r .many)
       ∙ parts-back bs ns k 0 i (b .parts) (w .parts) (r .parts)
       (scores-back k (scoreOf (b .parts)) (b .parts) s (one-score (b .parts) (w .one-label))) in
-      let c : kindIn (byteAt bs (rowAt k)) ≡ b .kind = ap kindIn (r .kind) ∙ kind-back (b .kind) in
+      let c : kindIn (kindField bs k) ≡ b .kind = ap kindIn (r .kind) ∙ kind-back (b .kind) in
       λ d. record { kind = c d; first = r .first d; last = r .last d; count = r .count d; counted = none; parts = ps d; at = tt }
 
   pub brackets-back :
@@ -364,8 +365,8 @@ residues-back bs i (r ∷ rs) a c =
 
 -- ---- the whole areas
 pub record AreasRead {P : Type 0} (bs : List ℕ) (ns : List ℤ) (l : Line P) : Type 0 where
-  pub residues-many : byteAt bs 0 ≡ length (l .residues)
-  pub brackets-many : byteAt bs 1 ≡ length (l .brackets)
+  pub residues-many : residuesField bs ≡ length (l .residues)
+  pub brackets-many : bracketsField bs ≡ length (l .brackets)
   pub letters : At bs 2 (map (λ r. r .letter) (l .residues))
   pub sections : At bs 256 (map (λ r. sectionCode (r .section)) (l .residues))
   pub brackets : BracketsRead bs ns 0 0 (l .brackets)

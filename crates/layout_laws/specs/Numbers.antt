@@ -8,7 +8,8 @@ use lib.Dec.{leb}
 use lib.Pow.{pow-add}
 use borrow.Author.Tests.{leb-true, ltb-true}
 use Rattle.scope.specs.Line.{Number}
-use Rattle.scope.specs.Tables.{bareNumber, signed, millionths, isNegative, numberIn}
+use Rattle.scope.specs.Tables.{bareNumber, signed, millionths}
+use Rattle.scope.specs.Layout.{isNegative, numberIn}
 use Rattle.areas.specs.Bounds.{Small}
 use Rattle.basics.specs.Tests.{and-left, and-right}
 use Rattle.accepted_laws.specs.Within.{NumberWithin}

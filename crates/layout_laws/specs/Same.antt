@@ -11,7 +11,8 @@ use Rattle.scope.specs.Lists.{same}
 use Rattle.scope.specs.Line.{Line}
 use Rattle.scope.specs.Refusals.{Outcome, accepted, refused, outcome}
 use Rattle.scope.specs.Canonical.{canonical}
-use Rattle.scope.specs.Tables.{tablesOf, bytesOf, numbersOf, tablesIn, bytesSize, numbersSize}
+use Rattle.scope.specs.Tables.{tablesOf}
+use Rattle.scope.specs.Layout.{bytesOf, numbersOf, tablesIn, bytesSize, numbersSize}
 use Rattle.scope.specs.Answers.{sameNumber, sameNumbers, readsTo, areTables}
 use Rattle.areas.specs.Bounds.{Bounds}
 use Rattle.basics.specs.Tests.{and-left, and-right}

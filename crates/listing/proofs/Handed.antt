@@ -10,7 +10,7 @@ use Rattle.scope.specs.declared.answers.Count.{Count}
 use Rattle.scope.specs.declared.answers.Count.the-variants.{Is, Refused}
 use Rattle.scope.specs.Limits.{rowLimit, positionLimit}
 use Rattle.scope.specs.Lists.{laid, tabled}
-use Rattle.scope.specs.Tables.{tablesIn}
+use Rattle.scope.specs.Layout.{tablesIn}
 use Rattle.scope.specs.Positions.{rowsFrom}
 use Rattle.scope.specs.Answers.{rowsSaid, rowsAfter}
 use Rattle.areas.specs.Floats.{listsIn, Sized}

@@ -7,7 +7,7 @@ use Rattle.scope.specs.declared.answers.Count.{Count}
 use Rattle.scope.specs.declared.answers.Site.{Site}
 use Rattle.scope.specs.declared.answers.Request.{Request}
 use Rattle.scope.specs.declared.answers.Listing.{Listing}
-use Rattle.scope.specs.Tables.{tablesIn}
+use Rattle.scope.specs.Layout.{tablesIn}
 use Rattle.scope.specs.Answers.{saysCount, saysRequest, met, rowsSaid, rowsAfter, requests, listingAfter}
 
 abbrev pub RowsSays : List ℕ → List ℤ → List Site → Count → List Site → Type 0

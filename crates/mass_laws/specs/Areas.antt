@@ -5,7 +5,7 @@ use native.Mathlib.Omega.{arith}
 use lib.IntN.{ℤ}
 use lib.ListN.{length}
 use Rattle.scope.specs.Limits.{copyLimit}
-use Rattle.scope.specs.Tables.{byteAt, bracketIn, tablesIn}
+use Rattle.scope.specs.Layout.{bracketIn, tablesIn, bracketsField}
 use Rattle.scope.specs.Positions.{floaters}
 use Rattle.scope.specs.Masses.{massOr0}
 use Rattle.areas.specs.Bounds.{Small, Bounds}
@@ -18,7 +18,7 @@ pub limited-in : {bs : List ℕ} {ns : List ℤ} → Bounds bs ns → length (fl
 unfolding tablesIn
 limited-in {bs} {ns} b few =
     record {
-      few-brackets = rw (length-tabled (bracketIn bs ns) 0 (byteAt bs 1)) (b .few-brackets);
+      few-brackets = rw (length-tabled (bracketIn bs ns) 0 (bracketsField bs)) (b .few-brackets);
       few-copies = few;
-      small = each-tabled (λ k. Small (massOr0 k)) (bracketIn bs ns) 0 (byteAt bs 1) (λ i h. small-mass b (omega arith));
+      small = each-tabled (λ k. Small (massOr0 k)) (bracketIn bs ns) 0 (bracketsField bs) (λ i h. small-mass b (omega arith));
     }

@@ -11,7 +11,7 @@ use lib.ListN.{length, getD, take}
 use lib.Ieee.{binary64, ofInt, toSigned}
 use Rattle.scope.specs.Limits.{positionLimit, copyLimit}
 use Rattle.scope.specs.Line.{Bracket, Line}
-use Rattle.scope.specs.Tables.{tablesIn}
+use Rattle.scope.specs.Layout.{tablesIn}
 use Rattle.scope.specs.Lists.{there?, all, member}
 use Rattle.scope.specs.Positions.{struckOut, floaters, permittedPositions}
 use Rattle.scope.specs.Placements.{allowed}

@@ -15,7 +15,8 @@ use Rattle.scope.specs.Limits.{sizeLimit, decimalLimit}
 use Rattle.scope.specs.Line.{Number, mass, text, reference, Part}
 use Rattle.scope.specs.Lists.{given, keep, tabled}
 use Rattle.scope.specs.Modifications.{isKey}
-use Rattle.scope.specs.Tables.{byteAt, rowAt, partAt, numberRowSize, isNegative, millionths, numberIn, partIn, bracketIn}
+use Rattle.scope.specs.Tables.{millionths}
+use Rattle.scope.specs.Layout.{isNegative, numberIn, partIn, bracketIn, bracketsField, decimalsField, massField, partsField, valueField}
 use Rattle.scope.specs.Masses.{valueMass, firstMass, massOf, massOr0}
 use Rattle.areas.specs.Bounds.{Small, Bounds}
 use Rattle.basics.specs.Wholes.{abs-signed}
@@ -65,20 +66,20 @@ size-is none = refl
 abbrev limit : ℕ
 limit = sizeLimit * 10 ^ decimalLimit
 
-module _ {bs : List ℕ} {ns : List ℤ} (b : Bounds bs ns) {k : ℕ} (h : k < byteAt bs 1) where
-  small-part : (i : ℕ) → i < byteAt bs (rowAt k + 4) → size (valueMass (partIn bs ns k i .value)) < limit
+module _ {bs : List ℕ} {ns : List ℤ} (b : Bounds bs ns) {k : ℕ} (h : k < bracketsField bs) where
+  small-part : (i : ℕ) → i < partsField bs k → size (valueMass (partIn bs ns k i .value)) < limit
   unfolding partIn
   small-part i q =
       small-value
-      (numberIn (getD ns (k * numberRowSize + i) (pos 0)) (byteAt bs (partAt k i + 2))) _
-      (eqb (byteAt bs (partAt k i)) 1) (eqb (byteAt bs (partAt k i)) 2) limit
-      (omega (arith, abs-millionths (getD ns (k * numberRowSize + i) (pos 0)) (byteAt bs (partAt k i + 2)), b .bracket k h .part i q .small))
+      (numberIn (massField ns k i) (decimalsField bs k i)) _
+      (eqb (valueField bs k i) 1) (eqb (valueField bs k i) 2) limit
+      (omega (arith, abs-millionths (massField ns k i) (decimalsField bs k i), b .bracket k h .part i q .small))
 
   abbrev firstOf : (Part (Unit {0}) → Bool) → Option ℤ
-  firstOf g = firstMass (keep g (tabled (partIn bs ns k) 0 (byteAt bs (rowAt k + 4))))
+  firstOf g = firstMass (keep g (tabled (partIn bs ns k) 0 (partsField bs k)))
 
   small-of : (g : Part (Unit {0}) → Bool) → size (firstOf g) < limit
-  small-of g = small-first g (partIn bs ns k) limit (omega arith) 0 (byteAt bs (rowAt k + 4)) (λ i q. small-part i (omega arith))
+  small-of g = small-first g (partIn bs ns k) limit (omega arith) 0 (partsField bs k) (λ i q. small-part i (omega arith))
 
   pub small-mass : Small (massOr0 (bracketIn bs ns k))
   unfolding massOf bracketIn

@@ -22,7 +22,7 @@ use Rattle.scope.specs.Line.{Bracket}
 use Rattle.scope.specs.Lists.{keep, flat, tabled}
 use Rattle.scope.specs.Modifications.{copies, isModification, isLabelled, unlabelledCopies}
 use Rattle.scope.specs.Positions.{isPlaced, floaters}
-use Rattle.scope.specs.Tables.{byteAt, bracketIn, tablesIn}
+use Rattle.scope.specs.Layout.{bracketIn, tablesIn, bracketsField}
 use Rattle.scope.specs.Masses.{massOr0, sum, placedAt, putAt, ledger}
 use Rattle.areas.specs.Bounds.{Small, Bounds}
 use Rattle.brackets.specs.Row.{Row, row}
@@ -96,12 +96,12 @@ no-placed-mass b e y = ap (λ t. cond t (massOr0 b) (pos 0)) (sym y ∙ e)
 -- those of the brackets before k are booked
 pub record Placing (bs : List ℕ) (ns : List ℤ) (n k : ℕ) (l : List ℤ) : Type 0 where
   pub bounds : Bounds bs ns
-  pub many : n ≡ byteAt bs 1
+  pub many : n ≡ bracketsField bs
   pub inside : k ≤ n
   pub held : Held l k
   pub entry : (x : ℕ) → x < positionLimit → placedAt x (tablesIn bs ns .brackets) ≡ getD l x (pos 0) +ℤ placedAt x (tabled (bracketIn bs ns) k (n - k))
 
-pub placing-start : {bs : List ℕ} {ns : List ℤ} {n : ℕ} → Bounds bs ns → n ≡ byteAt bs 1 → Placing bs ns n 0 (replicate 256 (pos 0))
+pub placing-start : {bs : List ℕ} {ns : List ℤ} {n : ℕ} → Bounds bs ns → n ≡ bracketsField bs → Placing bs ns n 0 (replicate 256 (pos 0))
 unfolding tablesIn
 placing-start {bs} {ns} {n} b e =
     record {
@@ -339,7 +339,7 @@ floating-cons b ks = refl
 
 pub record Floating (bs : List ℕ) (ns : List ℤ) (at : List ℕ) (n k : ℕ) (l : List ℤ) (i : ℕ) : Type 0 where
   pub bounds : Bounds bs ns
-  pub many : n ≡ byteAt bs 1
+  pub many : n ≡ bracketsField bs
   pub inside : k ≤ n
   pub held : Held l (64 + i)
   pub few : i ≤ copyLimit
@@ -347,7 +347,7 @@ pub record Floating (bs : List ℕ) (ns : List ℤ) (at : List ℕ) (n k : ℕ) 
       (x : ℕ) → x < positionLimit
       → placedAt x (tablesIn bs ns .brackets) +ℤ putAt x (floaters (tablesIn bs ns)) at ≡ getD l x (pos 0) +ℤ putAt x (floating (tabled (bracketIn bs ns) k (n - k))) (drop i at)
 
-pub floating-start : {bs : List ℕ} {ns : List ℤ} {at : List ℕ} {n : ℕ} {l : List ℤ} → Bounds bs ns → Placed bs ns l → n ≡ byteAt bs 1 → Floating bs ns at n 0 l 0
+pub floating-start : {bs : List ℕ} {ns : List ℤ} {at : List ℕ} {n : ℕ} {l : List ℤ} → Bounds bs ns → Placed bs ns l → n ≡ bracketsField bs → Floating bs ns at n 0 l 0
 unfolding tablesIn floaters
 floating-start {bs} {ns} {at} {n} {l} b p e =
     record {
@@ -357,7 +357,7 @@ floating-start {bs} {ns} {at} {n} {l} b p e =
       held = p .held;
       few = omega arith;
       entry =
-          λ x h. ap (λ z. z +ℤ putAt x (floating (tabled (bracketIn bs ns) 0 (byteAt bs 1))) at) (sym (p .entry x h))
+          λ x h. ap (λ z. z +ℤ putAt x (floating (tabled (bracketIn bs ns) 0 (bracketsField bs))) at) (sym (p .entry x h))
           ∙ ap (λ m. getD l x (pos 0) +ℤ putAt x (floating (tabled (bracketIn bs ns) 0 m)) at) (sym e)
           ∙ ap (λ ks. getD l x (pos 0) +ℤ putAt x (floating ks) at) (tabled-all (bracketIn bs ns) n);
     }

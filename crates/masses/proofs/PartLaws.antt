@@ -17,7 +17,8 @@ use Rattle.scope.specs.Limits.{bracketLimit, partLimit, decimalLimit}
 use Rattle.scope.specs.Line.{Number, mass, text, reference, Part, Bracket}
 use Rattle.scope.specs.Lists.{given, keep, tabled}
 use Rattle.scope.specs.Modifications.{isKey}
-use Rattle.scope.specs.Tables.{bytesSize, numbersSize, partSize, byteAt, rowAt, partAt, numberRowSize, millionths, numberIn, partIn, bracketIn}
+use Rattle.scope.specs.Tables.{millionths}
+use Rattle.scope.specs.Layout.{bytesSize, numbersSize, partSize, byteAt, partAt, numberRowSize, numberIn, partIn, bracketIn, decimalsField, keyField, massField, partsField, valueField}
 use Rattle.scope.specs.Masses.{valueMass, firstMass, massOf, massOr0}
 use Rattle.areas.specs.Bounds.{Small, PartBounds}
 use Rattle.brackets.specs.Row.{Row, row}
@@ -43,10 +44,10 @@ module _ (bs : List ℕ) (ns : List ℤ) (k : ℕ) (obs : Bool) where
   among ps = firstMass (keep (λ p. wanted obs (isKey Obs p)) ps)
 
   abbrev pub massAt : ℕ → ℤ
-  massAt j = millionths (numberIn (getD ns (k * numberRowSize + j) (pos 0)) (byteAt bs (partAt k j + 2)))
+  massAt j = millionths (numberIn (massField ns k j) (decimalsField bs k j))
 
   abbrev pub hit : ℕ → Bool
-  hit j = eqb (byteAt bs (partAt k j + 0)) 1 && wanted obs (eqb (byteAt bs (partAt k j + 1)) 7)
+  hit j = eqb (valueField bs k j) 1 && wanted obs (eqb (keyField bs k j) 7)
 
   by-value : (n : Number (Unit {0})) (x : List ℕ) (t u w : Bool) (r : Option ℤ) → cond w (given (valueMass (cond t (mass n) (cond u (text x) reference))) some r) r ≡ cond (t && w) (some (millionths n)) r
   by-value n x true u true r = refl
@@ -61,19 +62,19 @@ module _ (bs : List ℕ) (ns : List ℤ) (k : ℕ) (obs : Bool) where
   at-part j ps =
       first-cons (λ p. wanted obs (isKey Obs p)) (partIn bs ns k j) ps
       ∙ by-value
-      (numberIn (getD ns (k * numberRowSize + j) (pos 0)) (byteAt bs (partAt k j + 2))) _
-      (eqb (byteAt bs (partAt k j)) 1) (eqb (byteAt bs (partAt k j)) 2) (wanted obs (isKey Obs (partIn bs ns k j))) (among ps)
+      (numberIn (massField ns k j) (decimalsField bs k j)) _
+      (eqb (valueField bs k j) 1) (eqb (valueField bs k j) 2) (wanted obs (isKey Obs (partIn bs ns k j))) (among ps)
       ∙ ap (λ x. cond (eqb (byteAt bs x) 1 && wanted obs (isKey Obs (partIn bs ns k j))) (some (massAt j)) (among ps)) (sym (add-zero (partAt k j)))
-      ∙ ap (λ t. cond (eqb (byteAt bs (partAt k j + 0)) 1 && wanted obs t) (some (massAt j)) (among ps)) (key-is (byteAt bs (partAt k j + 1)) 7 (omega arith) (omega arith))
+      ∙ ap (λ t. cond (eqb (valueField bs k j) 1 && wanted obs t) (some (massAt j)) (among ps)) (key-is (keyField bs k j) 7 (omega arith) (omega arith))
 
   -- no such mass before part j
   pub record Before (m j : ℕ) : Type 0 where
     pub inside : j ≤ m
-    pub many : m ≡ byteAt bs (rowAt k + 4)
+    pub many : m ≡ partsField bs k
     pub few : m ≤ partLimit
     pub rest : among (bracketIn bs ns k .parts) ≡ among (tabled (partIn bs ns k) j (m - j))
 
-  pub before-start : (m : ℕ) → m ≡ byteAt bs (rowAt k + 4) → m ≤ partLimit → Before m 0
+  pub before-start : (m : ℕ) → m ≡ partsField bs k → m ≤ partLimit → Before m 0
   unfolding bracketIn
   before-start m e few =
       record {
@@ -132,7 +133,7 @@ module _ {bs : List ℕ} {ns : List ℤ} {k : ℕ} where
   pub reach-row : Reach bs ns k → Row bs k
   reach-row r = row (r .bounds) k (r .inside)
 
-  pub reach-next : {m j : ℕ} → Reach bs ns k → m ≡ byteAt bs (rowAt k + 4) → j < m → ReachPart bs ns k j
+  pub reach-next : {m j : ℕ} → Reach bs ns k → m ≡ partsField bs k → j < m → ReachPart bs ns k j
   reach-next r e h = record { reach = r; part = rw (← e) h }
 
 module _ {bs : List ℕ} {ns : List ℤ} {k j : ℕ} (r : ReachPart bs ns k j) where
@@ -151,14 +152,14 @@ module _ {bs : List ℕ} {ns : List ℤ} {k j : ℕ} (r : ReachPart bs ns k j) w
   pub reach-byte : (bytesSize ≤ length bs) × (k < bracketLimit) × (j < partLimit) × (2 < partSize)
   reach-byte = (r .reach .bounds .bytes-room, few-brackets, few-parts, omega arith)
 
-  number-back : {m : ℤ} → m ≡ getD ns (k * numberRowSize + j) (pos 0) → toZ w64 (ofZ w64 m) ≡ m
+  number-back : {m : ℤ} → m ≡ massField ns k j → toZ w64 (ofZ w64 m) ≡ m
   number-back {m} e = back m (rw e (omega (arith, bounds .small)))
 
-  pub reach-decimals : {m : ℤ} {d : ℕ} → m ≡ getD ns (k * numberRowSize + j) (pos 0) → d ≡ byteAt bs (partAt k j + 2) → Small (toZ w64 (ofZ w64 m)) × (d ≤ decimalLimit)
+  pub reach-decimals : {m : ℤ} {d : ℕ} → m ≡ massField ns k j → d ≡ decimalsField bs k j → Small (toZ w64 (ofZ w64 m)) × (d ≤ decimalLimit)
   reach-decimals {m} {d} e f = (rw (number-back e, e) (bounds .small), rw f (bounds .few-decimals))
 
-  pub mass-is : {x m : ℤ} {d : ℕ} → m ≡ getD ns (k * numberRowSize + j) (pos 0) → d ≡ byteAt bs (partAt k j + 2) → x ≡ millionths (numberIn (toZ w64 (ofZ w64 m)) d)
-      → x ≡ millionths (numberIn (getD ns (k * numberRowSize + j) (pos 0)) (byteAt bs (partAt k j + 2)))
+  pub mass-is : {x m : ℤ} {d : ℕ} → m ≡ massField ns k j → d ≡ decimalsField bs k j → x ≡ millionths (numberIn (toZ w64 (ofZ w64 m)) d)
+      → x ≡ millionths (numberIn (massField ns k j) (decimalsField bs k j))
   mass-is {x} {m} {d} e f g =
       g ∙ ap (λ z. millionths (numberIn z d)) (number-back e ∙ e)
-      ∙ ap (λ n. millionths (numberIn (getD ns (k * numberRowSize + j) (pos 0)) n)) f
+      ∙ ap (λ n. millionths (numberIn (massField ns k j) n)) f

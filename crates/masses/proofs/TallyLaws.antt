@@ -14,7 +14,7 @@ use Rattle.scope.specs.Limits.{countLimit}
 use Rattle.scope.specs.Line.{Bracket}
 use Rattle.scope.specs.Lists.{given, keep, tabled}
 use Rattle.scope.specs.Modifications.{isModification}
-use Rattle.scope.specs.Tables.{byteAt, bracketIn, tablesIn}
+use Rattle.scope.specs.Layout.{bracketIn, tablesIn, bracketsField}
 use Rattle.scope.specs.Masses.{massOf, massOr0, sum, sumℕ, total, lacking}
 use Rattle.areas.specs.Bounds.{Small, Bounds}
 use Rattle.basics.specs.Tabled.{tabled-at, tabled-end, tabled-all}
@@ -160,13 +160,13 @@ lacks-cons b l = by (isModification b)
 
 pub record Weighing (bs : List ℕ) (ns : List ℤ) (n k : ℕ) (s : ℤ) (w : ℕ) : Type 0 where
   pub bounds : Bounds bs ns
-  pub many : n ≡ byteAt bs 1
+  pub many : n ≡ bracketsField bs
   pub inside : k ≤ n
   pub before : Before k s w
   pub sum-is : total (tablesIn bs ns) ≡ s +ℤ weights (tabled (bracketIn bs ns) k (n - k))
   pub lacks-is : lacking (tablesIn bs ns) ≡ w + lacks (tabled (bracketIn bs ns) k (n - k))
 
-pub weighing-start : {bs : List ℕ} {ns : List ℤ} {n : ℕ} → Bounds bs ns → n ≡ byteAt bs 1 → Weighing bs ns n 0 (pos 0) 0
+pub weighing-start : {bs : List ℕ} {ns : List ℤ} {n : ℕ} → Bounds bs ns → n ≡ bracketsField bs → Weighing bs ns n 0 (pos 0) 0
 unfolding tablesIn total lacking
 weighing-start {bs} {ns} {n} b e =
     record {

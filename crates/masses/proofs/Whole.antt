@@ -10,7 +10,8 @@ use mir.Syntax.{w64}
 use mir.Val.{SFits, toZ, ofZ}
 use mir.ValLaws.{toZ-ofZ, toZ-pos}
 use Rattle.scope.specs.Limits.{decimalLimit}
-use Rattle.scope.specs.Tables.{signed, isNegative, millionths, numberIn}
+use Rattle.scope.specs.Tables.{signed, millionths}
+use Rattle.scope.specs.Layout.{isNegative, numberIn}
 use Rattle.basics.specs.Wholes.{abs-add, abs-neg, abs-mul, abs-signed}
 
 -- a small size fits an `i64`, and is read back from its bits

@@ -6,7 +6,7 @@ use lib.IntN.{ℤ, pos, natAbs, _+ℤ_}
 use lib.ListN.{length, getD, drop, replicate}
 use Rattle.scope.specs.Limits.{positionLimit, copyLimit, countLimit}
 use Rattle.scope.specs.Line.{Bracket}
-use Rattle.scope.specs.Tables.{tablesIn}
+use Rattle.scope.specs.Layout.{tablesIn}
 use Rattle.scope.specs.Masses.{massOr0, placedAt, putAt}
 use Rattle.areas.specs.Bounds.{Small}
 use Rattle.masses.specs.Reach.{Reach}

@@ -22,7 +22,8 @@ ghost use Rattle.scope.specs.declared.answers.Booked.the-variants.{Done};
 ghost use Rattle.scope.specs.Limits.{partLimit, decimalLimit, countLimit, copyLimit};
 ghost use Rattle.scope.specs.Lists.{keep};
 ghost use Rattle.scope.specs.Modifications.{isKey, copies};
-ghost use Rattle.scope.specs.Tables.{byteAt, partAt, numberRowSize, millionths, numberIn, bracketIn, tablesIn};
+ghost use Rattle.scope.specs.Tables.{millionths};
+ghost use Rattle.scope.specs.Layout.{numberIn, bracketIn, tablesIn, decimalsField, keyField, massField, valueField};
 ghost use Rattle.scope.specs.Masses.{firstMass, massOf, massOr0, ledger, daltons};
 ghost use Rattle.areas.specs.Bounds.{Small, Bounds};
 ghost use Rattle.brackets.specs.Row.{Row};
@@ -89,7 +90,7 @@ fn to_decimals(m: i64, decimals: u8) -> i64
 // The mass of part j of bracket k.
 fn part_mass(bytes: &[u8], numbers: &[i64], k: usize, j: usize) -> i64
     requires { ⌜ ReachPart (now bytes) (now numbers) k j ⌝ }
-    ensures { λ r. ⌜ r ≡ millionths (numberIn (getD (now (numbers .entry)) (k * numberRowSize + j) (pos 0)) (byteAt (now (bytes .entry)) (partAt k j + 2))) ⌝ }
+    ensures { λ r. ⌜ r ≡ millionths (numberIn (massField (now (numbers .entry)) k j) (decimalsField (now (bytes .entry)) k j)) ⌝ }
 {
     to_decimals(number(numbers, k, j), part_byte(bytes, k, j, 2))
 }
@@ -97,7 +98,7 @@ fn part_mass(bytes: &[u8], numbers: &[i64], k: usize, j: usize) -> i64
 // Whether part j of bracket k is a mass, behind `Obs` or not as asked.
 fn has_mass(bytes: &[u8], k: usize, j: usize, obs: bool) -> bool
     requires { ⌜ (Row (now bytes) k) × (j < partLimit) ⌝ }
-    ensures { λ r. ⌜ r ≡ eqb (byteAt (now (bytes .entry)) (partAt k j + 0)) 1 && wanted obs (eqb (byteAt (now (bytes .entry)) (partAt k j + 1)) 7) ⌝ }
+    ensures { λ r. ⌜ r ≡ eqb (valueField (now (bytes .entry)) k j) 1 && wanted obs (eqb (keyField (now (bytes .entry)) k j) 7) ⌝ }
 {
     let value = part_byte(bytes, k, j, 0);
     if value != 1 {

@@ -15,7 +15,7 @@ use Rattle.scope.specs.Line.{Bracket}
 use Rattle.scope.specs.Lists.{flat, tabled}
 use Rattle.scope.specs.Modifications.{onlyInfo, isReferring, isLabelled, unlabelledCopies, copies}
 use Rattle.scope.specs.Positions.{floaters}
-use Rattle.scope.specs.Tables.{byteAt, bracketIn, tablesIn}
+use Rattle.scope.specs.Layout.{bracketIn, tablesIn, bracketsField}
 use Rattle.areas.specs.Floats.{FloatersAre}
 use Rattle.basics.specs.Choice.{by-test}
 use Rattle.basics.specs.Lists.{map-replicate}
@@ -68,7 +68,7 @@ pub record Finding (bs : List ℕ) (ns : List ℤ) (b k count : ℕ) (index : Li
   pub inside : (i : ℕ) → i < count → getD index i 0 < k
   pub whole : floaters (tablesIn bs ns) ≡ map (bracketIn bs ns) (take count index) ++ flat (λ k. replicate (copies k) k) (tabled (bracketIn bs ns) k (b - k))
 
-pub finding-start : (bs : List ℕ) (ns : List ℤ) (b : ℕ) (index : List ℕ) → b ≡ byteAt bs 1 → length index ≡ copyLimit → Finding bs ns b 0 0 index
+pub finding-start : (bs : List ℕ) (ns : List ℤ) (b : ℕ) (index : List ℕ) → b ≡ bracketsField bs → length index ≡ copyLimit → Finding bs ns b 0 0 index
 unfolding floaters tablesIn
 finding-start bs ns b index e l =
     record {
@@ -135,7 +135,7 @@ finding-next {bs} {ns} {b} {k} {count} {index} {m} {count′} {index′} f h l e
         let v : getD index′ i 0 ≡ k = at i j ∙ ap (λ n. getD (take count index ++ replicate m k) n 0) p ∙ getD-append-add (take count index) (replicate m k) (i - count) 0 ∙ getD-replicate m (i - count) k 0 (omega arith) in
         omega arith
 
-pub finding-end : {bs : List ℕ} {ns : List ℤ} {b k count : ℕ} {index : List ℕ} → Finding bs ns b k count index → b ≤ k → b ≡ byteAt bs 1 → FloatersAre bs ns count index
+pub finding-end : {bs : List ℕ} {ns : List ℤ} {b k count : ℕ} {index : List ℕ} → Finding bs ns b k count index → b ≤ k → b ≡ bracketsField bs → FloatersAre bs ns count index
 unfolding flat
 finding-end {bs} {ns} {b} {k} {count} {index} f h e =
     let rm : length index ≡ copyLimit = f .room in

@@ -11,7 +11,7 @@ use lib.ListN.{length, drop, length-take, length-drop}
 use Rattle.scope.specs.Lists.{same, flat, among, shared, tabled, part}
 use Rattle.scope.specs.Line.{Part}
 use Rattle.scope.specs.Modifications.{nameOf, namesOf, isReferring, definedBy, referredBy}
-use Rattle.scope.specs.Tables.{byteAt, rowAt, partIn, bracketIn}
+use Rattle.scope.specs.Layout.{partIn, bracketIn, partsField}
 use Rattle.positions.specs.Legible.{labelFrom, labelSize}
 use Rattle.positions.proofs.Any.{anyOf}
 use Rattle.basics.specs.Lists.{same-length, among-append}
@@ -73,13 +73,13 @@ shared-tabled o p i zero = refl
 shared-tabled o p i (suc n) =
     shared-append (nameOf (p i)) (flat nameOf (tabled p (i + 1) n)) o ∙ ap (λ t. shared (nameOf (p i)) o || t) (shared-tabled o p (i + 1) n)
 
-pub among-names : (bs : List ℕ) (ns : List ℤ) (x : List ℕ) (k m : ℕ) → m ≡ byteAt bs (rowAt k + 4) → anyOf (λ j. among x (nameOf (partIn bs ns k j))) 0 m ≡ among x (namesOf (bracketIn bs ns k))
+pub among-names : (bs : List ℕ) (ns : List ℤ) (x : List ℕ) (k m : ℕ) → m ≡ partsField bs k → anyOf (λ j. among x (nameOf (partIn bs ns k j))) 0 m ≡ among x (namesOf (bracketIn bs ns k))
 unfolding bracketIn
-among-names bs ns x k m e = ap (anyOf (λ j. among x (nameOf (partIn bs ns k j))) 0) e ∙ sym (among-tabled x (partIn bs ns k) 0 (byteAt bs (rowAt k + 4)))
+among-names bs ns x k m e = ap (anyOf (λ j. among x (nameOf (partIn bs ns k j))) 0) e ∙ sym (among-tabled x (partIn bs ns k) 0 (partsField bs k))
 
-pub shared-names : (bs : List ℕ) (ns : List ℤ) (o : List (List ℕ)) (k m : ℕ) → m ≡ byteAt bs (rowAt k + 4) → anyOf (λ j. shared (nameOf (partIn bs ns k j)) o) 0 m ≡ shared (namesOf (bracketIn bs ns k)) o
+pub shared-names : (bs : List ℕ) (ns : List ℤ) (o : List (List ℕ)) (k m : ℕ) → m ≡ partsField bs k → anyOf (λ j. shared (nameOf (partIn bs ns k j)) o) 0 m ≡ shared (namesOf (bracketIn bs ns k)) o
 unfolding bracketIn
-shared-names bs ns o k m e = ap (anyOf (λ j. shared (nameOf (partIn bs ns k j)) o) 0) e ∙ sym (shared-tabled o (partIn bs ns k) 0 (byteAt bs (rowAt k + 4)))
+shared-names bs ns o k m e = ap (anyOf (λ j. shared (nameOf (partIn bs ns k j)) o) 0) e ∙ sym (shared-tabled o (partIn bs ns k) 0 (partsField bs k))
 
 -- ---- references
 shared-nothing : (l : List (List ℕ)) → shared l [] ≡ false

@@ -17,7 +17,7 @@ use Rattle.scope.specs.Limits.{positionLimit}
 use Rattle.scope.specs.Line.{Bracket}
 use Rattle.scope.specs.Lists.{keep, shared, tabled, member}
 use Rattle.scope.specs.Modifications.{isLabelled, definedBy, referredBy}
-use Rattle.scope.specs.Tables.{byteAt, bracketIn, tablesIn}
+use Rattle.scope.specs.Layout.{bracketIn, tablesIn, bracketsField, residuesField}
 use Rattle.scope.specs.Positions.{struckOut, isPlaced, between, ownPosition, referredAt, isUnlabelledUnknown, mayStand}
 use Rattle.basics.specs.Choice.{by-test}
 use Rattle.basics.specs.Tabled.{length-tabled}
@@ -194,18 +194,18 @@ unfolding tabled anyOf struckOut keep member
 struck-tabled x f i zero = refl
 struck-tabled x f i (suc n) = struck-cons x (f i) (tabled f (i + 1) n) ∙ ap (λ t. isPlaced (f i) && eqb x (f i .first) || t) (struck-tabled x f (i + 1) n)
 
-pub references-at : (bs : List ℕ) (ns : List ℤ) (k b x : ℕ) → b ≡ byteAt bs 1 → referencesAt bs ns k x ≡ anyOf (λ r. refersAt bs ns k r x) 0 b
+pub references-at : (bs : List ℕ) (ns : List ℤ) (k b x : ℕ) → b ≡ bracketsField bs → referencesAt bs ns k x ≡ anyOf (λ r. refersAt bs ns k r x) 0 b
 unfolding tablesIn
-references-at bs ns k b x e = rw e (referred-tabled (bracketIn bs ns k) x (bracketIn bs ns) 0 (byteAt bs 1))
+references-at bs ns k b x e = rw e (referred-tabled (bracketIn bs ns k) x (bracketIn bs ns) 0 (bracketsField bs))
 
-struck-at : (bs : List ℕ) (ns : List ℤ) (b x : ℕ) → b ≡ byteAt bs 1 → struckAt bs ns x ≡ anyOf (λ k. placedAt bs ns k x) 0 b
+struck-at : (bs : List ℕ) (ns : List ℤ) (b x : ℕ) → b ≡ bracketsField bs → struckAt bs ns x ≡ anyOf (λ k. placedAt bs ns k x) 0 b
 unfolding tablesIn
-struck-at bs ns b x e = rw e (struck-tabled x (bracketIn bs ns) 0 (byteAt bs 1))
+struck-at bs ns b x e = rw e (struck-tabled x (bracketIn bs ns) 0 (bracketsField bs))
 
-pub references-end : (bs : List ℕ) (k : ℕ) {base b r : ℕ} {old cur : List ℕ} → Passed base 1 b r (λ ns j. refersAt bs ns k j) old cur → b ≤ r → b ≡ byteAt bs 1 → (ns : List ℤ) → Marked base (referencesAt bs ns k) 1 old cur
+pub references-end : (bs : List ℕ) (k : ℕ) {base b r : ℕ} {old cur : List ℕ} → Passed base 1 b r (λ ns j. refersAt bs ns k j) old cur → b ≤ r → b ≡ bracketsField bs → (ns : List ℤ) → Marked base (referencesAt bs ns k) 1 old cur
 references-end bs k {b = b} p h e = passed-end p h (λ ns. referencesAt bs ns k) (λ ns x. references-at bs ns k b x e)
 
-pub struck-end : (bs : List ℕ) {base b k : ℕ} {old cur : List ℕ} → Passed base 0 b k (placedAt bs) old cur → b ≤ k → b ≡ byteAt bs 1 → (ns : List ℤ) → Marked base (struckAt bs ns) 0 old cur
+pub struck-end : (bs : List ℕ) {base b k : ℕ} {old cur : List ℕ} → Passed base 0 b k (placedAt bs) old cur → b ≤ k → b ≡ bracketsField bs → (ns : List ℤ) → Marked base (struckAt bs ns) 0 old cur
 struck-end bs {b = b} p h e = passed-end p h (struckAt bs) (λ ns x. struck-at bs ns b x e)
 
 -- ---- which positions a floater has
@@ -255,7 +255,7 @@ module _ (bs : List ℕ) (k : ℕ) {base : ℕ} {old : List ℕ} {z : Bool} {c :
       (marked-not base 1 (between (bracketIn bs ns k .first) (bracketIn bs ns k .last)) old (sym (place ∙ ap hasPlace (kind ns)) ∙ t))
       (λ y l. own-at bs ns k y)
 
-pub stands-anywhere : (bs : List ℕ) (ns : List ℤ) (k x : ℕ) → isUnlabelledUnknown (bracketIn bs ns k) (bracketIn bs ns k .kind) ≡ true → mayStand (tablesIn bs ns) (bracketIn bs ns k) x ≡ between 1 (byteAt bs 0) x
+pub stands-anywhere : (bs : List ℕ) (ns : List ℤ) (k x : ℕ) → isUnlabelledUnknown (bracketIn bs ns k) (bracketIn bs ns k .kind) ≡ true → mayStand (tablesIn bs ns) (bracketIn bs ns k) x ≡ between 1 (residuesField bs) x
 unfolding mayStand tablesIn
 stands-anywhere bs ns k x t = rw (t, length-tabled)
 
@@ -264,7 +264,7 @@ unfolding mayStand
 stands-by-place bs ns k x t = rw t
 
 module _ (bs : List ℕ) (k : ℕ) {base : ℕ} {old : List ℕ} {u : Bool} (anywhere : (ns : List ℤ) → u ≡ isUnlabelledUnknown (bracketIn bs ns k) (bracketIn bs ns k .kind)) where
-  pub all-residues : {n : ℕ} {cur : List ℕ} → u ≡ true → Marked base (between 1 n) 1 old cur → n ≡ byteAt bs 0 → (ns : List ℤ) → Marked base (mayStand (tablesIn bs ns) (bracketIn bs ns k)) 1 old cur
+  pub all-residues : {n : ℕ} {cur : List ℕ} → u ≡ true → Marked base (between 1 n) 1 old cur → n ≡ residuesField bs → (ns : List ℤ) → Marked base (mayStand (tablesIn bs ns) (bracketIn bs ns k)) 1 old cur
   all-residues {n} t m e ns =
       marked-as (mayStand (tablesIn bs ns) (bracketIn bs ns k)) m (λ y l. stands-anywhere bs ns k y (sym (anywhere ns) ∙ t) ∙ ap (λ i. between 1 i y) (sym e))
 

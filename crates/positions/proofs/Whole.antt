@@ -12,7 +12,7 @@ use lib.Seq.{getD-drop, ext-getD}
 use Rattle.scope.specs.Limits.{copyLimit, rowLimit, positionLimit}
 use Rattle.scope.specs.Lists.{keep, shared, tabled}
 use Rattle.scope.specs.Modifications.{definedBy, referredBy}
-use Rattle.scope.specs.Tables.{byteAt, bracketIn, tablesIn}
+use Rattle.scope.specs.Layout.{bracketIn, tablesIn, bracketsField, residuesField}
 use Rattle.scope.specs.Positions.{between, isUnlabelledUnknown, mayStand, permitted}
 use Rattle.areas.specs.Floats.{listIn, listsIn, FloatersAre, TableIs}
 use Rattle.basics.specs.Choice.{by-test}
@@ -90,19 +90,19 @@ filling-next {bs} {ns} {index} {count} {g} {k} {old} {cur} {new} f l e r =
 outside : (a e x : ℕ) → e < x → between a e x ≡ false
 outside a e x h = ap (λ t. leb a x && t) (lt-leb x e h) ∙ and-false (leb a x)
 
-last-of : (bs : List ℕ) (ns : List ℤ) (k x : ℕ) → Legible bs → k < byteAt bs 1 → byteAt bs 0 + 2 ≤ x → bracketIn bs ns k .last < x
+last-of : (bs : List ℕ) (ns : List ℤ) (k x : ℕ) → Legible bs → k < bracketsField bs → residuesField bs + 2 ≤ x → bracketIn bs ns k .last < x
 unfolding bracketIn
 last-of bs ns k x l h o = omega (arith, l .bracket k h .last)
 
-not-behind : (bs : List ℕ) (ns : List ℤ) (k x : ℕ) → Legible bs → k < byteAt bs 1 → byteAt bs 0 + 2 ≤ x → mayStand (tablesIn bs ns) (bracketIn bs ns k) x ≡ false
+not-behind : (bs : List ℕ) (ns : List ℤ) (k x : ℕ) → Legible bs → k < bracketsField bs → residuesField bs + 2 ≤ x → mayStand (tablesIn bs ns) (bracketIn bs ns k) x ≡ false
 not-behind bs ns k x l h o =
-    by-test (isUnlabelledUnknown (bracketIn bs ns k) (bracketIn bs ns k .kind)) (λ t. stands-anywhere bs ns k x t ∙ outside 1 (byteAt bs 0) x (omega arith))
+    by-test (isUnlabelledUnknown (bracketIn bs ns k) (bracketIn bs ns k .kind)) (λ t. stands-anywhere bs ns k x t ∙ outside 1 (residuesField bs) x (omega arith))
     (λ t.
     stands-by-place bs ns k x t ∙ ap (λ s. s || referencesAt bs ns k x) (own-at bs ns k x ∙ none-of (hasPlace (bracketIn bs ns k .kind)) k h)
-    ∙ references-at bs ns k (byteAt bs 1) x refl
-    ∙ any-none (λ r. refersAt bs ns k r x) 0 (byteAt bs 1) (λ r a b. none-of (shared (definedBy (bracketIn bs ns k)) (referredBy (bracketIn bs ns r))) r (omega arith)))
+    ∙ references-at bs ns k (bracketsField bs) x refl
+    ∙ any-none (λ r. refersAt bs ns k r x) 0 (bracketsField bs) (λ r a b. none-of (shared (definedBy (bracketIn bs ns k)) (referredBy (bracketIn bs ns r))) r (omega arith)))
   where
-    none-of : (s : Bool) (r : ℕ) → r < byteAt bs 1 → (s && between (bracketIn bs ns r .first) (bracketIn bs ns r .last) x) ≡ false
+    none-of : (s : Bool) (r : ℕ) → r < bracketsField bs → (s && between (bracketIn bs ns r .first) (bracketIn bs ns r .last) x) ≡ false
     none-of s r j = ap (λ t. s && t) (outside (bracketIn bs ns r .first) (bracketIn bs ns r .last) x (last-of bs ns r x l j o)) ∙ and-false s
 
 -- ---- the positions that a row keeps
@@ -116,13 +116,13 @@ row-list tab f m test h l o =
     keep-as (λ x. eqb (getD tab (f * positionLimit + x) 0) 1) test 0 positionLimit (λ x a b. ap (λ n. eqb n 1) (h x (omega arith)) ∙ is-one (test x))
     ∙ keep-cut test 0 m positionLimit l (λ x a b. o x (omega arith))
 
-permitted-is : (bs : List ℕ) (ns : List ℤ) (k : ℕ) → permitted (tablesIn bs ns) (bracketIn bs ns k) ≡ keep (standsAt bs ns k) (tabled (λ x. x) 0 (byteAt bs 0 + 2))
+permitted-is : (bs : List ℕ) (ns : List ℤ) (k : ℕ) → permitted (tablesIn bs ns) (bracketIn bs ns k) ≡ keep (standsAt bs ns k) (tabled (λ x. x) 0 (residuesField bs + 2))
 unfolding permitted tablesIn
 permitted-is bs ns k = rw length-tabled
 
-permitted-row : (bs : List ℕ) (ns : List ℤ) (k f : ℕ) (tab : List ℕ) → Legible bs → k < byteAt bs 1 → ((x : ℕ) → x < positionLimit → getD tab (f * positionLimit + x) 0 ≡ cond (standsAt bs ns k x) 1 0) → listIn tab f ≡ permitted (tablesIn bs ns) (bracketIn bs ns k)
+permitted-row : (bs : List ℕ) (ns : List ℤ) (k f : ℕ) (tab : List ℕ) → Legible bs → k < bracketsField bs → ((x : ℕ) → x < positionLimit → getD tab (f * positionLimit + x) 0 ≡ cond (standsAt bs ns k x) 1 0) → listIn tab f ≡ permitted (tablesIn bs ns) (bracketIn bs ns k)
 permitted-row bs ns k f tab l h r =
-    row-list tab f (byteAt bs 0 + 2) (standsAt bs ns k) r (omega (arith, l .few-residues))
+    row-list tab f (residuesField bs + 2) (standsAt bs ns k) r (omega (arith, l .few-residues))
     (λ x o. ap (λ t. t && not (struckAt bs ns x)) (not-behind bs ns k x l h o))
     ∙ sym (permitted-is bs ns k)
 

@@ -5,36 +5,36 @@ use mathlib.Core.List.{List}
 use lib.IntN.{ℤ}
 use lib.ListN.{length}
 use Rattle.scope.specs.Limits.{residueLimit, bracketLimit}
-use Rattle.scope.specs.Tables.{bytesSize, textsAt, byteAt, rowAt, partAt, textFrom}
+use Rattle.scope.specs.Layout.{bytesSize, textsAt, bracketsField, firstField, labelField, lastField, offsetField, partsField, residuesField, textField}
 use Rattle.areas.specs.Bounds.{Bounds}
 use Rattle.brackets.specs.Row.{Row, row}
 
 -- where the label of part j of bracket k begins, behind the part's text, and how long it is
 abbrev pub labelFrom : List ℕ → ℕ → ℕ → ℕ
-labelFrom bs k j = textsAt + textFrom bs (partAt k j) + byteAt bs (partAt k j + 3)
+labelFrom bs k j = textsAt + offsetField bs k j + textField bs k j
 
 abbrev pub labelSize : List ℕ → ℕ → ℕ → ℕ
-labelSize bs k j = byteAt bs (partAt k j + 4)
+labelSize bs k j = labelField bs k j
 
 -- bracket k, with its labels inside the area
 pub record Named (bs : List ℕ) (k : ℕ) : Type 0 where
   pub row : Row bs k
-  pub inside : (j : ℕ) → j < byteAt bs (rowAt k + 4) → labelFrom bs k j + labelSize bs k j ≤ length bs
+  pub inside : (j : ℕ) → j < partsField bs k → labelFrom bs k j + labelSize bs k j ≤ length bs
 
 -- bracket k, with its positions among those of the line
 pub record Placed (bs : List ℕ) (k : ℕ) : Type 0 where
   pub named : Named bs k
-  pub first : byteAt bs (rowAt k + 1) ≤ byteAt bs 0 + 1
-  pub last : byteAt bs (rowAt k + 2) ≤ byteAt bs 0 + 1
+  pub first : firstField bs k ≤ residuesField bs + 1
+  pub last : lastField bs k ≤ residuesField bs + 1
 
 pub record Legible (bs : List ℕ) : Type 0 where
   pub room : bytesSize ≤ length bs
-  pub few-residues : byteAt bs 0 ≤ residueLimit
-  pub few-brackets : byteAt bs 1 ≤ bracketLimit
-  pub bracket : (k : ℕ) → k < byteAt bs 1 → Placed bs k
+  pub few-residues : residuesField bs ≤ residueLimit
+  pub few-brackets : bracketsField bs ≤ bracketLimit
+  pub bracket : (k : ℕ) → k < bracketsField bs → Placed bs k
 
 -- so are tables that keep to their bounds
-named : {bs : List ℕ} {ns : List ℤ} → Bounds bs ns → (k : ℕ) → k < byteAt bs 1 → Named bs k
+named : {bs : List ℕ} {ns : List ℤ} → Bounds bs ns → (k : ℕ) → k < bracketsField bs → Named bs k
 named b k h =
     record {
       row = row b k h;

@@ -11,7 +11,7 @@ use Rattle.scope.specs.declared.grammar.Kind.the-variants.{Unknown, Labile, NTe
 use Rattle.scope.specs.Limits.{rowLimit, positionLimit}
 use Rattle.scope.specs.Modifications.{definedBy, referredBy}
 use Rattle.scope.specs.Lists.{shared, member}
-use Rattle.scope.specs.Tables.{bracketIn, tablesIn}
+use Rattle.scope.specs.Layout.{bracketIn, tablesIn}
 use Rattle.scope.specs.Positions.{between, isPlaced, ownPosition, referredAt, mayStand, struckOut}
 use Rattle.areas.specs.Floats.{TableIs}
 

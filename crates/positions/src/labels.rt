@@ -12,7 +12,7 @@ ghost use lib.IntN.{ℤ};
 ghost use lib.ListN.{length};
 ghost use Rattle.scope.specs.Limits.{partLimit};
 ghost use Rattle.scope.specs.Lists.{same, part, among, shared};
-ghost use Rattle.scope.specs.Tables.{byteAt, rowAt, partIn, bracketIn};
+ghost use Rattle.scope.specs.Layout.{partIn, bracketIn, partsField};
 ghost use Rattle.scope.specs.Modifications.{nameOf, namesOf, definedBy, referredBy};
 ghost use Rattle.brackets.specs.Row.{Row};
 ghost use Rattle.positions.specs.Legible.{labelFrom, labelSize, Named};
@@ -49,7 +49,7 @@ fn label_size(bytes: &[u8], k: usize, j: usize) -> usize
 
 // Whether part j of bracket k has the m bytes from a on as its label.
 fn is_label(bytes: &[u8], a: usize, m: usize, k: usize, j: usize) -> bool
-    requires { ⌜ (Named (now bytes) k) × (j < byteAt (now bytes) (rowAt k + 4)) × (a + m ≤ length (now bytes)) ⌝ }
+    requires { ⌜ (Named (now bytes) k) × (j < partsField (now bytes) k) × (a + m ≤ length (now bytes)) ⌝ }
     ensures { λ r. ⌜ ((ns : List ℤ) → r ≡ among (part a m (now (bytes .entry))) (nameOf (partIn (now (bytes .entry)) ns k j))) ⌝ }
 {
     let n = label_size(bytes, k, j);
@@ -78,7 +78,7 @@ fn has_label(bytes: &[u8], a: usize, m: usize, k: usize) -> bool
 
 // Whether the label of part j of bracket k is one of bracket r.
 fn shares_label(bytes: &[u8], k: usize, j: usize, r: usize) -> bool
-    requires { ⌜ (Named (now bytes) k) × (j < byteAt (now bytes) (rowAt k + 4)) × (Named (now bytes) r) ⌝ }
+    requires { ⌜ (Named (now bytes) k) × (j < partsField (now bytes) k) × (Named (now bytes) r) ⌝ }
     ensures { λ z. ⌜ ((ns : List ℤ) → z ≡ shared (nameOf (partIn (now (bytes .entry)) ns k j)) (namesOf (bracketIn (now (bytes .entry)) ns r))) ⌝ }
 {
     let m = label_size(bytes, k, j);

@@ -15,7 +15,7 @@ ghost use lib.IntN.{ℤ};
 ghost use lib.ListN.{length, take, replicate};
 ghost use Rattle.scope.specs.Limits.{copyLimit, rowLimit};
 ghost use Rattle.scope.specs.Modifications.{copies};
-ghost use Rattle.scope.specs.Tables.{bracketIn, tablesIn};
+ghost use Rattle.scope.specs.Layout.{bracketIn, tablesIn};
 ghost use Rattle.scope.specs.Positions.{floaters};
 ghost use Rattle.areas.specs.Bounds.{Bounds};
 ghost use Rattle.areas.specs.Floats.{FloatersAre};

@@ -16,7 +16,7 @@ ghost use Prim.Native.Nat.{_+_, _<_, _≤_};
 ghost use lib.IntN.{ℤ};
 ghost use lib.ListN.{length};
 ghost use Rattle.scope.specs.Limits.{positionLimit};
-ghost use Rattle.scope.specs.Tables.{byteAt, bracketIn, tablesIn};
+ghost use Rattle.scope.specs.Layout.{bracketIn, tablesIn, bracketsField};
 ghost use Rattle.scope.specs.Positions.{between, isUnlabelledUnknown, mayStand};
 ghost use Rattle.brackets.specs.Row.{Row};
 ghost use Rattle.positions.specs.Legible.{Legible};
@@ -36,7 +36,7 @@ fn put(tab: &mut [u8], base: usize, a: usize, e: usize, v: u8)
 
 // The positions of bracket r are marked if it is a reference to a label of bracket k.
 fn mark_reference(bytes: &[u8], k: usize, r: usize, tab: &mut [u8], base: usize)
-    requires { ⌜ (Legible (now bytes)) × (k < byteAt (now bytes) 1) × (r < byteAt (now bytes) 1) × (base + positionLimit ≤ length (now tab)) ⌝ }
+    requires { ⌜ (Legible (now bytes)) × (k < bracketsField (now bytes)) × (r < bracketsField (now bytes)) × (base + positionLimit ≤ length (now tab)) ⌝ }
     ensures { λ _. ⌜ ((ns : List ℤ) → Marked base (refersAt (now (bytes .entry)) ns k r) 1 (now (tab .entry)) (now (tab .exit))) ⌝ }
 {
     if refers_to(bytes, r, k) {
@@ -48,7 +48,7 @@ fn mark_reference(bytes: &[u8], k: usize, r: usize, tab: &mut [u8], base: usize)
 
 // The positions of every reference to a label of bracket k are marked.
 fn mark_references(bytes: &[u8], k: usize, tab: &mut [u8], base: usize)
-    requires { ⌜ (Legible (now bytes)) × (k < byteAt (now bytes) 1) × (base + positionLimit ≤ length (now tab)) ⌝ }
+    requires { ⌜ (Legible (now bytes)) × (k < bracketsField (now bytes)) × (base + positionLimit ≤ length (now tab)) ⌝ }
     ensures { λ _. ⌜ ((ns : List ℤ) → Marked base (referencesAt (now (bytes .entry)) ns k) 1 (now (tab .entry)) (now (tab .exit))) ⌝ }
 {
     let b = brackets(bytes);
@@ -99,7 +99,7 @@ fn is_unknown(kind: Kind) -> bool
 
 // The positions of bracket k are marked if it has some of its own.
 fn mark_own(bytes: &[u8], k: usize, tab: &mut [u8], base: usize)
-    requires { ⌜ (Legible (now bytes)) × (k < byteAt (now bytes) 1) × (base + positionLimit ≤ length (now tab)) ⌝ }
+    requires { ⌜ (Legible (now bytes)) × (k < bracketsField (now bytes)) × (base + positionLimit ≤ length (now tab)) ⌝ }
     ensures { λ _. ⌜ ((ns : List ℤ) → Marked base (ownAt (now (bytes .entry)) ns k) 1 (now (tab .entry)) (now (tab .exit))) ⌝ }
 {
     if has_place(kind(bytes, k)) {
@@ -111,7 +111,7 @@ fn mark_own(bytes: &[u8], k: usize, tab: &mut [u8], base: usize)
 
 // Every position where bracket k may stand is marked.
 fn mark_all(bytes: &[u8], k: usize, tab: &mut [u8], base: usize)
-    requires { ⌜ (Legible (now bytes)) × (k < byteAt (now bytes) 1) × (base + positionLimit ≤ length (now tab)) ⌝ }
+    requires { ⌜ (Legible (now bytes)) × (k < bracketsField (now bytes)) × (base + positionLimit ≤ length (now tab)) ⌝ }
     ensures { λ _. ⌜ ((ns : List ℤ) → Marked base (mayStand (tablesIn (now (bytes .entry)) ns) (bracketIn (now (bytes .entry)) ns k)) 1 (now (tab .entry)) (now (tab .exit))) ⌝ }
 {
     if is_anywhere(bytes, k) {
@@ -125,7 +125,7 @@ fn mark_all(bytes: &[u8], k: usize, tab: &mut [u8], base: usize)
 
 // The position of bracket k is struck out if it is placed.
 fn strike(bytes: &[u8], k: usize, tab: &mut [u8], base: usize)
-    requires { ⌜ (Legible (now bytes)) × (k < byteAt (now bytes) 1) × (base + positionLimit ≤ length (now tab)) ⌝ }
+    requires { ⌜ (Legible (now bytes)) × (k < bracketsField (now bytes)) × (base + positionLimit ≤ length (now tab)) ⌝ }
     ensures { λ _. ⌜ ((ns : List ℤ) → Marked base (placedAt (now (bytes .entry)) ns k) 0 (now (tab .entry)) (now (tab .exit))) ⌝ }
 {
     if is_placed(bytes, k) {
@@ -157,7 +157,7 @@ pub fn clear_row(tab: &mut [u8], base: usize)
 
 // The row at base has 1 where the floater of bracket k may stand, and 0 elsewhere.
 pub fn fill_row(bytes: &[u8], k: usize, tab: &mut [u8], base: usize)
-    requires { ⌜ (Legible (now bytes)) × (k < byteAt (now bytes) 1) × (base + positionLimit ≤ length (now tab)) ⌝ }
+    requires { ⌜ (Legible (now bytes)) × (k < bracketsField (now bytes)) × (base + positionLimit ≤ length (now tab)) ⌝ }
     ensures { λ _. ⌜ ((ns : List ℤ) → RowIs base (standsAt (now (bytes .entry)) ns k) (now (tab .entry)) (now (tab .exit))) ⌝ }
 {
     clear_row(tab, base);

@@ -27,7 +27,8 @@ use Rattle.scope.specs.Limits.{rowLimit, positionLimit, copyLimit}
 use Rattle.scope.specs.Line.{Bracket}
 use Rattle.scope.specs.Lists.{given, tabled}
 use Rattle.scope.specs.Canonical.{canonical}
-use Rattle.scope.specs.Tables.{Tables, tablesIn}
+use Rattle.scope.specs.Tables.{Tables}
+use Rattle.scope.specs.Layout.{tablesIn}
 use Rattle.scope.specs.Positions.{permittedPositions, rowsOf, Found, lookup}
 use Rattle.scope.specs.Placements.{allowed, takenListing, following}
 use Rattle.scope.specs.Masses.{massOf, total, lacking, daltons}

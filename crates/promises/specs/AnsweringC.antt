@@ -16,7 +16,8 @@ use Rattle.scope.specs.Limits.{copyLimit, positionLimit}
 use Rattle.scope.specs.Lists.{tabled}
 use Rattle.scope.specs.Refusals.{outcome}
 use Rattle.scope.specs.Canonical.{canonical}
-use Rattle.scope.specs.Tables.{Tables, tablesIn}
+use Rattle.scope.specs.Tables.{Tables}
+use Rattle.scope.specs.Layout.{tablesIn}
 use Rattle.scope.specs.Answers.{Said, good, refuses, met, saysRequest, saysBooked, readOutcome, saysOutcome, bytesAfter, numbersAfter, writes, outputAfter, counts, totals, shows, rowsSaid, rowsAfter, looksUp, requests, listingAfter, movedOn}
 use Rattle.basics.specs.Each.{In}
 use Rattle.export.specs.Numbers.{numberOf, left, placeLeft, Judged, Exported}

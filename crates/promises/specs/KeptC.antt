@@ -24,7 +24,8 @@ use Rattle.scope.specs.declared.answers.Listing.{Listing}
 use Rattle.scope.specs.Limits.{copyLimit, positionLimit, rowLimit}
 use Rattle.scope.specs.Line.{Line}
 use Rattle.scope.specs.Lists.{member, laid}
-use Rattle.scope.specs.Tables.{Tables, tablesIn}
+use Rattle.scope.specs.Tables.{Tables}
+use Rattle.scope.specs.Layout.{tablesIn}
 use Rattle.scope.specs.Positions.{permittedPositions, floaters}
 use Rattle.scope.specs.Placements.{freshListing}
 use Rattle.scope.specs.Masses.{sum, ledger, labileMass, daltons}

@@ -12,7 +12,8 @@ use Rattle.scope.specs.declared.answers.Placement.{Placement}
 use Rattle.scope.specs.declared.answers.Listing.{Listing}
 use Rattle.scope.specs.Limits.{copyLimit}
 use Rattle.scope.specs.Lists.{given}
-use Rattle.scope.specs.Tables.{Tables, tablesIn}
+use Rattle.scope.specs.Tables.{Tables}
+use Rattle.scope.specs.Layout.{tablesIn}
 use Rattle.scope.specs.Positions.{permittedPositions}
 use Rattle.scope.specs.Placements.{placements, freshListing}
 use Rattle.scope.specs.Answers.{good, refuses, saysRequest, met, requested, movedOn, requests}

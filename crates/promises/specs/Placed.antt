@@ -15,7 +15,8 @@ use Rattle.scope.specs.declared.answers.Placement.{Placement}
 use Rattle.scope.specs.Limits.{copyLimit}
 use Rattle.scope.specs.Lists.{keep, member}
 use Rattle.scope.specs.Line.{Bracket}
-use Rattle.scope.specs.Tables.{Tables, tablesIn}
+use Rattle.scope.specs.Tables.{Tables}
+use Rattle.scope.specs.Layout.{tablesIn}
 use Rattle.scope.specs.Positions.{isPlaced, struckOut, floaters, mayStand, positions, permitted}
 use Rattle.scope.specs.Answers.{good, saysRequest}
 use Rattle.layout_laws.specs.Laws.{tables-held}

@@ -24,7 +24,8 @@ use Rattle.scope.specs.declared.answers.Lookup.{Lookup}
 use Rattle.scope.specs.Limits.{copyLimit, rowLimit, positionLimit}
 use Rattle.scope.specs.Line.{Bracket, Line}
 use Rattle.scope.specs.Refusals.{outcome}
-use Rattle.scope.specs.Tables.{Tables, tablesOf, bytesOf, numbersOf, tablesIn}
+use Rattle.scope.specs.Tables.{Tables, tablesOf}
+use Rattle.scope.specs.Layout.{bytesOf, numbersOf, tablesIn}
 use Rattle.scope.specs.Lists.{laid, tabled}
 use Rattle.scope.specs.Positions.{isPlaced, floaters, permittedPositions, Found}
 use Rattle.scope.specs.Placements.{freshListing}

@@ -17,7 +17,8 @@ use Rattle.scope.specs.Line.{Line}
 use Rattle.scope.specs.Lists.{laid, tabled}
 use Rattle.scope.specs.Reading.{Reading, stuck, holds, reading}
 use Rattle.scope.specs.Refusals.{refusal4, Due, due, Outcome, accepted, refused, byteRefusals, outcome}
-use Rattle.scope.specs.Tables.{tablesOf, bytesOf, numbersOf}
+use Rattle.scope.specs.Tables.{tablesOf}
+use Rattle.scope.specs.Layout.{bytesOf, numbersOf}
 use Rattle.scope.specs.Answers.{good, refuses, saysRead, tooShort, readOutcome, saysOutcome, bytesAfter, numbersAfter}
 use Rattle.reading_laws.specs.Laws.{placeOf, behind, dues}
 use Rattle.reading_laws.specs.Proved as reads

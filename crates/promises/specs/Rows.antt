@@ -15,7 +15,7 @@ use Rattle.scope.specs.declared.answers.Count.{Count}
 use Rattle.scope.specs.declared.answers.Site.{Site}
 use Rattle.scope.specs.Limits.{rowLimit}
 use Rattle.scope.specs.Lists.{given, laid}
-use Rattle.scope.specs.Tables.{tablesIn}
+use Rattle.scope.specs.Layout.{tablesIn}
 use Rattle.scope.specs.Positions.{permittedPositions, rowsFrom, rowsOf, Found, firstRow, lookup}
 use Rattle.scope.specs.Answers.{good, refuses, saysCount, tooShort, areTables, rowsSaid, rowsAfter, looksUp}
 use Rattle.placement_laws.specs.Terms.{Rising, AllRising}

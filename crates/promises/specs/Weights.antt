@@ -14,7 +14,8 @@ use Rattle.scope.specs.declared.answers.Request.{Request}
 use Rattle.scope.specs.declared.answers.Placement.{Placement}
 use Rattle.scope.specs.declared.answers.Ledger.{Ledger}
 use Rattle.scope.specs.Lists.{laid}
-use Rattle.scope.specs.Tables.{Tables, bytesOf, tablesIn}
+use Rattle.scope.specs.Tables.{Tables}
+use Rattle.scope.specs.Layout.{bytesOf, tablesIn}
 use Rattle.scope.specs.Positions.{floaters, permittedPositions}
 use Rattle.scope.specs.Placements.{allowed}
 use Rattle.scope.specs.Masses.{sum, total, lacking, labileMass, daltons}

@@ -16,7 +16,8 @@ use Rattle.scope.specs.Line.{Line}
 use Rattle.scope.specs.Lists.{laid}
 use Rattle.scope.specs.Refusals.{accepted, refused, outcome}
 use Rattle.scope.specs.Canonical.{canonical}
-use Rattle.scope.specs.Tables.{tablesOf, bytesOf, numbersOf, tablesIn}
+use Rattle.scope.specs.Tables.{tablesOf}
+use Rattle.scope.specs.Layout.{bytesOf, numbersOf, tablesIn}
 use Rattle.scope.specs.Answers.{good, refuses, saysRead, saysWrite, tooShort, areTables, readOutcome, saysOutcome, bytesAfter, numbersAfter, fitting, writes, outputAfter}
 use Rattle.laws.specs.Demands as laws
 use Rattle.laws.specs.Proved.{demands}

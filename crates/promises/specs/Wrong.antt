@@ -13,7 +13,7 @@ use Rattle.scope.specs.Lists.{flat, laid}
 use Rattle.scope.specs.Line.{Line}
 use Rattle.scope.specs.Reading.{element, act, perform, step, run, reading}
 use Rattle.scope.specs.Refusals.{least, refusal1, refusal2, unprintable, refusal3, refusal5, refusal6, refusal7, refusal8, refusal9, refusal10, wronglyLabelled, refusal11, passing, refusal12, firstDue, accepted, refused, outcome}
-use Rattle.scope.specs.Tables.{bytesSize, numbersSize, bytesOf, numbersOf}
+use Rattle.scope.specs.Layout.{bytesSize, numbersSize, bytesOf, numbersOf}
 use Rattle.scope.specs.Answers.{tooShort}
 use Rattle.grammar_laws.specs.Proved as spelled
 use Rattle.promises.specs.Promises.{Accepting, RefusesAll, OneTable}

@@ -12,7 +12,7 @@ use Rattle.scope.specs.declared.answers.Read.{Read}
 use Rattle.scope.specs.declared.answers.Read.the-variants.{Accepted, Refused}
 use Rattle.scope.specs.Line.{Line}
 use Rattle.scope.specs.Refusals.{Outcome, accepted, refused, outcome}
-use Rattle.scope.specs.Tables.{bytesSize, numbersSize}
+use Rattle.scope.specs.Layout.{bytesSize, numbersSize}
 use Rattle.scope.specs.Answers.{Said, good, refuses, saysRead, saysOutcome, tooShort, readOutcome, bytesAfter, numbersAfter}
 use Rattle.reader.specs.ReadSays.{ReadSays, Stored}
 

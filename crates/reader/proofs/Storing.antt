@@ -8,7 +8,7 @@ use lib.ListN.{length, take, drop, replicate, length-append, length-replicate}
 use lib.Seq.{take-at, drop-at}
 use Rattle.scope.specs.Line.{Line}
 use Rattle.scope.specs.Refusals.{accepted, outcome}
-use Rattle.scope.specs.Tables.{bytesSize, numbersSize, bytesOf, numbersOf}
+use Rattle.scope.specs.Layout.{bytesSize, numbersSize, bytesOf, numbersOf}
 use Rattle.scope.specs.Lists.{laid}
 use Rattle.layout_laws.specs.Holds.{Holds}
 use Rattle.layout_laws.specs.Laws.{accepted-held, bytes-fill, numbers-fill, laid-bytes, laid-numbers}

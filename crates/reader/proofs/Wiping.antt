@@ -8,7 +8,7 @@ use lib.ListN.{length, take, drop, replicate, length-drop, length-map, length-re
 use lib.Seq.{take-all, take-at, drop-at, drop-append-le, drop-append-add, drop-drop}
 use Rattle.scope.specs.Line.{Line}
 use Rattle.scope.specs.Lists.{flat, padded, laid}
-use Rattle.scope.specs.Tables.{bytesSize, numbersSize, byteAt, sectionCode, bracketTexts, rows, numberRow, bytesOf, numbersOf}
+use Rattle.scope.specs.Layout.{bytesSize, numbersSize, sectionCode, bracketTexts, rows, numberRow, bytesOf, numbersOf, bracketsField, residuesField}
 use Rattle.layout_laws.specs.Layout.{padded-length, rows-length, number-rows-length}
 use Rattle.layout_laws.specs.Laws.{bytes-fill, numbers-fill}
 use Rattle.accepted_laws.specs.Laws.{accepted-within, accepted-short, accepted-texts}
@@ -88,11 +88,11 @@ module _ (l : Line ℕ) (past : List ℕ) where
       (λ x. x ++ (padded 0 254 (sectionsOf l) ++ (padded 0 2176 (rows 0 (l .brackets)) ++ (padded 0 4096 (flat bracketTexts (l .brackets)) ++ past))))
       (lead (length (l .residues)) (length (l .brackets)) (map (λ r. r .letter) (l .residues)))
 
-  residues-first : byteAt (bytesOf l ++ past) 0 ≡ length (l .residues)
+  residues-first : residuesField (bytesOf l ++ past) ≡ length (l .residues)
   unfolding bytesOf
   residues-first = refl
 
-  brackets-second : byteAt (bytesOf l ++ past) 1 ≡ length (l .brackets)
+  brackets-second : bracketsField (bytesOf l ++ past) ≡ length (l .brackets)
   unfolding bytesOf
   brackets-second = refl
 
@@ -104,16 +104,16 @@ module _ {n : ℕ} {bs : List ℕ} {ns : List ℤ} (w : HoldSome n bs ns) where
   unfolding numbersOf
   numbers-are = sym (take-append-drop numbersSize ns) ∙ ap (λ x. x ++ drop numbersSize ns) (w .holds .numbers)
 
-  residues-are : byteAt bs 0 ≡ length (w .held .residues)
-  residues-are = ap (λ x. byteAt x 0) bytes-are ∙ residues-first (w .held) (drop bytesSize bs)
+  residues-are : residuesField bs ≡ length (w .held .residues)
+  residues-are = ap (λ x. residuesField x) bytes-are ∙ residues-first (w .held) (drop bytesSize bs)
 
-  brackets-are : byteAt bs 1 ≡ length (w .held .brackets)
-  brackets-are = ap (λ x. byteAt x 1) bytes-are ∙ brackets-second (w .held) (drop bytesSize bs)
+  brackets-are : bracketsField bs ≡ length (w .held .brackets)
+  brackets-are = ap (λ x. bracketsField x) bytes-are ∙ brackets-second (w .held) (drop bytesSize bs)
 
   pub line-short : n ≤ 4096
   line-short = let e = w .long in let h = accepted-short (w .text) (w .held) (w .holds .reads) in omega arith
 
-  module _ {r k : ℕ} (e : r ≡ byteAt bs 0) (f : k ≡ byteAt bs 1) where
+  module _ {r k : ℕ} (e : r ≡ residuesField bs) (f : k ≡ bracketsField bs) where
     bytes-wiped :
         {b₁ b₂ b₃ b₄ : List ℕ} → b₁ ≡ wiped 0 0 (2 + r) bs → b₂ ≡ wiped 0 256 r b₁ → b₃ ≡ wiped 0 510 (k * 34) b₂ → b₄ ≡ wiped 0 2686 n b₃
         → b₄ ≡ replicate bytesSize 0 ++ drop bytesSize bs

@@ -7,7 +7,7 @@ use lib.ListN.{length, take, drop, replicate}
 use Rattle.scope.specs.declared.answers.Read.{Read}
 use Rattle.scope.specs.Line.{Line}
 use Rattle.scope.specs.Refusals.{accepted, outcome}
-use Rattle.scope.specs.Tables.{bytesSize, numbersSize, bytesOf, numbersOf}
+use Rattle.scope.specs.Layout.{bytesSize, numbersSize, bytesOf, numbersOf}
 use Rattle.scope.specs.Lists.{laid}
 use Rattle.layout_laws.specs.Holds.{Holds}
 use Rattle.scope.specs.Answers.{saysRead, saysOutcome, readOutcome, bytesAfter, numbersAfter}

@@ -17,7 +17,8 @@ use Rattle.scope.specs.Reading.{refers?}
 use Rattle.scope.specs.Refusals.{textIn}
 use Rattle.scope.specs.Modifications.{isKey, isModification, nameOf, namesOf, copies, definedBy, referredBy}
 use Rattle.scope.specs.Canonical.{size, scoreText, valueText, labelText, partText, partsText, squareText, curlyText, unknownText, ofKind, endingAt, goesOn, sequenceText, canonical}
-use Rattle.scope.specs.Tables.{bareNumber, bareLabel, bareValue, barePart, bareBracket, bareResidue, tablesOf, millionths, massIn, decimalsIn, packed, valueCode, partRow, partRows, scoreOf, scoreCode, bracketRow, bracketTexts, rows, sectionCode, bytesOf, numberRow, numbersOf}
+use Rattle.scope.specs.Tables.{bareNumber, bareLabel, bareValue, barePart, bareBracket, bareResidue, tablesOf, millionths, scoreOf}
+use Rattle.scope.specs.Layout.{massIn, decimalsIn, packed, valueCode, partRow, partRows, scoreCode, bracketRow, bracketTexts, rows, sectionCode, bytesOf, numberRow, numbersOf}
 use Rattle.scope.specs.Positions.{isPlaced, struckOut, floaters, referredAt, mayStand, permitted, permittedPositions, ownPosition, isUnlabelledUnknown, positions}
 use Rattle.scope.specs.Masses.{valueMass, firstMass, massOf, massOr0, modifications, sum, sumℕ, total, lacking, placedAt, putAt, ledger}
 use Rattle.basics.specs.Lists.{map-map, flat-map, all-map, keep-map, keep-same, map-replicate, map-flat}

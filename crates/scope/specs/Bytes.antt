@@ -1,10 +1,18 @@
 -- Bytes, by the names that the other definitions use.
-use Prim.Native.Nat.{ℕ, _-_}
+use Prim.Native.Nat.{ℕ, _-_, _*_}
 use Prim.Native.String.{String, [] as []ˢ, _∷_ as _∷ˢ_}
 use Prim.Native.Char.{code}
 use mathlib.Core.Bool.{Bool, true, false, not, cond, _&&_, _||_}
 use mathlib.Core.List.{List, [], _∷_}
 use lib.Dec.{leb, eqb}
+
+-- how many values a byte has
+abbrev pub byteLimit : ℕ
+byteLimit = 256
+
+-- and two bytes
+abbrev pub wideLimit : ℕ
+wideLimit = byteLimit * byteLimit
 
 -- the bytes of a text in quotes
 abbrev pub bytes : String → List ℕ

@@ -11,6 +11,7 @@ pub mod Modifications
 pub mod Refusals
 pub mod Canonical
 pub mod Tables
+pub mod Layout
 pub mod Positions
 pub mod Placements
 pub mod Masses

@@ -2,7 +2,7 @@
 ghost use mathlib.Core.Path.{_≡_};
 ghost use lib.IntN.{pos};
 ghost use Rattle.scope.specs.Limits.{lineLimit, residueLimit, bracketLimit, partLimit, textLimit, labelLimit, depthLimit, countLimit, copyLimit, rowLimit, positionLimit, sizeLimit, decimalLimit};
-ghost use Rattle.scope.specs.Tables.{bytesSize, numbersSize};
+ghost use Rattle.scope.specs.Layout.{bytesSize, numbersSize};
 use crate::answers::Ledger;
 use crate::answers::Placement;
 
@@ -33,8 +33,10 @@ impl Tables {
     // a part's row
     pub const PART: usize = 7;
 
-    // a bracket's row: six numbers, then its parts
-    pub const ROW: usize = 6 + Self::PARTS * Self::PART;
+    // a bracket's row: its head, then its parts
+    pub const HEAD: usize = 6;
+
+    pub const ROW: usize = Self::HEAD + Self::PARTS * Self::PART;
 
     // where letters, sections, brackets and texts begin in the area of bytes
     pub const LETTERS: usize = 2;
@@ -48,7 +50,10 @@ impl Tables {
     // the fixed sizes of the two areas
     pub const BYTES: usize = Self::TEXTS + Self::LINE;
 
-    pub const NUMBERS: usize = Self::BRACKETS * (Self::PARTS + 1);
+    // a bracket's numbers: the masses of its parts, and its score
+    pub const MASSES: usize = Self::PARTS + 1;
+
+    pub const NUMBERS: usize = Self::BRACKETS * Self::MASSES;
 
     // Nothing read yet.
     pub fn new() -> Self

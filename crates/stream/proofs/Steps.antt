@@ -12,7 +12,7 @@ use lib.ListN.{length, take, drop, getD, replicate, length-append, length-take, 
 use lib.Seq.{take-suc, take-add, drop-drop, take-all, take-append-seam, drop-append-seam, length-take-le}
 use Rattle.basics.specs.Choice.{took, passed}
 use Rattle.scope.specs.Canonical.{decimal}
-use Rattle.scope.specs.Tables.{bytesSize, numbersSize}
+use Rattle.scope.specs.Layout.{bytesSize, numbersSize}
 use Rattle.reader.specs.ReadSays.{Clean}
 use Rattle.writer.specs.Written.{stored, Puts}
 use Rattle.writer.proofs.Storing.{stored-append, stored-whole}

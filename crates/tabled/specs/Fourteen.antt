@@ -17,7 +17,7 @@ use Rattle.scope.specs.Lists.{same, given}
 use Rattle.scope.specs.Refusals.{Due, due, Outcome, accepted, refused, firstDue, refusal1, refusal2, refusal3, judged, outcome}
 use Rattle.scope.specs.Reading.{reading}
 use Rattle.scope.specs.Canonical.{canonical}
-use Rattle.scope.specs.Tables.{bytesSize, numbersSize, bytesOf, numbersOf, tablesIn}
+use Rattle.scope.specs.Layout.{bytesSize, numbersSize, bytesOf, numbersOf, tablesIn}
 use Rattle.scope.specs.Answers.{refuses, saysRead, saysOutcome, sameNumbers, readsTo, areTables}
 use Rattle.basics.specs.Choice.{by-test}
 use Rattle.layout_laws.specs.Laws.{tables-held, laid-bytes, laid-numbers}

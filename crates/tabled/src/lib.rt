@@ -13,7 +13,7 @@ ghost use lib.ListN.{length, take};
 ghost use Rattle.scope.specs.Lists.{same};
 ghost use Rattle.scope.specs.Limits.{lineLimit};
 ghost use Rattle.scope.specs.Refusals.{outcome};
-ghost use Rattle.scope.specs.Tables.{bytesSize, numbersSize, tablesIn};
+ghost use Rattle.scope.specs.Layout.{bytesSize, numbersSize, tablesIn};
 ghost use Rattle.scope.specs.Answers.{sameNumbers, readsTo, areTables};
 ghost use Rattle.areas.specs.Bounds.{Bounds};
 ghost use Rattle.writer.specs.Ranks.{Ordered};

@@ -19,7 +19,7 @@ use Rattle.scope.specs.Line.{Bracket, Residue}
 use Rattle.scope.specs.Canonical.{squareText, curlyText, unknownText, ofKind, endingAt, closedBy, ledBy, opening, ending, isNext, goesOn, sequenceText, canonical}
 use Rattle.scope.specs.Kinds.{kindCode}
 use Rattle.scope.specs.Lists.{keep, flat, tabled, laid}
-use Rattle.scope.specs.Tables.{byteAt, rowAt, sectionIn, sectionsAt, lettersAt, residueIn, bracketIn, tablesIn}
+use Rattle.scope.specs.Layout.{byteAt, sectionIn, sectionsAt, lettersAt, residueIn, bracketIn, tablesIn, bracketsField, lastField, residuesField}
 use Rattle.areas.specs.Bounds.{Bounds}
 use Rattle.writer.specs.Written.{Puts, WholeLine, ceiling}
 use Rattle.writer.specs.Ranks.{rankOf, rank, rankIn, Ready, rankedText, runText, Walks, residueText, Spelt, Clear, Bare, Spells}
@@ -166,7 +166,7 @@ module _ (ks : List (Bracket (Unit {0}))) where
       (keep-twice (λ k. eqb (k .last) i) (λ k. eqb (kindCode (k .kind)) 5) ks
       ∙ keep-same (λ k. eqb (kindCode (k .kind)) 5 && eqb (k .last) i) (λ k. eqb (rank k) (4 + 2 * i)) (λ k. test-range (k .kind) (k .last) i h) ks))
 
-last-is : (bs : List ℕ) (ns : List ℤ) (k : ℕ) → bracketIn bs ns k .last ≡ byteAt bs (rowAt k + 2)
+last-is : (bs : List ℕ) (ns : List ℤ) (k : ℕ) → bracketIn bs ns k .last ≡ lastField bs k
 unfolding bracketIn
 last-is bs ns k = refl
 
@@ -175,7 +175,7 @@ unfolding tablesIn
 c-term-run bs ns b =
     ap (flat squareText)
     (sym
-    (keep-row (λ k. eqb (kindCode (k .kind)) 6) (λ k. eqb (rank k) 2000) (bracketIn bs ns) 0 (byteAt bs 1)
+    (keep-row (λ k. eqb (kindCode (k .kind)) 6) (λ k. eqb (rank k) 2000) (bracketIn bs ns) 0 (bracketsField bs)
     (λ i h l. test-c-term (bracketIn bs ns i .kind) (bracketIn bs ns i .last) (omega (arith, last-is bs ns i, b .few-residues, b .bracket i (omega arith) .last)))))
 
 -- ---- the sequence
@@ -252,7 +252,7 @@ module _ (bs : List ℕ) (ns : List ℤ) (n from : ℕ) (o : List ℕ) (at : ℕ
         let w = s .walks in
         let ks = tablesIn bs ns .brackets in
         let none : runText 2 (5 + 2 * p) ks ≡ [] =
-        none-of bs ns 2 (5 + 2 * p) (byteAt bs 1)
+        none-of bs ns 2 (5 + 2 * p) (bracketsField bs)
         (λ i l e.
         by-test (leb j i)
         (λ t. omega (arith, c i (leb-true j i t) l, h .below, e))
@@ -262,7 +262,7 @@ module _ (bs : List ℕ) (ns : List ℤ) (n from : ℕ) (o : List ℕ) (at : ℕ
         (walks-still (puts-within (omega arith) g) (w .within) (λ i l. omega (arith, w .below i l))))
 
     pub spelt-over :
-        n ≤ p → n ≡ byteAt bs 0 → n ≤ residueLimit
+        n ≤ p → n ≡ residuesField bs → n ≤ residueLimit
         → Walks bs 1016 from 2000 o at (sequenceText (tablesIn bs ns .brackets) 1 (tablesIn bs ns .residues)) out a j
     unfolding tablesIn sequenceText
     spelt-over h e l =
@@ -317,7 +317,7 @@ led : (b : ℕ) (s : List ℕ) (x : ℕ) (u : List ℕ) → b ∷ (s ++ (x ∷ u
 led b [] x u = refl
 led b (y ∷ s) x u = refl
 
-module _ (bs : List ℕ) (ns : List ℤ) {m : ℕ} (e : m ≡ byteAt bs 1) where
+module _ (bs : List ℕ) (ns : List ℤ) {m : ℕ} (e : m ≡ bracketsField bs) where
   no-c-term : ((i : ℕ) → i < m → rankIn bs i < 2000) → runText 2 2000 (tablesIn bs ns .brackets) ≡ []
   unfolding tablesIn
   no-c-term h =
@@ -335,10 +335,10 @@ module _ (bs : List ℕ) (ns : List ℤ) {m : ℕ} (e : m ≡ byteAt bs 1) where
     pub c-term-some : r ≤ 2000 → 2000 ≤ r → dash ∷ runText 2 2000 (tablesIn bs ns .brackets) ≡ ledBy dash (runText 2 2000 (tablesIn bs ns .brackets))
     unfolding tablesIn
     c-term-some l h =
-        let q : byteAt bs 1 ≡ m - 1 + 1 = omega arith in
+        let q : bracketsField bs ≡ m - 1 + 1 = omega arith in
         let k = bracketIn bs ns (m - 1) in
         let y : rankedText 2 2000 k ≡ squareText k = sym (took _ _ _ (eq-eqb (rank k) 2000 (rank-is bs ns (m - 1) ∙ sym f ∙ omega arith))) in
-        let w : runText 2 2000 (tabled (bracketIn bs ns) 0 (byteAt bs 1)) ≡ runText 2 2000 (tabled (bracketIn bs ns) 0 (m - 1)) ++ squareText k =
+        let w : runText 2 2000 (tabled (bracketIn bs ns) 0 (bracketsField bs)) ≡ runText 2 2000 (tabled (bracketIn bs ns) 0 (m - 1)) ++ squareText k =
         ap (λ n. runText 2 2000 (tabled (bracketIn bs ns) 0 n)) q
         ∙ sym (run-one 2 2000 (bracketIn bs ns) (m - 1))
         ∙ ap (λ t. runText 2 2000 (tabled (bracketIn bs ns) 0 (m - 1)) ++ t) y in

@@ -16,7 +16,7 @@ use Rattle.scope.specs.Line.{Part, Bracket}
 use Rattle.scope.specs.Bytes.{bar}
 use Rattle.scope.specs.Canonical.{partText, partsText}
 use Rattle.scope.specs.Lists.{tabled}
-use Rattle.scope.specs.Tables.{byteAt, rowAt, bracketIn, tablesIn}
+use Rattle.scope.specs.Layout.{byteAt, rowAt, bracketIn, tablesIn, bracketsField, kindField, lastField, partsField}
 use Rattle.scope.specs.Kinds.{kindIn}
 use Rattle.areas.specs.Bounds.{Bounds}
 use Rattle.writer.specs.Here.{BracketHere, PartHere}
@@ -63,7 +63,7 @@ unfolding partsText tabled
 no-parts f = refl
 
 -- ---- what lies inside the areas
-pub bracket-here : (bs : List ℕ) (ns : List ℤ) (k : ℕ) → Bounds bs ns → k < byteAt bs 1 → BracketHere bs ns k
+pub bracket-here : (bs : List ℕ) (ns : List ℤ) (k : ℕ) → Bounds bs ns → k < bracketsField bs → BracketHere bs ns k
 bracket-here bs ns k b h =
     let l = b .bracket k h in
     record {
@@ -77,7 +77,7 @@ bracket-here bs ns k b h =
       part = l .part;
     }
 
-pub part-here : (bs : List ℕ) (ns : List ℤ) (k j : ℕ) → BracketHere bs ns k → j < byteAt bs (rowAt k + 4) → PartHere bs ns k j
+pub part-here : (bs : List ℕ) (ns : List ℤ) (k j : ℕ) → BracketHere bs ns k → j < partsField bs k → PartHere bs ns k j
 part-here bs ns k j b h = record { bracket = b; low = omega (arith, b .few-parts); bounds = b .part j h }
 
 -- ---- the rank in a row
@@ -95,7 +95,7 @@ rank-other (suc (suc (suc (suc (suc zero))))) last p q r s t = absurd (s refl)
 rank-other (suc (suc (suc (suc (suc (suc zero)))))) last p q r s t = absurd (t refl)
 rank-other (suc (suc (suc (suc (suc (suc (suc c))))))) last p q r s t = rw (kind-high (suc (suc (suc (suc (suc (suc (suc c))))))) (omega arith))
 
-pub rank-row : {c last r : ℕ} (bs : List ℕ) (k : ℕ) → c ≡ byteAt bs (rowAt k + 0) → last ≡ byteAt bs (rowAt k + 2) → r ≡ rankOf (kindIn c) last → r ≡ rankIn bs k
+pub rank-row : {c last r : ℕ} (bs : List ℕ) (k : ℕ) → c ≡ kindField bs k → last ≡ lastField bs k → r ≡ rankOf (kindIn c) last → r ≡ rankIn bs k
 rank-row bs k e f g = g ∙ ap₂ (λ c last. rankOf (kindIn c) last) (e ∙ ap (byteAt bs) (add-zero (rowAt k))) f
 
 pub rank-is : (bs : List ℕ) (ns : List ℤ) (k : ℕ) → rank (bracketIn bs ns k) ≡ rankIn bs k
@@ -107,13 +107,13 @@ pub record Risen (bs : List ℕ) (m k q : ℕ) : Type 0 where
   pub low : k ≤ m
   pub same : (ns : List ℤ) → orderedb (tablesIn bs ns) ≡ rising q (tabled (bracketIn bs ns) k (m - k))
 
-pub risen-start : (bs : List ℕ) (m : ℕ) → m ≡ byteAt bs 1 → Risen bs m 0 0
+pub risen-start : (bs : List ℕ) (m : ℕ) → m ≡ bracketsField bs → Risen bs m 0 0
 unfolding orderedb tablesIn
 risen-start bs m e =
     record {
       low = omega arith;
       same = λ ns.
-          let p : byteAt bs 1 ≡ m - 0 = omega (arith, e) in
+          let p : bracketsField bs ≡ m - 0 = omega (arith, e) in
           ap (λ n. rising 0 (tabled (bracketIn bs ns) 0 n)) p;
     }
 
@@ -174,6 +174,6 @@ ready bs ns b o =
     record {
       bounds = b;
       sorted = λ i k h l.
-          let a = rising-sorted (bracketIn bs ns) (byteAt bs 1) 0 0 o i k (omega arith) h (omega arith) in
+          let a = rising-sorted (bracketIn bs ns) (bracketsField bs) 0 0 o i k (omega arith) h (omega arith) in
           rw (rank-is bs ns i, rank-is bs ns k) at a;
     }

@@ -12,7 +12,7 @@ use Rattle.basics.specs.Choice.{took, passed, by-test}
 use Rattle.scope.specs.Line.{Bracket}
 use Rattle.scope.specs.Canonical.{squareText, curlyText, countText}
 use Rattle.scope.specs.Lists.{keep, flat, tabled}
-use Rattle.scope.specs.Tables.{byteAt, rowAt, bracketIn, tablesIn}
+use Rattle.scope.specs.Layout.{bracketIn, tablesIn, bracketsField, countField}
 use Rattle.basics.specs.Lists.{keep-append, flat-append}
 use Rattle.writer.specs.Written.{Puts}
 use Rattle.writer.specs.Ranks.{rank, rankIn, Ready, textAs, rankedText, runText, Walks}
@@ -21,7 +21,7 @@ use Rattle.writer.proofs.RankLaws.{rank-is, tabled-more}
 
 -- ---- one bracket
 module _ (bs : List ℕ) (ns : List ℤ) (k : ℕ) where
-  pub as-unknown : {shape n : ℕ} → shape ≡ 0 → n ≡ byteAt bs (rowAt k + 3) → squareText (bracketIn bs ns k) ++ countText n ≡ textAs shape (bracketIn bs ns k)
+  pub as-unknown : {shape n : ℕ} → shape ≡ 0 → n ≡ countField bs k → squareText (bracketIn bs ns k) ++ countText n ≡ textAs shape (bracketIn bs ns k)
   unfolding bracketIn
   as-unknown e f = rw (e, f)
 
@@ -82,14 +82,14 @@ none-of bs ns shape q n h =
 
 -- ---- the walk over the brackets for one rank
 pub record Running (bs : List ℕ) (ns : List ℤ) (m from q shape : ℕ) (o : List ℕ) (at : ℕ) (out : List ℕ) (j a : ℕ) : Type 0 where
-  pub count : m ≡ byteAt bs 1
+  pub count : m ≡ bracketsField bs
   pub forth : from ≤ j
   pub within : j ≤ m
   pub puts : Puts (800 * (j - from)) o at (runText shape q (tabled (bracketIn bs ns) 0 j)) out a
   pub below : (i : ℕ) → i < j → rankIn bs i < q + 1
 
 module _ (bs : List ℕ) (ns : List ℤ) (m from q shape : ℕ) (o : List ℕ) (at : ℕ) where
-  pub run-start : m ≡ byteAt bs 1 → from ≤ byteAt bs 1 → ((i : ℕ) → i < from → rankIn bs i < q) → Running bs ns m from q shape o at o from at
+  pub run-start : m ≡ bracketsField bs → from ≤ bracketsField bs → ((i : ℕ) → i < from → rankIn bs i < q) → Running bs ns m from q shape o at o from at
   run-start e h b =
       let none = none-of bs ns shape q from (λ i l w. omega (arith, b i l, w)) in
       record {
@@ -119,7 +119,7 @@ module _ (bs : List ℕ) (ns : List ℤ) (m from q shape : ℕ) (o : List ℕ) (
               rw (e, w) at z);
         }
 
-    walked : (j + (m - j) ≡ byteAt bs 1) → runText shape q (tabled (bracketIn bs ns) 0 (j + (m - j))) ≡ runText shape q (tabled (bracketIn bs ns) 0 j)
+    walked : (j + (m - j) ≡ bracketsField bs) → runText shape q (tabled (bracketIn bs ns) 0 (j + (m - j))) ≡ runText shape q (tabled (bracketIn bs ns) 0 j)
         → Walks bs 0 from (q + 1) o at (runText shape q (tablesIn bs ns .brackets)) out a j
     unfolding tablesIn
     walked c e =

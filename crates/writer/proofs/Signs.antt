@@ -11,7 +11,7 @@ use mir.Val.{Fits, SFits, toZ, ofZ}
 use mir.Facts.{toZ-ofZ}
 use borrow.Author.Needs.{sfits-of}
 use borrow.Author.Tests.{le-ltb}
-use Rattle.scope.specs.Tables.{isNegative}
+use Rattle.scope.specs.Layout.{isNegative}
 
 pub below-zero : (m : ℤ) → ltZ m (pos 0) ≡ isNegative m
 below-zero (pos n) = le-ltb n 0 (omega arith)

@@ -3,14 +3,14 @@ use mathlib.Core.Path.{_≡_}
 use mathlib.Core.List.{List, _++_}
 use Prim.Native.Nat.{ℕ, _+_, _≤_, _<_}
 use native.Mathlib.Omega.{arith}
-use Rattle.scope.specs.Tables.{byteAt}
+use Rattle.scope.specs.Layout.{bracketsField}
 use Rattle.writer.specs.Written.{Puts}
 use Rattle.writer.specs.Ranks.{rankIn, Walks}
 use Rattle.writer.proofs.Storing.{puts-of, puts-within, puts-join}
 
 module _ {bs : List ℕ} where
   pub walks-still :
-      {n from q : ℕ} {o : List ℕ} {at : ℕ} {t left : List ℕ} {place : ℕ} → Puts n o at t left place → from ≤ byteAt bs 1
+      {n from q : ℕ} {o : List ℕ} {at : ℕ} {t left : List ℕ} {place : ℕ} → Puts n o at t left place → from ≤ bracketsField bs
       → ((i : ℕ) → i < from → rankIn bs i < q) → Walks bs n from q o at t left place from
   walks-still p h b = record { puts = puts-within (omega arith) p; forth = omega arith; within = h; below = b }
 

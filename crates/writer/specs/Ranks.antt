@@ -10,7 +10,7 @@ use Rattle.scope.specs.declared.grammar.Kind.the-variants.{Unknown, Labile, NTe
 use Rattle.scope.specs.Line.{Bracket, Residue, Line}
 use Rattle.scope.specs.Lists.{keep, flat, tabled}
 use Rattle.scope.specs.Canonical.{unknownText, curlyText, squareText, endingAt, opening, ending, goesOn, sequenceText}
-use Rattle.scope.specs.Tables.{byteAt, rowAt, sectionsAt, residueIn, tablesIn}
+use Rattle.scope.specs.Layout.{byteAt, sectionsAt, residueIn, tablesIn, bracketsField, kindField, lastField}
 use Rattle.scope.specs.Kinds.{kindIn}
 use Rattle.areas.specs.Bounds.{Bounds}
 use Rattle.writer.specs.Written.{Puts}
@@ -19,12 +19,12 @@ unfoldable pub use Rattle.order_laws.specs.Ranks.{rising, orderedb}
 
 -- ---- the same in the areas
 abbrev pub rankIn : List ℕ → ℕ → ℕ
-rankIn bs k = rankOf (kindIn (byteAt bs (rowAt k))) (byteAt bs (rowAt k + 2))
+rankIn bs k = rankOf (kindIn (kindField bs k)) (lastField bs k)
 
 -- tables within bounds whose brackets are in order
 pub record Ready (bs : List ℕ) (ns : List ℤ) : Type 0 where
   pub bounds : Bounds bs ns
-  pub sorted : (i k : ℕ) → i ≤ k → k < byteAt bs 1 → rankIn bs i ≤ rankIn bs k
+  pub sorted : (i k : ℕ) → i ≤ k → k < bracketsField bs → rankIn bs i ≤ rankIn bs k
 
 -- ---- runs of brackets
 -- how a bracket is written: 0 of unknown position, 1 labile, 2 any other
@@ -44,7 +44,7 @@ runText shape q ks = flat (textAs shape) (keep (λ k. eqb (rank k) q) ks)
 pub record Walks (bs : List ℕ) (more from q : ℕ) (o : List ℕ) (at : ℕ) (t left : List ℕ) (place next : ℕ) : Type 0 where
   pub puts : Puts (800 * (next - from) + more) o at t left place
   pub forth : from ≤ next
-  pub within : next ≤ byteAt bs 1
+  pub within : next ≤ bracketsField bs
   pub below : (i : ℕ) → i < next → rankIn bs i < q
 
 -- ---- residues
@@ -66,7 +66,7 @@ pub record Spelt (bs : List ℕ) (ns : List ℤ) (n from : ℕ) (o : List ℕ) (
 
 -- no bracket from bracket j on has a rank below q
 abbrev pub Clear : List ℕ → ℕ → ℕ → Type 0
-Clear bs j q = (k : ℕ) → j ≤ k → k < byteAt bs 1 → q ≤ rankIn bs k
+Clear bs j q = (k : ℕ) → j ≤ k → k < bracketsField bs → q ≤ rankIn bs k
 
 -- the residue with index p, of n, stands by itself, and the rank of its brackets is below q
 pub record Bare (bs : List ℕ) (p n q : ℕ) : Type 0 where

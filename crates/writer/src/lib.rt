@@ -11,7 +11,7 @@ ghost use Rattle.scope.specs.Canonical.{decimalUpTo, decimal, lastDigits, decim
 ghost use Rattle.scope.specs.Lists.{given, part, tabled};
 ghost use Rattle.scope.specs.Keys.{written, keyIn};
 ghost use Rattle.scope.specs.Limits.{decimalLimit, residueLimit, bracketLimit, partLimit};
-ghost use Rattle.scope.specs.Tables.{isNegative, bytesSize, textsAt, textFrom, partAt, numbersSize, numberRowSize, scoreIn, labelIn, valueIn, partIn, byteAt, rowAt, sectionIn, lettersAt, sectionsAt, residueIn, bracketIn, tablesIn};
+ghost use Rattle.scope.specs.Layout.{isNegative, bytesSize, textsAt, numbersSize, numberRowSize, scoreIn, labelIn, valueIn, partIn, byteAt, sectionIn, lettersAt, sectionsAt, residueIn, bracketIn, tablesIn, bracketsField, massField, offsetField, partsField, residuesField};
 ghost use Rattle.scope.specs.Kinds.{kindIn};
 ghost use Rattle.areas.specs.Bounds.{Small, Bounds};
 ghost use Rattle.writer.specs.Written.{Puts, ceiling, lineMost, numberOf, signText, numberText, scoredText, nextText, WholeLine};
@@ -124,15 +124,15 @@ pub fn magnitude(m: i64) -> u64
 // Whether number j of bracket k is negative.
 fn minus_at(numbers: &[i64], k: usize, j: usize) -> bool
     requires { ⌜ (numbersSize ≤ length (now numbers)) × (k < bracketLimit) × (j < numberRowSize) ⌝ }
-    ensures { λ r. ⌜ r ≡ isNegative (getD (now (numbers .entry)) (k * numberRowSize + j) (pos 0)) ⌝ }
+    ensures { λ r. ⌜ r ≡ isNegative (massField (now (numbers .entry)) k j) ⌝ }
 {
     areas::number(numbers, k, j) < 0
 }
 
 // The digits of number j of bracket k, which has d decimals.
 fn digits_at(numbers: &[i64], k: usize, j: usize, d: usize) -> u64
-    requires { ⌜ (numbersSize ≤ length (now numbers)) × (k < bracketLimit) × (j < numberRowSize) × (d ≤ decimalLimit) × Small (getD (now numbers) (k * numberRowSize + j) (pos 0)) ⌝ }
-    ensures { λ r. ⌜ r ≡ natAbs (getD (now (numbers .entry)) (k * numberRowSize + j) (pos 0)) / 10 ^ (decimalLimit - d) ⌝ }
+    requires { ⌜ (numbersSize ≤ length (now numbers)) × (k < bracketLimit) × (j < numberRowSize) × (d ≤ decimalLimit) × Small (massField (now numbers) k j) ⌝ }
+    ensures { λ r. ⌜ r ≡ natAbs (massField (now (numbers .entry)) k j) / 10 ^ (decimalLimit - d) ⌝ }
 {
     magnitude(areas::number(numbers, k, j)) / power(6 - d)
 }
@@ -253,7 +253,7 @@ fn put_refused_key(c: usize, out: &mut [u8], at: usize) -> usize
 // Where the text of part j of bracket k begins.
 fn text_from(bytes: &[u8], k: usize, j: usize) -> usize
     requires { ⌜ (bytesSize ≤ length (now bytes)) × (k < bracketLimit) × (j < partLimit) ⌝ }
-    ensures { λ r. ⌜ r ≡ textsAt + textFrom (now (bytes .entry)) (partAt k j) ⌝ }
+    ensures { λ r. ⌜ r ≡ textsAt + offsetField (now (bytes .entry)) k j ⌝ }
 {
     let low = areas::wide(areas::part_byte(bytes, k, j, 5));
     let high = areas::wide(areas::part_byte(bytes, k, j, 6));
@@ -348,7 +348,7 @@ fn put_next_part(
 // The parts of bracket k, split by `|`.
 fn put_parts(bytes: &[u8], numbers: &[i64], k: usize, out: &mut [u8], at: usize) -> usize
     requires { ⌜ BracketHere (now bytes) (now numbers) k × (at + 768 ≤ ceiling) ⌝ }
-    ensures { λ r. ⌜ Puts 768 (now (out .entry)) at (partsText (tabled (partIn (now (bytes .entry)) (now (numbers .entry)) k) 0 (byteAt (now (bytes .entry)) (rowAt k + 4)))) (now (out .exit)) r ⌝ }
+    ensures { λ r. ⌜ Puts 768 (now (out .entry)) at (partsText (tabled (partIn (now (bytes .entry)) (now (numbers .entry)) k) 0 (partsField (now (bytes .entry)) k))) (now (out .exit)) r ⌝ }
 {
     let n = areas::wide(areas::bracket_byte(bytes, k, 4));
     let mut j = 0;
@@ -429,7 +429,7 @@ fn rank_at(bytes: &[u8], k: usize) -> usize
 
 // Whether the brackets are in the order of a line.
 pub fn in_order(bytes: &[u8]) -> bool
-    requires { ⌜ (bytesSize ≤ length (now bytes)) × (byteAt (now bytes) 1 ≤ bracketLimit) ⌝ }
+    requires { ⌜ (bytesSize ≤ length (now bytes)) × (bracketsField (now bytes) ≤ bracketLimit) ⌝ }
     ensures { λ r. ⌜ ((ns : List ℤ) → r ≡ orderedb (tablesIn (now (bytes .entry)) ns)) ⌝ }
 {
     let m = areas::brackets(bytes);
@@ -482,7 +482,7 @@ fn put_run(
     out: &mut [u8],
     at: usize,
 ) -> Pen
-    requires { ⌜ Ready (now bytes) (now numbers) × (from ≤ byteAt (now bytes) 1) × ((i : ℕ) → i < from → rankIn (now bytes) i < q) × (at + 60000 ≤ ceiling) × (q ≤ 2000) ⌝ }
+    requires { ⌜ Ready (now bytes) (now numbers) × (from ≤ bracketsField (now bytes)) × ((i : ℕ) → i < from → rankIn (now bytes) i < q) × (at + 60000 ≤ ceiling) × (q ≤ 2000) ⌝ }
     ensures { λ r. ⌜ Walks (now (bytes .entry)) 0 from (q + 1) (now (out .entry)) at (runText shape q (tablesIn (now (bytes .entry)) (now (numbers .entry)) .brackets)) (now (out .exit)) (r .place) (r .next) ⌝ }
 {
     let m = areas::brackets(bytes);
@@ -562,7 +562,7 @@ fn put_range_end(
     out: &mut [u8],
     at: usize,
 ) -> Pen
-    requires { ⌜ Ready (now bytes) (now numbers) × (from ≤ byteAt (now bytes) 1) × ((k : ℕ) → k < from → rankIn (now bytes) k < 4 + 2 * i) × (at + 60001 ≤ ceiling) × (i ≤ residueLimit) ⌝ }
+    requires { ⌜ Ready (now bytes) (now numbers) × (from ≤ bracketsField (now bytes)) × ((k : ℕ) → k < from → rankIn (now bytes) k < 4 + 2 * i) × (at + 60001 ≤ ceiling) × (i ≤ residueLimit) ⌝ }
     ensures { λ r. ⌜ Walks (now (bytes .entry)) 1 from (5 + 2 * i) (now (out .entry)) at (shutRound ∷ runText 2 (4 + 2 * i) (tablesIn (now (bytes .entry)) (now (numbers .entry)) .brackets)) (now (out .exit)) (r .place) (r .next) ⌝ }
 {
     let a = put(out, at, b')');
@@ -579,7 +579,7 @@ fn put_ending(
     out: &mut [u8],
     at: usize,
 ) -> Pen
-    requires { ⌜ Ready (now bytes) (now numbers) × (from ≤ byteAt (now bytes) 1) × ((k : ℕ) → k < from → rankIn (now bytes) k < 4 + 2 * i) × (at + 60001 ≤ ceiling) × (i ≤ residueLimit) ⌝ }
+    requires { ⌜ Ready (now bytes) (now numbers) × (from ≤ bracketsField (now bytes)) × ((k : ℕ) → k < from → rankIn (now bytes) k < 4 + 2 * i) × (at + 60001 ≤ ceiling) × (i ≤ residueLimit) ⌝ }
     ensures { λ r. ⌜ Walks (now (bytes .entry)) 1 from (5 + 2 * i) (now (out .entry)) at (ending (sectionIn c) (runText 2 (4 + 2 * i) (tablesIn (now (bytes .entry)) (now (numbers .entry)) .brackets))) (now (out .exit)) (r .place) (r .next) ⌝ }
 {
     if c == 1 {
@@ -618,7 +618,7 @@ fn put_residue(
     out: &mut [u8],
     at: usize,
 ) -> Pen
-    requires { ⌜ Ready (now bytes) (now numbers) × (from ≤ byteAt (now bytes) 1) × ((k : ℕ) → k < from → rankIn (now bytes) k < 5 + 2 * p) × (at + 120000 ≤ ceiling) × (n ≡ byteAt (now bytes) 0) × (p < n) ⌝ }
+    requires { ⌜ Ready (now bytes) (now numbers) × (from ≤ bracketsField (now bytes)) × ((k : ℕ) → k < from → rankIn (now bytes) k < 5 + 2 * p) × (at + 120000 ≤ ceiling) × (n ≡ residuesField (now bytes)) × (p < n) ⌝ }
     ensures { λ r. ⌜ Walks (now (bytes .entry)) 4 from (5 + 2 * (p + 1)) (now (out .entry)) at (residueText (tablesIn (now (bytes .entry)) (now (numbers .entry)) .brackets) (p + 1) (residueIn (now (bytes .entry)) p) (tabled (residueIn (now (bytes .entry))) (p + 1) (n - (p + 1)))) (now (out .exit)) (r .place) (r .next) ⌝ }
 {
     let c = section_at(bytes, p);
@@ -636,7 +636,7 @@ fn put_residue(
 
 // The rank of bracket j, or that of the C-terminus where there is no such bracket.
 fn next_rank(bytes: &[u8], j: usize) -> usize
-    requires { ⌜ (bytesSize ≤ length (now bytes)) × (byteAt (now bytes) 1 ≤ bracketLimit) ⌝ }
+    requires { ⌜ (bytesSize ≤ length (now bytes)) × (bracketsField (now bytes) ≤ bracketLimit) ⌝ }
     ensures { λ r. ⌜ ((ns : List ℤ) → Ready (now (bytes .entry)) ns → Clear (now (bytes .entry)) j r) ⌝ }
 {
     if j < areas::brackets(bytes) {
@@ -674,7 +674,7 @@ fn put_letters(bytes: &[u8], p: usize, n: usize, q: usize, out: &mut [u8], at: u
 
 // The sequence.
 fn put_sequence(bytes: &[u8], numbers: &[i64], from: usize, out: &mut [u8], at: usize) -> Pen
-    requires { ⌜ Ready (now bytes) (now numbers) × (from ≤ byteAt (now bytes) 1) × ((k : ℕ) → k < from → rankIn (now bytes) k < 3) × (at + 200000 ≤ ceiling) ⌝ }
+    requires { ⌜ Ready (now bytes) (now numbers) × (from ≤ bracketsField (now bytes)) × ((k : ℕ) → k < from → rankIn (now bytes) k < 3) × (at + 200000 ≤ ceiling) ⌝ }
     ensures { λ r. ⌜ Walks (now (bytes .entry)) 1016 from 2000 (now (out .entry)) at (sequenceText (tablesIn (now (bytes .entry)) (now (numbers .entry)) .brackets) 1 (tablesIn (now (bytes .entry)) (now (numbers .entry)) .residues)) (now (out .exit)) (r .place) (r .next) ⌝ }
 {
     let n = areas::residues(bytes);
@@ -705,7 +705,7 @@ fn put_closed(
     out: &mut [u8],
     at: usize,
 ) -> Pen
-    requires { ⌜ Ready (now bytes) (now numbers) × (from ≤ byteAt (now bytes) 1) × ((i : ℕ) → i < from → rankIn (now bytes) i < q) × (at + 60001 ≤ ceiling) × (q ≤ 2000) ⌝ }
+    requires { ⌜ Ready (now bytes) (now numbers) × (from ≤ bracketsField (now bytes)) × ((i : ℕ) → i < from → rankIn (now bytes) i < q) × (at + 60001 ≤ ceiling) × (q ≤ 2000) ⌝ }
     ensures { λ r. ⌜ Walks (now (bytes .entry)) 1 from (q + 1) (now (out .entry)) at (closedBy (runText shape q (tablesIn (now (bytes .entry)) (now (numbers .entry)) .brackets)) closer) (now (out .exit)) (r .place) (r .next) ⌝ }
 {
     let pen = put_run(bytes, numbers, from, q, shape, out, at);
@@ -720,7 +720,7 @@ fn put_closed(
 
 // `-` and the C-terminal brackets, where there are any.
 fn put_c_term(bytes: &[u8], numbers: &[i64], from: usize, out: &mut [u8], at: usize) -> usize
-    requires { ⌜ Ready (now bytes) (now numbers) × (from ≤ byteAt (now bytes) 1) × ((i : ℕ) → i < from → rankIn (now bytes) i < 2000) × (at + 60001 ≤ ceiling) ⌝ }
+    requires { ⌜ Ready (now bytes) (now numbers) × (from ≤ bracketsField (now bytes)) × ((i : ℕ) → i < from → rankIn (now bytes) i < 2000) × (at + 60001 ≤ ceiling) ⌝ }
     ensures { λ r. ⌜ Puts 60000 (now (out .entry)) at (ledBy dash (runText 2 2000 (tablesIn (now (bytes .entry)) (now (numbers .entry)) .brackets))) (now (out .exit)) r ⌝ }
 {
     let m = areas::brackets(bytes);

@@ -1,6 +1,6 @@
 -- `brackets::count` meets its contract. Assumes nothing.
 use mathlib.Core.Path.{_∙_}
-use Rattle.scope.specs.Tables.{bracketIn}
+use Rattle.scope.specs.Layout.{bracketIn}
 use borrow.Author.Needs.{needs}
 use Rattle.brackets.proofs.count.Statement.{statement}
 use Rattle.brackets.proofs.count.Tie as tie

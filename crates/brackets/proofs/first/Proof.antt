@@ -1,6 +1,6 @@
 -- `brackets::first` meets its contract. Assumes nothing.
 use mathlib.Core.Path.{_∙_}
-use Rattle.scope.specs.Tables.{bracketIn}
+use Rattle.scope.specs.Layout.{bracketIn}
 use borrow.Author.Needs.{needs}
 use Rattle.brackets.proofs.first.Statement.{statement}
 use Rattle.brackets.proofs.first.Tie as tie

@@ -6,7 +6,7 @@ use mathlib.Core.List.{List}
 use lib.IntN.{ℤ}
 use denote.Ref.{now}
 use Rattle.scope.specs.Line.{Bracket}
-use Rattle.scope.specs.Tables.{bracketIn}
+use Rattle.scope.specs.Layout.{bracketIn}
 use borrow.Author.Needs.{needs}
 use Rattle.brackets.proofs.is_modification.Statement.{statement}
 use Rattle.brackets.proofs.is_modification.Tie as tie

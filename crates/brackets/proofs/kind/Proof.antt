@@ -2,7 +2,7 @@
 use mathlib.Core.Path.{_∙_, ap}
 use denote.Ref.{now}
 use native.Mathlib.Nat.{add-zero}
-use Rattle.scope.specs.Tables.{byteAt, rowAt, bracketIn}
+use Rattle.scope.specs.Layout.{byteAt, rowAt, bracketIn}
 use Rattle.scope.specs.Kinds.{kindIn}
 use borrow.Author.Needs.{needs}
 use Rattle.brackets.proofs.kind.Statement.{statement}

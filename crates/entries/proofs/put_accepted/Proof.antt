@@ -1,6 +1,6 @@
 use mathlib.Core.List.{[], _∷_}
 use Rattle.scope.specs.Canonical.{canonical}
-use Rattle.scope.specs.Tables.{tablesIn}
+use Rattle.scope.specs.Layout.{tablesIn}
 use Rattle.scope.specs.Register.{totalText}
 use Rattle.entries.specs.Entry.{countFields}
 use Rattle.writer.proofs.Storing.{puts-of, puts-join, puts-exact}

@@ -46,7 +46,7 @@ use denote.Triple.Clauses.{ensured, lasts}
 use denote.Exit.{yes}
 use Rattle.scope.specs.Limits.{positionLimit}
 use Rattle.scope.specs.Lists.{laid}
-use Rattle.scope.specs.Tables.{tablesIn}
+use Rattle.scope.specs.Layout.{tablesIn}
 use Rattle.scope.specs.Positions.{rowsFrom}
 use Rattle.scope.specs.Answers.{saysCount, rowsSaid, rowsAfter}
 use Rattle.areas.specs.Floats.{listsIn, Sized}

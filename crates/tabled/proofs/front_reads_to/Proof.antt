@@ -3,7 +3,7 @@ use mathlib.Core.Path.{ap, _∙_}
 use denote.Ref.{now}
 use lib.ListN.{take}
 use Rattle.scope.specs.Refusals.{outcome}
-use Rattle.scope.specs.Tables.{bytesSize, numbersSize}
+use Rattle.scope.specs.Layout.{bytesSize, numbersSize}
 use Rattle.scope.specs.Answers.{readsTo}
 use Rattle.tabled.proofs.Laws.{front-part}
 use borrow.Author.Needs.{needs}

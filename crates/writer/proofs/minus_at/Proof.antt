@@ -1,5 +1,5 @@
 use mathlib.Core.Path.{ap, _∙_}
-use Rattle.scope.specs.Tables.{isNegative}
+use Rattle.scope.specs.Layout.{isNegative}
 use Rattle.writer.proofs.Signs.{tested}
 use borrow.Author.Needs.{needs}
 use Rattle.writer.proofs.minus_at.Statement.{statement}

@@ -1,4 +1,4 @@
-use Rattle.scope.specs.Tables.{bracketIn}
+use Rattle.scope.specs.Layout.{bracketIn}
 use Rattle.writer.proofs.Storing.{puts-join}
 use borrow.Author.Needs.{needs}
 use Rattle.writer.proofs.put_between.Statement.{statement}

@@ -4,7 +4,7 @@ use mathlib.Core.Path.{_≡_, ap, _∙_}
 use native.Mathlib.Omega.{arith}
 use Rattle.scope.specs.Canonical.{partsText}
 use Rattle.scope.specs.Lists.{tabled}
-use Rattle.scope.specs.Tables.{partIn}
+use Rattle.scope.specs.Layout.{partIn}
 use Rattle.writer.specs.Written.{Puts}
 use Rattle.writer.proofs.Storing.{puts-none, puts-of, puts-within, puts-join, puts-length}
 use Rattle.writer.proofs.RankLaws.{no-parts, parts-more, part-here}

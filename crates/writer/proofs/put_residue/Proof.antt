@@ -1,6 +1,6 @@
 use Prim.Native.Nat.{_+_, _-_}
 use Rattle.scope.specs.Lists.{tabled}
-use Rattle.scope.specs.Tables.{residueIn, tablesIn}
+use Rattle.scope.specs.Layout.{residueIn, tablesIn}
 use mathlib.Core.Path.{sym, _∙_}
 use native.Mathlib.Omega.{arith}
 use Rattle.writer.proofs.Walking.{walks-of, walks-up, walks-after, walks-then}

@@ -51,10 +51,10 @@ use Rattle.listing.proofs.step as step
 use Rattle.listing.proofs.step.Symbol as step-def
 use Rattle.listing.proofs.step.Symbol.{name as #listing·step}
 use Rattle.listing.proofs.step.Met as step-thm
-use Rattle.export.proofs.handed.request_number as number
-use Rattle.export.proofs.handed.request_number.Symbol as number-def
-use Rattle.export.proofs.handed.request_number.Symbol.{name as #export·handed·request-number}
-use Rattle.export.proofs.handed.request_number.Met as number-thm
+use Rattle.export.proofs.request_number as number
+use Rattle.export.proofs.request_number.Symbol as number-def
+use Rattle.export.proofs.request_number.Symbol.{name as #export·request-number}
+use Rattle.export.proofs.request_number.Met as number-thm
 use Rattle.export.proofs.handed.hwemiduk_next.Key.{name as #export·handed·hwemiduk-next}
 use Rattle.export.proofs.handed.hwemiduk_next as next
 use Rattle.export.proofs.handed.hwemiduk_next.Statement as stated
@@ -137,7 +137,7 @@ module _ {M : Type 1} (𝓤 : URA M) (H : Heap 𝓤) (A : Atoms 𝓤) (W : Given
   said-number : (r : Request) (n : ℕ) → ent 𝓤 (ensured 𝓤 H A number.ended (number.clauses 𝓤 H A mem run) tt (r, tt) tt n) (fact 𝓤 (n ≡ numberOf (saysRequest r)))
   said-number r n = exE 𝓤 _ (λ ws. snd∗ 𝓤 (sem 𝓤 H A (lasts number.ended tt (r, tt) ws)) (fact 𝓤 (n ≡ numberOf (saysRequest r))))
 
-  module _ (C : Calls 𝓤 H) (Λ : Loops 𝓤 H) (fm : FmC 𝓤 H (W .laws) C) (known-step : Triple 𝓤 (C #listing·step) (Step 𝓤 H A mem run)) (known-number : Triple 𝓤 (C #export·handed·request-number) (Number 𝓤 H A mem run)) where
+  module _ (C : Calls 𝓤 H) (Λ : Loops 𝓤 H) (fm : FmC 𝓤 H (W .laws) C) (known-step : Triple 𝓤 (C #listing·step) (Step 𝓤 H A mem run)) (known-number : Triple 𝓤 (C #export·request-number) (Number 𝓤 H A mem run)) where
     walk : ent 𝓤 (onEntry 𝓤 H A next.signature (κ₁, (κ₂, (κ, tt))) (q₁, (q₂, (q, tt))) a at) (WpFn 𝓤 H C Λ code.function (v₁ ∷ v₂ ∷ vptr b o ∷ []) Post)
     walk =
         qed W (tokens ∷ ‵ (owns (ShrSlice (named 0) κ₁ u8 ∷ ShrSlice (named 1) κ₂ i64 ∷ MutRef (named 2) κ T.the-row ∷ []) a at) ∷ []) ∵
@@ -169,7 +169,7 @@ module _ {M : Type 1} (𝓤 : URA M) (H : Heap 𝓤) (A : Atoms 𝓤) (W : Given
         move ! (15 ∷ 16 ∷ []) $ free1 ! $ move ! (13 ∷ 14 ∷ []) $ free1 ! $ move ! (11 ∷ 12 ∷ []) $ free1 ! $ move ! (9 ∷ 10 ∷ []) $ free1 ! $ move ! (7 ∷ 8 ∷ []) $ free1 ! $ move ! (5 ∷ 6 ∷ []) $ free1 ! $ free0 ! $
         by ! (exits n z (ws .1 .1 .0) (g ∙ ap numberOf (e .0) ∙ met-number (requests (x₁ .now) (x₂ .now) h), e .1)))))))))))))))))
 
-module _ {M : Type 1} (𝓤 : URA M) (H : Heap 𝓤) (A : Atoms 𝓤) (W : Given 𝓤 H A) (mem : Memory → SProp 𝓤) (run : Routine → Fun 𝓤) (𝓣 : Tables 𝓤 H) (known-step : Triple 𝓤 (𝓣 .C #listing·step) (Step 𝓤 H A mem run)) (known-number : Triple 𝓤 (𝓣 .C #export·handed·request-number) (Number 𝓤 H A mem run)) where
+module _ {M : Type 1} (𝓤 : URA M) (H : Heap 𝓤) (A : Atoms 𝓤) (W : Given 𝓤 H A) (mem : Memory → SProp 𝓤) (run : Routine → Fun 𝓤) (𝓣 : Tables 𝓤 H) (known-step : Triple 𝓤 (𝓣 .C #listing·step) (Step 𝓤 H A mem run)) (known-number : Triple 𝓤 (𝓣 .C #export·request-number) (Number 𝓤 H A mem run)) where
   next-walks : Walks 𝓤 H A next.ended stayed (WpFn 𝓤 H (𝓣 .C) (𝓣 .Λ) code.function) (next.clauses 𝓤 H A mem run)
   next-walks = walked 𝓤 H A next.ended stayed (next.clauses 𝓤 H A mem run) (WpFn 𝓤 H (𝓣 .C) (𝓣 .Λ) code.function) (λ κs. (slice-vals, (slice-vals, (ptr-vals, tt))))
       (λ κs. (shr-slice-tells (named 0) (κs .0) u8, (shr-slice-tells (named 1) (κs .1 .0) i64, (mut-tells (named 2) (κs .1 .1 .0) T.the-row, tt))))
@@ -188,4 +188,4 @@ hwemiduk-next-spec 𝓤 H 𝓜 𝓖 𝓡 =
     (tables 𝓤 H 𝓜 𝓡 code.env .C) (tables 𝓤 H 𝓜 𝓡 code.env .Λ) #export·handed·hwemiduk-next code.function (code.unfolded 𝓤 H 𝓜 𝓡)
     (next-meets 𝓤 H (𝓖 .A) (givenOf 𝓤 H 𝓜 𝓖) (𝓜 .mem) (𝓡 .run) (tablesOf 𝓤 H 𝓜 (tables 𝓤 H 𝓜 𝓡 code.env))
     (cited 𝓤 H (Step 𝓤 H (𝓖 .A) (𝓜 .mem) (𝓡 .run)) 𝓜 𝓡 code.env #listing·step step-def.routine code.calls-listing·step (step-thm.met 𝓤 H 𝓜 𝓖 𝓡))
-    (cited 𝓤 H (Number 𝓤 H (𝓖 .A) (𝓜 .mem) (𝓡 .run)) 𝓜 𝓡 code.env #export·handed·request-number number-def.routine code.calls-export·handed·request-number (number-thm.met 𝓤 H 𝓜 𝓖 𝓡)))
+    (cited 𝓤 H (Number 𝓤 H (𝓖 .A) (𝓜 .mem) (𝓡 .run)) 𝓜 𝓡 code.env #export·request-number number-def.routine code.calls-export·handed·request-number (number-thm.met 𝓤 H 𝓜 𝓖 𝓡)))

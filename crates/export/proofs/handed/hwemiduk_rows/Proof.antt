@@ -51,10 +51,10 @@ use Rattle.listing.proofs.rows.Symbol.{name as #listing·rows}
 use Rattle.listing.proofs.rows.Met as filled-thm
 use Rattle.export.specs.Handed.{Counted, RowsHanded}
 use Rattle.export.proofs.Told.{counted-so}
-use Rattle.export.proofs.handed.tell_count as tell
-use Rattle.export.proofs.handed.tell_count.Symbol as tell-def
-use Rattle.export.proofs.handed.tell_count.Symbol.{name as #export·handed·tell-count}
-use Rattle.export.proofs.handed.tell_count.Met as tell-thm
+use Rattle.export.proofs.tell_count as tell
+use Rattle.export.proofs.tell_count.Symbol as tell-def
+use Rattle.export.proofs.tell_count.Symbol.{name as #export·tell-count}
+use Rattle.export.proofs.tell_count.Met as tell-thm
 use Rattle.export.proofs.handed.hwemiduk_rows.Key.{name as #export·handed·hwemiduk-rows}
 use Rattle.export.proofs.handed.hwemiduk_rows as rows
 use Rattle.export.proofs.handed.hwemiduk_rows.Statement as stated
@@ -155,7 +155,7 @@ module _ {M : Type 1} (𝓤 : URA M) (H : Heap 𝓤) (A : Atoms 𝓤) (W : Given
   right : (r : Count) (l : List Site) (n k : ℕ) → Filled r l → Counted (saysCount r) h n k → Right n k l
   right r l n k e g = record { counted = counted-so (e .0) g; rows-after = e .1 }
 
-  module _ (C : Calls 𝓤 H) (Λ : Loops 𝓤 H) (fm : FmC 𝓤 H (W .laws) C) (known-rows : Triple 𝓤 (C #listing·rows) (Rows 𝓤 H A at-mem run)) (known-tell : Triple 𝓤 (C #export·handed·tell-count) (Tell 𝓤 H A at-mem run)) where
+  module _ (C : Calls 𝓤 H) (Λ : Loops 𝓤 H) (fm : FmC 𝓤 H (W .laws) C) (known-rows : Triple 𝓤 (C #listing·rows) (Rows 𝓤 H A at-mem run)) (known-tell : Triple 𝓤 (C #export·tell-count) (Tell 𝓤 H A at-mem run)) where
     walk : ent 𝓤 (onEntry 𝓤 H A rows.signature (κ₁, (κ₂, (κ₃, (κ, tt)))) (q₁, (q₂, (q₃, (q, tt)))) a at) (WpFn 𝓤 H C Λ code.function (v₁ ∷ v₂ ∷ v₃ ∷ vptr b o ∷ []) Post)
     walk =
         qed W ((‵ (flft κ₁ q₁) ⊛ ‵ (flft κ₂ q₂) ⊛ ‵ (flft κ₃ q₃) ⊛ ‵ (flft κ q) ⊛ ‵ ftrue) ∷ ‵ (owns (ShrSlice (named 0) κ₁ u8 ∷ ShrSlice (named 1) κ₂ i64 ∷ MutSlice (named 2) κ₃ R ∷ MutRef (named 3) κ usize ∷ []) a at) ∷ []) ∵
@@ -195,7 +195,7 @@ module _ {M : Type 1} (𝓤 : URA M) (H : Heap 𝓤) (A : Atoms 𝓤) (W : Given
         move ! (9 ∷ 10 ∷ []) $ free1 ! $ move ! (7 ∷ 8 ∷ []) $ free1 ! $ free0 ! $
         by ! (exits n z (us .1 .0) (ws .1 .1 .0) (right r (ws .1 .1 .0) n (us .1 .0) e g) same)))))))))))))))))))))
 
-module _ {M : Type 1} (𝓤 : URA M) (H : Heap 𝓤) (A : Atoms 𝓤) (W : Given 𝓤 H A) (at-mem : Memory → SProp 𝓤) (run : Routine → Fun 𝓤) (𝓣 : Tables 𝓤 H) (known-rows : Triple 𝓤 (𝓣 .C #listing·rows) (Rows 𝓤 H A at-mem run)) (known-tell : Triple 𝓤 (𝓣 .C #export·handed·tell-count) (Tell 𝓤 H A at-mem run)) where
+module _ {M : Type 1} (𝓤 : URA M) (H : Heap 𝓤) (A : Atoms 𝓤) (W : Given 𝓤 H A) (at-mem : Memory → SProp 𝓤) (run : Routine → Fun 𝓤) (𝓣 : Tables 𝓤 H) (known-rows : Triple 𝓤 (𝓣 .C #listing·rows) (Rows 𝓤 H A at-mem run)) (known-tell : Triple 𝓤 (𝓣 .C #export·tell-count) (Tell 𝓤 H A at-mem run)) where
   rows-walks : Walks 𝓤 H A rows.ended stayed (WpFn 𝓤 H (𝓣 .C) (𝓣 .Λ) code.function) (rows.clauses 𝓤 H A at-mem run)
   rows-walks = walked 𝓤 H A rows.ended stayed (rows.clauses 𝓤 H A at-mem run) (WpFn 𝓤 H (𝓣 .C) (𝓣 .Λ) code.function) (λ κs. (slice-vals, (slice-vals, (slice-vals, (ptr-vals, tt)))))
       (λ κs. (shr-slice-tells (named 0) (κs .0) u8, (shr-slice-tells (named 1) (κs .1 .0) i64, (mut-slice-tells (named 2) (κs .1 .1 .0) R, (mut-tells (named 3) (κs .1 .1 .1 .0) usize, tt)))))
@@ -214,4 +214,4 @@ hwemiduk-rows-spec 𝓤 H 𝓜 𝓖 𝓡 =
     (tables 𝓤 H 𝓜 𝓡 code.env .C) (tables 𝓤 H 𝓜 𝓡 code.env .Λ) #export·handed·hwemiduk-rows code.function (code.unfolded 𝓤 H 𝓜 𝓡)
     (rows-meets 𝓤 H (𝓖 .A) (givenOf 𝓤 H 𝓜 𝓖) (𝓜 .mem) (𝓡 .run) (tablesOf 𝓤 H 𝓜 (tables 𝓤 H 𝓜 𝓡 code.env))
     (cited 𝓤 H (Rows 𝓤 H (𝓖 .A) (𝓜 .mem) (𝓡 .run)) 𝓜 𝓡 code.env #listing·rows filled-def.routine code.calls-listing·rows (filled-thm.met 𝓤 H 𝓜 𝓖 𝓡))
-    (cited 𝓤 H (Tell 𝓤 H (𝓖 .A) (𝓜 .mem) (𝓡 .run)) 𝓜 𝓡 code.env #export·handed·tell-count tell-def.routine code.calls-export·handed·tell-count (tell-thm.met 𝓤 H 𝓜 𝓖 𝓡)))
+    (cited 𝓤 H (Tell 𝓤 H (𝓖 .A) (𝓜 .mem) (𝓡 .run)) 𝓜 𝓡 code.env #export·tell-count tell-def.routine code.calls-export·handed·tell-count (tell-thm.met 𝓤 H 𝓜 𝓖 𝓡)))

@@ -3,7 +3,7 @@ use mathlib.Core.Path.{_∙_}
 use Prim.Native.Nat.{_-_}
 use Rattle.scope.specs.Modifications.{nameOf, namesOf}
 use Rattle.scope.specs.Lists.{shared}
-use Rattle.scope.specs.Tables.{partIn, bracketIn}
+use Rattle.scope.specs.Layout.{partIn, bracketIn}
 use Rattle.positions.proofs.Any.{Unfound, unfound-start, unfound-next, unfound-end, found}
 use Rattle.positions.proofs.Names.{shared-names}
 use borrow.Author.Needs.{needs}

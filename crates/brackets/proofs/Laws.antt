@@ -152,7 +152,7 @@ of-neither v p q = rw (ne-eqb v 1 p, ne-eqb v 2 q)
 
 pub reference-is : (bs : List ℕ) (k m v : ℕ) → m ≡ partsField bs k → (m ≡ 0 → ⊥) → v ≡ valueField bs k 0 → (ns : List ℤ) → cond (eqb v 1) false (cond (eqb v 2) false true) ≡ isReferring (bracketIn bs ns k)
 reference-is bs k m v e q f ns =
-    ap (λ n. cond (eqb n 1) false (cond (eqb n 2) false true)) (f ∙ ap (byteAt bs) (add-zero (partAt k 0)))
+    ap (λ n. cond (eqb n 1) false (cond (eqb n 2) false true)) f
     ∙ sym (by-value _ _ (eqb (valueField bs k 0) 1) (eqb (valueField bs k 0) 2))
     ∙ sym (first-part bs ns k m e q)
 

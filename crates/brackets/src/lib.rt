@@ -102,7 +102,7 @@ pub fn is_referring(bytes: &[u8], k: usize) -> bool
     if m == 0 {
         return false;
     }
-    let value = part_byte(bytes, k, 0, 0);
+    let value = areas::value(bytes, k, 0);
     if value == 1 {
         return false;
     }

@@ -126,7 +126,8 @@ module _ {P : Type 0} (bs : List ℕ) (ns : List ℤ) (k : ℕ) where
         text-length = at-read bs (partAt k j) (partRow i p) a 3 0;
         label-length = at-read bs (partAt k j) (partRow i p) a 4 0;
         from =
-            ap₂ (λ x y. x + 256 * y) (at-read bs (partAt k j) (partRow i p) a 5 0) (at-read bs (partAt k j) (partRow i p) a 6 0)
+            let e : partAt k j + 5 + 1 ≡ partAt k j + 6 = omega arith in
+            ap₂ (λ x y. x + 256 * y) (at-read bs (partAt k j) (partRow i p) a 5 0) (ap (λ x. getD bs x 0) e ∙ at-read bs (partAt k j) (partRow i p) a 6 0)
             ∙ mod-add-div (offset (packed p) i) 256;
         number = m;
         texts = t;

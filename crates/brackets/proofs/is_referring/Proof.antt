@@ -11,24 +11,24 @@ parts-requires c κs = search needs
 returns : tie.Need-returns
 returns c = no-part _ _ _ (c .before .parts .ensures .0) (c .if1 .taken)
 
-part-byte-requires : tie.Need-part-byte-requires
-part-byte-requires c κs = search needs
+value-requires : tie.Need-value-requires
+value-requires c κs = search needs
 
 returns-2 : tie.Need-returns-2
 returns-2 c ns =
     of-mass _ (c .if2 .taken)
-    ∙ reference-is _ _ _ _ (c .before .before .before .parts .ensures .0) (c .before .before .if1 .left) (c .before .part-byte .ensures) ns
+    ∙ reference-is _ _ _ _ (c .before .before .before .parts .ensures .0) (c .before .before .if1 .left) (c .before .value .ensures .0) ns
 
 returns-3 : tie.Need-returns-3
 returns-3 c ns =
     of-text _ (c .before .if2 .left) (c .if3 .taken)
-    ∙ reference-is _ _ _ _ (c .before .before .before .before .parts .ensures .0) (c .before .before .before .if1 .left) (c .before .before .part-byte .ensures) ns
+    ∙ reference-is _ _ _ _ (c .before .before .before .before .parts .ensures .0) (c .before .before .before .if1 .left) (c .before .before .value .ensures .0) ns
 
 returns-4 : tie.Need-returns-4
 returns-4 c ns =
     of-neither _ (c .before .if2 .left) (c .if3 .left)
-    ∙ reference-is _ _ _ _ (c .before .before .before .before .parts .ensures .0) (c .before .before .before .if1 .left) (c .before .before .part-byte .ensures) ns
+    ∙ reference-is _ _ _ _ (c .before .before .before .before .parts .ensures .0) (c .before .before .before .if1 .left) (c .before .before .value .ensures .0) ns
 
 pub is-referring-spec : {M : Type 1} → statement M
 is-referring-spec =
-    tie.close (tie.spec parts-requires returns part-byte-requires returns-2 returns-3 returns-4)
+    tie.close (tie.spec parts-requires returns value-requires returns-2 returns-3 returns-4)

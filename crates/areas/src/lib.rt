@@ -4,10 +4,11 @@ use scope::tables::Tables;
 ghost use mathlib.Core.Path.{_≡_};
 ghost use Prim.Native.Nat.{_+_, _*_, _<_, _≤_};
 ghost use lib.IntN.{pos};
-ghost use lib.ListN.{length, getD};
+ghost use lib.ListN.{length, getD, set};
+ghost use lib.Seq.{sets};
 ghost use Rattle.scope.specs.Bytes.{byteLimit, wideLimit};
-ghost use Rattle.scope.specs.Limits.{residueLimit, bracketLimit, partLimit};
-ghost use Rattle.scope.specs.Layout.{bytesSize, numbersSize, rowSize, partSize, numberRowSize, rowAt, partAt, byteAt, wideAt, residuesField, bracketsField, letterField, sectionField, kindField, firstField, lastField, countField, partsField, scoreField, valueField, keyField, decimalsField, textField, labelField, offsetField, massField, scoreNumber};
+ghost use Rattle.scope.specs.Limits.{residueLimit, bracketLimit, partLimit, positionLimit};
+ghost use Rattle.scope.specs.Layout.{bytesSize, numbersSize, rowSize, partSize, numberRowSize, residuesAt, lettersAt, sectionsAt, rowAt, countAt, partAt, massAt, countsRow, headRow, partFields, byteAt, wideAt, residuesField, bracketsField, letterField, sectionField, kindField, firstField, lastField, countField, partsField, scoreField, valueField, keyField, decimalsField, textField, labelField, offsetField, massField, scoreNumber};
 
 // The floaters: how many there are, and the number of each one's bracket.
 pub struct Floaters {
@@ -15,16 +16,21 @@ pub struct Floaters {
     pub index: [u8; Placement::COPIES],
 }
 
+// where the numbers of residues and brackets lie
+const RESIDUES: usize = 0;
+
+const BRACKETS: usize = 2;
+
 // the fields of a bracket's row, behind its kind
 const FIRST: usize = 1;
 
-const LAST: usize = 2;
+const LAST: usize = 3;
 
-const COUNT: usize = 3;
+const COUNT: usize = 5;
 
-const PARTS: usize = 4;
+const PARTS: usize = 6;
 
-const SCORE: usize = 5;
+const SCORE: usize = 7;
 
 // the fields of a part's row, behind its value
 const KEY: usize = 1;
@@ -69,7 +75,7 @@ pub fn residues(bytes: &[u8]) -> usize
     requires { ⌜ bytesSize ≤ length (now bytes) ⌝ }
     ensures { λ r. ⌜ (r ≡ residuesField (now (bytes .entry))) × (r < wideLimit) ⌝ }
 {
-    byte(bytes, 0)
+    two_bytes(bytes, RESIDUES)
 }
 
 // How many brackets there are.
@@ -77,7 +83,7 @@ pub fn brackets(bytes: &[u8]) -> usize
     requires { ⌜ bytesSize ≤ length (now bytes) ⌝ }
     ensures { λ r. ⌜ (r ≡ bracketsField (now (bytes .entry))) × (r < byteLimit) ⌝ }
 {
-    byte(bytes, 1)
+    byte(bytes, BRACKETS)
 }
 
 // The letter of residue i, counted from 0, and the code of its section.
@@ -108,7 +114,7 @@ pub fn first(bytes: &[u8], k: usize) -> usize
     requires { ⌜ (bytesSize ≤ length (now bytes)) × (k < bracketLimit) ⌝ }
     ensures { λ r. ⌜ (r ≡ firstField (now (bytes .entry)) k) × (r < wideLimit) ⌝ }
 {
-    byte(bytes, Tables::ROWS + k * Tables::ROW + FIRST)
+    two_bytes(bytes, Tables::ROWS + k * Tables::ROW + FIRST)
 }
 
 // The last.
@@ -116,7 +122,7 @@ pub fn last(bytes: &[u8], k: usize) -> usize
     requires { ⌜ (bytesSize ≤ length (now bytes)) × (k < bracketLimit) ⌝ }
     ensures { λ r. ⌜ (r ≡ lastField (now (bytes .entry)) k) × (r < wideLimit) ⌝ }
 {
-    byte(bytes, Tables::ROWS + k * Tables::ROW + LAST)
+    two_bytes(bytes, Tables::ROWS + k * Tables::ROW + LAST)
 }
 
 // Its count.
@@ -225,6 +231,109 @@ pub fn score_number(numbers: &[i64], k: usize) -> i64
     numbers[k * Tables::MASSES + Tables::PARTS]
 }
 
+// ---- writing
+
+// The numbers of residues and brackets.
+pub fn put_counts(bytes: &mut [u8], residues: usize, brackets: usize)
+    requires { ⌜ (bytesSize ≤ length (now bytes)) × (residues ≤ residueLimit) × (brackets ≤ bracketLimit) ⌝ }
+    ensures { λ _. ⌜ now (bytes .exit) ≡ sets (now (bytes .entry)) residuesAt (countsRow residues brackets) ⌝ }
+{
+    bytes[RESIDUES] = (residues % BYTE) as u8;
+    bytes[RESIDUES + 1] = (residues / BYTE) as u8;
+    bytes[BRACKETS] = brackets as u8;
+}
+
+// The letter of residue i and the code of its section.
+pub fn put_residue(bytes: &mut [u8], i: usize, letter: u8, section: u8)
+    requires { ⌜ (bytesSize ≤ length (now bytes)) × (i < residueLimit) ⌝ }
+    ensures { λ _. ⌜ now (bytes .exit) ≡ set (set (now (bytes .entry)) (lettersAt + i) letter) (sectionsAt + i) section ⌝ }
+{
+    bytes[Tables::LETTERS + i] = letter;
+    bytes[Tables::SECTIONS + i] = section;
+}
+
+// The head of bracket k's row.
+pub fn put_head(
+    bytes: &mut [u8],
+    k: usize,
+    kind: u8,
+    first: usize,
+    last: usize,
+    count: u8,
+    parts: u8,
+    score: u8,
+)
+    requires { ⌜ (bytesSize ≤ length (now bytes)) × (k < bracketLimit) × (first < positionLimit) × (last < positionLimit) ⌝ }
+    ensures { λ _. ⌜ now (bytes .exit) ≡ sets (now (bytes .entry)) (rowAt k) (headRow kind first last count parts score) ⌝ }
+{
+    let at = Tables::ROWS + k * Tables::ROW;
+    bytes[at] = kind;
+    bytes[at + FIRST] = (first % BYTE) as u8;
+    bytes[at + FIRST + 1] = (first / BYTE) as u8;
+    bytes[at + LAST] = (last % BYTE) as u8;
+    bytes[at + LAST + 1] = (last / BYTE) as u8;
+    bytes[at + COUNT] = count;
+    bytes[at + PARTS] = parts;
+    bytes[at + SCORE] = score;
+}
+
+// Its kind alone.
+pub fn put_kind(bytes: &mut [u8], k: usize, kind: u8)
+    requires { ⌜ (bytesSize ≤ length (now bytes)) × (k < bracketLimit) ⌝ }
+    ensures { λ _. ⌜ now (bytes .exit) ≡ set (now (bytes .entry)) (rowAt k) kind ⌝ }
+{
+    bytes[Tables::ROWS + k * Tables::ROW] = kind;
+}
+
+// Its count alone.
+pub fn put_count(bytes: &mut [u8], k: usize, count: u8)
+    requires { ⌜ (bytesSize ≤ length (now bytes)) × (k < bracketLimit) ⌝ }
+    ensures { λ _. ⌜ now (bytes .exit) ≡ set (now (bytes .entry)) (countAt k) count ⌝ }
+{
+    bytes[Tables::ROWS + k * Tables::ROW + COUNT] = count;
+}
+
+// The row of its part j.
+pub fn put_part(
+    bytes: &mut [u8],
+    k: usize,
+    j: usize,
+    value: u8,
+    key: u8,
+    decimals: u8,
+    text: u8,
+    label: u8,
+    offset: usize,
+)
+    requires { ⌜ (bytesSize ≤ length (now bytes)) × (k < bracketLimit) × (j < partLimit) × (offset < wideLimit) ⌝ }
+    ensures { λ _. ⌜ now (bytes .exit) ≡ sets (now (bytes .entry)) (partAt k j) (partFields value key decimals text label offset) ⌝ }
+{
+    let at = Tables::ROWS + k * Tables::ROW + Tables::HEAD + j * Tables::PART;
+    bytes[at] = value;
+    bytes[at + KEY] = key;
+    bytes[at + DECIMALS] = decimals;
+    bytes[at + TEXT] = text;
+    bytes[at + LABEL] = label;
+    bytes[at + OFFSET] = (offset % BYTE) as u8;
+    bytes[at + OFFSET + 1] = (offset / BYTE) as u8;
+}
+
+// Its mass.
+pub fn put_mass(numbers: &mut [i64], k: usize, j: usize, mass: i64)
+    requires { ⌜ (numbersSize ≤ length (now numbers)) × (k < bracketLimit) × (j < partLimit) ⌝ }
+    ensures { λ _. ⌜ now (numbers .exit) ≡ set (now (numbers .entry)) (massAt k j) mass ⌝ }
+{
+    numbers[k * Tables::MASSES + j] = mass;
+}
+
+// The score of bracket k.
+pub fn put_score(numbers: &mut [i64], k: usize, score: i64)
+    requires { ⌜ (numbersSize ≤ length (now numbers)) × (k < bracketLimit) ⌝ }
+    ensures { λ _. ⌜ now (numbers .exit) ≡ set (now (numbers .entry)) (massAt k partLimit) score ⌝ }
+{
+    numbers[k * Tables::MASSES + Tables::PARTS] = score;
+}
+
 // ---- the old readers, until every crate has gone over
 
 // Number f of bracket k's row.
@@ -240,7 +349,7 @@ pub fn part_byte(bytes: &[u8], k: usize, j: usize, f: usize) -> u8
     requires { ⌜ (bytesSize ≤ length (now bytes)) × (k < bracketLimit) × (j < partLimit) × (f < partSize) ⌝ }
     ensures { λ r. ⌜ r ≡ byteAt (now (bytes .entry)) (partAt k j + f) ⌝ }
 {
-    bytes[Tables::ROWS + k * Tables::ROW + 6 + j * Tables::PART + f]
+    bytes[Tables::ROWS + k * Tables::ROW + Tables::HEAD + j * Tables::PART + f]
 }
 
 // The mass of part j of bracket k, and its score where j is the number of parts.
@@ -248,5 +357,5 @@ pub fn number(numbers: &[i64], k: usize, j: usize) -> i64
     requires { ⌜ (numbersSize ≤ length (now numbers)) × (k < bracketLimit) × (j < numberRowSize) ⌝ }
     ensures { λ r. ⌜ r ≡ massField (now (numbers .entry)) k j ⌝ }
 {
-    numbers[k * (Tables::PARTS + 1) + j]
+    numbers[k * Tables::MASSES + j]
 }

@@ -22,19 +22,19 @@ use Rattle.scope.specs.Tables.{Tables, millionths, labelOf, scoreOf}
 abbrev pub partSize : ℕ
 partSize = 7
 
--- a bracket's row: kind, first and last position, count, number of parts, score; then its parts
+-- a bracket's row: kind, first and last position in two bytes each, count, number of parts, score; then its parts
 abbrev pub headSize : ℕ
-headSize = 6
+headSize = 8
 
 abbrev pub rowSize : ℕ
 rowSize = headSize + partLimit * partSize
 
--- where each table begins: after the numbers of residues and brackets come letters, sections, brackets and texts
+-- where each table begins: after the numbers of residues, in two bytes, and of brackets come letters, sections, brackets and texts
 abbrev pub residuesAt : ℕ
 residuesAt = 0
 
 abbrev pub bracketsAt : ℕ
-bracketsAt = 1
+bracketsAt = 2
 
 abbrev pub lettersAt : ℕ
 lettersAt = bracketsAt + 1
@@ -66,16 +66,16 @@ abbrev pub firstAt : ℕ → ℕ
 firstAt k = rowAt k + 1
 
 abbrev pub lastAt : ℕ → ℕ
-lastAt k = rowAt k + 2
+lastAt k = rowAt k + 3
 
 abbrev pub countAt : ℕ → ℕ
-countAt k = rowAt k + 3
+countAt k = rowAt k + 5
 
 abbrev pub partsAt : ℕ → ℕ
-partsAt k = rowAt k + 4
+partsAt k = rowAt k + 6
 
 abbrev pub scoreAt : ℕ → ℕ
-scoreAt k = rowAt k + 5
+scoreAt k = rowAt k + 7
 
 abbrev pub partAt : ℕ → ℕ → ℕ
 partAt k j = rowAt k + headSize + j * partSize
@@ -149,7 +149,7 @@ scoreCode (some n) = n .decimals + 1
 
 -- the head of a bracket's row, by its fields
 abbrev pub headRow : ℕ → ℕ → ℕ → ℕ → ℕ → ℕ → List ℕ
-headRow kind first last count parts score = kind ∷ first ∷ last ∷ count ∷ parts ∷ score ∷ []
+headRow kind first last count parts score = kind ∷ (twoBytes first ++ (twoBytes last ++ (count ∷ parts ∷ score ∷ [])))
 
 abbrev pub bracketRow : {P : Type 0} → ℕ → Bracket P → List ℕ
 bracketRow at k =
@@ -164,7 +164,7 @@ rows at [] = []
 rows at (k ∷ ks) = bracketRow at k ++ rows (at + length (bracketTexts k)) ks
 
 abbrev pub countsRow : ℕ → ℕ → List ℕ
-countsRow residues brackets = residues ∷ brackets ∷ []
+countsRow residues brackets = twoBytes residues ++ (brackets ∷ [])
 
 unfoldable pub bytesOf : {P : Type 0} → Line P → List ℕ
 bytesOf t =
@@ -189,7 +189,7 @@ abbrev pub wideAt : List ℕ → ℕ → ℕ
 wideAt bs i = byteAt bs i + byteLimit * byteAt bs (i + 1)
 
 abbrev pub residuesField : List ℕ → ℕ
-residuesField bs = byteAt bs residuesAt
+residuesField bs = wideAt bs residuesAt
 
 abbrev pub bracketsField : List ℕ → ℕ
 bracketsField bs = byteAt bs bracketsAt
@@ -205,10 +205,10 @@ abbrev pub kindField : List ℕ → ℕ → ℕ
 kindField bs k = byteAt bs (rowAt k)
 
 abbrev pub firstField : List ℕ → ℕ → ℕ
-firstField bs k = byteAt bs (firstAt k)
+firstField bs k = wideAt bs (firstAt k)
 
 abbrev pub lastField : List ℕ → ℕ → ℕ
-lastField bs k = byteAt bs (lastAt k)
+lastField bs k = wideAt bs (lastAt k)
 
 abbrev pub countField : List ℕ → ℕ → ℕ
 countField bs k = byteAt bs (countAt k)

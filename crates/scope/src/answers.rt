@@ -33,19 +33,19 @@ pub enum Total {
 #[repr(C)]
 pub struct Site {
     pub floater: u8,
-    pub position: u8,
+    pub position: u16,
 }
 
 // The first row of a floater.
 pub enum Lookup {
-    Row { index: usize, position: u8 },
+    Row { index: usize, position: u16 },
     Refused { number: u8 },
 }
 
 // A placement: the position of each floating copy, unused entries 0.
 #[repr(C)]
 pub struct Placement {
-    pub at: [u8; Placement::COPIES],
+    pub at: [u16; Placement::COPIES],
 }
 
 impl Placement {
@@ -68,7 +68,7 @@ impl Placement {
 // The listing in hand: marked fresh, with zeros; or unmarked, with the placement last handed out.
 #[repr(C)]
 pub struct Listing {
-    pub at: [u8; Placement::COPIES],
+    pub at: [u16; Placement::COPIES],
     pub mark: u8,
 }
 

@@ -34,12 +34,12 @@ impl Tables {
     pub const PART: usize = 7;
 
     // a bracket's row: its head, then its parts
-    pub const HEAD: usize = 6;
+    pub const HEAD: usize = 8;
 
     pub const ROW: usize = Self::HEAD + Self::PARTS * Self::PART;
 
     // where letters, sections, brackets and texts begin in the area of bytes
-    pub const LETTERS: usize = 2;
+    pub const LETTERS: usize = 3;
 
     pub const SECTIONS: usize = Self::LETTERS + Self::RESIDUES;
 

@@ -5,7 +5,7 @@ use mathlib.Core.List.{List}
 use Prim.Native.Nat.{ℕ, _+_, _≤_, _<_}
 use native.Mathlib.Omega.{arith}
 use lib.ListN.{length}
-use Rattle.scope.specs.declared.grammar.Key.the-variants.{NoKey}
+use Rattle.scope.specs.declared.grammar.Key.the-variants.{NoKey, Info}
 use Rattle.scope.specs.declared.grammar.Kind.{Kind}
 use Rattle.scope.specs.declared.grammar.Kind.the-variants.{Unknown, Labile, NTerm, OnResidue, OnRange, CTerm}
 use Rattle.scope.specs.Bytes.{byteLimit}
@@ -52,9 +52,9 @@ ValueWithin p (mass n) = NumberWithin n
 ValueWithin p (text t) = TextWithin t
 ValueWithin p reference = ReferenceWithin p
 
--- the keys of refusal 8 have the codes above 13
+-- the keys of refusal 8 have the codes above that of `INFO:`
 pub record PartWithin {P : Type 0} (p : Part P) : Type 0 where
-  pub key : keyCode (p .key) ≤ 13
+  pub key : keyCode (p .key) ≤ keyCode Info
   pub value : ValueWithin p (p .value)
   pub label : OfGiven LabelWithin (p .label)
 

@@ -12,6 +12,7 @@ use Rattle.scope.specs.declared.grammar.Section.{Section}
 use Rattle.scope.specs.declared.grammar.Section.the-variants.{Plain, RangeFirst, RangeNext, UnsureFirst, UnsureNext}
 use Rattle.scope.specs.declared.grammar.Kind.{Kind}
 use Rattle.scope.specs.declared.grammar.Kind.the-variants.{Unknown, Labile, NTerm, OnResidue, OnRange, CTerm}
+use Rattle.scope.specs.declared.grammar.Key.the-variants.{Info}
 use Rattle.scope.specs.Bytes.{byteLimit}
 use Rattle.scope.specs.Limits.{lineLimit, residueLimit, bracketLimit, partLimit, textLimit, labelLimit, decimalLimit}
 use Rattle.scope.specs.Line.{Number, Label, Value, mass, text, reference, Part, Bracket, Line}
@@ -159,7 +160,7 @@ kind-byte CTerm = omega arith
 zero-byte : Byte 0
 zero-byte = omega arith
 
-key-byte : {c : ℕ} → c ≤ 13 → Byte c
+key-byte : {c : ℕ} → c ≤ keyCode Info → Byte c
 key-byte h = omega arith
 
 module _ {P : Type 0} where

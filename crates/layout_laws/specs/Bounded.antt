@@ -21,14 +21,14 @@ use Rattle.scope.specs.Lists.{given, flat, padded}
 use Rattle.scope.specs.Refusals.{textIn, textOf}
 use Rattle.scope.specs.Kinds.{kindCode}
 use Rattle.scope.specs.Tables.{millionths, labelOf, scoreOf}
-use Rattle.scope.specs.Layout.{partSize, rowSize, twoBytes, headRow, countsRow, sectionCode, valueCode, massIn, decimalsIn, packed, offset, partRow, partRows, scoreCode, bracketRow, bracketTexts, rows, bytesOf, numbersOf, residuesField}
+use Rattle.scope.specs.Layout.{partSize, rowSize, twoBytes, countsRow, sectionCode, valueCode, massIn, decimalsIn, packed, offset, partRow, partRows, scoreCode, bracketRow, bracketTexts, rows, bytesOf, numbersOf, residuesField}
 use Rattle.areas.specs.Bounds.{Small, PartBounds, BracketBounds, Bounds}
 use Rattle.basics.specs.Each.{Each, OfGiven, each-append, each-padded, each-map, each-all}
 use Rattle.accepted_laws.specs.Within.{Byte, NumberWithin, LabelWithin, ValueWithin, PartWithin, BracketWithin, Within, first-few, last-few}
 use Rattle.layout_laws.specs.TwoBytes.{wide-bytes}
 use Rattle.layout_laws.specs.Fits.{residues-fit, positions-fit, offsets-fit, brackets-fit, parts-fit, counts-fit, decimals-fit, scores-fit, texts-fit, labels-fit}
 use Rattle.layout_laws.specs.Numbers.{few-decimals, small}
-use Rattle.layout_laws.specs.Layout.{PartRead, PartsRead, BracketRead, BracketsRead, score-within, areas-read, bytes-length, numbers-length}
+use Rattle.layout_laws.specs.Layout.{PartRead, PartsRead, BracketRead, BracketsRead, score-within, areas-read, bytes-length, numbers-length, headOf}
 
 -- ---- what a part holds is small
 module _ {P : Type 0} where
@@ -214,23 +214,21 @@ module _ {P : Type 0} where
       (part-row-bytes i p (omega arith) (w .0))
       (part-rows-bytes (i + length (packed p)) ps (omega arith) (w .1))
 
-  head-bytes : (n : ℕ) (b : Bracket P) → n ≤ residueLimit → BracketWithin n b → Each Byte
-      (headRow (kindCode (b .kind)) (b .first) (b .last) (b .count) (length (b .parts)) (scoreCode (scoreOf (b .parts))))
+  head-bytes : (n : ℕ) (b : Bracket P) → n ≤ residueLimit → BracketWithin n b → Each Byte (headOf b)
   head-bytes n b q w =
       let counted = b .count ∷ length (b .parts) ∷ scoreCode (scoreOf (b .parts)) ∷ [] in
       let first-wide = positions-fit q (first-few (b .kind) (b .first) (b .last) n (w .stands)) in
       let last-wide = positions-fit q (last-few (b .kind) (b .first) (b .last) n (w .stands)) in
-      let score-few′ = score-few (scoreOf (b .parts)) (score-within (b .parts) (w .parts)) in (
+      let score-low = score-few (scoreOf (b .parts)) (score-within (b .parts) (w .parts)) in (
         kind-byte (b .kind),
         each-append Byte (twoBytes (b .first)) (twoBytes (b .last) ++ counted) (wide-bytes (b .first) first-wide)
             (each-append Byte (twoBytes (b .last)) counted (wide-bytes (b .last) last-wide)
-            (counts-fit (w .few-counts), (parts-fit (w .few-parts), (scores-fit score-few′, tt)))),
+            (counts-fit (w .few-counts), (parts-fit (w .few-parts), (scores-fit score-low, tt)))),
       )
 
   bracket-row-bytes : (n i : ℕ) (b : Bracket P) → n ≤ residueLimit → i + length (bracketTexts b) ≤ lineLimit → BracketWithin n b → Each Byte (bracketRow i b)
   bracket-row-bytes n i b q h w =
-      each-append Byte (headRow (kindCode (b .kind)) (b .first) (b .last) (b .count) (length (b .parts)) (scoreCode (scoreOf (b .parts))))
-      (padded 0 (partLimit * partSize) (partRows i (b .parts))) (head-bytes n b q w)
+      each-append Byte (headOf b) (padded 0 (partLimit * partSize) (partRows i (b .parts))) (head-bytes n b q w)
       (each-padded Byte 0 (partLimit * partSize) (partRows i (b .parts)) zero-byte (part-rows-bytes i (b .parts) h (w .parts)))
 
   rows-bytes :

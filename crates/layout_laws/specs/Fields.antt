@@ -1,7 +1,7 @@
 -- A row gives its fields back: what is read of each field where the row lies in an area.
-use mathlib.Core.Path.{_≡_, refl, ap, _∙_}
+use mathlib.Core.Path.{_≡_, refl}
 use mathlib.Core.List.{List}
-use Prim.Native.Nat.{ℕ, _+_}
+use Prim.Native.Nat.{ℕ}
 use Rattle.scope.specs.Layout.{residuesAt, rowAt, partAt, countsRow, headRow, partFields, residuesField, bracketsField, kindField, firstField, lastField, countField, partsField, scoreField, valueField, keyField, decimalsField, textField, labelField, offsetField}
 use Rattle.layout_laws.specs.At.{At, at-read, at-head}
 use Rattle.layout_laws.specs.TwoBytes.{wide-read}

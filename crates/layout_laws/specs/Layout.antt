@@ -7,7 +7,7 @@ use Prim.Native.Nat.{ℕ, _+_, _-_, _*_, _≤_, _<_}
 use native.Mathlib.Omega.{arith}
 use lib.Dec.{eqb}
 use lib.IntN.{ℤ, pos}
-use lib.ListN.{length, getD, replicate, length-append, length-replicate, length-map}
+use lib.ListN.{length, replicate, length-append, length-replicate, length-map}
 use borrow.Author.Tests.{ne-eqb}
 use Rattle.scope.specs.declared.grammar.Section.{Section}
 use Rattle.scope.specs.declared.grammar.Section.the-variants.{Plain, RangeFirst, RangeNext, UnsureFirst, UnsureNext}
@@ -21,11 +21,11 @@ use Rattle.scope.specs.Refusals.{textIn, textOf}
 use Rattle.scope.specs.Kinds.{kindCode, kindIn}
 use Rattle.scope.specs.Tables.{bareNumber, bareLabel, bareValue, barePart, bareBracket, bareResidue, tablesOf, millionths, labelOf, scoreOf}
 use Rattle.scope.specs.Limits.{lineLimit, residueLimit, bracketLimit, partLimit}
-use Rattle.scope.specs.Layout.{sectionCode, valueCode, massIn, decimalsIn, packed, offset, partRow, partRows, scoreCode, bracketRow, bracketTexts, rows, bytesOf, numberRow, numbersOf, sectionIn, byteAt, rowAt, partAt, scoreIn, valueIn, labelIn, partIn, bracketIn, residueIn, tablesIn, bracketsField, countField, decimalsField, firstField, keyField, kindField, labelField, lastField, offsetField, partsField, residuesField, scoreField, textField, valueField, partSize, headSize, rowSize, numberRowSize, residuesAt, lettersAt, sectionsAt, rowsAt, textsAt, bytesSize, numbersSize, massAt, headRow, countsRow, massField, scoreNumber, letterField, sectionField}
+use Rattle.scope.specs.Layout.{sectionCode, valueCode, massIn, decimalsIn, packed, offset, partRow, partRows, scoreCode, bracketRow, bracketTexts, rows, bytesOf, numberRow, numbersOf, sectionIn, rowAt, partAt, scoreIn, valueIn, labelIn, partIn, bracketIn, residueIn, tablesIn, bracketsField, countField, decimalsField, firstField, keyField, kindField, labelField, lastField, offsetField, partsField, residuesField, scoreField, textField, valueField, partSize, headSize, rowSize, numberRowSize, residuesAt, lettersAt, sectionsAt, rowsAt, textsAt, bytesSize, numbersSize, massAt, headRow, countsRow, massField, scoreNumber, letterField, sectionField}
 use Rattle.basics.specs.Each.{Each, OfGiven}
 use Rattle.basics.specs.Keys.{key-back}
 use Rattle.accepted_laws.specs.Within.{NumberWithin, LabelWithin, ValueWithin, PartWithin, BracketWithin, Within}
-use Rattle.layout_laws.specs.At.{At, at-read, at-head, at-first, at-next, at-part, at-start}
+use Rattle.layout_laws.specs.At.{At, at-head, at-first, at-next, at-part, at-start}
 use Rattle.layout_laws.specs.Fields.{counts-read, head-read, fields-read}
 use Rattle.layout_laws.specs.Numbers.{number-back}
 
@@ -59,7 +59,7 @@ module _ {P : Type 0} where
   pub bracket-row-length : (i : ℕ) (k : Bracket P) → length (k .parts) ≤ partLimit → length (bracketRow i k) ≡ rowSize
   bracket-row-length i k h =
       let e : length (partRows i (k .parts)) ≡ length (k .parts) * partSize = part-rows-length i (k .parts) in
-      let f : length (padded 0 (partLimit * partSize) (partRows i (k .parts))) ≡ (partLimit * partSize) = padded-length 0 (partLimit * partSize) (partRows i (k .parts)) (omega arith) in
+      let f : length (padded 0 (partLimit * partSize) (partRows i (k .parts))) ≡ partLimit * partSize = padded-length 0 (partLimit * partSize) (partRows i (k .parts)) (omega arith) in
       omega arith
 
   pub number-row-length : (k : Bracket P) → length (k .parts) ≤ partLimit → length (numberRow k) ≡ numberRowSize
@@ -79,8 +79,7 @@ offset-at (b ∷ l) i h = refl
 
 module _ {P : Type 0} (bs : List ℕ) (ns : List ℤ) (k j : ℕ) where
   value-back :
-      (v : Value P) → OfValue v → valueField bs k j ≡ valueCode v → decimalsField bs k j ≡ decimalsIn v → byteAt bs
-      (partAt k j + 3) ≡ length (textIn v)
+      (v : Value P) → OfValue v → valueField bs k j ≡ valueCode v → decimalsField bs k j ≡ decimalsIn v → textField bs k j ≡ length (textIn v)
       → massField ns k j ≡ massIn v
       → (0 < length (textIn v) → part (textsAt + offsetField bs k j) (length (textIn v)) bs ≡ textIn v)
       → valueIn bs ns k j ≡ bareValue v
@@ -246,6 +245,10 @@ module _ {P : Type 0} where
       go (some l) h e = inLabel (l .score) (h .score) e
 
 -- ---- brackets
+-- the head of a bracket's row
+abbrev pub headOf : {P : Type 0} → Bracket P → List ℕ
+headOf b = headRow (kindCode (b .kind)) (b .first) (b .last) (b .count) (length (b .parts)) (scoreCode (scoreOf (b .parts)))
+
 -- what is read of bracket k, whose texts begin at i among the texts
 pub record BracketRead {P : Type 0} (bs : List ℕ) (ns : List ℤ) (k i : ℕ) (b : Bracket P) : Type 0 where
   pub kind : kindField bs k ≡ kindCode (b .kind)
@@ -270,10 +273,9 @@ module _ {P : Type 0} (bs : List ℕ) (ns : List ℤ) where
       let masses = map (λ p. massIn (p .value)) (b .parts) in
       let score = given (scoreOf (b .parts)) millionths (pos 0) in
       let e : length (padded (pos 0) partLimit masses) ≡ partLimit = padded-length (pos 0) partLimit masses (rw (length-map (b .parts) (λ p. massIn (p .value))) h) in
-      let head = headRow (kindCode (b .kind)) (b .first) (b .last) (b .count) (length (b .parts)) (scoreCode (scoreOf (b .parts))) in
       let parts = padded 0 (partLimit * partSize) (partRows i (b .parts)) in
       let r = head-read bs k (kindCode (b .kind)) (b .first) (b .last) (b .count) (length (b .parts)) (scoreCode (scoreOf (b .parts)))
-      (at-first bs (rowAt k) head parts a) in
+      (at-first bs (rowAt k) (headOf b) parts a) in
       record {
         kind = r .kind-read;
         first = r .first-read;
@@ -285,8 +287,8 @@ module _ {P : Type 0} (bs : List ℕ) (ns : List ℤ) where
             (at-next ns (k * numberRowSize) (padded (pos 0) partLimit masses) (score ∷ []) partLimit (massAt k partLimit) e refl m) (pos 0);
         parts =
             parts-read bs ns k 0 i (b .parts)
-            (at-first bs (partAt k 0) (partRows i (b .parts)) (replicate ((partLimit * partSize) - length (partRows i (b .parts))) 0)
-            (at-next bs (rowAt k) head parts headSize (partAt k 0) refl (omega arith) a))
+            (at-first bs (partAt k 0) (partRows i (b .parts)) (replicate (partLimit * partSize - length (partRows i (b .parts))) 0)
+            (at-next bs (rowAt k) (headOf b) parts headSize (partAt k 0) refl (omega arith) a))
             (at-first ns (massAt k 0) masses (replicate (partLimit - length masses) (pos 0))
             (at-next ns (k * numberRowSize) [] (padded (pos 0) partLimit masses) 0 (massAt k 0) refl refl
             (at-first ns (k * numberRowSize) (padded (pos 0) partLimit masses) (score ∷ []) m)))

@@ -8,6 +8,7 @@ use lib.ListN.{length}
 use Rattle.scope.specs.declared.grammar.Key.the-variants.{NoKey}
 use Rattle.scope.specs.declared.grammar.Kind.{Kind}
 use Rattle.scope.specs.declared.grammar.Kind.the-variants.{Unknown, Labile, NTerm, OnResidue, OnRange, CTerm}
+use Rattle.scope.specs.Bytes.{byteLimit}
 use Rattle.scope.specs.Limits.{lineLimit, residueLimit, bracketLimit, partLimit, textLimit, labelLimit, countLimit, copyLimit}
 use Rattle.scope.specs.Line.{Number, Label, Value, mass, text, reference, Part, Bracket, Line}
 use Rattle.scope.specs.Keys.{keyCode}
@@ -21,7 +22,7 @@ use Rattle.scope.specs.Positions.{floaters}
 use Rattle.basics.specs.Each.{Each, OfGiven, IsGiven}
 
 abbrev pub Byte : ℕ → Type 0
-Byte b = b < 256
+Byte b = b < byteLimit
 
 -- "below 1,000,000 in size with at most 6 decimals"; "The sign of zero .. not kept"
 pub record NumberWithin {P : Type 0} (n : Number P) : Type 0 where

@@ -108,6 +108,13 @@ module _ {a : Before} {ps : List (Part ℕ)} {k u : ℕ} {bytes : List ℕ} {num
       ∙ store-end (pos 0) numbersSize [] (a .masses ++ padded (pos 0) partLimit ms) (a .beyond) (given (scoreOf ps) millionths (pos 0) ∷ []) i (omega arith) (omega arith)
       ∙ ap (λ y. numbersWith y (a .beyond)) (append-assoc (a .masses) (padded (pos 0) partLimit ms) (given (scoreOf ps) millionths (pos 0) ∷ []))
 
+-- ---- what close does
+pub head-put : {bytes : List ℕ} {numbers : List ℤ} {k kind first last j : ℕ} {p : Parted} {refers : Bool} {m : ℤ} {bytes′ : List ℕ} {numbers′ : List ℤ}
+    → refers ≡ cond (eqb j 0) (p .refers) false → bytes′ ≡ sets bytes (rowAt k) (headRow kind first last 1 (j + 1) (p .code))
+    → numbers′ ≡ set numbers (massAt k partLimit) m → m ≡ p .mass → HeadPut bytes numbers k kind first last j p (Done (p .at) (p .texts) refers) bytes′ numbers′
+head-put {numbers = numbers} {k = k} {p = p} er eb en em =
+    record { done = ap (Done (p .at) (p .texts)) er; bytes-are = eb; numbers-are = en ∙ ap (set numbers (massAt k partLimit)) em }
+
 -- ---- what put_parts does
 pub same-mass : {line : List ℕ} {g : Opening} {ps : List (Part ℕ)} {at shut : ℕ} {refers : Bool} {k j t code : ℕ} {m m′ : ℤ} → m′ ≡ m
     → Begun line g ps at shut refers k j t code m → Begun line g ps at shut refers k j t code m′

@@ -1,5 +1,5 @@
 -- Stores into lists: zeros from the front on, a copy, brackets marked.
-use mathlib.Core.Path.{_≡_, refl, sym, ap, _∙_}
+use mathlib.Core.Path.{_≡_, refl, sym, ap, ap₂, _∙_}
 use mathlib.Core.List.{List, [], _∷_, _++_, append-assoc}
 use Prim.Native.Nat.{ℕ, suc, _+_, _-_, _*_, _^_, _≤_, _<_}
 use lib.IntN.{ℤ}
@@ -145,15 +145,15 @@ unfolding marked
 marking-start d from n h = record { upto = omega arith; few = h .0; size = h .1; long = refl; is = refl }
 
 module _ {d : List ℕ} {from n i : ℕ} {cur : List ℕ} (h : Marking d from n i cur) where
-  pub marking-next : i < n → Marking d from n (i + 1) (set cur (rowAt (from + i)) (kindCode NTerm))
+  pub marking-next : {cur′ : List ℕ} {x : ℕ} → i < n → cur′ ≡ set cur (rowAt (from + i)) x → x ≡ kindCode NTerm → Marking d from n (i + 1) cur′
   unfolding marked
-  marking-next l =
+  marking-next {cur′} {x} l e f =
       record {
         upto = omega arith;
         few = h .few;
         size = h .size;
-        long = length-set cur (rowAt (from + i)) (kindCode NTerm) ∙ h .long;
-        is = ap (λ x. set x (rowAt (from + i)) (kindCode NTerm)) (h .is) ∙ ap (marked d from) (sym (add-one i));
+        long = ap length e ∙ length-set cur (rowAt (from + i)) x ∙ h .long;
+        is = e ∙ ap₂ (λ y z. set y (rowAt (from + i)) z) (h .is) f ∙ ap (marked d from) (sym (add-one i));
       }
 
   pub marking-end : n ≤ i → cur ≡ marked d from n

@@ -319,18 +319,7 @@ fn put_found(
     let key = p.key;
     let score = p.score;
     let next = p.next;
-    let texts = put_part(
-        line,
-        bytes,
-        numbers,
-        value,
-        key,
-        p.label,
-        p.ends,
-        k,
-        j,
-        t,
-    );
+    let texts = put_part(line, bytes, numbers, value, key, p.label, p.ends, k, j, t);
     let code2 = score_code(code, score);
     let mass2 = score_mass(code, mass, score);
     let refers = is_reference(value);

@@ -1,7 +1,7 @@
 -- Stores into lists: zeros from the front on, a copy, brackets marked.
 use mathlib.Core.Path.{_≡_, refl, sym, ap, ap₂, _∙_}
 use mathlib.Core.List.{List, [], _∷_, _++_, append-assoc}
-use Prim.Native.Nat.{ℕ, suc, _+_, _-_, _*_, _^_, _≤_, _<_}
+use Prim.Native.Nat.{ℕ, suc, _+_, _-_, _^_, _≤_, _<_}
 use lib.IntN.{ℤ}
 use lib.Signed.{mag}
 use mir.Syntax.{w64}

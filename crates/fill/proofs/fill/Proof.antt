@@ -7,11 +7,6 @@ use borrow.Author.Needs.{needs}
 use Rattle.fill.proofs.WholeLaws.{Looping, looping-start, the-filling, some-filling, on-past, looping-next, small-counts, end-fills}
 use Rattle.fill.proofs.fill.Statement.{statement}
 use Rattle.fill.proofs.fill.Tie as tie
-use Rattle.fill.proofs.fill.Reads as reads
-use Rattle.fill.proofs.fill.Lts as lts
-use Rattle.areas.proofs.put_counts.Reads as put-counts-reads
-use Rattle.fill.proofs.begin.Reads as begin-reads
-use Rattle.fill.proofs.step_on.Reads as step-on-reads
 
 abbrev Inv-loop : tie.InvT-loop
 Inv-loop line bytes₀ numbers₀ s₀ bytes numbers s = Looping line bytes₀ numbers₀ s bytes numbers

@@ -5,10 +5,6 @@ use borrow.Author.Needs.{needs}
 use Rattle.fill.proofs.Stores.{Marking, marking-start, marking-next, marking-end}
 use Rattle.fill.proofs.mark_terms.Statement.{statement}
 use Rattle.fill.proofs.mark_terms.Tie as tie
-use Rattle.fill.proofs.mark_terms.Reads as reads
-use Rattle.fill.proofs.mark_terms.Lts as lts
-use Rattle.areas.proofs.put_kind.Reads as put-kind-reads
-use Rattle.fill.proofs.kind_code.Reads as kind-code-reads
 
 abbrev Inv-loop : tie.InvT-loop
 Inv-loop bytes₀ from n i₀ bytes i = Marking bytes₀ from n i bytes

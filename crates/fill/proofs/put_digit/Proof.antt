@@ -5,10 +5,6 @@ use mathlib.Core.Path.{refl}
 use borrow.Author.Needs.{needs}
 use Rattle.fill.proofs.put_digit.Statement.{statement}
 use Rattle.fill.proofs.put_digit.Tie as tie
-use Rattle.fill.proofs.put_digit.Reads as reads
-use Rattle.fill.proofs.put_digit.Lts as lts
-use Rattle.areas.proofs.put_count.Reads as put-count-reads
-use Rattle.fill.proofs.go.Reads as go-reads
 
 go-requires : tie.Need-go-requires
 go-requires c κs = search needs

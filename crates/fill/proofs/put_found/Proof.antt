@@ -8,12 +8,6 @@ use Rattle.fill.proofs.StepLaws.{found-put, shut-step, more-step}
 use borrow.Author.Needs.{needs}
 use Rattle.fill.proofs.put_found.Statement.{statement}
 use Rattle.fill.proofs.put_found.Tie as tie
-use Rattle.fill.proofs.put_found.Reads as reads
-use Rattle.fill.proofs.put_found.Lts as lts
-use Rattle.fill.proofs.is_reference.Reads as is-reference-reads
-use Rattle.fill.proofs.put_part.Reads as put-part-reads
-use Rattle.fill.proofs.score_code.Reads as score-code-reads
-use Rattle.fill.proofs.score_mass.Reads as score-mass-reads
 
 put-part-requires : tie.Need-put-part-requires
 put-part-requires c κs = search needs

@@ -6,12 +6,6 @@ use Rattle.scope.specs.Layout.{lettersAt, sectionsAt}
 use borrow.Author.Needs.{needs}
 use Rattle.fill.proofs.put_residue.Statement.{statement}
 use Rattle.fill.proofs.put_residue.Tie as tie
-use Rattle.fill.proofs.put_residue.Reads as reads
-use Rattle.fill.proofs.put_residue.Lts as lts
-use Rattle.areas.proofs.put_residue.Reads as put-residue-reads
-use Rattle.classes.proofs.upper.Reads as upper-reads
-use Rattle.fill.proofs.first_of.Reads as first-of-reads
-use Rattle.fill.proofs.section_code.Reads as section-code-reads
 
 add-first-of : tie.Need-add-first-of
 add-first-of c = search needs

@@ -9,7 +9,6 @@ use native.Mathlib.Nat.{div-mul-le-self}
 use native.Mathlib.Omega.{arith}
 use lib.Dec.{eqb}
 use lib.IntN.{ℤ, pos, natAbs}
-use lib.ListN.{getD}
 use Rattle.scope.specs.declared.grammar.Key.the-variants.{Obs}
 use Rattle.scope.specs.Limits.{decimalLimit}
 use Rattle.scope.specs.Line.{Number, mass, text, reference, Part}

@@ -1,6 +1,5 @@
 -- Whole numbers of the machine. `omega` reads no ℤ: a size, `natAbs`, is a ℕ, and what follows is said of sizes. Assumes nothing.
 use mathlib.Core.Path.{_≡_, refl, _∙_}
-use mathlib.Core.Bool.{Bool, true, false}
 use Prim.Native.Nat.{ℕ, zero, suc, _+_, _-_, _*_, _/_, _^_, _≤_, _<_}
 use native.Mathlib.Nat.{pow-le-pow-right, div-le-self, div-mul-le-self, zero-mul, mul-le-mul}
 use native.Mathlib.Omega.{arith}

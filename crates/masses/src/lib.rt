@@ -14,7 +14,6 @@ ghost use mathlib.Core.Bool.{_&&_};
 ghost use Prim.Native.Nat.{min, _+_, _*_, _-_, _<_, _≤_, _^_};
 ghost use lib.Dec.{eqb};
 ghost use lib.IntN.{pos, natAbs, _+ℤ_, _*ℤ_};
-ghost use lib.ListN.{getD};
 ghost use Rattle.scope.specs.declared.grammar.Key.the-variants.{Obs};
 ghost use Rattle.scope.specs.declared.answers.Booked.the-variants.{Done};
 ghost use Rattle.scope.specs.Limits.{partLimit, decimalLimit, countLimit, copyLimit};

@@ -237,7 +237,7 @@ fn first_refers(count: usize, before: bool, here: bool) -> bool
 fn is_info(key: Key) -> bool
     ensures { λ r. ⌜ r ≡ eqb (keyCode key) (keyCode Key.Info) ⌝ }
 {
-    keywords::key_code(key) == 13
+    keywords::key_code(key) == keywords::key_code(Key::Info)
 }
 
 fn is_reference(value: Value) -> bool

@@ -12,6 +12,10 @@ use Rattle.scope.specs.Positions.{floaters}
 use Rattle.scope.specs.Masses.{massOr0}
 use Rattle.basics.specs.Each.{Each}
 
+-- what a mass stays below in size: "a mass or score below 1,000,000 in size", in millionths
+abbrev pub massLimit : ℕ
+massLimit = sizeLimit * 10 ^ decimalLimit
+
 -- a bracket of a line with n residues
 pub record FairBracket {P : Type 0} (n : ℕ) (k : Bracket P) : Type 0 where
   -- "count 1 to 99"
@@ -36,5 +40,4 @@ pub record Limited {P : Type 0} (t : Line P) : Type 0 where
   pub few-brackets : length (t .brackets) ≤ bracketLimit
   -- "floating copies 8"
   pub few-copies : length (floaters t) ≤ copyLimit
-  -- "a mass or score below 1,000,000 in size", in millionths
-  pub small : Each (λ k. natAbs (massOr0 k) < sizeLimit * 10 ^ decimalLimit) (t .brackets)
+  pub small : Each (λ k. natAbs (massOr0 k) < massLimit) (t .brackets)

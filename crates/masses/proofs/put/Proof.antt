@@ -7,6 +7,7 @@ use lib.ListN.{length}
 use mir.Syntax.{w64}
 use mir.Val.{toZ}
 use mir.ValLaws.{toZ-ofZ}
+use Rattle.scope.specs.Limits.{copyLimit}
 use Rattle.masses.proofs.LedgerLaws.{Putting, putting-start, putting-few, putting-asks, putting-again, putting-end}
 use Rattle.masses.proofs.put.Statement.{statement}
 use Rattle.masses.proofs.put.Tie as tie
@@ -22,7 +23,7 @@ until-requires c κs = (c .pre .few, c .pre .count)
 
 loop-holds : tie.Need-loop-holds Inv-loop μ-loop
 loop-holds c =
-    let long : length (c .before .args .t2) ≡ 8 = search needs in
+    let long : length (c .before .args .t2) ≡ copyLimit = search needs in
     putting-start long (c .before .pre) (toZ-ofZ w64 (c .before .args .m) (c .before .fits .m)) (c .until .ensures)
 
 array-read-wide : tie.Need-array-read-wide Inv-loop μ-loop

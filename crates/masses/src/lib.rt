@@ -1,7 +1,6 @@
 // Masses: a bracket's, the total, the ledger of a placement, and the display.
 use areas::number;
 use areas::part_byte;
-use areas::wide;
 use brackets::copies_of;
 use brackets::count;
 use brackets::first;

@@ -8,8 +8,8 @@ use native.Mathlib.Nat.{zero-add}
 use native.Mathlib.Numerals.{add-one}
 use native.Mathlib.Decide.{ℕ-discrete}
 use native.Mathlib.Omega.{arith}
-use borrow.Author.Tests.{eq-eqb, ne-eqb}
-use lib.Dec.{eqb}
+use borrow.Author.Tests.{eq-eqb, ne-eqb, ltb-true, ltb-false}
+use lib.Dec.{eqb, ltb}
 use lib.IntN.{ℤ, pos, natAbs, _+ℤ_, +ℤ-idl, +ℤ-idr, +ℤ-assoc}
 use lib.ListN.{length, getD, set, drop, replicate, length-set, getD-replicate, drop-of-length-le}
 use lib.Seq.{getD-set-same, getD-set-other, drop-cons, ext-getD}
@@ -29,10 +29,11 @@ use Rattle.basics.specs.Tabled.{tabled-at, tabled-end, tabled-all, length-table
 use Rattle.masses.specs.Reach.{Reach}
 use Rattle.mass_laws.specs.Terms.{massLimit}
 use Rattle.mass_laws.specs.Weights.{placedMass, placed-cons}
-use Rattle.masses.specs.Booking.{Held, Placed, CanPut, CanFloat, Put}
+use Rattle.masses.specs.Booking.{Held, Placed, CanBook, booked, CanPut, CanFloat, Put}
 use Rattle.masses.proofs.Whole.{back}
 use Rattle.basics.specs.Wholes.{abs-add}
 use Rattle.masses.proofs.TallyLaws.{mass-small, few-copies}
+use Rattle.basics.specs.Choice.{by-test}
 use Rattle.basics.specs.Tests.{eqb-sym}
 
 -- ---- one booking: a mass at position y
@@ -251,16 +252,36 @@ module _ {l₀ : List ℤ} {at : List ℕ} {i c : ℕ} {m : ℤ} {end j : ℕ} {
       more : (j : ℕ) → bracketLimit + j + 1 ≡ bracketLimit + (j + 1)
       more j = omega arith
 
-  -- the same, as the machine books it
-  module _ {y : ℕ} (h : j < end) (r : y < positionLimit) where
-    few-put : bracketLimit + j ≤ bracketLimit + copyLimit
-    few-put = omega (arith, putting-few h)
+  -- a position that the ledger does not have
+  putting-past : {y : ℕ} → j < end → y ≡ getD at j 0 → positionLimit ≤ y → Putting l₀ at i c m end (j + 1) l
+  putting-past {y} h e r =
+      record {
+        long = s .long;
+        end-is = s .end-is;
+        small = s .small;
+        from = omega (arith, s .from);
+        inside = omega arith;
+        held = record { whole = s .held .whole; small = λ x p. omega (arith, s .held .small x p) };
+        entry =
+            λ b q fs x p.
+            s .entry b q fs x p
+            ∙ ap (λ ks. getD l x (pos 0) +ℤ putAt x ks (drop j at)) (copy-first b fs (one-less h))
+            ∙ ap (λ d. getD l x (pos 0) +ℤ putAt x (b ∷ (replicate (c - (j + 1 - i)) b ++ fs)) d) (entry-first h)
+            ∙ ap (λ z. getD l x (pos 0) +ℤ z)
+            (put-cons x b (replicate (c - (j + 1 - i)) b ++ fs) (getD at j 0) (drop (j + 1) at)
+            ∙ ap (λ t. cond t (massOr0 b) (pos 0) +ℤ putAt x (replicate (c - (j + 1 - i)) b ++ fs) (drop (j + 1) at)) (ne-eqb x (getD at j 0) (λ z. omega arith))
+            ∙ +ℤ-idl (putAt x (replicate (c - (j + 1 - i)) b ++ fs) (drop (j + 1) at)));
+      }
 
-    pub putting-asks : natAbs (toZ w64 (ofZ w64 (getD l y (pos 0)))) + natAbs m < 2 ^ 63
-    putting-asks = asks-entry (s .held) y r m few-put (s .small) refl
+  -- as a booking asks it, and gives it
+  pub putting-asks : {y : ℕ} → j < end → CanBook l y m
+  putting-asks {y} h r = omega (arith, s .held .small y r, s .small, putting-few h)
 
-    pub putting-again : {v : ℤ} → y ≡ getD at j 0 → v ≡ toZ w64 (ofZ w64 (getD l y (pos 0))) +ℤ m → Putting l₀ at i c m end (j + 1) (set l y (toZ w64 (ofZ w64 v)))
-    putting-again e g = putting-next h e r (gives-entry (s .held) y r m few-put (s .small) refl g)
+  pub putting-again : {y : ℕ} {l′ : List ℤ} → j < end → y ≡ getD at j 0 → l′ ≡ booked l y m → Putting l₀ at i c m end (j + 1) l′
+  putting-again {y} {l′} h e g =
+      by-test (ltb y positionLimit)
+      (λ t. subst (Putting l₀ at i c m end (j + 1)) (sym (g ∙ ap (λ u. cond u (set l y (getD l y (pos 0) +ℤ m)) l) t)) (putting-next h e (ltb-true y positionLimit t) refl))
+      (λ t. subst (Putting l₀ at i c m end (j + 1)) (sym (g ∙ ap (λ u. cond u (set l y (getD l y (pos 0) +ℤ m)) l) t)) (putting-past h e (ltb-false y positionLimit t)))
 
   -- none is left, or no entry is
   none-left : end ≤ j → (b : Bracket (Unit {0})) (fs : List (Bracket (Unit {0}))) (x : ℕ) → putAt x (replicate (c - (j - i)) b ++ fs) (drop j at) ≡ putAt x fs (drop end at)

@@ -36,6 +36,13 @@ module _ (a b : ℤ) (h : natAbs a + natAbs b < 2 ^ 63) where
   pub sum-back : toZ w64 (ofZ w64 (toZ w64 (ofZ w64 a) +ℤ toZ w64 (ofZ w64 b))) ≡ a +ℤ b
   sum-back = rw (back-a, back-b) (back (a +ℤ b) (omega (arith, abs-add a b)))
 
+  -- the same, where both are read from their bits and the sum is stored
+  pub stored-fit : natAbs (toZ w64 (ofZ w64 a)) + natAbs (toZ w64 (ofZ w64 b)) < 2 ^ 63
+  stored-fit = rw (back-a, back-b) h
+
+  pub stored-sum : {r : ℤ} → r ≡ toZ w64 (ofZ w64 a) +ℤ toZ w64 (ofZ w64 b) → toZ w64 (ofZ w64 r) ≡ a +ℤ b
+  stored-sum e = rw e sum-back
+
 module _ (n : ℕ) (m : ℤ) (few : n ≤ countLimit) (small : natAbs m < massLimit) where
   back-n : toZ w64 n ≡ pos n
   back-n = toZ-pos w64 n (omega arith)

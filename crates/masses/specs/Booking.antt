@@ -1,9 +1,11 @@
 -- A ledger while it is booked: what its entries keep to, and what they hold.
 use mathlib.Core.Path.{_≡_}
+use mathlib.Core.Bool.{cond}
 use mathlib.Core.List.{List, _++_}
-use Prim.Native.Nat.{ℕ, _+_, _*_, _≤_, _<_}
+use Prim.Native.Nat.{ℕ, _+_, _*_, _^_, _≤_, _<_}
+use lib.Dec.{ltb}
 use lib.IntN.{ℤ, pos, natAbs, _+ℤ_}
-use lib.ListN.{length, getD, drop, replicate}
+use lib.ListN.{length, getD, set, drop, replicate}
 use Rattle.scope.specs.Limits.{bracketLimit, positionLimit, copyLimit, countLimit}
 use Rattle.scope.specs.Line.{Bracket}
 use Rattle.scope.specs.Layout.{tablesIn}
@@ -21,6 +23,14 @@ pub record Held (l : List ℤ) (masses : ℕ) : Type 0 where
 pub record Placed (bs : List ℕ) (ns : List ℤ) (l : List ℤ) : Type 0 where
   pub held : Held l bracketLimit
   pub entry : (x : ℕ) → x < positionLimit → getD l x (pos 0) ≡ placedAt x (tablesIn bs ns .brackets)
+
+-- a mass is booked at position y, if the ledger has it
+abbrev pub booked : List ℤ → ℕ → ℤ → List ℤ
+booked l y m = cond (ltb y positionLimit) (set l y (getD l y (pos 0) +ℤ m)) l
+
+-- what its entry will be fits
+abbrev pub CanBook : List ℤ → ℕ → ℤ → Type 0
+CanBook l y m = y < positionLimit → natAbs (getD l y (pos 0)) + natAbs m < 2 ^ 63
 
 -- then the floating copies; i of them are put
 pub record CanPut (l : List ℤ) (i c : ℕ) (m : ℤ) : Type 0 where

@@ -29,7 +29,7 @@ ghost use Rattle.masses.specs.Reach.{Reach, ReachPart};
 ghost use Rattle.masses.specs.Weights.{saysMass, wanted, weightOf};
 ghost use Rattle.mass_laws.specs.Weights.{placedMass};
 ghost use Rattle.masses.specs.Tallies.{CanTally, Tallied};
-ghost use Rattle.masses.specs.Booking.{Placed, CanPut, CanFloat, Put};
+ghost use Rattle.masses.specs.Booking.{Placed, CanBook, booked, CanPut, CanFloat, Put};
 
 // The mass of a bracket.
 pub enum Mass {
@@ -264,10 +264,22 @@ fn until(i: usize, c: usize) -> usize
     Placement::COPIES
 }
 
+// A mass is booked at a position, if the ledger has it.
+fn book(l: &mut [i64; Ledger::POSITIONS], position: u16, m: i64)
+    requires { ⌜ CanBook (now l) position m ⌝ }
+    ensures { λ _. ⌜ now (l .exit) ≡ booked (now (l .entry)) position m ⌝ }
+{
+    let x = position as usize;
+    if x < Ledger::POSITIONS {
+        let old = l[x];
+        l[x] = add(old, m);
+    }
+}
+
 // c copies of a mass, at the placement's positions from i on. How many copies are put then.
 fn put(
     l: &mut [i64; Ledger::POSITIONS],
-    at: [u8; Placement::COPIES],
+    at: [u16; Placement::COPIES],
     i: usize,
     c: usize,
     m: i64,
@@ -278,9 +290,8 @@ fn put(
     let end = until(i, c);
     let mut j = i;
     while j < end {
-        let x = wide(at[j]);
-        let old = l[x];
-        l[x] = add(old, m);
+        let position = at[j];
+        book(l, position, m);
         j += 1;
     }
     end
@@ -292,7 +303,7 @@ fn put_bracket(
     numbers: &[i64],
     k: usize,
     l: &mut [i64; Ledger::POSITIONS],
-    at: [u8; Placement::COPIES],
+    at: [u16; Placement::COPIES],
     i: usize,
 ) -> usize
     requires { ⌜ CanFloat (now bytes) (now numbers) k (now l) i ⌝ }

@@ -3,7 +3,7 @@ use mathlib.Core.Path.{_≡_, refl, ap₂, _∙_}
 use mathlib.Core.Logic.{_⊎_, inl, inr, ⊎-elim}
 use mathlib.Core.Bool.{Bool, true, false, cond}
 use mathlib.Core.List.{List, [], _∷_, map}
-use Prim.Native.Nat.{ℕ, suc, _+_, _-_, _*_, _^_, _≤_, _<_}
+use Prim.Native.Nat.{ℕ, suc, _+_, _-_, _*_, _≤_, _<_}
 use native.Mathlib.Nat.{mul-le-mul}
 use native.Mathlib.Omega.{arith}
 use lib.IntN.{ℤ, pos, natAbs, _*ℤ_}
@@ -17,7 +17,7 @@ use Rattle.scope.specs.Positions.{floaters}
 use Rattle.scope.specs.Masses.{massOr0, sum, sumℕ, total}
 use Rattle.mass_laws.specs.Weights.{weight}
 use Rattle.basics.specs.Wholes.{abs-add, abs-mul}
-use Rattle.mass_laws.specs.Terms.{massLimit, FairBracket, Fair, Limited}
+use Rattle.mass_laws.specs.Terms.{massLimit, totalLimit, FairBracket, Fair, Limited}
 use Rattle.basics.specs.Each.{Each}
 use Rattle.mass_laws.specs.Splits.{total-is, other-than-unknown}
 
@@ -80,6 +80,6 @@ module _ {P : Type 0} where
   sum-size [] f = omega arith
   sum-size (k ∷ ks) f = omega (arith, abs-add (weight k) (sum (map weight ks)), weight-size k (f .0), sum-size ks (f .1))
 
-  -- at most as many masses as brackets, or one less and as many more as copies float: "Below 71 times 10^12"
-  pub total-size : (t : Line P) → Fair t → Limited t → natAbs (total t) < 71 * 10 ^ 12
+  -- at most as many masses as brackets, or one less and as many more as copies float
+  pub total-size : (t : Line P) → Fair t → Limited t → natAbs (total t) < totalLimit
   total-size t f l = rw (total-is t) (⊎-elim (λ h. omega (arith, sum-size (t .brackets) (l .small), l .few-brackets)) (λ h. omega (arith, sum-size (t .brackets) (l .small), l .few-brackets, l .few-copies, floating-is t)) (many (length (t .residues)) (t .brackets) (f .each-bracket)))

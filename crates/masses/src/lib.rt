@@ -27,6 +27,7 @@ ghost use Rattle.areas.specs.Bounds.{Small, Bounds};
 ghost use Rattle.brackets.specs.Row.{Row};
 ghost use Rattle.masses.specs.Reach.{Reach, ReachPart};
 ghost use Rattle.masses.specs.Weights.{saysMass, wanted, weightOf};
+ghost use Rattle.mass_laws.specs.Terms.{totalLimit};
 ghost use Rattle.mass_laws.specs.Weights.{placedMass};
 ghost use Rattle.masses.specs.Tallies.{CanTally, Tallied};
 ghost use Rattle.masses.specs.Booking.{Placed, CanBook, booked, CanPut, CanFloat, Put};
@@ -213,7 +214,7 @@ pub fn weigh(bytes: &[u8], numbers: &[i64]) -> Weight
 
 // "the whole number becomes a double with nothing lost and is divided once by 1,000,000"
 pub fn as_daltons(total: i64) -> f64
-    requires { ⌜ natAbs total < 71 * 10 ^ 12 ⌝ }
+    requires { ⌜ natAbs total < totalLimit ⌝ }
     ensures { λ r. ⌜ r ≡ daltons total ⌝ }
 {
     (total as f64) / 1000000.0

@@ -1,7 +1,6 @@
 // Masses: a bracket's, the total, the ledger of a placement, and the display.
 use areas::count;
 use areas::first;
-use areas::wide;
 use brackets::copies_of;
 use brackets::is_modification;
 use brackets::is_placed;

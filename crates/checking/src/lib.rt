@@ -234,7 +234,7 @@ fn row_noted(
 fn mode_behind(slot: Slot, sort: u16) -> Mode
     ensures { λ r. ⌜ r ≡ modeBehind slot sort ⌝ }
 {
-    if sort == 3 {
+    if sort == bracketed::REFERENCE {
         return slot.referred;
     }
     slot.after

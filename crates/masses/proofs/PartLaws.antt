@@ -43,8 +43,8 @@ module _ (bs : List ℕ) (ns : List ℤ) (k : ℕ) (obs : Bool) where
   abbrev pub among : List (Part (Unit {0})) → Option ℤ
   among ps = firstMass (keep (λ p. wanted obs (isKey Obs p)) ps)
 
-  abbrev pub massAt : ℕ → ℤ
-  massAt j = millionths (numberIn (massField ns k j) (decimalsField bs k j))
+  abbrev pub massOfPart : ℕ → ℤ
+  massOfPart j = millionths (numberIn (massField ns k j) (decimalsField bs k j))
 
   abbrev pub hit : ℕ → Bool
   hit j = eqb (valueField bs k j) massCode && wanted obs (eqb (keyField bs k j) (keyCode Obs))
@@ -57,14 +57,14 @@ module _ (bs : List ℕ) (ns : List ℤ) (k : ℕ) (obs : Bool) where
   by-value n x false false true r = refl
   by-value n x false false false r = refl
 
-  at-part : (j : ℕ) (ps : List (Part (Unit {0}))) → among (partIn bs ns k j ∷ ps) ≡ cond (hit j) (some (massAt j)) (among ps)
+  at-part : (j : ℕ) (ps : List (Part (Unit {0}))) → among (partIn bs ns k j ∷ ps) ≡ cond (hit j) (some (massOfPart j)) (among ps)
   unfolding partIn
   at-part j ps =
       first-cons (λ p. wanted obs (isKey Obs p)) (partIn bs ns k j) ps
       ∙ by-value
       (numberIn (massField ns k j) (decimalsField bs k j)) _
       (eqb (valueField bs k j) massCode) (eqb (valueField bs k j) textCode) (wanted obs (isKey Obs (partIn bs ns k j))) (among ps)
-      ∙ ap (λ t. cond (eqb (valueField bs k j) massCode && wanted obs t) (some (massAt j)) (among ps)) (key-is (keyField bs k j) (keyCode Obs) (omega arith) (omega arith))
+      ∙ ap (λ t. cond (eqb (valueField bs k j) massCode && wanted obs t) (some (massOfPart j)) (among ps)) (key-is (keyField bs k j) (keyCode Obs) (omega arith) (omega arith))
 
   -- no such mass before part j
   pub record Before (m j : ℕ) : Type 0 where
@@ -83,11 +83,11 @@ module _ (bs : List ℕ) (ns : List ℤ) (k : ℕ) (obs : Bool) where
         rest = ap (λ n. among (tabled (partIn bs ns k) 0 n)) (sym e) ∙ ap among (tabled-all (partIn bs ns k) m);
       }
 
-  pub before-found : {m j : ℕ} {has : Bool} → Before m j → j < m → has ≡ hit j → has ≡ true → some (massAt j) ≡ among (bracketIn bs ns k .parts)
+  pub before-found : {m j : ℕ} {has : Bool} → Before m j → j < m → has ≡ hit j → has ≡ true → some (massOfPart j) ≡ among (bracketIn bs ns k .parts)
   before-found {m} {j} b h e t =
       sym
       (b .rest ∙ ap among (tabled-at (partIn bs ns k) j m h) ∙ at-part j (tabled (partIn bs ns k) (j + 1) (m - (j + 1)))
-      ∙ ap (λ x. cond x (some (massAt j)) (among (tabled (partIn bs ns k) (j + 1) (m - (j + 1))))) (sym e ∙ t))
+      ∙ ap (λ x. cond x (some (massOfPart j)) (among (tabled (partIn bs ns k) (j + 1) (m - (j + 1))))) (sym e ∙ t))
 
   pub before-next : {m j : ℕ} {has : Bool} → Before m j → j < m → has ≡ hit j → has ≡ false → Before m (j + 1)
   before-next {m} {j} b h e t =
@@ -97,7 +97,7 @@ module _ (bs : List ℕ) (ns : List ℤ) (k : ℕ) (obs : Bool) where
         few = b .few;
         rest =
             b .rest ∙ ap among (tabled-at (partIn bs ns k) j m h) ∙ at-part j (tabled (partIn bs ns k) (j + 1) (m - (j + 1)))
-            ∙ ap (λ x. cond x (some (massAt j)) (among (tabled (partIn bs ns k) (j + 1) (m - (j + 1))))) (sym e ∙ t);
+            ∙ ap (λ x. cond x (some (massOfPart j)) (among (tabled (partIn bs ns k) (j + 1) (m - (j + 1))))) (sym e ∙ t);
       }
 
   pub before-end : {m j : ℕ} → Before m j → m ≤ j → none ≡ among (bracketIn bs ns k .parts)

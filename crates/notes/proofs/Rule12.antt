@@ -15,30 +15,30 @@ use Rattle.scope.specs.Line.{Bracket, Line}
 use Rattle.scope.specs.Modifications.{onlyInfo, isReferring, isLabelled, unlabelledCopies, copies}
 use Rattle.scope.specs.Refusals.{least, dueAt, passing, refusal12}
 use Rattle.places.specs.Places.{coded}
-use Rattle.notes.specs.Notes.{sortOf, NotesAre}
+use Rattle.notes.specs.Notes.{unlabelledSort, labelledSort, sortOf, NotesAre}
 use Rattle.notes.specs.Rows.{noteAt, copiesIn, copiesAt, passedAt}
 use Rattle.notes.proofs.Noting.{bracketAt, drop-next, noted-at}
 
 -- what the numbers of a row say
 module _ (sort kind count : ℕ) where
-  pub copies-labelled : {x : ℕ} → x ≡ sort → x ≡ 2 → 1 ≡ copiesIn sort kind count
-  copies-labelled e h = rw (eq-eqb sort 2 (omega arith))
+  pub copies-labelled : {x : ℕ} → x ≡ sort → x ≡ labelledSort → 1 ≡ copiesIn sort kind count
+  copies-labelled e h = rw (eq-eqb sort labelledSort (omega arith))
 
-  module _ {x : ℕ} (e : x ≡ sort) (h : x ≡ 2 → ⊥) where
-    pub copies-none : (x ≡ 1 → ⊥) → 0 ≡ copiesIn sort kind count
-    copies-none g = rw (ne-eqb sort 2 (λ z. h (e ∙ z)), ne-eqb sort 1 (λ z. g (e ∙ z)))
+  module _ {x : ℕ} (e : x ≡ sort) (h : x ≡ labelledSort → ⊥) where
+    pub copies-none : (x ≡ unlabelledSort → ⊥) → 0 ≡ copiesIn sort kind count
+    copies-none g = rw (ne-eqb sort labelledSort (λ z. h (e ∙ z)), ne-eqb sort unlabelledSort (λ z. g (e ∙ z)))
 
-    module _ (g : x ≡ 1) {y : ℕ} (f : y ≡ kind) where
-      pub copies-unknown : {z : ℕ} → y ≡ 1 → z ≡ count → z ≡ copiesIn sort kind count
-      copies-unknown l i = rw (ne-eqb sort 2 (λ z. h (e ∙ z)), eq-eqb sort 1 (omega arith), eq-eqb kind 1 (omega arith)) i
+    module _ (g : x ≡ unlabelledSort) {y : ℕ} (f : y ≡ kind) where
+      pub copies-unknown : {z : ℕ} → y ≡ kindCode Unknown → z ≡ count → z ≡ copiesIn sort kind count
+      copies-unknown l i = rw (ne-eqb sort labelledSort (λ z. h (e ∙ z)), eq-eqb sort unlabelledSort (omega arith), eq-eqb kind (kindCode Unknown) (omega arith)) i
 
-      pub copies-ranged : (y ≡ 1 → ⊥) → y ≡ 5 → 1 ≡ copiesIn sort kind count
+      pub copies-ranged : (y ≡ kindCode Unknown → ⊥) → y ≡ kindCode OnRange → 1 ≡ copiesIn sort kind count
       copies-ranged l i =
-          rw (ne-eqb sort 2 (λ z. h (e ∙ z)), eq-eqb sort 1 (omega arith), ne-eqb kind 1 (λ z. l (f ∙ z)), eq-eqb kind 5 (omega arith))
+          rw (ne-eqb sort labelledSort (λ z. h (e ∙ z)), eq-eqb sort unlabelledSort (omega arith), ne-eqb kind (kindCode Unknown) (λ z. l (f ∙ z)), eq-eqb kind (kindCode OnRange) (omega arith))
 
-      pub copies-placed : (y ≡ 1 → ⊥) → (y ≡ 5 → ⊥) → 0 ≡ copiesIn sort kind count
+      pub copies-placed : (y ≡ kindCode Unknown → ⊥) → (y ≡ kindCode OnRange → ⊥) → 0 ≡ copiesIn sort kind count
       copies-placed l i =
-          rw (ne-eqb sort 2 (λ z. h (e ∙ z)), eq-eqb sort 1 (omega arith), ne-eqb kind 1 (λ z. l (f ∙ z)), ne-eqb kind 5 (λ z. i (f ∙ z)))
+          rw (ne-eqb sort labelledSort (λ z. h (e ∙ z)), eq-eqb sort unlabelledSort (omega arith), ne-eqb kind (kindCode Unknown) (λ z. l (f ∙ z)), ne-eqb kind (kindCode OnRange) (λ z. i (f ∙ z)))
 
 -- the loop: so many copies before the k-th bracket, and no more than 8
 pub record NotPassed (notes : List ℕ) (n before k : ℕ) : Type 0 where

@@ -23,7 +23,7 @@ use Rattle.scope.specs.Refusals.{dueAt}
 use Rattle.reading_laws.specs.Run.{rest}
 use Rattle.marks.specs.declared.Marks.{Marks}
 use Rattle.marks.specs.Marks.{Dues, both, MarksAre}
-use Rattle.notes.specs.Notes.{infoSort, unlabelledSort, labelledSort, referenceSort, sortOf, noteRow, labelRow, labelRows}
+use Rattle.notes.specs.Notes.{noteSize, infoSort, unlabelledSort, labelledSort, referenceSort, sortOf, noteRow, labelRow, labelRows}
 use Rattle.bracketed.specs.declared.Bracketed.{Bracketed}
 use Rattle.bracketed.specs.declared.BracketAt.{BracketAt}
 use Rattle.bracketed.specs.declared.BracketAt.the-variants.{Stuck, Read}
@@ -189,7 +189,7 @@ module _ (line : List ℕ) (s : Stage) (slot : Slot) (b : Bracketed) (notes labe
         let low : s .labels ≤ (bracketLimit - 1) * partLimit = omega (arith, r .low-label, r .few) in
         record {
           rows =
-              ap (take (7 * length (ks ++ (k ∷ [])))) (g .put z)
+              ap (take (noteSize * length (ks ++ (k ∷ [])))) (g .put z)
               ∙ row-more ks k notes (s .brackets) _ (o .rows) (u .brackets) (omega (arith, r .few, u .notes-room)) row;
           many = omega (arith, n, c, o .many, f .closes .many);
           places =

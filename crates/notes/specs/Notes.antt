@@ -34,7 +34,7 @@ countedCode (some p) = 1
 abbrev pub noteSize : ℕ
 noteSize = 7
 
--- place, kind, sort, count (100 where it is more), whether it is written, number of its first label, number of labels
+-- place, kind, sort, count (one above the limit where it is more), whether it is written, number of its first label, number of labels
 abbrev pub noteRow : ℕ → Bracket ℕ → List ℕ
 noteRow label k =
     k .at ∷ kindCode (k .kind) ∷ sortOf k ∷ min (countLimit + 1) (k .count) ∷ countedCode (k .counted) ∷ label ∷ length (namesOf k) ∷ []

@@ -6,6 +6,7 @@ ghost use mathlib.Core.Path.{_≡_};
 ghost use mathlib.Core.List.{List};
 ghost use Prim.Native.Nat.{ℕ, _*_, _+_, _<_, _≤_};
 ghost use lib.ListN.{length, getD};
+ghost use Rattle.scope.specs.Bytes.{wideLimit};
 ghost use Rattle.scope.specs.Lists.{same, among, tabled};
 ghost use Rattle.scope.specs.Limits.{bracketLimit};
 ghost use Rattle.scope.specs.Line.{Line};
@@ -44,7 +45,7 @@ pub const LABELS: usize = Tables::BRACKETS * Tables::PARTS * LABEL;
 // The i-th number of a table.
 fn number(table: &[u16], i: usize) -> usize
     requires { ⌜ i < length (now table) ⌝ }
-    ensures { λ r. ⌜ (r ≡ getD (now (table .entry)) i 0) × (r < 65536) ⌝ }
+    ensures { λ r. ⌜ (r ≡ getD (now (table .entry)) i 0) × (r < wideLimit) ⌝ }
 {
     table[i] as usize
 }
@@ -52,7 +53,7 @@ fn number(table: &[u16], i: usize) -> usize
 // The j-th number of the k-th bracket.
 fn note(notes: &[u16], k: usize, j: usize) -> usize
     requires { ⌜ (k < bracketLimit) × (j < noteSize) × (notesRoom ≤ length (now notes)) ⌝ }
-    ensures { λ r. ⌜ (r ≡ noteAt (now (notes .entry)) k j) × (r < 65536) ⌝ }
+    ensures { λ r. ⌜ (r ≡ noteAt (now (notes .entry)) k j) × (r < wideLimit) ⌝ }
 {
     number(notes, k * NOTE + j)
 }
@@ -211,7 +212,7 @@ pub fn first_wrong_label(line: &[u8], notes: &[u16], labels: &[u16], n: usize) -
 // How many copies of the k-th bracket float.
 fn copies(notes: &[u16], k: usize) -> usize
     requires { ⌜ (k < bracketLimit) × (notesRoom ≤ length (now notes)) ⌝ }
-    ensures { λ r. ⌜ (r ≡ copiesAt (now (notes .entry)) k) × (r < 65536) ⌝ }
+    ensures { λ r. ⌜ (r ≡ copiesAt (now (notes .entry)) k) × (r < wideLimit) ⌝ }
 {
     let sort = note(notes, k, 2);
     if sort == LABELLED {

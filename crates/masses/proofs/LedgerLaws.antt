@@ -22,7 +22,7 @@ use Rattle.scope.specs.Line.{Bracket}
 use Rattle.scope.specs.Lists.{keep, flat, tabled}
 use Rattle.scope.specs.Modifications.{copies, isModification, isLabelled, unlabelledCopies}
 use Rattle.scope.specs.Positions.{isPlaced, floaters}
-use Rattle.scope.specs.Layout.{bracketIn, tablesIn, bracketsField, firstField}
+use Rattle.scope.specs.Layout.{bytesSize, bracketIn, tablesIn, bracketsField, firstField}
 use Rattle.scope.specs.Masses.{massOr0, sum, placedAt, putAt, ledger}
 use Rattle.areas.specs.Bounds.{Small, Bounds}
 use Rattle.basics.specs.Tabled.{tabled-at, tabled-end, tabled-all, length-tabled, getD-tabled}
@@ -120,8 +120,11 @@ module _ {bs : List ℕ} {ns : List ℤ} {n k : ℕ} {l : List ℤ} (i : Placing
   pub placing-reach : k < n → Reach bs ns k
   placing-reach h = record { bounds = i .bounds; inside = rw (← i .many) h }
 
-  pub placing-first : {y : ℕ} → k < n → y ≡ firstField bs k → y < positionLimit
-  placing-first h e = omega (arith, e, i .bounds .few-residues, i .bounds .bracket k (placing-reach h .inside) .first)
+  pub placing-row : k < n → (j : ℕ) → j ≤ k → (bytesSize ≤ length bs) × (j < bracketLimit)
+  placing-row h j q = (i .bounds .bytes-room, omega (arith, placing-reach h .inside, i .bounds .few-brackets))
+
+  pub placing-first : {y : ℕ} → k < n → (j : ℕ) → j ≤ k → y ≡ firstField bs j → y < positionLimit
+  placing-first h j q e = omega (arith, e, i .bounds .few-residues, i .bounds .bracket j (omega (arith, placing-reach h .inside)) .first)
 
   pub placing-few : n ≤ bracketLimit
   placing-few = omega (arith, i .many, i .bounds .few-brackets)

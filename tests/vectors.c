@@ -67,15 +67,23 @@ static void canonical(const uint8_t *bytes, const int64_t *numbers)
     free(out);
 }
 
-/* The rows, and the first row of each floater and of two that there are not. */
+/* The rows, once more over junk, which stays in the padding and behind them; and the first row of each floater and of two that there are not. */
 static void rows(const uint8_t *bytes, const int64_t *numbers, size_t floaters)
 {
-    hwemiduk_site *row = (hwemiduk_site *)room(limits.rows * sizeof *row);
-    size_t count;
+    hwemiduk_site *row = (hwemiduk_site *)room(limits.rows * sizeof *row), *again = (hwemiduk_site *)room(limits.rows * sizeof *row);
+    size_t count, same;
     expect(hwemiduk_rows(TABLES, row, limits.rows, &count) == HWEMIDUK_OK, "there are rows");
+    memset(again, JUNK, limits.rows * sizeof *again);
+    expect(hwemiduk_rows(TABLES, again, limits.rows, &same) == HWEMIDUK_OK && same == count, "as many rows again");
+    for (size_t i = 0; i < count; i++) {
+        expect(again[i].floater == row[i].floater && again[i].position == row[i].position, "the same rows again");
+        expect(is_junk((const uint8_t *)&again[i] + 1, 1), "the padding of a row is not set");
+    }
+    expect(is_junk(again + count, (limits.rows - count) * sizeof *again), "rows behind those handed out stay");
+    free(again);
     for (size_t floater = 0; floater <= floaters + 1; floater++) {
         size_t first = 0, index = limits.rows;
-        uint8_t position = JUNK;
+        hwemiduk_position position = JUNK;
         while (first < count && row[first].floater != floater)
             first++;
         uint8_t answer = hwemiduk_first_row(row, limits.rows, count, (uint8_t)floater, &index, &position);
@@ -91,23 +99,28 @@ static void rows(const uint8_t *bytes, const int64_t *numbers, size_t floaters)
 static void placements(const uint8_t *bytes, const int64_t *numbers, bool has_total)
 {
     hwemiduk_listing *listing = (hwemiduk_listing *)room(sizeof *listing);
-    uint8_t *placement = (uint8_t *)room(limits.copies);
+    const size_t size = limits.copies * sizeof(hwemiduk_position);
+    hwemiduk_position *placement = (hwemiduk_position *)room(size);
     int64_t *entries = (int64_t *)room(limits.positions * sizeof *entries);
     size_t place;
     const hwemiduk_listing fresh = HWEMIDUK_LISTING;
-    *listing = fresh;
+    uint8_t *padding = &listing->mark + 1;
+    memset(listing, 0, sizeof *listing);
+    listing->mark = HWEMIDUK_FRESH;
+    *padding = JUNK;
     for (int i = 0; i < 3 && hwemiduk_next(TABLES, listing) == HWEMIDUK_OK; i++) {
-        memcpy(placement, listing->at, limits.copies);
+        memcpy(placement, listing->at, size);
         expect(listing->mark == HWEMIDUK_UNMARKED, "a listing moved on is unmarked");
+        expect(*padding == JUNK, "the padding of a listing is not set");
         expect(hwemiduk_allowed(TABLES, placement, limits.copies) == HWEMIDUK_OK, "a placement handed out is allowed");
         uint8_t answer = hwemiduk_ledger(TABLES, placement, limits.copies, entries, limits.positions, &place);
         expect(answer == (has_total ? HWEMIDUK_OK : HWEMIDUK_NO_MASS), "a ledger where there is a total");
     }
-    memset(placement, JUNK, limits.copies);
+    memset(placement, JUNK, size);
     memset(listing, 0, sizeof *listing);
-    memset(listing->at, JUNK, limits.copies);
+    memset(listing->at, JUNK, size);
     expect(hwemiduk_allowed(TABLES, placement, limits.copies) == HWEMIDUK_NOT_ALLOWED, "junk is no placement");
-    expect(hwemiduk_next(TABLES, listing) == HWEMIDUK_NOT_ALLOWED && is_junk(listing->at, limits.copies), "junk is no listing, and stays");
+    expect(hwemiduk_next(TABLES, listing) == HWEMIDUK_NOT_ALLOWED && is_junk(listing->at, size), "junk is no listing, and stays");
     *listing = fresh;
     listing->mark = JUNK;
     expect(hwemiduk_next(TABLES, listing) == HWEMIDUK_NOT_ALLOWED && listing->mark == JUNK, "a mark of another byte is no listing, and stays");
@@ -121,14 +134,15 @@ static void any_content(const uint8_t *bytes, const int64_t *numbers)
 {
     hwemiduk_listing listing = HWEMIDUK_LISTING;
     hwemiduk_site *row = (hwemiduk_site *)room(limits.rows * sizeof *row);
-    uint8_t *out = (uint8_t *)room(limits.line), *placement = (uint8_t *)room(limits.copies);
+    uint8_t *out = (uint8_t *)room(limits.line);
+    hwemiduk_position *placement = (hwemiduk_position *)room(limits.copies * sizeof *placement);
     int64_t *entries = (int64_t *)room(limits.positions * sizeof *entries), total;
     size_t count;
     double daltons;
     uint8_t written = hwemiduk_write(TABLES, out, limits.line, &count);
     bool none = written == HWEMIDUK_NO_TABLES;
     expect(written == HWEMIDUK_OK || none, "a line, or no tables");
-    memset(placement, 0, limits.copies);
+    memset(placement, 0, limits.copies * sizeof *placement);
     expect((hwemiduk_residues(TABLES, &count) == HWEMIDUK_NO_TABLES) == none, "residues of tables");
     expect((hwemiduk_brackets(TABLES, &count) == HWEMIDUK_NO_TABLES) == none, "brackets of tables");
     expect((hwemiduk_floaters(TABLES, &count) == HWEMIDUK_NO_TABLES) == none, "floaters of tables");
@@ -209,7 +223,8 @@ static void take(const uint8_t *start, size_t length)
 /* Every call over areas one element short, and every other slice one short: 13, and nothing is touched. */
 static void short_areas(size_t bytes_len, size_t numbers_len, size_t copies, size_t positions, size_t rows_len)
 {
-    uint8_t *bytes = (uint8_t *)room(bytes_len), *placement = (uint8_t *)room(copies), position = JUNK, line = 'A';
+    uint8_t *bytes = (uint8_t *)room(bytes_len), out = JUNK, line = 'A';
+    hwemiduk_position *placement = (hwemiduk_position *)room(copies * sizeof *placement), position = JUNK;
     int64_t *numbers = (int64_t *)room(numbers_len * sizeof *numbers), *entries = (int64_t *)room(positions * sizeof *entries), total = JUNK;
     hwemiduk_site *row = (hwemiduk_site *)room(rows_len * sizeof *row);
     hwemiduk_listing listing = HWEMIDUK_LISTING;
@@ -221,7 +236,7 @@ static void short_areas(size_t bytes_len, size_t numbers_len, size_t copies, siz
 #define SHORT bytes, bytes_len, numbers, numbers_len
 #define THIRTEEN(when, call) expect(!(when) || (call) == HWEMIDUK_SHORT_AREA, #call)
     THIRTEEN(tables, hwemiduk_read(&line, 1, SHORT, &place));
-    THIRTEEN(tables, hwemiduk_write(SHORT, placement, copies, &count));
+    THIRTEEN(tables, hwemiduk_write(SHORT, &out, 1, &count));
     THIRTEEN(tables, hwemiduk_residues(SHORT, &count));
     THIRTEEN(tables, hwemiduk_brackets(SHORT, &count));
     THIRTEEN(tables, hwemiduk_floaters(SHORT, &count));
@@ -233,7 +248,7 @@ static void short_areas(size_t bytes_len, size_t numbers_len, size_t copies, siz
     THIRTEEN(tables || rows_len < limits.rows, hwemiduk_rows(SHORT, row, rows_len, &count));
     THIRTEEN(rows_len < limits.rows, hwemiduk_first_row(row, rows_len, rows_len, 1, &count, &position));
     expect(is_junk(entries, positions * sizeof *entries) && is_junk(row, rows_len * sizeof *row), "13 changes nothing");
-    expect(count == JUNK && total == JUNK && daltons == JUNK && position == JUNK, "13 sets nothing");
+    expect(count == JUNK && total == JUNK && daltons == JUNK && position == JUNK && out == JUNK, "13 sets nothing");
     free(row);
     free(entries);
     free(numbers);

@@ -1,5 +1,6 @@
 """The package against document 01's lines with known outcomes, and against the outside vectors of compare/vectors."""
 
+import ctypes
 import dataclasses
 import doctest
 import json
@@ -15,7 +16,7 @@ sys.path.insert(0, str(ROOT / "python" / "src"))
 
 import hwemiduk  # noqa: E402
 from hwemiduk import LIMITS, Bracket, Key, Kind, Label, Number, Part, Refusal, Section, read  # noqa: E402
-from hwemiduk._library import FREE, take  # noqa: E402
+from hwemiduk._library import FREE, Listing, Site, take  # noqa: E402
 
 SHARE = int(os.environ.get("HWEMIDUK_SHARE", 1))
 
@@ -403,10 +404,15 @@ class LimitsOfLines(unittest.TestCase):
                 "positions": 256,
                 "size": 1_000_000,
                 "decimals": 6,
-                "bytes": 6782,
+                "bytes": 6911,
                 "numbers": 320,
             },
         )
+
+    def test_forms(self):
+        """What rows and listings take: the sizes that include/hwemiduk.h says."""
+        self.assertEqual((ctypes.sizeof(Site), Site.position.offset), (4, 2))
+        self.assertEqual((ctypes.sizeof(Listing), Listing.mark.offset), (18, 16))
 
     def test_just_inside_and_just_outside(self):
         for good, bad, number, place in [

@@ -227,10 +227,12 @@ pub struct Floater {
 }
 
 // Where the tables lie in the areas (include/hwemiduk.h).
-const HEAD: usize = 6;
+const HEAD: usize = 8;
 const PART: usize = 7;
 const ROW: usize = HEAD + PARTS * PART;
-const LETTERS_AT: usize = 2;
+const RESIDUES_AT: usize = 0;
+const BRACKETS_USED_AT: usize = 2;
+const LETTERS_AT: usize = 3;
 const SECTIONS_AT: usize = LETTERS_AT + RESIDUES;
 const BRACKETS_AT: usize = SECTIONS_AT + RESIDUES;
 const TEXTS_AT: usize = BRACKETS_AT + BRACKETS * ROW;
@@ -243,23 +245,32 @@ pub(crate) struct Tables {
     pub numbers: [i64; NUMBERS],
 }
 
+/// A number that takes two bytes, the low one first.
+fn wide(bytes: &[u8], at: usize) -> u16 {
+    u16::from_le_bytes([bytes[at], bytes[at + 1]])
+}
+
 impl Tables {
+    fn residue_count(&self) -> usize {
+        usize::from(wide(&self.bytes, RESIDUES_AT))
+    }
+
     pub fn residues(&self) -> String {
-        self.bytes[LETTERS_AT..].iter().take(usize::from(self.bytes[0])).map(|&letter| char::from(letter)).collect()
+        self.bytes[LETTERS_AT..].iter().take(self.residue_count()).map(|&letter| char::from(letter)).collect()
     }
 
     pub fn sections(&self) -> Vec<Section> {
-        self.bytes[SECTIONS_AT..].iter().take(usize::from(self.bytes[0])).map(|&code| SECTIONS[usize::from(code)]).collect()
+        self.bytes[SECTIONS_AT..].iter().take(self.residue_count()).map(|&code| SECTIONS[usize::from(code)]).collect()
     }
 
     pub fn brackets(&self) -> Vec<Bracket> {
         let rows = self.bytes[BRACKETS_AT..TEXTS_AT].chunks_exact(ROW);
         let numbers = self.numbers.chunks_exact(PARTS + 1);
-        rows.zip(numbers).take(usize::from(self.bytes[1])).map(|(row, numbers)| self.bracket(row, numbers)).collect()
+        rows.zip(numbers).take(usize::from(self.bytes[BRACKETS_USED_AT])).map(|(row, numbers)| self.bracket(row, numbers)).collect()
     }
 
     fn bracket(&self, row: &[u8], numbers: &[i64]) -> Bracket {
-        let (kind, first, last, count, parts, score) = (row[0], row[1], row[2], row[3], row[4], row[5]);
+        let (kind, first, last, count, parts, score) = (row[0], wide(row, 1), wide(row, 3), row[5], row[6], row[7]);
         let kind = KINDS[usize::from(kind) - 1];
         let score = score.checked_sub(1).map(|decimals| Number { millionths: numbers[PARTS], decimals });
         Bracket {
@@ -272,7 +283,7 @@ impl Tables {
 
     fn part(&self, row: &[u8], mass: i64, score: Option<Number>) -> Part {
         let (value, key, decimals, text_length, label_length) = (row[0], row[1], row[2], usize::from(row[3]), usize::from(row[4]));
-        let texts = &self.bytes[TEXTS_AT + usize::from(u16::from_le_bytes([row[5], row[6]]))..];
+        let texts = &self.bytes[TEXTS_AT + usize::from(wide(row, 5))..];
         let spelled = |bytes: &[u8]| bytes.iter().map(|&byte| char::from(byte)).collect::<String>();
         Part {
             key: KEYS[usize::from(key)].0,

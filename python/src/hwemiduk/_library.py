@@ -4,13 +4,13 @@ from __future__ import annotations
 
 import ctypes
 import os
-from ctypes import POINTER, byref, c_char_p, c_double, c_int64, c_size_t, c_uint8, c_uint32, c_uint64, c_void_p
+from ctypes import POINTER, byref, c_char_p, c_double, c_int64, c_size_t, c_uint8, c_uint16, c_uint32, c_uint64, c_void_p
 from dataclasses import dataclass, fields
 from pathlib import Path
 from typing import List
 
 #: The type of a position in a placement, a row and a listing (include/hwemiduk.h).
-Position = c_uint8
+Position = c_uint16
 #: The type of a listing's mark, and what it is in a fresh one.
 Mark, FRESH = c_uint8, 1
 

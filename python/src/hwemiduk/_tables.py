@@ -4,11 +4,13 @@ from __future__ import annotations
 
 import enum
 import struct
+from ctypes import byref, c_int64
 from dataclasses import dataclass
 from decimal import Decimal
 from typing import Optional, Tuple
 
-from ._library import LIMITS, Areas
+from ._library import LIMITS, Areas, library
+from ._refusals import Refusal
 
 
 class Kind(enum.Enum):
@@ -101,6 +103,8 @@ class Bracket:
     positions: range
     count: int
     parts: Tuple[Part, ...]
+    #: the mass of one copy in millionths, as the library tells it: its first mass without Obs, else its first Obs mass; None where it has none
+    millionths: Optional[int]
 
     def __str__(self) -> str:
         inside = "|".join(map(str, self.parts))
@@ -115,18 +119,6 @@ class Bracket:
     def is_modification(self) -> bool:
         """Whether it is a modification: neither a lone reference nor only INFO."""
         return any(part.key is not Key.INFO and (part.mass is not None or part.text is not None) for part in self.parts)
-
-    @property
-    def millionths(self) -> Optional[int]:
-        """The mass of one copy in millionths: its first mass without Obs, else its first Obs mass; None where it has none.
-
-        Found here in the parts by document 01's rule, as hwemiduk_bracket_mass finds it in the tables.
-        """
-        for observed in (False, True):
-            for part in self.parts:
-                if part.mass is not None and (part.key is Key.OBS) == observed:
-                    return part.mass.millionths
-        return None
 
 
 @dataclass(frozen=True)
@@ -160,6 +152,7 @@ _kinds = (Kind.UNKNOWN, *Kind)
 _sections = tuple(Section)
 _keys = tuple(Key)
 _MASS, _TEXT = 1, 2
+_NO_MASS = 16
 
 
 def residues(areas: Areas) -> str:
@@ -183,7 +176,16 @@ def _bracket(areas: Areas, index: int) -> Bracket:
     numbers = areas.numbers[index * _NUMBERS : (index + 1) * _NUMBERS]
     scored = Number(numbers[LIMITS.parts], score - 1) if score else None
     stands = range(0) if _kinds[kind] in (Kind.UNKNOWN, Kind.LABILE) else range(first, last + 1)
-    return Bracket(_kinds[kind], stands, count, tuple(_part(areas.data, row + _HEAD.size + k * _PART.size, numbers[k], scored) for k in range(parts)))
+    held = tuple(_part(areas.data, row + _HEAD.size + k * _PART.size, numbers[k], scored) for k in range(parts))
+    return Bracket(_kinds[kind], stands, count, held, _mass(areas, index))
+
+
+def _mass(areas: Areas, index: int) -> Optional[int]:
+    millionths = c_int64()
+    number = library.hwemiduk_bracket_mass(*areas.tables, index, byref(millionths), areas.size_at)
+    if number not in (0, _NO_MASS):
+        raise Refusal(number, areas.size.value)
+    return None if number else millionths.value
 
 
 def _part(data: bytearray, at: int, mass: int, score: Optional[Number]) -> Part:

@@ -13,6 +13,7 @@ import re
 import sys
 import tempfile
 import threading
+import timeit
 import unittest
 import zipfile
 from pathlib import Path
@@ -231,6 +232,15 @@ class Threads(unittest.TestCase):
                     call()
         self.assertTrue(1 <= len(_library.FREE) <= 16)
         self.assertEqual(len(set(map(id, _library.FREE))), len(_library.FREE))
+
+
+@unittest.skipUnless(os.environ.get("HWEMIDUK_SHARE", "1") == "1", "the times of an emulator say nothing")
+class Times(unittest.TestCase):
+    def test_reading(self):
+        """A line is read, with its canonical form, within 20 microseconds: the quickest of many rounds, since other programs run too."""
+        for line in [b"PEPTIDE", b"[Acetyl]-PEPM[Oxidation]TIDEK", b"EM[+15.9949]EVEES[+79.9663]PEK", b"[+79.966331]?EMEVEESC[Carbamidomethyl]PEKT[U:Phospho|+79.966331]-[Amidated]"]:
+            seconds = min(timeit.repeat(lambda: read(line), number=100, repeat=100)) / 100
+            self.assertLess(seconds * 1e6, 20, line)
 
 
 class Commands(unittest.TestCase):

@@ -109,11 +109,7 @@ fn noise_in_areas_is_refused() {
     for _ in 0..share(2000) {
         let mut area = vec![0; BYTES_SIZE];
         area.fill_with(|| random.below(256) as u8);
-        area[..LETTERS].copy_from_slice(&[
-            random.between(1, 254) as u8,
-            0,
-            random.below(65) as u8,
-        ]);
+        area[..LETTERS].copy_from_slice(&[random.between(1, 254) as u8, 0, random.below(65) as u8]);
         let mut numbers = vec![0; NUMBERS_SIZE];
         numbers.fill_with(|| random.below(1 << 20) as i64);
         assert_eq!(tables_of_some_line(&area, &numbers), None);

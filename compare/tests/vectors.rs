@@ -8,8 +8,8 @@ use compare::canonical::canonical;
 use compare::line::Line;
 use compare::masses::{display, ledger, missing, total, Display};
 use compare::positions::{
-    all_placements, first_placement, floaters, is_allowed, next_placement, rows, Listing, Placement,
-    Position,
+    all_placements, first_placement, floaters, is_allowed, next_placement, rows, Listing,
+    Placement, Position,
 };
 use compare::reader::{read, Refusal};
 use compare::register;

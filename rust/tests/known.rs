@@ -168,7 +168,9 @@ fn a_bracket_s_mass() {
 /// Document 01's three lines, and the longest entry.
 #[test]
 fn entries() {
-    for (number, line, printed) in [(1, "[+1]^2?ac", "1 ok 2 1 2 +2000000 [+1]^2?AC"), (2, "A[U:35]", "2 no 9 2"), (3, "[Acetyl]-A", "3 ok 1 1 0 ?1 [Acetyl]-A")] {
+    for (number, line, printed) in
+        [(1, "[+1]^2?ac", "1 ok 2 1 2 +2000000 [+1]^2?AC"), (2, "A[U:35]", "2 no 9 2"), (3, "[Acetyl]-A", "3 ok 1 1 0 ?1 [Acetyl]-A")]
+    {
         assert_eq!(entry(number, line.as_bytes()), printed);
     }
     assert_eq!(entry(u64::MAX, b""), "18446744073709551615 no 1 0");

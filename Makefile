@@ -3,7 +3,7 @@
 #   make                          the library in target/lib, the program in target/bin
 #   make install PREFIX= DESTDIR=
 #   make uninstall PREFIX= DESTDIR=
-#   make check                    tests/outside
+#   make check                    tests/outside and tests/streams
 PREFIX = /usr/local
 DESTDIR =
 
@@ -40,5 +40,6 @@ uninstall:
 
 check:
 	tests/outside
+	tests/streams
 
 .PHONY: all install uninstall check

@@ -8,7 +8,7 @@
  *   past what the call says it writes. Only a refusal sets *place; only a refusal with 15 sets *length.
  * - Any bytes and any numbers are answered: junk in the areas is refused with 14, a slice that is too short with 13.
  * - A slice passes as a pointer and the number of its elements, which must be there; slices may be longer than is asked for. NO POINTER MAY BE NULL, not even
- *   with a length of 0. What is written overlaps nothing else that is lent in the same call.
+ *   with a length of 0, and each is aligned as its type asks. What is written overlaps nothing else that is lent in the same call.
  * - Totals and ledgers are of the modifications only: the masses of the residues themselves are not in them.
  *
  * What it needs: a processor and a system of the x86-64 System V convention (Linux), the registers of SSE2, and of the C library `memcpy` and `memset` alone, so that
@@ -18,9 +18,9 @@
  * Stack, in KiB, the most that is measured on lines and areas made to take much (tests/stack.c): hwemiduk_version, hwemiduk_limits and hwemiduk_first_row 1,
  * hwemiduk_verdict and hwemiduk_read 11, hwemiduk_ledger and hwemiduk_rows 29, every other call 25. Have 64 KiB free.
  *
- * Link libhwemiduk.a or libhwemiduk.so.0 (`make`, `make install`; pkg-config hwemiduk). The number behind .so is raised when a record here (hwemiduk_limits_t,
- * hwemiduk_listing, hwemiduk_site, the areas) changes its size or form, a call its arguments, or an answer its meaning. A new call or a new refusal does not raise it:
- * be ready for a number that you do not know.
+ * Link libhwemiduk.a or libhwemiduk.so.0 (`make`, `make install`; pkg-config hwemiduk). The number behind .so is raised when a struct here changes its form or its
+ * size, when a size or a limit that a macro here names changes, when the tables lie otherwise in the areas, when a call changes its arguments, or when an answer's
+ * number changes its meaning. A new call or a new refusal does not raise it: be ready for a number that you do not know.
  */
 #ifndef HWEMIDUK_H
 #define HWEMIDUK_H
@@ -123,15 +123,16 @@ void hwemiduk_limits(hwemiduk_limits_t *limits);
 /*
  * ---- The tables in the two areas, to the byte
  *
- * The area of bytes: the number of residues, the number of brackets; then, each at its place, letters, sections, rows of brackets, and texts. The area of numbers has for
- * each bracket the masses of its parts and its score, in millionths. Room that is not used is zero, in both.
+ * The area of bytes: the number of residues, the number of brackets; then, each at its place, letters, sections, rows of brackets, and texts. The number of residues, a
+ * position and an offset take two bytes, the low one first (HWEMIDUK_WIDE_AT); every other number in it takes one. The area of numbers has for each bracket the masses of
+ * its parts and its score, in millionths. Room that is not used is zero, in both.
  */
-#define HWEMIDUK_RESIDUES_AT 0                                                    /* how many residues */
-#define HWEMIDUK_BRACKETS_USED_AT 1                                               /* how many brackets */
-#define HWEMIDUK_LETTERS_AT 2                                                     /* a letter for each residue, in upper case */
+#define HWEMIDUK_RESIDUES_AT 0                                                    /* how many residues: two bytes */
+#define HWEMIDUK_BRACKETS_USED_AT 2                                               /* how many brackets */
+#define HWEMIDUK_LETTERS_AT 3                                                     /* a letter for each residue, in upper case */
 #define HWEMIDUK_SECTIONS_AT (HWEMIDUK_LETTERS_AT + HWEMIDUK_RESIDUES)            /* a section for each residue (hwemiduk_section) */
 #define HWEMIDUK_BRACKETS_AT (HWEMIDUK_SECTIONS_AT + HWEMIDUK_RESIDUES)           /* a row for each bracket, in order of appearance */
-#define HWEMIDUK_BRACKET_HEAD 6                                                   /* bytes before its parts (hwemiduk_head) */
+#define HWEMIDUK_BRACKET_HEAD 8                                                   /* bytes before its parts (hwemiduk_head) */
 #define HWEMIDUK_PART_ROW 7                                                       /* bytes of a part (hwemiduk_part) */
 #define HWEMIDUK_BRACKET_ROW (HWEMIDUK_BRACKET_HEAD + HWEMIDUK_PARTS * HWEMIDUK_PART_ROW)
 #define HWEMIDUK_TEXTS_AT (HWEMIDUK_BRACKETS_AT + HWEMIDUK_BRACKETS * HWEMIDUK_BRACKET_ROW)
@@ -145,6 +146,9 @@ void hwemiduk_limits(hwemiduk_limits_t *limits);
 #define HWEMIDUK_MASS_AT(k, j) ((k) * HWEMIDUK_NUMBER_ROW + (j))
 #define HWEMIDUK_SCORE_AT(k) ((k) * HWEMIDUK_NUMBER_ROW + HWEMIDUK_PARTS)
 
+/* The number that takes two bytes from here on, the low one first: HWEMIDUK_WIDE_AT(tables.bytes + HWEMIDUK_RESIDUES_AT). */
+#define HWEMIDUK_WIDE_AT(bytes) ((uint16_t)((bytes)[0] | (bytes)[1] << 8))
+
 /* Both areas in one, and the four arguments that a call takes for them: hwemiduk_total(HWEMIDUK_OF(&tables), &total, &place). */
 typedef struct hwemiduk_tables {
     uint8_t bytes[HWEMIDUK_BYTES];
@@ -153,16 +157,16 @@ typedef struct hwemiduk_tables {
 #define HWEMIDUK_OF(tables) (tables)->bytes, HWEMIDUK_BYTES, (tables)->numbers, HWEMIDUK_NUMBERS
 
 /* A position: 0 is the N-terminus, 1 to n are the residues, n + 1 is the C-terminus. */
-typedef uint8_t hwemiduk_position;
+typedef uint16_t hwemiduk_position;
 
 /* The bytes of a bracket's row before its parts. */
 enum hwemiduk_head {
     HWEMIDUK_HEAD_KIND = 0,     /* of hwemiduk_kind */
-    HWEMIDUK_HEAD_FIRST = 1,    /* first position: of a residue, its own; of a range, its first residue's; 0 at the N-terminus, n + 1 at the C-terminus; 0 of an unknown or labile one */
-    HWEMIDUK_HEAD_LAST = 2,     /* last position: of a range, its last residue's; else the first one again */
-    HWEMIDUK_HEAD_COUNT = 3,    /* the count behind ^, 1 to 99; 1 where none is written, and of all that are not of unknown position */
-    HWEMIDUK_HEAD_PARTS = 4,    /* how many parts it has, 1 to 4; the rows of the others are zero */
-    HWEMIDUK_HEAD_SCORE = 5     /* 0 where its label has no score or it has no label, else one more than the score's decimals */
+    HWEMIDUK_HEAD_FIRST = 1,    /* first position, two bytes: of a residue, its own; of a range, its first residue's; 0 at the N-terminus, n + 1 at the C-terminus; 0 of an unknown or labile one */
+    HWEMIDUK_HEAD_LAST = 3,     /* last position, two bytes: of a range, its last residue's; else the first one again */
+    HWEMIDUK_HEAD_COUNT = 5,    /* the count behind ^, 1 to 99; 1 where none is written, and of all that are not of unknown position */
+    HWEMIDUK_HEAD_PARTS = 6,    /* how many parts it has, 1 to 4; the rows of the others are zero */
+    HWEMIDUK_HEAD_SCORE = 7     /* 0 where its label has no score or it has no label, else one more than the score's decimals */
 };
 
 /* The bytes of a part's row. */
@@ -172,8 +176,8 @@ enum hwemiduk_part {
     HWEMIDUK_PART_DECIMALS = 2,      /* of a mass, the decimals as written; else 0 */
     HWEMIDUK_PART_TEXT = 3,          /* bytes of its text, behind key or prefix; 0 of a mass and of a reference */
     HWEMIDUK_PART_LABEL = 4,         /* bytes of its label; 0 where it has none */
-    HWEMIDUK_PART_OFFSET_LOW = 5,    /* where its text begins, counted from HWEMIDUK_TEXTS_AT, low byte and high; its label directly follows the text. */
-    HWEMIDUK_PART_OFFSET_HIGH = 6    /* A mass or reference with a label has the label there. 0 where it has neither text nor label */
+    HWEMIDUK_PART_OFFSET = 5         /* where its text begins, counted from HWEMIDUK_TEXTS_AT, two bytes; its label directly follows the text. A mass or reference
+                                        with a label has the label there. 0 where it has neither text nor label */
 };
 
 /*
@@ -286,7 +290,10 @@ uint8_t hwemiduk_shown(const uint8_t *bytes, size_t bytes_len, const int64_t *nu
 uint8_t hwemiduk_allowed(const uint8_t *bytes, size_t bytes_len, const int64_t *numbers, size_t numbers_len, const hwemiduk_position *placement,
     size_t placement_len);
 
-/* The listing in hand: marked fresh, with zeros, as HWEMIDUK_LISTING gives it; or unmarked, with the placement last handed out. Any other content gets 18. */
+/*
+ * The listing in hand: marked fresh, with zeros, as HWEMIDUK_LISTING gives it; or unmarked, with the placement last handed out. Any other content gets 18. It has 18
+ * bytes; the byte of padding behind the mark is neither set nor read.
+ */
 typedef struct hwemiduk_listing {
     hwemiduk_position at[HWEMIDUK_COPIES];
     uint8_t mark;
@@ -309,7 +316,10 @@ uint8_t hwemiduk_next(const uint8_t *bytes, size_t bytes_len, const int64_t *num
 uint8_t hwemiduk_ledger(const uint8_t *bytes, size_t bytes_len, const int64_t *numbers, size_t numbers_len, const hwemiduk_position *placement,
     size_t placement_len, int64_t *entries, size_t entries_len, size_t *place);
 
-/* ---- Rows: where each floater may stand, floaters counted from 1. */
+/*
+ * ---- Rows: where each floater may stand, floaters counted from 1. A row has 4 bytes; the byte of padding between floater and position is neither set nor read: compare
+ * rows by their fields, not by memcmp.
+ */
 typedef struct hwemiduk_site {
     uint8_t floater;
     hwemiduk_position position;

@@ -1,6 +1,7 @@
-/* The header is good C and good C++, links in both, and its macros are the limits that the library gives. */
+/* The header is good C and good C++, links in both, its macros are the limits that the library gives, and its structs have the form that the library's have. */
 #include <hwemiduk.h>
 #include <hwemiduk.h>
+#include <stddef.h>
 #include <stdio.h>
 
 static int wrong = 0;
@@ -8,7 +9,7 @@ static int wrong = 0;
 static void same(const char *name, uint64_t macro, uint64_t limit)
 {
     if (macro != limit) {
-        printf("%s: %llu in the header, %llu in the library\n", name, (unsigned long long)macro, (unsigned long long)limit);
+        printf("%s: %llu in the header, and not %llu\n", name, (unsigned long long)macro, (unsigned long long)limit);
         wrong = 1;
     }
 }
@@ -34,5 +35,16 @@ int main(void)
     same("count", 99, limits.count);
     same("size", 1000000, limits.size);
     same("decimals", 6, limits.decimals);
+    /* the sizes that these give, and the structs, as crates/scope has them */
+    same("letters", HWEMIDUK_LETTERS_AT, 3);
+    same("sections", HWEMIDUK_SECTIONS_AT, 257);
+    same("brackets", HWEMIDUK_BRACKET_AT(0), 511);
+    same("bracket's row", HWEMIDUK_BRACKET_AT(1), 511 + 36);
+    same("texts", HWEMIDUK_TEXTS_AT, 2815);
+    same("bytes", HWEMIDUK_BYTES, 6911);
+    same("site", sizeof(hwemiduk_site), 4);
+    same("site's position", offsetof(hwemiduk_site, position), 2);
+    same("listing", sizeof(hwemiduk_listing), 18);
+    same("listing's mark", offsetof(hwemiduk_listing, mark), 16);
     return wrong;
 }

@@ -11,6 +11,13 @@ static const char texts[] = "aAcetylxHexOxidationya35";
 
 static int wrong = 0;
 
+/* A number in two bytes, the low one first. */
+static void wide(uint8_t *at, int number)
+{
+    at[0] = (uint8_t)(number & 0xFF);
+    at[1] = (uint8_t)(number >> 8);
+}
+
 static void same(const char *what, int at, int is, int should)
 {
     if (is != should) {
@@ -42,7 +49,7 @@ int main(void)
     memset(&tables, 0xA5, sizeof tables);
     same("answer", 0, hwemiduk_read((const uint8_t *)line, strlen(line), HWEMIDUK_OF(&tables), &place), HWEMIDUK_OK);
 
-    expected[HWEMIDUK_RESIDUES_AT] = 5;
+    wide(expected + HWEMIDUK_RESIDUES_AT, 5);
     expected[HWEMIDUK_BRACKETS_USED_AT] = 7;
     memcpy(expected + HWEMIDUK_LETTERS_AT, "ACDEF", 5);
     for (int i = 0; i < 5; i++)
@@ -50,8 +57,8 @@ int main(void)
     for (int k = 0; k < 7; k++) {
         uint8_t *head = expected + HWEMIDUK_BRACKET_AT(k);
         head[HWEMIDUK_HEAD_KIND] = (uint8_t)rows[k].kind;
-        head[HWEMIDUK_HEAD_FIRST] = (uint8_t)rows[k].first;
-        head[HWEMIDUK_HEAD_LAST] = (uint8_t)rows[k].last;
+        wide(head + HWEMIDUK_HEAD_FIRST, rows[k].first);
+        wide(head + HWEMIDUK_HEAD_LAST, rows[k].last);
         head[HWEMIDUK_HEAD_COUNT] = (uint8_t)rows[k].count;
         head[HWEMIDUK_HEAD_PARTS] = (uint8_t)rows[k].parts;
         head[HWEMIDUK_HEAD_SCORE] = (uint8_t)rows[k].score;
@@ -63,8 +70,7 @@ int main(void)
             part[HWEMIDUK_PART_DECIMALS] = (uint8_t)rows[k].part[j].decimals;
             part[HWEMIDUK_PART_TEXT] = (uint8_t)rows[k].part[j].text;
             part[HWEMIDUK_PART_LABEL] = (uint8_t)rows[k].part[j].label;
-            part[HWEMIDUK_PART_OFFSET_LOW] = (uint8_t)(rows[k].part[j].offset & 0xFF);
-            part[HWEMIDUK_PART_OFFSET_HIGH] = (uint8_t)(rows[k].part[j].offset >> 8);
+            wide(part + HWEMIDUK_PART_OFFSET, rows[k].part[j].offset);
             numbers[HWEMIDUK_MASS_AT(k, j)] = rows[k].part[j].millionths;
         }
     }
@@ -73,6 +79,10 @@ int main(void)
         same("byte", i, tables.bytes[i], expected[i]);
     for (int i = 0; i < HWEMIDUK_NUMBERS; i++)
         same("number", i, tables.numbers[i] == numbers[i], 1);
+
+    static const uint8_t low_first[] = { 0x34, 0x92 };
+    same("two bytes", 0, HWEMIDUK_WIDE_AT(low_first), 0x9234);
+    same("residues", HWEMIDUK_RESIDUES_AT, HWEMIDUK_WIDE_AT(tables.bytes + HWEMIDUK_RESIDUES_AT), 5);
 
     for (int answer = 1; answer <= 18; answer++)
         printf("%d\t%s\n", answer, hwemiduk_words((uint8_t)answer));

@@ -4,6 +4,7 @@
  */
 #include <hwemiduk.h>
 #include <inttypes.h>
+#include <stdarg.h>
 #include <stdbool.h>
 #include <stdio.h>
 #include <stdlib.h>
@@ -15,12 +16,26 @@
 static hwemiduk_limits_t limits;
 static size_t line_number;
 
+/* The line in hand as the register prints it, put together from what the single calls answer. */
+static char printed[HWEMIDUK_ENTRY + 1];
+static size_t printed_length;
+
 static void expect(bool holds, const char *what)
 {
     if (!holds) {
         printf("line %zu: not so: %s\n", line_number, what);
         exit(1);
     }
+}
+
+static void put(const char *format, ...)
+{
+    va_list values;
+    va_start(values, format);
+    int length = vsnprintf(printed + printed_length, sizeof printed - printed_length, format, values);
+    va_end(values);
+    expect(length >= 0 && (size_t)length < sizeof printed - printed_length, "an entry has no more than HWEMIDUK_ENTRY bytes");
+    printed_length += (size_t)length;
 }
 
 static void *room(size_t size)
@@ -63,19 +78,67 @@ static void canonical(const uint8_t *bytes, const int64_t *numbers)
     free(out);
     out = (uint8_t *)room(needed);
     expect(hwemiduk_write(TABLES, out, needed, &length) == HWEMIDUK_OK && length == needed, "the length needed is enough");
-    fwrite(out, 1, length, stdout);
+    put("%.*s", (int)length, (const char *)out);
     free(out);
 }
 
-/* The rows, and the first row of each floater and of two that there are not. */
+/* The entry of a line, into outputs that are too short and into one that just has room, is what the single calls have told. */
+static void entry(const uint8_t *line, size_t line_len)
+{
+    size_t needed, length;
+    uint8_t *out = (uint8_t *)room(0);
+    expect(hwemiduk_entry(line_number, line, line_len, out, 0, &needed) == HWEMIDUK_SHORT_OUTPUT && needed == printed_length, "as long as what is printed");
+    free(out);
+    out = (uint8_t *)room(needed - 1);
+    memset(out, JUNK, needed - 1);
+    expect(hwemiduk_entry(line_number, line, line_len, out, needed - 1, &length) == HWEMIDUK_SHORT_OUTPUT && length == needed, "one byte less is too short");
+    expect(is_junk(out, needed - 1), "a refusal changes no output");
+    free(out);
+    out = (uint8_t *)room(needed);
+    expect(hwemiduk_entry(line_number, line, line_len, out, needed, &length) == HWEMIDUK_OK && length == needed, "the length needed is enough");
+    expect(memcmp(out, printed, needed) == 0, "the entry is what is printed");
+    free(out);
+}
+
+/* Each bracket has a mass, or none with its count; there is none behind the last. Each floater has a bracket, and is a copy that this one has. */
+static void brackets_and_floaters(const uint8_t *bytes, const int64_t *numbers, size_t brackets, size_t floaters)
+{
+    uint8_t *of = (uint8_t *)room(limits.copies), *copy = (uint8_t *)room(limits.copies);
+    size_t count, place = 0;
+    int64_t mass = JUNK;
+    for (size_t k = 0; k < brackets; k++) {
+        uint8_t answer = hwemiduk_bracket_mass(TABLES, k, &mass, &place);
+        expect(answer == HWEMIDUK_OK || (answer == HWEMIDUK_NO_MASS && place == bytes[HWEMIDUK_BRACKET_AT(k) + HWEMIDUK_HEAD_COUNT]), "a mass, or none and its count");
+    }
+    mass = JUNK;
+    expect(hwemiduk_bracket_mass(TABLES, brackets, &mass, &place) == HWEMIDUK_NO_FURTHER && place == 0 && mass == JUNK, "no bracket behind the last");
+    expect(hwemiduk_floater_brackets(TABLES, of, limits.copies, copy, limits.copies, &count) == HWEMIDUK_OK && count == floaters, "as many floaters");
+    for (size_t i = 0; i < floaters; i++) {
+        bool same = i > 0 && of[i] == of[i - 1];
+        expect(of[i] < brackets && (i == 0 || of[i] >= of[i - 1]) && copy[i] == (same ? copy[i - 1] + 1 : 1), "brackets ascending, copies from 1");
+        expect(copy[i] <= bytes[HWEMIDUK_BRACKET_AT(of[i]) + HWEMIDUK_HEAD_COUNT], "a copy that there is");
+    }
+    free(copy);
+    free(of);
+}
+
+/* The rows, once more over junk, which stays in the padding and behind them; and the first row of each floater and of two that there are not. */
 static void rows(const uint8_t *bytes, const int64_t *numbers, size_t floaters)
 {
-    hwemiduk_site *row = (hwemiduk_site *)room(limits.rows * sizeof *row);
-    size_t count;
+    hwemiduk_site *row = (hwemiduk_site *)room(limits.rows * sizeof *row), *again = (hwemiduk_site *)room(limits.rows * sizeof *row);
+    size_t count, same;
     expect(hwemiduk_rows(TABLES, row, limits.rows, &count) == HWEMIDUK_OK, "there are rows");
+    memset(again, JUNK, limits.rows * sizeof *again);
+    expect(hwemiduk_rows(TABLES, again, limits.rows, &same) == HWEMIDUK_OK && same == count, "as many rows again");
+    for (size_t i = 0; i < count; i++) {
+        expect(again[i].floater == row[i].floater && again[i].position == row[i].position, "the same rows again");
+        expect(is_junk((const uint8_t *)&again[i] + 1, 1), "the padding of a row is not set");
+    }
+    expect(is_junk(again + count, (limits.rows - count) * sizeof *again), "rows behind those handed out stay");
+    free(again);
     for (size_t floater = 0; floater <= floaters + 1; floater++) {
         size_t first = 0, index = limits.rows;
-        uint8_t position = JUNK;
+        hwemiduk_position position = JUNK;
         while (first < count && row[first].floater != floater)
             first++;
         uint8_t answer = hwemiduk_first_row(row, limits.rows, count, (uint8_t)floater, &index, &position);
@@ -91,23 +154,28 @@ static void rows(const uint8_t *bytes, const int64_t *numbers, size_t floaters)
 static void placements(const uint8_t *bytes, const int64_t *numbers, bool has_total)
 {
     hwemiduk_listing *listing = (hwemiduk_listing *)room(sizeof *listing);
-    uint8_t *placement = (uint8_t *)room(limits.copies);
+    const size_t size = limits.copies * sizeof(hwemiduk_position);
+    hwemiduk_position *placement = (hwemiduk_position *)room(size);
     int64_t *entries = (int64_t *)room(limits.positions * sizeof *entries);
     size_t place;
     const hwemiduk_listing fresh = HWEMIDUK_LISTING;
-    *listing = fresh;
+    uint8_t *padding = &listing->mark + 1;
+    memset(listing, 0, sizeof *listing);
+    listing->mark = HWEMIDUK_FRESH;
+    *padding = JUNK;
     for (int i = 0; i < 3 && hwemiduk_next(TABLES, listing) == HWEMIDUK_OK; i++) {
-        memcpy(placement, listing->at, limits.copies);
+        memcpy(placement, listing->at, size);
         expect(listing->mark == HWEMIDUK_UNMARKED, "a listing moved on is unmarked");
+        expect(*padding == JUNK, "the padding of a listing is not set");
         expect(hwemiduk_allowed(TABLES, placement, limits.copies) == HWEMIDUK_OK, "a placement handed out is allowed");
         uint8_t answer = hwemiduk_ledger(TABLES, placement, limits.copies, entries, limits.positions, &place);
         expect(answer == (has_total ? HWEMIDUK_OK : HWEMIDUK_NO_MASS), "a ledger where there is a total");
     }
-    memset(placement, JUNK, limits.copies);
+    memset(placement, JUNK, size);
     memset(listing, 0, sizeof *listing);
-    memset(listing->at, JUNK, limits.copies);
+    memset(listing->at, JUNK, size);
     expect(hwemiduk_allowed(TABLES, placement, limits.copies) == HWEMIDUK_NOT_ALLOWED, "junk is no placement");
-    expect(hwemiduk_next(TABLES, listing) == HWEMIDUK_NOT_ALLOWED && is_junk(listing->at, limits.copies), "junk is no listing, and stays");
+    expect(hwemiduk_next(TABLES, listing) == HWEMIDUK_NOT_ALLOWED && is_junk(listing->at, size), "junk is no listing, and stays");
     *listing = fresh;
     listing->mark = JUNK;
     expect(hwemiduk_next(TABLES, listing) == HWEMIDUK_NOT_ALLOWED && listing->mark == JUNK, "a mark of another byte is no listing, and stays");
@@ -121,19 +189,23 @@ static void any_content(const uint8_t *bytes, const int64_t *numbers)
 {
     hwemiduk_listing listing = HWEMIDUK_LISTING;
     hwemiduk_site *row = (hwemiduk_site *)room(limits.rows * sizeof *row);
-    uint8_t *out = (uint8_t *)room(limits.line), *placement = (uint8_t *)room(limits.copies);
+    uint8_t *out = (uint8_t *)room(limits.line);
+    hwemiduk_position *placement = (hwemiduk_position *)room(limits.copies * sizeof *placement);
     int64_t *entries = (int64_t *)room(limits.positions * sizeof *entries), total;
     size_t count;
     double daltons;
+    uint8_t of[HWEMIDUK_COPIES], copy[HWEMIDUK_COPIES];
     uint8_t written = hwemiduk_write(TABLES, out, limits.line, &count);
     bool none = written == HWEMIDUK_NO_TABLES;
     expect(written == HWEMIDUK_OK || none, "a line, or no tables");
-    memset(placement, 0, limits.copies);
+    memset(placement, 0, limits.copies * sizeof *placement);
     expect((hwemiduk_residues(TABLES, &count) == HWEMIDUK_NO_TABLES) == none, "residues of tables");
     expect((hwemiduk_brackets(TABLES, &count) == HWEMIDUK_NO_TABLES) == none, "brackets of tables");
     expect((hwemiduk_floaters(TABLES, &count) == HWEMIDUK_NO_TABLES) == none, "floaters of tables");
     expect((hwemiduk_total(TABLES, &total, &count) == HWEMIDUK_NO_TABLES) == none, "a total of tables");
     expect((hwemiduk_shown(TABLES, &daltons, &count) == HWEMIDUK_NO_TABLES) == none, "a display of tables");
+    expect((hwemiduk_bracket_mass(TABLES, 0, &total, &count) == HWEMIDUK_NO_TABLES) == none, "a bracket's mass of tables");
+    expect((hwemiduk_floater_brackets(TABLES, of, sizeof of, copy, sizeof copy, &count) == HWEMIDUK_NO_TABLES) == none, "floaters' brackets of tables");
     expect((hwemiduk_allowed(TABLES, placement, limits.copies) == HWEMIDUK_NO_TABLES) == none, "a placement of tables");
     expect((hwemiduk_ledger(TABLES, placement, limits.copies, entries, limits.positions, &count) == HWEMIDUK_NO_TABLES) == none, "a ledger of tables");
     expect((hwemiduk_next(TABLES, &listing) == HWEMIDUK_NO_TABLES) == none, "a listing of tables");
@@ -174,13 +246,14 @@ static void accepted(uint8_t *bytes, int64_t *numbers)
     bool has_total = hwemiduk_total(TABLES, &total, &without) == HWEMIDUK_OK;
     expect(hwemiduk_shown(TABLES, &daltons, &missing) == HWEMIDUK_OK && missing == without, "as many without a mass on display");
     expect(daltons == (double)total / 1e6, "the total, divided once");
-    printf("%zu ok %zu %zu %zu ", line_number, residues, brackets, floaters);
+    put("%zu ok %zu %zu %zu ", line_number, residues, brackets, floaters);
     if (has_total)
-        printf("%+" PRId64 " ", total);
+        put("%+" PRId64 " ", total);
     else
-        printf("?%zu ", without);
+        put("?%zu ", without);
     canonical(bytes, numbers);
-    printf("\n");
+    put("\n");
+    brackets_and_floaters(bytes, numbers, brackets, floaters);
     rows(bytes, numbers, floaters);
     placements(bytes, numbers, has_total);
     changed(bytes, numbers);
@@ -193,14 +266,17 @@ static void take(const uint8_t *start, size_t length)
     int64_t *numbers = (int64_t *)room(limits.numbers * sizeof *numbers);
     size_t place = 0, read_place = 0;
     memcpy(line, start, length);
+    printed_length = 0;
     uint8_t refusal = hwemiduk_verdict(line, length, &place);
     expect(hwemiduk_read(line, length, TABLES, &read_place) == refusal && read_place == place, "reading answers what the verdict is");
     if (refusal == HWEMIDUK_OK) {
         accepted(bytes, numbers);
     } else {
-        printf("%zu no %d %zu\n", line_number, refusal, place);
+        put("%zu no %d %zu\n", line_number, refusal, place);
         refused(line, length, bytes, numbers);
     }
+    entry(line, length);
+    fwrite(printed, 1, printed_length, stdout);
     free(numbers);
     free(bytes);
     free(line);
@@ -209,31 +285,39 @@ static void take(const uint8_t *start, size_t length)
 /* Every call over areas one element short, and every other slice one short: 13, and nothing is touched. */
 static void short_areas(size_t bytes_len, size_t numbers_len, size_t copies, size_t positions, size_t rows_len)
 {
-    uint8_t *bytes = (uint8_t *)room(bytes_len), *placement = (uint8_t *)room(copies), position = JUNK, line = 'A';
+    uint8_t *bytes = (uint8_t *)room(bytes_len), out = JUNK, line = 'A';
+    hwemiduk_position *placement = (hwemiduk_position *)room(copies * sizeof *placement), position = JUNK;
     int64_t *numbers = (int64_t *)room(numbers_len * sizeof *numbers), *entries = (int64_t *)room(positions * sizeof *entries), total = JUNK;
     hwemiduk_site *row = (hwemiduk_site *)room(rows_len * sizeof *row);
     hwemiduk_listing listing = HWEMIDUK_LISTING;
     size_t count = JUNK, place;
     double daltons = JUNK;
+    uint8_t of[HWEMIDUK_COPIES], copy[HWEMIDUK_COPIES];
     bool tables = bytes_len < limits.bytes || numbers_len < limits.numbers;
+    memset(of, JUNK, sizeof of);
+    memset(copy, JUNK, sizeof copy);
     memset(entries, JUNK, positions * sizeof *entries);
     memset(row, JUNK, rows_len * sizeof *row);
 #define SHORT bytes, bytes_len, numbers, numbers_len
 #define THIRTEEN(when, call) expect(!(when) || (call) == HWEMIDUK_SHORT_AREA, #call)
     THIRTEEN(tables, hwemiduk_read(&line, 1, SHORT, &place));
-    THIRTEEN(tables, hwemiduk_write(SHORT, placement, copies, &count));
+    THIRTEEN(tables, hwemiduk_write(SHORT, &out, 1, &count));
     THIRTEEN(tables, hwemiduk_residues(SHORT, &count));
     THIRTEEN(tables, hwemiduk_brackets(SHORT, &count));
     THIRTEEN(tables, hwemiduk_floaters(SHORT, &count));
     THIRTEEN(tables, hwemiduk_total(SHORT, &total, &place));
     THIRTEEN(tables, hwemiduk_shown(SHORT, &daltons, &count));
+    THIRTEEN(tables, hwemiduk_bracket_mass(SHORT, 0, &total, &place));
+    THIRTEEN(tables || copies < limits.copies, hwemiduk_floater_brackets(SHORT, of, copies, copy, limits.copies, &count));
+    THIRTEEN(tables || copies < limits.copies, hwemiduk_floater_brackets(SHORT, of, limits.copies, copy, copies, &count));
     THIRTEEN(tables, hwemiduk_next(SHORT, &listing));
     THIRTEEN(tables || copies < limits.copies, hwemiduk_allowed(SHORT, placement, copies));
     THIRTEEN(tables || copies < limits.copies || positions < limits.positions, hwemiduk_ledger(SHORT, placement, copies, entries, positions, &place));
     THIRTEEN(tables || rows_len < limits.rows, hwemiduk_rows(SHORT, row, rows_len, &count));
     THIRTEEN(rows_len < limits.rows, hwemiduk_first_row(row, rows_len, rows_len, 1, &count, &position));
     expect(is_junk(entries, positions * sizeof *entries) && is_junk(row, rows_len * sizeof *row), "13 changes nothing");
-    expect(count == JUNK && total == JUNK && daltons == JUNK && position == JUNK, "13 sets nothing");
+    expect(is_junk(of, sizeof of) && is_junk(copy, sizeof copy), "13 changes no entry");
+    expect(count == JUNK && total == JUNK && daltons == JUNK && position == JUNK && out == JUNK, "13 sets nothing");
     free(row);
     free(entries);
     free(numbers);

@@ -4,12 +4,15 @@
 //! The bytes area, in order:
 //! - the number of residues and the number of brackets;
 //! - 254 letters in upper case, then 254 sections;
-//! - 64 rows of 34 bytes, one for each bracket: kind, first position, last
+//! - 64 rows of 36 bytes, one for each bracket: kind, first position, last
 //!   position, count, number of parts, score (0 none, else 1 + its decimals);
 //!   then for each of four parts: kind, key, decimals, length of its text,
-//!   length of its label, and the offset of its text, low byte first, which
-//!   its label directly follows;
+//!   length of its label, and the offset of its text, which its label directly
+//!   follows;
 //! - 4,096 bytes of texts.
+//!
+//! The number of residues, positions and offsets take two bytes, low byte
+//! first; every other one of these numbers takes one.
 //!
 //! The numbers area: 64 rows of the masses of the four parts and the score, in
 //! millionths.
@@ -19,14 +22,19 @@ use crate::line::{Bracket, Content, Key, Kind, Label, Line, Number, Part, Residu
 use crate::reader::read;
 
 const RESIDUE_COUNT: usize = 0;
-const BRACKET_COUNT: usize = 1;
-const LETTERS: usize = 2;
-const SECTIONS: usize = LETTERS + Line::MOST_RESIDUES;
-const ROWS: usize = SECTIONS + Line::MOST_RESIDUES;
-const ROW_HEAD: usize = 6;
+const BRACKET_COUNT: usize = 2;
+/// Where the letters begin, behind the two counts.
+pub const LETTERS: usize = 3;
+/// Where the sections begin.
+pub const SECTIONS: usize = LETTERS + Line::MOST_RESIDUES;
+/// Where the brackets' rows begin.
+pub const ROWS: usize = SECTIONS + Line::MOST_RESIDUES;
+const ROW_HEAD: usize = 8;
 const PART: usize = 7;
-const ROW: usize = ROW_HEAD + Bracket::MOST_PARTS * PART;
-const TEXTS: usize = ROWS + Line::MOST_BRACKETS * ROW;
+/// The bytes of a bracket's row.
+pub const ROW: usize = ROW_HEAD + Bracket::MOST_PARTS * PART;
+/// Where the texts begin.
+pub const TEXTS: usize = ROWS + Line::MOST_BRACKETS * ROW;
 const NUMBER_ROW: usize = Bracket::MOST_PARTS + 1;
 
 /// The fixed size of the bytes area.
@@ -42,7 +50,7 @@ const REFERENCE: u8 = 3;
 pub fn encode(line: &Line) -> (Vec<u8>, Vec<i64>) {
     let mut bytes = vec![0; BYTES_SIZE];
     let mut numbers = vec![0; NUMBERS_SIZE];
-    bytes[RESIDUE_COUNT] = line.residues.len() as u8;
+    bytes[RESIDUE_COUNT..][..2].copy_from_slice(&two_bytes(line.residues.len()));
     bytes[BRACKET_COUNT] = line.brackets.len() as u8;
     for (index, residue) in line.residues.iter().enumerate() {
         bytes[LETTERS + index] = residue.letter;
@@ -56,6 +64,16 @@ pub fn encode(line: &Line) -> (Vec<u8>, Vec<i64>) {
         encode_bracket(line, bracket, row, number_row, &mut packer);
     }
     (bytes, numbers)
+}
+
+/// A number that takes two bytes, low byte first.
+fn two_bytes(number: usize) -> [u8; 2] {
+    [(number % 256) as u8, (number / 256) as u8]
+}
+
+/// The number whose two bytes begin here.
+fn wide(bytes: &[u8], at: usize) -> usize {
+    usize::from(bytes[at]) + 256 * usize::from(bytes[at + 1])
 }
 
 /// Packs texts and labels in order of appearance.
@@ -80,10 +98,14 @@ fn encode_bracket(
 ) {
     let (head, part_rows) = row.split_at_mut(ROW_HEAD);
     let score = line.label_of(bracket).and_then(|label| label.score);
+    let [first_low, first_high] = two_bytes(bracket.first);
+    let [last_low, last_high] = two_bytes(bracket.last);
     head.copy_from_slice(&[
         bracket.kind as u8,
-        bracket.first as u8,
-        bracket.last as u8,
+        first_low,
+        first_high,
+        last_low,
+        last_high,
         bracket.count,
         bracket.part_count as u8,
         score.map_or(0, |score| 1 + score.decimals),
@@ -106,8 +128,7 @@ fn encode_part(part: &Part, row: &mut [u8], packer: &mut Packer) {
     };
     let label = part.label.map_or(&b""[..], |label| label.name);
     let empty = text.is_empty() && label.is_empty();
-    let offset = if empty { 0 } else { packer.used as u16 };
-    let [low, high] = offset.to_le_bytes();
+    let [low, high] = two_bytes(if empty { 0 } else { packer.used });
     row.copy_from_slice(&[
         kind,
         part.key as u8,
@@ -146,7 +167,7 @@ pub fn decode<'a>(bytes: &'a [u8], numbers: &[i64]) -> Option<Line<'a>> {
 }
 
 fn decode_residues(tables: &[u8]) -> Option<Vec<Residue>> {
-    let count = usize::from(tables[RESIDUE_COUNT]);
+    let count = wide(tables, RESIDUE_COUNT);
     let letters = tables[LETTERS..SECTIONS].get(..count)?;
     let sections = tables[SECTIONS..ROWS].get(..count)?;
     let pairs = letters.iter().zip(sections);
@@ -167,7 +188,7 @@ fn decode_bracket<'a>(
     line: &mut Line<'a>,
 ) -> Option<()> {
     let (head, part_rows) = row.split_at(ROW_HEAD);
-    let part_count = usize::from(head[4]);
+    let part_count = usize::from(head[6]);
     if !(1..=Bracket::MOST_PARTS).contains(&part_count) {
         return None;
     }
@@ -179,16 +200,16 @@ fn decode_bracket<'a>(
     {
         line.parts.push(decode_part(row, mass, texts)?);
     }
-    if let Some(decimals) = head[5].checked_sub(1) {
+    if let Some(decimals) = head[7].checked_sub(1) {
         let score = decode_number(number_row[Bracket::MOST_PARTS], decimals)?;
         let labels = line.parts[first_part..].iter_mut();
         labels.filter_map(|part| part.label.as_mut()).next()?.score = Some(score);
     }
     line.brackets.push(Bracket {
         kind: Kind::from_byte(head[0])?,
-        first: usize::from(head[1]),
-        last: usize::from(head[2]),
-        count: head[3],
+        first: wide(head, 1),
+        last: wide(head, 3),
+        count: head[5],
         first_part,
         part_count,
     });
@@ -196,11 +217,10 @@ fn decode_bracket<'a>(
 }
 
 fn decode_part<'a>(row: &[u8], mass: i64, texts: &'a [u8]) -> Option<Part<'a>> {
-    let &[kind, key, decimals, text_length, label_length, low, high] = row else {
+    let &[kind, key, decimals, text_length, label_length, ..] = row else {
         return None;
     };
-    let offset = usize::from(u16::from_le_bytes([low, high]));
-    let after = texts.get(offset..)?;
+    let after = texts.get(wide(row, 5)..)?;
     let text = after.get(..usize::from(text_length))?;
     let name = after[text.len()..].get(..usize::from(label_length))?;
     let content = match kind {

@@ -3,31 +3,37 @@
 
 use crate::line::{Bracket, Kind, Line, Refusal};
 
+/// "Position 0 is the N-terminus, 1 to n the residues, n+1 the C-terminus."
+pub type Position = u16;
+
 /// "A placement has 8 entries, unused ones 0, ordered as number lists."
-pub type Placement = [u8; Line::MOST_FLOATERS];
+pub type Placement = [Position; Line::MOST_FLOATERS];
 
 /// The placement of a line without floaters.
 const ALL_ZEROS: Placement = [0; Line::MOST_FLOATERS];
 
-/// A set of the 256 positions.
+/// The words of 64 bits that have a bit for each position of a line.
+const WORDS: usize = (Line::MOST_RESIDUES + 2).div_ceil(64);
+
+/// A set of positions that a line can have.
 #[derive(Clone, Copy, Debug, PartialEq, Eq, Default)]
 pub struct Positions {
-    words: [u64; 4],
+    words: [u64; WORDS],
 }
 
 impl Positions {
-    pub const EMPTY: Self = Self { words: [0; 4] };
+    pub const EMPTY: Self = Self { words: [0; WORDS] };
 
-    pub fn insert(&mut self, position: u8) {
-        self.words[usize::from(position / 64)] |= 1 << (position % 64);
+    /// A number that is no position of any line is left out.
+    pub fn insert(&mut self, position: Position) {
+        if let Some(word) = self.words.get_mut(usize::from(position / 64)) {
+            *word |= 1 << (position % 64);
+        }
     }
 
-    pub fn remove(&mut self, position: u8) {
-        self.words[usize::from(position / 64)] &= !(1 << (position % 64));
-    }
-
-    pub fn contains(&self, position: u8) -> bool {
-        self.words[usize::from(position / 64)] >> (position % 64) & 1 == 1
+    pub fn contains(&self, position: Position) -> bool {
+        let word = self.words.get(usize::from(position / 64));
+        word.is_some_and(|word| word >> (position % 64) & 1 == 1)
     }
 
     pub fn len(&self) -> usize {
@@ -38,7 +44,7 @@ impl Positions {
     }
 
     pub fn is_empty(&self) -> bool {
-        self.words == [0; 4]
+        *self == Self::EMPTY
     }
 
     pub fn union(self, other: Self) -> Self {
@@ -58,13 +64,13 @@ impl Positions {
     }
 
     /// The least member that is this position or above it.
-    pub fn at_or_above(&self, position: u8) -> Option<u8> {
+    pub fn at_or_above(&self, position: Position) -> Option<Position> {
         let first_word = usize::from(position / 64);
         let mut mask = u64::MAX << (position % 64);
         for (index, word) in self.words.iter().enumerate().skip(first_word) {
             let left = word & mask;
             if left != 0 {
-                return Some((index * 64) as u8 + left.trailing_zeros() as u8);
+                return Some((index * 64) as Position + left.trailing_zeros() as Position);
             }
             mask = u64::MAX;
         }
@@ -72,14 +78,14 @@ impl Positions {
     }
 
     /// The members that are this position or above it, ascending.
-    pub fn starting_at(&self, position: u8) -> impl Iterator<Item = u8> + '_ {
+    pub fn starting_at(&self, position: Position) -> impl Iterator<Item = Position> + '_ {
         std::iter::successors(self.at_or_above(position), |&member| {
             self.at_or_above(member.checked_add(1)?)
         })
     }
 
     /// The members, ascending.
-    pub fn iter(&self) -> impl Iterator<Item = u8> + '_ {
+    pub fn iter(&self) -> impl Iterator<Item = Position> + '_ {
         self.starting_at(0)
     }
 }
@@ -114,7 +120,7 @@ pub fn floaters(line: &Line) -> Vec<Floater> {
 fn struck_out(line: &Line) -> Positions {
     let mut struck_out = Positions::EMPTY;
     for bracket in line.brackets.iter().filter(|one| line.is_placed(one)) {
-        struck_out.insert(bracket.first as u8);
+        struck_out.insert(bracket.first as Position);
     }
     struck_out
 }
@@ -126,7 +132,7 @@ fn struck_out(line: &Line) -> Positions {
 fn permitted(line: &Line, bracket: &Bracket) -> Positions {
     let mut permitted = Positions::EMPTY;
     let mut insert = |first: usize, last: usize| {
-        (first..=last).for_each(|position| permitted.insert(position as u8));
+        (first..=last).for_each(|position| permitted.insert(position as Position));
     };
     let label = line.label_of(bracket).map(|label| label.name);
     if bracket.kind != Kind::Unknown {
@@ -149,7 +155,7 @@ fn permitted(line: &Line, bracket: &Bracket) -> Positions {
 #[derive(Clone, Copy, Debug, PartialEq, Eq, PartialOrd, Ord)]
 pub struct Row {
     pub floater: u8,
-    pub position: u8,
+    pub position: Position,
 }
 
 /// "room is 2,048 rows"
@@ -171,7 +177,7 @@ pub fn rows(floaters: &[Floater]) -> Vec<Row> {
 /// position of a floater's first row among the first so many; a number above
 /// 2,048 is read as 2,048." Refusal 13 where the lent rows are fewer than
 /// 2,048, and 17: "in the row lookup, no such row".
-pub fn first_row(rows: &[Row], so_many: usize, floater: u8) -> Result<(usize, u8), Refusal> {
+pub fn first_row(rows: &[Row], so_many: usize, floater: u8) -> Result<(usize, Position), Refusal> {
     if rows.len() < MOST_ROWS {
         return Err(Refusal::new(13, 0));
     }
@@ -287,8 +293,8 @@ fn least_position(
     floaters: &[Floater],
     level: usize,
     placement: &Placement,
-    at_or_above: u8,
-) -> Option<u8> {
+    at_or_above: Position,
+) -> Option<Position> {
     let mut taken = Positions::EMPTY;
     placement[..level].iter().for_each(|&one| taken.insert(one));
     let free = floaters[level].permitted.without(taken);

@@ -3,7 +3,7 @@
 
 use compare::canonical::canonical;
 use compare::masses::{display, ledger, missing, total, Display};
-use compare::positions::{all_placements, floaters, rows, Row};
+use compare::positions::{all_placements, floaters, rows, Placement, Position, Row};
 use compare::reader::{read, Refusal};
 
 fn line(text: &str) -> compare::line::Line<'_> {
@@ -30,15 +30,15 @@ fn check_written(lines: &[(&str, &str)]) {
 }
 
 /// The used entries of all placements.
-fn placements(text: &str) -> Vec<Vec<u8>> {
+fn placements(text: &str) -> Vec<Vec<Position>> {
     let floaters = floaters(&line(text));
     let (all, complete) = all_placements(&floaters, 1000);
     assert!(complete);
-    let used = |placement: &[u8; 8]| placement[..floaters.len()].to_vec();
+    let used = |placement: &Placement| placement[..floaters.len()].to_vec();
     all.iter().map(used).collect()
 }
 
-fn pairs(rows: &[Row]) -> Vec<(u8, u8)> {
+fn pairs(rows: &[Row]) -> Vec<(u8, Position)> {
     rows.iter().map(|row| (row.floater, row.position)).collect()
 }
 
@@ -287,14 +287,15 @@ fn floaters_positions_and_masses() {
 
 #[test]
 fn what_a_ledger_refuses() {
-    let refused = |text: &str, placement: [u8; 8]| ledger(&line(text), &placement).err();
+    let refused = |text: &str, placement: Placement| ledger(&line(text), &placement).err();
     let nowhere = [0; 8];
-    let at = |position: u8| [position, 0, 0, 0, 0, 0, 0, 0];
+    let at = |position: Position| [position, 0, 0, 0, 0, 0, 0, 0];
     assert_eq!(refused("{x}A", nowhere), Some(Refusal::new(16, 1)));
     assert_eq!(refused("[y]?{x}A", at(9)), Some(Refusal::new(16, 2)));
     assert_eq!(refused("[+1]?A", nowhere), Some(Refusal::new(18, 0)));
     assert_eq!(refused("A", at(1)), Some(Refusal::new(18, 0)));
     assert_eq!(refused("[+1]?A", at(1)), None);
+    assert_eq!(refused("[+1]?A", at(257)), Some(Refusal::new(18, 0)));
 }
 
 // Document 001

@@ -8,7 +8,7 @@ use compare::areas::{BYTES_SIZE, NUMBERS_SIZE};
 use compare::generate::{share, Random};
 use compare::line::{Kind, Line, Refusal};
 use compare::masses::{bracket_mass, display, ledger, total, Display, Ledger};
-use compare::positions::{all_placements, floaters, is_allowed, Placement};
+use compare::positions::{all_placements, floaters, is_allowed, Placement, Position};
 use compare::proved;
 use compare::reader::read;
 use json::Json;
@@ -17,7 +17,7 @@ use lines::{for_crowded, for_generated, for_vectors, shown, Lent, JUNK_NUMBER};
 const THIRTEEN: Refusal = Refusal::new(13, 0);
 
 /// What a ledger call answers, with the entries in a slice that is longer than it need be; these are junk where nothing is written.
-fn booked(lent: &Lent, placement: &[u8]) -> Result<Ledger, Refusal> {
+fn booked(lent: &Lent, placement: &[Position]) -> Result<Ledger, Refusal> {
     let mut entries = vec![JUNK_NUMBER; 256 + 5];
     let answer = proved::ledger(&lent.bytes, &lent.numbers, placement, &mut entries);
     let (written, behind) = entries.split_at(256);
@@ -124,7 +124,7 @@ fn ledgers_of_vectors() {
         if outcome.get("missing").number() > 0 {
             return;
         }
-        let first: Vec<u8> = first.numbers().iter().map(|&entry| entry as u8).collect();
+        let first: Vec<Position> = first.numbers().iter().map(|&entry| entry as Position).collect();
         let mut expected = outcome.get("ledger").numbers().iter().map(|&entry| entry as i64).collect::<Vec<_>>();
         expected.resize(256, 0);
         assert_eq!(booked(&Lent::of(held), &first).unwrap().to_vec(), expected, "{}", shown(line));
@@ -175,7 +175,10 @@ fn ledgers_of_any_placement() {
         let floaters = floaters(held);
         let mut placement: Placement = [0; 8];
         let used = if random.chance(80) { floaters.len() } else { 8 };
-        placement[..used].fill_with(|| random.below(held.residues.len() + 3) as u8);
+        placement[..used].fill_with(|| random.below(held.residues.len() + 3) as Position);
+        if random.chance(10) {
+            placement[random.below(8)] ^= 256 << random.below(8);
+        }
         let answer = booked(&lent, &placement);
         assert_eq!(answer, ledger(held, &placement), "{} {placement:?}", shown(line));
         met[answer.err().map_or(0, |refusal| usize::from(refusal.number))] += 1;

@@ -6,10 +6,11 @@ mod lines;
 
 use std::time::{Duration, Instant};
 
+use compare::areas::LETTERS;
 use compare::floating::adversarial;
 use compare::generate::{share, Random};
 use compare::line::{Line, Refusal};
-use compare::positions::{self, floaters, is_allowed, next_placement, plain_next, Floater, Placement, Row, Search};
+use compare::positions::{self, floaters, is_allowed, next_placement, plain_next, Floater, Placement, Position, Row, Search};
 use compare::proved::{self, Limits, Listing, Site};
 use compare::reader::read;
 use json::Json;
@@ -19,7 +20,7 @@ const THIRTEEN: Refusal = Refusal::new(13, 0);
 const SEVENTEEN: Refusal = Refusal::new(17, 0);
 const EIGHTEEN: Refusal = Refusal::new(18, 0);
 const NONE: Placement = [0; 8];
-const JUNK: Site = Site { floater: 0xA5, position: 0x5A };
+const JUNK: Site = Site { floater: 0xA5, position: 0x5AC3 };
 
 /// "The limits stand once": as document 01 has them, and the sizes that these give.
 #[test]
@@ -38,7 +39,7 @@ fn limits() {
         positions: 256,
         size: 1_000_000,
         decimals: 6,
-        bytes: 2 + 254 + 254 + 64 * (6 + 4 * 7) + 4096,
+        bytes: 3 + 254 + 254 + 64 * (8 + 4 * 7) + 4096,
         numbers: 64 * 5,
     };
     assert_eq!(proved::limits(), expected);
@@ -81,7 +82,7 @@ fn listed(lent: &Lent, most: usize) -> (Vec<Placement>, Option<Refusal>) {
 fn enumerated(floaters: &[Floater]) -> Vec<Placement> {
     let mut ways = vec![(NONE, 0)];
     for floater in floaters {
-        let positions: Vec<u8> = (0..=255).filter(|&one| floater.permitted.contains(one)).collect();
+        let positions: Vec<Position> = (0..512).filter(|&one| floater.permitted.contains(one)).collect();
         let longer = ways.iter().flat_map(|&(way, used)| {
             positions.iter().map(move |&position| {
                 let mut way: Placement = way;
@@ -91,7 +92,7 @@ fn enumerated(floaters: &[Floater]) -> Vec<Placement> {
         });
         ways = longer.collect();
     }
-    let distinct = |way: &[u8]| (1..way.len()).all(|at| !way[..at].contains(&way[at]));
+    let distinct = |way: &[Position]| (1..way.len()).all(|at| !way[..at].contains(&way[at]));
     ways.retain(|(way, used)| distinct(&way[..*used]));
     ways.into_iter().map(|(way, _)| way).collect()
 }
@@ -106,7 +107,7 @@ fn placements_of_vectors() {
     let (mut listed_whole, mut without) = (0, 0);
     for_vectors(|line, held, outcome| {
         let outcome = Json::read(outcome);
-        let given: Vec<Vec<u8>> = outcome.get("placements").list().iter().map(|one| one.numbers().iter().map(|&entry| entry as u8).collect()).collect();
+        let given: Vec<Vec<Position>> = outcome.get("placements").list().iter().map(|one| one.numbers().iter().map(|&entry| entry as Position).collect()).collect();
         let lent = Lent::of(held);
         let before = lent.clone();
         // the vectors may give only the first placements
@@ -177,12 +178,14 @@ fn any_record() {
             let mut at = NONE;
             if round < 2 {
                 for (entry, floater) in at.iter_mut().zip(&floaters) {
-                    let positions: Vec<u8> = floater.permitted.iter().collect();
+                    let positions: Vec<Position> = floater.permitted.iter().collect();
                     *entry = if positions.is_empty() { 0 } else { positions[random.below(positions.len())] };
                 }
             }
+            // another position, or one that is none: far off, also by its high byte alone
             if round % 2 == 1 {
-                at[random.below(8)] = random.below(held.residues.len() + 3) as u8;
+                let entry = random.below(8);
+                at[entry] = if random.chance(20) { at[entry] ^ (256 << random.below(8)) } else { random.below(held.residues.len() + 3) as Position };
             }
             let fresh = random.chance(15);
             let mut listing = Listing { at, mark: u8::from(fresh) };
@@ -219,8 +222,8 @@ fn every_record_of_two_floaters() {
         let floaters = floaters(&held);
         let lent = Lent::of(&held);
         let allowed = enumerated(&floaters);
-        for one in 0..=255 {
-            for two in (0..10).chain([127, 128, 254, 255]) {
+        for one in (0..=300).chain([511, 512, 0x7FFF, 0x8000, 0xFF00, 0xFF01, Position::MAX]) {
+            for two in (0..10).chain([127, 128, 254, 255, 256, 257, 258, 0x8001, Position::MAX]) {
                 for unused in [0, 1] {
                     let at = [one, two, 0, 0, 0, 0, 0, unused];
                     let mut listing = Listing::holding(at);
@@ -278,7 +281,7 @@ fn requests_are_quick() {
         for _ in 0..300 {
             let mut at = NONE;
             for (entry, floater) in at.iter_mut().zip(&floaters) {
-                let positions: Vec<u8> = floater.permitted.iter().collect();
+                let positions: Vec<Position> = floater.permitted.iter().collect();
                 let high = random.chance(60);
                 *entry = if positions.is_empty() { 0 } else { positions[if high { positions.len() - 1 - random.below(positions.len().min(9)) } else { random.below(positions.len()) }] };
             }
@@ -422,7 +425,7 @@ fn lookups_in_any_rows() {
         let mut rows = vec![JUNK; room];
         let few = [3, 9, 256][round % 3];
         let filled = random.below(room + 1);
-        rows[..filled].fill_with(|| Site { floater: random.below(few) as u8, position: random.below(256) as u8 });
+        rows[..filled].fill_with(|| Site { floater: random.below(few) as u8, position: random.below(65_536) as Position });
         if round % 2 == 0 {
             rows.sort_by_key(|row| (row.floater, row.position));
         }
@@ -494,9 +497,9 @@ fn areas_that_are_too_short_or_no_tables() {
     check(&lent.bytes, &lent.numbers[..limits.numbers - 1], 13);
     check(&[], &[], 13);
     let mut none = lent.clone();
-    none.bytes[2] = b'a';
+    none.bytes[LETTERS] = b'a';
     check(&none.bytes, &none.numbers, 14);
-    none.bytes[2] = b'A';
+    none.bytes[LETTERS] = b'A';
     none.numbers[1] = 1;
     check(&none.bytes, &none.numbers, 14);
     // 13 for the room of rows comes before 14

@@ -1,13 +1,15 @@
 //! What holds for every line, tried on generated ones.
 
-use compare::areas::{decode, encode, tables_of_some_line, BYTES_SIZE, NUMBERS_SIZE};
+use compare::areas::{
+    decode, encode, tables_of_some_line, BYTES_SIZE, LETTERS, NUMBERS_SIZE, ROW, ROWS, SECTIONS,
+};
 use compare::canonical::canonical;
 use compare::generate::{share, Generator, Random};
 use compare::line::Line;
 use compare::masses::{display_areas, ledger, missing, total, Display};
 use compare::positions::{
     all_placements, first_placement, first_row, floaters, is_allowed, next_placement, plain_next,
-    rows, Listing, Row, Search, MOST_ROWS,
+    rows, Listing, Placement, Position, Row, Search, MOST_ROWS,
 };
 use compare::reader::{read, Refusal};
 
@@ -46,7 +48,7 @@ fn canonical_line_is_accepted_reads_to_the_same_and_is_no_longer() {
 fn areas_give_back_the_line() {
     for_accepted(12, 50_000, |bytes, line| {
         let (area, numbers) = encode(line);
-        assert_eq!((area.len(), numbers.len()), (6782, 320));
+        assert_eq!((area.len(), numbers.len()), (6911, 320));
         let decoded = decode(&area, &numbers);
         assert!(decoded.as_ref() == Some(line), "{}", shown(bytes));
         let written = tables_of_some_line(&area, &numbers);
@@ -89,10 +91,10 @@ fn changed_areas_are_refused_or_of_another_line() {
 fn change(random: &mut Random, line: &Line, area: &mut [u8], numbers: &mut [i64]) {
     let brackets = line.brackets.len().max(1);
     match random.below(6) {
-        0 => area[random.below(2)] = random.below(256) as u8,
-        1 => area[2 + random.below(line.residues.len())] = b'A' + random.below(27) as u8,
-        2 => area[256 + random.below(line.residues.len())] = random.below(6) as u8,
-        3 => area[510 + random.below(brackets * 34)] = random.below(16) as u8,
+        0 => area[random.below(LETTERS)] = random.below(256) as u8,
+        1 => area[LETTERS + random.below(line.residues.len())] = b'A' + random.below(27) as u8,
+        2 => area[SECTIONS + random.below(line.residues.len())] = random.below(6) as u8,
+        3 => area[ROWS + random.below(brackets * ROW)] = random.below(16) as u8,
         4 => area[random.below(BYTES_SIZE)] = random.between(32, 127) as u8,
         _ => {
             let value = [0, 1, -5, 1_000_000, 999_999_999_999, i64::MIN][random.below(6)];
@@ -107,8 +109,7 @@ fn noise_in_areas_is_refused() {
     for _ in 0..share(2000) {
         let mut area = vec![0; BYTES_SIZE];
         area.fill_with(|| random.below(256) as u8);
-        area[0] = random.between(1, 254) as u8;
-        area[1] = random.below(65) as u8;
+        area[..LETTERS].copy_from_slice(&[random.between(1, 254) as u8, 0, random.below(65) as u8]);
         let mut numbers = vec![0; NUMBERS_SIZE];
         numbers.fill_with(|| random.below(1 << 20) as i64);
         assert_eq!(tables_of_some_line(&area, &numbers), None);
@@ -132,21 +133,21 @@ fn areas_that_are_too_short_or_longer() {
 fn layout_of_the_areas() {
     let line = read(b"[u:x#ab(0.50)]?{-2.5|INFO:yz}d(Ec[+1])[G:p|obs:+7](?k)-[#ab]").unwrap();
     let (area, numbers) = encode(&line);
-    let mut expected = vec![0; 6782];
-    expected[..2].copy_from_slice(&[4, 5]);
-    expected[2..6].copy_from_slice(b"DECK");
-    expected[256..260].copy_from_slice(&[0, 1, 2, 3]);
+    let mut expected = vec![0; 6911];
+    expected[..3].copy_from_slice(&[4, 0, 5]);
+    expected[3..7].copy_from_slice(b"DECK");
+    expected[257..261].copy_from_slice(&[0, 1, 2, 3]);
     let rows: [&[u8]; 5] = [
-        &[1, 0, 0, 1, 1, 3, 2, 1, 0, 1, 2, 0, 0],
-        &[2, 0, 0, 1, 2, 0, 1, 0, 1, 0, 0, 0, 0, 2, 13, 0, 2, 0, 3, 0],
-        &[4, 3, 3, 1, 1, 0, 1, 0, 0, 0, 0, 0, 0],
-        &[5, 2, 3, 1, 2, 0, 2, 5, 0, 1, 0, 5, 0, 1, 7, 0, 0, 0, 0, 0],
-        &[6, 5, 5, 1, 1, 0, 3, 0, 0, 0, 2, 6, 0],
+        &[1, 0, 0, 0, 0, 1, 1, 3, 2, 1, 0, 1, 2, 0, 0],
+        &[2, 0, 0, 0, 0, 1, 2, 0, 1, 0, 1, 0, 0, 0, 0, 2, 13, 0, 2, 0, 3, 0],
+        &[4, 3, 0, 3, 0, 1, 1, 0, 1, 0, 0, 0, 0, 0, 0],
+        &[5, 2, 0, 3, 0, 1, 2, 0, 2, 5, 0, 1, 0, 5, 0, 1, 7, 0, 0, 0, 0, 0],
+        &[6, 5, 0, 5, 0, 1, 1, 0, 3, 0, 0, 0, 2, 6, 0],
     ];
     for (index, row) in rows.iter().enumerate() {
-        expected[510 + index * 34..][..row.len()].copy_from_slice(row);
+        expected[511 + index * 36..][..row.len()].copy_from_slice(row);
     }
-    expected[2686..2694].copy_from_slice(b"xabyzpab");
+    expected[2815..2823].copy_from_slice(b"xabyzpab");
     assert_eq!(area, expected);
     let mut expected = vec![0; 320];
     expected[4] = 500_000;
@@ -202,7 +203,7 @@ fn allowed_placements_are_those_in_the_list() {
                 count => all[random.below(count)],
             };
             let entry = random.below(8);
-            placement[entry] = random.below(line.c_terminus() + 1) as u8;
+            placement[entry] = random.below(line.c_terminus() + 1) as Position;
             let listed = all.binary_search(&placement).is_ok();
             assert_eq!(is_allowed(&floaters, &placement), listed);
         }
@@ -213,7 +214,7 @@ fn allowed_placements_are_those_in_the_list() {
 fn a_listing_answers_seventeen_and_eighteen() {
     let line = read(b"[+1]^2?AC").unwrap();
     let floaters = floaters(&line);
-    let refused = |fresh: bool, placement: [u8; 8], number: u8| {
+    let refused = |fresh: bool, placement: Placement, number: u8| {
         let mut listing = Listing { fresh, placement };
         let before = listing;
         let answer = listing.request(&floaters);
@@ -224,6 +225,7 @@ fn a_listing_answers_seventeen_and_eighteen() {
     refused(false, [0; 8], 18);
     refused(false, [1, 1, 0, 0, 0, 0, 0, 0], 18);
     refused(false, [1, 2, 0, 0, 0, 0, 0, 1], 18);
+    refused(false, [1, 258, 0, 0, 0, 0, 0, 0], 18);
     refused(false, [2, 1, 0, 0, 0, 0, 0, 0], 17);
     let mut listing = Listing::FRESH;
     assert_eq!(listing.request(&floaters), Ok([1, 2, 0, 0, 0, 0, 0, 0]));

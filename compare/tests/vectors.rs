@@ -8,7 +8,8 @@ use compare::canonical::canonical;
 use compare::line::Line;
 use compare::masses::{display, ledger, missing, total, Display};
 use compare::positions::{
-    all_placements, first_placement, floaters, is_allowed, next_placement, rows, Listing, Placement,
+    all_placements, first_placement, floaters, is_allowed, next_placement, rows, Listing,
+    Placement, Position,
 };
 use compare::reader::{read, Refusal};
 use compare::register;
@@ -43,11 +44,11 @@ fn for_each_accepted(mut check: impl FnMut(usize, &Line, &Json)) {
 }
 
 fn placements_of(outcome: &Json) -> Vec<Placement> {
-    let entries = |one: &Json| one.numbers().iter().map(|&entry| entry as u8).collect();
+    let entries = |one: &Json| one.numbers().iter().map(|&entry| entry as Position).collect();
     let placements = outcome.get("placements").list().iter();
     placements
         .map(|one| {
-            let entries: Vec<u8> = entries(one);
+            let entries: Vec<Position> = entries(one);
             Placement::try_from(entries).expect("8 entries")
         })
         .collect()

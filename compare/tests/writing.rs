@@ -4,7 +4,7 @@
 mod json;
 mod lines;
 
-use compare::areas::{encode, tables_of_some_line, BYTES_SIZE, NUMBERS_SIZE};
+use compare::areas::{encode, tables_of_some_line, BYTES_SIZE, LETTERS, NUMBERS_SIZE, ROW, ROWS, SECTIONS, TEXTS};
 use compare::canonical::canonical;
 use compare::generate::{share, Random};
 use compare::line::{Line, Refusal};
@@ -156,7 +156,7 @@ fn check_fourteen(bytes: &[u8], numbers: &[i64]) {
     let mut listing = Listing::FRESH;
     assert_eq!(proved::next(bytes, numbers, &mut listing), Err(FOURTEEN));
     assert_eq!(listing, Listing::FRESH);
-    let junk = Site { floater: JUNK_BYTE, position: JUNK_BYTE };
+    let junk = Site { floater: JUNK_BYTE, position: 0x5AC3 };
     let mut rows = [junk; 2048];
     assert_eq!(proved::rows(bytes, numbers, &mut rows), Err(FOURTEEN));
     assert!(rows.iter().all(|&row| row == junk));
@@ -174,8 +174,7 @@ fn noise_in_areas() {
             numbers.fill_with(|| random.below(1 << 20) as i64 - (1 << 19));
         }
         if round % 5 > 0 {
-            bytes[0] = random.between(1, 254) as u8;
-            bytes[1] = random.below(65) as u8;
+            bytes[..LETTERS].copy_from_slice(&[random.between(1, 254) as u8, 0, random.below(65) as u8]);
         }
         assert!(!check_any(&Lent { bytes, numbers }));
     }
@@ -190,13 +189,13 @@ fn change(random: &mut Random, held: &Line, lent: &mut Lent) {
     let brackets = held.brackets.len().max(1);
     let near = |random: &mut Random, old: u8| old.wrapping_add([1, 255, 2, 32, 224][random.below(5)]);
     let at = match random.below(7) {
-        0 => random.below(2),
+        0 => random.below(LETTERS),
         1 => {
-            lent.bytes[2 + random.below(held.residues.len())] = b'A' + random.below(27) as u8;
+            lent.bytes[LETTERS + random.below(held.residues.len())] = b'A' + random.below(27) as u8;
             return;
         }
-        2 => 256 + random.below(held.residues.len()),
-        3 | 4 => 510 + random.below(brackets * 34),
+        2 => SECTIONS + random.below(held.residues.len()),
+        3 | 4 => ROWS + random.below(brackets * ROW),
         5 => random.below(BYTES_SIZE),
         _ => {
             let at = random.below(brackets * 5);
@@ -241,8 +240,8 @@ fn each_entry_changed() {
     ] {
         let held = read(line).unwrap();
         let lent = Lent::of(&held);
-        let texts = 510 + 64 * 34;
-        let ranges = [0..2 + held.residues.len() + 1, 256..257 + held.residues.len(), 510..510 + 34 * (held.brackets.len() + 1), texts..texts + 80];
+        let (residues, brackets) = (held.residues.len() + 1, held.brackets.len() + 1);
+        let ranges = [0..LETTERS + residues, SECTIONS..SECTIONS + residues, ROWS..ROWS + ROW * brackets, TEXTS..TEXTS + 80];
         for at in ranges.into_iter().flatten() {
             for by in [1, 2, 255, 128, 16] {
                 let mut lent = lent.clone();

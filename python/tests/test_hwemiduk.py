@@ -1,5 +1,6 @@
 """The package against document 01's lines with known outcomes, and against the outside vectors of compare/vectors."""
 
+import ctypes
 import dataclasses
 import doctest
 import json
@@ -15,7 +16,7 @@ sys.path.insert(0, str(ROOT / "python" / "src"))
 
 import hwemiduk  # noqa: E402
 from hwemiduk import LIMITS, Bracket, Key, Kind, Label, Number, Part, Refusal, Section, read  # noqa: E402
-from hwemiduk._library import FREE, take  # noqa: E402
+from hwemiduk._library import FREE, Listing, Site, take  # noqa: E402
 
 SHARE = int(os.environ.get("HWEMIDUK_SHARE", 1))
 
@@ -116,6 +117,31 @@ class KnownLines(unittest.TestCase):
         self.assertEqual((p.total(), p.shift(), p.missing, p.ledger()), (0, 0.0, 0, [0] * 9))
 
 
+class Entries(unittest.TestCase):
+    """What the register prints of a line."""
+
+    def test_known_entries(self):
+        """Document 01, "Lines with known outcomes"."""
+        self.assertEqual(hwemiduk.entry("[+1]^2?ac"), "1 ok 2 1 2 +2000000 [+1]^2?AC")
+        self.assertEqual(hwemiduk.entry(b"A[U:35]", 2), "2 no 9 2")
+        self.assertEqual(hwemiduk.entry("[Acetyl]-A", 3), "3 ok 1 1 0 ?1 [Acetyl]-A")
+
+    def test_any_line_and_number(self):
+        self.assertEqual(hwemiduk.entry(b"", 0), "0 no 1 0")
+        self.assertEqual(hwemiduk.entry(b"A\0", 2**64 - 1), "18446744073709551615 no 3 1")
+        self.assertEqual(hwemiduk.entry(memoryview(b"A" * 5000)), "1 no 2 4096")
+        for number in [-1, 2**64]:
+            with self.assertRaises(ValueError):
+                hwemiduk.entry("A", number)
+        with self.assertRaises(TypeError):
+            hwemiduk.entry(None)
+
+    def test_longest_entry(self):
+        line = "A" + ("[" + "x" * 128 + "]") * 31
+        line += "[" + "y" * (4096 - len(line) - 2) + "]"
+        self.assertEqual(hwemiduk.entry(line, 2**64 - 1), f"{2**64 - 1} ok 1 32 0 ?32 {line}")
+
+
 class Vectors(unittest.TestCase):
     """The outside vectors: each line with all that follows from it. Where HWEMIDUK_SHARE is a number n, one of every n of them."""
 
@@ -132,6 +158,11 @@ class Vectors(unittest.TestCase):
         for line, outcome in self.vectors:
             expected = None if outcome["ok"] else (outcome["no"], outcome["at"])
             self.assertEqual(refusal(read, line), expected, line)
+
+    def test_entries(self):
+        printed = (ROOT / "compare" / "vectors" / "lines.out").read_text().splitlines()[::SHARE]
+        for (line, _), expected in zip(self.vectors, printed):
+            self.assertEqual(hwemiduk.entry(line, int(expected.split(" ")[0])), expected)
 
     def test_counts_and_canonical_lines(self):
         for p, outcome in self.accepted:
@@ -228,18 +259,30 @@ class Tables(unittest.TestCase):
         self.assertEqual(
             p.brackets,
             (
-                Bracket(Kind.UNKNOWN, range(0), 3, (Part(Key.U, Number(1_500_000, 2), None, None),)),
-                Bracket(Kind.LABILE, range(0), 1, (Part(Key.OBS, Number(-2_000_000, 0), None, None),)),
-                Bracket(Kind.N_TERM, range(0, 1), 1, (Part(Key.UNIMOD, None, "4", None),)),
-                Bracket(Kind.RESIDUE, range(3, 4), 1, (Part(Key.R, None, "x", None),)),
-                Bracket(Kind.RANGE, range(2, 4), 1, (Part(Key.NONE, None, "y", None), Part(Key.NONE, Number(500_000, 1), None, label))),
-                Bracket(Kind.RESIDUE, range(5, 6), 1, (Part(Key.NONE, None, None, Label("g1", None)),)),
-                Bracket(Kind.C_TERM, range(6, 7), 1, (Part(Key.INFO, None, "z[#|]", None),)),
+                Bracket(Kind.UNKNOWN, range(0), 3, (Part(Key.U, Number(1_500_000, 2), None, None),), 1_500_000),
+                Bracket(Kind.LABILE, range(0), 1, (Part(Key.OBS, Number(-2_000_000, 0), None, None),), -2_000_000),
+                Bracket(Kind.N_TERM, range(0, 1), 1, (Part(Key.UNIMOD, None, "4", None),), None),
+                Bracket(Kind.RESIDUE, range(3, 4), 1, (Part(Key.R, None, "x", None),), None),
+                Bracket(Kind.RANGE, range(2, 4), 1, (Part(Key.NONE, None, "y", None), Part(Key.NONE, Number(500_000, 1), None, label)), 500_000),
+                Bracket(Kind.RESIDUE, range(5, 6), 1, (Part(Key.NONE, None, None, Label("g1", None)),), None),
+                Bracket(Kind.C_TERM, range(6, 7), 1, (Part(Key.INFO, None, "z[#|]", None),), None),
             ),
         )
         self.assertEqual([bracket.label for bracket in p.brackets], [None] * 4 + [label, Label("g1", None), None])
         self.assertEqual([bracket.is_modification for bracket in p.brackets], [True] * 5 + [False] * 2)
-        self.assertEqual([bracket.millionths for bracket in p.brackets], [1_500_000, -2_000_000, None, None, 500_000, None, None])
+
+    def test_a_bracket_s_mass(self):
+        """Document 01: "its first mass without `Obs`, else its first `Obs` mass, else none"; of one copy."""
+        for line, millionths in {
+            "A[Obs:+2|+1]": 1_000_000,
+            "A[Obs:+1|U:+2|+3]": 2_000_000,
+            "A[x|Obs:-2|Obs:+3]": -2_000_000,
+            "[+0.5]^7?A": 500_000,
+            "A[-0]": 0,
+            "A[INFO:+1]": None,
+            "A[15.99]": None,
+        }.items():
+            self.assertEqual(read(line).brackets[0].millionths, millionths, line)
 
     def test_floaters(self):
         """Each copy of the unknown one, then the label of the range, which may stand on its residue without a modification or on the reference's."""
@@ -403,10 +446,15 @@ class LimitsOfLines(unittest.TestCase):
                 "positions": 256,
                 "size": 1_000_000,
                 "decimals": 6,
-                "bytes": 6782,
+                "bytes": 6911,
                 "numbers": 320,
             },
         )
+
+    def test_forms(self):
+        """What rows and listings take: the sizes that include/hwemiduk.h says."""
+        self.assertEqual((ctypes.sizeof(Site), Site.position.offset), (4, 2))
+        self.assertEqual((ctypes.sizeof(Listing), Listing.mark.offset), (18, 16))
 
     def test_just_inside_and_just_outside(self):
         for good, bad, number, place in [

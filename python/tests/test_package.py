@@ -13,6 +13,7 @@ import re
 import sys
 import tempfile
 import threading
+import timeit
 import unittest
 import zipfile
 from pathlib import Path
@@ -103,6 +104,7 @@ class Objects(unittest.TestCase):
 
     def test_version(self):
         self.assertEqual((ROOT / "VERSION").read_text().strip(), hwemiduk.__version__)
+        self.assertEqual(hwemiduk.library_version(), hwemiduk.__version__)
 
 
 class Refusals(unittest.TestCase):
@@ -132,6 +134,24 @@ class Refusals(unittest.TestCase):
         shown, mark = refused("A" * 200 + "!" + "C" * 100).show(60).split("\n")
         self.assertEqual((len(shown), shown[len(mark) - 1]), (60, "!"))
         self.assertEqual(mark.strip(" "), "^")
+
+    def test_hints(self):
+        """tests/hints.tsv has lines that are refused with 4, and their hints; bin/register is held to it too (tests/outside)."""
+        rows = [row.split("\t") for row in (ROOT / "tests" / "hints.tsv").read_text().splitlines()]
+        self.assertGreater(len(rows), 20)
+        for line, hint in rows:
+            self.assertEqual((refused(line).number, refused(line).hint), (4, hint), line)
+        for line, hint in {
+            b"A\r": "CR: a file with Windows line ends? try --crlf",
+            b"A\rC": "CR: is a line end missing?",
+            b"A\tC": "a tab: is this a table?",
+            b"\xef\xbb\xbfA": "a byte order mark: save the file without one",
+            b"A\xe9": "not ASCII",
+            b"A\x01": "",
+        }.items():
+            self.assertEqual((refused(line).number, refused(line).hint), (3, hint), line)
+        self.assertEqual([refused(line).hint for line in ["", "A[U:35]", "A[UNIMOD:x]"]], ["", "", ""])
+        self.assertEqual(Refusal(4, 1).hint, "")
 
     def test_words_are_those_of_the_list(self):
         """The words of each number, in its order, are those of refusals.tsv."""
@@ -214,6 +234,15 @@ class Threads(unittest.TestCase):
         self.assertEqual(len(set(map(id, _library.FREE))), len(_library.FREE))
 
 
+@unittest.skipUnless(os.environ.get("HWEMIDUK_SHARE", "1") == "1", "the times of an emulator say nothing")
+class Times(unittest.TestCase):
+    def test_reading(self):
+        """A line is read, with its canonical form, within 20 microseconds: the quickest of many rounds, since other programs run too."""
+        for line in [b"PEPTIDE", b"[Acetyl]-PEPM[Oxidation]TIDEK", b"EM[+15.9949]EVEES[+79.9663]PEK", b"[+79.966331]?EMEVEESC[Carbamidomethyl]PEKT[U:Phospho|+79.966331]-[Amidated]"]:
+            seconds = min(timeit.repeat(lambda: read(line), number=100, repeat=100)) / 100
+            self.assertLess(seconds * 1e6, 20, line)
+
+
 class Commands(unittest.TestCase):
     def setUp(self):
         self.folder = tempfile.TemporaryDirectory()
@@ -240,7 +269,9 @@ class Commands(unittest.TestCase):
         self.assertEqual(error, f"hwemiduk: {self.file}: 3 lines, 2 accepted, 1 refused\n")
         self.assertEqual(status, 1)
         self.write(b"A\r\n")
-        self.assertEqual(self.run_it("check", self.file)[0], 1)
+        status, out, _ = self.run_it("check", self.file)
+        self.assertEqual(out, f"{self.file}:1:2: 3: {hwemiduk.WORDS[3]} (CR: a file with Windows line ends? try --crlf)\n    A?\n     ^\n")
+        self.assertEqual(status, 1)
         self.assertEqual(self.run_it("check", "--crlf", self.file), (0, "", f"hwemiduk: {self.file}: 1 line, 1 accepted, 0 refused\n"))
 
     def test_one_bad_file_among_good_ones(self):
@@ -299,7 +330,7 @@ class Commands(unittest.TestCase):
         self.assertEqual(status, 0)
         self.assertIn("a placement: there is none\n", self.run_it("show", "[+1]^2?A")[1])
         self.assertIn("not known: 1 without a mass\n", self.run_it("show", "A[x]")[1])
-        self.assertEqual(self.run_it("show", "A[x")[:2], (1, f"refused: 4 at 3: {hwemiduk.WORDS[4]}\n    A[x\n       ^\n"))
+        self.assertEqual(self.run_it("show", "A[x")[:2], (1, f"refused: 4 at 3: {hwemiduk.WORDS[4]} (the line ends here and should go on)\n    A[x\n       ^\n"))
 
     def test_trouble(self):
         for arguments, words in [

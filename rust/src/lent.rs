@@ -19,6 +19,8 @@
 //! # Ok::<(), hwemiduk::Refusal>(())
 //! ```
 
+use core::mem::size_of;
+
 use crate::Refusal;
 
 /// Bytes of a line; a canonical line has no more.
@@ -38,14 +40,14 @@ pub const POSITIONS: usize = RESIDUES + 2;
 /// Rows of floater and position.
 pub const ROWS: usize = COPIES * POSITIONS;
 /// The area of bytes.
-pub const BYTES: usize = 6782;
+pub const BYTES: usize = 6911;
 /// The area of numbers.
 pub const NUMBERS: usize = BRACKETS * (PARTS + 1);
 
 /// A position: 0 is the N-terminus, 1 to n are the residues, n + 1 is the C-terminus.
-pub type Position = u8;
+pub type Position = u16;
 
-/// A row of floater and position, floaters counted from 1.
+/// A row of floater and position, floaters counted from 1. Of its 4 bytes the library neither sets nor reads the one of padding.
 #[derive(Clone, Copy, Debug, PartialEq, Eq)]
 #[repr(C)]
 pub struct Site {
@@ -55,7 +57,8 @@ pub struct Site {
     pub position: Position,
 }
 
-/// The listing in hand: marked fresh, with zeros, or unmarked, with the placement last handed out. Any other content gets 18.
+/// The listing in hand: marked fresh, with zeros, or unmarked, with the placement last handed out. Any other content gets 18. Of its 18 bytes the library neither sets
+/// nor reads the one of padding.
 #[derive(Clone, Copy, Debug, PartialEq, Eq)]
 #[repr(C)]
 pub struct Listing {
@@ -64,6 +67,9 @@ pub struct Listing {
     /// 1 in a fresh one, 0 in one that holds a placement.
     pub mark: u8,
 }
+
+// The forms that include/hwemiduk.h gives them.
+const _: () = assert!(size_of::<Site>() == 4 && size_of::<Listing>() == 18);
 
 impl Listing {
     /// The listing from which every placement is handed out.

@@ -38,6 +38,6 @@ pub use lent::Position;
 pub use refusal::{Missing, Refusal, Show, WORDS};
 
 #[cfg(feature = "std")]
-pub use peptidoform::{Peptidoform, Placement, Placements};
+pub use peptidoform::{entry, Peptidoform, Placement, Placements};
 #[cfg(feature = "std")]
 pub use tables::{Bracket, Content, Floater, Key, Kind, Label, Number, Part, Section};

@@ -5,8 +5,8 @@ use std::iter::FusedIterator;
 use std::ops::Deref;
 use std::str::FromStr;
 
-use crate::lent::{self, Listing, Position, Shown, Site, BYTES, COPIES, LINE, NUMBERS, POSITIONS, ROWS};
-use crate::tables::{Bracket, Floater, Section, Tables};
+use crate::lent::{self, Listing, Position, Shown, Site, BYTES, COPIES, ENTRY, LINE, NUMBERS, POSITIONS, ROWS};
+use crate::tables::{held, Bracket, Floater, Section, Tables};
 use crate::{Missing, Refusal};
 
 /// An accepted line. It is made by reading one, and holds nothing but the canonical line.
@@ -33,8 +33,7 @@ impl Peptidoform {
         let tables = tables_of(line)?;
         let mut out = [0; LINE];
         let length = lent::write(&tables.bytes, &tables.numbers, &mut out)?;
-        let line = out[..length].iter().map(|&byte| char::from(byte)).collect::<String>();
-        Ok(Self { line: line.into_boxed_str() })
+        Ok(Self { line: spelled(&out[..length]).into_boxed_str() })
     }
 
     /// The canonical line: one and the same for all lines that read to the same tables.
@@ -172,6 +171,25 @@ impl Peptidoform {
     }
 }
 
+/// What the register prints of a line with this number, without its end of line. A refused line has an entry too.
+///
+/// ```
+/// assert_eq!(hwemiduk::entry(1, b"[+1]^2?ac"), "1 ok 2 1 2 +2000000 [+1]^2?AC");
+/// assert_eq!(hwemiduk::entry(2, b"A[U:35]"), "2 no 9 2");
+/// ```
+pub fn entry(number: u64, line: &[u8]) -> String {
+    let mut out = [0; ENTRY];
+    match lent::entry(number, line, &mut out) {
+        Ok(length) => spelled(&out[..length - 1]),
+        Err(refusal) => unreachable!("every entry has room in {ENTRY} bytes: {refusal}"),
+    }
+}
+
+/// What the library writes: bytes of 32 to 126.
+fn spelled(written: &[u8]) -> String {
+    written.iter().map(|&byte| char::from(byte)).collect()
+}
+
 fn tables_of(line: &[u8]) -> Result<Tables, Refusal> {
     let mut tables = Tables { bytes: [0; BYTES], numbers: [0; NUMBERS] };
     lent::read(line, &mut tables.bytes, &mut tables.numbers)?;
@@ -194,11 +212,6 @@ fn lend(tables: &Tables, placement: &[Position]) -> [Position; COPIES] {
         lent[..placement.len()].copy_from_slice(placement);
     }
     lent
-}
-
-/// What a call answers over the tables of a canonical line, which is proved not to be refused.
-fn held<T>(answer: Result<T, Refusal>) -> T {
-    answer.unwrap_or_else(|refusal| unreachable!("the library refuses the tables of a canonical line: {refusal}"))
 }
 
 impl FromStr for Peptidoform {

@@ -3,7 +3,8 @@
 use std::fmt::{self, Display, Formatter};
 use std::ops::RangeInclusive;
 
-use crate::lent::{Position, BRACKETS, BYTES, LINE, NUMBERS, PARTS, RESIDUES};
+use crate::lent::{self, Position, BRACKETS, BYTES, LINE, NUMBERS, PARTS, RESIDUES};
+use crate::Refusal;
 
 /// What a residue stands in.
 #[derive(Clone, Copy, Debug, PartialEq, Eq, Hash)]
@@ -174,6 +175,8 @@ pub struct Bracket {
     pub count: u8,
     /// What it says, in synonyms.
     pub parts: Vec<Part>,
+    /// The mass of one copy in millionths, as the library tells it: its first mass without Obs, else its first Obs mass; none where it has neither.
+    pub millionths: Option<i64>,
 }
 
 impl Bracket {
@@ -185,19 +188,6 @@ impl Bracket {
     /// Whether it is a modification: neither a lone reference nor only INFO.
     pub fn is_modification(&self) -> bool {
         self.parts.iter().any(|part| part.key != Key::Info && part.content != Content::Reference)
-    }
-
-    /// The mass of one copy in millionths: its first mass without Obs, else its first Obs mass.
-    ///
-    /// Found here in the parts by document 01's rule, as [`lent::bracket_mass`](crate::lent::bracket_mass) finds it in the tables.
-    pub fn millionths(&self) -> Option<i64> {
-        let first = |observed: bool| {
-            self.parts.iter().find_map(|part| match part.content {
-                Content::Mass(mass) if (part.key == Key::Obs) == observed => Some(mass.millionths),
-                _ => None,
-            })
-        };
-        first(false).or_else(|| first(true))
     }
 }
 
@@ -227,14 +217,21 @@ pub struct Floater {
 }
 
 // Where the tables lie in the areas (include/hwemiduk.h).
-const HEAD: usize = 6;
+const HEAD: usize = 8;
 const PART: usize = 7;
 const ROW: usize = HEAD + PARTS * PART;
-const LETTERS_AT: usize = 2;
+const RESIDUES_AT: usize = 0;
+const BRACKETS_USED_AT: usize = 2;
+const LETTERS_AT: usize = 3;
 const SECTIONS_AT: usize = LETTERS_AT + RESIDUES;
 const BRACKETS_AT: usize = SECTIONS_AT + RESIDUES;
 const TEXTS_AT: usize = BRACKETS_AT + BRACKETS * ROW;
 const _: () = assert!(TEXTS_AT + LINE == BYTES);
+
+/// What a call answers over the tables of a canonical line, which is proved not to be refused.
+pub(crate) fn held<T>(answer: Result<T, Refusal>) -> T {
+    answer.unwrap_or_else(|refusal| unreachable!("the library refuses the tables of a canonical line: {refusal}"))
+}
 
 /// The areas that a line was read into.
 #[derive(Clone)]
@@ -243,23 +240,40 @@ pub(crate) struct Tables {
     pub numbers: [i64; NUMBERS],
 }
 
+/// A number that takes two bytes, the low one first.
+fn wide(bytes: &[u8], at: usize) -> u16 {
+    u16::from_le_bytes([bytes[at], bytes[at + 1]])
+}
+
 impl Tables {
+    fn residue_count(&self) -> usize {
+        usize::from(wide(&self.bytes, RESIDUES_AT))
+    }
+
     pub fn residues(&self) -> String {
-        self.bytes[LETTERS_AT..].iter().take(usize::from(self.bytes[0])).map(|&letter| char::from(letter)).collect()
+        self.bytes[LETTERS_AT..].iter().take(self.residue_count()).map(|&letter| char::from(letter)).collect()
     }
 
     pub fn sections(&self) -> Vec<Section> {
-        self.bytes[SECTIONS_AT..].iter().take(usize::from(self.bytes[0])).map(|&code| SECTIONS[usize::from(code)]).collect()
+        self.bytes[SECTIONS_AT..].iter().take(self.residue_count()).map(|&code| SECTIONS[usize::from(code)]).collect()
     }
 
     pub fn brackets(&self) -> Vec<Bracket> {
         let rows = self.bytes[BRACKETS_AT..TEXTS_AT].chunks_exact(ROW);
         let numbers = self.numbers.chunks_exact(PARTS + 1);
-        rows.zip(numbers).take(usize::from(self.bytes[1])).map(|(row, numbers)| self.bracket(row, numbers)).collect()
+        let used = rows.zip(numbers).take(usize::from(self.bytes[BRACKETS_USED_AT])).enumerate();
+        used.map(|(index, (row, numbers))| self.bracket(index, row, numbers)).collect()
     }
 
-    fn bracket(&self, row: &[u8], numbers: &[i64]) -> Bracket {
-        let (kind, first, last, count, parts, score) = (row[0], row[1], row[2], row[3], row[4], row[5]);
+    fn mass(&self, bracket: usize) -> Option<i64> {
+        match lent::bracket_mass(&self.bytes, &self.numbers, bracket) {
+            Err(refusal) if refusal.number() == 16 => None,
+            answer => Some(held(answer)),
+        }
+    }
+
+    fn bracket(&self, index: usize, row: &[u8], numbers: &[i64]) -> Bracket {
+        let (kind, first, last, count, parts, score) = (row[0], wide(row, 1), wide(row, 3), row[5], row[6], row[7]);
         let kind = KINDS[usize::from(kind) - 1];
         let score = score.checked_sub(1).map(|decimals| Number { millionths: numbers[PARTS], decimals });
         Bracket {
@@ -267,12 +281,13 @@ impl Tables {
             positions: (!matches!(kind, Kind::Unknown | Kind::Labile)).then_some(first..=last),
             count,
             parts: row[HEAD..].chunks_exact(PART).zip(numbers).take(usize::from(parts)).map(|(row, &mass)| self.part(row, mass, score)).collect(),
+            millionths: self.mass(index),
         }
     }
 
     fn part(&self, row: &[u8], mass: i64, score: Option<Number>) -> Part {
         let (value, key, decimals, text_length, label_length) = (row[0], row[1], row[2], usize::from(row[3]), usize::from(row[4]));
-        let texts = &self.bytes[TEXTS_AT + usize::from(u16::from_le_bytes([row[5], row[6]]))..];
+        let texts = &self.bytes[TEXTS_AT + usize::from(wide(row, 5))..];
         let spelled = |bytes: &[u8]| bytes.iter().map(|&byte| char::from(byte)).collect::<String>();
         Part {
             key: KEYS[usize::from(key)].0,

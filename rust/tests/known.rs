@@ -5,7 +5,7 @@ use std::collections::HashSet;
 use std::error::Error;
 use std::iter::FusedIterator;
 
-use hwemiduk::{lent, Bracket, Content, Key, Kind, Label, Missing, Number, Part, Peptidoform, Placement, Placements, Refusal, Section, WORDS};
+use hwemiduk::{entry, lent, Bracket, Content, Key, Kind, Label, Missing, Number, Part, Peptidoform, Placement, Placements, Refusal, Section, WORDS};
 
 fn of(line: &str) -> Peptidoform {
     line.parse().unwrap_or_else(|refusal| panic!("{line}: {refusal}"))
@@ -129,26 +129,54 @@ fn what_the_tables_hold() {
     assert_eq!(p.sections(), [Section::Plain, Section::RangeFirst, Section::RangeNext, Section::UnsureFirst, Section::UnsureNext]);
     let mass = |key, millionths, decimals| Part { key, content: Content::Mass(Number { millionths, decimals }), label: None };
     let text = |key, text: &str| Part { key, content: Content::Text(text.into()), label: None };
-    let one = |kind, positions, parts| Bracket { kind, positions, count: 1, parts };
+    let one = |kind, positions, parts, millionths| Bracket { kind, positions, count: 1, parts, millionths };
     let label = |score| Some(Label { name: "g1".into(), score });
     let score = Some(Number { millionths: -250_000, decimals: 2 });
     let expected = [
-        Bracket { kind: Kind::Unknown, positions: None, count: 3, parts: vec![mass(Key::U, 1_500_000, 2)] },
-        one(Kind::Labile, None, vec![mass(Key::Obs, -2_000_000, 0)]),
-        one(Kind::NTerm, Some(0..=0), vec![text(Key::Unimod, "4")]),
-        one(Kind::Residue, Some(3..=3), vec![text(Key::R, "x")]),
-        one(Kind::Range, Some(2..=3), vec![text(Key::None, "y"), Part { label: label(score), ..mass(Key::None, 500_000, 1) }]),
-        one(Kind::Residue, Some(5..=5), vec![Part { key: Key::None, content: Content::Reference, label: label(None) }]),
-        one(Kind::CTerm, Some(6..=6), vec![text(Key::Info, "z[#|]")]),
+        Bracket { count: 3, ..one(Kind::Unknown, None, vec![mass(Key::U, 1_500_000, 2)], Some(1_500_000)) },
+        one(Kind::Labile, None, vec![mass(Key::Obs, -2_000_000, 0)], Some(-2_000_000)),
+        one(Kind::NTerm, Some(0..=0), vec![text(Key::Unimod, "4")], None),
+        one(Kind::Residue, Some(3..=3), vec![text(Key::R, "x")], None),
+        one(Kind::Range, Some(2..=3), vec![text(Key::None, "y"), Part { label: label(score), ..mass(Key::None, 500_000, 1) }], Some(500_000)),
+        one(Kind::Residue, Some(5..=5), vec![Part { key: Key::None, content: Content::Reference, label: label(None) }], None),
+        one(Kind::CTerm, Some(6..=6), vec![text(Key::Info, "z[#|]")], None),
     ];
     assert_eq!(p.brackets(), expected);
     let spelled: Vec<String> = expected.iter().map(ToString::to_string).collect();
     assert_eq!(spelled, ["[U:+1.50]", "{Obs:-2}", "[UNIMOD:4]", "[R:x]", "[y|+0.5#g1(-0.25)]", "[#g1]", "[INFO:z[#|]]"]);
-    let masses: Vec<_> = expected.iter().map(Bracket::millionths).collect();
-    assert_eq!(masses, [Some(1_500_000), Some(-2_000_000), None, None, Some(500_000), None, None]);
     let floaters: Vec<_> = p.floaters().into_iter().map(|floater| (floater.index, floater.copy, floater.positions)).collect();
     let free = vec![1, 2, 4, 5];
     assert_eq!(floaters, [(0, 1, free.clone()), (0, 2, free.clone()), (0, 3, free), (4, 1, vec![2, 5])]);
+}
+
+/// Document 01: "its first mass without `Obs`, else its first `Obs` mass, else none"; of one copy.
+#[test]
+fn a_bracket_s_mass() {
+    for (line, millionths) in [
+        ("A[Obs:+2|+1]", Some(1_000_000)),
+        ("A[Obs:+1|U:+2|+3]", Some(2_000_000)),
+        ("A[x|Obs:-2|Obs:+3]", Some(-2_000_000)),
+        ("[+0.5]^7?A", Some(500_000)),
+        ("A[-0]", Some(0)),
+        ("A[INFO:+1]", None),
+        ("A[15.99]", None),
+    ] {
+        assert_eq!(of(line).brackets()[0].millionths, millionths, "{line}");
+    }
+}
+
+/// Document 01's three lines, and the longest entry.
+#[test]
+fn entries() {
+    for (number, line, printed) in
+        [(1, "[+1]^2?ac", "1 ok 2 1 2 +2000000 [+1]^2?AC"), (2, "A[U:35]", "2 no 9 2"), (3, "[Acetyl]-A", "3 ok 1 1 0 ?1 [Acetyl]-A")]
+    {
+        assert_eq!(entry(number, line.as_bytes()), printed);
+    }
+    assert_eq!(entry(u64::MAX, b""), "18446744073709551615 no 1 0");
+    let mut line = "A".to_owned() + &format!("[{}]", "x".repeat(128)).repeat(31);
+    line += &format!("[{}]", "y".repeat(4096 - line.len() - 2));
+    assert_eq!(entry(u64::MAX, line.as_bytes()), format!("18446744073709551615 ok 1 32 0 ?32 {line}"));
 }
 
 #[test]

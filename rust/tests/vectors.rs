@@ -6,14 +6,25 @@
 #[path = "../../compare/tests/json/mod.rs"]
 mod json;
 
-use hwemiduk::{Missing, Peptidoform, Position};
+use hwemiduk::{entry, Missing, Peptidoform, Position};
 use json::Json;
 
 const LINES: &[u8] = include_bytes!("../../compare/vectors/lines.in");
 const OUTCOMES: &str = include_str!("../../compare/vectors/lines.json");
+const PRINTED: &str = include_str!("../../compare/vectors/lines.out");
 
 fn positions(numbers: &Json, floaters: usize) -> Vec<Position> {
     numbers.numbers()[..floaters].iter().map(|&position| position as Position).collect()
+}
+
+#[test]
+fn every_entry() {
+    let mut met = 0;
+    for ((line, printed), number) in LINES.split(|&byte| byte == 10).zip(PRINTED.lines()).zip(1..) {
+        assert_eq!(entry(number, line), printed);
+        met += 1;
+    }
+    assert_eq!(met, 2400);
 }
 
 #[test]
@@ -49,14 +60,14 @@ fn every_vector() {
         let missing = outcome.get("missing").number() as usize;
         assert_eq!(p.missing(), missing, "{shown}");
         let modifications = || brackets.iter().filter(|bracket| bracket.is_modification());
-        let without: usize = modifications().filter(|bracket| bracket.millionths().is_none()).map(|bracket| usize::from(bracket.count)).sum();
+        let without: usize = modifications().filter(|bracket| bracket.millionths.is_none()).map(|bracket| usize::from(bracket.count)).sum();
         assert_eq!(without, missing, "{shown}");
         if missing > 0 {
             assert_eq!((p.total(), p.shift()), (Err(Missing { count: missing }), None), "{shown}");
         } else {
             let total = outcome.get("total").number();
             assert_eq!((p.total(), p.shift()), (Ok(total), Some(total as f64 / 1e6)), "{shown}");
-            let sum: i64 = modifications().map(|bracket| i64::from(bracket.count) * bracket.millionths().unwrap()).sum();
+            let sum: i64 = modifications().map(|bracket| i64::from(bracket.count) * bracket.millionths.unwrap()).sum();
             assert_eq!(sum, total, "{shown}");
         }
 
@@ -77,7 +88,7 @@ fn every_vector() {
             let answer = p.ledger(&first[0]).unwrap();
             assert_eq!(answer, ledger.numbers(), "{shown}");
             for (floater, &at) in floaters.iter().zip(&first[0]) {
-                assert_eq!(floater.bracket.millionths(), Some(answer[usize::from(at)]), "{shown}");
+                assert_eq!(floater.bracket.millionths, Some(answer[usize::from(at)]), "{shown}");
             }
             weighed += 1;
         }

@@ -25,8 +25,8 @@ The library is the file that HWEMIDUK_LIBRARY names; or libhwemiduk.so beside th
 target/lib/libhwemiduk.so, which bin/build-shared links.
 """
 
-from ._library import LIMITS, Limits
-from ._peptidoform import Line, Peptidoform, read, read_lines
+from ._library import LIMITS, Limits, library_version
+from ._peptidoform import Line, Peptidoform, entry, read, read_lines
 from ._refusals import WORDS, Refusal
 from ._tables import Bracket, Floater, Key, Kind, Label, Number, Part, Section
 
@@ -48,6 +48,8 @@ __all__ = [
     "Refusal",
     "Section",
     "__version__",
+    "entry",
+    "library_version",
     "read",
     "read_lines",
 ]

@@ -44,7 +44,7 @@ def _lines(name: str, file: BinaryIO) -> Iterator[bytes]:
 
 
 def check(names: List[str], crlf: bool) -> int:
-    """Says of each line that is refused where and why, and shows it; on standard error how many there are."""
+    """Says of each line that is refused where and why, with a hint where there is one, and shows it; on standard error how many there are."""
     status = ACCEPTED
     for name in names:
         accepted = refused = 0
@@ -54,7 +54,7 @@ def check(names: List[str], crlf: bool) -> int:
                     accepted += 1
                     continue
                 refused += 1
-                print(f"{name}:{line.number}:{line.refusal.column}: {line.refusal.number}: {line.refusal.words}")
+                print(f"{name}:{line.number}:{line.refusal.column}: {line.refusal.number}: {line.refusal.words}{_hinted(line.refusal)}")
                 print("\n".join("    " + shown for shown in line.refusal.show().split("\n")))
         sys.stdout.flush()
         total = accepted + refused
@@ -63,12 +63,16 @@ def check(names: List[str], crlf: bool) -> int:
     return status
 
 
+def _hinted(refusal: Refusal) -> str:
+    return f" ({refusal.hint})" if refusal.hint else ""
+
+
 def show(line: str) -> int:
     """Prints what a line holds, and where its floating copies may stand."""
     try:
         p = Peptidoform(os.fsencode(line))
     except Refusal as refusal:
-        print(f"refused: {refusal}")
+        print(f"refused: {refusal}{_hinted(refusal)}")
         print("\n".join("    " + shown for shown in refusal.show().split("\n")))
         return REFUSED
     print(f"canonical line: {p}")

@@ -4,13 +4,13 @@ from __future__ import annotations
 
 import ctypes
 import os
-from ctypes import POINTER, byref, c_char_p, c_double, c_int64, c_size_t, c_uint8, c_uint32, c_uint64, c_void_p
+from ctypes import POINTER, byref, c_char_p, c_double, c_int64, c_size_t, c_uint8, c_uint16, c_uint32, c_uint64, c_void_p
 from dataclasses import dataclass, fields
 from pathlib import Path
 from typing import List
 
 #: The type of a position in a placement, a row and a listing (include/hwemiduk.h).
-Position = c_uint8
+Position = c_uint16
 #: The type of a listing's mark, and what it is in a fresh one.
 Mark, FRESH = c_uint8, 1
 
@@ -112,6 +112,7 @@ _tables = (c_void_p, c_size_t, c_void_p, c_size_t)
 for _name, _arguments in {
     "read": (c_char_p, c_size_t, *_tables, c_void_p),
     "write": (*_tables, c_void_p, c_size_t, c_void_p),
+    "entry": (c_uint64, c_char_p, c_size_t, c_void_p, c_size_t, c_void_p),
     "floaters": (*_tables, c_void_p),
     "floater_brackets": (*_tables, POINTER(c_uint8), c_size_t, POINTER(c_uint8), c_size_t, c_void_p),
     "total": (*_tables, POINTER(c_int64), c_void_p),
@@ -127,18 +128,28 @@ for _name, _arguments in {
 library.hwemiduk_version.argtypes, library.hwemiduk_version.restype = (), c_uint32
 
 
+def library_version() -> str:
+    """The version of the library that is loaded; `__version__` is that of the package."""
+    number = library.hwemiduk_version()
+    return f"{number // 10000}.{number // 100 % 100}.{number % 100}"
+
+
+#: Bytes of an entry of the register, its end of line among them: none has more (HWEMIDUK_ENTRY).
+ENTRY = LIMITS.line + 110
+
+
 class Areas:
-    """What one line is read into: the two areas, an output for its canonical line, and a place to answer a size in."""
+    """What one line is read into: the two areas, an output for its canonical line or its entry, and a place to answer a size in."""
 
     __slots__ = ("data", "numbers", "out", "size", "tables", "out_at", "size_at", "_kept")
 
     def __init__(self) -> None:
         self.data = bytearray(LIMITS.bytes)
-        self.out = bytearray(LIMITS.line)
+        self.out = bytearray(ENTRY)
         numbers = (c_int64 * LIMITS.numbers)()
         self.numbers = memoryview(numbers).cast("B").cast("q")
         self.size = c_size_t()
-        data, out = (c_uint8 * LIMITS.bytes).from_buffer(self.data), (c_uint8 * LIMITS.line).from_buffer(self.out)
+        data, out = (c_uint8 * LIMITS.bytes).from_buffer(self.data), (c_uint8 * ENTRY).from_buffer(self.out)
         #: the four arguments that every call over tables takes
         self.tables = ctypes.addressof(data), LIMITS.bytes, ctypes.addressof(numbers), LIMITS.numbers
         self.out_at = ctypes.addressof(out)

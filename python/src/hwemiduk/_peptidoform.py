@@ -6,7 +6,7 @@ from ctypes import byref, c_double, c_int64, c_uint8
 from typing import Any, Callable, Iterable, Iterator, List, NamedTuple, Optional, Sequence, Tuple, Type, TypeVar, Union
 
 from . import _tables
-from ._library import FRESH, FREE, LIMITS, Areas, Listing, Position, Site, give, library, take
+from ._library import ENTRY, FRESH, FREE, LIMITS, Areas, Listing, Position, Site, give, library, take
 from ._refusals import Refusal
 from ._tables import Bracket, Floater, Section
 
@@ -297,6 +297,29 @@ def _lent(placement: Sequence[int], floaters: int) -> Any:
     if not all(0 <= position < LIMITS.positions for position in positions):
         raise ValueError(f"a position is 0 to {LIMITS.positions - 1}: {positions}")
     return (Position * LIMITS.copies)(*positions)
+
+
+def entry(line: Union[str, bytes, bytearray, memoryview], number: int = 1) -> str:
+    """What the register prints of a line with this number, without its end of line. Nothing is raised: a refused line has an entry too.
+
+    >>> entry("[+1]^2?ac"), entry("A[U:35]", 2)
+    ('1 ok 2 1 2 +2000000 [+1]^2?AC', '2 no 9 2')
+
+    An accepted line: its number, `ok`, residues, brackets, floating copies, the total in millionths (or `?` and how many modifications have no mass), and the
+    canonical line. A refused one: its number, `no`, the refusal and its place, counted from 0.
+    """
+    raw = _bytes(line)
+    if not 0 <= number < 1 << 64:
+        raise ValueError(f"the number of a line is 0 to 2^64 - 1, and not {number}")
+    areas = take()
+    try:
+        answer = library.hwemiduk_entry(number, raw, len(raw), areas.out_at, ENTRY, areas.size_at)
+        length = areas.size.value
+        if answer:
+            raise Refusal(answer, length)
+        return areas.out[: length - 1].decode("ascii")
+    finally:
+        give(areas)
 
 
 def read(line: Union[str, bytes, bytearray, memoryview]) -> Peptidoform:

@@ -31,6 +31,51 @@ WORDS = {
 _LAST_OF_A_LINE = 12
 
 
+# Behind which a mass may begin, and behind which something must stand.
+_BEFORE_A_MASS = (b"[", b"|", b":")
+_GOES_ON = (*_BEFORE_A_MASS, b"(", b"{", b"?", b".", b"#", b"+", b"-")
+
+
+def _hint(number: int, place: int, line: bytes) -> str:
+    """The hint of bin/register, by the same tests in the same order."""
+    byte, before = line[place : place + 1], line[:place][-1:]
+    if number == 3:
+        if byte == b"\r":
+            return "CR: a file with Windows line ends? try --crlf" if place + 1 == len(line) else "CR: is a line end missing?"
+        if byte == b"\t":
+            return "a tab: is this a table?"
+        if line[place : place + 3] == b"\xef\xbb\xbf":
+            return "a byte order mark: save the file without one"
+        return "not ASCII" if byte >= b"\x80" else ""
+    if number != 4:
+        return ""
+    letter, then = byte.isalpha(), line[place + 1 : place + 2]
+    for meant, words in (
+        (place >= len(line), "the line ends here and should go on"),
+        (byte == b" ", "a blank: nothing is trimmed"),
+        (byte == b"/" and then == b"/", "a second chain is not taken here"),
+        (byte == b"/", "a charge is not taken here"),
+        (byte == b"<", "a global modification is not taken here"),
+        (byte == b">" or (byte == b"(" and then == b">"), "a line name is not taken here"),
+        (byte == b"+" and before not in _BEFORE_A_MASS, "a second peptidoform behind + is not taken here"),
+        (byte == b".", "a point: the peptide alone, without its neighbours"),
+        (byte in (b",", b";", b'"'), "is this a table?"),
+        (byte in (b"]", b")", b"}"), "something is missing before it" if before in _GOES_ON else "nothing is open that it closes"),
+        (before == b"-" and letter, "behind - stands a bracket: A-[Amidated]"),
+        (before in (b"+", b"-"), "a sign starts a mass, and digits follow"),
+        (byte == b"-", "a - joins brackets at a terminus: [Acetyl]-A, A-[Amidated]"),
+        (byte == b"^", "a count stands in a run of unknown position: [+1]^2?A"),
+        (byte == b"#", "no label or reference stands here"),
+        (letter and before in (b"]", b"}") and line[:1] in (b"[", b"{"), "a bracket at the front goes on with -, ? or ^"),
+        (before == b")", "no bracket stands behind (?..)" if byte == b"[" else "a range (..) is followed by a bracket"),
+        (byte == b"(", "ranges do not stand in each other"),
+        (byte.isdigit() and before.isalpha(), "a number stands in brackets"),
+    ):
+        if meant:
+            return words
+    return ""
+
+
 class Refusal(ValueError):
     """What the library refuses: `number` says why (WORDS), and `place` where.
 
@@ -53,6 +98,11 @@ class Refusal(ValueError):
     def column(self) -> Optional[int]:
         """The place counted from 1, as editors count; None where the refusal is not of a line."""
         return self.place + 1 if self.number <= _LAST_OF_A_LINE else None
+
+    @property
+    def hint(self) -> str:
+        """What may be meant, by the byte at the place: a guess for the reader, as `bin/register --why` has it; empty where there is none."""
+        return _hint(self.number, self.place, self.line) if self.line is not None else ""
 
     def __str__(self) -> str:
         if self.number == 16:

@@ -3,11 +3,14 @@
 from __future__ import annotations
 
 import enum
+import struct
+from ctypes import byref, c_int64
 from dataclasses import dataclass
 from decimal import Decimal
 from typing import Optional, Tuple
 
-from ._library import LIMITS, Areas
+from ._library import LIMITS, Areas, library
+from ._refusals import Refusal
 
 
 class Kind(enum.Enum):
@@ -100,6 +103,8 @@ class Bracket:
     positions: range
     count: int
     parts: Tuple[Part, ...]
+    #: the mass of one copy in millionths, as the library tells it: its first mass without Obs, else its first Obs mass; None where it has none
+    millionths: Optional[int]
 
     def __str__(self) -> str:
         inside = "|".join(map(str, self.parts))
@@ -115,18 +120,6 @@ class Bracket:
         """Whether it is a modification: neither a lone reference nor only INFO."""
         return any(part.key is not Key.INFO and (part.mass is not None or part.text is not None) for part in self.parts)
 
-    @property
-    def millionths(self) -> Optional[int]:
-        """The mass of one copy in millionths: its first mass without Obs, else its first Obs mass; None where it has none.
-
-        Found here in the parts by document 01's rule, as hwemiduk_bracket_mass finds it in the tables.
-        """
-        for observed in (False, True):
-            for part in self.parts:
-                if part.mass is not None and (part.key is Key.OBS) == observed:
-                    return part.mass.millionths
-        return None
-
 
 @dataclass(frozen=True)
 class Floater:
@@ -141,10 +134,12 @@ class Floater:
     positions: Tuple[int, ...]
 
 
-# Where the tables lie in the area of bytes (include/hwemiduk.h).
-_HEAD, _PART = 6, 7
-_ROW = _HEAD + LIMITS.parts * _PART
-_LETTERS = 2
+# Where the tables lie in the area of bytes, and the numbers in a bracket's row, a part's row and before the letters: of one byte, or of two with the low one first
+# (include/hwemiduk.h).
+_HEAD, _PART = struct.Struct("<BHHBBB"), struct.Struct("<BBBBBH")
+_ROW = _HEAD.size + LIMITS.parts * _PART.size
+_COUNTS = struct.Struct("<HB")
+_LETTERS = _COUNTS.size
 _SECTIONS = _LETTERS + LIMITS.residues
 _BRACKETS = _SECTIONS + LIMITS.residues
 _TEXTS = _BRACKETS + LIMITS.brackets * _ROW
@@ -157,34 +152,45 @@ _kinds = (Kind.UNKNOWN, *Kind)
 _sections = tuple(Section)
 _keys = tuple(Key)
 _MASS, _TEXT = 1, 2
+_NO_MASS = 16
 
 
 def residues(areas: Areas) -> str:
-    data = areas.data
-    return data[_LETTERS : _LETTERS + data[0]].decode("ascii")
+    count, _ = _COUNTS.unpack_from(areas.data)
+    return areas.data[_LETTERS : _LETTERS + count].decode("ascii")
 
 
 def sections(areas: Areas) -> Tuple[Section, ...]:
-    data = areas.data
-    return tuple(_sections[code] for code in data[_SECTIONS : _SECTIONS + data[0]])
+    count, _ = _COUNTS.unpack_from(areas.data)
+    return tuple(_sections[code] for code in areas.data[_SECTIONS : _SECTIONS + count])
 
 
 def brackets(areas: Areas) -> Tuple[Bracket, ...]:
-    return tuple(_bracket(areas, index) for index in range(areas.data[1]))
+    _, count = _COUNTS.unpack_from(areas.data)
+    return tuple(_bracket(areas, index) for index in range(count))
 
 
 def _bracket(areas: Areas, index: int) -> Bracket:
     row = _BRACKETS + index * _ROW
-    kind, first, last, count, parts, score = areas.data[row : row + _HEAD]
+    kind, first, last, count, parts, score = _HEAD.unpack_from(areas.data, row)
     numbers = areas.numbers[index * _NUMBERS : (index + 1) * _NUMBERS]
     scored = Number(numbers[LIMITS.parts], score - 1) if score else None
     stands = range(0) if _kinds[kind] in (Kind.UNKNOWN, Kind.LABILE) else range(first, last + 1)
-    return Bracket(_kinds[kind], stands, count, tuple(_part(areas.data, row + _HEAD + k * _PART, numbers[k], scored) for k in range(parts)))
+    held = tuple(_part(areas.data, row + _HEAD.size + k * _PART.size, numbers[k], scored) for k in range(parts))
+    return Bracket(_kinds[kind], stands, count, held, _mass(areas, index))
+
+
+def _mass(areas: Areas, index: int) -> Optional[int]:
+    millionths = c_int64()
+    number = library.hwemiduk_bracket_mass(*areas.tables, index, byref(millionths), areas.size_at)
+    if number not in (0, _NO_MASS):
+        raise Refusal(number, areas.size.value)
+    return None if number else millionths.value
 
 
 def _part(data: bytearray, at: int, mass: int, score: Optional[Number]) -> Part:
-    value, key, decimals, text_length, label_length, low, high = data[at : at + _PART]
-    text_at = _TEXTS + low + 256 * high
+    value, key, decimals, text_length, label_length, offset = _PART.unpack_from(data, at)
+    text_at = _TEXTS + offset
     label_at = text_at + text_length
     text = data[text_at:label_at].decode("ascii") if value == _TEXT else None
     label = Label(data[label_at : label_at + label_length].decode("ascii"), score) if label_length else None

@@ -24,14 +24,15 @@ use Rattle.scope.specs.Content.{isReference, Inner, begin, Content, lost
 -- ---- the order of a line: what each byte does outside brackets
 
 abbrev pub square : Kind → Bool → Mode → Slot
-square k refers m = record { kind = k; shut = shutSquare; refers = refers; after = m; referred = m }
+square k refers m = record { kind = k; shut = shutSquare; refers = refers; labels = true; after = m; referred = m }
 
 -- "A reference may not stand in an unknown run, in `{}` or on a range": at the front it decides for the N-terminus
 abbrev pub front : Slot
-front = record { kind = Unknown; shut = shutSquare; refers = true; after = Undecided; referred = Referred }
+front = record { kind = Unknown; shut = shutSquare; refers = true; labels = true; after = Undecided; referred = Referred }
 
+-- "`{}` holds no label"
 abbrev pub labile : Slot
-labile = record { kind = Labile; shut = shutCurly; refers = false; after = Labiles; referred = Labiles }
+labile = record { kind = Labile; shut = shutCurly; refers = false; labels = false; after = Labiles; referred = Labiles }
 
 -- where an element of the sequence may begin: a residue, a range, `(?..)`
 unfoldable pub element : ℕ → Act
@@ -227,7 +228,7 @@ unfoldable pub perform : {P : Type 0} → P → ℕ → Held P → Act → State
 perform i b h Stop = dead i
 perform i b h (Go m) = outside m h
 perform i b h (aResidue s m) = outside m (withResidue i b s h)
-perform i b h (Begin s) = inside s i h (begin (record { shut = s .shut; refers = s .refers; parts = [] }))
+perform i b h (Begin s) = inside s i h (begin (record { shut = s .shut; refers = s .refers; labels = s .labels; parts = [] }))
 perform i b h Digit = outside Counting (withDigit i b h)
 perform i b h RunEnds = outside Front (settledRun (λ k. k) h)
 perform i b h TermEnds = outside Start (settledRun asNTerm h)

@@ -357,7 +357,7 @@ module _ {P : Type 0} where
       }
 
   -- ---- one byte more
-  begins : (s : Slot) → Carried {P = P} (record { shut = s .shut; refers = s .refers; parts = [] }) 0 0
+  begins : (s : Slot) → Carried {P = P} (record { shut = s .shut; refers = s .refers; labels = s .labels; parts = [] }) 0 0
   unfolding flat
   begins s = record { parts = tt; none-refers = tt; fits = omega arith }
 

@@ -16,7 +16,7 @@ use Rattle.scope.specs.declared.grammar.Mode.{Mode}
 use Rattle.scope.specs.declared.grammar.Mode.the-variants.{Front, Undecided, Counted, Referred, Caret, Counting, Labiles, NTerms, Start, Single, Opened, UnsureOpened, InRange, InUnsure, RangeEnd, Ranged, UnsureEnd, CStart, CTerms}
 use Rattle.scope.specs.declared.grammar.Slot.{Slot}
 use Rattle.scope.specs.declared.grammar.Act.the-variants.{Go, Residue as aResidue, Begin, Digit, RunEnds, TermEnds}
-use Rattle.scope.specs.Bytes.{isLetter, isDigit, isShutting, openSquare, shutSquare, openCurly, shutCurly, openRound, shutRound, caret, question, dash, value}
+use Rattle.scope.specs.Bytes.{isLetter, isDigit, isShutting, openSquare, openCurly, openRound, shutRound, caret, question, dash, value}
 use Rattle.scope.specs.Line.{Bracket, Residue}
 use Rattle.scope.specs.Content.{begin}
 use Rattle.scope.specs.Reading.{square, front, labile, element, further, groupFirst, inGroup, undecided, counted, referred, act, mayEnd, Held, nothing, firstOf, withResidue, firstPosition, lastPosition, settled, waiting, put, withBracket, times, countDigit, withDigit, asNTerm, settledRun, State, outside, inside, perform, refers?, modeAfter, step, run, holds, ended, reading}
@@ -39,13 +39,13 @@ abbrev held : Residues → Brackets → Brackets → ℕ → Held ℕ
 held rs ks run f = record { residues = rs; brackets = ks; run = run; first = f }
 
 -- ---- a bracket, the byte b of which is at the place i
-bracket : (i : ℕ) (m : Mode) (s : Slot) (h : Held ℕ) (b : ℕ) (x : Inside) → act m b ≡ Begin s → isShutting (s .shut) ≡ true → goodInside (s .shut) (s .refers) x ≡ true
+bracket : (i : ℕ) (m : Mode) (s : Slot) (h : Held ℕ) (b : ℕ) (x : Inside) → act m b ≡ Begin s → isShutting (s .shut) ≡ true → goodInside (s .refers) (s .labels) x ≡ true
     → lineRun i (outside m h) (b ∷ (printInside x ++ (s .shut ∷ []))) ≡ outside (modeAfter s (meansInside (i + 1) x)) (withBracket (s .kind) i (meansInside (i + 1) x) h)
 unfolding step perform
 bracket i m s h b x e f g =
     line-cons i (outside m h) b (printInside x ++ (s .shut ∷ []))
     ∙ ap (λ z. lineRun (i + 1) (perform i b h z) (printInside x ++ (s .shut ∷ []))) e
-    ∙ lift (i + 1) s i h (printInside x ++ (s .shut ∷ [])) (begin (context (s .shut) (s .refers) [])) (meansInside (i + 1) x) (inside-run (i + 1) (s .shut) (s .refers) x f g)
+    ∙ lift (i + 1) s i h (printInside x ++ (s .shut ∷ [])) (begin (context (s .shut) (s .refers) (s .labels) [])) (meansInside (i + 1) x) (inside-run (i + 1) (s .shut) (s .refers) (s .labels) x f g)
 
 -- a byte that only carries the order on
 go : (i : ℕ) (m m′ : Mode) (h : Held ℕ) (b : ℕ) → act m b ≡ Go m′ → lineRun i (outside m h) (b ∷ []) ≡ outside m′ h
@@ -87,7 +87,7 @@ module _ (k : Kind) (r : Bool) (m : Mode) (opens : act m openSquare ≡ Begin (s
   all : ℕ → Held ℕ → List Inside → Brackets
   all i h xs = meansSquares k (firstPosition k (length (h .residues)) (h .first)) (lastPosition k (length (h .residues))) i xs
 
-  square-from : (i : ℕ) (m₀ : Mode) (h : Held ℕ) (x : Inside) → act m₀ openSquare ≡ Begin (square k r m) → goodInside shutSquare r x ≡ true
+  square-from : (i : ℕ) (m₀ : Mode) (h : Held ℕ) (x : Inside) → act m₀ openSquare ≡ Begin (square k r m) → goodInside r true x ≡ true
       → lineRun i (outside m₀ h) (printSquare x) ≡ outside m (settled (at i h x) h)
   unfolding at
   square-from i m₀ h x e g =
@@ -107,8 +107,8 @@ module _ (k : Kind) (r : Bool) (m : Mode) (opens : act m openSquare ≡ Begin (s
       ∙ ap (λ z. outside m (held (h .residues) z (h .run) (h .first))) (sym (append-nil (h .brackets)) ∙ ap (λ z. h .brackets ++ z) (sym (along-nil printSquare _ i)))
   squares-run i (x ∷ xs) h g =
       ap (lineRun i (outside m h)) (flat-cons printSquare x xs)
-      ∙ line-further i (printSquare x) (printSquares xs) (outside m h) (outside m (settled (at i h x) h)) _ (square-from i m h x opens (every-head (goodInside shutSquare r) x xs g))
-      (squares-run (i + length (printSquare x)) xs (settled (at i h x) h) (every-tail (goodInside shutSquare r) x xs g))
+      ∙ line-further i (printSquare x) (printSquares xs) (outside m h) (outside m (settled (at i h x) h)) _ (square-from i m h x opens (every-head (goodInside r true) x xs g))
+      (squares-run (i + length (printSquare x)) xs (settled (at i h x) h) (every-tail (goodInside r true) x xs g))
       ∙ ap (λ z. outside m (held (h .residues) z (h .run) (h .first))) (regroup i h x xs)
 
   -- one or more, from a mode in front
@@ -117,8 +117,8 @@ module _ (k : Kind) (r : Bool) (m : Mode) (opens : act m openSquare ≡ Begin (s
   unfolding at all
   squares-from i m₀ x xs h e g =
       ap (lineRun i (outside m₀ h)) (flat-cons printSquare x xs)
-      ∙ line-further i (printSquare x) (printSquares xs) (outside m₀ h) (outside m (settled (at i h x) h)) _ (square-from i m₀ h x e (every-head (goodInside shutSquare r) x xs g))
-      (squares-run (i + length (printSquare x)) xs (settled (at i h x) h) (every-tail (goodInside shutSquare r) x xs g))
+      ∙ line-further i (printSquare x) (printSquares xs) (outside m₀ h) (outside m (settled (at i h x) h)) _ (square-from i m₀ h x e (every-head (goodInside r true) x xs g))
+      (squares-run (i + length (printSquare x)) xs (settled (at i h x) h) (every-tail (goodInside r true) x xs g))
       ∙ ap (λ z. outside m (held (h .residues) z (h .run) (h .first))) (regroup i h x xs)
 
 -- ---- residues
@@ -428,13 +428,13 @@ sequence-run i e es xs m ks f w g g′ =
 
 -- ---- runs of unknown position
 -- where no reference may stand, none does
-no-reference : (i : ℕ) (x : Inside) → goodInside shutSquare false x ≡ true → refers? (meansInside i x) ≡ false
+no-reference : (i : ℕ) (x : Inside) → goodInside false true x ≡ true → refers? (meansInside i x) ≡ false
 unfolding meansPieces
 no-reference i (parts p []) e = no-base i (p .base)
 no-reference i (parts p (q ∷ ps)) e = no-base i (p .base)
 no-reference i (refers t) e = absurd (false≢true e)
 
-allowed-too : (x : Inside) → goodInside shutSquare false x ≡ true → goodInside shutSquare true x ≡ true
+allowed-too : (x : Inside) → goodInside false true x ≡ true → goodInside true true x ≡ true
 allowed-too (parts p ps) e = e
 allowed-too (refers t) e = absurd (false≢true e)
 
@@ -469,7 +469,7 @@ pub record Waited (i : ℕ) (m : Mode) (h : Held ℕ) (x : Inside) : Type 0 wher
   pub bare : Bare mode
   pub path : lineRun i (outside m h) (printSquare x) ≡ outside mode (waiting (bracketAt Unknown 0 0 i x) h)
 
-wait-front : (i : ℕ) (m : Mode) (h : Held ℕ) (x : Inside) → act m openSquare ≡ Begin front → goodInside shutSquare false x ≡ true → Waited i m h x
+wait-front : (i : ℕ) (m : Mode) (h : Held ℕ) (x : Inside) → act m openSquare ≡ Begin front → goodInside false true x ≡ true → Waited i m h x
 wait-front i m h x e g =
     record {
       mode = Undecided;
@@ -477,7 +477,7 @@ wait-front i m h x e g =
       path = bracket i m front h openSquare x e refl (allowed-too x g) ∙ ap (λ z. outside (cond z Referred Undecided) (waiting (bracketAt Unknown 0 0 i x) h)) (no-reference (i + 1) x g);
     }
 
-wait-counted : (i : ℕ) (m : Mode) (h : Held ℕ) (x : Inside) → act m openSquare ≡ Begin (square Unknown false Counted) → goodInside shutSquare false x ≡ true → Waited i m h x
+wait-counted : (i : ℕ) (m : Mode) (h : Held ℕ) (x : Inside) → act m openSquare ≡ Begin (square Unknown false Counted) → goodInside false true x ≡ true → Waited i m h x
 wait-counted i m h x e g =
     record {
       mode = Counted;
@@ -485,7 +485,7 @@ wait-counted i m h x e g =
       path = bracket i m (square Unknown false Counted) h openSquare x e refl g ∙ ap (λ z. outside z (waiting (bracketAt Unknown 0 0 i x) h)) (same-mode (meansInside (i + 1) x) Counted);
     }
 
-waits : (i : ℕ) (m : Mode) (h : Held ℕ) (x : Inside) → InRun m → goodInside shutSquare false x ≡ true → Waited i m h x
+waits : (i : ℕ) (m : Mode) (h : Held ℕ) (x : Inside) → InRun m → goodInside false true x ≡ true → Waited i m h x
 unfolding act undecided counted
 waits i m h x undecided-run g = wait-front i Undecided h x refl g
 waits i m h x counted-run g = wait-counted i Counted h x refl g
@@ -555,7 +555,7 @@ counted-mark i (some ds) m h x g w =
 
 mark-run : (i : ℕ) (x : Marked) (m : Mode) (h : Held ℕ) → InRun m → goodMarked x ≡ true → Noted i m h (printMarked x) (meansMarked i x ∷ [])
 mark-run i x m h w g =
-    counted-mark i (x .count) m h (x .inside) (and-right (goodInside shutSquare false (x .inside)) (goodCount (x .count)) g) (waits i m h (x .inside) w (and-left (goodInside shutSquare false (x .inside)) (goodCount (x .count)) g))
+    counted-mark i (x .count) m h (x .inside) (and-right (goodInside false true (x .inside)) (goodCount (x .count)) g) (waits i m h (x .inside) w (and-left (goodInside false true (x .inside)) (goodCount (x .count)) g))
 
 marks-on : (i : ℕ) (xs : List Marked) (x : Marked) (m : Mode) (h : Held ℕ) → every goodMarked xs ≡ true → Noted i m h (printMarked x) (meansMarked i x ∷ []) → Noted i m h (flat printMarked (x ∷ xs)) (along printMarked meansMarked i (x ∷ xs))
 marks-on i [] x m h g w =
@@ -590,7 +590,7 @@ run-run i r rs ks f g =
     let h : Held ℕ = held rs ks [] f in
     let x = r .first in
     let g₀ = every-head goodMarked x (r .more) g in
-    let q = marks-on i (r .more) x Front h (every-tail goodMarked x (r .more) g) (counted-mark i (x .count) Front h (x .inside) (and-right (goodInside shutSquare false (x .inside)) (goodCount (x .count)) g₀) (wait-front i Front h (x .inside) front-opens (and-left (goodInside shutSquare false (x .inside)) (goodCount (x .count)) g₀))) in
+    let q = marks-on i (r .more) x Front h (every-tail goodMarked x (r .more) g) (counted-mark i (x .count) Front h (x .inside) (and-right (goodInside false true (x .inside)) (goodCount (x .count)) g₀) (wait-front i Front h (x .inside) front-opens (and-left (goodInside false true (x .inside)) (goodCount (x .count)) g₀))) in
     line-further i (flat printMarked (marks r)) (question ∷ []) (outside Front h) _ _ (q .path) (run-over _ (q .mode) _ (q .run))
     ∙ ap (λ z. outside Front (held rs (ks ++ z) [] f)) (map-id (meansRun i r))
 
@@ -606,7 +606,7 @@ runs-run i (r ∷ rr) rs ks f g =
 abbrev meansCurlies : ℕ → List Inside → Brackets
 meansCurlies i xs = along printCurly (bracketAt Labile 0 0) i xs
 
-curly-run : (i : ℕ) (m : Mode) (h : Held ℕ) (x : Inside) → act m openCurly ≡ Begin labile → goodInside shutCurly false x ≡ true → lineRun i (outside m h) (printCurly x) ≡ outside Labiles (settled (bracketAt Labile 0 0 i x) h)
+curly-run : (i : ℕ) (m : Mode) (h : Held ℕ) (x : Inside) → act m openCurly ≡ Begin labile → goodInside false false x ≡ true → lineRun i (outside m h) (printCurly x) ≡ outside Labiles (settled (bracketAt Labile 0 0 i x) h)
 curly-run i m h x e g = bracket i m labile h openCurly x e refl g ∙ ap (λ z. outside z (settled (bracketAt Labile 0 0 i x) h)) (same-mode (meansInside (i + 1) x) Labiles)
 
 labiles-open : act Labiles openCurly ≡ Begin labile
@@ -620,12 +620,12 @@ front-curly = refl
 curlies-from : (i : ℕ) (xs : List Inside) (x : Inside) (m : Mode) (h : Held ℕ) → act m openCurly ≡ Begin labile → goodCurlies (x ∷ xs) ≡ true
     → lineRun i (outside m h) (flat printCurly (x ∷ xs)) ≡ outside Labiles (held (h .residues) (h .brackets ++ meansCurlies i (x ∷ xs)) (h .run) (h .first))
 curlies-from i [] x m h e g =
-    ap (lineRun i (outside m h)) (flat-cons printCurly x [] ∙ ap (λ z. printCurly x ++ z) (flat-nil printCurly) ∙ append-nil (printCurly x)) ∙ curly-run i m h x e (every-head (goodInside shutCurly false) x [] g)
+    ap (lineRun i (outside m h)) (flat-cons printCurly x [] ∙ ap (λ z. printCurly x ++ z) (flat-nil printCurly) ∙ append-nil (printCurly x)) ∙ curly-run i m h x e (every-head (goodInside false false) x [] g)
     ∙ ap (λ z. outside Labiles (held (h .residues) (h .brackets ++ z) (h .run) (h .first))) (sym (along-one printCurly (bracketAt Labile 0 0) i x))
 curlies-from i (y ∷ xs) x m h e g =
     ap (lineRun i (outside m h)) (flat-cons printCurly x (y ∷ xs))
-    ∙ line-further i (printCurly x) (flat printCurly (y ∷ xs)) (outside m h) (outside Labiles (settled (bracketAt Labile 0 0 i x) h)) _ (curly-run i m h x e (every-head (goodInside shutCurly false) x (y ∷ xs) g))
-    (curlies-from (i + length (printCurly x)) xs y Labiles (settled (bracketAt Labile 0 0 i x) h) labiles-open (every-tail (goodInside shutCurly false) x (y ∷ xs) g))
+    ∙ line-further i (printCurly x) (flat printCurly (y ∷ xs)) (outside m h) (outside Labiles (settled (bracketAt Labile 0 0 i x) h)) _ (curly-run i m h x e (every-head (goodInside false false) x (y ∷ xs) g))
+    (curlies-from (i + length (printCurly x)) xs y Labiles (settled (bracketAt Labile 0 0 i x) h) labiles-open (every-tail (goodInside false false) x (y ∷ xs) g))
     ∙ ap (λ z. outside Labiles (held (h .residues) z (h .run) (h .first))) (append-assoc (h .brackets) (bracketAt Labile 0 0 i x ∷ []) _ ∙ ap (λ z. h .brackets ++ z) (sym (along-cons printCurly (bracketAt Labile 0 0) i x (y ∷ xs))))
 
 -- where the runs are over: no labile bracket yet, or some
@@ -664,14 +664,14 @@ pub record Pending (i : ℕ) (m : Mode) (h : Held ℕ) (l : List ℕ) (ks : Brac
   pub waits : Waits mode
   pub path : lineRun i (outside m h) l ≡ outside mode (held (h .residues) (h .brackets) (h .run ++ ks) (h .first))
 
-pend-front : (i : ℕ) (m : Mode) (h : Held ℕ) (x : Inside) → act m openSquare ≡ Begin front → goodInside shutSquare true x ≡ true → Pending i m h (printSquare x) (bracketAt Unknown 0 0 i x ∷ [])
+pend-front : (i : ℕ) (m : Mode) (h : Held ℕ) (x : Inside) → act m openSquare ≡ Begin front → goodInside true true x ≡ true → Pending i m h (printSquare x) (bracketAt Unknown 0 0 i x ∷ [])
 pend-front i m h x e g = record { mode = cond (refers? (meansInside (i + 1) x)) Referred Undecided; waits = either (refers? (meansInside (i + 1) x)); path = bracket i m front h openSquare x e refl g }
   where
     either : (t : Bool) → Waits (cond t Referred Undecided)
     either true = referred-waits
     either false = undecided-waits
 
-pend : (i : ℕ) (m : Mode) (h : Held ℕ) (x : Inside) → Waits m → goodInside shutSquare true x ≡ true → Pending i m h (printSquare x) (bracketAt Unknown 0 0 i x ∷ [])
+pend : (i : ℕ) (m : Mode) (h : Held ℕ) (x : Inside) → Waits m → goodInside true true x ≡ true → Pending i m h (printSquare x) (bracketAt Unknown 0 0 i x ∷ [])
 unfolding act undecided referred
 pend i m h x undecided-waits g = pend-front i Undecided h x refl g
 pend i m h x referred-waits g =
@@ -694,7 +694,7 @@ pend-all i [] x m h g w =
 pend-all i (y ∷ xs) x m h g w =
     let h₁ : Held ℕ = held (h .residues) (h .brackets) (h .run ++ (bracketAt Unknown 0 0 i x ∷ [])) (h .first) in
     let j = i + length (printSquare x) in
-    let q = pend-all j xs y (w .mode) h₁ (every-tail (goodInside shutSquare true) y xs g) (pend j (w .mode) h₁ y (w .waits) (every-head (goodInside shutSquare true) y xs g)) in
+    let q = pend-all j xs y (w .mode) h₁ (every-tail (goodInside true true) y xs g) (pend j (w .mode) h₁ y (w .waits) (every-head (goodInside true true) y xs g)) in
     record {
       mode = q .mode;
       waits = q .waits;
@@ -745,7 +745,7 @@ front-run i [] m rs ks f w g =
     }
 front-run i (x ∷ xs) m rs ks f at-front g =
     let h : Held ℕ = held rs ks [] f in
-    let q = pend-all i xs x Front h (every-tail (goodInside shutSquare true) x xs g) (pend-front i Front h x front-opens (every-head (goodInside shutSquare true) x xs g)) in
+    let q = pend-all i xs x Front h (every-tail (goodInside true true) x xs g) (pend-front i Front h x front-opens (every-head (goodInside true true) x xs g)) in
     record {
       mode = Start;
       begins = start-begins;

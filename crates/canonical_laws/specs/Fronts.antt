@@ -85,8 +85,8 @@ fewer (k ∷ rs) =
     rw (length-append (squareText k) (flat squareText rs), length-append (unknownText k) (flat unknownText rs), length-append (squareText k) (countText (k .count))) (omega (arith, fewer rs))
 
 -- ---- a bracket more at the front
-squares : (s : Slot) (j : ℕ) (ps : Parts) → s .shut ≡ shutSquare → ClosedBy s j ps → Square ps
-squares s j ps e g r f a = subst (λ (z : ℕ). Reads z r ps) e (g r .path f a)
+squares : (s : Slot) (j : ℕ) (ps : Parts) → s .shut ≡ shutSquare → s .labels ≡ true → ClosedBy s j ps → Square ps
+squares s j ps e d g r f a = subst (λ (z : ℕ). Reads z r true ps) e (subst (λ (z : Bool). Reads (s .shut) r z ps) d (g r .path f a))
 
 is-term : (ps : Parts) → Square ps → IsTerm (unknown 1 none ps)
 is-term ps w = record { is = refl; reads = w }
@@ -111,14 +111,14 @@ step-lead bs rs b n w u v h =
     branch-on (λ m. Outside (suc n + j) m (held bs (rs ++ (unknown 1 none ps ∷ [])))) (refers? ps) {x = Referred} {y = Undecided}
     (λ e. (
       gather bs (rs ++ (unknown 1 none ps ∷ [])) w,
-      each-snoc IsTerm rs (unknown 1 none ps) v (is-term ps (squares front j ps refl g)),
+      each-snoc IsTerm rs (unknown 1 none ps) v (is-term ps (squares front j ps refl refl g)),
       fresh rs ps,
       rw (term-length rs ps) (omega (arith, g true .short, fewer rs)),
     ))
     (λ e. (
       gather bs (rs ++ (unknown 1 none ps ∷ [])) w,
-      each-snoc IsUnknown rs (unknown 1 none ps) u (is-unknown 1 none ps e (λ z. refl) (squares front j ps refl g)),
-      each-snoc IsTerm rs (unknown 1 none ps) v (is-term ps (squares front j ps refl g)),
+      each-snoc IsUnknown rs (unknown 1 none ps) u (is-unknown 1 none ps e (λ z. refl) (squares front j ps refl refl g)),
+      each-snoc IsTerm rs (unknown 1 none ps) v (is-term ps (squares front j ps refl refl g)),
       fresh rs ps,
       rw (fresh-length rs none ps) (omega (arith, g true .short)),
     )))
@@ -137,7 +137,7 @@ step-more bs rs b n w u h =
     (λ ps j g.
     after ps Counted (suc n + j) (held bs (rs ++ (unknown 1 none ps ∷ []))) (
       gather bs (rs ++ (unknown 1 none ps ∷ [])) w,
-      each-snoc IsUnknown rs (unknown 1 none ps) u (is-unknown 1 none ps (no-reference ps (g true .refs)) (λ z. refl) (squares (square Unknown false Counted) j ps refl g)),
+      each-snoc IsUnknown rs (unknown 1 none ps) u (is-unknown 1 none ps (no-reference ps (g true .refs)) (λ z. refl) (squares (square Unknown false Counted) j ps refl refl g)),
       fresh rs ps,
       rw (fresh-length rs none ps) (omega (arith, g true .short)),
     ))
@@ -149,7 +149,7 @@ step-refer bs rs b n w v h =
     (λ ps j g.
     after ps Referred (suc n + j) (held bs (rs ++ (unknown 1 none ps ∷ []))) (
       gather bs (rs ++ (unknown 1 none ps ∷ [])) w,
-      each-snoc IsTerm rs (unknown 1 none ps) v (is-term ps (squares (square Unknown true Referred) j ps refl g)),
+      each-snoc IsTerm rs (unknown 1 none ps) v (is-term ps (squares (square Unknown true Referred) j ps refl refl g)),
       fresh rs ps,
       rw (term-length rs ps) (omega (arith, g true .short)),
     ))

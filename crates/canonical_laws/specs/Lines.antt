@@ -164,14 +164,14 @@ Outside n CStart h = Written n CStart h × Within h
 Outside n CTerms h = Written n CTerms h × (none? (cterms (h .brackets)) ≡ false)
 
 abbrev pub ClosedBy : Slot → ℕ → Parts → Type 0
-ClosedBy s j ps = (r : Bool) → Closed (s .shut) (s .refers) r j ps
+ClosedBy s j ps = (r : Bool) → Closed (s .shut) (s .refers) r (s .labels) j ps
 
 -- inside a bracket: what will hold behind it
 pub record Inside (n : ℕ) (s : Slot) (h : Held Place) (c : Inner Place) : Type 0 where
   pub before : ℕ
   pub within : ℕ
   pub total : before + within ≡ n
-  pub inv : (r : Bool) → Inv (s .shut) (s .refers) r within c
+  pub inv : (r : Bool) → Inv (s .shut) (s .refers) r (s .labels) within c
   pub behind : (ps : Parts) (j : ℕ) → ClosedBy s j ps → Outside (before + j) (modeAfter s ps) (withBracket (s .kind) tt ps h)
 
 unfoldable pub Reached : ℕ → State Place → Type 0
@@ -182,14 +182,14 @@ Reached n (inside s at h c) = Inside n s h c
 -- a bracket begins
 pub begins : (n : ℕ) (b : ℕ) (s : Slot) (h : Held Place) → ((ps : Parts) (j : ℕ) → ClosedBy s j ps → Outside (suc n + j) (modeAfter s ps) (withBracket (s .kind) tt ps h)) → Reached (suc n) (perform tt b h (Begin s))
 unfolding Reached perform
-begins n b s h f = record { before = suc n; within = 0; total = omega arith; inv = λ r. inner-start (s .shut) (s .refers) r; behind = f }
+begins n b s h f = record { before = suc n; within = 0; total = omega arith; inv = λ r. inner-start (s .shut) (s .refers) r (s .labels); behind = f }
 
 -- a bracket goes on or is closed
 pub goes-on : (n : ℕ) (s : Slot) (h : Held Place) (c : Inner Place) (b : ℕ) → Inside n s h c → Reached (suc n) (resume s tt h tt (innerStep tt c b))
 unfolding Reached resume InvC
-goes-on n s h c b w = go (innerStep tt c b) (λ r. inner-step (s .shut) (s .refers) r (w .within) c b (w .inv r))
+goes-on n s h c b w = go (innerStep tt c b) (λ r. inner-step (s .shut) (s .refers) r (s .labels) (w .within) c b (w .inv r))
   where
-    go : (x : Content Place) → ((r : Bool) → InvC (s .shut) (s .refers) r (suc (w .within)) x) → Reached (suc n) (resume s tt h tt x)
+    go : (x : Content Place) → ((r : Bool) → InvC (s .shut) (s .refers) r (s .labels) (suc (w .within)) x) → Reached (suc n) (resume s tt h tt x)
     go lost g = tt
     go (closed ps) g =
         subst (λ (z : ℕ). Outside z (modeAfter s ps) (withBracket (s .kind) tt ps h)) (let e : w .before + suc (w .within) ≡ suc n = omega (arith, w .total) in e) (w .behind ps (suc (w .within)) g)

@@ -51,7 +51,7 @@ FitsBracket k = Each FitsPart (k .parts) × (k .count < 10 ^ 20)
 
 -- square brackets that are read back, a reference only where it may stand
 abbrev pub Square : Parts → Type 0
-Square ps = (r : Bool) → Each FitsPart ps → (refers? ps ≡ true → r ≡ true) → Reads shutSquare r ps
+Square ps = (r : Bool) → Each FitsPart ps → (refers? ps ≡ true → r ≡ true) → Reads shutSquare r true ps
 
 pub record IsUnknown (k : Bracket Place) : Type 0 where
   pub is : k ≡ unknown (k .count) (k .counted) (k .parts)

@@ -19,6 +19,7 @@ fn square_slot(kind: Kind, refers: bool, after: Mode) -> Slot
         kind,
         shut: b']',
         refers,
+        labels: true,
         after,
         referred: after,
     }
@@ -32,6 +33,7 @@ fn front_slot() -> Slot
         kind: Kind::Unknown,
         shut: b']',
         refers: true,
+        labels: true,
         after: Mode::Undecided,
         referred: Mode::Referred,
     }
@@ -44,6 +46,7 @@ fn labile_slot() -> Slot
         kind: Kind::Labile,
         shut: b'}',
         refers: false,
+        labels: false,
         after: Mode::Labiles,
         referred: Mode::Labiles,
     }

@@ -125,7 +125,7 @@ Leads line s t = (notes labels : List ℕ) → length line ≤ lineLimit → Upt
 -- the bracket at hand is read
 pub record Behind (line : List ℕ) (s : Stage) (slot : Slot) (b : Bracketed) (notes labels labels′ : List ℕ) : Type 0 where
   pub does : Does line s (Begin slot) notes labels
-  pub closes : Closes line (s .at + 1) (slot .shut) (slot .refers) b (s .labels) labels labels′
+  pub closes : Closes line (s .at + 1) (slot .shut) (slot .refers) (slot .labels) b (s .labels) labels labels′
   pub kept : length labels′ ≡ length labels
 
 -- the mode behind a bracket, by its sort

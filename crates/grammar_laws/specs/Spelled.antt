@@ -209,7 +209,6 @@ code-tag free x e = e
 
 -- ---- what is spelled so far: shut closes the bracket, r says whether a reference may stand in it, labels whether its parts may have labels
 module _ (shut : ℕ) (r labels : Bool) where
-
   pub record Lead (c : Context Place) (w : List ℕ) : Type 0 where
     pub pieces : List Piece
     pub good : Each (Fine labels) pieces

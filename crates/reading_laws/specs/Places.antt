@@ -11,7 +11,7 @@ use Rattle.scope.specs.declared.grammar.Key.{Key}
 use Rattle.scope.specs.declared.grammar.Key.the-variants.{NoKey}
 use Rattle.scope.specs.declared.grammar.Kind.{Kind}
 use Rattle.scope.specs.declared.grammar.Kind.the-variants.{Unknown, Labile, NTerm, OnResidue, OnRange, CTerm}
-use Rattle.scope.specs.declared.grammar.Mode.the-variants.{Front, Counting, Start}
+use Rattle.scope.specs.declared.grammar.Mode.the-variants.{Runs, Counting, Start}
 use Rattle.scope.specs.declared.grammar.Slot.{Slot}
 use Rattle.scope.specs.declared.grammar.Act.{Act}
 use Rattle.scope.specs.declared.grammar.Act.the-variants.{Stop, Go, Residue as aResidue, Begin, Digit, RunEnds, TermEnds}
@@ -241,7 +241,7 @@ module _ {P Q : Type 0} (f : P → Q) where
   perform-map i b h (aResidue s m) = ap (outside m) (withResidue-map i b s h)
   perform-map i b h (Begin s) = refl
   perform-map i b h Digit = ap (outside Counting) (withDigit-map i b h)
-  perform-map i b h RunEnds = ap (outside Front) (settledRun-map (λ k. k) (λ k. k) (λ k. refl) h)
+  perform-map i b h RunEnds = ap (outside Runs) (settledRun-map (λ k. k) (λ k. k) (λ k. refl) h)
   perform-map i b h TermEnds = ap (outside Start) (settledRun-map asNTerm asNTerm (λ k. refl) h)
 
   refers-map : (ps : List (Part P)) → refers? (map (mapPart f) ps) ≡ refers? ps

@@ -13,13 +13,13 @@ use Rattle.scope.specs.declared.grammar.Section.the-variants.{RangeNext, Unsure
 use Rattle.scope.specs.declared.grammar.Kind.{Kind}
 use Rattle.scope.specs.declared.grammar.Kind.the-variants.{Unknown, NTerm, OnResidue, OnRange, CTerm}
 use Rattle.scope.specs.declared.grammar.Mode.{Mode}
-use Rattle.scope.specs.declared.grammar.Mode.the-variants.{Front, Undecided, Counted, Referred, Caret, Counting, Labiles, NTerms, Start, Single, Opened, UnsureOpened, InRange, InUnsure, RangeEnd, Ranged, UnsureEnd, CStart, CTerms}
+use Rattle.scope.specs.declared.grammar.Mode.the-variants.{Front, Runs, Undecided, Counted, Referred, Caret, Counting, Labiles, NTerms, Start, Single, Opened, UnsureOpened, InRange, InUnsure, RangeEnd, Ranged, UnsureEnd, CStart, CTerms}
 use Rattle.scope.specs.declared.grammar.Slot.{Slot}
 use Rattle.scope.specs.declared.grammar.Act.{Act}
 use Rattle.scope.specs.declared.grammar.Act.the-variants.{Stop, Go, Residue as aResidue, Begin, Digit, RunEnds, TermEnds}
 use Rattle.scope.specs.Bytes.{isLetter, isDigit, openSquare, shutSquare, openCurly, openRound, shutRound, caret, question, dash}
 use Rattle.scope.specs.Content.{begin, Inner, Content, lost, closed, going, innerStep}
-use Rattle.scope.specs.Reading.{square, front, labile, element, further, groupFirst, inGroup, undecided, counted, referred, act, mayEnd, Held, withResidue, withBracket, withDigit, asNTerm, settledRun, State, dead, outside, inside, perform, refers?, modeAfter, resume, step, start, lineOf}
+use Rattle.scope.specs.Reading.{square, front, labile, atFront, element, further, groupFirst, inGroup, undecided, counted, referred, act, mayEnd, Held, withResidue, withBracket, withDigit, asNTerm, settledRun, State, dead, outside, inside, perform, refers?, modeAfter, resume, step, start, lineOf}
 use Rattle.reading_laws.specs.Run.{told}
 use Rattle.reading_laws.specs.Unnoted.{Place, Parts, context, contentRun, lineRun, line-nil, line-cons, same-mode, content-cons, content-nil}
 use Rattle.basics.specs.Tests.{both}
@@ -127,6 +127,7 @@ pub data Either (l : List ℕ) : Type 0 where
 
 abbrev Left : Mode → List ℕ → Type 0
 Left Front l = Whole l
+Left Runs l = Whole l
 Left Undecided l = Either l
 Left Counted l = Counts l
 Left Referred l = Squares true Dashed l
@@ -160,7 +161,7 @@ After (Go m) l = Left m l
 After (aResidue s m) l = Left m l
 After (Begin s) l = Taken s l
 After Digit l = Left Counting l
-After RunEnds l = Left Front l
+After RunEnds l = Left Runs l
 After TermEnds l = Left Start l
 
 by : {G : Type 0} (t : Bool) (x y : Act) (l : List ℕ) → After (cond t x y) l → (t ≡ true → After x l → G) → (t ≡ false → After y l → G) → G
@@ -540,8 +541,8 @@ opening-whole : (b : ℕ) (l : List ℕ) → b ≡ openSquare → Opening b l �
 opening-whole b l e (as-run m) = runs-cons b l e m
 opening-whole b l e (as-front x v g a s) = no-runs (b ∷ l) (fronted b x l v e g a s)
 
-front-left : (b : ℕ) (l : List ℕ) → After (act Front b) l → Whole (b ∷ l)
-unfolding act After
+front-left : (b : ℕ) (l : List ℕ) → After (atFront b) l → Whole (b ∷ l)
+unfolding After
 front-left b l a =
     by (eqb b openSquare) _ _ l a (λ e (w : Taken front l). opening-whole b l (eqb-true b openSquare e) (opening b l (eqb-true b openSquare e) w))
     (λ e c.
@@ -558,7 +559,9 @@ unsureEnd-left b l a = further-left b l a
 
 -- ---- all modes
 left-cons : (m : Mode) (b : ℕ) (l : List ℕ) → After (act m b) l → Left m (b ∷ l)
+unfolding act
 left-cons Front b l a = front-left b l a
+left-cons Runs b l a = front-left b l a
 left-cons Undecided b l a = undecided-left b l a
 left-cons Counted b l a = counted-left b l a
 left-cons Referred b l a = referred-left b l a
@@ -650,7 +653,7 @@ after n ih (Go m) h b l k e = ih m h l k e
 after n ih (aResidue s m) h b l k e = ih m (withResidue tt b s h) l k e
 after n ih (Begin s) h b l k e = taken n ih s h l k e
 after n ih Digit h b l k e = ih Counting (withDigit tt b h) l k e
-after n ih RunEnds h b l k e = ih Front (settledRun (λ q. q) h) l k e
+after n ih RunEnds h b l k e = ih Runs (settledRun (λ q. q) h) l k e
 after n ih TermEnds h b l k e = ih Start (settledRun asNTerm h) l k e
 
 none-left : Upto 0

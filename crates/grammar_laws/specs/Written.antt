@@ -13,7 +13,7 @@ use Rattle.scope.specs.declared.grammar.Section.the-variants.{Plain, RangeFirst
 use Rattle.scope.specs.declared.grammar.Kind.{Kind}
 use Rattle.scope.specs.declared.grammar.Kind.the-variants.{Unknown, Labile, NTerm, OnResidue, OnRange, CTerm}
 use Rattle.scope.specs.declared.grammar.Mode.{Mode}
-use Rattle.scope.specs.declared.grammar.Mode.the-variants.{Front, Undecided, Counted, Referred, Caret, Counting, Labiles, NTerms, Start, Single, Opened, UnsureOpened, InRange, InUnsure, RangeEnd, Ranged, UnsureEnd, CStart, CTerms}
+use Rattle.scope.specs.declared.grammar.Mode.the-variants.{Front, Runs, Undecided, Counted, Referred, Caret, Counting, Labiles, NTerms, Start, Single, Opened, UnsureOpened, InRange, InUnsure, RangeEnd, Ranged, UnsureEnd, CStart, CTerms}
 use Rattle.scope.specs.declared.grammar.Slot.{Slot}
 use Rattle.scope.specs.declared.grammar.Act.the-variants.{Go, Residue as aResidue, Begin, Digit, RunEnds, TermEnds}
 use Rattle.scope.specs.Bytes.{isLetter, isDigit, isShutting, openSquare, openCurly, openRound, shutRound, caret, question, dash, value}
@@ -205,9 +205,19 @@ further-letter : (b : ℕ) → isLetter b ≡ true → further b ≡ aResidue Pl
 unfolding further
 further-letter b e = pick-false (eqb b dash) _ _ (letter-not b dash e refl) ∙ element-letter b e
 
-front-begins : Begins Front
+-- at the front of a line, and behind a run
+pub data AtFront : Mode → Type 0 where
+  at-first : AtFront Front
+  behind-run : AtFront Runs
+
+front-acts : (m : Mode) → AtFront m → (b : ℕ) → act m b ≡ act Front b
+unfolding act
+front-acts m at-first b = refl
+front-acts m behind-run b = refl
+
+front-begins : (m : Mode) → AtFront m → Begins m
 unfolding act element
-front-begins = record { letter = λ b e. pick-false (eqb b openSquare) _ _ (letter-not b openSquare e refl) ∙ pick-false (eqb b openCurly) _ _ (letter-not b openCurly e refl) ∙ element-letter b e; round = refl }
+front-begins m w = record { letter = λ b e. front-acts m w b ∙ pick-false (eqb b openSquare) _ _ (letter-not b openSquare e refl) ∙ pick-false (eqb b openCurly) _ _ (letter-not b openCurly e refl) ∙ element-letter b e; round = front-acts m w openRound }
 
 labiles-begins : Begins Labiles
 unfolding act element
@@ -491,9 +501,9 @@ waits i m h x undecided-run g = wait-front i Undecided h x refl g
 waits i m h x counted-run g = wait-counted i Counted h x refl g
 waits i m h x counting-run g = wait-counted i Counting h x refl g
 
-front-opens : act Front openSquare ≡ Begin front
+front-opens : (m : Mode) → AtFront m → act m openSquare ≡ Begin front
 unfolding act
-front-opens = refl
+front-opens m w = front-acts m w openSquare
 
 -- counts
 last-snoc : (f : Bracket ℕ → Bracket ℕ) (l : Brackets) (x : Bracket ℕ) → onLast f (l ++ (x ∷ [])) ≡ l ++ (f x ∷ [])
@@ -581,26 +591,44 @@ marks-on i (y ∷ xs) x m h g w =
           (append-assoc (h .run) (meansMarked i x ∷ []) (along printMarked meansMarked j (y ∷ xs)) ∙ ap (λ z. h .run ++ z) (sym (along-cons printMarked meansMarked i x (y ∷ xs))));
     }
 
-run-over : (i : ℕ) (m : Mode) (h : Held ℕ) → InRun m → lineRun i (outside m h) (question ∷ []) ≡ outside Front (settledRun (λ k. k) h)
+run-over : (i : ℕ) (m : Mode) (h : Held ℕ) → InRun m → lineRun i (outside m h) (question ∷ []) ≡ outside Runs (settledRun (λ k. k) h)
 unfolding perform
 run-over i m h w = line-one i m h question ∙ ap (perform i question h) (run-ends m w)
 
-run-run : (i : ℕ) (r : Run) (rs : Residues) (ks : Brackets) (f : ℕ) → goodRun r ≡ true → lineRun i (outside Front (held rs ks [] f)) (printRun r) ≡ outside Front (held rs (ks ++ meansRun i r) [] f)
-run-run i r rs ks f g =
+run-run : (i : ℕ) (r : Run) (m : Mode) (rs : Residues) (ks : Brackets) (f : ℕ) → AtFront m → goodRun r ≡ true → lineRun i (outside m (held rs ks [] f)) (printRun r) ≡ outside Runs (held rs (ks ++ meansRun i r) [] f)
+run-run i r m rs ks f w g =
     let h : Held ℕ = held rs ks [] f in
     let x = r .first in
     let g₀ = every-head goodMarked x (r .more) g in
-    let q = marks-on i (r .more) x Front h (every-tail goodMarked x (r .more) g) (counted-mark i (x .count) Front h (x .inside) (and-right (goodInside false true (x .inside)) (goodCount (x .count)) g₀) (wait-front i Front h (x .inside) front-opens (and-left (goodInside false true (x .inside)) (goodCount (x .count)) g₀))) in
-    line-further i (flat printMarked (marks r)) (question ∷ []) (outside Front h) _ _ (q .path) (run-over _ (q .mode) _ (q .run))
-    ∙ ap (λ z. outside Front (held rs (ks ++ z) [] f)) (map-id (meansRun i r))
+    let q = marks-on i (r .more) x m h (every-tail goodMarked x (r .more) g) (counted-mark i (x .count) m h (x .inside) (and-right (goodInside false true (x .inside)) (goodCount (x .count)) g₀) (wait-front i m h (x .inside) (front-opens m w) (and-left (goodInside false true (x .inside)) (goodCount (x .count)) g₀))) in
+    line-further i (flat printMarked (marks r)) (question ∷ []) (outside m h) _ _ (q .path) (run-over _ (q .mode) _ (q .run))
+    ∙ ap (λ z. outside Runs (held rs (ks ++ z) [] f)) (map-id (meansRun i r))
 
-runs-run : (i : ℕ) (rr : List Run) (rs : Residues) (ks : Brackets) (f : ℕ) → every goodRun rr ≡ true → lineRun i (outside Front (held rs ks [] f)) (flat printRun rr) ≡ outside Front (held rs (ks ++ eachAlong printRun meansRun i rr) [] f)
-runs-run i [] rs ks f g =
-    ap (lineRun i (outside Front (held rs ks [] f))) (flat-nil printRun) ∙ line-nil i _ ∙ ap (λ z. outside Front (held rs z [] f)) (sym (append-nil ks) ∙ ap (λ z. ks ++ z) (sym (eachAlong-nil printRun meansRun i)))
-runs-run i (r ∷ rr) rs ks f g =
-    ap (lineRun i (outside Front (held rs ks [] f))) (flat-cons printRun r rr)
-    ∙ line-further i (printRun r) (flat printRun rr) (outside Front (held rs ks [] f)) _ _ (run-run i r rs ks f (every-head goodRun r rr g)) (runs-run (i + length (printRun r)) rr rs (ks ++ meansRun i r) f (every-tail goodRun r rr g))
-    ∙ ap (λ z. outside Front (held rs z [] f)) (append-assoc ks (meansRun i r) (eachAlong printRun meansRun (i + length (printRun r)) rr) ∙ ap (λ z. ks ++ z) (sym (eachAlong-cons printRun meansRun i r rr)))
+-- the runs, and where they lead
+pub record RunsRead (i : ℕ) (m : Mode) (rs : Residues) (ks : Brackets) (f : ℕ) (l : List ℕ) (xs : Brackets) : Type 0 where
+  pub mode : Mode
+  pub front : AtFront mode
+  pub path : lineRun i (outside m (held rs ks [] f)) l ≡ outside mode (held rs (ks ++ xs) [] f)
+
+runs-run : (i : ℕ) (rr : List Run) (m : Mode) (rs : Residues) (ks : Brackets) (f : ℕ) → AtFront m → every goodRun rr ≡ true → RunsRead i m rs ks f (flat printRun rr) (eachAlong printRun meansRun i rr)
+runs-run i [] m rs ks f w g =
+    record {
+      mode = m;
+      front = w;
+      path =
+          ap (lineRun i (outside m (held rs ks [] f))) (flat-nil printRun) ∙ line-nil i _
+          ∙ ap (λ z. outside m (held rs z [] f)) (sym (append-nil ks) ∙ ap (λ z. ks ++ z) (sym (eachAlong-nil printRun meansRun i)));
+    }
+runs-run i (r ∷ rr) m rs ks f w g =
+    let q = runs-run (i + length (printRun r)) rr Runs rs (ks ++ meansRun i r) f behind-run (every-tail goodRun r rr g) in
+    record {
+      mode = q .mode;
+      front = q .front;
+      path =
+          ap (lineRun i (outside m (held rs ks [] f))) (flat-cons printRun r rr)
+          ∙ line-further i (printRun r) (flat printRun rr) (outside m (held rs ks [] f)) _ _ (run-run i r m rs ks f w (every-head goodRun r rr g)) (q .path)
+          ∙ ap (λ z. outside (q .mode) (held rs z [] f)) (append-assoc ks (meansRun i r) (eachAlong printRun meansRun (i + length (printRun r)) rr) ∙ ap (λ z. ks ++ z) (sym (eachAlong-cons printRun meansRun i r rr)));
+    }
 
 -- ---- labile brackets
 abbrev meansCurlies : ℕ → List Inside → Brackets
@@ -613,9 +641,9 @@ labiles-open : act Labiles openCurly ≡ Begin labile
 unfolding act
 labiles-open = refl
 
-front-curly : act Front openCurly ≡ Begin labile
+front-curly : (m : Mode) → AtFront m → act m openCurly ≡ Begin labile
 unfolding act
-front-curly = refl
+front-curly m w = front-acts m w openCurly
 
 curlies-from : (i : ℕ) (xs : List Inside) (x : Inside) (m : Mode) (h : Held ℕ) → act m openCurly ≡ Begin labile → goodCurlies (x ∷ xs) ≡ true
     → lineRun i (outside m h) (flat printCurly (x ∷ xs)) ≡ outside Labiles (held (h .residues) (h .brackets ++ meansCurlies i (x ∷ xs)) (h .run) (h .first))
@@ -630,28 +658,28 @@ curlies-from i (y ∷ xs) x m h e g =
 
 -- where the runs are over: no labile bracket yet, or some
 pub data Fronts : Mode → Type 0 where
-  at-front : Fronts Front
+  at-front : {m : Mode} → AtFront m → Fronts m
   at-labiles : Fronts Labiles
 
 fronts-begin : (m : Mode) → Fronts m → Begins m
-fronts-begin m at-front = front-begins
+fronts-begin m (at-front w) = front-begins m w
 fronts-begin m at-labiles = labiles-begins
 
-pub record Labelless (i : ℕ) (rs : Residues) (ks : Brackets) (f : ℕ) (l : List ℕ) (xs : Brackets) : Type 0 where
+pub record Labelless (i : ℕ) (m : Mode) (rs : Residues) (ks : Brackets) (f : ℕ) (l : List ℕ) (xs : Brackets) : Type 0 where
   pub mode : Mode
   pub fronts : Fronts mode
-  pub path : lineRun i (outside Front (held rs ks [] f)) l ≡ outside mode (held rs (ks ++ xs) [] f)
+  pub path : lineRun i (outside m (held rs ks [] f)) l ≡ outside mode (held rs (ks ++ xs) [] f)
 
-curlies-run : (i : ℕ) (xs : List Inside) (rs : Residues) (ks : Brackets) (f : ℕ) → goodCurlies xs ≡ true → Labelless i rs ks f (flat printCurly xs) (meansCurlies i xs)
-curlies-run i [] rs ks f g =
+curlies-run : (i : ℕ) (xs : List Inside) (m : Mode) (rs : Residues) (ks : Brackets) (f : ℕ) → AtFront m → goodCurlies xs ≡ true → Labelless i m rs ks f (flat printCurly xs) (meansCurlies i xs)
+curlies-run i [] m rs ks f w g =
     record {
-      mode = Front;
-      fronts = at-front;
+      mode = m;
+      fronts = at-front w;
       path =
-          ap (lineRun i (outside Front (held rs ks [] f))) (flat-nil printCurly) ∙ line-nil i _
-          ∙ ap (λ z. outside Front (held rs z [] f)) (sym (append-nil ks) ∙ ap (λ z. ks ++ z) (sym (along-nil printCurly (bracketAt Labile 0 0) i)));
+          ap (lineRun i (outside m (held rs ks [] f))) (flat-nil printCurly) ∙ line-nil i _
+          ∙ ap (λ z. outside m (held rs z [] f)) (sym (append-nil ks) ∙ ap (λ z. ks ++ z) (sym (along-nil printCurly (bracketAt Labile 0 0) i)));
     }
-curlies-run i (x ∷ xs) rs ks f g = record { mode = Labiles; fronts = at-labiles; path = curlies-from i xs x Front (held rs ks [] f) front-curly g }
+curlies-run i (x ∷ xs) m rs ks f w g = record { mode = Labiles; fronts = at-labiles; path = curlies-from i xs x m (held rs ks [] f) (front-curly m w) g }
 
 -- ---- the N-terminus
 -- brackets at the front that wait, a reference among them or not
@@ -743,14 +771,14 @@ front-run i [] m rs ks f w g =
       begins = fronts-begin m w;
       path = line-nil i _ ∙ ap (λ z. outside m (held rs z [] f)) (sym (append-nil ks) ∙ ap (λ z. ks ++ z) (sym (along-nil printSquare (bracketAt NTerm 0 0) i)));
     }
-front-run i (x ∷ xs) m rs ks f at-front g =
+front-run i (x ∷ xs) m rs ks f (at-front w) g =
     let h : Held ℕ = held rs ks [] f in
-    let q = pend-all i xs x Front h (every-tail (goodInside true true) x xs g) (pend-front i Front h x front-opens (every-head (goodInside true true) x xs g)) in
+    let q = pend-all i xs x m h (every-tail (goodInside true true) x xs g) (pend-front i m h x (front-opens m w) (every-head (goodInside true true) x xs g)) in
     record {
       mode = Start;
       begins = start-begins;
       path =
-          line-further i (printSquares (x ∷ xs)) (dash ∷ []) (outside Front h) _ _ (q .path) (term-over _ (q .mode) _ (q .waits)) ∙ ap (λ z. outside Start (held rs (ks ++ z) [] f)) (as-nterm i (x ∷ xs));
+          line-further i (printSquares (x ∷ xs)) (dash ∷ []) (outside m h) _ _ (q .path) (term-over _ (q .mode) _ (q .waits)) ∙ ap (λ z. outside Start (held rs (ks ++ z) [] f)) (as-nterm i (x ∷ xs));
     }
 front-run i (x ∷ xs) m rs ks f at-labiles g =
     record {
@@ -762,12 +790,12 @@ front-run i (x ∷ xs) m rs ks f at-labiles g =
 
 -- ---- a line
 -- its four pieces
-whole-run : (i : ℕ) (a b c d : List ℕ) (k₁ k₂ k₃ ks : Brackets) (rs : Residues) (m₁ m₂ m₃ : Mode) (f : ℕ) → lineRun i (outside Front nothing) a ≡ outside Front (held [] k₁ [] 0)
-    → lineRun (i + length a) (outside Front (held [] k₁ [] 0)) b ≡ outside m₁ (held [] (k₁ ++ k₂) [] 0)
+whole-run : (i : ℕ) (a b c d : List ℕ) (k₁ k₂ k₃ ks : Brackets) (rs : Residues) (m₀ m₁ m₂ m₃ : Mode) (f : ℕ) → lineRun i (outside Front nothing) a ≡ outside m₀ (held [] k₁ [] 0)
+    → lineRun (i + length a) (outside m₀ (held [] k₁ [] 0)) b ≡ outside m₁ (held [] (k₁ ++ k₂) [] 0)
     → lineRun (i + length a + length b) (outside m₁ (held [] (k₁ ++ k₂) [] 0)) c ≡ outside m₂ (held [] ((k₁ ++ k₂) ++ k₃) [] 0)
     → lineRun (i + length a + length b + length c) (outside m₂ (held [] ((k₁ ++ k₂) ++ k₃) [] 0)) d ≡ outside m₃ (held rs (((k₁ ++ k₂) ++ k₃) ++ ks) [] f)
     → lineRun i (outside Front nothing) (a ++ (b ++ (c ++ d))) ≡ outside m₃ (held rs (k₁ ++ (k₂ ++ (k₃ ++ ks))) [] f)
-whole-run i a b c d k₁ k₂ k₃ ks rs m₁ m₂ m₃ f p q r s =
+whole-run i a b c d k₁ k₂ k₃ ks rs m₀ m₁ m₂ m₃ f p q r s =
     line-further i a (b ++ (c ++ d)) _ _ _ p (line-further (i + length a) b (c ++ d) _ _ _ q (line-further (i + length a + length b) c d _ _ _ r s))
     ∙ ap (λ z. outside m₃ (held rs z [] f)) (append-assoc (k₁ ++ k₂) k₃ ks ∙ append-assoc k₁ k₂ (k₃ ++ ks))
 
@@ -784,7 +812,8 @@ line-run i t g =
     let k₁ : Brackets = eachAlong printRun meansRun i (t .runs) in
     let k₂ : Brackets = meansCurlies (atLabiles i t) (t .labiles) in
     let k₃ : Brackets = meansSquares NTerm 0 0 (atFront i t) (t .front) in
-    let p = curlies-run (atLabiles i t) (t .labiles) [] k₁ 0 (and-left b (c && (d && e)) g₁) in
+    let u = runs-run i (t .runs) Front [] [] 0 at-first (and-left a (b && (c && (d && e))) g) in
+    let p = curlies-run (atLabiles i t) (t .labiles) (u .mode) [] k₁ 0 (u .front) (and-left b (c && (d && e)) g₁) in
     let j = front-run (atFront i t) (t .front) (p .mode) [] (k₁ ++ k₂) 0 (p .fronts) (and-left c (d && e) g₂) in
     let q = sequence-run (atSequence i t) (t .first) (t .more) (t .back) (j .mode) ((k₁ ++ k₂) ++ k₃) 0 (j .begins) (and-left d e g₃) (and-right d e g₃) in
     record {
@@ -793,8 +822,8 @@ line-run i t g =
       ends = q .ends;
       path =
           whole-run i (flat printRun (t .runs)) (flat printCurly (t .labiles)) (printFront (t .front)) (flat printElement (elements t) ++ printBack (t .back)) k₁ k₂ k₃
-          (bracketsAlong 0 (atSequence i t) (elements t) ++ backOf i t) (residuesOf i t) (p .mode) (j .mode) (q .mode) (q .first)
-          (runs-run i (t .runs) [] [] 0 (and-left a (b && (c && (d && e))) g)) (p .path) (j .path) (q .path);
+          (bracketsAlong 0 (atSequence i t) (elements t) ++ backOf i t) (residuesOf i t) (u .mode) (p .mode) (j .mode) (q .mode) (q .first)
+          (u .path) (p .path) (j .path) (q .path);
     }
 
 -- what a good spelling prints is read to what it means, with every place

@@ -10,13 +10,13 @@ use lib.ListN.{length, length-append}
 use Rattle.scope.specs.declared.grammar.Kind.{Kind}
 use Rattle.scope.specs.declared.grammar.Kind.the-variants.{Unknown, Labile, NTerm, CTerm}
 use Rattle.scope.specs.declared.grammar.Mode.{Mode}
-use Rattle.scope.specs.declared.grammar.Mode.the-variants.{Front, Undecided, Counted, Referred, Caret, Counting, Labiles, NTerms, Start, Single, Opened, UnsureOpened, InRange, InUnsure, RangeEnd, Ranged, UnsureEnd, CStart, CTerms}
+use Rattle.scope.specs.declared.grammar.Mode.the-variants.{Front, Runs, Undecided, Counted, Referred, Caret, Counting, Labiles, NTerms, Start, Single, Opened, UnsureOpened, InRange, InUnsure, RangeEnd, Ranged, UnsureEnd, CStart, CTerms}
 use Rattle.scope.specs.declared.grammar.Slot.{Slot}
 use Rattle.scope.specs.declared.grammar.Act.the-variants.{Begin, RunEnds, TermEnds}
 use Rattle.scope.specs.Bytes.{isDigit, openSquare, shutSquare, openCurly, caret, question, dash, value}
 use Rattle.scope.specs.Line.{Bracket}
 use Rattle.scope.specs.Lists.{none?, keep, flat}
-use Rattle.scope.specs.Reading.{square, front, undecided, counted, referred, act, mayEnd, Held, countDigit, asNTerm, State, dead, outside, inside, perform, refers?, step, run, start, lineOf}
+use Rattle.scope.specs.Reading.{square, front, labile, atFront, undecided, counted, referred, act, mayEnd, Held, countDigit, asNTerm, State, dead, outside, inside, perform, refers?, step, run, start, lineOf}
 use Rattle.scope.specs.Canonical.{decimal, partsText, squareText, curlyText, countText, unknownText, ofKind, closedBy, ledBy, sequenceText, canonical}
 use Rattle.scope.specs.Kinds.{kindCode}
 use Rattle.basics.specs.Lists.{keep-append, flat-append, on-last}
@@ -26,9 +26,9 @@ use Rattle.basics.specs.Each.{Each, each-append, each-front, each-back, each-on
 use Rattle.canonical_laws.specs.Numbers.{digit-below, decimal-length}
 use Rattle.reading_laws.specs.Unnoted.{Place, Parts, lineRun, line-nil, line-cons, line-further}
 use Rattle.canonical_laws.specs.Runs.{Reads}
-use Rattle.canonical_laws.specs.Unknowns.{Brackets, unknown, normal, FitsBracket, Square, IsUnknown, held, front-run, IsTerm, terms-end}
+use Rattle.canonical_laws.specs.Unknowns.{Brackets, unknown, normal, FitsBracket, Square, IsUnknown, held, frontMode, front-acts, front-run, IsTerm, terms-end}
 use Rattle.canonical_laws.specs.Sequence.{hasKind, Low, flat-one}
-use Rattle.canonical_laws.specs.Lines.{unknowns, labiles, nterms, cterms, head, body, text, norm, Written, Within, Gather, Fresh, Outside, ClosedBy, Reached, begins, goes-on, closed-most, closed-least, square-length, bare-body, step-labile, step-element, step-single, step-opened, step-unsureOpened, step-inRange, step-inUnsure, step-rangeEnd, step-ranged, step-unsureEnd, step-start, step-cStart, step-cTerms, step-labiles, step-nterms, between-front, after}
+use Rattle.canonical_laws.specs.Lines.{unknowns, labiles, nterms, cterms, head, body, text, norm, Written, Within, Gather, AtFront, Fresh, Outside, ClosedBy, Reached, begins, goes-on, closed-most, closed-least, square-length, bare-body, step-labile, step-element, step-single, step-opened, step-unsureOpened, step-inRange, step-inUnsure, step-rangeEnd, step-ranged, step-unsureEnd, step-start, step-cStart, step-cTerms, step-labiles, step-nterms, between-front, after}
 
 -- ---- brackets of unknown position, by kind
 kind-is : (k : Bracket Place) → IsUnknown k → k .kind ≡ Unknown
@@ -49,15 +49,16 @@ other-kind c (k ∷ bs) e w =
 unknown-low : (bs : Brackets) → Each IsUnknown bs → Low 0 bs
 unknown-low bs w = each-one IsUnknown (λ k. k .last ≤ 0) (λ k v. omega (arith, ap (λ (z : Bracket Place). z .last) (v .is))) bs w
 
-front-text : (bs : Brackets) → Each IsUnknown bs → text Front (held bs []) ≡ closedBy (flat unknownText bs) question
-unfolding text flat
+front-text : (bs : Brackets) → Each IsUnknown bs → text (frontMode bs) (held bs []) ≡ closedBy (flat unknownText bs) question
+unfolding flat
 front-text bs w =
-    bare-body (held bs []) refl (other-kind NTerm bs refl w)
+    between-front bs .shows (held bs [])
+    ∙ bare-body (held bs []) refl (other-kind NTerm bs refl w)
     ∙ ap (λ z. unknowns bs ++ flat curlyText z) (other-kind Labile bs refl w)
     ∙ append-nil (unknowns bs)
     ∙ ap (λ z. closedBy (flat unknownText z) question) (unknown-kind bs w)
 
-front-written : (bs : Brackets) (n : ℕ) → Each IsUnknown bs → length (closedBy (flat unknownText bs) question) ≤ n → Written n Front (held bs [])
+front-written : (bs : Brackets) (n : ℕ) → Each IsUnknown bs → length (closedBy (flat unknownText bs) question) ≤ n → Written n (frontMode bs) (held bs [])
 front-written bs n w h = record { path = λ fits. ap (lineRun start) (front-text bs w) ∙ front-run bs w fits; short = rw (front-text bs w) h }
 
 front-within : (bs : Brackets) → Each IsUnknown bs → Within (held bs [])
@@ -218,9 +219,9 @@ step-termEnds bs k ns b n w v h = (
   record {
     path = λ fits.
         ap (lineRun start) (term-text bs (k ∷ ns) w)
-        ∙ line-further (closedBy (flat unknownText bs) question) (closedBy (flat squareText (k ∷ ns)) dash) start (outside Front (held (map normal bs) [])) _
+        ∙ line-further (closedBy (flat unknownText bs) question) (closedBy (flat squareText (k ∷ ns)) dash) start (outside (frontMode bs) (held (map normal bs) [])) _
         (front-run bs w (each-front FitsBracket bs (map asNTerm (k ∷ ns)) fits))
-        (terms-end (map normal bs) k ns v (term-fits (k ∷ ns) (each-back FitsBracket bs (map asNTerm (k ∷ ns)) fits)))
+        (terms-end bs (map normal bs) k ns v (term-fits (k ∷ ns) (each-back FitsBracket bs (map asNTerm (k ∷ ns)) fits)))
         ∙ ap (λ (z : Brackets). outside Start (held z [])) (ap (λ z. map normal bs ++ z) (sym (term-normal (k ∷ ns) v)) ∙ sym (map-append normal bs (map asNTerm (k ∷ ns))));
     short =
         rw (term-text bs (k ∷ ns) w, length-append (closedBy (flat unknownText bs) question) (closedBy (flat squareText (k ∷ ns)) dash)) (omega (arith, closed-most (flat squareText (k ∷ ns)) dash));
@@ -232,22 +233,24 @@ step-termEnds bs k ns b n w v h = (
 )
 
 -- ---- the orders at the front, one byte further
-front-held : (n : ℕ) (h : Held Place) → Outside n Front h → h ≡ held (h .brackets) []
-unfolding Outside
+front-held : (n : ℕ) (h : Held Place) → AtFront n h → h ≡ held (h .brackets) []
 front-held n h w = w .0 .is ∙ ap (held (h .brackets)) (w .1)
 
-front-at : (bs : Brackets) (b n : ℕ) → Each IsUnknown bs → sizeOf bs ≤ n → Reached (suc n) (perform tt b (held bs []) (act Front b))
-unfolding act flat
+front-curly : act Front openCurly ≡ Begin labile
+unfolding act
+front-curly = refl
+
+front-at : (bs : Brackets) (b n : ℕ) → Each IsUnknown bs → sizeOf bs ≤ n → Reached (suc n) (perform tt b (held bs []) (atFront b))
+unfolding flat
 front-at bs b n w h =
     branch-on (λ a. Reached (suc n) (perform tt b (held bs []) a)) (eqb b openSquare) (λ e. step-lead bs [] b n w tt tt (omega arith))
     (λ e.
     branch-on (λ a. Reached (suc n) (perform tt b (held bs []) a)) (eqb b openCurly)
-    (λ q. step-labile Front (held bs []) b n refl between-front (front-written bs n w h) (front-within bs w) refl (other-kind NTerm bs refl w))
-    (λ q. step-element Front (held bs []) b n between-front (front-written bs n w h) (front-within bs w)))
+    (λ q. step-labile (frontMode bs) (held bs []) b n (front-acts bs openCurly ∙ front-curly) (between-front bs) (front-written bs n w h) (front-within bs w) refl (other-kind NTerm bs refl w))
+    (λ q. step-element (frontMode bs) (held bs []) b n (between-front bs) (front-written bs n w h) (front-within bs w)))
 
-step-front : (h : Held Place) (b n : ℕ) → Outside n Front h → Reached (suc n) (perform tt b h (act Front b))
-unfolding Outside
-step-front h b n w = subst (λ (z : Held Place). Reached (suc n) (perform tt b z (act Front b))) (sym (front-held n h w)) (front-at (h .brackets) b n (w .0 .settledOnes) (w .2))
+step-front : (h : Held Place) (b n : ℕ) → AtFront n h → Reached (suc n) (perform tt b h (atFront b))
+step-front h b n w = subst (λ (z : Held Place). Reached (suc n) (perform tt b z (atFront b))) (sym (front-held n h w)) (front-at (h .brackets) b n (w .0 .settledOnes) (w .2))
 
 counted-at : (bs rs : Brackets) (b n : ℕ) → Each IsUnknown bs → Each IsUnknown rs → sizeOf bs + length (flat unknownText rs) ≤ n → Reached (suc n) (perform tt b (held bs rs) (counted b))
 unfolding counted Reached perform
@@ -380,7 +383,9 @@ step-counting h b n w =
 
 -- ---- all states
 reached-outside : (m : Mode) (h : Held Place) (b n : ℕ) → Outside n m h → Reached (suc n) (perform tt b h (act m b))
+unfolding act Outside
 reached-outside Front h b n w = step-front h b n w
+reached-outside Runs h b n w = step-front h b n w
 reached-outside Undecided h b n w = step-undecided h b n w
 reached-outside Counted h b n w = step-counted h b n w
 reached-outside Referred h b n w = step-referred h b n w

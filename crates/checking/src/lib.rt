@@ -177,7 +177,7 @@ fn run_ended(s: Stage) -> Stage
     let marks = s.marks;
     Stage {
         at: s.at + 1,
-        mode: Mode::Front,
+        mode: Mode::Runs,
         residues: s.residues,
         brackets: s.brackets,
         first: s.brackets,

@@ -3,16 +3,15 @@ use mathlib.Core.Path.{_≡_, refl, sym, ap, ap₂, _∙_, subst}
 use mathlib.Core.Bool.{Bool, true, false, not, _&&_, _||_, false≢true, true≢false}
 use mathlib.Core.Option.{none}
 use mathlib.Core.List.{List, [], _∷_, _++_, map}
-use Prim.Native.Nat.{ℕ, _+_, _≤_, _<_}
+use Prim.Native.Nat.{ℕ, zero, suc, _+_, _≤_, _<_}
 use native.Mathlib.Omega.{arith}
 use lib.ListN.{length, length-append}
-use borrow.Author.Tests.{not-true}
 use Rattle.scope.specs.declared.grammar.Section.{Section}
 use Rattle.scope.specs.declared.grammar.Section.the-variants.{Plain, RangeFirst, RangeNext, UnsureFirst, UnsureNext}
 use Rattle.scope.specs.declared.grammar.Kind.{Kind}
 use Rattle.scope.specs.declared.grammar.Kind.the-variants.{Unknown, Labile, NTerm, OnResidue, OnRange, CTerm}
 use Rattle.scope.specs.declared.grammar.Mode.{Mode}
-use Rattle.scope.specs.declared.grammar.Mode.the-variants.{Front, Undecided, Counted, Referred, Caret, Counting, Labiles, NTerms, Start, Single, Opened, UnsureOpened, InRange, InUnsure, RangeEnd, Ranged, UnsureEnd, CStart, CTerms}
+use Rattle.scope.specs.declared.grammar.Mode.the-variants.{Runs, Counting, Start}
 use Rattle.scope.specs.declared.grammar.Slot.{Slot}
 use Rattle.scope.specs.declared.grammar.Act.{Act}
 use Rattle.scope.specs.declared.grammar.Act.the-variants.{Stop, Go, Residue as aResidue, Begin, Digit, RunEnds, TermEnds}
@@ -26,54 +25,33 @@ use Rattle.scope.specs.Layout.{bracketTexts}
 use Rattle.basics.specs.Tests.{and-left, and-right, implied}
 use Rattle.basics.specs.Lists.{flat-append-length, flat-one-length}
 use Rattle.basics.specs.Choice.{branch}
-use Rattle.reading_laws.specs.Acts.{each-mode, act-rule}
+use Rattle.reading_laws.specs.Acts.{ways, each-mode, act-rule, someWay, endsTerm, waits}
 use Rattle.reading_laws.specs.Kept.{reading-whole-from, put-by, digit-by}
 use Rattle.basics.specs.Each.{each-last, Each, each-append, each-map, each-one, each-two}
 use Rattle.accepted_laws.specs.Within.{Byte, Nowhere, Stands}
 use Rattle.accepted_laws.specs.Inside.{PartShape, PartsShape, Carried, InnerKeeps, ContentKeeps, inner-step}
 
 -- ---- the order of a line: where a residue was read, and where no count was
-abbrev late : Mode → Bool
-late Front = false
-late Undecided = false
-late Counted = false
-late Referred = false
-late Caret = false
-late Counting = false
-late Labiles = false
-late NTerms = false
-late Start = false
-late Single = true
-late Opened = false
-late UnsureOpened = false
-late InRange = true
-late InUnsure = true
-late RangeEnd = true
-late Ranged = true
-late UnsureEnd = true
-late CStart = true
-late CTerms = true
+-- a residue was read where a line may end, and so where it may end with no residue more
+abbrev leadsTo : (Mode → Bool) → Act → Bool
+leadsTo F Stop = false
+leadsTo F (Go m) = F m
+leadsTo F (aResidue s m) = false
+leadsTo F (Begin s) = F (s .after) || F (s .referred)
+leadsTo F Digit = F Counting
+leadsTo F RunEnds = F Runs
+leadsTo F TermEnds = F Start
 
+abbrev lateWithin : ℕ → Mode → Bool
+lateWithin zero m = mayEnd m
+lateWithin (suc n) m = mayEnd m || someWay (leadsTo (lateWithin n)) (ways m)
+
+abbrev late : Mode → Bool
+late m = lateWithin 2 m
+
+-- none that waits has a count where they may be N-terminal, and where none waits
 abbrev countless : Mode → Bool
-countless Front = true
-countless Undecided = true
-countless Counted = false
-countless Referred = true
-countless Caret = false
-countless Counting = false
-countless Labiles = false
-countless NTerms = false
-countless Start = false
-countless Single = false
-countless Opened = false
-countless UnsureOpened = false
-countless InRange = false
-countless InUnsure = false
-countless RangeEnd = false
-countless Ranged = false
-countless UnsureEnd = false
-countless CStart = false
-countless CTerms = false
+countless m = not (waits m) || someWay endsTerm (ways m)
 
 -- what is kept to in m is kept to in n, where nothing is read between them
 abbrev leads : Mode → Mode → Bool
@@ -82,7 +60,7 @@ leads m n = (not (late n) || late m) && (not (countless n) || countless m)
 abbrev keeps : Mode → Act → Bool
 keeps m Stop = true
 keeps m (Go n) = leads m n
-keeps m (aResidue s n) = not (countless n)
+keeps m (aResidue s n) = not (countless n) || countless m
 keeps m (Begin s) = leads m (s .after) && leads m (s .referred)
 keeps m Digit = true
 keeps m RunEnds = true
@@ -357,7 +335,7 @@ module _ {P : Type 0} where
       }
 
   -- ---- one byte more
-  begins : (s : Slot) → Carried {P = P} (record { shut = s .shut; refers = s .refers; parts = [] }) 0 0
+  begins : (s : Slot) → Carried {P = P} (record { shut = s .shut; refers = s .refers; labels = s .labels; parts = [] }) 0 0
   unfolding flat
   begins s = record { parts = tt; none-refers = tt; fits = omega arith }
 
@@ -370,7 +348,7 @@ module _ {P : Type 0} where
       let new : List (Residue P) = record { letter = upper b; section = s; at = i } ∷ [] in
       let l = length-append (h .residues) new in (
         held-more (withResidue i b s h) m (m + 1) (omega arith) (residue-keeps i b s h m q w),
-        record { some-residue = λ f. omega arith; uncounted = λ f. absurd (false≢true (sym (not-true (countless n) g) ∙ f)) },
+        record { some-residue = λ f. omega arith; uncounted = λ f. e .uncounted (implied (countless n) (countless o) g f) },
       )
   perform-keeps i b m o h (Begin s) q w e g =
       record {
@@ -397,7 +375,7 @@ module _ {P : Type 0} where
         (run-keeps asNTerm (λ k. refl) h m w
         (each-two RunShape (λ k. k .counted ≡ none) (λ k. BracketShape (length (h .residues)) (asNTerm k)) (term-shape (length (h .residues)))
         (h .run) (w .run) (e .uncounted g))),
-    record { some-residue = λ f. absurd (false≢true f); uncounted = λ f. absurd (false≢true f) },
+    record { some-residue = λ f. absurd (false≢true f); uncounted = λ f. tt },
   )
 
   resume-keeps :

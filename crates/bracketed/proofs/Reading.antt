@@ -35,11 +35,11 @@ use Rattle.bracketed.proofs.OnePart.{label-ends, labels-more}
 use Rattle.bracketed.proofs.Table.{keeps-itself, keeps-on, noted-more}
 
 -- ---- before the first part
-pub at-first : (line : List ℕ) (at shut : ℕ) (refers : Bool) (label : ℕ) (labels : List ℕ) (s : Parts) → at ≤ length line
+pub at-first : (line : List ℕ) (at shut : ℕ) (refers allows : Bool) (label : ℕ) (labels : List ℕ) (s : Parts) → at ≤ length line
     → s ≡ record { count = 0; labels = 0; info = true; refers = false; marks = record { deep = 0; over = 0; wide = 0; barred = 0; digits = 0 } }
-    → Sofar line at shut refers label labels at s labels
+    → Sofar line at shut refers allows label labels at s labels
 unfolding flat least all
-at-first line at shut refers label labels s h e =
+at-first line at shut refers allows label labels s h e =
     rw e
     (record {
       parts = [];
@@ -53,9 +53,9 @@ at-first line at shut refers label labels s h e =
       few-labels = omega arith;
     })
 
-pub fits : (line : List ℕ) (from shut : ℕ) (refers : Bool) (label : ℕ) (old : List ℕ) (at : ℕ) (s : Parts) (new : List ℕ)
-    → Sofar line from shut refers label old at s new → length line ≤ lineLimit → labelsRoom ≤ length old → StepFits line at s new
-fits line from shut refers label old at s new w h room =
+pub fits : (line : List ℕ) (from shut : ℕ) (refers allows : Bool) (label : ℕ) (old : List ℕ) (at : ℕ) (s : Parts) (new : List ℕ)
+    → Sofar line from shut refers allows label old at s new → length line ≤ lineLimit → labelsRoom ≤ length old → StepFits line at s new
+fits line from shut refers allows label old at s new w h room =
     record { short = h; within = w .within; few = w .few; few-labels = w .few-labels; room = omega (arith, w .keeps .long) }
 
 -- ---- what a part that was found says
@@ -75,24 +75,24 @@ unfolding sortCode sortOf
 sort-is line s ps w k e = rw (e, w .refers, w .info, none-long (flat nameOf ps) (s .labels) (w .labels))
 
 -- ---- one part more
-module _ (line : List ℕ) (from shut : ℕ) (refers : Bool) (label : ℕ) (old : List ℕ) (at : ℕ) (s : Parts) (new : List ℕ) (w : Sofar line from shut refers label old at s new)
+module _ (line : List ℕ) (from shut : ℕ) (refers allows : Bool) (label : ℕ) (old : List ℕ) (at : ℕ) (s : Parts) (new : List ℕ) (w : Sofar line from shut refers allows label old at s new)
     (first : Bool) (may : (ps : List (Part ℕ)) → s .count ≡ length ps → (refers && none? ps) ≡ first) where
   abbrev here : Context ℕ
-  here = record { shut = shut; refers = refers; parts = w .parts }
+  here = record { shut = shut; refers = refers; labels = allows; parts = w .parts }
 
-  to-byte : (l : Slot) (o : ℕ) (h : Held ℕ) → SlotIs shut refers l
-      → rest line from (inside l o h (begin (opened shut refers))) ≡ through line l o h at (innerStep at (begin here))
+  to-byte : (l : Slot) (o : ℕ) (h : Held ℕ) → SlotIs shut refers allows l
+      → rest line from (inside l o h (begin (opened shut refers allows))) ≡ through line l o h at (innerStep at (begin here))
   to-byte l o h g = w .on l o h g ∙ through-rest line l o h at (begin here)
 
-  opens : Opens shut first here
+  opens : Opens allows first here
   opens = (refl, may (w .parts) (w .are .count))
 
-  pub no-part : (f : Found) (p : ℕ) → Says line at (Opens shut first) (λ c. innerStep at (begin c)) f → f ≡ Stuck p
-      → StepSays line from shut refers label old at (Lost p) new
+  pub no-part : (f : Found) (p : ℕ) → Says line at (Opens allows first) (λ c. innerStep at (begin c)) f → f ≡ Stuck p
+      → StepSays line from shut refers allows label old at (Lost p) new
   unfolding Says
   no-part f p v e = (λ l o h g. to-byte l o h g ∙ (rw e at v) l o h here opens, w .keeps)
 
-  module _ (r : PartRead) (v : Reads line at (Opens shut first) (λ c. innerStep at (begin c)) r) (t : Parts) (are : PartsAre line t (w .parts ++ (v .found ∷ [])))
+  module _ (r : PartRead) (v : Reads line at (Opens allows first) (λ c. innerStep at (begin c)) r) (t : Parts) (are : PartsAre line t (w .parts ++ (v .found ∷ [])))
       (new′ : List ℕ) (stored : Stored label (s .labels) (r .label) (r .ends) new new′) (reference : Bool) (eref : reference ≡ isReference (v .found .value)) where
     abbrev more : List (Part ℕ)
     more = w .parts ++ (v .found ∷ [])
@@ -100,13 +100,13 @@ module _ (line : List ℕ) (from shut : ℕ) (refers : Bool) (label : ℕ) (old 
     keeps : Keeps label old new′
     keeps = keeps-on label old new new′ (w .keeps) (stored .keeps)
 
-    behind : (l : Slot) (o : ℕ) (h : Held ℕ) → SlotIs shut refers l
-        → rest line from (inside l o h (begin (opened shut refers))) ≡ rest line (r .next + 1) (resume l o h (r .next) (partEnd here (v .found) (getD line (r .next) 0)))
+    behind : (l : Slot) (o : ℕ) (h : Held ℕ) → SlotIs shut refers allows l
+        → rest line from (inside l o h (begin (opened shut refers allows))) ≡ rest line (r .next + 1) (resume l o h (r .next) (partEnd here (v .found) (getD line (r .next) 0)))
     behind l o h g =
         to-byte l o h g ∙ v .on l o h here opens ∙ through-byte line l o h (r .next) (partEnd here (v .found)) (v .inside)
 
-    ends : (l : Slot) (o : ℕ) (h : Held ℕ) → SlotIs shut refers l → (x : Content ℕ) → partEnd here (v .found) (getD line (r .next) 0) ≡ x
-        → rest line from (inside l o h (begin (opened shut refers))) ≡ rest line (r .next + 1) (resume l o h (r .next) x)
+    ends : (l : Slot) (o : ℕ) (h : Held ℕ) → SlotIs shut refers allows l → (x : Content ℕ) → partEnd here (v .found) (getD line (r .next) 0) ≡ x
+        → rest line from (inside l o h (begin (opened shut refers allows))) ≡ rest line (r .next + 1) (resume l o h (r .next) x)
     ends l o h g x e = behind l o h g ∙ ap (λ z. rest line (r .next + 1) (resume l o h (r .next) z)) e
 
     labels-are : t .labels ≡ s .labels + nameCount (r .label) (r .ends)
@@ -130,7 +130,7 @@ module _ (line : List ℕ) (from shut : ℕ) (refers : Bool) (label : ℕ) (old 
         let e = few in
         omega (arith, a, b, d, e)
 
-    when-closed : eqb (getD line (r .next) 0) shut ≡ true → Closes line from shut refers (finished (r .next + 1) t) label old new′
+    when-closed : eqb (getD line (r .next) 0) shut ≡ true → Closes line from shut refers allows (finished (r .next + 1) t) label old new′
     unfolding partEnd resume
     when-closed e =
         record {
@@ -146,7 +146,7 @@ module _ (line : List ℕ) (from shut : ℕ) (refers : Bool) (label : ℕ) (old 
         }
 
     when-more : eqb (getD line (r .next) 0) shut ≡ false → (eqb (getD line (r .next) 0) bar && not (isReference (v .found .value))) ≡ true
-        → Sofar line from shut refers label old (r .next + 1) t new′
+        → Sofar line from shut refers allows label old (r .next + 1) t new′
     unfolding partEnd resume
     when-more e f =
         record {
@@ -162,11 +162,11 @@ module _ (line : List ℕ) (from shut : ℕ) (refers : Bool) (label : ℕ) (old 
         }
 
     when-lost : eqb (getD line (r .next) 0) shut ≡ false → (eqb (getD line (r .next) 0) bar && not (isReference (v .found .value))) ≡ false
-        → (l : Slot) (o : ℕ) (h : Held ℕ) → SlotIs shut refers l → rest line from (inside l o h (begin (opened shut refers))) ≡ stuck (r .next)
+        → (l : Slot) (o : ℕ) (h : Held ℕ) → SlotIs shut refers allows l → rest line from (inside l o h (begin (opened shut refers allows))) ≡ stuck (r .next)
     unfolding partEnd resume
     when-lost e f l o h g = ends l o h g lost (rw (e, f)) ∙ rest-dead line (r .next + 1) (r .next)
 
-    pub a-part : (z : Step) → z ≡ behindPart shut reference (r .next) t (getD line (r .next) 0) → StepSays line from shut refers label old at z new′
+    pub a-part : (z : Step) → z ≡ behindPart shut reference (r .next) t (getD line (r .next) 0) → StepSays line from shut refers allows label old at z new′
     unfolding behindPart
     a-part z q =
         by-test (eqb (getD line (r .next) 0) shut)
@@ -176,12 +176,12 @@ module _ (line : List ℕ) (from shut : ℕ) (refers : Bool) (label : ℕ) (old 
         (λ f. let p : z ≡ Lost (r .next) = q ∙ rw (e, eref, f) in rw p (when-lost e f, keeps)))
 
 -- ---- what one part more says of the bracket
-module _ (line : List ℕ) (from shut : ℕ) (refers : Bool) (label : ℕ) (old : List ℕ) (at : ℕ) (new : List ℕ) (z : Step) (w : StepSays line from shut refers label old at z new) where
-  pub then-lost : (p : ℕ) → z ≡ Lost p → BracketSays line from shut refers (Stuck-at p) label old new × Keeps label old new
+module _ (line : List ℕ) (from shut : ℕ) (refers allows : Bool) (label : ℕ) (old : List ℕ) (at : ℕ) (new : List ℕ) (z : Step) (w : StepSays line from shut refers allows label old at z new) where
+  pub then-lost : (p : ℕ) → z ≡ Lost p → BracketSays line from shut refers allows (Stuck-at p) label old new × Keeps label old new
   then-lost p e = rw e at w
 
-  pub then-closed : (b : Bracketed) → z ≡ Closed b → BracketSays line from shut refers (Read-at b) label old new × Keeps label old new
+  pub then-closed : (b : Bracketed) → z ≡ Closed b → BracketSays line from shut refers allows (Read-at b) label old new × Keeps label old new
   then-closed b e = rw e at w
 
-  pub then-more : (next : ℕ) (s : Parts) → z ≡ More next s → Sofar line from shut refers label old next s new × (at < next)
+  pub then-more : (next : ℕ) (s : Parts) → z ≡ More next s → Sofar line from shut refers allows label old next s new × (at < next)
   then-more next s e = rw e at w

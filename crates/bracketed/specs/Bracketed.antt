@@ -31,17 +31,17 @@ partsDues ps =
     }
 
 -- a bracket of which nothing is read yet
-abbrev pub opened : ℕ → Bool → Context ℕ
-opened shut refers = record { shut = shut; refers = refers; parts = [] }
+abbrev pub opened : ℕ → Bool → Bool → Context ℕ
+opened shut refers allows = record { shut = shut; refers = refers; labels = allows; parts = [] }
 
 -- the slot that is read
-abbrev pub SlotIs : ℕ → Bool → Slot → Type 0
-SlotIs shut refers s = (s .shut ≡ shut) × (s .refers ≡ refers)
+abbrev pub SlotIs : ℕ → Bool → Bool → Slot → Type 0
+SlotIs shut refers allows s = (s .shut ≡ shut) × (s .refers ≡ refers) × (s .labels ≡ allows)
 
-pub record Closes (line : List ℕ) (at shut : ℕ) (refers : Bool) (b : Bracketed) (label : ℕ) (labels labels′ : List ℕ) : Type 0 where
+pub record Closes (line : List ℕ) (at shut : ℕ) (refers allows : Bool) (b : Bracketed) (label : ℕ) (labels labels′ : List ℕ) : Type 0 where
   pub parts : List (Part ℕ)
-  pub on : (s : Slot) (o : ℕ) (h : Held ℕ) → SlotIs shut refers s
-      → rest line at (inside s o h (begin (opened shut refers))) ≡ rest line (b .next) (outside (modeAfter s parts) (withBracket (s .kind) o parts h))
+  pub on : (s : Slot) (o : ℕ) (h : Held ℕ) → SlotIs shut refers allows s
+      → rest line at (inside s o h (begin (opened shut refers allows))) ≡ rest line (b .next) (outside (modeAfter s parts) (withBracket (s .kind) o parts h))
   pub past : at < b .next
   pub within : b .next ≤ length line
   pub marks : MarksAre (b .marks) (partsDues parts)
@@ -52,7 +52,7 @@ pub record Closes (line : List ℕ) (at shut : ℕ) (refers : Bool) (b : Bracket
   -- with at most four parts and room for its labels, the table of labels goes on with them
   pub noted : length parts ≤ partLimit → label ≤ (bracketLimit - 1) * partLimit → take (2 * (label + b .labels)) labels′ ≡ take (2 * label) labels ++ flat labelRow parts
 
-abbrev pub BracketSays : List ℕ → ℕ → ℕ → Bool → BracketAt → ℕ → List ℕ → List ℕ → Type 0
-BracketSays line at shut refers (Stuck p) label labels labels′ =
-    (s : Slot) (o : ℕ) (h : Held ℕ) → SlotIs shut refers s → rest line at (inside s o h (begin (opened shut refers))) ≡ stuck p
-BracketSays line at shut refers (Read b) label labels labels′ = Closes line at shut refers b label labels labels′
+abbrev pub BracketSays : List ℕ → ℕ → ℕ → Bool → Bool → BracketAt → ℕ → List ℕ → List ℕ → Type 0
+BracketSays line at shut refers allows (Stuck p) label labels labels′ =
+    (s : Slot) (o : ℕ) (h : Held ℕ) → SlotIs shut refers allows s → rest line at (inside s o h (begin (opened shut refers allows))) ≡ stuck p
+BracketSays line at shut refers allows (Read b) label labels labels′ = Closes line at shut refers allows b label labels labels′

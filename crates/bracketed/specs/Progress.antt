@@ -76,10 +76,10 @@ pub record StepFits (line : List ℕ) (at : ℕ) (s : Parts) (labels : List ℕ)
   pub room : labelsRoom ≤ length labels
 
 -- the bracket began at `from`; behind its parts so far, the next begins at `at`
-pub record Sofar (line : List ℕ) (from shut : ℕ) (refers : Bool) (label : ℕ) (old : List ℕ) (at : ℕ) (s : Parts) (new : List ℕ) : Type 0 where
+pub record Sofar (line : List ℕ) (from shut : ℕ) (refers allows : Bool) (label : ℕ) (old : List ℕ) (at : ℕ) (s : Parts) (new : List ℕ) : Type 0 where
   pub parts : List (Part ℕ)
-  pub on : (l : Slot) (o : ℕ) (h : Held ℕ) → SlotIs shut refers l
-      → rest line from (inside l o h (begin (opened shut refers))) ≡ rest line at (inside l o h (begin (record { shut = shut; refers = refers; parts = parts })))
+  pub on : (l : Slot) (o : ℕ) (h : Held ℕ) → SlotIs shut refers allows l
+      → rest line from (inside l o h (begin (opened shut refers allows))) ≡ rest line at (inside l o h (begin (record { shut = shut; refers = refers; labels = allows; parts = parts })))
   pub are : PartsAre line s parts
   pub noted : Noted label (s .labels) parts old new
   pub keeps : Keeps label old new
@@ -88,8 +88,8 @@ pub record Sofar (line : List ℕ) (from shut : ℕ) (refers : Bool) (label : �
   pub few : s .count ≤ at
   pub few-labels : s .labels ≤ at
 
-abbrev pub StepSays : List ℕ → ℕ → ℕ → Bool → ℕ → List ℕ → ℕ → Step → List ℕ → Type 0
-StepSays line from shut refers label old at (Lost p) new =
-    ((l : Slot) (o : ℕ) (h : Held ℕ) → SlotIs shut refers l → rest line from (inside l o h (begin (opened shut refers))) ≡ stuck p) × Keeps label old new
-StepSays line from shut refers label old at (Closed b) new = Closes line from shut refers b label old new × Keeps label old new
-StepSays line from shut refers label old at (More next s) new = Sofar line from shut refers label old next s new × (at < next)
+abbrev pub StepSays : List ℕ → ℕ → ℕ → Bool → Bool → ℕ → List ℕ → ℕ → Step → List ℕ → Type 0
+StepSays line from shut refers allows label old at (Lost p) new =
+    ((l : Slot) (o : ℕ) (h : Held ℕ) → SlotIs shut refers allows l → rest line from (inside l o h (begin (opened shut refers allows))) ≡ stuck p) × Keeps label old new
+StepSays line from shut refers allows label old at (Closed b) new = Closes line from shut refers allows b label old new × Keeps label old new
+StepSays line from shut refers allows label old at (More next s) new = Sofar line from shut refers allows label old next s new × (at < next)

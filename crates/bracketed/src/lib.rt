@@ -52,22 +52,24 @@ enum Step {
     More(usize, Parts),
 }
 
-// Reads the bracket whose first part begins at `at`; its labels go into the table, which holds `label` of them.
+// Reads the bracket whose first part begins at `at`, that `shut` closes; `refers` says whether a lone reference may stand in it, `allows` whether its
+// parts may have labels. Its labels go into the table, which holds `label` of them.
 pub fn bracket_at(
     line: &[u8],
     at: usize,
     shut: u8,
     refers: bool,
+    allows: bool,
     labels: &mut [u16],
     label: usize,
 ) -> BracketAt
     requires { ⌜ (length (now line) ≤ lineLimit) × (at ≤ length (now line)) × (labelsRoom ≤ length (now labels)) ⌝ }
-    ensures { λ r. ⌜ (BracketSays (now (line .entry)) at shut refers r label (now (labels .entry)) (now (labels .exit))) × (Keeps label (now (labels .entry)) (now (labels .exit))) ⌝ }
+    ensures { λ r. ⌜ (BracketSays (now (line .entry)) at shut refers allows r label (now (labels .entry)) (now (labels .exit))) × (Keeps label (now (labels .entry)) (now (labels .exit))) ⌝ }
 {
     let mut i = at;
     let mut s = no_parts();
     loop {
-        match next_part(line, i, shut, refers, labels, label, s) {
+        match next_part(line, i, shut, refers, allows, labels, label, s) {
             Step::Lost(p) => {
                 return BracketAt::Stuck(p);
             }
@@ -101,15 +103,16 @@ fn next_part(
     at: usize,
     shut: u8,
     refers: bool,
+    allows: bool,
     labels: &mut [u16],
     label: usize,
     s: Parts,
 ) -> Step
     requires { ⌜ StepFits (now line) at s (now labels) ⌝ }
-    ensures { λ r. ⌜ ((from : ℕ) (old : List ℕ) → Sofar (now (line .entry)) from shut refers label old at s (now (labels .entry)) → StepSays (now (line .entry)) from shut refers label old at r (now (labels .exit))) ⌝ }
+    ensures { λ r. ⌜ ((from : ℕ) (old : List ℕ) → Sofar (now (line .entry)) from shut refers allows label old at s (now (labels .entry)) → StepSays (now (line .entry)) from shut refers allows label old at r (now (labels .exit))) ⌝ }
 {
     let first = may_refer(refers, s.count);
-    let found = parts::part_at(line, at, shut, first);
+    let found = parts::part_at(line, at, allows, first);
     match found {
         Found::Stuck(p) => Step::Lost(p),
         Found::Read(r) => {

@@ -10,7 +10,7 @@ use lib.ListN.{length, length-append}
 use borrow.Author.Tests.{eqb-true, ne-eqb, not-true}
 use Rattle.scope.specs.declared.grammar.Key.{Key}
 use Rattle.scope.specs.declared.grammar.Key.the-variants.{NoKey}
-use Rattle.scope.specs.Bytes.{isDigit, isAlnum, isSign, shutSquare, bar, hash, colon, plus, dash, dot, openRound, shutRound, upper, sameFolded, value}
+use Rattle.scope.specs.Bytes.{isDigit, isAlnum, isSign, bar, hash, colon, plus, dash, dot, openRound, shutRound, upper, sameFolded, value}
 use Rattle.scope.specs.Line.{Number, Label, Value, mass, text, reference, Part}
 use Rattle.scope.specs.Keys.{spell, keys, keyAmong, keyOf, Form, massOrName, massOnly, digits, alnums, free, form, hashIsPlain, written, accessionByte}
 use Rattle.scope.specs.Lists.{given, none?, flat}
@@ -143,14 +143,14 @@ signCost true = 1
 signCost false = 0
 
 -- ---- what holds of a bracket that is read so far: shut closes it, r₀ says whether a reference may stand in it, r whether it may where the
--- canonical text is read
-module _ (shut : ℕ) (r₀ r : Bool) where
+-- canonical text is read, labels whether its parts may have labels
+module _ (shut : ℕ) (r₀ r labels : Bool) where
   abbrev pub home : Parts → Content Place
-  home ps = going (begin (context shut r ps))
+  home ps = going (begin (context shut r labels ps))
 
   -- j bytes are read since the parts, n in all
   pub record Lead (c : Context Place) (j n : ℕ) : Type 0 where
-    pub is : c ≡ context shut r₀ (c .parts)
+    pub is : c ≡ context shut r₀ labels (c .parts)
     pub first : refers? (c .parts) ≡ false
     pub path : Each FitsPart (c .parts) → contentRun (home []) (lead (c .parts)) ≡ home (c .parts)
     pub short : length (lead (c .parts)) + j ≤ n
@@ -159,7 +159,7 @@ module _ (shut : ℕ) (r₀ r : Bool) where
   pub record Signs (ps : Parts) (k : Key) : Type 0 where
     pub before : Inner Place
     pub path : contentRun (home ps) (written k) ≡ going before
-    pub takes : (s : Bool) → innerStep tt before (cond s dash plus) ≡ going (inNumber (context shut r ps) tt k tt (signed s))
+    pub takes : (s : Bool) → innerStep tt before (cond s dash plus) ≡ going (inNumber (context shut r labels ps) tt k tt (signed s))
 
   abbrev pub Allowed : Part Place → Type 0
   Allowed p = isReference (p .value) ≡ true → r ≡ true
@@ -172,26 +172,26 @@ module _ (shut : ℕ) (r₀ r : Bool) where
 
   unfoldable pub Inv : ℕ → Inner Place → Type 0
   Inv n (begin c) = Lead c 0 n
-  Inv n (plain c at t) = Lead c (length t) n × (contentRun (home (c .parts)) t ≡ going (plain (context shut r (c .parts)) tt t))
-  Inv n (keyed c at k) = Lead c (length (written k)) n × (contentRun (home (c .parts)) (written k) ≡ going (keyed (context shut r (c .parts)) tt k))
+  Inv n (plain c at t) = Lead c (length t) n × (contentRun (home (c .parts)) t ≡ going (plain (context shut r labels (c .parts)) tt t))
+  Inv n (keyed c at k) = Lead c (length (written k)) n × (contentRun (home (c .parts)) (written k) ≡ going (keyed (context shut r labels (c .parts)) tt k))
   Inv n (inNumber c at k p d) = (j : ℕ) × Lead c (length (written k) + suc j) n × Sized d j × Signs (c .parts) k
-  Inv n (inCode c at k t) = Lead c (length (written k ++ t)) n × (contentRun (home (c .parts)) (written k ++ t) ≡ going (inCode (context shut r (c .parts)) tt k t))
-  Inv n (inText c at k t cs) = Lead c (length (written k ++ t)) n × (contentRun (home (c .parts)) (written k ++ t) ≡ going (inText (context shut r (c .parts)) tt k t cs))
+  Inv n (inCode c at k t) = Lead c (length (written k ++ t)) n × (contentRun (home (c .parts)) (written k ++ t) ≡ going (inCode (context shut r labels (c .parts)) tt k t))
+  Inv n (inText c at k t cs) = Lead c (length (written k ++ t)) n × (contentRun (home (c .parts)) (written k ++ t) ≡ going (inText (context shut r labels (c .parts)) tt k t cs))
   Inv n (hashed c p) =
-      Lead c (suc (length (body p))) n × Alone (c .parts) p × Path c p (body p ++ (hash ∷ [])) (hashed (context shut r (c .parts)) p)
+      Lead c (suc (length (body p))) n × Alone (c .parts) p × Path c p (body p ++ (hash ∷ [])) (hashed (context shut r labels (c .parts)) p)
   Inv n (inLabel c p at name) =
       Lead c (suc (length (body p)) + length name) n × Alone (c .parts) p
-      × Path c p (body p ++ (hash ∷ []) ++ name) (inLabel (context shut r (c .parts)) p tt name)
+      × Path c p (body p ++ (hash ∷ []) ++ name) (inLabel (context shut r labels (c .parts)) p tt name)
   Inv n (scoring c p at name) =
       Lead c (suc (length (body p)) + length name + 1) n × Alone (c .parts) p
-      × Path c p (body p ++ (hash ∷ []) ++ name ++ (openRound ∷ [])) (scoring (context shut r (c .parts)) p tt name)
+      × Path c p (body p ++ (hash ∷ []) ++ name ++ (openRound ∷ [])) (scoring (context shut r labels (c .parts)) p tt name)
   Inv n (inScore c p at name q d) =
       (j i : ℕ) × Lead c (suc (length (body p)) + length name + 1 + j) n × Alone (c .parts) p
-      × Path c p (body p ++ (hash ∷ []) ++ name ++ (openRound ∷ [])) (scoring (context shut r (c .parts)) p tt name)
+      × Path c p (body p ++ (hash ∷ []) ++ name ++ (openRound ∷ [])) (scoring (context shut r labels (c .parts)) p tt name)
       × Sized d i × (signCost (signIn d) + i ≤ j)
   Inv n (scored c p) =
       Lead c (length (partText p)) n × Alone (c .parts) p
-      × (FitsPart p → Allowed p → contentRun (home (c .parts)) (partText p) ≡ going (scored (context shut r (c .parts)) p))
+      × (FitsPart p → Allowed p → contentRun (home (c .parts)) (partText p) ≡ going (scored (context shut r labels (c .parts)) p))
 
   pub record Closed (n : ℕ) (ps : Parts) : Type 0 where
     pub short : length (partsText ps) + 1 ≤ n
@@ -203,10 +203,10 @@ module _ (shut : ℕ) (r₀ r : Bool) where
   InvC n (closed ps) = Closed n ps
   InvC n (going c) = Inv n c
 
-  there : (c : Context Place) (j n m : ℕ) → Lead c j n → (f : Context Place → Content Place) → InvC m (f (context shut r₀ (c .parts))) → InvC m (f c)
+  there : (c : Context Place) (j n m : ℕ) → Lead c j n → (f : Context Place → Content Place) → InvC m (f (context shut r₀ labels (c .parts))) → InvC m (f c)
   there c j n m w f h = subst (λ (z : Context Place). InvC m (f z)) (sym (w .is)) h
 
-  lead-on : (c : Context Place) (j j′ n n′ : ℕ) → Lead c j n → j′ + n ≤ j + n′ → Lead (context shut r₀ (c .parts)) j′ n′
+  lead-on : (c : Context Place) (j j′ n n′ : ℕ) → Lead c j n → j′ + n ≤ j + n′ → Lead (context shut r₀ labels (c .parts)) j′ n′
   lead-on c j j′ n n′ w h = record { is = refl; first = w .first; path = w .path; short = omega (arith, w .short) }
 
   -- ---- the end of a part
@@ -222,8 +222,8 @@ module _ (shut : ℕ) (r₀ r : Bool) where
   refers-so ps p e f = rw e f
 
   part-end : (c : Context Place) (p : Part Place) (b j n : ℕ) → Lead c j n → length (partText p) ≤ j → Alone (c .parts) p
-      → (FitsPart p → Allowed p → contentRun (home (c .parts)) (partText p ++ (b ∷ [])) ≡ partEnd (context shut r (c .parts)) p b)
-      → InvC (suc n) (partEnd (context shut r₀ (c .parts)) p b)
+      → (FitsPart p → Allowed p → contentRun (home (c .parts)) (partText p ++ (b ∷ [])) ≡ partEnd (context shut r labels (c .parts)) p b)
+      → InvC (suc n) (partEnd (context shut r₀ labels (c .parts)) p b)
   unfolding partEnd InvC Inv
   part-end c p b j n w h a f =
       branch-on (InvC (suc n)) (eqb b shut) shuts
@@ -232,7 +232,7 @@ module _ (shut : ℕ) (r₀ r : Bool) where
       ps : Parts
       ps = c .parts
 
-      reach : (y : ℕ) → b ≡ y → Each FitsPart (ps ++ (p ∷ [])) → Allowed p → contentRun (home []) (lead ps ++ (partText p ++ (y ∷ []))) ≡ partEnd (context shut r ps) p b
+      reach : (y : ℕ) → b ≡ y → Each FitsPart (ps ++ (p ∷ [])) → Allowed p → contentRun (home []) (lead ps ++ (partText p ++ (y ∷ []))) ≡ partEnd (context shut r labels ps) p b
       reach y e g o =
           content-append (lead ps) (partText p ++ (y ∷ [])) (home [])
           ∙ ap (λ z. contentRun z (partText p ++ (y ∷ []))) (w .path (each-front FitsPart ps (p ∷ []) g))
@@ -251,7 +251,7 @@ module _ (shut : ℕ) (r₀ r : Bool) where
                 ∙ pick-true (eqb b shut) _ _ e;
           }
 
-      bars : eqb b shut ≡ false → (eqb b bar && not (isReference (p .value))) ≡ true → Lead (context shut r₀ (ps ++ (p ∷ []))) 0 (suc n)
+      bars : eqb b shut ≡ false → (eqb b bar && not (isReference (p .value))) ≡ true → Lead (context shut r₀ labels (ps ++ (p ∷ []))) 0 (suc n)
       bars e g =
           let q : isReference (p .value) ≡ false = not-true (isReference (p .value)) (and-right (eqb b bar) (not (isReference (p .value))) g) in
           record {
@@ -266,40 +266,40 @@ module _ (shut : ℕ) (r₀ r : Bool) where
           }
 
   value-end : (c : Context Place) (k : Key) (v : Value Place) (b j n : ℕ) → Lead c j n → length (written k ++ valueText v) ≤ j → isReference v ≡ false
-      → (FitsValue v → contentRun (home (c .parts)) ((written k ++ valueText v) ++ (b ∷ [])) ≡ valueEnd (context shut r (c .parts)) (unlabelled tt k v) b)
-      → InvC (suc n) (valueEnd (context shut r₀ (c .parts)) (unlabelled tt k v) b)
+      → (FitsValue v → contentRun (home (c .parts)) ((written k ++ valueText v) ++ (b ∷ [])) ≡ valueEnd (context shut r labels (c .parts)) (unlabelled tt k v) b)
+      → InvC (suc n) (valueEnd (context shut r₀ labels (c .parts)) (unlabelled tt k v) b)
   unfolding valueEnd InvC Inv
   value-end c k v b j n w h q f =
-      branch-on (InvC (suc n)) (eqb b hash && eqb shut shutSquare)
+      branch-on (InvC (suc n)) (eqb b hash && labels)
       (λ e. (
         lead-on c j (suc (length (written k ++ valueText v))) n (suc n) w (omega arith),
         (λ z. absurd (false≢true (sym q ∙ z))),
         (λ g o.
-            ap (λ z. contentRun (home (c .parts)) ((written k ++ valueText v) ++ (z ∷ []))) (sym (eqb-true b hash (and-left (eqb b hash) (eqb shut shutSquare) e)))
+            ap (λ z. contentRun (home (c .parts)) ((written k ++ valueText v) ++ (z ∷ []))) (sym (eqb-true b hash (and-left (eqb b hash) labels e)))
             ∙ f g
-            ∙ pick-true (eqb b hash && eqb shut shutSquare) _ _ e),
+            ∙ pick-true (eqb b hash && labels) _ _ e),
       ))
       (λ e.
       part-end c (unlabelled tt k v) b j n w (rw (bare-text k v) h) (λ z. absurd (false≢true (sym q ∙ z)))
       (λ g o.
       ap (λ z. contentRun (home (c .parts)) (z ++ (b ∷ []))) (bare-text k v)
       ∙ f (g .0)
-      ∙ pick-false (eqb b hash && eqb shut shutSquare) _ _ e))
+      ∙ pick-false (eqb b hash && labels) _ _ e))
 
   -- ---- each state, one byte further
   signs-begin : (ps : Parts) → Signs ps NoKey
   unfolding written spell contentRun innerStep
-  signs-begin ps = record { before = begin (context shut r ps); path = refl; takes = takes }
+  signs-begin ps = record { before = begin (context shut r labels ps); path = refl; takes = takes }
     where
-      takes : (s : Bool) → innerStep tt (begin (context shut r ps)) (cond s dash plus) ≡ going (inNumber (context shut r ps) tt NoKey tt (signed s))
+      takes : (s : Bool) → innerStep tt (begin (context shut r labels ps)) (cond s dash plus) ≡ going (inNumber (context shut r labels ps) tt NoKey tt (signed s))
       takes true = refl
       takes false = refl
 
-  signs-keyed : (ps : Parts) (k : Key) → contentRun (home ps) (written k) ≡ going (keyed (context shut r ps) tt k) → Signs ps k
+  signs-keyed : (ps : Parts) (k : Key) → contentRun (home ps) (written k) ≡ going (keyed (context shut r labels ps) tt k) → Signs ps k
   unfolding innerStep
-  signs-keyed ps k e = record { before = keyed (context shut r ps) tt k; path = e; takes = takes }
+  signs-keyed ps k e = record { before = keyed (context shut r labels ps) tt k; path = e; takes = takes }
     where
-      takes : (s : Bool) → innerStep tt (keyed (context shut r ps) tt k) (cond s dash plus) ≡ going (inNumber (context shut r ps) tt k tt (signed s))
+      takes : (s : Bool) → innerStep tt (keyed (context shut r labels ps) tt k) (cond s dash plus) ≡ going (inNumber (context shut r labels ps) tt k tt (signed s))
       takes true = refl
       takes false = refl
 
@@ -307,11 +307,11 @@ module _ (shut : ℕ) (r₀ r : Bool) where
   nil-of [] e = refl
   nil-of (p ∷ ps) e = absurd (false≢true e)
 
-  begin-hash : (ps : Parts) → r ≡ true → ps ≡ [] → innerStep tt (begin (context shut r ps)) hash ≡ going (hashed (context shut r ps) (unlabelled tt NoKey reference))
+  begin-hash : (ps : Parts) → r ≡ true → ps ≡ [] → innerStep tt (begin (context shut r labels ps)) hash ≡ going (hashed (context shut r labels ps) (unlabelled tt NoKey reference))
   unfolding innerStep textStep
   begin-hash ps e f = pick-true (r && none? ps) _ _ (rw (e, f))
 
-  step-begin : (c : Context Place) (b n : ℕ) → Lead c 0 n → InvC (suc n) (innerStep tt (begin (context shut r₀ (c .parts))) b)
+  step-begin : (c : Context Place) (b n : ℕ) → Lead c 0 n → InvC (suc n) (innerStep tt (begin (context shut r₀ labels (c .parts))) b)
   unfolding innerStep InvC Inv Sized written spell
   step-begin c b n w =
       branch-on (InvC (suc n)) (isSign b) (λ e. (0, lead-on c 0 1 n (suc n) w (omega arith), tt, signs-begin (c .parts)))
@@ -330,8 +330,8 @@ module _ (shut : ℕ) (r₀ r : Bool) where
       ))
       (λ e. tt))))
 
-  behind : (c : Context Place) (k : Key) (q : Form) (j n : ℕ) → Lead c j n → length (written k) ≡ suc j → contentRun (home (c .parts)) (written k) ≡ going (behindKey (context shut r (c .parts)) tt k q)
-      → Inv (suc n) (behindKey (context shut r₀ (c .parts)) tt k q)
+  behind : (c : Context Place) (k : Key) (q : Form) (j n : ℕ) → Lead c j n → length (written k) ≡ suc j → contentRun (home (c .parts)) (written k) ≡ going (behindKey (context shut r labels (c .parts)) tt k q)
+      → Inv (suc n) (behindKey (context shut r₀ labels (c .parts)) tt k q)
   unfolding Inv
   behind c k massOrName j n w h e = (lead-on c j (length (written k)) n (suc n) w (omega arith), e)
   behind c k massOnly j n w h e = (lead-on c j (length (written k)) n (suc n) w (omega arith), e)
@@ -343,17 +343,17 @@ module _ (shut : ℕ) (r₀ r : Bool) where
   unfolding innerStep colonAfter
   plain-colon c t e = ap going (pick-none (keyOf t) _ _ e)
 
-  step-colon : (c : Context Place) (t : List ℕ) (n : ℕ) → Lead c (length t) n → contentRun (home (c .parts)) t ≡ going (plain (context shut r (c .parts)) tt t) → Inv (suc n) (colonAfter (context shut r₀ (c .parts)) tt t)
+  step-colon : (c : Context Place) (t : List ℕ) (n : ℕ) → Lead c (length t) n → contentRun (home (c .parts)) t ≡ going (plain (context shut r labels (c .parts)) tt t) → Inv (suc n) (colonAfter (context shut r₀ labels (c .parts)) tt t)
   unfolding Inv colonAfter written spell
   step-colon c t n w e =
       given-on (Inv (suc n)) (keyOf t)
-      (λ k g. let f = key-found t k g in behind c k (form k) (length t) n w (f .run .long ∙ ap suc (f .long)) (f .run .path (context shut r (c .parts))))
+      (λ k g. let f = key-found t k g in behind c k (form k) (length t) n w (f .run .long ∙ ap suc (f .long)) (f .run .path (context shut r labels (c .parts))))
       (λ g. (lead-on c (length t) (length (t ++ (colon ∷ []))) n (suc n) w (rw (length-append t (colon ∷ [])) (omega arith)), further _ t _ colon e ∙ plain-colon _ t g))
 
-  step-plain : (c : Context Place) (t : List ℕ) (b n : ℕ) → Lead c (length t) n → contentRun (home (c .parts)) t ≡ going (plain (context shut r (c .parts)) tt t) → InvC (suc n) (innerStep tt (plain (context shut r₀ (c .parts)) tt t) b)
+  step-plain : (c : Context Place) (t : List ℕ) (b n : ℕ) → Lead c (length t) n → contentRun (home (c .parts)) t ≡ going (plain (context shut r labels (c .parts)) tt t) → InvC (suc n) (innerStep tt (plain (context shut r₀ labels (c .parts)) tt t) b)
   unfolding innerStep InvC Inv written spell
   step-plain c t b n w e =
-      let more : Lead (context shut r₀ (c .parts)) (length (t ++ (b ∷ []))) (suc n) = lead-on c (length t) (length (t ++ (b ∷ []))) n (suc n) w (rw (length-append t (b ∷ [])) (omega arith)) in
+      let more : Lead (context shut r₀ labels (c .parts)) (length (t ++ (b ∷ []))) (suc n) = lead-on c (length t) (length (t ++ (b ∷ []))) n (suc n) w (rw (length-append t (b ∷ [])) (omega arith)) in
       branch-on (InvC (suc n)) (isPlain b) (λ p. (more, further _ t _ b e ∙ pick-true (isPlain b) _ _ p))
       (λ p.
       branch-on (InvC (suc n)) (eqb b colon) (λ q. step-colon c t n w e)
@@ -364,8 +364,8 @@ module _ (shut : ℕ) (r₀ r : Bool) where
       value-end c NoKey (text t) b (length t) n w (omega arith) refl
       (λ f. further _ t _ b e ∙ pick-false (isPlain b) _ _ p ∙ pick-false (eqb b colon) _ _ q ∙ pick-none (textStep false [] b) _ _ g))))
 
-  step-behind : (c : Context Place) (k : Key) (q : Form) (b n : ℕ) → Lead c (length (written k)) n → contentRun (home (c .parts)) (written k ++ (b ∷ [])) ≡ nameBehind (context shut r (c .parts)) tt k q b
-      → InvC (suc n) (nameBehind (context shut r₀ (c .parts)) tt k q b)
+  step-behind : (c : Context Place) (k : Key) (q : Form) (b n : ℕ) → Lead c (length (written k)) n → contentRun (home (c .parts)) (written k ++ (b ∷ [])) ≡ nameBehind (context shut r labels (c .parts)) tt k q b
+      → InvC (suc n) (nameBehind (context shut r₀ labels (c .parts)) tt k q b)
   unfolding InvC Inv
   step-behind c k massOrName b n w e =
       given-on (InvC (suc n)) (textStep false [] b)
@@ -379,7 +379,7 @@ module _ (shut : ℕ) (r₀ r : Bool) where
   step-behind c k alnums b n w e = tt
   step-behind c k free b n w e = tt
 
-  step-keyed : (c : Context Place) (k : Key) (b n : ℕ) → Lead c (length (written k)) n → contentRun (home (c .parts)) (written k) ≡ going (keyed (context shut r (c .parts)) tt k) → InvC (suc n) (innerStep tt (keyed (context shut r₀ (c .parts)) tt k) b)
+  step-keyed : (c : Context Place) (k : Key) (b n : ℕ) → Lead c (length (written k)) n → contentRun (home (c .parts)) (written k) ≡ going (keyed (context shut r labels (c .parts)) tt k) → InvC (suc n) (innerStep tt (keyed (context shut r₀ labels (c .parts)) tt k) b)
   unfolding innerStep InvC Inv Sized
   step-keyed c k b n w e =
       branch-on (InvC (suc n)) (isSign b) (λ s. (0, lead-on c (length (written k)) (length (written k) + 1) n (suc n) w (omega arith), tt, signs-keyed (c .parts) k e))
@@ -387,13 +387,13 @@ module _ (shut : ℕ) (r₀ r : Bool) where
 
   -- a mass, written and read
   mass-path : (ps : Parts) (k : Key) (x : Number Place) → Signs ps k → FitsNumber x
-      → contentRun (home ps) (written k ++ massText x) ≡ going (inNumber (context shut r ps) tt k tt (allRead (x .minus) (x .digits) (x .decimals)))
+      → contentRun (home ps) (written k ++ massText x) ≡ going (inNumber (context shut r labels ps) tt k tt (allRead (x .minus) (x .digits) (x .decimals)))
   unfolding contentRun contentStep
   mass-path ps k x g f =
       content-append (written k) (massText x) (home ps)
       ∙ ap (λ z. contentRun z (massText x)) (g .path)
       ∙ ap (λ z. contentRun z (size x)) (g .takes (x .minus))
-      ∙ in-number (context shut r ps) k (size x) (signed (x .minus)) _ (size-run (x .minus) x f)
+      ∙ in-number (context shut r labels ps) k (size x) (signed (x .minus)) _ (size-run (x .minus) x f)
 
   mass-end : (c : Context Place) (k : Key) (x : Number Place) (d : Digits) (b : ℕ) → Ended d x → digitStep d b ≡ none
       → innerStep tt (inNumber c tt k tt (allRead (x .minus) (x .digits) (x .decimals))) b ≡ valueEnd c (unlabelled tt k (mass x)) b
@@ -402,7 +402,7 @@ module _ (shut : ℕ) (r₀ r : Bool) where
       pick-none (digitStep (allRead (x .minus) (x .digits) (x .decimals)) b) _ _ (step-none (h .sign) (x .minus) (x .digits) (x .decimals) b (ap (λ z. digitStep z b) (sym (h .shape)) ∙ e))
       ∙ pick-some (numberEnd tt (allRead (x .minus) (x .digits) (x .decimals))) _ _ x (end-again tt d x h refl)
 
-  step-number : (c : Context Place) (k : Key) (d : Digits) (b n j : ℕ) → Lead c (length (written k) + suc j) n → Sized d j → Signs (c .parts) k → InvC (suc n) (innerStep tt (inNumber (context shut r₀ (c .parts)) tt k tt d) b)
+  step-number : (c : Context Place) (k : Key) (d : Digits) (b n j : ℕ) → Lead c (length (written k) + suc j) n → Sized d j → Signs (c .parts) k → InvC (suc n) (innerStep tt (inNumber (context shut r₀ labels (c .parts)) tt k tt d) b)
   unfolding innerStep InvC Inv
   step-number c k d b n j w z g =
       given-on (InvC (suc n)) (digitStep d b) (λ d′ e. (suc j, lead-on c (length (written k) + suc j) (length (written k) + suc (suc j)) n (suc n) w (omega arith), sized-some d d′ b j z e, g))
@@ -416,28 +416,28 @@ module _ (shut : ℕ) (r₀ r : Bool) where
 
   -- ---- texts
   text-end : (c : Context Place) (k : Key) (t cs : List ℕ) (b n : ℕ) → Lead c (length (written k ++ t)) n
-      → contentRun (home (c .parts)) ((written k ++ t) ++ (b ∷ [])) ≡ textEnd (context shut r (c .parts)) tt k t cs b → InvC (suc n) (textEnd (context shut r₀ (c .parts)) tt k t cs b)
+      → contentRun (home (c .parts)) ((written k ++ t) ++ (b ∷ [])) ≡ textEnd (context shut r labels (c .parts)) tt k t cs b → InvC (suc n) (textEnd (context shut r₀ labels (c .parts)) tt k t cs b)
   unfolding textEnd InvC
   text-end c k [] cs b n w e = tt
   text-end c k (x ∷ t) [] b n w e = value-end c k (text (x ∷ t)) b (length (written k ++ (x ∷ t))) n w (omega arith) refl (λ f. e)
   text-end c k (x ∷ t) (o ∷ cs) b n w e = tt
 
-  longer : (c : Context Place) (v t : List ℕ) (b n : ℕ) → Lead c (length (v ++ t)) n → Lead (context shut r₀ (c .parts)) (length (v ++ (t ++ (b ∷ [])))) (suc n)
+  longer : (c : Context Place) (v t : List ℕ) (b n : ℕ) → Lead c (length (v ++ t)) n → Lead (context shut r₀ labels (c .parts)) (length (v ++ (t ++ (b ∷ [])))) (suc n)
   longer c v t b n w = lead-on c (length (v ++ t)) (length (v ++ (t ++ (b ∷ [])))) n (suc n) w (rw (← append-assoc v t (b ∷ []), length-append (v ++ t) (b ∷ [])) (omega arith))
 
   regroup : (x : Content Place) (v t : List ℕ) (b : ℕ) → contentRun x (v ++ (t ++ (b ∷ []))) ≡ contentRun x ((v ++ t) ++ (b ∷ []))
   regroup x v t b = ap (contentRun x) (sym (append-assoc v t (b ∷ [])))
 
-  step-code : (c : Context Place) (k : Key) (t : List ℕ) (b n : ℕ) → Lead c (length (written k ++ t)) n → contentRun (home (c .parts)) (written k ++ t) ≡ going (inCode (context shut r (c .parts)) tt k t)
-      → InvC (suc n) (innerStep tt (inCode (context shut r₀ (c .parts)) tt k t) b)
+  step-code : (c : Context Place) (k : Key) (t : List ℕ) (b n : ℕ) → Lead c (length (written k ++ t)) n → contentRun (home (c .parts)) (written k ++ t) ≡ going (inCode (context shut r labels (c .parts)) tt k t)
+      → InvC (suc n) (innerStep tt (inCode (context shut r₀ labels (c .parts)) tt k t) b)
   unfolding innerStep InvC Inv
   step-code c k t b n w e =
       branch-on (InvC (suc n)) (accessionByte (form k) b)
       (λ a. (longer c (written k) t b n w, regroup _ (written k) t b ∙ further _ (written k ++ t) _ b e ∙ pick-true (accessionByte (form k) b) _ _ a))
       (λ a. text-end c k t [] b n w (further _ (written k ++ t) _ b e ∙ pick-false (accessionByte (form k) b) _ _ a))
 
-  step-text : (c : Context Place) (k : Key) (t cs : List ℕ) (b n : ℕ) → Lead c (length (written k ++ t)) n → contentRun (home (c .parts)) (written k ++ t) ≡ going (inText (context shut r (c .parts)) tt k t cs)
-      → InvC (suc n) (innerStep tt (inText (context shut r₀ (c .parts)) tt k t cs) b)
+  step-text : (c : Context Place) (k : Key) (t cs : List ℕ) (b n : ℕ) → Lead c (length (written k ++ t)) n → contentRun (home (c .parts)) (written k ++ t) ≡ going (inText (context shut r labels (c .parts)) tt k t cs)
+      → InvC (suc n) (innerStep tt (inText (context shut r₀ labels (c .parts)) tt k t cs) b)
   unfolding innerStep InvC Inv
   step-text c k t cs b n w e =
       given-on (InvC (suc n)) (textStep (hashIsPlain (form k)) cs b)
@@ -445,8 +445,8 @@ module _ (shut : ℕ) (r₀ r : Bool) where
       (λ g. text-end c k t cs b n w (further _ (written k ++ t) _ b e ∙ pick-none (textStep (hashIsPlain (form k)) cs b) _ _ g))
 
   -- ---- labels
-  step-hashed : (c : Context Place) (p : Part Place) (b n : ℕ) → Lead c (suc (length (body p))) n → Alone (c .parts) p → Path c p (body p ++ (hash ∷ [])) (hashed (context shut r (c .parts)) p)
-      → InvC (suc n) (innerStep tt (hashed (context shut r₀ (c .parts)) p) b)
+  step-hashed : (c : Context Place) (p : Part Place) (b n : ℕ) → Lead c (suc (length (body p))) n → Alone (c .parts) p → Path c p (body p ++ (hash ∷ [])) (hashed (context shut r labels (c .parts)) p)
+      → InvC (suc n) (innerStep tt (hashed (context shut r₀ labels (c .parts)) p) b)
   unfolding innerStep InvC Inv
   step-hashed c p b n w a g =
       branch-on (InvC (suc n)) (isAlnum b)
@@ -457,8 +457,8 @@ module _ (shut : ℕ) (r₀ r : Bool) where
   label-length p name = length-append (body p ++ (hash ∷ [])) name ∙ ap (λ z. z + length name) (length-append (body p) (hash ∷ []) ∙ omega arith)
 
   step-label : (c : Context Place) (p : Part Place) (name : List ℕ) (b n : ℕ) → Lead c (suc (length (body p)) + length name) n → Alone (c .parts) p
-      → Path c p (body p ++ (hash ∷ []) ++ name) (inLabel (context shut r (c .parts)) p tt name)
-      → InvC (suc n) (innerStep tt (inLabel (context shut r₀ (c .parts)) p tt name) b)
+      → Path c p (body p ++ (hash ∷ []) ++ name) (inLabel (context shut r labels (c .parts)) p tt name)
+      → InvC (suc n) (innerStep tt (inLabel (context shut r₀ labels (c .parts)) p tt name) b)
   unfolding innerStep InvC Inv
   step-label c p name b n w a g =
       branch-on (InvC (suc n)) (isAlnum b)
@@ -492,11 +492,11 @@ module _ (shut : ℕ) (r₀ r : Bool) where
   sign-cost false = omega arith
 
   step-scoring : (c : Context Place) (p : Part Place) (name : List ℕ) (b n : ℕ) → Lead c (suc (length (body p)) + length name + 1) n → Alone (c .parts) p
-      → Path c p (body p ++ (hash ∷ []) ++ name ++ (openRound ∷ [])) (scoring (context shut r (c .parts)) p tt name)
-      → InvC (suc n) (innerStep tt (scoring (context shut r₀ (c .parts)) p tt name) b)
+      → Path c p (body p ++ (hash ∷ []) ++ name ++ (openRound ∷ [])) (scoring (context shut r labels (c .parts)) p tt name)
+      → InvC (suc n) (innerStep tt (scoring (context shut r₀ labels (c .parts)) p tt name) b)
   unfolding innerStep InvC Inv Sized
   step-scoring c p name b n w a g =
-      let more : Lead (context shut r₀ (c .parts)) (suc (length (body p)) + length name + 1 + 1) (suc n) = lead-on c (suc (length (body p)) + length name + 1) (suc (length (body p)) + length name + 1 + 1) n (suc n) w (omega arith) in
+      let more : Lead (context shut r₀ labels (c .parts)) (suc (length (body p)) + length name + 1 + 1) (suc n) = lead-on c (suc (length (body p)) + length name + 1) (suc (length (body p)) + length name + 1 + 1) n (suc n) w (omega arith) in
       branch-on (InvC (suc n)) (isSign b) (λ e. (1, 0, more, a, g, tt, omega (arith, sign-cost (eqb b dash))))
       (λ e. branch-on (InvC (suc n)) (isDigit b) (λ q. (1, 1, more, a, g, (omega arith, digit-below b q), omega arith)) (λ q. tt))
 
@@ -594,8 +594,8 @@ module _ (shut : ℕ) (r₀ r : Bool) where
       ∙ ap (λ z. z + length (scoreText x) + 1) (length-append (body p ++ (hash ∷ []) ++ name) (openRound ∷ []) ∙ ap (λ z. z + 1) (label-length p name))
 
   step-score : (c : Context Place) (p : Part Place) (name : List ℕ) (d : Digits) (b n j i : ℕ) → Lead c (suc (length (body p)) + length name + 1 + j) n → Alone (c .parts) p
-      → Path c p (body p ++ (hash ∷ []) ++ name ++ (openRound ∷ [])) (scoring (context shut r (c .parts)) p tt name) → Sized d i → signCost (signIn d) + i ≤ j
-      → InvC (suc n) (innerStep tt (inScore (context shut r₀ (c .parts)) p tt name tt d) b)
+      → Path c p (body p ++ (hash ∷ []) ++ name ++ (openRound ∷ [])) (scoring (context shut r labels (c .parts)) p tt name) → Sized d i → signCost (signIn d) + i ≤ j
+      → InvC (suc n) (innerStep tt (inScore (context shut r₀ labels (c .parts)) p tt name tt d) b)
   unfolding innerStep InvC Inv
   step-score c p name d b n j i w a g z h =
       given-on (InvC (suc n)) (digitStep d b)
@@ -628,8 +628,8 @@ module _ (shut : ℕ) (r₀ r : Bool) where
       (λ q. tt))
 
   step-scored : (c : Context Place) (p : Part Place) (b n : ℕ) → Lead c (length (partText p)) n → Alone (c .parts) p
-      → (FitsPart p → Allowed p → contentRun (home (c .parts)) (partText p) ≡ going (scored (context shut r (c .parts)) p))
-      → InvC (suc n) (innerStep tt (scored (context shut r₀ (c .parts)) p) b)
+      → (FitsPart p → Allowed p → contentRun (home (c .parts)) (partText p) ≡ going (scored (context shut r labels (c .parts)) p))
+      → InvC (suc n) (innerStep tt (scored (context shut r₀ labels (c .parts)) p) b)
   unfolding innerStep
   step-scored c p b n w a g = part-end c p b (length (partText p)) n w (omega arith) a (λ f o. further _ (partText p) _ b (g f o))
 
@@ -650,6 +650,6 @@ module _ (shut : ℕ) (r₀ r : Bool) where
   inner-step n (scored c p) b w = there c _ n (suc n) (w .0) (λ z. innerStep tt (scored z p) b) (step-scored c p b n (w .0) (w .1) (w .2))
 
   -- nothing is read yet
-  pub inner-start : Inv 0 (begin (context shut r₀ []))
+  pub inner-start : Inv 0 (begin (context shut r₀ labels []))
   unfolding Inv
   inner-start = record { is = refl; first = refl; path = λ f. ap (contentRun (home [])) lead-nil ∙ content-nil (home []); short = rw lead-nil (omega arith) }

@@ -10,13 +10,13 @@ use lib.ListN.{length, length-append}
 use Rattle.scope.specs.declared.grammar.Kind.{Kind}
 use Rattle.scope.specs.declared.grammar.Kind.the-variants.{Unknown, Labile, NTerm, CTerm}
 use Rattle.scope.specs.declared.grammar.Mode.{Mode}
-use Rattle.scope.specs.declared.grammar.Mode.the-variants.{Front, Undecided, Counted, Referred, Caret, Counting, Labiles, NTerms, Start, Single, Opened, UnsureOpened, InRange, InUnsure, RangeEnd, Ranged, UnsureEnd, CStart, CTerms}
+use Rattle.scope.specs.declared.grammar.Mode.the-variants.{Front, Runs, Undecided, Counted, Referred, Caret, Counting, Labiles, NTerms, Start, Single, Opened, UnsureOpened, InRange, InUnsure, RangeEnd, Ranged, UnsureEnd, CStart, CTerms}
 use Rattle.scope.specs.declared.grammar.Slot.{Slot}
 use Rattle.scope.specs.declared.grammar.Act.the-variants.{Begin, RunEnds, TermEnds}
 use Rattle.scope.specs.Bytes.{isDigit, openSquare, shutSquare, openCurly, caret, question, dash, value}
 use Rattle.scope.specs.Line.{Bracket}
 use Rattle.scope.specs.Lists.{none?, keep, flat}
-use Rattle.scope.specs.Reading.{square, front, undecided, counted, referred, act, mayEnd, Held, countDigit, asNTerm, State, dead, outside, inside, perform, refers?, step, run, start, lineOf}
+use Rattle.scope.specs.Reading.{square, front, labile, atFront, undecided, counted, referred, act, mayEnd, Held, countDigit, asNTerm, State, dead, outside, inside, perform, refers?, step, run, start, lineOf}
 use Rattle.scope.specs.Canonical.{decimal, partsText, squareText, curlyText, countText, unknownText, ofKind, closedBy, ledBy, sequenceText, canonical}
 use Rattle.scope.specs.Kinds.{kindCode}
 use Rattle.basics.specs.Lists.{keep-append, flat-append, on-last}
@@ -26,9 +26,9 @@ use Rattle.basics.specs.Each.{Each, each-append, each-front, each-back, each-on
 use Rattle.canonical_laws.specs.Numbers.{digit-below, decimal-length}
 use Rattle.reading_laws.specs.Unnoted.{Place, Parts, lineRun, line-nil, line-cons, line-further}
 use Rattle.canonical_laws.specs.Runs.{Reads}
-use Rattle.canonical_laws.specs.Unknowns.{Brackets, unknown, normal, FitsBracket, Square, IsUnknown, held, front-run, IsTerm, terms-end}
+use Rattle.canonical_laws.specs.Unknowns.{Brackets, unknown, normal, FitsBracket, Square, IsUnknown, held, frontMode, front-acts, front-run, IsTerm, terms-end}
 use Rattle.canonical_laws.specs.Sequence.{hasKind, Low, flat-one}
-use Rattle.canonical_laws.specs.Lines.{unknowns, labiles, nterms, cterms, head, body, text, norm, Written, Within, Gather, Fresh, Outside, ClosedBy, Reached, begins, goes-on, closed-most, closed-least, square-length, bare-body, step-labile, step-element, step-single, step-opened, step-unsureOpened, step-inRange, step-inUnsure, step-rangeEnd, step-ranged, step-unsureEnd, step-start, step-cStart, step-cTerms, step-labiles, step-nterms, between-front, after}
+use Rattle.canonical_laws.specs.Lines.{unknowns, labiles, nterms, cterms, head, body, text, norm, Written, Within, Gather, AtFront, Fresh, Outside, ClosedBy, Reached, begins, goes-on, closed-most, closed-least, square-length, bare-body, step-labile, step-element, step-single, step-opened, step-unsureOpened, step-inRange, step-inUnsure, step-rangeEnd, step-ranged, step-unsureEnd, step-start, step-cStart, step-cTerms, step-labiles, step-nterms, between-front, after}
 
 -- ---- brackets of unknown position, by kind
 kind-is : (k : Bracket Place) → IsUnknown k → k .kind ≡ Unknown
@@ -49,15 +49,16 @@ other-kind c (k ∷ bs) e w =
 unknown-low : (bs : Brackets) → Each IsUnknown bs → Low 0 bs
 unknown-low bs w = each-one IsUnknown (λ k. k .last ≤ 0) (λ k v. omega (arith, ap (λ (z : Bracket Place). z .last) (v .is))) bs w
 
-front-text : (bs : Brackets) → Each IsUnknown bs → text Front (held bs []) ≡ closedBy (flat unknownText bs) question
-unfolding text flat
+front-text : (bs : Brackets) → Each IsUnknown bs → text (frontMode bs) (held bs []) ≡ closedBy (flat unknownText bs) question
+unfolding flat
 front-text bs w =
-    bare-body (held bs []) refl (other-kind NTerm bs refl w)
+    between-front bs .shows (held bs [])
+    ∙ bare-body (held bs []) refl (other-kind NTerm bs refl w)
     ∙ ap (λ z. unknowns bs ++ flat curlyText z) (other-kind Labile bs refl w)
     ∙ append-nil (unknowns bs)
     ∙ ap (λ z. closedBy (flat unknownText z) question) (unknown-kind bs w)
 
-front-written : (bs : Brackets) (n : ℕ) → Each IsUnknown bs → length (closedBy (flat unknownText bs) question) ≤ n → Written n Front (held bs [])
+front-written : (bs : Brackets) (n : ℕ) → Each IsUnknown bs → length (closedBy (flat unknownText bs) question) ≤ n → Written n (frontMode bs) (held bs [])
 front-written bs n w h = record { path = λ fits. ap (lineRun start) (front-text bs w) ∙ front-run bs w fits; short = rw (front-text bs w) h }
 
 front-within : (bs : Brackets) → Each IsUnknown bs → Within (held bs [])
@@ -85,8 +86,8 @@ fewer (k ∷ rs) =
     rw (length-append (squareText k) (flat squareText rs), length-append (unknownText k) (flat unknownText rs), length-append (squareText k) (countText (k .count))) (omega (arith, fewer rs))
 
 -- ---- a bracket more at the front
-squares : (s : Slot) (j : ℕ) (ps : Parts) → s .shut ≡ shutSquare → ClosedBy s j ps → Square ps
-squares s j ps e g r f a = subst (λ (z : ℕ). Reads z r ps) e (g r .path f a)
+squares : (s : Slot) (j : ℕ) (ps : Parts) → s .shut ≡ shutSquare → s .labels ≡ true → ClosedBy s j ps → Square ps
+squares s j ps e d g r f a = subst (λ (z : ℕ). Reads z r true ps) e (subst (λ (z : Bool). Reads (s .shut) r z ps) d (g r .path f a))
 
 is-term : (ps : Parts) → Square ps → IsTerm (unknown 1 none ps)
 is-term ps w = record { is = refl; reads = w }
@@ -111,14 +112,14 @@ step-lead bs rs b n w u v h =
     branch-on (λ m. Outside (suc n + j) m (held bs (rs ++ (unknown 1 none ps ∷ [])))) (refers? ps) {x = Referred} {y = Undecided}
     (λ e. (
       gather bs (rs ++ (unknown 1 none ps ∷ [])) w,
-      each-snoc IsTerm rs (unknown 1 none ps) v (is-term ps (squares front j ps refl g)),
+      each-snoc IsTerm rs (unknown 1 none ps) v (is-term ps (squares front j ps refl refl g)),
       fresh rs ps,
       rw (term-length rs ps) (omega (arith, g true .short, fewer rs)),
     ))
     (λ e. (
       gather bs (rs ++ (unknown 1 none ps ∷ [])) w,
-      each-snoc IsUnknown rs (unknown 1 none ps) u (is-unknown 1 none ps e (λ z. refl) (squares front j ps refl g)),
-      each-snoc IsTerm rs (unknown 1 none ps) v (is-term ps (squares front j ps refl g)),
+      each-snoc IsUnknown rs (unknown 1 none ps) u (is-unknown 1 none ps e (λ z. refl) (squares front j ps refl refl g)),
+      each-snoc IsTerm rs (unknown 1 none ps) v (is-term ps (squares front j ps refl refl g)),
       fresh rs ps,
       rw (fresh-length rs none ps) (omega (arith, g true .short)),
     )))
@@ -137,7 +138,7 @@ step-more bs rs b n w u h =
     (λ ps j g.
     after ps Counted (suc n + j) (held bs (rs ++ (unknown 1 none ps ∷ []))) (
       gather bs (rs ++ (unknown 1 none ps ∷ [])) w,
-      each-snoc IsUnknown rs (unknown 1 none ps) u (is-unknown 1 none ps (no-reference ps (g true .refs)) (λ z. refl) (squares (square Unknown false Counted) j ps refl g)),
+      each-snoc IsUnknown rs (unknown 1 none ps) u (is-unknown 1 none ps (no-reference ps (g true .refs)) (λ z. refl) (squares (square Unknown false Counted) j ps refl refl g)),
       fresh rs ps,
       rw (fresh-length rs none ps) (omega (arith, g true .short)),
     ))
@@ -149,7 +150,7 @@ step-refer bs rs b n w v h =
     (λ ps j g.
     after ps Referred (suc n + j) (held bs (rs ++ (unknown 1 none ps ∷ []))) (
       gather bs (rs ++ (unknown 1 none ps ∷ [])) w,
-      each-snoc IsTerm rs (unknown 1 none ps) v (is-term ps (squares (square Unknown true Referred) j ps refl g)),
+      each-snoc IsTerm rs (unknown 1 none ps) v (is-term ps (squares (square Unknown true Referred) j ps refl refl g)),
       fresh rs ps,
       rw (term-length rs ps) (omega (arith, g true .short)),
     ))
@@ -218,9 +219,9 @@ step-termEnds bs k ns b n w v h = (
   record {
     path = λ fits.
         ap (lineRun start) (term-text bs (k ∷ ns) w)
-        ∙ line-further (closedBy (flat unknownText bs) question) (closedBy (flat squareText (k ∷ ns)) dash) start (outside Front (held (map normal bs) [])) _
+        ∙ line-further (closedBy (flat unknownText bs) question) (closedBy (flat squareText (k ∷ ns)) dash) start (outside (frontMode bs) (held (map normal bs) [])) _
         (front-run bs w (each-front FitsBracket bs (map asNTerm (k ∷ ns)) fits))
-        (terms-end (map normal bs) k ns v (term-fits (k ∷ ns) (each-back FitsBracket bs (map asNTerm (k ∷ ns)) fits)))
+        (terms-end bs (map normal bs) k ns v (term-fits (k ∷ ns) (each-back FitsBracket bs (map asNTerm (k ∷ ns)) fits)))
         ∙ ap (λ (z : Brackets). outside Start (held z [])) (ap (λ z. map normal bs ++ z) (sym (term-normal (k ∷ ns) v)) ∙ sym (map-append normal bs (map asNTerm (k ∷ ns))));
     short =
         rw (term-text bs (k ∷ ns) w, length-append (closedBy (flat unknownText bs) question) (closedBy (flat squareText (k ∷ ns)) dash)) (omega (arith, closed-most (flat squareText (k ∷ ns)) dash));
@@ -232,22 +233,24 @@ step-termEnds bs k ns b n w v h = (
 )
 
 -- ---- the orders at the front, one byte further
-front-held : (n : ℕ) (h : Held Place) → Outside n Front h → h ≡ held (h .brackets) []
-unfolding Outside
+front-held : (n : ℕ) (h : Held Place) → AtFront n h → h ≡ held (h .brackets) []
 front-held n h w = w .0 .is ∙ ap (held (h .brackets)) (w .1)
 
-front-at : (bs : Brackets) (b n : ℕ) → Each IsUnknown bs → sizeOf bs ≤ n → Reached (suc n) (perform tt b (held bs []) (act Front b))
-unfolding act flat
+front-curly : act Front openCurly ≡ Begin labile
+unfolding act
+front-curly = refl
+
+front-at : (bs : Brackets) (b n : ℕ) → Each IsUnknown bs → sizeOf bs ≤ n → Reached (suc n) (perform tt b (held bs []) (atFront b))
+unfolding flat
 front-at bs b n w h =
     branch-on (λ a. Reached (suc n) (perform tt b (held bs []) a)) (eqb b openSquare) (λ e. step-lead bs [] b n w tt tt (omega arith))
     (λ e.
     branch-on (λ a. Reached (suc n) (perform tt b (held bs []) a)) (eqb b openCurly)
-    (λ q. step-labile Front (held bs []) b n refl between-front (front-written bs n w h) (front-within bs w) refl (other-kind NTerm bs refl w))
-    (λ q. step-element Front (held bs []) b n between-front (front-written bs n w h) (front-within bs w)))
+    (λ q. step-labile (frontMode bs) (held bs []) b n (front-acts bs openCurly ∙ front-curly) (between-front bs) (front-written bs n w h) (front-within bs w) refl (other-kind NTerm bs refl w))
+    (λ q. step-element (frontMode bs) (held bs []) b n (between-front bs) (front-written bs n w h) (front-within bs w)))
 
-step-front : (h : Held Place) (b n : ℕ) → Outside n Front h → Reached (suc n) (perform tt b h (act Front b))
-unfolding Outside
-step-front h b n w = subst (λ (z : Held Place). Reached (suc n) (perform tt b z (act Front b))) (sym (front-held n h w)) (front-at (h .brackets) b n (w .0 .settledOnes) (w .2))
+step-front : (h : Held Place) (b n : ℕ) → AtFront n h → Reached (suc n) (perform tt b h (atFront b))
+step-front h b n w = subst (λ (z : Held Place). Reached (suc n) (perform tt b z (atFront b))) (sym (front-held n h w)) (front-at (h .brackets) b n (w .0 .settledOnes) (w .2))
 
 counted-at : (bs rs : Brackets) (b n : ℕ) → Each IsUnknown bs → Each IsUnknown rs → sizeOf bs + length (flat unknownText rs) ≤ n → Reached (suc n) (perform tt b (held bs rs) (counted b))
 unfolding counted Reached perform
@@ -380,7 +383,9 @@ step-counting h b n w =
 
 -- ---- all states
 reached-outside : (m : Mode) (h : Held Place) (b n : ℕ) → Outside n m h → Reached (suc n) (perform tt b h (act m b))
+unfolding act Outside
 reached-outside Front h b n w = step-front h b n w
+reached-outside Runs h b n w = step-front h b n w
 reached-outside Undecided h b n w = step-undecided h b n w
 reached-outside Counted h b n w = step-counted h b n w
 reached-outside Referred h b n w = step-referred h b n w

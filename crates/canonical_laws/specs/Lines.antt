@@ -12,7 +12,7 @@ use Rattle.scope.specs.declared.grammar.Section.the-variants.{Plain, RangeFirst
 use Rattle.scope.specs.declared.grammar.Kind.{Kind}
 use Rattle.scope.specs.declared.grammar.Kind.the-variants.{Unknown, Labile, NTerm, OnResidue, OnRange, CTerm}
 use Rattle.scope.specs.declared.grammar.Mode.{Mode}
-use Rattle.scope.specs.declared.grammar.Mode.the-variants.{Front, Undecided, Counted, Referred, Caret, Counting, Labiles, NTerms, Start, Single, Opened, UnsureOpened, InRange, InUnsure, RangeEnd, Ranged, UnsureEnd, CStart, CTerms}
+use Rattle.scope.specs.declared.grammar.Mode.the-variants.{Front, Runs, Undecided, Counted, Referred, Caret, Counting, Labiles, NTerms, Start, Single, Opened, UnsureOpened, InRange, InUnsure, RangeEnd, Ranged, UnsureEnd, CStart, CTerms}
 use Rattle.scope.specs.declared.grammar.Slot.{Slot}
 use Rattle.scope.specs.declared.grammar.Act.the-variants.{Go, Residue as aResidue, Begin}
 use Rattle.scope.specs.Bytes.{upper, isLetter, openSquare, shutSquare, openCurly, shutCurly, openRound, shutRound, question, dash}
@@ -27,7 +27,7 @@ use Rattle.basics.specs.Each.{Each, each-append, each-front, each-back, each-on
 use Rattle.canonical_laws.specs.Brackets.{Inv, InvC, Closed, inner-step, inner-start}
 use Rattle.reading_laws.specs.Unnoted.{Place, Parts, lineRun, line-one, line-further, same-mode}
 use Rattle.canonical_laws.specs.Runs.{bracket-run, Letter, letter-of, front-letter, labiles-letter, start-letter, single-letter, ranged-letter, unsureEnd-letter, opened-letter, unsureOpened-letter, inRange-letter, inUnsure-letter, residue-run}
-use Rattle.canonical_laws.specs.Unknowns.{Brackets, unknown, normal, FitsBracket, IsUnknown, held, moved, IsTerm}
+use Rattle.canonical_laws.specs.Unknowns.{Brackets, unknown, normal, FitsBracket, IsUnknown, held, moved, frontMode, IsTerm}
 use Rattle.canonical_laws.specs.Sequence.{Residues, hasKind, kind-one, kind-none, ending-kind, Low, none-above, own, ranged, openText, lastEnd, open-end, open-first, open-next, last-end, open-own, open-range, ranged-one, sequence-other, flat-one}
 
 -- ---- the canonical text of what is held, by how far the order has come
@@ -56,6 +56,7 @@ openBody h = head (h .brackets) ++ openText (h .brackets) 1 (h .residues)
 
 unfoldable pub text : Mode → Held Place → List ℕ
 text Front h = body h
+text Runs h = body h
 text Undecided h = []
 text Counted h = []
 text Referred h = []
@@ -141,9 +142,14 @@ pub record Counts (n : ℕ) (h : Held Place) : Type 0 where
   pub below : count < 10 ^ digits
   pub short : frontSize h + length (flat unknownText before) + (length (partsText parts) + 2) + 1 + digits ≤ n
 
+-- no bracket at the front waits
+abbrev pub AtFront : ℕ → Held Place → Type 0
+AtFront n h = Gather h × (h .run ≡ []) × (frontSize h ≤ n)
+
 -- ---- what holds outside brackets, n bytes read
 unfoldable pub Outside : ℕ → Mode → Held Place → Type 0
-Outside n Front h = Gather h × (h .run ≡ []) × (frontSize h ≤ n)
+Outside n Front h = AtFront n h
+Outside n Runs h = AtFront n h
 Outside n Undecided h = Gather h × Each IsUnknown (h .run) × Each IsTerm (h .run) × Fresh (h .run) × (frontSize h + length (flat unknownText (h .run)) ≤ n)
 Outside n Counted h = Gather h × Each IsUnknown (h .run) × Fresh (h .run) × (frontSize h + length (flat unknownText (h .run)) ≤ n)
 Outside n Referred h = Gather h × Each IsTerm (h .run) × Fresh (h .run) × (frontSize h + length (flat squareText (h .run)) ≤ n)
@@ -164,14 +170,14 @@ Outside n CStart h = Written n CStart h × Within h
 Outside n CTerms h = Written n CTerms h × (none? (cterms (h .brackets)) ≡ false)
 
 abbrev pub ClosedBy : Slot → ℕ → Parts → Type 0
-ClosedBy s j ps = (r : Bool) → Closed (s .shut) (s .refers) r j ps
+ClosedBy s j ps = (r : Bool) → Closed (s .shut) (s .refers) r (s .labels) j ps
 
 -- inside a bracket: what will hold behind it
 pub record Inside (n : ℕ) (s : Slot) (h : Held Place) (c : Inner Place) : Type 0 where
   pub before : ℕ
   pub within : ℕ
   pub total : before + within ≡ n
-  pub inv : (r : Bool) → Inv (s .shut) (s .refers) r within c
+  pub inv : (r : Bool) → Inv (s .shut) (s .refers) r (s .labels) within c
   pub behind : (ps : Parts) (j : ℕ) → ClosedBy s j ps → Outside (before + j) (modeAfter s ps) (withBracket (s .kind) tt ps h)
 
 unfoldable pub Reached : ℕ → State Place → Type 0
@@ -182,14 +188,14 @@ Reached n (inside s at h c) = Inside n s h c
 -- a bracket begins
 pub begins : (n : ℕ) (b : ℕ) (s : Slot) (h : Held Place) → ((ps : Parts) (j : ℕ) → ClosedBy s j ps → Outside (suc n + j) (modeAfter s ps) (withBracket (s .kind) tt ps h)) → Reached (suc n) (perform tt b h (Begin s))
 unfolding Reached perform
-begins n b s h f = record { before = suc n; within = 0; total = omega arith; inv = λ r. inner-start (s .shut) (s .refers) r; behind = f }
+begins n b s h f = record { before = suc n; within = 0; total = omega arith; inv = λ r. inner-start (s .shut) (s .refers) r (s .labels); behind = f }
 
 -- a bracket goes on or is closed
 pub goes-on : (n : ℕ) (s : Slot) (h : Held Place) (c : Inner Place) (b : ℕ) → Inside n s h c → Reached (suc n) (resume s tt h tt (innerStep tt c b))
 unfolding Reached resume InvC
-goes-on n s h c b w = go (innerStep tt c b) (λ r. inner-step (s .shut) (s .refers) r (w .within) c b (w .inv r))
+goes-on n s h c b w = go (innerStep tt c b) (λ r. inner-step (s .shut) (s .refers) r (s .labels) (w .within) c b (w .inv r))
   where
-    go : (x : Content Place) → ((r : Bool) → InvC (s .shut) (s .refers) r (suc (w .within)) x) → Reached (suc n) (resume s tt h tt x)
+    go : (x : Content Place) → ((r : Bool) → InvC (s .shut) (s .refers) r (s .labels) (suc (w .within)) x) → Reached (suc n) (resume s tt h tt x)
     go lost g = tt
     go (closed ps) g =
         subst (λ (z : ℕ). Outside z (modeAfter s ps) (withBracket (s .kind) tt ps h)) (let e : w .before + suc (w .within) ≡ suc n = omega (arith, w .total) in e) (w .behind ps (suc (w .within)) g)
@@ -410,9 +416,10 @@ pub record Between (m : Mode) : Type 0 where
   pub letters : (a : ℕ) → Letter a → act m a ≡ aResidue Plain Single
   pub opens : act m openRound ≡ Go Opened
 
-pub between-front : Between Front
+pub between-front : (us : Brackets) → Between (frontMode us)
 unfolding text act element
-between-front = record { shows = λ h. refl; letters = front-letter; opens = refl }
+between-front [] = record { shows = λ h. refl; letters = front-letter; opens = refl }
+between-front (k ∷ us) = record { shows = λ h. refl; letters = front-letter; opens = refl }
 
 between-labiles : Between Labiles
 unfolding text act element

@@ -21,16 +21,16 @@ use Rattle.basics.specs.Choice.{pick-true, pick-false}
 use Rattle.reading_laws.specs.Unnoted.{lineRun, line-cons, line-one, lift, Place, Parts, context, contentRun}
 
 -- ---- a bracket: the bytes behind the opening one
-abbrev pub Reads : ℕ → Bool → Parts → Type 0
-Reads shut r ps = contentRun (going (begin (context shut r []))) (partsText ps ++ (shut ∷ [])) ≡ closed ps
+abbrev pub Reads : ℕ → Bool → Bool → Parts → Type 0
+Reads shut r labels ps = contentRun (going (begin (context shut r labels []))) (partsText ps ++ (shut ∷ [])) ≡ closed ps
 
-pub bracket-run : (m : Mode) (s : Slot) (h : Held Place) (b : ℕ) (ps : Parts) → act m b ≡ Begin s → Reads (s .shut) (s .refers) ps
+pub bracket-run : (m : Mode) (s : Slot) (h : Held Place) (b : ℕ) (ps : Parts) → act m b ≡ Begin s → Reads (s .shut) (s .refers) (s .labels) ps
     → lineRun (outside m h) (b ∷ (partsText ps ++ (s .shut ∷ []))) ≡ outside (modeAfter s ps) (withBracket (s .kind) tt ps h)
 unfolding step perform
 bracket-run m s h b ps e f =
     line-cons (outside m h) b (partsText ps ++ (s .shut ∷ []))
     ∙ ap (λ z. lineRun (perform tt b h z) (partsText ps ++ (s .shut ∷ []))) e
-    ∙ lift s h (partsText ps ++ (s .shut ∷ [])) (begin (context (s .shut) (s .refers) [])) ps f
+    ∙ lift s h (partsText ps ++ (s .shut ∷ [])) (begin (context (s .shut) (s .refers) (s .labels) [])) ps f
 
 -- ---- letters: "residues in upper case"
 pub record Letter (a : ℕ) : Type 0 where

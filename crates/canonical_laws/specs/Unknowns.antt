@@ -9,9 +9,9 @@ use lib.Dec.{ltb, eqb}
 use borrow.Author.Tests.{eqb-true, ltb-true}
 use Rattle.scope.specs.declared.grammar.Kind.the-variants.{Unknown}
 use Rattle.scope.specs.declared.grammar.Mode.{Mode}
-use Rattle.scope.specs.declared.grammar.Mode.the-variants.{Front, Undecided, Counted, Referred, Caret, Counting, Start}
+use Rattle.scope.specs.declared.grammar.Mode.the-variants.{Front, Runs, Undecided, Counted, Referred, Caret, Counting, Start}
 use Rattle.scope.specs.declared.grammar.Slot.{Slot}
-use Rattle.scope.specs.declared.grammar.Act.the-variants.{Go}
+use Rattle.scope.specs.declared.grammar.Act.the-variants.{Go, Begin}
 use Rattle.scope.specs.Bytes.{isDigit, openSquare, shutSquare, caret, question, dash}
 use Rattle.scope.specs.Line.{Bracket}
 use Rattle.scope.specs.Reading.{square, front, undecided, counted, referred, act, Held, countDigit, asNTerm, settledRun, State, outside, perform, refers?, modeAfter, start}
@@ -51,7 +51,7 @@ FitsBracket k = Each FitsPart (k .parts) × (k .count < 10 ^ 20)
 
 -- square brackets that are read back, a reference only where it may stand
 abbrev pub Square : Parts → Type 0
-Square ps = (r : Bool) → Each FitsPart ps → (refers? ps ≡ true → r ≡ true) → Reads shutSquare r ps
+Square ps = (r : Bool) → Each FitsPart ps → (refers? ps ≡ true → r ≡ true) → Reads shutSquare r true ps
 
 pub record IsUnknown (k : Bracket Place) : Type 0 where
   pub is : k ≡ unknown (k .count) (k .counted) (k .parts)
@@ -93,10 +93,8 @@ count-run bs rs ps (suc k) n h = go (count-run bs rs ps k (n / 10) (omega arith)
 -- ---- one bracket of unknown position
 -- the orders in which a run begins or goes on
 pub data Gathers : Mode → Type 0 where
-  at-front : Gathers Front
-  at-undecided : Gathers Undecided
-  at-counted : Gathers Counted
-  at-counting : Gathers Counting
+  at-front : {m : Mode} → act m openSquare ≡ Begin front → Gathers m
+  at-counted : {m : Mode} → act m openSquare ≡ Begin (square Unknown false Counted) → Gathers m
 
 -- and those behind a bracket of it
 pub data Past : Mode → Type 0 where
@@ -105,9 +103,10 @@ pub data Past : Mode → Type 0 where
   past-counting : Past Counting
 
 past-gathers : (m : Mode) → Past m → Gathers m
-past-gathers Undecided past-undecided = at-undecided
-past-gathers Counted past-counted = at-counted
-past-gathers Counting past-counting = at-counting
+unfolding act undecided counted
+past-gathers Undecided past-undecided = at-front refl
+past-gathers Counted past-counted = at-counted refl
+past-gathers Counting past-counting = at-counted refl
 
 pub record Gathered (m : Mode) (h h′ : Held Place) (t : List ℕ) : Type 0 where
   pub mode : Mode
@@ -127,24 +126,15 @@ pub record Opens (m : Mode) (bs rs : Brackets) (ps : Parts) : Type 0 where
   pub path : lineRun (outside m (held bs rs)) (openSquare ∷ (partsText ps ++ (shutSquare ∷ []))) ≡ outside mode (held bs (rs ++ (unknown 1 none ps ∷ [])))
 
 open-run : (m : Mode) (bs rs : Brackets) (ps : Parts) → Gathers m → refers? ps ≡ false → Square ps → Each FitsPart ps → Opens m bs rs ps
-unfolding act undecided counted
-open-run Front bs rs ps at-front e w f =
-    record { mode = Undecided; past = past-undecided; carets = refl; path = bracket-run Front front (held bs rs) openSquare ps refl (w true f (λ g. refl)) ∙ mode-plain front ps _ e }
-open-run Undecided bs rs ps at-undecided e w f =
-    record { mode = Undecided; past = past-undecided; carets = refl; path = bracket-run Undecided front (held bs rs) openSquare ps refl (w true f (λ g. refl)) ∙ mode-plain front ps _ e }
-open-run Counted bs rs ps at-counted e w f =
+unfolding act
+open-run m bs rs ps (at-front a) e w f =
+    record { mode = Undecided; past = past-undecided; carets = refl; path = bracket-run m front (held bs rs) openSquare ps a (w true f (λ g. refl)) ∙ mode-plain front ps _ e }
+open-run m bs rs ps (at-counted a) e w f =
     record {
       mode = Counted;
       past = past-counted;
       carets = refl;
-      path = bracket-run Counted (square Unknown false Counted) (held bs rs) openSquare ps refl (w false f (λ g. absurd (false≢true (sym e ∙ g)))) ∙ mode-plain (square Unknown false Counted) ps _ e;
-    }
-open-run Counting bs rs ps at-counting e w f =
-    record {
-      mode = Counted;
-      past = past-counted;
-      carets = refl;
-      path = bracket-run Counting (square Unknown false Counted) (held bs rs) openSquare ps refl (w false f (λ g. absurd (false≢true (sym e ∙ g)))) ∙ mode-plain (square Unknown false Counted) ps _ e;
+      path = bracket-run m (square Unknown false Counted) (held bs rs) openSquare ps a (w false f (λ g. absurd (false≢true (sym e ∙ g)))) ∙ mode-plain (square Unknown false Counted) ps _ e;
     }
 
 caret-run : (q : Mode) (h : Held Place) → act q caret ≡ Go Caret → lineRun (outside q h) (caret ∷ []) ≡ outside Caret h
@@ -196,19 +186,33 @@ unknowns-run m bs rs k (u ∷ us) g w f =
       path = line-further (unknownText k) (flat unknownText (u ∷ us)) _ _ _ (o .path) (n .path) ∙ ap (λ z. outside (n .mode) (held bs z)) (append-assoc rs (normal k ∷ []) (map normal (u ∷ us)));
     }
 
-run-ends : (m : Mode) (h : Held Place) → Past m → lineRun (outside m h) (question ∷ []) ≡ outside Front (settledRun (λ k. k) h)
+run-ends : (m : Mode) (h : Held Place) → Past m → lineRun (outside m h) (question ∷ []) ≡ outside Runs (settledRun (λ k. k) h)
 unfolding act undecided counted perform
 run-ends Undecided h past-undecided = line-one Undecided h question
 run-ends Counted h past-counted = line-one Counted h question
 run-ends Counting h past-counting = line-one Counting h question
 
+-- where the line stands once its brackets of unknown position are read back
+abbrev pub frontMode : Brackets → Mode
+frontMode [] = Front
+frontMode (k ∷ us) = Runs
+
+pub front-acts : (us : Brackets) (b : ℕ) → act (frontMode us) b ≡ act Front b
+unfolding act
+front-acts [] b = refl
+front-acts (k ∷ us) b = refl
+
+front-opens : act Front openSquare ≡ Begin front
+unfolding act
+front-opens = refl
+
 -- "at most one unknown run": all brackets of unknown position, read back in one
-pub front-run : (us : Brackets) → Each IsUnknown us → Each FitsBracket us → lineRun start (closedBy (flat unknownText us) question) ≡ outside Front (held (map normal us) [])
+pub front-run : (us : Brackets) → Each IsUnknown us → Each FitsBracket us → lineRun start (closedBy (flat unknownText us) question) ≡ outside (frontMode us) (held (map normal us) [])
 unfolding flat
 front-run [] w f = line-nil start
 front-run (k ∷ us) w f =
-    let o = unknowns-run Front [] [] k us at-front w f in
-    line-further (flat unknownText (k ∷ us)) (question ∷ []) _ _ _ (o .path) (run-ends (o .mode) _ (o .past)) ∙ ap (λ z. outside Front (held z [])) (map-id (map normal (k ∷ us)))
+    let o = unknowns-run Front [] [] k us (at-front front-opens) w f in
+    line-further (flat unknownText (k ∷ us)) (question ∷ []) _ _ _ (o .path) (run-ends (o .mode) _ (o .past)) ∙ ap (λ z. outside Runs (held z [])) (map-id (map normal (k ∷ us)))
 
 -- ---- N-terminal brackets in front
 pub record IsTerm (k : Bracket Place) : Type 0 where
@@ -216,8 +220,7 @@ pub record IsTerm (k : Bracket Place) : Type 0 where
   pub reads : Square (k .parts)
 
 pub data Terms : Mode → Type 0 where
-  term-front : Terms Front
-  term-undecided : Terms Undecided
+  term-front : {m : Mode} → act m openSquare ≡ Begin front → Terms m
   term-referred : Terms Referred
 
 pub data PastTerm : Mode → Type 0 where
@@ -225,7 +228,8 @@ pub data PastTerm : Mode → Type 0 where
   pastTerm-referred : PastTerm Referred
 
 past-terms : (m : Mode) → PastTerm m → Terms m
-past-terms Undecided pastTerm-undecided = term-undecided
+unfolding act undecided
+past-terms Undecided pastTerm-undecided = term-front refl
 past-terms Referred pastTerm-referred = term-referred
 
 pub record Termed (m : Mode) (h h′ : Held Place) (t : List ℕ) : Type 0 where
@@ -245,8 +249,7 @@ term-run m bs rs k g w f = go m g
     end z = ap (λ (q : Bracket Place). outside z (held bs (rs ++ (q ∷ [])))) (sym (w .is))
 
     go : (m : Mode) → Terms m → Termed m (held bs rs) (held bs (rs ++ (k ∷ []))) (squareText k)
-    go Front term-front = decided Front _ _ _ (refers? (k .parts)) (bracket-run Front front (held bs rs) openSquare (k .parts) refl (w .reads true (f .0) (λ e. refl)) ∙ end _)
-    go Undecided term-undecided = decided Undecided _ _ _ (refers? (k .parts)) (bracket-run Undecided front (held bs rs) openSquare (k .parts) refl (w .reads true (f .0) (λ e. refl)) ∙ end _)
+    go m (term-front a) = decided m _ _ _ (refers? (k .parts)) (bracket-run m front (held bs rs) openSquare (k .parts) a (w .reads true (f .0) (λ e. refl)) ∙ end _)
     go Referred term-referred =
         decided Referred _ _ _ true
         (bracket-run Referred (square Unknown true Referred) (held bs rs) openSquare (k .parts) refl (w .reads true (f .0) (λ e. refl)) ∙ end _ ∙ moved _ Referred _ (same (refers? (k .parts))))
@@ -275,9 +278,9 @@ unfolding act undecided referred perform
 term-ends Undecided h pastTerm-undecided = line-one Undecided h dash
 term-ends Referred h pastTerm-referred = line-one Referred h dash
 
-pub terms-end : (bs : Brackets) (k : Bracket Place) (ns : Brackets) → Each IsTerm (k ∷ ns) → Each FitsBracket (k ∷ ns)
-    → lineRun (outside Front (held bs [])) (closedBy (flat squareText (k ∷ ns)) dash) ≡ outside Start (held (bs ++ map asNTerm (k ∷ ns)) [])
+pub terms-end : (us bs : Brackets) (k : Bracket Place) (ns : Brackets) → Each IsTerm (k ∷ ns) → Each FitsBracket (k ∷ ns)
+    → lineRun (outside (frontMode us) (held bs [])) (closedBy (flat squareText (k ∷ ns)) dash) ≡ outside Start (held (bs ++ map asNTerm (k ∷ ns)) [])
 unfolding flat
-terms-end bs k ns w f =
-    let o = terms-run Front bs [] k ns term-front w f in
+terms-end us bs k ns w f =
+    let o = terms-run (frontMode us) bs [] k ns (term-front (front-acts us openSquare ∙ front-opens)) w f in
     line-further (flat squareText (k ∷ ns)) (dash ∷ []) _ _ _ (o .path) (term-ends (o .mode) _ (o .past))

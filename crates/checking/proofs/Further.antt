@@ -9,7 +9,7 @@ use lib.Dec.{leb}
 use lib.ListN.{length, take, getD, length-append, length-map}
 use Rattle.scope.specs.declared.grammar.Section.{Section}
 use Rattle.scope.specs.declared.grammar.Mode.{Mode}
-use Rattle.scope.specs.declared.grammar.Mode.the-variants.{Front, Start}
+use Rattle.scope.specs.declared.grammar.Mode.the-variants.{Front, Runs, Start}
 use Rattle.scope.specs.declared.grammar.Act.{Act}
 use Rattle.scope.specs.declared.grammar.Act.the-variants.{Stop, Go, Residue as aResidue, RunEnds, TermEnds}
 use Rattle.scope.specs.Bytes.{upper}
@@ -117,7 +117,7 @@ module _ (line : List ℕ) (s : Stage) (notes labels : List ℕ) where
       )
 
   pub run-end : Does line s RunEnds notes labels
-      → Upto line (record { at = s .at + 1; mode = Front; residues = s .residues; brackets = s .brackets; first = s .brackets; labels = s .labels; marks = s .marks }) notes labels
+      → Upto line (record { at = s .at + 1; mode = Runs; residues = s .residues; brackets = s .brackets; first = s .brackets; labels = s .labels; marks = s .marks }) notes labels
       × (s .at < s .at + 1)
   unfolding perform
   run-end d =

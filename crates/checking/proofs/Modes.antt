@@ -1,26 +1,25 @@
 -- What each act leaves of the undecided run, by the mode. Assumes nothing.
-use mathlib.Core.Path.{_≡_, refl, ap}
-use mathlib.Core.Bool.{Bool, true, false, cond}
+use mathlib.Core.Path.{_≡_, refl}
+use mathlib.Core.Bool.{Bool, true, false, cond, _&&_, false≢true}
 use mathlib.Core.Option.{none}
 use mathlib.Core.List.{List, [], _∷_, _++_}
 use Prim.Native.Nat.{ℕ, suc}
 use native.Mathlib.Omega.{arith}
-use lib.Dec.{eqb}
-use Rattle.scope.specs.declared.grammar.Section.{Section}
-use Rattle.scope.specs.declared.grammar.Section.the-variants.{RangeNext, UnsureNext}
 use Rattle.scope.specs.declared.grammar.Kind.{Kind}
 use Rattle.scope.specs.declared.grammar.Kind.the-variants.{Unknown, Labile, NTerm, OnResidue, OnRange, CTerm}
 use Rattle.scope.specs.declared.grammar.Mode.{Mode}
-use Rattle.scope.specs.declared.grammar.Mode.the-variants.{Front, Undecided, Counted, Referred, Caret, Counting, Labiles, NTerms, Start, Single, Opened, UnsureOpened, InRange, InUnsure, RangeEnd, Ranged, UnsureEnd, CStart, CTerms}
 use Rattle.scope.specs.declared.grammar.Slot.{Slot}
 use Rattle.scope.specs.declared.grammar.Act.{Act}
 use Rattle.scope.specs.declared.grammar.Act.the-variants.{Stop, Go, Residue as aResidue, Begin, Digit, RunEnds, TermEnds}
-use Rattle.scope.specs.Bytes.{isLetter, isDigit, openSquare, openCurly, openRound, shutRound, caret, question, dash}
+use Rattle.scope.specs.Bytes.{isDigit}
 use Rattle.scope.specs.Line.{Part, Bracket}
-use Rattle.scope.specs.Reading.{front, element, further, groupFirst, inGroup, undecided, counted, referred, act, mayEnd, refers?, modeAfter}
-use Rattle.reading_laws.specs.Acts.{Ending, single-ends, ranged-ends, unsure-ends, cterms-end, ending}
+use Rattle.scope.specs.Reading.{act, mayEnd, refers?, modeAfter}
+use Rattle.scope.specs.Kinds.{isUnknown}
+use Rattle.basics.specs.Choice.{branch}
+use Rattle.basics.specs.Tests.{and-left, and-right}
+use Rattle.reading_laws.specs.Acts.{act-rule, ByteOf, act-byte, Ending, single-ends, ranged-ends, unsure-ends, cterms-end, ending}
 use Rattle.classes.specs.Runs.{span}
-use Rattle.checking.specs.Stages.{LastFresh, ModeFits}
+use Rattle.checking.specs.Stages.{LastFresh, Waiting, none-waits, last-fresh, any-waits, digits-over, Fits, waiting, ModeFits}
 
 -- a bracket in this slot
 abbrev pub SlotFits : Kind → Slot → List (Bracket ℕ) → Type 0
@@ -41,113 +40,114 @@ ActFits m b Digit = (isDigit b ≡ true) × ((r : List (Bracket ℕ)) (l : List 
 ActFits m b RunEnds = Unit {0}
 ActFits m b TermEnds = Unit {0}
 
-module _ (P : Act → Type 0) where
-  by : (t : Bool) (x y : Act) → P x → P y → P (cond t x y)
-  by true x y p q = p
-  by false x y p q = q
-
-  by-told : (t : Bool) (x y : Act) → (t ≡ true → P x) → P y → P (cond t x y)
-  by-told true x y p q = p refl
-  by-told false x y p q = q
-
 newest : (r : List (Bracket ℕ)) (k : Bracket ℕ) → k .counted ≡ none → LastFresh (r ++ (k ∷ []))
 newest r k e = record { before = r; last = k; is = refl; fresh = e }
-
--- modes in which no run waits
-module _ (m : Mode) (none-waits : (r : List (Bracket ℕ)) (l : List ℕ) → ModeFits m r l → r ≡ []) (b : ℕ) where
-  at-element : ActFits m b (element b)
-  unfolding element
-  at-element = by (ActFits m b) (isLetter b) _ _ (λ r l k f. none-waits r l f) (by (ActFits m b) (eqb b openRound) _ _ (λ r l k f. none-waits r l f) tt)
-
-  at-further : ActFits m b (further b)
-  unfolding further
-  at-further = by (ActFits m b) (eqb b dash) _ _ (λ r l k f. none-waits r l f) at-element
-
--- a bracket that is settled at once
-settled-fits : (n : Mode) → ((l : List ℕ) → ModeFits n [] l) → (ps : List (Part ℕ)) (l : List ℕ) → ModeFits (cond (refers? ps) n n) [] l
-settled-fits n f ps l = go (refers? ps)
-  where
-    go : (t : Bool) → ModeFits (cond t n n) [] l
-    go true = f l
-    go false = f l
-
--- a bracket at the front
-front-fits : (r : List (Bracket ℕ)) (k : Bracket ℕ) (ps : List (Part ℕ)) (l : List ℕ) → k .counted ≡ none → ModeFits (modeAfter front ps) (r ++ (k ∷ [])) l
-front-fits r k ps l e = go (refers? ps)
-  where
-    go : (t : Bool) → ModeFits (cond t Referred Undecided) (r ++ (k ∷ [])) l
-    go true = tt
-    go false = newest r k e
-
-counted-fits : (r : List (Bracket ℕ)) (k : Bracket ℕ) (ps : List (Part ℕ)) (l : List ℕ) → k .counted ≡ none
-    → ModeFits (cond (refers? ps) Counted Counted) (r ++ (k ∷ [])) l
-counted-fits r k ps l e = go (refers? ps)
-  where
-    go : (t : Bool) → ModeFits (cond t Counted Counted) (r ++ (k ∷ [])) l
-    go true = newest r k e
-    go false = newest r k e
-
-referred-fits : (r : List (Bracket ℕ)) (k : Bracket ℕ) (ps : List (Part ℕ)) (l : List ℕ) → ModeFits (cond (refers? ps) Referred Referred) (r ++ (k ∷ [])) l
-referred-fits r k ps l = go (refers? ps)
-  where
-    go : (t : Bool) → ModeFits (cond t Referred Referred) (r ++ (k ∷ [])) l
-    go true = tt
-    go false = tt
-
-at-undecided : (b : ℕ) → ActFits Undecided b (undecided b)
-unfolding undecided
-at-undecided b =
-    by (ActFits Undecided b) (eqb b openSquare) _ _ (λ r l f. front-fits r)
-    (by (ActFits Undecided b) (eqb b question) _ _ tt (by (ActFits Undecided b) (eqb b dash) _ _ tt tt))
-
-at-counted : (m : Mode) (b : ℕ) → ActFits m b (counted b)
-unfolding counted
-at-counted m b = by (ActFits m b) (eqb b openSquare) _ _ (λ r l f. counted-fits r) (by (ActFits m b) (eqb b question) _ _ tt tt)
 
 no-digit : (b : ℕ) (l : List ℕ) → isDigit b ≡ true → span isDigit (b ∷ l) ≡ 0 → ⊥
 unfolding span
 no-digit b l e z = let q : suc (span isDigit l) ≡ 0 = rw e at z in omega arith
 
-none-is : (r : List (Bracket ℕ)) (l : List ℕ) → r ≡ [] → r ≡ []
-none-is r l e = e
+-- ---- what modes say, as tests: that none waits; that a bracket without a count may be the last, and is; that a digit may follow
+abbrev none? : Waiting → Bool
+none? a = elim a [ none-waits ↦ true | last-fresh ↦ false | any-waits ↦ false | digits-over ↦ false ]
 
-in-group : (m : Mode) → ((r : List (Bracket ℕ)) (l : List ℕ) → ModeFits m r l → r ≡ []) → ((l : List ℕ) → ModeFits m [] l)
-    → (n : Mode) → ((r : List (Bracket ℕ)) (l : List ℕ) → r ≡ [] → ModeFits n r l) → ((r : List (Bracket ℕ)) (l k : List ℕ) → ModeFits m r l → ModeFits m r k)
-    → (s : Section) (b : ℕ) → ActFits m b (inGroup s m n b)
-unfolding inGroup
-in-group m waits fits n next same s b =
-    by (ActFits m b) (isLetter b) _ _ same
-    (by (ActFits m b) (eqb b openSquare) _ _ (λ r l f. (waits r l f, settled-fits m fits))
-    (by (ActFits m b) (eqb b shutRound) _ _ (λ r l k f. next r k (waits r l f)) tt))
+abbrev takes? : Waiting → Bool
+takes? a = elim a [ none-waits ↦ false | last-fresh ↦ true | any-waits ↦ true | digits-over ↦ false ]
+
+abbrev fresh? : Waiting → Bool
+fresh? a = elim a [ none-waits ↦ false | last-fresh ↦ true | any-waits ↦ false | digits-over ↦ false ]
+
+abbrev digit? : Waiting → Bool
+digit? a = elim a [ none-waits ↦ false | last-fresh ↦ true | any-waits ↦ false | digits-over ↦ true ]
+
+none-waiting : (a : Waiting) (r : List (Bracket ℕ)) (l : List ℕ) → none? a ≡ true → Fits a r l → r ≡ []
+none-waiting none-waits r l e f = f
+none-waiting last-fresh r l e f = absurd (false≢true e)
+none-waiting any-waits r l e f = absurd (false≢true e)
+none-waiting digits-over r l e f = absurd (false≢true e)
+
+fits-none : (a : Waiting) (r : List (Bracket ℕ)) (l : List ℕ) → none? a ≡ true → r ≡ [] → Fits a r l
+fits-none none-waits r l e f = f
+fits-none last-fresh r l e f = absurd (false≢true e)
+fits-none any-waits r l e f = absurd (false≢true e)
+fits-none digits-over r l e f = absurd (false≢true e)
+
+fits-newest : (a : Waiting) (r : List (Bracket ℕ)) (l : List ℕ) → takes? a ≡ true → LastFresh r → Fits a r l
+fits-newest none-waits r l e f = absurd (false≢true e)
+fits-newest last-fresh r l e f = f
+fits-newest any-waits r l e f = tt
+fits-newest digits-over r l e f = absurd (false≢true e)
+
+fresh-waiting : (a : Waiting) (r : List (Bracket ℕ)) (l : List ℕ) → fresh? a ≡ true → Fits a r l → LastFresh r
+fresh-waiting none-waits r l e f = absurd (false≢true e)
+fresh-waiting last-fresh r l e f = f
+fresh-waiting any-waits r l e f = absurd (false≢true e)
+fresh-waiting digits-over r l e f = absurd (false≢true e)
+
+fresh-before : (a : Waiting) (r : List (Bracket ℕ)) (l : List ℕ) (b : ℕ) → digit? a ≡ true → isDigit b ≡ true → Fits a r (b ∷ l) → LastFresh r
+fresh-before none-waits r l b e d f = absurd (false≢true e)
+fresh-before last-fresh r l b e d f = f
+fresh-before any-waits r l b e d f = absurd (false≢true e)
+fresh-before digits-over r l b e d f = absurd (no-digit b l d f)
+
+-- ---- the rule
+abbrev passes : Waiting → Waiting → Bool
+passes a c = cond (none? a) (none? c) (fresh? a && takes? c)
+
+abbrev settles : Mode → Slot → Bool
+settles m s = none? (waiting m) && (none? (waiting (s .after)) && none? (waiting (s .referred)))
+
+abbrev slotFits : Kind → Mode → Slot → Bool
+slotFits k m s = cond (isUnknown k) (takes? (waiting (s .after)) && takes? (waiting (s .referred))) (settles m s)
+
+abbrev actFits : Mode → Act → Bool
+actFits m Stop = true
+actFits m (Go n) = passes (waiting m) (waiting n)
+actFits m (aResidue s n) = passes (waiting m) (waiting n)
+actFits m (Begin s) = slotFits (s .kind) m s
+actFits m Digit = digit? (waiting m)
+actFits m RunEnds = true
+actFits m TermEnds = true
+
+passes-fits : (a c : Waiting) → passes a c ≡ true → (r : List (Bracket ℕ)) (l k : List ℕ) → Fits a r l → Fits c r k
+passes-fits a c e r l k f = go (none? a) refl e
+  where
+    go : (t : Bool) → none? a ≡ t → cond t (none? c) (fresh? a && takes? c) ≡ true → Fits c r k
+    go true q g = fits-none c r k g (none-waiting a r l q f)
+    go false q g = fits-newest c r k (and-right (fresh? a) _ g) (fresh-waiting a r l (and-left _ _ g) f)
+
+-- a bracket that is settled at once
+settled-fits : (m : Mode) (s : Slot) (r : List (Bracket ℕ)) (l : List ℕ) → settles m s ≡ true
+    → ModeFits m r l → (r ≡ []) × ((ps : List (Part ℕ)) (j : List ℕ) → ModeFits (modeAfter s ps) [] j)
+settled-fits m s r l e f =
+    let g = and-right (none? (waiting m)) _ e in (
+      none-waiting (waiting m) r l (and-left _ _ e) f,
+      λ ps j.
+          branch (λ o. ModeFits o [] j) (refers? ps) (fits-none (waiting (s .referred)) [] j (and-right (none? (waiting (s .after))) _ g) refl)
+          (fits-none (waiting (s .after)) [] j (and-left _ _ g) refl),
+    )
+
+slot-fits : (k : Kind) (m : Mode) (s : Slot) (r : List (Bracket ℕ)) (l : List ℕ) → slotFits k m s ≡ true → ModeFits m r l → SlotFits k s r
+slot-fits Unknown m s r l e f = λ k ps j q.
+    branch (λ o. ModeFits o (r ++ (k ∷ [])) j) (refers? ps) (fits-newest (waiting (s .referred)) (r ++ (k ∷ [])) j (and-right (takes? (waiting (s .after))) _ e) (newest r k q))
+    (fits-newest (waiting (s .after)) (r ++ (k ∷ [])) j (and-left _ _ e) (newest r k q))
+slot-fits Labile m s r l e f = settled-fits m s r l e f
+slot-fits NTerm m s r l e f = settled-fits m s r l e f
+slot-fits OnResidue m s r l e f = settled-fits m s r l e f
+slot-fits OnRange m s r l e f = settled-fits m s r l e f
+slot-fits CTerm m s r l e f = settled-fits m s r l e f
 
 pub act-fits : (m : Mode) (b : ℕ) → ActFits m b (act m b)
-unfolding act referred groupFirst
-act-fits Front b =
-    by (ActFits Front b) (eqb b openSquare) _ _ (λ r l f. front-fits r)
-    (by (ActFits Front b) (eqb b openCurly) _ _ (λ r l f. (f, settled-fits Labiles (λ l. refl))) (at-element Front none-is b))
-act-fits Undecided b = by (ActFits Undecided b) (eqb b caret) _ _ (λ r l k f. f) (at-undecided b)
-act-fits Counted b = by (ActFits Counted b) (eqb b caret) _ _ (λ r l k f. f) (at-counted Counted b)
-act-fits Referred b = by (ActFits Referred b) (eqb b openSquare) _ _ (λ r l f k ps j e. referred-fits r k ps j) (by (ActFits Referred b) (eqb b dash) _ _ tt tt)
-act-fits Caret b = by-told (ActFits Caret b) (isDigit b) _ _ (λ e. (e, λ r l f. f)) tt
-act-fits Counting b = by-told (ActFits Counting b) (isDigit b) _ _ (λ e. (e, λ r l f. absurd (no-digit b l e f))) (at-counted Counting b)
-act-fits Labiles b =
-    by (ActFits Labiles b) (eqb b openCurly) _ _ (λ r l f. (f, settled-fits Labiles (λ l. refl)))
-    (by (ActFits Labiles b) (eqb b openSquare) _ _ (λ r l f. (f, settled-fits NTerms (λ l. refl))) (at-element Labiles none-is b))
-act-fits NTerms b =
-    by (ActFits NTerms b) (eqb b openSquare) _ _ (λ r l f. (f, settled-fits NTerms (λ l. refl)))
-    (by (ActFits NTerms b) (eqb b dash) _ _ (λ r l k f. f) tt)
-act-fits Start b = at-element Start none-is b
-act-fits Single b = by (ActFits Single b) (eqb b openSquare) _ _ (λ r l f. (f, settled-fits Single (λ l. refl))) (at-further Single none-is b)
-act-fits Opened b =
-    by (ActFits Opened b) (eqb b question) _ _ (λ r l k f. f) (by (ActFits Opened b) (isLetter b) _ _ (λ r l k f. f) tt)
-act-fits UnsureOpened b = by (ActFits UnsureOpened b) (isLetter b) _ _ (λ r l k f. f) tt
-act-fits InRange b = in-group InRange none-is (λ l. refl) RangeEnd (λ r l f. f) (λ r l k f. f) RangeNext b
-act-fits InUnsure b = in-group InUnsure none-is (λ l. refl) UnsureEnd (λ r l f. f) (λ r l k f. f) UnsureNext b
-act-fits RangeEnd b = by (ActFits RangeEnd b) (eqb b openSquare) _ _ (λ r l f. (f, settled-fits Ranged (λ l. refl))) tt
-act-fits Ranged b = by (ActFits Ranged b) (eqb b openSquare) _ _ (λ r l f. (f, settled-fits Ranged (λ l. refl))) (at-further Ranged none-is b)
-act-fits UnsureEnd b = at-further UnsureEnd none-is b
-act-fits CStart b = by (ActFits CStart b) (eqb b openSquare) _ _ (λ r l f. (f, settled-fits CTerms (λ l. refl))) tt
-act-fits CTerms b = by (ActFits CTerms b) (eqb b openSquare) _ _ (λ r l f. (f, settled-fits CTerms (λ l. refl))) tt
+act-fits m b = go (act m b) (act-rule actFits refl m b) (act-byte m b)
+  where
+    go : (a : Act) → actFits m a ≡ true → ByteOf a b → ActFits m b a
+    go Stop e d = tt
+    go (Go n) e d = passes-fits (waiting m) (waiting n) e
+    go (aResidue s n) e d = passes-fits (waiting m) (waiting n) e
+    go (Begin s) e d = λ r l f. slot-fits (s .kind) m s r l e f
+    go Digit e d = (d, λ r l f. fresh-before (waiting m) r l b e d f)
+    go RunEnds e d = tt
+    go TermEnds e d = tt
 
 -- where a line may end no run waits
 pub ends-settled : (m : Mode) (r : List (Bracket ℕ)) (l : List ℕ) → mayEnd m ≡ true → ModeFits m r l → r ≡ []

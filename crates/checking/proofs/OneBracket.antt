@@ -42,18 +42,18 @@ next-le a n h = omega arith
 
 -- what reading a bracket says, by its answer
 pub bracket-stuck : (line : List ℕ) (s : Stage) (slot : Slot) (notes labels : List ℕ) → Does line s (Begin slot) notes labels
-    → (r : BracketAt) (p label : ℕ) (old new : List ℕ) → BracketSays line (s .at + 1) (slot .shut) (slot .refers) r label old new → r ≡ Stuck p → reading line ≡ stuck p
+    → (r : BracketAt) (p label : ℕ) (old new : List ℕ) → BracketSays line (s .at + 1) (slot .shut) (slot .refers) (slot .labels) r label old new → r ≡ Stuck p → reading line ≡ stuck p
 unfolding perform
 bracket-stuck line s slot notes labels d r p label old new f e =
-    let g = subst (λ x. BracketSays line (s .at + 1) (slot .shut) (slot .refers) x label old new) e f in
-    next-state line s (Begin slot) notes labels d ∙ g slot (s .at) (d .upto .held) (refl, refl)
+    let g = subst (λ x. BracketSays line (s .at + 1) (slot .shut) (slot .refers) (slot .labels) x label old new) e f in
+    next-state line s (Begin slot) notes labels d ∙ g slot (s .at) (d .upto .held) (refl, refl, refl)
 
 pub bracket-behind : (line : List ℕ) (s : Stage) (slot : Slot) (notes labels labels′ : List ℕ) → Does line s (Begin slot) notes labels
-    → (r : BracketAt) (b : Bracketed) → BracketSays line (s .at + 1) (slot .shut) (slot .refers) r (s .labels) labels labels′ → length labels′ ≡ length labels → r ≡ Read b
+    → (r : BracketAt) (b : Bracketed) → BracketSays line (s .at + 1) (slot .shut) (slot .refers) (slot .labels) r (s .labels) labels labels′ → length labels′ ≡ length labels → r ≡ Read b
     → Behind line s slot b notes labels labels′
 bracket-behind line s slot notes labels labels′ d r b f l e = record {
   does = d;
-  closes = subst (λ x. BracketSays line (s .at + 1) (slot .shut) (slot .refers) x (s .labels) labels labels′) e f;
+  closes = subst (λ x. BracketSays line (s .at + 1) (slot .shut) (slot .refers) (slot .labels) x (s .labels) labels labels′) e f;
   kept = l;
 }
 
@@ -216,7 +216,7 @@ module _ (line : List ℕ) (s : Stage) (slot : Slot) (b : Bracketed) (notes labe
             held = put c k h;
             is =
                 next-state line s (Begin slot) notes labels (f .does)
-                ∙ f .closes .on slot (s .at) h (refl, refl)
+                ∙ f .closes .on slot (s .at) h (refl, refl, refl)
                 ∙ ap (λ t. rest line (b .next) (outside t (put c k h))) (sym moves);
             within = f .closes .within;
             fits = subst (λ t. ModeFits t (put c k h .run) (drop (b .next) line)) (sym moves) (put-fits c slot k h p (drop (b .next) line) refl slot-fits);

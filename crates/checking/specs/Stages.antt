@@ -10,7 +10,6 @@ use lib.Seq.{sets}
 use Rattle.scope.specs.declared.grammar.Kind.{Kind}
 use Rattle.scope.specs.declared.grammar.Kind.the-variants.{Unknown, Labile, NTerm, OnResidue, OnRange, CTerm}
 use Rattle.scope.specs.declared.grammar.Mode.{Mode}
-use Rattle.scope.specs.declared.grammar.Mode.the-variants.{Front, Undecided, Counted, Referred, Caret, Counting, Labiles, NTerms, Start, Single, Opened, UnsureOpened, InRange, InUnsure, RangeEnd, Ranged, UnsureEnd, CStart, CTerms}
 use Rattle.scope.specs.declared.grammar.Slot.{Slot}
 use Rattle.scope.specs.declared.grammar.Act.{Act}
 use Rattle.scope.specs.declared.grammar.Act.the-variants.{Begin}
@@ -21,6 +20,7 @@ use Rattle.scope.specs.Lists.{flat}
 use Rattle.scope.specs.Modifications.{namesOf}
 use Rattle.scope.specs.Reading.{Held, act, asNTerm, outside, stuck, reading}
 use Rattle.classes.specs.Runs.{span}
+use Rattle.reading_laws.specs.Acts.{ways, someWay, endsRun, endsTerm, counts}
 use Rattle.reading_laws.specs.Run.{rest}
 use Rattle.marks.specs.Marks.{Dues, MarksAre}
 use Rattle.notes.specs.Notes.{referenceSort, notesFrom, noteSize, labelRows, NamesStand, notesRoom, labelsRoom}
@@ -48,27 +48,27 @@ pub record LastFresh (ks : List (Bracket ℕ)) : Type 0 where
   pub is : ks ≡ before ++ (last ∷ [])
   pub fresh : last .counted ≡ none
 
--- what a mode says of the undecided run and of the bytes that follow
+-- what may be said of the undecided run and of the bytes that follow: none waits; the last has no count yet; nothing; no digit follows
+pub data Waiting : Type 0 where
+  none-waits : Waiting
+  last-fresh : Waiting
+  any-waits : Waiting
+  digits-over : Waiting
+
+abbrev pub Fits : Waiting → List (Bracket ℕ) → List ℕ → Type 0
+Fits none-waits r l = r ≡ []
+Fits last-fresh r l = LastFresh r
+Fits any-waits r l = Unit {0}
+Fits digits-over r l = span isDigit l ≡ 0
+
+-- what a mode says of them, by what may be done there: count on, end a run, end the N-terminus
+abbrev pub waiting : Mode → Waiting
+waiting m =
+    cond (someWay counts (ways m)) (cond (someWay endsRun (ways m)) digits-over last-fresh)
+    (cond (someWay endsRun (ways m)) last-fresh (cond (someWay endsTerm (ways m)) any-waits none-waits))
+
 abbrev pub ModeFits : Mode → List (Bracket ℕ) → List ℕ → Type 0
-ModeFits Front r l = r ≡ []
-ModeFits Undecided r l = LastFresh r
-ModeFits Counted r l = LastFresh r
-ModeFits Referred r l = Unit {0}
-ModeFits Caret r l = LastFresh r
-ModeFits Counting r l = span isDigit l ≡ 0
-ModeFits Labiles r l = r ≡ []
-ModeFits NTerms r l = r ≡ []
-ModeFits Start r l = r ≡ []
-ModeFits Single r l = r ≡ []
-ModeFits Opened r l = r ≡ []
-ModeFits UnsureOpened r l = r ≡ []
-ModeFits InRange r l = r ≡ []
-ModeFits InUnsure r l = r ≡ []
-ModeFits RangeEnd r l = r ≡ []
-ModeFits Ranged r l = r ≡ []
-ModeFits UnsureEnd r l = r ≡ []
-ModeFits CStart r l = r ≡ []
-ModeFits CTerms r l = r ≡ []
+ModeFits m r l = Fits (waiting m) r l
 
 -- the tables note these brackets, with n labels
 pub record Noted (line : List ℕ) (ks : List (Bracket ℕ)) (n : ℕ) (notes labels : List ℕ) : Type 0 where
@@ -125,7 +125,7 @@ Leads line s t = (notes labels : List ℕ) → length line ≤ lineLimit → Upt
 -- the bracket at hand is read
 pub record Behind (line : List ℕ) (s : Stage) (slot : Slot) (b : Bracketed) (notes labels labels′ : List ℕ) : Type 0 where
   pub does : Does line s (Begin slot) notes labels
-  pub closes : Closes line (s .at + 1) (slot .shut) (slot .refers) b (s .labels) labels labels′
+  pub closes : Closes line (s .at + 1) (slot .shut) (slot .refers) (slot .labels) b (s .labels) labels labels′
   pub kept : length labels′ ≡ length labels
 
 -- the mode behind a bracket, by its sort

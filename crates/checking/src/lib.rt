@@ -177,7 +177,7 @@ fn run_ended(s: Stage) -> Stage
     let marks = s.marks;
     Stage {
         at: s.at + 1,
-        mode: Mode::Front,
+        mode: Mode::Runs,
         residues: s.residues,
         brackets: s.brackets,
         first: s.brackets,
@@ -293,7 +293,15 @@ fn bracket_read(line: &[u8], notes: &mut [u16], labels: &mut [u16], s: Stage, sl
     requires { ⌜ Low s × Does (now line) s (Act.Begin slot) (now notes) (now labels) ⌝ }
     ensures { λ r. ⌜ StepSays (now (line .entry)) s r (now (notes .exit)) (now (labels .exit)) ⌝ }
 {
-    let found = bracketed::bracket_at(line, s.at + 1, slot.shut, slot.refers, labels, s.labels);
+    let found = bracketed::bracket_at(
+        line,
+        s.at + 1,
+        slot.shut,
+        slot.refers,
+        slot.labels,
+        labels,
+        s.labels,
+    );
     match found {
         BracketAt::Stuck(p) => Step::Stuck(p),
         BracketAt::Read(b) => Step::More(bracket_noted(notes, s, slot, b)),

@@ -80,7 +80,7 @@ module _ {line : List ℕ} {l : Line ℕ} {old : List ℕ} {oldNumbers : List �
         beyond = drop numbersSize oldNumbers;
       }
 
-  pub begun : Begun line opening [] next (slot .shut) (slot .refers) (s .tables .brackets) 0 (s .tables .texts) 0 (pos 0)
+  pub begun : Begun line opening [] next (slot .shut) (slot .refers) (slot .labels) (s .tables .brackets) 0 (s .tables .texts) 0 (pos 0)
   unfolding flat scoreOf
   begun =
       record {
@@ -89,6 +89,7 @@ module _ {line : List ℕ} {l : Line ℕ} {old : List ℕ} {oldNumbers : List �
         settled = o .settled;
         in-line = o .in-line;
         shuts = refl;
+        allows = refl;
         may-refer = and-one (slot .refers);
         no-reference = refl;
         brackets = o .counts .brackets-are;
@@ -98,7 +99,7 @@ module _ {line : List ℕ} {l : Line ℕ} {old : List ℕ} {oldNumbers : List �
         score-mass = refl;
       }
 
-  pub starts : Starts line bytes numbers next (slot .shut) (slot .refers) (s .tables .brackets) 0 (s .tables .texts) 0 (pos 0)
+  pub starts : Starts line bytes numbers next (slot .shut) (slot .refers) (slot .labels) (s .tables .brackets) 0 (s .tables .texts) 0 (pos 0)
   starts = record { opening = opening; parts = []; begun = begun; roomy = o .roomy }
 
   pub laid-open : Laid before [] (s .tables .brackets) (textsIn (o .held)) bytes numbers

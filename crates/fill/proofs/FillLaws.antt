@@ -16,7 +16,7 @@ use Rattle.scope.specs.declared.grammar.Section.the-variants.{Plain, RangeFirst
 use Rattle.scope.specs.declared.grammar.Kind.{Kind}
 use Rattle.scope.specs.declared.grammar.Kind.the-variants.{Unknown, Labile, NTerm, OnResidue, OnRange, CTerm}
 use Rattle.scope.specs.declared.grammar.Mode.{Mode}
-use Rattle.scope.specs.declared.grammar.Mode.the-variants.{Front, Counting, Start}
+use Rattle.scope.specs.declared.grammar.Mode.the-variants.{Runs, Counting, Start}
 use Rattle.scope.specs.declared.grammar.Slot.{Slot}
 use Rattle.scope.specs.declared.grammar.Act.{Act}
 use Rattle.scope.specs.declared.grammar.Act.the-variants.{Stop, Go, Residue as aResidue, Begin, Digit, RunEnds, TermEnds}
@@ -216,7 +216,7 @@ module _ {line : List ℕ} {l : Line ℕ} {old : List ℕ} {oldNumbers : List �
           count-is = refl;
         }
 
-    pub run-ends : act (s .mode) b ≡ RunEnds → FilledOn line l old oldNumbers (s .at) (runOver s (s .at + 1) Front) bytes numbers
+    pub run-ends : act (s .mode) b ≡ RunEnds → FilledOn line l old oldNumbers (s .at) (runOver s (s .at + 1) Runs) bytes numbers
     unfolding perform
     run-ends e =
         let h = w .held in
@@ -229,7 +229,7 @@ module _ {line : List ℕ} {l : Line ℕ} {old : List ℕ} {oldNumbers : List �
                 within = w .within;
                 settled = settled-on more b is RunEnds e;
                 in-line = omega arith;
-                counts = settled-counts (λ k. k) (λ k. refl) Front;
+                counts = settled-counts (λ k. k) (λ k. refl) Runs;
                 bytes-are = w .bytes-are ∙ ap (λ x. areaWith (frontWith (lettersFor h) (sectionsFor h)) (rows 0 x) (flat bracketTexts x) (drop bytesSize old)) g;
                 numbers-are = w .numbers-are ∙ ap (λ x. numbersWith (flat numberRow x) (drop numbersSize oldNumbers)) g;
                 roomy = w .roomy;

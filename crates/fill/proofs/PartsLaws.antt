@@ -116,9 +116,9 @@ head-put {numbers = numbers} {k = k} {p = p} er eb en em =
     record { done = ap (Done (p .at) (p .texts)) er; bytes-are = eb; numbers-are = en ∙ ap (set numbers (massAt k partLimit)) em }
 
 -- ---- what put_parts does
-pub same-mass : {line : List ℕ} {g : Opening} {ps : List (Part ℕ)} {at shut : ℕ} {refers : Bool} {k j t code : ℕ} {m m′ : ℤ} → m′ ≡ m
-    → Begun line g ps at shut refers k j t code m → Begun line g ps at shut refers k j t code m′
-same-mass {line} {g} {ps} {at} {shut} {refers} {k} {j} {t} {code} e w = subst (Begun line g ps at shut refers k j t code) (sym e) w
+pub same-mass : {line : List ℕ} {g : Opening} {ps : List (Part ℕ)} {at shut : ℕ} {refers labels : Bool} {k j t code : ℕ} {m m′ : ℤ} → m′ ≡ m
+    → Begun line g ps at shut refers labels k j t code m → Begun line g ps at shut refers labels k j t code m′
+same-mass {line} {g} {ps} {at} {shut} {refers} {labels} {k} {j} {t} {code} e w = subst (Begun line g ps at shut refers labels k j t code) (sym e) w
 
 roomy-stored : {q : Part ℕ} {k j t : ℕ} {bytes : List ℕ} {numbers : List ℤ} {bytes′ : List ℕ} {numbers′ : List ℤ} → PartStored q k j t bytes numbers bytes′ numbers′
     → Roomy bytes numbers → Roomy bytes′ numbers′
@@ -129,22 +129,22 @@ roomy-stored {q} {k} {j} {t} {bytes} {numbers} s r =
     }
 
 -- what the step says, of the step that it was
-pub said-of : (line : List ℕ) (g : Opening) (ps : List (Part ℕ)) (at shut k j t : ℕ) (bytes : List ℕ) (numbers : List ℤ) {x y : Step} (bytes′ : List ℕ) (numbers′ : List ℤ)
-    → x ≡ y → StepSays line g ps at shut k j t bytes numbers x bytes′ numbers′ → StepSays line g ps at shut k j t bytes numbers y bytes′ numbers′
-said-of line g ps at shut k j t bytes numbers bytes′ numbers′ e s = subst (λ z. StepSays line g ps at shut k j t bytes numbers z bytes′ numbers′) e s
+pub said-of : (line : List ℕ) (g : Opening) (ps : List (Part ℕ)) (at shut : ℕ) (labels : Bool) (k j t : ℕ) (bytes : List ℕ) (numbers : List ℤ) {x y : Step} (bytes′ : List ℕ) (numbers′ : List ℤ)
+    → x ≡ y → StepSays line g ps at shut labels k j t bytes numbers x bytes′ numbers′ → StepSays line g ps at shut labels k j t bytes numbers y bytes′ numbers′
+said-of line g ps at shut labels k j t bytes numbers bytes′ numbers′ e s = subst (λ z. StepSays line g ps at shut labels k j t bytes numbers z bytes′ numbers′) e s
 
 pub closes : {line : List ℕ} {g : Opening} {ps : List (Part ℕ)} {at k j t : ℕ} {bytes : List ℕ} {numbers : List ℤ} {p : Parted} {bytes′ : List ℕ} {numbers′ : List ℤ}
     → ClosedBy line g ps at k j t bytes numbers p bytes′ numbers′ → Roomy bytes numbers → {first last : ℕ} → Positions first last → CloseFits bytes′ numbers′ k first last j
 closes s r f = record { few-brackets = s .stored .few-brackets; few-parts = s .stored .few-parts; positions = f; roomy = roomy-stored (s .stored) r }
 
-module _ {line : List ℕ} {g : Opening} {ps : List (Part ℕ)} {at shut k j t : ℕ} {bytes : List ℕ} {numbers : List ℤ} {p : Parted} {bytes′ : List ℕ} {numbers′ : List ℤ} where
-  pub again : Stepped line g ps at shut k j t bytes numbers p bytes′ numbers′ → Roomy bytes numbers → {m : ℤ} → m ≡ p .mass
-      → Starts line bytes′ numbers′ (p .at) shut false k (j + 1) (p .texts) (p .code) m
+module _ {line : List ℕ} {g : Opening} {ps : List (Part ℕ)} {at shut : ℕ} {labels : Bool} {k j t : ℕ} {bytes : List ℕ} {numbers : List ℤ} {p : Parted} {bytes′ : List ℕ} {numbers′ : List ℤ} where
+  pub again : Stepped line g ps at shut labels k j t bytes numbers p bytes′ numbers′ → Roomy bytes numbers → {m : ℤ} → m ≡ p .mass
+      → Starts line bytes′ numbers′ (p .at) shut false labels k (j + 1) (p .texts) (p .code) m
   again s r e = record { opening = g; parts = ps ++ (s .part ∷ []); begun = same-mass e (s .begun); roomy = roomy-stored (s .stored) r }
 
   -- the bracket is closed: its head
   pub closed-says : {refers : Bool} {code : ℕ} {mass : ℤ} {a : Before} {kind first last : ℕ} {r : Put} {bytes″ : List ℕ} {numbers″ : List ℤ}
-      → Begun line g ps at shut refers k j t code mass → Laid a ps k (textsIn (g .held)) bytes numbers
+      → Begun line g ps at shut refers labels k j t code mass → Laid a ps k (textsIn (g .held)) bytes numbers
       → ClosedBy line g ps at k j t bytes numbers p bytes′ numbers′ → HeadPut bytes′ numbers′ k kind first last j p r bytes″ numbers″
       → PutSays line g a at kind first last r bytes″ numbers″
   closed-says {a = a} {kind = kind} {first = first} {last = last} {bytes″ = bytes″} {numbers″ = numbers″} b w s h =
@@ -171,9 +171,9 @@ module _ {line : List ℕ} {g : Opening} {ps : List (Part ℕ)} {at shut k j t :
 
   -- another part follows
   pub more-says : {refers : Bool} {code : ℕ} {mass : ℤ} (a : Before) (kind first last : ℕ) (r : Put) (bytes″ : List ℕ) (numbers″ : List ℤ) {m : ℤ} → m ≡ p .mass
-      → Begun line g ps at shut refers k j t code mass → Laid a ps k (textsIn (g .held)) bytes numbers
-      → Stepped line g ps at shut k j t bytes numbers p bytes′ numbers′
-      → ((g : Opening) (ps : List (Part ℕ)) (a : Before) → Begun line g ps (p .at) shut false k (j + 1) (p .texts) (p .code) m → Laid a ps k (textsIn (g .held)) bytes′ numbers′
+      → Begun line g ps at shut refers labels k j t code mass → Laid a ps k (textsIn (g .held)) bytes numbers
+      → Stepped line g ps at shut labels k j t bytes numbers p bytes′ numbers′
+      → ((g : Opening) (ps : List (Part ℕ)) (a : Before) → Begun line g ps (p .at) shut false labels k (j + 1) (p .texts) (p .code) m → Laid a ps k (textsIn (g .held)) bytes′ numbers′
       → PutSays line g a (p .at) kind first last r bytes″ numbers″)
       → PutSays line g a at kind first last r bytes″ numbers″
   more-says a kind first last r bytes″ numbers″ e b w s ih =

@@ -63,22 +63,22 @@ unfolding Says
 reads-of line at C F f r e s = subst (Says line at C F) e s
 
 -- ---- reading on
-module _ {line : List ℕ} {g : Opening} {ps : List (Part ℕ)} {at shut : ℕ} {refers : Bool} {k j t code : ℕ} {mass : ℤ}
-    (w : Begun line g ps at shut refers k j t code mass) where
-  opens : Opens shut refers (contextIn (g .slot) ps)
-  opens = (w .shuts, w .may-refer)
+module _ {line : List ℕ} {g : Opening} {ps : List (Part ℕ)} {at shut : ℕ} {refers labels : Bool} {k j t code : ℕ} {mass : ℤ}
+    (w : Begun line g ps at shut refers labels k j t code mass) where
+  opens : Opens labels refers (contextIn (g .slot) ps)
+  opens = (w .allows, w .may-refer)
 
   begins : through line (g .slot) (g .place) (g .held) at (innerStep at (begin (contextIn (g .slot) ps))) ≡ holds (g .line)
   begins = sym (through-rest line (g .slot) (g .place) (g .held) at (begin (contextIn (g .slot) ps))) ∙ w .reads
 
-  pub never-stuck : (p : ℕ) → Says line at (Opens shut refers) (λ c. innerStep at (begin c)) (Stuck p) → ⊥
+  pub never-stuck : (p : ℕ) → Says line at (Opens labels refers) (λ c. innerStep at (begin c)) (Stuck p) → ⊥
   unfolding Says
   never-stuck p s =
       let e = sym (s (g .slot) (g .place) (g .held) (contextIn (g .slot) ps) opens) ∙ begins in
       let z : _≡_ {A = ℕ} 0 1 = cc in
       omega arith
 
-  module _ (r : PartRead) (reads : Reads line at (Opens shut refers) (λ c. innerStep at (begin c)) r) where
+  module _ (r : PartRead) (reads : Reads line at (Opens labels refers) (λ c. innerStep at (begin c)) r) where
     abbrev q : Part ℕ
     q = reads .found
 
@@ -216,10 +216,10 @@ module _ {line : List ℕ} {g : Opening} {ps : List (Part ℕ)} {at shut : ℕ} 
 
     -- ---- what the step says
     said : {bytes : List ℕ} {numbers : List ℤ} {bytes′ : List ℕ} {numbers′ : List ℤ} {x : Step} → FoundPut line bytes numbers r shut k j t code mass x bytes′ numbers′
-        → StepSays line g ps at shut k j t bytes numbers x bytes′ numbers′
-    said {bytes} {numbers} {bytes′} {numbers′} h = subst (λ y. StepSays line g ps at shut k j t bytes numbers y bytes′ numbers′) (sym (h .step)) (by-byte (eqb byte shut) refl)
+        → StepSays line g ps at shut labels k j t bytes numbers x bytes′ numbers′
+    said {bytes} {numbers} {bytes′} {numbers′} h = subst (λ y. StepSays line g ps at shut labels k j t bytes numbers y bytes′ numbers′) (sym (h .step)) (by-byte (eqb byte shut) refl)
       where
-        by-byte : (b : Bool) → eqb byte shut ≡ b → StepSays line g ps at shut k j t bytes numbers (cond b (Shut (partedOf r t code mass)) (More (partedOf r t code mass))) bytes′ numbers′
+        by-byte : (b : Bool) → eqb byte shut ≡ b → StepSays line g ps at shut labels k j t bytes numbers (cond b (Shut (partedOf r t code mass)) (More (partedOf r t code mass))) bytes′ numbers′
         by-byte true e =
             record {
               part = q;
@@ -243,6 +243,7 @@ module _ {line : List ℕ} {g : Opening} {ps : List (Part ℕ)} {at shut : ℕ} 
                     settled = w .settled;
                     in-line = omega (arith, reads .inside);
                     shuts = w .shuts;
+                    allows = w .allows;
                     may-refer = not-first (g .slot .refers);
                     no-reference = refers-all ∙ plain-first (eqb j 0);
                     brackets = w .brackets;
@@ -259,5 +260,5 @@ module _ {line : List ℕ} {g : Opening} {ps : List (Part ℕ)} {at shut : ℕ} 
             plain-first false = refl
 
     pub step-says : {bytes : List ℕ} {numbers : List ℤ} {bytes′ : List ℕ} {numbers′ : List ℤ} {x : Step} {m : ℤ} → m ≡ mass
-        → FoundPut line bytes numbers r shut k j t code m x bytes′ numbers′ → StepSays line g ps at shut k j t bytes numbers x bytes′ numbers′
+        → FoundPut line bytes numbers r shut k j t code m x bytes′ numbers′ → StepSays line g ps at shut labels k j t bytes numbers x bytes′ numbers′
     step-says {bytes} {numbers} {bytes′} {numbers′} {x} e h = said (subst (λ m. FoundPut line bytes numbers r shut k j t code m x bytes′ numbers′) e h)

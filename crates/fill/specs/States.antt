@@ -1,35 +1,17 @@
 -- Where no bracket at the front waits for its kind.
 use mathlib.Core.Path.{_≡_}
-use mathlib.Core.Bool.{Bool, true, false}
+use mathlib.Core.Bool.{Bool, true, false, not}
 use mathlib.Core.List.{[]}
 use Prim.Native.Nat.{ℕ}
 use Rattle.scope.specs.declared.grammar.Kind.{Kind}
 use Rattle.scope.specs.declared.grammar.Mode.{Mode}
-use Rattle.scope.specs.declared.grammar.Mode.the-variants.{Front, Undecided, Counted, Referred, Caret, Counting, Labiles, NTerms, Start, Single, Opened, UnsureOpened, InRange, InUnsure, RangeEnd, Ranged, UnsureEnd, CStart, CTerms}
 use Rattle.scope.specs.Reading.{Held, State, dead, outside, inside}
 use Rattle.scope.specs.Kinds.{isUnknown}
+use Rattle.reading_laws.specs.Acts.{waits}
 
 -- no bracket at the front waits
 abbrev pub decided : Mode → Bool
-decided Front = true
-decided Undecided = false
-decided Counted = false
-decided Referred = false
-decided Caret = false
-decided Counting = false
-decided Labiles = true
-decided NTerms = true
-decided Start = true
-decided Single = true
-decided Opened = true
-decided UnsureOpened = true
-decided InRange = true
-decided InUnsure = true
-decided RangeEnd = true
-decided Ranged = true
-decided UnsureEnd = true
-decided CStart = true
-decided CTerms = true
+decided m = not (waits m)
 
 abbrev pub NoneWaits : Mode → Held ℕ → Type 0
 NoneWaits m h = decided m ≡ true → h .run ≡ []

@@ -66,7 +66,7 @@ pub record Opening : Type 0 where
   pub held : Held ℕ
 
 abbrev pub contextIn : Slot → List (Part ℕ) → Context ℕ
-contextIn s ps = record { shut = s .shut; refers = s .refers; parts = ps }
+contextIn s ps = record { shut = s .shut; refers = s .refers; labels = s .labels; parts = ps }
 
 abbrev pub bracketsIn : Held ℕ → ℕ
 bracketsIn h = length (h .brackets) + length (h .run)
@@ -74,12 +74,13 @@ bracketsIn h = length (h .brackets) + length (h .run)
 abbrev pub textsIn : Held ℕ → ℕ
 textsIn h = length (flat bracketTexts (h .brackets)) + length (flat bracketTexts (h .run))
 
-pub record Begun (line : List ℕ) (g : Opening) (ps : List (Part ℕ)) (at shut : ℕ) (refers : Bool) (k j t code : ℕ) (mass : ℤ) : Type 0 where
+pub record Begun (line : List ℕ) (g : Opening) (ps : List (Part ℕ)) (at shut : ℕ) (refers labels : Bool) (k j t code : ℕ) (mass : ℤ) : Type 0 where
   pub reads : rest line at (inside (g .slot) (g .place) (g .held) (begin (contextIn (g .slot) ps))) ≡ holds (g .line)
   pub within : Within (g .line)
   pub settled : Settled (inside (g .slot) (g .place) (g .held) (begin (contextIn (g .slot) ps)))
   pub in-line : at ≤ length line
   pub shuts : g .slot .shut ≡ shut
+  pub allows : g .slot .labels ≡ labels
   pub may-refer : (g .slot .refers && none? ps) ≡ refers
   pub no-reference : refers? ps ≡ false
   pub brackets : bracketsIn (g .held) ≡ k
@@ -93,10 +94,10 @@ pub record Roomy (bytes : List ℕ) (numbers : List ℤ) : Type 0 where
   pub bytes-long : bytesSize ≤ length bytes
   pub numbers-long : numbersSize ≤ length numbers
 
-pub record Starts (line bytes : List ℕ) (numbers : List ℤ) (at shut : ℕ) (refers : Bool) (k j t code : ℕ) (mass : ℤ) : Type 0 where
+pub record Starts (line bytes : List ℕ) (numbers : List ℤ) (at shut : ℕ) (refers labels : Bool) (k j t code : ℕ) (mass : ℤ) : Type 0 where
   pub opening : Opening
   pub parts : List (Part ℕ)
-  pub begun : Begun line opening parts at shut refers k j t code mass
+  pub begun : Begun line opening parts at shut refers labels k j t code mass
   pub roomy : Roomy bytes numbers
 
 -- one part more
@@ -107,10 +108,10 @@ pub record PartStored (q : Part ℕ) (k j t : ℕ) (bytes : List ℕ) (numbers :
   pub bytes-are : bytes′ ≡ sets (sets bytes (textsAt + t) (packed q)) (partAt k j) (partRow t q)
   pub numbers-are : numbers′ ≡ set numbers (massAt k j) (massIn (q .value))
 
-pub record Stepped (line : List ℕ) (g : Opening) (ps : List (Part ℕ)) (at shut k j t : ℕ) (bytes : List ℕ) (numbers : List ℤ) (p : Parted) (bytes′ : List ℕ) (numbers′ : List ℤ) : Type 0 where
+pub record Stepped (line : List ℕ) (g : Opening) (ps : List (Part ℕ)) (at shut : ℕ) (labels : Bool) (k j t : ℕ) (bytes : List ℕ) (numbers : List ℤ) (p : Parted) (bytes′ : List ℕ) (numbers′ : List ℤ) : Type 0 where
   pub part : Part ℕ
   pub stored : PartStored part k j t bytes numbers bytes′ numbers′
-  pub begun : Begun line g (ps ++ (part ∷ [])) (p .at) shut false k (j + 1) (p .texts) (p .code) (p .mass)
+  pub begun : Begun line g (ps ++ (part ∷ [])) (p .at) shut false labels k (j + 1) (p .texts) (p .code) (p .mass)
   pub past : at < p .at
 
 pub record ClosedBy (line : List ℕ) (g : Opening) (ps : List (Part ℕ)) (at k j t : ℕ) (bytes : List ℕ) (numbers : List ℤ) (p : Parted) (bytes′ : List ℕ) (numbers′ : List ℤ) : Type 0 where
@@ -124,7 +125,7 @@ pub record ClosedBy (line : List ℕ) (g : Opening) (ps : List (Part ℕ)) (at k
   pub score-code : p .code ≡ scoreCode (scoreOf (ps ++ (part ∷ [])))
   pub score-mass : p .mass ≡ given (scoreOf (ps ++ (part ∷ []))) millionths (pos 0)
 
-abbrev pub StepSays : List ℕ → Opening → List (Part ℕ) → ℕ → ℕ → ℕ → ℕ → ℕ → List ℕ → List ℤ → Step → List ℕ → List ℤ → Type 0
-StepSays line g ps at shut k j t bytes numbers Lost bytes′ numbers′ = ⊥
-StepSays line g ps at shut k j t bytes numbers (More p) bytes′ numbers′ = Stepped line g ps at shut k j t bytes numbers p bytes′ numbers′
-StepSays line g ps at shut k j t bytes numbers (Closed p) bytes′ numbers′ = ClosedBy line g ps at k j t bytes numbers p bytes′ numbers′
+abbrev pub StepSays : List ℕ → Opening → List (Part ℕ) → ℕ → ℕ → Bool → ℕ → ℕ → ℕ → List ℕ → List ℤ → Step → List ℕ → List ℤ → Type 0
+StepSays line g ps at shut labels k j t bytes numbers Lost bytes′ numbers′ = ⊥
+StepSays line g ps at shut labels k j t bytes numbers (More p) bytes′ numbers′ = Stepped line g ps at shut labels k j t bytes numbers p bytes′ numbers′
+StepSays line g ps at shut labels k j t bytes numbers (Closed p) bytes′ numbers′ = ClosedBy line g ps at k j t bytes numbers p bytes′ numbers′

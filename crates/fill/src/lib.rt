@@ -349,16 +349,17 @@ fn part_step(
     at: usize,
     shut: u8,
     refers: bool,
+    labels: bool,
     k: usize,
     j: usize,
     t: usize,
     code: u8,
     mass: i64,
 ) -> Step
-    requires { ⌜ Starts (now line) (now bytes) (now numbers) at shut refers k j t code mass ⌝ }
-    ensures { λ r. ⌜ ((g : Opening) (ps : List (Part ℕ)) → Begun (now (line .entry)) g ps at shut refers k j t code mass → StepSays (now (line .entry)) g ps at shut k j t (now (bytes .entry)) (now (numbers .entry)) r (now (bytes .exit)) (now (numbers .exit))) ⌝ }
+    requires { ⌜ Starts (now line) (now bytes) (now numbers) at shut refers labels k j t code mass ⌝ }
+    ensures { λ r. ⌜ ((g : Opening) (ps : List (Part ℕ)) → Begun (now (line .entry)) g ps at shut refers labels k j t code mass → StepSays (now (line .entry)) g ps at shut labels k j t (now (bytes .entry)) (now (numbers .entry)) r (now (bytes .exit)) (now (numbers .exit))) ⌝ }
 {
-    let found = parts::part_at(line, at, shut, refers);
+    let found = parts::part_at(line, at, labels, refers);
     match found {
         Found::Stuck(_) => Step::Lost,
         Found::Read(p) => put_found(line, bytes, numbers, p, shut, k, j, t, code, mass),
@@ -409,6 +410,7 @@ fn put_parts(
     at: usize,
     shut: u8,
     refers: bool,
+    labels: bool,
     k: usize,
     j: usize,
     t: usize,
@@ -418,10 +420,23 @@ fn put_parts(
     first: usize,
     last: usize,
 ) -> Put
-    requires { ⌜ Starts (now line) (now bytes) (now numbers) at shut refers k j t code mass × Positions first last ⌝ }
-    ensures { λ r. ⌜ ((g : Opening) (ps : List (Part ℕ)) (a : Before) → Begun (now (line .entry)) g ps at shut refers k j t code mass → Laid a ps k (textsIn (g .held)) (now (bytes .entry)) (now (numbers .entry)) → PutSays (now (line .entry)) g a at kind first last r (now (bytes .exit)) (now (numbers .exit))) ⌝ }
+    requires { ⌜ Starts (now line) (now bytes) (now numbers) at shut refers labels k j t code mass × Positions first last ⌝ }
+    ensures { λ r. ⌜ ((g : Opening) (ps : List (Part ℕ)) (a : Before) → Begun (now (line .entry)) g ps at shut refers labels k j t code mass → Laid a ps k (textsIn (g .held)) (now (bytes .entry)) (now (numbers .entry)) → PutSays (now (line .entry)) g a at kind first last r (now (bytes .exit)) (now (numbers .exit))) ⌝ }
 {
-    let s = part_step(line, bytes, numbers, at, shut, refers, k, j, t, code, mass);
+    let s = part_step(
+        line,
+        bytes,
+        numbers,
+        at,
+        shut,
+        refers,
+        labels,
+        k,
+        j,
+        t,
+        code,
+        mass,
+    );
     match s {
         Step::Lost => Put::NotPut,
         Step::Closed(p) => close(bytes, numbers, k, kind, first, last, j, p),
@@ -432,6 +447,7 @@ fn put_parts(
             p.at,
             shut,
             false,
+            labels,
             k,
             j + 1,
             p.texts,
@@ -653,6 +669,7 @@ fn put_bracket(
         next,
         slot.shut,
         slot.refers,
+        slot.labels,
         old.brackets,
         0,
         old.texts,
@@ -698,7 +715,7 @@ fn one_step(line: &[u8], bytes: &mut [u8], numbers: &mut [i64], s: Progress) -> 
         Act::Residue(section, m) => put_residue(bytes, s, next, b, section, m),
         Act::Begin(slot) => put_bracket(line, bytes, numbers, s, slot, next),
         Act::Digit => put_digit(bytes, s, next, b),
-        Act::RunEnds => run_over(s, next, Mode::Front),
+        Act::RunEnds => run_over(s, next, Mode::Runs),
         Act::TermEnds => put_terms(bytes, s, next),
     }
 }

@@ -39,9 +39,9 @@ pub record SpeltText (hashes : Bool) (w : List ℕ) : Type 0 where
   pub fine : goodText (outerByte hashes) tree ≡ true
   pub prints : w ≡ printText tree
 
-pub record SpeltBracket (i shut : ℕ) (references : Bool) (w : List ℕ) (ps : List (Part ℕ)) : Type 0 where
+pub record SpeltBracket (i shut : ℕ) (references labels : Bool) (w : List ℕ) (ps : List (Part ℕ)) : Type 0 where
   pub tree : Inside
-  pub fine : goodInside shut references tree ≡ true
+  pub fine : goodInside references labels tree ≡ true
   pub prints : w ≡ printInside tree ++ (shut ∷ [])
   pub says : ps ≡ meansInside i tree
 
@@ -99,9 +99,10 @@ pub record Laws : Type 0 where
   pub numbers : (i : ℕ) (minus : Bool) (w : List ℕ) (x : Number ℕ) → ReadNumber i minus w x ↔ SpeltNumber i minus w x
   -- "a text is plain bytes and closed pairs that hold texts"
   pub texts : (hashes : Bool) (w : List ℕ) → textRun hashes [] w ≡ some [] ↔ SpeltText hashes w
-  -- "A bracket is parts split by `|`, none empty, or a lone reference `#label`": the bytes from the place i on, with the byte that closes it
-  pub brackets : (i shut : ℕ) (references : Bool) (w : List ℕ) (ps : List (Part ℕ)) → isShutting shut ≡ true
-      → notedRun i (going (begin (context shut references []))) w ≡ closed ps ↔ SpeltBracket i shut references w ps
+  -- "A bracket is parts split by `|`, none empty, or a lone reference `#label`": the bytes from the place i on, with the byte that closes it, whether a
+  -- reference may stand in it and whether its parts may have labels
+  pub brackets : (i shut : ℕ) (references labels : Bool) (w : List ℕ) (ps : List (Part ℕ)) → isShutting shut ≡ true
+      → notedRun i (going (begin (context shut references labels []))) w ≡ closed ps ↔ SpeltBracket i shut references labels w ps
   -- "A line has this order": the reader accepts exactly the lines that a good spelling prints, and reads them to what it means, each residue, bracket,
   -- part, label, number and count at its place
   pub lines : (s : List ℕ) (l : Line ℕ) → reading s ≡ holds l ↔ SpeltLine s l

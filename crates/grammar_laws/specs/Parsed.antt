@@ -13,13 +13,13 @@ use Rattle.scope.specs.declared.grammar.Section.the-variants.{RangeNext, Unsure
 use Rattle.scope.specs.declared.grammar.Kind.{Kind}
 use Rattle.scope.specs.declared.grammar.Kind.the-variants.{Unknown, NTerm, OnResidue, OnRange, CTerm}
 use Rattle.scope.specs.declared.grammar.Mode.{Mode}
-use Rattle.scope.specs.declared.grammar.Mode.the-variants.{Front, Undecided, Counted, Referred, Caret, Counting, Labiles, NTerms, Start, Single, Opened, UnsureOpened, InRange, InUnsure, RangeEnd, Ranged, UnsureEnd, CStart, CTerms}
+use Rattle.scope.specs.declared.grammar.Mode.the-variants.{Front, Runs, Undecided, Counted, Referred, Caret, Counting, Labiles, NTerms, Start, Single, Opened, UnsureOpened, InRange, InUnsure, RangeEnd, Ranged, UnsureEnd, CStart, CTerms}
 use Rattle.scope.specs.declared.grammar.Slot.{Slot}
 use Rattle.scope.specs.declared.grammar.Act.{Act}
 use Rattle.scope.specs.declared.grammar.Act.the-variants.{Stop, Go, Residue as aResidue, Begin, Digit, RunEnds, TermEnds}
-use Rattle.scope.specs.Bytes.{isLetter, isDigit, openSquare, shutSquare, openCurly, shutCurly, openRound, shutRound, caret, question, dash}
+use Rattle.scope.specs.Bytes.{isLetter, isDigit, openSquare, shutSquare, openCurly, openRound, shutRound, caret, question, dash}
 use Rattle.scope.specs.Content.{begin, Inner, Content, lost, closed, going, innerStep}
-use Rattle.scope.specs.Reading.{square, front, labile, element, further, groupFirst, inGroup, undecided, counted, referred, act, mayEnd, Held, withResidue, withBracket, withDigit, asNTerm, settledRun, State, dead, outside, inside, perform, refers?, modeAfter, resume, step, start, lineOf}
+use Rattle.scope.specs.Reading.{square, front, labile, atFront, element, further, groupFirst, inGroup, undecided, counted, referred, act, mayEnd, Held, withResidue, withBracket, withDigit, asNTerm, settledRun, State, dead, outside, inside, perform, refers?, modeAfter, resume, step, start, lineOf}
 use Rattle.reading_laws.specs.Run.{told}
 use Rattle.reading_laws.specs.Unnoted.{Place, Parts, context, contentRun, lineRun, line-nil, line-cons, same-mode, content-cons, content-nil}
 use Rattle.basics.specs.Tests.{both}
@@ -127,6 +127,7 @@ pub data Either (l : List ℕ) : Type 0 where
 
 abbrev Left : Mode → List ℕ → Type 0
 Left Front l = Whole l
+Left Runs l = Whole l
 Left Undecided l = Either l
 Left Counted l = Counts l
 Left Referred l = Squares true Dashed l
@@ -149,7 +150,7 @@ Left CTerms l = Squares true Empty l
 -- ---- what a byte leaves, by what it does
 record Taken (s : Slot) (l : List ℕ) : Type 0 where
   pub tree : Inside
-  pub good : goodInside (s .shut) (s .refers) tree ≡ true
+  pub good : goodInside (s .refers) (s .labels) tree ≡ true
   pub rest : List ℕ
   pub all : l ≡ (printInside tree ++ (s .shut ∷ [])) ++ rest
   pub then : Left (modeAfter s (bareInside tree)) rest
@@ -160,7 +161,7 @@ After (Go m) l = Left m l
 After (aResidue s m) l = Left m l
 After (Begin s) l = Taken s l
 After Digit l = Left Counting l
-After RunEnds l = Left Front l
+After RunEnds l = Left Runs l
 After TermEnds l = Left Start l
 
 by : {G : Type 0} (t : Bool) (x y : Act) (l : List ℕ) → After (cond t x y) l → (t ≡ true → After x l → G) → (t ≡ false → After y l → G) → G
@@ -184,27 +185,27 @@ each-none f l = ap (λ z. z ++ l) (sym (flat-nil f))
 
 -- ---- squares
 no-squares : (r : Bool) (T : List ℕ → Type 0) (l : List ℕ) → T l → Squares r T l
-no-squares r T l t = record { brackets = []; good = every-nil (goodInside shutSquare r); rest = l; all = each-none printSquare l; then = t }
+no-squares r T l t = record { brackets = []; good = every-nil (goodInside r true); rest = l; all = each-none printSquare l; then = t }
 
 square-bytes : (b : ℕ) (x : Inside) (l v : List ℕ) → b ≡ openSquare → l ≡ (printInside x ++ (shutSquare ∷ [])) ++ v → b ∷ l ≡ printSquare x ++ v
 square-bytes b x l v e g = ap (λ z. z ∷ l) e ∙ ap (λ z. openSquare ∷ z) g
 
-squares-cons : (r : Bool) (T : List ℕ → Type 0) (b : ℕ) (x : Inside) (l v : List ℕ) → b ≡ openSquare → goodInside shutSquare r x ≡ true → l ≡ (printInside x ++ (shutSquare ∷ [])) ++ v → Squares r T v → Squares r T (b ∷ l)
+squares-cons : (r : Bool) (T : List ℕ → Type 0) (b : ℕ) (x : Inside) (l v : List ℕ) → b ≡ openSquare → goodInside r true x ≡ true → l ≡ (printInside x ++ (shutSquare ∷ [])) ++ v → Squares r T v → Squares r T (b ∷ l)
 squares-cons r T b x l v e g a w =
     record {
       brackets = x ∷ w .brackets;
-      good = every-cons (goodInside shutSquare r) x (w .brackets) g (w .good);
+      good = every-cons (goodInside r true) x (w .brackets) g (w .good);
       rest = w .rest;
       all = each-front printSquare x (w .brackets) (b ∷ l) v (w .rest) (square-bytes b x l v e a) (w .all);
       then = w .then;
     }
 
-some-squares : (r : Bool) (T : List ℕ → Type 0) (b : ℕ) (x : Inside) (l v : List ℕ) → b ≡ openSquare → goodInside shutSquare r x ≡ true → l ≡ (printInside x ++ (shutSquare ∷ [])) ++ v → Squares r T v → SomeSquares r T (b ∷ l)
+some-squares : (r : Bool) (T : List ℕ → Type 0) (b : ℕ) (x : Inside) (l v : List ℕ) → b ≡ openSquare → goodInside r true x ≡ true → l ≡ (printInside x ++ (shutSquare ∷ [])) ++ v → Squares r T v → SomeSquares r T (b ∷ l)
 some-squares r T b x l v e g a w =
     record {
       one = x;
       more = w .brackets;
-      good = every-cons (goodInside shutSquare r) x (w .brackets) g (w .good);
+      good = every-cons (goodInside r true) x (w .brackets) g (w .good);
       rest = w .rest;
       all = each-front printSquare x (w .brackets) (b ∷ l) v (w .rest) (square-bytes b x l v e a) (w .all);
       then = w .then;
@@ -385,17 +386,17 @@ referred-left b l a =
     (λ e c. by (eqb b dash) _ _ l c (λ f w. dashed b l (eqb-true b dash f) w) (λ f w. absurd w))
 
 no-curlies : (l : List ℕ) → Sequence l → Curlies l
-no-curlies l w = record { labiles = []; good = every-nil (goodInside shutCurly false); front = []; good-front = every-nil (goodInside shutSquare true); rest = l; all = each-none printCurly l; then = w }
+no-curlies l w = record { labiles = []; good = every-nil (goodInside false false); front = []; good-front = every-nil (goodInside true true); rest = l; all = each-none printCurly l; then = w }
 
 -- N-terminal brackets, the first of which begins here
-fronted : (b : ℕ) (x : Inside) (l v : List ℕ) → b ≡ openSquare → goodInside shutSquare true x ≡ true → l ≡ (printInside x ++ (shutSquare ∷ [])) ++ v → Squares true Dashed v → Curlies (b ∷ l)
+fronted : (b : ℕ) (x : Inside) (l v : List ℕ) → b ≡ openSquare → goodInside true true x ≡ true → l ≡ (printInside x ++ (shutSquare ∷ [])) ++ v → Squares true Dashed v → Curlies (b ∷ l)
 fronted b x l v e g a w =
     let d = w .then in
     record {
       labiles = [];
-      good = every-nil (goodInside shutCurly false);
+      good = every-nil (goodInside false false);
       front = x ∷ w .brackets;
-      good-front = every-cons (goodInside shutSquare true) x (w .brackets) g (w .good);
+      good-front = every-cons (goodInside true true) x (w .brackets) g (w .good);
       rest = d .rest;
       all =
           each-front printSquare x (w .brackets) (b ∷ l) v (w .rest) (square-bytes b x l v e a) (w .all)
@@ -410,7 +411,7 @@ curly-cons b l e w =
     let c : Curlies (w .rest) = subst (λ (z : Mode). Left z (w .rest)) (same-mode (bareInside (w .tree)) Labiles) (w .then) in
     record {
       labiles = w .tree ∷ c .labiles;
-      good = every-cons (goodInside shutCurly false) (w .tree) (c .labiles) (w .good) (c .good);
+      good = every-cons (goodInside false false) (w .tree) (c .labiles) (w .good) (c .good);
       front = c .front;
       good-front = c .good-front;
       rest = c .rest;
@@ -431,13 +432,13 @@ labiles-left b l a =
 run-over : (b : ℕ) (l : List ℕ) → b ≡ question → Whole l → Marks (b ∷ l)
 run-over b l e w = record { marked = []; good = every-nil goodMarked; rest = l; all = ap (λ z. z ∷ l) e ∙ each-none printMarked _; then = w }
 
-mark-cons : (b : ℕ) (x : Inside) (l v : List ℕ) → b ≡ openSquare → goodInside shutSquare false x ≡ true → l ≡ (printInside x ++ (shutSquare ∷ [])) ++ v → Counts v → Marks (b ∷ l)
+mark-cons : (b : ℕ) (x : Inside) (l v : List ℕ) → b ≡ openSquare → goodInside false true x ≡ true → l ≡ (printInside x ++ (shutSquare ∷ [])) ++ v → Counts v → Marks (b ∷ l)
 mark-cons b x l v e g a w =
     let k : Marked = record { inside = x; count = w .count } in
     let n = w .then in
     record {
       marked = k ∷ n .marked;
-      good = every-cons goodMarked k (n .marked) (both (goodInside shutSquare false x) (goodCount (w .count)) g (w .good)) (n .good);
+      good = every-cons goodMarked k (n .marked) (both (goodInside false true x) (goodCount (w .count)) g (w .good)) (n .good);
       rest = n .rest;
       all = each-front printMarked k (n .marked) (b ∷ l) (w .rest) (question ∷ n .rest) (square-bytes b x l v e a ∙ ap (λ z. printSquare x ++ z) (w .all) ∙ sym (append-assoc (printSquare x) (printCount (w .count)) (w .rest))) (n .all);
       then = n .then;
@@ -475,14 +476,14 @@ caret-left b l a =
     (λ e w. absurd w)
 
 -- ---- the front
-no-tag : (x : Inside) → refers? (bareInside x) ≡ false → goodInside shutSquare true x ≡ true → goodInside shutSquare false x ≡ true
+no-tag : (x : Inside) → refers? (bareInside x) ≡ false → goodInside true true x ≡ true → goodInside false true x ≡ true
 no-tag (parts p ps) e g = g
 no-tag (refers t) e g = absurd (true≢false e)
 
 -- a bracket at the front: its kind is open, or it is a reference
 pub data Opening (b : ℕ) (l : List ℕ) : Type 0 where
   as-run : Marks (b ∷ l) → Opening b l
-  as-front : (x : Inside) (v : List ℕ) → goodInside shutSquare true x ≡ true → l ≡ (printInside x ++ (shutSquare ∷ [])) ++ v → Squares true Dashed v → Opening b l
+  as-front : (x : Inside) (v : List ℕ) → goodInside true true x ≡ true → l ≡ (printInside x ++ (shutSquare ∷ [])) ++ v → Squares true Dashed v → Opening b l
 
 opening : (b : ℕ) (l : List ℕ) → b ≡ openSquare → Taken front l → Opening b l
 opening b l e w = go (refers? (bareInside (w .tree))) refl (w .then)
@@ -540,8 +541,8 @@ opening-whole : (b : ℕ) (l : List ℕ) → b ≡ openSquare → Opening b l �
 opening-whole b l e (as-run m) = runs-cons b l e m
 opening-whole b l e (as-front x v g a s) = no-runs (b ∷ l) (fronted b x l v e g a s)
 
-front-left : (b : ℕ) (l : List ℕ) → After (act Front b) l → Whole (b ∷ l)
-unfolding act After
+front-left : (b : ℕ) (l : List ℕ) → After (atFront b) l → Whole (b ∷ l)
+unfolding After
 front-left b l a =
     by (eqb b openSquare) _ _ l a (λ e (w : Taken front l). opening-whole b l (eqb-true b openSquare e) (opening b l (eqb-true b openSquare e) w))
     (λ e c.
@@ -558,7 +559,9 @@ unsureEnd-left b l a = further-left b l a
 
 -- ---- all modes
 left-cons : (m : Mode) (b : ℕ) (l : List ℕ) → After (act m b) l → Left m (b ∷ l)
+unfolding act
 left-cons Front b l a = front-left b l a
+left-cons Runs b l a = front-left b l a
 left-cons Undecided b l a = undecided-left b l a
 left-cons Counted b l a = counted-left b l a
 left-cons Referred b l a = referred-left b l a
@@ -579,7 +582,7 @@ left-cons CStart b l a = cstart-left b l a
 left-cons CTerms b l a = cterms-left b l a
 
 no-tail : Tail []
-no-tail = record { elems = []; good = every-nil goodElement; back = []; good-back = every-nil (goodInside shutSquare true); all = each-none printElement [] }
+no-tail = record { elems = []; good = every-nil goodElement; back = []; good-back = every-nil (goodInside true true); all = each-none printElement [] }
 
 left-nil : (m : Mode) → Ending m → Left m []
 left-nil Single single-ends = no-squares true Tail [] no-tail
@@ -630,10 +633,10 @@ split (b ∷ l) s h c e = go (innerStep tt c b) refl (ap (λ z. there? (told z))
 abbrev Upto : ℕ → Type 0
 Upto n = (m : Mode) (h : Held Place) (l : List ℕ) → length l ≤ n → Accepts (outside m h) l → Left m l
 
-taken : (n : ℕ) → Upto n → (s : Slot) (h : Held Place) (l : List ℕ) → length l ≤ n → Accepts (inside s tt h (begin (context (s .shut) (s .refers) []))) l → Taken s l
+taken : (n : ℕ) → Upto n → (s : Slot) (h : Held Place) (l : List ℕ) → length l ≤ n → Accepts (inside s tt h (begin (context (s .shut) (s .refers) (s .labels) []))) l → Taken s l
 taken n ih s h l k e =
-    let i = split l s h (begin (context (s .shut) (s .refers) [])) e in
-    let j = closed-spelled (s .shut) (s .refers) (i .inner) (i .parts) (i .closes) in
+    let i = split l s h (begin (context (s .shut) (s .refers) (s .labels) [])) e in
+    let j = closed-spelled (s .shut) (s .refers) (s .labels) (i .inner) (i .parts) (i .closes) in
     let short : length (i .rest) ≤ n = omega (arith, ap length (i .all) ∙ length-append (i .inner) (i .rest)) in
     record {
       tree = j .tree;
@@ -650,7 +653,7 @@ after n ih (Go m) h b l k e = ih m h l k e
 after n ih (aResidue s m) h b l k e = ih m (withResidue tt b s h) l k e
 after n ih (Begin s) h b l k e = taken n ih s h l k e
 after n ih Digit h b l k e = ih Counting (withDigit tt b h) l k e
-after n ih RunEnds h b l k e = ih Front (settledRun (λ q. q) h) l k e
+after n ih RunEnds h b l k e = ih Runs (settledRun (λ q. q) h) l k e
 after n ih TermEnds h b l k e = ih Start (settledRun asNTerm h) l k e
 
 none-left : Upto 0

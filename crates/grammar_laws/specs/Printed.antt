@@ -499,13 +499,13 @@ module _ (c : Context ℕ) where
   -- ---- parts
   value-part : (p : Part ℕ) (e : ℕ) → closes e ≡ true → valueEnd c p e ≡ partEnd c p e
   unfolding valueEnd
-  value-part p e h = pick-false (eqb e hash && eqb (c .shut) shutSquare) _ _ (ap (λ z. z && eqb (c .shut) shutSquare) (close-hash e h))
+  value-part p e h = pick-false (eqb e hash && c .labels) _ _ (ap (λ z. z && c .labels) (close-hash e h))
 
-  value-hash : (p : Part ℕ) → eqb (c .shut) shutSquare ≡ true → valueEnd c p hash ≡ going (hashed c p)
+  value-hash : (p : Part ℕ) → c .labels ≡ true → valueEnd c p hash ≡ going (hashed c p)
   unfolding valueEnd
-  value-hash p e = pick-true (eqb hash hash && eqb (c .shut) shutSquare) _ _ e
+  value-hash p e = pick-true (eqb hash hash && c .labels) _ _ e
 
-  piece-run : (i : ℕ) (p : Piece) (e : ℕ) → goodPiece (eqb (c .shut) shutSquare) p ≡ true → closes e ≡ true
+  piece-run : (i : ℕ) (p : Piece) (e : ℕ) → goodPiece (c .labels) p ≡ true → closes e ≡ true
       → notedRun i (going (begin c)) (printPiece p ++ (e ∷ [])) ≡ partEnd c (meansPiece i p) e
   piece-run i p e g h = go (p .tag) (and-right (goodBase (p .base)) _ g)
     where
@@ -513,20 +513,20 @@ module _ (c : Context ℕ) where
       b = p .base
 
       ok : goodBase b ≡ true
-      ok = and-left (goodBase b) (goodTag (p .tag) && (not (there? (p .tag)) || (eqb (c .shut) shutSquare && tagFits (formIn b)))) g
+      ok = and-left (goodBase b) (goodTag (p .tag) && (not (there? (p .tag)) || (c .labels && tagFits (formIn b)))) g
 
-      go : (o : Option Tag) → (goodTag o && (not (there? o) || (eqb (c .shut) shutSquare && tagFits (formIn b)))) ≡ true
+      go : (o : Option Tag) → (goodTag o && (not (there? o) || (c .labels && tagFits (formIn b)))) ≡ true
           → notedRun i (going (begin c)) ((printBase b ++ printTag o) ++ (e ∷ [])) ≡ partEnd c (record { key = keyIn b; value = valueIn i b; label = meansTag (i + length (printBase b)) o; at = i }) e
       go none q =
           ap (λ z. notedRun i (going (begin c)) (z ++ (e ∷ []))) (append-nil (printBase b))
           ∙ base-run i b e ok (close e h) (λ z. absurd (false≢true (sym (close-hash e h) ∙ z)))
           ∙ value-part _ e h
       go (some t) q =
-          let r = and-right (goodTag (some t)) (eqb (c .shut) shutSquare && tagFits (formIn b)) q in
+          let r = and-right (goodTag (some t)) (c .labels && tagFits (formIn b)) q in
           ap (notedRun i (going (begin c))) (group (printBase b) (t .name ++ printScore (t .score)))
           ∙ onward i (begin c) (hashed c (unlabelled i (keyIn b) (valueIn i b))) (printBase b ++ (hash ∷ [])) ((t .name ++ printScore (t .score)) ++ (e ∷ [])) _
-          (base-run i b hash ok refl (λ z. and-right (eqb (c .shut) shutSquare) (tagFits (formIn b)) r) ∙ value-hash _ (and-left (eqb (c .shut) shutSquare) (tagFits (formIn b)) r))
-          (tag-run (i + length (printBase b ++ (hash ∷ []))) (unlabelled i (keyIn b) (valueIn i b)) t e (and-left (goodTag (some t)) (eqb (c .shut) shutSquare && tagFits (formIn b)) q) h)
+          (base-run i b hash ok refl (λ z. and-right (c .labels) (tagFits (formIn b)) r) ∙ value-hash _ (and-left (c .labels) (tagFits (formIn b)) r))
+          (tag-run (i + length (printBase b ++ (hash ∷ []))) (unlabelled i (keyIn b) (valueIn i b)) t e (and-left (goodTag (some t)) (c .labels && tagFits (formIn b)) q) h)
           ∙ ap (λ v. partEnd c (labelled (unlabelled i (keyIn b) (valueIn i b)) v (t .name) (meansScore (v + length (t .name)) (t .score))) e) (snoc-place i (printBase b) hash)
         where
           group : (x y : List ℕ) → (x ++ (hash ∷ y)) ++ (e ∷ []) ≡ (x ++ (hash ∷ [])) ++ (y ++ (e ∷ []))
@@ -556,30 +556,30 @@ unfolding partEnd
 part-shut c p = pick-true (eqb (c .shut) (c .shut)) _ _ (eq-eqb (c .shut) (c .shut) refl)
 
 -- ---- brackets
-pieces-run : (i : ℕ) (ps : List Piece) (p : Piece) (c : Context ℕ) → isShutting (c .shut) ≡ true → goodPieces (eqb (c .shut) shutSquare) p ps ≡ true
+pieces-run : (i : ℕ) (ps : List Piece) (p : Piece) (c : Context ℕ) → isShutting (c .shut) ≡ true → goodPieces (c .labels) p ps ≡ true
     → notedRun i (going (begin c)) (printPieces p ps ++ (c .shut ∷ [])) ≡ closed (c .parts ++ meansPieces i p ps)
 unfolding printPieces goodPieces meansPieces
 pieces-run i [] p c s g = piece-run c i p (c .shut) g (shut-closes (c .shut) s) ∙ part-shut c (meansPiece i p)
 pieces-run i (q ∷ ps) p c s g =
     ap (notedRun i (going (begin c))) (group (printPiece p) (printPieces q ps))
     ∙ onward i (begin c) (begin (with c (meansPiece i p))) (printPiece p ++ (bar ∷ [])) (printPieces q ps ++ (c .shut ∷ [])) _
-    (piece-run c i p bar (and-left (goodPiece (eqb (c .shut) shutSquare) p) (goodPieces (eqb (c .shut) shutSquare) q ps) g) refl ∙ part-bar c (meansPiece i p) s (no-base i (p .base)))
+    (piece-run c i p bar (and-left (goodPiece (c .labels) p) (goodPieces (c .labels) q ps) g) refl ∙ part-bar c (meansPiece i p) s (no-base i (p .base)))
     (ap (λ v. notedRun v (going (begin (with c (meansPiece i p)))) (printPieces q ps ++ (c .shut ∷ []))) (snoc-place i (printPiece p) bar)
-    ∙ pieces-run (i + length (printPiece p) + 1) ps q (with c (meansPiece i p)) s (and-right (goodPiece (eqb (c .shut) shutSquare) p) (goodPieces (eqb (c .shut) shutSquare) q ps) g)
+    ∙ pieces-run (i + length (printPiece p) + 1) ps q (with c (meansPiece i p)) s (and-right (goodPiece (c .labels) p) (goodPieces (c .labels) q ps) g)
     ∙ ap closed (append-assoc (c .parts) (meansPiece i p ∷ []) (meansPieces (i + length (printPiece p) + 1) q ps)))
   where
     group : (x y : List ℕ) → (x ++ (bar ∷ y)) ++ (c .shut ∷ []) ≡ (x ++ (bar ∷ [])) ++ (y ++ (c .shut ∷ []))
     group x y = simp append-assoc
 
-lone-begins : (i shut : ℕ) → innerStep i (begin (context shut true [])) hash ≡ going (hashed (context shut true []) (unlabelled i NoKey reference))
+lone-begins : (i shut : ℕ) (labels : Bool) → innerStep i (begin (context shut true labels [])) hash ≡ going (hashed (context shut true labels []) (unlabelled i NoKey reference))
 unfolding innerStep textStep
-lone-begins i shut = refl
+lone-begins i shut labels = refl
 
 -- what a good bracket prints is read, up to the byte that closes it, to what it means
-pub inside-run : (i shut : ℕ) (r : Bool) (x : Inside) → isShutting shut ≡ true → goodInside shut r x ≡ true
-    → notedRun i (going (begin (context shut r []))) (printInside x ++ (shut ∷ [])) ≡ closed (meansInside i x)
-inside-run i shut r (parts p ps) s g = pieces-run i ps p (context shut r []) s g
-inside-run i shut true (refers t) s g =
-    then i (begin (context shut true [])) (hashed (context shut true []) (unlabelled i NoKey reference)) hash ((t .name ++ printScore (t .score)) ++ (shut ∷ [])) _ (lone-begins i shut)
-    (tag-run (context shut true []) (i + 1) (unlabelled i NoKey reference) t shut g (shut-closes shut s) ∙ part-shut (context shut true []) _)
-inside-run i shut false (refers t) s g = absurd (false≢true g)
+pub inside-run : (i shut : ℕ) (r labels : Bool) (x : Inside) → isShutting shut ≡ true → goodInside r labels x ≡ true
+    → notedRun i (going (begin (context shut r labels []))) (printInside x ++ (shut ∷ [])) ≡ closed (meansInside i x)
+inside-run i shut r labels (parts p ps) s g = pieces-run i ps p (context shut r labels []) s g
+inside-run i shut true labels (refers t) s g =
+    then i (begin (context shut true labels [])) (hashed (context shut true labels []) (unlabelled i NoKey reference)) hash ((t .name ++ printScore (t .score)) ++ (shut ∷ [])) _ (lone-begins i shut labels)
+    (tag-run (context shut true labels []) (i + 1) (unlabelled i NoKey reference) t shut g (shut-closes shut s) ∙ part-shut (context shut true labels []) _)
+inside-run i shut false labels (refers t) s g = absurd (false≢true g)

@@ -57,19 +57,19 @@ spelt-text h w r = ap (textRun h []) (r .prints) ∙ outer-run h (r .tree) (r .f
 
 -- ---- brackets
 -- that there is a tree is shown with nothing noted of places; what it means, places included, is then what is read of its bytes
-read-bracket : (i shut : ℕ) (r : Bool) (w : List ℕ) (ps : List (Part ℕ)) → isShutting shut ≡ true → notedRun i (going (begin (context shut r []))) w ≡ closed ps → SpeltBracket i shut r w ps
-read-bracket i shut r w ps h e =
-    let x = closed-spelled shut r w (map (mapPart unnoted) ps) (sym (run-bare i (going (begin (context shut r []))) w) ∙ ap (mapContent unnoted) e) in
+read-bracket : (i shut : ℕ) (r labels : Bool) (w : List ℕ) (ps : List (Part ℕ)) → isShutting shut ≡ true → notedRun i (going (begin (context shut r labels []))) w ≡ closed ps → SpeltBracket i shut r labels w ps
+read-bracket i shut r labels w ps h e =
+    let x = closed-spelled shut r labels w (map (mapPart unnoted) ps) (sym (run-bare i (going (begin (context shut r labels []))) w) ∙ ap (mapContent unnoted) e) in
     record {
       tree = x .tree;
       fine = x .good;
       prints = x .prints;
-      says = closed-same ps _ (sym e ∙ ap (notedRun i (going (begin (context shut r [])))) (x .prints) ∙ inside-run i shut r (x .tree) h (x .good));
+      says = closed-same ps _ (sym e ∙ ap (notedRun i (going (begin (context shut r labels [])))) (x .prints) ∙ inside-run i shut r labels (x .tree) h (x .good));
     }
 
-spelt-bracket : (i shut : ℕ) (r : Bool) (w : List ℕ) (ps : List (Part ℕ)) → isShutting shut ≡ true → SpeltBracket i shut r w ps → notedRun i (going (begin (context shut r []))) w ≡ closed ps
-spelt-bracket i shut r w ps h x =
-    ap (notedRun i (going (begin (context shut r [])))) (x .prints) ∙ inside-run i shut r (x .tree) h (x .fine) ∙ ap closed (sym (x .says))
+spelt-bracket : (i shut : ℕ) (r labels : Bool) (w : List ℕ) (ps : List (Part ℕ)) → isShutting shut ≡ true → SpeltBracket i shut r labels w ps → notedRun i (going (begin (context shut r labels []))) w ≡ closed ps
+spelt-bracket i shut r labels w ps h x =
+    ap (notedRun i (going (begin (context shut r labels [])))) (x .prints) ∙ inside-run i shut r labels (x .tree) h (x .fine) ∙ ap closed (sym (x .says))
 
 -- ---- lines
 one-reading : (a b : Spelling) → good a ≡ true → good b ≡ true → print a ≡ print b → means a ≡ means b
@@ -97,7 +97,7 @@ laws =
     record {
       numbers = λ i s w x. (read-number i s w x, spelt-number i s w x);
       texts = λ h w. (read-text h w, spelt-text h w);
-      brackets = λ i shut r w ps h. (read-bracket i shut r w ps h, spelt-bracket i shut r w ps h);
+      brackets = λ i shut r labels w ps h. (read-bracket i shut r labels w ps h, spelt-bracket i shut r labels w ps h);
       lines = λ s l. (read-spelt s l, spelt-read s l);
       place-of-4 = λ s i. (stuck-stops s i, stops-stuck s i);
       only-reading = only-reading;

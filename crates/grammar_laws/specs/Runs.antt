@@ -18,8 +18,8 @@ use Rattle.reading_laws.specs.Unnoted.{contentStep, contentRun, lost-closed, go
 abbrev pub Parts : Type 0
 Parts = List (Part ℕ)
 
-abbrev pub context : ℕ → Bool → Parts → Context ℕ
-context shut r ps = record { shut = shut; refers = r; parts = ps }
+abbrev pub context : ℕ → Bool → Bool → Parts → Context ℕ
+context shut r labels ps = record { shut = shut; refers = r; labels = labels; parts = ps }
 
 -- ---- inside a bracket
 unfoldable pub notedStep : ℕ → Content ℕ → ℕ → Content ℕ

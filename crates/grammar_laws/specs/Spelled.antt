@@ -8,7 +8,7 @@ use lib.Dec.{eqb}
 use borrow.Author.Tests.{eqb-true}
 use Rattle.scope.specs.declared.grammar.Key.{Key}
 use Rattle.scope.specs.declared.grammar.Key.the-variants.{NoKey}
-use Rattle.scope.specs.Bytes.{isPrintable, isLetter, isDigit, isAlnum, isSign, isOpening, isShutting, closerOf, shutSquare, openSquare, openCurly, bar, hash, colon, plus, dash, openRound, shutRound, sameFolded, value}
+use Rattle.scope.specs.Bytes.{isPrintable, isLetter, isDigit, isAlnum, isSign, isOpening, isShutting, closerOf, openSquare, openCurly, bar, hash, colon, plus, dash, openRound, shutRound, sameFolded, value}
 use Rattle.scope.specs.Line.{Number, mass, text, reference, Part}
 use Rattle.scope.specs.Keys.{spell, keyOf, Form, massOrName, massOnly, digits, alnums, free, form, hashIsPlain, accessionByte}
 use Rattle.scope.specs.Content.{Digits, signed, digitStep, numberEnd, isPlain, textStep, Context, Inner, begin, plain, keyed, inNumber, inCode, inText, hashed, inLabel, scoring, inScore, scored, Content, lost, closed, going, with, unlabelled, labelled, isReference, partEnd, valueEnd, textEnd, behindKey, colonAfter, nameBehind, innerStep}
@@ -207,15 +207,12 @@ code-tag digits x e = refl
 code-tag alnums x e = refl
 code-tag free x e = e
 
--- ---- what is spelled so far: shut closes the bracket, r says whether a reference may stand in it
-module _ (shut : ℕ) (r : Bool) where
-  abbrev pub labels : Bool
-  labels = eqb shut shutSquare
-
+-- ---- what is spelled so far: shut closes the bracket, r says whether a reference may stand in it, labels whether its parts may have labels
+module _ (shut : ℕ) (r labels : Bool) where
   pub record Lead (c : Context Place) (w : List ℕ) : Type 0 where
     pub pieces : List Piece
     pub good : Each (Fine labels) pieces
-    pub is : c ≡ context shut r (map barePiece pieces)
+    pub is : c ≡ context shut r labels (map barePiece pieces)
     pub all : w ≡ fronts pieces
 
   pub record Plain (c : Context Place) (t w : List ℕ) : Type 0 where
@@ -252,7 +249,7 @@ module _ (shut : ℕ) (r : Bool) where
   -- what a label may follow
   pub data Tagged (c : Context Place) (p : Part Place) (w : List ℕ) : Type 0 where
     a-part : (x : Based c p w) → (labels && tagFits (formIn (x .base))) ≡ true → Tagged c p w
-    a-reference : r ≡ true → c ≡ context shut r [] → p ≡ unlabelled tt NoKey reference → w ≡ [] → Tagged c p w
+    a-reference : r ≡ true → c ≡ context shut r labels [] → p ≡ unlabelled tt NoKey reference → w ≡ [] → Tagged c p w
 
   pub record Pieced (c : Context Place) (p : Part Place) (w : List ℕ) : Type 0 where
     pub before : List ℕ
@@ -264,7 +261,7 @@ module _ (shut : ℕ) (r : Bool) where
 
   pub record Refers (c : Context Place) (p : Part Place) (w : List ℕ) : Type 0 where
     pub allowed : r ≡ true
-    pub context? : c ≡ context shut r []
+    pub context? : c ≡ context shut r labels []
     pub tag : Tag
     pub good : goodTag (some tag) ≡ true
     pub is : p ≡ bareReference tag
@@ -300,7 +297,7 @@ module _ (shut : ℕ) (r : Bool) where
 
   pub record Closed (ps : Parts) (w : List ℕ) : Type 0 where
     pub tree : Inside
-    pub good : goodInside shut r tree ≡ true
+    pub good : goodInside r labels tree ≡ true
     pub prints : w ≡ printInside tree ++ (shut ∷ [])
     pub means : ps ≡ bareInside tree
 
@@ -310,10 +307,13 @@ module _ (shut : ℕ) (r : Bool) where
   InvC w (going s) = Inv w s
 
   -- ---- the end of a part
-  shut-is : (c : Context Place) (ps : List Piece) → c ≡ context shut r (map barePiece ps) → c .shut ≡ shut
+  shut-is : (c : Context Place) (ps : List Piece) → c ≡ context shut r labels (map barePiece ps) → c .shut ≡ shut
   shut-is c ps e = ap (λ z. z .shut) e
 
-  parts-is : (c : Context Place) (ps : List Piece) → c ≡ context shut r (map barePiece ps) → c .parts ≡ map barePiece ps
+  labels-is : (c : Context Place) (ps : List Piece) → c ≡ context shut r labels (map barePiece ps) → c .labels ≡ labels
+  labels-is c ps e = ap (λ z. z .labels) e
+
+  parts-is : (c : Context Place) (ps : List Piece) → c ≡ context shut r labels (map barePiece ps) → c .parts ≡ map barePiece ps
   parts-is c ps e = ap (λ z. z .parts) e
 
   joined : (ps : List Piece) (q : Piece) (w : List ℕ) → Each (Fine labels) ps → Fine labels q → w ≡ (fronts ps ++ printPiece q) ++ (shut ∷ []) → Closed (map barePiece ps ++ (barePiece q ∷ [])) w
@@ -351,7 +351,7 @@ module _ (shut : ℕ) (r : Bool) where
       record {
         pieces = ps ++ (x .piece ∷ []);
         good = each-append (Fine labels) ps (x .piece ∷ []) (x .lead .good) (x .fine, tt);
-        is = ap (λ z. with z p) (x .lead .is) ∙ ap (λ z. context shut r (map barePiece ps ++ (z ∷ []))) (x .is) ∙ ap (context shut r) (sym (means-snoc ps (x .piece)));
+        is = ap (λ z. with z p) (x .lead .is) ∙ ap (λ z. context shut r labels (map barePiece ps ++ (z ∷ []))) (x .is) ∙ ap (context shut r labels) (sym (means-snoc ps (x .piece)));
         all =
             ap (λ z. z ++ (b ∷ [])) (x .all ∙ ap (λ z. z ++ printPiece (x .piece)) (x .lead .all))
             ∙ append-assoc (fronts ps) (printPiece (x .piece)) (b ∷ [])
@@ -384,10 +384,10 @@ module _ (shut : ℕ) (r : Bool) where
   value-end : (c : Context Place) (p : Part Place) (b : ℕ) (w : List ℕ) (x : Based c p w) → (eqb b hash ≡ true → tagFits (formIn (x .base)) ≡ true) → InvC (w ++ (b ∷ [])) (valueEnd c p b)
   unfolding valueEnd InvC Inv
   value-end c p b w x f =
-      branch-on (InvC (w ++ (b ∷ []))) (eqb b hash && eqb (c .shut) shutSquare)
+      branch-on (InvC (w ++ (b ∷ []))) (eqb b hash && c .labels)
       (λ e.
-      let h : eqb b hash ≡ true = and-left (eqb b hash) (eqb (c .shut) shutSquare) e in
-      let l : labels ≡ true = ap (λ z. eqb z shutSquare) (sym (shut-is c (x .lead .pieces) (x .lead .is))) ∙ and-right (eqb b hash) (eqb (c .shut) shutSquare) e in
+      let h : eqb b hash ≡ true = and-left (eqb b hash) (c .labels) e in
+      let l : labels ≡ true = sym (labels-is c (x .lead .pieces) (x .lead .is)) ∙ and-right (eqb b hash) (c .labels) e in
       record { front = w; tagged = a-part x (both labels (tagFits (formIn (x .base))) l (f h)); all = ap (λ z. w ++ (z ∷ [])) (eqb-true b hash h) })
       (λ e. part-end c p b w (piece-of c p w x))
 
@@ -550,7 +550,7 @@ module _ (shut : ℕ) (r : Bool) where
           let a : r ≡ true = sym (ap (λ v. v .refers) (x .is)) ∙ and-right (eqb b hash) (c .refers) (and-left (eqb b hash && c .refers) (none? (c .parts)) h) in
           record {
             front = w;
-            tagged = a-reference a (x .is ∙ ap (λ v. context shut r (map barePiece v)) z) refl (x .all ∙ ap fronts z ∙ fronts-nil);
+            tagged = a-reference a (x .is ∙ ap (λ v. context shut r labels (map barePiece v)) z) refl (x .all ∙ ap fronts z ∙ fronts-nil);
             all = ap (λ v. w ++ (v ∷ [])) (eqb-true b hash (and-left (eqb b hash) (c .refers) (and-left (eqb b hash && c .refers) (none? (c .parts)) h)));
           }
 
@@ -708,7 +708,7 @@ module _ (shut : ℕ) (r : Bool) where
   inner-step (inScore c p at name q d) b w x = step-score c p name d b w (x .0) (x .1)
   inner-step (scored c p) b w x = step-scored c p b w x
 
-  pub inner-start : Inv [] (begin (context shut r []))
+  pub inner-start : Inv [] (begin (context shut r labels []))
   unfolding Inv
   inner-start = record { pieces = []; good = tt; is = refl; all = sym fronts-nil }
 
@@ -724,6 +724,6 @@ module _ (shut : ℕ) (r : Bool) where
   content-inv (b ∷ l) w x i = subst (λ (z : List ℕ). InvC z (contentRun (contentStep x b) l)) (append-assoc w (b ∷ []) l) (content-inv l (w ++ (b ∷ [])) (contentStep x b) (content-step x b w i))
 
   -- a bracket that is closed is what a good tree prints and means
-  pub closed-spelled : (l : List ℕ) (ps : Parts) → contentRun (going (begin (context shut r []))) l ≡ closed ps → Closed ps l
+  pub closed-spelled : (l : List ℕ) (ps : Parts) → contentRun (going (begin (context shut r labels []))) l ≡ closed ps → Closed ps l
   unfolding InvC
-  closed-spelled l ps e = subst (λ (z : Content Place). InvC l z) e (content-inv l [] (going (begin (context shut r []))) inner-start)
+  closed-spelled l ps e = subst (λ (z : Content Place). InvC l z) e (content-inv l [] (going (begin (context shut r labels []))) inner-start)

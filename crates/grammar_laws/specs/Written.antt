@@ -13,10 +13,10 @@ use Rattle.scope.specs.declared.grammar.Section.the-variants.{Plain, RangeFirst
 use Rattle.scope.specs.declared.grammar.Kind.{Kind}
 use Rattle.scope.specs.declared.grammar.Kind.the-variants.{Unknown, Labile, NTerm, OnResidue, OnRange, CTerm}
 use Rattle.scope.specs.declared.grammar.Mode.{Mode}
-use Rattle.scope.specs.declared.grammar.Mode.the-variants.{Front, Undecided, Counted, Referred, Caret, Counting, Labiles, NTerms, Start, Single, Opened, UnsureOpened, InRange, InUnsure, RangeEnd, Ranged, UnsureEnd, CStart, CTerms}
+use Rattle.scope.specs.declared.grammar.Mode.the-variants.{Front, Runs, Undecided, Counted, Referred, Caret, Counting, Labiles, NTerms, Start, Single, Opened, UnsureOpened, InRange, InUnsure, RangeEnd, Ranged, UnsureEnd, CStart, CTerms}
 use Rattle.scope.specs.declared.grammar.Slot.{Slot}
 use Rattle.scope.specs.declared.grammar.Act.the-variants.{Go, Residue as aResidue, Begin, Digit, RunEnds, TermEnds}
-use Rattle.scope.specs.Bytes.{isLetter, isDigit, isShutting, openSquare, shutSquare, openCurly, shutCurly, openRound, shutRound, caret, question, dash, value}
+use Rattle.scope.specs.Bytes.{isLetter, isDigit, isShutting, openSquare, openCurly, openRound, shutRound, caret, question, dash, value}
 use Rattle.scope.specs.Line.{Bracket, Residue}
 use Rattle.scope.specs.Content.{begin}
 use Rattle.scope.specs.Reading.{square, front, labile, element, further, groupFirst, inGroup, undecided, counted, referred, act, mayEnd, Held, nothing, firstOf, withResidue, firstPosition, lastPosition, settled, waiting, put, withBracket, times, countDigit, withDigit, asNTerm, settledRun, State, outside, inside, perform, refers?, modeAfter, step, run, holds, ended, reading}
@@ -39,13 +39,13 @@ abbrev held : Residues → Brackets → Brackets → ℕ → Held ℕ
 held rs ks run f = record { residues = rs; brackets = ks; run = run; first = f }
 
 -- ---- a bracket, the byte b of which is at the place i
-bracket : (i : ℕ) (m : Mode) (s : Slot) (h : Held ℕ) (b : ℕ) (x : Inside) → act m b ≡ Begin s → isShutting (s .shut) ≡ true → goodInside (s .shut) (s .refers) x ≡ true
+bracket : (i : ℕ) (m : Mode) (s : Slot) (h : Held ℕ) (b : ℕ) (x : Inside) → act m b ≡ Begin s → isShutting (s .shut) ≡ true → goodInside (s .refers) (s .labels) x ≡ true
     → lineRun i (outside m h) (b ∷ (printInside x ++ (s .shut ∷ []))) ≡ outside (modeAfter s (meansInside (i + 1) x)) (withBracket (s .kind) i (meansInside (i + 1) x) h)
 unfolding step perform
 bracket i m s h b x e f g =
     line-cons i (outside m h) b (printInside x ++ (s .shut ∷ []))
     ∙ ap (λ z. lineRun (i + 1) (perform i b h z) (printInside x ++ (s .shut ∷ []))) e
-    ∙ lift (i + 1) s i h (printInside x ++ (s .shut ∷ [])) (begin (context (s .shut) (s .refers) [])) (meansInside (i + 1) x) (inside-run (i + 1) (s .shut) (s .refers) x f g)
+    ∙ lift (i + 1) s i h (printInside x ++ (s .shut ∷ [])) (begin (context (s .shut) (s .refers) (s .labels) [])) (meansInside (i + 1) x) (inside-run (i + 1) (s .shut) (s .refers) (s .labels) x f g)
 
 -- a byte that only carries the order on
 go : (i : ℕ) (m m′ : Mode) (h : Held ℕ) (b : ℕ) → act m b ≡ Go m′ → lineRun i (outside m h) (b ∷ []) ≡ outside m′ h
@@ -87,7 +87,7 @@ module _ (k : Kind) (r : Bool) (m : Mode) (opens : act m openSquare ≡ Begin (s
   all : ℕ → Held ℕ → List Inside → Brackets
   all i h xs = meansSquares k (firstPosition k (length (h .residues)) (h .first)) (lastPosition k (length (h .residues))) i xs
 
-  square-from : (i : ℕ) (m₀ : Mode) (h : Held ℕ) (x : Inside) → act m₀ openSquare ≡ Begin (square k r m) → goodInside shutSquare r x ≡ true
+  square-from : (i : ℕ) (m₀ : Mode) (h : Held ℕ) (x : Inside) → act m₀ openSquare ≡ Begin (square k r m) → goodInside r true x ≡ true
       → lineRun i (outside m₀ h) (printSquare x) ≡ outside m (settled (at i h x) h)
   unfolding at
   square-from i m₀ h x e g =
@@ -107,8 +107,8 @@ module _ (k : Kind) (r : Bool) (m : Mode) (opens : act m openSquare ≡ Begin (s
       ∙ ap (λ z. outside m (held (h .residues) z (h .run) (h .first))) (sym (append-nil (h .brackets)) ∙ ap (λ z. h .brackets ++ z) (sym (along-nil printSquare _ i)))
   squares-run i (x ∷ xs) h g =
       ap (lineRun i (outside m h)) (flat-cons printSquare x xs)
-      ∙ line-further i (printSquare x) (printSquares xs) (outside m h) (outside m (settled (at i h x) h)) _ (square-from i m h x opens (every-head (goodInside shutSquare r) x xs g))
-      (squares-run (i + length (printSquare x)) xs (settled (at i h x) h) (every-tail (goodInside shutSquare r) x xs g))
+      ∙ line-further i (printSquare x) (printSquares xs) (outside m h) (outside m (settled (at i h x) h)) _ (square-from i m h x opens (every-head (goodInside r true) x xs g))
+      (squares-run (i + length (printSquare x)) xs (settled (at i h x) h) (every-tail (goodInside r true) x xs g))
       ∙ ap (λ z. outside m (held (h .residues) z (h .run) (h .first))) (regroup i h x xs)
 
   -- one or more, from a mode in front
@@ -117,8 +117,8 @@ module _ (k : Kind) (r : Bool) (m : Mode) (opens : act m openSquare ≡ Begin (s
   unfolding at all
   squares-from i m₀ x xs h e g =
       ap (lineRun i (outside m₀ h)) (flat-cons printSquare x xs)
-      ∙ line-further i (printSquare x) (printSquares xs) (outside m₀ h) (outside m (settled (at i h x) h)) _ (square-from i m₀ h x e (every-head (goodInside shutSquare r) x xs g))
-      (squares-run (i + length (printSquare x)) xs (settled (at i h x) h) (every-tail (goodInside shutSquare r) x xs g))
+      ∙ line-further i (printSquare x) (printSquares xs) (outside m₀ h) (outside m (settled (at i h x) h)) _ (square-from i m₀ h x e (every-head (goodInside r true) x xs g))
+      (squares-run (i + length (printSquare x)) xs (settled (at i h x) h) (every-tail (goodInside r true) x xs g))
       ∙ ap (λ z. outside m (held (h .residues) z (h .run) (h .first))) (regroup i h x xs)
 
 -- ---- residues
@@ -205,9 +205,19 @@ further-letter : (b : ℕ) → isLetter b ≡ true → further b ≡ aResidue Pl
 unfolding further
 further-letter b e = pick-false (eqb b dash) _ _ (letter-not b dash e refl) ∙ element-letter b e
 
-front-begins : Begins Front
+-- at the front of a line, and behind a run
+pub data AtFront : Mode → Type 0 where
+  at-first : AtFront Front
+  behind-run : AtFront Runs
+
+front-acts : (m : Mode) → AtFront m → (b : ℕ) → act m b ≡ act Front b
+unfolding act
+front-acts m at-first b = refl
+front-acts m behind-run b = refl
+
+front-begins : (m : Mode) → AtFront m → Begins m
 unfolding act element
-front-begins = record { letter = λ b e. pick-false (eqb b openSquare) _ _ (letter-not b openSquare e refl) ∙ pick-false (eqb b openCurly) _ _ (letter-not b openCurly e refl) ∙ element-letter b e; round = refl }
+front-begins m w = record { letter = λ b e. front-acts m w b ∙ pick-false (eqb b openSquare) _ _ (letter-not b openSquare e refl) ∙ pick-false (eqb b openCurly) _ _ (letter-not b openCurly e refl) ∙ element-letter b e; round = front-acts m w openRound }
 
 labiles-begins : Begins Labiles
 unfolding act element
@@ -428,13 +438,13 @@ sequence-run i e es xs m ks f w g g′ =
 
 -- ---- runs of unknown position
 -- where no reference may stand, none does
-no-reference : (i : ℕ) (x : Inside) → goodInside shutSquare false x ≡ true → refers? (meansInside i x) ≡ false
+no-reference : (i : ℕ) (x : Inside) → goodInside false true x ≡ true → refers? (meansInside i x) ≡ false
 unfolding meansPieces
 no-reference i (parts p []) e = no-base i (p .base)
 no-reference i (parts p (q ∷ ps)) e = no-base i (p .base)
 no-reference i (refers t) e = absurd (false≢true e)
 
-allowed-too : (x : Inside) → goodInside shutSquare false x ≡ true → goodInside shutSquare true x ≡ true
+allowed-too : (x : Inside) → goodInside false true x ≡ true → goodInside true true x ≡ true
 allowed-too (parts p ps) e = e
 allowed-too (refers t) e = absurd (false≢true e)
 
@@ -469,7 +479,7 @@ pub record Waited (i : ℕ) (m : Mode) (h : Held ℕ) (x : Inside) : Type 0 wher
   pub bare : Bare mode
   pub path : lineRun i (outside m h) (printSquare x) ≡ outside mode (waiting (bracketAt Unknown 0 0 i x) h)
 
-wait-front : (i : ℕ) (m : Mode) (h : Held ℕ) (x : Inside) → act m openSquare ≡ Begin front → goodInside shutSquare false x ≡ true → Waited i m h x
+wait-front : (i : ℕ) (m : Mode) (h : Held ℕ) (x : Inside) → act m openSquare ≡ Begin front → goodInside false true x ≡ true → Waited i m h x
 wait-front i m h x e g =
     record {
       mode = Undecided;
@@ -477,7 +487,7 @@ wait-front i m h x e g =
       path = bracket i m front h openSquare x e refl (allowed-too x g) ∙ ap (λ z. outside (cond z Referred Undecided) (waiting (bracketAt Unknown 0 0 i x) h)) (no-reference (i + 1) x g);
     }
 
-wait-counted : (i : ℕ) (m : Mode) (h : Held ℕ) (x : Inside) → act m openSquare ≡ Begin (square Unknown false Counted) → goodInside shutSquare false x ≡ true → Waited i m h x
+wait-counted : (i : ℕ) (m : Mode) (h : Held ℕ) (x : Inside) → act m openSquare ≡ Begin (square Unknown false Counted) → goodInside false true x ≡ true → Waited i m h x
 wait-counted i m h x e g =
     record {
       mode = Counted;
@@ -485,15 +495,15 @@ wait-counted i m h x e g =
       path = bracket i m (square Unknown false Counted) h openSquare x e refl g ∙ ap (λ z. outside z (waiting (bracketAt Unknown 0 0 i x) h)) (same-mode (meansInside (i + 1) x) Counted);
     }
 
-waits : (i : ℕ) (m : Mode) (h : Held ℕ) (x : Inside) → InRun m → goodInside shutSquare false x ≡ true → Waited i m h x
+waits : (i : ℕ) (m : Mode) (h : Held ℕ) (x : Inside) → InRun m → goodInside false true x ≡ true → Waited i m h x
 unfolding act undecided counted
 waits i m h x undecided-run g = wait-front i Undecided h x refl g
 waits i m h x counted-run g = wait-counted i Counted h x refl g
 waits i m h x counting-run g = wait-counted i Counting h x refl g
 
-front-opens : act Front openSquare ≡ Begin front
+front-opens : (m : Mode) → AtFront m → act m openSquare ≡ Begin front
 unfolding act
-front-opens = refl
+front-opens m w = front-acts m w openSquare
 
 -- counts
 last-snoc : (f : Bracket ℕ → Bracket ℕ) (l : Brackets) (x : Bracket ℕ) → onLast f (l ++ (x ∷ [])) ≡ l ++ (f x ∷ [])
@@ -555,7 +565,7 @@ counted-mark i (some ds) m h x g w =
 
 mark-run : (i : ℕ) (x : Marked) (m : Mode) (h : Held ℕ) → InRun m → goodMarked x ≡ true → Noted i m h (printMarked x) (meansMarked i x ∷ [])
 mark-run i x m h w g =
-    counted-mark i (x .count) m h (x .inside) (and-right (goodInside shutSquare false (x .inside)) (goodCount (x .count)) g) (waits i m h (x .inside) w (and-left (goodInside shutSquare false (x .inside)) (goodCount (x .count)) g))
+    counted-mark i (x .count) m h (x .inside) (and-right (goodInside false true (x .inside)) (goodCount (x .count)) g) (waits i m h (x .inside) w (and-left (goodInside false true (x .inside)) (goodCount (x .count)) g))
 
 marks-on : (i : ℕ) (xs : List Marked) (x : Marked) (m : Mode) (h : Held ℕ) → every goodMarked xs ≡ true → Noted i m h (printMarked x) (meansMarked i x ∷ []) → Noted i m h (flat printMarked (x ∷ xs)) (along printMarked meansMarked i (x ∷ xs))
 marks-on i [] x m h g w =
@@ -581,77 +591,95 @@ marks-on i (y ∷ xs) x m h g w =
           (append-assoc (h .run) (meansMarked i x ∷ []) (along printMarked meansMarked j (y ∷ xs)) ∙ ap (λ z. h .run ++ z) (sym (along-cons printMarked meansMarked i x (y ∷ xs))));
     }
 
-run-over : (i : ℕ) (m : Mode) (h : Held ℕ) → InRun m → lineRun i (outside m h) (question ∷ []) ≡ outside Front (settledRun (λ k. k) h)
+run-over : (i : ℕ) (m : Mode) (h : Held ℕ) → InRun m → lineRun i (outside m h) (question ∷ []) ≡ outside Runs (settledRun (λ k. k) h)
 unfolding perform
 run-over i m h w = line-one i m h question ∙ ap (perform i question h) (run-ends m w)
 
-run-run : (i : ℕ) (r : Run) (rs : Residues) (ks : Brackets) (f : ℕ) → goodRun r ≡ true → lineRun i (outside Front (held rs ks [] f)) (printRun r) ≡ outside Front (held rs (ks ++ meansRun i r) [] f)
-run-run i r rs ks f g =
+run-run : (i : ℕ) (r : Run) (m : Mode) (rs : Residues) (ks : Brackets) (f : ℕ) → AtFront m → goodRun r ≡ true → lineRun i (outside m (held rs ks [] f)) (printRun r) ≡ outside Runs (held rs (ks ++ meansRun i r) [] f)
+run-run i r m rs ks f w g =
     let h : Held ℕ = held rs ks [] f in
     let x = r .first in
     let g₀ = every-head goodMarked x (r .more) g in
-    let q = marks-on i (r .more) x Front h (every-tail goodMarked x (r .more) g) (counted-mark i (x .count) Front h (x .inside) (and-right (goodInside shutSquare false (x .inside)) (goodCount (x .count)) g₀) (wait-front i Front h (x .inside) front-opens (and-left (goodInside shutSquare false (x .inside)) (goodCount (x .count)) g₀))) in
-    line-further i (flat printMarked (marks r)) (question ∷ []) (outside Front h) _ _ (q .path) (run-over _ (q .mode) _ (q .run))
-    ∙ ap (λ z. outside Front (held rs (ks ++ z) [] f)) (map-id (meansRun i r))
+    let q = marks-on i (r .more) x m h (every-tail goodMarked x (r .more) g) (counted-mark i (x .count) m h (x .inside) (and-right (goodInside false true (x .inside)) (goodCount (x .count)) g₀) (wait-front i m h (x .inside) (front-opens m w) (and-left (goodInside false true (x .inside)) (goodCount (x .count)) g₀))) in
+    line-further i (flat printMarked (marks r)) (question ∷ []) (outside m h) _ _ (q .path) (run-over _ (q .mode) _ (q .run))
+    ∙ ap (λ z. outside Runs (held rs (ks ++ z) [] f)) (map-id (meansRun i r))
 
-runs-run : (i : ℕ) (rr : List Run) (rs : Residues) (ks : Brackets) (f : ℕ) → every goodRun rr ≡ true → lineRun i (outside Front (held rs ks [] f)) (flat printRun rr) ≡ outside Front (held rs (ks ++ eachAlong printRun meansRun i rr) [] f)
-runs-run i [] rs ks f g =
-    ap (lineRun i (outside Front (held rs ks [] f))) (flat-nil printRun) ∙ line-nil i _ ∙ ap (λ z. outside Front (held rs z [] f)) (sym (append-nil ks) ∙ ap (λ z. ks ++ z) (sym (eachAlong-nil printRun meansRun i)))
-runs-run i (r ∷ rr) rs ks f g =
-    ap (lineRun i (outside Front (held rs ks [] f))) (flat-cons printRun r rr)
-    ∙ line-further i (printRun r) (flat printRun rr) (outside Front (held rs ks [] f)) _ _ (run-run i r rs ks f (every-head goodRun r rr g)) (runs-run (i + length (printRun r)) rr rs (ks ++ meansRun i r) f (every-tail goodRun r rr g))
-    ∙ ap (λ z. outside Front (held rs z [] f)) (append-assoc ks (meansRun i r) (eachAlong printRun meansRun (i + length (printRun r)) rr) ∙ ap (λ z. ks ++ z) (sym (eachAlong-cons printRun meansRun i r rr)))
+-- the runs, and where they lead
+pub record RunsRead (i : ℕ) (m : Mode) (rs : Residues) (ks : Brackets) (f : ℕ) (l : List ℕ) (xs : Brackets) : Type 0 where
+  pub mode : Mode
+  pub front : AtFront mode
+  pub path : lineRun i (outside m (held rs ks [] f)) l ≡ outside mode (held rs (ks ++ xs) [] f)
+
+runs-run : (i : ℕ) (rr : List Run) (m : Mode) (rs : Residues) (ks : Brackets) (f : ℕ) → AtFront m → every goodRun rr ≡ true → RunsRead i m rs ks f (flat printRun rr) (eachAlong printRun meansRun i rr)
+runs-run i [] m rs ks f w g =
+    record {
+      mode = m;
+      front = w;
+      path =
+          ap (lineRun i (outside m (held rs ks [] f))) (flat-nil printRun) ∙ line-nil i _
+          ∙ ap (λ z. outside m (held rs z [] f)) (sym (append-nil ks) ∙ ap (λ z. ks ++ z) (sym (eachAlong-nil printRun meansRun i)));
+    }
+runs-run i (r ∷ rr) m rs ks f w g =
+    let q = runs-run (i + length (printRun r)) rr Runs rs (ks ++ meansRun i r) f behind-run (every-tail goodRun r rr g) in
+    record {
+      mode = q .mode;
+      front = q .front;
+      path =
+          ap (lineRun i (outside m (held rs ks [] f))) (flat-cons printRun r rr)
+          ∙ line-further i (printRun r) (flat printRun rr) (outside m (held rs ks [] f)) _ _ (run-run i r m rs ks f w (every-head goodRun r rr g)) (q .path)
+          ∙ ap (λ z. outside (q .mode) (held rs z [] f)) (append-assoc ks (meansRun i r) (eachAlong printRun meansRun (i + length (printRun r)) rr) ∙ ap (λ z. ks ++ z) (sym (eachAlong-cons printRun meansRun i r rr)));
+    }
 
 -- ---- labile brackets
 abbrev meansCurlies : ℕ → List Inside → Brackets
 meansCurlies i xs = along printCurly (bracketAt Labile 0 0) i xs
 
-curly-run : (i : ℕ) (m : Mode) (h : Held ℕ) (x : Inside) → act m openCurly ≡ Begin labile → goodInside shutCurly false x ≡ true → lineRun i (outside m h) (printCurly x) ≡ outside Labiles (settled (bracketAt Labile 0 0 i x) h)
+curly-run : (i : ℕ) (m : Mode) (h : Held ℕ) (x : Inside) → act m openCurly ≡ Begin labile → goodInside false false x ≡ true → lineRun i (outside m h) (printCurly x) ≡ outside Labiles (settled (bracketAt Labile 0 0 i x) h)
 curly-run i m h x e g = bracket i m labile h openCurly x e refl g ∙ ap (λ z. outside z (settled (bracketAt Labile 0 0 i x) h)) (same-mode (meansInside (i + 1) x) Labiles)
 
 labiles-open : act Labiles openCurly ≡ Begin labile
 unfolding act
 labiles-open = refl
 
-front-curly : act Front openCurly ≡ Begin labile
+front-curly : (m : Mode) → AtFront m → act m openCurly ≡ Begin labile
 unfolding act
-front-curly = refl
+front-curly m w = front-acts m w openCurly
 
 curlies-from : (i : ℕ) (xs : List Inside) (x : Inside) (m : Mode) (h : Held ℕ) → act m openCurly ≡ Begin labile → goodCurlies (x ∷ xs) ≡ true
     → lineRun i (outside m h) (flat printCurly (x ∷ xs)) ≡ outside Labiles (held (h .residues) (h .brackets ++ meansCurlies i (x ∷ xs)) (h .run) (h .first))
 curlies-from i [] x m h e g =
-    ap (lineRun i (outside m h)) (flat-cons printCurly x [] ∙ ap (λ z. printCurly x ++ z) (flat-nil printCurly) ∙ append-nil (printCurly x)) ∙ curly-run i m h x e (every-head (goodInside shutCurly false) x [] g)
+    ap (lineRun i (outside m h)) (flat-cons printCurly x [] ∙ ap (λ z. printCurly x ++ z) (flat-nil printCurly) ∙ append-nil (printCurly x)) ∙ curly-run i m h x e (every-head (goodInside false false) x [] g)
     ∙ ap (λ z. outside Labiles (held (h .residues) (h .brackets ++ z) (h .run) (h .first))) (sym (along-one printCurly (bracketAt Labile 0 0) i x))
 curlies-from i (y ∷ xs) x m h e g =
     ap (lineRun i (outside m h)) (flat-cons printCurly x (y ∷ xs))
-    ∙ line-further i (printCurly x) (flat printCurly (y ∷ xs)) (outside m h) (outside Labiles (settled (bracketAt Labile 0 0 i x) h)) _ (curly-run i m h x e (every-head (goodInside shutCurly false) x (y ∷ xs) g))
-    (curlies-from (i + length (printCurly x)) xs y Labiles (settled (bracketAt Labile 0 0 i x) h) labiles-open (every-tail (goodInside shutCurly false) x (y ∷ xs) g))
+    ∙ line-further i (printCurly x) (flat printCurly (y ∷ xs)) (outside m h) (outside Labiles (settled (bracketAt Labile 0 0 i x) h)) _ (curly-run i m h x e (every-head (goodInside false false) x (y ∷ xs) g))
+    (curlies-from (i + length (printCurly x)) xs y Labiles (settled (bracketAt Labile 0 0 i x) h) labiles-open (every-tail (goodInside false false) x (y ∷ xs) g))
     ∙ ap (λ z. outside Labiles (held (h .residues) z (h .run) (h .first))) (append-assoc (h .brackets) (bracketAt Labile 0 0 i x ∷ []) _ ∙ ap (λ z. h .brackets ++ z) (sym (along-cons printCurly (bracketAt Labile 0 0) i x (y ∷ xs))))
 
 -- where the runs are over: no labile bracket yet, or some
 pub data Fronts : Mode → Type 0 where
-  at-front : Fronts Front
+  at-front : {m : Mode} → AtFront m → Fronts m
   at-labiles : Fronts Labiles
 
 fronts-begin : (m : Mode) → Fronts m → Begins m
-fronts-begin m at-front = front-begins
+fronts-begin m (at-front w) = front-begins m w
 fronts-begin m at-labiles = labiles-begins
 
-pub record Labelless (i : ℕ) (rs : Residues) (ks : Brackets) (f : ℕ) (l : List ℕ) (xs : Brackets) : Type 0 where
+pub record Labelless (i : ℕ) (m : Mode) (rs : Residues) (ks : Brackets) (f : ℕ) (l : List ℕ) (xs : Brackets) : Type 0 where
   pub mode : Mode
   pub fronts : Fronts mode
-  pub path : lineRun i (outside Front (held rs ks [] f)) l ≡ outside mode (held rs (ks ++ xs) [] f)
+  pub path : lineRun i (outside m (held rs ks [] f)) l ≡ outside mode (held rs (ks ++ xs) [] f)
 
-curlies-run : (i : ℕ) (xs : List Inside) (rs : Residues) (ks : Brackets) (f : ℕ) → goodCurlies xs ≡ true → Labelless i rs ks f (flat printCurly xs) (meansCurlies i xs)
-curlies-run i [] rs ks f g =
+curlies-run : (i : ℕ) (xs : List Inside) (m : Mode) (rs : Residues) (ks : Brackets) (f : ℕ) → AtFront m → goodCurlies xs ≡ true → Labelless i m rs ks f (flat printCurly xs) (meansCurlies i xs)
+curlies-run i [] m rs ks f w g =
     record {
-      mode = Front;
-      fronts = at-front;
+      mode = m;
+      fronts = at-front w;
       path =
-          ap (lineRun i (outside Front (held rs ks [] f))) (flat-nil printCurly) ∙ line-nil i _
-          ∙ ap (λ z. outside Front (held rs z [] f)) (sym (append-nil ks) ∙ ap (λ z. ks ++ z) (sym (along-nil printCurly (bracketAt Labile 0 0) i)));
+          ap (lineRun i (outside m (held rs ks [] f))) (flat-nil printCurly) ∙ line-nil i _
+          ∙ ap (λ z. outside m (held rs z [] f)) (sym (append-nil ks) ∙ ap (λ z. ks ++ z) (sym (along-nil printCurly (bracketAt Labile 0 0) i)));
     }
-curlies-run i (x ∷ xs) rs ks f g = record { mode = Labiles; fronts = at-labiles; path = curlies-from i xs x Front (held rs ks [] f) front-curly g }
+curlies-run i (x ∷ xs) m rs ks f w g = record { mode = Labiles; fronts = at-labiles; path = curlies-from i xs x m (held rs ks [] f) (front-curly m w) g }
 
 -- ---- the N-terminus
 -- brackets at the front that wait, a reference among them or not
@@ -664,14 +692,14 @@ pub record Pending (i : ℕ) (m : Mode) (h : Held ℕ) (l : List ℕ) (ks : Brac
   pub waits : Waits mode
   pub path : lineRun i (outside m h) l ≡ outside mode (held (h .residues) (h .brackets) (h .run ++ ks) (h .first))
 
-pend-front : (i : ℕ) (m : Mode) (h : Held ℕ) (x : Inside) → act m openSquare ≡ Begin front → goodInside shutSquare true x ≡ true → Pending i m h (printSquare x) (bracketAt Unknown 0 0 i x ∷ [])
+pend-front : (i : ℕ) (m : Mode) (h : Held ℕ) (x : Inside) → act m openSquare ≡ Begin front → goodInside true true x ≡ true → Pending i m h (printSquare x) (bracketAt Unknown 0 0 i x ∷ [])
 pend-front i m h x e g = record { mode = cond (refers? (meansInside (i + 1) x)) Referred Undecided; waits = either (refers? (meansInside (i + 1) x)); path = bracket i m front h openSquare x e refl g }
   where
     either : (t : Bool) → Waits (cond t Referred Undecided)
     either true = referred-waits
     either false = undecided-waits
 
-pend : (i : ℕ) (m : Mode) (h : Held ℕ) (x : Inside) → Waits m → goodInside shutSquare true x ≡ true → Pending i m h (printSquare x) (bracketAt Unknown 0 0 i x ∷ [])
+pend : (i : ℕ) (m : Mode) (h : Held ℕ) (x : Inside) → Waits m → goodInside true true x ≡ true → Pending i m h (printSquare x) (bracketAt Unknown 0 0 i x ∷ [])
 unfolding act undecided referred
 pend i m h x undecided-waits g = pend-front i Undecided h x refl g
 pend i m h x referred-waits g =
@@ -694,7 +722,7 @@ pend-all i [] x m h g w =
 pend-all i (y ∷ xs) x m h g w =
     let h₁ : Held ℕ = held (h .residues) (h .brackets) (h .run ++ (bracketAt Unknown 0 0 i x ∷ [])) (h .first) in
     let j = i + length (printSquare x) in
-    let q = pend-all j xs y (w .mode) h₁ (every-tail (goodInside shutSquare true) y xs g) (pend j (w .mode) h₁ y (w .waits) (every-head (goodInside shutSquare true) y xs g)) in
+    let q = pend-all j xs y (w .mode) h₁ (every-tail (goodInside true true) y xs g) (pend j (w .mode) h₁ y (w .waits) (every-head (goodInside true true) y xs g)) in
     record {
       mode = q .mode;
       waits = q .waits;
@@ -743,14 +771,14 @@ front-run i [] m rs ks f w g =
       begins = fronts-begin m w;
       path = line-nil i _ ∙ ap (λ z. outside m (held rs z [] f)) (sym (append-nil ks) ∙ ap (λ z. ks ++ z) (sym (along-nil printSquare (bracketAt NTerm 0 0) i)));
     }
-front-run i (x ∷ xs) m rs ks f at-front g =
+front-run i (x ∷ xs) m rs ks f (at-front w) g =
     let h : Held ℕ = held rs ks [] f in
-    let q = pend-all i xs x Front h (every-tail (goodInside shutSquare true) x xs g) (pend-front i Front h x front-opens (every-head (goodInside shutSquare true) x xs g)) in
+    let q = pend-all i xs x m h (every-tail (goodInside true true) x xs g) (pend-front i m h x (front-opens m w) (every-head (goodInside true true) x xs g)) in
     record {
       mode = Start;
       begins = start-begins;
       path =
-          line-further i (printSquares (x ∷ xs)) (dash ∷ []) (outside Front h) _ _ (q .path) (term-over _ (q .mode) _ (q .waits)) ∙ ap (λ z. outside Start (held rs (ks ++ z) [] f)) (as-nterm i (x ∷ xs));
+          line-further i (printSquares (x ∷ xs)) (dash ∷ []) (outside m h) _ _ (q .path) (term-over _ (q .mode) _ (q .waits)) ∙ ap (λ z. outside Start (held rs (ks ++ z) [] f)) (as-nterm i (x ∷ xs));
     }
 front-run i (x ∷ xs) m rs ks f at-labiles g =
     record {
@@ -762,12 +790,12 @@ front-run i (x ∷ xs) m rs ks f at-labiles g =
 
 -- ---- a line
 -- its four pieces
-whole-run : (i : ℕ) (a b c d : List ℕ) (k₁ k₂ k₃ ks : Brackets) (rs : Residues) (m₁ m₂ m₃ : Mode) (f : ℕ) → lineRun i (outside Front nothing) a ≡ outside Front (held [] k₁ [] 0)
-    → lineRun (i + length a) (outside Front (held [] k₁ [] 0)) b ≡ outside m₁ (held [] (k₁ ++ k₂) [] 0)
+whole-run : (i : ℕ) (a b c d : List ℕ) (k₁ k₂ k₃ ks : Brackets) (rs : Residues) (m₀ m₁ m₂ m₃ : Mode) (f : ℕ) → lineRun i (outside Front nothing) a ≡ outside m₀ (held [] k₁ [] 0)
+    → lineRun (i + length a) (outside m₀ (held [] k₁ [] 0)) b ≡ outside m₁ (held [] (k₁ ++ k₂) [] 0)
     → lineRun (i + length a + length b) (outside m₁ (held [] (k₁ ++ k₂) [] 0)) c ≡ outside m₂ (held [] ((k₁ ++ k₂) ++ k₃) [] 0)
     → lineRun (i + length a + length b + length c) (outside m₂ (held [] ((k₁ ++ k₂) ++ k₃) [] 0)) d ≡ outside m₃ (held rs (((k₁ ++ k₂) ++ k₃) ++ ks) [] f)
     → lineRun i (outside Front nothing) (a ++ (b ++ (c ++ d))) ≡ outside m₃ (held rs (k₁ ++ (k₂ ++ (k₃ ++ ks))) [] f)
-whole-run i a b c d k₁ k₂ k₃ ks rs m₁ m₂ m₃ f p q r s =
+whole-run i a b c d k₁ k₂ k₃ ks rs m₀ m₁ m₂ m₃ f p q r s =
     line-further i a (b ++ (c ++ d)) _ _ _ p (line-further (i + length a) b (c ++ d) _ _ _ q (line-further (i + length a + length b) c d _ _ _ r s))
     ∙ ap (λ z. outside m₃ (held rs z [] f)) (append-assoc (k₁ ++ k₂) k₃ ks ∙ append-assoc k₁ k₂ (k₃ ++ ks))
 
@@ -784,7 +812,8 @@ line-run i t g =
     let k₁ : Brackets = eachAlong printRun meansRun i (t .runs) in
     let k₂ : Brackets = meansCurlies (atLabiles i t) (t .labiles) in
     let k₃ : Brackets = meansSquares NTerm 0 0 (atFront i t) (t .front) in
-    let p = curlies-run (atLabiles i t) (t .labiles) [] k₁ 0 (and-left b (c && (d && e)) g₁) in
+    let u = runs-run i (t .runs) Front [] [] 0 at-first (and-left a (b && (c && (d && e))) g) in
+    let p = curlies-run (atLabiles i t) (t .labiles) (u .mode) [] k₁ 0 (u .front) (and-left b (c && (d && e)) g₁) in
     let j = front-run (atFront i t) (t .front) (p .mode) [] (k₁ ++ k₂) 0 (p .fronts) (and-left c (d && e) g₂) in
     let q = sequence-run (atSequence i t) (t .first) (t .more) (t .back) (j .mode) ((k₁ ++ k₂) ++ k₃) 0 (j .begins) (and-left d e g₃) (and-right d e g₃) in
     record {
@@ -793,8 +822,8 @@ line-run i t g =
       ends = q .ends;
       path =
           whole-run i (flat printRun (t .runs)) (flat printCurly (t .labiles)) (printFront (t .front)) (flat printElement (elements t) ++ printBack (t .back)) k₁ k₂ k₃
-          (bracketsAlong 0 (atSequence i t) (elements t) ++ backOf i t) (residuesOf i t) (p .mode) (j .mode) (q .mode) (q .first)
-          (runs-run i (t .runs) [] [] 0 (and-left a (b && (c && (d && e))) g)) (p .path) (j .path) (q .path);
+          (bracketsAlong 0 (atSequence i t) (elements t) ++ backOf i t) (residuesOf i t) (u .mode) (p .mode) (j .mode) (q .mode) (q .first)
+          (u .path) (p .path) (j .path) (q .path);
     }
 
 -- what a good spelling prints is read to what it means, with every place

@@ -4,16 +4,15 @@ use mathlib.Core.Bool.{Bool, true, false, not, _&&_, _||_, false≢true}
 use mathlib.Core.Option.{none}
 use mathlib.Core.List.{List, [], _∷_, _++_, map}
 use Prim.Native.Nat.{ℕ}
-use native.Mathlib.Omega.{arith}
 use lib.Dec.{eqb}
-use borrow.Author.Tests.{eqb-true, not-true}
+use borrow.Author.Tests.{not-true}
 use Rattle.scope.specs.declared.grammar.Kind.{Kind}
 use Rattle.scope.specs.declared.grammar.Kind.the-variants.{Labile, NTerm}
 use Rattle.scope.specs.declared.grammar.Mode.{Mode}
 use Rattle.scope.specs.declared.grammar.Slot.{Slot}
 use Rattle.scope.specs.declared.grammar.Act.{Act}
 use Rattle.scope.specs.declared.grammar.Act.the-variants.{Stop, Go, Residue as aResidue, Begin, Digit, RunEnds, TermEnds}
-use Rattle.scope.specs.Bytes.{shutSquare, shutCurly, hash}
+use Rattle.scope.specs.Bytes.{hash}
 use Rattle.scope.specs.Line.{Part, Bracket, Line}
 use Rattle.scope.specs.Content.{Context, Inner, begin, plain, keyed, inNumber, inCode, inText, hashed, inLabel, scoring, inScore, scored, Content, lost, closed, going, innerStep}
 use Rattle.scope.specs.Reading.{act, Held, bracketOf, withBracket, countDigit, asNTerm, State, dead, outside, inside, perform, resume, step, run, holds, reading}
@@ -26,13 +25,13 @@ use Rattle.reading_laws.specs.Goes.{Valued, of-plain, of-number, of-code, of-te
 use Rattle.reading_laws.specs.Kept.{Whole, reading-whole, put-by, digit-by}
 use Rattle.basics.specs.Tests.{and-left, and-right}
 
--- ---- inside a bracket that `}` closes
+-- ---- inside a bracket that may hold neither a reference nor a label, as `{}` may not
 abbrev NoLabels : {P : Type 0} → List (Part P) → Type 0
 NoLabels ps = Each (λ p. p .label ≡ none) ps
 
 record Curly {P : Type 0} (c : Context P) : Type 0 where
-  pub shut : c .shut ≡ shutCurly
   pub refers : c .refers ≡ false
+  pub labels : c .labels ≡ false
   pub parts : NoLabels (c .parts)
 
 abbrev InnerCurly : {P : Type 0} → Inner P → Type 0
@@ -84,10 +83,7 @@ module _ {P : Type 0} where
   on-curly (mass-on e) w = w
   on-curly (code-on e) w = w
   on-curly (text-on e) w = w
-  on-curly {b = b} (hash-on {c = c} v e) w =
-      let x = valued-curly v w .0 .shut in
-      let y = eqb-true (c .shut) shutSquare (and-right (eqb b hash) _ e) in
-      omega arith
+  on-curly {b = b} (hash-on {c = c} v e) w = false≢true (sym (valued-curly v w .0 .labels) ∙ and-right (eqb b hash) (c .labels) e)
   on-curly (label-begins e) w = w
   on-curly (label-on e) w = w
   on-curly (score-opens e) w = w
@@ -101,20 +97,20 @@ module _ {P : Type 0} where
   goes-curly (goes-on o) w = on-curly o w
   goes-curly (part-over {c = c} {p = p} o e) w =
       let q = over-curly o w in
-      record { shut = q .0 .shut; refers = q .0 .refers; parts = no-labels c p q }
+      record { refers = q .0 .refers; labels = q .0 .labels; parts = no-labels c p q }
   goes-curly (shuts {c = c} {p = p} o e) w = no-labels c p (over-curly o w)
 
--- ---- the order of a line: only `{` begins a labile bracket
+-- ---- the order of a line: a labile bracket begins as one that may hold neither
 abbrev curlySlot : Slot → Bool
-curlySlot s = not (isLabile (s .kind)) || (eqb (s .shut) shutCurly && not (s .refers))
+curlySlot s = not (isLabile (s .kind)) || (not (s .refers) && not (s .labels))
 
 act-curly : (m : Mode) (b : ℕ) → ofSlot curlySlot (act m b) ≡ true
 act-curly = act-rule (λ m. ofSlot curlySlot) refl
 
-slot-curly : (s : Slot) → curlySlot s ≡ true → isLabile (s .kind) ≡ true → (s .shut ≡ shutCurly) × (s .refers ≡ false)
+slot-curly : (s : Slot) → curlySlot s ≡ true → isLabile (s .kind) ≡ true → (s .refers ≡ false) × (s .labels ≡ false)
 slot-curly s e f =
-    let g : (eqb (s .shut) shutCurly && not (s .refers)) ≡ true = rw f at e in
-    (eqb-true (s .shut) shutCurly (and-left _ _ g), not-true (s .refers) (and-right (eqb (s .shut) shutCurly) _ g))
+    let g : (not (s .refers) && not (s .labels)) ≡ true = rw f at e in
+    (not-true (s .refers) (and-left _ _ g), not-true (s .labels) (and-right (not (s .refers)) _ g))
 
 -- ---- what is read so far
 abbrev Clean : {P : Type 0} → Bracket P → Type 0
@@ -143,7 +139,7 @@ module _ {P : Type 0} where
   perform-clean i b h Stop w g = tt
   perform-clean i b h (Go m) w g = w
   perform-clean i b h (aResidue s m) w g = record { brackets = w .brackets; run = w .run }
-  perform-clean i b h (Begin s) w g = record { held = w; content = λ e. let q = slot-curly s g e in record { shut = q .0; refers = q .1; parts = tt } }
+  perform-clean i b h (Begin s) w g = record { held = w; content = λ e. let q = slot-curly s g e in record { refers = q .0; labels = q .1; parts = tt } }
   perform-clean i b h Digit w g = record { brackets = w .brackets; run = every-last Clean (countDigit i b) (λ k q. digit-by Clean i b k (λ n p. q)) (h .run) (w .run) }
   perform-clean i b h RunEnds w g =
       record { brackets = every-append Clean (h .brackets) (map (λ k. k) (h .run)) (w .brackets) (each-map Clean (λ k. k) (h .run) (w .run)); run = tt }

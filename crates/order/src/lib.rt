@@ -10,7 +10,7 @@ ghost use mathlib.Core.Path.{_≡_};
 ghost use mathlib.Core.Bool.{cond};
 ghost use lib.Dec.{eqb};
 ghost use Rattle.scope.specs.Bytes.{openSquare};
-ghost use Rattle.scope.specs.Reading.{square, front, labile, element, further, groupFirst, inGroup, undecided, counted, referred, act, mayEnd};
+ghost use Rattle.scope.specs.Reading.{square, front, labile, element, further, groupFirst, inGroup, undecided, counted, referred, atFront, act, mayEnd};
 
 fn square_slot(kind: Kind, refers: bool, after: Mode) -> Slot
     ensures { λ r. ⌜ r ≡ square kind refers after ⌝ }
@@ -19,6 +19,7 @@ fn square_slot(kind: Kind, refers: bool, after: Mode) -> Slot
         kind,
         shut: b']',
         refers,
+        labels: true,
         after,
         referred: after,
     }
@@ -32,6 +33,7 @@ fn front_slot() -> Slot
         kind: Kind::Unknown,
         shut: b']',
         refers: true,
+        labels: true,
         after: Mode::Undecided,
         referred: Mode::Referred,
     }
@@ -44,6 +46,7 @@ fn labile_slot() -> Slot
         kind: Kind::Labile,
         shut: b'}',
         refers: false,
+        labels: false,
         after: Mode::Labiles,
         referred: Mode::Labiles,
     }
@@ -138,8 +141,9 @@ fn behind_referred(b: u8) -> Act
     Act::Stop
 }
 
+// Where a run, a labile bracket, the N-terminus or the sequence may begin.
 fn at_front(b: u8) -> Act
-    ensures { λ r. ⌜ r ≡ act Mode.Front b ⌝ }
+    ensures { λ r. ⌜ r ≡ atFront b ⌝ }
 {
     if b == b'[' {
         return Act::Begin(front_slot());
@@ -243,6 +247,7 @@ pub fn act_of(mode: Mode, b: u8) -> Act
 {
     match mode {
         Mode::Front => at_front(b),
+        Mode::Runs => at_front(b),
         Mode::Undecided => at_undecided(b),
         Mode::Counted => at_counted(b),
         Mode::Referred => behind_referred(b),
@@ -270,6 +275,7 @@ pub fn may_end(mode: Mode) -> bool
 {
     match mode {
         Mode::Front => false,
+        Mode::Runs => false,
         Mode::Undecided => false,
         Mode::Counted => false,
         Mode::Referred => false,

@@ -24,15 +24,15 @@ use Rattle.classes.specs.Runs.{span}
 use Rattle.classes.proofs.Runs.{run-next, run-in}
 use Rattle.parts.specs.declared.Found.{Found}
 use Rattle.parts.specs.declared.Found.the-variants.{Stuck, Read}
-use Rattle.parts.specs.Says.{through, Says, ShutBy, Opens}
+use Rattle.parts.specs.Says.{through, Says, Allows, Opens}
 use Rattle.parts.proofs.Through.{through-same, through-going, through-span, through-run, said-before}
 use Rattle.parts.proofs.Ends.{over, lost-there, run-further}
 
 -- what is said of every bracket is said of one where a reference may or may not stand
-pub opens : (line : List ℕ) (j shut : ℕ) (refers : Bool) (F : Context ℕ → ℕ → Content ℕ) (r : Found) → Says line j (ShutBy shut) F r → Says line j (Opens shut refers) F r
+pub opens : (line : List ℕ) (j : ℕ) (labels : Bool) (refers : Bool) (F : Context ℕ → ℕ → Content ℕ) (r : Found) → Says line j (Allows labels) F r → Says line j (Opens labels refers) F r
 unfolding Says
-opens line j shut refers F (Stuck p) w = λ s o h c g. w s o h c (g .0)
-opens line j shut refers F (Read r) w = record { found = w .found; is = w .is; inside = w .inside; past = w .past; on = λ s o h c g. w .on s o h c (g .0) }
+opens line j labels refers F (Stuck p) w = λ s o h c g. w s o h c (g .0)
+opens line j labels refers F (Read r) w = record { found = w .found; is = w .is; inside = w .inside; past = w .past; on = λ s o h c g. w .on s o h c (g .0) }
 
 -- ---- a sign
 module _ (line : List ℕ) (at : ℕ) (key : Key) (j : ℕ) (inside : j < length line) (C : Context ℕ → Type 0) (F : Context ℕ → ℕ → Content ℕ) where
@@ -66,7 +66,7 @@ unfolding innerStep
 no-name-first c at k j b f e = rw (e, f)
 
 -- ---- accessions
-module _ (line : List ℕ) (at : ℕ) (key : Key) (from to shut : ℕ) (p : ℕ → Bool) (class : (b : ℕ) → accessionByte (form key) b ≡ p b)
+module _ (line : List ℕ) (at : ℕ) (key : Key) (from to : ℕ) (labels : Bool) (p : ℕ → Bool) (class : (b : ℕ) → accessionByte (form key) b ≡ p b)
     (run : to ≡ from + span p (drop from line)) where
   code-step : (c : Context ℕ) (i b : ℕ) (t : List ℕ) → p b ≡ true → innerStep i (inCode c at key t) b ≡ going (inCode c at key (t ++ (b ∷ [])))
   unfolding innerStep
@@ -84,9 +84,9 @@ module _ (line : List ℕ) (at : ℕ) (key : Key) (from to shut : ℕ) (p : ℕ 
       let e = sym run in
       rw (e, long) at (through-span line s o h p (λ t. inCode c at key t) (code-step c) (drop from line) from [] refl)
 
-  pub code-says : (r : Found) → Says line to (ShutBy shut) (λ c. textEnd c at key (part from (to - from) line) []) r → Says line from (ShutBy shut) (λ c. innerStep from (inCode c at key [])) r
+  pub code-says : (r : Found) → Says line to (Allows labels) (λ c. textEnd c at key (part from (to - from) line) []) r → Says line from (Allows labels) (λ c. innerStep from (inCode c at key [])) r
   code-says r w =
-      said-before line from to (ShutBy shut) (λ c. innerStep from (inCode c at key [])) (λ c. textEnd c at key (part from (to - from) line) []) (omega (arith, run))
+      said-before line from to (Allows labels) (λ c. innerStep from (inCode c at key [])) (λ c. textEnd c at key (part from (to - from) line) []) (omega (arith, run))
       (λ s o h c g. code-run s o h c
       ∙ through-same line s o h to (innerStep to (inCode c at key (part from (to - from) line))) (textEnd c at key (part from (to - from) line) [])
       (λ m. code-stops c to (getD line to 0) (part from (to - from) line) (run-next p line from to run m))) r w
@@ -156,7 +156,7 @@ a-key t k n f e = go (keyAmong keys t) refl f
         rw g (record { is = w; long = written-long y (omega arith) ∙ omega arith })
 
 -- ---- plain bytes
-module _ (line : List ℕ) (at shut : ℕ) (inside : at < length line) (unsigned : isSign (getD line at 0) ≡ false) (no-hash : getD line at 0 ≡ hash → ⊥) where
+module _ (line : List ℕ) (at : ℕ) (labels : Bool) (inside : at < length line) (unsigned : isSign (getD line at 0) ≡ false) (no-hash : getD line at 0 ≡ hash → ⊥) where
   abbrev first : Context ℕ → ℕ → Content ℕ
   first c = innerStep at (begin c)
 
@@ -183,13 +183,13 @@ module _ (line : List ℕ) (at shut : ℕ) (inside : at < length line) (unsigned
         (through-run line s o h isPlain (λ t. plain c at t) (λ i b t q. rw q) (first c) (drop at line) at
         (λ b f q. let u : isSign b ≡ false = rw f at unsigned in rw (u, q)) refl (omega (arith, run, more)))
 
-    pub plain-over : n ≤ length line → length line ≤ n → Says line at (ShutBy shut) first (Stuck n)
+    pub plain-over : n ≤ length line → length line ≤ n → Says line at (Allows labels) first (Stuck n)
     plain-over k m =
-        said-before line at n (ShutBy shut) first (λ c. innerStep n (plain c at word)) (omega (arith, more)) (λ s o h c g. plain-run s o h c) (Stuck n)
-        (over line n (ShutBy shut) (λ c. innerStep n (plain c at word)) m k)
+        said-before line at n (Allows labels) first (λ c. innerStep n (plain c at word)) (omega (arith, more)) (λ s o h c g. plain-run s o h c) (Stuck n)
+        (over line n (Allows labels) (λ c. innerStep n (plain c at word)) m k)
 
-    pub plain-on : (r : Found) → Says line n (ShutBy shut) (λ c. innerStep n (plain c at word)) r → Says line at (ShutBy shut) first r
-    plain-on r w = said-before line at n (ShutBy shut) first (λ c. innerStep n (plain c at word)) (omega (arith, more)) (λ s o h c g. plain-run s o h c) r w
+    pub plain-on : (r : Found) → Says line n (Allows labels) (λ c. innerStep n (plain c at word)) r → Says line at (Allows labels) first r
+    plain-on r w = said-before line at n (Allows labels) first (λ c. innerStep n (plain c at word)) (omega (arith, more)) (λ s o h c g. plain-run s o h c) r w
 
 -- a word that is no key is the beginning of a text
 module _ (c : Context ℕ) (at i : ℕ) (b : ℕ) where

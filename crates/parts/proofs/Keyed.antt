@@ -12,7 +12,7 @@ use Rattle.scope.specs.Content.{Context, Inner, keyed, inCode, inText, Content,
 use Rattle.scope.specs.Lists.{part}
 use Rattle.classes.specs.Runs.{span}
 use Rattle.parts.specs.declared.Found.{Found}
-use Rattle.parts.specs.Says.{Says, ShutBy}
+use Rattle.parts.specs.Says.{Says, Allows}
 use Rattle.parts.proofs.Begins.{name-first}
 
 pub behind-le : (a b n : ℕ) → b ≡ a + n → a ≤ b
@@ -32,21 +32,21 @@ pub name-begins : (line : List ℕ) (c : Context ℕ) (at : ℕ) (k : Key) (j b 
     → innerStep j (keyed c at k) b ≡ innerStep j (inText c at k (part j (j - j) line) []) b
 name-begins line c at k j b f e = name-first c at k j b f e ∙ none-first c line at k j b
 
-module _ (line : List ℕ) (at : ℕ) (k : Key) (from shut : ℕ) where
+module _ (line : List ℕ) (at : ℕ) (k : Key) (from : ℕ) (labels : Bool) where
   abbrev Behind : Found → Type 0
-  Behind r = Says line from (ShutBy shut) (λ c. innerStep from (behindKey c at k (form k))) r
+  Behind r = Says line from (Allows labels) (λ c. innerStep from (behindKey c at k (form k))) r
 
-  pub keyed-says : form k ≡ massOrName → (r : Found) → Says line from (ShutBy shut) (λ c. innerStep from (keyed c at k)) r → Behind r
+  pub keyed-says : form k ≡ massOrName → (r : Found) → Says line from (Allows labels) (λ c. innerStep from (keyed c at k)) r → Behind r
   keyed-says e r w = rw e w
 
-  pub obs-says : form k ≡ massOnly → (r : Found) → Says line from (ShutBy shut) (λ c. innerStep from (keyed c at k)) r → Behind r
+  pub obs-says : form k ≡ massOnly → (r : Found) → Says line from (Allows labels) (λ c. innerStep from (keyed c at k)) r → Behind r
   obs-says e r w = rw e w
 
-  pub digits-says : form k ≡ digits → (r : Found) → Says line from (ShutBy shut) (λ c. innerStep from (inCode c at k [])) r → Behind r
+  pub digits-says : form k ≡ digits → (r : Found) → Says line from (Allows labels) (λ c. innerStep from (inCode c at k [])) r → Behind r
   digits-says e r w = rw e w
 
-  pub alnums-says : form k ≡ alnums → (r : Found) → Says line from (ShutBy shut) (λ c. innerStep from (inCode c at k [])) r → Behind r
+  pub alnums-says : form k ≡ alnums → (r : Found) → Says line from (Allows labels) (λ c. innerStep from (inCode c at k [])) r → Behind r
   alnums-says e r w = rw e w
 
-  pub free-says : form k ≡ free → (r : Found) → Says line from (ShutBy shut) (λ c. innerStep from (inText c at k (part from (from - from) line) [])) r → Behind r
+  pub free-says : form k ≡ free → (r : Found) → Says line from (Allows labels) (λ c. innerStep from (inText c at k (part from (from - from) line) [])) r → Behind r
   free-says e r w = rw e (rw (nothing-yet line from) at w)

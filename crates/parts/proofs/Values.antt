@@ -37,7 +37,7 @@ use Rattle.parts.specs.declared.Value.the-variants.{Mass, Wide, Text}
 use Rattle.parts.specs.declared.PartRead.{PartRead}
 use Rattle.parts.specs.declared.Found.{Found}
 use Rattle.parts.specs.declared.Found.the-variants.{Stuck, Read}
-use Rattle.parts.specs.Says.{StandsAt, ValueIs, ScoreIs, LabelIs, PartIs, Named, scoreEnd, through, Says, ShutBy}
+use Rattle.parts.specs.Says.{StandsAt, ValueIs, ScoreIs, LabelIs, PartIs, Named, scoreEnd, through, Says, Allows}
 use Rattle.parts.proofs.Through.{through-same, through-span, said-before}
 use Rattle.parts.proofs.Texts.{TextSays, text-says}
 use Rattle.parts.proofs.Numbers.{NumberSays, number-says}
@@ -83,7 +83,7 @@ no-number (scan.lost i) e w = cc
 abbrev bareRead : ℕ → Key → ℕ → Found-value → ℕ → PartRead
 bareRead at key sign v next = record { at = at; key = key; sign = sign; value = v; label = 0; ends = 0; score = Unscored; next = next }
 
-module _ (line : List ℕ) (at : ℕ) (key : Key) (sign shut j : ℕ) (d : Digits) (starts : at ≤ sign) (sign-in : sign ≤ length line) (inside : j ≤ length line) where
+module _ (line : List ℕ) (at : ℕ) (key : Key) (sign : ℕ) (labels : Bool) (j : ℕ) (d : Digits) (starts : at ≤ sign) (sign-in : sign ≤ length line) (inside : j ≤ length line) where
   mass-goes : (c : Context ℕ) (i b : ℕ) (x y : Digits) → digitStep x b ≡ some y → innerStep i (inNumber c at key sign x) b ≡ going (inNumber c at key sign y)
   unfolding innerStep
   mass-goes c i b x y e = rw e
@@ -107,10 +107,10 @@ module _ (line : List ℕ) (at : ℕ) (key : Key) (sign shut j : ℕ) (d : Digit
   -- it is a number
   mass-found : (n : Number ℕ) (e : ℕ) → scanNumber sign d (drop j line) j ≡ found n e → (v : Found-value) → (n .at ≡ sign → ValueIs line sign v (mass n))
       → StandsAt v (at + length (written key)) → (p : PartRead) → p ≡ bareRead at key sign v e → (r : Found)
-      → ((q : Part ℕ) → PartIs line p q → p .next ≤ length line → Says line (p .next) (ShutBy shut) (λ c. valueEnd c q) r) → Says line j (ShutBy shut) massStart r
+      → ((q : Part ℕ) → PartIs line p q → p .next ≤ length line → Says line (p .next) (Allows labels) (λ c. valueEnd c q) r) → Says line j (Allows labels) massStart r
   mass-found n e f v is st p w r says =
-      let told = mass-facts (found n e) n e f front 0 nothing (record { shut = 0; refers = false; parts = [] }) in
-      said-before line j e (ShutBy shut) massStart (λ c. valueEnd c (unlabelled at key (mass n))) (told .0) (λ s o h c k. mass-facts (found n e) n e f s o h c .3) r
+      let told = mass-facts (found n e) n e f front 0 nothing (record { shut = 0; refers = false; labels = false; parts = [] }) in
+      said-before line j e (Allows labels) massStart (λ c. valueEnd c (unlabelled at key (mass n))) (told .0) (λ s o h c k. mass-facts (found n e) n e f s o h c .3) r
       ((rw w at says) (unlabelled at key (mass n)) (record {
         place = refl;
         key = refl;
@@ -123,18 +123,18 @@ module _ (line : List ℕ) (at : ℕ) (key : Key) (sign shut j : ℕ) (d : Digit
 
   module _ (num : Num) (scanned : num ≡ numOf (scanNumber sign d (drop j line) j)) where
     pub mass-value : (v : Kept) (e : ℕ) → num ≡ NumValue v e → (p : PartRead) → p ≡ bareRead at key sign (Mass v) e → (r : Found)
-        → ((q : Part ℕ) → PartIs line p q → p .next ≤ length line → Says line (p .next) (ShutBy shut) (λ c. valueEnd c q) r) → Says line j (ShutBy shut) massStart r
+        → ((q : Part ℕ) → PartIs line p q → p .next ≤ length line → Says line (p .next) (Allows labels) (λ c. valueEnd c q) r) → Says line j (Allows labels) massStart r
     mass-value v e t p w r says =
         let i = in-range (scanNumber sign d (drop j line) j) v e (sym scanned ∙ t) in
         mass-found (i .number) e (i .is) (Mass v) (λ a. (i .range, i .value, a)) tt p w r says
 
     pub mass-wide : (e : ℕ) → num ≡ NumWide e → (p : PartRead) → p ≡ bareRead at key sign Wide e → (r : Found)
-        → ((q : Part ℕ) → PartIs line p q → p .next ≤ length line → Says line (p .next) (ShutBy shut) (λ c. valueEnd c q) r) → Says line j (ShutBy shut) massStart r
+        → ((q : Part ℕ) → PartIs line p q → p .next ≤ length line → Says line (p .next) (Allows labels) (λ c. valueEnd c q) r) → Says line j (Allows labels) massStart r
     mass-wide e t p w r says =
         let i = out-of-range (scanNumber sign d (drop j line) j) e (sym scanned ∙ t) in
         mass-found (i .number) e (i .is) Wide (λ a. (i .range, a)) tt p w r says
 
-    pub mass-none : (e : ℕ) → num ≡ NoNumber e → Says line j (ShutBy shut) massStart (Stuck e)
+    pub mass-none : (e : ℕ) → num ≡ NoNumber e → Says line j (Allows labels) massStart (Stuck e)
     unfolding Says
     mass-none e t = λ s o h c k.
         subst
@@ -143,7 +143,7 @@ module _ (line : List ℕ) (at : ℕ) (key : Key) (sign shut j : ℕ) (d : Digit
         (number-says line s o h sign (λ y. inNumber c at key sign y) (λ m. valueEnd c (unlabelled at key (mass m))) (mass-goes c) (mass-stops c) (drop j line) j d refl inside)
 
 -- ---- scores, of the label of q that stands from `from` to `to`
-module _ (line : List ℕ) (p : PartRead) (q : Part ℕ) (from to shut j : ℕ) (d : Digits) (is : PartIs line p q) (named : Named line from to) (inside : j ≤ length line) where
+module _ (line : List ℕ) (p : PartRead) (q : Part ℕ) (from to : ℕ) (labels : Bool) (j : ℕ) (d : Digits) (is : PartIs line p q) (named : Named line from to) (inside : j ≤ length line) where
   abbrev name : List ℕ
   name = part from (to - from) line
 
@@ -173,46 +173,46 @@ module _ (line : List ℕ) (p : PartRead) (q : Part ℕ) (from to shut j : ℕ) 
       subst (λ x. NumberSays line s o h (to + 1) (λ y. inScore c q from name (to + 1) y) (λ n. scoreEnd c q from name n) (score-goes c) (score-stops c) j d x) f (score-says s o h c)
 
   abbrev Ending : Score → ℕ → Found → Type 0
-  Ending v e r = (shut : ℕ) (q : Part ℕ) (n : Number ℕ) → PartIs line p q → Named line from to → ScoreIs (to + 1) v (some n) → e ≤ length line
-      → Says line e (ShutBy shut) (λ c. scoreEnd c q from (part from (to - from) line) n) r
+  Ending v e r = (labels : Bool) (q : Part ℕ) (n : Number ℕ) → PartIs line p q → Named line from to → ScoreIs (to + 1) v (some n) → e ≤ length line
+      → Says line e (Allows labels) (λ c. scoreEnd c q from (part from (to - from) line) n) r
 
   score-found : (n : Number ℕ) (e : ℕ) → scanNumber (to + 1) d (drop j line) j ≡ found n e → (v : Score) → (n .at ≡ to + 1 → ScoreIs (to + 1) v (some n)) → (r : Found)
-      → Ending v e r → Says line j (ShutBy shut) scoreStart r
+      → Ending v e r → Says line j (Allows labels) scoreStart r
   score-found n e f v w r says =
-      let told = score-facts n e f front 0 nothing (record { shut = 0; refers = false; parts = [] }) in
-      said-before line j e (ShutBy shut) scoreStart (λ c. scoreEnd c q from name n) (told .0) (λ s o h c k. score-facts n e f s o h c .3) r
-      (says shut q n is named (w (told .2)) (told .1))
+      let told = score-facts n e f front 0 nothing (record { shut = 0; refers = false; labels = false; parts = [] }) in
+      said-before line j e (Allows labels) scoreStart (λ c. scoreEnd c q from name n) (told .0) (λ s o h c k. score-facts n e f s o h c .3) r
+      (says labels q n is named (w (told .2)) (told .1))
 
   module _ (num : Num) (scanned : num ≡ numOf (scanNumber (to + 1) d (drop j line) j)) where
-    pub score-value : (v : Kept) (e : ℕ) → num ≡ NumValue v e → (r : Found) → Ending (Scored v) e r → Says line j (ShutBy shut) scoreStart r
+    pub score-value : (v : Kept) (e : ℕ) → num ≡ NumValue v e → (r : Found) → Ending (Scored v) e r → Says line j (Allows labels) scoreStart r
     score-value v e t r says =
         let i = in-range (scanNumber (to + 1) d (drop j line) j) v e (sym scanned ∙ t) in
         score-found (i .number) e (i .is) (Scored v) (λ a. (i .range, i .value, a)) r says
 
-    pub score-wide : (e : ℕ) → num ≡ NumWide e → (r : Found) → Ending WideScore e r → Says line j (ShutBy shut) scoreStart r
+    pub score-wide : (e : ℕ) → num ≡ NumWide e → (r : Found) → Ending WideScore e r → Says line j (Allows labels) scoreStart r
     score-wide e t r says =
         let i = out-of-range (scanNumber (to + 1) d (drop j line) j) e (sym scanned ∙ t) in
         score-found (i .number) e (i .is) WideScore (λ a. (i .range, a)) r says
 
-    pub score-none : (e : ℕ) → num ≡ NoNumber e → Says line j (ShutBy shut) scoreStart (Stuck e)
+    pub score-none : (e : ℕ) → num ≡ NoNumber e → Says line j (Allows labels) scoreStart (Stuck e)
     unfolding Says
     score-none e t = λ s o h c k.
         subst (λ x. NumberSays line s o h (to + 1) (λ y. inScore c q from name (to + 1) y) (λ n. scoreEnd c q from name n) (score-goes c) (score-stops c) j d x)
         (no-number (scanNumber (to + 1) d (drop j line) j) e (sym scanned ∙ t)) (score-says s o h c)
 
 -- ---- texts
-module _ (line : List ℕ) (at : ℕ) (key : Key) (from to shut : ℕ) (behind : from ≡ at + length (written key)) (before : from ≤ to) (inside : to ≤ length line) where
+module _ (line : List ℕ) (at : ℕ) (key : Key) (from to : ℕ) (labels : Bool) (behind : from ≡ at + length (written key)) (before : from ≤ to) (inside : to ≤ length line) where
   abbrev words : List ℕ
   words = part from (to - from) line
 
   -- an empty one
-  pub text-none : to ≡ from → Says line to (ShutBy shut) (λ c. textEnd c at key words []) (Stuck to)
+  pub text-none : to ≡ from → Says line to (Allows labels) (λ c. textEnd c at key words []) (Stuck to)
   unfolding textEnd
   text-none e =
       let z : to - from ≡ 0 = omega arith in
       by-test (ltb to (length line))
-      (λ t. lost-there line to (ShutBy shut) (λ c. textEnd c at key words []) (ltb-true to (length line) t) (λ c g. rw z))
-      (λ t. over line to (ShutBy shut) (λ c. textEnd c at key words []) (ltb-false to (length line) t) inside)
+      (λ t. lost-there line to (Allows labels) (λ c. textEnd c at key words []) (ltb-true to (length line) t) (λ c g. rw z))
+      (λ t. over line to (Allows labels) (λ c. textEnd c at key words []) (ltb-false to (length line) t) inside)
 
   -- one that is not
   some-words : (to ≡ from → ⊥) → (c : Context ℕ) (b : ℕ) → textEnd c at key words [] b ≡ valueEnd c (unlabelled at key (text words)) b
@@ -223,10 +223,10 @@ module _ (line : List ℕ) (at : ℕ) (key : Key) (from to shut : ℕ) (behind :
       rw (z, drop-cons line from 0 (omega arith))
 
   pub text-some : (to ≡ from → ⊥) → (p : PartRead) → p ≡ bareRead at key from (Text from to) to → (r : Found)
-      → ((q : Part ℕ) → PartIs line p q → p .next ≤ length line → Says line (p .next) (ShutBy shut) (λ c. valueEnd c q) r)
-      → Says line to (ShutBy shut) (λ c. textEnd c at key words []) r
+      → ((q : Part ℕ) → PartIs line p q → p .next ≤ length line → Says line (p .next) (Allows labels) (λ c. valueEnd c q) r)
+      → Says line to (Allows labels) (λ c. textEnd c at key words []) r
   text-some f p w r says =
-      said-before line to to (ShutBy shut) (λ c. textEnd c at key words []) (λ c. valueEnd c (unlabelled at key (text words))) (omega arith)
+      said-before line to to (Allows labels) (λ c. textEnd c at key words []) (λ c. valueEnd c (unlabelled at key (text words))) (omega arith)
       (λ s o h c g. through-same line s o h to (textEnd c at key words []) (valueEnd c (unlabelled at key (text words))) (λ m. some-words f c (getD line to 0))) r
       ((rw w at says) (unlabelled at key (text words)) (record {
         place = refl;
@@ -242,7 +242,7 @@ module _ (line : List ℕ) (at : ℕ) (key : Key) (from to shut : ℕ) (behind :
       apart g = omega arith
 
 -- the rest of a text, behind the place scan
-module _ (line : List ℕ) (at : ℕ) (key : Key) (from at-scan shut : ℕ) (hashes : Bool) (plain : hashIsPlain (form key) ≡ hashes) (before : from ≤ at-scan) (inside : at-scan ≤ length line) where
+module _ (line : List ℕ) (at : ℕ) (key : Key) (from at-scan : ℕ) (labels : Bool) (hashes : Bool) (plain : hashIsPlain (form key) ≡ hashes) (before : from ≤ at-scan) (inside : at-scan ≤ length line) where
   abbrev first-words : List ℕ
   first-words = part from (at-scan - from) line
 
@@ -253,17 +253,17 @@ module _ (line : List ℕ) (at : ℕ) (key : Key) (from at-scan shut : ℕ) (has
       rw (b, take-add (at-scan - from) (e - at-scan) (drop from line), drop-drop (at-scan - from) from line) (ap (λ x. first-words ++ take (e - at-scan) (drop x line)) a)
 
   pub text-ends : (e : ℕ) → Ends e ≡ scanText hashes [] (drop at-scan line) at-scan → (r : Found)
-      → (from ≤ e → e ≤ length line → Says line e (ShutBy shut) (λ c. textEnd c at key (part from (e - from) line) []) r)
-      → Says line at-scan (ShutBy shut) (λ c. innerStep at-scan (inText c at key first-words [])) r
+      → (from ≤ e → e ≤ length line → Says line e (Allows labels) (λ c. textEnd c at key (part from (e - from) line) []) r)
+      → Says line at-scan (Allows labels) (λ c. innerStep at-scan (inText c at key first-words [])) r
   text-ends e f r says =
-      let told = facts front 0 nothing (record { shut = 0; refers = false; parts = [] }) in
-      said-before line at-scan e (ShutBy shut) (λ c. innerStep at-scan (inText c at key first-words [])) (λ c. textEnd c at key (part from (e - from) line) []) (told .0)
+      let told = facts front 0 nothing (record { shut = 0; refers = false; labels = false; parts = [] }) in
+      said-before line at-scan e (Allows labels) (λ c. innerStep at-scan (inText c at key first-words [])) (λ c. textEnd c at key (part from (e - from) line) []) (told .0)
       (λ s o h c g. facts s o h c .2 ∙ ap (λ x. through line s o h e (textEnd c at key x [])) (whole e (told .0))) r (says (omega (arith, told .0)) (told .1))
     where
       facts : (s : Slot) (o : ℕ) (h : Held ℕ) (c : Context ℕ) → TextSays line s o h c at key hashes plain at-scan first-words [] (drop at-scan line) (Ends e)
       facts s o h c = subst (λ x. TextSays line s o h c at key hashes plain at-scan first-words [] (drop at-scan line) x) (sym f) (text-says line s o h c at key hashes plain (drop at-scan line) at-scan first-words [] refl inside)
 
-  pub text-stuck : (e : ℕ) → TextStuck e ≡ scanText hashes [] (drop at-scan line) at-scan → Says line at-scan (ShutBy shut) (λ c. innerStep at-scan (inText c at key first-words [])) (Stuck e)
+  pub text-stuck : (e : ℕ) → TextStuck e ≡ scanText hashes [] (drop at-scan line) at-scan → Says line at-scan (Allows labels) (λ c. innerStep at-scan (inText c at key first-words [])) (Stuck e)
   unfolding Says
   text-stuck e f = λ s o h c g.
       subst (λ x. TextSays line s o h c at key hashes plain at-scan first-words [] (drop at-scan line) x) (sym f) (text-says line s o h c at key hashes plain (drop at-scan line) at-scan first-words [] refl inside)

@@ -96,10 +96,10 @@ unfoldable pub Says : List ℕ → ℕ → (Context ℕ → Type 0) → (Context
 Says line j C F (Stuck p) = Stops line j C F p
 Says line j C F (Read r) = Reads line j C F r
 
--- the bracket is closed by this byte
-abbrev pub ShutBy : ℕ → Context ℕ → Type 0
-ShutBy shut c = c .shut ≡ shut
+-- the bracket's parts may have labels, or not
+abbrev pub Allows : Bool → Context ℕ → Type 0
+Allows labels c = c .labels ≡ labels
 
 -- and a reference may stand here, or not
-abbrev pub Opens : ℕ → Bool → Context ℕ → Type 0
-Opens shut refers c = (c .shut ≡ shut) × ((c .refers && none? (c .parts)) ≡ refers)
+abbrev pub Opens : Bool → Bool → Context ℕ → Type 0
+Opens labels refers c = (c .labels ≡ labels) × ((c .refers && none? (c .parts)) ≡ refers)

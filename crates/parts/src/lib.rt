@@ -7,7 +7,7 @@ ghost use mathlib.Core.Path.{_≡_};
 ghost use mathlib.Core.Option.{none, some};
 ghost use Prim.Native.Nat.{ℕ, _+_, _-_, _<_, _≤_};
 ghost use mathlib.Core.List.{[]};
-ghost use mathlib.Core.Bool.{false};
+ghost use mathlib.Core.Bool.{Bool, false};
 ghost use lib.ListN.{length, drop, getD};
 ghost use Rattle.scope.specs.Bytes.{hash, colon, isSign};
 ghost use Rattle.scope.specs.Line.{Number as Written, Label, Part};
@@ -15,7 +15,7 @@ ghost use Rattle.scope.specs.Lists.{part};
 ghost use Rattle.scope.specs.Keys.{written, form, hashIsPlain, massOrName, massOnly, digits, alnums};
 ghost use Rattle.scope.specs.Content.{Digits, begin, plain, keyed, inNumber, inCode, inText, inScore, hashed, scoring, innerStep, partEnd, valueEnd, textEnd, labelled, behindKey};
 ghost use Rattle.numerals.specs.Numerals.{scanNumber, numOf};
-ghost use Rattle.parts.specs.Says.{PartIs, LabelIs, ScoreIs, Named, scoreEnd, Says, ShutBy, Opens};
+ghost use Rattle.parts.specs.Says.{PartIs, LabelIs, ScoreIs, Named, scoreEnd, Says, Allows, Opens};
 
 // The value of a part: a mass, a mass out of range, a text with its place in the line, or a reference.
 pub enum Value {
@@ -87,7 +87,7 @@ fn with_label(p: PartRead, from: usize, to: usize, score: Score, next: usize) ->
 
 // Behind a label.
 fn label_end(line: &[u8], p: PartRead, from: usize, to: usize, score: Score, next: usize) -> Found
-    ensures { λ r. ⌜ ((shut : ℕ) (q : Part ℕ) (l : Label ℕ) → PartIs (now (line .entry)) p q → LabelIs (now (line .entry)) from to score (some l) → next ≤ length (now (line .entry)) → Says (now (line .entry)) next (ShutBy shut) (λ c. partEnd c (labelled q (l .at) (l .name) (l .score))) r) ⌝ }
+    ensures { λ r. ⌜ ((labels : Bool) (q : Part ℕ) (l : Label ℕ) → PartIs (now (line .entry)) p q → LabelIs (now (line .entry)) from to score (some l) → next ≤ length (now (line .entry)) → Says (now (line .entry)) next (Allows labels) (λ c. partEnd c (labelled q (l .at) (l .name) (l .score))) r) ⌝ }
 {
     if line.len() <= next {
         return Found::Stuck(next);
@@ -97,7 +97,7 @@ fn label_end(line: &[u8], p: PartRead, from: usize, to: usize, score: Score, nex
 
 // Behind the number of a score.
 fn score_end(line: &[u8], p: PartRead, from: usize, to: usize, score: Score, next: usize) -> Found
-    ensures { λ r. ⌜ ((shut : ℕ) (q : Part ℕ) (n : Written ℕ) → PartIs (now (line .entry)) p q → Named (now (line .entry)) from to → ScoreIs (to + 1) score (some n) → next ≤ length (now (line .entry)) → Says (now (line .entry)) next (ShutBy shut) (λ c. scoreEnd c q from (part from (to - from) (now (line .entry))) n) r) ⌝ }
+    ensures { λ r. ⌜ ((labels : Bool) (q : Part ℕ) (n : Written ℕ) → PartIs (now (line .entry)) p q → Named (now (line .entry)) from to → ScoreIs (to + 1) score (some n) → next ≤ length (now (line .entry)) → Says (now (line .entry)) next (Allows labels) (λ c. scoreEnd c q from (part from (to - from) (now (line .entry))) n) r) ⌝ }
 {
     if line.len() <= next {
         return Found::Stuck(next);
@@ -110,7 +110,7 @@ fn score_end(line: &[u8], p: PartRead, from: usize, to: usize, score: Score, nex
 
 // The number of a score.
 fn score_of(line: &[u8], p: PartRead, from: usize, to: usize, number: Num) -> Found
-    ensures { λ r. ⌜ ((shut : ℕ) (q : Part ℕ) (j : ℕ) (d : Digits) → PartIs (now (line .entry)) p q → Named (now (line .entry)) from to → j ≤ length (now (line .entry)) → number ≡ numOf (scanNumber (to + 1) d (drop j (now (line .entry))) j) → Says (now (line .entry)) j (ShutBy shut) (λ c. innerStep j (inScore c q from (part from (to - from) (now (line .entry))) (to + 1) d)) r) ⌝ }
+    ensures { λ r. ⌜ ((labels : Bool) (q : Part ℕ) (j : ℕ) (d : Digits) → PartIs (now (line .entry)) p q → Named (now (line .entry)) from to → j ≤ length (now (line .entry)) → number ≡ numOf (scanNumber (to + 1) d (drop j (now (line .entry))) j) → Says (now (line .entry)) j (Allows labels) (λ c. innerStep j (inScore c q from (part from (to - from) (now (line .entry))) (to + 1) d)) r) ⌝ }
 {
     match number {
         Num::Value { number: n, next } => score_end(line, p, from, to, Score::Scored(n), next),
@@ -122,7 +122,7 @@ fn score_of(line: &[u8], p: PartRead, from: usize, to: usize, number: Num) -> Fo
 // Behind the `(` of a score, at `to`.
 fn score_at(line: &[u8], p: PartRead, from: usize, to: usize) -> Found
     requires { ⌜ to < length (now line) ⌝ }
-    ensures { λ r. ⌜ ((shut : ℕ) (q : Part ℕ) → PartIs (now (line .entry)) p q → Named (now (line .entry)) from to → Says (now (line .entry)) (to + 1) (ShutBy shut) (λ c. innerStep (to + 1) (scoring c q from (part from (to - from) (now (line .entry))))) r) ⌝ }
+    ensures { λ r. ⌜ ((labels : Bool) (q : Part ℕ) → PartIs (now (line .entry)) p q → Named (now (line .entry)) from to → Says (now (line .entry)) (to + 1) (Allows labels) (λ c. innerStep (to + 1) (scoring c q from (part from (to - from) (now (line .entry))))) r) ⌝ }
 {
     let at = to + 1;
     if line.len() <= at {
@@ -152,7 +152,7 @@ fn score_at(line: &[u8], p: PartRead, from: usize, to: usize) -> Found
 
 // Behind the `#` of a label.
 fn label_at(line: &[u8], p: PartRead, at: usize) -> Found
-    ensures { λ r. ⌜ ((shut : ℕ) (q : Part ℕ) → PartIs (now (line .entry)) p q → at ≤ length (now (line .entry)) → Says (now (line .entry)) at (ShutBy shut) (λ c. innerStep at (hashed c q)) r) ⌝ }
+    ensures { λ r. ⌜ ((labels : Bool) (q : Part ℕ) → PartIs (now (line .entry)) p q → at ≤ length (now (line .entry)) → Says (now (line .entry)) at (Allows labels) (λ c. innerStep at (hashed c q)) r) ⌝ }
 {
     let end = classes::alnum_end(line, at);
     if end == at {
@@ -168,8 +168,8 @@ fn label_at(line: &[u8], p: PartRead, at: usize) -> Found
 }
 
 // Behind a part's text or mass.
-fn value_end(line: &[u8], p: PartRead, shut: u8) -> Found
-    ensures { λ r. ⌜ ((q : Part ℕ) → PartIs (now (line .entry)) p q → p .next ≤ length (now (line .entry)) → Says (now (line .entry)) (p .next) (ShutBy shut) (λ c. valueEnd c q) r) ⌝ }
+fn value_end(line: &[u8], p: PartRead, labels: bool) -> Found
+    ensures { λ r. ⌜ ((q : Part ℕ) → PartIs (now (line .entry)) p q → p .next ≤ length (now (line .entry)) → Says (now (line .entry)) (p .next) (Allows labels) (λ c. valueEnd c q) r) ⌝ }
 {
     let at = p.next;
     if line.len() <= at {
@@ -178,28 +178,28 @@ fn value_end(line: &[u8], p: PartRead, shut: u8) -> Found
     if line[at] != b'#' {
         return Found::Read(p);
     }
-    if shut != b']' {
-        return Found::Read(p);
+    if labels {
+        return label_at(line, p, at + 1);
     }
-    label_at(line, p, at + 1)
+    Found::Read(p)
 }
 
 // The number of a mass whose sign stands at `sign`.
-fn mass_of(line: &[u8], at: usize, key: Key, sign: usize, number: Num, shut: u8) -> Found
-    ensures { λ r. ⌜ ((j : ℕ) (d : Digits) → at ≤ sign → sign ≤ length (now (line .entry)) → j ≤ length (now (line .entry)) → number ≡ numOf (scanNumber sign d (drop j (now (line .entry))) j) → Says (now (line .entry)) j (ShutBy shut) (λ c. innerStep j (inNumber c at key sign d)) r) ⌝ }
+fn mass_of(line: &[u8], at: usize, key: Key, sign: usize, number: Num, labels: bool) -> Found
+    ensures { λ r. ⌜ ((j : ℕ) (d : Digits) → at ≤ sign → sign ≤ length (now (line .entry)) → j ≤ length (now (line .entry)) → number ≡ numOf (scanNumber sign d (drop j (now (line .entry))) j) → Says (now (line .entry)) j (Allows labels) (λ c. innerStep j (inNumber c at key sign d)) r) ⌝ }
 {
     match number {
         Num::Value { number: n, next } => {
-            value_end(line, bare(at, key, sign, Value::Mass(n), next), shut)
+            value_end(line, bare(at, key, sign, Value::Mass(n), next), labels)
         }
-        Num::Wide(next) => value_end(line, bare(at, key, sign, Value::Wide, next), shut),
+        Num::Wide(next) => value_end(line, bare(at, key, sign, Value::Wide, next), labels),
         Num::NoNumber(i) => Found::Stuck(i),
     }
 }
 
 // A text from `from` to `to`.
-fn text_of(line: &[u8], at: usize, key: Key, from: usize, to: usize, shut: u8) -> Found
-    ensures { λ r. ⌜ (from ≡ at + length (written key) → from ≤ to → to ≤ length (now (line .entry)) → Says (now (line .entry)) to (ShutBy shut) (λ c. textEnd c at key (part from (to - from) (now (line .entry))) []) r) ⌝ }
+fn text_of(line: &[u8], at: usize, key: Key, from: usize, to: usize, labels: bool) -> Found
+    ensures { λ r. ⌜ (from ≡ at + length (written key) → from ≤ to → to ≤ length (now (line .entry)) → Says (now (line .entry)) to (Allows labels) (λ c. textEnd c at key (part from (to - from) (now (line .entry))) []) r) ⌝ }
 {
     if to == from {
         return Found::Stuck(to);
@@ -207,7 +207,7 @@ fn text_of(line: &[u8], at: usize, key: Key, from: usize, to: usize, shut: u8) -
     value_end(
         line,
         bare(at, key, from, Value::Text { from, to }, to),
-        shut,
+        labels,
     )
 }
 
@@ -219,20 +219,20 @@ fn text_from(
     from: usize,
     scan: usize,
     hashes: bool,
-    shut: u8,
+    labels: bool,
 ) -> Found
-    ensures { λ r. ⌜ (hashIsPlain (form key) ≡ hashes → from ≡ at + length (written key) → from ≤ scan → scan ≤ length (now (line .entry)) → Says (now (line .entry)) scan (ShutBy shut) (λ c. innerStep scan (inText c at key (part from (scan - from) (now (line .entry))) [])) r) ⌝ }
+    ensures { λ r. ⌜ (hashIsPlain (form key) ≡ hashes → from ≡ at + length (written key) → from ≤ scan → scan ≤ length (now (line .entry)) → Says (now (line .entry)) scan (Allows labels) (λ c. innerStep scan (inText c at key (part from (scan - from) (now (line .entry))) [])) r) ⌝ }
 {
     let e = texts::text_end(line, scan, hashes);
     match e {
-        TextEnd::Ends(to) => text_of(line, at, key, from, to, shut),
+        TextEnd::Ends(to) => text_of(line, at, key, from, to, labels),
         TextEnd::Stuck(i) => Found::Stuck(i),
     }
 }
 
 // Behind a one-letter prefix: a mass where a sign stands, else a name.
-fn mass_or_name(line: &[u8], at: usize, key: Key, from: usize, shut: u8) -> Found
-    ensures { λ r. ⌜ (form key ≡ massOrName → from ≡ at + length (written key) → from ≤ length (now (line .entry)) → Says (now (line .entry)) from (ShutBy shut) (λ c. innerStep from (keyed c at key)) r) ⌝ }
+fn mass_or_name(line: &[u8], at: usize, key: Key, from: usize, labels: bool) -> Found
+    ensures { λ r. ⌜ (form key ≡ massOrName → from ≡ at + length (written key) → from ≤ length (now (line .entry)) → Says (now (line .entry)) from (Allows labels) (λ c. innerStep from (keyed c at key)) r) ⌝ }
 {
     if line.len() <= from {
         return Found::Stuck(from);
@@ -245,7 +245,7 @@ fn mass_or_name(line: &[u8], at: usize, key: Key, from: usize, shut: u8) -> Foun
             key,
             from,
             numerals::number_after_sign(line, from + 1, true),
-            shut,
+            labels,
         );
     }
     if b == b'+' {
@@ -255,15 +255,15 @@ fn mass_or_name(line: &[u8], at: usize, key: Key, from: usize, shut: u8) -> Foun
             key,
             from,
             numerals::number_after_sign(line, from + 1, false),
-            shut,
+            labels,
         );
     }
-    text_from(line, at, key, from, from, false, shut)
+    text_from(line, at, key, from, from, false, labels)
 }
 
 // Behind `Obs:`: a mass and nothing else.
-fn mass_only(line: &[u8], at: usize, key: Key, from: usize, shut: u8) -> Found
-    ensures { λ r. ⌜ (form key ≡ massOnly → from ≡ at + length (written key) → from ≤ length (now (line .entry)) → Says (now (line .entry)) from (ShutBy shut) (λ c. innerStep from (keyed c at key)) r) ⌝ }
+fn mass_only(line: &[u8], at: usize, key: Key, from: usize, labels: bool) -> Found
+    ensures { λ r. ⌜ (form key ≡ massOnly → from ≡ at + length (written key) → from ≤ length (now (line .entry)) → Says (now (line .entry)) from (Allows labels) (λ c. innerStep from (keyed c at key)) r) ⌝ }
 {
     if line.len() <= from {
         return Found::Stuck(from);
@@ -276,7 +276,7 @@ fn mass_only(line: &[u8], at: usize, key: Key, from: usize, shut: u8) -> Found
             key,
             from,
             numerals::number_after_sign(line, from + 1, true),
-            shut,
+            labels,
         );
     }
     if b == b'+' {
@@ -286,88 +286,88 @@ fn mass_only(line: &[u8], at: usize, key: Key, from: usize, shut: u8) -> Found
             key,
             from,
             numerals::number_after_sign(line, from + 1, false),
-            shut,
+            labels,
         );
     }
     Found::Stuck(from)
 }
 
 // An accession of digits.
-fn digits_at(line: &[u8], at: usize, key: Key, from: usize, shut: u8) -> Found
-    ensures { λ r. ⌜ (form key ≡ digits → from ≡ at + length (written key) → from ≤ length (now (line .entry)) → Says (now (line .entry)) from (ShutBy shut) (λ c. innerStep from (inCode c at key [])) r) ⌝ }
+fn digits_at(line: &[u8], at: usize, key: Key, from: usize, labels: bool) -> Found
+    ensures { λ r. ⌜ (form key ≡ digits → from ≡ at + length (written key) → from ≤ length (now (line .entry)) → Says (now (line .entry)) from (Allows labels) (λ c. innerStep from (inCode c at key [])) r) ⌝ }
 {
     let to = classes::digit_end(line, from);
-    text_of(line, at, key, from, to, shut)
+    text_of(line, at, key, from, to, labels)
 }
 
 // An accession of letters or digits.
-fn alnums_at(line: &[u8], at: usize, key: Key, from: usize, shut: u8) -> Found
-    ensures { λ r. ⌜ (form key ≡ alnums → from ≡ at + length (written key) → from ≤ length (now (line .entry)) → Says (now (line .entry)) from (ShutBy shut) (λ c. innerStep from (inCode c at key [])) r) ⌝ }
+fn alnums_at(line: &[u8], at: usize, key: Key, from: usize, labels: bool) -> Found
+    ensures { λ r. ⌜ (form key ≡ alnums → from ≡ at + length (written key) → from ≤ length (now (line .entry)) → Says (now (line .entry)) from (Allows labels) (λ c. innerStep from (inCode c at key [])) r) ⌝ }
 {
     let to = classes::alnum_end(line, from);
-    text_of(line, at, key, from, to, shut)
+    text_of(line, at, key, from, to, labels)
 }
 
 // Behind a key and its colon.
-fn behind_key(line: &[u8], at: usize, key: Key, from: usize, shut: u8) -> Found
-    ensures { λ r. ⌜ (from ≡ at + length (written key) → from ≤ length (now (line .entry)) → Says (now (line .entry)) from (ShutBy shut) (λ c. innerStep from (behindKey c at key (form key))) r) ⌝ }
+fn behind_key(line: &[u8], at: usize, key: Key, from: usize, labels: bool) -> Found
+    ensures { λ r. ⌜ (from ≡ at + length (written key) → from ≤ length (now (line .entry)) → Says (now (line .entry)) from (Allows labels) (λ c. innerStep from (behindKey c at key (form key))) r) ⌝ }
 {
     match key {
-        Key::NoKey => mass_or_name(line, at, key, from, shut),
-        Key::U => mass_or_name(line, at, key, from, shut),
-        Key::M => mass_or_name(line, at, key, from, shut),
-        Key::R => mass_or_name(line, at, key, from, shut),
-        Key::X => mass_or_name(line, at, key, from, shut),
-        Key::G => mass_or_name(line, at, key, from, shut),
-        Key::C => mass_or_name(line, at, key, from, shut),
-        Key::Obs => mass_only(line, at, key, from, shut),
-        Key::Unimod => digits_at(line, at, key, from, shut),
-        Key::Mod => digits_at(line, at, key, from, shut),
-        Key::Xlmod => digits_at(line, at, key, from, shut),
-        Key::Resid => alnums_at(line, at, key, from, shut),
-        Key::Gno => alnums_at(line, at, key, from, shut),
-        Key::Info => text_from(line, at, key, from, from, true, shut),
-        Key::Formula => text_from(line, at, key, from, from, true, shut),
-        Key::Glycan => text_from(line, at, key, from, from, true, shut),
-        Key::Position => text_from(line, at, key, from, from, true, shut),
-        Key::Limit => text_from(line, at, key, from, from, true, shut),
+        Key::NoKey => mass_or_name(line, at, key, from, labels),
+        Key::U => mass_or_name(line, at, key, from, labels),
+        Key::M => mass_or_name(line, at, key, from, labels),
+        Key::R => mass_or_name(line, at, key, from, labels),
+        Key::X => mass_or_name(line, at, key, from, labels),
+        Key::G => mass_or_name(line, at, key, from, labels),
+        Key::C => mass_or_name(line, at, key, from, labels),
+        Key::Obs => mass_only(line, at, key, from, labels),
+        Key::Unimod => digits_at(line, at, key, from, labels),
+        Key::Mod => digits_at(line, at, key, from, labels),
+        Key::Xlmod => digits_at(line, at, key, from, labels),
+        Key::Resid => alnums_at(line, at, key, from, labels),
+        Key::Gno => alnums_at(line, at, key, from, labels),
+        Key::Info => text_from(line, at, key, from, from, true, labels),
+        Key::Formula => text_from(line, at, key, from, from, true, labels),
+        Key::Glycan => text_from(line, at, key, from, from, true, labels),
+        Key::Position => text_from(line, at, key, from, from, true, labels),
+        Key::Limit => text_from(line, at, key, from, from, true, labels),
     }
 }
 
 // Plain bytes from `at` to `end`, and a colon.
-fn colon_at(line: &[u8], at: usize, end: usize, shut: u8) -> Found
+fn colon_at(line: &[u8], at: usize, end: usize, labels: bool) -> Found
     requires { ⌜ (at < end) × (end < length (now line)) ⌝ }
-    ensures { λ r. ⌜ (getD (now (line .entry)) end 0 ≡ colon → Says (now (line .entry)) end (ShutBy shut) (λ c. innerStep end (plain c at (part at (end - at) (now (line .entry))))) r) ⌝ }
+    ensures { λ r. ⌜ (getD (now (line .entry)) end 0 ≡ colon → Says (now (line .entry)) end (Allows labels) (λ c. innerStep end (plain c at (part at (end - at) (now (line .entry))))) r) ⌝ }
 {
     let key = keywords::key_in(line, at, end);
     if keywords::key_code(key) == 0 {
-        return text_from(line, at, Key::NoKey, at, end, false, shut);
+        return text_from(line, at, Key::NoKey, at, end, false, labels);
     }
-    behind_key(line, at, key, end + 1, shut)
+    behind_key(line, at, key, end + 1, labels)
 }
 
 // A part that begins with no sign and no `#`.
-fn word_at(line: &[u8], at: usize, shut: u8) -> Found
+fn word_at(line: &[u8], at: usize, labels: bool) -> Found
     requires { ⌜ at < length (now line) ⌝ }
-    ensures { λ r. ⌜ (isSign (getD (now (line .entry)) at 0) ≡ false → (getD (now (line .entry)) at 0 ≡ hash → ⊥) → Says (now (line .entry)) at (ShutBy shut) (λ c. innerStep at (begin c)) r) ⌝ }
+    ensures { λ r. ⌜ (isSign (getD (now (line .entry)) at 0) ≡ false → (getD (now (line .entry)) at 0 ≡ hash → ⊥) → Says (now (line .entry)) at (Allows labels) (λ c. innerStep at (begin c)) r) ⌝ }
 {
     let end = classes::plain_end(line, at);
     if end == at {
-        return text_from(line, at, Key::NoKey, at, at, false, shut);
+        return text_from(line, at, Key::NoKey, at, at, false, labels);
     }
     if line.len() <= end {
         return Found::Stuck(end);
     }
     if line[end] == b':' {
-        return colon_at(line, at, end, shut);
+        return colon_at(line, at, end, labels);
     }
-    text_from(line, at, Key::NoKey, at, end, false, shut)
+    text_from(line, at, Key::NoKey, at, end, false, labels)
 }
 
 // The `#` of a reference, at `at`.
 fn reference_at(line: &[u8], at: usize, refers: bool) -> Found
     requires { ⌜ at < length (now line) ⌝ }
-    ensures { λ r. ⌜ ((shut : ℕ) → getD (now (line .entry)) at 0 ≡ hash → Says (now (line .entry)) at (Opens shut refers) (λ c. innerStep at (begin c)) r) ⌝ }
+    ensures { λ r. ⌜ ((labels : Bool) → getD (now (line .entry)) at 0 ≡ hash → Says (now (line .entry)) at (Opens labels refers) (λ c. innerStep at (begin c)) r) ⌝ }
 {
     if refers {
         return label_at(line, bare(at, Key::NoKey, at, Value::Reference, at), at + 1);
@@ -375,9 +375,9 @@ fn reference_at(line: &[u8], at: usize, refers: bool) -> Found
     Found::Stuck(at)
 }
 
-// The part that begins at `at`, in a bracket that `shut` closes; `refers` says whether a lone reference may stand here.
-pub fn part_at(line: &[u8], at: usize, shut: u8, refers: bool) -> Found
-    ensures { λ r. ⌜ (at ≤ length (now (line .entry)) → Says (now (line .entry)) at (Opens shut refers) (λ c. innerStep at (begin c)) r) ⌝ }
+// The part that begins at `at`; `labels` says whether it may have a label, `refers` whether a lone reference may stand here.
+pub fn part_at(line: &[u8], at: usize, labels: bool, refers: bool) -> Found
+    ensures { λ r. ⌜ (at ≤ length (now (line .entry)) → Says (now (line .entry)) at (Opens labels refers) (λ c. innerStep at (begin c)) r) ⌝ }
 {
     if line.len() <= at {
         return Found::Stuck(at);
@@ -390,7 +390,7 @@ pub fn part_at(line: &[u8], at: usize, shut: u8, refers: bool) -> Found
             Key::NoKey,
             at,
             numerals::number_after_sign(line, at + 1, true),
-            shut,
+            labels,
         );
     }
     if b == b'+' {
@@ -400,11 +400,11 @@ pub fn part_at(line: &[u8], at: usize, shut: u8, refers: bool) -> Found
             Key::NoKey,
             at,
             numerals::number_after_sign(line, at + 1, false),
-            shut,
+            labels,
         );
     }
     if b == b'#' {
         return reference_at(line, at, refers);
     }
-    word_at(line, at, shut)
+    word_at(line, at, labels)
 }

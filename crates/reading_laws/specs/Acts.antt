@@ -3,7 +3,7 @@
 -- over modes is one test, computed over the modes (each-mode).
 use Prim.Native.Nat.{ℕ, zero, suc}
 use mathlib.Core.Path.{_≡_, refl, sym, _∙_, subst}
-use mathlib.Core.Bool.{Bool, true, false, cond, _&&_, false≢true}
+use mathlib.Core.Bool.{Bool, true, false, cond, _&&_, _||_, false≢true}
 use mathlib.Core.List.{List, [], _∷_, _++_}
 use native.Mathlib.Omega.{arith}
 use lib.Dec.{eqb}
@@ -11,7 +11,7 @@ use Rattle.scope.specs.declared.grammar.Section.{Section}
 use Rattle.scope.specs.declared.grammar.Section.the-variants.{Plain, RangeFirst, RangeNext, UnsureFirst, UnsureNext}
 use Rattle.scope.specs.declared.grammar.Kind.the-variants.{Unknown, NTerm, OnResidue, OnRange, CTerm}
 use Rattle.scope.specs.declared.grammar.Mode.{Mode}
-use Rattle.scope.specs.declared.grammar.Mode.the-variants.{Front, Undecided, Counted, Referred, Caret, Counting, Labiles, NTerms, Start, Single, Opened, UnsureOpened, InRange, InUnsure, RangeEnd, Ranged, UnsureEnd, CStart, CTerms}
+use Rattle.scope.specs.declared.grammar.Mode.the-variants.{Front, Runs, Undecided, Counted, Referred, Caret, Counting, Labiles, NTerms, Start, Single, Opened, UnsureOpened, InRange, InUnsure, RangeEnd, Ranged, UnsureEnd, CStart, CTerms}
 use Rattle.scope.specs.declared.grammar.Slot.{Slot}
 use Rattle.scope.specs.declared.grammar.Act.{Act}
 use Rattle.scope.specs.declared.grammar.Act.the-variants.{Stop, Go, Residue as aResidue, Begin, Digit, RunEnds, TermEnds}
@@ -53,8 +53,12 @@ inGroups s m end =
 abbrev pub counteds : List Way
 counteds = on (only openSquare) (Begin (square Unknown false Counted)) ∷ on (only question) RunEnds ∷ []
 
+abbrev pub atFronts : List Way
+atFronts = on (only openSquare) (Begin front) ∷ on (only openCurly) (Begin labile) ∷ elements
+
 abbrev pub ways : Mode → List Way
-ways Front = on (only openSquare) (Begin front) ∷ on (only openCurly) (Begin labile) ∷ elements
+ways Front = atFronts
+ways Runs = atFronts
 ways Undecided =
     on (only caret) (Go Caret) ∷ on (only openSquare) (Begin front) ∷ on (only question) RunEnds ∷ on (only dash) TermEnds ∷ []
 ways Counted = on (only caret) (Go Caret) ∷ counteds
@@ -94,7 +98,7 @@ failing T (x ∷ l) = cond (T x) [] (x ∷ []) ++ failing T l
 
 abbrev others : List Mode
 others =
-    Undecided ∷ Counted ∷ Referred ∷ Caret ∷ Counting ∷ Labiles ∷ NTerms ∷ Start ∷ Single ∷ Opened ∷ UnsureOpened ∷ InRange ∷ InUnsure ∷ RangeEnd
+    Runs ∷ Undecided ∷ Counted ∷ Referred ∷ Caret ∷ Counting ∷ Labiles ∷ NTerms ∷ Start ∷ Single ∷ Opened ∷ UnsureOpened ∷ InRange ∷ InUnsure ∷ RangeEnd
     ∷ Ranged ∷ UnsureEnd ∷ CStart ∷ CTerms ∷ []
 
 abbrev pub modes : List Mode
@@ -134,24 +138,25 @@ no e = absurd (false≢true e)
 known : (m : Mode) → Known m
 unfolding act element further groupFirst inGroup undecided counted referred pick
 known Front = row 0 (λ b. refl) no
-known Undecided = row 1 (λ b. refl) no
-known Counted = row 2 (λ b. refl) no
-known Referred = row 3 (λ b. refl) no
-known Caret = row 4 (λ b. refl) no
-known Counting = row 5 (λ b. refl) no
-known Labiles = row 6 (λ b. refl) no
-known NTerms = row 7 (λ b. refl) no
-known Start = row 8 (λ b. refl) no
-known Single = row 9 (λ b. refl) (λ e. single-ends)
-known Opened = row 10 (λ b. refl) no
-known UnsureOpened = row 11 (λ b. refl) no
-known InRange = row 12 (λ b. refl) no
-known InUnsure = row 13 (λ b. refl) no
-known RangeEnd = row 14 (λ b. refl) no
-known Ranged = row 15 (λ b. refl) (λ e. ranged-ends)
-known UnsureEnd = row 16 (λ b. refl) (λ e. unsure-ends)
-known CStart = row 17 (λ b. refl) no
-known CTerms = row 18 (λ b. refl) (λ e. cterms-end)
+known Runs = row 1 (λ b. refl) no
+known Undecided = row 2 (λ b. refl) no
+known Counted = row 3 (λ b. refl) no
+known Referred = row 4 (λ b. refl) no
+known Caret = row 5 (λ b. refl) no
+known Counting = row 6 (λ b. refl) no
+known Labiles = row 7 (λ b. refl) no
+known NTerms = row 8 (λ b. refl) no
+known Start = row 9 (λ b. refl) no
+known Single = row 10 (λ b. refl) (λ e. single-ends)
+known Opened = row 11 (λ b. refl) no
+known UnsureOpened = row 12 (λ b. refl) no
+known InRange = row 13 (λ b. refl) no
+known InUnsure = row 14 (λ b. refl) no
+known RangeEnd = row 15 (λ b. refl) no
+known Ranged = row 16 (λ b. refl) (λ e. ranged-ends)
+known UnsureEnd = row 17 (λ b. refl) (λ e. unsure-ends)
+known CStart = row 18 (λ b. refl) no
+known CTerms = row 19 (λ b. refl) (λ e. cterms-end)
 
 pub each-mode : (T : Mode → Bool) → failing T modes ≡ [] → (m : Mode) → T m ≡ true
 each-mode T e m = known m .passes T e
@@ -255,3 +260,39 @@ ofSlot T (Begin s) = T s
 ofSlot T Digit = true
 ofSlot T RunEnds = true
 ofSlot T TermEnds = true
+
+-- ---- what may be done in a mode
+abbrev pub someWay : (Act → Bool) → List Way → Bool
+someWay T [] = false
+someWay T (w ∷ ws) = T (w .does) || someWay T ws
+
+abbrev pub endsRun : Act → Bool
+endsRun Stop = false
+endsRun (Go m) = false
+endsRun (aResidue s m) = false
+endsRun (Begin s) = false
+endsRun Digit = false
+endsRun RunEnds = true
+endsRun TermEnds = false
+
+abbrev pub endsTerm : Act → Bool
+endsTerm Stop = false
+endsTerm (Go m) = false
+endsTerm (aResidue s m) = false
+endsTerm (Begin s) = false
+endsTerm Digit = false
+endsTerm RunEnds = false
+endsTerm TermEnds = true
+
+abbrev pub counts : Act → Bool
+counts Stop = false
+counts (Go m) = false
+counts (aResidue s m) = false
+counts (Begin s) = false
+counts Digit = true
+counts RunEnds = false
+counts TermEnds = false
+
+-- brackets at the front wait where `?` or `-` may settle them, or a count go on
+abbrev pub waits : Mode → Bool
+waits m = someWay endsRun (ways m) || (someWay endsTerm (ways m) || someWay counts (ways m))

@@ -1,7 +1,8 @@
 -- Every state that is reached and not dead can be finished: some bytes lead from it to where a line may end.
-use Prim.Native.Nat.{ℕ, _+_, _*_}
+use Prim.Native.Nat.{ℕ, zero, suc, _+_, _*_}
 use mathlib.Core.Path.{_≡_, refl, sym, ap, _∙_}
-use mathlib.Core.Bool.{Bool, true, false}
+use mathlib.Core.Logic.{⊎-elim}
+use mathlib.Core.Bool.{Bool, true, false, _&&_, _||_, false≢true}
 use mathlib.Core.Option.{none, some}
 use mathlib.Core.List.{List, [], _∷_, _++_}
 use lib.Dec.{eqb}
@@ -9,14 +10,19 @@ use borrow.Author.Tests.{eq-eqb}
 use Rattle.scope.specs.declared.grammar.Key.{Key}
 use Rattle.scope.specs.declared.grammar.Key.the-variants.{NoKey}
 use Rattle.scope.specs.declared.grammar.Mode.{Mode}
-use Rattle.scope.specs.declared.grammar.Mode.the-variants.{Front, Undecided, Counted, Referred, Caret, Counting, Labiles, NTerms, Start, Single, Opened, UnsureOpened, InRange, InUnsure, RangeEnd, Ranged, UnsureEnd, CStart, CTerms}
+use Rattle.scope.specs.declared.grammar.Mode.the-variants.{Runs, Counting, Start}
 use Rattle.scope.specs.declared.grammar.Slot.{Slot}
+use Rattle.scope.specs.declared.grammar.Act.{Act}
+use Rattle.scope.specs.declared.grammar.Act.the-variants.{Stop, Go, Residue as aResidue, Begin, Digit, RunEnds, TermEnds}
+use Rattle.scope.specs.Bytes.{isShutting}
 use Rattle.scope.specs.Keys.{Form, massOrName, massOnly, digits, alnums, free, form, hashIsPlain, accessionByte}
 use Rattle.scope.specs.Line.{mass, text, Part}
 use Rattle.scope.specs.Content.{Digits, signed, whole, pointed, broken, digitStep, numberOf, numberEnd, textStep, Context, Inner, begin, plain, keyed, inNumber, inCode, inText, hashed, inLabel, scoring, inScore, scored, closed, going, unlabelled, labelled, partEnd, valueEnd, textEnd, innerStep}
-use Rattle.scope.specs.Reading.{element, groupFirst, inGroup, undecided, counted, referred, act, mayEnd, Held, withBracket, State, dead, outside, inside, perform, modeAfter, resume, step, run}
+use Rattle.scope.specs.Reading.{element, further, groupFirst, inGroup, undecided, counted, referred, act, mayEnd, Held, withBracket, State, dead, outside, inside, perform, modeAfter, resume, step, run}
 use Rattle.reading_laws.specs.Run.{run-nil, run-cons}
-use Rattle.reading_laws.specs.Reached.{Closer, square, curly, Closers, Good, GoodState}
+use Rattle.basics.specs.Tests.{and-left, and-right, one-of}
+use Rattle.reading_laws.specs.Acts.{each-mode}
+use Rattle.reading_laws.specs.Reached.{Closer, square, curly, closer, Closers, Good, GoodState}
 
 abbrev pub Alive : {P : Type 0} → State P → Type 0
 Alive (dead p) = ⊥
@@ -48,57 +54,6 @@ module _ {P : Type 0} (note : ℕ → P) where
 
   is : (i : ℕ) (s t : State P) → s ≡ t → Finished note i t → Finished note i s
   is i s t e r = rw e r
-
-  -- ---- outside brackets, by the bytes `A`, `?`, `-`, `)`, `1` and `[A]`
-  at-front : (i : ℕ) (h : Held P) → Finished note i (outside Front h)
-  unfolding step act element perform
-  at-front i h = then i _ 65 (now (i + 1) Single _ refl)
-
-  at-start : (i : ℕ) (h : Held P) → Finished note i (outside Start h)
-  unfolding step act element perform
-  at-start i h = then i _ 65 (now (i + 1) Single _ refl)
-
-  at-counting : (i : ℕ) (h : Held P) → Finished note i (outside Counting h)
-  unfolding step act counted perform
-  at-counting i h = then i _ 63 (at-front (i + 1) _)
-
-  at-range-end : (i : ℕ) (h : Held P) → Finished note i (outside RangeEnd h)
-  unfolding step act perform innerStep textStep valueEnd partEnd resume
-  at-range-end i h = then i _ 91 (then (i + 1) _ 65 (then (i + 1 + 1) _ 93 (now (i + 1 + 1 + 1) Ranged _ refl)))
-
-  at-c-start : (i : ℕ) (h : Held P) → Finished note i (outside CStart h)
-  unfolding step act perform innerStep textStep valueEnd partEnd resume
-  at-c-start i h = then i _ 91 (then (i + 1) _ 65 (then (i + 1 + 1) _ 93 (now (i + 1 + 1 + 1) CTerms _ refl)))
-
-  in-range : (i : ℕ) (h : Held P) → Finished note i (outside InRange h)
-  unfolding step act inGroup perform
-  in-range i h = then i _ 41 (at-range-end (i + 1) h)
-
-  in-unsure : (i : ℕ) (h : Held P) → Finished note i (outside InUnsure h)
-  unfolding step act inGroup perform
-  in-unsure i h = then i _ 41 (now (i + 1) UnsureEnd h refl)
-
-  outside-finished : (i : ℕ) (m : Mode) (h : Held P) → Finished note i (outside m h)
-  unfolding step act element undecided counted referred groupFirst perform
-  outside-finished i Front h = at-front i h
-  outside-finished i Undecided h = then i _ 63 (at-front (i + 1) _)
-  outside-finished i Counted h = then i _ 63 (at-front (i + 1) _)
-  outside-finished i Referred h = then i _ 45 (at-start (i + 1) _)
-  outside-finished i Caret h = then i _ 49 (at-counting (i + 1) _)
-  outside-finished i Counting h = at-counting i h
-  outside-finished i Labiles h = then i _ 65 (now (i + 1) Single _ refl)
-  outside-finished i NTerms h = then i _ 45 (at-start (i + 1) _)
-  outside-finished i Start h = at-start i h
-  outside-finished i Single h = now i Single h refl
-  outside-finished i Opened h = then i _ 65 (in-range (i + 1) _)
-  outside-finished i UnsureOpened h = then i _ 65 (in-unsure (i + 1) _)
-  outside-finished i InRange h = in-range i h
-  outside-finished i InUnsure h = in-unsure i h
-  outside-finished i RangeEnd h = at-range-end i h
-  outside-finished i Ranged h = now i Ranged h refl
-  outside-finished i UnsureEnd h = now i UnsureEnd h refl
-  outside-finished i CStart h = at-c-start i h
-  outside-finished i CTerms h = now i CTerms h refl
 
 -- ---- the byte that closes a bracket
 module _ {P : Type 0} (c : Context P) where
@@ -172,6 +127,69 @@ pair-shut : {P : Type 0} {o : ℕ} (c : Context P) (i at : P) (k : Key) (t cs : 
 unfolding innerStep textStep
 pair-shut c i at k t cs square = refl
 pair-shut c i at k t cs curly = refl
+
+-- ---- outside brackets: from each mode one of the bytes `A`, `1`, `?`, `-`, `)`, or `[A]`, leads nearer to where a line may end
+abbrev tried : List ℕ
+tried = 65 ∷ 49 ∷ 63 ∷ 45 ∷ 41 ∷ 91 ∷ []
+
+-- what a byte does leads to a mode that passes, or begins a bracket that does
+abbrev leadsTo : (Mode → Bool) → Act → Bool
+leadsTo F Stop = false
+leadsTo F (Go m) = F m
+leadsTo F (aResidue s m) = F m
+leadsTo F (Begin s) = isShutting (s .shut) && F (s .after)
+leadsTo F Digit = F Counting
+leadsTo F RunEnds = F Runs
+leadsTo F TermEnds = F Start
+
+abbrev someLead : (Mode → Bool) → Mode → List ℕ → Bool
+someLead F m [] = false
+someLead F m (b ∷ l) = leadsTo F (act m b) || someLead F m l
+
+-- a line may end within n of these
+abbrev near : ℕ → Mode → Bool
+near zero m = mayEnd m
+near (suc n) m = mayEnd m || someLead (near n) m tried
+
+each-near : (m : Mode) → near 3 m ≡ true
+unfolding act element further groupFirst inGroup undecided counted referred
+each-near = each-mode (near 3) refl
+
+module _ {P : Type 0} (note : ℕ → P) where
+  abbrev Ends : (Mode → Bool) → Type 0
+  Ends F = (m : Mode) → F m ≡ true → (i : ℕ) (h : Held P) → Finished note i (outside m h)
+
+  -- the bracket `[A]`
+  bracket-finished : (F : Mode → Bool) → Ends F → (i : ℕ) (s : Slot) (from : P) (h : Held P) → isShutting (s .shut) ≡ true → F (s .after) ≡ true
+      → Finished note i (inside s from h (begin (record { shut = s .shut; refers = s .refers; labels = s .labels; parts = [] })))
+  unfolding step innerStep resume
+  bracket-finished F f i s from h c e =
+      then note i _ 65
+      (then note (i + 1) _ (s .shut)
+      (is note (i + 1 + 1) _ (outside (s .after) _) (ap (resume s from h (note (i + 1))) (plain-shut _ (note (i + 1)) (note i) (65 ∷ []) (closer (s .shut) c) refl)) (f (s .after) e (i + 1 + 1) _)))
+
+  act-finished : (F : Mode → Bool) → Ends F → (a : Act) → leadsTo F a ≡ true → (i b : ℕ) (h : Held P) → Finished note (i + 1) (perform (note i) b h a)
+  unfolding perform
+  act-finished F f Stop e i b h = absurd (false≢true e)
+  act-finished F f (Go m) e i b h = f m e (i + 1) h
+  act-finished F f (aResidue s m) e i b h = f m e (i + 1) _
+  act-finished F f (Begin s) e i b h = bracket-finished F f (i + 1) s (note i) h (and-left _ _ e) (and-right (isShutting (s .shut)) _ e)
+  act-finished F f Digit e i b h = f Counting e (i + 1) _
+  act-finished F f RunEnds e i b h = f Runs e (i + 1) _
+  act-finished F f TermEnds e i b h = f Start e (i + 1) _
+
+  some-finished : (F : Mode → Bool) → Ends F → (m : Mode) (l : List ℕ) → someLead F m l ≡ true → (i : ℕ) (h : Held P) → Finished note i (outside m h)
+  unfolding step
+  some-finished F f m [] e i h = absurd (false≢true e)
+  some-finished F f m (b ∷ l) e i h =
+      ⊎-elim (λ g. then note i (outside m h) b (act-finished F f (act m b) g i b h)) (λ g. some-finished F f m l g i h) (one-of (leadsTo F (act m b)) _ e)
+
+  near-finished : (n : ℕ) → Ends (near n)
+  near-finished zero m e i h = now note i m h e
+  near-finished (suc n) m e i h = ⊎-elim (now note i m h) (λ g. some-finished (near n) (near-finished n) m tried g i h) (one-of (mayEnd m) _ e)
+
+  outside-finished : (i : ℕ) (m : Mode) (h : Held P) → Finished note i (outside m h)
+  outside-finished i m h = near-finished 3 m (each-near m) i h
 
 -- ---- inside brackets
 module _ {P : Type 0} (note : ℕ → P) (s : Slot) (from : P) (h : Held P) where

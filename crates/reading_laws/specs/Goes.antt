@@ -8,7 +8,7 @@ use mathlib.Core.List.{List, [], _∷_, _++_}
 use lib.Dec.{eqb}
 use Rattle.scope.specs.declared.grammar.Key.{Key}
 use Rattle.scope.specs.declared.grammar.Key.the-variants.{NoKey}
-use Rattle.scope.specs.Bytes.{isDigit, isAlnum, isSign, shutSquare, bar, hash, colon, dash, openRound, shutRound, value}
+use Rattle.scope.specs.Bytes.{isDigit, isAlnum, isSign, bar, hash, colon, dash, openRound, shutRound, value}
 use Rattle.scope.specs.Keys.{keyOf, Form, massOrName, massOnly, digits, alnums, free, form, hashIsPlain, accessionByte}
 use Rattle.scope.specs.Line.{Number, mass, text, reference, Part}
 use Rattle.scope.specs.Content.{Digits, signed, whole, digitStep, numberEnd, isPlain, textStep, Context, Inner, begin, plain, keyed, inNumber, inCode, inText, hashed, inLabel, scoring, inScore, scored, Content, lost, closed, going, with, unlabelled, labelled, isReference, partEnd, valueEnd, textEnd, behindKey, colonAfter, nameBehind, innerStep}
@@ -58,7 +58,7 @@ pub data On {P : Type 0} (i : P) (b : ℕ) : Inner P → Inner P → Type 0 wher
   code-on : {c : Context P} {at : P} {k : Key} {t : List ℕ} → accessionByte (form k) b ≡ true → On i b (inCode c at k t) (inCode c at k (t ++ (b ∷ [])))
   text-on : {c : Context P} {at : P} {k : Key} {t cs ds : List ℕ} → textStep (hashIsPlain (form k)) cs b ≡ some ds → On i b (inText c at k t cs) (inText c at k (t ++ (b ∷ [])) ds)
   -- a label, and its score
-  hash-on : {s : Inner P} {c : Context P} {p : Part P} → Valued s c p → (eqb b hash && eqb (c .shut) shutSquare) ≡ true → On i b s (hashed c p)
+  hash-on : {s : Inner P} {c : Context P} {p : Part P} → Valued s c p → (eqb b hash && c .labels) ≡ true → On i b s (hashed c p)
   label-begins : {c : Context P} {p : Part P} → isAlnum b ≡ true → On i b (hashed c p) (inLabel c p i (b ∷ []))
   label-on : {c : Context P} {p : Part P} {at : P} {name : List ℕ} → isAlnum b ≡ true → On i b (inLabel c p at name) (inLabel c p at (name ++ (b ∷ [])))
   score-opens : {c : Context P} {p : Part P} {at : P} {name : List ℕ} → eqb b openRound ≡ true → On i b (inLabel c p at name) (scoring c p at name)
@@ -83,7 +83,7 @@ module _ {P : Type 0} (i : P) (b : ℕ) where
 
   valued : {s : Inner P} {c : Context P} {p : Part P} → Valued s c p → Goes i b s (valueEnd c p b)
   unfolding valueEnd
-  valued {s} {c} {p} v = branch-on (Goes i b s) (eqb b hash && eqb (c .shut) shutSquare) (λ e. goes-on (hash-on v e)) (λ e. over (of-value v))
+  valued {s} {c} {p} v = branch-on (Goes i b s) (eqb b hash && c .labels) (λ e. goes-on (hash-on v e)) (λ e. over (of-value v))
 
   in-code : (c : Context P) (at : P) (k : Key) (t : List ℕ) → Goes i b (inCode c at k t) (textEnd c at k t [] b)
   unfolding textEnd

@@ -11,11 +11,11 @@ use Rattle.scope.specs.declared.grammar.Key.{Key}
 use Rattle.scope.specs.declared.grammar.Key.the-variants.{NoKey}
 use Rattle.scope.specs.declared.grammar.Kind.{Kind}
 use Rattle.scope.specs.declared.grammar.Kind.the-variants.{Unknown, Labile, NTerm, OnResidue, OnRange, CTerm}
-use Rattle.scope.specs.declared.grammar.Mode.the-variants.{Front, Counting, Start}
+use Rattle.scope.specs.declared.grammar.Mode.the-variants.{Runs, Counting, Start}
 use Rattle.scope.specs.declared.grammar.Slot.{Slot}
 use Rattle.scope.specs.declared.grammar.Act.{Act}
 use Rattle.scope.specs.declared.grammar.Act.the-variants.{Stop, Go, Residue as aResidue, Begin, Digit, RunEnds, TermEnds}
-use Rattle.scope.specs.Bytes.{isSign, isDigit, isAlnum, bar, hash, colon, openRound, shutRound, shutSquare, value}
+use Rattle.scope.specs.Bytes.{isSign, isDigit, isAlnum, bar, hash, colon, openRound, shutRound, value}
 use Rattle.scope.specs.Keys.{keyOf, Form, massOrName, massOnly, digits, alnums, free, form, hashIsPlain, accessionByte}
 use Rattle.scope.specs.Line.{Number, Label, Value, mass, text, reference, Part, Bracket, Residue, Line}
 use Rattle.scope.specs.Lists.{given, none?, onLast, optional}
@@ -60,7 +60,7 @@ module _ {P Q : Type 0} (f : P → Q) where
   mapLine l = record { residues = map mapResidue (l .residues); brackets = map mapBracket (l .brackets) }
 
   abbrev pub mapContext : Context P → Context Q
-  mapContext c = record { shut = c .shut; refers = c .refers; parts = map mapPart (c .parts) }
+  mapContext c = record { shut = c .shut; refers = c .refers; labels = c .labels; parts = map mapPart (c .parts) }
 
   abbrev pub mapInner : Inner P → Inner Q
   mapInner (begin c) = begin (mapContext c)
@@ -113,7 +113,7 @@ module _ {P Q : Type 0} (f : P → Q) where
 
   valueEnd-map : (c : Context P) (p : Part P) (b : ℕ) → mapContent f (valueEnd c p b) ≡ valueEnd (mapContext f c) (mapPart f p) b
   unfolding valueEnd
-  valueEnd-map c p b = through (mapContent f) (eqb b hash && eqb (c .shut) shutSquare) refl (partEnd-map c p b)
+  valueEnd-map c p b = through (mapContent f) (eqb b hash && c .labels) refl (partEnd-map c p b)
 
   textEnd-map : (c : Context P) (at : P) (k : Key) (t cs : List ℕ) (b : ℕ)
       → mapContent f (textEnd c at k t cs b) ≡ textEnd (mapContext f c) (f at) k t cs b
@@ -241,7 +241,7 @@ module _ {P Q : Type 0} (f : P → Q) where
   perform-map i b h (aResidue s m) = ap (outside m) (withResidue-map i b s h)
   perform-map i b h (Begin s) = refl
   perform-map i b h Digit = ap (outside Counting) (withDigit-map i b h)
-  perform-map i b h RunEnds = ap (outside Front) (settledRun-map (λ k. k) (λ k. k) (λ k. refl) h)
+  perform-map i b h RunEnds = ap (outside Runs) (settledRun-map (λ k. k) (λ k. k) (λ k. refl) h)
   perform-map i b h TermEnds = ap (outside Start) (settledRun-map asNTerm asNTerm (λ k. refl) h)
 
   refers-map : (ps : List (Part P)) → refers? (map (mapPart f) ps) ≡ refers? ps

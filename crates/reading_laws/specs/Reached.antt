@@ -114,7 +114,7 @@ module _ {P : Type 0} where
   goes-good (shuts o e) g = tt
 
 -- ---- lines
-closer : (n : ℕ) → isShutting n ≡ true → Closer n
+pub closer : (n : ℕ) → isShutting n ≡ true → Closer n
 closer n e = go (eqb n 93) (eqb n 125) refl refl e
   where
     go : (t u : Bool) → eqb n 93 ≡ t → eqb n 125 ≡ u → (t || u) ≡ true → Closer n

@@ -19,8 +19,8 @@ Place = Unit {0}
 abbrev pub Parts : Type 0
 Parts = List (Part Place)
 
-abbrev pub context : ℕ → Bool → Parts → Context Place
-context shut r ps = record { shut = shut; refers = r; parts = ps }
+abbrev pub context : ℕ → Bool → Bool → Parts → Context Place
+context shut r labels ps = record { shut = shut; refers = r; labels = labels; parts = ps }
 
 -- ---- a run of digits
 unfoldable pub digitRun : Digits → List ℕ → Option Digits

@@ -8,7 +8,7 @@ use lib.Dec.{eqb}
 use Rattle.scope.specs.declared.grammar.Key.{Key}
 use Rattle.scope.specs.declared.grammar.Key.the-variants.{NoKey}
 use Rattle.scope.specs.Lists.{given, none?}
-use Rattle.scope.specs.Bytes.{isPrintable, isDigit, isAlnum, isSign, isOpening, isShutting, closerOf, shutSquare, bar, hash, colon, dash, dot, openRound, shutRound, value}
+use Rattle.scope.specs.Bytes.{isPrintable, isDigit, isAlnum, isSign, isOpening, isShutting, closerOf, bar, hash, colon, dash, dot, openRound, shutRound, value}
 use Rattle.scope.specs.Line.{Number, Label, Value, mass, text, reference, Part}
 use Rattle.scope.specs.Keys.{keyOf, Form, massOrName, massOnly, digits, alnums, free, form, hashIsPlain, accessionByte}
 
@@ -57,10 +57,11 @@ textStep hashes (c ∷ cs) b =
 
 -- ---- brackets: "parts split by `|`, none empty, or a lone reference `#label`"
 
--- the byte that closes the bracket, whether a reference may stand in it, and the parts read
+-- the byte that closes the bracket, whether a reference may stand in it, whether its parts may have labels, and the parts read
 pub record Context (P : Type 0) : Type 0 where
   pub shut : ℕ
   pub refers : Bool
+  pub labels : Bool
   pub parts : List (Part P)
 
 -- how far a bracket is read. A part is carried with the place of its first byte.
@@ -84,7 +85,7 @@ pub data Content (P : Type 0) : Type 0 where
   going : Inner P → Content P
 
 abbrev pub with : {P : Type 0} → Context P → Part P → Context P
-with c p = record { shut = c .shut; refers = c .refers; parts = c .parts ++ (p ∷ []) }
+with c p = record { shut = c .shut; refers = c .refers; labels = c .labels; parts = c .parts ++ (p ∷ []) }
 
 abbrev pub unlabelled : {P : Type 0} → P → Key → Value P → Part P
 unlabelled at k v = record { key = k; value = v; label = none; at = at }
@@ -103,9 +104,9 @@ partEnd c p b =
     cond (eqb b (c .shut)) (closed (c .parts ++ (p ∷ [])))
     (cond (eqb b bar && not (isReference (p .value))) (going (begin (with c p))) lost)
 
--- the part's text or mass is over: "`#` starts a label, which ends its part"; "`{}` holds no label"
+-- the part's text or mass is over: "`#` starts a label, which ends its part", where the bracket may hold one
 unfoldable pub valueEnd : {P : Type 0} → Context P → Part P → ℕ → Content P
-valueEnd c p b = cond (eqb b hash && eqb (c .shut) shutSquare) (going (hashed c p)) (partEnd c p b)
+valueEnd c p b = cond (eqb b hash && c .labels) (going (hashed c p)) (partEnd c p b)
 
 -- "A part's whole text .. never empty", and each pair is closed
 unfoldable pub textEnd : {P : Type 0} → Context P → P → Key → List ℕ → List ℕ → ℕ → Content P

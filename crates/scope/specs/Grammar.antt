@@ -214,7 +214,7 @@ pub record Piece : Type 0 where
 abbrev pub printPiece : Piece → List ℕ
 printPiece p = printBase (p .base) ++ printTag (p .tag)
 
--- where a part may have a label: "`{}` holds no label"; where `#` is plain there is none
+-- where a part may have a label: where `#` is plain there is none
 abbrev pub formIn : Base → Form
 formIn b = form (keyIn b)
 
@@ -225,6 +225,7 @@ tagFits digits = true
 tagFits alnums = true
 tagFits free = false
 
+-- by whether the parts of its bracket may have labels
 abbrev pub goodPiece : Bool → Piece → Bool
 goodPiece labels p = goodBase (p .base) && (goodTag (p .tag) && (not (there? (p .tag)) || (labels && tagFits (formIn (p .base)))))
 
@@ -253,10 +254,10 @@ abbrev pub printInside : Inside → List ℕ
 printInside (parts p ps) = printPieces p ps
 printInside (refers t) = printTag (some t)
 
--- by the byte that closes the bracket, and whether a reference may stand in it
-abbrev pub goodInside : ℕ → Bool → Inside → Bool
-goodInside shut references (parts p ps) = goodPieces (eqb shut shutSquare) p ps
-goodInside shut references (refers t) = references && goodTag (some t)
+-- by whether a reference may stand in the bracket, and whether its parts may have labels
+abbrev pub goodInside : Bool → Bool → Inside → Bool
+goodInside references labels (parts p ps) = goodPieces labels p ps
+goodInside references labels (refers t) = references && goodTag (some t)
 
 -- a reference is its bracket's only part, with a label and nothing else, at the place of its `#`
 abbrev pub meansReference : ℕ → Tag → Part ℕ
@@ -288,10 +289,11 @@ printSquares xs = flat printSquare xs
 
 -- "A reference may not stand in an unknown run, in `{}` or on a range."
 abbrev pub goodSquares : Bool → List Inside → Bool
-goodSquares references xs = all (goodInside shutSquare references) xs
+goodSquares references xs = all (goodInside references true) xs
 
+-- "`{}` holds no label."
 abbrev pub goodCurlies : List Inside → Bool
-goodCurlies xs = all (goodInside shutCurly false) xs
+goodCurlies xs = all (goodInside false false) xs
 
 -- a bracket on the positions first to last; its `[` or `{` is at the place i
 abbrev pub bracketAt : Kind → ℕ → ℕ → ℕ → Inside → Bracket ℕ
@@ -317,7 +319,7 @@ abbrev pub printMarked : Marked → List ℕ
 printMarked m = printSquare (m .inside) ++ printCount (m .count)
 
 abbrev pub goodMarked : Marked → Bool
-goodMarked m = goodInside shutSquare false (m .inside) && goodCount (m .count)
+goodMarked m = goodInside false true (m .inside) && goodCount (m .count)
 
 -- a count that is written is noted, "`^1` too", with the place of its first digit; i is that of `^`. The tables do not keep whether it was written.
 abbrev pub counting : ℕ → Option (List ℕ) → Bracket ℕ → Bracket ℕ

@@ -11,7 +11,7 @@ use Rattle.scope.specs.declared.grammar.Section.the-variants.{Plain, Ran
 use Rattle.scope.specs.declared.grammar.Kind.{Kind}
 use Rattle.scope.specs.declared.grammar.Kind.the-variants.{Unknown, Labile, NTerm, OnResidue, OnRange, CTerm}
 use Rattle.scope.specs.declared.grammar.Mode.{Mode}
-use Rattle.scope.specs.declared.grammar.Mode.the-variants.{Front, Undecided, Counted, Referred, Caret, Counting, Labiles, NTerms, Start, Single, Opened, UnsureOpened, InRange, InUnsure, RangeEnd, Ranged, UnsureEnd, CStart, CTerms}
+use Rattle.scope.specs.declared.grammar.Mode.the-variants.{Front, Runs, Undecided, Counted, Referred, Caret, Counting, Labiles, NTerms, Start, Single, Opened, UnsureOpened, InRange, InUnsure, RangeEnd, Ranged, UnsureEnd, CStart, CTerms}
 use Rattle.scope.specs.declared.grammar.Slot.{Slot}
 use Rattle.scope.specs.declared.grammar.Act.{Act}
 use Rattle.scope.specs.declared.grammar.Act.the-variants.{Stop, Go, Residue as aResidue, Begin, Digit, RunEnds, TermEnds}
@@ -24,14 +24,15 @@ use Rattle.scope.specs.Content.{isReference, Inner, begin, Content, lost
 -- ---- the order of a line: what each byte does outside brackets
 
 abbrev pub square : Kind → Bool → Mode → Slot
-square k refers m = record { kind = k; shut = shutSquare; refers = refers; after = m; referred = m }
+square k refers m = record { kind = k; shut = shutSquare; refers = refers; labels = true; after = m; referred = m }
 
 -- "A reference may not stand in an unknown run, in `{}` or on a range": at the front it decides for the N-terminus
 abbrev pub front : Slot
-front = record { kind = Unknown; shut = shutSquare; refers = true; after = Undecided; referred = Referred }
+front = record { kind = Unknown; shut = shutSquare; refers = true; labels = true; after = Undecided; referred = Referred }
 
+-- "`{}` holds no label"
 abbrev pub labile : Slot
-labile = record { kind = Labile; shut = shutCurly; refers = false; after = Labiles; referred = Labiles }
+labile = record { kind = Labile; shut = shutCurly; refers = false; labels = false; after = Labiles; referred = Labiles }
 
 -- where an element of the sequence may begin: a residue, a range, `(?..)`
 unfoldable pub element : ℕ → Act
@@ -63,10 +64,15 @@ counted b = cond (eqb b openSquare) (Begin (square Unknown false Counted)) (cond
 unfoldable pub referred : ℕ → Act
 referred b = cond (eqb b openSquare) (Begin (square Unknown true Referred)) (cond (eqb b dash) TermEnds Stop)
 
+-- where a run, a labile bracket, the N-terminus or the sequence may begin
+abbrev pub atFront : ℕ → Act
+atFront b = cond (eqb b openSquare) (Begin front) (cond (eqb b openCurly) (Begin labile) (element b))
+
 -- "A line has this order: runs of unknown-position brackets, each run closed by `?`, each bracket perhaps with `^` and a count; labile `{..}`;
 -- N-terminal brackets and `-`; the sequence; `-` and C-terminal brackets."
 unfoldable pub act : Mode → ℕ → Act
-act Front b = cond (eqb b openSquare) (Begin front) (cond (eqb b openCurly) (Begin labile) (element b))
+act Front b = atFront b
+act Runs b = atFront b
 act Undecided b = cond (eqb b caret) (Go Caret) (undecided b)
 act Counted b = cond (eqb b caret) (Go Caret) (counted b)
 act Referred b = referred b
@@ -91,6 +97,7 @@ act CTerms b = cond (eqb b openSquare) (Begin (square CTerm true CTerms)) Stop
 -- "All but the sequence may be missing": where a line may end
 abbrev pub mayEnd : Mode → Bool
 mayEnd Front = false
+mayEnd Runs = false
 mayEnd Undecided = false
 mayEnd Counted = false
 mayEnd Referred = false
@@ -227,9 +234,9 @@ unfoldable pub perform : {P : Type 0} → P → ℕ → Held P → Act → State
 perform i b h Stop = dead i
 perform i b h (Go m) = outside m h
 perform i b h (aResidue s m) = outside m (withResidue i b s h)
-perform i b h (Begin s) = inside s i h (begin (record { shut = s .shut; refers = s .refers; parts = [] }))
+perform i b h (Begin s) = inside s i h (begin (record { shut = s .shut; refers = s .refers; labels = s .labels; parts = [] }))
 perform i b h Digit = outside Counting (withDigit i b h)
-perform i b h RunEnds = outside Front (settledRun (λ k. k) h)
+perform i b h RunEnds = outside Runs (settledRun (λ k. k) h)
 perform i b h TermEnds = outside Start (settledRun asNTerm h)
 
 -- a bracket is a reference when its one part is

@@ -39,7 +39,7 @@ behind-requires c κs =
 returns : tie.Need-returns
 returns c =
     let s = c .before .before .before .before .before .before .before in
-    λ from old w. no-part _ from _ _ _ old _ (s .args .s) _ w _ (c .before .before .before .before .may-refer .ensures) _ _ (c .before .before .before .part-at .ensures (s .pre .within)) (c .before .found .given .1)
+    λ from old w. no-part _ from _ _ _ _ old _ (s .args .s) _ w _ (c .before .before .before .before .may-refer .ensures) _ _ (c .before .before .before .part-at .ensures (s .pre .within)) (c .before .found .given .1)
 
 same-length : tie.Need-same-length
 same-length c = search needs
@@ -48,7 +48,7 @@ returns-2 : tie.Need-returns-2
 returns-2 c =
     let s = c .before .before .before .before .before .before .before .before .before .before .before .before .before .before in
     let v = found-part _ _ _ _ _ _ (c .before .before .before .before .before .before .before .before .before .before .part-at .ensures (c .before .before .before .before .before .before .before .before .before .before .before .before .before .before .pre .within)) (c .before .before .before .before .before .before .before .before .found2 .given .1) in
-    λ from old w. a-part _ from _ _ _ old _ (s .args .s) _ w _ (c .before .before .before .before .before .before .before .before .before .before .before .may-refer .ensures) _ v _ (c .before .before .with-part .ensures (w .parts) (v .found) (w .are) (v .is)) _ (c .before .before .before .before .before .store .ensures) _ (c .before .is-reference .ensures _ _ _ (v .is .value)) _ (c .behind .ensures)
+    λ from old w. a-part _ from _ _ _ _ old _ (s .args .s) _ w _ (c .before .before .before .before .before .before .before .before .before .before .before .may-refer .ensures) _ v _ (c .before .before .with-part .ensures (w .parts) (v .found) (w .are) (v .is)) _ (c .before .before .before .before .before .store .ensures) _ (c .before .is-reference .ensures _ _ _ (v .is .value)) _ (c .behind .ensures)
 
 pub next-part-spec : {M : Type 1} → statement M
 next-part-spec =

@@ -48,7 +48,7 @@ module _ (t : ℕ) where
       let n = x .before .before .before .before .before in
       let s = n .before .before .before .before .before in
       let p = s .pre .1 .0 in
-      closes (said-of _ _ _ _ _ _ _ _ _ _ _ _ (x .s .given .1) (n .part-step .ensures (p .opening) (p .parts) (same-mass (toZ-ofZ (s .fits .mass)) (p .begun)))) (p .roomy) (s .pre .1 .1)
+      closes (said-of _ _ _ _ _ _ _ _ _ _ _ _ _ (x .s .given .1) (n .part-step .ensures (p .opening) (p .parts) (same-mass (toZ-ofZ (s .fits .mass)) (p .begun)))) (p .roomy) (s .pre .1 .1)
 
   enum-known-s-2 : lts.Need-enum-known-s-2 (claims t) (Pre t) put-parts.Post
   enum-known-s-2 c = search needs
@@ -59,7 +59,7 @@ module _ (t : ℕ) where
       let n = x .before .before .before .before .before in
       let s = n .before .before .before .before .before in
       let p = s .pre .1 .0 in
-      let m = said-of _ _ _ _ _ _ _ _ _ _ _ _ (x .s2 .given .1) (n .part-step .ensures (p .opening) (p .parts) (same-mass (toZ-ofZ (s .fits .mass)) (p .begun))) in
+      let m = said-of _ _ _ _ _ _ _ _ _ _ _ _ _ (x .s2 .given .1) (n .part-step .ensures (p .opening) (p .parts) (same-mass (toZ-ofZ (s .fits .mass)) (p .begun))) in
       omega (arith, m .stored .few-parts)
 
   put-parts-requires : lts.Need-put-parts-requires (claims t) (Pre t) put-parts.Post
@@ -68,7 +68,7 @@ module _ (t : ℕ) where
       let n = x .before .before .before .before .before in
       let s = n .before .before .before .before .before in
       let p = s .pre .1 .0 in
-      let m = said-of _ _ _ _ _ _ _ _ _ _ _ _ (x .s2 .given .1) (n .part-step .ensures (p .opening) (p .parts) (same-mass (toZ-ofZ (s .fits .mass)) (p .begun))) in
+      let m = said-of _ _ _ _ _ _ _ _ _ _ _ _ _ (x .s2 .given .1) (n .part-step .ensures (p .opening) (p .parts) (same-mass (toZ-ofZ (s .fits .mass)) (p .begun))) in
       (omega (arith, m .past, m .begun .in-line, s .pre .0), (again m (p .roomy) (back _ (c .struct-told .given .1 .1 .1 .0 .1) refl), s .pre .1 .1))
 
   same-length : lts.Need-same-length (claims t) (Pre t) put-parts.Post
@@ -81,7 +81,7 @@ module _ (t : ℕ) where
   returns c = λ g ps a b w.
       let n = c .before .before .before .before .before in
       let s = n .before .before .before .before .before in
-      said-of _ _ _ _ _ _ _ _ _ _ _ _ (c .enum-told .given .1) (n .part-step .ensures g ps (same-mass (toZ-ofZ (s .fits .mass)) b))
+      said-of _ _ _ _ _ _ _ _ _ _ _ _ _ (c .enum-told .given .1) (n .part-step .ensures g ps (same-mass (toZ-ofZ (s .fits .mass)) b))
 
   same-length-3 : lts.Need-same-length-3 (claims t) (Pre t) put-parts.Post
   same-length-3 c = search needs
@@ -95,7 +95,7 @@ module _ (t : ℕ) where
       let x = h .before .before .before .before in
       let n = x .before .before .before .before .before in
       let s = n .before .before .before .before .before in
-      closed-says b w (said-of _ _ _ _ _ _ _ _ _ _ _ _ (x .s .given .1) (n .part-step .ensures g ps (same-mass (toZ-ofZ (s .fits .mass)) b))) (h .close .ensures)
+      closed-says b w (said-of _ _ _ _ _ _ _ _ _ _ _ _ _ (x .s .given .1) (n .part-step .ensures g ps (same-mass (toZ-ofZ (s .fits .mass)) b))) (h .close .ensures)
 
   same-length-5 : lts.Need-same-length-5 (claims t) (Pre t) put-parts.Post
   same-length-5 c = search needs
@@ -109,7 +109,7 @@ module _ (t : ℕ) where
       let x = h .before .before .before .before .before in
       let n = x .before .before .before .before .before in
       let s = n .before .before .before .before .before in
-      more-says a (s .args .kind) (s .args .first) (s .args .last) (h .put-parts .result) (h .put-parts .last .1 .0) (h .put-parts .last .1 .1 .0) (back _ (h .before .struct-told .given .1 .1 .1 .0 .1) refl) b w (said-of _ _ _ _ _ _ _ _ _ _ _ _ (x .s2 .given .1) (n .part-step .ensures g ps (same-mass (toZ-ofZ (s .fits .mass)) b))) (h .put-parts .ensures)
+      more-says a (s .args .kind) (s .args .first) (s .args .last) (h .put-parts .result) (h .put-parts .last .1 .0) (h .put-parts .last .1 .1 .0) (back _ (h .before .struct-told .given .1 .1 .1 .0 .1) refl) b w (said-of _ _ _ _ _ _ _ _ _ _ _ _ _ (x .s2 .given .1) (n .part-step .ensures g ps (same-mass (toZ-ofZ (s .fits .mass)) b))) (h .put-parts .ensures)
 
 pub +put-parts-spec : {M : Type 1} → statement M
 +put-parts-spec =

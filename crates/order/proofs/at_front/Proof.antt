@@ -3,7 +3,6 @@ use mathlib.Core.Path.{refl, ap, _∙_}
 use borrow.Author.Tests.{eq-eqb, ne-eqb}
 use Rattle.basics.specs.Choice.{took, passed, told-took, told-passed}
 use Rattle.scope.specs.declared.grammar.Act.the-variants.{Begin}
-use Rattle.scope.specs.Reading.{act}
 use Rattle.order.proofs.at_front.Statement.{statement}
 use Rattle.order.proofs.at_front.Tie as tie
 use Rattle.order.proofs.at_front.Reads as reads
@@ -16,21 +15,18 @@ front-slot-requires : tie.Need-front-slot-requires
 front-slot-requires c κs = search needs
 
 returns : tie.Need-returns
-unfolding act
 returns c = (ap Begin (c .front-slot .ensures)) ∙ took _ _ _ (eq-eqb _ _ (c .before .if1 .taken))
 
 labile-slot-requires : tie.Need-labile-slot-requires
 labile-slot-requires c κs = search needs
 
 returns-2 : tie.Need-returns-2
-unfolding act
 returns-2 c = passed _ _ _ _ (ne-eqb _ _ (c .before .before .if1 .left)) ((ap Begin (c .labile-slot .ensures)) ∙ took _ _ _ (eq-eqb _ _ (c .before .if2 .taken)))
 
 at-element-requires : tie.Need-at-element-requires
 at-element-requires c κs = search needs
 
 returns-3 : tie.Need-returns-3
-unfolding act
 returns-3 c = passed _ _ _ _ (ne-eqb _ _ (c .before .before .if1 .left)) (passed _ _ _ _ (ne-eqb _ _ (c .before .if2 .left)) (c .at-element .ensures))
 
 pub at-front-spec : {M : Type 1} → statement M

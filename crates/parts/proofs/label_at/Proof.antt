@@ -15,12 +15,12 @@ alnum-end-requires : tie.Need-alnum-end-requires
 alnum-end-requires c κs = search needs
 
 returns : tie.Need-returns
-returns c = λ shut q w k. no-name _ _ shut q k (sym (c .before .alnum-end .ensures) ∙ c .if1 .taken)
+returns c = λ labels q w k. no-name _ _ labels q k (sym (c .before .alnum-end .ensures) ∙ c .if1 .taken)
 
 returns-2 : tie.Need-returns-2
-returns-2 c = λ shut q w k.
+returns-2 c = λ labels q w k.
     let e = c .before .before in
-    name-over _ _ shut q _ (e .alnum-end .ensures) (c .before .if1 .left) (run-inside isAlnum _ _ _ (e .alnum-end .ensures) k) (c .if2 .taken)
+    name-over _ _ labels q _ (e .alnum-end .ensures) (c .before .if1 .left) (run-inside isAlnum _ _ _ (e .alnum-end .ensures) k) (c .if2 .taken)
 
 shared-slice-read-if3 : tie.Need-shared-slice-read-if3
 shared-slice-read-if3 c = search needs
@@ -30,18 +30,18 @@ score-at-requires c κs =
     c .before .before .if2 .left
 
 returns-3 : tie.Need-returns-3
-returns-3 c = λ shut q w k.
+returns-3 c = λ labels q w k.
     let e = c .before .before .before .before in
-    name-scored _ _ shut q _ (e .before .alnum-end .ensures) (e .if1 .left) (c .before .before .before .if2 .left) (c .before .if3 .taken) _ (c .score-at .ensures shut q w (run-further isAlnum _ _ _ (e .before .alnum-end .ensures) (e .if1 .left), lt-le (c .before .before .before .if2 .left)))
+    name-scored _ _ labels q _ (e .before .alnum-end .ensures) (e .if1 .left) (c .before .before .before .if2 .left) (c .before .if3 .taken) _ (c .score-at .ensures labels q w (run-further isAlnum _ _ _ (e .before .alnum-end .ensures) (e .if1 .left), lt-le (c .before .before .before .if2 .left)))
 
 label-end-requires : tie.Need-label-end-requires
 label-end-requires c κs = search needs
 
 returns-4 : tie.Need-returns-4
-returns-4 c = λ shut q w k.
+returns-4 c = λ labels q w k.
     let e = c .before .before .before .before in
-    name-ends _ _ shut q _ (e .before .alnum-end .ensures) (e .if1 .left) (c .before .before .before .if2 .left) (c .before .if3 .left) _
-    (c .label-end .ensures shut q (nameFound _ _ _ none) w
+    name-ends _ _ labels q _ (e .before .alnum-end .ensures) (e .if1 .left) (c .before .before .before .if2 .left) (c .before .if3 .left) _
+    (c .label-end .ensures labels q (nameFound _ _ _ none) w
     (refl, refl, run-further isAlnum _ _ _ (e .before .alnum-end .ensures) (e .if1 .left), lt-le (c .before .before .before .if2 .left), tt) (lt-le (c .before .before .before .if2 .left)))
 
 pub label-at-spec : {M : Type 1} → statement M

@@ -4,7 +4,7 @@ use mathlib.Core.Path.{_≡_, refl, sym, _∙_}
 use mathlib.Core.Bool.{true, false}
 use native.Mathlib.Omega.{arith}
 use borrow.Author.Tests.{eq-eqb, ne-eqb}
-use Rattle.parts.specs.Says.{ShutBy, Opens}
+use Rattle.parts.specs.Says.{Allows, Opens}
 use Rattle.scope.specs.declared.grammar.Key.the-variants.{NoKey}
 use Rattle.scope.specs.Content.{begin, plain, keyed, inText, innerStep}
 use Rattle.parts.proofs.Ends.{over, lost-there}
@@ -15,7 +15,7 @@ use Rattle.parts.proofs.mass_only.Statement.{statement}
 use Rattle.parts.proofs.mass_only.Tie as tie
 
 returns : tie.Need-returns
-returns c = λ f w k. over _ _ (ShutBy _) (λ x. innerStep _ (keyed x _ _)) (c .if1 .taken) k
+returns c = λ f w k. over _ _ (Allows _) (λ x. innerStep _ (keyed x _ _)) (c .if1 .taken) k
 
 shared-slice-read-b : tie.Need-shared-slice-read-b
 shared-slice-read-b c = search needs
@@ -30,7 +30,7 @@ mass-of-requires : tie.Need-mass-of-requires
 mass-of-requires c κs = search needs
 
 returns-2 : tie.Need-returns-2
-returns-2 c = λ f w k. sign-begins _ _ _ _ (c .before .before .before .before .if1 .left) (ShutBy _) (λ x. innerStep _ (keyed x _ _)) true (eq-eqb _ _ (c .before .before .if2 .taken)) (λ x. sign-behind-key x _ _ _ _ (minus-sign _ (c .before .before .if2 .taken))) _ (c .mass-of .ensures _ _ (behind-le _ _ _ w) k (search needs) (c .before .number-after-sign .ensures _))
+returns-2 c = λ f w k. sign-begins _ _ _ _ (c .before .before .before .before .if1 .left) (Allows _) (λ x. innerStep _ (keyed x _ _)) true (eq-eqb _ _ (c .before .before .if2 .taken)) (λ x. sign-behind-key x _ _ _ _ (minus-sign _ (c .before .before .if2 .taken))) _ (c .mass-of .ensures _ _ (behind-le _ _ _ w) k (search needs) (c .before .number-after-sign .ensures _))
 
 add-number-after-sign-2 : tie.Need-add-number-after-sign-2
 add-number-after-sign-2 c = search needs
@@ -42,10 +42,10 @@ mass-of-requires-2 : tie.Need-mass-of-requires-2
 mass-of-requires-2 c κs = search needs
 
 returns-3 : tie.Need-returns-3
-returns-3 c = λ f w k. sign-begins _ _ _ _ (c .before .before .before .before .before .if1 .left) (ShutBy _) (λ x. innerStep _ (keyed x _ _)) false (ne-eqb _ _ (c .before .before .before .if2 .left)) (λ x. sign-behind-key x _ _ _ _ (plus-sign _ (c .before .before .if3 .taken))) _ (c .mass-of2 .ensures _ _ (behind-le _ _ _ w) k (search needs) (c .before .number-after-sign2 .ensures _))
+returns-3 c = λ f w k. sign-begins _ _ _ _ (c .before .before .before .before .before .if1 .left) (Allows _) (λ x. innerStep _ (keyed x _ _)) false (ne-eqb _ _ (c .before .before .before .if2 .left)) (λ x. sign-behind-key x _ _ _ _ (plus-sign _ (c .before .before .if3 .taken))) _ (c .mass-of2 .ensures _ _ (behind-le _ _ _ w) k (search needs) (c .before .number-after-sign2 .ensures _))
 
 returns-4 : tie.Need-returns-4
-returns-4 c = λ f w k. lost-there _ _ (ShutBy _) (λ x. innerStep _ (keyed x _ _)) (c .before .before .before .if1 .left) (λ x g. no-name-first x _ _ _ _ f (no-sign _ (c .if3 .left) (c .before .if2 .left)))
+returns-4 c = λ f w k. lost-there _ _ (Allows _) (λ x. innerStep _ (keyed x _ _)) (c .before .before .before .if1 .left) (λ x g. no-name-first x _ _ _ _ f (no-sign _ (c .if3 .left) (c .before .if2 .left)))
 
 pub mass-only-spec : {M : Type 1} → statement M
 mass-only-spec =

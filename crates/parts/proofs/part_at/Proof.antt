@@ -4,7 +4,7 @@ use mathlib.Core.Path.{_≡_, refl, sym, _∙_}
 use mathlib.Core.Bool.{true, false}
 use native.Mathlib.Omega.{arith}
 use borrow.Author.Tests.{eq-eqb, ne-eqb}
-use Rattle.parts.specs.Says.{ShutBy, Opens}
+use Rattle.parts.specs.Says.{Allows, Opens}
 use Rattle.scope.specs.declared.grammar.Key.the-variants.{NoKey}
 use Rattle.scope.specs.Content.{begin, plain, keyed, inText, innerStep}
 use Rattle.parts.proofs.Ends.{over, lost-there}
@@ -29,7 +29,7 @@ mass-of-requires : tie.Need-mass-of-requires
 mass-of-requires c κs = search needs
 
 returns-2 : tie.Need-returns-2
-returns-2 c = λ k. opens _ _ _ _ (λ x. innerStep _ (begin x)) _ (sign-begins _ _ _ _ (c .before .before .before .before .if1 .left) (ShutBy _) (λ x. innerStep _ (begin x)) true (eq-eqb _ _ (c .before .before .if2 .taken)) (λ x. sign-first x _ _ (minus-sign _ (c .before .before .if2 .taken))) _ (c .mass-of .ensures _ _ (search needs) k (search needs) (c .before .number-after-sign .ensures _)))
+returns-2 c = λ k. opens _ _ _ _ (λ x. innerStep _ (begin x)) _ (sign-begins _ _ _ _ (c .before .before .before .before .if1 .left) (Allows _) (λ x. innerStep _ (begin x)) true (eq-eqb _ _ (c .before .before .if2 .taken)) (λ x. sign-first x _ _ (minus-sign _ (c .before .before .if2 .taken))) _ (c .mass-of .ensures _ _ (search needs) k (search needs) (c .before .number-after-sign .ensures _)))
 
 add-number-after-sign-2 : tie.Need-add-number-after-sign-2
 add-number-after-sign-2 c = search needs
@@ -41,7 +41,7 @@ mass-of-requires-2 : tie.Need-mass-of-requires-2
 mass-of-requires-2 c κs = search needs
 
 returns-3 : tie.Need-returns-3
-returns-3 c = λ k. opens _ _ _ _ (λ x. innerStep _ (begin x)) _ (sign-begins _ _ _ _ (c .before .before .before .before .before .if1 .left) (ShutBy _) (λ x. innerStep _ (begin x)) false (ne-eqb _ _ (c .before .before .before .if2 .left)) (λ x. sign-first x _ _ (plus-sign _ (c .before .before .if3 .taken))) _ (c .mass-of2 .ensures _ _ (search needs) k (search needs) (c .before .number-after-sign2 .ensures _)))
+returns-3 c = λ k. opens _ _ _ _ (λ x. innerStep _ (begin x)) _ (sign-begins _ _ _ _ (c .before .before .before .before .before .if1 .left) (Allows _) (λ x. innerStep _ (begin x)) false (ne-eqb _ _ (c .before .before .before .if2 .left)) (λ x. sign-first x _ _ (plus-sign _ (c .before .before .if3 .taken))) _ (c .mass-of2 .ensures _ _ (search needs) k (search needs) (c .before .number-after-sign2 .ensures _)))
 
 reference-at-requires : tie.Need-reference-at-requires
 reference-at-requires c κs = search needs

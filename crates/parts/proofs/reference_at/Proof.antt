@@ -4,7 +4,7 @@ use mathlib.Core.Path.{_≡_, refl, sym, _∙_}
 use mathlib.Core.Bool.{true, false}
 use native.Mathlib.Omega.{arith}
 use borrow.Author.Tests.{eq-eqb, ne-eqb}
-use Rattle.parts.specs.Says.{ShutBy, Opens}
+use Rattle.parts.specs.Says.{Allows, Opens}
 use Rattle.scope.specs.declared.grammar.Key.the-variants.{NoKey}
 use Rattle.scope.specs.Content.{begin, plain, keyed, inText, innerStep}
 use Rattle.parts.proofs.Ends.{over, lost-there}
@@ -23,10 +23,10 @@ label-at-requires : tie.Need-label-at-requires
 label-at-requires c κs = search needs
 
 returns : tie.Need-returns
-returns c = λ shut e. refers _ _ shut _ (c .before .before .before .before .pre) e (c .before .before .if1 .taken) _ (c .before .bare .ensures) _ (λ q w. c .label-at .ensures shut q w (search needs))
+returns c = λ labels e. refers _ _ labels _ (c .before .before .before .before .pre) e (c .before .before .if1 .taken) _ (c .before .bare .ensures) _ (λ q w. c .label-at .ensures labels q w (search needs))
 
 returns-2 : tie.Need-returns-2
-returns-2 c = λ shut e. refers-not _ _ shut _ (c .before .before .pre) e (c .if1 .left)
+returns-2 c = λ labels e. refers-not _ _ labels _ (c .before .before .pre) e (c .if1 .left)
 
 pub reference-at-spec : {M : Type 1} → statement M
 reference-at-spec =

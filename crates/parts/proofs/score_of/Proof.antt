@@ -19,13 +19,13 @@ enum-known-number-3 : tie.Need-enum-known-number-3
 enum-known-number-3 c = search needs
 
 returns : tie.Need-returns
-returns c = λ shut q j d w m k e. score-value _ _ q _ _ shut j d w m k _ e _ _ (c .before .before .number .given .1) _ (c .score-end .ensures)
+returns c = λ labels q j d w m k e. score-value _ _ q _ _ labels j d w m k _ e _ _ (c .before .before .number .given .1) _ (c .score-end .ensures)
 
 returns-2 : tie.Need-returns-2
-returns-2 c = λ shut q j d w m k e. score-wide _ _ q _ _ shut j d w m k _ e _ (c .before .before .number2 .given .1) _ (c .score-end2 .ensures)
+returns-2 c = λ labels q j d w m k e. score-wide _ _ q _ _ labels j d w m k _ e _ (c .before .before .number2 .given .1) _ (c .score-end2 .ensures)
 
 returns-3 : tie.Need-returns-3
-returns-3 c = λ shut q j d w m k e. score-none _ _ q _ _ shut j d w m k _ e _ (c .before .number3 .given .1)
+returns-3 c = λ labels q j d w m k e. score-none _ _ q _ _ labels j d w m k _ e _ (c .before .number3 .given .1)
 
 pub score-of-spec : {M : Type 1} → statement M
 score-of-spec =

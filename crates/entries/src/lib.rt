@@ -4,6 +4,7 @@ use masses::weigh;
 use positions::find_floaters;
 use scope::answers::Read;
 use scope::tables::Tables;
+use writer::DIGITS;
 ghost use mathlib.Core.Path.{_≡_};
 ghost use mathlib.Core.List.{List, [], _∷_, _++_};
 ghost use Prim.Native.Nat.{ℕ, _+_, _≤_};
@@ -16,9 +17,7 @@ ghost use Rattle.reader.specs.ReadSays.{Clean, Lays};
 ghost use Rattle.writer.specs.Written.{Puts, ceiling};
 ghost use Rattle.entries.specs.Entry.{entry, fieldMost, weightMost, refusedMost, countsMost, totalMost, acceptedMost, tablesMost, entryLimit, countFields, okFields, noFields, weightText, Known, Printed};
 
-// A number has at most so many digits, and with a byte before them one more.
-const DIGITS: usize = 20;
-
+// A number with a byte before it has at most so many.
 const FIELD: usize = 1 + DIGITS;
 
 // An entry has at most so many bytes: the line's number; `ok`, three numbers, the total and the canonical line, each with a space before it; byte 10.

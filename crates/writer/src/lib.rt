@@ -8,8 +8,8 @@ ghost use mathlib.Core.List.{List, [], _∷_, _++_};
 ghost use Prim.Native.Nat.{ℕ, _+_, _-_, _*_, _/_, _^_, _<_, _≤_};
 ghost use lib.IntN.{ℤ, natAbs};
 ghost use lib.ListN.{length};
-ghost use Rattle.scope.specs.Canonical.{decimalUpTo, decimal, lastDigits, decimals, size, countText, valueText, labelText, partText, partsText, opening, ending, isNext, goesOn, sequenceText, closedBy, ledBy, canonical};
 ghost use Rattle.scope.specs.Bytes.{wideLimit, dash, shutRound};
+ghost use Rattle.scope.specs.Canonical.{decimalUpTo, decimal, lastDigits, decimals, size, countText, valueText, labelText, partText, partsText, opening, ending, isNext, goesOn, sequenceText, closedBy, ledBy, canonical};
 ghost use Rattle.scope.specs.Lists.{given, part, tabled};
 ghost use Rattle.scope.specs.Keys.{written, keyIn};
 ghost use Rattle.scope.specs.Limits.{decimalLimit, residueLimit, bracketLimit, partLimit};
@@ -19,6 +19,11 @@ ghost use Rattle.areas.specs.Bounds.{Bounds};
 ghost use Rattle.writer.specs.Written.{Puts, ceiling, decimalMost, fractionMost, sizeMost, numberMost, countMost, keyMost, valueMost, scoreMost, labelMost, partMost, nextMost, partsMost, betweenMost, bracketMost, residueMost, residuesMost, lineMost, numberOf, signText, numberText, scoredText, nextText, WholeLine};
 ghost use Rattle.writer.specs.Here.{BracketHere, PartHere, Room};
 ghost use Rattle.writer.specs.Ranks.{lastRank, rankOf, rankIn, orderedb, Ready, textAs, rankedText, runText, Walks, residueText, Clear, Bare, Spells, Ordered};
+
+// A number of 64 bits has at most so many digits: one, and so many more.
+pub const DIGITS: usize = 20;
+
+const FURTHER_DIGITS: usize = DIGITS - 1;
 
 // How many decimals a mass or a score has at most.
 const DECIMALS: usize = Number::DECIMALS as usize;
@@ -39,7 +44,7 @@ const ON_RANGE: usize = 5;
 
 const C_TERM: usize = 6;
 
-// The codes of the sections; any other is that of a residue by itself.
+// The codes of the sections.
 const PLAIN: usize = 0;
 
 const RANGE_FIRST: usize = 1;
@@ -175,7 +180,7 @@ pub fn put_decimal(n: u64, out: &mut [u8], at: usize) -> usize
     requires { ⌜ at + decimalMost ≤ ceiling ⌝ }
     ensures { λ r. ⌜ Puts decimalMost (now (out .entry)) at (decimal n) (now (out .exit)) r ⌝ }
 {
-    decimal_up_to(19, n, out, at)
+    decimal_up_to(FURTHER_DIGITS, n, out, at)
 }
 
 // The point and what stands behind it, where there are decimals.

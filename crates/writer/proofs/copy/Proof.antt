@@ -8,9 +8,6 @@ use Rattle.writer.proofs.Storing.{puts-none, puts-of, puts-join, puts-l
 use borrow.Author.Needs.{needs}
 use Rattle.writer.proofs.copy.Statement.{statement}
 use Rattle.writer.proofs.copy.Tie as tie
-use Rattle.writer.proofs.copy.Reads as reads
-use Rattle.writer.proofs.copy.Lts as lts
-use Rattle.writer.proofs.put.Reads as put-reads
 
 abbrev Inv-loop : tie.InvT-loop
 Inv-loop from start n out₀ at i₀ a₀ out i a = (i ≤ n) × Puts i out₀ at (part start i from) out a

@@ -1,12 +1,9 @@
+-- The invariant: the first k brackets do not fall, and q is the rank of the last of them. Assumes nothing.
 use borrow.Author.Needs.{needs}
 use Prim.Native.Nat.{_-_}
 use Rattle.writer.proofs.RankLaws.{Risen, risen-start, risen-stop, risen-more, risen-end}
 use Rattle.writer.proofs.in_order.Statement.{statement}
 use Rattle.writer.proofs.in_order.Tie as tie
-use Rattle.writer.proofs.in_order.Reads as reads
-use Rattle.writer.proofs.in_order.Lts as lts
-use Rattle.areas.proofs.brackets.Reads as brackets-reads
-use Rattle.writer.proofs.rank_at.Reads as rank-at-reads
 
 abbrev Inv-loop : tie.InvT-loop
 Inv-loop bytes m k₀ q₀ k q = Risen bytes m k q

@@ -1,9 +1,8 @@
+-- The code of the section says it. Assumes nothing.
 use Rattle.writer.proofs.LineLaws.{next-other}
 use borrow.Author.Needs.{needs}
 use Rattle.writer.proofs.is_next.Statement.{statement}
 use Rattle.writer.proofs.is_next.Tie as tie
-use Rattle.writer.proofs.is_next.Reads as reads
-use Rattle.writer.proofs.is_next.Lts as lts
 
 returns : tie.Need-returns
 returns c = search needs

@@ -1,3 +1,4 @@
+-- A negative number is taken from -1, and one is added. Assumes nothing.
 use mathlib.Core.Path.{ap, _∙_}
 use native.Mathlib.Omega.{arith}
 use Prim.Native.Nat.{_+_}

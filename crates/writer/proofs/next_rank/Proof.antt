@@ -1,3 +1,4 @@
+-- No bracket from j on has a lower rank than bracket j, where they are in order. Assumes nothing.
 use native.Mathlib.Omega.{arith}
 use borrow.Author.Needs.{needs}
 use Rattle.writer.proofs.next_rank.Statement.{statement}

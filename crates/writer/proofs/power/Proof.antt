@@ -1,11 +1,10 @@
+-- Each power of ten by its exponent. Assumes nothing.
 use mathlib.Core.Path.{_≡_}
 use Prim.Native.Nat.{ℕ, _≤_}
 use native.Mathlib.Omega.{arith}
 use Rattle.writer.proofs.Digits.{up}
 use Rattle.writer.proofs.power.Statement.{statement}
 use Rattle.writer.proofs.power.Tie as tie
-use Rattle.writer.proofs.power.Reads as reads
-use Rattle.writer.proofs.power.Lts as lts
 
 six : (k : ℕ) → 6 ≤ k → k ≤ 6 → k ≡ 6
 six k h l = omega arith

@@ -1,9 +1,8 @@
+-- A byte is stored where there is room, and counted in any case. Assumes nothing.
 use Rattle.writer.proofs.Storing.{puts-stored, puts-counted}
 use borrow.Author.Needs.{needs}
 use Rattle.writer.proofs.put.Statement.{statement}
 use Rattle.writer.proofs.put.Tie as tie
-use Rattle.writer.proofs.put.Reads as reads
-use Rattle.writer.proofs.put.Lts as lts
 
 slice-write-out : tie.Need-slice-write-out
 slice-write-out c = search needs

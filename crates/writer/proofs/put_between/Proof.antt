@@ -1,12 +1,9 @@
+-- The parts between two bytes. Assumes nothing.
 use Rattle.scope.specs.Layout.{bracketIn}
 use Rattle.writer.proofs.Storing.{puts-join}
 use borrow.Author.Needs.{needs}
 use Rattle.writer.proofs.put_between.Statement.{statement}
 use Rattle.writer.proofs.put_between.Tie as tie
-use Rattle.writer.proofs.put_between.Reads as reads
-use Rattle.writer.proofs.put_between.Lts as lts
-use Rattle.writer.proofs.put.Reads as put-reads
-use Rattle.writer.proofs.put_parts.Reads as put-parts-reads
 
 put-requires : tie.Need-put-requires
 put-requires c κs = search needs

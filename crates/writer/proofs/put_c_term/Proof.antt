@@ -1,3 +1,4 @@
+-- The last bracket is at the C-terminus, or none is: then nothing is written. Assumes nothing.
 use native.Mathlib.Omega.{arith}
 use Rattle.writer.proofs.Storing.{puts-none, puts-of, puts-within, puts-join}
 use Rattle.writer.proofs.Walking.{room-behind}
@@ -5,12 +6,6 @@ use Rattle.writer.proofs.LineLaws.{c-term-none, c-term-below, c-term-so
 use borrow.Author.Needs.{needs}
 use Rattle.writer.proofs.put_c_term.Statement.{statement}
 use Rattle.writer.proofs.put_c_term.Tie as tie
-use Rattle.writer.proofs.put_c_term.Reads as reads
-use Rattle.writer.proofs.put_c_term.Lts as lts
-use Rattle.areas.proofs.brackets.Reads as brackets-reads
-use Rattle.writer.proofs.put.Reads as put-reads
-use Rattle.writer.proofs.put_run.Reads as put-run-reads
-use Rattle.writer.proofs.rank_at.Reads as rank-at-reads
 
 brackets-requires : tie.Need-brackets-requires
 brackets-requires c κs = search needs

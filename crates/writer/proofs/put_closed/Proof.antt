@@ -1,13 +1,10 @@
+-- Nothing stands behind a run that wrote nothing, else the byte. Assumes nothing.
 use native.Mathlib.Omega.{arith}
 use Rattle.writer.proofs.Walking.{room-less, room-after}
 use Rattle.writer.proofs.LineLaws.{walks-open, walks-closed}
 use borrow.Author.Needs.{needs}
 use Rattle.writer.proofs.put_closed.Statement.{statement}
 use Rattle.writer.proofs.put_closed.Tie as tie
-use Rattle.writer.proofs.put_closed.Reads as reads
-use Rattle.writer.proofs.put_closed.Lts as lts
-use Rattle.writer.proofs.put.Reads as put-reads
-use Rattle.writer.proofs.put_run.Reads as put-run-reads
 
 put-run-requires : tie.Need-put-run-requires
 put-run-requires c κs =

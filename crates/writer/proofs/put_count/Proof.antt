@@ -1,13 +1,10 @@
+-- Nothing for a count of one, else `^` and the count. Assumes nothing.
 use native.Mathlib.Omega.{arith}
 use Rattle.writer.proofs.Storing.{puts-none, puts-of, puts-within, puts-join}
 use Rattle.writer.proofs.Digits.{count-one, count-more}
 use borrow.Author.Needs.{needs}
 use Rattle.writer.proofs.put_count.Statement.{statement}
 use Rattle.writer.proofs.put_count.Tie as tie
-use Rattle.writer.proofs.put_count.Reads as reads
-use Rattle.writer.proofs.put_count.Lts as lts
-use Rattle.writer.proofs.put.Reads as put-reads
-use Rattle.writer.proofs.put_decimal.Reads as put-decimal-reads
 
 returns : tie.Need-returns
 returns c = puts-of (count-one _ (c .if1 .taken)) (puts-within (omega arith) (puts-none _ _))

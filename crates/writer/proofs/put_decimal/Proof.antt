@@ -1,10 +1,8 @@
+-- Of any number of 64 bits. Assumes nothing.
 use Rattle.scope.specs.Canonical.{decimal}
 use borrow.Author.Needs.{needs}
 use Rattle.writer.proofs.put_decimal.Statement.{statement}
 use Rattle.writer.proofs.put_decimal.Tie as tie
-use Rattle.writer.proofs.put_decimal.Reads as reads
-use Rattle.writer.proofs.put_decimal.Lts as lts
-use Rattle.writer.proofs.decimal_up_to.Reads as decimal-up-to-reads
 
 decimal-up-to-requires : tie.Need-decimal-up-to-requires
 decimal-up-to-requires c κs = search needs

@@ -1,13 +1,10 @@
+-- Nothing where there are no decimals, else the point and the last digits. Assumes nothing.
 use native.Mathlib.Omega.{arith}
 use Rattle.writer.proofs.Storing.{puts-none, puts-of, puts-within, puts-join}
 use Rattle.writer.proofs.Digits.{decimals-none, decimals-some}
 use borrow.Author.Needs.{needs}
 use Rattle.writer.proofs.put_decimals.Statement.{statement}
 use Rattle.writer.proofs.put_decimals.Tie as tie
-use Rattle.writer.proofs.put_decimals.Reads as reads
-use Rattle.writer.proofs.put_decimals.Lts as lts
-use Rattle.writer.proofs.last_digits.Reads as last-digits-reads
-use Rattle.writer.proofs.put.Reads as put-reads
 
 returns : tie.Need-returns
 returns c = puts-of (decimals-none _ _ (c .if1 .taken)) (puts-within (omega arith) (puts-none _ _))

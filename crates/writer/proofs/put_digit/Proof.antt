@@ -1,11 +1,8 @@
+-- One byte for one digit. Assumes nothing.
 use mathlib.Core.Path.{sym}
 use borrow.Author.Needs.{needs}
 use Rattle.writer.proofs.put_digit.Statement.{statement}
 use Rattle.writer.proofs.put_digit.Tie as tie
-use Rattle.writer.proofs.put_digit.Reads as reads
-use Rattle.writer.proofs.put_digit.Lts as lts
-use Rattle.writer.proofs.digit.Reads as digit-reads
-use Rattle.writer.proofs.put.Reads as put-reads
 
 digit-requires : tie.Need-digit-requires
 digit-requires c κs = search needs

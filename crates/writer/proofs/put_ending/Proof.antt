@@ -1,3 +1,4 @@
+-- What closes a group, by the code of its section. Assumes nothing.
 use native.Mathlib.Omega.{arith}
 use Rattle.scope.specs.declared.grammar.Section.the-variants.{RangeFirst, RangeNext, UnsureFirst, UnsureNext}
 use Rattle.scope.specs.Layout.{sectionCode}
@@ -7,10 +8,6 @@ use Rattle.writer.proofs.LineLaws.{ending-of, ending-other}
 use borrow.Author.Needs.{needs}
 use Rattle.writer.proofs.put_ending.Statement.{statement}
 use Rattle.writer.proofs.put_ending.Tie as tie
-use Rattle.writer.proofs.put_ending.Reads as reads
-use Rattle.writer.proofs.put_ending.Lts as lts
-use Rattle.writer.proofs.put.Reads as put-reads
-use Rattle.writer.proofs.put_range_end.Reads as put-range-end-reads
 
 put-range-end-requires : tie.Need-put-range-end-requires
 put-range-end-requires c κs = search needs

@@ -1,3 +1,4 @@
+-- The spelling of each key by its code: the prefixes. Assumes nothing.
 use native.Mathlib.Omega.{arith}
 use Rattle.scope.specs.Keys.{written, spell, keys}
 use Rattle.writer.proofs.Storing.{puts-of, puts-within, puts-none}
@@ -6,10 +7,6 @@ use Rattle.writer.proofs.Digits.{up}
 use borrow.Author.Needs.{needs}
 use Rattle.writer.proofs.put_key.Statement.{statement}
 use Rattle.writer.proofs.put_key.Tie as tie
-use Rattle.writer.proofs.put_key.Reads as reads
-use Rattle.writer.proofs.put_key.Lts as lts
-use Rattle.writer.proofs.put_key_word.Reads as put-key-word-reads
-use Rattle.writer.proofs.word.Reads as word-reads
 
 slice-aggregate-word : tie.Need-slice-aggregate-word
 slice-aggregate-word c = search needs

@@ -1,3 +1,4 @@
+-- The spelling of each key by its code: the key words. Assumes nothing.
 use native.Mathlib.Omega.{arith}
 use Rattle.scope.specs.Keys.{written, spell, keys}
 use Rattle.writer.proofs.Storing.{puts-of, puts-within}
@@ -5,10 +6,6 @@ use Rattle.writer.proofs.PartTexts.{spelled}
 use borrow.Author.Needs.{needs}
 use Rattle.writer.proofs.put_key_word.Statement.{statement}
 use Rattle.writer.proofs.put_key_word.Tie as tie
-use Rattle.writer.proofs.put_key_word.Reads as reads
-use Rattle.writer.proofs.put_key_word.Lts as lts
-use Rattle.writer.proofs.put_refused_key.Reads as put-refused-key-reads
-use Rattle.writer.proofs.word.Reads as word-reads
 
 slice-aggregate-word : tie.Need-slice-aggregate-word
 slice-aggregate-word c = search needs

@@ -1,13 +1,10 @@
+-- `|` stands before every part but the first. Assumes nothing.
 use native.Mathlib.Omega.{arith}
 use Rattle.writer.proofs.Storing.{puts-of, puts-join, puts-within}
 use Rattle.writer.proofs.PartTexts.{next-first, next-later}
 use borrow.Author.Needs.{needs}
 use Rattle.writer.proofs.put_next_part.Statement.{statement}
 use Rattle.writer.proofs.put_next_part.Tie as tie
-use Rattle.writer.proofs.put_next_part.Reads as reads
-use Rattle.writer.proofs.put_next_part.Lts as lts
-use Rattle.writer.proofs.put.Reads as put-reads
-use Rattle.writer.proofs.put_part.Reads as put-part-reads
 
 put-part-requires : tie.Need-put-part-requires
 put-part-requires c κs = search needs

@@ -1,3 +1,4 @@
+-- What opens a group, by the code of its section. Assumes nothing.
 use native.Mathlib.Omega.{arith}
 use Rattle.scope.specs.declared.grammar.Section.the-variants.{RangeFirst, UnsureFirst}
 use Rattle.scope.specs.Layout.{sectionCode}
@@ -6,9 +7,6 @@ use Rattle.writer.proofs.LineLaws.{opening-of, opening-other}
 use borrow.Author.Needs.{needs}
 use Rattle.writer.proofs.put_opening.Statement.{statement}
 use Rattle.writer.proofs.put_opening.Tie as tie
-use Rattle.writer.proofs.put_opening.Reads as reads
-use Rattle.writer.proofs.put_opening.Lts as lts
-use Rattle.writer.proofs.put.Reads as put-reads
 
 put-requires : tie.Need-put-requires
 put-requires c κs = search needs

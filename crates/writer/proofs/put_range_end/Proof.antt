@@ -1,12 +1,9 @@
+-- `)` and the run of brackets on the range. Assumes nothing.
 use native.Mathlib.Omega.{arith}
 use Rattle.writer.proofs.Walking.{walks-after, walks-up, room-behind}
 use borrow.Author.Needs.{needs}
 use Rattle.writer.proofs.put_range_end.Statement.{statement}
 use Rattle.writer.proofs.put_range_end.Tie as tie
-use Rattle.writer.proofs.put_range_end.Reads as reads
-use Rattle.writer.proofs.put_range_end.Lts as lts
-use Rattle.writer.proofs.put.Reads as put-reads
-use Rattle.writer.proofs.put_run.Reads as put-run-reads
 
 put-requires : tie.Need-put-requires
 put-requires c κs =

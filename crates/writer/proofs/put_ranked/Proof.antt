@@ -1,12 +1,10 @@
+-- A bracket is written where its rank is the one that is asked for. Assumes nothing.
 use native.Mathlib.Omega.{arith}
 use Rattle.writer.proofs.Storing.{puts-of, puts-within, puts-none}
 use Rattle.writer.proofs.RunLaws.{ranked-yes, ranked-no}
 use borrow.Author.Needs.{needs}
 use Rattle.writer.proofs.put_ranked.Statement.{statement}
 use Rattle.writer.proofs.put_ranked.Tie as tie
-use Rattle.writer.proofs.put_ranked.Reads as reads
-use Rattle.writer.proofs.put_ranked.Lts as lts
-use Rattle.writer.proofs.put_bracket.Reads as put-bracket-reads
 
 put-bracket-requires : tie.Need-put-bracket-requires
 put-bracket-requires c κs = search needs

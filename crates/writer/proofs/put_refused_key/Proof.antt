@@ -1,3 +1,4 @@
+-- The spelling of each key by its code: those of refusal 8, and none. Assumes nothing.
 use native.Mathlib.Omega.{arith}
 use Rattle.scope.specs.Keys.{written, spell, keys}
 use Rattle.writer.proofs.Storing.{puts-of, puts-within, puts-none}
@@ -6,9 +7,6 @@ use Rattle.writer.proofs.Digits.{up}
 use borrow.Author.Needs.{needs}
 use Rattle.writer.proofs.put_refused_key.Statement.{statement}
 use Rattle.writer.proofs.put_refused_key.Tie as tie
-use Rattle.writer.proofs.put_refused_key.Reads as reads
-use Rattle.writer.proofs.put_refused_key.Lts as lts
-use Rattle.writer.proofs.word.Reads as word-reads
 
 slice-aggregate-word : tie.Need-slice-aggregate-word
 slice-aggregate-word c = search needs

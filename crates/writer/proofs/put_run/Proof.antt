@@ -1,3 +1,4 @@
+-- The invariant: the brackets up to j of the rank that is asked for are written. Assumes nothing.
 use borrow.Author.Needs.{needs}
 use Prim.Native.Nat.{_-_}
 use native.Mathlib.Omega.{arith}
@@ -7,11 +8,6 @@ use Rattle.writer.proofs.Walking.{room-one}
 use Rattle.writer.proofs.RunLaws.{Running, run-start, run-more, run-stop, run-over}
 use Rattle.writer.proofs.put_run.Statement.{statement}
 use Rattle.writer.proofs.put_run.Tie as tie
-use Rattle.writer.proofs.put_run.Reads as reads
-use Rattle.writer.proofs.put_run.Lts as lts
-use Rattle.areas.proofs.brackets.Reads as brackets-reads
-use Rattle.writer.proofs.put_ranked.Reads as put-ranked-reads
-use Rattle.writer.proofs.rank_at.Reads as rank-at-reads
 
 abbrev Inv-loop : tie.InvT-loop
 Inv-loop bytes numbers from q shape out₀ at m j₀ a₀ out j a = Running bytes numbers m from q shape out₀ at out j a

@@ -1,3 +1,4 @@
+-- The invariant: the first p residues are spelt. Assumes nothing.
 use borrow.Author.Needs.{needs}
 use Prim.Native.Nat.{_+_, _-_}
 use native.Mathlib.Omega.{arith}
@@ -7,10 +8,6 @@ use Rattle.writer.proofs.Walking.{walks-still, room-after}
 use Rattle.writer.proofs.LineLaws.{spelt-start, spelt-more, spelt-over}
 use Rattle.writer.proofs.put_sequence.Statement.{statement}
 use Rattle.writer.proofs.put_sequence.Tie as tie
-use Rattle.writer.proofs.put_sequence.Reads as reads
-use Rattle.writer.proofs.put_sequence.Lts as lts
-use Rattle.areas.proofs.residues.Reads as residues-reads
-use Rattle.writer.proofs.put_residue.Reads as put-residue-reads
 
 abbrev Inv-loop : tie.InvT-loop
 Inv-loop bytes numbers from out₀ at n p₀ a₀ j₀ out p a j = Spelt bytes numbers n from out₀ at out p j a

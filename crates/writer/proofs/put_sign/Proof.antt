@@ -1,12 +1,10 @@
+-- A minus, a plus, or nothing. Assumes nothing.
 use native.Mathlib.Omega.{arith}
 use Rattle.writer.proofs.Storing.{puts-none, puts-of, puts-within}
 use Rattle.writer.proofs.Digits.{sign-minus, sign-plus, sign-none}
 use borrow.Author.Needs.{needs}
 use Rattle.writer.proofs.put_sign.Statement.{statement}
 use Rattle.writer.proofs.put_sign.Tie as tie
-use Rattle.writer.proofs.put_sign.Reads as reads
-use Rattle.writer.proofs.put_sign.Lts as lts
-use Rattle.writer.proofs.put.Reads as put-reads
 
 put-requires : tie.Need-put-requires
 put-requires c κs = search needs

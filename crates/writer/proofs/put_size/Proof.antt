@@ -1,13 +1,9 @@
+-- The whole number, then the decimals. Assumes nothing.
 use Rattle.writer.proofs.Storing.{puts-of, puts-join}
 use Rattle.writer.proofs.Digits.{power-positive, size-text}
 use borrow.Author.Needs.{needs}
 use Rattle.writer.proofs.put_size.Statement.{statement}
 use Rattle.writer.proofs.put_size.Tie as tie
-use Rattle.writer.proofs.put_size.Reads as reads
-use Rattle.writer.proofs.put_size.Lts as lts
-use Rattle.writer.proofs.power.Reads as power-reads
-use Rattle.writer.proofs.put_decimal.Reads as put-decimal-reads
-use Rattle.writer.proofs.put_decimals.Reads as put-decimals-reads
 
 power-requires : tie.Need-power-requires
 power-requires c κs = search needs

@@ -1,10 +1,8 @@
+-- A run of bytes that is a whole list. Assumes nothing.
 use Rattle.writer.proofs.Storing.{puts-of, part-whole}
 use borrow.Author.Needs.{needs}
 use Rattle.writer.proofs.word.Statement.{statement}
 use Rattle.writer.proofs.word.Tie as tie
-use Rattle.writer.proofs.word.Reads as reads
-use Rattle.writer.proofs.word.Lts as lts
-use Rattle.writer.proofs.copy.Reads as copy-reads
 
 copy-requires : tie.Need-copy-requires
 copy-requires c κs = search needs

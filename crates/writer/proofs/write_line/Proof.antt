@@ -1,3 +1,4 @@
+-- The line from the first place on. Assumes nothing.
 use native.Mathlib.Omega.{arith}
 use Rattle.writer.proofs.LineLaws.{whole-line}
 use borrow.Author.Needs.{needs}

@@ -45,10 +45,10 @@ countLimit = 99
 abbrev pub copyLimit : ℕ
 copyLimit = 8
 
--- "room is 2,048 rows"
-abbrev pub rowLimit : ℕ
-rowLimit = 2048
-
 -- "one entry for each of the 256 positions": the N-terminus, the residues, the C-terminus
 abbrev pub positionLimit : ℕ
 positionLimit = residueLimit + 2
+
+-- "room is 2,048 rows": a row for each floating copy and position
+abbrev pub rowLimit : ℕ
+rowLimit = copyLimit * positionLimit

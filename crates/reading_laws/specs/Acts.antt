@@ -266,30 +266,32 @@ abbrev pub someWay : (Act → Bool) → List Way → Bool
 someWay T [] = false
 someWay T (w ∷ ws) = T (w .does) || someWay T ws
 
--- what an act does with the brackets that wait at the front: it counts on the last, settles them as a run or at the N-terminus, or leaves them
-pub data Settling : Type 0 where
-  counting : Settling
-  as-run : Settling
-  as-term : Settling
-  leaving : Settling
-
-abbrev pub settling : Act → Settling
-settling Stop = leaving
-settling (Go m) = leaving
-settling (aResidue s m) = leaving
-settling (Begin s) = leaving
-settling Digit = counting
-settling RunEnds = as-run
-settling TermEnds = as-term
-
-abbrev pub counts : Act → Bool
-counts a = elim (settling a) [ counting ↦ true | as-run ↦ false | as-term ↦ false | leaving ↦ false ]
-
 abbrev pub endsRun : Act → Bool
-endsRun a = elim (settling a) [ counting ↦ false | as-run ↦ true | as-term ↦ false | leaving ↦ false ]
+endsRun Stop = false
+endsRun (Go m) = false
+endsRun (aResidue s m) = false
+endsRun (Begin s) = false
+endsRun Digit = false
+endsRun RunEnds = true
+endsRun TermEnds = false
 
 abbrev pub endsTerm : Act → Bool
-endsTerm a = elim (settling a) [ counting ↦ false | as-run ↦ false | as-term ↦ true | leaving ↦ false ]
+endsTerm Stop = false
+endsTerm (Go m) = false
+endsTerm (aResidue s m) = false
+endsTerm (Begin s) = false
+endsTerm Digit = false
+endsTerm RunEnds = false
+endsTerm TermEnds = true
+
+abbrev pub counts : Act → Bool
+counts Stop = false
+counts (Go m) = false
+counts (aResidue s m) = false
+counts (Begin s) = false
+counts Digit = true
+counts RunEnds = false
+counts TermEnds = false
 
 -- brackets at the front wait where `?` or `-` may settle them, or a count go on
 abbrev pub waits : Mode → Bool

@@ -3,7 +3,7 @@
 use mathlib.Core.Path.{_≡_}
 use mathlib.Core.Bool.{true, false, cond}
 use mathlib.Core.List.{List}
-use Prim.Native.Nat.{ℕ, _*_, _^_, _≤_, _<_}
+use Prim.Native.Nat.{ℕ, _≤_, _<_}
 use lib.IntN.{ℤ, natAbs}
 use lib.ListN.{length}
 use Rattle.scope.specs.Limits.{copyLimit}
@@ -12,6 +12,7 @@ use Rattle.scope.specs.Positions.{floaters}
 use Rattle.scope.specs.Masses.{total}
 use Rattle.scope.specs.Answers.{tooShort, areTables}
 use Rattle.areas.specs.Bounds.{Bounds}
+use Rattle.mass_laws.specs.Terms.{totalLimit}
 
 -- 13, 14, or 0 where neither is due
 unfoldable pub whyNot : List ℕ → List ℤ → ℕ
@@ -23,4 +24,4 @@ pub record Held (bs : List ℕ) (ns : List ℤ) : Type 0 where
   pub tables : areTables bs ns ≡ true
   pub bounds : Bounds bs ns
   pub few : length (floaters (tablesIn bs ns)) ≤ copyLimit
-  pub below : natAbs (total (tablesIn bs ns)) < 71 * 10 ^ 12
+  pub below : natAbs (total (tablesIn bs ns)) < totalLimit

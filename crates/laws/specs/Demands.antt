@@ -18,7 +18,7 @@ use Rattle.scope.specs.Positions.{floaters, permittedPositions, rowsOf}
 use Rattle.scope.specs.Placements.{allowed, placements, freshListing}
 use Rattle.scope.specs.Masses.{massOf, modifications, massOr0, sum, total, lacking, ledger, labileMass}
 use Rattle.scope.specs.Answers.{Said, refuses, tooShort, SomeLine, areTables, overTables, requested}
-use Rattle.mass_laws.specs.Terms.{Fair, Limited}
+use Rattle.mass_laws.specs.Terms.{Fair, Limited, totalLimit}
 use Rattle.placement_laws.specs.Terms.{Ascending, afterRequests, handedOut}
 use Rattle.basics.specs.Each.{In}
 
@@ -97,7 +97,7 @@ pub record Demand3 {P : Type 0} (t : Line P) : Type 0 where
       → getD (ledger t p) (getD p i 0) (pos 0) ≡ massOr0 (getD (floaters t) i d)
   pub past : (p : List ℕ) → allowed (permittedPositions t) p ≡ true → (x : ℕ) → length (t .residues) + 1 < x → getD (ledger t p) x (pos 0) ≡ pos 0
   -- "Below 71 times 10^12, it fits under 2^53."
-  pub total-below : natAbs (total t) < 71 * 10 ^ 12
+  pub total-below : natAbs (total t) < totalLimit
   -- "the whole number becomes a double with nothing lost": cast back, the double is the number
   pub nothing-lost : toSigned 63 (ofInt binary64 (total t)) ≡ total t
   -- 16 "a modification has no mass": none lacks one exactly when each has one

@@ -17,7 +17,7 @@ use Rattle.scope.specs.Positions.{struckOut, floaters, permittedPositions}
 use Rattle.scope.specs.Placements.{allowed}
 use Rattle.scope.specs.Masses.{massOf, modifications, massOr0, sum, total, lacking, labileMass, placedAt, ledger}
 use Rattle.areas.specs.Bounds.{Bounds}
-use Rattle.mass_laws.specs.Terms.{Fair, Limited}
+use Rattle.mass_laws.specs.Terms.{Fair, Limited, totalLimit}
 use Rattle.mass_laws.specs.Shares as shares
 use Rattle.mass_laws.specs.Splits as splits
 use Rattle.mass_laws.specs.Sizes as sizes
@@ -50,7 +50,7 @@ module _ {P : Type 0} (t : Line P) (fair : Fair t) where
   one-sum p q e f = shares.ledger-sum t fair p e ∙ sym (shares.ledger-sum t fair q f)
 
   -- "Below 71 times 10^12, it fits under 2^53."
-  pub total-below : Limited t → natAbs (total t) < 71 * 10 ^ 12
+  pub total-below : Limited t → natAbs (total t) < totalLimit
   total-below l = sizes.total-size t fair l
 
   -- "the whole number becomes a double with nothing lost": cast back, the double is the number
@@ -73,5 +73,5 @@ only-placed t p x h e = shares.only-placed t p x h e
 pub untouched : {P : Type 0} (t : Line P) (p : List ℕ) (x : ℕ) → member x (struckOut (t .brackets)) ≡ false → member x (take (length (floaters t)) p) ≡ false → getD (ledger t p) x (pos 0) ≡ pos 0
 untouched t p x e f = shares.untouched t p x e f
 
-pub under-2^53 : 71 * 10 ^ 12 < 2 ^ 53
+pub under-2^53 : totalLimit < 2 ^ 53
 under-2^53 = omega arith

@@ -4,8 +4,9 @@ use Rattle.scope.specs.Answers.{good, refuses, aMass, lack}
 use mathlib.Core.Bool.{cond}
 use lib.Dec.{eqb}
 use Rattle.scope.specs.Masses.{total, lacking, daltons}
+use Rattle.mass_laws.specs.Terms.{totalLimit}
 use Rattle.calls.proofs.Laws.{refused-law, held, answers, displayed, weight-total}
-use Prim.Native.Nat.{_*_, _^_, _<_}
+use Prim.Native.Nat.{_<_}
 use lib.IntN.{natAbs}
 use mir.Syntax.{w64}
 use mir.Val.{toZ, ofZ}
@@ -29,7 +30,7 @@ as-daltons-requires : tie.Need-as-daltons-requires
 as-daltons-requires c κs =
     let m = c .before .w .given .0 .0 in
     let read : toZ w64 (ofZ w64 m) ≡ m = search needs in
-    subst (λ z. natAbs z < 71 * 10 ^ 12) (sym read) (subst (λ z. natAbs z < 71 * 10 ^ 12) (weight-total _ (c .before .before .before .weigh .ensures) (c .before .w .given .1)) ((held (c .before .before .before .before .before .why-not .ensures) (c .before .before .before .before .if1 .left)) .below))
+    subst (λ z. natAbs z < totalLimit) (sym read) (subst (λ z. natAbs z < totalLimit) (weight-total _ (c .before .before .before .weigh .ensures) (c .before .w .given .1)) ((held (c .before .before .before .before .before .why-not .ensures) (c .before .before .before .before .if1 .left)) .below))
 
 enum-known-w-2 : tie.Need-enum-known-w-2
 enum-known-w-2 c = search needs

@@ -9,6 +9,7 @@ use lib.Dec.{leb}
 use lib.ListN.{length}
 use borrow.Author.Tests.{leb-true}
 use Rattle.scope.specs.Bytes.{isPrintable}
+use Rattle.scope.specs.Limits.{textLimit, labelLimit, countLimit}
 use Rattle.scope.specs.Line.{Number, Label, Value, mass, text, reference, Part, Bracket, Line}
 use Rattle.scope.specs.Lists.{flat}
 use Rattle.scope.specs.Refusals.{inRange, textIn, accepted, outcome}
@@ -20,13 +21,13 @@ use Rattle.accepted_laws.specs.Judged.{MassRange, JudgedPart, JudgedBrac
 use Rattle.accepted_laws.specs.Inside.{Signed, LabelShape, ValueShape, PartShape}
 use Rattle.accepted_laws.specs.Outside.{BracketShape, LineShape, line-shape}
 
-value-within : (p : Part ℕ) (v : Value ℕ) → ValueShape p v → MassRange v → length (textIn v) ≤ 128 → ValueWithin p v
+value-within : (p : Part ℕ) (v : Value ℕ) → ValueShape p v → MassRange v → length (textIn v) ≤ textLimit → ValueWithin p v
 value-within p (mass n) w r h = record { range = r; sign = w }
 value-within p (text t) w r h = record { some-text = w .0; short-text = h; bytes = w .1 }
 value-within p reference w r h = w
 
 label-within :
-    (l : Option (Label ℕ)) → OfGiven LabelShape l → OfGiven (λ l. length (l .name) ≤ 16) l → OfGiven (λ l. OfGiven (λ n. inRange n ≡ true) (l .score)) l
+    (l : Option (Label ℕ)) → OfGiven LabelShape l → OfGiven (λ l. length (l .name) ≤ labelLimit) l → OfGiven (λ l. OfGiven (λ n. inRange n ≡ true) (l .score)) l
     → OfGiven LabelWithin l
 label-within none w h r = tt
 label-within (some l) w h r = record { some-name = w .some-name; short-name = h; bytes = w .bytes; score = go (l .score) (w .score) r }
@@ -43,11 +44,11 @@ part-within p w j =
       label = label-within (p .label) (w .label) (j .short-label) (j .score-range);
     }
 
-count-some : (n : ℕ) (c : Option ℕ) → (c ≡ none → n ≡ 1) → OfGiven (λ i. (0 < n) × (n ≤ 99)) c → 0 < n
+count-some : (n : ℕ) (c : Option ℕ) → (c ≡ none → n ≡ 1) → OfGiven (λ i. (0 < n) × (n ≤ countLimit)) c → 0 < n
 count-some n none f g = let e = f refl in omega arith
 count-some n (some i) f g = g .0
 
-count-few : (n : ℕ) (c : Option ℕ) → (c ≡ none → n ≡ 1) → OfGiven (λ i. (0 < n) × (n ≤ 99)) c → n ≤ 99
+count-few : (n : ℕ) (c : Option ℕ) → (c ≡ none → n ≡ 1) → OfGiven (λ i. (0 < n) × (n ≤ countLimit)) c → n ≤ countLimit
 count-few n none f g = let e = f refl in omega arith
 count-few n (some i) f g = g .1
 

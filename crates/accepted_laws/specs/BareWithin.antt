@@ -5,6 +5,7 @@ use mathlib.Core.Option.{Option, none, some}
 use mathlib.Core.List.{map}
 use Prim.Native.Nat.{ℕ, _≤_}
 use lib.ListN.{length, length-map}
+use Rattle.scope.specs.Limits.{copyLimit}
 use Rattle.scope.specs.Line.{Number, Label, Value, mass, text, reference, Part, Bracket, Line}
 use Rattle.scope.specs.Content.{isReference}
 use Rattle.scope.specs.Tables.{bareNumber, bareLabel, bareValue, barePart, bareBracket, bareResidue, tablesOf}
@@ -77,5 +78,5 @@ module _ {P : Type 0} where
             (each-one (BracketWithin (length (l .residues))) (λ k. BracketWithin (length (l .residues)) (bareBracket k))
             (bracket-within (length (l .residues))) (l .brackets) (w .brackets)));
         texts = rw (flat-map bracketTexts bracketTexts bareBracket bracket-texts (l .brackets)) (w .texts);
-        few-copies = subst (λ z. z ≤ 8) (sym (ap length (same-floaters l) ∙ length-map (floaters l) bareBracket)) (w .few-copies);
+        few-copies = subst (λ z. z ≤ copyLimit) (sym (ap length (same-floaters l) ∙ length-map (floaters l) bareBracket)) (w .few-copies);
       }

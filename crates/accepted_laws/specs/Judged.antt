@@ -11,6 +11,7 @@ use borrow.Author.Tests.{ltb-false, le-leb, eqb-false, not-false}
 use Rattle.scope.specs.declared.grammar.Key.{Key}
 use Rattle.scope.specs.declared.grammar.Key.the-variants.{NoKey, U, M, R, X, G, C, Obs, Unimod, Mod, Xlmod, Resid, Gno, Info, Formula, Glycan, Position, Limit}
 use Rattle.scope.specs.Bytes.{isPrintable}
+use Rattle.scope.specs.Limits.{lineLimit, residueLimit, bracketLimit, partLimit, textLimit, labelLimit, countLimit, copyLimit}
 use Rattle.scope.specs.Line.{Number, Label, Value, mass, text, reference, Part, Bracket, Line}
 use Rattle.scope.specs.Keys.{keyCode}
 use Rattle.scope.specs.Lists.{given, flat}
@@ -38,15 +39,15 @@ MassRange (text t) = Unit {0}
 MassRange reference = Unit {0}
 
 pub record JudgedPart (p : Part ℕ) : Type 0 where
-  pub short-text : length (textOf p) ≤ 128
-  pub short-label : OfGiven (λ l. length (l .name) ≤ 16) (p .label)
+  pub short-text : length (textOf p) ≤ textLimit
+  pub short-label : OfGiven (λ l. length (l .name) ≤ labelLimit) (p .label)
   pub mass-range : MassRange (p .value)
   pub score-range : OfGiven (λ l. OfGiven (λ n. inRange n ≡ true) (l .score)) (p .label)
-  pub key : keyCode (p .key) ≤ 13
+  pub key : keyCode (p .key) ≤ keyCode Info
 
-short-label-of : (l : Option (Label ℕ)) → given l (λ l. dueAt (ltb 16 (length (l .name))) (l .at)) [] ≡ [] → OfGiven (λ l. length (l .name) ≤ 16) l
+short-label-of : (l : Option (Label ℕ)) → given l (λ l. dueAt (ltb labelLimit (length (l .name))) (l .at)) [] ≡ [] → OfGiven (λ l. length (l .name) ≤ labelLimit) l
 short-label-of none e = tt
-short-label-of (some l) e = ltb-false 16 (length (l .name)) (not-due _ (l .at) e)
+short-label-of (some l) e = ltb-false labelLimit (length (l .name)) (not-due _ (l .at) e)
 
 in-range : (n : Number ℕ) → wide n ≡ [] → inRange n ≡ true
 in-range n e = not-false (inRange n) (not-due _ (n .at) e)
@@ -65,7 +66,7 @@ score-range-of (some l) e = go (l .score) e
     go none q = tt
     go (some n) q = in-range n q
 
-key-few : (k : Key) → (eqb (keyCode k) 14 || eqb (keyCode k) 15 || eqb (keyCode k) 16 || eqb (keyCode k) 17) ≡ false → keyCode k ≤ 13
+key-few : (k : Key) → (eqb (keyCode k) (keyCode Formula) || eqb (keyCode k) (keyCode Glycan) || eqb (keyCode k) (keyCode Position) || eqb (keyCode k) (keyCode Limit)) ≡ false → keyCode k ≤ keyCode Info
 key-few NoKey e = omega arith
 key-few U e = omega arith
 key-few M e = omega arith
@@ -88,7 +89,7 @@ key-few Limit e = absurd (true≢false e)
 judged-part : (p : Part ℕ) → longText p ++ longLabel p ≡ [] → wideMass (p .value) ++ wideScore p ≡ [] → dueAt (notHere p) (p .at) ≡ [] → JudgedPart p
 judged-part p a b c =
     record {
-      short-text = ltb-false 128 (length (textOf p)) (not-due _ (p .at) (nil-front (longText p) (longLabel p) a));
+      short-text = ltb-false textLimit (length (textOf p)) (not-due _ (p .at) (nil-front (longText p) (longLabel p) a));
       short-label = short-label-of (p .label) (nil-back (longText p) (longLabel p) a);
       mass-range = mass-range-of (p .value) (nil-front (wideMass (p .value)) (wideScore p) b);
       score-range = score-range-of (p .label) (nil-back (wideMass (p .value)) (wideScore p) b);
@@ -97,18 +98,18 @@ judged-part p a b c =
 
 -- ---- brackets
 pub record JudgedBracket (k : Bracket ℕ) : Type 0 where
-  pub few-parts : length (k .parts) ≤ 4
-  pub count-range : OfGiven (λ i. (0 < k .count) × (k .count ≤ 99)) (k .counted)
+  pub few-parts : length (k .parts) ≤ partLimit
+  pub count-range : OfGiven (λ i. (0 < k .count) × (k .count ≤ countLimit)) (k .counted)
   pub one-label : length (namesOf k) ≤ 1
   pub uncounted : isLabelled k ≡ true → k .counted ≡ none
   pub parts : Each JudgedPart (k .parts)
 
-count-range-of : (n : ℕ) (c : Option ℕ) → given c (dueAt (eqb n 0 || ltb 99 n)) [] ≡ [] → OfGiven (λ i. (0 < n) × (n ≤ 99)) c
+count-range-of : (n : ℕ) (c : Option ℕ) → given c (dueAt (eqb n 0 || ltb countLimit n)) [] ≡ [] → OfGiven (λ i. (0 < n) × (n ≤ countLimit)) c
 count-range-of n none e = tt
 count-range-of n (some i) e =
-    let t = not-due (eqb n 0 || ltb 99 n) i e in
+    let t = not-due (eqb n 0 || ltb countLimit n) i e in
     let a : n ≡ 0 → ⊥ = eqb-false n 0 (or-left (eqb n 0) _ t) in
-    let b : n ≤ 99 = ltb-false 99 n (or-right (eqb n 0) _ t) in
+    let b : n ≤ countLimit = ltb-false countLimit n (or-right (eqb n 0) _ t) in
     (omega (arith, a), b)
 
 uncounted-of : (t : Bool) (c : Option ℕ) → (t && given c (λ p. true) false) ≡ false → t ≡ true → c ≡ none
@@ -121,13 +122,13 @@ judged-bracket :
     (k .parts) ≡ []
     → flat (λ p. dueAt (notHere p) (p .at)) (k .parts) ≡ [] → wrongLabels before definitions references k ≡ false → JudgedBracket k
 judged-bracket before definitions references k a b c d =
-    let long = drop 4 (map (λ p. p .at) (k .parts)) in
+    let long = drop partLimit (map (λ p. p .at) (k .parts)) in
     let d1 = or-left _ (unreferred references k) d in
     let d2 = or-left _ (countedLabel k) d1 in
     let d3 = or-left _ (undefined definitions k) d2 in
     let d4 : secondLabel k ≡ false = or-left _ (definedAgain before k) d3 in
     record {
-      few-parts = none-dropped (λ p. p .at) 4 (k .parts) (nil-front long (flat (λ p. longText p ++ longLabel p) (k .parts)) a);
+      few-parts = none-dropped (λ p. p .at) partLimit (k .parts) (nil-front long (flat (λ p. longText p ++ longLabel p) (k .parts)) a);
       count-range = count-range-of (k .count) (k .counted) (nil-front (wideCount k) (flat (λ p. wideMass (p .value) ++ wideScore p) (k .parts)) b);
       one-label = ltb-false 1 (length (namesOf k)) d4;
       uncounted = uncounted-of (isLabelled k) (k .counted)
@@ -155,15 +156,15 @@ judged-brackets before definitions references (k ∷ ks) a b c d =
     )
 
 few-copies-of :
-    (before : ℕ) (ks : List (Bracket ℕ)) → before ≤ 8 → passing before ks ≡ [] → before + length (flat (λ k. replicate (copies k) k) ks) ≤ 8
+    (before : ℕ) (ks : List (Bracket ℕ)) → before ≤ copyLimit → passing before ks ≡ [] → before + length (flat (λ k. replicate (copies k) k) ks) ≤ copyLimit
 unfolding passing flat
 few-copies-of before [] h e = omega arith
 few-copies-of before (k ∷ ks) h e =
-    let here = dueAt (leb before 8 && ltb 8 (before + copies k)) (k .at) in
+    let here = dueAt (leb before copyLimit && ltb copyLimit (before + copies k)) (k .at) in
     let rest = passing (before + copies k) ks in
-    let t : (leb before 8 && ltb 8 (before + copies k)) ≡ false = not-due _ (k .at) (nil-front here rest e) in
-    let u : ltb 8 (before + copies k) ≡ false = ap (λ z. z && ltb 8 (before + copies k)) (sym (le-leb before 8 h)) ∙ t in
-    let v : before + copies k ≤ 8 = ltb-false 8 (before + copies k) u in
+    let t : (leb before copyLimit && ltb copyLimit (before + copies k)) ≡ false = not-due _ (k .at) (nil-front here rest e) in
+    let u : ltb copyLimit (before + copies k) ≡ false = ap (λ z. z && ltb copyLimit (before + copies k)) (sym (le-leb before copyLimit h)) ∙ t in
+    let v : before + copies k ≤ copyLimit = ltb-false copyLimit (before + copies k) u in
     let w = few-copies-of (before + copies k) ks v (nil-back here rest e) in
     let x = length-append (replicate (copies k) k) (flat (λ k. replicate (copies k) k) ks) in
     let y = length-replicate (copies k) k in
@@ -182,17 +183,17 @@ all-printable i (b ∷ s) e =
 -- ---- lines
 pub record Judged (s : List ℕ) (l : Line ℕ) : Type 0 where
   pub read : reading s ≡ holds l
-  pub short : length s ≤ 4096
+  pub short : length s ≤ lineLimit
   pub printable : Each (λ b. isPrintable b ≡ true) s
-  pub few-residues : length (l .residues) ≤ 254
-  pub few-brackets : length (l .brackets) ≤ 64
+  pub few-residues : length (l .residues) ≤ residueLimit
+  pub few-brackets : length (l .brackets) ≤ bracketLimit
   pub brackets : Each JudgedBracket (l .brackets)
-  pub few-copies : length (floaters l) ≤ 8
+  pub few-copies : length (floaters l) ≤ copyLimit
 
-short-of : (n : ℕ) → cond {A = Option ℕ} (ltb 4096 n) (some 4096) none ≡ none → n ≤ 4096
-short-of n e = ltb-false 4096 n (go (ltb 4096 n) e)
+short-of : (n : ℕ) → cond {A = Option ℕ} (ltb lineLimit n) (some lineLimit) none ≡ none → n ≤ lineLimit
+short-of n e = ltb-false lineLimit n (go (ltb lineLimit n) e)
   where
-    go : (t : Bool) → cond {A = Option ℕ} t (some 4096) none ≡ none → t ≡ false
+    go : (t : Bool) → cond {A = Option ℕ} t (some lineLimit) none ≡ none → t ≡ false
     go true q = let z : _≡_ {A = ℕ} 0 1 = cc in absurd (omega arith)
     go false q = refl
 
@@ -205,8 +206,8 @@ judged-line s l e =
     let from6 = w .clear .1 in
     let from8 = from6 .1 .1 in
     let from11 = from8 .1 .1 .1 in
-    let rs = drop 254 (map (λ r. r .at) (l .residues)) in
-    let ks = drop 64 (map (λ k. k .at) (l .brackets)) in
+    let rs = drop residueLimit (map (λ r. r .at) (l .residues)) in
+    let ks = drop bracketLimit (map (λ k. k .at) (l .brackets)) in
     let a : rs ++ (ks ++ flat overIn (l .brackets)) ≡ [] = least-none _ (from6 .0) in
     let b = nil-back rs (ks ++ flat overIn (l .brackets)) a in
     let c = few-copies-of 0 (l .brackets) (omega arith) (least-none _ (from11 .1 .0)) in
@@ -214,8 +215,8 @@ judged-line s l e =
       read = w .reads;
       short = short-of (length s) no2;
       printable = all-printable 0 s (least-none _ no3);
-      few-residues = none-dropped (λ r. r .at) 254 (l .residues) (nil-front rs (ks ++ flat overIn (l .brackets)) a);
-      few-brackets = none-dropped (λ k. k .at) 64 (l .brackets) (nil-front ks (flat overIn (l .brackets)) b);
+      few-residues = none-dropped (λ r. r .at) residueLimit (l .residues) (nil-front rs (ks ++ flat overIn (l .brackets)) a);
+      few-brackets = none-dropped (λ k. k .at) bracketLimit (l .brackets) (nil-front ks (flat overIn (l .brackets)) b);
       brackets =
           judged-brackets [] (defined (l .brackets)) (referredTo (l .brackets)) (l .brackets)
           (flat-none overIn (l .brackets) (nil-back ks (flat overIn (l .brackets)) b))

@@ -5,9 +5,10 @@ use mathlib.Core.List.{List}
 use Prim.Native.Nat.{ℕ, _+_, _≤_, _<_}
 use native.Mathlib.Omega.{arith}
 use lib.ListN.{length}
-use Rattle.scope.specs.declared.grammar.Key.the-variants.{NoKey}
+use Rattle.scope.specs.declared.grammar.Key.the-variants.{NoKey, Info}
 use Rattle.scope.specs.declared.grammar.Kind.{Kind}
 use Rattle.scope.specs.declared.grammar.Kind.the-variants.{Unknown, Labile, NTerm, OnResidue, OnRange, CTerm}
+use Rattle.scope.specs.Bytes.{byteLimit}
 use Rattle.scope.specs.Limits.{lineLimit, residueLimit, bracketLimit, partLimit, textLimit, labelLimit, countLimit, copyLimit}
 use Rattle.scope.specs.Line.{Number, Label, Value, mass, text, reference, Part, Bracket, Line}
 use Rattle.scope.specs.Keys.{keyCode}
@@ -21,7 +22,7 @@ use Rattle.scope.specs.Positions.{floaters}
 use Rattle.basics.specs.Each.{Each, OfGiven, IsGiven}
 
 abbrev pub Byte : ℕ → Type 0
-Byte b = b < 256
+Byte b = b < byteLimit
 
 -- "below 1,000,000 in size with at most 6 decimals"; "The sign of zero .. not kept"
 pub record NumberWithin {P : Type 0} (n : Number P) : Type 0 where
@@ -51,9 +52,9 @@ ValueWithin p (mass n) = NumberWithin n
 ValueWithin p (text t) = TextWithin t
 ValueWithin p reference = ReferenceWithin p
 
--- the keys of refusal 8 have the codes above 13
+-- the keys of refusal 8 have the codes above that of `INFO:`
 pub record PartWithin {P : Type 0} (p : Part P) : Type 0 where
-  pub key : keyCode (p .key) ≤ 13
+  pub key : keyCode (p .key) ≤ keyCode Info
   pub value : ValueWithin p (p .value)
   pub label : OfGiven LabelWithin (p .label)
 

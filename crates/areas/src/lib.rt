@@ -3,12 +3,11 @@ use scope::answers::Placement;
 use scope::tables::Tables;
 ghost use mathlib.Core.Path.{_≡_};
 ghost use Prim.Native.Nat.{_+_, _*_, _<_, _≤_};
-ghost use lib.IntN.{pos};
-ghost use lib.ListN.{length, getD, set};
+ghost use lib.ListN.{length, set};
 ghost use lib.Seq.{sets};
 ghost use Rattle.scope.specs.Bytes.{byteLimit, wideLimit};
 ghost use Rattle.scope.specs.Limits.{residueLimit, bracketLimit, partLimit, positionLimit};
-ghost use Rattle.scope.specs.Layout.{bytesSize, numbersSize, rowSize, partSize, numberRowSize, residuesAt, lettersAt, sectionsAt, rowAt, countAt, partAt, massAt, countsRow, headRow, partFields, byteAt, wideAt, residuesField, bracketsField, letterField, sectionField, kindField, firstField, lastField, countField, partsField, scoreField, valueField, keyField, decimalsField, textField, labelField, offsetField, massField, scoreNumber};
+ghost use Rattle.scope.specs.Layout.{bytesSize, numbersSize, residuesAt, lettersAt, sectionsAt, rowAt, countAt, partAt, massAt, countsRow, headRow, partFields, byteAt, wideAt, residuesField, bracketsField, letterField, sectionField, kindField, firstField, lastField, countField, partsField, scoreField, valueField, keyField, decimalsField, textField, labelField, offsetField, massField, scoreNumber};
 
 // The floaters: how many there are, and the number of each one's bracket.
 pub struct Floaters {
@@ -332,30 +331,4 @@ pub fn put_score(numbers: &mut [i64], k: usize, score: i64)
     ensures { λ _. ⌜ now (numbers .exit) ≡ set (now (numbers .entry)) (massAt k partLimit) score ⌝ }
 {
     numbers[k * Tables::MASSES + Tables::PARTS] = score;
-}
-
-// ---- the old readers, until every crate has gone over
-
-// Number f of bracket k's row.
-pub fn bracket_byte(bytes: &[u8], k: usize, f: usize) -> u8
-    requires { ⌜ (bytesSize ≤ length (now bytes)) × (k < bracketLimit) × (f < rowSize) ⌝ }
-    ensures { λ r. ⌜ r ≡ byteAt (now (bytes .entry)) (rowAt k + f) ⌝ }
-{
-    bytes[Tables::ROWS + k * Tables::ROW + f]
-}
-
-// Number f of the row of part j of bracket k.
-pub fn part_byte(bytes: &[u8], k: usize, j: usize, f: usize) -> u8
-    requires { ⌜ (bytesSize ≤ length (now bytes)) × (k < bracketLimit) × (j < partLimit) × (f < partSize) ⌝ }
-    ensures { λ r. ⌜ r ≡ byteAt (now (bytes .entry)) (partAt k j + f) ⌝ }
-{
-    bytes[Tables::ROWS + k * Tables::ROW + Tables::HEAD + j * Tables::PART + f]
-}
-
-// The mass of part j of bracket k, and its score where j is the number of parts.
-pub fn number(numbers: &[i64], k: usize, j: usize) -> i64
-    requires { ⌜ (numbersSize ≤ length (now numbers)) × (k < bracketLimit) × (j < numberRowSize) ⌝ }
-    ensures { λ r. ⌜ r ≡ massField (now (numbers .entry)) k j ⌝ }
-{
-    numbers[k * Tables::MASSES + j]
 }

@@ -2,15 +2,15 @@
 use mathlib.Core.Path.{_≡_, refl, sym, subst}
 use mathlib.Core.Bool.{Bool, true, false, _&&_, true≢false, false≢true}
 use mathlib.Core.List.{List}
-use Prim.Native.Nat.{ℕ, _+_, _*_, _≤_, _<_}
+use Prim.Native.Nat.{ℕ, _+_, _-_, _*_, _^_, _≤_, _<_}
 use native.Mathlib.Omega.{arith}
 use borrow.Author.Tests.{ltb-true, ltb-false, leb-true, leb-false}
 use borrow.Author.Count.{below-more}
 use lib.Dec.{leb}
 use lib.IntN.{ℤ, pos, negsuc}
-use lib.ListN.{length, getD}
+use lib.ListN.{length}
 use lib.Signed.{ltZ}
-use Rattle.scope.specs.Limits.{lineLimit, residueLimit, bracketLimit, partLimit, textLimit, labelLimit, countLimit, decimalLimit}
+use Rattle.scope.specs.Limits.{lineLimit, residueLimit, bracketLimit, partLimit, textLimit, labelLimit, countLimit, sizeLimit, decimalLimit}
 use Rattle.scope.specs.Layout.{bytesSize, numbersSize, bracketsField, countField, decimalsField, firstField, labelField, lastField, massField, offsetField, partsField, residuesField, scoreField, scoreNumber, textField}
 use Rattle.areas.specs.Bounds.{Small, PartBounds, BracketBounds, Bounds}
 use Rattle.bounds.specs.Verdict.{Verdict, decides}
@@ -25,19 +25,22 @@ pub and-decides : (B : Type 0) (so t : Bool) {r : Bool} → r ≡ (so && t) → 
 and-decides B true t e v = rw e (decides t (λ b. (refl, b)) (λ p. p .1) v)
 and-decides B false t e v = rw e (λ p. false≢true (p .0))
 
--- ---- a size below 10^12, by a test on either side
-pub below : (m : ℤ) {z : ℤ} → z ≡ m → ltZ z (pos 1000000000000) ≡ true → Verdict (ltZ (negsuc 999999999999) z) (Small m)
-below m e = subst (λ z. ltZ z (pos 1000000000000) ≡ true → Verdict (ltZ (negsuc 999999999999) z) (Small m)) (sym e) (go m)
-  where
-    go : (m : ℤ) → ltZ m (pos 1000000000000) ≡ true → Verdict (ltZ (negsuc 999999999999) m) (Small m)
-    go (pos a) t = ltb-true a 1000000000000 t
-    go (negsuc a) t = verdict (ltZ (negsuc 999999999999) (negsuc a)) (λ q. omega (arith, ltb-true a 999999999999 q)) (λ q h. omega (arith, ltb-false a 999999999999 q))
+-- ---- what a mass or score stays below in size, in millionths, by a test on either side
+abbrev cap : ℕ
+cap = sizeLimit * 10 ^ decimalLimit
 
-pub above : (m : ℤ) {z : ℤ} → z ≡ m → ltZ z (pos 1000000000000) ≡ false → Small m → ⊥
-above m e = subst (λ z. ltZ z (pos 1000000000000) ≡ false → Small m → ⊥) (sym e) (go m)
+pub below : (m : ℤ) {z : ℤ} → z ≡ m → ltZ z (pos cap) ≡ true → Verdict (ltZ (negsuc (cap - 1)) z) (Small m)
+below m e = subst (λ z. ltZ z (pos cap) ≡ true → Verdict (ltZ (negsuc (cap - 1)) z) (Small m)) (sym e) (go m)
   where
-    go : (m : ℤ) → ltZ m (pos 1000000000000) ≡ false → Small m → ⊥
-    go (pos a) t h = omega (arith, ltb-false a 1000000000000 t)
+    go : (m : ℤ) → ltZ m (pos cap) ≡ true → Verdict (ltZ (negsuc (cap - 1)) m) (Small m)
+    go (pos a) t = ltb-true a cap t
+    go (negsuc a) t = verdict (ltZ (negsuc (cap - 1)) (negsuc a)) (λ q. omega (arith, ltb-true a (cap - 1) q)) (λ q h. omega (arith, ltb-false a (cap - 1) q))
+
+pub above : (m : ℤ) {z : ℤ} → z ≡ m → ltZ z (pos cap) ≡ false → Small m → ⊥
+above m e = subst (λ z. ltZ z (pos cap) ≡ false → Small m → ⊥) (sym e) (go m)
+  where
+    go : (m : ℤ) → ltZ m (pos cap) ≡ false → Small m → ⊥
+    go (pos a) t h = omega (arith, ltb-false a cap t)
     go (negsuc a) t h = let z : true ≡ false = t in absurd (true≢false z)
 
 -- ---- a part

@@ -1,20 +1,14 @@
 // Whether the numbers in lent areas keep to the bounds of tables, and whether two areas hold the same. The areas may hold anything.
-use areas::bracket_byte;
-use areas::brackets;
-use areas::number;
-use areas::part_byte;
-use areas::residues;
-use areas::wide;
 use scope::tables::Number;
 use scope::tables::Tables;
 ghost use mathlib.Core.Path.{_≡_};
 ghost use mathlib.Core.Bool.{true};
 ghost use mathlib.Core.List.{_++_};
-ghost use Prim.Native.Nat.{_+_, _*_, _<_, _≤_};
+ghost use Prim.Native.Nat.{_<_, _≤_};
 ghost use lib.ListN.{length, take, drop};
 ghost use Rattle.scope.specs.Limits.{bracketLimit, partLimit};
 ghost use Rattle.scope.specs.Lists.{same};
-ghost use Rattle.scope.specs.Layout.{bytesSize, numbersSize, offsetField, partsField};
+ghost use Rattle.scope.specs.Layout.{bytesSize, numbersSize, partsField};
 ghost use Rattle.scope.specs.Answers.{sameNumbers};
 ghost use Rattle.areas.specs.Bounds.{Small, PartBounds, BracketBounds, Bounds};
 ghost use Rattle.bounds.specs.Verdict.{Verdict};
@@ -22,6 +16,9 @@ ghost use Rattle.bounds.specs.Pieces.{Room, RowRoom, PlaceBounds, HeadBo
 
 // What a mass or score stays below in size, in millionths.
 const CAP: i64 = (Number::SIZE as i64) * 1000000;
+
+// How many decimals it has at most.
+const DECIMALS: usize = Number::DECIMALS as usize;
 
 // Is a mass or score below 1,000,000 in size?
 fn is_small(m: i64) -> bool
@@ -33,38 +30,28 @@ fn is_small(m: i64) -> bool
     false
 }
 
-// Where the text of part j of bracket k begins, by what its row says.
-fn text_from(bytes: &[u8], k: usize, j: usize) -> usize
-    requires { ⌜ (bytesSize ≤ length (now bytes)) × (k < bracketLimit) × (j < partLimit) ⌝ }
-    ensures { λ r. ⌜ (r ≡ offsetField (now (bytes .entry)) k j) × (r < 65536) ⌝ }
-{
-    let low = wide(part_byte(bytes, k, j, 5));
-    let high = wide(part_byte(bytes, k, j, 6));
-    low + 256 * high
-}
-
 // Does part j of bracket k keep to its bounds?
 fn part_in_bounds(bytes: &[u8], numbers: &[i64], k: usize, j: usize) -> bool
     requires { ⌜ RowRoom (now bytes) (now numbers) k × (j < partLimit) ⌝ }
     ensures { λ r. ⌜ Verdict r (PartBounds (now (bytes .entry)) (now (numbers .entry)) k j) ⌝ }
 {
-    let decimals = part_byte(bytes, k, j, 2);
-    if Number::DECIMALS < decimals {
+    let decimals = areas::decimals(bytes, k, j);
+    if DECIMALS < decimals {
         return false;
     }
-    let text = wide(part_byte(bytes, k, j, 3));
+    let text = areas::text_length(bytes, k, j);
     if Tables::TEXT < text {
         return false;
     }
-    let label = wide(part_byte(bytes, k, j, 4));
+    let label = areas::label_length(bytes, k, j);
     if Tables::LABEL < label {
         return false;
     }
-    let from = text_from(bytes, k, j);
+    let from = areas::offset(bytes, k, j);
     if Tables::LINE < from + text + label {
         return false;
     }
-    is_small(number(numbers, k, j))
+    is_small(areas::mass(numbers, k, j))
 }
 
 // Do the positions of bracket k?
@@ -72,11 +59,11 @@ fn place_in_bounds(bytes: &[u8], k: usize) -> bool
     requires { ⌜ (bytesSize ≤ length (now bytes)) × (k < bracketLimit) ⌝ }
     ensures { λ r. ⌜ Verdict r (PlaceBounds (now (bytes .entry)) k) ⌝ }
 {
-    let end = residues(bytes) + 1;
-    if end < wide(bracket_byte(bytes, k, 1)) {
+    let end = areas::residues(bytes) + 1;
+    if end < areas::first(bytes, k) {
         return false;
     }
-    wide(bracket_byte(bytes, k, 2)) <= end
+    areas::last(bytes, k) <= end
 }
 
 // Do its count, its number of parts and its score?
@@ -84,22 +71,22 @@ fn head_in_bounds(bytes: &[u8], numbers: &[i64], k: usize) -> bool
     requires { ⌜ RowRoom (now bytes) (now numbers) k ⌝ }
     ensures { λ r. ⌜ Verdict r (HeadBounds (now (bytes .entry)) (now (numbers .entry)) k) ⌝ }
 {
-    let count = wide(bracket_byte(bytes, k, 3));
+    let count = areas::count(bytes, k);
     if count == 0 {
         return false;
     }
     if Tables::COUNT < count {
         return false;
     }
-    let parts = wide(bracket_byte(bytes, k, 4));
+    let parts = areas::parts(bytes, k);
     if Tables::PARTS < parts {
         return false;
     }
-    let score = bracket_byte(bytes, k, 5);
-    if Number::DECIMALS + 1 < score {
+    let score = areas::score(bytes, k);
+    if DECIMALS + 1 < score {
         return false;
     }
-    is_small(number(numbers, k, Tables::PARTS))
+    is_small(areas::score_number(numbers, k))
 }
 
 // Do its parts, of which there are at most as many as a row holds?
@@ -107,7 +94,7 @@ fn parts_in_bounds(bytes: &[u8], numbers: &[i64], k: usize) -> bool
     requires { ⌜ RowRoom (now bytes) (now numbers) k × (partsField (now bytes) k ≤ partLimit) ⌝ }
     ensures { λ r. ⌜ Verdict r (PartsBounds (now (bytes .entry)) (now (numbers .entry)) k) ⌝ }
 {
-    let m = wide(bracket_byte(bytes, k, 4));
+    let m = areas::parts(bytes, k);
     let mut j: usize = 0;
     while j < m {
         if part_in_bounds(bytes, numbers, k, j) {
@@ -153,14 +140,14 @@ pub fn in_bounds(bytes: &[u8], numbers: &[i64]) -> bool
     requires { ⌜ (bytesSize ≤ length (now bytes)) × (numbersSize ≤ length (now numbers)) ⌝ }
     ensures { λ r. ⌜ Verdict r (Bounds (now (bytes .entry)) (now (numbers .entry))) ⌝ }
 {
-    let n = residues(bytes);
+    let n = areas::residues(bytes);
     if n == 0 {
         return false;
     }
     if Tables::RESIDUES < n {
         return false;
     }
-    let m = brackets(bytes);
+    let m = areas::brackets(bytes);
     if Tables::BRACKETS < m {
         return false;
     }

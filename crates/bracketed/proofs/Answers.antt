@@ -18,6 +18,7 @@ use Rattle.parts.specs.Says.{ValueIs}
 use Rattle.bracketed.specs.declared.Bracketed.{Bracketed}
 use Rattle.bracketed.specs.declared.Parts.{Parts}
 use Rattle.bracketed.specs.declared.Step.the-variants.{Lost, Closed, More}
+use Rattle.notes.specs.Notes.{infoSort, unlabelledSort, labelledSort, referenceSort}
 use Rattle.bracketed.specs.Progress.{nameCount, sortCode, finished, behindPart}
 
 -- ---- whether a reference may stand here
@@ -39,19 +40,19 @@ unfolding nameCount
 no-name a b h = sym (rw (le-ltb a b h))
 
 -- ---- sorts
-pub sort-refers : (r i : Bool) (n : ℕ) → r ≡ true → 3 ≡ sortCode r i n
+pub sort-refers : (r i : Bool) (n : ℕ) → r ≡ true → referenceSort ≡ sortCode r i n
 unfolding sortCode
 sort-refers r i n e = sym (rw e)
 
-pub sort-info : (r i : Bool) (n : ℕ) → r ≡ false → i ≡ true → 0 ≡ sortCode r i n
+pub sort-info : (r i : Bool) (n : ℕ) → r ≡ false → i ≡ true → infoSort ≡ sortCode r i n
 unfolding sortCode
 sort-info r i n e f = sym (rw (e, f))
 
-pub sort-bare : (r i : Bool) (n : ℕ) → r ≡ false → i ≡ false → n ≡ 0 → 1 ≡ sortCode r i n
+pub sort-bare : (r i : Bool) (n : ℕ) → r ≡ false → i ≡ false → n ≡ 0 → unlabelledSort ≡ sortCode r i n
 unfolding sortCode
 sort-bare r i n e f g = sym (rw (e, f, eq-eqb n 0 g))
 
-pub sort-named : (r i : Bool) (n : ℕ) → r ≡ false → i ≡ false → (n ≡ 0 → ⊥) → 2 ≡ sortCode r i n
+pub sort-named : (r i : Bool) (n : ℕ) → r ≡ false → i ≡ false → (n ≡ 0 → ⊥) → labelledSort ≡ sortCode r i n
 unfolding sortCode
 sort-named r i n e f g = sym (rw (e, f, ne-eqb n 0 g))
 

@@ -93,7 +93,7 @@ module _ (m : Marks) (ps : List (Part ℕ)) (q : Part ℕ) where
 -- ---- the parts with one more
 module _ (line : List ℕ) (s : Parts) (r : PartRead) (labels : ℕ) (x y info refers : Bool) (here joined marks : Marks)
     (el : labels ≡ nameCount (r .label) (r .ends))
-    (ex : x ≡ eqb (keyCode (r .key)) 13)
+    (ex : x ≡ eqb (keyCode (r .key)) (keyCode Info))
     (ei : info ≡ (s .info && x))
     (ey : (l : List ℕ) (i : ℕ) (v : Value ℕ) → ValueIs l i (r .value) v → y ≡ isReference v)
     (er : refers ≡ cond (eqb (s .count) 0) y (s .refers))
@@ -113,7 +113,7 @@ module _ (line : List ℕ) (s : Parts) (r : PartRead) (labels : ℕ) (x y info r
         info =
             ei
             ∙ ap (λ z. z && x) (w .info)
-            ∙ ap (λ z. all (isKey Info) ps && z) (ex ∙ ap (λ z. eqb (keyCode z) 13) (sym (g .key)))
+            ∙ ap (λ z. all (isKey Info) ps && z) (ex ∙ ap (λ z. eqb (keyCode z) (keyCode Info)) (sym (g .key)))
             ∙ sym (all-snoc (isKey Info) ps q);
         refers =
             er

@@ -16,7 +16,7 @@ use Rattle.scope.specs.Lists.{flat, all}
 use Rattle.scope.specs.Modifications.{isKey, nameOf}
 use Rattle.reading_laws.specs.Run.{rest}
 use Rattle.marks.specs.Marks.{MarksAre}
-use Rattle.notes.specs.Notes.{labelRow, AllStand, labelsRoom}
+use Rattle.notes.specs.Notes.{infoSort, unlabelledSort, labelledSort, referenceSort, labelRow, AllStand, labelsRoom}
 use Rattle.bracketed.specs.Bracketed.{partsDues, opened, SlotIs, Closes}
 use Rattle.bracketed.specs.declared.Bracketed.{Bracketed}
 use Rattle.bracketed.specs.declared.Parts.{Parts}
@@ -41,7 +41,7 @@ unfoldable pub nameCount : ℕ → ℕ → ℕ
 nameCount from to = cond (ltb from to) 1 0
 
 unfoldable pub sortCode : Bool → Bool → ℕ → ℕ
-sortCode refers info labels = cond refers 3 (cond info 0 (cond (eqb labels 0) 1 2))
+sortCode refers info labels = cond refers referenceSort (cond info infoSort (cond (eqb labels 0) unlabelledSort labelledSort))
 
 -- the bracket, closed
 abbrev pub finished : ℕ → Parts → Bracketed

@@ -161,19 +161,28 @@ fn finish(next: usize, s: Parts) -> Bracketed
     }
 }
 
+// the sorts of brackets, as they are noted
+const INFO_ONLY: u16 = notes::INFO_ONLY as u16;
+
+const UNLABELLED: u16 = notes::UNLABELLED as u16;
+
+const LABELLED: u16 = notes::LABELLED as u16;
+
+pub const REFERENCE: u16 = notes::REFERENCE as u16;
+
 fn sort_of(refers: bool, info: bool, labels: usize) -> u16
     ensures { λ r. ⌜ r ≡ sortCode refers info labels ⌝ }
 {
     if refers {
-        return 3;
+        return REFERENCE;
     }
     if info {
-        return 0;
+        return INFO_ONLY;
     }
     if labels == 0 {
-        return 1;
+        return UNLABELLED;
     }
-    2
+    LABELLED
 }
 
 // The parts with one more.
@@ -237,7 +246,7 @@ fn first_refers(count: usize, before: bool, here: bool) -> bool
 fn is_info(key: Key) -> bool
     ensures { λ r. ⌜ r ≡ eqb (keyCode key) (keyCode Key.Info) ⌝ }
 {
-    keywords::key_code(key) == 13
+    keywords::key_code(key) == keywords::key_code(Key::Info)
 }
 
 fn is_reference(value: Value) -> bool

@@ -3,7 +3,6 @@ use mathlib.Core.Path.{_≡_, refl, sym, ap, _∙_}
 use mathlib.Core.Bool.{Bool, true, false, not, cond, _&&_}
 use mathlib.Core.List.{List, [], _∷_, _++_}
 use Prim.Native.Nat.{ℕ, zero, suc, _+_, _-_, _≤_, _<_}
-use native.Mathlib.Nat.{add-zero}
 use native.Mathlib.Omega.{arith}
 use borrow.Author.Tests.{eq-eqb, ne-eqb}
 use lib.Dec.{eqb}
@@ -17,21 +16,22 @@ use Rattle.scope.specs.Line.{Number, Bracket, mass, text, reference}
 use Rattle.scope.specs.Content.{isReference}
 use Rattle.scope.specs.Lists.{none?, all, flat, tabled}
 use Rattle.scope.specs.Modifications.{isKey, onlyInfo, isReferring, nameOf, isLabelled, isModification, unlabelledCopies, copies}
-use Rattle.scope.specs.Kinds.{onOnePosition, kindIn}
+use Rattle.scope.specs.Keys.{keyCode}
+use Rattle.scope.specs.Kinds.{onOnePosition, kindCode, kindIn}
 use Rattle.scope.specs.Positions.{isPlaced}
-use Rattle.scope.specs.Layout.{byteAt, partAt, valueIn, partIn, bracketIn, keyField, labelField, partsField, valueField}
+use Rattle.scope.specs.Layout.{massCode, textCode, valueIn, partIn, bracketIn, keyField, labelField, partsField, valueField}
 use Rattle.brackets.specs.Codes.{key-is}
 use Rattle.basics.specs.Tabled.{tabled-at, tabled-end, tabled-all}
 
--- ---- the kind of a number
-pub other-kind : (n : ℕ) → (n ≡ 2 → ⊥) → (n ≡ 3 → ⊥) → (n ≡ 4 → ⊥) → (n ≡ 5 → ⊥) → (n ≡ 6 → ⊥) → Unknown ≡ kindIn n
+-- ---- the kind of a code
+pub other-kind : (n : ℕ) → (n ≡ kindCode Labile → ⊥) → (n ≡ kindCode NTerm → ⊥) → (n ≡ kindCode OnResidue → ⊥) → (n ≡ kindCode OnRange → ⊥) → (n ≡ kindCode CTerm → ⊥) → Unknown ≡ kindIn n
 other-kind zero p2 p3 p4 p5 p6 = refl
 other-kind (suc zero) p2 p3 p4 p5 p6 = refl
 other-kind (suc (suc n)) p2 p3 p4 p5 p6 =
-    sym (List·getD-eq-default (Unknown ∷ Labile ∷ NTerm ∷ OnResidue ∷ OnRange ∷ CTerm ∷ []) Unknown (far n p2 p3 p4 p5 p6))
+    sym (List·getD-eq-default (Unknown ∷ Labile ∷ NTerm ∷ OnResidue ∷ OnRange ∷ CTerm ∷ []) Unknown (far (suc (suc n)) (omega arith) p2 p3 p4 p5 p6))
   where
-    far : (n : ℕ) → (suc (suc n) ≡ 2 → ⊥) → (suc (suc n) ≡ 3 → ⊥) → (suc (suc n) ≡ 4 → ⊥) → (suc (suc n) ≡ 5 → ⊥) → (suc (suc n) ≡ 6 → ⊥) → 6 ≤ suc (suc n) - 1
-    far n p2 p3 p4 p5 p6 = omega arith
+    far : (n : ℕ) → kindCode Unknown < n → (n ≡ kindCode Labile → ⊥) → (n ≡ kindCode NTerm → ⊥) → (n ≡ kindCode OnResidue → ⊥) → (n ≡ kindCode OnRange → ⊥) → (n ≡ kindCode CTerm → ⊥) → kindCode CTerm ≤ n - 1
+    far n l p2 p3 p4 p5 p6 = omega arith
 
 -- ---- what a loop over the m parts has found before part j
 pub record Infos (bs : List ℕ) (k m j : ℕ) : Type 0 where
@@ -48,29 +48,29 @@ infos-start bs k m e few =
       rest = λ ns. ap (λ n. all (isKey Info) (tabled (partIn bs ns k) 0 n)) (sym e) ∙ ap (all (isKey Info)) (tabled-all (partIn bs ns k) m);
     }
 
-info-here : (bs : List ℕ) (ns : List ℤ) (k j key : ℕ) → key ≡ keyField bs k j → isKey Info (partIn bs ns k j) ≡ eqb key 13
+info-here : (bs : List ℕ) (ns : List ℤ) (k j key : ℕ) → key ≡ keyField bs k j → isKey Info (partIn bs ns k j) ≡ eqb key (keyCode Info)
 unfolding partIn
-info-here bs ns k j key e = key-is (keyField bs k j) 13 (omega arith) (omega arith) ∙ ap (λ n. eqb n 13) (sym e)
+info-here bs ns k j key e = key-is (keyField bs k j) (keyCode Info) (omega arith) (omega arith) ∙ ap (λ n. eqb n (keyCode Info)) (sym e)
 
 all-cons : (bs : List ℕ) (ns : List ℤ) (k m j : ℕ) → j < m → all (isKey Info) (tabled (partIn bs ns k) j (m - j)) ≡ isKey Info (partIn bs ns k j) && all (isKey Info) (tabled (partIn bs ns k) (j + 1) (m - (j + 1)))
 unfolding all
 all-cons bs ns k m j h = rw (tabled-at (partIn bs ns k) j m h)
 
-pub infos-next : {bs : List ℕ} {k m j : ℕ} {key : ℕ} → Infos bs k m j → j < m → key ≡ keyField bs k j → key ≡ 13 → Infos bs k m (j + 1)
+pub infos-next : {bs : List ℕ} {k m j : ℕ} {key : ℕ} → Infos bs k m j → j < m → key ≡ keyField bs k j → key ≡ keyCode Info → Infos bs k m (j + 1)
 infos-next {bs} {k} {m} {j} {key} i h e q =
     record {
       inside = omega arith;
       few = i .few;
       rest =
           λ ns. i .rest ns ∙ all-cons bs ns k m j h
-          ∙ ap (λ t. t && all (isKey Info) (tabled (partIn bs ns k) (j + 1) (m - (j + 1)))) (info-here bs ns k j key e ∙ eq-eqb key 13 q);
+          ∙ ap (λ t. t && all (isKey Info) (tabled (partIn bs ns k) (j + 1) (m - (j + 1)))) (info-here bs ns k j key e ∙ eq-eqb key (keyCode Info) q);
     }
 
-pub infos-other : {bs : List ℕ} {k m j : ℕ} {key : ℕ} → Infos bs k m j → j < m → key ≡ keyField bs k j → (key ≡ 13 → ⊥) → (ns : List ℤ) → false ≡ onlyInfo (bracketIn bs ns k)
+pub infos-other : {bs : List ℕ} {k m j : ℕ} {key : ℕ} → Infos bs k m j → j < m → key ≡ keyField bs k j → (key ≡ keyCode Info → ⊥) → (ns : List ℤ) → false ≡ onlyInfo (bracketIn bs ns k)
 infos-other {bs} {k} {m} {j} {key} i h e q ns =
     sym
     (i .rest ns ∙ all-cons bs ns k m j h
-    ∙ ap (λ t. t && all (isKey Info) (tabled (partIn bs ns k) (j + 1) (m - (j + 1)))) (info-here bs ns k j key e ∙ ne-eqb key 13 q))
+    ∙ ap (λ t. t && all (isKey Info) (tabled (partIn bs ns k) (j + 1) (m - (j + 1)))) (info-here bs ns k j key e ∙ ne-eqb key (keyCode Info) q))
 
 pub infos-end : {bs : List ℕ} {k m j : ℕ} → Infos bs k m j → m ≤ j → (ns : List ℤ) → true ≡ onlyInfo (bracketIn bs ns k)
 unfolding all
@@ -140,21 +140,22 @@ by-value n x true u = refl
 by-value n x false true = refl
 by-value n x false false = refl
 
--- the code's tests of the value's number
-pub of-mass : (v : ℕ) → v ≡ 1 → false ≡ cond (eqb v 1) false (cond (eqb v 2) false true)
-of-mass v e = rw (eq-eqb v 1 e)
+-- what the code of a value says: neither a mass nor a text
+abbrev refers : ℕ → Bool
+refers v = cond (eqb v massCode) false (cond (eqb v textCode) false true)
 
-pub of-text : (v : ℕ) → (v ≡ 1 → ⊥) → v ≡ 2 → false ≡ cond (eqb v 1) false (cond (eqb v 2) false true)
-of-text v p e = rw (ne-eqb v 1 p, eq-eqb v 2 e)
+pub of-mass : (v : ℕ) → v ≡ massCode → false ≡ refers v
+of-mass v e = rw (eq-eqb v massCode e)
 
-pub of-neither : (v : ℕ) → (v ≡ 1 → ⊥) → (v ≡ 2 → ⊥) → true ≡ cond (eqb v 1) false (cond (eqb v 2) false true)
-of-neither v p q = rw (ne-eqb v 1 p, ne-eqb v 2 q)
+pub of-text : (v : ℕ) → (v ≡ massCode → ⊥) → v ≡ textCode → false ≡ refers v
+of-text v p e = rw (ne-eqb v massCode p, eq-eqb v textCode e)
 
-pub reference-is : (bs : List ℕ) (k m v : ℕ) → m ≡ partsField bs k → (m ≡ 0 → ⊥) → v ≡ valueField bs k 0 → (ns : List ℤ) → cond (eqb v 1) false (cond (eqb v 2) false true) ≡ isReferring (bracketIn bs ns k)
+pub of-neither : (v : ℕ) → (v ≡ massCode → ⊥) → (v ≡ textCode → ⊥) → true ≡ refers v
+of-neither v p q = rw (ne-eqb v massCode p, ne-eqb v textCode q)
+
+pub reference-is : (bs : List ℕ) (k m v : ℕ) → m ≡ partsField bs k → (m ≡ 0 → ⊥) → v ≡ valueField bs k 0 → (ns : List ℤ) → refers v ≡ isReferring (bracketIn bs ns k)
 reference-is bs k m v e q f ns =
-    ap (λ n. cond (eqb n 1) false (cond (eqb n 2) false true)) f
-    ∙ sym (by-value _ _ (eqb (valueField bs k 0) 1) (eqb (valueField bs k 0) 2))
-    ∙ sym (first-part bs ns k m e q)
+    ap refers f ∙ sym (by-value _ _ (eqb (valueField bs k 0) massCode) (eqb (valueField bs k 0) textCode)) ∙ sym (first-part bs ns k m e q)
 
 -- ---- the tests of a modification, one after the other
 module _ (b : Bracket (Unit {0})) where

@@ -1,12 +1,10 @@
 // The brackets, read from their rows. Each answer is the definition's, of the bracket in the areas, whatever the masses and scores are.
-use areas::bracket_byte;
-use areas::part_byte;
-use areas::wide;
 use scope::grammar::Kind;
 ghost use mathlib.Core.Path.{_≡_};
 ghost use mathlib.Core.List.{List};
-ghost use Prim.Native.Nat.{_+_, _<_, _≤_};
+ghost use Prim.Native.Nat.{_<_, _≤_};
 ghost use lib.IntN.{ℤ};
+ghost use Rattle.scope.specs.Bytes.{byteLimit};
 ghost use Rattle.scope.specs.Limits.{partLimit};
 ghost use Rattle.scope.specs.Layout.{bracketIn, partsField};
 ghost use Rattle.scope.specs.Kinds.{kindIn, onOnePosition};
@@ -14,55 +12,60 @@ ghost use Rattle.scope.specs.Modifications.{onlyInfo, isReferring, isModificati
 ghost use Rattle.scope.specs.Positions.{isPlaced};
 ghost use Rattle.brackets.specs.Row.{Row};
 
+// the codes of values: a mass, a text
+pub const MASS: usize = 1;
+
+const TEXT: usize = 2;
+
+// the codes of the keys that are asked for: `Obs`, INFO
+pub const OBS: usize = 7;
+
+const INFO: usize = 13;
+
+// the codes of kinds; every other is of unknown position
+const LABILE: usize = 2;
+
+const N_TERM: usize = 3;
+
+const ON_RESIDUE: usize = 4;
+
+const ON_RANGE: usize = 5;
+
+const C_TERM: usize = 6;
+
 // How many parts there are.
 pub fn parts(bytes: &[u8], k: usize) -> usize
     requires { ⌜ Row (now bytes) k ⌝ }
     ensures { λ r. ⌜ (r ≡ partsField (now (bytes .entry)) k) × (r ≤ partLimit) ⌝ }
 {
-    wide(bracket_byte(bytes, k, 4))
-}
-
-// The first position.
-pub fn first(bytes: &[u8], k: usize) -> usize
-    requires { ⌜ Row (now bytes) k ⌝ }
-    ensures { λ r. ⌜ ((ns : List ℤ) → r ≡ bracketIn (now (bytes .entry)) ns k .first) × (r < 256) ⌝ }
-{
-    wide(bracket_byte(bytes, k, 1))
-}
-
-// The last position.
-pub fn last(bytes: &[u8], k: usize) -> usize
-    requires { ⌜ Row (now bytes) k ⌝ }
-    ensures { λ r. ⌜ ((ns : List ℤ) → r ≡ bracketIn (now (bytes .entry)) ns k .last) × (r < 256) ⌝ }
-{
-    wide(bracket_byte(bytes, k, 2))
+    areas::parts(bytes, k)
 }
 
 // The count.
 pub fn count(bytes: &[u8], k: usize) -> usize
     requires { ⌜ Row (now bytes) k ⌝ }
-    ensures { λ r. ⌜ ((ns : List ℤ) → r ≡ bracketIn (now (bytes .entry)) ns k .count) × (r < 256) ⌝ }
+    ensures { λ r. ⌜ ((ns : List ℤ) → r ≡ bracketIn (now (bytes .entry)) ns k .count) × (r < byteLimit) ⌝ }
 {
-    wide(bracket_byte(bytes, k, 3))
+    areas::count(bytes, k)
 }
 
-// The kind of a number.
-fn kind_of(code: u8) -> Kind
+// The kind of a code.
+fn kind_of(code: usize) -> Kind
     ensures { λ r. ⌜ r ≡ kindIn code ⌝ }
 {
-    if code == 2 {
+    if code == LABILE {
         return Kind::Labile;
     }
-    if code == 3 {
+    if code == N_TERM {
         return Kind::NTerm;
     }
-    if code == 4 {
+    if code == ON_RESIDUE {
         return Kind::OnResidue;
     }
-    if code == 5 {
+    if code == ON_RANGE {
         return Kind::OnRange;
     }
-    if code == 6 {
+    if code == C_TERM {
         return Kind::CTerm;
     }
     Kind::Unknown
@@ -73,7 +76,7 @@ pub fn kind(bytes: &[u8], k: usize) -> Kind
     requires { ⌜ Row (now bytes) k ⌝ }
     ensures { λ r. ⌜ ((ns : List ℤ) → r ≡ bracketIn (now (bytes .entry)) ns k .kind) ⌝ }
 {
-    kind_of(bracket_byte(bytes, k, 0))
+    kind_of(areas::kind(bytes, k))
 }
 
 // Whether all its parts are INFO.
@@ -84,8 +87,8 @@ fn only_info(bytes: &[u8], k: usize) -> bool
     let m = parts(bytes, k);
     let mut j: usize = 0;
     while j < m {
-        let key = part_byte(bytes, k, j, 1);
-        if key != 13 {
+        let key = areas::key(bytes, k, j);
+        if key != INFO {
             return false;
         }
         j += 1;
@@ -103,10 +106,10 @@ pub fn is_referring(bytes: &[u8], k: usize) -> bool
         return false;
     }
     let value = areas::value(bytes, k, 0);
-    if value == 1 {
+    if value == MASS {
         return false;
     }
-    if value == 2 {
+    if value == TEXT {
         return false;
     }
     true
@@ -120,8 +123,8 @@ pub fn is_labelled(bytes: &[u8], k: usize) -> bool
     let m = parts(bytes, k);
     let mut j: usize = 0;
     while j < m {
-        let long = part_byte(bytes, k, j, 4);
-        if long != 0 {
+        let label = areas::label_length(bytes, k, j);
+        if label != 0 {
             return true;
         }
         j += 1;
@@ -194,7 +197,7 @@ pub fn copies_of(bytes: &[u8], k: usize) -> usize
         if is_labelled(bytes, k) {
             return 1;
         }
-        return unlabelled_copies(kind(bytes, k), count(bytes, k));
+        return unlabelled_copies(kind(bytes, k), areas::count(bytes, k));
     }
     0
 }

@@ -8,7 +8,7 @@ use lib.Dec.{ltb}
 use lib.IntN.{ℤ}
 use lib.ListN.{length}
 use Rattle.scope.specs.declared.answers.Site.{Site}
-use Rattle.scope.specs.Limits.{rowLimit}
+use Rattle.scope.specs.Limits.{copyLimit, rowLimit}
 use Rattle.scope.specs.Lists.{laid}
 use Rattle.scope.specs.Layout.{tablesIn}
 use Rattle.scope.specs.Positions.{rowsFrom, rowsOf, permittedPositions}
@@ -28,7 +28,7 @@ no-tables bs ns {room} {w} h e n out q =
     let k : rowLimit ≤ length out = subst (λ z. rowLimit ≤ z) (sym q) h in
     rw (le-ltb (length out) rowLimit k) (refused-law bs ns e n (λ t. good (length (rowsOf t))))
 
-pub table-ready : {bs : List ℕ} {ns : List ℤ} {room k : ℕ} {old tab : List ℕ} → rowLimit ≤ room → Held bs ns → rowLimit ≤ length old → k ≤ 8
+pub table-ready : {bs : List ℕ} {ns : List ℤ} {room k : ℕ} {old tab : List ℕ} → rowLimit ≤ room → Held bs ns → rowLimit ≤ length old → k ≤ copyLimit
     → Filled bs ns k old tab → RowsTable bs ns room tab k
 table-ready {bs} {ns} {room} {k} {old} {tab} h held long few f =
     record { roomy = h; held = held; sized = record { room = subst (λ z. rowLimit ≤ z) (sym (f .kept)) long; few = few }; table = f .table }

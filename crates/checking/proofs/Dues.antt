@@ -76,16 +76,16 @@ bracket-due m rs ks k n e z g =
 pub last-same : {A : Type 0} (f : Bracket ℕ → List A) (ks : List (Bracket ℕ)) (k x : Bracket ℕ) → f k ≡ f x → flat f (ks ++ (k ∷ [])) ≡ flat f (ks ++ (x ∷ []))
 last-same f ks k x e = flat-snoc f ks k ∙ ap (λ t. flat f ks ++ t) e ∙ sym (flat-snoc f ks x)
 
-wide-same : (v c : ℕ) → v ≡ min 100 c → (eqb v 0 || ltb countLimit v) ≡ (eqb c 0 || ltb countLimit c)
+wide-same : (v c : ℕ) → v ≡ min (countLimit + 1) c → (eqb v 0 || ltb countLimit v) ≡ (eqb c 0 || ltb countLimit c)
 wide-same v c e =
     let a : eqb v 0 ≡ eqb c 0 =
     by-test (eqb c 0) (λ t. eq-eqb v 0 (omega (arith, eqb-true c 0 t)) ∙ sym t) (λ t. ne-eqb v 0 (λ z. eqb-false c 0 t (omega arith)) ∙ sym t) in
-    let b : ltb 99 v ≡ ltb 99 c =
-    by-test (ltb 99 c) (λ t. lt-ltb 99 v (omega (arith, ltb-true 99 c t)) ∙ sym t) (λ t. le-ltb 99 v (omega (arith, ltb-false 99 c t)) ∙ sym t) in
-    ap (λ t. t || ltb 99 v) a ∙ ap (λ t. eqb c 0 || t) b
+    let b : ltb countLimit v ≡ ltb countLimit c =
+    by-test (ltb countLimit c) (λ t. lt-ltb countLimit v (omega (arith, ltb-true countLimit c t)) ∙ sym t) (λ t. le-ltb countLimit v (omega (arith, ltb-false countLimit c t)) ∙ sym t) in
+    ap (λ t. t || ltb countLimit v) a ∙ ap (λ t. eqb c 0 || t) b
 
 -- the last bracket has a count
-pub count-due : (m : Marks) (rs : List (Residue ℕ)) (ks : List (Bracket ℕ)) (k : Bracket ℕ) (v c p : ℕ) → v ≡ min 100 c → k .counted ≡ none
+pub count-due : (m : Marks) (rs : List (Residue ℕ)) (ks : List (Bracket ℕ)) (k : Bracket ℕ) (v c p : ℕ) → v ≡ min (countLimit + 1) c → k .counted ≡ none
     → MarksAre m (withWide (dues rs (ks ++ (k ∷ []))) (dueAt (eqb v 0 || ltb countLimit v) p)) → MarksAre m (dues rs (ks ++ (times c p k ∷ [])))
 count-due m rs ks k v c p e z g =
     let r = drop residueLimit (map (λ r. r .at) rs) in

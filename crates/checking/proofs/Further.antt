@@ -22,7 +22,7 @@ use Rattle.scope.specs.Refusals.{dueAt, least}
 use Rattle.reading_laws.specs.Run.{rest, rest-start, rest-step, rest-end, rest-dead}
 use Rattle.marks.specs.declared.Marks.{Marks}
 use Rattle.marks.specs.Marks.{Dues, MarksAre}
-use Rattle.notes.specs.Notes.{notesFrom, labelRows, NotesAre, notesRoom, labelsRoom}
+use Rattle.notes.specs.Notes.{noteSize, notesFrom, labelRows, NotesAre, notesRoom, labelsRoom}
 use Rattle.checking.specs.declared.Stage.{Stage}
 use Rattle.checking.specs.declared.Step.{Step}
 use Rattle.checking.specs.declared.Step.the-variants.{Stuck, More}
@@ -151,8 +151,8 @@ noted-terms line bs rs n first end notes notes′ labels o e f g =
     let q : end ≡ length bs + length rs = f ∙ length-append bs rs in
     record {
       rows =
-          ap (λ t. take (7 * t) notes′) (l ∙ sym f)
-          ∙ g .rows bs rs e q (ap (λ t. take (7 * t) notes) f ∙ o .rows);
+          ap (λ t. take (noteSize * t) notes′) (l ∙ sym f)
+          ∙ g .rows bs rs e q (ap (λ t. take (noteSize * t) notes) f ∙ o .rows);
       many = o .many ∙ ap length (kinds-same namesOf bs rs (λ x. refl));
       places = o .places ∙ kinds-same labelRows bs rs (λ x. refl);
       stand = stand-settled line bs rs (o .stand);

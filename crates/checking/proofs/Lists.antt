@@ -11,7 +11,7 @@ use Rattle.scope.specs.Line.{Label, Part, Bracket}
 use Rattle.scope.specs.Modifications.{nameOf, namesOf}
 use Rattle.scope.specs.Refusals.{dueAt}
 use Rattle.scope.specs.Reading.{asNTerm, times}
-use Rattle.notes.specs.Notes.{noteRow, notesFrom, labelRow, labelRows, NamesStand}
+use Rattle.notes.specs.Notes.{noteSize, noteRow, notesFrom, labelRow, labelRows, NamesStand}
 
 -- what stands past a limit, with one element more
 pub past-more : {A : Type 0} (f : A → ℕ) (n : ℕ) (l : List A) (x : A)
@@ -48,7 +48,7 @@ pub notes-one : (n : ℕ) (k : Bracket ℕ) → notesFrom n (k ∷ []) ≡ noteR
 unfolding notesFrom
 notes-one n k = refl
 
-pub notes-length : (n : ℕ) (l : List (Bracket ℕ)) → length (notesFrom n l) ≡ 7 * length l
+pub notes-length : (n : ℕ) (l : List (Bracket ℕ)) → length (notesFrom n l) ≡ noteSize * length l
 unfolding notesFrom
 notes-length n [] = refl
 notes-length n (k ∷ l) = let h = notes-length (n + length (namesOf k)) l in omega arith

@@ -23,7 +23,7 @@ use Rattle.scope.specs.Refusals.{dueAt}
 use Rattle.reading_laws.specs.Run.{rest}
 use Rattle.marks.specs.declared.Marks.{Marks}
 use Rattle.marks.specs.Marks.{Dues, both, MarksAre}
-use Rattle.notes.specs.Notes.{sortOf, noteRow, labelRow, labelRows}
+use Rattle.notes.specs.Notes.{noteSize, infoSort, unlabelledSort, labelledSort, referenceSort, sortOf, noteRow, labelRow, labelRows}
 use Rattle.bracketed.specs.declared.Bracketed.{Bracketed}
 use Rattle.bracketed.specs.declared.BracketAt.{BracketAt}
 use Rattle.bracketed.specs.declared.BracketAt.the-variants.{Stuck, Read}
@@ -58,11 +58,11 @@ bracket-behind line s slot notes labels labels′ d r b f l e = record {
 }
 
 -- the sort says whether a bracket is a reference
-refers-sort : (k : Bracket ℕ) → eqb (sortOf k) 3 ≡ refers? (k .parts)
+refers-sort : (k : Bracket ℕ) → eqb (sortOf k) referenceSort ≡ refers? (k .parts)
 unfolding sortOf
 refers-sort k = go (refers? (k .parts)) (onlyInfo k) (isLabelled k)
   where
-    go : (x y z : Bool) → eqb (cond x 3 (cond y 0 (cond z 2 1))) 3 ≡ x
+    go : (x y z : Bool) → eqb (cond x referenceSort (cond y infoSort (cond z labelledSort unlabelledSort))) referenceSort ≡ x
     go true y z = refl
     go false true z = refl
     go false false true = refl
@@ -189,7 +189,7 @@ module _ (line : List ℕ) (s : Stage) (slot : Slot) (b : Bracketed) (notes labe
         let low : s .labels ≤ (bracketLimit - 1) * partLimit = omega (arith, r .low-label, r .few) in
         record {
           rows =
-              ap (take (7 * length (ks ++ (k ∷ [])))) (g .put z)
+              ap (take (noteSize * length (ks ++ (k ∷ [])))) (g .put z)
               ∙ row-more ks k notes (s .brackets) _ (o .rows) (u .brackets) (omega (arith, r .few, u .notes-room)) row;
           many = omega (arith, n, c, o .many, f .closes .many);
           places =
@@ -209,7 +209,7 @@ module _ (line : List ℕ) (s : Stage) (slot : Slot) (b : Bracketed) (notes labe
         let c = slot .kind in
         let same : ks ++ (k ∷ []) ≡ heldBrackets (put c k h) = put-behind c slot k h slot-fits in
         let moves : mode ≡ modeAfter slot p =
-        mode-is ∙ ap (λ t. cond (eqb t 3) (slot .referred) (slot .after)) (same-sort ∙ f .closes .sort k refl)
+        mode-is ∙ ap (λ t. cond (eqb t referenceSort) (slot .referred) (slot .after)) (same-sort ∙ f .closes .sort k refl)
         ∙ ap (λ t. cond t (slot .referred) (slot .after)) (refers-sort k) in
         let res = put-residues c k h in (
           record {

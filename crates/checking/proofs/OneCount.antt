@@ -20,7 +20,7 @@ use Rattle.numerals.specs.Numerals.{digitsFrom, CountAt}
 use Rattle.reading_laws.specs.Run.{rest}
 use Rattle.marks.specs.declared.Marks.{Marks}
 use Rattle.marks.specs.Marks.{Dues, MarksAre}
-use Rattle.notes.specs.Notes.{labelRows}
+use Rattle.notes.specs.Notes.{noteSize, labelRows}
 use Rattle.checking.specs.declared.Stage.{Stage}
 use Rattle.checking.specs.Stages.{dues, withWide, ModeFits, LastFresh, Noted, heldBrackets, Upto, Does, CountPut}
 use Rattle.checking.proofs.Lists.{stand-count}
@@ -30,16 +30,16 @@ use Rattle.checking.proofs.Counts.{withCount, count-read, count-stops, 
 use Rattle.checking.proofs.Further.{run-left}
 
 -- the tables note the count of the last bracket
-noted-count : (line : List ℕ) (ks : List (Bracket ℕ)) (k : Bracket ℕ) (n at v c p : ℕ) (notes notes′ labels : List ℕ) → n ≡ length (ks ++ (k ∷ [])) → v ≡ min 100 c
-    → notes′ ≡ sets notes (7 * n - 4) (v ∷ 1 ∷ []) → Noted line (ks ++ (k ∷ [])) at notes labels → Noted line (ks ++ (times c p k ∷ [])) at notes′ labels
+noted-count : (line : List ℕ) (ks : List (Bracket ℕ)) (k : Bracket ℕ) (n at v c p : ℕ) (notes notes′ labels : List ℕ) → n ≡ length (ks ++ (k ∷ [])) → v ≡ min (countLimit + 1) c
+    → notes′ ≡ sets notes (noteSize * n - 4) (v ∷ 1 ∷ []) → Noted line (ks ++ (k ∷ [])) at notes labels → Noted line (ks ++ (times c p k ∷ [])) at notes′ labels
 noted-count line ks k n at v c p notes notes′ labels e f g o =
     let a : length (ks ++ (k ∷ [])) ≡ length ks + 1 = length-append ks (k ∷ []) in
     let b : length (ks ++ (times c p k ∷ [])) ≡ length ks + 1 = length-append ks (times c p k ∷ []) in
     let l : length (ks ++ (times c p k ∷ [])) ≡ n = b ∙ sym a ∙ sym e in
     record {
       rows =
-          ap (λ t. take (7 * t) notes′) l ∙ ap (take (7 * n)) g
-          ∙ count-set ks k notes n v c p (e ∙ a) f (ap (λ t. take (7 * t) notes) e ∙ o .rows);
+          ap (λ t. take (noteSize * t) notes′) l ∙ ap (take (noteSize * n)) g
+          ∙ count-set ks k notes n v c p (e ∙ a) f (ap (λ t. take (noteSize * t) notes) e ∙ o .rows);
       many = o .many ∙ ap length (last-same namesOf ks k (times c p k) refl);
       places = o .places ∙ last-same labelRows ks k (times c p k) refl;
       stand = stand-count line ks k c p (o .stand);

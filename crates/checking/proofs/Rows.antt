@@ -11,7 +11,7 @@ use Rattle.scope.specs.Line.{Bracket}
 use Rattle.scope.specs.Lists.{flat}
 use Rattle.scope.specs.Modifications.{namesOf}
 use Rattle.scope.specs.Reading.{asNTerm, times}
-use Rattle.notes.specs.Notes.{noteRow, notesFrom, sortOf, countedCode}
+use Rattle.notes.specs.Notes.{noteSize, noteRow, notesFrom, sortOf, countedCode}
 use Rattle.checking.specs.Stages.{Settled}
 use Rattle.checking.proofs.Lists.{notes-behind, notes-one, notes-length}
 
@@ -32,17 +32,17 @@ two l i a b = let e1 : i + 1 ≡ suc i = omega arith in rw e1
 
 -- one row more
 pub row-more : (ks : List (Bracket ℕ)) (k : Bracket ℕ) (notes : List ℕ) (n : ℕ) (row : List ℕ)
-    → take (7 * length ks) notes ≡ notesFrom 0 ks → n ≡ length ks → 7 * n + 7 ≤ length notes → row ≡ noteRow (length (flat namesOf ks)) k
-    → take (7 * length (ks ++ (k ∷ []))) (sets notes (7 * n) row) ≡ notesFrom 0 (ks ++ (k ∷ []))
+    → take (noteSize * length ks) notes ≡ notesFrom 0 ks → n ≡ length ks → noteSize * n + noteSize ≤ length notes → row ≡ noteRow (length (flat namesOf ks)) k
+    → take (noteSize * length (ks ++ (k ∷ []))) (sets notes (noteSize * n) row) ≡ notesFrom 0 (ks ++ (k ∷ []))
 row-more ks k notes n row old e room is =
-    let front : take (7 * n) notes ≡ notesFrom 0 ks = rw e old in
-    let seven-long : length row ≡ 7 = ap length is in
-    let w : 7 * n + length row ≤ length notes = omega arith in
-    let split : sets notes (7 * n) row ≡ take (7 * n) notes ++ row ++ drop (7 * n + length row) notes = sets-eq row notes (7 * n) w in
-    let whole : take (7 * n) notes ++ row ≡ notesFrom 0 (ks ++ (k ∷ [])) =
+    let front : take (noteSize * n) notes ≡ notesFrom 0 ks = rw e old in
+    let seven-long : length row ≡ noteSize = ap length is in
+    let w : noteSize * n + length row ≤ length notes = omega arith in
+    let split : sets notes (noteSize * n) row ≡ take (noteSize * n) notes ++ row ++ drop (noteSize * n + length row) notes = sets-eq row notes (noteSize * n) w in
+    let whole : take (noteSize * n) notes ++ row ≡ notesFrom 0 (ks ++ (k ∷ [])) =
     ap (λ t. t ++ row) front ∙ ap (λ t. notesFrom 0 ks ++ t) (is ∙ sym (notes-one (length (flat namesOf ks)) k)) ∙ sym (notes-behind ks (k ∷ [])) in
-    let long : length (take (7 * n) notes ++ row) ≡ 7 * length (ks ++ (k ∷ [])) = ap length whole ∙ notes-length 0 (ks ++ (k ∷ [])) in
-    ap (take (7 * length (ks ++ (k ∷ [])))) split ∙ take-at (take (7 * n) notes ++ row) (drop (7 * n + length row) notes) _ long ∙ whole
+    let long : length (take (noteSize * n) notes ++ row) ≡ noteSize * length (ks ++ (k ∷ [])) = ap length whole ∙ notes-length 0 (ks ++ (k ∷ [])) in
+    ap (take (noteSize * length (ks ++ (k ∷ [])))) split ∙ take-at (take (noteSize * n) notes ++ row) (drop (noteSize * n + length row) notes) _ long ∙ whole
 
 -- one number of a row changed
 change : (x : List ℕ) (a b : ℕ) (y : List ℕ) (i v : ℕ) → i ≡ length x + 1 → set (x ++ (a ∷ b ∷ y)) i v ≡ x ++ (a ∷ v ∷ y)
@@ -52,41 +52,41 @@ change x a b y i v e =
 
 -- a bracket of the run is N-terminal after all
 pub kind-set : (bs : List (Bracket ℕ)) (k : Bracket ℕ) (rs : List (Bracket ℕ)) (notes : List ℕ) (end i : ℕ)
-    → i ≡ length bs → i < end → take (7 * end) notes ≡ notesFrom 0 (bs ++ (k ∷ rs))
-    → take (7 * end) (set notes (7 * i + 1) 3) ≡ notesFrom 0 (bs ++ (asNTerm k ∷ rs))
+    → i ≡ length bs → i < end → take (noteSize * end) notes ≡ notesFrom 0 (bs ++ (k ∷ rs))
+    → take (noteSize * end) (set notes (noteSize * i + 1) 3) ≡ notesFrom 0 (bs ++ (asNTerm k ∷ rs))
 unfolding notesFrom sortOf
 kind-set bs k rs notes end i e h old =
-    let low : 7 * i + 1 < 7 * end = omega arith in
-    let at : 7 * i + 1 ≡ length (notesFrom 0 bs) + 1 = omega (arith, notes-length 0 bs) in
+    let low : noteSize * i + 1 < noteSize * end = omega arith in
+    let at : noteSize * i + 1 ≡ length (notesFrom 0 bs) + 1 = omega (arith, notes-length 0 bs) in
     let m = length (flat namesOf bs) in
     let y = sortOf k ∷ min (countLimit + 1) (k .count) ∷ countedCode (k .counted) ∷ m ∷ length (namesOf k) ∷ notesFrom (m + length (namesOf k)) rs in
-    take-set-lt (7 * end) notes (7 * i + 1) 3 low
-    ∙ ap (λ t. set t (7 * i + 1) 3) (old ∙ notes-behind bs (k ∷ rs))
-    ∙ change (notesFrom 0 bs) (k .at) (kindCode (k .kind)) y (7 * i + 1) 3 at
+    take-set-lt (noteSize * end) notes (noteSize * i + 1) 3 low
+    ∙ ap (λ t. set t (noteSize * i + 1) 3) (old ∙ notes-behind bs (k ∷ rs))
+    ∙ change (notesFrom 0 bs) (k .at) (kindCode (k .kind)) y (noteSize * i + 1) 3 at
     ∙ sym (notes-behind bs (asNTerm k ∷ rs))
 
 -- the last bracket has a count
 pub count-set : (ks : List (Bracket ℕ)) (k : Bracket ℕ) (notes : List ℕ) (n v c p : ℕ)
-    → n ≡ length ks + 1 → v ≡ min 100 c → take (7 * n) notes ≡ notesFrom 0 (ks ++ (k ∷ []))
-    → take (7 * n) (sets notes (7 * n - 4) (v ∷ 1 ∷ [])) ≡ notesFrom 0 (ks ++ (times c p k ∷ []))
+    → n ≡ length ks + 1 → v ≡ min (countLimit + 1) c → take (noteSize * n) notes ≡ notesFrom 0 (ks ++ (k ∷ []))
+    → take (noteSize * n) (sets notes (noteSize * n - 4) (v ∷ 1 ∷ [])) ≡ notesFrom 0 (ks ++ (times c p k ∷ []))
 unfolding notesFrom sortOf
 count-set ks k notes n v c p e f old =
     let m = length (flat namesOf ks) in
     let w = k .at ∷ kindCode (k .kind) ∷ sortOf k ∷ [] in
     let x = notesFrom 0 ks ++ w in
     let y = m ∷ length (namesOf k) ∷ [] in
-    let i = 7 * n - 4 in
-    let low : i < 7 * n = omega arith in
-    let low′ : suc i < 7 * n = omega arith in
+    let i = noteSize * n - 4 in
+    let low : i < noteSize * n = omega arith in
+    let low′ : suc i < noteSize * n = omega arith in
     let long : length x ≡ i = simp length-append (omega (arith, notes-length 0 ks)) in
     let next : suc i ≡ length x + 1 = omega (arith, long) in
-    take-set-lt (7 * n) (set notes i v) (suc i) 1 low′
-    ∙ ap (λ t. set t (suc i) 1) (take-set-lt (7 * n) notes i v low)
-    ∙ ap (λ t. set (set t i v) (suc i) 1) (old ∙ notes-behind ks (k ∷ []) ∙ sym (append-assoc (notesFrom 0 ks) w (min 100 (k .count) ∷ countedCode (k .counted) ∷ y)))
-    ∙ ap (λ t. set t (suc i) 1) (set-at x (min 100 (k .count)) (countedCode (k .counted) ∷ y) v i long)
+    take-set-lt (noteSize * n) (set notes i v) (suc i) 1 low′
+    ∙ ap (λ t. set t (suc i) 1) (take-set-lt (noteSize * n) notes i v low)
+    ∙ ap (λ t. set (set t i v) (suc i) 1) (old ∙ notes-behind ks (k ∷ []) ∙ sym (append-assoc (notesFrom 0 ks) w (min (countLimit + 1) (k .count) ∷ countedCode (k .counted) ∷ y)))
+    ∙ ap (λ t. set t (suc i) 1) (set-at x (min (countLimit + 1) (k .count)) (countedCode (k .counted) ∷ y) v i long)
     ∙ change x v (countedCode (k .counted)) y (suc i) 1 next
     ∙ ap (λ t. x ++ (t ∷ 1 ∷ y)) f
-    ∙ append-assoc (notesFrom 0 ks) w (min 100 c ∷ 1 ∷ y)
+    ∙ append-assoc (notesFrom 0 ks) w (min (countLimit + 1) c ∷ 1 ∷ y)
     ∙ sym (notes-behind ks (times c p k ∷ []))
 
 -- the rows from first up to i are of N-terminal brackets; those up to end are left
@@ -95,10 +95,10 @@ pub record Partly (bs rs : List (Bracket ℕ)) (i end : ℕ) (notes : List ℕ) 
   pub left : List (Bracket ℕ)
   pub is : rs ≡ done ++ left
   pub at : i ≡ length bs + length done
-  pub rows : take (7 * end) notes ≡ notesFrom 0 (bs ++ (map asNTerm done ++ left))
+  pub rows : take (noteSize * end) notes ≡ notesFrom 0 (bs ++ (map asNTerm done ++ left))
 
 pub record Settling (first end i : ℕ) (old notes : List ℕ) : Type 0 where
-  pub partly : (bs rs : List (Bracket ℕ)) → first ≡ length bs → end ≡ length bs + length rs → take (7 * end) old ≡ notesFrom 0 (bs ++ rs) → Partly bs rs i end notes
+  pub partly : (bs rs : List (Bracket ℕ)) → first ≡ length bs → end ≡ length bs + length rs → take (noteSize * end) old ≡ notesFrom 0 (bs ++ rs) → Partly bs rs i end notes
   pub kept : length notes ≡ length old
 
 pub settling-start : (first end : ℕ) (old : List ℕ) → Settling first end first old old
@@ -108,7 +108,7 @@ settling-start first end old = record {
 }
 
 partly-next : (bs rs : List (Bracket ℕ)) (i end : ℕ) (notes : List ℕ) (done left : List (Bracket ℕ)) → rs ≡ done ++ left → i ≡ length bs + length done
-    → take (7 * end) notes ≡ notesFrom 0 (bs ++ (map asNTerm done ++ left)) → end ≡ length bs + length rs → i < end → Partly bs rs (i + 1) end (set notes (7 * i + 1) 3)
+    → take (noteSize * end) notes ≡ notesFrom 0 (bs ++ (map asNTerm done ++ left)) → end ≡ length bs + length rs → i < end → Partly bs rs (i + 1) end (set notes (noteSize * i + 1) 3)
 partly-next bs rs i end notes done [] is at rows e h =
     absurd (omega (arith, ap length is, length-append done []))
 partly-next bs rs i end notes done (k ∷ left) is at rows e h =
@@ -125,16 +125,16 @@ partly-next bs rs i end notes done (k ∷ left) is at rows e h =
       rows = q ∙ ap (notesFrom 0) (append-assoc bs (map asNTerm done) (asNTerm k ∷ left)) ∙ ap (λ t. notesFrom 0 (bs ++ t)) (sym r);
     }
 
-pub settling-next : (first end i : ℕ) (old notes : List ℕ) → Settling first end i old notes → i < end → Settling first end (i + 1) old (set notes (7 * i + 1) 3)
+pub settling-next : (first end i : ℕ) (old notes : List ℕ) → Settling first end i old notes → i < end → Settling first end (i + 1) old (set notes (noteSize * i + 1) 3)
 settling-next first end i old notes w h = record {
   partly = λ bs rs e f g.
       let p = w .partly bs rs e f g in
       partly-next bs rs i end notes (p .done) (p .left) (p .is) (p .at) (p .rows) f h;
-  kept = length-set notes (7 * i + 1) 3 ∙ w .kept;
+  kept = length-set notes (noteSize * i + 1) 3 ∙ w .kept;
 }
 
 partly-end : (bs rs : List (Bracket ℕ)) (i end : ℕ) (notes : List ℕ) (done left : List (Bracket ℕ)) → rs ≡ done ++ left → i ≡ length bs + length done
-    → take (7 * end) notes ≡ notesFrom 0 (bs ++ (map asNTerm done ++ left)) → end ≡ length bs + length rs → end ≤ i → take (7 * end) notes ≡ notesFrom 0 (bs ++ map asNTerm rs)
+    → take (noteSize * end) notes ≡ notesFrom 0 (bs ++ (map asNTerm done ++ left)) → end ≡ length bs + length rs → end ≤ i → take (noteSize * end) notes ≡ notesFrom 0 (bs ++ map asNTerm rs)
 partly-end bs rs i end notes done [] is at rows e h =
     rows ∙ ap (λ t. notesFrom 0 (bs ++ t)) (append-nil (map asNTerm done) ∙ ap (map asNTerm) (sym (is ∙ append-nil done)))
 partly-end bs rs i end notes done (k ∷ left) is at rows e h = absurd (omega (arith, ap length is, length-append done (k ∷ left)))

@@ -23,7 +23,7 @@ use Rattle.scope.specs.Reading.{Held, act, asNTerm, outside, stuck, reading}
 use Rattle.classes.specs.Runs.{span}
 use Rattle.reading_laws.specs.Run.{rest}
 use Rattle.marks.specs.Marks.{Dues, MarksAre}
-use Rattle.notes.specs.Notes.{notesFrom, noteSize, labelRows, NamesStand, notesRoom, labelsRoom}
+use Rattle.notes.specs.Notes.{referenceSort, notesFrom, noteSize, labelRows, NamesStand, notesRoom, labelsRoom}
 use Rattle.bracketed.specs.declared.Bracketed.{Bracketed}
 use Rattle.bracketed.specs.Bracketed.{Closes}
 use Rattle.checking.specs.declared.Stage.{Stage}
@@ -130,7 +130,7 @@ pub record Behind (line : List ℕ) (s : Stage) (slot : Slot) (b : Bracketed) (n
 
 -- the mode behind a bracket, by its sort
 abbrev pub modeBehind : Slot → ℕ → Mode
-modeBehind slot sort = cond (eqb sort 3) (slot .referred) (slot .after)
+modeBehind slot sort = cond (eqb sort referenceSort) (slot .referred) (slot .after)
 
 -- the number of brackets before the undecided run: a bracket at the front waits, any other is settled
 abbrev pub firstBehind : Kind → ℕ → ℕ → ℕ

@@ -234,7 +234,7 @@ fn row_noted(
 fn mode_behind(slot: Slot, sort: u16) -> Mode
     ensures { λ r. ⌜ r ≡ modeBehind slot sort ⌝ }
 {
-    if sort == 3 {
+    if sort == bracketed::REFERENCE {
         return slot.referred;
     }
     slot.after
@@ -302,7 +302,7 @@ fn bracket_read(line: &[u8], notes: &mut [u16], labels: &mut [u16], s: Stage, sl
 
 // The count of the last of n brackets, where no limit is passed.
 fn count_noted(notes: &mut [u16], over: usize, n: usize, value: usize)
-    requires { ⌜ (over ≡ 0 → (0 < n) × (n ≤ bracketLimit)) × (value ≤ 100) × (notesRoom ≤ length (now notes)) ⌝ }
+    requires { ⌜ (over ≡ 0 → (0 < n) × (n ≤ bracketLimit)) × (value ≤ countLimit + 1) × (notesRoom ≤ length (now notes)) ⌝ }
     ensures { λ _. ⌜ CountPut over n value (now (notes .entry)) (now (notes .exit)) ⌝ }
 {
     if over == 0 {
@@ -434,7 +434,7 @@ fn first_stage() -> Stage
     }
 }
 
-// A line of at most 4,096 bytes: the place of refusal 4, or what is due for refusals 5 to 9 and noted for 10 to 12.
+// A line that is not too long: the place of refusal 4, or what is due for refusals 5 to 9 and noted for 10 to 12.
 pub fn check_line(line: &[u8], notes: &mut [u16], labels: &mut [u16]) -> CheckedLine
     requires { ⌜ length (now line) ≤ lineLimit ⌝ }
     requires { ⌜ notesRoom ≤ length (now notes) ⌝ }

@@ -1,7 +1,7 @@
 -- The entry of a line: what the register prints for it, in an output that the caller lends.
 use mathlib.Core.Path.{_≡_}
 use mathlib.Core.List.{List, [], _∷_, _++_}
-use Prim.Native.Nat.{ℕ, _≤_}
+use Prim.Native.Nat.{ℕ, _+_, _*_, _≤_}
 use lib.IntN.{ℤ}
 use lib.ListN.{length}
 use Rattle.scope.specs.Bytes.{bytes, question}
@@ -15,7 +15,7 @@ use Rattle.areas.specs.Bounds.{Bounds}
 use Rattle.order_laws.specs.Ranks.{Ordered}
 use Rattle.masses.specs.declared.Weight.{Weight}
 use Rattle.masses.specs.declared.Weight.the-variants.{Total, Lacks}
-use Rattle.writer.specs.Written.{Puts}
+use Rattle.writer.specs.Written.{Puts, decimalMost, lineMost}
 
 -- what is printed for the line s with the number n, and the byte behind it
 abbrev pub entry : ℕ → List ℕ → List ℕ
@@ -37,9 +37,41 @@ abbrev pub weightText : Weight → List ℕ
 weightText (Total m) = signedText m
 weightText (Lacks n) = question ∷ decimal n
 
--- an entry has at most so many bytes: a line of 4,096 and 110 beside it, each number counted with 20 digits
+-- ---- how many bytes each piece has at most
+-- `ok` or `no`, with a space before it
+abbrev pub answerMost : ℕ
+answerMost = 3
+
+-- a number with a space before it
+abbrev pub fieldMost : ℕ
+fieldMost = 1 + decimalMost
+
+-- the total: a sign or `?`, and a number
+abbrev pub weightMost : ℕ
+weightMost = 1 + decimalMost
+
+-- "no, number, place"
+abbrev pub refusedMost : ℕ
+refusedMost = answerMost + 2 * fieldMost
+
+-- "ok, residues, brackets, floaters"
+abbrev pub countsMost : ℕ
+countsMost = answerMost + 3 * fieldMost
+
+-- the total, with a space before it
+abbrev pub totalMost : ℕ
+totalMost = 1 + weightMost
+
+-- these, and the canonical line with a space before it: of an accepted line, and of any tables within bounds
+abbrev pub acceptedMost : ℕ
+acceptedMost = countsMost + (totalMost + (1 + lineLimit))
+
+abbrev pub tablesMost : ℕ
+tablesMost = countsMost + (totalMost + (1 + lineMost))
+
+-- an entry: the line's number, what is printed of an accepted line, and byte 10
 abbrev pub entryLimit : ℕ
-entryLimit = 4206
+entryLimit = decimalMost + (acceptedMost + 1)
 
 -- what is known of the tables of an accepted line, and need not be looked for in them
 pub record Known (bs : List ℕ) (ns : List ℤ) : Type 0 where

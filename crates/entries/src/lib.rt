@@ -3,6 +3,7 @@ use masses::Weight;
 use masses::weigh;
 use positions::find_floaters;
 use scope::answers::Read;
+use scope::tables::Tables;
 ghost use mathlib.Core.Path.{_≡_};
 ghost use mathlib.Core.List.{List, [], _∷_, _++_};
 ghost use Prim.Native.Nat.{ℕ, _+_, _≤_};
@@ -13,13 +14,21 @@ ghost use Rattle.scope.specs.Refusals.{outcome};
 ghost use Rattle.scope.specs.Layout.{tablesIn};
 ghost use Rattle.reader.specs.ReadSays.{Clean, Lays};
 ghost use Rattle.writer.specs.Written.{Puts, ceiling};
-ghost use Rattle.entries.specs.Entry.{entry, entryLimit, countFields, okFields, noFields, weightText, Known, Printed};
+ghost use Rattle.entries.specs.Entry.{entry, fieldMost, weightMost, refusedMost, countsMost, totalMost, acceptedMost, tablesMost, entryLimit, countFields, okFields, noFields, weightText, Known, Printed};
+
+// A number has at most so many digits, and with a byte before them one more.
+const DIGITS: usize = 20;
+
+const FIELD: usize = 1 + DIGITS;
+
+// An entry has at most so many bytes: the line's number; `ok`, three numbers, the total and the canonical line, each with a space before it; byte 10.
+pub const ENTRY: usize = DIGITS + (3 + 3 * FIELD) + (1 + FIELD) + (1 + Tables::LINE) + 1;
 
 // ---- fields, each with a space before it
 
 fn put_field(n: u64, out: &mut [u8], at: usize) -> usize
-    requires { ⌜ at + 21 ≤ ceiling ⌝ }
-    ensures { λ r. ⌜ Puts 21 (now (out .entry)) at (32 ∷ decimal n) (now (out .exit)) r ⌝ }
+    requires { ⌜ at + fieldMost ≤ ceiling ⌝ }
+    ensures { λ r. ⌜ Puts fieldMost (now (out .entry)) at (32 ∷ decimal n) (now (out .exit)) r ⌝ }
 {
     let a = writer::put(out, at, b' ');
     writer::put_decimal(n, out, a)
@@ -27,8 +36,8 @@ fn put_field(n: u64, out: &mut [u8], at: usize) -> usize
 
 // "signed, zero as `+0`"
 fn put_signed(m: i64, out: &mut [u8], at: usize) -> usize
-    requires { ⌜ at + 21 ≤ ceiling ⌝ }
-    ensures { λ r. ⌜ Puts 21 (now (out .entry)) at (signedText m) (now (out .exit)) r ⌝ }
+    requires { ⌜ at + weightMost ≤ ceiling ⌝ }
+    ensures { λ r. ⌜ Puts weightMost (now (out .entry)) at (signedText m) (now (out .exit)) r ⌝ }
 {
     let n = writer::magnitude(m);
     if m < 0 {
@@ -41,8 +50,8 @@ fn put_signed(m: i64, out: &mut [u8], at: usize) -> usize
 
 // The total, or `?` and how many lack a mass.
 fn put_weight(w: Weight, out: &mut [u8], at: usize) -> usize
-    requires { ⌜ at + 21 ≤ ceiling ⌝ }
-    ensures { λ r. ⌜ Puts 21 (now (out .entry)) at (weightText w) (now (out .exit)) r ⌝ }
+    requires { ⌜ at + weightMost ≤ ceiling ⌝ }
+    ensures { λ r. ⌜ Puts weightMost (now (out .entry)) at (weightText w) (now (out .exit)) r ⌝ }
 {
     match w {
         Weight::Total(m) => put_signed(m, out, at),
@@ -56,8 +65,8 @@ fn put_weight(w: Weight, out: &mut [u8], at: usize) -> usize
 // ---- "no, number, place"
 
 fn put_refused(number: u8, place: usize, out: &mut [u8], at: usize) -> usize
-    requires { ⌜ at + 58 ≤ ceiling ⌝ }
-    ensures { λ r. ⌜ Puts 45 (now (out .entry)) at (fields (noFields number place)) (now (out .exit)) r ⌝ }
+    requires { ⌜ at + refusedMost ≤ ceiling ⌝ }
+    ensures { λ r. ⌜ Puts refusedMost (now (out .entry)) at (fields (noFields number place)) (now (out .exit)) r ⌝ }
 {
     let a = writer::word(b" no", out, at);
     let b = put_field(number as u64, out, a);
@@ -67,8 +76,8 @@ fn put_refused(number: u8, place: usize, out: &mut [u8], at: usize) -> usize
 // ---- "ok, residues, brackets, floaters, total .., canonical line"
 
 fn put_counts(bytes: &[u8], numbers: &[i64], out: &mut [u8], at: usize) -> usize
-    requires { ⌜ Known (now bytes) (now numbers) × (at + 79 ≤ ceiling) ⌝ }
-    ensures { λ r. ⌜ Puts 66 (now (out .entry)) at (fields (countFields (tablesIn (now (bytes .entry)) (now (numbers .entry))))) (now (out .exit)) r ⌝ }
+    requires { ⌜ Known (now bytes) (now numbers) × (at + countsMost ≤ ceiling) ⌝ }
+    ensures { λ r. ⌜ Puts countsMost (now (out .entry)) at (fields (countFields (tablesIn (now (bytes .entry)) (now (numbers .entry))))) (now (out .exit)) r ⌝ }
 {
     let residues = areas::residues(bytes);
     let brackets = areas::brackets(bytes);
@@ -81,8 +90,8 @@ fn put_counts(bytes: &[u8], numbers: &[i64], out: &mut [u8], at: usize) -> usize
 }
 
 fn put_total(bytes: &[u8], numbers: &[i64], out: &mut [u8], at: usize) -> usize
-    requires { ⌜ Known (now bytes) (now numbers) × (at + 22 ≤ ceiling) ⌝ }
-    ensures { λ r. ⌜ Puts 22 (now (out .entry)) at (32 ∷ totalText (tablesIn (now (bytes .entry)) (now (numbers .entry)))) (now (out .exit)) r ⌝ }
+    requires { ⌜ Known (now bytes) (now numbers) × (at + totalMost ≤ ceiling) ⌝ }
+    ensures { λ r. ⌜ Puts totalMost (now (out .entry)) at (32 ∷ totalText (tablesIn (now (bytes .entry)) (now (numbers .entry)))) (now (out .exit)) r ⌝ }
 {
     let w = weigh(bytes, numbers);
     let a = writer::put(out, at, b' ');
@@ -91,8 +100,8 @@ fn put_total(bytes: &[u8], numbers: &[i64], out: &mut [u8], at: usize) -> usize
 
 // Of tables that are known to be those of an accepted line.
 fn put_accepted(bytes: &[u8], numbers: &[i64], out: &mut [u8], at: usize) -> usize
-    requires { ⌜ Known (now bytes) (now numbers) × (at + 500000 ≤ ceiling) ⌝ }
-    ensures { λ r. ⌜ Puts 4185 (now (out .entry)) at (fields (okFields (tablesIn (now (bytes .entry)) (now (numbers .entry))))) (now (out .exit)) r ⌝ }
+    requires { ⌜ Known (now bytes) (now numbers) × (at + tablesMost ≤ ceiling) ⌝ }
+    ensures { λ r. ⌜ Puts acceptedMost (now (out .entry)) at (fields (okFields (tablesIn (now (bytes .entry)) (now (numbers .entry))))) (now (out .exit)) r ⌝ }
 {
     let a = put_counts(bytes, numbers, out, at);
     let b = put_total(bytes, numbers, out, a);
@@ -102,8 +111,8 @@ fn put_accepted(bytes: &[u8], numbers: &[i64], out: &mut [u8], at: usize) -> usi
 
 // Of an accepted line, by way of its tables.
 fn put_taken(line: &[u8], bytes: &mut [u8], numbers: &mut [i64], out: &mut [u8], at: usize) -> usize
-    requires { ⌜ Lays (now line) (now bytes) (now numbers) × (at + 500000 ≤ ceiling) ⌝ }
-    ensures { λ r. ⌜ Printed 4185 (now (out .entry)) at (report (outcome (now (line .entry)))) (now (out .exit)) r (now (bytes .entry)) (now (numbers .entry)) (now (bytes .exit)) (now (numbers .exit)) ⌝ }
+    requires { ⌜ Lays (now line) (now bytes) (now numbers) × (at + tablesMost ≤ ceiling) ⌝ }
+    ensures { λ r. ⌜ Printed acceptedMost (now (out .entry)) at (report (outcome (now (line .entry)))) (now (out .exit)) r (now (bytes .entry)) (now (numbers .entry)) (now (bytes .exit)) (now (numbers .exit)) ⌝ }
 {
     reader::put(line, bytes, numbers);
     let r = put_accepted(bytes, numbers, out, at);
@@ -120,8 +129,8 @@ fn put_report(
     out: &mut [u8],
     at: usize,
 ) -> usize
-    requires { ⌜ Clean (now bytes) (now numbers) × (at + 500000 ≤ ceiling) ⌝ }
-    ensures { λ r. ⌜ Printed 4185 (now (out .entry)) at (report (outcome (now (line .entry)))) (now (out .exit)) r (now (bytes .entry)) (now (numbers .entry)) (now (bytes .exit)) (now (numbers .exit)) ⌝ }
+    requires { ⌜ Clean (now bytes) (now numbers) × (at + tablesMost ≤ ceiling) ⌝ }
+    ensures { λ r. ⌜ Printed acceptedMost (now (out .entry)) at (report (outcome (now (line .entry)))) (now (out .exit)) r (now (bytes .entry)) (now (numbers .entry)) (now (bytes .exit)) (now (numbers .exit)) ⌝ }
 {
     let v = verdict::verdict_on(line);
     match v {

@@ -31,7 +31,7 @@ pub extern "C" fn hwemiduk_rows(
 }
 
 // A lookup, handed out.
-fn tell_lookup(l: Lookup, index: &mut usize, position: &mut u8) -> u8
+fn tell_lookup(l: Lookup, index: &mut usize, position: &mut u16) -> u8
     ensures { λ r. ⌜ LookedUp (saysLookup l) (now (index .entry)) (now (position .entry)) r (now (index .exit)) (now (position .exit)) ⌝ }
 {
     match l {
@@ -54,7 +54,7 @@ pub extern "C" fn hwemiduk_first_row(
     n: usize,
     floater: u8,
     index: &mut usize,
-    position: &mut u8,
+    position: &mut u16,
 ) -> u8
     ensures { λ r. ⌜ LookedUp (looksUp (now (rows .entry)) n floater) (now (index .entry)) (now (position .entry)) r (now (index .exit)) (now (position .exit)) ⌝ }
 {

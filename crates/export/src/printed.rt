@@ -1,12 +1,10 @@
 // What the register prints of a line, into a lent output.
+use entries::ENTRY;
 use entries::put_entry;
 use scope::tables::Tables;
 ghost use Prim.Native.Nat.{_≤_};
 ghost use lib.ListN.{length, take};
 ghost use Rattle.export.specs.Shapes.{Fitted, EntryHanded};
-
-// An entry has a line's bytes and 110 beside them at most.
-const ENTRY: usize = Tables::LINE + 110;
 
 // The first n bytes of a text into an output of any length: 0 with their number; else 15 with the length needed, and the output as it was.
 fn hand_out(text: &[u8], n: usize, out: &mut [u8], needed: &mut usize) -> u8

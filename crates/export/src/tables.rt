@@ -173,18 +173,22 @@ pub extern "C" fn hwemiduk_shown(
 }
 
 // The placement that a slice begins with.
-fn placement_in(s: &[u8]) -> Placement
+fn placement_in(s: &[u16]) -> Placement
     requires { ⌜ copyLimit ≤ length (now s) ⌝ }
     ensures { λ r. ⌜ r .at ≡ take copyLimit (now (s .entry)) ⌝ }
 {
-    let mut at = [0u8; Placement::COPIES];
-    bounds::copy_bytes(s, Placement::COPIES, &mut at);
+    let mut at = [0u16; Placement::COPIES];
+    let mut i: usize = 0;
+    while i < Placement::COPIES {
+        at[i] = s[i];
+        i += 1;
+    }
     Placement { at }
 }
 
 // Whether the placement in the first eight entries is an allowed one: 0, or 13, 14, 18.
 #[no_mangle]
-pub extern "C" fn hwemiduk_allowed(bytes: &[u8], numbers: &[i64], placement: &[u8]) -> u8
+pub extern "C" fn hwemiduk_allowed(bytes: &[u8], numbers: &[i64], placement: &[u16]) -> u8
     ensures { λ r. ⌜ AllowedLent (now (bytes .entry)) (now (numbers .entry)) (now (placement .entry)) r ⌝ }
 {
     if placement.len() < Placement::COPIES {
@@ -207,13 +211,13 @@ fn copy_entries(from: &[i64], n: usize, to: &mut [i64])
     }
 }
 
-// The ledger of the placement in the first eight entries: 0 with the first 256 entries written; else 13, 14, 16 or 18, the entries as they were, and in `place`
+// The ledger of the placement in the first eight entries: 0 with an entry written for each position; else 13, 14, 16 or 18, the entries as they were, and in `place`
 // how many modifications lack a mass (16) or 0.
 #[no_mangle]
 pub extern "C" fn hwemiduk_ledger(
     bytes: &[u8],
     numbers: &[i64],
-    placement: &[u8],
+    placement: &[u16],
     entries: &mut [i64],
     place: &mut usize,
 ) -> u8

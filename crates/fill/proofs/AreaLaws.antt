@@ -5,7 +5,9 @@ use Prim.Native.Nat.{ℕ, zero, suc, _+_, _-_, _*_, _≤_, _<_}
 use native.Mathlib.Omega.{arith}
 use lib.ListN.{length, getD, take, drop, set, replicate, length-append, length-replicate, replicate-append-replicate}
 use lib.Seq.{sets, sets-eq, take-at, drop-at, drop-drop}
+use Rattle.scope.specs.Limits.{lineLimit, bracketLimit}
 use Rattle.scope.specs.Lists.{padded}
+use Rattle.scope.specs.Layout.{rowSize, rowsAt, textsAt}
 use Rattle.layout_laws.specs.Layout.{padded-length}
 use Rattle.fill.specs.Areas.{areaWith}
 
@@ -81,23 +83,23 @@ module _ {A : Type 0} where
       ap (padded z n) (sym (append-nil l)) ∙ absorb z n m l [] (omega arith) k ∙ ap (λ j. padded z n (l ++ replicate j z)) e
 
 -- ---- the area of bytes
-module _ (front rows texts past : List ℕ) (f : length front ≡ 510) where
+module _ (front rows texts past : List ℕ) (f : length front ≡ rowsAt) where
   -- texts behind the texts
-  pub put-texts : (vs : List ℕ) (i : ℕ) → length rows ≤ 2176 → i ≡ 2686 + length texts → length texts + length vs ≤ 4096
+  pub put-texts : (vs : List ℕ) (i : ℕ) → length rows ≤ bracketLimit * rowSize → i ≡ textsAt + length texts → length texts + length vs ≤ lineLimit
       → sets (areaWith front rows texts past) i vs ≡ areaWith front rows (texts ++ vs) past
   put-texts vs i r e h =
-      let l = length-append front (padded 0 2176 rows) in
-      let p = padded-length 0 2176 rows r in
-      ap (λ x. sets x i vs) (sym (append-assoc front (padded 0 2176 rows) (padded 0 4096 texts ++ past)))
-      ∙ store-end 0 4096 (front ++ padded 0 2176 rows) texts past vs i (omega arith) h
-      ∙ append-assoc front (padded 0 2176 rows) (padded 0 4096 (texts ++ vs) ++ past)
+      let l = length-append front (padded 0 (bracketLimit * rowSize) rows) in
+      let p = padded-length 0 (bracketLimit * rowSize) rows r in
+      ap (λ x. sets x i vs) (sym (append-assoc front (padded 0 (bracketLimit * rowSize) rows) (padded 0 lineLimit texts ++ past)))
+      ∙ store-end 0 lineLimit (front ++ padded 0 (bracketLimit * rowSize) rows) texts past vs i (omega arith) h
+      ∙ append-assoc front (padded 0 (bracketLimit * rowSize) rows) (padded 0 lineLimit (texts ++ vs) ++ past)
 
   -- numbers behind the rows
-  pub put-rows : (vs : List ℕ) (i : ℕ) → i ≡ 510 + length rows → length rows + length vs ≤ 2176
+  pub put-rows : (vs : List ℕ) (i : ℕ) → i ≡ rowsAt + length rows → length rows + length vs ≤ bracketLimit * rowSize
       → sets (areaWith front rows texts past) i vs ≡ areaWith front (rows ++ vs) texts past
-  put-rows vs i e h = store-end 0 2176 front rows (padded 0 4096 texts ++ past) vs i (omega arith) h
+  put-rows vs i e h = store-end 0 (bracketLimit * rowSize) front rows (padded 0 lineLimit texts ++ past) vs i (omega arith) h
 
 -- numbers in place of others in the rows
-pub change-rows : (front l m r texts past vs : List ℕ) (i : ℕ) → length front ≡ 510 → i ≡ 510 + length l → length m ≡ length vs
+pub change-rows : (front l m r texts past vs : List ℕ) (i : ℕ) → length front ≡ rowsAt → i ≡ rowsAt + length l → length m ≡ length vs
     → sets (areaWith front (l ++ (m ++ r)) texts past) i vs ≡ areaWith front (l ++ (vs ++ r)) texts past
-change-rows front l m r texts past vs i f e h = store-in 0 2176 front l m r (padded 0 4096 texts ++ past) vs i (omega arith) h
+change-rows front l m r texts past vs i f e h = store-in 0 (bracketLimit * rowSize) front l m r (padded 0 lineLimit texts ++ past) vs i (omega arith) h

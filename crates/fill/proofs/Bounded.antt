@@ -11,6 +11,7 @@ use Rattle.scope.specs.declared.grammar.Slot.{Slot}
 use Rattle.scope.specs.declared.grammar.Act.{Act}
 use Rattle.scope.specs.declared.grammar.Act.the-variants.{Stop, Go, Residue as aResidue, Begin, Digit, RunEnds, TermEnds}
 use Rattle.scope.specs.Bytes.{upper, value}
+use Rattle.scope.specs.Limits.{lineLimit, residueLimit, bracketLimit, partLimit, countLimit}
 use Rattle.scope.specs.Line.{Part, Bracket}
 use Rattle.scope.specs.Lists.{given, onLast, flat}
 use Rattle.scope.specs.Content.{Context, Inner, Content, lost, closed, going, innerStep}
@@ -34,24 +35,24 @@ each-right Q (x ∷ l) m h = each-right Q l m (h .1)
 
 -- ---- what a bracket keeps to
 pub record Kept (k : Bracket ℕ) : Type 0 where
-  pub few-parts : length (k .parts) ≤ 4
-  pub few-counts : OfGiven (λ p. k .count ≤ 99) (k .counted)
+  pub few-parts : length (k .parts) ≤ partLimit
+  pub few-counts : OfGiven (λ p. k .count ≤ countLimit) (k .counted)
   pub parts : Each PartWithin (k .parts)
 
 pub record HeldKept (h : Held ℕ) : Type 0 where
-  pub few-residues : length (h .residues) ≤ 254
-  pub few-brackets : length (h .brackets) + length (h .run) ≤ 64
+  pub few-residues : length (h .residues) ≤ residueLimit
+  pub few-brackets : length (h .brackets) + length (h .run) ≤ bracketLimit
   pub brackets : Each Kept (h .brackets)
   pub run : Each Kept (h .run)
-  pub texts : length (flat bracketTexts (h .brackets)) + length (flat bracketTexts (h .run)) ≤ 4096
+  pub texts : length (flat bracketTexts (h .brackets)) + length (flat bracketTexts (h .run)) ≤ lineLimit
 
 -- inside a bracket that has these parts, with one more to come
 pub record PartsKept (h : Held ℕ) (ps : List (Part ℕ)) : Type 0 where
   pub held : HeldKept h
-  pub few-brackets : length (h .brackets) + length (h .run) + 1 ≤ 64
-  pub few-parts : length ps + 1 ≤ 4
+  pub few-brackets : length (h .brackets) + length (h .run) + 1 ≤ bracketLimit
+  pub few-parts : length ps + 1 ≤ partLimit
   pub parts : Each PartWithin ps
-  pub texts : length (flat bracketTexts (h .brackets)) + length (flat bracketTexts (h .run)) + length (flat packed ps) ≤ 4096
+  pub texts : length (flat bracketTexts (h .brackets)) + length (flat bracketTexts (h .run)) + length (flat packed ps) ≤ lineLimit
 
 unfoldable pub StateKept : State ℕ → Type 0
 StateKept (dead p) = ⊥
@@ -82,10 +83,10 @@ module _ (h : Held ℕ) (s : Slot) (at : ℕ) where
   -- all parts of a bracket that was put
   pub record Closed (ps : List (Part ℕ)) : Type 0 where
     pub held : HeldKept h
-    pub few-brackets : length (h .brackets) + length (h .run) + 1 ≤ 64
-    pub few-parts : length ps ≤ 4
+    pub few-brackets : length (h .brackets) + length (h .run) + 1 ≤ bracketLimit
+    pub few-parts : length ps ≤ partLimit
     pub parts : Each PartWithin ps
-    pub texts : length (flat bracketTexts (h .brackets)) + length (flat bracketTexts (h .run)) + length (flat packed ps) ≤ 4096
+    pub texts : length (flat bracketTexts (h .brackets)) + length (flat bracketTexts (h .run)) + length (flat packed ps) ≤ lineLimit
 
   settled-kept : (k : Bracket ℕ) → HeldKept (settled k h) → Closed (k .parts)
   settled-kept k w =
@@ -178,17 +179,17 @@ residue-back i b s h w =
 digit-back : (i b : ℕ) (k : Bracket ℕ) → Kept (countDigit i b k) → Kept k
 digit-back i b k w = record { few-parts = same .0; few-counts = count; parts = same .1 }
   where
-    same : (length (k .parts) ≤ 4) × Each PartWithin (k .parts)
-    same = onGiven (λ j. Kept j → (length (k .parts) ≤ 4) × Each PartWithin (k .parts)) (k .counted) (λ p e v. (v .few-parts, v .parts)) (λ v. (v .few-parts, v .parts)) w
+    same : (length (k .parts) ≤ partLimit) × Each PartWithin (k .parts)
+    same = onGiven (λ j. Kept j → (length (k .parts) ≤ partLimit) × Each PartWithin (k .parts)) (k .counted) (λ p e v. (v .few-parts, v .parts)) (λ v. (v .few-parts, v .parts)) w
 
-    count : OfGiven (λ p. k .count ≤ 99) (k .counted)
+    count : OfGiven (λ p. k .count ≤ countLimit) (k .counted)
     count = go (k .counted) refl
       where
-        go : (o : Option ℕ) → k .counted ≡ o → OfGiven (λ p. k .count ≤ 99) o
+        go : (o : Option ℕ) → k .counted ≡ o → OfGiven (λ p. k .count ≤ countLimit) o
         go none e = tt
-        go (some p) e = let v : k .count * 10 + value b ≤ 99 = ap-count p e w in omega arith
+        go (some p) e = let v : k .count * 10 + value b ≤ countLimit = ap-count p e w in omega arith
           where
-            ap-count : (p : ℕ) → k .counted ≡ some p → Kept (countDigit i b k) → k .count * 10 + value b ≤ 99
+            ap-count : (p : ℕ) → k .counted ≡ some p → Kept (countDigit i b k) → k .count * 10 + value b ≤ countLimit
             ap-count p e v = subst (λ o. Kept (given o (λ q. times (k .count * 10 + value b) q k) (times (value b) i k))) e v .few-counts
 
 last-back : (i b : ℕ) (ks : List (Bracket ℕ)) → Each Kept (onLast (countDigit i b) ks) → Each Kept ks
@@ -280,6 +281,6 @@ runs-back i s (b ∷ l) w = step-back i s b (runs-back (i + 1) (step i s b) l w)
 pub bracket-kept : (n : ℕ) (k : Bracket ℕ) → BracketWithin n k → Kept k
 bracket-kept n k w = record { few-parts = w .few-parts; few-counts = go (k .counted); parts = w .parts }
   where
-    go : (o : Option ℕ) → OfGiven (λ p. k .count ≤ 99) o
+    go : (o : Option ℕ) → OfGiven (λ p. k .count ≤ countLimit) o
     go none = tt
     go (some p) = w .few-counts

@@ -11,20 +11,21 @@ use Rattle.scope.specs.declared.grammar.Kind.{Kind}
 use Rattle.scope.specs.declared.grammar.Kind.the-variants.{Unknown, Labile, NTerm, OnResidue, OnRange, CTerm}
 use Rattle.scope.specs.declared.grammar.Mode.{Mode}
 use Rattle.scope.specs.declared.grammar.Slot.{Slot}
+use Rattle.scope.specs.Limits.{lineLimit, residueLimit, bracketLimit}
 use Rattle.scope.specs.Line.{Part, Bracket, Line}
 use Rattle.scope.specs.Lists.{none?, flat, padded}
 use Rattle.scope.specs.Content.{begin}
 use Rattle.scope.specs.Reading.{Held, firstPosition, lastPosition, bracketOf, put, withBracket, outside, inside, refers?, modeAfter, holds}
 use Rattle.scope.specs.Kinds.{kindCode}
 use Rattle.scope.specs.Tables.{scoreOf}
-use Rattle.scope.specs.Layout.{sectionCode, packed, partRows, bracketRow, bracketTexts, rows, numberRow}
+use Rattle.scope.specs.Layout.{headSize, rowSize, bytesSize, numbersSize, sectionCode, packed, partRows, bracketRow, bracketTexts, rows, numberRow}
 use Rattle.reading_laws.specs.Run.{rest}
 use Rattle.basics.specs.Lists.{flat-append, flat-one}
 use Rattle.fill.specs.declared.Progress.{Progress}
 use Rattle.fill.specs.States.{Settled}
 use Rattle.fill.specs.Steps.{Opening, contextIn, bracketsIn, textsIn, Begun, Roomy, Starts}
 use Rattle.fill.specs.declared.Put.{Put}
-use Rattle.fill.specs.Areas.{Before, areaWith, numbersWith, Laid, rowWith, massesWith, BracketPut, PutSays}
+use Rattle.fill.specs.Areas.{Before, areaWith, numbersWith, Laid, rowWith, massesWith, Positions, BracketPut, PutSays}
 use Rattle.fill.specs.Filled.{allOf, lettersFor, sectionsFor, frontWith, bytesFor, numbersFor, countIn, Counts, Filling, Opened, FilledOn, runAfter, countAfter}
 use Rattle.fill.proofs.Bounded.{Kept, HeldKept, PartsKept, StateKept}
 use Rattle.fill.proofs.Settled.{rest-kept, closed-settled}
@@ -32,13 +33,13 @@ use Rattle.fill.proofs.AreaLaws.{absorb-zeros}
 use Rattle.fill.proofs.HeldLaws.{rows-more, rows-size, numbers-size, all-texts, all-length, all-put, put-residues, put-first, put-run, put-count, sizes-put}
 use Rattle.fill.proofs.FillLaws.{front-long, all-kept}
 
-pub position-fits : (k : Kind) (n a : ℕ) → n ≤ 254 → a ≤ n → (firstPosition k n a ≤ 255) × (lastPosition k n ≤ 255)
-position-fits Unknown n a h e = (omega arith, omega arith)
-position-fits Labile n a h e = (omega arith, omega arith)
-position-fits NTerm n a h e = (omega arith, omega arith)
-position-fits OnResidue n a h e = (omega arith, omega arith)
-position-fits OnRange n a h e = (omega arith, omega arith)
-position-fits CTerm n a h e = (omega arith, omega arith)
+position-fits : (k : Kind) (n a : ℕ) → n ≤ residueLimit → a ≤ n → Positions (firstPosition k n a) (lastPosition k n)
+position-fits Unknown n a h e = record { first-few = omega arith; last-few = omega arith }
+position-fits Labile n a h e = record { first-few = omega arith; last-few = omega arith }
+position-fits NTerm n a h e = record { first-few = omega arith; last-few = omega arith }
+position-fits OnResidue n a h e = record { first-few = omega arith; last-few = omega arith }
+position-fits OnRange n a h e = record { first-few = omega arith; last-few = omega arith }
+position-fits CTerm n a h e = record { first-few = omega arith; last-few = omega arith }
 
 and-one : (x : Bool) → (x && true) ≡ x
 and-one true = refl
@@ -50,17 +51,20 @@ module _ {line : List ℕ} {l : Line ℕ} {old : List ℕ} {oldNumbers : List �
   unfolding StateKept
   kept-open = rest-kept line next (inside slot (o .place) (o .held) (begin (contextIn slot []))) l (o .reads) (o .within) (o .settled)
 
-  pub few-residues : s .tables .residues ≤ 254
+  pub few-residues : s .tables .residues ≤ residueLimit
   few-residues = omega (arith, kept-open .held .few-residues, o .counts .residues-are)
 
-  pub few-brackets : s .tables .brackets + 1 ≤ 64
+  pub few-brackets : s .tables .brackets + 1 ≤ bracketLimit
   few-brackets = omega (arith, kept-open .few-brackets, o .counts .brackets-are)
 
-  pub few-run : s .run < 64
+  pub few-run : s .run < bracketLimit
   few-run = omega (arith, few-brackets, o .counts .brackets-are, o .counts .run-is)
 
-  pub first-fits : s .first ≤ s .tables .residues
-  first-fits = o .counts .first-few
+  -- where the bracket stands
+  pub stands : {first last : ℕ} → first ≡ firstPosition (slot .kind) (s .tables .residues) (s .first) → last ≡ lastPosition (slot .kind) (s .tables .residues) → Positions first last
+  stands ef el =
+      let p = position-fits (slot .kind) (s .tables .residues) (s .first) few-residues (o .counts .first-few) in
+      record { first-few = rw ef (p .first-few); last-few = rw el (p .last-few) }
 
   abbrev pub opening : Opening
   opening = record { line = l; slot = slot; place = o .place; held = o .held }
@@ -71,9 +75,9 @@ module _ {line : List ℕ} {l : Line ℕ} {old : List ℕ} {oldNumbers : List �
         front = frontWith (lettersFor (o .held)) (sectionsFor (o .held));
         rows = rows 0 (allOf (o .held));
         texts = flat bracketTexts (allOf (o .held));
-        past = drop 6782 old;
+        past = drop bytesSize old;
         masses = flat numberRow (allOf (o .held));
-        beyond = drop 320 oldNumbers;
+        beyond = drop numbersSize oldNumbers;
       }
 
   pub begun : Begun line opening [] next (slot .shut) (slot .refers) (s .tables .brackets) 0 (s .tables .texts) 0 (pos 0)
@@ -114,10 +118,10 @@ module _ {line : List ℕ} {l : Line ℕ} {old : List ℕ} {oldNumbers : List �
         masses-long = omega arith;
         bytes-are =
             o .bytes-are
-            ∙ ap (λ x. frontWith (lettersFor h) (sectionsFor h) ++ (x ++ (padded 0 4096 (flat bracketTexts (allOf h)) ++ drop 6782 old)))
-            (absorb-zeros 0 2176 6 (rows 0 (allOf h)) (omega arith))
-            ∙ ap (λ x. areaWith (frontWith (lettersFor h) (sectionsFor h)) (rows 0 (allOf h) ++ (replicate 6 0 ++ [])) x (drop 6782 old)) (sym (append-nil (flat bracketTexts (allOf h))));
-        numbers-are = o .numbers-are ∙ ap (λ x. numbersWith x (drop 320 oldNumbers)) (sym (append-nil (flat numberRow (allOf h))));
+            ∙ ap (λ x. frontWith (lettersFor h) (sectionsFor h) ++ (x ++ (padded 0 lineLimit (flat bracketTexts (allOf h)) ++ drop bytesSize old)))
+            (absorb-zeros 0 (bracketLimit * rowSize) headSize (rows 0 (allOf h)) (omega arith))
+            ∙ ap (λ x. areaWith (frontWith (lettersFor h) (sectionsFor h)) (rows 0 (allOf h) ++ (replicate headSize 0 ++ [])) x (drop bytesSize old)) (sym (append-nil (flat bracketTexts (allOf h))));
+        numbers-are = o .numbers-are ∙ ap (λ x. numbersWith x (drop numbersSize oldNumbers)) (sym (append-nil (flat numberRow (allOf h))));
       }
 
   -- the bracket is put
@@ -161,14 +165,14 @@ module _ {line : List ℕ} {l : Line ℕ} {old : List ℕ} {oldNumbers : List �
                   };
               bytes-are =
                   p .bytes-are
-                  ∙ ap₂ (λ x y. areaWith (frontWith (lettersFor h) (sectionsFor h)) x y (drop 6782 old))
+                  ∙ ap₂ (λ x y. areaWith (frontWith (lettersFor h) (sectionsFor h)) x y (drop bytesSize old))
                   (ap (λ x. rows 0 (allOf h) ++ x) row ∙ sym (rows-more 0 (allOf h) b) ∙ ap (rows 0) (sym g))
                   (ap (λ x. flat bracketTexts (allOf h) ++ x) (sym (flat-one bracketTexts b)) ∙ sym (flat-append bracketTexts (allOf h) (b ∷ [])) ∙ ap (flat bracketTexts) (sym g))
                   ∙ ap (λ x. areaWith (frontWith (map (λ r. r .letter) x) (map (λ r. sectionCode (r .section)) x)) (rows 0 (allOf (put (slot .kind) b h)))
-                  (flat bracketTexts (allOf (put (slot .kind) b h))) (drop 6782 old)) (sym (put-residues (slot .kind) b h));
+                  (flat bracketTexts (allOf (put (slot .kind) b h))) (drop bytesSize old)) (sym (put-residues (slot .kind) b h));
               numbers-are =
                   p .numbers-are
-                  ∙ ap (λ x. numbersWith x (drop 320 oldNumbers))
+                  ∙ ap (λ x. numbersWith x (drop numbersSize oldNumbers))
                   (ap (λ x. flat numberRow (allOf h) ++ x) (sym (flat-one numberRow b)) ∙ sym (flat-append numberRow (allOf h) (b ∷ [])) ∙ ap (flat numberRow) (sym g));
               roomy = room;
             };

@@ -21,13 +21,14 @@ use Rattle.scope.specs.declared.grammar.Slot.{Slot}
 use Rattle.scope.specs.declared.grammar.Act.{Act}
 use Rattle.scope.specs.declared.grammar.Act.the-variants.{Stop, Go, Residue as aResidue, Begin, Digit, RunEnds, TermEnds}
 use Rattle.scope.specs.Bytes.{upper, value}
+use Rattle.scope.specs.Limits.{lineLimit, residueLimit, bracketLimit, countLimit}
 use Rattle.scope.specs.Line.{Part, Bracket, Residue, Line}
 use Rattle.scope.specs.Lists.{given, none?, onLast, flat, padded}
 use Rattle.scope.specs.Content.{begin}
 use Rattle.scope.specs.Reading.{act, Held, firstOf, withResidue, firstPosition, lastPosition, bracketOf, put, withBracket, countDigit, withDigit, asNTerm, settledRun, State, dead, outside, inside, perform, refers?, modeAfter, step, stuck, holds}
 use Rattle.scope.specs.Kinds.{isUnknown, kindCode}
 use Rattle.scope.specs.Tables.{scoreOf}
-use Rattle.scope.specs.Layout.{sectionCode, packed, partRows, bracketTexts, rows, numberRow}
+use Rattle.scope.specs.Layout.{rowSize, lettersAt, sectionsAt, rowsAt, bytesSize, numbersSize, countAt, sectionCode, packed, partRows, bracketTexts, rows, numberRow}
 use Rattle.reading_laws.specs.Run.{rest, rest-step, rest-dead}
 use Rattle.basics.specs.Each.{Each, each-append}
 use Rattle.accepted_laws.specs.Within.{Within}
@@ -43,7 +44,7 @@ use Rattle.fill.proofs.AreaLaws.{absorb-zeros}
 use Rattle.fill.proofs.HeldLaws.{rows-more, rows-size, numbers-size, all-texts, all-length, all-put, put-residues, put-first, put-run, put-count, sizes-put, residue-front, front-size, DigitLaw, digit-law, mark-all, terms-numbers}
 
 -- ---- what a state that is held keeps to
-pub front-long : (h : Held ℕ) → HeldKept h → length (frontWith (lettersFor h) (sectionsFor h)) ≡ 510
+pub front-long : (h : Held ℕ) → HeldKept h → length (frontWith (lettersFor h) (sectionsFor h)) ≡ rowsAt
 front-long h k =
     front-size (lettersFor h) (sectionsFor h) (omega (arith, k .few-residues, length-map (h .residues) (λ r. r .letter)))
     (omega (arith, k .few-residues, length-map (h .residues) (λ r. sectionCode (r .section))))
@@ -120,7 +121,7 @@ module _ {line : List ℕ} {l : Line ℕ} {old : List ℕ} {oldNumbers : List �
 
     -- ---- a residue
     module _ (c : Section) (m : Mode) (e : act (s .mode) b ≡ aResidue c m) where
-      pub residue-fits : (s .tables .residues < 254) × (6782 ≤ length bytes)
+      pub residue-fits : (s .tables .residues < residueLimit) × (bytesSize ≤ length bytes)
       unfolding perform StateKept
       residue-fits =
           let k : HeldKept (withResidue (s .at) b c (w .held)) = kept-on more b is (aResidue c m) e in
@@ -133,7 +134,7 @@ module _ {line : List ℕ} {l : Line ℕ} {old : List ℕ} {oldNumbers : List �
       first-still UnsureFirst n o h = omega arith
       first-still UnsureNext n o h = omega arith
 
-      pub grows : {bytes′ : List ℕ} → bytes′ ≡ set (set bytes (2 + s .tables .residues) (upper b)) (256 + s .tables .residues) (sectionCode c)
+      pub grows : {bytes′ : List ℕ} → bytes′ ≡ set (set bytes (lettersAt + s .tables .residues) (upper b)) (sectionsAt + s .tables .residues) (sectionCode c)
           → FilledOn line l old oldNumbers (s .at) (grown s (s .at + 1) c m) bytes′ numbers
       unfolding perform
       grows {bytes′} f =
@@ -160,16 +161,16 @@ module _ {line : List ℕ} {l : Line ℕ} {old : List ℕ} {oldNumbers : List �
                       };
                   bytes-are =
                       f
-                      ∙ ap (λ x. set (set x (2 + s .tables .residues) (upper b)) (256 + s .tables .residues) (sectionCode c)) (w .bytes-are)
+                      ∙ ap (λ x. set (set x (lettersAt + s .tables .residues) (upper b)) (sectionsAt + s .tables .residues) (sectionCode c)) (w .bytes-are)
                       ∙ residue-front (lettersFor h) (sectionsFor h)
-                      (padded 0 2176 (rows 0 (allOf h)) ++ (padded 0 4096 (flat bracketTexts (allOf h)) ++ drop 6782 old)) (s .tables .residues) (upper b) (sectionCode c)
+                      (padded 0 (bracketLimit * rowSize) (rows 0 (allOf h)) ++ (padded 0 lineLimit (flat bracketTexts (allOf h)) ++ drop bytesSize old)) (s .tables .residues) (upper b) (sectionCode c)
                       (length-map (h .residues) (λ x. x .letter) ∙ n) (length-map (h .residues) (λ x. sectionCode (x .section)) ∙ n) (residue-fits .0)
-                      ∙ ap₂ (λ x y. areaWith (frontWith x y) (rows 0 (allOf h)) (flat bracketTexts (allOf h)) (drop 6782 old))
+                      ∙ ap₂ (λ x y. areaWith (frontWith x y) (rows 0 (allOf h)) (flat bracketTexts (allOf h)) (drop bytesSize old))
                       (sym (map-append (λ x. x .letter) (h .residues) (r ∷ []))) (sym (map-append (λ x. sectionCode (x .section)) (h .residues) (r ∷ [])));
                   numbers-are = w .numbers-are;
                   roomy =
                       roomy-set
-                      (ap length f ∙ length-set (set bytes (2 + s .tables .residues) (upper b)) (256 + s .tables .residues) (sectionCode c) ∙ length-set bytes (2 + s .tables .residues) (upper b)) (w .roomy);
+                      (ap length f ∙ length-set (set bytes (lettersAt + s .tables .residues) (upper b)) (sectionsAt + s .tables .residues) (sectionCode c) ∙ length-set bytes (lettersAt + s .tables .residues) (upper b)) (w .roomy);
                 };
             past = omega arith;
           }
@@ -229,8 +230,8 @@ module _ {line : List ℕ} {l : Line ℕ} {old : List ℕ} {oldNumbers : List �
                 settled = settled-on more b is RunEnds e;
                 in-line = omega arith;
                 counts = settled-counts (λ k. k) (λ k. refl) Front;
-                bytes-are = w .bytes-are ∙ ap (λ x. areaWith (frontWith (lettersFor h) (sectionsFor h)) (rows 0 x) (flat bracketTexts x) (drop 6782 old)) g;
-                numbers-are = w .numbers-are ∙ ap (λ x. numbersWith (flat numberRow x) (drop 320 oldNumbers)) g;
+                bytes-are = w .bytes-are ∙ ap (λ x. areaWith (frontWith (lettersFor h) (sectionsFor h)) (rows 0 x) (flat bracketTexts x) (drop bytesSize old)) g;
+                numbers-are = w .numbers-are ∙ ap (λ x. numbersWith (flat numberRow x) (drop numbersSize oldNumbers)) g;
                 roomy = w .roomy;
               };
           past = omega arith;
@@ -266,12 +267,12 @@ module _ {line : List ℕ} {l : Line ℕ} {old : List ℕ} {oldNumbers : List �
                 counts = settled-counts asNTerm (λ x. refl) Start;
                 bytes-are =
                     f
-                    ∙ ap₂ (λ x y. marked x y (s .run)) (w .bytes-are ∙ ap (λ x. areaWith (frontWith (lettersFor h) (sectionsFor h)) (rows 0 x) (flat bracketTexts x) (drop 6782 old)) g) from
-                    ∙ mark-all (s .run) (frontWith (lettersFor h) (sectionsFor h)) (drop 6782 old) (h .brackets) (h .run) [] (front-long h k) (k .brackets) (k .run) (w .counts .run-is)
-                    ∙ ap (λ x. areaWith (frontWith (lettersFor h) (sectionsFor h)) (rows 0 x) (flat bracketTexts x) (drop 6782 old)) i;
+                    ∙ ap₂ (λ x y. marked x y (s .run)) (w .bytes-are ∙ ap (λ x. areaWith (frontWith (lettersFor h) (sectionsFor h)) (rows 0 x) (flat bracketTexts x) (drop bytesSize old)) g) from
+                    ∙ mark-all (s .run) (frontWith (lettersFor h) (sectionsFor h)) (drop bytesSize old) (h .brackets) (h .run) [] (front-long h k) (k .brackets) (k .run) (w .counts .run-is)
+                    ∙ ap (λ x. areaWith (frontWith (lettersFor h) (sectionsFor h)) (rows 0 x) (flat bracketTexts x) (drop bytesSize old)) i;
                 numbers-are =
                     w .numbers-are
-                    ∙ ap (λ x. numbersWith x (drop 320 oldNumbers)) (sym (terms-numbers (h .brackets) (h .run)) ∙ ap (flat numberRow) (sym (append-nil (h .brackets ++ map asNTerm (h .run)))));
+                    ∙ ap (λ x. numbersWith x (drop numbersSize oldNumbers)) (sym (terms-numbers (h .brackets) (h .run)) ∙ ap (flat numberRow) (sym (append-nil (h .brackets ++ map asNTerm (h .run)))));
                 roomy = roomy-set n (w .roomy);
               };
           past = omega arith;
@@ -300,7 +301,7 @@ module _ {line : List ℕ} {l : Line ℕ} {old : List ℕ} {oldNumbers : List �
             digit = d;
             few-run = t .few-run;
             few-brackets = t .few-brackets;
-            count = λ n. subst (λ x. x * 10 + (b - 48) ≤ 99) (w .counts .count-is) (law n .few (kept-digit .run));
+            count = λ n. subst (λ x. x * 10 + value b ≤ countLimit) (w .counts .count-is) (law n .few (kept-digit .run));
             size = t .size;
           }
 
@@ -311,24 +312,24 @@ module _ {line : List ℕ} {l : Line ℕ} {old : List ℕ} {oldNumbers : List �
       count-then : countIn (onLast (countDigit (s .at) b) (w .held .run)) ≡ nextCount s b
       count-then =
           by-test (eqb (s .run) 0) (λ t. rw t (ap countIn (none-there t) ∙ w .counts .count-is))
-          (λ t. rw t (law (eqb-false (s .run) 0 t) .count-next ∙ ap (λ x. x * 10 + (b - 48)) (w .counts .count-is)))
+          (λ t. rw t (law (eqb-false (s .run) 0 t) .count-next ∙ ap (λ x. x * 10 + value b) (w .counts .count-is)))
 
       bytes-then : countPut bytes s b ≡ bytesFor (withDigit (s .at) b (w .held)) old
       bytes-then =
           let h = w .held in
           let k = kept-now in
           by-test (eqb (s .run) 0)
-          (λ t. rw t (w .bytes-are ∙ ap (λ x. areaWith (frontWith (lettersFor h) (sectionsFor h)) (rows 0 (h .brackets ++ x)) (flat bracketTexts (h .brackets ++ x)) (drop 6782 old)) (sym (none-there t))))
+          (λ t. rw t (w .bytes-are ∙ ap (λ x. areaWith (frontWith (lettersFor h) (sectionsFor h)) (rows 0 (h .brackets ++ x)) (flat bracketTexts (h .brackets ++ x)) (drop bytesSize old)) (sym (none-there t))))
           (λ t. rw t
-          (ap₂ (λ x y. set x (510 + (y - 1) * 34 + 3) (s .count * 10 + (b - 48))) (w .bytes-are) (sym (w .counts .brackets-are))
-          ∙ ap (λ x. set (bytesFor h old) (510 + (bracketsIn h - 1) * 34 + 3) (x * 10 + (b - 48))) (sym (w .counts .count-is))
-          ∙ law (eqb-false (s .run) 0 t) .bytes-are (frontWith (lettersFor h) (sectionsFor h)) (drop 6782 old) (front-long h k)))
+          (ap₂ (λ x y. set x (countAt (y - 1)) (s .count * 10 + value b)) (w .bytes-are) (sym (w .counts .brackets-are))
+          ∙ ap (λ x. set (bytesFor h old) (countAt (bracketsIn h - 1)) (x * 10 + value b)) (sym (w .counts .count-is))
+          ∙ law (eqb-false (s .run) 0 t) .bytes-are (frontWith (lettersFor h) (sectionsFor h)) (drop bytesSize old) (front-long h k)))
 
       numbers-then : numbersFor (w .held) oldNumbers ≡ numbersFor (withDigit (s .at) b (w .held)) oldNumbers
       numbers-then =
           let h = w .held in
-          by-test (eqb (s .run) 0) (λ t. ap (λ x. numbersWith (flat numberRow (h .brackets ++ x)) (drop 320 oldNumbers)) (sym (none-there t)))
-          (λ t. ap (λ x. numbersWith x (drop 320 oldNumbers)) (sym (law (eqb-false (s .run) 0 t) .numbers-are)))
+          by-test (eqb (s .run) 0) (λ t. ap (λ x. numbersWith (flat numberRow (h .brackets ++ x)) (drop numbersSize oldNumbers)) (sym (none-there t)))
+          (λ t. ap (λ x. numbersWith x (drop numbersSize oldNumbers)) (sym (law (eqb-false (s .run) 0 t) .numbers-are)))
 
       pub digit-put : {bytes′ : List ℕ} → bytes′ ≡ countPut bytes s b → length bytes′ ≡ length bytes
           → FilledOn line l old oldNumbers (s .at) (countedTo s (s .at + 1) Counting (nextCount s b)) bytes′ numbers

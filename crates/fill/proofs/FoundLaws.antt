@@ -3,20 +3,21 @@ use mathlib.Core.Path.{_≡_, refl, sym, ap, ap₂, subst, _∙_}
 use mathlib.Core.Bool.{Bool, true, false, cond, false≢true, true≢false}
 use mathlib.Core.Option.{Option, none, some}
 use mathlib.Core.List.{List, [], _∷_, _++_, append-nil}
-use Prim.Native.Nat.{ℕ, zero, suc, _+_, _-_, _*_, _/_, _%_, _≤_, _<_}
+use Prim.Native.Nat.{ℕ, zero, suc, _+_, _-_, _*_, _≤_, _<_}
 use native.Mathlib.Omega.{arith}
 use lib.Dec.{eqb}
 use lib.IntN.{ℤ, pos}
 use lib.ListN.{length, length-append}
 use borrow.Author.Tests.{eq-eqb, ne-eqb}
 use Rattle.scope.specs.declared.grammar.Key.{Key}
+use Rattle.scope.specs.Limits.{lineLimit, bracketLimit, partLimit, textLimit, labelLimit}
 use Rattle.scope.specs.Line.{Number, Label, Value, mass, text, reference, Part}
 use Rattle.scope.specs.Keys.{keyCode}
 use Rattle.scope.specs.Lists.{given, part}
 use Rattle.scope.specs.Content.{isReference}
 use Rattle.scope.specs.Refusals.{textIn, textOf, inRange}
 use Rattle.scope.specs.Tables.{millionths, labelOf, scoreOf}
-use Rattle.scope.specs.Layout.{valueCode, massIn, decimalsIn, packed, offset, partRow, scoreCode}
+use Rattle.scope.specs.Layout.{bytesSize, numbersSize, valueCode, massIn, decimalsIn, packed, offset, partFields, partRow, scoreCode}
 use Rattle.basics.specs.Each.{Each, OfGiven}
 use Rattle.accepted_laws.specs.Within.{NumberWithin, LabelWithin, ValueWithin, PartWithin}
 use Rattle.layout_laws.specs.Numbers.{few-decimals}
@@ -67,7 +68,7 @@ value-agrees line at (Text a e) reference p w k = absurd w
 value-agrees line at Reference reference p w k =
     record { code = refl; decimals = refl; mass-is = refl; text-is = refl; order = omega arith; inside = λ h. absurd (omega arith); long = refl; refers = refl }
 
-value-short : (v : FoundValue) (x : Value ℕ) (p : Part ℕ) → ValueWithin p x → length (textIn x) ≤ 128
+value-short : (v : FoundValue) (x : Value ℕ) (p : Part ℕ) → ValueWithin p x → length (textIn x) ≤ textLimit
 value-short v (mass n) p k = omega arith
 value-short v (text t) p k = k .short-text
 value-short v reference p k = omega arith
@@ -78,7 +79,7 @@ pub record LabelAgrees (line : List ℕ) (a e : ℕ) (s : Score) (o : Option (La
   pub order : a ≤ e
   pub inside : a < e → e ≤ length line
   pub long : length (given o (λ l. l .name) []) ≡ e - a
-  pub short : e - a ≤ 16
+  pub short : e - a ≤ labelLimit
 
 pub label-agrees : (line : List ℕ) (a e : ℕ) (s : Score) (o : Option (Label ℕ)) → LabelIs line a e s o → OfGiven LabelWithin o → LabelAgrees line a e s o
 label-agrees line a e s none w k =
@@ -117,11 +118,11 @@ module _ {line : List ℕ} {r : PartRead} {q : Part ℕ} (w : PartIs line r q) (
       let d = sym (la .long) in
       let e = sym (offset-agrees (packed q) (textLength (r .value) + (r .ends - r .label)) t found-length) in
       let f = ap keyCode (sym (w .key)) in
-      ap (λ o. codeOf (r .value) ∷ keyCode (r .key) ∷ numberOf (r .value) .decimals ∷ textLength (r .value) ∷ (r .ends - r .label) ∷ o % 256 ∷ o / 256 ∷ []) e
-      ∙ ap (λ x. codeOf (r .value) ∷ keyCode (r .key) ∷ numberOf (r .value) .decimals ∷ textLength (r .value) ∷ x ∷ offset (packed q) t % 256 ∷ offset (packed q) t / 256 ∷ []) d
-      ∙ ap (λ x. codeOf (r .value) ∷ keyCode (r .key) ∷ numberOf (r .value) .decimals ∷ x ∷ length (labelOf q) ∷ offset (packed q) t % 256 ∷ offset (packed q) t / 256 ∷ []) c
-      ∙ ap (λ x. codeOf (r .value) ∷ keyCode (r .key) ∷ x ∷ length (textOf q) ∷ length (labelOf q) ∷ offset (packed q) t % 256 ∷ offset (packed q) t / 256 ∷ []) b
-      ∙ ap₂ (λ x y. x ∷ y ∷ decimalsIn (q .value) ∷ length (textOf q) ∷ length (labelOf q) ∷ offset (packed q) t % 256 ∷ offset (packed q) t / 256 ∷ []) a f
+      ap (partFields (codeOf (r .value)) (keyCode (r .key)) (numberOf (r .value) .decimals) (textLength (r .value)) (r .ends - r .label)) e
+      ∙ ap (λ x. partFields (codeOf (r .value)) (keyCode (r .key)) (numberOf (r .value) .decimals) (textLength (r .value)) x (offset (packed q) t)) d
+      ∙ ap (λ x. partFields (codeOf (r .value)) (keyCode (r .key)) (numberOf (r .value) .decimals) x (length (labelOf q)) (offset (packed q) t)) c
+      ∙ ap (λ x. partFields (codeOf (r .value)) (keyCode (r .key)) x (length (textOf q)) (length (labelOf q)) (offset (packed q) t)) b
+      ∙ ap₂ (λ x y. partFields x y (decimalsIn (q .value)) (length (textOf q)) (length (labelOf q)) (offset (packed q) t)) a f
 
   pub found-mass : numberOf (r .value) .millionths ≡ massIn (q .value)
   found-mass = va .mass-is
@@ -129,9 +130,9 @@ module _ {line : List ℕ} {r : PartRead} {q : Part ℕ} (w : PartIs line r q) (
   pub found-refers : refersOf (r .value) ≡ isReference (q .value)
   found-refers = va .refers
 
-  pub found-fits : (bytes : List ℕ) (numbers : List ℤ) (at number t : ℕ) → t + length (packed q) ≤ 4096 → 6782 ≤ length bytes → at + 7 ≤ 2686 → number < length numbers
-      → PutsPart line bytes numbers (r .value) (r .label) (r .ends) at number t
-  found-fits bytes numbers at number t room size row m =
+  pub found-fits : (bytes : List ℕ) (numbers : List ℤ) (i j t : ℕ) → t + length (packed q) ≤ lineLimit → i < bracketLimit → j < partLimit
+      → bytesSize ≤ length bytes → numbersSize ≤ length numbers → PutsPart line bytes numbers (r .value) (r .label) (r .ends) i j t
+  found-fits bytes numbers i j t room few-i few-j long-b long-n =
       record {
         text-order = va .order;
         text-inside = va .inside;
@@ -140,9 +141,10 @@ module _ {line : List ℕ} {r : PartRead} {q : Part ℕ} (w : PartIs line r q) (
         label-inside = la .inside;
         short-label = la .short;
         room = omega (arith, found-length);
-        size = size;
-        row = row;
-        mass = m;
+        few-brackets = few-i;
+        few-parts = few-j;
+        bytes-long = long-b;
+        numbers-long = long-n;
       }
 
 -- ---- its score

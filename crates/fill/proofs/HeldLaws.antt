@@ -13,12 +13,13 @@ use Rattle.scope.specs.declared.grammar.Section.{Section}
 use Rattle.scope.specs.declared.grammar.Kind.{Kind}
 use Rattle.scope.specs.declared.grammar.Kind.the-variants.{Unknown, Labile, NTerm, OnResidue, OnRange, CTerm}
 use Rattle.scope.specs.Bytes.{upper, value}
+use Rattle.scope.specs.Limits.{residueLimit, partLimit, countLimit}
 use Rattle.scope.specs.Line.{Part, Bracket, Residue}
 use Rattle.scope.specs.Lists.{given, onLast, flat, padded}
 use Rattle.scope.specs.Reading.{Held, withResidue, put, bracketOf, times, countDigit, asNTerm}
 use Rattle.scope.specs.Kinds.{isUnknown, kindCode}
 use Rattle.scope.specs.Tables.{millionths, scoreOf}
-use Rattle.scope.specs.Layout.{sectionCode, massIn, packed, scoreCode, partRows, bracketRow, bracketTexts, rows, numberRow}
+use Rattle.scope.specs.Layout.{partSize, rowSize, lettersAt, sectionsAt, rowsAt, numberRowSize, rowAt, countAt, sectionCode, massIn, packed, twoBytes, scoreCode, headRow, partRows, bracketRow, bracketTexts, rows, countsRow, numberRow}
 use Rattle.basics.specs.Each.{Each, each-append}
 use Rattle.layout_laws.specs.Layout.{padded-length, bracket-row-length, number-row-length}
 use Rattle.basics.specs.Lists.{flat-append, flat-one}
@@ -45,13 +46,13 @@ rows-one t k = append-nil (bracketRow t k)
 pub rows-more : (t : ℕ) (ks : List (Bracket ℕ)) (k : Bracket ℕ) → rows t (ks ++ (k ∷ [])) ≡ rows t ks ++ bracketRow (t + length (flat bracketTexts ks)) k
 rows-more t ks k = rows-append t ks (k ∷ []) ∙ ap (λ x. rows t ks ++ x) (rows-one (t + length (flat bracketTexts ks)) k)
 
-pub rows-size : (t : ℕ) (ks : List (Bracket ℕ)) → Each Kept ks → length (rows t ks) ≡ length ks * 34
+pub rows-size : (t : ℕ) (ks : List (Bracket ℕ)) → Each Kept ks → length (rows t ks) ≡ length ks * rowSize
 unfolding rows
 rows-size t [] w = refl
 rows-size t (k ∷ ks) w =
     omega (arith, length-append (bracketRow t k) (rows (t + length (bracketTexts k)) ks), bracket-row-length t k (w .0 .few-parts), rows-size (t + length (bracketTexts k)) ks (w .1))
 
-pub numbers-size : (ks : List (Bracket ℕ)) → Each Kept ks → length (flat numberRow ks) ≡ length ks * 5
+pub numbers-size : (ks : List (Bracket ℕ)) → Each Kept ks → length (flat numberRow ks) ≡ length ks * numberRowSize
 unfolding flat
 numbers-size [] w = refl
 numbers-size (k ∷ ks) w = omega (arith, length-append (numberRow k) (flat numberRow ks), number-row-length k (w .0 .few-parts), numbers-size ks (w .1))
@@ -125,24 +126,24 @@ sizes-put k b h e =
     (omega (arith, all-length (put k b h), ap length a, all-length h), omega (arith, all-texts (put k b h), all-texts h))
 
 -- ---- one residue more
-pub residue-front : (letters sections y : List ℕ) (n x z : ℕ) → length letters ≡ n → length sections ≡ n → n < 254
-    → set (set (frontWith letters sections ++ y) (2 + n) x) (256 + n) z ≡ frontWith (letters ++ (x ∷ [])) (sections ++ (z ∷ [])) ++ y
+pub residue-front : (letters sections y : List ℕ) (n x z : ℕ) → length letters ≡ n → length sections ≡ n → n < residueLimit
+    → set (set (frontWith letters sections ++ y) (lettersAt + n) x) (sectionsAt + n) z ≡ frontWith (letters ++ (x ∷ [])) (sections ++ (z ∷ [])) ++ y
 residue-front letters sections y n x z e f h =
-    let p = padded-length 0 254 (letters ++ (x ∷ [])) (omega (arith, length-append letters (x ∷ []))) in
-    let q = length-append (0 ∷ 0 ∷ []) (padded 0 254 (letters ++ (x ∷ []))) in
-    ap (λ l. set (set l (2 + n) x) (256 + n) z) (one (padded 0 254 letters) (padded 0 254 sections) y)
-    ∙ ap (λ l. set l (256 + n) z) (store-end 0 254 (0 ∷ 0 ∷ []) letters (padded 0 254 sections ++ y) (x ∷ []) (2 + n) (omega arith) (omega arith))
-    ∙ ap (λ l. set l (256 + n) z) (sym (append-assoc (0 ∷ 0 ∷ []) (padded 0 254 (letters ++ (x ∷ []))) (padded 0 254 sections ++ y)))
-    ∙ store-end 0 254 ((0 ∷ 0 ∷ []) ++ padded 0 254 (letters ++ (x ∷ []))) sections y (z ∷ []) (256 + n) (omega arith) (omega arith)
-    ∙ append-assoc (0 ∷ 0 ∷ []) (padded 0 254 (letters ++ (x ∷ []))) (padded 0 254 (sections ++ (z ∷ [])) ++ y)
-    ∙ sym (one (padded 0 254 (letters ++ (x ∷ []))) (padded 0 254 (sections ++ (z ∷ []))) y)
+    let p = padded-length 0 residueLimit (letters ++ (x ∷ [])) (omega (arith, length-append letters (x ∷ []))) in
+    let q = length-append (countsRow 0 0) (padded 0 residueLimit (letters ++ (x ∷ []))) in
+    ap (λ l. set (set l (lettersAt + n) x) (sectionsAt + n) z) (one (padded 0 residueLimit letters) (padded 0 residueLimit sections) y)
+    ∙ ap (λ l. set l (sectionsAt + n) z) (store-end 0 residueLimit (countsRow 0 0) letters (padded 0 residueLimit sections ++ y) (x ∷ []) (lettersAt + n) (omega arith) (omega arith))
+    ∙ ap (λ l. set l (sectionsAt + n) z) (sym (append-assoc (countsRow 0 0) (padded 0 residueLimit (letters ++ (x ∷ []))) (padded 0 residueLimit sections ++ y)))
+    ∙ store-end 0 residueLimit (countsRow 0 0 ++ padded 0 residueLimit (letters ++ (x ∷ []))) sections y (z ∷ []) (sectionsAt + n) (omega arith) (omega arith)
+    ∙ append-assoc (countsRow 0 0) (padded 0 residueLimit (letters ++ (x ∷ []))) (padded 0 residueLimit (sections ++ (z ∷ [])) ++ y)
+    ∙ sym (one (padded 0 residueLimit (letters ++ (x ∷ []))) (padded 0 residueLimit (sections ++ (z ∷ []))) y)
   where
-    one : (a b y : List ℕ) → ((0 ∷ 0 ∷ []) ++ (a ++ b)) ++ y ≡ (0 ∷ 0 ∷ []) ++ (a ++ (b ++ y))
-    one a b y = ap (λ l. 0 ∷ 0 ∷ l) (append-assoc a b y)
+    one : (a b y : List ℕ) → (countsRow 0 0 ++ (a ++ b)) ++ y ≡ countsRow 0 0 ++ (a ++ (b ++ y))
+    one a b y = ap (λ l. countsRow 0 0 ++ l) (append-assoc a b y)
 
-pub front-size : (letters sections : List ℕ) → length letters ≤ 254 → length sections ≤ 254 → length (frontWith letters sections) ≡ 510
+pub front-size : (letters sections : List ℕ) → length letters ≤ residueLimit → length sections ≤ residueLimit → length (frontWith letters sections) ≡ rowsAt
 front-size letters sections h k =
-    omega (arith, length-append (padded 0 254 letters) (padded 0 254 sections), padded-length 0 254 letters h, padded-length 0 254 sections k)
+    omega (arith, length-append (padded 0 residueLimit letters) (padded 0 residueLimit sections), padded-length 0 residueLimit letters h, padded-length 0 residueLimit sections k)
 
 -- ---- the last bracket
 pub record LastOf {A : Type 0} (l : List A) : Type 0 where
@@ -168,27 +169,26 @@ pub record SameParts (b c : Bracket ℕ) : Type 0 where
   pub last : c .last ≡ b .last
   pub parts : c .parts ≡ b .parts
 
-pub count-row : (front past texts : List ℕ) (ks : List (Bracket ℕ)) (b c : Bracket ℕ) (i : ℕ) → length front ≡ 510 → Each Kept ks → SameParts b c
-    → i ≡ 510 + length ks * 34 + 3
+pub count-row : (front past texts : List ℕ) (ks : List (Bracket ℕ)) (b c : Bracket ℕ) (i : ℕ) → length front ≡ rowsAt → Each Kept ks → SameParts b c
+    → i ≡ countAt (length ks)
     → set (areaWith front (rows 0 (ks ++ (b ∷ []))) texts past) i (c .count) ≡ areaWith front (rows 0 (ks ++ (c ∷ []))) texts past
 count-row front past texts ks b c i f w s e =
     let t = 0 + length (flat bracketTexts ks) in
-    let l = rows 0 ks ++ (kindCode (b .kind) ∷ b .first ∷ b .last ∷ []) in
-    let r = length (b .parts) ∷ scoreCode (scoreOf (b .parts)) ∷ padded 0 28 (partRows t (b .parts)) in
+    let l = kindCode (b .kind) ∷ (twoBytes (b .first) ++ twoBytes (b .last)) in
+    let r = length (b .parts) ∷ scoreCode (scoreOf (b .parts)) ∷ padded 0 (partLimit * partSize) (partRows t (b .parts)) in
     let n = rows-size 0 ks w in
-    let m = length-append (rows 0 ks) (kindCode (b .kind) ∷ b .first ∷ b .last ∷ []) in
-    ap (λ x. set (areaWith front x texts past) i (c .count)) (rows-more 0 ks b ∙ sym (append-assoc (rows 0 ks) (kindCode (b .kind) ∷ b .first ∷ b .last ∷ []) (b .count ∷ r)))
-    ∙ change-rows front l (b .count ∷ []) r texts past (c .count ∷ []) i f (omega arith) refl
+    let m = length-append (rows 0 ks) l in
+    ap (λ x. set (areaWith front x texts past) i (c .count)) (rows-more 0 ks b ∙ sym (append-assoc (rows 0 ks) l (b .count ∷ r)))
+    ∙ change-rows front (rows 0 ks ++ l) (b .count ∷ []) r texts past (c .count ∷ []) i f (omega arith) refl
     ∙ ap (λ x. areaWith front x texts past)
-    (append-assoc (rows 0 ks) (kindCode (b .kind) ∷ b .first ∷ b .last ∷ []) (c .count ∷ r)
-    ∙ ap (λ x. rows 0 ks ++ x) (same t)
-    ∙ sym (rows-more 0 ks c))
+    (append-assoc (rows 0 ks) l (c .count ∷ r) ∙ ap (λ x. rows 0 ks ++ x) (same t) ∙ sym (rows-more 0 ks c))
   where
-    same : (t : ℕ) → kindCode (b .kind) ∷ b .first ∷ b .last ∷ c .count ∷ length (b .parts) ∷ scoreCode (scoreOf (b .parts)) ∷ padded 0 28 (partRows t (b .parts)) ≡ bracketRow t c
+    same : (t : ℕ)
+        → headRow (kindCode (b .kind)) (b .first) (b .last) (c .count) (length (b .parts)) (scoreCode (scoreOf (b .parts))) ++ padded 0 (partLimit * partSize) (partRows t (b .parts))
+        ≡ bracketRow t c
     same t =
-        ap (λ x. x ∷ b .first ∷ b .last ∷ c .count ∷ length (b .parts) ∷ scoreCode (scoreOf (b .parts)) ∷ padded 0 28 (partRows t (b .parts))) (sym (s .kind))
-        ∙ ap₂ (λ x y. kindCode (c .kind) ∷ x ∷ y ∷ c .count ∷ length (b .parts) ∷ scoreCode (scoreOf (b .parts)) ∷ padded 0 28 (partRows t (b .parts))) (sym (s .first)) (sym (s .last))
-        ∙ ap (λ ps. kindCode (c .kind) ∷ c .first ∷ c .last ∷ c .count ∷ length ps ∷ scoreCode (scoreOf ps) ∷ padded 0 28 (partRows t ps)) (sym (s .parts))
+        ap₂ (λ x y. headRow x y (b .last) (c .count) (length (b .parts)) (scoreCode (scoreOf (b .parts))) ++ padded 0 (partLimit * partSize) (partRows t (b .parts))) (sym (s .kind)) (sym (s .first))
+        ∙ ap₂ (λ x ps. headRow (kindCode (c .kind)) (c .first) x (c .count) (length ps) (scoreCode (scoreOf ps)) ++ padded 0 (partLimit * partSize) (partRows t ps)) (sym (s .last)) (sym (s .parts))
 
 -- ---- a digit of a count
 count-is : (i d : ℕ) (k : Bracket ℕ) → countDigit i d k .count ≡ countOf k * 10 + value d
@@ -218,17 +218,17 @@ same-flat f ks b c e =
     flat-append f ks (c ∷ []) ∙ ap (λ x. flat f ks ++ x) (flat-one f c ∙ e ∙ sym (flat-one f b)) ∙ sym (flat-append f ks (b ∷ []))
 
 pub record DigitLaw (bs rs : List (Bracket ℕ)) (i d : ℕ) : Type 0 where
-  pub bytes-are : (front past : List ℕ) → length front ≡ 510
-      → set (areaWith front (rows 0 (bs ++ rs)) (flat bracketTexts (bs ++ rs)) past) (510 + (length bs + length rs - 1) * 34 + 3) (countIn rs * 10 + value d)
+  pub bytes-are : (front past : List ℕ) → length front ≡ rowsAt
+      → set (areaWith front (rows 0 (bs ++ rs)) (flat bracketTexts (bs ++ rs)) past) (countAt (length bs + length rs - 1)) (countIn rs * 10 + value d)
       ≡ areaWith front (rows 0 (bs ++ onLast (countDigit i d) rs)) (flat bracketTexts (bs ++ onLast (countDigit i d) rs)) past
   pub numbers-are : flat numberRow (bs ++ onLast (countDigit i d) rs) ≡ flat numberRow (bs ++ rs)
   pub count-next : countIn (onLast (countDigit i d) rs) ≡ countIn rs * 10 + value d
-  pub few : Each Kept (onLast (countDigit i d) rs) → countIn rs * 10 + value d ≤ 99
+  pub few : Each Kept (onLast (countDigit i d) rs) → countIn rs * 10 + value d ≤ countLimit
 
-digit-few : (i d : ℕ) (k : Bracket ℕ) → Kept (countDigit i d k) → countOf k * 10 + value d ≤ 99
+digit-few : (i d : ℕ) (k : Bracket ℕ) → Kept (countDigit i d k) → countOf k * 10 + value d ≤ countLimit
 digit-few i d k w = go (k .counted) refl w
   where
-    go : (o : Option ℕ) → k .counted ≡ o → Kept (given o (λ p. times (k .count * 10 + value d) p k) (times (value d) i k)) → given o (λ p. k .count) 0 * 10 + value d ≤ 99
+    go : (o : Option ℕ) → k .counted ≡ o → Kept (given o (λ p. times (k .count * 10 + value d) p k) (times (value d) i k)) → given o (λ p. k .count) 0 * 10 + value d ≤ countLimit
     go none e v = omega (arith, v .few-counts)
     go (some p) e v = v .few-counts
 
@@ -247,21 +247,21 @@ digit-law bs rs i d h w = go (last-of rs h)
             let n = count-last ks b in
             record {
               bytes-are = λ front past f.
-                  let m : 510 + (length bs + length (ks ++ (b ∷ [])) - 1) * 34 + 3 ≡ 510 + length (bs ++ ks) * 34 + 3 =
+                  let m : countAt (length bs + length (ks ++ (b ∷ [])) - 1) ≡ countAt (length (bs ++ ks)) =
                   omega (arith, length-append ks (b ∷ []), length-append bs ks) in
-                  ap₂ (λ x y. set (areaWith front (rows 0 x) (flat bracketTexts x) past) (510 + (length bs + length (ks ++ (b ∷ [])) - 1) * 34 + 3) y) ga
+                  ap₂ (λ x y. set (areaWith front (rows 0 x) (flat bracketTexts x) past) (countAt (length bs + length (ks ++ (b ∷ [])) - 1)) y) ga
                   (ap (λ x. x * 10 + value d) n ∙ sym (count-is i d b))
-                  ∙ count-row front past (flat bracketTexts ((bs ++ ks) ++ (b ∷ []))) (bs ++ ks) b c (510 + (length bs + length (ks ++ (b ∷ [])) - 1) * 34 + 3) f
+                  ∙ count-row front past (flat bracketTexts ((bs ++ ks) ++ (b ∷ []))) (bs ++ ks) b c (countAt (length bs + length (ks ++ (b ∷ [])) - 1)) f
                   (each-left Kept (bs ++ ks) (b ∷ []) (subst (Each Kept) ga v)) (digit-same i d b) m
                   ∙ ap (λ x. areaWith front (rows 0 ((bs ++ ks) ++ (c ∷ []))) x past) (sym (same-flat bracketTexts (bs ++ ks) b c (ap (flat packed) (digit-parts i d b))))
                   ∙ ap (λ x. areaWith front (rows 0 x) (flat bracketTexts x) past) (sym gc ∙ ap (λ x. bs ++ x) (sym o));
               numbers-are =
                   ap (λ x. flat numberRow (bs ++ x)) o
                   ∙ ap (flat numberRow) gc
-                  ∙ same-flat numberRow (bs ++ ks) b c (ap (λ ps. padded (pos 0) 4 (map (λ p. massIn (p .value)) ps) ++ (given (scoreOf ps) millionths (pos 0) ∷ [])) (digit-parts i d b))
+                  ∙ same-flat numberRow (bs ++ ks) b c (ap (λ ps. padded (pos 0) partLimit (map (λ p. massIn (p .value)) ps) ++ (given (scoreOf ps) millionths (pos 0) ∷ [])) (digit-parts i d b))
                   ∙ ap (flat numberRow) (sym ga);
               count-next = ap countIn o ∙ count-last ks c ∙ count-of i d b ∙ ap (λ x. x * 10 + value d) (sym n);
-              few = λ e. subst (λ x. x * 10 + value d ≤ 99) (sym n) (digit-few i d b (each-right Kept ks (c ∷ []) (subst (Each Kept) o e) .0));
+              few = λ e. subst (λ x. x * 10 + value d ≤ countLimit) (sym n) (digit-few i d b (each-right Kept ks (c ∷ []) (subst (Each Kept) o e) .0));
             }
 
 -- ---- brackets marked as N-terminal
@@ -269,16 +269,17 @@ cons-texts : (b : Bracket ℕ) (js : List (Bracket ℕ)) → flat bracketTexts (
 unfolding flat
 cons-texts b js = refl
 
-kind-row : (front past : List ℕ) (ks js : List (Bracket ℕ)) (b : Bracket ℕ) (i : ℕ) → length front ≡ 510 → Each Kept ks → i ≡ 510 + length ks * 34
-    → set (areaWith front (rows 0 (ks ++ (b ∷ js))) (flat bracketTexts (ks ++ (b ∷ js))) past) i 3
+kind-row : (front past : List ℕ) (ks js : List (Bracket ℕ)) (b : Bracket ℕ) (i : ℕ) → length front ≡ rowsAt → Each Kept ks → i ≡ rowAt (length ks)
+    → set (areaWith front (rows 0 (ks ++ (b ∷ js))) (flat bracketTexts (ks ++ (b ∷ js))) past) i (kindCode NTerm)
     ≡ areaWith front (rows 0 (ks ++ (asNTerm b ∷ js))) (flat bracketTexts (ks ++ (asNTerm b ∷ js))) past
 unfolding rows
 kind-row front past ks js b i f w e =
     let t = 0 + length (flat bracketTexts ks) in
-    let r = b .first ∷ b .last ∷ b .count ∷ length (b .parts) ∷ scoreCode (scoreOf (b .parts)) ∷ padded 0 28 (partRows t (b .parts)) in
+    let r =
+    (twoBytes (b .first) ++ (twoBytes (b .last) ++ (b .count ∷ length (b .parts) ∷ scoreCode (scoreOf (b .parts)) ∷ []))) ++ padded 0 (partLimit * partSize) (partRows t (b .parts)) in
     let n = rows-size 0 ks w in
-    ap (λ x. set (areaWith front x (flat bracketTexts (ks ++ (b ∷ js))) past) i 3) (rows-append 0 ks (b ∷ js))
-    ∙ change-rows front (rows 0 ks) (kindCode (b .kind) ∷ []) (r ++ rows (t + length (bracketTexts b)) js) (flat bracketTexts (ks ++ (b ∷ js))) past (3 ∷ []) i f (omega arith) refl
+    ap (λ x. set (areaWith front x (flat bracketTexts (ks ++ (b ∷ js))) past) i (kindCode NTerm)) (rows-append 0 ks (b ∷ js))
+    ∙ change-rows front (rows 0 ks) (kindCode (b .kind) ∷ []) (r ++ rows (t + length (bracketTexts b)) js) (flat bracketTexts (ks ++ (b ∷ js))) past (kindCode NTerm ∷ []) i f (omega arith) refl
     ∙ ap₂ (λ x y. areaWith front x y past) (sym (rows-append 0 ks (asNTerm b ∷ js))) (texts-same ks)
   where
     texts-same : (ks : List (Bracket ℕ)) → flat bracketTexts (ks ++ (b ∷ js)) ≡ flat bracketTexts (ks ++ (asNTerm b ∷ js))
@@ -291,7 +292,7 @@ terms-kept : (ks : List (Bracket ℕ)) → Each Kept ks → Each Kept (map asNTe
 terms-kept [] w = tt
 terms-kept (k ∷ ks) w = (term-kept k (w .0), terms-kept ks (w .1))
 
-pub mark-all : (n : ℕ) (front past : List ℕ) (bs ys zs : List (Bracket ℕ)) → length front ≡ 510 → Each Kept bs → Each Kept ys → length ys ≡ n
+pub mark-all : (n : ℕ) (front past : List ℕ) (bs ys zs : List (Bracket ℕ)) → length front ≡ rowsAt → Each Kept bs → Each Kept ys → length ys ≡ n
     → marked (areaWith front (rows 0 (bs ++ (ys ++ zs))) (flat bracketTexts (bs ++ (ys ++ zs))) past) (length bs) n
     ≡ areaWith front (rows 0 (bs ++ (map asNTerm ys ++ zs))) (flat bracketTexts (bs ++ (map asNTerm ys ++ zs))) past
 unfolding marked
@@ -303,7 +304,7 @@ mark-all (suc n) front past bs ys zs f v w e = go (last-of ys (omega arith)) (λ
         → ((xs us : List (Bracket ℕ)) → Each Kept xs → length xs ≡ n
         → marked (areaWith front (rows 0 (bs ++ (xs ++ us))) (flat bracketTexts (bs ++ (xs ++ us))) past) (length bs) n
         ≡ areaWith front (rows 0 (bs ++ (map asNTerm xs ++ us))) (flat bracketTexts (bs ++ (map asNTerm xs ++ us))) past)
-        → set (marked (areaWith front (rows 0 (bs ++ (ys ++ zs))) (flat bracketTexts (bs ++ (ys ++ zs))) past) (length bs) n) (510 + (length bs + n) * 34) 3
+        → set (marked (areaWith front (rows 0 (bs ++ (ys ++ zs))) (flat bracketTexts (bs ++ (ys ++ zs))) past) (length bs) n) (rowAt (length bs + n)) (kindCode NTerm)
         ≡ areaWith front (rows 0 (bs ++ (map asNTerm ys ++ zs))) (flat bracketTexts (bs ++ (map asNTerm ys ++ zs))) past
     go r ih =
         let xs = r .front in
@@ -317,10 +318,10 @@ mark-all (suc n) front past bs ys zs f v w e = go (last-of ys (omega arith)) (λ
         let k : (bs ++ map asNTerm xs) ++ (asNTerm y ∷ zs) ≡ bs ++ (map asNTerm ys ++ zs) =
         append-assoc bs (map asNTerm xs) (asNTerm y ∷ zs)
         ∙ ap (λ x. bs ++ x) (sym (append-assoc (map asNTerm xs) (asNTerm y ∷ []) zs) ∙ ap (λ x. x ++ zs) (sym (map-append asNTerm xs (y ∷ [])) ∙ ap (map asNTerm) (sym (r .is)))) in
-        ap (λ x. set (marked (areaWith front (rows 0 x) (flat bracketTexts x) past) (length bs) n) (510 + (length bs + n) * 34) 3) g
-        ∙ ap (λ x. set x (510 + (length bs + n) * 34) 3) (ih xs (y ∷ zs) wx (omega arith))
-        ∙ ap (λ x. set (areaWith front (rows 0 x) (flat bracketTexts x) past) (510 + (length bs + n) * 34) 3) (sym (append-assoc bs (map asNTerm xs) (y ∷ zs)))
-        ∙ kind-row front past (bs ++ map asNTerm xs) zs y (510 + (length bs + n) * 34) f (each-append Kept bs (map asNTerm xs) v (terms-kept xs wx)) (omega arith)
+        ap (λ x. set (marked (areaWith front (rows 0 x) (flat bracketTexts x) past) (length bs) n) (rowAt (length bs + n)) (kindCode NTerm)) g
+        ∙ ap (λ x. set x (rowAt (length bs + n)) (kindCode NTerm)) (ih xs (y ∷ zs) wx (omega arith))
+        ∙ ap (λ x. set (areaWith front (rows 0 x) (flat bracketTexts x) past) (rowAt (length bs + n)) (kindCode NTerm)) (sym (append-assoc bs (map asNTerm xs) (y ∷ zs)))
+        ∙ kind-row front past (bs ++ map asNTerm xs) zs y (rowAt (length bs + n)) f (each-append Kept bs (map asNTerm xs) v (terms-kept xs wx)) (omega arith)
         ∙ ap (λ x. areaWith front (rows 0 x) (flat bracketTexts x) past) k
 
 map-numbers : (ks : List (Bracket ℕ)) → flat numberRow (map asNTerm ks) ≡ flat numberRow ks

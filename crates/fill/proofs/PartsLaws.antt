@@ -9,18 +9,19 @@ use lib.Dec.{eqb}
 use lib.IntN.{ℤ, pos}
 use lib.ListN.{length, set, replicate, length-append, length-map, length-set}
 use lib.Seq.{sets, length-sets}
+use Rattle.scope.specs.Limits.{lineLimit, bracketLimit, partLimit}
 use Rattle.scope.specs.Line.{Part}
 use Rattle.scope.specs.Lists.{given, flat, padded}
 use Rattle.scope.specs.Tables.{millionths, scoreOf}
-use Rattle.scope.specs.Layout.{massIn, packed, partRow, partRows, scoreCode}
+use Rattle.scope.specs.Layout.{partSize, headSize, rowSize, textsAt, numbersSize, rowAt, partAt, massAt, massIn, packed, partRow, partRows, scoreCode, headRow}
 use Rattle.layout_laws.specs.Layout.{padded-length, part-rows-length}
 use Rattle.basics.specs.Lists.{flat-append, flat-one}
 use Rattle.fill.specs.declared.Parted.{Parted}
 use Rattle.fill.specs.declared.Step.{Step}
 use Rattle.fill.specs.declared.Put.{Put}
 use Rattle.fill.specs.declared.Put.the-variants.{NotPut, Done}
-use Rattle.fill.specs.Steps.{rowPlace, massPlace, Opening, textsIn, Begun, Roomy, Starts, PartStored, Stepped, ClosedBy, StepSays}
-use Rattle.fill.specs.Areas.{Before, areaWith, numbersWith, Laid, rowWith, massesWith, CloseFits, HeadPut, BracketPut, PutSays}
+use Rattle.fill.specs.Steps.{Opening, textsIn, Begun, Roomy, Starts, PartStored, Stepped, ClosedBy, StepSays}
+use Rattle.fill.specs.Areas.{Before, areaWith, numbersWith, Laid, rowWith, massesWith, Positions, CloseFits, HeadPut, BracketPut, PutSays}
 use Rattle.fill.proofs.AreaLaws.{absorb, store-end, put-texts, put-rows, change-rows}
 
 -- ---- rows of parts
@@ -43,12 +44,12 @@ pub laid-step : {a : Before} {ps : List (Part ℕ)} {k j t u : ℕ} {q : Part �
     → Laid a ps k u bytes numbers → PartStored q k j t bytes numbers bytes′ numbers′ → length ps ≡ j → u + length (flat packed ps) ≡ t
     → Laid a (ps ++ (q ∷ [])) k u bytes′ numbers′
 laid-step {a} {ps} {k} {j} {t} {u} {q} w s e f =
-    let r = a .rows ++ (replicate 6 0 ++ partRows u ps) in
+    let r = a .rows ++ (replicate headSize 0 ++ partRows u ps) in
     let x = a .texts ++ flat packed ps in
     let few-k = s .few-brackets in
     let few-j = s .few-parts in
     let room = s .room in
-    let lr = length-append (a .rows) (replicate 6 0 ++ partRows u ps) in
+    let lr = length-append (a .rows) (replicate headSize 0 ++ partRows u ps) in
     let lp = part-rows-length u ps in
     let lx = length-append (a .texts) (flat packed ps) in
     let l1 = w .rows-long in
@@ -63,49 +64,56 @@ laid-step {a} {ps} {k} {j} {t} {u} {q} w s e f =
       masses-long = w .masses-long;
       bytes-are =
           s .bytes-are
-          ∙ ap (λ b. sets (sets b (2686 + t) (packed q)) (rowPlace k j) (partRow t q)) (w .bytes-are)
-          ∙ ap (λ b. sets b (rowPlace k j) (partRow t q))
-          (put-texts (a .front) r x (a .past) (w .front-long) (packed q) (2686 + t) (omega arith) (omega arith) (omega arith))
-          ∙ put-rows (a .front) r (x ++ packed q) (a .past) (w .front-long) (partRow t q) (rowPlace k j) (omega arith) (omega arith)
+          ∙ ap (λ b. sets (sets b (textsAt + t) (packed q)) (partAt k j) (partRow t q)) (w .bytes-are)
+          ∙ ap (λ b. sets b (partAt k j) (partRow t q))
+          (put-texts (a .front) r x (a .past) (w .front-long) (packed q) (textsAt + t) (omega arith) (omega arith) (omega arith))
+          ∙ put-rows (a .front) r (x ++ packed q) (a .past) (w .front-long) (partRow t q) (partAt k j) (omega arith) (omega arith)
           ∙ ap₂ (λ y z. areaWith (a .front) y z (a .past))
-          (append-assoc (a .rows) (replicate 6 0 ++ partRows u ps) (partRow t q)
-          ∙ ap (λ y. a .rows ++ (replicate 6 0 ++ y)) (ap (λ n. partRows u ps ++ partRow n q) (sym f) ∙ sym (rows-snoc u ps q)))
+          (append-assoc (a .rows) (replicate headSize 0 ++ partRows u ps) (partRow t q)
+          ∙ ap (λ y. a .rows ++ (replicate headSize 0 ++ y)) (ap (λ n. partRows u ps ++ partRow n q) (sym f) ∙ sym (rows-snoc u ps q)))
           (append-assoc (a .texts) (flat packed ps) (packed q) ∙ ap (λ y. a .texts ++ y) (sym (flat-snoc ps q)));
       numbers-are =
           s .numbers-are
-          ∙ ap (λ n. set n (massPlace k j) (massOfPart q)) (w .numbers-are)
-          ∙ store-end (pos 0) 320 [] (a .masses ++ map massOfPart ps) (a .beyond) (massOfPart q ∷ []) (massPlace k j) (omega arith) (omega arith)
+          ∙ ap (λ n. set n (massAt k j) (massOfPart q)) (w .numbers-are)
+          ∙ store-end (pos 0) numbersSize [] (a .masses ++ map massOfPart ps) (a .beyond) (massOfPart q ∷ []) (massAt k j) (omega arith) (omega arith)
           ∙ ap (λ y. numbersWith y (a .beyond)) (append-assoc (a .masses) (map massOfPart ps) (massOfPart q ∷ []) ∙ ap (λ y. a .masses ++ y) (sym (map-append massOfPart ps (q ∷ []))));
     }
 
 -- ---- the head
-module _ {a : Before} {ps : List (Part ℕ)} {k u : ℕ} {bytes : List ℕ} {numbers : List ℤ} (w : Laid a ps k u bytes numbers) (few-k : k < 64) (few-p : length ps ≤ 4) where
+module _ {a : Before} {ps : List (Part ℕ)} {k u : ℕ} {bytes : List ℕ} {numbers : List ℤ} (w : Laid a ps k u bytes numbers) (few-k : k < bracketLimit) (few-p : length ps ≤ partLimit) where
   pub head-bytes : (kind first last m code : ℕ) → m ≡ length ps → code ≡ scoreCode (scoreOf ps)
-      → sets bytes (510 + k * 34) (kind ∷ first ∷ last ∷ 1 ∷ m ∷ code ∷ []) ≡ areaWith (a .front) (a .rows ++ rowWith kind first last u ps) (a .texts ++ flat packed ps) (a .past)
+      → sets bytes (rowAt k) (headRow kind first last 1 m code) ≡ areaWith (a .front) (a .rows ++ rowWith kind first last u ps) (a .texts ++ flat packed ps) (a .past)
   head-bytes kind first last m code e f =
-      let h = kind ∷ first ∷ last ∷ 1 ∷ length ps ∷ scoreCode (scoreOf ps) ∷ [] in
+      let h = headRow kind first last 1 (length ps) (scoreCode (scoreOf ps)) in
       let lp = part-rows-length u ps in
       let l1 = w .rows-long in
       let lh = length-append (a .rows) h in
-      ap₂ (λ x y. sets bytes (510 + k * 34) (kind ∷ first ∷ last ∷ 1 ∷ x ∷ y ∷ [])) e f
-      ∙ ap (λ b. sets b (510 + k * 34) h) (w .bytes-are)
-      ∙ change-rows (a .front) (a .rows) (replicate 6 0) (partRows u ps) (a .texts ++ flat packed ps) (a .past) h (510 + k * 34) (w .front-long) (omega arith) refl
-      ∙ ap (λ x. a .front ++ (x ++ (padded 0 4096 (a .texts ++ flat packed ps) ++ a .past)))
-      (ap (padded 0 2176) (sym (append-assoc (a .rows) h (partRows u ps)))
-      ∙ absorb 0 2176 28 (a .rows ++ h) (partRows u ps) (omega arith) (omega arith)
-      ∙ ap (padded 0 2176) (append-assoc (a .rows) h (padded 0 28 (partRows u ps))))
+      ap₂ (λ x y. sets bytes (rowAt k) (headRow kind first last 1 x y)) e f
+      ∙ ap (λ b. sets b (rowAt k) h) (w .bytes-are)
+      ∙ change-rows (a .front) (a .rows) (replicate headSize 0) (partRows u ps) (a .texts ++ flat packed ps) (a .past) h (rowAt k) (w .front-long) (omega arith) refl
+      ∙ ap (λ x. a .front ++ (x ++ (padded 0 lineLimit (a .texts ++ flat packed ps) ++ a .past)))
+      (ap (padded 0 (bracketLimit * rowSize)) (sym (append-assoc (a .rows) h (partRows u ps)))
+      ∙ absorb 0 (bracketLimit * rowSize) (partLimit * partSize) (a .rows ++ h) (partRows u ps) (omega arith) (omega arith)
+      ∙ ap (padded 0 (bracketLimit * rowSize)) (append-assoc (a .rows) h (padded 0 (partLimit * partSize) (partRows u ps))))
 
-  pub head-numbers : (i : ℕ) (m : ℤ) → i ≡ k * 5 + 4 → m ≡ given (scoreOf ps) millionths (pos 0) → set numbers i m ≡ numbersWith (a .masses ++ massesWith ps) (a .beyond)
+  pub head-numbers : (i : ℕ) (m : ℤ) → i ≡ massAt k partLimit → m ≡ given (scoreOf ps) millionths (pos 0) → set numbers i m ≡ numbersWith (a .masses ++ massesWith ps) (a .beyond)
   head-numbers i m e f =
       let ms = map massOfPart ps in
       let l3 = w .masses-long in
       let ln = length-map ps massOfPart in
-      let lq = padded-length (pos 0) 4 ms (omega arith) in
-      let lm = length-append (a .masses) (padded (pos 0) 4 ms) in
+      let lq = padded-length (pos 0) partLimit ms (omega arith) in
+      let lm = length-append (a .masses) (padded (pos 0) partLimit ms) in
       ap₂ (λ n x. set n i x) (w .numbers-are) f
-      ∙ ap (λ n. set (n ++ a .beyond) i (given (scoreOf ps) millionths (pos 0))) (absorb (pos 0) 320 4 (a .masses) ms (omega arith) (omega arith))
-      ∙ store-end (pos 0) 320 [] (a .masses ++ padded (pos 0) 4 ms) (a .beyond) (given (scoreOf ps) millionths (pos 0) ∷ []) i (omega arith) (omega arith)
-      ∙ ap (λ y. numbersWith y (a .beyond)) (append-assoc (a .masses) (padded (pos 0) 4 ms) (given (scoreOf ps) millionths (pos 0) ∷ []))
+      ∙ ap (λ n. set (n ++ a .beyond) i (given (scoreOf ps) millionths (pos 0))) (absorb (pos 0) numbersSize partLimit (a .masses) ms (omega arith) (omega arith))
+      ∙ store-end (pos 0) numbersSize [] (a .masses ++ padded (pos 0) partLimit ms) (a .beyond) (given (scoreOf ps) millionths (pos 0) ∷ []) i (omega arith) (omega arith)
+      ∙ ap (λ y. numbersWith y (a .beyond)) (append-assoc (a .masses) (padded (pos 0) partLimit ms) (given (scoreOf ps) millionths (pos 0) ∷ []))
+
+-- ---- what close does
+pub head-put : {bytes : List ℕ} {numbers : List ℤ} {k kind first last j : ℕ} {p : Parted} {refers : Bool} {m : ℤ} {bytes′ : List ℕ} {numbers′ : List ℤ}
+    → refers ≡ cond (eqb j 0) (p .refers) false → bytes′ ≡ sets bytes (rowAt k) (headRow kind first last 1 (j + 1) (p .code))
+    → numbers′ ≡ set numbers (massAt k partLimit) m → m ≡ p .mass → HeadPut bytes numbers k kind first last j p (Done (p .at) (p .texts) refers) bytes′ numbers′
+head-put {numbers = numbers} {k = k} {p = p} er eb en em =
+    record { done = ap (Done (p .at) (p .texts)) er; bytes-are = eb; numbers-are = en ∙ ap (set numbers (massAt k partLimit)) em }
 
 -- ---- what put_parts does
 pub same-mass : {line : List ℕ} {g : Opening} {ps : List (Part ℕ)} {at shut : ℕ} {refers : Bool} {k j t code : ℕ} {m m′ : ℤ} → m′ ≡ m
@@ -116,8 +124,8 @@ roomy-stored : {q : Part ℕ} {k j t : ℕ} {bytes : List ℕ} {numbers : List �
     → Roomy bytes numbers → Roomy bytes′ numbers′
 roomy-stored {q} {k} {j} {t} {bytes} {numbers} s r =
     record {
-      bytes-long = omega (arith, r .bytes-long, ap length (s .bytes-are), length-sets (sets bytes (2686 + t) (packed q)) (rowPlace k j) (partRow t q), length-sets bytes (2686 + t) (packed q));
-      numbers-long = omega (arith, r .numbers-long, ap length (s .numbers-are), length-set numbers (massPlace k j) (massIn (q .value)));
+      bytes-long = omega (arith, r .bytes-long, ap length (s .bytes-are), length-sets (sets bytes (textsAt + t) (packed q)) (partAt k j) (partRow t q), length-sets bytes (textsAt + t) (packed q));
+      numbers-long = omega (arith, r .numbers-long, ap length (s .numbers-are), length-set numbers (massAt k j) (massIn (q .value)));
     }
 
 -- what the step says, of the step that it was
@@ -126,8 +134,8 @@ pub said-of : (line : List ℕ) (g : Opening) (ps : List (Part ℕ)) (at shut k 
 said-of line g ps at shut k j t bytes numbers bytes′ numbers′ e s = subst (λ z. StepSays line g ps at shut k j t bytes numbers z bytes′ numbers′) e s
 
 pub closes : {line : List ℕ} {g : Opening} {ps : List (Part ℕ)} {at k j t : ℕ} {bytes : List ℕ} {numbers : List ℤ} {p : Parted} {bytes′ : List ℕ} {numbers′ : List ℤ}
-    → ClosedBy line g ps at k j t bytes numbers p bytes′ numbers′ → Roomy bytes numbers → CloseFits bytes′ numbers′ k j
-closes s r = record { few-brackets = s .stored .few-brackets; few-parts = s .stored .few-parts; roomy = roomy-stored (s .stored) r }
+    → ClosedBy line g ps at k j t bytes numbers p bytes′ numbers′ → Roomy bytes numbers → {first last : ℕ} → Positions first last → CloseFits bytes′ numbers′ k first last j
+closes s r f = record { few-brackets = s .stored .few-brackets; few-parts = s .stored .few-parts; positions = f; roomy = roomy-stored (s .stored) r }
 
 module _ {line : List ℕ} {g : Opening} {ps : List (Part ℕ)} {at shut k j t : ℕ} {bytes : List ℕ} {numbers : List ℤ} {p : Parted} {bytes′ : List ℕ} {numbers′ : List ℤ} where
   pub again : Stepped line g ps at shut k j t bytes numbers p bytes′ numbers′ → Roomy bytes numbers → {m : ℤ} → m ≡ p .mass
@@ -157,7 +165,7 @@ module _ {line : List ℕ} {g : Opening} {ps : List (Part ℕ)} {at shut k j t :
         in-line = s .in-line;
         texts-are = omega (arith, s .texts, b .texts);
         bytes-are = h .bytes-are ∙ head-bytes lay few-k (omega arith) kind first last (j + 1) (p .code) (omega arith) (s .score-code);
-        numbers-are = h .numbers-are ∙ head-numbers lay few-k (omega arith) (k * 5 + 4) (p .mass) refl (s .score-mass);
+        numbers-are = h .numbers-are ∙ head-numbers lay few-k (omega arith) (massAt k partLimit) (p .mass) refl (s .score-mass);
       } in
       subst (λ z. PutSays line g a at kind first last z bytes″ numbers″) (sym (h .done)) done
 

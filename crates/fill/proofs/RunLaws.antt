@@ -10,8 +10,10 @@ use Rattle.scope.specs.declared.grammar.Section.the-variants.{Plain}
 use Rattle.scope.specs.declared.grammar.Mode.the-variants.{Single}
 use Rattle.scope.specs.declared.grammar.Act.the-variants.{Residue as aResidue}
 use Rattle.scope.specs.Bytes.{upper, isLetter}
+use Rattle.scope.specs.Limits.{residueLimit}
 use Rattle.scope.specs.Line.{Line}
 use Rattle.scope.specs.Reading.{act}
+use Rattle.scope.specs.Layout.{bytesSize, lettersAt, sectionsAt, sectionCode}
 use Rattle.order.specs.Letters.{single-letter}
 use Rattle.fill.specs.declared.Progress.{Progress}
 use Rattle.fill.specs.Filled.{Filling, FilledOn, SomeRun, RunOn, grown}
@@ -32,11 +34,11 @@ module _ {line bytes₀ : List ℕ} {s r : Progress} {bytes : List ℕ} (w : Run
   acts : act (r .mode) (getD line (r .at) 0) ≡ aResidue Plain Single
   acts = ap (λ m. act m (getD line (r .at) 0)) (w .mode) ∙ single-letter _ letter
 
-  pub run-fits : SomeRun line s bytes₀ → (r .tables .residues < 254) × (6782 ≤ length bytes)
+  pub run-fits : SomeRun line s bytes₀ → (r .tables .residues < residueLimit) × (bytesSize ≤ length bytes)
   run-fits f = residue-fits (w .on .fills (f .filling)) more _ refl _ _ acts
 
   pub running-next : {q : Progress} {bytes′ : List ℕ} → q ≡ grown r (r .at + 1) Plain Single
-      → bytes′ ≡ set (set bytes (2 + r .tables .residues) (upper (getD line (r .at) 0))) (256 + r .tables .residues) 0 → length bytes′ ≡ length bytes → Running line s bytes₀ q bytes′
+      → bytes′ ≡ set (set bytes (lettersAt + r .tables .residues) (upper (getD line (r .at) 0))) (sectionsAt + r .tables .residues) (sectionCode Plain) → length bytes′ ≡ length bytes → Running line s bytes₀ q bytes′
   running-next e f n =
       record {
         mode = ap (λ x. x .mode) e;

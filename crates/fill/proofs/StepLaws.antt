@@ -18,7 +18,7 @@ use Rattle.scope.specs.Lists.{given, none?, flat}
 use Rattle.scope.specs.Content.{isReference, Context, begin, Content, lost, closed, going, partEnd, innerStep}
 use Rattle.scope.specs.Reading.{Held, withBracket, outside, inside, refers?, modeAfter, resume, stuck, holds}
 use Rattle.scope.specs.Tables.{millionths, scoreOf}
-use Rattle.scope.specs.Layout.{massIn, packed, partRow, scoreCode}
+use Rattle.scope.specs.Layout.{textsAt, partAt, massAt, massIn, packed, partRow, scoreCode}
 use Rattle.reading_laws.specs.Run.{rest, rest-dead}
 use Rattle.basics.specs.Each.{Each}
 use Rattle.accepted_laws.specs.Within.{PartWithin, Within}
@@ -33,7 +33,7 @@ use Rattle.fill.specs.declared.Parted.{Parted}
 use Rattle.fill.specs.declared.Step.{Step}
 use Rattle.fill.specs.declared.Step.the-variants.{Lost, More, Closed as Shut}
 use Rattle.fill.specs.Found.{textLength, textsOf, rowOf, codeAfter, massAfter, PartPut}
-use Rattle.fill.specs.Steps.{refersOf, rowPlace, massPlace, FoundFits, partedOf, stepOf, FoundPut, Opening, contextIn, bracketsIn, textsIn, Begun, Roomy, PartStored, Stepped, ClosedBy, StepSays}
+use Rattle.fill.specs.Steps.{refersOf, FoundFits, partedOf, stepOf, FoundPut, Opening, contextIn, bracketsIn, textsIn, Begun, Roomy, PartStored, Stepped, ClosedBy, StepSays}
 use Rattle.fill.specs.States.{Settled}
 use Rattle.fill.proofs.Bounded.{HeldKept, PartsKept, StateKept, Closed, closed-kept, each-right}
 use Rattle.fill.proofs.Settled.{rest-kept, closed-settled}
@@ -41,7 +41,7 @@ use Rattle.fill.proofs.FoundLaws.{found-texts, found-length, found-row,
 
 -- ---- what put_found answers
 pub found-put : {line bytes : List ℕ} {numbers : List ℤ} {p : PartRead} {shut k j t code : ℕ} {mass : ℤ} {x c : ℕ} {m : ℤ} {b : Bool} {bytes′ : List ℕ} {numbers′ : List ℤ}
-    → PartPut line bytes numbers (p .value) (p .key) (p .label) (p .ends) (rowPlace k j) (massPlace k j) t x bytes′ numbers′
+    → PartPut line bytes numbers (p .value) (p .key) (p .label) (p .ends) k j t x bytes′ numbers′
     → c ≡ codeAfter code (p .score) → m ≡ massAfter code mass (p .score) → b ≡ refersOf (p .value)
     → (f : Parted → Step) → stepOf line p shut t code mass ≡ f (partedOf p t code mass)
     → FoundPut line bytes numbers p shut k j t code mass (f (record { at = p .next + 1; texts = x; code = c; mass = m; refers = b })) bytes′ numbers′
@@ -161,9 +161,7 @@ module _ {line : List ℕ} {g : Opening} {ps : List (Part ℕ)} {at shut : ℕ} 
         let e = kept .texts in
         let f = all-texts in
         record {
-          few-brackets = omega arith;
-          few-parts = omega arith;
-          puts = found-fits (reads .is) within-part bytes numbers (rowPlace k j) (massPlace k j) t (omega arith) (room .bytes-long) (omega arith) (omega (arith, room .numbers-long));
+          puts = found-fits (reads .is) within-part bytes numbers k j t (omega arith) (omega arith) (omega arith) (room .bytes-long) (room .numbers-long);
           score = found-score (reads .is) within-part .few;
           inside = reads .inside;
         }
@@ -181,8 +179,8 @@ module _ {line : List ℕ} {g : Opening} {ps : List (Part ℕ)} {at shut : ℕ} 
           few-brackets = omega arith;
           few-parts = omega arith;
           room = omega arith;
-          bytes-are = h .bytes-are ∙ ap₂ (λ a b. sets (sets bytes (2686 + t) a) (rowPlace k j) b) (found-texts (reads .is) within-part) (found-row (reads .is) within-part t);
-          numbers-are = h .numbers-are ∙ ap (set numbers (massPlace k j)) (found-mass (reads .is) within-part);
+          bytes-are = h .bytes-are ∙ ap₂ (λ a b. sets (sets bytes (textsAt + t) a) (partAt k j) b) (found-texts (reads .is) within-part) (found-row (reads .is) within-part t);
+          numbers-are = h .numbers-are ∙ ap (set numbers (massAt k j)) (found-mass (reads .is) within-part);
         }
 
     texts-next : t + (textLength (r .value) + (r .ends - r .label)) ≡ t + length (packed q)

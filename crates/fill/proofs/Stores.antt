@@ -1,7 +1,7 @@
--- Stores into lists: zeros from the front on, a copy, numbers in a row.
-use mathlib.Core.Path.{_≡_, refl, sym, ap, _∙_}
+-- Stores into lists: zeros from the front on, a copy, brackets marked.
+use mathlib.Core.Path.{_≡_, refl, sym, ap, ap₂, _∙_}
 use mathlib.Core.List.{List, [], _∷_, _++_, append-assoc}
-use Prim.Native.Nat.{ℕ, suc, _+_, _-_, _*_, _^_, _≤_, _<_}
+use Prim.Native.Nat.{ℕ, suc, _+_, _-_, _^_, _≤_, _<_}
 use lib.IntN.{ℤ}
 use lib.Signed.{mag}
 use mir.Syntax.{w64}
@@ -12,7 +12,11 @@ use native.Mathlib.Numerals.{add-one}
 use native.Mathlib.Omega.{arith}
 use lib.ListN.{length, getD, take, drop, set, replicate, length-append, length-take, length-drop, length-set, length-replicate, replicate-append-replicate}
 use lib.Seq.{drop-cons, set-at, sets, getD-drop, take-suc}
+use Rattle.scope.specs.declared.grammar.Kind.the-variants.{NTerm}
+use Rattle.scope.specs.Limits.{bracketLimit}
 use Rattle.scope.specs.Lists.{part}
+use Rattle.scope.specs.Kinds.{kindCode}
+use Rattle.scope.specs.Layout.{bytesSize, rowAt}
 use Rattle.fill.specs.Found.{Copies}
 use Rattle.fill.specs.Filled.{marked}
 
@@ -124,25 +128,6 @@ module _ {d : List ℕ} {n : ℕ} {s : List ℕ} {a b i j : ℕ} {cur : List ℕ
       let e : i - a ≡ b - a = omega (arith, h .from, h .upto) in
       h .is ∙ ap (λ k. sets d n (part a k s)) e
 
--- ---- stores in a row
-module _ {A : Type 0} (d : List A) (n : ℕ) where
-  pub stores6 : (a b c e f g : A)
-      → set (set (set (set (set (set d n a) (n + 1) b) (n + 2) c) (n + 3) e) (n + 4) f) (n + 5) g ≡ sets d n (a ∷ b ∷ c ∷ e ∷ f ∷ g ∷ [])
-  stores6 a b c e f g =
-      let p1 : n + 1 ≡ suc n = omega arith in
-      let p2 : n + 2 ≡ suc (suc n) = omega arith in
-      let p3 : n + 3 ≡ suc (suc (suc n)) = omega arith in
-      let p4 : n + 4 ≡ suc (suc (suc (suc n))) = omega arith in
-      let p5 : n + 5 ≡ suc (suc (suc (suc (suc n)))) = omega arith in
-      rw (p1, p2, p3, p4, p5)
-
-  pub stores7 : (a b c e f g h : A)
-      → set (set (set (set (set (set (set d n a) (n + 1) b) (n + 2) c) (n + 3) e) (n + 4) f) (n + 5) g) (n + 6) h
-      ≡ sets d n (a ∷ b ∷ c ∷ e ∷ f ∷ g ∷ h ∷ [])
-  stores7 a b c e f g h =
-      let p6 : n + 6 ≡ suc (suc (suc (suc (suc (suc n))))) = omega arith in
-      ap (λ l. set l (n + 6) h) (stores6 a b c e f g) ∙ ap (λ i. set (sets d n (a ∷ b ∷ c ∷ e ∷ f ∷ g ∷ [])) i h) p6
-
 -- a number that was handed over
 pub back : (r : ℤ) {z : ℤ} → mag r < 2 ^ hbits w64 → r ≡ z → toZ w64 (ofZ w64 r) ≡ z
 back r h e = toZ-ofZ {w = w64} {z = r} (record { sfits = h }) ∙ e
@@ -150,25 +135,25 @@ back r h e = toZ-ofZ {w = w64} {z = r} (record { sfits = h }) ∙ e
 -- ---- brackets marked, up to the n-th
 pub record Marking (d : List ℕ) (from n i : ℕ) (cur : List ℕ) : Type 0 where
   pub upto : i ≤ n
-  pub few : from + n ≤ 64
-  pub size : 6782 ≤ length d
+  pub few : from + n ≤ bracketLimit
+  pub size : bytesSize ≤ length d
   pub long : length cur ≡ length d
   pub is : cur ≡ marked d from i
 
-pub marking-start : (d : List ℕ) (from n : ℕ) → (from + n ≤ 64) × (6782 ≤ length d) → Marking d from n 0 d
+pub marking-start : (d : List ℕ) (from n : ℕ) → (from + n ≤ bracketLimit) × (bytesSize ≤ length d) → Marking d from n 0 d
 unfolding marked
 marking-start d from n h = record { upto = omega arith; few = h .0; size = h .1; long = refl; is = refl }
 
 module _ {d : List ℕ} {from n i : ℕ} {cur : List ℕ} (h : Marking d from n i cur) where
-  pub marking-next : i < n → Marking d from n (i + 1) (set cur (510 + (from + i) * 34) 3)
+  pub marking-next : {cur′ : List ℕ} {x : ℕ} → i < n → cur′ ≡ set cur (rowAt (from + i)) x → x ≡ kindCode NTerm → Marking d from n (i + 1) cur′
   unfolding marked
-  marking-next l =
+  marking-next {cur′} {x} l e f =
       record {
         upto = omega arith;
         few = h .few;
         size = h .size;
-        long = length-set cur (510 + (from + i) * 34) 3 ∙ h .long;
-        is = ap (λ x. set x (510 + (from + i) * 34) 3) (h .is) ∙ ap (marked d from) (sym (add-one i));
+        long = ap length e ∙ length-set cur (rowAt (from + i)) x ∙ h .long;
+        is = e ∙ ap₂ (λ y z. set y (rowAt (from + i)) z) (h .is) f ∙ ap (marked d from) (sym (add-one i));
       }
 
   pub marking-end : n ≤ i → cur ≡ marked d from n

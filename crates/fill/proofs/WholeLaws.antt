@@ -1,16 +1,18 @@
 -- The areas when nothing is read, and when the whole line is.
 use mathlib.Core.Path.{_≡_, refl, sym, ap, ap₂, subst, _∙_}
-use mathlib.Core.List.{List, [], _∷_, _++_, map, append-assoc, append-nil}
+use mathlib.Core.List.{List, [], _++_, map, append-assoc, append-nil}
 use Prim.Native.Nat.{ℕ, _+_, _-_, _*_, _≤_, _<_}
 use native.Mathlib.Omega.{arith}
 use lib.IntN.{ℤ, pos}
-use lib.ListN.{length, take, drop, set, replicate, take-append-drop, replicate-append-replicate}
+use lib.ListN.{length, take, drop, replicate, take-append-drop, replicate-append-replicate}
+use lib.Seq.{sets}
 use Rattle.scope.specs.declared.grammar.Mode.{Mode}
+use Rattle.scope.specs.Limits.{lineLimit, residueLimit, bracketLimit}
 use Rattle.scope.specs.Line.{Bracket, Line}
 use Rattle.scope.specs.Reading.{Held, nothing, start, outside, reading, holds, ended, lineOf}
 use Rattle.scope.specs.Lists.{flat, padded, laid}
 use Rattle.scope.specs.Refusals.{outcome, accepted}
-use Rattle.scope.specs.Layout.{sectionCode, bracketTexts, rows, numberRow, bytesOf, numbersOf}
+use Rattle.scope.specs.Layout.{rowSize, residuesAt, lettersAt, bytesSize, numbersSize, sectionCode, bracketTexts, rows, countsRow, bytesOf, numberRow, numbersOf}
 use Rattle.reading_laws.specs.Run.{rest, rest-start, rest-end}
 use Rattle.reading_laws.specs.Precedence.{accepted-law}
 use Rattle.accepted_laws.specs.Within.{Within}
@@ -56,54 +58,58 @@ start-fills {line} {bytes} {numbers} f l e =
       in-line = omega arith;
       counts = record { residues-are = refl; brackets-are = refl; texts-are = refl; run-is = refl; first-is = refl; first-few = omega arith; count-is = refl };
       bytes-are =
-          sym (take-append-drop 6782 bytes)
-          ∙ ap (λ x. x ++ drop 6782 bytes) (f .bytes-zero)
-          ∙ zero-pieces 0 (0 ∷ 0 ∷ []) (drop 6782 bytes) 2 254 2176 4096 6782 refl refl;
-      numbers-are = sym (take-append-drop 320 numbers) ∙ ap (λ x. x ++ drop 320 numbers) (f .numbers-zero);
+          sym (take-append-drop bytesSize bytes)
+          ∙ ap (λ x. x ++ drop bytesSize bytes) (f .bytes-zero)
+          ∙ zero-pieces 0 (countsRow 0 0) (drop bytesSize bytes) lettersAt residueLimit (bracketLimit * rowSize) lineLimit bytesSize refl refl;
+      numbers-are = sym (take-append-drop numbersSize numbers) ∙ ap (λ x. x ++ drop numbersSize numbers) (f .numbers-zero);
       roomy = record { bytes-long = f .bytes-long; numbers-long = f .numbers-long };
     }
 
 -- ---- at the end
-bytes-held : (h : Held ℕ) (old : List ℕ) → h .run ≡ [] → set (set (bytesFor h old) 0 (length (h .residues))) 1 (length (h .brackets)) ≡ bytesOf (lineOf h) ++ drop 6782 old
+bytes-held : (h : Held ℕ) (old : List ℕ) → h .run ≡ []
+    → sets (bytesFor h old) residuesAt (countsRow (length (h .residues)) (length (h .brackets))) ≡ bytesOf (lineOf h) ++ drop bytesSize old
 unfolding bytesOf
 bytes-held h old e =
     let g : allOf h ≡ h .brackets = ap (λ x. h .brackets ++ x) e ∙ append-nil (h .brackets) in
-    ap (λ ks. (length (h .residues) ∷ length (h .brackets) ∷ (padded 0 254 (lettersFor h) ++ padded 0 254 (sectionsFor h)))
-    ++ (padded 0 2176 (rows 0 ks) ++ (padded 0 4096 (flat bracketTexts ks) ++ drop 6782 old))) g
-    ∙ ap (λ x. length (h .residues) ∷ length (h .brackets) ∷ x)
-    (regroup (padded 0 254 (lettersFor h)) (padded 0 254 (sectionsFor h)) (padded 0 2176 (rows 0 (h .brackets))) (padded 0 4096 (flat bracketTexts (h .brackets))) (drop 6782 old))
+    let n = countsRow (length (h .residues)) (length (h .brackets)) in
+    ap (λ ks. (n ++ (padded 0 residueLimit (lettersFor h) ++ padded 0 residueLimit (sectionsFor h)))
+    ++ (padded 0 (bracketLimit * rowSize) (rows 0 ks) ++ (padded 0 lineLimit (flat bracketTexts ks) ++ drop bytesSize old))) g
+    ∙ ap (λ x. n ++ x)
+    (regroup (padded 0 residueLimit (lettersFor h)) (padded 0 residueLimit (sectionsFor h)) (padded 0 (bracketLimit * rowSize) (rows 0 (h .brackets)))
+    (padded 0 lineLimit (flat bracketTexts (h .brackets))) (drop bytesSize old))
   where
     regroup : (a b c d r : List ℕ) → (a ++ b) ++ (c ++ (d ++ r)) ≡ (a ++ (b ++ (c ++ d))) ++ r
     regroup a b c d r = simp append-assoc
 
-numbers-held : (h : Held ℕ) (old : List ℤ) → h .run ≡ [] → numbersFor h old ≡ numbersOf (lineOf h) ++ drop 320 old
+numbers-held : (h : Held ℕ) (old : List ℤ) → h .run ≡ [] → numbersFor h old ≡ numbersOf (lineOf h) ++ drop numbersSize old
 unfolding numbersOf
-numbers-held h old e = ap (λ ks. padded (pos 0) 320 (flat numberRow ks) ++ drop 320 old) (ap (λ x. h .brackets ++ x) e ∙ append-nil (h .brackets))
+numbers-held h old e = ap (λ ks. padded (pos 0) numbersSize (flat numberRow ks) ++ drop numbersSize old) (ap (λ x. h .brackets ++ x) e ∙ append-nil (h .brackets))
 
 module _ {line : List ℕ} {l : Line ℕ} {old : List ℕ} {oldNumbers : List ℤ} {s : Progress} {bytes : List ℕ} {numbers : List ℤ}
     (w : Filling line l old oldNumbers s bytes numbers) where
-  pub small-counts : (s .tables .residues ≤ 254) × (s .tables .brackets ≤ 64)
+  pub small-counts : (s .tables .residues ≤ residueLimit) × (s .tables .brackets ≤ bracketLimit)
   small-counts =
       let k = kept-now w in
       (omega (arith, k .few-residues, w .counts .residues-are), omega (arith, k .few-brackets, w .counts .brackets-are))
 
-  pub end-fills : length line ≤ s .at → FilledAll old oldNumbers (set (set bytes 0 (s .tables .residues)) 1 (s .tables .brackets)) numbers l
-  end-fills over =
+  pub end-fills : length line ≤ s .at → {bytes′ : List ℕ} → bytes′ ≡ sets bytes residuesAt (countsRow (s .tables .residues) (s .tables .brackets)) → FilledAll old oldNumbers bytes′ numbers l
+  end-fills over f =
       let h = w .held in
       let e = ends-as (length line) (s .mode) h l (sym (rest-end line (s .at) (outside (s .mode) h) over) ∙ w .reads) in
       let n = none-waits (s .mode) h l (w .settled) e in
       let k : length (h .brackets) ≡ s .tables .brackets = omega (arith, w .counts .brackets-are, ap length n) in
       record {
         bytes-are =
-            ap₂ (λ x y. set (set x 0 (s .tables .residues)) 1 y) (w .bytes-are) (sym k)
-            ∙ ap (λ x. set (set (bytesFor h old) 0 x) 1 (length (h .brackets))) (sym (w .counts .residues-are))
+            f
+            ∙ ap (λ x. sets x residuesAt (countsRow (s .tables .residues) (s .tables .brackets))) (w .bytes-are)
+            ∙ ap₂ (λ x y. sets (bytesFor h old) residuesAt (countsRow x y)) (sym (w .counts .residues-are)) (sym k)
             ∙ bytes-held h old n
-            ∙ ap (λ x. bytesOf x ++ drop 6782 old) (e .line)
+            ∙ ap (λ x. bytesOf x ++ drop bytesSize old) (e .line)
             ∙ ap (λ x. bytesOf l ++ drop x old) (sym (bytes-length l (w .within)));
         numbers-are =
             w .numbers-are
             ∙ numbers-held h oldNumbers n
-            ∙ ap (λ x. numbersOf x ++ drop 320 oldNumbers) (e .line)
+            ∙ ap (λ x. numbersOf x ++ drop numbersSize oldNumbers) (e .line)
             ∙ ap (λ x. numbersOf l ++ drop x oldNumbers) (sym (numbers-length l (w .within)));
       }
 

@@ -13,13 +13,15 @@ use Rattle.scope.specs.declared.grammar.Kind.the-variants.{Unknown, Labile, NTe
 use Rattle.scope.specs.declared.grammar.Mode.{Mode}
 use Rattle.scope.specs.declared.grammar.Mode.the-variants.{Front, Single}
 use Rattle.scope.specs.declared.grammar.Slot.{Slot}
-use Rattle.scope.specs.Bytes.{upper}
+use Rattle.scope.specs.Bytes.{value}
+use Rattle.scope.specs.Limits.{residueLimit, bracketLimit, countLimit}
 use Rattle.scope.specs.Line.{Bracket, Line}
 use Rattle.scope.specs.Lists.{given, flat, padded, laid}
 use Rattle.scope.specs.Content.{begin}
 use Rattle.scope.specs.Reading.{Held, firstOf, outside, inside, holds}
 use Rattle.scope.specs.Refusals.{outcome, accepted}
-use Rattle.scope.specs.Layout.{sectionCode, bracketTexts, rows, numberRow, bytesOf, numbersOf, bytesSize, numbersSize}
+use Rattle.scope.specs.Kinds.{kindCode}
+use Rattle.scope.specs.Layout.{bytesSize, numbersSize, rowAt, countAt, sectionCode, bracketTexts, rows, countsRow, bytesOf, numberRow, numbersOf}
 use Rattle.reading_laws.specs.Run.{rest}
 use Rattle.accepted_laws.specs.Within.{Within}
 use Rattle.fill.specs.declared.Progress.{Progress}
@@ -38,13 +40,13 @@ abbrev pub sectionsFor : Held ℕ → List ℕ
 sectionsFor h = map (λ r. sectionCode (r .section)) (h .residues)
 
 abbrev pub frontWith : List ℕ → List ℕ → List ℕ
-frontWith letters sections = (0 ∷ 0 ∷ []) ++ (padded 0 254 letters ++ padded 0 254 sections)
+frontWith letters sections = countsRow 0 0 ++ (padded 0 residueLimit letters ++ padded 0 residueLimit sections)
 
 abbrev pub bytesFor : Held ℕ → List ℕ → List ℕ
-bytesFor h old = areaWith (frontWith (lettersFor h) (sectionsFor h)) (rows 0 (allOf h)) (flat bracketTexts (allOf h)) (drop 6782 old)
+bytesFor h old = areaWith (frontWith (lettersFor h) (sectionsFor h)) (rows 0 (allOf h)) (flat bracketTexts (allOf h)) (drop bytesSize old)
 
 abbrev pub numbersFor : Held ℕ → List ℤ → List ℤ
-numbersFor h old = numbersWith (flat numberRow (allOf h)) (drop 320 old)
+numbersFor h old = numbersWith (flat numberRow (allOf h)) (drop numbersSize old)
 
 -- the count so far of the last bracket at the front
 abbrev pub countOf : Bracket ℕ → ℕ
@@ -147,7 +149,7 @@ countedTo s next m c =
 -- brackets from one to another are N-terminal
 unfoldable pub marked : List ℕ → ℕ → ℕ → List ℕ
 marked bytes from zero = bytes
-marked bytes from (suc n) = set (marked bytes from n) (510 + (from + n) * 34) 3
+marked bytes from (suc n) = set (marked bytes from n) (rowAt (from + n)) (kindCode NTerm)
 
 abbrev pub runAfter : Kind → ℕ → ℕ
 runAfter Unknown n = n + 1
@@ -169,20 +171,20 @@ countAfter CTerm n = n
 pub record DigitFits (bytes : List ℕ) (s : Progress) (b : ℕ) : Type 0 where
   pub digit : 48 ≤ b
   pub few-run : s .run ≤ s .tables .brackets
-  pub few-brackets : s .tables .brackets ≤ 64
-  pub count : (s .run ≡ 0 → ⊥) → s .count * 10 + (b - 48) ≤ 99
-  pub size : 6782 ≤ length bytes
+  pub few-brackets : s .tables .brackets ≤ bracketLimit
+  pub count : (s .run ≡ 0 → ⊥) → s .count * 10 + value b ≤ countLimit
+  pub size : bytesSize ≤ length bytes
 
 abbrev pub nextCount : Progress → ℕ → ℕ
-nextCount s b = cond (eqb (s .run) 0) (s .count) (s .count * 10 + (b - 48))
+nextCount s b = cond (eqb (s .run) 0) (s .count) (s .count * 10 + value b)
 
 abbrev pub countPut : List ℕ → Progress → ℕ → List ℕ
-countPut bytes s b = cond (eqb (s .run) 0) bytes (set bytes (510 + (s .tables .brackets - 1) * 34 + 3) (s .count * 10 + (b - 48)))
+countPut bytes s b = cond (eqb (s .run) 0) bytes (set bytes (countAt (s .tables .brackets - 1)) (s .count * 10 + value b))
 
 pub record TermsFit (bytes : List ℕ) (s : Progress) : Type 0 where
   pub few-run : s .run ≤ s .tables .brackets
-  pub few-brackets : s .tables .brackets ≤ 64
-  pub size : 6782 ≤ length bytes
+  pub few-brackets : s .tables .brackets ≤ bracketLimit
+  pub size : bytesSize ≤ length bytes
 
 -- nothing is read yet
 abbrev pub fresh : Progress

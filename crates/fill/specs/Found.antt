@@ -1,16 +1,18 @@
 -- What a part that was found puts into the areas.
 use mathlib.Core.Path.{_≡_}
 use mathlib.Core.Bool.{cond}
-use mathlib.Core.List.{List, [], _∷_, _++_}
-use Prim.Native.Nat.{ℕ, _+_, _-_, _/_, _%_, _<_, _≤_}
+use mathlib.Core.List.{List, _++_}
+use Prim.Native.Nat.{ℕ, _+_, _-_, _<_, _≤_}
 use lib.Dec.{eqb}
 use lib.IntN.{ℤ, pos}
 use lib.ListN.{length, set}
 use lib.Seq.{sets}
 use Rattle.scope.specs.declared.grammar.Key.{Key}
 use Rattle.scope.specs.declared.tables.Number.{Number}
+use Rattle.scope.specs.Limits.{lineLimit, bracketLimit, partLimit, textLimit, labelLimit, decimalLimit}
 use Rattle.scope.specs.Keys.{keyCode}
 use Rattle.scope.specs.Lists.{part}
+use Rattle.scope.specs.Layout.{bytesSize, numbersSize, textsAt, partAt, massAt, massCode, textCode, referenceCode, partFields}
 use Rattle.parts.specs.declared.Value.{Value}
 use Rattle.parts.specs.declared.Value.the-variants.{Mass, Wide, Text, Reference}
 use Rattle.parts.specs.declared.Score.{Score}
@@ -24,10 +26,10 @@ pub record Copies (bytes : List ℕ) (to : ℕ) (line : List ℕ) (from end : �
 
 -- ---- a value
 abbrev pub codeOf : Value → ℕ
-codeOf (Mass n) = 1
-codeOf Wide = 1
-codeOf (Text a e) = 2
-codeOf Reference = 3
+codeOf (Mass n) = massCode
+codeOf Wide = massCode
+codeOf (Text a e) = textCode
+codeOf Reference = referenceCode
 
 -- its mass, zero where it has none
 abbrev nought : Number
@@ -64,31 +66,31 @@ offsetOf n t = cond (eqb n 0) 0 t
 
 abbrev pub rowOf : ℕ → Value → Key → ℕ → ℕ → List ℕ
 rowOf t v key label ends =
-    codeOf v ∷ keyCode key ∷ numberOf v .decimals ∷ textLength v ∷ (ends - label)
-    ∷ offsetOf (textLength v + (ends - label)) t % 256 ∷ offsetOf (textLength v + (ends - label)) t / 256 ∷ []
+    partFields (codeOf v) (keyCode key) (numberOf v .decimals) (textLength v) (ends - label) (offsetOf (textLength v + (ends - label)) t)
 
--- the part's row at a place, its mass at a place, its texts behind t others
-pub record PutsPart (line bytes : List ℕ) (numbers : List ℤ) (v : Value) (label ends at number t : ℕ) : Type 0 where
+-- the row and the mass of the part j of the bracket k, its texts behind t others
+pub record PutsPart (line bytes : List ℕ) (numbers : List ℤ) (v : Value) (label ends k j t : ℕ) : Type 0 where
   pub text-order : fromOf v ≤ toOf v
   pub text-inside : fromOf v < toOf v → toOf v ≤ length line
-  pub short-text : textLength v ≤ 128
+  pub short-text : textLength v ≤ textLimit
   pub label-order : label ≤ ends
   pub label-inside : label < ends → ends ≤ length line
-  pub short-label : ends - label ≤ 16
-  pub room : t + (textLength v + (ends - label)) ≤ 4096
-  pub size : 6782 ≤ length bytes
-  pub row : at + 7 ≤ 2686
-  pub mass : number < length numbers
+  pub short-label : ends - label ≤ labelLimit
+  pub room : t + (textLength v + (ends - label)) ≤ lineLimit
+  pub few-brackets : k < bracketLimit
+  pub few-parts : j < partLimit
+  pub bytes-long : bytesSize ≤ length bytes
+  pub numbers-long : numbersSize ≤ length numbers
 
-pub record PartPut (line bytes : List ℕ) (numbers : List ℤ) (v : Value) (key : Key) (label ends at number t r : ℕ) (bytes′ : List ℕ) (numbers′ : List ℤ) : Type 0 where
+pub record PartPut (line bytes : List ℕ) (numbers : List ℤ) (v : Value) (key : Key) (label ends k j t r : ℕ) (bytes′ : List ℕ) (numbers′ : List ℤ) : Type 0 where
   pub next : r ≡ t + (textLength v + (ends - label))
-  pub bytes-are : bytes′ ≡ sets (sets bytes (2686 + t) (textsOf line v label ends)) at (rowOf t v key label ends)
-  pub numbers-are : numbers′ ≡ set numbers number (numberOf v .millionths)
+  pub bytes-are : bytes′ ≡ sets (sets bytes (textsAt + t) (textsOf line v label ends)) (partAt k j) (rowOf t v key label ends)
+  pub numbers-are : numbers′ ≡ set numbers (massAt k j) (numberOf v .millionths)
 
 -- ---- a score: what there is before goes first
 abbrev pub FewDecimals : Score → Type 0
 FewDecimals Unscored = Unit {0}
-FewDecimals (Scored n) = n .decimals ≤ 6
+FewDecimals (Scored n) = n .decimals ≤ decimalLimit
 FewDecimals WideScore = Unit {0}
 
 abbrev pub scoreCodeOf : Score → ℕ

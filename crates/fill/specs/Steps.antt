@@ -2,18 +2,19 @@
 use mathlib.Core.Path.{_≡_}
 use mathlib.Core.Bool.{Bool, true, false, cond, _&&_}
 use mathlib.Core.List.{List, [], _∷_, _++_}
-use Prim.Native.Nat.{ℕ, _+_, _-_, _*_, _<_, _≤_}
+use Prim.Native.Nat.{ℕ, _+_, _-_, _<_, _≤_}
 use lib.Dec.{eqb}
 use lib.IntN.{ℤ, pos}
 use lib.ListN.{length, getD, set}
 use lib.Seq.{sets}
 use Rattle.scope.specs.declared.grammar.Slot.{Slot}
+use Rattle.scope.specs.Limits.{lineLimit, bracketLimit, partLimit}
 use Rattle.scope.specs.Line.{Part, Line}
 use Rattle.scope.specs.Lists.{given, none?, flat}
 use Rattle.scope.specs.Content.{isReference, Context, begin}
 use Rattle.scope.specs.Reading.{Held, withBracket, outside, inside, refers?, modeAfter, holds}
 use Rattle.scope.specs.Tables.{millionths, scoreOf}
-use Rattle.scope.specs.Layout.{massIn, packed, partRow, scoreCode, bracketTexts}
+use Rattle.scope.specs.Layout.{bytesSize, numbersSize, textsAt, partAt, massAt, massIn, packed, partRow, scoreCode, bracketTexts}
 use Rattle.reading_laws.specs.Run.{rest}
 use Rattle.accepted_laws.specs.Within.{Within}
 use Rattle.parts.specs.declared.Value.{Value}
@@ -32,17 +33,8 @@ refersOf Wide = false
 refersOf (Text a e) = false
 refersOf Reference = true
 
--- where the row and the mass of the part j of the bracket k stand
-abbrev pub rowPlace : ℕ → ℕ → ℕ
-rowPlace k j = 516 + k * 34 + j * 7
-
-abbrev pub massPlace : ℕ → ℕ → ℕ
-massPlace k j = k * 5 + j
-
 pub record FoundFits (line bytes : List ℕ) (numbers : List ℤ) (p : PartRead) (k j t : ℕ) : Type 0 where
-  pub few-brackets : k < 64
-  pub few-parts : j < 4
-  pub puts : PutsPart line bytes numbers (p .value) (p .label) (p .ends) (rowPlace k j) (massPlace k j) t
+  pub puts : PutsPart line bytes numbers (p .value) (p .label) (p .ends) k j t
   pub score : FewDecimals (p .score)
   pub inside : p .next < length line
 
@@ -62,8 +54,8 @@ stepOf line p shut t code mass =
 
 pub record FoundPut (line bytes : List ℕ) (numbers : List ℤ) (p : PartRead) (shut k j t code : ℕ) (mass : ℤ) (r : Step) (bytes′ : List ℕ) (numbers′ : List ℤ) : Type 0 where
   pub step : r ≡ stepOf line p shut t code mass
-  pub bytes-are : bytes′ ≡ sets (sets bytes (2686 + t) (textsOf line (p .value) (p .label) (p .ends))) (rowPlace k j) (rowOf t (p .value) (p .key) (p .label) (p .ends))
-  pub numbers-are : numbers′ ≡ set numbers (massPlace k j) (numberOf (p .value) .millionths)
+  pub bytes-are : bytes′ ≡ sets (sets bytes (textsAt + t) (textsOf line (p .value) (p .label) (p .ends))) (partAt k j) (rowOf t (p .value) (p .key) (p .label) (p .ends))
+  pub numbers-are : numbers′ ≡ set numbers (massAt k j) (numberOf (p .value) .millionths)
 
 -- ---- a bracket of which some parts are read
 -- what stays while it is read
@@ -98,8 +90,8 @@ pub record Begun (line : List ℕ) (g : Opening) (ps : List (Part ℕ)) (at shut
 
 -- the areas have room
 pub record Roomy (bytes : List ℕ) (numbers : List ℤ) : Type 0 where
-  pub bytes-long : 6782 ≤ length bytes
-  pub numbers-long : 320 ≤ length numbers
+  pub bytes-long : bytesSize ≤ length bytes
+  pub numbers-long : numbersSize ≤ length numbers
 
 pub record Starts (line bytes : List ℕ) (numbers : List ℤ) (at shut : ℕ) (refers : Bool) (k j t code : ℕ) (mass : ℤ) : Type 0 where
   pub opening : Opening
@@ -109,11 +101,11 @@ pub record Starts (line bytes : List ℕ) (numbers : List ℤ) (at shut : ℕ) (
 
 -- one part more
 pub record PartStored (q : Part ℕ) (k j t : ℕ) (bytes : List ℕ) (numbers : List ℤ) (bytes′ : List ℕ) (numbers′ : List ℤ) : Type 0 where
-  pub few-brackets : k < 64
-  pub few-parts : j < 4
-  pub room : t + length (packed q) ≤ 4096
-  pub bytes-are : bytes′ ≡ sets (sets bytes (2686 + t) (packed q)) (rowPlace k j) (partRow t q)
-  pub numbers-are : numbers′ ≡ set numbers (massPlace k j) (massIn (q .value))
+  pub few-brackets : k < bracketLimit
+  pub few-parts : j < partLimit
+  pub room : t + length (packed q) ≤ lineLimit
+  pub bytes-are : bytes′ ≡ sets (sets bytes (textsAt + t) (packed q)) (partAt k j) (partRow t q)
+  pub numbers-are : numbers′ ≡ set numbers (massAt k j) (massIn (q .value))
 
 pub record Stepped (line : List ℕ) (g : Opening) (ps : List (Part ℕ)) (at shut k j t : ℕ) (bytes : List ℕ) (numbers : List ℤ) (p : Parted) (bytes′ : List ℕ) (numbers′ : List ℤ) : Type 0 where
   pub part : Part ℕ

@@ -12,15 +12,16 @@ use scope::grammar::Slot;
 use scope::tables::Number;
 use scope::tables::Tables;
 ghost use mathlib.Core.Path.{_≡_};
-ghost use Prim.Native.Nat.{ℕ, _+_, _-_, _*_, _/_, _%_, _<_, _≤_};
+ghost use Prim.Native.Nat.{ℕ, _+_, _-_, _<_, _≤_};
 ghost use mathlib.Core.Bool.{false, cond};
 ghost use lib.Dec.{eqb};
-ghost use mathlib.Core.List.{List, [], _∷_, _++_};
+ghost use mathlib.Core.List.{List, _++_};
 ghost use lib.IntN.{ℤ, pos};
-ghost use lib.ListN.{length, take, drop, set, replicate};
+ghost use lib.ListN.{length, drop, set, replicate};
 ghost use lib.Seq.{sets};
 ghost use Rattle.scope.specs.Kinds.{kindCode};
-ghost use Rattle.scope.specs.Layout.{bytesSize, numbersSize, sectionCode};
+ghost use Rattle.scope.specs.Limits.{residueLimit, bracketLimit};
+ghost use Rattle.scope.specs.Layout.{bytesSize, numbersSize, lettersAt, sectionsAt, sectionCode};
 ghost use Rattle.scope.specs.Lists.{part};
 ghost use Rattle.scope.specs.Line.{Part, Line};
 ghost use Rattle.fill.specs.Steps.{refersOf, FoundFits, FoundPut, Opening, textsIn, Begun, Starts, StepSays};
@@ -28,7 +29,7 @@ ghost use Rattle.scope.specs.Bytes.{upper};
 ghost use Rattle.scope.specs.Reading.{firstOf, firstPosition, lastPosition};
 ghost use Rattle.scope.specs.Refusals.{outcome, accepted};
 ghost use Rattle.fill.specs.Filled.{SomeFilling, Filling, SomeOpened, Opened, FilledOn, SomeRun, RunOn, moved, grown, runOver, countedTo, marked, runAfter, countAfter, DigitFits, nextCount, countPut, TermsFit, Fills, FilledAll, fresh};
-ghost use Rattle.fill.specs.Areas.{Before, Laid, CloseFits, HeadPut, PutSays};
+ghost use Rattle.fill.specs.Areas.{Before, Laid, Positions, CloseFits, HeadPut, PutSays};
 ghost use Rattle.fill.specs.Found.{Copies, codeOf, numberOf, fromOf, toOf, offsetOf, PutsPart, PartPut, FewDecimals, scoreCodeOf, scoreMassOf, codeAfter, massAfter};
 
 // What there is behind a part of a bracket: the place, the bytes of texts, the score of the bracket (0, or one more than its decimals) with its
@@ -68,12 +69,6 @@ pub struct Progress {
     pub first: usize,
     pub count: usize,
 }
-
-// where the first part of the first bracket begins: behind the six numbers of its head
-const FIRST_PART: usize = Tables::ROWS + 6;
-
-// a bracket's numbers: the masses of its parts, and its score
-const MASSES: usize = Tables::PARTS + 1;
 
 // ---- zeros
 
@@ -210,20 +205,7 @@ fn offset_of(length: usize, t: usize) -> usize
     t
 }
 
-fn put_row(bytes: &mut [u8], at: usize, a: u8, b: u8, c: u8, d: u8, e: u8, f: u8, g: u8)
-    requires { ⌜ at + 7 ≤ length (now bytes) ⌝ }
-    ensures { λ _. ⌜ now (bytes .exit) ≡ sets (now (bytes .entry)) at (a ∷ b ∷ c ∷ d ∷ e ∷ f ∷ g ∷ []) ⌝ }
-{
-    bytes[at] = a;
-    bytes[at + 1] = b;
-    bytes[at + 2] = c;
-    bytes[at + 3] = d;
-    bytes[at + 4] = e;
-    bytes[at + 5] = f;
-    bytes[at + 6] = g;
-}
-
-// A part's row at `at`, its mass at `number`, its text and label behind `t` bytes of others. Answers how many bytes of texts there are then.
+// The row and the mass of the part `j` of the bracket `k`, its text and label behind `t` bytes of others. Answers how many bytes of texts there are then.
 fn put_part(
     line: &[u8],
     bytes: &mut [u8],
@@ -232,12 +214,12 @@ fn put_part(
     key: Key,
     label: usize,
     ends: usize,
-    at: usize,
-    number: usize,
+    k: usize,
+    j: usize,
     t: usize,
 ) -> usize
-    requires { ⌜ PutsPart (now line) (now bytes) (now numbers) value label ends at number t ⌝ }
-    ensures { λ r. ⌜ PartPut (now (line .entry)) (now (bytes .entry)) (now (numbers .entry)) value key label ends at number t r (now (bytes .exit)) (now (numbers .exit)) ⌝ }
+    requires { ⌜ PutsPart (now line) (now bytes) (now numbers) value label ends k j t ⌝ }
+    ensures { λ r. ⌜ PartPut (now (line .entry)) (now (bytes .entry)) (now (numbers .entry)) value key label ends k j t r (now (bytes .exit)) (now (numbers .exit)) ⌝ }
 {
     let from = text_start(value);
     let to = text_stop(value);
@@ -247,19 +229,18 @@ fn put_part(
     copy(bytes, Tables::TEXTS + t + n, line, label, ends);
     let o = offset_of(n + m, t);
     let v = value_number(value);
-    put_row(
+    areas::put_part(
         bytes,
-        at,
+        k,
+        j,
         value_code(value),
         keywords::key_code(key),
         v.decimals,
         n as u8,
         m as u8,
-        (o % 256) as u8,
-        (o / 256) as u8,
+        o,
     );
-    let mass = v.millionths;
-    numbers[number] = mass;
+    areas::put_mass(numbers, k, j, v.millionths);
     t + n + m
 }
 
@@ -338,18 +319,7 @@ fn put_found(
     let key = p.key;
     let score = p.score;
     let next = p.next;
-    let texts = put_part(
-        line,
-        bytes,
-        numbers,
-        value,
-        key,
-        p.label,
-        p.ends,
-        FIRST_PART + k * Tables::ROW + j * Tables::PART,
-        k * MASSES + j,
-        t,
-    );
+    let texts = put_part(line, bytes, numbers, value, key, p.label, p.ends, k, j, t);
     let code2 = score_code(code, score);
     let mass2 = score_mass(code, mass, score);
     let refers = is_reference(value);
@@ -397,18 +367,6 @@ fn part_step(
 
 // ---- a bracket
 
-fn put_head(bytes: &mut [u8], at: usize, a: u8, b: u8, c: u8, d: u8, e: u8, f: u8)
-    requires { ⌜ at + 6 ≤ length (now bytes) ⌝ }
-    ensures { λ _. ⌜ now (bytes .exit) ≡ sets (now (bytes .entry)) at (a ∷ b ∷ c ∷ d ∷ e ∷ f ∷ []) ⌝ }
-{
-    bytes[at] = a;
-    bytes[at + 1] = b;
-    bytes[at + 2] = c;
-    bytes[at + 3] = d;
-    bytes[at + 4] = e;
-    bytes[at + 5] = f;
-}
-
 // Whether a bracket with a reference as its part `j` is one.
 fn is_lone(j: usize, refers: bool) -> bool
     ensures { λ r. ⌜ r ≡ cond (eqb j 0) refers false ⌝ }
@@ -425,27 +383,17 @@ fn close(
     numbers: &mut [i64],
     k: usize,
     kind: u8,
-    first: u8,
-    last: u8,
+    first: usize,
+    last: usize,
     j: usize,
     p: Parted,
 ) -> Put
-    requires { ⌜ CloseFits (now bytes) (now numbers) k j ⌝ }
+    requires { ⌜ CloseFits (now bytes) (now numbers) k first last j ⌝ }
     ensures { λ r. ⌜ HeadPut (now (bytes .entry)) (now (numbers .entry)) k kind first last j p r (now (bytes .exit)) (now (numbers .exit)) ⌝ }
 {
     let refers = is_lone(j, p.refers);
-    put_head(
-        bytes,
-        Tables::ROWS + k * Tables::ROW,
-        kind,
-        first,
-        last,
-        1,
-        (j + 1) as u8,
-        p.code,
-    );
-    let mass = p.mass;
-    numbers[k * MASSES + Tables::PARTS] = mass;
+    areas::put_head(bytes, k, kind, first, last, 1, (j + 1) as u8, p.code);
+    areas::put_score(numbers, k, p.mass);
     Put::Done {
         at: p.at,
         texts: p.texts,
@@ -467,10 +415,10 @@ fn put_parts(
     code: u8,
     mass: i64,
     kind: u8,
-    first: u8,
-    last: u8,
+    first: usize,
+    last: usize,
 ) -> Put
-    requires { ⌜ Starts (now line) (now bytes) (now numbers) at shut refers k j t code mass ⌝ }
+    requires { ⌜ Starts (now line) (now bytes) (now numbers) at shut refers k j t code mass × Positions first last ⌝ }
     ensures { λ r. ⌜ ((g : Opening) (ps : List (Part ℕ)) (a : Before) → Begun (now (line .entry)) g ps at shut refers k j t code mass → Laid a ps k (textsIn (g .held)) (now (bytes .entry)) (now (numbers .entry)) → PutSays (now (line .entry)) g a at kind first last r (now (bytes .exit)) (now (numbers .exit))) ⌝ }
 {
     let s = part_step(line, bytes, numbers, at, shut, refers, k, j, t, code, mass);
@@ -511,7 +459,7 @@ fn first_of(section: Section, here: usize, old: usize) -> usize
 }
 
 fn first_position(kind: Kind, n: usize, a: usize) -> usize
-    requires { ⌜ n ≤ 254 ⌝ }
+    requires { ⌜ n ≤ residueLimit ⌝ }
     ensures { λ r. ⌜ r ≡ firstPosition kind n a ⌝ }
 {
     match kind {
@@ -525,7 +473,7 @@ fn first_position(kind: Kind, n: usize, a: usize) -> usize
 }
 
 fn last_position(kind: Kind, n: usize) -> usize
-    requires { ⌜ n ≤ 254 ⌝ }
+    requires { ⌜ n ≤ residueLimit ⌝ }
     ensures { λ r. ⌜ r ≡ lastPosition kind n ⌝ }
 {
     match kind {
@@ -539,7 +487,7 @@ fn last_position(kind: Kind, n: usize) -> usize
 }
 
 fn run_after(kind: Kind, n: usize) -> usize
-    requires { ⌜ n < 64 ⌝ }
+    requires { ⌜ n < bracketLimit ⌝ }
     ensures { λ r. ⌜ r ≡ runAfter kind n ⌝ }
 {
     match kind {
@@ -611,14 +559,14 @@ fn put_residue(
     section: Section,
     mode: Mode,
 ) -> Progress
-    requires { ⌜ (s .tables .residues < 254) × (6782 ≤ length (now bytes)) ⌝ }
-    ensures { λ r. ⌜ (r ≡ grown s next section mode) × (now (bytes .exit) ≡ set (set (now (bytes .entry)) (2 + s .tables .residues) (upper b)) (256 + s .tables .residues) (sectionCode section)) ⌝ }
+    requires { ⌜ (s .tables .residues < residueLimit) × (bytesSize ≤ length (now bytes)) ⌝ }
+    ensures { λ r. ⌜ (r ≡ grown s next section mode) × (now (bytes .exit) ≡ set (set (now (bytes .entry)) (lettersAt + s .tables .residues) (upper b)) (sectionsAt + s .tables .residues) (sectionCode section)) ⌝ }
 {
     let old = s.tables;
     let n = old.residues;
     let first = first_of(section, n + 1, s.first);
-    bytes[Tables::LETTERS + n] = classes::upper(b);
-    bytes[Tables::SECTIONS + n] = section_code(section);
+    let letter = classes::upper(b);
+    areas::put_residue(bytes, n, letter, section_code(section));
     let tables = Tables {
         residues: n + 1,
         brackets: old.brackets,
@@ -636,12 +584,12 @@ fn put_residue(
 
 // The brackets from one to another are N-terminal.
 fn mark_terms(bytes: &mut [u8], from: usize, n: usize)
-    requires { ⌜ (from + n ≤ 64) × (6782 ≤ length (now bytes)) ⌝ }
+    requires { ⌜ (from + n ≤ bracketLimit) × (bytesSize ≤ length (now bytes)) ⌝ }
     ensures { λ _. ⌜ now (bytes .exit) ≡ marked (now (bytes .entry)) from n ⌝ }
 {
     let mut i: usize = 0;
     while i < n {
-        bytes[Tables::ROWS + (from + i) * Tables::ROW] = 3;
+        areas::put_kind(bytes, from + i, kind_code(Kind::NTerm));
         i += 1;
     }
 }
@@ -658,7 +606,7 @@ fn put_digit(bytes: &mut [u8], s: Progress, next: usize, b: u8) -> Progress
     let tables = s.tables;
     let k = tables.brackets - 1;
     let count = s.count * 10 + (b - 48) as usize;
-    bytes[Tables::ROWS + k * Tables::ROW + 3] = count as u8;
+    areas::put_count(bytes, k, count as u8);
     Progress {
         at: next,
         mode: Mode::Counting,
@@ -711,8 +659,8 @@ fn put_bracket(
         0,
         0,
         kind_code(kind),
-        first as u8,
-        last as u8,
+        first,
+        last,
     );
     match put {
         Put::NotPut => s,
@@ -811,6 +759,5 @@ pub fn fill(line: &[u8], bytes: &mut [u8], numbers: &mut [i64])
         s = step_on(line, bytes, numbers, s);
     }
     let tables = s.tables;
-    bytes[0] = tables.residues as u8;
-    bytes[1] = tables.brackets as u8;
+    areas::put_counts(bytes, tables.residues, tables.brackets);
 }

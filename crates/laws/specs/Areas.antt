@@ -53,9 +53,9 @@ read : (s : List ℕ) (l : Line ℕ) → outcome s ≡ accepted l → (bs : List
 read s l e bs ns =
     let w = accepted-within s l e in
     record {
-      long-enough = neither (ltb (length (bytesRead l bs)) 6782) (ltb (length (numbersRead l ns)) 320)
-          (long 6782 (bytesOf l) (drop (length (bytesOf l)) bs) (bytes-fill l w))
-          (long 320 (numbersOf l) (drop (length (numbersOf l)) ns) (numbers-fill l w));
+      long-enough = neither (ltb (length (bytesRead l bs)) bytesSize) (ltb (length (numbersRead l ns)) numbersSize)
+          (long bytesSize (bytesOf l) (drop (length (bytesOf l)) bs) (bytes-fill l w))
+          (long numbersSize (numbersOf l) (drop (length (numbersOf l)) ns) (numbers-fill l w));
       taken = are-tables (bytesRead l bs) (numbersRead l ns)
           (record { text = s; line = l; reads = e; bytes = laid-bytes l w bs; numbers = laid-numbers l w ns });
       tables = tables-back l w bs ns;

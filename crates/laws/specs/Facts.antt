@@ -2,11 +2,12 @@
 use mathlib.Core.Path.{_≡_, refl, sym, subst}
 use mathlib.Core.Bool.{false}
 use mathlib.Core.List.{List, [], _∷_, map}
-use Prim.Native.Nat.{ℕ, _≤_, _<_}
+use Prim.Native.Nat.{ℕ, _*_, _^_, _≤_, _<_}
 use lib.IntN.{natAbs}
 use lib.ListN.{length}
 use Rattle.scope.specs.declared.grammar.Kind.{Kind}
 use Rattle.scope.specs.declared.grammar.Kind.the-variants.{Unknown, Labile, NTerm, OnResidue, OnRange, CTerm}
+use Rattle.scope.specs.Limits.{copyLimit, sizeLimit, decimalLimit}
 use Rattle.scope.specs.Line.{Bracket, Line}
 use Rattle.scope.specs.Kinds.{isUnknown}
 use Rattle.scope.specs.Refusals.{accepted, outcome}
@@ -60,15 +61,15 @@ module _ {P : Type 0} where
       (each-one LabileUnlabelled (λ k. LabileUnlabelled (bareBracket k)) unlabelled-bare (l .brackets) u)
 
   small-bare :
-      (ks : List (Bracket P)) → Every (λ k. natAbs (massOr0 k) < 1000000000000) (map bareBracket ks)
-      → Every (λ k. natAbs (massOr0 k) < 1000000000000) ks
+      (ks : List (Bracket P)) → Every (λ k. natAbs (massOr0 k) < sizeLimit * 10 ^ decimalLimit) (map bareBracket ks)
+      → Every (λ k. natAbs (massOr0 k) < sizeLimit * 10 ^ decimalLimit) ks
   small-bare [] w = tt
   small-bare (k ∷ ks) w = (rw (mass-of k) at (w .0), small-bare ks (w .1))
 
   limited-tables : (l : Line P) → Within l → Limited (tablesOf l)
   limited-tables l w =
       let back = tables-back l w [] [] in
-      subst Limited back (limited-in (laid-bounds l w [] []) (subst (λ t. length (floaters t) ≤ 8) (sym back) (tables-within l w .few-copies)))
+      subst Limited back (limited-in (laid-bounds l w [] []) (subst (λ t. length (floaters t) ≤ copyLimit) (sym back) (tables-within l w .few-copies)))
 
   limited-of : (l : Line P) → Within l → Limited l
   unfolding tablesOf

@@ -6,6 +6,7 @@ use Prim.Native.Nat.{ℕ, _≤_}
 use native.Mathlib.Omega.{arith}
 use lib.IntN.{ℤ}
 use lib.ListN.{length, getD, length-map}
+use Rattle.scope.specs.Limits.{copyLimit}
 use Rattle.scope.specs.Line.{Line}
 use Rattle.scope.specs.Refusals.{accepted, outcome}
 use Rattle.scope.specs.Tables.{bareBracket, bareResidue, tablesOf}
@@ -31,7 +32,7 @@ demand-3-of : {P : Type 0} (t : Line P) → Within t → Fair t → Limited t �
 demand-3-of t w fair limited =
     let qs = permittedPositions t in
     let n = length (placements qs) in
-    let few : length qs ≤ 8 = rw (placing.line-many t) (w .few-copies) in
+    let few : length qs ≤ copyLimit = rw (placing.line-many t) (w .few-copies) in
     let rising = placing.line-rising t in
     let all : handedOut qs n freshListing ≡ placements qs = placing.whole qs few rising n (omega arith) in
     record {

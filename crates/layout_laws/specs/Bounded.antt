@@ -1,8 +1,8 @@
 -- The areas of a line keep to the bounds, and each of their bytes is one: what stands in a row is what the bracket holds (Layout), which is within the limits.
-use mathlib.Core.Path.{_≡_, subst}
+use mathlib.Core.Path.{_≡_, sym, subst}
 use mathlib.Core.Option.{Option, none, some}
 use mathlib.Core.List.{List, [], _∷_, _++_, map}
-use Prim.Native.Nat.{ℕ, zero, suc, _+_, _/_, _%_, _≤_, _<_}
+use Prim.Native.Nat.{ℕ, zero, suc, _+_, _*_, _≤_, _<_}
 use native.Mathlib.Omega.{arith}
 use native.Mathlib.Nat.{add-zero, zero-add}
 use lib.Dec.{lit<}
@@ -12,32 +12,37 @@ use Rattle.scope.specs.declared.grammar.Section.{Section}
 use Rattle.scope.specs.declared.grammar.Section.the-variants.{Plain, RangeFirst, RangeNext, UnsureFirst, UnsureNext}
 use Rattle.scope.specs.declared.grammar.Kind.{Kind}
 use Rattle.scope.specs.declared.grammar.Kind.the-variants.{Unknown, Labile, NTerm, OnResidue, OnRange, CTerm}
+use Rattle.scope.specs.declared.grammar.Key.the-variants.{Info}
+use Rattle.scope.specs.Bytes.{byteLimit}
+use Rattle.scope.specs.Limits.{lineLimit, residueLimit, bracketLimit, partLimit, textLimit, labelLimit, decimalLimit}
 use Rattle.scope.specs.Line.{Number, Label, Value, mass, text, reference, Part, Bracket, Line}
 use Rattle.scope.specs.Keys.{keyCode}
 use Rattle.scope.specs.Lists.{given, flat, padded}
 use Rattle.scope.specs.Refusals.{textIn, textOf}
 use Rattle.scope.specs.Kinds.{kindCode}
 use Rattle.scope.specs.Tables.{millionths, labelOf, scoreOf}
-use Rattle.scope.specs.Layout.{sectionCode, valueCode, massIn, decimalsIn, packed, offset, partRow, partRows, scoreCode, bracketRow, bracketTexts, rows, bytesOf, numbersOf, residuesField}
+use Rattle.scope.specs.Layout.{partSize, rowSize, twoBytes, countsRow, sectionCode, valueCode, massIn, decimalsIn, packed, offset, partRow, partRows, scoreCode, bracketRow, bracketTexts, rows, bytesOf, numbersOf, residuesField}
 use Rattle.areas.specs.Bounds.{Small, PartBounds, BracketBounds, Bounds}
 use Rattle.basics.specs.Each.{Each, OfGiven, each-append, each-padded, each-map, each-all}
 use Rattle.accepted_laws.specs.Within.{Byte, NumberWithin, LabelWithin, ValueWithin, PartWithin, BracketWithin, Within, first-few, last-few}
+use Rattle.layout_laws.specs.TwoBytes.{wide-bytes}
+use Rattle.layout_laws.specs.Fits.{residues-fit, positions-fit, offsets-fit, brackets-fit, parts-fit, counts-fit, decimals-fit, scores-fit, texts-fit, labels-fit}
 use Rattle.layout_laws.specs.Numbers.{few-decimals, small}
-use Rattle.layout_laws.specs.Layout.{PartRead, PartsRead, BracketRead, BracketsRead, score-within, areas-read, bytes-length, numbers-length}
+use Rattle.layout_laws.specs.Layout.{PartRead, PartsRead, BracketRead, BracketsRead, score-within, areas-read, bytes-length, numbers-length, headOf}
 
 -- ---- what a part holds is small
 module _ {P : Type 0} where
-  decimals-few : (p : Part P) (v : Value P) → ValueWithin p v → decimalsIn v ≤ 6
+  decimals-few : (p : Part P) (v : Value P) → ValueWithin p v → decimalsIn v ≤ decimalLimit
   decimals-few p (mass n) w = few-decimals n w
   decimals-few p (text t) w = omega arith
   decimals-few p reference w = omega arith
 
-  text-short : (p : Part P) (v : Value P) → ValueWithin p v → length (textIn v) ≤ 128
+  text-short : (p : Part P) (v : Value P) → ValueWithin p v → length (textIn v) ≤ textLimit
   text-short p (mass n) w = omega arith
   text-short p (text t) w = w .short-text
   text-short p reference w = omega arith
 
-  label-short : (l : Option (Label P)) → OfGiven LabelWithin l → length (given l (λ l. l .name) []) ≤ 16
+  label-short : (l : Option (Label P)) → OfGiven LabelWithin l → length (given l (λ l. l .name) []) ≤ labelLimit
   label-short none w = omega arith
   label-short (some l) w = w .short-name
 
@@ -50,9 +55,9 @@ module _ {P : Type 0} where
   score-small none w = lit< tt
   score-small (some n) w = small n w
 
-  score-few : (s : Option (Number P)) → OfGiven NumberWithin s → scoreCode s ≤ 7
+  score-few : (s : Option (Number P)) → OfGiven NumberWithin s → scoreCode s ≤ decimalLimit + 1
   score-few none w = omega arith
-  score-few (some n) w = let h : n .decimals ≤ 6 = few-decimals n w in omega arith
+  score-few (some n) w = let h : n .decimals ≤ decimalLimit = few-decimals n w in omega arith
 
 offset-few : (l : List ℕ) (i : ℕ) → offset l i ≤ i
 offset-few [] i = omega arith
@@ -60,7 +65,7 @@ offset-few (b ∷ l) i = omega arith
 
 -- ---- the bounds
 module _ {P : Type 0} (bs : List ℕ) (ns : List ℤ) where
-  part-bounds : (k j i : ℕ) (p : Part P) → PartWithin p → PartRead bs ns k j i p → i + length (packed p) ≤ 4096 → PartBounds bs ns k j
+  part-bounds : (k j i : ℕ) (p : Part P) → PartWithin p → PartRead bs ns k j i p → i + length (packed p) ≤ lineLimit → PartBounds bs ns k j
   part-bounds k j i p w r h =
       let o = offset-few (packed p) i in
       let e = length-append (textOf p) (labelOf p) in
@@ -73,7 +78,7 @@ module _ {P : Type 0} (bs : List ℕ) (ns : List ℤ) where
       }
 
   parts-bounds :
-      (k j i : ℕ) (ps : List (Part P)) → Each PartWithin ps → PartsRead bs ns k j i ps → i + length (flat packed ps) ≤ 4096 →
+      (k j i : ℕ) (ps : List (Part P)) → Each PartWithin ps → PartsRead bs ns k j i ps → i + length (flat packed ps) ≤ lineLimit →
       (x : ℕ) → x < length ps → PartBounds bs ns k (j + x)
   unfolding flat
   parts-bounds k j i [] w r h x lt = absurd (omega arith)
@@ -86,7 +91,7 @@ module _ {P : Type 0} (bs : List ℕ) (ns : List ℤ) where
       rw s (parts-bounds k (j + 1) (i + length (packed p)) ps (w .1) (r .1) (omega arith) x (omega arith))
 
   bracket-bounds :
-      (n k i : ℕ) (b : Bracket P) → residuesField bs ≡ n → BracketWithin n b → BracketRead bs ns k i b → i + length (bracketTexts b) ≤ 4096
+      (n k i : ℕ) (b : Bracket P) → residuesField bs ≡ n → BracketWithin n b → BracketRead bs ns k i b → i + length (bracketTexts b) ≤ lineLimit
       → BracketBounds bs ns k
   bracket-bounds n k i b e w r h =
       record {
@@ -102,7 +107,7 @@ module _ {P : Type 0} (bs : List ℕ) (ns : List ℤ) where
 
   brackets-bounds :
       (n k i : ℕ) (ks : List (Bracket P)) → residuesField bs ≡ n → Each (BracketWithin n) ks → BracketsRead bs ns k i ks → i + length
-      (flat bracketTexts ks) ≤ 4096
+      (flat bracketTexts ks) ≤ lineLimit
       → (x : ℕ) → x < length ks → BracketBounds bs ns (k + x)
   unfolding flat
   brackets-bounds n k i [] q w r h x lt = absurd (omega arith)
@@ -152,11 +157,11 @@ kind-byte OnResidue = omega arith
 kind-byte OnRange = omega arith
 kind-byte CTerm = omega arith
 
-high-byte : (n : ℕ) → n ≤ 4096 → Byte (n / 256)
-high-byte n h = omega arith
+zero-byte : Byte 0
+zero-byte = omega arith
 
-low-byte : (n : ℕ) → Byte (n % 256)
-low-byte n = omega arith
+key-byte : {c : ℕ} → c ≤ keyCode Info → Byte c
+key-byte h = omega arith
 
 module _ {P : Type 0} where
   value-byte : (v : Value P) → Byte (valueCode v)
@@ -181,33 +186,26 @@ module _ {P : Type 0} where
       (each-append Byte (textOf p) (labelOf p) (text-bytes p (p .value) (w .0 .value)) (label-bytes (p .label) (w .0 .label)))
       (packed-bytes ps (w .1))
 
-  part-row-bytes : (i : ℕ) (p : Part P) → i ≤ 4096 → PartWithin p → Each Byte (partRow i p)
+  part-row-bytes : (i : ℕ) (p : Part P) → i ≤ lineLimit → PartWithin p → Each Byte (partRow i p)
   part-row-bytes i p h w =
-      let o = offset-few (packed p) i in
-      let a : keyCode (p .key) ≤ 13 = w .key in
-      let b = decimals-few p (p .value) (w .value) in
-      let c = text-short p (p .value) (w .value) in
-      let d = label-short (p .label) (w .label) in (
+      let o = offset-few (packed p) i in (
         value-byte (p .value),
         (
-          omega arith,
+          key-byte (w .key),
           (
-            omega arith,
+            decimals-fit (decimals-few p (p .value) (w .value)),
             (
-              omega arith,
+              texts-fit (text-short p (p .value) (w .value)),
               (
-                omega arith,
-                (
-                  low-byte (offset (packed p) i),
-                  (high-byte (offset (packed p) i) (omega arith), tt),
-                ),
+                labels-fit (label-short (p .label) (w .label)),
+                wide-bytes (offset (packed p) i) (offsets-fit (omega arith)),
               ),
             ),
           ),
         ),
       )
 
-  part-rows-bytes : (i : ℕ) (ps : List (Part P)) → i + length (flat packed ps) ≤ 4096 → Each PartWithin ps → Each Byte (partRows i ps)
+  part-rows-bytes : (i : ℕ) (ps : List (Part P)) → i + length (flat packed ps) ≤ lineLimit → Each PartWithin ps → Each Byte (partRows i ps)
   unfolding partRows flat
   part-rows-bytes i [] h w = tt
   part-rows-bytes i (p ∷ ps) h w =
@@ -216,31 +214,25 @@ module _ {P : Type 0} where
       (part-row-bytes i p (omega arith) (w .0))
       (part-rows-bytes (i + length (packed p)) ps (omega arith) (w .1))
 
-  bracket-row-bytes : (n i : ℕ) (b : Bracket P) → n ≤ 254 → i + length (bracketTexts b) ≤ 4096 → BracketWithin n b → Each Byte (bracketRow i b)
-  bracket-row-bytes n i b q h w =
-      let x = first-few (b .kind) (b .first) (b .last) n (w .stands) in
-      let y = last-few (b .kind) (b .first) (b .last) n (w .stands) in
-      let c : b .count ≤ 99 = w .few-counts in
-      let d : length (b .parts) ≤ 4 = w .few-parts in
-      let s = score-few (scoreOf (b .parts)) (score-within (b .parts) (w .parts)) in (
+  head-bytes : (n : ℕ) (b : Bracket P) → n ≤ residueLimit → BracketWithin n b → Each Byte (headOf b)
+  head-bytes n b q w =
+      let counted = b .count ∷ length (b .parts) ∷ scoreCode (scoreOf (b .parts)) ∷ [] in
+      let first-wide = positions-fit q (first-few (b .kind) (b .first) (b .last) n (w .stands)) in
+      let last-wide = positions-fit q (last-few (b .kind) (b .first) (b .last) n (w .stands)) in
+      let score-low = score-few (scoreOf (b .parts)) (score-within (b .parts) (w .parts)) in (
         kind-byte (b .kind),
-        (
-          omega arith,
-          (
-            omega arith,
-            (
-              omega arith,
-              (
-                omega arith,
-                (omega arith, each-padded Byte 0 28 (partRows i (b .parts)) (omega arith) (part-rows-bytes i (b .parts) h (w .parts))),
-              ),
-            ),
-          ),
-        ),
+        each-append Byte (twoBytes (b .first)) (twoBytes (b .last) ++ counted) (wide-bytes (b .first) first-wide)
+            (each-append Byte (twoBytes (b .last)) counted (wide-bytes (b .last) last-wide)
+            (counts-fit (w .few-counts), (parts-fit (w .few-parts), (scores-fit score-low, tt)))),
       )
 
+  bracket-row-bytes : (n i : ℕ) (b : Bracket P) → n ≤ residueLimit → i + length (bracketTexts b) ≤ lineLimit → BracketWithin n b → Each Byte (bracketRow i b)
+  bracket-row-bytes n i b q h w =
+      each-append Byte (headOf b) (padded 0 (partLimit * partSize) (partRows i (b .parts))) (head-bytes n b q w)
+      (each-padded Byte 0 (partLimit * partSize) (partRows i (b .parts)) zero-byte (part-rows-bytes i (b .parts) h (w .parts)))
+
   rows-bytes :
-      (n i : ℕ) (ks : List (Bracket P)) → n ≤ 254 → i + length (flat bracketTexts ks) ≤ 4096 → Each (BracketWithin n) ks → Each Byte (rows i ks)
+      (n i : ℕ) (ks : List (Bracket P)) → n ≤ residueLimit → i + length (flat bracketTexts ks) ≤ lineLimit → Each (BracketWithin n) ks → Each Byte (rows i ks)
   unfolding rows flat
   rows-bytes n i [] q h w = tt
   rows-bytes n i (b ∷ ks) q h w =
@@ -259,32 +251,29 @@ module _ {P : Type 0} where
   unfolding bytesOf
   bytes-are-bytes l w =
       let n = length (l .residues) in
-      let a : n ≤ 254 = w .few-residues in
-      let b : length (l .brackets) ≤ 64 = w .few-brackets in
-      let t : length (flat bracketTexts (l .brackets)) ≤ 4096 = w .texts in
-      let zero-byte : Byte 0 = omega arith in
-      let letters = map (λ r. r .letter) (l .residues) in
-      let sections = map (λ r. sectionCode (r .section)) (l .residues) in
-      let texts = padded 0 4096 (flat bracketTexts (l .brackets)) in (
-        omega arith,
-        (
-          omega arith,
-          each-append Byte (padded 0 254 letters) (padded 0 254 sections ++ (padded 0 2176 (rows 0 (l .brackets)) ++ texts))
-              (each-padded Byte 0 254 letters zero-byte (each-map Byte (λ r. r .letter) (l .residues) (w .letters)))
-              (each-append Byte (padded 0 254 sections) (padded 0 2176 (rows 0 (l .brackets)) ++ texts)
-              (each-padded Byte 0 254 sections zero-byte
-              (each-map Byte (λ r. sectionCode (r .section)) (l .residues)
-              (each-all (λ r. Byte (sectionCode (r .section))) (l .residues) (λ r. section-byte (r .section)))))
-              (each-append Byte (padded 0 2176 (rows 0 (l .brackets))) texts
-              (each-padded Byte 0 2176 (rows 0 (l .brackets)) zero-byte (rows-bytes n 0 (l .brackets) a (omega arith) (w .brackets)))
-              (each-padded Byte 0 4096 (flat bracketTexts (l .brackets)) zero-byte (texts-bytes n (l .brackets) (w .brackets))))),
-        ),
-      )
+      let counts = countsRow n (length (l .brackets)) in
+      let letters = padded 0 residueLimit (map (λ r. r .letter) (l .residues)) in
+      let sections = padded 0 residueLimit (map (λ r. sectionCode (r .section)) (l .residues)) in
+      let brackets = padded 0 (bracketLimit * rowSize) (rows 0 (l .brackets)) in
+      let texts = padded 0 lineLimit (flat bracketTexts (l .brackets)) in
+      each-append Byte counts (letters ++ (sections ++ (brackets ++ texts)))
+      (each-append Byte (twoBytes n) (length (l .brackets) ∷ []) (wide-bytes n (residues-fit (w .few-residues))) (brackets-fit (w .few-brackets), tt))
+      (each-append Byte letters (sections ++ (brackets ++ texts))
+      (each-padded Byte 0 residueLimit (map (λ r. r .letter) (l .residues)) zero-byte (each-map Byte (λ r. r .letter) (l .residues) (w .letters)))
+      (each-append Byte sections (brackets ++ texts)
+      (each-padded Byte 0 residueLimit (map (λ r. sectionCode (r .section)) (l .residues)) zero-byte
+      (each-map Byte (λ r. sectionCode (r .section)) (l .residues)
+      (each-all (λ r. Byte (sectionCode (r .section))) (l .residues) (λ r. section-byte (r .section)))))
+      (each-append Byte brackets texts
+      (each-padded Byte 0 (bracketLimit * rowSize) (rows 0 (l .brackets)) zero-byte
+      (rows-bytes n 0 (l .brackets) (w .few-residues) (subst (λ m. m ≤ lineLimit) (sym (zero-add (length (flat bracketTexts (l .brackets))))) (w .texts))
+      (w .brackets)))
+      (each-padded Byte 0 lineLimit (flat bracketTexts (l .brackets)) zero-byte (texts-bytes n (l .brackets) (w .brackets))))))
 
-each-at : (l : List ℕ) → Each Byte l → (i : ℕ) → getD l i 0 < 256
-each-at [] h i = lit< tt
+each-at : (l : List ℕ) → Each Byte l → (i : ℕ) → getD l i 0 < byteLimit
+each-at [] h i = zero-byte
 each-at (x ∷ l) h zero = h .0
 each-at (x ∷ l) h (suc i) = each-at l (h .1) i
 
-pub byte-below : {P : Type 0} (l : Line P) → Within l → (i : ℕ) → getD (bytesOf l) i 0 < 256
+pub byte-below : {P : Type 0} (l : Line P) → Within l → (i : ℕ) → getD (bytesOf l) i 0 < byteLimit
 byte-below l w i = each-at (bytesOf l) (bytes-are-bytes l w) i

@@ -7,15 +7,16 @@ use mathlib.Core.List.{List, append-nil}
 use Prim.Native.Nat.{ℕ, _≤_, _<_}
 use native.Mathlib.Omega.{arith}
 use lib.IntN.{ℤ}
-use lib.ListN.{length, take, drop, getD, length-append, length-drop}
+use lib.ListN.{length, take, drop, length-append, length-drop}
 use lib.Seq.{take-at}
 use Rattle.scope.specs.Lists.{laid}
+use Rattle.scope.specs.Bytes.{byteLimit}
 use Rattle.scope.specs.Limits.{rowLimit}
 use Rattle.scope.specs.Line.{Line}
 use Rattle.scope.specs.Refusals.{accepted, outcome}
 use Rattle.scope.specs.Canonical.{canonical}
 use Rattle.scope.specs.Tables.{tablesOf}
-use Rattle.scope.specs.Layout.{bytesOf, numbersOf, bytesSize, numbersSize, tablesIn}
+use Rattle.scope.specs.Layout.{bytesOf, numbersOf, bytesSize, numbersSize, byteAt, tablesIn}
 use Rattle.scope.specs.Positions.{rowsOf}
 use Rattle.scope.specs.Answers.{sameNumbers, areTables}
 use Rattle.areas.specs.Bounds.{Bounds}
@@ -46,7 +47,7 @@ module _ {P : Type 0} (l : Line P) (within : Within l) where
   pub bytes-are-bytes : Each Byte (bytesOf l)
   bytes-are-bytes = Bounded.bytes-are-bytes l within
 
-  pub byte-below : (i : ℕ) → getD (bytesOf l) i 0 < 256
+  pub byte-below : (i : ℕ) → byteAt (bytesOf l) i < byteLimit
   byte-below i = Bounded.byte-below l within i
 
   -- "room is 2,048 rows"

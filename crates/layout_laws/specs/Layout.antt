@@ -5,10 +5,9 @@ use mathlib.Core.Option.{Option, none, some}
 use mathlib.Core.List.{List, [], _∷_, _++_, map}
 use Prim.Native.Nat.{ℕ, _+_, _-_, _*_, _≤_, _<_}
 use native.Mathlib.Omega.{arith}
-use native.Mathlib.Nat.{mod-add-div}
 use lib.Dec.{eqb}
 use lib.IntN.{ℤ, pos}
-use lib.ListN.{length, getD, replicate, length-append, length-replicate, length-map}
+use lib.ListN.{length, replicate, length-append, length-replicate, length-map}
 use borrow.Author.Tests.{ne-eqb}
 use Rattle.scope.specs.declared.grammar.Section.{Section}
 use Rattle.scope.specs.declared.grammar.Section.the-variants.{Plain, RangeFirst, RangeNext, UnsureFirst, UnsureNext}
@@ -21,12 +20,14 @@ use Rattle.scope.specs.Modifications.{nameOf}
 use Rattle.scope.specs.Refusals.{textIn, textOf}
 use Rattle.scope.specs.Kinds.{kindCode, kindIn}
 use Rattle.scope.specs.Tables.{bareNumber, bareLabel, bareValue, barePart, bareBracket, bareResidue, tablesOf, millionths, labelOf, scoreOf}
-use Rattle.scope.specs.Layout.{sectionCode, valueCode, massIn, decimalsIn, packed, offset, partRow, partRows, scoreCode, bracketRow, bracketTexts, rows, bytesOf, numberRow, numbersOf, sectionIn, byteAt, rowAt, partAt, scoreIn, valueIn, labelIn, partIn, bracketIn, residueIn, tablesIn, bracketsField, countField, decimalsField, firstField, keyField, kindField, labelField, lastField, offsetField, partsField, residuesField, scoreField, textField, valueField}
+use Rattle.scope.specs.Limits.{lineLimit, residueLimit, bracketLimit, partLimit}
+use Rattle.scope.specs.Layout.{sectionCode, valueCode, massIn, decimalsIn, packed, offset, partRow, partRows, scoreCode, bracketRow, bracketTexts, rows, bytesOf, numberRow, numbersOf, sectionIn, rowAt, partAt, scoreIn, valueIn, labelIn, partIn, bracketIn, residueIn, tablesIn, bracketsField, countField, decimalsField, firstField, keyField, kindField, labelField, lastField, offsetField, partsField, residuesField, scoreField, textField, valueField, partSize, headSize, rowSize, numberRowSize, residuesAt, lettersAt, sectionsAt, rowsAt, textsAt, bytesSize, numbersSize, massAt, headRow, countsRow, massField, scoreNumber, letterField, sectionField}
 use Rattle.basics.specs.Each.{Each, OfGiven}
-use Rattle.accepted_laws.specs.Within.{NumberWithin, LabelWithin, ValueWithin, PartWithin, BracketWithin, Within}
-use Rattle.layout_laws.specs.At.{At, at-read, at-head, at-first, at-next, at-part, at-start}
-use Rattle.layout_laws.specs.Numbers.{number-back}
 use Rattle.basics.specs.Keys.{key-back}
+use Rattle.accepted_laws.specs.Within.{NumberWithin, LabelWithin, ValueWithin, PartWithin, BracketWithin, Within}
+use Rattle.layout_laws.specs.At.{At, at-head, at-first, at-next, at-part, at-start}
+use Rattle.layout_laws.specs.Fields.{counts-read, head-read, fields-read}
+use Rattle.layout_laws.specs.Numbers.{number-back}
 
 -- ---- codes
 kind-back : (k : Kind) → kindIn (kindCode k) ≡ k
@@ -49,22 +50,22 @@ pub padded-length : {A : Type 0} (z : A) (n : ℕ) (l : List A) → length l ≤
 padded-length z n l h = length-append l (replicate (n - length l) z) ∙ ap (λ m. length l + m) (length-replicate (n - length l) z) ∙ omega arith
 
 module _ {P : Type 0} where
-  pub part-rows-length : (i : ℕ) (ps : List (Part P)) → length (partRows i ps) ≡ length ps * 7
+  pub part-rows-length : (i : ℕ) (ps : List (Part P)) → length (partRows i ps) ≡ length ps * partSize
   unfolding partRows
   part-rows-length i [] = refl
-  part-rows-length i (p ∷ ps) = let e : length (partRows (i + length (packed p)) ps) ≡ length ps * 7 = part-rows-length
+  part-rows-length i (p ∷ ps) = let e : length (partRows (i + length (packed p)) ps) ≡ length ps * partSize = part-rows-length
       (i + length (packed p)) ps in omega arith
 
-  pub bracket-row-length : (i : ℕ) (k : Bracket P) → length (k .parts) ≤ 4 → length (bracketRow i k) ≡ 34
+  pub bracket-row-length : (i : ℕ) (k : Bracket P) → length (k .parts) ≤ partLimit → length (bracketRow i k) ≡ rowSize
   bracket-row-length i k h =
-      let e : length (partRows i (k .parts)) ≡ length (k .parts) * 7 = part-rows-length i (k .parts) in
-      let f : length (padded 0 28 (partRows i (k .parts))) ≡ 28 = padded-length 0 28 (partRows i (k .parts)) (omega arith) in
+      let e : length (partRows i (k .parts)) ≡ length (k .parts) * partSize = part-rows-length i (k .parts) in
+      let f : length (padded 0 (partLimit * partSize) (partRows i (k .parts))) ≡ partLimit * partSize = padded-length 0 (partLimit * partSize) (partRows i (k .parts)) (omega arith) in
       omega arith
 
-  pub number-row-length : (k : Bracket P) → length (k .parts) ≤ 4 → length (numberRow k) ≡ 5
+  pub number-row-length : (k : Bracket P) → length (k .parts) ≤ partLimit → length (numberRow k) ≡ numberRowSize
   number-row-length k h =
-      length-append (padded (pos 0) 4 (map (λ p. massIn (p .value)) (k .parts))) (given (scoreOf (k .parts)) millionths (pos 0) ∷ [])
-      ∙ ap (λ m. m + 1) (padded-length (pos 0) 4 (map (λ p. massIn (p .value)) (k .parts)) (rw (length-map (k .parts) (λ p. massIn (p .value))) h))
+      length-append (padded (pos 0) partLimit (map (λ p. massIn (p .value)) (k .parts))) (given (scoreOf (k .parts)) millionths (pos 0) ∷ [])
+      ∙ ap (λ m. m + 1) (padded-length (pos 0) partLimit (map (λ p. massIn (p .value)) (k .parts)) (rw (length-map (k .parts) (λ p. massIn (p .value))) h))
 
 -- ---- one part
 abbrev OfValue : {P : Type 0} → Value P → Type 0
@@ -78,10 +79,9 @@ offset-at (b ∷ l) i h = refl
 
 module _ {P : Type 0} (bs : List ℕ) (ns : List ℤ) (k j : ℕ) where
   value-back :
-      (v : Value P) → OfValue v → valueField bs k j ≡ valueCode v → decimalsField bs k j ≡ decimalsIn v → byteAt bs
-      (partAt k j + 3) ≡ length (textIn v)
-      → getD ns (k * 5 + j) (pos 0) ≡ massIn v
-      → (0 < length (textIn v) → part (2686 + offsetField bs k j) (length (textIn v)) bs ≡ textIn v)
+      (v : Value P) → OfValue v → valueField bs k j ≡ valueCode v → decimalsField bs k j ≡ decimalsIn v → textField bs k j ≡ length (textIn v)
+      → massField ns k j ≡ massIn v
+      → (0 < length (textIn v) → part (textsAt + offsetField bs k j) (length (textIn v)) bs ≡ textIn v)
       → valueIn bs ns k j ≡ bareValue v
   value-back (mass n) w c d e m t = rw (c, d, m) (ap mass (number-back n w))
   value-back (text x) w c d e m t = rw (c, e) (ap text (t w))
@@ -89,7 +89,7 @@ module _ {P : Type 0} (bs : List ℕ) (ns : List ℤ) (k j : ℕ) where
 
   label-back :
       (l : Option (Label P)) → OfGiven LabelWithin l → labelField bs k j ≡ length (given l (λ l. l .name) [])
-      → (0 < length (given l (λ l. l .name) []) → part (2686 + offsetField bs k j + textField bs k j)
+      → (0 < length (given l (λ l. l .name) []) → part (textsAt + offsetField bs k j + textField bs k j)
       (length (given l (λ l. l .name) [])) bs ≡ given l (λ l. l .name) [])
       → OfGiven (λ l. scoreIn bs ns k ≡ optional bareNumber (l .score)) l
       → labelIn bs ns k j ≡ optional bareLabel l
@@ -106,8 +106,8 @@ pub record PartRead {P : Type 0} (bs : List ℕ) (ns : List ℤ) (k j i : ℕ) (
   pub text-length : textField bs k j ≡ length (textOf p)
   pub label-length : labelField bs k j ≡ length (labelOf p)
   pub from : offsetField bs k j ≡ offset (packed p) i
-  pub number : getD ns (k * 5 + j) (pos 0) ≡ massIn (p .value)
-  pub texts : At bs (2686 + i) (packed p)
+  pub number : massField ns k j ≡ massIn (p .value)
+  pub texts : At bs (textsAt + i) (packed p)
 
 -- of the parts from part j on
 abbrev pub PartsRead : {P : Type 0} → List ℕ → List ℤ → ℕ → ℕ → ℕ → List (Part P) → Type 0
@@ -116,36 +116,35 @@ PartsRead bs ns k j i (p ∷ ps) = PartRead bs ns k j i p × PartsRead bs ns k (
 
 module _ {P : Type 0} (bs : List ℕ) (ns : List ℤ) (k : ℕ) where
   part-read :
-      (j i : ℕ) (p : Part P) → At bs (partAt k j) (partRow i p) → getD ns (k * 5 + j) (pos 0) ≡ massIn (p .value) → At bs (2686 + i) (packed p)
+      (j i : ℕ) (p : Part P) → At bs (partAt k j) (partRow i p) → massField ns k j ≡ massIn (p .value) → At bs (textsAt + i) (packed p)
       → PartRead bs ns k j i p
   part-read j i p a m t =
+      let r = fields-read bs k j (valueCode (p .value)) (keyCode (p .key)) (decimalsIn (p .value)) (length (textOf p)) (length (labelOf p))
+      (offset (packed p) i) a in
       record {
-        code = at-head bs (partAt k j) _ _ a 0;
-        key = at-read bs (partAt k j) (partRow i p) a 1 0;
-        decimals = at-read bs (partAt k j) (partRow i p) a 2 0;
-        text-length = at-read bs (partAt k j) (partRow i p) a 3 0;
-        label-length = at-read bs (partAt k j) (partRow i p) a 4 0;
-        from =
-            let e : partAt k j + 5 + 1 ≡ partAt k j + 6 = omega arith in
-            ap₂ (λ x y. x + 256 * y) (at-read bs (partAt k j) (partRow i p) a 5 0) (ap (λ x. getD bs x 0) e ∙ at-read bs (partAt k j) (partRow i p) a 6 0)
-            ∙ mod-add-div (offset (packed p) i) 256;
+        code = r .value-read;
+        key = r .key-read;
+        decimals = r .decimals-read;
+        text-length = r .text-read;
+        label-length = r .label-read;
+        from = r .offset-read;
         number = m;
         texts = t;
       }
 
   pub parts-read :
-      (j i : ℕ) (ps : List (Part P)) → At bs (partAt k j) (partRows i ps) → At ns (k * 5 + j) (map (λ p. massIn (p .value)) ps) → At bs (2686 + i)
+      (j i : ℕ) (ps : List (Part P)) → At bs (partAt k j) (partRows i ps) → At ns (massAt k j) (map (λ p. massIn (p .value)) ps) → At bs (textsAt + i)
       (flat packed ps)
       → PartsRead bs ns k j i ps
   unfolding partRows flat
   parts-read j i [] a m t = tt
   parts-read j i (p ∷ ps) a m t = (
-    part-read j i p (at-first bs (partAt k j) (partRow i p) (partRows (i + length (packed p)) ps) a) (at-head ns (k * 5 + j) _ _ m (pos 0))
-        (at-first bs (2686 + i) (packed p) (flat packed ps) t),
+    part-read j i p (at-first bs (partAt k j) (partRow i p) (partRows (i + length (packed p)) ps) a) (at-head ns (massAt k j) _ _ m (pos 0))
+        (at-first bs (textsAt + i) (packed p) (flat packed ps) t),
     parts-read (j + 1) (i + length (packed p)) ps
-        (at-next bs (partAt k j) (partRow i p) (partRows (i + length (packed p)) ps) 7 (partAt k (j + 1)) refl (omega arith) a)
-        (at-next ns (k * 5 + j) (massIn (p .value) ∷ []) (map (λ p. massIn (p .value)) ps) 1 (k * 5 + (j + 1)) refl (omega arith) m)
-        (at-next bs (2686 + i) (packed p) (flat packed ps) (length (packed p)) (2686 + (i + length (packed p))) refl (omega arith) t),
+        (at-next bs (partAt k j) (partRow i p) (partRows (i + length (packed p)) ps) partSize (partAt k (j + 1)) refl (omega arith) a)
+        (at-next ns (massAt k j) (massIn (p .value) ∷ []) (map (λ p. massIn (p .value)) ps) 1 (massAt k (j + 1)) refl (omega arith) m)
+        (at-next bs (textsAt + i) (packed p) (flat packed ps) (length (packed p)) (textsAt + (i + length (packed p))) refl (omega arith) t),
   )
 
   value-of : (p : Part P) → PartWithin p → OfValue (p .value)
@@ -163,13 +162,13 @@ module _ {P : Type 0} (bs : List ℕ) (ns : List ℤ) (k : ℕ) where
   part-back j i p w r s =
       let from : 0 < length (packed p) → offsetField bs k j ≡ i = λ h. r .from ∙ offset-at (packed p) i h in
       let sum : length (packed p) ≡ length (textOf p) + length (labelOf p) = length-append (textOf p) (labelOf p) in
-      let t : 0 < length (textOf p) → part (2686 + offsetField bs k j) (length (textOf p)) bs ≡ textOf p =
-      λ h. ap (λ z. part (2686 + z) (length (textOf p)) bs) (from (omega arith)) ∙ at-part bs (2686 + i) (textOf p)
-      (at-first bs (2686 + i) (textOf p) (labelOf p) (r .texts)) in
-      let u : 0 < length (labelOf p) → part (2686 + offsetField bs k j + textField bs k j) (length (labelOf p)) bs ≡ labelOf p =
-      λ h. ap₂ (λ y z. part (2686 + y + z) (length (labelOf p)) bs) (from (omega arith)) (r .text-length)
-      ∙ at-part bs (2686 + i + length (textOf p)) (labelOf p)
-      (at-next bs (2686 + i) (textOf p) (labelOf p) (length (textOf p)) (2686 + i + length (textOf p)) refl refl (r .texts)) in
+      let t : 0 < length (textOf p) → part (textsAt + offsetField bs k j) (length (textOf p)) bs ≡ textOf p =
+      λ h. ap (λ z. part (textsAt + z) (length (textOf p)) bs) (from (omega arith)) ∙ at-part bs (textsAt + i) (textOf p)
+      (at-first bs (textsAt + i) (textOf p) (labelOf p) (r .texts)) in
+      let u : 0 < length (labelOf p) → part (textsAt + offsetField bs k j + textField bs k j) (length (labelOf p)) bs ≡ labelOf p =
+      λ h. ap₂ (λ y z. part (textsAt + y + z) (length (labelOf p)) bs) (from (omega arith)) (r .text-length)
+      ∙ at-part bs (textsAt + i + length (textOf p)) (labelOf p)
+      (at-next bs (textsAt + i) (textOf p) (labelOf p) (length (textOf p)) (textsAt + i + length (textOf p)) refl refl (r .texts)) in
       let a : keyIn (keyField bs k j) ≡ p .key = ap keyIn (r .key) ∙ key-back (p .key) in
       let b : valueIn bs ns k j ≡ bareValue (p .value) = value-back bs ns k j (p .value) (value-of p w) (r .code) (r .decimals) (r .text-length)
       (r .number) t in
@@ -246,6 +245,10 @@ module _ {P : Type 0} where
       go (some l) h e = inLabel (l .score) (h .score) e
 
 -- ---- brackets
+-- the head of a bracket's row
+abbrev pub headOf : {P : Type 0} → Bracket P → List ℕ
+headOf b = headRow (kindCode (b .kind)) (b .first) (b .last) (b .count) (length (b .parts)) (scoreCode (scoreOf (b .parts)))
+
 -- what is read of bracket k, whose texts begin at i among the texts
 pub record BracketRead {P : Type 0} (bs : List ℕ) (ns : List ℤ) (k i : ℕ) (b : Bracket P) : Type 0 where
   pub kind : kindField bs k ≡ kindCode (b .kind)
@@ -254,7 +257,7 @@ pub record BracketRead {P : Type 0} (bs : List ℕ) (ns : List ℤ) (k i : ℕ) 
   pub count : countField bs k ≡ b .count
   pub many : partsField bs k ≡ length (b .parts)
   pub score : scoreField bs k ≡ scoreCode (scoreOf (b .parts))
-  pub number : getD ns (k * 5 + 4) (pos 0) ≡ given (scoreOf (b .parts)) millionths (pos 0)
+  pub number : scoreNumber ns k ≡ given (scoreOf (b .parts)) millionths (pos 0)
   pub parts : PartsRead bs ns k 0 i (b .parts)
 
 -- of the brackets from bracket k on
@@ -264,53 +267,55 @@ BracketsRead bs ns k i (b ∷ ks) = BracketRead bs ns k i b × BracketsRead bs n
 
 module _ {P : Type 0} (bs : List ℕ) (ns : List ℤ) where
   bracket-read :
-      (k i : ℕ) (b : Bracket P) → length (b .parts) ≤ 4 → At bs (rowAt k) (bracketRow i b) → At ns (k * 5) (numberRow b)
-      → At bs (2686 + i) (bracketTexts b) → BracketRead bs ns k i b
+      (k i : ℕ) (b : Bracket P) → length (b .parts) ≤ partLimit → At bs (rowAt k) (bracketRow i b) → At ns (k * numberRowSize) (numberRow b)
+      → At bs (textsAt + i) (bracketTexts b) → BracketRead bs ns k i b
   bracket-read k i b h a m t =
       let masses = map (λ p. massIn (p .value)) (b .parts) in
       let score = given (scoreOf (b .parts)) millionths (pos 0) in
-      let e : length (padded (pos 0) 4 masses) ≡ 4 = padded-length (pos 0) 4 masses (rw (length-map (b .parts) (λ p. massIn (p .value))) h) in
+      let e : length (padded (pos 0) partLimit masses) ≡ partLimit = padded-length (pos 0) partLimit masses (rw (length-map (b .parts) (λ p. massIn (p .value))) h) in
+      let parts = padded 0 (partLimit * partSize) (partRows i (b .parts)) in
+      let r = head-read bs k (kindCode (b .kind)) (b .first) (b .last) (b .count) (length (b .parts)) (scoreCode (scoreOf (b .parts)))
+      (at-first bs (rowAt k) (headOf b) parts a) in
       record {
-        kind = at-head bs (rowAt k) _ _ a 0;
-        first = at-read bs (rowAt k) (bracketRow i b) a 1 0;
-        last = at-read bs (rowAt k) (bracketRow i b) a 2 0;
-        count = at-read bs (rowAt k) (bracketRow i b) a 3 0;
-        many = at-read bs (rowAt k) (bracketRow i b) a 4 0;
-        score = at-read bs (rowAt k) (bracketRow i b) a 5 0;
-        number = at-head ns (k * 5 + 4) score [] (at-next ns (k * 5) (padded (pos 0) 4 masses) (score ∷ []) 4 (k * 5 + 4) e refl m) (pos 0);
+        kind = r .kind-read;
+        first = r .first-read;
+        last = r .last-read;
+        count = r .count-read;
+        many = r .parts-read;
+        score = r .score-read;
+        number = at-head ns (massAt k partLimit) score []
+            (at-next ns (k * numberRowSize) (padded (pos 0) partLimit masses) (score ∷ []) partLimit (massAt k partLimit) e refl m) (pos 0);
         parts =
             parts-read bs ns k 0 i (b .parts)
-            (at-first bs (partAt k 0) (partRows i (b .parts)) (replicate (28 - length (partRows i (b .parts))) 0)
-            (at-next bs (rowAt k) (kindCode (b .kind) ∷ b .first ∷ b .last ∷ b .count ∷ length (b .parts) ∷ scoreCode (scoreOf (b .parts)) ∷ [])
-            (padded 0 28 (partRows i (b .parts))) 6 (partAt k 0) refl (omega arith) a))
-            (at-first ns (k * 5 + 0) masses (replicate (4 - length masses) (pos 0))
-            (at-next ns (k * 5) [] (padded (pos 0) 4 masses) 0 (k * 5 + 0) refl refl
-            (at-first ns (k * 5) (padded (pos 0) 4 masses) (score ∷ []) m)))
+            (at-first bs (partAt k 0) (partRows i (b .parts)) (replicate (partLimit * partSize - length (partRows i (b .parts))) 0)
+            (at-next bs (rowAt k) (headOf b) parts headSize (partAt k 0) refl (omega arith) a))
+            (at-first ns (massAt k 0) masses (replicate (partLimit - length masses) (pos 0))
+            (at-next ns (k * numberRowSize) [] (padded (pos 0) partLimit masses) 0 (massAt k 0) refl refl
+            (at-first ns (k * numberRowSize) (padded (pos 0) partLimit masses) (score ∷ []) m)))
             t;
       }
 
   pub brackets-read :
-      (n k i : ℕ) (ks : List (Bracket P)) → Each (BracketWithin n) ks → At bs (rowAt k) (rows i ks) → At ns (k * 5) (flat numberRow ks) → At bs
-      (2686 + i) (flat bracketTexts ks)
+      (n k i : ℕ) (ks : List (Bracket P)) → Each (BracketWithin n) ks → At bs (rowAt k) (rows i ks) → At ns (k * numberRowSize) (flat numberRow ks) → At bs
+      (textsAt + i) (flat bracketTexts ks)
       → BracketsRead bs ns k i ks
   unfolding rows flat
   brackets-read n k i [] w a m t = tt
   brackets-read n k i (b ∷ ks) w a m t =
-      let few : length (b .parts) ≤ 4 = w .0 .few-parts in
+      let few : length (b .parts) ≤ partLimit = w .0 .few-parts in
       let next = i + length (bracketTexts b) in (
         bracket-read k i b few
             (at-first bs (rowAt k) (bracketRow i b) (rows next ks) a)
-            (at-first ns (k * 5) (numberRow b) (flat numberRow ks) m)
-            (at-first bs (2686 + i) (bracketTexts b) (flat bracketTexts ks) t),
+            (at-first ns (k * numberRowSize) (numberRow b) (flat numberRow ks) m)
+            (at-first bs (textsAt + i) (bracketTexts b) (flat bracketTexts ks) t),
         brackets-read n (k + 1) next ks (w .1)
-            (at-next bs (rowAt k) (bracketRow i b) (rows next ks) 34 (rowAt (k + 1)) (bracket-row-length i b few) (omega arith) a)
-            (at-next ns (k * 5) (numberRow b) (flat numberRow ks) 5 ((k + 1) * 5) (number-row-length b few) (omega arith) m)
-            (at-next bs (2686 + i) (bracketTexts b) (flat bracketTexts ks) (length (bracketTexts b)) (2686 + next) refl (omega arith) t),
+            (at-next bs (rowAt k) (bracketRow i b) (rows next ks) rowSize (rowAt (k + 1)) (bracket-row-length i b few) (omega arith) a)
+            (at-next ns (k * numberRowSize) (numberRow b) (flat numberRow ks) numberRowSize ((k + 1) * numberRowSize) (number-row-length b few) (omega arith) m)
+            (at-next bs (textsAt + i) (bracketTexts b) (flat bracketTexts ks) (length (bracketTexts b)) (textsAt + next) refl (omega arith) t),
       )
 
   score-back :
-      (k : ℕ) (s : Option (Number P)) → OfGiven NumberWithin s → scoreField bs k ≡ scoreCode s → getD ns (k * 5 + 4)
-      (pos 0) ≡ given s millionths (pos 0)
+      (k : ℕ) (s : Option (Number P)) → OfGiven NumberWithin s → scoreField bs k ≡ scoreCode s → scoreNumber ns k ≡ given s millionths (pos 0)
       → scoreIn bs ns k ≡ optional bareNumber s
   score-back k none w e m = rw e
   score-back k (some n) w e m =
@@ -351,29 +356,29 @@ module _ {P : Type 0} (bs : List ℕ) (ns : List ℤ) where
 
 -- ---- residues
 residues-back :
-    {P : Type 0} (bs : List ℕ) (i : ℕ) (rs : List (Residue P)) → At bs (2 + i) (map (λ r. r .letter) rs) → At bs (256 + i)
+    {P : Type 0} (bs : List ℕ) (i : ℕ) (rs : List (Residue P)) → At bs (lettersAt + i) (map (λ r. r .letter) rs) → At bs (sectionsAt + i)
     (map (λ r. sectionCode (r .section)) rs)
     → tabled (residueIn bs) i (length rs) ≡ map bareResidue rs
 unfolding tabled
 residues-back bs i [] a c = refl
 residues-back bs i (r ∷ rs) a c =
-    let x : byteAt bs (2 + i) ≡ r .letter = at-head bs (2 + i) _ _ a 0 in
-    let y : sectionIn (byteAt bs (256 + i)) ≡ r .section = ap sectionIn (at-head bs (256 + i) _ _ c 0) ∙ section-back (r .section) in
+    let x : letterField bs i ≡ r .letter = at-head bs (lettersAt + i) _ _ a 0 in
+    let y : sectionIn (sectionField bs i) ≡ r .section = ap sectionIn (at-head bs (sectionsAt + i) _ _ c 0) ∙ section-back (r .section) in
     ap₂ _∷_ (λ d. record { letter = x d; section = y d; at = tt })
     (residues-back bs (i + 1) rs
-    (at-next bs (2 + i) (r .letter ∷ []) (map (λ r. r .letter) rs) 1 (2 + (i + 1)) refl (omega arith) a)
-    (at-next bs (256 + i) (sectionCode (r .section) ∷ []) (map (λ r. sectionCode (r .section)) rs) 1 (256 + (i + 1)) refl (omega arith) c))
+    (at-next bs (lettersAt + i) (r .letter ∷ []) (map (λ r. r .letter) rs) 1 (lettersAt + (i + 1)) refl (omega arith) a)
+    (at-next bs (sectionsAt + i) (sectionCode (r .section) ∷ []) (map (λ r. sectionCode (r .section)) rs) 1 (sectionsAt + (i + 1)) refl (omega arith) c))
 
 -- ---- the whole areas
 pub record AreasRead {P : Type 0} (bs : List ℕ) (ns : List ℤ) (l : Line P) : Type 0 where
   pub residues-many : residuesField bs ≡ length (l .residues)
   pub brackets-many : bracketsField bs ≡ length (l .brackets)
-  pub letters : At bs 2 (map (λ r. r .letter) (l .residues))
-  pub sections : At bs 256 (map (λ r. sectionCode (r .section)) (l .residues))
+  pub letters : At bs lettersAt (map (λ r. r .letter) (l .residues))
+  pub sections : At bs sectionsAt (map (λ r. sectionCode (r .section)) (l .residues))
   pub brackets : BracketsRead bs ns 0 0 (l .brackets)
 
 module _ {P : Type 0} where
-  pub rows-length : (n i : ℕ) (ks : List (Bracket P)) → Each (BracketWithin n) ks → length (rows i ks) ≡ length ks * 34
+  pub rows-length : (n i : ℕ) (ks : List (Bracket P)) → Each (BracketWithin n) ks → length (rows i ks) ≡ length ks * rowSize
   unfolding rows
   rows-length n i [] w = refl
   rows-length n i (k ∷ ks) w =
@@ -381,7 +386,7 @@ module _ {P : Type 0} where
       let f = rows-length n (i + length (bracketTexts k)) ks (w .1) in
       length-append (bracketRow i k) (rows (i + length (bracketTexts k)) ks) ∙ omega arith
 
-  pub number-rows-length : (n : ℕ) (ks : List (Bracket P)) → Each (BracketWithin n) ks → length (flat numberRow ks) ≡ length ks * 5
+  pub number-rows-length : (n : ℕ) (ks : List (Bracket P)) → Each (BracketWithin n) ks → length (flat numberRow ks) ≡ length ks * numberRowSize
   unfolding flat
   number-rows-length n [] w = refl
   number-rows-length n (k ∷ ks) w =
@@ -392,37 +397,37 @@ module _ {P : Type 0} where
 module _ {P : Type 0} (l : Line P) (within : Within l) where
   -- the five pieces of the area of bytes
   abbrev numbers : List ℕ
-  numbers = length (l .residues) ∷ length (l .brackets) ∷ []
+  numbers = countsRow (length (l .residues)) (length (l .brackets))
 
   abbrev letters : List ℕ
-  letters = padded 0 254 (map (λ r. r .letter) (l .residues))
+  letters = padded 0 residueLimit (map (λ r. r .letter) (l .residues))
 
   abbrev sections : List ℕ
-  sections = padded 0 254 (map (λ r. sectionCode (r .section)) (l .residues))
+  sections = padded 0 residueLimit (map (λ r. sectionCode (r .section)) (l .residues))
 
   abbrev brackets : List ℕ
-  brackets = padded 0 2176 (rows 0 (l .brackets))
+  brackets = padded 0 (bracketLimit * rowSize) (rows 0 (l .brackets))
 
   abbrev texts : List ℕ
-  texts = padded 0 4096 (flat bracketTexts (l .brackets))
+  texts = padded 0 lineLimit (flat bracketTexts (l .brackets))
 
-  letters-length : length letters ≡ 254
-  letters-length = padded-length 0 254 (map (λ r. r .letter) (l .residues)) (rw (length-map (l .residues) (λ r. r .letter)) (within .few-residues))
+  letters-length : length letters ≡ residueLimit
+  letters-length = padded-length 0 residueLimit (map (λ r. r .letter) (l .residues)) (rw (length-map (l .residues) (λ r. r .letter)) (within .few-residues))
 
-  sections-length : length sections ≡ 254
-  sections-length = padded-length 0 254 (map (λ r. sectionCode (r .section)) (l .residues))
+  sections-length : length sections ≡ residueLimit
+  sections-length = padded-length 0 residueLimit (map (λ r. sectionCode (r .section)) (l .residues))
       (rw (length-map (l .residues) (λ r. sectionCode (r .section))) (within .few-residues))
 
-  brackets-length : length brackets ≡ 2176
+  brackets-length : length brackets ≡ bracketLimit * rowSize
   brackets-length =
       let e = rows-length (length (l .residues)) 0 (l .brackets) (within .brackets) in
       let few = within .few-brackets in
-      padded-length 0 2176 (rows 0 (l .brackets)) (omega arith)
+      padded-length 0 (bracketLimit * rowSize) (rows 0 (l .brackets)) (omega arith)
 
-  texts-length : length texts ≡ 4096
-  texts-length = padded-length 0 4096 (flat bracketTexts (l .brackets)) (within .texts)
+  texts-length : length texts ≡ lineLimit
+  texts-length = padded-length 0 lineLimit (flat bracketTexts (l .brackets)) (within .texts)
 
-  pub bytes-length : length (bytesOf l) ≡ 6782
+  pub bytes-length : length (bytesOf l) ≡ bytesSize
   unfolding bytesOf
   bytes-length =
       let a = letters-length in
@@ -434,34 +439,35 @@ module _ {P : Type 0} (l : Line P) (within : Within l) where
       let g = length-append brackets texts in
       omega arith
 
-  pub numbers-length : length (numbersOf l) ≡ 320
+  pub numbers-length : length (numbersOf l) ≡ numbersSize
   unfolding numbersOf
   numbers-length =
       let e = number-rows-length (length (l .residues)) (l .brackets) (within .brackets) in
       let few = within .few-brackets in
-      padded-length (pos 0) 320 (flat numberRow (l .brackets)) (omega arith)
+      padded-length (pos 0) numbersSize (flat numberRow (l .brackets)) (omega arith)
 
   pub areas-read : (w : List ℕ) (v : List ℤ) → AreasRead (bytesOf l ++ w) (numbersOf l ++ v) l
   unfolding bytesOf numbersOf
   areas-read w v =
       let bs = bytesOf l ++ w in
       let ns = numbersOf l ++ v in
-      let a0 : At bs 0 (numbers ++ (letters ++ (sections ++ (brackets ++ texts)))) = at-start (bytesOf l) w in
-      let a1 : At bs 2 (letters ++ (sections ++ (brackets ++ texts))) = at-next bs 0 numbers
-      (letters ++ (sections ++ (brackets ++ texts))) 2 2 refl refl a0 in
-      let a2 : At bs 256 (sections ++ (brackets ++ texts)) = at-next bs 2 letters (sections ++ (brackets ++ texts)) 254 256 letters-length refl a1 in
-      let a3 : At bs 510 (brackets ++ texts) = at-next bs 256 sections (brackets ++ texts) 254 510 sections-length refl a2 in
-      let a4 : At bs 2686 texts = at-next bs 510 brackets texts 2176 2686 brackets-length refl a3 in
+      let a0 : At bs residuesAt (numbers ++ (letters ++ (sections ++ (brackets ++ texts)))) = at-start (bytesOf l) w in
+      let a1 : At bs lettersAt (letters ++ (sections ++ (brackets ++ texts))) = at-next bs residuesAt numbers
+      (letters ++ (sections ++ (brackets ++ texts))) lettersAt lettersAt refl refl a0 in
+      let a2 : At bs sectionsAt (sections ++ (brackets ++ texts)) = at-next bs lettersAt letters (sections ++ (brackets ++ texts)) residueLimit sectionsAt letters-length refl a1 in
+      let a3 : At bs rowsAt (brackets ++ texts) = at-next bs sectionsAt sections (brackets ++ texts) residueLimit rowsAt sections-length refl a2 in
+      let a4 : At bs textsAt texts = at-next bs rowsAt brackets texts (bracketLimit * rowSize) textsAt brackets-length refl a3 in
+      let c = counts-read bs (length (l .residues)) (length (l .brackets)) (at-first bs residuesAt numbers (letters ++ (sections ++ (brackets ++ texts))) a0) in
       record {
-        residues-many = refl;
-        brackets-many = refl;
-        letters = at-first bs 2 (map (λ r. r .letter) (l .residues)) _ (at-first bs 2 letters (sections ++ (brackets ++ texts)) a1);
-        sections = at-first bs 256 (map (λ r. sectionCode (r .section)) (l .residues)) _ (at-first bs 256 sections (brackets ++ texts) a2);
+        residues-many = c .residues-read;
+        brackets-many = c .brackets-read;
+        letters = at-first bs lettersAt (map (λ r. r .letter) (l .residues)) _ (at-first bs lettersAt letters (sections ++ (brackets ++ texts)) a1);
+        sections = at-first bs sectionsAt (map (λ r. sectionCode (r .section)) (l .residues)) _ (at-first bs sectionsAt sections (brackets ++ texts) a2);
         brackets =
             brackets-read bs ns (length (l .residues)) 0 0 (l .brackets) (within .brackets)
-            (at-first bs 510 (rows 0 (l .brackets)) _ (at-first bs 510 brackets texts a3))
+            (at-first bs rowsAt (rows 0 (l .brackets)) _ (at-first bs rowsAt brackets texts a3))
             (at-first ns 0 (flat numberRow (l .brackets)) _ (at-start (numbersOf l) v))
-            (at-first bs 2686 (flat bracketTexts (l .brackets)) _ a4);
+            (at-first bs textsAt (flat bracketTexts (l .brackets)) _ a4);
       }
 
   pub tables-read : (bs : List ℕ) (ns : List ℤ) → AreasRead bs ns l → tablesIn bs ns ≡ tablesOf l

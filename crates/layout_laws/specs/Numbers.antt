@@ -7,6 +7,7 @@ use native.Mathlib.Nat.{mul-pos, mul-assoc, mul-div-cancel, mul-lt-mul-of-pos-ri
 use lib.Dec.{leb}
 use lib.Pow.{pow-add}
 use borrow.Author.Tests.{leb-true, ltb-true}
+use Rattle.scope.specs.Limits.{sizeLimit, decimalLimit}
 use Rattle.scope.specs.Line.{Number}
 use Rattle.scope.specs.Tables.{bareNumber, signed, millionths}
 use Rattle.scope.specs.Layout.{isNegative, numberIn}
@@ -24,28 +25,28 @@ tens : (d : ℕ) → 0 < 10 ^ d
 tens d = one-le-pow d 10 (omega arith)
 
 module _ {P : Type 0} (n : Number P) (w : NumberWithin n) where
-  pub few-decimals : n .decimals ≤ 6
-  few-decimals = leb-true (n .decimals) 6 (and-left _ _ (w .range))
+  pub few-decimals : n .decimals ≤ decimalLimit
+  few-decimals = leb-true (n .decimals) decimalLimit (and-left _ _ (w .range))
 
   pub number-back : numberIn (millionths n) (n .decimals) ≡ bareNumber n
   number-back =
       ap₂ (λ a b. record { minus = a; digits = b; decimals = n .decimals; at = tt })
-      (sign-back (n .minus) (n .digits * 10 ^ (6 - n .decimals)) (λ e. mul-pos (w .sign e) (tens (6 - n .decimals))))
-      (ap (λ z. z / 10 ^ (6 - n .decimals)) (abs-signed (n .minus) (n .digits * 10 ^ (6 - n .decimals))) ∙ mul-div-cancel (n .digits)
-      (tens (6 - n .decimals)))
+      (sign-back (n .minus) (n .digits * 10 ^ (decimalLimit - n .decimals)) (λ e. mul-pos (w .sign e) (tens (decimalLimit - n .decimals))))
+      (ap (λ z. z / 10 ^ (decimalLimit - n .decimals)) (abs-signed (n .minus) (n .digits * 10 ^ (decimalLimit - n .decimals))) ∙ mul-div-cancel (n .digits)
+      (tens (decimalLimit - n .decimals)))
 
-  full : 1000000 * 10 ^ (n .decimals) * 10 ^ (6 - n .decimals) ≡ 1000000 * 10 ^ 6
+  full : sizeLimit * 10 ^ (n .decimals) * 10 ^ (decimalLimit - n .decimals) ≡ sizeLimit * 10 ^ decimalLimit
   full =
-      mul-assoc 1000000 (10 ^ (n .decimals)) (10 ^ (6 - n .decimals))
-      ∙ ap (λ z. 1000000 * z) (sym (pow-add 10 (n .decimals) (6 - n .decimals)))
-      ∙ ap (λ z. 1000000 * 10 ^ z) (sum few-decimals)
+      mul-assoc sizeLimit (10 ^ (n .decimals)) (10 ^ (decimalLimit - n .decimals))
+      ∙ ap (λ z. sizeLimit * z) (sym (pow-add 10 (n .decimals) (decimalLimit - n .decimals)))
+      ∙ ap (λ z. sizeLimit * 10 ^ z) (sum few-decimals)
     where
-      sum : n .decimals ≤ 6 → n .decimals + (6 - n .decimals) ≡ 6
+      sum : n .decimals ≤ decimalLimit → n .decimals + (decimalLimit - n .decimals) ≡ decimalLimit
       sum h = omega arith
 
   pub small : Small (millionths n)
   small =
-      rw (abs-signed (n .minus) (n .digits * 10 ^ (6 - n .decimals)))
+      rw (abs-signed (n .minus) (n .digits * 10 ^ (decimalLimit - n .decimals)))
       (rw full at
-      (mul-lt-mul-of-pos-right (ltb-true (n .digits) (1000000 * 10 ^ (n .decimals)) (and-right (leb (n .decimals) 6) _ (w .range)))
-      (tens (6 - n .decimals))))
+      (mul-lt-mul-of-pos-right (ltb-true (n .digits) (sizeLimit * 10 ^ (n .decimals)) (and-right (leb (n .decimals) decimalLimit) _ (w .range)))
+      (tens (decimalLimit - n .decimals))))

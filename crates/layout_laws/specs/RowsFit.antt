@@ -5,12 +5,14 @@ use Prim.Native.Nat.{ℕ, suc, _+_, _*_, _≤_}
 use native.Mathlib.Omega.{arith}
 use lib.ListN.{length, length-append, length-map}
 use Rattle.scope.specs.declared.answers.Site.{Site}
+use Rattle.scope.specs.Limits.{residueLimit, rowLimit, positionLimit}
 use Rattle.scope.specs.Line.{Bracket, Line}
 use Rattle.scope.specs.Lists.{keep, member}
 use Rattle.scope.specs.Positions.{permitted, permittedPositions, positions, mayStand, struckOut, floaters, rowsFrom, rowsOf}
 use Rattle.basics.specs.Each.{Each, each-all, each-map}
 use Rattle.accepted_laws.specs.Within.{Within}
 use Rattle.basics.specs.Tabled.{length-tabled}
+use Rattle.layout_laws.specs.Fits.{rows-room}
 
 pub kept-fewer : {A : Type 0} (f : A → Bool) (l : List A) → length (keep f l) ≤ length l
 unfolding keep
@@ -21,14 +23,14 @@ kept-fewer f (x ∷ l) = go (f x) (kept-fewer f l)
     go true h = omega arith
     go false h = omega arith
 
-permitted-few : {P : Type 0} (l : Line P) (k : Bracket P) → length (l .residues) ≤ 254 → length (permitted l k) ≤ 256
+permitted-few : {P : Type 0} (l : Line P) (k : Bracket P) → length (l .residues) ≤ residueLimit → length (permitted l k) ≤ positionLimit
 unfolding permitted
 permitted-few l k h =
     let a = kept-fewer (λ x. mayStand l k x && not (member x (struckOut (l .brackets)))) (positions l) in
     let b = length-tabled (λ x. x) 0 (length (l .residues) + 2) in
     omega arith
 
-rows-few : (f : ℕ) (qs : List (List ℕ)) → Each (λ q. length q ≤ 256) qs → length (rowsFrom f qs) ≤ length qs * 256
+rows-few : (f : ℕ) (qs : List (List ℕ)) → Each (λ q. length q ≤ positionLimit) qs → length (rowsFrom f qs) ≤ length qs * positionLimit
 unfolding rowsFrom
 rows-few f [] w = omega arith
 rows-few f (q ∷ qs) w =
@@ -38,12 +40,12 @@ rows-few f (q ∷ qs) w =
     let d = w .0 in
     omega arith
 
-pub rows-fit : {P : Type 0} (l : Line P) → Within l → length (rowsOf l) ≤ 2048
+pub rows-fit : {P : Type 0} (l : Line P) → Within l → length (rowsOf l) ≤ rowLimit
 unfolding rowsOf
 rows-fit l w =
     let a = rows-few 1 (permittedPositions l)
-    (each-map (λ q. length q ≤ 256) (permitted l) (floaters l)
-    (each-all (λ k. length (permitted l k) ≤ 256) (floaters l) (λ k. permitted-few l k (w .few-residues)))) in
+    (each-map (λ q. length q ≤ positionLimit) (permitted l) (floaters l)
+    (each-all (λ k. length (permitted l k) ≤ positionLimit) (floaters l) (λ k. permitted-few l k (w .few-residues)))) in
     let b = length-map (floaters l) (permitted l) in
     let c = w .few-copies in
-    omega arith
+    omega (arith, rows-room)

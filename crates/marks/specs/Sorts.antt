@@ -4,15 +4,16 @@ use mathlib.Core.List.{List}
 use Prim.Native.Nat.{ℕ}
 use lib.Dec.{eqb, ltb}
 use Rattle.scope.specs.declared.grammar.Key.{Key}
+use Rattle.scope.specs.declared.grammar.Key.the-variants.{NoKey, R, Formula}
 use Rattle.scope.specs.Keys.{keyCode}
 use Rattle.scope.specs.Bytes.{bytes, isDigit, sameFolded}
 use Rattle.scope.specs.Lists.{none?, all}
 use Rattle.marks.specs.declared.Sort.{Sort}
 use Rattle.marks.specs.declared.Sort.the-variants.{Bare, Barred, Numbering, Other}
 
--- by the number of the key: 0 is no key, 1 and 2 are U and M, 14 to 17 are the four keys that 8 names
+-- by the code of the key: U and M come before R, and the four keys that 8 names from Formula on
 abbrev pub sortIn : ℕ → Sort
-sortIn n = cond (eqb n 0) Bare (cond (ltb n 3) Numbering (cond (ltb n 14) Other Barred))
+sortIn n = cond (eqb n (keyCode NoKey)) Bare (cond (ltb n (keyCode R)) Numbering (cond (ltb n (keyCode Formula)) Other Barred))
 
 abbrev pub sortOf : Key → Sort
 sortOf k = sortIn (keyCode k)

@@ -189,6 +189,11 @@ enum Sort {
     Other,
 }
 
+// the codes of the keys at which a sort begins: R is the first behind U and M, Formula the first of those that 8 names
+const R: u8 = 3;
+
+const FORMULA: u8 = 14;
+
 fn sort_of(key: Key) -> Sort
     ensures { λ r. ⌜ r ≡ sortOf key ⌝ }
 {
@@ -196,10 +201,10 @@ fn sort_of(key: Key) -> Sort
     if code == 0 {
         return Sort::Bare;
     }
-    if code < 3 {
+    if code < R {
         return Sort::Numbering;
     }
-    if code < 14 {
+    if code < FORMULA {
         return Sort::Other;
     }
     Sort::Barred

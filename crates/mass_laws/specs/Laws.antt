@@ -55,7 +55,7 @@ module _ {P : Type 0} (t : Line P) (fair : Fair t) where
 
   -- "the whole number becomes a double with nothing lost": cast back, the double is the number
   pub nothing-lost : Limited t → toSigned 63 (ofInt binary64 (total t)) ≡ total t
-  nothing-lost l = exact.cast-back (total t) (total-below l)
+  nothing-lost l = exact.cast-back (total t) (sizes.total-size t fair l)
 
   -- 16 "a modification has no mass": none lacks one exactly when each has one
   pub all-stated : lacking t ≡ 0 ↔ all (λ k. there? (massOf k)) (modifications t) ≡ true

@@ -3,7 +3,7 @@ use mathlib.Core.Path.{_≡_, refl, ap₂, _∙_}
 use mathlib.Core.Logic.{_⊎_, inl, inr, ⊎-elim}
 use mathlib.Core.Bool.{Bool, true, false, cond}
 use mathlib.Core.List.{List, [], _∷_, map}
-use Prim.Native.Nat.{ℕ, suc, _+_, _*_, _≤_, _<_}
+use Prim.Native.Nat.{ℕ, suc, _+_, _-_, _*_, _≤_, _<_}
 use native.Mathlib.Nat.{mul-le-mul}
 use native.Mathlib.Omega.{arith}
 use lib.IntN.{ℤ, pos, natAbs, _*ℤ_}
@@ -17,7 +17,7 @@ use Rattle.scope.specs.Positions.{floaters}
 use Rattle.scope.specs.Masses.{massOr0, sum, sumℕ, total}
 use Rattle.mass_laws.specs.Weights.{weight}
 use Rattle.basics.specs.Wholes.{abs-add, abs-mul}
-use Rattle.mass_laws.specs.Terms.{FairBracket, Fair, Limited}
+use Rattle.mass_laws.specs.Terms.{massLimit, totalLimit, FairBracket, Fair, Limited}
 use Rattle.basics.specs.Each.{Each}
 use Rattle.mass_laws.specs.Splits.{total-is, other-than-unknown}
 
@@ -43,7 +43,7 @@ step b f c t f₁ (inl h) (inr k) = inr (omega arith)
 step b f c t f₁ (inr h) (inl k) = inr (omega arith)
 step b f c t f₁ (inr h) (inr k) = inr (omega arith)
 
-weight-by : (t : Bool) (c : ℕ) (m : ℤ) → natAbs m ≤ 999999999999 → natAbs (cond t (pos c *ℤ m) (pos 0)) ≤ cond t c 0 * 999999999999
+weight-by : (t : Bool) (c : ℕ) (m : ℤ) → natAbs m ≤ massLimit - 1 → natAbs (cond t (pos c *ℤ m) (pos 0)) ≤ cond t c 0 * (massLimit - 1)
 weight-by true c m h =
     let same : c ≤ c = omega arith in
     omega (arith, abs-mul c m, mul-le-mul same h)
@@ -71,15 +71,15 @@ module _ {P : Type 0} where
   unfolding floaters
   floating-is t = floating (t .brackets)
 
-  weight-size : (k : Bracket P) → natAbs (massOr0 k) < 1000000000000 → natAbs (weight k) ≤ times k * 999999999999
+  weight-size : (k : Bracket P) → natAbs (massOr0 k) < massLimit → natAbs (weight k) ≤ times k * (massLimit - 1)
   unfolding weight times
   weight-size k h = weight-by (isModification k) (k .count) (massOr0 k) (omega arith)
 
-  sum-size : (ks : List (Bracket P)) → Each (λ k. natAbs (massOr0 k) < 1000000000000) ks → natAbs (sum (map weight ks)) ≤ sumℕ (map times ks) * 999999999999
+  sum-size : (ks : List (Bracket P)) → Each (λ k. natAbs (massOr0 k) < massLimit) ks → natAbs (sum (map weight ks)) ≤ sumℕ (map times ks) * (massLimit - 1)
   unfolding sum sumℕ
   sum-size [] f = omega arith
   sum-size (k ∷ ks) f = omega (arith, abs-add (weight k) (sum (map weight ks)), weight-size k (f .0), sum-size ks (f .1))
 
-  -- at most 64 times from 64 brackets, or at most 63 and 8 more
-  pub total-size : (t : Line P) → Fair t → Limited t → natAbs (total t) < 71000000000000
+  -- at most as many masses as brackets, or one less and as many more as copies float
+  pub total-size : (t : Line P) → Fair t → Limited t → natAbs (total t) < totalLimit
   total-size t f l = rw (total-is t) (⊎-elim (λ h. omega (arith, sum-size (t .brackets) (l .small), l .few-brackets)) (λ h. omega (arith, sum-size (t .brackets) (l .small), l .few-brackets, l .few-copies, floating-is t)) (many (length (t .residues)) (t .brackets) (f .each-bracket)))

@@ -9,17 +9,17 @@ use native.Mathlib.Nat.{div-mul-le-self}
 use native.Mathlib.Omega.{arith}
 use lib.Dec.{eqb}
 use lib.IntN.{ℤ, pos, natAbs}
-use lib.ListN.{getD}
 use Rattle.scope.specs.declared.grammar.Key.the-variants.{Obs}
-use Rattle.scope.specs.Limits.{sizeLimit, decimalLimit}
+use Rattle.scope.specs.Limits.{decimalLimit}
 use Rattle.scope.specs.Line.{Number, mass, text, reference, Part}
 use Rattle.scope.specs.Lists.{given, keep, tabled}
 use Rattle.scope.specs.Modifications.{isKey}
 use Rattle.scope.specs.Tables.{millionths}
-use Rattle.scope.specs.Layout.{isNegative, numberIn, partIn, bracketIn, bracketsField, decimalsField, massField, partsField, valueField}
+use Rattle.scope.specs.Layout.{massCode, textCode, isNegative, numberIn, partIn, bracketIn, bracketsField, decimalsField, massField, partsField, valueField}
 use Rattle.scope.specs.Masses.{valueMass, firstMass, massOf, massOr0}
 use Rattle.areas.specs.Bounds.{Small, Bounds}
 use Rattle.basics.specs.Wholes.{abs-signed}
+use Rattle.mass_laws.specs.Terms.{massLimit}
 
 -- ---- a number to so many decimals
 abs-millionths : (m : ℤ) (d : ℕ) → natAbs (millionths (numberIn m d)) ≤ natAbs m
@@ -63,26 +63,23 @@ size-is (some m) = refl
 size-is none = refl
 
 -- ---- in areas
-abbrev limit : ℕ
-limit = sizeLimit * 10 ^ decimalLimit
-
 module _ {bs : List ℕ} {ns : List ℤ} (b : Bounds bs ns) {k : ℕ} (h : k < bracketsField bs) where
-  small-part : (i : ℕ) → i < partsField bs k → size (valueMass (partIn bs ns k i .value)) < limit
+  small-part : (i : ℕ) → i < partsField bs k → size (valueMass (partIn bs ns k i .value)) < massLimit
   unfolding partIn
   small-part i q =
       small-value
       (numberIn (massField ns k i) (decimalsField bs k i)) _
-      (eqb (valueField bs k i) 1) (eqb (valueField bs k i) 2) limit
+      (eqb (valueField bs k i) massCode) (eqb (valueField bs k i) textCode) massLimit
       (omega (arith, abs-millionths (massField ns k i) (decimalsField bs k i), b .bracket k h .part i q .small))
 
   abbrev firstOf : (Part (Unit {0}) → Bool) → Option ℤ
   firstOf g = firstMass (keep g (tabled (partIn bs ns k) 0 (partsField bs k)))
 
-  small-of : (g : Part (Unit {0}) → Bool) → size (firstOf g) < limit
-  small-of g = small-first g (partIn bs ns k) limit (omega arith) 0 (partsField bs k) (λ i q. small-part i (omega arith))
+  small-of : (g : Part (Unit {0}) → Bool) → size (firstOf g) < massLimit
+  small-of g = small-first g (partIn bs ns k) massLimit (omega arith) 0 (partsField bs k) (λ i q. small-part i (omega arith))
 
   pub small-mass : Small (massOr0 (bracketIn bs ns k))
   unfolding massOf bracketIn
   small-mass =
-      subst (λ n. n < limit) (size-is (massOf (bracketIn bs ns k)))
-      (small-given (firstOf (λ p. not (isKey Obs p))) (firstOf (isKey Obs)) limit (small-of (λ p. not (isKey Obs p))) (small-of (isKey Obs)))
+      subst (λ n. n < massLimit) (size-is (massOf (bracketIn bs ns k)))
+      (small-given (firstOf (λ p. not (isKey Obs p))) (firstOf (isKey Obs)) massLimit (small-of (λ p. not (isKey Obs p))) (small-of (isKey Obs)))

@@ -1,7 +1,7 @@
 -- The terms of the laws: what they ask of a line, each a plain fact that every accepted line has.
 use mathlib.Core.Path.{_≡_}
 use mathlib.Core.Bool.{true, false}
-use Prim.Native.Nat.{ℕ, _+_, _*_, _^_, _≤_, _<_}
+use Prim.Native.Nat.{ℕ, _+_, _-_, _*_, _^_, _≤_, _<_}
 use lib.IntN.{natAbs}
 use lib.ListN.{length}
 use Rattle.scope.specs.declared.grammar.Kind.the-variants.{Unknown, Labile}
@@ -11,6 +11,14 @@ use Rattle.scope.specs.Modifications.{isLabelled}
 use Rattle.scope.specs.Positions.{floaters}
 use Rattle.scope.specs.Masses.{massOr0}
 use Rattle.basics.specs.Each.{Each}
+
+-- what a mass stays below in size: "a mass or score below 1,000,000 in size", in millionths
+abbrev pub massLimit : ℕ
+massLimit = sizeLimit * 10 ^ decimalLimit
+
+-- and what the total stays below: a mass for each bracket but one, and one for each floating copy
+abbrev pub totalLimit : ℕ
+totalLimit = (bracketLimit + copyLimit - 1) * massLimit
 
 -- a bracket of a line with n residues
 pub record FairBracket {P : Type 0} (n : ℕ) (k : Bracket P) : Type 0 where
@@ -36,5 +44,4 @@ pub record Limited {P : Type 0} (t : Line P) : Type 0 where
   pub few-brackets : length (t .brackets) ≤ bracketLimit
   -- "floating copies 8"
   pub few-copies : length (floaters t) ≤ copyLimit
-  -- "a mass or score below 1,000,000 in size", in millionths
-  pub small : Each (λ k. natAbs (massOr0 k) < sizeLimit * 10 ^ decimalLimit) (t .brackets)
+  pub small : Each (λ k. natAbs (massOr0 k) < massLimit) (t .brackets)

@@ -8,8 +8,8 @@ use native.Mathlib.Nat.{zero-add}
 use native.Mathlib.Numerals.{add-one}
 use native.Mathlib.Decide.{ℕ-discrete}
 use native.Mathlib.Omega.{arith}
-use borrow.Author.Tests.{eq-eqb, ne-eqb}
-use lib.Dec.{eqb}
+use borrow.Author.Tests.{eq-eqb, ne-eqb, ltb-true, ltb-false}
+use lib.Dec.{eqb, ltb}
 use lib.IntN.{ℤ, pos, natAbs, _+ℤ_, +ℤ-idl, +ℤ-idr, +ℤ-assoc}
 use lib.ListN.{length, getD, set, drop, replicate, length-set, getD-replicate, drop-of-length-le}
 use lib.Seq.{getD-set-same, getD-set-other, drop-cons, ext-getD}
@@ -17,22 +17,23 @@ use mir.Syntax.{w64}
 use mir.Val.{toZ, ofZ}
 use Rattle.scope.specs.declared.grammar.Kind.{Kind}
 use Rattle.scope.specs.declared.grammar.Kind.the-variants.{Unknown, Labile, NTerm, OnResidue, OnRange, CTerm}
-use Rattle.scope.specs.Limits.{positionLimit, copyLimit}
+use Rattle.scope.specs.Limits.{bracketLimit, positionLimit, countLimit, copyLimit}
 use Rattle.scope.specs.Line.{Bracket}
 use Rattle.scope.specs.Lists.{keep, flat, tabled}
 use Rattle.scope.specs.Modifications.{copies, isModification, isLabelled, unlabelledCopies}
 use Rattle.scope.specs.Positions.{isPlaced, floaters}
-use Rattle.scope.specs.Layout.{bracketIn, tablesIn, bracketsField}
+use Rattle.scope.specs.Layout.{bytesSize, bracketIn, tablesIn, bracketsField, firstField}
 use Rattle.scope.specs.Masses.{massOr0, sum, placedAt, putAt, ledger}
 use Rattle.areas.specs.Bounds.{Small, Bounds}
-use Rattle.brackets.specs.Row.{Row, row}
 use Rattle.basics.specs.Tabled.{tabled-at, tabled-end, tabled-all, length-tabled, getD-tabled}
 use Rattle.masses.specs.Reach.{Reach}
+use Rattle.mass_laws.specs.Terms.{massLimit}
 use Rattle.mass_laws.specs.Weights.{placedMass, placed-cons}
-use Rattle.masses.specs.Booking.{Held, Placed, CanPut, CanFloat, Put}
+use Rattle.masses.specs.Booking.{Held, Placed, CanBook, booked, CanPut, CanFloat, Put}
 use Rattle.masses.proofs.Whole.{back}
 use Rattle.basics.specs.Wholes.{abs-add}
 use Rattle.masses.proofs.TallyLaws.{mass-small, few-copies}
+use Rattle.basics.specs.Choice.{by-test}
 use Rattle.basics.specs.Tests.{eqb-sym}
 
 -- ---- one booking: a mass at position y
@@ -49,11 +50,11 @@ module _ {l : List ℤ} {n : ℕ} (held : Held l n) (y : ℕ) (in-range : y < po
           getD-set-other l y x v (pos 0) (λ z. q (sym z)) ∙ sym (+ℤ-idr (getD l x (pos 0)))
           ∙ ap (λ t. getD l x (pos 0) +ℤ cond t m (pos 0)) (sym (ne-eqb y x q))
 
-  small-share : natAbs m < 1000000000000 → (t : Bool) → natAbs (cond t m (pos 0)) ≤ 1000000000000
+  small-share : natAbs m < massLimit → (t : Bool) → natAbs (cond t m (pos 0)) ≤ massLimit
   small-share h true = omega arith
   small-share h false = omega arith
 
-  pub held-booked : {v : ℤ} → natAbs m < 1000000000000 → v ≡ getD l y (pos 0) +ℤ m → Held (set l y v) (n + 1)
+  pub held-booked : {v : ℤ} → natAbs m < massLimit → v ≡ getD l y (pos 0) +ℤ m → Held (set l y v) (n + 1)
   held-booked {v} h e =
       record {
         whole = length-set l y v ∙ held .whole;
@@ -64,7 +65,7 @@ module _ {l : List ℤ} {n : ℕ} (held : Held l n) (y : ℕ) (in-range : y < po
       }
 
   -- the machine adds what it reads back from the bits of the entry, and reads the sum back from its bits
-  module _ (few : n ≤ 80) (h : natAbs m < 1000000000000) {z : ℤ} (read : z ≡ m) where
+  module _ (few : n ≤ bracketLimit + copyLimit) (h : natAbs m < massLimit) {z : ℤ} (read : z ≡ m) where
     entry-back : toZ w64 (ofZ w64 (getD l y (pos 0))) ≡ getD l y (pos 0)
     entry-back = back (getD l y (pos 0)) (omega (arith, held .small y in-range))
 
@@ -77,11 +78,11 @@ module _ {l : List ℤ} {n : ℕ} (held : Held l n) (y : ℕ) (in-range : y < po
         rw f (back (getD l y (pos 0) +ℤ m) (omega (arith, abs-add (getD l y (pos 0)) m, held .small y in-range)))
 
 -- ---- the placed modifications
-pub placed-small : {bs : List ℕ} {ns : List ℤ} {k : ℕ} → Reach bs ns k → natAbs (placedMass (bracketIn bs ns k)) < 1000000000000
+pub placed-small : {bs : List ℕ} {ns : List ℤ} {k : ℕ} → Reach bs ns k → natAbs (placedMass (bracketIn bs ns k)) < massLimit
 unfolding placedMass
 placed-small {bs} {ns} {k} r = by (isPlaced (bracketIn bs ns k))
   where
-    by : (t : Bool) → natAbs (cond t (massOr0 (bracketIn bs ns k)) (pos 0)) < 1000000000000
+    by : (t : Bool) → natAbs (cond t (massOr0 (bracketIn bs ns k)) (pos 0)) < massLimit
     by true = mass-small r
     by false = omega arith
 
@@ -101,28 +102,31 @@ pub record Placing (bs : List ℕ) (ns : List ℤ) (n k : ℕ) (l : List ℤ) : 
   pub held : Held l k
   pub entry : (x : ℕ) → x < positionLimit → placedAt x (tablesIn bs ns .brackets) ≡ getD l x (pos 0) +ℤ placedAt x (tabled (bracketIn bs ns) k (n - k))
 
-pub placing-start : {bs : List ℕ} {ns : List ℤ} {n : ℕ} → Bounds bs ns → n ≡ bracketsField bs → Placing bs ns n 0 (replicate 256 (pos 0))
+pub placing-start : {bs : List ℕ} {ns : List ℤ} {n : ℕ} → Bounds bs ns → n ≡ bracketsField bs → Placing bs ns n 0 (replicate positionLimit (pos 0))
 unfolding tablesIn
 placing-start {bs} {ns} {n} b e =
     record {
       bounds = b;
       many = e;
       inside = omega arith;
-      held = record { whole = refl; small = λ x h. rw (getD-replicate 256 x (pos 0) (pos 0) h) (omega arith) };
+      held = record { whole = refl; small = λ x h. rw (getD-replicate positionLimit x (pos 0) (pos 0) h) (omega arith) };
       entry =
           λ x h. ap (λ m. placedAt x (tabled (bracketIn bs ns) 0 m)) (sym e) ∙ ap (placedAt x) (tabled-all (bracketIn bs ns) n)
           ∙ sym (+ℤ-idl (placedAt x (tabled (bracketIn bs ns) 0 (n - 0))))
-          ∙ ap (λ z. z +ℤ placedAt x (tabled (bracketIn bs ns) 0 (n - 0))) (sym (getD-replicate 256 x (pos 0) (pos 0) h));
+          ∙ ap (λ z. z +ℤ placedAt x (tabled (bracketIn bs ns) 0 (n - 0))) (sym (getD-replicate positionLimit x (pos 0) (pos 0) h));
     }
 
 module _ {bs : List ℕ} {ns : List ℤ} {n k : ℕ} {l : List ℤ} (i : Placing bs ns n k l) where
   pub placing-reach : k < n → Reach bs ns k
   placing-reach h = record { bounds = i .bounds; inside = rw (← i .many) h }
 
-  pub placing-row : k < n → (j : ℕ) → j ≤ k → Row bs j
-  placing-row h j q = row (i .bounds) j (omega (arith, placing-reach h .inside))
+  pub placing-row : k < n → (j : ℕ) → j ≤ k → (bytesSize ≤ length bs) × (j < bracketLimit)
+  placing-row h j q = (i .bounds .bytes-room, omega (arith, placing-reach h .inside, i .bounds .few-brackets))
 
-  pub placing-few : n ≤ 64
+  pub placing-first : {y : ℕ} → k < n → (j : ℕ) → j ≤ k → y ≡ firstField bs j → y < positionLimit
+  placing-first h j q e = omega (arith, e, i .bounds .few-residues, i .bounds .bracket j (omega (arith, placing-reach h .inside)) .first)
+
+  pub placing-few : n ≤ bracketLimit
   placing-few = omega (arith, i .many, i .bounds .few-brackets)
 
   pub placing-next : {y : ℕ} {m v : ℤ} → k < n → y ≡ bracketIn bs ns k .first → y < positionLimit → m ≡ placedMass (bracketIn bs ns k) → v ≡ getD l y (pos 0) +ℤ m → Placing bs ns n (k + 1) (set l y v)
@@ -145,10 +149,10 @@ module _ {bs : List ℕ} {ns : List ℤ} {n k : ℕ} {l : List ℤ} (i : Placing
 
   -- the same, as the machine books it
   module _ {y : ℕ} {m : ℤ} (h : k < n) (r : y < positionLimit) (f : m ≡ placedMass (bracketIn bs ns k)) where
-    few-so-far : k ≤ 80
+    few-so-far : k ≤ bracketLimit + copyLimit
     few-so-far = omega (arith, placing-few)
 
-    small-placed : natAbs m < 1000000000000
+    small-placed : natAbs m < massLimit
     small-placed = rw f (placed-small (placing-reach h))
 
     mass-back : toZ w64 (ofZ w64 m) ≡ m
@@ -188,17 +192,17 @@ put-cons x b fs y p = refl
 
 -- of c copies, those for entries i to j - 1 of the placement are booked
 pub record Putting (l₀ : List ℤ) (at : List ℕ) (i c : ℕ) (m : ℤ) (end j : ℕ) (l : List ℤ) : Type 0 where
-  pub long : length at ≡ 8
+  pub long : length at ≡ copyLimit
   pub end-is : end ≡ min (i + c) copyLimit
   pub small : Small m
   pub from : i ≤ j
   pub inside : j ≤ end
-  pub held : Held l (64 + j)
+  pub held : Held l (bracketLimit + j)
   pub entry :
       (b : Bracket (Unit {0})) → massOr0 b ≡ m → (fs : List (Bracket (Unit {0}))) (x : ℕ) → x < positionLimit
       → getD l₀ x (pos 0) +ℤ putAt x (replicate c b ++ fs) (drop i at) ≡ getD l x (pos 0) +ℤ putAt x (replicate (c - (j - i)) b ++ fs) (drop j at)
 
-pub putting-start : {l : List ℤ} {at : List ℕ} {i c : ℕ} {m m′ : ℤ} {end : ℕ} → length at ≡ 8 → CanPut l i c m → m′ ≡ m → end ≡ min (i + c) copyLimit → Putting l at i c m′ end i l
+pub putting-start : {l : List ℤ} {at : List ℕ} {i c : ℕ} {m m′ : ℤ} {end : ℕ} → length at ≡ copyLimit → CanPut l i c m → m′ ≡ m → end ≡ min (i + c) copyLimit → Putting l at i c m′ end i l
 putting-start {l} {at} {i} {c} long p read e =
     record {
       long = long;
@@ -214,7 +218,7 @@ putting-start {l} {at} {i} {c} long p read e =
     all-left c i = omega arith
 
 module _ {l₀ : List ℤ} {at : List ℕ} {i c : ℕ} {m : ℤ} {end j : ℕ} {l : List ℤ} (s : Putting l₀ at i c m end j l) where
-  pub putting-few : j < end → j < 8
+  pub putting-few : j < end → j < copyLimit
   putting-few h = omega (arith, s .end-is)
 
   one-less : j < end → c - (j - i) ≡ suc (c - (j + 1 - i))
@@ -248,19 +252,39 @@ module _ {l₀ : List ℤ} {at : List ℕ} {i c : ℕ} {m : ℤ} {end j : ℕ} {
             ∙ ap (λ z. z +ℤ putAt x (replicate (c - (j + 1 - i)) b ++ fs) (drop (j + 1) at)) (sym (booked-at (s .held) y r m g x));
       }
     where
-      more : (j : ℕ) → 64 + j + 1 ≡ 64 + (j + 1)
+      more : (j : ℕ) → bracketLimit + j + 1 ≡ bracketLimit + (j + 1)
       more j = omega arith
 
-  -- the same, as the machine books it
-  module _ {y : ℕ} (h : j < end) (r : y < positionLimit) where
-    few-put : 64 + j ≤ 80
-    few-put = omega (arith, putting-few h)
+  -- a position that the ledger does not have
+  putting-past : {y : ℕ} → j < end → y ≡ getD at j 0 → positionLimit ≤ y → Putting l₀ at i c m end (j + 1) l
+  putting-past {y} h e r =
+      record {
+        long = s .long;
+        end-is = s .end-is;
+        small = s .small;
+        from = omega (arith, s .from);
+        inside = omega arith;
+        held = record { whole = s .held .whole; small = λ x p. omega (arith, s .held .small x p) };
+        entry =
+            λ b q fs x p.
+            s .entry b q fs x p
+            ∙ ap (λ ks. getD l x (pos 0) +ℤ putAt x ks (drop j at)) (copy-first b fs (one-less h))
+            ∙ ap (λ d. getD l x (pos 0) +ℤ putAt x (b ∷ (replicate (c - (j + 1 - i)) b ++ fs)) d) (entry-first h)
+            ∙ ap (λ z. getD l x (pos 0) +ℤ z)
+            (put-cons x b (replicate (c - (j + 1 - i)) b ++ fs) (getD at j 0) (drop (j + 1) at)
+            ∙ ap (λ t. cond t (massOr0 b) (pos 0) +ℤ putAt x (replicate (c - (j + 1 - i)) b ++ fs) (drop (j + 1) at)) (ne-eqb x (getD at j 0) (λ z. omega arith))
+            ∙ +ℤ-idl (putAt x (replicate (c - (j + 1 - i)) b ++ fs) (drop (j + 1) at)));
+      }
 
-    pub putting-asks : natAbs (toZ w64 (ofZ w64 (getD l y (pos 0)))) + natAbs m < 2 ^ 63
-    putting-asks = asks-entry (s .held) y r m few-put (s .small) refl
+  -- as a booking asks it, and gives it
+  pub putting-asks : {y : ℕ} → j < end → CanBook l y m
+  putting-asks {y} h r = omega (arith, s .held .small y r, s .small, putting-few h)
 
-    pub putting-again : {v : ℤ} → y ≡ getD at j 0 → v ≡ toZ w64 (ofZ w64 (getD l y (pos 0))) +ℤ m → Putting l₀ at i c m end (j + 1) (set l y (toZ w64 (ofZ w64 v)))
-    putting-again e g = putting-next h e r (gives-entry (s .held) y r m few-put (s .small) refl g)
+  pub putting-again : {y : ℕ} {l′ : List ℤ} → j < end → y ≡ getD at j 0 → l′ ≡ booked l y m → Putting l₀ at i c m end (j + 1) l′
+  putting-again {y} {l′} h e g =
+      by-test (ltb y positionLimit)
+      (λ t. subst (Putting l₀ at i c m end (j + 1)) (sym (g ∙ ap (λ u. cond u (set l y (getD l y (pos 0) +ℤ m)) l) t)) (putting-next h e (ltb-true y positionLimit t) refl))
+      (λ t. subst (Putting l₀ at i c m end (j + 1)) (sym (g ∙ ap (λ u. cond u (set l y (getD l y (pos 0) +ℤ m)) l) t)) (putting-past h e (ltb-false y positionLimit t)))
 
   -- none is left, or no entry is
   none-left : end ≤ j → (b : Bracket (Unit {0})) (fs : List (Bracket (Unit {0}))) (x : ℕ) → putAt x (replicate (c - (j - i)) b ++ fs) (drop j at) ≡ putAt x fs (drop end at)
@@ -280,7 +304,7 @@ module _ {l₀ : List ℤ} {at : List ℕ} {i c : ℕ} {m : ℤ} {end j : ℕ} {
   pub putting-end : {m′ : ℤ} → end ≤ j → m ≡ m′ → Put l₀ l at i c m′ end
   putting-end h read =
       record {
-        held = subst (λ n. Held l (64 + n)) same (s .held);
+        held = subst (λ n. Held l (bracketLimit + n)) same (s .held);
         few = omega (arith, s .end-is);
         entry = λ b q fs x p. s .entry b (q ∙ sym read) fs x p ∙ ap (λ z. getD l x (pos 0) +ℤ z) (none-left h b fs x);
       }
@@ -289,7 +313,7 @@ module _ {l₀ : List ℤ} {at : List ℕ} {i c : ℕ} {m : ℤ} {end j : ℕ} {
       same = omega (arith, s .inside)
 
 -- ---- the copies of bracket k
-few-unlabelled : (k : Kind) (n : ℕ) → n ≤ 99 → unlabelledCopies k n ≤ 99
+few-unlabelled : (k : Kind) (n : ℕ) → n ≤ countLimit → unlabelledCopies k n ≤ countLimit
 few-unlabelled Unknown n h = h
 few-unlabelled Labile n h = omega arith
 few-unlabelled NTerm n h = omega arith
@@ -297,12 +321,12 @@ few-unlabelled OnResidue n h = omega arith
 few-unlabelled OnRange n h = omega arith
 few-unlabelled CTerm n h = omega arith
 
-few-by : (t u : Bool) (k : Kind) (n : ℕ) → n ≤ 99 → cond t (cond u 1 (unlabelledCopies k n)) 0 ≤ 99
+few-by : (t u : Bool) (k : Kind) (n : ℕ) → n ≤ countLimit → cond t (cond u 1 (unlabelledCopies k n)) 0 ≤ countLimit
 few-by true true k n h = omega arith
 few-by true false k n h = few-unlabelled k n h
 few-by false u k n h = omega arith
 
-few-floating : {bs : List ℕ} {ns : List ℤ} {k : ℕ} → Reach bs ns k → copies (bracketIn bs ns k) ≤ 99
+few-floating : {bs : List ℕ} {ns : List ℤ} {k : ℕ} → Reach bs ns k → copies (bracketIn bs ns k) ≤ countLimit
 unfolding copies
 few-floating {bs} {ns} {k} r =
     few-by (isModification (bracketIn bs ns k)) (isLabelled (bracketIn bs ns k)) (bracketIn bs ns k .kind) (bracketIn bs ns k .count) (few-copies r)
@@ -341,7 +365,7 @@ pub record Floating (bs : List ℕ) (ns : List ℤ) (at : List ℕ) (n k : ℕ) 
   pub bounds : Bounds bs ns
   pub many : n ≡ bracketsField bs
   pub inside : k ≤ n
-  pub held : Held l (64 + i)
+  pub held : Held l (bracketLimit + i)
   pub few : i ≤ copyLimit
   pub entry :
       (x : ℕ) → x < positionLimit

@@ -3,22 +3,22 @@ use mathlib.Core.Path.{_≡_, refl, sym, ap, _∙_}
 use mathlib.Core.Bool.{Bool, true, false, not, cond, _&&_}
 use mathlib.Core.Option.{Option, none, some}
 use mathlib.Core.List.{List, _∷_}
-use Prim.Native.Nat.{ℕ, _+_, _-_, _*_, _≤_, _<_}
-use native.Mathlib.Nat.{add-zero}
+use Prim.Native.Nat.{ℕ, _+_, _-_, _≤_, _<_}
 use native.Mathlib.Omega.{arith}
 use borrow.Author.Tests.{eq-eqb, ne-eqb}
 use lib.Dec.{eqb}
 use lib.IntN.{ℤ, pos}
-use lib.ListN.{length, getD}
+use lib.ListN.{length}
 use Rattle.scope.specs.declared.grammar.Key.the-variants.{Obs}
 use mir.Syntax.{w64}
 use mir.Val.{toZ, ofZ}
 use Rattle.scope.specs.Limits.{bracketLimit, partLimit, decimalLimit}
 use Rattle.scope.specs.Line.{Number, mass, text, reference, Part, Bracket}
+use Rattle.scope.specs.Keys.{keyCode}
 use Rattle.scope.specs.Lists.{given, keep, tabled}
 use Rattle.scope.specs.Modifications.{isKey}
 use Rattle.scope.specs.Tables.{millionths}
-use Rattle.scope.specs.Layout.{bytesSize, numbersSize, partSize, byteAt, partAt, numberRowSize, numberIn, partIn, bracketIn, decimalsField, keyField, massField, partsField, valueField}
+use Rattle.scope.specs.Layout.{massCode, textCode, bytesSize, numbersSize, numberIn, partIn, bracketIn, decimalsField, keyField, massField, partsField, valueField}
 use Rattle.scope.specs.Masses.{valueMass, firstMass, massOf, massOr0}
 use Rattle.areas.specs.Bounds.{Small, PartBounds}
 use Rattle.brackets.specs.Row.{Row, row}
@@ -32,22 +32,22 @@ use Rattle.masses.specs.Weights.{saysMass, wanted}
 use Rattle.mass_laws.specs.Small.{first-cons}
 
 -- ---- the tests of a part
-pub no-mass : {v b : ℕ} → v ≡ b → (v ≡ 1 → ⊥) → (t : Bool) → false ≡ eqb b 1 && t
-no-mass {v} {b} e h t = sym (ap (λ x. x && t) (ne-eqb b 1 (λ q. h (e ∙ q))))
+pub no-mass : {v b : ℕ} → v ≡ b → (v ≡ massCode → ⊥) → (t : Bool) → false ≡ eqb b massCode && t
+no-mass {v} {b} e h t = sym (ap (λ x. x && t) (ne-eqb b massCode (λ q. h (e ∙ q))))
 
-pub a-mass : {v b : ℕ} → v ≡ b → v ≡ 1 → (t : Bool) → t ≡ eqb b 1 && t
-a-mass {v} {b} e h t = sym (ap (λ x. x && t) (eq-eqb b 1 (sym e ∙ h)))
+pub a-mass : {v b : ℕ} → v ≡ b → v ≡ massCode → (t : Bool) → t ≡ eqb b massCode && t
+a-mass {v} {b} e h t = sym (ap (λ x. x && t) (eq-eqb b massCode (sym e ∙ h)))
 
 -- the first mass among the parts from j on: part j's, if it is a mass of the kind asked
 module _ (bs : List ℕ) (ns : List ℤ) (k : ℕ) (obs : Bool) where
   abbrev pub among : List (Part (Unit {0})) → Option ℤ
   among ps = firstMass (keep (λ p. wanted obs (isKey Obs p)) ps)
 
-  abbrev pub massAt : ℕ → ℤ
-  massAt j = millionths (numberIn (massField ns k j) (decimalsField bs k j))
+  abbrev pub massOfPart : ℕ → ℤ
+  massOfPart j = millionths (numberIn (massField ns k j) (decimalsField bs k j))
 
   abbrev pub hit : ℕ → Bool
-  hit j = eqb (valueField bs k j) 1 && wanted obs (eqb (keyField bs k j) 7)
+  hit j = eqb (valueField bs k j) massCode && wanted obs (eqb (keyField bs k j) (keyCode Obs))
 
   by-value : (n : Number (Unit {0})) (x : List ℕ) (t u w : Bool) (r : Option ℤ) → cond w (given (valueMass (cond t (mass n) (cond u (text x) reference))) some r) r ≡ cond (t && w) (some (millionths n)) r
   by-value n x true u true r = refl
@@ -57,15 +57,14 @@ module _ (bs : List ℕ) (ns : List ℤ) (k : ℕ) (obs : Bool) where
   by-value n x false false true r = refl
   by-value n x false false false r = refl
 
-  at-part : (j : ℕ) (ps : List (Part (Unit {0}))) → among (partIn bs ns k j ∷ ps) ≡ cond (hit j) (some (massAt j)) (among ps)
+  at-part : (j : ℕ) (ps : List (Part (Unit {0}))) → among (partIn bs ns k j ∷ ps) ≡ cond (hit j) (some (massOfPart j)) (among ps)
   unfolding partIn
   at-part j ps =
       first-cons (λ p. wanted obs (isKey Obs p)) (partIn bs ns k j) ps
       ∙ by-value
       (numberIn (massField ns k j) (decimalsField bs k j)) _
-      (eqb (valueField bs k j) 1) (eqb (valueField bs k j) 2) (wanted obs (isKey Obs (partIn bs ns k j))) (among ps)
-      ∙ ap (λ x. cond (eqb (byteAt bs x) 1 && wanted obs (isKey Obs (partIn bs ns k j))) (some (massAt j)) (among ps)) (sym (add-zero (partAt k j)))
-      ∙ ap (λ t. cond (eqb (valueField bs k j) 1 && wanted obs t) (some (massAt j)) (among ps)) (key-is (keyField bs k j) 7 (omega arith) (omega arith))
+      (eqb (valueField bs k j) massCode) (eqb (valueField bs k j) textCode) (wanted obs (isKey Obs (partIn bs ns k j))) (among ps)
+      ∙ ap (λ t. cond (eqb (valueField bs k j) massCode && wanted obs t) (some (massOfPart j)) (among ps)) (key-is (keyField bs k j) (keyCode Obs) (omega arith) (omega arith))
 
   -- no such mass before part j
   pub record Before (m j : ℕ) : Type 0 where
@@ -84,11 +83,11 @@ module _ (bs : List ℕ) (ns : List ℤ) (k : ℕ) (obs : Bool) where
         rest = ap (λ n. among (tabled (partIn bs ns k) 0 n)) (sym e) ∙ ap among (tabled-all (partIn bs ns k) m);
       }
 
-  pub before-found : {m j : ℕ} {has : Bool} → Before m j → j < m → has ≡ hit j → has ≡ true → some (massAt j) ≡ among (bracketIn bs ns k .parts)
+  pub before-found : {m j : ℕ} {has : Bool} → Before m j → j < m → has ≡ hit j → has ≡ true → some (massOfPart j) ≡ among (bracketIn bs ns k .parts)
   before-found {m} {j} b h e t =
       sym
       (b .rest ∙ ap among (tabled-at (partIn bs ns k) j m h) ∙ at-part j (tabled (partIn bs ns k) (j + 1) (m - (j + 1)))
-      ∙ ap (λ x. cond x (some (massAt j)) (among (tabled (partIn bs ns k) (j + 1) (m - (j + 1))))) (sym e ∙ t))
+      ∙ ap (λ x. cond x (some (massOfPart j)) (among (tabled (partIn bs ns k) (j + 1) (m - (j + 1))))) (sym e ∙ t))
 
   pub before-next : {m j : ℕ} {has : Bool} → Before m j → j < m → has ≡ hit j → has ≡ false → Before m (j + 1)
   before-next {m} {j} b h e t =
@@ -98,7 +97,7 @@ module _ (bs : List ℕ) (ns : List ℤ) (k : ℕ) (obs : Bool) where
         few = b .few;
         rest =
             b .rest ∙ ap among (tabled-at (partIn bs ns k) j m h) ∙ at-part j (tabled (partIn bs ns k) (j + 1) (m - (j + 1)))
-            ∙ ap (λ x. cond x (some (massAt j)) (among (tabled (partIn bs ns k) (j + 1) (m - (j + 1))))) (sym e ∙ t);
+            ∙ ap (λ x. cond x (some (massOfPart j)) (among (tabled (partIn bs ns k) (j + 1) (m - (j + 1))))) (sym e ∙ t);
       }
 
   pub before-end : {m j : ℕ} → Before m j → m ≤ j → none ≡ among (bracketIn bs ns k .parts)
@@ -121,17 +120,20 @@ module _ (b : Bracket (Unit {0})) where
   pub no-mass-is-0 : {r : Mass} → saysMass r ≡ massOf b → r ≡ Lacking → pos 0 ≡ massOr0 b
   no-mass-is-0 {r} e q = ap (λ x. given x (λ z. z) (pos 0)) (sym (ap saysMass q) ∙ e)
 
-pub with-obs : {v b key d : ℕ} {obs : Bool} → v ≡ b → v ≡ 1 → key ≡ d → obs ≡ true → eqb key 7 ≡ eqb b 1 && wanted obs (eqb d 7)
-with-obs {v} {b} {key} {d} e h f t = a-mass e h (eqb key 7) ∙ ap (λ n. eqb b 1 && eqb n 7) f ∙ ap (λ o. eqb b 1 && wanted o (eqb d 7)) (sym t)
+pub with-obs : {v b key d : ℕ} {obs : Bool} → v ≡ b → v ≡ massCode → key ≡ d → obs ≡ true → eqb key (keyCode Obs) ≡ eqb b massCode && wanted obs (eqb d (keyCode Obs))
+with-obs {v} {b} {key} {d} e h f t = a-mass e h (eqb key (keyCode Obs)) ∙ ap (λ n. eqb b massCode && eqb n (keyCode Obs)) f ∙ ap (λ o. eqb b massCode && wanted o (eqb d (keyCode Obs))) (sym t)
 
-pub without-obs : {v b key d : ℕ} {obs : Bool} → v ≡ b → v ≡ 1 → key ≡ d → obs ≡ false → not (eqb key 7) ≡ eqb b 1 && wanted obs (eqb d 7)
+pub without-obs : {v b key d : ℕ} {obs : Bool} → v ≡ b → v ≡ massCode → key ≡ d → obs ≡ false → not (eqb key (keyCode Obs)) ≡ eqb b massCode && wanted obs (eqb d (keyCode Obs))
 without-obs {v} {b} {key} {d} e h f t =
-    a-mass e h (not (eqb key 7)) ∙ ap (λ n. eqb b 1 && not (eqb n 7)) f ∙ ap (λ o. eqb b 1 && wanted o (eqb d 7)) (sym t)
+    a-mass e h (not (eqb key (keyCode Obs))) ∙ ap (λ n. eqb b massCode && not (eqb n (keyCode Obs))) f ∙ ap (λ o. eqb b massCode && wanted o (eqb d (keyCode Obs))) (sym t)
 
 -- ---- what the bounds give where a bracket or a part of it is read
 module _ {bs : List ℕ} {ns : List ℤ} {k : ℕ} where
   pub reach-row : Reach bs ns k → Row bs k
   reach-row r = row (r .bounds) k (r .inside)
+
+  pub reach-bracket : Reach bs ns k → (bytesSize ≤ length bs) × (k < bracketLimit)
+  reach-bracket r = (reach-row r .room, reach-row r .inside)
 
   pub reach-next : {m j : ℕ} → Reach bs ns k → m ≡ partsField bs k → j < m → ReachPart bs ns k j
   reach-next r e h = record { reach = r; part = rw (← e) h }
@@ -146,11 +148,11 @@ module _ {bs : List ℕ} {ns : List ℤ} {k j : ℕ} (r : ReachPart bs ns k j) w
   abbrev bounds : PartBounds bs ns k j
   bounds = r .reach .bounds .bracket k (r .reach .inside) .part j (r .part)
 
-  pub reach-number : (numbersSize ≤ length ns) × (k < bracketLimit) × (j < numberRowSize)
-  reach-number = (r .reach .bounds .numbers-room, few-brackets, omega (arith, few-parts))
+  pub reach-mass : (numbersSize ≤ length ns) × (k < bracketLimit) × (j < partLimit)
+  reach-mass = (r .reach .bounds .numbers-room, few-brackets, few-parts)
 
-  pub reach-byte : (bytesSize ≤ length bs) × (k < bracketLimit) × (j < partLimit) × (2 < partSize)
-  reach-byte = (r .reach .bounds .bytes-room, few-brackets, few-parts, omega arith)
+  pub reach-part : (bytesSize ≤ length bs) × (k < bracketLimit) × (j < partLimit)
+  reach-part = (r .reach .bounds .bytes-room, few-brackets, few-parts)
 
   number-back : {m : ℤ} → m ≡ massField ns k j → toZ w64 (ofZ w64 m) ≡ m
   number-back {m} e = back m (rw e (omega (arith, bounds .small)))

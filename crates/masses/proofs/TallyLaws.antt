@@ -10,7 +10,7 @@ use borrow.Author.Tests.{eq-eqb, ne-eqb}
 use lib.IntN.{ℤ, pos, natAbs, _+ℤ_, _*ℤ_, +ℤ-idl, +ℤ-idr, +ℤ-assoc}
 use mir.Syntax.{w64}
 use mir.Val.{toZ, ofZ}
-use Rattle.scope.specs.Limits.{countLimit}
+use Rattle.scope.specs.Limits.{bracketLimit, countLimit}
 use Rattle.scope.specs.Line.{Bracket}
 use Rattle.scope.specs.Lists.{given, keep, tabled}
 use Rattle.scope.specs.Modifications.{isModification}
@@ -23,6 +23,7 @@ use Rattle.masses.specs.declared.Mass.the-variants.{Is, Lacking}
 use Rattle.masses.specs.declared.Weight.the-variants.{Total, Lacks}
 use Rattle.masses.specs.Reach.{Reach}
 use Rattle.masses.specs.Weights.{saysMass, weightOf}
+use Rattle.mass_laws.specs.Terms.{massLimit}
 use Rattle.mass_laws.specs.Weights.{weight, lack}
 use Rattle.masses.specs.Tallies.{Before, CanTally, Tallied}
 use Rattle.masses.proofs.Whole.{back}
@@ -38,23 +39,23 @@ module _ {bs : List ℕ} {ns : List ℤ} {k : ℕ} (r : Reach bs ns k) where
   unfolding bracketIn
   few-copies = r .bounds .bracket k (r .inside) .few-counts
 
-  weight-by : (t : Bool) → natAbs (cond t (pos (bracketIn bs ns k .count) *ℤ massOr0 (bracketIn bs ns k)) (pos 0)) ≤ 99000000000000
+  weight-by : (t : Bool) → natAbs (cond t (pos (bracketIn bs ns k .count) *ℤ massOr0 (bracketIn bs ns k)) (pos 0)) ≤ countLimit * massLimit
   weight-by true =
-      let few : bracketIn bs ns k .count ≤ 99 = few-copies in
-      let small : natAbs (massOr0 (bracketIn bs ns k)) ≤ 1000000000000 = omega (arith, mass-small) in
+      let few : bracketIn bs ns k .count ≤ countLimit = few-copies in
+      let small : natAbs (massOr0 (bracketIn bs ns k)) ≤ massLimit = omega (arith, mass-small) in
       omega (arith, abs-mul (bracketIn bs ns k .count) (massOr0 (bracketIn bs ns k)), mul-le-mul few small)
   weight-by false = omega arith
 
-  pub weight-small : natAbs (weight (bracketIn bs ns k)) ≤ 99000000000000
+  pub weight-small : natAbs (weight (bracketIn bs ns k)) ≤ countLimit * massLimit
   unfolding weight
   weight-small = weight-by (isModification (bracketIn bs ns k))
 
-  lack-by : (t : Bool) (o : Option ℤ) → cond t (given o (λ m. 0) (bracketIn bs ns k .count)) 0 ≤ 99
+  lack-by : (t : Bool) (o : Option ℤ) → cond t (given o (λ m. 0) (bracketIn bs ns k .count)) 0 ≤ countLimit
   lack-by true (some m) = omega arith
   lack-by true none = few-copies
   lack-by false o = omega arith
 
-  pub lack-few : lack (bracketIn bs ns k) ≤ 99
+  pub lack-few : lack (bracketIn bs ns k) ≤ countLimit
   unfolding lack
   lack-few = lack-by (isModification (bracketIn bs ns k)) (massOf (bracketIn bs ns k))
 
@@ -98,21 +99,21 @@ module _ {bs : List ℕ} {ns : List ℤ} {k w : ℕ} {s : ℤ} (t : CanTally bs 
   mass-known : m′ ≡ massOr0 (bracketIn bs ns k)
   mass-known = read ∙ is-mass (bracketIn bs ns k) f q
 
-  few-known : n ≤ 99
+  few-known : n ≤ countLimit
   few-known = rw c (few-copies (t .reach))
 
-  small-known : natAbs m′ < 1000000000000
+  small-known : natAbs m′ < massLimit
   small-known = rw mass-known (mass-small (t .reach))
 
   pub asks-times : (n ≤ countLimit) × Small m′
   asks-times = (few-known, small-known)
 
-  product-small : natAbs (pos n *ℤ m′) ≤ 99000000000000
+  product-small : natAbs (pos n *ℤ m′) ≤ countLimit * massLimit
   product-small =
-      let small : natAbs m′ ≤ 1000000000000 = omega (arith, small-known) in
+      let small : natAbs m′ ≤ massLimit = omega (arith, small-known) in
       omega (arith, abs-mul n m′, mul-le-mul few-known small)
 
-  few-before : k < 64
+  few-before : k < bracketLimit
   few-before = reach-row (t .reach) .inside
 
   sum-back : toZ w64 (ofZ w64 s) ≡ s

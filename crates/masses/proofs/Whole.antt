@@ -1,6 +1,5 @@
 -- Whole numbers of the machine. `omega` reads no ℤ: a size, `natAbs`, is a ℕ, and what follows is said of sizes. Assumes nothing.
 use mathlib.Core.Path.{_≡_, refl, _∙_}
-use mathlib.Core.Bool.{Bool, true, false}
 use Prim.Native.Nat.{ℕ, zero, suc, _+_, _-_, _*_, _/_, _^_, _≤_, _<_}
 use native.Mathlib.Nat.{pow-le-pow-right, div-le-self, div-mul-le-self, zero-mul, mul-le-mul}
 use native.Mathlib.Omega.{arith}
@@ -9,9 +8,10 @@ use lib.Signed.{quotZ}
 use mir.Syntax.{w64}
 use mir.Val.{SFits, toZ, ofZ}
 use mir.ValLaws.{toZ-ofZ, toZ-pos}
-use Rattle.scope.specs.Limits.{decimalLimit}
+use Rattle.scope.specs.Limits.{countLimit, decimalLimit}
 use Rattle.scope.specs.Tables.{signed, millionths}
 use Rattle.scope.specs.Layout.{isNegative, numberIn}
+use Rattle.mass_laws.specs.Terms.{massLimit}
 use Rattle.basics.specs.Wholes.{abs-add, abs-neg, abs-mul, abs-signed}
 
 -- a small size fits an `i64`, and is read back from its bits
@@ -36,7 +36,14 @@ module _ (a b : ℤ) (h : natAbs a + natAbs b < 2 ^ 63) where
   pub sum-back : toZ w64 (ofZ w64 (toZ w64 (ofZ w64 a) +ℤ toZ w64 (ofZ w64 b))) ≡ a +ℤ b
   sum-back = rw (back-a, back-b) (back (a +ℤ b) (omega (arith, abs-add a b)))
 
-module _ (n : ℕ) (m : ℤ) (few : n ≤ 99) (small : natAbs m < 1000000000000) where
+  -- the same, where both are read from their bits and the sum is stored
+  pub stored-fit : natAbs (toZ w64 (ofZ w64 a)) + natAbs (toZ w64 (ofZ w64 b)) < 2 ^ 63
+  stored-fit = rw (back-a, back-b) h
+
+  pub stored-sum : {r : ℤ} → r ≡ toZ w64 (ofZ w64 a) +ℤ toZ w64 (ofZ w64 b) → toZ w64 (ofZ w64 r) ≡ a +ℤ b
+  stored-sum e = rw e sum-back
+
+module _ (n : ℕ) (m : ℤ) (few : n ≤ countLimit) (small : natAbs m < massLimit) where
   back-n : toZ w64 n ≡ pos n
   back-n = toZ-pos w64 n (omega arith)
 
@@ -45,7 +52,7 @@ module _ (n : ℕ) (m : ℤ) (few : n ≤ 99) (small : natAbs m < 1000000000000)
 
   product : natAbs (pos n *ℤ m) < 2 ^ 63
   product =
-      let less : natAbs m ≤ 1000000000000 = omega arith in
+      let less : natAbs m ≤ massLimit = omega arith in
       omega (arith, abs-mul n m, mul-le-mul few less)
 
   pub can-times : SFits w64 (toZ w64 n *ℤ toZ w64 (ofZ w64 m))
@@ -58,8 +65,8 @@ module _ (n : ℕ) (m : ℤ) (few : n ≤ 99) (small : natAbs m < 1000000000000)
 pub unit-some : (d : ℕ) → 0 < 10 ^ (decimalLimit - d)
 unit-some d = pow-le-pow-right {n = 10} (omega arith) {i = 0} {j = decimalLimit - d} (omega arith)
 
-pub unit-few : (d : ℕ) → 10 ^ (decimalLimit - d) ≤ 1000000
-unit-few d = pow-le-pow-right {n = 10} (omega arith) {i = decimalLimit - d} {j = 6} (omega arith)
+pub unit-few : (d : ℕ) → 10 ^ (decimalLimit - d) ≤ 10 ^ decimalLimit
+unit-few d = pow-le-pow-right {n = 10} (omega arith) {i = decimalLimit - d} {j = decimalLimit} (omega arith)
 
 neg-mul : (n p : ℕ) → negℤ (pos n) *ℤ pos p ≡ negℤ (pos (n * p))
 neg-mul zero p = rw (zero-mul p)
@@ -77,7 +84,7 @@ abs-cut : (m : ℤ) (p : ℕ) → natAbs (quotZ m (pos p) *ℤ pos p) ≤ natAbs
 abs-cut m p = rw (cut m p, abs-signed (isNegative m) (natAbs m / p * p)) (div-mul-le-self (natAbs m) p)
 
 -- the machine divides by the unit, and multiplies again
-module _ (m : ℤ) (d : ℕ) (small : natAbs m < 1000000000000) {u : ℤ} (e : u ≡ pos (10 ^ (decimalLimit - d))) where
+module _ (m : ℤ) (d : ℕ) (small : natAbs m < massLimit) {u : ℤ} (e : u ≡ pos (10 ^ (decimalLimit - d))) where
   unit-back : toZ w64 (ofZ w64 u) ≡ pos (10 ^ (decimalLimit - d))
   unit-back = rw e (back (pos (10 ^ (decimalLimit - d))) (omega (arith, unit-few d)))
 

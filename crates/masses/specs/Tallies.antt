@@ -3,14 +3,16 @@ use mathlib.Core.Path.{_≡_}
 use mathlib.Core.List.{List}
 use Prim.Native.Nat.{ℕ, _+_, _*_, _≤_}
 use lib.IntN.{ℤ, natAbs, _+ℤ_}
+use Rattle.scope.specs.Limits.{countLimit}
 use Rattle.scope.specs.Line.{Bracket}
 use Rattle.masses.specs.Reach.{Reach}
+use Rattle.mass_laws.specs.Terms.{massLimit}
 use Rattle.mass_laws.specs.Weights.{weight, lack}
 
--- each bracket before adds at most 99 masses below 1,000,000, or 99 that lack one
+-- each bracket before adds its copies' masses, or as many that lack one
 pub record Before (k : ℕ) (sum : ℤ) (lacks : ℕ) : Type 0 where
-  pub small : natAbs sum ≤ k * 99000000000000
-  pub few : lacks ≤ k * 99
+  pub small : natAbs sum ≤ k * (countLimit * massLimit)
+  pub few : lacks ≤ k * countLimit
 
 pub record CanTally (bs : List ℕ) (ns : List ℤ) (k : ℕ) (sum : ℤ) (lacks : ℕ) : Type 0 where
   pub reach : Reach bs ns k

@@ -1,10 +1,7 @@
 // Masses: a bracket's, the total, the ledger of a placement, and the display.
-use areas::number;
-use areas::part_byte;
-use areas::wide;
+use areas::count;
+use areas::first;
 use brackets::copies_of;
-use brackets::count;
-use brackets::first;
 use brackets::is_modification;
 use brackets::is_placed;
 use brackets::parts;
@@ -16,22 +13,23 @@ ghost use mathlib.Core.Bool.{_&&_};
 ghost use Prim.Native.Nat.{min, _+_, _*_, _-_, _<_, _≤_, _^_};
 ghost use lib.Dec.{eqb};
 ghost use lib.IntN.{pos, natAbs, _+ℤ_, _*ℤ_};
-ghost use lib.ListN.{getD};
 ghost use Rattle.scope.specs.declared.grammar.Key.the-variants.{Obs};
 ghost use Rattle.scope.specs.declared.answers.Booked.the-variants.{Done};
 ghost use Rattle.scope.specs.Limits.{partLimit, decimalLimit, countLimit, copyLimit};
 ghost use Rattle.scope.specs.Lists.{keep};
+ghost use Rattle.scope.specs.Keys.{keyCode};
 ghost use Rattle.scope.specs.Modifications.{isKey, copies};
 ghost use Rattle.scope.specs.Tables.{millionths};
-ghost use Rattle.scope.specs.Layout.{numberIn, bracketIn, tablesIn, decimalsField, keyField, massField, valueField};
+ghost use Rattle.scope.specs.Layout.{massCode, numberIn, bracketIn, tablesIn, decimalsField, keyField, massField, valueField};
 ghost use Rattle.scope.specs.Masses.{firstMass, massOf, massOr0, ledger, daltons};
 ghost use Rattle.areas.specs.Bounds.{Small, Bounds};
 ghost use Rattle.brackets.specs.Row.{Row};
 ghost use Rattle.masses.specs.Reach.{Reach, ReachPart};
 ghost use Rattle.masses.specs.Weights.{saysMass, wanted, weightOf};
+ghost use Rattle.mass_laws.specs.Terms.{totalLimit};
 ghost use Rattle.mass_laws.specs.Weights.{placedMass};
 ghost use Rattle.masses.specs.Tallies.{CanTally, Tallied};
-ghost use Rattle.masses.specs.Booking.{Placed, CanPut, CanFloat, Put};
+ghost use Rattle.masses.specs.Booking.{Placed, CanBook, booked, CanPut, CanFloat, Put};
 
 // The mass of a bracket.
 pub enum Mass {
@@ -52,7 +50,7 @@ struct Tally {
 }
 
 // A unit of the last of so many decimals, in millionths.
-fn unit(decimals: u8) -> i64
+fn unit(decimals: usize) -> i64
     requires { ⌜ decimals ≤ decimalLimit ⌝ }
     ensures { λ r. ⌜ r ≡ pos (10 ^ (decimalLimit - decimals)) ⌝ }
 {
@@ -78,7 +76,7 @@ fn unit(decimals: u8) -> i64
 }
 
 // So many millionths, to so many decimals. In tables of a line these are all that the number has.
-fn to_decimals(m: i64, decimals: u8) -> i64
+fn to_decimals(m: i64, decimals: usize) -> i64
     requires { ⌜ (Small m) × (decimals ≤ decimalLimit) ⌝ }
     ensures { λ r. ⌜ r ≡ millionths (numberIn m decimals) ⌝ }
 {
@@ -92,23 +90,23 @@ fn part_mass(bytes: &[u8], numbers: &[i64], k: usize, j: usize) -> i64
     requires { ⌜ ReachPart (now bytes) (now numbers) k j ⌝ }
     ensures { λ r. ⌜ r ≡ millionths (numberIn (massField (now (numbers .entry)) k j) (decimalsField (now (bytes .entry)) k j)) ⌝ }
 {
-    to_decimals(number(numbers, k, j), part_byte(bytes, k, j, 2))
+    to_decimals(areas::mass(numbers, k, j), areas::decimals(bytes, k, j))
 }
 
 // Whether part j of bracket k is a mass, behind `Obs` or not as asked.
 fn has_mass(bytes: &[u8], k: usize, j: usize, obs: bool) -> bool
     requires { ⌜ (Row (now bytes) k) × (j < partLimit) ⌝ }
-    ensures { λ r. ⌜ r ≡ eqb (valueField (now (bytes .entry)) k j) 1 && wanted obs (eqb (keyField (now (bytes .entry)) k j) 7) ⌝ }
+    ensures { λ r. ⌜ r ≡ eqb (valueField (now (bytes .entry)) k j) massCode && wanted obs (eqb (keyField (now (bytes .entry)) k j) (keyCode Obs)) ⌝ }
 {
-    let value = part_byte(bytes, k, j, 0);
-    if value != 1 {
+    let value = areas::value(bytes, k, j);
+    if value != brackets::MASS {
         return false;
     }
-    let key = part_byte(bytes, k, j, 1);
+    let key = areas::key(bytes, k, j);
     if obs {
-        return key == 7;
+        return key == brackets::OBS;
     }
-    key != 7
+    key != brackets::OBS
 }
 
 // The first mass of bracket k, among those behind `Obs` or the others.
@@ -215,7 +213,7 @@ pub fn weigh(bytes: &[u8], numbers: &[i64]) -> Weight
 
 // "the whole number becomes a double with nothing lost and is divided once by 1,000,000"
 pub fn as_daltons(total: i64) -> f64
-    requires { ⌜ natAbs total < 71000000000000 ⌝ }
+    requires { ⌜ natAbs total < totalLimit ⌝ }
     ensures { λ r. ⌜ r ≡ daltons total ⌝ }
 {
     (total as f64) / 1000000.0
@@ -266,10 +264,22 @@ fn until(i: usize, c: usize) -> usize
     Placement::COPIES
 }
 
+// A mass is booked at a position, if the ledger has it.
+fn book(l: &mut [i64; Ledger::POSITIONS], position: u16, m: i64)
+    requires { ⌜ CanBook (now l) position m ⌝ }
+    ensures { λ _. ⌜ now (l .exit) ≡ booked (now (l .entry)) position m ⌝ }
+{
+    let x = position as usize;
+    if x < Ledger::POSITIONS {
+        let old = l[x];
+        l[x] = add(old, m);
+    }
+}
+
 // c copies of a mass, at the placement's positions from i on. How many copies are put then.
 fn put(
     l: &mut [i64; Ledger::POSITIONS],
-    at: [u8; Placement::COPIES],
+    at: [u16; Placement::COPIES],
     i: usize,
     c: usize,
     m: i64,
@@ -280,9 +290,8 @@ fn put(
     let end = until(i, c);
     let mut j = i;
     while j < end {
-        let x = wide(at[j]);
-        let old = l[x];
-        l[x] = add(old, m);
+        let position = at[j];
+        book(l, position, m);
         j += 1;
     }
     end
@@ -294,7 +303,7 @@ fn put_bracket(
     numbers: &[i64],
     k: usize,
     l: &mut [i64; Ledger::POSITIONS],
-    at: [u8; Placement::COPIES],
+    at: [u16; Placement::COPIES],
     i: usize,
 ) -> usize
     requires { ⌜ CanFloat (now bytes) (now numbers) k (now l) i ⌝ }

@@ -14,7 +14,7 @@ use Rattle.scope.specs.Line.{Bracket}
 use Rattle.scope.specs.Lists.{flat}
 use Rattle.scope.specs.Modifications.{onlyInfo, isReferring, namesOf, isLabelled}
 use Rattle.basics.specs.Lists.{flat-append, flat-one}
-use Rattle.notes.specs.Notes.{noteRow, notesFrom, sortOf, NotesAre}
+use Rattle.notes.specs.Notes.{infoSort, unlabelledSort, labelledSort, referenceSort, noteRow, notesFrom, sortOf, NotesAre}
 use Rattle.notes.specs.Rows.{noteAt}
 
 abbrev pub noBracket : Bracket ℕ
@@ -66,12 +66,12 @@ noted-at {notes = notes} {ks = ks} a k j h l =
     ∙ (row-in 0 ks k j h l ∙ ap (λ (t : ℕ). getD (noteRow t (bracketAt ks k)) j 0) e))
 
 -- a bracket's sort tells whether it refers
-refers-told : (r i l : Bool) → eqb (cond r 3 (cond i 0 (cond l 2 1))) 3 ≡ r
+refers-told : (r i l : Bool) → eqb (cond r referenceSort (cond i infoSort (cond l labelledSort unlabelledSort))) referenceSort ≡ r
 refers-told true i l = refl
 refers-told false true l = refl
 refers-told false false true = refl
 refers-told false false false = refl
 
-pub sort-refers : (k : Bracket ℕ) → eqb (sortOf k) 3 ≡ isReferring k
+pub sort-refers : (k : Bracket ℕ) → eqb (sortOf k) referenceSort ≡ isReferring k
 unfolding sortOf
 sort-refers k = refers-told (isReferring k) (onlyInfo k) (isLabelled k)

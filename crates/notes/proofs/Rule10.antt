@@ -16,24 +16,24 @@ use Rattle.scope.specs.Modifications.{onlyInfo, isReferring, isLabelled}
 use Rattle.scope.specs.Refusals.{least, dueAt, refusal10}
 use Rattle.places.specs.Places.{coded, sooner}
 use Rattle.places.proofs.Soon.{least-sooner, least-due}
-use Rattle.notes.specs.Notes.{sortOf, NotesAre}
+use Rattle.notes.specs.Notes.{infoSort, unlabelledSort, labelledSort, referenceSort, sortOf, NotesAre}
 use Rattle.notes.specs.Rows.{Apart, noteAt, infoOnlyAt, soonest}
 use Rattle.notes.proofs.Soonest.{soonest-least}
 use Rattle.notes.proofs.Noting.{bracketAt, drop-next, noted-at}
 
 -- what the numbers of a row say
 module _ (notes : List ℕ) (k : ℕ) {x : ℕ} (e : x ≡ noteAt notes k 1) where
-  pub info-kind : 2 < x → 0 ≡ infoOnlyAt notes k
-  info-kind h = rw (lt-leb (noteAt notes k 1) 2 (omega arith))
+  pub info-kind : kindCode Labile < x → 0 ≡ infoOnlyAt notes k
+  info-kind h = rw (lt-leb (noteAt notes k 1) (kindCode Labile) (omega arith))
 
-  module _ (h : x ≤ 2) {y : ℕ} (f : y ≡ noteAt notes k 2) where
-    pub info-sort : (y ≡ 0 → ⊥) → 0 ≡ infoOnlyAt notes k
-    info-sort g = rw (le-leb (noteAt notes k 1) 2 (omega arith), ne-eqb (noteAt notes k 2) 0 (λ z. g (f ∙ z)))
+  module _ (h : x ≤ kindCode Labile) {y : ℕ} (f : y ≡ noteAt notes k 2) where
+    pub info-sort : (y ≡ infoSort → ⊥) → 0 ≡ infoOnlyAt notes k
+    info-sort g = rw (le-leb (noteAt notes k 1) (kindCode Labile) (omega arith), ne-eqb (noteAt notes k 2) infoSort (λ z. g (f ∙ z)))
 
-    pub info-due : y ≡ 0 → {z : ℕ} → z ≡ noteAt notes k 0 → z + 1 ≡ infoOnlyAt notes k
-    info-due g i = rw (le-leb (noteAt notes k 1) 2 (omega arith), eq-eqb (noteAt notes k 2) 0 (omega arith), i)
+    pub info-due : y ≡ infoSort → {z : ℕ} → z ≡ noteAt notes k 0 → z + 1 ≡ infoOnlyAt notes k
+    info-due g i = rw (le-leb (noteAt notes k 1) (kindCode Labile) (omega arith), eq-eqb (noteAt notes k 2) infoSort (omega arith), i)
 
-kind-told : (c : Kind) → leb (kindCode c) 2 ≡ unknownOrLabile c
+kind-told : (c : Kind) → leb (kindCode c) (kindCode Labile) ≡ unknownOrLabile c
 kind-told Unknown = refl
 kind-told Labile = refl
 kind-told NTerm = refl
@@ -41,13 +41,13 @@ kind-told OnResidue = refl
 kind-told OnRange = refl
 kind-told CTerm = refl
 
-info-told : (r i l : Bool) → r && i ≡ false → eqb (cond r 3 (cond i 0 (cond l 2 1))) 0 ≡ i
+info-told : (r i l : Bool) → r && i ≡ false → eqb (cond r referenceSort (cond i infoSort (cond l labelledSort unlabelledSort))) infoSort ≡ i
 info-told true i l e = sym e
 info-told false true l e = refl
 info-told false false true e = refl
 info-told false false false e = refl
 
-sort-info : (k : Bracket ℕ) → isReferring k && onlyInfo k ≡ false → eqb (sortOf k) 0 ≡ onlyInfo k
+sort-info : (k : Bracket ℕ) → isReferring k && onlyInfo k ≡ false → eqb (sortOf k) infoSort ≡ onlyInfo k
 unfolding sortOf
 sort-info k e = info-told (isReferring k) (onlyInfo k) (isLabelled k) e
 

@@ -11,39 +11,40 @@ use Rattle.basics.specs.Choice.{by-test}
 use Rattle.scope.specs.declared.grammar.Kind.{Kind}
 use Rattle.scope.specs.declared.grammar.Kind.the-variants.{Unknown, Labile, NTerm, OnResidue, OnRange, CTerm}
 use Rattle.scope.specs.Kinds.{kindCode}
+use Rattle.scope.specs.Limits.{countLimit, copyLimit}
 use Rattle.scope.specs.Line.{Bracket, Line}
 use Rattle.scope.specs.Modifications.{onlyInfo, isReferring, isLabelled, unlabelledCopies, copies}
 use Rattle.scope.specs.Refusals.{least, dueAt, passing, refusal12}
 use Rattle.places.specs.Places.{coded}
-use Rattle.notes.specs.Notes.{sortOf, NotesAre}
+use Rattle.notes.specs.Notes.{unlabelledSort, labelledSort, sortOf, NotesAre}
 use Rattle.notes.specs.Rows.{noteAt, copiesIn, copiesAt, passedAt}
 use Rattle.notes.proofs.Noting.{bracketAt, drop-next, noted-at}
 
 -- what the numbers of a row say
 module _ (sort kind count : ℕ) where
-  pub copies-labelled : {x : ℕ} → x ≡ sort → x ≡ 2 → 1 ≡ copiesIn sort kind count
-  copies-labelled e h = rw (eq-eqb sort 2 (omega arith))
+  pub copies-labelled : {x : ℕ} → x ≡ sort → x ≡ labelledSort → 1 ≡ copiesIn sort kind count
+  copies-labelled e h = rw (eq-eqb sort labelledSort (omega arith))
 
-  module _ {x : ℕ} (e : x ≡ sort) (h : x ≡ 2 → ⊥) where
-    pub copies-none : (x ≡ 1 → ⊥) → 0 ≡ copiesIn sort kind count
-    copies-none g = rw (ne-eqb sort 2 (λ z. h (e ∙ z)), ne-eqb sort 1 (λ z. g (e ∙ z)))
+  module _ {x : ℕ} (e : x ≡ sort) (h : x ≡ labelledSort → ⊥) where
+    pub copies-none : (x ≡ unlabelledSort → ⊥) → 0 ≡ copiesIn sort kind count
+    copies-none g = rw (ne-eqb sort labelledSort (λ z. h (e ∙ z)), ne-eqb sort unlabelledSort (λ z. g (e ∙ z)))
 
-    module _ (g : x ≡ 1) {y : ℕ} (f : y ≡ kind) where
-      pub copies-unknown : {z : ℕ} → y ≡ 1 → z ≡ count → z ≡ copiesIn sort kind count
-      copies-unknown l i = rw (ne-eqb sort 2 (λ z. h (e ∙ z)), eq-eqb sort 1 (omega arith), eq-eqb kind 1 (omega arith)) i
+    module _ (g : x ≡ unlabelledSort) {y : ℕ} (f : y ≡ kind) where
+      pub copies-unknown : {z : ℕ} → y ≡ kindCode Unknown → z ≡ count → z ≡ copiesIn sort kind count
+      copies-unknown l i = rw (ne-eqb sort labelledSort (λ z. h (e ∙ z)), eq-eqb sort unlabelledSort (omega arith), eq-eqb kind (kindCode Unknown) (omega arith)) i
 
-      pub copies-ranged : (y ≡ 1 → ⊥) → y ≡ 5 → 1 ≡ copiesIn sort kind count
+      pub copies-ranged : (y ≡ kindCode Unknown → ⊥) → y ≡ kindCode OnRange → 1 ≡ copiesIn sort kind count
       copies-ranged l i =
-          rw (ne-eqb sort 2 (λ z. h (e ∙ z)), eq-eqb sort 1 (omega arith), ne-eqb kind 1 (λ z. l (f ∙ z)), eq-eqb kind 5 (omega arith))
+          rw (ne-eqb sort labelledSort (λ z. h (e ∙ z)), eq-eqb sort unlabelledSort (omega arith), ne-eqb kind (kindCode Unknown) (λ z. l (f ∙ z)), eq-eqb kind (kindCode OnRange) (omega arith))
 
-      pub copies-placed : (y ≡ 1 → ⊥) → (y ≡ 5 → ⊥) → 0 ≡ copiesIn sort kind count
+      pub copies-placed : (y ≡ kindCode Unknown → ⊥) → (y ≡ kindCode OnRange → ⊥) → 0 ≡ copiesIn sort kind count
       copies-placed l i =
-          rw (ne-eqb sort 2 (λ z. h (e ∙ z)), eq-eqb sort 1 (omega arith), ne-eqb kind 1 (λ z. l (f ∙ z)), ne-eqb kind 5 (λ z. i (f ∙ z)))
+          rw (ne-eqb sort labelledSort (λ z. h (e ∙ z)), eq-eqb sort unlabelledSort (omega arith), ne-eqb kind (kindCode Unknown) (λ z. l (f ∙ z)), ne-eqb kind (kindCode OnRange) (λ z. i (f ∙ z)))
 
 -- the loop: so many copies before the k-th bracket, and no more than 8
 pub record NotPassed (notes : List ℕ) (n before k : ℕ) : Type 0 where
   pub within : k ≤ n
-  pub low : before ≤ 8
+  pub low : before ≤ copyLimit
   pub left : passedAt notes before k (n - k) ≡ passedAt notes 0 0 n
 
 module _ (notes : List ℕ) (n : ℕ) where
@@ -53,18 +54,18 @@ module _ (notes : List ℕ) (n : ℕ) where
       record { within = omega arith; low = omega arith; left = rw e }
 
   module _ (before k : ℕ) (s : NotPassed notes n before k) where
-    pub passed-more : {x : ℕ} → k < n → x ≡ copiesAt notes k → before + x ≤ 8 → NotPassed notes n (before + x) (k + 1)
+    pub passed-more : {x : ℕ} → k < n → x ≡ copiesAt notes k → before + x ≤ copyLimit → NotPassed notes n (before + x) (k + 1)
     unfolding passedAt
     passed-more h e l =
         let q : n - k ≡ suc (n - (k + 1)) = omega arith in
-        let g = rw (q, le-ltb 8 (before + copiesAt notes k) (omega (arith, e))) at (s .left) in
+        let g = rw (q, le-ltb copyLimit (before + copiesAt notes k) (omega (arith, e))) at (s .left) in
         record { within = omega arith; low = l; left = rw e g }
 
-    pub passed-here : {x y : ℕ} → k < n → x ≡ copiesAt notes k → 8 < before + x → y ≡ noteAt notes k 0 → y + 1 ≡ passedAt notes 0 0 n
+    pub passed-here : {x y : ℕ} → k < n → x ≡ copiesAt notes k → copyLimit < before + x → y ≡ noteAt notes k 0 → y + 1 ≡ passedAt notes 0 0 n
     unfolding passedAt
     passed-here h e l f =
         let q : n - k ≡ suc (n - (k + 1)) = omega arith in
-        ap (λ (t : ℕ). t + 1) f ∙ (rw (q, lt-ltb 8 (before + copiesAt notes k) (omega (arith, e))) at (s .left))
+        ap (λ (t : ℕ). t + 1) f ∙ (rw (q, lt-ltb copyLimit (before + copiesAt notes k) (omega (arith, e))) at (s .left))
 
     pub passed-ends : n ≤ k → 0 ≡ passedAt notes 0 0 n
     unfolding passedAt
@@ -73,7 +74,7 @@ module _ (notes : List ℕ) (n : ℕ) where
         rw e at (s .left)
 
 told : (r i l : Bool) (c : Kind) (n : ℕ)
-    → copiesIn (cond r 3 (cond i 0 (cond l 2 1))) (kindCode c) (min 100 n) ≡ min 100 (cond (not i && not r) (cond l 1 (unlabelledCopies c n)) 0)
+    → copiesIn (cond r 3 (cond i 0 (cond l 2 1))) (kindCode c) (min (countLimit + 1) n) ≡ min (countLimit + 1) (cond (not i && not r) (cond l 1 (unlabelledCopies c n)) 0)
 told true true l c n = refl
 told true false l c n = refl
 told false true l c n = refl
@@ -85,35 +86,35 @@ told false false false OnResidue n = refl
 told false false false OnRange n = refl
 told false false false CTerm n = refl
 
-copies-told : (k : Bracket ℕ) → copiesIn (sortOf k) (kindCode (k .kind)) (min 100 (k .count)) ≡ min 100 (copies k)
+copies-told : (k : Bracket ℕ) → copiesIn (sortOf k) (kindCode (k .kind)) (min (countLimit + 1) (k .count)) ≡ min (countLimit + 1) (copies k)
 unfolding sortOf copies
 copies-told k = told (isReferring k) (onlyInfo k) (isLabelled k) (k .kind) (k .count)
 
 -- no bracket passes 8 where it is passed
-pub passing-none : (before : ℕ) (ks : List (Bracket ℕ)) → 8 < before → passing before ks ≡ []
+pub passing-none : (before : ℕ) (ks : List (Bracket ℕ)) → copyLimit < before → passing before ks ≡ []
 unfolding passing
 passing-none before [] h = refl
-passing-none before (b ∷ ks) h = rw (lt-leb before 8 h) (passing-none (before + copies b) ks (omega arith))
+passing-none before (b ∷ ks) h = rw (lt-leb before copyLimit h) (passing-none (before + copies b) ks (omega arith))
 
-step : (before c x at later : ℕ) (rest : List (Bracket ℕ)) → before ≤ 8 → x ≡ min 100 c
-    → (before + c ≤ 8 → later ≡ coded (least (passing (before + c) rest)))
-    → cond (ltb 8 (before + x)) (at + 1) later ≡ coded (least (dueAt (leb before 8 && ltb 8 (before + c)) at ++ passing (before + c) rest))
+step : (before c x at later : ℕ) (rest : List (Bracket ℕ)) → before ≤ copyLimit → x ≡ min (countLimit + 1) c
+    → (before + c ≤ copyLimit → later ≡ coded (least (passing (before + c) rest)))
+    → cond (ltb copyLimit (before + x)) (at + 1) later ≡ coded (least (dueAt (leb before copyLimit && ltb copyLimit (before + c)) at ++ passing (before + c) rest))
 unfolding least
 step before c x at later rest h e f =
-    by-test (ltb 8 (before + c))
+    by-test (ltb copyLimit (before + c))
     (λ p.
-    let q : 8 < before + c = ltb-true 8 (before + c) p in
-    rw (p, le-leb before 8 h, lt-ltb 8 (before + x) (omega arith), passing-none (before + c) rest q))
+    let q : copyLimit < before + c = ltb-true copyLimit (before + c) p in
+    rw (p, le-leb before copyLimit h, lt-ltb copyLimit (before + x) (omega arith), passing-none (before + c) rest q))
     (λ p.
-    let q : before + c ≤ 8 = ltb-false 8 (before + c) p in
-    rw (p, le-leb before 8 h, le-ltb 8 (before + x) (omega arith)) (f q))
+    let q : before + c ≤ copyLimit = ltb-false copyLimit (before + c) p in
+    rw (p, le-leb before copyLimit h, le-ltb copyLimit (before + x) (omega arith)) (f q))
 
 module _ {line notes labels : List ℕ} {ks : List (Bracket ℕ)} (a : NotesAre line ks notes labels) where
-  copies-at : (k : ℕ) → k < length ks → copiesAt notes k ≡ min 100 (copies (bracketAt ks k))
+  copies-at : (k : ℕ) → k < length ks → copiesAt notes k ≡ min (countLimit + 1) (copies (bracketAt ks k))
   copies-at k h =
       rw (noted-at a k 1 h (omega arith), noted-at a k 2 h (omega arith), noted-at a k 3 h (omega arith)) (copies-told (bracketAt ks k))
 
-  passed-from : (before k m : ℕ) → k + m ≡ length ks → before ≤ 8 → passedAt notes before k m ≡ coded (least (passing before (drop k ks)))
+  passed-from : (before k m : ℕ) → k + m ≡ length ks → before ≤ copyLimit → passedAt notes before k m ≡ coded (least (passing before (drop k ks)))
   unfolding passedAt passing least
   passed-from before k zero e h =
       let g : length ks ≤ k = omega arith in

@@ -7,7 +7,10 @@ use native.Mathlib.Omega.{arith}
 use lib.Dec.{eqb}
 use lib.ListN.{length, drop, length-drop, length-take}
 use borrow.Author.Tests.{eq-eqb, ne-eqb, lt-ltb, le-ltb}
+use Rattle.scope.specs.declared.grammar.Kind.the-variants.{Unknown}
+use Rattle.scope.specs.Kinds.{kindCode}
 use Rattle.scope.specs.Lists.{same, among, part, tabled}
+use Rattle.notes.specs.Notes.{referenceSort}
 use Rattle.notes.specs.Rows.{noteAt, nameAt, labelFrom, labelTo, Legible, AllLegible, namesAt, sideAt, sideFrom, wrongLabel, wrongAt, wrongPlace}
 use Rattle.basics.specs.Lists.{same-length, among-append}
 
@@ -70,20 +73,20 @@ module _ (x : List ℕ) (f : ℕ → List ℕ) (y m : ℕ) where
 module _ (line notes labels : List ℕ) (refers : Bool) where
   -- which labels of a bracket are searched
   module _ (k : ℕ) {s : ℕ} (e : s ≡ noteAt notes k 2) where
-    pub side-refers : s ≡ 3 → refers ≡ true → namesAt line notes labels k ≡ sideAt line notes labels refers k
-    side-refers h g = rw (g, eq-eqb (noteAt notes k 2) 3 (sym e ∙ h))
+    pub side-refers : s ≡ referenceSort → refers ≡ true → namesAt line notes labels k ≡ sideAt line notes labels refers k
+    side-refers h g = rw (g, eq-eqb (noteAt notes k 2) referenceSort (sym e ∙ h))
 
-    pub side-defines : (s ≡ 3 → ⊥) → refers ≡ false → namesAt line notes labels k ≡ sideAt line notes labels refers k
-    side-defines h g = rw (g, ne-eqb (noteAt notes k 2) 3 (λ z. h (e ∙ z)))
+    pub side-defines : (s ≡ referenceSort → ⊥) → refers ≡ false → namesAt line notes labels k ≡ sideAt line notes labels refers k
+    side-defines h g = rw (g, ne-eqb (noteAt notes k 2) referenceSort (λ z. h (e ∙ z)))
 
     module _ (x : List ℕ) where
-      pub side-other : s ≡ 3 → refers ≡ false → false ≡ among x (sideAt line notes labels refers k)
+      pub side-other : s ≡ referenceSort → refers ≡ false → false ≡ among x (sideAt line notes labels refers k)
       unfolding among
-      side-other h g = rw (g, eq-eqb (noteAt notes k 2) 3 (sym e ∙ h))
+      side-other h g = rw (g, eq-eqb (noteAt notes k 2) referenceSort (sym e ∙ h))
 
-      pub side-not : (s ≡ 3 → ⊥) → refers ≡ true → false ≡ among x (sideAt line notes labels refers k)
+      pub side-not : (s ≡ referenceSort → ⊥) → refers ≡ true → false ≡ among x (sideAt line notes labels refers k)
       unfolding among
-      side-not h g = rw (g, ne-eqb (noteAt notes k 2) 3 (λ z. h (e ∙ z)))
+      side-not h g = rw (g, ne-eqb (noteAt notes k 2) referenceSort (λ z. h (e ∙ z)))
 
   pub side-searched : (k : ℕ) (x : List ℕ) {t : Bool} {a b : ℕ} → t ≡ among x (tabled (nameAt line labels) a b) → a ≡ noteAt notes k 5
       → b ≡ noteAt notes k 6 → namesAt line notes labels k ≡ sideAt line notes labels refers k → t ≡ among x (sideAt line notes labels refers k)
@@ -144,22 +147,22 @@ legible-first line notes labels n k a h {x = x} p g q =
 -- what is wrong with a bracket's one label, and with its labels
 module _ (line notes labels : List ℕ) (n k : ℕ) where
   module _ (x : ℕ) {s : ℕ} (e : s ≡ noteAt notes k 2) where
-    pub wrong-reference : s ≡ 3 → {t : Bool} → t ≡ among (nameAt line labels x) (sideFrom line notes labels false 0 n)
+    pub wrong-reference : s ≡ referenceSort → {t : Bool} → t ≡ among (nameAt line labels x) (sideFrom line notes labels false 0 n)
         → not t ≡ wrongLabel line notes labels n k x
-    wrong-reference h g = rw (eq-eqb (noteAt notes k 2) 3 (sym e ∙ h)) (ap not g)
+    wrong-reference h g = rw (eq-eqb (noteAt notes k 2) referenceSort (sym e ∙ h)) (ap not g)
 
-    module _ (h : s ≡ 3 → ⊥) {t : Bool} (g : t ≡ among (nameAt line labels x) (sideFrom line notes labels false 0 k)) where
+    module _ (h : s ≡ referenceSort → ⊥) {t : Bool} (g : t ≡ among (nameAt line labels x) (sideFrom line notes labels false 0 k)) where
       pub wrong-again : t ≡ true → true ≡ wrongLabel line notes labels n k x
-      wrong-again i = rw (ne-eqb (noteAt notes k 2) 3 (λ z. h (e ∙ z)), sym g ∙ i)
+      wrong-again i = rw (ne-eqb (noteAt notes k 2) referenceSort (λ z. h (e ∙ z)), sym g ∙ i)
 
       module _ (i : t ≡ false) {c : ℕ} (l : c ≡ noteAt notes k 1) where
-        pub wrong-unreferred : c ≡ 1 → {u : Bool} → u ≡ among (nameAt line labels x) (sideFrom line notes labels true 0 n)
+        pub wrong-unreferred : c ≡ kindCode Unknown → {u : Bool} → u ≡ among (nameAt line labels x) (sideFrom line notes labels true 0 n)
             → not u ≡ wrongLabel line notes labels n k x
         wrong-unreferred j m =
-            rw (ne-eqb (noteAt notes k 2) 3 (λ z. h (e ∙ z)), sym g ∙ i, eq-eqb (noteAt notes k 1) 1 (sym l ∙ j)) (ap not m)
+            rw (ne-eqb (noteAt notes k 2) referenceSort (λ z. h (e ∙ z)), sym g ∙ i, eq-eqb (noteAt notes k 1) (kindCode Unknown) (sym l ∙ j)) (ap not m)
 
-        pub wrong-not : (c ≡ 1 → ⊥) → false ≡ wrongLabel line notes labels n k x
-        wrong-not j = rw (ne-eqb (noteAt notes k 2) 3 (λ z. h (e ∙ z)), sym g ∙ i, ne-eqb (noteAt notes k 1) 1 (λ z. j (l ∙ z)))
+        pub wrong-not : (c ≡ kindCode Unknown → ⊥) → false ≡ wrongLabel line notes labels n k x
+        wrong-not j = rw (ne-eqb (noteAt notes k 2) referenceSort (λ z. h (e ∙ z)), sym g ∙ i, ne-eqb (noteAt notes k 1) (kindCode Unknown) (λ z. j (l ∙ z)))
 
   module _ {m : ℕ} (e : m ≡ noteAt notes k 6) where
     pub wrong-none : m ≡ 0 → false ≡ wrongAt line notes labels n k

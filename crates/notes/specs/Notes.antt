@@ -11,9 +11,21 @@ use Rattle.scope.specs.Lists.{given, flat, part}
 use Rattle.scope.specs.Modifications.{onlyInfo, isReferring, namesOf, isLabelled}
 use Rattle.scope.specs.Kinds.{kindCode}
 
--- what a bracket is: 0 only INFO, 1 an unlabelled modification, 2 a labelled one, 3 a reference
+-- the sorts of brackets: only INFO, an unlabelled modification, a labelled one, a reference
+abbrev pub infoSort : ℕ
+infoSort = 0
+
+abbrev pub unlabelledSort : ℕ
+unlabelledSort = 1
+
+abbrev pub labelledSort : ℕ
+labelledSort = 2
+
+abbrev pub referenceSort : ℕ
+referenceSort = 3
+
 unfoldable pub sortOf : {P : Type 0} → Bracket P → ℕ
-sortOf k = cond (isReferring k) 3 (cond (onlyInfo k) 0 (cond (isLabelled k) 2 1))
+sortOf k = cond (isReferring k) referenceSort (cond (onlyInfo k) infoSort (cond (isLabelled k) labelledSort unlabelledSort))
 
 abbrev pub countedCode : {A : Type 0} → Option A → ℕ
 countedCode none = 0
@@ -22,7 +34,7 @@ countedCode (some p) = 1
 abbrev pub noteSize : ℕ
 noteSize = 7
 
--- place, kind, sort, count (100 where it is more), whether it is written, number of its first label, number of labels
+-- place, kind, sort, count (one above the limit where it is more), whether it is written, number of its first label, number of labels
 abbrev pub noteRow : ℕ → Bracket ℕ → List ℕ
 noteRow label k =
     k .at ∷ kindCode (k .kind) ∷ sortOf k ∷ min (countLimit + 1) (k .count) ∷ countedCode (k .counted) ∷ label ∷ length (namesOf k) ∷ []

@@ -5,12 +5,14 @@ use mathlib.Core.List.{List, [], _∷_, _++_}
 use Prim.Native.Nat.{ℕ, zero, suc, _+_, _-_, _*_, _≤_, _<_}
 use lib.Dec.{eqb, leb, ltb}
 use lib.ListN.{length, getD}
+use Rattle.scope.specs.declared.grammar.Kind.the-variants.{Unknown, Labile, OnRange}
+use Rattle.scope.specs.Kinds.{kindCode}
 use Rattle.scope.specs.Limits.{bracketLimit, copyLimit}
 use Rattle.scope.specs.Line.{Bracket}
 use Rattle.scope.specs.Modifications.{onlyInfo, isReferring}
 use Rattle.scope.specs.Lists.{among, part, tabled}
 use Rattle.places.specs.Places.{sooner}
-use Rattle.notes.specs.Notes.{noteSize, notesRoom, NotesAre}
+use Rattle.notes.specs.Notes.{infoSort, unlabelledSort, labelledSort, referenceSort, noteSize, notesRoom, NotesAre}
 
 -- the tables note n brackets of some line
 pub record Noted (line notes labels : List ℕ) (n : ℕ) : Type 0 where
@@ -34,7 +36,7 @@ soonest f k (suc m) = sooner (f k) (soonest f (k + 1) m)
 
 -- ---- refusal 10
 abbrev pub infoOnlyAt : List ℕ → ℕ → ℕ
-infoOnlyAt notes k = cond (leb (noteAt notes k 1) 2 && eqb (noteAt notes k 2) 0) (noteAt notes k 0 + 1) 0
+infoOnlyAt notes k = cond (leb (noteAt notes k 1) (kindCode Labile) && eqb (noteAt notes k 2) infoSort) (noteAt notes k 0 + 1) 0
 
 -- ---- refusal 11
 -- where the x-th label starts, and where it ends
@@ -64,7 +66,7 @@ pub record AllLegible (line notes labels : List ℕ) (n : ℕ) : Type 0 where
   pub legible : (k i : ℕ) → k < n → i < noteAt notes k 6 → Legible line labels (noteAt notes k 5 + i)
 
 abbrev pub refersAt : List ℕ → ℕ → Bool
-refersAt notes k = eqb (noteAt notes k 2) 3
+refersAt notes k = eqb (noteAt notes k 2) referenceSort
 
 -- the labels that it refers to, or those that it defines
 abbrev pub sideAt : List ℕ → List ℕ → List ℕ → Bool → ℕ → List (List ℕ)
@@ -81,7 +83,7 @@ abbrev pub wrongLabel : List ℕ → List ℕ → List ℕ → ℕ → ℕ → �
 wrongLabel line notes labels n k x =
     cond (refersAt notes k) (not (among (nameAt line labels x) (sideFrom line notes labels false 0 n)))
     (cond (among (nameAt line labels x) (sideFrom line notes labels false 0 k)) true
-    (cond (eqb (noteAt notes k 1) 1) (not (among (nameAt line labels x) (sideFrom line notes labels true 0 n))) false))
+    (cond (eqb (noteAt notes k 1) (kindCode Unknown)) (not (among (nameAt line labels x) (sideFrom line notes labels true 0 n))) false))
 
 -- its labels are wrong: more than one, a count beside one, or that one
 abbrev pub wrongAt : List ℕ → List ℕ → List ℕ → ℕ → ℕ → Bool
@@ -95,7 +97,9 @@ wrongPlace line notes labels n k = cond (wrongAt line notes labels n k) (noteAt 
 
 -- ---- refusal 12
 abbrev pub copiesIn : ℕ → ℕ → ℕ → ℕ
-copiesIn sort kind count = cond (eqb sort 2) 1 (cond (eqb sort 1) (cond (eqb kind 1) count (cond (eqb kind 5) 1 0)) 0)
+copiesIn sort kind count =
+    cond (eqb sort labelledSort) 1
+    (cond (eqb sort unlabelledSort) (cond (eqb kind (kindCode Unknown)) count (cond (eqb kind (kindCode OnRange)) 1 0)) 0)
 
 abbrev pub copiesAt : List ℕ → ℕ → ℕ
 copiesAt notes k = copiesIn (noteAt notes k 2) (noteAt notes k 1) (noteAt notes k 3)

@@ -6,6 +6,7 @@ ghost use mathlib.Core.Path.{_≡_};
 ghost use mathlib.Core.List.{List};
 ghost use Prim.Native.Nat.{ℕ, _*_, _+_, _<_, _≤_};
 ghost use lib.ListN.{length, getD};
+ghost use Rattle.scope.specs.Bytes.{wideLimit};
 ghost use Rattle.scope.specs.Lists.{same, among, tabled};
 ghost use Rattle.scope.specs.Limits.{bracketLimit};
 ghost use Rattle.scope.specs.Line.{Line};
@@ -20,6 +21,22 @@ pub const NOTE: usize = 7;
 // Two numbers a label: its first byte, and the place behind its last.
 pub const LABEL: usize = 2;
 
+// The sorts of brackets: only INFO, an unlabelled modification, a labelled one, a reference.
+pub const INFO_ONLY: usize = 0;
+
+pub const UNLABELLED: usize = 1;
+
+pub const LABELLED: usize = 2;
+
+pub const REFERENCE: usize = 3;
+
+// the codes of kinds that are asked for
+const UNKNOWN: usize = 1;
+
+const LABILE: usize = 2;
+
+const ON_RANGE: usize = 5;
+
 // The sizes of the two tables.
 pub const NOTES: usize = Tables::BRACKETS * NOTE;
 
@@ -28,7 +45,7 @@ pub const LABELS: usize = Tables::BRACKETS * Tables::PARTS * LABEL;
 // The i-th number of a table.
 fn number(table: &[u16], i: usize) -> usize
     requires { ⌜ i < length (now table) ⌝ }
-    ensures { λ r. ⌜ (r ≡ getD (now (table .entry)) i 0) × (r < 65536) ⌝ }
+    ensures { λ r. ⌜ (r ≡ getD (now (table .entry)) i 0) × (r < wideLimit) ⌝ }
 {
     table[i] as usize
 }
@@ -36,7 +53,7 @@ fn number(table: &[u16], i: usize) -> usize
 // The j-th number of the k-th bracket.
 fn note(notes: &[u16], k: usize, j: usize) -> usize
     requires { ⌜ (k < bracketLimit) × (j < noteSize) × (notesRoom ≤ length (now notes)) ⌝ }
-    ensures { λ r. ⌜ (r ≡ noteAt (now (notes .entry)) k j) × (r < 65536) ⌝ }
+    ensures { λ r. ⌜ (r ≡ noteAt (now (notes .entry)) k j) × (r < wideLimit) ⌝ }
 {
     number(notes, k * NOTE + j)
 }
@@ -46,10 +63,10 @@ fn info_only(notes: &[u16], k: usize) -> usize
     requires { ⌜ (k < bracketLimit) × (notesRoom ≤ length (now notes)) ⌝ }
     ensures { λ r. ⌜ r ≡ infoOnlyAt (now (notes .entry)) k ⌝ }
 {
-    if note(notes, k, 1) > 2 {
+    if note(notes, k, 1) > LABILE {
         return 0;
     }
-    if note(notes, k, 2) != 0 {
+    if note(notes, k, 2) != INFO_ONLY {
         return 0;
     }
     note(notes, k, 0) + 1
@@ -104,7 +121,7 @@ fn names(line: &[u8], notes: &[u16], labels: &[u16], refers: bool, k: usize, x: 
     requires { ⌜ (k < bracketLimit) × (notesRoom ≤ length (now notes)) × Legible (now line) (now labels) x × ((i : ℕ) → i < noteAt (now notes) k 6 → Legible (now line) (now labels) (noteAt (now notes) k 5 + i)) ⌝ }
     ensures { λ r. ⌜ r ≡ among (nameAt (now (line .entry)) (now (labels .entry)) x) (sideAt (now (line .entry)) (now (notes .entry)) (now (labels .entry)) refers k) ⌝ }
 {
-    if note(notes, k, 2) == 3 {
+    if note(notes, k, 2) == REFERENCE {
         if refers {
             return among_labels(line, labels, x, note(notes, k, 5), note(notes, k, 6));
         }
@@ -136,13 +153,13 @@ fn wrong_label(line: &[u8], notes: &[u16], labels: &[u16], n: usize, k: usize, x
     requires { ⌜ AllLegible (now line) (now notes) (now labels) n × (k < n) × Legible (now line) (now labels) x ⌝ }
     ensures { λ r. ⌜ r ≡ wrongLabel (now (line .entry)) (now (notes .entry)) (now (labels .entry)) n k x ⌝ }
 {
-    if note(notes, k, 2) == 3 {
+    if note(notes, k, 2) == REFERENCE {
         return !named(line, notes, labels, false, n, x);
     }
     if named(line, notes, labels, false, k, x) {
         return true;
     }
-    if note(notes, k, 1) == 1 {
+    if note(notes, k, 1) == UNKNOWN {
         return !named(line, notes, labels, true, n, x);
     }
     false
@@ -195,20 +212,20 @@ pub fn first_wrong_label(line: &[u8], notes: &[u16], labels: &[u16], n: usize) -
 // How many copies of the k-th bracket float.
 fn copies(notes: &[u16], k: usize) -> usize
     requires { ⌜ (k < bracketLimit) × (notesRoom ≤ length (now notes)) ⌝ }
-    ensures { λ r. ⌜ (r ≡ copiesAt (now (notes .entry)) k) × (r < 65536) ⌝ }
+    ensures { λ r. ⌜ (r ≡ copiesAt (now (notes .entry)) k) × (r < wideLimit) ⌝ }
 {
     let sort = note(notes, k, 2);
-    if sort == 2 {
+    if sort == LABELLED {
         return 1;
     }
-    if sort != 1 {
+    if sort != UNLABELLED {
         return 0;
     }
     let kind = note(notes, k, 1);
-    if kind == 1 {
+    if kind == UNKNOWN {
         return note(notes, k, 3);
     }
-    if kind == 5 {
+    if kind == ON_RANGE {
         return 1;
     }
     0

@@ -1,11 +1,12 @@
 -- Numbers in a line: scope's own step, as far as it goes.
-use Prim.Native.Nat.{ℕ, _+_, _*_, _≤_, min}
+use Prim.Native.Nat.{ℕ, _+_, _*_, _^_, _≤_, min}
 use mathlib.Core.Path.{_≡_}
 use mathlib.Core.Bool.{cond}
 use mathlib.Core.List.{List, [], _∷_}
 use lib.ListN.{drop}
 use Rattle.scope.specs.declared.tables.Number.{Number as Kept}
 use Rattle.scope.specs.Bytes.{isDigit, value}
+use Rattle.scope.specs.Limits.{sizeLimit, decimalLimit, countLimit}
 use Rattle.scope.specs.Line.{Number}
 use Rattle.scope.specs.Lists.{given}
 use Rattle.scope.specs.Content.{digitStep, numberEnd}
@@ -45,7 +46,7 @@ digitsFrom m (b ∷ l) = cond (isDigit b) (digitsFrom (m * 10 + value b) l) m
 
 -- above this no number is in range
 abbrev pub cap : ℕ
-cap = 1000000000000
+cap = sizeLimit * 10 ^ decimalLimit
 
 -- the digits of s from at on, behind a number v
 pub record DigitsAt (s : List ℕ) (at v value next : ℕ) : Type 0 where
@@ -53,6 +54,7 @@ pub record DigitsAt (s : List ℕ) (at v value next : ℕ) : Type 0 where
   pub valued : value ≡ min cap (digitsFrom v (drop at s))
   pub ends : next ≡ at + span isDigit (drop at s)
 
+-- the digits of a count, from at on: above its limit any count is as good as another
 pub record CountAt (s : List ℕ) (at value next : ℕ) : Type 0 where
-  pub valued : value ≡ min 100 (digitsFrom 0 (drop at s))
+  pub valued : value ≡ min (countLimit + 1) (digitsFrom 0 (drop at s))
   pub ends : next ≡ at + span isDigit (drop at s)

@@ -28,13 +28,13 @@ pub enum Num {
     NoNumber(usize),
 }
 
-// A run of digits: its value, kept at 10^12 or below, and the place behind it.
+// A run of digits: its value, kept at the cap or below, and the place behind it.
 pub struct DigitRun {
     pub value: u64,
     pub next: usize,
 }
 
-// The digits of a count: their value, kept at 100 or below, and the place behind them.
+// The digits of a count: their value, kept at the cap of counts or below, and the place behind them.
 pub struct Count {
     pub value: usize,
     pub next: usize,

@@ -14,7 +14,7 @@ use Rattle.order_laws.specs.Ranks.{orderedb, Ordered}
 use Rattle.order_laws.specs.Climbs as climbs
 use Rattle.order_laws.specs.Reader as reader
 
--- of every line of the order with no more than 254 residues
+-- of every line of the order with no more residues than a line may have
 pub read-ordered : (s : List ℕ) (l : Line ℕ) → reading s ≡ holds l → length (l .residues) ≤ residueLimit → Ordered l
 read-ordered s l e few = reader.read-ordered s l e few
 

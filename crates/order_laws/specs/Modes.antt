@@ -16,7 +16,7 @@ use Rattle.scope.specs.Limits.{residueLimit}
 use Rattle.scope.specs.Reading.{act, lastPosition}
 use Rattle.reading_laws.specs.Acts.{act-rule}
 use Rattle.basics.specs.Tests.{and-left, and-right}
-use Rattle.order_laws.specs.Ranks.{rankOf}
+use Rattle.order_laws.specs.Ranks.{lastRank, rankOf}
 
 -- ---- heights: the same for any number of residues, or two more for each
 pub data Height : Type 0 where
@@ -70,7 +70,7 @@ height RangeEnd = slope 4
 height Ranged = slope 4
 height UnsureEnd = slope 4
 height CStart = slope 4
-height CTerms = level 2000
+height CTerms = level lastRank
 
 abbrev pub ceiling : Mode → ℕ → ℕ
 ceiling m n = high (height m) n
@@ -81,7 +81,7 @@ kindHeight Labile = level 1
 kindHeight NTerm = level 2
 kindHeight OnResidue = slope 3
 kindHeight OnRange = slope 4
-kindHeight CTerm = level 2000
+kindHeight CTerm = level lastRank
 
 -- the rank of a bracket that is read now
 abbrev pub rankNow : Kind → ℕ → ℕ

@@ -6,17 +6,22 @@ use Prim.Native.Nat.{ℕ, _+_, _*_}
 use lib.Dec.{leb}
 use Rattle.scope.specs.declared.grammar.Kind.{Kind}
 use Rattle.scope.specs.declared.grammar.Kind.the-variants.{Unknown, Labile, NTerm, OnResidue, OnRange, CTerm}
+use Rattle.scope.specs.Limits.{positionLimit}
 use Rattle.scope.specs.Line.{Bracket, Line}
 
+-- the rank of the C-terminus: above that of every bracket at a position
+abbrev pub lastRank : ℕ
+lastRank = 4 + 2 * positionLimit
+
 -- a bracket on a residue stands behind it, one on a range behind the range's last residue and the brackets on that one; one at the C-terminus behind
--- all that a line may have by "residues 1 to 254"
+-- them all
 abbrev pub rankOf : Kind → ℕ → ℕ
 rankOf Unknown last = 0
 rankOf Labile last = 1
 rankOf NTerm last = 2
 rankOf OnResidue last = 3 + 2 * last
 rankOf OnRange last = 4 + 2 * last
-rankOf CTerm last = 2000
+rankOf CTerm last = lastRank
 
 abbrev pub rank : {P : Type 0} → Bracket P → ℕ
 rank k = rankOf (k .kind) (k .last)

@@ -129,7 +129,7 @@ module _ {P : Type 0} where
   unfolding resume
   resume-rises s at i h lost w = tt
   resume-rises s at i h (closed ps) w = λ e.
-      let v = w (subst (λ r. length r ≤ 254) (same-residues (s .kind) at ps h) e) in
+      let v = w (subst (λ r. length r ≤ residueLimit) (same-residues (s .kind) at ps h) e) in
       closed-rises s at ps h (modeAfter s ps) (mode-allows s ps h v) (v .held)
   resume-rises s at i h (going c) w = w
 

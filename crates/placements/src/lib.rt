@@ -20,8 +20,15 @@ pub struct Next {
     pub listing: Listing,
 }
 
+// An entry, as a whole number.
+fn wide(x: u16) -> usize
+    ensures { λ r. ⌜ r ≡ x ⌝ }
+{
+    x as usize
+}
+
 // The entries, as whole numbers.
-fn widened(p: [u8; Placement::COPIES]) -> Standing
+fn widened(p: [u16; Placement::COPIES]) -> Standing
     ensures { λ r. ⌜ r .at ≡ p ⌝ }
 {
     let mut w = Standing {
@@ -29,7 +36,7 @@ fn widened(p: [u8; Placement::COPIES]) -> Standing
     };
     let mut s: usize = 0;
     while s < Placement::COPIES {
-        w.at[s] = areas::wide(p[s]);
+        w.at[s] = wide(p[s]);
         s += 1;
     }
     w
@@ -44,14 +51,14 @@ fn narrowed(k: usize, w: Standing) -> Placement
     let mut s: usize = 0;
     while s < k {
         let x = w.at[s];
-        p.at[s] = x as u8;
+        p.at[s] = x as u16;
         s += 1;
     }
     p
 }
 
 // Are all entries from k on zero?
-fn unused(p: [u8; Placement::COPIES], k: usize) -> bool
+fn unused(p: [u16; Placement::COPIES], k: usize) -> bool
     ensures { λ r. ⌜ Unused k p r ⌝ }
 {
     let mut s = k;

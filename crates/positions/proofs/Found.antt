@@ -1,6 +1,5 @@
 -- Laws of finding the floaters, bracket by bracket. Assumes nothing.
 use mathlib.Core.Path.{_≡_, sym, ap, _∙_, subst}
-use mathlib.Core.Bool.{Bool, true, not, cond, _&&_, and-false}
 use mathlib.Core.List.{List, [], _∷_, _++_, map, append-nil, append-assoc, map-append}
 use Prim.Native.Nat.{ℕ, suc, _+_, _-_, _≤_, _<_}
 use native.Mathlib.Nat.{add-zero}
@@ -13,24 +12,13 @@ use lib.Seq.{length-take-le, take-suc-set, getD-take, getD-append-add}
 use Rattle.scope.specs.Limits.{copyLimit}
 use Rattle.scope.specs.Line.{Bracket}
 use Rattle.scope.specs.Lists.{flat, tabled}
-use Rattle.scope.specs.Modifications.{onlyInfo, isReferring, isLabelled, unlabelledCopies, copies}
+use Rattle.scope.specs.Modifications.{copies}
 use Rattle.scope.specs.Positions.{floaters}
 use Rattle.scope.specs.Layout.{bracketIn, tablesIn, bracketsField}
 use Rattle.areas.specs.Floats.{FloatersAre}
 use Rattle.basics.specs.Choice.{by-test}
 use Rattle.basics.specs.Lists.{map-replicate}
 use Rattle.basics.specs.Tabled.{tabled-at, tabled-end, tabled-all}
-
--- ---- a reference gives no floater
-pub no-copies : (bs : List ℕ) (k : ℕ) {r : Bool} → ((ns : List ℤ) → r ≡ isReferring (bracketIn bs ns k)) → r ≡ true → (ns : List ℤ) → 0 ≡ copies (bracketIn bs ns k)
-unfolding copies
-no-copies bs k e t ns =
-    sym
-    (ap (λ s. cond (not (onlyInfo (bracketIn bs ns k)) && not s) some 0) (sym (e ns) ∙ t)
-    ∙ ap (λ s. cond s some 0) (and-false (not (onlyInfo (bracketIn bs ns k)))))
-  where
-    some : ℕ
-    some = cond (isLabelled (bracketIn bs ns k)) 1 (unlabelledCopies (bracketIn bs ns k .kind) (bracketIn bs ns k .count))
 
 -- ---- m copies of k, after the first n: j of them are written
 pub record Copying (n m k j : ℕ) (first now : List ℕ) : Type 0 where

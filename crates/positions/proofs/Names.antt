@@ -1,18 +1,17 @@
 -- Laws of the labels of brackets in the areas. Assumes nothing.
 use mathlib.Core.Path.{_≡_, refl, sym, ap, _∙_}
-use mathlib.Core.Bool.{Bool, true, false, cond, _||_, or-false, or-assoc, and-false}
+use mathlib.Core.Bool.{Bool, true, false, cond, _||_, or-false, or-assoc}
 use mathlib.Core.List.{List, [], _∷_, _++_}
 use Prim.Native.Nat.{ℕ, zero, suc, _+_, _≤_}
 use native.Mathlib.Omega.{arith}
 use borrow.Author.Tests.{eq-eqb, ne-eqb}
-use lib.Dec.{eqb}
 use lib.IntN.{ℤ}
 use lib.ListN.{length, drop, length-take, length-drop}
 use Rattle.scope.specs.Lists.{same, flat, among, shared, tabled, part}
 use Rattle.scope.specs.Line.{Part}
 use Rattle.scope.specs.Modifications.{nameOf, namesOf, isReferring, definedBy, referredBy}
-use Rattle.scope.specs.Layout.{partIn, bracketIn, partsField}
-use Rattle.positions.specs.Legible.{labelFrom, labelSize}
+use Rattle.scope.specs.Layout.{partIn, bracketIn, labelField, partsField}
+use Rattle.positions.specs.Legible.{labelFrom}
 use Rattle.positions.proofs.Any.{anyOf}
 use Rattle.basics.specs.Lists.{same-length, among-append}
 
@@ -25,31 +24,31 @@ same-not a m b n l h i ne =
     sym (same-length (part a m l) (part b n l) (λ e. ne (sym (length-part a m l h) ∙ e ∙ length-part b n l i)))
 
 -- ---- the label of a part
-pub name-none : (bs : List ℕ) (ns : List ℤ) (k j : ℕ) → labelSize bs k j ≡ 0 → nameOf (partIn bs ns k j) ≡ []
+pub name-none : (bs : List ℕ) (ns : List ℤ) (k j : ℕ) → labelField bs k j ≡ 0 → nameOf (partIn bs ns k j) ≡ []
 unfolding partIn
-name-none bs ns k j e = rw (eq-eqb (labelSize bs k j) 0 e)
+name-none bs ns k j e = rw (eq-eqb (labelField bs k j) 0 e)
 
-pub name-some : (bs : List ℕ) (ns : List ℤ) (k j : ℕ) → (labelSize bs k j ≡ 0 → ⊥) → nameOf (partIn bs ns k j) ≡ part (labelFrom bs k j) (labelSize bs k j) bs ∷ []
+pub name-some : (bs : List ℕ) (ns : List ℤ) (k j : ℕ) → (labelField bs k j ≡ 0 → ⊥) → nameOf (partIn bs ns k j) ≡ part (labelFrom bs k j) (labelField bs k j) bs ∷ []
 unfolding partIn
-name-some bs ns k j ne = rw (ne-eqb (labelSize bs k j) 0 ne)
+name-some bs ns k j ne = rw (ne-eqb (labelField bs k j) 0 ne)
 
 module _ (bs x : List ℕ) (k j : ℕ) where
-  pub among-none : {n : ℕ} → n ≡ labelSize bs k j → n ≡ 0 → (ns : List ℤ) → false ≡ among x (nameOf (partIn bs ns k j))
+  pub among-none : {n : ℕ} → n ≡ labelField bs k j → n ≡ 0 → (ns : List ℤ) → false ≡ among x (nameOf (partIn bs ns k j))
   unfolding among
   among-none e z ns = sym (ap (among x) (name-none bs ns k j (sym e ∙ z)))
 
-  pub among-one : {n b : ℕ} {r : Bool} → n ≡ labelSize bs k j → (n ≡ 0 → ⊥) → b ≡ labelFrom bs k j → r ≡ same x (part b n bs) → (ns : List ℤ) → r ≡ among x (nameOf (partIn bs ns k j))
+  pub among-one : {n b : ℕ} {r : Bool} → n ≡ labelField bs k j → (n ≡ 0 → ⊥) → b ≡ labelFrom bs k j → r ≡ same x (part b n bs) → (ns : List ℤ) → r ≡ among x (nameOf (partIn bs ns k j))
   unfolding among
   among-one {n} {b} e z f s ns =
       s ∙ ap (λ i. same x (part i n bs)) f ∙ ap (λ i. same x (part (labelFrom bs k j) i bs)) e
       ∙ sym (ap (among x) (name-some bs ns k j (λ i. z (e ∙ i))) ∙ or-false _)
 
 module _ (bs : List ℕ) (k j r : ℕ) where
-  pub shared-none : {n : ℕ} → n ≡ labelSize bs k j → n ≡ 0 → (ns : List ℤ) → false ≡ shared (nameOf (partIn bs ns k j)) (namesOf (bracketIn bs ns r))
+  pub shared-none : {n : ℕ} → n ≡ labelField bs k j → n ≡ 0 → (ns : List ℤ) → false ≡ shared (nameOf (partIn bs ns k j)) (namesOf (bracketIn bs ns r))
   unfolding shared
   shared-none e z ns = sym (ap (λ l. shared l (namesOf (bracketIn bs ns r))) (name-none bs ns k j (sym e ∙ z)))
 
-  pub shared-one : {n a : ℕ} {z : Bool} → n ≡ labelSize bs k j → (n ≡ 0 → ⊥) → a ≡ labelFrom bs k j → ((ns : List ℤ) → z ≡ among (part a n bs) (namesOf (bracketIn bs ns r))) → (ns : List ℤ) → z ≡ shared (nameOf (partIn bs ns k j)) (namesOf (bracketIn bs ns r))
+  pub shared-one : {n a : ℕ} {z : Bool} → n ≡ labelField bs k j → (n ≡ 0 → ⊥) → a ≡ labelFrom bs k j → ((ns : List ℤ) → z ≡ among (part a n bs) (namesOf (bracketIn bs ns r))) → (ns : List ℤ) → z ≡ shared (nameOf (partIn bs ns k j)) (namesOf (bracketIn bs ns r))
   unfolding shared
   shared-one {n} {a} e z f s ns =
       s ns ∙ ap (λ i. among (part i n bs) (namesOf (bracketIn bs ns r))) f ∙ ap (λ i. among (part (labelFrom bs k j) i bs) (namesOf (bracketIn bs ns r))) e

@@ -279,8 +279,8 @@ left true false = refl
 left false true = refl
 left false false = refl
 
-pub cleared : {base : ℕ} {old new : List ℕ} → Marked base (between 0 255) 0 old new → Marked base (λ x. true) 0 old new
-cleared m = marked-as (λ x. true) m (λ x h. sym (ap (λ t. t && leb x 255) (le-leb 0 x (omega arith)) ∙ le-leb x 255 (omega arith)))
+pub cleared : {base : ℕ} {old new : List ℕ} → Marked base (between 0 (positionLimit - 1)) 0 old new → Marked base (λ x. true) 0 old new
+cleared m = marked-as (λ x. true) m (λ x h. sym (ap (λ t. t && leb x (positionLimit - 1)) (le-leb 0 x (omega arith)) ∙ le-leb x (positionLimit - 1) (omega arith)))
 
 pub row-is : {base : ℕ} {p s : ℕ → Bool} {old clear marks new : List ℕ} → Marked base (λ x. true) 0 old clear → Marked base p 1 clear marks → Marked base s 0 marks new → RowIs base (λ x. p x && not (s x)) old new
 row-is {base} {p} {s} {old} {clear} {marks} {new} a b c =

@@ -170,6 +170,6 @@ filling-end {bs} {ns} {index} {count} {g} {old} {cur} {new} f l b a c =
         by-test (ltb i (count * positionLimit))
         (λ t.
         let k : i < count * positionLimit = ltb-true i (count * positionLimit) t in
-        let e : i ≡ i / 256 * positionLimit + i % 256 = omega arith in
-        at-most-one (standsAt bs ns (getD index (i / 256) 0) (i % 256)) (getD new i 0) (ap (λ n. getD new n 0) e ∙ rows (i / 256) (omega arith) (i % 256) (omega arith)))
+        let e : i ≡ i / positionLimit * positionLimit + i % positionLimit = omega arith in
+        at-most-one (standsAt bs ns (getD index (i / positionLimit) 0) (i % positionLimit)) (getD new i 0) (ap (λ n. getD new n 0) e ∙ rows (i / positionLimit) (omega arith) (i % positionLimit) (omega arith)))
         (λ t. let z : getD new i 0 ≡ 0 = c .zeros i (ltb-false i (count * positionLimit) t) j in omega arith)

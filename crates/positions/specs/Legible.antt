@@ -1,25 +1,23 @@
 -- What readings of labels and positions ask of the area of bytes.
 use Prim.Native.Nat.{ℕ, _+_, _≤_, _<_}
 use native.Mathlib.Omega.{arith}
+use mathlib.Core.Path.{_≡_}
 use mathlib.Core.List.{List}
 use lib.IntN.{ℤ}
 use lib.ListN.{length}
-use Rattle.scope.specs.Limits.{residueLimit, bracketLimit}
+use Rattle.scope.specs.Limits.{residueLimit, bracketLimit, positionLimit}
 use Rattle.scope.specs.Layout.{bytesSize, textsAt, bracketsField, firstField, labelField, lastField, offsetField, partsField, residuesField, textField}
 use Rattle.areas.specs.Bounds.{Bounds}
 use Rattle.brackets.specs.Row.{Row, row}
 
--- where the label of part j of bracket k begins, behind the part's text, and how long it is
+-- where the label of part j of bracket k begins, behind the part's text
 abbrev pub labelFrom : List ℕ → ℕ → ℕ → ℕ
 labelFrom bs k j = textsAt + offsetField bs k j + textField bs k j
-
-abbrev pub labelSize : List ℕ → ℕ → ℕ → ℕ
-labelSize bs k j = labelField bs k j
 
 -- bracket k, with its labels inside the area
 pub record Named (bs : List ℕ) (k : ℕ) : Type 0 where
   pub row : Row bs k
-  pub inside : (j : ℕ) → j < partsField bs k → labelFrom bs k j + labelSize bs k j ≤ length bs
+  pub inside : (j : ℕ) → j < partsField bs k → labelFrom bs k j + labelField bs k j ≤ length bs
 
 -- bracket k, with its positions among those of the line
 pub record Placed (bs : List ℕ) (k : ℕ) : Type 0 where
@@ -32,6 +30,23 @@ pub record Legible (bs : List ℕ) : Type 0 where
   pub few-residues : residuesField bs ≤ residueLimit
   pub few-brackets : bracketsField bs ≤ bracketLimit
   pub bracket : (k : ℕ) → k < bracketsField bs → Placed bs k
+
+-- where bracket k is read, and the positions that are read of it, are within their limits
+module _ {bs : List ℕ} (l : Legible bs) {k : ℕ} (h : k < bracketsField bs) where
+  pub row-of : Row bs k
+  row-of = l .bracket k h .named .row
+
+  pub row-room : (bytesSize ≤ length bs) × (k < bracketLimit)
+  row-room = (row-of .room, row-of .inside)
+
+  pub first-within : {x : ℕ} → x ≡ firstField bs k → x < positionLimit
+  first-within e = omega (arith, e, l .few-residues, l .bracket k h .first)
+
+  pub last-within : {x : ℕ} → x ≡ lastField bs k → x < positionLimit
+  last-within e = omega (arith, e, l .few-residues, l .bracket k h .last)
+
+pub residues-within : {bs : List ℕ} {n : ℕ} → Legible bs → n ≡ residuesField bs → n < positionLimit
+residues-within l e = omega (arith, e, l .few-residues)
 
 -- so are tables that keep to their bounds
 named : {bs : List ℕ} {ns : List ℤ} → Bounds bs ns → (k : ℕ) → k < bracketsField bs → Named bs k

@@ -15,7 +15,7 @@ use Rattle.scope.specs.Layout.{bracketIn, tablesIn}
 use Rattle.scope.specs.Positions.{between, isPlaced, ownPosition, referredAt, mayStand, struckOut}
 use Rattle.areas.specs.Floats.{TableIs}
 
--- in the row of 256 positions that begins at base, those of a test are set to v; all else is as before
+-- in the row of positions that begins at base, those of a test are set to v; all else is as before
 pub record Marked (base : ℕ) (test : ℕ → Bool) (v : ℕ) (old new : List ℕ) : Type 0 where
   pub kept : length new ≡ length old
   pub inside : (x : ℕ) → x < positionLimit → getD new (base + x) 0 ≡ cond (test x) v (getD old (base + x) 0)

@@ -1,6 +1,7 @@
 // Labels, compared byte for byte where they lie in the area of bytes.
-use areas::part_byte;
-use areas::wide;
+use areas::label_length;
+use areas::offset;
+use areas::text_length;
 use brackets::is_referring;
 use brackets::parts;
 use classes::same_text;
@@ -15,7 +16,7 @@ ghost use Rattle.scope.specs.Lists.{same, part, among, shared};
 ghost use Rattle.scope.specs.Layout.{partIn, bracketIn, partsField};
 ghost use Rattle.scope.specs.Modifications.{nameOf, namesOf, definedBy, referredBy};
 ghost use Rattle.brackets.specs.Row.{Row};
-ghost use Rattle.positions.specs.Legible.{labelFrom, labelSize, Named};
+ghost use Rattle.positions.specs.Legible.{labelFrom, Named};
 
 // Whether the m bytes from a on are the n bytes from b on.
 fn same_bytes(bytes: &[u8], a: usize, m: usize, b: usize, n: usize) -> bool
@@ -33,18 +34,7 @@ fn label_from(bytes: &[u8], k: usize, j: usize) -> usize
     requires { ⌜ (Row (now bytes) k) × (j < partLimit) ⌝ }
     ensures { λ r. ⌜ r ≡ labelFrom (now (bytes .entry)) k j ⌝ }
 {
-    let low = wide(part_byte(bytes, k, j, 5));
-    let high = wide(part_byte(bytes, k, j, 6));
-    let text = wide(part_byte(bytes, k, j, 3));
-    Tables::TEXTS + (low + 256 * high) + text
-}
-
-// How long it is.
-fn label_size(bytes: &[u8], k: usize, j: usize) -> usize
-    requires { ⌜ (Row (now bytes) k) × (j < partLimit) ⌝ }
-    ensures { λ r. ⌜ r ≡ labelSize (now (bytes .entry)) k j ⌝ }
-{
-    wide(part_byte(bytes, k, j, 4))
+    Tables::TEXTS + offset(bytes, k, j) + text_length(bytes, k, j)
 }
 
 // Whether part j of bracket k has the m bytes from a on as its label.
@@ -52,7 +42,7 @@ fn is_label(bytes: &[u8], a: usize, m: usize, k: usize, j: usize) -> bool
     requires { ⌜ (Named (now bytes) k) × (j < partsField (now bytes) k) × (a + m ≤ length (now bytes)) ⌝ }
     ensures { λ r. ⌜ ((ns : List ℤ) → r ≡ among (part a m (now (bytes .entry))) (nameOf (partIn (now (bytes .entry)) ns k j))) ⌝ }
 {
-    let n = label_size(bytes, k, j);
+    let n = label_length(bytes, k, j);
     if n == 0 {
         return false;
     }
@@ -81,7 +71,7 @@ fn shares_label(bytes: &[u8], k: usize, j: usize, r: usize) -> bool
     requires { ⌜ (Named (now bytes) k) × (j < partsField (now bytes) k) × (Named (now bytes) r) ⌝ }
     ensures { λ z. ⌜ ((ns : List ℤ) → z ≡ shared (nameOf (partIn (now (bytes .entry)) ns k j)) (namesOf (bracketIn (now (bytes .entry)) ns r))) ⌝ }
 {
-    let m = label_size(bytes, k, j);
+    let m = label_length(bytes, k, j);
     if m == 0 {
         return false;
     }

@@ -5,21 +5,17 @@ use areas::Floaters;
 use areas::brackets;
 use areas::wide;
 use brackets::copies_of;
-use brackets::is_referring;
 use scope::answers::Ledger;
 use scope::answers::Placement;
 ghost use mathlib.Core.Path.{_≡_};
-ghost use mathlib.Core.List.{List, _++_};
-ghost use Prim.Native.Nat.{_+_, _≤_, _<_};
-ghost use lib.IntN.{ℤ};
+ghost use mathlib.Core.List.{_++_};
+ghost use Prim.Native.Nat.{_+_, _≤_};
 ghost use lib.ListN.{length, take, replicate};
 ghost use Rattle.scope.specs.Limits.{copyLimit, rowLimit};
-ghost use Rattle.scope.specs.Modifications.{copies};
-ghost use Rattle.scope.specs.Layout.{bracketIn, tablesIn};
+ghost use Rattle.scope.specs.Layout.{tablesIn};
 ghost use Rattle.scope.specs.Positions.{floaters};
 ghost use Rattle.areas.specs.Bounds.{Bounds};
 ghost use Rattle.areas.specs.Floats.{FloatersAre};
-ghost use Rattle.brackets.specs.Row.{Row};
 ghost use Rattle.positions.specs.Marked.{Cleared, Filled};
 
 mod labels;
@@ -43,18 +39,7 @@ fn add_copies(f: Floaters, m: usize, k: u8) -> Floaters
     }
 }
 
-// How many floaters bracket k gives. A label floats once, at its definition: a reference gives none.
-fn copies_at(bytes: &[u8], k: usize) -> usize
-    requires { ⌜ Row (now bytes) k ⌝ }
-    ensures { λ r. ⌜ ((ns : List ℤ) → r ≡ copies (bracketIn (now (bytes .entry)) ns k)) ⌝ }
-{
-    if is_referring(bytes, k) {
-        return 0;
-    }
-    copies_of(bytes, k)
-}
-
-// The floaters of tables with at most 8 of them.
+// The floaters of tables with no more of them than a placement has entries.
 pub fn find_floaters(bytes: &[u8], numbers: &[i64]) -> Floaters
     requires { ⌜ (Bounds (now bytes) (now numbers)) × (length (floaters (tablesIn (now bytes) (now numbers))) ≤ copyLimit) ⌝ }
     ensures { λ r. ⌜ FloatersAre (now (bytes .entry)) (now (numbers .entry)) (r .count) (r .index) ⌝ }
@@ -66,7 +51,7 @@ pub fn find_floaters(bytes: &[u8], numbers: &[i64]) -> Floaters
     };
     let mut k: usize = 0;
     while k < b {
-        let m = copies_at(bytes, k);
+        let m = copies_of(bytes, k);
         f = add_copies(f, m, k as u8);
         k += 1;
     }

@@ -1,12 +1,12 @@
 // The row of one floater in the table: ranges of positions are marked, and positions with a placed modification are struck out.
 use crate::labels::refers_to;
 use areas::brackets;
+use areas::first;
+use areas::last;
 use areas::residues;
-use brackets::first;
 use brackets::is_labelled;
 use brackets::is_placed;
 use brackets::kind;
-use brackets::last;
 use scope::answers::Ledger;
 use scope::grammar::Kind;
 ghost use mathlib.Core.Path.{_≡_};

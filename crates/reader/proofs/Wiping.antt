@@ -1,15 +1,16 @@
 -- Areas that hold an accepted line's tables, wiped as far as such a line uses them.
-use mathlib.Core.Path.{_≡_, refl, sym, ap, ap₂, _∙_}
-use mathlib.Core.List.{List, [], _∷_, _++_, map, append-assoc, append-nil}
+use mathlib.Core.Path.{_≡_, sym, ap, ap₂, _∙_}
+use mathlib.Core.List.{List, [], _++_, map, append-assoc, append-nil}
 use Prim.Native.Nat.{ℕ, _+_, _-_, _*_, _≤_}
 use native.Mathlib.Omega.{arith}
 use lib.IntN.{ℤ, pos}
-use lib.ListN.{length, take, drop, replicate, length-drop, length-map, length-replicate, replicate-append-replicate, take-append-drop, drop-of-length-le}
+use lib.ListN.{length, take, drop, replicate, length-append, length-drop, length-map, length-replicate, replicate-append-replicate, take-append-drop, drop-of-length-le}
 use lib.Seq.{take-all, take-at, drop-at, drop-append-le, drop-append-add, drop-drop}
+use Rattle.scope.specs.Limits.{lineLimit, residueLimit, bracketLimit}
 use Rattle.scope.specs.Line.{Line}
 use Rattle.scope.specs.Lists.{flat, padded, laid}
-use Rattle.scope.specs.Layout.{bytesSize, numbersSize, sectionCode, bracketTexts, rows, numberRow, bytesOf, numbersOf, bracketsField, residuesField}
-use Rattle.layout_laws.specs.Layout.{padded-length, rows-length, number-rows-length}
+use Rattle.scope.specs.Layout.{bytesSize, numbersSize, rowSize, numberRowSize, residuesAt, lettersAt, sectionsAt, rowsAt, textsAt, countsRow, sectionCode, bracketTexts, rows, numberRow, bytesOf, numbersOf, bracketsField, residuesField}
+use Rattle.layout_laws.specs.Layout.{AreasRead, padded-length, rows-length, number-rows-length, areas-read}
 use Rattle.layout_laws.specs.Laws.{bytes-fill, numbers-fill}
 use Rattle.accepted_laws.specs.Laws.{accepted-within, accepted-short, accepted-texts}
 use Rattle.reader.specs.ReadSays.{Lays, HoldSome, Stored, Wiped, wiped}
@@ -63,59 +64,68 @@ module _ {A : Type 0} (z : A) where
       ∙ ap (λ i. replicate i z ++ back) (let e : k + (n + (m - n)) ≡ k + m = omega arith in e)
 
 -- ---- the areas
-lead : (a b : ℕ) (t : List ℕ) → (a ∷ b ∷ []) ++ padded 0 254 t ≡ padded 0 256 (a ∷ b ∷ t)
-lead a b t = ap (λ k. (a ∷ b ∷ t) ++ replicate k 0) (let e : 254 - length t ≡ 256 - length (a ∷ b ∷ t) = omega arith in e)
+-- what stands in front of a table is counted to it
+lead : (h t : List ℕ) (n : ℕ) → h ++ padded 0 n t ≡ padded 0 (length h + n) (h ++ t)
+lead h t n =
+    let l = length-append h t in
+    sym (append-assoc h t (replicate (n - length t) 0))
+    ∙ ap (λ k. (h ++ t) ++ replicate k 0) (let e : n - length t ≡ length h + n - length (h ++ t) = omega arith in e)
 
 regroup : (h a b c d p : List ℕ) → (h ++ (a ++ (b ++ (c ++ d)))) ++ p ≡ (h ++ a) ++ (b ++ (c ++ (d ++ p)))
 regroup h a b c d p = simp append-assoc
 
-abbrev headOf : Line ℕ → List ℕ
-headOf l = length (l .residues) ∷ length (l .brackets) ∷ map (λ r. r .letter) (l .residues)
+-- the five tables
+abbrev countsOf : Line ℕ → List ℕ
+countsOf l = countsRow (length (l .residues)) (length (l .brackets))
+
+abbrev lettersOf : Line ℕ → List ℕ
+lettersOf l = map (λ r. r .letter) (l .residues)
 
 abbrev sectionsOf : Line ℕ → List ℕ
 sectionsOf l = map (λ r. sectionCode (r .section)) (l .residues)
 
-module _ (l : Line ℕ) (past : List ℕ) where
-  area-is :
-      bytesOf l ++ past
-      ≡ padded 0 256 (headOf l)
-      ++ (padded 0 254 (sectionsOf l) ++ (padded 0 2176 (rows 0 (l .brackets)) ++ (padded 0 4096 (flat bracketTexts (l .brackets)) ++ past)))
-  unfolding bytesOf
-  area-is =
-      regroup (length (l .residues) ∷ length (l .brackets) ∷ []) (padded 0 254 (map (λ r. r .letter) (l .residues))) (padded 0 254 (sectionsOf l))
-      (padded 0 2176 (rows 0 (l .brackets))) (padded 0 4096 (flat bracketTexts (l .brackets))) past
-      ∙ ap
-      (λ x. x ++ (padded 0 254 (sectionsOf l) ++ (padded 0 2176 (rows 0 (l .brackets)) ++ (padded 0 4096 (flat bracketTexts (l .brackets)) ++ past))))
-      (lead (length (l .residues)) (length (l .brackets)) (map (λ r. r .letter) (l .residues)))
+abbrev rowsOf : Line ℕ → List ℕ
+rowsOf l = rows 0 (l .brackets)
 
-  residues-first : residuesField (bytesOf l ++ past) ≡ length (l .residues)
-  unfolding bytesOf
-  residues-first = refl
+abbrev textsOf : Line ℕ → List ℕ
+textsOf l = flat bracketTexts (l .brackets)
 
-  brackets-second : bracketsField (bytesOf l ++ past) ≡ length (l .brackets)
-  unfolding bytesOf
-  brackets-second = refl
+-- an area from the sections on
+abbrev fromSections : Line ℕ → List ℕ → List ℕ
+fromSections l past = padded 0 residueLimit (sectionsOf l) ++ (padded 0 (bracketLimit * rowSize) (rowsOf l) ++ (padded 0 lineLimit (textsOf l) ++ past))
+
+area-is : (l : Line ℕ) (past : List ℕ) → bytesOf l ++ past ≡ padded 0 sectionsAt (countsOf l ++ lettersOf l) ++ fromSections l past
+unfolding bytesOf
+area-is l past =
+    regroup (countsOf l) (padded 0 residueLimit (lettersOf l)) (padded 0 residueLimit (sectionsOf l)) (padded 0 (bracketLimit * rowSize) (rowsOf l))
+    (padded 0 lineLimit (textsOf l)) past
+    ∙ ap (λ x. x ++ fromSections l past) (lead (countsOf l) (lettersOf l) residueLimit)
 
 module _ {n : ℕ} {bs : List ℕ} {ns : List ℤ} (w : HoldSome n bs ns) where
   bytes-are : bs ≡ bytesOf (w .held) ++ drop bytesSize bs
   bytes-are = sym (take-append-drop bytesSize bs) ∙ ap (λ x. x ++ drop bytesSize bs) (w .holds .bytes)
 
-  numbers-are : ns ≡ padded (pos 0) 320 (flat numberRow (w .held .brackets)) ++ drop numbersSize ns
+  numbers-are : ns ≡ padded (pos 0) numbersSize (flat numberRow (w .held .brackets)) ++ drop numbersSize ns
   unfolding numbersOf
   numbers-are = sym (take-append-drop numbersSize ns) ∙ ap (λ x. x ++ drop numbersSize ns) (w .holds .numbers)
 
+  -- what is read of the area of bytes
+  counted : AreasRead (bytesOf (w .held) ++ drop bytesSize bs) (numbersOf (w .held) ++ []) (w .held)
+  counted = areas-read (w .held) (w .holds .within) (drop bytesSize bs) []
+
   residues-are : residuesField bs ≡ length (w .held .residues)
-  residues-are = ap (λ x. residuesField x) bytes-are ∙ residues-first (w .held) (drop bytesSize bs)
+  residues-are = ap (λ x. residuesField x) bytes-are ∙ counted .residues-many
 
   brackets-are : bracketsField bs ≡ length (w .held .brackets)
-  brackets-are = ap (λ x. bracketsField x) bytes-are ∙ brackets-second (w .held) (drop bytesSize bs)
+  brackets-are = ap (λ x. bracketsField x) bytes-are ∙ counted .brackets-many
 
-  pub line-short : n ≤ 4096
+  pub line-short : n ≤ lineLimit
   line-short = let e = w .long in let h = accepted-short (w .text) (w .held) (w .holds .reads) in omega arith
 
   module _ {r k : ℕ} (e : r ≡ residuesField bs) (f : k ≡ bracketsField bs) where
     bytes-wiped :
-        {b₁ b₂ b₃ b₄ : List ℕ} → b₁ ≡ wiped 0 0 (2 + r) bs → b₂ ≡ wiped 0 256 r b₁ → b₃ ≡ wiped 0 510 (k * 34) b₂ → b₄ ≡ wiped 0 2686 n b₃
+        {b₁ b₂ b₃ b₄ : List ℕ} → b₁ ≡ wiped 0 residuesAt (lettersAt + r) bs → b₂ ≡ wiped 0 sectionsAt r b₁ → b₃ ≡ wiped 0 rowsAt (k * rowSize) b₂
+        → b₄ ≡ wiped 0 textsAt n b₃
         → b₄ ≡ replicate bytesSize 0 ++ drop bytesSize bs
     bytes-wiped e₁ e₂ e₃ e₄ =
         let l = w .held in
@@ -130,30 +140,31 @@ module _ {n : ℕ} {bs : List ℕ} {ns : List ℤ} (w : HoldSome n bs ns) where
         let rows-long = rows-length (length (l .residues)) 0 (l .brackets) (v .brackets) in
         let texts-long = accepted-texts (w .text) l (w .holds .reads) in
         let short = line-short in
-        let texts = padded 0 4096 (flat bracketTexts (l .brackets)) ++ drop bytesSize bs in
-        let all-rows = padded 0 2176 (rows 0 (l .brackets)) ++ texts in
-        let sections = padded 0 254 (sectionsOf l) ++ all-rows in
-        wiped-next 0 2686 4096 n (flat bracketTexts (l .brackets)) (drop bytesSize bs) (omega arith) (omega arith)
-        (wiped-next 0 510 2176 (k * 34) (rows 0 (l .brackets)) texts (omega arith) (omega arith)
-        (wiped-next 0 256 254 r (sectionsOf l) all-rows (omega arith) (omega arith)
-        (wiped-next 0 0 256 (2 + r) (headOf l) sections (omega arith) (omega arith) (bytes-are ∙ area-is l (drop bytesSize bs)) e₁) e₂) e₃) e₄
+        let past = drop bytesSize bs in
+        let from-texts = padded 0 lineLimit (textsOf l) ++ past in
+        let from-rows = padded 0 (bracketLimit * rowSize) (rowsOf l) ++ from-texts in
+        wiped-next 0 textsAt lineLimit n (textsOf l) past (omega arith) (omega arith)
+        (wiped-next 0 rowsAt (bracketLimit * rowSize) (k * rowSize) (rowsOf l) from-texts (omega arith) (omega arith)
+        (wiped-next 0 sectionsAt residueLimit r (sectionsOf l) from-rows (omega arith) (omega arith)
+        (wiped-next 0 residuesAt sectionsAt (lettersAt + r) (countsOf l ++ lettersOf l) (fromSections l past) (omega arith) (omega arith)
+        (bytes-are ∙ area-is l past) e₁) e₂) e₃) e₄
 
-    numbers-wiped : {m : List ℤ} → m ≡ replicate (k * 5) (pos 0) ++ drop (k * 5) ns → m ≡ replicate numbersSize (pos 0) ++ drop numbersSize ns
+    numbers-wiped : {m : List ℤ} → m ≡ replicate (k * numberRowSize) (pos 0) ++ drop (k * numberRowSize) ns → m ≡ replicate numbersSize (pos 0) ++ drop numbersSize ns
     numbers-wiped {m} g =
         let l = w .held in
         let v = w .holds .within in
         let few-k = v .few-brackets in
         let ks = brackets-are in
         let rows-long = number-rows-length (length (l .residues)) (l .brackets) (v .brackets) in
-        wiped-next (pos 0) 0 320 (k * 5) (flat numberRow (l .brackets)) (drop numbersSize ns) (omega arith) (omega arith) numbers-are
-        (g ∙ ap (λ i. replicate (k * 5) (pos 0) ++ drop i ns) (let z : k * 5 ≡ 0 + k * 5 = omega arith in z))
+        wiped-next (pos 0) 0 numbersSize (k * numberRowSize) (flat numberRow (l .brackets)) (drop numbersSize ns) (omega arith) (omega arith) numbers-are
+        (g ∙ ap (λ i. replicate (k * numberRowSize) (pos 0) ++ drop i ns) (let z : k * numberRowSize ≡ 0 + k * numberRowSize = omega arith in z))
 
     zeros-long : {A : Type 0} (n : ℕ) (z : A) (l : List A) → replicate n z ++ drop n l ≡ laid (replicate n z) l
     zeros-long n z l = ap (λ i. replicate n z ++ drop i l) (sym (length-replicate n z))
 
     pub all-wiped :
-        {b₁ b₂ b₃ b₄ : List ℕ} {m : List ℤ} → b₁ ≡ wiped 0 0 (2 + r) bs → b₂ ≡ wiped 0 256 r b₁ → b₃ ≡ wiped 0 510 (k * 34) b₂
-        → b₄ ≡ wiped 0 2686 n b₃ → m ≡ replicate (k * 5) (pos 0) ++ drop (k * 5) ns → Wiped bs ns b₄ m
+        {b₁ b₂ b₃ b₄ : List ℕ} {m : List ℤ} → b₁ ≡ wiped 0 residuesAt (lettersAt + r) bs → b₂ ≡ wiped 0 sectionsAt r b₁ → b₃ ≡ wiped 0 rowsAt (k * rowSize) b₂
+        → b₄ ≡ wiped 0 textsAt n b₃ → m ≡ replicate (k * numberRowSize) (pos 0) ++ drop (k * numberRowSize) ns → Wiped bs ns b₄ m
     all-wiped e₁ e₂ e₃ e₄ g =
         let b = bytes-wiped e₁ e₂ e₃ e₄ in
         let i = numbers-wiped g in

@@ -32,7 +32,7 @@ pub fn wipe(n: usize, bytes: &mut [u8], numbers: &mut [i64])
     zero_from(bytes, Tables::SECTIONS, residues);
     zero_from(bytes, Tables::ROWS, brackets * Tables::ROW);
     zero_from(bytes, Tables::TEXTS, n);
-    fill::zero_numbers(numbers, brackets * (Tables::PARTS + 1));
+    fill::zero_numbers(numbers, brackets * Tables::MASSES);
 }
 
 // An accepted line's tables, in areas that held anything.

@@ -10,6 +10,7 @@ use lib.ListN.{length, replicate, length-map}
 use Rattle.scope.specs.declared.grammar.Key.the-variants.{Obs, Info}
 use Rattle.scope.specs.declared.grammar.Kind.{Kind}
 use Rattle.scope.specs.declared.grammar.Kind.the-variants.{Unknown, Labile, NTerm, OnResidue, OnRange, CTerm}
+use Rattle.scope.specs.Limits.{positionLimit}
 use Rattle.scope.specs.Line.{Number, Label, Value, mass, text, reference, Part, Bracket, Residue, Line}
 use Rattle.scope.specs.Lists.{given, keep, flat, optional, tabled, member}
 use Rattle.scope.specs.Content.{isReference}
@@ -343,4 +344,4 @@ module _ {P : Type 0} where
   pub same-ledger : (l : Line P) (q : List ℕ) → ledger (tablesOf l) q ≡ ledger l q
   unfolding ledger tablesOf
   same-ledger l q =
-      tabled-same _ _ (λ x. ap₂ _+ℤ_ (placed-at x (l .brackets)) (ap (λ ks. putAt x ks q) (same-floaters l) ∙ put-at x (floaters l) q)) 0 256
+      tabled-same _ _ (λ x. ap₂ _+ℤ_ (placed-at x (l .brackets)) (ap (λ ks. putAt x ks q) (same-floaters l) ∙ put-at x (floaters l) q)) 0 positionLimit

@@ -1,12 +1,11 @@
--- Laws of the first row of a floater. Assumes nothing.
+-- Laws of the first row of a floater: what was found after one row more, and that the lookup is said of what was found. Assumes nothing.
 use mathlib.Core.Path.{_≡_, refl, sym, ap, _∙_}
 use mathlib.Core.Bool.{Bool, true, false, cond}
 use mathlib.Core.Option.{Option, none, some}
 use mathlib.Core.List.{List, [], _∷_, _++_}
-use Prim.Native.Nat.{ℕ, zero, suc, _+_, _-_, _*_, _/_, _%_, _≤_, _<_, min}
-use native.Mathlib.Nat.{add-zero, zero-add}
+use Prim.Native.Nat.{ℕ, suc, _+_, _≤_, _<_, min}
+use native.Mathlib.Nat.{add-zero}
 use native.Mathlib.Omega.{arith}
-use borrow.Author.Tests.{ne-eqb, ltb-false}
 use lib.Dec.{eqb, ltb}
 use lib.ListN.{length, getD, take}
 use lib.Seq.{take-suc, length-take-le}
@@ -16,95 +15,56 @@ use Rattle.scope.specs.Lists.{given}
 use Rattle.scope.specs.Positions.{Found, firstRow, lookup}
 use Rattle.scope.specs.Answers.{good, refuses, looksUp}
 use Rattle.basics.specs.Choice.{by-test}
-use Rattle.rows.specs.First.{noSite, seen, codeOf, BytePositions, boundOf, saysCode}
+use Rattle.rows.specs.declared.Seen.{Seen}
+use Rattle.rows.specs.First.{noSite, seenOf, nextSeen, boundOf, saysSeen}
 
--- ---- what is found, as a number
-coded : Option Found → ℕ
-coded none = 0
-coded (some r) = 1 + 256 * (r .index) + r .position
+-- ---- one row more
+-- the row of s, at index i, is looked at after what was found
+abbrev then : Seen → ℕ → Site → ℕ → Seen
+then seen i s w = nextSeen seen i (s .floater) (s .position) w
 
-or-else : Option Found → Option Found → Option Found
-or-else none o = o
-or-else (some r) o = some r
-
-found-or : (t : Bool) (r : Found) (a b : Option Found) → cond t (some r) (or-else a b) ≡ or-else (cond t (some r) a) b
-unfolding or-else
-found-or true r a b = refl
-found-or false r a b = refl
-
-first-append : (f i : ℕ) (l : List Site) (s : Site) → firstRow f i (l ++ (s ∷ [])) ≡ or-else (firstRow f i l) (cond (eqb (s .floater) f) (some (record { index = i + length l; position = s .position })) none)
-unfolding firstRow or-else
-first-append f i [] s = ap (λ n. cond (eqb (s .floater) f) (some (record { index = n; position = s .position })) none) (sym (add-zero i))
-first-append f i (x ∷ l) s =
-    ap (λ o. cond (eqb (x .floater) f) (some (record { index = i; position = x .position })) o)
-    (first-append f (i + 1) l s ∙ ap (λ n. or-else (firstRow f (i + 1) l) (cond (eqb (s .floater) f) (some (record { index = n; position = s .position })) none)) (let e : i + 1 + length l ≡ i + suc (length l) = omega arith in e))
-    ∙ found-or (eqb (x .floater) f) (record { index = i; position = x .position }) (firstRow f (i + 1) l) (cond (eqb (s .floater) f) (some (record { index = i + suc (length l); position = s .position })) none)
-
-coded-next : (o : Option Found) (i w : ℕ) (s : Site) → coded (or-else o (cond (eqb (s .floater) w) (some (record { index = i; position = s .position })) none)) ≡ seen (coded o) i (s .floater) (s .position) w
-unfolding coded or-else
-coded-next none i w s = go (eqb (s .floater) w)
+seen-append : (w i : ℕ) (l : List Site) (s : Site) → seenOf (firstRow w i (l ++ (s ∷ []))) ≡ then (seenOf (firstRow w i l)) (i + length l) s w
+unfolding firstRow
+seen-append w i [] s = go (eqb (s .floater) w) ∙ ap (λ n. then (seenOf none) n s w) (sym (add-zero i))
   where
-    go : (t : Bool) → coded (cond t (some (record { index = i; position = s .position })) none) ≡ cond t (1 + 256 * i + s .position) 0
+    go : (t : Bool) → seenOf (cond t (some (record { index = i; position = s .position })) none) ≡ cond t (record { found = true; index = i; position = s .position }) (seenOf none)
     go true = refl
     go false = refl
-coded-next (some r) i w s =
-    ap (λ t. cond t (cond (eqb (s .floater) w) (1 + 256 * i + s .position) 0) (1 + 256 * (r .index) + r .position)) (sym (ne-eqb (1 + 256 * (r .index) + r .position) 0 (λ e. omega arith)))
+seen-append w i (x ∷ l) s = go (eqb (x .floater) w) (seen-append w (i + 1) l s ∙ ap (λ n. then (seenOf (firstRow w (i + 1) l)) n s w) (let e : i + 1 + length l ≡ i + suc (length l) = omega arith in e))
+  where
+    go : (t : Bool) → seenOf (firstRow w (i + 1) (l ++ (s ∷ []))) ≡ then (seenOf (firstRow w (i + 1) l)) (i + suc (length l)) s w
+        → seenOf (cond t (some (record { index = i; position = x .position })) (firstRow w (i + 1) (l ++ (s ∷ []))))
+        ≡ then (seenOf (cond t (some (record { index = i; position = x .position })) (firstRow w (i + 1) l))) (i + suc (length l)) s w
+    go true e = refl
+    go false e = e
 
-code-is : (rows : List Site) (w m : ℕ) → m ≤ length rows → coded (firstRow w 0 (take m rows)) ≡ codeOf rows w m
-unfolding codeOf coded firstRow
-code-is rows w zero h = refl
-code-is rows w (suc m) h =
-    ap (λ l. coded (firstRow w 0 l)) (take-suc rows m noSite h)
-    ∙ ap coded (first-append w 0 (take m rows) (getD rows m noSite))
-    ∙ ap (λ n. coded (or-else (firstRow w 0 (take m rows)) (cond (eqb (getD rows m noSite .floater) w) (some (record { index = n; position = getD rows m noSite .position })) none))) (zero-add (length (take m rows)) ∙ length-take-le m rows (omega arith))
-    ∙ coded-next (firstRow w 0 (take m rows)) m w (getD rows m noSite)
-    ∙ ap (λ c. seen c m (getD rows m noSite .floater) (getD rows m noSite .position) w) (code-is rows w m (omega arith))
+-- what was found among the first m rows
+abbrev pub seenIn : List Site → ℕ → ℕ → Seen
+seenIn rows w m = seenOf (firstRow w 0 (take m rows))
 
--- ---- and back, where positions are bytes
-FoundByte : Option Found → Type 0
-FoundByte none = Unit {0}
-FoundByte (some r) = r .position < 256
+pub seen-none : (rows : List Site) (w : ℕ) → seenIn rows w 0 ≡ seenOf none
+unfolding firstRow
+seen-none rows w = refl
 
-or-byte : (a b : Option Found) → FoundByte a → FoundByte b → FoundByte (or-else a b)
-unfolding FoundByte or-else
-or-byte none b p q = q
-or-byte (some r) b p q = p
+pub seen-next : (rows : List Site) (w m : ℕ) → m < length rows → then (seenIn rows w m) m (getD rows m noSite) w ≡ seenIn rows w (suc m)
+seen-next rows w m h =
+    ap (λ n. then (seenIn rows w m) n (getD rows m noSite) w) (let e : m ≡ 0 + length (take m rows) = omega (arith, length-take-le m rows (omega arith)) in e)
+    ∙ sym (ap (λ l. seenOf (firstRow w 0 l)) (take-suc rows m noSite h) ∙ seen-append w 0 (take m rows) (getD rows m noSite))
 
-this-byte : (t : Bool) (r : Found) → r .position < 256 → FoundByte (cond t (some r) none)
-unfolding FoundByte
-this-byte true r h = h
-this-byte false r h = tt
-
-found-byte : (rows : List Site) (w m : ℕ) → m ≤ length rows → BytePositions rows m → FoundByte (firstRow w 0 (take m rows))
-unfolding FoundByte firstRow
-found-byte rows w zero h b = tt
-found-byte rows w (suc m) h b =
-    rw (take-suc rows m noSite h, first-append w 0 (take m rows) (getD rows m noSite))
-    (or-byte (firstRow w 0 (take m rows)) (cond (eqb (getD rows m noSite .floater) w) (some (record { index = 0 + length (take m rows); position = getD rows m noSite .position })) none)
-    (found-byte rows w m (omega arith) (λ j l. b j (omega arith)))
-    (this-byte (eqb (getD rows m noSite .floater) w) (record { index = 0 + length (take m rows); position = getD rows m noSite .position }) (b m (omega arith))))
-
-said : (o : Option Found) → FoundByte o → cond (eqb (coded o) 0) (refuses 17 0) (good (record { index = (coded o - 1) / 256; position = (coded o - 1) % 256 })) ≡ given o good (refuses 17 0)
-unfolding FoundByte coded
-said none b = refl
-said (some r) b =
-    ap (λ t. cond t (refuses 17 0) (good (record { index = (1 + 256 * (r .index) + r .position - 1) / 256; position = (1 + 256 * (r .index) + r .position - 1) % 256 }))) (ne-eqb (1 + 256 * (r .index) + r .position) 0 (λ e. omega arith))
-    ∙ ap (λ n. good (record { index = n; position = (1 + 256 * (r .index) + r .position - 1) % 256 })) (let e : (1 + 256 * (r .index) + r .position - 1) / 256 ≡ r .index = omega arith in e)
-    ∙ ap (λ n. good (record { index = r .index; position = n })) (let e : (1 + 256 * (r .index) + r .position - 1) % 256 ≡ r .position = omega arith in e)
+pub seen-all : (rows : List Site) (w n : ℕ) → n ≤ rowLimit → seenIn rows w n ≡ seenOf (lookup rows n w)
+seen-all rows w n h = ap (seenIn rows w) (let e : n ≡ min n rowLimit = omega arith in e)
 
 -- ---- the lookup
-pub looked-up : (rows : List Site) (n w : ℕ) → BytePositions rows (boundOf n (length rows)) → saysCode (codeOf rows w (boundOf n (length rows))) (length rows) ≡ looksUp rows n w
-looked-up rows n w b =
-    by-test (ltb (length rows) rowLimit)
-    (λ t. ap (λ s. cond s (refuses 13 0) (cond (eqb (codeOf rows w (boundOf n (length rows))) 0) (refuses 17 0) (good (record { index = (codeOf rows w (boundOf n (length rows)) - 1) / 256; position = (codeOf rows w (boundOf n (length rows)) - 1) % 256 })))) t
+-- what was found, as it is said where there is room
+said : (o : Option Found) (room : ℕ) → saysSeen (seenOf o) room ≡ cond (ltb room rowLimit) (refuses 13 0) (given o good (refuses 17 0))
+said none room = refl
+said (some r) room = refl
+
+pub looked-up : (rows : List Site) (n w : ℕ) → saysSeen (seenOf (lookup rows (boundOf n (length rows)) w)) (length rows) ≡ looksUp rows n w
+looked-up rows n w =
+    said (lookup rows (boundOf n (length rows)) w) (length rows)
+    ∙ by-test (ltb (length rows) rowLimit)
+    (λ t. ap (λ s. cond s (refuses 13 0) (given (lookup rows (boundOf n (length rows)) w) good (refuses 17 0))) t
     ∙ sym (ap (λ s. cond s (refuses 13 0) (given (lookup rows n w) good (refuses 17 0))) t))
-    (λ t. long t (ap (λ s. cond s 0 (min n rowLimit)) t))
-  where
-    long : ltb (length rows) rowLimit ≡ false → boundOf n (length rows) ≡ min n rowLimit → saysCode (codeOf rows w (boundOf n (length rows))) (length rows) ≡ looksUp rows n w
-    long t e =
-        let room : rowLimit ≤ length rows = ltb-false (length rows) rowLimit t in
-        ap (λ s. cond s (refuses 13 0) (cond (eqb (codeOf rows w (boundOf n (length rows))) 0) (refuses 17 0) (good (record { index = (codeOf rows w (boundOf n (length rows)) - 1) / 256; position = (codeOf rows w (boundOf n (length rows)) - 1) % 256 })))) t
-        ∙ ap (λ m. cond (eqb (codeOf rows w m) 0) (refuses 17 0) (good (record { index = (codeOf rows w m - 1) / 256; position = (codeOf rows w m - 1) % 256 }))) e
-        ∙ ap (λ c. cond (eqb c 0) (refuses 17 0) (good (record { index = (c - 1) / 256; position = (c - 1) % 256 }))) (sym (code-is rows w (min n rowLimit) (omega arith)))
-        ∙ said (firstRow w 0 (take (min n rowLimit) rows)) (found-byte rows w (min n rowLimit) (omega arith) (λ j l. b j (omega arith)))
-        ∙ sym (ap (λ s. cond s (refuses 13 0) (given (lookup rows n w) good (refuses 17 0))) t)
+    (λ t. ap (λ m. cond (ltb (length rows) rowLimit) (refuses 13 0) (given (lookup rows m w) good (refuses 17 0))) (ap (λ s. cond s 0 (min n rowLimit)) t)
+    ∙ ap (λ m. cond (ltb (length rows) rowLimit) (refuses 13 0) (given (firstRow w 0 (take m rows)) good (refuses 17 0))) (let e : min (min n rowLimit) rowLimit ≡ min n rowLimit = omega arith in e))

@@ -132,8 +132,8 @@ laid-next rows old i d h l =
 -- the rows of one floater: positions from x on, at places from b + x on
 site-in-row : (f x : ℕ) → x < positionLimit → siteOf (f * positionLimit + x) ≡ record { floater = f + 1; position = x }
 site-in-row f x h =
-    ap (λ n. record { floater = n; position = (f * positionLimit + x) % 256 }) (let e : (f * positionLimit + x) / 256 + 1 ≡ f + 1 = omega arith in e)
-    ∙ ap (λ n. record { floater = f + 1; position = n }) (let e : (f * positionLimit + x) % 256 ≡ x = omega arith in e)
+    ap (λ n. record { floater = n; position = (f * positionLimit + x) % positionLimit }) (let e : (f * positionLimit + x) / positionLimit + 1 ≡ f + 1 = omega arith in e)
+    ∙ ap (λ n. record { floater = f + 1; position = n }) (let e : (f * positionLimit + x) % positionLimit ≡ x = omega arith in e)
 
 row-of-floater : (tab : List ℕ) (f x n : ℕ) → x + n ≤ positionLimit → map siteOf (keep (λ y. eqb (getD tab y 0) 1) (tabled (λ y. y) (f * positionLimit + x) n)) ≡ map (λ y. record { floater = f + 1; position = y }) (keep (λ y. eqb (getD tab (f * positionLimit + y) 0) 1) (tabled (λ y. y) x n))
 unfolding keep tabled

@@ -9,12 +9,19 @@ ghost use Prim.Native.Nat.{_+_, _*_, _<_, _≤_};
 ghost use lib.ListN.{length, getD};
 ghost use Rattle.scope.specs.Limits.{rowLimit, positionLimit};
 ghost use Rattle.scope.specs.Lists.{laid};
-ghost use Rattle.scope.specs.Positions.{rowsFrom};
+ghost use Rattle.scope.specs.Positions.{rowsFrom, lookup};
 ghost use Rattle.scope.specs.Answers.{saysLookup};
 ghost use Rattle.areas.specs.Floats.{listsIn, Sized};
 ghost use Rattle.rows.specs.Places.{onesFrom, siteOf};
-ghost use Rattle.rows.specs.First.{seen, codeOf, BytePositions, boundOf, saysCode};
+ghost use Rattle.rows.specs.First.{seenOf, nextSeen, boundOf, saysSeen};
 ghost use Rattle.rows.specs.Says.{LookupSays};
+
+// What was found of a floater among the rows looked at: its first row's index and position, or nothing, with zeros.
+struct Seen {
+    found: bool,
+    index: usize,
+    position: u16,
+}
 
 // The first place from one on whose byte is 1, or the end.
 fn next_place(tab: &[u8], from: usize, end: usize) -> usize
@@ -37,7 +44,7 @@ fn site_of(at: usize) -> Site
     ensures { λ r. ⌜ r ≡ siteOf at ⌝ }
 {
     let f = (at / Ledger::POSITIONS + 1) as u8;
-    let p = (at % Ledger::POSITIONS) as u8;
+    let p = (at % Ledger::POSITIONS) as u16;
     Site {
         floater: f,
         position: p,
@@ -60,34 +67,40 @@ pub fn fill_rows<'a, 'b>(tab: &'a [u8], count: usize, out: &'b mut [Site]) -> us
     i
 }
 
-// One row more is looked at.
-fn see(code: usize, i: usize, floater: u8, position: u8, wanted: u8) -> usize
-    requires { ⌜ i < rowLimit ⌝ }
-    ensures { λ r. ⌜ r ≡ seen code i floater position wanted ⌝ }
+// One row more is looked at: what was found stands.
+fn see(seen: Seen, i: usize, floater: u8, position: u16, wanted: u8) -> Seen
+    ensures { λ r. ⌜ r ≡ nextSeen seen i floater position wanted ⌝ }
 {
-    if code == 0 {
-        if floater == wanted {
-            let p = position as usize;
-            return 1 + 256 * i + p;
-        }
-        return 0;
+    if seen.found {
+        return seen;
     }
-    code
+    if floater == wanted {
+        return Seen {
+            found: true,
+            index: i,
+            position,
+        };
+    }
+    seen
 }
 
-// The first row of a floater among the first n, as one number.
-fn first_code(rows: &[Site], n: usize, wanted: u8) -> usize
+// The first row of a floater among the first n.
+fn first_seen(rows: &[Site], n: usize, wanted: u8) -> Seen
     requires { ⌜ (n ≤ length (now rows)) × (n ≤ rowLimit) ⌝ }
-    ensures { λ r. ⌜ (r ≡ codeOf (now (rows .entry)) wanted n) × (BytePositions (now (rows .entry)) n) ⌝ }
+    ensures { λ r. ⌜ r ≡ seenOf (lookup (now (rows .entry)) n wanted) ⌝ }
 {
-    let mut code: usize = 0;
+    let mut seen = Seen {
+        found: false,
+        index: 0,
+        position: 0,
+    };
     let mut i: usize = 0;
     while i < n {
         let s = rows[i];
-        code = see(code, i, s.floater, s.position, wanted);
+        seen = see(seen, i, s.floater, s.position, wanted);
         i += 1;
     }
-    code
+    seen
 }
 
 // How many rows are looked at.
@@ -103,21 +116,19 @@ fn bound(n: usize, room: usize) -> usize
     Placement::ROWS
 }
 
-// The answer of a code.
-fn row_of(code: usize, room: usize) -> Lookup
-    ensures { λ r. ⌜ saysLookup r ≡ saysCode code room ⌝ }
+// What is answered of what was found, in so much room.
+fn row_of(seen: Seen, room: usize) -> Lookup
+    ensures { λ r. ⌜ saysLookup r ≡ saysSeen seen room ⌝ }
 {
     if room < Placement::ROWS {
         return Lookup::Refused { number: 13 };
     }
-    if code == 0 {
+    if !seen.found {
         return Lookup::Refused { number: 17 };
     }
-    let c = code - 1;
-    let p = (c % 256) as u8;
     Lookup::Row {
-        index: c / 256,
-        position: p,
+        index: seen.index,
+        position: seen.position,
     }
 }
 
@@ -127,5 +138,5 @@ pub fn first_row(rows: &[Site], n: usize, floater: u8) -> Lookup
 {
     let room = rows.len();
     let m = bound(n, room);
-    row_of(first_code(rows, m, floater), room)
+    row_of(first_seen(rows, m, floater), room)
 }

@@ -14,7 +14,7 @@ use Rattle.basics.specs.Choice.{took, passed}
 use Rattle.scope.specs.Canonical.{decimal}
 use Rattle.scope.specs.Layout.{bytesSize, numbersSize}
 use Rattle.reader.specs.ReadSays.{Clean}
-use Rattle.writer.specs.Written.{stored, Puts}
+use Rattle.writer.specs.Written.{stored, Puts, decimalMost}
 use Rattle.writer.proofs.Storing.{stored-append, stored-whole}
 use Rattle.entries.specs.Entry.{entry, entryLimit, Printed}
 use Rattle.stream.specs.declared.End.{End}
@@ -437,7 +437,7 @@ counted-all {text} {n} {i} h k w = let e : i ≡ n = omega arith in (w .are ∙ 
 
 -- words, a number and the end of the line, one behind the other
 pub notice-fronts : (words : List ℕ) (number : ℕ) (out : List ℕ) {one two left : List ℕ} {a r : ℕ} → length words + noticeRoom ≤ length out
-    → one ≡ take (length words) words ++ drop (length words) out → Puts 20 one (length words) (decimal number) two a → Puts 1 two a (lineEnd ∷ []) left r
+    → one ≡ take (length words) words ++ drop (length words) out → Puts decimalMost one (length words) (decimal number) two a → Puts 1 two a (lineEnd ∷ []) left r
     → length left ≡ length out → Fronts (noticed words number) out left r
 notice-fronts words number out {one} {two} {left} {a} {r} h e p q l =
     let d = decimal number in

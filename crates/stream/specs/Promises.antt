@@ -8,7 +8,7 @@ use lib.IntN.{ℤ}
 use lib.ListN.{length, take, drop, getD}
 use Rattle.scope.specs.Canonical.{decimal}
 use Rattle.reader.specs.ReadSays.{Clean}
-use Rattle.writer.specs.Written.{stored}
+use Rattle.writer.specs.Written.{stored, decimalMost}
 use Rattle.entries.specs.Entry.{entryLimit}
 use Rattle.stream.specs.declared.End.{End}
 use Rattle.stream.specs.declared.End.the-variants.{Whole}
@@ -117,7 +117,7 @@ lineEnds (b ∷ l) = cond (eqb b lineEnd) 1 0 + lineEnds l
 
 -- a number and the end of the line have at most so many bytes
 abbrev pub noticeRoom : ℕ
-noticeRoom = 21
+noticeRoom = decimalMost + 1
 
 -- words, a number, and the end of the line
 abbrev pub noticed : List ℕ → ℕ → List ℕ

@@ -18,7 +18,7 @@ use Rattle.stream.specs.Lines.{lineEnd, grown, inFront, lines, entriesFr
 use Rattle.stream.specs.Feeding.{holdLimit, State, holding, start, kept, ended, stepped, after, put, lastPut, finished, joined, afterAll, putAll}
 use Rattle.stream.specs.Laws.{after-append, put-append, kept-twice}
 
--- ---- a line too long is answered by its first 4,097 bytes
+-- ---- a line too long is answered by those of its bytes that are held
 pub too-long : (s : List ℕ) → lineLimit < length s → outcome s ≡ refused 2 lineLimit
 unfolding outcome firstDue refusal1 refusal2
 too-long [] h = absurd (omega arith)

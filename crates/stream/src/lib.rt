@@ -7,6 +7,7 @@
 // part, and `hand_last` once, is to be read in `drain` and `close`: no contract can speak of a call. Of the system it is assumed that a read leaves at the
 // front of the room what it answers for, and that a write takes the front of what it is handed, in order, as its answer counts.
 use bounds::copy_bytes;
+use entries::ENTRY;
 use entries::put_entry;
 use libc::STDERR_FILENO;
 use libc::STDIN_FILENO;
@@ -23,13 +24,10 @@ ghost use Rattle.stream.specs.Lines.{lineEnd};
 ghost use Rattle.stream.specs.Feeding.{holdLimit, holding, finished, part};
 ghost use Rattle.stream.specs.Promises.{LineEnd, Keeps, Cuts, numberLimit, readLimit, outputLimit, Ready, Fronts, Runs, Feeds, Owed, OwedLast, noticeRoom, noticed, lineEnds, Received, Drains, Closes, Turns};
 
-// So many bytes are read at once, at most; so many of a line are held, one more than a line may have; so many has an entry, at most; so many has the
-// output.
+// So many bytes are read at once, at most; so many of a line are held, one more than a line may have; so many has the output.
 const READ: usize = 8192;
 
 const HOLD: usize = Tables::LINE + 1;
-
-const ENTRY: usize = 4206;
 
 const OUTPUT: usize = 3 * ENTRY;
 
@@ -80,7 +78,7 @@ fn keep(chunk: &[u8], from: usize, end: usize, hold: &mut [u8], held: usize) -> 
     held + n
 }
 
-// Takes bytes of the chunk in from a place on, up to the end of a line or of the chunk. What is past 4,097 bytes of a line is passed over.
+// Takes bytes of the chunk in from a place on, up to the end of a line or of the chunk. What is past the bytes of a line that are held is passed over.
 fn gather(chunk: &[u8], from: usize, hold: &mut [u8], held: usize) -> Cut
     requires { ⌜ (from ≤ length (now chunk)) × (held ≤ holdLimit) × (length (now hold) ≡ holdLimit) ⌝ }
     ensures { λ r. ⌜ Cuts (now (chunk .entry)) from (now (hold .entry)) held (now (hold .exit)) (r .held) (r .next) (r .ended) ⌝ }

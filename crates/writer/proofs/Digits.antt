@@ -1,5 +1,5 @@
 -- Laws of the digits of a number. Assumes nothing.
-use mathlib.Core.Path.{_≡_, refl}
+use mathlib.Core.Path.{_≡_, refl, ap₂, _∙_}
 use mathlib.Core.List.{[], _∷_, _++_}
 use Prim.Native.Nat.{ℕ, zero, suc, _+_, _-_, _*_, _/_, _%_, _^_, _≤_, _<_}
 use native.Mathlib.Nat.{pow-suc, div-lt-iff-lt-mul, one-le-pow}
@@ -8,7 +8,10 @@ use native.Mathlib.Omega.{arith}
 use borrow.Author.Tests.{lt-ltb, le-ltb}
 use mathlib.Core.Bool.{Bool, true, false}
 use borrow.Author.Tests.{ne-eqb}
+use lib.IntN.{ℤ, natAbs}
 use Rattle.scope.specs.Bytes.{plus, dash, dot, caret}
+use Rattle.scope.specs.Limits.{decimalLimit}
+use Rattle.scope.specs.Layout.{isNegative, numberIn}
 use Rattle.scope.specs.Canonical.{decimalUpTo, decimal, lastDigits, decimals, size, countText}
 use Rattle.writer.specs.Written.{numberOf, signText, numberText}
 
@@ -67,11 +70,16 @@ module _ (minus : Bool) (n d : ℕ) where
   unfolding size
   size-text p f = rw f
 
-pub number-text : (always minus : Bool) (n d : ℕ) → signText always minus ++ size (numberOf minus n d) ≡ numberText always (numberOf minus n d)
-number-text true true n d = refl
-number-text true false n d = refl
-number-text false true n d = refl
-number-text false false n d = refl
+sign-then : (always minus : Bool) (n d : ℕ) → signText always minus ++ size (numberOf minus n d) ≡ numberText always (numberOf minus n d)
+sign-then true true n d = refl
+sign-then true false n d = refl
+sign-then false true n d = refl
+sign-then false false n d = refl
+
+pub number-text :
+    (always : Bool) (m : ℤ) (d : ℕ) {minus : Bool} {n : ℕ} → minus ≡ isNegative m → n ≡ natAbs m / 10 ^ (decimalLimit - d)
+    → signText always minus ++ size (numberOf minus n d) ≡ numberText always (numberIn m d)
+number-text always m d {minus} {n} e f = sign-then always minus n d ∙ ap₂ (λ x y. numberText always (numberOf x y d)) e f
 
 pub sign-minus : (always minus : Bool) → minus ≡ true → dash ∷ [] ≡ signText always minus
 sign-minus always minus e = rw e

@@ -13,24 +13,26 @@ use borrow.Author.Tests.{eq-eqb, ne-eqb, eqb-true, eqb-false, leb-true, leb-fals
 use Rattle.basics.specs.Choice.{took, by-test}
 use Rattle.scope.specs.declared.grammar.Kind.{Kind}
 use Rattle.scope.specs.declared.grammar.Kind.the-variants.{Unknown, Labile, NTerm, OnResidue, OnRange, CTerm}
+use Rattle.scope.specs.declared.grammar.Section.the-variants.{Plain, RangeFirst, RangeNext, UnsureFirst, UnsureNext}
 use Rattle.scope.specs.Bytes.{question, dash}
-use Rattle.scope.specs.Limits.{residueLimit}
+use Rattle.scope.specs.Limits.{residueLimit, positionLimit}
 use Rattle.scope.specs.Line.{Bracket, Residue}
 use Rattle.scope.specs.Canonical.{squareText, curlyText, unknownText, ofKind, endingAt, closedBy, ledBy, opening, ending, isNext, goesOn, sequenceText, canonical}
-use Rattle.scope.specs.Kinds.{kindCode}
+use Rattle.scope.specs.Kinds.{isKind}
 use Rattle.scope.specs.Lists.{keep, flat, tabled, laid}
-use Rattle.scope.specs.Layout.{byteAt, sectionIn, sectionsAt, lettersAt, residueIn, bracketIn, tablesIn, bracketsField, lastField, residuesField}
+use Rattle.scope.specs.Layout.{sectionCode, sectionIn, residueIn, bracketIn, tablesIn, bracketsField, lastField, letterField, residuesField, sectionField}
 use Rattle.areas.specs.Bounds.{Bounds}
-use Rattle.writer.specs.Written.{Puts, WholeLine, ceiling}
-use Rattle.writer.specs.Ranks.{rankOf, rank, rankIn, Ready, rankedText, runText, Walks, residueText, Spelt, Clear, Bare, Spells}
+use Rattle.writer.specs.declared.Shape.the-variants.{Counted, Curly, Square}
+use Rattle.writer.specs.Written.{Puts, WholeLine, ceiling, residueMost, residuesMost}
+use Rattle.writer.specs.Ranks.{lastRank, rankOf, rank, rankIn, Ready, rankedText, runText, Walks, residueText, Spelt, Clear, Bare, Spells}
 use Rattle.writer.proofs.Storing.{stored-whole, puts-within, puts-length}
-use Rattle.writer.proofs.RankLaws.{rank-is, tabled-from, tabled-over}
+use Rattle.writer.proofs.RankLaws.{rank-is, rank-within, tabled-from, tabled-over}
 use Rattle.writer.proofs.RunLaws.{quiet, run-one, run-empty, none-of}
 use Rattle.writer.proofs.Walking.{walks-of, walks-still, walks-then, walks-before, walks-up}
 use Rattle.basics.specs.Lists.{keep-same}
 
 -- ---- sections
-pub opening-other : (c : ℕ) → (c ≡ 1 → ⊥) → (c ≡ 3 → ⊥) → [] ≡ opening (sectionIn c)
+pub opening-other : (c : ℕ) → (c ≡ sectionCode RangeFirst → ⊥) → (c ≡ sectionCode UnsureFirst → ⊥) → [] ≡ opening (sectionIn c)
 opening-other zero p q = refl
 opening-other (suc zero) p q = absurd (p refl)
 opening-other (suc (suc zero)) p q = refl
@@ -38,7 +40,7 @@ opening-other (suc (suc (suc zero))) p q = absurd (q refl)
 opening-other (suc (suc (suc (suc zero)))) p q = refl
 opening-other (suc (suc (suc (suc (suc c))))) p q = refl
 
-pub next-other : (c : ℕ) → (c ≡ 2 → ⊥) → (c ≡ 4 → ⊥) → false ≡ isNext (sectionIn c)
+pub next-other : (c : ℕ) → (c ≡ sectionCode RangeNext → ⊥) → (c ≡ sectionCode UnsureNext → ⊥) → false ≡ isNext (sectionIn c)
 next-other zero p q = refl
 next-other (suc zero) p q = refl
 next-other (suc (suc zero)) p q = absurd (p refl)
@@ -46,7 +48,9 @@ next-other (suc (suc (suc zero))) p q = refl
 next-other (suc (suc (suc (suc zero)))) p q = absurd (q refl)
 next-other (suc (suc (suc (suc (suc c))))) p q = refl
 
-pub ending-other : (c : ℕ) (t : List ℕ) → (c ≡ 1 → ⊥) → (c ≡ 2 → ⊥) → (c ≡ 3 → ⊥) → (c ≡ 4 → ⊥) → [] ≡ ending (sectionIn c) t
+pub ending-other :
+    (c : ℕ) (t : List ℕ) → (c ≡ sectionCode RangeFirst → ⊥) → (c ≡ sectionCode RangeNext → ⊥) → (c ≡ sectionCode UnsureFirst → ⊥)
+    → (c ≡ sectionCode UnsureNext → ⊥) → [] ≡ ending (sectionIn c) t
 ending-other zero t p q r s = refl
 ending-other (suc zero) t p q r s = absurd (p refl)
 ending-other (suc (suc zero)) t p q r s = absurd (q refl)
@@ -64,7 +68,7 @@ module _ (bs : List ℕ) (p n : ℕ) where
   pub goes-over : n ≤ p → false ≡ goesOn (tabled (residueIn bs) p (n - p))
   goes-over h = sym (ap goesOn (tabled-over (residueIn bs) p n h))
 
-  pub goes-next : {c : ℕ} {t : Bool} → p < n → c ≡ byteAt bs (sectionsAt + p) → t ≡ isNext (sectionIn c) → t ≡ goesOn (tabled (residueIn bs) p (n - p))
+  pub goes-next : {c : ℕ} {t : Bool} → p < n → c ≡ sectionField bs p → t ≡ isNext (sectionIn c) → t ≡ goesOn (tabled (residueIn bs) p (n - p))
   goes-next h e f = f ∙ ap (λ c. isNext (sectionIn c)) e ∙ sym (ap goesOn (tabled-from (residueIn bs) p n h))
 
 -- ---- kinds by rank
@@ -94,7 +98,7 @@ same-test a b c d f g =
     (λ t. t ∙ sym (eq-eqb c d (f (eqb-true a b t))))
     (λ t. t ∙ sym (ne-eqb c d (λ e. eqb-false a b t (g e))))
 
-test-unknown : (k : Kind) (last : ℕ) → eqb (kindCode k) 1 ≡ eqb (rankOf k last) 0
+test-unknown : (k : Kind) (last : ℕ) → isKind Unknown k ≡ eqb (rankOf k last) 0
 test-unknown Unknown last = refl
 test-unknown Labile last = refl
 test-unknown NTerm last = refl
@@ -102,7 +106,7 @@ test-unknown OnResidue last = never (3 + 2 * last) 0 (λ e. omega arith)
 test-unknown OnRange last = never (4 + 2 * last) 0 (λ e. omega arith)
 test-unknown CTerm last = refl
 
-test-labile : (k : Kind) (last : ℕ) → eqb (kindCode k) 2 ≡ eqb (rankOf k last) 1
+test-labile : (k : Kind) (last : ℕ) → isKind Labile k ≡ eqb (rankOf k last) 1
 test-labile Unknown last = refl
 test-labile Labile last = refl
 test-labile NTerm last = refl
@@ -110,7 +114,7 @@ test-labile OnResidue last = never (3 + 2 * last) 1 (λ e. omega arith)
 test-labile OnRange last = never (4 + 2 * last) 1 (λ e. omega arith)
 test-labile CTerm last = refl
 
-test-n-term : (k : Kind) (last : ℕ) → eqb (kindCode k) 3 ≡ eqb (rankOf k last) 2
+test-n-term : (k : Kind) (last : ℕ) → isKind NTerm k ≡ eqb (rankOf k last) 2
 test-n-term Unknown last = refl
 test-n-term Labile last = refl
 test-n-term NTerm last = refl
@@ -118,64 +122,64 @@ test-n-term OnResidue last = never (3 + 2 * last) 2 (λ e. omega arith)
 test-n-term OnRange last = never (4 + 2 * last) 2 (λ e. omega arith)
 test-n-term CTerm last = refl
 
-test-c-term : (k : Kind) (last : ℕ) → last < 998 → eqb (kindCode k) 6 ≡ eqb (rankOf k last) 2000
+test-c-term : (k : Kind) (last : ℕ) → last < positionLimit → isKind CTerm k ≡ eqb (rankOf k last) lastRank
 test-c-term Unknown last h = refl
 test-c-term Labile last h = refl
 test-c-term NTerm last h = refl
-test-c-term OnResidue last h = never (3 + 2 * last) 2000 (λ e. omega arith)
-test-c-term OnRange last h = never (4 + 2 * last) 2000 (λ e. omega arith)
+test-c-term OnResidue last h = never (3 + 2 * last) lastRank (λ e. omega arith)
+test-c-term OnRange last h = never (4 + 2 * last) lastRank (λ e. omega arith)
 test-c-term CTerm last h = refl
 
-test-residue : (k : Kind) (last i : ℕ) → (eqb (kindCode k) 4 && eqb last i) ≡ eqb (rankOf k last) (3 + 2 * i)
+test-residue : (k : Kind) (last i : ℕ) → (isKind OnResidue k && eqb last i) ≡ eqb (rankOf k last) (3 + 2 * i)
 test-residue Unknown last i = never 0 (3 + 2 * i) (λ e. omega arith)
 test-residue Labile last i = never 1 (3 + 2 * i) (λ e. omega arith)
 test-residue NTerm last i = never 2 (3 + 2 * i) (λ e. omega arith)
 test-residue OnResidue last i = same-test last i (3 + 2 * last) (3 + 2 * i) (λ e. omega arith) (λ e. omega arith)
 test-residue OnRange last i = never (4 + 2 * last) (3 + 2 * i) (λ e. omega arith)
-test-residue CTerm last i = never 2000 (3 + 2 * i) (λ e. omega arith)
+test-residue CTerm last i = never lastRank (3 + 2 * i) (λ e. omega arith)
 
-test-range : (k : Kind) (last i : ℕ) → i < 998 → (eqb (kindCode k) 5 && eqb last i) ≡ eqb (rankOf k last) (4 + 2 * i)
+test-range : (k : Kind) (last i : ℕ) → i < positionLimit → (isKind OnRange k && eqb last i) ≡ eqb (rankOf k last) (4 + 2 * i)
 test-range Unknown last i h = never 0 (4 + 2 * i) (λ e. omega arith)
 test-range Labile last i h = never 1 (4 + 2 * i) (λ e. omega arith)
 test-range NTerm last i h = never 2 (4 + 2 * i) (λ e. omega arith)
 test-range OnResidue last i h = never (3 + 2 * last) (4 + 2 * i) (λ e. omega arith)
 test-range OnRange last i h = same-test last i (4 + 2 * last) (4 + 2 * i) (λ e. omega arith) (λ e. omega arith)
-test-range CTerm last i h = never 2000 (4 + 2 * i) (λ e. omega arith)
+test-range CTerm last i h = never lastRank (4 + 2 * i) (λ e. omega arith)
 
 module _ (ks : List (Bracket (Unit {0}))) where
-  unknown-run : runText 0 0 ks ≡ flat unknownText (ofKind Unknown ks)
-  unknown-run = ap (flat unknownText) (sym (keep-same (λ k. eqb (kindCode (k .kind)) 1) (λ k. eqb (rank k) 0) (λ k. test-unknown (k .kind) (k .last)) ks))
+  unknown-run : runText Counted 0 ks ≡ flat unknownText (ofKind Unknown ks)
+  unknown-run = ap (flat unknownText) (sym (keep-same (λ k. isKind Unknown (k .kind)) (λ k. eqb (rank k) 0) (λ k. test-unknown (k .kind) (k .last)) ks))
 
-  labile-run : runText 1 1 ks ≡ flat curlyText (ofKind Labile ks)
-  labile-run = ap (flat curlyText) (sym (keep-same (λ k. eqb (kindCode (k .kind)) 2) (λ k. eqb (rank k) 1) (λ k. test-labile (k .kind) (k .last)) ks))
+  labile-run : runText Curly 1 ks ≡ flat curlyText (ofKind Labile ks)
+  labile-run = ap (flat curlyText) (sym (keep-same (λ k. isKind Labile (k .kind)) (λ k. eqb (rank k) 1) (λ k. test-labile (k .kind) (k .last)) ks))
 
-  n-term-run : runText 2 2 ks ≡ flat squareText (ofKind NTerm ks)
-  n-term-run = ap (flat squareText) (sym (keep-same (λ k. eqb (kindCode (k .kind)) 3) (λ k. eqb (rank k) 2) (λ k. test-n-term (k .kind) (k .last)) ks))
+  n-term-run : runText Square 2 ks ≡ flat squareText (ofKind NTerm ks)
+  n-term-run = ap (flat squareText) (sym (keep-same (λ k. isKind NTerm (k .kind)) (λ k. eqb (rank k) 2) (λ k. test-n-term (k .kind) (k .last)) ks))
 
-  pub residue-run : (i : ℕ) → runText 2 (3 + 2 * i) ks ≡ flat squareText (endingAt OnResidue i ks)
+  pub residue-run : (i : ℕ) → runText Square (3 + 2 * i) ks ≡ flat squareText (endingAt OnResidue i ks)
   residue-run i =
       ap (flat squareText)
       (sym
-      (keep-twice (λ k. eqb (k .last) i) (λ k. eqb (kindCode (k .kind)) 4) ks
-      ∙ keep-same (λ k. eqb (kindCode (k .kind)) 4 && eqb (k .last) i) (λ k. eqb (rank k) (3 + 2 * i)) (λ k. test-residue (k .kind) (k .last) i) ks))
+      (keep-twice (λ k. eqb (k .last) i) (λ k. isKind OnResidue (k .kind)) ks
+      ∙ keep-same (λ k. isKind OnResidue (k .kind) && eqb (k .last) i) (λ k. eqb (rank k) (3 + 2 * i)) (λ k. test-residue (k .kind) (k .last) i) ks))
 
-  pub range-run : (i : ℕ) → i < 998 → runText 2 (4 + 2 * i) ks ≡ flat squareText (endingAt OnRange i ks)
+  pub range-run : (i : ℕ) → i < positionLimit → runText Square (4 + 2 * i) ks ≡ flat squareText (endingAt OnRange i ks)
   range-run i h =
       ap (flat squareText)
       (sym
-      (keep-twice (λ k. eqb (k .last) i) (λ k. eqb (kindCode (k .kind)) 5) ks
-      ∙ keep-same (λ k. eqb (kindCode (k .kind)) 5 && eqb (k .last) i) (λ k. eqb (rank k) (4 + 2 * i)) (λ k. test-range (k .kind) (k .last) i h) ks))
+      (keep-twice (λ k. eqb (k .last) i) (λ k. isKind OnRange (k .kind)) ks
+      ∙ keep-same (λ k. isKind OnRange (k .kind) && eqb (k .last) i) (λ k. eqb (rank k) (4 + 2 * i)) (λ k. test-range (k .kind) (k .last) i h) ks))
 
 last-is : (bs : List ℕ) (ns : List ℤ) (k : ℕ) → bracketIn bs ns k .last ≡ lastField bs k
 unfolding bracketIn
 last-is bs ns k = refl
 
-c-term-run : (bs : List ℕ) (ns : List ℤ) → Bounds bs ns → runText 2 2000 (tablesIn bs ns .brackets) ≡ flat squareText (ofKind CTerm (tablesIn bs ns .brackets))
+c-term-run : (bs : List ℕ) (ns : List ℤ) → Bounds bs ns → runText Square lastRank (tablesIn bs ns .brackets) ≡ flat squareText (ofKind CTerm (tablesIn bs ns .brackets))
 unfolding tablesIn
 c-term-run bs ns b =
     ap (flat squareText)
     (sym
-    (keep-row (λ k. eqb (kindCode (k .kind)) 6) (λ k. eqb (rank k) 2000) (bracketIn bs ns) 0 (bracketsField bs)
+    (keep-row (λ k. isKind CTerm (k .kind)) (λ k. eqb (rank k) lastRank) (bracketIn bs ns) 0 (bracketsField bs)
     (λ i h l. test-c-term (bracketIn bs ns i .kind) (bracketIn bs ns i .last) (omega (arith, last-is bs ns i, b .few-residues, b .bracket i (omega arith) .last)))))
 
 -- ---- the sequence
@@ -193,26 +197,26 @@ nothing-else : (t : Bool) (l : List ℕ) → l ≡ l ++ cond t [] []
 nothing-else true l = sym (append-nil l)
 nothing-else false l = sym (append-nil l)
 
-module _ (bs : List ℕ) (ks : List (Bracket (Unit {0}))) (p : ℕ) (rs : List (Residue (Unit {0}))) {c b : ℕ} (e : c ≡ byteAt bs (sectionsAt + p)) (f : b ≡ byteAt bs (lettersAt + p)) where
-  at-residue : runText 2 (5 + 2 * p) ks ≡ flat squareText (endingAt OnResidue (p + 1) ks)
+module _ (bs : List ℕ) (ks : List (Bracket (Unit {0}))) (p : ℕ) (rs : List (Residue (Unit {0}))) {c b : ℕ} (e : c ≡ sectionField bs p) (f : b ≡ letterField bs p) where
+  at-residue : runText Square (5 + 2 * p) ks ≡ flat squareText (endingAt OnResidue (p + 1) ks)
   at-residue =
       let q : 5 + 2 * p ≡ 3 + 2 * (p + 1) = omega arith in
-      ap (λ q. runText 2 q ks) q ∙ residue-run ks (p + 1)
+      ap (λ q. runText Square q ks) q ∙ residue-run ks (p + 1)
 
-  pub residue-plain : c ≡ 0 → (b ∷ []) ++ runText 2 (5 + 2 * p) ks ≡ residueText ks (p + 1) (residueIn bs p) rs
+  pub residue-plain : c ≡ sectionCode Plain → (b ∷ []) ++ runText Square (5 + 2 * p) ks ≡ residueText ks (p + 1) (residueIn bs p) rs
   residue-plain z =
-      let w : byteAt bs (sectionsAt + p) ≡ 0 = sym e ∙ z in
-      rw (w, f, at-residue) (ap (λ t. byteAt bs (lettersAt + p) ∷ t) (nothing-else (goesOn rs) _))
+      let w : sectionField bs p ≡ sectionCode Plain = sym e ∙ z in
+      rw (w, f, at-residue) (ap (λ t. letterField bs p ∷ t) (nothing-else (goesOn rs) _))
 
-  pub residue-on : goesOn rs ≡ true → opening (sectionIn c) ++ ((b ∷ []) ++ runText 2 (5 + 2 * p) ks) ≡ residueText ks (p + 1) (residueIn bs p) rs
+  pub residue-on : goesOn rs ≡ true → opening (sectionIn c) ++ ((b ∷ []) ++ runText Square (5 + 2 * p) ks) ≡ residueText ks (p + 1) (residueIn bs p) rs
   residue-on g = rw (g, e, f, at-residue, append-nil)
 
   pub residue-off :
-      p < 900 → goesOn rs ≡ false
-      → (opening (sectionIn c) ++ ((b ∷ []) ++ runText 2 (5 + 2 * p) ks)) ++ ending (sectionIn c) (runText 2 (4 + 2 * (p + 1)) ks)
+      p < residueLimit → goesOn rs ≡ false
+      → (opening (sectionIn c) ++ ((b ∷ []) ++ runText Square (5 + 2 * p) ks)) ++ ending (sectionIn c) (runText Square (4 + 2 * (p + 1)) ks)
       ≡ residueText ks (p + 1) (residueIn bs p) rs
   residue-off h g =
-      append-assoc (opening (sectionIn c)) ((b ∷ []) ++ runText 2 (5 + 2 * p) ks) (ending (sectionIn c) (runText 2 (4 + 2 * (p + 1)) ks))
+      append-assoc (opening (sectionIn c)) ((b ∷ []) ++ runText Square (5 + 2 * p) ks) (ending (sectionIn c) (runText Square (4 + 2 * (p + 1)) ks))
       ∙ rw (g, e, f, at-residue, range-run ks (p + 1) (omega arith))
 
 module _ (bs : List ℕ) (ns : List ℤ) (n from : ℕ) (o : List ℕ) (at : ℕ) where
@@ -228,7 +232,7 @@ module _ (bs : List ℕ) (ns : List ℤ) (n from : ℕ) (o : List ℕ) (at : ℕ
   module _ {out : List ℕ} {p j a : ℕ} (s : Spelt bs ns n from o at out p j a) where
     pub spelt-more :
         p < n → {out′ : List ℕ} {j′ a′ : ℕ}
-        → Walks bs 4 j (5 + 2 * (p + 1)) out a (residueText (tablesIn bs ns .brackets) (p + 1) (residueIn bs p) (tabled (residueIn bs) (p + 1) (n - (p + 1)))) out′ a′ j′
+        → Walks bs residueMost j (5 + 2 * (p + 1)) out a (residueText (tablesIn bs ns .brackets) (p + 1) (residueIn bs p) (tabled (residueIn bs) (p + 1) (n - (p + 1)))) out′ a′ j′
         → Spelt bs ns n from o at out′ (p + 1) j′ a′
     spelt-more h {out′} {j′} {a′} w =
         let ks = tablesIn bs ns .brackets in
@@ -240,19 +244,19 @@ module _ (bs : List ℕ) (ns : List ℤ) (n from : ℕ) (o : List ℕ) (at : ℕ
           low = omega arith;
           done = s .done ++ t;
           rest = append-assoc (s .done) t v ∙ ap (λ z. s .done ++ z) e ∙ s .rest;
-          walks = walks-then (4 * (p + 1)) (omega arith) (s .walks) w;
+          walks = walks-then (residueMost * (p + 1)) (omega arith) (s .walks) w;
         }
 
     -- a residue by itself, with no bracket
     pub spelt-bare :
-        {q b : ℕ} → Clear bs j q → Bare bs p n q → b ≡ byteAt bs (lettersAt + p) → {out′ : List ℕ} {a′ : ℕ} → Puts 1 out a (b ∷ []) out′ a′
+        {q b : ℕ} → Clear bs j q → Bare bs p n q → b ≡ letterField bs p → {out′ : List ℕ} {a′ : ℕ} → Puts 1 out a (b ∷ []) out′ a′
         → Spelt bs ns n from o at out′ (p + 1) j a′
     unfolding tablesIn
     spelt-bare {b = b} c h f g =
         let w = s .walks in
         let ks = tablesIn bs ns .brackets in
-        let none : runText 2 (5 + 2 * p) ks ≡ [] =
-        none-of bs ns 2 (5 + 2 * p) (bracketsField bs)
+        let none : runText Square (5 + 2 * p) ks ≡ [] =
+        none-of bs ns Square (5 + 2 * p) (bracketsField bs)
         (λ i l e.
         by-test (leb j i)
         (λ t. omega (arith, c i (leb-true j i t) l, h .below, e))
@@ -263,7 +267,7 @@ module _ (bs : List ℕ) (ns : List ℤ) (n from : ℕ) (o : List ℕ) (at : ℕ
 
     pub spelt-over :
         n ≤ p → n ≡ residuesField bs → n ≤ residueLimit
-        → Walks bs 1016 from 2000 o at (sequenceText (tablesIn bs ns .brackets) 1 (tablesIn bs ns .residues)) out a j
+        → Walks bs residuesMost from lastRank o at (sequenceText (tablesIn bs ns .brackets) 1 (tablesIn bs ns .residues)) out a j
     unfolding tablesIn sequenceText
     spelt-over h e l =
         let q : sequenceText (tablesIn bs ns .brackets) (p + 1) (tabled (residueIn bs) p (n - p)) ≡ [] =
@@ -287,7 +291,7 @@ module _ (bs : List ℕ) (n q : ℕ) (o : List ℕ) (p at : ℕ) where
   lettered-start = record { forth = omega arith; near = omega arith; kept = refl; spells = λ ns from j first start c s. s }
 
   pub lettered-more :
-      {out : List ℕ} {i a b : ℕ} → Lettered bs n q o p at out i a → Bare bs i n q → b ≡ byteAt bs (lettersAt + i) → {out′ : List ℕ} {a′ : ℕ}
+      {out : List ℕ} {i a b : ℕ} → Lettered bs n q o p at out i a → Bare bs i n q → b ≡ letterField bs i → {out′ : List ℕ} {a′ : ℕ}
       → Puts 1 out a (b ∷ []) out′ a′ → Lettered bs n q o p at out′ (i + 1) a′
   lettered-more l h f g =
       record {
@@ -318,39 +322,40 @@ led b [] x u = refl
 led b (y ∷ s) x u = refl
 
 module _ (bs : List ℕ) (ns : List ℤ) {m : ℕ} (e : m ≡ bracketsField bs) where
-  no-c-term : ((i : ℕ) → i < m → rankIn bs i < 2000) → runText 2 2000 (tablesIn bs ns .brackets) ≡ []
+  no-c-term : ((i : ℕ) → i < m → rankIn bs i < lastRank) → runText Square lastRank (tablesIn bs ns .brackets) ≡ []
   unfolding tablesIn
   no-c-term h =
-      ap (λ n. runText 2 2000 (tabled (bracketIn bs ns) 0 n)) (sym e ∙ sym (zero-add m))
-      ∙ quiet 2 2000 (bracketIn bs ns) 0 m (λ i a b w. omega (arith, h i (omega arith), sym (rank-is bs ns i) ∙ w))
-      ∙ run-empty 2 2000 (bracketIn bs ns)
+      ap (λ n. runText Square lastRank (tabled (bracketIn bs ns) 0 n)) (sym e ∙ sym (zero-add m))
+      ∙ quiet Square lastRank (bracketIn bs ns) 0 m (λ i a b w. omega (arith, h i (omega arith), sym (rank-is bs ns i) ∙ w))
+      ∙ run-empty Square lastRank (bracketIn bs ns)
 
-  pub c-term-none : m ≡ 0 → [] ≡ ledBy dash (runText 2 2000 (tablesIn bs ns .brackets))
+  pub c-term-none : m ≡ 0 → [] ≡ ledBy dash (runText Square lastRank (tablesIn bs ns .brackets))
   c-term-none z = sym (ap (ledBy dash) (no-c-term (λ i h. absurd (omega arith))))
 
   module _ (d : Ready bs ns) (z : m ≡ 0 → ⊥) {r : ℕ} (f : r ≡ rankIn bs (m - 1)) where
-    pub c-term-below : r < 2000 → [] ≡ ledBy dash (runText 2 2000 (tablesIn bs ns .brackets))
+    pub c-term-below : r < lastRank → [] ≡ ledBy dash (runText Square lastRank (tablesIn bs ns .brackets))
     c-term-below h = sym (ap (ledBy dash) (no-c-term (λ i l. omega (arith, d .sorted i (m - 1) (omega arith) (omega arith), f))))
 
-    pub c-term-some : r ≤ 2000 → 2000 ≤ r → dash ∷ runText 2 2000 (tablesIn bs ns .brackets) ≡ ledBy dash (runText 2 2000 (tablesIn bs ns .brackets))
+    pub c-term-some : lastRank ≤ r → dash ∷ runText Square lastRank (tablesIn bs ns .brackets) ≡ ledBy dash (runText Square lastRank (tablesIn bs ns .brackets))
     unfolding tablesIn
-    c-term-some l h =
+    c-term-some h =
         let q : bracketsField bs ≡ m - 1 + 1 = omega arith in
+        let low = rank-within bs ns (m - 1) (d .bounds) (omega arith) in
         let k = bracketIn bs ns (m - 1) in
-        let y : rankedText 2 2000 k ≡ squareText k = sym (took _ _ _ (eq-eqb (rank k) 2000 (rank-is bs ns (m - 1) ∙ sym f ∙ omega arith))) in
-        let w : runText 2 2000 (tabled (bracketIn bs ns) 0 (bracketsField bs)) ≡ runText 2 2000 (tabled (bracketIn bs ns) 0 (m - 1)) ++ squareText k =
-        ap (λ n. runText 2 2000 (tabled (bracketIn bs ns) 0 n)) q
-        ∙ sym (run-one 2 2000 (bracketIn bs ns) (m - 1))
-        ∙ ap (λ t. runText 2 2000 (tabled (bracketIn bs ns) 0 (m - 1)) ++ t) y in
-        rw w (led dash (runText 2 2000 (tabled (bracketIn bs ns) 0 (m - 1))) _ _)
+        let y : rankedText Square lastRank k ≡ squareText k = sym (took _ _ _ (eq-eqb (rank k) lastRank (rank-is bs ns (m - 1) ∙ sym f ∙ omega (arith, f, low)))) in
+        let w : runText Square lastRank (tabled (bracketIn bs ns) 0 (bracketsField bs)) ≡ runText Square lastRank (tabled (bracketIn bs ns) 0 (m - 1)) ++ squareText k =
+        ap (λ n. runText Square lastRank (tabled (bracketIn bs ns) 0 n)) q
+        ∙ sym (run-one Square lastRank (bracketIn bs ns) (m - 1))
+        ∙ ap (λ t. runText Square lastRank (tabled (bracketIn bs ns) 0 (m - 1)) ++ t) y in
+        rw w (led dash (runText Square lastRank (tabled (bracketIn bs ns) 0 (m - 1))) _ _)
 
 -- ---- the line
 pub line-text :
     (bs : List ℕ) (ns : List ℤ) → Bounds bs ns
-    → closedBy (runText 0 0 (tablesIn bs ns .brackets)) question
-    ++ (runText 1 1 (tablesIn bs ns .brackets)
-    ++ (closedBy (runText 2 2 (tablesIn bs ns .brackets)) dash
-    ++ (sequenceText (tablesIn bs ns .brackets) 1 (tablesIn bs ns .residues) ++ ledBy dash (runText 2 2000 (tablesIn bs ns .brackets)))))
+    → closedBy (runText Counted 0 (tablesIn bs ns .brackets)) question
+    ++ (runText Curly 1 (tablesIn bs ns .brackets)
+    ++ (closedBy (runText Square 2 (tablesIn bs ns .brackets)) dash
+    ++ (sequenceText (tablesIn bs ns .brackets) 1 (tablesIn bs ns .residues) ++ ledBy dash (runText Square lastRank (tablesIn bs ns .brackets)))))
     ≡ canonical (tablesIn bs ns)
 unfolding canonical
 line-text bs ns b =

@@ -1,22 +1,20 @@
 -- What the numbers of a part's row, and of its bracket's score, write. Assumes nothing.
-use mathlib.Core.Path.{_≡_, sym, ap, _∙_}
-use mathlib.Core.Bool.{Bool, true, false}
+use mathlib.Core.Path.{_≡_, sym, _∙_}
+use mathlib.Core.Bool.{true, false}
 use mathlib.Core.List.{List, [], _∷_, _++_}
-use Prim.Native.Nat.{ℕ, _+_, _-_, _*_, _/_, _^_, _≤_}
-use native.Mathlib.Nat.{add-zero}
+use Prim.Native.Nat.{ℕ, _+_, _-_, _≤_}
 use lib.Dec.{eqb}
-use lib.IntN.{ℤ, pos, natAbs}
-use lib.ListN.{getD, List·getD-eq-default}
+use lib.IntN.{ℤ}
+use lib.ListN.{List·getD-eq-default}
 use borrow.Author.Tests.{eq-eqb, ne-eqb}
 use Rattle.scope.specs.declared.grammar.Key.the-variants.{NoKey}
 use Rattle.scope.specs.Bytes.{openRound, shutRound, hash, bar}
 use Rattle.scope.specs.Canonical.{massText, scoreText, valueText, labelText, partText}
 use Rattle.scope.specs.Lists.{given, part}
 use Rattle.scope.specs.Keys.{written, spell, keys, keyIn}
-use Rattle.scope.specs.Limits.{decimalLimit, partLimit}
 use Rattle.scope.specs.Line.{Part}
-use Rattle.scope.specs.Layout.{byteAt, partAt, textsAt, isNegative, scoreIn, labelIn, valueIn, partIn, decimalsField, keyField, labelField, massField, offsetField, scoreField, scoreNumber, textField, valueField}
-use Rattle.writer.specs.Written.{numberOf, scoredText, nextText}
+use Rattle.scope.specs.Layout.{massCode, textCode, textsAt, numberIn, scoreIn, labelIn, valueIn, partIn, decimalsField, keyField, labelField, massField, offsetField, scoreField, scoreNumber, textField, valueField}
+use Rattle.writer.specs.Written.{scoredText, nextText}
 
 -- ---- keys
 pub spelled : (c n : ℕ) → c ≡ n → written (keyIn n) ≡ written (keyIn c)
@@ -32,13 +30,11 @@ module _ (bs : List ℕ) (ns : List ℤ) (k : ℕ) where
   scored-none e z = rw (eq-eqb (scoreField bs k) 0 (sym e ∙ z))
 
   pub scored-some :
-      {c : ℕ} {minus : Bool} {n : ℕ} → c ≡ scoreField bs k → (c ≡ 0 → ⊥)
-      → minus ≡ isNegative (scoreNumber ns k)
-      → n ≡ natAbs (scoreNumber ns k) / 10 ^ (decimalLimit - (c - 1))
-      → (openRound ∷ []) ++ (scoreText (numberOf minus n (c - 1)) ++ (shutRound ∷ [])) ≡ scoredText (scoreIn bs ns k)
-  scored-some {c} e z m f =
+      {c : ℕ} {m : ℤ} → c ≡ scoreField bs k → (c ≡ 0 → ⊥) → m ≡ scoreNumber ns k
+      → (openRound ∷ []) ++ (scoreText (numberIn m (c - 1)) ++ (shutRound ∷ [])) ≡ scoredText (scoreIn bs ns k)
+  scored-some e z f =
       let q : eqb (scoreField bs k) 0 ≡ false = ne-eqb _ _ (λ h. z (e ∙ h)) in
-      rw (q, m, f, e)
+      rw (q, f, e)
 
   module _ (j : ℕ) where
     pub label-none : {n : ℕ} → n ≡ labelField bs k j → n ≡ 0 → [] ≡ given (labelIn bs ns k j) labelText []
@@ -52,30 +48,28 @@ module _ (bs : List ℕ) (ns : List ℤ) (k : ℕ) where
         let q : eqb (labelField bs k j) 0 ≡ false = ne-eqb _ _ (λ h. z (e ∙ h)) in
         rw (q, g, f, e)
 
-    pub value-mass :
-        {v d : ℕ} {minus : Bool} {n : ℕ} → v ≡ valueField bs k j → v ≡ 1 → d ≡ decimalsField bs k j
-        → minus ≡ isNegative (massField ns k j)
-        → n ≡ natAbs (massField ns k j) / 10 ^ (decimalLimit - d)
-        → massText (numberOf minus n d) ≡ valueText (valueIn bs ns k j)
-    value-mass e o g m f =
-        let q : eqb (valueField bs k j) 1 ≡ true = eq-eqb _ _ (ap (byteAt bs) (sym (add-zero (partAt k j))) ∙ sym e ∙ o) in
-        rw (q, m, f, g)
+    module _ {v : ℕ} (e : v ≡ valueField bs k j) where
+      pub value-mass :
+          {d : ℕ} {m : ℤ} → v ≡ massCode → d ≡ decimalsField bs k j → m ≡ massField ns k j
+          → massText (numberIn m d) ≡ valueText (valueIn bs ns k j)
+      value-mass o g f =
+          let q : eqb (valueField bs k j) massCode ≡ true = eq-eqb _ _ (sym e ∙ o) in
+          rw (q, f, g)
 
-    pub value-text :
-        {v n from : ℕ} → v ≡ valueField bs k j → v ≡ 2 → n ≡ textField bs k j → from ≡ textsAt + offsetField bs k j
-        → part from n bs ≡ valueText (valueIn bs ns k j)
-    value-text e o g f =
-        let p : valueField bs k j ≡ 2 = ap (byteAt bs) (sym (add-zero (partAt k j))) ∙ sym e ∙ o in
-        let q : eqb (valueField bs k j) 1 ≡ false = rw p in
-        let r : eqb (valueField bs k j) 2 ≡ true = rw p in
-        rw (q, r, f, g)
+      pub value-text :
+          {n from : ℕ} → v ≡ textCode → n ≡ textField bs k j → from ≡ textsAt + offsetField bs k j
+          → part from n bs ≡ valueText (valueIn bs ns k j)
+      value-text o g f =
+          let p : valueField bs k j ≡ textCode = sym e ∙ o in
+          let q : eqb (valueField bs k j) massCode ≡ false = rw p in
+          let r : eqb (valueField bs k j) textCode ≡ true = rw p in
+          rw (q, r, f, g)
 
-    pub value-none : {v : ℕ} → v ≡ valueField bs k j → (v ≡ 1 → ⊥) → (v ≡ 2 → ⊥) → [] ≡ valueText (valueIn bs ns k j)
-    value-none {v} e o w =
-        let p : valueField bs k j ≡ v = ap (byteAt bs) (sym (add-zero (partAt k j))) ∙ sym e in
-        let q : eqb (valueField bs k j) 1 ≡ false = ne-eqb _ _ (λ h. o (sym p ∙ h)) in
-        let r : eqb (valueField bs k j) 2 ≡ false = ne-eqb _ _ (λ h. w (sym p ∙ h)) in
-        rw (q, r)
+      pub value-none : (v ≡ massCode → ⊥) → (v ≡ textCode → ⊥) → [] ≡ valueText (valueIn bs ns k j)
+      value-none o w =
+          let q : eqb (valueField bs k j) massCode ≡ false = ne-eqb _ _ (λ h. o (e ∙ h)) in
+          let r : eqb (valueField bs k j) textCode ≡ false = ne-eqb _ _ (λ h. w (e ∙ h)) in
+          rw (q, r)
 
     pub part-text :
         {c : ℕ} → c ≡ keyField bs k j

@@ -11,17 +11,19 @@ use lib.IntN.{ℤ}
 use lib.ListN.{List·getD-eq-default}
 use borrow.Author.Tests.{ne-eqb, le-leb, lt-leb, leb-true, leb-false}
 use Rattle.basics.specs.Choice.{by-test}
+use Rattle.scope.specs.declared.grammar.Kind.{Kind}
 use Rattle.scope.specs.declared.grammar.Kind.the-variants.{Unknown, Labile, NTerm, OnResidue, OnRange, CTerm}
+use Rattle.scope.specs.Limits.{positionLimit}
 use Rattle.scope.specs.Line.{Part, Bracket}
 use Rattle.scope.specs.Bytes.{bar}
 use Rattle.scope.specs.Canonical.{partText, partsText}
 use Rattle.scope.specs.Lists.{tabled}
-use Rattle.scope.specs.Layout.{byteAt, rowAt, bracketIn, tablesIn, bracketsField, kindField, lastField, partsField}
-use Rattle.scope.specs.Kinds.{kindIn}
+use Rattle.scope.specs.Layout.{bracketIn, tablesIn, bracketsField, kindField, lastField, partsField}
+use Rattle.scope.specs.Kinds.{kindCode, kindIn}
 use Rattle.areas.specs.Bounds.{Bounds}
 use Rattle.writer.specs.Here.{BracketHere, PartHere}
 use Rattle.writer.specs.Written.{nextText}
-use Rattle.writer.specs.Ranks.{rankOf, rank, rising, orderedb, Ordered, rankIn, Ready}
+use Rattle.writer.specs.Ranks.{lastRank, rankOf, rank, rising, orderedb, Ordered, rankIn, Ready}
 
 -- ---- lists of what stands in a row
 module _ {A : Type 0} (f : ℕ → A) where
@@ -70,10 +72,8 @@ bracket-here bs ns k b h =
       bytes-room = b .bytes-room;
       numbers-room = b .numbers-room;
       low = omega (arith, b .few-brackets);
-      few-counts = l .few-counts;
       few-parts = l .few-parts;
       score = l .score;
-      small-score = l .small;
       part = l .part;
     }
 
@@ -81,11 +81,12 @@ pub part-here : (bs : List ℕ) (ns : List ℤ) (k j : ℕ) → BracketHere bs n
 part-here bs ns k j b h = record { bracket = b; low = omega (arith, b .few-parts); bounds = b .part j h }
 
 -- ---- the rank in a row
-kind-high : (c : ℕ) → 7 ≤ c → kindIn c ≡ Unknown
+kind-high : (c : ℕ) → kindCode CTerm < c → kindIn c ≡ Unknown
 kind-high c h = List·getD-eq-default (Unknown ∷ Labile ∷ NTerm ∷ OnResidue ∷ OnRange ∷ CTerm ∷ []) Unknown {n = c - 1} (omega arith)
 
 pub rank-other :
-    (c last : ℕ) → (c ≡ 2 → ⊥) → (c ≡ 3 → ⊥) → (c ≡ 4 → ⊥) → (c ≡ 5 → ⊥) → (c ≡ 6 → ⊥) → 0 ≡ rankOf (kindIn c) last
+    (c last : ℕ) → (c ≡ kindCode Labile → ⊥) → (c ≡ kindCode NTerm → ⊥) → (c ≡ kindCode OnResidue → ⊥) → (c ≡ kindCode OnRange → ⊥)
+    → (c ≡ kindCode CTerm → ⊥) → 0 ≡ rankOf (kindIn c) last
 rank-other zero last p q r s t = refl
 rank-other (suc zero) last p q r s t = refl
 rank-other (suc (suc zero)) last p q r s t = absurd (p refl)
@@ -96,7 +97,19 @@ rank-other (suc (suc (suc (suc (suc (suc zero)))))) last p q r s t = absurd (t r
 rank-other (suc (suc (suc (suc (suc (suc (suc c))))))) last p q r s t = rw (kind-high (suc (suc (suc (suc (suc (suc (suc c))))))) (omega arith))
 
 pub rank-row : {c last r : ℕ} (bs : List ℕ) (k : ℕ) → c ≡ kindField bs k → last ≡ lastField bs k → r ≡ rankOf (kindIn c) last → r ≡ rankIn bs k
-rank-row bs k e f g = g ∙ ap₂ (λ c last. rankOf (kindIn c) last) (e ∙ ap (byteAt bs) (add-zero (rowAt k))) f
+rank-row bs k e f g = g ∙ ap₂ (λ c last. rankOf (kindIn c) last) e f
+
+rank-low : (k : Kind) (last : ℕ) → last < positionLimit → rankOf k last ≤ lastRank
+rank-low Unknown last h = omega arith
+rank-low Labile last h = omega arith
+rank-low NTerm last h = omega arith
+rank-low OnResidue last h = omega arith
+rank-low OnRange last h = omega arith
+rank-low CTerm last h = omega arith
+
+-- of tables within bounds
+pub rank-within : (bs : List ℕ) (ns : List ℤ) (k : ℕ) → Bounds bs ns → k < bracketsField bs → rankIn bs k ≤ lastRank
+rank-within bs ns k b h = rank-low (kindIn (kindField bs k)) (lastField bs k) (omega (arith, b .few-residues, b .bracket k h .last))
 
 pub rank-is : (bs : List ℕ) (ns : List ℤ) (k : ℕ) → rank (bracketIn bs ns k) ≡ rankIn bs k
 unfolding bracketIn

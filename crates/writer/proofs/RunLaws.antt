@@ -14,24 +14,27 @@ use Rattle.scope.specs.Canonical.{squareText, curlyText, countText}
 use Rattle.scope.specs.Lists.{keep, flat, tabled}
 use Rattle.scope.specs.Layout.{bracketIn, tablesIn, bracketsField, countField}
 use Rattle.basics.specs.Lists.{keep-append, flat-append}
-use Rattle.writer.specs.Written.{Puts}
+use Rattle.writer.specs.declared.Shape.{Shape}
+use Rattle.writer.specs.declared.Shape.the-variants.{Counted, Curly, Square}
+use Rattle.writer.specs.Written.{Puts, bracketMost}
 use Rattle.writer.specs.Ranks.{rank, rankIn, Ready, textAs, rankedText, runText, Walks}
 use Rattle.writer.proofs.Storing.{puts-none, puts-of, puts-within, puts-join}
 use Rattle.writer.proofs.RankLaws.{rank-is, tabled-more}
 
 -- ---- one bracket
 module _ (bs : List ℕ) (ns : List ℤ) (k : ℕ) where
-  pub as-unknown : {shape n : ℕ} → shape ≡ 0 → n ≡ countField bs k → squareText (bracketIn bs ns k) ++ countText n ≡ textAs shape (bracketIn bs ns k)
+  pub as-counted :
+      {shape : Shape} {n : ℕ} → shape ≡ Counted → n ≡ countField bs k → squareText (bracketIn bs ns k) ++ countText n ≡ textAs shape (bracketIn bs ns k)
   unfolding bracketIn
-  as-unknown e f = rw (e, f)
+  as-counted e f = rw (e, f)
 
-  pub as-labile : {shape : ℕ} → shape ≡ 1 → curlyText (bracketIn bs ns k) ≡ textAs shape (bracketIn bs ns k)
-  as-labile e = rw e
+  pub as-curly : {shape : Shape} → shape ≡ Curly → curlyText (bracketIn bs ns k) ≡ textAs shape (bracketIn bs ns k)
+  as-curly e = rw e
 
-  pub as-other : {shape : ℕ} → (shape ≡ 0 → ⊥) → (shape ≡ 1 → ⊥) → squareText (bracketIn bs ns k) ≡ textAs shape (bracketIn bs ns k)
-  as-other {shape} z o = rw (ne-eqb shape 0 z, ne-eqb shape 1 o)
+  pub as-square : {shape : Shape} → shape ≡ Square → squareText (bracketIn bs ns k) ≡ textAs shape (bracketIn bs ns k)
+  as-square e = rw e
 
-  module _ (shape : ℕ) {r q : ℕ} (e : r ≡ rankIn bs k) where
+  module _ (shape : Shape) {r q : ℕ} (e : r ≡ rankIn bs k) where
     pub ranked-yes : r ≡ q → textAs shape (bracketIn bs ns k) ≡ rankedText shape q (bracketIn bs ns k)
     ranked-yes o = took _ _ _ (eq-eqb (rank (bracketIn bs ns k)) q (rank-is bs ns k ∙ sym e ∙ o))
 
@@ -44,7 +47,7 @@ unfolding flat keep
 one-kept f p x true e = rw e (append-nil (f x))
 one-kept f p x false e = rw e
 
-module _ (shape q : ℕ) where
+module _ (shape : Shape) (q : ℕ) where
   run-snoc : (l : List (Bracket (Unit {0}))) (x : Bracket (Unit {0})) → runText shape q (l ++ (x ∷ [])) ≡ runText shape q l ++ rankedText shape q x
   run-snoc l x =
       ap (flat (textAs shape)) (keep-append (λ k. eqb (rank k) q) l (x ∷ []))
@@ -74,21 +77,21 @@ module _ (shape q : ℕ) where
 
 -- where none of the first n brackets has the rank, nothing of it is written
 pub none-of :
-    (bs : List ℕ) (ns : List ℤ) (shape q n : ℕ) → ((i : ℕ) → i < n → rankIn bs i ≡ q → ⊥) → runText shape q (tabled (bracketIn bs ns) 0 n) ≡ []
+    (bs : List ℕ) (ns : List ℤ) (shape : Shape) (q n : ℕ) → ((i : ℕ) → i < n → rankIn bs i ≡ q → ⊥) → runText shape q (tabled (bracketIn bs ns) 0 n) ≡ []
 none-of bs ns shape q n h =
     ap (λ n. runText shape q (tabled (bracketIn bs ns) 0 n)) (sym (zero-add n))
     ∙ quiet shape q (bracketIn bs ns) 0 n (λ i g l w. h i (omega arith) (sym (rank-is bs ns i) ∙ w))
     ∙ run-empty shape q (bracketIn bs ns)
 
 -- ---- the walk over the brackets for one rank
-pub record Running (bs : List ℕ) (ns : List ℤ) (m from q shape : ℕ) (o : List ℕ) (at : ℕ) (out : List ℕ) (j a : ℕ) : Type 0 where
+pub record Running (bs : List ℕ) (ns : List ℤ) (m from q : ℕ) (shape : Shape) (o : List ℕ) (at : ℕ) (out : List ℕ) (j a : ℕ) : Type 0 where
   pub count : m ≡ bracketsField bs
   pub forth : from ≤ j
   pub within : j ≤ m
-  pub puts : Puts (800 * (j - from)) o at (runText shape q (tabled (bracketIn bs ns) 0 j)) out a
+  pub puts : Puts (bracketMost * (j - from)) o at (runText shape q (tabled (bracketIn bs ns) 0 j)) out a
   pub below : (i : ℕ) → i < j → rankIn bs i < q + 1
 
-module _ (bs : List ℕ) (ns : List ℤ) (m from q shape : ℕ) (o : List ℕ) (at : ℕ) where
+module _ (bs : List ℕ) (ns : List ℤ) (m from q : ℕ) (shape : Shape) (o : List ℕ) (at : ℕ) where
   pub run-start : m ≡ bracketsField bs → from ≤ bracketsField bs → ((i : ℕ) → i < from → rankIn bs i < q) → Running bs ns m from q shape o at o from at
   run-start e h b =
       let none = none-of bs ns shape q from (λ i l w. omega (arith, b i l, w)) in
@@ -102,7 +105,7 @@ module _ (bs : List ℕ) (ns : List ℤ) (m from q shape : ℕ) (o : List ℕ) (
 
   module _ {out : List ℕ} {j a : ℕ} (s : Running bs ns m from q shape o at out j a) where
     pub run-more :
-        {r : ℕ} → j < m → r ≡ rankIn bs j → r ≤ q → {out′ : List ℕ} {a′ : ℕ} → Puts 800 out a (rankedText shape q (bracketIn bs ns j)) out′ a′
+        {r : ℕ} → j < m → r ≡ rankIn bs j → r ≤ q → {out′ : List ℕ} {a′ : ℕ} → Puts bracketMost out a (rankedText shape q (bracketIn bs ns j)) out′ a′
         → Running bs ns m from q shape o at out′ (j + 1) a′
     run-more {r} h e g p =
         record {

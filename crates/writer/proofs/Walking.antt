@@ -1,10 +1,12 @@
--- Laws of `Walks`: bytes before, behind and between walks over the brackets. Assumes nothing.
+-- Laws of `Walks`: bytes before, behind and between walks over the brackets, and the room that they leave. Assumes nothing.
 use mathlib.Core.Path.{_≡_}
 use mathlib.Core.List.{List, _++_}
-use Prim.Native.Nat.{ℕ, _+_, _≤_, _<_}
+use Prim.Native.Nat.{ℕ, _+_, _-_, _*_, _≤_, _<_}
 use native.Mathlib.Omega.{arith}
+use Rattle.scope.specs.Limits.{bracketLimit}
 use Rattle.scope.specs.Layout.{bracketsField}
-use Rattle.writer.specs.Written.{Puts}
+use Rattle.writer.specs.Written.{Puts, ceiling, bracketMost, residuesMost, lineMost}
+use Rattle.writer.specs.Here.{Room}
 use Rattle.writer.specs.Ranks.{rankIn, Walks}
 use Rattle.writer.proofs.Storing.{puts-of, puts-within, puts-join}
 
@@ -47,3 +49,27 @@ module _ {bs : List ℕ} where
       → Walks bs k from r o at t left place next
   walks-up h g w =
       record { puts = puts-within (omega arith) (w .puts); forth = w .forth; within = w .within; below = λ i l. omega (arith, w .below i l) }
+
+  -- ---- room
+  pub room-less : {n k from at : ℕ} → n ≤ k → Room bs from k at → Room bs from n at
+  room-less h r = record { fits = omega (arith, r .fits) }
+
+  -- for a whole line
+  pub room-line : {at : ℕ} → bracketsField bs ≤ bracketLimit → at + lineMost ≤ ceiling → Room bs 0 (residuesMost + 3) at
+  room-line h l = record { fits = omega arith }
+
+  pub room-behind :
+      {m n k from : ℕ} {o : List ℕ} {at : ℕ} {t left : List ℕ} {place : ℕ} → m + n ≤ k → Puts m o at t left place → Room bs from k at
+      → Room bs from n place
+  room-behind h a r = record { fits = omega (arith, a .near, r .fits) }
+
+  pub room-after :
+      {m n k from q : ℕ} {o : List ℕ} {at : ℕ} {t left : List ℕ} {place next : ℕ} → m + n ≤ k → Walks bs m from q o at t left place next
+      → Room bs from k at → Room bs next n place
+  room-after h w r = record { fits = omega (arith, w .puts .near, w .forth, w .within, r .fits) }
+
+  -- for one bracket more
+  pub room-one :
+      {k from j : ℕ} {o : List ℕ} {at : ℕ} {t left : List ℕ} {place : ℕ} → from ≤ j → j < bracketsField bs
+      → Puts (bracketMost * (j - from)) o at t left place → Room bs from k at → place + bracketMost ≤ ceiling
+  room-one h l a r = omega (arith, a .near, r .fits)

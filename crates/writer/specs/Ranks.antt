@@ -1,20 +1,22 @@
 -- "A line has this order": where a bracket of each kind stands in it, as a number. The brackets of a line's tables do not fall in it.
 use mathlib.Core.Path.{_≡_}
-use mathlib.Core.Bool.{Bool, true, cond, _&&_}
+use mathlib.Core.Bool.{cond}
 use mathlib.Core.List.{List, [], _∷_, _++_}
 use Prim.Native.Nat.{ℕ, _+_, _-_, _*_, _≤_, _<_}
-use lib.Dec.{leb, eqb}
+use lib.Dec.{eqb}
 use lib.IntN.{ℤ}
-use Rattle.scope.specs.declared.grammar.Kind.{Kind}
-use Rattle.scope.specs.declared.grammar.Kind.the-variants.{Unknown, Labile, NTerm, OnResidue, OnRange, CTerm}
-use Rattle.scope.specs.Line.{Bracket, Residue, Line}
+use Rattle.scope.specs.declared.grammar.Kind.the-variants.{OnResidue, OnRange}
+use Rattle.scope.specs.declared.grammar.Section.the-variants.{Plain}
+use Rattle.scope.specs.Line.{Bracket, Residue}
 use Rattle.scope.specs.Lists.{keep, flat, tabled}
 use Rattle.scope.specs.Canonical.{unknownText, curlyText, squareText, endingAt, opening, ending, goesOn, sequenceText}
-use Rattle.scope.specs.Layout.{byteAt, sectionsAt, residueIn, tablesIn, bracketsField, kindField, lastField}
+use Rattle.scope.specs.Layout.{sectionCode, residueIn, tablesIn, bracketsField, sectionField, kindField, lastField}
 use Rattle.scope.specs.Kinds.{kindIn}
 use Rattle.areas.specs.Bounds.{Bounds}
-use Rattle.writer.specs.Written.{Puts}
-pub use Rattle.order_laws.specs.Ranks.{rankOf, rank, Ordered}
+use Rattle.writer.specs.declared.Shape.{Shape}
+use Rattle.writer.specs.declared.Shape.the-variants.{Counted, Curly, Square}
+use Rattle.writer.specs.Written.{Puts, bracketMost, residueMost}
+pub use Rattle.order_laws.specs.Ranks.{lastRank, rankOf, rank, Ordered}
 unfoldable pub use Rattle.order_laws.specs.Ranks.{rising, orderedb}
 
 -- ---- the same in the areas
@@ -27,22 +29,24 @@ pub record Ready (bs : List ℕ) (ns : List ℤ) : Type 0 where
   pub sorted : (i k : ℕ) → i ≤ k → k < bracketsField bs → rankIn bs i ≤ rankIn bs k
 
 -- ---- runs of brackets
--- how a bracket is written: 0 of unknown position, 1 labile, 2 any other
-abbrev pub textAs : {P : Type 0} → ℕ → Bracket P → List ℕ
-textAs shape k = cond (eqb shape 0) (unknownText k) (cond (eqb shape 1) (curlyText k) (squareText k))
+-- how a bracket is written
+abbrev pub textAs : {P : Type 0} → Shape → Bracket P → List ℕ
+textAs Counted k = unknownText k
+textAs Curly k = curlyText k
+textAs Square k = squareText k
 
 -- a bracket, where it has the rank that is asked for
-abbrev pub rankedText : {P : Type 0} → ℕ → ℕ → Bracket P → List ℕ
+abbrev pub rankedText : {P : Type 0} → Shape → ℕ → Bracket P → List ℕ
 rankedText shape q k = cond (eqb (rank k) q) (textAs shape k) []
 
 -- those of a rank
-abbrev pub runText : {P : Type 0} → ℕ → ℕ → List (Bracket P) → List ℕ
+abbrev pub runText : {P : Type 0} → Shape → ℕ → List (Bracket P) → List ℕ
 runText shape q ks = flat (textAs shape) (keep (λ k. eqb (rank k) q) ks)
 
 -- a step from bracket `from` to bracket `next`: the text t was put, with so many bytes outside brackets at most; every bracket before `next` has a
 -- rank below q
 pub record Walks (bs : List ℕ) (more from q : ℕ) (o : List ℕ) (at : ℕ) (t left : List ℕ) (place next : ℕ) : Type 0 where
-  pub puts : Puts (800 * (next - from) + more) o at t left place
+  pub puts : Puts (bracketMost * (next - from) + more) o at t left place
   pub forth : from ≤ next
   pub within : next ≤ bracketsField bs
   pub below : (i : ℕ) → i < next → rankIn bs i < q
@@ -62,7 +66,7 @@ pub record Spelt (bs : List ℕ) (ns : List ℤ) (n from : ℕ) (o : List ℕ) (
   pub rest :
       done ++ sequenceText (tablesIn bs ns .brackets) (p + 1) (tabled (residueIn bs) p (n - p))
       ≡ sequenceText (tablesIn bs ns .brackets) 1 (tabled (residueIn bs) 0 n)
-  pub walks : Walks bs (4 * p) from (5 + 2 * p) o at done out a j
+  pub walks : Walks bs (residueMost * p) from (5 + 2 * p) o at done out a j
 
 -- no bracket from bracket j on has a rank below q
 abbrev pub Clear : List ℕ → ℕ → ℕ → Type 0
@@ -72,7 +76,7 @@ Clear bs j q = (k : ℕ) → j ≤ k → k < bracketsField bs → q ≤ rankIn b
 pub record Bare (bs : List ℕ) (p n q : ℕ) : Type 0 where
   pub here : p < n
   pub below : 5 + 2 * p < q
-  pub plain : byteAt bs (sectionsAt + p) ≡ 0
+  pub plain : sectionField bs p ≡ sectionCode Plain
 
 -- where the first p residues were written, the first i are
 abbrev pub Spells : List ℕ → ℕ → ℕ → List ℕ → ℕ → ℕ → List ℕ → ℕ → ℕ → Type 0

@@ -2,12 +2,13 @@
 -- and not stored.
 use mathlib.Core.Path.{_≡_}
 use mathlib.Core.List.{List, [], _∷_, _++_}
-use Prim.Native.Nat.{ℕ, _+_, _≤_}
+use Prim.Native.Nat.{ℕ, _+_, _*_, _≤_}
 use lib.ListN.{length, set, take, drop}
 use mathlib.Core.Bool.{Bool, cond}
 use mathlib.Core.Option.{Option}
 use lib.Dec.{eqb}
 use Rattle.scope.specs.Bytes.{plus, dash, openRound, shutRound, bar}
+use Rattle.scope.specs.Limits.{residueLimit, bracketLimit, partLimit, textLimit, labelLimit, decimalLimit}
 use Rattle.scope.specs.Line.{Number, Part}
 use Rattle.scope.specs.Lists.{given}
 use Rattle.scope.specs.Canonical.{massText, scoreText, partText}
@@ -27,10 +28,74 @@ pub record Puts (most : ℕ) (o : List ℕ) (at : ℕ) (t : List ℕ) (left : Li
 abbrev pub ceiling : ℕ
 ceiling = 1000000
 
--- so many bytes has the canonical line of any tables within bounds, at most
-abbrev pub lineMost : ℕ
-lineMost = 400000
+-- ---- how many bytes each piece has at most, of any tables within bounds
+-- a number of 64 bits, without leading zeros
+abbrev pub decimalMost : ℕ
+decimalMost = 20
 
+-- the point, and the digits behind it
+abbrev pub fractionMost : ℕ
+fractionMost = 1 + decimalLimit
+
+-- a number without its sign, and with it
+abbrev pub sizeMost : ℕ
+sizeMost = decimalMost + fractionMost
+
+abbrev pub numberMost : ℕ
+numberMost = 1 + sizeMost
+
+-- `^` and a count
+abbrev pub countMost : ℕ
+countMost = 1 + decimalMost
+
+-- a key and its `:`; the longest is `Position:`
+abbrev pub keyMost : ℕ
+keyMost = 9
+
+-- a mass or a text: no more than the two together
+abbrev pub valueMost : ℕ
+valueMost = numberMost + textLimit
+
+-- a score between `(` and `)`
+abbrev pub scoreMost : ℕ
+scoreMost = 1 + (numberMost + 1)
+
+-- `#`, a label and its score
+abbrev pub labelMost : ℕ
+labelMost = 1 + (labelLimit + scoreMost)
+
+-- a part, alone and with `|` before it; the parts of a bracket
+abbrev pub partMost : ℕ
+partMost = keyMost + (valueMost + labelMost)
+
+abbrev pub nextMost : ℕ
+nextMost = 1 + partMost
+
+abbrev pub partsMost : ℕ
+partsMost = nextMost * partLimit
+
+-- a bracket between its two bytes, and with its count; all brackets
+abbrev pub betweenMost : ℕ
+betweenMost = 1 + (partsMost + 1)
+
+abbrev pub bracketMost : ℕ
+bracketMost = betweenMost + countMost
+
+abbrev pub bracketsMost : ℕ
+bracketsMost = bracketMost * bracketLimit
+
+-- what a residue has outside its brackets: `(?`, its letter and `)`; all residues
+abbrev pub residueMost : ℕ
+residueMost = 4
+
+abbrev pub residuesMost : ℕ
+residuesMost = residueMost * residueLimit
+
+-- the canonical line: besides brackets and residues `?`, and `-` twice
+abbrev pub lineMost : ℕ
+lineMost = bracketsMost + (residuesMost + 3)
+
+-- ---- what is written
 -- the number of the tables with this sign, these digits and so many decimals
 abbrev pub numberOf : Bool → ℕ → ℕ → Number (Unit {0})
 numberOf minus digits decimals = record { minus = minus; digits = digits; decimals = decimals; at = tt }

@@ -1,22 +1,57 @@
 // Writes the canonical line of the tables in the areas.
+use scope::answers::Ledger;
+use scope::tables::Number;
 use scope::tables::Tables;
 ghost use mathlib.Core.Path.{_≡_};
 ghost use mathlib.Core.Bool.{true};
 ghost use mathlib.Core.List.{List, [], _∷_, _++_};
 ghost use Prim.Native.Nat.{ℕ, _+_, _-_, _*_, _/_, _^_, _<_, _≤_};
-ghost use lib.IntN.{ℤ, natAbs, pos};
-ghost use lib.ListN.{length, getD};
-ghost use Rattle.scope.specs.Bytes.{dash, shutRound};
+ghost use lib.IntN.{ℤ, natAbs};
+ghost use lib.ListN.{length};
 ghost use Rattle.scope.specs.Canonical.{decimalUpTo, decimal, lastDigits, decimals, size, countText, valueText, labelText, partText, partsText, opening, ending, isNext, goesOn, sequenceText, closedBy, ledBy, canonical};
+ghost use Rattle.scope.specs.Bytes.{wideLimit, dash, shutRound};
 ghost use Rattle.scope.specs.Lists.{given, part, tabled};
 ghost use Rattle.scope.specs.Keys.{written, keyIn};
 ghost use Rattle.scope.specs.Limits.{decimalLimit, residueLimit, bracketLimit, partLimit};
-ghost use Rattle.scope.specs.Layout.{isNegative, bytesSize, textsAt, numbersSize, numberRowSize, scoreIn, labelIn, valueIn, partIn, byteAt, sectionIn, lettersAt, sectionsAt, residueIn, bracketIn, tablesIn, bracketsField, massField, offsetField, partsField, residuesField};
+ghost use Rattle.scope.specs.Layout.{isNegative, numberIn, bytesSize, textsAt, scoreIn, labelIn, valueIn, partIn, sectionIn, residueIn, bracketIn, tablesIn, bracketsField, offsetField, partsField, residuesField};
 ghost use Rattle.scope.specs.Kinds.{kindIn};
-ghost use Rattle.areas.specs.Bounds.{Small, Bounds};
-ghost use Rattle.writer.specs.Written.{Puts, ceiling, lineMost, numberOf, signText, numberText, scoredText, nextText, WholeLine};
-ghost use Rattle.writer.specs.Here.{BracketHere, PartHere};
-ghost use Rattle.writer.specs.Ranks.{rankOf, rankIn, orderedb, Ready, textAs, rankedText, runText, Walks, residueText, Clear, Bare, Spells, Ordered};
+ghost use Rattle.areas.specs.Bounds.{Bounds};
+ghost use Rattle.writer.specs.Written.{Puts, ceiling, decimalMost, fractionMost, sizeMost, numberMost, countMost, keyMost, valueMost, scoreMost, labelMost, partMost, nextMost, partsMost, betweenMost, bracketMost, residueMost, residuesMost, lineMost, numberOf, signText, numberText, scoredText, nextText, WholeLine};
+ghost use Rattle.writer.specs.Here.{BracketHere, PartHere, Room};
+ghost use Rattle.writer.specs.Ranks.{lastRank, rankOf, rankIn, orderedb, Ready, textAs, rankedText, runText, Walks, residueText, Clear, Bare, Spells, Ordered};
+
+// How many decimals a mass or a score has at most.
+const DECIMALS: usize = Number::DECIMALS as usize;
+
+// The codes of a part's value: a mass, a text.
+const MASS: usize = 1;
+
+const TEXT: usize = 2;
+
+// The codes of the kinds of brackets; any other is that of a bracket of unknown position.
+const LABILE: usize = 2;
+
+const N_TERM: usize = 3;
+
+const ON_RESIDUE: usize = 4;
+
+const ON_RANGE: usize = 5;
+
+const C_TERM: usize = 6;
+
+// The codes of the sections; any other is that of a residue by itself.
+const PLAIN: usize = 0;
+
+const RANGE_FIRST: usize = 1;
+
+const RANGE_NEXT: usize = 2;
+
+const UNSURE_FIRST: usize = 3;
+
+const UNSURE_NEXT: usize = 4;
+
+// The rank of the C-terminus.
+const LAST_RANK: usize = 4 + 2 * Ledger::POSITIONS;
 
 // One byte at a place: stored where there is room, and counted.
 pub fn put(out: &mut [u8], at: usize, b: u8) -> usize
@@ -46,8 +81,8 @@ fn copy(from: &[u8], start: usize, n: usize, out: &mut [u8], at: usize) -> usize
 
 // A fixed byte string.
 pub fn word(w: &[u8], out: &mut [u8], at: usize) -> usize
-    requires { ⌜ (length (now w) ≤ 16) × (at + 16 ≤ ceiling) ⌝ }
-    ensures { λ r. ⌜ Puts 16 (now (out .entry)) at (now (w .entry)) (now (out .exit)) r ⌝ }
+    requires { ⌜ at + length (now w) ≤ ceiling ⌝ }
+    ensures { λ r. ⌜ Puts (length (now (w .entry))) (now (out .entry)) at (now (w .entry)) (now (out .exit)) r ⌝ }
 {
     copy(w, 0, w.len(), out, at)
 }
@@ -121,34 +156,32 @@ pub fn magnitude(m: i64) -> u64
     m as u64
 }
 
-// Whether number j of bracket k is negative.
-fn minus_at(numbers: &[i64], k: usize, j: usize) -> bool
-    requires { ⌜ (numbersSize ≤ length (now numbers)) × (k < bracketLimit) × (j < numberRowSize) ⌝ }
-    ensures { λ r. ⌜ r ≡ isNegative (massField (now (numbers .entry)) k j) ⌝ }
+fn is_minus(m: i64) -> bool
+    ensures { λ r. ⌜ r ≡ isNegative m ⌝ }
 {
-    areas::number(numbers, k, j) < 0
+    m < 0
 }
 
-// The digits of number j of bracket k, which has d decimals.
-fn digits_at(numbers: &[i64], k: usize, j: usize, d: usize) -> u64
-    requires { ⌜ (numbersSize ≤ length (now numbers)) × (k < bracketLimit) × (j < numberRowSize) × (d ≤ decimalLimit) × Small (massField (now numbers) k j) ⌝ }
-    ensures { λ r. ⌜ r ≡ natAbs (massField (now (numbers .entry)) k j) / 10 ^ (decimalLimit - d) ⌝ }
+// The digits of a number in millionths that has d decimals.
+fn digits_of(m: i64, d: usize) -> u64
+    requires { ⌜ d ≤ decimalLimit ⌝ }
+    ensures { λ r. ⌜ r ≡ natAbs m / 10 ^ (decimalLimit - d) ⌝ }
 {
-    magnitude(areas::number(numbers, k, j)) / power(6 - d)
+    magnitude(m) / power(DECIMALS - d)
 }
 
 // A number without leading zeros.
 pub fn put_decimal(n: u64, out: &mut [u8], at: usize) -> usize
-    requires { ⌜ at + 20 ≤ ceiling ⌝ }
-    ensures { λ r. ⌜ Puts 20 (now (out .entry)) at (decimal n) (now (out .exit)) r ⌝ }
+    requires { ⌜ at + decimalMost ≤ ceiling ⌝ }
+    ensures { λ r. ⌜ Puts decimalMost (now (out .entry)) at (decimal n) (now (out .exit)) r ⌝ }
 {
     decimal_up_to(19, n, out, at)
 }
 
 // The point and what stands behind it, where there are decimals.
 fn put_decimals(d: usize, n: u64, out: &mut [u8], at: usize) -> usize
-    requires { ⌜ (d ≤ decimalLimit) × (at + 7 ≤ ceiling) ⌝ }
-    ensures { λ r. ⌜ Puts 7 (now (out .entry)) at (decimals d n) (now (out .exit)) r ⌝ }
+    requires { ⌜ (d ≤ decimalLimit) × (at + fractionMost ≤ ceiling) ⌝ }
+    ensures { λ r. ⌜ Puts fractionMost (now (out .entry)) at (decimals d n) (now (out .exit)) r ⌝ }
 {
     if d == 0 {
         return at;
@@ -159,8 +192,8 @@ fn put_decimals(d: usize, n: u64, out: &mut [u8], at: usize) -> usize
 
 // A number without its sign: "decimals as many as written".
 fn put_size(minus: bool, n: u64, d: usize, out: &mut [u8], at: usize) -> usize
-    requires { ⌜ (d ≤ decimalLimit) × (at + 27 ≤ ceiling) ⌝ }
-    ensures { λ r. ⌜ Puts 27 (now (out .entry)) at (size (numberOf minus n d)) (now (out .exit)) r ⌝ }
+    requires { ⌜ (d ≤ decimalLimit) × (at + sizeMost ≤ ceiling) ⌝ }
+    ensures { λ r. ⌜ Puts sizeMost (now (out .entry)) at (size (numberOf minus n d)) (now (out .exit)) r ⌝ }
 {
     let a = put_decimal(n / power(d), out, at);
     put_decimals(d, n, out, a)
@@ -181,18 +214,20 @@ fn put_sign(minus: bool, always: bool, out: &mut [u8], at: usize) -> usize
 }
 
 // "masses always signed, scores signed only when negative"
-fn put_number(minus: bool, n: u64, d: usize, always: bool, out: &mut [u8], at: usize) -> usize
-    requires { ⌜ (d ≤ decimalLimit) × (at + 28 ≤ ceiling) ⌝ }
-    ensures { λ r. ⌜ Puts 28 (now (out .entry)) at (numberText always (numberOf minus n d)) (now (out .exit)) r ⌝ }
+fn put_number(m: i64, d: usize, always: bool, out: &mut [u8], at: usize) -> usize
+    requires { ⌜ (d ≤ decimalLimit) × (at + numberMost ≤ ceiling) ⌝ }
+    ensures { λ r. ⌜ Puts numberMost (now (out .entry)) at (numberText always (numberIn m d)) (now (out .exit)) r ⌝ }
 {
+    let minus = is_minus(m);
+    let n = digits_of(m, d);
     let a = put_sign(minus, always, out, at);
     put_size(minus, n, d, out, a)
 }
 
 // "`^1` .. not kept"
 fn put_count(n: usize, out: &mut [u8], at: usize) -> usize
-    requires { ⌜ (n < 1000) × (at + 21 ≤ ceiling) ⌝ }
-    ensures { λ r. ⌜ Puts 21 (now (out .entry)) at (countText n) (now (out .exit)) r ⌝ }
+    requires { ⌜ at + countMost ≤ ceiling ⌝ }
+    ensures { λ r. ⌜ Puts countMost (now (out .entry)) at (countText n) (now (out .exit)) r ⌝ }
 {
     if n == 1 {
         return at;
@@ -205,8 +240,8 @@ fn put_count(n: usize, out: &mut [u8], at: usize) -> usize
 
 // The prefixes and key words, "written in the spelling given here".
 fn put_key(c: usize, out: &mut [u8], at: usize) -> usize
-    requires { ⌜ at + 16 ≤ ceiling ⌝ }
-    ensures { λ r. ⌜ Puts 16 (now (out .entry)) at (written (keyIn c)) (now (out .exit)) r ⌝ }
+    requires { ⌜ at + keyMost ≤ ceiling ⌝ }
+    ensures { λ r. ⌜ Puts keyMost (now (out .entry)) at (written (keyIn c)) (now (out .exit)) r ⌝ }
 {
     match c {
         0 => at,
@@ -222,8 +257,8 @@ fn put_key(c: usize, out: &mut [u8], at: usize) -> usize
 }
 
 fn put_key_word(c: usize, out: &mut [u8], at: usize) -> usize
-    requires { ⌜ (8 ≤ c) × (at + 16 ≤ ceiling) ⌝ }
-    ensures { λ r. ⌜ Puts 16 (now (out .entry)) at (written (keyIn c)) (now (out .exit)) r ⌝ }
+    requires { ⌜ (8 ≤ c) × (at + keyMost ≤ ceiling) ⌝ }
+    ensures { λ r. ⌜ Puts keyMost (now (out .entry)) at (written (keyIn c)) (now (out .exit)) r ⌝ }
 {
     match c {
         8 => word(b"UNIMOD:", out, at),
@@ -238,8 +273,8 @@ fn put_key_word(c: usize, out: &mut [u8], at: usize) -> usize
 
 // The keys that only tables of no accepted line hold.
 fn put_refused_key(c: usize, out: &mut [u8], at: usize) -> usize
-    requires { ⌜ (14 ≤ c) × (at + 16 ≤ ceiling) ⌝ }
-    ensures { λ r. ⌜ Puts 16 (now (out .entry)) at (written (keyIn c)) (now (out .exit)) r ⌝ }
+    requires { ⌜ (14 ≤ c) × (at + keyMost ≤ ceiling) ⌝ }
+    ensures { λ r. ⌜ Puts keyMost (now (out .entry)) at (written (keyIn c)) (now (out .exit)) r ⌝ }
 {
     match c {
         14 => word(b"Formula:", out, at),
@@ -255,38 +290,34 @@ fn text_from(bytes: &[u8], k: usize, j: usize) -> usize
     requires { ⌜ (bytesSize ≤ length (now bytes)) × (k < bracketLimit) × (j < partLimit) ⌝ }
     ensures { λ r. ⌜ r ≡ textsAt + offsetField (now (bytes .entry)) k j ⌝ }
 {
-    let low = areas::wide(areas::part_byte(bytes, k, j, 5));
-    let high = areas::wide(areas::part_byte(bytes, k, j, 6));
-    Tables::TEXTS + (low + 256 * high)
+    Tables::TEXTS + areas::offset(bytes, k, j)
 }
 
 // A score in its round brackets, where there is one.
 fn put_scored(bytes: &[u8], numbers: &[i64], k: usize, out: &mut [u8], at: usize) -> usize
-    requires { ⌜ BracketHere (now bytes) (now numbers) k × (at + 30 ≤ ceiling) ⌝ }
-    ensures { λ r. ⌜ Puts 30 (now (out .entry)) at (scoredText (scoreIn (now (bytes .entry)) (now (numbers .entry)) k)) (now (out .exit)) r ⌝ }
+    requires { ⌜ BracketHere (now bytes) (now numbers) k × (at + scoreMost ≤ ceiling) ⌝ }
+    ensures { λ r. ⌜ Puts scoreMost (now (out .entry)) at (scoredText (scoreIn (now (bytes .entry)) (now (numbers .entry)) k)) (now (out .exit)) r ⌝ }
 {
-    let c = areas::wide(areas::bracket_byte(bytes, k, 5));
+    let c = areas::score(bytes, k);
     if c == 0 {
         return at;
     }
-    let d = c - 1;
-    let minus = minus_at(numbers, k, 4);
-    let n = digits_at(numbers, k, 4, d);
+    let m = areas::score_number(numbers, k);
     let a = put(out, at, b'(');
-    let e = put_number(minus, n, d, false, out, a);
+    let e = put_number(m, c - 1, false, out, a);
     put(out, e, b')')
 }
 
 // `#` and the label of part j, where it has one.
 fn put_label(bytes: &[u8], numbers: &[i64], k: usize, j: usize, out: &mut [u8], at: usize) -> usize
-    requires { ⌜ PartHere (now bytes) (now numbers) k j × (at + 47 ≤ ceiling) ⌝ }
-    ensures { λ r. ⌜ Puts 47 (now (out .entry)) at (given (labelIn (now (bytes .entry)) (now (numbers .entry)) k j) labelText []) (now (out .exit)) r ⌝ }
+    requires { ⌜ PartHere (now bytes) (now numbers) k j × (at + labelMost ≤ ceiling) ⌝ }
+    ensures { λ r. ⌜ Puts labelMost (now (out .entry)) at (given (labelIn (now (bytes .entry)) (now (numbers .entry)) k j) labelText []) (now (out .exit)) r ⌝ }
 {
-    let n = areas::wide(areas::part_byte(bytes, k, j, 4));
+    let n = areas::label_length(bytes, k, j);
     if n == 0 {
         return at;
     }
-    let t = areas::wide(areas::part_byte(bytes, k, j, 3));
+    let t = areas::text_length(bytes, k, j);
     let from = text_from(bytes, k, j);
     let a = put(out, at, b'#');
     let e = copy(bytes, from + t, n, out, a);
@@ -295,18 +326,17 @@ fn put_label(bytes: &[u8], numbers: &[i64], k: usize, j: usize, out: &mut [u8], 
 
 // The mass or the text of part j.
 fn put_value(bytes: &[u8], numbers: &[i64], k: usize, j: usize, out: &mut [u8], at: usize) -> usize
-    requires { ⌜ PartHere (now bytes) (now numbers) k j × (at + 128 ≤ ceiling) ⌝ }
-    ensures { λ r. ⌜ Puts 128 (now (out .entry)) at (valueText (valueIn (now (bytes .entry)) (now (numbers .entry)) k j)) (now (out .exit)) r ⌝ }
+    requires { ⌜ PartHere (now bytes) (now numbers) k j × (at + valueMost ≤ ceiling) ⌝ }
+    ensures { λ r. ⌜ Puts valueMost (now (out .entry)) at (valueText (valueIn (now (bytes .entry)) (now (numbers .entry)) k j)) (now (out .exit)) r ⌝ }
 {
-    let v = areas::wide(areas::part_byte(bytes, k, j, 0));
-    if v == 1 {
-        let d = areas::wide(areas::part_byte(bytes, k, j, 2));
-        let minus = minus_at(numbers, k, j);
-        let n = digits_at(numbers, k, j, d);
-        return put_number(minus, n, d, true, out, at);
+    let v = areas::value(bytes, k, j);
+    if v == MASS {
+        let d = areas::decimals(bytes, k, j);
+        let m = areas::mass(numbers, k, j);
+        return put_number(m, d, true, out, at);
     }
-    if v == 2 {
-        let n = areas::wide(areas::part_byte(bytes, k, j, 3));
+    if v == TEXT {
+        let n = areas::text_length(bytes, k, j);
         let from = text_from(bytes, k, j);
         return copy(bytes, from, n, out, at);
     }
@@ -315,10 +345,10 @@ fn put_value(bytes: &[u8], numbers: &[i64], k: usize, j: usize, out: &mut [u8], 
 
 // Part j of bracket k.
 fn put_part(bytes: &[u8], numbers: &[i64], k: usize, j: usize, out: &mut [u8], at: usize) -> usize
-    requires { ⌜ PartHere (now bytes) (now numbers) k j × (at + 191 ≤ ceiling) ⌝ }
-    ensures { λ r. ⌜ Puts 191 (now (out .entry)) at (partText (partIn (now (bytes .entry)) (now (numbers .entry)) k j)) (now (out .exit)) r ⌝ }
+    requires { ⌜ PartHere (now bytes) (now numbers) k j × (at + partMost ≤ ceiling) ⌝ }
+    ensures { λ r. ⌜ Puts partMost (now (out .entry)) at (partText (partIn (now (bytes .entry)) (now (numbers .entry)) k j)) (now (out .exit)) r ⌝ }
 {
-    let c = areas::wide(areas::part_byte(bytes, k, j, 1));
+    let c = areas::key(bytes, k, j);
     let a = put_key(c, out, at);
     let e = put_value(bytes, numbers, k, j, out, a);
     put_label(bytes, numbers, k, j, out, e)
@@ -333,8 +363,8 @@ fn put_next_part(
     out: &mut [u8],
     at: usize,
 ) -> usize
-    requires { ⌜ PartHere (now bytes) (now numbers) k j × (at + 192 ≤ ceiling) ⌝ }
-    ensures { λ r. ⌜ Puts 192 (now (out .entry)) at (nextText j (partIn (now (bytes .entry)) (now (numbers .entry)) k j)) (now (out .exit)) r ⌝ }
+    requires { ⌜ PartHere (now bytes) (now numbers) k j × (at + nextMost ≤ ceiling) ⌝ }
+    ensures { λ r. ⌜ Puts nextMost (now (out .entry)) at (nextText j (partIn (now (bytes .entry)) (now (numbers .entry)) k j)) (now (out .exit)) r ⌝ }
 {
     if j == 0 {
         return put_part(bytes, numbers, k, j, out, at);
@@ -347,10 +377,10 @@ fn put_next_part(
 
 // The parts of bracket k, split by `|`.
 fn put_parts(bytes: &[u8], numbers: &[i64], k: usize, out: &mut [u8], at: usize) -> usize
-    requires { ⌜ BracketHere (now bytes) (now numbers) k × (at + 768 ≤ ceiling) ⌝ }
-    ensures { λ r. ⌜ Puts 768 (now (out .entry)) at (partsText (tabled (partIn (now (bytes .entry)) (now (numbers .entry)) k) 0 (partsField (now (bytes .entry)) k))) (now (out .exit)) r ⌝ }
+    requires { ⌜ BracketHere (now bytes) (now numbers) k × (at + partsMost ≤ ceiling) ⌝ }
+    ensures { λ r. ⌜ Puts partsMost (now (out .entry)) at (partsText (tabled (partIn (now (bytes .entry)) (now (numbers .entry)) k) 0 (partsField (now (bytes .entry)) k))) (now (out .exit)) r ⌝ }
 {
-    let n = areas::wide(areas::bracket_byte(bytes, k, 4));
+    let n = areas::parts(bytes, k);
     let mut j = 0;
     let mut a = at;
     while j < n {
@@ -370,60 +400,67 @@ fn put_between(
     out: &mut [u8],
     at: usize,
 ) -> usize
-    requires { ⌜ BracketHere (now bytes) (now numbers) k × (at + 770 ≤ ceiling) ⌝ }
-    ensures { λ r. ⌜ Puts 770 (now (out .entry)) at (opener ∷ (partsText (bracketIn (now (bytes .entry)) (now (numbers .entry)) k .parts) ++ (closer ∷ []))) (now (out .exit)) r ⌝ }
+    requires { ⌜ BracketHere (now bytes) (now numbers) k × (at + betweenMost ≤ ceiling) ⌝ }
+    ensures { λ r. ⌜ Puts betweenMost (now (out .entry)) at (opener ∷ (partsText (bracketIn (now (bytes .entry)) (now (numbers .entry)) k .parts) ++ (closer ∷ []))) (now (out .exit)) r ⌝ }
 {
     let a = put(out, at, opener);
     let e = put_parts(bytes, numbers, k, out, a);
     put(out, e, closer)
 }
 
-// Bracket k, by its shape: of unknown position with its count, labile, any other.
+// How a bracket is written: square with its count, as one of unknown position; curly, as a labile one; square.
+pub enum Shape {
+    Counted,
+    Curly,
+    Square,
+}
+
+// Bracket k, by its shape.
 fn put_bracket(
     bytes: &[u8],
     numbers: &[i64],
     k: usize,
-    shape: usize,
+    shape: Shape,
     out: &mut [u8],
     at: usize,
 ) -> usize
-    requires { ⌜ BracketHere (now bytes) (now numbers) k × (at + 800 ≤ ceiling) ⌝ }
-    ensures { λ r. ⌜ Puts 800 (now (out .entry)) at (textAs shape (bracketIn (now (bytes .entry)) (now (numbers .entry)) k)) (now (out .exit)) r ⌝ }
+    requires { ⌜ BracketHere (now bytes) (now numbers) k × (at + bracketMost ≤ ceiling) ⌝ }
+    ensures { λ r. ⌜ Puts bracketMost (now (out .entry)) at (textAs shape (bracketIn (now (bytes .entry)) (now (numbers .entry)) k)) (now (out .exit)) r ⌝ }
 {
-    if shape == 0 {
-        let n = areas::wide(areas::bracket_byte(bytes, k, 3));
-        let a = put_between(bytes, numbers, k, b'[', b']', out, at);
-        return put_count(n, out, a);
+    match shape {
+        Shape::Counted => {
+            let n = areas::count(bytes, k);
+            let a = put_between(bytes, numbers, k, b'[', b']', out, at);
+            put_count(n, out, a)
+        }
+        Shape::Curly => put_between(bytes, numbers, k, b'{', b'}', out, at),
+        Shape::Square => put_between(bytes, numbers, k, b'[', b']', out, at),
     }
-    if shape == 1 {
-        return put_between(bytes, numbers, k, b'{', b'}', out, at);
-    }
-    put_between(bytes, numbers, k, b'[', b']', out, at)
 }
 
 // ---- ranks
 
-// The rank of a bracket of kind c that ends at a position.
+// The rank of a bracket with the code c of its kind that ends at a position.
 fn rank_of(c: usize, last: usize) -> usize
-    requires { ⌜ last < 256 ⌝ }
-    ensures { λ r. ⌜ (r ≡ rankOf (kindIn c) last) × (r ≤ 2000) ⌝ }
+    requires { ⌜ last < wideLimit ⌝ }
+    ensures { λ r. ⌜ r ≡ rankOf (kindIn c) last ⌝ }
 {
     match c {
-        2 => 1,
-        3 => 2,
-        4 => 3 + 2 * last,
-        5 => 4 + 2 * last,
-        6 => 2000,
+        LABILE => 1,
+        N_TERM => 2,
+        ON_RESIDUE => 3 + 2 * last,
+        ON_RANGE => 4 + 2 * last,
+        C_TERM => LAST_RANK,
         _ => 0,
     }
 }
 
 fn rank_at(bytes: &[u8], k: usize) -> usize
     requires { ⌜ (bytesSize ≤ length (now bytes)) × (k < bracketLimit) ⌝ }
-    ensures { λ r. ⌜ (r ≡ rankIn (now (bytes .entry)) k) × (r ≤ 2000) ⌝ }
+    ensures { λ r. ⌜ r ≡ rankIn (now (bytes .entry)) k ⌝ }
 {
-    let c = areas::wide(areas::bracket_byte(bytes, k, 0));
-    let last = areas::wide(areas::bracket_byte(bytes, k, 2));
+    let c = areas::kind(bytes, k);
+    let last = areas::last(bytes, k);
     rank_of(c, last)
 }
 
@@ -453,12 +490,12 @@ fn put_ranked(
     k: usize,
     r: usize,
     q: usize,
-    shape: usize,
+    shape: Shape,
     out: &mut [u8],
     at: usize,
 ) -> usize
-    requires { ⌜ BracketHere (now bytes) (now numbers) k × (r ≡ rankIn (now bytes) k) × (at + 800 ≤ ceiling) ⌝ }
-    ensures { λ r. ⌜ Puts 800 (now (out .entry)) at (rankedText shape q (bracketIn (now (bytes .entry)) (now (numbers .entry)) k)) (now (out .exit)) r ⌝ }
+    requires { ⌜ BracketHere (now bytes) (now numbers) k × (r ≡ rankIn (now bytes) k) × (at + bracketMost ≤ ceiling) ⌝ }
+    ensures { λ r. ⌜ Puts bracketMost (now (out .entry)) at (rankedText shape q (bracketIn (now (bytes .entry)) (now (numbers .entry)) k)) (now (out .exit)) r ⌝ }
 {
     if r == q {
         return put_bracket(bytes, numbers, k, shape, out, at);
@@ -478,11 +515,11 @@ fn put_run(
     numbers: &[i64],
     from: usize,
     q: usize,
-    shape: usize,
+    shape: Shape,
     out: &mut [u8],
     at: usize,
 ) -> Pen
-    requires { ⌜ Ready (now bytes) (now numbers) × (from ≤ bracketsField (now bytes)) × ((i : ℕ) → i < from → rankIn (now bytes) i < q) × (at + 60000 ≤ ceiling) × (q ≤ 2000) ⌝ }
+    requires { ⌜ Ready (now bytes) (now numbers) × (from ≤ bracketsField (now bytes)) × ((i : ℕ) → i < from → rankIn (now bytes) i < q) × Room (now bytes) from 0 at ⌝ }
     ensures { λ r. ⌜ Walks (now (bytes .entry)) 0 from (q + 1) (now (out .entry)) at (runText shape q (tablesIn (now (bytes .entry)) (now (numbers .entry)) .brackets)) (now (out .exit)) (r .place) (r .next) ⌝ }
 {
     let m = areas::brackets(bytes);
@@ -501,29 +538,15 @@ fn put_run(
 
 // ---- residues
 
-fn letter_at(bytes: &[u8], p: usize) -> u8
-    requires { ⌜ (bytesSize ≤ length (now bytes)) × (p < residueLimit) ⌝ }
-    ensures { λ r. ⌜ r ≡ byteAt (now (bytes .entry)) (lettersAt + p) ⌝ }
-{
-    bytes[Tables::LETTERS + p]
-}
-
-fn section_at(bytes: &[u8], p: usize) -> usize
-    requires { ⌜ (bytesSize ≤ length (now bytes)) × (p < residueLimit) ⌝ }
-    ensures { λ r. ⌜ r ≡ byteAt (now (bytes .entry)) (sectionsAt + p) ⌝ }
-{
-    areas::wide(bytes[Tables::SECTIONS + p])
-}
-
 // `(` or `(?` before the first residue of a group.
 fn put_opening(c: usize, out: &mut [u8], at: usize) -> usize
     requires { ⌜ at + 2 ≤ ceiling ⌝ }
     ensures { λ r. ⌜ Puts 2 (now (out .entry)) at (opening (sectionIn c)) (now (out .exit)) r ⌝ }
 {
-    if c == 1 {
+    if c == RANGE_FIRST {
         return put(out, at, b'(');
     }
-    if c == 3 {
+    if c == UNSURE_FIRST {
         let a = put(out, at, b'(');
         return put(out, a, b'?');
     }
@@ -533,10 +556,10 @@ fn put_opening(c: usize, out: &mut [u8], at: usize) -> usize
 fn is_next(c: usize) -> bool
     ensures { λ r. ⌜ r ≡ isNext (sectionIn c) ⌝ }
 {
-    if c == 2 {
+    if c == RANGE_NEXT {
         return true;
     }
-    if c == 4 {
+    if c == UNSURE_NEXT {
         return true;
     }
     false
@@ -550,7 +573,7 @@ fn goes_on(bytes: &[u8], p: usize, n: usize) -> bool
     if n <= p {
         return false;
     }
-    is_next(section_at(bytes, p))
+    is_next(areas::section(bytes, p))
 }
 
 // `)` and the brackets on the range that ends at position i.
@@ -562,11 +585,11 @@ fn put_range_end(
     out: &mut [u8],
     at: usize,
 ) -> Pen
-    requires { ⌜ Ready (now bytes) (now numbers) × (from ≤ bracketsField (now bytes)) × ((k : ℕ) → k < from → rankIn (now bytes) k < 4 + 2 * i) × (at + 60001 ≤ ceiling) × (i ≤ residueLimit) ⌝ }
-    ensures { λ r. ⌜ Walks (now (bytes .entry)) 1 from (5 + 2 * i) (now (out .entry)) at (shutRound ∷ runText 2 (4 + 2 * i) (tablesIn (now (bytes .entry)) (now (numbers .entry)) .brackets)) (now (out .exit)) (r .place) (r .next) ⌝ }
+    requires { ⌜ Ready (now bytes) (now numbers) × (from ≤ bracketsField (now bytes)) × ((k : ℕ) → k < from → rankIn (now bytes) k < 4 + 2 * i) × Room (now bytes) from 1 at × (i ≤ residueLimit) ⌝ }
+    ensures { λ r. ⌜ Walks (now (bytes .entry)) 1 from (5 + 2 * i) (now (out .entry)) at (shutRound ∷ runText Shape.Square (4 + 2 * i) (tablesIn (now (bytes .entry)) (now (numbers .entry)) .brackets)) (now (out .exit)) (r .place) (r .next) ⌝ }
 {
     let a = put(out, at, b')');
-    put_run(bytes, numbers, from, 4 + 2 * i, 2, out, a)
+    put_run(bytes, numbers, from, 4 + 2 * i, Shape::Square, out, a)
 }
 
 // What closes a group of section c that ends at position i.
@@ -579,23 +602,23 @@ fn put_ending(
     out: &mut [u8],
     at: usize,
 ) -> Pen
-    requires { ⌜ Ready (now bytes) (now numbers) × (from ≤ bracketsField (now bytes)) × ((k : ℕ) → k < from → rankIn (now bytes) k < 4 + 2 * i) × (at + 60001 ≤ ceiling) × (i ≤ residueLimit) ⌝ }
-    ensures { λ r. ⌜ Walks (now (bytes .entry)) 1 from (5 + 2 * i) (now (out .entry)) at (ending (sectionIn c) (runText 2 (4 + 2 * i) (tablesIn (now (bytes .entry)) (now (numbers .entry)) .brackets))) (now (out .exit)) (r .place) (r .next) ⌝ }
+    requires { ⌜ Ready (now bytes) (now numbers) × (from ≤ bracketsField (now bytes)) × ((k : ℕ) → k < from → rankIn (now bytes) k < 4 + 2 * i) × Room (now bytes) from 1 at × (i ≤ residueLimit) ⌝ }
+    ensures { λ r. ⌜ Walks (now (bytes .entry)) 1 from (5 + 2 * i) (now (out .entry)) at (ending (sectionIn c) (runText Shape.Square (4 + 2 * i) (tablesIn (now (bytes .entry)) (now (numbers .entry)) .brackets))) (now (out .exit)) (r .place) (r .next) ⌝ }
 {
-    if c == 1 {
+    if c == RANGE_FIRST {
         return put_range_end(bytes, numbers, i, from, out, at);
     }
-    if c == 2 {
+    if c == RANGE_NEXT {
         return put_range_end(bytes, numbers, i, from, out, at);
     }
-    if c == 3 {
+    if c == UNSURE_FIRST {
         let a = put(out, at, b')');
         return Pen {
             place: a,
             next: from,
         };
     }
-    if c == 4 {
+    if c == UNSURE_NEXT {
         let a = put(out, at, b')');
         return Pen {
             place: a,
@@ -618,14 +641,14 @@ fn put_residue(
     out: &mut [u8],
     at: usize,
 ) -> Pen
-    requires { ⌜ Ready (now bytes) (now numbers) × (from ≤ bracketsField (now bytes)) × ((k : ℕ) → k < from → rankIn (now bytes) k < 5 + 2 * p) × (at + 120000 ≤ ceiling) × (n ≡ residuesField (now bytes)) × (p < n) ⌝ }
-    ensures { λ r. ⌜ Walks (now (bytes .entry)) 4 from (5 + 2 * (p + 1)) (now (out .entry)) at (residueText (tablesIn (now (bytes .entry)) (now (numbers .entry)) .brackets) (p + 1) (residueIn (now (bytes .entry)) p) (tabled (residueIn (now (bytes .entry))) (p + 1) (n - (p + 1)))) (now (out .exit)) (r .place) (r .next) ⌝ }
+    requires { ⌜ Ready (now bytes) (now numbers) × (from ≤ bracketsField (now bytes)) × ((k : ℕ) → k < from → rankIn (now bytes) k < 5 + 2 * p) × Room (now bytes) from residueMost at × (n ≡ residuesField (now bytes)) × (p < n) ⌝ }
+    ensures { λ r. ⌜ Walks (now (bytes .entry)) residueMost from (5 + 2 * (p + 1)) (now (out .entry)) at (residueText (tablesIn (now (bytes .entry)) (now (numbers .entry)) .brackets) (p + 1) (residueIn (now (bytes .entry)) p) (tabled (residueIn (now (bytes .entry))) (p + 1) (n - (p + 1)))) (now (out .exit)) (r .place) (r .next) ⌝ }
 {
-    let c = section_at(bytes, p);
-    let b = letter_at(bytes, p);
+    let c = areas::section(bytes, p);
+    let b = areas::letter(bytes, p);
     let a = put_opening(c, out, at);
     let e = put(out, a, b);
-    let pen = put_run(bytes, numbers, from, 5 + 2 * p, 2, out, e);
+    let pen = put_run(bytes, numbers, from, 5 + 2 * p, Shape::Square, out, e);
     let place = pen.place;
     let next = pen.next;
     if goes_on(bytes, p + 1, n) {
@@ -642,7 +665,7 @@ fn next_rank(bytes: &[u8], j: usize) -> usize
     if j < areas::brackets(bytes) {
         return rank_at(bytes, j);
     }
-    2000
+    LAST_RANK
 }
 
 // Whether the residue with index p, of n, stands by itself and its rank is below q.
@@ -652,7 +675,7 @@ fn is_bare(bytes: &[u8], p: usize, n: usize, q: usize) -> bool
 {
     if p < n {
         if 5 + 2 * p < q {
-            return section_at(bytes, p) == 0;
+            return areas::section(bytes, p) == PLAIN;
         }
     }
     false
@@ -660,13 +683,13 @@ fn is_bare(bytes: &[u8], p: usize, n: usize, q: usize) -> bool
 
 // The residues from index p on that stand by themselves, as far as their ranks are below q.
 fn put_letters(bytes: &[u8], p: usize, n: usize, q: usize, out: &mut [u8], at: usize) -> Pen
-    requires { ⌜ (bytesSize ≤ length (now bytes)) × (n ≤ residueLimit) × (at + 1000 ≤ ceiling) ⌝ }
+    requires { ⌜ (bytesSize ≤ length (now bytes)) × (n ≤ residueLimit) × (at + (n - p) ≤ ceiling) ⌝ }
     ensures { λ r. ⌜ (p ≤ r .next) × Spells (now (bytes .entry)) n q (now (out .entry)) p at (now (out .exit)) (r .next) (r .place) ⌝ }
 {
     let mut i = p;
     let mut a = at;
     while is_bare(bytes, i, n, q) {
-        a = put(out, a, letter_at(bytes, i));
+        a = put(out, a, areas::letter(bytes, i));
         i += 1;
     }
     Pen { place: a, next: i }
@@ -674,8 +697,8 @@ fn put_letters(bytes: &[u8], p: usize, n: usize, q: usize, out: &mut [u8], at: u
 
 // The sequence.
 fn put_sequence(bytes: &[u8], numbers: &[i64], from: usize, out: &mut [u8], at: usize) -> Pen
-    requires { ⌜ Ready (now bytes) (now numbers) × (from ≤ bracketsField (now bytes)) × ((k : ℕ) → k < from → rankIn (now bytes) k < 3) × (at + 200000 ≤ ceiling) ⌝ }
-    ensures { λ r. ⌜ Walks (now (bytes .entry)) 1016 from 2000 (now (out .entry)) at (sequenceText (tablesIn (now (bytes .entry)) (now (numbers .entry)) .brackets) 1 (tablesIn (now (bytes .entry)) (now (numbers .entry)) .residues)) (now (out .exit)) (r .place) (r .next) ⌝ }
+    requires { ⌜ Ready (now bytes) (now numbers) × (from ≤ bracketsField (now bytes)) × ((k : ℕ) → k < from → rankIn (now bytes) k < 3) × Room (now bytes) from residuesMost at ⌝ }
+    ensures { λ r. ⌜ Walks (now (bytes .entry)) residuesMost from lastRank (now (out .entry)) at (sequenceText (tablesIn (now (bytes .entry)) (now (numbers .entry)) .brackets) 1 (tablesIn (now (bytes .entry)) (now (numbers .entry)) .residues)) (now (out .exit)) (r .place) (r .next) ⌝ }
 {
     let n = areas::residues(bytes);
     let mut p = 0;
@@ -700,12 +723,12 @@ fn put_closed(
     numbers: &[i64],
     from: usize,
     q: usize,
-    shape: usize,
+    shape: Shape,
     closer: u8,
     out: &mut [u8],
     at: usize,
 ) -> Pen
-    requires { ⌜ Ready (now bytes) (now numbers) × (from ≤ bracketsField (now bytes)) × ((i : ℕ) → i < from → rankIn (now bytes) i < q) × (at + 60001 ≤ ceiling) × (q ≤ 2000) ⌝ }
+    requires { ⌜ Ready (now bytes) (now numbers) × (from ≤ bracketsField (now bytes)) × ((i : ℕ) → i < from → rankIn (now bytes) i < q) × Room (now bytes) from 1 at ⌝ }
     ensures { λ r. ⌜ Walks (now (bytes .entry)) 1 from (q + 1) (now (out .entry)) at (closedBy (runText shape q (tablesIn (now (bytes .entry)) (now (numbers .entry)) .brackets)) closer) (now (out .exit)) (r .place) (r .next) ⌝ }
 {
     let pen = put_run(bytes, numbers, from, q, shape, out, at);
@@ -720,19 +743,19 @@ fn put_closed(
 
 // `-` and the C-terminal brackets, where there are any.
 fn put_c_term(bytes: &[u8], numbers: &[i64], from: usize, out: &mut [u8], at: usize) -> usize
-    requires { ⌜ Ready (now bytes) (now numbers) × (from ≤ bracketsField (now bytes)) × ((i : ℕ) → i < from → rankIn (now bytes) i < 2000) × (at + 60001 ≤ ceiling) ⌝ }
-    ensures { λ r. ⌜ Puts 60000 (now (out .entry)) at (ledBy dash (runText 2 2000 (tablesIn (now (bytes .entry)) (now (numbers .entry)) .brackets))) (now (out .exit)) r ⌝ }
+    requires { ⌜ Ready (now bytes) (now numbers) × (from ≤ bracketsField (now bytes)) × ((i : ℕ) → i < from → rankIn (now bytes) i < lastRank) × Room (now bytes) from 1 at ⌝ }
+    ensures { λ r. ⌜ Puts (bracketMost * (bracketsField (now (bytes .entry)) - from) + 1) (now (out .entry)) at (ledBy dash (runText Shape.Square lastRank (tablesIn (now (bytes .entry)) (now (numbers .entry)) .brackets))) (now (out .exit)) r ⌝ }
 {
     let m = areas::brackets(bytes);
     if m == 0 {
         return at;
     }
     let r = rank_at(bytes, m - 1);
-    if r < 2000 {
+    if r < LAST_RANK {
         return at;
     }
     let a = put(out, at, b'-');
-    let pen = put_run(bytes, numbers, from, 2000, 2, out, a);
+    let pen = put_run(bytes, numbers, from, LAST_RANK, Shape::Square, out, a);
     pen.place
 }
 
@@ -741,13 +764,13 @@ pub fn put_line(bytes: &[u8], numbers: &[i64], out: &mut [u8], at: usize) -> usi
     requires { ⌜ Bounds (now bytes) (now numbers) × Ordered (tablesIn (now bytes) (now numbers)) × (at + lineMost ≤ ceiling) ⌝ }
     ensures { λ r. ⌜ Puts lineMost (now (out .entry)) at (canonical (tablesIn (now (bytes .entry)) (now (numbers .entry)))) (now (out .exit)) r ⌝ }
 {
-    let unknown = put_closed(bytes, numbers, 0, 0, 0, b'?', out, at);
+    let unknown = put_closed(bytes, numbers, 0, 0, Shape::Counted, b'?', out, at);
     let a = unknown.place;
     let i = unknown.next;
-    let labile = put_run(bytes, numbers, i, 1, 1, out, a);
+    let labile = put_run(bytes, numbers, i, 1, Shape::Curly, out, a);
     let b = labile.place;
     let j = labile.next;
-    let start = put_closed(bytes, numbers, j, 2, 2, b'-', out, b);
+    let start = put_closed(bytes, numbers, j, 2, Shape::Square, b'-', out, b);
     let c = start.place;
     let k = start.next;
     let sequence = put_sequence(bytes, numbers, k, out, c);

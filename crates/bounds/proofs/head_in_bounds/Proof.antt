@@ -8,11 +8,8 @@ use borrow.Author.Needs.{needs}
 use Rattle.bounds.proofs.head_in_bounds.Statement.{statement}
 use Rattle.bounds.proofs.head_in_bounds.Tie as tie
 
-bracket-byte-requires : tie.Need-bracket-byte-requires
-bracket-byte-requires c κs = search needs
-
-wide-requires : tie.Need-wide-requires
-wide-requires c κs = search needs
+count-requires : tie.Need-count-requires
+count-requires c κs = search needs
 
 returns : tie.Need-returns
 returns c = search needs
@@ -20,17 +17,14 @@ returns c = search needs
 returns-2 : tie.Need-returns-2
 returns-2 c = search needs
 
-bracket-byte-requires-2 : tie.Need-bracket-byte-requires-2
-bracket-byte-requires-2 c κs = search needs
-
-wide-requires-2 : tie.Need-wide-requires-2
-wide-requires-2 c κs = search needs
+parts-requires : tie.Need-parts-requires
+parts-requires c κs = search needs
 
 returns-3 : tie.Need-returns-3
 returns-3 c = search needs
 
-bracket-byte-requires-3 : tie.Need-bracket-byte-requires-3
-bracket-byte-requires-3 c κs = search needs
+score-requires : tie.Need-score-requires
+score-requires c κs = search needs
 
 add-if4 : tie.Need-add-if4
 add-if4 c = search needs
@@ -38,8 +32,8 @@ add-if4 c = search needs
 returns-4 : tie.Need-returns-4
 returns-4 c = search needs
 
-number-requires : tie.Need-number-requires
-number-requires c κs = search needs
+score-number-requires : tie.Need-score-number-requires
+score-number-requires c κs = search needs
 
 is-small-requires : tie.Need-is-small-requires
 is-small-requires c κs = search needs
@@ -48,29 +42,27 @@ returns-5 : tie.Need-returns-5
 returns-5 c =
     let four = c .before .before in
     let three = four .before .before in
-    let two = three .before .before .before in
+    let two = three .before .before in
     let one = two .before in
-    let read : toZ w64 (ofZ w64 (c .before .number .result)) ≡ c .before .number .result = search needs in
-    let s = one .before .before .before .before in
+    let read : toZ w64 (ofZ w64 (c .before .score-number .result)) ≡ c .before .score-number .result = search needs in
+    let s = one .before .before .before in
     head-law (now (s .args .bytes)) (now (s .args .numbers)) (s .args .k) (c .is-small .result)
-    (one .before .wide .ensures .0 ∙ one .before .before .bracket-byte .ensures)
-    (three .before .wide2 .ensures .0 ∙ three .before .before .bracket-byte2 .ensures) (four .before .bracket-byte3 .ensures)
-    (read ∙ c .before .number .ensures) (one .if1 .left) (two .if2 .left) (three .if3 .left) (four .if4 .left) (c .is-small .ensures)
+    (one .before .count .ensures .0) (three .before .parts .ensures .0) (four .before .score .ensures .0)
+    (read ∙ c .before .score-number .ensures) (one .if1 .left) (two .if2 .left) (three .if3 .left) (four .if4 .left)
+    (c .is-small .ensures)
 
 pub head-in-bounds-spec : {M : Type 1} → statement M
 head-in-bounds-spec =
     tie.close
     (tie.spec
-    bracket-byte-requires
-    wide-requires
+    count-requires
     returns
     returns-2
-    bracket-byte-requires-2
-    wide-requires-2
+    parts-requires
     returns-3
-    bracket-byte-requires-3
+    score-requires
     add-if4
     returns-4
-    number-requires
+    score-number-requires
     is-small-requires
     returns-5)

@@ -1,5 +1,4 @@
 -- `bounds::parts_in_bounds` meets its contract. The loop: the parts below j keep to their bounds. Assumes nothing.
-use mathlib.Core.Path.{_∙_}
 use Prim.Native.Nat.{_-_}
 use native.Mathlib.Omega.{arith}
 use borrow.Author.Needs.{needs}
@@ -14,16 +13,11 @@ Inv-loop bytes numbers k m j₀ j = Parts bytes numbers k m j
 abbrev μ-loop : tie.MeasureT-loop
 μ-loop bytes numbers k m j₀ j = m - j
 
-bracket-byte-requires : tie.Need-bracket-byte-requires Inv-loop μ-loop
-bracket-byte-requires c κs = search needs
-
-wide-requires : tie.Need-wide-requires Inv-loop μ-loop
-wide-requires c κs = search needs
+parts-requires : tie.Need-parts-requires Inv-loop μ-loop
+parts-requires c κs = search needs
 
 loop-holds : tie.Need-loop-holds Inv-loop μ-loop
-loop-holds c =
-    parts-start (c .before .before .before .pre .0) (c .before .before .before .pre .1)
-    (c .wide .ensures .0 ∙ c .before .bracket-byte .ensures)
+loop-holds c = parts-start (c .before .before .pre .0) (c .before .before .pre .1) (c .parts .ensures .0)
 
 part-in-bounds-requires : tie.Need-part-in-bounds-requires Inv-loop μ-loop
 part-in-bounds-requires c κs = parts-row (c .before .loop .inv) (c .loop-test .taken)
@@ -53,8 +47,7 @@ parts-in-bounds-spec =
     (tie.spec
     Inv-loop
     μ-loop
-    bracket-byte-requires
-    wide-requires
+    parts-requires
     loop-holds
     part-in-bounds-requires
     add-j

@@ -1,3 +1,4 @@
+-- `bracketed::is_info` meets its contract. Assumes nothing.
 use borrow.Author.Needs.{needs}
 use Rattle.bracketed.proofs.is_info.Statement.{statement}
 use Rattle.bracketed.proofs.is_info.Tie as tie
@@ -5,8 +6,11 @@ use Rattle.bracketed.proofs.is_info.Tie as tie
 key-code-requires : tie.Need-key-code-requires
 key-code-requires c κs = search needs
 
+key-code-requires-2 : tie.Need-key-code-requires-2
+key-code-requires-2 c κs = search needs
+
 returns : tie.Need-returns
-returns c = rw (c .key-code .ensures)
+returns c = rw (c .before .key-code .ensures, c .key-code2 .ensures)
 
 pub is-info-spec : {M : Type 1} → statement M
-is-info-spec = tie.close (tie.spec key-code-requires returns)
+is-info-spec = tie.close (tie.spec key-code-requires key-code-requires-2 returns)

@@ -1,19 +1,14 @@
 -- `brackets::count` meets its contract. Assumes nothing.
-use mathlib.Core.Path.{_∙_}
-use Rattle.scope.specs.Layout.{bracketIn}
+use Rattle.brackets.specs.Fields.{count-is}
 use borrow.Author.Needs.{needs}
 use Rattle.brackets.proofs.count.Statement.{statement}
 use Rattle.brackets.proofs.count.Tie as tie
 
-bracket-byte-requires : tie.Need-bracket-byte-requires
-bracket-byte-requires c κs = search needs
-
-wide-requires : tie.Need-wide-requires
-wide-requires c κs = search needs
+count-requires : tie.Need-count-requires
+count-requires c κs = search needs
 
 returns : tie.Need-returns
-unfolding bracketIn
-returns c = (λ ns. c .wide .ensures .0 ∙ c .before .bracket-byte .ensures, c .wide .ensures .1)
+returns c = (count-is _ _ (c .count .ensures .0), c .count .ensures .1)
 
 pub count-spec : {M : Type 1} → statement M
-count-spec = tie.close (tie.spec bracket-byte-requires wide-requires returns)
+count-spec = tie.close (tie.spec count-requires returns)

@@ -18,11 +18,11 @@ parts-requires c κs = search needs
 loop-holds : tie.Need-loop-holds Inv-loop μ-loop
 loop-holds c = labels-start _ _ _ (c .parts .ensures .0) (c .parts .ensures .1)
 
-part-byte-requires : tie.Need-part-byte-requires Inv-loop μ-loop
-part-byte-requires c κs = search needs
+label-length-requires : tie.Need-label-length-requires Inv-loop μ-loop
+label-length-requires c κs = search needs
 
 returns : tie.Need-returns Inv-loop μ-loop
-returns c = labels-found (c .before .before .before .loop .inv) (c .before .before .loop-test .taken) (c .before .part-byte .ensures) (c .if1 .taken)
+returns c = labels-found (c .before .before .before .loop .inv) (c .before .before .loop-test .taken) (c .before .label-length .ensures .0) (c .if1 .taken)
 
 add-j : tie.Need-add-j Inv-loop μ-loop
 add-j c = search needs
@@ -31,7 +31,7 @@ loop-less : tie.Need-loop-less Inv-loop μ-loop
 loop-less c = omega arith
 
 loop-again : tie.Need-loop-again Inv-loop μ-loop
-loop-again c = labels-next (c .before .before .before .loop .inv) (c .before .before .loop-test .taken) (c .before .part-byte .ensures) (c .if1 .left)
+loop-again c = labels-next (c .before .before .before .loop .inv) (c .before .before .loop-test .taken) (c .before .label-length .ensures .0) (c .if1 .left)
 
 returns-2 : tie.Need-returns-2 Inv-loop μ-loop
 returns-2 c = labels-end (c .before .loop .inv) (c .loop-test .left)
@@ -44,7 +44,7 @@ is-labelled-spec =
     μ-loop
     parts-requires
     loop-holds
-    part-byte-requires
+    label-length-requires
     returns
     add-j
     loop-less

@@ -18,11 +18,11 @@ parts-requires c κs = search needs
 loop-holds : tie.Need-loop-holds Inv-loop μ-loop
 loop-holds c = infos-start _ _ _ (c .parts .ensures .0) (c .parts .ensures .1)
 
-part-byte-requires : tie.Need-part-byte-requires Inv-loop μ-loop
-part-byte-requires c κs = search needs
+key-requires : tie.Need-key-requires Inv-loop μ-loop
+key-requires c κs = search needs
 
 returns : tie.Need-returns Inv-loop μ-loop
-returns c = infos-other (c .before .before .before .loop .inv) (c .before .before .loop-test .taken) (c .before .part-byte .ensures) (c .if1 .taken)
+returns c = infos-other (c .before .before .before .loop .inv) (c .before .before .loop-test .taken) (c .before .key .ensures .0) (c .if1 .taken)
 
 add-j : tie.Need-add-j Inv-loop μ-loop
 add-j c = search needs
@@ -31,7 +31,7 @@ loop-less : tie.Need-loop-less Inv-loop μ-loop
 loop-less c = omega arith
 
 loop-again : tie.Need-loop-again Inv-loop μ-loop
-loop-again c = infos-next (c .before .before .before .loop .inv) (c .before .before .loop-test .taken) (c .before .part-byte .ensures) (c .if1 .left)
+loop-again c = infos-next (c .before .before .before .loop .inv) (c .before .before .loop-test .taken) (c .before .key .ensures .0) (c .if1 .left)
 
 returns-2 : tie.Need-returns-2 Inv-loop μ-loop
 returns-2 c = infos-end (c .before .loop .inv) (c .loop-test .left)
@@ -44,7 +44,7 @@ only-info-spec =
     μ-loop
     parts-requires
     loop-holds
-    part-byte-requires
+    key-requires
     returns
     add-j
     loop-less

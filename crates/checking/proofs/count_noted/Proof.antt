@@ -2,6 +2,7 @@ use mathlib.Core.Path.{refl}
 use Prim.Native.Nat.{_*_, _-_}
 use native.Mathlib.Omega.{arith}
 use lib.ListN.{length-set}
+use Rattle.notes.specs.Notes.{noteSize}
 use Rattle.checking.proofs.Rows.{two}
 use borrow.Author.Needs.{needs}
 use Rattle.checking.proofs.count_noted.Statement.{statement}
@@ -35,7 +36,7 @@ same-length : tie.Need-same-length
 same-length c = search needs
 
 returns : tie.Need-returns
-returns c = record { put = λ z. two (c .before .args .notes .now) (7 * c .before .args .n - 4) (c .before .args .value) 1; kept = simp length-set }
+returns c = record { put = λ z. two (c .before .args .notes .now) (noteSize * c .before .args .n - 4) (c .before .args .value) 1; kept = simp length-set }
 
 returns-2 : tie.Need-returns-2
 returns-2 c = record { put = λ z. absurd (c .if1 .left z); kept = refl }

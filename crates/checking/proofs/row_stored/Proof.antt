@@ -1,6 +1,7 @@
 use Prim.Native.Nat.{_*_}
 use native.Mathlib.Omega.{arith}
 use lib.ListN.{length-set}
+use Rattle.notes.specs.Notes.{noteSize}
 use Rattle.checking.proofs.Rows.{seven}
 use borrow.Author.Needs.{needs}
 use Rattle.checking.proofs.row_stored.Statement.{statement}
@@ -82,7 +83,7 @@ same-length : tie.Need-same-length
 same-length c = search needs
 
 returns : tie.Need-returns
-returns c = seven (c .args .notes .now) (7 * c .args .n) (c .args .place) (c .args .kind) (c .args .sort) 1 0 (c .args .label) (c .args .many)
+returns c = seven (c .args .notes .now) (noteSize * c .args .n) (c .args .place) (c .args .kind) (c .args .sort) 1 0 (c .args .label) (c .args .many)
 
 pub row-stored-spec : {M : Type 1} → statement M
 row-stored-spec =

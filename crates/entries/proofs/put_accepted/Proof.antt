@@ -1,4 +1,5 @@
 use mathlib.Core.List.{[], _∷_}
+use Rattle.scope.specs.Limits.{lineLimit}
 use Rattle.scope.specs.Canonical.{canonical}
 use Rattle.scope.specs.Layout.{tablesIn}
 use Rattle.scope.specs.Register.{totalText}
@@ -34,7 +35,7 @@ returns c =
     let m = tablesIn (s .args .bytes .now) (s .args .numbers .now) in
     puts-of (fields-append (countFields m) (totalText m ∷ canonical m ∷ []))
     (puts-join (k .put-counts .ensures)
-    (field-then (t .put-total .ensures) _ (field-last (puts-join (p .put .ensures) (puts-exact {n = 4096} (s .pre .0 .short) (l .put-line .ensures))))))
+    (field-then (t .put-total .ensures) _ (field-last (puts-join (p .put .ensures) (puts-exact {n = lineLimit} (s .pre .0 .short) (l .put-line .ensures))))))
 
 pub put-accepted-spec : {M : Type 1} → statement M
 put-accepted-spec =

@@ -1,9 +1,8 @@
 use mathlib.Core.Path.{sym, ap, _∙_}
 use mathlib.Core.List.{_∷_}
-use native.Mathlib.Omega.{arith}
 use Rattle.scope.specs.Canonical.{decimal}
 use Rattle.basics.specs.Tabled.{residues-many, brackets-many}
-use Rattle.writer.proofs.Storing.{puts-of, puts-exact}
+use Rattle.writer.proofs.Storing.{puts-of}
 use Rattle.entries.proofs.Texts.{field-then, field-last}
 use borrow.Author.Needs.{needs}
 use Rattle.entries.proofs.put_counts.Statement.{statement}
@@ -46,7 +45,7 @@ returns c =
     let b = f .before in
     let r = b .before in
     let a = r .before .before .before .args in
-    field-then (puts-exact {n = 3} (omega arith) (w .word .ensures)) _
+    field-then (w .word .ensures) _
     (field-then (puts-of (ap (λ n. 32 ∷ decimal n) (r .residues .ensures .0 ∙ sym (residues-many (a .bytes .now) (a .numbers .now)))) (f1 .put-field .ensures)) _
     (field-then (puts-of (ap (λ n. 32 ∷ decimal n) (b .brackets .ensures .0 ∙ sym (brackets-many (a .bytes .now) (a .numbers .now)))) (f2 .put-field2 .ensures)) _
     (field-last (puts-of (ap (λ n. 32 ∷ decimal n) (f .find-floaters .ensures .many)) (f3 .put-field3 .ensures)))))

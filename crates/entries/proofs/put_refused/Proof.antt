@@ -1,5 +1,3 @@
-use native.Mathlib.Omega.{arith}
-use Rattle.writer.proofs.Storing.{puts-exact}
 use Rattle.entries.proofs.Texts.{field-then, field-last}
 use borrow.Author.Needs.{needs}
 use Rattle.entries.proofs.put_refused.Statement.{statement}
@@ -25,7 +23,7 @@ returns c =
     let f2 = c .before .before in
     let f1 = f2 .before .before .before .before in
     let w = f1 .before .before .before .before in
-    field-then (puts-exact {n = 3} (omega arith) (w .word .ensures)) _ (field-then (f1 .put-field .ensures) _ (field-last (f2 .put-field2 .ensures)))
+    field-then (w .word .ensures) _ (field-then (f1 .put-field .ensures) _ (field-last (f2 .put-field2 .ensures)))
 
 pub put-refused-spec : {M : Type 1} → statement M
 put-refused-spec =

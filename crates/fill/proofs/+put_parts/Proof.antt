@@ -33,7 +33,7 @@ module _ (t : ℕ) where
   part-step-requires : lts.Need-part-step-requires (claims t) (Pre t) put-parts.Post
   part-step-requires c κs =
       let s = c .before .before .before .before in
-      let p = s .pre .1 in
+      let p = s .pre .1 .0 in
       record { opening = p .opening; parts = p .parts; begun = same-mass (toZ-ofZ (s .fits .mass)) (p .begun); roomy = p .roomy }
 
   enum-told : lts.Need-enum-told (claims t) (Pre t) put-parts.Post
@@ -47,8 +47,8 @@ module _ (t : ℕ) where
       let x = c .before .before .before in
       let n = x .before .before .before .before .before in
       let s = n .before .before .before .before .before in
-      let p = s .pre .1 in
-      closes (said-of _ _ _ _ _ _ _ _ _ _ _ _ (x .s .given .1) (n .part-step .ensures (p .opening) (p .parts) (same-mass (toZ-ofZ (s .fits .mass)) (p .begun)))) (p .roomy)
+      let p = s .pre .1 .0 in
+      closes (said-of _ _ _ _ _ _ _ _ _ _ _ _ (x .s .given .1) (n .part-step .ensures (p .opening) (p .parts) (same-mass (toZ-ofZ (s .fits .mass)) (p .begun)))) (p .roomy) (s .pre .1 .1)
 
   enum-known-s-2 : lts.Need-enum-known-s-2 (claims t) (Pre t) put-parts.Post
   enum-known-s-2 c = search needs
@@ -58,7 +58,7 @@ module _ (t : ℕ) where
       let x = c .before .before .before in
       let n = x .before .before .before .before .before in
       let s = n .before .before .before .before .before in
-      let p = s .pre .1 in
+      let p = s .pre .1 .0 in
       let m = said-of _ _ _ _ _ _ _ _ _ _ _ _ (x .s2 .given .1) (n .part-step .ensures (p .opening) (p .parts) (same-mass (toZ-ofZ (s .fits .mass)) (p .begun))) in
       omega (arith, m .stored .few-parts)
 
@@ -67,9 +67,9 @@ module _ (t : ℕ) where
       let x = c .before .before .before .before in
       let n = x .before .before .before .before .before in
       let s = n .before .before .before .before .before in
-      let p = s .pre .1 in
+      let p = s .pre .1 .0 in
       let m = said-of _ _ _ _ _ _ _ _ _ _ _ _ (x .s2 .given .1) (n .part-step .ensures (p .opening) (p .parts) (same-mass (toZ-ofZ (s .fits .mass)) (p .begun))) in
-      (omega (arith, m .past, m .begun .in-line, s .pre .0), again m (p .roomy) (back _ (c .struct-told .given .1 .1 .1 .0 .1) refl))
+      (omega (arith, m .past, m .begun .in-line, s .pre .0), (again m (p .roomy) (back _ (c .struct-told .given .1 .1 .1 .0 .1) refl), s .pre .1 .1))
 
   same-length : lts.Need-same-length (claims t) (Pre t) put-parts.Post
   same-length c = search needs

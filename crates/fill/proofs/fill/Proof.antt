@@ -1,15 +1,12 @@
+-- `fill::fill` meets its contract: one step after another, and at the end the numbers of residues and brackets. Assumes nothing.
 use Prim.Native.Nat.{_-_}
 use native.Mathlib.Omega.{arith}
 use mathlib.Core.Path.{_∙_}
-use lib.ListN.{length, length-set}
+use lib.ListN.{length}
 use borrow.Author.Needs.{needs}
 use Rattle.fill.proofs.WholeLaws.{Looping, looping-start, the-filling, some-filling, on-past, looping-next, small-counts, end-fills}
 use Rattle.fill.proofs.fill.Statement.{statement}
 use Rattle.fill.proofs.fill.Tie as tie
-use Rattle.fill.proofs.fill.Reads as reads
-use Rattle.fill.proofs.fill.Lts as lts
-use Rattle.fill.proofs.begin.Reads as begin-reads
-use Rattle.fill.proofs.step_on.Reads as step-on-reads
 
 abbrev Inv-loop : tie.InvT-loop
 Inv-loop line bytes₀ numbers₀ s₀ bytes numbers s = Looping line bytes₀ numbers₀ s bytes numbers
@@ -43,47 +40,25 @@ loop-again c =
     let r = c .before .before .before in
     looping-next (s .pre) (l .loop .inv) (r .step-on .ensures) (r .step-on .kept .1 .0) (r .step-on .kept .1 .1 .0)
 
-cast-bytes : tie.Need-cast-bytes Inv-loop μ-loop
-cast-bytes c =
+put-counts-requires : tie.Need-put-counts-requires Inv-loop μ-loop
+put-counts-requires c κs =
     let l = c .before .before .before .before in
-    let s = l .before .before .before .before in
-    record { fits = omega (arith, small-counts (the-filling (s .pre) (l .loop .inv)) .0) }
-
-slice-write-bytes : tie.Need-slice-write-bytes Inv-loop μ-loop
-slice-write-bytes c =
-    let l = c .before .before .before .before in
-    let s = l .before .before .before .before in
-    omega (arith, the-filling (s .pre) (l .loop .inv) .roomy .bytes-long)
-
-cast-bytes-2 : tie.Need-cast-bytes-2 Inv-loop μ-loop
-cast-bytes-2 c =
-    let l = c .before .before .before .before .before in
-    let s = l .before .before .before .before in
-    record { fits = omega (arith, small-counts (the-filling (s .pre) (l .loop .inv)) .1) }
-
-slice-write-bytes-2 : tie.Need-slice-write-bytes-2 Inv-loop μ-loop
-slice-write-bytes-2 c =
-    let l = c .before .before .before .before .before in
-    let s = l .before .before .before .before in
-    simp length-set (omega (arith, the-filling (s .pre) (l .loop .inv) .roomy .bytes-long))
+    let f = the-filling (l .before .before .before .before .pre) (l .loop .inv) in
+    (f .roomy .bytes-long, small-counts f .0, small-counts f .1)
 
 same-length : tie.Need-same-length Inv-loop μ-loop
 same-length c =
-    let l = c .before .before .before .before .before in
-    let s = l .before .before .before .before in
-    simp length-set (l .loop .inv .bytes-long)
+    let p = c .before .before in
+    p .put-counts .kept .0 ∙ p .before .before .before .before .before .loop .inv .bytes-long
 
 same-length-2 : tie.Need-same-length-2 Inv-loop μ-loop
-same-length-2 c =
-    let l = c .before .before .before .before .before in
-    let s = l .before .before .before .before in
-    l .loop .inv .numbers-long
+same-length-2 c = c .before .before .before .before .before .before .before .loop .inv .numbers-long
 
 returns : tie.Need-returns Inv-loop μ-loop
 returns c = λ t e.
-    let l = c .before .before .before .before .before in
-    let s = l .before .before .before .before in
-    end-fills (l .loop .inv .fills t e) (c .before .before .before .if1 .left)
+    let p = c .before .before in
+    let i = p .before .before .before in
+    end-fills (i .before .before .loop .inv .fills t e) (i .if1 .left) (p .put-counts .ensures)
 
 pub fill-spec : {M : Type 1} → statement M
 fill-spec =
@@ -96,10 +71,7 @@ fill-spec =
     step-on-requires
     loop-less
     loop-again
-    cast-bytes
-    slice-write-bytes
-    cast-bytes-2
-    slice-write-bytes-2
+    put-counts-requires
     same-length
     same-length-2
     returns)

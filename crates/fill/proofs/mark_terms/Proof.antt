@@ -1,10 +1,10 @@
+-- `fill::mark_terms` meets its contract: areas puts the kind of one bracket after another. Assumes nothing.
 use native.Mathlib.Omega.{arith}
 use Prim.Native.Nat.{_-_}
+use borrow.Author.Needs.{needs}
 use Rattle.fill.proofs.Stores.{Marking, marking-start, marking-next, marking-end}
 use Rattle.fill.proofs.mark_terms.Statement.{statement}
 use Rattle.fill.proofs.mark_terms.Tie as tie
-use Rattle.fill.proofs.mark_terms.Reads as reads
-use Rattle.fill.proofs.mark_terms.Lts as lts
 
 abbrev Inv-loop : tie.InvT-loop
 Inv-loop bytes₀ from n i₀ bytes i = Marking bytes₀ from n i bytes
@@ -13,28 +13,30 @@ abbrev μ-loop : tie.MeasureT-loop
 μ-loop bytes₀ from n i₀ bytes i = n - i
 
 loop-holds : tie.Need-loop-holds Inv-loop μ-loop
-loop-holds c = marking-start _ _ _ (c .pre)
+loop-holds c = marking-start _ _ _ (c .before .pre)
 
-add-bytes : tie.Need-add-bytes Inv-loop μ-loop
-add-bytes c = omega (arith, c .before .loop .inv .few)
+add-put-kind : tie.Need-add-put-kind Inv-loop μ-loop
+add-put-kind c = omega (arith, c .before .before .loop .inv .few)
 
-mul-bytes : tie.Need-mul-bytes Inv-loop μ-loop
-mul-bytes c = omega (arith, c .before .loop .inv .few)
+kind-code-requires : tie.Need-kind-code-requires Inv-loop μ-loop
+kind-code-requires c κs = search needs
 
-add-bytes-2 : tie.Need-add-bytes-2 Inv-loop μ-loop
-add-bytes-2 c = omega (arith, c .before .loop .inv .few)
-
-slice-write-bytes : tie.Need-slice-write-bytes Inv-loop μ-loop
-slice-write-bytes c = omega (arith, c .before .loop .inv .few, c .before .loop .inv .size, c .before .loop .inv .long)
+put-kind-requires : tie.Need-put-kind-requires Inv-loop μ-loop
+put-kind-requires c κs =
+    let i = c .before .before .before .loop .inv in
+    (omega (arith, i .size, i .long), omega (arith, i .few, c .before .before .loop-test .taken))
 
 add-i : tie.Need-add-i Inv-loop μ-loop
-add-i c = omega (arith, c .before .loop .inv .upto)
+add-i c = omega (arith, c .before .before .before .before .before .before .loop .inv .upto)
 
 loop-less : tie.Need-loop-less Inv-loop μ-loop
 loop-less c = omega arith
 
 loop-again : tie.Need-loop-again Inv-loop μ-loop
-loop-again c = marking-next (c .before .loop .inv) (c .loop-test .taken)
+loop-again c =
+    let p = c .before .before in
+    let t = p .before .before .before in
+    marking-next (t .before .loop .inv) (t .loop-test .taken) (p .put-kind .ensures) (p .before .kind-code .ensures)
 
 same-length : tie.Need-same-length Inv-loop μ-loop
 same-length c = c .before .loop .inv .long
@@ -49,10 +51,9 @@ mark-terms-spec =
     Inv-loop
     μ-loop
     loop-holds
-    add-bytes
-    mul-bytes
-    add-bytes-2
-    slice-write-bytes
+    add-put-kind
+    kind-code-requires
+    put-kind-requires
     add-i
     loop-less
     loop-again

@@ -1,6 +1,7 @@
+-- `fill::put_bracket` meets its contract: where the bracket stands, then its parts. Assumes nothing.
 use native.Mathlib.Omega.{arith}
 use mathlib.Core.Path.{refl, sym, _∙_}
-use Rattle.fill.proofs.BracketLaws.{position-fits, few-residues, few-brackets, few-run, first-fits, opening, before, begun, starts, laid-open, filled, roomy-kept, put-said}
+use Rattle.fill.proofs.BracketLaws.{few-residues, few-brackets, few-run, stands, opening, before, begun, starts, laid-open, filled, roomy-kept, put-said}
 use borrow.Author.Needs.{needs}
 use Rattle.fill.proofs.put_bracket.Statement.{statement}
 use Rattle.fill.proofs.put_bracket.Tie as tie
@@ -29,22 +30,12 @@ count-after-requires c κs = search needs
 kind-code-requires : tie.Need-kind-code-requires
 kind-code-requires c κs = search needs
 
-cast-put-parts : tie.Need-cast-put-parts
-cast-put-parts c =
-    let f = c .before .before .before .before .before .before in
-    let s = f .before .before .before .before in
-    record { fits = omega (arith, f .first-position .ensures, position-fits (s .args .slot .kind) (s .args .s .tables .residues) (s .args .s .first) (few-residues (s .pre .opened)) (first-fits (s .pre .opened)) .0) }
-
-cast-put-parts-2 : tie.Need-cast-put-parts-2
-cast-put-parts-2 c =
-    let f = c .before .before .before .before .before .before in
-    let s = f .before .before .before .before in
-    record { fits = omega (arith, c .before .before .before .before .before .last-position .ensures, position-fits (s .args .slot .kind) (s .args .s .tables .residues) (s .args .s .first) (few-residues (s .pre .opened)) (first-fits (s .pre .opened)) .1) }
-
 put-parts-requires : tie.Need-put-parts-requires
 put-parts-requires c κs =
-    let s = c .before .before .before .before .before .before .before .before .before .before in
-    starts (s .pre .opened)
+    let l = c .before .before .before .before .before in
+    let f = l .before in
+    let s = f .before .before .before .before in
+    (starts (s .pre .opened), stands (s .pre .opened) (f .first-position .ensures) (l .last-position .ensures))
 
 enum-told : tie.Need-enum-told
 enum-told c = search needs
@@ -55,8 +46,8 @@ enum-known-put c = search needs
 mode-after-requires : tie.Need-mode-after-requires
 mode-after-requires c κs = search needs
 
-add-t27 : tie.Need-add-t27
-add-t27 c =
+add-t25 : tie.Need-add-t25
+add-t25 c =
     let n = c .before .before .before .before .before .before .before .before in
     let s = n .before .before .before .before .before .before .before .before .before .before in
     omega (arith, few-brackets (s .pre .opened))
@@ -101,12 +92,10 @@ put-bracket-spec =
     run-after-requires
     count-after-requires
     kind-code-requires
-    cast-put-parts
-    cast-put-parts-2
     put-parts-requires
     enum-told
     enum-known-put
-    add-t27
+    add-t25
     mode-after-requires
     same-length
     same-length-2

@@ -1,12 +1,10 @@
+-- `fill::put_digit` meets its contract: where a bracket waits, areas puts its count. Assumes nothing.
 use native.Mathlib.Omega.{arith}
 use borrow.Author.Tests.{eq-eqb, ne-eqb}
-use mathlib.Core.Path.{refl, _∙_}
+use mathlib.Core.Path.{refl}
 use borrow.Author.Needs.{needs}
 use Rattle.fill.proofs.put_digit.Statement.{statement}
 use Rattle.fill.proofs.put_digit.Tie as tie
-use Rattle.fill.proofs.put_digit.Reads as reads
-use Rattle.fill.proofs.put_digit.Lts as lts
-use Rattle.fill.proofs.go.Reads as go-reads
 
 go-requires : tie.Need-go-requires
 go-requires c κs = search needs
@@ -18,7 +16,7 @@ sub-k : tie.Need-sub-k
 sub-k c = search needs
 
 mul-count : tie.Need-mul-count
-mul-count c = omega (arith, (c .before .before .before .before .before .pre .count (c .before .before .before .if1 .left)))
+mul-count c = omega (arith, c .before .before .before .before .before .pre .count (c .before .before .before .if1 .left))
 
 sub-count : tie.Need-sub-count
 sub-count c = search needs
@@ -27,28 +25,23 @@ cast-count : tie.Need-cast-count
 cast-count c = search needs
 
 add-count : tie.Need-add-count
-add-count c = omega (arith, (c .before .before .before .before .before .pre .count (c .before .before .before .if1 .left)))
+add-count c = omega (arith, c .before .before .before .before .before .pre .count (c .before .before .before .if1 .left))
 
-cast-bytes : tie.Need-cast-bytes
-cast-bytes c = record { fits = omega (arith, (c .before .before .before .before .before .pre .count (c .before .before .before .if1 .left))) }
+cast-put-count : tie.Need-cast-put-count
+cast-put-count c =
+    let k = c .before in
+    record { fits = omega (arith, k .before .before .before .before .before .pre .count (k .before .before .before .if1 .left)) }
 
-mul-bytes : tie.Need-mul-bytes
-mul-bytes c = search needs
-
-add-bytes : tie.Need-add-bytes
-add-bytes c = search needs
-
-add-bytes-2 : tie.Need-add-bytes-2
-add-bytes-2 c = search needs
-
-slice-write-bytes : tie.Need-slice-write-bytes
-slice-write-bytes c = search needs
+put-count-requires : tie.Need-put-count-requires
+put-count-requires c κs = search needs
 
 same-length : tie.Need-same-length
 same-length c = search needs
 
 returns-2 : tie.Need-returns-2
-returns-2 c = rw (ne-eqb _ _ (c .before .before .before .if1 .left)) (refl, refl)
+returns-2 c =
+    let p = c .before .before in
+    rw (ne-eqb _ _ (p .before .before .before .before .before .if1 .left)) (refl, p .put-count .ensures)
 
 pub put-digit-spec : {M : Type 1} → statement M
 put-digit-spec =
@@ -61,10 +54,7 @@ put-digit-spec =
     sub-count
     cast-count
     add-count
-    cast-bytes
-    mul-bytes
-    add-bytes
-    add-bytes-2
-    slice-write-bytes
+    cast-put-count
+    put-count-requires
     same-length
     returns-2)

@@ -1,3 +1,4 @@
+-- `fill::put_found` meets its contract: the part is put, and the byte behind it says whether another follows. Assumes nothing.
 use mathlib.Core.Path.{ap, _∙_}
 use mir.Facts.{toZ-ofZ}
 use Rattle.fill.specs.declared.Step.the-variants.{More, Closed}
@@ -7,30 +8,6 @@ use Rattle.fill.proofs.StepLaws.{found-put, shut-step, more-step}
 use borrow.Author.Needs.{needs}
 use Rattle.fill.proofs.put_found.Statement.{statement}
 use Rattle.fill.proofs.put_found.Tie as tie
-use Rattle.fill.proofs.put_found.Reads as reads
-use Rattle.fill.proofs.put_found.Lts as lts
-use Rattle.fill.proofs.is_reference.Reads as is-reference-reads
-use Rattle.fill.proofs.put_part.Reads as put-part-reads
-use Rattle.fill.proofs.score_code.Reads as score-code-reads
-use Rattle.fill.proofs.score_mass.Reads as score-mass-reads
-
-mul-put-part : tie.Need-mul-put-part
-mul-put-part c = search needs
-
-add-put-part : tie.Need-add-put-part
-add-put-part c = search needs
-
-mul-put-part-2 : tie.Need-mul-put-part-2
-mul-put-part-2 c = search needs
-
-add-put-part-2 : tie.Need-add-put-part-2
-add-put-part-2 c = search needs
-
-mul-put-part-3 : tie.Need-mul-put-part-3
-mul-put-part-3 c = search needs
-
-add-put-part-3 : tie.Need-add-put-part-3
-add-put-part-3 c = search needs
 
 put-part-requires : tie.Need-put-part-requires
 put-part-requires c κs = search needs
@@ -47,8 +24,8 @@ is-reference-requires c κs = search needs
 shared-slice-read-if1 : tie.Need-shared-slice-read-if1
 shared-slice-read-if1 c = search needs
 
-add-t32 : tie.Need-add-t32
-add-t32 c = search needs
+add-t26 : tie.Need-add-t26
+add-t26 c = search needs
 
 same-length : tie.Need-same-length
 same-length c = search needs
@@ -67,8 +44,8 @@ returns c =
     (back _ (m .score-mass .ok) (m .score-mass .ensures ∙ ap (λ a. massAfter (s .args .code) a (s .args .p .score)) (toZ-ofZ (s .fits .mass))))
     (i .is-reference .ensures) Closed (shut-step (s .args .line .now) (s .args .p) (s .args .shut) (s .args .t) (s .args .code) (s .args .mass) (c .if1 .taken))
 
-add-t23 : tie.Need-add-t23
-add-t23 c = search needs
+add-t28 : tie.Need-add-t28
+add-t28 c = search needs
 
 same-length-3 : tie.Need-same-length-3
 same-length-3 c = search needs
@@ -91,22 +68,16 @@ pub put-found-spec : {M : Type 1} → statement M
 put-found-spec =
     tie.close
     (tie.spec
-    mul-put-part
-    add-put-part
-    mul-put-part-2
-    add-put-part-2
-    mul-put-part-3
-    add-put-part-3
     put-part-requires
     score-code-requires
     score-mass-requires
     is-reference-requires
     shared-slice-read-if1
-    add-t32
+    add-t26
     same-length
     same-length-2
     returns
-    add-t23
+    add-t28
     same-length-3
     same-length-4
     returns-2)

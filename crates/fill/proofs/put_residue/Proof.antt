@@ -1,16 +1,11 @@
-use native.Mathlib.Omega.{arith}
+-- `fill::put_residue` meets its contract: areas puts the letter and the section. Assumes nothing.
+use mathlib.Core.Path.{ap₂, _∙_}
 use Prim.Native.Nat.{_+_}
-use lib.ListN.{set, length-set}
-use mathlib.Core.Path.{refl, ap, ap₂}
-use Rattle.fill.specs.declared.Progress.{Progress}
+use lib.ListN.{set}
+use Rattle.scope.specs.Layout.{lettersAt, sectionsAt}
 use borrow.Author.Needs.{needs}
 use Rattle.fill.proofs.put_residue.Statement.{statement}
 use Rattle.fill.proofs.put_residue.Tie as tie
-use Rattle.fill.proofs.put_residue.Reads as reads
-use Rattle.fill.proofs.put_residue.Lts as lts
-use Rattle.classes.proofs.upper.Reads as upper-reads
-use Rattle.fill.proofs.first_of.Reads as first-of-reads
-use Rattle.fill.proofs.section_code.Reads as section-code-reads
 
 add-first-of : tie.Need-add-first-of
 add-first-of c = search needs
@@ -21,33 +16,27 @@ first-of-requires c κs = search needs
 upper-requires : tie.Need-upper-requires
 upper-requires c κs = search needs
 
-add-bytes : tie.Need-add-bytes
-add-bytes c = search needs
-
-slice-write-bytes : tie.Need-slice-write-bytes
-slice-write-bytes c = search needs
-
 section-code-requires : tie.Need-section-code-requires
 section-code-requires c κs = search needs
 
-add-bytes-2 : tie.Need-add-bytes-2
-add-bytes-2 c = search needs
+put-residue-requires : tie.Need-put-residue-requires
+put-residue-requires c κs = search needs
 
-slice-write-bytes-2 : tie.Need-slice-write-bytes-2
-slice-write-bytes-2 c = simp length-set (omega arith)
-
-add-t11 : tie.Need-add-t11
-add-t11 c = search needs
+add-t12 : tie.Need-add-t12
+add-t12 c = search needs
 
 same-length : tie.Need-same-length
 same-length c = search needs
 
 returns : tie.Need-returns
 returns c =
-    let u = c .before in
+    let p = c .before .before in
+    let k = p .before in
+    let u = k .before .before in
     let f = u .before in
     let s = f .before .before .before in
-    (rw (f .first-of .ensures), ap₂ (λ x y. set (set (s .args .bytes .now) (2 + s .args .s .tables .residues) x) (256 + s .args .s .tables .residues) y) (u .upper .ensures) (c .section-code .ensures))
+    let n = s .args .s .tables .residues in
+    (rw (f .first-of .ensures), p .put-residue .ensures ∙ ap₂ (λ x y. set (set (s .args .bytes .now) (lettersAt + n) x) (sectionsAt + n) y) (u .upper .ensures) (k .section-code .ensures))
 
 pub put-residue-spec : {M : Type 1} → statement M
 put-residue-spec =
@@ -56,11 +45,8 @@ put-residue-spec =
     add-first-of
     first-of-requires
     upper-requires
-    add-bytes
-    slice-write-bytes
     section-code-requires
-    add-bytes-2
-    slice-write-bytes-2
-    add-t11
+    put-residue-requires
+    add-t12
     same-length
     returns)

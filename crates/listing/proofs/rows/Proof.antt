@@ -44,7 +44,7 @@ use denote.Triple.Table.{entered, cited}
 use denote.Triple.Walked.{says, Stays, gave-slice, stay-none-slice, walkOf, goes-none-slice, goes-gave-slice, Walks, ends-at, walked, walk-meets}
 use denote.Triple.Clauses.{ensured, lasts}
 use denote.Exit.{yes}
-use Rattle.scope.specs.Limits.{positionLimit}
+use Rattle.scope.specs.Limits.{rowLimit, positionLimit}
 use Rattle.scope.specs.Lists.{laid}
 use Rattle.scope.specs.Layout.{tablesIn}
 use Rattle.scope.specs.Positions.{rowsFrom}
@@ -86,7 +86,7 @@ abbrev stayed : Stays (rows.ended .signature .params) (rows.ended .kept)
 stayed = (stay-none-slice (0 ∷ []) tt (plain (λ _. u8)) yes, (stay-none-slice (1 ∷ []) tt (plain (λ _. i64)) yes, (gave-slice (2 ∷ []) tt (plain (λ _. R)), tt)))
 
 abbrev table : Ty
-table = tyArray (tyInt w8) 2048
+table = tyArray (tyInt w8) rowLimit
 
 -- the contracts that the proof cites
 module _ {M : Type 1} (𝓤 : URA M) (H : Heap 𝓤) (A : Atoms 𝓤) (mem : Memory → SProp 𝓤) (run : Routine → Fun 𝓤) where
@@ -178,10 +178,10 @@ module _ {M : Type 1} (𝓤 : URA M) (H : Heap 𝓤) (A : Atoms 𝓤) (W : Given
     floaters-fit : r .floaters < 2 ^ 64
     floaters-fit = LL.owed S.the-type S′.the-laws r (v ∷ []) is .1 .0 .1
 
-    tab-is : Is (Array u8 2048) tab (machine tab ∷ [])
+    tab-is : Is (Array u8 rowLimit) tab (machine tab ∷ [])
     tab-is = LL.owed S.the-type S′.the-laws r (v ∷ []) is .1 .1 .0
 
-    tab-long : length tab ≡ 2048
+    tab-long : length tab ≡ rowLimit
     tab-long = tab-is .1 .0 .1
 
     tab-ready : RowsReady (x₁ .now) (x₂ .now) (length xs) (r .count) tab
@@ -256,7 +256,7 @@ module _ {M : Type 1} (𝓤 : URA M) (H : Heap 𝓤) (A : Atoms 𝓤) (W : Given
         peeks ! S.the-row (Is S.the-row) (shows 𝓤 H A S.the-row) r (v ∷ []) (λ is.
         land ! (from ! (stop !)) (init ! 19 refl (LL.lawful S.the-type S′.the-laws 𝓤 H A W .typed r _ is .0)) $
         rewrite ! 19 (λ (u : Val). ‵ (fat fullShare S′.mir l₄ 0 u)) (ap only (LL.tells S.the-type S′.the-laws r (v ∷ []) is)) refl $ drop ! $
-        assigns ! (of-opd ! (load ! (from ! (fld ! refl (stop !))) (look-in ! 18 (sub ! 2 refl (whole !))))) (from ! (stop !)) (init ! 16 refl (array-lawful 𝓤 H A W u8 (uint-lawful 𝓤 H A W w8) 2048 .typed (tab r v is e) _ (tab-is r v is e) .0)) $
+        assigns ! (of-opd ! (load ! (from ! (fld ! refl (stop !))) (look-in ! 18 (sub ! 2 refl (whole !))))) (from ! (stop !)) (init ! 16 refl (array-lawful 𝓤 H A W u8 (uint-lawful 𝓤 H A W w8) rowLimit .typed (tab r v is e) _ (tab-is r v is e) .0)) $
         assigns ! (addr ! (from ! (stop !))) (from ! (stop !)) (init ! 10 refl (tt, tt)) $
         assigns ! (agg ! (and-then ! (load ! (from ! (stop !)) (look ! 10 refl)) (and-then ! (big ! (record { fits = lit< tt })) (no-more !)))) (from ! (stop !)) (init ! 8 refl (tt, (tt, (record { fits = lit< tt }, tt)))) $
         assigns ! (addr ! (from ! (fld ! refl (hop ! (look-in ! 20 (sub ! 0 refl (whole !))) (stop !))))) (from ! (stop !)) (init ! 6 refl (tt, tt)) $
@@ -264,7 +264,7 @@ module _ {M : Type 1} (𝓤 : URA M) (H : Heap 𝓤) (A : Atoms 𝓤) (W : Given
         rewrite ! 8 (λ (k : ℕ). ‵ (fat fullShare (sliceTy (tyRef erased imm (tyInt w8))) l₉ 0 (sliceVal (l₅, 0) k))) (sym (tab-long r v is e)) refl $
         -- the table is lent for a lifetime that is made here
         move ! (16 ∷ []) $ lft-new ! tt (λ α. move ! (1 ∷ []) $
-        use1 W (later (some (λ (δ : GName). ‵ (Slice (named 0) (α ∷ []) (tab r v is e) l₅ δ) ⊛ ‵ (Lender (α ∷ []) (tab r v is e) l₅)))) (lent-bytes 𝓤 H A W (named 0) (α ∷ []) 2048 (tab r v is e) l₅ (tab-long r v is e) (tab-is r v is e) (room-tab r v is e)) $ await ! tt $ pick ! (λ δ. split ! $
+        use1 W (later (some (λ (δ : GName). ‵ (Slice (named 0) (α ∷ []) (tab r v is e) l₅ δ) ⊛ ‵ (Lender (α ∷ []) (tab r v is e) l₅)))) (lent-bytes 𝓤 H A W (named 0) (α ∷ []) rowLimit (tab r v is e) l₅ (tab-long r v is e) (tab-is r v is e) (room-tab r v is e)) $ await ! tt $ pick ! (λ δ. split ! $
         -- [the table; the lender's part; its token; the areas' tokens; the numbers; the bytes; the locals without the table; the rows; their token]
         move ! (0 ∷ 30 ∷ []) $ join ! $ move ! (2 ∷ 30 ∷ []) $ join ! $ use2 W (raw (Fill 𝓤 H A mem run .pre (to-fill r v is e α δ l₅))) (goes-fill r v is e α δ l₅) $
         -- [what fill_rows asks; the lender's part; the areas' tokens; the numbers; the bytes; the locals without the table]
@@ -273,7 +273,7 @@ module _ {M : Type 1} (𝓤 : URA M) (H : Heap 𝓤) (A : Atoms 𝓤) (W : Given
         split ! $ move ! (1 ∷ []) $ use1 W (some (λ (ws : Unit {0} × (Unit {0} × (List Site × Unit {0}))). ‵ (lasts fill-rows.ended (α ∷ [], (κ, tt)) (filled r v is e α δ l₅) ws) ⊛ raw (fact 𝓤 (Filled r v is e α δ l₅ m (ws .1 .1 .0))))) (id⊢ 𝓤 _) $ pick ! (λ ws.
         split ! $ move ! (1 ∷ []) $ heard ! (Filled r v is e α δ l₅ m (ws .1 .1 .0)) (λ f. fsplit ! $ drop ! $ fsplit ! $ drop ! $ fsplit ! $ fsplit ! $ move ! (1 ∷ []) $ feqL ! (λ same. move ! (1 ∷ []) $ drop ! $
         -- [the rows' last list; the tokens and the result; the lender's part; ..]: the lifetime ends, and the table comes back
-        move ! (1 ∷ []) $ split ! $ split ! $ lft-end ! tt $ move ! (0 ∷ 4 ∷ []) $ use2 W (later (‵ (fat fullShare table l₅ 0 (machine (tab r v is e))))) (bytes-back 𝓤 H A W (named 0) (α ∷ []) 2048 (tab r v is e) l₅ (tab-long r v is e)) $ await ! tt $
+        move ! (1 ∷ []) $ split ! $ split ! $ lft-end ! tt $ move ! (0 ∷ 4 ∷ []) $ use2 W (later (‵ (fat fullShare table l₅ 0 (machine (tab r v is e))))) (bytes-back 𝓤 H A W (named 0) (α ∷ []) rowLimit (tab r v is e) l₅ (tab-long r v is e)) $ await ! tt $
         -- [the table's cell; the rows' token; the result; the rows' last list; the areas' tokens; the numbers; the bytes; the locals without the table]
         move ! (2 ∷ []) $ peeks ! usize (Is usize) (shows 𝓤 H A usize) m (u ∷ []) (λ is₂.
         land ! (from ! (stop !)) (init ! 18 refl (uint-lawful 𝓤 H A W w64 .typed m _ is₂ .0)) $

@@ -1,5 +1,5 @@
 -- `masses::put` meets its contract. Assumes nothing.
-use mathlib.Core.Path.{_≡_}
+use mathlib.Core.Path.{_≡_, refl}
 use Prim.Native.Nat.{_-_}
 use native.Mathlib.Omega.{arith}
 use borrow.Author.Needs.{needs}
@@ -7,6 +7,7 @@ use lib.ListN.{length}
 use mir.Syntax.{w64}
 use mir.Val.{toZ}
 use mir.ValLaws.{toZ-ofZ}
+use Rattle.scope.specs.Limits.{copyLimit}
 use Rattle.masses.proofs.LedgerLaws.{Putting, putting-start, putting-few, putting-asks, putting-again, putting-end}
 use Rattle.masses.proofs.put.Statement.{statement}
 use Rattle.masses.proofs.put.Tie as tie
@@ -22,29 +23,17 @@ until-requires c κs = (c .pre .few, c .pre .count)
 
 loop-holds : tie.Need-loop-holds Inv-loop μ-loop
 loop-holds c =
-    let long : length (c .before .args .t2) ≡ 8 = search needs in
+    let long : length (c .before .args .t2) ≡ copyLimit = search needs in
     putting-start long (c .before .pre) (toZ-ofZ w64 (c .before .args .m) (c .before .fits .m)) (c .until .ensures)
 
-array-read-wide : tie.Need-array-read-wide Inv-loop μ-loop
-array-read-wide c = omega (arith, putting-few (c .before .loop .inv) (c .loop-test .taken), c .before .loop .inv .from)
+mul-position : tie.Need-mul-position Inv-loop μ-loop
+mul-position c = omega (arith, putting-few (c .before .loop .inv) (c .loop-test .taken), c .before .loop .inv .from)
 
-wide-requires : tie.Need-wide-requires Inv-loop μ-loop
-wide-requires c κs = search needs
+array-read-position : tie.Need-array-read-position Inv-loop μ-loop
+array-read-position c = omega (arith, putting-few (c .before .loop .inv) (c .loop-test .taken), c .before .loop .inv .from)
 
-mul-old : tie.Need-mul-old Inv-loop μ-loop
-mul-old c = omega arith
-
-element-copy-out-old : tie.Need-element-copy-out-old Inv-loop μ-loop
-element-copy-out-old c = omega arith
-
-add-requires : tie.Need-add-requires Inv-loop μ-loop
-add-requires c κs = putting-asks (c .before .before .before .loop .inv) (c .before .before .loop-test .taken) (c .before .wide .ensures .1)
-
-mul-t15 : tie.Need-mul-t15 Inv-loop μ-loop
-mul-t15 c = omega arith
-
-element-set-from-l : tie.Need-element-set-from-l Inv-loop μ-loop
-element-set-from-l c = omega arith
+book-requires : tie.Need-book-requires Inv-loop μ-loop
+book-requires c κs = putting-asks (c .before .before .loop .inv) (c .before .loop-test .taken)
 
 add-j : tie.Need-add-j Inv-loop μ-loop
 add-j c = omega arith
@@ -53,8 +42,7 @@ loop-less : tie.Need-loop-less Inv-loop μ-loop
 loop-less c = omega arith
 
 loop-again : tie.Need-loop-again Inv-loop μ-loop
-loop-again c =
-    putting-again (c .before .before .before .before .loop .inv) (c .before .before .before .loop-test .taken) (c .before .before .wide .ensures .1) (c .before .before .wide .ensures .0) (c .add .ensures)
+loop-again c = putting-again (c .before .before .before .loop .inv) (c .before .before .loop-test .taken) refl (c .book .ensures)
 
 returns : tie.Need-returns Inv-loop μ-loop
 returns c =
@@ -69,13 +57,9 @@ put-spec =
     μ-loop
     until-requires
     loop-holds
-    array-read-wide
-    wide-requires
-    mul-old
-    element-copy-out-old
-    add-requires
-    mul-t15
-    element-set-from-l
+    mul-position
+    array-read-position
+    book-requires
     add-j
     loop-less
     loop-again

@@ -27,7 +27,7 @@ returns-6 c = ap (λ n. pos (10 ^ (decimalLimit - n))) (sym (c .if6 .taken))
 
 returns-7 : tie.Need-returns-7
 returns-7 c =
-    let last : c .before .before .before .before .before .before .args .decimals ≡ 6 = omega arith in
+    let last : c .before .before .before .before .before .before .args .decimals ≡ decimalLimit = omega arith in
     ap (λ n. pos (10 ^ (decimalLimit - n))) (sym last)
 
 pub unit-spec : {M : Type 1} → statement M

@@ -1,3 +1,4 @@
+-- A number up to the cap, taken from 0, fits. Assumes nothing.
 use mathlib.Core.Path.{_≡_, ap, _∙_}
 use Prim.Native.Nat.{ℕ, zero, suc, _≤_}
 use native.Mathlib.Omega.{arith}
@@ -7,14 +8,15 @@ use mir.Val.{SFits, toZ}
 use mir.Facts.{toZ-pos, toZ-ofZ}
 use borrow.Author.Needs.{sfits-of}
 use borrow.Author.Needs.{needs}
+use Rattle.numerals.specs.Numerals.{cap}
 use Rattle.numerals.proofs.with_sign.Statement.{statement}
 use Rattle.numerals.proofs.with_sign.Tie as tie
 
 -- a number that fits, taken from 0
-minus : (m : ℕ) → m ≤ 1000000000000 → pos 0 -ℤ toZ w64 m ≡ negℤ (pos m)
+minus : (m : ℕ) → m ≤ cap → pos 0 -ℤ toZ w64 m ≡ negℤ (pos m)
 minus m h = ap (λ z. pos 0 -ℤ z) (toZ-pos w64 {n = m} (omega arith)) ∙ +ℤ-idl (negℤ (pos m))
 
-minus-fits : (m : ℕ) → m ≤ 1000000000000 → SFits w64 (negℤ (pos m))
+minus-fits : (m : ℕ) → m ≤ cap → SFits w64 (negℤ (pos m))
 minus-fits zero h = search needs
 minus-fits (suc k) h = sfits-of (omega arith)
 

@@ -50,5 +50,5 @@ narrowed-spec =
     tie.close
     (tie.spec Inv-loop μ-loop
     (λ c κs. search needs) loop-holds (λ c. omega (arith, c .before .before .before .pre .0)) (λ c. omega (arith, c .before .before .before .pre .0)) cast-p
-    (λ c. omega (arith, c .before .before .before .before .pre .0)) (λ c. omega (arith, c .before .before .before .before .pre .0)) (λ c. omega arith)
+    (λ c. omega (arith, c .before .before .before .before .pre .0)) (λ c. omega (arith, c .before .before .before .before .pre .0)) (λ c. omega arith) (λ c. omega arith)
     loop-again returns)

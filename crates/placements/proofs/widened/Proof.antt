@@ -1,3 +1,4 @@
+-- `placements::widened` meets its contract. Assumes nothing.
 use mathlib.Core.Path.{_≡_, refl, sym, _∙_}
 use Prim.Native.Nat.{_≤_, _-_}
 use native.Mathlib.Omega.{arith}
@@ -20,6 +21,9 @@ abbrev μ-loop : tie.MeasureT-loop
 loop-holds : tie.Need-loop-holds Inv-loop μ-loop
 loop-holds c = (omega arith, (λ u l. absurd (omega arith)), refl)
 
+mul-wide : tie.Need-mul-wide Inv-loop μ-loop
+mul-wide c = omega arith
+
 array-read-wide : tie.Need-array-read-wide Inv-loop μ-loop
 array-read-wide c = omega arith
 
@@ -40,7 +44,7 @@ loop-less c = omega arith
 
 loop-again : tie.Need-loop-again Inv-loop μ-loop
 loop-again c =
-    let l = c .before .before .loop in (omega arith, same-set (c .before .before .before .args .t1) (l .w .at) (l .s) _ (let e = l .inv .2 in omega arith) (l .inv .1) (c .wide .ensures .0), simp length-set (l .inv .2))
+    let l = c .before .before .loop in (omega arith, same-set (c .before .before .before .args .t1) (l .w .at) (l .s) _ (let e = l .inv .2 in omega arith) (l .inv .1) (c .wide .ensures), simp length-set (l .inv .2))
 
 returns : tie.Need-returns Inv-loop μ-loop
 returns c =
@@ -53,6 +57,7 @@ widened-spec =
     Inv-loop
     μ-loop
     loop-holds
+    mul-wide
     array-read-wide
     wide-requires
     mul-w

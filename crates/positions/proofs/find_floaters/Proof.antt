@@ -20,14 +20,14 @@ brackets-requires c κs = search needs
 loop-holds : tie.Need-loop-holds Inv-loop μ-loop
 loop-holds c = finding-start _ _ _ _ (c .brackets .ensures .0) refl
 
-copies-at-requires : tie.Need-copies-at-requires Inv-loop μ-loop
-copies-at-requires c κs = row (c .before .before .before .before .pre .0) _ (omega arith)
+copies-of-requires : tie.Need-copies-of-requires Inv-loop μ-loop
+copies-of-requires c κs = row (c .before .before .before .before .pre .0) _ (omega arith)
 
 cast-add-copies : tie.Need-cast-add-copies Inv-loop μ-loop
 cast-add-copies c = search needs
 
 add-copies-requires : tie.Need-add-copies-requires Inv-loop μ-loop
-add-copies-requires c κs = finding-few (c .before .before .loop .inv) (c .before .before .before .before .before .pre .1) (c .before .loop-test .taken) (c .copies-at .ensures)
+add-copies-requires c κs = finding-few (c .before .before .loop .inv) (c .before .before .before .before .before .pre .1) (c .before .loop-test .taken) (c .copies-of .ensures)
 
 add-k : tie.Need-add-k Inv-loop μ-loop
 add-k c = search needs
@@ -36,7 +36,7 @@ loop-less : tie.Need-loop-less Inv-loop μ-loop
 loop-less c = omega arith
 
 loop-again : tie.Need-loop-again Inv-loop μ-loop
-loop-again c = finding-next (c .before .before .before .loop .inv) (c .before .before .before .before .before .before .pre .1) (c .before .before .loop-test .taken) (c .before .copies-at .ensures) (c .add-copies .ensures .0) (c .add-copies .ensures .1) (c .add-copies .ensures .2)
+loop-again c = finding-next (c .before .before .before .loop .inv) (c .before .before .before .before .before .before .pre .1) (c .before .before .loop-test .taken) (c .before .copies-of .ensures) (c .add-copies .ensures .0) (c .add-copies .ensures .1) (c .add-copies .ensures .2)
 
 returns : tie.Need-returns Inv-loop μ-loop
 returns c = finding-end (c .before .loop .inv) (c .loop-test .left) (c .before .before .brackets .ensures .0)
@@ -49,7 +49,7 @@ find-floaters-spec =
     μ-loop
     brackets-requires
     loop-holds
-    copies-at-requires
+    copies-of-requires
     cast-add-copies
     add-copies-requires
     add-k

@@ -33,9 +33,6 @@ zero-from-requires-4 c κs =
     let short = line-short (s .pre) in
     omega arith
 
-add-zero-numbers : tie.Need-add-zero-numbers
-add-zero-numbers c = search needs
-
 mul-zero-numbers : tie.Need-mul-zero-numbers
 mul-zero-numbers c = search needs
 
@@ -73,7 +70,6 @@ wipe-spec =
     mul-zero-from
     zero-from-requires-3
     zero-from-requires-4
-    add-zero-numbers
     mul-zero-numbers
     zero-numbers-requires
     same-length

@@ -30,7 +30,7 @@ use sound.Loop.{loop-rule}
 use sound.WpLaws.{fmOf, WpFn-mono}
 use denote.RattleType.{RattleType, owns}
 use denote.Laws.{Is, shows}
-use denote.Memory.{cellAt, pointee}
+use denote.Memory.{cellAt, pointee, mem as in-memory}
 use denote.Plain.{uint-vals, uint-tells, uint-makes, uint-lawful}
 use denote.Builtin.{u8, usize}
 use denote.Ref.{RefT}
@@ -49,7 +49,7 @@ use denote.Triple.Table.{entered, cited}
 use denote.Triple.Walked.{says, needs, Stays, stay-none, stay-none-slice, stay-slice, walkOf, goes-none, goes-none-slice, goes-slice, Walks, ends-at, walked, walk-meets}
 use denote.Triple.Clauses.{ensured, lasts}
 use denote.Exit.{yes}
-use Rattle.scope.specs.Limits.{positionLimit}
+use Rattle.scope.specs.Limits.{rowLimit, positionLimit}
 use Rattle.scope.specs.Positions.{rowsFrom}
 use Rattle.scope.specs.Lists.{laid}
 use Rattle.areas.specs.Floats.{listsIn, Sized}
@@ -76,6 +76,10 @@ use Rattle.rows.proofs.fill_rows.Code.Mir as body
 
 abbrev R : RattleType
 R = S.the-row
+
+-- how far apart the rows lie
+abbrev stride : ℕ
+stride = in-memory R .size
 
 abbrev stayed : Stays (fill-rows.ended .signature .params) (fill-rows.ended .kept)
 stayed = (stay-none-slice (0 ∷ []) tt (plain (λ _. u8)) yes, (stay-none (λ _. usize) yes, (stay-slice (1 ∷ []) tt (plain (λ _. R)), tt)))
@@ -125,7 +129,7 @@ module _ {M : Type 1} (𝓤 : URA M) (H : Heap 𝓤) (A : Atoms 𝓤) (W : Given
   Tab = ShrSlice (named 0) κ u8 .own x₁ (v₁ ∷ [])
 
   abbrev E : ℕ
-  E = cnt * 256
+  E = cnt * positionLimit
 
   abbrev ones : List ℕ
   ones = onesFrom ys 0 E
@@ -145,10 +149,10 @@ module _ {M : Type 1} (𝓤 : URA M) (H : Heap 𝓤) (A : Atoms 𝓤) (W : Given
   abbrev mach : Site → Val
   mach s = LL.val S.the-type S′.the-laws s
 
-  fits-E : (E ≤ 2048) × (E ≤ length ys) × (E ≤ length xs)
+  fits-E : (E ≤ rowLimit) × (E ≤ length ys) × (E ≤ length xs)
   fits-E = (omega (arith, pre .0 .few), omega (arith, pre .0 .few, pre .0 .room), pre .1)
 
-  fits-N : (N ≤ 2048) × (N ≤ length xs)
+  fits-N : (N ≤ rowLimit) × (N ≤ length xs)
   fits-N = (omega (arith, few-ones ys E, fits-E .0), omega (arith, few-ones ys E, fits-E .0, fits-E .2))
 
   length-sites : length sites ≡ N
@@ -256,12 +260,12 @@ module _ {M : Type 1} (𝓤 : URA M) (H : Heap 𝓤) (A : Atoms 𝓤) (W : Given
         drop ! $
         assigns ! (bin ! (load ! (from ! (stop !)) (look ! 14 refl)) (lit ! tt) (record { fits = omega (arith, fits-N .0) })) (from ! (stop !)) (init ! 8 refl (tt, record { fits = omega (arith, fits-N .0) })) $
         assigns ! (bin ! (load ! (from ! (fld ! refl (stop !))) (look-in ! 20 (sub ! 0 refl (whole !)))) (load ! (from ! (stop !)) (look ! 8 refl)) tt) (from ! (stop !)) (init ! 6 refl (tt, tt)) $
-        rewrite ! 6 (λ (t : ℕ). ‵ (fat fullShare tyPtr l₁₀ 0 (vptr b t))) (sym (place-is 2 o i)) refl $
+        rewrite ! 6 (λ (t : ℕ). ‵ (fat fullShare tyPtr l₁₀ 0 (vptr b t))) (sym (place-is stride o i)) refl $
         -- the row at i is taken out, stored to, and put back
         elem-out ! R (Is R) (shows 𝓤 H A R) (LL.vals S.the-type S′.the-laws) (LL.tells S.the-type S′.the-laws) fullShare (F i) i noSite b o (omega (arith, length-F i, fits-N .1)) (λ g.
-        use1 W (‵ (fat fullShare S′.mir b (place 2 o i) (mach (getD (F i) i noSite)))) (W .laws .raw-at fullShare S′.mir b (place 2 o i) (mach (getD (F i) i noSite))) $
+        use1 W (‵ (fat fullShare S′.mir b (place stride o i) (mach (getD (F i) i noSite)))) (W .laws .raw-at fullShare S′.mir b (place stride o i) (mach (getD (F i) i noSite))) $
         assigns ! (of-opd ! (load ! (from ! (stop !)) (look ! 12 refl))) (from ! (hop ! (look ! 8 refl) (stop !))) (store ! 0 refl (LL.lawful S.the-type S′.the-laws 𝓤 H A W .typed (siteOf (P i)) _ (made (P i) r u is e) .0)) $
-        use1 W (‵ (cellAt fullShare (R .mir) (mach (siteOf (P i)) ∷ []) b (place 2 o i))) (W .laws .at-raw fullShare S′.mir b (place 2 o i) (mach (siteOf (P i)))) $
+        use1 W (‵ (cellAt fullShare (R .mir) (mach (siteOf (P i)) ∷ []) b (place stride o i))) (W .laws .at-raw fullShare S′.mir b (place stride o i) (mach (siteOf (P i)))) $
         move ! (1 ∷ []) $ drop ! $ owned ! R (Is R) ((LL.makes S.the-type S′.the-plain) 𝓤 H A) (siteOf (P i)) _ (made (P i) r u is e) $ move ! (1 ∷ 0 ∷ []) $
         elem-put ! R fullShare (F i) i (siteOf (P i)) (mach (siteOf (P i)) ∷ []) b o (omega (arith, length-F i, fits-N .1)) $
         rewrite ! 0 (λ (l : List Site). ‵ (row R fullShare l b o)) (F-next i small) refl $

@@ -26,7 +26,7 @@ rank-at-requires c κs = search needs
 returns : tie.Need-returns Inv-loop μ-loop
 returns c =
     let l = c .before .before in
-    risen-stop (l .before .loop .inv) (l .loop-test .taken) (c .before .rank-at .ensures .0) (c .if1 .taken)
+    risen-stop (l .before .loop .inv) (l .loop-test .taken) (c .before .rank-at .ensures) (c .if1 .taken)
 
 add-k : tie.Need-add-k Inv-loop μ-loop
 add-k c = search needs
@@ -37,7 +37,7 @@ loop-less c = search needs
 loop-again : tie.Need-loop-again Inv-loop μ-loop
 loop-again c =
     let l = c .before .before in
-    risen-more (l .before .loop .inv) (l .loop-test .taken) (c .before .rank-at .ensures .0) (c .if1 .left)
+    risen-more (l .before .loop .inv) (l .loop-test .taken) (c .before .rank-at .ensures) (c .if1 .left)
 
 returns-2 : tie.Need-returns-2 Inv-loop μ-loop
 returns-2 c = risen-end (c .before .loop .inv) (c .loop-test .left)

@@ -10,7 +10,7 @@ rank-at-requires : tie.Need-rank-at-requires
 rank-at-requires c κs = search needs
 
 returns : tie.Need-returns
-returns c = λ ns d k h l. omega (arith, d .sorted _ k h l, c .rank-at .ensures .0)
+returns c = λ ns d k h l. omega (arith, d .sorted _ k h l, c .rank-at .ensures)
 
 returns-2 : tie.Need-returns-2
 returns-2 c = search needs

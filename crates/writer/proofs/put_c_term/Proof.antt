@@ -1,5 +1,6 @@
 use native.Mathlib.Omega.{arith}
 use Rattle.writer.proofs.Storing.{puts-none, puts-of, puts-within, puts-join}
+use Rattle.writer.proofs.Walking.{room-behind}
 use Rattle.writer.proofs.LineLaws.{c-term-none, c-term-below, c-term-some}
 use borrow.Author.Needs.{needs}
 use Rattle.writer.proofs.put_c_term.Statement.{statement}
@@ -29,14 +30,19 @@ returns-2 : tie.Need-returns-2
 returns-2 c =
     let i = c .before .before in
     let s = i .before .before .before .before in
-    puts-of (c-term-below (s .args .bytes .now) (s .args .numbers .now) (i .before .brackets .ensures .0) (s .pre .0) (i .if1 .left) (c .before .rank-at .ensures .0) (c .if2 .taken))
+    puts-of (c-term-below (s .args .bytes .now) (s .args .numbers .now) (i .before .brackets .ensures .0) (s .pre .0) (i .if1 .left) (c .before .rank-at .ensures) (c .if2 .taken))
     (puts-within (omega arith) (puts-none _ _))
 
 put-requires : tie.Need-put-requires
-put-requires c κs = search needs
+put-requires c κs =
+    let s = c .before .before .before .before .before .before .before in
+    omega (arith, s .pre .3 .fits)
 
 put-run-requires : tie.Need-put-run-requires
-put-run-requires c κs = search needs
+put-run-requires c κs =
+    let p = c .before .before .before in
+    let s = p .before .before .before .before .before .before .before .before in
+    (s .pre .0, s .pre .1, s .pre .2, room-behind (omega arith) (p .put .ensures) (s .pre .3))
 
 same-length : tie.Need-same-length
 same-length c = search needs
@@ -50,9 +56,9 @@ returns-3 c =
     let s = i .before .before .before .before in
     let v = w .put-run .ensures in
     puts-of
-    (c-term-some (s .args .bytes .now) (s .args .numbers .now) (i .before .brackets .ensures .0) (s .pre .0) (i .if1 .left) (e .before .rank-at .ensures .0)
-    (e .before .rank-at .ensures .1) (e .if2 .left))
-    (puts-within (omega (arith, v .within, s .pre .0 .bounds .few-brackets)) (puts-join (p .put .ensures) (v .puts)))
+    (c-term-some (s .args .bytes .now) (s .args .numbers .now) (i .before .brackets .ensures .0) (s .pre .0) (i .if1 .left) (e .before .rank-at .ensures)
+    (e .if2 .left))
+    (puts-within (omega (arith, v .within, v .forth)) (puts-join (p .put .ensures) (v .puts)))
 
 pub put-c-term-spec : {M : Type 1} → statement M
 put-c-term-spec =

@@ -1,3 +1,5 @@
+use native.Mathlib.Omega.{arith}
+use Rattle.writer.proofs.Walking.{room-less, room-after}
 use Rattle.writer.proofs.LineLaws.{walks-open, walks-closed}
 use borrow.Author.Needs.{needs}
 use Rattle.writer.proofs.put_closed.Statement.{statement}
@@ -8,7 +10,9 @@ use Rattle.writer.proofs.put.Reads as put-reads
 use Rattle.writer.proofs.put_run.Reads as put-run-reads
 
 put-run-requires : tie.Need-put-run-requires
-put-run-requires c κs = search needs
+put-run-requires c κs =
+    let s = c .before .before .before in
+    (s .pre .0, s .pre .1, s .pre .2, room-less (omega arith) (s .pre .3))
 
 same-length : tie.Need-same-length
 same-length c = search needs
@@ -17,7 +21,10 @@ returns : tie.Need-returns
 returns c = walks-open _ (c .before .before .before .put-run .ensures) (c .if1 .taken)
 
 put-requires : tie.Need-put-requires
-put-requires c κs = search needs
+put-requires c κs =
+    let r = c .before .before .before .before in
+    let s = r .before .before .before .before in
+    omega (arith, room-after {n = 1} (omega arith) (r .put-run .ensures) (s .pre .3) .fits)
 
 same-length-2 : tie.Need-same-length-2
 same-length-2 c = search needs

@@ -1,4 +1,6 @@
 use native.Mathlib.Omega.{arith}
+use Rattle.scope.specs.declared.grammar.Section.the-variants.{RangeFirst, RangeNext, UnsureFirst, UnsureNext}
+use Rattle.scope.specs.Layout.{sectionCode}
 use Rattle.writer.proofs.Storing.{puts-none, puts-within}
 use Rattle.writer.proofs.Walking.{walks-of, walks-still}
 use Rattle.writer.proofs.LineLaws.{ending-of, ending-other}
@@ -19,7 +21,7 @@ same-length c = search needs
 returns : tie.Need-returns
 returns c =
     let p = c .before .before in
-    walks-of (ending-of _ 1 _ (p .before .before .if1 .taken)) (p .put-range-end .ensures)
+    walks-of (ending-of _ (sectionCode RangeFirst) _ (p .before .before .if1 .taken)) (p .put-range-end .ensures)
 
 put-range-end-requires-2 : tie.Need-put-range-end-requires-2
 put-range-end-requires-2 c κs = search needs
@@ -30,10 +32,12 @@ same-length-2 c = search needs
 returns-2 : tie.Need-returns-2
 returns-2 c =
     let p = c .before .before in
-    walks-of (ending-of _ 2 _ (p .before .before .if2 .taken)) (p .put-range-end2 .ensures)
+    walks-of (ending-of _ (sectionCode RangeNext) _ (p .before .before .if2 .taken)) (p .put-range-end2 .ensures)
 
 put-requires : tie.Need-put-requires
-put-requires c κs = search needs
+put-requires c κs =
+    let s = c .before .before .before .before .before .before in
+    omega (arith, s .pre .3 .fits)
 
 same-length-3 : tie.Need-same-length-3
 same-length-3 c = search needs
@@ -43,10 +47,12 @@ returns-3 c =
     let p = c .before .before in
     let i = p .before .before in
     let s = i .before .before .before .before .before in
-    walks-of (ending-of _ 3 _ (i .if3 .taken)) (walks-still (p .put .ensures) (s .pre .1) (λ k l. omega (arith, s .pre .2 k l)))
+    walks-of (ending-of _ (sectionCode UnsureFirst) _ (i .if3 .taken)) (walks-still (p .put .ensures) (s .pre .1) (λ k l. omega (arith, s .pre .2 k l)))
 
 put-requires-2 : tie.Need-put-requires-2
-put-requires-2 c κs = search needs
+put-requires-2 c κs =
+    let s = c .before .before .before .before .before .before .before in
+    omega (arith, s .pre .3 .fits)
 
 same-length-4 : tie.Need-same-length-4
 same-length-4 c = search needs
@@ -56,7 +62,7 @@ returns-4 c =
     let p = c .before .before in
     let i = p .before .before in
     let s = i .before .before .before .before .before .before in
-    walks-of (ending-of _ 4 _ (i .if4 .taken)) (walks-still (p .put2 .ensures) (s .pre .1) (λ k l. omega (arith, s .pre .2 k l)))
+    walks-of (ending-of _ (sectionCode UnsureNext) _ (i .if4 .taken)) (walks-still (p .put2 .ensures) (s .pre .1) (λ k l. omega (arith, s .pre .2 k l)))
 
 returns-5 : tie.Need-returns-5
 returns-5 c =

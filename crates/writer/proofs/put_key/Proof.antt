@@ -71,7 +71,7 @@ returns-2 : tie.Need-returns-2
 unfolding written spell keys
 returns-2 c =
     let w = c .before .before in
-    puts-of (spelled _ 1 (w .before .before .before .match .keys2)) (w .word .ensures)
+    puts-of (spelled _ 1 (w .before .before .before .match .keys2)) (puts-within (omega arith) (w .word .ensures))
 
 same-length-2 : tie.Need-same-length-2
 same-length-2 c = search needs
@@ -80,7 +80,7 @@ returns-3 : tie.Need-returns-3
 unfolding written spell keys
 returns-3 c =
     let w = c .before .before in
-    puts-of (spelled _ 2 (w .before .before .before .match .keys3)) (w .word2 .ensures)
+    puts-of (spelled _ 2 (w .before .before .before .match .keys3)) (puts-within (omega arith) (w .word2 .ensures))
 
 same-length-3 : tie.Need-same-length-3
 same-length-3 c = search needs
@@ -89,7 +89,7 @@ returns-4 : tie.Need-returns-4
 unfolding written spell keys
 returns-4 c =
     let w = c .before .before in
-    puts-of (spelled _ 3 (w .before .before .before .match .keys4)) (w .word3 .ensures)
+    puts-of (spelled _ 3 (w .before .before .before .match .keys4)) (puts-within (omega arith) (w .word3 .ensures))
 
 same-length-4 : tie.Need-same-length-4
 same-length-4 c = search needs
@@ -98,7 +98,7 @@ returns-5 : tie.Need-returns-5
 unfolding written spell keys
 returns-5 c =
     let w = c .before .before in
-    puts-of (spelled _ 4 (w .before .before .before .match .keys5)) (w .word4 .ensures)
+    puts-of (spelled _ 4 (w .before .before .before .match .keys5)) (puts-within (omega arith) (w .word4 .ensures))
 
 same-length-5 : tie.Need-same-length-5
 same-length-5 c = search needs
@@ -107,7 +107,7 @@ returns-6 : tie.Need-returns-6
 unfolding written spell keys
 returns-6 c =
     let w = c .before .before in
-    puts-of (spelled _ 5 (w .before .before .before .match .keys6)) (w .word5 .ensures)
+    puts-of (spelled _ 5 (w .before .before .before .match .keys6)) (puts-within (omega arith) (w .word5 .ensures))
 
 same-length-6 : tie.Need-same-length-6
 same-length-6 c = search needs
@@ -116,7 +116,7 @@ returns-7 : tie.Need-returns-7
 unfolding written spell keys
 returns-7 c =
     let w = c .before .before in
-    puts-of (spelled _ 6 (w .before .before .before .match .keys7)) (w .word6 .ensures)
+    puts-of (spelled _ 6 (w .before .before .before .match .keys7)) (puts-within (omega arith) (w .word6 .ensures))
 
 same-length-7 : tie.Need-same-length-7
 same-length-7 c = search needs
@@ -125,7 +125,7 @@ returns-8 : tie.Need-returns-8
 unfolding written spell keys
 returns-8 c =
     let w = c .before .before in
-    puts-of (spelled _ 7 (w .before .before .before .match .keys8)) (w .word7 .ensures)
+    puts-of (spelled _ 7 (w .before .before .before .match .keys8)) (puts-within (omega arith) (w .word7 .ensures))
 
 same-length-8 : tie.Need-same-length-8
 same-length-8 c = search needs

@@ -1,5 +1,6 @@
+use native.Mathlib.Omega.{arith}
 use Rattle.scope.specs.Keys.{written, spell, keys}
-use Rattle.writer.proofs.Storing.{puts-of}
+use Rattle.writer.proofs.Storing.{puts-of, puts-within}
 use Rattle.writer.proofs.PartTexts.{spelled}
 use borrow.Author.Needs.{needs}
 use Rattle.writer.proofs.put_key_word.Statement.{statement}
@@ -55,7 +56,7 @@ returns : tie.Need-returns
 unfolding written spell keys
 returns c =
     let w = c .before .before in
-    puts-of (spelled _ 8 (w .before .before .before .match .keys1)) (w .word .ensures)
+    puts-of (spelled _ 8 (w .before .before .before .match .keys1)) (puts-within (omega arith) (w .word .ensures))
 
 same-length-2 : tie.Need-same-length-2
 same-length-2 c = search needs
@@ -64,7 +65,7 @@ returns-2 : tie.Need-returns-2
 unfolding written spell keys
 returns-2 c =
     let w = c .before .before in
-    puts-of (spelled _ 9 (w .before .before .before .match .keys2)) (w .word2 .ensures)
+    puts-of (spelled _ 9 (w .before .before .before .match .keys2)) (puts-within (omega arith) (w .word2 .ensures))
 
 same-length-3 : tie.Need-same-length-3
 same-length-3 c = search needs
@@ -73,7 +74,7 @@ returns-3 : tie.Need-returns-3
 unfolding written spell keys
 returns-3 c =
     let w = c .before .before in
-    puts-of (spelled _ 10 (w .before .before .before .match .keys3)) (w .word3 .ensures)
+    puts-of (spelled _ 10 (w .before .before .before .match .keys3)) (puts-within (omega arith) (w .word3 .ensures))
 
 same-length-4 : tie.Need-same-length-4
 same-length-4 c = search needs
@@ -82,7 +83,7 @@ returns-4 : tie.Need-returns-4
 unfolding written spell keys
 returns-4 c =
     let w = c .before .before in
-    puts-of (spelled _ 11 (w .before .before .before .match .keys4)) (w .word4 .ensures)
+    puts-of (spelled _ 11 (w .before .before .before .match .keys4)) (puts-within (omega arith) (w .word4 .ensures))
 
 same-length-5 : tie.Need-same-length-5
 same-length-5 c = search needs
@@ -91,7 +92,7 @@ returns-5 : tie.Need-returns-5
 unfolding written spell keys
 returns-5 c =
     let w = c .before .before in
-    puts-of (spelled _ 12 (w .before .before .before .match .keys5)) (w .word5 .ensures)
+    puts-of (spelled _ 12 (w .before .before .before .match .keys5)) (puts-within (omega arith) (w .word5 .ensures))
 
 same-length-6 : tie.Need-same-length-6
 same-length-6 c = search needs
@@ -100,7 +101,7 @@ returns-6 : tie.Need-returns-6
 unfolding written spell keys
 returns-6 c =
     let w = c .before .before in
-    puts-of (spelled _ 13 (w .before .before .before .match .keys6)) (w .word6 .ensures)
+    puts-of (spelled _ 13 (w .before .before .before .match .keys6)) (puts-within (omega arith) (w .word6 .ensures))
 
 same-length-7 : tie.Need-same-length-7
 same-length-7 c = search needs

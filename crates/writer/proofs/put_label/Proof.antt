@@ -1,36 +1,22 @@
-use mathlib.Core.Path.{_∙_}
+-- Nothing where there is no label, else `#`, the label behind the text, and its score. Assumes nothing.
 use native.Mathlib.Omega.{arith}
 use Rattle.writer.proofs.Storing.{puts-none, puts-of, puts-join, puts-within, puts-under}
 use Rattle.writer.proofs.PartTexts.{label-none, label-some}
 use borrow.Author.Needs.{needs}
 use Rattle.writer.proofs.put_label.Statement.{statement}
 use Rattle.writer.proofs.put_label.Tie as tie
-use Rattle.writer.proofs.put_label.Reads as reads
-use Rattle.writer.proofs.put_label.Lts as lts
-use Rattle.areas.proofs.part_byte.Reads as part-byte-reads
-use Rattle.areas.proofs.wide.Reads as wide-reads
-use Rattle.writer.proofs.copy.Reads as copy-reads
-use Rattle.writer.proofs.put.Reads as put-reads
-use Rattle.writer.proofs.put_scored.Reads as put-scored-reads
-use Rattle.writer.proofs.text_from.Reads as text-from-reads
 
-part-byte-requires : tie.Need-part-byte-requires
-part-byte-requires c κs = search needs
-
-wide-requires : tie.Need-wide-requires
-wide-requires c κs = search needs
+label-length-requires : tie.Need-label-length-requires
+label-length-requires c κs = search needs
 
 returns : tie.Need-returns
 returns c =
-    let a = c .before .before .before .before .before .args in
-    puts-of (label-none (a .bytes .now) (a .numbers .now) (a .k) (a .j) (c .before .wide .ensures .0 ∙ c .before .before .part-byte .ensures) (c .if1 .taken))
-    (puts-within (omega arith) (puts-none _ _))
+    let n = c .before in
+    let a = n .before .before .before .args in
+    puts-of (label-none (a .bytes .now) (a .numbers .now) (a .k) (a .j) (n .label-length .ensures .0) (c .if1 .taken)) (puts-within (omega arith) (puts-none _ _))
 
-part-byte-requires-2 : tie.Need-part-byte-requires-2
-part-byte-requires-2 c κs = search needs
-
-wide-requires-2 : tie.Need-wide-requires-2
-wide-requires-2 c κs = search needs
+text-length-requires : tie.Need-text-length-requires
+text-length-requires c κs = search needs
 
 text-from-requires : tie.Need-text-from-requires
 text-from-requires c κs = search needs
@@ -52,26 +38,27 @@ same-length c = search needs
 
 returns-2 : tie.Need-returns-2
 returns-2 c =
-    let p = c .before .before in
-    let s = p .before .before .before .before in
-    let q = s .before .before .before .before in
-    let f = q .before .before in
-    let i = f .before .before .before in
-    let a = i .before .before .before .before .before .args in
+    let scored = c .before .before in
+    let name = scored .before .before .before .before in
+    let hash = name .before .before .before .before in
+    let from = hash .before .before in
+    let t = from .before in
+    let i = t .before in
+    let n = i .before in
+    let s = n .before .before .before in
+    let a = s .args in
+    let long = n .label-length .ensures .0 in
     puts-of
-    (label-some (a .bytes .now) (a .numbers .now) (a .k) (a .j) (i .before .wide .ensures .0 ∙ i .before .before .part-byte .ensures) (i .if1 .left)
-    (f .before .wide2 .ensures .0 ∙ f .before .before .part-byte2 .ensures) (f .text-from .ensures))
-    (puts-join (q .put .ensures) (puts-join (puts-under (i .before .wide .ensures .0 ∙ i .before .before .part-byte .ensures) (i .before .before .before .before .before .pre .0 .bounds .short-label) (s .copy .ensures)) (p .put-scored .ensures)))
+    (label-some (a .bytes .now) (a .numbers .now) (a .k) (a .j) long (i .if1 .left) (t .text-length .ensures .0) (from .text-from .ensures))
+    (puts-join (hash .put .ensures) (puts-join (puts-under long (s .pre .0 .bounds .short-label) (name .copy .ensures)) (scored .put-scored .ensures)))
 
 pub put-label-spec : {M : Type 1} → statement M
 put-label-spec =
     tie.close
     (tie.spec
-    part-byte-requires
-    wide-requires
+    label-length-requires
     returns
-    part-byte-requires-2
-    wide-requires-2
+    text-length-requires
     text-from-requires
     put-requires
     add-copy

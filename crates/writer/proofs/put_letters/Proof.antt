@@ -1,3 +1,4 @@
+-- The invariant: the residues from p up to i stand by themselves and are written. Assumes nothing.
 use Prim.Native.Nat.{_-_}
 use native.Mathlib.Omega.{arith}
 use borrow.Author.Needs.{needs}
@@ -17,8 +18,8 @@ loop-holds c = lettered-start _ _ _ _ _ _
 is-bare-requires : tie.Need-is-bare-requires Inv-loop μ-loop
 is-bare-requires c κs = search needs
 
-letter-at-requires : tie.Need-letter-at-requires Inv-loop μ-loop
-letter-at-requires c κs =
+letter-requires : tie.Need-letter-requires Inv-loop μ-loop
+letter-requires c κs =
     let i = c .before .before in
     let s = i .before .before .before .before in
     (s .pre .0, omega (arith, i .is-bare .ensures (c .before .if1 .taken) .here, s .pre .1))
@@ -27,7 +28,8 @@ put-requires : tie.Need-put-requires Inv-loop μ-loop
 put-requires c κs =
     let i = c .before .before .before in
     let s = i .before .before .before .before in
-    omega (arith, i .is-bare .ensures (c .before .before .if1 .taken) .here, i .before .loop .inv .near, s .pre .1, s .pre .2)
+    let l = i .before .loop .inv in
+    omega (arith, i .is-bare .ensures (c .before .before .if1 .taken) .here, l .forth, l .near, s .pre .2)
 
 add-i : tie.Need-add-i Inv-loop μ-loop
 add-i c =
@@ -45,7 +47,7 @@ loop-again c =
     let p = c .before .before in
     let l = p .before in
     let t = l .before .before in
-    lettered-more _ _ _ _ _ _ (t .before .before .loop .inv) (t .before .is-bare .ensures (t .if1 .taken)) (l .letter-at .ensures) (p .put .ensures)
+    lettered-more _ _ _ _ _ _ (t .before .before .loop .inv) (t .before .is-bare .ensures (t .if1 .taken)) (l .letter .ensures) (p .put .ensures)
 
 same-length : tie.Need-same-length Inv-loop μ-loop
 same-length c = c .before .before .loop .inv .kept
@@ -61,7 +63,7 @@ put-letters-spec =
     μ-loop
     loop-holds
     is-bare-requires
-    letter-at-requires
+    letter-requires
     put-requires
     add-i
     loop-less

@@ -1,12 +1,21 @@
+-- A sign, then the size. Assumes nothing.
+use mathlib.Core.Path.{ap, _∙_}
+use Prim.Native.Nat.{_-_, _/_, _^_}
+use lib.IntN.{natAbs}
+use mir.Facts.{toZ-ofZ}
+use Rattle.scope.specs.Limits.{decimalLimit}
+use Rattle.scope.specs.Layout.{isNegative}
 use Rattle.writer.proofs.Storing.{puts-of, puts-join}
 use Rattle.writer.proofs.Digits.{number-text}
 use borrow.Author.Needs.{needs}
 use Rattle.writer.proofs.put_number.Statement.{statement}
 use Rattle.writer.proofs.put_number.Tie as tie
-use Rattle.writer.proofs.put_number.Reads as reads
-use Rattle.writer.proofs.put_number.Lts as lts
-use Rattle.writer.proofs.put_sign.Reads as put-sign-reads
-use Rattle.writer.proofs.put_size.Reads as put-size-reads
+
+is-minus-requires : tie.Need-is-minus-requires
+is-minus-requires c κs = search needs
+
+digits-of-requires : tie.Need-digits-of-requires
+digits-of-requires c κs = search needs
 
 put-sign-requires : tie.Need-put-sign-requires
 put-sign-requires c κs = search needs
@@ -19,10 +28,17 @@ same-length c = search needs
 
 returns : tie.Need-returns
 returns c =
-    let p = c .before .before in
-    let q = p .before .before .before .before in
-    let a = q .before .before .before .args in
-    puts-of (number-text (a .always) (a .minus) (a .n) (a .d)) (puts-join (q .put-sign .ensures) (p .put-size .ensures))
+    let z = c .before .before in
+    let q = z .before .before .before .before in
+    let d = q .before .before in
+    let s = d .before .before .before in
+    let a = s .args in
+    let back = toZ-ofZ (s .fits .m) in
+    puts-of
+    (number-text (a .always) (a .m) (a .d) (d .before .is-minus .ensures ∙ ap isNegative back)
+    (d .digits-of .ensures ∙ ap (λ m. natAbs m / 10 ^ (decimalLimit - a .d)) back))
+    (puts-join (q .put-sign .ensures) (z .put-size .ensures))
 
 pub put-number-spec : {M : Type 1} → statement M
-put-number-spec = tie.close (tie.spec put-sign-requires put-size-requires same-length returns)
+put-number-spec =
+    tie.close (tie.spec is-minus-requires digits-of-requires put-sign-requires put-size-requires same-length returns)

@@ -1,4 +1,6 @@
 use native.Mathlib.Omega.{arith}
+use Rattle.scope.specs.declared.grammar.Section.the-variants.{RangeFirst, UnsureFirst}
+use Rattle.scope.specs.Layout.{sectionCode}
 use Rattle.writer.proofs.Storing.{puts-none, puts-of, puts-within, puts-join}
 use Rattle.writer.proofs.LineLaws.{opening-of, opening-other}
 use borrow.Author.Needs.{needs}
@@ -17,7 +19,7 @@ same-length c = search needs
 returns : tie.Need-returns
 returns c =
     let p = c .before .before in
-    puts-of (opening-of _ 1 (p .before .before .if1 .taken)) (puts-within (omega arith) (p .put .ensures))
+    puts-of (opening-of _ (sectionCode RangeFirst) (p .before .before .if1 .taken)) (puts-within (omega arith) (p .put .ensures))
 
 put-requires-2 : tie.Need-put-requires-2
 put-requires-2 c κs = search needs
@@ -32,7 +34,7 @@ returns-2 : tie.Need-returns-2
 returns-2 c =
     let p = c .before .before in
     let q = p .before .before .before .before in
-    puts-of (opening-of _ 3 (q .before .before .if2 .taken)) (puts-join (q .put2 .ensures) (p .put3 .ensures))
+    puts-of (opening-of _ (sectionCode UnsureFirst) (q .before .before .if2 .taken)) (puts-join (q .put2 .ensures) (p .put3 .ensures))
 
 returns-3 : tie.Need-returns-3
 returns-3 c = puts-of (opening-other _ (c .before .if1 .left) (c .if2 .left)) (puts-within (omega arith) (puts-none _ _))

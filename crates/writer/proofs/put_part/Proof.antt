@@ -1,22 +1,12 @@
-use mathlib.Core.Path.{_∙_}
+-- Its key, its value and its label, one behind the other. Assumes nothing.
 use Rattle.writer.proofs.Storing.{puts-of, puts-join}
 use Rattle.writer.proofs.PartTexts.{part-text}
 use borrow.Author.Needs.{needs}
 use Rattle.writer.proofs.put_part.Statement.{statement}
 use Rattle.writer.proofs.put_part.Tie as tie
-use Rattle.writer.proofs.put_part.Reads as reads
-use Rattle.writer.proofs.put_part.Lts as lts
-use Rattle.areas.proofs.part_byte.Reads as part-byte-reads
-use Rattle.areas.proofs.wide.Reads as wide-reads
-use Rattle.writer.proofs.put_key.Reads as put-key-reads
-use Rattle.writer.proofs.put_label.Reads as put-label-reads
-use Rattle.writer.proofs.put_value.Reads as put-value-reads
 
-part-byte-requires : tie.Need-part-byte-requires
-part-byte-requires c κs = search needs
-
-wide-requires : tie.Need-wide-requires
-wide-requires c κs = search needs
+key-requires : tie.Need-key-requires
+key-requires c κs = search needs
 
 put-key-requires : tie.Need-put-key-requires
 put-key-requires c κs = search needs
@@ -32,22 +22,14 @@ same-length c = search needs
 
 returns : tie.Need-returns
 returns c =
-    let p = c .before .before in
-    let v = p .before .before .before .before in
-    let q = v .before .before .before .before in
-    let w = q .before .before in
-    let a = w .before .before .before .before .args in
-    puts-of (part-text (a .bytes .now) (a .numbers .now) (a .k) (a .j) (w .wide .ensures .0 ∙ w .before .part-byte .ensures))
-    (puts-join (q .put-key .ensures) (puts-join (v .put-value .ensures) (p .put-label .ensures)))
+    let label = c .before .before in
+    let value = label .before .before .before .before in
+    let key = value .before .before .before .before in
+    let code = key .before .before in
+    let a = code .before .before .before .args in
+    puts-of (part-text (a .bytes .now) (a .numbers .now) (a .k) (a .j) (code .key .ensures .0))
+    (puts-join (key .put-key .ensures) (puts-join (value .put-value .ensures) (label .put-label .ensures)))
 
 pub put-part-spec : {M : Type 1} → statement M
 put-part-spec =
-    tie.close
-    (tie.spec
-    part-byte-requires
-    wide-requires
-    put-key-requires
-    put-value-requires
-    put-label-requires
-    same-length
-    returns)
+    tie.close (tie.spec key-requires put-key-requires put-value-requires put-label-requires same-length returns)

@@ -1,5 +1,5 @@
 use native.Mathlib.Omega.{arith}
-use Rattle.writer.proofs.Walking.{walks-after, walks-up}
+use Rattle.writer.proofs.Walking.{walks-after, walks-up, room-behind}
 use borrow.Author.Needs.{needs}
 use Rattle.writer.proofs.put_range_end.Statement.{statement}
 use Rattle.writer.proofs.put_range_end.Tie as tie
@@ -9,7 +9,9 @@ use Rattle.writer.proofs.put.Reads as put-reads
 use Rattle.writer.proofs.put_run.Reads as put-run-reads
 
 put-requires : tie.Need-put-requires
-put-requires c κs = search needs
+put-requires c κs =
+    let s = c .before .before .before in
+    omega (arith, s .pre .3 .fits)
 
 mul-put-run : tie.Need-mul-put-run
 mul-put-run c = search needs
@@ -18,7 +20,10 @@ add-put-run : tie.Need-add-put-run
 add-put-run c = search needs
 
 put-run-requires : tie.Need-put-run-requires
-put-run-requires c κs = search needs
+put-run-requires c κs =
+    let q = c .before .before .before in
+    let s = q .before .before .before .before in
+    (s .pre .0, s .pre .1, s .pre .2, room-behind (omega arith) (q .put .ensures) (s .pre .3))
 
 same-length : tie.Need-same-length
 same-length c = search needs

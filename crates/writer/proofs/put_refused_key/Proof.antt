@@ -41,7 +41,7 @@ returns : tie.Need-returns
 unfolding written spell keys
 returns c =
     let w = c .before .before in
-    puts-of (spelled _ 14 (w .before .before .before .match .keys1)) (w .word .ensures)
+    puts-of (spelled _ 14 (w .before .before .before .match .keys1)) (puts-within (omega arith) (w .word .ensures))
 
 same-length-2 : tie.Need-same-length-2
 same-length-2 c = search needs
@@ -50,7 +50,7 @@ returns-2 : tie.Need-returns-2
 unfolding written spell keys
 returns-2 c =
     let w = c .before .before in
-    puts-of (spelled _ 15 (w .before .before .before .match .keys2)) (w .word2 .ensures)
+    puts-of (spelled _ 15 (w .before .before .before .match .keys2)) (puts-within (omega arith) (w .word2 .ensures))
 
 same-length-3 : tie.Need-same-length-3
 same-length-3 c = search needs
@@ -59,7 +59,7 @@ returns-3 : tie.Need-returns-3
 unfolding written spell keys
 returns-3 c =
     let w = c .before .before in
-    puts-of (spelled _ 16 (w .before .before .before .match .keys3)) (w .word3 .ensures)
+    puts-of (spelled _ 16 (w .before .before .before .match .keys3)) (puts-within (omega arith) (w .word3 .ensures))
 
 same-length-4 : tie.Need-same-length-4
 same-length-4 c = search needs
@@ -68,7 +68,7 @@ returns-4 : tie.Need-returns-4
 unfolding written spell keys
 returns-4 c =
     let w = c .before .before in
-    puts-of (spelled _ 17 (w .before .before .before .match .keys4)) (w .word4 .ensures)
+    puts-of (spelled _ 17 (w .before .before .before .match .keys4)) (puts-within (omega arith) (w .word4 .ensures))
 
 returns-5 : tie.Need-returns-5
 returns-5 c =

@@ -1,34 +1,32 @@
+-- What opens a group, the letter, the brackets on the residue, and what closes the group where it does not go on. Assumes nothing.
 use Prim.Native.Nat.{_+_, _-_}
 use Rattle.scope.specs.Lists.{tabled}
 use Rattle.scope.specs.Layout.{residueIn, tablesIn}
 use mathlib.Core.Path.{sym, _∙_}
 use native.Mathlib.Omega.{arith}
-use Rattle.writer.proofs.Walking.{walks-of, walks-up, walks-after, walks-then}
+use Rattle.writer.specs.Written.{residueMost}
+use Rattle.writer.proofs.Walking.{walks-of, walks-up, walks-after, walks-then, room-behind, room-after}
 use Rattle.writer.proofs.LineLaws.{residue-on, residue-off}
 use borrow.Author.Needs.{needs}
 use Rattle.writer.proofs.put_residue.Statement.{statement}
 use Rattle.writer.proofs.put_residue.Tie as tie
-use Rattle.writer.proofs.put_residue.Reads as reads
-use Rattle.writer.proofs.put_residue.Lts as lts
-use Rattle.writer.proofs.goes_on.Reads as goes-on-reads
-use Rattle.writer.proofs.letter_at.Reads as letter-at-reads
-use Rattle.writer.proofs.put.Reads as put-reads
-use Rattle.writer.proofs.put_ending.Reads as put-ending-reads
-use Rattle.writer.proofs.put_opening.Reads as put-opening-reads
-use Rattle.writer.proofs.put_run.Reads as put-run-reads
-use Rattle.writer.proofs.section_at.Reads as section-at-reads
 
-section-at-requires : tie.Need-section-at-requires
-section-at-requires c κs = search needs
+section-requires : tie.Need-section-requires
+section-requires c κs = search needs
 
-letter-at-requires : tie.Need-letter-at-requires
-letter-at-requires c κs = search needs
+letter-requires : tie.Need-letter-requires
+letter-requires c κs = search needs
 
 put-opening-requires : tie.Need-put-opening-requires
-put-opening-requires c κs = search needs
+put-opening-requires c κs =
+    let s = c .before .before .before .before .before in
+    omega (arith, s .pre .3 .fits)
 
 put-requires : tie.Need-put-requires
-put-requires c κs = search needs
+put-requires c κs =
+    let q = c .before .before .before in
+    let s = q .before .before .before .before .before .before in
+    omega (arith, q .put-opening .ensures .near, s .pre .3 .fits)
 
 mul-put-run : tie.Need-mul-put-run
 mul-put-run c = search needs
@@ -37,7 +35,12 @@ add-put-run : tie.Need-add-put-run
 add-put-run c = search needs
 
 put-run-requires : tie.Need-put-run-requires
-put-run-requires c κs = search needs
+put-run-requires c κs =
+    let p = c .before .before .before in
+    let q = p .before .before .before .before in
+    let s = q .before .before .before .before .before .before in
+    let opened = room-behind {n = 2} (omega arith) (q .put-opening .ensures) (s .pre .3) in
+    (s .pre .0, s .pre .1, s .pre .2, room-behind (omega arith) (p .put .ensures) opened)
 
 add-goes-on : tie.Need-add-goes-on
 add-goes-on c = search needs
@@ -57,7 +60,7 @@ returns c =
     let l = q .before .before in
     let s = l .before .before .before .before in
     let a = s .args in
-    walks-of (residue-on (a .bytes .now) (tablesIn (a .bytes .now) (a .numbers .now) .brackets) (a .p) (tabled (residueIn (a .bytes .now)) (a .p + 1) (a .n - (a .p + 1))) (l .before .section-at .ensures) (l .letter-at .ensures) (sym (g .goes-on .ensures) ∙ c .if1 .taken))
+    walks-of (residue-on (a .bytes .now) (tablesIn (a .bytes .now) (a .numbers .now) .brackets) (a .p) (tabled (residueIn (a .bytes .now)) (a .p + 1) (a .n - (a .p + 1))) (l .before .section .ensures .0) (l .letter .ensures) (sym (g .goes-on .ensures) ∙ c .if1 .taken))
     (walks-up (omega arith) (omega arith) (walks-after 3 (omega arith) (q .put-opening .ensures) (walks-after 1 (omega arith) (p .put .ensures) (w .put-run .ensures))))
 
 add-put-ending : tie.Need-add-put-ending
@@ -72,11 +75,12 @@ put-ending-requires c κs =
     let l = q .before .before in
     let s = l .before .before .before .before in
     let b = s .pre .0 .bounds in
+    let opened = room-behind {n = 2} (omega arith) (q .put-opening .ensures) (s .pre .3) in
     let v = w .put-run .ensures in (
       s .pre .0,
       v .within,
       (λ k h. omega (arith, v .below k h)),
-      omega (arith, v .puts .near, v .within, b .few-brackets, p .put .ensures .near, q .put-opening .ensures .near),
+      room-after (omega arith) v (room-behind {n = 1} (omega arith) (p .put .ensures) opened),
       omega (arith, b .few-residues, s .pre .4, s .pre .5),
     )
 
@@ -94,15 +98,15 @@ returns-2 c =
     let s = l .before .before .before .before in
     let b = s .pre .0 .bounds in
     let a = s .args in
-    walks-of (residue-off (a .bytes .now) (tablesIn (a .bytes .now) (a .numbers .now) .brackets) (a .p) (tabled (residueIn (a .bytes .now)) (a .p + 1) (a .n - (a .p + 1))) (l .before .section-at .ensures) (l .letter-at .ensures) (omega (arith, b .few-residues, s .pre .4, s .pre .5)) (sym (g .goes-on .ensures) ∙ n .before .before .if1 .left))
-    (walks-then 4 (omega arith) (walks-after 3 (omega arith) (q .put-opening .ensures) (walks-after 1 (omega arith) (p .put .ensures) (w .put-run .ensures))) (n .put-ending .ensures))
+    walks-of (residue-off (a .bytes .now) (tablesIn (a .bytes .now) (a .numbers .now) .brackets) (a .p) (tabled (residueIn (a .bytes .now)) (a .p + 1) (a .n - (a .p + 1))) (l .before .section .ensures .0) (l .letter .ensures) (omega (arith, b .few-residues, s .pre .4, s .pre .5)) (sym (g .goes-on .ensures) ∙ n .before .before .if1 .left))
+    (walks-then residueMost (omega arith) (walks-after 3 (omega arith) (q .put-opening .ensures) (walks-after 1 (omega arith) (p .put .ensures) (w .put-run .ensures))) (n .put-ending .ensures))
 
 pub put-residue-spec : {M : Type 1} → statement M
 put-residue-spec =
     tie.close
     (tie.spec
-    section-at-requires
-    letter-at-requires
+    section-requires
+    letter-requires
     put-opening-requires
     put-requires
     mul-put-run

@@ -3,6 +3,7 @@ use Prim.Native.Nat.{_-_}
 use native.Mathlib.Omega.{arith}
 use Rattle.writer.proofs.Storing.{puts-length}
 use Rattle.writer.proofs.RankLaws.{bracket-here}
+use Rattle.writer.proofs.Walking.{room-one}
 use Rattle.writer.proofs.RunLaws.{Running, run-start, run-more, run-stop, run-over}
 use Rattle.writer.proofs.put_run.Statement.{statement}
 use Rattle.writer.proofs.put_run.Tie as tie
@@ -39,7 +40,7 @@ returns : tie.Need-returns Inv-loop μ-loop
 returns c =
     let l = c .before .before in
     let s = l .before .before .before .before .before in
-    run-stop _ _ _ _ _ _ _ _ (l .before .loop .inv) (s .pre .0) (l .loop-test .taken) (c .before .rank-at .ensures .0) (c .if1 .taken)
+    run-stop _ _ _ _ _ _ _ _ (l .before .loop .inv) (s .pre .0) (l .loop-test .taken) (c .before .rank-at .ensures) (c .if1 .taken)
 
 put-ranked-requires : tie.Need-put-ranked-requires Inv-loop μ-loop
 put-ranked-requires c κs =
@@ -49,7 +50,7 @@ put-ranked-requires c κs =
     let b = s .pre .0 .bounds in
     let i = l .before .loop .inv in
     let e = l .before .before .brackets .ensures .0 in
-    (bracket-here _ _ _ b (omega (arith, e)), r .rank-at .ensures .0, omega (arith, i .puts .near, i .within, b .few-brackets, e))
+    (bracket-here _ _ _ b (omega (arith, e)), r .rank-at .ensures, room-one (i .forth) (omega (arith, e)) (i .puts) (s .pre .3))
 
 add-j : tie.Need-add-j Inv-loop μ-loop
 add-j c = search needs
@@ -62,7 +63,7 @@ loop-again c =
     let p = c .before .before in
     let r = p .before .before .before in
     let l = r .before in
-    run-more _ _ _ _ _ _ _ _ (l .before .loop .inv) (l .loop-test .taken) (r .rank-at .ensures .0) (p .before .before .if1 .left) (p .put-ranked .ensures)
+    run-more _ _ _ _ _ _ _ _ (l .before .loop .inv) (l .loop-test .taken) (r .rank-at .ensures) (p .before .before .if1 .left) (p .put-ranked .ensures)
 
 same-length-2 : tie.Need-same-length-2 Inv-loop μ-loop
 same-length-2 c = puts-length (c .before .loop .inv .puts)

@@ -1,9 +1,9 @@
 use borrow.Author.Needs.{needs}
-use Prim.Native.Nat.{_-_}
+use Prim.Native.Nat.{_+_, _-_}
 use native.Mathlib.Omega.{arith}
 use Rattle.writer.specs.Ranks.{Spelt}
 use Rattle.writer.proofs.Storing.{puts-none, puts-length}
-use Rattle.writer.proofs.Walking.{walks-still}
+use Rattle.writer.proofs.Walking.{walks-still, room-after}
 use Rattle.writer.proofs.LineLaws.{spelt-start, spelt-more, spelt-over}
 use Rattle.writer.proofs.put_sequence.Statement.{statement}
 use Rattle.writer.proofs.put_sequence.Tie as tie
@@ -33,7 +33,9 @@ put-residue-requires c κs =
     let s = r .before .before .before in
     let b = s .pre .0 .bounds in
     let w = l .loop .inv .walks in
-    (s .pre .0, w .within, w .below, omega (arith, w .puts .near, w .within, b .few-brackets, b .few-residues, r .residues .ensures .0), r .residues .ensures .0, c .before .loop-test .taken)
+    let e = r .residues .ensures .0 in
+    let t = c .before .loop-test .taken in
+    (s .pre .0, w .within, w .below, room-after (omega (arith, b .few-residues, e, t)) w (s .pre .3), e, t)
 
 add-put-letters : tie.Need-add-put-letters Inv-loop μ-loop
 add-put-letters c = search needs
@@ -51,9 +53,11 @@ put-letters-requires c κs =
     let r = l .before in
     let s = r .before .before .before in
     let b = s .pre .0 .bounds in
-    let w = l .loop .inv .walks in
-    let v = p .put-residue .ensures in
-    (b .bytes-room, omega (arith, b .few-residues, r .residues .ensures .0), omega (arith, v .puts .near, v .forth, v .within, w .puts .near, w .forth, w .within, b .few-brackets, b .few-residues, r .residues .ensures .0, s .pre .3, p .before .before .loop-test .taken))
+    let e = r .residues .ensures .0 in
+    let t = p .before .before .loop-test .taken in
+    let w = spelt-more _ _ _ _ _ _ (l .loop .inv) t (p .put-residue .ensures) .walks in
+    let left = room-after {n = r .residues .result - (l .loop .p + 1)} (omega (arith, b .few-residues, e, t)) w (s .pre .3) in
+    (b .bytes-room, omega (arith, b .few-residues, e), omega (arith, left .fits))
 
 loop-less : tie.Need-loop-less Inv-loop μ-loop
 loop-less c =

@@ -1,37 +1,22 @@
+-- A mass, a text, or nothing, by the code of the value. Assumes nothing.
 use mathlib.Core.Path.{_∙_}
 use native.Mathlib.Omega.{arith}
+use mir.Syntax.{w64}
+use mir.Facts.{toZ-ofZ}
 use Rattle.writer.proofs.Storing.{puts-none, puts-of, puts-within, puts-under}
 use Rattle.writer.proofs.PartTexts.{value-mass, value-text, value-none}
 use borrow.Author.Needs.{needs}
 use Rattle.writer.proofs.put_value.Statement.{statement}
 use Rattle.writer.proofs.put_value.Tie as tie
-use Rattle.writer.proofs.put_value.Reads as reads
-use Rattle.writer.proofs.put_value.Lts as lts
-use Rattle.areas.proofs.part_byte.Reads as part-byte-reads
-use Rattle.areas.proofs.wide.Reads as wide-reads
-use Rattle.writer.proofs.copy.Reads as copy-reads
-use Rattle.writer.proofs.digits_at.Reads as digits-at-reads
-use Rattle.writer.proofs.minus_at.Reads as minus-at-reads
-use Rattle.writer.proofs.put_number.Reads as put-number-reads
-use Rattle.writer.proofs.text_from.Reads as text-from-reads
 
-part-byte-requires : tie.Need-part-byte-requires
-part-byte-requires c κs = search needs
+value-requires : tie.Need-value-requires
+value-requires c κs = search needs
 
-wide-requires : tie.Need-wide-requires
-wide-requires c κs = search needs
+decimals-requires : tie.Need-decimals-requires
+decimals-requires c κs = search needs
 
-part-byte-requires-2 : tie.Need-part-byte-requires-2
-part-byte-requires-2 c κs = search needs
-
-wide-requires-2 : tie.Need-wide-requires-2
-wide-requires-2 c κs = search needs
-
-minus-at-requires : tie.Need-minus-at-requires
-minus-at-requires c κs = search needs
-
-digits-at-requires : tie.Need-digits-at-requires
-digits-at-requires c κs = search needs
+mass-requires : tie.Need-mass-requires
+mass-requires c κs = search needs
 
 put-number-requires : tie.Need-put-number-requires
 put-number-requires c κs = search needs
@@ -41,21 +26,18 @@ same-length c = search needs
 
 returns : tie.Need-returns
 returns c =
-    let p = c .before .before in
-    let d = p .before .before in
-    let w = d .before .before in
-    let i = w .before .before in
-    let a = i .before .before .before .before .before .args in
-    puts-of
-    (value-mass (a .bytes .now) (a .numbers .now) (a .k) (a .j) (i .before .wide .ensures .0 ∙ i .before .before .part-byte .ensures) (i .if1 .taken)
-    (w .wide2 .ensures .0 ∙ w .before .part-byte2 .ensures) (d .before .minus-at .ensures) (d .digits-at .ensures))
-    (puts-within (omega arith) (p .put-number .ensures))
+    let number = c .before .before in
+    let m = number .before .before in
+    let d = m .before in
+    let i = d .before in
+    let v = i .before in
+    let a = v .before .before .before .args in
+    let read = toZ-ofZ {w = w64} {z = m .mass .result} (record { sfits = m .mass .ok }) ∙ m .mass .ensures in
+    puts-of (value-mass (a .bytes .now) (a .numbers .now) (a .k) (a .j) (v .value .ensures .0) (i .if1 .taken) (d .decimals .ensures .0) read)
+    (puts-within (omega arith) (number .put-number .ensures))
 
-part-byte-requires-3 : tie.Need-part-byte-requires-3
-part-byte-requires-3 c κs = search needs
-
-wide-requires-3 : tie.Need-wide-requires-3
-wide-requires-3 c κs = search needs
+text-length-requires : tie.Need-text-length-requires
+text-length-requires c κs = search needs
 
 text-from-requires : tie.Need-text-from-requires
 text-from-requires c κs = search needs
@@ -68,40 +50,36 @@ same-length-2 c = search needs
 
 returns-2 : tie.Need-returns-2
 returns-2 c =
-    let p = c .before .before in
-    let f = p .before .before in
-    let w = f .before in
-    let i = w .before .before in
-    let e = i .before in
-    let a = e .before .before .before .before .before .args in
-    puts-of
-    (value-text (a .bytes .now) (a .numbers .now) (a .k) (a .j) (e .before .wide .ensures .0 ∙ e .before .before .part-byte .ensures) (i .if2 .taken)
-    (w .wide3 .ensures .0 ∙ w .before .part-byte3 .ensures) (f .text-from .ensures))
-    (puts-under (w .wide3 .ensures .0 ∙ w .before .part-byte3 .ensures) (e .before .before .before .before .before .pre .0 .bounds .short-text) (p .copy .ensures))
+    let copied = c .before .before in
+    let from = copied .before .before in
+    let n = from .before in
+    let i = n .before in
+    let v = i .before .before in
+    let s = v .before .before .before in
+    let a = s .args in
+    let long = n .text-length .ensures .0 in
+    puts-of (value-text (a .bytes .now) (a .numbers .now) (a .k) (a .j) (v .value .ensures .0) (i .if2 .taken) long (from .text-from .ensures))
+    (puts-under long (omega (arith, s .pre .0 .bounds .short-text)) (copied .copy .ensures))
 
 returns-3 : tie.Need-returns-3
 returns-3 c =
-    let e = c .before in
-    let a = e .before .before .before .before .before .args in
-    puts-of
-    (value-none (a .bytes .now) (a .numbers .now) (a .k) (a .j) (e .before .wide .ensures .0 ∙ e .before .before .part-byte .ensures) (e .if1 .left) (c .if2 .left))
+    let i = c .before in
+    let v = i .before in
+    let a = v .before .before .before .args in
+    puts-of (value-none (a .bytes .now) (a .numbers .now) (a .k) (a .j) (v .value .ensures .0) (i .if1 .left) (c .if2 .left))
     (puts-within (omega arith) (puts-none _ _))
 
 pub put-value-spec : {M : Type 1} → statement M
 put-value-spec =
     tie.close
     (tie.spec
-    part-byte-requires
-    wide-requires
-    part-byte-requires-2
-    wide-requires-2
-    minus-at-requires
-    digits-at-requires
+    value-requires
+    decimals-requires
+    mass-requires
     put-number-requires
     same-length
     returns
-    part-byte-requires-3
-    wide-requires-3
+    text-length-requires
     text-from-requires
     copy-requires
     same-length-2

@@ -1,5 +1,4 @@
-use native.Mathlib.Omega.{arith}
-use Rattle.writer.proofs.Storing.{puts-of, puts-within, part-whole}
+use Rattle.writer.proofs.Storing.{puts-of, part-whole}
 use borrow.Author.Needs.{needs}
 use Rattle.writer.proofs.word.Statement.{statement}
 use Rattle.writer.proofs.word.Tie as tie
@@ -14,7 +13,7 @@ same-length : tie.Need-same-length
 same-length c = search needs
 
 returns : tie.Need-returns
-returns c = puts-of (part-whole _) (puts-within (omega arith) (c .before .before .copy .ensures))
+returns c = puts-of (part-whole _) (c .before .before .copy .ensures)
 
 pub word-spec : {M : Type 1} → statement M
 word-spec = tie.close (tie.spec copy-requires same-length returns)

@@ -22,7 +22,7 @@ use sound.WpLaws.{FmC, fmOf, WpFn-mono}
 use denote.RattleType.{RattleType, owns}
 use denote.Laws.{Is, shows}
 use denote.Plain.{uint-vals, uint-tells, uint-makes, uint-lawful}
-use denote.Builtin.{u8, usize}
+use denote.Builtin.{u8, u16, usize}
 use denote.Ref.{RefT, MutRef, ptr-vals, mut-tells}
 use denote.Slice.{sliceVal, slice-vals, ShrSlice, Room, shr-slice-tells, shr-slice-copy}
 use denote.Signature.{plain}
@@ -61,7 +61,7 @@ abbrev R : RattleType
 R = Row.the-row
 
 abbrev stayed : Stays (first.ended .signature .params) (first.ended .kept)
-stayed = (stay-none-slice (0 ∷ []) tt (plain (λ _. R)) yes, (stay-none (λ _. usize) yes, (stay-none (λ _. u8) yes, (gave-ref (1 ∷ []) tt (plain (λ _. usize)), (gave-ref (2 ∷ []) tt (plain (λ _. u8)), tt)))))
+stayed = (stay-none-slice (0 ∷ []) tt (plain (λ _. R)) yes, (stay-none (λ _. usize) yes, (stay-none (λ _. u8) yes, (gave-ref (1 ∷ []) tt (plain (λ _. usize)), (gave-ref (2 ∷ []) tt (plain (λ _. u16)), tt)))))
 
 -- the contracts that the proof cites
 module _ {M : Type 1} (𝓤 : URA M) (H : Heap 𝓤) (A : Atoms 𝓤) (at-mem : Memory → SProp 𝓤) (run : Routine → Fun 𝓤) where
@@ -98,7 +98,7 @@ module _ {M : Type 1} (𝓤 : URA M) (H : Heap 𝓤) (A : Atoms 𝓤) (W : Given
   Index = MutRef (named 1) κ₂ usize .own y (vptr b o ∷ [])
 
   abbrev Position : Fml
-  Position = MutRef (named 2) κ₃ u8 .own y′ (vptr b′ o′ ∷ [])
+  Position = MutRef (named 2) κ₃ u16 .own y′ (vptr b′ o′ ∷ [])
 
   abbrev tokens : Item 𝓤
   tokens = ‵ (flft κ₂ q₂) ⊛ ‵ (flft κ₃ q₃) ⊛ ‵ ftrue
@@ -107,9 +107,9 @@ module _ {M : Type 1} (𝓤 : URA M) (H : Heap 𝓤) (A : Atoms 𝓤) (W : Given
   Post = walkOf 𝓤 H A first.ended stayed (first.clauses 𝓤 H A at-mem run) .post (((κ₁, (κ₂, (κ₃, tt))), (q₁, (q₂, (q₃, tt))), tt, a, at), tt)
 
   exits : (m : ℕ) (z : Val) (i p : ℕ) → LookedUp (looksUp (x .now) n w) h h′ m i p
-      → ent 𝓤 (⋆ 𝓤 H A (‵ (u8 .own m (z ∷ [])) ∷ tokens ∷ ‵ (fres γ′ (u8 .coded .code p)) ∷ ‵ (fres γ (usize .coded .code i)) ∷ ‵ (flft κ₁ q₁) ∷ ‵ Rows ∷ [])) (Post z)
+      → ent 𝓤 (⋆ 𝓤 H A (‵ (u8 .own m (z ∷ [])) ∷ tokens ∷ ‵ (fres γ′ (u16 .coded .code p)) ∷ ‵ (fres γ (usize .coded .code i)) ∷ ‵ (flft κ₁ q₁) ∷ ‵ Rows ∷ [])) (Post z)
   exits m z i p e =
-      qed W (‵ (u8 .own m (z ∷ [])) ∷ tokens ∷ ‵ (fres γ′ (u8 .coded .code p)) ∷ ‵ (fres γ (usize .coded .code i)) ∷ ‵ (flft κ₁ q₁) ∷ ‵ Rows ∷ []) ∵
+      qed W (‵ (u8 .own m (z ∷ [])) ∷ tokens ∷ ‵ (fres γ′ (u16 .coded .code p)) ∷ ‵ (fres γ (usize .coded .code i)) ∷ ‵ (flft κ₁ q₁) ∷ ‵ Rows ∷ []) ∵
       suffices ! _ (ends-at 𝓤 H A first.ended stayed (first.clauses 𝓤 H A at-mem run) W (((κ₁, (κ₂, (κ₃, tt))), (q₁, (q₂, (q₃, tt))), tt, a, at), tt) z m (tt, (tt, (tt, (i, (p, tt))))) (tt, (tt, (tt, (tt, (tt, tt)))))) $ says ! e $
       move ! (4 ∷ 1 ∷ []) $ join ! $ frame ! $
       -- [the number; the position's last value; the index's; the rows]
@@ -143,7 +143,7 @@ module _ {M : Type 1} (𝓤 : URA M) (H : Heap 𝓤) (A : Atoms 𝓤) (W : Given
   module _ (C : Calls 𝓤 H) (Λ : Loops 𝓤 H) (fm : FmC 𝓤 H (W .laws) C) (known-find : Triple 𝓤 (C #rows·first-row) (Find 𝓤 H A at-mem run)) (known-tell : Triple 𝓤 (C #export·handed·tell-lookup) (Tell 𝓤 H A at-mem run)) where
     walk : ent 𝓤 (onEntry 𝓤 H A first.signature (κ₁, (κ₂, (κ₃, tt))) (q₁, (q₂, (q₃, tt))) a at) (WpFn 𝓤 H C Λ code.function (v₁ ∷ vint w64 n ∷ vint w8 w ∷ vptr b o ∷ vptr b′ o′ ∷ []) Post)
     walk =
-        qed W ((‵ (flft κ₁ q₁) ⊛ ‵ (flft κ₂ q₂) ⊛ ‵ (flft κ₃ q₃) ⊛ ‵ ftrue) ∷ ‵ (owns (ShrSlice (named 0) κ₁ R ∷ usize ∷ u8 ∷ MutRef (named 1) κ₂ usize ∷ MutRef (named 2) κ₃ u8 ∷ []) a at) ∷ []) ∵
+        qed W ((‵ (flft κ₁ q₁) ⊛ ‵ (flft κ₂ q₂) ⊛ ‵ (flft κ₃ q₃) ⊛ ‵ ftrue) ∷ ‵ (owns (ShrSlice (named 0) κ₁ R ∷ usize ∷ u8 ∷ MutRef (named 1) κ₂ usize ∷ MutRef (named 2) κ₃ u16 ∷ []) a at) ∷ []) ∵
         split ! $ move ! (2 ∷ []) $ fsplit ! $ move ! (1 ∷ []) $ fsplit ! $ drop ! $ fsplit ! $ drop ! $ fsplit ! $ move ! (1 ∷ []) $ fsplit ! $ keep ! (5 ∷ 2 ∷ 0 ∷ 4 ∷ 3 ∷ []) $
         -- [the tokens; the index; the position; the rows' token; the rows]
         enter ! C Λ code.function (v₁ ∷ vint w64 n ∷ vint w8 w ∷ vptr b o ∷ vptr b′ o′ ∷ []) _ $
@@ -176,13 +176,13 @@ module _ {M : Type 1} (𝓤 : URA M) (H : Heap 𝓤) (A : Atoms 𝓤) (W : Given
 module _ {M : Type 1} (𝓤 : URA M) (H : Heap 𝓤) (A : Atoms 𝓤) (W : Given 𝓤 H A) (at-mem : Memory → SProp 𝓤) (run : Routine → Fun 𝓤) (𝓣 : Tables 𝓤 H) (known-find : Triple 𝓤 (𝓣 .C #rows·first-row) (Find 𝓤 H A at-mem run)) (known-tell : Triple 𝓤 (𝓣 .C #export·handed·tell-lookup) (Tell 𝓤 H A at-mem run)) where
   first-walks : Walks 𝓤 H A first.ended stayed (WpFn 𝓤 H (𝓣 .C) (𝓣 .Λ) code.function) (first.clauses 𝓤 H A at-mem run)
   first-walks = walked 𝓤 H A first.ended stayed (first.clauses 𝓤 H A at-mem run) (WpFn 𝓤 H (𝓣 .C) (𝓣 .Λ) code.function) (λ κs. (slice-vals, (uint-vals w64, (uint-vals w8, (ptr-vals, (ptr-vals, tt))))))
-      (λ κs. (shr-slice-tells (named 0) (κs .0) R, (uint-tells w64, (uint-tells w8, (mut-tells (named 1) (κs .1 .0) usize, (mut-tells (named 2) (κs .1 .1 .0) u8, tt))))))
+      (λ κs. (shr-slice-tells (named 0) (κs .0) R, (uint-tells w64, (uint-tells w8, (mut-tells (named 1) (κs .1 .0) usize, (mut-tells (named 2) (κs .1 .1 .0) u16, tt))))))
       (λ κs qs bounds a g are. via 𝓤 _ (fst∗ 𝓤 _ (emp 𝓤))
       (walk 𝓤 H A W at-mem run (κs .0) (κs .1 .0) (κs .1 .1 .0) (qs .0) (qs .1 .0) (qs .1 .1 .0) (a .0) (a .1 .0) (a .1 .1 .0) (are .0 .0 .1) (are .1 .0 .1) (are .1 .1 .0 .1) (a .1 .1 .1 .0 .ptr .0) (a .1 .1 .1 .0 .ptr .1) (a .1 .1 .1 .0 .name) (a .1 .1 .1 .0 .now) (a .1 .1 .1 .1 .0 .ptr .0) (a .1 .1 .1 .1 .0 .ptr .1) (a .1 .1 .1 .1 .0 .name) (a .1 .1 .1 .1 .0 .now) (𝓣 .C) (𝓣 .Λ) (fmOf 𝓤 H (W .laws) 𝓣) known-find known-tell))
 
   first-meets : Meets 𝓤 H A first.signature (WpFn 𝓤 H (𝓣 .C) (𝓣 .Λ) code.function) (first.spec 𝓤 H A at-mem run)
   first-meets =
-      walk-meets 𝓤 H A first.ended stayed W (goes-none-slice 𝓤 H A W 3 (0 ∷ []) tt (plain (λ _. R)) yes, (goes-none 𝓤 H A W 3 (λ _. usize) yes (λ κs x f. refl), (goes-none 𝓤 H A W 3 (λ _. u8) yes (λ κs x f. refl), (goes-gave-ref 𝓤 H A W 3 1 tt (plain (λ _. usize)), (goes-gave-ref 𝓤 H A W 3 2 tt (plain (λ _. u8)), tt)))))
+      walk-meets 𝓤 H A first.ended stayed W (goes-none-slice 𝓤 H A W 3 (0 ∷ []) tt (plain (λ _. R)) yes, (goes-none 𝓤 H A W 3 (λ _. usize) yes (λ κs x f. refl), (goes-none 𝓤 H A W 3 (λ _. u8) yes (λ κs x f. refl), (goes-gave-ref 𝓤 H A W 3 1 tt (plain (λ _. usize)), (goes-gave-ref 𝓤 H A W 3 2 tt (plain (λ _. u16)), tt)))))
       (first.clauses 𝓤 H A at-mem run) (WpFn 𝓤 H (𝓣 .C) (𝓣 .Λ) code.function) (WpFn-mono 𝓤 H (W .laws) 𝓣 code.function) first-walks
 
 pub hwemiduk-first-row-spec : {M : Type 1} → stated.statement M

@@ -1,4 +1,5 @@
 -- `positions::marks::mark_all` meets its contract. Assumes nothing.
+use Rattle.positions.specs.Legible.{row-of, residues-within}
 use Rattle.positions.proofs.Rows.{all-residues, own-and-referred}
 use borrow.Author.Needs.{needs}
 use native.Mathlib.Omega.{arith}
@@ -6,13 +7,13 @@ use Rattle.positions.proofs.marks.mark_all.Statement.{statement}
 use Rattle.positions.proofs.marks.mark_all.Tie as tie
 
 is-anywhere-requires : tie.Need-is-anywhere-requires
-is-anywhere-requires c κs = c .before .before .pre .0 .bracket (c .before .before .args .k) (c .before .before .pre .1) .named .row
+is-anywhere-requires c κs = row-of (c .before .before .pre .0) (c .before .before .pre .1)
 
 residues-requires : tie.Need-residues-requires
 residues-requires c κs = c .before .before .before .before .pre .0 .room
 
 put-requires : tie.Need-put-requires
-put-requires c κs = search needs
+put-requires c κs = (residues-within (c .before .before .before .before .before .before .pre .0) (c .before .residues .ensures .0), c .before .before .before .before .before .before .pre .2)
 
 same-length : tie.Need-same-length
 same-length c = c .before .before .put .ensures .kept

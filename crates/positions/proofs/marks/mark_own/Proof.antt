@@ -1,29 +1,31 @@
 -- `positions::marks::mark_own` meets its contract. Assumes nothing.
+use Rattle.brackets.specs.Fields.{first-is, last-is}
+use Rattle.positions.specs.Legible.{row-of, row-room, last-within}
 use Rattle.positions.proofs.Rows.{own-marked, no-own}
 use borrow.Author.Needs.{needs}
 use Rattle.positions.proofs.marks.mark_own.Statement.{statement}
 use Rattle.positions.proofs.marks.mark_own.Tie as tie
 
 kind-requires : tie.Need-kind-requires
-kind-requires c κs = c .before .before .pre .0 .bracket (c .before .before .args .k) (c .before .before .pre .1) .named .row
+kind-requires c κs = row-of (c .before .before .pre .0) (c .before .before .pre .1)
 
 has-place-requires : tie.Need-has-place-requires
 has-place-requires c κs = search needs
 
 first-requires : tie.Need-first-requires
-first-requires c κs = c .before .before .before .before .before .pre .0 .bracket (c .before .before .before .before .before .args .k) (c .before .before .before .before .before .pre .1) .named .row
+first-requires c κs = row-room (c .before .before .before .before .before .pre .0) (c .before .before .before .before .before .pre .1)
 
 last-requires : tie.Need-last-requires
-last-requires c κs = c .before .before .before .before .before .before .pre .0 .bracket (c .before .before .before .before .before .before .args .k) (c .before .before .before .before .before .before .pre .1) .named .row
+last-requires c κs = row-room (c .before .before .before .before .before .before .pre .0) (c .before .before .before .before .before .before .pre .1)
 
 put-requires : tie.Need-put-requires
-put-requires c κs = search needs
+put-requires c κs = (last-within (c .before .before .before .before .before .before .before .before .pre .0) (c .before .before .before .before .before .before .before .before .pre .1) (c .before .last .ensures .0), c .before .before .before .before .before .before .before .before .pre .2)
 
 same-length : tie.Need-same-length
 same-length c = c .before .before .put .ensures .kept
 
 returns : tie.Need-returns
-returns c = own-marked _ _ (c .before .before .before .before .before .before .before .before .kind .ensures) (c .before .before .before .before .before .before .before .has-place .ensures) (c .before .before .before .before .before .before .if1 .taken) (c .before .before .put .ensures) (c .before .before .before .before .before .first .ensures .0) (c .before .before .before .before .last .ensures .0)
+returns c = own-marked _ _ (c .before .before .before .before .before .before .before .before .kind .ensures) (c .before .before .before .before .before .before .before .has-place .ensures) (c .before .before .before .before .before .before .if1 .taken) (c .before .before .put .ensures) (first-is _ _ (c .before .before .before .before .before .first .ensures .0)) (last-is _ _ (c .before .before .before .before .last .ensures .0))
 
 returns-2 : tie.Need-returns-2
 returns-2 c = no-own _ _ (c .before .before .kind .ensures) (c .before .has-place .ensures) (c .if1 .left)

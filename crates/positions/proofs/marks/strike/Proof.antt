@@ -1,26 +1,29 @@
 -- `positions::marks::strike` meets its contract. Assumes nothing.
+use native.Mathlib.Omega.{arith}
+use Rattle.brackets.specs.Fields.{first-is}
+use Rattle.positions.specs.Legible.{row-of, row-room, first-within}
 use Rattle.positions.proofs.Rows.{struck, not-struck}
 use borrow.Author.Needs.{needs}
 use Rattle.positions.proofs.marks.strike.Statement.{statement}
 use Rattle.positions.proofs.marks.strike.Tie as tie
 
 is-placed-requires : tie.Need-is-placed-requires
-is-placed-requires c κs = c .before .before .pre .0 .bracket (c .before .before .args .k) (c .before .before .pre .1) .named .row
+is-placed-requires c κs = row-of (c .before .before .pre .0) (c .before .before .pre .1)
 
 first-requires : tie.Need-first-requires
-first-requires c κs = c .before .before .before .before .pre .0 .bracket (c .before .before .before .before .args .k) (c .before .before .before .before .pre .1) .named .row
+first-requires c κs = row-room (c .before .before .before .before .pre .0) (c .before .before .before .before .pre .1)
 
 add-tab : tie.Need-add-tab
 add-tab c = search needs
 
 slice-write-tab : tie.Need-slice-write-tab
-slice-write-tab c = search needs
+slice-write-tab c = omega (arith, first-within (c .before .before .before .before .before .pre .0) (c .before .before .before .before .before .pre .1) (c .first .ensures .0))
 
 same-length : tie.Need-same-length
 same-length c = search needs
 
 returns : tie.Need-returns
-returns c = struck _ _ (c .before .before .is-placed .ensures) (c .before .if1 .taken) (c .first .ensures .0) (c .first .ensures .1) (c .before .before .before .before .before .pre .2)
+returns c = struck _ _ (c .before .before .is-placed .ensures) (c .before .if1 .taken) (first-is _ _ (c .first .ensures .0)) (first-within (c .before .before .before .before .before .pre .0) (c .before .before .before .before .before .pre .1) (c .first .ensures .0)) (c .before .before .before .before .before .pre .2)
 
 returns-2 : tie.Need-returns-2
 returns-2 c = not-struck _ _ (c .before .is-placed .ensures) (c .if1 .left)

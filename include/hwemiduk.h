@@ -292,7 +292,7 @@ uint8_t hwemiduk_allowed(const uint8_t *bytes, size_t bytes_len, const int64_t *
 
 /*
  * The listing in hand: marked fresh, with zeros, as HWEMIDUK_LISTING gives it; or unmarked, with the placement last handed out. Any other content gets 18. It has 18
- * bytes; the byte of padding behind the mark is neither set nor read.
+ * bytes; the one of padding behind the mark holds nothing: a success may set it, and no call reads it.
  */
 typedef struct hwemiduk_listing {
     hwemiduk_position at[HWEMIDUK_COPIES];
@@ -317,8 +317,8 @@ uint8_t hwemiduk_ledger(const uint8_t *bytes, size_t bytes_len, const int64_t *n
     size_t placement_len, int64_t *entries, size_t entries_len, size_t *place);
 
 /*
- * ---- Rows: where each floater may stand, floaters counted from 1. A row has 4 bytes; the byte of padding between floater and position is neither set nor read: compare
- * rows by their fields, not by memcmp.
+ * ---- Rows: where each floater may stand, floaters counted from 1. A row has 4 bytes; the one of padding between floater and position holds nothing: a success may set it,
+ * and no call reads it. So rows and listings are compared by their fields, not by memcmp.
  */
 typedef struct hwemiduk_site {
     uint8_t floater;

@@ -122,19 +122,19 @@ static void brackets_and_floaters(const uint8_t *bytes, const int64_t *numbers, 
     free(of);
 }
 
-/* The rows, once more over junk, which stays in the padding and behind them; and the first row of each floater and of two that there are not. */
+/* The rows; the same over junk, which stays behind them; and the first row of each floater and of two that there are not, whatever stands in the padding. */
 static void rows(const uint8_t *bytes, const int64_t *numbers, size_t floaters)
 {
-    hwemiduk_site *row = (hwemiduk_site *)room(limits.rows * sizeof *row), *again = (hwemiduk_site *)room(limits.rows * sizeof *row);
+    hwemiduk_site *row = (hwemiduk_site *)room(limits.rows * sizeof *row), *again = (hwemiduk_site *)room(limits.rows * sizeof *again);
     size_t count, same;
     expect(hwemiduk_rows(TABLES, row, limits.rows, &count) == HWEMIDUK_OK, "there are rows");
     memset(again, JUNK, limits.rows * sizeof *again);
     expect(hwemiduk_rows(TABLES, again, limits.rows, &same) == HWEMIDUK_OK && same == count, "as many rows again");
+    expect(is_junk(again + count, (limits.rows - count) * sizeof *again), "rows behind those handed out stay");
     for (size_t i = 0; i < count; i++) {
         expect(again[i].floater == row[i].floater && again[i].position == row[i].position, "the same rows again");
-        expect(is_junk((const uint8_t *)&again[i] + 1, 1), "the padding of a row is not set");
+        ((uint8_t *)&row[i])[1] = (uint8_t)(JUNK + i);
     }
-    expect(is_junk(again + count, (limits.rows - count) * sizeof *again), "rows behind those handed out stay");
     free(again);
     for (size_t floater = 0; floater <= floaters + 1; floater++) {
         size_t first = 0, index = limits.rows;
@@ -159,14 +159,16 @@ static void placements(const uint8_t *bytes, const int64_t *numbers, bool has_to
     int64_t *entries = (int64_t *)room(limits.positions * sizeof *entries);
     size_t place;
     const hwemiduk_listing fresh = HWEMIDUK_LISTING;
-    uint8_t *padding = &listing->mark + 1;
-    memset(listing, 0, sizeof *listing);
-    listing->mark = HWEMIDUK_FRESH;
-    *padding = JUNK;
-    for (int i = 0; i < 3 && hwemiduk_next(TABLES, listing) == HWEMIDUK_OK; i++) {
+    hwemiduk_listing other = HWEMIDUK_LISTING;
+    *listing = fresh;
+    for (int i = 0; i < 3; i++) {
+        memset(&listing->mark + 1, JUNK + i, 1);
+        uint8_t handed = hwemiduk_next(TABLES, listing);
+        expect(hwemiduk_next(TABLES, &other) == handed && other.mark == listing->mark && memcmp(other.at, listing->at, size) == 0, "padding is not read");
+        if (handed != HWEMIDUK_OK)
+            break;
         memcpy(placement, listing->at, size);
         expect(listing->mark == HWEMIDUK_UNMARKED, "a listing moved on is unmarked");
-        expect(*padding == JUNK, "the padding of a listing is not set");
         expect(hwemiduk_allowed(TABLES, placement, limits.copies) == HWEMIDUK_OK, "a placement handed out is allowed");
         uint8_t answer = hwemiduk_ledger(TABLES, placement, limits.copies, entries, limits.positions, &place);
         expect(answer == (has_total ? HWEMIDUK_OK : HWEMIDUK_NO_MASS), "a ledger where there is a total");

@@ -47,7 +47,7 @@ pub const NUMBERS: usize = BRACKETS * (PARTS + 1);
 /// A position: 0 is the N-terminus, 1 to n are the residues, n + 1 is the C-terminus.
 pub type Position = u16;
 
-/// A row of floater and position, floaters counted from 1. Of its 4 bytes the library neither sets nor reads the one of padding.
+/// A row of floater and position, floaters counted from 1.
 #[derive(Clone, Copy, Debug, PartialEq, Eq)]
 #[repr(C)]
 pub struct Site {
@@ -57,8 +57,7 @@ pub struct Site {
     pub position: Position,
 }
 
-/// The listing in hand: marked fresh, with zeros, or unmarked, with the placement last handed out. Any other content gets 18. Of its 18 bytes the library neither sets
-/// nor reads the one of padding.
+/// The listing in hand: marked fresh, with zeros, or unmarked, with the placement last handed out. Any other content gets 18.
 #[derive(Clone, Copy, Debug, PartialEq, Eq)]
 #[repr(C)]
 pub struct Listing {

@@ -234,5 +234,7 @@ fn words_are_those_of_the_list() {
 
 #[test]
 fn version_is_that_of_the_repository() {
-    assert_eq!(include_str!("../../VERSION").trim(), env!("CARGO_PKG_VERSION"));
+    let version = include_str!("../../VERSION").trim();
+    assert_eq!(version, env!("CARGO_PKG_VERSION"));
+    assert_eq!(version.split('.').fold(0, |number, part| 100 * number + part.parse::<u32>().unwrap()), lent::version());
 }

@@ -1,4 +1,5 @@
 -- `export::printed::hwemiduk_entry` meets its contract: the entry fits into the local text, and is handed out from there.
+use mathlib.Core.Path.{refl}
 use Rattle.export.proofs.Fits.{put-text, fitted-so}
 use borrow.Author.Needs.{needs}
 use Rattle.export.proofs.printed.hwemiduk_entry.Statement.{statement}
@@ -14,7 +15,8 @@ slice-aggregate-put-entry-3 : tie.Need-slice-aggregate-put-entry-3
 slice-aggregate-put-entry-3 c = search needs
 
 put-entry-requires : tie.Need-put-entry-requires
-put-entry-requires c κs = search needs
+put-entry-requires c κs =
+    (record { bytes-room = search needs; bytes-zero = refl; numbers-room = search needs; numbers-zero = refl }, search needs)
 
 slice-aggregate-hand-out : tie.Need-slice-aggregate-hand-out
 slice-aggregate-hand-out c = search needs

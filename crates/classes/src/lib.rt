@@ -2,7 +2,7 @@
 ghost use mathlib.Core.Path.{_≡_};
 ghost use Prim.Native.Nat.{_+_, _≤_};
 ghost use lib.ListN.{length, drop};
-ghost use Rattle.scope.specs.Bytes.{isPrintable, isUpper, isLower, isLetter, isDigit, isAlnum, isOpening, isShutting, sameFolded, upper as inUpper};
+ghost use Rattle.scope.specs.Bytes.{isPrintable, isUpper, isLower, isLetter, isDigit, isAlnum, isSign, isOpening, isShutting, sameFolded, upper as inUpper};
 ghost use Rattle.scope.specs.Lists.{same, part};
 ghost use Rattle.scope.specs.Content.{isPlain};
 ghost use Rattle.classes.specs.Runs.{span};
@@ -11,6 +11,9 @@ ghost use Rattle.classes.specs.Runs.{span};
 pub fn is_plain(b: u8) -> bool
     ensures { λ r. ⌜ r ≡ isPlain b ⌝ }
 {
+    if is_letter(b) {
+        return true;
+    }
     match b {
         b'[' => false,
         b']' => false,
@@ -76,6 +79,15 @@ fn is_alnum(b: u8) -> bool
         return true;
     }
     is_digit(b)
+}
+
+pub fn is_sign(b: u8) -> bool
+    ensures { λ r. ⌜ r ≡ isSign b ⌝ }
+{
+    if b == b'+' {
+        return true;
+    }
+    b == b'-'
 }
 
 // The opening byte of a pair.

@@ -1,9 +1,12 @@
-// The register's entries: what it prints for a line. The areas are lent clean and given back clean, and what reading has shown of the tables is not tried again.
+// The register's entries: what it prints for a line. The verdict leaves the line noted in the sheet, and its tables come from there. The areas are lent clean and
+// given back clean, and what the verdict has shown of the tables is not tried again.
 use masses::Weight;
 use masses::weigh;
 use positions::find_floaters;
-use scope::answers::Read;
+use reader::wipe;
 use scope::tables::Tables;
+use store::store;
+use verdict::Judged;
 use writer::DIGITS;
 ghost use mathlib.Core.Path.{_≡_};
 ghost use mathlib.Core.List.{List, [], _∷_, _++_};
@@ -13,9 +16,14 @@ ghost use Rattle.scope.specs.Canonical.{decimal};
 ghost use Rattle.scope.specs.Register.{signedText, totalText, fields, report};
 ghost use Rattle.scope.specs.Refusals.{outcome};
 ghost use Rattle.scope.specs.Layout.{tablesIn};
-ghost use Rattle.reader.specs.ReadSays.{Clean, Lays};
+ghost use Rattle.reader.specs.ReadSays.{Clean};
+ghost use Rattle.sheet.specs.Rows.{Roomy};
+ghost use Rattle.store.specs.Filled.{Fills};
 ghost use Rattle.writer.specs.Written.{Puts, ceiling};
 ghost use Rattle.entries.specs.Entry.{entry, fieldMost, weightMost, refusedMost, countsMost, totalMost, acceptedMost, tablesMost, entryLimit, countFields, okFields, noFields, weightText, Known, Printed};
+
+// "Byte 10 ends a line"
+pub const NEWLINE: u8 = 10;
 
 // A number with a byte before it has at most so many.
 const FIELD: usize = 1 + DIGITS;
@@ -108,14 +116,40 @@ fn put_accepted(bytes: &[u8], numbers: &[i64], out: &mut [u8], at: usize) -> usi
     writer::put_line(bytes, numbers, out, c)
 }
 
-// Of an accepted line, by way of its tables.
-fn put_taken(line: &[u8], bytes: &mut [u8], numbers: &mut [i64], out: &mut [u8], at: usize) -> usize
-    requires { ⌜ Lays (now line) (now bytes) (now numbers) × (at + tablesMost ≤ ceiling) ⌝ }
+// Of an accepted line that is noted in the sheet, by way of its tables.
+fn put_taken(
+    line: &[u8],
+    letters: &[u8],
+    sections: &[u8],
+    heads: &[u16],
+    parts: &[u16],
+    masses: &[i64],
+    scores: &[i64],
+    residues: usize,
+    brackets: usize,
+    bytes: &mut [u8],
+    numbers: &mut [i64],
+    out: &mut [u8],
+    at: usize,
+) -> usize
+    requires { ⌜ Fills (now line) (now letters) (now sections) (now heads) (now parts) (now masses) (now scores) residues brackets (now bytes) (now numbers) × (at + tablesMost ≤ ceiling) ⌝ }
     ensures { λ r. ⌜ Printed acceptedMost (now (out .entry)) at (report (outcome (now (line .entry)))) (now (out .exit)) r (now (bytes .entry)) (now (numbers .entry)) (now (bytes .exit)) (now (numbers .exit)) ⌝ }
 {
-    reader::put(line, bytes, numbers);
+    store(
+        line,
+        letters,
+        sections,
+        heads,
+        parts,
+        masses,
+        scores,
+        residues,
+        brackets,
+        bytes,
+        numbers,
+    );
     let r = put_accepted(bytes, numbers, out, at);
-    reader::wipe(line.len(), bytes, numbers);
+    wipe(line.len(), bytes, numbers);
     r
 }
 
@@ -123,18 +157,38 @@ fn put_taken(line: &[u8], bytes: &mut [u8], numbers: &mut [i64], out: &mut [u8],
 
 fn put_report(
     line: &[u8],
+    letters: &mut [u8],
+    sections: &mut [u8],
+    heads: &mut [u16],
+    parts: &mut [u16],
+    masses: &mut [i64],
+    scores: &mut [i64],
     bytes: &mut [u8],
     numbers: &mut [i64],
     out: &mut [u8],
     at: usize,
 ) -> usize
-    requires { ⌜ Clean (now bytes) (now numbers) × (at + tablesMost ≤ ceiling) ⌝ }
+    requires { ⌜ Roomy (now letters) (now sections) (now heads) (now parts) (now masses) (now scores) × Clean (now bytes) (now numbers) × (at + tablesMost ≤ ceiling) ⌝ }
     ensures { λ r. ⌜ Printed acceptedMost (now (out .entry)) at (report (outcome (now (line .entry)))) (now (out .exit)) r (now (bytes .entry)) (now (numbers .entry)) (now (bytes .exit)) (now (numbers .exit)) ⌝ }
 {
-    let v = verdict::verdict_on(line);
-    match v {
-        Read::Accepted => put_taken(line, bytes, numbers, out, at),
-        Read::Refused { number, place } => put_refused(number, place, out, at),
+    let judged = verdict::judged(line, letters, sections, heads, parts, masses, scores);
+    match judged {
+        Judged::Holds { residues, brackets } => put_taken(
+            line,
+            letters,
+            sections,
+            heads,
+            parts,
+            masses,
+            scores,
+            residues,
+            brackets,
+            bytes,
+            numbers,
+            out,
+            at,
+        ),
+        Judged::Refused { number, place } => put_refused(number, place, out, at),
     }
 }
 
@@ -142,30 +196,67 @@ fn put_report(
 fn put_front(
     number: u64,
     line: &[u8],
+    letters: &mut [u8],
+    sections: &mut [u8],
+    heads: &mut [u16],
+    parts: &mut [u16],
+    masses: &mut [i64],
+    scores: &mut [i64],
     bytes: &mut [u8],
     numbers: &mut [i64],
     out: &mut [u8],
 ) -> usize
-    requires { ⌜ Clean (now bytes) (now numbers) ⌝ }
+    requires { ⌜ Roomy (now letters) (now sections) (now heads) (now parts) (now masses) (now scores) × Clean (now bytes) (now numbers) ⌝ }
     ensures { λ r. ⌜ Printed entryLimit (now (out .entry)) 0 (entry number (now (line .entry))) (now (out .exit)) r (now (bytes .entry)) (now (numbers .entry)) (now (bytes .exit)) (now (numbers .exit)) ⌝ }
 {
     let a = writer::put_decimal(number, out, 0);
-    let b = put_report(line, bytes, numbers, out, a);
-    writer::put(out, b, 10)
+    let b = put_report(
+        line,
+        letters,
+        sections,
+        heads,
+        parts,
+        masses,
+        scores,
+        bytes,
+        numbers,
+        out,
+        a,
+    );
+    writer::put(out, b, NEWLINE)
 }
 
-// What the register prints for a line, and byte 10, from a place of the output on. The areas' room is zero, and they are left as they were.
+// What the register prints for a line, and byte 10, from a place of the output on. The line is noted in the first six tables, which have room and may hold
+// anything. The areas' room is zero, and they are left as they were.
 pub fn put_entry(
     number: u64,
     line: &[u8],
+    letters: &mut [u8],
+    sections: &mut [u8],
+    heads: &mut [u16],
+    parts: &mut [u16],
+    masses: &mut [i64],
+    scores: &mut [i64],
     bytes: &mut [u8],
     numbers: &mut [i64],
     out: &mut [u8],
     at: usize,
 ) -> usize
-    requires { ⌜ Clean (now bytes) (now numbers) × (at + entryLimit ≤ length (now out)) ⌝ }
+    requires { ⌜ Roomy (now letters) (now sections) (now heads) (now parts) (now masses) (now scores) × Clean (now bytes) (now numbers) × (at + entryLimit ≤ length (now out)) ⌝ }
     ensures { λ r. ⌜ Printed entryLimit (now (out .entry)) at (entry number (now (line .entry))) (now (out .exit)) r (now (bytes .entry)) (now (numbers .entry)) (now (bytes .exit)) (now (numbers .exit)) ⌝ }
 {
-    let n = put_front(number, line, bytes, numbers, &mut out[at..]);
+    let n = put_front(
+        number,
+        line,
+        letters,
+        sections,
+        heads,
+        parts,
+        masses,
+        scores,
+        bytes,
+        numbers,
+        &mut out[at..],
+    );
     at + n
 }

@@ -2,6 +2,7 @@
 use entries::ENTRY;
 use entries::put_entry;
 use scope::tables::Tables;
+use sheet::Sheet;
 ghost use Prim.Native.Nat.{_≤_};
 ghost use lib.ListN.{length, take};
 ghost use Rattle.export.specs.Shapes.{Fitted, EntryHanded};
@@ -25,9 +26,28 @@ fn hand_out(text: &[u8], n: usize, out: &mut [u8], needed: &mut usize) -> u8
 pub extern "C" fn hwemiduk_entry(number: u64, line: &[u8], out: &mut [u8], length: &mut usize) -> u8
     ensures { λ r. ⌜ EntryHanded number (now (line .entry)) (now (out .entry)) (now (length .entry)) r (now (length .exit)) (now (out .exit)) ⌝ }
 {
+    let mut letters = [0u8; Tables::RESIDUES];
+    let mut sections = [0u8; Tables::RESIDUES];
+    let mut heads = [0u16; Sheet::HEADS];
+    let mut parts = [0u16; Sheet::PARTS];
+    let mut masses = [0i64; Sheet::MASSES];
+    let mut scores = [0i64; Tables::BRACKETS];
     let mut bytes = [0u8; Tables::BYTES];
     let mut numbers = [0i64; Tables::NUMBERS];
     let mut text = [0u8; ENTRY];
-    let n = put_entry(number, line, &mut bytes, &mut numbers, &mut text, 0);
+    let n = put_entry(
+        number,
+        line,
+        &mut letters,
+        &mut sections,
+        &mut heads,
+        &mut parts,
+        &mut masses,
+        &mut scores,
+        &mut bytes,
+        &mut numbers,
+        &mut text,
+        0,
+    );
     hand_out(&text, n, out, length)
 }

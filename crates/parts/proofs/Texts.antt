@@ -15,9 +15,8 @@ use Rattle.scope.specs.Keys.{form, hashIsPlain}
 use Rattle.scope.specs.Lists.{given}
 use Rattle.scope.specs.Content.{Context, Inner, inText, Content, lost, closed, going, textStep, textEnd, innerStep}
 use Rattle.scope.specs.Reading.{Held, Reading, stuck}
-use Rattle.texts.specs.declared.TextEnd.{TextEnd}
-use Rattle.texts.specs.declared.TextEnd.the-variants.{Ends, Stuck}
-use Rattle.texts.specs.Texts.{stopped, scanText}
+use Rattle.texts.specs.Texts.{Scanned, ends, stopped, scanText}
+use Rattle.texts.specs.Texts as texts
 use Rattle.parts.specs.Says.{through}
 use Rattle.parts.proofs.Through.{below, byte-there, drop-on, through-end, through-same, through-lost, through-going}
 
@@ -28,10 +27,10 @@ owing c a k [] x cs b = refl
 owing c a k (y ∷ t) x cs b = refl
 
 module _ (line : List ℕ) (s : Slot) (o : ℕ) (h : Held ℕ) (c : Context ℕ) (a : ℕ) (k : Key) (hashes : Bool) (plain : hashIsPlain (form k) ≡ hashes) where
-  abbrev pub TextSays : ℕ → List ℕ → List ℕ → List ℕ → TextEnd → Type 0
-  TextSays j t cs l (Ends e) =
+  abbrev pub TextSays : ℕ → List ℕ → List ℕ → List ℕ → Scanned → Type 0
+  TextSays j t cs l (ends e) =
       (j ≤ e) × (e ≤ length line) × (through line s o h j (innerStep j (inText c a k t cs)) ≡ through line s o h e (textEnd c a k (t ++ take (e - j) l) []))
-  TextSays j t cs l (Stuck e) = through line s o h j (innerStep j (inText c a k t cs)) ≡ stuck e
+  TextSays j t cs l (texts.stuck e) = through line s o h j (innerStep j (inText c a k t cs)) ≡ stuck e
 
   -- it can go no further
   stops : (j : ℕ) (t cs l : List ℕ) → j ≤ length line → (j < length line → textStep hashes cs (getD line j 0) ≡ none) → TextSays j t cs l (stopped cs j)
@@ -52,10 +51,10 @@ module _ (line : List ℕ) (s : Slot) (o : ℕ) (h : Held ℕ) (c : Context ℕ)
       through-end line s o h j (innerStep j (inText c a k t (x ∷ cs))) m ∙ ap stuck w)
 
   -- one byte of the text
-  goes : (j b : ℕ) (t cs cs′ l : List ℕ) (r : TextEnd) → drop j line ≡ b ∷ l → textStep hashes cs b ≡ some cs′
+  goes : (j b : ℕ) (t cs cs′ l : List ℕ) (r : Scanned) → drop j line ≡ b ∷ l → textStep hashes cs b ≡ some cs′
       → TextSays (j + 1) (t ++ (b ∷ [])) cs′ l r → TextSays j t cs (b ∷ l) r
   unfolding innerStep
-  goes j b t cs cs′ l (Ends e) d p w =
+  goes j b t cs cs′ l (ends e) d p w =
       let m : e - j ≡ suc (e - (j + 1)) = omega (arith, w .0) in (
         omega (arith, w .0),
         w .1,
@@ -63,7 +62,7 @@ module _ (line : List ℕ) (s : Slot) (o : ℕ) (h : Held ℕ) (c : Context ℕ)
             (rw (byte-there line j b l d, plain, p))
             ∙ w .2 ∙ rw (m, append-assoc),
       )
-  goes j b t cs cs′ l (Stuck e) d p w =
+  goes j b t cs cs′ l (texts.stuck e) d p w =
       through-going line s o h j (innerStep j (inText c a k t cs)) (inText c a k (t ++ (b ∷ [])) cs′) (below line j b l d)
       (rw (byte-there line j b l d, plain, p))
       ∙ w

@@ -27,9 +27,7 @@ use Rattle.numerals.specs.declared.Num.{Num}
 use Rattle.numerals.specs.declared.Num.the-variants.{Value as NumValue, Wide as NumWide, NoNumber}
 use Rattle.numerals.specs.Numerals.{Scanned, found, scanNumber, kept, numOf}
 use Rattle.numerals.specs.Numerals as scan
-use Rattle.texts.specs.declared.TextEnd.{TextEnd}
-use Rattle.texts.specs.declared.TextEnd.the-variants.{Ends, Stuck as TextStuck}
-use Rattle.texts.specs.Texts.{scanText}
+use Rattle.texts.specs.Texts.{ends, stuck as text-over, scanText}
 use Rattle.parts.specs.declared.Score.{Score}
 use Rattle.parts.specs.declared.Score.the-variants.{Unscored, Scored, WideScore}
 use Rattle.parts.specs.declared.Value.{Value as Found-value}
@@ -252,7 +250,7 @@ module _ (line : List ℕ) (at : ℕ) (key : Key) (from at-scan : ℕ) (labels :
       let b : e - from ≡ (at-scan - from) + (e - at-scan) = omega arith in
       rw (b, take-add (at-scan - from) (e - at-scan) (drop from line), drop-drop (at-scan - from) from line) (ap (λ x. first-words ++ take (e - at-scan) (drop x line)) a)
 
-  pub text-ends : (e : ℕ) → Ends e ≡ scanText hashes [] (drop at-scan line) at-scan → (r : Found)
+  pub text-ends : (e : ℕ) → ends e ≡ scanText hashes [] (drop at-scan line) at-scan → (r : Found)
       → (from ≤ e → e ≤ length line → Says line e (Allows labels) (λ c. textEnd c at key (part from (e - from) line) []) r)
       → Says line at-scan (Allows labels) (λ c. innerStep at-scan (inText c at key first-words [])) r
   text-ends e f r says =
@@ -260,10 +258,10 @@ module _ (line : List ℕ) (at : ℕ) (key : Key) (from at-scan : ℕ) (labels :
       said-before line at-scan e (Allows labels) (λ c. innerStep at-scan (inText c at key first-words [])) (λ c. textEnd c at key (part from (e - from) line) []) (told .0)
       (λ s o h c g. facts s o h c .2 ∙ ap (λ x. through line s o h e (textEnd c at key x [])) (whole e (told .0))) r (says (omega (arith, told .0)) (told .1))
     where
-      facts : (s : Slot) (o : ℕ) (h : Held ℕ) (c : Context ℕ) → TextSays line s o h c at key hashes plain at-scan first-words [] (drop at-scan line) (Ends e)
+      facts : (s : Slot) (o : ℕ) (h : Held ℕ) (c : Context ℕ) → TextSays line s o h c at key hashes plain at-scan first-words [] (drop at-scan line) (ends e)
       facts s o h c = subst (λ x. TextSays line s o h c at key hashes plain at-scan first-words [] (drop at-scan line) x) (sym f) (text-says line s o h c at key hashes plain (drop at-scan line) at-scan first-words [] refl inside)
 
-  pub text-stuck : (e : ℕ) → TextStuck e ≡ scanText hashes [] (drop at-scan line) at-scan → Says line at-scan (Allows labels) (λ c. innerStep at-scan (inText c at key first-words [])) (Stuck e)
+  pub text-stuck : (e : ℕ) → text-over e ≡ scanText hashes [] (drop at-scan line) at-scan → Says line at-scan (Allows labels) (λ c. innerStep at-scan (inText c at key first-words [])) (Stuck e)
   unfolding Says
   text-stuck e f = λ s o h c g.
       subst (λ x. TextSays line s o h c at key hashes plain at-scan first-words [] (drop at-scan line) x) (sym f) (text-says line s o h c at key hashes plain (drop at-scan line) at-scan first-words [] refl inside)

@@ -225,7 +225,7 @@ fn text_from(
 {
     let e = texts::text_end(line, scan, hashes);
     match e {
-        TextEnd::Ends(to) => text_of(line, at, key, from, to, labels),
+        TextEnd::Ends { to, deep: _ } => text_of(line, at, key, from, to, labels),
         TextEnd::Stuck(i) => Found::Stuck(i),
     }
 }

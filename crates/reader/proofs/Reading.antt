@@ -45,10 +45,9 @@ pub accepted-is : (o : Outcome) → good tt ≡ saysOutcome o → (l : Line ℕ)
 accepted-is (accepted l) e = (l, refl)
 accepted-is (refused m q) e = absurd (let z : _≡_ {A = ℕ} 0 1 = cc in omega arith)
 
-pub refuses-line : (line bs : List ℕ) (ns : List ℤ) → bytesSize ≤ length bs → numbersSize ≤ length ns → (r : Read) (n p : ℕ) → r ≡ Refused n p
-    → saysRead r ≡ saysOutcome (outcome line) → ReadSays line bs ns (Refused n p) bs ns
-refuses-line line bs ns k h r n p e v =
-    refuses-all line bs ns n p (roomy line bs ns k h ∙ refused-is (outcome line) n p (ap saysRead (sym e) ∙ v))
+pub refuses-line : (line bs : List ℕ) (ns : List ℤ) → bytesSize ≤ length bs → numbersSize ≤ length ns → (n p : ℕ) → outcome line ≡ refused n p
+    → ReadSays line bs ns (Refused n p) bs ns
+refuses-line line bs ns k h n p e = refuses-all line bs ns n p (roomy line bs ns k h ∙ e)
 
 pub accepts-line : (line bs : List ℕ) (ns : List ℤ) → bytesSize ≤ length bs → numbersSize ≤ length ns → (l : Line ℕ) → outcome line ≡ accepted l
     → (bs′ : List ℕ) (ns′ : List ℤ) → Stored line bs ns bs′ ns′ → ReadSays line bs ns Accepted bs′ ns′

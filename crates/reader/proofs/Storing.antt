@@ -13,8 +13,9 @@ use Rattle.scope.specs.Lists.{laid}
 use Rattle.layout_laws.specs.Holds.{Holds}
 use Rattle.layout_laws.specs.Laws.{accepted-held, bytes-fill, numbers-fill, laid-bytes, laid-numbers}
 use Rattle.accepted_laws.specs.Laws.{accepted-within}
-use Rattle.fill.specs.Filled.{Fills, FilledAll}
-use Rattle.reader.specs.ReadSays.{Clean, Lays, Stores, Stored}
+use Rattle.sheet.specs.Rows.{LineNoted}
+use Rattle.store.specs.Filled.{Fills, FilledAll}
+use Rattle.reader.specs.ReadSays.{Clean, Stores, Stored}
 
 -- the first n elements cleared
 abbrev cleared : {A : Type 0} → A → ℕ → List A → List A
@@ -40,30 +41,32 @@ cleared-clean bs ns b n =
       numbers-zero = cleared-zero (pos 0) numbersSize ns;
     })
 
-pub fills : {line bs : List ℕ} {ns : List ℤ} → Lays line bs ns → Fills line bs ns
-fills w =
+-- what the sheet has of an accepted line goes into clean areas
+pub fills : {line letters sections heads parts : List ℕ} {masses scores : List ℤ} {residues brackets : ℕ} {bs : List ℕ} {ns : List ℤ} {l : Line ℕ}
+    → LineNoted line letters sections heads parts masses scores residues brackets l → Clean bs ns
+    → Fills line letters sections heads parts masses scores residues brackets bs ns
+fills {l = l} w c =
     record {
-      holds-line = w .held;
-      is-accepted = w .accepts;
-      bytes-long = w .clean .bytes-room;
-      bytes-zero = w .clean .bytes-zero;
-      numbers-long = w .clean .numbers-room;
-      numbers-zero = w .clean .numbers-zero;
+      holds-line = l;
+      line-noted = w;
+      zeroed = record { bytes-long = c .bytes-room; bytes-zero = c .bytes-zero; numbers-long = c .numbers-room; numbers-zero = c .numbers-zero };
     }
 
 pub filled : {line bs : List ℕ} {ns : List ℤ} {bs′ : List ℕ} {ns′ : List ℤ} → ((l : Line ℕ) → outcome line ≡ accepted l → FilledAll bs ns bs′ ns′ l)
     → Stored line bs ns bs′ ns′
 filled f = record { bytes-now = λ l e. f l e .bytes-are; numbers-now = λ l e. f l e .numbers-are }
 
-module _ (line bs : List ℕ) (ns : List ℤ) (bs₁ : List ℕ) (ns₁ : List ℤ) (b : bs₁ ≡ cleared 0 bytesSize bs) (n : ns₁ ≡ cleared (pos 0) numbersSize ns) where
-  pub lays : Stores line bs ns → Lays line bs₁ ns₁
-  lays w = record { held = w .held; accepts = w .accepts; clean = cleared-clean bs ns b n }
+module _ (bs : List ℕ) (ns : List ℤ) (bs₁ : List ℕ) (ns₁ : List ℤ) (b : bs₁ ≡ cleared 0 bytesSize bs) (n : ns₁ ≡ cleared (pos 0) numbersSize ns) where
+  pub fills-cleared : {line letters sections heads parts : List ℕ} {masses scores : List ℤ} {residues brackets : ℕ}
+      → Stores line letters sections heads parts masses scores residues brackets bs ns
+      → Fills line letters sections heads parts masses scores residues brackets bs₁ ns₁
+  fills-cleared w = fills (w .line-noted) (cleared-clean bs ns b n)
 
-  pub stores : (bs′ : List ℕ) (ns′ : List ℤ) → Stored line bs₁ ns₁ bs′ ns′ → Stored line bs ns bs′ ns′
-  stores bs′ ns′ w =
+  pub filled-cleared : (line bs′ : List ℕ) (ns′ : List ℤ) → ((l : Line ℕ) → outcome line ≡ accepted l → FilledAll bs₁ ns₁ bs′ ns′ l) → Stored line bs ns bs′ ns′
+  filled-cleared line bs′ ns′ f =
       record {
-        bytes-now = λ l e. w .bytes-now l e ∙ ap (λ x. laid (bytesOf l) x) b ∙ laid-over 0 bytesSize (bytesOf l) bs (bytes-fill l (accepted-within line l e));
-        numbers-now = λ l e. w .numbers-now l e ∙ ap (λ x. laid (numbersOf l) x) n ∙ laid-over (pos 0) numbersSize (numbersOf l) ns (numbers-fill l (accepted-within line l e));
+        bytes-now = λ l e. f l e .bytes-are ∙ ap (λ x. laid (bytesOf l) x) b ∙ laid-over 0 bytesSize (bytesOf l) bs (bytes-fill l (accepted-within line l e));
+        numbers-now = λ l e. f l e .numbers-are ∙ ap (λ x. laid (numbersOf l) x) n ∙ laid-over (pos 0) numbersSize (numbersOf l) ns (numbers-fill l (accepted-within line l e));
       }
 
 -- the areas hold what was stored

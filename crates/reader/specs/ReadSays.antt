@@ -10,6 +10,7 @@ use Rattle.scope.specs.Refusals.{accepted, outcome}
 use Rattle.scope.specs.Layout.{bytesSize, numbersSize, bytesOf, numbersOf}
 use Rattle.scope.specs.Lists.{laid}
 use Rattle.layout_laws.specs.Holds.{Holds}
+use Rattle.sheet.specs.Rows.{LineNoted}
 use Rattle.scope.specs.Answers.{saysRead, saysOutcome, readOutcome, bytesAfter, numbersAfter}
 
 pub record ReadSays (line bytes : List ℕ) (numbers : List ℤ) (r : Read) (bytes′ : List ℕ) (numbers′ : List ℤ) : Type 0 where
@@ -37,10 +38,10 @@ pub record HoldSome (n : ℕ) (bytes : List ℕ) (numbers : List ℤ) : Type 0 w
   pub held : Line ℕ
   pub holds : Holds bytes numbers text held
 
--- an accepted line, and areas that have room
-pub record Stores (line bytes : List ℕ) (numbers : List ℤ) : Type 0 where
+-- an accepted line that is noted in the sheet, and areas that have room
+pub record Stores (line letters sections heads parts : List ℕ) (masses scores : List ℤ) (residues brackets : ℕ) (bytes : List ℕ) (numbers : List ℤ) : Type 0 where
   pub held : Line ℕ
-  pub accepts : outcome line ≡ accepted held
+  pub line-noted : LineNoted line letters sections heads parts masses scores residues brackets held
   pub bytes-room : bytesSize ≤ length bytes
   pub numbers-room : numbersSize ≤ length numbers
 

@@ -15,7 +15,7 @@ use Rattle.scope.specs.Line.{Number, Value, mass, text, reference, Part, Bracke
 use Rattle.scope.specs.Lists.{given, flat}
 use Rattle.scope.specs.Reading.{Reading, stuck, holds, reading}
 use Rattle.scope.specs.Modifications.{onlyInfo, copies, definedBy, defined, referredTo}
-use Rattle.scope.specs.Refusals.{dueAt, least, refusal1, refusal2, unprintable, refusal3, refusal4, depthAfter, tooDeep, textOf, deepPart, refusal5, longText, longLabel, overIn, refusal6, inRange, wide, wideMass, wideScore, refusal7, notHere, refusal8, isNumberName, refusal9, refusal10, wrongLabels, wronglyLabelled, refusal11, passing, refusal12, Due, due, byteRefusals, lineRefusals}
+use Rattle.scope.specs.Refusals.{dueAt, least, refusal1, refusal2, unprintable, refusal3, refusal4, depthAfter, tooDeep, textOf, deepPart, refusal5, longText, longLabel, overIn, refusal6, inRange, wide, wideMass, wideScore, wideCount, refusal7, notHere, refusal8, isNumberName, refusal9, refusal10, wrongLabels, wronglyLabelled, refusal11, passing, refusal12, Due, due, byteRefusals, lineRefusals}
 use Rattle.scope.specs.Kinds.{unknownOrLabile}
 use Rattle.basics.specs.Each.{Each, OfGiven, each-append, each-through}
 use Rattle.reading_laws.specs.Laws.{placeOf, behind, dues}
@@ -24,7 +24,8 @@ use Rattle.reading_laws.specs.Stuck.{stuck-refused}
 use Rattle.reading_laws.specs.Within.{WithinNumber, WithinLabel, WithinValue, WithinPart, WithinBracket, WithinResidue, WithinLine, reading-within}
 
 module _ (n : ℕ) where
-  Under : List ℕ → Type 0
+  -- every place is below n
+  unfoldable pub Under : List ℕ → Type 0
   Under l = Each (λ j. j < n) l
 
   under-due : (t : Bool) (i : ℕ) → i < n → Under (dueAt t i)
@@ -62,7 +63,7 @@ module _ (n : ℕ) where
   under-member (x ∷ l) i p (List·Memᴰ·head e) = omega (arith, p .0)
   under-member (x ∷ l) i p (List·Memᴰ·tail m) = under-member l i (p .1) m
 
-  under-least : (l : List ℕ) (i : ℕ) → Under l → least l ≡ some i → i < n
+  pub under-least : (l : List ℕ) (i : ℕ) → Under l → least l ≡ some i → i < n
   under-least l i p e = under-member l i p (least-some l i .0 e .member)
 
   -- ---- the places of each number
@@ -73,7 +74,7 @@ module _ (n : ℕ) where
       under-append (dueAt (not (isPrintable b)) i) (unprintable (i + 1) s) (under-due (not (isPrintable b)) i (omega arith))
       (under-unprintable (i + 1) s (omega arith))
 
-  under-deep : (d i : ℕ) (t : List ℕ) → i + length t ≤ n → Under (tooDeep d i t)
+  pub under-deep : (d i : ℕ) (t : List ℕ) → i + length t ≤ n → Under (tooDeep d i t)
   unfolding tooDeep Under
   under-deep d i [] h = tt
   under-deep d i (b ∷ t) h =
@@ -149,50 +150,73 @@ place-inside n (d ∷ ds) k i w e = go (eqb (d .number) k) refl e (place-inside 
 
 -- 5 to 12
 module _ (n : ℕ) (l : Line ℕ) (w : WithinLine n l) where
-  inside5 : InsideDue n (due 5 (refusal5 l))
-  unfolding refusal5
-  inside5 = from-least n 5 _ (under-parts n deepPart (λ p v. under-deep n 0 (p .at + length (written (p .key))) (textOf p) (v .text)) l w)
+  -- every place at which the number is due
+  pub under5 : Under n (flat (λ k. flat deepPart (k .parts)) (l .brackets))
+  under5 = under-parts n deepPart (λ p v. under-deep n 0 (p .at + length (written (p .key))) (textOf p) (v .text)) l w
 
-  inside6 : InsideDue n (due 6 (refusal6 l))
-  unfolding refusal6
-  inside6 =
-      from-least n 6 _
-      (under-append n _ _ (under-drop n residueLimit _ (under-map n (WithinResidue n) (λ r. r .at) (λ r v. v) (l .residues) (w .residues)))
+  pub under6 : Under n (drop residueLimit (map (λ r. r .at) (l .residues)) ++ (drop bracketLimit (map (λ k. k .at) (l .brackets)) ++ flat overIn (l .brackets)))
+  under6 =
+      under-append n _ _ (under-drop n residueLimit _ (under-map n (WithinResidue n) (λ r. r .at) (λ r v. v) (l .residues) (w .residues)))
       (under-append n _ _ (under-drop n bracketLimit _ (under-map n (WithinBracket n) (λ k. k .at) (λ k v. v .at) (l .brackets) (w .brackets)))
-      (under-flat n (WithinBracket n) overIn (under-over n) (l .brackets) (w .brackets))))
+      (under-flat n (WithinBracket n) overIn (under-over n) (l .brackets) (w .brackets)))
 
-  inside7 : InsideDue n (due 7 (refusal7 l))
-  unfolding refusal7
-  inside7 =
-      from-least n 7 _
-      (under-flat n (WithinBracket n) _
+  pub under7 : Under n (flat (λ k. wideCount k ++ flat (λ p. wideMass (p .value) ++ wideScore p) (k .parts)) (l .brackets))
+  under7 =
+      under-flat n (WithinBracket n) _
       (λ k v. under-append n _ _
       (under-given n (λ p. p < n) _ (λ p u. under-due n (eqb (k .count) 0 || ltb countLimit (k .count)) p u) (k .counted) (v .counted))
       (under-flat n (WithinPart n) _ (λ p u. under-append n _ _ (under-mass n (p .value) (u .value)) (under-score n p u)) (k .parts) (v .parts)))
-      (l .brackets) (w .brackets))
+      (l .brackets) (w .brackets)
+
+  pub under8 : Under n (flat (λ k. flat (λ p. dueAt (notHere p) (p .at)) (k .parts)) (l .brackets))
+  under8 = under-parts n _ (λ p v. under-due n (notHere p) (p .at) (v .at)) l w
+
+  pub under9 : Under n (flat (λ k. flat (λ p. dueAt (isNumberName p) (p .at)) (k .parts)) (l .brackets))
+  under9 = under-parts n _ (λ p v. under-due n (isNumberName p) (p .at) (v .at)) l w
+
+  pub under10 : Under n (flat (λ k. dueAt (unknownOrLabile (k .kind) && onlyInfo k) (k .at)) (l .brackets))
+  under10 =
+      under-flat n (WithinBracket n) _ (λ k v. under-due n (unknownOrLabile (k .kind) && onlyInfo k) (k .at) (v .at)) (l .brackets)
+      (w .brackets)
+
+  pub under11 : Under n (wronglyLabelled [] (defined (l .brackets)) (referredTo (l .brackets)) (l .brackets))
+  under11 = under-labels n [] (defined (l .brackets)) (referredTo (l .brackets)) (l .brackets) (w .brackets)
+
+  pub under12 : Under n (passing 0 (l .brackets))
+  under12 = under-passing n 0 (l .brackets) (w .brackets)
+
+  -- and so the first of them
+  inside5 : InsideDue n (due 5 (refusal5 l))
+  unfolding refusal5
+  inside5 = from-least n 5 _ under5
+
+  inside6 : InsideDue n (due 6 (refusal6 l))
+  unfolding refusal6
+  inside6 = from-least n 6 _ under6
+
+  inside7 : InsideDue n (due 7 (refusal7 l))
+  unfolding refusal7
+  inside7 = from-least n 7 _ under7
 
   inside8 : InsideDue n (due 8 (refusal8 l))
   unfolding refusal8
-  inside8 = from-least n 8 _ (under-parts n _ (λ p v. under-due n (notHere p) (p .at) (v .at)) l w)
+  inside8 = from-least n 8 _ under8
 
   inside9 : InsideDue n (due 9 (refusal9 l))
   unfolding refusal9
-  inside9 = from-least n 9 _ (under-parts n _ (λ p v. under-due n (isNumberName p) (p .at) (v .at)) l w)
+  inside9 = from-least n 9 _ under9
 
   inside10 : InsideDue n (due 10 (refusal10 l))
   unfolding refusal10
-  inside10 =
-      from-least n 10 _
-      (under-flat n (WithinBracket n) _ (λ k v. under-due n (unknownOrLabile (k .kind) && onlyInfo k) (k .at) (v .at)) (l .brackets)
-      (w .brackets))
+  inside10 = from-least n 10 _ under10
 
   inside11 : InsideDue n (due 11 (refusal11 l))
   unfolding refusal11
-  inside11 = from-least n 11 _ (under-labels n [] (defined (l .brackets)) (referredTo (l .brackets)) (l .brackets) (w .brackets))
+  inside11 = from-least n 11 _ under11
 
   inside12 : InsideDue n (due 12 (refusal12 l))
   unfolding refusal12
-  inside12 = from-least n 12 _ (under-passing n 0 (l .brackets) (w .brackets))
+  inside12 = from-least n 12 _ under12
 
   line-inside : Each (InsideDue n) (lineRefusals l)
   line-inside = (inside5, (inside6, (inside7, (inside8, (inside9, (inside10, (inside11, (inside12, tt))))))))

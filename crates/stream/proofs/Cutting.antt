@@ -1,19 +1,19 @@
 -- Laws of the parts of a chunk. Assumes nothing.
 use mathlib.Core.Path.{_≡_, sym, ap, _∙_}
-use mathlib.Core.Bool.{true, false, false≢true}
+use mathlib.Core.Bool.{Bool, true, false, not, _||_, false≢true}
 use mathlib.Core.List.{List, [], _∷_, _++_, append-assoc}
 use Prim.Native.Nat.{ℕ, suc, _+_, _-_, _<_, _≤_, min}
 use native.Mathlib.Omega.{arith}
 use native.Mathlib.Nat.{sub-self}
 use borrow.Rule.Slice.PartMut.{mid-len}
-use borrow.Author.Tests.{ne-eqb, leb-true, leb-false}
+use borrow.Author.Tests.{ne-eqb, leb-true, leb-false, not-false}
 use lib.Dec.{eqb, leb}
 use lib.ListN.{length, take, drop, getD, length-drop, length-take}
-use lib.Seq.{take-suc, getD-drop, take-all, take-at, length-take-le, take-append-add}
+use lib.Seq.{take-suc, take-add, drop-drop, getD-drop, take-all, take-at, length-take-le, take-append-add}
 use Rattle.basics.specs.Choice.{by-test}
 use Rattle.stream.specs.Lines.{lineEnd}
 use Rattle.stream.specs.Feeding.{holdLimit, holding, kept, behind, ended, after, put, part, plain}
-use Rattle.stream.specs.Promises.{LineEnd, Keeps, Cuts}
+use Rattle.stream.specs.Promises.{strideSize, Passed, LineEnd, Keeps, Cuts}
 use Rattle.stream.specs.Laws.{after-plain, put-plain, after-line, put-line}
 
 -- one byte more
@@ -29,19 +29,56 @@ part-more f i l h k =
 pub part-none : (f : ℕ) (l : List ℕ) → part f f l ≡ []
 part-none f l = ap (λ z. take z (drop f l)) (sub-self f)
 
-plain-more : (t : List ℕ) (b : ℕ) → plain t ≡ true → (b ≡ lineEnd → ⊥) → plain (t ++ (b ∷ [])) ≡ true
+-- ---- parts of a chunk, one behind the other
+pub part-join : (f a b : ℕ) (l : List ℕ) → f ≤ a → a ≤ b → part f b l ≡ part f a l ++ part a b l
+part-join f a b l h k =
+    let e : b - f ≡ (a - f) + (b - a) = omega arith in
+    let g : f + (a - f) ≡ a = omega arith in
+    ap (λ z. take z (drop f l)) e ∙ take-add (a - f) (b - a) (drop f l)
+    ∙ ap (λ z. part f a l ++ take (b - a) z) (drop-drop (a - f) f l ∙ ap (λ z. drop z l) g)
+
+plain-join : (t u : List ℕ) → plain t ≡ true → plain u ≡ true → plain (t ++ u) ≡ true
 unfolding plain
-plain-more [] b e h = rw (ne-eqb b lineEnd h)
-plain-more (a ∷ t) b e h =
+plain-join [] u e g = g
+plain-join (a ∷ t) u e g =
     by-test (eqb a lineEnd) (λ q. absurd (false≢true (rw q at e)))
-    (λ q. rw q (plain-more t b (rw q at e) h))
+    (λ q. rw q (plain-join t u (rw q at e) g))
+
+plain-one : (b : ℕ) → (b ≡ lineEnd → ⊥) → plain (b ∷ []) ≡ true
+unfolding plain
+plain-one b h = rw (ne-eqb b lineEnd h)
+
+-- ---- a stride, looked at byte by byte: so far is told whether byte 10 is among them
+ends-more : (t : List ℕ) (b : ℕ) → (not (plain t) || eqb b lineEnd) ≡ not (plain (t ++ (b ∷ [])))
+unfolding plain
+ends-more [] b = by-test (eqb b lineEnd) (λ q. rw q) (λ q. rw q)
+ends-more (a ∷ t) b = by-test (eqb a lineEnd) (λ q. rw q) (λ q. rw q (ends-more t b))
+
+pub record Looked (chunk : List ℕ) (at i : ℕ) (so : Bool) : Type 0 where
+  pub inside : i ≤ strideSize
+  pub told : so ≡ not (plain (part at (at + i) chunk))
+
+pub looked-start : (chunk : List ℕ) (at : ℕ) → Looked chunk at 0 false
+unfolding plain
+looked-start chunk at =
+    let none : at + 0 ≡ at = omega arith in
+    record { inside = omega arith; told = ap (λ z. not (plain z)) (sym (part-none at chunk) ∙ ap (λ z. part at z chunk) (sym none)) }
+
+pub looked-more : {chunk : List ℕ} {at i : ℕ} {so r : Bool} → Looked chunk at i so → at + strideSize ≤ length chunk → i < strideSize
+    → r ≡ (so || eqb (getD chunk (at + i) 0) lineEnd) → Looked chunk at (i + 1) r
+looked-more {chunk} {at} {i} w h l e =
+    let b = getD chunk (at + i) 0 in
+    let next : at + i + 1 ≡ at + (i + 1) = omega arith in
+    record {
+      inside = omega arith;
+      told = e ∙ ap (λ z. z || eqb b lineEnd) (w .told) ∙ ends-more (part at (at + i) chunk) b
+          ∙ ap (λ z. not (plain z)) (sym (part-more at (at + i) chunk (omega arith) (omega arith)) ∙ ap (λ z. part at z chunk) next);
+    }
+
+pub looked-all : {chunk : List ℕ} {at i : ℕ} {so : Bool} → Looked chunk at i so → strideSize ≤ i → so ≡ not (plain (part at (at + strideSize) chunk))
+looked-all {chunk} {at} {i} w h = let e : i ≡ strideSize = omega (arith, w .inside) in w .told ∙ ap (λ z. not (plain (part at (at + z) chunk))) e
 
 -- ---- the first byte 10: none stands before i
-pub record Passed (chunk : List ℕ) (from i : ℕ) : Type 0 where
-  pub past : from ≤ i
-  pub within : i ≤ length chunk
-  pub before : plain (part from i chunk) ≡ true
-
 pub passed-start : (chunk : List ℕ) (from : ℕ) → from ≤ length chunk → Passed chunk from from
 unfolding plain
 passed-start chunk from h = record { past = omega arith; within = h; before = ap plain (part-none from chunk) }
@@ -51,7 +88,18 @@ passed-more chunk from i w l h =
     record {
       past = omega (arith, w .past);
       within = omega arith;
-      before = ap plain (part-more from i chunk (w .past) l) ∙ plain-more (part from i chunk) (getD chunk i 0) (w .before) h;
+      before = ap plain (part-more from i chunk (w .past) l) ∙ plain-join (part from i chunk) (getD chunk i 0 ∷ []) (w .before) (plain-one (getD chunk i 0) h);
+    }
+
+-- a stride is passed over, where no line ends in it
+pub passed-stride : {chunk : List ℕ} {from i : ℕ} {r : Bool} → Passed chunk from i → i + strideSize ≤ length chunk
+    → r ≡ not (plain (part i (i + strideSize) chunk)) → r ≡ false → Passed chunk from (i + strideSize)
+passed-stride {chunk} {from} {i} w l e q =
+    let end = i + strideSize in
+    record {
+      past = omega (arith, w .past);
+      within = l;
+      before = ap plain (part-join from i end chunk (w .past) (omega arith)) ∙ plain-join (part from i chunk) (part i end chunk) (w .before) (not-false _ (sym e ∙ q));
     }
 
 pub passed-found : (chunk : List ℕ) (from i : ℕ) → Passed chunk from i → getD chunk i 0 ≡ lineEnd → LineEnd chunk from i

@@ -9,10 +9,12 @@ use lib.Dec.{eqb}
 use native.Mathlib.Numerals.{add-one}
 use lib.IntN.{ℤ, pos}
 use lib.ListN.{length, take, drop, getD, replicate, length-append, length-take, length-replicate}
-use lib.Seq.{take-suc, take-add, drop-drop, take-all, take-append-seam, drop-append-seam, length-take-le}
+use lib.Seq.{take-suc, take-add, take-all, take-append-seam, drop-append-seam, length-take-le}
 use Rattle.basics.specs.Choice.{took, passed}
 use Rattle.scope.specs.Canonical.{decimal}
+use Rattle.scope.specs.Limits.{residueLimit, bracketLimit}
 use Rattle.scope.specs.Layout.{bytesSize, numbersSize}
+use Rattle.sheet.specs.Rows.{headsRoom, partsRoom, massesRoom}
 use Rattle.reader.specs.ReadSays.{Clean}
 use Rattle.writer.specs.Written.{stored, Puts, decimalMost}
 use Rattle.writer.proofs.Storing.{stored-append, stored-whole}
@@ -23,18 +25,45 @@ use Rattle.stream.specs.declared.Got.{Got}
 use Rattle.stream.specs.declared.Got.the-variants.{Came}
 use Rattle.stream.specs.Lines.{lineEnd}
 use Rattle.stream.specs.Feeding.{holdLimit, State, holding, kept, behind, ended, after, put, lastPut, finished, part}
-use Rattle.stream.specs.Promises.{LineEnd, Cuts, numberLimit, readLimit, outputLimit, Ready, Fronts, Runs, Feeds, Owed, OwedLast, Received, lineEnds, noticeRoom, noticed, Drains, Closes, Turns}
+use Rattle.stream.specs.Promises.{LineEnd, Cuts, numberLimit, readLimit, outputLimit, Lent, sheetOf, HasRoom, Ready, Fronts, Runs, Feeds, Owed, OwedLast, Received, lineEnds, noticeRoom, noticed, Drains, Closes, Turns}
 use Rattle.stream.specs.Laws.{after-append, put-append, after-line, put-line}
 use Rattle.stream.specs.Whole.{entry-front}
-use Rattle.stream.proofs.Cutting.{part-none, part-more}
+use Rattle.stream.proofs.Cutting.{part-none, part-more, part-join}
 
--- ---- parts of a chunk, one behind the other
-pub part-join : (f a b : ℕ) (l : List ℕ) → f ≤ a → a ≤ b → part f b l ≡ part f a l ++ part a b l
-part-join f a b l h k =
-    let e : b - f ≡ (a - f) + (b - a) = omega arith in
-    let g : f + (a - f) ≡ a = omega arith in
-    ap (λ z. take z (drop f l)) e ∙ take-add (a - f) (b - a) (drop f l)
-    ∙ ap (λ z. part f a l ++ take (b - a) z) (drop-drop (a - f) f l ∙ ap (λ z. drop z l) g)
+-- ---- tables that are as long as they were
+pub record SameLong (s t : Lent) : Type 0 where
+  pub letters-long : length (t .letters) ≡ length (s .letters)
+  pub sections-long : length (t .sections) ≡ length (s .sections)
+  pub heads-long : length (t .heads) ≡ length (s .heads)
+  pub parts-long : length (t .parts) ≡ length (s .parts)
+  pub masses-long : length (t .masses) ≡ length (s .masses)
+  pub scores-long : length (t .scores) ≡ length (s .scores)
+
+same-long : {s : Lent} → SameLong s s
+same-long = record { letters-long = refl; sections-long = refl; heads-long = refl; parts-long = refl; masses-long = refl; scores-long = refl }
+
+long-twice : {s t u : Lent} → SameLong s t → SameLong t u → SameLong s u
+long-twice a b =
+    record {
+      letters-long = b .letters-long ∙ a .letters-long;
+      sections-long = b .sections-long ∙ a .sections-long;
+      heads-long = b .heads-long ∙ a .heads-long;
+      parts-long = b .parts-long ∙ a .parts-long;
+      masses-long = b .masses-long ∙ a .masses-long;
+      scores-long = b .scores-long ∙ a .scores-long;
+    }
+
+-- tables that had room have it still
+pub still-roomy : {s t : Lent} → HasRoom s → SameLong s t → HasRoom t
+still-roomy r l =
+    record {
+      letters-room = omega (arith, r .letters-room, l .letters-long);
+      sections-room = omega (arith, r .sections-room, l .sections-long);
+      heads-room = omega (arith, r .heads-room, l .heads-long);
+      parts-room = omega (arith, r .parts-room, l .parts-long);
+      masses-room = omega (arith, r .masses-room, l .masses-long);
+      scores-room = omega (arith, r .scores-room, l .scores-long);
+    }
 
 -- ---- a text at the front of an output
 pub fronts : (o t left : List ℕ) (n : ℕ) → left ≡ stored o 0 t → n ≡ length t → n ≤ length o → length left ≡ length o → Fronts t o left n
@@ -75,12 +104,12 @@ module _ (chunk : List ℕ) (from : ℕ) (first : State) where
       ∙ ap (λ z. put first (part from next chunk) ++ put z (part next next′ chunk)) e
 
 -- ---- the lines that lie whole in a chunk
-module _ (chunk : List ℕ) (from number : ℕ) (bytes₀ : List ℕ) (numbers₀ : List ℤ) (out₀ : List ℕ) (at : ℕ) where
+module _ (chunk : List ℕ) (from number : ℕ) (sheet₀ : Lent) (bytes₀ : List ℕ) (numbers₀ : List ℤ) (out₀ : List ℕ) (at : ℕ) where
   abbrev first : State
   first = holding number []
 
   -- they are put up to `next`
-  pub record Goes (next line n : ℕ) (bytes : List ℕ) (numbers : List ℤ) (out : List ℕ) : Type 0 where
+  pub record Goes (next line n : ℕ) (sheet : Lent) (bytes : List ℕ) (numbers : List ℤ) (out : List ℕ) : Type 0 where
     pub past : from ≤ next
     pub inside : next ≤ length chunk
     pub grows : number ≤ line
@@ -89,14 +118,16 @@ module _ (chunk : List ℕ) (from number : ℕ) (bytes₀ : List ℕ) (numbers�
     pub puts : out ≡ stored out₀ at (put first (part from next chunk))
     pub ends : n ≡ at + length (put first (part from next chunk))
     pub fits : n ≤ length out₀
+    pub roomy : HasRoom sheet
     pub clean : Clean bytes numbers
+    pub sheet-long : SameLong sheet₀ sheet
     pub bytes-long : length bytes ≡ length bytes₀
     pub numbers-long : length numbers ≡ length numbers₀
     pub out-long : length out ≡ length out₀
 
-  pub goes-start : from ≤ length chunk → Clean bytes₀ numbers₀ → at ≤ length out₀ → Goes from number at bytes₀ numbers₀ out₀
+  pub goes-start : from ≤ length chunk → HasRoom sheet₀ → Clean bytes₀ numbers₀ → at ≤ length out₀ → Goes from number at sheet₀ bytes₀ numbers₀ out₀
   unfolding after put stored
-  goes-start h w k =
+  goes-start h g w k =
       let none : length (put first (part from from chunk)) ≡ 0 = ap (λ z. length (put first z)) (part-none from chunk) in
       record {
         past = omega arith;
@@ -107,18 +138,20 @@ module _ (chunk : List ℕ) (from number : ℕ) (bytes₀ : List ℕ) (numbers�
         puts = ap (λ z. stored out₀ at (put first z)) (sym (part-none from chunk));
         ends = omega (arith, none);
         fits = k;
+        roomy = g;
         clean = w;
+        sheet-long = same-long;
         bytes-long = refl;
         numbers-long = refl;
         out-long = refl;
       }
 
   -- a line more
-  pub goes-line : {next line n : ℕ} {bytes : List ℕ} {numbers : List ℤ} {out : List ℕ} {end : ℕ} {out′ : List ℕ} {r : ℕ} {bytes′ : List ℕ} {numbers′ : List ℤ}
-      → Goes next line n bytes numbers out → LineEnd chunk next end → (end ≡ length chunk → ⊥)
-      → Printed entryLimit out n (entry line (part next end chunk)) out′ r bytes numbers bytes′ numbers′ → n + entryLimit ≤ length out
-      → Goes (end + 1) (line + 1) r bytes′ numbers′ out′
-  goes-line {next} {line} {n} {bytes} {numbers} {out} {end} {out′} {r} w m q p h =
+  pub goes-line : {next line n : ℕ} {sheet : Lent} {bytes : List ℕ} {numbers : List ℤ} {out : List ℕ} {end : ℕ} {out′ : List ℕ} {r : ℕ} {sheet′ : Lent} {bytes′ : List ℕ} {numbers′ : List ℤ}
+      → Goes next line n sheet bytes numbers out → LineEnd chunk next end → (end ≡ length chunk → ⊥)
+      → Printed entryLimit out n (entry line (part next end chunk)) out′ r bytes numbers bytes′ numbers′ → SameLong sheet sheet′ → n + entryLimit ≤ length out
+      → Goes (end + 1) (line + 1) r sheet′ bytes′ numbers′ out′
+  goes-line {next} {line} {n} {sheet} {bytes} {numbers} {out} {end} {out′} {r} w m q p u h =
       let s = holding line [] in
       let t = part next end chunk in
       let before = put first (part from next chunk) in
@@ -142,13 +175,15 @@ module _ (chunk : List ℕ) (from number : ℕ) (bytes₀ : List ℕ) (numbers�
             ∙ sym (stored-append out₀ at before e) ∙ ap (stored out₀ at) (sym text);
         ends = omega (arith, p .puts .ends, a, length-append before e, ap length text);
         fits = omega (arith, p .puts .near, w .out-long);
+        roomy = still-roomy (w .roomy) u;
         clean = still-clean p (w .clean);
+        sheet-long = long-twice (w .sheet-long) u;
         bytes-long = ap length (p .bytes-same) ∙ w .bytes-long;
         numbers-long = ap length (p .numbers-same) ∙ w .numbers-long;
         out-long = p .out-long ∙ w .out-long;
       }
 
-  pub goes-end : {next line n : ℕ} {bytes : List ℕ} {numbers : List ℤ} {out : List ℕ} → Goes next line n bytes numbers out
+  pub goes-end : {next line n : ℕ} {sheet : Lent} {bytes : List ℕ} {numbers : List ℤ} {out : List ℕ} → Goes next line n sheet bytes numbers out
       → Runs chunk from number out₀ at next line 0 out n × Clean bytes numbers
   goes-end w = (
     record {
@@ -168,10 +203,10 @@ module _ (chunk : List ℕ) (from number : ℕ) (bytes₀ : List ℕ) (numbers�
 
 -- ---- a part of a chunk, taken in
 -- the line that is begun goes on past it
-pub feeds-held : {chunk : List ℕ} {from number : ℕ} {hold : List ℕ} {held : ℕ} {bytes : List ℕ} {numbers : List ℤ} {out holds : List ℕ} {n next : ℕ} {e : Bool}
-    → Ready hold held bytes numbers out → Cuts chunk from hold held holds n next e → e ≡ false
-    → Feeds chunk from number hold held out next number holds n out 0 × Ready holds n bytes numbers out
-feeds-held {chunk} {from} {number} {hold} {held} {bytes} {numbers} {out} {holds} {n} {next} w c q =
+pub feeds-held : {chunk : List ℕ} {from number : ℕ} {hold : List ℕ} {held : ℕ} {sheet : Lent} {bytes : List ℕ} {numbers : List ℤ} {out holds : List ℕ} {n next : ℕ} {e : Bool}
+    → Ready hold held sheet bytes numbers out → Cuts chunk from hold held holds n next e → e ≡ false
+    → Feeds chunk from number hold held out next number holds n out 0 × Ready holds n sheet bytes numbers out
+feeds-held {chunk} {from} {number} {hold} {held} {sheet} {bytes} {numbers} {out} {holds} {n} {next} w c q =
     let m = subst (λ z. Cuts chunk from hold held holds n next z) q c in (
       record {
         inside = m .inside;
@@ -182,17 +217,17 @@ feeds-held {chunk} {from} {number} {hold} {held} {bytes} {numbers} {out} {holds}
         leaves = m .leaves number;
         puts = record { fits = omega arith; front = sym (m .puts number); rest = refl };
       },
-      record { room = m .room; within = m .within; clean = w .clean; wide = w .wide; narrow = w .narrow },
+      record { room = m .room; within = m .within; roomy = w .roomy; clean = w .clean; wide = w .wide; narrow = w .narrow },
     )
 
 -- it ends, and lines behind it
-pub feeds-lines : {chunk : List ℕ} {from number : ℕ} {hold : List ℕ} {held : ℕ} {bytes : List ℕ} {numbers : List ℤ} {out holds : List ℕ} {n next : ℕ} {e : Bool}
-    → {out′ : List ℕ} {at : ℕ} {bytes′ : List ℕ} {numbers′ : List ℤ} {next′ line k : ℕ} {out″ : List ℕ} {m : ℕ} {bytes″ : List ℕ} {numbers″ : List ℤ}
-    → Ready hold held bytes numbers out → Cuts chunk from hold held holds n next e → e ≡ true
+pub feeds-lines : {chunk : List ℕ} {from number : ℕ} {hold : List ℕ} {held : ℕ} {sheet : Lent} {bytes : List ℕ} {numbers : List ℤ} {out holds : List ℕ} {n next : ℕ} {e : Bool}
+    → {out′ : List ℕ} {at : ℕ} {bytes′ : List ℕ} {numbers′ : List ℤ} {next′ line k : ℕ} {out″ : List ℕ} {m : ℕ} {sheet″ : Lent} {bytes″ : List ℕ} {numbers″ : List ℤ}
+    → Ready hold held sheet bytes numbers out → Cuts chunk from hold held holds n next e → e ≡ true
     → Printed entryLimit out 0 (entry number (part 0 n holds)) out′ at bytes numbers bytes′ numbers′
-    → Runs chunk next (number + 1) out′ at next′ line k out″ m → Clean bytes″ numbers″
-    → Feeds chunk from number hold held out next′ line holds k out″ m × Ready holds k bytes″ numbers″ out″
-feeds-lines {chunk} {from} {number} {hold} {held} {bytes} {numbers} {out} {holds} {n} {next} {e} {out′} {at} {bytes′} {numbers′} {next′} {line} {k} {out″} {m} w c q p g clear =
+    → Runs chunk next (number + 1) out′ at next′ line k out″ m → SameLong sheet sheet″ → Clean bytes″ numbers″
+    → Feeds chunk from number hold held out next′ line holds k out″ m × Ready holds k sheet″ bytes″ numbers″ out″
+feeds-lines {chunk} {from} {number} {hold} {held} {sheet} {bytes} {numbers} {out} {holds} {n} {next} {e} {out′} {at} {bytes′} {numbers′} {next′} {line} {k} {out″} {m} w c q p g u clear =
     let d = subst (λ z. Cuts chunk from hold held holds n next z) q c in
     let s = holding number (take held hold) in
     let first = entry number (part 0 n holds) in
@@ -216,7 +251,7 @@ feeds-lines {chunk} {from} {number} {hold} {held} {bytes} {numbers} {out} {holds
             ∙ ap (λ z. holding line (take z holds)) (sym (g .none-held));
         puts = subst (λ z. Fronts z out out″ m) (sym text) (fronts out (first ++ more) out″ m holds-text ends-text (omega (arith, g .fits, p .out-long)) long);
       },
-      record { room = d .room; within = omega (arith, g .none-held); clean = clear; wide = omega (arith, w .wide, long); narrow = omega (arith, w .narrow, long) },
+      record { room = d .room; within = omega (arith, g .none-held); roomy = still-roomy (w .roomy) u; clean = clear; wide = omega (arith, w .wide, long); narrow = omega (arith, w .narrow, long) },
     )
 
 -- so what is handed over is owed
@@ -226,24 +261,25 @@ owed {chunk} {from} {number} {next = next} f =
     record { fits = f .puts .fits; text = f .puts .front ∙ ap (λ z. put (holding number z) (part from next chunk)) (sym (f .stays)) }
 
 -- ---- a whole chunk: it is taken in up to `from`, and what is put out for that was taken
-module _ (chunk : List ℕ) (number : ℕ) (hold₀ : List ℕ) (held : ℕ) (bytes₀ : List ℕ) (numbers₀ : List ℤ) (out₀ : List ℕ) where
+module _ (chunk : List ℕ) (number : ℕ) (hold₀ : List ℕ) (held : ℕ) (sheet₀ : Lent) (bytes₀ : List ℕ) (numbers₀ : List ℤ) (out₀ : List ℕ) where
   abbrev begun : State
   begun = holding number (take held hold₀)
 
-  pub record Taken (from line n sent : ℕ) (hold bytes : List ℕ) (numbers : List ℤ) (out : List ℕ) : Type 0 where
+  pub record Taken (from line n sent : ℕ) (hold : List ℕ) (sheet : Lent) (bytes : List ℕ) (numbers : List ℤ) (out : List ℕ) : Type 0 where
     pub inside : from ≤ length chunk
     pub grows : number ≤ line
     pub count : line ≤ number + from
     pub leaves : after begun (take from chunk) ≡ holding line (take n hold)
     pub given : sent ≡ length (put begun (take from chunk))
     pub low : sent ≤ from * outputLimit
-    pub ready : Ready hold n bytes numbers out
+    pub ready : Ready hold n sheet bytes numbers out
     pub hold-long : length hold ≡ length hold₀
+    pub sheet-long : SameLong sheet₀ sheet
     pub bytes-long : length bytes ≡ length bytes₀
     pub numbers-long : length numbers ≡ length numbers₀
     pub out-long : length out ≡ length out₀
 
-  pub taken-start : Ready hold₀ held bytes₀ numbers₀ out₀ → Taken 0 number held 0 hold₀ bytes₀ numbers₀ out₀
+  pub taken-start : Ready hold₀ held sheet₀ bytes₀ numbers₀ out₀ → Taken 0 number held 0 hold₀ sheet₀ bytes₀ numbers₀ out₀
   unfolding after put
   taken-start w =
       record {
@@ -255,16 +291,18 @@ module _ (chunk : List ℕ) (number : ℕ) (hold₀ : List ℕ) (held : ℕ) (by
         low = omega arith;
         ready = w;
         hold-long = refl;
+        sheet-long = same-long;
         bytes-long = refl;
         numbers-long = refl;
         out-long = refl;
       }
 
-  pub taken-more : {from line n sent : ℕ} {hold bytes : List ℕ} {numbers : List ℤ} {out : List ℕ} {next line′ n′ : ℕ} {hold′ bytes′ : List ℕ} {numbers′ : List ℤ} {out′ : List ℕ} {m took : ℕ}
-      → Taken from line n sent hold bytes numbers out → from < length chunk → Feeds chunk from line hold n out next line′ hold′ n′ out′ m
-      → Ready hold′ n′ bytes′ numbers′ out′ → took ≤ m → m ≤ took → length bytes′ ≡ length bytes → length numbers′ ≡ length numbers → length out′ ≡ length out
-      → Taken next line′ n′ (sent + took) hold′ bytes′ numbers′ out′
-  taken-more {from} {line} {n} {sent} {hold} {next = next} {m = m} w l f r a z b u o =
+  pub taken-more : {from line n sent : ℕ} {hold : List ℕ} {sheet : Lent} {bytes : List ℕ} {numbers : List ℤ} {out : List ℕ} {next line′ n′ : ℕ}
+      → {hold′ : List ℕ} {sheet′ : Lent} {bytes′ : List ℕ} {numbers′ : List ℤ} {out′ : List ℕ} {m took : ℕ}
+      → Taken from line n sent hold sheet bytes numbers out → from < length chunk → Feeds chunk from line hold n out next line′ hold′ n′ out′ m
+      → Ready hold′ n′ sheet′ bytes′ numbers′ out′ → took ≤ m → m ≤ took → SameLong sheet sheet′ → length bytes′ ≡ length bytes
+      → length numbers′ ≡ length numbers → length out′ ≡ length out → Taken next line′ n′ (sent + took) hold′ sheet′ bytes′ numbers′ out′
+  taken-more {from} {line} {n} {sent} {hold} {next = next} {m = m} w l f r a z v b u o =
       let go = f .goes l in
       let s = holding line (take n hold) in
       let e : next ≡ from + (next - from) = omega arith in
@@ -281,13 +319,14 @@ module _ (chunk : List ℕ) (number : ℕ) (hold₀ : List ℕ) (held : ℕ) (by
         low = omega (arith, w .low, f .puts .fits, r .narrow);
         ready = r;
         hold-long = r .room ∙ sym (w .ready .room) ∙ w .hold-long;
+        sheet-long = long-twice (w .sheet-long) v;
         bytes-long = b ∙ w .bytes-long;
         numbers-long = u ∙ w .numbers-long;
         out-long = o ∙ w .out-long;
       }
 
-  pub taken-all : {from line n sent : ℕ} {hold bytes : List ℕ} {numbers : List ℤ} {out : List ℕ} → Taken from line n sent hold bytes numbers out
-      → length chunk ≤ from → Drains chunk number hold₀ held line hold n sent true Whole × Ready hold n bytes numbers out
+  pub taken-all : {from line n sent : ℕ} {hold : List ℕ} {sheet : Lent} {bytes : List ℕ} {numbers : List ℤ} {out : List ℕ} → Taken from line n sent hold sheet bytes numbers out
+      → length chunk ≤ from → Drains chunk number hold₀ held line hold n sent true Whole × Ready hold n sheet bytes numbers out
   taken-all {from} w l =
       let all = sym (take-all from chunk l) in (
         record {
@@ -313,9 +352,9 @@ unwritten : Unwritten ≡ Whole → ⊥
 unwritten e = false≢true (ap isWhole e)
 
 -- a write failed
-pub stays-ready : {hold : List ℕ} {held : ℕ} {bytes : List ℕ} {numbers : List ℤ} {out hold′ : List ℕ} {held′ : ℕ} {bytes′ : List ℕ} {numbers′ : List ℤ} {out′ : List ℕ}
-    → Ready hold held bytes numbers out → Ready hold′ held′ bytes′ numbers′ out′ → Ready hold′ held bytes′ numbers′ out′
-stays-ready w r = record { room = r .room; within = w .within; clean = r .clean; wide = r .wide; narrow = r .narrow }
+pub stays-ready : {hold : List ℕ} {held : ℕ} {sheet : Lent} {bytes : List ℕ} {numbers : List ℤ} {out hold′ : List ℕ} {held′ : ℕ} {sheet′ : Lent} {bytes′ : List ℕ} {numbers′ : List ℤ} {out′ : List ℕ}
+    → Ready hold held sheet bytes numbers out → Ready hold′ held′ sheet′ bytes′ numbers′ out′ → Ready hold′ held sheet′ bytes′ numbers′ out′
+stays-ready w r = record { room = r .room; within = w .within; roomy = r .roomy; clean = r .clean; wide = r .wide; narrow = r .narrow }
 
 pub drains-lost : {chunk : List ℕ} {number : ℕ} {hold : List ℕ} {held line : ℕ} (ends : ℕ) {holds : List ℕ} {n sent : ℕ} → number ≤ line
     → Drains chunk number hold held (line + ends) holds n sent false Unwritten
@@ -336,9 +375,9 @@ last-entry : (n : ℕ) (l : List ℕ) → 0 < length l → lastPut n l ≡ entry
 last-entry n [] h = absurd (omega arith)
 last-entry n (b ∷ l) h = refl
 
-pub ends-line : (n : ℕ) (hold out : List ℕ) (held r : ℕ) (out′ bytes : List ℕ) (numbers : List ℤ) (bytes′ : List ℕ) (numbers′ : List ℤ) → Ready hold held bytes numbers out → 0 < held
+pub ends-line : (n : ℕ) (hold out : List ℕ) (held r : ℕ) (out′ : List ℕ) (sheet : Lent) (bytes : List ℕ) (numbers : List ℤ) (bytes′ : List ℕ) (numbers′ : List ℤ) → Ready hold held sheet bytes numbers out → 0 < held
     → Printed entryLimit out 0 (entry n (part 0 held hold)) out′ r bytes numbers bytes′ numbers′ → Fronts (finished (holding n (take held hold))) out out′ r
-ends-line n hold out held r out′ bytes numbers bytes′ numbers′ w h q =
+ends-line n hold out held r out′ sheet bytes numbers bytes′ numbers′ w h q =
     let p = subst (λ z. Printed entryLimit out 0 (entry n z) out′ r bytes numbers bytes′ numbers′) (whole-front held hold) q in
     let k : length (take held hold) ≡ held = length-take-le held hold (omega (arith, w .room, w .within)) in
     subst (λ z. Fronts z out out′ r) (sym (last-entry n (take held hold) (omega arith)))
@@ -362,9 +401,9 @@ came-fits {room} {room′} {n} e r l = let h : n ≤ room = subst (Received room
 pub front-fits : (n : ℕ) (l : List ℕ) → length l ≤ readLimit → length (take n l) ≤ readLimit
 front-fits n l h = omega (arith, length-take n l)
 
-module _ {room : List ℕ} {number : ℕ} {hold : List ℕ} {held line : ℕ} {holds : List ℕ} {n : ℕ} {bytes : List ℕ} {numbers : List ℤ} {out : List ℕ} {sent : ℕ} {more : Bool} {end : End} where
+module _ {room : List ℕ} {number : ℕ} {hold : List ℕ} {held line : ℕ} {holds : List ℕ} {n : ℕ} {sheet : Lent} {bytes : List ℕ} {numbers : List ℤ} {out : List ℕ} {sent : ℕ} {more : Bool} {end : End} where
   pub turns-chunk : (got : ℕ) → got ≤ length room → length room ≤ readLimit → Drains (take got room) number hold held line holds n sent more end
-      → Ready holds n bytes numbers out → Turns room number hold held line holds n bytes numbers out sent more end
+      → Ready holds n sheet bytes numbers out → Turns room number hold held line holds n sheet bytes numbers out sent more end
   turns-chunk got h k d r =
       record {
         grows = d .grows;
@@ -376,7 +415,7 @@ module _ {room : List ℕ} {number : ℕ} {hold : List ℕ} {held line : ℕ} {h
         closed = λ e f. absurd (d .lost e f);
       }
 
-  pub turns-closed : Closes number hold held line sent more end → Turns room number hold held line holds n bytes numbers out sent more end
+  pub turns-closed : Closes number hold held line sent more end → Turns room number hold held line holds n sheet bytes numbers out sent more end
   turns-closed c =
       record {
         grows = omega (arith, c .same);
@@ -388,8 +427,8 @@ module _ {room : List ℕ} {number : ℕ} {hold : List ℕ} {held line : ℕ} {h
         closed = λ _ f. c .taken f;
       }
 
-pub turns-failed : {room : List ℕ} {number : ℕ} {hold : List ℕ} {held : ℕ} {holds : List ℕ} {n : ℕ} {bytes : List ℕ} {numbers : List ℤ} {out : List ℕ} {sent : ℕ}
-    → Turns room number hold held number holds n bytes numbers out sent false Unread
+pub turns-failed : {room : List ℕ} {number : ℕ} {hold : List ℕ} {held : ℕ} {holds : List ℕ} {n : ℕ} {sheet : Lent} {bytes : List ℕ} {numbers : List ℤ} {out : List ℕ} {sent : ℕ}
+    → Turns room number hold held number holds n sheet bytes numbers out sent false Unread
 turns-failed =
     record {
       grows = omega arith;
@@ -453,28 +492,30 @@ notice-fronts words number out {one} {two} {left} {a} {r} h e p q l =
     (omega (arith, q .ends, p .ends, length-append words (d ++ (lineEnd ∷ [])), length-append d (lineEnd ∷ []))) (omega (arith, q .near, p .near)) l
 
 -- ---- turn upon turn: as many lines are still to be numbered as reads can bring
-module _ (room₀ hold₀ bytes₀ : List ℕ) (numbers₀ : List ℤ) (out₀ : List ℕ) where
-  pub record Serves (room hold bytes : List ℕ) (numbers : List ℤ) (out : List ℕ) (number held turns : ℕ) : Type 0 where
+module _ (room₀ hold₀ : List ℕ) (sheet₀ : Lent) (bytes₀ : List ℕ) (numbers₀ : List ℤ) (out₀ : List ℕ) where
+  pub record Serves (room hold : List ℕ) (sheet : Lent) (bytes : List ℕ) (numbers : List ℤ) (out : List ℕ) (number held turns : ℕ) : Type 0 where
     pub room-fits : length room ≤ readLimit
     pub some : 1 ≤ number
     pub count : number + readLimit * turns + outputLimit ≤ numberLimit
-    pub ready : Ready hold held bytes numbers out
+    pub ready : Ready hold held sheet bytes numbers out
     pub room-long : length room ≡ length room₀
     pub hold-long : length hold ≡ length hold₀
+    pub sheet-long : SameLong sheet₀ sheet
     pub bytes-long : length bytes ≡ length bytes₀
     pub numbers-long : length numbers ≡ length numbers₀
     pub out-long : length out ≡ length out₀
 
-  pub serves-start : {turns : ℕ} → length room₀ ≤ readLimit → 1 + readLimit * turns + outputLimit ≤ numberLimit → Ready hold₀ 0 bytes₀ numbers₀ out₀
-      → Serves room₀ hold₀ bytes₀ numbers₀ out₀ 1 0 turns
+  pub serves-start : {turns : ℕ} → length room₀ ≤ readLimit → 1 + readLimit * turns + outputLimit ≤ numberLimit → Ready hold₀ 0 sheet₀ bytes₀ numbers₀ out₀
+      → Serves room₀ hold₀ sheet₀ bytes₀ numbers₀ out₀ 1 0 turns
   serves-start l n w =
-      record { room-fits = l; some = omega arith; count = n; ready = w; room-long = refl; hold-long = refl; bytes-long = refl; numbers-long = refl; out-long = refl }
+      record { room-fits = l; some = omega arith; count = n; ready = w; room-long = refl; hold-long = refl; sheet-long = same-long; bytes-long = refl; numbers-long = refl; out-long = refl }
 
-  pub serves-more : {room hold bytes : List ℕ} {numbers : List ℤ} {out : List ℕ} {number held turns : ℕ} {room′ hold′ bytes′ : List ℕ} {numbers′ : List ℤ} {out′ : List ℕ} {line n sent : ℕ} {more : Bool} {end : End}
-      → Serves room hold bytes numbers out number held turns → 0 < turns → Turns room′ number hold held line hold′ n bytes′ numbers′ out′ sent more end → more ≡ true
-      → length room′ ≡ length room → length hold′ ≡ length hold → length bytes′ ≡ length bytes → length numbers′ ≡ length numbers → length out′ ≡ length out
-      → Serves room′ hold′ bytes′ numbers′ out′ line n (turns - 1)
-  serves-more w l t e r h b u o =
+  pub serves-more : {room hold : List ℕ} {sheet : Lent} {bytes : List ℕ} {numbers : List ℤ} {out : List ℕ} {number held turns : ℕ}
+      → {room′ hold′ : List ℕ} {sheet′ : Lent} {bytes′ : List ℕ} {numbers′ : List ℤ} {out′ : List ℕ} {line n sent : ℕ} {more : Bool} {end : End}
+      → Serves room hold sheet bytes numbers out number held turns → 0 < turns → Turns room′ number hold held line hold′ n sheet′ bytes′ numbers′ out′ sent more end
+      → more ≡ true → length room′ ≡ length room → length hold′ ≡ length hold → SameLong sheet sheet′ → length bytes′ ≡ length bytes
+      → length numbers′ ≡ length numbers → length out′ ≡ length out → Serves room′ hold′ sheet′ bytes′ numbers′ out′ line n (turns - 1)
+  serves-more w l t e r h v b u o =
       record {
         room-fits = omega (arith, w .room-fits);
         some = omega (arith, w .some, t .grows);
@@ -482,6 +523,7 @@ module _ (room₀ hold₀ bytes₀ : List ℕ) (numbers₀ : List ℤ) (out₀ :
         ready = t .ready e;
         room-long = r ∙ w .room-long;
         hold-long = h ∙ w .hold-long;
+        sheet-long = long-twice (w .sheet-long) v;
         bytes-long = b ∙ w .bytes-long;
         numbers-long = u ∙ w .numbers-long;
         out-long = o ∙ w .out-long;
@@ -491,11 +533,29 @@ module _ (room₀ hold₀ bytes₀ : List ℕ) (numbers₀ : List ℤ) (out₀ :
 zeros-all : {A : Type 0} (n : ℕ) (z : A) → take n (replicate n z) ≡ replicate n z
 zeros-all n z = take-all n (replicate n z) (omega (arith, length-replicate n z))
 
-pub ready-new : (room : ℕ) → entryLimit ≤ room → room ≤ outputLimit → Ready (replicate holdLimit 0) 0 (replicate bytesSize 0) (replicate numbersSize (pos 0)) (replicate room 0)
+-- the sheet of zeros
+abbrev newSheet : Lent
+newSheet =
+    sheetOf (replicate residueLimit 0) (replicate residueLimit 0) (replicate headsRoom 0) (replicate partsRoom 0) (replicate massesRoom (pos 0))
+    (replicate bracketLimit (pos 0))
+
+new-roomy : HasRoom newSheet
+new-roomy =
+    record {
+      letters-room = omega (arith, length-replicate {A = ℕ} residueLimit 0);
+      sections-room = omega (arith, length-replicate {A = ℕ} residueLimit 0);
+      heads-room = omega (arith, length-replicate {A = ℕ} headsRoom 0);
+      parts-room = omega (arith, length-replicate {A = ℕ} partsRoom 0);
+      masses-room = omega (arith, length-replicate massesRoom (pos 0));
+      scores-room = omega (arith, length-replicate bracketLimit (pos 0));
+    }
+
+pub ready-new : (room : ℕ) → entryLimit ≤ room → room ≤ outputLimit → Ready (replicate holdLimit 0) 0 newSheet (replicate bytesSize 0) (replicate numbersSize (pos 0)) (replicate room 0)
 ready-new room h k =
     record {
       room = length-replicate {A = ℕ} holdLimit 0;
       within = omega arith;
+      roomy = new-roomy;
       clean = record {
         bytes-room = omega (arith, length-replicate {A = ℕ} bytesSize 0);
         bytes-zero = zeros-all bytesSize 0;

@@ -7,6 +7,7 @@ use lib.Dec.{eqb}
 use lib.IntN.{ℤ}
 use lib.ListN.{length, take, drop, getD}
 use Rattle.scope.specs.Canonical.{decimal}
+use Rattle.sheet.specs.Rows.{Roomy}
 use Rattle.reader.specs.ReadSays.{Clean}
 use Rattle.writer.specs.Written.{stored, decimalMost}
 use Rattle.entries.specs.Entry.{entryLimit}
@@ -18,6 +19,16 @@ use Rattle.stream.specs.Lines.{lineEnd}
 use Rattle.stream.specs.Feeding.{holdLimit, holding, kept, behind, ended, after, put, finished, part, plain}
 
 -- ---- a chunk, cut at the end of a line
+-- so many bytes are looked at together
+abbrev pub strideSize : ℕ
+strideSize = 16
+
+-- no byte 10 stands from a place of a chunk on before i
+pub record Passed (chunk : List ℕ) (from i : ℕ) : Type 0 where
+  pub past : from ≤ i
+  pub within : i ≤ length chunk
+  pub before : plain (part from i chunk) ≡ true
+
 -- the first byte 10 from a place of a chunk on stands at r, or there is none and r is the chunk's end
 pub record LineEnd (chunk : List ℕ) (from r : ℕ) : Type 0 where
   pub past : from ≤ r
@@ -56,10 +67,27 @@ readLimit = 8192
 abbrev pub outputLimit : ℕ
 outputLimit = 3 * entryLimit
 
--- the hold has so many bytes of a line, the areas are clean, and the output has room for an entry
-pub record Ready (hold : List ℕ) (held : ℕ) (bytes : List ℕ) (numbers : List ℤ) (out : List ℕ) : Type 0 where
+-- the tables of the sheet in which a line is noted, as they are lent
+pub record Lent : Type 0 where
+  pub letters : List ℕ
+  pub sections : List ℕ
+  pub heads : List ℕ
+  pub parts : List ℕ
+  pub masses : List ℤ
+  pub scores : List ℤ
+
+abbrev pub sheetOf : List ℕ → List ℕ → List ℕ → List ℕ → List ℤ → List ℤ → Lent
+sheetOf letters sections heads parts masses scores =
+    record { letters = letters; sections = sections; heads = heads; parts = parts; masses = masses; scores = scores }
+
+abbrev pub HasRoom : Lent → Type 0
+HasRoom s = Roomy (s .letters) (s .sections) (s .heads) (s .parts) (s .masses) (s .scores)
+
+-- the hold has so many bytes of a line, the sheet has room, the areas are clean, and the output has room for an entry
+pub record Ready (hold : List ℕ) (held : ℕ) (sheet : Lent) (bytes : List ℕ) (numbers : List ℤ) (out : List ℕ) : Type 0 where
   pub room : length hold ≡ holdLimit
   pub within : held ≤ holdLimit
+  pub roomy : HasRoom sheet
   pub clean : Clean bytes numbers
   pub wide : entryLimit ≤ length out
   pub narrow : length out ≤ outputLimit
@@ -140,10 +168,10 @@ pub record Closes (number : ℕ) (hold : List ℕ) (held line sent : ℕ) (more 
 
 -- so many bytes were read, `got`, and the room holds them: they are taken in, and all that is put out for them was taken; or the input is at its end;
 -- unless a read or a write failed
-pub record Turns (room : List ℕ) (number : ℕ) (hold : List ℕ) (held line : ℕ) (holds : List ℕ) (n : ℕ) (bytes : List ℕ) (numbers : List ℤ) (out : List ℕ) (sent : ℕ) (more : Bool) (end : End) : Type 0 where
+pub record Turns (room : List ℕ) (number : ℕ) (hold : List ℕ) (held line : ℕ) (holds : List ℕ) (n : ℕ) (sheet : Lent) (bytes : List ℕ) (numbers : List ℤ) (out : List ℕ) (sent : ℕ) (more : Bool) (end : End) : Type 0 where
   pub grows : number ≤ line
   pub count : more ≡ true → line ≤ number + readLimit
-  pub ready : more ≡ true → Ready holds n bytes numbers out
+  pub ready : more ≡ true → Ready holds n sheet bytes numbers out
   pub got : ℕ
   pub leaves : more ≡ true → after (holding number (take held hold)) (take got room) ≡ holding line (take n holds)
   pub taken : more ≡ true → sent ≡ length (put (holding number (take held hold)) (take got room))

@@ -8,21 +8,27 @@
 // front of the room what it answers for, and that a write takes the front of what it is handed, in order, as its answer counts.
 use bounds::copy_bytes;
 use entries::ENTRY;
+use entries::NEWLINE;
 use entries::put_entry;
 use libc::STDERR_FILENO;
 use libc::STDIN_FILENO;
 use libc::STDOUT_FILENO;
 use scope::tables::Tables;
+use sheet::Sheet;
 ghost use mathlib.Core.Path.{_≡_};
-ghost use mathlib.Core.Bool.{cond};
+ghost use mathlib.Core.Bool.{cond, not, _||_};
 ghost use Prim.Native.Nat.{_+_, _≤_, min};
 ghost use lib.Dec.{eqb};
 ghost use lib.ListN.{length, take};
 ghost use Rattle.entries.specs.Entry.{entry, entryLimit, Printed};
+ghost use Rattle.sheet.specs.Rows.{Roomy};
 ghost use Rattle.reader.specs.ReadSays.{Clean};
 ghost use Rattle.stream.specs.Lines.{lineEnd};
-ghost use Rattle.stream.specs.Feeding.{holdLimit, holding, finished, part};
-ghost use Rattle.stream.specs.Promises.{LineEnd, Keeps, Cuts, numberLimit, readLimit, outputLimit, Ready, Fronts, Runs, Feeds, Owed, OwedLast, noticeRoom, noticed, lineEnds, Received, Drains, Closes, Turns};
+ghost use Rattle.stream.specs.Feeding.{holdLimit, holding, finished, part, plain};
+ghost use Rattle.stream.specs.Promises.{strideSize, Passed, LineEnd, Keeps, Cuts, numberLimit, readLimit, outputLimit, sheetOf, Ready, Fronts, Runs, Feeds, Owed, OwedLast, noticeRoom, noticed, lineEnds, Received, Drains, Closes, Turns};
+
+// So many bytes are looked at together for the end of a line.
+const STRIDE: usize = 16;
 
 // So many bytes are read at once, at most; so many of a line are held, one more than a line may have; so many has the output.
 const READ: usize = 8192;
@@ -44,14 +50,50 @@ struct Cut {
     ended: bool,
 }
 
+// Is it so, or does this byte end a line?
+fn or_end(so: bool, b: u8) -> bool
+    ensures { λ r. ⌜ r ≡ (so || eqb b lineEnd) ⌝ }
+{
+    so | (b == NEWLINE)
+}
+
+// Does a line end in the stride from a place of the chunk on? All its bytes are looked at, many at a time.
+fn has_end(chunk: &[u8], at: usize) -> bool
+    requires { ⌜ at + strideSize ≤ length (now chunk) ⌝ }
+    ensures { λ r. ⌜ r ≡ not (plain (part at (at + strideSize) (now (chunk .entry)))) ⌝ }
+{
+    let mut so = false;
+    let mut i: usize = 0;
+    while i < STRIDE {
+        so = or_end(so, chunk[at + i]);
+        i += 1;
+    }
+    so
+}
+
+// From a place of the chunk on, stride by stride, as long as no line ends in the next one.
+fn skip_plain(chunk: &[u8], from: usize) -> usize
+    requires { ⌜ from ≤ length (now chunk) ⌝ }
+    ensures { λ r. ⌜ Passed (now (chunk .entry)) from r ⌝ }
+{
+    let mut i = from;
+    while STRIDE <= chunk.len() - i {
+        if has_end(chunk, i) {
+            return i;
+        }
+        i += STRIDE;
+    }
+    i
+}
+
 // The place of the first byte 10 from a place of the chunk on, or the chunk's length.
 fn line_end(chunk: &[u8], from: usize) -> usize
     requires { ⌜ from ≤ length (now chunk) ⌝ }
     ensures { λ r. ⌜ LineEnd (now (chunk .entry)) from r ⌝ }
 {
-    let mut i = from;
+    let mut i = skip_plain(chunk, from);
     while i < chunk.len() {
-        if chunk[i] == 10 {
+        if chunk[i] == NEWLINE {
             return i;
         }
         i += 1;
@@ -130,15 +172,34 @@ fn put_part(
     line: &[u8],
     from: usize,
     end: usize,
+    letters: &mut [u8],
+    sections: &mut [u8],
+    heads: &mut [u16],
+    parts: &mut [u16],
+    masses: &mut [i64],
+    scores: &mut [i64],
     bytes: &mut [u8],
     numbers: &mut [i64],
     out: &mut [u8],
     at: usize,
 ) -> usize
-    requires { ⌜ (from ≤ end) × (end ≤ length (now line)) × Clean (now bytes) (now numbers) × (at + entryLimit ≤ length (now out)) ⌝ }
+    requires { ⌜ (from ≤ end) × (end ≤ length (now line)) × Roomy (now letters) (now sections) (now heads) (now parts) (now masses) (now scores) × Clean (now bytes) (now numbers) × (at + entryLimit ≤ length (now out)) ⌝ }
     ensures { λ r. ⌜ Printed entryLimit (now (out .entry)) at (entry number (part from end (now (line .entry)))) (now (out .exit)) r (now (bytes .entry)) (now (numbers .entry)) (now (bytes .exit)) (now (numbers .exit)) ⌝ }
 {
-    put_entry(number, &line[from..end], bytes, numbers, out, at)
+    put_entry(
+        number,
+        &line[from..end],
+        letters,
+        sections,
+        heads,
+        parts,
+        masses,
+        scores,
+        bytes,
+        numbers,
+        out,
+        at,
+    )
 }
 
 // The entries of the lines that lie whole in the chunk from a place on, while the output has room for one more.
@@ -146,12 +207,18 @@ fn put_lines(
     chunk: &[u8],
     from: usize,
     number: u64,
+    letters: &mut [u8],
+    sections: &mut [u8],
+    heads: &mut [u16],
+    parts: &mut [u16],
+    masses: &mut [i64],
+    scores: &mut [i64],
     bytes: &mut [u8],
     numbers: &mut [i64],
     out: &mut [u8],
     at: usize,
 ) -> Fed
-    requires { ⌜ (from ≤ length (now chunk)) × (number + length (now chunk) ≤ numberLimit + from) × Clean (now bytes) (now numbers) × (at ≤ length (now out)) ⌝ }
+    requires { ⌜ (from ≤ length (now chunk)) × (number + length (now chunk) ≤ numberLimit + from) × Roomy (now letters) (now sections) (now heads) (now parts) (now masses) (now scores) × Clean (now bytes) (now numbers) × (at ≤ length (now out)) ⌝ }
     ensures { λ r. ⌜ Runs (now (chunk .entry)) from number (now (out .entry)) at (r .next) (r .number) (r .held) (now (out .exit)) (r .put) × Clean (now (bytes .exit)) (now (numbers .exit)) ⌝ }
 {
     let mut next = from;
@@ -167,7 +234,22 @@ fn put_lines(
                 put: n,
             };
         }
-        n = put_part(line, chunk, next, end, bytes, numbers, out, n);
+        n = put_part(
+            line,
+            chunk,
+            next,
+            end,
+            letters,
+            sections,
+            heads,
+            parts,
+            masses,
+            scores,
+            bytes,
+            numbers,
+            out,
+            n,
+        );
         next = end + 1;
         line += 1;
     }
@@ -187,12 +269,18 @@ fn feed(
     number: u64,
     hold: &mut [u8],
     held: usize,
+    letters: &mut [u8],
+    sections: &mut [u8],
+    heads: &mut [u16],
+    parts: &mut [u16],
+    masses: &mut [i64],
+    scores: &mut [i64],
     bytes: &mut [u8],
     numbers: &mut [i64],
     out: &mut [u8],
 ) -> Fed
-    requires { ⌜ (from ≤ length (now chunk)) × (number + length (now chunk) ≤ numberLimit + from) × Ready (now hold) held (now bytes) (now numbers) (now out) ⌝ }
-    ensures { λ r. ⌜ Feeds (now (chunk .entry)) from number (now (hold .entry)) held (now (out .entry)) (r .next) (r .number) (now (hold .exit)) (r .held) (now (out .exit)) (r .put) × Ready (now (hold .exit)) (r .held) (now (bytes .exit)) (now (numbers .exit)) (now (out .exit)) ⌝ }
+    requires { ⌜ (from ≤ length (now chunk)) × (number + length (now chunk) ≤ numberLimit + from) × Ready (now hold) held (sheetOf (now letters) (now sections) (now heads) (now parts) (now masses) (now scores)) (now bytes) (now numbers) (now out) ⌝ }
+    ensures { λ r. ⌜ Feeds (now (chunk .entry)) from number (now (hold .entry)) held (now (out .entry)) (r .next) (r .number) (now (hold .exit)) (r .held) (now (out .exit)) (r .put) × Ready (now (hold .exit)) (r .held) (sheetOf (now (letters .exit)) (now (sections .exit)) (now (heads .exit)) (now (parts .exit)) (now (masses .exit)) (now (scores .exit))) (now (bytes .exit)) (now (numbers .exit)) (now (out .exit)) ⌝ }
 {
     let cut = gather(chunk, from, hold, held);
     let next = cut.next;
@@ -205,8 +293,37 @@ fn feed(
             put: 0,
         };
     }
-    let at = put_part(number, hold, 0, n, bytes, numbers, out, 0);
-    put_lines(chunk, next, number + 1, bytes, numbers, out, at)
+    let at = put_part(
+        number,
+        hold,
+        0,
+        n,
+        letters,
+        sections,
+        heads,
+        parts,
+        masses,
+        scores,
+        bytes,
+        numbers,
+        out,
+        0,
+    );
+    put_lines(
+        chunk,
+        next,
+        number + 1,
+        letters,
+        sections,
+        heads,
+        parts,
+        masses,
+        scores,
+        bytes,
+        numbers,
+        out,
+        at,
+    )
 }
 
 // ---- the system calls
@@ -314,7 +431,7 @@ fn receive(room: &mut [u8]) -> Got
 fn one_if_end(b: u8) -> u64
     ensures { λ r. ⌜ (r ≡ cond (eqb b lineEnd) 1 0) × (r ≤ 1) ⌝ }
 {
-    if b == 10 {
+    if b == NEWLINE {
         return 1;
     }
     0
@@ -342,7 +459,7 @@ fn notice(words: &[u8], number: u64, out: &mut [u8]) -> usize
     let n = words.len();
     copy_bytes(words, n, out);
     let a = writer::put_decimal(number, out, n);
-    writer::put(out, a, 10)
+    writer::put(out, a, NEWLINE)
 }
 
 // A notice to standard error. Whether it is taken is not asked.
@@ -367,19 +484,40 @@ fn drain(
     number: u64,
     hold: &mut [u8],
     held: usize,
+    letters: &mut [u8],
+    sections: &mut [u8],
+    heads: &mut [u16],
+    parts: &mut [u16],
+    masses: &mut [i64],
+    scores: &mut [i64],
     bytes: &mut [u8],
     numbers: &mut [i64],
     out: &mut [u8],
 ) -> Kept
-    requires { ⌜ (length (now chunk) ≤ readLimit) × (number + readLimit + outputLimit ≤ numberLimit) × Ready (now hold) held (now bytes) (now numbers) (now out) ⌝ }
-    ensures { λ r. ⌜ Drains (now (chunk .entry)) number (now (hold .entry)) held (r .number) (now (hold .exit)) (r .held) (r .sent) (r .more) (r .end) × Ready (now (hold .exit)) (r .held) (now (bytes .exit)) (now (numbers .exit)) (now (out .exit)) ⌝ }
+    requires { ⌜ (length (now chunk) ≤ readLimit) × (number + readLimit + outputLimit ≤ numberLimit) × Ready (now hold) held (sheetOf (now letters) (now sections) (now heads) (now parts) (now masses) (now scores)) (now bytes) (now numbers) (now out) ⌝ }
+    ensures { λ r. ⌜ Drains (now (chunk .entry)) number (now (hold .entry)) held (r .number) (now (hold .exit)) (r .held) (r .sent) (r .more) (r .end) × Ready (now (hold .exit)) (r .held) (sheetOf (now (letters .exit)) (now (sections .exit)) (now (heads .exit)) (now (parts .exit)) (now (masses .exit)) (now (scores .exit))) (now (bytes .exit)) (now (numbers .exit)) (now (out .exit)) ⌝ }
 {
     let mut from: usize = 0;
     let mut line = number;
     let mut n = held;
     let mut sent: usize = 0;
     while from < chunk.len() {
-        let fed = feed(chunk, from, line, hold, n, bytes, numbers, out);
+        let fed = feed(
+            chunk,
+            from,
+            line,
+            hold,
+            n,
+            letters,
+            sections,
+            heads,
+            parts,
+            masses,
+            scores,
+            bytes,
+            numbers,
+            out,
+        );
         let next = fed.next;
         let put = fed.put;
         let taken = hand(chunk, from, next, line, hold, n, out, put);
@@ -411,17 +549,38 @@ fn finish(
     number: u64,
     hold: &[u8],
     held: usize,
+    letters: &mut [u8],
+    sections: &mut [u8],
+    heads: &mut [u16],
+    parts: &mut [u16],
+    masses: &mut [i64],
+    scores: &mut [i64],
     bytes: &mut [u8],
     numbers: &mut [i64],
     out: &mut [u8],
 ) -> usize
-    requires { ⌜ Ready (now hold) held (now bytes) (now numbers) (now out) ⌝ }
+    requires { ⌜ Ready (now hold) held (sheetOf (now letters) (now sections) (now heads) (now parts) (now masses) (now scores)) (now bytes) (now numbers) (now out) ⌝ }
     ensures { λ r. ⌜ Fronts (finished (holding number (take held (now (hold .entry))))) (now (out .entry)) (now (out .exit)) r ⌝ }
 {
     if held == 0 {
         return 0;
     }
-    put_part(number, hold, 0, held, bytes, numbers, out, 0)
+    put_part(
+        number,
+        hold,
+        0,
+        held,
+        letters,
+        sections,
+        heads,
+        parts,
+        masses,
+        scores,
+        bytes,
+        numbers,
+        out,
+        0,
+    )
 }
 
 // The input is at its end, and a line that is begun ends with it.
@@ -429,14 +588,33 @@ fn close(
     number: u64,
     hold: &[u8],
     held: usize,
+    letters: &mut [u8],
+    sections: &mut [u8],
+    heads: &mut [u16],
+    parts: &mut [u16],
+    masses: &mut [i64],
+    scores: &mut [i64],
     bytes: &mut [u8],
     numbers: &mut [i64],
     out: &mut [u8],
 ) -> Kept
-    requires { ⌜ Ready (now hold) held (now bytes) (now numbers) (now out) ⌝ }
+    requires { ⌜ Ready (now hold) held (sheetOf (now letters) (now sections) (now heads) (now parts) (now masses) (now scores)) (now bytes) (now numbers) (now out) ⌝ }
     ensures { λ r. ⌜ Closes number (now (hold .entry)) held (r .number) (r .sent) (r .more) (r .end) ⌝ }
 {
-    let put = finish(number, hold, held, bytes, numbers, out);
+    let put = finish(
+        number,
+        hold,
+        held,
+        letters,
+        sections,
+        heads,
+        parts,
+        masses,
+        scores,
+        bytes,
+        numbers,
+        out,
+    );
     let taken = hand_last(number, hold, held, out, put);
     if taken < put {
         return Kept {
@@ -463,17 +641,50 @@ fn take_in(
     number: u64,
     hold: &mut [u8],
     held: usize,
+    letters: &mut [u8],
+    sections: &mut [u8],
+    heads: &mut [u16],
+    parts: &mut [u16],
+    masses: &mut [i64],
+    scores: &mut [i64],
     bytes: &mut [u8],
     numbers: &mut [i64],
     out: &mut [u8],
 ) -> Kept
-    requires { ⌜ (n ≤ length (now room)) × (length (now room) ≤ readLimit) × (number + readLimit + outputLimit ≤ numberLimit) × Ready (now hold) held (now bytes) (now numbers) (now out) ⌝ }
-    ensures { λ r. ⌜ Turns (now (room .entry)) number (now (hold .entry)) held (r .number) (now (hold .exit)) (r .held) (now (bytes .exit)) (now (numbers .exit)) (now (out .exit)) (r .sent) (r .more) (r .end) ⌝ }
+    requires { ⌜ (n ≤ length (now room)) × (length (now room) ≤ readLimit) × (number + readLimit + outputLimit ≤ numberLimit) × Ready (now hold) held (sheetOf (now letters) (now sections) (now heads) (now parts) (now masses) (now scores)) (now bytes) (now numbers) (now out) ⌝ }
+    ensures { λ r. ⌜ Turns (now (room .entry)) number (now (hold .entry)) held (r .number) (now (hold .exit)) (r .held) (sheetOf (now (letters .exit)) (now (sections .exit)) (now (heads .exit)) (now (parts .exit)) (now (masses .exit)) (now (scores .exit))) (now (bytes .exit)) (now (numbers .exit)) (now (out .exit)) (r .sent) (r .more) (r .end) ⌝ }
 {
     if n == 0 {
-        return close(number, hold, held, bytes, numbers, out);
+        return close(
+            number,
+            hold,
+            held,
+            letters,
+            sections,
+            heads,
+            parts,
+            masses,
+            scores,
+            bytes,
+            numbers,
+            out,
+        );
     }
-    drain(&room[..n], number, hold, held, bytes, numbers, out)
+    drain(
+        &room[..n],
+        number,
+        hold,
+        held,
+        letters,
+        sections,
+        heads,
+        parts,
+        masses,
+        scores,
+        bytes,
+        numbers,
+        out,
+    )
 }
 
 // One read. A line that is begun when a read fails is not answered: nothing says that it has ended.
@@ -482,16 +693,37 @@ fn turn(
     number: u64,
     hold: &mut [u8],
     held: usize,
+    letters: &mut [u8],
+    sections: &mut [u8],
+    heads: &mut [u16],
+    parts: &mut [u16],
+    masses: &mut [i64],
+    scores: &mut [i64],
     bytes: &mut [u8],
     numbers: &mut [i64],
     out: &mut [u8],
 ) -> Kept
-    requires { ⌜ (length (now room) ≤ readLimit) × (number + readLimit + outputLimit ≤ numberLimit) × Ready (now hold) held (now bytes) (now numbers) (now out) ⌝ }
-    ensures { λ r. ⌜ Turns (now (room .exit)) number (now (hold .entry)) held (r .number) (now (hold .exit)) (r .held) (now (bytes .exit)) (now (numbers .exit)) (now (out .exit)) (r .sent) (r .more) (r .end) ⌝ }
+    requires { ⌜ (length (now room) ≤ readLimit) × (number + readLimit + outputLimit ≤ numberLimit) × Ready (now hold) held (sheetOf (now letters) (now sections) (now heads) (now parts) (now masses) (now scores)) (now bytes) (now numbers) (now out) ⌝ }
+    ensures { λ r. ⌜ Turns (now (room .exit)) number (now (hold .entry)) held (r .number) (now (hold .exit)) (r .held) (sheetOf (now (letters .exit)) (now (sections .exit)) (now (heads .exit)) (now (parts .exit)) (now (masses .exit)) (now (scores .exit))) (now (bytes .exit)) (now (numbers .exit)) (now (out .exit)) (r .sent) (r .more) (r .end) ⌝ }
 {
     let got = receive(room);
     match got {
-        Got::Came(n) => take_in(room, n, number, hold, held, bytes, numbers, out),
+        Got::Came(n) => take_in(
+            room,
+            n,
+            number,
+            hold,
+            held,
+            letters,
+            sections,
+            heads,
+            parts,
+            masses,
+            scores,
+            bytes,
+            numbers,
+            out,
+        ),
         Got::Failed => Kept {
             number,
             held,
@@ -506,18 +738,38 @@ fn turn(
 fn serve(
     room: &mut [u8],
     hold: &mut [u8],
+    letters: &mut [u8],
+    sections: &mut [u8],
+    heads: &mut [u16],
+    parts: &mut [u16],
+    masses: &mut [i64],
+    scores: &mut [i64],
     bytes: &mut [u8],
     numbers: &mut [i64],
     out: &mut [u8],
 ) -> Kept
-    requires { ⌜ (length (now room) ≤ readLimit) × Ready (now hold) 0 (now bytes) (now numbers) (now out) ⌝ }
+    requires { ⌜ (length (now room) ≤ readLimit) × Ready (now hold) 0 (sheetOf (now letters) (now sections) (now heads) (now parts) (now masses) (now scores)) (now bytes) (now numbers) (now out) ⌝ }
     ensures { λ r. ⌜ 1 ≤ r .number ⌝ }
 {
     let mut number: u64 = 1;
     let mut held: usize = 0;
     let mut turns: u64 = TURNS;
     while turns > 0 {
-        let kept = turn(room, number, hold, held, bytes, numbers, out);
+        let kept = turn(
+            room,
+            number,
+            hold,
+            held,
+            letters,
+            sections,
+            heads,
+            parts,
+            masses,
+            scores,
+            bytes,
+            numbers,
+            out,
+        );
         if !kept.more {
             return kept;
         }
@@ -539,10 +791,28 @@ fn serve(
 pub fn run() {
     let mut room = [0u8; READ];
     let mut hold = [0u8; HOLD];
+    let mut letters = [0u8; Tables::RESIDUES];
+    let mut sections = [0u8; Tables::RESIDUES];
+    let mut heads = [0u16; Sheet::HEADS];
+    let mut parts = [0u16; Sheet::PARTS];
+    let mut masses = [0i64; Sheet::MASSES];
+    let mut scores = [0i64; Tables::BRACKETS];
     let mut bytes = [0u8; Tables::BYTES];
     let mut numbers = [0i64; Tables::NUMBERS];
     let mut out = [0u8; OUTPUT];
-    let last = serve(&mut room, &mut hold, &mut bytes, &mut numbers, &mut out);
+    let last = serve(
+        &mut room,
+        &mut hold,
+        &mut letters,
+        &mut sections,
+        &mut heads,
+        &mut parts,
+        &mut masses,
+        &mut scores,
+        &mut bytes,
+        &mut numbers,
+        &mut out,
+    );
     let line = last.number - 1;
     let end = last.end;
     match end {

@@ -10,24 +10,23 @@ use lib.Dec.{eqb}
 use lib.IntN.{ℤ, pos}
 use lib.ListN.{length, take, drop, replicate, length-replicate}
 use lib.Seq.{take-all, take-append-seam}
-use Rattle.scope.specs.declared.answers.Read.{Read}
-use Rattle.scope.specs.declared.answers.Read.the-variants.{Accepted, Refused}
 use Rattle.scope.specs.Limits.{lineLimit}
 use Rattle.scope.specs.Lists.{same, given}
+use Rattle.scope.specs.Line.{Line}
 use Rattle.scope.specs.Refusals.{Due, due, Outcome, accepted, refused, firstDue, refusal1, refusal2, refusal3, judged, outcome}
 use Rattle.scope.specs.Reading.{reading}
 use Rattle.scope.specs.Canonical.{canonical}
 use Rattle.scope.specs.Layout.{bytesSize, numbersSize, bytesOf, numbersOf, tablesIn}
-use Rattle.scope.specs.Answers.{refuses, saysRead, saysOutcome, sameNumbers, readsTo, areTables}
+use Rattle.scope.specs.Answers.{sameNumbers, readsTo, areTables}
 use Rattle.basics.specs.Choice.{by-test}
 use Rattle.layout_laws.specs.Laws.{tables-held, laid-bytes, laid-numbers}
 use Rattle.accepted_laws.specs.Laws.{accepted-within}
 use Rattle.order_laws.specs.Ranks.{orderedb}
 use Rattle.order_laws.specs.Laws.{accepted-ordered, same-order}
-use Rattle.reader.specs.ReadSays.{Lays, Stored}
-use Rattle.reader.proofs.Reading.{accepted-is}
+use Rattle.sheet.specs.Rows.{LineNoted}
+use Rattle.store.specs.Filled.{Fills, FilledAll}
 use Rattle.writer.specs.Written.{WholeLine}
-use Rattle.tabled.specs.LineOf.{IsAccepted, LineOf}
+use Rattle.tabled.specs.LineOf.{LineOf}
 
 -- ---- the brackets of tables are in order
 pub tables-ordered : (bs : List ℕ) (ns : List ℤ) → areTables bs ns ≡ true → orderedb (tablesIn bs ns) ≡ true
@@ -76,42 +75,35 @@ pub read-back : (bs : List ℕ) (ns : List ℤ) {o left : List ℕ} {r : ℕ} �
 read-back bs ns w h e f = sym (written-read bs ns w h) ∙ sym e ∙ f
 
 -- ---- what is read back
-refused-to : (o : Outcome) (n p : ℕ) (xs : List ℕ) (ys : List ℤ) → refuses n p ≡ saysOutcome o → readsTo o xs ys ≡ false
-refused-to (accepted l) n p xs ys e = absurd (let z : _≡_ {A = ℕ} 0 1 = cc in omega arith)
-refused-to (refused m q) n p xs ys e = refl
+pub read-refused : (s : List ℕ) {n p : ℕ} → outcome s ≡ refused n p → (xs : List ℕ) (ys : List ℤ) → readsTo (outcome s) xs ys ≡ false
+read-refused s e xs ys = rw e
 
-pub read-refused : (s : List ℕ) {r : Read} {n p : ℕ} → saysRead r ≡ saysOutcome (outcome s) → r ≡ Refused n p → (xs : List ℕ) (ys : List ℤ)
-    → readsTo (outcome s) xs ys ≡ false
-read-refused s {r} {n} {p} w e xs ys = refused-to (outcome s) n p xs ys (ap saysRead (sym e) ∙ w)
-
-pub is-accepted : (s : List ℕ) {r : Read} → saysRead r ≡ saysOutcome (outcome s) → r ≡ Accepted → IsAccepted s
-is-accepted s {r} w e = let a = accepted-is (outcome s) (ap saysRead (sym e) ∙ w) in record { held = a .0; accepts = a .1 }
-
--- an accepted line is laid into zeros
-pub lays-in : (s bs : List ℕ) (ns : List ℤ) → IsAccepted s → bs ≡ replicate bytesSize 0 → ns ≡ replicate numbersSize (pos 0) → Lays s bs ns
-lays-in s bs ns a e f =
+-- what the sheet has of an accepted line goes into zeros
+pub fills-zeros : {s letters sections heads parts : List ℕ} {masses scores : List ℤ} {residues brackets : ℕ} {l : Line ℕ} (bs : List ℕ) (ns : List ℤ)
+    → LineNoted s letters sections heads parts masses scores residues brackets l → bs ≡ replicate bytesSize 0 → ns ≡ replicate numbersSize (pos 0)
+    → Fills s letters sections heads parts masses scores residues brackets bs ns
+fills-zeros {l = l} bs ns w e f =
     let b : length bs ≡ bytesSize = ap length e ∙ length-replicate {A = ℕ} bytesSize 0 in
     let n : length ns ≡ numbersSize = ap length f ∙ length-replicate numbersSize (pos 0) in
     record {
-      held = a .held;
-      accepts = a .accepts;
-      clean = record {
-        bytes-room = omega arith;
+      holds-line = l;
+      line-noted = w;
+      zeroed = record {
+        bytes-long = omega arith;
         bytes-zero = take-all bytesSize bs (omega arith) ∙ e;
-        numbers-room = omega arith;
+        numbers-long = omega arith;
         numbers-zero = take-all numbersSize ns (omega arith) ∙ f;
       };
     }
 
-pub read-accepted : (s bs : List ℕ) (ns : List ℤ) {bs′ : List ℕ} {ns′ : List ℤ} → IsAccepted s → Stored s bs ns bs′ ns′ → (xs : List ℕ) (ys : List ℤ)
+pub read-accepted : (s bs : List ℕ) (ns : List ℤ) {bs′ : List ℕ} {ns′ : List ℤ} (l : Line ℕ) → outcome s ≡ accepted l → FilledAll bs ns bs′ ns′ l → (xs : List ℕ) (ys : List ℤ)
     → (same (take bytesSize bs′) xs && sameNumbers (take numbersSize ns′) ys) ≡ readsTo (outcome s) xs ys
-read-accepted s bs ns {bs′} {ns′} a w xs ys =
-    let l = a .held in
-    let v = accepted-within s l (a .accepts) in
-    let b : take bytesSize bs′ ≡ bytesOf l = ap (take bytesSize) (w .bytes-now l (a .accepts)) ∙ laid-bytes l v bs in
-    let n : take numbersSize ns′ ≡ numbersOf l = ap (take numbersSize) (w .numbers-now l (a .accepts)) ∙ laid-numbers l v ns in
+read-accepted s bs ns {bs′} {ns′} l e w xs ys =
+    let v = accepted-within s l e in
+    let b : take bytesSize bs′ ≡ bytesOf l = ap (take bytesSize) (w .bytes-are) ∙ laid-bytes l v bs in
+    let n : take numbersSize ns′ ≡ numbersOf l = ap (take numbersSize) (w .numbers-are) ∙ laid-numbers l v ns in
     ap (λ z. same z xs && sameNumbers (take numbersSize ns′) ys) b ∙ ap (λ z. same (bytesOf l) xs && sameNumbers z ys) n
-    ∙ ap (λ z. readsTo z xs ys) (sym (a .accepts))
+    ∙ ap (λ z. readsTo z xs ys) (sym e)
 
 -- ---- the line of tables, written
 some-bytes : (s bs : List ℕ) (ns : List ℤ) → readsTo (outcome s) bs ns ≡ true → 1 ≤ length s

@@ -6,16 +6,9 @@ use Prim.Native.Nat.{ℕ, _≤_}
 use lib.IntN.{ℤ}
 use lib.ListN.{length, take}
 use Rattle.scope.specs.Limits.{lineLimit}
-use Rattle.scope.specs.Line.{Line}
-use Rattle.scope.specs.Refusals.{accepted, outcome}
 use Rattle.scope.specs.Canonical.{canonical}
 use Rattle.scope.specs.Layout.{tablesIn}
 use Rattle.scope.specs.Answers.{areTables}
-
--- a line that is accepted
-pub record IsAccepted (s : List ℕ) : Type 0 where
-  pub held : Line ℕ
-  pub accepts : outcome s ≡ accepted held
 
 -- the line of tables, of r bytes
 pub record TablesLine (bs : List ℕ) (ns : List ℤ) (line : List ℕ) (r : ℕ) : Type 0 where

@@ -8,33 +8,31 @@ use native.Mathlib.Omega.{arith}
 use lib.ListN.{length, drop, length-drop}
 use Rattle.scope.specs.Lists.{given}
 use Rattle.scope.specs.Content.{textStep}
-use Rattle.texts.specs.declared.TextEnd.{TextEnd}
-use Rattle.texts.specs.declared.TextEnd.the-variants.{Ends, Stuck}
-use Rattle.texts.specs.Texts.{stopped, scanText}
+use Rattle.texts.specs.Texts.{Scanned, ends, stuck, stopped, scanText}
 
-abbrev pub placeOf : TextEnd → ℕ
-placeOf (Ends i) = i
-placeOf (Stuck i) = i
+abbrev pub placeOf : Scanned → ℕ
+placeOf (ends i) = i
+placeOf (stuck i) = i
 
-abbrev In : ℕ → ℕ → ℕ → Type 0
+abbrev pub In : ℕ → ℕ → ℕ → Type 0
 In a i n = (a ≤ i) × (i ≤ n)
 
 in-stopped : (cs : List ℕ) (i n : ℕ) → i ≤ n → In i (placeOf (stopped cs i)) n
 in-stopped [] i n h = omega arith
 in-stopped (c ∷ cs) i n h = omega arith
 
-in-step : (o : Option (List ℕ)) (go : List ℕ → TextEnd) (cs : List ℕ) (i n : ℕ) → i < n → ((cs′ : List ℕ) → In (i + 1) (placeOf (go cs′)) n)
+in-step : (o : Option (List ℕ)) (go : List ℕ → Scanned) (cs : List ℕ) (i n : ℕ) → i < n → ((cs′ : List ℕ) → In (i + 1) (placeOf (go cs′)) n)
     → In i (placeOf (given o go (stopped cs i))) n
 in-step none go cs i n h ih = in-stopped cs i n (omega arith)
 in-step (some cs′) go cs i n h ih = omega (arith, ih cs′)
 
-in-scan : (hashes : Bool) (cs l : List ℕ) (i n : ℕ) → i + length l ≡ n → In i (placeOf (scanText hashes cs l i)) n
+pub in-scan : (hashes : Bool) (cs l : List ℕ) (i n : ℕ) → i + length l ≡ n → In i (placeOf (scanText hashes cs l i)) n
 unfolding scanText
 in-scan hashes cs [] i n e = in-stopped cs i n (omega arith)
 in-scan hashes cs (b ∷ l) i n e =
     in-step (textStep hashes cs b) (λ cs′. scanText hashes cs′ l (i + 1)) cs i n (omega arith)
     (λ cs′. in-scan hashes cs′ l (i + 1) n (omega arith))
 
-pub text-in : (hashes : Bool) (s : List ℕ) (at : ℕ) {r : TextEnd} → at ≤ length s → r ≡ scanText hashes [] (drop at s) at
+pub text-in : (hashes : Bool) (s : List ℕ) (at : ℕ) {r : Scanned} → at ≤ length s → r ≡ scanText hashes [] (drop at s) at
     → (at ≤ placeOf r) × (placeOf r ≤ length s)
 text-in hashes s at h e = omega (arith, in-scan hashes [] (drop at s) at (length s) (omega (arith, length-drop at s)), ap placeOf e)

@@ -1,9 +1,8 @@
 -- Laws of the first place at which a pair is opened too deep. Assumes nothing.
-use Prim.Native.Nat.{ℕ, _+_, _-_, _≤_, _<_, min}
+use Prim.Native.Nat.{ℕ, _+_, _-_, _≤_, _<_}
 use mathlib.Core.Path.{_≡_, refl, _∙_}
 use mathlib.Core.Bool.{Bool, true, false, cond, _&&_}
-use mathlib.Core.Option.{Option, none, some}
-use mathlib.Core.List.{List, [], _∷_, _++_}
+use mathlib.Core.List.{List}
 use native.Mathlib.Omega.{arith}
 use lib.Dec.{leb}
 use lib.ListN.{length, getD}
@@ -11,35 +10,10 @@ use borrow.Author.Tests.{leb-false}
 use Rattle.scope.specs.Bytes.{isOpening, isShutting}
 use Rattle.scope.specs.Lists.{given, part}
 use Rattle.scope.specs.Limits.{depthLimit}
-use Rattle.scope.specs.Refusals.{dueAt, least, depthAfter, tooDeep}
+use Rattle.scope.specs.Refusals.{least, depthAfter, tooDeep}
 use Rattle.classes.proofs.Same.{part-cons}
 use Rattle.texts.specs.Texts.{opensTooDeep}
-
--- what is found is not below i
-abbrev Above : ℕ → Option ℕ → Type 0
-Above i none = Unit {0}
-Above i (some k) = i ≤ k
-
-above-more : (i : ℕ) (o : Option ℕ) → Above (i + 1) o → Above i (some (given o (min i) i))
-above-more i none h = omega arith
-above-more i (some k) h = omega arith
-
-above-less : (i : ℕ) (o : Option ℕ) → Above (i + 1) o → Above i o
-above-less i none h = tt
-above-less i (some k) h = omega arith
-
-above : (d i : ℕ) (l : List ℕ) → Above i (least (tooDeep d i l))
-unfolding tooDeep least
-above d i [] = tt
-above d i (b ∷ l) = go (opensTooDeep d b) (above (depthAfter d b) (i + 1) l)
-  where
-    go : (x : Bool) → Above (i + 1) (least (tooDeep (depthAfter d b) (i + 1) l)) → Above i (least (dueAt x i ++ tooDeep (depthAfter d b) (i + 1) l))
-    go true h = above-more i (least (tooDeep (depthAfter d b) (i + 1) l)) h
-    go false h = above-less i (least (tooDeep (depthAfter d b) (i + 1) l)) h
-
-lowest : (i : ℕ) (o : Option ℕ) → Above (i + 1) o → given o (min i) i ≡ i
-lowest i none h = refl
-lowest i (some k) h = omega arith
+use Rattle.texts.proofs.Told.{above, lowest}
 
 -- the first place from i on, with d pairs open; `end` where there is none
 abbrev pub firstDeep : ℕ → ℕ → List ℕ → ℕ → ℕ

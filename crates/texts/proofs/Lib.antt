@@ -1,5 +1,8 @@
+pub mod Firsts
 pub mod Steps
+pub mod Bounds
+pub mod Told
 pub mod Pairs
 pub mod Owed
-pub mod Bounds
+pub mod Levels
 pub mod Deep

@@ -1,9 +1,9 @@
--- Laws of the closers that are owed inside a pair, kept in a table (`crowd_end`; `pair_end` with one place), one for each arm. Assumes nothing.
+-- Laws of the closers that are owed inside a pair, kept in a table, one for each arm of the loop of `crowd_end`, and of `pair_end` with one place. Assumes nothing.
 use Prim.Native.Nat.{ℕ, zero, suc, _+_, _-_, _≤_, _<_}
 use mathlib.Core.Path.{_≡_, refl, sym, ap, _∙_}
 use mathlib.Core.Bool.{Bool, true, false}
 use mathlib.Core.Option.{some}
-use mathlib.Core.List.{List, [], _∷_}
+use mathlib.Core.List.{List, _∷_}
 use native.Mathlib.Numerals.{add-one}
 use native.Mathlib.Omega.{arith}
 use lib.Dec.{ltb}
@@ -14,9 +14,11 @@ use Rattle.scope.specs.Bytes.{isOpening, isShutting, closerOf}
 use Rattle.scope.specs.Content.{textStep}
 use Rattle.classes.specs.Runs.{span}
 use Rattle.classes.proofs.Runs.{run-next}
+use Rattle.texts.specs.declared.TextEnd.{TextEnd}
 use Rattle.texts.specs.declared.TextEnd.the-variants.{Ends, Stuck}
-use Rattle.texts.specs.Texts.{scanText, isInner, Closed}
-use Rattle.texts.proofs.Steps.{inner-step, scan-run, scan-end}
+use Rattle.texts.specs.Texts.{scanDeep, firstOf, deeper, behind, isInner}
+use Rattle.texts.proofs.Firsts.{first-none}
+use Rattle.texts.proofs.Steps.{inner-step, inner-quiet, scan-run, scan-end}
 use Rattle.texts.proofs.Pairs.{inner-shuts, inner-opens, inner-stops}
 
 -- the closers in the first n places of a table, the last one first, and then those of cs
@@ -52,26 +54,28 @@ shut-more t n v h below e k l = go (ltb k n) refl
         let f : k ≡ n = omega (arith, ltb-false k n q) in
         ap (λ j. isShutting (getD (set t n v) j 0)) f ∙ ap isShutting (getD-set-same t n v 0 h) ∙ e
 
--- read from at, inside a pair that c closes, up to i: a table of m places holds the n closers that are owed there
-pub record Inside (m : ℕ) (s : List ℕ) (at c : ℕ) (t : List ℕ) (n i : ℕ) : Type 0 where
+-- read from at, inside a pair that c closes, up to i: a table of m places holds the n closers that are owed there; `deep` is what is told since, where K holds of the
+-- closers owed around the pair and of what is told before it
+pub record Inside (K : List ℕ → ℕ → Type 0) (m : ℕ) (s : List ℕ) (at c : ℕ) (t : List ℕ) (n i deep : ℕ) : Type 0 where
   pub later : at ≤ i
   pub size : length t ≡ m
   pub any : 1 ≤ n
   pub fits : n ≤ m
   pub shut : (k : ℕ) → k < n → isShutting (getD t k 0) ≡ true
-  pub reads : (hashes : Bool) (cs : List ℕ) → scanText hashes (c ∷ cs) (drop at s) at ≡ scanText hashes (owing t n cs) (drop i s) i
+  pub reads : (hashes : Bool) (cs : List ℕ) (d : ℕ) → K cs d → scanDeep hashes (c ∷ cs) (drop at s) at d ≡ scanDeep hashes (owing t n cs) (drop i s) i (firstOf d deep)
 
 -- and no byte at i goes on so
-pub record Paused (m : ℕ) (s : List ℕ) (at c : ℕ) (t : List ℕ) (n i : ℕ) : Type 0 where
-  pub inside : Inside m s at c t n i
+pub record Paused (K : List ℕ → ℕ → Type 0) (m : ℕ) (s : List ℕ) (at c : ℕ) (t : List ℕ) (n i deep : ℕ) : Type 0 where
+  pub inside : Inside K m s at c t n i deep
   pub pause : i < length s → isInner (getD s i 0) ≡ false
 
--- with a table of one place, which holds c: what a call for a single pair keeps
-abbrev pub Alone : List ℕ → ℕ → ℕ → ℕ → Type 0
-Alone s at c i = Paused 1 s at c (c ∷ []) 1 i
+-- r says where the pair is closed
+abbrev pub Goes : (List ℕ → ℕ → Type 0) → List ℕ → ℕ → ℕ → TextEnd → Type 0
+Goes K s at c r =
+    (hashes : Bool) (cs : List ℕ) (d : ℕ) → K cs d → scanDeep hashes (c ∷ cs) (drop at s) at d ≡ behind r (λ j x. scanDeep hashes cs (drop j s) j (firstOf d x))
 
-module _ (m : ℕ) (s : List ℕ) (at c : ℕ) (t : List ℕ) where
-  pub inside-starts : length (c ∷ t) ≡ m → isShutting c ≡ true → Inside m s at c (c ∷ t) 1 at
+module _ (K : List ℕ → ℕ → Type 0) (m : ℕ) (s : List ℕ) (at c : ℕ) (t : List ℕ) where
+  pub inside-starts : length (c ∷ t) ≡ m → isShutting c ≡ true → Inside K m s at c (c ∷ t) 1 at 0
   unfolding owing
   inside-starts e h = record {
     later = omega arith;
@@ -79,20 +83,20 @@ module _ (m : ℕ) (s : List ℕ) (at c : ℕ) (t : List ℕ) where
     any = omega arith;
     fits = omega arith;
     shut = λ k l. let z : k ≡ 0 = omega arith in rw z h;
-    reads = λ hashes cs. refl;
+    reads = λ hashes cs d g. ap (scanDeep hashes (c ∷ cs) (drop at s) at) (sym (first-none d));
   }
 
   module _ (n : ℕ) where
     -- the bytes that open and close nothing are passed
-    pub pauses : (j i : ℕ) → Inside m s at c t n j → i ≡ j + span isInner (drop j s) → Paused m s at c t n i
-    pauses j i v e = record {
+    pub pauses : (j i deep : ℕ) → Inside K m s at c t n j deep → i ≡ j + span isInner (drop j s) → Paused K m s at c t n i deep
+    pauses j i deep v e = record {
       inside = record {
         later = omega (arith, v .later);
         size = v .size;
         any = v .any;
         fits = v .fits;
         shut = v .shut;
-        reads = λ hashes cs. v .reads hashes cs ∙ scan-run isInner hashes (owing t n cs) (still hashes cs) s j i e;
+        reads = λ hashes cs d g. v .reads hashes cs d g ∙ scan-run isInner hashes (owing t n cs) (still hashes cs) inner-quiet s j i (firstOf d deep) e;
       };
       pause = run-next isInner s j i e;
     }
@@ -101,31 +105,30 @@ module _ (m : ℕ) (s : List ℕ) (at c : ℕ) (t : List ℕ) where
         still hashes cs b q =
             rw (owing-last t n cs (v .any)) (inner-step hashes (getD t (n - 1) 0) (owing t (n - 1) cs) (v .shut (n - 1) (omega (arith, v .any))) b q)
 
-    module _ (i : ℕ) (w : Paused m s at c t n i) where
+    module _ (i deep : ℕ) (w : Paused K m s at c t n i deep) where
       -- with the closer that is owed first
-      first : (hashes : Bool) (cs : List ℕ)
-          → scanText hashes (c ∷ cs) (drop at s) at ≡ scanText hashes (getD t (n - 1) 0 ∷ owing t (n - 1) cs) (drop i s) i
-      first hashes cs = w .inside .reads hashes cs ∙ ap (λ l. scanText hashes l (drop i s) i) (owing-last t n cs (w .inside .any))
+      first : (hashes : Bool) (cs : List ℕ) (d : ℕ) → K cs d
+          → scanDeep hashes (c ∷ cs) (drop at s) at d ≡ scanDeep hashes (getD t (n - 1) 0 ∷ owing t (n - 1) cs) (drop i s) i (firstOf d deep)
+      first hashes cs d g = w .inside .reads hashes cs d g ∙ ap (λ l. scanDeep hashes l (drop i s) i (firstOf d deep)) (owing-last t n cs (w .inside .any))
 
-      pub paused-over : length s ≤ i → Closed s at c (Stuck i)
-      paused-over h = record { reads = λ hashes cs. first hashes cs ∙ scan-end hashes (getD t (n - 1) 0 ∷ owing t (n - 1) cs) s i h; past = tt }
+      pub paused-over : length s ≤ i → Goes K s at c (Stuck i)
+      paused-over h = λ hashes cs d g. first hashes cs d g ∙ scan-end hashes (getD t (n - 1) 0 ∷ owing t (n - 1) cs) s i (firstOf d deep) h
 
       module _ (l : i < length s) where
-        pub paused-stuck : isOpening (getD s i 0) ≡ false → (getD s i 0 ≡ getD t (n - 1) 0 → ⊥) → Closed s at c (Stuck i)
-        paused-stuck o d = record { reads = λ hashes cs. first hashes cs ∙ inner-stops s i l _ _ hashes (w .pause l) o d; past = tt }
+        pub paused-stuck : isOpening (getD s i 0) ≡ false → (getD s i 0 ≡ getD t (n - 1) 0 → ⊥) → Goes K s at c (Stuck i)
+        paused-stuck o x = λ hashes cs d g. first hashes cs d g ∙ inner-stops s i l _ _ hashes (firstOf d deep) (w .pause l) o x
 
         -- the closer that is owed first
         module _ (q : getD s i 0 ≡ getD t (n - 1) 0) where
-          shuts : (hashes : Bool) (cs : List ℕ) → scanText hashes (c ∷ cs) (drop at s) at ≡ scanText hashes (owing t (n - 1) cs) (drop (i + 1) s) (i + 1)
-          shuts hashes cs = first hashes cs ∙ inner-shuts s i l _ _ hashes (w .inside .shut (n - 1) (omega (arith, w .inside .any))) q
+          shuts : (hashes : Bool) (cs : List ℕ) (d : ℕ) → K cs d
+              → scanDeep hashes (c ∷ cs) (drop at s) at d ≡ scanDeep hashes (owing t (n - 1) cs) (drop (i + 1) s) (i + 1) (firstOf d deep)
+          shuts hashes cs d g = first hashes cs d g ∙ inner-shuts s i l _ _ hashes (firstOf d deep) (w .inside .shut (n - 1) (omega (arith, w .inside .any))) q
 
-          pub paused-last : n ≡ 1 → Closed s at c (Ends (i + 1))
+          pub paused-last : n ≡ 1 → Goes K s at c (Ends (i + 1) deep)
           unfolding owing
-          paused-last e =
-              let z : n - 1 ≡ 0 = omega arith in
-              record { reads = λ hashes cs. rw z at (shuts hashes cs); past = omega (arith, w .inside .later) }
+          paused-last e = let z : n - 1 ≡ 0 = omega arith in λ hashes cs d g. rw z at (shuts hashes cs d g)
 
-          pub paused-shut : (n ≡ 1 → ⊥) → Inside m s at c t (n - 1) (i + 1)
+          pub paused-shut : (n ≡ 1 → ⊥) → Inside K m s at c t (n - 1) (i + 1) deep
           paused-shut e = record {
             later = omega (arith, w .inside .later);
             size = w .inside .size;
@@ -135,33 +138,43 @@ module _ (m : ℕ) (s : List ℕ) (at c : ℕ) (t : List ℕ) where
             reads = shuts;
           }
 
-        -- d closes the pair that is opened at i
-        module _ (o : isOpening (getD s i 0) ≡ true) (d : ℕ) (e : d ≡ closerOf (getD s i 0)) where
-          opens : (hashes : Bool) (cs : List ℕ) → scanText hashes (c ∷ cs) (drop at s) at ≡ scanText hashes (d ∷ owing t n cs) (drop (i + 1) s) (i + 1)
-          opens hashes cs =
-              first hashes cs ∙ inner-opens s i l _ _ hashes o d e
-              ∙ ap (λ x. scanText hashes (d ∷ x) (drop (i + 1) s) (i + 1)) (sym (owing-last t n cs (w .inside .any)))
+        -- x closes the pair that is opened at i
+        module _ (o : isOpening (getD s i 0) ≡ true) (x : ℕ) (e : x ≡ closerOf (getD s i 0)) where
+          abbrev told : List ℕ → ℕ → ℕ
+          told cs d = deeper (owing t n cs) (getD s i 0) i (firstOf d deep)
 
-          pub paused-open : n < m → isShutting d ≡ true → Inside m s at c (set t n d) (n + 1) (i + 1)
-          paused-open f h = record {
+          opens : (hashes : Bool) (cs : List ℕ) (d : ℕ) → K cs d
+              → scanDeep hashes (c ∷ cs) (drop at s) at d ≡ scanDeep hashes (x ∷ owing t n cs) (drop (i + 1) s) (i + 1) (told cs d)
+          opens hashes cs d g =
+              first hashes cs d g ∙ inner-opens s i l _ _ hashes (firstOf d deep) o x e
+              ∙ ap (λ y. scanDeep hashes (x ∷ y) (drop (i + 1) s) (i + 1) (deeper y (getD s i 0) i (firstOf d deep))) (sym (owing-last t n cs (w .inside .any)))
+
+          -- it is kept
+          pub paused-open : n < m → isShutting x ≡ true → ((cs : List ℕ) (d : ℕ) → K cs d → told cs d ≡ firstOf d deep) → Inside K m s at c (set t n x) (n + 1) (i + 1) deep
+          paused-open f h same = record {
             later = omega (arith, w .inside .later);
-            size = length-set t n d ∙ w .inside .size;
+            size = length-set t n x ∙ w .inside .size;
             any = omega arith;
             fits = omega arith;
-            shut = shut-more t n d (omega (arith, w .inside .size)) (w .inside .shut) h;
-            reads = λ hashes cs. opens hashes cs ∙ ap (λ x. scanText hashes x (drop (i + 1) s) (i + 1)) (sym (owing-more t n d cs (omega (arith, w .inside .size))));
+            shut = shut-more t n x (omega (arith, w .inside .size)) (w .inside .shut) h;
+            reads = λ hashes cs d g. opens hashes cs d g ∙ ap (scanDeep hashes (x ∷ owing t n cs) (drop (i + 1) s) (i + 1)) (same cs d g)
+                ∙ ap (λ y. scanDeep hashes y (drop (i + 1) s) (i + 1) (firstOf d deep)) (sym (owing-more t n x cs (omega (arith, w .inside .size))));
           }
 
-          -- the pair is closed before j
-          pub paused-behind : (j : ℕ) → Closed s (i + 1) d (Ends j) → Inside m s at c t n j
-          paused-behind j p = record {
-            later = omega (arith, w .inside .later, p .past);
+          -- it is closed before j
+          pub paused-behind : (j z : ℕ) → i < j
+              → ((hashes : Bool) (cs : List ℕ) (d : ℕ) → K cs d
+              → scanDeep hashes (x ∷ owing t n cs) (drop (i + 1) s) (i + 1) (told cs d) ≡ scanDeep hashes (owing t n cs) (drop j s) j (firstOf d z))
+              → Inside K m s at c t n j z
+          paused-behind j z k p = record {
+            later = omega (arith, w .inside .later);
             size = w .inside .size;
             any = w .inside .any;
             fits = w .inside .fits;
             shut = w .inside .shut;
-            reads = λ hashes cs. opens hashes cs ∙ p .reads hashes (owing t n cs);
+            reads = λ hashes cs d g. opens hashes cs d g ∙ p hashes cs d g;
           }
 
-          pub paused-lost : (j : ℕ) → Closed s (i + 1) d (Stuck j) → Closed s at c (Stuck j)
-          paused-lost j p = record { reads = λ hashes cs. opens hashes cs ∙ p .reads hashes (owing t n cs); past = tt }
+          pub paused-lost : (j : ℕ) → ((hashes : Bool) (cs : List ℕ) (d : ℕ) → K cs d → scanDeep hashes (x ∷ owing t n cs) (drop (i + 1) s) (i + 1) (told cs d) ≡ Stuck j)
+              → Goes K s at c (Stuck j)
+          paused-lost j p = λ hashes cs d g. opens hashes cs d g ∙ p hashes cs d g

@@ -11,9 +11,12 @@ use Rattle.scope.specs.Lists.{given}
 use Rattle.scope.specs.Content.{textStep}
 use Rattle.classes.specs.Runs.{span}
 use Rattle.classes.proofs.Runs.{run-next}
+use Rattle.texts.specs.declared.TextEnd.{TextEnd}
 use Rattle.texts.specs.declared.TextEnd.the-variants.{Ends, Stuck}
-use Rattle.texts.specs.Texts.{scanText, isOuter, isInner, Closed}
-use Rattle.texts.proofs.Steps.{shut-not-open, outer-step, scan-run, scan-at, scan-end}
+use Rattle.texts.specs.Texts.{scanText, told, scanDeep, deeper, entered, firstOf, isOuter, isInner, Closed}
+use Rattle.texts.proofs.Firsts.{deeper-not, deeper-opens}
+use Rattle.texts.proofs.Steps.{shut-not-open, outer-step, outer-quiet, scan-run, scan-at, scan-end}
+use Rattle.texts.proofs.Told.{text-told}
 
 -- the step of a byte that is not plain
 outer-open : (hashes : Bool) (b : ℕ) → isOuter hashes b ≡ false → isOpening b ≡ true → textStep hashes [] b ≡ some (closerOf b ∷ [])
@@ -42,61 +45,77 @@ inner-none hashes c cs b e o d =
 
 module _ (s : List ℕ) (i : ℕ) (l : i < length s) where
   -- inside a pair that c closes
-  module _ (c : ℕ) (cs : List ℕ) (hashes : Bool) where
+  module _ (c : ℕ) (cs : List ℕ) (hashes : Bool) (d : ℕ) where
     inner-goes : {o : Option (List ℕ)} → textStep hashes (c ∷ cs) (getD s i 0) ≡ o
-        → scanText hashes (c ∷ cs) (drop i s) i ≡ given o (λ cs′. scanText hashes cs′ (drop (i + 1) s) (i + 1)) (Stuck i)
-    inner-goes q = scan-at hashes (c ∷ cs) s i l ∙ ap (λ o. given o (λ cs′. scanText hashes cs′ (drop (i + 1) s) (i + 1)) (Stuck i)) q
+        → scanDeep hashes (c ∷ cs) (drop i s) i d ≡ given o (λ cs′. scanDeep hashes cs′ (drop (i + 1) s) (i + 1) (deeper (c ∷ cs) (getD s i 0) i d)) (Stuck i)
+    inner-goes q =
+        scan-at hashes (c ∷ cs) s i d l
+        ∙ ap (λ o. given o (λ cs′. scanDeep hashes cs′ (drop (i + 1) s) (i + 1) (deeper (c ∷ cs) (getD s i 0) i d)) (Stuck i)) q
 
-    pub inner-shuts : isShutting c ≡ true → getD s i 0 ≡ c → scanText hashes (c ∷ cs) (drop i s) i ≡ scanText hashes cs (drop (i + 1) s) (i + 1)
-    inner-shuts h q = inner-goes (inner-shut hashes c cs _ h q)
+    pub inner-shuts : isShutting c ≡ true → getD s i 0 ≡ c → scanDeep hashes (c ∷ cs) (drop i s) i d ≡ scanDeep hashes cs (drop (i + 1) s) (i + 1) d
+    inner-shuts h q =
+        inner-goes (inner-shut hashes c cs _ h q)
+        ∙ ap (scanDeep hashes cs (drop (i + 1) s) (i + 1)) (deeper-not (c ∷ cs) (getD s i 0) i d (ap isOpening q ∙ shut-not-open c h))
 
-    pub inner-stops : isInner (getD s i 0) ≡ false → isOpening (getD s i 0) ≡ false → (getD s i 0 ≡ c → ⊥) → scanText hashes (c ∷ cs) (drop i s) i ≡ Stuck i
-    inner-stops e o d = inner-goes (inner-none hashes c cs _ e o d)
+    pub inner-stops : isInner (getD s i 0) ≡ false → isOpening (getD s i 0) ≡ false → (getD s i 0 ≡ c → ⊥) → scanDeep hashes (c ∷ cs) (drop i s) i d ≡ Stuck i
+    inner-stops e o n = inner-goes (inner-none hashes c cs _ e o n)
 
-    pub inner-opens : isOpening (getD s i 0) ≡ true → (d : ℕ) → d ≡ closerOf (getD s i 0)
-        → scanText hashes (c ∷ cs) (drop i s) i ≡ scanText hashes (d ∷ c ∷ cs) (drop (i + 1) s) (i + 1)
-    inner-opens o d e = inner-goes (inner-open hashes c cs _ o ∙ ap (λ x. some (x ∷ c ∷ cs)) (sym e))
+    pub inner-opens : isOpening (getD s i 0) ≡ true → (x : ℕ) → x ≡ closerOf (getD s i 0)
+        → scanDeep hashes (c ∷ cs) (drop i s) i d ≡ scanDeep hashes (x ∷ c ∷ cs) (drop (i + 1) s) (i + 1) (deeper (c ∷ cs) (getD s i 0) i d)
+    inner-opens o x e = inner-goes (inner-open hashes c cs _ o ∙ ap (λ y. some (y ∷ c ∷ cs)) (sym e))
 
   -- outside every pair
-  module _ (hashes : Bool) (e : isOuter hashes (getD s i 0) ≡ false) where
+  module _ (hashes : Bool) (e : isOuter hashes (getD s i 0) ≡ false) (d : ℕ) where
     outer-goes : {o : Option (List ℕ)} → textStep hashes [] (getD s i 0) ≡ o
-        → scanText hashes [] (drop i s) i ≡ given o (λ cs′. scanText hashes cs′ (drop (i + 1) s) (i + 1)) (Ends i)
-    outer-goes q = scan-at hashes [] s i l ∙ ap (λ o. given o (λ cs′. scanText hashes cs′ (drop (i + 1) s) (i + 1)) (Ends i)) q
+        → scanDeep hashes [] (drop i s) i d ≡ given o (λ cs′. scanDeep hashes cs′ (drop (i + 1) s) (i + 1) (deeper [] (getD s i 0) i d)) (Ends i d)
+    outer-goes q =
+        scan-at hashes [] s i d l ∙ ap (λ o. given o (λ cs′. scanDeep hashes cs′ (drop (i + 1) s) (i + 1) (deeper [] (getD s i 0) i d)) (Ends i d)) q
 
-    outer-stops : isOpening (getD s i 0) ≡ false → scanText hashes [] (drop i s) i ≡ Ends i
+    outer-stops : isOpening (getD s i 0) ≡ false → scanDeep hashes [] (drop i s) i d ≡ Ends i d
     outer-stops o = outer-goes (outer-none hashes _ e o)
 
-    outer-opens : isOpening (getD s i 0) ≡ true → (d : ℕ) → d ≡ closerOf (getD s i 0)
-        → scanText hashes [] (drop i s) i ≡ scanText hashes (d ∷ []) (drop (i + 1) s) (i + 1)
-    outer-opens o d m = outer-goes (outer-open hashes _ e o ∙ ap (λ x. some (x ∷ [])) (sym m))
+    outer-opens : isOpening (getD s i 0) ≡ true → (x : ℕ) → x ≡ closerOf (getD s i 0)
+        → scanDeep hashes [] (drop i s) i d ≡ scanDeep hashes (x ∷ []) (drop (i + 1) s) (i + 1) (entered 0 (i + 1) d)
+    outer-opens o x m =
+        outer-goes (outer-open hashes _ e o ∙ ap (λ y. some (y ∷ [])) (sym m))
+        ∙ ap (scanDeep hashes (x ∷ []) (drop (i + 1) s) (i + 1)) (deeper-opens [] (getD s i 0) i d 0 o refl)
 
--- read from at up to i, outside every pair, and no byte at i goes on so
-pub record Outside (s : List ℕ) (at : ℕ) (hashes : Bool) (i : ℕ) : Type 0 where
-  pub reads : scanText hashes [] (drop at s) at ≡ scanText hashes [] (drop i s) i
+-- read from at up to i, outside every pair, with the first place before i at which one is too deep; and no byte at i goes on so
+pub record Outside (s : List ℕ) (at : ℕ) (hashes : Bool) (i deep : ℕ) : Type 0 where
+  pub reads : scanDeep hashes [] (drop at s) at 0 ≡ scanDeep hashes [] (drop i s) i deep
   pub pause : i < length s → isOuter hashes (getD s i 0) ≡ false
 
 module _ (s : List ℕ) (at : ℕ) (hashes : Bool) where
-  passed : (j i : ℕ) → scanText hashes [] (drop at s) at ≡ scanText hashes [] (drop j s) j → i ≡ j + span (isOuter hashes) (drop j s) → Outside s at hashes i
-  passed j i q e = record { reads = q ∙ scan-run (isOuter hashes) hashes [] (outer-step hashes) s j i e; pause = run-next (isOuter hashes) s j i e }
+  abbrev text : TextEnd
+  text = told s at (scanText hashes [] (drop at s) at)
 
-  pub text-starts : (i : ℕ) → i ≡ at + span (isOuter hashes) (drop at s) → Outside s at hashes i
-  text-starts i e = passed at i refl e
+  passed : (j i deep : ℕ) → scanDeep hashes [] (drop at s) at 0 ≡ scanDeep hashes [] (drop j s) j deep → i ≡ j + span (isOuter hashes) (drop j s)
+      → Outside s at hashes i deep
+  passed j i deep q e =
+      record {
+        reads = q ∙ scan-run (isOuter hashes) hashes [] (outer-step hashes) (outer-quiet hashes) s j i deep e;
+        pause = run-next (isOuter hashes) s j i e;
+      }
 
-  module _ (i : ℕ) (v : Outside s at hashes i) where
-    pub text-over : length s ≤ i → Ends i ≡ scanText hashes [] (drop at s) at
-    text-over h = sym (v .reads ∙ scan-end hashes [] s i h)
+  pub text-starts : (i : ℕ) → i ≡ at + span (isOuter hashes) (drop at s) → Outside s at hashes i 0
+  text-starts i e = passed at i 0 refl e
+
+  module _ (i deep : ℕ) (v : Outside s at hashes i deep) where
+    pub text-over : length s ≤ i → Ends i deep ≡ text
+    text-over h = sym (v .reads ∙ scan-end hashes [] s i deep h) ∙ text-told hashes s at
 
     module _ (l : i < length s) where
-      pub text-ends : isOpening (getD s i 0) ≡ false → Ends i ≡ scanText hashes [] (drop at s) at
-      text-ends o = sym (v .reads ∙ outer-stops s i l hashes (v .pause l) o)
+      pub text-ends : isOpening (getD s i 0) ≡ false → Ends i deep ≡ text
+      text-ends o = sym (v .reads ∙ outer-stops s i l hashes (v .pause l) deep o) ∙ text-told hashes s at
 
-      -- d closes the pair that is opened at i
-      module _ (o : isOpening (getD s i 0) ≡ true) (d : ℕ) (m : d ≡ closerOf (getD s i 0)) (j : ℕ) where
-        opened : scanText hashes [] (drop at s) at ≡ scanText hashes (d ∷ []) (drop (i + 1) s) (i + 1)
-        opened = v .reads ∙ outer-opens s i l hashes (v .pause l) o d m
+      -- x closes the pair that is opened at i
+      module _ (o : isOpening (getD s i 0) ≡ true) (x : ℕ) (m : x ≡ closerOf (getD s i 0)) (j : ℕ) where
+        opened : scanDeep hashes [] (drop at s) at 0 ≡ scanDeep hashes (x ∷ []) (drop (i + 1) s) (i + 1) (entered 0 (i + 1) deep)
+        opened = v .reads ∙ outer-opens s i l hashes (v .pause l) deep o x m
 
-        pub text-behind : Closed s (i + 1) d (Ends j) → (k : ℕ) → k ≡ j + span (isOuter hashes) (drop j s) → Outside s at hashes k
-        text-behind p k e = passed j k (opened ∙ p .reads hashes []) e
+        pub text-behind : (y : ℕ) → Closed s (i + 1) x 0 (Ends j y) → (z : ℕ) → z ≡ firstOf deep y → (k : ℕ) → k ≡ j + span (isOuter hashes) (drop j s)
+            → Outside s at hashes k z
+        text-behind y p z f k e = passed j k z (opened ∙ p .reads hashes [] deep refl ∙ ap (scanDeep hashes [] (drop j s) j) (sym f)) e
 
-        pub text-lost : Closed s (i + 1) d (Stuck j) → Stuck j ≡ scanText hashes [] (drop at s) at
-        text-lost p = sym (opened ∙ p .reads hashes [])
+        pub text-lost : Closed s (i + 1) x 0 (Stuck j) → Stuck j ≡ text
+        text-lost p = sym (opened ∙ p .reads hashes [] deep refl) ∙ text-told hashes s at

@@ -3,70 +3,74 @@ use scope::tables::Tables;
 ghost use mathlib.Core.Path.{_≡_};
 ghost use mathlib.Core.Bool.{true};
 ghost use mathlib.Core.List.{[]};
-ghost use Prim.Native.Nat.{_+_, _-_, _≤_};
+ghost use Prim.Native.Nat.{_+_, _-_, _<_, _≤_};
 ghost use lib.ListN.{length, drop};
 ghost use Rattle.scope.specs.Bytes.{isShutting, closerOf};
 ghost use Rattle.scope.specs.Lists.{given, part};
 ghost use Rattle.scope.specs.Refusals.{least, tooDeep, depthAfter};
 ghost use Rattle.scope.specs.Limits.{depthLimit};
 ghost use Rattle.classes.specs.Runs.{span};
-ghost use Rattle.texts.specs.Texts.{isOuter, isInner, scanText, Closed, opensTooDeep};
+ghost use Rattle.texts.specs.Texts.{isOuter, isInner, scanText, told, firstOf, Closed, Crowded, opensTooDeep};
 
-// Where a text ends, or where it is stuck inside a pair.
+// Where a text ends, with one more than the first place at which a pair is opened while as many as may be are open, or 0; or where it is stuck inside a pair.
 pub enum TextEnd {
-    Ends(usize),
+    Ends { to: usize, deep: usize },
     Stuck(usize),
 }
 
-// A pair with fewer pairs than these around it is read by a call of its own, a deeper one by `crowd_end`.
-const LEVELS: usize = 16;
+// A pair with fewer pairs than these around it is read by a call of its own. One with more is too deep, and is read by `crowd_end`.
+const LEVELS: usize = Tables::DEPTH;
 
 // How many closers one call of `crowd_end` keeps.
 const KEPT: usize = 256;
 
 // Where the text that starts at `at` ends; `hashes` says whether `#` is plain in it.
 pub fn text_end(line: &[u8], at: usize, hashes: bool) -> TextEnd
-    ensures { λ r. ⌜ r ≡ scanText hashes [] (drop at (now (line .entry))) at ⌝ }
+    ensures { λ r. ⌜ r ≡ told (now (line .entry)) at (scanText hashes [] (drop at (now (line .entry))) at) ⌝ }
 {
+    let mut deep: usize = 0;
     let mut i = outer_end(line, at, hashes);
     while i < line.len() {
         let b = line[i];
         if classes::is_opening(b) {
             let e = pair_end(line, i + 1, closer_of(b), 0);
             match e {
-                TextEnd::Ends(next) => {
-                    i = outer_end(line, next, hashes);
+                TextEnd::Ends { to, deep: d } => {
+                    deep = first_of(deep, d);
+                    i = outer_end(line, to, hashes);
                 }
                 TextEnd::Stuck(k) => {
                     return TextEnd::Stuck(k);
                 }
             }
         } else {
-            return TextEnd::Ends(i);
+            return TextEnd::Ends { to: i, deep };
         }
     }
-    TextEnd::Ends(i)
+    TextEnd::Ends { to: i, deep }
 }
 
 // From inside a pair that `closer` closes, with `level` pairs around it: the place behind its closer. Each pair within is read by a call.
 fn pair_end(line: &[u8], at: usize, closer: u8, level: usize) -> TextEnd
-    requires { ⌜ isShutting closer ≡ true ⌝ }
-    ensures { λ r. ⌜ Closed (now (line .entry)) at closer r ⌝ }
+    requires { ⌜ (isShutting closer ≡ true) × (0 < at) ⌝ }
+    ensures { λ r. ⌜ Closed (now (line .entry)) at closer level r ⌝ }
 {
     if LEVELS <= level {
         return crowd_end(line, at, closer);
     }
+    let mut deep: usize = 0;
     let mut i = inner_end(line, at);
     while i < line.len() {
         let b = line[i];
         if b == closer {
-            return TextEnd::Ends(i + 1);
+            return TextEnd::Ends { to: i + 1, deep };
         }
         if classes::is_opening(b) {
             let e = pair_end(line, i + 1, closer_of(b), level + 1);
             match e {
-                TextEnd::Ends(next) => {
-                    i = inner_end(line, next);
+                TextEnd::Ends { to, deep: d } => {
+                    deep = first_of(deep, d);
+                    i = inner_end(line, to);
                 }
                 TextEnd::Stuck(k) => {
                     return TextEnd::Stuck(k);
@@ -79,11 +83,11 @@ fn pair_end(line: &[u8], at: usize, closer: u8, level: usize) -> TextEnd
     TextEnd::Stuck(i)
 }
 
-// The same, for pairs so deep that a call for each would take too much stack: the closers of the pairs that stand open are kept in a table,
+// The same, for a pair that is too deep: a call for each within would take too much stack. The closers of the pairs that stand open are kept in a table,
 // the innermost one last; a pair that is opened when the table is full is read by a call.
 fn crowd_end(line: &[u8], at: usize, closer: u8) -> TextEnd
     requires { ⌜ isShutting closer ≡ true ⌝ }
-    ensures { λ r. ⌜ Closed (now (line .entry)) at closer r ⌝ }
+    ensures { λ r. ⌜ Crowded (now (line .entry)) at closer r ⌝ }
 {
     let mut owed = [0u8; KEPT];
     owed[0] = closer;
@@ -93,7 +97,10 @@ fn crowd_end(line: &[u8], at: usize, closer: u8) -> TextEnd
         let b = line[i];
         if b == owed[depth - 1] {
             if depth == 1 {
-                return TextEnd::Ends(i + 1);
+                return TextEnd::Ends {
+                    to: i + 1,
+                    deep: at,
+                };
             }
             depth -= 1;
             i = inner_end(line, i + 1);
@@ -105,8 +112,8 @@ fn crowd_end(line: &[u8], at: usize, closer: u8) -> TextEnd
             } else {
                 let e = crowd_end(line, i + 1, closer_of(b));
                 match e {
-                    TextEnd::Ends(next) => {
-                        i = inner_end(line, next);
+                    TextEnd::Ends { to, deep: _ } => {
+                        i = inner_end(line, to);
                     }
                     TextEnd::Stuck(k) => {
                         return TextEnd::Stuck(k);
@@ -118,6 +125,16 @@ fn crowd_end(line: &[u8], at: usize, closer: u8) -> TextEnd
         }
     }
     TextEnd::Stuck(i)
+}
+
+// The first of two places, told as in `TextEnd`, of which the other stands behind it.
+fn first_of(a: usize, b: usize) -> usize
+    ensures { λ r. ⌜ r ≡ firstOf a b ⌝ }
+{
+    if a == 0 {
+        return b;
+    }
+    a
 }
 
 // The byte that closes the pair which `b` opens.
@@ -147,6 +164,9 @@ fn is_outer(b: u8, hashes: bool) -> bool
 fn is_inner(b: u8) -> bool
     ensures { λ r. ⌜ r ≡ isInner b ⌝ }
 {
+    if classes::is_letter(b) {
+        return true;
+    }
     match b {
         b'[' => false,
         b']' => false,

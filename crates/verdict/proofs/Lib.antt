@@ -1,3 +1,3 @@
-pub mod Codes
-pub mod Judged
-pub mod Whole
+pub mod Unprintable
+pub mod Trying
+pub mod Judging

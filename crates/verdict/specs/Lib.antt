@@ -1,2 +1,2 @@
-pub mod Ruled
+pub mod Due
 pub mod Says

@@ -1,103 +1,135 @@
 // Refusals 1 to 12: "the lowest number wins, at its first place in the line".
-use checking::Checked;
-use checking::CheckedLine;
-use notes::LABELS;
-use notes::NOTES;
 use scope::answers::Read;
 use scope::tables::Tables;
+use sheet::Sheet;
+use walk::Walked;
 ghost use mathlib.Core.Path.{_≡_};
-ghost use Prim.Native.Nat.{_-_, _<_, _≤_};
-ghost use lib.ListN.{length};
-ghost use Rattle.scope.specs.Limits.{lineLimit};
-ghost use Rattle.scope.specs.Reading.{reading};
-ghost use Rattle.scope.specs.Refusals.{refusal3, judged, outcome};
-ghost use Rattle.scope.specs.Answers.{Said, refuses, saysRead, saysOutcome};
-ghost use Rattle.basics.specs.Each.{Each};
-ghost use Rattle.accepted_laws.specs.Within.{Byte};
-ghost use Rattle.places.specs.Places.{coded};
-ghost use Rattle.verdict.specs.Ruled.{Clean, Checks, ruled};
-ghost use Rattle.verdict.specs.Says.{VerdictSays};
+ghost use Prim.Native.Nat.{ℕ};
+ghost use Rattle.scope.specs.Bytes.{isPrintable};
+ghost use Rattle.scope.specs.Line.{Line};
+ghost use Rattle.scope.specs.Reading.{holds, reading};
+ghost use Rattle.classes.specs.Runs.{span};
+ghost use Rattle.sheet.specs.Rows.{Roomy};
+ghost use Rattle.dues.specs.Ranks.{numberAt};
+ghost use Rattle.dues.specs.Lines.{lineRules};
+ghost use Rattle.verdict.specs.Due.{WalkedLine, firstCode, byCode, unread};
+ghost use Rattle.verdict.specs.Says.{VerdictSays, JudgedSays};
 
-// The first byte outside 32 to 126: 0 where there is none, else one more than its place.
-fn first_unprintable(line: &[u8]) -> usize
-    ensures { λ r. ⌜ r ≡ coded (refusal3 (now (line .entry))) ⌝ }
+// The refusal of a line; or how many residues and brackets it holds, where it is accepted.
+pub enum Judged {
+    Refused { number: u8, place: usize },
+    Holds { residues: usize, brackets: usize },
+}
+
+// The place of the first byte outside 32 to 126; the line's length where there is none.
+fn printable_end(line: &[u8]) -> usize
+    ensures { λ r. ⌜ r ≡ span isPrintable (now (line .entry)) ⌝ }
 {
-    let mut i: usize = 0;
+    let mut i = 0;
     while i < line.len() {
-        if !classes::is_printable(line[i]) {
-            return i + 1;
+        if classes::is_printable(line[i]) {
+            i += 1;
+        } else {
+            return i;
         }
-        i += 1;
     }
-    0
+    i
 }
 
-// The refusal at a place that is given as one more than it.
-fn refused_at(number: u8, code: usize) -> Read
-    requires { ⌜ 0 < code ⌝ }
-    ensures { λ r. ⌜ saysRead r ≡ refuses number (code - 1) ⌝ }
+// Refusal 3; or 4, at the place where no line goes on.
+fn not_read(line: &[u8], place: usize) -> Judged
+    ensures { λ r. ⌜ r ≡ unread (now (line .entry)) place ⌝ }
 {
-    Read::Refused {
-        number,
-        place: code - 1,
+    let end = printable_end(line);
+    if end < line.len() {
+        return Judged::Refused {
+            number: 3,
+            place: end,
+        };
+    }
+    Judged::Refused { number: 4, place }
+}
+
+// The number of the refusal with this rank in the order of trying; 0 where there is none.
+fn number_of(rank: usize) -> u8
+    ensures { λ r. ⌜ ((l : Line ℕ) → r ≡ numberAt (lineRules l) rank) ⌝ }
+{
+    match rank {
+        dues::DEEP => 5,
+        dues::OVER => 6,
+        dues::WIDE => 7,
+        dues::BARRED => 8,
+        dues::DIGITS => 9,
+        dues::INFO => 10,
+        dues::LABEL => 11,
+        dues::COPIES => 12,
+        _ => 0,
     }
 }
 
-// Refusals 10 to 12, where none of those before is due.
-fn by_rules(line: &[u8], notes: &[u16], labels: &[u16], n: usize) -> Read
-    requires { ⌜ Clean (now line) (now notes) (now labels) n ⌝ }
-    ensures { λ r. ⌜ saysRead r ≡ ruled (now (line .entry)) ⌝ }
+// The first refusal due of 5 to 12, where `least` is the first of 5 to 9: the rules are asked where none of these is due.
+fn first_due(line: &[u8], heads: &[u16], parts: &[u16], brackets: usize, least: usize) -> usize
+    requires { ⌜ WalkedLine (now line) (now heads) (now parts) brackets least ⌝ }
+    ensures { λ r. ⌜ ((l : Line ℕ) → reading (now (line .entry)) ≡ holds l → r ≡ firstCode l) ⌝ }
 {
-    let ten = notes::first_info_only(notes, n);
-    if 0 < ten {
-        return refused_at(10, ten);
+    if least < dues::NONE {
+        return least;
     }
-    let eleven = notes::first_wrong_label(line, notes, labels, n);
-    if 0 < eleven {
-        return refused_at(11, eleven);
-    }
-    let twelve = notes::first_over_eight(notes, n);
-    if 0 < twelve {
-        return refused_at(12, twelve);
-    }
-    Read::Accepted
+    rules::rules_due(line, heads, parts, brackets, least)
 }
 
-// Refusals 5 to 9, then the rules.
-fn by_limits(line: &[u8], notes: &[u16], labels: &[u16], c: Checked) -> Read
-    requires { ⌜ Checks (now line) c (now notes) (now labels) ⌝ }
-    ensures { λ r. ⌜ saysRead r ≡ ruled (now (line .entry)) ⌝ }
+// What the first refusal due says of a line with so many residues and brackets.
+fn by_code(c: usize, residues: usize, brackets: usize) -> Judged
+    ensures { λ r. ⌜ ((l : Line ℕ) → r ≡ byCode l c residues brackets) ⌝ }
 {
-    let m = c.marks;
-    if 0 < m.deep {
-        return refused_at(5, m.deep);
+    if c < dues::NONE {
+        return Judged::Refused {
+            number: number_of(dues::rank_of(c)),
+            place: dues::place_of(c),
+        };
     }
-    if 0 < m.over {
-        return refused_at(6, m.over);
-    }
-    if 0 < m.wide {
-        return refused_at(7, m.wide);
-    }
-    if 0 < m.barred {
-        return refused_at(8, m.barred);
-    }
-    if 0 < m.digits {
-        return refused_at(9, m.digits);
-    }
-    by_rules(line, notes, labels, c.brackets)
+    Judged::Holds { residues, brackets }
 }
 
-// Refusals 4 to 12 of a line of printable bytes.
-fn of_order(line: &[u8]) -> Read
-    requires { ⌜ (length (now line) ≤ lineLimit) × Each Byte (now line) ⌝ }
-    ensures { λ r. ⌜ saysRead r ≡ ruled (now (line .entry)) ⌝ }
+// The refusal of a line; or that it is accepted, and what it holds in the tables. These have room for what is noted of any line, and may hold anything before.
+pub fn judge(
+    line: &[u8],
+    letters: &mut [u8],
+    sections: &mut [u8],
+    heads: &mut [u16],
+    parts: &mut [u16],
+    masses: &mut [i64],
+    scores: &mut [i64],
+) -> Judged
+    requires { ⌜ Roomy (now letters) (now sections) (now heads) (now parts) (now masses) (now scores) ⌝ }
+    ensures { λ r. ⌜ JudgedSays (now (line .entry)) r (now (letters .exit)) (now (sections .exit)) (now (heads .exit)) (now (parts .exit)) (now (masses .exit)) (now (scores .exit)) ⌝ }
 {
-    let mut notes = [0u16; NOTES];
-    let mut labels = [0u16; LABELS];
-    let checked = checking::check_line(line, &mut notes, &mut labels);
-    match checked {
-        CheckedLine::Stuck(place) => Read::Refused { number: 4, place },
-        CheckedLine::Holds(c) => by_limits(line, &notes, &labels, c),
+    let n = line.len();
+    if n == 0 {
+        return Judged::Refused {
+            number: 1,
+            place: 0,
+        };
+    }
+    if Tables::LINE < n {
+        return Judged::Refused {
+            number: 2,
+            place: Tables::LINE,
+        };
+    }
+    let walked = walk::walk(line, letters, sections, heads, parts, masses, scores);
+    match walked {
+        Walked::Stuck(place) => not_read(line, place),
+        Walked::Holds {
+            residues,
+            brackets,
+            labels: _,
+            least,
+        } => by_code(
+            first_due(line, heads, parts, brackets, least),
+            residues,
+            brackets,
+        ),
     }
 }
 
@@ -105,22 +137,26 @@ fn of_order(line: &[u8]) -> Read
 pub fn verdict_on(line: &[u8]) -> Read
     ensures { λ r. ⌜ VerdictSays (now (line .entry)) r ⌝ }
 {
-    let n = line.len();
-    if n == 0 {
-        return Read::Refused {
-            number: 1,
-            place: 0,
-        };
+    let mut letters = [0u8; Tables::RESIDUES];
+    let mut sections = [0u8; Tables::RESIDUES];
+    let mut heads = [0u16; Sheet::HEADS];
+    let mut parts = [0u16; Sheet::PARTS];
+    let mut masses = [0i64; Sheet::MASSES];
+    let mut scores = [0i64; Tables::BRACKETS];
+    let judged = judge(
+        line,
+        &mut letters,
+        &mut sections,
+        &mut heads,
+        &mut parts,
+        &mut masses,
+        &mut scores,
+    );
+    match judged {
+        Judged::Refused { number, place } => Read::Refused { number, place },
+        Judged::Holds {
+            residues: _,
+            brackets: _,
+        } => Read::Accepted,
     }
-    if Tables::LINE < n {
-        return Read::Refused {
-            number: 2,
-            place: Tables::LINE,
-        };
-    }
-    let three = first_unprintable(line);
-    if 0 < three {
-        return refused_at(3, three);
-    }
-    of_order(line)
 }

@@ -1,3 +1,4 @@
+use native.Mathlib.Omega.{arith}
 use Rattle.writer.proofs.Storing.{puts-length}
 use Rattle.entries.proofs.Texts.{puts-from}
 use borrow.Author.Needs.{needs}
@@ -17,7 +18,10 @@ put-front-requires : tie.Need-put-front-requires
 put-front-requires c κs = search needs
 
 add-result : tie.Need-add-result
-add-result c = search needs
+add-result c =
+    let f = c .before .before .before .before .before .before .before .before .before .before .before .before .before .before .before in
+    let s = f .before .before .before .before .before .before .before .before .before .before .before .before .before .before .before .before .before in
+    omega (arith, f .put-front .ensures .puts .near, s)
 
 same-length : tie.Need-same-length
 same-length c = search needs
@@ -28,10 +32,28 @@ same-length-2 c = search needs
 same-length-3 : tie.Need-same-length-3
 same-length-3 c = search needs
 
+same-length-4 : tie.Need-same-length-4
+same-length-4 c = search needs
+
+same-length-5 : tie.Need-same-length-5
+same-length-5 c = search needs
+
+same-length-6 : tie.Need-same-length-6
+same-length-6 c = search needs
+
+same-length-7 : tie.Need-same-length-7
+same-length-7 c = search needs
+
+same-length-8 : tie.Need-same-length-8
+same-length-8 c = search needs
+
+same-length-9 : tie.Need-same-length-9
+same-length-9 c = search needs
+
 returns : tie.Need-returns
 returns c =
-    let f = c .before .before .before .before .before in
-    let s = f .before .before .before .before .before .before .before in
+    let f = c .before .before .before .before .before .before .before .before .before .before .before .before .before .before .before in
+    let s = f .before .before .before .before .before .before .before .before .before .before .before .before .before .before .before .before .before in
     let w = f .put-front .ensures in
     let t = puts-from (s .args .at) (s .args .out .now) (w .puts) in
     record { puts = t; out-long = puts-length t; bytes-same = w .bytes-same; numbers-same = w .numbers-same }
@@ -48,4 +70,10 @@ put-entry-spec =
     same-length
     same-length-2
     same-length-3
+    same-length-4
+    same-length-5
+    same-length-6
+    same-length-7
+    same-length-8
+    same-length-9
     returns)

@@ -22,11 +22,29 @@ same-length-2 c = search needs
 same-length-3 : tie.Need-same-length-3
 same-length-3 c = search needs
 
+same-length-4 : tie.Need-same-length-4
+same-length-4 c = search needs
+
+same-length-5 : tie.Need-same-length-5
+same-length-5 c = search needs
+
+same-length-6 : tie.Need-same-length-6
+same-length-6 c = search needs
+
+same-length-7 : tie.Need-same-length-7
+same-length-7 c = search needs
+
+same-length-8 : tie.Need-same-length-8
+same-length-8 c = search needs
+
+same-length-9 : tie.Need-same-length-9
+same-length-9 c = search needs
+
 returns : tie.Need-returns
 returns c =
     let p = c .before .before in
-    let r = p .before .before .before .before .before .before .before in
-    let d = r .before .before .before .before .before .before in
+    let r = p .before .before .before .before .before .before .before .before .before .before .before .before .before .before .before .before .before in
+    let d = r .before .before .before .before .before .before .before .before .before .before .before .before in
     let w = r .put-report .ensures in
     let t = puts-of (entry-text _ _) (puts-join (d .put-decimal .ensures) (puts-join (w .puts) (p .put .ensures))) in
     record { puts = t; out-long = puts-length t; bytes-same = w .bytes-same; numbers-same = w .numbers-same }
@@ -41,4 +59,10 @@ put-front-spec =
     same-length
     same-length-2
     same-length-3
+    same-length-4
+    same-length-5
+    same-length-6
+    same-length-7
+    same-length-8
+    same-length-9
     returns)

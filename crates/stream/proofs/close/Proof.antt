@@ -1,39 +1,76 @@
 -- `stream::close` meets its contract: what is put out at the end of the input is handed over. Assumes nothing.
-use native.Mathlib.Omega.{arith}
-use borrow.Author.Needs.{needs}
 use Rattle.stream.proofs.Steps.{owed-last, closes-whole, closes-lost}
 use Rattle.stream.proofs.close.Statement.{statement}
 use Rattle.stream.proofs.close.Tie as tie
 
 finish-requires : tie.Need-finish-requires
-finish-requires c κs = search needs
+finish-requires c κs = c .before .before .before .before .before .before .before .before .before .before .before .before .before .before .before .before .pre
 
 hand-last-requires : tie.Need-hand-last-requires
-hand-last-requires c κs = owed-last (c .before .before .before .before .before .before .finish .ensures)
+hand-last-requires c κs = owed-last (c .before .before .before .before .before .before .before .before .before .before .before .before .before .before .before .before .finish .ensures)
 
 same-length : tie.Need-same-length
-same-length c = search needs
+same-length c = c .before .before .before .before .before .before .before .before .before .before .before .before .before .before .before .before .before .letters .given
 
 same-length-2 : tie.Need-same-length-2
-same-length-2 c = search needs
+same-length-2 c = c .before .before .before .before .before .before .before .before .before .before .before .before .before .before .before .sections .given
 
 same-length-3 : tie.Need-same-length-3
-same-length-3 c = search needs
+same-length-3 c = c .before .before .before .before .before .before .before .before .before .before .before .before .before .heads .given
+
+same-length-4 : tie.Need-same-length-4
+same-length-4 c = c .before .before .before .before .before .before .before .before .before .before .before .parts .given
+
+same-length-5 : tie.Need-same-length-5
+same-length-5 c = c .before .before .before .before .before .before .before .before .before .masses .given
+
+same-length-6 : tie.Need-same-length-6
+same-length-6 c = c .before .before .before .before .before .before .before .before .scores .given
+
+same-length-7 : tie.Need-same-length-7
+same-length-7 c = c .before .before .before .before .before .before .before .bytes .given
+
+same-length-8 : tie.Need-same-length-8
+same-length-8 c = c .before .before .before .before .before .numbers .given
+
+same-length-9 : tie.Need-same-length-9
+same-length-9 c = c .before .before .before .before .out .given
 
 returns : tie.Need-returns
 returns c = closes-lost
 
-same-length-4 : tie.Need-same-length-4
-same-length-4 c = search needs
+same-length-10 : tie.Need-same-length-10
+same-length-10 c = c .before .before .before .before .before .before .before .before .before .before .before .before .before .before .before .before .before .letters .given
 
-same-length-5 : tie.Need-same-length-5
-same-length-5 c = search needs
+same-length-11 : tie.Need-same-length-11
+same-length-11 c = c .before .before .before .before .before .before .before .before .before .before .before .before .before .before .before .sections .given
 
-same-length-6 : tie.Need-same-length-6
-same-length-6 c = search needs
+same-length-12 : tie.Need-same-length-12
+same-length-12 c = c .before .before .before .before .before .before .before .before .before .before .before .before .before .heads .given
+
+same-length-13 : tie.Need-same-length-13
+same-length-13 c = c .before .before .before .before .before .before .before .before .before .before .before .parts .given
+
+same-length-14 : tie.Need-same-length-14
+same-length-14 c = c .before .before .before .before .before .before .before .before .before .masses .given
+
+same-length-15 : tie.Need-same-length-15
+same-length-15 c = c .before .before .before .before .before .before .before .before .scores .given
+
+same-length-16 : tie.Need-same-length-16
+same-length-16 c = c .before .before .before .before .before .before .before .bytes .given
+
+same-length-17 : tie.Need-same-length-17
+same-length-17 c = c .before .before .before .before .before .numbers .given
+
+same-length-18 : tie.Need-same-length-18
+same-length-18 c = c .before .before .before .before .out .given
 
 returns-2 : tie.Need-returns-2
-returns-2 c = closes-whole (c .before .before .before .before .before .before .before .before .finish .ensures) (c .before .hand-last .ensures) (c .if1 .left)
+returns-2 c =
+    let h = c .before in
+    let f = h .before .before .before .before .before .before .before .before .before .before .before .before .before .before .before .before .before in
+    closes-whole (f .finish .ensures) (h .hand-last .ensures) (c .if1 .left)
 
 pub close-spec : {M : Type 1} → statement M
 close-spec =
@@ -44,8 +81,20 @@ close-spec =
     same-length
     same-length-2
     same-length-3
-    returns
     same-length-4
     same-length-5
     same-length-6
+    same-length-7
+    same-length-8
+    same-length-9
+    returns
+    same-length-10
+    same-length-11
+    same-length-12
+    same-length-13
+    same-length-14
+    same-length-15
+    same-length-16
+    same-length-17
+    same-length-18
     returns-2)

@@ -2,74 +2,172 @@
 use mathlib.Core.Path.{sym, _∙_}
 use Prim.Native.Nat.{_-_}
 use native.Mathlib.Omega.{arith}
-use borrow.Author.Needs.{needs}
 use lib.ListN.{length}
+use Rattle.stream.specs.Promises.{sheetOf}
 use Rattle.stream.proofs.Steps.{Taken, taken-start, taken-more, taken-all, drains-lost, stays-ready, owed}
 use Rattle.stream.proofs.drain.Statement.{statement}
 use Rattle.stream.proofs.drain.Tie as tie
 
 abbrev Inv-loop : tie.InvT-loop
-Inv-loop chunk number hold₀ held bytes₀ numbers₀ out₀ from₀ line₀ n₀ sent₀ hold bytes numbers out from line n sent = Taken chunk number hold₀ held bytes₀ numbers₀ out₀ from line n sent hold bytes numbers out
+Inv-loop chunk number hold₀ held letters₀ sections₀ heads₀ parts₀ masses₀ scores₀ bytes₀ numbers₀ out₀ from₀ line₀ n₀ sent₀ hold letters sections heads parts masses scores bytes numbers out from line n sent =
+    Taken chunk number hold₀ held (sheetOf letters₀ sections₀ heads₀ parts₀ masses₀ scores₀) bytes₀ numbers₀ out₀ from line n sent hold (sheetOf letters sections heads parts masses scores) bytes numbers out
 
 abbrev μ-loop : tie.MeasureT-loop
-μ-loop chunk number hold₀ held bytes₀ numbers₀ out₀ from₀ line₀ n₀ sent₀ hold bytes numbers out from line n sent = length chunk - from
+μ-loop chunk number hold₀ held letters₀ sections₀ heads₀ parts₀ masses₀ scores₀ bytes₀ numbers₀ out₀ from₀ line₀ n₀ sent₀ hold letters sections heads parts masses scores bytes numbers out from line n sent =
+    length chunk - from
 
 loop-holds : tie.Need-loop-holds Inv-loop μ-loop
-loop-holds c = taken-start _ _ _ _ _ _ _ (c .before .before .before .before .pre .2)
+loop-holds c = taken-start _ _ _ _ _ _ _ _ (c .before .before .before .before .before .before .before .before .pre .2)
 
 feed-requires : tie.Need-feed-requires Inv-loop μ-loop
-feed-requires c κs = let w = c .before .before .before .before .before .loop .inv in let p = c .before .before .before .before .before .before .before .before .before .before .pre in (w .inside, omega (arith, w .count, p .0, p .1), w .ready)
+feed-requires c κs =
+    let o = c .before .before .before .before .before .before .before .before .before .before .before in
+    let s = o .before .before .before .before .before .before .before .before .before in
+    let w = o .loop .inv in
+    let p = s .pre in
+    (w .inside, omega (arith, w .count, p .0, p .1), w .ready)
 
 hand-requires : tie.Need-hand-requires Inv-loop μ-loop
-hand-requires c κs = owed (c .before .before .before .before .before .before .before .before .before .feed .ensures .0)
+hand-requires c κs = owed (c .before .before .before .before .before .before .before .before .before .before .before .before .before .before .before .before .before .before .before .feed .ensures .0)
 
 lines-in-requires : tie.Need-lines-in-requires Inv-loop μ-loop
-lines-in-requires c κs = omega (arith, c .before .if1 .taken, c .before .before .before .before .before .before .before .before .before .before .before .before .feed .ensures .0 .puts .fits)
+lines-in-requires c κs = omega (arith, c .before .if1 .taken, c .before .before .before .before .before .before .before .before .before .before .before .before .before .before .before .before .before .before .before .before .before .before .feed .ensures .0 .puts .fits)
 
-add-t33 : tie.Need-add-t33 Inv-loop μ-loop
-add-t33 c = let w = c .before .before .before .before .before .before .before .before .before .before .before .before .before .before .before .before .before .before .before .loop .inv in let f = c .before .before .before .before .before .before .before .before .before .before .before .before .before .feed .ensures in omega (arith, w .low, w .count, w .inside, c .before .before .before .before .before .before .before .before .before .before .before .before .before .before .before .before .before .before .loop-test .taken, f .0 .puts .fits, f .1 .narrow, c .before .before .if1 .taken, c .before .before .before .before .before .before .before .before .before .before .before .before .before .before .before .before .before .before .before .before .before .before .before .before .pre .0, c .before .before .before .before .before .before .before .before .before .before .before .before .before .before .before .before .before .before .before .before .before .before .before .before .pre .1, c .lines-in .ensures .1)
+add-t51 : tie.Need-add-t51 Inv-loop μ-loop
+add-t51 c =
+    let i = c .before .before in
+    let a = i .before .before .before .before .before .before .before .before .before .before .before .before .before .before .before .before .before .before .before .before .before in
+    let t = a .before .before .before .before .before .before .before .before .before .before .before in
+    let o = t .before in
+    let s = o .before .before .before .before .before .before .before .before .before in
+    let w = o .loop .inv in
+    let f = a .feed .ensures in
+    omega (arith, w .low, w .count, w .inside, t .loop-test .taken, f .0 .puts .fits, f .1 .narrow, i .if1 .taken, c .lines-in .ensures .1, s .pre .0, s .pre .1)
 
-add-t34 : tie.Need-add-t34 Inv-loop μ-loop
-add-t34 c = let w = c .before .before .before .before .before .before .before .before .before .before .before .before .before .before .before .before .before .before .before .loop .inv in let f = c .before .before .before .before .before .before .before .before .before .before .before .before .before .feed .ensures in omega (arith, w .low, w .count, w .inside, c .before .before .before .before .before .before .before .before .before .before .before .before .before .before .before .before .before .before .loop-test .taken, f .0 .puts .fits, f .1 .narrow, c .before .before .if1 .taken, c .before .before .before .before .before .before .before .before .before .before .before .before .before .before .before .before .before .before .before .before .before .before .before .before .pre .0, c .before .before .before .before .before .before .before .before .before .before .before .before .before .before .before .before .before .before .before .before .before .before .before .before .pre .1, c .lines-in .ensures .1)
+add-t52 : tie.Need-add-t52 Inv-loop μ-loop
+add-t52 c =
+    let i = c .before .before in
+    let a = i .before .before .before .before .before .before .before .before .before .before .before .before .before .before .before .before .before .before .before .before .before in
+    let t = a .before .before .before .before .before .before .before .before .before .before .before in
+    let o = t .before in
+    let s = o .before .before .before .before .before .before .before .before .before in
+    let w = o .loop .inv in
+    let f = a .feed .ensures in
+    omega (arith, w .low, w .count, w .inside, t .loop-test .taken, f .0 .puts .fits, f .1 .narrow, i .if1 .taken, c .lines-in .ensures .1, s .pre .0, s .pre .1)
 
 same-length : tie.Need-same-length Inv-loop μ-loop
-same-length c = c .before .before .before .before .before .before .before .before .before .before .before .before .before .feed .ensures .1 .room ∙ sym (c .before .before .before .before .before .before .before .before .before .before .before .before .before .before .before .before .before .before .before .loop .inv .ready .room) ∙ c .before .before .before .before .before .before .before .before .before .before .before .before .before .before .before .before .before .before .before .loop .inv .hold-long
+same-length c = c .before .before .before .before .before .before .before .before .before .before .before .before .before .before .before .before .before .before .before .before .before .before .before .feed .ensures .1 .room ∙ sym (c .before .before .before .before .before .before .before .before .before .before .before .before .before .before .before .before .before .before .before .before .before .before .before .before .before .before .before .before .before .before .before .before .before .before .before .loop .inv .ready .room) ∙ c .before .before .before .before .before .before .before .before .before .before .before .before .before .before .before .before .before .before .before .before .before .before .before .before .before .before .before .before .before .before .before .before .before .before .before .loop .inv .hold-long
 
 same-length-2 : tie.Need-same-length-2 Inv-loop μ-loop
-same-length-2 c = c .before .before .before .before .before .before .before .before .before .before .bytes .given ∙ c .before .before .before .before .before .before .before .before .before .before .before .before .before .before .before .before .before .before .before .loop .inv .bytes-long
+same-length-2 c = c .before .before .before .before .before .before .before .before .before .before .before .before .before .before .before .before .before .before .before .before .letters .given ∙ c .before .before .before .before .before .before .before .before .before .before .before .before .before .before .before .before .before .before .before .before .before .before .before .before .before .before .before .before .before .before .before .before .before .before .before .loop .inv .sheet-long .letters-long
 
 same-length-3 : tie.Need-same-length-3 Inv-loop μ-loop
-same-length-3 c = c .before .before .before .before .before .before .before .before .numbers .given ∙ c .before .before .before .before .before .before .before .before .before .before .before .before .before .before .before .before .before .before .before .loop .inv .numbers-long
+same-length-3 c = c .before .before .before .before .before .before .before .before .before .before .before .before .before .before .before .before .before .before .sections .given ∙ c .before .before .before .before .before .before .before .before .before .before .before .before .before .before .before .before .before .before .before .before .before .before .before .before .before .before .before .before .before .before .before .before .before .before .before .loop .inv .sheet-long .sections-long
 
 same-length-4 : tie.Need-same-length-4 Inv-loop μ-loop
-same-length-4 c = c .before .before .before .before .before .before .before .out .given ∙ c .before .before .before .before .before .before .before .before .before .before .before .before .before .before .before .before .before .before .before .loop .inv .out-long
-
-returns : tie.Need-returns Inv-loop μ-loop
-returns c = (drains-lost _ (c .before .before .before .before .before .before .before .before .before .before .before .before .before .before .before .before .before .before .before .loop .inv .grows), stays-ready (c .before .before .before .before .before .before .before .before .before .before .before .before .before .before .before .before .before .before .before .loop .inv .ready) (c .before .before .before .before .before .before .before .before .before .before .before .before .before .feed .ensures .1))
-
-add-sent : tie.Need-add-sent Inv-loop μ-loop
-add-sent c = let w = c .before .before .before .before .before .before .before .before .before .before .before .before .before .before .before .before .before .loop .inv in let f = c .before .before .before .before .before .before .before .before .before .before .before .feed .ensures in omega (arith, w .low, w .inside, c .before .before .before .before .before .before .before .before .before .before .before .before .before .before .before .before .loop-test .taken, f .0 .puts .fits, f .1 .narrow, c .before .hand .ensures, c .before .before .before .before .before .before .before .before .before .before .before .before .before .before .before .before .before .before .before .before .before .before .pre .0)
-
-loop-less : tie.Need-loop-less Inv-loop μ-loop
-loop-less c = let f = c .before .before .before .before .before .before .before .before .before .before .before .feed .ensures .0 in omega (arith, f .inside, f .goes (c .before .before .before .before .before .before .before .before .before .before .before .before .before .before .before .before .loop-test .taken))
-
-loop-again : tie.Need-loop-again Inv-loop μ-loop
-loop-again c = taken-more _ _ _ _ _ _ _ (c .before .before .before .before .before .before .before .before .before .before .before .before .before .before .before .before .before .loop .inv) (c .before .before .before .before .before .before .before .before .before .before .before .before .before .before .before .before .loop-test .taken) (c .before .before .before .before .before .before .before .before .before .before .before .feed .ensures .0) (c .before .before .before .before .before .before .before .before .before .before .before .feed .ensures .1) (c .before .hand .ensures) (c .if1 .left) (c .before .before .before .before .before .before .before .before .bytes .given) (c .before .before .before .before .before .before .numbers .given) (c .before .before .before .before .before .out .given)
+same-length-4 c = c .before .before .before .before .before .before .before .before .before .before .before .before .before .before .before .before .heads .given ∙ c .before .before .before .before .before .before .before .before .before .before .before .before .before .before .before .before .before .before .before .before .before .before .before .before .before .before .before .before .before .before .before .before .before .before .before .loop .inv .sheet-long .heads-long
 
 same-length-5 : tie.Need-same-length-5 Inv-loop μ-loop
-same-length-5 c = c .before .loop .inv .hold-long
+same-length-5 c = c .before .before .before .before .before .before .before .before .before .before .before .before .before .before .parts .given ∙ c .before .before .before .before .before .before .before .before .before .before .before .before .before .before .before .before .before .before .before .before .before .before .before .before .before .before .before .before .before .before .before .before .before .before .before .loop .inv .sheet-long .parts-long
 
 same-length-6 : tie.Need-same-length-6 Inv-loop μ-loop
-same-length-6 c = c .before .loop .inv .bytes-long
+same-length-6 c = c .before .before .before .before .before .before .before .before .before .before .before .before .masses .given ∙ c .before .before .before .before .before .before .before .before .before .before .before .before .before .before .before .before .before .before .before .before .before .before .before .before .before .before .before .before .before .before .before .before .before .before .before .loop .inv .sheet-long .masses-long
 
 same-length-7 : tie.Need-same-length-7 Inv-loop μ-loop
-same-length-7 c = c .before .loop .inv .numbers-long
+same-length-7 c = c .before .before .before .before .before .before .before .before .before .before .before .scores .given ∙ c .before .before .before .before .before .before .before .before .before .before .before .before .before .before .before .before .before .before .before .before .before .before .before .before .before .before .before .before .before .before .before .before .before .before .before .loop .inv .sheet-long .scores-long
 
 same-length-8 : tie.Need-same-length-8 Inv-loop μ-loop
-same-length-8 c = c .before .loop .inv .out-long
+same-length-8 c = c .before .before .before .before .before .before .before .before .before .before .bytes .given ∙ c .before .before .before .before .before .before .before .before .before .before .before .before .before .before .before .before .before .before .before .before .before .before .before .before .before .before .before .before .before .before .before .before .before .before .before .loop .inv .bytes-long
+
+same-length-9 : tie.Need-same-length-9 Inv-loop μ-loop
+same-length-9 c = c .before .before .before .before .before .before .before .before .numbers .given ∙ c .before .before .before .before .before .before .before .before .before .before .before .before .before .before .before .before .before .before .before .before .before .before .before .before .before .before .before .before .before .before .before .before .before .before .before .loop .inv .numbers-long
+
+same-length-10 : tie.Need-same-length-10 Inv-loop μ-loop
+same-length-10 c = c .before .before .before .before .before .before .before .out .given ∙ c .before .before .before .before .before .before .before .before .before .before .before .before .before .before .before .before .before .before .before .before .before .before .before .before .before .before .before .before .before .before .before .before .before .before .before .loop .inv .out-long
+
+returns : tie.Need-returns Inv-loop μ-loop
+returns c =
+    let f = c .before .before .before .before .before .before .before .before .before .before .before .before .before .before .before .before .before .before .before .before .before .before .before in
+    let o = f .before .before .before .before .before .before .before .before .before .before .before .before in
+    (drains-lost _ (o .loop .inv .grows), stays-ready (o .loop .inv .ready) (f .feed .ensures .1))
+
+add-sent : tie.Need-add-sent Inv-loop μ-loop
+add-sent c =
+    let h = c .before in
+    let a = h .before .before .before .before .before .before .before .before .before .before .before .before .before .before .before .before .before .before .before .before in
+    let t = a .before .before .before .before .before .before .before .before .before .before .before in
+    let o = t .before in
+    let s = o .before .before .before .before .before .before .before .before .before in
+    let w = o .loop .inv in
+    let f = a .feed .ensures in
+    omega (arith, w .low, w .inside, t .loop-test .taken, f .0 .puts .fits, f .1 .narrow, h .hand .ensures, s .pre .0)
+
+loop-less : tie.Need-loop-less Inv-loop μ-loop
+loop-less c =
+    let a = c .before .before .before .before .before .before .before .before .before .before .before .before .before .before .before .before .before .before .before .before .before in
+    let t = a .before .before .before .before .before .before .before .before .before .before .before in
+    let f = a .feed .ensures .0 in
+    omega (arith, f .inside, f .goes (t .loop-test .taken))
+
+loop-again : tie.Need-loop-again Inv-loop μ-loop
+loop-again c =
+    let d = c .before in
+    let out = d .before .before .before .before in
+    let ns = out .before in
+    let bs = ns .before .before in
+    let k = bs .before in
+    let m = k .before in
+    let p = m .before .before in
+    let h = p .before .before in
+    let s = h .before .before in
+    let l = s .before .before in
+    let a = l .before .before .before in
+    let t = a .before .before .before .before .before .before .before .before .before .before .before in
+    let o = t .before in
+    let f = a .feed .ensures in
+    taken-more _ _ _ _ _ _ _ _ (o .loop .inv) (t .loop-test .taken) (f .0) (f .1) (d .hand .ensures) (c .if1 .left)
+    (record {
+      letters-long = l .letters .given;
+      sections-long = s .sections .given;
+      heads-long = h .heads .given;
+      parts-long = p .parts .given;
+      masses-long = m .masses .given;
+      scores-long = k .scores .given;
+    })
+    (bs .bytes .given) (ns .numbers .given) (out .out .given)
+
+same-length-11 : tie.Need-same-length-11 Inv-loop μ-loop
+same-length-11 c = c .before .loop .inv .hold-long
+
+same-length-12 : tie.Need-same-length-12 Inv-loop μ-loop
+same-length-12 c = c .before .loop .inv .sheet-long .letters-long
+
+same-length-13 : tie.Need-same-length-13 Inv-loop μ-loop
+same-length-13 c = c .before .loop .inv .sheet-long .sections-long
+
+same-length-14 : tie.Need-same-length-14 Inv-loop μ-loop
+same-length-14 c = c .before .loop .inv .sheet-long .heads-long
+
+same-length-15 : tie.Need-same-length-15 Inv-loop μ-loop
+same-length-15 c = c .before .loop .inv .sheet-long .parts-long
+
+same-length-16 : tie.Need-same-length-16 Inv-loop μ-loop
+same-length-16 c = c .before .loop .inv .sheet-long .masses-long
+
+same-length-17 : tie.Need-same-length-17 Inv-loop μ-loop
+same-length-17 c = c .before .loop .inv .sheet-long .scores-long
+
+same-length-18 : tie.Need-same-length-18 Inv-loop μ-loop
+same-length-18 c = c .before .loop .inv .bytes-long
+
+same-length-19 : tie.Need-same-length-19 Inv-loop μ-loop
+same-length-19 c = c .before .loop .inv .numbers-long
+
+same-length-20 : tie.Need-same-length-20 Inv-loop μ-loop
+same-length-20 c = c .before .loop .inv .out-long
 
 returns-2 : tie.Need-returns-2 Inv-loop μ-loop
-returns-2 c = taken-all _ _ _ _ _ _ _ (c .before .loop .inv) (c .loop-test .left)
+returns-2 c = taken-all _ _ _ _ _ _ _ _ (c .before .loop .inv) (c .loop-test .left)
 
 pub drain-spec : {M : Type 1} → statement M
 drain-spec =
@@ -81,18 +179,30 @@ drain-spec =
     feed-requires
     hand-requires
     lines-in-requires
-    add-t33
-    add-t34
+    add-t51
+    add-t52
     same-length
     same-length-2
     same-length-3
     same-length-4
-    returns
-    add-sent
-    loop-less
-    loop-again
     same-length-5
     same-length-6
     same-length-7
     same-length-8
+    same-length-9
+    same-length-10
+    returns
+    add-sent
+    loop-less
+    loop-again
+    same-length-11
+    same-length-12
+    same-length-13
+    same-length-14
+    same-length-15
+    same-length-16
+    same-length-17
+    same-length-18
+    same-length-19
+    same-length-20
     returns-2)

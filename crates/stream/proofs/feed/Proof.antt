@@ -1,43 +1,130 @@
 -- `stream::feed` meets its contract: the line that is begun goes on past the chunk, or it ends, and lines behind it. Assumes nothing.
+use mathlib.Core.Path.{_∙_}
 use native.Mathlib.Omega.{arith}
-use borrow.Author.Needs.{needs}
 use borrow.Author.Tests.{not-true, not-false}
-use Rattle.stream.proofs.Steps.{still-clean, feeds-held, feeds-lines}
+use Rattle.stream.proofs.Steps.{still-clean, still-roomy, feeds-held, feeds-lines}
 use Rattle.stream.proofs.feed.Statement.{statement}
 use Rattle.stream.proofs.feed.Tie as tie
 
 gather-requires : tie.Need-gather-requires
-gather-requires c κs = let w = c .before .before .before .before .before .pre .2 in (c .before .before .before .before .before .pre .0, w .within, w .room)
+gather-requires c κs =
+    let p = c .before .before .before .before .before .before .before .before .before .pre in
+    (p .0, p .2 .within, p .2 .room)
 
 same-length : tie.Need-same-length
-same-length c = search needs
+same-length c = c .before .before .before .hold .given
 
 returns : tie.Need-returns
-returns c = feeds-held (c .before .before .before .before .before .before .before .before .before .before .pre .2) (c .before .before .before .before .gather .ensures) (not-true _ (c .if1 .taken))
+returns c =
+    let g = c .before .before .before .before in
+    let s = g .before .before .before .before .before .before .before .before .before .before in
+    feeds-held (s .pre .2) (g .gather .ensures) (not-true _ (c .if1 .taken))
 
 put-part-requires : tie.Need-put-part-requires
-put-part-requires c κs = let w = c .before .before .before .before .before .before .before .before .before .before .before .before .before .before .pre .2 in let m = c .before .before .before .before .before .before .before .before .gather .ensures in (omega arith, omega (arith, m .within, m .room), w .clean, omega (arith, w .wide))
+put-part-requires c κs =
+    let g = c .before .before .before .before .before .before .before .before .before .before .before .before .before .before in
+    let s = g .before .before .before .before .before .before .before .before .before .before in
+    let m = g .gather .ensures in
+    let w = s .pre .2 in
+    (omega arith, omega (arith, m .within, m .room), w .roomy, w .clean, omega (arith, w .wide))
 
 add-put-lines : tie.Need-add-put-lines
-add-put-lines c = let m = c .before .before .before .before .before .before .before .before .before .before .before .before .before .before .gather .ensures in omega (arith, c .before .before .before .before .before .before .before .before .before .before .before .before .before .before .before .before .before .before .before .before .pre .1, m .inside, m .goes (not-false _ (c .before .before .before .before .before .before .before .before .before .before .if1 .left)))
+add-put-lines c =
+    let i = c .before .before .before .before .before .before .before .before .before .before .before .before .before .before .before .before .before .before .before .before .before .before .before .before .before .before in
+    let g = i .before .before .before .before in
+    let s = g .before .before .before .before .before .before .before .before .before .before in
+    let m = g .gather .ensures in
+    omega (arith, s .pre .1, m .inside, m .goes (not-false _ (i .if1 .left)))
 
 put-lines-requires : tie.Need-put-lines-requires
-put-lines-requires c κs = let m = c .before .before .before .before .before .before .before .before .before .before .before .before .before .before .before .before .before .gather .ensures in let p = c .before .before .before .before .before .before .before .before .put-part .ensures in (m .inside, omega (arith, c .before .before .before .before .before .before .before .before .before .before .before .before .before .before .before .before .before .before .before .before .before .before .before .pre .1, m .goes (not-false _ (c .before .before .before .before .before .before .before .before .before .before .before .before .before .if1 .left))), still-clean p (c .before .before .before .before .before .before .before .before .before .before .before .before .before .before .before .before .before .before .before .before .before .before .before .pre .2 .clean), omega (arith, p .puts .near, p .out-long, c .before .before .before .before .before .before .before .before .before .before .before .before .before .before .before .before .before .before .before .before .before .before .before .pre .2 .wide))
+put-lines-requires c κs =
+    let k = c .before .before .before .before .before .before .before .before .before .before .before .before .before .before in
+    let m = k .before in
+    let p = m .before .before in
+    let h = p .before .before in
+    let s = h .before .before in
+    let l = s .before .before in
+    let q = l .before in
+    let i = q .before .before .before .before .before .before .before .before .before .before .before in
+    let g = i .before .before .before .before in
+    let b = g .before .before .before .before .before .before .before .before .before .before in
+    let n = g .gather .ensures in
+    let r = q .put-part .ensures in
+    let w = b .pre .2 in (
+      n .inside,
+      omega (arith, b .pre .1, n .goes (not-false _ (i .if1 .left))),
+      still-roomy (w .roomy)
+          (record {
+            letters-long = l .letters .given;
+            sections-long = s .sections .given;
+            heads-long = h .heads .given;
+            parts-long = p .parts .given;
+            masses-long = m .masses .given;
+            scores-long = k .scores .given;
+          }),
+      still-clean r (w .clean),
+      omega (arith, r .puts .near, r .out-long, w .wide),
+    )
 
 same-length-2 : tie.Need-same-length-2
-same-length-2 c = search needs
+same-length-2 c = c .before .before .before .before .before .before .before .before .before .before .before .before .before .before .before .before .before .before .before .before .before .before .before .before .before .before .before .before .before .before .before .before .before .before .before .before .before .before .before .before .before .before .before .before .before .before .before .before .before .before .before .before .before .before .hold .given
 
 same-length-3 : tie.Need-same-length-3
-same-length-3 c = search needs
+same-length-3 c = c .before .before .before .before .before .before .before .before .before .before .before .before .before .before .letters2 .given ∙ c .before .before .before .before .before .before .before .before .before .before .before .before .before .before .before .before .before .before .before .before .before .before .before .before .before .before .before .before .before .before .before .before .before .before .before .before .before .before .before .letters .given
 
 same-length-4 : tie.Need-same-length-4
-same-length-4 c = search needs
+same-length-4 c = c .before .before .before .before .before .before .before .before .before .before .before .before .sections2 .given ∙ c .before .before .before .before .before .before .before .before .before .before .before .before .before .before .before .before .before .before .before .before .before .before .before .before .before .before .before .before .before .before .before .before .before .before .before .before .before .sections .given
 
 same-length-5 : tie.Need-same-length-5
-same-length-5 c = search needs
+same-length-5 c = c .before .before .before .before .before .before .before .before .before .before .heads2 .given ∙ c .before .before .before .before .before .before .before .before .before .before .before .before .before .before .before .before .before .before .before .before .before .before .before .before .before .before .before .before .before .before .before .before .before .before .before .heads .given
+
+same-length-6 : tie.Need-same-length-6
+same-length-6 c = c .before .before .before .before .before .before .before .before .parts2 .given ∙ c .before .before .before .before .before .before .before .before .before .before .before .before .before .before .before .before .before .before .before .before .before .before .before .before .before .before .before .before .before .before .before .before .before .parts .given
+
+same-length-7 : tie.Need-same-length-7
+same-length-7 c = c .before .before .before .before .before .before .masses2 .given ∙ c .before .before .before .before .before .before .before .before .before .before .before .before .before .before .before .before .before .before .before .before .before .before .before .before .before .before .before .before .before .before .before .masses .given
+
+same-length-8 : tie.Need-same-length-8
+same-length-8 c = c .before .before .before .before .before .scores2 .given ∙ c .before .before .before .before .before .before .before .before .before .before .before .before .before .before .before .before .before .before .before .before .before .before .before .before .before .before .before .before .before .before .scores .given
+
+same-length-9 : tie.Need-same-length-9
+same-length-9 c = c .before .before .before .before .bytes2 .given ∙ c .before .before .before .before .before .before .before .before .before .before .before .before .before .before .before .before .before .before .before .before .before .before .before .before .before .before .before .before .before .bytes .given
+
+same-length-10 : tie.Need-same-length-10
+same-length-10 c = c .before .before .numbers2 .given ∙ c .before .before .before .before .before .before .before .before .before .before .before .before .before .before .before .before .before .before .before .before .before .before .before .before .before .before .before .numbers .given
+
+same-length-11 : tie.Need-same-length-11
+same-length-11 c = c .before .out2 .given ∙ c .before .before .before .before .before .before .before .before .before .before .before .before .before .before .before .before .before .before .before .before .before .before .before .before .before .before .out .given
 
 returns-2 : tie.Need-returns-2
-returns-2 c = feeds-lines (c .before .before .before .before .before .before .before .before .before .before .before .before .before .before .before .before .before .before .before .before .before .before .before .before .before .before .before .before .before .pre .2) (c .before .before .before .before .before .before .before .before .before .before .before .before .before .before .before .before .before .before .before .before .before .before .before .gather .ensures) (not-false _ (c .before .before .before .before .before .before .before .before .before .before .before .before .before .before .before .before .before .before .before .if1 .left)) (c .before .before .before .before .before .before .before .before .before .before .before .before .before .before .put-part .ensures) (c .before .before .before .before .before .put-lines .ensures .0) (c .before .before .before .before .before .put-lines .ensures .1)
+returns-2 c =
+    let k′ = c .before .before .before .before .before in
+    let m′ = k′ .before in
+    let p′ = m′ .before .before in
+    let h′ = p′ .before .before in
+    let s′ = h′ .before .before in
+    let l′ = s′ .before .before in
+    let r = l′ .before in
+    let k = r .before .before .before .before .before .before .before .before .before .before .before .before .before .before .before in
+    let m = k .before in
+    let p = m .before .before in
+    let h = p .before .before in
+    let s = h .before .before in
+    let l = s .before .before in
+    let q = l .before in
+    let i = q .before .before .before .before .before .before .before .before .before .before .before in
+    let g = i .before .before .before .before in
+    let b = g .before .before .before .before .before .before .before .before .before .before in
+    feeds-lines (b .pre .2) (g .gather .ensures) (not-false _ (i .if1 .left)) (q .put-part .ensures) (r .put-lines .ensures .0)
+    (record {
+      letters-long = l′ .letters2 .given ∙ l .letters .given;
+      sections-long = s′ .sections2 .given ∙ s .sections .given;
+      heads-long = h′ .heads2 .given ∙ h .heads .given;
+      parts-long = p′ .parts2 .given ∙ p .parts .given;
+      masses-long = m′ .masses2 .given ∙ m .masses .given;
+      scores-long = k′ .scores2 .given ∙ k .scores .given;
+    })
+    (r .put-lines .ensures .1)
 
 pub feed-spec : {M : Type 1} → statement M
 feed-spec =
@@ -53,4 +140,10 @@ feed-spec =
     same-length-3
     same-length-4
     same-length-5
+    same-length-6
+    same-length-7
+    same-length-8
+    same-length-9
+    same-length-10
+    same-length-11
     returns-2)

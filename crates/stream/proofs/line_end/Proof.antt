@@ -2,7 +2,8 @@
 use Prim.Native.Nat.{_-_}
 use native.Mathlib.Omega.{arith}
 use lib.ListN.{length}
-use Rattle.stream.proofs.Cutting.{Passed, passed-start, passed-more, passed-found, passed-all}
+use Rattle.stream.specs.Promises.{Passed}
+use Rattle.stream.proofs.Cutting.{passed-more, passed-found, passed-all}
 use Rattle.stream.proofs.line_end.Statement.{statement}
 use Rattle.stream.proofs.line_end.Tie as tie
 
@@ -12,8 +13,11 @@ Inv-loop chunk from i₀ i = Passed chunk from i
 abbrev μ-loop : tie.MeasureT-loop
 μ-loop chunk from i₀ i = length chunk - i
 
+skip-plain-requires : tie.Need-skip-plain-requires Inv-loop μ-loop
+skip-plain-requires c κs = c .before .pre
+
 loop-holds : tie.Need-loop-holds Inv-loop μ-loop
-loop-holds c = passed-start _ _ (c .pre)
+loop-holds c = c .skip-plain .ensures
 
 shared-slice-read-if1 : tie.Need-shared-slice-read-if1 Inv-loop μ-loop
 shared-slice-read-if1 c = omega arith
@@ -34,4 +38,4 @@ returns-2 : tie.Need-returns-2 Inv-loop μ-loop
 returns-2 c = passed-all _ _ _ (c .before .loop .inv) (c .loop-test .left)
 
 pub line-end-spec : {M : Type 1} → statement M
-line-end-spec = tie.close (tie.spec Inv-loop μ-loop loop-holds shared-slice-read-if1 returns add-i loop-less loop-again returns-2)
+line-end-spec = tie.close (tie.spec Inv-loop μ-loop skip-plain-requires loop-holds shared-slice-read-if1 returns add-i loop-less loop-again returns-2)

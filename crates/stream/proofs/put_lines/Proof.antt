@@ -1,21 +1,24 @@
 -- `stream::put_lines` meets its contract. The loop: the lines up to `next` are put. Assumes nothing.
-use mathlib.Core.Path.{_∙_}
 use Prim.Native.Nat.{_-_}
 use native.Mathlib.Omega.{arith}
-use borrow.Author.Needs.{needs}
 use lib.ListN.{length}
+use Rattle.stream.specs.Promises.{sheetOf}
 use Rattle.stream.proofs.Steps.{Goes, goes-start, goes-line, goes-end}
 use Rattle.stream.proofs.put_lines.Statement.{statement}
 use Rattle.stream.proofs.put_lines.Tie as tie
 
 abbrev Inv-loop : tie.InvT-loop
-Inv-loop chunk from number bytes₀ numbers₀ out₀ at next₀ line₀ n₀ bytes numbers out next line n = Goes chunk from number bytes₀ numbers₀ out₀ at next line n bytes numbers out
+Inv-loop chunk from number letters₀ sections₀ heads₀ parts₀ masses₀ scores₀ bytes₀ numbers₀ out₀ at next₀ line₀ n₀ letters sections heads parts masses scores bytes numbers out next line n =
+    Goes chunk from number (sheetOf letters₀ sections₀ heads₀ parts₀ masses₀ scores₀) bytes₀ numbers₀ out₀ at next line n (sheetOf letters sections heads parts masses scores) bytes numbers out
 
 abbrev μ-loop : tie.MeasureT-loop
-μ-loop chunk from number bytes₀ numbers₀ out₀ at next₀ line₀ n₀ bytes numbers out next line n = length chunk - next
+μ-loop chunk from number letters₀ sections₀ heads₀ parts₀ masses₀ scores₀ bytes₀ numbers₀ out₀ at next₀ line₀ n₀ letters sections heads parts masses scores bytes numbers out next line n =
+    length chunk - next
 
 loop-holds : tie.Need-loop-holds Inv-loop μ-loop
-loop-holds c = goes-start _ _ _ _ _ _ _ (c .before .before .before .pre .0) (c .before .before .before .pre .2) (c .before .before .before .pre .3)
+loop-holds c =
+    let p = c .before .before .before .before .before .before .before .pre in
+    goes-start _ _ _ _ _ _ _ _ (p .0) (p .2) (p .3) (p .4)
 
 sub-loop : tie.Need-sub-loop Inv-loop μ-loop
 sub-loop c = omega (arith, c .loop .inv .fits, c .loop .inv .out-long)
@@ -24,43 +27,118 @@ line-end-requires : tie.Need-line-end-requires Inv-loop μ-loop
 line-end-requires c κs = c .before .loop .inv .inside
 
 same-length : tie.Need-same-length Inv-loop μ-loop
-same-length c = c .before .before .before .loop .inv .bytes-long
+same-length c = c .before .before .before .loop .inv .sheet-long .letters-long
 
 same-length-2 : tie.Need-same-length-2 Inv-loop μ-loop
-same-length-2 c = c .before .before .before .loop .inv .numbers-long
+same-length-2 c = c .before .before .before .loop .inv .sheet-long .sections-long
 
 same-length-3 : tie.Need-same-length-3 Inv-loop μ-loop
-same-length-3 c = c .before .before .before .loop .inv .out-long
-
-returns : tie.Need-returns Inv-loop μ-loop
-returns c = goes-end _ _ _ _ _ _ _ (c .before .before .before .loop .inv)
-
-put-part-requires : tie.Need-put-part-requires Inv-loop μ-loop
-put-part-requires c κs = let w = c .before .before .before .before .before .before .loop .inv in let m = c .before .before .before .before .line-end .ensures in (m .past, m .within, w .clean, omega (arith, c .before .before .before .before .before .loop-test .taken, w .fits, w .out-long))
-
-add-next : tie.Need-add-next Inv-loop μ-loop
-add-next c = let m = c .before .before .before .before .before .before .before .before .before .before .line-end .ensures in omega (arith, m .within, c .before .before .before .before .before .before .before .before .before .if1 .left)
-
-add-line : tie.Need-add-line Inv-loop μ-loop
-add-line c = let w = c .before .before .before .before .before .before .before .before .before .before .before .before .loop .inv in let m = c .before .before .before .before .before .before .before .before .before .before .line-end .ensures in omega (arith, w .count, m .past, m .within, c .before .before .before .before .before .before .before .before .before .if1 .left, c .before .before .before .before .before .before .before .before .before .before .before .before .before .before .before .before .pre .1)
-
-loop-less : tie.Need-loop-less Inv-loop μ-loop
-loop-less c = let m = c .before .before .before .before .before .before .before .before .before .before .line-end .ensures in omega (arith, m .past, m .within, c .before .before .before .before .before .before .before .before .before .if1 .left)
-
-loop-again : tie.Need-loop-again Inv-loop μ-loop
-loop-again c = let w = c .before .before .before .before .before .before .before .before .before .before .before .before .loop .inv in goes-line _ _ _ _ _ _ _ w (c .before .before .before .before .before .before .before .before .before .before .line-end .ensures) (c .before .before .before .before .before .before .before .before .before .if1 .left) (c .before .before .before .before .before .put-part .ensures) (omega (arith, c .before .before .before .before .before .before .before .before .before .before .before .loop-test .taken, w .fits, w .out-long))
+same-length-3 c = c .before .before .before .loop .inv .sheet-long .heads-long
 
 same-length-4 : tie.Need-same-length-4 Inv-loop μ-loop
-same-length-4 c = c .before .loop .inv .bytes-long
+same-length-4 c = c .before .before .before .loop .inv .sheet-long .parts-long
 
 same-length-5 : tie.Need-same-length-5 Inv-loop μ-loop
-same-length-5 c = c .before .loop .inv .numbers-long
+same-length-5 c = c .before .before .before .loop .inv .sheet-long .masses-long
 
 same-length-6 : tie.Need-same-length-6 Inv-loop μ-loop
-same-length-6 c = c .before .loop .inv .out-long
+same-length-6 c = c .before .before .before .loop .inv .sheet-long .scores-long
+
+same-length-7 : tie.Need-same-length-7 Inv-loop μ-loop
+same-length-7 c = c .before .before .before .loop .inv .bytes-long
+
+same-length-8 : tie.Need-same-length-8 Inv-loop μ-loop
+same-length-8 c = c .before .before .before .loop .inv .numbers-long
+
+same-length-9 : tie.Need-same-length-9 Inv-loop μ-loop
+same-length-9 c = c .before .before .before .loop .inv .out-long
+
+returns : tie.Need-returns Inv-loop μ-loop
+returns c = goes-end _ _ _ _ _ _ _ _ (c .before .before .before .loop .inv)
+
+put-part-requires : tie.Need-put-part-requires Inv-loop μ-loop
+put-part-requires c κs =
+    let e = c .before .before .before .before .before .before .before .before .before .before in
+    let t = e .before in
+    let o = t .before in
+    let w = o .loop .inv in
+    (e .line-end .ensures .past, e .line-end .ensures .within, w .roomy, w .clean, omega (arith, t .loop-test .taken, w .fits, w .out-long))
+
+add-next : tie.Need-add-next Inv-loop μ-loop
+add-next c =
+    let i = c .before .before .before .before .before .before .before .before .before .before .before .before .before .before .before .before .before .before .before .before .before .before .before .before .before in
+    let e = i .before in
+    let s = e .before .before .before .before .before .before .before .before .before .before in
+    omega (arith, e .line-end .ensures .within, i .if1 .left, s .good .0)
+
+add-line : tie.Need-add-line Inv-loop μ-loop
+add-line c =
+    let i = c .before .before .before .before .before .before .before .before .before .before .before .before .before .before .before .before .before .before .before .before .before .before .before .before .before in
+    let e = i .before in
+    let o = e .before .before in
+    let s = o .before .before .before .before .before .before .before .before in
+    omega (arith, o .loop .inv .count, e .line-end .ensures .past, e .line-end .ensures .within, i .if1 .left, s .pre .1)
+
+loop-less : tie.Need-loop-less Inv-loop μ-loop
+loop-less c =
+    let i = c .before .before .before .before .before .before .before .before .before .before .before .before .before .before .before .before .before .before .before .before .before .before .before .before .before in
+    let e = i .before in
+    omega (arith, e .line-end .ensures .past, e .line-end .ensures .within, i .if1 .left)
+
+loop-again : tie.Need-loop-again Inv-loop μ-loop
+loop-again c =
+    let k = c .before .before .before .before .before in
+    let m = k .before in
+    let p = m .before .before in
+    let h = p .before .before in
+    let s = h .before .before in
+    let l = s .before .before in
+    let q = l .before in
+    let i = q .before .before .before .before .before .before .before .before .before .before in
+    let e = i .before in
+    let t = e .before in
+    let o = t .before in
+    let w = o .loop .inv in
+    goes-line _ _ _ _ _ _ _ _ w (e .line-end .ensures) (i .if1 .left) (q .put-part .ensures)
+    (record {
+      letters-long = l .letters .given;
+      sections-long = s .sections .given;
+      heads-long = h .heads .given;
+      parts-long = p .parts .given;
+      masses-long = m .masses .given;
+      scores-long = k .scores .given;
+    })
+    (omega (arith, t .loop-test .taken, w .fits, w .out-long))
+
+same-length-10 : tie.Need-same-length-10 Inv-loop μ-loop
+same-length-10 c = c .before .loop .inv .sheet-long .letters-long
+
+same-length-11 : tie.Need-same-length-11 Inv-loop μ-loop
+same-length-11 c = c .before .loop .inv .sheet-long .sections-long
+
+same-length-12 : tie.Need-same-length-12 Inv-loop μ-loop
+same-length-12 c = c .before .loop .inv .sheet-long .heads-long
+
+same-length-13 : tie.Need-same-length-13 Inv-loop μ-loop
+same-length-13 c = c .before .loop .inv .sheet-long .parts-long
+
+same-length-14 : tie.Need-same-length-14 Inv-loop μ-loop
+same-length-14 c = c .before .loop .inv .sheet-long .masses-long
+
+same-length-15 : tie.Need-same-length-15 Inv-loop μ-loop
+same-length-15 c = c .before .loop .inv .sheet-long .scores-long
+
+same-length-16 : tie.Need-same-length-16 Inv-loop μ-loop
+same-length-16 c = c .before .loop .inv .bytes-long
+
+same-length-17 : tie.Need-same-length-17 Inv-loop μ-loop
+same-length-17 c = c .before .loop .inv .numbers-long
+
+same-length-18 : tie.Need-same-length-18 Inv-loop μ-loop
+same-length-18 c = c .before .loop .inv .out-long
 
 returns-2 : tie.Need-returns-2 Inv-loop μ-loop
-returns-2 c = goes-end _ _ _ _ _ _ _ (c .before .loop .inv)
+returns-2 c = goes-end _ _ _ _ _ _ _ _ (c .before .loop .inv)
 
 pub put-lines-spec : {M : Type 1} → statement M
 put-lines-spec =
@@ -74,13 +152,25 @@ put-lines-spec =
     same-length
     same-length-2
     same-length-3
+    same-length-4
+    same-length-5
+    same-length-6
+    same-length-7
+    same-length-8
+    same-length-9
     returns
     put-part-requires
     add-next
     add-line
     loop-less
     loop-again
-    same-length-4
-    same-length-5
-    same-length-6
+    same-length-10
+    same-length-11
+    same-length-12
+    same-length-13
+    same-length-14
+    same-length-15
+    same-length-16
+    same-length-17
+    same-length-18
     returns-2)

@@ -21,11 +21,29 @@ slice-aggregate-serve-4 c = search needs
 slice-aggregate-serve-5 : tie.Need-slice-aggregate-serve-5
 slice-aggregate-serve-5 c = search needs
 
+slice-aggregate-serve-6 : tie.Need-slice-aggregate-serve-6
+slice-aggregate-serve-6 c = search needs
+
+slice-aggregate-serve-7 : tie.Need-slice-aggregate-serve-7
+slice-aggregate-serve-7 c = search needs
+
+slice-aggregate-serve-8 : tie.Need-slice-aggregate-serve-8
+slice-aggregate-serve-8 c = search needs
+
+slice-aggregate-serve-9 : tie.Need-slice-aggregate-serve-9
+slice-aggregate-serve-9 c = search needs
+
+slice-aggregate-serve-10 : tie.Need-slice-aggregate-serve-10
+slice-aggregate-serve-10 c = search needs
+
+slice-aggregate-serve-11 : tie.Need-slice-aggregate-serve-11
+slice-aggregate-serve-11 c = search needs
+
 serve-requires : tie.Need-serve-requires
 serve-requires c κs = (omega arith, ready-new outputLimit (omega arith) (omega arith))
 
 sub-line : tie.Need-sub-line
-sub-line c = c .before .before .before .before .before .before .serve .ensures
+sub-line c = c .before .before .before .before .before .before .before .before .before .before .before .before .serve .ensures
 
 enum-told : tie.Need-enum-told
 enum-told c = search needs
@@ -52,7 +70,7 @@ slice-aggregate-tell-4 : tie.Need-slice-aggregate-tell-4
 slice-aggregate-tell-4 c = search needs
 
 tell-requires-2 : tie.Need-tell-requires-2
-tell-requires-2 c = search needs
+tell-requires-2 c κs = search needs
 
 returns : tie.Need-returns
 returns c = search needs
@@ -72,6 +90,12 @@ run-spec =
     slice-aggregate-serve-3
     slice-aggregate-serve-4
     slice-aggregate-serve-5
+    slice-aggregate-serve-6
+    slice-aggregate-serve-7
+    slice-aggregate-serve-8
+    slice-aggregate-serve-9
+    slice-aggregate-serve-10
+    slice-aggregate-serve-11
     serve-requires
     sub-line
     enum-told

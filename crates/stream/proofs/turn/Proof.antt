@@ -12,31 +12,55 @@ enum-known-got : tie.Need-enum-known-got
 enum-known-got c = search needs
 
 take-in-requires : tie.Need-take-in-requires
-take-in-requires c κs = let p = c .before .before .before .before .before .before .before .before .before .before .before .before .before .before .before .before .pre in (came-fits (c .before .before .before .before .before .before .got .given .1) (c .before .before .before .before .before .before .before .before .before .before .receive .ensures) (c .before .before .before .before .before .before .before .before .before .room .given), omega (arith, p .0, c .before .before .before .before .before .before .before .before .before .room .given), p .1, p .2)
+take-in-requires c κs =
+    let g = c .before .before .before .before .before .before .before .before .before .before .before .before in
+    let r = g .before .before .before in
+    let a = r .before in
+    let s = a .before .before .before .before .before .before .before .before .before .before in
+    let same = r .room .given in
+    (came-fits (g .got .given .1) (a .receive .ensures) same, omega (arith, s .pre .0, same), s .pre .1, s .pre .2)
 
 enum-told : tie.Need-enum-told
 enum-told c = search needs
 
 same-length : tie.Need-same-length
-same-length c = search needs
+same-length c = c .before .before .before .before .before .before .before .before .before .before .before .before .before .before .before .before .before .before .before .before .before .before .before .before .before .before .before .before .before .before .before .before .before .room .given
 
 same-length-2 : tie.Need-same-length-2
-same-length-2 c = search needs
+same-length-2 c = c .before .before .before .before .before .before .before .before .before .before .before .before .before .before .before .before .hold .given
 
 same-length-3 : tie.Need-same-length-3
-same-length-3 c = search needs
+same-length-3 c = c .before .before .before .before .before .before .before .before .before .before .before .before .before .before .letters .given
 
 same-length-4 : tie.Need-same-length-4
-same-length-4 c = search needs
+same-length-4 c = c .before .before .before .before .before .before .before .before .before .before .before .before .sections .given
 
 same-length-5 : tie.Need-same-length-5
-same-length-5 c = search needs
-
-returns : tie.Need-returns
-returns c = c .before .before .before .before .before .before .before .take-in .ensures
+same-length-5 c = c .before .before .before .before .before .before .before .before .before .before .heads .given
 
 same-length-6 : tie.Need-same-length-6
-same-length-6 c = search needs
+same-length-6 c = c .before .before .before .before .before .before .before .before .parts .given
+
+same-length-7 : tie.Need-same-length-7
+same-length-7 c = c .before .before .before .before .before .before .masses .given
+
+same-length-8 : tie.Need-same-length-8
+same-length-8 c = c .before .before .before .before .before .scores .given
+
+same-length-9 : tie.Need-same-length-9
+same-length-9 c = c .before .before .before .before .bytes .given
+
+same-length-10 : tie.Need-same-length-10
+same-length-10 c = c .before .before .numbers .given
+
+same-length-11 : tie.Need-same-length-11
+same-length-11 c = c .before .out .given
+
+returns : tie.Need-returns
+returns c = c .before .before .before .before .before .before .before .before .before .before .before .before .before .before .before .before .before .take-in .ensures
+
+same-length-12 : tie.Need-same-length-12
+same-length-12 c = c .before .before .before .room .given
 
 returns-2 : tie.Need-returns-2
 returns-2 c = turns-failed
@@ -54,6 +78,12 @@ turn-spec =
     same-length-3
     same-length-4
     same-length-5
-    returns
     same-length-6
+    same-length-7
+    same-length-8
+    same-length-9
+    same-length-10
+    same-length-11
+    returns
+    same-length-12
     returns-2)

@@ -6,7 +6,8 @@ use lib.ListN.{length}
 use borrow.Author.Needs.{needs}
 use borrow.Fn.Kinds.{In}
 use borrow.Fn.PlainCycle.{Measures, is, falls, and}
-use Rattle.texts.proofs.Owed.{Paused, inside-starts, pauses, paused-over, paused-stuck, paused-last, paused-shut, paused-open, paused-behind, paused-lost}
+use Rattle.texts.proofs.Owed.{Paused, inside-starts, pauses, paused-shut}
+use Rattle.texts.proofs.Levels.{Told, crowd-over, crowd-stuck, crowd-last, crowd-open, crowd-behind, crowd-lost}
 use Rattle.texts.proofs.crowd_end.Reads as crowd-end
 use Rattle.texts.proofs.crowd_end.Kinds as crowd-end-kinds
 use Rattle.texts.proofs.+crowd_end.Lts-crowd_end as lts
@@ -38,27 +39,27 @@ claims t = (
 )
 
 abbrev Inv : lts.InvT-loop
-Inv line at closer owed₀ depth₀ i₀ owed depth i = Paused (length owed₀) line at closer owed depth i
+Inv line at closer owed₀ depth₀ i₀ owed depth i = Paused Told (length owed₀) line at closer owed depth i 0
 
 abbrev ν : lts.MeasureT-loop
 ν line at closer owed₀ depth₀ i₀ owed depth i = length line - i
 
 module _ (t : ℕ) where
   loop-holds : lts.Need-loop-holds (claims t) (Pre t) crowd-end.Post Inv ν
-  loop-holds c = pauses _ _ _ _ _ _ _ _ (inside-starts _ _ _ _ _ refl (c .before .before .pre .1)) (c .inner-end .ensures)
+  loop-holds c = pauses Told _ _ _ _ _ _ _ _ _ (inside-starts Told _ _ _ _ _ refl (c .before .before .pre .1)) (c .inner-end .ensures)
 
   returns : lts.Need-returns (claims t) (Pre t) crowd-end.Post Inv ν
   returns c =
       let a = c .before in
       let l = a .before .before in
-      paused-last _ _ _ _ _ _ _ (l .before .loop .inv) (l .loop-test .taken) (a .if1 .taken) (c .if2 .taken)
+      crowd-last _ _ _ _ _ _ _ (l .before .loop .inv) (l .loop-test .taken) (a .if1 .taken) (c .if2 .taken)
 
   loop-again : lts.Need-loop-again (claims t) (Pre t) crowd-end.Post Inv ν
   loop-again c =
       let f = c .before in
       let a = f .before in
       let l = a .before .before in
-      pauses _ _ _ _ _ _ _ _ (paused-shut _ _ _ _ _ _ _ (l .before .loop .inv) (l .loop-test .taken) (a .if1 .taken) (f .if2 .left)) (c .inner-end2 .ensures)
+      pauses Told _ _ _ _ _ _ _ _ _ (paused-shut Told _ _ _ _ _ _ _ _ (l .before .loop .inv) (l .loop-test .taken) (a .if1 .taken) (f .if2 .left)) (c .inner-end2 .ensures)
 
   loop-again-2 : lts.Need-loop-again-2 (claims t) (Pre t) crowd-end.Post Inv ν
   loop-again-2 c =
@@ -66,8 +67,8 @@ module _ (t : ℕ) where
       let f = d .before in
       let o = f .before in
       let l = o .before .before .before .before in
-      pauses _ _ _ _ _ _ _ _
-      (paused-open _ _ _ _ _ _ _ (l .before .loop .inv) (l .loop-test .taken) (sym (o .before .is-opening .ensures) ∙ o .if3 .taken) _
+      pauses Told _ _ _ _ _ _ _ _ _
+      (crowd-open _ _ _ _ _ _ _ (l .before .loop .inv) (l .loop-test .taken) (sym (o .before .is-opening .ensures) ∙ o .if3 .taken) _
       (d .closer-of .ensures .0) (f .if4 .taken) (d .closer-of .ensures .1))
       (c .inner-end3 .ensures)
 
@@ -90,9 +91,9 @@ module _ (t : ℕ) where
       let d = p .before in
       let o = d .before .before in
       let l = o .before .before .before .before in
-      pauses _ _ _ _ _ _ _ _
-      (paused-behind _ _ _ _ _ _ _ (l .before .loop .inv) (l .loop-test .taken) (sym (o .before .is-opening .ensures) ∙ o .if3 .taken) _
-      (d .closer-of2 .ensures .0) _ (rw (e .e .given .1) at (p .crowd-end .ensures)))
+      pauses Told _ _ _ _ _ _ _ _ _
+      (crowd-behind _ _ _ _ _ _ _ (l .before .loop .inv) (l .loop-test .taken) (sym (o .before .is-opening .ensures) ∙ o .if3 .taken) _
+      (d .closer-of2 .ensures .0) _ _ (rw (e .e .given .1) at (p .crowd-end .ensures)))
       (c .inner-end4 .ensures)
 
   returns-2 : lts.Need-returns-2 (claims t) (Pre t) crowd-end.Post Inv ν
@@ -102,17 +103,17 @@ module _ (t : ℕ) where
       let d = p .before in
       let o = d .before .before in
       let l = o .before .before .before .before in
-      paused-lost _ _ _ _ _ _ _ (l .before .loop .inv) (l .loop-test .taken) (sym (o .before .is-opening .ensures) ∙ o .if3 .taken) _
+      crowd-lost _ _ _ _ _ _ _ (l .before .loop .inv) (l .loop-test .taken) (sym (o .before .is-opening .ensures) ∙ o .if3 .taken) _
       (d .closer-of2 .ensures .0) _ (rw (e .e2 .given .1) at (p .crowd-end .ensures))
 
   returns-3 : lts.Need-returns-3 (claims t) (Pre t) crowd-end.Post Inv ν
   returns-3 c =
       let d = c .before .before in
       let l = d .before .before in
-      paused-stuck _ _ _ _ _ _ _ (l .before .loop .inv) (l .loop-test .taken) (sym (c .before .is-opening .ensures) ∙ c .if3 .left) (d .if1 .left)
+      crowd-stuck _ _ _ _ _ _ _ (l .before .loop .inv) (l .loop-test .taken) (sym (c .before .is-opening .ensures) ∙ c .if3 .left) (d .if1 .left)
 
   returns-4 : lts.Need-returns-4 (claims t) (Pre t) crowd-end.Post Inv ν
-  returns-4 c = paused-over _ _ _ _ _ _ _ (c .before .loop .inv) (c .loop-test .left)
+  returns-4 c = crowd-over _ _ _ _ _ _ _ (c .before .loop .inv) (c .loop-test .left)
 
 pub +crowd-end-spec : {M : Type 1} → statement M
 +crowd-end-spec =

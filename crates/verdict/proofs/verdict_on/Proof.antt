@@ -1,38 +1,56 @@
+-- `verdict_on` meets its contract: it says what judging the line says. Assumes nothing.
 use borrow.Author.Needs.{needs}
-use mathlib.Core.Path.{refl, sym, _∙_}
-use Rattle.verdict.proofs.Whole.{empty, too-long, is-3, by-order, bytes, stuck-at}
+use Rattle.verdict.proofs.Judging.{verdict-refused, verdict-accepted}
 use Rattle.verdict.proofs.verdict_on.Statement.{statement}
 use Rattle.verdict.proofs.verdict_on.Tie as tie
 
+slice-aggregate-judge : tie.Need-slice-aggregate-judge
+slice-aggregate-judge c = search needs
+
+slice-aggregate-judge-2 : tie.Need-slice-aggregate-judge-2
+slice-aggregate-judge-2 c = search needs
+
+slice-aggregate-judge-3 : tie.Need-slice-aggregate-judge-3
+slice-aggregate-judge-3 c = search needs
+
+slice-aggregate-judge-4 : tie.Need-slice-aggregate-judge-4
+slice-aggregate-judge-4 c = search needs
+
+slice-aggregate-judge-5 : tie.Need-slice-aggregate-judge-5
+slice-aggregate-judge-5 c = search needs
+
+slice-aggregate-judge-6 : tie.Need-slice-aggregate-judge-6
+slice-aggregate-judge-6 c = search needs
+
+judge-requires : tie.Need-judge-requires
+judge-requires c κs = search needs
+
+enum-known-judged : tie.Need-enum-known-judged
+enum-known-judged c = search needs
+
+enum-told : tie.Need-enum-told
+enum-told c = search needs
+
 returns : tie.Need-returns
-returns c = empty _ (c .if1 .taken)
+returns c =
+    let k = c .before in
+    verdict-refused _ (rw (k .judged .given .1) at (k .before .before .before .before .before .before .before .before .judge .ensures))
 
 returns-2 : tie.Need-returns-2
-returns-2 c = too-long _ (c .before .if1 .left) (c .if2 .taken)
-
-first-unprintable-requires : tie.Need-first-unprintable-requires
-first-unprintable-requires c κs = search needs
-
-refused-at-requires : tie.Need-refused-at-requires
-refused-at-requires c κs = search needs
-
-returns-3 : tie.Need-returns-3
-returns-3 c = c .refused-at .ensures ∙ is-3 _ (c .before .before .before .before .if1 .left) (c .before .before .before .if2 .left) _ (c .before .if3 .taken) (c .before .before .first-unprintable .ensures)
-
-of-order-requires : tie.Need-of-order-requires
-of-order-requires c κs = (c .before .before .if2 .left, bytes _ _ (c .if3 .left) (c .before .first-unprintable .ensures))
-
-returns-4 : tie.Need-returns-4
-returns-4 c = c .of-order .ensures ∙ by-order _ (c .before .before .before .before .if1 .left) (c .before .before .before .if2 .left) _ (c .before .if3 .left) (c .before .before .first-unprintable .ensures)
+returns-2 c = verdict-accepted _ (rw (c .enum-told .given .1) at (c .before .before .before .before .before .before .before .before .judge .ensures) .1)
 
 pub verdict-on-spec : {M : Type 1} → statement M
 verdict-on-spec =
     tie.close
     (tie.spec
+    slice-aggregate-judge
+    slice-aggregate-judge-2
+    slice-aggregate-judge-3
+    slice-aggregate-judge-4
+    slice-aggregate-judge-5
+    slice-aggregate-judge-6
+    judge-requires
+    enum-known-judged
+    enum-told
     returns
-    returns-2
-    first-unprintable-requires
-    refused-at-requires
-    returns-3
-    of-order-requires
-    returns-4)
+    returns-2)

@@ -14,9 +14,37 @@ slice-aggregate-put-entry-2 c = search needs
 slice-aggregate-put-entry-3 : tie.Need-slice-aggregate-put-entry-3
 slice-aggregate-put-entry-3 c = search needs
 
+slice-aggregate-put-entry-4 : tie.Need-slice-aggregate-put-entry-4
+slice-aggregate-put-entry-4 c = search needs
+
+slice-aggregate-put-entry-5 : tie.Need-slice-aggregate-put-entry-5
+slice-aggregate-put-entry-5 c = search needs
+
+slice-aggregate-put-entry-6 : tie.Need-slice-aggregate-put-entry-6
+slice-aggregate-put-entry-6 c = search needs
+
+slice-aggregate-put-entry-7 : tie.Need-slice-aggregate-put-entry-7
+slice-aggregate-put-entry-7 c = search needs
+
+slice-aggregate-put-entry-8 : tie.Need-slice-aggregate-put-entry-8
+slice-aggregate-put-entry-8 c = search needs
+
+slice-aggregate-put-entry-9 : tie.Need-slice-aggregate-put-entry-9
+slice-aggregate-put-entry-9 c = search needs
+
 put-entry-requires : tie.Need-put-entry-requires
-put-entry-requires c κs =
-    (record { bytes-room = search needs; bytes-zero = refl; numbers-room = search needs; numbers-zero = refl }, search needs)
+put-entry-requires c κs = (
+  record {
+    letters-room = search needs;
+    sections-room = search needs;
+    heads-room = search needs;
+    parts-room = search needs;
+    masses-room = search needs;
+    scores-room = search needs;
+  },
+  record { bytes-room = search needs; bytes-zero = refl; numbers-room = search needs; numbers-zero = refl },
+  search needs,
+)
 
 slice-aggregate-hand-out : tie.Need-slice-aggregate-hand-out
 slice-aggregate-hand-out c = search needs
@@ -29,9 +57,9 @@ same-length c = search needs
 
 returns : tie.Need-returns
 returns c =
-    let handed = c .before .before in
-    let put = handed .before .before .before .before .before .before .before in
-    fitted-so (put-text (put .put-entry .ensures .puts) (search needs)) (handed .hand-out .ensures)
+    let h = c .before .before in
+    let p = h .before .before .before .before .before .before .before .before .before .before .before .before .before in
+    fitted-so (put-text (p .put-entry .ensures .puts) (search needs)) (h .hand-out .ensures)
 
 pub hwemiduk-entry-spec : {M : Type 1} → statement M
 hwemiduk-entry-spec =
@@ -40,6 +68,12 @@ hwemiduk-entry-spec =
     slice-aggregate-put-entry
     slice-aggregate-put-entry-2
     slice-aggregate-put-entry-3
+    slice-aggregate-put-entry-4
+    slice-aggregate-put-entry-5
+    slice-aggregate-put-entry-6
+    slice-aggregate-put-entry-7
+    slice-aggregate-put-entry-8
+    slice-aggregate-put-entry-9
     put-entry-requires
     slice-aggregate-hand-out
     hand-out-requires

@@ -1,0 +1,5 @@
+pub mod Labels
+pub mod Lowest
+pub mod Names
+pub mod Numerals
+pub mod Values

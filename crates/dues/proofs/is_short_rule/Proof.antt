@@ -1,0 +1,37 @@
+-- `is_short_rule` meets its contract: one of the two short names. Assumes nothing.
+use mathlib.Core.Path.{sym, _∙_}
+use Rattle.dues.specs.Steps.{isShortRule}
+use borrow.Author.Needs.{needs}
+use Rattle.dues.proofs.is_short_rule.Statement.{statement}
+use Rattle.dues.proofs.is_short_rule.Tie as tie
+
+slice-aggregate-key-at : tie.Need-slice-aggregate-key-at
+slice-aggregate-key-at c = search needs
+
+key-at-requires : tie.Need-key-at-requires
+key-at-requires c κs = search needs
+
+returns : tie.Need-returns
+unfolding isShortRule
+returns c = rw (sym (c .before .key-at .ensures) ∙ c .if1 .taken)
+
+slice-aggregate-key-at-2 : tie.Need-slice-aggregate-key-at-2
+slice-aggregate-key-at-2 c = search needs
+
+key-at-requires-2 : tie.Need-key-at-requires-2
+key-at-requires-2 c κs = search needs
+
+returns-2 : tie.Need-returns-2
+unfolding isShortRule
+returns-2 c = rw (sym (c .before .before .before .key-at .ensures) ∙ c .before .before .if1 .left) (c .key-at2 .ensures)
+
+pub is-short-rule-spec : {M : Type 1} → statement M
+is-short-rule-spec =
+    tie.close
+    (tie.spec
+    slice-aggregate-key-at
+    key-at-requires
+    returns
+    slice-aggregate-key-at-2
+    key-at-requires-2
+    returns-2)

@@ -1,0 +1,80 @@
+-- `text_due` meets its contract: what is too deep, what is too long, and then by the code of the key. Assumes nothing.
+use Rattle.dues.proofs.Values.{text-found, due-rule, due-number, due-else}
+use native.Mathlib.Omega.{arith}
+use borrow.Author.Needs.{needs}
+use Rattle.dues.proofs.text_due.Statement.{statement}
+use Rattle.dues.proofs.text_due.Tie as tie
+
+deep-due-requires : tie.Need-deep-due-requires
+deep-due-requires c κs =
+    let s = c .before in
+    let p = s .pre in
+    let t = text-found (s .args .line .now) (s .args .at) (s .args .v) (p .0 .found) (p .0 .is-value) (p .1) in
+    omega (arith, t .deep-inside, p .0 .short)
+
+sub-due-if : tie.Need-sub-due-if
+sub-due-if c =
+    let s = c .before .before in
+    let p = s .pre in
+    let t = text-found (s .args .line .now) (s .args .at) (s .args .v) (p .0 .found) (p .0 .is-value) (p .1) in
+    omega (arith, t .ordered)
+
+due-if-requires : tie.Need-due-if-requires
+due-if-requires c κs = search needs
+
+key-code-requires : tie.Need-key-code-requires
+key-code-requires c κs = search needs
+
+is-rule-requires : tie.Need-is-rule-requires
+is-rule-requires c κs =
+    let s = c .before .before .before .before .before in
+    let p = s .pre in
+    let t = text-found (s .args .line .now) (s .args .at) (s .args .v) (p .0 .found) (p .0 .is-value) (p .1) in
+    (t .ordered, t .inside)
+
+due-if-requires-2 : tie.Need-due-if-requires-2
+due-if-requires-2 c κs = search needs
+
+returns : tie.Need-returns
+returns c =
+    let s = c .before .before .before .before .before .before .before in
+    let k = c .before .before .before in
+    λ q g. due-rule _ _ _ q g (s .pre .1) _ (k .before .before .deep-due .ensures) (k .before .due-if .ensures) (k .key-code .ensures) (c .before .before .if1 .taken) (c .before .is-rule .ensures) (c .due-if2 .ensures)
+
+is-number-requires : tie.Need-is-number-requires
+is-number-requires c κs =
+    let s = c .before .before .before .before .before .before in
+    let p = s .pre in
+    let t = text-found (s .args .line .now) (s .args .at) (s .args .v) (p .0 .found) (p .0 .is-value) (p .1) in
+    (t .ordered, t .inside)
+
+due-if-requires-3 : tie.Need-due-if-requires-3
+due-if-requires-3 c κs = search needs
+
+returns-2 : tie.Need-returns-2
+returns-2 c =
+    let s = c .before .before .before .before .before .before .before .before in
+    let k = c .before .before .before .before in
+    λ q g. due-number _ _ _ q g (s .pre .1) _ (k .before .before .deep-due .ensures) (k .before .due-if .ensures) (k .key-code .ensures) (c .before .before .before .if1 .left) (c .before .before .if2 .taken) (c .before .is-number .ensures) (c .due-if3 .ensures)
+
+returns-3 : tie.Need-returns-3
+returns-3 c =
+    let s = c .before .before .before .before .before .before in
+    let k = c .before .before in
+    λ q g. due-else _ _ _ q g (s .pre .1) _ (k .before .before .deep-due .ensures) (k .before .due-if .ensures) (k .key-code .ensures) (c .if2 .left)
+
+pub text-due-spec : {M : Type 1} → statement M
+text-due-spec =
+    tie.close
+    (tie.spec
+    deep-due-requires
+    sub-due-if
+    due-if-requires
+    key-code-requires
+    is-rule-requires
+    due-if-requires-2
+    returns
+    is-number-requires
+    due-if-requires-3
+    returns-2
+    returns-3)

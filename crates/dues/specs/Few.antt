@@ -1,0 +1,74 @@
+-- Where nothing is met in a line, there are no more residues, brackets and parts than may be.
+use mathlib.Core.Path.{_≡_, refl, ap}
+use mathlib.Core.List.{List, [], _∷_, _++_, map}
+use Prim.Native.Nat.{ℕ, _+_, _≤_, _<_}
+use native.Mathlib.Omega.{arith}
+use lib.ListN.{length, drop, length-drop, length-map}
+use Rattle.scope.specs.Bytes.{wideLimit}
+use Rattle.scope.specs.Limits.{residueLimit, bracketLimit, partLimit}
+use Rattle.scope.specs.Line.{Line}
+use Rattle.scope.specs.Lists.{flat}
+use Rattle.scope.specs.Refusals.{longText, longLabel, overIn, wideCount}
+use Rattle.basics.specs.Each.{Each, each-front, each-back, each-two}
+use Rattle.dues.specs.Ranks.{code, lowest, noCode}
+use Rattle.dues.specs.First.{Fits}
+use Rattle.dues.specs.Lines.{overRank, wideRank, lineRules, partCodes, bracketCodes, metCodes}
+use Rattle.dues.specs.Met.{lowest-two}
+
+each-flat : {A B : Type 0} (Q : B → Type 0) (f : A → List B) (l : List A) → Each Q (flat f l) → Each (λ x. Each Q (f x)) l
+unfolding flat
+each-flat Q f [] w = tt
+each-flat Q f (x ∷ l) w = (each-front Q (f x) (flat f l) w, each-flat Q f l (each-back Q (f x) (flat f l) w))
+
+-- nothing lies below n
+abbrev Clear : ℕ → List ℕ → Type 0
+Clear n l = n ≤ lowest n l
+
+clear-front : (n : ℕ) (a b : List ℕ) → Clear n (a ++ b) → Clear n a
+clear-front n a b h = omega (arith, lowest-two n a b)
+
+clear-back : (n : ℕ) (a b : List ℕ) → Clear n (a ++ b) → Clear n b
+clear-back n a b h = omega (arith, lowest-two n a b)
+
+clear-flat : {A : Type 0} (n : ℕ) (f : A → List ℕ) (l : List A) → Clear n (flat f l) → Each (λ x. Clear n (f x)) l
+unfolding flat
+clear-flat n f [] h = tt
+clear-flat n f (x ∷ l) h = (clear-front n (f x) (flat f l) h, clear-flat n f l (clear-back n (f x) (flat f l) h))
+
+-- so no place is past a limit
+module _ {A : Type 0} (at : A → ℕ) (limit n : ℕ) (low : code (overRank + 1) 0 ≤ n) where
+  kept : (l : List A) → Each (λ p. p < wideLimit) (drop limit (map at l)) → Clear n (map (code overRank) (drop limit (map at l))) → length l ≤ limit
+  unfolding lowest
+  kept l w h = go (drop limit (map at l)) refl w h
+    where
+      go : (ps : List ℕ) → drop limit (map at l) ≡ ps → Each (λ p. p < wideLimit) ps → Clear n (map (code overRank) ps) → length l ≤ limit
+      go [] e u c = omega (arith, ap length e, length-drop limit (map at l), length-map l at)
+      go (p ∷ ps) e u c = absurd (omega (arith, u .0))
+
+pub record FewOf (l : Line ℕ) : Type 0 where
+  pub residues : length (l .residues) ≤ residueLimit
+  pub brackets : length (l .brackets) ≤ bracketLimit
+  pub parts : Each (λ k. length (k .parts) ≤ partLimit) (l .brackets)
+
+pub few-of : (l : Line ℕ) → Each Fits (lineRules l) → noCode (lineRules l) ≤ lowest (noCode (lineRules l)) (metCodes (l .residues) (l .brackets)) → FewOf l
+few-of l fits h =
+    let n : ℕ = noCode (lineRules l) in
+    let low : code (overRank + 1) 0 ≤ n = omega arith in
+    let Q : ℕ → Type 0 = λ p. p < wideLimit in
+    let rs = drop residueLimit (map (λ r. r .at) (l .residues)) in
+    let ks = drop bracketLimit (map (λ k. k .at) (l .brackets)) in
+    let past = each-back Q rs (ks ++ flat overIn (l .brackets)) (fits .1 .0) in
+    let behind = clear-back n (flat bracketCodes (l .brackets)) (map (code overRank) ks ++ map (code overRank) rs) h in
+    record {
+      residues = kept (λ r. r .at) residueLimit n low (l .residues) (each-front Q rs (ks ++ flat overIn (l .brackets)) (fits .1 .0)) (clear-back n (map (code overRank) ks) (map (code overRank) rs) behind);
+      brackets = kept (λ k. k .at) bracketLimit n low (l .brackets) (each-front Q ks (flat overIn (l .brackets)) past) (clear-front n (map (code overRank) ks) (map (code overRank) rs) behind);
+      parts =
+          each-two (λ k. Each Q (overIn k)) (λ k. Clear n (bracketCodes k)) (λ k. length (k .parts) ≤ partLimit)
+          (λ k w c.
+          let ps = drop partLimit (map (λ p. p .at) (k .parts)) in
+          kept (λ p. p .at) partLimit n low (k .parts) (each-front Q ps (flat (λ p. longText p ++ longLabel p) (k .parts)) w)
+          (clear-back n (flat partCodes (k .parts)) (map (code overRank) ps)
+          (clear-front n (flat partCodes (k .parts) ++ map (code overRank) ps) (map (code wideRank) (wideCount k)) c)))
+          (l .brackets) (each-flat Q overIn (l .brackets) (each-back Q ks (flat overIn (l .brackets)) past))
+          (clear-flat n bracketCodes (l .brackets) (clear-front n (flat bracketCodes (l .brackets)) (map (code overRank) ks ++ map (code overRank) rs) h));
+    }

@@ -1,0 +1,9 @@
+pub mod Ranks
+pub mod First
+pub mod Lines
+pub mod Met
+pub mod Judged
+pub mod Steps
+pub mod Found
+pub mod Inside
+pub mod Few

@@ -1,0 +1,201 @@
+// The first refusal due, as one number: the rank of its rule in the order of trying, then the place. Of two, the lower is the first.
+use labels::Label;
+use scope::tables::Tables;
+use values::Value;
+ghost use mathlib.Core.Path.{_≡_};
+ghost use mathlib.Core.Bool.{not, _&&_};
+ghost use mathlib.Core.List.{List, map};
+ghost use Prim.Native.Nat.{ℕ, min, _+_, _-_, _/_, _%_, _<_, _≤_};
+ghost use lib.ListN.{length};
+ghost use Rattle.scope.specs.Bytes.{wideLimit, isDigit};
+ghost use Rattle.scope.specs.Keys.{keyCode, written};
+ghost use Rattle.scope.specs.Layout.{textCode};
+ghost use Rattle.scope.specs.Line.{Part, Label as Written};
+ghost use Rattle.scope.specs.Lists.{none?, all, part};
+ghost use Rattle.scope.specs.Refusals.{dueAt, least as first, isLink, textOf};
+ghost use Rattle.values.specs.Says.{IsValue, coded};
+ghost use Rattle.labels.specs.Says.{IsLabel};
+ghost use Rattle.dues.specs.Ranks.{code, lowest};
+ghost use Rattle.dues.specs.Lines.{deepRank, partCodes, labelCodes};
+ghost use Rattle.dues.specs.Steps.{isShortRule, isRuleName, textCodes};
+ghost use Rattle.dues.specs.Found.{ValueFound, LabelFound};
+
+// how many places there are for each rank
+const PLACES: usize = 65536;
+
+// The ranks: a pair too deep; too many or too long; out of range; barred; only digits; only INFO; wrongly labelled; too many copies.
+pub const DEEP: usize = 0;
+
+pub const OVER: usize = 1;
+
+pub const WIDE: usize = 2;
+
+pub const BARRED: usize = 3;
+
+pub const DIGITS: usize = 4;
+
+pub const INFO: usize = 5;
+
+pub const LABEL: usize = 6;
+
+pub const COPIES: usize = 7;
+
+// Nothing is due: above every code.
+pub const NONE: usize = 8 * PLACES;
+
+// The first due, with one place more of a rule.
+pub fn due(least: usize, rank: usize, place: usize) -> usize
+    requires { ⌜ (rank < wideLimit) × (place < wideLimit) ⌝ }
+    ensures { λ r. ⌜ r ≡ min (code rank place) least ⌝ }
+{
+    let c = rank * PLACES + place;
+    if c < least {
+        return c;
+    }
+    least
+}
+
+// The same, where the rule is due there.
+pub fn due_if(least: usize, so: bool, rank: usize, place: usize) -> usize
+    requires { ⌜ (rank < wideLimit) × (place < wideLimit) ⌝ }
+    ensures { λ r. ⌜ r ≡ lowest least (map (code rank) (dueAt so place)) ⌝ }
+{
+    if so {
+        return due(least, rank, place);
+    }
+    least
+}
+
+// The rank of a code.
+pub fn rank_of(c: usize) -> usize
+    ensures { λ r. ⌜ r ≡ c / wideLimit ⌝ }
+{
+    c / PLACES
+}
+
+// Its place.
+pub fn place_of(c: usize) -> usize
+    ensures { λ r. ⌜ r ≡ c % wideLimit ⌝ }
+{
+    c % PLACES
+}
+
+// the codes of keys: none; R, the first behind U and M; Formula, the first of those that are barred
+const NO_KEY: u8 = 0;
+
+const R: u8 = 3;
+
+const FORMULA: u8 = 14;
+
+// With what is due of a value: of the key and the mass or text of the part at `at`.
+pub fn value_due(line: &[u8], least: usize, at: usize, v: Value) -> usize
+    requires { ⌜ ValueFound (now line) at v ⌝ }
+    ensures { λ r. ⌜ ((q : Part ℕ) → IsValue (now (line .entry)) at v q → r ≡ lowest least (partCodes q)) ⌝ }
+{
+    let key = v.key;
+    let a = due_if(least, FORMULA <= keywords::key_code(key), BARRED, at);
+    if v.code == Value::TEXT {
+        return text_due(line, a, at, v);
+    }
+    due_if(a, v.code == Value::WIDE, WIDE, v.from)
+}
+
+// Of the text.
+fn text_due(line: &[u8], least: usize, at: usize, v: Value) -> usize
+    requires { ⌜ ValueFound (now line) at v × (v .code ≡ textCode) ⌝ }
+    ensures { λ r. ⌜ ((q : Part ℕ) → IsValue (now (line .entry)) at v q → r ≡ lowest least (textCodes (keyCode (q .key)) (q .at) (q .at + length (written (q .key))) (textOf q))) ⌝ }
+{
+    let key = v.key;
+    let from = v.from;
+    let to = v.to;
+    let a = deep_due(least, v.deep);
+    let b = due_if(a, Tables::TEXT < to - from, OVER, at);
+    let code = keywords::key_code(key);
+    if code == NO_KEY {
+        return due_if(b, is_rule(line, from, to), BARRED, at);
+    }
+    if code < R {
+        return due_if(b, is_number(line, from, to), DIGITS, at);
+    }
+    b
+}
+
+// Of a pair that is too deep: `deep` is 0 where none is, else one more than its place.
+fn deep_due(least: usize, deep: usize) -> usize
+    requires { ⌜ deep < wideLimit ⌝ }
+    ensures { λ r. ⌜ ((ps : List ℕ) → deep ≡ coded (first ps) → r ≡ lowest least (map (code deepRank) ps)) ⌝ }
+{
+    if deep == 0 {
+        return least;
+    }
+    due(least, DEEP, deep - 1)
+}
+
+// Whether the text from `from` to `to` is CoMKP, CoMUP or one of their long names, which all begin with a C.
+fn is_rule(line: &[u8], from: usize, to: usize) -> bool
+    requires { ⌜ (from ≤ to) × (to ≤ length (now line)) ⌝ }
+    ensures { λ r. ⌜ r ≡ isRuleName (part from (to - from) (now (line .entry))) ⌝ }
+{
+    if from == to {
+        return false;
+    }
+    if classes::upper(line[from]) != b'C' {
+        return false;
+    }
+    match to - from {
+        5 => is_short_rule(line, from),
+        38 => classes::key_at(line, from, b"ColocaliseModificationsOfKnownPosition"),
+        40 => classes::key_at(line, from, b"ColocaliseModificationsOfUnknownPosition"),
+        _ => false,
+    }
+}
+
+fn is_short_rule(line: &[u8], from: usize) -> bool
+    requires { ⌜ from + 5 ≤ length (now line) ⌝ }
+    ensures { λ r. ⌜ r ≡ isShortRule (part from 5 (now (line .entry))) ⌝ }
+{
+    if classes::key_at(line, from, b"CoMKP") {
+        return true;
+    }
+    classes::key_at(line, from, b"CoMUP")
+}
+
+// Whether digits only, and some, stand from `from` to `to`.
+fn is_number(line: &[u8], from: usize, to: usize) -> bool
+    requires { ⌜ (from ≤ to) × (to ≤ length (now line)) ⌝ }
+    ensures { λ r. ⌜ r ≡ (not (none? (part from (to - from) (now (line .entry)))) && all isDigit (part from (to - from) (now (line .entry)))) ⌝ }
+{
+    if from == to {
+        return false;
+    }
+    to <= classes::digit_end(line, from)
+}
+
+// With what is due of a label, of the part at `at`.
+pub fn label_due(line: &[u8], least: usize, at: usize, label: Label) -> usize
+    requires { ⌜ LabelFound (now line) at label ⌝ }
+    ensures { λ r. ⌜ ((l : Written ℕ) → IsLabel (now (line .entry)) (l .at) label l → r ≡ lowest least (labelCodes at l)) ⌝ }
+{
+    let from = label.from;
+    let to = label.to;
+    let a = due_if(least, is_link(line, from, to), BARRED, at);
+    let b = due_if(a, label.score == Label::WIDE, WIDE, to + 1);
+    due_if(b, Tables::LABEL < to - from, OVER, from)
+}
+
+// Whether the label from `from` to `to` begins XL or is BRANCH.
+fn is_link(line: &[u8], from: usize, to: usize) -> bool
+    requires { ⌜ (from ≤ to) × (to ≤ length (now line)) ⌝ }
+    ensures { λ r. ⌜ r ≡ isLink (part from (to - from) (now (line .entry))) ⌝ }
+{
+    if to - from < 2 {
+        return false;
+    }
+    if classes::key_at(line, from, b"XL") {
+        return true;
+    }
+    if to - from == 6 {
+        return classes::key_at(line, from, b"BRANCH");
+    }
+    false
+}

@@ -1,0 +1,73 @@
+-- The label of a part: read, stored, counted, and what is due of it; then the byte behind it.
+use native.Mathlib.Omega.{arith}
+use Rattle.inside.proofs.Reading.{a-label, no-label}
+use Rattle.inside.proofs.Steps.{label-places, label-found, label-read}
+use borrow.Author.Needs.{needs}
+use Rattle.inside.proofs.labelled.Statement.{statement}
+use Rattle.inside.proofs.labelled.Tie as tie
+
+add-label-at : tie.Need-add-label-at
+add-label-at c = search needs
+
+label-at-requires : tie.Need-label-at-requires
+label-at-requires c κs = search needs
+
+enum-known-found : tie.Need-enum-known-found
+enum-known-found c = search needs
+
+enum-known-found-2 : tie.Need-enum-known-found-2
+enum-known-found-2 c = search needs
+
+store-label-requires : tie.Need-store-label-requires
+store-label-requires c κs = let n = c .before .before .before .before in
+    let s = n .before .before .before in
+    let v = a-label _ _ _ _ (n .label-at .ensures (omega (arith, s .pre .within))) (c .before .before .found2 .given .1) in
+    let p = label-places _ _ _ _ _ (s .args .s) _ (s .pre) _ v in
+    (s .pre .parts-room, s .pre .row, p .0, p .1)
+
+label-due-requires : tie.Need-label-due-requires
+label-due-requires c κs = let f = c .before .before .before .before .before in
+    let n = f .before .before in
+    let s = n .before .before .before in
+    label-found _ _ _ _ _ (s .args .s) _ (s .pre) _ (a-label _ _ _ _ (n .label-at .ensures (omega (arith, s .pre .within))) (f .found2 .given .1))
+
+with-label-requires : tie.Need-with-label-requires
+with-label-requires c κs = search needs
+
+behind-requires : tie.Need-behind-requires
+behind-requires c κs = search needs
+
+returns : tie.Need-returns
+returns c = let n = c .before .before .before in
+    let s = n .before .before .before in
+    λ o before q masses a. no-label _ o _ _ _ _ _ _ (s .args .s) before q _ masses a (s .pre .within) _ _ (n .label-at .ensures (omega (arith, s .pre .within))) (c .before .found .given .1)
+
+same-length : tie.Need-same-length
+same-length c = search needs
+
+returns-2 : tie.Need-returns-2
+returns-2 c = let t = c .before in
+    let d = t .before in
+    let p = d .before .before .before in
+    let f = p .before .before .before in
+    let n = f .before .before in
+    let s = n .before .before .before in
+    λ o before q masses a.
+    label-read _ o _ _ _ _ _ _ (s .args .s) before q _ masses a (s .pre) _ (a-label _ _ _ _ (n .label-at .ensures (omega (arith, s .pre .within))) (f .found2 .given .1)) _ _ _ _
+    (p .store-label .ensures) (d .label-due .ensures) (t .with-label .ensures) (c .behind .ensures)
+
+pub labelled-spec : {M : Type 1} → statement M
+labelled-spec =
+    tie.close
+    (tie.spec
+    add-label-at
+    label-at-requires
+    enum-known-found
+    enum-known-found-2
+    store-label-requires
+    label-due-requires
+    with-label-requires
+    behind-requires
+    returns
+    same-length
+    returns-2)

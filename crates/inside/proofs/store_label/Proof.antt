@@ -1,0 +1,25 @@
+-- A label stored, or not.
+use mathlib.Core.Path.{sym, _∙_}
+use Rattle.basics.specs.Choice.{pick-true}
+use borrow.Author.Needs.{needs}
+use Rattle.inside.proofs.store_label.Statement.{statement}
+use Rattle.inside.proofs.store_label.Tie as tie
+use Rattle.inside.proofs.store_label.Reads as reads
+use Rattle.inside.proofs.store_label.Lts as lts
+use Rattle.sheet.proofs.put_label.Reads as put-label-reads
+
+put-label-requires : tie.Need-put-label-requires
+put-label-requires c κs = let p = c .before .before .before .pre in (p .0, p .1 (c .before .if1 .taken), p .2, p .3)
+
+same-length : tie.Need-same-length
+same-length c = search needs
+
+returns : tie.Need-returns
+returns c = let s = c .before .before .before .before .before .before in
+    c .before .before .put-label .ensures ∙ sym (pick-true (s .args .stored) _ (s .args .parts .now) (c .before .before .before .before .if1 .taken))
+
+returns-2 : tie.Need-returns-2
+returns-2 c = search needs
+
+pub store-label-spec : {M : Type 1} → statement M
+store-label-spec = tie.close (tie.spec put-label-requires same-length returns returns-2)

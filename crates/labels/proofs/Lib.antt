@@ -1,0 +1,3 @@
+pub mod Saying
+pub mod Names
+pub mod Scores

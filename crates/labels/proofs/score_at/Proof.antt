@@ -1,0 +1,47 @@
+-- A score is a number in range or out of range, or is stuck.
+use borrow.Author.Needs.{needs}
+use native.Mathlib.Omega.{arith}
+use Rattle.values.proofs.Values.{told-whole}
+use Rattle.labels.proofs.Scores.{few-decimals, score-value, score-wide, score-none}
+use Rattle.labels.proofs.score_at.Statement.{statement}
+use Rattle.labels.proofs.score_at.Tie as tie
+
+add-number-at : tie.Need-add-number-at
+add-number-at c = search needs
+
+number-at-requires : tie.Need-number-at-requires
+number-at-requires c κs = search needs
+
+enum-known-n : tie.Need-enum-known-n
+enum-known-n c = search needs
+
+add-score-end : tie.Need-add-score-end
+add-score-end c = omega (arith, few-decimals _ _ _ (c .before .before .before .before .number-at .ensures) _ _ (c .before .before .n .given .1))
+
+score-end-requires : tie.Need-score-end-requires
+score-end-requires c κs = search needs
+
+enum-known-n-2 : tie.Need-enum-known-n-2
+enum-known-n-2 c = search needs
+
+score-end-requires-2 : tie.Need-score-end-requires-2
+score-end-requires-2 c κs = search needs
+
+enum-known-n-3 : tie.Need-enum-known-n-3
+enum-known-n-3 c = search needs
+
+returns : tie.Need-returns
+returns c =
+    let m = c .before .before .before .before in
+    score-value _ _ _ (m .before .before .before .before .pre) _ (m .before .before .number-at .ensures) _ _ (m .n .given .1) _ (told-whole _ (c .before .struct-told .given .0 .1)) _ (c .score-end .ensures)
+
+returns-2 : tie.Need-returns-2
+returns-2 c =
+    let m = c .before .before in
+    score-wide _ _ _ (m .before .before .before .before .pre) _ (m .before .before .number-at .ensures) _ (m .n2 .given .1) _ (c .score-end2 .ensures)
+
+returns-3 : tie.Need-returns-3
+returns-3 c = score-none _ _ _ _ (search needs) _ (c .before .before .before .number-at .ensures) _ (c .before .n3 .given .1)
+
+pub score-at-spec : {M : Type 1} → statement M
+score-at-spec = tie.close (tie.spec add-number-at number-at-requires enum-known-n add-score-end score-end-requires enum-known-n-2 score-end-requires-2 enum-known-n-3 returns returns-2 returns-3)

@@ -1,0 +1,70 @@
+-- The three refusals of one bracket after another, gathered into the lowest code. Assumes nothing.
+use Prim.Native.Nat.{ℕ, suc, _+_, _-_, _*_, _≤_, _<_}
+use mathlib.Core.Path.{_≡_, sym, ap, ap₂, _∙_}
+use mathlib.Core.Bool.{Bool}
+use mathlib.Core.List.{List, _++_, map}
+use native.Mathlib.Omega.{arith}
+use Rattle.scope.specs.Bytes.{wideLimit}
+use Rattle.scope.specs.Refusals.{dueAt}
+use Rattle.sheet.specs.Fields.{placeField}
+use Rattle.dues.specs.Ranks.{code, lowest}
+use Rattle.dues.specs.First.{lowest-append}
+use Rattle.dues.specs.Lines.{infoRank, labelRank, copiesRank}
+use Rattle.dues.specs.Met.{lowest-two}
+use Rattle.dues.specs.Steps.{lowest-on}
+use Rattle.rules.specs.Told.{infoAt, wrongAt, copiesAt, passes, dueCodes, dueFrom}
+
+-- one list after another
+lowest-both : (n : ℕ) (a b : List ℕ) → lowest n (a ++ b) ≡ lowest (lowest n a) b
+lowest-both n a b = lowest-two n a b ∙ sym (lowest-on n a b)
+
+module _ (line heads parts : List ℕ) (n : ℕ) where
+  -- ---- one bracket
+  pub due-three : (least before k : ℕ) {after place a b r : ℕ} {x y z : Bool} → after ≡ before + copiesAt heads k → place ≡ placeField heads k
+      → x ≡ infoAt heads k → a ≡ lowest least (map (code infoRank) (dueAt x place))
+      → y ≡ wrongAt line heads parts n k → b ≡ lowest a (map (code labelRank) (dueAt y place))
+      → z ≡ passes before after → r ≡ lowest b (map (code copiesRank) (dueAt z place))
+      → r ≡ lowest least (dueCodes line heads parts n before k)
+  due-three least before k {place = place} o p ex ea ey eb ez er =
+      let here : ℕ → Bool → List ℕ = λ rank t. map (code rank) (dueAt t (placeField heads k)) in
+      let i : List ℕ = here infoRank (infoAt heads k) in
+      let w : List ℕ = here labelRank (wrongAt line heads parts n k) in
+      let c : List ℕ = here copiesRank (passes before (before + copiesAt heads k)) in
+      er
+      ∙ ap₂ lowest
+      (eb
+      ∙ ap₂ lowest (ea ∙ ap₂ (λ t j. lowest least (map (code infoRank) (dueAt t j))) ex p) (ap₂ (λ t j. map (code labelRank) (dueAt t j)) ey p)
+      ∙ sym (lowest-append least w i))
+      (ap₂ (λ t j. map (code copiesRank) (dueAt t j)) (ez ∙ ap (passes before) o) p)
+      ∙ sym (lowest-append least c (w ++ i))
+
+  -- ---- the loop: first is the lowest of the brackets before the k-th, which have so many copies
+  module _ (least : ℕ) where
+    pub record Gathering (first before k : ℕ) : Type 0 where
+      pub within : k ≤ n
+      pub low : before ≤ k * wideLimit
+      pub left : lowest first (dueFrom line heads parts n before k (n - k)) ≡ lowest least (dueFrom line heads parts n 0 0 n)
+
+    pub gather-starts : Gathering least 0 0
+    gather-starts =
+        let e : n - 0 ≡ n = omega arith in
+        record { within = omega arith; low = omega arith; left = rw e }
+
+    module _ (first before k : ℕ) (s : Gathering first before k) where
+      pub gather-more : {x y : ℕ} → k < n → x ≡ copiesAt heads k → x < wideLimit → y ≡ lowest first (dueCodes line heads parts n before k)
+          → Gathering y (before + x) (k + 1)
+      unfolding dueFrom
+      gather-more h e l q =
+          let g : n - k ≡ suc (n - (k + 1)) = omega arith in
+          let rest : List ℕ = dueFrom line heads parts n (before + copiesAt heads k) (k + 1) (n - (k + 1)) in
+          record {
+            within = omega arith;
+            low = omega (arith, s .low);
+            left = rw (q, e) (sym (lowest-both first (dueCodes line heads parts n before k) rest) ∙ (rw g at (s .left)));
+          }
+
+      pub gather-ends : n ≤ k → first ≡ lowest least (dueFrom line heads parts n 0 0 n)
+      unfolding dueFrom lowest
+      gather-ends h =
+          let e : n - k ≡ 0 = omega arith in
+          rw e at (s .left)

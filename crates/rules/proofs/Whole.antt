@@ -1,0 +1,98 @@
+-- The lowest code of refusals 10 to 12, bracket by bracket as the tables say them, is that of the definitions one by one. Assumes nothing.
+use Prim.Native.Nat.{ℕ, zero, suc, _+_, _≤_, _<_, min}
+use mathlib.Core.Path.{_≡_, refl, sym, ap, ap₂, _∙_}
+use mathlib.Core.Bool.{_&&_}
+use mathlib.Core.List.{List, _++_}
+use native.Mathlib.Omega.{arith}
+use lib.Dec.{leb, ltb}
+use lib.ListN.{length, take, drop, drop-of-length-le}
+use Rattle.scope.specs.Kinds.{unknownOrLabile}
+use Rattle.scope.specs.Limits.{copyLimit}
+use Rattle.scope.specs.Line.{Bracket}
+use Rattle.scope.specs.Lists.{flat}
+use Rattle.scope.specs.Modifications.{onlyInfo, copies, definedBy, defined, referredTo}
+use Rattle.scope.specs.Refusals.{dueAt, wronglyLabelled, passing}
+use Rattle.dues.specs.Ranks.{lowest}
+use Rattle.dues.specs.Lines.{infoRank, labelRank, copiesRank, ruledCodes}
+use Rattle.dues.specs.Met.{mins, lowest-two, low, low-two}
+use Rattle.rules.specs.Told.{copiesAt, dueCodes, dueFrom}
+use Rattle.rules.specs.Ruled.{Ruled}
+use Rattle.rules.proofs.Noting.{bracketAt, drop-next, flat-next}
+use Rattle.rules.proofs.Ruling.{SameFew, as-many, few-more, few-passes, wrongIn, info-is, copies-are, place-is, wrong-is}
+
+abbrev infoIn : Bracket ℕ → List ℕ
+infoIn k = dueAt (unknownOrLabile (k .kind) && onlyInfo k) (k .at)
+
+abbrev wrongFrom : List (Bracket ℕ) → ℕ → List ℕ
+wrongFrom ks k = wronglyLabelled (defined (take k ks)) (defined ks) (referredTo ks) (drop k ks)
+
+-- the lower of several, in another order
+by-rank : (c l i c′ l′ i′ : ℕ) → min (min c (min l i)) (min c′ (min l′ i′)) ≡ min (min c c′) (min (min l l′) (min i i′))
+by-rank c l i c′ l′ i′ = simp mins
+
+turned : (c l i : ℕ) → min c (min l i) ≡ min i (min l c)
+turned c l i = simp mins
+
+-- one bracket and those behind it
+wrong-next : (ks : List (Bracket ℕ)) (k : ℕ) → k < length ks → wrongFrom ks k ≡ dueAt (wrongIn ks k) (bracketAt ks k .at) ++ wrongFrom ks (k + 1)
+unfolding wronglyLabelled
+wrong-next ks k h =
+    ap (wronglyLabelled (defined (take k ks)) (defined ks) (referredTo ks)) (drop-next ks k h)
+    ∙ ap (λ t. dueAt (wrongIn ks k) (bracketAt ks k .at) ++ wronglyLabelled t (defined ks) (referredTo ks) (drop (k + 1) ks)) (sym (flat-next definedBy ks k h))
+
+passing-next : (ks : List (Bracket ℕ)) (k y : ℕ) → k < length ks
+    → passing y (drop k ks)
+    ≡ dueAt (leb y copyLimit && ltb copyLimit (y + copies (bracketAt ks k))) (bracketAt ks k .at) ++ passing (y + copies (bracketAt ks k)) (drop (k + 1) ks)
+unfolding passing
+passing-next ks k y h = ap (passing y) (drop-next ks k h)
+
+info-next : (ks : List (Bracket ℕ)) (k : ℕ) → k < length ks → flat infoIn (drop k ks) ≡ infoIn (bracketAt ks k) ++ flat infoIn (drop (k + 1) ks)
+unfolding flat
+info-next ks k h = ap (flat infoIn) (drop-next ks k h)
+
+module _ {line heads parts : List ℕ} {n : ℕ} {ks : List (Bracket ℕ)} (a : Ruled line heads parts n ks) (o : ℕ) where
+  -- the lowest of each rank, from the k-th bracket on, with y copies before it
+  abbrev ranks : ℕ → ℕ → ℕ
+  ranks y k = min (low o copiesRank (passing y (drop k ks))) (min (low o labelRank (wrongFrom ks k)) (low o infoRank (flat infoIn (drop k ks))))
+
+  here : (x y k : ℕ) → k < length ks → SameFew x y
+      → lowest o (dueCodes line heads parts n x k)
+      ≡ min (low o copiesRank (dueAt (leb y copyLimit && ltb copyLimit (y + copies (bracketAt ks k))) (bracketAt ks k .at)))
+      (min (low o labelRank (dueAt (wrongIn ks k) (bracketAt ks k .at))) (low o infoRank (infoIn (bracketAt ks k))))
+  unfolding low
+  here x y k h s =
+      rw (place-is a k h, few-passes x y (copiesAt heads k) (copies (bracketAt ks k)) s (copies-are a k h), wrong-is a k h, info-is a k h)
+      (lowest-two o _ _ ∙ ap (min _) (lowest-two o _ _))
+
+  -- the k-th bracket and those behind it
+  next : (r : ℕ) (l d rest : List ℕ) → l ≡ d ++ rest → min (low o r d) (low o r rest) ≡ low o r l
+  next r l d rest e = sym (ap (low o r) e ∙ low-two o r d rest)
+
+  ranks-next : (y k : ℕ) → (h : k < length ks)
+      → min (min (low o copiesRank (dueAt (leb y copyLimit && ltb copyLimit (y + copies (bracketAt ks k))) (bracketAt ks k .at))) (min (low o labelRank (dueAt (wrongIn ks k) (bracketAt ks k .at))) (low o infoRank (infoIn (bracketAt ks k)))))
+      (ranks (y + copies (bracketAt ks k)) (k + 1))
+      ≡ ranks y k
+  ranks-next y k h =
+      by-rank _ _ _ _ _ _
+      ∙ ap₂ min (next copiesRank (passing y (drop k ks)) _ _ (passing-next ks k y h))
+      (ap₂ min (next labelRank (wrongFrom ks k) _ _ (wrong-next ks k h)) (next infoRank (flat infoIn (drop k ks)) _ _ (info-next ks k h)))
+
+  from : (x y k m : ℕ) → k + m ≡ length ks → SameFew x y → lowest o (dueFrom line heads parts n x k m) ≡ ranks y k
+  unfolding dueFrom low lowest passing wronglyLabelled flat
+  from x y k zero e s =
+      let g : length ks ≤ k = omega arith in
+      rw (drop-of-length-le ks g) (let z : o ≡ min o (min o o) = omega arith in z)
+  from x y k (suc m) e s =
+      let g : k < length ks = omega arith in
+      let b = bracketAt ks k in
+      lowest-two o (dueCodes line heads parts n x k) (dueFrom line heads parts n (x + copiesAt heads k) (k + 1) m)
+      ∙ ap₂ min (here x y k g s)
+      (from (x + copiesAt heads k) (y + copies b) (k + 1) m (omega arith) (few-more x y (copiesAt heads k) (copies b) s (copies-are a k g)))
+      ∙ ranks-next y k g
+
+  pub ruled : lowest o (dueFrom line heads parts n 0 0 n) ≡ lowest o (ruledCodes ks)
+  unfolding low flat
+  ruled =
+      from 0 0 0 n (omega (arith, a .many)) (as-many refl)
+      ∙ turned _ _ _
+      ∙ sym (lowest-two o _ _ ∙ ap (min _) (lowest-two o _ _))

@@ -1,0 +1,46 @@
+-- `bracket_due` meets its contract: one refusal after another. Assumes nothing.
+use Rattle.rules.proofs.Gathered.{due-three}
+use borrow.Author.Needs.{needs}
+use Rattle.rules.proofs.bracket_due.Statement.{statement}
+use Rattle.rules.proofs.bracket_due.Tie as tie
+
+place-of-requires : tie.Need-place-of-requires
+place-of-requires c κs = search needs
+
+has-only-info-requires : tie.Need-has-only-info-requires
+has-only-info-requires c κs = search needs
+
+due-if-requires : tie.Need-due-if-requires
+due-if-requires c κs = search needs
+
+is-wrong-requires : tie.Need-is-wrong-requires
+is-wrong-requires c κs = search needs
+
+due-if-requires-2 : tie.Need-due-if-requires-2
+due-if-requires-2 c κs = search needs
+
+passes-requires : tie.Need-passes-requires
+passes-requires c κs = search needs
+
+due-if-requires-3 : tie.Need-due-if-requires-3
+due-if-requires-3 c κs = search needs
+
+returns : tie.Need-returns
+returns c =
+    let s = c .before .before .before .before .before .before .before .before .before .before in
+    let d = c .before .before .before in
+    let e = c .before .before .before .before .before in
+    due-three (s .args .line .now) (s .args .heads .now) (s .args .parts .now) (s .args .n) (s .args .least) (s .args .before) (s .args .k) (s .pre .2) (e .before .place-of .ensures .0) (e .has-only-info .ensures) (d .before .due-if .ensures) (d .is-wrong .ensures) (c .before .before .due-if2 .ensures) (c .before .passes .ensures) (c .due-if3 .ensures)
+
+pub bracket-due-spec : {M : Type 1} → statement M
+bracket-due-spec =
+    tie.close
+    (tie.spec
+    place-of-requires
+    has-only-info-requires
+    due-if-requires
+    is-wrong-requires
+    due-if-requires-2
+    passes-requires
+    due-if-requires-3
+    returns)

@@ -1,0 +1,77 @@
+-- `labelled_part` meets its contract: the loop's invariant is that the parts passed have no label. Assumes nothing.
+use Rattle.rules.proofs.Searched.{Seeking, seek-starts, seek-more, seek-found, seek-ends}
+use Rattle.sheet.specs.Fields.{partsField, baseField}
+use Prim.Native.Nat.{_-_}
+use borrow.Author.Needs.{needs}
+use native.Mathlib.Omega.{arith}
+use Rattle.rules.proofs.labelled_part.Statement.{statement}
+use Rattle.rules.proofs.labelled_part.Tie as tie
+
+abbrev Inv-loop : tie.InvT-loop
+Inv-loop heads parts k x₀ last x = Seeking parts (baseField heads k) (partsField heads k - 1) last x
+
+abbrev μ-loop : tie.MeasureT-loop
+μ-loop heads parts k x₀ last x = last - x
+
+base-of-requires : tie.Need-base-of-requires Inv-loop μ-loop
+base-of-requires c κs = search needs
+
+parts-of-requires : tie.Need-parts-of-requires Inv-loop μ-loop
+parts-of-requires c κs = search needs
+
+add-last : tie.Need-add-last Inv-loop μ-loop
+add-last c = search needs
+
+sub-last : tie.Need-sub-last Inv-loop μ-loop
+sub-last c = omega (arith, c .before .before .before .before .pre .3, c .parts-of .ensures .0)
+
+loop-holds : tie.Need-loop-holds Inv-loop μ-loop
+loop-holds c =
+    let s = c .before .before .before .before in
+    seek-starts (s .args .parts .now) (baseField (s .args .heads .now) (s .args .k)) (partsField (s .args .heads .now) (s .args .k) - 1) (c .before .base-of .ensures .0) (omega (arith, s .pre .3, c .parts-of .ensures .0)) (omega (arith, c .parts-of .ensures .0))
+
+label-to-requires : tie.Need-label-to-requires Inv-loop μ-loop
+label-to-requires c κs =
+    let s = c .before .before .before .before .before .before in
+    (s .pre .2, omega (arith, s .pre .3, s .pre .4, c .before .loop .inv .ends, c .loop-test .taken))
+
+returns : tie.Need-returns Inv-loop μ-loop
+returns c =
+    let l = c .before .before in
+    let s = c .before .before .before .before .before .before .before .before .args in
+    seek-found (s .parts .now) (baseField (s .heads .now) (s .k)) (partsField (s .heads .now) (s .k) - 1) _ _ (l .before .loop .inv) (l .loop-test .taken) (c .before .label-to .ensures .0) (c .if1 .taken)
+
+add-x : tie.Need-add-x Inv-loop μ-loop
+add-x c = search needs
+
+loop-less : tie.Need-loop-less Inv-loop μ-loop
+loop-less c = search needs
+
+loop-again : tie.Need-loop-again Inv-loop μ-loop
+loop-again c =
+    let l = c .before .before in
+    let s = c .before .before .before .before .before .before .before .before .args in
+    seek-more (s .parts .now) (baseField (s .heads .now) (s .k)) (partsField (s .heads .now) (s .k) - 1) _ _ (l .before .loop .inv) (l .loop-test .taken) (c .before .label-to .ensures .0) (c .if1 .left)
+
+returns-2 : tie.Need-returns-2 Inv-loop μ-loop
+returns-2 c =
+    let s = c .before .before .before .before .before .before .args in
+    seek-ends (s .parts .now) (baseField (s .heads .now) (s .k)) (partsField (s .heads .now) (s .k) - 1) _ _ (c .before .loop .inv) (c .loop-test .left)
+
+pub labelled-part-spec : {M : Type 1} → statement M
+labelled-part-spec =
+    tie.close
+    (tie.spec
+    Inv-loop
+    μ-loop
+    base-of-requires
+    parts-of-requires
+    add-last
+    sub-last
+    loop-holds
+    label-to-requires
+    returns
+    add-x
+    loop-less
+    loop-again
+    returns-2)

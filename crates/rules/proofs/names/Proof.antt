@@ -1,0 +1,54 @@
+-- `names` meets its contract: no label, the wrong side, or its parts searched. Assumes nothing.
+use Rattle.rules.proofs.Searched.{side-none, side-other, side-searched, legible-read}
+use Rattle.rules.specs.Told.{nameAt}
+use native.Mathlib.Omega.{arith}
+use borrow.Author.Needs.{needs}
+use Rattle.rules.proofs.names.Statement.{statement}
+use Rattle.rules.proofs.names.Tie as tie
+
+labels-of-requires : tie.Need-labels-of-requires
+labels-of-requires c κs = search needs
+
+returns : tie.Need-returns
+returns c =
+    let s = c .before .before .before .before .before in
+    side-none (s .args .line .now) (s .args .heads .now) (s .args .parts .now) _ (s .args .k) (nameAt (s .args .line .now) (s .args .parts .now) (s .args .x)) (c .before .labels-of .ensures .0) (c .if1 .taken)
+
+is-side-requires : tie.Need-is-side-requires
+is-side-requires c κs = search needs
+
+base-of-requires : tie.Need-base-of-requires
+base-of-requires c κs = search needs
+
+parts-of-requires : tie.Need-parts-of-requires
+parts-of-requires c κs = search needs
+
+has-label-requires : tie.Need-has-label-requires
+has-label-requires c κs =
+    let s = c .before .before .before .before .before .before .before .before .before in
+    (s .pre .0 .parts-room, s .pre .1, legible-read (s .args .line .now) (s .args .heads .now) (s .args .parts .now) _ (s .args .k) (s .pre .0) (omega arith) (c .before .base-of .ensures .0) (c .parts-of .ensures .0))
+
+returns-2 : tie.Need-returns-2
+returns-2 c =
+    let s = c .before .before .before .before .before .before .before .before .before .before in
+    let d = c .before .before .before .before in
+    side-searched (s .args .line .now) (s .args .heads .now) (s .args .parts .now) _ (s .args .k) (nameAt (s .args .line .now) (s .args .parts .now) (s .args .x)) (d .before .before .labels-of .ensures .0) (d .before .if1 .left) (d .is-side .ensures) (c .before .before .before .if2 .taken) (c .before .before .base-of .ensures .0) (c .before .parts-of .ensures .0) (c .has-label .ensures)
+
+returns-3 : tie.Need-returns-3
+returns-3 c =
+    let s = c .before .before .before .before .before .before .before in
+    let d = c .before in
+    side-other (s .args .line .now) (s .args .heads .now) (s .args .parts .now) _ (s .args .k) (nameAt (s .args .line .now) (s .args .parts .now) (s .args .x)) (d .before .before .labels-of .ensures .0) (d .before .if1 .left) (d .is-side .ensures) (c .if2 .left)
+
+pub names-spec : {M : Type 1} → statement M
+names-spec =
+    tie.close
+    (tie.spec
+    labels-of-requires
+    returns
+    is-side-requires
+    base-of-requires
+    parts-of-requires
+    has-label-requires
+    returns-2
+    returns-3)

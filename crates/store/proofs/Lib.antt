@@ -1,0 +1,9 @@
+pub mod NotedRows
+pub mod Copies
+pub mod PutRows
+pub mod AreaLaws
+pub mod Passed
+pub mod PartsLaws
+pub mod BracketLaws
+pub mod NotedLine
+pub mod LineLaws

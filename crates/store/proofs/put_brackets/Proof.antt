@@ -1,0 +1,56 @@
+-- `store::put_brackets` meets its contract: one bracket after another. Assumes nothing.
+use native.Mathlib.Omega.{arith}
+use Prim.Native.Nat.{_-_}
+use Rattle.store.proofs.BracketLaws.{Bracketing, bracketing-start, bracketing-fits, bracketing-next, bracketing-end}
+use Rattle.store.proofs.put_brackets.Statement.{statement}
+use Rattle.store.proofs.put_brackets.Tie as tie
+
+abbrev Inv-loop : tie.InvT-loop
+Inv-loop line heads parts masses scores n bytes₀ numbers₀ k₀ t₀ bytes numbers k t = Bracketing line heads parts masses scores n bytes₀ numbers₀ k t bytes numbers
+
+abbrev μ-loop : tie.MeasureT-loop
+μ-loop line heads parts masses scores n bytes₀ numbers₀ k₀ t₀ bytes numbers k t = n - k
+
+loop-holds : tie.Need-loop-holds Inv-loop μ-loop
+loop-holds c = bracketing-start _ _ _ _ _ _ _ _
+
+put-bracket-requires : tie.Need-put-bracket-requires Inv-loop μ-loop
+put-bracket-requires c κs =
+    let l = c .before .before in
+    bracketing-fits (l .before .loop .inv) (l .before .before .before .before .before .before .pre) (l .loop-test .taken)
+
+add-k : tie.Need-add-k Inv-loop μ-loop
+add-k c = let l = c .before .before .before .before .before .before in omega (arith, l .loop-test .taken)
+
+loop-less : tie.Need-loop-less Inv-loop μ-loop
+loop-less c = let l = c .before .before .before .before .before .before in omega (arith, l .loop-test .taken)
+
+loop-again : tie.Need-loop-again Inv-loop μ-loop
+loop-again c =
+    let p = c .before .before .before in
+    let l = p .before .before .before in
+    bracketing-next (l .before .loop .inv) (l .loop-test .taken) (p .put-bracket .ensures) (p .put-bracket .kept .1 .1 .1 .1 .1 .1 .1 .0) (p .put-bracket .kept .1 .1 .1 .1 .1 .1 .1 .1 .0)
+
+same-length : tie.Need-same-length Inv-loop μ-loop
+same-length c = c .before .loop .inv .bytes-long
+
+same-length-2 : tie.Need-same-length-2 Inv-loop μ-loop
+same-length-2 c = c .before .loop .inv .numbers-long
+
+returns : tie.Need-returns Inv-loop μ-loop
+returns c = bracketing-end (c .before .loop .inv) (c .loop-test .left)
+
+pub put-brackets-spec : {M : Type 1} → statement M
+put-brackets-spec =
+    tie.close
+    (tie.spec
+    Inv-loop
+    μ-loop
+    loop-holds
+    put-bracket-requires
+    add-k
+    loop-less
+    loop-again
+    same-length
+    same-length-2
+    returns)

@@ -1,0 +1,29 @@
+-- `store::put_front` meets its contract: counts, letters and sections are put one after another. Assumes nothing.
+use Rattle.store.proofs.PutRows.{front-put}
+use borrow.Author.Needs.{needs}
+use Rattle.store.proofs.put_front.Statement.{statement}
+use Rattle.store.proofs.put_front.Tie as tie
+
+put-counts-requires : tie.Need-put-counts-requires
+put-counts-requires c κs = search needs
+
+copy-requires : tie.Need-copy-requires
+copy-requires c κs = search needs
+
+copy-requires-2 : tie.Need-copy-requires-2
+copy-requires-2 c κs = search needs
+
+same-length : tie.Need-same-length
+same-length c = search needs
+
+returns : tie.Need-returns
+returns c =
+    let y = c .before .before in
+    let x = y .before .before .before .before in
+    let p = x .before .before .before .before in
+    let a = p .before .before .before .before .before .args in
+    front-put (a .letters .now) (a .sections .now) (a .residues) (a .brackets) (a .bytes .now) (p .put-counts .ensures) (x .copy .ensures) (y .copy2 .ensures)
+
+pub put-front-spec : {M : Type 1} → statement M
+put-front-spec =
+    tie.close (tie.spec put-counts-requires copy-requires copy-requires-2 same-length returns)

@@ -1,0 +1,29 @@
+-- `store::store` meets its contract: what stands in front of the rows, then the brackets. Assumes nothing.
+use Rattle.store.proofs.LineLaws.{front-fits, brackets-fit, filled}
+use borrow.Author.Needs.{needs}
+use Rattle.store.proofs.store.Statement.{statement}
+use Rattle.store.proofs.store.Tie as tie
+
+put-front-requires : tie.Need-put-front-requires
+put-front-requires c κs = front-fits (c .before .before .before .before .before .before .before .pre)
+
+put-brackets-requires : tie.Need-put-brackets-requires
+put-brackets-requires c κs =
+    let p = c .before .before .before .before in
+    brackets-fit (p .before .before .before .before .before .before .before .before .pre) (p .put-front .ensures)
+
+same-length : tie.Need-same-length
+same-length c = search needs
+
+same-length-2 : tie.Need-same-length-2
+same-length-2 c = search needs
+
+returns : tie.Need-returns
+returns c =
+    let b = c .before .before .before in
+    let p = b .before .before .before .before .before in
+    filled (p .before .before .before .before .before .before .before .before .pre) (p .put-front .ensures) (b .put-brackets .ensures)
+
+pub store-spec : {M : Type 1} → statement M
+store-spec =
+    tie.close (tie.spec put-front-requires put-brackets-requires same-length same-length-2 returns)

@@ -1,0 +1,4 @@
+pub mod Areas
+pub mod PartPut
+pub mod BracketPut
+pub mod Filled

@@ -1,0 +1,10 @@
+pub mod Tags
+pub mod Through
+pub mod Saying
+pub mod Texts
+pub mod Numbers
+pub mod Depths
+pub mod Values
+pub mod Spelled
+pub mod Begins
+pub mod Words

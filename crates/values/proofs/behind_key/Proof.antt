@@ -1,0 +1,106 @@
+-- What stands behind a key: one law for each form.
+use borrow.Author.Needs.{needs}
+use native.Mathlib.Omega.{arith}
+use mathlib.Core.Path.{refl, sym, ap, _∙_}
+use Rattle.scope.specs.Bytes.{isDigit, isAlnum}
+use Rattle.scope.specs.Keys.{hashIsPlain, accessionByte}
+use Rattle.scope.specs.Content.{behindKey}
+use Rattle.values.specs.declared.Form.the-variants.{MassOrName, MassOnly, Digits, Alnums, Free}
+use Rattle.values.proofs.Depths.{digit-quiet, alnum-quiet, none-deep}
+use Rattle.values.proofs.Through.{run-after, run-upto, run-inside}
+use Rattle.values.proofs.Begins.{form-is, key-signed, key-unsigned, key-mass, key-name, key-nothing, key-free, key-code}
+use Rattle.values.proofs.behind_key.Statement.{statement}
+use Rattle.values.proofs.behind_key.Tie as tie
+
+form-of-requires : tie.Need-form-of-requires
+form-of-requires c κs = search needs
+
+mass-behind-requires : tie.Need-mass-behind-requires
+mass-behind-requires c κs = search needs
+
+mass-at-requires : tie.Need-mass-at-requires
+mass-at-requires c κs =
+    let s = c .before .before .before .before in
+    key-signed (s .args .line .now) (s .args .from) (c .before .before .form-of .result) _ (c .before .mass-behind .ensures) (c .if1 .taken)
+
+returns : tie.Need-returns
+returns c = λ at w. key-mass _ at _ _ _ (c .before .before .before .form-of .ensures) (sym (c .before .before .mass-behind .ensures) ∙ c .before .if1 .taken) _ (c .mass-at .ensures at (omega arith))
+
+enum-told : tie.Need-enum-told
+enum-told c = search needs
+
+text-from-requires : tie.Need-text-from-requires
+text-from-requires c κs = search needs
+
+enum-told-2 : tie.Need-enum-told-2
+enum-told-2 c = search needs
+
+enum-told-3 : tie.Need-enum-told-3
+enum-told-3 c = search needs
+
+digit-end-requires : tie.Need-digit-end-requires
+digit-end-requires c κs = search needs
+
+text-of-requires : tie.Need-text-of-requires
+text-of-requires c κs = search needs
+
+enum-told-4 : tie.Need-enum-told-4
+enum-told-4 c = search needs
+
+alnum-end-requires : tie.Need-alnum-end-requires
+alnum-end-requires c κs = search needs
+
+text-of-requires-2 : tie.Need-text-of-requires-2
+text-of-requires-2 c κs = search needs
+
+enum-told-5 : tie.Need-enum-told-5
+enum-told-5 c = search needs
+
+text-from-requires-2 : tie.Need-text-from-requires-2
+text-from-requires-2 c κs = search needs
+
+returns-2 : tie.Need-returns-2
+returns-2 c = λ at w.
+    let h = c .before .before .before in
+    let m = h .before in
+    let s = m .before .before .before in
+    let f = form-is (s .args .key) _ MassOrName (m .before .form-of .ensures) (c .before .enum-told .given .1) in
+    key-name (s .args .line .now) at (s .args .key) (s .args .from) f
+    (key-unsigned (s .args .line .now) (s .args .from) _ _ _ (c .before .enum-told .given .1) refl (m .mass-behind .ensures) (h .if1 .left)) _
+    (c .text-from .ensures at (ap hashIsPlain f) w (omega arith))
+
+returns-3 : tie.Need-returns-3
+returns-3 c = λ at w.
+    let h = c .before .before in
+    let m = h .before in
+    let s = m .before .before .before in
+    key-nothing (s .args .line .now) at (s .args .key) (s .args .from) (form-is (s .args .key) _ MassOnly (m .before .form-of .ensures) (c .enum-told2 .given .1))
+    (key-unsigned (s .args .line .now) (s .args .from) _ _ _ (c .enum-told2 .given .1) refl (m .mass-behind .ensures) (h .if1 .left)) (s .pre)
+
+returns-4 : tie.Need-returns-4
+returns-4 c = λ at w.
+    let m = c .before .before .before .before .before .before in
+    let s = m .before .before in
+    let f = form-is (s .args .key) _ Digits (m .form-of .ensures) (c .before .before .enum-told3 .given .1) in
+    let e = c .before .digit-end .ensures in
+    key-code (s .args .line .now) at (s .args .key) (s .args .from) _ isDigit (λ b. ap (λ x. accessionByte x b) f) (λ x. ap (behindKey x at (s .args .key)) f) e _
+    (c .text-of .ensures (s .args .line .now) at w (run-after isDigit _ _ _ e) (run-inside isDigit _ _ _ e (s .pre)) (none-deep isDigit digit-quiet _ _ _ (run-upto isDigit _ _ _ e)))
+
+returns-5 : tie.Need-returns-5
+returns-5 c = λ at w.
+    let m = c .before .before .before .before .before .before in
+    let s = m .before .before in
+    let f = form-is (s .args .key) _ Alnums (m .form-of .ensures) (c .before .before .enum-told4 .given .1) in
+    let e = c .before .alnum-end .ensures in
+    key-code (s .args .line .now) at (s .args .key) (s .args .from) _ isAlnum (λ b. ap (λ x. accessionByte x b) f) (λ x. ap (behindKey x at (s .args .key)) f) e _
+    (c .text-of2 .ensures (s .args .line .now) at w (run-after isAlnum _ _ _ e) (run-inside isAlnum _ _ _ e (s .pre)) (none-deep isAlnum alnum-quiet _ _ _ (run-upto isAlnum _ _ _ e)))
+
+returns-6 : tie.Need-returns-6
+returns-6 c = λ at w.
+    let m = c .before .before .before .before .before in
+    let s = m .before .before in
+    let f = form-is (s .args .key) _ Free (m .form-of .ensures) (c .before .enum-told5 .given .1) in
+    key-free (s .args .line .now) at (s .args .key) (s .args .from) f _ (c .text-from2 .ensures at (ap hashIsPlain f) w (omega arith))
+
+pub behind-key-spec : {M : Type 1} → statement M
+behind-key-spec = tie.close (tie.spec form-of-requires mass-behind-requires mass-at-requires returns enum-told text-from-requires enum-told-2 enum-told-3 digit-end-requires text-of-requires enum-told-4 alnum-end-requires text-of-requires-2 enum-told-5 text-from-requires-2 returns-2 returns-3 returns-4 returns-5 returns-6)

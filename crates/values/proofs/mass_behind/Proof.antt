@@ -1,0 +1,18 @@
+-- A mass may stand behind the keys of two forms, by the numbers of these.
+use borrow.Author.Needs.{needs}
+use mathlib.Core.Path.{_∙_}
+use Rattle.values.proofs.Tags.{takes, takes-not}
+use Rattle.values.proofs.mass_behind.Statement.{statement}
+use Rattle.values.proofs.mass_behind.Tie as tie
+
+signed-at-requires : tie.Need-signed-at-requires
+signed-at-requires c κs = search needs
+
+returns : tie.Need-returns
+returns c = c .signed-at .ensures ∙ takes (c .before .before .before .args .form) _ (c .before .match .keys1)
+
+returns-2 : tie.Need-returns-2
+returns-2 c = takes-not (c .before .before .args .form) _ (c .match .keys2)
+
+pub mass-behind-spec : {M : Type 1} → statement M
+mass-behind-spec = tie.close (tie.spec signed-at-requires returns returns-2)

@@ -1,0 +1,205 @@
+-- From what the walk and the rules find in a line to what is answered: the lowest code of all is the outcome.
+use mathlib.Core.Path.{_≡_, refl, sym, ap, subst, _∙_}
+use mathlib.Core.Bool.{Bool, true, false, cond}
+use mathlib.Core.List.{List, map}
+use Prim.Native.Nat.{ℕ, _+_, _/_, _%_, _<_, _≤_}
+use native.Mathlib.Omega.{arith}
+use borrow.Author.Tests.{lt-ltb, le-ltb, ltb-true, ltb-false}
+use lib.Dec.{ltb}
+use lib.IntN.{ℤ}
+use lib.ListN.{length, List·getD-eq-default}
+use Rattle.scope.specs.Bytes.{wideLimit, isPrintable}
+use Rattle.scope.specs.Limits.{lineLimit}
+use Rattle.scope.specs.Line.{Bracket, Line}
+use Rattle.scope.specs.Reading.{stuck, holds, reading}
+use Rattle.scope.specs.Refusals.{accepted, refused, outcome}
+use Rattle.scope.specs.Answers.{good, refuses, saysOutcome}
+use Rattle.basics.specs.Each.{Each}
+use Rattle.reading_laws.specs.Printable.{order-printable}
+use Rattle.classes.specs.Runs.{span}
+use Rattle.sheet.specs.Rows.{Roomy, LineNoted}
+use Rattle.dues.specs.Ranks.{lowest, noCode, numberAt, decoded}
+use Rattle.dues.specs.First.{Fits}
+use Rattle.dues.specs.Lines.{lineRules, metCodes, ruledCodes}
+use Rattle.dues.specs.Met.{lowest-below, lowest-two}
+use Rattle.dues.specs.Judged.{by-codes, met-first}
+use Rattle.dues.specs.Inside.{places-fit}
+use Rattle.dues.specs.Few.{FewOf, few-of}
+use Rattle.rules.specs.Ruled.{Ruled}
+use Rattle.rules.specs.Shapes.{all-shaped}
+use Rattle.walk.specs.Stages.{lent}
+use Rattle.walk.specs.Walked.{LineSays}
+use Rattle.verdict.specs.declared.Judged.{Judged}
+use Rattle.verdict.specs.declared.Judged.the-variants.{Refused, Holds}
+use Rattle.verdict.specs.Due.{unread, WalkedLine, firstCode, byCode}
+use Rattle.verdict.specs.Says.{JudgedSays}
+use Rattle.verdict.proofs.Unprintable.{first-unprintable, no-unprintable, bytes}
+use Rattle.verdict.proofs.Trying.{is-unprintable, is-stuck, of-order}
+
+-- ---- the first code due
+module _ {line heads parts : List ℕ} {brackets least : ℕ} (w : WalkedLine line heads parts brackets least) where
+  abbrev n : ℕ
+  n = noCode (lineRules (w .held))
+
+  abbrev met : List ℕ
+  met = metCodes (w .held .residues) (w .held .brackets)
+
+  same-line : (l : Line ℕ) → reading line ≡ holds l → w .held ≡ l
+  same-line l e = let q : holds (w .held) ≡ holds l = sym (w .is) ∙ e in cc
+
+  fits : Each Fits (lineRules (w .held))
+  fits = places-fit line (w .held) (w .is) (w .short)
+
+  -- something is met
+  pub met-is-first : least < n → (l : Line ℕ) → reading line ≡ holds l → least ≡ firstCode l
+  met-is-first h l e =
+      w .least-is ∙ sym (met-first (w .held) fits (subst (λ c. c < n) (w .least-is) h)) ∙ ap firstCode (same-line l e)
+
+  module _ (clear : n ≤ least) where
+    none-met : n ≤ lowest n met
+    none-met = subst (λ c. n ≤ c) (w .least-is) clear
+
+    few : FewOf (w .held)
+    few = few-of (w .held) fits none-met
+
+    -- nothing is met: all brackets and parts are noted
+    pub all-noted : Ruled line heads parts brackets (w .held .brackets)
+    all-noted =
+        record {
+          many = w .brackets-are;
+          few = omega (arith, w .brackets-are, few .brackets);
+          few-parts = few .parts;
+          shaped = all-shaped line (w .held) (bytes line (order-printable line (w .held) (w .is))) (w .is);
+          m = w .parts-many;
+          masses = w .masses;
+          scores = w .scores;
+          noted = w .noted;
+          heads-room = w .heads-room;
+          parts-room = w .parts-room;
+        }
+
+    -- and what the rules find is the first
+    pub ruled-is-first : (c : ℕ) → ((ks : List (Bracket ℕ)) → Ruled line heads parts brackets ks → c ≡ lowest least (ruledCodes ks))
+        → (l : Line ℕ) → reading line ≡ holds l → c ≡ firstCode l
+    ruled-is-first c f l e =
+        let ruled = ruledCodes (w .held .brackets) in
+        let none-due : least ≡ n = omega (arith, w .least-is, clear, lowest-below n met) in
+        let met-none : lowest n met ≡ n = omega (arith, none-met, lowest-below n met) in
+        let found : c ≡ lowest n ruled = f (w .held .brackets) all-noted ∙ ap (λ k. lowest k ruled) none-due in
+        let first : c ≡ firstCode (w .held) = omega (arith, found, met-none, lowest-two n met ruled, lowest-below n ruled) in
+        first ∙ ap firstCode (same-line l e)
+
+-- ---- what a code says
+pub ranked : (rank k : ℕ) → rank ≡ k → (l : Line ℕ) → numberAt (lineRules l) k ≡ numberAt (lineRules l) rank
+ranked rank k e l = ap (numberAt (lineRules l)) (sym e)
+
+past : (n rank : ℕ) → n ≤ rank → (rank ≡ n → ⊥) → n + 1 ≤ rank
+past n rank h e = omega (arith, e)
+
+-- no other rank has a number
+pub no-rank : (rank : ℕ)
+    → (((((((Unit {0} × (rank ≡ 0 → ⊥)) × (rank ≡ 1 → ⊥)) × (rank ≡ 2 → ⊥)) × (rank ≡ 3 → ⊥)) × (rank ≡ 4 → ⊥)) × (rank ≡ 5 → ⊥)) × (rank ≡ 6 → ⊥)) × (rank ≡ 7 → ⊥)
+    → (l : Line ℕ) → 0 ≡ numberAt (lineRules l) rank
+no-rank rank other l =
+    let h3 = past 2 rank (past 1 rank (past 0 rank (omega arith) (other .0 .0 .0 .0 .0 .0 .0 .1)) (other .0 .0 .0 .0 .0 .0 .1)) (other .0 .0 .0 .0 .0 .1) in
+    let h6 = past 5 rank (past 4 rank (past 3 rank h3 (other .0 .0 .0 .0 .1)) (other .0 .0 .0 .1)) (other .0 .0 .1) in
+    let h8 = past 7 rank (past 6 rank h6 (other .0 .1)) (other .1) in
+    sym (List·getD-eq-default (map (λ r. r .number) (lineRules l)) 0 h8)
+
+module _ (c residues brackets : ℕ) (l : Line ℕ) where
+  pub code-refuses : {number rank place : ℕ} → c < noCode (lineRules l) → number ≡ numberAt (lineRules l) rank → rank ≡ c / wideLimit → place ≡ c % wideLimit
+      → Refused number place ≡ byCode l c residues brackets
+  code-refuses h a b d = rw (lt-ltb c (noCode (lineRules l)) h, a, b, d)
+
+  pub code-holds : noCode (lineRules l) ≤ c → Holds residues brackets ≡ byCode l c residues brackets
+  code-holds h = rw (le-ltb c (noCode (lineRules l)) h)
+
+-- ---- where no line goes on
+pub unprintable-is : (line : List ℕ) (end place : ℕ) → end ≡ span isPrintable line → end < length line → Refused 3 end ≡ unread line place
+unprintable-is line end place e h = rw (lt-ltb (span isPrintable line) (length line) (subst (λ x. x < length line) e h), e)
+
+pub stuck-is : (line : List ℕ) (end place : ℕ) → end ≡ span isPrintable line → length line ≤ end → Refused 4 place ≡ unread line place
+stuck-is line end place e h = rw (le-ltb (span isPrintable line) (length line) (subst (λ x. length line ≤ x) e h))
+
+-- ---- the answer
+-- tables that keep their lengths keep their room
+pub still-roomy : {letters sections heads parts letters′ sections′ heads′ parts′ : List ℕ} {masses scores masses′ scores′ : List ℤ}
+    → Roomy letters sections heads parts masses scores
+    → length letters′ ≡ length letters → length sections′ ≡ length sections → length heads′ ≡ length heads → length parts′ ≡ length parts
+    → length masses′ ≡ length masses → length scores′ ≡ length scores
+    → Roomy letters′ sections′ heads′ parts′ masses′ scores′
+still-roomy w a b c d e f =
+    record {
+      letters-room = omega (arith, w .letters-room);
+      sections-room = omega (arith, w .sections-room);
+      heads-room = omega (arith, w .heads-room);
+      parts-room = omega (arith, w .parts-room);
+      masses-room = omega (arith, w .masses-room);
+      scores-room = omega (arith, w .scores-room);
+    }
+
+module _ (line : List ℕ) (some-byte : length line ≡ 0 → ⊥) (short : length line ≤ lineLimit)
+    (letters sections heads parts : List ℕ) (masses scores : List ℤ) where
+  abbrev Says : Judged → Type 0
+  Says r = JudgedSays line r letters sections heads parts masses scores
+
+  pub stuck-says : (p : ℕ) (r : Judged) → reading line ≡ stuck p → r ≡ unread line p → Says r
+  stuck-says p r e q = subst Says (sym q) (go (ltb (span isPrintable line) (length line)) refl)
+    where
+      go : (t : Bool) → ltb (span isPrintable line) (length line) ≡ t → Says (cond t (Refused 3 (span isPrintable line)) (Refused 4 p))
+      go true u = is-unprintable line some-byte short (span isPrintable line) (first-unprintable line (ltb-true _ _ u))
+      go false u = is-stuck line some-byte short p (no-unprintable line (ltb-false _ _ u)) e
+
+  module _ {residues brackets labels least : ℕ} (w : LineSays line residues brackets labels least (lent letters sections heads parts masses scores))
+      (roomy : Roomy letters sections heads parts masses scores) where
+    pub walked-line : WalkedLine line heads parts brackets least
+    walked-line =
+        record {
+          held = w .held;
+          is = w .is;
+          short = short;
+          brackets-are = w .brackets-are;
+          least-is = w .least-is;
+          parts-many = w .parts;
+          masses = masses;
+          scores = scores;
+          noted = w .noted;
+          heads-room = roomy .heads-room;
+          parts-room = roomy .parts-room;
+        }
+
+    pub line-says : (c : ℕ) (r : Judged) → ((l : Line ℕ) → reading line ≡ holds l → c ≡ firstCode l) → ((l : Line ℕ) → r ≡ byCode l c residues brackets) → Says r
+    line-says c r first answer = subst Says (sym (answer l)) (go (ltb c (noCode (lineRules l))) decides)
+      where
+        l : Line ℕ
+        l = w .held
+
+        decides : decoded (lineRules l) c (accepted l) ≡ outcome line
+        decides =
+            ap (λ k. decoded (lineRules l) k (accepted l)) (first l (w .is))
+            ∙ by-codes l (places-fit line l (w .is) short)
+            ∙ sym (of-order line some-byte short l (w .is))
+
+        go : (t : Bool) → cond t (refused (numberAt (lineRules l) (c / wideLimit)) (c % wideLimit)) (accepted l) ≡ outcome line
+            → Says (cond t (Refused (numberAt (lineRules l) (c / wideLimit)) (c % wideLimit)) (Holds residues brackets))
+        go true e = sym e
+        go false e = (
+          l,
+          record {
+            is-accepted = sym e;
+            parts-many = w .parts;
+            noted = w .noted;
+            lettered = w .lettered;
+            roomy = roomy;
+            residues-are = w .residues-are;
+            brackets-are = w .brackets-are;
+          },
+        )
+
+-- ---- the verdict
+pub verdict-refused : (line : List ℕ) {number place : ℕ} → outcome line ≡ refused number place → refuses number place ≡ saysOutcome (outcome line)
+verdict-refused line e = ap saysOutcome (sym e)
+
+pub verdict-accepted : (line : List ℕ) {letters sections heads parts : List ℕ} {masses scores : List ℤ} {residues brackets : ℕ} {l : Line ℕ}
+    → LineNoted line letters sections heads parts masses scores residues brackets l → good tt ≡ saysOutcome (outcome line)
+verdict-accepted line w = ap saysOutcome (sym (w .is-accepted))

@@ -1,0 +1,26 @@
+-- `by_code` meets its contract: the number of the code's rank, at its place; or none is due. Assumes nothing.
+use borrow.Author.Needs.{needs}
+use Rattle.verdict.proofs.Judging.{code-refuses, code-holds}
+use Rattle.verdict.proofs.by_code.Statement.{statement}
+use Rattle.verdict.proofs.by_code.Tie as tie
+
+rank-of-requires : tie.Need-rank-of-requires
+rank-of-requires c κs = search needs
+
+number-of-requires : tie.Need-number-of-requires
+number-of-requires c κs = search needs
+
+place-of-requires : tie.Need-place-of-requires
+place-of-requires c κs = search needs
+
+returns : tie.Need-returns
+returns c = λ l.
+    let r = c .before .before in
+    code-refuses _ _ _ l (r .before .if1 .taken) (c .before .number-of .ensures l) (r .rank-of .ensures) (c .place-of .ensures)
+
+returns-2 : tie.Need-returns-2
+returns-2 c = λ l. code-holds _ _ _ l (c .if1 .left)
+
+pub by-code-spec : {M : Type 1} → statement M
+by-code-spec =
+    tie.close (tie.spec rank-of-requires number-of-requires place-of-requires returns returns-2)

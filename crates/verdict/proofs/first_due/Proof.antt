@@ -1,0 +1,19 @@
+-- `first_due` meets its contract: what is met is the first; where nothing is met, what the rules find. Assumes nothing.
+use borrow.Author.Needs.{needs}
+use Rattle.verdict.proofs.Judging.{met-is-first, all-noted, ruled-is-first}
+use Rattle.verdict.proofs.first_due.Statement.{statement}
+use Rattle.verdict.proofs.first_due.Tie as tie
+
+returns : tie.Need-returns
+returns c = met-is-first (c .before .before .before .before .pre) (c .if1 .taken)
+
+rules-due-requires : tie.Need-rules-due-requires
+rules-due-requires c κs = (_, all-noted (c .before .before .before .before .pre) (c .if1 .left))
+
+returns-2 : tie.Need-returns-2
+returns-2 c =
+    let e = c .before in
+    ruled-is-first (e .before .before .before .before .pre) (e .if1 .left) _ (c .rules-due .ensures)
+
+pub first-due-spec : {M : Type 1} → statement M
+first-due-spec = tie.close (tie.spec returns rules-due-requires returns-2)

@@ -1,0 +1,12 @@
+pub mod Modes
+pub mod Letters
+pub mod Counts
+pub mod Stores
+pub mod Settling
+pub mod Heads
+pub mod Dues
+pub mod Notes
+pub mod Further
+pub mod OneRun
+pub mod OneCount
+pub mod OneBracket

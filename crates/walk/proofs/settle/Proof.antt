@@ -1,0 +1,60 @@
+-- The rows of the brackets at the front, settled by a loop.
+use Prim.Native.Nat.{_-_}
+use native.Mathlib.Omega.{arith}
+use Rattle.walk.proofs.Settling.{Settling, settling-start, settling-next, settling-end}
+use borrow.Author.Needs.{needs}
+use Rattle.walk.proofs.settle.Statement.{statement}
+use Rattle.walk.proofs.settle.Tie as tie
+
+abbrev Inv-loop : tie.InvT-loop
+Inv-loop heads₀ first end i₀ heads i = Settling first end i heads₀ heads
+
+abbrev μ-loop : tie.MeasureT-loop
+μ-loop heads₀ first end i₀ heads i = end - i
+
+loop-holds : tie.Need-loop-holds Inv-loop μ-loop
+loop-holds c = settling-start _ _ _
+
+kind-code-requires : tie.Need-kind-code-requires Inv-loop μ-loop
+kind-code-requires c κs = search needs
+
+put-kind-requires : tie.Need-put-kind-requires Inv-loop μ-loop
+put-kind-requires c κs =
+    let t = c .before .before in
+    let l = t .before in
+    let s = l .before .before in
+    (omega (arith, s .pre .1, l .loop .inv .kept), omega (arith, s .pre .0, t .loop-test .taken), omega (arith, c .kind-code .ensures))
+
+add-i : tie.Need-add-i Inv-loop μ-loop
+add-i c = search needs
+
+loop-less : tie.Need-loop-less Inv-loop μ-loop
+loop-less c = search needs
+
+loop-again : tie.Need-loop-again Inv-loop μ-loop
+loop-again c =
+    let p = c .before .before in
+    let k = p .before in
+    let t = k .before .before in
+    settling-next (t .before .loop .inv) (t .loop-test .taken) _ (k .kind-code .ensures) _ (p .put-kind .ensures)
+
+same-length : tie.Need-same-length Inv-loop μ-loop
+same-length c = c .before .loop .inv .kept
+
+returns : tie.Need-returns Inv-loop μ-loop
+returns c = settling-end (c .before .loop .inv) (c .loop-test .left)
+
+pub settle-spec : {M : Type 1} → statement M
+settle-spec =
+    tie.close
+    (tie.spec
+    Inv-loop
+    μ-loop
+    loop-holds
+    kind-code-requires
+    put-kind-requires
+    add-i
+    loop-less
+    loop-again
+    same-length
+    returns)

@@ -1,0 +1,3 @@
+pub mod Stages
+pub mod Steps
+pub mod Walked

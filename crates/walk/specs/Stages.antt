@@ -1,0 +1,134 @@
+-- How far a line is walked, and what is known there: what is held so far, and that the numbers of the stage and the tables are its.
+use mathlib.Core.Path.{_≡_}
+use mathlib.Core.Bool.{cond}
+use mathlib.Core.Option.{none}
+use mathlib.Core.List.{List, [], _∷_, _++_}
+use Prim.Native.Nat.{ℕ, _+_, _*_, _≤_, _<_}
+use lib.IntN.{ℤ}
+use lib.ListN.{length, drop, getD}
+use Rattle.scope.specs.declared.grammar.Mode.{Mode}
+use Rattle.scope.specs.declared.grammar.Mode.the-variants.{Front}
+use Rattle.scope.specs.declared.grammar.Act.{Act}
+use Rattle.scope.specs.Bytes.{isDigit}
+use Rattle.scope.specs.Limits.{bracketLimit, partLimit, lineLimit}
+use Rattle.scope.specs.Line.{Bracket, Residue}
+use Rattle.scope.specs.Lists.{flat}
+use Rattle.scope.specs.Modifications.{namesOf}
+use Rattle.scope.specs.Reading.{Held, act, outside, reading}
+use Rattle.classes.specs.Runs.{span}
+use Rattle.reading_laws.specs.Acts.{ways, someWay, endsRun, endsTerm, counts}
+use Rattle.reading_laws.specs.Run.{rest}
+use Rattle.sheet.specs.Rows.{massesRoom, Noted, Lettered, Roomy}
+use Rattle.dues.specs.Ranks.{code, lowest}
+use Rattle.dues.specs.Lines.{copiesRank, metCodes}
+use Rattle.walk.specs.declared.Stage.{Stage}
+
+-- ---- the brackets at the front
+-- the last bracket has no count yet
+pub record LastFresh (ks : List (Bracket ℕ)) : Type 0 where
+  pub before : List (Bracket ℕ)
+  pub last : Bracket ℕ
+  pub is : ks ≡ before ++ (last ∷ [])
+  pub fresh : last .counted ≡ none
+
+-- what may be said of the undecided run and of the bytes that follow: none waits; the last has no count yet; nothing; no digit follows
+pub data Waiting : Type 0 where
+  none-waits : Waiting
+  last-fresh : Waiting
+  any-waits : Waiting
+  digits-over : Waiting
+
+abbrev pub Fits : Waiting → List (Bracket ℕ) → List ℕ → Type 0
+Fits none-waits r l = r ≡ []
+Fits last-fresh r l = LastFresh r
+Fits any-waits r l = Unit {0}
+Fits digits-over r l = span isDigit l ≡ 0
+
+-- what a mode says of them, by what may be done there: count on, end a run, end the N-terminus
+abbrev pub waiting : Mode → Waiting
+waiting m =
+    cond (someWay counts (ways m)) (cond (someWay endsRun (ways m)) digits-over last-fresh)
+    (cond (someWay endsRun (ways m)) last-fresh (cond (someWay endsTerm (ways m)) any-waits none-waits))
+
+abbrev pub ModeFits : Mode → List (Bracket ℕ) → List ℕ → Type 0
+ModeFits m r l = Fits (waiting m) r l
+
+abbrev pub heldBrackets : Held ℕ → List (Bracket ℕ)
+heldBrackets h = h .brackets ++ h .run
+
+-- ---- the tables that are lent
+pub record Lent : Type 0 where
+  pub letters : List ℕ
+  pub sections : List ℕ
+  pub heads : List ℕ
+  pub parts : List ℕ
+  pub masses : List ℤ
+  pub scores : List ℤ
+
+abbrev pub lent : List ℕ → List ℕ → List ℕ → List ℕ → List ℤ → List ℤ → Lent
+lent letters sections heads parts masses scores =
+    record { letters = letters; sections = sections; heads = heads; parts = parts; masses = masses; scores = scores }
+
+abbrev pub withHeads : Lent → List ℕ → Lent
+withHeads t heads = lent (t .letters) (t .sections) heads (t .parts) (t .masses) (t .scores)
+
+abbrev pub withLetters : Lent → List ℕ → List ℕ → Lent
+withLetters t letters sections = lent letters sections (t .heads) (t .parts) (t .masses) (t .scores)
+
+abbrev pub HasRoom : Lent → Type 0
+HasRoom t = Roomy (t .letters) (t .sections) (t .heads) (t .parts) (t .masses) (t .scores)
+
+-- ---- what is known at a stage
+-- above every code
+abbrev pub nothingDue : ℕ
+nothingDue = code (copiesRank + 1) 0
+
+-- n residues are read, and the position of the group's first is that of the definition
+pub record ResiduesAre (n group : ℕ) (rs : List (Residue ℕ)) (first : ℕ) (letters sections : List ℕ) : Type 0 where
+  pub many : n ≡ length rs
+  pub group-is : group ≡ first
+  pub group-low : group ≤ n
+  pub lettered : Lettered rs letters sections
+
+-- n brackets are read, the first `run` of them settled; m of their parts are noted, and they have so many labels
+pub record BracketsAre (line : List ℕ) (n run m labels : ℕ) (settled waits : List (Bracket ℕ)) (heads parts : List ℕ) (masses scores : List ℤ) : Type 0 where
+  pub many : n ≡ length (settled ++ waits)
+  pub before : run ≡ length settled
+  pub labels-are : labels ≡ length (flat namesOf (settled ++ waits))
+  pub labels-low : labels ≤ lineLimit * n
+  pub noted : Noted line (settled ++ waits) m heads parts masses scores
+
+-- the line is walked up to a place
+pub record Upto (line : List ℕ) (s : Stage) (t : Lent) : Type 0 where
+  pub held : Held ℕ
+  pub is : reading line ≡ rest line (s .at) (outside (s .mode) held)
+  pub within : s .at ≤ length line
+  pub fits : ModeFits (s .mode) (held .run) (drop (s .at) line)
+  pub residues-are : ResiduesAre (s .residues) (s .group) (held .residues) (held .first) (t .letters) (t .sections)
+  pub brackets-are : BracketsAre line (s .brackets) (s .run) (s .parts) (s .labels) (held .brackets) (held .run) (t .heads) (t .parts) (t .masses) (t .scores)
+  pub least-is : s .least ≡ lowest nothingDue (metCodes (held .residues) (heldBrackets held))
+  pub few-residues : s .residues ≤ s .at
+  pub few-brackets : s .brackets ≤ s .at
+  pub roomy : HasRoom t
+
+-- the byte at hand does what is said
+pub record Does (line : List ℕ) (s : Stage) (a : Act) (t : Lent) : Type 0 where
+  pub upto : Upto line s t
+  pub here : s .at < length line
+  pub short : length line ≤ lineLimit
+  pub does : act (s .mode) (getD line (s .at) 0) ≡ a
+
+-- the numbers of a stage are small, and there is room for the parts of one bracket more, where it is noted
+pub record Low (s : Stage) : Type 0 where
+  pub at : s .at < lineLimit
+  pub residues : s .residues ≤ s .at
+  pub group : s .group ≤ s .residues
+  pub brackets : s .brackets ≤ s .at
+  pub run : s .run ≤ s .brackets
+  pub labels : s .labels ≤ lineLimit * s .brackets
+  pub parts : s .parts ≤ massesRoom
+  pub room : s .brackets < bracketLimit → s .parts + partLimit ≤ massesRoom
+
+-- nothing is read
+abbrev pub firstStage : Stage
+firstStage = record { at = 0; mode = Front; residues = 0; group = 0; brackets = 0; run = 0; parts = 0; labels = 0; least = nothingDue }

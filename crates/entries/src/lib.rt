@@ -171,7 +171,7 @@ fn put_report(
     requires { ⌜ Roomy (now letters) (now sections) (now heads) (now parts) (now masses) (now scores) × Clean (now bytes) (now numbers) × (at + tablesMost ≤ ceiling) ⌝ }
     ensures { λ r. ⌜ Printed acceptedMost (now (out .entry)) at (report (outcome (now (line .entry)))) (now (out .exit)) r (now (bytes .entry)) (now (numbers .entry)) (now (bytes .exit)) (now (numbers .exit)) ⌝ }
 {
-    let judged = verdict::judged(line, letters, sections, heads, parts, masses, scores);
+    let judged = verdict::judge(line, letters, sections, heads, parts, masses, scores);
     match judged {
         Judged::Holds { residues, brackets } => put_taken(
             line,

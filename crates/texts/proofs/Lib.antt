@@ -5,4 +5,3 @@ pub mod Told
 pub mod Pairs
 pub mod Owed
 pub mod Levels
-pub mod Deep

@@ -3,14 +3,11 @@ use scope::tables::Tables;
 ghost use mathlib.Core.Path.{_≡_};
 ghost use mathlib.Core.Bool.{true};
 ghost use mathlib.Core.List.{[]};
-ghost use Prim.Native.Nat.{_+_, _-_, _<_, _≤_};
-ghost use lib.ListN.{length, drop};
+ghost use Prim.Native.Nat.{_+_, _<_};
+ghost use lib.ListN.{drop};
 ghost use Rattle.scope.specs.Bytes.{isShutting, closerOf};
-ghost use Rattle.scope.specs.Lists.{given, part};
-ghost use Rattle.scope.specs.Refusals.{least, tooDeep, depthAfter};
-ghost use Rattle.scope.specs.Limits.{depthLimit};
 ghost use Rattle.classes.specs.Runs.{span};
-ghost use Rattle.texts.specs.Texts.{isOuter, isInner, scanText, told, firstOf, Closed, Crowded, opensTooDeep};
+ghost use Rattle.texts.specs.Texts.{isOuter, isInner, scanText, told, firstOf, Closed, Crowded};
 
 // Where a text ends, with one more than the first place at which a pair is opened while as many as may be are open, or 0; or where it is stuck inside a pair.
 pub enum TextEnd {
@@ -22,7 +19,7 @@ pub enum TextEnd {
 const LEVELS: usize = Tables::DEPTH;
 
 // How many closers one call of `crowd_end` keeps.
-const KEPT: usize = 256;
+const KEPT: usize = 1024;
 
 // Where the text that starts at `at` ends; `hashes` says whether `#` is plain in it.
 pub fn text_end(line: &[u8], at: usize, hashes: bool) -> TextEnd
@@ -202,48 +199,4 @@ fn inner_end(line: &[u8], at: usize) -> usize
         }
     }
     i
-}
-
-// The first place before `end` at which a pair is opened while eight are open, or `end`.
-pub fn deep_at(line: &[u8], at: usize, end: usize) -> usize
-    requires { ⌜ end ≤ length (now line) ⌝ }
-    ensures { λ r. ⌜ given (least (tooDeep 0 at (part at (end - at) (now (line .entry))))) (λ i. i) end ≡ r ⌝ }
-{
-    let mut d: usize = 0;
-    let mut i = at;
-    while i < end {
-        let b = line[i];
-        if opens_too_deep(d, b) {
-            return i;
-        }
-        d = depth_after(d, b);
-        i += 1;
-    }
-    end
-}
-
-fn opens_too_deep(d: usize, b: u8) -> bool
-    ensures { λ r. ⌜ r ≡ opensTooDeep d b ⌝ }
-{
-    if classes::is_opening(b) {
-        return Tables::DEPTH <= d;
-    }
-    false
-}
-
-// How many pairs are open behind a byte.
-fn depth_after(d: usize, b: u8) -> usize
-    requires { ⌜ d ≤ depthLimit ⌝ }
-    ensures { λ r. ⌜ r ≡ depthAfter d b ⌝ }
-{
-    if classes::is_opening(b) {
-        return d + 1;
-    }
-    if classes::is_shutting(b) {
-        if d == 0 {
-            return 0;
-        }
-        return d - 1;
-    }
-    d
 }

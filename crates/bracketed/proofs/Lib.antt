@@ -1,5 +1,0 @@
-pub mod Answers
-pub mod Lists
-pub mod OnePart
-pub mod Table
-pub mod Reading

@@ -1,2 +1,0 @@
-pub mod Bracketed
-pub mod Progress

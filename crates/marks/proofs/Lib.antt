@@ -1,5 +1,0 @@
-pub mod Depth
-pub mod Due
-pub mod Found
-pub mod Names
-pub mod Numerals

@@ -1,9 +1,0 @@
-pub mod Through
-pub mod Texts
-pub mod Numbers
-pub mod Ends
-pub mod Values
-pub mod Scores
-pub mod Begins
-pub mod Keyed
-pub mod Words

@@ -1,3 +1,4 @@
+-- `entries::put_accepted` meets its contract: the counts, the total and the canonical line, one behind the other. Assumes nothing.
 use mathlib.Core.List.{[], _∷_}
 use Rattle.scope.specs.Limits.{lineLimit}
 use Rattle.scope.specs.Canonical.{canonical}

@@ -1,3 +1,4 @@
+-- `entries::put_counts` meets its contract: the word, and the three numbers that the tables have, one behind the other. Assumes nothing.
 use mathlib.Core.Path.{sym, ap, _∙_}
 use mathlib.Core.List.{_∷_}
 use Rattle.scope.specs.Canonical.{decimal}

@@ -1,3 +1,4 @@
+-- `entries::put_front` meets its contract: the number, the report and byte 10, one behind the other. Assumes nothing.
 use Rattle.writer.proofs.Storing.{puts-of, puts-join, puts-length}
 use Rattle.entries.proofs.Texts.{entry-text}
 use borrow.Author.Needs.{needs}

@@ -1,3 +1,4 @@
+-- `entries::put_refused` meets its contract: the word, the number and the place, one behind the other. Assumes nothing.
 use Rattle.entries.proofs.Texts.{field-then, field-last}
 use borrow.Author.Needs.{needs}
 use Rattle.entries.proofs.put_refused.Statement.{statement}

@@ -1,28 +1,31 @@
+-- `entries::put_taken` meets its contract: the line's tables are stored, printed and wiped, which leaves the areas as they were. Assumes nothing.
 use native.Mathlib.Omega.{arith}
 use mathlib.Core.Path.{refl}
-use Rattle.reader.proofs.Storing.{holds-of}
+use Rattle.reader.proofs.Storing.{filled, holds-of}
 use Rattle.reader.proofs.Wiping.{put-back}
 use Rattle.writer.proofs.Storing.{puts-of, puts-length}
-use Rattle.entries.proofs.Taken.{known, taken-text}
+use Rattle.entries.proofs.Taken.{lays, known, taken-text}
 use borrow.Author.Needs.{needs}
 use Rattle.entries.proofs.put_taken.Statement.{statement}
 use Rattle.entries.proofs.put_taken.Tie as tie
 
-put-requires : tie.Need-put-requires
-put-requires c κs = search needs
+store-requires : tie.Need-store-requires
+store-requires c κs = search needs
 
 put-accepted-requires : tie.Need-put-accepted-requires
 put-accepted-requires c κs =
     let p = c .before .before .before .before .before .before in
-    let s = p .before .before .before .before .before .before in
-    (known (s .pre .0 .held) (s .pre .0 .accepts) (p .put .ensures), omega arith)
+    let s = p .before .before .before .before .before .before .before .before .before .before in
+    let f = s .pre .0 in
+    (known (f .holds-line) (f .line-noted .is-accepted) (filled (p .store .ensures)), omega arith)
 
 wipe-requires : tie.Need-wipe-requires
 wipe-requires c κs =
     let a = c .before .before .before .before in
     let p = a .before .before .before .before .before .before .before in
-    let s = p .before .before .before .before .before .before in
-    record { text = s .args .line .now; long = refl; held = s .pre .0 .held; holds = holds-of (s .pre .0 .held) (s .pre .0 .accepts) (p .put .ensures) }
+    let s = p .before .before .before .before .before .before .before .before .before .before in
+    let f = s .pre .0 in
+    record { text = s .args .line .now; long = refl; held = f .holds-line; holds = holds-of (f .holds-line) (f .line-noted .is-accepted) (filled (p .store .ensures)) }
 
 same-length : tie.Need-same-length
 same-length c = search needs
@@ -38,10 +41,12 @@ returns c =
     let k = c .before .before .before in
     let a = k .before .before .before .before .before in
     let p = a .before .before .before .before .before .before .before in
-    let s = p .before .before .before .before .before .before in
-    let same = put-back (s .pre .0) (p .put .ensures) (k .wipe .ensures) in
+    let s = p .before .before .before .before .before .before .before .before .before .before in
+    let f = s .pre .0 in
+    let w = filled (p .store .ensures) in
+    let same = put-back (lays f) w (k .wipe .ensures) in
     record {
-      puts = puts-of (taken-text (s .pre .0 .held) (s .pre .0 .accepts) (p .put .ensures)) (a .put-accepted .ensures);
+      puts = puts-of (taken-text (f .holds-line) (f .line-noted .is-accepted) w) (a .put-accepted .ensures);
       out-long = puts-length (a .put-accepted .ensures);
       bytes-same = same .0;
       numbers-same = same .1;
@@ -51,7 +56,7 @@ pub put-taken-spec : {M : Type 1} → statement M
 put-taken-spec =
     tie.close
     (tie.spec
-    put-requires
+    store-requires
     put-accepted-requires
     wipe-requires
     same-length

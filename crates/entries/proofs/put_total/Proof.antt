@@ -1,3 +1,4 @@
+-- `entries::put_total` meets its contract: a space, and the total behind it. Assumes nothing.
 use mathlib.Core.Path.{ap, _∙_}
 use Rattle.entries.specs.Entry.{weightText}
 use Rattle.writer.proofs.Storing.{puts-of, puts-join}

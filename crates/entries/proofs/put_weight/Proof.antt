@@ -1,3 +1,4 @@
+-- `entries::put_weight` meets its contract: the total, or `?` and how many lack a mass. Assumes nothing.
 use mathlib.Core.Path.{_≡_}
 use mir.Syntax.{w64}
 use mir.Val.{toZ, ofZ}

@@ -5,7 +5,7 @@ use scope::tables::Tables;
 ghost use mathlib.Core.Path.{_≡_};
 ghost use mathlib.Core.Bool.{true};
 ghost use mathlib.Core.List.{List, [], _∷_, _++_};
-ghost use Prim.Native.Nat.{ℕ, _+_, _-_, _*_, _/_, _^_, _<_, _≤_};
+ghost use Prim.Native.Nat.{ℕ, _+_, _-_, _*_, _/_, _^_, _<_, _≤_, min};
 ghost use lib.IntN.{ℤ, natAbs};
 ghost use lib.ListN.{length};
 ghost use Rattle.scope.specs.Bytes.{wideLimit, dash, shutRound};
@@ -70,18 +70,32 @@ pub fn put(out: &mut [u8], at: usize, b: u8) -> usize
     at + 1
 }
 
-// A run of bytes of an area.
+// How many of n bytes an output of so many has room for, from a place on.
+fn fitting(room: usize, at: usize, n: usize) -> usize
+    requires { ⌜ at + n ≤ ceiling ⌝ }
+    ensures { λ r. ⌜ r ≡ min n (room - at) ⌝ }
+{
+    if at + n <= room {
+        return n;
+    }
+    if room <= at {
+        return 0;
+    }
+    room - at
+}
+
+// A run of bytes of an area: those that fit are stored, and all are counted.
 fn copy(from: &[u8], start: usize, n: usize, out: &mut [u8], at: usize) -> usize
     requires { ⌜ (start + n ≤ length (now from)) × (at + n ≤ ceiling) ⌝ }
     ensures { λ r. ⌜ Puts n (now (out .entry)) at (part start n (now (from .entry))) (now (out .exit)) r ⌝ }
 {
+    let m = fitting(out.len(), at, n);
     let mut i = 0;
-    let mut a = at;
-    while i < n {
-        a = put(out, a, from[start + i]);
+    while i < m {
+        out[at + i] = from[start + i];
         i += 1;
     }
-    a
+    at + n
 }
 
 // A fixed byte string.
@@ -89,7 +103,13 @@ pub fn word(w: &[u8], out: &mut [u8], at: usize) -> usize
     requires { ⌜ at + length (now w) ≤ ceiling ⌝ }
     ensures { λ r. ⌜ Puts (length (now (w .entry))) (now (out .entry)) at (now (w .entry)) (now (out .exit)) r ⌝ }
 {
-    copy(w, 0, w.len(), out, at)
+    let mut i = 0;
+    let mut a = at;
+    while i < w.len() {
+        a = put(out, a, w[i]);
+        i += 1;
+    }
+    a
 }
 
 fn digit(n: u64) -> u8

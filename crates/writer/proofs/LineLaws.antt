@@ -22,9 +22,10 @@ use Rattle.scope.specs.Kinds.{isKind}
 use Rattle.scope.specs.Lists.{keep, flat, tabled, laid}
 use Rattle.scope.specs.Layout.{sectionCode, sectionIn, residueIn, bracketIn, tablesIn, bracketsField, lastField, letterField, residuesField, sectionField}
 use Rattle.areas.specs.Bounds.{Bounds}
+use Rattle.writer.specs.declared.Shape.{Shape}
 use Rattle.writer.specs.declared.Shape.the-variants.{Counted, Curly, Square}
 use Rattle.writer.specs.Written.{Puts, WholeLine, ceiling, residueMost, residuesMost}
-use Rattle.writer.specs.Ranks.{lastRank, rankOf, rank, rankIn, Ready, rankedText, runText, Walks, residueText, Spelt, Clear, Bare, Spells}
+use Rattle.writer.specs.Ranks.{lastRank, rankOf, rank, rankIn, Ready, rankedText, runText, frontText, Walks, residueText, Spelt, Clear, Bare, Spells}
 use Rattle.writer.proofs.Storing.{stored-whole, puts-within, puts-length}
 use Rattle.writer.proofs.RankLaws.{rank-is, rank-within, tabled-from, tabled-over}
 use Rattle.writer.proofs.RunLaws.{quiet, run-one, run-empty, none-of}
@@ -350,17 +351,28 @@ module _ (bs : List ℕ) (ns : List ℤ) {m : ℕ} (e : m ≡ bracketsField bs) 
         rw w (led dash (runText Square lastRank (tabled (bracketIn bs ns) 0 (m - 1))) _ _)
 
 -- ---- the line
+module _ (bs : List ℕ) (ns : List ℤ) {q : ℕ} (c : Clear bs 0 q) where
+  none-below : (shape : Shape) (r : ℕ) → r < q → runText shape r (tablesIn bs ns .brackets) ≡ []
+  unfolding tablesIn
+  none-below shape r h = none-of bs ns shape r (bracketsField bs) (λ i l e. omega (arith, c i (omega arith) l, e))
+
+  -- where the first bracket stands in the sequence or behind it
+  pub front-none : 2 < q → [] ≡ frontText (tablesIn bs ns .brackets)
+  front-none h = rw (none-below Counted 0 (omega arith), none-below Curly 1 (omega arith), none-below Square 2 (omega arith))
+
+regrouped : (a b c d : List ℕ) → (a ++ (b ++ c)) ++ d ≡ a ++ (b ++ (c ++ d))
+regrouped a b c d = simp append-assoc
+
 pub line-text :
     (bs : List ℕ) (ns : List ℤ) → Bounds bs ns
-    → closedBy (runText Counted 0 (tablesIn bs ns .brackets)) question
-    ++ (runText Curly 1 (tablesIn bs ns .brackets)
-    ++ (closedBy (runText Square 2 (tablesIn bs ns .brackets)) dash
-    ++ (sequenceText (tablesIn bs ns .brackets) 1 (tablesIn bs ns .residues) ++ ledBy dash (runText Square lastRank (tablesIn bs ns .brackets)))))
+    → frontText (tablesIn bs ns .brackets)
+    ++ (sequenceText (tablesIn bs ns .brackets) 1 (tablesIn bs ns .residues) ++ ledBy dash (runText Square lastRank (tablesIn bs ns .brackets)))
     ≡ canonical (tablesIn bs ns)
 unfolding canonical
 line-text bs ns b =
-    rw
-    (unknown-run (tablesIn bs ns .brackets), labile-run (tablesIn bs ns .brackets), n-term-run (tablesIn bs ns .brackets), c-term-run bs ns b)
+    let ks = tablesIn bs ns .brackets in
+    rw (unknown-run ks, labile-run ks, n-term-run ks, c-term-run bs ns b)
+    (regrouped (closedBy (flat unknownText (ofKind Unknown ks)) question) (flat curlyText (ofKind Labile ks)) (closedBy (flat squareText (ofKind NTerm ks)) dash) _)
 
 pub whole-line : {k : ℕ} {c o left : List ℕ} {r : ℕ} → k ≤ ceiling → Puts k o 0 c left r → WholeLine c o left r
 whole-line {c = c} {o = o} h a =

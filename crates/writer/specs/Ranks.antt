@@ -7,9 +7,10 @@ use lib.Dec.{eqb}
 use lib.IntN.{ℤ}
 use Rattle.scope.specs.declared.grammar.Kind.the-variants.{OnResidue, OnRange}
 use Rattle.scope.specs.declared.grammar.Section.the-variants.{Plain}
+use Rattle.scope.specs.Bytes.{question, dash}
 use Rattle.scope.specs.Line.{Bracket, Residue}
 use Rattle.scope.specs.Lists.{keep, flat, tabled}
-use Rattle.scope.specs.Canonical.{unknownText, curlyText, squareText, endingAt, opening, ending, goesOn, sequenceText}
+use Rattle.scope.specs.Canonical.{unknownText, curlyText, squareText, endingAt, closedBy, opening, ending, goesOn, sequenceText}
 use Rattle.scope.specs.Layout.{sectionCode, residueIn, tablesIn, bracketsField, sectionField, kindField, lastField}
 use Rattle.scope.specs.Kinds.{kindIn}
 use Rattle.areas.specs.Bounds.{Bounds}
@@ -42,6 +43,10 @@ rankedText shape q k = cond (eqb (rank k) q) (textAs shape k) []
 -- those of a rank
 abbrev pub runText : {P : Type 0} → Shape → ℕ → List (Bracket P) → List ℕ
 runText shape q ks = flat (textAs shape) (keep (λ k. eqb (rank k) q) ks)
+
+-- what stands before the sequence
+abbrev pub frontText : {P : Type 0} → List (Bracket P) → List ℕ
+frontText ks = closedBy (runText Counted 0 ks) question ++ (runText Curly 1 ks ++ closedBy (runText Square 2 ks) dash)
 
 -- a step from bracket `from` to bracket `next`: the text t was put, with so many bytes outside brackets at most; every bracket before `next` has a
 -- rank below q

@@ -16,9 +16,9 @@ ghost use Rattle.scope.specs.Limits.{decimalLimit, residueLimit, bracketLimit, 
 ghost use Rattle.scope.specs.Layout.{isNegative, numberIn, bytesSize, textsAt, scoreIn, labelIn, valueIn, partIn, sectionIn, residueIn, bracketIn, tablesIn, bracketsField, offsetField, partsField, residuesField};
 ghost use Rattle.scope.specs.Kinds.{kindIn};
 ghost use Rattle.areas.specs.Bounds.{Bounds};
-ghost use Rattle.writer.specs.Written.{Puts, ceiling, decimalMost, fractionMost, sizeMost, numberMost, countMost, keyMost, valueMost, scoreMost, labelMost, partMost, nextMost, partsMost, betweenMost, bracketMost, residueMost, residuesMost, lineMost, numberOf, signText, numberText, scoredText, nextText, WholeLine};
+ghost use Rattle.writer.specs.Written.{Puts, ceiling, decimalMost, fractionMost, sizeMost, numberMost, countMost, keyMost, valueMost, scoreMost, labelMost, partMost, nextMost, partsMost, betweenMost, bracketMost, residueMost, residuesMost, frontMost, lineMost, numberOf, signText, numberText, scoredText, nextText, WholeLine};
 ghost use Rattle.writer.specs.Here.{BracketHere, PartHere, Room};
-ghost use Rattle.writer.specs.Ranks.{lastRank, rankOf, rankIn, orderedb, Ready, textAs, rankedText, runText, Walks, residueText, Clear, Bare, Spells, Ordered};
+ghost use Rattle.writer.specs.Ranks.{lastRank, rankOf, rankIn, orderedb, Ready, textAs, rankedText, runText, frontText, Walks, residueText, Clear, Bare, Spells, Ordered};
 
 // A number of 64 bits has at most so many digits: one, and so many more.
 pub const DIGITS: usize = 20;
@@ -54,6 +54,13 @@ const RANGE_NEXT: usize = 2;
 const UNSURE_FIRST: usize = 3;
 
 const UNSURE_NEXT: usize = 4;
+
+// The ranks before the sequence, in order: of unknown position, labile, at the N-terminus.
+const UNKNOWN_RANK: usize = 0;
+
+const LABILE_RANK: usize = 1;
+
+const N_TERM_RANK: usize = 2;
 
 // The rank of the C-terminus.
 const LAST_RANK: usize = 4 + 2 * Ledger::POSITIONS;
@@ -471,12 +478,12 @@ fn rank_of(c: usize, last: usize) -> usize
     ensures { λ r. ⌜ r ≡ rankOf (kindIn c) last ⌝ }
 {
     match c {
-        LABILE => 1,
-        N_TERM => 2,
+        LABILE => LABILE_RANK,
+        N_TERM => N_TERM_RANK,
         ON_RESIDUE => 3 + 2 * last,
         ON_RANGE => 4 + 2 * last,
         C_TERM => LAST_RANK,
-        _ => 0,
+        _ => UNKNOWN_RANK,
     }
 }
 
@@ -784,24 +791,44 @@ fn put_c_term(bytes: &[u8], numbers: &[i64], from: usize, out: &mut [u8], at: us
     pen.place
 }
 
+// What stands before the sequence: nothing where the first bracket stands in it or behind it.
+fn put_front(bytes: &[u8], numbers: &[i64], out: &mut [u8], at: usize) -> Pen
+    requires { ⌜ Ready (now bytes) (now numbers) × Room (now bytes) 0 frontMost at ⌝ }
+    ensures { λ r. ⌜ Walks (now (bytes .entry)) frontMost 0 3 (now (out .entry)) at (frontText (tablesIn (now (bytes .entry)) (now (numbers .entry)) .brackets)) (now (out .exit)) (r .place) (r .next) ⌝ }
+{
+    if N_TERM_RANK < next_rank(bytes, 0) {
+        return Pen { place: at, next: 0 };
+    }
+    let unknown = put_closed(
+        bytes,
+        numbers,
+        0,
+        UNKNOWN_RANK,
+        Shape::Counted,
+        b'?',
+        out,
+        at,
+    );
+    let a = unknown.place;
+    let i = unknown.next;
+    let labile = put_run(bytes, numbers, i, LABILE_RANK, Shape::Curly, out, a);
+    let b = labile.place;
+    let j = labile.next;
+    put_closed(bytes, numbers, j, N_TERM_RANK, Shape::Square, b'-', out, b)
+}
+
 // The canonical line from a place on, as much of it as fits into the output.
 pub fn put_line(bytes: &[u8], numbers: &[i64], out: &mut [u8], at: usize) -> usize
     requires { ⌜ Bounds (now bytes) (now numbers) × Ordered (tablesIn (now bytes) (now numbers)) × (at + lineMost ≤ ceiling) ⌝ }
     ensures { λ r. ⌜ Puts lineMost (now (out .entry)) at (canonical (tablesIn (now (bytes .entry)) (now (numbers .entry)))) (now (out .exit)) r ⌝ }
 {
-    let unknown = put_closed(bytes, numbers, 0, 0, Shape::Counted, b'?', out, at);
-    let a = unknown.place;
-    let i = unknown.next;
-    let labile = put_run(bytes, numbers, i, 1, Shape::Curly, out, a);
-    let b = labile.place;
-    let j = labile.next;
-    let start = put_closed(bytes, numbers, j, 2, Shape::Square, b'-', out, b);
-    let c = start.place;
-    let k = start.next;
-    let sequence = put_sequence(bytes, numbers, k, out, c);
-    let d = sequence.place;
-    let l = sequence.next;
-    put_c_term(bytes, numbers, l, out, d)
+    let front = put_front(bytes, numbers, out, at);
+    let a = front.place;
+    let i = front.next;
+    let sequence = put_sequence(bytes, numbers, i, out, a);
+    let b = sequence.place;
+    let j = sequence.next;
+    put_c_term(bytes, numbers, j, out, b)
 }
 
 // The canonical line, as much of it as fits into the output, and its length.

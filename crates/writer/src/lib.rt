@@ -18,7 +18,7 @@ ghost use Rattle.scope.specs.Kinds.{kindIn};
 ghost use Rattle.areas.specs.Bounds.{Bounds};
 ghost use Rattle.writer.specs.Written.{Puts, ceiling, decimalMost, fractionMost, sizeMost, numberMost, countMost, keyMost, valueMost, scoreMost, labelMost, partMost, nextMost, partsMost, betweenMost, bracketMost, residueMost, residuesMost, frontMost, lineMost, numberOf, signText, numberText, scoredText, nextText, WholeLine};
 ghost use Rattle.writer.specs.Here.{BracketHere, PartHere, Room};
-ghost use Rattle.writer.specs.Ranks.{lastRank, rankOf, rankIn, orderedb, Ready, textAs, rankedText, runText, frontText, Walks, residueText, Clear, Bare, Spells, Ordered};
+ghost use Rattle.writer.specs.Ranks.{lastRank, rankOf, rankIn, orderedb, Ready, textAs, rankedText, runText, frontText, Walks, residueText, Clear, Behind, Spells, Ordered};
 
 // A number of 64 bits has at most so many digits: one, and so many more.
 pub const DIGITS: usize = 20;
@@ -700,34 +700,47 @@ fn next_rank(bytes: &[u8], j: usize) -> usize
     LAST_RANK
 }
 
-// Whether the residue with index p, of n, stands by itself and its rank is below q.
-fn is_bare(bytes: &[u8], p: usize, n: usize, q: usize) -> bool
-    requires { ⌜ (bytesSize ≤ length (now bytes)) × (n ≤ residueLimit) ⌝ }
-    ensures { λ r. ⌜ (r ≡ true → Bare (now (bytes .entry)) p n q) ⌝ }
+// How many residues, of n, have a rank below q: that of the residue with index i is 5 + 2 * i.
+fn ranked_below(n: usize, q: usize) -> usize
+    ensures { λ r. ⌜ (r ≤ n) × ((i : ℕ) → i < r → 5 + 2 * i < q) ⌝ }
 {
-    if p < n {
-        if 5 + 2 * p < q {
-            return areas::section(bytes, p) == PLAIN;
-        }
+    if q < 4 {
+        return 0;
     }
-    false
+    let e = (q - 4) / 2;
+    if e < n {
+        return e;
+    }
+    n
 }
 
-// The residues from index p on that stand by themselves, as far as their ranks are below q.
-fn put_letters(bytes: &[u8], p: usize, n: usize, q: usize, out: &mut [u8], at: usize) -> Pen
-    requires { ⌜ (bytesSize ≤ length (now bytes)) × (n ≤ residueLimit) × (at + (n - p) ≤ ceiling) ⌝ }
-    ensures { λ r. ⌜ (p ≤ r .next) × Spells (now (bytes .entry)) n q (now (out .entry)) p at (now (out .exit)) (r .next) (r .place) ⌝ }
+// The residues from index p on, before index e, as far as they stand by themselves.
+fn put_letters(bytes: &[u8], p: usize, e: usize, out: &mut [u8], at: usize) -> Pen
+    requires { ⌜ (bytesSize ≤ length (now bytes)) × (e ≤ residueLimit) × (at + (e - p) ≤ ceiling) ⌝ }
+    ensures { λ r. ⌜ (p ≤ r .next) × ((ns : List ℤ) (n j : ℕ) → e ≤ n → Behind (now (bytes .entry)) j e → Spells (now (bytes .entry)) ns n j (now (out .entry)) p at (now (out .exit)) (r .next) (r .place)) ⌝ }
 {
     let mut i = p;
     let mut a = at;
-    while is_bare(bytes, i, n, q) {
+    while i < e {
+        if areas::section(bytes, i) != PLAIN {
+            return Pen { place: a, next: i };
+        }
         a = put(out, a, areas::letter(bytes, i));
         i += 1;
     }
     Pen { place: a, next: i }
 }
 
-// The sequence.
+// The residues from index p on, of n, that stand by themselves and before bracket j.
+fn put_bare(bytes: &[u8], p: usize, n: usize, j: usize, out: &mut [u8], at: usize) -> Pen
+    requires { ⌜ (bytesSize ≤ length (now bytes)) × (bracketsField (now bytes) ≤ bracketLimit) × (n ≤ residueLimit) × (at + (n - p) ≤ ceiling) ⌝ }
+    ensures { λ r. ⌜ (p ≤ r .next) × ((ns : List ℤ) → Ready (now (bytes .entry)) ns → Spells (now (bytes .entry)) ns n j (now (out .entry)) p at (now (out .exit)) (r .next) (r .place)) ⌝ }
+{
+    let e = ranked_below(n, next_rank(bytes, j));
+    put_letters(bytes, p, e, out, at)
+}
+
+// The sequence: residues by themselves, then one with a section or brackets, and so on.
 fn put_sequence(bytes: &[u8], numbers: &[i64], from: usize, out: &mut [u8], at: usize) -> Pen
     requires { ⌜ Ready (now bytes) (now numbers) × (from ≤ bracketsField (now bytes)) × ((k : ℕ) → k < from → rankIn (now bytes) k < 3) × Room (now bytes) from residuesMost at ⌝ }
     ensures { λ r. ⌜ Walks (now (bytes .entry)) residuesMost from lastRank (now (out .entry)) at (sequenceText (tablesIn (now (bytes .entry)) (now (numbers .entry)) .brackets) 1 (tablesIn (now (bytes .entry)) (now (numbers .entry)) .residues)) (now (out .exit)) (r .place) (r .next) ⌝ }
@@ -737,12 +750,16 @@ fn put_sequence(bytes: &[u8], numbers: &[i64], from: usize, out: &mut [u8], at: 
     let mut a = at;
     let mut j = from;
     while p < n {
-        let pen = put_residue(bytes, numbers, p, n, j, out, a);
+        let letters = put_bare(bytes, p, n, j, out, a);
+        let e = letters.place;
+        let i = letters.next;
+        if n <= i {
+            return Pen { place: e, next: j };
+        }
+        let pen = put_residue(bytes, numbers, i, n, j, out, e);
+        a = pen.place;
         j = pen.next;
-        let place = pen.place;
-        let letters = put_letters(bytes, p + 1, n, next_rank(bytes, j), out, place);
-        a = letters.place;
-        p = letters.next;
+        p = i + 1;
     }
     Pen { place: a, next: j }
 }

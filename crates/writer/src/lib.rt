@@ -3,7 +3,6 @@ use scope::answers::Ledger;
 use scope::tables::Number;
 use scope::tables::Tables;
 ghost use mathlib.Core.Path.{_≡_};
-ghost use mathlib.Core.Bool.{true};
 ghost use mathlib.Core.List.{List, [], _∷_, _++_};
 ghost use Prim.Native.Nat.{ℕ, _+_, _-_, _*_, _/_, _^_, _<_, _≤_, min};
 ghost use lib.IntN.{ℤ, natAbs};
@@ -119,6 +118,7 @@ pub fn word(w: &[u8], out: &mut [u8], at: usize) -> usize
     a
 }
 
+// The byte of a digit.
 fn digit(n: u64) -> u8
     requires { ⌜ n < 10 ⌝ }
     ensures { λ r. ⌜ r ≡ 48 + n ⌝ }
@@ -126,6 +126,7 @@ fn digit(n: u64) -> u8
     48 + n as u8
 }
 
+// One digit.
 fn put_digit(n: u64, out: &mut [u8], at: usize) -> usize
     requires { ⌜ (n < 10) × (at + 1 ≤ ceiling) ⌝ }
     ensures { λ r. ⌜ Puts 1 (now (out .entry)) at ((48 + n) ∷ []) (now (out .exit)) r ⌝ }
@@ -188,6 +189,7 @@ pub fn magnitude(m: i64) -> u64
     m as u64
 }
 
+// Whether a number is below zero.
 fn is_minus(m: i64) -> bool
     ensures { λ r. ⌜ r ≡ isNegative m ⌝ }
 {
@@ -288,6 +290,7 @@ fn put_key(c: usize, out: &mut [u8], at: usize) -> usize
     }
 }
 
+// The longer keys of accepted lines.
 fn put_key_word(c: usize, out: &mut [u8], at: usize) -> usize
     requires { ⌜ (8 ≤ c) × (at + keyMost ≤ ceiling) ⌝ }
     ensures { λ r. ⌜ Puts keyMost (now (out .entry)) at (written (keyIn c)) (now (out .exit)) r ⌝ }
@@ -487,6 +490,7 @@ fn rank_of(c: usize, last: usize) -> usize
     }
 }
 
+// The rank of bracket k.
 fn rank_at(bytes: &[u8], k: usize) -> usize
     requires { ⌜ (bytesSize ≤ length (now bytes)) × (k < bracketLimit) ⌝ }
     ensures { λ r. ⌜ r ≡ rankIn (now (bytes .entry)) k ⌝ }
@@ -585,6 +589,7 @@ fn put_opening(c: usize, out: &mut [u8], at: usize) -> usize
     at
 }
 
+// Whether a residue with section c goes on with a group.
 fn is_next(c: usize) -> bool
     ensures { λ r. ⌜ r ≡ isNext (sectionIn c) ⌝ }
 {

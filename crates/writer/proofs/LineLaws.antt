@@ -22,13 +22,15 @@ use Rattle.scope.specs.Kinds.{isKind}
 use Rattle.scope.specs.Lists.{keep, flat, tabled, laid}
 use Rattle.scope.specs.Layout.{sectionCode, sectionIn, residueIn, bracketIn, tablesIn, bracketsField, lastField, letterField, residuesField, sectionField}
 use Rattle.areas.specs.Bounds.{Bounds}
+use Rattle.writer.specs.declared.Shape.{Shape}
 use Rattle.writer.specs.declared.Shape.the-variants.{Counted, Curly, Square}
 use Rattle.writer.specs.Written.{Puts, WholeLine, ceiling, residueMost, residuesMost}
-use Rattle.writer.specs.Ranks.{lastRank, rankOf, rank, rankIn, Ready, rankedText, runText, Walks, residueText, Spelt, Clear, Bare, Spells}
+use Rattle.writer.specs.Here.{Room}
+use Rattle.writer.specs.Ranks.{lastRank, rankOf, rank, rankIn, Ready, rankedText, runText, frontText, Walks, residueText, Spelt, Clear, Behind, Spells}
 use Rattle.writer.proofs.Storing.{stored-whole, puts-within, puts-length}
 use Rattle.writer.proofs.RankLaws.{rank-is, rank-within, tabled-from, tabled-over}
 use Rattle.writer.proofs.RunLaws.{quiet, run-one, run-empty, none-of}
-use Rattle.writer.proofs.Walking.{walks-of, walks-still, walks-then, walks-before, walks-up}
+use Rattle.writer.proofs.Walking.{walks-of, walks-still, walks-then, walks-before, walks-up, room-after}
 use Rattle.basics.specs.Lists.{keep-same}
 
 -- ---- sections
@@ -247,22 +249,26 @@ module _ (bs : List ℕ) (ns : List ℤ) (n from : ℕ) (o : List ℕ) (at : ℕ
           walks = walks-then (residueMost * (p + 1)) (omega arith) (s .walks) w;
         }
 
+    -- for the residues that are left
+    pub spelt-room : n ≤ residueLimit → Room bs from residuesMost at → Room bs j (residueMost * (n - p)) a
+    spelt-room h r = room-after (omega (arith, s .low)) (s .walks) r
+
     -- a residue by itself, with no bracket
     pub spelt-bare :
-        {q b : ℕ} → Clear bs j q → Bare bs p n q → b ≡ letterField bs p → {out′ : List ℕ} {a′ : ℕ} → Puts 1 out a (b ∷ []) out′ a′
-        → Spelt bs ns n from o at out′ (p + 1) j a′
+        {e b : ℕ} → p < e → e ≤ n → Behind bs j e → sectionField bs p ≡ sectionCode Plain → b ≡ letterField bs p → {out′ : List ℕ} {a′ : ℕ}
+        → Puts 1 out a (b ∷ []) out′ a′ → Spelt bs ns n from o at out′ (p + 1) j a′
     unfolding tablesIn
-    spelt-bare {b = b} c h f g =
+    spelt-bare {b = b} h l behind plain f g =
         let w = s .walks in
         let ks = tablesIn bs ns .brackets in
         let none : runText Square (5 + 2 * p) ks ≡ [] =
         none-of bs ns Square (5 + 2 * p) (bracketsField bs)
-        (λ i l e.
-        by-test (leb j i)
-        (λ t. omega (arith, c i (leb-true j i t) l, h .below, e))
-        (λ t. omega (arith, w .below i (omega (arith, leb-false j i t)), e))) in
-        spelt-more (h .here)
-        (walks-of (ap (λ t. b ∷ t) (sym none) ∙ residue-plain bs ks p (tabled (residueIn bs) (p + 1) (n - (p + 1))) refl f (h .plain))
+        (λ k m e.
+        by-test (leb j k)
+        (λ t. omega (arith, behind p k h (leb-true j k t) m, e))
+        (λ t. omega (arith, w .below k (omega (arith, leb-false j k t)), e))) in
+        spelt-more (omega arith)
+        (walks-of (ap (λ t. b ∷ t) (sym none) ∙ residue-plain bs ks p (tabled (residueIn bs) (p + 1) (n - (p + 1))) refl f plain)
         (walks-still (puts-within (omega arith) g) (w .within) (λ i l. omega (arith, w .below i l))))
 
     pub spelt-over :
@@ -280,26 +286,31 @@ module _ (bs : List ℕ) (ns : List ℤ) (n from : ℕ) (o : List ℕ) (at : ℕ
         (walks-up (omega (arith, s .low)) (omega (arith, s .low)) (s .walks))
 
 -- the residues from index p up to index i stand by themselves, and are written
-pub record Lettered (bs : List ℕ) (n q : ℕ) (o : List ℕ) (p at : ℕ) (out : List ℕ) (i a : ℕ) : Type 0 where
+pub record Lettered (bs : List ℕ) (e : ℕ) (o : List ℕ) (p at : ℕ) (out : List ℕ) (i a : ℕ) : Type 0 where
   pub forth : p ≤ i
   pub near : a ≡ at + (i - p)
   pub kept : length out ≡ length o
-  pub spells : Spells bs n q o p at out i a
+  pub spells : (ns : List ℤ) (n j : ℕ) → e ≤ n → Behind bs j e → Spells bs ns n j o p at out i a
 
-module _ (bs : List ℕ) (n q : ℕ) (o : List ℕ) (p at : ℕ) where
-  pub lettered-start : Lettered bs n q o p at o p at
-  lettered-start = record { forth = omega arith; near = omega arith; kept = refl; spells = λ ns from j first start c s. s }
+module _ (bs : List ℕ) (e : ℕ) (o : List ℕ) (p at : ℕ) where
+  pub lettered-start : Lettered bs e o p at o p at
+  lettered-start = record { forth = omega arith; near = omega arith; kept = refl; spells = λ ns n j l behind from first start s. s }
 
   pub lettered-more :
-      {out : List ℕ} {i a b : ℕ} → Lettered bs n q o p at out i a → Bare bs i n q → b ≡ letterField bs i → {out′ : List ℕ} {a′ : ℕ}
-      → Puts 1 out a (b ∷ []) out′ a′ → Lettered bs n q o p at out′ (i + 1) a′
-  lettered-more l h f g =
+      {out : List ℕ} {i a c b : ℕ} → Lettered bs e o p at out i a → i < e → c ≡ sectionField bs i → c ≡ sectionCode Plain → b ≡ letterField bs i
+      → {out′ : List ℕ} {a′ : ℕ} → Puts 1 out a (b ∷ []) out′ a′ → Lettered bs e o p at out′ (i + 1) a′
+  lettered-more l h f plain b g =
       record {
         forth = omega (arith, l .forth);
         near = omega (arith, l .forth, l .near, g .ends);
         kept = puts-length g ∙ l .kept;
-        spells = λ ns from j first start c s. spelt-bare bs ns n from first start (l .spells ns from j first start c s) c h f g;
+        spells = λ ns n j fits behind from first start s.
+            spelt-bare bs ns n from first start (l .spells ns n j fits behind from first start s) h fits behind (sym f ∙ plain) b g;
       }
+
+-- brackets of rank q and above stand behind the residues whose rank is below q
+pub behind-clear : (bs : List ℕ) {j q e : ℕ} → Clear bs j q → ((i : ℕ) → i < e → 5 + 2 * i < q) → Behind bs j e
+behind-clear bs c h = λ i k l g w. omega (arith, c k g w, h i l)
 
 -- ---- what closes and what leads
 closed-none : (t : List ℕ) (b : ℕ) → length t ≡ 0 → t ≡ closedBy t b
@@ -350,17 +361,28 @@ module _ (bs : List ℕ) (ns : List ℤ) {m : ℕ} (e : m ≡ bracketsField bs) 
         rw w (led dash (runText Square lastRank (tabled (bracketIn bs ns) 0 (m - 1))) _ _)
 
 -- ---- the line
+module _ (bs : List ℕ) (ns : List ℤ) {q : ℕ} (c : Clear bs 0 q) where
+  none-below : (shape : Shape) (r : ℕ) → r < q → runText shape r (tablesIn bs ns .brackets) ≡ []
+  unfolding tablesIn
+  none-below shape r h = none-of bs ns shape r (bracketsField bs) (λ i l e. omega (arith, c i (omega arith) l, e))
+
+  -- where the first bracket stands in the sequence or behind it
+  pub front-none : 2 < q → [] ≡ frontText (tablesIn bs ns .brackets)
+  front-none h = rw (none-below Counted 0 (omega arith), none-below Curly 1 (omega arith), none-below Square 2 (omega arith))
+
+regrouped : (a b c d : List ℕ) → (a ++ (b ++ c)) ++ d ≡ a ++ (b ++ (c ++ d))
+regrouped a b c d = simp append-assoc
+
 pub line-text :
     (bs : List ℕ) (ns : List ℤ) → Bounds bs ns
-    → closedBy (runText Counted 0 (tablesIn bs ns .brackets)) question
-    ++ (runText Curly 1 (tablesIn bs ns .brackets)
-    ++ (closedBy (runText Square 2 (tablesIn bs ns .brackets)) dash
-    ++ (sequenceText (tablesIn bs ns .brackets) 1 (tablesIn bs ns .residues) ++ ledBy dash (runText Square lastRank (tablesIn bs ns .brackets)))))
+    → frontText (tablesIn bs ns .brackets)
+    ++ (sequenceText (tablesIn bs ns .brackets) 1 (tablesIn bs ns .residues) ++ ledBy dash (runText Square lastRank (tablesIn bs ns .brackets)))
     ≡ canonical (tablesIn bs ns)
 unfolding canonical
 line-text bs ns b =
-    rw
-    (unknown-run (tablesIn bs ns .brackets), labile-run (tablesIn bs ns .brackets), n-term-run (tablesIn bs ns .brackets), c-term-run bs ns b)
+    let ks = tablesIn bs ns .brackets in
+    rw (unknown-run ks, labile-run ks, n-term-run ks, c-term-run bs ns b)
+    (regrouped (closedBy (flat unknownText (ofKind Unknown ks)) question) (flat curlyText (ofKind Labile ks)) (closedBy (flat squareText (ofKind NTerm ks)) dash) _)
 
 pub whole-line : {k : ℕ} {c o left : List ℕ} {r : ℕ} → k ≤ ceiling → Puts k o 0 c left r → WholeLine c o left r
 whole-line {c = c} {o = o} h a =

@@ -5,7 +5,7 @@ use Prim.Native.Nat.{ℕ, _+_, _-_, _*_, _≤_, _<_}
 use native.Mathlib.Omega.{arith}
 use Rattle.scope.specs.Limits.{bracketLimit}
 use Rattle.scope.specs.Layout.{bracketsField}
-use Rattle.writer.specs.Written.{Puts, ceiling, bracketMost, residuesMost, lineMost}
+use Rattle.writer.specs.Written.{Puts, ceiling, bracketMost, residuesMost, frontMost, lineMost}
 use Rattle.writer.specs.Here.{Room}
 use Rattle.writer.specs.Ranks.{rankIn, Walks}
 use Rattle.writer.proofs.Storing.{puts-of, puts-within, puts-join}
@@ -55,7 +55,7 @@ module _ {bs : List ℕ} where
   room-less h r = record { fits = omega (arith, r .fits) }
 
   -- for a whole line
-  pub room-line : {at : ℕ} → bracketsField bs ≤ bracketLimit → at + lineMost ≤ ceiling → Room bs 0 (residuesMost + 3) at
+  pub room-line : {at : ℕ} → bracketsField bs ≤ bracketLimit → at + lineMost ≤ ceiling → Room bs 0 (residuesMost + (frontMost + 1)) at
   room-line h l = record { fits = omega arith }
 
   pub room-behind :

@@ -6,11 +6,11 @@ use Prim.Native.Nat.{ℕ, _+_, _-_, _*_, _≤_, _<_}
 use lib.Dec.{eqb}
 use lib.IntN.{ℤ}
 use Rattle.scope.specs.declared.grammar.Kind.the-variants.{OnResidue, OnRange}
-use Rattle.scope.specs.declared.grammar.Section.the-variants.{Plain}
+use Rattle.scope.specs.Bytes.{question, dash}
 use Rattle.scope.specs.Line.{Bracket, Residue}
 use Rattle.scope.specs.Lists.{keep, flat, tabled}
-use Rattle.scope.specs.Canonical.{unknownText, curlyText, squareText, endingAt, opening, ending, goesOn, sequenceText}
-use Rattle.scope.specs.Layout.{sectionCode, residueIn, tablesIn, bracketsField, sectionField, kindField, lastField}
+use Rattle.scope.specs.Canonical.{unknownText, curlyText, squareText, endingAt, closedBy, opening, ending, goesOn, sequenceText}
+use Rattle.scope.specs.Layout.{residueIn, tablesIn, bracketsField, kindField, lastField}
 use Rattle.scope.specs.Kinds.{kindIn}
 use Rattle.areas.specs.Bounds.{Bounds}
 use Rattle.writer.specs.declared.Shape.{Shape}
@@ -43,6 +43,10 @@ rankedText shape q k = cond (eqb (rank k) q) (textAs shape k) []
 abbrev pub runText : {P : Type 0} → Shape → ℕ → List (Bracket P) → List ℕ
 runText shape q ks = flat (textAs shape) (keep (λ k. eqb (rank k) q) ks)
 
+-- what stands before the sequence
+abbrev pub frontText : {P : Type 0} → List (Bracket P) → List ℕ
+frontText ks = closedBy (runText Counted 0 ks) question ++ (runText Curly 1 ks ++ closedBy (runText Square 2 ks) dash)
+
 -- a step from bracket `from` to bracket `next`: the text t was put, with so many bytes outside brackets at most; every bracket before `next` has a
 -- rank below q
 pub record Walks (bs : List ℕ) (more from q : ℕ) (o : List ℕ) (at : ℕ) (t left : List ℕ) (place next : ℕ) : Type 0 where
@@ -72,13 +76,11 @@ pub record Spelt (bs : List ℕ) (ns : List ℤ) (n from : ℕ) (o : List ℕ) (
 abbrev pub Clear : List ℕ → ℕ → ℕ → Type 0
 Clear bs j q = (k : ℕ) → j ≤ k → k < bracketsField bs → q ≤ rankIn bs k
 
--- the residue with index p, of n, stands by itself, and the rank of its brackets is below q
-pub record Bare (bs : List ℕ) (p n q : ℕ) : Type 0 where
-  pub here : p < n
-  pub below : 5 + 2 * p < q
-  pub plain : sectionField bs p ≡ sectionCode Plain
+-- every bracket from bracket j on stands behind the first e residues and their brackets
+abbrev pub Behind : List ℕ → ℕ → ℕ → Type 0
+Behind bs j e = (i k : ℕ) → i < e → j ≤ k → k < bracketsField bs → 5 + 2 * i < rankIn bs k
 
--- where the first p residues were written, the first i are
-abbrev pub Spells : List ℕ → ℕ → ℕ → List ℕ → ℕ → ℕ → List ℕ → ℕ → ℕ → Type 0
-Spells bs n q o p at left i a =
-    (ns : List ℤ) (from j : ℕ) (first : List ℕ) (start : ℕ) → Clear bs j q → Spelt bs ns n from first start o p j at → Spelt bs ns n from first start left i j a
+-- where the first p residues were written, the first i are, with no bracket more than the first j
+abbrev pub Spells : List ℕ → List ℤ → ℕ → ℕ → List ℕ → ℕ → ℕ → List ℕ → ℕ → ℕ → Type 0
+Spells bs ns n j o p at left i a =
+    (from : ℕ) (first : List ℕ) (start : ℕ) → Spelt bs ns n from first start o p j at → Spelt bs ns n from first start left i j a

@@ -91,9 +91,13 @@ residueMost = 4
 abbrev pub residuesMost : ℕ
 residuesMost = residueMost * residueLimit
 
--- the canonical line: besides brackets and residues `?`, and `-` twice
+-- what stands before the sequence, outside brackets: `?` and `-`
+abbrev pub frontMost : ℕ
+frontMost = 2
+
+-- the canonical line: besides all these `-` before the C-terminus
 abbrev pub lineMost : ℕ
-lineMost = bracketsMost + (residuesMost + 3)
+lineMost = bracketsMost + (residuesMost + (frontMost + 1))
 
 -- ---- what is written
 -- the number of the tables with this sign, these digits and so many decimals

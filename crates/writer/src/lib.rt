@@ -3,9 +3,8 @@ use scope::answers::Ledger;
 use scope::tables::Number;
 use scope::tables::Tables;
 ghost use mathlib.Core.Path.{_≡_};
-ghost use mathlib.Core.Bool.{true};
 ghost use mathlib.Core.List.{List, [], _∷_, _++_};
-ghost use Prim.Native.Nat.{ℕ, _+_, _-_, _*_, _/_, _^_, _<_, _≤_};
+ghost use Prim.Native.Nat.{ℕ, _+_, _-_, _*_, _/_, _^_, _<_, _≤_, min};
 ghost use lib.IntN.{ℤ, natAbs};
 ghost use lib.ListN.{length};
 ghost use Rattle.scope.specs.Bytes.{wideLimit, dash, shutRound};
@@ -16,9 +15,9 @@ ghost use Rattle.scope.specs.Limits.{decimalLimit, residueLimit, bracketLimit, 
 ghost use Rattle.scope.specs.Layout.{isNegative, numberIn, bytesSize, textsAt, scoreIn, labelIn, valueIn, partIn, sectionIn, residueIn, bracketIn, tablesIn, bracketsField, offsetField, partsField, residuesField};
 ghost use Rattle.scope.specs.Kinds.{kindIn};
 ghost use Rattle.areas.specs.Bounds.{Bounds};
-ghost use Rattle.writer.specs.Written.{Puts, ceiling, decimalMost, fractionMost, sizeMost, numberMost, countMost, keyMost, valueMost, scoreMost, labelMost, partMost, nextMost, partsMost, betweenMost, bracketMost, residueMost, residuesMost, lineMost, numberOf, signText, numberText, scoredText, nextText, WholeLine};
+ghost use Rattle.writer.specs.Written.{Puts, ceiling, decimalMost, fractionMost, sizeMost, numberMost, countMost, keyMost, valueMost, scoreMost, labelMost, partMost, nextMost, partsMost, betweenMost, bracketMost, residueMost, residuesMost, frontMost, lineMost, numberOf, signText, numberText, scoredText, nextText, WholeLine};
 ghost use Rattle.writer.specs.Here.{BracketHere, PartHere, Room};
-ghost use Rattle.writer.specs.Ranks.{lastRank, rankOf, rankIn, orderedb, Ready, textAs, rankedText, runText, Walks, residueText, Clear, Bare, Spells, Ordered};
+ghost use Rattle.writer.specs.Ranks.{lastRank, rankOf, rankIn, orderedb, Ready, textAs, rankedText, runText, frontText, Walks, residueText, Clear, Behind, Spells, Ordered};
 
 // A number of 64 bits has at most so many digits: one, and so many more.
 pub const DIGITS: usize = 20;
@@ -55,6 +54,13 @@ const UNSURE_FIRST: usize = 3;
 
 const UNSURE_NEXT: usize = 4;
 
+// The ranks before the sequence, in order: of unknown position, labile, at the N-terminus.
+const UNKNOWN_RANK: usize = 0;
+
+const LABILE_RANK: usize = 1;
+
+const N_TERM_RANK: usize = 2;
+
 // The rank of the C-terminus.
 const LAST_RANK: usize = 4 + 2 * Ledger::POSITIONS;
 
@@ -70,18 +76,32 @@ pub fn put(out: &mut [u8], at: usize, b: u8) -> usize
     at + 1
 }
 
-// A run of bytes of an area.
+// How many of n bytes an output of so many has room for, from a place on.
+fn fitting(room: usize, at: usize, n: usize) -> usize
+    requires { ⌜ at + n ≤ ceiling ⌝ }
+    ensures { λ r. ⌜ r ≡ min n (room - at) ⌝ }
+{
+    if at + n <= room {
+        return n;
+    }
+    if room <= at {
+        return 0;
+    }
+    room - at
+}
+
+// A run of bytes of an area: those that fit are stored, and all are counted.
 fn copy(from: &[u8], start: usize, n: usize, out: &mut [u8], at: usize) -> usize
     requires { ⌜ (start + n ≤ length (now from)) × (at + n ≤ ceiling) ⌝ }
     ensures { λ r. ⌜ Puts n (now (out .entry)) at (part start n (now (from .entry))) (now (out .exit)) r ⌝ }
 {
+    let m = fitting(out.len(), at, n);
     let mut i = 0;
-    let mut a = at;
-    while i < n {
-        a = put(out, a, from[start + i]);
+    while i < m {
+        out[at + i] = from[start + i];
         i += 1;
     }
-    a
+    at + n
 }
 
 // A fixed byte string.
@@ -89,9 +109,16 @@ pub fn word(w: &[u8], out: &mut [u8], at: usize) -> usize
     requires { ⌜ at + length (now w) ≤ ceiling ⌝ }
     ensures { λ r. ⌜ Puts (length (now (w .entry))) (now (out .entry)) at (now (w .entry)) (now (out .exit)) r ⌝ }
 {
-    copy(w, 0, w.len(), out, at)
+    let mut i = 0;
+    let mut a = at;
+    while i < w.len() {
+        a = put(out, a, w[i]);
+        i += 1;
+    }
+    a
 }
 
+// The byte of a digit.
 fn digit(n: u64) -> u8
     requires { ⌜ n < 10 ⌝ }
     ensures { λ r. ⌜ r ≡ 48 + n ⌝ }
@@ -99,6 +126,7 @@ fn digit(n: u64) -> u8
     48 + n as u8
 }
 
+// One digit.
 fn put_digit(n: u64, out: &mut [u8], at: usize) -> usize
     requires { ⌜ (n < 10) × (at + 1 ≤ ceiling) ⌝ }
     ensures { λ r. ⌜ Puts 1 (now (out .entry)) at ((48 + n) ∷ []) (now (out .exit)) r ⌝ }
@@ -161,6 +189,7 @@ pub fn magnitude(m: i64) -> u64
     m as u64
 }
 
+// Whether a number is below zero.
 fn is_minus(m: i64) -> bool
     ensures { λ r. ⌜ r ≡ isNegative m ⌝ }
 {
@@ -261,6 +290,7 @@ fn put_key(c: usize, out: &mut [u8], at: usize) -> usize
     }
 }
 
+// The longer keys of accepted lines.
 fn put_key_word(c: usize, out: &mut [u8], at: usize) -> usize
     requires { ⌜ (8 ≤ c) × (at + keyMost ≤ ceiling) ⌝ }
     ensures { λ r. ⌜ Puts keyMost (now (out .entry)) at (written (keyIn c)) (now (out .exit)) r ⌝ }
@@ -451,15 +481,16 @@ fn rank_of(c: usize, last: usize) -> usize
     ensures { λ r. ⌜ r ≡ rankOf (kindIn c) last ⌝ }
 {
     match c {
-        LABILE => 1,
-        N_TERM => 2,
+        LABILE => LABILE_RANK,
+        N_TERM => N_TERM_RANK,
         ON_RESIDUE => 3 + 2 * last,
         ON_RANGE => 4 + 2 * last,
         C_TERM => LAST_RANK,
-        _ => 0,
+        _ => UNKNOWN_RANK,
     }
 }
 
+// The rank of bracket k.
 fn rank_at(bytes: &[u8], k: usize) -> usize
     requires { ⌜ (bytesSize ≤ length (now bytes)) × (k < bracketLimit) ⌝ }
     ensures { λ r. ⌜ r ≡ rankIn (now (bytes .entry)) k ⌝ }
@@ -558,6 +589,7 @@ fn put_opening(c: usize, out: &mut [u8], at: usize) -> usize
     at
 }
 
+// Whether a residue with section c goes on with a group.
 fn is_next(c: usize) -> bool
     ensures { λ r. ⌜ r ≡ isNext (sectionIn c) ⌝ }
 {
@@ -673,34 +705,47 @@ fn next_rank(bytes: &[u8], j: usize) -> usize
     LAST_RANK
 }
 
-// Whether the residue with index p, of n, stands by itself and its rank is below q.
-fn is_bare(bytes: &[u8], p: usize, n: usize, q: usize) -> bool
-    requires { ⌜ (bytesSize ≤ length (now bytes)) × (n ≤ residueLimit) ⌝ }
-    ensures { λ r. ⌜ (r ≡ true → Bare (now (bytes .entry)) p n q) ⌝ }
+// How many residues, of n, have a rank below q: that of the residue with index i is 5 + 2 * i.
+fn ranked_below(n: usize, q: usize) -> usize
+    ensures { λ r. ⌜ (r ≤ n) × ((i : ℕ) → i < r → 5 + 2 * i < q) ⌝ }
 {
-    if p < n {
-        if 5 + 2 * p < q {
-            return areas::section(bytes, p) == PLAIN;
-        }
+    if q < 4 {
+        return 0;
     }
-    false
+    let e = (q - 4) / 2;
+    if e < n {
+        return e;
+    }
+    n
 }
 
-// The residues from index p on that stand by themselves, as far as their ranks are below q.
-fn put_letters(bytes: &[u8], p: usize, n: usize, q: usize, out: &mut [u8], at: usize) -> Pen
-    requires { ⌜ (bytesSize ≤ length (now bytes)) × (n ≤ residueLimit) × (at + (n - p) ≤ ceiling) ⌝ }
-    ensures { λ r. ⌜ (p ≤ r .next) × Spells (now (bytes .entry)) n q (now (out .entry)) p at (now (out .exit)) (r .next) (r .place) ⌝ }
+// The residues from index p on, before index e, as far as they stand by themselves.
+fn put_letters(bytes: &[u8], p: usize, e: usize, out: &mut [u8], at: usize) -> Pen
+    requires { ⌜ (bytesSize ≤ length (now bytes)) × (e ≤ residueLimit) × (at + (e - p) ≤ ceiling) ⌝ }
+    ensures { λ r. ⌜ (p ≤ r .next) × ((ns : List ℤ) (n j : ℕ) → e ≤ n → Behind (now (bytes .entry)) j e → Spells (now (bytes .entry)) ns n j (now (out .entry)) p at (now (out .exit)) (r .next) (r .place)) ⌝ }
 {
     let mut i = p;
     let mut a = at;
-    while is_bare(bytes, i, n, q) {
+    while i < e {
+        if areas::section(bytes, i) != PLAIN {
+            return Pen { place: a, next: i };
+        }
         a = put(out, a, areas::letter(bytes, i));
         i += 1;
     }
     Pen { place: a, next: i }
 }
 
-// The sequence.
+// The residues from index p on, of n, that stand by themselves and before bracket j.
+fn put_bare(bytes: &[u8], p: usize, n: usize, j: usize, out: &mut [u8], at: usize) -> Pen
+    requires { ⌜ (bytesSize ≤ length (now bytes)) × (bracketsField (now bytes) ≤ bracketLimit) × (n ≤ residueLimit) × (at + (n - p) ≤ ceiling) ⌝ }
+    ensures { λ r. ⌜ (p ≤ r .next) × ((ns : List ℤ) → Ready (now (bytes .entry)) ns → Spells (now (bytes .entry)) ns n j (now (out .entry)) p at (now (out .exit)) (r .next) (r .place)) ⌝ }
+{
+    let e = ranked_below(n, next_rank(bytes, j));
+    put_letters(bytes, p, e, out, at)
+}
+
+// The sequence: residues by themselves, then one with a section or brackets, and so on.
 fn put_sequence(bytes: &[u8], numbers: &[i64], from: usize, out: &mut [u8], at: usize) -> Pen
     requires { ⌜ Ready (now bytes) (now numbers) × (from ≤ bracketsField (now bytes)) × ((k : ℕ) → k < from → rankIn (now bytes) k < 3) × Room (now bytes) from residuesMost at ⌝ }
     ensures { λ r. ⌜ Walks (now (bytes .entry)) residuesMost from lastRank (now (out .entry)) at (sequenceText (tablesIn (now (bytes .entry)) (now (numbers .entry)) .brackets) 1 (tablesIn (now (bytes .entry)) (now (numbers .entry)) .residues)) (now (out .exit)) (r .place) (r .next) ⌝ }
@@ -710,12 +755,16 @@ fn put_sequence(bytes: &[u8], numbers: &[i64], from: usize, out: &mut [u8], at: 
     let mut a = at;
     let mut j = from;
     while p < n {
-        let pen = put_residue(bytes, numbers, p, n, j, out, a);
+        let letters = put_bare(bytes, p, n, j, out, a);
+        let e = letters.place;
+        let i = letters.next;
+        if n <= i {
+            return Pen { place: e, next: j };
+        }
+        let pen = put_residue(bytes, numbers, i, n, j, out, e);
+        a = pen.place;
         j = pen.next;
-        let place = pen.place;
-        let letters = put_letters(bytes, p + 1, n, next_rank(bytes, j), out, place);
-        a = letters.place;
-        p = letters.next;
+        p = i + 1;
     }
     Pen { place: a, next: j }
 }
@@ -764,24 +813,44 @@ fn put_c_term(bytes: &[u8], numbers: &[i64], from: usize, out: &mut [u8], at: us
     pen.place
 }
 
+// What stands before the sequence: nothing where the first bracket stands in it or behind it.
+fn put_front(bytes: &[u8], numbers: &[i64], out: &mut [u8], at: usize) -> Pen
+    requires { ⌜ Ready (now bytes) (now numbers) × Room (now bytes) 0 frontMost at ⌝ }
+    ensures { λ r. ⌜ Walks (now (bytes .entry)) frontMost 0 3 (now (out .entry)) at (frontText (tablesIn (now (bytes .entry)) (now (numbers .entry)) .brackets)) (now (out .exit)) (r .place) (r .next) ⌝ }
+{
+    if N_TERM_RANK < next_rank(bytes, 0) {
+        return Pen { place: at, next: 0 };
+    }
+    let unknown = put_closed(
+        bytes,
+        numbers,
+        0,
+        UNKNOWN_RANK,
+        Shape::Counted,
+        b'?',
+        out,
+        at,
+    );
+    let a = unknown.place;
+    let i = unknown.next;
+    let labile = put_run(bytes, numbers, i, LABILE_RANK, Shape::Curly, out, a);
+    let b = labile.place;
+    let j = labile.next;
+    put_closed(bytes, numbers, j, N_TERM_RANK, Shape::Square, b'-', out, b)
+}
+
 // The canonical line from a place on, as much of it as fits into the output.
 pub fn put_line(bytes: &[u8], numbers: &[i64], out: &mut [u8], at: usize) -> usize
     requires { ⌜ Bounds (now bytes) (now numbers) × Ordered (tablesIn (now bytes) (now numbers)) × (at + lineMost ≤ ceiling) ⌝ }
     ensures { λ r. ⌜ Puts lineMost (now (out .entry)) at (canonical (tablesIn (now (bytes .entry)) (now (numbers .entry)))) (now (out .exit)) r ⌝ }
 {
-    let unknown = put_closed(bytes, numbers, 0, 0, Shape::Counted, b'?', out, at);
-    let a = unknown.place;
-    let i = unknown.next;
-    let labile = put_run(bytes, numbers, i, 1, Shape::Curly, out, a);
-    let b = labile.place;
-    let j = labile.next;
-    let start = put_closed(bytes, numbers, j, 2, Shape::Square, b'-', out, b);
-    let c = start.place;
-    let k = start.next;
-    let sequence = put_sequence(bytes, numbers, k, out, c);
-    let d = sequence.place;
-    let l = sequence.next;
-    put_c_term(bytes, numbers, l, out, d)
+    let front = put_front(bytes, numbers, out, at);
+    let a = front.place;
+    let i = front.next;
+    let sequence = put_sequence(bytes, numbers, i, out, a);
+    let b = sequence.place;
+    let j = sequence.next;
+    put_c_term(bytes, numbers, j, out, b)
 }
 
 // The canonical line, as much of it as fits into the output, and its length.

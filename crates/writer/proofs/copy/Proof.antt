@@ -1,31 +1,39 @@
--- The invariant: the first i bytes of the part are written. Assumes nothing.
-use Prim.Native.Nat.{_-_, _≤_}
-use mathlib.Core.Path.{_≡_, sym}
+-- The invariant: the first i bytes of the part are stored. As many as fit are all that is stored of the part. Assumes nothing.
+use Prim.Native.Nat.{_+_, _-_, _≤_}
+use mathlib.Core.Path.{_≡_, _∙_}
 use native.Mathlib.Omega.{arith}
 use Rattle.scope.specs.Lists.{part}
 use Rattle.writer.specs.Written.{Puts}
-use Rattle.writer.proofs.Storing.{puts-none, puts-of, puts-join, puts-length, part-more}
+use Rattle.writer.proofs.Storing.{puts-length, copied-none, copied-more, copied-all}
 use borrow.Author.Needs.{needs}
 use Rattle.writer.proofs.copy.Statement.{statement}
 use Rattle.writer.proofs.copy.Tie as tie
 
 abbrev Inv-loop : tie.InvT-loop
-Inv-loop from start n out₀ at i₀ a₀ out i a = (i ≤ n) × Puts i out₀ at (part start i from) out a
+Inv-loop from start n out₀ at m i₀ out i = (i ≤ m) × Puts i out₀ at (part start i from) out (at + i)
 
 abbrev μ-loop : tie.MeasureT-loop
-μ-loop from start n out₀ at i₀ a₀ out i a = n - i
+μ-loop from start n out₀ at m i₀ out i = m - i
+
+fitting-requires : tie.Need-fitting-requires Inv-loop μ-loop
+fitting-requires c κs = search needs
 
 loop-holds : tie.Need-loop-holds Inv-loop μ-loop
-loop-holds c = (search needs, puts-none _ _)
+loop-holds c = (search needs, copied-none _ _)
 
-add-put : tie.Need-add-put Inv-loop μ-loop
-add-put c = search needs
+add-out : tie.Need-add-out Inv-loop μ-loop
+add-out c = search needs
 
-shared-slice-read-put : tie.Need-shared-slice-read-put Inv-loop μ-loop
-shared-slice-read-put c = search needs
+shared-slice-read-out : tie.Need-shared-slice-read-out Inv-loop μ-loop
+shared-slice-read-out c = search needs
 
-put-requires : tie.Need-put-requires Inv-loop μ-loop
-put-requires c κs = search needs
+add-out-2 : tie.Need-add-out-2 Inv-loop μ-loop
+add-out-2 c = search needs
+
+slice-write-out : tie.Need-slice-write-out Inv-loop μ-loop
+slice-write-out c =
+    let l = c .before .before in
+    omega (arith, puts-length (l .loop .inv .1), l .before .fitting .ensures)
 
 add-i : tie.Need-add-i Inv-loop μ-loop
 add-i c = search needs
@@ -35,19 +43,23 @@ loop-less c = search needs
 
 loop-again : tie.Need-loop-again Inv-loop μ-loop
 loop-again c =
-    let p = c .before .before in
-    let l = p .before .before .before .before in
-    let a = l .before .before .before .args in
-    (search needs, puts-of (part-more (a .from .now) (a .start) (l .loop .i) (omega arith)) (puts-join (l .loop .inv .1) (p .put .ensures)))
+    let l = c .before .before in
+    let a = l .before .before .before .before .args in
+    (search needs, copied-more (a .from .now) (a .start) (omega arith) (l .loop .inv .1))
+
+add-result : tie.Need-add-result Inv-loop μ-loop
+add-result c = search needs
 
 same-length : tie.Need-same-length Inv-loop μ-loop
 same-length c = puts-length (c .before .loop .inv .1)
 
 returns : tie.Need-returns Inv-loop μ-loop
 returns c =
-    let l = c .before .loop in
-    let e : l .i ≡ c .before .before .before .before .args .n = omega arith in
-    rw (sym e) (l .inv .1)
+    let l = c .before in
+    let f = l .before .fitting in
+    let a = l .before .before .before .before .args in
+    let e : l .loop .i ≡ f .result = omega arith in
+    copied-all (a .from .now) (a .start) (e ∙ f .ensures) (search needs) (l .loop .inv .1)
 
 pub copy-spec : {M : Type 1} → statement M
 copy-spec =
@@ -55,12 +67,15 @@ copy-spec =
     (tie.spec
     Inv-loop
     μ-loop
+    fitting-requires
     loop-holds
-    add-put
-    shared-slice-read-put
-    put-requires
+    add-out
+    shared-slice-read-out
+    add-out-2
+    slice-write-out
     add-i
     loop-less
     loop-again
+    add-result
     same-length
     returns)

@@ -1,11 +1,12 @@
--- The invariant: the first p residues are spelt. Assumes nothing.
+-- The invariant: the first p residues are spelt. Residues by themselves and one more keep it. Assumes nothing.
 use borrow.Author.Needs.{needs}
-use Prim.Native.Nat.{_+_, _-_}
+use Prim.Native.Nat.{_-_, _≤_}
 use native.Mathlib.Omega.{arith}
+use Rattle.scope.specs.Limits.{residueLimit}
 use Rattle.writer.specs.Ranks.{Spelt}
 use Rattle.writer.proofs.Storing.{puts-none, puts-length}
-use Rattle.writer.proofs.Walking.{walks-still, room-after}
-use Rattle.writer.proofs.LineLaws.{spelt-start, spelt-more, spelt-over}
+use Rattle.writer.proofs.Walking.{walks-still, room-less}
+use Rattle.writer.proofs.LineLaws.{spelt-start, spelt-more, spelt-room, spelt-over}
 use Rattle.writer.proofs.put_sequence.Statement.{statement}
 use Rattle.writer.proofs.put_sequence.Tie as tie
 
@@ -23,59 +24,69 @@ loop-holds c =
     let s = c .before .before .before in
     spelt-start _ _ _ _ _ _ (walks-still (puts-none _ _) (s .pre .1) (s .pre .2))
 
-put-residue-requires : tie.Need-put-residue-requires Inv-loop μ-loop
-put-residue-requires c κs =
+put-bare-requires : tie.Need-put-bare-requires Inv-loop μ-loop
+put-bare-requires c κs =
     let l = c .before .before in
     let r = l .before in
     let s = r .before .before .before in
     let b = s .pre .0 .bounds in
-    let w = l .loop .inv .walks in
-    let e = r .residues .ensures .0 in
-    let t = c .before .loop-test .taken in
-    (s .pre .0, w .within, w .below, room-after (omega (arith, b .few-residues, e, t)) w (s .pre .3), e, t)
+    let few : r .residues .result ≤ residueLimit = omega (arith, b .few-residues, r .residues .ensures .0) in
+    (b .bytes-room, b .few-brackets, few, omega (arith, spelt-room _ _ _ _ _ _ (l .loop .inv) few (s .pre .3) .fits))
 
-add-put-letters : tie.Need-add-put-letters Inv-loop μ-loop
-add-put-letters c = search needs
+same-length : tie.Need-same-length Inv-loop μ-loop
+same-length c =
+    let b = c .before .before .before in
+    let l = b .before .before .before in
+    let s = l .before .before .before .before in
+    puts-length (b .put-bare .ensures .1 _ (s .pre .0) _ _ _ (l .loop .inv) .walks .puts)
 
-next-rank-requires : tie.Need-next-rank-requires Inv-loop μ-loop
-next-rank-requires c κs =
-    let s = c .before .before .before .before .before .before .before .before .before in
-    let b = s .pre .0 .bounds in
-    (b .bytes-room, b .few-brackets)
-
-put-letters-requires : tie.Need-put-letters-requires Inv-loop μ-loop
-put-letters-requires c κs =
-    let p = c .before .before .before .before in
-    let l = p .before .before .before in
+returns : tie.Need-returns Inv-loop μ-loop
+returns c =
+    let b = c .before .before .before in
+    let l = b .before .before .before in
     let r = l .before in
     let s = r .before .before .before in
-    let b = s .pre .0 .bounds in
     let e = r .residues .ensures .0 in
-    let t = p .before .before .loop-test .taken in
-    let w = spelt-more _ _ _ _ _ _ (l .loop .inv) t (p .put-residue .ensures) .walks in
-    let left = room-after {n = r .residues .result - (l .loop .p + 1)} (omega (arith, b .few-residues, e, t)) w (s .pre .3) in
-    (b .bytes-room, omega (arith, b .few-residues, e), omega (arith, left .fits))
+    let spelt = b .put-bare .ensures .1 _ (s .pre .0) _ _ _ (l .loop .inv) in
+    spelt-over _ _ _ _ _ _ spelt (c .if1 .taken) e (omega (arith, s .pre .0 .bounds .few-residues, e))
+
+put-residue-requires : tie.Need-put-residue-requires Inv-loop μ-loop
+put-residue-requires c κs =
+    let i = c .before in
+    let b = i .before .before .before in
+    let l = b .before .before .before in
+    let r = l .before in
+    let s = r .before .before .before in
+    let e = r .residues .ensures .0 in
+    let spelt = b .put-bare .ensures .1 _ (s .pre .0) _ _ _ (l .loop .inv) in
+    let w = spelt .walks in
+    let left = spelt-room _ _ _ _ _ _ spelt (omega (arith, s .pre .0 .bounds .few-residues, e)) (s .pre .3) in
+    (s .pre .0, w .within, w .below, room-less (omega (arith, i .if1 .left)) left, e, i .if1 .left)
+
+add-p : tie.Need-add-p Inv-loop μ-loop
+add-p c = search needs
 
 loop-less : tie.Need-loop-less Inv-loop μ-loop
 loop-less c =
-    let p = c .before .before in
-    let t = p .before .before .before .before .before .before .before in
-    omega (arith, p .put-letters .ensures .0, t .loop-test .taken)
+    let i = c .before .before .before .before in
+    let b = i .before .before .before in
+    omega (arith, b .put-bare .ensures .0, i .if1 .left)
 
 loop-again : tie.Need-loop-again Inv-loop μ-loop
 loop-again c =
     let p = c .before .before in
-    let k = p .before .before in
-    let r = k .before .before .before in
-    let l = r .before .before in
-    let s = l .before .before .before .before .before in
-    p .put-letters .ensures .1 _ _ _ _ _ (k .next-rank .ensures _ (s .pre .0)) (spelt-more _ _ _ _ _ _ (l .before .loop .inv) (l .loop-test .taken) (r .put-residue .ensures))
+    let i = p .before .before in
+    let b = i .before .before .before in
+    let l = b .before .before .before in
+    let s = l .before .before .before .before in
+    let spelt = b .put-bare .ensures .1 _ (s .pre .0) _ _ _ (l .loop .inv) in
+    spelt-more _ _ _ _ _ _ spelt (i .if1 .left) (p .put-residue .ensures)
 
-same-length : tie.Need-same-length Inv-loop μ-loop
-same-length c = puts-length (c .before .loop .inv .walks .puts)
+same-length-2 : tie.Need-same-length-2 Inv-loop μ-loop
+same-length-2 c = puts-length (c .before .loop .inv .walks .puts)
 
-returns : tie.Need-returns Inv-loop μ-loop
-returns c =
+returns-2 : tie.Need-returns-2 Inv-loop μ-loop
+returns-2 c =
     let r = c .before .before in
     let b = r .before .before .before .pre .0 .bounds in
     let e = r .residues .ensures .0 in
@@ -89,11 +100,12 @@ put-sequence-spec =
     μ-loop
     residues-requires
     loop-holds
+    put-bare-requires
+    same-length
+    returns
     put-residue-requires
-    add-put-letters
-    next-rank-requires
-    put-letters-requires
+    add-p
     loop-less
     loop-again
-    same-length
-    returns)
+    same-length-2
+    returns-2)

@@ -1,0 +1,32 @@
+-- The residues with a rank below that of bracket j stand before it and all behind it. Assumes nothing.
+use borrow.Author.Needs.{needs}
+use Rattle.writer.proofs.LineLaws.{behind-clear}
+use Rattle.writer.proofs.put_bare.Statement.{statement}
+use Rattle.writer.proofs.put_bare.Tie as tie
+
+next-rank-requires : tie.Need-next-rank-requires
+next-rank-requires c κs = search needs
+
+ranked-below-requires : tie.Need-ranked-below-requires
+ranked-below-requires c κs = search needs
+
+put-letters-requires : tie.Need-put-letters-requires
+put-letters-requires c κs = search needs
+
+same-length : tie.Need-same-length
+same-length c = search needs
+
+returns : tie.Need-returns
+returns c =
+    let l = c .before .before in
+    let b = l .before .before in
+    let q = b .before in
+    let bytes = q .before .before .before .args .bytes .now in
+    let below = b .ranked-below .ensures in
+    let letters = l .put-letters .ensures in
+    (letters .0, λ ns d. letters .1 ns _ _ (below .0) (behind-clear bytes (q .next-rank .ensures ns d) (below .1)))
+
+pub put-bare-spec : {M : Type 1} → statement M
+put-bare-spec =
+    tie.close
+    (tie.spec next-rank-requires ranked-below-requires put-letters-requires same-length returns)

@@ -1,0 +1,63 @@
+-- No run is looked for where no bracket has a rank of theirs; else the three runs stand one behind the other. Assumes nothing.
+use native.Mathlib.Nat.{le-refl}
+use native.Mathlib.Omega.{arith}
+use Rattle.writer.proofs.Storing.{puts-none, puts-within}
+use Rattle.writer.proofs.Walking.{walks-of, walks-still, walks-then, room-less, room-after}
+use Rattle.writer.proofs.LineLaws.{front-none}
+use borrow.Author.Needs.{needs}
+use Rattle.writer.proofs.put_front.Statement.{statement}
+use Rattle.writer.proofs.put_front.Tie as tie
+
+next-rank-requires : tie.Need-next-rank-requires
+next-rank-requires c κs = search needs
+
+returns : tie.Need-returns
+returns c =
+    let n = c .before in
+    let s = n .before .before .before in
+    let clear = n .next-rank .ensures _ (s .pre .0) in
+    walks-of (front-none (s .args .bytes .now) (s .args .numbers .now) clear (c .if1 .taken))
+    (walks-still (puts-within (omega arith) (puts-none _ _)) (omega arith) (λ i h. absurd (omega arith)))
+
+put-closed-requires : tie.Need-put-closed-requires
+put-closed-requires c κs =
+    let s = c .before .before .before .before .before in
+    (s .pre .0, omega arith, (λ i h. absurd (omega arith)), room-less (omega arith) (s .pre .1))
+
+put-run-requires : tie.Need-put-run-requires
+put-run-requires c κs =
+    let u = c .before .before .before in
+    let s = u .before .before .before .before .before .before in
+    let v = u .put-closed .ensures in
+    (s .pre .0, v .within, v .below, room-after (omega arith) v (s .pre .1))
+
+put-closed-requires-2 : tie.Need-put-closed-requires-2
+put-closed-requires-2 c κs =
+    let l = c .before .before .before in
+    let u = l .before .before .before .before in
+    let s = u .before .before .before .before .before .before in
+    let v = u .put-closed .ensures in
+    let w = l .put-run .ensures in
+    (s .pre .0, w .within, w .below, room-after (omega arith) w (room-after {n = 1} (omega arith) v (s .pre .1)))
+
+same-length : tie.Need-same-length
+same-length c = search needs
+
+returns-2 : tie.Need-returns-2
+returns-2 c =
+    let n = c .before .before in
+    let l = n .before .before .before .before in
+    let u = l .before .before .before .before in
+    walks-then _ (le-refl _) (u .put-closed .ensures) (walks-then 1 (le-refl _) (l .put-run .ensures) (n .put-closed2 .ensures))
+
+pub put-front-spec : {M : Type 1} → statement M
+put-front-spec =
+    tie.close
+    (tie.spec
+    next-rank-requires
+    returns
+    put-closed-requires
+    put-run-requires
+    put-closed-requires-2
+    same-length
+    returns-2)

@@ -17,23 +17,11 @@ use Rattle.order_laws.specs.Laws.{accepted-ordered, same-order}
 use Rattle.accepted_laws.specs.Laws.{accepted-short}
 use Rattle.reading_laws.specs.Bare.{same-canonical, same-floaters, same-total, same-lacking}
 use Rattle.canonical_laws.specs.Proved as canonicals
-use Rattle.reader.specs.ReadSays.{Lays, Stored}
-use Rattle.store.specs.Filled.{Fills}
+use Rattle.reader.specs.ReadSays.{Stored}
 use Rattle.reader.proofs.Storing.{holds-of}
 use Rattle.entries.specs.Entry.{countFields, okFields, noFields, Known}
 
 -- ---- what reading has shown
--- what is filled is an accepted line's, and the areas are clean
-pub lays : {line letters sections heads parts : List ℕ} {masses scores : List ℤ} {residues brackets : ℕ} {bs : List ℕ} {ns : List ℤ}
-    → Fills line letters sections heads parts masses scores residues brackets bs ns → Lays line bs ns
-lays f =
-    let z = f .zeroed in
-    record {
-      held = f .holds-line;
-      accepts = f .line-noted .is-accepted;
-      clean = record { bytes-room = z .bytes-long; bytes-zero = z .bytes-zero; numbers-room = z .numbers-long; numbers-zero = z .numbers-zero };
-    }
-
 pub known : {s bs : List ℕ} {ns : List ℤ} {bs′ : List ℕ} {ns′ : List ℤ} (l : Line ℕ) → outcome s ≡ accepted l → Stored s bs ns bs′ ns′ → Known bs′ ns′
 known {s} {bs} {ns} {bs′} {ns′} l e w =
     let h = holds-of l e w in

@@ -16,9 +16,8 @@ ghost use Rattle.scope.specs.Canonical.{decimal};
 ghost use Rattle.scope.specs.Register.{signedText, totalText, fields, report};
 ghost use Rattle.scope.specs.Refusals.{outcome};
 ghost use Rattle.scope.specs.Layout.{tablesIn};
-ghost use Rattle.reader.specs.ReadSays.{Clean};
 ghost use Rattle.sheet.specs.Rows.{Roomy};
-ghost use Rattle.store.specs.Filled.{Fills};
+ghost use Rattle.store.specs.Filled.{Clean, Fills};
 ghost use Rattle.writer.specs.Written.{Puts, ceiling};
 ghost use Rattle.entries.specs.Entry.{entry, fieldMost, weightMost, refusedMost, countsMost, totalMost, acceptedMost, tablesMost, entryLimit, countFields, okFields, noFields, weightText, Known, Printed};
 

@@ -14,8 +14,8 @@ use Rattle.layout_laws.specs.Holds.{Holds}
 use Rattle.layout_laws.specs.Laws.{accepted-held, bytes-fill, numbers-fill, laid-bytes, laid-numbers}
 use Rattle.accepted_laws.specs.Laws.{accepted-within}
 use Rattle.sheet.specs.Rows.{LineNoted}
-use Rattle.store.specs.Filled.{Fills, FilledAll}
-use Rattle.reader.specs.ReadSays.{Clean, Stores, Stored}
+use Rattle.store.specs.Filled.{Clean, Fills, FilledAll}
+use Rattle.reader.specs.ReadSays.{Stores, Stored}
 
 -- the first n elements cleared
 abbrev cleared : {A : Type 0} → A → ℕ → List A → List A
@@ -45,12 +45,7 @@ cleared-clean bs ns b n =
 pub fills : {line letters sections heads parts : List ℕ} {masses scores : List ℤ} {residues brackets : ℕ} {bs : List ℕ} {ns : List ℤ} {l : Line ℕ}
     → LineNoted line letters sections heads parts masses scores residues brackets l → Clean bs ns
     → Fills line letters sections heads parts masses scores residues brackets bs ns
-fills {l = l} w c =
-    record {
-      holds-line = l;
-      line-noted = w;
-      zeroed = record { bytes-long = c .bytes-room; bytes-zero = c .bytes-zero; numbers-long = c .numbers-room; numbers-zero = c .numbers-zero };
-    }
+fills {l = l} w c = record { holds-line = l; line-noted = w; clean = c }
 
 pub filled : {line bs : List ℕ} {ns : List ℤ} {bs′ : List ℕ} {ns′ : List ℤ} → ((l : Line ℕ) → outcome line ≡ accepted l → FilledAll bs ns bs′ ns′ l)
     → Stored line bs ns bs′ ns′

@@ -13,7 +13,8 @@ use Rattle.scope.specs.Layout.{bytesSize, numbersSize, rowSize, numberRowSize, 
 use Rattle.layout_laws.specs.Layout.{AreasRead, padded-length, rows-length, number-rows-length, areas-read}
 use Rattle.layout_laws.specs.Laws.{bytes-fill, numbers-fill}
 use Rattle.accepted_laws.specs.Laws.{accepted-within, accepted-short, accepted-texts}
-use Rattle.reader.specs.ReadSays.{Lays, HoldSome, Stored, Wiped, wiped}
+use Rattle.store.specs.Filled.{Fills}
+use Rattle.reader.specs.ReadSays.{HoldSome, Stored, Wiped, wiped}
 use Rattle.reader.proofs.Storing.{cleared-clean}
 
 -- ---- from a place on, by way of the part that begins there
@@ -178,11 +179,14 @@ relaid z n t l e h =
     ∙ ap (λ x. x ++ drop n l) (sym h)
     ∙ take-append-drop n l
 
-pub put-back : {line bs : List ℕ} {ns : List ℤ} {bs₁ : List ℕ} {ns₁ : List ℤ} {bs₂ : List ℕ} {ns₂ : List ℤ}
-    → Lays line bs ns → Stored line bs ns bs₁ ns₁ → Wiped bs₁ ns₁ bs₂ ns₂ → (bs₂ ≡ bs) × (ns₂ ≡ ns)
-put-back {line} {bs} {ns} w p q =
-    let l = w .held in
-    let v = accepted-within line l (w .accepts) in (
-      q .bytes-now ∙ ap (laid (replicate bytesSize 0)) (p .bytes-now l (w .accepts)) ∙ relaid 0 bytesSize (bytesOf l) bs (bytes-fill l v) (w .clean .bytes-zero),
-      q .numbers-now ∙ ap (laid (replicate numbersSize (pos 0))) (p .numbers-now l (w .accepts)) ∙ relaid (pos 0) numbersSize (numbersOf l) ns (numbers-fill l v) (w .clean .numbers-zero),
+pub put-back : {line letters sections heads parts : List ℕ} {masses scores : List ℤ} {residues brackets : ℕ} {bs : List ℕ} {ns : List ℤ} {bs₁ : List ℕ} {ns₁ : List ℤ}
+    {bs₂ : List ℕ} {ns₂ : List ℤ}
+    → Fills line letters sections heads parts masses scores residues brackets bs ns → Stored line bs ns bs₁ ns₁ → Wiped bs₁ ns₁ bs₂ ns₂
+    → (bs₂ ≡ bs) × (ns₂ ≡ ns)
+put-back {line} {bs = bs} {ns} w p q =
+    let l = w .holds-line in
+    let e = w .line-noted .is-accepted in
+    let v = accepted-within line l e in (
+      q .bytes-now ∙ ap (laid (replicate bytesSize 0)) (p .bytes-now l e) ∙ relaid 0 bytesSize (bytesOf l) bs (bytes-fill l v) (w .clean .bytes-zero),
+      q .numbers-now ∙ ap (laid (replicate numbersSize (pos 0))) (p .numbers-now l e) ∙ relaid (pos 0) numbersSize (numbersOf l) ns (numbers-fill l v) (w .clean .numbers-zero),
     )

@@ -11,25 +11,13 @@ use Rattle.scope.specs.Layout.{bytesSize, numbersSize, bytesOf, numbersOf}
 use Rattle.scope.specs.Lists.{laid}
 use Rattle.layout_laws.specs.Holds.{Holds}
 use Rattle.sheet.specs.Rows.{LineNoted}
+use Rattle.store.specs.Filled.{Clean}
 use Rattle.scope.specs.Answers.{saysRead, saysOutcome, readOutcome, bytesAfter, numbersAfter}
 
 pub record ReadSays (line bytes : List ℕ) (numbers : List ℤ) (r : Read) (bytes′ : List ℕ) (numbers′ : List ℤ) : Type 0 where
   pub says : saysRead r ≡ saysOutcome (readOutcome bytes numbers line)
   pub bytes-after : bytes′ ≡ bytesAfter (readOutcome bytes numbers line) bytes
   pub numbers-after : numbers′ ≡ numbersAfter (readOutcome bytes numbers line) numbers
-
--- areas that have room, and whose room is zero
-pub record Clean (bytes : List ℕ) (numbers : List ℤ) : Type 0 where
-  pub bytes-room : bytesSize ≤ length bytes
-  pub bytes-zero : take bytesSize bytes ≡ replicate bytesSize 0
-  pub numbers-room : numbersSize ≤ length numbers
-  pub numbers-zero : take numbersSize numbers ≡ replicate numbersSize (pos 0)
-
--- an accepted line, and clean areas
-pub record Lays (line bytes : List ℕ) (numbers : List ℤ) : Type 0 where
-  pub held : Line ℕ
-  pub accepts : outcome line ≡ accepted held
-  pub clean : Clean bytes numbers
 
 -- areas that hold the tables of an accepted line of n bytes
 pub record HoldSome (n : ℕ) (bytes : List ℕ) (numbers : List ℤ) : Type 0 where

@@ -17,7 +17,7 @@ use Rattle.sheet.specs.Rows.{LineNoted}
 use Rattle.sheet.proofs.RowLaws.{sets-in}
 use Rattle.store.specs.Areas.{frontWith, areaWith, Pieces, AreasAre}
 use Rattle.store.specs.BracketPut.{BracketsFit, SomeBracketsFit, BracketsPut}
-use Rattle.store.specs.Filled.{FrontFits, frontPut, Zeroed, Fills, FilledAll}
+use Rattle.store.specs.Filled.{FrontFits, frontPut, Clean, Fills, FilledAll}
 use Rattle.store.proofs.AreaLaws.{store-end}
 use Rattle.store.proofs.NotedLine.{within, bracket-noted}
 
@@ -73,7 +73,7 @@ module _ (l : Line ℕ) (old : List ℕ) (oldNumbers : List ℤ) where
   begun =
       record { front = frontWith counts letters-of sections-of; rows = []; texts = []; past = drop bytesSize old; masses = []; beyond = drop numbersSize oldNumbers }
 
-  pub begins : {bytes : List ℕ} → Within l → Zeroed old oldNumbers → bytes ≡ sets (sets (sets old residuesAt counts) lettersAt letters-of) sectionsAt sections-of
+  pub begins : {bytes : List ℕ} → Within l → Clean old oldNumbers → bytes ≡ sets (sets (sets old residuesAt counts) lettersAt letters-of) sectionsAt sections-of
       → AreasAre begun 0 0 0 bytes oldNumbers
   begins w z e =
       let ll = length-map (l .residues) (λ r. r .letter) in
@@ -124,7 +124,7 @@ module _ {line letters sections heads parts : List ℕ} {masses scores : List �
         few-brackets = omega (arith, w .brackets-are, within w .few-brackets);
         letters-room = w .roomy .letters-room;
         sections-room = w .roomy .sections-room;
-        bytes-long = f .zeroed .bytes-long;
+        bytes-long = f .clean .bytes-room;
       }
 
   module _ {bytes₁ : List ℕ} (e : bytes₁ ≡ frontPut letters sections residues brackets bytes) where
@@ -148,9 +148,9 @@ module _ {line letters sections heads parts : List ℕ} {masses scores : List �
           scores-room = w .roomy .scores-room;
           few-brackets = omega (arith, w .brackets-are, within w .few-brackets);
           texts-room = within w .texts;
-          bytes-long = omega (arith, f .zeroed .bytes-long, ap length e, length-sets (sets (sets bytes residuesAt (countsRow residues brackets)) lettersAt (take residues letters)) sectionsAt (take residues sections), length-sets (sets bytes residuesAt (countsRow residues brackets)) lettersAt (take residues letters), length-sets bytes residuesAt (countsRow residues brackets));
-          numbers-long = f .zeroed .numbers-long;
-          areas-are = begins l bytes numbers (within w) (f .zeroed) put;
+          bytes-long = omega (arith, f .clean .bytes-room, ap length e, length-sets (sets (sets bytes residuesAt (countsRow residues brackets)) lettersAt (take residues letters)) sectionsAt (take residues sections), length-sets (sets bytes residuesAt (countsRow residues brackets)) lettersAt (take residues letters), length-sets bytes residuesAt (countsRow residues brackets));
+          numbers-long = f .clean .numbers-room;
+          areas-are = begins l bytes numbers (within w) (f .clean) put;
         }
 
     pub brackets-fit : SomeBracketsFit line heads parts masses scores brackets bytes₁ numbers

@@ -25,16 +25,16 @@ frontPut letters sections residues brackets bytes =
 
 -- ---- the whole
 -- the areas have room, and their room is zero
-pub record Zeroed (bytes : List ℕ) (numbers : List ℤ) : Type 0 where
-  pub bytes-long : bytesSize ≤ length bytes
+pub record Clean (bytes : List ℕ) (numbers : List ℤ) : Type 0 where
+  pub bytes-room : bytesSize ≤ length bytes
   pub bytes-zero : take bytesSize bytes ≡ replicate bytesSize 0
-  pub numbers-long : numbersSize ≤ length numbers
+  pub numbers-room : numbersSize ≤ length numbers
   pub numbers-zero : take numbersSize numbers ≡ replicate numbersSize (pos 0)
 
 pub record Fills (line letters sections heads parts : List ℕ) (masses scores : List ℤ) (residues brackets : ℕ) (bytes : List ℕ) (numbers : List ℤ) : Type 0 where
   pub holds-line : Line ℕ
   pub line-noted : LineNoted line letters sections heads parts masses scores residues brackets holds-line
-  pub zeroed : Zeroed bytes numbers
+  pub clean : Clean bytes numbers
 
 pub record FilledAll (bytes : List ℕ) (numbers : List ℤ) (bytes′ : List ℕ) (numbers′ : List ℤ) (l : Line ℕ) : Type 0 where
   pub bytes-are : bytes′ ≡ laid (bytesOf l) bytes

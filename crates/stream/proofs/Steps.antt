@@ -15,7 +15,7 @@ use Rattle.scope.specs.Canonical.{decimal}
 use Rattle.scope.specs.Limits.{residueLimit, bracketLimit}
 use Rattle.scope.specs.Layout.{bytesSize, numbersSize}
 use Rattle.sheet.specs.Rows.{headsRoom, partsRoom, massesRoom}
-use Rattle.reader.specs.ReadSays.{Clean}
+use Rattle.store.specs.Filled.{Clean}
 use Rattle.writer.specs.Written.{stored, Puts, decimalMost}
 use Rattle.writer.proofs.Storing.{stored-append, stored-whole}
 use Rattle.entries.specs.Entry.{entry, entryLimit, Printed}

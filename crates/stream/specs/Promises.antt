@@ -8,7 +8,7 @@ use lib.IntN.{ℤ}
 use lib.ListN.{length, take, drop, getD}
 use Rattle.scope.specs.Canonical.{decimal}
 use Rattle.sheet.specs.Rows.{Roomy}
-use Rattle.reader.specs.ReadSays.{Clean}
+use Rattle.store.specs.Filled.{Clean}
 use Rattle.writer.specs.Written.{stored, decimalMost}
 use Rattle.entries.specs.Entry.{entryLimit}
 use Rattle.stream.specs.declared.End.{End}

@@ -22,7 +22,7 @@ ghost use lib.Dec.{eqb};
 ghost use lib.ListN.{length, take};
 ghost use Rattle.entries.specs.Entry.{entry, entryLimit, Printed};
 ghost use Rattle.sheet.specs.Rows.{Roomy};
-ghost use Rattle.reader.specs.ReadSays.{Clean};
+ghost use Rattle.store.specs.Filled.{Clean};
 ghost use Rattle.stream.specs.Lines.{lineEnd};
 ghost use Rattle.stream.specs.Feeding.{holdLimit, holding, finished, part, plain};
 ghost use Rattle.stream.specs.Promises.{strideSize, Passed, LineEnd, Keeps, Cuts, numberLimit, readLimit, outputLimit, sheetOf, Ready, Fronts, Runs, Feeds, Owed, OwedLast, noticeRoom, noticed, lineEnds, Received, Drains, Closes, Turns};

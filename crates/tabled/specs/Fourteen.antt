@@ -88,10 +88,10 @@ fills-zeros {l = l} bs ns w e f =
     record {
       holds-line = l;
       line-noted = w;
-      zeroed = record {
-        bytes-long = omega arith;
+      clean = record {
+        bytes-room = omega arith;
         bytes-zero = take-all bytesSize bs (omega arith) ∙ e;
-        numbers-long = omega arith;
+        numbers-room = omega arith;
         numbers-zero = take-all numbersSize ns (omega arith) ∙ f;
       };
     }

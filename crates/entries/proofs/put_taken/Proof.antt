@@ -4,7 +4,7 @@ use mathlib.Core.Path.{refl}
 use Rattle.reader.proofs.Storing.{filled, holds-of}
 use Rattle.reader.proofs.Wiping.{put-back}
 use Rattle.writer.proofs.Storing.{puts-of, puts-length}
-use Rattle.entries.proofs.Taken.{lays, known, taken-text}
+use Rattle.entries.proofs.Taken.{known, taken-text}
 use borrow.Author.Needs.{needs}
 use Rattle.entries.proofs.put_taken.Statement.{statement}
 use Rattle.entries.proofs.put_taken.Tie as tie
@@ -44,7 +44,7 @@ returns c =
     let s = p .before .before .before .before .before .before .before .before .before .before in
     let f = s .pre .0 in
     let w = filled (p .store .ensures) in
-    let same = put-back (lays f) w (k .wipe .ensures) in
+    let same = put-back f w (k .wipe .ensures) in
     record {
       puts = puts-of (taken-text (f .holds-line) (f .line-noted .is-accepted) w) (a .put-accepted .ensures);
       out-long = puts-length (a .put-accepted .ensures);

@@ -1,12 +1,12 @@
 -- How far a text goes, and where a pair in it is too deep: scope's own step, as far as it goes.
-use Prim.Native.Nat.{ℕ, _+_, _-_, _≤_, _<_}
+use Prim.Native.Nat.{ℕ, _+_, _-_, _%_, _≤_, _<_}
 use mathlib.Core.Path.{_≡_}
 use mathlib.Core.Bool.{Bool, not, cond, _&&_, _||_}
 use mathlib.Core.Option.{Option, none, some}
 use mathlib.Core.List.{List, [], _∷_}
 use lib.Dec.{eqb, leb}
 use lib.ListN.{length, drop}
-use Rattle.scope.specs.Bytes.{isPrintable, isOpening, isShutting, colon, hash}
+use Rattle.scope.specs.Bytes.{isPrintable, isOpening, isShutting, shutSquare, shutCurly, colon, hash}
 use Rattle.scope.specs.Limits.{depthLimit}
 use Rattle.scope.specs.Lists.{given, part}
 use Rattle.scope.specs.Content.{isPlain, textStep}
@@ -67,6 +67,10 @@ stoppedDeep (c ∷ cs) i d = Stuck i
 unfoldable pub scanDeep : Bool → List ℕ → List ℕ → ℕ → ℕ → TextEnd
 scanDeep hashes cs [] i d = stoppedDeep cs i d
 scanDeep hashes cs (b ∷ l) i d = given (textStep hashes cs b) (λ cs′. scanDeep hashes cs′ l (i + 1) (deeper cs b i d)) (stoppedDeep cs i d)
+
+-- the closer that the last bit of a number stands for
+abbrev pub lastOf : ℕ → ℕ
+lastOf v = cond (eqb (v % 2) 1) shutSquare shutCurly
 
 -- reading on behind a pair
 abbrev pub behind : TextEnd → (ℕ → ℕ → TextEnd) → TextEnd

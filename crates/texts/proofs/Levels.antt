@@ -14,7 +14,7 @@ use Rattle.texts.specs.declared.TextEnd.the-variants.{Ends, Stuck}
 use Rattle.texts.specs.Texts.{scanDeep, firstOf, deeper, entered, behind, isInner, endsPast, lastOf, Closed, Crowded}
 use Rattle.texts.proofs.Firsts.{first-none, first-first, first-there, deeper-opens, deeper-told, entered-low, entered-deep}
 use Rattle.texts.proofs.Owed.{Paused, Goes, inside-starts, pauses, paused-over, paused-stuck, paused-last, paused-shut, paused-open, paused-behind, paused-lost}
-use Rattle.texts.proofs.Bits.{bits, owing, owing-last, owing-more, Kept, kept-none, kept-less, kept-more, last-shuts}
+use Rattle.texts.proofs.Bits.{bits, byteOf, readOff, owing, owing-last, owing-more, Kept, kept-none, kept-less, kept-more, last-shuts}
 
 -- so many closers are owed around the pair; a place is told before it
 abbrev pub Level : ℕ → List ℕ → ℕ → Type 0
@@ -72,11 +72,11 @@ module _ (s : List ℕ) (at c : ℕ) where
       crowd-last q e =
           crowded-ends (i + 1) (paused-last Told s at c x (owing t n) i 0 (w .paused) l q (rw e)) (omega (arith, w .paused .inside .later)) (omega arith)
 
-      pub crowd-shut : getD s i 0 ≡ x → (n ≡ 0 → ⊥) → (y : ℕ) → y ≡ lastOf (getD t ((n - 1) / bits) 0) → (k : ℕ) → k ≡ i + 1 + span isInner (drop (i + 1) s)
-          → Crowd (set t ((n - 1) / bits) (getD t ((n - 1) / bits) 0 / 2)) (n - 1) y k
+      pub crowd-shut : getD s i 0 ≡ x → (n ≡ 0 → ⊥) → (y : ℕ) → y ≡ lastOf (byteOf t (n - 1)) → (k : ℕ) → k ≡ i + 1 + span isInner (drop (i + 1) s)
+          → Crowd (readOff t (n - 1)) (n - 1) y k
       crowd-shut q e y f k run =
           let some : 1 ≤ n = omega arith in
-          let shuts : isShutting y ≡ true = rw f (last-shuts (getD t ((n - 1) / bits) 0)) in
+          let shuts : isShutting y ≡ true = rw f (last-shuts (byteOf t (n - 1))) in
           record {
             kept = kept-less t n (w .kept) some;
             paused = pauses Told s at c y _ (i + 1) k 0 (paused-shut Told s at c x (owing t n) i 0 (w .paused) l q y _ (rw f (owing-last t n some)) shuts) run;
@@ -91,7 +91,7 @@ module _ (s : List ℕ) (at c : ℕ) where
         still cs d h = deeper-told (x ∷ (owing t n ++ cs)) (getD s i 0) i (firstOf d 0) (some-told d h)
 
         -- v keeps x
-        pub crowd-open : n < lineLimit → isShutting z ≡ true → (v : ℕ) → (v / 2 ≡ getD t (n / bits) 0) × (lastOf v ≡ x) → (k : ℕ)
+        pub crowd-open : n < lineLimit → isShutting z ≡ true → (v : ℕ) → (v / 2 ≡ byteOf t n) × (lastOf v ≡ x) → (k : ℕ)
             → k ≡ i + 1 + span isInner (drop (i + 1) s) → Crowd (set t (n / bits) v) (n + 1) z k
         crowd-open f h v g k run =
             let p = paused-open Told s at c x (owing t n) i 0 (w .paused) l o z e h still in
@@ -100,23 +100,22 @@ module _ (s : List ℕ) (at c : ℕ) where
               paused = rw (owing-more t n (w .kept) f v (g .0) x (g .1)) (pauses Told s at c z (x ∷ owing t n) (i + 1) k 0 p run);
             }
 
-        module _ (j : ℕ) where
-          within : {r : TextEnd} → Crowded s (i + 1) z r → (hashes : Bool) (cs : List ℕ) (d : ℕ) → Told cs d
-              → scanDeep hashes (z ∷ x ∷ (owing t n ++ cs)) (drop (i + 1) s) (i + 1) (deeper (x ∷ (owing t n ++ cs)) (getD s i 0) i (firstOf d 0))
-              ≡ behind r (λ k y. scanDeep hashes (x ∷ (owing t n ++ cs)) (drop k s) k (firstOf d 0))
-          within p hashes cs d h =
-              ap (scanDeep hashes (z ∷ x ∷ (owing t n ++ cs)) (drop (i + 1) s) (i + 1)) (still cs d h)
-              ∙ p .reads hashes (x ∷ (owing t n ++ cs)) (firstOf d 0) (some-told d h)
+        within : {r : TextEnd} → Crowded s (i + 1) z r → (hashes : Bool) (cs : List ℕ) (d : ℕ) → Told cs d
+            → scanDeep hashes (z ∷ x ∷ (owing t n ++ cs)) (drop (i + 1) s) (i + 1) (deeper (x ∷ (owing t n ++ cs)) (getD s i 0) i (firstOf d 0))
+            ≡ behind r (λ k y. scanDeep hashes (x ∷ (owing t n ++ cs)) (drop k s) k (firstOf d 0))
+        within p hashes cs d h =
+            ap (scanDeep hashes (z ∷ x ∷ (owing t n ++ cs)) (drop (i + 1) s) (i + 1)) (still cs d h)
+            ∙ p .reads hashes (x ∷ (owing t n ++ cs)) (firstOf d 0) (some-told d h)
 
-          pub crowd-behind : (y : ℕ) → Crowded s (i + 1) z (Ends j y) → (k : ℕ) → k ≡ j + span isInner (drop j s) → Crowd t n x k
-          crowd-behind y p k run = record {
-            kept = w .kept;
-            paused = pauses Told s at c x (owing t n) j k 0
-                (paused-behind Told s at c x (owing t n) i 0 (w .paused) l o z e j 0 (omega (arith, p .past)) (within p)) run;
-          }
+        pub crowd-behind : (j y : ℕ) → Crowded s (i + 1) z (Ends j y) → (k : ℕ) → k ≡ j + span isInner (drop j s) → Crowd t n x k
+        crowd-behind j y p k run = record {
+          kept = w .kept;
+          paused = pauses Told s at c x (owing t n) j k 0
+              (paused-behind Told s at c x (owing t n) i 0 (w .paused) l o z e j 0 (omega (arith, p .past)) (within p)) run;
+        }
 
-          pub crowd-lost : Crowded s (i + 1) z (Stuck j) → Crowded s at c (Stuck j)
-          crowd-lost p = crowded-stuck j (paused-lost Told s at c x (owing t n) i 0 (w .paused) l o z e j (within p))
+        pub crowd-lost : (j : ℕ) → Crowded s (i + 1) z (Stuck j) → Crowded s at c (Stuck j)
+        crowd-lost j p = crowded-stuck j (paused-lost Told s at c x (owing t n) i 0 (w .paused) l o z e j (within p))
 
 -- ---- a pair that may stand: nothing else is owed in it
 abbrev pub Alone : List ℕ → ℕ → ℕ → ℕ → ℕ → ℕ → Type 0

@@ -68,10 +68,6 @@ unfoldable pub scanDeep : Bool → List ℕ → List ℕ → ℕ → ℕ → Tex
 scanDeep hashes cs [] i d = stoppedDeep cs i d
 scanDeep hashes cs (b ∷ l) i d = given (textStep hashes cs b) (λ cs′. scanDeep hashes cs′ l (i + 1) (deeper cs b i d)) (stoppedDeep cs i d)
 
--- the closer that the last bit of a number stands for
-abbrev pub lastOf : ℕ → ℕ
-lastOf v = cond (eqb (v % 2) 1) shutSquare shutCurly
-
 -- reading on behind a pair
 abbrev pub behind : TextEnd → (ℕ → ℕ → TextEnd) → TextEnd
 behind (Ends j x) go = go j x
@@ -100,3 +96,7 @@ pub record Crowded (s : List ℕ) (at c : ℕ) (r : TextEnd) : Type 0 where
   pub reads : (hashes : Bool) (cs : List ℕ) (d : ℕ) → (d ≡ 0 → ⊥) → scanDeep hashes (c ∷ cs) (drop at s) at d ≡ behind r (λ j x. scanDeep hashes cs (drop j s) j d)
   pub past : endsPast r at (length s)
   pub tells : TellsAt r at
+
+-- a bit keeps a closer: the one that the last bit of a number stands for
+abbrev pub lastOf : ℕ → ℕ
+lastOf v = cond (eqb (v % 2) 1) shutSquare shutCurly

@@ -18,9 +18,10 @@ pub enum TextEnd {
 // A pair with fewer pairs than these around it is read by a call of its own. One with more is too deep, and is read by `crowd_end`.
 const LEVELS: usize = Tables::DEPTH;
 
-// How many closers a byte keeps, and how many bytes of them a call of `crowd_end` has: enough for a line of nothing but openings.
+// How many closers a byte keeps: a bit each.
 const BITS: usize = 8;
 
+// How many bytes of them a call of `crowd_end` has: enough for a line of nothing but openings.
 const KEPT: usize = Tables::LINE / BITS;
 
 // Where the text that starts at `at` ends; `hashes` says whether `#` is plain in it.
@@ -82,8 +83,8 @@ fn pair_end(line: &[u8], at: usize, closer: u8, level: usize) -> TextEnd
     TextEnd::Stuck(i)
 }
 
-// The same, for a pair that is too deep: a call for each within would take too much stack. `next` closes the innermost pair that stands open. The closers of
-// the others are kept in a table, a bit each, the innermost one last; a pair that is opened when the table is full is read by a call.
+// The same, for a pair that is too deep: a call for each within would take too much stack. `next` closes the innermost pair that stands open; the closers of
+// the `n` pairs around it are kept in a table, a bit each, the innermost one last. The table is full only in a line that is too long: there a pair is read by a call.
 fn crowd_end(line: &[u8], at: usize, closer: u8) -> TextEnd
     requires { ⌜ isShutting closer ≡ true ⌝ }
     ensures { λ r. ⌜ Crowded (now (line .entry)) at closer r ⌝ }

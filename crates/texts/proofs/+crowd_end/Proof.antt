@@ -1,6 +1,6 @@
 -- The proof of the cycle of calls {crowd_end}. The measure is the number of bytes left. Each return and each turn cites the law of its arm. Assumes nothing.
 use Prim.Native.Nat.{ℕ, _<_, _-_}
-use mathlib.Core.Path.{refl, sym, _∙_}
+use mathlib.Core.Path.{sym, _∙_}
 use native.Mathlib.Omega.{arith}
 use lib.ListN.{length}
 use borrow.Author.Needs.{needs}
@@ -69,7 +69,9 @@ module _ (t : ℕ) where
 
   with-last-requires : lts.Need-with-last-requires (claims t) (Pre t) crowd-end.Post Inv ν
   with-last-requires c κs =
-      let w = c .before .before .before .before .before .before .loop .inv in
+      let o = c .before in
+      let l = o .before .before .before .before in
+      let w = l .before .loop .inv in
       (w .paused .inside .shut, kept-fits _ _ (w .kept) (c .if4 .taken))
 
   loop-again-2 : lts.Need-loop-again-2 (claims t) (Pre t) crowd-end.Post Inv ν

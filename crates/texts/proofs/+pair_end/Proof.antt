@@ -1,6 +1,6 @@
 -- The proof of the cycle of calls {pair_end}. The measure is the number of bytes left. Each return and each turn cites the law of its arm. Assumes nothing.
 use Prim.Native.Nat.{ℕ, _<_, _-_}
-use mathlib.Core.Path.{refl, sym, _∙_}
+use mathlib.Core.Path.{sym, _∙_}
 use native.Mathlib.Omega.{arith}
 use lib.ListN.{length}
 use borrow.Author.Needs.{needs}

@@ -1,5 +1,5 @@
 -- The closer of a bit, by the bit.
-use borrow.Author.Tests.{eq-eqb, ne-eqb}
+use borrow.Author.Tests.{ne-eqb}
 use Rattle.texts.proofs.last_of.Statement.{statement}
 use Rattle.texts.proofs.last_of.Tie as tie
 

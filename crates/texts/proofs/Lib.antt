@@ -4,4 +4,5 @@ pub mod Bounds
 pub mod Told
 pub mod Pairs
 pub mod Owed
+pub mod Bits
 pub mod Levels

@@ -1,12 +1,12 @@
 -- How far a text goes, and where a pair in it is too deep: scope's own step, as far as it goes.
-use Prim.Native.Nat.{ℕ, _+_, _-_, _≤_, _<_}
+use Prim.Native.Nat.{ℕ, _+_, _-_, _%_, _≤_, _<_}
 use mathlib.Core.Path.{_≡_}
 use mathlib.Core.Bool.{Bool, not, cond, _&&_, _||_}
 use mathlib.Core.Option.{Option, none, some}
 use mathlib.Core.List.{List, [], _∷_}
 use lib.Dec.{eqb, leb}
 use lib.ListN.{length, drop}
-use Rattle.scope.specs.Bytes.{isPrintable, isOpening, isShutting, colon, hash}
+use Rattle.scope.specs.Bytes.{isPrintable, isOpening, isShutting, shutSquare, shutCurly, colon, hash}
 use Rattle.scope.specs.Limits.{depthLimit}
 use Rattle.scope.specs.Lists.{given, part}
 use Rattle.scope.specs.Content.{isPlain, textStep}
@@ -96,3 +96,7 @@ pub record Crowded (s : List ℕ) (at c : ℕ) (r : TextEnd) : Type 0 where
   pub reads : (hashes : Bool) (cs : List ℕ) (d : ℕ) → (d ≡ 0 → ⊥) → scanDeep hashes (c ∷ cs) (drop at s) at d ≡ behind r (λ j x. scanDeep hashes cs (drop j s) j d)
   pub past : endsPast r at (length s)
   pub tells : TellsAt r at
+
+-- a bit keeps a closer: the one that the last bit of a number stands for
+abbrev pub lastOf : ℕ → ℕ
+lastOf v = cond (eqb (v % 2) 1) shutSquare shutCurly

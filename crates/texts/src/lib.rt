@@ -3,11 +3,11 @@ use scope::tables::Tables;
 ghost use mathlib.Core.Path.{_≡_};
 ghost use mathlib.Core.Bool.{true};
 ghost use mathlib.Core.List.{[]};
-ghost use Prim.Native.Nat.{_+_, _<_};
+ghost use Prim.Native.Nat.{_+_, _*_, _/_, _<_};
 ghost use lib.ListN.{drop};
-ghost use Rattle.scope.specs.Bytes.{isShutting, closerOf};
+ghost use Rattle.scope.specs.Bytes.{byteLimit, isShutting, closerOf};
 ghost use Rattle.classes.specs.Runs.{span};
-ghost use Rattle.texts.specs.Texts.{isOuter, isInner, scanText, told, firstOf, Closed, Crowded};
+ghost use Rattle.texts.specs.Texts.{isOuter, isInner, scanText, told, firstOf, lastOf, Closed, Crowded};
 
 // Where a text ends, with one more than the first place at which a pair is opened while as many as may be are open, or 0; or where it is stuck inside a pair.
 pub enum TextEnd {
@@ -18,8 +18,11 @@ pub enum TextEnd {
 // A pair with fewer pairs than these around it is read by a call of its own. One with more is too deep, and is read by `crowd_end`.
 const LEVELS: usize = Tables::DEPTH;
 
-// How many closers one call of `crowd_end` keeps.
-const KEPT: usize = 1024;
+// How many closers a byte keeps: a bit each.
+const BITS: usize = 8;
+
+// How many bytes of them a call of `crowd_end` has: enough for a line of nothing but openings.
+const KEPT: usize = Tables::LINE / BITS;
 
 // Where the text that starts at `at` ends; `hashes` says whether `#` is plain in it.
 pub fn text_end(line: &[u8], at: usize, hashes: bool) -> TextEnd
@@ -80,31 +83,36 @@ fn pair_end(line: &[u8], at: usize, closer: u8, level: usize) -> TextEnd
     TextEnd::Stuck(i)
 }
 
-// The same, for a pair that is too deep: a call for each within would take too much stack. The closers of the pairs that stand open are kept in a table,
-// the innermost one last; a pair that is opened when the table is full is read by a call.
+// The same, for a pair that is too deep: a call for each within would take too much stack. `next` closes the innermost pair that stands open; the closers of
+// the `n` pairs around it are kept in a table, a bit each, the innermost one last. The table is full only in a line that is too long: there a pair is read by a call.
 fn crowd_end(line: &[u8], at: usize, closer: u8) -> TextEnd
     requires { ⌜ isShutting closer ≡ true ⌝ }
     ensures { λ r. ⌜ Crowded (now (line .entry)) at closer r ⌝ }
 {
     let mut owed = [0u8; KEPT];
-    owed[0] = closer;
-    let mut depth: usize = 1;
+    let mut n: usize = 0;
+    let mut next = closer;
     let mut i = inner_end(line, at);
     while i < line.len() {
         let b = line[i];
-        if b == owed[depth - 1] {
-            if depth == 1 {
+        if b == next {
+            if n == 0 {
                 return TextEnd::Ends {
                     to: i + 1,
                     deep: at,
                 };
             }
-            depth -= 1;
+            n -= 1;
+            let k = n / BITS;
+            next = last_of(owed[k]);
+            owed[k] = owed[k] / 2;
             i = inner_end(line, i + 1);
         } else if classes::is_opening(b) {
-            if depth < KEPT {
-                owed[depth] = closer_of(b);
-                depth += 1;
+            if n < Tables::LINE {
+                let k = n / BITS;
+                owed[k] = with_last(owed[k], next);
+                n += 1;
+                next = closer_of(b);
                 i = inner_end(line, i + 1);
             } else {
                 let e = crowd_end(line, i + 1, closer_of(b));
@@ -122,6 +130,27 @@ fn crowd_end(line: &[u8], at: usize, closer: u8) -> TextEnd
         }
     }
     TextEnd::Stuck(i)
+}
+
+// The closer that the last of some bits stands for.
+fn last_of(bits: u8) -> u8
+    ensures { λ r. ⌜ r ≡ lastOf bits ⌝ }
+{
+    if bits % 2 == 1 {
+        return b']';
+    }
+    b'}'
+}
+
+// The bits with one more, which stands for `closer`.
+fn with_last(bits: u8, closer: u8) -> u8
+    requires { ⌜ (isShutting closer ≡ true) × (2 * bits + 1 < byteLimit) ⌝ }
+    ensures { λ r. ⌜ (r / 2 ≡ bits) × (lastOf r ≡ closer) ⌝ }
+{
+    if closer == b']' {
+        return 2 * bits + 1;
+    }
+    2 * bits
 }
 
 // The first of two places, told as in `TextEnd`, of which the other stands behind it.

@@ -1,6 +1,6 @@
 -- The proof of the cycle of calls {pair_end}. The measure is the number of bytes left. Each return and each turn cites the law of its arm. Assumes nothing.
 use Prim.Native.Nat.{ℕ, _<_, _-_}
-use mathlib.Core.Path.{refl, sym, _∙_}
+use mathlib.Core.Path.{sym, _∙_}
 use native.Mathlib.Omega.{arith}
 use lib.ListN.{length}
 use borrow.Author.Needs.{needs}
@@ -55,7 +55,7 @@ module _ (t : ℕ) where
   returns c = closed-deep _ _ _ _ (c .before .if1 .taken) (c .before .before .before .pre .1 .1) _ (c .crowd-end .ensures)
 
   loop-holds : lts.Need-loop-holds (claims t) (Pre t) pair-end.Post Inv ν
-  loop-holds c = pauses (Level _) _ _ _ _ _ _ _ _ _ (inside-starts (Level _) _ _ _ _ _ refl (c .before .before .before .pre .1 .0)) (c .inner-end .ensures)
+  loop-holds c = pauses (Level _) _ _ _ _ _ _ _ _ (inside-starts (Level _) _ _ _ (c .before .before .before .pre .1 .0)) (c .inner-end .ensures)
 
   returns-2 : lts.Need-returns-2 (claims t) (Pre t) pair-end.Post Inv ν
   returns-2 c =

@@ -1,5 +1,6 @@
 -- The entry of a line: what the register prints for it, in an output that the caller lends.
 use mathlib.Core.Path.{_≡_}
+use mathlib.Core.Bool.{Bool, true, false}
 use mathlib.Core.List.{List, [], _∷_, _++_}
 use Prim.Native.Nat.{ℕ, _+_, _*_, _≤_}
 use lib.IntN.{ℤ}
@@ -7,6 +8,7 @@ use lib.ListN.{length}
 use Rattle.scope.specs.Bytes.{bytes, question}
 use Rattle.scope.specs.Limits.{lineLimit, copyLimit}
 use Rattle.scope.specs.Line.{Line}
+use Rattle.scope.specs.Refusals.{Outcome, accepted, refused}
 use Rattle.scope.specs.Canonical.{decimal, canonical}
 use Rattle.scope.specs.Layout.{tablesIn}
 use Rattle.scope.specs.Positions.{floaters}
@@ -20,6 +22,11 @@ use Rattle.writer.specs.Written.{Puts, decimalMost, lineMost}
 -- what is printed for the line s with the number n, and the byte behind it
 abbrev pub entry : ℕ → List ℕ → List ℕ
 entry n s = printed n s ++ (10 ∷ [])
+
+-- whether a line of this outcome is refused
+abbrev pub isRefused : Outcome → Bool
+isRefused (accepted l) = false
+isRefused (refused number place) = true
 
 -- the fields behind the number of an accepted line
 abbrev pub countFields : {P : Type 0} → Line P → List (List ℕ)

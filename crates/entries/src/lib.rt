@@ -19,7 +19,7 @@ ghost use Rattle.scope.specs.Layout.{tablesIn};
 ghost use Rattle.sheet.specs.Rows.{Roomy};
 ghost use Rattle.store.specs.Filled.{Clean, Fills};
 ghost use Rattle.writer.specs.Written.{Puts, ceiling};
-ghost use Rattle.entries.specs.Entry.{entry, fieldMost, weightMost, refusedMost, countsMost, totalMost, acceptedMost, tablesMost, entryLimit, countFields, okFields, noFields, weightText, Known, Printed};
+ghost use Rattle.entries.specs.Entry.{entry, fieldMost, weightMost, refusedMost, countsMost, totalMost, acceptedMost, tablesMost, entryLimit, countFields, okFields, noFields, weightText, isRefused, Known, Printed};
 
 // "Byte 10 ends a line"
 pub const NEWLINE: u8 = 10;
@@ -154,6 +154,13 @@ fn put_taken(
 
 // ---- the entry
 
+// Where the entry ends in the output, and whether the line is refused.
+pub struct Entered {
+    pub next: usize,
+    pub refused: bool,
+}
+
+// What is printed behind the number: of an accepted line by way of its tables, of a refused one the refusal.
 fn put_report(
     line: &[u8],
     letters: &mut [u8],
@@ -166,32 +173,44 @@ fn put_report(
     numbers: &mut [i64],
     out: &mut [u8],
     at: usize,
-) -> usize
+) -> Entered
     requires { ⌜ Roomy (now letters) (now sections) (now heads) (now parts) (now masses) (now scores) × Clean (now bytes) (now numbers) × (at + tablesMost ≤ ceiling) ⌝ }
-    ensures { λ r. ⌜ Printed acceptedMost (now (out .entry)) at (report (outcome (now (line .entry)))) (now (out .exit)) r (now (bytes .entry)) (now (numbers .entry)) (now (bytes .exit)) (now (numbers .exit)) ⌝ }
+    ensures { λ r. ⌜ Printed acceptedMost (now (out .entry)) at (report (outcome (now (line .entry)))) (now (out .exit)) (r .next) (now (bytes .entry)) (now (numbers .entry)) (now (bytes .exit)) (now (numbers .exit)) × (r .refused ≡ isRefused (outcome (now (line .entry)))) ⌝ }
 {
     let judged = verdict::judge(line, letters, sections, heads, parts, masses, scores);
     match judged {
-        Judged::Holds { residues, brackets } => put_taken(
-            line,
-            letters,
-            sections,
-            heads,
-            parts,
-            masses,
-            scores,
-            residues,
-            brackets,
-            bytes,
-            numbers,
-            out,
-            at,
-        ),
-        Judged::Refused { number, place } => put_refused(number, place, out, at),
+        Judged::Holds { residues, brackets } => {
+            let next = put_taken(
+                line,
+                letters,
+                sections,
+                heads,
+                parts,
+                masses,
+                scores,
+                residues,
+                brackets,
+                bytes,
+                numbers,
+                out,
+                at,
+            );
+            return Entered {
+                next,
+                refused: false,
+            };
+        }
+        Judged::Refused { number, place } => {
+            let next = put_refused(number, place, out, at);
+            return Entered {
+                next,
+                refused: true,
+            };
+        }
     }
 }
 
-// At the front of an output.
+// The entry, at the front of an output.
 fn put_front(
     number: u64,
     line: &[u8],
@@ -204,12 +223,12 @@ fn put_front(
     bytes: &mut [u8],
     numbers: &mut [i64],
     out: &mut [u8],
-) -> usize
+) -> Entered
     requires { ⌜ Roomy (now letters) (now sections) (now heads) (now parts) (now masses) (now scores) × Clean (now bytes) (now numbers) ⌝ }
-    ensures { λ r. ⌜ Printed entryLimit (now (out .entry)) 0 (entry number (now (line .entry))) (now (out .exit)) r (now (bytes .entry)) (now (numbers .entry)) (now (bytes .exit)) (now (numbers .exit)) ⌝ }
+    ensures { λ r. ⌜ Printed entryLimit (now (out .entry)) 0 (entry number (now (line .entry))) (now (out .exit)) (r .next) (now (bytes .entry)) (now (numbers .entry)) (now (bytes .exit)) (now (numbers .exit)) × (r .refused ≡ isRefused (outcome (now (line .entry)))) ⌝ }
 {
     let a = writer::put_decimal(number, out, 0);
-    let b = put_report(
+    let e = put_report(
         line,
         letters,
         sections,
@@ -222,11 +241,15 @@ fn put_front(
         out,
         a,
     );
-    writer::put(out, b, NEWLINE)
+    let next = writer::put(out, e.next, NEWLINE);
+    Entered {
+        next,
+        refused: e.refused,
+    }
 }
 
-// What the register prints for a line, and byte 10, from a place of the output on. The line is noted in the first six tables, which have room and may hold
-// anything. The areas' room is zero, and they are left as they were.
+// What the register prints for a line, and byte 10, from a place of the output on, and whether the line is refused. The line is noted in the first six tables,
+// which have room and may hold anything. The areas' room is zero, and they are left as they were.
 pub fn put_entry(
     number: u64,
     line: &[u8],
@@ -240,11 +263,11 @@ pub fn put_entry(
     numbers: &mut [i64],
     out: &mut [u8],
     at: usize,
-) -> usize
+) -> Entered
     requires { ⌜ Roomy (now letters) (now sections) (now heads) (now parts) (now masses) (now scores) × Clean (now bytes) (now numbers) × (at + entryLimit ≤ length (now out)) ⌝ }
-    ensures { λ r. ⌜ Printed entryLimit (now (out .entry)) at (entry number (now (line .entry))) (now (out .exit)) r (now (bytes .entry)) (now (numbers .entry)) (now (bytes .exit)) (now (numbers .exit)) ⌝ }
+    ensures { λ r. ⌜ Printed entryLimit (now (out .entry)) at (entry number (now (line .entry))) (now (out .exit)) (r .next) (now (bytes .entry)) (now (numbers .entry)) (now (bytes .exit)) (now (numbers .exit)) × (r .refused ≡ isRefused (outcome (now (line .entry)))) ⌝ }
 {
-    let n = put_front(
+    let e = put_front(
         number,
         line,
         letters,
@@ -257,5 +280,9 @@ pub fn put_entry(
         numbers,
         &mut out[at..],
     );
-    at + n
+    let next = at + e.next;
+    Entered {
+        next,
+        refused: e.refused,
+    }
 }

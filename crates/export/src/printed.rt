@@ -35,7 +35,7 @@ pub extern "C" fn hwemiduk_entry(number: u64, line: &[u8], out: &mut [u8], lengt
     let mut bytes = [0u8; Tables::BYTES];
     let mut numbers = [0i64; Tables::NUMBERS];
     let mut text = [0u8; ENTRY];
-    let n = put_entry(
+    let e = put_entry(
         number,
         line,
         &mut letters,
@@ -49,5 +49,5 @@ pub extern "C" fn hwemiduk_entry(number: u64, line: &[u8], out: &mut [u8], lengt
         &mut text,
         0,
     );
-    hand_out(&text, n, out, length)
+    hand_out(&text, e.next, out, length)
 }

@@ -1,4 +1,4 @@
--- The three refusals of one bracket after another, gathered into the lowest code. Assumes nothing.
+-- The three refusals of one bracket after another, gathered into the lowest code, and their copies into the sum. Assumes nothing.
 use Prim.Native.Nat.{ℕ, suc, _+_, _-_, _*_, _≤_, _<_}
 use mathlib.Core.Path.{_≡_, sym, ap, ap₂, _∙_}
 use mathlib.Core.Bool.{Bool}
@@ -12,7 +12,7 @@ use Rattle.dues.specs.First.{lowest-append}
 use Rattle.dues.specs.Lines.{infoRank, labelRank, copiesRank}
 use Rattle.dues.specs.Met.{lowest-two}
 use Rattle.dues.specs.Steps.{lowest-on}
-use Rattle.rules.specs.Told.{infoAt, wrongAt, copiesAt, passes, dueCodes, dueFrom}
+use Rattle.rules.specs.Told.{infoAt, wrongAt, copiesAt, copiesFrom, passes, dueCodes, dueFrom}
 
 -- one list after another
 lowest-both : (n : ℕ) (a b : List ℕ) → lowest n (a ++ b) ≡ lowest (lowest n a) b
@@ -44,16 +44,17 @@ module _ (line heads parts : List ℕ) (n : ℕ) where
       pub within : k ≤ n
       pub low : before ≤ k * wideLimit
       pub left : lowest first (dueFrom line heads parts n before k (n - k)) ≡ lowest least (dueFrom line heads parts n 0 0 n)
+      pub copies-left : before + copiesFrom heads k (n - k) ≡ copiesFrom heads 0 n
 
     pub gather-starts : Gathering least 0 0
     gather-starts =
         let e : n - 0 ≡ n = omega arith in
-        record { within = omega arith; low = omega arith; left = rw e }
+        record { within = omega arith; low = omega arith; left = rw e; copies-left = rw e (omega arith) }
 
     module _ (first before k : ℕ) (s : Gathering first before k) where
       pub gather-more : {x y : ℕ} → k < n → x ≡ copiesAt heads k → x < wideLimit → y ≡ lowest first (dueCodes line heads parts n before k)
           → Gathering y (before + x) (k + 1)
-      unfolding dueFrom
+      unfolding dueFrom copiesFrom
       gather-more h e l q =
           let g : n - k ≡ suc (n - (k + 1)) = omega arith in
           let rest : List ℕ = dueFrom line heads parts n (before + copiesAt heads k) (k + 1) (n - (k + 1)) in
@@ -61,10 +62,17 @@ module _ (line heads parts : List ℕ) (n : ℕ) where
             within = omega arith;
             low = omega (arith, s .low);
             left = rw (q, e) (sym (lowest-both first (dueCodes line heads parts n before k) rest) ∙ (rw g at (s .left)));
+            copies-left = let w = rw g at (s .copies-left) in omega arith;
           }
 
-      pub gather-ends : n ≤ k → first ≡ lowest least (dueFrom line heads parts n 0 0 n)
-      unfolding dueFrom lowest
-      gather-ends h =
-          let e : n - k ≡ 0 = omega arith in
-          rw e at (s .left)
+      module _ (h : n ≤ k) where
+        none-left : n - k ≡ 0
+        none-left = omega arith
+
+        pub gather-ends : first ≡ lowest least (dueFrom line heads parts n 0 0 n)
+        unfolding dueFrom lowest
+        gather-ends = rw none-left at (s .left)
+
+        pub copies-end : before ≡ copiesFrom heads 0 n
+        unfolding copiesFrom
+        copies-end = let e = rw none-left at (s .copies-left) in omega arith

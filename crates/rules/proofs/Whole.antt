@@ -1,11 +1,12 @@
--- The lowest code of refusals 10 to 12, bracket by bracket as the tables say them, is that of the definitions one by one. Assumes nothing.
+-- The lowest code of refusals 10 to 12, bracket by bracket as the tables say them, is that of the definitions one by one; and so are the copies that float,
+-- where they are few. Assumes nothing.
 use Prim.Native.Nat.{ℕ, zero, suc, _+_, _≤_, _<_, min}
 use mathlib.Core.Path.{_≡_, refl, sym, ap, ap₂, _∙_}
 use mathlib.Core.Bool.{_&&_}
 use mathlib.Core.List.{List, _++_}
 use native.Mathlib.Omega.{arith}
 use lib.Dec.{leb, ltb}
-use lib.ListN.{length, take, drop, drop-of-length-le}
+use lib.ListN.{length, take, drop, replicate, drop-of-length-le, length-append, length-replicate}
 use Rattle.scope.specs.Kinds.{unknownOrLabile}
 use Rattle.scope.specs.Limits.{copyLimit}
 use Rattle.scope.specs.Line.{Bracket}
@@ -15,8 +16,8 @@ use Rattle.scope.specs.Refusals.{dueAt, wronglyLabelled, passing}
 use Rattle.dues.specs.Ranks.{lowest}
 use Rattle.dues.specs.Lines.{infoRank, labelRank, copiesRank, ruledCodes}
 use Rattle.dues.specs.Met.{mins, lowest-two, low, low-two}
-use Rattle.rules.specs.Told.{copiesAt, dueCodes, dueFrom}
-use Rattle.rules.specs.Ruled.{Ruled}
+use Rattle.rules.specs.Told.{copiesAt, copiesFrom, dueCodes, dueFrom}
+use Rattle.rules.specs.Ruled.{Ruled, floating, Finds}
 use Rattle.rules.proofs.Noting.{bracketAt, drop-next, flat-next}
 use Rattle.rules.proofs.Ruling.{SameFew, as-many, few-more, few-passes, wrongIn, info-is, copies-are, place-is, wrong-is}
 
@@ -49,6 +50,14 @@ passing-next ks k y h = ap (passing y) (drop-next ks k h)
 info-next : (ks : List (Bracket ℕ)) (k : ℕ) → k < length ks → flat infoIn (drop k ks) ≡ infoIn (bracketAt ks k) ++ flat infoIn (drop (k + 1) ks)
 unfolding flat
 info-next ks k h = ap (flat infoIn) (drop-next ks k h)
+
+floating-next : (ks : List (Bracket ℕ)) (k : ℕ) → k < length ks → floating (drop k ks) ≡ copies (bracketAt ks k) + floating (drop (k + 1) ks)
+unfolding flat
+floating-next ks k h =
+    let b = bracketAt ks k in
+    ap floating (drop-next ks k h)
+    ∙ length-append (replicate (copies b) b) _
+    ∙ ap (λ m. m + floating (drop (k + 1) ks)) (length-replicate (copies b) b)
 
 module _ {line heads parts : List ℕ} {n : ℕ} {ks : List (Bracket ℕ)} (a : Ruled line heads parts n ks) (o : ℕ) where
   -- the lowest of each rank, from the k-th bracket on, with y copies before it
@@ -90,9 +99,23 @@ module _ {line heads parts : List ℕ} {n : ℕ} {ks : List (Bracket ℕ)} (a : 
       (from (x + copiesAt heads k) (y + copies b) (k + 1) m (omega arith) (few-more x y (copiesAt heads k) (copies b) s (copies-are a k g)))
       ∙ ranks-next y k g
 
-  pub ruled : lowest o (dueFrom line heads parts n 0 0 n) ≡ lowest o (ruledCodes ks)
+  ruled : lowest o (dueFrom line heads parts n 0 0 n) ≡ lowest o (ruledCodes ks)
   unfolding low flat
   ruled =
       from 0 0 0 n (omega (arith, a .many)) (as-many refl)
       ∙ turned _ _ _
       ∙ sym (lowest-two o _ _ ∙ ap (min _) (lowest-two o _ _))
+
+  -- no count is past its limit where few copies float
+  copies-few : (k m : ℕ) → k + m ≡ length ks → floating (drop k ks) ≤ copyLimit → copiesFrom heads k m ≡ floating (drop k ks)
+  unfolding copiesFrom flat
+  copies-few k zero e f =
+      let g : length ks ≤ k = omega arith in
+      rw (drop-of-length-le ks g)
+  copies-few k (suc m) e f =
+      let g : k < length ks = omega arith in
+      let all = floating-next ks k g in
+      omega (arith, copies-are a k g, copies-few (k + 1) m (omega arith) (omega arith))
+
+  pub finds : {first floaters : ℕ} → first ≡ lowest o (dueFrom line heads parts n 0 0 n) → floaters ≡ copiesFrom heads 0 n → Finds ks o first floaters
+  finds e f = record { first-is = e ∙ ruled; floaters-are = λ few. f ∙ copies-few 0 n (omega (arith, a .many)) few }

@@ -101,6 +101,11 @@ copiesIn sort kind count =
 abbrev pub copiesAt : List ℕ → ℕ → ℕ
 copiesAt heads k = copiesIn (sortField heads k) (kindField heads k) (countField heads k)
 
+-- those of m brackets from the k-th on
+unfoldable pub copiesFrom : List ℕ → ℕ → ℕ → ℕ
+copiesFrom heads k zero = 0
+copiesFrom heads k (suc m) = copiesAt heads k + copiesFrom heads (k + 1) m
+
 -- with so many copies before a bracket, and so many with it
 abbrev pub passes : ℕ → ℕ → Bool
 passes before after = leb before copyLimit && ltb copyLimit after

@@ -1,5 +1,6 @@
 // Refusals 10 to 12, over the rows of brackets and parts in which a line is noted.
 use scope::answers::Placement;
+use sheet::Head;
 ghost use mathlib.Core.Path.{_≡_};
 ghost use mathlib.Core.List.{List};
 ghost use Prim.Native.Nat.{ℕ, _+_, _<_, _≤_};
@@ -11,9 +12,8 @@ ghost use Rattle.scope.specs.Lists.{same, among, tabled};
 ghost use Rattle.sheet.specs.Rows.{headsRoom, partsRoom, massesRoom};
 ghost use Rattle.sheet.specs.Fields.{partsField, baseField};
 ghost use Rattle.dues.specs.Ranks.{lowest};
-ghost use Rattle.dues.specs.Lines.{ruledCodes};
 ghost use Rattle.rules.specs.Told.{infoAt, nameAt, Legible, AllLegible, labelledAt, sideIs, sideAt, sideFrom, wrongLabel, wrongAt, copiesAt, passes as passing, dueCodes};
-ghost use Rattle.rules.specs.Ruled.{Ruled};
+ghost use Rattle.rules.specs.Ruled.{Ruled, Finds};
 
 // the codes of kinds
 const UNKNOWN: usize = 1;
@@ -22,36 +22,33 @@ const LABILE: usize = 2;
 
 const ON_RANGE: usize = 5;
 
-// what a bracket is: only INFO, an unlabelled modification, a labelled one, a reference
-const ONLY_INFO: usize = 0;
-
-const UNLABELLED: usize = 1;
-
-const LABELLED: usize = 2;
-
-const REFERENCE: usize = 3;
-
 // where no label ends
 const NOWHERE: usize = 0;
 
-// With what refusals 10 to 12 find in the n brackets.
-pub fn rules_due(line: &[u8], heads: &[u16], parts: &[u16], n: usize, least: usize) -> usize
-    requires { ⌜ ((ks : List (Bracket ℕ)) × Ruled (now line) (now heads) (now parts) n ks) ⌝ }
-    ensures { λ r. ⌜ ((ks : List (Bracket ℕ)) → Ruled (now (line .entry)) (now (heads .entry)) (now (parts .entry)) n ks → r ≡ lowest least (ruledCodes ks)) ⌝ }
-{
-    let mut first = least;
-    let mut before = 0;
-    let mut k = 0;
-    while k < n {
-        let after = before + copies_of(heads, k);
-        first = bracket_due(line, heads, parts, n, k, before, after, first);
-        before = after;
-        k += 1;
-    }
-    first
+// The first refusal due, and how many copies float.
+pub struct Found {
+    pub first: usize,
+    pub floaters: usize,
 }
 
-// With what they find in bracket k, where so many copies stand before it and so many with it.
+// What refusals 10 to 12 find in the n brackets: the first refusal due, where `least` is the first of those tried before them; and how many copies float.
+pub fn rules_due(line: &[u8], heads: &[u16], parts: &[u16], n: usize, least: usize) -> Found
+    requires { ⌜ ((ks : List (Bracket ℕ)) × Ruled (now line) (now heads) (now parts) n ks) ⌝ }
+    ensures { λ r. ⌜ ((ks : List (Bracket ℕ)) → Ruled (now (line .entry)) (now (heads .entry)) (now (parts .entry)) n ks → Finds ks least (r .first) (r .floaters)) ⌝ }
+{
+    let mut first = least;
+    let mut floaters = 0;
+    let mut k = 0;
+    while k < n {
+        let after = floaters + copies_of(heads, k);
+        first = bracket_due(line, heads, parts, n, k, floaters, after, first);
+        floaters = after;
+        k += 1;
+    }
+    Found { first, floaters }
+}
+
+// The first refusal due with what they find in bracket k, where so many copies stand before it and so many with it.
 fn bracket_due(
     line: &[u8],
     heads: &[u16],
@@ -79,7 +76,7 @@ fn has_only_info(heads: &[u16], k: usize) -> bool
     if LABILE < sheet::kind_of(heads, k) {
         return false;
     }
-    sheet::sort_of(heads, k) == ONLY_INFO
+    sheet::sort_of(heads, k) == Head::ONLY_INFO
 }
 
 // Refusal 11: whether bracket k is wrongly labelled.
@@ -105,7 +102,7 @@ fn is_wrong_label(line: &[u8], heads: &[u16], parts: &[u16], n: usize, k: usize,
     requires { ⌜ AllLegible (now line) (now heads) (now parts) n × (k < n) × Legible (now line) (now parts) x ⌝ }
     ensures { λ r. ⌜ r ≡ wrongLabel (now (line .entry)) (now (heads .entry)) (now (parts .entry)) n k x ⌝ }
 {
-    if sheet::sort_of(heads, k) == REFERENCE {
+    if sheet::sort_of(heads, k) == Head::REFERENCE {
         return !is_named(line, heads, parts, false, n, x);
     }
     if is_named(line, heads, parts, false, k, x) {
@@ -173,7 +170,7 @@ fn is_side(heads: &[u16], refers: bool, k: usize) -> bool
     requires { ⌜ (headsRoom ≤ length (now heads)) × (k < bracketLimit) ⌝ }
     ensures { λ r. ⌜ r ≡ sideIs (now (heads .entry)) refers k ⌝ }
 {
-    if sheet::sort_of(heads, k) == REFERENCE {
+    if sheet::sort_of(heads, k) == Head::REFERENCE {
         return refers;
     }
     !refers
@@ -215,10 +212,10 @@ fn copies_of(heads: &[u16], k: usize) -> usize
     ensures { λ r. ⌜ (r ≡ copiesAt (now (heads .entry)) k) × (r < wideLimit) ⌝ }
 {
     let sort = sheet::sort_of(heads, k);
-    if sort == LABELLED {
+    if sort == Head::LABELLED {
         return 1;
     }
-    if sort != UNLABELLED {
+    if sort != Head::UNLABELLED {
         return 0;
     }
     let kind = sheet::kind_of(heads, k);

@@ -186,7 +186,7 @@ fn put_part(
     requires { ⌜ (from ≤ end) × (end ≤ length (now line)) × Roomy (now letters) (now sections) (now heads) (now parts) (now masses) (now scores) × Clean (now bytes) (now numbers) × (at + entryLimit ≤ length (now out)) ⌝ }
     ensures { λ r. ⌜ Printed entryLimit (now (out .entry)) at (entry number (part from end (now (line .entry)))) (now (out .exit)) r (now (bytes .entry)) (now (numbers .entry)) (now (bytes .exit)) (now (numbers .exit)) ⌝ }
 {
-    put_entry(
+    let e = put_entry(
         number,
         &line[from..end],
         letters,
@@ -199,7 +199,8 @@ fn put_part(
         numbers,
         out,
         at,
-    )
+    );
+    e.next
 }
 
 // The entries of the lines that lie whole in the chunk from a place on, while the output has room for one more.

@@ -13,8 +13,10 @@ use Rattle.scope.specs.Limits.{lineLimit}
 use Rattle.scope.specs.Line.{Bracket, Line}
 use Rattle.scope.specs.Reading.{stuck, holds, reading}
 use Rattle.scope.specs.Refusals.{accepted, refused, outcome}
+use Rattle.scope.specs.Positions.{floaters}
 use Rattle.scope.specs.Answers.{good, refuses, saysOutcome}
 use Rattle.basics.specs.Each.{Each}
+use Rattle.accepted_laws.specs.Laws.{accepted-within}
 use Rattle.reading_laws.specs.Printable.{order-printable}
 use Rattle.classes.specs.Runs.{span}
 use Rattle.sheet.specs.Rows.{Roomy, LineNoted}
@@ -25,13 +27,13 @@ use Rattle.dues.specs.Met.{lowest-below, lowest-two}
 use Rattle.dues.specs.Judged.{by-codes, met-first}
 use Rattle.dues.specs.Inside.{places-fit}
 use Rattle.dues.specs.Few.{FewOf, few-of}
-use Rattle.rules.specs.Ruled.{Ruled}
+use Rattle.rules.specs.Ruled.{Ruled, Finds}
 use Rattle.rules.specs.Shapes.{all-shaped}
 use Rattle.walk.specs.Stages.{lent}
 use Rattle.walk.specs.Walked.{LineSays}
 use Rattle.verdict.specs.declared.Judged.{Judged}
 use Rattle.verdict.specs.declared.Judged.the-variants.{Refused, Holds}
-use Rattle.verdict.specs.Due.{unread, WalkedLine, firstCode, byCode}
+use Rattle.verdict.specs.Due.{unread, WalkedLine, firstCode, FirstOf, byCode}
 use Rattle.verdict.specs.Says.{JudgedSays}
 use Rattle.verdict.proofs.Unprintable.{first-unprintable, no-unprintable, bytes}
 use Rattle.verdict.proofs.Trying.{is-unprintable, is-stuck, of-order}
@@ -51,9 +53,13 @@ module _ {line heads parts : List ℕ} {brackets least : ℕ} (w : WalkedLine li
   fits = places-fit line (w .held) (w .is) (w .short)
 
   -- something is met
-  pub met-is-first : least < n → (l : Line ℕ) → reading line ≡ holds l → least ≡ firstCode l
-  met-is-first h l e =
-      w .least-is ∙ sym (met-first (w .held) fits (subst (λ c. c < n) (w .least-is) h)) ∙ ap firstCode (same-line l e)
+  pub met-is-first : least < n → {many : ℕ} → (l : Line ℕ) → reading line ≡ holds l → FirstOf l least many
+  met-is-first h {many} l e =
+      subst (λ l. FirstOf l least many) (same-line l e)
+      (record {
+        first-is = w .least-is ∙ sym (met-first (w .held) fits (subst (λ c. c < n) (w .least-is) h));
+        floaters-are = λ none. absurd (omega arith);
+      })
 
   module _ (clear : n ≤ least) where
     none-met : n ≤ lowest n met
@@ -79,15 +85,20 @@ module _ {line heads parts : List ℕ} {brackets least : ℕ} (w : WalkedLine li
         }
 
     -- and what the rules find is the first
-    pub ruled-is-first : (c : ℕ) → ((ks : List (Bracket ℕ)) → Ruled line heads parts brackets ks → c ≡ lowest least (ruledCodes ks))
-        → (l : Line ℕ) → reading line ≡ holds l → c ≡ firstCode l
-    ruled-is-first c f l e =
+    ruled-first : {c : ℕ} → c ≡ lowest least (ruledCodes (w .held .brackets)) → c ≡ firstCode (w .held)
+    ruled-first {c} e =
         let ruled = ruledCodes (w .held .brackets) in
         let none-due : least ≡ n = omega (arith, w .least-is, clear, lowest-below n met) in
         let met-none : lowest n met ≡ n = omega (arith, none-met, lowest-below n met) in
-        let found : c ≡ lowest n ruled = f (w .held .brackets) all-noted ∙ ap (λ k. lowest k ruled) none-due in
-        let first : c ≡ firstCode (w .held) = omega (arith, found, met-none, lowest-two n met ruled, lowest-below n ruled) in
-        first ∙ ap firstCode (same-line l e)
+        let found : c ≡ lowest n ruled = e ∙ ap (λ k. lowest k ruled) none-due in
+        omega (arith, found, met-none, lowest-two n met ruled, lowest-below n ruled)
+
+    pub ruled-is-first : {c many : ℕ} → ((ks : List (Bracket ℕ)) → Ruled line heads parts brackets ks → Finds ks least c many)
+        → (l : Line ℕ) → reading line ≡ holds l → FirstOf l c many
+    unfolding floaters
+    ruled-is-first {c} {many} f l e =
+        let g = f (w .held .brackets) all-noted in
+        subst (λ l. FirstOf l c many) (same-line l e) (record { first-is = ruled-first (g .first-is); floaters-are = λ none few. g .floaters-are few })
 
 -- ---- what a code says
 pub ranked : (rank k : ℕ) → rank ≡ k → (l : Line ℕ) → numberAt (lineRules l) k ≡ numberAt (lineRules l) rank
@@ -106,12 +117,12 @@ no-rank rank other l =
     let h8 = past 7 rank (past 6 rank h6 (other .0 .1)) (other .1) in
     sym (List·getD-eq-default (map (λ r. r .number) (lineRules l)) 0 h8)
 
-module _ (c residues brackets : ℕ) (l : Line ℕ) where
+module _ (c residues brackets many : ℕ) (l : Line ℕ) where
   pub code-refuses : {number rank place : ℕ} → c < noCode (lineRules l) → number ≡ numberAt (lineRules l) rank → rank ≡ c / wideLimit → place ≡ c % wideLimit
-      → Refused number place ≡ byCode l c residues brackets
+      → Refused number place ≡ byCode l c residues brackets many
   code-refuses h a b d = rw (lt-ltb c (noCode (lineRules l)) h, a, b, d)
 
-  pub code-holds : noCode (lineRules l) ≤ c → Holds residues brackets ≡ byCode l c residues brackets
+  pub code-holds : noCode (lineRules l) ≤ c → Holds residues brackets many ≡ byCode l c residues brackets many
   code-holds h = rw (le-ltb c (noCode (lineRules l)) h)
 
 -- ---- where no line goes on
@@ -168,22 +179,24 @@ module _ (line : List ℕ) (some-byte : length line ≡ 0 → ⊥) (short : leng
           parts-room = roomy .parts-room;
         }
 
-    pub line-says : (c : ℕ) (r : Judged) → ((l : Line ℕ) → reading line ≡ holds l → c ≡ firstCode l) → ((l : Line ℕ) → r ≡ byCode l c residues brackets) → Says r
-    line-says c r first answer = subst Says (sym (answer l)) (go (ltb c (noCode (lineRules l))) decides)
+    pub line-says : (c many : ℕ) (r : Judged) → ((l : Line ℕ) → reading line ≡ holds l → FirstOf l c many)
+        → ((l : Line ℕ) → r ≡ byCode l c residues brackets many) → Says r
+    line-says c many r first answer = subst Says (sym (answer l)) (go (ltb c (noCode (lineRules l))) refl decides)
       where
         l : Line ℕ
         l = w .held
 
         decides : decoded (lineRules l) c (accepted l) ≡ outcome line
         decides =
-            ap (λ k. decoded (lineRules l) k (accepted l)) (first l (w .is))
+            ap (λ k. decoded (lineRules l) k (accepted l)) (first l (w .is) .first-is)
             ∙ by-codes l (places-fit line l (w .is) short)
             ∙ sym (of-order line some-byte short l (w .is))
 
-        go : (t : Bool) → cond t (refused (numberAt (lineRules l) (c / wideLimit)) (c % wideLimit)) (accepted l) ≡ outcome line
-            → Says (cond t (Refused (numberAt (lineRules l) (c / wideLimit)) (c % wideLimit)) (Holds residues brackets))
-        go true e = sym e
-        go false e = (
+        go : (t : Bool) → ltb c (noCode (lineRules l)) ≡ t
+            → cond t (refused (numberAt (lineRules l) (c / wideLimit)) (c % wideLimit)) (accepted l) ≡ outcome line
+            → Says (cond t (Refused (numberAt (lineRules l) (c / wideLimit)) (c % wideLimit)) (Holds residues brackets many))
+        go true q e = sym e
+        go false q e = (
           l,
           record {
             is-accepted = sym e;
@@ -194,6 +207,7 @@ module _ (line : List ℕ) (some-byte : length line ≡ 0 → ⊥) (short : leng
             residues-are = w .residues-are;
             brackets-are = w .brackets-are;
           },
+          first l (w .is) .floaters-are (ltb-false _ _ q) (accepted-within line l (sym e) .few-copies),
         )
 
 -- ---- the verdict

@@ -7,8 +7,9 @@ use lib.Dec.{ltb}
 use lib.IntN.{ℤ}
 use lib.ListN.{length}
 use Rattle.scope.specs.Bytes.{wideLimit, isPrintable}
-use Rattle.scope.specs.Limits.{lineLimit}
+use Rattle.scope.specs.Limits.{lineLimit, copyLimit}
 use Rattle.scope.specs.Line.{Line}
+use Rattle.scope.specs.Positions.{floaters}
 use Rattle.scope.specs.Reading.{holds, reading}
 use Rattle.classes.specs.Runs.{span}
 use Rattle.sheet.specs.Rows.{headsRoom, partsRoom, Noted}
@@ -39,7 +40,12 @@ pub record WalkedLine (line heads parts : List ℕ) (brackets least : ℕ) : Typ
 abbrev pub firstCode : Line ℕ → ℕ
 firstCode l = lowest (noCode (lineRules l)) (metCodes (l .residues) (l .brackets) ++ ruledCodes (l .brackets))
 
+-- it is that, and so many copies float where none is due, and they are no more than may
+pub record FirstOf (l : Line ℕ) (first many : ℕ) : Type 0 where
+  pub first-is : first ≡ firstCode l
+  pub floaters-are : noCode (lineRules l) ≤ first → length (floaters l) ≤ copyLimit → many ≡ length (floaters l)
+
 -- what it says: the number of its rank, at its place; or that none is due
-abbrev pub byCode : Line ℕ → ℕ → ℕ → ℕ → Judged
-byCode l c residues brackets =
-    cond (ltb c (noCode (lineRules l))) (Refused (numberAt (lineRules l) (c / wideLimit)) (c % wideLimit)) (Holds residues brackets)
+abbrev pub byCode : Line ℕ → ℕ → ℕ → ℕ → ℕ → Judged
+byCode l c residues brackets many =
+    cond (ltb c (noCode (lineRules l))) (Refused (numberAt (lineRules l) (c / wideLimit)) (c % wideLimit)) (Holds residues brackets many)

@@ -1,4 +1,5 @@
 // Refusals 1 to 12: "the lowest number wins, at its first place in the line".
+use rules::Found;
 use scope::answers::Read;
 use scope::tables::Tables;
 use sheet::Sheet;
@@ -12,13 +13,20 @@ ghost use Rattle.classes.specs.Runs.{span};
 ghost use Rattle.sheet.specs.Rows.{Roomy};
 ghost use Rattle.dues.specs.Ranks.{numberAt};
 ghost use Rattle.dues.specs.Lines.{lineRules};
-ghost use Rattle.verdict.specs.Due.{WalkedLine, firstCode, byCode, unread};
+ghost use Rattle.verdict.specs.Due.{WalkedLine, FirstOf, byCode, unread};
 ghost use Rattle.verdict.specs.Says.{VerdictSays, JudgedSays};
 
-// The refusal of a line; or how many residues and brackets it holds, where it is accepted.
+// The refusal of a line; or how many residues, brackets and floaters it has, where it is accepted.
 pub enum Judged {
-    Refused { number: u8, place: usize },
-    Holds { residues: usize, brackets: usize },
+    Refused {
+        number: u8,
+        place: usize,
+    },
+    Holds {
+        residues: usize,
+        brackets: usize,
+        floaters: usize,
+    },
 }
 
 // The place of the first byte outside 32 to 126; the line's length where there is none.
@@ -67,20 +75,23 @@ fn number_of(rank: usize) -> u8
     }
 }
 
-// The first refusal due of 5 to 12, where `least` is the first of 5 to 9: the rules are asked where none of these is due.
-fn first_due(line: &[u8], heads: &[u16], parts: &[u16], brackets: usize, least: usize) -> usize
+// The first refusal due of 5 to 12, where `least` is the first of 5 to 9, and how many copies float where none is due: the rules are asked where none of 5 to 9 is.
+fn first_due(line: &[u8], heads: &[u16], parts: &[u16], brackets: usize, least: usize) -> Found
     requires { ⌜ WalkedLine (now line) (now heads) (now parts) brackets least ⌝ }
-    ensures { λ r. ⌜ ((l : Line ℕ) → reading (now (line .entry)) ≡ holds l → r ≡ firstCode l) ⌝ }
+    ensures { λ r. ⌜ ((l : Line ℕ) → reading (now (line .entry)) ≡ holds l → FirstOf l (r .first) (r .floaters)) ⌝ }
 {
     if least < dues::NONE {
-        return least;
+        return Found {
+            first: least,
+            floaters: 0,
+        };
     }
     rules::rules_due(line, heads, parts, brackets, least)
 }
 
-// What the first refusal due says of a line with so many residues and brackets.
-fn by_code(c: usize, residues: usize, brackets: usize) -> Judged
-    ensures { λ r. ⌜ ((l : Line ℕ) → r ≡ byCode l c residues brackets) ⌝ }
+// What the first refusal due says of a line with so many residues, brackets and floaters.
+fn by_code(c: usize, residues: usize, brackets: usize, floaters: usize) -> Judged
+    ensures { λ r. ⌜ ((l : Line ℕ) → r ≡ byCode l c residues brackets floaters) ⌝ }
 {
     if c < dues::NONE {
         return Judged::Refused {
@@ -88,7 +99,11 @@ fn by_code(c: usize, residues: usize, brackets: usize) -> Judged
             place: dues::place_of(c),
         };
     }
-    Judged::Holds { residues, brackets }
+    Judged::Holds {
+        residues,
+        brackets,
+        floaters,
+    }
 }
 
 // The refusal of a line; or that it is accepted, and what it holds in the tables. These have room for what is noted of any line, and may hold anything before.
@@ -125,11 +140,10 @@ pub fn judge(
             brackets,
             labels: _,
             least,
-        } => by_code(
-            first_due(line, heads, parts, brackets, least),
-            residues,
-            brackets,
-        ),
+        } => {
+            let found = first_due(line, heads, parts, brackets, least);
+            by_code(found.first, residues, brackets, found.floaters)
+        }
     }
 }
 
@@ -157,6 +171,7 @@ pub fn verdict_on(line: &[u8]) -> Read
         Judged::Holds {
             residues: _,
             brackets: _,
+            floaters: _,
         } => Read::Accepted,
     }
 }

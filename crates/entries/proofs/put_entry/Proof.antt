@@ -18,11 +18,11 @@ part-put-front-end c = search needs
 put-front-requires : tie.Need-put-front-requires
 put-front-requires c κs = search needs
 
-add-result : tie.Need-add-result
-add-result c =
-    let f = c .before .before .before .before .before .before .before .before .before .before .before .before .before .before .before in
+add-next : tie.Need-add-next
+add-next c =
+    let f = c .before .before .before .before .before .before .before .before .before .before .before .before .before .before .before .before in
     let s = f .before .before .before .before .before .before .before .before .before .before .before .before .before .before .before .before .before in
-    omega (arith, f .put-front .ensures .puts .near, s)
+    omega (arith, f .put-front .ensures .0 .puts .near, s)
 
 same-length : tie.Need-same-length
 same-length c = search needs
@@ -53,11 +53,11 @@ same-length-9 c = search needs
 
 returns : tie.Need-returns
 returns c =
-    let f = c .before .before .before .before .before .before .before .before .before .before .before .before .before .before .before in
+    let f = c .before .before .before .before .before .before .before .before .before .before .before .before .before .before .before .before in
     let s = f .before .before .before .before .before .before .before .before .before .before .before .before .before .before .before .before .before in
-    let w = f .put-front .ensures in
+    let w = f .put-front .ensures .0 in
     let t = puts-from (s .args .at) (s .args .out .now) (w .puts) in
-    record { puts = t; out-long = puts-length t; bytes-same = w .bytes-same; numbers-same = w .numbers-same }
+    (record { puts = t; out-long = puts-length t; bytes-same = w .bytes-same; numbers-same = w .numbers-same }, f .put-front .ensures .1)
 
 pub put-entry-spec : {M : Type 1} → statement M
 put-entry-spec =
@@ -67,7 +67,7 @@ put-entry-spec =
     part-put-front-start
     part-put-front-end
     put-front-requires
-    add-result
+    add-next
     same-length
     same-length-2
     same-length-3

@@ -1,4 +1,4 @@
--- `entries::put_front` meets its contract: the number, the report and byte 10, one behind the other. Assumes nothing.
+-- `entries::put_front` meets its contract: the number, the report and byte 10, one behind the other; whether the line is refused, the report says. Assumes nothing.
 use Rattle.writer.proofs.Storing.{puts-of, puts-join, puts-length}
 use Rattle.entries.proofs.Texts.{entry-text}
 use borrow.Author.Needs.{needs}
@@ -46,9 +46,9 @@ returns c =
     let p = c .before .before in
     let r = p .before .before .before .before .before .before .before .before .before .before .before .before .before .before .before .before .before in
     let d = r .before .before .before .before .before .before .before .before .before .before .before .before in
-    let w = r .put-report .ensures in
+    let w = r .put-report .ensures .0 in
     let t = puts-of (entry-text _ _) (puts-join (d .put-decimal .ensures) (puts-join (w .puts) (p .put .ensures))) in
-    record { puts = t; out-long = puts-length t; bytes-same = w .bytes-same; numbers-same = w .numbers-same }
+    (record { puts = t; out-long = puts-length t; bytes-same = w .bytes-same; numbers-same = w .numbers-same }, r .put-report .ensures .1)
 
 pub put-front-spec : {M : Type 1} → statement M
 put-front-spec =

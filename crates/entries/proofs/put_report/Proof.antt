@@ -1,8 +1,9 @@
--- `entries::put_report` meets its contract: what the verdict has noted of an accepted line is printed, or the refusal that it answers. Assumes nothing.
-use mathlib.Core.Path.{refl}
+-- `entries::put_report` meets its contract: what the verdict has noted of an accepted line is printed, or the refusal that it answers, and each arm says which of the two the outcome is. Assumes nothing.
+use mathlib.Core.Path.{refl, sym, ap}
 use native.Mathlib.Omega.{arith}
 use Rattle.reader.proofs.Storing.{fills}
 use Rattle.writer.proofs.Storing.{puts-of, puts-within, puts-length}
+use Rattle.entries.specs.Entry.{isRefused}
 use Rattle.entries.proofs.Taken.{refused-text}
 use borrow.Author.Needs.{needs}
 use Rattle.entries.proofs.put_report.Statement.{statement}
@@ -21,12 +22,6 @@ put-taken-requires c κs =
     let s = j .before .before .before .before .before .before .before .before .before .before .before .before .before .before in
     let w = rw (m .judged .given .1) at (j .judge .ensures) in
     (fills (w .1) (s .pre .1), omega arith)
-
-enum-known-judged-2 : tie.Need-enum-known-judged-2
-enum-known-judged-2 c = search needs
-
-put-refused-requires : tie.Need-put-refused-requires
-put-refused-requires c κs = search needs
 
 same-length : tie.Need-same-length
 same-length c = search needs
@@ -56,7 +51,18 @@ same-length-9 : tie.Need-same-length-9
 same-length-9 c = search needs
 
 returns : tie.Need-returns
-returns c = search needs
+returns c =
+    let t = c .before .before .before .before .before in
+    let m = t .before .before .before .before .before .before .before .before .before .before .before in
+    let j = m .before .before .before .before .before .before .before .before .before .before .before .before in
+    let w = rw (m .judged .given .1) at (j .judge .ensures) in
+    (t .put-taken .ensures, ap isRefused (sym (w .1 .is-accepted)))
+
+enum-known-judged-2 : tie.Need-enum-known-judged-2
+enum-known-judged-2 c = search needs
+
+put-refused-requires : tie.Need-put-refused-requires
+put-refused-requires c κs = search needs
 
 same-length-10 : tie.Need-same-length-10
 same-length-10 c = search needs
@@ -85,12 +91,15 @@ returns-2 c =
     let m = r .before .before .before in
     let j = m .before .before .before .before .before .before .before .before .before .before .before .before in
     let s = j .before .before .before .before .before .before .before .before .before .before .before .before .before .before in
-    record {
-      puts = puts-of (refused-text (s .args .line .now) (rw (m .judged2 .given .1) at (j .judge .ensures))) (puts-within (omega arith) (r .put-refused .ensures));
-      out-long = puts-length (r .put-refused .ensures);
-      bytes-same = refl;
-      numbers-same = refl;
-    }
+    let w = rw (m .judged2 .given .1) at (j .judge .ensures) in (
+      record {
+        puts = puts-of (refused-text (s .args .line .now) w) (puts-within (omega arith) (r .put-refused .ensures));
+        out-long = puts-length (r .put-refused .ensures);
+        bytes-same = refl;
+        numbers-same = refl;
+      },
+      ap isRefused (sym w),
+    )
 
 pub put-report-spec : {M : Type 1} → statement M
 put-report-spec =
@@ -99,8 +108,6 @@ put-report-spec =
     judge-requires
     enum-known-judged
     put-taken-requires
-    enum-known-judged-2
-    put-refused-requires
     same-length
     same-length-2
     same-length-3
@@ -111,6 +118,8 @@ put-report-spec =
     same-length-8
     same-length-9
     returns
+    enum-known-judged-2
+    put-refused-requires
     same-length-10
     same-length-11
     same-length-12

@@ -1,8 +1,9 @@
--- `rules_due` meets its contract: the loop's invariant is that what the brackets passed give, with those ahead, is what all give. Assumes nothing.
-use Rattle.rules.proofs.Whole.{ruled}
+-- `rules_due` meets its contract: the loop's invariant is that what the brackets passed give, codes and copies, with those ahead is what all give.
+-- Assumes nothing.
+use Rattle.rules.proofs.Whole.{finds}
 use Rattle.rules.proofs.Noting.{all-legible}
-use Rattle.rules.proofs.Gathered.{Gathering, gather-starts, gather-more, gather-ends}
-use mathlib.Core.Path.{ap, _∙_}
+use Rattle.rules.proofs.Gathered.{Gathering, gather-starts, gather-more, gather-ends, copies-end}
+use mathlib.Core.Path.{ap}
 use Prim.Native.Nat.{_+_, _-_}
 use borrow.Author.Needs.{needs}
 use native.Mathlib.Omega.{arith}
@@ -10,10 +11,10 @@ use Rattle.rules.proofs.rules_due.Statement.{statement}
 use Rattle.rules.proofs.rules_due.Tie as tie
 
 abbrev Inv-loop : tie.InvT-loop
-Inv-loop line heads parts n least first₀ before₀ k₀ first before k = Gathering line heads parts n least first before k
+Inv-loop line heads parts n least first₀ floaters₀ k₀ first floaters k = Gathering line heads parts n least first floaters k
 
 abbrev μ-loop : tie.MeasureT-loop
-μ-loop line heads parts n least first₀ before₀ k₀ first before k = n - k
+μ-loop line heads parts n least first₀ floaters₀ k₀ first floaters k = n - k
 
 loop-holds : tie.Need-loop-holds Inv-loop μ-loop
 loop-holds c = gather-starts _ _ _ _ _
@@ -31,7 +32,7 @@ add-after c =
 bracket-due-requires : tie.Need-bracket-due-requires Inv-loop μ-loop
 bracket-due-requires c κs =
     let p = c .before .before .before .before .before .before .pre .1 in
-    (all-legible p, c .before .loop-test .taken, ap (λ t. c .before .before .loop .before + t) (c .copies-of .ensures .0))
+    (all-legible p, c .before .loop-test .taken, ap (λ t. c .before .before .loop .floaters + t) (c .copies-of .ensures .0))
 
 add-k : tie.Need-add-k Inv-loop μ-loop
 add-k c = search needs
@@ -45,7 +46,9 @@ loop-again c =
     gather-more _ _ _ _ _ _ _ _ (l .before .loop .inv) (l .loop-test .taken) (c .before .copies-of .ensures .0) (c .before .copies-of .ensures .1) (c .bracket-due .ensures)
 
 returns : tie.Need-returns Inv-loop μ-loop
-returns c = λ ks a. gather-ends _ _ _ _ _ _ _ _ (c .before .loop .inv) (c .loop-test .left) ∙ ruled a _
+returns c = λ ks a.
+    let i = c .before .loop .inv in
+    finds a _ (gather-ends _ _ _ _ _ _ _ _ i (c .loop-test .left)) (copies-end _ _ _ _ _ _ _ _ i (c .loop-test .left))
 
 pub rules-due-spec : {M : Type 1} → statement M
 rules-due-spec =

@@ -16,10 +16,10 @@ place-of-requires c κs = search needs
 returns : tie.Need-returns
 returns c = λ l.
     let r = c .before .before in
-    code-refuses _ _ _ l (r .before .if1 .taken) (c .before .number-of .ensures l) (r .rank-of .ensures) (c .place-of .ensures)
+    code-refuses _ _ _ _ l (r .before .if1 .taken) (c .before .number-of .ensures l) (r .rank-of .ensures) (c .place-of .ensures)
 
 returns-2 : tie.Need-returns-2
-returns-2 c = λ l. code-holds _ _ _ l (c .if1 .left)
+returns-2 c = λ l. code-holds _ _ _ _ l (c .if1 .left)
 
 pub by-code-spec : {M : Type 1} → statement M
 by-code-spec =

@@ -13,7 +13,7 @@ rules-due-requires c κs = (_, all-noted (c .before .before .before .before .pre
 returns-2 : tie.Need-returns-2
 returns-2 c =
     let e = c .before in
-    ruled-is-first (e .before .before .before .before .pre) (e .if1 .left) _ (c .rules-due .ensures)
+    ruled-is-first (e .before .before .before .before .pre) (e .if1 .left) (c .rules-due .ensures)
 
 pub first-due-spec : {M : Type 1} → statement M
 first-due-spec = tie.close (tie.spec returns rules-due-requires returns-2)

@@ -88,7 +88,7 @@ returns-4 c =
     let w = l .before in
     let e = w .before .before .before .before .before .before .before in
     let roomy = still-roomy (e .before .before .before .before .before .before .before .pre) (l .letters .given) (s .before .before .before .before .before .before .before .sections .given) (s .before .before .before .before .before .heads .given) (s .before .before .before .parts .given) (s .before .masses .given) (s .scores .given) in
-    line-says _ (e .before .if1 .left) (e .if2 .left) _ _ _ _ _ _ (rw (k .walked2 .given .1) at (w .walk .ensures)) roomy _ _ (d .first-due .ensures) (c .by-code .ensures)
+    line-says _ (e .before .if1 .left) (e .if2 .left) _ _ _ _ _ _ (rw (k .walked2 .given .1) at (w .walk .ensures)) roomy _ _ _ (d .first-due .ensures) (c .by-code .ensures)
 
 pub judge-spec : {M : Type 1} → statement M
 judge-spec =

@@ -1,5 +1,5 @@
 -- Laws of the digits of a number. Assumes nothing.
-use mathlib.Core.Path.{_≡_, refl, ap₂, _∙_}
+use mathlib.Core.Path.{_≡_, refl, ap, ap₂, _∙_}
 use mathlib.Core.List.{[], _∷_, _++_}
 use Prim.Native.Nat.{ℕ, zero, suc, _+_, _-_, _*_, _/_, _%_, _^_, _≤_, _<_}
 use native.Mathlib.Nat.{pow-suc, div-lt-iff-lt-mul, one-le-pow}
@@ -15,28 +15,28 @@ use Rattle.scope.specs.Layout.{isNegative, numberIn}
 use Rattle.scope.specs.Canonical.{decimalUpTo, decimal, lastDigits, decimals, size, countText}
 use Rattle.writer.specs.Written.{numberOf, signText, numberText}
 
-pub decimal-none : (k n : ℕ) → k ≡ 0 → (48 + n) ∷ [] ≡ decimalUpTo k n
-unfolding decimalUpTo
-decimal-none k n e = rw e
-
 pub decimal-one : (k n : ℕ) → n < 10 → (48 + n) ∷ [] ≡ decimalUpTo k n
 unfolding decimalUpTo
 decimal-one zero n h = refl
 decimal-one (suc k) n h = rw (lt-ltb n 10 h)
 
-pub decimal-more : (k n : ℕ) → (k ≡ 0 → ⊥) → 10 ≤ n → decimalUpTo (k - 1) (n / 10) ++ ((48 + n % 10) ∷ []) ≡ decimalUpTo k n
+pub decimal-more : (k n : ℕ) → 0 < k → 10 ≤ n → decimalUpTo (k - 1) (n / 10) ++ ((48 + n % 10) ∷ []) ≡ decimalUpTo k n
 unfolding decimalUpTo
-decimal-more zero n z h = absurd (z refl)
+decimal-more zero n z h = absurd (omega arith)
 decimal-more (suc k) n z h =
     let e : suc k - 1 ≡ k = omega arith in
     rw (e, le-ltb n 10 h)
 
-pub tenth-small : (k n : ℕ) → (k ≡ 0 → ⊥) → n < 10 ^ (k + 1) → n / 10 < 10 ^ (k - 1 + 1)
-tenth-small zero n z h = absurd (z refl)
+pub tenth-small : (k n : ℕ) → 0 < k → n < 10 ^ (k + 1) → n / 10 < 10 ^ (k - 1 + 1)
+tenth-small zero n z h = absurd (omega arith)
 tenth-small (suc k) n z h =
     let e : suc k - 1 + 1 ≡ suc k = omega arith in
     let p : 10 ^ (suc k + 1) ≡ 10 ^ suc k * 10 = rw (add-one (suc k)) (pow-suc 10 (suc k)) in
     rw e (div-lt-iff-lt-mul {k = 10} {x = n} {y = 10 ^ suc k} (omega arith) .1 (rw p at h))
+
+-- two digits
+pub decimal-two : (k n : ℕ) → 0 < k → 10 ≤ n → n < 100 → ((48 + n / 10) ∷ []) ++ ((48 + n % 10) ∷ []) ≡ decimalUpTo k n
+decimal-two k n z h l = ap (λ t. t ++ ((48 + n % 10) ∷ [])) (decimal-one (k - 1) (n / 10) (omega arith)) ∙ decimal-more k n z h
 
 pub last-none : (d n : ℕ) → d ≡ 0 → [] ≡ lastDigits d n
 unfolding lastDigits
@@ -49,8 +49,10 @@ last-more (suc d) n z =
     let e : suc d - 1 ≡ d = omega arith in
     rw e
 
-pub single : (k n : ℕ) → k ≡ 0 → n < 10 ^ (k + 1) → n < 10
-single k n e h = rw e at h
+-- a number of more than one digit has room for one more
+pub room-for-more : (k n : ℕ) → 10 ≤ n → n < 10 ^ (k + 1) → 0 < k
+room-for-more zero n h l = absurd (omega arith)
+room-for-more (suc k) n h l = omega arith
 
 -- ---- numbers with their point and sign
 pub decimals-none : (d n : ℕ) → d ≡ 0 → [] ≡ decimals d n

@@ -134,16 +134,17 @@ fn put_digit(n: u64, out: &mut [u8], at: usize) -> usize
     put(out, at, digit(n))
 }
 
-// The digits of n, at most k + 1 of them.
+// The digits of n, at most k + 1 of them; one or two by no further call.
 fn decimal_up_to(k: usize, n: u64, out: &mut [u8], at: usize) -> usize
     requires { ⌜ (n < 10 ^ (k + 1)) × (at + k + 1 ≤ ceiling) ⌝ }
     ensures { λ r. ⌜ Puts (k + 1) (now (out .entry)) at (decimalUpTo k n) (now (out .exit)) r ⌝ }
 {
-    if k == 0 {
-        return put_digit(n, out, at);
-    }
     if n < 10 {
         return put_digit(n, out, at);
+    }
+    if n < 100 {
+        let a = put_digit(n / 10, out, at);
+        return put_digit(n % 10, out, a);
     }
     let a = decimal_up_to(k - 1, n / 10, out, at);
     put_digit(n % 10, out, a)

@@ -5,7 +5,7 @@ use borrow.Author.Needs.{needs}
 use borrow.Fn.Kinds.{In}
 use borrow.Fn.PlainCycle.{Measures, is, falls, and}
 use Rattle.writer.proofs.Storing.{puts-of, puts-within, puts-join}
-use Rattle.writer.proofs.Digits.{decimal-none, decimal-one, decimal-more, tenth-small, single}
+use Rattle.writer.proofs.Digits.{decimal-one, decimal-two, decimal-more, tenth-small, room-for-more}
 use Rattle.writer.proofs.decimal_up_to.Reads as decimal-up-to
 use Rattle.writer.proofs.decimal_up_to.Kinds as kinds
 use Rattle.writer.proofs.+decimal_up_to.Lts-decimal_up_to as lts
@@ -26,37 +26,63 @@ abbrev claims : ℕ → lts.Claims
 claims t = (put-digit-reads.Asked, put-digit-reads.Learnt, Less t, decimal-up-to.Post)
 
 module _ (t : ℕ) where
-  put-requires : lts.Need-put-digit-requires (claims t) (Pre t) decimal-up-to.Post
-  put-requires c κs = (single _ _ (c .before .if1 .taken) (c .before .before .before .pre .1 .0), omega arith)
+  one-requires : lts.Need-put-digit-requires (claims t) (Pre t) decimal-up-to.Post
+  one-requires c κs = (c .before .if1 .taken, omega arith)
 
   returns : lts.Need-returns (claims t) (Pre t) decimal-up-to.Post
   returns c =
       let p = c .before .before in
-      puts-of (decimal-none _ _ (p .before .before .if1 .taken)) (puts-within (omega arith) (p .put-digit .ensures))
+      puts-of (decimal-one _ _ (p .before .before .if1 .taken)) (puts-within (omega arith) (p .put-digit .ensures))
+
+  tens-requires : lts.Need-put-digit-requires-2 (claims t) (Pre t) decimal-up-to.Post
+  tens-requires c κs =
+      let below : _ = c .before .if2 .taken in
+      (omega (arith, below), omega arith)
+
+  ones-requires : lts.Need-put-digit-requires-3 (claims t) (Pre t) decimal-up-to.Post
+  ones-requires c κs =
+      let e = c .before .before .before .before .before .before in
+      let s = e .before .before in
+      (omega arith, omega (arith, room-for-more _ _ (e .if1 .left) (s .pre .1 .0)))
 
   returns-2 : lts.Need-returns-2 (claims t) (Pre t) decimal-up-to.Post
   returns-2 c =
       let p = c .before .before in
-      puts-of (decimal-one _ _ (p .before .before .if2 .taken)) (puts-within (omega arith) (p .put-digit2 .ensures))
+      let d = p .before .before .before .before in
+      let two = d .before .before in
+      let e = two .before in
+      let more = room-for-more _ _ (e .if1 .left) (e .before .before .pre .1 .0) in
+      puts-of (decimal-two _ _ more (e .if1 .left) (two .if2 .taken)) (puts-within (omega (arith, more)) (puts-join (d .put-digit2 .ensures) (p .put-digit3 .ensures)))
+
+  less : lts.Need-sub-decimal-up-to (claims t) (Pre t) decimal-up-to.Post
+  less c =
+      let e = c .before in
+      let more = room-for-more _ _ (e .if1 .left) (e .before .before .pre .1 .0) in
+      omega (arith, more)
 
   less-requires : lts.Need-decimal-up-to-requires (claims t) (Pre t) decimal-up-to.Post
   less-requires c κs =
       let e = c .before .before in
       let s = e .before .before in
-      (omega arith, (tenth-small _ _ (e .if1 .left) (s .pre .1 .0), omega arith))
+      let more = room-for-more _ _ (e .if1 .left) (s .pre .1 .0) in
+      (omega (arith, more), (tenth-small _ _ more (s .pre .1 .0), omega (arith, more)))
 
-  last-requires : lts.Need-put-digit-requires-3 (claims t) (Pre t) decimal-up-to.Post
-  last-requires c κs = (omega arith, omega arith)
+  last-requires : lts.Need-put-digit-requires-4 (claims t) (Pre t) decimal-up-to.Post
+  last-requires c κs =
+      let e = c .before .before .before .before .before .before in
+      let more = room-for-more _ _ (e .if1 .left) (e .before .before .pre .1 .0) in
+      (omega arith, omega (arith, more))
 
   returns-3 : lts.Need-returns-3 (claims t) (Pre t) decimal-up-to.Post
   returns-3 c =
       let p = c .before .before in
       let d = p .before .before .before .before in
-      let e = d .before .before in
-      puts-of (decimal-more _ _ (e .before .if1 .left) (e .if2 .left)) (puts-within (omega arith) (puts-join (d .decimal-up-to .ensures) (p .put-digit3 .ensures)))
+      let e = d .before .before .before in
+      let more = room-for-more _ _ (e .if1 .left) (e .before .before .pre .1 .0) in
+      puts-of (decimal-more _ _ more (e .if1 .left)) (puts-within (omega (arith, more)) (puts-join (d .decimal-up-to .ensures) (p .put-digit4 .ensures)))
 
 pub +decimal-up-to-spec : {M : Type 1} → statement M
 +decimal-up-to-spec =
     close μ λ t. lts.spec (claims t) (Pre t) decimal-up-to.Post
-    (put-requires t) (λ c. search needs) (returns t) (λ c κs. search needs) (λ c. search needs) (returns-2 t)
-    (λ c. search needs) (less-requires t) (last-requires t) (λ c. search needs) (returns-3 t)
+    (one-requires t) (λ c. search needs) (returns t) (tens-requires t) (ones-requires t) (λ c. search needs) (returns-2 t)
+    (less t) (less-requires t) (last-requires t) (λ c. search needs) (returns-3 t)

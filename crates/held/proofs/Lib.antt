@@ -4,3 +4,4 @@ pub mod FieldLaws
 pub mod Upto
 pub mod PartLaws
 pub mod BracketLaws
+pub mod LineLaws

@@ -4,11 +4,11 @@ use mathlib.Core.Bool.{true}
 use mathlib.Core.List.{List, [], _∷_}
 use Prim.Native.Nat.{ℕ, _+_, _-_, _*_, _<_, _≤_}
 use lib.IntN.{ℤ, pos}
-use lib.ListN.{length, getD, take, replicate}
+use lib.ListN.{length, getD, replicate}
 use Rattle.scope.specs.Limits.{lineLimit, residueLimit, bracketLimit, partLimit}
 use Rattle.scope.specs.Line.{Bracket}
 use Rattle.scope.specs.Lists.{padded}
-use Rattle.scope.specs.Layout.{bytesSize, numbersSize, partSize, rowSize, numberRowSize, residuesAt, lettersAt, sectionsAt, textsAt, rowAt, partAt, massAt, countsRow, bracketRow, bracketTexts, numberRow, scoreNumber}
+use Rattle.scope.specs.Layout.{bytesSize, numbersSize, partSize, rowSize, numberRowSize, residuesAt, lettersAt, sectionsAt, textsAt, rowAt, partAt, massAt, bracketRow, bracketTexts, numberRow, scoreNumber}
 use Rattle.held.specs.Tells.{Tells}
 use Rattle.layout_laws.specs.At.{At}
 use Rattle.sheet.specs.Rows.{headsRoom, partsRoom, massesRoom}
@@ -17,10 +17,10 @@ use Rattle.store.specs.BracketPut.{headFrom, BracketNoted}
 use Rattle.held.specs.declared.Seen.{Seen}
 
 -- ---- in front of the rows: the numbers of residues and brackets, then letters and sections
-pub record FrontHeld (letters sections : List ℕ) (residues brackets : ℕ) (bytes : List ℕ) : Type 0 where
-  pub counts-at : At bytes residuesAt (countsRow residues brackets)
-  pub letters-at : At bytes lettersAt (padded 0 residueLimit (take residues letters))
-  pub sections-at : At bytes sectionsAt (padded 0 residueLimit (take residues sections))
+pub record FrontHeld (counts letters sections : List ℕ) (bytes : List ℕ) : Type 0 where
+  pub counts-at : At bytes residuesAt counts
+  pub letters-at : At bytes lettersAt (padded 0 residueLimit letters)
+  pub sections-at : At bytes sectionsAt (padded 0 residueLimit sections)
 
 -- ---- rows from a place on, texts behind t others, numbers from a place on
 pub record Held (bytes : List ℕ) (numbers : List ℤ) (row t number : ℕ) (rows texts : List ℕ) (masses : List ℤ) : Type 0 where

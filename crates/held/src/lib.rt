@@ -9,7 +9,7 @@ ghost use Rattle.scope.specs.Limits.{lineLimit, residueLimit, bracketLimit, par
 ghost use Rattle.scope.specs.Line.{Bracket, Line};
 ghost use Rattle.scope.specs.Lists.{part, padded};
 ghost use Rattle.scope.specs.Refusals.{outcome};
-ghost use Rattle.scope.specs.Layout.{bytesSize, numbersSize, rowAt, partAt, partFields};
+ghost use Rattle.scope.specs.Layout.{bytesSize, numbersSize, rowAt, partAt, countsRow, partFields};
 ghost use Rattle.scope.specs.Answers.{readsTo};
 ghost use Rattle.held.specs.Tells.{Tells};
 ghost use Rattle.layout_laws.specs.At.{At};
@@ -89,9 +89,15 @@ fn padded_held(from: &[u8], n: usize, bytes: &[u8], at: usize) -> bool
 }
 
 // The numbers of residues and brackets, the letters and the sections?
-fn front_held(letters: &[u8], sections: &[u8], residues: usize, brackets: usize, bytes: &[u8]) -> bool
+fn front_held(
+    letters: &[u8],
+    sections: &[u8],
+    residues: usize,
+    brackets: usize,
+    bytes: &[u8],
+) -> bool
     requires { ⌜ FrontFits (now letters) (now sections) residues brackets (now bytes) ⌝ }
-    ensures { λ r. ⌜ Tells r (FrontHeld (now (letters .entry)) (now (sections .entry)) residues brackets (now (bytes .entry))) ⌝ }
+    ensures { λ r. ⌜ Tells r (FrontHeld (countsRow residues brackets) (take residues (now (letters .entry))) (take residues (now (sections .entry))) (now (bytes .entry))) ⌝ }
 {
     (areas::residues(bytes) == residues)
         & (areas::brackets(bytes) == brackets)

@@ -5,12 +5,6 @@ use mathlib.Core.Path.{refl}
 use Rattle.held.proofs.BracketLaws.{frame-fits, Parting, parting-start, parting-fits, parting-next, parting-end}
 use Rattle.held.proofs.bracket_held.Statement.{statement}
 use Rattle.held.proofs.bracket_held.Tie as tie
-use Rattle.held.proofs.bracket_held.Reads as reads
-use Rattle.held.proofs.bracket_held.Lts as lts
-use Rattle.held.proofs.frame_held.Reads as frame-held-reads
-use Rattle.held.proofs.part_held.Reads as part-held-reads
-use Rattle.sheet.proofs.base_of.Reads as base-of-reads
-use Rattle.sheet.proofs.parts_of.Reads as parts-of-reads
 
 abbrev Inv-loop : tie.InvT-loop
 Inv-loop line heads parts masses scores k bytes numbers m n upto₀ j₀ upto j = Parting line heads parts masses scores k bytes numbers m n upto₀ j upto

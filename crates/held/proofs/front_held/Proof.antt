@@ -6,29 +6,19 @@ use Rattle.held.proofs.FieldLaws.{counts-told}
 use borrow.Author.Needs.{needs}
 use Rattle.held.proofs.front_held.Statement.{statement}
 use Rattle.held.proofs.front_held.Tie as tie
-use Rattle.held.proofs.front_held.Reads as reads
-use Rattle.held.proofs.front_held.Lts as lts
-use Rattle.areas.proofs.brackets.Reads as brackets-reads
-use Rattle.areas.proofs.residues.Reads as residues-reads
-use Rattle.held.proofs.padded_held.Reads as padded-held-reads
 
--- src/lib.rt:96:6
 residues-requires : tie.Need-residues-requires
 residues-requires c κs = search needs
 
--- src/lib.rt:97:12
 brackets-requires : tie.Need-brackets-requires
 brackets-requires c κs = search needs
 
--- src/lib.rt:98:11
 padded-held-requires : tie.Need-padded-held-requires
 padded-held-requires c κs = search needs
 
--- src/lib.rt:99:11
 padded-held-requires-2 : tie.Need-padded-held-requires-2
 padded-held-requires-2 c κs = search needs
 
--- src/lib.rt:92:1
 returns : tie.Need-returns
 returns c =
     let counts = c .before .before in

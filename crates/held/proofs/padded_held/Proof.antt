@@ -11,28 +11,19 @@ use Rattle.held.proofs.Places.{at-padded}
 use borrow.Author.Needs.{needs}
 use Rattle.held.proofs.padded_held.Statement.{statement}
 use Rattle.held.proofs.padded_held.Tie as tie
-use Rattle.held.proofs.padded_held.Reads as reads
-use Rattle.held.proofs.padded_held.Lts as lts
-use Rattle.held.proofs.same_bytes.Reads as same-bytes-reads
-use Rattle.held.proofs.zero_bytes.Reads as zero-bytes-reads
 
--- src/lib.rt:88:5
 same-bytes-requires : tie.Need-same-bytes-requires
 same-bytes-requires c κs = search needs
 
--- src/lib.rt:88:59
 add-zero-bytes : tie.Need-add-zero-bytes
 add-zero-bytes c = search needs
 
--- src/lib.rt:88:67
 sub-zero-bytes : tie.Need-sub-zero-bytes
 sub-zero-bytes c = search needs
 
--- src/lib.rt:88:41
 zero-bytes-requires : tie.Need-zero-bytes-requires
 zero-bytes-requires c κs = search needs
 
--- src/lib.rt:84:1
 returns : tie.Need-returns
 returns c =
     let start = c .before .before .before .before in

@@ -4,91 +4,61 @@ use Rattle.held.proofs.PartLaws.{part-seen}
 use borrow.Author.Needs.{needs}
 use Rattle.held.proofs.part_held.Statement.{statement}
 use Rattle.held.proofs.part_held.Tie as tie
-use Rattle.held.proofs.part_held.Reads as reads
-use Rattle.held.proofs.part_held.Lts as lts
-use Rattle.areas.proofs.mass.Reads as mass-reads
-use Rattle.held.proofs.fields_held.Reads as fields-held-reads
-use Rattle.held.proofs.is_number.Reads as is-number-reads
-use Rattle.held.proofs.same_bytes.Reads as same-bytes-reads
-use Rattle.sheet.proofs.label_from.Reads as label-from-reads
-use Rattle.sheet.proofs.label_to.Reads as label-to-reads
-use Rattle.sheet.proofs.text_from.Reads as text-from-reads
-use Rattle.sheet.proofs.text_to.Reads as text-to-reads
-use Rattle.store.proofs.offset_of.Reads as offset-of-reads
 
--- src/lib.rt:142:9
 text-from-requires : tie.Need-text-from-requires
 text-from-requires c κs = search needs
 
--- src/lib.rt:143:13
 text-to-requires : tie.Need-text-to-requires
 text-to-requires c κs = search needs
 
--- src/lib.rt:143:13
 sub-n : tie.Need-sub-n
 sub-n c = search needs
 
--- src/lib.rt:144:9
 label-from-requires : tie.Need-label-from-requires
 label-from-requires c κs = search needs
 
--- src/lib.rt:145:13
 label-to-requires : tie.Need-label-to-requires
 label-to-requires c κs = search needs
 
--- src/lib.rt:145:13
 sub-l : tie.Need-sub-l
 sub-l c = search needs
 
--- src/lib.rt:146:35
 add-offset-of : tie.Need-add-offset-of
 add-offset-of c = search needs
 
--- src/lib.rt:146:9
 offset-of-requires : tie.Need-offset-of-requires
 offset-of-requires c κs = search needs
 
--- src/lib.rt:147:14
 fields-held-requires : tie.Need-fields-held-requires
 fields-held-requires c κs = search needs
 
--- src/lib.rt:148:44
 add-same-bytes : tie.Need-add-same-bytes
 add-same-bytes c = search needs
 
--- src/lib.rt:148:11
 same-bytes-requires : tie.Need-same-bytes-requires
 same-bytes-requires c κs = search needs
 
--- src/lib.rt:149:45
 add-same-bytes-2 : tie.Need-add-same-bytes-2
 add-same-bytes-2 c = search needs
 
--- src/lib.rt:149:45
 add-same-bytes-3 : tie.Need-add-same-bytes-3
 add-same-bytes-3 c = search needs
 
--- src/lib.rt:149:11
 same-bytes-requires-2 : tie.Need-same-bytes-requires-2
 same-bytes-requires-2 c κs = search needs
 
--- src/lib.rt:150:32
 mass-requires : tie.Need-mass-requires
 mass-requires c κs = search needs
 
--- src/lib.rt:150:11
 is-number-requires : tie.Need-is-number-requires
 is-number-requires c κs = search needs
 
--- src/lib.rt:153:16
 add-t17 : tie.Need-add-t17
 add-t17 c = search needs
 
--- src/lib.rt:153:16
 add-t22 : tie.Need-add-t22
 add-t22 c = search needs
 
--- src/lib.rt:127:1
 returns : tie.Need-returns
 returns c =
     let number = c .before in

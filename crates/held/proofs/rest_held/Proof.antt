@@ -3,56 +3,40 @@ use Rattle.held.proofs.Joins.{tells-as, tells-both}
 use borrow.Author.Needs.{needs}
 use Rattle.held.proofs.rest_held.Statement.{statement}
 use Rattle.held.proofs.rest_held.Tie as tie
-use Rattle.held.proofs.rest_held.Reads as reads
-use Rattle.held.proofs.rest_held.Lts as lts
-use Rattle.held.proofs.zero_bytes.Reads as zero-bytes-reads
-use Rattle.held.proofs.zero_numbers.Reads as zero-numbers-reads
 
--- src/lib.rt:228:19
 sub-lacking : tie.Need-sub-lacking
 sub-lacking c = search needs
 
--- src/lib.rt:229:38
 mul-zero-bytes : tie.Need-mul-zero-bytes
 mul-zero-bytes c = search needs
 
--- src/lib.rt:229:23
 add-zero-bytes : tie.Need-add-zero-bytes
 add-zero-bytes c = search needs
 
--- src/lib.rt:229:55
 mul-zero-bytes-2 : tie.Need-mul-zero-bytes-2
 mul-zero-bytes-2 c = search needs
 
--- src/lib.rt:229:5
 zero-bytes-requires : tie.Need-zero-bytes-requires
 zero-bytes-requires c κs = search needs
 
--- src/lib.rt:230:29
 add-zero-bytes-2 : tie.Need-add-zero-bytes-2
 add-zero-bytes-2 c = search needs
 
--- src/lib.rt:230:48
 sub-zero-bytes : tie.Need-sub-zero-bytes
 sub-zero-bytes c = search needs
 
--- src/lib.rt:230:11
 zero-bytes-requires-2 : tie.Need-zero-bytes-requires-2
 zero-bytes-requires-2 c κs = search needs
 
--- src/lib.rt:231:33
 mul-zero-numbers : tie.Need-mul-zero-numbers
 mul-zero-numbers c = search needs
 
--- src/lib.rt:231:53
 mul-zero-numbers-2 : tie.Need-mul-zero-numbers-2
 mul-zero-numbers-2 c = search needs
 
--- src/lib.rt:231:11
 zero-numbers-requires : tie.Need-zero-numbers-requires
 zero-numbers-requires c κs = search needs
 
--- src/lib.rt:224:1
 returns : tie.Need-returns
 returns c =
     tells-as (λ p. record { rows-at = p .0 .0; texts-at = p .0 .1; masses-at = p .1 }) (λ h. ((h .rows-at, h .texts-at), h .masses-at))

@@ -1,14 +1,14 @@
 -- One bracket: what it has beside its parts, and these one by one. Then the loop over the brackets, each behind those before it.
 use mathlib.Core.Path.{_≡_, refl, sym, ap, subst, _∙_}
-use mathlib.Core.Bool.{Bool, true, _&&_}
-use mathlib.Core.List.{List, [], _∷_, _++_, map}
+use mathlib.Core.Bool.{Bool, _&&_}
+use mathlib.Core.List.{List, [], _∷_, map}
 use Prim.Native.Nat.{ℕ, _+_, _-_, _*_, _≤_, _<_}
 use native.Mathlib.Omega.{arith}
 use lib.IntN.{ℤ, pos}
-use lib.ListN.{length, getD, length-map}
+use lib.ListN.{length, length-map}
 use Rattle.scope.specs.Limits.{bracketLimit, partLimit}
-use Rattle.scope.specs.Line.{Part, Bracket}
-use Rattle.scope.specs.Lists.{given, flat, padded}
+use Rattle.scope.specs.Line.{Bracket}
+use Rattle.scope.specs.Lists.{given, padded}
 use Rattle.scope.specs.Tables.{millionths, scoreOf}
 use Rattle.scope.specs.Layout.{numbersSize, partSize, rowAt, partAt, massAt, packed, partRows}
 use Rattle.layout_laws.specs.At.{At}
@@ -16,12 +16,12 @@ use Rattle.layout_laws.specs.Layout.{padded-length, part-rows-length, headOf}
 use Rattle.sheet.specs.Fields.{partsField, baseField}
 use Rattle.sheet.proofs.FieldLaws.{Among, among}
 use Rattle.store.specs.PartPut.{RowFits, PartNoted}
-use Rattle.store.specs.BracketPut.{headFrom, BracketNoted}
+use Rattle.store.specs.BracketPut.{BracketNoted}
 use Rattle.store.proofs.NotedRows.{head-noted, points-are, texts-long, texts-noted, row-noted, number-noted, row-fits}
 use Rattle.held.specs.declared.Seen.{Seen}
 use Rattle.held.specs.Tells.{Tells}
-use Rattle.held.specs.Held.{Held, PartHeld, PartSeen, FrameFits, FrameHeld, BracketThere, BracketHeld, BracketSeen}
-use Rattle.held.proofs.Joins.{tells-as, tells-itself, tells-both, Joins, joins-beside, tells-then}
+use Rattle.held.specs.Held.{PartSeen, FrameFits, FrameHeld, BracketThere, BracketHeld, BracketSeen}
+use Rattle.held.proofs.Joins.{tells-itself, tells-both, Joins, joins-beside, tells-then}
 use Rattle.held.proofs.Places.{at-nil, at-joins, at-cons, at-padded}
 use Rattle.held.proofs.Upto.{Upto, upto-start, upto-room, upto-next, upto-texts, upto-end}
 use Rattle.held.proofs.PartLaws.{massOf, PartsHeld, no-parts, parts-joins}
@@ -84,12 +84,14 @@ pub record Parting (line heads parts : List ℕ) (masses scores : List ℤ) (k :
   pub base-is : m ≡ baseField heads k
   pub many : n ≡ partsField heads k
   pub few : j ≤ n
+  pub there : (b : Bracket ℕ) × BracketThere line heads parts masses scores k (first .texts) b bytes numbers
   pub upto : (b : Bracket ℕ) → BracketThere line heads parts masses scores k (first .texts) b bytes numbers
       → Upto (PartsHeld bytes numbers k) packed (first .texts) (b .parts) (first .so) j (seen .texts) (seen .so)
 
 module _ {line heads parts : List ℕ} {masses scores : List ℤ} {k : ℕ} {bytes : List ℕ} {numbers : List ℤ} {m n : ℕ} where
-  pub parting-start : (first : Seen) → m ≡ baseField heads k → n ≡ partsField heads k → Parting line heads parts masses scores k bytes numbers m n first 0 first
-  parting-start first e f = record { base-is = e; many = f; few = omega arith; upto = λ b h. upto-start }
+  pub parting-start : (first : Seen) → (b : Bracket ℕ) × BracketThere line heads parts masses scores k (first .texts) b bytes numbers → m ≡ baseField heads k → n ≡ partsField heads k
+      → Parting line heads parts masses scores k bytes numbers m n first 0 first
+  parting-start first s e f = record { base-is = e; many = f; few = omega arith; there = s; upto = λ b h. upto-start }
 
   module _ {first : Seen} {j : ℕ} {seen : Seen} (w : Parting line heads parts masses scores k bytes numbers m n first j seen) where
     module _ {b : Bracket ℕ} (f : BracketThere line heads parts masses scores k (first .texts) b bytes numbers) (h : j < n) where
@@ -116,11 +118,11 @@ module _ {line heads parts : List ℕ} {masses scores : List ℤ} {k : ℕ} {byt
           upto-next (w .upto b f) next e (parts-joins bytes numbers k j t p (next .behind) (r .texts) e)
           (rw (row-noted next-noted t, texts-noted next-noted, number-noted next-noted) at (q .decided))
 
-    pub parting-fits : (b : Bracket ℕ) × BracketThere line heads parts masses scores k (first .texts) b bytes numbers → j < n → RowFits line parts masses (m + j) k j (seen .texts) bytes numbers
-    parting-fits s h = fits (s .1) h
+    pub parting-fits : j < n → RowFits line parts masses (m + j) k j (seen .texts) bytes numbers
+    parting-fits h = fits (w .there .1) h
 
     pub parting-next : j < n → {r : Seen} → PartSeen line parts masses (m + j) k j bytes numbers seen r → Parting line heads parts masses scores k bytes numbers m n first (j + 1) r
-    parting-next h q = record { base-is = w .base-is; many = w .many; few = omega arith; upto = λ b f. further f h q }
+    parting-next h q = record { base-is = w .base-is; many = w .many; few = omega arith; there = w .there; upto = λ b f. further f h q }
 
     pub parting-end : n ≤ j → {before frame : Bool} → first .so ≡ (before && frame) → Tells frame (FrameHeld heads scores k n bytes numbers)
         → (b : Bracket ℕ) → BracketThere line heads parts masses scores k (first .texts) b bytes numbers → BracketSeen k b bytes numbers (record { so = before; texts = first .texts }) seen

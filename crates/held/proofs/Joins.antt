@@ -1,5 +1,5 @@
 -- Answers that tell whether a fact holds: one, two joined by `&`, and the answer of a loop beside what it has not looked at yet.
-use mathlib.Core.Path.{_≡_, refl, sym, ap, _∙_}
+use mathlib.Core.Path.{_≡_, sym, ap, _∙_}
 use mathlib.Core.Bool.{Bool, true, _&&_}
 use Prim.Native.Nat.{ℕ}
 use borrow.Author.Tests.{eqb-true, eq-eqb}
@@ -36,6 +36,9 @@ pub record Joins (P Q W : Type 0) : Type 0 where
 
 pub tells-joined : {r t : Bool} {P Q W : Type 0} → Joins P Q W → Tells r P → Tells t Q → Tells (r && t) W
 tells-joined w v u = tells-as (λ p. w .on (p .0) (p .1)) (w .back) (tells-both v u)
+
+pub joins-pair : {P Q : Type 0} → Joins P Q (P × Q)
+joins-pair = record { on = λ p q. (p, q); back = λ p. p }
 
 -- beside a third
 pub joins-beside : {S P Q W : Type 0} → Joins P Q W → Joins (S × P) Q (S × W)

@@ -1,6 +1,6 @@
 -- The loop over the brackets of a line, each behind those before it; with what stands in front of the rows, and zeros behind all, the areas are those of the line.
 use mathlib.Core.Path.{_≡_, refl, sym, ap, ap₂, subst, _∙_}
-use mathlib.Core.Bool.{Bool, true, _&&_}
+use mathlib.Core.Bool.{Bool, _&&_}
 use mathlib.Core.List.{List, [], _∷_, _++_, map}
 use Prim.Native.Nat.{ℕ, _+_, _-_, _*_, _≤_, _<_}
 use native.Mathlib.Nat.{zero-add}
@@ -28,8 +28,8 @@ use Rattle.store.proofs.NotedLine.{within, bracket-noted}
 use Rattle.held.specs.declared.Seen.{Seen}
 use Rattle.held.specs.Tells.{Tells}
 use Rattle.held.specs.Held.{FrontHeld, Held, BracketThere, BracketHeld, BracketSeen, RestHeld}
-use Rattle.held.proofs.Joins.{tells-as, tells-both, Joins, tells-joined, tells-then}
-use Rattle.held.proofs.Places.{at-nil, at-move, at-joins, at-padded}
+use Rattle.held.proofs.Joins.{Joins, joins-pair, tells-joined, tells-then}
+use Rattle.held.proofs.Places.{at-nil, at-joins, at-padded}
 use Rattle.held.proofs.Upto.{held-joins, Upto, upto-start, upto-room, upto-next, upto-texts, upto-end}
 
 -- ---- the brackets from k on, their texts behind t others
@@ -126,10 +126,17 @@ module _ (l : Line ℕ) (w : Within l) (bytes : List ℕ) (numbers : List ℤ) w
       let p = both-of (same (bytesOf l) (take bytesSize bytes)) (sameNumbers (numbersOf l) (take numbersSize numbers)) e in
       v .back (front-at bytesSize (bytesOf l) bytes (b .0 (p .0)), front-at numbersSize (numbersOf l) numbers (n .0 (p .1))))
 
--- ---- the loop
+-- ---- the loop, over the brackets of the line that is noted
+pub record Bracketing (line letters sections heads parts : List ℕ) (masses scores : List ℤ) (residues brackets : ℕ) (bytes : List ℕ) (numbers : List ℤ) (first : Seen) (k : ℕ) (seen : Seen) : Type 0 where
+  pub holds-line : Line ℕ
+  pub noted : LineNoted line letters sections heads parts masses scores residues brackets holds-line
+  pub bytes-long : bytesSize ≤ length bytes
+  pub numbers-long : numbersSize ≤ length numbers
+  pub few : k ≤ brackets
+  pub upto : Upto (BracketsHeld bytes numbers) bracketTexts 0 (holds-line .brackets) (first .so) k (seen .texts) (seen .so)
+
 pub front-fits : {line letters sections heads parts : List ℕ} {masses scores : List ℤ} {residues brackets : ℕ} {bytes : List ℕ} {l : Line ℕ}
-    → LineNoted line letters sections heads parts masses scores residues brackets l
-    → bytesSize ≤ length bytes → FrontFits letters sections residues brackets bytes
+    → LineNoted line letters sections heads parts masses scores residues brackets l → bytesSize ≤ length bytes → FrontFits letters sections residues brackets bytes
 front-fits w h =
     record {
       few-residues = omega (arith, w .residues-are, within w .few-residues);
@@ -139,23 +146,22 @@ front-fits w h =
       bytes-long = h;
     }
 
-pub record Bracketing (line letters sections heads parts : List ℕ) (masses scores : List ℤ) (residues brackets : ℕ) (bytes : List ℕ) (numbers : List ℤ) (first : Seen) (k : ℕ) (seen : Seen) : Type 0 where
-  pub few : k ≤ brackets
-  pub upto : (l : Line ℕ) → LineNoted line letters sections heads parts masses scores residues brackets l
-      → Upto (BracketsHeld bytes numbers) bracketTexts 0 (l .brackets) (first .so) k (seen .texts) (seen .so)
-
 module _ {line letters sections heads parts : List ℕ} {masses scores : List ℤ} {residues brackets : ℕ} {bytes : List ℕ} {numbers : List ℤ} where
-  pub bracketing-start : (so : Bool) → Bracketing line letters sections heads parts masses scores residues brackets bytes numbers (record { so = so; texts = 0 }) 0 (record { so = so; texts = 0 })
-  bracketing-start so = record { few = omega arith; upto = λ l w. upto-start }
+  pub bracketing-start : (so : Bool) {l : Line ℕ} → LineNoted line letters sections heads parts masses scores residues brackets l → bytesSize ≤ length bytes → numbersSize ≤ length numbers
+      → Bracketing line letters sections heads parts masses scores residues brackets bytes numbers (record { so = so; texts = 0 }) 0 (record { so = so; texts = 0 })
+  bracketing-start so {l} w b n = record { holds-line = l; noted = w; bytes-long = b; numbers-long = n; few = omega arith; upto = upto-start }
 
-  module _ {first : Seen} {k : ℕ} {seen : Seen} (v : Bracketing line letters sections heads parts masses scores residues brackets bytes numbers first k seen)
-      (bytes-long : bytesSize ≤ length bytes) (numbers-long : numbersSize ≤ length numbers) where
-    module _ {l : Line ℕ} (w : LineNoted line letters sections heads parts masses scores residues brackets l) (h : k < brackets) where
+  module _ {first : Seen} {k : ℕ} {seen : Seen} (v : Bracketing line letters sections heads parts masses scores residues brackets bytes numbers first k seen) where
+    abbrev l : Line ℕ
+    l = v .holds-line
+
+    module _ (h : k < brackets) where
       next : Among (l .brackets) k
-      next = among (l .brackets) k (omega (arith, w .brackets-are))
+      next = among (l .brackets) k (omega (arith, v .noted .brackets-are))
 
       next-there : BracketThere line heads parts masses scores k (seen .texts) (next .this) bytes numbers
       next-there =
+          let w = v .noted in
           record {
             residues = length (l .residues);
             noted = subst (λ i. BracketNoted line heads parts masses scores (length (l .residues)) i (next .this)) (sym (next .place)) (bracket-noted w (next .before) (next .this) (next .behind) (next .is));
@@ -164,49 +170,51 @@ module _ {line letters sections heads parts : List ℕ} {masses scores : List �
             masses-room = w .roomy .masses-room;
             scores-room = w .roomy .scores-room;
             few-brackets = omega (arith, w .brackets-are, within w .few-brackets);
-            texts-room = omega (arith, upto-room (v .upto l w) next, within w .texts);
-            bytes-long = bytes-long;
-            numbers-long = numbers-long;
+            texts-room = omega (arith, upto-room (v .upto) next, within w .texts);
+            bytes-long = v .bytes-long;
+            numbers-long = v .numbers-long;
           }
 
-      further : {r : Seen} → BracketSeen k (next .this) bytes numbers seen r → Upto (BracketsHeld bytes numbers) bracketTexts 0 (l .brackets) (first .so) (k + 1) (r .texts) (r .so)
-      further {r} q =
-          upto-next (v .upto l w) next (q .texts-are)
-          (brackets-joins bytes numbers k (seen .texts) (next .this) (next .behind) (r .texts) (next-there .noted .within .few-parts) (q .texts-are)) (q .decided)
+      pub bracketing-fits : (b : Bracket ℕ) × BracketThere line heads parts masses scores k (seen .texts) b bytes numbers
+      bracketing-fits = (next .this, next-there)
 
-    pub bracketing-fits : (l : Line ℕ) × LineNoted line letters sections heads parts masses scores residues brackets l → k < brackets
-        → (b : Bracket ℕ) × BracketThere line heads parts masses scores k (seen .texts) b bytes numbers
-    bracketing-fits s h = (next (s .1) h .this, next-there (s .1) h)
-
-    pub bracketing-next : k < brackets → {r : Seen}
-        → ((b : Bracket ℕ) → BracketThere line heads parts masses scores k (seen .texts) b bytes numbers → BracketSeen k b bytes numbers seen r)
-        → Bracketing line letters sections heads parts masses scores residues brackets bytes numbers first (k + 1) r
-    bracketing-next h q = record { few = omega arith; upto = λ l w. further w h (q (next w h .this) (next-there w h)) }
+      pub bracketing-next : {r : Seen} → ((b : Bracket ℕ) → BracketThere line heads parts masses scores k (seen .texts) b bytes numbers → BracketSeen k b bytes numbers seen r)
+          → Bracketing line letters sections heads parts masses scores residues brackets bytes numbers first (k + 1) r
+      bracketing-next {r} told =
+          let q = told (next .this) next-there in
+          record {
+            holds-line = l;
+            noted = v .noted;
+            bytes-long = v .bytes-long;
+            numbers-long = v .numbers-long;
+            few = omega arith;
+            upto =
+                upto-next (v .upto) next (q .texts-are)
+                (brackets-joins bytes numbers k (seen .texts) (next .this) (next .behind) (r .texts) (next-there .noted .within .few-parts) (q .texts-are)) (q .decided);
+          }
 
     module _ (all : brackets ≤ k) where
-      all-passed : {l : Line ℕ} → LineNoted line letters sections heads parts masses scores residues brackets l → k ≡ length (l .brackets)
-      all-passed w = omega (arith, v .few, w .brackets-are)
+      passed : k ≡ length (l .brackets)
+      passed = omega (arith, v .few, v .noted .brackets-are)
 
-      pub rest-fits : (l : Line ℕ) × LineNoted line letters sections heads parts masses scores residues brackets l → (brackets ≤ bracketLimit) × (seen .texts ≤ lineLimit) × (bytesSize ≤ length bytes) × (numbersSize ≤ length numbers)
-      rest-fits s =
-          let w = s .1 in
-          (omega (arith, w .brackets-are, within w .few-brackets), omega (arith, upto-texts (v .upto (s .0) w) (all-passed w), within w .texts), bytes-long, numbers-long)
+      texts-are : seen .texts ≡ length (flat bracketTexts (l .brackets))
+      texts-are = upto-texts (v .upto) passed ∙ zero-add (length (flat bracketTexts (l .brackets)))
 
-      pub line-told : {r : Bool} → (l : Line ℕ) × LineNoted line letters sections heads parts masses scores residues brackets l
-          → Tells (first .so) (FrontHeld (countsRow residues brackets) (take residues letters) (take residues sections) bytes) → Tells r (RestHeld brackets (seen .texts) bytes numbers)
-          → (seen .so && r) ≡ readsTo (outcome line) (take bytesSize bytes) (take numbersSize numbers)
-      line-told {r} s front rest =
-          let l = s .0 in
-          let w = s .1 in
-          let u = v .upto l w in
-          let e = all-passed w in
+      pub rest-fits : (brackets ≤ bracketLimit) × (seen .texts ≤ lineLimit) × (bytesSize ≤ length bytes) × (numbersSize ≤ length numbers)
+      rest-fits =
+          let w = v .noted in
+          (omega (arith, w .brackets-are, within w .few-brackets), omega (arith, texts-are, within w .texts), v .bytes-long, v .numbers-long)
+
+      pub line-told : {r : Bool} → Tells (first .so) (FrontHeld (countsRow residues brackets) (take residues letters) (take residues sections) bytes)
+          → Tells r (RestHeld brackets (seen .texts) bytes numbers) → (seen .so && r) ≡ readsTo (outcome line) (take bytesSize bytes) (take numbersSize numbers)
+      line-told front rest =
+          let w = v .noted in
           let few = within w .few-residues in
-          let texts-are : seen .texts ≡ length (flat bracketTexts (l .brackets)) = upto-texts u e ∙ zero-add (length (flat bracketTexts (l .brackets))) in
           let counts-are : countsRow residues brackets ≡ counts l = ap₂ countsRow (w .residues-are) (w .brackets-are) in
           let letters-are : take residues letters ≡ letters-of l = ap (λ i. take i letters) (w .residues-are) ∙ w .lettered .letters-are few in
           let sections-are : take residues sections ≡ sections-of l = ap (λ i. take i sections) (w .residues-are) ∙ w .lettered .sections-are few in
           told-same l (within w) bytes numbers
           (tells-joined (line-joins l (within w) bytes numbers)
-          (tells-then (record { on = λ p q. (p, q); back = λ p. p }) (rw (counts-are, letters-are, sections-are) at front) (upto-end u e (no-brackets bytes numbers k (seen .texts))))
+          (tells-then joins-pair (rw (counts-are, letters-are, sections-are) at front) (upto-end (v .upto) passed (no-brackets bytes numbers k (seen .texts))))
           (rw (w .brackets-are, texts-are) at rest))
           ∙ ap (λ o. readsTo o (take bytesSize bytes) (take numbersSize numbers)) (sym (w .is-accepted))

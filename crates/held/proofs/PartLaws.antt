@@ -1,18 +1,17 @@
 -- One part: its row, its text, its label and its mass, told by a test of each. Then the loop over the parts of a bracket, each behind those before it.
-use mathlib.Core.Path.{_≡_, refl, sym, ap, ap₂, subst, _∙_}
-use mathlib.Core.Bool.{Bool, true, _&&_}
-use mathlib.Core.List.{List, [], _∷_, _++_, map}
-use Prim.Native.Nat.{ℕ, _+_, _-_, _*_, _≤_, _<_}
+use mathlib.Core.Path.{_≡_, refl, sym, ap, subst}
+use mathlib.Core.Bool.{Bool, _&&_}
+use mathlib.Core.List.{List, [], _∷_, map}
+use Prim.Native.Nat.{ℕ, _+_, _-_}
 use native.Mathlib.Omega.{arith}
 use lib.IntN.{ℤ, pos}
 use lib.ListN.{length, getD}
-use Rattle.scope.specs.Limits.{bracketLimit, partLimit}
 use Rattle.scope.specs.Line.{Part}
 use Rattle.scope.specs.Lists.{flat, part}
 use Rattle.scope.specs.Layout.{textsAt, partAt, massAt, massIn, packed, partFields, partRow, partRows, massField}
 use Rattle.layout_laws.specs.At.{At}
 use Rattle.sheet.specs.Fields.{valueField, keyField, decimalsField, textFromField, textToField, labelFromField, labelToField}
-use Rattle.store.specs.PartPut.{textLength, labelLength, textsFrom, offsetOf, rowFrom, RowFits}
+use Rattle.store.specs.PartPut.{textLength, labelLength, offsetOf, rowFrom, RowFits}
 use Rattle.store.proofs.Copies.{part-length}
 use Rattle.held.specs.declared.Seen.{Seen}
 use Rattle.held.specs.Tells.{Tells}

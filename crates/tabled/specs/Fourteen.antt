@@ -12,7 +12,7 @@ use lib.ListN.{length, take, drop}
 use lib.Seq.{take-all, take-append-seam}
 use Rattle.scope.specs.Limits.{lineLimit}
 use Rattle.scope.specs.Lists.{given}
-use Rattle.scope.specs.Refusals.{Due, due, Outcome, accepted, refused, firstDue, refusal1, refusal2, refusal3, judged, outcome}
+use Rattle.scope.specs.Refusals.{Due, due, Outcome, refused, firstDue, refusal1, refusal2, refusal3, judged, outcome}
 use Rattle.scope.specs.Reading.{reading}
 use Rattle.scope.specs.Canonical.{canonical}
 use Rattle.scope.specs.Layout.{bytesSize, numbersSize, tablesIn}

@@ -22,13 +22,18 @@ frame-held-requires : tie.Need-frame-held-requires Inv-loop μ-loop
 frame-held-requires c κs = frame-fits (c .parts-of .ensures .0) (c .before .before .before .before .before .before .pre)
 
 loop-holds : tie.Need-loop-holds Inv-loop μ-loop
-loop-holds c = parting-start _ (c .before .before .before .base-of .ensures .0) (c .before .before .parts-of .ensures .0)
+loop-holds c =
+    let parts = c .before .before in
+    let start = parts .before .before .before .before .before .before in
+    parting-start _ (start .pre) (parts .before .base-of .ensures .0) (parts .parts-of .ensures .0)
 
 add-part-held : tie.Need-add-part-held Inv-loop μ-loop
-add-part-held c = omega (arith, c .before .before .before .before .before .base-of .ensures .1, c .before .before .before .before .parts-of .ensures .1)
+add-part-held c =
+    let parts = c .before .before .before .before in
+    omega (arith, parts .before .base-of .ensures .1, parts .parts-of .ensures .1)
 
 part-held-requires : tie.Need-part-held-requires Inv-loop μ-loop
-part-held-requires c κs = parting-fits (c .before .loop .inv) (c .before .before .before .before .before .before .before .before .before .before .pre) (omega arith)
+part-held-requires c κs = parting-fits (c .before .loop .inv) (omega arith)
 
 add-j : tie.Need-add-j Inv-loop μ-loop
 add-j c = omega arith

@@ -13,13 +13,13 @@ abbrev μ-loop : tie.MeasureT-loop
 μ-loop line letters sections heads parts masses scores residues brackets bytes numbers seen₀ k₀ seen k = brackets - k
 
 front-held-requires : tie.Need-front-held-requires Inv-loop μ-loop
-front-held-requires c κs = let p = c .before .before .before .before .before .before .pre in front-fits (p .0 .1) (p .1)
+front-held-requires c κs = let pre = c .before .before .before .before .before .before .pre in front-fits (pre .0 .1) (pre .1)
 
 loop-holds : tie.Need-loop-holds Inv-loop μ-loop
-loop-holds c = bracketing-start _
+loop-holds c = let pre = c .before .before .before .before .before .before .before .pre in bracketing-start _ (pre .0 .1) (pre .1) (pre .2)
 
 bracket-held-requires : tie.Need-bracket-held-requires Inv-loop μ-loop
-bracket-held-requires c κs = let p = c .before .before .before .before .before .before .before .before .before .pre in bracketing-fits (c .before .loop .inv) (p .1) (p .2) (p .0) (omega arith)
+bracket-held-requires c κs = bracketing-fits (c .before .loop .inv) (omega arith)
 
 add-k : tie.Need-add-k Inv-loop μ-loop
 add-k c = omega arith
@@ -28,16 +28,15 @@ loop-less : tie.Need-loop-less Inv-loop μ-loop
 loop-less c = omega arith
 
 loop-again : tie.Need-loop-again Inv-loop μ-loop
-loop-again c = let p = c .before .before .before .before .before .before .before .before .before .before .pre in bracketing-next (c .before .before .loop .inv) (p .1) (p .2) (omega arith) (c .bracket-held .ensures)
+loop-again c = bracketing-next (c .before .before .loop .inv) (omega arith) (c .bracket-held .ensures)
 
 rest-held-requires : tie.Need-rest-held-requires Inv-loop μ-loop
-rest-held-requires c κs = let p = c .before .before .before .before .before .before .before .before .before .pre in rest-fits (c .before .loop .inv) (p .1) (p .2) (omega arith) (p .0)
+rest-held-requires c κs = rest-fits (c .before .loop .inv) (omega arith)
 
 returns : tie.Need-returns Inv-loop μ-loop
 returns c =
     let at-loop = c .before .before .before in
-    let p = at-loop .before .before .before .before .before .before .before .before .pre in
-    line-told (at-loop .loop .inv) (p .1) (p .2) (omega arith) (p .0) (at-loop .before .front-held .ensures) (c .before .rest-held .ensures)
+    line-told (at-loop .loop .inv) (omega arith) (at-loop .before .front-held .ensures) (c .before .rest-held .ensures)
 
 pub holds-spec : {M : Type 1} → statement M
 holds-spec =

@@ -3,7 +3,6 @@ use mathlib.Core.Path.{refl}
 use Prim.Native.Nat.{_+_, _-_}
 use native.Mathlib.Omega.{arith}
 use denote.Ref.{now}
-use lib.Dec.{eqb}
 use lib.ListN.{getD}
 use Rattle.scope.specs.Lists.{part}
 use Rattle.store.proofs.Copies.{part-length}

@@ -1,6 +1,6 @@
 -- Laws that the proofs on bounds cite: what the tests made so far say of the areas. Assumes nothing.
 use mathlib.Core.Path.{_≡_, refl, sym, subst}
-use mathlib.Core.Bool.{Bool, true, false, _&&_, true≢false, false≢true}
+use mathlib.Core.Bool.{Bool, true, false, true≢false}
 use mathlib.Core.List.{List}
 use Prim.Native.Nat.{ℕ, _+_, _-_, _*_, _^_, _≤_, _<_}
 use native.Mathlib.Omega.{arith}
@@ -19,11 +19,6 @@ use Rattle.bounds.specs.Pieces.{Room, RowRoom, PlaceBounds, HeadBounds, 
 pub verdict : {A : Type 0} (t : Bool) → (t ≡ true → A) → (t ≡ false → A → ⊥) → Verdict t A
 verdict true f g = f refl
 verdict false f g = g refl
-
--- two facts, where the answer is yes to both
-pub and-decides : (B : Type 0) (so t : Bool) {r : Bool} → r ≡ (so && t) → Verdict t B → Verdict r ((so ≡ true) × B)
-and-decides B true t e v = rw e (decides t (λ b. (refl, b)) (λ p. p .1) v)
-and-decides B false t e v = rw e (λ p. false≢true (p .0))
 
 -- ---- what a mass or score stays below in size, in millionths, by a test on either side
 abbrev cap : ℕ

@@ -1,15 +1,12 @@
-// Whether the numbers in lent areas keep to the bounds of tables, and whether two areas hold the same. The areas may hold anything.
+// Whether the numbers in lent areas keep to the bounds of tables. The areas may hold anything.
 use scope::tables::Number;
 use scope::tables::Tables;
 ghost use mathlib.Core.Path.{_≡_};
-ghost use mathlib.Core.Bool.{true};
 ghost use mathlib.Core.List.{_++_};
 ghost use Prim.Native.Nat.{_<_, _≤_};
 ghost use lib.ListN.{length, take, drop};
 ghost use Rattle.scope.specs.Limits.{bracketLimit, partLimit};
-ghost use Rattle.scope.specs.Lists.{same};
 ghost use Rattle.scope.specs.Layout.{bytesSize, numbersSize, partsField};
-ghost use Rattle.scope.specs.Answers.{sameNumbers};
 ghost use Rattle.areas.specs.Bounds.{Small, PartBounds, BracketBounds, Bounds};
 ghost use Rattle.bounds.specs.Verdict.{Verdict};
 ghost use Rattle.bounds.specs.Pieces.{Room, RowRoom, PlaceBounds, HeadBounds, PartsBounds, BracketsBounds};
@@ -152,48 +149,6 @@ pub fn in_bounds(bytes: &[u8], numbers: &[i64]) -> bool
         return false;
     }
     brackets_in_bounds(bytes, numbers, m)
-}
-
-// Is it so, and are two bytes the same?
-fn and_same(so: bool, x: u8, y: u8) -> bool
-    ensures { λ r. ⌜ Verdict r ((so ≡ true) × (x ≡ y)) ⌝ }
-{
-    so & (x == y)
-}
-
-// Are the first n bytes of two areas the same? All are compared, many at a time.
-pub fn same_bytes(a: &[u8], b: &[u8], n: usize) -> bool
-    requires { ⌜ (n ≤ length (now a)) × (n ≤ length (now b)) ⌝ }
-    ensures { λ r. ⌜ r ≡ same (take n (now (a .entry))) (take n (now (b .entry))) ⌝ }
-{
-    let mut so = true;
-    let mut i: usize = 0;
-    while i < n {
-        so = and_same(so, a[i], b[i]);
-        i += 1;
-    }
-    so
-}
-
-// Is it so, and are two whole numbers the same?
-fn and_same_whole(so: bool, x: i64, y: i64) -> bool
-    ensures { λ r. ⌜ Verdict r ((so ≡ true) × (x ≡ y)) ⌝ }
-{
-    so & (x == y)
-}
-
-// Are the first n numbers of two areas the same?
-pub fn same_whole(a: &[i64], b: &[i64], n: usize) -> bool
-    requires { ⌜ (n ≤ length (now a)) × (n ≤ length (now b)) ⌝ }
-    ensures { λ r. ⌜ r ≡ sameNumbers (take n (now (a .entry))) (take n (now (b .entry))) ⌝ }
-{
-    let mut so = true;
-    let mut k: usize = 0;
-    while k < n {
-        so = and_same_whole(so, a[k], b[k]);
-        k += 1;
-    }
-    so
 }
 
 // The first n bytes of one area into another, whose other bytes stay.

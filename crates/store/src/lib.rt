@@ -65,7 +65,7 @@ fn copy(from: &[u8], a: usize, n: usize, bytes: &mut [u8], at: usize)
 }
 
 // Where so many bytes lie behind t others: nowhere, where there are none.
-fn offset_of(n: usize, t: usize) -> usize
+pub fn offset_of(n: usize, t: usize) -> usize
     ensures { λ r. ⌜ (r ≡ offsetOf n t) × (r ≤ t) ⌝ }
 {
     if n == 0 {

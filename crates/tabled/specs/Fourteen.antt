@@ -1,30 +1,26 @@
 -- 14 "tables that no accepted line reads to": the ways in which areas fail to be tables.
 use mathlib.Core.Path.{_≡_, refl, sym, ap, _∙_, subst}
-use mathlib.Core.Bool.{Bool, true, false, not, _&&_, false≢true}
+use mathlib.Core.Bool.{Bool, true, false, not, false≢true}
 use mathlib.Core.Option.{Option, none, some}
 use mathlib.Core.List.{List, [], _∷_, _++_}
 use Prim.Native.Nat.{ℕ, _<_, _≤_}
 use native.Mathlib.Omega.{arith}
 use borrow.Author.Tests.{lt-ltb, ne-eqb}
 use lib.Dec.{eqb}
-use lib.IntN.{ℤ, pos}
-use lib.ListN.{length, take, drop, replicate, length-replicate}
+use lib.IntN.{ℤ}
+use lib.ListN.{length, take, drop}
 use lib.Seq.{take-all, take-append-seam}
 use Rattle.scope.specs.Limits.{lineLimit}
-use Rattle.scope.specs.Lists.{same, given}
-use Rattle.scope.specs.Line.{Line}
-use Rattle.scope.specs.Refusals.{Due, due, Outcome, accepted, refused, firstDue, refusal1, refusal2, refusal3, judged, outcome}
+use Rattle.scope.specs.Lists.{given}
+use Rattle.scope.specs.Refusals.{Due, due, Outcome, refused, firstDue, refusal1, refusal2, refusal3, judged, outcome}
 use Rattle.scope.specs.Reading.{reading}
 use Rattle.scope.specs.Canonical.{canonical}
-use Rattle.scope.specs.Layout.{bytesSize, numbersSize, bytesOf, numbersOf, tablesIn}
-use Rattle.scope.specs.Answers.{sameNumbers, readsTo, areTables}
+use Rattle.scope.specs.Layout.{bytesSize, numbersSize, tablesIn}
+use Rattle.scope.specs.Answers.{readsTo, areTables}
 use Rattle.basics.specs.Choice.{by-test}
-use Rattle.layout_laws.specs.Laws.{tables-held, laid-bytes, laid-numbers}
-use Rattle.accepted_laws.specs.Laws.{accepted-within}
+use Rattle.layout_laws.specs.Laws.{tables-held}
 use Rattle.order_laws.specs.Ranks.{orderedb}
 use Rattle.order_laws.specs.Laws.{accepted-ordered, same-order}
-use Rattle.sheet.specs.Rows.{LineNoted}
-use Rattle.store.specs.Filled.{Fills, FilledAll}
 use Rattle.writer.specs.Written.{WholeLine}
 use Rattle.tabled.specs.LineOf.{LineOf}
 
@@ -77,33 +73,6 @@ read-back bs ns w h e f = sym (written-read bs ns w h) ∙ sym e ∙ f
 -- ---- what is read back
 pub read-refused : (s : List ℕ) {n p : ℕ} → outcome s ≡ refused n p → (xs : List ℕ) (ys : List ℤ) → readsTo (outcome s) xs ys ≡ false
 read-refused s e xs ys = rw e
-
--- what the sheet has of an accepted line goes into zeros
-pub fills-zeros : {s letters sections heads parts : List ℕ} {masses scores : List ℤ} {residues brackets : ℕ} {l : Line ℕ} (bs : List ℕ) (ns : List ℤ)
-    → LineNoted s letters sections heads parts masses scores residues brackets l → bs ≡ replicate bytesSize 0 → ns ≡ replicate numbersSize (pos 0)
-    → Fills s letters sections heads parts masses scores residues brackets bs ns
-fills-zeros {l = l} bs ns w e f =
-    let b : length bs ≡ bytesSize = ap length e ∙ length-replicate {A = ℕ} bytesSize 0 in
-    let n : length ns ≡ numbersSize = ap length f ∙ length-replicate numbersSize (pos 0) in
-    record {
-      holds-line = l;
-      line-noted = w;
-      clean = record {
-        bytes-room = omega arith;
-        bytes-zero = take-all bytesSize bs (omega arith) ∙ e;
-        numbers-room = omega arith;
-        numbers-zero = take-all numbersSize ns (omega arith) ∙ f;
-      };
-    }
-
-pub read-accepted : (s bs : List ℕ) (ns : List ℤ) {bs′ : List ℕ} {ns′ : List ℤ} (l : Line ℕ) → outcome s ≡ accepted l → FilledAll bs ns bs′ ns′ l → (xs : List ℕ) (ys : List ℤ)
-    → (same (take bytesSize bs′) xs && sameNumbers (take numbersSize ns′) ys) ≡ readsTo (outcome s) xs ys
-read-accepted s bs ns {bs′} {ns′} l e w xs ys =
-    let v = accepted-within s l e in
-    let b : take bytesSize bs′ ≡ bytesOf l = ap (take bytesSize) (w .bytes-are) ∙ laid-bytes l v bs in
-    let n : take numbersSize ns′ ≡ numbersOf l = ap (take numbersSize) (w .numbers-are) ∙ laid-numbers l v ns in
-    ap (λ z. same z xs && sameNumbers (take numbersSize ns′) ys) b ∙ ap (λ z. same (bytesOf l) xs && sameNumbers z ys) n
-    ∙ ap (λ z. readsTo z xs ys) (sym e)
 
 -- ---- the line of tables, written
 some-bytes : (s bs : List ℕ) (ns : List ℤ) → readsTo (outcome s) bs ns ≡ true → 1 ≤ length s

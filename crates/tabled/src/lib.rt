@@ -1,72 +1,20 @@
 // Refusal 14: whether the areas hold tables that some accepted line reads to. They may hold anything.
 use bounds::in_bounds;
-use bounds::same_bytes;
-use bounds::same_whole;
 use scope::tables::Tables;
 use sheet::Sheet;
 use verdict::Judged;
 use writer::in_order;
 use writer::write_line;
 ghost use mathlib.Core.Path.{_≡_};
-ghost use mathlib.Core.Bool.{_&&_};
-ghost use Prim.Native.Nat.{ℕ, _≤_};
+ghost use Prim.Native.Nat.{_≤_};
 ghost use lib.ListN.{length, take};
-ghost use Rattle.scope.specs.Lists.{same};
 ghost use Rattle.scope.specs.Limits.{lineLimit};
-ghost use Rattle.scope.specs.Line.{Line};
 ghost use Rattle.scope.specs.Refusals.{outcome};
 ghost use Rattle.scope.specs.Layout.{bytesSize, numbersSize, tablesIn};
-ghost use Rattle.scope.specs.Answers.{sameNumbers, readsTo, areTables};
+ghost use Rattle.scope.specs.Answers.{readsTo, areTables};
 ghost use Rattle.areas.specs.Bounds.{Bounds};
 ghost use Rattle.writer.specs.Ranks.{Ordered};
-ghost use Rattle.sheet.specs.Rows.{LineNoted};
 ghost use Rattle.tabled.specs.LineOf.{LineOf};
-
-// Do two pairs of areas hold the same, as far as their fixed sizes?
-fn same_areas(ab: &[u8], an: &[i64], bytes: &[u8], numbers: &[i64]) -> bool
-    requires { ⌜ (bytesSize ≤ length (now ab)) × (numbersSize ≤ length (now an)) × (bytesSize ≤ length (now bytes)) × (numbersSize ≤ length (now numbers)) ⌝ }
-    ensures { λ r. ⌜ r ≡ same (take bytesSize (now (ab .entry))) (take bytesSize (now (bytes .entry))) && sameNumbers (take numbersSize (now (an .entry))) (take numbersSize (now (numbers .entry))) ⌝ }
-{
-    if same_bytes(ab, bytes, Tables::BYTES) {
-        return same_whole(an, numbers, Tables::NUMBERS);
-    }
-    false
-}
-
-// Are the tables of an accepted line, which is noted in the sheet, what the areas hold?
-fn holds_tables_of(
-    line: &[u8],
-    letters: &[u8],
-    sections: &[u8],
-    heads: &[u16],
-    parts: &[u16],
-    masses: &[i64],
-    scores: &[i64],
-    residues: usize,
-    brackets: usize,
-    bytes: &[u8],
-    numbers: &[i64],
-) -> bool
-    requires { ⌜ ((l : Line ℕ) × LineNoted (now line) (now letters) (now sections) (now heads) (now parts) (now masses) (now scores) residues brackets l) × (bytesSize ≤ length (now bytes)) × (numbersSize ≤ length (now numbers)) ⌝ }
-    ensures { λ r. ⌜ r ≡ readsTo (outcome (now (line .entry))) (take bytesSize (now (bytes .entry))) (take numbersSize (now (numbers .entry))) ⌝ }
-{
-    let mut b = [0u8; Tables::BYTES];
-    let mut n = [0i64; Tables::NUMBERS];
-    store::store(
-        line,
-        letters,
-        sections,
-        heads,
-        parts,
-        masses,
-        scores,
-        residues,
-        brackets,
-        &mut b,
-        &mut n,
-    );
-    same_areas(&b, &n, bytes, numbers)
-}
 
 // Does a line read to what the areas hold?
 fn reads_to(line: &[u8], bytes: &[u8], numbers: &[i64]) -> bool
@@ -97,7 +45,7 @@ fn reads_to(line: &[u8], bytes: &[u8], numbers: &[i64]) -> bool
             residues,
             brackets,
             floaters: _,
-        } => holds_tables_of(
+        } => held::holds(
             line,
             &letters,
             &sections,

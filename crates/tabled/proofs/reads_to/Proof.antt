@@ -32,26 +32,26 @@ enum-told c = search needs
 enum-known-judged : tie.Need-enum-known-judged
 enum-known-judged c = search needs
 
-slice-aggregate-holds-tables-of : tie.Need-slice-aggregate-holds-tables-of
-slice-aggregate-holds-tables-of c = search needs
+slice-aggregate-holds : tie.Need-slice-aggregate-holds
+slice-aggregate-holds c = search needs
 
-slice-aggregate-holds-tables-of-2 : tie.Need-slice-aggregate-holds-tables-of-2
-slice-aggregate-holds-tables-of-2 c = search needs
+slice-aggregate-holds-2 : tie.Need-slice-aggregate-holds-2
+slice-aggregate-holds-2 c = search needs
 
-slice-aggregate-holds-tables-of-3 : tie.Need-slice-aggregate-holds-tables-of-3
-slice-aggregate-holds-tables-of-3 c = search needs
+slice-aggregate-holds-3 : tie.Need-slice-aggregate-holds-3
+slice-aggregate-holds-3 c = search needs
 
-slice-aggregate-holds-tables-of-4 : tie.Need-slice-aggregate-holds-tables-of-4
-slice-aggregate-holds-tables-of-4 c = search needs
+slice-aggregate-holds-4 : tie.Need-slice-aggregate-holds-4
+slice-aggregate-holds-4 c = search needs
 
-slice-aggregate-holds-tables-of-5 : tie.Need-slice-aggregate-holds-tables-of-5
-slice-aggregate-holds-tables-of-5 c = search needs
+slice-aggregate-holds-5 : tie.Need-slice-aggregate-holds-5
+slice-aggregate-holds-5 c = search needs
 
-slice-aggregate-holds-tables-of-6 : tie.Need-slice-aggregate-holds-tables-of-6
-slice-aggregate-holds-tables-of-6 c = search needs
+slice-aggregate-holds-6 : tie.Need-slice-aggregate-holds-6
+slice-aggregate-holds-6 c = search needs
 
-holds-tables-of-requires : tie.Need-holds-tables-of-requires
-holds-tables-of-requires c κs =
+holds-requires : tie.Need-holds-requires
+holds-requires c κs =
     let m = c .before .before .before .before .before .before .before in
     let j = m .before .before .before .before .before .before .before .before in
     let w = rw (m .judged .given .1) at (j .judge .ensures) in
@@ -76,12 +76,12 @@ reads-to-spec =
     judge-requires
     enum-told
     enum-known-judged
-    slice-aggregate-holds-tables-of
-    slice-aggregate-holds-tables-of-2
-    slice-aggregate-holds-tables-of-3
-    slice-aggregate-holds-tables-of-4
-    slice-aggregate-holds-tables-of-5
-    slice-aggregate-holds-tables-of-6
-    holds-tables-of-requires
+    slice-aggregate-holds
+    slice-aggregate-holds-2
+    slice-aggregate-holds-3
+    slice-aggregate-holds-4
+    slice-aggregate-holds-5
+    slice-aggregate-holds-6
+    holds-requires
     returns
     returns-2)

@@ -1,0 +1,7 @@
+pub mod Joins
+pub mod Places
+pub mod FieldLaws
+pub mod Upto
+pub mod PartLaws
+pub mod BracketLaws
+pub mod LineLaws

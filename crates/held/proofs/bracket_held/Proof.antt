@@ -1,0 +1,65 @@
+-- `held::bracket_held` meets its contract. The loop: the parts from j on are left. Assumes nothing.
+use Prim.Native.Nat.{_-_}
+use native.Mathlib.Omega.{arith}
+use mathlib.Core.Path.{refl}
+use Rattle.held.proofs.BracketLaws.{frame-fits, Parting, parting-start, parting-fits, parting-next, parting-end}
+use Rattle.held.proofs.bracket_held.Statement.{statement}
+use Rattle.held.proofs.bracket_held.Tie as tie
+
+abbrev Inv-loop : tie.InvT-loop
+Inv-loop line heads parts masses scores k bytes numbers m n upto₀ j₀ upto j = Parting line heads parts masses scores k bytes numbers m n upto₀ j upto
+
+abbrev μ-loop : tie.MeasureT-loop
+μ-loop line heads parts masses scores k bytes numbers m n upto₀ j₀ upto j = n - j
+
+base-of-requires : tie.Need-base-of-requires Inv-loop μ-loop
+base-of-requires c κs = let f = c .before .before .before .before .pre .1 in (f .heads-room, f .few-brackets)
+
+parts-of-requires : tie.Need-parts-of-requires Inv-loop μ-loop
+parts-of-requires c κs = let f = c .before .before .before .before .before .pre .1 in (f .heads-room, f .few-brackets)
+
+frame-held-requires : tie.Need-frame-held-requires Inv-loop μ-loop
+frame-held-requires c κs = frame-fits (c .parts-of .ensures .0) (c .before .before .before .before .before .before .pre)
+
+loop-holds : tie.Need-loop-holds Inv-loop μ-loop
+loop-holds c =
+    let parts = c .before .before in
+    let start = parts .before .before .before .before .before .before in
+    parting-start _ (start .pre) (parts .before .base-of .ensures .0) (parts .parts-of .ensures .0)
+
+add-part-held : tie.Need-add-part-held Inv-loop μ-loop
+add-part-held c =
+    let parts = c .before .before .before .before in
+    omega (arith, parts .before .base-of .ensures .1, parts .parts-of .ensures .1)
+
+part-held-requires : tie.Need-part-held-requires Inv-loop μ-loop
+part-held-requires c κs = parting-fits (c .before .loop .inv) (omega arith)
+
+add-j : tie.Need-add-j Inv-loop μ-loop
+add-j c = omega arith
+
+loop-less : tie.Need-loop-less Inv-loop μ-loop
+loop-less c = omega arith
+
+loop-again : tie.Need-loop-again Inv-loop μ-loop
+loop-again c = parting-next (c .before .before .loop .inv) (omega arith) (c .part-held .ensures)
+
+returns : tie.Need-returns Inv-loop μ-loop
+returns c = parting-end (c .before .loop .inv) (omega arith) refl (c .before .before .before .frame-held .ensures)
+
+pub bracket-held-spec : {M : Type 1} → statement M
+bracket-held-spec =
+    tie.close
+    (tie.spec
+    Inv-loop
+    μ-loop
+    base-of-requires
+    parts-of-requires
+    frame-held-requires
+    loop-holds
+    add-part-held
+    part-held-requires
+    add-j
+    loop-less
+    loop-again
+    returns)

@@ -1,0 +1,69 @@
+-- `held::fields_held` meets its contract: the fields of the row, one by one. Assumes nothing.
+use mathlib.Core.Path.{refl}
+use native.Mathlib.Omega.{arith}
+use borrow.Author.Needs.{needs}
+use Rattle.held.proofs.Joins.{tells-equal}
+use Rattle.held.proofs.FieldLaws.{fields-told}
+use Rattle.held.proofs.fields_held.Statement.{statement}
+use Rattle.held.proofs.fields_held.Tie as tie
+
+value-requires : tie.Need-value-requires
+value-requires c κs = search needs
+
+value-of-requires : tie.Need-value-of-requires
+value-of-requires c κs = search needs
+
+key-requires : tie.Need-key-requires
+key-requires c κs = search needs
+
+key-of-requires : tie.Need-key-of-requires
+key-of-requires c κs = search needs
+
+decimals-requires : tie.Need-decimals-requires
+decimals-requires c κs = search needs
+
+decimals-of-requires : tie.Need-decimals-of-requires
+decimals-of-requires c κs = search needs
+
+text-length-requires : tie.Need-text-length-requires
+text-length-requires c κs = search needs
+
+label-length-requires : tie.Need-label-length-requires
+label-length-requires c κs = search needs
+
+offset-requires : tie.Need-offset-requires
+offset-requires c κs = search needs
+
+returns : tie.Need-returns
+returns c =
+    let offsets = c in
+    let labels = offsets .before in
+    let texts = labels .before in
+    let decimals = texts .before in
+    let keys = decimals .before .before in
+    let values = keys .before .before in
+    let known = values .before .before in
+    let start = known .before .before in
+    let pre = start .pre in
+    fields-told (record { low = λ i. omega (arith, known .shared-slice-known2 .given i); long = pre .2 }) (start .args .k) (start .args .j) (pre .3) (pre .4)
+    (tells-equal (values .before .value .ensures .0) (values .value-of .ensures .0))
+    (tells-equal (keys .before .key .ensures .0) (keys .key-of .ensures .0))
+    (tells-equal (decimals .before .decimals .ensures .0) (decimals .decimals-of .ensures .0))
+    (tells-equal (texts .text-length .ensures .0) refl)
+    (tells-equal (labels .label-length .ensures .0) refl)
+    (tells-equal (offsets .offset .ensures .0) refl)
+
+pub fields-held-spec : {M : Type 1} → statement M
+fields-held-spec =
+    tie.close
+    (tie.spec
+    value-requires
+    value-of-requires
+    key-requires
+    key-of-requires
+    decimals-requires
+    decimals-of-requires
+    text-length-requires
+    label-length-requires
+    offset-requires
+    returns)

@@ -1,0 +1,39 @@
+-- `held::padded_held` meets its contract: the bytes, and the unused room behind them. Assumes nothing.
+use mathlib.Core.Path.{_≡_}
+use Prim.Native.Nat.{_+_, _-_}
+use native.Mathlib.Omega.{arith}
+use denote.Ref.{now}
+use lib.ListN.{length, take}
+use lib.Seq.{length-take-le}
+use Rattle.scope.specs.Limits.{residueLimit}
+use Rattle.held.proofs.Joins.{tells-joined}
+use Rattle.held.proofs.Places.{at-padded}
+use borrow.Author.Needs.{needs}
+use Rattle.held.proofs.padded_held.Statement.{statement}
+use Rattle.held.proofs.padded_held.Tie as tie
+
+same-bytes-requires : tie.Need-same-bytes-requires
+same-bytes-requires c κs = search needs
+
+add-zero-bytes : tie.Need-add-zero-bytes
+add-zero-bytes c = search needs
+
+sub-zero-bytes : tie.Need-sub-zero-bytes
+sub-zero-bytes c = search needs
+
+zero-bytes-requires : tie.Need-zero-bytes-requires
+zero-bytes-requires c κs = search needs
+
+returns : tie.Need-returns
+returns c =
+    let start = c .before .before .before .before in
+    let s = start .args in
+    let l = take (s .n) (now (s .from)) in
+    let long : length l ≡ s .n = length-take-le (s .n) (now (s .from)) (omega arith) in
+    tells-joined (at-padded (now (s .bytes)) 0 residueLimit (s .at) (s .at + s .n) (residueLimit - s .n) l (omega arith) (omega arith))
+    (c .before .same-bytes .ensures) (c .zero-bytes .ensures)
+
+pub padded-held-spec : {M : Type 1} → statement M
+padded-held-spec =
+    tie.close
+    (tie.spec same-bytes-requires add-zero-bytes sub-zero-bytes zero-bytes-requires returns)

@@ -1,0 +1,267 @@
+// Whether lent areas hold the tables of an accepted line that is noted in the sheet: notes and texts are compared with the areas piece by piece, and unused room with
+// zero. The areas may hold anything.
+use scope::tables::Tables;
+ghost use mathlib.Core.Path.{_≡_};
+ghost use Prim.Native.Nat.{ℕ, _+_, _<_, _≤_};
+ghost use lib.IntN.{pos};
+ghost use lib.ListN.{length, getD, take, replicate};
+ghost use Rattle.scope.specs.Limits.{lineLimit, residueLimit, bracketLimit, partLimit};
+ghost use Rattle.scope.specs.Line.{Bracket, Line};
+ghost use Rattle.scope.specs.Lists.{part, padded};
+ghost use Rattle.scope.specs.Refusals.{outcome};
+ghost use Rattle.scope.specs.Layout.{bytesSize, numbersSize, rowAt, partAt, countsRow, partFields};
+ghost use Rattle.scope.specs.Answers.{readsTo};
+ghost use Rattle.held.specs.Tells.{Tells};
+ghost use Rattle.layout_laws.specs.At.{At};
+ghost use Rattle.sheet.specs.Rows.{headsRoom, partsRoom, massesRoom, LineNoted};
+ghost use Rattle.sheet.specs.Fields.{valueField, keyField, decimalsField};
+ghost use Rattle.store.specs.PartPut.{Copies, RowFits};
+ghost use Rattle.store.specs.BracketPut.{headFrom};
+ghost use Rattle.store.specs.Filled.{FrontFits};
+ghost use Rattle.held.specs.Held.{FrontHeld, PartSeen, FrameFits, FrameHeld, BracketThere, BracketSeen, RestHeld};
+
+// What was looked at so far: whether all of it is held, and how many bytes of texts it has.
+struct Seen {
+    so: bool,
+    texts: usize,
+}
+
+// ---- pieces
+
+// Do the n bytes of `from` from `a` on stand at a place? All are compared, many at a time.
+fn same_bytes(from: &[u8], a: usize, n: usize, bytes: &[u8], at: usize) -> bool
+    requires { ⌜ Copies (now from) a n (now bytes) at ⌝ }
+    ensures { λ r. ⌜ Tells r (At (now (bytes .entry)) at (part a n (now (from .entry)))) ⌝ }
+{
+    let mut so = true;
+    let mut i: usize = 0;
+    while i < n {
+        so = so & (bytes[at + i] == from[a + i]);
+        i += 1;
+    }
+    so
+}
+
+// Do n zeros stand there?
+fn zero_bytes(bytes: &[u8], at: usize, n: usize) -> bool
+    requires { ⌜ at + n ≤ length (now bytes) ⌝ }
+    ensures { λ r. ⌜ Tells r (At (now (bytes .entry)) at (replicate n 0)) ⌝ }
+{
+    let mut so = true;
+    let mut i: usize = 0;
+    while i < n {
+        so = so & (bytes[at + i] == 0);
+        i += 1;
+    }
+    so
+}
+
+// Do n zeros stand there among the numbers?
+fn zero_numbers(numbers: &[i64], at: usize, n: usize) -> bool
+    requires { ⌜ at + n ≤ length (now numbers) ⌝ }
+    ensures { λ r. ⌜ Tells r (At (now (numbers .entry)) at (replicate n (pos 0))) ⌝ }
+{
+    let mut so = true;
+    let mut i: usize = 0;
+    while i < n {
+        so = so & (numbers[at + i] == 0);
+        i += 1;
+    }
+    so
+}
+
+// Is this the mass or the score at a place of the sheet?
+fn is_number(numbers: &[i64], at: usize, x: i64) -> bool
+    requires { ⌜ at < length (now numbers) ⌝ }
+    ensures { λ r. ⌜ Tells r (x ≡ getD (now (numbers .entry)) at (pos 0)) ⌝ }
+{
+    x == numbers[at]
+}
+
+// ---- in front of the rows
+
+// Do the first n bytes of `from` stand at a place, with zeros behind them up to the limit of residues?
+fn padded_held(from: &[u8], n: usize, bytes: &[u8], at: usize) -> bool
+    requires { ⌜ (n ≤ residueLimit) × (residueLimit ≤ length (now from)) × (at + residueLimit ≤ length (now bytes)) ⌝ }
+    ensures { λ r. ⌜ Tells r (At (now (bytes .entry)) at (padded 0 residueLimit (take n (now (from .entry))))) ⌝ }
+{
+    same_bytes(from, 0, n, bytes, at) & zero_bytes(bytes, at + n, Tables::RESIDUES - n)
+}
+
+// The numbers of residues and brackets, the letters and the sections?
+fn front_held(
+    letters: &[u8],
+    sections: &[u8],
+    residues: usize,
+    brackets: usize,
+    bytes: &[u8],
+) -> bool
+    requires { ⌜ FrontFits (now letters) (now sections) residues brackets (now bytes) ⌝ }
+    ensures { λ r. ⌜ Tells r (FrontHeld (countsRow residues brackets) (take residues (now (letters .entry))) (take residues (now (sections .entry))) (now (bytes .entry))) ⌝ }
+{
+    (areas::residues(bytes) == residues)
+        & (areas::brackets(bytes) == brackets)
+        & padded_held(letters, residues, bytes, Tables::LETTERS)
+        & padded_held(sections, residues, bytes, Tables::SECTIONS)
+}
+
+// ---- a part
+
+// Is the row of part j of bracket k that of row m, with n bytes of text and l of label at an offset?
+fn fields_held(
+    parts: &[u16],
+    m: usize,
+    n: usize,
+    l: usize,
+    offset: usize,
+    k: usize,
+    j: usize,
+    bytes: &[u8],
+) -> bool
+    requires { ⌜ (partsRoom ≤ length (now parts)) × (m < massesRoom) × (bytesSize ≤ length (now bytes)) × (k < bracketLimit) × (j < partLimit) ⌝ }
+    ensures { λ r. ⌜ Tells r (At (now (bytes .entry)) (partAt k j) (partFields (valueField (now (parts .entry)) m) (keyField (now (parts .entry)) m) (decimalsField (now (parts .entry)) m) n l offset)) ⌝ }
+{
+    (areas::value(bytes, k, j) == sheet::value_of(parts, m))
+        & (areas::key(bytes, k, j) == sheet::key_of(parts, m))
+        & (areas::decimals(bytes, k, j) == sheet::decimals_of(parts, m))
+        & (areas::text_length(bytes, k, j) == n)
+        & (areas::label_length(bytes, k, j) == l)
+        & (areas::offset(bytes, k, j) == offset)
+}
+
+// Row m as part j of bracket k: its fields, its text and its label behind the texts seen, and its mass.
+fn part_held(
+    line: &[u8],
+    parts: &[u16],
+    masses: &[i64],
+    m: usize,
+    k: usize,
+    j: usize,
+    bytes: &[u8],
+    numbers: &[i64],
+    seen: Seen,
+) -> Seen
+    requires { ⌜ RowFits (now line) (now parts) (now masses) m k j (seen .texts) (now bytes) (now numbers) ⌝ }
+    ensures { λ r. ⌜ PartSeen (now (line .entry)) (now (parts .entry)) (now (masses .entry)) m k j (now (bytes .entry)) (now (numbers .entry)) seen r ⌝ }
+{
+    let t = seen.texts;
+    let text = sheet::text_from(parts, m);
+    let n = sheet::text_to(parts, m) - text;
+    let label = sheet::label_from(parts, m);
+    let l = sheet::label_to(parts, m) - label;
+    let offset = store::offset_of(n + l, t);
+    let so = fields_held(parts, m, n, l, offset, k, j, bytes)
+        & same_bytes(line, text, n, bytes, Tables::TEXTS + t)
+        & same_bytes(line, label, l, bytes, Tables::TEXTS + t + n)
+        & is_number(masses, m, areas::mass(numbers, k, j));
+    Seen {
+        so: seen.so & so,
+        texts: t + n + l,
+    }
+}
+
+// ---- a bracket
+
+// The head of bracket k?
+fn head_held(heads: &[u16], k: usize, bytes: &[u8]) -> bool
+    requires { ⌜ (headsRoom ≤ length (now heads)) × (k < bracketLimit) × (bytesSize ≤ length (now bytes)) ⌝ }
+    ensures { λ r. ⌜ Tells r (At (now (bytes .entry)) (rowAt k) (headFrom (now (heads .entry)) k)) ⌝ }
+{
+    (areas::kind(bytes, k) == sheet::kind_of(heads, k))
+        & (areas::first(bytes, k) == sheet::first_of(heads, k))
+        & (areas::last(bytes, k) == sheet::last_of(heads, k))
+        & (areas::count(bytes, k) == sheet::count_of(heads, k))
+        & (areas::parts(bytes, k) == sheet::parts_of(heads, k))
+        & (areas::score(bytes, k) == sheet::score_of(heads, k))
+}
+
+// What bracket k has beside its n parts: its head, zeros for the parts that it lacks, its score?
+fn frame_held(
+    heads: &[u16],
+    scores: &[i64],
+    k: usize,
+    n: usize,
+    bytes: &[u8],
+    numbers: &[i64],
+) -> bool
+    requires { ⌜ FrameFits (now heads) (now scores) k n (now bytes) (now numbers) ⌝ }
+    ensures { λ r. ⌜ Tells r (FrameHeld (now (heads .entry)) (now (scores .entry)) k n (now (bytes .entry)) (now (numbers .entry))) ⌝ }
+{
+    let lacking = Tables::PARTS - n;
+    let behind = Tables::ROWS + k * Tables::ROW + Tables::HEAD + n * Tables::PART;
+    head_held(heads, k, bytes)
+        & zero_bytes(bytes, behind, lacking * Tables::PART)
+        & zero_numbers(numbers, k * Tables::MASSES + n, lacking)
+        & is_number(scores, k, areas::score_number(numbers, k))
+}
+
+// Bracket k: what it has beside its parts, and each part.
+fn bracket_held(
+    line: &[u8],
+    heads: &[u16],
+    parts: &[u16],
+    masses: &[i64],
+    scores: &[i64],
+    k: usize,
+    bytes: &[u8],
+    numbers: &[i64],
+    seen: Seen,
+) -> Seen
+    requires { ⌜ ((b : Bracket ℕ) × BracketThere (now line) (now heads) (now parts) (now masses) (now scores) k (seen .texts) b (now bytes) (now numbers)) ⌝ }
+    ensures { λ r. ⌜ ((b : Bracket ℕ) → BracketThere (now (line .entry)) (now (heads .entry)) (now (parts .entry)) (now (masses .entry)) (now (scores .entry)) k (seen .texts) b (now (bytes .entry)) (now (numbers .entry)) → BracketSeen k b (now (bytes .entry)) (now (numbers .entry)) seen r) ⌝ }
+{
+    let m = sheet::base_of(heads, k);
+    let n = sheet::parts_of(heads, k);
+    let mut upto = Seen {
+        so: seen.so & frame_held(heads, scores, k, n, bytes, numbers),
+        texts: seen.texts,
+    };
+    let mut j: usize = 0;
+    while j < n {
+        upto = part_held(line, parts, masses, m + j, k, j, bytes, numbers, upto);
+        j += 1;
+    }
+    upto
+}
+
+// ---- a line
+
+// Zeros behind n brackets and t bytes of texts?
+fn rest_held(n: usize, t: usize, bytes: &[u8], numbers: &[i64]) -> bool
+    requires { ⌜ (n ≤ bracketLimit) × (t ≤ lineLimit) × (bytesSize ≤ length (now bytes)) × (numbersSize ≤ length (now numbers)) ⌝ }
+    ensures { λ r. ⌜ Tells r (RestHeld n t (now (bytes .entry)) (now (numbers .entry))) ⌝ }
+{
+    let lacking = Tables::BRACKETS - n;
+    zero_bytes(bytes, Tables::ROWS + n * Tables::ROW, lacking * Tables::ROW)
+        & zero_bytes(bytes, Tables::TEXTS + t, Tables::LINE - t)
+        & zero_numbers(numbers, n * Tables::MASSES, lacking * Tables::MASSES)
+}
+
+// Do the areas hold the tables of an accepted line, which is noted in the sheet?
+pub fn holds(
+    line: &[u8],
+    letters: &[u8],
+    sections: &[u8],
+    heads: &[u16],
+    parts: &[u16],
+    masses: &[i64],
+    scores: &[i64],
+    residues: usize,
+    brackets: usize,
+    bytes: &[u8],
+    numbers: &[i64],
+) -> bool
+    requires { ⌜ ((l : Line ℕ) × LineNoted (now line) (now letters) (now sections) (now heads) (now parts) (now masses) (now scores) residues brackets l) × (bytesSize ≤ length (now bytes)) × (numbersSize ≤ length (now numbers)) ⌝ }
+    ensures { λ r. ⌜ r ≡ readsTo (outcome (now (line .entry))) (take bytesSize (now (bytes .entry))) (take numbersSize (now (numbers .entry))) ⌝ }
+{
+    let mut seen = Seen {
+        so: front_held(letters, sections, residues, brackets, bytes),
+        texts: 0,
+    };
+    let mut k: usize = 0;
+    while k < brackets {
+        seen = bracket_held(line, heads, parts, masses, scores, k, bytes, numbers, seen);
+        k += 1;
+    }
+    seen.so & rest_held(brackets, seen.texts, bytes, numbers)
+}

@@ -4,7 +4,8 @@
 // handed over are exactly those that the definitions put out, in the state before, for the bytes just taken in (`Owed`, `OwedLast`); every caller proves
 // it. `turn` says that the state goes on by the bytes that the room holds from the read, and that as many bytes were taken as are put out for them. Pieces
 // owed so, one behind the other from the start, are `register` of what was read (specs/Whole.antt, `handed-over`). That `hand` is called once for each
-// part, and `hand_last` once, is to be read in `drain` and `close`: no contract can speak of a call. Of the system it is assumed that a read leaves at the
+// part, and `hand_last` once, is to be read in `drain` and `close`: no contract can speak of a call. The state counts the refused lines too, and at the end
+// of the input there are as many as among the lines of what was read (`refused-in-one`). Of the system it is assumed that a read leaves at the
 // front of the room what it answers for, and that a write takes the front of what it is handed, in order, as its answer counts.
 use bounds::copy_bytes;
 use entries::ENTRY;
@@ -160,8 +161,8 @@ enum End {
     Unwritten,
 }
 
-// What is kept from one chunk to the next, how many bytes were taken by the output, and whether there is more to do; if not, how reading ended, and
-// the number is that of the first line whose entry is not out. Of the input as a whole all refused lines are counted.
+// What is kept from one chunk to the next, how many bytes were taken by the output, and whether there is more to do; if not, how reading ended: the
+// number is that of the first line whose entry is not out, and of a whole input all refused lines are counted.
 struct Kept {
     number: u64,
     refused: u64,
@@ -207,7 +208,7 @@ fn put_part(
     )
 }
 
-// What counts where it is so.
+// One where it is so, else none: for counting.
 fn one_if(so: bool) -> u64
     ensures { λ r. ⌜ (r ≡ cond so 1 0) × (r ≤ 1) ⌝ }
 {

@@ -155,8 +155,8 @@ cut-line chunk from end hold held holds n k w m l =
       goes = λ _. omega (arith, w .past);
       whole = λ e. absurd (false≢true (sym e));
       stays = m .stays;
-      leaves = λ j. ap (after (holding j (take held hold))) p ∙ after-line j (take held hold) t (short held hold k) (w .before) ∙ ap (λ z. behind true (holding j z)) (sym (m .are));
-      puts = λ j. ap (put (holding j (take held hold))) p ∙ put-line j (take held hold) t (short held hold k) (w .before) ∙ ap (λ z. ended true (holding j z)) (sym (m .are));
+      leaves = λ j r. ap (after (holding j r (take held hold))) p ∙ after-line j r (take held hold) t (short held hold k) (w .before) ∙ ap (λ z. behind true (holding j r z)) (sym (m .are));
+      puts = λ j r. ap (put (holding j r (take held hold))) p ∙ put-line j r (take held hold) t (short held hold k) (w .before) ∙ ap (λ z. ended true (holding j r z)) (sym (m .are));
     }
 
 pub cut-chunk : (chunk : List ℕ) (from end : ℕ) (hold : List ℕ) (held : ℕ) (holds : List ℕ) (n : ℕ) → held ≤ holdLimit → LineEnd chunk from end
@@ -171,6 +171,6 @@ cut-chunk chunk from end hold held holds n k w m l =
       goes = λ e. absurd (false≢true e);
       whole = λ _. omega (arith, w .within);
       stays = m .stays;
-      leaves = λ j. after-plain j (take held hold) t (short held hold k) (w .before) ∙ ap (holding j) (sym (m .are));
-      puts = λ j. put-plain j (take held hold) t (w .before);
+      leaves = λ j r. after-plain j r (take held hold) t (short held hold k) (w .before) ∙ ap (holding j r) (sym (m .are));
+      puts = λ j r. put-plain j r (take held hold) t (w .before);
     }

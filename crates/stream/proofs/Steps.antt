@@ -18,16 +18,17 @@ use Rattle.sheet.specs.Rows.{headsRoom, partsRoom, massesRoom}
 use Rattle.store.specs.Filled.{Clean}
 use Rattle.writer.specs.Written.{stored, Puts, decimalMost}
 use Rattle.writer.proofs.Storing.{stored-append, stored-whole}
-use Rattle.entries.specs.Entry.{entry, entryLimit, Printed}
+use Rattle.scope.specs.Refusals.{outcome}
+use Rattle.entries.specs.Entry.{entry, entryLimit, isRefused, Printed}
 use Rattle.stream.specs.declared.End.{End}
 use Rattle.stream.specs.declared.End.the-variants.{Whole, Unread, Unwritten}
 use Rattle.stream.specs.declared.Got.{Got}
 use Rattle.stream.specs.declared.Got.the-variants.{Came}
-use Rattle.stream.specs.Lines.{lineEnd}
-use Rattle.stream.specs.Feeding.{holdLimit, State, holding, kept, behind, ended, after, put, lastPut, finished, part}
+use Rattle.stream.specs.Lines.{lineEnd, refusal}
+use Rattle.stream.specs.Feeding.{holdLimit, State, holding, kept, behind, ended, after, put, lastPut, finished, lastRefused, part}
 use Rattle.stream.specs.Promises.{LineEnd, Cuts, numberLimit, readLimit, outputLimit, Lent, sheetOf, HasRoom, Ready, Fronts, Runs, Feeds, Owed, OwedLast, Received, lineEnds, noticeRoom, noticed, Drains, Closes, Turns}
-use Rattle.stream.specs.Laws.{after-append, put-append, after-line, put-line}
-use Rattle.stream.specs.Whole.{entry-front}
+use Rattle.stream.specs.Laws.{after-append, put-append, after-line, put-line, after-few}
+use Rattle.stream.specs.Whole.{entry-front, refusal-front}
 use Rattle.stream.proofs.Cutting.{part-none, part-more, part-join}
 
 -- ---- tables that are as long as they were
@@ -103,18 +104,27 @@ module _ (chunk : List ℕ) (from : ℕ) (first : State) where
       ap (put first) (part-join from next next′ chunk h k) ∙ put-append first (part from next chunk) (part next next′ chunk)
       ∙ ap (λ z. put first (part from next chunk) ++ put z (part next next′ chunk)) e
 
+-- ---- refused lines, counted
+-- one more for a line that is answered, where it is refused
+pub adds-refusal : (l : List ℕ) {so : Bool} {one : ℕ} → so ≡ isRefused (outcome l) → (one ≡ cond so 1 0) × (one ≤ 1) → one ≡ refusal l
+adds-refusal l e o = o .0 ∙ ap (λ z. cond z 1 0) e
+
+-- they stay fewer than the number of the line that comes next
+pub stays-few : {number refused : ℕ} (h t : List ℕ) {line total : ℕ} {g : List ℕ} → after (holding number refused h) t ≡ holding line total g → refused < number → total < line
+stays-few {number} {refused} h t e few = subst (λ s. s .refused < s .number) e (after-few (holding number refused h) t few)
+
 -- ---- the lines that lie whole in a chunk
-module _ (chunk : List ℕ) (from number : ℕ) (sheet₀ : Lent) (bytes₀ : List ℕ) (numbers₀ : List ℤ) (out₀ : List ℕ) (at : ℕ) where
+module _ (chunk : List ℕ) (from number refused : ℕ) (sheet₀ : Lent) (bytes₀ : List ℕ) (numbers₀ : List ℤ) (out₀ : List ℕ) (at : ℕ) where
   abbrev first : State
-  first = holding number []
+  first = holding number refused []
 
   -- they are put up to `next`
-  pub record Goes (next line n : ℕ) (sheet : Lent) (bytes : List ℕ) (numbers : List ℤ) (out : List ℕ) : Type 0 where
+  pub record Goes (next line total n : ℕ) (sheet : Lent) (bytes : List ℕ) (numbers : List ℤ) (out : List ℕ) : Type 0 where
     pub past : from ≤ next
     pub inside : next ≤ length chunk
     pub grows : number ≤ line
     pub count : line + from ≤ number + next
-    pub leaves : after first (part from next chunk) ≡ holding line []
+    pub leaves : after first (part from next chunk) ≡ holding line total []
     pub puts : out ≡ stored out₀ at (put first (part from next chunk))
     pub ends : n ≡ at + length (put first (part from next chunk))
     pub fits : n ≤ length out₀
@@ -125,7 +135,7 @@ module _ (chunk : List ℕ) (from number : ℕ) (sheet₀ : Lent) (bytes₀ : Li
     pub numbers-long : length numbers ≡ length numbers₀
     pub out-long : length out ≡ length out₀
 
-  pub goes-start : from ≤ length chunk → HasRoom sheet₀ → Clean bytes₀ numbers₀ → at ≤ length out₀ → Goes from number at sheet₀ bytes₀ numbers₀ out₀
+  pub goes-start : from ≤ length chunk → HasRoom sheet₀ → Clean bytes₀ numbers₀ → at ≤ length out₀ → Goes from number refused at sheet₀ bytes₀ numbers₀ out₀
   unfolding after put stored
   goes-start h g w k =
       let none : length (put first (part from from chunk)) ≡ 0 = ap (λ z. length (put first z)) (part-none from chunk) in
@@ -147,13 +157,15 @@ module _ (chunk : List ℕ) (from number : ℕ) (sheet₀ : Lent) (bytes₀ : Li
       }
 
   -- a line more
-  pub goes-line : {next line n : ℕ} {sheet : Lent} {bytes : List ℕ} {numbers : List ℤ} {out : List ℕ} {end : ℕ} {out′ : List ℕ} {r : ℕ} {sheet′ : Lent} {bytes′ : List ℕ} {numbers′ : List ℤ}
-      → Goes next line n sheet bytes numbers out → LineEnd chunk next end → (end ≡ length chunk → ⊥)
-      → Printed entryLimit out n (entry line (part next end chunk)) out′ r bytes numbers bytes′ numbers′ → SameLong sheet sheet′ → n + entryLimit ≤ length out
-      → Goes (end + 1) (line + 1) r sheet′ bytes′ numbers′ out′
-  goes-line {next} {line} {n} {sheet} {bytes} {numbers} {out} {end} {out′} {r} w m q p u h =
-      let s = holding line [] in
+  pub goes-line : {next line total n : ℕ} {sheet : Lent} {bytes : List ℕ} {numbers : List ℤ} {out : List ℕ} {end : ℕ} {out′ : List ℕ} {r : ℕ} {so : Bool} {one : ℕ} {sheet′ : Lent} {bytes′ : List ℕ} {numbers′ : List ℤ}
+      → Goes next line total n sheet bytes numbers out → LineEnd chunk next end → (end ≡ length chunk → ⊥)
+      → Printed entryLimit out n (entry line (part next end chunk)) out′ r bytes numbers bytes′ numbers′ × (so ≡ isRefused (outcome (part next end chunk)))
+      → (one ≡ cond so 1 0) × (one ≤ 1) → SameLong sheet sheet′ → n + entryLimit ≤ length out → Goes (end + 1) (line + 1) (total + one) r sheet′ bytes′ numbers′ out′
+  goes-line {next} {line} {total} {n} {sheet} {bytes} {numbers} {out} {end} {out′} {r} {so} {one} w m q printed c u h =
+      let p = printed .0 in
+      let s = holding line total [] in
       let t = part next end chunk in
+      let more : total + refusal (kept [] t) ≡ total + one = ap (λ z. total + z) (refusal-front t ∙ sym (adds-refusal t (printed .1) c)) in
       let before = put first (part from next chunk) in
       let e = entry line t in
       let l : end < length chunk = omega (arith, m .within, q) in
@@ -162,15 +174,15 @@ module _ (chunk : List ℕ) (from number : ℕ) (sheet₀ : Lent) (bytes₀ : Li
       let piece : part next (end + 1) chunk ≡ t ++ (lineEnd ∷ []) = part-more next end chunk (m .past) l ∙ ap (λ z. t ++ (z ∷ [])) (m .there l) in
       let text : put first (part from (end + 1) chunk) ≡ before ++ e =
       put-more chunk from first next (end + 1) s (w .past) further (w .leaves)
-      ∙ ap (λ z. before ++ z) (ap (put s) piece ∙ put-line line [] t none (m .before) ∙ entry-front line t) in
+      ∙ ap (λ z. before ++ z) (ap (put s) piece ∙ put-line line total [] t none (m .before) ∙ entry-front line t) in
       let a : n ≡ at + length before = w .ends in
       record {
         past = omega (arith, w .past, m .past);
         inside = omega arith;
         grows = omega (arith, w .grows);
         count = omega (arith, w .count, m .past);
-        leaves = after-more chunk from first next (end + 1) s (w .past) further (w .leaves) ∙ ap (after s) piece ∙ after-line line [] t none (m .before)
-            ∙ ap (λ z. holding z []) (sym (add-one line));
+        leaves = after-more chunk from first next (end + 1) s (w .past) further (w .leaves) ∙ ap (after s) piece ∙ after-line line total [] t none (m .before)
+            ∙ ap (λ z. holding z (total + refusal (kept [] t)) []) (sym (add-one line)) ∙ ap (λ z. holding (line + 1) z []) more;
         puts = p .puts .holds ∙ ap (λ z. stored z n e) (w .puts) ∙ ap (λ z. stored (stored out₀ at before) z e) a
             ∙ sym (stored-append out₀ at before e) ∙ ap (stored out₀ at) (sym text);
         ends = omega (arith, p .puts .ends, a, length-append before e, ap length text);
@@ -183,8 +195,8 @@ module _ (chunk : List ℕ) (from number : ℕ) (sheet₀ : Lent) (bytes₀ : Li
         out-long = p .out-long ∙ w .out-long;
       }
 
-  pub goes-end : {next line n : ℕ} {sheet : Lent} {bytes : List ℕ} {numbers : List ℤ} {out : List ℕ} → Goes next line n sheet bytes numbers out
-      → Runs chunk from number out₀ at next line 0 out n × Clean bytes numbers
+  pub goes-end : {next line total n : ℕ} {sheet : Lent} {bytes : List ℕ} {numbers : List ℤ} {out : List ℕ} → Goes next line total n sheet bytes numbers out
+      → Runs chunk from number refused out₀ at next line total 0 out n × Clean bytes numbers
   goes-end w = (
     record {
       past = w .past;
@@ -203,10 +215,10 @@ module _ (chunk : List ℕ) (from number : ℕ) (sheet₀ : Lent) (bytes₀ : Li
 
 -- ---- a part of a chunk, taken in
 -- the line that is begun goes on past it
-pub feeds-held : {chunk : List ℕ} {from number : ℕ} {hold : List ℕ} {held : ℕ} {sheet : Lent} {bytes : List ℕ} {numbers : List ℤ} {out holds : List ℕ} {n next : ℕ} {e : Bool}
+pub feeds-held : {chunk : List ℕ} {from number refused : ℕ} {hold : List ℕ} {held : ℕ} {sheet : Lent} {bytes : List ℕ} {numbers : List ℤ} {out holds : List ℕ} {n next : ℕ} {e : Bool}
     → Ready hold held sheet bytes numbers out → Cuts chunk from hold held holds n next e → e ≡ false
-    → Feeds chunk from number hold held out next number holds n out 0 × Ready holds n sheet bytes numbers out
-feeds-held {chunk} {from} {number} {hold} {held} {sheet} {bytes} {numbers} {out} {holds} {n} {next} w c q =
+    → Feeds chunk from number refused hold held out next number refused holds n out 0 × Ready holds n sheet bytes numbers out
+feeds-held {chunk} {from} {number} {refused} {hold} {held} {sheet} {bytes} {numbers} {out} {holds} {n} {next} w c q =
     let m = subst (λ z. Cuts chunk from hold held holds n next z) q c in (
       record {
         inside = m .inside;
@@ -214,28 +226,32 @@ feeds-held {chunk} {from} {number} {hold} {held} {sheet} {bytes} {numbers} {out}
         grows = omega arith;
         count = omega (arith, m .past);
         stays = m .stays;
-        leaves = m .leaves number;
-        puts = record { fits = omega arith; front = sym (m .puts number); rest = refl };
+        leaves = m .leaves number refused;
+        puts = record { fits = omega arith; front = sym (m .puts number refused); rest = refl };
       },
       record { room = m .room; within = m .within; roomy = w .roomy; clean = w .clean; wide = w .wide; narrow = w .narrow },
     )
 
 -- it ends, and lines behind it
-pub feeds-lines : {chunk : List ℕ} {from number : ℕ} {hold : List ℕ} {held : ℕ} {sheet : Lent} {bytes : List ℕ} {numbers : List ℤ} {out holds : List ℕ} {n next : ℕ} {e : Bool}
-    → {out′ : List ℕ} {at : ℕ} {bytes′ : List ℕ} {numbers′ : List ℤ} {next′ line k : ℕ} {out″ : List ℕ} {m : ℕ} {sheet″ : Lent} {bytes″ : List ℕ} {numbers″ : List ℤ}
+pub feeds-lines : {chunk : List ℕ} {from number refused : ℕ} {hold : List ℕ} {held : ℕ} {sheet : Lent} {bytes : List ℕ} {numbers : List ℤ} {out holds : List ℕ} {n next : ℕ} {e : Bool}
+    → {out′ : List ℕ} {at : ℕ} {so : Bool} {one : ℕ} {bytes′ : List ℕ} {numbers′ : List ℤ} {next′ line total k : ℕ} {out″ : List ℕ} {m : ℕ} {sheet″ : Lent} {bytes″ : List ℕ} {numbers″ : List ℤ}
     → Ready hold held sheet bytes numbers out → Cuts chunk from hold held holds n next e → e ≡ true
-    → Printed entryLimit out 0 (entry number (part 0 n holds)) out′ at bytes numbers bytes′ numbers′
-    → Runs chunk next (number + 1) out′ at next′ line k out″ m → SameLong sheet sheet″ → Clean bytes″ numbers″
-    → Feeds chunk from number hold held out next′ line holds k out″ m × Ready holds k sheet″ bytes″ numbers″ out″
-feeds-lines {chunk} {from} {number} {hold} {held} {sheet} {bytes} {numbers} {out} {holds} {n} {next} {e} {out′} {at} {bytes′} {numbers′} {next′} {line} {k} {out″} {m} w c q p g u clear =
+    → Printed entryLimit out 0 (entry number (part 0 n holds)) out′ at bytes numbers bytes′ numbers′ × (so ≡ isRefused (outcome (part 0 n holds)))
+    → (one ≡ cond so 1 0) × (one ≤ 1) → Runs chunk next (number + 1) (refused + one) out′ at next′ line total k out″ m → SameLong sheet sheet″ → Clean bytes″ numbers″
+    → Feeds chunk from number refused hold held out next′ line total holds k out″ m × Ready holds k sheet″ bytes″ numbers″ out″
+feeds-lines {chunk} {from} {number} {refused} {hold} {held} {sheet} {bytes} {numbers} {out} {holds} {n} {next} {e} {out′} {at} {so} {one} {bytes′} {numbers′} {next′} {line} {total} {k} {out″} {m} w c q printed o g u clear =
+    let p = printed .0 in
     let d = subst (λ z. Cuts chunk from hold held holds n next z) q c in
-    let s = holding number (take held hold) in
+    let s = holding number refused (take held hold) in
+    let s′ = holding (number + 1) (refused + one) [] in
     let first = entry number (part 0 n holds) in
-    let more = put (holding (number + 1) []) (part next next′ chunk) in
-    let behind-it : after s (part from next chunk) ≡ holding (number + 1) [] = d .leaves number ∙ ap (λ z. holding z []) (sym (add-one number)) in
-    let put-first : put s (part from next chunk) ≡ first = d .puts number ∙ ap (entry number) (sym (whole-front n holds)) in
+    let more = put s′ (part next next′ chunk) in
+    let counts : refusal (take n holds) ≡ one = ap refusal (sym (whole-front n holds)) ∙ sym (adds-refusal (part 0 n holds) (printed .1) o) in
+    let behind-it : after s (part from next chunk) ≡ s′ =
+    d .leaves number refused ∙ ap (λ z. holding z (refused + refusal (take n holds)) []) (sym (add-one number)) ∙ ap (λ z. holding (number + 1) (refused + z) []) counts in
+    let put-first : put s (part from next chunk) ≡ first = d .puts number refused ∙ ap (entry number) (sym (whole-front n holds)) in
     let text : put s (part from next′ chunk) ≡ first ++ more =
-    put-more chunk from s next next′ (holding (number + 1) []) (d .past) (g .past) behind-it ∙ ap (λ z. z ++ more) put-first in
+    put-more chunk from s next next′ s′ (d .past) (g .past) behind-it ∙ ap (λ z. z ++ more) put-first in
     let holds-text : out″ ≡ stored out 0 (first ++ more) =
     g .puts ∙ ap (λ z. stored z at more) (p .puts .holds) ∙ ap (λ z. stored (stored out 0 first) z more) (p .puts .ends) ∙ sym (stored-append out 0 first more) in
     let ends-text : m ≡ length (first ++ more) = omega (arith, g .ends, p .puts .ends, length-append first more) in
@@ -247,29 +263,29 @@ feeds-lines {chunk} {from} {number} {hold} {held} {sheet} {bytes} {numbers} {out
         grows = omega (arith, g .grows);
         count = omega (arith, g .count, go);
         stays = d .stays;
-        leaves = after-more chunk from s next next′ (holding (number + 1) []) (d .past) (g .past) behind-it ∙ g .leaves
-            ∙ ap (λ z. holding line (take z holds)) (sym (g .none-held));
+        leaves = after-more chunk from s next next′ s′ (d .past) (g .past) behind-it ∙ g .leaves
+            ∙ ap (λ z. holding line total (take z holds)) (sym (g .none-held));
         puts = subst (λ z. Fronts z out out″ m) (sym text) (fronts out (first ++ more) out″ m holds-text ends-text (omega (arith, g .fits, p .out-long)) long);
       },
       record { room = d .room; within = omega (arith, g .none-held); roomy = still-roomy (w .roomy) u; clean = clear; wide = omega (arith, w .wide, long); narrow = omega (arith, w .narrow, long) },
     )
 
 -- so what is handed over is owed
-pub owed : {chunk : List ℕ} {from number : ℕ} {hold : List ℕ} {held : ℕ} {out : List ℕ} {next line : ℕ} {holds : List ℕ} {n : ℕ} {outs : List ℕ} {m : ℕ}
-    → Feeds chunk from number hold held out next line holds n outs m → Owed chunk from next number holds held outs m
-owed {chunk} {from} {number} {next = next} f =
-    record { fits = f .puts .fits; text = f .puts .front ∙ ap (λ z. put (holding number z) (part from next chunk)) (sym (f .stays)) }
+pub owed : {chunk : List ℕ} {from number refused : ℕ} {hold : List ℕ} {held : ℕ} {out : List ℕ} {next line total : ℕ} {holds : List ℕ} {n : ℕ} {outs : List ℕ} {m : ℕ}
+    → Feeds chunk from number refused hold held out next line total holds n outs m → Owed chunk from next number refused holds held outs m
+owed {chunk} {from} {number} {refused} {next = next} f =
+    record { fits = f .puts .fits; text = f .puts .front ∙ ap (λ z. put (holding number refused z) (part from next chunk)) (sym (f .stays)) }
 
 -- ---- a whole chunk: it is taken in up to `from`, and what is put out for that was taken
-module _ (chunk : List ℕ) (number : ℕ) (hold₀ : List ℕ) (held : ℕ) (sheet₀ : Lent) (bytes₀ : List ℕ) (numbers₀ : List ℤ) (out₀ : List ℕ) where
+module _ (chunk : List ℕ) (number refused : ℕ) (hold₀ : List ℕ) (held : ℕ) (sheet₀ : Lent) (bytes₀ : List ℕ) (numbers₀ : List ℤ) (out₀ : List ℕ) where
   abbrev begun : State
-  begun = holding number (take held hold₀)
+  begun = holding number refused (take held hold₀)
 
-  pub record Taken (from line n sent : ℕ) (hold : List ℕ) (sheet : Lent) (bytes : List ℕ) (numbers : List ℤ) (out : List ℕ) : Type 0 where
+  pub record Taken (from line total n sent : ℕ) (hold : List ℕ) (sheet : Lent) (bytes : List ℕ) (numbers : List ℤ) (out : List ℕ) : Type 0 where
     pub inside : from ≤ length chunk
     pub grows : number ≤ line
     pub count : line ≤ number + from
-    pub leaves : after begun (take from chunk) ≡ holding line (take n hold)
+    pub leaves : after begun (take from chunk) ≡ holding line total (take n hold)
     pub given : sent ≡ length (put begun (take from chunk))
     pub low : sent ≤ from * outputLimit
     pub ready : Ready hold n sheet bytes numbers out
@@ -279,7 +295,7 @@ module _ (chunk : List ℕ) (number : ℕ) (hold₀ : List ℕ) (held : ℕ) (sh
     pub numbers-long : length numbers ≡ length numbers₀
     pub out-long : length out ≡ length out₀
 
-  pub taken-start : Ready hold₀ held sheet₀ bytes₀ numbers₀ out₀ → Taken 0 number held 0 hold₀ sheet₀ bytes₀ numbers₀ out₀
+  pub taken-start : Ready hold₀ held sheet₀ bytes₀ numbers₀ out₀ → Taken 0 number refused held 0 hold₀ sheet₀ bytes₀ numbers₀ out₀
   unfolding after put
   taken-start w =
       record {
@@ -297,14 +313,14 @@ module _ (chunk : List ℕ) (number : ℕ) (hold₀ : List ℕ) (held : ℕ) (sh
         out-long = refl;
       }
 
-  pub taken-more : {from line n sent : ℕ} {hold : List ℕ} {sheet : Lent} {bytes : List ℕ} {numbers : List ℤ} {out : List ℕ} {next line′ n′ : ℕ}
+  pub taken-more : {from line total n sent : ℕ} {hold : List ℕ} {sheet : Lent} {bytes : List ℕ} {numbers : List ℤ} {out : List ℕ} {next line′ total′ n′ : ℕ}
       → {hold′ : List ℕ} {sheet′ : Lent} {bytes′ : List ℕ} {numbers′ : List ℤ} {out′ : List ℕ} {m took : ℕ}
-      → Taken from line n sent hold sheet bytes numbers out → from < length chunk → Feeds chunk from line hold n out next line′ hold′ n′ out′ m
+      → Taken from line total n sent hold sheet bytes numbers out → from < length chunk → Feeds chunk from line total hold n out next line′ total′ hold′ n′ out′ m
       → Ready hold′ n′ sheet′ bytes′ numbers′ out′ → took ≤ m → m ≤ took → SameLong sheet sheet′ → length bytes′ ≡ length bytes
-      → length numbers′ ≡ length numbers → length out′ ≡ length out → Taken next line′ n′ (sent + took) hold′ sheet′ bytes′ numbers′ out′
-  taken-more {from} {line} {n} {sent} {hold} {next = next} {m = m} w l f r a z v b u o =
+      → length numbers′ ≡ length numbers → length out′ ≡ length out → Taken next line′ total′ n′ (sent + took) hold′ sheet′ bytes′ numbers′ out′
+  taken-more {from} {line} {total} {n} {sent} {hold} {next = next} {m = m} w l f r a z v b u o =
       let go = f .goes l in
-      let s = holding line (take n hold) in
+      let s = holding line total (take n hold) in
       let e : next ≡ from + (next - from) = omega arith in
       let p : take next chunk ≡ take from chunk ++ part from next chunk = ap (λ y. take y chunk) e ∙ take-add from (next - from) chunk in
       let text : put begun (take next chunk) ≡ put begun (take from chunk) ++ put s (part from next chunk) =
@@ -325,8 +341,8 @@ module _ (chunk : List ℕ) (number : ℕ) (hold₀ : List ℕ) (held : ℕ) (sh
         out-long = o ∙ w .out-long;
       }
 
-  pub taken-all : {from line n sent : ℕ} {hold : List ℕ} {sheet : Lent} {bytes : List ℕ} {numbers : List ℤ} {out : List ℕ} → Taken from line n sent hold sheet bytes numbers out
-      → length chunk ≤ from → Drains chunk number hold₀ held line hold n sent true Whole × Ready hold n sheet bytes numbers out
+  pub taken-all : {from line total n sent : ℕ} {hold : List ℕ} {sheet : Lent} {bytes : List ℕ} {numbers : List ℤ} {out : List ℕ} → Taken from line total n sent hold sheet bytes numbers out
+      → length chunk ≤ from → Drains chunk number refused hold₀ held line total hold n sent true Whole × Ready hold n sheet bytes numbers out
   taken-all {from} w l =
       let all = sym (take-all from chunk l) in (
         record {
@@ -356,8 +372,8 @@ pub stays-ready : {hold : List ℕ} {held : ℕ} {sheet : Lent} {bytes : List �
     → Ready hold held sheet bytes numbers out → Ready hold′ held′ sheet′ bytes′ numbers′ out′ → Ready hold′ held sheet′ bytes′ numbers′ out′
 stays-ready w r = record { room = r .room; within = w .within; roomy = r .roomy; clean = r .clean; wide = r .wide; narrow = r .narrow }
 
-pub drains-lost : {chunk : List ℕ} {number : ℕ} {hold : List ℕ} {held line : ℕ} (ends : ℕ) {holds : List ℕ} {n sent : ℕ} → number ≤ line
-    → Drains chunk number hold held (line + ends) holds n sent false Unwritten
+pub drains-lost : {chunk : List ℕ} {number refused : ℕ} {hold : List ℕ} {held line total : ℕ} (ends : ℕ) {holds : List ℕ} {n sent : ℕ} → number ≤ line
+    → Drains chunk number refused hold held (line + ends) total holds n sent false Unwritten
 drains-lost ends h =
     record {
       grows = omega arith;
@@ -368,31 +384,43 @@ drains-lost ends h =
     }
 
 -- ---- the end of the input
-pub ends-none : (n : ℕ) (hold out : List ℕ) (held : ℕ) → held ≡ 0 → Fronts (finished (holding n (take held hold))) out out 0
-ends-none n hold out held e = record { fits = omega arith; front = ap (λ z. finished (holding n (take z hold))) (sym e); rest = refl }
+pub ends-none : (n : ℕ) (hold out : List ℕ) (held : ℕ) → held ≡ 0 → Fronts (lastPut n (take held hold)) out out 0 × (false ≡ lastRefused (take held hold))
+ends-none n hold out held e =
+    (record { fits = omega arith; front = ap (λ z. lastPut n (take z hold)) (sym e); rest = refl }, ap (λ z. lastRefused (take z hold)) (sym e))
 
 last-entry : (n : ℕ) (l : List ℕ) → 0 < length l → lastPut n l ≡ entry n l
 last-entry n [] h = absurd (omega arith)
 last-entry n (b ∷ l) h = refl
 
-pub ends-line : (n : ℕ) (hold out : List ℕ) (held r : ℕ) (out′ : List ℕ) (sheet : Lent) (bytes : List ℕ) (numbers : List ℤ) (bytes′ : List ℕ) (numbers′ : List ℤ) → Ready hold held sheet bytes numbers out → 0 < held
-    → Printed entryLimit out 0 (entry n (part 0 held hold)) out′ r bytes numbers bytes′ numbers′ → Fronts (finished (holding n (take held hold))) out out′ r
-ends-line n hold out held r out′ sheet bytes numbers bytes′ numbers′ w h q =
-    let p = subst (λ z. Printed entryLimit out 0 (entry n z) out′ r bytes numbers bytes′ numbers′) (whole-front held hold) q in
-    let k : length (take held hold) ≡ held = length-take-le held hold (omega (arith, w .room, w .within)) in
-    subst (λ z. Fronts z out out′ r) (sym (last-entry n (take held hold) (omega arith)))
-    (fronts out (entry n (take held hold)) out′ r (p .puts .holds) (omega (arith, p .puts .ends)) (omega (arith, p .puts .near, w .wide)) (p .out-long))
+last-refusal : (l : List ℕ) → 0 < length l → lastRefused l ≡ isRefused (outcome l)
+last-refusal [] h = absurd (omega arith)
+last-refusal (b ∷ l) h = refl
 
-pub owed-last : {number : ℕ} {hold : List ℕ} {held : ℕ} {out outs : List ℕ} {n : ℕ} → Fronts (finished (holding number (take held hold))) out outs n
+pub ends-line : (n : ℕ) (hold out : List ℕ) (held r : ℕ) (so : Bool) (out′ : List ℕ) (sheet : Lent) (bytes : List ℕ) (numbers : List ℤ) (bytes′ : List ℕ) (numbers′ : List ℤ) → Ready hold held sheet bytes numbers out → 0 < held
+    → Printed entryLimit out 0 (entry n (part 0 held hold)) out′ r bytes numbers bytes′ numbers′ × (so ≡ isRefused (outcome (part 0 held hold)))
+    → Fronts (lastPut n (take held hold)) out out′ r × (so ≡ lastRefused (take held hold))
+ends-line n hold out held r so out′ sheet bytes numbers bytes′ numbers′ w h q =
+    let all = whole-front held hold in
+    let p = subst (λ z. Printed entryLimit out 0 (entry n z) out′ r bytes numbers bytes′ numbers′) all (q .0) in
+    let k : length (take held hold) ≡ held = length-take-le held hold (omega (arith, w .room, w .within)) in
+    let some : 0 < length (take held hold) = omega arith in (
+      subst (λ z. Fronts z out out′ r) (sym (last-entry n (take held hold) some))
+          (fronts out (entry n (take held hold)) out′ r (p .puts .holds) (omega (arith, p .puts .ends)) (omega (arith, p .puts .near, w .wide)) (p .out-long)),
+      q .1 ∙ ap (λ z. isRefused (outcome z)) all ∙ sym (last-refusal (take held hold) some),
+    )
+
+pub owed-last : {number : ℕ} {hold : List ℕ} {held : ℕ} {out outs : List ℕ} {n : ℕ} → Fronts (lastPut number (take held hold)) out outs n
     → OwedLast number hold held outs n
 owed-last f = record { fits = f .fits; text = f .front }
 
-pub closes-whole : {number : ℕ} {hold : List ℕ} {held : ℕ} {out outs : List ℕ} {n took : ℕ} → Fronts (finished (holding number (take held hold))) out outs n
-    → took ≤ n → n ≤ took → Closes number hold held number took false Whole
-closes-whole f a z = record { same = refl; over = refl; taken = λ _. omega (arith, front-length f) }
+pub closes-whole : {number refused : ℕ} {hold : List ℕ} {held : ℕ} {out outs : List ℕ} {n : ℕ} {so : Bool} {one took : ℕ}
+    → Fronts (lastPut number (take held hold)) out outs n × (so ≡ lastRefused (take held hold)) → (one ≡ cond so 1 0) × (one ≤ 1)
+    → took ≤ n → n ≤ took → Closes number refused hold held number (refused + one) took false Whole
+closes-whole {refused = refused} f o a z =
+    record { same = refl; over = refl; taken = λ _. omega (arith, front-length (f .0)); counted = λ _. ap (λ y. refused + y) (o .0 ∙ ap (λ y. cond y 1 0) (f .1)) }
 
-pub closes-lost : {number : ℕ} {hold : List ℕ} {held took : ℕ} → Closes number hold held number took false Unwritten
-closes-lost = record { same = refl; over = refl; taken = λ e. absurd (unwritten e) }
+pub closes-lost : {number refused : ℕ} {hold : List ℕ} {held total took : ℕ} → Closes number refused hold held number total took false Unwritten
+closes-lost = record { same = refl; over = refl; taken = λ e. absurd (unwritten e); counted = λ e. absurd (unwritten e) }
 
 -- ---- one read
 pub came-fits : {room room′ n : ℕ} {g : Got} → g ≡ Came n → Received room g → room′ ≡ room → n ≤ room′
@@ -401,9 +429,9 @@ came-fits {room} {room′} {n} e r l = let h : n ≤ room = subst (Received room
 pub front-fits : (n : ℕ) (l : List ℕ) → length l ≤ readLimit → length (take n l) ≤ readLimit
 front-fits n l h = omega (arith, length-take n l)
 
-module _ {room : List ℕ} {number : ℕ} {hold : List ℕ} {held line : ℕ} {holds : List ℕ} {n : ℕ} {sheet : Lent} {bytes : List ℕ} {numbers : List ℤ} {out : List ℕ} {sent : ℕ} {more : Bool} {end : End} where
-  pub turns-chunk : (got : ℕ) → got ≤ length room → length room ≤ readLimit → Drains (take got room) number hold held line holds n sent more end
-      → Ready holds n sheet bytes numbers out → Turns room number hold held line holds n sheet bytes numbers out sent more end
+module _ {room : List ℕ} {number refused : ℕ} {hold : List ℕ} {held line total : ℕ} {holds : List ℕ} {n : ℕ} {sheet : Lent} {bytes : List ℕ} {numbers : List ℤ} {out : List ℕ} {sent : ℕ} {more : Bool} {end : End} where
+  pub turns-chunk : (got : ℕ) → got ≤ length room → length room ≤ readLimit → Drains (take got room) number refused hold held line total holds n sent more end
+      → Ready holds n sheet bytes numbers out → Turns room number refused hold held line total holds n sheet bytes numbers out sent more end
   turns-chunk got h k d r =
       record {
         grows = d .grows;
@@ -413,9 +441,10 @@ module _ {room : List ℕ} {number : ℕ} {hold : List ℕ} {held line : ℕ} {h
         leaves = d .leaves;
         taken = d .taken;
         closed = λ e f. absurd (d .lost e f);
+        counted = λ e f. absurd (d .lost e f);
       }
 
-  pub turns-closed : Closes number hold held line sent more end → Turns room number hold held line holds n sheet bytes numbers out sent more end
+  pub turns-closed : Closes number refused hold held line total sent more end → Turns room number refused hold held line total holds n sheet bytes numbers out sent more end
   turns-closed c =
       record {
         grows = omega (arith, c .same);
@@ -425,10 +454,11 @@ module _ {room : List ℕ} {number : ℕ} {hold : List ℕ} {held line : ℕ} {h
         leaves = λ e. absurd (false≢true (sym (c .over) ∙ e));
         taken = λ e. absurd (false≢true (sym (c .over) ∙ e));
         closed = λ _ f. c .taken f;
+        counted = λ _ f. c .counted f;
       }
 
-pub turns-failed : {room : List ℕ} {number : ℕ} {hold : List ℕ} {held : ℕ} {holds : List ℕ} {n : ℕ} {sheet : Lent} {bytes : List ℕ} {numbers : List ℤ} {out : List ℕ} {sent : ℕ}
-    → Turns room number hold held number holds n sheet bytes numbers out sent false Unread
+pub turns-failed : {room : List ℕ} {number refused : ℕ} {hold : List ℕ} {held total : ℕ} {holds : List ℕ} {n : ℕ} {sheet : Lent} {bytes : List ℕ} {numbers : List ℤ} {out : List ℕ} {sent : ℕ}
+    → Turns room number refused hold held number total holds n sheet bytes numbers out sent false Unread
 turns-failed =
     record {
       grows = omega arith;
@@ -438,15 +468,10 @@ turns-failed =
       leaves = λ e. absurd (false≢true e);
       taken = λ e. absurd (false≢true e);
       closed = λ _ f. absurd (unread f);
+      counted = λ _ f. absurd (unread f);
     }
 
 -- ---- a failure, told
-pub one-end : (b : ℕ) → b ≡ lineEnd → (_≡_ {A = ℕ} 1 (cond (eqb b lineEnd) 1 0)) × (1 ≤ 1)
-one-end b e = (took (eqb b lineEnd) 1 0 (eq-eqb b lineEnd e), omega arith)
-
-pub no-end : (b : ℕ) → (b ≡ lineEnd → ⊥) → (_≡_ {A = ℕ} 0 (cond (eqb b lineEnd) 1 0)) × (0 ≤ 1)
-no-end b h = (passed (eqb b lineEnd) 1 0 0 (ne-eqb b lineEnd h) refl, omega arith)
-
 -- the ends among the first i bytes are counted
 pub record Counted (text : List ℕ) (i ends : ℕ) : Type 0 where
   pub are : ends ≡ lineEnds (take i text)
@@ -493,9 +518,9 @@ notice-fronts words number out {one} {two} {left} {a} {r} h e p q l =
 
 -- ---- turn upon turn: as many lines are still to be numbered as reads can bring
 module _ (room₀ hold₀ : List ℕ) (sheet₀ : Lent) (bytes₀ : List ℕ) (numbers₀ : List ℤ) (out₀ : List ℕ) where
-  pub record Serves (room hold : List ℕ) (sheet : Lent) (bytes : List ℕ) (numbers : List ℤ) (out : List ℕ) (number held turns : ℕ) : Type 0 where
+  pub record Serves (room hold : List ℕ) (sheet : Lent) (bytes : List ℕ) (numbers : List ℤ) (out : List ℕ) (number refused held turns : ℕ) : Type 0 where
     pub room-fits : length room ≤ readLimit
-    pub some : 1 ≤ number
+    pub few : refused < number
     pub count : number + readLimit * turns + outputLimit ≤ numberLimit
     pub ready : Ready hold held sheet bytes numbers out
     pub room-long : length room ≡ length room₀
@@ -506,19 +531,19 @@ module _ (room₀ hold₀ : List ℕ) (sheet₀ : Lent) (bytes₀ : List ℕ) (n
     pub out-long : length out ≡ length out₀
 
   pub serves-start : {turns : ℕ} → length room₀ ≤ readLimit → 1 + readLimit * turns + outputLimit ≤ numberLimit → Ready hold₀ 0 sheet₀ bytes₀ numbers₀ out₀
-      → Serves room₀ hold₀ sheet₀ bytes₀ numbers₀ out₀ 1 0 turns
+      → Serves room₀ hold₀ sheet₀ bytes₀ numbers₀ out₀ 1 0 0 turns
   serves-start l n w =
-      record { room-fits = l; some = omega arith; count = n; ready = w; room-long = refl; hold-long = refl; sheet-long = same-long; bytes-long = refl; numbers-long = refl; out-long = refl }
+      record { room-fits = l; few = omega arith; count = n; ready = w; room-long = refl; hold-long = refl; sheet-long = same-long; bytes-long = refl; numbers-long = refl; out-long = refl }
 
-  pub serves-more : {room hold : List ℕ} {sheet : Lent} {bytes : List ℕ} {numbers : List ℤ} {out : List ℕ} {number held turns : ℕ}
-      → {room′ hold′ : List ℕ} {sheet′ : Lent} {bytes′ : List ℕ} {numbers′ : List ℤ} {out′ : List ℕ} {line n sent : ℕ} {more : Bool} {end : End}
-      → Serves room hold sheet bytes numbers out number held turns → 0 < turns → Turns room′ number hold held line hold′ n sheet′ bytes′ numbers′ out′ sent more end
+  pub serves-more : {room hold : List ℕ} {sheet : Lent} {bytes : List ℕ} {numbers : List ℤ} {out : List ℕ} {number refused held turns : ℕ}
+      → {room′ hold′ : List ℕ} {sheet′ : Lent} {bytes′ : List ℕ} {numbers′ : List ℤ} {out′ : List ℕ} {line total n sent : ℕ} {more : Bool} {end : End}
+      → Serves room hold sheet bytes numbers out number refused held turns → 0 < turns → Turns room′ number refused hold held line total hold′ n sheet′ bytes′ numbers′ out′ sent more end
       → more ≡ true → length room′ ≡ length room → length hold′ ≡ length hold → SameLong sheet sheet′ → length bytes′ ≡ length bytes
-      → length numbers′ ≡ length numbers → length out′ ≡ length out → Serves room′ hold′ sheet′ bytes′ numbers′ out′ line n (turns - 1)
+      → length numbers′ ≡ length numbers → length out′ ≡ length out → Serves room′ hold′ sheet′ bytes′ numbers′ out′ line total n (turns - 1)
   serves-more w l t e r h v b u o =
       record {
         room-fits = omega (arith, w .room-fits);
-        some = omega (arith, w .some, t .grows);
+        few = stays-few _ _ (t .leaves e) (w .few);
         count = omega (arith, w .count, t .count e);
         ready = t .ready e;
         room-long = r ∙ w .room-long;

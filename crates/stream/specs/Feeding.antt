@@ -1,27 +1,29 @@
--- An input read chunk by chunk: what is kept between two bytes, and what is put out.
+-- An input read chunk by chunk: what is kept between two bytes, what is put out, and how many lines are refused.
 use mathlib.Core.Bool.{Bool, true, false, cond}
 use mathlib.Core.List.{List, [], _∷_, _++_}
 use Prim.Native.Nat.{ℕ, suc, _+_, _-_}
 use lib.Dec.{eqb}
 use lib.ListN.{take, drop}
 use Rattle.scope.specs.Limits.{lineLimit}
-use Rattle.entries.specs.Entry.{entry}
-use Rattle.stream.specs.Lines.{lineEnd}
+use Rattle.scope.specs.Refusals.{outcome}
+use Rattle.entries.specs.Entry.{entry, isRefused}
+use Rattle.stream.specs.Lines.{lineEnd, refusal}
 
 -- so many bytes of a line are held: one more than a line may have, so that a line too long is still too long
 abbrev pub holdLimit : ℕ
 holdLimit = lineLimit + 1
 
--- the number of the line that is begun or comes next, and what is held of it
+-- the number of the line that is begun or comes next, how many of the lines before it were refused, and what is held of it
 pub record State : Type 0 where
   pub number : ℕ
+  pub refused : ℕ
   pub held : List ℕ
 
-abbrev pub holding : ℕ → List ℕ → State
-holding n h = record { number = n; held = h }
+abbrev pub holding : ℕ → ℕ → List ℕ → State
+holding n r h = record { number = n; refused = r; held = h }
 
 abbrev pub start : State
-start = holding 1 []
+start = holding 1 0 []
 
 -- bytes behind those held
 abbrev pub kept : List ℕ → List ℕ → List ℕ
@@ -29,7 +31,7 @@ kept h t = take holdLimit (h ++ t)
 
 -- where a line ends, and where it goes on: the state behind it, and what is put out
 abbrev pub behind : Bool → State → State
-behind true s = record { number = suc (s .number); held = [] }
+behind true s = record { number = suc (s .number); refused = s .refused + refusal (s .held); held = [] }
 behind false s = s
 
 abbrev pub ended : Bool → State → List ℕ
@@ -39,7 +41,7 @@ ended false s = []
 -- a byte, and whether it is byte 10, "no part of" the line
 abbrev pub stepped : Bool → State → ℕ → State
 stepped true s b = behind true s
-stepped false s b = record { number = s .number; held = kept (s .held) (b ∷ []) }
+stepped false s b = record { number = s .number; refused = s .refused; held = kept (s .held) (b ∷ []) }
 
 -- the state behind bytes
 unfoldable pub after : State → List ℕ → State
@@ -58,6 +60,14 @@ lastPut n (b ∷ h) = entry n (b ∷ h)
 
 abbrev pub finished : State → List ℕ
 finished s = lastPut (s .number) (s .held)
+
+-- whether the line that is begun there is refused, and how many lines are, with it
+abbrev pub lastRefused : List ℕ → Bool
+lastRefused [] = false
+lastRefused (b ∷ h) = isRefused (outcome (b ∷ h))
+
+abbrev pub refusedAtEnd : State → ℕ
+refusedAtEnd s = s .refused + cond (lastRefused (s .held)) 1 0
 
 -- chunk upon chunk, and the input that they are put together
 unfoldable pub joined : List (List ℕ) → List ℕ

@@ -1,16 +1,17 @@
--- Laws of feeding: chunks may be cut anywhere, and bytes that end no line are held.
+-- Laws of feeding: chunks may be cut anywhere, bytes that end no line are held, and there are fewer refused lines than lines.
 use mathlib.Core.Path.{_≡_, refl, sym, ap, _∙_}
-use mathlib.Core.Bool.{true, false, false≢true}
+use mathlib.Core.Bool.{Bool, true, false, false≢true}
 use mathlib.Core.List.{List, [], _∷_, _++_, append-assoc, append-nil}
-use Prim.Native.Nat.{ℕ, _≤_}
+use Prim.Native.Nat.{ℕ, _<_, _≤_}
 use native.Mathlib.Omega.{arith}
 use borrow.Author.Tests.{leb-true, leb-false}
 use lib.Dec.{eqb, leb}
 use lib.ListN.{length, take, length-take}
 use lib.Seq.{take-all, take-append-le, take-take, length-take-le}
-use Rattle.basics.specs.Choice.{by-test}
-use Rattle.entries.specs.Entry.{entry}
-use Rattle.stream.specs.Lines.{lineEnd}
+use Rattle.basics.specs.Choice.{by-test, branch}
+use Rattle.scope.specs.Refusals.{outcome}
+use Rattle.entries.specs.Entry.{entry, isRefused}
+use Rattle.stream.specs.Lines.{lineEnd, refusal}
 use Rattle.stream.specs.Feeding.{holdLimit, State, holding, kept, behind, ended, stepped, after, put, plain}
 
 -- ---- "fed s (a ++ b)" is fed twice
@@ -44,28 +45,41 @@ kept-none : (h : List ℕ) → length h ≤ holdLimit → h ≡ kept h []
 kept-none h k = sym (ap (take holdLimit) (append-nil h) ∙ take-all holdLimit h k)
 
 -- ---- bytes that end no line
-pub after-plain : (n : ℕ) (h t : List ℕ) → length h ≤ holdLimit → plain t ≡ true → after (holding n h) t ≡ holding n (kept h t)
+pub after-plain : (n r : ℕ) (h t : List ℕ) → length h ≤ holdLimit → plain t ≡ true → after (holding n r h) t ≡ holding n r (kept h t)
 unfolding after plain
-after-plain n h [] k e = ap (holding n) (kept-none h k)
-after-plain n h (b ∷ t) k e =
+after-plain n r h [] k e = ap (holding n r) (kept-none h k)
+after-plain n r h (b ∷ t) k e =
     by-test (eqb b lineEnd) (λ q. absurd (false≢true (rw q at e)))
-    (λ q. rw q (after-plain n (kept h (b ∷ [])) t (held-front h (b ∷ [])) (rw q at e) ∙ ap (holding n) (kept-twice h (b ∷ []) t)))
+    (λ q. rw q (after-plain n r (kept h (b ∷ [])) t (held-front h (b ∷ [])) (rw q at e) ∙ ap (holding n r) (kept-twice h (b ∷ []) t)))
 
-pub put-plain : (n : ℕ) (h t : List ℕ) → plain t ≡ true → put (holding n h) t ≡ []
+pub put-plain : (n r : ℕ) (h t : List ℕ) → plain t ≡ true → put (holding n r h) t ≡ []
 unfolding put plain
-put-plain n h [] e = refl
-put-plain n h (b ∷ t) e =
-    by-test (eqb b lineEnd) (λ q. absurd (false≢true (rw q at e))) (λ q. rw q (put-plain n (kept h (b ∷ [])) t (rw q at e)))
+put-plain n r h [] e = refl
+put-plain n r h (b ∷ t) e =
+    by-test (eqb b lineEnd) (λ q. absurd (false≢true (rw q at e))) (λ q. rw q (put-plain n r (kept h (b ∷ [])) t (rw q at e)))
 
 -- ---- a line
-pub after-line : (n : ℕ) (h t : List ℕ) → length h ≤ holdLimit → plain t ≡ true
-    → after (holding n h) (t ++ (lineEnd ∷ [])) ≡ behind true (holding n (kept h t))
+pub after-line : (n r : ℕ) (h t : List ℕ) → length h ≤ holdLimit → plain t ≡ true
+    → after (holding n r h) (t ++ (lineEnd ∷ [])) ≡ behind true (holding n r (kept h t))
 unfolding after
-after-line n h t k e = after-append (holding n h) t (lineEnd ∷ []) ∙ ap (λ s. after s (lineEnd ∷ [])) (after-plain n h t k e)
+after-line n r h t k e = after-append (holding n r h) t (lineEnd ∷ []) ∙ ap (λ s. after s (lineEnd ∷ [])) (after-plain n r h t k e)
 
-pub put-line : (n : ℕ) (h t : List ℕ) → length h ≤ holdLimit → plain t ≡ true
-    → put (holding n h) (t ++ (lineEnd ∷ [])) ≡ ended true (holding n (kept h t))
+pub put-line : (n r : ℕ) (h t : List ℕ) → length h ≤ holdLimit → plain t ≡ true
+    → put (holding n r h) (t ++ (lineEnd ∷ [])) ≡ ended true (holding n r (kept h t))
 unfolding put
-put-line n h t k e =
-    put-append (holding n h) t (lineEnd ∷ []) ∙ ap (λ z. z ++ put (after (holding n h) t) (lineEnd ∷ [])) (put-plain n h t e)
-    ∙ ap (λ s. put s (lineEnd ∷ [])) (after-plain n h t k e) ∙ append-nil (entry n (kept h t))
+put-line n r h t k e =
+    put-append (holding n r h) t (lineEnd ∷ []) ∙ ap (λ z. z ++ put (after (holding n r h) t) (lineEnd ∷ [])) (put-plain n r h t e)
+    ∙ ap (λ s. put s (lineEnd ∷ [])) (after-plain n r h t k e) ∙ append-nil (entry n (kept h t))
+
+-- ---- fewer lines are refused than the number of the line that comes next
+refusal-few : (l : List ℕ) → refusal l ≤ 1
+refusal-few l = branch (λ z. z ≤ 1) (isRefused (outcome l)) (omega arith) (omega arith)
+
+step-few : (e : Bool) (s : State) (b : ℕ) → s .refused < s .number → stepped e s b .refused < stepped e s b .number
+step-few true s b h = omega (arith, refusal-few (s .held))
+step-few false s b h = h
+
+pub after-few : (s : State) (t : List ℕ) → s .refused < s .number → after s t .refused < after s t .number
+unfolding after
+after-few s [] h = h
+after-few s (b ∷ t) h = after-few (stepped (eqb b lineEnd) s b) t (step-few (eqb b lineEnd) s b h)

@@ -1,9 +1,10 @@
--- The lines of an input, and what the register prints for all of them.
-use Prim.Native.Nat.{ℕ, suc}
-use mathlib.Core.Bool.{Bool, true, false}
+-- The lines of an input, what the register prints for all of them, and how many of them are refused.
+use Prim.Native.Nat.{ℕ, suc, _+_}
+use mathlib.Core.Bool.{Bool, true, false, cond}
 use mathlib.Core.List.{List, [], _∷_, _++_}
 use lib.Dec.{eqb}
-use Rattle.entries.specs.Entry.{entry}
+use Rattle.scope.specs.Refusals.{outcome}
+use Rattle.entries.specs.Entry.{entry, isRefused}
 
 -- "Byte 10 ends a line"
 abbrev pub lineEnd : ℕ
@@ -32,3 +33,12 @@ entriesFrom n (l ∷ ls) = entry n l ++ entriesFrom (suc n) ls
 -- what the register program prints for an input
 unfoldable pub register : List ℕ → List ℕ
 register s = entriesFrom 1 (lines s)
+
+-- what a line adds to the number of those refused
+abbrev pub refusal : List ℕ → ℕ
+refusal l = cond (isRefused (outcome l)) 1 0
+
+-- how many lines are refused
+unfoldable pub refusedIn : List (List ℕ) → ℕ
+refusedIn [] = 0
+refusedIn (l ∷ ls) = refusal l + refusedIn ls

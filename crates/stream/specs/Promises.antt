@@ -16,7 +16,7 @@ use Rattle.stream.specs.declared.End.the-variants.{Whole}
 use Rattle.stream.specs.declared.Got.{Got}
 use Rattle.stream.specs.declared.Got.the-variants.{Came, Failed}
 use Rattle.stream.specs.Lines.{lineEnd}
-use Rattle.stream.specs.Feeding.{holdLimit, holding, kept, behind, ended, after, put, finished, part, plain}
+use Rattle.stream.specs.Feeding.{holdLimit, holding, kept, behind, ended, after, put, lastPut, finished, refusedAtEnd, part, plain}
 
 -- ---- a chunk, cut at the end of a line
 -- so many bytes are looked at together
@@ -52,8 +52,8 @@ pub record Cuts (chunk : List ℕ) (from : ℕ) (hold : List ℕ) (held : ℕ) (
   pub goes : ends ≡ true → from < next
   pub whole : ends ≡ false → next ≡ length chunk
   pub stays : take held holds ≡ take held hold
-  pub leaves : (k : ℕ) → after (holding k (take held hold)) (part from next chunk) ≡ behind ends (holding k (take n holds))
-  pub puts : (k : ℕ) → put (holding k (take held hold)) (part from next chunk) ≡ ended ends (holding k (take n holds))
+  pub leaves : (k r : ℕ) → after (holding k r (take held hold)) (part from next chunk) ≡ behind ends (holding k r (take n holds))
+  pub puts : (k r : ℕ) → put (holding k r (take held hold)) (part from next chunk) ≡ ended ends (holding k r (take n holds))
 
 -- ---- a chunk taken in, with an output
 -- the largest number that a line can have
@@ -98,39 +98,40 @@ pub record Fronts (t out outs : List ℕ) (n : ℕ) : Type 0 where
   pub front : take n outs ≡ t
   pub rest : drop n outs ≡ drop n out
 
--- lines that lie whole in a chunk, from a place up to `next`: their entries are put from the place `at` of the output on, up to m
-pub record Runs (chunk : List ℕ) (from number : ℕ) (out : List ℕ) (at next line n : ℕ) (outs : List ℕ) (m : ℕ) : Type 0 where
+-- lines that lie whole in a chunk, from a place up to `next`: their entries are put from the place `at` of the output on, up to m; so many lines are refused
+-- then, `total`, those before counted
+pub record Runs (chunk : List ℕ) (from number refused : ℕ) (out : List ℕ) (at next line total n : ℕ) (outs : List ℕ) (m : ℕ) : Type 0 where
   pub past : from ≤ next
   pub inside : next ≤ length chunk
   pub grows : number ≤ line
   pub count : line + from ≤ number + next
   pub none-held : n ≡ 0
-  pub leaves : after (holding number []) (part from next chunk) ≡ holding line []
-  pub puts : outs ≡ stored out at (put (holding number []) (part from next chunk))
-  pub ends : m ≡ at + length (put (holding number []) (part from next chunk))
+  pub leaves : after (holding number refused []) (part from next chunk) ≡ holding line total []
+  pub puts : outs ≡ stored out at (put (holding number refused []) (part from next chunk))
+  pub ends : m ≡ at + length (put (holding number refused []) (part from next chunk))
   pub fits : m ≤ length out
   pub long : length outs ≡ length out
 
 -- a chunk is taken in from a place up to `next`: the state behind that part of it, and what is put out for it; what was held stays where it is
-pub record Feeds (chunk : List ℕ) (from number : ℕ) (hold : List ℕ) (held : ℕ) (out : List ℕ) (next line : ℕ) (holds : List ℕ) (n : ℕ) (outs : List ℕ) (m : ℕ) : Type 0 where
+pub record Feeds (chunk : List ℕ) (from number refused : ℕ) (hold : List ℕ) (held : ℕ) (out : List ℕ) (next line total : ℕ) (holds : List ℕ) (n : ℕ) (outs : List ℕ) (m : ℕ) : Type 0 where
   pub inside : next ≤ length chunk
   pub goes : from < length chunk → from < next
   pub grows : number ≤ line
   pub count : line + from ≤ number + next
   pub stays : take held holds ≡ take held hold
-  pub leaves : after (holding number (take held hold)) (part from next chunk) ≡ holding line (take n holds)
-  pub puts : Fronts (put (holding number (take held hold)) (part from next chunk)) out outs m
+  pub leaves : after (holding number refused (take held hold)) (part from next chunk) ≡ holding line total (take n holds)
+  pub puts : Fronts (put (holding number refused (take held hold)) (part from next chunk)) out outs m
 
 -- ---- what is handed to the system
 -- the first n bytes of the output are all that is put out for a part of a chunk, in the state before it
-pub record Owed (chunk : List ℕ) (from next number : ℕ) (hold : List ℕ) (held : ℕ) (out : List ℕ) (n : ℕ) : Type 0 where
+pub record Owed (chunk : List ℕ) (from next number refused : ℕ) (hold : List ℕ) (held : ℕ) (out : List ℕ) (n : ℕ) : Type 0 where
   pub fits : n ≤ length out
-  pub text : take n out ≡ put (holding number (take held hold)) (part from next chunk)
+  pub text : take n out ≡ put (holding number refused (take held hold)) (part from next chunk)
 
 -- they are what is put out at the end of the input
 pub record OwedLast (number : ℕ) (hold : List ℕ) (held : ℕ) (out : List ℕ) (n : ℕ) : Type 0 where
   pub fits : n ≤ length out
-  pub text : take n out ≡ finished (holding number (take held hold))
+  pub text : take n out ≡ lastPut number (take held hold)
 
 -- a read brought so many bytes, or failed
 abbrev pub Received : ℕ → Got → Type 0
@@ -153,26 +154,28 @@ noticed words n = words ++ (decimal n ++ (lineEnd ∷ []))
 
 -- ---- a whole chunk, the end of the input, and one read
 -- a whole chunk is taken in, and all that is put out for it was taken; unless a write failed
-pub record Drains (chunk : List ℕ) (number : ℕ) (hold : List ℕ) (held line : ℕ) (holds : List ℕ) (n sent : ℕ) (more : Bool) (end : End) : Type 0 where
+pub record Drains (chunk : List ℕ) (number refused : ℕ) (hold : List ℕ) (held line total : ℕ) (holds : List ℕ) (n sent : ℕ) (more : Bool) (end : End) : Type 0 where
   pub grows : number ≤ line
   pub count : more ≡ true → line ≤ number + length chunk
-  pub leaves : more ≡ true → after (holding number (take held hold)) chunk ≡ holding line (take n holds)
-  pub taken : more ≡ true → sent ≡ length (put (holding number (take held hold)) chunk)
+  pub leaves : more ≡ true → after (holding number refused (take held hold)) chunk ≡ holding line total (take n holds)
+  pub taken : more ≡ true → sent ≡ length (put (holding number refused (take held hold)) chunk)
   pub lost : more ≡ false → end ≡ Whole → ⊥
 
--- the input is at its end, and all that is put out then was taken; unless a write failed
-pub record Closes (number : ℕ) (hold : List ℕ) (held line sent : ℕ) (more : Bool) (end : End) : Type 0 where
+-- the input is at its end, all that is put out then was taken, and the refused lines are counted; unless a write failed
+pub record Closes (number refused : ℕ) (hold : List ℕ) (held line total sent : ℕ) (more : Bool) (end : End) : Type 0 where
   pub same : line ≡ number
   pub over : more ≡ false
-  pub taken : end ≡ Whole → sent ≡ length (finished (holding number (take held hold)))
+  pub taken : end ≡ Whole → sent ≡ length (finished (holding number refused (take held hold)))
+  pub counted : end ≡ Whole → total ≡ refusedAtEnd (holding number refused (take held hold))
 
 -- so many bytes were read, `got`, and the room holds them: they are taken in, and all that is put out for them was taken; or the input is at its end;
 -- unless a read or a write failed
-pub record Turns (room : List ℕ) (number : ℕ) (hold : List ℕ) (held line : ℕ) (holds : List ℕ) (n : ℕ) (sheet : Lent) (bytes : List ℕ) (numbers : List ℤ) (out : List ℕ) (sent : ℕ) (more : Bool) (end : End) : Type 0 where
+pub record Turns (room : List ℕ) (number refused : ℕ) (hold : List ℕ) (held line total : ℕ) (holds : List ℕ) (n : ℕ) (sheet : Lent) (bytes : List ℕ) (numbers : List ℤ) (out : List ℕ) (sent : ℕ) (more : Bool) (end : End) : Type 0 where
   pub grows : number ≤ line
   pub count : more ≡ true → line ≤ number + readLimit
   pub ready : more ≡ true → Ready holds n sheet bytes numbers out
   pub got : ℕ
-  pub leaves : more ≡ true → after (holding number (take held hold)) (take got room) ≡ holding line (take n holds)
-  pub taken : more ≡ true → sent ≡ length (put (holding number (take held hold)) (take got room))
-  pub closed : more ≡ false → end ≡ Whole → sent ≡ length (finished (holding number (take held hold)))
+  pub leaves : more ≡ true → after (holding number refused (take held hold)) (take got room) ≡ holding line total (take n holds)
+  pub taken : more ≡ true → sent ≡ length (put (holding number refused (take held hold)) (take got room))
+  pub closed : more ≡ false → end ≡ Whole → sent ≡ length (finished (holding number refused (take held hold)))
+  pub counted : more ≡ false → end ≡ Whole → total ≡ refusedAtEnd (holding number refused (take held hold))

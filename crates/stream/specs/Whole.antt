@@ -1,8 +1,8 @@
--- However an input is cut into chunks, what is put out is what the register program prints for it.
+-- However an input is cut into chunks, what is put out is what the register program prints for it, and the refused lines that are counted are those among its lines.
 use mathlib.Core.Path.{_≡_, refl, sym, ap, _∙_}
-use mathlib.Core.Bool.{Bool, true, false}
+use mathlib.Core.Bool.{Bool, true, false, cond}
 use mathlib.Core.List.{List, [], _∷_, _++_, append-nil, append-assoc}
-use Prim.Native.Nat.{ℕ, suc, _<_}
+use Prim.Native.Nat.{ℕ, suc, _+_, _<_}
 use native.Mathlib.Omega.{arith}
 use borrow.Author.Tests.{lt-ltb, leb-true, leb-false}
 use lib.Dec.{eqb, leb}
@@ -13,9 +13,9 @@ use Rattle.scope.specs.Limits.{lineLimit}
 use Rattle.scope.specs.Refusals.{refused, refusal1, refusal2, firstDue, outcome}
 use Rattle.scope.specs.Canonical.{decimal}
 use Rattle.scope.specs.Register.{report, printed}
-use Rattle.entries.specs.Entry.{entry}
-use Rattle.stream.specs.Lines.{lineEnd, grown, inFront, lines, entriesFrom, register}
-use Rattle.stream.specs.Feeding.{holdLimit, State, holding, start, kept, ended, stepped, after, put, lastPut, finished, joined, afterAll, putAll}
+use Rattle.entries.specs.Entry.{entry, isRefused}
+use Rattle.stream.specs.Lines.{lineEnd, grown, inFront, lines, entriesFrom, register, refusal, refusedIn}
+use Rattle.stream.specs.Feeding.{holdLimit, State, holding, start, kept, ended, stepped, after, put, lastPut, finished, lastRefused, refusedAtEnd, joined, afterAll, putAll}
 use Rattle.stream.specs.Laws.{after-append, put-append, kept-twice}
 
 -- ---- a line too long is answered by those of its bytes that are held
@@ -73,24 +73,57 @@ held-more : (h : List ℕ) (b : ℕ) → kept (take holdLimit h) (b ∷ []) ≡ 
 held-more h b = ap (λ z. kept (take holdLimit z) (b ∷ [])) (sym (append-nil h)) ∙ kept-twice h [] (b ∷ [])
 
 -- a byte more, and whether it is byte 10, in front of bytes for which it is known
-one-more : (e : Bool) (n : ℕ) (h : List ℕ) (b : ℕ) (s : List ℕ)
-    → ((m : ℕ) (g : List ℕ) → rest (holding m (take holdLimit g)) s ≡ entriesFrom m (ahead g (lines s)))
-    → ended e (holding n (take holdLimit h)) ++ rest (stepped e (holding n (take holdLimit h)) b) s ≡ entriesFrom n (ahead h (inFront e b (lines s)))
+one-more : (e : Bool) (n r : ℕ) (h : List ℕ) (b : ℕ) (s : List ℕ)
+    → ((m q : ℕ) (g : List ℕ) → rest (holding m q (take holdLimit g)) s ≡ entriesFrom m (ahead g (lines s)))
+    → ended e (holding n r (take holdLimit h)) ++ rest (stepped e (holding n r (take holdLimit h)) b) s ≡ entriesFrom n (ahead h (inFront e b (lines s)))
 unfolding entriesFrom
-one-more true n h b s known =
-    ap (λ z. z ++ rest (holding (suc n) []) s) (entry-front n h) ∙ ap (λ z. entry n h ++ z) (known (suc n) []) ∙ ap (entriesFrom n) (sym (ahead-line h (lines s)))
-one-more false n h b s known =
-    ap (λ z. rest (holding n z) s) (held-more h b) ∙ known n (h ++ (b ∷ [])) ∙ ap (entriesFrom n) (ahead-more h b (lines s))
+one-more true n r h b s known =
+    let more = r + refusal (take holdLimit h) in
+    ap (λ z. z ++ rest (holding (suc n) more []) s) (entry-front n h) ∙ ap (λ z. entry n h ++ z) (known (suc n) more [])
+    ∙ ap (entriesFrom n) (sym (ahead-line h (lines s)))
+one-more false n r h b s known =
+    ap (λ z. rest (holding n r z) s) (held-more h b) ∙ known n r (h ++ (b ∷ [])) ∙ ap (entriesFrom n) (ahead-more h b (lines s))
 
-from-here : (n : ℕ) (h s : List ℕ) → rest (holding n (take holdLimit h)) s ≡ entriesFrom n (ahead h (lines s))
+from-here : (n r : ℕ) (h s : List ℕ) → rest (holding n r (take holdLimit h)) s ≡ entriesFrom n (ahead h (lines s))
 unfolding put after lines
-from-here n h [] = last n h
-from-here n h (b ∷ s) = rest-cons (holding n (take holdLimit h)) b s ∙ one-more (eqb b lineEnd) n h b s (λ m g. from-here m g s)
+from-here n r h [] = last n h
+from-here n r h (b ∷ s) = rest-cons (holding n r (take holdLimit h)) b s ∙ one-more (eqb b lineEnd) n r h b s (λ m q g. from-here m q g s)
+
+-- ---- the refused lines from there on
+pub refusal-front : (s : List ℕ) → refusal (take holdLimit s) ≡ refusal s
+refusal-front s = ap (λ o. cond (isRefused o) 1 0) (outcome-front s)
+
+last-refused : (r : ℕ) (h : List ℕ) → r + cond (lastRefused (take holdLimit h)) 1 0 ≡ r + refusedIn (ahead h [])
+unfolding refusedIn
+last-refused r [] = refl
+last-refused r (b ∷ h) =
+    let one : refusedIn (ahead (b ∷ h) []) ≡ refusal (b ∷ h) + 0 = ap refusedIn (ahead-end b h) in
+    omega (arith, refusal-front (b ∷ h), one)
+
+-- a byte more, as above
+one-more-refused : (e : Bool) (n r : ℕ) (h : List ℕ) (b : ℕ) (s : List ℕ)
+    → ((m q : ℕ) (g : List ℕ) → refusedAtEnd (after (holding m q (take holdLimit g)) s) ≡ q + refusedIn (ahead g (lines s)))
+    → refusedAtEnd (after (stepped e (holding n r (take holdLimit h)) b) s) ≡ r + refusedIn (ahead h (inFront e b (lines s)))
+unfolding refusedIn
+one-more-refused true n r h b s known =
+    let more = r + refusal (take holdLimit h) in
+    let line : refusedIn (ahead h ([] ∷ lines s)) ≡ refusal h + refusedIn (lines s) = ap refusedIn (ahead-line h (lines s)) in
+    omega (arith, known (suc n) more [], refusal-front h, line)
+one-more-refused false n r h b s known =
+    ap (λ z. refusedAtEnd (after (holding n r z) s)) (held-more h b) ∙ known n r (h ++ (b ∷ [])) ∙ ap (λ z. r + refusedIn z) (ahead-more h b (lines s))
+
+refused-from-here : (n r : ℕ) (h s : List ℕ) → refusedAtEnd (after (holding n r (take holdLimit h)) s) ≡ r + refusedIn (ahead h (lines s))
+unfolding after lines
+refused-from-here n r h [] = last-refused r h
+refused-from-here n r h (b ∷ s) = one-more-refused (eqb b lineEnd) n r h b s (λ m q g. refused-from-here m q g s)
 
 -- ---- an input in one piece
 pub in-one : (s : List ℕ) → put start s ++ finished (after start s) ≡ register s
 unfolding register
-in-one s = from-here 1 [] s
+in-one s = from-here 1 0 [] s
+
+pub refused-in-one : (s : List ℕ) → refusedAtEnd (after start s) ≡ refusedIn (lines s)
+refused-in-one s = let e : refusedAtEnd (after start s) ≡ 0 + refusedIn (lines s) = refused-from-here 1 0 [] s in omega (arith, e)
 
 -- ---- and in any chunks
 after-joined : (s : State) (cs : List (List ℕ)) → afterAll s cs ≡ after s (joined cs)
@@ -107,6 +140,9 @@ pub in-chunks : (cs : List (List ℕ)) → putAll start cs ++ finished (afterAll
 in-chunks cs =
     ap (λ z. z ++ finished (afterAll start cs)) (put-joined start cs) ∙ ap (λ z. put start (joined cs) ++ finished z) (after-joined start cs)
     ∙ in-one (joined cs)
+
+pub refused-in-chunks : (cs : List (List ℕ)) → refusedAtEnd (afterAll start cs) ≡ refusedIn (lines (joined cs))
+refused-in-chunks cs = ap refusedAtEnd (after-joined start cs) ∙ refused-in-one (joined cs)
 
 -- ---- what is handed over, piece by piece: each text is all that is put out for the next bytes of the input, and the last one what is put out at its end
 pub record Piece : Type 0 where

@@ -4,10 +4,12 @@
 // handed over are exactly those that the definitions put out, in the state before, for the bytes just taken in (`Owed`, `OwedLast`); every caller proves
 // it. `turn` says that the state goes on by the bytes that the room holds from the read, and that as many bytes were taken as are put out for them. Pieces
 // owed so, one behind the other from the start, are `register` of what was read (specs/Whole.antt, `handed-over`). That `hand` is called once for each
-// part, and `hand_last` once, is to be read in `drain` and `close`: no contract can speak of a call. Of the system it is assumed that a read leaves at the
+// part, and `hand_last` once, is to be read in `drain` and `close`: no contract can speak of a call. The state counts the refused lines too, and at the end
+// of the input there are as many as among the lines of what was read (`refused-in-one`). Of the system it is assumed that a read leaves at the
 // front of the room what it answers for, and that a write takes the front of what it is handed, in order, as its answer counts.
 use bounds::copy_bytes;
 use entries::ENTRY;
+use entries::Entered;
 use entries::NEWLINE;
 use entries::put_entry;
 use libc::STDERR_FILENO;
@@ -17,14 +19,15 @@ use scope::tables::Tables;
 use sheet::Sheet;
 ghost use mathlib.Core.Path.{_≡_};
 ghost use mathlib.Core.Bool.{cond, not, _||_};
-ghost use Prim.Native.Nat.{_+_, _≤_, min};
+ghost use Prim.Native.Nat.{_+_, _<_, _≤_, min};
 ghost use lib.Dec.{eqb};
 ghost use lib.ListN.{length, take};
-ghost use Rattle.entries.specs.Entry.{entry, entryLimit, Printed};
+ghost use Rattle.scope.specs.Refusals.{outcome};
+ghost use Rattle.entries.specs.Entry.{entry, entryLimit, isRefused, Printed};
 ghost use Rattle.sheet.specs.Rows.{Roomy};
 ghost use Rattle.store.specs.Filled.{Clean};
 ghost use Rattle.stream.specs.Lines.{lineEnd};
-ghost use Rattle.stream.specs.Feeding.{holdLimit, holding, finished, part, plain};
+ghost use Rattle.stream.specs.Feeding.{holdLimit, lastPut, lastRefused, part, plain};
 ghost use Rattle.stream.specs.Promises.{strideSize, Passed, LineEnd, Keeps, Cuts, numberLimit, readLimit, outputLimit, sheetOf, Ready, Fronts, Runs, Feeds, Owed, OwedLast, noticeRoom, noticed, lineEnds, Received, Drains, Closes, Turns};
 
 // So many bytes are looked at together for the end of a line.
@@ -141,10 +144,12 @@ fn gather(chunk: &[u8], from: usize, hold: &mut [u8], held: usize) -> Cut
     }
 }
 
-// How far a chunk is taken in; the number of the line that is begun or comes next, and how many bytes are held of it; how many bytes are put.
+// How far a chunk is taken in; the number of the line that is begun or comes next, how many lines before it were refused, and how many bytes are held of it;
+// how many bytes are put.
 struct Fed {
     next: usize,
     number: u64,
+    refused: u64,
     held: usize,
     put: usize,
 }
@@ -156,17 +161,18 @@ enum End {
     Unwritten,
 }
 
-// What is kept from one chunk to the next, how many bytes were taken by the output, and whether there is more to do; if not, how reading ended, and
-// the number is that of the first line whose entry is not out.
+// What is kept from one chunk to the next, how many bytes were taken by the output, and whether there is more to do; if not, how reading ended: the
+// number is that of the first line whose entry is not out, and of a whole input all refused lines are counted.
 struct Kept {
     number: u64,
+    refused: u64,
     held: usize,
     sent: usize,
     more: bool,
     end: End,
 }
 
-// The entry of a line that is a part of some bytes, from a place of the output on; the place behind it.
+// The entry of a line that is a part of some bytes, from a place of the output on.
 fn put_part(
     number: u64,
     line: &[u8],
@@ -182,11 +188,11 @@ fn put_part(
     numbers: &mut [i64],
     out: &mut [u8],
     at: usize,
-) -> usize
+) -> Entered
     requires { ⌜ (from ≤ end) × (end ≤ length (now line)) × Roomy (now letters) (now sections) (now heads) (now parts) (now masses) (now scores) × Clean (now bytes) (now numbers) × (at + entryLimit ≤ length (now out)) ⌝ }
-    ensures { λ r. ⌜ Printed entryLimit (now (out .entry)) at (entry number (part from end (now (line .entry)))) (now (out .exit)) r (now (bytes .entry)) (now (numbers .entry)) (now (bytes .exit)) (now (numbers .exit)) ⌝ }
+    ensures { λ r. ⌜ Printed entryLimit (now (out .entry)) at (entry number (part from end (now (line .entry)))) (now (out .exit)) (r .next) (now (bytes .entry)) (now (numbers .entry)) (now (bytes .exit)) (now (numbers .exit)) × (r .refused ≡ isRefused (outcome (part from end (now (line .entry))))) ⌝ }
 {
-    let e = put_entry(
+    put_entry(
         number,
         &line[from..end],
         letters,
@@ -199,8 +205,17 @@ fn put_part(
         numbers,
         out,
         at,
-    );
-    e.next
+    )
+}
+
+// One where it is so, else none: for counting.
+fn one_if(so: bool) -> u64
+    ensures { λ r. ⌜ (r ≡ cond so 1 0) × (r ≤ 1) ⌝ }
+{
+    if so {
+        return 1;
+    }
+    0
 }
 
 // The entries of the lines that lie whole in the chunk from a place on, while the output has room for one more.
@@ -208,6 +223,7 @@ fn put_lines(
     chunk: &[u8],
     from: usize,
     number: u64,
+    refused: u64,
     letters: &mut [u8],
     sections: &mut [u8],
     heads: &mut [u16],
@@ -219,11 +235,12 @@ fn put_lines(
     out: &mut [u8],
     at: usize,
 ) -> Fed
-    requires { ⌜ (from ≤ length (now chunk)) × (number + length (now chunk) ≤ numberLimit + from) × Roomy (now letters) (now sections) (now heads) (now parts) (now masses) (now scores) × Clean (now bytes) (now numbers) × (at ≤ length (now out)) ⌝ }
-    ensures { λ r. ⌜ Runs (now (chunk .entry)) from number (now (out .entry)) at (r .next) (r .number) (r .held) (now (out .exit)) (r .put) × Clean (now (bytes .exit)) (now (numbers .exit)) ⌝ }
+    requires { ⌜ (from ≤ length (now chunk)) × (number + length (now chunk) ≤ numberLimit + from) × Roomy (now letters) (now sections) (now heads) (now parts) (now masses) (now scores) × Clean (now bytes) (now numbers) × (at ≤ length (now out)) × (refused < number) ⌝ }
+    ensures { λ r. ⌜ Runs (now (chunk .entry)) from number refused (now (out .entry)) at (r .next) (r .number) (r .refused) (r .held) (now (out .exit)) (r .put) × Clean (now (bytes .exit)) (now (numbers .exit)) ⌝ }
 {
     let mut next = from;
     let mut line = number;
+    let mut total = refused;
     let mut n = at;
     while ENTRY <= out.len() - n {
         let end = line_end(chunk, next);
@@ -231,11 +248,12 @@ fn put_lines(
             return Fed {
                 next,
                 number: line,
+                refused: total,
                 held: 0,
                 put: n,
             };
         }
-        n = put_part(
+        let entered = put_part(
             line,
             chunk,
             next,
@@ -251,12 +269,15 @@ fn put_lines(
             out,
             n,
         );
+        n = entered.next;
+        total += one_if(entered.refused);
         next = end + 1;
         line += 1;
     }
     Fed {
         next,
         number: line,
+        refused: total,
         held: 0,
         put: n,
     }
@@ -268,6 +289,7 @@ fn feed(
     chunk: &[u8],
     from: usize,
     number: u64,
+    refused: u64,
     hold: &mut [u8],
     held: usize,
     letters: &mut [u8],
@@ -280,8 +302,8 @@ fn feed(
     numbers: &mut [i64],
     out: &mut [u8],
 ) -> Fed
-    requires { ⌜ (from ≤ length (now chunk)) × (number + length (now chunk) ≤ numberLimit + from) × Ready (now hold) held (sheetOf (now letters) (now sections) (now heads) (now parts) (now masses) (now scores)) (now bytes) (now numbers) (now out) ⌝ }
-    ensures { λ r. ⌜ Feeds (now (chunk .entry)) from number (now (hold .entry)) held (now (out .entry)) (r .next) (r .number) (now (hold .exit)) (r .held) (now (out .exit)) (r .put) × Ready (now (hold .exit)) (r .held) (sheetOf (now (letters .exit)) (now (sections .exit)) (now (heads .exit)) (now (parts .exit)) (now (masses .exit)) (now (scores .exit))) (now (bytes .exit)) (now (numbers .exit)) (now (out .exit)) ⌝ }
+    requires { ⌜ (from ≤ length (now chunk)) × (number + length (now chunk) ≤ numberLimit + from) × Ready (now hold) held (sheetOf (now letters) (now sections) (now heads) (now parts) (now masses) (now scores)) (now bytes) (now numbers) (now out) × (refused < number) ⌝ }
+    ensures { λ r. ⌜ Feeds (now (chunk .entry)) from number refused (now (hold .entry)) held (now (out .entry)) (r .next) (r .number) (r .refused) (now (hold .exit)) (r .held) (now (out .exit)) (r .put) × Ready (now (hold .exit)) (r .held) (sheetOf (now (letters .exit)) (now (sections .exit)) (now (heads .exit)) (now (parts .exit)) (now (masses .exit)) (now (scores .exit))) (now (bytes .exit)) (now (numbers .exit)) (now (out .exit)) ⌝ }
 {
     let cut = gather(chunk, from, hold, held);
     let next = cut.next;
@@ -290,11 +312,12 @@ fn feed(
         return Fed {
             next,
             number,
+            refused,
             held: n,
             put: 0,
         };
     }
-    let at = put_part(
+    let entered = put_part(
         number,
         hold,
         0,
@@ -310,10 +333,13 @@ fn feed(
         out,
         0,
     );
+    let at = entered.next;
+    let total = refused + one_if(entered.refused);
     put_lines(
         chunk,
         next,
         number + 1,
+        total,
         letters,
         sections,
         heads,
@@ -385,12 +411,13 @@ fn hand(
     from: usize,
     next: usize,
     number: u64,
+    refused: u64,
     hold: &[u8],
     held: usize,
     out: &[u8],
     n: usize,
 ) -> usize
-    requires { ⌜ Owed (now chunk) from next number (now hold) held (now out) n ⌝ }
+    requires { ⌜ Owed (now chunk) from next number refused (now hold) held (now out) n ⌝ }
     ensures { λ r. ⌜ r ≤ n ⌝ }
 {
     send(STDOUT_FILENO, out, n)
@@ -429,15 +456,6 @@ fn receive(room: &mut [u8]) -> Got
 
 // ---- a failure, told
 
-fn one_if_end(b: u8) -> u64
-    ensures { λ r. ⌜ (r ≡ cond (eqb b lineEnd) 1 0) × (r ≤ 1) ⌝ }
-{
-    if b == NEWLINE {
-        return 1;
-    }
-    0
-}
-
 // How many lines end among the first n bytes.
 fn lines_in(text: &[u8], n: usize) -> u64
     requires { ⌜ n ≤ length (now text) ⌝ }
@@ -446,7 +464,7 @@ fn lines_in(text: &[u8], n: usize) -> u64
     let mut i: usize = 0;
     let mut ends: u64 = 0;
     while i < n {
-        ends += one_if_end(text[i]);
+        ends += one_if(text[i] == NEWLINE);
         i += 1;
     }
     ends
@@ -483,6 +501,7 @@ fn tell(words: &[u8], number: u64, out: &mut [u8])
 fn drain(
     chunk: &[u8],
     number: u64,
+    refused: u64,
     hold: &mut [u8],
     held: usize,
     letters: &mut [u8],
@@ -495,11 +514,12 @@ fn drain(
     numbers: &mut [i64],
     out: &mut [u8],
 ) -> Kept
-    requires { ⌜ (length (now chunk) ≤ readLimit) × (number + readLimit + outputLimit ≤ numberLimit) × Ready (now hold) held (sheetOf (now letters) (now sections) (now heads) (now parts) (now masses) (now scores)) (now bytes) (now numbers) (now out) ⌝ }
-    ensures { λ r. ⌜ Drains (now (chunk .entry)) number (now (hold .entry)) held (r .number) (now (hold .exit)) (r .held) (r .sent) (r .more) (r .end) × Ready (now (hold .exit)) (r .held) (sheetOf (now (letters .exit)) (now (sections .exit)) (now (heads .exit)) (now (parts .exit)) (now (masses .exit)) (now (scores .exit))) (now (bytes .exit)) (now (numbers .exit)) (now (out .exit)) ⌝ }
+    requires { ⌜ (length (now chunk) ≤ readLimit) × (number + readLimit + outputLimit ≤ numberLimit) × Ready (now hold) held (sheetOf (now letters) (now sections) (now heads) (now parts) (now masses) (now scores)) (now bytes) (now numbers) (now out) × (refused < number) ⌝ }
+    ensures { λ r. ⌜ Drains (now (chunk .entry)) number refused (now (hold .entry)) held (r .number) (r .refused) (now (hold .exit)) (r .held) (r .sent) (r .more) (r .end) × Ready (now (hold .exit)) (r .held) (sheetOf (now (letters .exit)) (now (sections .exit)) (now (heads .exit)) (now (parts .exit)) (now (masses .exit)) (now (scores .exit))) (now (bytes .exit)) (now (numbers .exit)) (now (out .exit)) ⌝ }
 {
     let mut from: usize = 0;
     let mut line = number;
+    let mut total = refused;
     let mut n = held;
     let mut sent: usize = 0;
     while from < chunk.len() {
@@ -507,6 +527,7 @@ fn drain(
             chunk,
             from,
             line,
+            total,
             hold,
             n,
             letters,
@@ -521,10 +542,11 @@ fn drain(
         );
         let next = fed.next;
         let put = fed.put;
-        let taken = hand(chunk, from, next, line, hold, n, out, put);
+        let taken = hand(chunk, from, next, line, total, hold, n, out, put);
         if taken < put {
             return Kept {
                 number: line + lines_in(out, taken),
+                refused: total,
                 held: n,
                 sent: sent + taken,
                 more: false,
@@ -533,11 +555,13 @@ fn drain(
         }
         from = next;
         line = fed.number;
+        total = fed.refused;
         n = fed.held;
         sent += taken;
     }
     Kept {
         number: line,
+        refused: total,
         held: n,
         sent,
         more: true,
@@ -545,7 +569,7 @@ fn drain(
     }
 }
 
-// At the end of the input the entry of a line that is begun is put at the front of the output; how many bytes are put.
+// At the end of the input the entry of a line that is begun is put at the front of the output.
 fn finish(
     number: u64,
     hold: &[u8],
@@ -559,12 +583,15 @@ fn finish(
     bytes: &mut [u8],
     numbers: &mut [i64],
     out: &mut [u8],
-) -> usize
+) -> Entered
     requires { ⌜ Ready (now hold) held (sheetOf (now letters) (now sections) (now heads) (now parts) (now masses) (now scores)) (now bytes) (now numbers) (now out) ⌝ }
-    ensures { λ r. ⌜ Fronts (finished (holding number (take held (now (hold .entry))))) (now (out .entry)) (now (out .exit)) r ⌝ }
+    ensures { λ r. ⌜ Fronts (lastPut number (take held (now (hold .entry)))) (now (out .entry)) (now (out .exit)) (r .next) × (r .refused ≡ lastRefused (take held (now (hold .entry)))) ⌝ }
 {
     if held == 0 {
-        return 0;
+        return Entered {
+            next: 0,
+            refused: false,
+        };
     }
     put_part(
         number,
@@ -587,6 +614,7 @@ fn finish(
 // The input is at its end, and a line that is begun ends with it.
 fn close(
     number: u64,
+    refused: u64,
     hold: &[u8],
     held: usize,
     letters: &mut [u8],
@@ -599,10 +627,10 @@ fn close(
     numbers: &mut [i64],
     out: &mut [u8],
 ) -> Kept
-    requires { ⌜ Ready (now hold) held (sheetOf (now letters) (now sections) (now heads) (now parts) (now masses) (now scores)) (now bytes) (now numbers) (now out) ⌝ }
-    ensures { λ r. ⌜ Closes number (now (hold .entry)) held (r .number) (r .sent) (r .more) (r .end) ⌝ }
+    requires { ⌜ Ready (now hold) held (sheetOf (now letters) (now sections) (now heads) (now parts) (now masses) (now scores)) (now bytes) (now numbers) (now out) × (refused < number) ⌝ }
+    ensures { λ r. ⌜ Closes number refused (now (hold .entry)) held (r .number) (r .refused) (r .sent) (r .more) (r .end) ⌝ }
 {
-    let put = finish(
+    let last = finish(
         number,
         hold,
         held,
@@ -616,18 +644,22 @@ fn close(
         numbers,
         out,
     );
+    let put = last.next;
     let taken = hand_last(number, hold, held, out, put);
     if taken < put {
         return Kept {
             number,
+            refused,
             held,
             sent: taken,
             more: false,
             end: End::Unwritten,
         };
     }
+    let total = refused + one_if(last.refused);
     Kept {
         number,
+        refused: total,
         held,
         sent: taken,
         more: false,
@@ -640,6 +672,7 @@ fn take_in(
     room: &[u8],
     n: usize,
     number: u64,
+    refused: u64,
     hold: &mut [u8],
     held: usize,
     letters: &mut [u8],
@@ -652,12 +685,13 @@ fn take_in(
     numbers: &mut [i64],
     out: &mut [u8],
 ) -> Kept
-    requires { ⌜ (n ≤ length (now room)) × (length (now room) ≤ readLimit) × (number + readLimit + outputLimit ≤ numberLimit) × Ready (now hold) held (sheetOf (now letters) (now sections) (now heads) (now parts) (now masses) (now scores)) (now bytes) (now numbers) (now out) ⌝ }
-    ensures { λ r. ⌜ Turns (now (room .entry)) number (now (hold .entry)) held (r .number) (now (hold .exit)) (r .held) (sheetOf (now (letters .exit)) (now (sections .exit)) (now (heads .exit)) (now (parts .exit)) (now (masses .exit)) (now (scores .exit))) (now (bytes .exit)) (now (numbers .exit)) (now (out .exit)) (r .sent) (r .more) (r .end) ⌝ }
+    requires { ⌜ (n ≤ length (now room)) × (length (now room) ≤ readLimit) × (number + readLimit + outputLimit ≤ numberLimit) × Ready (now hold) held (sheetOf (now letters) (now sections) (now heads) (now parts) (now masses) (now scores)) (now bytes) (now numbers) (now out) × (refused < number) ⌝ }
+    ensures { λ r. ⌜ Turns (now (room .entry)) number refused (now (hold .entry)) held (r .number) (r .refused) (now (hold .exit)) (r .held) (sheetOf (now (letters .exit)) (now (sections .exit)) (now (heads .exit)) (now (parts .exit)) (now (masses .exit)) (now (scores .exit))) (now (bytes .exit)) (now (numbers .exit)) (now (out .exit)) (r .sent) (r .more) (r .end) ⌝ }
 {
     if n == 0 {
         return close(
             number,
+            refused,
             hold,
             held,
             letters,
@@ -674,6 +708,7 @@ fn take_in(
     drain(
         &room[..n],
         number,
+        refused,
         hold,
         held,
         letters,
@@ -692,6 +727,7 @@ fn take_in(
 fn turn(
     room: &mut [u8],
     number: u64,
+    refused: u64,
     hold: &mut [u8],
     held: usize,
     letters: &mut [u8],
@@ -704,8 +740,8 @@ fn turn(
     numbers: &mut [i64],
     out: &mut [u8],
 ) -> Kept
-    requires { ⌜ (length (now room) ≤ readLimit) × (number + readLimit + outputLimit ≤ numberLimit) × Ready (now hold) held (sheetOf (now letters) (now sections) (now heads) (now parts) (now masses) (now scores)) (now bytes) (now numbers) (now out) ⌝ }
-    ensures { λ r. ⌜ Turns (now (room .exit)) number (now (hold .entry)) held (r .number) (now (hold .exit)) (r .held) (sheetOf (now (letters .exit)) (now (sections .exit)) (now (heads .exit)) (now (parts .exit)) (now (masses .exit)) (now (scores .exit))) (now (bytes .exit)) (now (numbers .exit)) (now (out .exit)) (r .sent) (r .more) (r .end) ⌝ }
+    requires { ⌜ (length (now room) ≤ readLimit) × (number + readLimit + outputLimit ≤ numberLimit) × Ready (now hold) held (sheetOf (now letters) (now sections) (now heads) (now parts) (now masses) (now scores)) (now bytes) (now numbers) (now out) × (refused < number) ⌝ }
+    ensures { λ r. ⌜ Turns (now (room .exit)) number refused (now (hold .entry)) held (r .number) (r .refused) (now (hold .exit)) (r .held) (sheetOf (now (letters .exit)) (now (sections .exit)) (now (heads .exit)) (now (parts .exit)) (now (masses .exit)) (now (scores .exit))) (now (bytes .exit)) (now (numbers .exit)) (now (out .exit)) (r .sent) (r .more) (r .end) ⌝ }
 {
     let got = receive(room);
     match got {
@@ -713,6 +749,7 @@ fn turn(
             room,
             n,
             number,
+            refused,
             hold,
             held,
             letters,
@@ -727,6 +764,7 @@ fn turn(
         ),
         Got::Failed => Kept {
             number,
+            refused,
             held,
             sent: 0,
             more: false,
@@ -753,12 +791,14 @@ fn serve(
     ensures { λ r. ⌜ 1 ≤ r .number ⌝ }
 {
     let mut number: u64 = 1;
+    let mut refused: u64 = 0;
     let mut held: usize = 0;
     let mut turns: u64 = TURNS;
     while turns > 0 {
         let kept = turn(
             room,
             number,
+            refused,
             hold,
             held,
             letters,
@@ -775,11 +815,13 @@ fn serve(
             return kept;
         }
         number = kept.number;
+        refused = kept.refused;
         held = kept.held;
         turns -= 1;
     }
     Kept {
         number,
+        refused,
         held,
         sent: 0,
         more: false,
@@ -787,8 +829,17 @@ fn serve(
     }
 }
 
-// The register program: the lines of standard input, and their entries to standard output. Where a read or a write fails for good, a line to standard
-// error says after which line what was read, or what is out, ends.
+// How many lines of the whole input were refused, where there are any. A program has no status: who wants to know looks here.
+fn tell_refused(refused: u64, out: &mut [u8])
+    requires { ⌜ length (now out) ≡ outputLimit ⌝ }
+{
+    if refused > 0 {
+        tell(b"register: lines refused: ", refused, out);
+    }
+}
+
+// The register program: the lines of standard input, and their entries to standard output. At the end a line to standard error says how many lines were
+// refused, where there are any; or, where a read or a write fails for good, after which line what was read, or what is out, ends.
 pub fn run() {
     let mut room = [0u8; READ];
     let mut hold = [0u8; HOLD];
@@ -817,7 +868,7 @@ pub fn run() {
     let line = last.number - 1;
     let end = last.end;
     match end {
-        End::Whole => {}
+        End::Whole => tell_refused(last.refused, &mut out),
         End::Unread => tell(
             b"register: the input could not be read: it ends after line ",
             line,

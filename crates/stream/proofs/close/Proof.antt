@@ -1,13 +1,15 @@
--- `stream::close` meets its contract: what is put out at the end of the input is handed over. Assumes nothing.
+-- `stream::close` meets its contract: what is put out at the end of the input is handed over, and the line that ends there is counted where it is refused.
+-- Assumes nothing.
+use native.Mathlib.Omega.{arith}
 use Rattle.stream.proofs.Steps.{owed-last, closes-whole, closes-lost}
 use Rattle.stream.proofs.close.Statement.{statement}
 use Rattle.stream.proofs.close.Tie as tie
 
 finish-requires : tie.Need-finish-requires
-finish-requires c κs = c .before .before .before .before .before .before .before .before .before .before .before .before .before .before .before .before .pre
+finish-requires c κs = c .before .before .before .before .before .before .before .before .before .before .before .before .before .before .before .before .pre .0
 
 hand-last-requires : tie.Need-hand-last-requires
-hand-last-requires c κs = owed-last (c .before .before .before .before .before .before .before .before .before .before .before .before .before .before .before .before .finish .ensures)
+hand-last-requires c κs = owed-last (c .before .before .before .before .before .before .before .before .before .before .before .before .before .before .before .before .finish .ensures .0)
 
 same-length : tie.Need-same-length
 same-length c = c .before .before .before .before .before .before .before .before .before .before .before .before .before .before .before .before .before .letters .given
@@ -39,38 +41,45 @@ same-length-9 c = c .before .before .before .before .out .given
 returns : tie.Need-returns
 returns c = closes-lost
 
+one-if-requires : tie.Need-one-if-requires
+one-if-requires c κs = tt
+
+add-total : tie.Need-add-total
+add-total c = let s = c .before .before .before .before .before .before .before .before .before .before .before .before .before .before .before .before .before .before .before .before .before .before .before .before .before .before .before .before .before .before .before .before .before .before .before .before in omega (arith, s .pre .1, s .fits .number .fits, c .one-if .ensures .1)
+
 same-length-10 : tie.Need-same-length-10
-same-length-10 c = c .before .before .before .before .before .before .before .before .before .before .before .before .before .before .before .before .before .letters .given
+same-length-10 c = c .before .before .before .before .before .before .before .before .before .before .before .before .before .before .before .before .before .before .letters .given
 
 same-length-11 : tie.Need-same-length-11
-same-length-11 c = c .before .before .before .before .before .before .before .before .before .before .before .before .before .before .before .sections .given
+same-length-11 c = c .before .before .before .before .before .before .before .before .before .before .before .before .before .before .before .before .sections .given
 
 same-length-12 : tie.Need-same-length-12
-same-length-12 c = c .before .before .before .before .before .before .before .before .before .before .before .before .before .heads .given
+same-length-12 c = c .before .before .before .before .before .before .before .before .before .before .before .before .before .before .heads .given
 
 same-length-13 : tie.Need-same-length-13
-same-length-13 c = c .before .before .before .before .before .before .before .before .before .before .before .parts .given
+same-length-13 c = c .before .before .before .before .before .before .before .before .before .before .before .before .parts .given
 
 same-length-14 : tie.Need-same-length-14
-same-length-14 c = c .before .before .before .before .before .before .before .before .before .masses .given
+same-length-14 c = c .before .before .before .before .before .before .before .before .before .before .masses .given
 
 same-length-15 : tie.Need-same-length-15
-same-length-15 c = c .before .before .before .before .before .before .before .before .scores .given
+same-length-15 c = c .before .before .before .before .before .before .before .before .before .scores .given
 
 same-length-16 : tie.Need-same-length-16
-same-length-16 c = c .before .before .before .before .before .before .before .bytes .given
+same-length-16 c = c .before .before .before .before .before .before .before .before .bytes .given
 
 same-length-17 : tie.Need-same-length-17
-same-length-17 c = c .before .before .before .before .before .numbers .given
+same-length-17 c = c .before .before .before .before .before .before .numbers .given
 
 same-length-18 : tie.Need-same-length-18
-same-length-18 c = c .before .before .before .before .out .given
+same-length-18 c = c .before .before .before .before .before .out .given
 
 returns-2 : tie.Need-returns-2
 returns-2 c =
-    let h = c .before in
+    let i = c .before in
+    let h = i .before in
     let f = h .before .before .before .before .before .before .before .before .before .before .before .before .before .before .before .before .before in
-    closes-whole (f .finish .ensures) (h .hand-last .ensures) (c .if1 .left)
+    closes-whole (f .finish .ensures) (c .one-if .ensures) (h .hand-last .ensures) (i .if1 .left)
 
 pub close-spec : {M : Type 1} → statement M
 close-spec =
@@ -88,6 +97,8 @@ close-spec =
     same-length-8
     same-length-9
     returns
+    one-if-requires
+    add-total
     same-length-10
     same-length-11
     same-length-12

@@ -4,20 +4,20 @@ use Prim.Native.Nat.{_-_}
 use native.Mathlib.Omega.{arith}
 use lib.ListN.{length}
 use Rattle.stream.specs.Promises.{sheetOf}
-use Rattle.stream.proofs.Steps.{Taken, taken-start, taken-more, taken-all, drains-lost, stays-ready, owed}
+use Rattle.stream.proofs.Steps.{stays-few, Taken, taken-start, taken-more, taken-all, drains-lost, stays-ready, owed}
 use Rattle.stream.proofs.drain.Statement.{statement}
 use Rattle.stream.proofs.drain.Tie as tie
 
 abbrev Inv-loop : tie.InvT-loop
-Inv-loop chunk number hold₀ held letters₀ sections₀ heads₀ parts₀ masses₀ scores₀ bytes₀ numbers₀ out₀ from₀ line₀ n₀ sent₀ hold letters sections heads parts masses scores bytes numbers out from line n sent =
-    Taken chunk number hold₀ held (sheetOf letters₀ sections₀ heads₀ parts₀ masses₀ scores₀) bytes₀ numbers₀ out₀ from line n sent hold (sheetOf letters sections heads parts masses scores) bytes numbers out
+Inv-loop chunk number refused hold₀ held letters₀ sections₀ heads₀ parts₀ masses₀ scores₀ bytes₀ numbers₀ out₀ from₀ line₀ total₀ n₀ sent₀ hold letters sections heads parts masses scores bytes numbers out from line total n sent =
+    Taken chunk number refused hold₀ held (sheetOf letters₀ sections₀ heads₀ parts₀ masses₀ scores₀) bytes₀ numbers₀ out₀ from line total n sent hold (sheetOf letters sections heads parts masses scores) bytes numbers out
 
 abbrev μ-loop : tie.MeasureT-loop
-μ-loop chunk number hold₀ held letters₀ sections₀ heads₀ parts₀ masses₀ scores₀ bytes₀ numbers₀ out₀ from₀ line₀ n₀ sent₀ hold letters sections heads parts masses scores bytes numbers out from line n sent =
+μ-loop chunk number refused hold₀ held letters₀ sections₀ heads₀ parts₀ masses₀ scores₀ bytes₀ numbers₀ out₀ from₀ line₀ total₀ n₀ sent₀ hold letters sections heads parts masses scores bytes numbers out from line total n sent =
     length chunk - from
 
 loop-holds : tie.Need-loop-holds Inv-loop μ-loop
-loop-holds c = taken-start _ _ _ _ _ _ _ _ (c .before .before .before .before .before .before .before .before .pre .2)
+loop-holds c = taken-start _ _ _ _ _ _ _ _ _ (c .before .before .before .before .before .before .before .before .pre .2)
 
 feed-requires : tie.Need-feed-requires Inv-loop μ-loop
 feed-requires c κs =
@@ -25,7 +25,7 @@ feed-requires c κs =
     let s = o .before .before .before .before .before .before .before .before .before in
     let w = o .loop .inv in
     let p = s .pre in
-    (w .inside, omega (arith, w .count, p .0, p .1), w .ready)
+    (w .inside, omega (arith, w .count, p .0, p .1), w .ready, stays-few _ _ (w .leaves) (p .3))
 
 hand-requires : tie.Need-hand-requires Inv-loop μ-loop
 hand-requires c κs = owed (c .before .before .before .before .before .before .before .before .before .before .before .before .before .before .before .before .before .before .before .feed .ensures .0)
@@ -33,8 +33,8 @@ hand-requires c κs = owed (c .before .before .before .before .before .before .b
 lines-in-requires : tie.Need-lines-in-requires Inv-loop μ-loop
 lines-in-requires c κs = omega (arith, c .before .if1 .taken, c .before .before .before .before .before .before .before .before .before .before .before .before .before .before .before .before .before .before .before .before .before .before .feed .ensures .0 .puts .fits)
 
-add-t51 : tie.Need-add-t51 Inv-loop μ-loop
-add-t51 c =
+add-t53 : tie.Need-add-t53 Inv-loop μ-loop
+add-t53 c =
     let i = c .before .before in
     let a = i .before .before .before .before .before .before .before .before .before .before .before .before .before .before .before .before .before .before .before .before .before in
     let t = a .before .before .before .before .before .before .before .before .before .before .before in
@@ -44,8 +44,8 @@ add-t51 c =
     let f = a .feed .ensures in
     omega (arith, w .low, w .count, w .inside, t .loop-test .taken, f .0 .puts .fits, f .1 .narrow, i .if1 .taken, c .lines-in .ensures .1, s .pre .0, s .pre .1)
 
-add-t52 : tie.Need-add-t52 Inv-loop μ-loop
-add-t52 c =
+add-t54 : tie.Need-add-t54 Inv-loop μ-loop
+add-t54 c =
     let i = c .before .before in
     let a = i .before .before .before .before .before .before .before .before .before .before .before .before .before .before .before .before .before .before .before .before .before in
     let t = a .before .before .before .before .before .before .before .before .before .before .before in
@@ -125,7 +125,7 @@ loop-again c =
     let t = a .before .before .before .before .before .before .before .before .before .before .before in
     let o = t .before in
     let f = a .feed .ensures in
-    taken-more _ _ _ _ _ _ _ _ (o .loop .inv) (t .loop-test .taken) (f .0) (f .1) (d .hand .ensures) (c .if1 .left)
+    taken-more _ _ _ _ _ _ _ _ _ (o .loop .inv) (t .loop-test .taken) (f .0) (f .1) (d .hand .ensures) (c .if1 .left)
     (record {
       letters-long = l .letters .given;
       sections-long = s .sections .given;
@@ -167,7 +167,7 @@ same-length-20 : tie.Need-same-length-20 Inv-loop μ-loop
 same-length-20 c = c .before .loop .inv .out-long
 
 returns-2 : tie.Need-returns-2 Inv-loop μ-loop
-returns-2 c = taken-all _ _ _ _ _ _ _ _ (c .before .loop .inv) (c .loop-test .left)
+returns-2 c = taken-all _ _ _ _ _ _ _ _ _ (c .before .loop .inv) (c .loop-test .left)
 
 pub drain-spec : {M : Type 1} → statement M
 drain-spec =
@@ -179,8 +179,8 @@ drain-spec =
     feed-requires
     hand-requires
     lines-in-requires
-    add-t51
-    add-t52
+    add-t53
+    add-t54
     same-length
     same-length-2
     same-length-3

@@ -28,31 +28,42 @@ put-part-requires c κs =
     let w = s .pre .2 in
     (omega arith, omega (arith, m .within, m .room), w .roomy, w .clean, omega (arith, w .wide))
 
+-- from behind the entry of the line that was begun back to where the line ended, to `gather`, and to the start
+abbrev line-ended : tie.After-one-if → tie.Else1
+line-ended c = c .before .before .before .before .before .before .before .before .before .before .before .before .before .before .before .before .before .before .before .before .before .before .before .before .before .before .before
+
+abbrev gathered : tie.After-one-if → tie.After-gather
+gathered c = line-ended c .before .before .before .before
+
+abbrev begun : tie.After-one-if → tie.Start
+begun c = gathered c .before .before .before .before .before .before .before .before .before .before
+
+one-if-requires : tie.Need-one-if-requires
+one-if-requires c κs = tt
+
+add-total : tie.Need-add-total
+add-total c = let s = begun c in omega (arith, s .pre .3, s .fits .number .fits, c .one-if .ensures .1)
+
 add-put-lines : tie.Need-add-put-lines
 add-put-lines c =
-    let i = c .before .before .before .before .before .before .before .before .before .before .before .before .before .before .before .before .before .before .before .before .before .before .before .before .before .before in
-    let g = i .before .before .before .before in
-    let s = g .before .before .before .before .before .before .before .before .before .before in
-    let m = g .gather .ensures in
-    omega (arith, s .pre .1, m .inside, m .goes (not-false _ (i .if1 .left)))
+    let m = gathered c .gather .ensures in
+    omega (arith, begun c .pre .1, m .inside, m .goes (not-false _ (line-ended c .if1 .left)))
 
 put-lines-requires : tie.Need-put-lines-requires
 put-lines-requires c κs =
-    let k = c .before .before .before .before .before .before .before .before .before .before .before .before .before .before in
+    let o = c .before .before .before .before .before .before .before .before .before in
+    let k = o .before .before .before .before .before .before in
     let m = k .before in
     let p = m .before .before in
     let h = p .before .before in
     let s = h .before .before in
     let l = s .before .before in
-    let q = l .before in
-    let i = q .before .before .before .before .before .before .before .before .before .before .before in
-    let g = i .before .before .before .before in
-    let b = g .before .before .before .before .before .before .before .before .before .before in
-    let n = g .gather .ensures in
-    let r = q .put-part .ensures in
-    let w = b .pre .2 in (
+    let b = begun o .pre in
+    let n = gathered o .gather .ensures in
+    let r = l .before .put-part .ensures .0 in
+    let w = b .2 in (
       n .inside,
-      omega (arith, b .pre .1, n .goes (not-false _ (i .if1 .left))),
+      omega (arith, b .1, n .goes (not-false _ (line-ended o .if1 .left))),
       still-roomy (w .roomy)
           (record {
             letters-long = l .letters .given;
@@ -64,37 +75,38 @@ put-lines-requires c κs =
           }),
       still-clean r (w .clean),
       omega (arith, r .puts .near, r .out-long, w .wide),
+      omega (arith, b .3, o .one-if .ensures .1),
     )
 
 same-length-2 : tie.Need-same-length-2
-same-length-2 c = c .before .before .before .before .before .before .before .before .before .before .before .before .before .before .before .before .before .before .before .before .before .before .before .before .before .before .before .before .before .before .before .before .before .before .before .before .before .before .before .before .before .before .before .before .before .before .before .before .before .before .before .before .before .before .hold .given
+same-length-2 c = c .before .before .before .before .before .before .before .before .before .before .before .before .before .before .before .before .before .before .before .before .before .before .before .before .before .before .before .before .before .before .before .before .before .before .before .before .before .before .before .before .before .before .before .before .before .before .before .before .before .before .before .before .before .before .before .hold .given
 
 same-length-3 : tie.Need-same-length-3
-same-length-3 c = c .before .before .before .before .before .before .before .before .before .before .before .before .before .before .letters2 .given ∙ c .before .before .before .before .before .before .before .before .before .before .before .before .before .before .before .before .before .before .before .before .before .before .before .before .before .before .before .before .before .before .before .before .before .before .before .before .before .before .before .letters .given
+same-length-3 c = c .before .before .before .before .before .before .before .before .before .before .before .before .before .before .letters2 .given ∙ c .before .before .before .before .before .before .before .before .before .before .before .before .before .before .before .before .before .before .before .before .before .before .before .before .before .before .before .before .before .before .before .before .before .before .before .before .before .before .before .before .letters .given
 
 same-length-4 : tie.Need-same-length-4
-same-length-4 c = c .before .before .before .before .before .before .before .before .before .before .before .before .sections2 .given ∙ c .before .before .before .before .before .before .before .before .before .before .before .before .before .before .before .before .before .before .before .before .before .before .before .before .before .before .before .before .before .before .before .before .before .before .before .before .before .sections .given
+same-length-4 c = c .before .before .before .before .before .before .before .before .before .before .before .before .sections2 .given ∙ c .before .before .before .before .before .before .before .before .before .before .before .before .before .before .before .before .before .before .before .before .before .before .before .before .before .before .before .before .before .before .before .before .before .before .before .before .before .before .sections .given
 
 same-length-5 : tie.Need-same-length-5
-same-length-5 c = c .before .before .before .before .before .before .before .before .before .before .heads2 .given ∙ c .before .before .before .before .before .before .before .before .before .before .before .before .before .before .before .before .before .before .before .before .before .before .before .before .before .before .before .before .before .before .before .before .before .before .before .heads .given
+same-length-5 c = c .before .before .before .before .before .before .before .before .before .before .heads2 .given ∙ c .before .before .before .before .before .before .before .before .before .before .before .before .before .before .before .before .before .before .before .before .before .before .before .before .before .before .before .before .before .before .before .before .before .before .before .before .heads .given
 
 same-length-6 : tie.Need-same-length-6
-same-length-6 c = c .before .before .before .before .before .before .before .before .parts2 .given ∙ c .before .before .before .before .before .before .before .before .before .before .before .before .before .before .before .before .before .before .before .before .before .before .before .before .before .before .before .before .before .before .before .before .before .parts .given
+same-length-6 c = c .before .before .before .before .before .before .before .before .parts2 .given ∙ c .before .before .before .before .before .before .before .before .before .before .before .before .before .before .before .before .before .before .before .before .before .before .before .before .before .before .before .before .before .before .before .before .before .before .parts .given
 
 same-length-7 : tie.Need-same-length-7
-same-length-7 c = c .before .before .before .before .before .before .masses2 .given ∙ c .before .before .before .before .before .before .before .before .before .before .before .before .before .before .before .before .before .before .before .before .before .before .before .before .before .before .before .before .before .before .before .masses .given
+same-length-7 c = c .before .before .before .before .before .before .masses2 .given ∙ c .before .before .before .before .before .before .before .before .before .before .before .before .before .before .before .before .before .before .before .before .before .before .before .before .before .before .before .before .before .before .before .before .masses .given
 
 same-length-8 : tie.Need-same-length-8
-same-length-8 c = c .before .before .before .before .before .scores2 .given ∙ c .before .before .before .before .before .before .before .before .before .before .before .before .before .before .before .before .before .before .before .before .before .before .before .before .before .before .before .before .before .before .scores .given
+same-length-8 c = c .before .before .before .before .before .scores2 .given ∙ c .before .before .before .before .before .before .before .before .before .before .before .before .before .before .before .before .before .before .before .before .before .before .before .before .before .before .before .before .before .before .before .scores .given
 
 same-length-9 : tie.Need-same-length-9
-same-length-9 c = c .before .before .before .before .bytes2 .given ∙ c .before .before .before .before .before .before .before .before .before .before .before .before .before .before .before .before .before .before .before .before .before .before .before .before .before .before .before .before .before .bytes .given
+same-length-9 c = c .before .before .before .before .bytes2 .given ∙ c .before .before .before .before .before .before .before .before .before .before .before .before .before .before .before .before .before .before .before .before .before .before .before .before .before .before .before .before .before .before .bytes .given
 
 same-length-10 : tie.Need-same-length-10
-same-length-10 c = c .before .before .numbers2 .given ∙ c .before .before .before .before .before .before .before .before .before .before .before .before .before .before .before .before .before .before .before .before .before .before .before .before .before .before .before .numbers .given
+same-length-10 c = c .before .before .numbers2 .given ∙ c .before .before .before .before .before .before .before .before .before .before .before .before .before .before .before .before .before .before .before .before .before .before .before .before .before .before .before .before .numbers .given
 
 same-length-11 : tie.Need-same-length-11
-same-length-11 c = c .before .out2 .given ∙ c .before .before .before .before .before .before .before .before .before .before .before .before .before .before .before .before .before .before .before .before .before .before .before .before .before .before .out .given
+same-length-11 c = c .before .out2 .given ∙ c .before .before .before .before .before .before .before .before .before .before .before .before .before .before .before .before .before .before .before .before .before .before .before .before .before .before .before .out .given
 
 returns-2 : tie.Need-returns-2
 returns-2 c =
@@ -105,17 +117,14 @@ returns-2 c =
     let s′ = h′ .before .before in
     let l′ = s′ .before .before in
     let r = l′ .before in
-    let k = r .before .before .before .before .before .before .before .before .before .before .before .before .before .before .before in
+    let o = r .before .before .before .before .before .before .before .before .before .before in
+    let k = o .before .before .before .before .before .before in
     let m = k .before in
     let p = m .before .before in
     let h = p .before .before in
     let s = h .before .before in
     let l = s .before .before in
-    let q = l .before in
-    let i = q .before .before .before .before .before .before .before .before .before .before .before in
-    let g = i .before .before .before .before in
-    let b = g .before .before .before .before .before .before .before .before .before .before in
-    feeds-lines (b .pre .2) (g .gather .ensures) (not-false _ (i .if1 .left)) (q .put-part .ensures) (r .put-lines .ensures .0)
+    feeds-lines (begun o .pre .2) (gathered o .gather .ensures) (not-false _ (line-ended o .if1 .left)) (l .before .put-part .ensures) (o .one-if .ensures) (r .put-lines .ensures .0)
     (record {
       letters-long = l′ .letters2 .given ∙ l .letters .given;
       sections-long = s′ .sections2 .given ∙ s .sections .given;
@@ -134,6 +143,8 @@ feed-spec =
     same-length
     returns
     put-part-requires
+    one-if-requires
+    add-total
     add-put-lines
     put-lines-requires
     same-length-2

@@ -44,7 +44,7 @@ returns-2 c =
     let p = c .before .before .before .before .before .before .before .before .before .before .before .before .before .before .before in
     let i = p .before .before .before .before .before .before .before .before .before .before in
     let s = i .before .before .before .before .before .before .before .before in
-    ends-line _ _ _ _ _ _ _ _ _ _ _ (s .pre) (omega (arith, i .if1 .left)) (p .put-part .ensures)
+    ends-line _ _ _ _ _ _ _ _ _ _ _ _ (s .pre) (omega (arith, i .if1 .left)) (p .put-part .ensures)
 
 pub finish-spec : {M : Type 1} → statement M
 finish-spec =

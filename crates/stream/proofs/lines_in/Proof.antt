@@ -15,14 +15,14 @@ abbrev μ-loop : tie.MeasureT-loop
 loop-holds : tie.Need-loop-holds Inv-loop μ-loop
 loop-holds c = (omega arith, counted-start _)
 
-shared-slice-read-one-if-end : tie.Need-shared-slice-read-one-if-end Inv-loop μ-loop
-shared-slice-read-one-if-end c = let p = c .before .before .before .before .pre in omega arith
+shared-slice-read-one-if : tie.Need-shared-slice-read-one-if Inv-loop μ-loop
+shared-slice-read-one-if c = let p = c .before .before .before .before .pre in omega arith
 
-one-if-end-requires : tie.Need-one-if-end-requires Inv-loop μ-loop
-one-if-end-requires c κs = tt
+one-if-requires : tie.Need-one-if-requires Inv-loop μ-loop
+one-if-requires c κs = tt
 
 add-ends : tie.Need-add-ends Inv-loop μ-loop
-add-ends c = let w = c .before .before .before .loop .inv .1 .few in let p = c .before .before .before .before .before .pre in let l = c .before .before .loop-test .taken in omega (arith, w, p, l, c .one-if-end .ensures .1)
+add-ends c = let w = c .before .before .before .loop .inv .1 .few in let p = c .before .before .before .before .before .pre in let l = c .before .before .loop-test .taken in omega (arith, w, p, l, c .one-if .ensures .1)
 
 add-i : tie.Need-add-i Inv-loop μ-loop
 add-i c = omega arith
@@ -31,7 +31,7 @@ loop-less : tie.Need-loop-less Inv-loop μ-loop
 loop-less c = omega arith
 
 loop-again : tie.Need-loop-again Inv-loop μ-loop
-loop-again c = (omega arith, counted-more (c .before .before .before .loop .inv .1) (let p = c .before .before .before .before .before .pre in omega arith) (c .one-if-end .ensures))
+loop-again c = (omega arith, counted-more (c .before .before .before .loop .inv .1) (let p = c .before .before .before .before .before .pre in omega arith) (c .one-if .ensures))
 
 returns : tie.Need-returns Inv-loop μ-loop
 returns c = counted-all (c .before .loop .inv .0) (c .loop-test .left) (c .before .loop .inv .1)
@@ -43,8 +43,8 @@ lines-in-spec =
     Inv-loop
     μ-loop
     loop-holds
-    shared-slice-read-one-if-end
-    one-if-end-requires
+    shared-slice-read-one-if
+    one-if-requires
     add-ends
     add-i
     loop-less

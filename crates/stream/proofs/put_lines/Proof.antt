@@ -1,24 +1,24 @@
--- `stream::put_lines` meets its contract. The loop: the lines up to `next` are put. Assumes nothing.
+-- `stream::put_lines` meets its contract. The loop: the lines up to `next` are put, and those refused are counted. Assumes nothing.
 use Prim.Native.Nat.{_-_}
 use native.Mathlib.Omega.{arith}
 use lib.ListN.{length}
 use Rattle.stream.specs.Promises.{sheetOf}
-use Rattle.stream.proofs.Steps.{Goes, goes-start, goes-line, goes-end}
+use Rattle.stream.proofs.Steps.{stays-few, Goes, goes-start, goes-line, goes-end}
 use Rattle.stream.proofs.put_lines.Statement.{statement}
 use Rattle.stream.proofs.put_lines.Tie as tie
 
 abbrev Inv-loop : tie.InvT-loop
-Inv-loop chunk from number letters₀ sections₀ heads₀ parts₀ masses₀ scores₀ bytes₀ numbers₀ out₀ at next₀ line₀ n₀ letters sections heads parts masses scores bytes numbers out next line n =
-    Goes chunk from number (sheetOf letters₀ sections₀ heads₀ parts₀ masses₀ scores₀) bytes₀ numbers₀ out₀ at next line n (sheetOf letters sections heads parts masses scores) bytes numbers out
+Inv-loop chunk from number refused letters₀ sections₀ heads₀ parts₀ masses₀ scores₀ bytes₀ numbers₀ out₀ at next₀ line₀ total₀ n₀ letters sections heads parts masses scores bytes numbers out next line total n =
+    Goes chunk from number refused (sheetOf letters₀ sections₀ heads₀ parts₀ masses₀ scores₀) bytes₀ numbers₀ out₀ at next line total n (sheetOf letters sections heads parts masses scores) bytes numbers out
 
 abbrev μ-loop : tie.MeasureT-loop
-μ-loop chunk from number letters₀ sections₀ heads₀ parts₀ masses₀ scores₀ bytes₀ numbers₀ out₀ at next₀ line₀ n₀ letters sections heads parts masses scores bytes numbers out next line n =
+μ-loop chunk from number refused letters₀ sections₀ heads₀ parts₀ masses₀ scores₀ bytes₀ numbers₀ out₀ at next₀ line₀ total₀ n₀ letters sections heads parts masses scores bytes numbers out next line total n =
     length chunk - next
 
 loop-holds : tie.Need-loop-holds Inv-loop μ-loop
 loop-holds c =
     let p = c .before .before .before .before .before .before .before .pre in
-    goes-start _ _ _ _ _ _ _ _ (p .0) (p .2) (p .3) (p .4)
+    goes-start _ _ _ _ _ _ _ _ _ (p .0) (p .2) (p .3) (p .4)
 
 sub-loop : tie.Need-sub-loop Inv-loop μ-loop
 sub-loop c = omega (arith, c .loop .inv .fits, c .loop .inv .out-long)
@@ -54,7 +54,7 @@ same-length-9 : tie.Need-same-length-9 Inv-loop μ-loop
 same-length-9 c = c .before .before .before .loop .inv .out-long
 
 returns : tie.Need-returns Inv-loop μ-loop
-returns c = goes-end _ _ _ _ _ _ _ _ (c .before .before .before .loop .inv)
+returns c = goes-end _ _ _ _ _ _ _ _ _ (c .before .before .before .loop .inv)
 
 put-part-requires : tie.Need-put-part-requires Inv-loop μ-loop
 put-part-requires c κs =
@@ -64,42 +64,55 @@ put-part-requires c κs =
     let w = o .loop .inv in
     (e .line-end .ensures .past, e .line-end .ensures .within, w .roomy, w .clean, omega (arith, t .loop-test .taken, w .fits, w .out-long))
 
+-- from behind a line's entry back to where its end was found, and from there to the start
+abbrev found : tie.After-one-if Inv-loop μ-loop → tie.Else1 Inv-loop μ-loop
+found c = c .before .before .before .before .before .before .before .before .before .before .before .before .before .before .before .before .before .before .before .before .before .before .before .before .before .before
+
+abbrev begun : tie.After-one-if Inv-loop μ-loop → tie.Start Inv-loop μ-loop
+begun c = found c .before .before .before .before .before .before .before .before .before .before .before
+
+one-if-requires : tie.Need-one-if-requires Inv-loop μ-loop
+one-if-requires c κs = tt
+
+add-total : tie.Need-add-total Inv-loop μ-loop
+add-total c =
+    let e = found c .before in
+    let p = begun c .pre in
+    let w = e .before .before .loop .inv in
+    omega (arith, stays-few _ _ (w .leaves) (p .5), c .one-if .ensures .1, w .count, e .line-end .ensures .past, e .line-end .ensures .within, p .1)
+
 add-next : tie.Need-add-next Inv-loop μ-loop
 add-next c =
-    let i = c .before .before .before .before .before .before .before .before .before .before .before .before .before .before .before .before .before .before .before .before .before .before .before .before .before in
-    let e = i .before in
-    let s = e .before .before .before .before .before .before .before .before .before .before in
-    omega (arith, e .line-end .ensures .within, i .if1 .left, s .good .0)
+    let i = found c in
+    omega (arith, i .before .line-end .ensures .within, i .if1 .left, begun c .good .0)
 
 add-line : tie.Need-add-line Inv-loop μ-loop
 add-line c =
-    let i = c .before .before .before .before .before .before .before .before .before .before .before .before .before .before .before .before .before .before .before .before .before .before .before .before .before in
+    let i = found c in
     let e = i .before in
-    let o = e .before .before in
-    let s = o .before .before .before .before .before .before .before .before in
-    omega (arith, o .loop .inv .count, e .line-end .ensures .past, e .line-end .ensures .within, i .if1 .left, s .pre .1)
+    omega (arith, e .before .before .loop .inv .count, e .line-end .ensures .past, e .line-end .ensures .within, i .if1 .left, begun c .pre .1)
 
 loop-less : tie.Need-loop-less Inv-loop μ-loop
 loop-less c =
-    let i = c .before .before .before .before .before .before .before .before .before .before .before .before .before .before .before .before .before .before .before .before .before .before .before .before .before in
+    let i = found c in
     let e = i .before in
     omega (arith, e .line-end .ensures .past, e .line-end .ensures .within, i .if1 .left)
 
 loop-again : tie.Need-loop-again Inv-loop μ-loop
 loop-again c =
-    let k = c .before .before .before .before .before in
+    let k = c .before .before .before .before .before .before in
     let m = k .before in
     let p = m .before .before in
     let h = p .before .before in
     let s = h .before .before in
     let l = s .before .before in
     let q = l .before in
-    let i = q .before .before .before .before .before .before .before .before .before .before in
+    let i = found c in
     let e = i .before in
     let t = e .before in
     let o = t .before in
     let w = o .loop .inv in
-    goes-line _ _ _ _ _ _ _ _ w (e .line-end .ensures) (i .if1 .left) (q .put-part .ensures)
+    goes-line _ _ _ _ _ _ _ _ _ w (e .line-end .ensures) (i .if1 .left) (q .put-part .ensures) (c .one-if .ensures)
     (record {
       letters-long = l .letters .given;
       sections-long = s .sections .given;
@@ -138,7 +151,7 @@ same-length-18 : tie.Need-same-length-18 Inv-loop μ-loop
 same-length-18 c = c .before .loop .inv .out-long
 
 returns-2 : tie.Need-returns-2 Inv-loop μ-loop
-returns-2 c = goes-end _ _ _ _ _ _ _ _ (c .before .loop .inv)
+returns-2 c = goes-end _ _ _ _ _ _ _ _ _ (c .before .loop .inv)
 
 pub put-lines-spec : {M : Type 1} → statement M
 put-lines-spec =
@@ -160,6 +173,8 @@ put-lines-spec =
     same-length-9
     returns
     put-part-requires
+    one-if-requires
+    add-total
     add-next
     add-line
     loop-less

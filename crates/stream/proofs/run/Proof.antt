@@ -48,6 +48,12 @@ sub-line c = c .before .before .before .before .before .before .before .before .
 enum-told : tie.Need-enum-told
 enum-told c = search needs
 
+slice-aggregate-tell-refused : tie.Need-slice-aggregate-tell-refused
+slice-aggregate-tell-refused c = search needs
+
+tell-refused-requires : tie.Need-tell-refused-requires
+tell-refused-requires c κs = search needs
+
 enum-told-2 : tie.Need-enum-told-2
 enum-told-2 c = search needs
 
@@ -99,6 +105,8 @@ run-spec =
     serve-requires
     sub-line
     enum-told
+    slice-aggregate-tell-refused
+    tell-refused-requires
     enum-told-2
     slice-aggregate-tell
     slice-aggregate-tell-2

@@ -8,11 +8,11 @@ use Rattle.stream.proofs.serve.Statement.{statement}
 use Rattle.stream.proofs.serve.Tie as tie
 
 abbrev Inv-loop : tie.InvT-loop
-Inv-loop room₀ hold₀ letters₀ sections₀ heads₀ parts₀ masses₀ scores₀ bytes₀ numbers₀ out₀ number₀ held₀ turns₀ room hold letters sections heads parts masses scores bytes numbers out number held turns =
-    Serves room₀ hold₀ (sheetOf letters₀ sections₀ heads₀ parts₀ masses₀ scores₀) bytes₀ numbers₀ out₀ room hold (sheetOf letters sections heads parts masses scores) bytes numbers out number held turns
+Inv-loop room₀ hold₀ letters₀ sections₀ heads₀ parts₀ masses₀ scores₀ bytes₀ numbers₀ out₀ number₀ refused₀ held₀ turns₀ room hold letters sections heads parts masses scores bytes numbers out number refused held turns =
+    Serves room₀ hold₀ (sheetOf letters₀ sections₀ heads₀ parts₀ masses₀ scores₀) bytes₀ numbers₀ out₀ room hold (sheetOf letters sections heads parts masses scores) bytes numbers out number refused held turns
 
 abbrev μ-loop : tie.MeasureT-loop
-μ-loop room₀ hold₀ letters₀ sections₀ heads₀ parts₀ masses₀ scores₀ bytes₀ numbers₀ out₀ number₀ held₀ turns₀ room hold letters sections heads parts masses scores bytes numbers out number held turns =
+μ-loop room₀ hold₀ letters₀ sections₀ heads₀ parts₀ masses₀ scores₀ bytes₀ numbers₀ out₀ number₀ refused₀ held₀ turns₀ room hold letters sections heads parts masses scores bytes numbers out number refused held turns =
     turns
 
 loop-holds : tie.Need-loop-holds Inv-loop μ-loop
@@ -25,7 +25,7 @@ turn-requires c κs =
     let t = c .before .before .before .before .before .before .before .before .before .before .before in
     let o = t .before in
     let w = o .loop .inv in
-    (w .room-fits, omega (arith, w .count, t .loop-test .taken), w .ready)
+    (w .room-fits, omega (arith, w .count, t .loop-test .taken), w .ready, w .few)
 
 same-length : tie.Need-same-length Inv-loop μ-loop
 same-length c = c .before .before .before .before .before .before .before .before .before .before .before .before .before .before .before .before .before .before .before .before .room .given ∙ c .before .before .before .before .before .before .before .before .before .before .before .before .before .before .before .before .before .before .before .before .before .before .before .before .before .before .before .before .before .before .before .before .before .before .loop .inv .room-long
@@ -64,7 +64,7 @@ returns : tie.Need-returns Inv-loop μ-loop
 returns c =
     let a = c .before .before .before .before .before .before .before .before .before .before .before .before .before .before .before .before .before .before .before .before .before in
     let o = a .before .before .before .before .before .before .before .before .before .before .before .before .before in
-    omega (arith, o .loop .inv .some, a .turn .ensures .grows)
+    omega (arith, o .loop .inv .few, a .turn .ensures .grows)
 
 sub-turns : tie.Need-sub-turns Inv-loop μ-loop
 sub-turns c = omega (arith, c .before .before .before .before .before .before .before .before .before .before .before .before .before .before .before .before .before .before .before .before .before .before .before .before .before .before .before .before .before .before .before .before .before .loop-test .taken)
@@ -133,7 +133,7 @@ same-length-22 : tie.Need-same-length-22 Inv-loop μ-loop
 same-length-22 c = c .before .loop .inv .out-long
 
 returns-2 : tie.Need-returns-2 Inv-loop μ-loop
-returns-2 c = c .before .loop .inv .some
+returns-2 c = omega (arith, c .before .loop .inv .few)
 
 pub serve-spec : {M : Type 1} → statement M
 serve-spec =

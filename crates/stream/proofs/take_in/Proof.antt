@@ -7,7 +7,7 @@ use Rattle.stream.proofs.take_in.Statement.{statement}
 use Rattle.stream.proofs.take_in.Tie as tie
 
 close-requires : tie.Need-close-requires
-close-requires c κs = c .before .before .before .before .before .before .before .before .before .before .before .before .before .before .before .before .before .before .before .pre .3
+close-requires c κs = let p = c .before .before .before .before .before .before .before .before .before .before .before .before .before .before .before .before .before .before .before .pre in (p .3, p .4)
 
 same-length : tie.Need-same-length
 same-length c = refl
@@ -49,7 +49,7 @@ drain-requires : tie.Need-drain-requires
 drain-requires c κs =
     let s = c .before .before .before .before .before .before .before .before .before .before .before .before .before .before .before .before .before .before .before .before in
     let p = s .pre in
-    (front-fits (s .args .n) (now (s .args .room)) (p .1), p .2, p .3)
+    (front-fits (s .args .n) (now (s .args .room)) (p .1), p .2, p .3, p .4)
 
 same-length-11 : tie.Need-same-length-11
 same-length-11 c = c .before .before .before .before .before .before .before .before .before .before .before .before .before .before .before .before .hold .given

@@ -18,7 +18,7 @@ take-in-requires c κs =
     let a = r .before in
     let s = a .before .before .before .before .before .before .before .before .before .before in
     let same = r .room .given in
-    (came-fits (g .got .given .1) (a .receive .ensures) same, omega (arith, s .pre .0, same), s .pre .1, s .pre .2)
+    (came-fits (g .got .given .1) (a .receive .ensures) same, omega (arith, s .pre .0, same), s .pre .1, s .pre .2, s .pre .3)
 
 enum-told : tie.Need-enum-told
 enum-told c = search needs

@@ -18,6 +18,7 @@ use Rattle.accepted_laws.specs.Laws.{accepted-short}
 use Rattle.reading_laws.specs.Bare.{same-canonical, same-total, same-lacking}
 use Rattle.canonical_laws.specs.Proved as canonicals
 use Rattle.reader.specs.ReadSays.{Stored}
+use Rattle.store.specs.Filled.{Fills}
 use Rattle.reader.proofs.Storing.{holds-of}
 use Rattle.entries.specs.Entry.{okFields, noFields, Known, Floats}
 

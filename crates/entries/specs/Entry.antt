@@ -6,9 +6,9 @@ use Prim.Native.Nat.{ℕ, _+_, _*_, _≤_}
 use lib.IntN.{ℤ}
 use lib.ListN.{length}
 use Rattle.scope.specs.Bytes.{bytes, question}
-use Rattle.scope.specs.Limits.{lineLimit, copyLimit}
+use Rattle.scope.specs.Limits.{lineLimit}
 use Rattle.scope.specs.Line.{Line}
-use Rattle.scope.specs.Refusals.{Outcome, accepted, refused}
+use Rattle.scope.specs.Refusals.{Outcome, accepted, refused, outcome}
 use Rattle.scope.specs.Canonical.{decimal, canonical}
 use Rattle.scope.specs.Layout.{tablesIn}
 use Rattle.scope.specs.Positions.{floaters}
@@ -28,12 +28,12 @@ abbrev pub isRefused : Outcome → Bool
 isRefused (accepted l) = false
 isRefused (refused number place) = true
 
--- the fields behind the number of an accepted line
-abbrev pub countFields : {P : Type 0} → Line P → List (List ℕ)
-countFields l = bytes "ok" ∷ decimal (length (l .residues)) ∷ decimal (length (l .brackets)) ∷ decimal (length (floaters l)) ∷ []
+-- the fields behind the number of an accepted line: how many residues, brackets and floaters it has, then its total and itself
+abbrev pub countFields : ℕ → ℕ → ℕ → List (List ℕ)
+countFields residues brackets many = bytes "ok" ∷ decimal residues ∷ decimal brackets ∷ decimal many ∷ []
 
-abbrev pub okFields : {P : Type 0} → Line P → List (List ℕ)
-okFields l = countFields l ++ (totalText l ∷ canonical l ∷ [])
+abbrev pub okFields : {P : Type 0} → ℕ → ℕ → ℕ → Line P → List (List ℕ)
+okFields residues brackets many l = countFields residues brackets many ++ (totalText l ∷ canonical l ∷ [])
 
 -- and of a refused one
 abbrev pub noFields : ℕ → ℕ → List (List ℕ)
@@ -84,8 +84,11 @@ entryLimit = decimalMost + (acceptedMost + 1)
 pub record Known (bs : List ℕ) (ns : List ℤ) : Type 0 where
   pub bounds : Bounds bs ns
   pub ordered : Ordered (tablesIn bs ns)
-  pub few : length (floaters (tablesIn bs ns)) ≤ copyLimit
   pub short : length (canonical (tablesIn bs ns)) ≤ lineLimit
+
+-- so many copies float, where the line is accepted
+abbrev pub Floats : List ℕ → ℕ → Type 0
+Floats s many = (l : Line ℕ) → outcome s ≡ accepted l → many ≡ length (floaters l)
 
 -- a text was put into the output, and the areas are as they were
 pub record Printed (most : ℕ) (o : List ℕ) (at : ℕ) (t left : List ℕ) (r : ℕ) (bytes : List ℕ) (numbers : List ℤ) (bytes′ : List ℕ) (numbers′ : List ℤ) : Type 0 where

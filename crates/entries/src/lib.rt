@@ -2,7 +2,6 @@
 // given back clean, and what the verdict has shown of the tables is not tried again.
 use masses::Weight;
 use masses::weigh;
-use positions::find_floaters;
 use reader::wipe;
 use scope::tables::Tables;
 use store::store;
@@ -20,7 +19,7 @@ ghost use Rattle.reader.specs.ReadSays.{Clean};
 ghost use Rattle.sheet.specs.Rows.{Roomy};
 ghost use Rattle.store.specs.Filled.{Fills};
 ghost use Rattle.writer.specs.Written.{Puts, ceiling};
-ghost use Rattle.entries.specs.Entry.{entry, fieldMost, weightMost, refusedMost, countsMost, totalMost, acceptedMost, tablesMost, entryLimit, countFields, okFields, noFields, weightText, isRefused, Known, Printed};
+ghost use Rattle.entries.specs.Entry.{entry, fieldMost, weightMost, refusedMost, countsMost, totalMost, acceptedMost, tablesMost, entryLimit, countFields, okFields, noFields, weightText, isRefused, Known, Floats, Printed};
 
 // "Byte 10 ends a line"
 pub const NEWLINE: u8 = 10;
@@ -82,20 +81,18 @@ fn put_refused(number: u8, place: usize, out: &mut [u8], at: usize) -> usize
 
 // ---- "ok, residues, brackets, floaters, total .., canonical line"
 
-fn put_counts(bytes: &[u8], numbers: &[i64], out: &mut [u8], at: usize) -> usize
-    requires { ⌜ Known (now bytes) (now numbers) × (at + countsMost ≤ ceiling) ⌝ }
-    ensures { λ r. ⌜ Puts countsMost (now (out .entry)) at (fields (countFields (tablesIn (now (bytes .entry)) (now (numbers .entry))))) (now (out .exit)) r ⌝ }
+// The word and the three numbers.
+fn put_counts(residues: usize, brackets: usize, floaters: usize, out: &mut [u8], at: usize) -> usize
+    requires { ⌜ at + countsMost ≤ ceiling ⌝ }
+    ensures { λ r. ⌜ Puts countsMost (now (out .entry)) at (fields (countFields residues brackets floaters)) (now (out .exit)) r ⌝ }
 {
-    let residues = areas::residues(bytes);
-    let brackets = areas::brackets(bytes);
-    let f = find_floaters(bytes, numbers);
-    let floaters = f.count;
     let a = writer::word(b" ok", out, at);
     let b = put_field(residues as u64, out, a);
     let c = put_field(brackets as u64, out, b);
     put_field(floaters as u64, out, c)
 }
 
+// The total of the tables.
 fn put_total(bytes: &[u8], numbers: &[i64], out: &mut [u8], at: usize) -> usize
     requires { ⌜ Known (now bytes) (now numbers) × (at + totalMost ≤ ceiling) ⌝ }
     ensures { λ r. ⌜ Puts totalMost (now (out .entry)) at (32 ∷ totalText (tablesIn (now (bytes .entry)) (now (numbers .entry)))) (now (out .exit)) r ⌝ }
@@ -105,18 +102,26 @@ fn put_total(bytes: &[u8], numbers: &[i64], out: &mut [u8], at: usize) -> usize
     put_weight(w, out, a)
 }
 
-// Of tables that are known to be those of an accepted line.
-fn put_accepted(bytes: &[u8], numbers: &[i64], out: &mut [u8], at: usize) -> usize
+// Of tables that are known to be those of an accepted line, and the three numbers.
+fn put_accepted(
+    bytes: &[u8],
+    numbers: &[i64],
+    residues: usize,
+    brackets: usize,
+    floaters: usize,
+    out: &mut [u8],
+    at: usize,
+) -> usize
     requires { ⌜ Known (now bytes) (now numbers) × (at + tablesMost ≤ ceiling) ⌝ }
-    ensures { λ r. ⌜ Puts acceptedMost (now (out .entry)) at (fields (okFields (tablesIn (now (bytes .entry)) (now (numbers .entry))))) (now (out .exit)) r ⌝ }
+    ensures { λ r. ⌜ Puts acceptedMost (now (out .entry)) at (fields (okFields residues brackets floaters (tablesIn (now (bytes .entry)) (now (numbers .entry))))) (now (out .exit)) r ⌝ }
 {
-    let a = put_counts(bytes, numbers, out, at);
+    let a = put_counts(residues, brackets, floaters, out, at);
     let b = put_total(bytes, numbers, out, a);
     let c = writer::put(out, b, b' ');
     writer::put_line(bytes, numbers, out, c)
 }
 
-// Of an accepted line that is noted in the sheet, by way of its tables.
+// Of an accepted line that is noted in the sheet and has so many floaters, by way of its tables.
 fn put_taken(
     line: &[u8],
     letters: &[u8],
@@ -127,12 +132,13 @@ fn put_taken(
     scores: &[i64],
     residues: usize,
     brackets: usize,
+    floaters: usize,
     bytes: &mut [u8],
     numbers: &mut [i64],
     out: &mut [u8],
     at: usize,
 ) -> usize
-    requires { ⌜ Fills (now line) (now letters) (now sections) (now heads) (now parts) (now masses) (now scores) residues brackets (now bytes) (now numbers) × (at + tablesMost ≤ ceiling) ⌝ }
+    requires { ⌜ Fills (now line) (now letters) (now sections) (now heads) (now parts) (now masses) (now scores) residues brackets (now bytes) (now numbers) × Floats (now line) floaters × (at + tablesMost ≤ ceiling) ⌝ }
     ensures { λ r. ⌜ Printed acceptedMost (now (out .entry)) at (report (outcome (now (line .entry)))) (now (out .exit)) r (now (bytes .entry)) (now (numbers .entry)) (now (bytes .exit)) (now (numbers .exit)) ⌝ }
 {
     store(
@@ -148,7 +154,7 @@ fn put_taken(
         bytes,
         numbers,
     );
-    let r = put_accepted(bytes, numbers, out, at);
+    let r = put_accepted(bytes, numbers, residues, brackets, floaters, out, at);
     wipe(line.len(), bytes, numbers);
     r
 }
@@ -180,7 +186,11 @@ fn put_report(
 {
     let judged = verdict::judge(line, letters, sections, heads, parts, masses, scores);
     match judged {
-        Judged::Holds { residues, brackets } => {
+        Judged::Holds {
+            residues,
+            brackets,
+            floaters,
+        } => {
             let next = put_taken(
                 line,
                 letters,
@@ -191,6 +201,7 @@ fn put_report(
                 scores,
                 residues,
                 brackets,
+                floaters,
                 bytes,
                 numbers,
                 out,

@@ -85,7 +85,11 @@ fn read_roomy(line: &[u8], bytes: &mut [u8], numbers: &mut [i64]) -> Read
     );
     match judged {
         Judged::Refused { number, place } => Read::Refused { number, place },
-        Judged::Holds { residues, brackets } => {
+        Judged::Holds {
+            residues,
+            brackets,
+            floaters: _,
+        } => {
             store_anew(
                 line,
                 &letters,

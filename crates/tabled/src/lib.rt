@@ -93,7 +93,11 @@ fn reads_to(line: &[u8], bytes: &[u8], numbers: &[i64]) -> bool
             number: _,
             place: _,
         } => false,
-        Judged::Holds { residues, brackets } => holds_tables_of(
+        Judged::Holds {
+            residues,
+            brackets,
+            floaters: _,
+        } => holds_tables_of(
             line,
             &letters,
             &sections,

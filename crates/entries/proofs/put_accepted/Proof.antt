@@ -34,7 +34,7 @@ returns c =
     let k = t .before .before .before .before in
     let s = k .before .before .before .before in
     let m = tablesIn (s .args .bytes .now) (s .args .numbers .now) in
-    puts-of (fields-append (countFields m) (totalText m ∷ canonical m ∷ []))
+    puts-of (fields-append (countFields (s .args .residues) (s .args .brackets) (s .args .floaters)) (totalText m ∷ canonical m ∷ []))
     (puts-join (k .put-counts .ensures)
     (field-then (t .put-total .ensures) _ (field-last (puts-join (p .put .ensures) (puts-exact {n = lineLimit} (s .pre .0 .short) (l .put-line .ensures))))))
 

@@ -4,7 +4,7 @@ use native.Mathlib.Omega.{arith}
 use Rattle.reader.proofs.Storing.{fills}
 use Rattle.writer.proofs.Storing.{puts-of, puts-within, puts-length}
 use Rattle.entries.specs.Entry.{isRefused}
-use Rattle.entries.proofs.Taken.{refused-text}
+use Rattle.entries.proofs.Taken.{refused-text, floats-of}
 use borrow.Author.Needs.{needs}
 use Rattle.entries.proofs.put_report.Statement.{statement}
 use Rattle.entries.proofs.put_report.Tie as tie
@@ -21,7 +21,7 @@ put-taken-requires c κs =
     let j = m .before .before .before .before .before .before .before .before .before .before .before .before in
     let s = j .before .before .before .before .before .before .before .before .before .before .before .before .before .before in
     let w = rw (m .judged .given .1) at (j .judge .ensures) in
-    (fills (w .1) (s .pre .1), omega arith)
+    (fills (w .1) (s .pre .1), floats-of (s .args .line .now) (w .1 .is-accepted) (w .2), omega arith)
 
 same-length : tie.Need-same-length
 same-length c = search needs

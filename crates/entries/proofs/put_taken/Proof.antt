@@ -46,7 +46,7 @@ returns c =
     let w = filled (p .store .ensures) in
     let same = put-back (lays f) w (k .wipe .ensures) in
     record {
-      puts = puts-of (taken-text (f .holds-line) (f .line-noted .is-accepted) w) (a .put-accepted .ensures);
+      puts = puts-of (taken-text f (s .pre .1) w) (a .put-accepted .ensures);
       out-long = puts-length (a .put-accepted .ensures);
       bytes-same = same .0;
       numbers-same = same .1;

@@ -54,7 +54,8 @@ holds-tables-of-requires : tie.Need-holds-tables-of-requires
 holds-tables-of-requires c κs =
     let m = c .before .before .before .before .before .before .before in
     let j = m .before .before .before .before .before .before .before .before in
-    (rw (m .judged .given .1) at (j .judge .ensures), search needs, search needs)
+    let w = rw (m .judged .given .1) at (j .judge .ensures) in
+    ((w .0, w .1), search needs, search needs)
 
 returns : tie.Need-returns
 returns c = let j = c .before .before .before .before .before .before .before .before in sym (read-refused _ (rw (c .enum-told .given .1) at (j .judge .ensures)) _ _)

@@ -1,16 +1,14 @@
 -- Laws of the loops: a chunk taken in line by line and handed over, the end of the input, turn upon turn. Assumes nothing.
 use mathlib.Core.Path.{_≡_, refl, sym, ap, _∙_, subst}
 use mathlib.Core.Bool.{Bool, true, false, cond, false≢true}
-use mathlib.Core.List.{List, [], _∷_, _++_, append-nil}
-use Prim.Native.Nat.{ℕ, suc, _+_, _-_, _*_, _<_, _≤_}
+use mathlib.Core.List.{List, [], _∷_, _++_}
+use Prim.Native.Nat.{ℕ, _+_, _-_, _*_, _<_, _≤_}
 use native.Mathlib.Omega.{arith}
-use borrow.Author.Tests.{eq-eqb, ne-eqb}
 use lib.Dec.{eqb}
 use native.Mathlib.Numerals.{add-one}
 use lib.IntN.{ℤ, pos}
 use lib.ListN.{length, take, drop, getD, replicate, length-append, length-take, length-replicate}
 use lib.Seq.{take-suc, take-add, take-all, take-append-seam, drop-append-seam, length-take-le}
-use Rattle.basics.specs.Choice.{took, passed}
 use Rattle.scope.specs.Canonical.{decimal}
 use Rattle.scope.specs.Limits.{residueLimit, bracketLimit}
 use Rattle.scope.specs.Layout.{bytesSize, numbersSize}
@@ -25,7 +23,7 @@ use Rattle.stream.specs.declared.End.the-variants.{Whole, Unread, Unwrit
 use Rattle.stream.specs.declared.Got.{Got}
 use Rattle.stream.specs.declared.Got.the-variants.{Came}
 use Rattle.stream.specs.Lines.{lineEnd, refusal}
-use Rattle.stream.specs.Feeding.{holdLimit, State, holding, kept, behind, ended, after, put, lastPut, finished, lastRefused, part}
+use Rattle.stream.specs.Feeding.{holdLimit, State, holding, kept, after, put, lastPut, lastRefused, part}
 use Rattle.stream.specs.Promises.{LineEnd, Cuts, numberLimit, readLimit, outputLimit, Lent, sheetOf, HasRoom, Ready, Fronts, Runs, Feeds, Owed, OwedLast, Received, lineEnds, noticeRoom, noticed, Drains, Closes, Turns}
 use Rattle.stream.specs.Laws.{after-append, put-append, after-line, put-line, after-few}
 use Rattle.stream.specs.Whole.{entry-front, refusal-front}

@@ -19,95 +19,99 @@ abbrev μ-loop : tie.MeasureT-loop
 loop-holds : tie.Need-loop-holds Inv-loop μ-loop
 loop-holds c = taken-start _ _ _ _ _ _ _ _ _ (c .before .before .before .before .before .before .before .before .pre .2)
 
+-- from behind a write back to behind `feed`, to the head of the loop, and to the start
+abbrev fed : tie.After-hand Inv-loop μ-loop → tie.After-feed Inv-loop μ-loop
+fed h = h .before .before .before .before .before .before .before .before .before .before .before .before .before .before .before .before .before .before .before .before
+
+abbrev turned : tie.After-hand Inv-loop μ-loop → tie.In-loop Inv-loop μ-loop
+turned h = fed h .before .before .before .before .before .before .before .before .before .before .before
+
+abbrev begun : tie.At-loop Inv-loop μ-loop → tie.Start Inv-loop μ-loop
+begun o = o .before .before .before .before .before .before .before .before .before
+
 feed-requires : tie.Need-feed-requires Inv-loop μ-loop
 feed-requires c κs =
     let o = c .before .before .before .before .before .before .before .before .before .before .before in
-    let s = o .before .before .before .before .before .before .before .before .before in
     let w = o .loop .inv in
-    let p = s .pre in
+    let p = begun o .pre in
     (w .inside, omega (arith, w .count, p .0, p .1), w .ready, stays-few _ _ (w .leaves) (p .3))
 
 hand-requires : tie.Need-hand-requires Inv-loop μ-loop
 hand-requires c κs = owed (c .before .before .before .before .before .before .before .before .before .before .before .before .before .before .before .before .before .before .before .feed .ensures .0)
 
 lines-in-requires : tie.Need-lines-in-requires Inv-loop μ-loop
-lines-in-requires c κs = omega (arith, c .before .if1 .taken, c .before .before .before .before .before .before .before .before .before .before .before .before .before .before .before .before .before .before .before .before .before .before .feed .ensures .0 .puts .fits)
+lines-in-requires c κs = let i = c .before in omega (arith, i .if1 .taken, fed (i .before) .feed .ensures .0 .puts .fits)
 
+-- where a write failed: the first line that is not out has a number, and what was taken can be counted
 add-t53 : tie.Need-add-t53 Inv-loop μ-loop
 add-t53 c =
     let i = c .before .before in
-    let a = i .before .before .before .before .before .before .before .before .before .before .before .before .before .before .before .before .before .before .before .before .before in
-    let t = a .before .before .before .before .before .before .before .before .before .before .before in
-    let o = t .before in
-    let s = o .before .before .before .before .before .before .before .before .before in
-    let w = o .loop .inv in
-    let f = a .feed .ensures in
-    omega (arith, w .low, w .count, w .inside, t .loop-test .taken, f .0 .puts .fits, f .1 .narrow, i .if1 .taken, c .lines-in .ensures .1, s .pre .0, s .pre .1)
+    let t = turned (i .before) in
+    let w = t .before .loop .inv in
+    let f = fed (i .before) .feed .ensures in
+    let p = begun (t .before) .pre in
+    omega (arith, w .count, w .inside, f .0 .puts .fits, f .1 .narrow, i .if1 .taken, c .lines-in .ensures .1, p .0, p .1)
 
 add-t54 : tie.Need-add-t54 Inv-loop μ-loop
 add-t54 c =
     let i = c .before .before in
-    let a = i .before .before .before .before .before .before .before .before .before .before .before .before .before .before .before .before .before .before .before .before .before in
-    let t = a .before .before .before .before .before .before .before .before .before .before .before in
-    let o = t .before in
-    let s = o .before .before .before .before .before .before .before .before .before in
-    let w = o .loop .inv in
-    let f = a .feed .ensures in
-    omega (arith, w .low, w .count, w .inside, t .loop-test .taken, f .0 .puts .fits, f .1 .narrow, i .if1 .taken, c .lines-in .ensures .1, s .pre .0, s .pre .1)
+    let t = turned (i .before) in
+    let w = t .before .loop .inv in
+    let f = fed (i .before) .feed .ensures in
+    omega (arith, w .low, t .loop-test .taken, f .0 .puts .fits, f .1 .narrow, i .if1 .taken, begun (t .before) .pre .0)
 
 same-length : tie.Need-same-length Inv-loop μ-loop
-same-length c = c .before .before .before .before .before .before .before .before .before .before .before .before .before .before .before .before .before .before .before .before .before .before .before .feed .ensures .1 .room ∙ sym (c .before .before .before .before .before .before .before .before .before .before .before .before .before .before .before .before .before .before .before .before .before .before .before .before .before .before .before .before .before .before .before .before .before .before .before .loop .inv .ready .room) ∙ c .before .before .before .before .before .before .before .before .before .before .before .before .before .before .before .before .before .before .before .before .before .before .before .before .before .before .before .before .before .before .before .before .before .before .before .loop .inv .hold-long
+same-length c =
+    let h = c .before .before .before in
+    let w = turned h .before .loop .inv in
+    fed h .feed .ensures .1 .room ∙ sym (w .ready .room) ∙ w .hold-long
 
 same-length-2 : tie.Need-same-length-2 Inv-loop μ-loop
-same-length-2 c = c .before .before .before .before .before .before .before .before .before .before .before .before .before .before .before .before .before .before .before .before .letters .given ∙ c .before .before .before .before .before .before .before .before .before .before .before .before .before .before .before .before .before .before .before .before .before .before .before .before .before .before .before .before .before .before .before .before .before .before .before .loop .inv .sheet-long .letters-long
+same-length-2 c = let h = c .before .before .before in h .before .before .before .before .before .before .before .before .before .before .before .before .before .before .before .before .before .letters .given ∙ turned h .before .loop .inv .sheet-long .letters-long
 
 same-length-3 : tie.Need-same-length-3 Inv-loop μ-loop
-same-length-3 c = c .before .before .before .before .before .before .before .before .before .before .before .before .before .before .before .before .before .before .sections .given ∙ c .before .before .before .before .before .before .before .before .before .before .before .before .before .before .before .before .before .before .before .before .before .before .before .before .before .before .before .before .before .before .before .before .before .before .before .loop .inv .sheet-long .sections-long
+same-length-3 c = let h = c .before .before .before in h .before .before .before .before .before .before .before .before .before .before .before .before .before .before .before .sections .given ∙ turned h .before .loop .inv .sheet-long .sections-long
 
 same-length-4 : tie.Need-same-length-4 Inv-loop μ-loop
-same-length-4 c = c .before .before .before .before .before .before .before .before .before .before .before .before .before .before .before .before .heads .given ∙ c .before .before .before .before .before .before .before .before .before .before .before .before .before .before .before .before .before .before .before .before .before .before .before .before .before .before .before .before .before .before .before .before .before .before .before .loop .inv .sheet-long .heads-long
+same-length-4 c = let h = c .before .before .before in h .before .before .before .before .before .before .before .before .before .before .before .before .before .heads .given ∙ turned h .before .loop .inv .sheet-long .heads-long
 
 same-length-5 : tie.Need-same-length-5 Inv-loop μ-loop
-same-length-5 c = c .before .before .before .before .before .before .before .before .before .before .before .before .before .before .parts .given ∙ c .before .before .before .before .before .before .before .before .before .before .before .before .before .before .before .before .before .before .before .before .before .before .before .before .before .before .before .before .before .before .before .before .before .before .before .loop .inv .sheet-long .parts-long
+same-length-5 c = let h = c .before .before .before in h .before .before .before .before .before .before .before .before .before .before .before .parts .given ∙ turned h .before .loop .inv .sheet-long .parts-long
 
 same-length-6 : tie.Need-same-length-6 Inv-loop μ-loop
-same-length-6 c = c .before .before .before .before .before .before .before .before .before .before .before .before .masses .given ∙ c .before .before .before .before .before .before .before .before .before .before .before .before .before .before .before .before .before .before .before .before .before .before .before .before .before .before .before .before .before .before .before .before .before .before .before .loop .inv .sheet-long .masses-long
+same-length-6 c = let h = c .before .before .before in h .before .before .before .before .before .before .before .before .before .masses .given ∙ turned h .before .loop .inv .sheet-long .masses-long
 
 same-length-7 : tie.Need-same-length-7 Inv-loop μ-loop
-same-length-7 c = c .before .before .before .before .before .before .before .before .before .before .before .scores .given ∙ c .before .before .before .before .before .before .before .before .before .before .before .before .before .before .before .before .before .before .before .before .before .before .before .before .before .before .before .before .before .before .before .before .before .before .before .loop .inv .sheet-long .scores-long
+same-length-7 c = let h = c .before .before .before in h .before .before .before .before .before .before .before .before .scores .given ∙ turned h .before .loop .inv .sheet-long .scores-long
 
 same-length-8 : tie.Need-same-length-8 Inv-loop μ-loop
-same-length-8 c = c .before .before .before .before .before .before .before .before .before .before .bytes .given ∙ c .before .before .before .before .before .before .before .before .before .before .before .before .before .before .before .before .before .before .before .before .before .before .before .before .before .before .before .before .before .before .before .before .before .before .before .loop .inv .bytes-long
+same-length-8 c = let h = c .before .before .before in h .before .before .before .before .before .before .before .bytes .given ∙ turned h .before .loop .inv .bytes-long
 
 same-length-9 : tie.Need-same-length-9 Inv-loop μ-loop
-same-length-9 c = c .before .before .before .before .before .before .before .before .numbers .given ∙ c .before .before .before .before .before .before .before .before .before .before .before .before .before .before .before .before .before .before .before .before .before .before .before .before .before .before .before .before .before .before .before .before .before .before .before .loop .inv .numbers-long
+same-length-9 c = let h = c .before .before .before in h .before .before .before .before .before .numbers .given ∙ turned h .before .loop .inv .numbers-long
 
 same-length-10 : tie.Need-same-length-10 Inv-loop μ-loop
-same-length-10 c = c .before .before .before .before .before .before .before .out .given ∙ c .before .before .before .before .before .before .before .before .before .before .before .before .before .before .before .before .before .before .before .before .before .before .before .before .before .before .before .before .before .before .before .before .before .before .before .loop .inv .out-long
+same-length-10 c = let h = c .before .before .before in h .before .before .before .before .out .given ∙ turned h .before .loop .inv .out-long
 
 returns : tie.Need-returns Inv-loop μ-loop
 returns c =
-    let f = c .before .before .before .before .before .before .before .before .before .before .before .before .before .before .before .before .before .before .before .before .before .before .before in
-    let o = f .before .before .before .before .before .before .before .before .before .before .before .before in
-    (drains-lost _ (o .loop .inv .grows), stays-ready (o .loop .inv .ready) (f .feed .ensures .1))
+    let h = c .before .before .before in
+    let w = turned h .before .loop .inv in
+    (drains-lost _ (w .grows), stays-ready (w .ready) (fed h .feed .ensures .1))
 
 add-sent : tie.Need-add-sent Inv-loop μ-loop
 add-sent c =
     let h = c .before in
-    let a = h .before .before .before .before .before .before .before .before .before .before .before .before .before .before .before .before .before .before .before .before in
-    let t = a .before .before .before .before .before .before .before .before .before .before .before in
-    let o = t .before in
-    let s = o .before .before .before .before .before .before .before .before .before in
-    let w = o .loop .inv in
-    let f = a .feed .ensures in
-    omega (arith, w .low, w .inside, t .loop-test .taken, f .0 .puts .fits, f .1 .narrow, h .hand .ensures, s .pre .0)
+    let t = turned h in
+    let w = t .before .loop .inv in
+    let f = fed h .feed .ensures in
+    omega (arith, w .low, t .loop-test .taken, f .0 .puts .fits, f .1 .narrow, h .hand .ensures, begun (t .before) .pre .0)
 
 loop-less : tie.Need-loop-less Inv-loop μ-loop
 loop-less c =
-    let a = c .before .before .before .before .before .before .before .before .before .before .before .before .before .before .before .before .before .before .before .before .before in
-    let t = a .before .before .before .before .before .before .before .before .before .before .before in
-    let f = a .feed .ensures .0 in
-    omega (arith, f .inside, f .goes (t .loop-test .taken))
+    let h = c .before in
+    let f = fed h .feed .ensures .0 in
+    omega (arith, f .inside, f .goes (turned h .loop-test .taken))
 
 loop-again : tie.Need-loop-again Inv-loop μ-loop
 loop-again c =
@@ -121,11 +125,9 @@ loop-again c =
     let h = p .before .before in
     let s = h .before .before in
     let l = s .before .before in
-    let a = l .before .before .before in
-    let t = a .before .before .before .before .before .before .before .before .before .before .before in
-    let o = t .before in
-    let f = a .feed .ensures in
-    taken-more _ _ _ _ _ _ _ _ _ (o .loop .inv) (t .loop-test .taken) (f .0) (f .1) (d .hand .ensures) (c .if1 .left)
+    let t = turned d in
+    let f = fed d .feed .ensures in
+    taken-more _ _ _ _ _ _ _ _ _ (t .before .loop .inv) (t .loop-test .taken) (f .0) (f .1) (d .hand .ensures) (c .if1 .left)
     (record {
       letters-long = l .letters .given;
       sections-long = s .sections .given;

@@ -78,35 +78,39 @@ put-lines-requires c κs =
       omega (arith, b .3, o .one-if .ensures .1),
     )
 
+-- from the end back to behind that entry
+abbrev entered : tie.After-slice-known20 → tie.After-one-if
+entered c = c .before .before .before .before .before .before .before .before .before .before .before .before .before .before .before .before .before .before .before .before .before .before .before .before .before
+
 same-length-2 : tie.Need-same-length-2
-same-length-2 c = c .before .before .before .before .before .before .before .before .before .before .before .before .before .before .before .before .before .before .before .before .before .before .before .before .before .before .before .before .before .before .before .before .before .before .before .before .before .before .before .before .before .before .before .before .before .before .before .before .before .before .before .before .before .before .before .hold .given
+same-length-2 c = line-ended (entered c) .before .before .before .hold .given
 
 same-length-3 : tie.Need-same-length-3
-same-length-3 c = c .before .before .before .before .before .before .before .before .before .before .before .before .before .before .letters2 .given ∙ c .before .before .before .before .before .before .before .before .before .before .before .before .before .before .before .before .before .before .before .before .before .before .before .before .before .before .before .before .before .before .before .before .before .before .before .before .before .before .before .before .letters .given
+same-length-3 c = c .before .before .before .before .before .before .before .before .before .before .before .before .before .before .letters2 .given ∙ entered c .before .before .before .before .before .before .before .before .before .before .before .before .before .before .before .letters .given
 
 same-length-4 : tie.Need-same-length-4
-same-length-4 c = c .before .before .before .before .before .before .before .before .before .before .before .before .sections2 .given ∙ c .before .before .before .before .before .before .before .before .before .before .before .before .before .before .before .before .before .before .before .before .before .before .before .before .before .before .before .before .before .before .before .before .before .before .before .before .before .before .sections .given
+same-length-4 c = c .before .before .before .before .before .before .before .before .before .before .before .before .sections2 .given ∙ entered c .before .before .before .before .before .before .before .before .before .before .before .before .before .sections .given
 
 same-length-5 : tie.Need-same-length-5
-same-length-5 c = c .before .before .before .before .before .before .before .before .before .before .heads2 .given ∙ c .before .before .before .before .before .before .before .before .before .before .before .before .before .before .before .before .before .before .before .before .before .before .before .before .before .before .before .before .before .before .before .before .before .before .before .before .heads .given
+same-length-5 c = c .before .before .before .before .before .before .before .before .before .before .heads2 .given ∙ entered c .before .before .before .before .before .before .before .before .before .before .before .heads .given
 
 same-length-6 : tie.Need-same-length-6
-same-length-6 c = c .before .before .before .before .before .before .before .before .parts2 .given ∙ c .before .before .before .before .before .before .before .before .before .before .before .before .before .before .before .before .before .before .before .before .before .before .before .before .before .before .before .before .before .before .before .before .before .before .parts .given
+same-length-6 c = c .before .before .before .before .before .before .before .before .parts2 .given ∙ entered c .before .before .before .before .before .before .before .before .before .parts .given
 
 same-length-7 : tie.Need-same-length-7
-same-length-7 c = c .before .before .before .before .before .before .masses2 .given ∙ c .before .before .before .before .before .before .before .before .before .before .before .before .before .before .before .before .before .before .before .before .before .before .before .before .before .before .before .before .before .before .before .before .masses .given
+same-length-7 c = c .before .before .before .before .before .before .masses2 .given ∙ entered c .before .before .before .before .before .before .before .masses .given
 
 same-length-8 : tie.Need-same-length-8
-same-length-8 c = c .before .before .before .before .before .scores2 .given ∙ c .before .before .before .before .before .before .before .before .before .before .before .before .before .before .before .before .before .before .before .before .before .before .before .before .before .before .before .before .before .before .before .scores .given
+same-length-8 c = c .before .before .before .before .before .scores2 .given ∙ entered c .before .before .before .before .before .before .scores .given
 
 same-length-9 : tie.Need-same-length-9
-same-length-9 c = c .before .before .before .before .bytes2 .given ∙ c .before .before .before .before .before .before .before .before .before .before .before .before .before .before .before .before .before .before .before .before .before .before .before .before .before .before .before .before .before .before .bytes .given
+same-length-9 c = c .before .before .before .before .bytes2 .given ∙ entered c .before .before .before .before .before .bytes .given
 
 same-length-10 : tie.Need-same-length-10
-same-length-10 c = c .before .before .numbers2 .given ∙ c .before .before .before .before .before .before .before .before .before .before .before .before .before .before .before .before .before .before .before .before .before .before .before .before .before .before .before .before .numbers .given
+same-length-10 c = c .before .before .numbers2 .given ∙ entered c .before .before .before .numbers .given
 
 same-length-11 : tie.Need-same-length-11
-same-length-11 c = c .before .out2 .given ∙ c .before .before .before .before .before .before .before .before .before .before .before .before .before .before .before .before .before .before .before .before .before .before .before .before .before .before .before .out .given
+same-length-11 c = c .before .out2 .given ∙ entered c .before .before .out .given
 
 returns-2 : tie.Need-returns-2
 returns-2 c =
@@ -117,7 +121,7 @@ returns-2 c =
     let s′ = h′ .before .before in
     let l′ = s′ .before .before in
     let r = l′ .before in
-    let o = r .before .before .before .before .before .before .before .before .before .before in
+    let o = entered c in
     let k = o .before .before .before .before .before .before in
     let m = k .before in
     let p = m .before .before in

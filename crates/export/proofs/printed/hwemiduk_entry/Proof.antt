@@ -59,7 +59,7 @@ returns : tie.Need-returns
 returns c =
     let h = c .before .before in
     let p = h .before .before .before .before .before .before .before .before .before .before .before .before .before in
-    fitted-so (put-text (p .put-entry .ensures .puts) (search needs)) (h .hand-out .ensures)
+    fitted-so (put-text (p .put-entry .ensures .0 .puts) (search needs)) (h .hand-out .ensures)
 
 pub hwemiduk-entry-spec : {M : Type 1} → statement M
 hwemiduk-entry-spec =

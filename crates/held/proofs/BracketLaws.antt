@@ -1,4 +1,4 @@
--- One bracket: what it has beside its parts, and these one by one. Then the loop over the brackets, each behind those before it.
+-- A bracket is what it has beside its parts, and its parts, which a loop looks at one by one.
 use mathlib.Core.Path.{_≡_, refl, sym, ap, subst, _∙_}
 use mathlib.Core.Bool.{Bool, _&&_}
 use mathlib.Core.List.{List, [], _∷_, map}

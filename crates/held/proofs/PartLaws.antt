@@ -1,4 +1,4 @@
--- One part: its row, its text, its label and its mass, told by a test of each. Then the loop over the parts of a bracket, each behind those before it.
+-- One part: its row, its text, its label and its mass, told by a test of each. Then parts in a row: the first, and those behind it.
 use mathlib.Core.Path.{_≡_, refl, sym, ap, subst}
 use mathlib.Core.Bool.{Bool, _&&_}
 use mathlib.Core.List.{List, [], _∷_, map}

@@ -14,7 +14,7 @@ use Rattle.basics.specs.Lists.{flat-nil, flat-cons}
 use Rattle.sheet.proofs.FieldLaws.{Among}
 use Rattle.held.specs.Tells.{Tells}
 use Rattle.held.specs.Held.{Held}
-use Rattle.held.proofs.Joins.{Joins, Left, left-more, left-end}
+use Rattle.held.proofs.Joins.{Joins, joins-pair, Left, left-more, left-end}
 use Rattle.held.proofs.Places.{at-joins}
 
 -- ---- three pieces, and three behind them
@@ -41,7 +41,7 @@ pub record Upto {X : Type 0} (H : ℕ → ℕ → List X → Type 0) (T : X → 
 
 module _ {X : Type 0} {H : ℕ → ℕ → List X → Type 0} {T : X → List ℕ} {t : ℕ} {xs : List X} {first : Bool} where
   pub upto-start : Upto H T t xs first 0 t first
-  upto-start = record { texts-left = refl; left = record { on = λ e h. (e, h); back = λ p. p } }
+  upto-start = record { texts-left = refl; left = joins-pair }
 
   module _ {i u : ℕ} {so : Bool} (w : Upto H T t xs first i u so) where
     module _ (x : Among xs i) where

@@ -16,7 +16,7 @@
  * may run at the same time, on areas of their own.
  *
  * Stack, in KiB, the most that is measured on lines and areas made to take much (tests/stack.c): hwemiduk_version, hwemiduk_limits and hwemiduk_first_row 1,
- * hwemiduk_verdict and hwemiduk_read 11, hwemiduk_ledger and hwemiduk_rows 29, every other call 25. Have 64 KiB free.
+ * hwemiduk_verdict and hwemiduk_read 11, hwemiduk_entry 25, hwemiduk_ledger and hwemiduk_rows 19, every other call 16. Have 64 KiB free.
  *
  * Link libhwemiduk.a or libhwemiduk.so.0 (`make`, `make install`; pkg-config hwemiduk). The number behind .so is raised when a struct here changes its form or its
  * size, when a size or a limit that a macro here names changes, when the tables lie otherwise in the areas, when a call changes its arguments, or when an answer's

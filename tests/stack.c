@@ -15,7 +15,7 @@ enum call { NOTHING, VERSION, LIMITS, VERDICT, READ, ENTRY, WRITE, RESIDUES, BRA
 static const char *const names[CALLS] = { "nothing", "version", "limits", "verdict", "read", "entry", "write", "residues", "brackets", "floaters", "floater_brackets", "total", "bracket_mass", "shown", "allowed", "next",
     "ledger", "rows", "first_row" };
 /* in KiB, as the header says */
-static const size_t said[CALLS] = { 0, 1, 1, 11, 11, 25, 25, 25, 25, 25, 25, 25, 25, 25, 25, 25, 29, 29, 1 };
+static const size_t said[CALLS] = { 0, 1, 1, 11, 11, 25, 16, 16, 16, 16, 16, 16, 16, 16, 16, 16, 19, 19, 1 };
 static size_t most[CALLS];
 
 static _Alignas(64) unsigned char stack[SIZE];

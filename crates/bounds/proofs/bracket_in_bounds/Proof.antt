@@ -5,12 +5,6 @@ use borrow.Author.Needs.{needs}
 use Rattle.bounds.proofs.bracket_in_bounds.Statement.{statement}
 use Rattle.bounds.proofs.bracket_in_bounds.Tie as tie
 
-place-in-bounds-requires : tie.Need-place-in-bounds-requires
-place-in-bounds-requires c κs = search needs
-
-head-in-bounds-requires : tie.Need-head-in-bounds-requires
-head-in-bounds-requires c κs = search needs
-
 parts-in-bounds-requires : tie.Need-parts-in-bounds-requires
 parts-in-bounds-requires c κs =
     (c .before .before .before .before .before .pre, yes _ (c .before .head-in-bounds .ensures) (c .if2 .taken) .few-parts)
@@ -31,9 +25,4 @@ pub bracket-in-bounds-spec : {M : Type 1} → statement M
 bracket-in-bounds-spec =
     tie.close
     (tie.spec
-    place-in-bounds-requires
-    head-in-bounds-requires
-    parts-in-bounds-requires
-    returns
-    returns-2
-    returns-3)
+    (λ c κs. search needs) (λ c κs. search needs) parts-in-bounds-requires returns returns-2 returns-3)

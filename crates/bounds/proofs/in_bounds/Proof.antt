@@ -4,24 +4,6 @@ use borrow.Author.Needs.{needs}
 use Rattle.bounds.proofs.in_bounds.Statement.{statement}
 use Rattle.bounds.proofs.in_bounds.Tie as tie
 
-residues-requires : tie.Need-residues-requires
-residues-requires c κs = search needs
-
-returns : tie.Need-returns
-returns c = search needs
-
-returns-2 : tie.Need-returns-2
-returns-2 c = search needs
-
-brackets-requires : tie.Need-brackets-requires
-brackets-requires c κs = search needs
-
-returns-3 : tie.Need-returns-3
-returns-3 c = search needs
-
-brackets-in-bounds-requires : tie.Need-brackets-in-bounds-requires
-brackets-in-bounds-requires c κs = search needs
-
 returns-4 : tie.Need-returns-4
 returns-4 c =
     let three = c .before in
@@ -34,10 +16,4 @@ pub in-bounds-spec : {M : Type 1} → statement M
 in-bounds-spec =
     tie.close
     (tie.spec
-    residues-requires
-    returns
-    returns-2
-    brackets-requires
-    returns-3
-    brackets-in-bounds-requires
-    returns-4)
+    (λ c κs. search needs) (λ c. search needs) (λ c. search needs) (λ c κs. search needs) (λ c. search needs) (λ c κs. search needs) returns-4)

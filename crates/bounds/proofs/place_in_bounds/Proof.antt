@@ -7,21 +7,6 @@ use borrow.Author.Needs.{needs}
 use Rattle.bounds.proofs.place_in_bounds.Statement.{statement}
 use Rattle.bounds.proofs.place_in_bounds.Tie as tie
 
-residues-requires : tie.Need-residues-requires
-residues-requires c κs = search needs
-
-add-end : tie.Need-add-end
-add-end c = search needs
-
-first-requires : tie.Need-first-requires
-first-requires c κs = search needs
-
-returns : tie.Need-returns
-returns c = search needs
-
-last-requires : tie.Need-last-requires
-last-requires c κs = search needs
-
 returns-2 : tie.Need-returns-2
 returns-2 c =
     let w = c .before .before in
@@ -31,4 +16,4 @@ returns-2 c =
 
 pub place-in-bounds-spec : {M : Type 1} → statement M
 place-in-bounds-spec =
-    tie.close (tie.spec residues-requires add-end first-requires returns last-requires returns-2)
+    tie.close (tie.spec (λ c κs. search needs) (λ c. search needs) (λ c κs. search needs) (λ c. search needs) (λ c κs. search needs) returns-2)

@@ -5,24 +5,9 @@ use borrow.Author.Needs.{needs}
 use Rattle.brackets.proofs.copies_of.Statement.{statement}
 use Rattle.brackets.proofs.copies_of.Tie as tie
 
-is-modification-requires : tie.Need-is-modification-requires
-is-modification-requires c κs = search needs
-
-is-labelled-requires : tie.Need-is-labelled-requires
-is-labelled-requires c κs = search needs
-
 returns : tie.Need-returns
 returns c ns =
     copies-labelled _ (c .before .before .before .is-modification .ensures ns) (c .before .before .if1 .taken) (c .before .is-labelled .ensures ns) (c .if2 .taken)
-
-kind-requires : tie.Need-kind-requires
-kind-requires c κs = search needs
-
-count-requires : tie.Need-count-requires
-count-requires c κs = search needs
-
-unlabelled-copies-requires : tie.Need-unlabelled-copies-requires
-unlabelled-copies-requires c κs = search needs
 
 returns-2 : tie.Need-returns-2
 returns-2 c ns =
@@ -35,11 +20,4 @@ pub copies-of-spec : {M : Type 1} → statement M
 copies-of-spec =
     tie.close
     (tie.spec
-    is-modification-requires
-    is-labelled-requires
-    returns
-    kind-requires
-    count-requires
-    unlabelled-copies-requires
-    returns-2
-    returns-3)
+    (λ c κs. search needs) (λ c κs. search needs) returns (λ c κs. search needs) (λ c κs. search needs) (λ c κs. search needs) returns-2 returns-3)

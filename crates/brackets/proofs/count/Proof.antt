@@ -4,11 +4,8 @@ use borrow.Author.Needs.{needs}
 use Rattle.brackets.proofs.count.Statement.{statement}
 use Rattle.brackets.proofs.count.Tie as tie
 
-count-requires : tie.Need-count-requires
-count-requires c κs = search needs
-
 returns : tie.Need-returns
 returns c = (count-is _ _ (c .count .ensures .0), c .count .ensures .1)
 
 pub count-spec : {M : Type 1} → statement M
-count-spec = tie.close (tie.spec count-requires returns)
+count-spec = tie.close (tie.spec (λ c κs. search needs) returns)

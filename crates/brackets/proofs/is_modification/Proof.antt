@@ -14,14 +14,8 @@ use Rattle.brackets.proofs.is_modification.Tie as tie
 abbrev at : tie.Start → List ℤ → Bracket (Unit {0})
 at c ns = bracketIn (now (c .args .bytes)) ns (c .args .k)
 
-only-info-requires : tie.Need-only-info-requires
-only-info-requires c κs = search needs
-
 returns : tie.Need-returns
 returns c ns = mod-info (at (c .before .before .before) ns) (c .before .only-info .ensures ns) (c .if1 .taken)
-
-is-referring-requires : tie.Need-is-referring-requires
-is-referring-requires c κs = search needs
 
 returns-2 : tie.Need-returns-2
 returns-2 c ns =
@@ -35,4 +29,4 @@ returns-3 c ns =
 
 pub is-modification-spec : {M : Type 1} → statement M
 is-modification-spec =
-    tie.close (tie.spec only-info-requires returns is-referring-requires returns-2 returns-3)
+    tie.close (tie.spec (λ c κs. search needs) returns (λ c κs. search needs) returns-2 returns-3)

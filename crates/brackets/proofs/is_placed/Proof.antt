@@ -4,21 +4,9 @@ use borrow.Author.Needs.{needs}
 use Rattle.brackets.proofs.is_placed.Statement.{statement}
 use Rattle.brackets.proofs.is_placed.Tie as tie
 
-is-modification-requires : tie.Need-is-modification-requires
-is-modification-requires c κs = search needs
-
-is-labelled-requires : tie.Need-is-labelled-requires
-is-labelled-requires c κs = search needs
-
 returns : tie.Need-returns
 returns c ns =
     placed-labelled _ (c .before .before .before .is-modification .ensures ns) (c .before .before .if1 .taken) (c .before .is-labelled .ensures ns) (c .if2 .taken)
-
-kind-requires : tie.Need-kind-requires
-kind-requires c κs = search needs
-
-on-one-position-requires : tie.Need-on-one-position-requires
-on-one-position-requires c κs = search needs
 
 returns-2 : tie.Need-returns-2
 returns-2 c ns =
@@ -31,10 +19,4 @@ pub is-placed-spec : {M : Type 1} → statement M
 is-placed-spec =
     tie.close
     (tie.spec
-    is-modification-requires
-    is-labelled-requires
-    returns
-    kind-requires
-    on-one-position-requires
-    returns-2
-    returns-3)
+    (λ c κs. search needs) (λ c κs. search needs) returns (λ c κs. search needs) (λ c κs. search needs) returns-2 returns-3)

@@ -5,14 +5,8 @@ use borrow.Author.Needs.{needs}
 use Rattle.brackets.proofs.is_referring.Statement.{statement}
 use Rattle.brackets.proofs.is_referring.Tie as tie
 
-parts-requires : tie.Need-parts-requires
-parts-requires c κs = search needs
-
 returns : tie.Need-returns
 returns c = no-part _ _ _ (c .before .parts .ensures .0) (c .if1 .taken)
-
-value-requires : tie.Need-value-requires
-value-requires c κs = search needs
 
 returns-2 : tie.Need-returns-2
 returns-2 c ns =
@@ -31,4 +25,4 @@ returns-4 c ns =
 
 pub is-referring-spec : {M : Type 1} → statement M
 is-referring-spec =
-    tie.close (tie.spec parts-requires returns value-requires returns-2 returns-3 returns-4)
+    tie.close (tie.spec (λ c κs. search needs) returns (λ c κs. search needs) returns-2 returns-3 returns-4)

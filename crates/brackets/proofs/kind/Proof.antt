@@ -6,15 +6,9 @@ use borrow.Author.Needs.{needs}
 use Rattle.brackets.proofs.kind.Statement.{statement}
 use Rattle.brackets.proofs.kind.Tie as tie
 
-kind-requires : tie.Need-kind-requires
-kind-requires c κs = search needs
-
-kind-of-requires : tie.Need-kind-of-requires
-kind-of-requires c κs = search needs
-
 returns : tie.Need-returns
 unfolding bracketIn
 returns c ns = c .kind-of .ensures ∙ ap kindIn (c .before .kind .ensures .0)
 
 pub kind-spec : {M : Type 1} → statement M
-kind-spec = tie.close (tie.spec kind-requires kind-of-requires returns)
+kind-spec = tie.close (tie.spec (λ c κs. search needs) (λ c κs. search needs) returns)

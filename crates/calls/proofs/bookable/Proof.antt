@@ -6,20 +6,11 @@ use borrow.Author.Needs.{needs}
 use Rattle.calls.proofs.bookable.Statement.{statement}
 use Rattle.calls.proofs.bookable.Tie as tie
 
-why-not-requires : tie.Need-why-not-requires
-why-not-requires c κs = search needs
-
 returns : tie.Need-returns
 returns c = refused-law _ _ (c .before .why-not .ensures) (c .if1 .taken) (λ t. bookable t (c .before .before .before .args .p .at))
 
 weigh-requires : tie.Need-weigh-requires
 weigh-requires c κs = (held (c .before .why-not .ensures) (c .if1 .left)) .bounds
-
-enum-known-w : tie.Need-enum-known-w
-enum-known-w c = search needs
-
-enum-known-w-2 : tie.Need-enum-known-w-2
-enum-known-w-2 c = search needs
 
 is-allowed-by-requires : tie.Need-is-allowed-by-requires
 is-allowed-by-requires c κs = let h = (held (c .before .before .before .before .before .why-not .ensures) (c .before .before .before .before .if1 .left)) in (h .bounds, h .few)
@@ -37,12 +28,4 @@ pub bookable-spec : {M : Type 1} → statement M
 bookable-spec =
     tie.close
     (tie.spec
-    why-not-requires
-    returns
-    weigh-requires
-    enum-known-w
-    enum-known-w-2
-    is-allowed-by-requires
-    returns-2
-    returns-3
-    returns-4)
+    (λ c κs. search needs) returns weigh-requires (λ c. search needs) (λ c. search needs) is-allowed-by-requires returns-2 returns-3 returns-4)

@@ -7,9 +7,6 @@ use borrow.Author.Needs.{needs}
 use Rattle.calls.proofs.bracket_count.Statement.{statement}
 use Rattle.calls.proofs.bracket_count.Tie as tie
 
-why-not-requires : tie.Need-why-not-requires
-why-not-requires c κs = search needs
-
 returns : tie.Need-returns
 returns c = refused-law _ _ (c .before .why-not .ensures) (c .if1 .taken) (λ t. good (bracketCount t))
 
@@ -20,4 +17,4 @@ returns-2 : tie.Need-returns-2
 returns-2 c = sym (answers (λ t. good (bracketCount t)) (held (c .before .before .why-not .ensures) (c .before .if1 .left)) ∙ ap good (brackets-many _ _ ∙ sym (c .brackets .ensures .0)))
 
 pub bracket-count-spec : {M : Type 1} → statement M
-bracket-count-spec = tie.close (tie.spec why-not-requires returns brackets-requires returns-2)
+bracket-count-spec = tie.close (tie.spec (λ c κs. search needs) returns brackets-requires returns-2)

@@ -12,9 +12,6 @@ use borrow.Author.Needs.{needs}
 use Rattle.calls.proofs.bracket_mass.Statement.{statement}
 use Rattle.calls.proofs.bracket_mass.Tie as tie
 
-why-not-requires : tie.Need-why-not-requires
-why-not-requires c κs = search needs
-
 returns : tie.Need-returns
 returns c = refused-law _ _ (c .before .why-not .ensures) (c .if1 .taken) (λ t. massAt t (c .before .before .before .args .k))
 
@@ -35,12 +32,6 @@ bracket-mass-requires : tie.Need-bracket-mass-requires
 bracket-mass-requires c κs =
     let h = held (c .before .before .before .before .why-not .ensures) (c .before .before .before .if1 .left) in
     record { bounds = h .bounds; inside = omega arith }
-
-enum-known-mass : tie.Need-enum-known-mass
-enum-known-mass c = search needs
-
-enum-told : tie.Need-enum-told
-enum-told c = search needs
 
 returns-3 : tie.Need-returns-3
 returns-3 c =
@@ -66,13 +57,5 @@ pub bracket-mass-spec : {M : Type 1} → statement M
 bracket-mass-spec =
     tie.close
     (tie.spec
-    why-not-requires
-    returns
-    brackets-requires
-    returns-2
-    count-requires
-    bracket-mass-requires
-    enum-known-mass
-    enum-told
-    returns-3
+    (λ c κs. search needs) returns brackets-requires returns-2 count-requires bracket-mass-requires (λ c. search needs) (λ c. search needs) returns-3
     returns-4)

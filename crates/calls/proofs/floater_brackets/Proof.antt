@@ -16,17 +16,11 @@ returns c = short-brackets _ _ _ _ (c .if1 .taken)
 returns-2 : tie.Need-returns-2
 returns-2 c = short-copies _ _ _ _ (c .before .if1 .left) (c .if2 .taken)
 
-why-not-requires : tie.Need-why-not-requires
-why-not-requires c κs = search needs
-
 returns-3 : tie.Need-returns-3
 returns-3 c = no-floaters _ _ _ _ (c .before .before .before .if1 .left) (c .before .before .if2 .left) (c .before .why-not .ensures) (c .if3 .taken)
 
 find-copies-requires : tie.Need-find-copies-requires
 find-copies-requires c κs = let h = held (c .before .why-not .ensures) (c .if3 .left) in (h .bounds, h .few)
-
-slice-aggregate-copy-bytes : tie.Need-slice-aggregate-copy-bytes
-slice-aggregate-copy-bytes c = search needs
 
 copy-bytes-requires : tie.Need-copy-bytes-requires
 copy-bytes-requires c κs =
@@ -35,21 +29,12 @@ copy-bytes-requires c κs =
     let long : length (found .find-copies .result .bracket) ≡ copyLimit = search needs in
     (omega (arith, few, long), omega (arith, few, found .before .before .before .before .if1 .left))
 
-slice-aggregate-copy-bytes-2 : tie.Need-slice-aggregate-copy-bytes-2
-slice-aggregate-copy-bytes-2 c = search needs
-
 copy-bytes-requires-2 : tie.Need-copy-bytes-requires-2
 copy-bytes-requires-2 c κs =
     let found = c .before .before .before .before .before .before .before .before .before in
     let few : found .find-copies .result .count ≤ copyLimit = found .find-copies .ensures .few in
     let long : length (found .find-copies .result .copy) ≡ copyLimit = search needs in
     (omega (arith, few, long), omega (arith, few, found .before .before .before .if2 .left))
-
-same-length : tie.Need-same-length
-same-length c = search needs
-
-same-length-2 : tie.Need-same-length-2
-same-length-2 c = search needs
 
 returns-4 : tie.Need-returns-4
 returns-4 c =
@@ -66,15 +51,5 @@ pub floater-brackets-spec : {M : Type 1} → statement M
 floater-brackets-spec =
     tie.close
     (tie.spec
-    returns
-    returns-2
-    why-not-requires
-    returns-3
-    find-copies-requires
-    slice-aggregate-copy-bytes
-    copy-bytes-requires
-    slice-aggregate-copy-bytes-2
-    copy-bytes-requires-2
-    same-length
-    same-length-2
-    returns-4)
+    returns returns-2 (λ c κs. search needs) returns-3 find-copies-requires (λ c. search needs) copy-bytes-requires (λ c. search needs)
+    copy-bytes-requires-2 (λ c. search needs) (λ c. search needs) returns-4)

@@ -6,9 +6,6 @@ use borrow.Author.Needs.{needs}
 use Rattle.calls.proofs.floater_count.Statement.{statement}
 use Rattle.calls.proofs.floater_count.Tie as tie
 
-why-not-requires : tie.Need-why-not-requires
-why-not-requires c κs = search needs
-
 returns : tie.Need-returns
 returns c = refused-law _ _ (c .before .why-not .ensures) (c .if1 .taken) (λ t. good (floaterCount t))
 
@@ -19,4 +16,4 @@ returns-2 : tie.Need-returns-2
 returns-2 c = sym (answers (λ t. good (floaterCount t)) (held (c .before .before .why-not .ensures) (c .before .if1 .left)) ∙ ap good (sym (c .find-floaters .ensures .many)))
 
 pub floater-count-spec : {M : Type 1} → statement M
-floater-count-spec = tie.close (tie.spec why-not-requires returns find-floaters-requires returns-2)
+floater-count-spec = tie.close (tie.spec (λ c κs. search needs) returns find-floaters-requires returns-2)

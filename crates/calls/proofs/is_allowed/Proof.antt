@@ -9,9 +9,6 @@ use borrow.Author.Needs.{needs}
 use Rattle.calls.proofs.is_allowed.Statement.{statement}
 use Rattle.calls.proofs.is_allowed.Tie as tie
 
-why-not-requires : tie.Need-why-not-requires
-why-not-requires c κs = search needs
-
 returns : tie.Need-returns
 returns c = refused-law _ _ (c .before .why-not .ensures) (c .if1 .taken) (λ t. cond (allowed (permittedPositions t) (c .before .before .before .args .p .at)) (good tt) (refuses 18 0))
 
@@ -26,4 +23,4 @@ returns-3 c = allowed-no _ _ (c .before .is-allowed-by .ensures) (c .if2 .left) 
 
 pub is-allowed-spec : {M : Type 1} → statement M
 is-allowed-spec =
-    tie.close (tie.spec why-not-requires returns is-allowed-by-requires returns-2 returns-3)
+    tie.close (tie.spec (λ c κs. search needs) returns is-allowed-by-requires returns-2 returns-3)

@@ -9,9 +9,6 @@ use borrow.Author.Needs.{needs}
 use Rattle.calls.proofs.next_placement.Statement.{statement}
 use Rattle.calls.proofs.next_placement.Tie as tie
 
-why-not-requires : tie.Need-why-not-requires
-why-not-requires c κs = search needs
-
 returns : tie.Need-returns
 returns c =
     let l = c .before .before .before .args .l in
@@ -28,4 +25,4 @@ returns-2 c =
     (m .says, m .listing-after)
 
 pub next-placement-spec : {M : Type 1} → statement M
-next-placement-spec = tie.close (tie.spec why-not-requires returns next-by-requires returns-2)
+next-placement-spec = tie.close (tie.spec (λ c κs. search needs) returns next-by-requires returns-2)

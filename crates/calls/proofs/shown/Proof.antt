@@ -14,26 +14,17 @@ use borrow.Author.Needs.{needs}
 use Rattle.calls.proofs.shown.Statement.{statement}
 use Rattle.calls.proofs.shown.Tie as tie
 
-why-not-requires : tie.Need-why-not-requires
-why-not-requires c κs = search needs
-
 returns : tie.Need-returns
 returns c = refused-law _ _ (c .before .why-not .ensures) (c .if1 .taken) (λ t. good (cond (eqb (lacking t) 0) (aMass (daltons (total t))) (lack (lacking t))))
 
 weigh-requires : tie.Need-weigh-requires
 weigh-requires c κs = held (c .before .why-not .ensures) (c .if1 .left) .bounds
 
-enum-known-w : tie.Need-enum-known-w
-enum-known-w c = search needs
-
 as-daltons-requires : tie.Need-as-daltons-requires
 as-daltons-requires c κs =
     let m = c .before .w .given .0 .0 in
     let read : toZ w64 (ofZ w64 m) ≡ m = search needs in
     subst (λ z. natAbs z < totalLimit) (sym read) (subst (λ z. natAbs z < totalLimit) (weight-total _ (c .before .before .before .weigh .ensures) (c .before .w .given .1)) ((held (c .before .before .before .before .before .why-not .ensures) (c .before .before .before .before .if1 .left)) .below))
-
-enum-known-w-2 : tie.Need-enum-known-w-2
-enum-known-w-2 c = search needs
 
 returns-2 : tie.Need-returns-2
 returns-2 c =
@@ -48,11 +39,4 @@ pub shown-spec : {M : Type 1} → statement M
 shown-spec =
     tie.close
     (tie.spec
-    why-not-requires
-    returns
-    weigh-requires
-    enum-known-w
-    as-daltons-requires
-    enum-known-w-2
-    returns-2
-    returns-3)
+    (λ c κs. search needs) returns weigh-requires (λ c. search needs) as-daltons-requires (λ c. search needs) returns-2 returns-3)

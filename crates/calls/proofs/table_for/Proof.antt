@@ -9,9 +9,6 @@ use Rattle.calls.proofs.table_for.Tie as tie
 returns : tie.Need-returns
 returns c = no-room (now (c .before .before .before .args .bytes)) (now (c .before .before .before .args .numbers)) (c .if1 .taken)
 
-why-not-requires : tie.Need-why-not-requires
-why-not-requires c κs = search needs
-
 returns-2 : tie.Need-returns-2
 returns-2 c = no-tables _ _ (c .before .before .if1 .left) (c .before .why-not .ensures) (c .if2 .taken)
 
@@ -21,9 +18,6 @@ find-floaters-requires c κs = let h = held (c .before .why-not .ensures) (c .if
 fill-table-requires : tie.Need-fill-table-requires
 fill-table-requires c κs = (held (c .before .before .before .why-not .ensures) (c .before .before .if2 .left) .bounds, c .before .find-floaters .ensures, c .before .before .before .before .before .before .before .pre)
 
-same-length : tie.Need-same-length
-same-length c = search needs
-
 returns-3 : tie.Need-returns-3
 returns-3 c = table-ready (c .before .before .before .before .before .before .before .if1 .left) (held (c .before .before .before .before .before .before .why-not .ensures) (c .before .before .before .before .before .if2 .left)) (c .before .before .before .before .before .before .before .before .before .before .pre) (c .before .before .before .before .find-floaters .ensures .few) (c .before .before .fill-table .ensures)
 
@@ -31,10 +25,4 @@ pub table-for-spec : {M : Type 1} → statement M
 table-for-spec =
     tie.close
     (tie.spec
-    returns
-    why-not-requires
-    returns-2
-    find-floaters-requires
-    fill-table-requires
-    same-length
-    returns-3)
+    returns (λ c κs. search needs) returns-2 find-floaters-requires fill-table-requires (λ c. search needs) returns-3)

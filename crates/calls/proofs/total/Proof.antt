@@ -9,20 +9,11 @@ use borrow.Author.Needs.{needs}
 use Rattle.calls.proofs.total.Statement.{statement}
 use Rattle.calls.proofs.total.Tie as tie
 
-why-not-requires : tie.Need-why-not-requires
-why-not-requires c κs = search needs
-
 returns : tie.Need-returns
 returns c = refused-law _ _ (c .before .why-not .ensures) (c .if1 .taken) (λ t. weighed t (total t))
 
 weigh-requires : tie.Need-weigh-requires
 weigh-requires c κs = held (c .before .why-not .ensures) (c .if1 .left) .bounds
-
-enum-known-w : tie.Need-enum-known-w
-enum-known-w c = search needs
-
-enum-known-w-2 : tie.Need-enum-known-w-2
-enum-known-w-2 c = search needs
 
 returns-2 : tie.Need-returns-2
 returns-2 c =
@@ -37,10 +28,4 @@ pub total-spec : {M : Type 1} → statement M
 total-spec =
     tie.close
     (tie.spec
-    why-not-requires
-    returns
-    weigh-requires
-    enum-known-w
-    enum-known-w-2
-    returns-2
-    returns-3)
+    (λ c κs. search needs) returns weigh-requires (λ c. search needs) (λ c. search needs) returns-2 returns-3)

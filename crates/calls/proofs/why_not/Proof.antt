@@ -7,9 +7,6 @@ use borrow.Author.Needs.{needs}
 use Rattle.calls.proofs.why_not.Statement.{statement}
 use Rattle.calls.proofs.why_not.Tie as tie
 
-too-short-requires : tie.Need-too-short-requires
-too-short-requires c κs = search needs
-
 returns : tie.Need-returns
 returns c = sym (tried-short _ _ (c .before .too-short .ensures) (c .if1 .taken))
 
@@ -26,4 +23,4 @@ returns-3 c =
 
 pub why-not-spec : {M : Type 1} → statement M
 why-not-spec =
-    tie.close (tie.spec too-short-requires returns are-tables-requires returns-2 returns-3)
+    tie.close (tie.spec (λ c κs. search needs) returns are-tables-requires returns-2 returns-3)

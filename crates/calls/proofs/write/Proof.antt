@@ -7,14 +7,8 @@ use borrow.Author.Needs.{needs}
 use Rattle.calls.proofs.write.Statement.{statement}
 use Rattle.calls.proofs.write.Tie as tie
 
-too-short-requires : tie.Need-too-short-requires
-too-short-requires c κs = search needs
-
 returns : tie.Need-returns
 returns c = short-13 _ _ _ (sym (c .before .too-short .ensures) ∙ c .if1 .taken)
-
-slice-aggregate-line-of : tie.Need-slice-aggregate-line-of
-slice-aggregate-line-of c = search needs
 
 line-of-requires : tie.Need-line-of-requires
 line-of-requires c κs = let r = roomy (now (c .before .before .before .before .before .args .bytes)) (now (c .before .before .before .before .before .args .numbers)) (c .before .before .too-short .ensures) (c .before .if1 .left) in (r .0, r .1, search needs)
@@ -25,14 +19,8 @@ returns-2 c = no-tables-14 _ _ _ (sym (c .before .before .before .before .before
 returns-3 : tie.Need-returns-3
 returns-3 c = no-room-15 _ _ _ (sym (c .before .before .before .before .before .before .too-short .ensures) ∙ c .before .before .before .before .before .if1 .left) (c .before .before .before .line-of .ensures) (c .before .if2 .left) (c .if3 .taken)
 
-slice-aggregate-copy-bytes : tie.Need-slice-aggregate-copy-bytes
-slice-aggregate-copy-bytes c = search needs
-
 copy-bytes-requires : tie.Need-copy-bytes-requires
 copy-bytes-requires c κs = let k = line-low _ _ (c .before .before .before .before .before .line-of .ensures) in search needs
-
-same-length : tie.Need-same-length
-same-length c = search needs
 
 returns-4 : tie.Need-returns-4
 returns-4 c =
@@ -42,13 +30,5 @@ pub write-spec : {M : Type 1} → statement M
 write-spec =
     tie.close
     (tie.spec
-    too-short-requires
-    returns
-    slice-aggregate-line-of
-    line-of-requires
-    returns-2
-    returns-3
-    slice-aggregate-copy-bytes
-    copy-bytes-requires
-    same-length
-    returns-4)
+    (λ c κs. search needs) returns (λ c. search needs) line-of-requires returns-2 returns-3 (λ c. search needs) copy-bytes-requires
+    (λ c. search needs) returns-4)

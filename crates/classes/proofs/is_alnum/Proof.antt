@@ -2,17 +2,11 @@ use borrow.Author.Needs.{needs}
 use Rattle.classes.proofs.is_alnum.Statement.{statement}
 use Rattle.classes.proofs.is_alnum.Tie as tie
 
-is-letter-requires : tie.Need-is-letter-requires
-is-letter-requires c κs = search needs
-
 returns : tie.Need-returns
 returns c = simp (← c .before .is-letter .ensures, c .if1 .taken)
-
-is-digit-requires : tie.Need-is-digit-requires
-is-digit-requires c κs = search needs
 
 returns-2 : tie.Need-returns-2
 returns-2 c = simp (← c .before .before .is-letter .ensures, c .before .if1 .left, ← c .is-digit .ensures)
 
 pub is-alnum-spec : {M : Type 1} → statement M
-is-alnum-spec = tie.close (tie.spec is-letter-requires returns is-digit-requires returns-2)
+is-alnum-spec = tie.close (tie.spec (λ c κs. search needs) returns (λ c κs. search needs) returns-2)

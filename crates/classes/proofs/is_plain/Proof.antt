@@ -4,12 +4,6 @@ use borrow.Author.Needs.{needs}
 use Rattle.classes.proofs.is_plain.Statement.{statement}
 use Rattle.classes.proofs.is_plain.Tie as tie
 
-is-printable-requires : tie.Need-is-printable-requires
-is-printable-requires c κs = search needs
-
-is-letter-requires : tie.Need-is-letter-requires
-is-letter-requires c κs = search needs
-
 returns : tie.Need-returns
 returns c = sym (letter-plain (c .before .before .args .b) (sym (c .before .is-letter .ensures) ∙ c .if1 .taken))
 
@@ -44,14 +38,4 @@ pub is-plain-spec : {M : Type 1} → statement M
 is-plain-spec =
     tie.close
     (tie.spec
-    is-letter-requires
-    returns
-    is-printable-requires
-    returns-2
-    returns-3
-    returns-4
-    returns-5
-    returns-6
-    returns-7
-    returns-8
-    returns-9)
+    (λ c κs. search needs) returns (λ c κs. search needs) returns-2 returns-3 returns-4 returns-5 returns-6 returns-7 returns-8 returns-9)

@@ -12,12 +12,9 @@ returns-2 : tie.Need-returns-2
 unfolding upper
 returns-2 c = simp (le-leb _ _ (c .before .if1 .left), lt-leb _ _ (c .if2 .taken))
 
-sub-result : tie.Need-sub-result
-sub-result c = search needs
-
 returns-3 : tie.Need-returns-3
 unfolding upper
 returns-3 c = simp (le-leb _ _ (c .before .if1 .left), le-leb _ _ (c .if2 .left))
 
 pub upper-spec : {M : Type 1} → statement M
-upper-spec = tie.close (tie.spec returns returns-2 sub-result returns-3)
+upper-spec = tie.close (tie.spec returns returns-2 (λ c. search needs) returns-3)

@@ -9,35 +9,11 @@ returns c =
     let p = c .before .before .pre in
     rule-empty _ _ _ (p .0) (p .1) (c .if1 .taken)
 
-shared-slice-read-upper : tie.Need-shared-slice-read-upper
-shared-slice-read-upper c = search needs
-
-upper-requires : tie.Need-upper-requires
-upper-requires c κs = search needs
-
 returns-2 : tie.Need-returns-2
 returns-2 c =
     let e1 = c .before .before .before in
     let p = e1 .before .before .pre in
     rule-elsewhere _ _ _ (p .0) (p .1) (e1 .if1 .left) (c .before .upper .ensures) (c .if2 .taken)
-
-sub-match : tie.Need-sub-match
-sub-match c = search needs
-
-is-short-rule-requires : tie.Need-is-short-rule-requires
-is-short-rule-requires c κs = search needs
-
-slice-aggregate-key-at : tie.Need-slice-aggregate-key-at
-slice-aggregate-key-at c = search needs
-
-key-at-requires : tie.Need-key-at-requires
-key-at-requires c κs = search needs
-
-slice-aggregate-key-at-2 : tie.Need-slice-aggregate-key-at-2
-slice-aggregate-key-at-2 c = search needs
-
-key-at-requires-2 : tie.Need-key-at-requires-2
-key-at-requires-2 c κs = search needs
 
 returns-3 : tie.Need-returns-3
 returns-3 c =
@@ -64,17 +40,5 @@ pub is-rule-spec : {M : Type 1} → statement M
 is-rule-spec =
     tie.close
     (tie.spec
-    returns
-    shared-slice-read-upper
-    upper-requires
-    returns-2
-    sub-match
-    is-short-rule-requires
-    slice-aggregate-key-at
-    key-at-requires
-    slice-aggregate-key-at-2
-    key-at-requires-2
-    returns-3
-    returns-4
-    returns-5
-    returns-6)
+    returns (λ c. search needs) (λ c κs. search needs) returns-2 (λ c. search needs) (λ c κs. search needs) (λ c. search needs) (λ c κs. search needs)
+    (λ c. search needs) (λ c κs. search needs) returns-3 returns-4 returns-5 returns-6)

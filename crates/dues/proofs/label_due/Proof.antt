@@ -4,24 +4,6 @@ use borrow.Author.Needs.{needs}
 use Rattle.dues.proofs.label_due.Statement.{statement}
 use Rattle.dues.proofs.label_due.Tie as tie
 
-is-link-requires : tie.Need-is-link-requires
-is-link-requires c κs = search needs
-
-due-if-requires : tie.Need-due-if-requires
-due-if-requires c κs = search needs
-
-add-due-if : tie.Need-add-due-if
-add-due-if c = search needs
-
-due-if-requires-2 : tie.Need-due-if-requires-2
-due-if-requires-2 c κs = search needs
-
-sub-due-if : tie.Need-sub-due-if
-sub-due-if c = search needs
-
-due-if-requires-3 : tie.Need-due-if-requires-3
-due-if-requires-3 c κs = search needs
-
 returns : tie.Need-returns
 returns c =
     let d = c .before .before .before in
@@ -31,10 +13,4 @@ pub label-due-spec : {M : Type 1} → statement M
 label-due-spec =
     tie.close
     (tie.spec
-    is-link-requires
-    due-if-requires
-    add-due-if
-    due-if-requires-2
-    sub-due-if
-    due-if-requires-3
-    returns)
+    (λ c κs. search needs) (λ c κs. search needs) (λ c. search needs) (λ c κs. search needs) (λ c. search needs) (λ c κs. search needs) returns)

@@ -19,21 +19,12 @@ sub-due-if c =
     let t = text-found (s .args .line .now) (s .args .at) (s .args .v) (p .0 .found) (p .0 .is-value) (p .1) in
     omega (arith, t .ordered)
 
-due-if-requires : tie.Need-due-if-requires
-due-if-requires c κs = search needs
-
-key-code-requires : tie.Need-key-code-requires
-key-code-requires c κs = search needs
-
 is-rule-requires : tie.Need-is-rule-requires
 is-rule-requires c κs =
     let s = c .before .before .before .before .before in
     let p = s .pre in
     let t = text-found (s .args .line .now) (s .args .at) (s .args .v) (p .0 .found) (p .0 .is-value) (p .1) in
     (t .ordered, t .inside)
-
-due-if-requires-2 : tie.Need-due-if-requires-2
-due-if-requires-2 c κs = search needs
 
 returns : tie.Need-returns
 returns c =
@@ -47,9 +38,6 @@ is-number-requires c κs =
     let p = s .pre in
     let t = text-found (s .args .line .now) (s .args .at) (s .args .v) (p .0 .found) (p .0 .is-value) (p .1) in
     (t .ordered, t .inside)
-
-due-if-requires-3 : tie.Need-due-if-requires-3
-due-if-requires-3 c κs = search needs
 
 returns-2 : tie.Need-returns-2
 returns-2 c =
@@ -67,14 +55,5 @@ pub text-due-spec : {M : Type 1} → statement M
 text-due-spec =
     tie.close
     (tie.spec
-    deep-due-requires
-    sub-due-if
-    due-if-requires
-    key-code-requires
-    is-rule-requires
-    due-if-requires-2
-    returns
-    is-number-requires
-    due-if-requires-3
-    returns-2
-    returns-3)
+    deep-due-requires sub-due-if (λ c κs. search needs) (λ c κs. search needs) is-rule-requires (λ c κs. search needs) returns is-number-requires
+    (λ c κs. search needs) returns-2 returns-3)

@@ -4,22 +4,10 @@ use borrow.Author.Needs.{needs}
 use Rattle.dues.proofs.value_due.Statement.{statement}
 use Rattle.dues.proofs.value_due.Tie as tie
 
-key-code-requires : tie.Need-key-code-requires
-key-code-requires c κs = search needs
-
-due-if-requires : tie.Need-due-if-requires
-due-if-requires c κs = search needs
-
-text-due-requires : tie.Need-text-due-requires
-text-due-requires c κs = search needs
-
 returns : tie.Need-returns
 returns c =
     let d = c .before .before .before in
     λ q g. with-text _ _ _ q g _ (d .before .key-code .ensures) (d .due-if .ensures) (c .before .if1 .taken) (c .text-due .ensures q g)
-
-due-if-requires-2 : tie.Need-due-if-requires-2
-due-if-requires-2 c κs = search needs
 
 returns-2 : tie.Need-returns-2
 returns-2 c =
@@ -31,9 +19,4 @@ pub value-due-spec : {M : Type 1} → statement M
 value-due-spec =
     tie.close
     (tie.spec
-    key-code-requires
-    due-if-requires
-    text-due-requires
-    returns
-    due-if-requires-2
-    returns-2)
+    (λ c κs. search needs) (λ c κs. search needs) (λ c κs. search needs) returns (λ c κs. search needs) returns-2)

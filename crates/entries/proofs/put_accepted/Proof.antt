@@ -11,21 +11,6 @@ use borrow.Author.Needs.{needs}
 use Rattle.entries.proofs.put_accepted.Statement.{statement}
 use Rattle.entries.proofs.put_accepted.Tie as tie
 
-put-counts-requires : tie.Need-put-counts-requires
-put-counts-requires c κs = search needs
-
-put-total-requires : tie.Need-put-total-requires
-put-total-requires c κs = search needs
-
-put-requires : tie.Need-put-requires
-put-requires c κs = search needs
-
-put-line-requires : tie.Need-put-line-requires
-put-line-requires c κs = search needs
-
-same-length : tie.Need-same-length
-same-length c = search needs
-
 returns : tie.Need-returns
 returns c =
     let l = c .before .before in
@@ -42,9 +27,4 @@ pub put-accepted-spec : {M : Type 1} → statement M
 put-accepted-spec =
     tie.close
     (tie.spec
-    put-counts-requires
-    put-total-requires
-    put-requires
-    put-line-requires
-    same-length
-    returns)
+    (λ c κs. search needs) (λ c κs. search needs) (λ c κs. search needs) (λ c κs. search needs) (λ c. search needs) returns)

@@ -9,12 +9,6 @@ use borrow.Author.Needs.{needs}
 use Rattle.entries.proofs.put_report.Statement.{statement}
 use Rattle.entries.proofs.put_report.Tie as tie
 
-judge-requires : tie.Need-judge-requires
-judge-requires c κs = search needs
-
-enum-known-judged : tie.Need-enum-known-judged
-enum-known-judged c = search needs
-
 put-taken-requires : tie.Need-put-taken-requires
 put-taken-requires c κs =
     let m = c .before .before .before .before .before .before .before .before .before .before in
@@ -23,33 +17,6 @@ put-taken-requires c κs =
     let w = rw (m .judged .given .1) at (j .judge .ensures) in
     (fills (w .1) (s .pre .1), floats-of (s .args .line .now) (w .1 .is-accepted) (w .2), omega arith)
 
-same-length : tie.Need-same-length
-same-length c = search needs
-
-same-length-2 : tie.Need-same-length-2
-same-length-2 c = search needs
-
-same-length-3 : tie.Need-same-length-3
-same-length-3 c = search needs
-
-same-length-4 : tie.Need-same-length-4
-same-length-4 c = search needs
-
-same-length-5 : tie.Need-same-length-5
-same-length-5 c = search needs
-
-same-length-6 : tie.Need-same-length-6
-same-length-6 c = search needs
-
-same-length-7 : tie.Need-same-length-7
-same-length-7 c = search needs
-
-same-length-8 : tie.Need-same-length-8
-same-length-8 c = search needs
-
-same-length-9 : tie.Need-same-length-9
-same-length-9 c = search needs
-
 returns : tie.Need-returns
 returns c =
     let t = c .before .before .before .before .before in
@@ -57,33 +24,6 @@ returns c =
     let j = m .before .before .before .before .before .before .before .before .before .before .before .before in
     let w = rw (m .judged .given .1) at (j .judge .ensures) in
     (t .put-taken .ensures, ap isRefused (sym (w .1 .is-accepted)))
-
-enum-known-judged-2 : tie.Need-enum-known-judged-2
-enum-known-judged-2 c = search needs
-
-put-refused-requires : tie.Need-put-refused-requires
-put-refused-requires c κs = search needs
-
-same-length-10 : tie.Need-same-length-10
-same-length-10 c = search needs
-
-same-length-11 : tie.Need-same-length-11
-same-length-11 c = search needs
-
-same-length-12 : tie.Need-same-length-12
-same-length-12 c = search needs
-
-same-length-13 : tie.Need-same-length-13
-same-length-13 c = search needs
-
-same-length-14 : tie.Need-same-length-14
-same-length-14 c = search needs
-
-same-length-15 : tie.Need-same-length-15
-same-length-15 c = search needs
-
-same-length-16 : tie.Need-same-length-16
-same-length-16 c = search needs
 
 returns-2 : tie.Need-returns-2
 returns-2 c =
@@ -105,26 +45,7 @@ pub put-report-spec : {M : Type 1} → statement M
 put-report-spec =
     tie.close
     (tie.spec
-    judge-requires
-    enum-known-judged
-    put-taken-requires
-    same-length
-    same-length-2
-    same-length-3
-    same-length-4
-    same-length-5
-    same-length-6
-    same-length-7
-    same-length-8
-    same-length-9
-    returns
-    enum-known-judged-2
-    put-refused-requires
-    same-length-10
-    same-length-11
-    same-length-12
-    same-length-13
-    same-length-14
-    same-length-15
-    same-length-16
-    returns-2)
+    (λ c κs. search needs) (λ c. search needs) put-taken-requires (λ c. search needs) (λ c. search needs) (λ c. search needs) (λ c. search needs)
+    (λ c. search needs) (λ c. search needs) (λ c. search needs) (λ c. search needs) (λ c. search needs) returns (λ c. search needs)
+    (λ c κs. search needs) (λ c. search needs) (λ c. search needs) (λ c. search needs) (λ c. search needs) (λ c. search needs) (λ c. search needs)
+    (λ c. search needs) returns-2)

@@ -9,9 +9,6 @@ use borrow.Author.Needs.{needs}
 use Rattle.entries.proofs.put_taken.Statement.{statement}
 use Rattle.entries.proofs.put_taken.Tie as tie
 
-store-requires : tie.Need-store-requires
-store-requires c κs = search needs
-
 put-accepted-requires : tie.Need-put-accepted-requires
 put-accepted-requires c κs =
     let p = c .before .before .before .before .before .before in
@@ -26,15 +23,6 @@ wipe-requires c κs =
     let s = p .before .before .before .before .before .before .before .before .before .before in
     let f = s .pre .0 in
     record { text = s .args .line .now; long = refl; held = f .holds-line; holds = holds-of (f .holds-line) (f .line-noted .is-accepted) (filled (p .store .ensures)) }
-
-same-length : tie.Need-same-length
-same-length c = search needs
-
-same-length-2 : tie.Need-same-length-2
-same-length-2 c = search needs
-
-same-length-3 : tie.Need-same-length-3
-same-length-3 c = search needs
 
 returns : tie.Need-returns
 returns c =
@@ -56,10 +44,4 @@ pub put-taken-spec : {M : Type 1} → statement M
 put-taken-spec =
     tie.close
     (tie.spec
-    store-requires
-    put-accepted-requires
-    wipe-requires
-    same-length
-    same-length-2
-    same-length-3
-    returns)
+    (λ c κs. search needs) put-accepted-requires wipe-requires (λ c. search needs) (λ c. search needs) (λ c. search needs) returns)

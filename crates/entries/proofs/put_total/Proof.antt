@@ -7,18 +7,6 @@ use borrow.Author.Needs.{needs}
 use Rattle.entries.proofs.put_total.Statement.{statement}
 use Rattle.entries.proofs.put_total.Tie as tie
 
-weigh-requires : tie.Need-weigh-requires
-weigh-requires c κs = search needs
-
-put-requires : tie.Need-put-requires
-put-requires c κs = search needs
-
-put-weight-requires : tie.Need-put-weight-requires
-put-weight-requires c κs = search needs
-
-same-length : tie.Need-same-length
-same-length c = search needs
-
 returns : tie.Need-returns
 returns c =
     let d = c .before .before in
@@ -27,4 +15,4 @@ returns c =
 
 pub put-total-spec : {M : Type 1} → statement M
 put-total-spec =
-    tie.close (tie.spec weigh-requires put-requires put-weight-requires same-length returns)
+    tie.close (tie.spec (λ c κs. search needs) (λ c κs. search needs) (λ c κs. search needs) (λ c. search needs) returns)

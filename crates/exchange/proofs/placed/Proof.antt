@@ -42,11 +42,4 @@ pub placed-spec : {M : Type 1} → statement M
 placed-spec =
     tie.close
     (tie.spec
-    owner-requires
-    returns
-    mul-w
-    element-write-w
-    add-augment
-    augment-requires
-    returns-2
-    returns-3)
+    owner-requires returns mul-w element-write-w add-augment augment-requires returns-2 returns-3)

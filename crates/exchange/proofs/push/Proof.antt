@@ -43,12 +43,6 @@ mul-s c = let g = c .before .before .before .pre .0 in omega (arith, few g, g .i
 element-copy-out-s : tie.Need-element-copy-out-s
 element-copy-out-s c = let g = c .before .before .before .pre .0 in omega (arith, few g, g .inside)
 
-mul-x : tie.Need-mul-x
-mul-x c = search needs
-
-element-copy-out-x : tie.Need-element-copy-out-x
-element-copy-out-x c = search needs
-
 may-requires : tie.Need-may-requires
 may-requires c κs = let s = c .before .before .before .before .before in
     let g = s .pre .0 in
@@ -84,17 +78,5 @@ pub push-spec : {M : Type 1} → statement M
 push-spec =
     tie.close
     (tie.spec
-    listed-requires
-    returns
-    mul-s
-    element-copy-out-s
-    mul-x
-    element-copy-out-x
-    may-requires
-    mul-g
-    element-write-g
-    mul-g-2
-    element-write-g-2
-    add-g
-    returns-2
-    returns-3)
+    listed-requires returns mul-s element-copy-out-s (λ c. search needs) (λ c. search needs) may-requires mul-g element-write-g mul-g-2
+    element-write-g-2 add-g returns-2 returns-3)

@@ -7,15 +7,9 @@ use Rattle.exchange.proofs.stands.Tie as tie
 returns : tie.Need-returns
 returns c = λ n e. n (c .if1 .taken)
 
-mul-result : tie.Need-mul-result
-mul-result c = search needs
-
-element-copy-out-result : tie.Need-element-copy-out-result
-element-copy-out-result c = search needs
-
 returns-2 : tie.Need-returns-2
 returns-2 c =
     stands-law (c .before .before .args .t1 .at) (c .before .before .args .but) (c .before .before .args .x) (c .before .before .args .t) (c .before .if1 .left)
 
 pub stands-spec : {M : Type 1} → statement M
-stands-spec = tie.close (tie.spec returns mul-result element-copy-out-result returns-2)
+stands-spec = tie.close (tie.spec returns (λ c. search needs) (λ c. search needs) returns-2)

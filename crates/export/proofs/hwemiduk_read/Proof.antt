@@ -4,18 +4,6 @@ use borrow.Author.Needs.{needs}
 use Rattle.export.proofs.hwemiduk_read.Statement.{statement}
 use Rattle.export.proofs.hwemiduk_read.Tie as tie
 
-read-requires : tie.Need-read-requires
-read-requires c κs = search needs
-
-tell-read-requires : tie.Need-tell-read-requires
-tell-read-requires c κs = search needs
-
-same-length : tie.Need-same-length
-same-length c = search needs
-
-same-length-2 : tie.Need-same-length-2
-same-length-2 c = search needs
-
 returns : tie.Need-returns
 returns c =
     let r = c .before .before .before .before .before .read .ensures in
@@ -23,4 +11,4 @@ returns c =
 
 pub hwemiduk-read-spec : {M : Type 1} → statement M
 hwemiduk-read-spec =
-    tie.close (tie.spec read-requires tell-read-requires same-length same-length-2 returns)
+    tie.close (tie.spec (λ c κs. search needs) (λ c κs. search needs) (λ c. search needs) (λ c. search needs) returns)

@@ -7,33 +7,6 @@ use Rattle.held.proofs.FieldLaws.{fields-told}
 use Rattle.held.proofs.fields_held.Statement.{statement}
 use Rattle.held.proofs.fields_held.Tie as tie
 
-value-requires : tie.Need-value-requires
-value-requires c κs = search needs
-
-value-of-requires : tie.Need-value-of-requires
-value-of-requires c κs = search needs
-
-key-requires : tie.Need-key-requires
-key-requires c κs = search needs
-
-key-of-requires : tie.Need-key-of-requires
-key-of-requires c κs = search needs
-
-decimals-requires : tie.Need-decimals-requires
-decimals-requires c κs = search needs
-
-decimals-of-requires : tie.Need-decimals-of-requires
-decimals-of-requires c κs = search needs
-
-text-length-requires : tie.Need-text-length-requires
-text-length-requires c κs = search needs
-
-label-length-requires : tie.Need-label-length-requires
-label-length-requires c κs = search needs
-
-offset-requires : tie.Need-offset-requires
-offset-requires c κs = search needs
-
 returns : tie.Need-returns
 returns c =
     let offsets = c in
@@ -57,13 +30,5 @@ pub fields-held-spec : {M : Type 1} → statement M
 fields-held-spec =
     tie.close
     (tie.spec
-    value-requires
-    value-of-requires
-    key-requires
-    key-of-requires
-    decimals-requires
-    decimals-of-requires
-    text-length-requires
-    label-length-requires
-    offset-requires
-    returns)
+    (λ c κs. search needs) (λ c κs. search needs) (λ c κs. search needs) (λ c κs. search needs) (λ c κs. search needs) (λ c κs. search needs)
+    (λ c κs. search needs) (λ c κs. search needs) (λ c κs. search needs) returns)

@@ -6,48 +6,6 @@ use borrow.Author.Needs.{needs}
 use Rattle.held.proofs.frame_held.Statement.{statement}
 use Rattle.held.proofs.frame_held.Tie as tie
 
-sub-lacking : tie.Need-sub-lacking
-sub-lacking c = search needs
-
-mul-behind : tie.Need-mul-behind
-mul-behind c = search needs
-
-add-behind : tie.Need-add-behind
-add-behind c = search needs
-
-add-behind-2 : tie.Need-add-behind-2
-add-behind-2 c = search needs
-
-mul-behind-2 : tie.Need-mul-behind-2
-mul-behind-2 c = search needs
-
-add-behind-3 : tie.Need-add-behind-3
-add-behind-3 c = search needs
-
-head-held-requires : tie.Need-head-held-requires
-head-held-requires c κs = search needs
-
-mul-zero-bytes : tie.Need-mul-zero-bytes
-mul-zero-bytes c = search needs
-
-zero-bytes-requires : tie.Need-zero-bytes-requires
-zero-bytes-requires c κs = search needs
-
-mul-zero-numbers : tie.Need-mul-zero-numbers
-mul-zero-numbers c = search needs
-
-add-zero-numbers : tie.Need-add-zero-numbers
-add-zero-numbers c = search needs
-
-zero-numbers-requires : tie.Need-zero-numbers-requires
-zero-numbers-requires c κs = search needs
-
-score-number-requires : tie.Need-score-number-requires
-score-number-requires c κs = search needs
-
-is-number-requires : tie.Need-is-number-requires
-is-number-requires c κs = search needs
-
 returns : tie.Need-returns
 returns c =
     let zeros = c .before .before in
@@ -60,18 +18,6 @@ pub frame-held-spec : {M : Type 1} → statement M
 frame-held-spec =
     tie.close
     (tie.spec
-    sub-lacking
-    mul-behind
-    add-behind
-    add-behind-2
-    mul-behind-2
-    add-behind-3
-    head-held-requires
-    mul-zero-bytes
-    zero-bytes-requires
-    mul-zero-numbers
-    add-zero-numbers
-    zero-numbers-requires
-    score-number-requires
-    is-number-requires
-    returns)
+    (λ c. search needs) (λ c. search needs) (λ c. search needs) (λ c. search needs) (λ c. search needs) (λ c. search needs) (λ c κs. search needs)
+    (λ c. search needs) (λ c κs. search needs) (λ c. search needs) (λ c. search needs) (λ c κs. search needs) (λ c κs. search needs)
+    (λ c κs. search needs) returns)

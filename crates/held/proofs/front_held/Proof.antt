@@ -7,18 +7,6 @@ use borrow.Author.Needs.{needs}
 use Rattle.held.proofs.front_held.Statement.{statement}
 use Rattle.held.proofs.front_held.Tie as tie
 
-residues-requires : tie.Need-residues-requires
-residues-requires c κs = search needs
-
-brackets-requires : tie.Need-brackets-requires
-brackets-requires c κs = search needs
-
-padded-held-requires : tie.Need-padded-held-requires
-padded-held-requires c κs = search needs
-
-padded-held-requires-2 : tie.Need-padded-held-requires-2
-padded-held-requires-2 c κs = search needs
-
 returns : tie.Need-returns
 returns c =
     let counts = c .before .before in
@@ -35,8 +23,4 @@ pub front-held-spec : {M : Type 1} → statement M
 front-held-spec =
     tie.close
     (tie.spec
-    residues-requires
-    brackets-requires
-    padded-held-requires
-    padded-held-requires-2
-    returns)
+    (λ c κs. search needs) (λ c κs. search needs) (λ c κs. search needs) (λ c κs. search needs) returns)

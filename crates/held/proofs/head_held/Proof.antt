@@ -6,42 +6,6 @@ use Rattle.held.proofs.FieldLaws.{head-told}
 use Rattle.held.proofs.head_held.Statement.{statement}
 use Rattle.held.proofs.head_held.Tie as tie
 
-kind-requires : tie.Need-kind-requires
-kind-requires c κs = search needs
-
-kind-of-requires : tie.Need-kind-of-requires
-kind-of-requires c κs = search needs
-
-first-requires : tie.Need-first-requires
-first-requires c κs = search needs
-
-first-of-requires : tie.Need-first-of-requires
-first-of-requires c κs = search needs
-
-last-requires : tie.Need-last-requires
-last-requires c κs = search needs
-
-last-of-requires : tie.Need-last-of-requires
-last-of-requires c κs = search needs
-
-count-requires : tie.Need-count-requires
-count-requires c κs = search needs
-
-count-of-requires : tie.Need-count-of-requires
-count-of-requires c κs = search needs
-
-parts-requires : tie.Need-parts-requires
-parts-requires c κs = search needs
-
-parts-of-requires : tie.Need-parts-of-requires
-parts-of-requires c κs = search needs
-
-score-requires : tie.Need-score-requires
-score-requires c κs = search needs
-
-score-of-requires : tie.Need-score-of-requires
-score-of-requires c κs = search needs
-
 returns : tie.Need-returns
 returns c =
     let scores = c in
@@ -64,16 +28,5 @@ pub head-held-spec : {M : Type 1} → statement M
 head-held-spec =
     tie.close
     (tie.spec
-    kind-requires
-    kind-of-requires
-    first-requires
-    first-of-requires
-    last-requires
-    last-of-requires
-    count-requires
-    count-of-requires
-    parts-requires
-    parts-of-requires
-    score-requires
-    score-of-requires
-    returns)
+    (λ c κs. search needs) (λ c κs. search needs) (λ c κs. search needs) (λ c κs. search needs) (λ c κs. search needs) (λ c κs. search needs)
+    (λ c κs. search needs) (λ c κs. search needs) (λ c κs. search needs) (λ c κs. search needs) (λ c κs. search needs) (λ c κs. search needs) returns)

@@ -11,12 +11,6 @@ use Rattle.held.proofs.Joins.{tells-whole}
 use Rattle.held.proofs.is_number.Statement.{statement}
 use Rattle.held.proofs.is_number.Tie as tie
 
-mul-result : tie.Need-mul-result
-mul-result c = search needs
-
-shared-slice-copy-out-result : tie.Need-shared-slice-copy-out-result
-shared-slice-copy-out-result c = search needs
-
 returns : tie.Need-returns
 returns c =
     let s = c .before in
@@ -25,4 +19,4 @@ returns c =
     tells-whole (s .args .x) y (toZ-ofZ w64 (s .args .x) (s .fits .x)) read
 
 pub is-number-spec : {M : Type 1} → statement M
-is-number-spec = tie.close (tie.spec mul-result shared-slice-copy-out-result returns)
+is-number-spec = tie.close (tie.spec (λ c. search needs) (λ c. search needs) returns)

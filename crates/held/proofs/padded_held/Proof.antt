@@ -12,18 +12,6 @@ use borrow.Author.Needs.{needs}
 use Rattle.held.proofs.padded_held.Statement.{statement}
 use Rattle.held.proofs.padded_held.Tie as tie
 
-same-bytes-requires : tie.Need-same-bytes-requires
-same-bytes-requires c κs = search needs
-
-add-zero-bytes : tie.Need-add-zero-bytes
-add-zero-bytes c = search needs
-
-sub-zero-bytes : tie.Need-sub-zero-bytes
-sub-zero-bytes c = search needs
-
-zero-bytes-requires : tie.Need-zero-bytes-requires
-zero-bytes-requires c κs = search needs
-
 returns : tie.Need-returns
 returns c =
     let start = c .before .before .before .before in
@@ -36,4 +24,4 @@ returns c =
 pub padded-held-spec : {M : Type 1} → statement M
 padded-held-spec =
     tie.close
-    (tie.spec same-bytes-requires add-zero-bytes sub-zero-bytes zero-bytes-requires returns)
+    (tie.spec (λ c κs. search needs) (λ c. search needs) (λ c. search needs) (λ c κs. search needs) returns)

@@ -9,12 +9,6 @@ use Rattle.inside.proofs.behind.Lts as lts
 returns : tie.Need-returns
 returns c = behind-end _ _ _ _ _ (c .if1 .taken)
 
-shared-slice-read-b : tie.Need-shared-slice-read-b
-shared-slice-read-b c = search needs
-
-add-t11 : tie.Need-add-t11
-add-t11 c = search needs
-
 returns-2 : tie.Need-returns-2
 returns-2 c = byte-shuts _ _ _ _ _ (c .before .before .if1 .left) (c .if2 .taken)
 
@@ -24,13 +18,10 @@ returns-3 c = byte-other _ _ _ _ _ (c .before .before .before .if1 .left) (c .be
 returns-4 : tie.Need-returns-4
 returns-4 c = byte-refused _ _ _ _ _ (c .before .before .before .before .if1 .left) (c .before .before .if2 .left) (c .if4 .taken)
 
-add-t7 : tie.Need-add-t7
-add-t7 c = search needs
-
 returns-5 : tie.Need-returns-5
 returns-5 c = byte-splits _ _ _ _ _ (c .before .before .before .before .if1 .left) (c .before .before .if2 .left) (c .before .if3 .left) (c .if4 .left)
 
 pub behind-spec : {M : Type 1} → statement M
 behind-spec =
     tie.close
-    (tie.spec returns shared-slice-read-b add-t11 returns-2 returns-3 returns-4 add-t7 returns-5)
+    (tie.spec returns (λ c. search needs) (λ c. search needs) returns-2 returns-3 returns-4 (λ c. search needs) returns-5)

@@ -12,8 +12,5 @@ use Rattle.inside.proofs.has_room.Lts as lts
 returns : tie.Need-returns
 returns c = sym (ap (λ z. z && ltb (c .before .args .count) partLimit) (c .if1 .taken))
 
-returns-2 : tie.Need-returns-2
-returns-2 c = search needs
-
 pub has-room-spec : {M : Type 1} → statement M
-has-room-spec = tie.close (tie.spec returns returns-2)
+has-room-spec = tie.close (tie.spec returns (λ c. search needs))

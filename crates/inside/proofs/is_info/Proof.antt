@@ -6,14 +6,8 @@ use Rattle.inside.proofs.is_info.Reads as reads
 use Rattle.inside.proofs.is_info.Lts as lts
 use Rattle.keywords.proofs.key_code.Reads as key-code-reads
 
-key-code-requires : tie.Need-key-code-requires
-key-code-requires c κs = search needs
-
-key-code-requires-2 : tie.Need-key-code-requires-2
-key-code-requires-2 c κs = search needs
-
 returns : tie.Need-returns
 returns c = rw (c .before .key-code .ensures, c .key-code2 .ensures)
 
 pub is-info-spec : {M : Type 1} → statement M
-is-info-spec = tie.close (tie.spec key-code-requires key-code-requires-2 returns)
+is-info-spec = tie.close (tie.spec (λ c κs. search needs) (λ c κs. search needs) returns)

@@ -6,18 +6,6 @@ use borrow.Author.Needs.{needs}
 use Rattle.inside.proofs.labelled.Statement.{statement}
 use Rattle.inside.proofs.labelled.Tie as tie
 
-add-label-at : tie.Need-add-label-at
-add-label-at c = search needs
-
-label-at-requires : tie.Need-label-at-requires
-label-at-requires c κs = search needs
-
-enum-known-found : tie.Need-enum-known-found
-enum-known-found c = search needs
-
-enum-known-found-2 : tie.Need-enum-known-found-2
-enum-known-found-2 c = search needs
-
 store-label-requires : tie.Need-store-label-requires
 store-label-requires c κs = let n = c .before .before .before .before in
     let s = n .before .before .before in
@@ -31,19 +19,10 @@ label-due-requires c κs = let f = c .before .before .before .before .before in
     let s = n .before .before .before in
     label-found _ _ _ _ _ (s .args .s) _ (s .pre) _ (a-label _ _ _ _ (n .label-at .ensures (omega (arith, s .pre .within))) (f .found2 .given .1))
 
-with-label-requires : tie.Need-with-label-requires
-with-label-requires c κs = search needs
-
-behind-requires : tie.Need-behind-requires
-behind-requires c κs = search needs
-
 returns : tie.Need-returns
 returns c = let n = c .before .before .before in
     let s = n .before .before .before in
     λ o before q masses a. no-label _ o _ _ _ _ _ _ (s .args .s) before q _ masses a (s .pre .within) _ _ (n .label-at .ensures (omega (arith, s .pre .within))) (c .before .found .given .1)
-
-same-length : tie.Need-same-length
-same-length c = search needs
 
 returns-2 : tie.Need-returns-2
 returns-2 c = let t = c .before in
@@ -60,14 +39,5 @@ pub labelled-spec : {M : Type 1} → statement M
 labelled-spec =
     tie.close
     (tie.spec
-    add-label-at
-    label-at-requires
-    enum-known-found
-    enum-known-found-2
-    store-label-requires
-    label-due-requires
-    with-label-requires
-    behind-requires
-    returns
-    same-length
-    returns-2)
+    (λ c. search needs) (λ c κs. search needs) (λ c. search needs) (λ c. search needs) store-label-requires label-due-requires (λ c κs. search needs)
+    (λ c κs. search needs) returns (λ c. search needs) returns-2)

@@ -8,24 +8,6 @@ use borrow.Author.Needs.{needs}
 use Rattle.inside.proofs.next_part.Statement.{statement}
 use Rattle.inside.proofs.next_part.Tie as tie
 
-may-refer-requires : tie.Need-may-refer-requires
-may-refer-requires c κs = search needs
-
-value-at-requires : tie.Need-value-at-requires
-value-at-requires c κs = search needs
-
-enum-known-found : tie.Need-enum-known-found
-enum-known-found c = search needs
-
-enum-known-found-2 : tie.Need-enum-known-found-2
-enum-known-found-2 c = search needs
-
-has-room-requires : tie.Need-has-room-requires
-has-room-requires c κs = search needs
-
-add-m : tie.Need-add-m
-add-m c = search needs
-
 store-part-requires : tie.Need-store-part-requires
 store-part-requires c κs = let h = c .before .before .before in
     let f = h .before .before in
@@ -42,18 +24,9 @@ value-due-requires c κs = let f = c .before .before .before .before .before .be
     let r = a-value _ _ _ _ _ (n .value-at .ensures (s .pre .within)) (f .found2 .given .1) in
     value-found _ _ _ _ (r .is-value) (s .pre .short)
 
-due-if-requires : tie.Need-due-if-requires
-due-if-requires c κs = search needs
-
 with-value-requires : tie.Need-with-value-requires
 with-value-requires c κs = let s = c .before .before .before .before .before .before .before .before .before .before .before .before .before .before .before .before .before .before in
     omega (arith, s .pre .few, s .pre .within, s .pre .short)
-
-is-reference-requires : tie.Need-is-reference-requires
-is-reference-requires c κs = search needs
-
-has-label-requires : tie.Need-has-label-requires
-has-label-requires c κs = search needs
 
 labelled-requires : tie.Need-labelled-requires
 labelled-requires c κs = let w = c .before .before .before .before in
@@ -67,12 +40,6 @@ labelled-requires c κs = let w = c .before .before .before .before in
     let s = m .before .before .before in
     let r = a-value _ _ _ _ _ (n .value-at .ensures (s .pre .within)) (f .found2 .given .1) in
     label-asked _ _ _ _ _ _ (s .args .s) _ _ (s .pre) _ _ (r .is-value) _ _ _ _ _ _ (h .has-room .ensures) refl (c .before .before .has-label .ensures) (c .before .if1 .taken) (w .with-value .ensures) (p .store-part .kept .0)
-
-same-length : tie.Need-same-length
-same-length c = search needs
-
-same-length-2 : tie.Need-same-length-2
-same-length-2 c = search needs
 
 returns : tie.Need-returns
 returns c = let e = c .before .before .before .before in
@@ -93,20 +60,11 @@ returns c = let e = c .before .before .before .before in
     (value-read _ _ _ (s .args .s) _ _ z _ (m .may-refer .ensures) (s .pre .with-labels) _ r _ _ _ _ _ _ _ (h .has-room .ensures) refl (stored-fits _ _ _ _ _ _ (s .args .s) _ _ (s .pre) _ (h .has-room .ensures)) (s .pre .parts-room) (s .pre .masses-room) (p .store-part .ensures .0) (p .store-part .ensures .1) (u .value-due .ensures) (d .due-if .ensures) (w .with-value .ensures))
     (h .has-room .ensures) refl (b .has-label .ensures) (e .if1 .taken) (b .before .is-reference .ensures ∙ value-refers _ _ _ _ (r .is-value)))
 
-behind-requires : tie.Need-behind-requires
-behind-requires c κs = search needs
-
 returns-2 : tie.Need-returns-2
 returns-2 c = let n = c .before .before .before in
     let m = n .before in
     let s = m .before .before .before in
     λ from least old masses₀ z. no-value _ _ _ (s .args .s) _ _ z _ (m .may-refer .ensures) (s .pre .with-labels) _ _ (n .value-at .ensures (s .pre .within)) (c .before .found .given .1)
-
-same-length-3 : tie.Need-same-length-3
-same-length-3 c = search needs
-
-same-length-4 : tie.Need-same-length-4
-same-length-4 c = search needs
 
 returns-3 : tie.Need-returns-3
 returns-3 c = let b = c .before .before in
@@ -131,24 +89,6 @@ pub next-part-spec : {M : Type 1} → statement M
 next-part-spec =
     tie.close
     (tie.spec
-    may-refer-requires
-    value-at-requires
-    enum-known-found
-    enum-known-found-2
-    has-room-requires
-    add-m
-    store-part-requires
-    value-due-requires
-    due-if-requires
-    with-value-requires
-    is-reference-requires
-    has-label-requires
-    labelled-requires
-    same-length
-    same-length-2
-    returns
-    behind-requires
-    returns-2
-    same-length-3
-    same-length-4
-    returns-3)
+    (λ c κs. search needs) (λ c κs. search needs) (λ c. search needs) (λ c. search needs) (λ c κs. search needs) (λ c. search needs)
+    store-part-requires value-due-requires (λ c κs. search needs) with-value-requires (λ c κs. search needs) (λ c κs. search needs) labelled-requires
+    (λ c. search needs) (λ c. search needs) returns (λ c κs. search needs) returns-2 (λ c. search needs) (λ c. search needs) returns-3)

@@ -11,15 +11,9 @@ use Rattle.sheet.proofs.put_label.Reads as put-label-reads
 put-label-requires : tie.Need-put-label-requires
 put-label-requires c κs = let p = c .before .before .before .pre in (p .0, p .1 (c .before .if1 .taken), p .2, p .3)
 
-same-length : tie.Need-same-length
-same-length c = search needs
-
 returns : tie.Need-returns
 returns c = let s = c .before .before .before .before .before .before in
     c .before .before .put-label .ensures ∙ sym (pick-true (s .args .stored) _ (s .args .parts .now) (c .before .before .before .before .if1 .taken))
 
-returns-2 : tie.Need-returns-2
-returns-2 c = search needs
-
 pub store-label-spec : {M : Type 1} → statement M
-store-label-spec = tie.close (tie.spec put-label-requires same-length returns returns-2)
+store-label-spec = tie.close (tie.spec put-label-requires (λ c. search needs) returns (λ c. search needs))

@@ -14,18 +14,6 @@ use Rattle.inside.proofs.value_code.Reads as value-code-reads
 use Rattle.keywords.proofs.key_code.Reads as key-code-reads
 use Rattle.sheet.proofs.put_part.Reads as put-part-reads
 
-value-code-requires : tie.Need-value-code-requires
-value-code-requires c κs = search needs
-
-key-code-requires : tie.Need-key-code-requires
-key-code-requires c κs = search needs
-
-text-place-requires : tie.Need-text-place-requires
-text-place-requires c κs = search needs
-
-text-place-requires-2 : tie.Need-text-place-requires-2
-text-place-requires-2 c κs = search needs
-
 put-part-requires : tie.Need-put-part-requires
 put-part-requires c κs = let s = c .before .before .before .before .before .before .before .before in
     (s .pre .0, s .pre .2 (c .before .before .before .before .before .before .if1 .taken), place-fits (s .args .v .code) (s .args .v .from) (c .before .text-place .ensures) (s .pre .3), place-fits (s .args .v .code) (s .args .v .to) (c .text-place2 .ensures) (s .pre .4))
@@ -38,12 +26,6 @@ slice-set-from-mass : tie.Need-slice-set-from-mass
 slice-set-from-mass c = let t = c .before .before .before .before .before .before .before .before .before in
     let h = t .before .before .pre .2 (t .if1 .taken) in
     let r = t .before .before .pre .1 in omega arith
-
-same-length : tie.Need-same-length
-same-length c = search needs
-
-same-length-2 : tie.Need-same-length-2
-same-length-2 c = search needs
 
 returns : tie.Need-returns
 returns c = let p = c .before .before in
@@ -61,14 +43,5 @@ pub store-part-spec : {M : Type 1} → statement M
 store-part-spec =
     tie.close
     (tie.spec
-    value-code-requires
-    key-code-requires
-    text-place-requires
-    text-place-requires-2
-    put-part-requires
-    mul-mass
-    slice-set-from-mass
-    same-length
-    same-length-2
-    returns
-    returns-2)
+    (λ c κs. search needs) (λ c κs. search needs) (λ c κs. search needs) (λ c κs. search needs) put-part-requires mul-mass slice-set-from-mass
+    (λ c. search needs) (λ c. search needs) returns returns-2)

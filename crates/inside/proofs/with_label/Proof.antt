@@ -11,19 +11,10 @@ use Rattle.inside.proofs.with_label.Lts as lts
 use Rattle.inside.proofs.points_after.Reads as points-after-reads
 use Rattle.inside.proofs.score_after.Reads as score-after-reads
 
-add-t4 : tie.Need-add-t4
-add-t4 c = search needs
-
-score-after-requires : tie.Need-score-after-requires
-score-after-requires c κs = search needs
-
-points-after-requires : tie.Need-points-after-requires
-points-after-requires c κs = search needs
-
 returns : tie.Need-returns
 returns c = let s = c .before .before .before .before .before in
     label-counted (s .args .s) (s .args .l) (s .args .least) (c .before .before .before .score-after .ensures)
     (back _ (c .points-after .ok) (c .points-after .ensures ∙ ap₂ (λ x y. cond (eqb (s .args .s .score) 0) x y) (back _ (c .before .struct-told2 .given .1 .1 .1 .0 .1) refl) (back _ (c .before .before .struct-told .given .1 .1 .1 .1 .1 .0 .1) refl)))
 
 pub with-label-spec : {M : Type 1} → statement M
-with-label-spec = tie.close (tie.spec add-t4 score-after-requires points-after-requires returns)
+with-label-spec = tie.close (tie.spec (λ c. search needs) (λ c κs. search needs) (λ c κs. search needs) returns)

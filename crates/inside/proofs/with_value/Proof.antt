@@ -11,21 +11,6 @@ use Rattle.inside.proofs.first_refers.Reads as first-refers-reads
 use Rattle.inside.proofs.is_info.Reads as is-info-reads
 use Rattle.inside.proofs.is_reference.Reads as is-reference-reads
 
-add-t5 : tie.Need-add-t5
-add-t5 c = search needs
-
-is-info-requires : tie.Need-is-info-requires
-is-info-requires c κs = search needs
-
-both-of-requires : tie.Need-both-of-requires
-both-of-requires c κs = search needs
-
-is-reference-requires : tie.Need-is-reference-requires
-is-reference-requires c κs = search needs
-
-first-refers-requires : tie.Need-first-refers-requires
-first-refers-requires c κs = search needs
-
 returns : tie.Need-returns
 returns c = let i = c .before .before .before .before in
     let s = i .before .before in
@@ -36,9 +21,4 @@ pub with-value-spec : {M : Type 1} → statement M
 with-value-spec =
     tie.close
     (tie.spec
-    add-t5
-    is-info-requires
-    both-of-requires
-    is-reference-requires
-    first-refers-requires
-    returns)
+    (λ c. search needs) (λ c κs. search needs) (λ c κs. search needs) (λ c κs. search needs) (λ c κs. search needs) returns)

@@ -5,33 +5,6 @@ use borrow.Author.Needs.{needs}
 use Rattle.keywords.proofs.key_in.Statement.{statement}
 use Rattle.keywords.proofs.key_in.Tie as tie
 
-sub-match : tie.Need-sub-match
-sub-match c = search needs
-
-shared-slice-read-of-one : tie.Need-shared-slice-read-of-one
-shared-slice-read-of-one c = search needs
-
-of-one-requires : tie.Need-of-one-requires
-of-one-requires c κs = search needs
-
-of-three-requires : tie.Need-of-three-requires
-of-three-requires c κs = search needs
-
-of-four-requires : tie.Need-of-four-requires
-of-four-requires c κs = search needs
-
-of-five-requires : tie.Need-of-five-requires
-of-five-requires c κs = search needs
-
-of-six-requires : tie.Need-of-six-requires
-of-six-requires c κs = search needs
-
-of-seven-requires : tie.Need-of-seven-requires
-of-seven-requires c κs = search needs
-
-of-eight-requires : tie.Need-of-eight-requires
-of-eight-requires c κs = search needs
-
 returns : tie.Need-returns
 returns c =
     let s = c .before .before .before .before in
@@ -84,20 +57,5 @@ pub key-in-spec : {M : Type 1} → statement M
 key-in-spec =
     tie.close
     (tie.spec
-    sub-match
-    shared-slice-read-of-one
-    of-one-requires
-    of-three-requires
-    of-four-requires
-    of-five-requires
-    of-six-requires
-    of-seven-requires
-    of-eight-requires
-    returns
-    returns-2
-    returns-3
-    returns-4
-    returns-5
-    returns-6
-    returns-7
-    returns-8)
+    (λ c. search needs) (λ c. search needs) (λ c κs. search needs) (λ c κs. search needs) (λ c κs. search needs) (λ c κs. search needs)
+    (λ c κs. search needs) (λ c κs. search needs) (λ c κs. search needs) returns returns-2 returns-3 returns-4 returns-5 returns-6 returns-7 returns-8)

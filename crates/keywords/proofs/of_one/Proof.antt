@@ -4,9 +4,6 @@ use borrow.Author.Needs.{needs}
 use Rattle.keywords.proofs.of_one.Statement.{statement}
 use Rattle.keywords.proofs.of_one.Tie as tie
 
-upper-requires : tie.Need-upper-requires
-upper-requires c κs = search needs
-
 returns : tie.Need-returns
 returns c = one-U _ _ (sym (c .before .upper .ensures)) (c .match .keys1)
 
@@ -33,4 +30,4 @@ returns-7 c =
 pub of-one-spec : {M : Type 1} → statement M
 of-one-spec =
     tie.close
-    (tie.spec upper-requires returns returns-2 returns-3 returns-4 returns-5 returns-6 returns-7)
+    (tie.spec (λ c κs. search needs) returns returns-2 returns-3 returns-4 returns-5 returns-6 returns-7)

@@ -5,22 +5,10 @@ use borrow.Author.Needs.{needs}
 use Rattle.keywords.proofs.of_six.Statement.{statement}
 use Rattle.keywords.proofs.of_six.Tie as tie
 
-slice-aggregate-key-at : tie.Need-slice-aggregate-key-at
-slice-aggregate-key-at c = search needs
-
-key-at-requires : tie.Need-key-at-requires
-key-at-requires c κs = search needs
-
 returns : tie.Need-returns
 unfolding spell
 returns c =
     found-here _ _ _ (sym (c .before .key-at .ensures) ∙ c .if1 .taken)
-
-slice-aggregate-key-at-2 : tie.Need-slice-aggregate-key-at-2
-slice-aggregate-key-at-2 c = search needs
-
-key-at-requires-2 : tie.Need-key-at-requires-2
-key-at-requires-2 c κs = search needs
 
 returns-2 : tie.Need-returns-2
 unfolding spell
@@ -41,10 +29,4 @@ pub of-six-spec : {M : Type 1} → statement M
 of-six-spec =
     tie.close
     (tie.spec
-    slice-aggregate-key-at
-    key-at-requires
-    returns
-    slice-aggregate-key-at-2
-    key-at-requires-2
-    returns-2
-    returns-3)
+    (λ c. search needs) (λ c κs. search needs) returns (λ c. search needs) (λ c κs. search needs) returns-2 returns-3)

@@ -5,22 +5,10 @@ use borrow.Author.Needs.{needs}
 use Rattle.keywords.proofs.of_three.Statement.{statement}
 use Rattle.keywords.proofs.of_three.Tie as tie
 
-slice-aggregate-key-at : tie.Need-slice-aggregate-key-at
-slice-aggregate-key-at c = search needs
-
-key-at-requires : tie.Need-key-at-requires
-key-at-requires c κs = search needs
-
 returns : tie.Need-returns
 unfolding spell
 returns c =
     found-here _ _ _ (sym (c .before .key-at .ensures) ∙ c .if1 .taken)
-
-slice-aggregate-key-at-2 : tie.Need-slice-aggregate-key-at-2
-slice-aggregate-key-at-2 c = search needs
-
-key-at-requires-2 : tie.Need-key-at-requires-2
-key-at-requires-2 c κs = search needs
 
 returns-2 : tie.Need-returns-2
 unfolding spell
@@ -28,12 +16,6 @@ returns-2 c =
     let e1 = c .before .before .before in
     found-later _ _ _ (sym (e1 .before .key-at .ensures) ∙ e1 .if1 .left)
     (found-here _ _ _ (sym (c .before .key-at2 .ensures) ∙ c .if2 .taken))
-
-slice-aggregate-key-at-3 : tie.Need-slice-aggregate-key-at-3
-slice-aggregate-key-at-3 c = search needs
-
-key-at-requires-3 : tie.Need-key-at-requires-3
-key-at-requires-3 c κs = search needs
 
 returns-3 : tie.Need-returns-3
 unfolding spell
@@ -58,13 +40,5 @@ pub of-three-spec : {M : Type 1} → statement M
 of-three-spec =
     tie.close
     (tie.spec
-    slice-aggregate-key-at
-    key-at-requires
-    returns
-    slice-aggregate-key-at-2
-    key-at-requires-2
-    returns-2
-    slice-aggregate-key-at-3
-    key-at-requires-3
-    returns-3
-    returns-4)
+    (λ c. search needs) (λ c κs. search needs) returns (λ c. search needs) (λ c κs. search needs) returns-2 (λ c. search needs) (λ c κs. search needs)
+    returns-3 returns-4)

@@ -9,9 +9,6 @@ use Rattle.labels.proofs.Names.{no-name, further, name-over, name-score
 use Rattle.labels.proofs.label_at.Statement.{statement}
 use Rattle.labels.proofs.label_at.Tie as tie
 
-alnum-end-requires : tie.Need-alnum-end-requires
-alnum-end-requires c κs = search needs
-
 returns : tie.Need-returns
 returns c = λ k. label-says _ _ _ (no-name _ _ k (sym (c .before .alnum-end .ensures) ∙ c .if1 .taken))
 
@@ -19,9 +16,6 @@ returns-2 : tie.Need-returns-2
 returns-2 c = λ k.
     let e = c .before .before .alnum-end .ensures in
     label-says _ _ _ (name-over _ _ _ e (c .before .if1 .left) (run-inside isAlnum _ _ _ e k) (c .if2 .taken))
-
-shared-slice-read-if3 : tie.Need-shared-slice-read-if3
-shared-slice-read-if3 c = search needs
 
 score-at-requires : tie.Need-score-at-requires
 score-at-requires c κs =
@@ -33,9 +27,6 @@ returns-3 c = λ k.
     let m = c .before .before .before in
     label-says _ _ _ (name-scored _ _ _ (m .before .before .alnum-end .ensures) (m .before .if1 .left) (m .if2 .left) (c .before .if3 .taken) _ (c .score-at .ensures))
 
-label-end-requires : tie.Need-label-end-requires
-label-end-requires c κs = search needs
-
 returns-4 : tie.Need-returns-4
 returns-4 c = λ k.
     let m = c .before .before .before in
@@ -45,4 +36,4 @@ returns-4 c = λ k.
     (name-ends _ _ _ e f (m .if2 .left) (c .before .if3 .left) _ (c .label-end .ensures none (unscored _ _ _ e f (search needs)) (search needs) (search needs)))
 
 pub label-at-spec : {M : Type 1} → statement M
-label-at-spec = tie.close (tie.spec alnum-end-requires returns returns-2 shared-slice-read-if3 score-at-requires returns-3 label-end-requires returns-4)
+label-at-spec = tie.close (tie.spec (λ c κs. search needs) returns returns-2 (λ c. search needs) score-at-requires returns-3 (λ c κs. search needs) returns-4)

@@ -8,26 +8,11 @@ use Rattle.labels.proofs.number_at.Tie as tie
 returns : tie.Need-returns
 returns c = number-over _ _ (c .if1 .taken)
 
-shared-slice-read-b : tie.Need-shared-slice-read-b
-shared-slice-read-b c = search needs
-
-is-sign-requires : tie.Need-is-sign-requires
-is-sign-requires c κs = search needs
-
-add-number-after-sign : tie.Need-add-number-after-sign
-add-number-after-sign c = search needs
-
-number-after-sign-requires : tie.Need-number-after-sign-requires
-number-after-sign-requires c κs = search needs
-
 returns-2 : tie.Need-returns-2
 returns-2 c = number-signed _ _ _ refl (sym (c .before .before .is-sign .ensures) ∙ c .before .if2 .taken) _ (c .number-after-sign .ensures _)
-
-number-unsigned-requires : tie.Need-number-unsigned-requires
-number-unsigned-requires c κs = search needs
 
 returns-3 : tie.Need-returns-3
 returns-3 c = number-unsigned _ _ (sym (c .before .before .is-sign .ensures) ∙ c .before .if2 .left) _ (c .number-unsigned .ensures _)
 
 pub number-at-spec : {M : Type 1} → statement M
-number-at-spec = tie.close (tie.spec returns shared-slice-read-b is-sign-requires add-number-after-sign number-after-sign-requires returns-2 number-unsigned-requires returns-3)
+number-at-spec = tie.close (tie.spec returns (λ c. search needs) (λ c κs. search needs) (λ c. search needs) (λ c κs. search needs) returns-2 (λ c κs. search needs) returns-3)

@@ -6,29 +6,8 @@ use Rattle.labels.proofs.Scores.{few-decimals, score-value, score-wide,
 use Rattle.labels.proofs.score_at.Statement.{statement}
 use Rattle.labels.proofs.score_at.Tie as tie
 
-add-number-at : tie.Need-add-number-at
-add-number-at c = search needs
-
-number-at-requires : tie.Need-number-at-requires
-number-at-requires c κs = search needs
-
-enum-known-n : tie.Need-enum-known-n
-enum-known-n c = search needs
-
 add-score-end : tie.Need-add-score-end
 add-score-end c = omega (arith, few-decimals _ _ _ (c .before .before .before .before .number-at .ensures) _ _ (c .before .before .n .given .1))
-
-score-end-requires : tie.Need-score-end-requires
-score-end-requires c κs = search needs
-
-enum-known-n-2 : tie.Need-enum-known-n-2
-enum-known-n-2 c = search needs
-
-score-end-requires-2 : tie.Need-score-end-requires-2
-score-end-requires-2 c κs = search needs
-
-enum-known-n-3 : tie.Need-enum-known-n-3
-enum-known-n-3 c = search needs
 
 returns : tie.Need-returns
 returns c =
@@ -44,4 +23,4 @@ returns-3 : tie.Need-returns-3
 returns-3 c = score-none _ _ _ _ (search needs) _ (c .before .before .before .number-at .ensures) _ (c .before .n3 .given .1)
 
 pub score-at-spec : {M : Type 1} → statement M
-score-at-spec = tie.close (tie.spec add-number-at number-at-requires enum-known-n add-score-end score-end-requires enum-known-n-2 score-end-requires-2 enum-known-n-3 returns returns-2 returns-3)
+score-at-spec = tie.close (tie.spec (λ c. search needs) (λ c κs. search needs) (λ c. search needs) add-score-end (λ c κs. search needs) (λ c. search needs) (λ c κs. search needs) (λ c. search needs) returns returns-2 returns-3)

@@ -12,20 +12,11 @@ use Rattle.labels.proofs.score_end.Tie as tie
 returns : tie.Need-returns
 returns c = λ n is a k. over _ _ _ (λ q x. scoreEnd x q _ _ n) (c .if1 .taken) k
 
-shared-slice-read-if2 : tie.Need-shared-slice-read-if2
-shared-slice-read-if2 c = search needs
-
 returns-2 : tie.Need-returns-2
 returns-2 c = λ n is a k. not-closed _ _ _ n _ (c .before .before .if1 .left) (c .if2 .taken)
-
-add-label-end : tie.Need-add-label-end
-add-label-end c = search needs
-
-label-end-requires : tie.Need-label-end-requires
-label-end-requires c κs = search needs
 
 returns-3 : tie.Need-returns-3
 returns-3 c = λ n is a k. closed-score _ _ _ n _ (c .before .before .before .if1 .left) (c .before .if2 .left) _ (c .label-end .ensures (some n) (scored-told (toZ-ofZ (c .before .before .before .before .before .fits .points)) is) (omega arith) (search needs))
 
 pub score-end-spec : {M : Type 1} → statement M
-score-end-spec = tie.close (tie.spec returns shared-slice-read-if2 returns-2 add-label-end label-end-requires returns-3)
+score-end-spec = tie.close (tie.spec returns (λ c. search needs) returns-2 (λ c. search needs) (λ c κs. search needs) returns-3)

@@ -10,22 +10,10 @@ use Rattle.masses.proofs.Whole.{stored-fit, stored-sum}
 use Rattle.masses.proofs.book.Statement.{statement}
 use Rattle.masses.proofs.book.Tie as tie
 
-mul-old : tie.Need-mul-old
-mul-old c = search needs
-
-element-copy-out-old : tie.Need-element-copy-out-old
-element-copy-out-old c = search needs
-
 add-requires : tie.Need-add-requires
 add-requires c κs =
     let s = c .before .before in
     stored-fit (getD (now (s .args .l)) (s .args .position) (pos 0)) (s .args .m) (s .pre (c .before .if1 .taken))
-
-mul-t7 : tie.Need-mul-t7
-mul-t7 c = search needs
-
-element-set-from-l : tie.Need-element-set-from-l
-element-set-from-l c = search needs
 
 returns : tie.Need-returns
 returns c =
@@ -43,4 +31,4 @@ returns-2 c =
 
 pub book-spec : {M : Type 1} → statement M
 book-spec =
-    tie.close (tie.spec mul-old element-copy-out-old add-requires mul-t7 element-set-from-l returns returns-2)
+    tie.close (tie.spec (λ c. search needs) (λ c. search needs) add-requires (λ c. search needs) (λ c. search needs) returns returns-2)

@@ -8,18 +8,6 @@ use borrow.Author.Needs.{needs}
 use Rattle.masses.proofs.bracket_mass.Statement.{statement}
 use Rattle.masses.proofs.bracket_mass.Tie as tie
 
-first-mass-requires : tie.Need-first-mass-requires
-first-mass-requires c κs = search needs
-
-enum-known-own : tie.Need-enum-known-own
-enum-known-own c = search needs
-
-enum-told : tie.Need-enum-told
-enum-told c = search needs
-
-first-mass-requires-2 : tie.Need-first-mass-requires-2
-first-mass-requires-2 c κs = search needs
-
 returns : tie.Need-returns
 returns c =
     let read : toZ w64 (ofZ w64 (c .before .own .given .0 .0)) ≡ c .before .own .given .0 .0 = search needs in
@@ -31,4 +19,4 @@ returns-2 c = else-mass _ (c .first-mass2 .result) (c .before .before .before .f
 pub bracket-mass-spec : {M : Type 1} → statement M
 bracket-mass-spec =
     tie.close
-    (tie.spec first-mass-requires enum-known-own enum-told first-mass-requires-2 returns returns-2)
+    (tie.spec (λ c κs. search needs) (λ c. search needs) (λ c. search needs) (λ c κs. search needs) returns returns-2)

@@ -4,14 +4,8 @@ use borrow.Author.Needs.{needs}
 use Rattle.masses.proofs.has_mass.Statement.{statement}
 use Rattle.masses.proofs.has_mass.Tie as tie
 
-value-requires : tie.Need-value-requires
-value-requires c κs = search needs
-
 returns : tie.Need-returns
 returns c = no-mass (c .before .value .ensures .0) (c .if1 .taken) _
-
-key-requires : tie.Need-key-requires
-key-requires c κs = search needs
 
 returns-2 : tie.Need-returns-2
 returns-2 c = with-obs (c .before .before .before .value .ensures .0) (c .before .before .if1 .left) (c .before .key .ensures .0) (c .if2 .taken)
@@ -21,4 +15,4 @@ returns-3 c = without-obs (c .before .before .before .value .ensures .0) (c .bef
 
 pub has-mass-spec : {M : Type 1} → statement M
 has-mass-spec =
-    tie.close (tie.spec value-requires returns key-requires returns-2 returns-3)
+    tie.close (tie.spec (λ c κs. search needs) returns (λ c κs. search needs) returns-2 returns-3)

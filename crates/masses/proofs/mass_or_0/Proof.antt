@@ -7,15 +7,6 @@ use borrow.Author.Needs.{needs}
 use Rattle.masses.proofs.mass_or_0.Statement.{statement}
 use Rattle.masses.proofs.mass_or_0.Tie as tie
 
-bracket-mass-requires : tie.Need-bracket-mass-requires
-bracket-mass-requires c κs = search needs
-
-enum-known-mass : tie.Need-enum-known-mass
-enum-known-mass c = search needs
-
-enum-told : tie.Need-enum-told
-enum-told c = search needs
-
 returns : tie.Need-returns
 returns c =
     let read : toZ w64 (ofZ w64 (c .before .mass .given .0 .0)) ≡ c .before .mass .given .0 .0 = search needs in
@@ -26,4 +17,4 @@ returns-2 c = no-mass-is-0 _ (c .before .before .bracket-mass .ensures) (c .enum
 
 pub mass-or-0-spec : {M : Type 1} → statement M
 mass-or-0-spec =
-    tie.close (tie.spec bracket-mass-requires enum-known-mass enum-told returns returns-2)
+    tie.close (tie.spec (λ c κs. search needs) (λ c. search needs) (λ c. search needs) returns returns-2)

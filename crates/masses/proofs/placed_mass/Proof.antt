@@ -11,9 +11,6 @@ use Rattle.masses.proofs.placed_mass.Tie as tie
 is-placed-requires : tie.Need-is-placed-requires
 is-placed-requires c κs = reach-row (c .before .pre)
 
-mass-or-0-requires : tie.Need-mass-or-0-requires
-mass-or-0-requires c κs = search needs
-
 returns : tie.Need-returns
 returns c =
     let read : toZ w64 (ofZ w64 (c .mass-or-0 .result)) ≡ c .mass-or-0 .result = search needs in
@@ -23,4 +20,4 @@ returns-2 : tie.Need-returns-2
 returns-2 c = no-placed-mass _ (c .before .is-placed .ensures _) (c .if1 .left)
 
 pub placed-mass-spec : {M : Type 1} → statement M
-placed-mass-spec = tie.close (tie.spec is-placed-requires mass-or-0-requires returns returns-2)
+placed-mass-spec = tie.close (tie.spec is-placed-requires (λ c κs. search needs) returns returns-2)

@@ -14,9 +14,6 @@ copies-of-requires c κs = reach-row (c .before .pre .reach)
 returns : tie.Need-returns
 returns c = float-none (c .before .before .before .pre) (c .before .copies-of .ensures _) (c .if1 .taken)
 
-mass-or-0-requires : tie.Need-mass-or-0-requires
-mass-or-0-requires c κs = search needs
-
 put-requires : tie.Need-put-requires
 put-requires c κs =
     let read : toZ w64 (ofZ w64 (c .before .mass-or-0 .result)) ≡ c .before .mass-or-0 .result = search needs in
@@ -29,4 +26,4 @@ returns-2 c =
 
 pub put-bracket-spec : {M : Type 1} → statement M
 put-bracket-spec =
-    tie.close (tie.spec copies-of-requires returns mass-or-0-requires put-requires returns-2)
+    tie.close (tie.spec copies-of-requires returns (λ c κs. search needs) put-requires returns-2)

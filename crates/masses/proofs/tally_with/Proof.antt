@@ -16,12 +16,6 @@ is-modification-requires c κs = reach-row (c .before .pre .reach)
 count-requires : tie.Need-count-requires
 count-requires c κs = reach-bracket (c .before .before .before .pre .reach)
 
-bracket-mass-requires : tie.Need-bracket-mass-requires
-bracket-mass-requires c κs = search needs
-
-enum-known-mass : tie.Need-enum-known-mass
-enum-known-mass c = search needs
-
 times-requires : tie.Need-times-requires
 times-requires c κs =
     let read : toZ w64 (ofZ w64 (c .before .mass .given .0 .0)) ≡ c .before .mass .given .0 .0 = search needs in
@@ -39,12 +33,6 @@ returns c =
     let sum : toZ w64 (ofZ w64 (c .add .result)) ≡ c .add .result = search needs in
     tallied-by-machine (c .before .before .before .before .before .before .before .before .before .before .before .pre) (count-is _ _ (c .before .before .before .before .before .before .before .count .ensures .0) _) (c .before .before .before .before .before .before .bracket-mass .ensures) (c .before .before .before .before .mass .given .1) read (c .before .before .before .before .before .before .before .before .before .is-modification .ensures _) (c .before .before .before .before .before .before .before .before .if1 .taken) (c .before .before .times .ensures) (c .add .ensures) sum
 
-enum-told : tie.Need-enum-told
-enum-told c = search needs
-
-add-t11 : tie.Need-add-t11
-add-t11 c = search needs
-
 returns-2 : tie.Need-returns-2
 returns-2 c =
     lacked-by-machine (c .before .before .before .before .before .before .before .before .before .pre) (c .before .before .before .before .before .before .before .is-modification .ensures _) (c .before .before .before .before .before .before .if1 .taken) (count-is _ _ (c .before .before .before .before .before .count .ensures .0) _) (c .before .before .before .before .bracket-mass .ensures) (c .before .before .enum-told .given .1)
@@ -56,14 +44,5 @@ pub tally-with-spec : {M : Type 1} → statement M
 tally-with-spec =
     tie.close
     (tie.spec
-    is-modification-requires
-    count-requires
-    bracket-mass-requires
-    enum-known-mass
-    times-requires
-    add-requires
-    returns
-    enum-told
-    add-t11
-    returns-2
-    returns-3)
+    is-modification-requires count-requires (λ c κs. search needs) (λ c. search needs) times-requires add-requires returns (λ c. search needs)
+    (λ c. search needs) returns-2 returns-3)

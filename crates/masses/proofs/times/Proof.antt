@@ -4,9 +4,6 @@ use borrow.Author.Needs.{needs}
 use Rattle.masses.proofs.times.Statement.{statement}
 use Rattle.masses.proofs.times.Tie as tie
 
-cast-c : tie.Need-cast-c
-cast-c c = search needs
-
 mul-result : tie.Need-mul-result
 mul-result c = can-times (c .args .n) (c .args .m) (c .pre .0) (c .pre .1)
 
@@ -14,4 +11,4 @@ returns : tie.Need-returns
 returns c = times-back (c .args .n) (c .args .m) (c .pre .0) (c .pre .1)
 
 pub times-spec : {M : Type 1} → statement M
-times-spec = tie.close (tie.spec cast-c mul-result returns)
+times-spec = tie.close (tie.spec (λ c. search needs) mul-result returns)

@@ -4,9 +4,6 @@ use borrow.Author.Needs.{needs}
 use Rattle.masses.proofs.to_decimals.Statement.{statement}
 use Rattle.masses.proofs.to_decimals.Tie as tie
 
-unit-requires : tie.Need-unit-requires
-unit-requires c κs = search needs
-
 div-whole : tie.Need-div-whole
 div-whole c = can-divide (c .before .args .m) (c .before .args .decimals) (c .before .pre .0) (c .unit .ensures)
 
@@ -17,4 +14,4 @@ returns : tie.Need-returns
 returns c = to-decimals-is (c .before .args .m) (c .before .args .decimals) (c .before .pre .0) (c .unit .ensures)
 
 pub to-decimals-spec : {M : Type 1} → statement M
-to-decimals-spec = tie.close (tie.spec unit-requires div-whole mul-result returns)
+to-decimals-spec = tie.close (tie.spec (λ c κs. search needs) div-whole mul-result returns)

@@ -4,14 +4,8 @@ use borrow.Author.Needs.{needs}
 use Rattle.numerals.proofs.after_point.Statement.{statement}
 use Rattle.numerals.proofs.after_point.Tie as tie
 
-digit-run-requires : tie.Need-digit-run-requires
-digit-run-requires c κs = search needs
-
 returns : tie.Need-returns
 returns c = λ p m e. point-none _ _ _ _ (c .before .digit-run .ensures) m (c .if1 .taken)
-
-sub-finished : tie.Need-sub-finished
-sub-finished c = search needs
 
 finished-requires : tie.Need-finished-requires
 finished-requires c κs = c .before .digit-run .ensures .low
@@ -23,4 +17,4 @@ returns-2 c = λ p m e.
 
 pub after-point-spec : {M : Type 1} → statement M
 after-point-spec =
-    tie.close (tie.spec digit-run-requires returns sub-finished finished-requires returns-2)
+    tie.close (tie.spec (λ c κs. search needs) returns (λ c. search needs) finished-requires returns-2)

@@ -5,28 +5,13 @@ use borrow.Author.Needs.{needs}
 use Rattle.numerals.proofs.after_whole.Statement.{statement}
 use Rattle.numerals.proofs.after_whole.Tie as tie
 
-finished-requires : tie.Need-finished-requires
-finished-requires c κs = search needs
-
 returns : tie.Need-returns
 returns c = λ p m e z. c .finished .ensures p m e ∙ ap numOf (sym (whole-end p _ _ _ m (c .before .if1 .taken)))
-
-shared-slice-read-if2 : tie.Need-shared-slice-read-if2
-shared-slice-read-if2 c = search needs
-
-add-after-point : tie.Need-add-after-point
-add-after-point c = search needs
-
-after-point-requires : tie.Need-after-point-requires
-after-point-requires c κs = search needs
 
 returns-2 : tie.Need-returns-2
 returns-2 c = λ p m e z.
     let l = c .before .before .before in
     c .after-point .ensures p m e ∙ ap numOf (sym (whole-point p _ _ _ m (l .if1 .left) (c .before .if2 .taken)))
-
-finished-requires-2 : tie.Need-finished-requires-2
-finished-requires-2 c κs = search needs
 
 returns-3 : tie.Need-returns-3
 returns-3 c = λ p m e z.
@@ -37,11 +22,4 @@ pub after-whole-spec : {M : Type 1} → statement M
 after-whole-spec =
     tie.close
     (tie.spec
-    finished-requires
-    returns
-    shared-slice-read-if2
-    add-after-point
-    after-point-requires
-    returns-2
-    finished-requires-2
-    returns-3)
+    (λ c κs. search needs) returns (λ c. search needs) (λ c. search needs) (λ c κs. search needs) returns-2 (λ c κs. search needs) returns-3)

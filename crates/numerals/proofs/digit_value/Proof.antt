@@ -7,13 +7,10 @@ use Rattle.numerals.proofs.digit_value.Tie as tie
 sub-result : tie.Need-sub-result
 sub-result c = omega (arith, digit-bounds (c .args .b) (c .pre))
 
-cast-result : tie.Need-cast-result
-cast-result c = search needs
-
 returns : tie.Need-returns
 returns c =
     let h = digit-bounds (c .args .b) (c .pre) in
     (omega arith, omega arith)
 
 pub digit-value-spec : {M : Type 1} → statement M
-digit-value-spec = tie.close (tie.spec sub-result cast-result returns)
+digit-value-spec = tie.close (tie.spec sub-result (λ c. search needs) returns)

@@ -5,9 +5,6 @@ use borrow.Author.Needs.{needs}
 use Rattle.numerals.proofs.number_after_sign.Statement.{statement}
 use Rattle.numerals.proofs.number_after_sign.Tie as tie
 
-digit-run-requires : tie.Need-digit-run-requires
-digit-run-requires c κs = search needs
-
 returns : tie.Need-returns
 returns c = λ p. sign-none _ _ _ _ (c .before .digit-run .ensures) (c .if1 .taken)
 
@@ -21,4 +18,4 @@ returns-2 c = λ p.
 
 pub number-after-sign-spec : {M : Type 1} → statement M
 number-after-sign-spec =
-    tie.close (tie.spec digit-run-requires returns after-whole-requires returns-2)
+    tie.close (tie.spec (λ c κs. search needs) returns after-whole-requires returns-2)

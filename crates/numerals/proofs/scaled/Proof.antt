@@ -11,24 +11,6 @@ up k n h e = omega arith
 six : (k : ℕ) → 6 ≤ k → k ≤ 6 → k ≡ 6
 six k h l = omega arith
 
-mul-result : tie.Need-mul-result
-mul-result c = search needs
-
-mul-result-2 : tie.Need-mul-result-2
-mul-result-2 c = search needs
-
-mul-result-3 : tie.Need-mul-result-3
-mul-result-3 c = search needs
-
-mul-result-4 : tie.Need-mul-result-4
-mul-result-4 c = search needs
-
-mul-result-5 : tie.Need-mul-result-5
-mul-result-5 c = search needs
-
-mul-result-6 : tie.Need-mul-result-6
-mul-result-6 c = search needs
-
 returns : tie.Need-returns
 returns c = rw (c .match .keys1)
 
@@ -57,16 +39,5 @@ pub scaled-spec : {M : Type 1} → statement M
 scaled-spec =
     tie.close
     (tie.spec
-    mul-result
-    mul-result-2
-    mul-result-3
-    mul-result-4
-    mul-result-5
-    mul-result-6
-    returns
-    returns-2
-    returns-3
-    returns-4
-    returns-5
-    returns-6
-    returns-7)
+    (λ c. search needs) (λ c. search needs) (λ c. search needs) (λ c. search needs) (λ c. search needs) (λ c. search needs) returns returns-2
+    returns-3 returns-4 returns-5 returns-6 returns-7)

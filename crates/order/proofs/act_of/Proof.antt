@@ -20,126 +20,6 @@ use Rattle.order.proofs.bracket_only.Reads as bracket-only-reads
 use Rattle.order.proofs.bracket_or_further.Reads as bracket-or-further-reads
 use Rattle.order.proofs.within_group.Reads as within-group-reads
 
-enum-told : tie.Need-enum-told
-enum-told c = search needs
-
-at-front-requires : tie.Need-at-front-requires
-at-front-requires c κs = search needs
-
-enum-told-2 : tie.Need-enum-told-2
-enum-told-2 c = search needs
-
-at-front-requires-2 : tie.Need-at-front-requires-2
-at-front-requires-2 c κs = search needs
-
-enum-told-3 : tie.Need-enum-told-3
-enum-told-3 c = search needs
-
-at-undecided-requires : tie.Need-at-undecided-requires
-at-undecided-requires c κs = search needs
-
-enum-told-4 : tie.Need-enum-told-4
-enum-told-4 c = search needs
-
-at-counted-requires : tie.Need-at-counted-requires
-at-counted-requires c κs = search needs
-
-enum-told-5 : tie.Need-enum-told-5
-enum-told-5 c = search needs
-
-behind-referred-requires : tie.Need-behind-referred-requires
-behind-referred-requires c κs = search needs
-
-enum-told-6 : tie.Need-enum-told-6
-enum-told-6 c = search needs
-
-at-caret-requires : tie.Need-at-caret-requires
-at-caret-requires c κs = search needs
-
-enum-told-7 : tie.Need-enum-told-7
-enum-told-7 c = search needs
-
-at-counting-requires : tie.Need-at-counting-requires
-at-counting-requires c κs = search needs
-
-enum-told-8 : tie.Need-enum-told-8
-enum-told-8 c = search needs
-
-behind-labile-requires : tie.Need-behind-labile-requires
-behind-labile-requires c κs = search needs
-
-enum-told-9 : tie.Need-enum-told-9
-enum-told-9 c = search needs
-
-behind-nterm-requires : tie.Need-behind-nterm-requires
-behind-nterm-requires c κs = search needs
-
-enum-told-10 : tie.Need-enum-told-10
-enum-told-10 c = search needs
-
-at-element-requires : tie.Need-at-element-requires
-at-element-requires c κs = search needs
-
-enum-told-11 : tie.Need-enum-told-11
-enum-told-11 c = search needs
-
-bracket-or-further-requires : tie.Need-bracket-or-further-requires
-bracket-or-further-requires c κs = search needs
-
-enum-told-12 : tie.Need-enum-told-12
-enum-told-12 c = search needs
-
-at-opened-requires : tie.Need-at-opened-requires
-at-opened-requires c κs = search needs
-
-enum-told-13 : tie.Need-enum-told-13
-enum-told-13 c = search needs
-
-at-group-requires : tie.Need-at-group-requires
-at-group-requires c κs = search needs
-
-enum-told-14 : tie.Need-enum-told-14
-enum-told-14 c = search needs
-
-within-group-requires : tie.Need-within-group-requires
-within-group-requires c κs = search needs
-
-enum-told-15 : tie.Need-enum-told-15
-enum-told-15 c = search needs
-
-within-group-requires-2 : tie.Need-within-group-requires-2
-within-group-requires-2 c κs = search needs
-
-enum-told-16 : tie.Need-enum-told-16
-enum-told-16 c = search needs
-
-bracket-only-requires : tie.Need-bracket-only-requires
-bracket-only-requires c κs = search needs
-
-enum-told-17 : tie.Need-enum-told-17
-enum-told-17 c = search needs
-
-bracket-or-further-requires-2 : tie.Need-bracket-or-further-requires-2
-bracket-or-further-requires-2 c κs = search needs
-
-enum-told-18 : tie.Need-enum-told-18
-enum-told-18 c = search needs
-
-behind-element-requires : tie.Need-behind-element-requires
-behind-element-requires c κs = search needs
-
-enum-told-19 : tie.Need-enum-told-19
-enum-told-19 c = search needs
-
-bracket-only-requires-2 : tie.Need-bracket-only-requires-2
-bracket-only-requires-2 c κs = search needs
-
-enum-told-20 : tie.Need-enum-told-20
-enum-told-20 c = search needs
-
-bracket-only-requires-3 : tie.Need-bracket-only-requires-3
-bracket-only-requires-3 c κs = search needs
-
 returns : tie.Need-returns
 unfolding act
 returns c = rw (c .before .enum-told .given .1) (c .at-front .ensures)
@@ -224,63 +104,12 @@ pub act-of-spec : {M : Type 1} → statement M
 act-of-spec =
     tie.close
     (tie.spec
-    enum-told
-    at-front-requires
-    enum-told-2
-    at-front-requires-2
-    enum-told-3
-    at-undecided-requires
-    enum-told-4
-    at-counted-requires
-    enum-told-5
-    behind-referred-requires
-    enum-told-6
-    at-caret-requires
-    enum-told-7
-    at-counting-requires
-    enum-told-8
-    behind-labile-requires
-    enum-told-9
-    behind-nterm-requires
-    enum-told-10
-    at-element-requires
-    enum-told-11
-    bracket-or-further-requires
-    enum-told-12
-    at-opened-requires
-    enum-told-13
-    at-group-requires
-    enum-told-14
-    within-group-requires
-    enum-told-15
-    within-group-requires-2
-    enum-told-16
-    bracket-only-requires
-    enum-told-17
-    bracket-or-further-requires-2
-    enum-told-18
-    behind-element-requires
-    enum-told-19
-    bracket-only-requires-2
-    enum-told-20
-    bracket-only-requires-3
-    returns
-    returns-2
-    returns-3
-    returns-4
-    returns-5
-    returns-6
-    returns-7
-    returns-8
-    returns-9
-    returns-10
-    returns-11
-    returns-12
-    returns-13
-    returns-14
-    returns-15
-    returns-16
-    returns-17
-    returns-18
-    returns-19
+    (λ c. search needs) (λ c κs. search needs) (λ c. search needs) (λ c κs. search needs) (λ c. search needs) (λ c κs. search needs)
+    (λ c. search needs) (λ c κs. search needs) (λ c. search needs) (λ c κs. search needs) (λ c. search needs) (λ c κs. search needs)
+    (λ c. search needs) (λ c κs. search needs) (λ c. search needs) (λ c κs. search needs) (λ c. search needs) (λ c κs. search needs)
+    (λ c. search needs) (λ c κs. search needs) (λ c. search needs) (λ c κs. search needs) (λ c. search needs) (λ c κs. search needs)
+    (λ c. search needs) (λ c κs. search needs) (λ c. search needs) (λ c κs. search needs) (λ c. search needs) (λ c κs. search needs)
+    (λ c. search needs) (λ c κs. search needs) (λ c. search needs) (λ c κs. search needs) (λ c. search needs) (λ c κs. search needs)
+    (λ c. search needs) (λ c κs. search needs) (λ c. search needs) (λ c κs. search needs) returns returns-2 returns-3 returns-4 returns-5 returns-6
+    returns-7 returns-8 returns-9 returns-10 returns-11 returns-12 returns-13 returns-14 returns-15 returns-16 returns-17 returns-18 returns-19
     returns-20)

@@ -9,9 +9,6 @@ use Rattle.order.proofs.at_caret.Reads as reads
 use Rattle.order.proofs.at_caret.Lts as lts
 use Rattle.classes.proofs.is_digit.Reads as is-digit-reads
 
-is-digit-requires : tie.Need-is-digit-requires
-is-digit-requires c κs = search needs
-
 returns : tie.Need-returns
 unfolding act
 returns c = told-took _ _ (c .before .is-digit .ensures) (c .if1 .taken)
@@ -21,4 +18,4 @@ unfolding act
 returns-2 c = told-passed _ _ _ (c .before .is-digit .ensures) (c .if1 .left) refl
 
 pub at-caret-spec : {M : Type 1} → statement M
-at-caret-spec = tie.close (tie.spec is-digit-requires returns returns-2)
+at-caret-spec = tie.close (tie.spec (λ c κs. search needs) returns returns-2)

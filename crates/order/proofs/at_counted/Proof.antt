@@ -13,12 +13,9 @@ returns : tie.Need-returns
 unfolding act
 returns c = took _ _ _ (eq-eqb _ _ (c .if1 .taken))
 
-behind-counted-requires : tie.Need-behind-counted-requires
-behind-counted-requires c κs = search needs
-
 returns-2 : tie.Need-returns-2
 unfolding act
 returns-2 c = passed _ _ _ _ (ne-eqb _ _ (c .before .if1 .left)) (c .behind-counted .ensures)
 
 pub at-counted-spec : {M : Type 1} → statement M
-at-counted-spec = tie.close (tie.spec returns behind-counted-requires returns-2)
+at-counted-spec = tie.close (tie.spec returns (λ c κs. search needs) returns-2)

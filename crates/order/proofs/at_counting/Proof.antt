@@ -10,19 +10,13 @@ use Rattle.order.proofs.at_counting.Lts as lts
 use Rattle.classes.proofs.is_digit.Reads as is-digit-reads
 use Rattle.order.proofs.behind_counted.Reads as behind-counted-reads
 
-is-digit-requires : tie.Need-is-digit-requires
-is-digit-requires c κs = search needs
-
 returns : tie.Need-returns
 unfolding act
 returns c = told-took _ _ (c .before .is-digit .ensures) (c .if1 .taken)
-
-behind-counted-requires : tie.Need-behind-counted-requires
-behind-counted-requires c κs = search needs
 
 returns-2 : tie.Need-returns-2
 unfolding act
 returns-2 c = told-passed _ _ _ (c .before .before .is-digit .ensures) (c .before .if1 .left) (c .behind-counted .ensures)
 
 pub at-counting-spec : {M : Type 1} → statement M
-at-counting-spec = tie.close (tie.spec is-digit-requires returns behind-counted-requires returns-2)
+at-counting-spec = tie.close (tie.spec (λ c κs. search needs) returns (λ c κs. search needs) returns-2)

@@ -9,9 +9,6 @@ use Rattle.order.proofs.at_element.Reads as reads
 use Rattle.order.proofs.at_element.Lts as lts
 use Rattle.classes.proofs.is_letter.Reads as is-letter-reads
 
-is-letter-requires : tie.Need-is-letter-requires
-is-letter-requires c κs = search needs
-
 returns : tie.Need-returns
 unfolding element
 returns c = told-took _ _ (c .before .is-letter .ensures) (c .if1 .taken)
@@ -25,4 +22,4 @@ unfolding element
 returns-3 c = told-passed _ _ _ (c .before .before .is-letter .ensures) (c .before .if1 .left) (passed _ _ _ _ (ne-eqb _ _ (c .if2 .left)) refl)
 
 pub at-element-spec : {M : Type 1} → statement M
-at-element-spec = tie.close (tie.spec is-letter-requires returns returns-2 returns-3)
+at-element-spec = tie.close (tie.spec (λ c κs. search needs) returns returns-2 returns-3)

@@ -11,20 +11,11 @@ use Rattle.order.proofs.at_element.Reads as at-element-reads
 use Rattle.order.proofs.front_slot.Reads as front-slot-reads
 use Rattle.order.proofs.labile_slot.Reads as labile-slot-reads
 
-front-slot-requires : tie.Need-front-slot-requires
-front-slot-requires c κs = search needs
-
 returns : tie.Need-returns
 returns c = (ap Begin (c .front-slot .ensures)) ∙ took _ _ _ (eq-eqb _ _ (c .before .if1 .taken))
 
-labile-slot-requires : tie.Need-labile-slot-requires
-labile-slot-requires c κs = search needs
-
 returns-2 : tie.Need-returns-2
 returns-2 c = passed _ _ _ _ (ne-eqb _ _ (c .before .before .if1 .left)) ((ap Begin (c .labile-slot .ensures)) ∙ took _ _ _ (eq-eqb _ _ (c .before .if2 .taken)))
-
-at-element-requires : tie.Need-at-element-requires
-at-element-requires c κs = search needs
 
 returns-3 : tie.Need-returns-3
 returns-3 c = passed _ _ _ _ (ne-eqb _ _ (c .before .before .if1 .left)) (passed _ _ _ _ (ne-eqb _ _ (c .before .if2 .left)) (c .at-element .ensures))
@@ -33,9 +24,4 @@ pub at-front-spec : {M : Type 1} → statement M
 at-front-spec =
     tie.close
     (tie.spec
-    front-slot-requires
-    returns
-    labile-slot-requires
-    returns-2
-    at-element-requires
-    returns-3)
+    (λ c κs. search needs) returns (λ c κs. search needs) returns-2 (λ c κs. search needs) returns-3)

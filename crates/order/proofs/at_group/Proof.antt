@@ -9,9 +9,6 @@ use Rattle.order.proofs.at_group.Reads as reads
 use Rattle.order.proofs.at_group.Lts as lts
 use Rattle.classes.proofs.is_letter.Reads as is-letter-reads
 
-is-letter-requires : tie.Need-is-letter-requires
-is-letter-requires c κs = search needs
-
 returns : tie.Need-returns
 unfolding groupFirst
 returns c = told-took _ _ (c .before .is-letter .ensures) (c .if1 .taken)
@@ -21,4 +18,4 @@ unfolding groupFirst
 returns-2 c = told-passed _ _ _ (c .before .is-letter .ensures) (c .if1 .left) refl
 
 pub at-group-spec : {M : Type 1} → statement M
-at-group-spec = tie.close (tie.spec is-letter-requires returns returns-2)
+at-group-spec = tie.close (tie.spec (λ c κs. search needs) returns returns-2)

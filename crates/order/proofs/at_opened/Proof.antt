@@ -13,12 +13,9 @@ returns : tie.Need-returns
 unfolding act
 returns c = took _ _ _ (eq-eqb _ _ (c .if1 .taken))
 
-at-group-requires : tie.Need-at-group-requires
-at-group-requires c κs = search needs
-
 returns-2 : tie.Need-returns-2
 unfolding act
 returns-2 c = passed _ _ _ _ (ne-eqb _ _ (c .before .if1 .left)) (c .at-group .ensures)
 
 pub at-opened-spec : {M : Type 1} → statement M
-at-opened-spec = tie.close (tie.spec returns at-group-requires returns-2)
+at-opened-spec = tie.close (tie.spec returns (λ c κs. search needs) returns-2)

@@ -13,12 +13,9 @@ returns : tie.Need-returns
 unfolding act
 returns c = took _ _ _ (eq-eqb _ _ (c .if1 .taken))
 
-behind-undecided-requires : tie.Need-behind-undecided-requires
-behind-undecided-requires c κs = search needs
-
 returns-2 : tie.Need-returns-2
 unfolding act
 returns-2 c = passed _ _ _ _ (ne-eqb _ _ (c .before .if1 .left)) (c .behind-undecided .ensures)
 
 pub at-undecided-spec : {M : Type 1} → statement M
-at-undecided-spec = tie.close (tie.spec returns behind-undecided-requires returns-2)
+at-undecided-spec = tie.close (tie.spec returns (λ c κs. search needs) returns-2)

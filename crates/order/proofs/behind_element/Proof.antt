@@ -13,12 +13,9 @@ returns : tie.Need-returns
 unfolding further
 returns c = took _ _ _ (eq-eqb _ _ (c .if1 .taken))
 
-at-element-requires : tie.Need-at-element-requires
-at-element-requires c κs = search needs
-
 returns-2 : tie.Need-returns-2
 unfolding further
 returns-2 c = passed _ _ _ _ (ne-eqb _ _ (c .before .if1 .left)) (c .at-element .ensures)
 
 pub behind-element-spec : {M : Type 1} → statement M
-behind-element-spec = tie.close (tie.spec returns at-element-requires returns-2)
+behind-element-spec = tie.close (tie.spec returns (λ c κs. search needs) returns-2)

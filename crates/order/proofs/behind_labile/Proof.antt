@@ -12,22 +12,13 @@ use Rattle.order.proofs.at_element.Reads as at-element-reads
 use Rattle.order.proofs.labile_slot.Reads as labile-slot-reads
 use Rattle.order.proofs.square_slot.Reads as square-slot-reads
 
-labile-slot-requires : tie.Need-labile-slot-requires
-labile-slot-requires c κs = search needs
-
 returns : tie.Need-returns
 unfolding act
 returns c = (ap Begin (c .labile-slot .ensures)) ∙ took _ _ _ (eq-eqb _ _ (c .before .if1 .taken))
 
-square-slot-requires : tie.Need-square-slot-requires
-square-slot-requires c κs = search needs
-
 returns-2 : tie.Need-returns-2
 unfolding act
 returns-2 c = passed _ _ _ _ (ne-eqb _ _ (c .before .before .if1 .left)) ((ap Begin (c .square-slot .ensures)) ∙ took _ _ _ (eq-eqb _ _ (c .before .if2 .taken)))
-
-at-element-requires : tie.Need-at-element-requires
-at-element-requires c κs = search needs
 
 returns-3 : tie.Need-returns-3
 unfolding act
@@ -37,9 +28,4 @@ pub behind-labile-spec : {M : Type 1} → statement M
 behind-labile-spec =
     tie.close
     (tie.spec
-    labile-slot-requires
-    returns
-    square-slot-requires
-    returns-2
-    at-element-requires
-    returns-3)
+    (λ c κs. search needs) returns (λ c κs. search needs) returns-2 (λ c κs. search needs) returns-3)

@@ -10,9 +10,6 @@ use Rattle.order.proofs.behind_undecided.Reads as reads
 use Rattle.order.proofs.behind_undecided.Lts as lts
 use Rattle.order.proofs.front_slot.Reads as front-slot-reads
 
-front-slot-requires : tie.Need-front-slot-requires
-front-slot-requires c κs = search needs
-
 returns : tie.Need-returns
 unfolding undecided
 returns c = (ap Begin (c .front-slot .ensures)) ∙ took _ _ _ (eq-eqb _ _ (c .before .if1 .taken))
@@ -31,4 +28,4 @@ returns-4 c = passed _ _ _ _ (ne-eqb _ _ (c .before .before .if1 .left)) (passed
 
 pub behind-undecided-spec : {M : Type 1} → statement M
 behind-undecided-spec =
-    tie.close (tie.spec front-slot-requires returns returns-2 returns-3 returns-4)
+    tie.close (tie.spec (λ c κs. search needs) returns returns-2 returns-3 returns-4)

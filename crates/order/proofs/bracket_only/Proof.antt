@@ -9,9 +9,6 @@ use Rattle.order.proofs.bracket_only.Reads as reads
 use Rattle.order.proofs.bracket_only.Lts as lts
 use Rattle.order.proofs.square_slot.Reads as square-slot-reads
 
-square-slot-requires : tie.Need-square-slot-requires
-square-slot-requires c κs = search needs
-
 returns : tie.Need-returns
 returns c = (ap Begin (c .square-slot .ensures)) ∙ took _ _ _ (eq-eqb _ _ (c .before .if1 .taken))
 
@@ -19,4 +16,4 @@ returns-2 : tie.Need-returns-2
 returns-2 c = passed _ _ _ _ (ne-eqb _ _ (c .if1 .left)) refl
 
 pub bracket-only-spec : {M : Type 1} → statement M
-bracket-only-spec = tie.close (tie.spec square-slot-requires returns returns-2)
+bracket-only-spec = tie.close (tie.spec (λ c κs. search needs) returns returns-2)

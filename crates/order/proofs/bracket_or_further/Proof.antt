@@ -10,18 +10,12 @@ use Rattle.order.proofs.bracket_or_further.Lts as lts
 use Rattle.order.proofs.behind_element.Reads as behind-element-reads
 use Rattle.order.proofs.square_slot.Reads as square-slot-reads
 
-square-slot-requires : tie.Need-square-slot-requires
-square-slot-requires c κs = search needs
-
 returns : tie.Need-returns
 returns c = (ap Begin (c .square-slot .ensures)) ∙ took _ _ _ (eq-eqb _ _ (c .before .if1 .taken))
-
-behind-element-requires : tie.Need-behind-element-requires
-behind-element-requires c κs = search needs
 
 returns-2 : tie.Need-returns-2
 returns-2 c = passed _ _ _ _ (ne-eqb _ _ (c .before .if1 .left)) (c .behind-element .ensures)
 
 pub bracket-or-further-spec : {M : Type 1} → statement M
 bracket-or-further-spec =
-    tie.close (tie.spec square-slot-requires returns behind-element-requires returns-2)
+    tie.close (tie.spec (λ c κs. search needs) returns (λ c κs. search needs) returns-2)

@@ -11,15 +11,9 @@ use Rattle.order.proofs.within_group.Lts as lts
 use Rattle.classes.proofs.is_letter.Reads as is-letter-reads
 use Rattle.order.proofs.square_slot.Reads as square-slot-reads
 
-is-letter-requires : tie.Need-is-letter-requires
-is-letter-requires c κs = search needs
-
 returns : tie.Need-returns
 unfolding inGroup
 returns c = told-took _ _ (c .before .is-letter .ensures) (c .if1 .taken)
-
-square-slot-requires : tie.Need-square-slot-requires
-square-slot-requires c κs = search needs
 
 returns-2 : tie.Need-returns-2
 unfolding inGroup
@@ -36,4 +30,4 @@ returns-4 c = told-passed _ _ _ (c .before .before .before .is-letter .ensures) 
 pub within-group-spec : {M : Type 1} → statement M
 within-group-spec =
     tie.close
-    (tie.spec is-letter-requires returns square-slot-requires returns-2 returns-3 returns-4)
+    (tie.spec (λ c κs. search needs) returns (λ c κs. search needs) returns-2 returns-3 returns-4)

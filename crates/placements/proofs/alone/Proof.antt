@@ -9,15 +9,6 @@ use borrow.Author.Needs.{needs}
 use Rattle.placements.proofs.alone.Statement.{statement}
 use Rattle.placements.proofs.alone.Tie as tie
 
-mul-x : tie.Need-mul-x
-mul-x c = search needs
-
-element-copy-out-x : tie.Need-element-copy-out-x
-element-copy-out-x c = search needs
-
-open-at-requires : tie.Need-open-at-requires
-open-at-requires c κs = search needs
-
 returns : tie.Need-returns
 returns c =
     let s = c .before .before .before .before in alone-open (now (s .args .tab)) _ (s .args .t3 .at) (s .args .s) (c .open-at .result) (s .pre .1) (c .open-at .ensures)
@@ -27,4 +18,4 @@ returns-2 c =
     let s = c .before .before .before in λ f. let z = full-small _ _ (s .args .s) (place (s .args .t3 .at)) f (s .pre .1) in omega (arith, z, c .if1 .left)
 
 pub alone-spec : {M : Type 1} → statement M
-alone-spec = tie.close (tie.spec mul-x element-copy-out-x open-at-requires returns returns-2)
+alone-spec = tie.close (tie.spec (λ c. search needs) (λ c. search needs) (λ c κs. search needs) returns returns-2)

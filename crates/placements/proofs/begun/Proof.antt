@@ -9,12 +9,6 @@ use borrow.Author.Needs.{needs}
 use Rattle.placements.proofs.begun.Statement.{statement}
 use Rattle.placements.proofs.begun.Tie as tie
 
-unused-requires : tie.Need-unused-requires
-unused-requires c κs = search needs
-
-first-requires : tie.Need-first-requires
-first-requires c κs = search needs
-
 told-requires : tie.Need-told-requires
 told-requires c κs =
     let s = c .before .before .before .before .before in (s .pre .0 .few, first-small (now (s .args .tab)) _ (c .first .result .ok) (c .first .result .at .at) (c .first .ensures))
@@ -32,4 +26,4 @@ returns-2 c = let s = c .before .before .before .before in
     refused (begun-refused (now (s .args .tab)) (s .args .k) (s .args .l) (s .pre .1) (no _ _ (c .if1 .left) (c .before .unused .ensures)))
 
 pub begun-spec : {M : Type 1} → statement M
-begun-spec = tie.close (tie.spec unused-requires first-requires told-requires returns returns-2)
+begun-spec = tie.close (tie.spec (λ c κs. search needs) (λ c κs. search needs) told-requires returns returns-2)

@@ -8,12 +8,6 @@ use borrow.Author.Needs.{needs}
 use Rattle.placements.proofs.continued.Statement.{statement}
 use Rattle.placements.proofs.continued.Tie as tie
 
-is-allowed-requires : tie.Need-is-allowed-requires
-is-allowed-requires c κs = search needs
-
-widened-requires : tie.Need-widened-requires
-widened-requires c κs = search needs
-
 next-requires : tie.Need-next-requires
 next-requires c κs = let s = c .before .before .before .before .before in
     (s .pre .0, allowed-full (now (s .args .tab)) (s .args .k) (s .args .l .at) (c .widened .result .at) (s .pre .0) (c .widened .ensures) (sym (c .before .before .is-allowed .ensures) ∙ c .before .if1 .taken))
@@ -39,4 +33,4 @@ returns-2 c = let s = c .before .before .before .before in
 pub continued-spec : {M : Type 1} → statement M
 continued-spec =
     tie.close
-    (tie.spec is-allowed-requires widened-requires next-requires told-requires returns returns-2)
+    (tie.spec (λ c κs. search needs) (λ c κs. search needs) next-requires told-requires returns returns-2)

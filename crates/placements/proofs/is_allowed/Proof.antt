@@ -7,15 +7,6 @@ use borrow.Author.Needs.{needs}
 use Rattle.placements.proofs.is_allowed.Statement.{statement}
 use Rattle.placements.proofs.is_allowed.Tie as tie
 
-unused-requires : tie.Need-unused-requires
-unused-requires c κs = search needs
-
-widened-requires : tie.Need-widened-requires
-widened-requires c κs = search needs
-
-stand-requires : tie.Need-stand-requires
-stand-requires c κs = search needs
-
 returns : tie.Need-returns
 returns c = let s = c .before .before .before .before .before .before in
     let n : length (s .args .p .at) ≡ copyLimit = search needs in
@@ -27,4 +18,4 @@ returns-2 c = let s = c .before .before .before .before in
 
 pub is-allowed-spec : {M : Type 1} → statement M
 is-allowed-spec =
-    tie.close (tie.spec unused-requires widened-requires stand-requires returns returns-2)
+    tie.close (tie.spec (λ c κs. search needs) (λ c κs. search needs) (λ c κs. search needs) returns returns-2)

@@ -4,21 +4,9 @@ use borrow.Author.Needs.{needs}
 use Rattle.placements.proofs.request.Statement.{statement}
 use Rattle.placements.proofs.request.Tie as tie
 
-begun-requires : tie.Need-begun-requires
-begun-requires c κs = search needs
-
-returns : tie.Need-returns
-returns c = search needs
-
-continued-requires : tie.Need-continued-requires
-continued-requires c κs = search needs
-
-returns-2 : tie.Need-returns-2
-returns-2 c = search needs
-
 returns-3 : tie.Need-returns-3
 returns-3 c =
     let s = c .before .before .before .before .before in refused (other-asked _ (s .args .l) (c .before .before .if1 .left) (c .if2 .left))
 
 pub request-spec : {M : Type 1} → statement M
-request-spec = tie.close (tie.spec begun-requires returns continued-requires returns-2 returns-3)
+request-spec = tie.close (tie.spec (λ c κs. search needs) (λ c. search needs) (λ c κs. search needs) (λ c. search needs) returns-3)

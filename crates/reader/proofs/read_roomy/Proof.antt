@@ -4,51 +4,6 @@ use Rattle.reader.proofs.Reading.{refuses-line, accepts-line}
 use Rattle.reader.proofs.read_roomy.Statement.{statement}
 use Rattle.reader.proofs.read_roomy.Tie as tie
 
-slice-aggregate-judge : tie.Need-slice-aggregate-judge
-slice-aggregate-judge c = search needs
-
-slice-aggregate-judge-2 : tie.Need-slice-aggregate-judge-2
-slice-aggregate-judge-2 c = search needs
-
-slice-aggregate-judge-3 : tie.Need-slice-aggregate-judge-3
-slice-aggregate-judge-3 c = search needs
-
-slice-aggregate-judge-4 : tie.Need-slice-aggregate-judge-4
-slice-aggregate-judge-4 c = search needs
-
-slice-aggregate-judge-5 : tie.Need-slice-aggregate-judge-5
-slice-aggregate-judge-5 c = search needs
-
-slice-aggregate-judge-6 : tie.Need-slice-aggregate-judge-6
-slice-aggregate-judge-6 c = search needs
-
-judge-requires : tie.Need-judge-requires
-judge-requires c κs = search needs
-
-enum-known-judged : tie.Need-enum-known-judged
-enum-known-judged c = search needs
-
-enum-known-judged-2 : tie.Need-enum-known-judged-2
-enum-known-judged-2 c = search needs
-
-slice-aggregate-store-anew : tie.Need-slice-aggregate-store-anew
-slice-aggregate-store-anew c = search needs
-
-slice-aggregate-store-anew-2 : tie.Need-slice-aggregate-store-anew-2
-slice-aggregate-store-anew-2 c = search needs
-
-slice-aggregate-store-anew-3 : tie.Need-slice-aggregate-store-anew-3
-slice-aggregate-store-anew-3 c = search needs
-
-slice-aggregate-store-anew-4 : tie.Need-slice-aggregate-store-anew-4
-slice-aggregate-store-anew-4 c = search needs
-
-slice-aggregate-store-anew-5 : tie.Need-slice-aggregate-store-anew-5
-slice-aggregate-store-anew-5 c = search needs
-
-slice-aggregate-store-anew-6 : tie.Need-slice-aggregate-store-anew-6
-slice-aggregate-store-anew-6 c = search needs
-
 store-anew-requires : tie.Need-store-anew-requires
 store-anew-requires c κs =
     let m = c .before .before .before .before .before .before .before .before .before in
@@ -64,12 +19,6 @@ returns c =
     let s = j .before .before .before .before .before .before .before .before .before in
     refuses-line _ _ _ (s .pre .0) (s .pre .1) _ _ (rw (m .judged .given .1) at (j .judge .ensures))
 
-same-length : tie.Need-same-length
-same-length c = search needs
-
-same-length-2 : tie.Need-same-length-2
-same-length-2 c = search needs
-
 returns-2 : tie.Need-returns-2
 returns-2 c =
     let p = c .before .before .before in
@@ -83,23 +32,6 @@ pub read-roomy-spec : {M : Type 1} → statement M
 read-roomy-spec =
     tie.close
     (tie.spec
-    slice-aggregate-judge
-    slice-aggregate-judge-2
-    slice-aggregate-judge-3
-    slice-aggregate-judge-4
-    slice-aggregate-judge-5
-    slice-aggregate-judge-6
-    judge-requires
-    enum-known-judged
-    enum-known-judged-2
-    slice-aggregate-store-anew
-    slice-aggregate-store-anew-2
-    slice-aggregate-store-anew-3
-    slice-aggregate-store-anew-4
-    slice-aggregate-store-anew-5
-    slice-aggregate-store-anew-6
-    store-anew-requires
-    returns
-    same-length
-    same-length-2
-    returns-2)
+    (λ c. search needs) (λ c. search needs) (λ c. search needs) (λ c. search needs) (λ c. search needs) (λ c. search needs) (λ c κs. search needs)
+    (λ c. search needs) (λ c. search needs) (λ c. search needs) (λ c. search needs) (λ c. search needs) (λ c. search needs) (λ c. search needs)
+    (λ c. search needs) store-anew-requires returns (λ c. search needs) (λ c. search needs) returns-2)

@@ -4,20 +4,11 @@ use Rattle.reader.proofs.Storing.{fills-cleared, filled-cleared}
 use Rattle.reader.proofs.store_anew.Statement.{statement}
 use Rattle.reader.proofs.store_anew.Tie as tie
 
-clear-requires : tie.Need-clear-requires
-clear-requires c κs = search needs
-
 store-requires : tie.Need-store-requires
 store-requires c κs =
     let e = c .before .before .before .before .before in
     let s = e .before .before .before .before .before .before .before .before .before in
     fills-cleared _ _ _ _ (e .clear .ensures .0) (e .clear .ensures .1) (s .pre)
-
-same-length : tie.Need-same-length
-same-length c = search needs
-
-same-length-2 : tie.Need-same-length-2
-same-length-2 c = search needs
 
 returns : tie.Need-returns
 returns c =
@@ -26,4 +17,4 @@ returns c =
     filled-cleared _ _ _ _ (e .clear .ensures .0) (e .clear .ensures .1) _ _ _ (p .store .ensures)
 
 pub store-anew-spec : {M : Type 1} → statement M
-store-anew-spec = tie.close (tie.spec clear-requires store-requires same-length same-length-2 returns)
+store-anew-spec = tie.close (tie.spec (λ c κs. search needs) store-requires (λ c. search needs) (λ c. search needs) returns)

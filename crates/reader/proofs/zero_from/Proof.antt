@@ -3,21 +3,6 @@ use borrow.Author.Needs.{needs}
 use Rattle.reader.proofs.zero_from.Statement.{statement}
 use Rattle.reader.proofs.zero_from.Tie as tie
 
-sub-zero-bytes : tie.Need-sub-zero-bytes
-sub-zero-bytes c = search needs
-
-part-zero-bytes-start : tie.Need-part-zero-bytes-start
-part-zero-bytes-start c = search needs
-
-part-zero-bytes-end : tie.Need-part-zero-bytes-end
-part-zero-bytes-end c = search needs
-
-zero-bytes-requires : tie.Need-zero-bytes-requires
-zero-bytes-requires c κs = search needs
-
-same-length : tie.Need-same-length
-same-length c = search needs
-
 returns : tie.Need-returns
 returns c =
     let z = c .before .before in
@@ -28,9 +13,4 @@ pub zero-from-spec : {M : Type 1} → statement M
 zero-from-spec =
     tie.close
     (tie.spec
-    sub-zero-bytes
-    part-zero-bytes-start
-    part-zero-bytes-end
-    zero-bytes-requires
-    same-length
-    returns)
+    (λ c. search needs) (λ c. search needs) (λ c. search needs) (λ c κs. search needs) (λ c. search needs) returns)

@@ -4,27 +4,6 @@ use borrow.Author.Needs.{needs}
 use Rattle.rules.proofs.bracket_due.Statement.{statement}
 use Rattle.rules.proofs.bracket_due.Tie as tie
 
-place-of-requires : tie.Need-place-of-requires
-place-of-requires c κs = search needs
-
-has-only-info-requires : tie.Need-has-only-info-requires
-has-only-info-requires c κs = search needs
-
-due-if-requires : tie.Need-due-if-requires
-due-if-requires c κs = search needs
-
-is-wrong-requires : tie.Need-is-wrong-requires
-is-wrong-requires c κs = search needs
-
-due-if-requires-2 : tie.Need-due-if-requires-2
-due-if-requires-2 c κs = search needs
-
-passes-requires : tie.Need-passes-requires
-passes-requires c κs = search needs
-
-due-if-requires-3 : tie.Need-due-if-requires-3
-due-if-requires-3 c κs = search needs
-
 returns : tie.Need-returns
 returns c =
     let s = c .before .before .before .before .before .before .before .before .before .before in
@@ -36,11 +15,5 @@ pub bracket-due-spec : {M : Type 1} → statement M
 bracket-due-spec =
     tie.close
     (tie.spec
-    place-of-requires
-    has-only-info-requires
-    due-if-requires
-    is-wrong-requires
-    due-if-requires-2
-    passes-requires
-    due-if-requires-3
-    returns)
+    (λ c κs. search needs) (λ c κs. search needs) (λ c κs. search needs) (λ c κs. search needs) (λ c κs. search needs) (λ c κs. search needs)
+    (λ c κs. search needs) returns)

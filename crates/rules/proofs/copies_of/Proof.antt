@@ -6,9 +6,6 @@ use borrow.Author.Needs.{needs}
 use Rattle.rules.proofs.copies_of.Statement.{statement}
 use Rattle.rules.proofs.copies_of.Tie as tie
 
-sort-of-requires : tie.Need-sort-of-requires
-sort-of-requires c κs = search needs
-
 returns : tie.Need-returns
 returns c =
     let s = c .before .before .before .args in
@@ -20,12 +17,6 @@ returns-2 c =
     let s = c .before .before .before .before .args in
     let heads = s .heads .now in
     (copies-none (sortField heads (s .k)) (kindField heads (s .k)) (countField heads (s .k)) (c .before .before .sort-of .ensures .0) (c .before .if1 .left) (c .if2 .taken), omega arith)
-
-kind-of-requires : tie.Need-kind-of-requires
-kind-of-requires c κs = search needs
-
-count-of-requires : tie.Need-count-of-requires
-count-of-requires c κs = search needs
 
 returns-3 : tie.Need-returns-3
 returns-3 c =
@@ -50,11 +41,4 @@ pub copies-of-spec : {M : Type 1} → statement M
 copies-of-spec =
     tie.close
     (tie.spec
-    sort-of-requires
-    returns
-    returns-2
-    kind-of-requires
-    count-of-requires
-    returns-3
-    returns-4
-    returns-5)
+    (λ c κs. search needs) returns returns-2 (λ c κs. search needs) (λ c κs. search needs) returns-3 returns-4 returns-5)

@@ -4,16 +4,10 @@ use borrow.Author.Needs.{needs}
 use Rattle.rules.proofs.has_only_info.Statement.{statement}
 use Rattle.rules.proofs.has_only_info.Tie as tie
 
-kind-of-requires : tie.Need-kind-of-requires
-kind-of-requires c κs = search needs
-
 returns : tie.Need-returns
 returns c =
     let s = c .before .before .before .args in
     info-kind (s .heads .now) (s .k) (c .before .kind-of .ensures .0) (c .if1 .taken)
-
-sort-of-requires : tie.Need-sort-of-requires
-sort-of-requires c κs = search needs
 
 returns-2 : tie.Need-returns-2
 returns-2 c =
@@ -21,4 +15,4 @@ returns-2 c =
     info-sort (s .heads .now) (s .k) (c .before .before .kind-of .ensures .0) (c .before .if1 .left) (c .sort-of .ensures .0)
 
 pub has-only-info-spec : {M : Type 1} → statement M
-has-only-info-spec = tie.close (tie.spec kind-of-requires returns sort-of-requires returns-2)
+has-only-info-spec = tie.close (tie.spec (λ c κs. search needs) returns (λ c κs. search needs) returns-2)

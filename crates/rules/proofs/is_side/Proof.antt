@@ -4,9 +4,6 @@ use borrow.Author.Needs.{needs}
 use Rattle.rules.proofs.is_side.Statement.{statement}
 use Rattle.rules.proofs.is_side.Tie as tie
 
-sort-of-requires : tie.Need-sort-of-requires
-sort-of-requires c κs = search needs
-
 returns : tie.Need-returns
 returns c =
     let s = c .before .before .before .args in
@@ -18,4 +15,4 @@ returns-2 c =
     side-definition (s .heads .now) _ (s .k) (c .before .sort-of .ensures .0) (c .if1 .left)
 
 pub is-side-spec : {M : Type 1} → statement M
-is-side-spec = tie.close (tie.spec sort-of-requires returns returns-2)
+is-side-spec = tie.close (tie.spec (λ c κs. search needs) returns returns-2)

@@ -6,9 +6,6 @@ use borrow.Author.Needs.{needs}
 use Rattle.rules.proofs.is_wrong.Statement.{statement}
 use Rattle.rules.proofs.is_wrong.Tie as tie
 
-labels-of-requires : tie.Need-labels-of-requires
-labels-of-requires c κs = search needs
-
 returns : tie.Need-returns
 returns c =
     let s = c .before .before .before .before .before in
@@ -18,9 +15,6 @@ returns-2 : tie.Need-returns-2
 returns-2 c =
     let s = c .before .before .before .before .before .before in
     wrong-two (s .args .line .now) (s .args .heads .now) (s .args .parts .now) (s .args .n) (s .args .k) (c .before .before .labels-of .ensures .0) (c .before .if1 .left) (c .if2 .taken)
-
-is-counted-requires : tie.Need-is-counted-requires
-is-counted-requires c κs = search needs
 
 returns-3 : tie.Need-returns-3
 returns-3 c =
@@ -51,11 +45,4 @@ pub is-wrong-spec : {M : Type 1} → statement M
 is-wrong-spec =
     tie.close
     (tie.spec
-    labels-of-requires
-    returns
-    returns-2
-    is-counted-requires
-    returns-3
-    labelled-part-requires
-    is-wrong-label-requires
-    returns-4)
+    (λ c κs. search needs) returns returns-2 (λ c κs. search needs) returns-3 labelled-part-requires is-wrong-label-requires returns-4)

@@ -6,12 +6,6 @@ use borrow.Author.Needs.{needs}
 use Rattle.rules.proofs.is_wrong_label.Statement.{statement}
 use Rattle.rules.proofs.is_wrong_label.Tie as tie
 
-sort-of-requires : tie.Need-sort-of-requires
-sort-of-requires c κs = search needs
-
-is-named-requires : tie.Need-is-named-requires
-is-named-requires c κs = search needs
-
 returns : tie.Need-returns
 returns c =
     let s = c .before .before .before .before .before .before in
@@ -27,12 +21,6 @@ returns-2 c =
     let s = c .before .before .before .before .before .before .before in
     let d = c .before .before in
     wrong-again (s .args .line .now) (s .args .heads .now) (s .args .parts .now) (s .args .n) (s .args .k) (s .args .x) (d .before .sort-of .ensures .0) (d .if1 .left) (c .before .is-named2 .ensures) (c .if2 .taken)
-
-kind-of-requires : tie.Need-kind-of-requires
-kind-of-requires c κs = search needs
-
-is-named-requires-3 : tie.Need-is-named-requires-3
-is-named-requires-3 c κs = search needs
 
 returns-3 : tie.Need-returns-3
 returns-3 c =
@@ -50,12 +38,5 @@ pub is-wrong-label-spec : {M : Type 1} → statement M
 is-wrong-label-spec =
     tie.close
     (tie.spec
-    sort-of-requires
-    is-named-requires
-    returns
-    is-named-requires-2
-    returns-2
-    kind-of-requires
-    is-named-requires-3
-    returns-3
+    (λ c κs. search needs) (λ c κs. search needs) returns is-named-requires-2 returns-2 (λ c κs. search needs) (λ c κs. search needs) returns-3
     returns-4)

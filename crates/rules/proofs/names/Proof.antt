@@ -6,22 +6,10 @@ use borrow.Author.Needs.{needs}
 use Rattle.rules.proofs.names.Statement.{statement}
 use Rattle.rules.proofs.names.Tie as tie
 
-labels-of-requires : tie.Need-labels-of-requires
-labels-of-requires c κs = search needs
-
 returns : tie.Need-returns
 returns c =
     let s = c .before .before .before .before .before in
     side-none (s .args .line .now) (s .args .heads .now) (s .args .parts .now) _ (s .args .k) (nameAt (s .args .line .now) (s .args .parts .now) (s .args .x)) (c .before .labels-of .ensures .0) (c .if1 .taken)
-
-is-side-requires : tie.Need-is-side-requires
-is-side-requires c κs = search needs
-
-base-of-requires : tie.Need-base-of-requires
-base-of-requires c κs = search needs
-
-parts-of-requires : tie.Need-parts-of-requires
-parts-of-requires c κs = search needs
 
 has-label-requires : tie.Need-has-label-requires
 has-label-requires c κs =
@@ -44,11 +32,4 @@ pub names-spec : {M : Type 1} → statement M
 names-spec =
     tie.close
     (tie.spec
-    labels-of-requires
-    returns
-    is-side-requires
-    base-of-requires
-    parts-of-requires
-    has-label-requires
-    returns-2
-    returns-3)
+    (λ c κs. search needs) returns (λ c κs. search needs) (λ c κs. search needs) (λ c κs. search needs) has-label-requires returns-2 returns-3)

@@ -4,32 +4,11 @@ use borrow.Author.Needs.{needs}
 use Rattle.rules.proofs.same_label.Statement.{statement}
 use Rattle.rules.proofs.same_label.Tie as tie
 
-label-from-requires : tie.Need-label-from-requires
-label-from-requires c κs = search needs
-
-label-to-requires : tie.Need-label-to-requires
-label-to-requires c κs = search needs
-
-sub-m : tie.Need-sub-m
-sub-m c = search needs
-
-label-from-requires-2 : tie.Need-label-from-requires-2
-label-from-requires-2 c κs = search needs
-
-label-to-requires-2 : tie.Need-label-to-requires-2
-label-to-requires-2 c κs = search needs
-
-sub-n : tie.Need-sub-n
-sub-n c = search needs
-
 returns : tie.Need-returns
 returns c =
     let d = c .before in
     let s = d .before .before .before .before .before .before in
     label-other (s .args .line .now) (s .args .parts .now) (s .args .x) (s .args .y) (d .before .before .before .label-from .ensures .0) (d .before .before .label-to .ensures .0) (d .before .label-from2 .ensures .0) (d .label-to2 .ensures .0) (s .pre .1) (s .pre .2) (c .if1 .taken)
-
-same-text-requires : tie.Need-same-text-requires
-same-text-requires c κs = search needs
 
 returns-2 : tie.Need-returns-2
 returns-2 c =
@@ -41,12 +20,5 @@ pub same-label-spec : {M : Type 1} → statement M
 same-label-spec =
     tie.close
     (tie.spec
-    label-from-requires
-    label-to-requires
-    sub-m
-    label-from-requires-2
-    label-to-requires-2
-    sub-n
-    returns
-    same-text-requires
-    returns-2)
+    (λ c κs. search needs) (λ c κs. search needs) (λ c. search needs) (λ c κs. search needs) (λ c κs. search needs) (λ c. search needs) returns
+    (λ c κs. search needs) returns-2)

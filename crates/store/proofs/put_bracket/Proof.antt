@@ -8,30 +8,12 @@ use Rattle.store.proofs.put_bracket.Tie as tie
 put-head-requires : tie.Need-put-head-requires
 put-head-requires c κs = some-head (c .before .before .before .before .before .pre)
 
-base-of-requires : tie.Need-base-of-requires
-base-of-requires c κs = search needs
-
-parts-of-requires : tie.Need-parts-of-requires
-parts-of-requires c κs = search needs
-
 put-parts-requires : tie.Need-put-parts-requires
 put-parts-requires c κs =
     let n = c .before .before in
     let m = n .before in
     let h = m .before .before .before in
     some-parts (m .base-of .ensures .0) (n .parts-of .ensures .0) (h .put-head .ensures) (h .before .before .before .before .before .before .pre)
-
-number-requires : tie.Need-number-requires
-number-requires c κs = search needs
-
-put-score-requires : tie.Need-put-score-requires
-put-score-requires c κs = search needs
-
-same-length : tie.Need-same-length
-same-length c = search needs
-
-same-length-2 : tie.Need-same-length-2
-same-length-2 c = search needs
 
 returns : tie.Need-returns
 returns c =
@@ -47,12 +29,5 @@ pub put-bracket-spec : {M : Type 1} → statement M
 put-bracket-spec =
     tie.close
     (tie.spec
-    put-head-requires
-    base-of-requires
-    parts-of-requires
-    put-parts-requires
-    number-requires
-    put-score-requires
-    same-length
-    same-length-2
-    returns)
+    put-head-requires (λ c κs. search needs) (λ c κs. search needs) put-parts-requires (λ c κs. search needs) (λ c κs. search needs)
+    (λ c. search needs) (λ c. search needs) returns)

@@ -4,18 +4,6 @@ use borrow.Author.Needs.{needs}
 use Rattle.store.proofs.put_front.Statement.{statement}
 use Rattle.store.proofs.put_front.Tie as tie
 
-put-counts-requires : tie.Need-put-counts-requires
-put-counts-requires c κs = search needs
-
-copy-requires : tie.Need-copy-requires
-copy-requires c κs = search needs
-
-copy-requires-2 : tie.Need-copy-requires-2
-copy-requires-2 c κs = search needs
-
-same-length : tie.Need-same-length
-same-length c = search needs
-
 returns : tie.Need-returns
 returns c =
     let y = c .before .before in
@@ -26,4 +14,4 @@ returns c =
 
 pub put-front-spec : {M : Type 1} → statement M
 put-front-spec =
-    tie.close (tie.spec put-counts-requires copy-requires copy-requires-2 same-length returns)
+    tie.close (tie.spec (λ c κs. search needs) (λ c κs. search needs) (λ c κs. search needs) (λ c. search needs) returns)

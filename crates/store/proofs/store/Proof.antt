@@ -12,12 +12,6 @@ put-brackets-requires c κs =
     let p = c .before .before .before .before in
     brackets-fit (p .before .before .before .before .before .before .before .before .pre) (p .put-front .ensures)
 
-same-length : tie.Need-same-length
-same-length c = search needs
-
-same-length-2 : tie.Need-same-length-2
-same-length-2 c = search needs
-
 returns : tie.Need-returns
 returns c =
     let b = c .before .before .before in
@@ -26,4 +20,4 @@ returns c =
 
 pub store-spec : {M : Type 1} → statement M
 store-spec =
-    tie.close (tie.spec put-front-requires put-brackets-requires same-length same-length-2 returns)
+    tie.close (tie.spec put-front-requires put-brackets-requires (λ c. search needs) (λ c. search needs) returns)

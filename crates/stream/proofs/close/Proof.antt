@@ -85,27 +85,6 @@ pub close-spec : {M : Type 1} → statement M
 close-spec =
     tie.close
     (tie.spec
-    finish-requires
-    hand-last-requires
-    same-length
-    same-length-2
-    same-length-3
-    same-length-4
-    same-length-5
-    same-length-6
-    same-length-7
-    same-length-8
-    same-length-9
-    returns
-    one-if-requires
-    add-total
-    same-length-10
-    same-length-11
-    same-length-12
-    same-length-13
-    same-length-14
-    same-length-15
-    same-length-16
-    same-length-17
-    same-length-18
-    returns-2)
+    finish-requires hand-last-requires same-length same-length-2 same-length-3 same-length-4 same-length-5 same-length-6 same-length-7 same-length-8
+    same-length-9 returns one-if-requires add-total same-length-10 same-length-11 same-length-12 same-length-13 same-length-14 same-length-15
+    same-length-16 same-length-17 same-length-18 returns-2)

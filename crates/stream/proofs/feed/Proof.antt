@@ -143,22 +143,5 @@ pub feed-spec : {M : Type 1} → statement M
 feed-spec =
     tie.close
     (tie.spec
-    gather-requires
-    same-length
-    returns
-    put-part-requires
-    one-if-requires
-    add-total
-    add-put-lines
-    put-lines-requires
-    same-length-2
-    same-length-3
-    same-length-4
-    same-length-5
-    same-length-6
-    same-length-7
-    same-length-8
-    same-length-9
-    same-length-10
-    same-length-11
-    returns-2)
+    gather-requires same-length returns put-part-requires one-if-requires add-total add-put-lines put-lines-requires same-length-2 same-length-3
+    same-length-4 same-length-5 same-length-6 same-length-7 same-length-8 same-length-9 same-length-10 same-length-11 returns-2)

@@ -92,28 +92,6 @@ pub take-in-spec : {M : Type 1} → statement M
 take-in-spec =
     tie.close
     (tie.spec
-    close-requires
-    same-length
-    same-length-2
-    same-length-3
-    same-length-4
-    same-length-5
-    same-length-6
-    same-length-7
-    same-length-8
-    same-length-9
-    same-length-10
-    returns
-    slice-aggregate-drain
-    drain-requires
-    same-length-11
-    same-length-12
-    same-length-13
-    same-length-14
-    same-length-15
-    same-length-16
-    same-length-17
-    same-length-18
-    same-length-19
-    same-length-20
-    returns-2)
+    close-requires same-length same-length-2 same-length-3 same-length-4 same-length-5 same-length-6 same-length-7 same-length-8 same-length-9
+    same-length-10 returns slice-aggregate-drain drain-requires same-length-11 same-length-12 same-length-13 same-length-14 same-length-15
+    same-length-16 same-length-17 same-length-18 same-length-19 same-length-20 returns-2)

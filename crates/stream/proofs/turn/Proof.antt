@@ -8,9 +8,6 @@ use Rattle.stream.proofs.turn.Tie as tie
 receive-requires : tie.Need-receive-requires
 receive-requires c κs = tt
 
-enum-known-got : tie.Need-enum-known-got
-enum-known-got c = search needs
-
 take-in-requires : tie.Need-take-in-requires
 take-in-requires c κs =
     let g = c .before .before .before .before .before .before .before .before .before .before .before .before in
@@ -19,9 +16,6 @@ take-in-requires c κs =
     let s = a .before .before .before .before .before .before .before .before .before .before in
     let same = r .room .given in
     (came-fits (g .got .given .1) (a .receive .ensures) same, omega (arith, s .pre .0, same), s .pre .1, s .pre .2, s .pre .3)
-
-enum-told : tie.Need-enum-told
-enum-told c = search needs
 
 same-length : tie.Need-same-length
 same-length c = c .before .before .before .before .before .before .before .before .before .before .before .before .before .before .before .before .before .before .before .before .before .before .before .before .before .before .before .before .before .before .before .before .before .room .given
@@ -69,21 +63,5 @@ pub turn-spec : {M : Type 1} → statement M
 turn-spec =
     tie.close
     (tie.spec
-    receive-requires
-    enum-known-got
-    take-in-requires
-    enum-told
-    same-length
-    same-length-2
-    same-length-3
-    same-length-4
-    same-length-5
-    same-length-6
-    same-length-7
-    same-length-8
-    same-length-9
-    same-length-10
-    same-length-11
-    returns
-    same-length-12
-    returns-2)
+    receive-requires (λ c. search needs) take-in-requires (λ c. search needs) same-length same-length-2 same-length-3 same-length-4 same-length-5
+    same-length-6 same-length-7 same-length-8 same-length-9 same-length-10 same-length-11 returns same-length-12 returns-2)

@@ -4,14 +4,8 @@ use borrow.Author.Needs.{needs}
 use Rattle.tabled.proofs.are_tables.Statement.{statement}
 use Rattle.tabled.proofs.are_tables.Tie as tie
 
-slice-aggregate-line-of : tie.Need-slice-aggregate-line-of
-slice-aggregate-line-of c = search needs
-
-line-of-requires : tie.Need-line-of-requires
-line-of-requires c κs = search needs
-
 returns : tie.Need-returns
 returns c = said-by-line _ _ (c .before .line-of .ensures)
 
 pub are-tables-spec : {M : Type 1} → statement M
-are-tables-spec = tie.close (tie.spec slice-aggregate-line-of line-of-requires returns)
+are-tables-spec = tie.close (tie.spec (λ c. search needs) (λ c κs. search needs) returns)

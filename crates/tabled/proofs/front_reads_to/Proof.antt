@@ -10,21 +10,9 @@ use borrow.Author.Needs.{needs}
 use Rattle.tabled.proofs.front_reads_to.Statement.{statement}
 use Rattle.tabled.proofs.front_reads_to.Tie as tie
 
-sub-front : tie.Need-sub-front
-sub-front c = search needs
-
-part-front-start : tie.Need-part-front-start
-part-front-start c = search needs
-
-part-front-end : tie.Need-part-front-end
-part-front-end c = search needs
-
-reads-to-requires : tie.Need-reads-to-requires
-reads-to-requires c κs = search needs
-
 returns : tie.Need-returns
 returns c = c .reads-to .ensures ∙ ap (λ s. readsTo (outcome s) (take bytesSize (now (c .before .before .before .before .args .bytes))) (take numbersSize (now (c .before .before .before .before .args .numbers)))) (front-part (c .before .before .before .before .args .n) (now (c .before .before .before .before .args .line)))
 
 pub front-reads-to-spec : {M : Type 1} → statement M
 front-reads-to-spec =
-    tie.close (tie.spec sub-front part-front-start part-front-end reads-to-requires returns)
+    tie.close (tie.spec (λ c. search needs) (λ c. search needs) (λ c. search needs) (λ c κs. search needs) returns)

@@ -7,9 +7,6 @@ use borrow.Author.Needs.{needs}
 use Rattle.tabled.proofs.line_of.Statement.{statement}
 use Rattle.tabled.proofs.line_of.Tie as tie
 
-in-bounds-requires : tie.Need-in-bounds-requires
-in-bounds-requires c κs = search needs
-
 in-order-requires : tie.Need-in-order-requires
 in-order-requires c κs = let b = yes _ (c .before .in-bounds .ensures) (c .if1 .taken) in (b .bytes-room, b .few-brackets)
 
@@ -19,12 +16,6 @@ line-back-requires c κs = (
   sym (c .before .before .in-order .ensures _) ∙ c .before .if2 .taken,
   search needs,
 )
-
-same-length : tie.Need-same-length
-same-length c = search needs
-
-returns : tie.Need-returns
-returns c = search needs
 
 returns-2 : tie.Need-returns-2
 returns-2 c = no-line _ _ (order-needed _ _ (sym (c .before .in-order .ensures _) ∙ c .if2 .left))
@@ -36,10 +27,4 @@ pub line-of-spec : {M : Type 1} → statement M
 line-of-spec =
     tie.close
     (tie.spec
-    in-bounds-requires
-    in-order-requires
-    line-back-requires
-    same-length
-    returns
-    returns-2
-    returns-3)
+    (λ c κs. search needs) in-order-requires line-back-requires (λ c. search needs) (λ c. search needs) returns-2 returns-3)

@@ -5,51 +5,6 @@ use borrow.Author.Needs.{needs}
 use Rattle.tabled.proofs.reads_to.Statement.{statement}
 use Rattle.tabled.proofs.reads_to.Tie as tie
 
-slice-aggregate-judge : tie.Need-slice-aggregate-judge
-slice-aggregate-judge c = search needs
-
-slice-aggregate-judge-2 : tie.Need-slice-aggregate-judge-2
-slice-aggregate-judge-2 c = search needs
-
-slice-aggregate-judge-3 : tie.Need-slice-aggregate-judge-3
-slice-aggregate-judge-3 c = search needs
-
-slice-aggregate-judge-4 : tie.Need-slice-aggregate-judge-4
-slice-aggregate-judge-4 c = search needs
-
-slice-aggregate-judge-5 : tie.Need-slice-aggregate-judge-5
-slice-aggregate-judge-5 c = search needs
-
-slice-aggregate-judge-6 : tie.Need-slice-aggregate-judge-6
-slice-aggregate-judge-6 c = search needs
-
-judge-requires : tie.Need-judge-requires
-judge-requires c κs = search needs
-
-enum-told : tie.Need-enum-told
-enum-told c = search needs
-
-enum-known-judged : tie.Need-enum-known-judged
-enum-known-judged c = search needs
-
-slice-aggregate-holds : tie.Need-slice-aggregate-holds
-slice-aggregate-holds c = search needs
-
-slice-aggregate-holds-2 : tie.Need-slice-aggregate-holds-2
-slice-aggregate-holds-2 c = search needs
-
-slice-aggregate-holds-3 : tie.Need-slice-aggregate-holds-3
-slice-aggregate-holds-3 c = search needs
-
-slice-aggregate-holds-4 : tie.Need-slice-aggregate-holds-4
-slice-aggregate-holds-4 c = search needs
-
-slice-aggregate-holds-5 : tie.Need-slice-aggregate-holds-5
-slice-aggregate-holds-5 c = search needs
-
-slice-aggregate-holds-6 : tie.Need-slice-aggregate-holds-6
-slice-aggregate-holds-6 c = search needs
-
 holds-requires : tie.Need-holds-requires
 holds-requires c κs =
     let m = c .before .before .before .before .before .before .before in
@@ -60,28 +15,10 @@ holds-requires c κs =
 returns : tie.Need-returns
 returns c = let j = c .before .before .before .before .before .before .before .before in sym (read-refused _ (rw (c .enum-told .given .1) at (j .judge .ensures)) _ _)
 
-returns-2 : tie.Need-returns-2
-returns-2 c = search needs
-
 pub reads-to-spec : {M : Type 1} → statement M
 reads-to-spec =
     tie.close
     (tie.spec
-    slice-aggregate-judge
-    slice-aggregate-judge-2
-    slice-aggregate-judge-3
-    slice-aggregate-judge-4
-    slice-aggregate-judge-5
-    slice-aggregate-judge-6
-    judge-requires
-    enum-told
-    enum-known-judged
-    slice-aggregate-holds
-    slice-aggregate-holds-2
-    slice-aggregate-holds-3
-    slice-aggregate-holds-4
-    slice-aggregate-holds-5
-    slice-aggregate-holds-6
-    holds-requires
-    returns
-    returns-2)
+    (λ c. search needs) (λ c. search needs) (λ c. search needs) (λ c. search needs) (λ c. search needs) (λ c. search needs) (λ c κs. search needs)
+    (λ c. search needs) (λ c. search needs) (λ c. search needs) (λ c. search needs) (λ c. search needs) (λ c. search needs) (λ c. search needs)
+    (λ c. search needs) holds-requires returns (λ c. search needs))

@@ -5,12 +5,6 @@ use borrow.Author.Needs.{needs}
 use Rattle.texts.proofs.is_inner.Statement.{statement}
 use Rattle.texts.proofs.is_inner.Tie as tie
 
-is-printable-requires : tie.Need-is-printable-requires
-is-printable-requires c κs = search needs
-
-is-letter-requires : tie.Need-is-letter-requires
-is-letter-requires c κs = search needs
-
 returns : tie.Need-returns
 returns c = letter-inner (c .before .before .args .b) (sym (c .before .is-letter .ensures) ∙ c .if1 .taken)
 
@@ -37,4 +31,4 @@ returns-6 c =
 
 pub is-inner-spec : {M : Type 1} → statement M
 is-inner-spec =
-    tie.close (tie.spec is-letter-requires returns is-printable-requires returns-2 returns-3 returns-4 returns-5 returns-6)
+    tie.close (tie.spec (λ c κs. search needs) returns (λ c κs. search needs) returns-2 returns-3 returns-4 returns-5 returns-6)

@@ -4,9 +4,6 @@ use borrow.Author.Needs.{needs}
 use Rattle.texts.proofs.is_outer.Statement.{statement}
 use Rattle.texts.proofs.is_outer.Tie as tie
 
-is-plain-requires : tie.Need-is-plain-requires
-is-plain-requires c κs = search needs
-
 returns : tie.Need-returns
 returns c = outer-plain _ _ (sym (c .before .is-plain .ensures) ∙ c .if1 .taken)
 
@@ -24,4 +21,4 @@ returns-4 c =
     outer-not _ _ (sym (e .before .is-plain .ensures) ∙ e .if1 .left) (c .before .if2 .left) (c .if3 .left)
 
 pub is-outer-spec : {M : Type 1} → statement M
-is-outer-spec = tie.close (tie.spec is-plain-requires returns returns-2 returns-3 returns-4)
+is-outer-spec = tie.close (tie.spec (λ c κs. search needs) returns returns-2 returns-3 returns-4)

@@ -12,12 +12,6 @@ use Rattle.values.proofs.Begins.{form-is, key-signed, key-unsigned, key
 use Rattle.values.proofs.behind_key.Statement.{statement}
 use Rattle.values.proofs.behind_key.Tie as tie
 
-form-of-requires : tie.Need-form-of-requires
-form-of-requires c κs = search needs
-
-mass-behind-requires : tie.Need-mass-behind-requires
-mass-behind-requires c κs = search needs
-
 mass-at-requires : tie.Need-mass-at-requires
 mass-at-requires c κs =
     let s = c .before .before .before .before in
@@ -25,39 +19,6 @@ mass-at-requires c κs =
 
 returns : tie.Need-returns
 returns c = λ at w. key-mass _ at _ _ _ (c .before .before .before .form-of .ensures) (sym (c .before .before .mass-behind .ensures) ∙ c .before .if1 .taken) _ (c .mass-at .ensures at (omega arith))
-
-enum-told : tie.Need-enum-told
-enum-told c = search needs
-
-text-from-requires : tie.Need-text-from-requires
-text-from-requires c κs = search needs
-
-enum-told-2 : tie.Need-enum-told-2
-enum-told-2 c = search needs
-
-enum-told-3 : tie.Need-enum-told-3
-enum-told-3 c = search needs
-
-digit-end-requires : tie.Need-digit-end-requires
-digit-end-requires c κs = search needs
-
-text-of-requires : tie.Need-text-of-requires
-text-of-requires c κs = search needs
-
-enum-told-4 : tie.Need-enum-told-4
-enum-told-4 c = search needs
-
-alnum-end-requires : tie.Need-alnum-end-requires
-alnum-end-requires c κs = search needs
-
-text-of-requires-2 : tie.Need-text-of-requires-2
-text-of-requires-2 c κs = search needs
-
-enum-told-5 : tie.Need-enum-told-5
-enum-told-5 c = search needs
-
-text-from-requires-2 : tie.Need-text-from-requires-2
-text-from-requires-2 c κs = search needs
 
 returns-2 : tie.Need-returns-2
 returns-2 c = λ at w.
@@ -103,4 +64,4 @@ returns-6 c = λ at w.
     key-free (s .args .line .now) at (s .args .key) (s .args .from) f _ (c .text-from2 .ensures at (ap hashIsPlain f) w (omega arith))
 
 pub behind-key-spec : {M : Type 1} → statement M
-behind-key-spec = tie.close (tie.spec form-of-requires mass-behind-requires mass-at-requires returns enum-told text-from-requires enum-told-2 enum-told-3 digit-end-requires text-of-requires enum-told-4 alnum-end-requires text-of-requires-2 enum-told-5 text-from-requires-2 returns-2 returns-3 returns-4 returns-5 returns-6)
+behind-key-spec = tie.close (tie.spec (λ c κs. search needs) (λ c κs. search needs) mass-at-requires returns (λ c. search needs) (λ c κs. search needs) (λ c. search needs) (λ c. search needs) (λ c κs. search needs) (λ c κs. search needs) (λ c. search needs) (λ c κs. search needs) (λ c κs. search needs) (λ c. search needs) (λ c κs. search needs) returns-2 returns-3 returns-4 returns-5 returns-6)

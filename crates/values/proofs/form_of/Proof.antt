@@ -7,9 +7,6 @@ use Rattle.values.proofs.Tags.{at-key, formAt, form-by-tag}
 use Rattle.values.proofs.form_of.Statement.{statement}
 use Rattle.values.proofs.form_of.Tie as tie
 
-enum-told : tie.Need-enum-told
-enum-told c = search needs
-
 returns : tie.Need-returns
 returns c =
     at-key (λ n. MassOrName ≡ formAt n) (0 ∷ 1 ∷ 2 ∷ 3 ∷ 4 ∷ 5 ∷ 6 ∷ []) _ (c .match .keys1) (refl, (refl, (refl, (refl, (refl, (refl, (refl, tt)))))))
@@ -29,4 +26,4 @@ returns-5 c =
     at-key (λ n. Free ≡ formAt n) (13 ∷ 14 ∷ 15 ∷ 16 ∷ 17 ∷ []) _ (c .match .keys5) (refl, (refl, (refl, (refl, (refl, tt))))) ∙ form-by-tag (c .before .args .key)
 
 pub form-of-spec : {M : Type 1} → statement M
-form-of-spec = tie.close (tie.spec enum-told returns returns-2 returns-3 returns-4 returns-5)
+form-of-spec = tie.close (tie.spec (λ c. search needs) returns returns-2 returns-3 returns-4 returns-5)

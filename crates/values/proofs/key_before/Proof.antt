@@ -7,12 +7,6 @@ use Rattle.values.proofs.key_before.Tie as tie
 returns : tie.Need-returns
 returns c = key-over _ _ _ (c .if1 .taken)
 
-shared-slice-read-if2 : tie.Need-shared-slice-read-if2
-shared-slice-read-if2 c = search needs
-
-key-in-requires : tie.Need-key-in-requires
-key-in-requires c κs = search needs
-
 returns-2 : tie.Need-returns-2
 returns-2 c = key-there _ _ _ _ (c .before .if2 .taken) (c .key-in .ensures)
 
@@ -20,4 +14,4 @@ returns-3 : tie.Need-returns-3
 returns-3 c = no-colon _ _ _ (c .if2 .left)
 
 pub key-before-spec : {M : Type 1} → statement M
-key-before-spec = tie.close (tie.spec returns shared-slice-read-if2 key-in-requires returns-2 returns-3)
+key-before-spec = tie.close (tie.spec returns (λ c. search needs) (λ c κs. search needs) returns-2 returns-3)

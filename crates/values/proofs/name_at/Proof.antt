@@ -14,22 +14,13 @@ use Rattle.values.proofs.name_at.Tie as tie
 returns : tie.Need-returns
 returns c = λ e k. over _ _ _ (λ x. innerStep _ (inText x _ NoKey _ _)) (c .if1 .taken) k
 
-shared-slice-read-if2 : tie.Need-shared-slice-read-if2
-shared-slice-read-if2 c = search needs
-
-text-of-requires : tie.Need-text-of-requires
-text-of-requires c κs = search needs
-
 returns-2 : tie.Need-returns-2
 returns-2 c = λ e k.
     let s = c .before .before .before .before .before in
     name-shut _ _ _ _ (c .before .if2 .taken) _ (c .text-of .ensures (s .args .line .now) (s .args .at) (no-key-behind (s .args .at)) (s .pre) k (none-deep isPlain plain-quiet _ _ _ (run-upto isPlain _ _ _ e)))
 
-text-from-requires : tie.Need-text-from-requires
-text-from-requires c κs = search needs
-
 returns-3 : tie.Need-returns-3
 returns-3 c = λ e k. let s = c .before .before .before .before .before in c .text-from .ensures (s .args .at) refl (no-key-behind (s .args .at)) (run-upto isPlain _ _ _ e)
 
 pub name-at-spec : {M : Type 1} → statement M
-name-at-spec = tie.close (tie.spec returns shared-slice-read-if2 text-of-requires returns-2 text-from-requires returns-3)
+name-at-spec = tie.close (tie.spec returns (λ c. search needs) (λ c κs. search needs) returns-2 (λ c κs. search needs) returns-3)

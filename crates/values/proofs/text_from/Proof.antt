@@ -10,18 +10,6 @@ use Rattle.values.proofs.Values.{text-end-within, text-ends, text-stuck
 use Rattle.values.proofs.text_from.Statement.{statement}
 use Rattle.values.proofs.text_from.Tie as tie
 
-text-end-requires : tie.Need-text-end-requires
-text-end-requires c κs = search needs
-
-enum-known-e : tie.Need-enum-known-e
-enum-known-e c = search needs
-
-text-of-requires : tie.Need-text-of-requires
-text-of-requires c κs = search needs
-
-enum-known-e-2 : tie.Need-enum-known-e-2
-enum-known-e-2 c = search needs
-
 returns : tie.Need-returns
 returns c = λ at p w b.
     let h = c .before .before in
@@ -40,4 +28,4 @@ returns-2 c = λ at p w b.
 pub text-from-spec : {M : Type 1} → statement M
 text-from-spec =
     tie.close
-    (tie.spec text-end-requires enum-known-e text-of-requires enum-known-e-2 returns returns-2)
+    (tie.spec (λ c κs. search needs) (λ c. search needs) (λ c κs. search needs) (λ c. search needs) returns returns-2)

@@ -10,32 +10,17 @@ use Rattle.values.proofs.value_at.Tie as tie
 returns : tie.Need-returns
 returns c = λ k. begins _ _ _ _ (over _ _ _ (λ x. innerStep _ (begin x)) (c .if1 .taken) k)
 
-shared-slice-read-b : tie.Need-shared-slice-read-b
-shared-slice-read-b c = search needs
-
-is-sign-requires : tie.Need-is-sign-requires
-is-sign-requires c κs = search needs
-
-mass-at-requires : tie.Need-mass-at-requires
-mass-at-requires c κs = search needs
-
 returns-2 : tie.Need-returns-2
 returns-2 c = λ k.
     let m = c .before .before in
     begins _ _ _ _
     (sign-begins _ _ _ _ (m .before .before .if1 .left) (λ x. innerStep _ (begin x)) (λ x. sign-first x _ _ (sym (m .is-sign .ensures) ∙ c .before .if2 .taken)) _ (c .mass-at .ensures _ (search needs)))
 
-reference-at-requires : tie.Need-reference-at-requires
-reference-at-requires c κs = search needs
-
 returns-3 : tie.Need-returns-3
 returns-3 c = λ k. c .reference-at .ensures _ (c .before .before .before .before .before .if1 .left) (c .before .if3 .taken)
-
-word-at-requires : tie.Need-word-at-requires
-word-at-requires c κs = search needs
 
 returns-4 : tie.Need-returns-4
 returns-4 c = λ k. begins _ _ _ _ (c .word-at .ensures (sym (c .before .before .before .is-sign .ensures) ∙ c .before .before .if2 .left) (c .before .if3 .left))
 
 pub value-at-spec : {M : Type 1} → statement M
-value-at-spec = tie.close (tie.spec returns shared-slice-read-b is-sign-requires mass-at-requires returns-2 reference-at-requires returns-3 word-at-requires returns-4)
+value-at-spec = tie.close (tie.spec returns (λ c. search needs) (λ c κs. search needs) (λ c κs. search needs) returns-2 (λ c κs. search needs) returns-3 (λ c κs. search needs) returns-4)

@@ -9,18 +9,6 @@ use Rattle.values.proofs.Begins.{word-name, word-key, key-within}
 use Rattle.values.proofs.word_at.Statement.{statement}
 use Rattle.values.proofs.word_at.Tie as tie
 
-plain-end-requires : tie.Need-plain-end-requires
-plain-end-requires c κs = search needs
-
-key-before-requires : tie.Need-key-before-requires
-key-before-requires c κs = search needs
-
-enum-told : tie.Need-enum-told
-enum-told c = search needs
-
-name-at-requires : tie.Need-name-at-requires
-name-at-requires c κs = search needs
-
 add-behind-key : tie.Need-add-behind-key
 add-behind-key c =
     let k = c .before in omega (arith, key-within _ _ _ _ (k .key-before .ensures) (other-key (k .key-before .result) (c .match .keys2)))
@@ -43,4 +31,4 @@ returns-2 c = λ u n.
     word-key _ _ (s .pre) u n _ (k .before .plain-end .ensures) _ (k .key-before .ensures) (other-key (k .key-before .result) (c .before .match .keys2)) _ (λ w m. c .behind-key .ensures _ w)
 
 pub word-at-spec : {M : Type 1} → statement M
-word-at-spec = tie.close (tie.spec plain-end-requires key-before-requires enum-told name-at-requires add-behind-key behind-key-requires returns returns-2)
+word-at-spec = tie.close (tie.spec (λ c κs. search needs) (λ c κs. search needs) (λ c. search needs) (λ c κs. search needs) add-behind-key behind-key-requires returns returns-2)

@@ -11,18 +11,6 @@ returns c = is-empty _ (c .if1 .taken)
 returns-2 : tie.Need-returns-2
 returns-2 c = is-long _ (c .before .if1 .left) (c .if2 .taken)
 
-walk-requires : tie.Need-walk-requires
-walk-requires c κs = search needs
-
-enum-known-walked : tie.Need-enum-known-walked
-enum-known-walked c = search needs
-
-not-read-requires : tie.Need-not-read-requires
-not-read-requires c κs = search needs
-
-enum-known-walked-2 : tie.Need-enum-known-walked-2
-enum-known-walked-2 c = search needs
-
 first-due-requires : tie.Need-first-due-requires
 first-due-requires c κs =
     let k = c .before .before .before in
@@ -33,51 +21,12 @@ first-due-requires c κs =
     let roomy = still-roomy (e .before .before .before .before .before .before .before .pre) (l .letters .given) (s .before .before .before .before .before .before .before .sections .given) (s .before .before .before .before .before .heads .given) (s .before .before .before .parts .given) (s .before .masses .given) (s .scores .given) in
     walked-line _ (e .before .if1 .left) (e .if2 .left) _ _ _ _ _ _ (rw (k .walked2 .given .1) at (w .walk .ensures)) roomy
 
-by-code-requires : tie.Need-by-code-requires
-by-code-requires c κs = search needs
-
-same-length : tie.Need-same-length
-same-length c = search needs
-
-same-length-2 : tie.Need-same-length-2
-same-length-2 c = search needs
-
-same-length-3 : tie.Need-same-length-3
-same-length-3 c = search needs
-
-same-length-4 : tie.Need-same-length-4
-same-length-4 c = search needs
-
-same-length-5 : tie.Need-same-length-5
-same-length-5 c = search needs
-
-same-length-6 : tie.Need-same-length-6
-same-length-6 c = search needs
-
 returns-3 : tie.Need-returns-3
 returns-3 c =
     let k = c .before .before in
     let w = k .before .before .before .before .before .before .before .before .before .before .before .before in
     let e = w .before .before .before .before .before .before .before in
     stuck-says _ (e .before .if1 .left) (e .if2 .left) _ _ _ _ _ _ _ _ (rw (k .walked .given .1) at (w .walk .ensures)) (c .not-read .ensures)
-
-same-length-7 : tie.Need-same-length-7
-same-length-7 c = search needs
-
-same-length-8 : tie.Need-same-length-8
-same-length-8 c = search needs
-
-same-length-9 : tie.Need-same-length-9
-same-length-9 c = search needs
-
-same-length-10 : tie.Need-same-length-10
-same-length-10 c = search needs
-
-same-length-11 : tie.Need-same-length-11
-same-length-11 c = search needs
-
-same-length-12 : tie.Need-same-length-12
-same-length-12 c = search needs
 
 returns-4 : tie.Need-returns-4
 returns-4 c =
@@ -94,25 +43,6 @@ pub judge-spec : {M : Type 1} → statement M
 judge-spec =
     tie.close
     (tie.spec
-    returns
-    returns-2
-    walk-requires
-    enum-known-walked
-    not-read-requires
-    enum-known-walked-2
-    first-due-requires
-    by-code-requires
-    same-length
-    same-length-2
-    same-length-3
-    same-length-4
-    same-length-5
-    same-length-6
-    returns-3
-    same-length-7
-    same-length-8
-    same-length-9
-    same-length-10
-    same-length-11
-    same-length-12
-    returns-4)
+    returns returns-2 (λ c κs. search needs) (λ c. search needs) (λ c κs. search needs) (λ c. search needs) first-due-requires (λ c κs. search needs)
+    (λ c. search needs) (λ c. search needs) (λ c. search needs) (λ c. search needs) (λ c. search needs) (λ c. search needs) returns-3
+    (λ c. search needs) (λ c. search needs) (λ c. search needs) (λ c. search needs) (λ c. search needs) (λ c. search needs) returns-4)

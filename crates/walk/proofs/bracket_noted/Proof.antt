@@ -10,34 +10,10 @@ use borrow.Author.Needs.{needs}
 use Rattle.walk.proofs.bracket_noted.Statement.{statement}
 use Rattle.walk.proofs.bracket_noted.Tie as tie
 
-head-of-requires : tie.Need-head-of-requires
-head-of-requires c κs = search needs
-
-store-head-requires : tie.Need-store-head-requires
-store-head-requires c κs = search needs
-
-mode-behind-requires : tie.Need-mode-behind-requires
-mode-behind-requires c κs = search needs
-
-add-t16 : tie.Need-add-t16
-add-t16 c = search needs
-
-run-behind-requires : tie.Need-run-behind-requires
-run-behind-requires c κs = search needs
-
-parts-behind-requires : tie.Need-parts-behind-requires
-parts-behind-requires c κs = search needs
-
 add-t20 : tie.Need-add-t20
 add-t20 c =
     let a = c .before .before .before .before .before .before .before .before .before .before .before .before .before .before .before .before in
     omega (arith, a .pre .0 .labels, a .pre .0 .brackets, a .pre .0 .at, a .pre .1, a .pre .2)
-
-same-length : tie.Need-same-length
-same-length c = search needs
-
-same-length-2 : tie.Need-same-length-2
-same-length-2 c = search needs
 
 returns : tie.Need-returns
 returns c =
@@ -59,13 +35,5 @@ pub bracket-noted-spec : {M : Type 1} → statement M
 bracket-noted-spec =
     tie.close
     (tie.spec
-    head-of-requires
-    store-head-requires
-    mode-behind-requires
-    add-t16
-    run-behind-requires
-    parts-behind-requires
-    add-t20
-    same-length
-    same-length-2
-    returns)
+    (λ c κs. search needs) (λ c κs. search needs) (λ c κs. search needs) (λ c. search needs) (λ c κs. search needs) (λ c κs. search needs) add-t20
+    (λ c. search needs) (λ c. search needs) returns)

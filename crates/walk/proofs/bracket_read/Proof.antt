@@ -6,20 +6,8 @@ use borrow.Author.Needs.{needs}
 use Rattle.walk.proofs.bracket_read.Statement.{statement}
 use Rattle.walk.proofs.bracket_read.Tie as tie
 
-due-if-requires : tie.Need-due-if-requires
-due-if-requires c κs = search needs
-
-add-bracket-at : tie.Need-add-bracket-at
-add-bracket-at c = search needs
-
 bracket-at-requires : tie.Need-bracket-at-requires
 bracket-at-requires c κs = bracket-fits (c .before .before .before .before .before .before .before .before .before .pre) _
-
-enum-known-found : tie.Need-enum-known-found
-enum-known-found c = search needs
-
-enum-known-found-2 : tie.Need-enum-known-found-2
-enum-known-found-2 c = search needs
 
 bracket-noted-requires : tie.Need-bracket-noted-requires
 bracket-noted-requires c κs =
@@ -29,29 +17,11 @@ bracket-noted-requires c κs =
     let w = then-closes _ _ (b .bracket-at .result) _ _ (b .bracket-at .ensures) (f .found2 .given .1) in
     (a .low, omega (arith, w .few, w .within, a .short), w .few-labels, a .heads-room, a .scores-room)
 
-same-length : tie.Need-same-length
-same-length c = search needs
-
-same-length-2 : tie.Need-same-length-2
-same-length-2 c = search needs
-
 returns : tie.Need-returns
 returns c =
     let b = c .before .before .before .before .before .before in
     let a = b .before .before .before .before .before .before .before .before .before .before .args in
     λ h. then-stuck _ _ (b .bracket-at .result) _ _ (b .bracket-at .ensures) (c .before .found .given .1) (a .slot) (a .s .at) h (record { shut = refl; refers = refl; labels = refl })
-
-same-length-3 : tie.Need-same-length-3
-same-length-3 c = search needs
-
-same-length-4 : tie.Need-same-length-4
-same-length-4 c = search needs
-
-same-length-5 : tie.Need-same-length-5
-same-length-5 c = search needs
-
-same-length-6 : tie.Need-same-length-6
-same-length-6 c = search needs
 
 returns-2 : tie.Need-returns-2
 returns-2 c =
@@ -71,17 +41,5 @@ pub bracket-read-spec : {M : Type 1} → statement M
 bracket-read-spec =
     tie.close
     (tie.spec
-    due-if-requires
-    add-bracket-at
-    bracket-at-requires
-    enum-known-found
-    enum-known-found-2
-    bracket-noted-requires
-    same-length
-    same-length-2
-    returns
-    same-length-3
-    same-length-4
-    same-length-5
-    same-length-6
-    returns-2)
+    (λ c κs. search needs) (λ c. search needs) bracket-at-requires (λ c. search needs) (λ c. search needs) bracket-noted-requires (λ c. search needs)
+    (λ c. search needs) returns (λ c. search needs) (λ c. search needs) (λ c. search needs) (λ c. search needs) returns-2)

@@ -6,21 +6,6 @@ use borrow.Author.Needs.{needs}
 use Rattle.walk.proofs.head_of.Statement.{statement}
 use Rattle.walk.proofs.head_of.Tie as tie
 
-kind-code-requires : tie.Need-kind-code-requires
-kind-code-requires c κs = search needs
-
-sort-of-requires : tie.Need-sort-of-requires
-sort-of-requires c κs = search needs
-
-position-requires : tie.Need-position-requires
-position-requires c κs = search needs
-
-position-requires-2 : tie.Need-position-requires-2
-position-requires-2 c κs = search needs
-
-cast-t8 : tie.Need-cast-t8
-cast-t8 c = search needs
-
 returns : tie.Need-returns
 returns c =
     let l = c .before in
@@ -34,9 +19,4 @@ pub head-of-spec : {M : Type 1} → statement M
 head-of-spec =
     tie.close
     (tie.spec
-    kind-code-requires
-    sort-of-requires
-    position-requires
-    position-requires-2
-    cast-t8
-    returns)
+    (λ c κs. search needs) (λ c κs. search needs) (λ c κs. search needs) (λ c κs. search needs) (λ c. search needs) returns)

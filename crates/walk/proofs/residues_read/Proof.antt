@@ -8,51 +8,12 @@ use borrow.Author.Needs.{needs}
 use Rattle.walk.proofs.residues_read.Statement.{statement}
 use Rattle.walk.proofs.residues_read.Tie as tie
 
-add-letter-end : tie.Need-add-letter-end
-add-letter-end c = search needs
-
-letter-end-requires : tie.Need-letter-end-requires
-letter-end-requires c κs = search needs
-
-sub-m : tie.Need-sub-m
-sub-m c = search needs
-
 store-run-requires : tie.Need-store-run-requires
 store-run-requires c κs =
     let e = c .before .before in
     let s = e .before .before .before .before in
     let w = run-within (s .args .line .now) (s .args .s .at) (s .pre .1) in
     (omega (arith, w, e .letter-end .ensures), s .pre .2, s .pre .0 .residues, omega (arith, e .letter-end .ensures), s .pre .3, s .pre .4)
-
-add-due-if : tie.Need-add-due-if
-add-due-if c = search needs
-
-room-left-requires : tie.Need-room-left-requires
-room-left-requires c κs = search needs
-
-add-due-if-2 : tie.Need-add-due-if-2
-add-due-if-2 c = search needs
-
-due-if-requires : tie.Need-due-if-requires
-due-if-requires c κs = search needs
-
-add-t12 : tie.Need-add-t12
-add-t12 c = search needs
-
-add-group-of : tie.Need-add-group-of
-add-group-of c = search needs
-
-add-group-of-2 : tie.Need-add-group-of-2
-add-group-of-2 c = search needs
-
-group-of-requires : tie.Need-group-of-requires
-group-of-requires c κs = search needs
-
-same-length : tie.Need-same-length
-same-length c = search needs
-
-same-length-2 : tie.Need-same-length-2
-same-length-2 c = search needs
 
 returns : tie.Need-returns
 returns c =
@@ -73,18 +34,6 @@ pub residues-read-spec : {M : Type 1} → statement M
 residues-read-spec =
     tie.close
     (tie.spec
-    add-letter-end
-    letter-end-requires
-    sub-m
-    store-run-requires
-    add-due-if
-    room-left-requires
-    add-due-if-2
-    due-if-requires
-    add-t12
-    add-group-of
-    add-group-of-2
-    group-of-requires
-    same-length
-    same-length-2
+    (λ c. search needs) (λ c κs. search needs) (λ c. search needs) store-run-requires (λ c. search needs) (λ c κs. search needs) (λ c. search needs)
+    (λ c κs. search needs) (λ c. search needs) (λ c. search needs) (λ c. search needs) (λ c κs. search needs) (λ c. search needs) (λ c. search needs)
     returns)

@@ -6,20 +6,11 @@ use borrow.Author.Needs.{needs}
 use Rattle.walk.proofs.run_behind.Statement.{statement}
 use Rattle.walk.proofs.run_behind.Tie as tie
 
-kind-code-requires : tie.Need-kind-code-requires
-kind-code-requires c κs = search needs
-
-kind-code-requires-2 : tie.Need-kind-code-requires-2
-kind-code-requires-2 c κs = search needs
-
 returns : tie.Need-returns
 returns c = took _ _ _ (eq-eqb _ _ (sym (c .before .before .kind-code .ensures) ∙ c .if1 .taken ∙ c .before .kind-code2 .ensures))
-
-add-result : tie.Need-add-result
-add-result c = search needs
 
 returns-2 : tie.Need-returns-2
 returns-2 c = passed _ _ _ _ (ne-eqb _ _ (λ e. c .if1 .left (c .before .before .kind-code .ensures ∙ e ∙ sym (c .before .kind-code2 .ensures)))) refl
 
 pub run-behind-spec : {M : Type 1} → statement M
-run-behind-spec = tie.close (tie.spec kind-code-requires kind-code-requires-2 returns add-result returns-2)
+run-behind-spec = tie.close (tie.spec (λ c κs. search needs) (λ c κs. search needs) returns (λ c. search needs) returns-2)

@@ -7,27 +7,12 @@ use borrow.Author.Needs.{needs}
 use Rattle.walk.proofs.step_from.Statement.{statement}
 use Rattle.walk.proofs.step_from.Tie as tie
 
-shared-slice-read-act-of : tie.Need-shared-slice-read-act-of
-shared-slice-read-act-of c = search needs
-
-act-of-requires : tie.Need-act-of-requires
-act-of-requires c κs = search needs
-
-enum-told : tie.Need-enum-told
-enum-told c = search needs
-
-enum-known-act : tie.Need-enum-known-act
-enum-known-act c = search needs
-
 gone-requires : tie.Need-gone-requires
 gone-requires c κs =
     let o = c .before .before .before in
     let s = o .before .before .before .before .before .before .before in
     let d = does-this (s .pre .0) (s .pre .1) (s .pre .2) (o .act-of .ensures) (c .before .act .given .1) in
     low d
-
-enum-known-act-2 : tie.Need-enum-known-act-2
-enum-known-act-2 c = search needs
 
 residues-read-requires : tie.Need-residues-read-requires
 residues-read-requires c κs =
@@ -36,18 +21,12 @@ residues-read-requires c κs =
     let d = does-this (s .pre .0) (s .pre .1) (s .pre .2) (o .act-of .ensures) (c .before .before .before .act2 .given .1) in
     (low d, d .here, d .short, d .upto .roomy .letters-room, d .upto .roomy .sections-room)
 
-enum-known-act-3 : tie.Need-enum-known-act-3
-enum-known-act-3 c = search needs
-
 bracket-read-requires : tie.Need-bracket-read-requires
 bracket-read-requires c κs =
     let o = c .before .before .before .before .before .before .before in
     let s = o .before .before .before .before .before .before .before in
     let d = does-this (s .pre .0) (s .pre .1) (s .pre .2) (o .act-of .ensures) (c .before .before .before .before .before .act3 .given .1) in
     bracket-asks d
-
-enum-told-2 : tie.Need-enum-told-2
-enum-told-2 c = search needs
 
 count-read-requires : tie.Need-count-read-requires
 count-read-requires c κs =
@@ -56,18 +35,12 @@ count-read-requires c κs =
     let d = does-this (s .pre .0) (s .pre .1) (s .pre .2) (o .act-of .ensures) (c .before .enum-told2 .given .1) in
     (low d, some-bracket d, d .upto .roomy .heads-room)
 
-enum-told-3 : tie.Need-enum-told-3
-enum-told-3 c = search needs
-
 settled-in-requires : tie.Need-settled-in-requires
 settled-in-requires c κs =
     let o = c .before .before in
     let s = o .before .before .before .before .before .before .before in
     let d = does-this (s .pre .0) (s .pre .1) (s .pre .2) (o .act-of .ensures) (c .enum-told3 .given .1) in
     low d
-
-enum-told-4 : tie.Need-enum-told-4
-enum-told-4 c = search needs
 
 term-ended-requires : tie.Need-term-ended-requires
 term-ended-requires c κs =
@@ -90,12 +63,6 @@ returns-2 c =
     let d = does-this (s .pre .0) (s .pre .1) (s .pre .2) (o .act-of .ensures) (c .before .before .act .given .1) in
     gone-on (c .gone .ensures) d
 
-same-length : tie.Need-same-length
-same-length c = search needs
-
-same-length-2 : tie.Need-same-length-2
-same-length-2 c = search needs
-
 returns-3 : tie.Need-returns-3
 returns-3 c =
     let o = c .before .before .before .before .before .before .before .before .before .before in
@@ -103,27 +70,12 @@ returns-3 c =
     let d = does-this (s .pre .0) (s .pre .1) (s .pre .2) (o .act-of .ensures) (c .before .before .before .before .before .before .before .before .act2 .given .1) in
     run-more d (c .before .before .before .before .residues-read .ensures)
 
-same-length-3 : tie.Need-same-length-3
-same-length-3 c = search needs
-
-same-length-4 : tie.Need-same-length-4
-same-length-4 c = search needs
-
-same-length-5 : tie.Need-same-length-5
-same-length-5 c = search needs
-
-same-length-6 : tie.Need-same-length-6
-same-length-6 c = search needs
-
 returns-4 : tie.Need-returns-4
 returns-4 c =
     let o = c .before .before .before .before .before .before .before .before .before .before .before .before .before .before in
     let s = o .before .before .before .before .before .before .before in
     let d = does-this (s .pre .0) (s .pre .1) (s .pre .2) (o .act-of .ensures) (c .before .before .before .before .before .before .before .before .before .before .before .before .act3 .given .1) in
     bracket-step d (c .before .before .before .before .before .before .bracket-read .result) _ _ _ _ (c .before .before .before .before .before .before .bracket-read .ensures)
-
-same-length-7 : tie.Need-same-length-7
-same-length-7 c = search needs
 
 returns-5 : tie.Need-returns-5
 returns-5 c =
@@ -139,9 +91,6 @@ returns-6 c =
     let d = does-this (s .pre .0) (s .pre .1) (s .pre .2) (o .act-of .ensures) (c .before .enum-told3 .given .1) in
     run-end (c .settled-in .ensures) d
 
-same-length-8 : tie.Need-same-length-8
-same-length-8 c = search needs
-
 returns-7 : tie.Need-returns-7
 returns-7 c =
     let o = c .before .before .before .before .before .before in
@@ -153,33 +102,7 @@ pub step-from-spec : {M : Type 1} → statement M
 step-from-spec =
     tie.close
     (tie.spec
-    shared-slice-read-act-of
-    act-of-requires
-    enum-told
-    enum-known-act
-    gone-requires
-    enum-known-act-2
-    residues-read-requires
-    enum-known-act-3
-    bracket-read-requires
-    enum-told-2
-    count-read-requires
-    enum-told-3
-    settled-in-requires
-    enum-told-4
-    term-ended-requires
-    returns
-    returns-2
-    same-length
-    same-length-2
-    returns-3
-    same-length-3
-    same-length-4
-    same-length-5
-    same-length-6
-    returns-4
-    same-length-7
-    returns-5
-    returns-6
-    same-length-8
-    returns-7)
+    (λ c. search needs) (λ c κs. search needs) (λ c. search needs) (λ c. search needs) gone-requires (λ c. search needs) residues-read-requires
+    (λ c. search needs) bracket-read-requires (λ c. search needs) count-read-requires (λ c. search needs) settled-in-requires (λ c. search needs)
+    term-ended-requires returns returns-2 (λ c. search needs) (λ c. search needs) returns-3 (λ c. search needs) (λ c. search needs)
+    (λ c. search needs) (λ c. search needs) returns-4 (λ c. search needs) returns-5 returns-6 (λ c. search needs) returns-7)

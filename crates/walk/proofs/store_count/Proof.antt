@@ -6,15 +6,6 @@ use borrow.Author.Needs.{needs}
 use Rattle.walk.proofs.store_count.Statement.{statement}
 use Rattle.walk.proofs.store_count.Tie as tie
 
-sub-put-count : tie.Need-sub-put-count
-sub-put-count c = search needs
-
-put-count-requires : tie.Need-put-count-requires
-put-count-requires c κs = search needs
-
-same-length : tie.Need-same-length
-same-length c = search needs
-
 returns : tie.Need-returns
 returns c = c .before .before .put-count .ensures ∙ took _ _ _ (le-leb _ _ (c .before .before .before .before .if1 .taken))
 
@@ -23,4 +14,4 @@ returns-2 c = passed _ _ _ _ (lt-leb _ _ (c .if1 .left)) refl
 
 pub store-count-spec : {M : Type 1} → statement M
 store-count-spec =
-    tie.close (tie.spec sub-put-count put-count-requires same-length returns returns-2)
+    tie.close (tie.spec (λ c. search needs) (λ c κs. search needs) (λ c. search needs) returns returns-2)

@@ -10,21 +10,6 @@ use borrow.Author.Needs.{needs}
 use Rattle.walk.proofs.store_head.Statement.{statement}
 use Rattle.walk.proofs.store_head.Tie as tie
 
-put-head-requires : tie.Need-put-head-requires
-put-head-requires c κs = search needs
-
-mul-points : tie.Need-mul-points
-mul-points c = search needs
-
-slice-set-from-points : tie.Need-slice-set-from-points
-slice-set-from-points c = search needs
-
-same-length : tie.Need-same-length
-same-length c = search needs
-
-same-length-2 : tie.Need-same-length-2
-same-length-2 c = search needs
-
 returns : tie.Need-returns
 returns c =
     let t = c .before .before .before .before in
@@ -40,10 +25,4 @@ pub store-head-spec : {M : Type 1} → statement M
 store-head-spec =
     tie.close
     (tie.spec
-    put-head-requires
-    mul-points
-    slice-set-from-points
-    same-length
-    same-length-2
-    returns
-    returns-2)
+    (λ c κs. search needs) (λ c. search needs) (λ c. search needs) (λ c. search needs) (λ c. search needs) returns returns-2)

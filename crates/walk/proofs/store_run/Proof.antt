@@ -7,30 +7,6 @@ use borrow.Author.Needs.{needs}
 use Rattle.walk.proofs.store_run.Statement.{statement}
 use Rattle.walk.proofs.store_run.Tie as tie
 
-add-end : tie.Need-add-end
-add-end c = search needs
-
-store-letters-requires : tie.Need-store-letters-requires
-store-letters-requires c κs = search needs
-
-section-behind-requires : tie.Need-section-behind-requires
-section-behind-requires c κs = search needs
-
-section-code-requires : tie.Need-section-code-requires
-section-code-requires c κs = search needs
-
-section-code-requires-2 : tie.Need-section-code-requires-2
-section-code-requires-2 c κs = search needs
-
-store-sections-requires : tie.Need-store-sections-requires
-store-sections-requires c κs = search needs
-
-same-length : tie.Need-same-length
-same-length c = search needs
-
-same-length-2 : tie.Need-same-length-2
-same-length-2 c = search needs
-
 returns : tie.Need-returns
 returns c =
     let q = c .before .before .before in
@@ -52,13 +28,5 @@ pub store-run-spec : {M : Type 1} → statement M
 store-run-spec =
     tie.close
     (tie.spec
-    add-end
-    store-letters-requires
-    section-behind-requires
-    section-code-requires
-    section-code-requires-2
-    store-sections-requires
-    same-length
-    same-length-2
-    returns
-    returns-2)
+    (λ c. search needs) (λ c κs. search needs) (λ c κs. search needs) (λ c κs. search needs) (λ c κs. search needs) (λ c κs. search needs)
+    (λ c. search needs) (λ c. search needs) returns returns-2)

@@ -8,15 +8,6 @@ use borrow.Author.Needs.{needs}
 use Rattle.writer.proofs.digits_of.Statement.{statement}
 use Rattle.writer.proofs.digits_of.Tie as tie
 
-magnitude-requires : tie.Need-magnitude-requires
-magnitude-requires c κs = search needs
-
-sub-power : tie.Need-sub-power
-sub-power c = search needs
-
-power-requires : tie.Need-power-requires
-power-requires c κs = search needs
-
 div-result : tie.Need-div-result
 div-result c = rw (c .power .ensures) (power-positive _)
 
@@ -26,4 +17,4 @@ returns c =
     ap₂ _/_ (m .magnitude .ensures ∙ ap natAbs (toZ-ofZ (m .before .fits .m))) (c .power .ensures)
 
 pub digits-of-spec : {M : Type 1} → statement M
-digits-of-spec = tie.close (tie.spec magnitude-requires sub-power power-requires div-result returns)
+digits-of-spec = tie.close (tie.spec (λ c κs. search needs) (λ c. search needs) (λ c κs. search needs) div-result returns)

@@ -9,16 +9,10 @@ returns c =
     let a = c .before .before .args in
     goes-over (a .bytes .now) (a .p) (a .n) (c .if1 .taken)
 
-section-requires : tie.Need-section-requires
-section-requires c κs = search needs
-
-is-next-requires : tie.Need-is-next-requires
-is-next-requires c κs = search needs
-
 returns-2 : tie.Need-returns-2
 returns-2 c =
     let e = c .before .before in
     goes-next (e .before .before .args .bytes .now) _ _ (e .if1 .left) (c .before .section .ensures .0) (c .is-next .ensures)
 
 pub goes-on-spec : {M : Type 1} → statement M
-goes-on-spec = tie.close (tie.spec returns section-requires is-next-requires returns-2)
+goes-on-spec = tie.close (tie.spec returns (λ c κs. search needs) (λ c κs. search needs) returns-2)

@@ -4,18 +4,6 @@ use Rattle.writer.proofs.LineLaws.{behind-clear}
 use Rattle.writer.proofs.put_bare.Statement.{statement}
 use Rattle.writer.proofs.put_bare.Tie as tie
 
-next-rank-requires : tie.Need-next-rank-requires
-next-rank-requires c κs = search needs
-
-ranked-below-requires : tie.Need-ranked-below-requires
-ranked-below-requires c κs = search needs
-
-put-letters-requires : tie.Need-put-letters-requires
-put-letters-requires c κs = search needs
-
-same-length : tie.Need-same-length
-same-length c = search needs
-
 returns : tie.Need-returns
 returns c =
     let l = c .before .before in
@@ -29,4 +17,4 @@ returns c =
 pub put-bare-spec : {M : Type 1} → statement M
 put-bare-spec =
     tie.close
-    (tie.spec next-rank-requires ranked-below-requires put-letters-requires same-length returns)
+    (tie.spec (λ c κs. search needs) (λ c κs. search needs) (λ c κs. search needs) (λ c. search needs) returns)

@@ -5,18 +5,6 @@ use borrow.Author.Needs.{needs}
 use Rattle.writer.proofs.put_between.Statement.{statement}
 use Rattle.writer.proofs.put_between.Tie as tie
 
-put-requires : tie.Need-put-requires
-put-requires c κs = search needs
-
-put-parts-requires : tie.Need-put-parts-requires
-put-parts-requires c κs = search needs
-
-put-requires-2 : tie.Need-put-requires-2
-put-requires-2 c κs = search needs
-
-same-length : tie.Need-same-length
-same-length c = search needs
-
 returns : tie.Need-returns
 unfolding bracketIn
 returns c =
@@ -27,4 +15,4 @@ returns c =
 
 pub put-between-spec : {M : Type 1} → statement M
 put-between-spec =
-    tie.close (tie.spec put-requires put-parts-requires put-requires-2 same-length returns)
+    tie.close (tie.spec (λ c κs. search needs) (λ c κs. search needs) (λ c κs. search needs) (λ c. search needs) returns)

@@ -6,33 +6,6 @@ use borrow.Author.Needs.{needs}
 use Rattle.writer.proofs.put_bracket.Statement.{statement}
 use Rattle.writer.proofs.put_bracket.Tie as tie
 
-enum-told : tie.Need-enum-told
-enum-told c = search needs
-
-count-requires : tie.Need-count-requires
-count-requires c κs = search needs
-
-put-between-requires : tie.Need-put-between-requires
-put-between-requires c κs = search needs
-
-put-count-requires : tie.Need-put-count-requires
-put-count-requires c κs = search needs
-
-enum-told-2 : tie.Need-enum-told-2
-enum-told-2 c = search needs
-
-put-between-requires-2 : tie.Need-put-between-requires-2
-put-between-requires-2 c κs = search needs
-
-enum-told-3 : tie.Need-enum-told-3
-enum-told-3 c = search needs
-
-put-between-requires-3 : tie.Need-put-between-requires-3
-put-between-requires-3 c κs = search needs
-
-same-length : tie.Need-same-length
-same-length c = search needs
-
 returns : tie.Need-returns
 returns c =
     let counted = c .before .before in
@@ -43,16 +16,10 @@ returns c =
     puts-of (as-counted (a .bytes .now) (a .numbers .now) (a .k) (told .enum-told .given .1) (n .count .ensures .0))
     (puts-join (b .put-between .ensures) (counted .put-count .ensures))
 
-same-length-2 : tie.Need-same-length-2
-same-length-2 c = search needs
-
 returns-2 : tie.Need-returns-2
 returns-2 c =
     let b = c .before .before in
     puts-of (as-curly _ _ _ (b .before .before .enum-told2 .given .1)) (puts-within (omega arith) (b .put-between2 .ensures))
-
-same-length-3 : tie.Need-same-length-3
-same-length-3 c = search needs
 
 returns-3 : tie.Need-returns-3
 returns-3 c =
@@ -63,17 +30,5 @@ pub put-bracket-spec : {M : Type 1} → statement M
 put-bracket-spec =
     tie.close
     (tie.spec
-    enum-told
-    count-requires
-    put-between-requires
-    put-count-requires
-    enum-told-2
-    put-between-requires-2
-    enum-told-3
-    put-between-requires-3
-    same-length
-    returns
-    same-length-2
-    returns-2
-    same-length-3
-    returns-3)
+    (λ c. search needs) (λ c κs. search needs) (λ c κs. search needs) (λ c κs. search needs) (λ c. search needs) (λ c κs. search needs)
+    (λ c. search needs) (λ c κs. search needs) (λ c. search needs) returns (λ c. search needs) returns-2 (λ c. search needs) returns-3)

@@ -7,19 +7,10 @@ use borrow.Author.Needs.{needs}
 use Rattle.writer.proofs.put_c_term.Statement.{statement}
 use Rattle.writer.proofs.put_c_term.Tie as tie
 
-brackets-requires : tie.Need-brackets-requires
-brackets-requires c κs = search needs
-
 returns : tie.Need-returns
 returns c =
     let a = c .before .before .before .before .args in
     puts-of (c-term-none (a .bytes .now) (a .numbers .now) (c .before .brackets .ensures .0) (c .if1 .taken)) (puts-within (omega arith) (puts-none _ _))
-
-sub-rank-at : tie.Need-sub-rank-at
-sub-rank-at c = search needs
-
-rank-at-requires : tie.Need-rank-at-requires
-rank-at-requires c κs = search needs
 
 returns-2 : tie.Need-returns-2
 returns-2 c =
@@ -39,9 +30,6 @@ put-run-requires c κs =
     let s = p .before .before .before .before .before .before .before .before in
     (s .pre .0, s .pre .1, s .pre .2, room-behind (omega arith) (p .put .ensures) (s .pre .3))
 
-same-length : tie.Need-same-length
-same-length c = search needs
-
 returns-3 : tie.Need-returns-3
 returns-3 c =
     let w = c .before .before in
@@ -59,12 +47,4 @@ pub put-c-term-spec : {M : Type 1} → statement M
 put-c-term-spec =
     tie.close
     (tie.spec
-    brackets-requires
-    returns
-    sub-rank-at
-    rank-at-requires
-    returns-2
-    put-requires
-    put-run-requires
-    same-length
-    returns-3)
+    (λ c κs. search needs) returns (λ c. search needs) (λ c κs. search needs) returns-2 put-requires put-run-requires (λ c. search needs) returns-3)

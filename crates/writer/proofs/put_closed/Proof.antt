@@ -11,9 +11,6 @@ put-run-requires c κs =
     let s = c .before .before .before in
     (s .pre .0, s .pre .1, s .pre .2, room-less (omega arith) (s .pre .3))
 
-same-length : tie.Need-same-length
-same-length c = search needs
-
 returns : tie.Need-returns
 returns c = walks-open _ (c .before .before .before .put-run .ensures) (c .if1 .taken)
 
@@ -23,9 +20,6 @@ put-requires c κs =
     let s = r .before .before .before .before in
     omega (arith, room-after {n = 1} (omega arith) (r .put-run .ensures) (s .pre .3) .fits)
 
-same-length-2 : tie.Need-same-length-2
-same-length-2 c = search needs
-
 returns-2 : tie.Need-returns-2
 returns-2 c =
     let p = c .before .before in
@@ -34,4 +28,4 @@ returns-2 c =
 
 pub put-closed-spec : {M : Type 1} → statement M
 put-closed-spec =
-    tie.close (tie.spec put-run-requires same-length returns put-requires same-length-2 returns-2)
+    tie.close (tie.spec put-run-requires (λ c. search needs) returns put-requires (λ c. search needs) returns-2)

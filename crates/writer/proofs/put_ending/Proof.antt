@@ -9,22 +9,10 @@ use borrow.Author.Needs.{needs}
 use Rattle.writer.proofs.put_ending.Statement.{statement}
 use Rattle.writer.proofs.put_ending.Tie as tie
 
-put-range-end-requires : tie.Need-put-range-end-requires
-put-range-end-requires c κs = search needs
-
-same-length : tie.Need-same-length
-same-length c = search needs
-
 returns : tie.Need-returns
 returns c =
     let p = c .before .before in
     walks-of (ending-of _ (sectionCode RangeFirst) _ (p .before .before .if1 .taken)) (p .put-range-end .ensures)
-
-put-range-end-requires-2 : tie.Need-put-range-end-requires-2
-put-range-end-requires-2 c κs = search needs
-
-same-length-2 : tie.Need-same-length-2
-same-length-2 c = search needs
 
 returns-2 : tie.Need-returns-2
 returns-2 c =
@@ -35,9 +23,6 @@ put-requires : tie.Need-put-requires
 put-requires c κs =
     let s = c .before .before .before .before .before .before in
     omega (arith, s .pre .3 .fits)
-
-same-length-3 : tie.Need-same-length-3
-same-length-3 c = search needs
 
 returns-3 : tie.Need-returns-3
 returns-3 c =
@@ -50,9 +35,6 @@ put-requires-2 : tie.Need-put-requires-2
 put-requires-2 c κs =
     let s = c .before .before .before .before .before .before .before in
     omega (arith, s .pre .3 .fits)
-
-same-length-4 : tie.Need-same-length-4
-same-length-4 c = search needs
 
 returns-4 : tie.Need-returns-4
 returns-4 c =
@@ -73,16 +55,5 @@ pub put-ending-spec : {M : Type 1} → statement M
 put-ending-spec =
     tie.close
     (tie.spec
-    put-range-end-requires
-    same-length
-    returns
-    put-range-end-requires-2
-    same-length-2
-    returns-2
-    put-requires
-    same-length-3
-    returns-3
-    put-requires-2
-    same-length-4
-    returns-4
-    returns-5)
+    (λ c κs. search needs) (λ c. search needs) returns (λ c κs. search needs) (λ c. search needs) returns-2 put-requires (λ c. search needs) returns-3
+    put-requires-2 (λ c. search needs) returns-4 returns-5)

@@ -8,9 +8,6 @@ use borrow.Author.Needs.{needs}
 use Rattle.writer.proofs.put_front.Statement.{statement}
 use Rattle.writer.proofs.put_front.Tie as tie
 
-next-rank-requires : tie.Need-next-rank-requires
-next-rank-requires c κs = search needs
-
 returns : tie.Need-returns
 returns c =
     let n = c .before in
@@ -40,9 +37,6 @@ put-closed-requires-2 c κs =
     let w = l .put-run .ensures in
     (s .pre .0, w .within, w .below, room-after (omega arith) w (room-after {n = 1} (omega arith) v (s .pre .1)))
 
-same-length : tie.Need-same-length
-same-length c = search needs
-
 returns-2 : tie.Need-returns-2
 returns-2 c =
     let n = c .before .before in
@@ -54,10 +48,4 @@ pub put-front-spec : {M : Type 1} → statement M
 put-front-spec =
     tie.close
     (tie.spec
-    next-rank-requires
-    returns
-    put-closed-requires
-    put-run-requires
-    put-closed-requires-2
-    same-length
-    returns-2)
+    (λ c κs. search needs) returns put-closed-requires put-run-requires put-closed-requires-2 (λ c. search needs) returns-2)

@@ -6,35 +6,11 @@ use borrow.Author.Needs.{needs}
 use Rattle.writer.proofs.put_label.Statement.{statement}
 use Rattle.writer.proofs.put_label.Tie as tie
 
-label-length-requires : tie.Need-label-length-requires
-label-length-requires c κs = search needs
-
 returns : tie.Need-returns
 returns c =
     let n = c .before in
     let a = n .before .before .before .args in
     puts-of (label-none (a .bytes .now) (a .numbers .now) (a .k) (a .j) (n .label-length .ensures .0) (c .if1 .taken)) (puts-within (omega arith) (puts-none _ _))
-
-text-length-requires : tie.Need-text-length-requires
-text-length-requires c κs = search needs
-
-text-from-requires : tie.Need-text-from-requires
-text-from-requires c κs = search needs
-
-put-requires : tie.Need-put-requires
-put-requires c κs = search needs
-
-add-copy : tie.Need-add-copy
-add-copy c = search needs
-
-copy-requires : tie.Need-copy-requires
-copy-requires c κs = search needs
-
-put-scored-requires : tie.Need-put-scored-requires
-put-scored-requires c κs = search needs
-
-same-length : tie.Need-same-length
-same-length c = search needs
 
 returns-2 : tie.Need-returns-2
 returns-2 c =
@@ -56,13 +32,5 @@ pub put-label-spec : {M : Type 1} → statement M
 put-label-spec =
     tie.close
     (tie.spec
-    label-length-requires
-    returns
-    text-length-requires
-    text-from-requires
-    put-requires
-    add-copy
-    copy-requires
-    put-scored-requires
-    same-length
-    returns-2)
+    (λ c κs. search needs) returns (λ c κs. search needs) (λ c κs. search needs) (λ c κs. search needs) (λ c. search needs) (λ c κs. search needs)
+    (λ c κs. search needs) (λ c. search needs) returns-2)

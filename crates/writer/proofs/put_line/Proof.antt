@@ -34,9 +34,6 @@ put-c-term-requires c κs =
     let whole = room-line (s .pre .0 .few-brackets) (s .pre .2) in
     (ready _ _ (s .pre .0) (s .pre .1), y .within, y .below, room-after (omega arith) y (room-after {n = residuesMost + 1} (omega arith) w whole))
 
-same-length : tie.Need-same-length
-same-length c = search needs
-
 returns : tie.Need-returns
 returns c =
     let t = c .before .before in
@@ -52,8 +49,4 @@ pub put-line-spec : {M : Type 1} → statement M
 put-line-spec =
     tie.close
     (tie.spec
-    put-front-requires
-    put-sequence-requires
-    put-c-term-requires
-    same-length
-    returns)
+    put-front-requires put-sequence-requires put-c-term-requires (λ c. search needs) returns)

@@ -6,25 +6,10 @@ use borrow.Author.Needs.{needs}
 use Rattle.writer.proofs.put_next_part.Statement.{statement}
 use Rattle.writer.proofs.put_next_part.Tie as tie
 
-put-part-requires : tie.Need-put-part-requires
-put-part-requires c κs = search needs
-
-same-length : tie.Need-same-length
-same-length c = search needs
-
 returns : tie.Need-returns
 returns c =
     let p = c .before .before in
     puts-of (next-first _ _ (p .before .before .if1 .taken)) (puts-within (omega arith) (p .put-part .ensures))
-
-put-requires : tie.Need-put-requires
-put-requires c κs = search needs
-
-put-part-requires-2 : tie.Need-put-part-requires-2
-put-part-requires-2 c κs = search needs
-
-same-length-2 : tie.Need-same-length-2
-same-length-2 c = search needs
 
 returns-2 : tie.Need-returns-2
 returns-2 c =
@@ -36,10 +21,4 @@ pub put-next-part-spec : {M : Type 1} → statement M
 put-next-part-spec =
     tie.close
     (tie.spec
-    put-part-requires
-    same-length
-    returns
-    put-requires
-    put-part-requires-2
-    same-length-2
-    returns-2)
+    (λ c κs. search needs) (λ c. search needs) returns (λ c κs. search needs) (λ c κs. search needs) (λ c. search needs) returns-2)

@@ -11,21 +11,6 @@ use borrow.Author.Needs.{needs}
 use Rattle.writer.proofs.put_number.Statement.{statement}
 use Rattle.writer.proofs.put_number.Tie as tie
 
-is-minus-requires : tie.Need-is-minus-requires
-is-minus-requires c κs = search needs
-
-digits-of-requires : tie.Need-digits-of-requires
-digits-of-requires c κs = search needs
-
-put-sign-requires : tie.Need-put-sign-requires
-put-sign-requires c κs = search needs
-
-put-size-requires : tie.Need-put-size-requires
-put-size-requires c κs = search needs
-
-same-length : tie.Need-same-length
-same-length c = search needs
-
 returns : tie.Need-returns
 returns c =
     let z = c .before .before in
@@ -41,4 +26,4 @@ returns c =
 
 pub put-number-spec : {M : Type 1} → statement M
 put-number-spec =
-    tie.close (tie.spec is-minus-requires digits-of-requires put-sign-requires put-size-requires same-length returns)
+    tie.close (tie.spec (λ c κs. search needs) (λ c κs. search needs) (λ c κs. search needs) (λ c κs. search needs) (λ c. search needs) returns)

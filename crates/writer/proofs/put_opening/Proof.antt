@@ -8,25 +8,10 @@ use borrow.Author.Needs.{needs}
 use Rattle.writer.proofs.put_opening.Statement.{statement}
 use Rattle.writer.proofs.put_opening.Tie as tie
 
-put-requires : tie.Need-put-requires
-put-requires c κs = search needs
-
-same-length : tie.Need-same-length
-same-length c = search needs
-
 returns : tie.Need-returns
 returns c =
     let p = c .before .before in
     puts-of (opening-of _ (sectionCode RangeFirst) (p .before .before .if1 .taken)) (puts-within (omega arith) (p .put .ensures))
-
-put-requires-2 : tie.Need-put-requires-2
-put-requires-2 c κs = search needs
-
-put-requires-3 : tie.Need-put-requires-3
-put-requires-3 c κs = search needs
-
-same-length-2 : tie.Need-same-length-2
-same-length-2 c = search needs
 
 returns-2 : tie.Need-returns-2
 returns-2 c =
@@ -41,11 +26,4 @@ pub put-opening-spec : {M : Type 1} → statement M
 put-opening-spec =
     tie.close
     (tie.spec
-    put-requires
-    same-length
-    returns
-    put-requires-2
-    put-requires-3
-    same-length-2
-    returns-2
-    returns-3)
+    (λ c κs. search needs) (λ c. search needs) returns (λ c κs. search needs) (λ c κs. search needs) (λ c. search needs) returns-2 returns-3)

@@ -5,21 +5,6 @@ use borrow.Author.Needs.{needs}
 use Rattle.writer.proofs.put_part.Statement.{statement}
 use Rattle.writer.proofs.put_part.Tie as tie
 
-key-requires : tie.Need-key-requires
-key-requires c κs = search needs
-
-put-key-requires : tie.Need-put-key-requires
-put-key-requires c κs = search needs
-
-put-value-requires : tie.Need-put-value-requires
-put-value-requires c κs = search needs
-
-put-label-requires : tie.Need-put-label-requires
-put-label-requires c κs = search needs
-
-same-length : tie.Need-same-length
-same-length c = search needs
-
 returns : tie.Need-returns
 returns c =
     let label = c .before .before in
@@ -32,4 +17,4 @@ returns c =
 
 pub put-part-spec : {M : Type 1} → statement M
 put-part-spec =
-    tie.close (tie.spec key-requires put-key-requires put-value-requires put-label-requires same-length returns)
+    tie.close (tie.spec (λ c κs. search needs) (λ c κs. search needs) (λ c κs. search needs) (λ c κs. search needs) (λ c. search needs) returns)

@@ -10,20 +10,11 @@ put-requires c κs =
     let s = c .before .before .before in
     omega (arith, s .pre .3 .fits)
 
-mul-put-run : tie.Need-mul-put-run
-mul-put-run c = search needs
-
-add-put-run : tie.Need-add-put-run
-add-put-run c = search needs
-
 put-run-requires : tie.Need-put-run-requires
 put-run-requires c κs =
     let q = c .before .before .before in
     let s = q .before .before .before .before in
     (s .pre .0, s .pre .1, s .pre .2, room-behind (omega arith) (q .put .ensures) (s .pre .3))
-
-same-length : tie.Need-same-length
-same-length c = search needs
 
 returns : tie.Need-returns
 returns c =
@@ -33,4 +24,4 @@ returns c =
 
 pub put-range-end-spec : {M : Type 1} → statement M
 put-range-end-spec =
-    tie.close (tie.spec put-requires mul-put-run add-put-run put-run-requires same-length returns)
+    tie.close (tie.spec put-requires (λ c. search needs) (λ c. search needs) put-run-requires (λ c. search needs) returns)

@@ -6,12 +6,6 @@ use borrow.Author.Needs.{needs}
 use Rattle.writer.proofs.put_ranked.Statement.{statement}
 use Rattle.writer.proofs.put_ranked.Tie as tie
 
-put-bracket-requires : tie.Need-put-bracket-requires
-put-bracket-requires c κs = search needs
-
-same-length : tie.Need-same-length
-same-length c = search needs
-
 returns : tie.Need-returns
 returns c =
     let p = c .before .before in
@@ -25,4 +19,4 @@ returns-2 c =
     puts-of (ranked-no (a .bytes .now) (a .numbers .now) (a .k) (a .shape) (c .before .before .before .pre .1) (c .if1 .left)) (puts-within (omega arith) (puts-none _ _))
 
 pub put-ranked-spec : {M : Type 1} → statement M
-put-ranked-spec = tie.close (tie.spec put-bracket-requires same-length returns returns-2)
+put-ranked-spec = tie.close (tie.spec (λ c κs. search needs) (λ c. search needs) returns returns-2)

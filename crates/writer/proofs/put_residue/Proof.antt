@@ -11,12 +11,6 @@ use borrow.Author.Needs.{needs}
 use Rattle.writer.proofs.put_residue.Statement.{statement}
 use Rattle.writer.proofs.put_residue.Tie as tie
 
-section-requires : tie.Need-section-requires
-section-requires c κs = search needs
-
-letter-requires : tie.Need-letter-requires
-letter-requires c κs = search needs
-
 put-opening-requires : tie.Need-put-opening-requires
 put-opening-requires c κs =
     let s = c .before .before .before .before .before in
@@ -28,12 +22,6 @@ put-requires c κs =
     let s = q .before .before .before .before .before .before in
     omega (arith, q .put-opening .ensures .near, s .pre .3 .fits)
 
-mul-put-run : tie.Need-mul-put-run
-mul-put-run c = search needs
-
-add-put-run : tie.Need-add-put-run
-add-put-run c = search needs
-
 put-run-requires : tie.Need-put-run-requires
 put-run-requires c κs =
     let p = c .before .before .before in
@@ -41,15 +29,6 @@ put-run-requires c κs =
     let s = q .before .before .before .before .before .before in
     let opened = room-behind {n = 2} (omega arith) (q .put-opening .ensures) (s .pre .3) in
     (s .pre .0, s .pre .1, s .pre .2, room-behind (omega arith) (p .put .ensures) opened)
-
-add-goes-on : tie.Need-add-goes-on
-add-goes-on c = search needs
-
-goes-on-requires : tie.Need-goes-on-requires
-goes-on-requires c κs = search needs
-
-same-length : tie.Need-same-length
-same-length c = search needs
 
 returns : tie.Need-returns
 returns c =
@@ -62,9 +41,6 @@ returns c =
     let a = s .args in
     walks-of (residue-on (a .bytes .now) (tablesIn (a .bytes .now) (a .numbers .now) .brackets) (a .p) (tabled (residueIn (a .bytes .now)) (a .p + 1) (a .n - (a .p + 1))) (l .before .section .ensures .0) (l .letter .ensures) (sym (g .goes-on .ensures) ∙ c .if1 .taken))
     (walks-up (omega arith) (omega arith) (walks-after 3 (omega arith) (q .put-opening .ensures) (walks-after 1 (omega arith) (p .put .ensures) (w .put-run .ensures))))
-
-add-put-ending : tie.Need-add-put-ending
-add-put-ending c = search needs
 
 put-ending-requires : tie.Need-put-ending-requires
 put-ending-requires c κs =
@@ -84,9 +60,6 @@ put-ending-requires c κs =
       omega (arith, b .few-residues, s .pre .4, s .pre .5),
     )
 
-same-length-2 : tie.Need-same-length-2
-same-length-2 c = search needs
-
 returns-2 : tie.Need-returns-2
 returns-2 c =
     let n = c .before .before in
@@ -105,18 +78,5 @@ pub put-residue-spec : {M : Type 1} → statement M
 put-residue-spec =
     tie.close
     (tie.spec
-    section-requires
-    letter-requires
-    put-opening-requires
-    put-requires
-    mul-put-run
-    add-put-run
-    put-run-requires
-    add-goes-on
-    goes-on-requires
-    same-length
-    returns
-    add-put-ending
-    put-ending-requires
-    same-length-2
-    returns-2)
+    (λ c κs. search needs) (λ c κs. search needs) put-opening-requires put-requires (λ c. search needs) (λ c. search needs) put-run-requires
+    (λ c. search needs) (λ c κs. search needs) (λ c. search needs) returns (λ c. search needs) put-ending-requires (λ c. search needs) returns-2)

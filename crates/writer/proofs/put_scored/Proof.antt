@@ -9,32 +9,11 @@ use borrow.Author.Needs.{needs}
 use Rattle.writer.proofs.put_scored.Statement.{statement}
 use Rattle.writer.proofs.put_scored.Tie as tie
 
-score-requires : tie.Need-score-requires
-score-requires c κs = search needs
-
 returns : tie.Need-returns
 returns c =
     let f = c .before in
     let a = f .before .before .before .args in
     puts-of (scored-none (a .bytes .now) (a .numbers .now) (a .k) (f .score .ensures .0) (c .if1 .taken)) (puts-within (omega arith) (puts-none _ _))
-
-score-number-requires : tie.Need-score-number-requires
-score-number-requires c κs = search needs
-
-put-requires : tie.Need-put-requires
-put-requires c κs = search needs
-
-sub-put-number : tie.Need-sub-put-number
-sub-put-number c = search needs
-
-put-number-requires : tie.Need-put-number-requires
-put-number-requires c κs = search needs
-
-put-requires-2 : tie.Need-put-requires-2
-put-requires-2 c κs = search needs
-
-same-length : tie.Need-same-length
-same-length c = search needs
 
 returns-2 : tie.Need-returns-2
 returns-2 c =
@@ -53,12 +32,5 @@ pub put-scored-spec : {M : Type 1} → statement M
 put-scored-spec =
     tie.close
     (tie.spec
-    score-requires
-    returns
-    score-number-requires
-    put-requires
-    sub-put-number
-    put-number-requires
-    put-requires-2
-    same-length
-    returns-2)
+    (λ c κs. search needs) returns (λ c κs. search needs) (λ c κs. search needs) (λ c. search needs) (λ c κs. search needs) (λ c κs. search needs)
+    (λ c. search needs) returns-2)

@@ -6,23 +6,11 @@ use borrow.Author.Needs.{needs}
 use Rattle.writer.proofs.put_sign.Statement.{statement}
 use Rattle.writer.proofs.put_sign.Tie as tie
 
-put-requires : tie.Need-put-requires
-put-requires c κs = search needs
-
-same-length : tie.Need-same-length
-same-length c = search needs
-
 returns : tie.Need-returns
 returns c =
     let p = c .before .before in
     let i = p .before .before in
     puts-of (sign-minus (i .before .before .args .always) _ (i .if1 .taken)) (p .put .ensures)
-
-put-requires-2 : tie.Need-put-requires-2
-put-requires-2 c κs = search needs
-
-same-length-2 : tie.Need-same-length-2
-same-length-2 c = search needs
 
 returns-2 : tie.Need-returns-2
 returns-2 c =
@@ -36,4 +24,4 @@ returns-3 c = puts-of (sign-none _ _ (c .before .if1 .left) (c .if2 .left)) (put
 pub put-sign-spec : {M : Type 1} → statement M
 put-sign-spec =
     tie.close
-    (tie.spec put-requires same-length returns put-requires-2 same-length-2 returns-2 returns-3)
+    (tie.spec (λ c κs. search needs) (λ c. search needs) returns (λ c κs. search needs) (λ c. search needs) returns-2 returns-3)

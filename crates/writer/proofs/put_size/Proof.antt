@@ -5,20 +5,8 @@ use borrow.Author.Needs.{needs}
 use Rattle.writer.proofs.put_size.Statement.{statement}
 use Rattle.writer.proofs.put_size.Tie as tie
 
-power-requires : tie.Need-power-requires
-power-requires c κs = search needs
-
 div-put-decimal : tie.Need-div-put-decimal
 div-put-decimal c = rw (c .power .ensures) (power-positive _)
-
-put-decimal-requires : tie.Need-put-decimal-requires
-put-decimal-requires c κs = search needs
-
-put-decimals-requires : tie.Need-put-decimals-requires
-put-decimals-requires c κs = search needs
-
-same-length : tie.Need-same-length
-same-length c = search needs
 
 returns : tie.Need-returns
 returns c =
@@ -30,9 +18,4 @@ pub put-size-spec : {M : Type 1} → statement M
 put-size-spec =
     tie.close
     (tie.spec
-    power-requires
-    div-put-decimal
-    put-decimal-requires
-    put-decimals-requires
-    same-length
-    returns)
+    (λ c κs. search needs) div-put-decimal (λ c κs. search needs) (λ c κs. search needs) (λ c. search needs) returns)

@@ -9,21 +9,6 @@ use borrow.Author.Needs.{needs}
 use Rattle.writer.proofs.put_value.Statement.{statement}
 use Rattle.writer.proofs.put_value.Tie as tie
 
-value-requires : tie.Need-value-requires
-value-requires c κs = search needs
-
-decimals-requires : tie.Need-decimals-requires
-decimals-requires c κs = search needs
-
-mass-requires : tie.Need-mass-requires
-mass-requires c κs = search needs
-
-put-number-requires : tie.Need-put-number-requires
-put-number-requires c κs = search needs
-
-same-length : tie.Need-same-length
-same-length c = search needs
-
 returns : tie.Need-returns
 returns c =
     let number = c .before .before in
@@ -35,18 +20,6 @@ returns c =
     let read = toZ-ofZ {w = w64} {z = m .mass .result} (record { sfits = m .mass .ok }) ∙ m .mass .ensures in
     puts-of (value-mass (a .bytes .now) (a .numbers .now) (a .k) (a .j) (v .value .ensures .0) (i .if1 .taken) (d .decimals .ensures .0) read)
     (puts-within (omega arith) (number .put-number .ensures))
-
-text-length-requires : tie.Need-text-length-requires
-text-length-requires c κs = search needs
-
-text-from-requires : tie.Need-text-from-requires
-text-from-requires c κs = search needs
-
-copy-requires : tie.Need-copy-requires
-copy-requires c κs = search needs
-
-same-length-2 : tie.Need-same-length-2
-same-length-2 c = search needs
 
 returns-2 : tie.Need-returns-2
 returns-2 c =
@@ -73,15 +46,5 @@ pub put-value-spec : {M : Type 1} → statement M
 put-value-spec =
     tie.close
     (tie.spec
-    value-requires
-    decimals-requires
-    mass-requires
-    put-number-requires
-    same-length
-    returns
-    text-length-requires
-    text-from-requires
-    copy-requires
-    same-length-2
-    returns-2
-    returns-3)
+    (λ c κs. search needs) (λ c κs. search needs) (λ c κs. search needs) (λ c κs. search needs) (λ c. search needs) returns (λ c κs. search needs)
+    (λ c κs. search needs) (λ c κs. search needs) (λ c. search needs) returns-2 returns-3)

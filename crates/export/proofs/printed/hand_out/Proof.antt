@@ -7,14 +7,8 @@ use Rattle.export.proofs.printed.hand_out.Tie as tie
 returns : tie.Need-returns
 returns c = part-15 _ _ _ _ (c .before .before .before .pre) (c .if1 .taken)
 
-copy-bytes-requires : tie.Need-copy-bytes-requires
-copy-bytes-requires c κs = search needs
-
-same-length : tie.Need-same-length
-same-length c = search needs
-
 returns-2 : tie.Need-returns-2
 returns-2 c = part-0 _ _ _ _ (c .before .before .before .before .before .before .before .pre) (c .before .before .before .before .if1 .left) (c .before .before .copy-bytes .ensures)
 
 pub hand-out-spec : {M : Type 1} → statement M
-hand-out-spec = tie.close (tie.spec returns copy-bytes-requires same-length returns-2)
+hand-out-spec = tie.close (tie.spec returns (λ c κs. search needs) (λ c. search needs) returns-2)

@@ -5,33 +5,6 @@ use borrow.Author.Needs.{needs}
 use Rattle.export.proofs.printed.hwemiduk_entry.Statement.{statement}
 use Rattle.export.proofs.printed.hwemiduk_entry.Tie as tie
 
-slice-aggregate-put-entry : tie.Need-slice-aggregate-put-entry
-slice-aggregate-put-entry c = search needs
-
-slice-aggregate-put-entry-2 : tie.Need-slice-aggregate-put-entry-2
-slice-aggregate-put-entry-2 c = search needs
-
-slice-aggregate-put-entry-3 : tie.Need-slice-aggregate-put-entry-3
-slice-aggregate-put-entry-3 c = search needs
-
-slice-aggregate-put-entry-4 : tie.Need-slice-aggregate-put-entry-4
-slice-aggregate-put-entry-4 c = search needs
-
-slice-aggregate-put-entry-5 : tie.Need-slice-aggregate-put-entry-5
-slice-aggregate-put-entry-5 c = search needs
-
-slice-aggregate-put-entry-6 : tie.Need-slice-aggregate-put-entry-6
-slice-aggregate-put-entry-6 c = search needs
-
-slice-aggregate-put-entry-7 : tie.Need-slice-aggregate-put-entry-7
-slice-aggregate-put-entry-7 c = search needs
-
-slice-aggregate-put-entry-8 : tie.Need-slice-aggregate-put-entry-8
-slice-aggregate-put-entry-8 c = search needs
-
-slice-aggregate-put-entry-9 : tie.Need-slice-aggregate-put-entry-9
-slice-aggregate-put-entry-9 c = search needs
-
 put-entry-requires : tie.Need-put-entry-requires
 put-entry-requires c κs = (
   record {
@@ -46,15 +19,6 @@ put-entry-requires c κs = (
   search needs,
 )
 
-slice-aggregate-hand-out : tie.Need-slice-aggregate-hand-out
-slice-aggregate-hand-out c = search needs
-
-hand-out-requires : tie.Need-hand-out-requires
-hand-out-requires c κs = search needs
-
-same-length : tie.Need-same-length
-same-length c = search needs
-
 returns : tie.Need-returns
 returns c =
     let h = c .before .before in
@@ -65,17 +29,5 @@ pub hwemiduk-entry-spec : {M : Type 1} → statement M
 hwemiduk-entry-spec =
     tie.close
     (tie.spec
-    slice-aggregate-put-entry
-    slice-aggregate-put-entry-2
-    slice-aggregate-put-entry-3
-    slice-aggregate-put-entry-4
-    slice-aggregate-put-entry-5
-    slice-aggregate-put-entry-6
-    slice-aggregate-put-entry-7
-    slice-aggregate-put-entry-8
-    slice-aggregate-put-entry-9
-    put-entry-requires
-    slice-aggregate-hand-out
-    hand-out-requires
-    same-length
-    returns)
+    (λ c. search needs) (λ c. search needs) (λ c. search needs) (λ c. search needs) (λ c. search needs) (λ c. search needs) (λ c. search needs)
+    (λ c. search needs) (λ c. search needs) put-entry-requires (λ c. search needs) (λ c κs. search needs) (λ c. search needs) returns)

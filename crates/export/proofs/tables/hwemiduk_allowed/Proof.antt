@@ -13,15 +13,6 @@ returns c =
     let a = c .before .before .before .args in
     ap numberOf (sym (allows-short (now (a .bytes)) (now (a .numbers)) (now (a .placement)) (c .if1 .taken)))
 
-placement-in-requires : tie.Need-placement-in-requires
-placement-in-requires c κs = search needs
-
-is-allowed-requires : tie.Need-is-allowed-requires
-is-allowed-requires c κs = search needs
-
-request-number-requires : tie.Need-request-number-requires
-request-number-requires c κs = search needs
-
 returns-2 : tie.Need-returns-2
 returns-2 c =
     let a = c .before .before .before .before .before .before .args in
@@ -32,8 +23,4 @@ pub hwemiduk-allowed-spec : {M : Type 1} → statement M
 hwemiduk-allowed-spec =
     tie.close
     (tie.spec
-    returns
-    placement-in-requires
-    is-allowed-requires
-    request-number-requires
-    returns-2)
+    returns (λ c κs. search needs) (λ c κs. search needs) (λ c κs. search needs) returns-2)

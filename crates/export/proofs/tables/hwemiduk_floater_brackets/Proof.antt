@@ -4,18 +4,6 @@ use borrow.Author.Needs.{needs}
 use Rattle.export.proofs.tables.hwemiduk_floater_brackets.Statement.{statement}
 use Rattle.export.proofs.tables.hwemiduk_floater_brackets.Tie as tie
 
-floater-brackets-requires : tie.Need-floater-brackets-requires
-floater-brackets-requires c κs = search needs
-
-tell-count-requires : tie.Need-tell-count-requires
-tell-count-requires c κs = search needs
-
-same-length : tie.Need-same-length
-same-length c = search needs
-
-same-length-2 : tie.Need-same-length-2
-same-length-2 c = search needs
-
 returns : tie.Need-returns
 returns c =
     let r = c .before .before .before .before .before .before .floater-brackets .ensures in
@@ -23,4 +11,4 @@ returns c =
 
 pub hwemiduk-floater-brackets-spec : {M : Type 1} → statement M
 hwemiduk-floater-brackets-spec =
-    tie.close (tie.spec floater-brackets-requires tell-count-requires same-length same-length-2 returns)
+    tie.close (tie.spec (λ c κs. search needs) (λ c κs. search needs) (λ c. search needs) (λ c. search needs) returns)

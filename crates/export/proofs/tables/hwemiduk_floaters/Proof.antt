@@ -4,14 +4,8 @@ use borrow.Author.Needs.{needs}
 use Rattle.export.proofs.tables.hwemiduk_floaters.Statement.{statement}
 use Rattle.export.proofs.tables.hwemiduk_floaters.Tie as tie
 
-floater-count-requires : tie.Need-floater-count-requires
-floater-count-requires c κs = search needs
-
-tell-count-requires : tie.Need-tell-count-requires
-tell-count-requires c κs = search needs
-
 returns : tie.Need-returns
 returns c = counted-so (c .before .before .floater-count .ensures) (c .tell-count .ensures)
 
 pub hwemiduk-floaters-spec : {M : Type 1} → statement M
-hwemiduk-floaters-spec = tie.close (tie.spec floater-count-requires tell-count-requires returns)
+hwemiduk-floaters-spec = tie.close (tie.spec (λ c κs. search needs) (λ c κs. search needs) returns)

@@ -15,29 +15,11 @@ returns c = short-placement _ _ _ _ _ (c .if1 .taken)
 returns-2 : tie.Need-returns-2
 returns-2 c = short-entries _ _ _ _ _ (c .before .if1 .left) (c .if2 .taken)
 
-placement-in-requires : tie.Need-placement-in-requires
-placement-in-requires c κs = search needs
-
-ledger-requires : tie.Need-ledger-requires
-ledger-requires c κs = search needs
-
-enum-told : tie.Need-enum-told
-enum-told c = search needs
-
-slice-aggregate-copy-entries : tie.Need-slice-aggregate-copy-entries
-slice-aggregate-copy-entries c = search needs
-
 copy-entries-requires : tie.Need-copy-entries-requires
 copy-entries-requires c κs =
     let called = c .before .before .before .before .before in
     let long : length (called .ledger .result .at) ≡ positionLimit = search needs in
     (omega arith, called .before .before .if2 .left)
-
-enum-known-booked : tie.Need-enum-known-booked
-enum-known-booked c = search needs
-
-same-length : tie.Need-same-length
-same-length c = search needs
 
 returns-3 : tie.Need-returns-3
 returns-3 c =
@@ -59,14 +41,5 @@ pub hwemiduk-ledger-spec : {M : Type 1} → statement M
 hwemiduk-ledger-spec =
     tie.close
     (tie.spec
-    returns
-    returns-2
-    placement-in-requires
-    ledger-requires
-    enum-told
-    slice-aggregate-copy-entries
-    copy-entries-requires
-    enum-known-booked
-    same-length
-    returns-3
-    returns-4)
+    returns returns-2 (λ c κs. search needs) (λ c κs. search needs) (λ c. search needs) (λ c. search needs) copy-entries-requires (λ c. search needs)
+    (λ c. search needs) returns-3 returns-4)

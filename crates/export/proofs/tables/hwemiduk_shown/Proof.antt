@@ -4,14 +4,8 @@ use borrow.Author.Needs.{needs}
 use Rattle.export.proofs.tables.hwemiduk_shown.Statement.{statement}
 use Rattle.export.proofs.tables.hwemiduk_shown.Tie as tie
 
-shown-requires : tie.Need-shown-requires
-shown-requires c κs = search needs
-
-tell-shown-requires : tie.Need-tell-shown-requires
-tell-shown-requires c κs = search needs
-
 returns : tie.Need-returns
 returns c = displayed-so (c .before .before .before .shown .ensures) (c .tell-shown .ensures)
 
 pub hwemiduk-shown-spec : {M : Type 1} → statement M
-hwemiduk-shown-spec = tie.close (tie.spec shown-requires tell-shown-requires returns)
+hwemiduk-shown-spec = tie.close (tie.spec (λ c κs. search needs) (λ c κs. search needs) returns)

@@ -4,14 +4,8 @@ use borrow.Author.Needs.{needs}
 use Rattle.export.proofs.tables.hwemiduk_total.Statement.{statement}
 use Rattle.export.proofs.tables.hwemiduk_total.Tie as tie
 
-total-requires : tie.Need-total-requires
-total-requires c κs = search needs
-
-tell-total-requires : tie.Need-tell-total-requires
-tell-total-requires c κs = search needs
-
 returns : tie.Need-returns
 returns c = totalled-so (c .before .before .before .total .ensures) (c .tell-total .ensures)
 
 pub hwemiduk-total-spec : {M : Type 1} → statement M
-hwemiduk-total-spec = tie.close (tie.spec total-requires tell-total-requires returns)
+hwemiduk-total-spec = tie.close (tie.spec (λ c κs. search needs) (λ c κs. search needs) returns)

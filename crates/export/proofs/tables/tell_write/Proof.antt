@@ -5,20 +5,8 @@ use borrow.Author.Needs.{needs}
 use Rattle.export.proofs.tables.tell_write.Statement.{statement}
 use Rattle.export.proofs.tables.tell_write.Tie as tie
 
-enum-known-w : tie.Need-enum-known-w
-enum-known-w c = search needs
-
-enum-known-w-2 : tie.Need-enum-known-w-2
-enum-known-w-2 c = search needs
-
-returns : tie.Need-returns
-returns c = search needs
-
-returns-2 : tie.Need-returns-2
-returns-2 c = search needs
-
 returns-3 : tie.Need-returns-3
 returns-3 c = rw (c .before .before .w2 .given .1) (record { number-is = refl; count-is = length-kept _ _ _ (c .if1 .left) })
 
 pub tell-write-spec : {M : Type 1} → statement M
-tell-write-spec = tie.close (tie.spec enum-known-w enum-known-w-2 returns returns-2 returns-3)
+tell-write-spec = tie.close (tie.spec (λ c. search needs) (λ c. search needs) (λ c. search needs) (λ c. search needs) returns-3)

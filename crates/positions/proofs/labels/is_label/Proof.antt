@@ -5,14 +5,8 @@ use native.Mathlib.Omega.{arith}
 use Rattle.positions.proofs.labels.is_label.Statement.{statement}
 use Rattle.positions.proofs.labels.is_label.Tie as tie
 
-label-length-requires : tie.Need-label-length-requires
-label-length-requires c κs = search needs
-
 returns : tie.Need-returns
 returns c = among-none _ _ _ _ (c .before .label-length .ensures .0) (c .if1 .taken)
-
-label-from-requires : tie.Need-label-from-requires
-label-from-requires c κs = search needs
 
 same-bytes-requires : tie.Need-same-bytes-requires
 same-bytes-requires c κs = (c .before .before .before .before .pre .2, omega (arith, c .before .before .before .before .pre .0 .inside (c .before .before .before .before .args .j) (c .before .before .before .before .pre .1)))
@@ -24,8 +18,4 @@ pub is-label-spec : {M : Type 1} → statement M
 is-label-spec =
     tie.close
     (tie.spec
-    label-length-requires
-    returns
-    label-from-requires
-    same-bytes-requires
-    returns-2)
+    (λ c κs. search needs) returns (λ c κs. search needs) same-bytes-requires returns-2)

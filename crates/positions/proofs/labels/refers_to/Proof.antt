@@ -13,9 +13,6 @@ is-referring-requires-2 c κs = c .before .before .before .pre .0 .row
 returns : tie.Need-returns
 returns c = refers-no-definition _ _ _ (c .before .is-referring2 .ensures) (c .if2 .taken)
 
-shares-requires : tie.Need-shares-requires
-shares-requires c κs = search needs
-
 returns-2 : tie.Need-returns-2
 returns-2 c = refers _ _ _ (c .before .before .before .before .is-referring .ensures) (c .before .before .before .if1 .taken) (c .before .before .is-referring2 .ensures) (c .before .if2 .left) (c .shares .ensures)
 
@@ -26,9 +23,4 @@ pub refers-to-spec : {M : Type 1} → statement M
 refers-to-spec =
     tie.close
     (tie.spec
-    is-referring-requires
-    is-referring-requires-2
-    returns
-    shares-requires
-    returns-2
-    returns-3)
+    is-referring-requires is-referring-requires-2 returns (λ c κs. search needs) returns-2 returns-3)

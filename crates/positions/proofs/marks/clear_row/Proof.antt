@@ -4,12 +4,6 @@ use borrow.Author.Needs.{needs}
 use Rattle.positions.proofs.marks.clear_row.Statement.{statement}
 use Rattle.positions.proofs.marks.clear_row.Tie as tie
 
-sub-put : tie.Need-sub-put
-sub-put c = search needs
-
-put-requires : tie.Need-put-requires
-put-requires c κs = search needs
-
 same-length : tie.Need-same-length
 same-length c = c .before .before .put .ensures .kept
 
@@ -17,4 +11,4 @@ returns : tie.Need-returns
 returns c = cleared (c .before .before .put .ensures)
 
 pub clear-row-spec : {M : Type 1} → statement M
-clear-row-spec = tie.close (tie.spec sub-put put-requires same-length returns)
+clear-row-spec = tie.close (tie.spec (λ c. search needs) (λ c κs. search needs) same-length returns)

@@ -5,9 +5,6 @@ use native.Mathlib.Omega.{arith}
 use Rattle.positions.proofs.marks.fill_row.Statement.{statement}
 use Rattle.positions.proofs.marks.fill_row.Tie as tie
 
-clear-row-requires : tie.Need-clear-row-requires
-clear-row-requires c κs = search needs
-
 mark-all-requires : tie.Need-mark-all-requires
 mark-all-requires c κs = (c .before .before .before .before .before .before .before .pre .0, c .before .before .before .before .before .before .before .pre .1, omega (arith, c .before .before .before .clear-row .kept))
 
@@ -24,8 +21,4 @@ pub fill-row-spec : {M : Type 1} → statement M
 fill-row-spec =
     tie.close
     (tie.spec
-    clear-row-requires
-    mark-all-requires
-    strike-out-requires
-    same-length
-    returns)
+    (λ c κs. search needs) mark-all-requires strike-out-requires same-length returns)

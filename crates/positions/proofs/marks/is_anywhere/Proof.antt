@@ -4,17 +4,8 @@ use borrow.Author.Needs.{needs}
 use Rattle.positions.proofs.marks.is_anywhere.Statement.{statement}
 use Rattle.positions.proofs.marks.is_anywhere.Tie as tie
 
-is-labelled-requires : tie.Need-is-labelled-requires
-is-labelled-requires c κs = search needs
-
 returns : tie.Need-returns
 returns c = not-anywhere _ _ (c .before .is-labelled .ensures) (c .if1 .taken)
-
-kind-requires : tie.Need-kind-requires
-kind-requires c κs = search needs
-
-is-unknown-requires : tie.Need-is-unknown-requires
-is-unknown-requires c κs = search needs
 
 returns-2 : tie.Need-returns-2
 returns-2 c = anywhere-by-kind _ _ (c .before .before .before .is-labelled .ensures) (c .before .before .if1 .left) (c .before .kind .ensures) (c .is-unknown .ensures)
@@ -23,8 +14,4 @@ pub is-anywhere-spec : {M : Type 1} → statement M
 is-anywhere-spec =
     tie.close
     (tie.spec
-    is-labelled-requires
-    returns
-    kind-requires
-    is-unknown-requires
-    returns-2)
+    (λ c κs. search needs) returns (λ c κs. search needs) (λ c κs. search needs) returns-2)

@@ -21,9 +21,6 @@ same-length c = c .before .before .put .ensures .kept
 returns : tie.Need-returns
 returns c = all-residues _ _ (c .before .before .before .before .before .before .is-anywhere .ensures) (c .before .before .before .before .before .if1 .taken) (c .before .before .put .ensures) (c .before .before .before .before .residues .ensures .0)
 
-mark-own-requires : tie.Need-mark-own-requires
-mark-own-requires c κs = search needs
-
 mark-references-requires : tie.Need-mark-references-requires
 mark-references-requires c κs = (c .before .before .before .before .before .before .before .before .before .pre .0, c .before .before .before .before .before .before .before .before .before .pre .1, omega (arith, c .before .before .before .mark-own .kept))
 
@@ -37,12 +34,4 @@ pub mark-all-spec : {M : Type 1} → statement M
 mark-all-spec =
     tie.close
     (tie.spec
-    is-anywhere-requires
-    residues-requires
-    put-requires
-    same-length
-    returns
-    mark-own-requires
-    mark-references-requires
-    same-length-2
-    returns-2)
+    is-anywhere-requires residues-requires put-requires same-length returns (λ c κs. search needs) mark-references-requires same-length-2 returns-2)

@@ -9,9 +9,6 @@ use Rattle.positions.proofs.marks.mark_own.Tie as tie
 kind-requires : tie.Need-kind-requires
 kind-requires c κs = row-of (c .before .before .pre .0) (c .before .before .pre .1)
 
-has-place-requires : tie.Need-has-place-requires
-has-place-requires c κs = search needs
-
 first-requires : tie.Need-first-requires
 first-requires c κs = row-room (c .before .before .before .before .before .pre .0) (c .before .before .before .before .before .pre .1)
 
@@ -34,11 +31,4 @@ pub mark-own-spec : {M : Type 1} → statement M
 mark-own-spec =
     tie.close
     (tie.spec
-    kind-requires
-    has-place-requires
-    first-requires
-    last-requires
-    put-requires
-    same-length
-    returns
-    returns-2)
+    kind-requires (λ c κs. search needs) first-requires last-requires put-requires same-length returns returns-2)

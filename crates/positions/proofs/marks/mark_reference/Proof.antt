@@ -30,10 +30,4 @@ pub mark-reference-spec : {M : Type 1} → statement M
 mark-reference-spec =
     tie.close
     (tie.spec
-    refers-to-requires
-    first-requires
-    last-requires
-    put-requires
-    same-length
-    returns
-    returns-2)
+    refers-to-requires first-requires last-requires put-requires same-length returns returns-2)

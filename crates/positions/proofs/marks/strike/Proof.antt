@@ -13,14 +13,8 @@ is-placed-requires c κs = row-of (c .before .before .pre .0) (c .before .before
 first-requires : tie.Need-first-requires
 first-requires c κs = row-room (c .before .before .before .before .pre .0) (c .before .before .before .before .pre .1)
 
-add-tab : tie.Need-add-tab
-add-tab c = search needs
-
 slice-write-tab : tie.Need-slice-write-tab
 slice-write-tab c = omega (arith, first-within (c .before .before .before .before .before .pre .0) (c .before .before .before .before .before .pre .1) (c .first .ensures .0))
-
-same-length : tie.Need-same-length
-same-length c = search needs
 
 returns : tie.Need-returns
 returns c = struck _ _ (c .before .before .is-placed .ensures) (c .before .if1 .taken) (first-is _ _ (c .first .ensures .0)) (first-within (c .before .before .before .before .before .pre .0) (c .before .before .before .before .before .pre .1) (c .first .ensures .0)) (c .before .before .before .before .before .pre .2)
@@ -32,10 +26,4 @@ pub strike-spec : {M : Type 1} → statement M
 strike-spec =
     tie.close
     (tie.spec
-    is-placed-requires
-    first-requires
-    add-tab
-    slice-write-tab
-    same-length
-    returns
-    returns-2)
+    is-placed-requires first-requires (λ c. search needs) slice-write-tab (λ c. search needs) returns returns-2)

@@ -4,12 +4,13 @@ use mathlib.Core.Bool.{Bool, true, false, not, _&&_, _||_, false≢true, true≢
 use mathlib.Core.Option.{none}
 use mathlib.Core.List.{List, [], _∷_, _++_, map}
 use Prim.Native.Nat.{ℕ, zero, suc, _+_, _≤_, _<_}
+use native.Mathlib.Nat.{le-refl}
 use native.Mathlib.Omega.{arith}
 use lib.ListN.{length, length-append}
 use Rattle.scope.specs.declared.grammar.Section.{Section}
 use Rattle.scope.specs.declared.grammar.Section.the-variants.{Plain, RangeFirst, RangeNext, UnsureFirst, UnsureNext}
 use Rattle.scope.specs.declared.grammar.Kind.{Kind}
-use Rattle.scope.specs.declared.grammar.Kind.the-variants.{Unknown, Labile, NTerm, OnResidue, OnRange, CTerm}
+use Rattle.scope.specs.declared.grammar.Kind.the-variants.{Unknown, NTerm}
 use Rattle.scope.specs.declared.grammar.Mode.{Mode}
 use Rattle.scope.specs.declared.grammar.Mode.the-variants.{Runs, Counting, Start}
 use Rattle.scope.specs.declared.grammar.Slot.{Slot}
@@ -18,7 +19,7 @@ use Rattle.scope.specs.declared.grammar.Act.the-variants.{Stop, Go, Residue as 
 use Rattle.scope.specs.Bytes.{upper, isLower}
 use Rattle.scope.specs.Line.{Part, Bracket, Residue, Line}
 use Rattle.scope.specs.Content.{isReference, Inner, Content, lost, closed, going, innerStep}
-use Rattle.scope.specs.Reading.{counted, referred, act, mayEnd, Held, firstOf, withResidue, firstPosition, lastPosition, bracketOf, settled, waiting, withBracket, times, countDigit, withDigit, asNTerm, settledRun, State, dead, outside, inside, perform, refers?, resume, step, run, start, holds, reading}
+use Rattle.scope.specs.Reading.{counted, referred, act, mayEnd, Held, firstOf, withResidue, positionOf, bracketOf, settled, waiting, withBracket, times, countDigit, withDigit, asNTerm, settledRun, State, dead, outside, inside, perform, refers?, resume, step, run, start, holds, reading}
 use Rattle.scope.specs.Lists.{onLast, flat}
 use Rattle.scope.specs.Kinds.{isUnknown}
 use Rattle.scope.specs.Layout.{bracketTexts}
@@ -28,7 +29,7 @@ use Rattle.basics.specs.Choice.{branch}
 use Rattle.reading_laws.specs.Acts.{ways, each-mode, act-rule, someWay, endsTerm, waits}
 use Rattle.reading_laws.specs.Kept.{reading-whole-from, put-by, digit-by}
 use Rattle.basics.specs.Each.{each-last, Each, each-append, each-map, each-one, each-two}
-use Rattle.accepted_laws.specs.Within.{Byte, Nowhere, Stands}
+use Rattle.accepted_laws.specs.Within.{Byte, Stands}
 use Rattle.accepted_laws.specs.Inside.{PartShape, PartsShape, Carried, InnerKeeps, ContentKeeps, inner-step}
 
 -- ---- the order of a line: where a residue was read, and where no count was
@@ -81,6 +82,11 @@ pub record BracketShape {P : Type 0} (n : ℕ) (k : Bracket P) : Type 0 where
   pub uncounted : isUnknown (k .kind) ≡ false → k .counted ≡ none
   pub single : k .counted ≡ none → k .count ≡ 1
 
+-- it has no position
+pub record Nowhere (first last : ℕ) : Type 0 where
+  pub first-0 : first ≡ 0
+  pub last-0 : last ≡ 0
+
 -- a bracket at the front, whose kind is not settled
 pub record RunShape {P : Type 0} (k : Bracket P) : Type 0 where
   pub some-part : 0 < length (k .parts)
@@ -122,20 +128,16 @@ upper-byte b h = branch Byte (isLower b) (omega arith) h
 
 -- one residue more leaves brackets where they stand
 stands-more : (k : Kind) (first last n : ℕ) → Stands k first last n → Stands k first last (n + 1)
-stands-more Unknown first last n s = s
-stands-more Labile first last n s = s
-stands-more NTerm first last n s = s
-stands-more OnResidue first last n s = omega arith
-stands-more OnRange first last n s = omega arith
-stands-more CTerm first last n s = omega arith
+stands-more k first last n s =
+    record { behind = s .behind; group = s .group; ordered = s .ordered; inside = omega (arith, s .inside); first-is = s .first-is; last-is = s .last-is }
 
-stands-new : (k : Kind) (a n : ℕ) → a ≤ n → Stands k (firstPosition k n a) (lastPosition k n) n
-stands-new Unknown a n h = omega arith
-stands-new Labile a n h = omega arith
-stands-new NTerm a n h = omega arith
-stands-new OnResidue a n h = omega arith
-stands-new OnRange a n h = omega arith
-stands-new CTerm a n h = omega arith
+stands-new : (k : Kind) (a n : ℕ) → a ≤ n → Stands k (positionOf k n a) (positionOf k n n) n
+stands-new k a n h = record { behind = n; group = a; ordered = h; inside = le-refl n; first-is = refl; last-is = refl }
+
+-- at the front, where no residue is read
+stands-front : (k : Kind) (first last n : ℕ) → positionOf k 0 0 ≡ 0 → Nowhere first last → Stands k first last n
+stands-front k first last n e s =
+    record { behind = 0; group = 0; ordered = omega arith; inside = omega arith; first-is = s .first-0 ∙ sym e; last-is = s .last-0 ∙ sym e }
 
 first-new : (s : Section) (a n : ℕ) → a ≤ n → firstOf s (n + 1) a ≤ n + 1
 first-new Plain a n h = omega arith
@@ -237,7 +239,10 @@ module _ {P : Type 0} where
         lone = s .lone;
         unknown = u;
         stands =
-            record { first-0 = ap (λ k. firstPosition k (length (h .residues)) (h .first)) u; last-0 = ap (λ k. lastPosition k (length (h .residues))) u };
+            record {
+              first-0 = ap (λ k. positionOf k (length (h .residues)) (h .first)) u;
+              last-0 = ap (λ k. positionOf k (length (h .residues)) (length (h .residues))) u;
+            };
         single = λ e. refl;
       })
       (s .fits))
@@ -294,7 +299,7 @@ module _ {P : Type 0} where
         some-part = w .some-part;
         parts = w .parts;
         lone = w .lone;
-        stands = rw (w .unknown) (w .stands);
+        stands = stands-front (k .kind) (k .first) (k .last) n (ap (λ k. positionOf k 0 0) (w .unknown)) (w .stands);
         uncounted = λ e. absurd (unknown-not (k .kind) (w .unknown) e);
         single = w .single;
       }
@@ -305,7 +310,7 @@ module _ {P : Type 0} where
         some-part = w .some-part;
         parts = w .parts;
         lone = w .lone;
-        stands = w .stands;
+        stands = stands-front NTerm (k .first) (k .last) n refl (w .stands);
         uncounted = λ f. e;
         single = w .single;
       }

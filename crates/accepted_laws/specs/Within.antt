@@ -3,23 +3,25 @@ use mathlib.Core.Path.{_≡_}
 use mathlib.Core.Bool.{true, false}
 use mathlib.Core.List.{List}
 use Prim.Native.Nat.{ℕ, _+_, _≤_, _<_}
+use native.Mathlib.Nat.{le-refl}
 use native.Mathlib.Omega.{arith}
 use lib.ListN.{length}
 use Rattle.scope.specs.declared.grammar.Key.the-variants.{NoKey, Info}
 use Rattle.scope.specs.declared.grammar.Kind.{Kind}
-use Rattle.scope.specs.declared.grammar.Kind.the-variants.{Unknown, Labile, NTerm, OnResidue, OnRange, CTerm}
 use Rattle.scope.specs.Bytes.{byteLimit}
 use Rattle.scope.specs.Limits.{lineLimit, residueLimit, bracketLimit, partLimit, textLimit, labelLimit, countLimit, copyLimit}
 use Rattle.scope.specs.Line.{Number, Label, Value, mass, text, reference, Part, Bracket, Line}
 use Rattle.scope.specs.Keys.{keyCode}
 use Rattle.scope.specs.Content.{isReference}
 use Rattle.scope.specs.Lists.{flat}
+use Rattle.scope.specs.Reading.{positionOf}
 use Rattle.scope.specs.Modifications.{namesOf, isLabelled}
 use Rattle.scope.specs.Refusals.{inRange}
 use Rattle.scope.specs.Kinds.{isUnknown}
 use Rattle.scope.specs.Layout.{bracketTexts}
 use Rattle.scope.specs.Positions.{floaters}
 use Rattle.basics.specs.Each.{Each, OfGiven, IsGiven}
+use Rattle.basics.specs.Kinds.{position-few}
 
 abbrev pub Byte : ℕ → Type 0
 Byte b = b < byteLimit
@@ -58,26 +60,14 @@ pub record PartWithin {P : Type 0} (p : Part P) : Type 0 where
   pub value : ValueWithin p (p .value)
   pub label : OfGiven LabelWithin (p .label)
 
--- positions of a bracket of a line with n residues
-pub record Nowhere (first last : ℕ) : Type 0 where
-  pub first-0 : first ≡ 0
-  pub last-0 : last ≡ 0
-
-pub record OnOne (first last n : ℕ) : Type 0 where
-  pub same : first ≡ last
-  pub inside : last ≤ n
-
-pub record OnSome (first last n : ℕ) : Type 0 where
-  pub ordered : first ≤ last
-  pub inside : last ≤ n
-
-abbrev pub Stands : Kind → ℕ → ℕ → ℕ → Type 0
-Stands Unknown first last n = Nowhere first last
-Stands Labile first last n = Nowhere first last
-Stands NTerm first last n = Nowhere first last
-Stands OnResidue first last n = OnOne first last n
-Stands OnRange first last n = OnSome first last n
-Stands CTerm first last n = OnOne first last (n + 1)
+-- where a bracket of this kind was read, in a line with n residues: behind so many of them, and in a group that began at one of these
+pub record Stands (k : Kind) (first last n : ℕ) : Type 0 where
+  pub behind : ℕ
+  pub group : ℕ
+  pub ordered : group ≤ behind
+  pub inside : behind ≤ n
+  pub first-is : first ≡ positionOf k behind group
+  pub last-is : last ≡ positionOf k behind behind
 
 pub record BracketWithin {P : Type 0} (n : ℕ) (k : Bracket P) : Type 0 where
   pub some-part : 0 < length (k .parts)
@@ -102,17 +92,7 @@ pub record Within {P : Type 0} (l : Line P) : Type 0 where
 
 -- ---- positions are inside
 pub first-few : (k : Kind) (first last n : ℕ) → Stands k first last n → first ≤ n + 1
-first-few Unknown first last n s = omega arith
-first-few Labile first last n s = omega arith
-first-few NTerm first last n s = omega arith
-first-few OnResidue first last n s = omega arith
-first-few OnRange first last n s = omega arith
-first-few CTerm first last n s = omega arith
+first-few k first last n s = omega (arith, s .first-is, position-few k (s .behind) (s .group) (s .ordered), s .inside)
 
 pub last-few : (k : Kind) (first last n : ℕ) → Stands k first last n → last ≤ n + 1
-last-few Unknown first last n s = omega arith
-last-few Labile first last n s = omega arith
-last-few NTerm first last n s = omega arith
-last-few OnResidue first last n s = omega arith
-last-few OnRange first last n s = omega arith
-last-few CTerm first last n s = omega arith
+last-few k first last n s = omega (arith, s .last-is, position-few k (s .behind) (s .behind) (le-refl (s .behind)), s .inside)

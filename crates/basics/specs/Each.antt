@@ -1,6 +1,7 @@
 -- What holds of each element of a list, of some element, and of a value where there is one.
-use mathlib.Core.Path.{_≡_}
+use mathlib.Core.Path.{_≡_, refl}
 use mathlib.Core.Logic.{_⊎_}
+use mathlib.Core.Bool.{Bool, true, false, cond}
 use mathlib.Core.Option.{Option, none, some}
 use mathlib.Core.List.{List, [], _∷_, _++_, map}
 use Prim.Native.Nat.{ℕ, zero, suc, _+_, _-_, _<_}
@@ -90,3 +91,16 @@ each-three Q T W S f (x ∷ l) a b c = (f x (a .0) (b .0) (c .0), each-three Q T
 pub each-through :
     {A B : Type 0} (Q : A → Type 0) (R : B → Type 0) (f : B → A) → ((x : B) → R x → Q (f x)) → (l : List B) → Each R l → Each Q (map f l)
 each-through Q R f h l p = each-map Q f l (each-one R (λ x. Q (f x)) h l p)
+
+-- ---- tests
+-- what fails a test: a rule is stated as "nothing fails", so that a check that refuses it names what does
+abbrev pub failing : {A : Type 0} → (A → Bool) → List A → List A
+failing T [] = []
+failing T (x ∷ l) = cond (T x) [] (x ∷ []) ++ failing T l
+
+pub first-passes : {A : Type 0} (T : A → Bool) (x : A) (l : List A) → failing T (x ∷ l) ≡ [] → (T x ≡ true) × (failing T l ≡ [])
+first-passes T x l e = go (T x) e
+  where
+    go : (t : Bool) → (cond t [] (x ∷ []) ++ failing T l) ≡ [] → (t ≡ true) × (failing T l ≡ [])
+    go true f = (refl, f)
+    go false f = let z : _≡_ {A = ℕ} 0 1 = cc in absurd (omega arith)

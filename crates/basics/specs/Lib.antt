@@ -6,3 +6,4 @@ pub mod Members
 pub mod Tabled
 pub mod Keys
 pub mod Wholes
+pub mod Kinds

@@ -1,7 +1,7 @@
 -- What a test made of two says of each, and the other way round; and that equality is told either way round.
 use mathlib.Core.Path.{_≡_, refl, sym, _∙_}
 use mathlib.Core.Logic.{_⊎_, inl, inr}
-use mathlib.Core.Bool.{Bool, true, false, not, _&&_, _||_, false≢true, true≢false}
+use mathlib.Core.Bool.{Bool, true, false, not, cond, _&&_, _||_, false≢true, true≢false}
 use Prim.Native.Nat.{ℕ}
 use native.Mathlib.Decide.{ℕ-discrete}
 use borrow.Author.Tests.{eq-eqb, ne-eqb}
@@ -56,6 +56,15 @@ pub same-test : (a b : Bool) → (a ≡ true → b ≡ true) → (b ≡ true →
 same-test true b f g = sym (f refl)
 same-test false true f g = g refl
 same-test false false f g = refl
+
+-- the same, as a test
+abbrev pub agree : Bool → Bool → Bool
+agree a b = cond a b (not b)
+
+pub agreed : (a b : Bool) → agree a b ≡ true → a ≡ b
+agreed true b e = sym e
+agreed false true e = e
+agreed false false e = refl
 
 pub falsely : (t : Bool) → (t ≡ true → ⊥) → t ≡ false
 falsely true f = absurd (f refl)

@@ -1,37 +1,25 @@
 -- Laws of one bracket's parts in the areas: what each loop over them has found, at its start, at each turn and at its end. Assumes nothing.
 use mathlib.Core.Path.{_≡_, refl, sym, ap, _∙_}
 use mathlib.Core.Bool.{Bool, true, false, not, cond, _&&_}
-use mathlib.Core.List.{List, [], _∷_, _++_}
+use mathlib.Core.List.{List, _++_}
 use Prim.Native.Nat.{ℕ, zero, suc, _+_, _-_, _≤_, _<_}
 use native.Mathlib.Omega.{arith}
 use borrow.Author.Tests.{eq-eqb, ne-eqb}
 use lib.Dec.{eqb}
 use lib.IntN.{ℤ}
-use lib.ListN.{List·getD-eq-default}
 use Rattle.scope.specs.declared.grammar.Key.the-variants.{Info}
 use Rattle.scope.specs.declared.grammar.Kind.{Kind}
-use Rattle.scope.specs.declared.grammar.Kind.the-variants.{Unknown, Labile, NTerm, OnResidue, OnRange, CTerm}
 use Rattle.scope.specs.Limits.{partLimit}
 use Rattle.scope.specs.Line.{Number, Bracket, mass, text, reference}
 use Rattle.scope.specs.Content.{isReference}
 use Rattle.scope.specs.Lists.{none?, all, flat, tabled}
 use Rattle.scope.specs.Modifications.{isKey, onlyInfo, isReferring, nameOf, isLabelled, isModification, unlabelledCopies, copies}
 use Rattle.scope.specs.Keys.{keyCode}
-use Rattle.scope.specs.Kinds.{onOnePosition, kindCode, kindIn}
+use Rattle.scope.specs.Kinds.{onOnePosition}
 use Rattle.scope.specs.Positions.{isPlaced}
 use Rattle.scope.specs.Layout.{massCode, textCode, valueIn, partIn, bracketIn, keyField, labelField, partsField, valueField}
 use Rattle.brackets.specs.Codes.{key-is}
 use Rattle.basics.specs.Tabled.{tabled-at, tabled-end, tabled-all}
-
--- ---- the kind of a code
-pub other-kind : (n : ℕ) → (n ≡ kindCode Labile → ⊥) → (n ≡ kindCode NTerm → ⊥) → (n ≡ kindCode OnResidue → ⊥) → (n ≡ kindCode OnRange → ⊥) → (n ≡ kindCode CTerm → ⊥) → Unknown ≡ kindIn n
-other-kind zero p2 p3 p4 p5 p6 = refl
-other-kind (suc zero) p2 p3 p4 p5 p6 = refl
-other-kind (suc (suc n)) p2 p3 p4 p5 p6 =
-    sym (List·getD-eq-default (Unknown ∷ Labile ∷ NTerm ∷ OnResidue ∷ OnRange ∷ CTerm ∷ []) Unknown (far (suc (suc n)) (omega arith) p2 p3 p4 p5 p6))
-  where
-    far : (n : ℕ) → kindCode Unknown < n → (n ≡ kindCode Labile → ⊥) → (n ≡ kindCode NTerm → ⊥) → (n ≡ kindCode OnResidue → ⊥) → (n ≡ kindCode OnRange → ⊥) → (n ≡ kindCode CTerm → ⊥) → kindCode CTerm ≤ n - 1
-    far n l p2 p3 p4 p5 p6 = omega arith
 
 -- ---- what a loop over the m parts has found before part j
 pub record Infos (bs : List ℕ) (k m j : ℕ) : Type 0 where

@@ -150,14 +150,13 @@ pub fn is_modification(bytes: &[u8], k: usize) -> bool
 fn on_one_position(kind: Kind) -> bool
     ensures { λ r. ⌜ r ≡ onOnePosition kind ⌝ }
 {
-    match kind {
-        Kind::Unknown => false,
-        Kind::Labile => false,
-        Kind::NTerm => true,
-        Kind::OnResidue => true,
-        Kind::OnRange => false,
-        Kind::CTerm => true,
+    if kind.is(Kind::NTerm) {
+        return true;
     }
+    if kind.is(Kind::OnResidue) {
+        return true;
+    }
+    kind.is(Kind::CTerm)
 }
 
 // Whether it is placed.
@@ -178,14 +177,13 @@ pub fn is_placed(bytes: &[u8], k: usize) -> bool
 fn unlabelled_copies(kind: Kind, count: usize) -> usize
     ensures { λ r. ⌜ r ≡ unlabelledCopies kind count ⌝ }
 {
-    match kind {
-        Kind::Unknown => count,
-        Kind::Labile => 0,
-        Kind::NTerm => 0,
-        Kind::OnResidue => 0,
-        Kind::OnRange => 1,
-        Kind::CTerm => 0,
+    if kind.is(Kind::Unknown) {
+        return count;
     }
+    if kind.is(Kind::OnRange) {
+        return 1;
+    }
+    0
 }
 
 // How many copies of it float.

@@ -10,18 +10,19 @@ use borrow.Author.Tests.{eqb-true, eq-eqb, ltb-true, lt-ltb}
 use Rattle.scope.specs.declared.grammar.Key.{Key}
 use Rattle.scope.specs.declared.grammar.Key.the-variants.{NoKey, U, M, Info, Formula, Glycan, Position, Limit}
 use Rattle.scope.specs.declared.grammar.Kind.{Kind}
-use Rattle.scope.specs.declared.grammar.Kind.the-variants.{Unknown, Labile, NTerm, OnResidue, OnRange, CTerm}
+use Rattle.scope.specs.declared.grammar.Kind.the-variants.{Unknown, Labile}
 use Rattle.scope.specs.Bytes.{isDigit}
 use Rattle.scope.specs.Line.{Label, Part, Bracket, Line}
 use Rattle.scope.specs.Keys.{keyCode, keyIn}
 use Rattle.scope.specs.Lists.{given, none?, flat, among, shared}
 use Rattle.scope.specs.Modifications.{isKey, isReferring, nameOf, namesOf, isLabelled, definedBy, referredBy, defined, referredTo}
 use Rattle.scope.specs.Refusals.{dueAt, textOf, isRule, isLink, notHere, secondLabel, definedAgain, undefined, unreferred, wrongLabels, wronglyLabelled, refusal8, isNumberName, refusal9, refusal10, refusal11}
-use Rattle.scope.specs.Kinds.{unknownOrLabile, isUnknown}
+use Rattle.scope.specs.Kinds.{kindCode, isKind, unknownOrLabile}
 use Rattle.clause_laws.specs.Clauses.{SomeBehind, FirstAt, Rule, Link, Barred, Due8, Due10, Named, Defines, RefersTo, Second, Again, Undefined, CountedLabel, Unreferred, Due11, NumberName, Due9}
 use Rattle.basics.specs.Each.{Some, In}
 use Rattle.clause_laws.specs.Iff.{then, or-iff, and-iff, self, all-iff, some-not, either-iff, in-append, in-flat, among-iff, due-iff, first-iff}
 use Rattle.basics.specs.Keys.{key-back}
+use Rattle.basics.specs.Kinds.{is-kind}
 
 -- ---- keys and kinds
 key-iff : (k : Key) (p : Part ℕ) → (isKey k p ≡ true) ↔ (p .key ≡ k)
@@ -29,6 +30,9 @@ key-iff k p = (
   (λ e. sym (key-back (p .key)) ∙ ap keyIn (eqb-true (keyCode (p .key)) (keyCode k) e) ∙ key-back k),
   (λ e. eq-eqb (keyCode (p .key)) (keyCode k) (ap keyCode e)),
 )
+
+kind-iff : (j k : Kind) → (isKind j k ≡ true) ↔ (k ≡ j)
+kind-iff j k = (is-kind j k, λ e. eq-eqb (kindCode k) (kindCode j) (ap kindCode e))
 
 -- ---- 8
 link-iff : (p : Part ℕ) → (given (p .label) (λ l. isLink (l .name)) false ≡ true) ↔ Link p
@@ -66,26 +70,14 @@ exactly-9 l i =
     first-iff _ (Due9 l) (λ j. in-flat (λ y. j ≡ y) _ _ (λ k. in-flat (λ y. j ≡ y) _ _ (λ p. due-iff (isNumberName p) (p .at) j (number-iff p)) (k .parts)) (l .brackets)) i
 
 -- ---- 10
-kind-iff : (k : Kind) → (unknownOrLabile k ≡ true) ↔ ((k ≡ Unknown) ⊎ (k ≡ Labile))
-kind-iff k = (there k, back)
-  where
-    there : (q : Kind) → unknownOrLabile q ≡ true → (q ≡ Unknown) ⊎ (q ≡ Labile)
-    there Unknown e = inl refl
-    there Labile e = inr refl
-    there NTerm e = absurd (false≢true e)
-    there OnResidue e = absurd (false≢true e)
-    there OnRange e = absurd (false≢true e)
-    there CTerm e = absurd (false≢true e)
-
-    back : (k ≡ Unknown) ⊎ (k ≡ Labile) → unknownOrLabile k ≡ true
-    back (inl e) = ap unknownOrLabile e
-    back (inr e) = ap unknownOrLabile e
+free-iff : (k : Kind) → (unknownOrLabile k ≡ true) ↔ ((k ≡ Unknown) ⊎ (k ≡ Labile))
+free-iff k = or-iff _ _ (kind-iff Unknown k) (kind-iff Labile k)
 
 pub exactly-10 : (l : Line ℕ) (i : ℕ) → (refusal10 l ≡ some i) ↔ FirstAt (Due10 l) i
 unfolding refusal10
 exactly-10 l i =
     first-iff _ (Due10 l) (λ j.
-    in-flat (λ y. j ≡ y) _ _ (λ k. due-iff _ (k .at) j (and-iff _ _ (kind-iff (k .kind)) (all-iff (isKey Info) (λ (p : Part ℕ). p .key ≡ Info) (key-iff Info) (k .parts)))) (l .brackets)) i
+    in-flat (λ y. j ≡ y) _ _ (λ k. due-iff _ (k .at) j (and-iff _ _ (free-iff (k .kind)) (all-iff (isKey Info) (λ (p : Part ℕ). p .key ≡ Info) (key-iff Info) (k .parts)))) (l .brackets)) i
 
 -- ---- 11
 name-iff : (x : List ℕ) (p : Part ℕ) → In x (nameOf p) ↔ Named x p
@@ -174,20 +166,9 @@ undefined-iff l k =
       (λ v. record { it = v .0; is-in = refers-iff (v .0) k .1 (v .1 .0); so = false-iff _ (then (among-iff (v .0) (defined (l .brackets))) (defined-iff (v .0) (l .brackets))) .1 (v .1 .1) }),
     ))
 
-unknown-iff : (k : Kind) → (isUnknown k ≡ true) ↔ (k ≡ Unknown)
-unknown-iff k = (there k, λ e. ap isUnknown e)
-  where
-    there : (q : Kind) → isUnknown q ≡ true → q ≡ Unknown
-    there Unknown e = refl
-    there Labile e = absurd (false≢true e)
-    there NTerm e = absurd (false≢true e)
-    there OnResidue e = absurd (false≢true e)
-    there OnRange e = absurd (false≢true e)
-    there CTerm e = absurd (false≢true e)
-
 unreferred-iff : (l : Line ℕ) (k : Bracket ℕ) → (unreferred (referredTo (l .brackets)) k ≡ true) ↔ Unreferred l k
 unreferred-iff l k =
-    and-iff _ _ (unknown-iff (k .kind))
+    and-iff _ _ (kind-iff Unknown (k .kind))
     (then (some-not (λ x. among x (referredTo (l .brackets))) (definedBy k))
     (then (some-found _ (definedBy k)) (
       (λ v. (v .it, (defines-iff (v .it) k .0 (v .is-in), false-iff _ (then (among-iff (v .it) (referredTo (l .brackets))) (referred-iff (v .it) (l .brackets))) .0 (v .so)))),

@@ -19,7 +19,7 @@ use Rattle.scope.specs.declared.grammar.Act.the-variants.{Go, Residue as aResid
 use Rattle.scope.specs.Bytes.{isLetter, isDigit, isShutting, openSquare, openCurly, openRound, shutRound, caret, question, dash, value}
 use Rattle.scope.specs.Line.{Bracket, Residue}
 use Rattle.scope.specs.Content.{begin}
-use Rattle.scope.specs.Reading.{square, front, labile, element, further, groupFirst, inGroup, undecided, counted, referred, act, mayEnd, Held, nothing, firstOf, withResidue, firstPosition, lastPosition, settled, waiting, put, withBracket, times, countDigit, withDigit, asNTerm, settledRun, State, outside, inside, perform, refers?, modeAfter, step, run, holds, ended, reading}
+use Rattle.scope.specs.Reading.{square, front, labile, element, further, groupFirst, inGroup, undecided, counted, referred, act, mayEnd, Held, nothing, firstOf, withResidue, positionOf, settled, waiting, put, withBracket, times, countDigit, withDigit, asNTerm, settledRun, State, outside, inside, perform, refers?, modeAfter, step, run, holds, ended, reading}
 use Rattle.scope.specs.Lists.{onLast, all as every, flat}
 use Rattle.basics.specs.Choice.{pick-true, pick-false}
 use Rattle.basics.specs.Tests.{and-left, and-right}
@@ -82,10 +82,10 @@ every-tail f x l e = and-right (f x) (every f l) e
 -- brackets of a settled kind, one behind another
 module _ (k : Kind) (r : Bool) (m : Mode) (opens : act m openSquare ≡ Begin (square k r m)) (settles : (b : Bracket ℕ) (h : Held ℕ) → put k b h ≡ settled b h) where
   at : ℕ → Held ℕ → Inside → Bracket ℕ
-  at i h x = bracketAt k (firstPosition k (length (h .residues)) (h .first)) (lastPosition k (length (h .residues))) i x
+  at i h x = bracketAt k (positionOf k (length (h .residues)) (h .first)) (positionOf k (length (h .residues)) (length (h .residues))) i x
 
   all : ℕ → Held ℕ → List Inside → Brackets
-  all i h xs = meansSquares k (firstPosition k (length (h .residues)) (h .first)) (lastPosition k (length (h .residues))) i xs
+  all i h xs = meansSquares k (positionOf k (length (h .residues)) (h .first)) (positionOf k (length (h .residues)) (length (h .residues))) i xs
 
   square-from : (i : ℕ) (m₀ : Mode) (h : Held ℕ) (x : Inside) → act m₀ openSquare ≡ Begin (square k r m) → goodInside r true x ≡ true
       → lineRun i (outside m₀ h) (printSquare x) ≡ outside m (settled (at i h x) h)
@@ -100,7 +100,7 @@ module _ (k : Kind) (r : Bool) (m : Mode) (opens : act m openSquare ≡ Begin (s
   regroup i h x xs = append-assoc (h .brackets) (at i h x ∷ []) _ ∙ ap (λ z. h .brackets ++ z) (sym (along-cons printSquare _ i x xs))
 
   squares-run : (i : ℕ) (xs : List Inside) (h : Held ℕ) → goodSquares r xs ≡ true
-      → lineRun i (outside m h) (printSquares xs) ≡ outside m (held (h .residues) (h .brackets ++ meansSquares k (firstPosition k (length (h .residues)) (h .first)) (lastPosition k (length (h .residues))) i xs) (h .run) (h .first))
+      → lineRun i (outside m h) (printSquares xs) ≡ outside m (held (h .residues) (h .brackets ++ meansSquares k (positionOf k (length (h .residues)) (h .first)) (positionOf k (length (h .residues)) (length (h .residues))) i xs) (h .run) (h .first))
   unfolding at all
   squares-run i [] h g =
       ap (lineRun i (outside m h)) (flat-nil printSquare) ∙ line-nil i (outside m h)
@@ -113,7 +113,7 @@ module _ (k : Kind) (r : Bool) (m : Mode) (opens : act m openSquare ≡ Begin (s
 
   -- one or more, from a mode in front
   squares-from : (i : ℕ) (m₀ : Mode) (x : Inside) (xs : List Inside) (h : Held ℕ) → act m₀ openSquare ≡ Begin (square k r m) → goodSquares r (x ∷ xs) ≡ true
-      → lineRun i (outside m₀ h) (printSquares (x ∷ xs)) ≡ outside m (held (h .residues) (h .brackets ++ meansSquares k (firstPosition k (length (h .residues)) (h .first)) (lastPosition k (length (h .residues))) i (x ∷ xs)) (h .run) (h .first))
+      → lineRun i (outside m₀ h) (printSquares (x ∷ xs)) ≡ outside m (held (h .residues) (h .brackets ++ meansSquares k (positionOf k (length (h .residues)) (h .first)) (positionOf k (length (h .residues)) (length (h .residues))) i (x ∷ xs)) (h .run) (h .first))
   unfolding at all
   squares-from i m₀ x xs h e g =
       ap (lineRun i (outside m₀ h)) (flat-cons printSquare x xs)

@@ -1,20 +1,18 @@
 -- Every accepted line, and the tables that it reads to, are as the laws of masses ask.
-use mathlib.Core.Path.{_≡_, refl, sym, subst}
-use mathlib.Core.Bool.{false}
+use mathlib.Core.Path.{_≡_, sym, subst}
 use mathlib.Core.List.{List, [], _∷_, map}
 use Prim.Native.Nat.{ℕ, _*_, _^_, _≤_, _<_}
 use lib.IntN.{natAbs}
 use lib.ListN.{length}
-use Rattle.scope.specs.declared.grammar.Kind.{Kind}
-use Rattle.scope.specs.declared.grammar.Kind.the-variants.{Unknown, Labile, NTerm, OnResidue, OnRange, CTerm}
+use Rattle.scope.specs.declared.grammar.Kind.the-variants.{Unknown}
 use Rattle.scope.specs.Limits.{copyLimit, sizeLimit, decimalLimit}
 use Rattle.scope.specs.Line.{Bracket, Line}
-use Rattle.scope.specs.Kinds.{isUnknown}
 use Rattle.scope.specs.Refusals.{accepted, outcome}
 use Rattle.scope.specs.Tables.{bareBracket, tablesOf}
 use Rattle.scope.specs.Positions.{floaters}
 use Rattle.scope.specs.Masses.{massOr0}
 use Rattle.basics.specs.Each.{Each, each-map, each-one, Each as Every}
+use Rattle.basics.specs.Kinds.{not-kind}
 use Rattle.accepted_laws.specs.Within.{BracketWithin, Within}
 use Rattle.reading_laws.specs.Bare.{names-of, mass-of}
 use Rattle.accepted_laws.specs.Judged.{judged-line}
@@ -24,20 +22,12 @@ use Rattle.mass_laws.specs.Terms.{FairBracket, Fair, Limited}
 use Rattle.mass_laws.specs.Laws.{limited-in}
 use Rattle.laws.specs.Curly.{LabileUnlabelled, labile-unlabelled}
 
-other-kind : (k : Kind) → (k ≡ Unknown → ⊥) → isUnknown k ≡ false
-other-kind Unknown h = absurd (h refl)
-other-kind Labile h = refl
-other-kind NTerm h = refl
-other-kind OnResidue h = refl
-other-kind OnRange h = refl
-other-kind CTerm h = refl
-
 module _ {P : Type 0} where
   fair-bracket : (n : ℕ) (k : Bracket P) → BracketWithin n k → LabileUnlabelled k → FairBracket n k
   fair-bracket n k w u =
       record {
         some-count = w .some-count;
-        single = λ h. w .one-copy (other-kind (k .kind) h);
+        single = λ h. w .one-copy (not-kind Unknown (k .kind) h);
         labelled-single = w .one-labelled;
         labile-unlabelled = u;
         inside = first-within n k w;

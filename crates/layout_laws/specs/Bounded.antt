@@ -10,8 +10,6 @@ use lib.IntN.{ℤ, pos}
 use lib.ListN.{length, getD, length-append}
 use Rattle.scope.specs.declared.grammar.Section.{Section}
 use Rattle.scope.specs.declared.grammar.Section.the-variants.{Plain, RangeFirst, RangeNext, UnsureFirst, UnsureNext}
-use Rattle.scope.specs.declared.grammar.Kind.{Kind}
-use Rattle.scope.specs.declared.grammar.Kind.the-variants.{Unknown, Labile, NTerm, OnResidue, OnRange, CTerm}
 use Rattle.scope.specs.declared.grammar.Key.the-variants.{Info}
 use Rattle.scope.specs.Bytes.{byteLimit}
 use Rattle.scope.specs.Limits.{lineLimit, residueLimit, bracketLimit, partLimit, textLimit, labelLimit, decimalLimit}
@@ -19,11 +17,11 @@ use Rattle.scope.specs.Line.{Number, Label, Value, mass, text, reference, Part,
 use Rattle.scope.specs.Keys.{keyCode}
 use Rattle.scope.specs.Lists.{given, flat, padded}
 use Rattle.scope.specs.Refusals.{textIn, textOf}
-use Rattle.scope.specs.Kinds.{kindCode}
 use Rattle.scope.specs.Tables.{millionths, labelOf, scoreOf}
 use Rattle.scope.specs.Layout.{partSize, rowSize, twoBytes, countsRow, sectionCode, valueCode, massIn, decimalsIn, packed, offset, partRow, partRows, scoreCode, bracketRow, bracketTexts, rows, bytesOf, numbersOf, residuesField}
 use Rattle.areas.specs.Bounds.{Small, PartBounds, BracketBounds, Bounds}
 use Rattle.basics.specs.Each.{Each, OfGiven, each-append, each-padded, each-map, each-all}
+use Rattle.basics.specs.Kinds.{kind-byte}
 use Rattle.accepted_laws.specs.Within.{Byte, NumberWithin, LabelWithin, ValueWithin, PartWithin, BracketWithin, Within, first-few, last-few}
 use Rattle.layout_laws.specs.TwoBytes.{wide-bytes}
 use Rattle.layout_laws.specs.Fits.{residues-fit, positions-fit, offsets-fit, brackets-fit, parts-fit, counts-fit, decimals-fit, scores-fit, texts-fit, labels-fit}
@@ -148,14 +146,6 @@ section-byte RangeFirst = omega arith
 section-byte RangeNext = omega arith
 section-byte UnsureFirst = omega arith
 section-byte UnsureNext = omega arith
-
-kind-byte : (k : Kind) → Byte (kindCode k)
-kind-byte Unknown = omega arith
-kind-byte Labile = omega arith
-kind-byte NTerm = omega arith
-kind-byte OnResidue = omega arith
-kind-byte OnRange = omega arith
-kind-byte CTerm = omega arith
 
 zero-byte : Byte 0
 zero-byte = omega arith

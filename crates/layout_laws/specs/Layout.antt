@@ -11,8 +11,6 @@ use lib.ListN.{length, replicate, length-append, length-replicate, length-map}
 use borrow.Author.Tests.{ne-eqb}
 use Rattle.scope.specs.declared.grammar.Section.{Section}
 use Rattle.scope.specs.declared.grammar.Section.the-variants.{Plain, RangeFirst, RangeNext, UnsureFirst, UnsureNext}
-use Rattle.scope.specs.declared.grammar.Kind.{Kind}
-use Rattle.scope.specs.declared.grammar.Kind.the-variants.{Unknown, Labile, NTerm, OnResidue, OnRange, CTerm}
 use Rattle.scope.specs.Line.{Number, Label, Value, mass, text, reference, Part, Bracket, Residue, Line}
 use Rattle.scope.specs.Keys.{keyCode, keyIn}
 use Rattle.scope.specs.Lists.{given, flat, optional, padded, part, tabled}
@@ -24,20 +22,13 @@ use Rattle.scope.specs.Limits.{lineLimit, residueLimit, bracketLimit, partLimit
 use Rattle.scope.specs.Layout.{sectionCode, valueCode, massIn, decimalsIn, packed, offset, partRow, partRows, scoreCode, bracketRow, bracketTexts, rows, bytesOf, numberRow, numbersOf, sectionIn, rowAt, partAt, scoreIn, valueIn, labelIn, partIn, bracketIn, residueIn, tablesIn, bracketsField, countField, decimalsField, firstField, keyField, kindField, labelField, lastField, offsetField, partsField, residuesField, scoreField, textField, valueField, partSize, headSize, rowSize, numberRowSize, residuesAt, lettersAt, sectionsAt, rowsAt, textsAt, bytesSize, numbersSize, massAt, headRow, countsRow, massField, scoreNumber, letterField, sectionField}
 use Rattle.basics.specs.Each.{Each, OfGiven}
 use Rattle.basics.specs.Keys.{key-back}
+use Rattle.basics.specs.Kinds.{kind-back}
 use Rattle.accepted_laws.specs.Within.{NumberWithin, LabelWithin, ValueWithin, PartWithin, BracketWithin, Within}
 use Rattle.layout_laws.specs.At.{At, at-head, at-first, at-next, at-part, at-start}
 use Rattle.layout_laws.specs.Fields.{counts-read, head-read, fields-read}
 use Rattle.layout_laws.specs.Numbers.{number-back}
 
 -- ---- codes
-kind-back : (k : Kind) → kindIn (kindCode k) ≡ k
-kind-back Unknown = refl
-kind-back Labile = refl
-kind-back NTerm = refl
-kind-back OnResidue = refl
-kind-back OnRange = refl
-kind-back CTerm = refl
-
 section-back : (s : Section) → sectionIn (sectionCode s) ≡ s
 section-back Plain = refl
 section-back RangeFirst = refl

@@ -4,13 +4,14 @@ use mathlib.Core.Logic.{_⊎_, inl, inr, ⊎-elim}
 use mathlib.Core.Bool.{Bool, true, false, cond}
 use mathlib.Core.List.{List, [], _∷_, map}
 use Prim.Native.Nat.{ℕ, suc, _+_, _-_, _*_, _≤_, _<_}
-use native.Mathlib.Nat.{mul-le-mul}
+use native.Mathlib.Nat.{le-refl, mul-le-mul}
 use native.Mathlib.Omega.{arith}
 use lib.IntN.{ℤ, pos, natAbs, _*ℤ_}
 use lib.ListN.{length, replicate, length-append, length-replicate}
 use Rattle.scope.specs.declared.grammar.Kind.{Kind}
-use Rattle.scope.specs.declared.grammar.Kind.the-variants.{Unknown, Labile, NTerm, OnResidue, OnRange, CTerm}
+use Rattle.scope.specs.declared.grammar.Kind.the-variants.{Unknown}
 use Rattle.scope.specs.Line.{Bracket, Line}
+use Rattle.scope.specs.Kinds.{isUnknown}
 use Rattle.scope.specs.Lists.{flat}
 use Rattle.scope.specs.Modifications.{isModification, isLabelled, unlabelledCopies, copies}
 use Rattle.scope.specs.Positions.{floaters}
@@ -19,7 +20,9 @@ use Rattle.mass_laws.specs.Weights.{weight}
 use Rattle.basics.specs.Wholes.{abs-add, abs-mul}
 use Rattle.mass_laws.specs.Terms.{massLimit, totalLimit, FairBracket, Fair, Limited}
 use Rattle.basics.specs.Each.{Each}
-use Rattle.mass_laws.specs.Splits.{total-is, other-than-unknown}
+use Rattle.basics.specs.Choice.{branch-on}
+use Rattle.basics.specs.Kinds.{other-kind}
+use Rattle.mass_laws.specs.Splits.{total-is}
 
 -- how often a bracket's mass is in the total
 unfoldable pub times : {P : Type 0} → Bracket P → ℕ
@@ -30,12 +33,8 @@ times-by : (a l : Bool) (k : Kind) (c : ℕ) → ((k ≡ Unknown → ⊥) → c 
     → (cond a c 0 ≤ 1) ⊎ (cond a c 0 ≤ cond a (cond l 1 (unlabelledCopies k c)) 0)
 times-by false l k c s u = inl (omega arith)
 times-by true true k c s u = inl (omega (arith, u refl))
-times-by true false Unknown c s u = inr (omega arith)
-times-by true false Labile c s u = inl (omega (arith, s (other-than-unknown Labile refl)))
-times-by true false NTerm c s u = inl (omega (arith, s (other-than-unknown NTerm refl)))
-times-by true false OnResidue c s u = inl (omega (arith, s (other-than-unknown OnResidue refl)))
-times-by true false OnRange c s u = inl (omega (arith, s (other-than-unknown OnRange refl)))
-times-by true false CTerm c s u = inl (omega (arith, s (other-than-unknown CTerm refl)))
+times-by true false k c s u =
+    branch-on (λ n. (c ≤ 1) ⊎ (c ≤ n)) (isUnknown k) (λ e. inr (le-refl c)) (λ e. inl (omega (arith, s (other-kind Unknown k e))))
 
 step : (b f c t f₁ : ℕ) → (c ≤ b) ⊎ (c + 1 ≤ b + f) → (t ≤ 1) ⊎ (t ≤ f₁) → (t + c ≤ suc b) ⊎ (t + c + 1 ≤ suc b + (f₁ + f))
 step b f c t f₁ (inl h) (inl k) = inl (omega arith)

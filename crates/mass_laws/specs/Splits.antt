@@ -1,21 +1,23 @@
 -- The total, split into what is placed, what floats and what is labile.
 use mathlib.Core.Path.{_≡_, refl, sym, ap, ap₂, _∙_}
-use mathlib.Core.Bool.{Bool, true, false, not, cond, _&&_, false≢true, true≢false}
+use mathlib.Core.Bool.{Bool, true, false, not, cond, _&&_, _||_, true≢false}
 use mathlib.Core.List.{List, [], _∷_, map}
 use Prim.Native.Nat.{ℕ}
 use lib.IntN.{ℤ, pos, _+ℤ_, _*ℤ_, +ℤ-idl, +ℤ-idr, +ℤ-assoc, zero-*ℤ, sucℤ-*ℤ}
 use lib.ListN.{length}
 use Rattle.scope.specs.declared.grammar.Kind.{Kind}
-use Rattle.scope.specs.declared.grammar.Kind.the-variants.{Unknown, Labile, NTerm, OnResidue, OnRange, CTerm}
+use Rattle.scope.specs.declared.grammar.Kind.the-variants.{Unknown, Labile, OnRange}
 use Rattle.scope.specs.Line.{Bracket, Line}
 use Rattle.scope.specs.Lists.{keep}
 use Rattle.scope.specs.Modifications.{isModification, isLabelled, unlabelledCopies, copies}
-use Rattle.scope.specs.Kinds.{onOnePosition, isLabile}
+use Rattle.scope.specs.Kinds.{isUnknown, isLabile, isOnRange, onOnePosition}
 use Rattle.scope.specs.Positions.{isPlaced, floaters}
 use Rattle.scope.specs.Masses.{massOr0, sum, total, labileMass}
 use Rattle.mass_laws.specs.Weights.{weight, placedMass}
 use Rattle.mass_laws.specs.Terms.{FairBracket, Fair}
 use Rattle.basics.specs.Each.{Each}
+use Rattle.basics.specs.Choice.{by-test}
+use Rattle.basics.specs.Kinds.{is-kind, not-kind, other-kind, each-kind}
 use Rattle.mass_laws.specs.Sums.{six, sum-keep, sum-flat}
 
 -- what a bracket adds to the labile masses
@@ -38,33 +40,33 @@ onlyLabile c m e = ap (λ n. pos n *ℤ m) e ∙ once m ∙ sym (+ℤ-idl (pos 0
 neither : (m : ℤ) → pos 0 ≡ pos 0 +ℤ (pos 0 *ℤ m +ℤ pos 0)
 neither m = sym (+ℤ-idl (pos 0 *ℤ m +ℤ pos 0) ∙ +ℤ-idr (pos 0 *ℤ m) ∙ zero-*ℤ m)
 
--- no other kind is the unknown one
-abbrev pub isUnknown : Kind → Bool
-isUnknown Unknown = true
-isUnknown Labile = false
-isUnknown NTerm = false
-isUnknown OnResidue = false
-isUnknown OnRange = false
-isUnknown CTerm = false
+-- what floats, what is labile, and what is placed: a kind is one of these
+one-of-four : (k : Kind) → (isUnknown k || isOnRange k || isLabile k || onOnePosition k) ≡ true
+one-of-four = each-kind (λ k. isUnknown k || isOnRange k || isLabile k || onOnePosition k) refl
 
-pub other-than-unknown : (k : Kind) → isUnknown k ≡ false → k ≡ Unknown → ⊥
-other-than-unknown k e q = false≢true (sym e ∙ ap isUnknown q)
+-- the three shares of a bracket, of which it has one
+abbrev shares : Bool → Bool → Kind → ℕ → ℤ → ℤ
+shares a l k c m =
+    cond (a && not l && onOnePosition k) m (pos 0) +ℤ (pos (cond a (cond l 1 (unlabelledCopies k c)) 0) *ℤ m +ℤ cond a (cond (isLabile k) m (pos 0)) (pos 0))
+
+unlabelled-by : (k : Kind) (c : ℕ) (m : ℤ) → ((k ≡ Unknown → ⊥) → c ≡ 1) → pos c *ℤ m ≡ shares true false k c m
+unlabelled-by k c m s =
+    by-test (isUnknown k)
+    (λ e. rw (is-kind Unknown k e) (onlyFloating c c m refl))
+    (λ e.
+    let one = s (other-kind Unknown k e) in
+    by-test (isOnRange k)
+    (λ f. rw (is-kind OnRange k f) (onlyFloating c 1 m one))
+    (λ f.
+    by-test (isLabile k)
+    (λ g. rw (is-kind Labile k g) (onlyLabile c m one))
+    (λ g. let p : onOnePosition k ≡ true = rw (e, f, g) at (one-of-four k) in rw (e, f, g, p) (onlyPlaced c m one))))
 
 split-by : (a l : Bool) (k : Kind) (c : ℕ) (m : ℤ) → ((k ≡ Unknown → ⊥) → c ≡ 1) → (l ≡ true → c ≡ 1) → (k ≡ Labile → l ≡ false)
-    → cond a (pos c *ℤ m) (pos 0) ≡ cond (a && not l && onOnePosition k) m (pos 0) +ℤ (pos (cond a (cond l 1 (unlabelledCopies k c)) 0) *ℤ m +ℤ cond a (cond (isLabile k) m (pos 0)) (pos 0))
+    → cond a (pos c *ℤ m) (pos 0) ≡ shares a l k c m
 split-by false l k c m s u v = neither m
-split-by true true Unknown c m s u v = onlyFloating c 1 m (u refl)
-split-by true true Labile c m s u v = absurd (true≢false (v refl))
-split-by true true NTerm c m s u v = onlyFloating c 1 m (u refl)
-split-by true true OnResidue c m s u v = onlyFloating c 1 m (u refl)
-split-by true true OnRange c m s u v = onlyFloating c 1 m (u refl)
-split-by true true CTerm c m s u v = onlyFloating c 1 m (u refl)
-split-by true false Unknown c m s u v = onlyFloating c c m refl
-split-by true false Labile c m s u v = onlyLabile c m (s (other-than-unknown Labile refl))
-split-by true false NTerm c m s u v = onlyPlaced c m (s (other-than-unknown NTerm refl))
-split-by true false OnResidue c m s u v = onlyPlaced c m (s (other-than-unknown OnResidue refl))
-split-by true false OnRange c m s u v = onlyFloating c 1 m (s (other-than-unknown OnRange refl))
-split-by true false CTerm c m s u v = onlyPlaced c m (s (other-than-unknown CTerm refl))
+split-by true true k c m s u v = rw (not-kind Labile k (λ e. true≢false (v e))) (onlyFloating c 1 m (u refl))
+split-by true false k c m s u v = unlabelled-by k c m s
 
 module _ {P : Type 0} where
   split : (n : ℕ) (k : Bracket P) → FairBracket n k → weight k ≡ placedMass k +ℤ (pos (copies k) *ℤ massOr0 k +ℤ labileOf k)

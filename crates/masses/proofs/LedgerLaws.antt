@@ -16,7 +16,7 @@ use lib.Seq.{getD-set-same, getD-set-other, drop-cons, ext-getD}
 use mir.Syntax.{w64}
 use mir.Val.{toZ, ofZ}
 use Rattle.scope.specs.declared.grammar.Kind.{Kind}
-use Rattle.scope.specs.declared.grammar.Kind.the-variants.{Unknown, Labile, NTerm, OnResidue, OnRange, CTerm}
+use Rattle.scope.specs.Kinds.{isUnknown, isOnRange}
 use Rattle.scope.specs.Limits.{bracketLimit, positionLimit, countLimit, copyLimit}
 use Rattle.scope.specs.Line.{Bracket}
 use Rattle.scope.specs.Lists.{keep, flat, tabled}
@@ -33,7 +33,7 @@ use Rattle.masses.specs.Booking.{Held, Placed, CanBook, booked, CanPut, 
 use Rattle.masses.proofs.Whole.{back}
 use Rattle.basics.specs.Wholes.{abs-add}
 use Rattle.masses.proofs.TallyLaws.{mass-small, few-copies}
-use Rattle.basics.specs.Choice.{by-test}
+use Rattle.basics.specs.Choice.{by-test, branch}
 use Rattle.basics.specs.Tests.{eqb-sym}
 
 -- ---- one booking: a mass at position y
@@ -314,12 +314,7 @@ module _ {l₀ : List ℤ} {at : List ℕ} {i c : ℕ} {m : ℤ} {end j : ℕ} {
 
 -- ---- the copies of bracket k
 few-unlabelled : (k : Kind) (n : ℕ) → n ≤ countLimit → unlabelledCopies k n ≤ countLimit
-few-unlabelled Unknown n h = h
-few-unlabelled Labile n h = omega arith
-few-unlabelled NTerm n h = omega arith
-few-unlabelled OnResidue n h = omega arith
-few-unlabelled OnRange n h = omega arith
-few-unlabelled CTerm n h = omega arith
+few-unlabelled k n h = branch (λ c. c ≤ countLimit) (isUnknown k) h (branch (λ c. c ≤ countLimit) (isOnRange k) (omega arith) (omega arith))
 
 few-by : (t u : Bool) (k : Kind) (n : ℕ) → n ≤ countLimit → cond t (cond u 1 (unlabelledCopies k n)) 0 ≤ countLimit
 few-by true true k n h = omega arith

@@ -13,21 +13,12 @@ use Rattle.scope.specs.declared.grammar.Slot.{Slot}
 use Rattle.scope.specs.declared.grammar.Act.{Act}
 use Rattle.scope.specs.declared.grammar.Act.the-variants.{Stop, Go, Residue as aResidue, Begin, Digit, RunEnds, TermEnds}
 use Rattle.scope.specs.Limits.{residueLimit}
-use Rattle.scope.specs.Reading.{act, lastPosition}
+use Rattle.scope.specs.Reading.{act, positionOf}
 use Rattle.reading_laws.specs.Acts.{act-rule}
 use Rattle.basics.specs.Tests.{and-left, and-right}
-use Rattle.order_laws.specs.Ranks.{lastRank, rankOf}
+use Rattle.order_laws.specs.Ranks.{Height, level, slope, high, kindHeight, lastRank, rankOf}
 
--- ---- heights: the same for any number of residues, or two more for each
-pub data Height : Type 0 where
-  level : ℕ → Height
-  slope : ℕ → Height
-
--- where n residues are read
-abbrev pub high : Height → ℕ → ℕ
-high (level c) n = c
-high (slope c) n = c + 2 * n
-
+-- ---- heights
 -- with one residue more
 abbrev pub up : Height → Height
 up (level c) = level c
@@ -50,7 +41,7 @@ pub up-high : (x : Height) (n : ℕ) → high (up x) n ≡ high x (n + 1)
 up-high (level c) n = refl
 up-high (slope c) n = omega arith
 
--- ---- of modes and of kinds
+-- ---- of modes
 abbrev pub height : Mode → Height
 height Front = level 0
 height Runs = level 0
@@ -76,18 +67,11 @@ height CTerms = level lastRank
 abbrev pub ceiling : Mode → ℕ → ℕ
 ceiling m n = high (height m) n
 
-abbrev pub kindHeight : Kind → Height
-kindHeight Unknown = level 0
-kindHeight Labile = level 1
-kindHeight NTerm = level 2
-kindHeight OnResidue = slope 3
-kindHeight OnRange = slope 4
-kindHeight CTerm = level lastRank
-
 -- the rank of a bracket that is read now
 abbrev pub rankNow : Kind → ℕ → ℕ
-rankNow k n = rankOf k (lastPosition k n)
+rankNow k n = rankOf k (positionOf k n n)
 
+-- where it ends is as high as the residues that are read
 rank-high : (k : Kind) (n : ℕ) → high (kindHeight k) n ≡ rankNow k n
 rank-high Unknown n = refl
 rank-high Labile n = refl

@@ -9,19 +9,33 @@ use Rattle.scope.specs.declared.grammar.Kind.the-variants.{Unknown, Labile, NTe
 use Rattle.scope.specs.Limits.{positionLimit}
 use Rattle.scope.specs.Line.{Bracket, Line}
 
+-- ---- heights: the same for any number of residues, or two more for each
+pub data Height : Type 0 where
+  level : ℕ → Height
+  slope : ℕ → Height
+
+-- where n residues are read
+abbrev pub high : Height → ℕ → ℕ
+high (level c) n = c
+high (slope c) n = c + 2 * n
+
+-- ---- ranks
 -- the rank of the C-terminus: above that of every bracket at a position
 abbrev pub lastRank : ℕ
 lastRank = 4 + 2 * positionLimit
 
 -- a bracket on a residue stands behind it, one on a range behind the range's last residue and the brackets on that one; one at the C-terminus behind
 -- them all
+abbrev pub kindHeight : Kind → Height
+kindHeight Unknown = level 0
+kindHeight Labile = level 1
+kindHeight NTerm = level 2
+kindHeight OnResidue = slope 3
+kindHeight OnRange = slope 4
+kindHeight CTerm = level lastRank
+
 abbrev pub rankOf : Kind → ℕ → ℕ
-rankOf Unknown last = 0
-rankOf Labile last = 1
-rankOf NTerm last = 2
-rankOf OnResidue last = 3 + 2 * last
-rankOf OnRange last = 4 + 2 * last
-rankOf CTerm last = lastRank
+rankOf k last = high (kindHeight k) last
 
 abbrev pub rank : {P : Type 0} → Bracket P → ℕ
 rank k = rankOf (k .kind) (k .last)

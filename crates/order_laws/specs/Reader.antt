@@ -20,9 +20,9 @@ use Rattle.scope.specs.Lists.{onLast}
 use Rattle.basics.specs.Choice.{branch}
 use Rattle.basics.specs.Each.{Each, each-append, each-last}
 use Rattle.reading_laws.specs.Kept.{reading-whole, put-by, digit-by}
-use Rattle.order_laws.specs.Ranks.{rank, Ordered, orderedb}
+use Rattle.order_laws.specs.Ranks.{level, high, rank, Ordered, orderedb}
 use Rattle.order_laws.specs.Climbs.{Climbs, higher, climbs-append, climbs-rising}
-use Rattle.order_laws.specs.Modes.{level, high, below-high, up, up-high, height, ceiling, rankNow, keeps, slot-keeps, act-keeps}
+use Rattle.order_laws.specs.Modes.{below-high, up, up-high, height, ceiling, rankNow, keeps, slot-keeps, act-keeps}
 
 -- the brackets at the front wait as unknown ones
 abbrev Waits : {P : Type 0} → List (Bracket P) → Type 0

@@ -12,16 +12,16 @@ use lib.IntN.{ℤ}
 use lib.ListN.{length, getD, set, length-set}
 use lib.Seq.{getD-set-same, getD-set-other}
 use Rattle.scope.specs.declared.grammar.Kind.{Kind}
-use Rattle.scope.specs.declared.grammar.Kind.the-variants.{Unknown, Labile, NTerm, OnResidue, OnRange, CTerm}
+use Rattle.scope.specs.Kinds.{isUnknown, unknownOrLabile}
 use Rattle.scope.specs.Limits.{positionLimit}
 use Rattle.scope.specs.Line.{Bracket}
 use Rattle.scope.specs.Lists.{keep, shared, tabled, member}
 use Rattle.scope.specs.Modifications.{isLabelled, definedBy, referredBy}
 use Rattle.scope.specs.Layout.{bracketIn, tablesIn, bracketsField, residuesField}
-use Rattle.scope.specs.Positions.{struckOut, isPlaced, between, ownPosition, referredAt, isUnlabelledUnknown, mayStand}
+use Rattle.scope.specs.Positions.{struckOut, isPlaced, between, referredAt, isUnlabelledUnknown, mayStand}
 use Rattle.basics.specs.Choice.{by-test}
 use Rattle.basics.specs.Tabled.{length-tabled}
-use Rattle.positions.specs.Marked.{Marked, RowIs, hasPlace, isUnknown, refersAt, referencesAt, ownAt, placedAt, struckAt}
+use Rattle.positions.specs.Marked.{Marked, RowIs, refersAt, referencesAt, ownAt, placedAt, struckAt}
 use Rattle.positions.proofs.Any.{anyOf, any-last}
 
 -- ---- one position, none, a second marking, another test that says the same
@@ -209,51 +209,26 @@ pub struck-end : (bs : List ℕ) {base b k : ℕ} {old cur : List ℕ} → Passe
 struck-end bs {b = b} p h e = passed-end p h (struckAt bs) (λ ns x. struck-at bs ns b x e)
 
 -- ---- which positions a floater has
-unknown-by : (k : Bracket (Unit {0})) (c : Kind) → isUnlabelledUnknown k c ≡ isUnknown c && not (isLabelled k)
-unknown-by k Unknown = refl
-unknown-by k Labile = refl
-unknown-by k NTerm = refl
-unknown-by k OnResidue = refl
-unknown-by k OnRange = refl
-unknown-by k CTerm = refl
-
 module _ (bs : List ℕ) (k : ℕ) {l : Bool} (labelled : (ns : List ℤ) → l ≡ isLabelled (bracketIn bs ns k)) where
   pub not-anywhere : l ≡ true → (ns : List ℤ) → false ≡ isUnlabelledUnknown (bracketIn bs ns k) (bracketIn bs ns k .kind)
   not-anywhere t ns =
       sym
-      (unknown-by (bracketIn bs ns k) (bracketIn bs ns k .kind) ∙ ap (λ s. isUnknown (bracketIn bs ns k .kind) && not s) (sym (labelled ns) ∙ t)
-      ∙ and-false (isUnknown (bracketIn bs ns k .kind)))
+      (ap (λ s. isUnknown (bracketIn bs ns k .kind) && not s) (sym (labelled ns) ∙ t) ∙ and-false (isUnknown (bracketIn bs ns k .kind)))
 
   pub anywhere-by-kind : {r : Bool} {c : Kind} → l ≡ false → ((ns : List ℤ) → c ≡ bracketIn bs ns k .kind) → r ≡ isUnknown c → (ns : List ℤ) → r ≡ isUnlabelledUnknown (bracketIn bs ns k) (bracketIn bs ns k .kind)
   anywhere-by-kind t g h ns =
       h ∙ ap isUnknown (g ns)
       ∙ sym
-      (unknown-by (bracketIn bs ns k) (bracketIn bs ns k .kind) ∙ ap (λ s. isUnknown (bracketIn bs ns k .kind) && not s) (sym (labelled ns) ∙ t)
-      ∙ and-true (isUnknown (bracketIn bs ns k .kind)))
+      (ap (λ s. isUnknown (bracketIn bs ns k .kind) && not s) (sym (labelled ns) ∙ t) ∙ and-true (isUnknown (bracketIn bs ns k .kind)))
 
-own-place : (k : Bracket (Unit {0})) (x : ℕ) (c : Kind) → ownPosition k x c ≡ hasPlace c && between (k .first) (k .last) x
-own-place k x Unknown = refl
-own-place k x Labile = refl
-own-place k x NTerm = refl
-own-place k x OnResidue = refl
-own-place k x OnRange = refl
-own-place k x CTerm = refl
-
-pub own-at : (bs : List ℕ) (ns : List ℤ) (k x : ℕ) → ownAt bs ns k x ≡ hasPlace (bracketIn bs ns k .kind) && between (bracketIn bs ns k .first) (bracketIn bs ns k .last) x
-own-at bs ns k x = own-place (bracketIn bs ns k) x (bracketIn bs ns k .kind)
-
-module _ (bs : List ℕ) (k : ℕ) {base : ℕ} {old : List ℕ} {z : Bool} {c : Kind} (kind : (ns : List ℤ) → c ≡ bracketIn bs ns k .kind) (place : z ≡ hasPlace c) where
+module _ (bs : List ℕ) (k : ℕ) {base : ℕ} {old : List ℕ} {z : Bool} {c : Kind} (kind : (ns : List ℤ) → c ≡ bracketIn bs ns k .kind) (place : z ≡ not (unknownOrLabile c)) where
   pub own-marked : {a e : ℕ} {cur : List ℕ} → z ≡ true → Marked base (between a e) 1 old cur → ((ns : List ℤ) → a ≡ bracketIn bs ns k .first) → ((ns : List ℤ) → e ≡ bracketIn bs ns k .last) → (ns : List ℤ) → Marked base (ownAt bs ns k) 1 old cur
   own-marked {a} {e} t m p q ns =
-      marked-as (ownAt bs ns k)
-      (marked-range base 1 a e (bracketIn bs ns k .first) (bracketIn bs ns k .last) m (p ns) (q ns) (sym (place ∙ ap hasPlace (kind ns)) ∙ t))
-      (λ y l. own-at bs ns k y)
+      marked-range base 1 a e (bracketIn bs ns k .first) (bracketIn bs ns k .last) m (p ns) (q ns) (sym (place ∙ ap (λ j. not (unknownOrLabile j)) (kind ns)) ∙ t)
 
   pub no-own : z ≡ false → (ns : List ℤ) → Marked base (ownAt bs ns k) 1 old old
   no-own t ns =
-      marked-as (ownAt bs ns k)
-      (marked-not base 1 (between (bracketIn bs ns k .first) (bracketIn bs ns k .last)) old (sym (place ∙ ap hasPlace (kind ns)) ∙ t))
-      (λ y l. own-at bs ns k y)
+      marked-not base 1 (between (bracketIn bs ns k .first) (bracketIn bs ns k .last)) old (sym (place ∙ ap (λ j. not (unknownOrLabile j)) (kind ns)) ∙ t)
 
 pub stands-anywhere : (bs : List ℕ) (ns : List ℤ) (k x : ℕ) → isUnlabelledUnknown (bracketIn bs ns k) (bracketIn bs ns k .kind) ≡ true → mayStand (tablesIn bs ns) (bracketIn bs ns k) x ≡ between 1 (residuesField bs) x
 unfolding mayStand tablesIn

@@ -9,6 +9,7 @@ use lib.Dec.{eqb, ltb, leb}
 use lib.IntN.{ℤ}
 use lib.ListN.{length, getD, take, drop, length-map, length-take, length-drop}
 use lib.Seq.{getD-drop, ext-getD}
+use Rattle.scope.specs.Kinds.{unknownOrLabile}
 use Rattle.scope.specs.Limits.{copyLimit, rowLimit, positionLimit}
 use Rattle.scope.specs.Lists.{keep, shared, tabled}
 use Rattle.scope.specs.Modifications.{definedBy, referredBy}
@@ -19,9 +20,9 @@ use Rattle.basics.specs.Choice.{by-test}
 use Rattle.basics.specs.Tabled.{length-tabled, keep-as, keep-cut, tabled-map}
 use Rattle.positions.specs.Legible.{Legible}
 use Rattle.basics.specs.Lists.{map-joined as map-map}
-use Rattle.positions.specs.Marked.{Marked, RowIs, Cleared, Filled, hasPlace, refersAt, referencesAt, struckAt, standsAt}
+use Rattle.positions.specs.Marked.{Marked, RowIs, Cleared, Filled, refersAt, referencesAt, struckAt, standsAt}
 use Rattle.positions.proofs.Any.{any-none}
-use Rattle.positions.proofs.Rows.{own-at, references-at, stands-anywhere, stands-by-place}
+use Rattle.positions.proofs.Rows.{references-at, stands-anywhere, stands-by-place}
 
 -- ---- rows that are cleared, one after the other
 pub record Clearing (from g : ℕ) (old cur : List ℕ) : Type 0 where
@@ -98,7 +99,7 @@ not-behind : (bs : List ℕ) (ns : List ℤ) (k x : ℕ) → Legible bs → k < 
 not-behind bs ns k x l h o =
     by-test (isUnlabelledUnknown (bracketIn bs ns k) (bracketIn bs ns k .kind)) (λ t. stands-anywhere bs ns k x t ∙ outside 1 (residuesField bs) x (omega arith))
     (λ t.
-    stands-by-place bs ns k x t ∙ ap (λ s. s || referencesAt bs ns k x) (own-at bs ns k x ∙ none-of (hasPlace (bracketIn bs ns k .kind)) k h)
+    stands-by-place bs ns k x t ∙ ap (λ s. s || referencesAt bs ns k x) (none-of (not (unknownOrLabile (bracketIn bs ns k .kind))) k h)
     ∙ references-at bs ns k (bracketsField bs) x refl
     ∙ any-none (λ r. refersAt bs ns k r x) 0 (bracketsField bs) (λ r a b. none-of (shared (definedBy (bracketIn bs ns k)) (referredBy (bracketIn bs ns r))) r (omega arith)))
   where

@@ -1,13 +1,11 @@
 -- What is done to the table of bytes of where each floater may stand.
 use mathlib.Core.Path.{_≡_}
-use mathlib.Core.Bool.{Bool, true, false, not, cond, _&&_}
+use mathlib.Core.Bool.{Bool, not, cond, _&&_}
 use mathlib.Core.List.{List}
 use Prim.Native.Nat.{ℕ, _+_, _*_, _≤_, _<_}
 use lib.Dec.{eqb}
 use lib.IntN.{ℤ}
 use lib.ListN.{length, getD, drop}
-use Rattle.scope.specs.declared.grammar.Kind.{Kind}
-use Rattle.scope.specs.declared.grammar.Kind.the-variants.{Unknown, Labile, NTerm, OnResidue, OnRange, CTerm}
 use Rattle.scope.specs.Limits.{rowLimit, positionLimit}
 use Rattle.scope.specs.Modifications.{definedBy, referredBy}
 use Rattle.scope.specs.Lists.{shared, member}
@@ -28,23 +26,6 @@ pub record RowIs (base : ℕ) (test : ℕ → Bool) (old new : List ℕ) : Type 
   pub inside : (x : ℕ) → x < positionLimit → getD new (base + x) 0 ≡ cond (test x) 1 0
   pub before : (i : ℕ) → i < base → getD new i 0 ≡ getD old i 0
   pub after : (i : ℕ) → base + positionLimit ≤ i → getD new i 0 ≡ getD old i 0
-
--- which kinds have a position or range of their own, "in the sequence or at a terminus", and which is of unknown position
-abbrev pub hasPlace : Kind → Bool
-hasPlace Unknown = false
-hasPlace Labile = false
-hasPlace NTerm = true
-hasPlace OnResidue = true
-hasPlace OnRange = true
-hasPlace CTerm = true
-
-abbrev pub isUnknown : Kind → Bool
-isUnknown Unknown = true
-isUnknown Labile = false
-isUnknown NTerm = false
-isUnknown OnResidue = false
-isUnknown OnRange = false
-isUnknown CTerm = false
 
 -- bracket r is a reference to a label of bracket k, and stands at x
 abbrev pub refersAt : List ℕ → List ℤ → ℕ → ℕ → ℕ → Bool

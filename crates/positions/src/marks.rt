@@ -10,17 +10,18 @@ use brackets::kind;
 use scope::answers::Ledger;
 use scope::grammar::Kind;
 ghost use mathlib.Core.Path.{_≡_};
-ghost use mathlib.Core.Bool.{true};
+ghost use mathlib.Core.Bool.{true, not};
 ghost use mathlib.Core.List.{List};
 ghost use Prim.Native.Nat.{_+_, _<_, _≤_};
 ghost use lib.IntN.{ℤ};
 ghost use lib.ListN.{length};
+ghost use Rattle.scope.specs.Kinds.{unknownOrLabile};
 ghost use Rattle.scope.specs.Limits.{positionLimit};
 ghost use Rattle.scope.specs.Layout.{bracketIn, tablesIn, bracketsField};
 ghost use Rattle.scope.specs.Positions.{between, isUnlabelledUnknown, mayStand};
 ghost use Rattle.brackets.specs.Row.{Row};
 ghost use Rattle.positions.specs.Legible.{Legible};
-ghost use Rattle.positions.specs.Marked.{Marked, RowIs, hasPlace, isUnknown, refersAt, referencesAt, ownAt, placedAt, struckAt, standsAt};
+ghost use Rattle.positions.specs.Marked.{Marked, RowIs, refersAt, referencesAt, ownAt, placedAt, struckAt, standsAt};
 
 // Positions a to e of the row at base are set to v.
 fn put(tab: &mut [u8], base: usize, a: usize, e: usize, v: u8)
@@ -61,16 +62,12 @@ fn mark_references(bytes: &[u8], k: usize, tab: &mut [u8], base: usize)
 
 // Whether a bracket of this kind has a position or range of its own: in the sequence or at a terminus.
 fn has_place(kind: Kind) -> bool
-    ensures { λ r. ⌜ r ≡ hasPlace kind ⌝ }
+    ensures { λ r. ⌜ r ≡ not (unknownOrLabile kind) ⌝ }
 {
-    match kind {
-        Kind::Unknown => false,
-        Kind::Labile => false,
-        Kind::NTerm => true,
-        Kind::OnResidue => true,
-        Kind::OnRange => true,
-        Kind::CTerm => true,
+    if kind.is(Kind::Unknown) {
+        return false;
     }
+    !kind.is(Kind::Labile)
 }
 
 // Whether bracket k is an unlabelled one of unknown position.
@@ -81,20 +78,7 @@ fn is_anywhere(bytes: &[u8], k: usize) -> bool
     if is_labelled(bytes, k) {
         return false;
     }
-    is_unknown(kind(bytes, k))
-}
-
-fn is_unknown(kind: Kind) -> bool
-    ensures { λ r. ⌜ r ≡ isUnknown kind ⌝ }
-{
-    match kind {
-        Kind::Unknown => true,
-        Kind::Labile => false,
-        Kind::NTerm => false,
-        Kind::OnResidue => false,
-        Kind::OnRange => false,
-        Kind::CTerm => false,
-    }
+    kind(bytes, k).is(Kind::Unknown)
 }
 
 // The positions of bracket k are marked if it has some of its own.

@@ -4,8 +4,7 @@
 use Prim.Native.Nat.{ℕ, zero, suc}
 use mathlib.Core.Path.{_≡_, refl, sym, _∙_, subst}
 use mathlib.Core.Bool.{Bool, true, false, cond, _&&_, _||_, false≢true}
-use mathlib.Core.List.{List, [], _∷_, _++_}
-use native.Mathlib.Omega.{arith}
+use mathlib.Core.List.{List, [], _∷_}
 use lib.Dec.{eqb}
 use Rattle.scope.specs.declared.grammar.Section.{Section}
 use Rattle.scope.specs.declared.grammar.Section.the-variants.{Plain, RangeFirst, RangeNext, UnsureFirst, UnsureNext}
@@ -18,6 +17,7 @@ use Rattle.scope.specs.declared.grammar.Act.the-variants.{Stop, Go, Residue as 
 use Rattle.scope.specs.Bytes.{isLetter, isDigit, openSquare, openCurly, openRound, shutRound, caret, question, dash}
 use Rattle.scope.specs.Reading.{square, front, labile, element, further, groupFirst, inGroup, undecided, counted, referred, act, mayEnd}
 use Rattle.basics.specs.Choice.{branch-on}
+use Rattle.basics.specs.Each.{failing, first-passes}
 use Rattle.basics.specs.Tests.{both-of}
 
 -- ---- the table
@@ -91,11 +91,6 @@ pub data Ending : Mode → Type 0 where
   cterms-end : Ending CTerms
 
 -- ---- tests over all modes
--- what fails a test: a rule is stated as "nothing fails", so that a check that refuses it names what does
-abbrev pub failing : {A : Type 0} → (A → Bool) → List A → List A
-failing T [] = []
-failing T (x ∷ l) = cond (T x) [] (x ∷ []) ++ failing T l
-
 abbrev others : List Mode
 others =
     Runs ∷ Undecided ∷ Counted ∷ Referred ∷ Caret ∷ Counting ∷ Labiles ∷ NTerms ∷ Start ∷ Single ∷ Opened ∷ UnsureOpened ∷ InRange ∷ InUnsure ∷ RangeEnd
@@ -108,13 +103,6 @@ abbrev nth : Mode → List Mode → ℕ → Mode
 nth m ms zero = m
 nth m [] (suc n) = m
 nth m (o ∷ ms) (suc n) = nth o ms n
-
-first-passes : (T : Mode → Bool) (m : Mode) (ms : List Mode) → failing T (m ∷ ms) ≡ [] → (T m ≡ true) × (failing T ms ≡ [])
-first-passes T m ms e = go (T m) e
-  where
-    go : (t : Bool) → (cond t [] (m ∷ []) ++ failing T ms) ≡ [] → (t ≡ true) × (failing T ms ≡ [])
-    go true f = (refl, f)
-    go false f = let z : _≡_ {A = ℕ} 0 1 = cc in absurd (omega arith)
 
 passes-at : (T : Mode → Bool) (m : Mode) (ms : List Mode) → failing T (m ∷ ms) ≡ [] → (n : ℕ) → T (nth m ms n) ≡ true
 passes-at T m ms e zero = first-passes T m ms e .0

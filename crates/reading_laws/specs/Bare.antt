@@ -20,7 +20,7 @@ use Rattle.scope.specs.Modifications.{isKey, isModification, nameOf, namesOf, c
 use Rattle.scope.specs.Canonical.{size, scoreText, valueText, labelText, partText, partsText, squareText, curlyText, unknownText, ofKind, endingAt, goesOn, sequenceText, canonical}
 use Rattle.scope.specs.Tables.{bareNumber, bareLabel, bareValue, barePart, bareBracket, bareResidue, tablesOf, millionths, scoreOf}
 use Rattle.scope.specs.Layout.{massIn, decimalsIn, packed, valueCode, partRow, partRows, scoreCode, bracketRow, bracketTexts, rows, sectionCode, bytesOf, numberRow, numbersOf}
-use Rattle.scope.specs.Positions.{isPlaced, struckOut, floaters, referredAt, mayStand, permitted, permittedPositions, ownPosition, isUnlabelledUnknown, positions}
+use Rattle.scope.specs.Positions.{isPlaced, struckOut, floaters, referredAt, mayStand, permitted, permittedPositions, positions}
 use Rattle.scope.specs.Masses.{valueMass, firstMass, massOf, massOr0, modifications, sum, sumℕ, total, lacking, placedAt, putAt, ledger}
 use Rattle.basics.specs.Lists.{map-map, flat-map, all-map, keep-map, keep-same, map-replicate, map-flat}
 use Rattle.basics.specs.Tabled.{tabled-same}
@@ -248,26 +248,10 @@ module _ {P : Type 0} where
   referred-at k x [] = refl
   referred-at k x (r ∷ rs) = rw (defined-by k, referred-by r, referred-at k x rs)
 
-  own-position : (k : Bracket P) (x : ℕ) (c : Kind) → ownPosition (bareBracket k) x c ≡ ownPosition k x c
-  own-position k x Unknown = refl
-  own-position k x Labile = refl
-  own-position k x NTerm = refl
-  own-position k x OnResidue = refl
-  own-position k x OnRange = refl
-  own-position k x CTerm = refl
-
-  is-unlabelled-unknown : (k : Bracket P) (c : Kind) → isUnlabelledUnknown (bareBracket k) c ≡ isUnlabelledUnknown k c
-  is-unlabelled-unknown k Unknown = rw (names-of k)
-  is-unlabelled-unknown k Labile = refl
-  is-unlabelled-unknown k NTerm = refl
-  is-unlabelled-unknown k OnResidue = refl
-  is-unlabelled-unknown k OnRange = refl
-  is-unlabelled-unknown k CTerm = refl
-
   may-stand : (l : Line P) (k : Bracket P) (x : ℕ) → mayStand (tablesOf l) (bareBracket k) x ≡ mayStand l k x
   unfolding mayStand tablesOf
   may-stand l k x = rw
-      (is-unlabelled-unknown k (k .kind), own-position k x (k .kind), referred-at k x (l .brackets), length-map (l .residues) bareResidue)
+      (names-of k, referred-at k x (l .brackets), length-map (l .residues) bareResidue)
 
   permitted-bare : (l : Line P) (k : Bracket P) → permitted (tablesOf l) (bareBracket k) ≡ permitted l k
   unfolding permitted tablesOf

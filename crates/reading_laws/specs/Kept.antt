@@ -8,13 +8,14 @@ use mathlib.Core.Bool.{Bool, true, false, cond}
 use mathlib.Core.List.{List, [], _∷_}
 use lib.ListN.{length}
 use Rattle.scope.specs.declared.grammar.Kind.{Kind}
-use Rattle.scope.specs.declared.grammar.Kind.the-variants.{Unknown, Labile, NTerm, OnResidue, OnRange, CTerm}
+use Rattle.scope.specs.declared.grammar.Kind.the-variants.{Unknown}
 use Rattle.scope.specs.declared.grammar.Mode.{Mode}
 use Rattle.scope.specs.Line.{Bracket, Line}
 use Rattle.scope.specs.Bytes.{value}
 use Rattle.scope.specs.Reading.{mayEnd, Held, settled, waiting, put, times, countDigit, State, dead, outside, inside, step, run, start, stuck, holds, lineOf, ended, reading}
 use Rattle.scope.specs.Kinds.{isUnknown}
-use Rattle.basics.specs.Choice.{onGiven}
+use Rattle.basics.specs.Choice.{branch-on, onGiven}
+use Rattle.basics.specs.Kinds.{is-kind}
 use Rattle.basics.specs.Each.{Each}
 
 -- ---- after any bytes
@@ -67,12 +68,7 @@ module _ {P : Type 0} where
   -- one at the front waits, any other is settled
   pub put-by : (Q : Held P → Type 0) (k : Kind) (x : Bracket P) (h : Held P) → (k ≡ Unknown → Q (waiting x h)) → (isUnknown k ≡ false → Q (settled x h))
       → Q (put k x h)
-  put-by Q Unknown x h w s = w refl
-  put-by Q Labile x h w s = s refl
-  put-by Q NTerm x h w s = s refl
-  put-by Q OnResidue x h w s = s refl
-  put-by Q OnRange x h w s = s refl
-  put-by Q CTerm x h w s = s refl
+  put-by Q k x h w s = branch-on Q (isUnknown k) (λ e. w (is-kind Unknown k e)) s
 
   -- a count, and the place of its first digit
   pub digit-by : (Q : Bracket P → Type 0) (i : P) (b : ℕ) (k : Bracket P) → ((n : ℕ) (p : P) → Q (times n p k)) → Q (countDigit i b k)

@@ -10,12 +10,12 @@ use Rattle.scope.specs.declared.grammar.Section.{Section}
 use Rattle.scope.specs.declared.grammar.Key.{Key}
 use Rattle.scope.specs.declared.grammar.Key.the-variants.{NoKey}
 use Rattle.scope.specs.declared.grammar.Kind.{Kind}
-use Rattle.scope.specs.declared.grammar.Kind.the-variants.{Unknown, Labile, NTerm, OnResidue, OnRange, CTerm}
 use Rattle.scope.specs.declared.grammar.Mode.the-variants.{Runs, Counting, Start}
 use Rattle.scope.specs.declared.grammar.Slot.{Slot}
 use Rattle.scope.specs.declared.grammar.Act.{Act}
 use Rattle.scope.specs.declared.grammar.Act.the-variants.{Stop, Go, Residue as aResidue, Begin, Digit, RunEnds, TermEnds}
 use Rattle.scope.specs.Bytes.{isSign, isDigit, isAlnum, bar, hash, colon, openRound, shutRound, value}
+use Rattle.scope.specs.Kinds.{isUnknown}
 use Rattle.scope.specs.Keys.{keyOf, Form, massOrName, massOnly, digits, alnums, free, form, hashIsPlain, accessionByte}
 use Rattle.scope.specs.Line.{Number, Label, Value, mass, text, reference, Part, Bracket, Residue, Line}
 use Rattle.scope.specs.Lists.{given, none?, onLast, optional}
@@ -195,12 +195,8 @@ module _ {P Q : Type 0} (f : P → Q) where
   bracketOf-map k i ps h = rw (length-map (h .residues) (mapResidue f))
 
   put-map : (k : Kind) (x : Bracket P) (h : Held P) → mapHeld f (put k x h) ≡ put k (mapBracket f x) (mapHeld f h)
-  put-map Unknown x h = rw (map-append (mapBracket f) (h .run) (x ∷ []))
-  put-map Labile x h = rw (map-append (mapBracket f) (h .brackets) (x ∷ []))
-  put-map NTerm x h = rw (map-append (mapBracket f) (h .brackets) (x ∷ []))
-  put-map OnResidue x h = rw (map-append (mapBracket f) (h .brackets) (x ∷ []))
-  put-map OnRange x h = rw (map-append (mapBracket f) (h .brackets) (x ∷ []))
-  put-map CTerm x h = rw (map-append (mapBracket f) (h .brackets) (x ∷ []))
+  put-map k x h =
+      through (mapHeld f) (isUnknown k) (rw (map-append (mapBracket f) (h .run) (x ∷ []))) (rw (map-append (mapBracket f) (h .brackets) (x ∷ [])))
 
   withBracket-map : (k : Kind) (i : P) (ps : List (Part P)) (h : Held P)
       → mapHeld f (withBracket k i ps h) ≡ withBracket k (f i) (map (mapPart f) ps) (mapHeld f h)

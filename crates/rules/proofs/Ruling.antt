@@ -10,15 +10,16 @@ use lib.ListN.{length, take, drop}
 use lib.Seq.{take-length}
 use borrow.Author.Tests.{ne-eqb, lt-leb, lt-ltb, leb-true, leb-false}
 use Rattle.scope.specs.declared.grammar.Kind.{Kind}
-use Rattle.scope.specs.declared.grammar.Kind.the-variants.{Unknown, Labile, NTerm, OnResidue, OnRange, CTerm}
-use Rattle.scope.specs.Kinds.{kindCode, isUnknown, unknownOrLabile}
+use Rattle.scope.specs.declared.grammar.Kind.the-variants.{Labile}
+use Rattle.scope.specs.Kinds.{kindCode, isUnknown, isOnRange, unknownOrLabile}
 use Rattle.scope.specs.Limits.{countLimit, copyLimit}
 use Rattle.scope.specs.Line.{Label, Part, Bracket}
 use Rattle.scope.specs.Lists.{given, none?, all, flat, among, shared}
 use Rattle.scope.specs.Modifications.{onlyInfo, isReferring, nameOf, namesOf, isLabelled, unlabelledCopies, copies, defined, referredTo}
 use Rattle.scope.specs.Refusals.{wrongLabels}
-use Rattle.basics.specs.Choice.{by-test}
+use Rattle.basics.specs.Choice.{by-test, through}
 use Rattle.basics.specs.Each.{Each, OfGiven, each-append}
+use Rattle.basics.specs.Kinds.{same-of-kinds}
 use Rattle.basics.specs.Lists.{among-append}
 use Rattle.sheet.specs.Rows.{sortOf, countedCode}
 use Rattle.sheet.specs.Fields.{placeField, writtenCount}
@@ -28,12 +29,7 @@ use Rattle.rules.proofs.Noting.{noBracket, bracketAt, drop-next, each-a
 
 -- ---- what the codes of a bracket's kind and of its sort tell
 kind-free : (c : Kind) → leb (kindCode c) (kindCode Labile) ≡ unknownOrLabile c
-kind-free Unknown = refl
-kind-free Labile = refl
-kind-free NTerm = refl
-kind-free OnResidue = refl
-kind-free OnRange = refl
-kind-free CTerm = refl
+kind-free = same-of-kinds (λ c. leb (kindCode c) (kindCode Labile)) unknownOrLabile refl
 
 info-told : (r i l : Bool) → (r && i) ≡ false → eqb (cond r 3 (cond i 0 (cond l 2 1))) 0 ≡ i
 info-told true i l e = sym e
@@ -61,12 +57,8 @@ copies-told true true l c n = refl
 copies-told true false l c n = refl
 copies-told false true l c n = refl
 copies-told false false true c n = refl
-copies-told false false false Unknown n = refl
-copies-told false false false Labile n = refl
-copies-told false false false NTerm n = refl
-copies-told false false false OnResidue n = refl
-copies-told false false false OnRange n = refl
-copies-told false false false CTerm n = refl
+copies-told false false false c n =
+    sym (through (min (countLimit + 1)) (isUnknown c) refl (through (min (countLimit + 1)) (isOnRange c) refl refl))
 
 sort-copies : (k : Bracket ℕ) → copiesIn (sortOf k) (kindCode (k .kind)) (min (countLimit + 1) (k .count)) ≡ min (countLimit + 1) (copies k)
 unfolding sortOf copies

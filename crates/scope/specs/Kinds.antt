@@ -16,9 +16,13 @@ kindCode OnResidue = 4
 kindCode OnRange = 5
 kindCode CTerm = 6
 
+-- the kinds, in the order of their numbers
+abbrev pub kinds : List Kind
+kinds = Unknown ∷ Labile ∷ NTerm ∷ OnResidue ∷ OnRange ∷ CTerm ∷ []
+
 -- the kind of a number
 abbrev pub kindIn : ℕ → Kind
-kindIn c = getD (Unknown ∷ Labile ∷ NTerm ∷ OnResidue ∷ OnRange ∷ CTerm ∷ []) (c - 1) Unknown
+kindIn c = getD kinds (c - 1) Unknown
 
 abbrev pub isKind : Kind → Kind → Bool
 isKind c k = eqb (kindCode k) (kindCode c)

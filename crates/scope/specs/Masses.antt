@@ -7,8 +7,6 @@ use lib.Dec.{eqb}
 use lib.IntN.{ℤ, pos, _+ℤ_, _*ℤ_}
 use lib.Ieee.{Float, binary64, div, ofInt}
 use Rattle.scope.specs.declared.grammar.Key.the-variants.{Obs}
-use Rattle.scope.specs.declared.grammar.Kind.{Kind}
-use Rattle.scope.specs.declared.grammar.Kind.the-variants.{Unknown, Labile, NTerm, OnResidue, OnRange, CTerm}
 use Rattle.scope.specs.Kinds.{isLabile}
 use Rattle.scope.specs.Limits.{positionLimit, decimalLimit}
 use Rattle.scope.specs.Line.{Value, mass, text, reference, Part, Bracket, Line}

@@ -7,7 +7,6 @@ use lib.Dec.{eqb}
 use Rattle.scope.specs.declared.grammar.Key.{Key}
 use Rattle.scope.specs.declared.grammar.Key.the-variants.{Info}
 use Rattle.scope.specs.declared.grammar.Kind.{Kind}
-use Rattle.scope.specs.declared.grammar.Kind.the-variants.{Unknown, Labile, NTerm, OnResidue, OnRange, CTerm}
 use Rattle.scope.specs.Kinds.{isUnknown, isOnRange}
 use Rattle.scope.specs.Lists.{same, given, none?, all, flat}
 use Rattle.scope.specs.Line.{Label, Part, Bracket}

@@ -146,29 +146,22 @@ withResidue i b s h =
       first = firstOf s (length (h .residues) + 1) (h .first);
     }
 
--- "Position 0 is the N-terminus, 1 to n the residues, n+1 the C-terminus"; n residues are read, and the group began at a
-abbrev pub firstPosition : Kind → ℕ → ℕ → ℕ
-firstPosition Unknown n a = 0
-firstPosition Labile n a = 0
-firstPosition NTerm n a = 0
-firstPosition OnResidue n a = n
-firstPosition OnRange n a = a
-firstPosition CTerm n a = n + 1
+-- "Position 0 is the N-terminus, 1 to n the residues, n+1 the C-terminus": where a bracket stands behind n residues, one on a range at a
+abbrev pub positionOf : Kind → ℕ → ℕ → ℕ
+positionOf Unknown n a = 0
+positionOf Labile n a = 0
+positionOf NTerm n a = 0
+positionOf OnResidue n a = n
+positionOf OnRange n a = a
+positionOf CTerm n a = n + 1
 
-abbrev pub lastPosition : Kind → ℕ → ℕ
-lastPosition Unknown n = 0
-lastPosition Labile n = 0
-lastPosition NTerm n = 0
-lastPosition OnResidue n = n
-lastPosition OnRange n = n
-lastPosition CTerm n = n + 1
-
+-- a range is from the first residue of its group to the last that is read
 abbrev pub bracketOf : {P : Type 0} → Kind → P → List (Part P) → Held P → Bracket P
 bracketOf k i ps h =
     record {
       kind = k;
-      first = firstPosition k (length (h .residues)) (h .first);
-      last = lastPosition k (length (h .residues));
+      first = positionOf k (length (h .residues)) (h .first);
+      last = positionOf k (length (h .residues)) (length (h .residues));
       count = 1;
       counted = none;
       parts = ps;

@@ -7,8 +7,6 @@ use lib.Dec.{eqb, leb, ltb}
 use lib.ListN.{length, drop, take}
 use Rattle.scope.specs.declared.grammar.Key.{Key}
 use Rattle.scope.specs.declared.grammar.Key.the-variants.{NoKey, U, M, Formula, Glycan, Position, Limit}
-use Rattle.scope.specs.declared.grammar.Kind.{Kind}
-use Rattle.scope.specs.declared.grammar.Kind.the-variants.{Unknown, Labile, NTerm, OnResidue, OnRange, CTerm}
 use Rattle.scope.specs.Kinds.{isUnknown, unknownOrLabile}
 use Rattle.scope.specs.Bytes.{bytes, isPrintable, isDigit, isOpening, isShutting, sameFolded}
 use Rattle.scope.specs.Limits.{lineLimit, residueLimit, bracketLimit, partLimit, textLimit, labelLimit, depthLimit, sizeLimit, decimalLimit, countLimit, copyLimit}

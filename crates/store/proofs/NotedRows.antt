@@ -9,19 +9,17 @@ use lib.Dec.{eqb}
 use lib.IntN.{ℤ, pos}
 use lib.ListN.{length, getD, length-append}
 use borrow.Author.Tests.{eq-eqb, ne-eqb}
-use Rattle.scope.specs.declared.grammar.Kind.{Kind}
-use Rattle.scope.specs.declared.grammar.Kind.the-variants.{Unknown, Labile, NTerm, OnResidue, OnRange, CTerm}
 use Rattle.scope.specs.Bytes.{byteLimit}
 use Rattle.scope.specs.Limits.{lineLimit, residueLimit, bracketLimit, partLimit, textLimit, labelLimit, countLimit, decimalLimit}
 use Rattle.scope.specs.Line.{Number, Label, Value, mass, text, reference, Part, Bracket}
 use Rattle.scope.specs.Keys.{written}
-use Rattle.scope.specs.Kinds.{kindCode}
 use Rattle.scope.specs.Lists.{given, part}
 use Rattle.scope.specs.Refusals.{inRange, textIn, textOf}
 use Rattle.scope.specs.Tables.{millionths, labelOf, scoreOf}
 use Rattle.scope.specs.Layout.{bytesSize, numbersSize, valueCode, massIn, decimalsIn, packed, offset, partFields, partRow, scoreCode}
 use Rattle.basics.specs.Choice.{pick-true}
 use Rattle.basics.specs.Each.{OfGiven}
+use Rattle.basics.specs.Kinds.{kind-byte}
 use Rattle.accepted_laws.specs.Within.{NumberWithin, LabelWithin, ValueWithin}
 use Rattle.accepted_laws.specs.Laws.{first-within, last-within}
 use Rattle.layout_laws.specs.Numbers.{few-decimals}
@@ -63,14 +61,6 @@ decimals-few : (p : Part ℕ) (v : Value ℕ) → ValueWithin p v → decimalsIn
 decimals-few p (mass n) w = few-decimals n w
 decimals-few p (text t) w = omega arith
 decimals-few p reference w = omega arith
-
-few-kinds : (k : Kind) → kindCode k < byteLimit
-few-kinds Unknown = omega arith
-few-kinds Labile = omega arith
-few-kinds NTerm = omega arith
-few-kinds OnResidue = omega arith
-few-kinds OnRange = omega arith
-few-kinds CTerm = omega arith
 
 score-few : (o : Option (Number ℕ)) → OfGiven NumberWithin o → scoreCode o ≤ decimalLimit + 1
 score-few none w = omega arith
@@ -198,7 +188,7 @@ module _ {line heads parts : List ℕ} {masses scores : List ℤ} {n k : ℕ} {b
       record {
         heads-room = h;
         few-brackets = q;
-        kind-byte = omega (arith, f .kind, few-kinds (b .kind));
+        kind-byte = omega (arith, f .kind, kind-byte (b .kind));
         first-few = omega (arith, f .first, first-within n b (w .within));
         last-few = omega (arith, f .last, last-within n b (w .within));
         count-byte = omega (arith, f .count);

@@ -1,19 +1,20 @@
 -- The row of a bracket that was read is the row of the definition's bracket; and the stage behind it.
-use mathlib.Core.Path.{_≡_, refl, ap, ap₂, _∙_}
+use mathlib.Core.Path.{_≡_, ap, ap₂, _∙_}
 use mathlib.Core.Bool.{cond}
 use mathlib.Core.List.{List}
 use Prim.Native.Nat.{ℕ, _+_, _≤_, _<_, min}
+use native.Mathlib.Nat.{le-refl}
 use native.Mathlib.Omega.{arith}
 use lib.ListN.{length}
 use Rattle.scope.specs.declared.grammar.Kind.{Kind}
-use Rattle.scope.specs.declared.grammar.Kind.the-variants.{Unknown, Labile, NTerm, OnResidue, OnRange, CTerm}
 use Rattle.scope.specs.declared.grammar.Mode.{Mode}
 use Rattle.scope.specs.declared.grammar.Slot.{Slot}
 use Rattle.scope.specs.Bytes.{wideLimit}
 use Rattle.scope.specs.Kinds.{kindCode}
 use Rattle.scope.specs.Limits.{lineLimit, partLimit}
 use Rattle.scope.specs.Line.{Bracket}
-use Rattle.scope.specs.Reading.{firstPosition, lastPosition, bracketOf}
+use Rattle.scope.specs.Reading.{positionOf, bracketOf}
+use Rattle.basics.specs.Kinds.{kind-byte, position-few}
 use Rattle.sheet.specs.Rows.{sortOf}
 use Rattle.inside.specs.declared.Parts.{Parts}
 use Rattle.inside.specs.Says.{PartsAre}
@@ -21,48 +22,23 @@ use Rattle.walk.specs.declared.Stage.{Stage}
 use Rattle.walk.specs.Stages.{Low}
 use Rattle.walk.specs.Steps.{HeadSays, bracketBehind, noted?, runBehind}
 
-kind-low : (k : Kind) → kindCode k < wideLimit
-kind-low Unknown = omega arith
-kind-low Labile = omega arith
-kind-low NTerm = omega arith
-kind-low OnResidue = omega arith
-kind-low OnRange = omega arith
-kind-low CTerm = omega arith
-
-first-low : (k : Kind) (n a : ℕ) → a ≤ n → firstPosition k n a ≤ n + 1
-first-low Unknown n a h = omega arith
-first-low Labile n a h = omega arith
-first-low NTerm n a h = omega arith
-first-low OnResidue n a h = omega arith
-first-low OnRange n a h = omega arith
-first-low CTerm n a h = omega arith
-
--- a range ends at the last residue
-last-is : (k : Kind) (n : ℕ) → firstPosition k n n ≡ lastPosition k n
-last-is Unknown n = refl
-last-is Labile n = refl
-last-is NTerm n = refl
-last-is OnResidue n = refl
-last-is OnRange n = refl
-last-is CTerm n = refl
-
 module _ (s : Stage) (kind : Kind) (p : Parts) (low : Low s) (few : p .count ≤ lineLimit) (few-labels : p .labels ≤ p .count) where
   pub head-says : (k sort first last score : ℕ) → k ≡ kindCode kind → ((line : List ℕ) (least : ℕ) (b : Bracket ℕ) → PartsAre line least p (b .parts) → sort ≡ sortOf b) → sort < wideLimit
-      → first ≡ firstPosition kind (s .residues) (s .group) → last ≡ firstPosition kind (s .residues) (s .residues) → score ≡ p .score → score < wideLimit
+      → first ≡ positionOf kind (s .residues) (s .group) → last ≡ positionOf kind (s .residues) (s .residues) → score ≡ p .score → score < wideLimit
       → HeadSays s kind p (record { place = s .at; kind = k; sort = sort; first = first; last = last; parts = p .count; labels = p .labels; base = s .parts; score = score })
   head-says k sort first last score ek es sort-low ef el ep score-low = record {
     row = λ line least h ps a e f.
-        let a1 : first ≡ firstPosition kind (length (h .residues)) (h .first) = ef ∙ ap₂ (firstPosition kind) e f in
-        let a2 : last ≡ lastPosition kind (length (h .residues)) = el ∙ last-is kind (s .residues) ∙ ap (lastPosition kind) e in
+        let a1 : first ≡ positionOf kind (length (h .residues)) (h .first) = ef ∙ ap₂ (positionOf kind) e f in
+        let a2 : last ≡ positionOf kind (length (h .residues)) (length (h .residues)) = el ∙ ap₂ (positionOf kind) e e in
         let a3 : sort ≡ sortOf (bracketOf kind (s .at) ps h) = es line least (bracketOf kind (s .at) ps h) a in
         let a4 = ep ∙ a .score in
         rw (ek, a3, a1, a2, a .count, a .labels, a4);
     fits = record {
       place = omega (arith, low .at);
-      kind = omega (arith, kind-low kind, ek);
+      kind = omega (arith, kind-byte kind, ek);
       sort = sort-low;
-      first = omega (arith, first-low kind (s .residues) (s .group) (low .group), ef, low .residues, low .at);
-      last = omega (arith, first-low kind (s .residues) (s .residues) (let z : s .residues ≤ s .residues = omega arith in z), el, low .residues, low .at);
+      first = omega (arith, position-few kind (s .residues) (s .group) (low .group), ef, low .residues, low .at);
+      last = omega (arith, position-few kind (s .residues) (s .residues) (le-refl (s .residues)), el, low .residues, low .at);
       parts = omega arith;
       labels = omega arith;
       base = omega (arith, low .parts);

@@ -20,7 +20,7 @@ ghost use Rattle.scope.specs.Kinds.{kindCode};
 ghost use Rattle.scope.specs.Layout.{sectionCode};
 ghost use Rattle.scope.specs.Limits.{lineLimit, residueLimit, bracketLimit, partLimit, countLimit};
 ghost use Rattle.scope.specs.Lists.{part};
-ghost use Rattle.scope.specs.Reading.{firstPosition};
+ghost use Rattle.scope.specs.Reading.{positionOf};
 ghost use Rattle.classes.specs.Runs.{span};
 ghost use Rattle.sheet.specs.Rows.{headFields, headsRoom, Roomy};
 ghost use Rattle.sheet.specs.Fields.{headRow, HeadFits};
@@ -226,23 +226,10 @@ fn residues_read(
 
 // ---- a bracket
 
-fn kind_code(kind: Kind) -> usize
-    ensures { λ r. ⌜ r ≡ kindCode kind ⌝ }
-{
-    match kind {
-        Kind::Unknown => 1,
-        Kind::Labile => 2,
-        Kind::NTerm => 3,
-        Kind::OnResidue => 4,
-        Kind::OnRange => 5,
-        Kind::CTerm => 6,
-    }
-}
-
 // The position of a bracket behind n residues, where one on a range stands at `range`.
 fn position(kind: Kind, n: usize, range: usize) -> usize
     requires { ⌜ n < lineLimit ⌝ }
-    ensures { λ r. ⌜ r ≡ firstPosition kind n range ⌝ }
+    ensures { λ r. ⌜ r ≡ positionOf kind n range ⌝ }
 {
     match kind {
         Kind::Unknown => 0,
@@ -261,7 +248,7 @@ fn head_of(s: Stage, kind: Kind, p: Parts) -> Head
 {
     Head {
         place: s.at,
-        kind: kind_code(kind),
+        kind: kind.code(),
         sort: inside::sort_of(p),
         first: position(kind, s.residues, s.group),
         last: position(kind, s.residues, s.residues),
@@ -298,7 +285,7 @@ fn run_behind(kind: Kind, run: usize, brackets: usize) -> usize
     requires { ⌜ brackets < lineLimit ⌝ }
     ensures { λ r. ⌜ r ≡ runBehind kind run brackets ⌝ }
 {
-    if kind_code(kind) == kind_code(Kind::Unknown) {
+    if kind.is(Kind::Unknown) {
         return run;
     }
     brackets + 1
@@ -459,7 +446,7 @@ fn settle(heads: &mut [u16], first: usize, end: usize)
 {
     let mut i = first;
     while i < end {
-        sheet::put_kind(heads, i, kind_code(Kind::NTerm));
+        sheet::put_kind(heads, i, Kind::NTerm.code());
         i += 1;
     }
 }

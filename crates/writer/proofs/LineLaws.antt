@@ -1,6 +1,6 @@
 -- What the pieces of a line are, by rank, and how they make up the canonical line. Assumes nothing.
 use mathlib.Core.Path.{_≡_, refl, sym, ap, ap₂, _∙_}
-use mathlib.Core.Bool.{Bool, true, false, cond, _&&_}
+use mathlib.Core.Bool.{Bool, true, false, cond, _&&_, and-true}
 use mathlib.Core.List.{List, [], _∷_, _++_, append-assoc, append-nil}
 use Prim.Native.Nat.{ℕ, zero, suc, _+_, _-_, _*_, _≤_, _<_}
 use native.Mathlib.Nat.{zero-add}
@@ -9,7 +9,7 @@ use lib.Dec.{eqb, leb}
 use lib.IntN.{ℤ}
 use lib.ListN.{length, drop}
 use lib.Seq.{take-all}
-use borrow.Author.Tests.{eq-eqb, ne-eqb, eqb-true, eqb-false, leb-true, leb-false}
+use borrow.Author.Tests.{eq-eqb, leb-true, leb-false, lt-ltb}
 use Rattle.basics.specs.Choice.{took, by-test}
 use Rattle.scope.specs.declared.grammar.Kind.{Kind}
 use Rattle.scope.specs.declared.grammar.Kind.the-variants.{Unknown, Labile, NTerm, OnResidue, OnRange, CTerm}
@@ -28,7 +28,7 @@ use Rattle.writer.specs.Written.{Puts, WholeLine, ceiling, residueMost, 
 use Rattle.writer.specs.Here.{Room}
 use Rattle.writer.specs.Ranks.{lastRank, rankOf, rank, rankIn, Ready, rankedText, runText, frontText, Walks, residueText, Spelt, Clear, Behind, Spells}
 use Rattle.writer.proofs.Storing.{stored-whole, puts-within, puts-length}
-use Rattle.writer.proofs.RankLaws.{rank-is, rank-within, tabled-from, tabled-over}
+use Rattle.writer.proofs.RankLaws.{rank-is, rank-within, rank-tells, tabled-from, tabled-over}
 use Rattle.writer.proofs.RunLaws.{quiet, run-one, run-empty, none-of}
 use Rattle.writer.proofs.Walking.{walks-of, walks-still, walks-then, walks-before, walks-up, room-after}
 use Rattle.basics.specs.Lists.{keep-same}
@@ -91,62 +91,27 @@ unfolding keep
 keep-twice p r [] = refl
 keep-twice p r (x ∷ l) = kept-once p x (r x) (keep r l) (keep (λ x. r x && p x) l) (keep-twice p r l)
 
-never : (a b : ℕ) → (a ≡ b → ⊥) → false ≡ eqb a b
-never a b z = sym (ne-eqb a b z)
-
-same-test : (a b c d : ℕ) → (a ≡ b → c ≡ d) → (c ≡ d → a ≡ b) → eqb a b ≡ eqb c d
-same-test a b c d f g =
-    by-test (eqb a b)
-    (λ t. t ∙ sym (eq-eqb c d (f (eqb-true a b t))))
-    (λ t. t ∙ sym (ne-eqb c d (λ e. eqb-false a b t (g e))))
+-- of a kind whose rank is the same at every position
+of-level : (t u : Bool) → (t && true) ≡ u → t ≡ u
+of-level t u e = sym (and-true t) ∙ e
 
 test-unknown : (k : Kind) (last : ℕ) → isKind Unknown k ≡ eqb (rankOf k last) 0
-test-unknown Unknown last = refl
-test-unknown Labile last = refl
-test-unknown NTerm last = refl
-test-unknown OnResidue last = never (3 + 2 * last) 0 (λ e. omega arith)
-test-unknown OnRange last = never (4 + 2 * last) 0 (λ e. omega arith)
-test-unknown CTerm last = refl
+test-unknown k last = of-level _ _ (rank-tells Unknown last 0 refl k)
 
 test-labile : (k : Kind) (last : ℕ) → isKind Labile k ≡ eqb (rankOf k last) 1
-test-labile Unknown last = refl
-test-labile Labile last = refl
-test-labile NTerm last = refl
-test-labile OnResidue last = never (3 + 2 * last) 1 (λ e. omega arith)
-test-labile OnRange last = never (4 + 2 * last) 1 (λ e. omega arith)
-test-labile CTerm last = refl
+test-labile k last = of-level _ _ (rank-tells Labile last 0 refl k)
 
 test-n-term : (k : Kind) (last : ℕ) → isKind NTerm k ≡ eqb (rankOf k last) 2
-test-n-term Unknown last = refl
-test-n-term Labile last = refl
-test-n-term NTerm last = refl
-test-n-term OnResidue last = never (3 + 2 * last) 2 (λ e. omega arith)
-test-n-term OnRange last = never (4 + 2 * last) 2 (λ e. omega arith)
-test-n-term CTerm last = refl
+test-n-term k last = of-level _ _ (rank-tells NTerm last 0 refl k)
 
 test-c-term : (k : Kind) (last : ℕ) → last < positionLimit → isKind CTerm k ≡ eqb (rankOf k last) lastRank
-test-c-term Unknown last h = refl
-test-c-term Labile last h = refl
-test-c-term NTerm last h = refl
-test-c-term OnResidue last h = never (3 + 2 * last) lastRank (λ e. omega arith)
-test-c-term OnRange last h = never (4 + 2 * last) lastRank (λ e. omega arith)
-test-c-term CTerm last h = refl
+test-c-term k last h = of-level _ _ (rank-tells CTerm last 0 (rw (lt-ltb last positionLimit h)) k)
 
 test-residue : (k : Kind) (last i : ℕ) → (isKind OnResidue k && eqb last i) ≡ eqb (rankOf k last) (3 + 2 * i)
-test-residue Unknown last i = never 0 (3 + 2 * i) (λ e. omega arith)
-test-residue Labile last i = never 1 (3 + 2 * i) (λ e. omega arith)
-test-residue NTerm last i = never 2 (3 + 2 * i) (λ e. omega arith)
-test-residue OnResidue last i = same-test last i (3 + 2 * last) (3 + 2 * i) (λ e. omega arith) (λ e. omega arith)
-test-residue OnRange last i = never (4 + 2 * last) (3 + 2 * i) (λ e. omega arith)
-test-residue CTerm last i = never lastRank (3 + 2 * i) (λ e. omega arith)
+test-residue k last i = rank-tells OnResidue last i refl k
 
 test-range : (k : Kind) (last i : ℕ) → i < positionLimit → (isKind OnRange k && eqb last i) ≡ eqb (rankOf k last) (4 + 2 * i)
-test-range Unknown last i h = never 0 (4 + 2 * i) (λ e. omega arith)
-test-range Labile last i h = never 1 (4 + 2 * i) (λ e. omega arith)
-test-range NTerm last i h = never 2 (4 + 2 * i) (λ e. omega arith)
-test-range OnResidue last i h = never (3 + 2 * last) (4 + 2 * i) (λ e. omega arith)
-test-range OnRange last i h = same-test last i (4 + 2 * last) (4 + 2 * i) (λ e. omega arith) (λ e. omega arith)
-test-range CTerm last i h = never lastRank (4 + 2 * i) (λ e. omega arith)
+test-range k last i h = rank-tells OnRange last i (rw (lt-ltb i positionLimit h)) k
 
 module _ (ks : List (Bracket (Unit {0}))) where
   unknown-run : runText Counted 0 ks ≡ flat unknownText (ofKind Unknown ks)

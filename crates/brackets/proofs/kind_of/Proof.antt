@@ -1,7 +1,7 @@
 -- `brackets::kind_of` meets its contract. Assumes nothing.
 use mathlib.Core.Path.{sym, ap}
 use Rattle.scope.specs.Kinds.{kindIn}
-use Rattle.brackets.proofs.Laws.{other-kind}
+use Rattle.basics.specs.Kinds.{else-unknown}
 use Rattle.brackets.proofs.kind_of.Statement.{statement}
 use Rattle.brackets.proofs.kind_of.Tie as tie
 
@@ -22,7 +22,7 @@ returns-5 c = ap kindIn (sym (c .if5 .taken))
 
 returns-6 : tie.Need-returns-6
 returns-6 c =
-    other-kind _ (c .before .before .before .before .if1 .left) (c .before .before .before .if2 .left) (c .before .before .if3 .left) (c .before .if4 .left) (c .if5 .left)
+    else-unknown _ (c .before .before .before .before .if1 .left) (c .before .before .before .if2 .left) (c .before .before .if3 .left) (c .before .if4 .left) (c .if5 .left)
 
 pub kind-of-spec : {M : Type 1} → statement M
 kind-of-spec = tie.close (tie.spec returns returns-2 returns-3 returns-4 returns-5 returns-6)

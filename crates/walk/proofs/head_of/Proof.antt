@@ -13,7 +13,7 @@ returns c =
     let o = f .before in
     let k = o .before in
     let s = k .before in
-    head-says (s .args .s) (s .args .kind) (s .args .p) (s .pre .0) (s .pre .1) (s .pre .2) _ _ _ _ _ (k .kind-code .ensures) (o .sort-of .ensures .0) (o .sort-of .ensures .1) (f .position .ensures) (l .position2 .ensures) refl (let x = c .struct-known .given .1 .1 .1 .1 .0 in omega arith)
+    head-says (s .args .s) (s .args .kind) (s .args .p) (s .pre .0) (s .pre .1) (s .pre .2) _ _ _ _ _ (k .code .ensures) (o .sort-of .ensures .0) (o .sort-of .ensures .1) (f .position .ensures) (l .position2 .ensures) refl (let x = c .struct-known .given .1 .1 .1 .1 .0 in omega arith)
 
 pub head-of-spec : {M : Type 1} → statement M
 head-of-spec =

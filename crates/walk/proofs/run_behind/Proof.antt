@@ -1,16 +1,15 @@
 -- A bracket of unknown position waits, any other is settled.
-use mathlib.Core.Path.{refl, sym, _∙_}
-use borrow.Author.Tests.{eq-eqb, ne-eqb}
-use Rattle.basics.specs.Choice.{took, passed}
+use mathlib.Core.Path.{refl}
+use Rattle.basics.specs.Choice.{told-took, told-passed}
 use borrow.Author.Needs.{needs}
 use Rattle.walk.proofs.run_behind.Statement.{statement}
 use Rattle.walk.proofs.run_behind.Tie as tie
 
 returns : tie.Need-returns
-returns c = took _ _ _ (eq-eqb _ _ (sym (c .before .before .kind-code .ensures) ∙ c .if1 .taken ∙ c .before .kind-code2 .ensures))
+returns c = told-took _ _ (c .before .is .ensures) (c .if1 .taken)
 
 returns-2 : tie.Need-returns-2
-returns-2 c = passed _ _ _ _ (ne-eqb _ _ (λ e. c .if1 .left (c .before .before .kind-code .ensures ∙ e ∙ sym (c .before .kind-code2 .ensures)))) refl
+returns-2 c = told-passed _ _ _ (c .before .is .ensures) (c .if1 .left) refl
 
 pub run-behind-spec : {M : Type 1} → statement M
-run-behind-spec = tie.close (tie.spec (λ c κs. search needs) (λ c κs. search needs) returns (λ c. search needs) returns-2)
+run-behind-spec = tie.close (tie.spec (λ c κs. search needs) returns (λ c. search needs) returns-2)

@@ -15,15 +15,15 @@ abbrev μ-loop : tie.MeasureT-loop
 loop-holds : tie.Need-loop-holds Inv-loop μ-loop
 loop-holds c = settling-start _ _ _
 
-kind-code-requires : tie.Need-kind-code-requires Inv-loop μ-loop
-kind-code-requires c κs = search needs
+code-requires : tie.Need-code-requires Inv-loop μ-loop
+code-requires c κs = search needs
 
 put-kind-requires : tie.Need-put-kind-requires Inv-loop μ-loop
 put-kind-requires c κs =
     let t = c .before .before in
     let l = t .before in
     let s = l .before .before in
-    (omega (arith, s .pre .1, l .loop .inv .kept), omega (arith, s .pre .0, t .loop-test .taken), omega (arith, c .kind-code .ensures))
+    (omega (arith, s .pre .1, l .loop .inv .kept), omega (arith, s .pre .0, t .loop-test .taken), omega (arith, c .code .ensures))
 
 add-i : tie.Need-add-i Inv-loop μ-loop
 add-i c = search needs
@@ -36,7 +36,7 @@ loop-again c =
     let p = c .before .before in
     let k = p .before in
     let t = k .before .before in
-    settling-next (t .before .loop .inv) (t .loop-test .taken) _ (k .kind-code .ensures) _ (p .put-kind .ensures)
+    settling-next (t .before .loop .inv) (t .loop-test .taken) _ (k .code .ensures) _ (p .put-kind .ensures)
 
 same-length : tie.Need-same-length Inv-loop μ-loop
 same-length c = c .before .loop .inv .kept
@@ -51,7 +51,7 @@ settle-spec =
     Inv-loop
     μ-loop
     loop-holds
-    kind-code-requires
+    code-requires
     put-kind-requires
     add-i
     loop-less

@@ -1,0 +1,70 @@
+-- The kinds of brackets by their numbers: a number gives its kind back, so two kinds are the same where a test says so, and a rule over kinds is one
+-- test, computed over the list of them.
+use mathlib.Core.Path.{_≡_, refl, sym, ap, _∙_, subst}
+use mathlib.Core.Bool.{Bool, true, false}
+use mathlib.Core.List.{List, [], _∷_}
+use Prim.Native.Nat.{ℕ, zero, suc, _+_, _-_, _≤_, _<_}
+use native.Mathlib.Omega.{arith}
+use lib.Dec.{ltb}
+use lib.ListN.{getD, drop, List·getD-eq-default}
+use borrow.Author.Tests.{eqb-true, eqb-false, ltb-true}
+use Rattle.scope.specs.declared.grammar.Kind.{Kind}
+use Rattle.scope.specs.declared.grammar.Kind.the-variants.{Unknown, Labile, NTerm, OnResidue, OnRange, CTerm}
+use Rattle.scope.specs.Bytes.{byteLimit}
+use Rattle.scope.specs.Kinds.{kindCode, kinds, kindIn, isKind}
+use Rattle.scope.specs.Reading.{positionOf}
+use Rattle.basics.specs.Each.{failing, first-passes}
+use Rattle.basics.specs.Tests.{agree, agreed, falsely}
+
+pub kind-back : (k : Kind) → kindIn (kindCode k) ≡ k
+kind-back Unknown = refl
+kind-back Labile = refl
+kind-back NTerm = refl
+kind-back OnResidue = refl
+kind-back OnRange = refl
+kind-back CTerm = refl
+
+-- a number of no other kind is that of an unknown position
+pub else-unknown :
+    (n : ℕ) → (n ≡ kindCode Labile → ⊥) → (n ≡ kindCode NTerm → ⊥) → (n ≡ kindCode OnResidue → ⊥) → (n ≡ kindCode OnRange → ⊥)
+    → (n ≡ kindCode CTerm → ⊥) → Unknown ≡ kindIn n
+else-unknown zero p2 p3 p4 p5 p6 = refl
+else-unknown (suc zero) p2 p3 p4 p5 p6 = refl
+else-unknown (suc (suc n)) p2 p3 p4 p5 p6 = sym (List·getD-eq-default kinds Unknown (far (suc (suc n)) (omega arith) p2 p3 p4 p5 p6))
+  where
+    far : (n : ℕ) → kindCode Unknown < n → (n ≡ kindCode Labile → ⊥) → (n ≡ kindCode NTerm → ⊥) → (n ≡ kindCode OnResidue → ⊥) → (n ≡ kindCode OnRange → ⊥) → (n ≡ kindCode CTerm → ⊥) → kindCode CTerm ≤ n - 1
+    far n l p2 p3 p4 p5 p6 = omega arith
+
+-- ---- the test of a kind
+pub is-kind : (j k : Kind) → isKind j k ≡ true → k ≡ j
+is-kind j k e = sym (kind-back k) ∙ ap kindIn (eqb-true (kindCode k) (kindCode j) e) ∙ kind-back j
+
+pub not-kind : (j k : Kind) → (k ≡ j → ⊥) → isKind j k ≡ false
+not-kind j k h = falsely (isKind j k) (λ e. h (is-kind j k e))
+
+pub other-kind : (j k : Kind) → isKind j k ≡ false → k ≡ j → ⊥
+other-kind j k e q = eqb-false (kindCode k) (kindCode j) e (ap kindCode q)
+
+-- ---- tests over all kinds
+passes-at : {A : Type 0} (T : A → Bool) (l : List A) (x : A) → T x ≡ true → failing T l ≡ [] → (n : ℕ) → T (getD l n x) ≡ true
+passes-at T [] x e f n = e
+passes-at T (y ∷ l) x e f zero = first-passes T y l f .0
+passes-at T (y ∷ l) x e f (suc n) = passes-at T l x e (first-passes T y l f .1) n
+
+pub each-kind : (T : Kind → Bool) → failing T kinds ≡ [] → (k : Kind) → T k ≡ true
+each-kind T e k = subst (λ z. T z ≡ true) (kind-back k) (passes-at T kinds Unknown (first-passes T Unknown (drop 1 kinds) e .0) e (kindCode k - 1))
+
+pub same-of-kinds : (S T : Kind → Bool) → failing (λ k. agree (S k) (T k)) kinds ≡ [] → (k : Kind) → S k ≡ T k
+same-of-kinds S T e k = agreed (S k) (T k) (each-kind (λ j. agree (S j) (T j)) e k)
+
+pub kind-byte : (k : Kind) → kindCode k < byteLimit
+kind-byte k = ltb-true (kindCode k) byteLimit (each-kind (λ j. ltb (kindCode j) byteLimit) refl k)
+
+-- ---- every position is one of the line
+pub position-few : (k : Kind) (n a : ℕ) → a ≤ n → positionOf k n a ≤ n + 1
+position-few Unknown n a h = omega arith
+position-few Labile n a h = omega arith
+position-few NTerm n a h = omega arith
+position-few OnResidue n a h = omega arith
+position-few OnRange n a h = omega arith
+position-few CTerm n a h = omega arith

@@ -7,3 +7,4 @@ pub mod Tabled
 pub mod Keys
 pub mod Wholes
 pub mod Kinds
+pub mod Positions

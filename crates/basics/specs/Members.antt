@@ -1,7 +1,7 @@
 -- What stands in a list that is kept, joined or mapped.
 use mathlib.Core.Path.{_≡_, refl, sym, ap, _∙_, subst}
 use mathlib.Core.Logic.{_⊎_, inl, inr, ⊎-elim}
-use mathlib.Core.Bool.{Bool, true, false, cond, false≢true}
+use mathlib.Core.Bool.{Bool, true, false, cond, _||_, false≢true}
 use mathlib.Core.List.{List, [], _∷_, _++_, map}
 use Prim.Native.Nat.{ℕ}
 use lib.Dec.{eqb}
@@ -35,6 +35,15 @@ pub in-member : (x : ℕ) (l : List ℕ) → In x l → member x l ≡ true
 in-member x [] h = absurd h
 in-member x (y ∷ l) (inl e) = member-here x y l e
 in-member x (y ∷ l) (inr h) = member-there x y l (in-member x l h)
+
+pub member-append : (x : ℕ) (l m : List ℕ) → member x (l ++ m) ≡ (member x l || member x m)
+unfolding member
+member-append x [] m = refl
+member-append x (y ∷ l) m = go (eqb x y) (member-append x l m)
+  where
+    go : (t : Bool) → member x (l ++ m) ≡ (member x l || member x m) → (t || member x (l ++ m)) ≡ ((t || member x l) || member x m)
+    go true h = refl
+    go false h = h
 
 module _ {A : Type 0} where
   -- ---- one list behind the other

@@ -9,8 +9,8 @@ use Rattle.scope.specs.declared.grammar.Key.the-variants.{Info}
 use Rattle.scope.specs.Line.{Bracket, Residue, Line}
 use Rattle.scope.specs.Lists.{given, shared, keep, flat, among, member}
 use Rattle.scope.specs.Modifications.{onlyInfo, isReferring, isModification, copies, definedBy, referredBy, namesOf}
-use Rattle.scope.specs.Positions.{isPlaced, struckOut, floaters, between, referredAt, isUnlabelledUnknown, ownPosition, mayStand, positions, permitted, permittedPositions}
-use Rattle.scope.specs.Masses.{massOf, massOr0, sum, sumℕ, modifications, total, lacking, labileMass}
+use Rattle.scope.specs.Positions.{sites, isPlaced, placedOn, struckOut, floaters, between, referredAt, isUnlabelledUnknown, ownPosition, mayStand, positions, permitted, permittedPositions}
+use Rattle.scope.specs.Masses.{massOf, massOr0, sum, sumℕ, modifications, times, total, lacking, labileMass}
 use Rattle.scope.specs.Kinds.{isLabile}
 use Rattle.basics.specs.Lists.{flat-append, keep-append, keep-same, map-same}
 
@@ -38,9 +38,9 @@ module _ {P : Type 0} (rs : List (Residue P)) (ks ls : List (Bracket P)) (k : Br
   withoutIt = record { residues = rs; brackets = ks ++ ls }
 
   module _ (idle : isModification k ≡ false) where
-    pub strikes-nothing : struckOut (withIt .brackets) ≡ struckOut (withoutIt .brackets)
-    unfolding struckOut isPlaced
-    strikes-nothing = ap (map (λ b. b .first)) (keep-without isPlaced ks ls k (rw idle))
+    pub strikes-nothing : struckOut withIt ≡ struckOut withoutIt
+    unfolding struckOut placedOn isPlaced
+    strikes-nothing = flat-without (placedOn withIt) ks ls k (rw idle)
 
     pub floats-nowhere : floaters withIt ≡ floaters withoutIt
     unfolding floaters copies
@@ -51,11 +51,11 @@ module _ {P : Type 0} (rs : List (Residue P)) (ks ls : List (Bracket P)) (k : Br
 
     pub weighs-nothing : total withIt ≡ total withoutIt
     unfolding total
-    weighs-nothing = ap (λ ms. sum (map (λ b. pos (b .count) *ℤ massOr0 b) ms)) same-modifications
+    weighs-nothing = ap (λ ms. sum (map (λ b. pos (times withIt b) *ℤ massOr0 b) ms)) same-modifications
 
     pub lacks-nothing : lacking withIt ≡ lacking withoutIt
     unfolding lacking
-    lacks-nothing = ap (λ ms. sumℕ (map (λ b. given (massOf b) (λ m. 0) (b .count)) ms)) same-modifications
+    lacks-nothing = ap (λ ms. sumℕ (map (λ b. given (massOf b) (λ m. 0) (times withIt b)) ms)) same-modifications
 
     pub no-labile-mass : labileMass withIt ≡ labileMass withoutIt
     unfolding labileMass
@@ -87,10 +87,10 @@ module _ {P : Type 0} (rs : List (Residue P)) (ks ls : List (Bracket P)) (k : Br
       ap (λ b. cond (isUnlabelledUnknown d (d .kind)) (between 1 (length rs) x) (ownPosition d x (d .kind) || b)) (referred-without d x e ks)
 
   permitted-without : isModification k ≡ false → isReferring k ≡ false → (d : Bracket P) → permitted withIt d ≡ permitted withoutIt d
-  unfolding permitted
+  unfolding permitted sites
   permitted-without idle e d =
-      keep-same (λ x. mayStand withIt d x && not (member x (struckOut (ks ++ (k ∷ ls))))) (λ x. mayStand withoutIt d x && not (member x (struckOut (ks ++ ls))))
-      (λ x. ap (λ b. b && not (member x (struckOut (ks ++ (k ∷ ls))))) (may-stand-without d x e) ∙ ap (λ l. mayStand withoutIt d x && not (member x l)) (strikes-nothing idle))
+      keep-same (λ x. mayStand withIt d x && not (member x (struckOut withIt))) (λ x. mayStand withoutIt d x && not (member x (struckOut withoutIt)))
+      (λ x. ap (λ b. b && not (member x (struckOut withIt))) (may-stand-without d x e) ∙ ap (λ l. mayStand withoutIt d x && not (member x l)) (strikes-nothing idle))
       (positions withIt)
 
   -- so it blocks nothing: the floaters have the positions that they have without it

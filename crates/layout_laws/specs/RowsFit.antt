@@ -8,9 +8,10 @@ use Rattle.scope.specs.declared.answers.Site.{Site}
 use Rattle.scope.specs.Limits.{residueLimit, rowLimit, positionLimit}
 use Rattle.scope.specs.Line.{Bracket, Line}
 use Rattle.scope.specs.Lists.{keep, member}
-use Rattle.scope.specs.Positions.{permitted, permittedPositions, positions, mayStand, struckOut, floaters, rowsFrom, rowsOf}
+use Rattle.scope.specs.Positions.{permitted, permittedPositions, sites, positions, mayStand, struckOut, floaters, rowsFrom, rowsOf}
 use Rattle.basics.specs.Each.{Each, each-all, each-map}
 use Rattle.accepted_laws.specs.Within.{Within}
+use Rattle.basics.specs.Positions.{sites-many}
 use Rattle.basics.specs.Tabled.{length-tabled}
 use Rattle.layout_laws.specs.Fits.{rows-room}
 
@@ -26,9 +27,9 @@ kept-fewer f (x ∷ l) = go (f x) (kept-fewer f l)
 permitted-few : {P : Type 0} (l : Line P) (k : Bracket P) → length (l .residues) ≤ residueLimit → length (permitted l k) ≤ positionLimit
 unfolding permitted
 permitted-few l k h =
-    let a = kept-fewer (λ x. mayStand l k x && not (member x (struckOut (l .brackets)))) (positions l) in
-    let b = length-tabled (λ x. x) 0 (length (l .residues) + 2) in
-    omega arith
+    let a = kept-fewer (λ x. mayStand l k x && not (member x (struckOut l))) (positions l) in
+    let b = length-tabled (λ x. x) 0 (length (sites l)) in
+    omega (arith, sites-many l)
 
 rows-few : (f : ℕ) (qs : List (List ℕ)) → Each (λ q. length q ≤ positionLimit) qs → length (rowsFrom f qs) ≤ length qs * positionLimit
 unfolding rowsFrom

@@ -66,11 +66,11 @@ pub limited-in : {bs : List ℕ} {ns : List ℤ} → Bounds bs ns → length (fl
 limited-in b few = areas.limited-in b few
 
 -- of any numbers as placement: a position where no copy is put has what the placed modifications leave there
-pub only-placed : {P : Type 0} (t : Line P) (p : List ℕ) (x : ℕ) → x < positionLimit → member x (take (length (floaters t)) p) ≡ false → getD (ledger t p) x (pos 0) ≡ placedAt x (t .brackets)
+pub only-placed : {P : Type 0} (t : Line P) (p : List ℕ) (x : ℕ) → x < positionLimit → member x (take (length (floaters t)) p) ≡ false → getD (ledger t p) x (pos 0) ≡ placedAt t x
 only-placed t p x h e = shares.only-placed t p x h e
 
 -- "zero at the start": an entry is zero where nothing is placed and nothing put
-pub untouched : {P : Type 0} (t : Line P) (p : List ℕ) (x : ℕ) → member x (struckOut (t .brackets)) ≡ false → member x (take (length (floaters t)) p) ≡ false → getD (ledger t p) x (pos 0) ≡ pos 0
+pub untouched : {P : Type 0} (t : Line P) (p : List ℕ) (x : ℕ) → member x (struckOut t) ≡ false → member x (take (length (floaters t)) p) ≡ false → getD (ledger t p) x (pos 0) ≡ pos 0
 untouched t p x e f = shares.untouched t p x e f
 
 pub under-2^53 : totalLimit < 2 ^ 53

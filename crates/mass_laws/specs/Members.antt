@@ -9,7 +9,8 @@ use lib.Dec.{eqb}
 use lib.ListN.{length, getD}
 use Rattle.scope.specs.Line.{Bracket, Line}
 use Rattle.scope.specs.Lists.{keep, member, tabled}
-use Rattle.scope.specs.Positions.{struckOut, mayStand, positions, permitted}
+use Rattle.scope.specs.Positions.{sites, struckOut, mayStand, positions, permitted}
+use Rattle.basics.specs.Positions.{sites-many}
 use Rattle.basics.specs.Tests.{and-right, or-left, or-right}
 use Rattle.basics.specs.Members.{member-here, member-there, member-cons, member-none, member-in, in-member, in-keep}
 use mathlib.Core.Logic.{⊎-elim}
@@ -45,12 +46,12 @@ member-tabled x i (suc n) e = member-has (λ y. y < i + suc n) x i (tabled (λ y
 pub permitted-inside : {P : Type 0} (t : Line P) (k : Bracket P) (x : ℕ) → member x (permitted t k) ≡ true → x < length (t .residues) + 2
 unfolding permitted
 permitted-inside t k x e =
-    let q : x < 0 + (length (t .residues) + 2) = member-tabled x 0 (length (t .residues) + 2) (member-keep (λ y. mayStand t k y && not (member y (struckOut (t .brackets)))) x (positions t) e .0) in
-    omega arith
+    let q : x < 0 + length (sites t) = member-tabled x 0 (length (sites t)) (member-keep (λ y. mayStand t k y && not (member y (struckOut t))) x (positions t) e .0) in
+    omega (arith, sites-many t)
 
-pub permitted-free : {P : Type 0} (t : Line P) (k : Bracket P) (x : ℕ) → member x (permitted t k) ≡ true → member x (struckOut (t .brackets)) ≡ false
+pub permitted-free : {P : Type 0} (t : Line P) (k : Bracket P) (x : ℕ) → member x (permitted t k) ≡ true → member x (struckOut t) ≡ false
 unfolding permitted
 permitted-free t k x e =
-    not-true (member x (struckOut (t .brackets)))
-    (and-right (mayStand t k x) (not (member x (struckOut (t .brackets))))
-    (member-keep (λ y. mayStand t k y && not (member y (struckOut (t .brackets)))) x (positions t) e .1))
+    not-true (member x (struckOut t))
+    (and-right (mayStand t k x) (not (member x (struckOut t)))
+    (member-keep (λ y. mayStand t k y && not (member y (struckOut t))) x (positions t) e .1))

@@ -1,6 +1,6 @@
 -- The entries of a ledger: what the placed modifications and the floating copies share out among the positions.
 use mathlib.Core.Path.{_≡_, refl, sym, ap, ap₂, _∙_}
-use mathlib.Core.Bool.{Bool, true, false, not, cond, _&&_, true≢false, false≢true}
+use mathlib.Core.Bool.{true, false, not, cond, _&&_, true≢false, false≢true}
 use mathlib.Core.List.{List, [], _∷_, map}
 use Prim.Native.Nat.{ℕ, zero, suc, _+_, _≤_, _<_}
 use native.Mathlib.Nat.{zero-add, le-of-suc-le-suc}
@@ -13,33 +13,22 @@ use lib.ListN.{length, getD, take, length-map, List·getD-eq-default}
 use lib.Seq.{length-take-le, getD-take}
 use Rattle.scope.specs.Limits.{positionLimit, residueLimit, copyLimit}
 use Rattle.scope.specs.Line.{Bracket, Line}
-use Rattle.scope.specs.Lists.{keep, member, tabled}
-use Rattle.scope.specs.Positions.{isPlaced, struckOut, floaters, permitted, permittedPositions}
+use Rattle.scope.specs.Lists.{flat, member, tabled}
+use Rattle.scope.specs.Positions.{placedOn, struckOut, floaters, permitted, permittedPositions}
 use Rattle.scope.specs.Placements.{distinct, fits, allowed}
 use Rattle.scope.specs.Masses.{massOr0, sum, placedAt, putAt, ledger}
 use Rattle.basics.specs.Tabled.{getD-tabled, length-tabled, tabled-same}
-use Rattle.mass_laws.specs.Weights.{placedMass, placed-cons}
-use Rattle.basics.specs.Tests.{eqb-sym, and-left, and-right}
+use Rattle.basics.specs.Members.{member-append}
+use Rattle.mass_laws.specs.Weights.{bookedAt, placed-is, not-booked, placedMass, booked-share}
+use Rattle.basics.specs.Tests.{eqb-sym, and-left, and-right, or-left, or-right}
 use Rattle.mass_laws.specs.Terms.{FairBracket, Fair}
 use Rattle.basics.specs.Each.{Each}
 use Rattle.mass_laws.specs.Sums.{sum-both, sum-zero, share, share-here, share-else, sum-share}
 use Rattle.mass_laws.specs.Members.{not-first, not-rest, member-at, permitted-inside, permitted-free}
 
--- ---- the placed ones
-placed-none : (P : Type 0) (x : ℕ) → placedAt {P = P} x [] ≡ pos 0
-unfolding placedAt sum keep
-placed-none P x = refl
-
 put-none : (P : Type 0) (x : ℕ) (p : List ℕ) → putAt {P = P} x [] p ≡ pos 0
 unfolding putAt
 put-none P x p = refl
-
-share-nothing : (a x : ℕ) → share a (pos 0) x ≡ pos 0
-share-nothing a x = by (eqb a x)
-  where
-    by : (t : Bool) → cond t (pos 0) (pos 0) ≡ pos 0
-    by true = refl
-    by false = refl
 
 -- the elements of a list in which none stands twice
 distinct-apart : (l : List ℕ) (i j : ℕ) → distinct l ≡ true → i < length l → j < length l → getD l i 0 ≡ getD l j 0 → i ≡ j
@@ -58,47 +47,44 @@ distinct-apart (y ∷ l) (suc i) (suc j) d h k e =
     ap suc (distinct-apart l i j (and-right (not (member y l)) (distinct l) d) (le-of-suc-le-suc h) (le-of-suc-le-suc k) e)
 
 module _ {P : Type 0} where
-  -- each is booked once
-  pub sum-placed : (n : ℕ) → n ≤ residueLimit → (ks : List (Bracket P)) → Each (FairBracket n) ks → sum (tabled (λ x. placedAt x ks) 0 positionLimit) ≡ sum (map placedMass ks)
+  -- ---- the placed ones: each is booked once
+  sum-booked : (t : Line P) (n : ℕ) → n ≤ residueLimit → (ks : List (Bracket P)) → Each (FairBracket n) ks → sum (tabled (λ x. sum (map (bookedAt t x) ks)) 0 positionLimit) ≡ sum (map placedMass ks)
   unfolding sum
-  sum-placed n h [] f = sum-zero (λ x. placedAt {P = P} x []) 0 positionLimit (λ x q. placed-none P x)
-  sum-placed n h (k ∷ ks) f =
-      ap sum (tabled-same (λ x. placedAt x (k ∷ ks)) (λ x. share (k .first) (placedMass k) x +ℤ placedAt x ks) (λ x. placed-cons x k ks) 0 positionLimit)
-      ∙ sum-both (share (k .first) (placedMass k)) (λ x. placedAt x ks) 0 positionLimit
-      ∙ ap₂ _+ℤ_ (sum-share (k .first) (placedMass k) 0 positionLimit (omega arith) (omega (arith, f .0 .inside))) (sum-placed n h ks (f .1))
+  sum-booked t n h [] f = sum-zero (λ x. pos 0) 0 positionLimit (λ x q. refl)
+  sum-booked t n h (k ∷ ks) f =
+      sum-both (λ x. bookedAt t x k) (λ x. sum (map (bookedAt t x) ks)) 0 positionLimit
+      ∙ ap₂ _+ℤ_
+      (ap sum (tabled-same (λ x. bookedAt t x k) (share (k .first) (placedMass k)) (λ x. booked-share t x k) 0 positionLimit)
+      ∙ sum-share (k .first) (placedMass k) 0 positionLimit (omega arith) (omega (arith, f .0 .inside)))
+      (sum-booked t n h ks (f .1))
 
-  struck-placed : (k : Bracket P) (ks : List (Bracket P)) → isPlaced k ≡ true → struckOut (k ∷ ks) ≡ k .first ∷ struckOut ks
-  unfolding struckOut keep
-  struck-placed k ks e = rw e
-
-  struck-other : (k : Bracket P) (ks : List (Bracket P)) → isPlaced k ≡ false → struckOut (k ∷ ks) ≡ struckOut ks
-  unfolding struckOut keep
-  struck-other k ks e = rw e
-
-  no-placed-mass : (k : Bracket P) → isPlaced k ≡ false → placedMass k ≡ pos 0
-  unfolding placedMass
-  no-placed-mass k e = rw e
+  pub sum-placed : (t : Line P) → Fair t → sum (tabled (placedAt t) 0 positionLimit) ≡ sum (map placedMass (t .brackets))
+  sum-placed t f =
+      ap sum (tabled-same (placedAt t) (λ x. sum (map (bookedAt t x) (t .brackets))) (placed-is t) 0 positionLimit)
+      ∙ sum-booked t (length (t .residues)) (f .few-residues) (t .brackets) (f .each-bracket)
 
   -- none where no placed one stands
-  pub placed-zero : (x : ℕ) (ks : List (Bracket P)) → member x (struckOut ks) ≡ false → placedAt x ks ≡ pos 0
-  placed-zero x [] e = placed-none P x
-  placed-zero x (k ∷ ks) e = by (isPlaced k) refl (placed-zero x ks)
-    where
-      by : (t : Bool) → isPlaced k ≡ t → (member x (struckOut ks) ≡ false → placedAt x ks ≡ pos 0) → placedAt x (k ∷ ks) ≡ pos 0
-      by true q rest =
-          let f : member x (k .first ∷ struckOut ks) ≡ false = ap (member x) (sym (struck-placed k ks q)) ∙ e in
-          placed-cons x k ks
-          ∙ ap₂ _+ℤ_ (share-else (k .first) (placedMass k) x (λ z. not-first x (k .first) (struckOut ks) f (sym z))) (rest (not-rest x (k .first) (struckOut ks) f))
-      by false q rest =
-          let f : member x (struckOut ks) ≡ false = ap (member x) (sym (struck-other k ks q)) ∙ e in
-          placed-cons x k ks ∙ ap₂ _+ℤ_ (ap (λ m. share (k .first) m x) (no-placed-mass k q) ∙ share-nothing (k .first) x) (rest f)
+  booked-none : (t : Line P) (x : ℕ) (ks : List (Bracket P)) → member x (flat (placedOn t) ks) ≡ false → sum (map (bookedAt t x) ks) ≡ pos 0
+  unfolding sum flat
+  booked-none t x [] e = refl
+  booked-none t x (k ∷ ks) e =
+      let f = sym (member-append x (placedOn t k) (flat (placedOn t) ks)) ∙ e in
+      ap₂ _+ℤ_ (not-booked t x k (or-left (member x (placedOn t k)) (member x (flat (placedOn t) ks)) f))
+      (booked-none t x ks (or-right (member x (placedOn t k)) (member x (flat (placedOn t) ks)) f))
+
+  pub placed-zero : (t : Line P) (x : ℕ) → member x (struckOut t) ≡ false → placedAt t x ≡ pos 0
+  unfolding struckOut
+  placed-zero t x e = placed-is t x ∙ booked-none t x (t .brackets) e
 
   -- none past the C-terminus
-  pub placed-past : (n x : ℕ) → n + 1 < x → (ks : List (Bracket P)) → Each (FairBracket n) ks → placedAt x ks ≡ pos 0
-  placed-past n x h [] f = placed-none P x
-  placed-past n x h (k ∷ ks) f =
-      placed-cons x k ks
-      ∙ ap₂ _+ℤ_ (share-else (k .first) (placedMass k) x (λ z. omega (arith, f .0 .inside))) (placed-past n x h ks (f .1))
+  booked-past : (t : Line P) (n x : ℕ) → n + 1 < x → (ks : List (Bracket P)) → Each (FairBracket n) ks → sum (map (bookedAt t x) ks) ≡ pos 0
+  unfolding sum
+  booked-past t n x h [] f = refl
+  booked-past t n x h (k ∷ ks) f =
+      ap₂ _+ℤ_ (booked-share t x k ∙ share-else (k .first) (placedMass k) x (λ z. omega (arith, f .0 .inside))) (booked-past t n x h ks (f .1))
+
+  pub placed-past : (t : Line P) → Fair t → (x : ℕ) → length (t .residues) + 1 < x → placedAt t x ≡ pos 0
+  placed-past t f x h = placed-is t x ∙ booked-past t (length (t .residues)) x h (t .brackets) (f .each-bracket)
 
   -- ---- the floating ones
   put-cons : (x : ℕ) (k : Bracket P) (ks : List (Bracket P)) (y : ℕ) (p : List ℕ) → putAt x (k ∷ ks) (y ∷ p) ≡ share y (massOr0 k) x +ℤ putAt x ks p
@@ -185,17 +171,17 @@ module _ {P : Type 0} where
         apart z = true≢false (sym among ∙ ap (λ u. member u (take (length ks) p)) (sym z) ∙ not-true (member y (take (length ks) p)) (and-left (not (member y (take (length ks) p))) (distinct (take (length ks) p)) f))
 
   -- ---- the entries
-  pub entry : (t : Line P) (p : List ℕ) (x : ℕ) → x < positionLimit → getD (ledger t p) x (pos 0) ≡ placedAt x (t .brackets) +ℤ putAt x (floaters t) p
+  pub entry : (t : Line P) (p : List ℕ) (x : ℕ) → x < positionLimit → getD (ledger t p) x (pos 0) ≡ placedAt t x +ℤ putAt x (floaters t) p
   unfolding ledger
   entry t p x h =
-      getD-tabled (λ y. placedAt y (t .brackets) +ℤ putAt y (floaters t) p) 0 positionLimit x (pos 0) h
-      ∙ ap (λ y. placedAt y (t .brackets) +ℤ putAt y (floaters t) p) (zero-add x)
+      getD-tabled (λ y. placedAt t y +ℤ putAt y (floaters t) p) 0 positionLimit x (pos 0) h
+      ∙ ap (λ y. placedAt t y +ℤ putAt y (floaters t) p) (zero-add x)
 
   pub no-entry : (t : Line P) (p : List ℕ) (x : ℕ) → positionLimit ≤ x → getD (ledger t p) x (pos 0) ≡ pos 0
   unfolding ledger
   no-entry t p x h =
-      List·getD-eq-default (tabled (λ y. placedAt y (t .brackets) +ℤ putAt y (floaters t) p) 0 positionLimit) (pos 0)
-      (rw (length-tabled (λ y. placedAt y (t .brackets) +ℤ putAt y (floaters t) p) 0 positionLimit) h)
+      List·getD-eq-default (tabled (λ y. placedAt t y +ℤ putAt y (floaters t) p) 0 positionLimit) (pos 0)
+      (rw (length-tabled (λ y. placedAt t y +ℤ putAt y (floaters t) p) 0 positionLimit) h)
 
   allowed-fits : (t : Line P) (p : List ℕ) → allowed (permittedPositions t) p ≡ true → fits (permittedPositions t) p ≡ true
   unfolding allowed
@@ -211,8 +197,8 @@ module _ {P : Type 0} where
   pub ledger-sum : (t : Line P) → Fair t → (p : List ℕ) → allowed (permittedPositions t) p ≡ true → sum (ledger t p) ≡ sum (map placedMass (t .brackets)) +ℤ sum (map massOr0 (floaters t))
   unfolding ledger
   ledger-sum t f p e =
-      sum-both (λ x. placedAt x (t .brackets)) (λ x. putAt x (floaters t) p) 0 positionLimit
-      ∙ ap₂ _+ℤ_ (sum-placed (length (t .residues)) (f .few-residues) (t .brackets) (f .each-bracket))
+      sum-both (placedAt t) (λ x. putAt x (floaters t) p) 0 positionLimit
+      ∙ ap₂ _+ℤ_ (sum-placed t f)
       (sum-put (permitted t) (length (t .residues) + 2) (permitted-inside t) (omega (arith, f .few-residues)) (floaters t) p (allowed-fits t p e))
 
   pub past-zero : (t : Line P) → Fair t → (p : List ℕ) → allowed (permittedPositions t) p ≡ true → (x : ℕ) → length (t .residues) + 1 < x → getD (ledger t p) x (pos 0) ≡ pos 0
@@ -221,28 +207,28 @@ module _ {P : Type 0} where
       by : Dec (x < positionLimit) → getD (ledger t p) x (pos 0) ≡ pos 0
       by (yes q) =
           entry t p x q
-          ∙ ap₂ _+ℤ_ (placed-past (length (t .residues)) x h (t .brackets) (f .each-bracket))
+          ∙ ap₂ _+ℤ_ (placed-past t f x h)
           (put-past (permitted t) (length (t .residues) + 2) (permitted-inside t) x (omega arith) (floaters t) p (allowed-fits t p e))
       by (no q) = no-entry t p x (omega arith)
 
   pub own-entry : (t : Line P) → Fair t → (p : List ℕ) → allowed (permittedPositions t) p ≡ true → (i : ℕ) (d : Bracket P) → i < length (floaters t) → getD (ledger t p) (getD p i 0) (pos 0) ≡ massOr0 (getD (floaters t) i d)
   own-entry t f p e i d h =
       entry t p (getD p i 0) (omega (arith, permitted-inside t (getD (floaters t) i d) (getD p i 0) at, f .few-residues))
-      ∙ ap₂ _+ℤ_ (placed-zero (getD p i 0) (t .brackets) (permitted-free t (getD (floaters t) i d) (getD p i 0) at))
+      ∙ ap₂ _+ℤ_ (placed-zero t (getD p i 0) (permitted-free t (getD (floaters t) i d) (getD p i 0) at))
       (put-own (permitted t) (floaters t) p i d (allowed-fits t p e) (allowed-distinct t p e) h)
       ∙ +ℤ-idl (massOr0 (getD (floaters t) i d))
     where
       at : member (getD p i 0) (permitted t (getD (floaters t) i d)) ≡ true
       at = fits-at (permitted t) (floaters t) p i d (allowed-fits t p e) h
 
-  pub only-placed : (t : Line P) (p : List ℕ) (x : ℕ) → x < positionLimit → member x (take (length (floaters t)) p) ≡ false → getD (ledger t p) x (pos 0) ≡ placedAt x (t .brackets)
-  only-placed t p x h e = entry t p x h ∙ ap (λ z. placedAt x (t .brackets) +ℤ z) (put-zero x (floaters t) p e) ∙ +ℤ-idr (placedAt x (t .brackets))
+  pub only-placed : (t : Line P) (p : List ℕ) (x : ℕ) → x < positionLimit → member x (take (length (floaters t)) p) ≡ false → getD (ledger t p) x (pos 0) ≡ placedAt t x
+  only-placed t p x h e = entry t p x h ∙ ap (λ z. placedAt t x +ℤ z) (put-zero x (floaters t) p e) ∙ +ℤ-idr (placedAt t x)
 
-  pub untouched : (t : Line P) (p : List ℕ) (x : ℕ) → member x (struckOut (t .brackets)) ≡ false → member x (take (length (floaters t)) p) ≡ false → getD (ledger t p) x (pos 0) ≡ pos 0
+  pub untouched : (t : Line P) (p : List ℕ) (x : ℕ) → member x (struckOut t) ≡ false → member x (take (length (floaters t)) p) ≡ false → getD (ledger t p) x (pos 0) ≡ pos 0
   untouched t p x e f = by (decLt x positionLimit)
     where
       by : Dec (x < positionLimit) → getD (ledger t p) x (pos 0) ≡ pos 0
-      by (yes h) = only-placed t p x h f ∙ placed-zero x (t .brackets) e
+      by (yes h) = only-placed t p x h f ∙ placed-zero t x e
       by (no h) = no-entry t p x (omega arith)
 
   -- no two copies stand at one position

@@ -15,25 +15,24 @@ use Rattle.scope.specs.Kinds.{isUnknown}
 use Rattle.scope.specs.Lists.{flat}
 use Rattle.scope.specs.Modifications.{isModification, isLabelled, unlabelledCopies, copies}
 use Rattle.scope.specs.Positions.{floaters}
-use Rattle.scope.specs.Masses.{massOr0, sum, sumℕ, total}
-use Rattle.mass_laws.specs.Weights.{weight}
+use Rattle.scope.specs.Masses.{massOr0, times, sum, sumℕ, total}
+use Rattle.mass_laws.specs.Weights.{weight, total-is}
 use Rattle.basics.specs.Wholes.{abs-add, abs-mul}
 use Rattle.mass_laws.specs.Terms.{massLimit, totalLimit, FairBracket, Fair, Limited}
 use Rattle.basics.specs.Each.{Each}
 use Rattle.basics.specs.Choice.{branch-on}
 use Rattle.basics.specs.Kinds.{other-kind}
-use Rattle.mass_laws.specs.Splits.{total-is}
 
 -- how often a bracket's mass is in the total
-unfoldable pub times : {P : Type 0} → Bracket P → ℕ
-times k = cond (isModification k) (k .count) 0
+unfoldable pub counted : {P : Type 0} → Line P → Bracket P → ℕ
+counted t k = cond (isModification k) (times t k) 0
 
 -- at most once, or as often as it floats
-times-by : (a l : Bool) (k : Kind) (c : ℕ) → ((k ≡ Unknown → ⊥) → c ≡ 1) → (l ≡ true → c ≡ 1)
+counted-by : (a l : Bool) (k : Kind) (c : ℕ) → ((k ≡ Unknown → ⊥) → c ≡ 1) → (l ≡ true → c ≡ 1)
     → (cond a c 0 ≤ 1) ⊎ (cond a c 0 ≤ cond a (cond l 1 (unlabelledCopies k c)) 0)
-times-by false l k c s u = inl (omega arith)
-times-by true true k c s u = inl (omega (arith, u refl))
-times-by true false k c s u =
+counted-by false l k c s u = inl (omega arith)
+counted-by true true k c s u = inl (omega (arith, u refl))
+counted-by true false k c s u =
     branch-on (λ n. (c ≤ 1) ⊎ (c ≤ n)) (isUnknown k) (λ e. inr (le-refl c)) (λ e. inl (omega (arith, s (other-kind Unknown k e))))
 
 step : (b f c t f₁ : ℕ) → (c ≤ b) ⊎ (c + 1 ≤ b + f) → (t ≤ 1) ⊎ (t ≤ f₁) → (t + c ≤ suc b) ⊎ (t + c + 1 ≤ suc b + (f₁ + f))
@@ -49,15 +48,15 @@ weight-by true c m h =
 weight-by false c m h = omega arith
 
 module _ {P : Type 0} where
-  few-times : (n : ℕ) (k : Bracket P) → FairBracket n k → (times k ≤ 1) ⊎ (times k ≤ copies k)
-  unfolding times copies
-  few-times n k f = times-by (isModification k) (isLabelled k) (k .kind) (k .count) (f .single) (f .labelled-single)
+  few-counted : (t : Line P) (n : ℕ) (k : Bracket P) → FairBracket n k → (counted t k ≤ 1) ⊎ (counted t k ≤ copies k)
+  unfolding counted copies
+  few-counted t n k f = counted-by (isModification k) (isLabelled k) (k .kind) (k .count) (f .single) (f .labelled-single)
 
   -- so, of all brackets, at most as many as there are brackets; or one less, and the floating copies
-  many : (n : ℕ) (ks : List (Bracket P)) → Each (FairBracket n) ks → (sumℕ (map times ks) ≤ length ks) ⊎ (sumℕ (map times ks) + 1 ≤ length ks + sumℕ (map copies ks))
+  many : (t : Line P) (n : ℕ) (ks : List (Bracket P)) → Each (FairBracket n) ks → (sumℕ (map (counted t) ks) ≤ length ks) ⊎ (sumℕ (map (counted t) ks) + 1 ≤ length ks + sumℕ (map copies ks))
   unfolding sumℕ
-  many n [] f = inl (omega arith)
-  many n (k ∷ ks) f = step (length ks) (sumℕ (map copies ks)) (sumℕ (map times ks)) (times k) (copies k) (many n ks (f .1)) (few-times n k (f .0))
+  many t n [] f = inl (omega arith)
+  many t n (k ∷ ks) f = step (length ks) (sumℕ (map copies ks)) (sumℕ (map (counted t) ks)) (counted t k) (copies k) (many t n ks (f .1)) (few-counted t n k (f .0))
 
   floating : (ks : List (Bracket P)) → length (flat (λ k. replicate (copies k) k) ks) ≡ sumℕ (map copies ks)
   unfolding flat sumℕ
@@ -70,15 +69,15 @@ module _ {P : Type 0} where
   unfolding floaters
   floating-is t = floating (t .brackets)
 
-  weight-size : (k : Bracket P) → natAbs (massOr0 k) < massLimit → natAbs (weight k) ≤ times k * (massLimit - 1)
-  unfolding weight times
-  weight-size k h = weight-by (isModification k) (k .count) (massOr0 k) (omega arith)
+  weight-size : (t : Line P) (k : Bracket P) → natAbs (massOr0 k) < massLimit → natAbs (weight t k) ≤ counted t k * (massLimit - 1)
+  unfolding weight counted
+  weight-size t k h = weight-by (isModification k) (times t k) (massOr0 k) (omega arith)
 
-  sum-size : (ks : List (Bracket P)) → Each (λ k. natAbs (massOr0 k) < massLimit) ks → natAbs (sum (map weight ks)) ≤ sumℕ (map times ks) * (massLimit - 1)
+  sum-size : (t : Line P) (ks : List (Bracket P)) → Each (λ k. natAbs (massOr0 k) < massLimit) ks → natAbs (sum (map (weight t) ks)) ≤ sumℕ (map (counted t) ks) * (massLimit - 1)
   unfolding sum sumℕ
-  sum-size [] f = omega arith
-  sum-size (k ∷ ks) f = omega (arith, abs-add (weight k) (sum (map weight ks)), weight-size k (f .0), sum-size ks (f .1))
+  sum-size t [] f = omega arith
+  sum-size t (k ∷ ks) f = omega (arith, abs-add (weight t k) (sum (map (weight t) ks)), weight-size t k (f .0), sum-size t ks (f .1))
 
   -- at most as many masses as brackets, or one less and as many more as copies float
   pub total-size : (t : Line P) → Fair t → Limited t → natAbs (total t) < totalLimit
-  total-size t f l = rw (total-is t) (⊎-elim (λ h. omega (arith, sum-size (t .brackets) (l .small), l .few-brackets)) (λ h. omega (arith, sum-size (t .brackets) (l .small), l .few-brackets, l .few-copies, floating-is t)) (many (length (t .residues)) (t .brackets) (f .each-bracket)))
+  total-size t f l = rw (total-is t) (⊎-elim (λ h. omega (arith, sum-size t (t .brackets) (l .small), l .few-brackets)) (λ h. omega (arith, sum-size t (t .brackets) (l .small), l .few-brackets, l .few-copies, floating-is t)) (many t (length (t .residues)) (t .brackets) (f .each-bracket)))

@@ -13,7 +13,7 @@ use Rattle.scope.specs.Modifications.{isModification, isLabelled, unlabelledCop
 use Rattle.scope.specs.Kinds.{isUnknown, isLabile, isOnRange, onOnePosition}
 use Rattle.scope.specs.Positions.{isPlaced, floaters}
 use Rattle.scope.specs.Masses.{massOr0, sum, total, labileMass}
-use Rattle.mass_laws.specs.Weights.{weight, placedMass}
+use Rattle.mass_laws.specs.Weights.{weight, total-is, placedMass}
 use Rattle.mass_laws.specs.Terms.{FairBracket, Fair}
 use Rattle.basics.specs.Each.{Each}
 use Rattle.basics.specs.Choice.{by-test}
@@ -69,21 +69,17 @@ split-by true true k c m s u v = rw (not-kind Labile k (λ e. true≢false (v e)
 split-by true false k c m s u v = unlabelled-by k c m s
 
 module _ {P : Type 0} where
-  split : (n : ℕ) (k : Bracket P) → FairBracket n k → weight k ≡ placedMass k +ℤ (pos (copies k) *ℤ massOr0 k +ℤ labileOf k)
+  split : (t : Line P) (n : ℕ) (k : Bracket P) → FairBracket n k → weight t k ≡ placedMass k +ℤ (pos (copies k) *ℤ massOr0 k +ℤ labileOf k)
   unfolding weight placedMass isPlaced copies labileOf
-  split n k f = split-by (isModification k) (isLabelled k) (k .kind) (k .count) (massOr0 k) (f .single) (f .labelled-single) (f .labile-unlabelled)
+  split t n k f = split-by (isModification k) (isLabelled k) (k .kind) (k .count) (massOr0 k) (f .single) (f .labelled-single) (f .labile-unlabelled)
 
   -- ---- over all brackets
-  splits : (n : ℕ) (ks : List (Bracket P)) → Each (FairBracket n) ks → sum (map weight ks) ≡ sum (map placedMass ks) +ℤ (sum (map (λ k. pos (copies k) *ℤ massOr0 k) ks) +ℤ sum (map labileOf ks))
+  splits : (t : Line P) (n : ℕ) (ks : List (Bracket P)) → Each (FairBracket n) ks → sum (map (weight t) ks) ≡ sum (map placedMass ks) +ℤ (sum (map (λ k. pos (copies k) *ℤ massOr0 k) ks) +ℤ sum (map labileOf ks))
   unfolding sum
-  splits n [] f = refl
-  splits n (k ∷ ks) f =
-      ap₂ _+ℤ_ (split n k (f .0)) (splits n ks (f .1))
+  splits t n [] f = refl
+  splits t n (k ∷ ks) f =
+      ap₂ _+ℤ_ (split t n k (f .0)) (splits t n ks (f .1))
       ∙ six (placedMass k) (pos (copies k) *ℤ massOr0 k) (labileOf k) (sum (map placedMass ks)) (sum (map (λ b. pos (copies b) *ℤ massOr0 b) ks)) (sum (map labileOf ks))
-
-  pub total-is : (t : Line P) → total t ≡ sum (map weight (t .brackets))
-  unfolding total weight
-  total-is t = sum-keep isModification (λ k. pos (k .count) *ℤ massOr0 k) (t .brackets)
 
   labile-is : (t : Line P) → labileMass t ≡ sum (map labileOf (t .brackets))
   unfolding labileMass labileOf
@@ -100,5 +96,5 @@ module _ {P : Type 0} where
   total-splits t f =
       +ℤ-assoc (sum (map placedMass (t .brackets))) (sum (map massOr0 (floaters t))) (labileMass t)
       ∙ ap (λ z. sum (map placedMass (t .brackets)) +ℤ z) (ap₂ _+ℤ_ (floating-is t) (labile-is t))
-      ∙ sym (splits (length (t .residues)) (t .brackets) (f .each-bracket))
+      ∙ sym (splits t (length (t .residues)) (t .brackets) (f .each-bracket))
       ∙ sym (total-is t)

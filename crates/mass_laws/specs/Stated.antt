@@ -12,7 +12,7 @@ use Rattle.basics.specs.Tests.{and-left, and-right}
 use Rattle.scope.specs.Line.{Bracket, Line}
 use Rattle.scope.specs.Lists.{given, there?, all, keep}
 use Rattle.scope.specs.Modifications.{isModification}
-use Rattle.scope.specs.Masses.{massOf, modifications, sumℕ, lacking}
+use Rattle.scope.specs.Masses.{massOf, modifications, times, sumℕ, lacking}
 use Rattle.basics.specs.Each.{Each}
 use Rattle.mass_laws.specs.Terms.{FairBracket, Fair}
 
@@ -28,32 +28,32 @@ module _ {P : Type 0} where
   abbrev hasMass : Bracket P → Bool
   hasMass k = there? (massOf k)
 
-  abbrev lack : Bracket P → ℕ
-  lack k = given (massOf k) (λ m. 0) (k .count)
+  abbrev lack : Line P → Bracket P → ℕ
+  lack t k = given (massOf k) (λ m. 0) (times t k)
 
   -- a bracket more, and whether it is a modification
-  more-stated : (t : Bool) (k : Bracket P) (l : List (Bracket P)) → 0 < k .count → (sumℕ (map lack l) ≡ 0 → all hasMass l ≡ true)
-      → sumℕ (map lack (cond t (k ∷ []) [] ++ l)) ≡ 0 → all hasMass (cond t (k ∷ []) [] ++ l) ≡ true
+  more-stated : (t : Line P) (a : Bool) (k : Bracket P) (l : List (Bracket P)) → 0 < times t k → (sumℕ (map (lack t) l) ≡ 0 → all hasMass l ≡ true)
+      → sumℕ (map (lack t) (cond a (k ∷ []) [] ++ l)) ≡ 0 → all hasMass (cond a (k ∷ []) [] ++ l) ≡ true
   unfolding sumℕ all
-  more-stated false k l h known e = known e
-  more-stated true k l h known e = rw (lacks-none (massOf k) (k .count) h (omega (arith, e))) (known (omega (arith, e)))
+  more-stated t false k l h known e = known e
+  more-stated t true k l h known e = rw (lacks-none (massOf k) (times t k) h (omega (arith, e))) (known (omega (arith, e)))
 
-  more-lacking : (t : Bool) (k : Bracket P) (l : List (Bracket P)) → (all hasMass l ≡ true → sumℕ (map lack l) ≡ 0)
-      → all hasMass (cond t (k ∷ []) [] ++ l) ≡ true → sumℕ (map lack (cond t (k ∷ []) [] ++ l)) ≡ 0
+  more-lacking : (t : Line P) (a : Bool) (k : Bracket P) (l : List (Bracket P)) → (all hasMass l ≡ true → sumℕ (map (lack t) l) ≡ 0)
+      → all hasMass (cond a (k ∷ []) [] ++ l) ≡ true → sumℕ (map (lack t) (cond a (k ∷ []) [] ++ l)) ≡ 0
   unfolding sumℕ all
-  more-lacking false k l known e = known e
-  more-lacking true k l known e = omega (arith, has-one (massOf k) (k .count) (and-left (hasMass k) (all hasMass l) e), known (and-right (hasMass k) (all hasMass l) e))
+  more-lacking t false k l known e = known e
+  more-lacking t true k l known e = omega (arith, has-one (massOf k) (times t k) (and-left (hasMass k) (all hasMass l) e), known (and-right (hasMass k) (all hasMass l) e))
 
-  stated : (n : ℕ) (ks : List (Bracket P)) → Each (FairBracket n) ks → sumℕ (map lack (keep isModification ks)) ≡ 0 → all hasMass (keep isModification ks) ≡ true
+  stated : (t : Line P) (n : ℕ) (ks : List (Bracket P)) → Each (FairBracket n) ks → sumℕ (map (lack t) (keep isModification ks)) ≡ 0 → all hasMass (keep isModification ks) ≡ true
   unfolding keep all
-  stated n [] f e = refl
-  stated n (k ∷ ks) f e = more-stated (isModification k) k (keep isModification ks) (f .0 .some-count) (stated n ks (f .1)) e
+  stated t n [] f e = refl
+  stated t n (k ∷ ks) f e = more-stated t (isModification k) k (keep isModification ks) (f .0 .some-count) (stated t n ks (f .1)) e
 
-  lacking-none : (ks : List (Bracket P)) → all hasMass (keep isModification ks) ≡ true → sumℕ (map lack (keep isModification ks)) ≡ 0
+  lacking-none : (t : Line P) (ks : List (Bracket P)) → all hasMass (keep isModification ks) ≡ true → sumℕ (map (lack t) (keep isModification ks)) ≡ 0
   unfolding keep sumℕ
-  lacking-none [] e = refl
-  lacking-none (k ∷ ks) e = more-lacking (isModification k) k (keep isModification ks) (lacking-none ks) e
+  lacking-none t [] e = refl
+  lacking-none t (k ∷ ks) e = more-lacking t (isModification k) k (keep isModification ks) (lacking-none t ks) e
 
   pub all-stated : (t : Line P) → Fair t → lacking t ≡ 0 ↔ all (λ k. there? (massOf k)) (modifications t) ≡ true
   unfolding lacking
-  all-stated t f = (stated (length (t .residues)) (t .brackets) (f .each-bracket), lacking-none (t .brackets))
+  all-stated t f = (stated t (length (t .residues)) (t .brackets) (f .each-bracket), lacking-none t (t .brackets))

@@ -1,4 +1,4 @@
--- Sums over ℤ: of joined lists, over positions, of what a test keeps, and of copies; a mass that is booked at one position is summed once.
+-- Sums: of joined lists, over positions, of what a test keeps, and of copies; a mass that is booked at one position is summed once.
 use mathlib.Core.Path.{_≡_, refl, sym, ap, ap₂, _∙_}
 use mathlib.Core.Bool.{Bool, true, false, cond}
 use mathlib.Core.List.{List, [], _∷_, _++_, map}
@@ -10,7 +10,7 @@ use lib.Dec.{eqb}
 use lib.IntN.{ℤ, pos, _+ℤ_, _*ℤ_, +ℤ-idl, +ℤ-idr, +ℤ-assoc, +ℤ-comm, zero-*ℤ, sucℤ-*ℤ}
 use lib.ListN.{replicate}
 use Rattle.scope.specs.Lists.{keep, flat, tabled}
-use Rattle.scope.specs.Masses.{sum}
+use Rattle.scope.specs.Masses.{sum, sumℕ}
 
 +ℤ-left-comm : (a b c : ℤ) → a +ℤ (b +ℤ c) ≡ b +ℤ (a +ℤ c)
 +ℤ-left-comm a b c = sym (+ℤ-assoc a b c) ∙ ap (λ x. x +ℤ c) (+ℤ-comm a b) ∙ +ℤ-assoc b a c
@@ -81,6 +81,15 @@ sum-keep g f (x ∷ l) = by (g x) (sum-keep g f l)
     by : (t : Bool) → sum (map f (keep g l)) ≡ sum (map (λ y. cond (g y) (f y) (pos 0)) l) → sum (map f (cond t (x ∷ []) [] ++ keep g l)) ≡ cond t (f x) (pos 0) +ℤ sum (map (λ y. cond (g y) (f y) (pos 0)) l)
     by true rest = ap (λ z. f x +ℤ z) rest
     by false rest = rest ∙ sym (+ℤ-idl (sum (map (λ y. cond (g y) (f y) (pos 0)) l)))
+
+pub sumℕ-keep : {A : Type 0} (g : A → Bool) (f : A → ℕ) (l : List A) → sumℕ (map f (keep g l)) ≡ sumℕ (map (λ x. cond (g x) (f x) 0) l)
+unfolding sumℕ keep
+sumℕ-keep g f [] = refl
+sumℕ-keep g f (x ∷ l) = by (g x) (sumℕ-keep g f l)
+  where
+    by : (t : Bool) → sumℕ (map f (keep g l)) ≡ sumℕ (map (λ y. cond (g y) (f y) 0) l) → sumℕ (map f (cond t (x ∷ []) [] ++ keep g l)) ≡ cond t (f x) 0 + sumℕ (map (λ y. cond (g y) (f y) 0) l)
+    by true rest = ap (λ n. f x + n) rest
+    by false rest = omega (arith, rest)
 
 -- copies of each
 pub sum-flat : {A : Type 0} (c : A → ℕ) (f : A → ℤ) (l : List A) → sum (map f (flat (λ x. replicate (c x) x) l)) ≡ sum (map (λ x. pos (c x) *ℤ f x) l)

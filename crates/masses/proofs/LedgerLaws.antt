@@ -2,7 +2,7 @@
 -- Assumes nothing.
 use mathlib.Core.Path.{_≡_, refl, sym, ap, _∙_, subst}
 use mathlib.Core.Bool.{Bool, true, false, cond}
-use mathlib.Core.List.{List, [], _∷_, _++_}
+use mathlib.Core.List.{List, [], _∷_, _++_, map}
 use Prim.Native.Nat.{ℕ, suc, _+_, _-_, _^_, _≤_, _<_, min}
 use native.Mathlib.Nat.{zero-add}
 use native.Mathlib.Numerals.{add-one}
@@ -19,16 +19,17 @@ use Rattle.scope.specs.declared.grammar.Kind.{Kind}
 use Rattle.scope.specs.Kinds.{isUnknown, isOnRange}
 use Rattle.scope.specs.Limits.{bracketLimit, positionLimit, countLimit, copyLimit}
 use Rattle.scope.specs.Line.{Bracket}
-use Rattle.scope.specs.Lists.{keep, flat, tabled}
+use Rattle.scope.specs.Lists.{flat, tabled}
 use Rattle.scope.specs.Modifications.{copies, isModification, isLabelled, unlabelledCopies}
 use Rattle.scope.specs.Positions.{isPlaced, floaters}
+use Rattle.scope.specs.Tables.{Tables}
 use Rattle.scope.specs.Layout.{bytesSize, bracketIn, tablesIn, bracketsField, firstField}
 use Rattle.scope.specs.Masses.{massOr0, sum, placedAt, putAt, ledger}
 use Rattle.areas.specs.Bounds.{Small, Bounds}
 use Rattle.basics.specs.Tabled.{tabled-at, tabled-end, tabled-all, length-tabled, getD-tabled}
 use Rattle.masses.specs.Reach.{Reach}
 use Rattle.mass_laws.specs.Terms.{massLimit}
-use Rattle.mass_laws.specs.Weights.{placedMass, placed-cons}
+use Rattle.mass_laws.specs.Weights.{bookedAt, placed-is, placedMass, booked-share}
 use Rattle.masses.specs.Booking.{Held, Placed, CanBook, booked, CanPut, CanFloat, Put}
 use Rattle.masses.proofs.Whole.{back}
 use Rattle.basics.specs.Wholes.{abs-add}
@@ -94,13 +95,17 @@ pub no-placed-mass : (b : Bracket (Unit {0})) {t : Bool} → t ≡ isPlaced b �
 unfolding placedMass
 no-placed-mass b e y = ap (λ t. cond t (massOr0 b) (pos 0)) (sym y ∙ e)
 
+-- what brackets add to the entry of position x
+abbrev bookings : Tables → ℕ → List (Bracket (Unit {0})) → ℤ
+bookings t x ks = sum (map (bookedAt t x) ks)
+
 -- those of the brackets before k are booked
 pub record Placing (bs : List ℕ) (ns : List ℤ) (n k : ℕ) (l : List ℤ) : Type 0 where
   pub bounds : Bounds bs ns
   pub many : n ≡ bracketsField bs
   pub inside : k ≤ n
   pub held : Held l k
-  pub entry : (x : ℕ) → x < positionLimit → placedAt x (tablesIn bs ns .brackets) ≡ getD l x (pos 0) +ℤ placedAt x (tabled (bracketIn bs ns) k (n - k))
+  pub entry : (x : ℕ) → x < positionLimit → placedAt (tablesIn bs ns) x ≡ getD l x (pos 0) +ℤ bookings (tablesIn bs ns) x (tabled (bracketIn bs ns) k (n - k))
 
 pub placing-start : {bs : List ℕ} {ns : List ℤ} {n : ℕ} → Bounds bs ns → n ≡ bracketsField bs → Placing bs ns n 0 (replicate positionLimit (pos 0))
 unfolding tablesIn
@@ -111,9 +116,9 @@ placing-start {bs} {ns} {n} b e =
       inside = omega arith;
       held = record { whole = refl; small = λ x h. rw (getD-replicate positionLimit x (pos 0) (pos 0) h) (omega arith) };
       entry =
-          λ x h. ap (λ m. placedAt x (tabled (bracketIn bs ns) 0 m)) (sym e) ∙ ap (placedAt x) (tabled-all (bracketIn bs ns) n)
-          ∙ sym (+ℤ-idl (placedAt x (tabled (bracketIn bs ns) 0 (n - 0))))
-          ∙ ap (λ z. z +ℤ placedAt x (tabled (bracketIn bs ns) 0 (n - 0))) (sym (getD-replicate positionLimit x (pos 0) (pos 0) h));
+          λ x h. placed-is (tablesIn bs ns) x ∙ ap (λ m. bookings (tablesIn bs ns) x (tabled (bracketIn bs ns) 0 m)) (sym e) ∙ ap (bookings (tablesIn bs ns) x) (tabled-all (bracketIn bs ns) n)
+          ∙ sym (+ℤ-idl (bookings (tablesIn bs ns) x (tabled (bracketIn bs ns) 0 (n - 0))))
+          ∙ ap (λ z. z +ℤ bookings (tablesIn bs ns) x (tabled (bracketIn bs ns) 0 (n - 0))) (sym (getD-replicate positionLimit x (pos 0) (pos 0) h));
     }
 
 module _ {bs : List ℕ} {ns : List ℤ} {n k : ℕ} {l : List ℤ} (i : Placing bs ns n k l) where
@@ -130,6 +135,7 @@ module _ {bs : List ℕ} {ns : List ℤ} {n k : ℕ} {l : List ℤ} (i : Placing
   placing-few = omega (arith, i .many, i .bounds .few-brackets)
 
   pub placing-next : {y : ℕ} {m v : ℤ} → k < n → y ≡ bracketIn bs ns k .first → y < positionLimit → m ≡ placedMass (bracketIn bs ns k) → v ≡ getD l y (pos 0) +ℤ m → Placing bs ns n (k + 1) (set l y v)
+  unfolding sum
   placing-next {y} {m} {v} h e r f g =
       record {
         bounds = i .bounds;
@@ -140,11 +146,12 @@ module _ {bs : List ℕ} {ns : List ℤ} {n k : ℕ} {l : List ℤ} (i : Placing
             λ x q.
             i .entry x q
             ∙ ap (λ z. getD l x (pos 0) +ℤ z)
-            (ap (placedAt x) (tabled-at (bracketIn bs ns) k n h) ∙ placed-cons x (bracketIn bs ns k) (tabled (bracketIn bs ns) (k + 1) (n - (k + 1)))
-            ∙ ap (λ z. cond (eqb z x) (placedMass (bracketIn bs ns k)) (pos 0) +ℤ placedAt x (tabled (bracketIn bs ns) (k + 1) (n - (k + 1)))) (sym e)
-            ∙ ap (λ z. cond (eqb y x) z (pos 0) +ℤ placedAt x (tabled (bracketIn bs ns) (k + 1) (n - (k + 1)))) (sym f))
-            ∙ sym (+ℤ-assoc (getD l x (pos 0)) (cond (eqb y x) m (pos 0)) (placedAt x (tabled (bracketIn bs ns) (k + 1) (n - (k + 1)))))
-            ∙ ap (λ z. z +ℤ placedAt x (tabled (bracketIn bs ns) (k + 1) (n - (k + 1)))) (sym (booked-at (i .held) y r m g x));
+            (ap (bookings (tablesIn bs ns) x) (tabled-at (bracketIn bs ns) k n h)
+            ∙ ap (λ z. z +ℤ bookings (tablesIn bs ns) x (tabled (bracketIn bs ns) (k + 1) (n - (k + 1)))) (booked-share (tablesIn bs ns) x (bracketIn bs ns k))
+            ∙ ap (λ z. cond (eqb z x) (placedMass (bracketIn bs ns k)) (pos 0) +ℤ bookings (tablesIn bs ns) x (tabled (bracketIn bs ns) (k + 1) (n - (k + 1)))) (sym e)
+            ∙ ap (λ z. cond (eqb y x) z (pos 0) +ℤ bookings (tablesIn bs ns) x (tabled (bracketIn bs ns) (k + 1) (n - (k + 1)))) (sym f))
+            ∙ sym (+ℤ-assoc (getD l x (pos 0)) (cond (eqb y x) m (pos 0)) (bookings (tablesIn bs ns) x (tabled (bracketIn bs ns) (k + 1) (n - (k + 1)))))
+            ∙ ap (λ z. z +ℤ bookings (tablesIn bs ns) x (tabled (bracketIn bs ns) (k + 1) (n - (k + 1)))) (sym (booked-at (i .held) y r m g x));
       }
 
   -- the same, as the machine books it
@@ -165,7 +172,7 @@ module _ {bs : List ℕ} {ns : List ℤ} {n k : ℕ} {l : List ℤ} (i : Placing
     placing-again e g = placing-next h e r f (gives-entry (i .held) y r m few-so-far small-placed mass-back g)
 
   pub placing-end : n ≤ k → Placed bs ns l
-  unfolding placedAt sum keep
+  unfolding sum
   placing-end h =
       record {
         held =
@@ -173,7 +180,7 @@ module _ {bs : List ℕ} {ns : List ℤ} {n k : ℕ} {l : List ℤ} (i : Placing
               whole = i .held .whole;
               small = λ x q. omega (arith, i .held .small x q, i .inside, placing-few);
             };
-        entry = λ x q. sym (i .entry x q ∙ ap (λ z. getD l x (pos 0) +ℤ placedAt x z) (tabled-end (bracketIn bs ns) k n h) ∙ +ℤ-idr (getD l x (pos 0)));
+        entry = λ x q. sym (i .entry x q ∙ ap (λ z. getD l x (pos 0) +ℤ bookings (tablesIn bs ns) x z) (tabled-end (bracketIn bs ns) k n h) ∙ +ℤ-idr (getD l x (pos 0)));
       }
 
 -- ---- the floating copies
@@ -364,7 +371,7 @@ pub record Floating (bs : List ℕ) (ns : List ℤ) (at : List ℕ) (n k : ℕ) 
   pub few : i ≤ copyLimit
   pub entry :
       (x : ℕ) → x < positionLimit
-      → placedAt x (tablesIn bs ns .brackets) +ℤ putAt x (floaters (tablesIn bs ns)) at ≡ getD l x (pos 0) +ℤ putAt x (floating (tabled (bracketIn bs ns) k (n - k))) (drop i at)
+      → placedAt (tablesIn bs ns) x +ℤ putAt x (floaters (tablesIn bs ns)) at ≡ getD l x (pos 0) +ℤ putAt x (floating (tabled (bracketIn bs ns) k (n - k))) (drop i at)
 
 pub floating-start : {bs : List ℕ} {ns : List ℤ} {at : List ℕ} {n : ℕ} {l : List ℤ} → Bounds bs ns → Placed bs ns l → n ≡ bracketsField bs → Floating bs ns at n 0 l 0
 unfolding tablesIn floaters
@@ -401,7 +408,7 @@ module _ {bs : List ℕ} {ns : List ℤ} {at : List ℕ} {n k : ℕ} {l : List �
             ∙ p .entry (bracketIn bs ns k) refl (floating (tabled (bracketIn bs ns) (k + 1) (n - (k + 1)))) x q;
       }
 
-  entry-is : n ≤ k → (x : ℕ) → x < positionLimit → getD l x (pos 0) ≡ placedAt x (tablesIn bs ns .brackets) +ℤ putAt x (floaters (tablesIn bs ns)) at
+  entry-is : n ≤ k → (x : ℕ) → x < positionLimit → getD l x (pos 0) ≡ placedAt (tablesIn bs ns) x +ℤ putAt x (floaters (tablesIn bs ns)) at
   unfolding flat
   entry-is h x q =
       sym
@@ -416,4 +423,4 @@ module _ {bs : List ℕ} {ns : List ℤ} {at : List ℕ} {n k : ℕ} {l : List �
       (λ x q. let r : x < positionLimit = rw (s .held .whole) at q in entry-is h x r ∙ sym (getD-tabled sums 0 positionLimit x (pos 0) r ∙ ap sums (zero-add x)))
     where
       sums : ℕ → ℤ
-      sums x = placedAt x (tablesIn bs ns .brackets) +ℤ putAt x (floaters (tablesIn bs ns)) at
+      sums x = placedAt (tablesIn bs ns) x +ℤ putAt x (floaters (tablesIn bs ns)) at

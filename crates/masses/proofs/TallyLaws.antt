@@ -1,8 +1,8 @@
 -- Laws of the total: every mass is small, and a loop over the brackets adds up what the definition does. Assumes nothing.
-use mathlib.Core.Path.{_≡_, refl, sym, ap, _∙_, subst}
+use mathlib.Core.Path.{_≡_, sym, ap, _∙_, subst}
 use mathlib.Core.Bool.{Bool, true, false, cond}
 use mathlib.Core.Option.{Option, none, some}
-use mathlib.Core.List.{List, [], _∷_, _++_, map}
+use mathlib.Core.List.{List, map}
 use Prim.Native.Nat.{ℕ, _+_, _-_, _*_, _^_, _≤_, _<_}
 use native.Mathlib.Nat.{add-zero, add-assoc, mul-le-mul}
 use native.Mathlib.Omega.{arith}
@@ -12,10 +12,11 @@ use mir.Syntax.{w64}
 use mir.Val.{toZ, ofZ}
 use Rattle.scope.specs.Limits.{bracketLimit, countLimit}
 use Rattle.scope.specs.Line.{Bracket}
-use Rattle.scope.specs.Lists.{given, keep, tabled}
+use Rattle.scope.specs.Lists.{given, tabled}
 use Rattle.scope.specs.Modifications.{isModification}
+use Rattle.scope.specs.Tables.{Tables}
 use Rattle.scope.specs.Layout.{bracketIn, tablesIn, bracketsField}
-use Rattle.scope.specs.Masses.{massOf, massOr0, sum, sumℕ, total, lacking}
+use Rattle.scope.specs.Masses.{massOf, massOr0, times, sum, sumℕ, total, lacking}
 use Rattle.areas.specs.Bounds.{Small, Bounds}
 use Rattle.basics.specs.Tabled.{tabled-at, tabled-end, tabled-all}
 use Rattle.masses.specs.declared.Mass.{Mass}
@@ -24,7 +25,7 @@ use Rattle.masses.specs.declared.Weight.the-variants.{Total, Lacks}
 use Rattle.masses.specs.Reach.{Reach}
 use Rattle.masses.specs.Weights.{saysMass, weightOf}
 use Rattle.mass_laws.specs.Terms.{massLimit}
-use Rattle.mass_laws.specs.Weights.{weight, lack}
+use Rattle.mass_laws.specs.Weights.{weight, total-is, lack, lacking-is}
 use Rattle.masses.specs.Tallies.{Before, CanTally, Tallied}
 use Rattle.masses.proofs.Whole.{back}
 use Rattle.basics.specs.Wholes.{abs-add, abs-mul}
@@ -46,7 +47,7 @@ module _ {bs : List ℕ} {ns : List ℤ} {k : ℕ} (r : Reach bs ns k) where
       omega (arith, abs-mul (bracketIn bs ns k .count) (massOr0 (bracketIn bs ns k)), mul-le-mul few small)
   weight-by false = omega arith
 
-  pub weight-small : natAbs (weight (bracketIn bs ns k)) ≤ countLimit * massLimit
+  pub weight-small : natAbs (weight (tablesIn bs ns) (bracketIn bs ns k)) ≤ countLimit * massLimit
   unfolding weight
   weight-small = weight-by (isModification (bracketIn bs ns k))
 
@@ -55,43 +56,43 @@ module _ {bs : List ℕ} {ns : List ℤ} {k : ℕ} (r : Reach bs ns k) where
   lack-by true none = few-copies
   lack-by false o = omega arith
 
-  pub lack-few : lack (bracketIn bs ns k) ≤ countLimit
+  pub lack-few : lack (tablesIn bs ns) (bracketIn bs ns k) ≤ countLimit
   unfolding lack
   lack-few = lack-by (isModification (bracketIn bs ns k)) (massOf (bracketIn bs ns k))
 
 -- ---- one bracket more
-module _ (b : Bracket (Unit {0})) {is : Bool} (e : is ≡ isModification b) where
-  pub tallied-mass : {n lacks : ℕ} {o : Mass} {m p sum sum′ : ℤ} → is ≡ true → n ≡ b .count → saysMass o ≡ massOf b → o ≡ Is m → p ≡ pos n *ℤ m → sum′ ≡ sum +ℤ p → Tallied b sum lacks sum′ lacks
+module _ (t : Tables) (b : Bracket (Unit {0})) {is : Bool} (e : is ≡ isModification b) where
+  pub tallied-mass : {n lacks : ℕ} {o : Mass} {m p sum sum′ : ℤ} → is ≡ true → n ≡ times t b → saysMass o ≡ massOf b → o ≡ Is m → p ≡ pos n *ℤ m → sum′ ≡ sum +ℤ p → Tallied t b sum lacks sum′ lacks
   unfolding weight lack
-  tallied-mass {n} {lacks} {o} {m} {p} {sum} t c s i f g =
+  tallied-mass {n} {lacks} {o} {m} {p} {sum} y c s i f g =
       record {
         sum-is =
-            g ∙ ap (λ x. sum +ℤ x) (f ∙ ap (λ x. pos x *ℤ m) c ∙ ap (λ x. pos (b .count) *ℤ x) (is-mass b s i) ∙ ap (λ x. cond x (pos (b .count) *ℤ massOr0 b) (pos 0)) (sym t ∙ e));
+            g ∙ ap (λ x. sum +ℤ x) (f ∙ ap (λ x. pos x *ℤ m) c ∙ ap (λ x. pos (times t b) *ℤ x) (is-mass b s i) ∙ ap (λ x. cond x (pos (times t b) *ℤ massOr0 b) (pos 0)) (sym y ∙ e));
         lacks-is =
             sym (add-zero lacks)
-            ∙ ap (λ x. lacks + x) (ap (λ x. given x (λ y. 0) (b .count)) (sym (ap saysMass i) ∙ s) ∙ ap (λ x. cond x (given (massOf b) (λ y. 0) (b .count)) 0) (sym t ∙ e));
+            ∙ ap (λ x. lacks + x) (ap (λ x. given x (λ m. 0) (times t b)) (sym (ap saysMass i) ∙ s) ∙ ap (λ x. cond x (given (massOf b) (λ m. 0) (times t b)) 0) (sym y ∙ e));
       }
 
-  pub tallied-lack : {n lacks : ℕ} {o : Mass} {sum : ℤ} → is ≡ true → n ≡ b .count → saysMass o ≡ massOf b → o ≡ Lacking → Tallied b sum lacks sum (lacks + n)
+  pub tallied-lack : {n lacks : ℕ} {o : Mass} {sum : ℤ} → is ≡ true → n ≡ times t b → saysMass o ≡ massOf b → o ≡ Lacking → Tallied t b sum lacks sum (lacks + n)
   unfolding weight lack
-  tallied-lack {n} {lacks} {o} {sum} t c s i =
+  tallied-lack {n} {lacks} {o} {sum} y c s i =
       record {
         sum-is =
             sym (+ℤ-idr sum)
-            ∙ ap (λ x. sum +ℤ x) (times-none (b .count) ∙ ap (λ x. pos (b .count) *ℤ given x (λ y. y) (pos 0)) (sym (ap saysMass i) ∙ s) ∙ ap (λ x. cond x (pos (b .count) *ℤ massOr0 b) (pos 0)) (sym t ∙ e));
+            ∙ ap (λ x. sum +ℤ x) (times-none (times t b) ∙ ap (λ x. pos (times t b) *ℤ given x (λ m. m) (pos 0)) (sym (ap saysMass i) ∙ s) ∙ ap (λ x. cond x (pos (times t b) *ℤ massOr0 b) (pos 0)) (sym y ∙ e));
         lacks-is =
-            ap (λ x. lacks + x) (c ∙ ap (λ x. given x (λ y. 0) (b .count)) (sym (ap saysMass i) ∙ s) ∙ ap (λ x. cond x (given (massOf b) (λ y. 0) (b .count)) 0) (sym t ∙ e));
+            ap (λ x. lacks + x) (c ∙ ap (λ x. given x (λ m. 0) (times t b)) (sym (ap saysMass i) ∙ s) ∙ ap (λ x. cond x (given (massOf b) (λ m. 0) (times t b)) 0) (sym y ∙ e));
       }
     where
       times-none : (n : ℕ) → pos 0 ≡ pos n *ℤ pos 0
       times-none n = ap pos (omega arith)
 
-  pub tallied-none : {lacks : ℕ} {sum : ℤ} → is ≡ false → Tallied b sum lacks sum lacks
+  pub tallied-none : {lacks : ℕ} {sum : ℤ} → is ≡ false → Tallied t b sum lacks sum lacks
   unfolding weight lack
-  tallied-none {lacks} {sum} t =
+  tallied-none {lacks} {sum} y =
       record {
-        sum-is = sym (+ℤ-idr sum) ∙ ap (λ x. sum +ℤ cond x (pos (b .count) *ℤ massOr0 b) (pos 0)) (sym t ∙ e);
-        lacks-is = sym (add-zero lacks) ∙ ap (λ x. lacks + cond x (given (massOf b) (λ y. 0) (b .count)) 0) (sym t ∙ e);
+        sum-is = sym (+ℤ-idr sum) ∙ ap (λ x. sum +ℤ cond x (pos (times t b) *ℤ massOr0 b) (pos 0)) (sym y ∙ e);
+        lacks-is = sym (add-zero lacks) ∙ ap (λ x. lacks + cond x (given (massOf b) (λ m. 0) (times t b)) 0) (sym y ∙ e);
       }
 
 -- the same, as the machine adds it: what it reads back from the bits of the sum, of the mass and of their product
@@ -125,50 +126,34 @@ module _ {bs : List ℕ} {ns : List ℤ} {k w : ℕ} {s : ℤ} (t : CanTally bs 
   pub asks-add : {p : ℤ} → p ≡ pos n *ℤ m′ → natAbs (toZ w64 (ofZ w64 s)) + natAbs (toZ w64 (ofZ w64 p)) < 2 ^ 63
   asks-add {p} e = rw (sum-back, product-back e) (omega (arith, few-before, t .before .small, product-small))
 
-  pub tallied-by-machine : {is : Bool} {p r r′ : ℤ} → is ≡ isModification (bracketIn bs ns k) → is ≡ true → p ≡ pos n *ℤ m′ → r ≡ toZ w64 (ofZ w64 s) +ℤ toZ w64 (ofZ w64 p) → r′ ≡ r → Tallied (bracketIn bs ns k) s w r′ w
+  pub tallied-by-machine : {is : Bool} {p r r′ : ℤ} → is ≡ isModification (bracketIn bs ns k) → is ≡ true → p ≡ pos n *ℤ m′ → r ≡ toZ w64 (ofZ w64 s) +ℤ toZ w64 (ofZ w64 p) → r′ ≡ r → Tallied (tablesIn bs ns) (bracketIn bs ns k) s w r′ w
   tallied-by-machine {is} {p} e y g h i =
-      tallied-mass (bracketIn bs ns k) e y c f q (product-back g ∙ ap (λ x. pos n *ℤ x) read) (i ∙ h ∙ ap (λ x. x +ℤ toZ w64 (ofZ w64 p)) sum-back)
+      tallied-mass (tablesIn bs ns) (bracketIn bs ns k) e y c f q (product-back g ∙ ap (λ x. pos n *ℤ x) read) (i ∙ h ∙ ap (λ x. x +ℤ toZ w64 (ofZ w64 p)) sum-back)
 
 pub lacked-by-machine : {bs : List ℕ} {ns : List ℤ} {k w n : ℕ} {s : ℤ} {is : Bool} {o : Mass} → CanTally bs ns k s w → is ≡ isModification (bracketIn bs ns k) → is ≡ true → n ≡ bracketIn bs ns k .count → saysMass o ≡ massOf (bracketIn bs ns k) → o ≡ Lacking
-    → Tallied (bracketIn bs ns k) s w (toZ w64 (ofZ w64 s)) (w + n)
+    → Tallied (tablesIn bs ns) (bracketIn bs ns k) s w (toZ w64 (ofZ w64 s)) (w + n)
 lacked-by-machine {bs} {ns} {k} {w} {n} {s} t e y c f q =
-    subst (λ x. Tallied (bracketIn bs ns k) s w x (w + n))
+    subst (λ x. Tallied (tablesIn bs ns) (bracketIn bs ns k) s w x (w + n))
     (sym (back s (omega (arith, reach-row (t .reach) .inside, t .before .small))))
-    (tallied-lack (bracketIn bs ns k) e y c f q)
+    (tallied-lack (tablesIn bs ns) (bracketIn bs ns k) e y c f q)
 
 -- ---- the total of the brackets from k on
-abbrev weights : List (Bracket (Unit {0})) → ℤ
-weights ks = sum (map (λ k. pos (k .count) *ℤ massOr0 k) (keep isModification ks))
+abbrev weights : Tables → List (Bracket (Unit {0})) → ℤ
+weights t ks = sum (map (weight t) ks)
 
-abbrev lacks : List (Bracket (Unit {0})) → ℕ
-lacks ks = sumℕ (map (λ k. given (massOf k) (λ m. 0) (k .count)) (keep isModification ks))
-
-weights-cons : (b : Bracket (Unit {0})) (l : List (Bracket (Unit {0}))) → weights (b ∷ l) ≡ weight b +ℤ weights l
-unfolding sum keep weight
-weights-cons b l = by (isModification b)
-  where
-    by : (t : Bool) → sum (map (λ k. pos (k .count) *ℤ massOr0 k) (cond t (b ∷ []) [] ++ keep isModification l)) ≡ cond t (pos (b .count) *ℤ massOr0 b) (pos 0) +ℤ weights l
-    by true = refl
-    by false = sym (+ℤ-idl (weights l))
-
-lacks-cons : (b : Bracket (Unit {0})) (l : List (Bracket (Unit {0}))) → lacks (b ∷ l) ≡ lack b + lacks l
-unfolding sumℕ keep lack
-lacks-cons b l = by (isModification b)
-  where
-    by : (t : Bool) → sumℕ (map (λ k. given (massOf k) (λ m. 0) (k .count)) (cond t (b ∷ []) [] ++ keep isModification l)) ≡ cond t (given (massOf b) (λ m. 0) (b .count)) 0 + lacks l
-    by true = refl
-    by false = omega arith
+abbrev lacks : Tables → List (Bracket (Unit {0})) → ℕ
+lacks t ks = sumℕ (map (lack t) ks)
 
 pub record Weighing (bs : List ℕ) (ns : List ℤ) (n k : ℕ) (s : ℤ) (w : ℕ) : Type 0 where
   pub bounds : Bounds bs ns
   pub many : n ≡ bracketsField bs
   pub inside : k ≤ n
   pub before : Before k s w
-  pub sum-is : total (tablesIn bs ns) ≡ s +ℤ weights (tabled (bracketIn bs ns) k (n - k))
-  pub lacks-is : lacking (tablesIn bs ns) ≡ w + lacks (tabled (bracketIn bs ns) k (n - k))
+  pub sum-is : total (tablesIn bs ns) ≡ s +ℤ weights (tablesIn bs ns) (tabled (bracketIn bs ns) k (n - k))
+  pub lacks-is : lacking (tablesIn bs ns) ≡ w + lacks (tablesIn bs ns) (tabled (bracketIn bs ns) k (n - k))
 
 pub weighing-start : {bs : List ℕ} {ns : List ℤ} {n : ℕ} → Bounds bs ns → n ≡ bracketsField bs → Weighing bs ns n 0 (pos 0) 0
-unfolding tablesIn total lacking
+unfolding tablesIn
 weighing-start {bs} {ns} {n} b e =
     record {
       bounds = b;
@@ -176,10 +161,10 @@ weighing-start {bs} {ns} {n} b e =
       inside = omega arith;
       before = record { small = omega arith; few = omega arith };
       sum-is =
-          ap (λ m. weights (tabled (bracketIn bs ns) 0 m)) (sym e) ∙ ap weights (tabled-all (bracketIn bs ns) n)
-          ∙ sym (+ℤ-idl (weights (tabled (bracketIn bs ns) 0 (n - 0))));
+          total-is (tablesIn bs ns) ∙ ap (λ m. weights (tablesIn bs ns) (tabled (bracketIn bs ns) 0 m)) (sym e) ∙ ap (weights (tablesIn bs ns)) (tabled-all (bracketIn bs ns) n)
+          ∙ sym (+ℤ-idl (weights (tablesIn bs ns) (tabled (bracketIn bs ns) 0 (n - 0))));
       lacks-is =
-          ap (λ m. lacks (tabled (bracketIn bs ns) 0 m)) (sym e) ∙ ap lacks (tabled-all (bracketIn bs ns) n) ∙ from-0 (lacks (tabled (bracketIn bs ns) 0 (n - 0)));
+          lacking-is (tablesIn bs ns) ∙ ap (λ m. lacks (tablesIn bs ns) (tabled (bracketIn bs ns) 0 m)) (sym e) ∙ ap (lacks (tablesIn bs ns)) (tabled-all (bracketIn bs ns) n) ∙ from-0 (lacks (tablesIn bs ns) (tabled (bracketIn bs ns) 0 (n - 0)));
     }
   where
     from-0 : (x : ℕ) → x ≡ 0 + x
@@ -192,7 +177,8 @@ module _ {bs : List ℕ} {ns : List ℤ} {n k : ℕ} {s : ℤ} {w : ℕ} (i : We
   pub weighing-asks : k < n → CanTally bs ns k s w
   weighing-asks h = record { reach = weighing-reach h; before = i .before }
 
-  pub weighing-next : {s′ : ℤ} {w′ : ℕ} → k < n → Tallied (bracketIn bs ns k) s w s′ w′ → Weighing bs ns n (k + 1) s′ w′
+  pub weighing-next : {s′ : ℤ} {w′ : ℕ} → k < n → Tallied (tablesIn bs ns) (bracketIn bs ns k) s w s′ w′ → Weighing bs ns n (k + 1) s′ w′
+  unfolding sum sumℕ
   weighing-next {s′} {w′} h t =
       record {
         bounds = i .bounds;
@@ -200,28 +186,28 @@ module _ {bs : List ℕ} {ns : List ℤ} {n k : ℕ} {s : ℤ} {w : ℕ} (i : We
         inside = omega arith;
         before =
             record {
-              small = rw (t .sum-is) (omega (arith, abs-add s (weight (bracketIn bs ns k)), weight-small (weighing-reach h), i .before .small));
+              small = rw (t .sum-is) (omega (arith, abs-add s (weight (tablesIn bs ns) (bracketIn bs ns k)), weight-small (weighing-reach h), i .before .small));
               few = rw (t .lacks-is) (omega (arith, lack-few (weighing-reach h), i .before .few));
             };
         sum-is =
             i .sum-is
-            ∙ ap (λ x. s +ℤ x) (ap weights (tabled-at (bracketIn bs ns) k n h) ∙ weights-cons (bracketIn bs ns k) (tabled (bracketIn bs ns) (k + 1) (n - (k + 1))))
-            ∙ sym (+ℤ-assoc s (weight (bracketIn bs ns k)) (weights (tabled (bracketIn bs ns) (k + 1) (n - (k + 1)))))
-            ∙ ap (λ x. x +ℤ weights (tabled (bracketIn bs ns) (k + 1) (n - (k + 1)))) (sym (t .sum-is));
+            ∙ ap (λ l. s +ℤ weights (tablesIn bs ns) l) (tabled-at (bracketIn bs ns) k n h)
+            ∙ sym (+ℤ-assoc s (weight (tablesIn bs ns) (bracketIn bs ns k)) (weights (tablesIn bs ns) (tabled (bracketIn bs ns) (k + 1) (n - (k + 1)))))
+            ∙ ap (λ x. x +ℤ weights (tablesIn bs ns) (tabled (bracketIn bs ns) (k + 1) (n - (k + 1)))) (sym (t .sum-is));
         lacks-is =
             i .lacks-is
-            ∙ ap (λ x. w + x) (ap lacks (tabled-at (bracketIn bs ns) k n h) ∙ lacks-cons (bracketIn bs ns k) (tabled (bracketIn bs ns) (k + 1) (n - (k + 1))))
-            ∙ sym (add-assoc w (lack (bracketIn bs ns k)) (lacks (tabled (bracketIn bs ns) (k + 1) (n - (k + 1)))))
-            ∙ ap (λ x. x + lacks (tabled (bracketIn bs ns) (k + 1) (n - (k + 1)))) (sym (t .lacks-is));
+            ∙ ap (λ l. w + lacks (tablesIn bs ns) l) (tabled-at (bracketIn bs ns) k n h)
+            ∙ sym (add-assoc w (lack (tablesIn bs ns) (bracketIn bs ns k)) (lacks (tablesIn bs ns) (tabled (bracketIn bs ns) (k + 1) (n - (k + 1)))))
+            ∙ ap (λ x. x + lacks (tablesIn bs ns) (tabled (bracketIn bs ns) (k + 1) (n - (k + 1)))) (sym (t .lacks-is));
       }
 
-  total-is : n ≤ k → total (tablesIn bs ns) ≡ s
-  unfolding sum keep
-  total-is h = i .sum-is ∙ ap (λ l. s +ℤ weights l) (tabled-end (bracketIn bs ns) k n h) ∙ +ℤ-idr s
+  total-so : n ≤ k → total (tablesIn bs ns) ≡ s
+  unfolding sum
+  total-so h = i .sum-is ∙ ap (λ l. s +ℤ weights (tablesIn bs ns) l) (tabled-end (bracketIn bs ns) k n h) ∙ +ℤ-idr s
 
-  lacking-is : n ≤ k → lacking (tablesIn bs ns) ≡ w
-  unfolding sumℕ keep
-  lacking-is h = i .lacks-is ∙ ap (λ l. w + lacks l) (tabled-end (bracketIn bs ns) k n h) ∙ add-zero w
+  lacking-so : n ≤ k → lacking (tablesIn bs ns) ≡ w
+  unfolding sumℕ
+  lacking-so h = i .lacks-is ∙ ap (λ l. w + lacks (tablesIn bs ns) l) (tabled-end (bracketIn bs ns) k n h) ∙ add-zero w
 
   sum-read : toZ w64 (ofZ w64 s) ≡ s
   sum-read = back s (omega (arith, i .inside, i .many, i .bounds .few-brackets, i .before .small))
@@ -229,8 +215,8 @@ module _ {bs : List ℕ} {ns : List ℤ} {n k : ℕ} {s : ℤ} {w : ℕ} (i : We
   -- the machine reads the sum back from its bits
   pub weighing-total : n ≤ k → w ≡ 0 → Total (toZ w64 (ofZ w64 s)) ≡ weightOf (tablesIn bs ns)
   unfolding weightOf
-  weighing-total h z = ap Total sum-read ∙ rw (lacking-is h, total-is h, eq-eqb w 0 z)
+  weighing-total h z = ap Total sum-read ∙ rw (lacking-so h, total-so h, eq-eqb w 0 z)
 
   pub weighing-lacks : n ≤ k → (w ≡ 0 → ⊥) → Lacks w ≡ weightOf (tablesIn bs ns)
   unfolding weightOf
-  weighing-lacks h z = rw (lacking-is h, ne-eqb w 0 z)
+  weighing-lacks h z = rw (lacking-so h, ne-eqb w 0 z)

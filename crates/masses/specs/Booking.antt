@@ -22,7 +22,7 @@ pub record Held (l : List ℤ) (masses : ℕ) : Type 0 where
 -- the placed modifications are booked, of as many brackets as there may be
 pub record Placed (bs : List ℕ) (ns : List ℤ) (l : List ℤ) : Type 0 where
   pub held : Held l bracketLimit
-  pub entry : (x : ℕ) → x < positionLimit → getD l x (pos 0) ≡ placedAt x (tablesIn bs ns .brackets)
+  pub entry : (x : ℕ) → x < positionLimit → getD l x (pos 0) ≡ placedAt (tablesIn bs ns) x
 
 -- a mass is booked at position y, if the ledger has it
 abbrev pub booked : List ℤ → ℕ → ℤ → List ℤ

@@ -5,6 +5,7 @@ use Prim.Native.Nat.{ℕ, _+_, _*_, _≤_}
 use lib.IntN.{ℤ, natAbs, _+ℤ_}
 use Rattle.scope.specs.Limits.{countLimit}
 use Rattle.scope.specs.Line.{Bracket}
+use Rattle.scope.specs.Tables.{Tables}
 use Rattle.masses.specs.Reach.{Reach}
 use Rattle.mass_laws.specs.Terms.{massLimit}
 use Rattle.mass_laws.specs.Weights.{weight, lack}
@@ -18,6 +19,6 @@ pub record CanTally (bs : List ℕ) (ns : List ℤ) (k : ℕ) (sum : ℤ) (lacks
   pub reach : Reach bs ns k
   pub before : Before k sum lacks
 
-pub record Tallied (b : Bracket (Unit {0})) (sum : ℤ) (lacks : ℕ) (sum′ : ℤ) (lacks′ : ℕ) : Type 0 where
-  pub sum-is : sum′ ≡ sum +ℤ weight b
-  pub lacks-is : lacks′ ≡ lacks + lack b
+pub record Tallied (t : Tables) (b : Bracket (Unit {0})) (sum : ℤ) (lacks : ℕ) (sum′ : ℤ) (lacks′ : ℕ) : Type 0 where
+  pub sum-is : sum′ ≡ sum +ℤ weight t b
+  pub lacks-is : lacks′ ≡ lacks + lack t b

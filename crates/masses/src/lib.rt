@@ -169,7 +169,7 @@ fn times(n: usize, m: i64) -> i64
 // The tally with bracket k.
 fn tally_with(bytes: &[u8], numbers: &[i64], k: usize, t: Tally) -> Tally
     requires { ⌜ CanTally (now bytes) (now numbers) k (t .sum) (t .lacks) ⌝ }
-    ensures { λ r. ⌜ Tallied (bracketIn (now (bytes .entry)) (now (numbers .entry)) k) (t .sum) (t .lacks) (r .sum) (r .lacks) ⌝ }
+    ensures { λ r. ⌜ Tallied (tablesIn (now (bytes .entry)) (now (numbers .entry))) (bracketIn (now (bytes .entry)) (now (numbers .entry)) k) (t .sum) (t .lacks) (r .sum) (r .lacks) ⌝ }
 {
     if is_modification(bytes, k) {
         let n = count(bytes, k);

@@ -1,7 +1,7 @@
 -- Laws of marking positions in a row of the table. Assumes nothing.
 use mathlib.Core.Path.{_≡_, refl, sym, ap, _∙_}
 use mathlib.Core.Bool.{Bool, true, false, not, cond, _&&_, _||_, and-true, and-false}
-use mathlib.Core.List.{List, [], _∷_, _++_, map}
+use mathlib.Core.List.{List, []}
 use Prim.Native.Nat.{ℕ, zero, suc, _+_, _-_, _≤_, _<_}
 use native.Mathlib.Nat.{zero-add}
 use native.Mathlib.Numerals.{add-one}
@@ -15,11 +15,14 @@ use Rattle.scope.specs.declared.grammar.Kind.{Kind}
 use Rattle.scope.specs.Kinds.{isUnknown, unknownOrLabile}
 use Rattle.scope.specs.Limits.{positionLimit}
 use Rattle.scope.specs.Line.{Bracket}
-use Rattle.scope.specs.Lists.{keep, shared, tabled, member}
+use Rattle.scope.specs.Lists.{flat, shared, tabled, member}
 use Rattle.scope.specs.Modifications.{isLabelled, definedBy, referredBy}
 use Rattle.scope.specs.Layout.{bracketIn, tablesIn, bracketsField, residuesField}
-use Rattle.scope.specs.Positions.{struckOut, isPlaced, between, referredAt, isUnlabelledUnknown, mayStand}
+use Rattle.scope.specs.Tables.{Tables}
+use Rattle.scope.specs.Positions.{isPlaced, placedOn, struckOut, between, referredAt, isUnlabelledUnknown, mayStand}
 use Rattle.basics.specs.Choice.{by-test}
+use Rattle.basics.specs.Members.{member-append}
+use Rattle.basics.specs.Positions.{placed-on}
 use Rattle.basics.specs.Tabled.{length-tabled}
 use Rattle.positions.specs.Marked.{Marked, RowIs, refersAt, referencesAt, ownAt, placedAt, struckAt}
 use Rattle.positions.proofs.Any.{anyOf, any-last}
@@ -165,15 +168,18 @@ module _ (bs : List ℕ) (k r : ℕ) {base : ℕ} {old : List ℕ} {z : Bool} (r
   pub no-reference : z ≡ false → (ns : List ℤ) → Marked base (refersAt bs ns k r) 1 old old
   no-reference t ns = marked-not base 1 (between (bracketIn bs ns r .first) (bracketIn bs ns r .last)) old (sym (refers ns) ∙ t)
 
+placed-as : (bs : List ℕ) (ns : List ℤ) (k y : ℕ) {z : Bool} → isPlaced (bracketIn bs ns k) ≡ z → placedAt bs ns k y ≡ z && eqb y (bracketIn bs ns k .first)
+placed-as bs ns k y t = placed-on (tablesIn bs ns) (bracketIn bs ns k) y ∙ ap (λ s. s && eqb y (bracketIn bs ns k .first)) t
+
 module _ (bs : List ℕ) (k : ℕ) {base : ℕ} {old : List ℕ} {z : Bool} (placed : (ns : List ℤ) → z ≡ isPlaced (bracketIn bs ns k)) where
   pub struck : {x : ℕ} → z ≡ true → ((ns : List ℤ) → x ≡ bracketIn bs ns k .first) → x < positionLimit → base + positionLimit ≤ length old → (ns : List ℤ) → Marked base (placedAt bs ns k) 0 old (set old (base + x) 0)
   struck {x} t p h room ns =
       marked-set (placedAt bs ns k) (marked-none base 0 (λ y. false) old (λ y l. refl)) h room
-      (ap (λ s. s && eqb x (bracketIn bs ns k .first)) (sym (placed ns) ∙ t) ∙ eq-eqb x (bracketIn bs ns k .first) (p ns))
-      (λ y l ne. ap (λ s. s && eqb y (bracketIn bs ns k .first)) (sym (placed ns) ∙ t) ∙ ne-eqb y (bracketIn bs ns k .first) (λ i. ne (i ∙ sym (p ns))))
+      (placed-as bs ns k x (sym (placed ns) ∙ t) ∙ eq-eqb x (bracketIn bs ns k .first) (p ns))
+      (λ y l ne. placed-as bs ns k y (sym (placed ns) ∙ t) ∙ ne-eqb y (bracketIn bs ns k .first) (λ i. ne (i ∙ sym (p ns))))
 
   pub not-struck : z ≡ false → (ns : List ℤ) → Marked base (placedAt bs ns k) 0 old old
-  not-struck t ns = marked-not base 0 (λ y. eqb y (bracketIn bs ns k .first)) old (sym (placed ns) ∙ t)
+  not-struck t ns = marked-none base 0 (placedAt bs ns k) old (λ y l. placed-as bs ns k y (sym (placed ns) ∙ t))
 
 -- ---- references and placed modifications, bracket by bracket
 referred-tabled : (k : Bracket (Unit {0})) (x : ℕ) (f : ℕ → Bracket (Unit {0})) (i n : ℕ) → referredAt k x (tabled f i n) ≡ anyOf (λ r. shared (definedBy k) (referredBy (f r)) && between (f r .first) (f r .last) x) i n
@@ -181,26 +187,19 @@ unfolding referredAt tabled anyOf
 referred-tabled k x f i zero = refl
 referred-tabled k x f i (suc n) = ap (λ t. shared (definedBy k) (referredBy (f i)) && between (f i .first) (f i .last) x || t) (referred-tabled k x f (i + 1) n)
 
-struck-cons : (x : ℕ) (k : Bracket (Unit {0})) (ks : List (Bracket (Unit {0}))) → member x (struckOut (k ∷ ks)) ≡ isPlaced k && eqb x (k .first) || member x (struckOut ks)
-unfolding struckOut keep member
-struck-cons x k ks = go (isPlaced k)
-  where
-    go : (t : Bool) → member x (map (λ k. k .first) (cond t (k ∷ []) [] ++ keep isPlaced ks)) ≡ t && eqb x (k .first) || member x (map (λ k. k .first) (keep isPlaced ks))
-    go true = refl
-    go false = refl
-
-struck-tabled : (x : ℕ) (f : ℕ → Bracket (Unit {0})) (i n : ℕ) → member x (struckOut (tabled f i n)) ≡ anyOf (λ k. isPlaced (f k) && eqb x (f k .first)) i n
-unfolding tabled anyOf struckOut keep member
-struck-tabled x f i zero = refl
-struck-tabled x f i (suc n) = struck-cons x (f i) (tabled f (i + 1) n) ∙ ap (λ t. isPlaced (f i) && eqb x (f i .first) || t) (struck-tabled x f (i + 1) n)
+struck-tabled : (x : ℕ) (t : Tables) (f : ℕ → Bracket (Unit {0})) (i n : ℕ) → member x (flat (placedOn t) (tabled f i n)) ≡ anyOf (λ k. member x (placedOn t (f k))) i n
+unfolding tabled anyOf flat member
+struck-tabled x t f i zero = refl
+struck-tabled x t f i (suc n) =
+    member-append x (placedOn t (f i)) (flat (placedOn t) (tabled f (i + 1) n)) ∙ ap (λ s. member x (placedOn t (f i)) || s) (struck-tabled x t f (i + 1) n)
 
 pub references-at : (bs : List ℕ) (ns : List ℤ) (k b x : ℕ) → b ≡ bracketsField bs → referencesAt bs ns k x ≡ anyOf (λ r. refersAt bs ns k r x) 0 b
 unfolding tablesIn
 references-at bs ns k b x e = rw e (referred-tabled (bracketIn bs ns k) x (bracketIn bs ns) 0 (bracketsField bs))
 
 struck-at : (bs : List ℕ) (ns : List ℤ) (b x : ℕ) → b ≡ bracketsField bs → struckAt bs ns x ≡ anyOf (λ k. placedAt bs ns k x) 0 b
-unfolding tablesIn
-struck-at bs ns b x e = rw e (struck-tabled x (bracketIn bs ns) 0 (bracketsField bs))
+unfolding struckOut tablesIn
+struck-at bs ns b x e = rw e (struck-tabled x (tablesIn bs ns) (bracketIn bs ns) 0 (bracketsField bs))
 
 pub references-end : (bs : List ℕ) (k : ℕ) {base b r : ℕ} {old cur : List ℕ} → Passed base 1 b r (λ ns j. refersAt bs ns k j) old cur → b ≤ r → b ≡ bracketsField bs → (ns : List ℤ) → Marked base (referencesAt bs ns k) 1 old cur
 references-end bs k {b = b} p h e = passed-end p h (λ ns. referencesAt bs ns k) (λ ns x. references-at bs ns k b x e)

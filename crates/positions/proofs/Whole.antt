@@ -17,7 +17,8 @@ use Rattle.scope.specs.Layout.{bracketIn, tablesIn, bracketsField, residuesFiel
 use Rattle.scope.specs.Positions.{between, isUnlabelledUnknown, mayStand, permitted}
 use Rattle.areas.specs.Floats.{listIn, listsIn, FloatersAre, TableIs}
 use Rattle.basics.specs.Choice.{by-test}
-use Rattle.basics.specs.Tabled.{length-tabled, keep-as, keep-cut, tabled-map}
+use Rattle.basics.specs.Positions.{sites-in}
+use Rattle.basics.specs.Tabled.{keep-as, keep-cut, tabled-map}
 use Rattle.positions.specs.Legible.{Legible}
 use Rattle.basics.specs.Lists.{map-joined as map-map}
 use Rattle.positions.specs.Marked.{Marked, RowIs, Cleared, Filled, refersAt, referencesAt, struckAt, standsAt}
@@ -118,8 +119,8 @@ row-list tab f m test h l o =
     ∙ keep-cut test 0 m positionLimit l (λ x a b. o x (omega arith))
 
 permitted-is : (bs : List ℕ) (ns : List ℤ) (k : ℕ) → permitted (tablesIn bs ns) (bracketIn bs ns k) ≡ keep (standsAt bs ns k) (tabled (λ x. x) 0 (residuesField bs + 2))
-unfolding permitted tablesIn
-permitted-is bs ns k = rw length-tabled
+unfolding permitted
+permitted-is bs ns k = ap (λ m. keep (standsAt bs ns k) (tabled (λ x. x) 0 m)) (sites-in bs ns)
 
 permitted-row : (bs : List ℕ) (ns : List ℤ) (k f : ℕ) (tab : List ℕ) → Legible bs → k < bracketsField bs → ((x : ℕ) → x < positionLimit → getD tab (f * positionLimit + x) 0 ≡ cond (standsAt bs ns k x) 1 0) → listIn tab f ≡ permitted (tablesIn bs ns) (bracketIn bs ns k)
 permitted-row bs ns k f tab l h r =

@@ -3,14 +3,13 @@ use mathlib.Core.Path.{_≡_}
 use mathlib.Core.Bool.{Bool, not, cond, _&&_}
 use mathlib.Core.List.{List}
 use Prim.Native.Nat.{ℕ, _+_, _*_, _≤_, _<_}
-use lib.Dec.{eqb}
 use lib.IntN.{ℤ}
 use lib.ListN.{length, getD, drop}
 use Rattle.scope.specs.Limits.{rowLimit, positionLimit}
 use Rattle.scope.specs.Modifications.{definedBy, referredBy}
 use Rattle.scope.specs.Lists.{shared, member}
 use Rattle.scope.specs.Layout.{bracketIn, tablesIn}
-use Rattle.scope.specs.Positions.{between, isPlaced, ownPosition, referredAt, mayStand, struckOut}
+use Rattle.scope.specs.Positions.{between, placedOn, ownPosition, referredAt, mayStand, struckOut}
 use Rattle.areas.specs.Floats.{TableIs}
 
 -- in the row of positions that begins at base, those of a test are set to v; all else is as before
@@ -42,11 +41,11 @@ ownAt bs ns k x = ownPosition (bracketIn bs ns k) x (bracketIn bs ns k .kind)
 
 -- bracket k is placed at x
 abbrev pub placedAt : List ℕ → List ℤ → ℕ → ℕ → Bool
-placedAt bs ns k x = isPlaced (bracketIn bs ns k) && eqb x (bracketIn bs ns k .first)
+placedAt bs ns k x = member x (placedOn (tablesIn bs ns) (bracketIn bs ns k))
 
 -- x is struck out
 abbrev pub struckAt : List ℕ → List ℤ → ℕ → Bool
-struckAt bs ns x = member x (struckOut (tablesIn bs ns .brackets))
+struckAt bs ns x = member x (struckOut (tablesIn bs ns))
 
 -- where the floater of bracket k may stand: on a permitted position that is not struck out
 abbrev pub standsAt : List ℕ → List ℤ → ℕ → ℕ → Bool

@@ -1,28 +1,30 @@
 -- Demand 3 of a placement: what `is_allowed` allows gives each floater one of its permitted positions, no position twice; and no permitted position has a placed
 -- modification.
-use mathlib.Core.Path.{_≡_, sym, ap, _∙_}
+use mathlib.Core.Path.{_≡_, refl, sym, ap, _∙_}
 use mathlib.Core.Logic.{_↔_}
 use mathlib.Core.Bool.{true, false, not, _&&_, true≢false}
 use mathlib.Core.List.{List, [], _∷_, map}
 use Prim.Native.Nat.{ℕ, zero, suc, _≤_, _<_}
 use native.Mathlib.Omega.{arith}
-use borrow.Author.Tests.{not-true}
+use borrow.Author.Tests.{not-true, eq-eqb}
+use lib.Dec.{eqb}
 use lib.IntN.{ℤ}
 use lib.ListN.{length, getD, take}
 use lib.Seq.{getD-take, length-take-le}
 use Rattle.scope.specs.declared.answers.Request.{Request}
 use Rattle.scope.specs.declared.answers.Placement.{Placement}
 use Rattle.scope.specs.Limits.{copyLimit}
-use Rattle.scope.specs.Lists.{keep, member}
+use Rattle.scope.specs.Lists.{flat, member}
 use Rattle.scope.specs.Line.{Bracket}
 use Rattle.scope.specs.Tables.{Tables}
 use Rattle.scope.specs.Layout.{tablesIn}
-use Rattle.scope.specs.Positions.{isPlaced, struckOut, floaters, mayStand, positions, permitted}
+use Rattle.scope.specs.Positions.{isPlaced, placedOn, struckOut, floaters, mayStand, positions, permitted}
 use Rattle.scope.specs.Answers.{good, saysRequest}
 use Rattle.layout_laws.specs.Laws.{tables-held}
 use Rattle.basics.specs.Each.{In}
 use Rattle.basics.specs.Tests.{both-of as and-true}
-use Rattle.basics.specs.Members.{in-member, member-in, in-keep, keep-in, map-in}
+use Rattle.basics.specs.Members.{in-member, member-in, in-keep, flat-in}
+use Rattle.basics.specs.Positions.{placed-on}
 use Rattle.placement_laws.specs.Members.{AllowedParts, allowed-parts, parts-allowed}
 use Rattle.placement_laws.specs.Laws as placing
 use Rattle.placements.proofs.Right.{fits-at, fits-rest, at-fits, distinct-at, at-distinct}
@@ -72,17 +74,17 @@ allowed-so bs ns h p r w =
     )
 
 -- ---- no placed modification stands at a permitted position
-struck : (t : Tables) (k : Bracket (Unit {0})) → In k (t .brackets) → isPlaced k ≡ true → member (k .first) (struckOut (t .brackets)) ≡ true
+struck : (t : Tables) (k : Bracket (Unit {0})) → In k (t .brackets) → isPlaced k ≡ true → member (k .first) (struckOut t) ≡ true
 unfolding struckOut
 struck t k i e =
-    in-member (k .first) (map (λ (b : Bracket (Unit {0})). b .first) (keep isPlaced (t .brackets)))
-    (map-in (λ (b : Bracket (Unit {0})). b .first) k (keep isPlaced (t .brackets)) (keep-in isPlaced k (t .brackets) i e))
+    let on = placed-on t k (k .first) ∙ ap (λ p. p && eqb (k .first) (k .first)) e ∙ eq-eqb (k .first) (k .first) refl in
+    in-member (k .first) (flat (placedOn t) (t .brackets)) (flat-in (placedOn t) k (k .first) (t .brackets) i (member-in (k .first) (placedOn t k) on))
 
-not-struck : (t : Tables) (k : Bracket (Unit {0})) (x : ℕ) → In x (permitted t k) → member x (struckOut (t .brackets)) ≡ false
+not-struck : (t : Tables) (k : Bracket (Unit {0})) (x : ℕ) → In x (permitted t k) → member x (struckOut t) ≡ false
 unfolding permitted
 not-struck t k x h =
-    let out = member x (struckOut (t .brackets)) in
-    let e = in-keep (λ y. mayStand t k y && not (member y (struckOut (t .brackets)))) x (positions t) h .1 in
+    let out = member x (struckOut t) in
+    let e = in-keep (λ y. mayStand t k y && not (member y (struckOut t))) x (positions t) h .1 in
     not-true out (and-true (mayStand t k x) (not out) e .1)
 
 -- a position in one of the lists is permitted to some floater
@@ -96,4 +98,4 @@ free bs ns zero x h k i e q = h
 free bs ns (suc f) x h k i e q =
     let t = tablesIn bs ns in
     let z = some-floater (permitted t) (floaters t) f x h in
-    true≢false (sym (struck t k i e) ∙ ap (λ y. member y (struckOut (t .brackets))) q ∙ not-struck t (z .0) x (z .1))
+    true≢false (sym (struck t k i e) ∙ ap (λ y. member y (struckOut t)) q ∙ not-struck t (z .0) x (z .1))

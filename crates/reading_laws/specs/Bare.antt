@@ -20,8 +20,8 @@ use Rattle.scope.specs.Modifications.{isKey, isModification, nameOf, namesOf, c
 use Rattle.scope.specs.Canonical.{size, scoreText, valueText, labelText, partText, partsText, squareText, curlyText, unknownText, ofKind, endingAt, goesOn, sequenceText, canonical}
 use Rattle.scope.specs.Tables.{bareNumber, bareLabel, bareValue, barePart, bareBracket, bareResidue, tablesOf, millionths, scoreOf}
 use Rattle.scope.specs.Layout.{massIn, decimalsIn, packed, valueCode, partRow, partRows, scoreCode, bracketRow, bracketTexts, rows, sectionCode, bytesOf, numberRow, numbersOf}
-use Rattle.scope.specs.Positions.{isPlaced, struckOut, floaters, referredAt, mayStand, permitted, permittedPositions, positions}
-use Rattle.scope.specs.Masses.{valueMass, firstMass, massOf, massOr0, modifications, sum, sumℕ, total, lacking, placedAt, putAt, ledger}
+use Rattle.scope.specs.Positions.{nTerminus, cTerminus, sites, isPlaced, placedOn, struckOut, floaters, referredAt, mayStand, permitted, permittedPositions, positions}
+use Rattle.scope.specs.Masses.{valueMass, firstMass, massOf, massOr0, modifications, times, sum, sumℕ, total, lacking, placedAt, putAt, ledger}
 use Rattle.basics.specs.Lists.{map-map, flat-map, all-map, keep-map, keep-same, map-replicate, map-flat}
 use Rattle.basics.specs.Tabled.{tabled-same}
 
@@ -229,11 +229,17 @@ module _ {P : Type 0} where
   unfolding isPlaced
   is-placed k = rw (is-modification k, names-of k)
 
-  struck-out : (ks : List (Bracket P)) → struckOut (map bareBracket ks) ≡ struckOut ks
-  unfolding struckOut
-  struck-out ks =
-      ap (map (λ k. k .first)) (keep-map isPlaced isPlaced bareBracket is-placed ks)
-      ∙ map-map (λ k. k .first) (λ k. k .first) bareBracket (λ k. refl) (keep isPlaced ks)
+  placed-on : (l : Line P) (k : Bracket P) → placedOn (tablesOf l) (bareBracket k) ≡ placedOn l k
+  unfolding placedOn
+  placed-on l k = rw (is-placed k)
+
+  struck-out : (l : Line P) → struckOut (tablesOf l) ≡ struckOut l
+  unfolding struckOut tablesOf
+  struck-out l = flat-map (placedOn (tablesOf l)) (placedOn l) bareBracket (placed-on l) (l .brackets)
+
+  same-sites : (l : Line P) → sites (tablesOf l) ≡ sites l
+  unfolding sites tablesOf
+  same-sites l = ap (λ ls. nTerminus ∷ (ls ++ (cTerminus ∷ []))) (map-map (λ r. r .letter) (λ r. r .letter) bareResidue (λ r. refl) (l .residues))
 
   pub same-floaters : (l : Line P) → floaters (tablesOf l) ≡ map bareBracket (floaters l)
   unfolding floaters tablesOf
@@ -254,11 +260,10 @@ module _ {P : Type 0} where
       (names-of k, referred-at k x (l .brackets), length-map (l .residues) bareResidue)
 
   permitted-bare : (l : Line P) (k : Bracket P) → permitted (tablesOf l) (bareBracket k) ≡ permitted l k
-  unfolding permitted tablesOf
+  unfolding permitted
   permitted-bare l k =
-      keep-same _ _ (λ x. ap₂ (λ a b. a && not (member x b)) (may-stand l k x) (struck-out (l .brackets))) (positions (tablesOf l))
-      ∙ ap (λ n. keep (λ x. mayStand l k x && not (member x (struckOut (l .brackets)))) (tabled (λ x. x) 0 (n + 2)))
-      (length-map (l .residues) bareResidue)
+      keep-same _ _ (λ x. ap₂ (λ a b. a && not (member x b)) (may-stand l k x) (struck-out l)) (positions (tablesOf l))
+      ∙ ap (λ s. keep (λ x. mayStand l k x && not (member x (struckOut l))) (tabled (λ x. x) 0 (length s))) (same-sites l)
 
   pub same-permitted : (l : Line P) → permittedPositions (tablesOf l) ≡ permittedPositions l
   same-permitted l = ap (map (permitted (tablesOf l))) (same-floaters l) ∙ map-map (permitted (tablesOf l)) (permitted l) bareBracket
@@ -295,29 +300,32 @@ module _ {P : Type 0} where
   unfolding tablesOf
   modifications-bare l = keep-map isModification isModification bareBracket is-modification (l .brackets)
 
+  times-bare : (l : Line P) (k : Bracket P) → times (tablesOf l) (bareBracket k) ≡ times l k
+  times-bare l k = refl
+
   pub same-total : (l : Line P) → total (tablesOf l) ≡ total l
   unfolding total
   same-total l =
       ap sum
-      (ap (map (λ k. pos (k .count) *ℤ massOr0 k)) (modifications-bare l)
-      ∙ map-map (λ k. pos (k .count) *ℤ massOr0 k) (λ k. pos (k .count) *ℤ massOr0 k) bareBracket (λ k. ap (λ m. pos (k .count) *ℤ m) (mass-or-0 k))
-      (modifications l))
+      (ap (map (λ k. pos (times (tablesOf l) k) *ℤ massOr0 k)) (modifications-bare l)
+      ∙ map-map (λ k. pos (times (tablesOf l) k) *ℤ massOr0 k) (λ k. pos (times l k) *ℤ massOr0 k) bareBracket
+      (λ k. ap₂ (λ n m. pos n *ℤ m) (times-bare l k) (mass-or-0 k)) (modifications l))
 
   pub same-lacking : (l : Line P) → lacking (tablesOf l) ≡ lacking l
   unfolding lacking
   same-lacking l =
       ap sumℕ
-      (ap (map (λ k. given (massOf k) (λ m. 0) (k .count))) (modifications-bare l)
-      ∙ map-map (λ k. given (massOf k) (λ m. 0) (k .count)) (λ k. given (massOf k) (λ m. 0) (k .count)) bareBracket
-      (λ k. ap (λ m. given m (λ m. 0) (k .count)) (mass-of k)) (modifications l))
+      (ap (map (λ k. given (massOf k) (λ m. 0) (times (tablesOf l) k))) (modifications-bare l)
+      ∙ map-map (λ k. given (massOf k) (λ m. 0) (times (tablesOf l) k)) (λ k. given (massOf k) (λ m. 0) (times l k)) bareBracket
+      (λ k. ap₂ (λ m n. given m (λ m. 0) n) (mass-of k) (times-bare l k)) (modifications l))
 
-  placed-at : (x : ℕ) (ks : List (Bracket P)) → placedAt x (map bareBracket ks) ≡ placedAt x ks
+  placed-at : (l : Line P) (x : ℕ) → placedAt (tablesOf l) x ≡ placedAt l x
   unfolding placedAt
-  placed-at x ks =
-      ap (λ z. sum (map massOr0 z))
-      (keep-map (λ k. isPlaced k && eqb (k .first) x) (λ k. isPlaced k && eqb (k .first) x) bareBracket
-      (λ k. ap (λ t. t && eqb (k .first) x) (is-placed k)) ks)
-      ∙ ap sum (map-map massOr0 massOr0 bareBracket mass-or-0 (keep (λ k. isPlaced k && eqb (k .first) x) ks))
+  placed-at l x =
+      ap (λ ks. sum (map massOr0 (keep (λ k. member x (placedOn (tablesOf l) k)) ks))) (modifications-bare l)
+      ∙ ap (λ ks. sum (map massOr0 ks))
+      (keep-map (λ k. member x (placedOn (tablesOf l) k)) (λ k. member x (placedOn l k)) bareBracket (λ k. ap (member x) (placed-on l k)) (modifications l))
+      ∙ ap sum (map-map massOr0 massOr0 bareBracket mass-or-0 (keep (λ k. member x (placedOn l k)) (modifications l)))
 
   put-at : (x : ℕ) (ks : List (Bracket P)) (q : List ℕ) → putAt x (map bareBracket ks) q ≡ putAt x ks q
   unfolding putAt
@@ -326,6 +334,6 @@ module _ {P : Type 0} where
   put-at x (k ∷ ks) (y ∷ q) = rw (mass-or-0 k, put-at x ks q)
 
   pub same-ledger : (l : Line P) (q : List ℕ) → ledger (tablesOf l) q ≡ ledger l q
-  unfolding ledger tablesOf
+  unfolding ledger
   same-ledger l q =
-      tabled-same _ _ (λ x. ap₂ _+ℤ_ (placed-at x (l .brackets)) (ap (λ ks. putAt x ks q) (same-floaters l) ∙ put-at x (floaters l) q)) 0 positionLimit
+      tabled-same _ _ (λ x. ap₂ _+ℤ_ (placed-at l x) (ap (λ ks. putAt x ks q) (same-floaters l) ∙ put-at x (floaters l) q)) 0 positionLimit

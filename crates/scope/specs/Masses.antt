@@ -1,6 +1,6 @@
 -- Masses: a bracket's, the total, the ledger of a placement, and the display.
 use Prim.Native.Nat.{ℕ, _+_, _^_}
-use mathlib.Core.Bool.{Bool, true, false, not, cond, _&&_}
+use mathlib.Core.Bool.{Bool, true, false, not, cond}
 use mathlib.Core.Option.{Option, none, some}
 use mathlib.Core.List.{List, [], _∷_, _++_, map}
 use lib.Dec.{eqb}
@@ -10,10 +10,10 @@ use Rattle.scope.specs.declared.grammar.Key.the-variants.{Obs}
 use Rattle.scope.specs.Kinds.{isLabile}
 use Rattle.scope.specs.Limits.{positionLimit, decimalLimit}
 use Rattle.scope.specs.Line.{Value, mass, text, reference, Part, Bracket, Line}
-use Rattle.scope.specs.Lists.{given, keep, tabled}
+use Rattle.scope.specs.Lists.{given, keep, tabled, member}
 use Rattle.scope.specs.Modifications.{isKey, isModification}
 use Rattle.scope.specs.Tables.{millionths}
-use Rattle.scope.specs.Positions.{isPlaced, floaters}
+use Rattle.scope.specs.Positions.{placedOn, floaters}
 
 -- ---- "A bracket's mass is its first mass without `Obs`, else its first `Obs` mass, else none. Parts are synonyms and never added up."
 abbrev pub valueMass : {P : Type 0} → Value P → Option ℤ
@@ -36,11 +36,15 @@ sum (m ∷ ms) = m +ℤ sum ms
 abbrev pub modifications : {P : Type 0} → Line P → List (Bracket P)
 modifications t = keep isModification (t .brackets)
 
+-- how often a modification counts: "counts multiplied"
+abbrev pub times : {P : Type 0} → Line P → Bracket P → ℕ
+times t k = k .count
+
 abbrev pub massOr0 : {P : Type 0} → Bracket P → ℤ
 massOr0 k = given (massOf k) (λ m. m) (pos 0)
 
 unfoldable pub total : {P : Type 0} → Line P → ℤ
-total t = sum (map (λ k. pos (k .count) *ℤ massOr0 k) (modifications t))
+total t = sum (map (λ k. pos (times t k) *ℤ massOr0 k) (modifications t))
 
 -- 16 "how many have none, each copy counted"
 unfoldable pub sumℕ : List ℕ → ℕ
@@ -48,12 +52,12 @@ sumℕ [] = 0
 sumℕ (n ∷ ns) = n + sumℕ ns
 
 unfoldable pub lacking : {P : Type 0} → Line P → ℕ
-lacking t = sumℕ (map (λ k. given (massOf k) (λ m. 0) (k .count)) (modifications t))
+lacking t = sumℕ (map (λ k. given (massOf k) (λ m. 0) (times t k)) (modifications t))
 
 -- ---- "The ledger of a placement has one entry for each of the 256 positions ..; each holds the masses of the modifications placed there and of
 -- the floating copy put there, nothing else"
-unfoldable pub placedAt : {P : Type 0} → ℕ → List (Bracket P) → ℤ
-placedAt x ks = sum (map massOr0 (keep (λ k. isPlaced k && eqb (k .first) x) ks))
+unfoldable pub placedAt : {P : Type 0} → Line P → ℕ → ℤ
+placedAt t x = sum (map massOr0 (keep (λ k. member x (placedOn t k)) (modifications t)))
 
 unfoldable pub putAt : {P : Type 0} → ℕ → List (Bracket P) → List ℕ → ℤ
 putAt x [] p = pos 0
@@ -61,7 +65,7 @@ putAt x (k ∷ ks) [] = pos 0
 putAt x (k ∷ ks) (y ∷ p) = cond (eqb x y) (massOr0 k) (pos 0) +ℤ putAt x ks p
 
 unfoldable pub ledger : {P : Type 0} → Line P → List ℕ → List ℤ
-ledger t p = tabled (λ x. placedAt x (t .brackets) +ℤ putAt x (floaters t) p) 0 positionLimit
+ledger t p = tabled (λ x. placedAt t x +ℤ putAt x (floaters t) p) 0 positionLimit
 
 -- the labile ones, which no ledger books
 unfoldable pub labileMass : {P : Type 0} → Line P → ℤ

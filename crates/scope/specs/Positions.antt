@@ -13,13 +13,32 @@ use Rattle.scope.specs.Line.{Bracket, Line}
 use Rattle.scope.specs.Lists.{keep, flat, shared, tabled, member}
 use Rattle.scope.specs.Modifications.{isModification, isLabelled, copies, definedBy, referredBy}
 
+-- ---- what stands at each position: "Position 0 is the N-terminus, 1 to n the residues, n+1 the C-terminus". A residue is given by its letter, a terminus
+-- by a number that is no letter's.
+abbrev pub nTerminus : ℕ
+nTerminus = 1
+
+abbrev pub cTerminus : ℕ
+cTerminus = 2
+
+unfoldable pub sites : {P : Type 0} → Line P → List ℕ
+sites t = nTerminus ∷ (map (λ r. r .letter) (t .residues) ++ (cTerminus ∷ []))
+
+-- all positions
+abbrev pub positions : {P : Type 0} → Line P → List ℕ
+positions t = tabled (λ x. x) 0 (length (sites t))
+
 -- ---- "A modification is placed when it is unlabelled and stands on a residue or terminus"
 unfoldable pub isPlaced : {P : Type 0} → Bracket P → Bool
 isPlaced k = isModification k && not (isLabelled k) && onOnePosition (k .kind)
 
+-- the positions that it is placed on
+unfoldable pub placedOn : {P : Type 0} → Line P → Bracket P → List ℕ
+placedOn t k = cond (isPlaced k) (k .first ∷ []) []
+
 -- "A position with a placed modification is struck out"
-unfoldable pub struckOut : {P : Type 0} → List (Bracket P) → List ℕ
-struckOut ks = map (λ k. k .first) (keep isPlaced ks)
+unfoldable pub struckOut : {P : Type 0} → Line P → List ℕ
+struckOut t = flat (placedOn t) (t .brackets)
 
 -- ---- "Floating copies, in order of their brackets": each copy is given by its bracket
 unfoldable pub floaters : {P : Type 0} → Line P → List (Bracket P)
@@ -46,12 +65,8 @@ mayStand t k x =
     cond (isUnlabelledUnknown k (k .kind)) (between 1 (length (t .residues)) x)
     (ownPosition k x (k .kind) || referredAt k x (t .brackets))
 
--- all positions: "Position 0 is the N-terminus, 1 to n the residues, n+1 the C-terminus"
-abbrev pub positions : {P : Type 0} → Line P → List ℕ
-positions t = tabled (λ x. x) 0 (length (t .residues) + 2)
-
 unfoldable pub permitted : {P : Type 0} → Line P → Bracket P → List ℕ
-permitted t k = keep (λ x. mayStand t k x && not (member x (struckOut (t .brackets)))) (positions t)
+permitted t k = keep (λ x. mayStand t k x && not (member x (struckOut t))) (positions t)
 
 -- for each floater, in order
 abbrev pub permittedPositions : {P : Type 0} → Line P → List (List ℕ)

@@ -38,7 +38,7 @@ returns-2 c =
     lacked-by-machine (c .before .before .before .before .before .before .before .before .before .pre) (c .before .before .before .before .before .before .before .is-modification .ensures _) (c .before .before .before .before .before .before .if1 .taken) (count-is _ _ (c .before .before .before .before .before .count .ensures .0) _) (c .before .before .before .before .bracket-mass .ensures) (c .before .before .enum-told .given .1)
 
 returns-3 : tie.Need-returns-3
-returns-3 c = tallied-none _ (c .before .is-modification .ensures _) (c .if1 .left)
+returns-3 c = tallied-none _ _ (c .before .is-modification .ensures _) (c .if1 .left)
 
 pub tally-with-spec : {M : Type 1} → statement M
 tally-with-spec =

@@ -23,9 +23,9 @@ use Rattle.scope.specs.Register.{signedText, totalText, fields, report, printed
 use Rattle.masses.specs.declared.Weight.{Weight}
 use Rattle.masses.specs.declared.Weight.the-variants.{Total, Lacks}
 use Rattle.masses.specs.Weights.{weightOf}
-use Rattle.writer.specs.Written.{stored, Puts}
-use Rattle.writer.proofs.Storing.{stored-from, puts-of, puts-join}
-use Rattle.writer.proofs.Signs.{tested}
+use Rattle.figures.specs.Written.{stored, Puts}
+use Rattle.figures.proofs.Storing.{stored-from, puts-of, puts-join}
+use Rattle.figures.proofs.Signs.{tested}
 use Rattle.entries.specs.Entry.{entry, weightText}
 
 -- ---- fields

@@ -17,7 +17,8 @@ use Rattle.areas.specs.Bounds.{Bounds}
 use Rattle.order_laws.specs.Ranks.{Ordered}
 use Rattle.masses.specs.declared.Weight.{Weight}
 use Rattle.masses.specs.declared.Weight.the-variants.{Total, Lacks}
-use Rattle.writer.specs.Written.{Puts, decimalMost, lineMost}
+use Rattle.figures.specs.Written.{Puts, decimalMost}
+use Rattle.writer.specs.Written.{lineMost}
 
 -- what is printed for the line s with the number n, and the byte behind it
 abbrev pub entry : ℕ → List ℕ → List ℕ

@@ -1,12 +1,12 @@
 // The register's entries: what it prints for a line. The verdict leaves the line noted in the sheet, and its tables come from there. The areas are lent clean and
 // given back clean, and what the verdict has shown of the tables is not tried again.
+use figures::DIGITS;
 use masses::Weight;
 use masses::weigh;
 use reader::wipe;
 use scope::tables::Tables;
 use store::store;
 use verdict::Judged;
-use writer::DIGITS;
 ghost use mathlib.Core.Path.{_≡_};
 ghost use mathlib.Core.List.{List, [], _∷_, _++_};
 ghost use Prim.Native.Nat.{ℕ, _+_, _≤_};
@@ -17,7 +17,7 @@ ghost use Rattle.scope.specs.Refusals.{outcome};
 ghost use Rattle.scope.specs.Layout.{tablesIn};
 ghost use Rattle.sheet.specs.Rows.{Roomy};
 ghost use Rattle.store.specs.Filled.{Clean, Fills};
-ghost use Rattle.writer.specs.Written.{Puts, ceiling};
+ghost use Rattle.figures.specs.Written.{Puts, ceiling};
 ghost use Rattle.entries.specs.Entry.{entry, fieldMost, weightMost, refusedMost, countsMost, totalMost, acceptedMost, tablesMost, entryLimit, countFields, okFields, noFields, weightText, isRefused, Known, Floats, Printed};
 
 // "Byte 10 ends a line"
@@ -35,8 +35,8 @@ fn put_field(n: u64, out: &mut [u8], at: usize) -> usize
     requires { ⌜ at + fieldMost ≤ ceiling ⌝ }
     ensures { λ r. ⌜ Puts fieldMost (now (out .entry)) at (32 ∷ decimal n) (now (out .exit)) r ⌝ }
 {
-    let a = writer::put(out, at, b' ');
-    writer::put_decimal(n, out, a)
+    let a = figures::put(out, at, b' ');
+    figures::put_decimal(n, out, a)
 }
 
 // "signed, zero as `+0`"
@@ -44,13 +44,13 @@ fn put_signed(m: i64, out: &mut [u8], at: usize) -> usize
     requires { ⌜ at + weightMost ≤ ceiling ⌝ }
     ensures { λ r. ⌜ Puts weightMost (now (out .entry)) at (signedText m) (now (out .exit)) r ⌝ }
 {
-    let n = writer::magnitude(m);
+    let n = figures::magnitude(m);
     if m < 0 {
-        let a = writer::put(out, at, b'-');
-        return writer::put_decimal(n, out, a);
+        let a = figures::put(out, at, b'-');
+        return figures::put_decimal(n, out, a);
     }
-    let a = writer::put(out, at, b'+');
-    writer::put_decimal(n, out, a)
+    let a = figures::put(out, at, b'+');
+    figures::put_decimal(n, out, a)
 }
 
 // The total, or `?` and how many lack a mass.
@@ -61,8 +61,8 @@ fn put_weight(w: Weight, out: &mut [u8], at: usize) -> usize
     match w {
         Weight::Total(m) => put_signed(m, out, at),
         Weight::Lacks(n) => {
-            let a = writer::put(out, at, b'?');
-            writer::put_decimal(n as u64, out, a)
+            let a = figures::put(out, at, b'?');
+            figures::put_decimal(n as u64, out, a)
         }
     }
 }
@@ -73,7 +73,7 @@ fn put_refused(number: u8, place: usize, out: &mut [u8], at: usize) -> usize
     requires { ⌜ at + refusedMost ≤ ceiling ⌝ }
     ensures { λ r. ⌜ Puts refusedMost (now (out .entry)) at (fields (noFields number place)) (now (out .exit)) r ⌝ }
 {
-    let a = writer::word(b" no", out, at);
+    let a = figures::word(b" no", out, at);
     let b = put_field(number as u64, out, a);
     put_field(place as u64, out, b)
 }
@@ -85,7 +85,7 @@ fn put_counts(residues: usize, brackets: usize, floaters: usize, out: &mut [u8],
     requires { ⌜ at + countsMost ≤ ceiling ⌝ }
     ensures { λ r. ⌜ Puts countsMost (now (out .entry)) at (fields (countFields residues brackets floaters)) (now (out .exit)) r ⌝ }
 {
-    let a = writer::word(b" ok", out, at);
+    let a = figures::word(b" ok", out, at);
     let b = put_field(residues as u64, out, a);
     let c = put_field(brackets as u64, out, b);
     put_field(floaters as u64, out, c)
@@ -97,7 +97,7 @@ fn put_total(bytes: &[u8], numbers: &[i64], out: &mut [u8], at: usize) -> usize
     ensures { λ r. ⌜ Puts totalMost (now (out .entry)) at (32 ∷ totalText (tablesIn (now (bytes .entry)) (now (numbers .entry)))) (now (out .exit)) r ⌝ }
 {
     let w = weigh(bytes, numbers);
-    let a = writer::put(out, at, b' ');
+    let a = figures::put(out, at, b' ');
     put_weight(w, out, a)
 }
 
@@ -116,7 +116,7 @@ fn put_accepted(
 {
     let a = put_counts(residues, brackets, floaters, out, at);
     let b = put_total(bytes, numbers, out, a);
-    let c = writer::put(out, b, b' ');
+    let c = figures::put(out, b, b' ');
     writer::put_line(bytes, numbers, out, c)
 }
 
@@ -238,7 +238,7 @@ fn put_front(
     requires { ⌜ Roomy (now letters) (now sections) (now heads) (now parts) (now masses) (now scores) × Clean (now bytes) (now numbers) ⌝ }
     ensures { λ r. ⌜ Printed entryLimit (now (out .entry)) 0 (entry number (now (line .entry))) (now (out .exit)) (r .next) (now (bytes .entry)) (now (numbers .entry)) (now (bytes .exit)) (now (numbers .exit)) × (r .refused ≡ isRefused (outcome (now (line .entry)))) ⌝ }
 {
-    let a = writer::put_decimal(number, out, 0);
+    let a = figures::put_decimal(number, out, 0);
     let e = put_report(
         line,
         letters,
@@ -252,7 +252,7 @@ fn put_front(
         out,
         a,
     );
-    let next = writer::put(out, e.next, NEWLINE);
+    let next = figures::put(out, e.next, NEWLINE);
     Entered {
         next,
         refused: e.refused,

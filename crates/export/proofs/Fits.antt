@@ -9,8 +9,8 @@ use lib.ListN.{length, take, drop}
 use lib.Seq.{length-take-le, take-all, take-append-seam}
 use Rattle.scope.specs.Lists.{laid}
 use Rattle.scope.specs.Answers.{Said, good, refuses, fitting, outputAfter}
-use Rattle.writer.specs.Written.{stored, Puts}
-use Rattle.writer.proofs.Storing.{stored-whole}
+use Rattle.figures.specs.Written.{stored, Puts}
+use Rattle.figures.proofs.Storing.{stored-whole}
 use Rattle.export.specs.Numbers.{numberOf}
 use Rattle.export.specs.Shapes.{lengthLeft, Fitted}
 

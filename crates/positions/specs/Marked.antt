@@ -12,10 +12,17 @@ use Rattle.scope.specs.Layout.{bracketIn, tablesIn}
 use Rattle.scope.specs.Positions.{between, placedOn, ownPosition, referredAt, mayStand, struckOut}
 use Rattle.areas.specs.Floats.{TableIs}
 
--- in the row of positions that begins at base, those of a test are set to v; all else is as before
-pub record Marked (base : ℕ) (test : ℕ → Bool) (v : ℕ) (old new : List ℕ) : Type 0 where
+-- one value at every position; and at each the value that a row of its own has there
+abbrev pub always : ℕ → ℕ → ℕ
+always v x = v
+
+abbrev pub heldIn : List ℕ → ℕ → ℕ
+heldIn row x = getD row x 0
+
+-- in the row of positions that begins at base, each of a test is set to its value; all else is as before
+pub record Marked (base : ℕ) (test : ℕ → Bool) (value : ℕ → ℕ) (old new : List ℕ) : Type 0 where
   pub kept : length new ≡ length old
-  pub inside : (x : ℕ) → x < positionLimit → getD new (base + x) 0 ≡ cond (test x) v (getD old (base + x) 0)
+  pub inside : (x : ℕ) → x < positionLimit → getD new (base + x) 0 ≡ cond (test x) (value x) (getD old (base + x) 0)
   pub before : (i : ℕ) → i < base → getD new i 0 ≡ getD old i 0
   pub after : (i : ℕ) → base + positionLimit ≤ i → getD new i 0 ≡ getD old i 0
 
@@ -46,6 +53,10 @@ placedAt bs ns k x = member x (placedOn (tablesIn bs ns) (bracketIn bs ns k))
 -- x is struck out
 abbrev pub struckAt : List ℕ → List ℤ → ℕ → Bool
 struckAt bs ns x = member x (struckOut (tablesIn bs ns))
+
+-- the row of free positions: 0 where the tables strike out, 1 elsewhere
+abbrev pub FreeIs : List ℕ → List ℤ → List ℕ → Type 0
+FreeIs bs ns row = (x : ℕ) → x < positionLimit → heldIn row x ≡ cond (struckAt bs ns x) 0 1
 
 -- where the floater of bracket k may stand: on a permitted position that is not struck out
 abbrev pub standsAt : List ℕ → List ℤ → ℕ → ℕ → Bool

@@ -1,6 +1,7 @@
 // The floaters of the tables in areas, and the table of bytes of where each may stand.
 use crate::marks::clear_row;
 use crate::marks::fill_row;
+use crate::marks::strike_out;
 use areas::Floaters;
 use areas::brackets;
 use areas::wide;
@@ -70,17 +71,19 @@ fn clear_rest(tab: &mut [u8], from: usize)
     }
 }
 
-// The table of where each floater may stand.
+// The table of where each floater may stand: what is struck out is found once, for all of them.
 pub fn fill_table(bytes: &[u8], numbers: &[i64], f: Floaters, tab: &mut [u8])
     requires { ⌜ (Bounds (now bytes) (now numbers)) × (FloatersAre (now bytes) (now numbers) (f .count) (f .index)) × (rowLimit ≤ length (now tab)) ⌝ }
     ensures { λ _. ⌜ Filled (now (bytes .entry)) (now (numbers .entry)) (f .count) (now (tab .entry)) (now (tab .exit)) ⌝ }
 {
     let count = f.count;
     let index = f.index;
+    let mut free: [u8; Ledger::POSITIONS] = [1; Ledger::POSITIONS];
+    strike_out(bytes, &mut free);
     let mut g: usize = 0;
     while g < count {
         let k = wide(index[g]);
-        fill_row(bytes, k, tab, g * Ledger::POSITIONS);
+        fill_row(bytes, k, &free, tab, g * Ledger::POSITIONS);
         g += 1;
     }
     clear_rest(tab, count);

@@ -1,4 +1,4 @@
-// The row of one floater in the table: ranges of positions are marked, and positions with a placed modification are struck out.
+// The row of one floater in the table: ranges of positions are marked, but those with a placed modification, struck out beforehand, are not free.
 use crate::labels::refers_to;
 use areas::brackets;
 use areas::first;
@@ -21,12 +21,12 @@ ghost use Rattle.scope.specs.Layout.{bracketIn, tablesIn, bracketsField};
 ghost use Rattle.scope.specs.Positions.{between, isUnlabelledUnknown, mayStand};
 ghost use Rattle.brackets.specs.Row.{Row};
 ghost use Rattle.positions.specs.Legible.{Legible};
-ghost use Rattle.positions.specs.Marked.{Marked, RowIs, refersAt, referencesAt, ownAt, placedAt, struckAt, standsAt};
+ghost use Rattle.positions.specs.Marked.{Marked, RowIs, always, heldIn, refersAt, referencesAt, ownAt, placedAt, struckAt, FreeIs, standsAt};
 
 // Positions a to e of the row at base are set to v.
 fn put(tab: &mut [u8], base: usize, a: usize, e: usize, v: u8)
     requires { ⌜ (e < positionLimit) × (base + positionLimit ≤ length (now tab)) ⌝ }
-    ensures { λ _. ⌜ Marked base (between a e) v (now (tab .entry)) (now (tab .exit)) ⌝ }
+    ensures { λ _. ⌜ Marked base (between a e) (always v) (now (tab .entry)) (now (tab .exit)) ⌝ }
 {
     let mut x = a;
     while x <= e {
@@ -35,27 +35,52 @@ fn put(tab: &mut [u8], base: usize, a: usize, e: usize, v: u8)
     }
 }
 
+// Positions a to e of the row at base are marked where they are free.
+fn mark(free: &[u8; Ledger::POSITIONS], tab: &mut [u8], base: usize, a: usize, e: usize)
+    requires { ⌜ (e < positionLimit) × (base + positionLimit ≤ length (now tab)) ⌝ }
+    ensures { λ _. ⌜ Marked base (between a e) (heldIn (now (free .entry))) (now (tab .entry)) (now (tab .exit)) ⌝ }
+{
+    let mut x = a;
+    while x <= e {
+        tab[base + x] = free[x];
+        x += 1;
+    }
+}
+
 // The positions of bracket r are marked if it is a reference to a label of bracket k.
-fn mark_reference(bytes: &[u8], k: usize, r: usize, tab: &mut [u8], base: usize)
+fn mark_reference(
+    bytes: &[u8],
+    k: usize,
+    r: usize,
+    free: &[u8; Ledger::POSITIONS],
+    tab: &mut [u8],
+    base: usize,
+)
     requires { ⌜ (Legible (now bytes)) × (k < bracketsField (now bytes)) × (r < bracketsField (now bytes)) × (base + positionLimit ≤ length (now tab)) ⌝ }
-    ensures { λ _. ⌜ ((ns : List ℤ) → Marked base (refersAt (now (bytes .entry)) ns k r) 1 (now (tab .entry)) (now (tab .exit))) ⌝ }
+    ensures { λ _. ⌜ ((ns : List ℤ) → Marked base (refersAt (now (bytes .entry)) ns k r) (heldIn (now (free .entry))) (now (tab .entry)) (now (tab .exit))) ⌝ }
 {
     if refers_to(bytes, r, k) {
         let a = first(bytes, r);
         let e = last(bytes, r);
-        put(tab, base, a, e, 1);
+        mark(free, tab, base, a, e);
     }
 }
 
 // The positions of every reference to a label of bracket k are marked.
-fn mark_references(bytes: &[u8], k: usize, tab: &mut [u8], base: usize)
+fn mark_references(
+    bytes: &[u8],
+    k: usize,
+    free: &[u8; Ledger::POSITIONS],
+    tab: &mut [u8],
+    base: usize,
+)
     requires { ⌜ (Legible (now bytes)) × (k < bracketsField (now bytes)) × (base + positionLimit ≤ length (now tab)) ⌝ }
-    ensures { λ _. ⌜ ((ns : List ℤ) → Marked base (referencesAt (now (bytes .entry)) ns k) 1 (now (tab .entry)) (now (tab .exit))) ⌝ }
+    ensures { λ _. ⌜ ((ns : List ℤ) → Marked base (referencesAt (now (bytes .entry)) ns k) (heldIn (now (free .entry))) (now (tab .entry)) (now (tab .exit))) ⌝ }
 {
     let b = brackets(bytes);
     let mut r: usize = 0;
     while r < b {
-        mark_reference(bytes, k, r, tab, base);
+        mark_reference(bytes, k, r, free, tab, base);
         r += 1;
     }
 }
@@ -82,51 +107,51 @@ fn is_anywhere(bytes: &[u8], k: usize) -> bool
 }
 
 // The positions of bracket k are marked if it has some of its own.
-fn mark_own(bytes: &[u8], k: usize, tab: &mut [u8], base: usize)
+fn mark_own(bytes: &[u8], k: usize, free: &[u8; Ledger::POSITIONS], tab: &mut [u8], base: usize)
     requires { ⌜ (Legible (now bytes)) × (k < bracketsField (now bytes)) × (base + positionLimit ≤ length (now tab)) ⌝ }
-    ensures { λ _. ⌜ ((ns : List ℤ) → Marked base (ownAt (now (bytes .entry)) ns k) 1 (now (tab .entry)) (now (tab .exit))) ⌝ }
+    ensures { λ _. ⌜ ((ns : List ℤ) → Marked base (ownAt (now (bytes .entry)) ns k) (heldIn (now (free .entry))) (now (tab .entry)) (now (tab .exit))) ⌝ }
 {
     if has_place(kind(bytes, k)) {
         let a = first(bytes, k);
         let e = last(bytes, k);
-        put(tab, base, a, e, 1);
+        mark(free, tab, base, a, e);
     }
 }
 
 // Every position where bracket k may stand is marked.
-fn mark_all(bytes: &[u8], k: usize, tab: &mut [u8], base: usize)
+fn mark_all(bytes: &[u8], k: usize, free: &[u8; Ledger::POSITIONS], tab: &mut [u8], base: usize)
     requires { ⌜ (Legible (now bytes)) × (k < bracketsField (now bytes)) × (base + positionLimit ≤ length (now tab)) ⌝ }
-    ensures { λ _. ⌜ ((ns : List ℤ) → Marked base (mayStand (tablesIn (now (bytes .entry)) ns) (bracketIn (now (bytes .entry)) ns k)) 1 (now (tab .entry)) (now (tab .exit))) ⌝ }
+    ensures { λ _. ⌜ ((ns : List ℤ) → Marked base (mayStand (tablesIn (now (bytes .entry)) ns) (bracketIn (now (bytes .entry)) ns k)) (heldIn (now (free .entry))) (now (tab .entry)) (now (tab .exit))) ⌝ }
 {
     if is_anywhere(bytes, k) {
         let n = residues(bytes);
-        put(tab, base, 1, n, 1);
+        mark(free, tab, base, 1, n);
         return;
     }
-    mark_own(bytes, k, tab, base);
-    mark_references(bytes, k, tab, base);
+    mark_own(bytes, k, free, tab, base);
+    mark_references(bytes, k, free, tab, base);
 }
 
 // The position of bracket k is struck out if it is placed.
-fn strike(bytes: &[u8], k: usize, tab: &mut [u8], base: usize)
-    requires { ⌜ (Legible (now bytes)) × (k < bracketsField (now bytes)) × (base + positionLimit ≤ length (now tab)) ⌝ }
-    ensures { λ _. ⌜ ((ns : List ℤ) → Marked base (placedAt (now (bytes .entry)) ns k) 0 (now (tab .entry)) (now (tab .exit))) ⌝ }
+fn strike(bytes: &[u8], k: usize, free: &mut [u8])
+    requires { ⌜ (Legible (now bytes)) × (k < bracketsField (now bytes)) × (positionLimit ≤ length (now free)) ⌝ }
+    ensures { λ _. ⌜ ((ns : List ℤ) → Marked 0 (placedAt (now (bytes .entry)) ns k) (always 0) (now (free .entry)) (now (free .exit))) ⌝ }
 {
     if is_placed(bytes, k) {
         let x = first(bytes, k);
-        tab[base + x] = 0;
+        free[x] = 0;
     }
 }
 
 // Every position with a placed modification is struck out.
-fn strike_out(bytes: &[u8], tab: &mut [u8], base: usize)
-    requires { ⌜ (Legible (now bytes)) × (base + positionLimit ≤ length (now tab)) ⌝ }
-    ensures { λ _. ⌜ ((ns : List ℤ) → Marked base (struckAt (now (bytes .entry)) ns) 0 (now (tab .entry)) (now (tab .exit))) ⌝ }
+pub fn strike_out(bytes: &[u8], free: &mut [u8])
+    requires { ⌜ (Legible (now bytes)) × (positionLimit ≤ length (now free)) ⌝ }
+    ensures { λ _. ⌜ ((ns : List ℤ) → Marked 0 (struckAt (now (bytes .entry)) ns) (always 0) (now (free .entry)) (now (free .exit))) ⌝ }
 {
     let b = brackets(bytes);
     let mut k: usize = 0;
     while k < b {
-        strike(bytes, k, tab, base);
+        strike(bytes, k, free);
         k += 1;
     }
 }
@@ -134,17 +159,16 @@ fn strike_out(bytes: &[u8], tab: &mut [u8], base: usize)
 // The row at base is set to zero.
 pub fn clear_row(tab: &mut [u8], base: usize)
     requires { ⌜ base + positionLimit ≤ length (now tab) ⌝ }
-    ensures { λ _. ⌜ Marked base (λ x. true) 0 (now (tab .entry)) (now (tab .exit)) ⌝ }
+    ensures { λ _. ⌜ Marked base (λ x. true) (always 0) (now (tab .entry)) (now (tab .exit)) ⌝ }
 {
     put(tab, base, 0, Ledger::POSITIONS - 1, 0);
 }
 
 // The row at base has 1 where the floater of bracket k may stand, and 0 elsewhere.
-pub fn fill_row(bytes: &[u8], k: usize, tab: &mut [u8], base: usize)
-    requires { ⌜ (Legible (now bytes)) × (k < bracketsField (now bytes)) × (base + positionLimit ≤ length (now tab)) ⌝ }
+pub fn fill_row(bytes: &[u8], k: usize, free: &[u8; Ledger::POSITIONS], tab: &mut [u8], base: usize)
+    requires { ⌜ (Legible (now bytes)) × (k < bracketsField (now bytes)) × (((ns : List ℤ) → FreeIs (now bytes) ns (now free))) × (base + positionLimit ≤ length (now tab)) ⌝ }
     ensures { λ _. ⌜ ((ns : List ℤ) → RowIs base (standsAt (now (bytes .entry)) ns k) (now (tab .entry)) (now (tab .exit))) ⌝ }
 {
     clear_row(tab, base);
-    mark_all(bytes, k, tab, base);
-    strike_out(bytes, tab, base);
+    mark_all(bytes, k, free, tab, base);
 }

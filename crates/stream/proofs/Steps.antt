@@ -14,8 +14,8 @@ use Rattle.scope.specs.Limits.{residueLimit, bracketLimit}
 use Rattle.scope.specs.Layout.{bytesSize, numbersSize}
 use Rattle.sheet.specs.Rows.{headsRoom, partsRoom, massesRoom}
 use Rattle.store.specs.Filled.{Clean}
-use Rattle.writer.specs.Written.{stored, Puts, decimalMost}
-use Rattle.writer.proofs.Storing.{stored-append, stored-whole}
+use Rattle.figures.specs.Written.{stored, Puts, decimalMost}
+use Rattle.figures.proofs.Storing.{stored-append, stored-whole}
 use Rattle.scope.specs.Refusals.{outcome}
 use Rattle.entries.specs.Entry.{entry, entryLimit, isRefused, Printed}
 use Rattle.stream.specs.declared.End.{End}

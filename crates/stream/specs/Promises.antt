@@ -9,7 +9,7 @@ use lib.ListN.{length, take, drop, getD}
 use Rattle.scope.specs.Canonical.{decimal}
 use Rattle.sheet.specs.Rows.{Roomy}
 use Rattle.store.specs.Filled.{Clean}
-use Rattle.writer.specs.Written.{stored, decimalMost}
+use Rattle.figures.specs.Written.{stored, decimalMost}
 use Rattle.entries.specs.Entry.{entryLimit}
 use Rattle.stream.specs.declared.End.{End}
 use Rattle.stream.specs.declared.End.the-variants.{Whole}

@@ -477,8 +477,8 @@ fn notice(words: &[u8], number: u64, out: &mut [u8]) -> usize
 {
     let n = words.len();
     copy_bytes(words, n, out);
-    let a = writer::put_decimal(number, out, n);
-    writer::put(out, a, NEWLINE)
+    let a = figures::put_decimal(number, out, n);
+    figures::put(out, a, NEWLINE)
 }
 
 // A notice to standard error. Whether it is taken is not asked.

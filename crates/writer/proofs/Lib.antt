@@ -1,6 +1,3 @@
-pub mod Storing
-pub mod Digits
-pub mod Signs
 pub mod PartTexts
 pub mod RankLaws
 pub mod RunLaws

@@ -24,10 +24,11 @@ use Rattle.scope.specs.Layout.{sectionCode, sectionIn, residueIn, bracketIn, ta
 use Rattle.areas.specs.Bounds.{Bounds}
 use Rattle.writer.specs.declared.Shape.{Shape}
 use Rattle.writer.specs.declared.Shape.the-variants.{Counted, Curly, Square}
-use Rattle.writer.specs.Written.{Puts, WholeLine, ceiling, residueMost, residuesMost}
+use Rattle.figures.specs.Written.{Puts, ceiling}
+use Rattle.writer.specs.Written.{WholeLine, residueMost, residuesMost}
 use Rattle.writer.specs.Here.{Room}
 use Rattle.writer.specs.Ranks.{lastRank, rankOf, rank, rankIn, Ready, rankedText, runText, frontText, Walks, residueText, Spelt, Clear, Behind, Spells}
-use Rattle.writer.proofs.Storing.{stored-whole, puts-within, puts-length}
+use Rattle.figures.proofs.Storing.{stored-whole, puts-within, puts-length}
 use Rattle.writer.proofs.RankLaws.{rank-is, rank-within, rank-tells, tabled-from, tabled-over}
 use Rattle.writer.proofs.RunLaws.{quiet, run-one, run-empty, none-of}
 use Rattle.writer.proofs.Walking.{walks-of, walks-still, walks-then, walks-before, walks-up, room-after}

@@ -2,27 +2,17 @@
 use mathlib.Core.Path.{_≡_, sym, _∙_}
 use mathlib.Core.Bool.{true, false}
 use mathlib.Core.List.{List, [], _∷_, _++_}
-use Prim.Native.Nat.{ℕ, _+_, _-_, _≤_}
+use Prim.Native.Nat.{ℕ, _+_, _-_}
 use lib.Dec.{eqb}
 use lib.IntN.{ℤ}
-use lib.ListN.{List·getD-eq-default}
 use borrow.Author.Tests.{eq-eqb, ne-eqb}
-use Rattle.scope.specs.declared.grammar.Key.the-variants.{NoKey}
 use Rattle.scope.specs.Bytes.{openRound, shutRound, hash, bar}
 use Rattle.scope.specs.Canonical.{massText, scoreText, valueText, labelText, partText}
 use Rattle.scope.specs.Lists.{given, part}
-use Rattle.scope.specs.Keys.{written, spell, keys, keyIn}
+use Rattle.scope.specs.Keys.{written, keyIn}
 use Rattle.scope.specs.Line.{Part}
 use Rattle.scope.specs.Layout.{massCode, textCode, textsAt, numberIn, scoreIn, labelIn, valueIn, partIn, decimalsField, keyField, labelField, massField, offsetField, scoreField, scoreNumber, textField, valueField}
 use Rattle.writer.specs.Written.{scoredText, nextText}
-
--- ---- keys
-pub spelled : (c n : ℕ) → c ≡ n → written (keyIn n) ≡ written (keyIn c)
-spelled c n e = rw e
-
-pub no-key : (c : ℕ) → 18 ≤ c → [] ≡ written (keyIn c)
-unfolding written spell keys
-no-key c h = rw (List·getD-eq-default (NoKey ∷ keys) NoKey {n = c} h)
 
 -- ---- scores, labels and values
 module _ (bs : List ℕ) (ns : List ℤ) (k : ℕ) where

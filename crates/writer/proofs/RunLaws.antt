@@ -16,9 +16,10 @@ use Rattle.scope.specs.Layout.{bracketIn, tablesIn, bracketsField, countField}
 use Rattle.basics.specs.Lists.{keep-append, flat-append}
 use Rattle.writer.specs.declared.Shape.{Shape}
 use Rattle.writer.specs.declared.Shape.the-variants.{Counted, Curly, Square}
-use Rattle.writer.specs.Written.{Puts, bracketMost}
+use Rattle.figures.specs.Written.{Puts}
+use Rattle.writer.specs.Written.{bracketMost}
 use Rattle.writer.specs.Ranks.{rank, rankIn, Ready, textAs, rankedText, runText, Walks}
-use Rattle.writer.proofs.Storing.{puts-none, puts-of, puts-within, puts-join}
+use Rattle.figures.proofs.Storing.{puts-none, puts-of, puts-within, puts-join}
 use Rattle.writer.proofs.RankLaws.{rank-is, tabled-more}
 
 -- ---- one bracket

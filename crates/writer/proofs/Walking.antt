@@ -5,10 +5,11 @@ use Prim.Native.Nat.{ℕ, _+_, _-_, _*_, _≤_, _<_}
 use native.Mathlib.Omega.{arith}
 use Rattle.scope.specs.Limits.{bracketLimit}
 use Rattle.scope.specs.Layout.{bracketsField}
-use Rattle.writer.specs.Written.{Puts, ceiling, bracketMost, residuesMost, frontMost, lineMost}
+use Rattle.figures.specs.Written.{Puts, ceiling}
+use Rattle.writer.specs.Written.{bracketMost, residuesMost, frontMost, lineMost}
 use Rattle.writer.specs.Here.{Room}
 use Rattle.writer.specs.Ranks.{rankIn, Walks}
-use Rattle.writer.proofs.Storing.{puts-of, puts-within, puts-join}
+use Rattle.figures.proofs.Storing.{puts-of, puts-within, puts-join}
 
 module _ {bs : List ℕ} where
   pub walks-still :

@@ -7,7 +7,8 @@ use lib.ListN.{length}
 use Rattle.scope.specs.Limits.{bracketLimit, partLimit, decimalLimit}
 use Rattle.scope.specs.Layout.{bytesSize, numbersSize, bracketsField, partsField, scoreField}
 use Rattle.areas.specs.Bounds.{PartBounds}
-use Rattle.writer.specs.Written.{ceiling, bracketMost}
+use Rattle.figures.specs.Written.{ceiling}
+use Rattle.writer.specs.Written.{bracketMost}
 
 -- bracket k, and its score
 pub record BracketHere (bs : List ℕ) (ns : List ℤ) (k : ℕ) : Type 0 where

@@ -15,7 +15,8 @@ use Rattle.scope.specs.Kinds.{kindIn}
 use Rattle.areas.specs.Bounds.{Bounds}
 use Rattle.writer.specs.declared.Shape.{Shape}
 use Rattle.writer.specs.declared.Shape.the-variants.{Counted, Curly, Square}
-use Rattle.writer.specs.Written.{Puts, bracketMost, residueMost}
+use Rattle.figures.specs.Written.{Puts}
+use Rattle.writer.specs.Written.{bracketMost, residueMost}
 pub use Rattle.order_laws.specs.Ranks.{lastRank, rankOf, rank, Ordered}
 unfoldable pub use Rattle.order_laws.specs.Ranks.{rising, orderedb}
 

@@ -5,7 +5,7 @@ use Rattle.scope.specs.Canonical.{canonical}
 use Rattle.scope.specs.Layout.{tablesIn}
 use Rattle.scope.specs.Register.{totalText}
 use Rattle.entries.specs.Entry.{countFields}
-use Rattle.writer.proofs.Storing.{puts-of, puts-join, puts-exact}
+use Rattle.figures.proofs.Storing.{puts-of, puts-join, puts-exact}
 use Rattle.entries.proofs.Texts.{field-then, field-last, fields-append}
 use borrow.Author.Needs.{needs}
 use Rattle.entries.proofs.put_accepted.Statement.{statement}

@@ -1,6 +1,6 @@
 -- `entries::put_entry` meets its contract: what is put into the part of the output that begins at the place is put into the output from there on. Assumes nothing.
 use native.Mathlib.Omega.{arith}
-use Rattle.writer.proofs.Storing.{puts-length}
+use Rattle.figures.proofs.Storing.{puts-length}
 use Rattle.entries.proofs.Texts.{puts-from}
 use borrow.Author.Needs.{needs}
 use Rattle.entries.proofs.put_entry.Statement.{statement}

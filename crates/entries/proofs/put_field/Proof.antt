@@ -1,5 +1,5 @@
 -- `entries::put_field` meets its contract: a space, and the number behind it. Assumes nothing.
-use Rattle.writer.proofs.Storing.{puts-join}
+use Rattle.figures.proofs.Storing.{puts-join}
 use borrow.Author.Needs.{needs}
 use Rattle.entries.proofs.put_field.Statement.{statement}
 use Rattle.entries.proofs.put_field.Tie as tie

@@ -1,5 +1,5 @@
 -- `entries::put_front` meets its contract: the number, the report and byte 10, one behind the other; whether the line is refused, the report says. Assumes nothing.
-use Rattle.writer.proofs.Storing.{puts-of, puts-join, puts-length}
+use Rattle.figures.proofs.Storing.{puts-of, puts-join, puts-length}
 use Rattle.entries.proofs.Texts.{entry-text}
 use borrow.Author.Needs.{needs}
 use Rattle.entries.proofs.put_front.Statement.{statement}

@@ -2,7 +2,7 @@
 use mathlib.Core.Path.{refl, sym, ap}
 use native.Mathlib.Omega.{arith}
 use Rattle.reader.proofs.Storing.{fills}
-use Rattle.writer.proofs.Storing.{puts-of, puts-within, puts-length}
+use Rattle.figures.proofs.Storing.{puts-of, puts-within, puts-length}
 use Rattle.entries.specs.Entry.{isRefused}
 use Rattle.entries.proofs.Taken.{refused-text, floats-of}
 use borrow.Author.Needs.{needs}

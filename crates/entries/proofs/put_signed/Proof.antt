@@ -1,5 +1,5 @@
 -- `entries::put_signed` meets its contract: the sign, and the number behind it. Assumes nothing.
-use Rattle.writer.proofs.Storing.{puts-of, puts-join}
+use Rattle.figures.proofs.Storing.{puts-of, puts-join}
 use Rattle.entries.proofs.Texts.{minus-text, plus-text}
 use borrow.Author.Needs.{needs}
 use Rattle.entries.proofs.put_signed.Statement.{statement}

@@ -3,7 +3,7 @@ use native.Mathlib.Omega.{arith}
 use mathlib.Core.Path.{refl}
 use Rattle.reader.proofs.Storing.{filled, holds-of}
 use Rattle.reader.proofs.Wiping.{put-back}
-use Rattle.writer.proofs.Storing.{puts-of, puts-length}
+use Rattle.figures.proofs.Storing.{puts-of, puts-length}
 use Rattle.entries.proofs.Taken.{known, taken-text}
 use borrow.Author.Needs.{needs}
 use Rattle.entries.proofs.put_taken.Statement.{statement}

@@ -1,7 +1,7 @@
 -- `entries::put_total` meets its contract: a space, and the total behind it. Assumes nothing.
 use mathlib.Core.Path.{ap, _∙_}
 use Rattle.entries.specs.Entry.{weightText}
-use Rattle.writer.proofs.Storing.{puts-of, puts-join}
+use Rattle.figures.proofs.Storing.{puts-of, puts-join}
 use Rattle.entries.proofs.Texts.{weight-text}
 use borrow.Author.Needs.{needs}
 use Rattle.entries.proofs.put_total.Statement.{statement}

@@ -2,7 +2,7 @@
 use mathlib.Core.Path.{_≡_}
 use mir.Syntax.{w64}
 use mir.Val.{toZ, ofZ}
-use Rattle.writer.proofs.Storing.{puts-of, puts-join}
+use Rattle.figures.proofs.Storing.{puts-of, puts-join}
 use Rattle.entries.proofs.Texts.{total-told, lacks-told}
 use borrow.Author.Needs.{needs}
 use Rattle.entries.proofs.put_weight.Statement.{statement}

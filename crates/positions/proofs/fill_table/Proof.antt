@@ -1,6 +1,7 @@
--- `positions::fill_table` meets its contract. Assumes nothing.
+-- `positions::fill_table` meets its contract: what is struck out is known before the loop, and each turn fills one row. Assumes nothing.
 use Prim.Native.Nat.{_-_}
 use Rattle.positions.specs.Legible.{legible}
+use Rattle.positions.proofs.Rows.{free-is}
 use Rattle.positions.proofs.Whole.{Filling, filling-start, filling-next, filling-end}
 use borrow.Author.Needs.{needs}
 use native.Mathlib.Omega.{arith}
@@ -8,58 +9,87 @@ use Rattle.positions.proofs.fill_table.Statement.{statement}
 use Rattle.positions.proofs.fill_table.Tie as tie
 
 abbrev Inv-loop : tie.InvT-loop
-Inv-loop bytes numbers tab₀ count index g₀ tab g = Filling bytes numbers index count g tab₀ tab
+Inv-loop bytes numbers tab₀ count index free g₀ tab g = Filling bytes numbers index count g tab₀ tab
 
 abbrev μ-loop : tie.MeasureT-loop
-μ-loop bytes numbers tab₀ count index g₀ tab g = count - g
+μ-loop bytes numbers tab₀ count index free g₀ tab g = count - g
+
+slice-aggregate-strike-out : tie.Need-slice-aggregate-strike-out Inv-loop μ-loop
+slice-aggregate-strike-out c = search needs
+
+strike-out-requires : tie.Need-strike-out-requires Inv-loop μ-loop
+strike-out-requires c κs =
+    let start = c .before .before .before .before in
+    (legible (start .pre .0), omega arith)
 
 loop-holds : tie.Need-loop-holds Inv-loop μ-loop
 loop-holds c = filling-start _ _ _ _ _
 
 array-read-wide : tie.Need-array-read-wide Inv-loop μ-loop
-array-read-wide c = omega (arith, c .before .before .before .before .before .pre .1 .few)
+array-read-wide c =
+    let out = c .before .before .before in
+    let start = out .before .before .before .before .before in
+    omega (arith, start .pre .1 .few)
 
 wide-requires : tie.Need-wide-requires Inv-loop μ-loop
 wide-requires c κs = search needs
 
 mul-fill-row : tie.Need-mul-fill-row Inv-loop μ-loop
-mul-fill-row c = omega (arith, c .before .before .before .before .before .before .before .pre .1 .few)
+mul-fill-row c =
+    let turn = c .before .before .before in
+    let start = turn .before .before .before .before .before .before .before .before in
+    omega (arith, start .pre .1 .few)
 
 fill-row-requires : tie.Need-fill-row-requires Inv-loop μ-loop
-fill-row-requires c κs = (legible (c .before .before .before .before .before .before .before .pre .0), omega (arith, c .before .wide .ensures .0, c .before .before .before .before .before .before .before .pre .1 .inside (c .before .before .before .loop .g) (c .before .before .loop-test .taken)), omega (arith, c .before .before .before .before .before .before .before .pre .1 .few, c .before .before .before .loop .inv .kept))
+fill-row-requires c κs =
+    let index = c .before .before in
+    let turn = index .before in
+    let loop = turn .before in
+    let out = loop .before .before in
+    let start = out .before .before .before .before .before in (
+      legible (start .pre .0),
+      omega (arith, index .wide .ensures .0, start .pre .1 .inside (loop .loop .g) (turn .loop-test .taken)),
+      (λ ns. free-is _ ns (out .strike-out .ensures ns)),
+      omega (arith, start .pre .1 .few, loop .loop .inv .kept),
+    )
 
 add-g : tie.Need-add-g Inv-loop μ-loop
-add-g c = omega (arith, c .before .before .before .before .before .before .before .before .before .before .pre .1 .few)
+add-g c =
+    let turn = c .before .before .before .before .before .before in
+    let start = turn .before .before .before .before .before .before .before .before in
+    omega (arith, start .pre .1 .few)
 
 loop-less : tie.Need-loop-less Inv-loop μ-loop
 loop-less c = omega arith
 
 loop-again : tie.Need-loop-again Inv-loop μ-loop
-loop-again c = filling-next (c .before .before .before .before .before .before .loop .inv) (c .before .before .before .before .before .loop-test .taken) (c .before .before .before .before .wide .ensures .0) (c .before .before .fill-row .ensures _)
+loop-again c =
+    let index = c .before .before .before .before .before in
+    let turn = index .before in
+    filling-next (turn .before .loop .inv) (turn .loop-test .taken) (index .wide .ensures .0) (c .before .before .fill-row .ensures _)
 
 clear-rest-requires : tie.Need-clear-rest-requires Inv-loop μ-loop
-clear-rest-requires c κs = (c .before .before .before .before .before .before .pre .1 .few, omega (arith, c .before .before .loop .inv .kept))
+clear-rest-requires c κs =
+    let loop = c .before .before in
+    let start = loop .before .before .before .before .before .before .before in
+    (start .pre .1 .few, omega (arith, loop .loop .inv .kept))
 
 same-length : tie.Need-same-length Inv-loop μ-loop
-same-length c = omega (arith, c .before .before .clear-rest .kept, c .before .before .before .before .before .loop .inv .kept)
+same-length c =
+    let rest = c .before .before in
+    let loop = rest .before .before .before in
+    omega (arith, rest .clear-rest .kept, loop .loop .inv .kept)
 
 returns : tie.Need-returns Inv-loop μ-loop
-returns c = filling-end (c .before .before .before .before .before .loop .inv) (c .before .before .before .before .loop-test .left) (legible (c .before .before .before .before .before .before .before .before .before .pre .0)) (c .before .before .before .before .before .before .before .before .before .pre .1) (c .before .before .clear-rest .ensures)
+returns c =
+    let rest = c .before .before in
+    let done = rest .before .before in
+    let loop = done .before in
+    let start = loop .before .before .before .before .before .before .before in
+    filling-end (loop .loop .inv) (done .loop-test .left) (legible (start .pre .0)) (start .pre .1) (rest .clear-rest .ensures)
 
 pub fill-table-spec : {M : Type 1} → statement M
 fill-table-spec =
     tie.close
-    (tie.spec
-    Inv-loop
-    μ-loop
-    loop-holds
-    array-read-wide
-    wide-requires
-    mul-fill-row
-    fill-row-requires
-    add-g
-    loop-less
-    loop-again
-    clear-rest-requires
-    same-length
-    returns)
+    (tie.spec Inv-loop μ-loop
+    slice-aggregate-strike-out strike-out-requires loop-holds array-read-wide wide-requires mul-fill-row fill-row-requires add-g loop-less loop-again clear-rest-requires same-length returns)

@@ -1,6 +1,6 @@
 -- The parts between two bytes. Assumes nothing.
 use Rattle.scope.specs.Layout.{bracketIn}
-use Rattle.writer.proofs.Storing.{puts-join}
+use Rattle.figures.proofs.Storing.{puts-join}
 use borrow.Author.Needs.{needs}
 use Rattle.writer.proofs.put_between.Statement.{statement}
 use Rattle.writer.proofs.put_between.Tie as tie

@@ -1,6 +1,6 @@
 -- The parts between two bytes, by the shape; a count behind them where there is one. Assumes nothing.
 use native.Mathlib.Omega.{arith}
-use Rattle.writer.proofs.Storing.{puts-of, puts-within, puts-join}
+use Rattle.figures.proofs.Storing.{puts-of, puts-within, puts-join}
 use Rattle.writer.proofs.RunLaws.{as-counted, as-curly, as-square}
 use borrow.Author.Needs.{needs}
 use Rattle.writer.proofs.put_bracket.Statement.{statement}

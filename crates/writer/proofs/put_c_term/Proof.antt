@@ -1,6 +1,6 @@
 -- The last bracket is at the C-terminus, or none is: then nothing is written. Assumes nothing.
 use native.Mathlib.Omega.{arith}
-use Rattle.writer.proofs.Storing.{puts-none, puts-of, puts-within, puts-join}
+use Rattle.figures.proofs.Storing.{puts-none, puts-of, puts-within, puts-join}
 use Rattle.writer.proofs.Walking.{room-behind}
 use Rattle.writer.proofs.LineLaws.{c-term-none, c-term-below, c-term-some}
 use borrow.Author.Needs.{needs}

@@ -2,7 +2,7 @@
 use native.Mathlib.Omega.{arith}
 use Rattle.scope.specs.declared.grammar.Section.the-variants.{RangeFirst, RangeNext, UnsureFirst, UnsureNext}
 use Rattle.scope.specs.Layout.{sectionCode}
-use Rattle.writer.proofs.Storing.{puts-none, puts-within}
+use Rattle.figures.proofs.Storing.{puts-none, puts-within}
 use Rattle.writer.proofs.Walking.{walks-of, walks-still}
 use Rattle.writer.proofs.LineLaws.{ending-of, ending-other}
 use borrow.Author.Needs.{needs}

@@ -1,7 +1,7 @@
 -- No run is looked for where no bracket has a rank of theirs; else the three runs stand one behind the other. Assumes nothing.
 use native.Mathlib.Nat.{le-refl}
 use native.Mathlib.Omega.{arith}
-use Rattle.writer.proofs.Storing.{puts-none, puts-within}
+use Rattle.figures.proofs.Storing.{puts-none, puts-within}
 use Rattle.writer.proofs.Walking.{walks-of, walks-still, walks-then, room-less, room-after}
 use Rattle.writer.proofs.LineLaws.{front-none}
 use borrow.Author.Needs.{needs}

@@ -1,6 +1,6 @@
 -- Nothing where there is no label, else `#`, the label behind the text, and its score. Assumes nothing.
 use native.Mathlib.Omega.{arith}
-use Rattle.writer.proofs.Storing.{puts-none, puts-of, puts-join, puts-within, puts-under}
+use Rattle.figures.proofs.Storing.{puts-none, puts-of, puts-join, puts-within, puts-under}
 use Rattle.writer.proofs.PartTexts.{label-none, label-some}
 use borrow.Author.Needs.{needs}
 use Rattle.writer.proofs.put_label.Statement.{statement}

@@ -3,7 +3,7 @@ use Prim.Native.Nat.{_+_}
 use native.Mathlib.Nat.{le-refl}
 use native.Mathlib.Omega.{arith}
 use Rattle.writer.specs.Written.{residuesMost}
-use Rattle.writer.proofs.Storing.{puts-of, puts-within}
+use Rattle.figures.proofs.Storing.{puts-of, puts-within}
 use Rattle.writer.proofs.RankLaws.{ready}
 use Rattle.writer.proofs.Walking.{walks-before, walks-then, room-line, room-less, room-after}
 use Rattle.writer.proofs.LineLaws.{line-text}

@@ -1,6 +1,6 @@
 -- `|` stands before every part but the first. Assumes nothing.
 use native.Mathlib.Omega.{arith}
-use Rattle.writer.proofs.Storing.{puts-of, puts-join, puts-within}
+use Rattle.figures.proofs.Storing.{puts-of, puts-join, puts-within}
 use Rattle.writer.proofs.PartTexts.{next-first, next-later}
 use borrow.Author.Needs.{needs}
 use Rattle.writer.proofs.put_next_part.Statement.{statement}

@@ -2,7 +2,7 @@
 use native.Mathlib.Omega.{arith}
 use Rattle.scope.specs.declared.grammar.Section.the-variants.{RangeFirst, UnsureFirst}
 use Rattle.scope.specs.Layout.{sectionCode}
-use Rattle.writer.proofs.Storing.{puts-none, puts-of, puts-within, puts-join}
+use Rattle.figures.proofs.Storing.{puts-none, puts-of, puts-within, puts-join}
 use Rattle.writer.proofs.LineLaws.{opening-of, opening-other}
 use borrow.Author.Needs.{needs}
 use Rattle.writer.proofs.put_opening.Statement.{statement}

@@ -1,5 +1,5 @@
 -- Its key, its value and its label, one behind the other. Assumes nothing.
-use Rattle.writer.proofs.Storing.{puts-of, puts-join}
+use Rattle.figures.proofs.Storing.{puts-of, puts-join}
 use Rattle.writer.proofs.PartTexts.{part-text}
 use borrow.Author.Needs.{needs}
 use Rattle.writer.proofs.put_part.Statement.{statement}

@@ -6,8 +6,9 @@ use native.Mathlib.Omega.{arith}
 use Rattle.scope.specs.Canonical.{partsText}
 use Rattle.scope.specs.Lists.{tabled}
 use Rattle.scope.specs.Layout.{partIn}
-use Rattle.writer.specs.Written.{Puts, nextMost}
-use Rattle.writer.proofs.Storing.{puts-none, puts-of, puts-within, puts-join, puts-length}
+use Rattle.figures.specs.Written.{Puts}
+use Rattle.writer.specs.Written.{nextMost}
+use Rattle.figures.proofs.Storing.{puts-none, puts-of, puts-within, puts-join, puts-length}
 use Rattle.writer.proofs.RankLaws.{no-parts, parts-more, part-here}
 use Rattle.writer.proofs.put_parts.Statement.{statement}
 use Rattle.writer.proofs.put_parts.Tie as tie

@@ -1,6 +1,6 @@
 -- A bracket is written where its rank is the one that is asked for. Assumes nothing.
 use native.Mathlib.Omega.{arith}
-use Rattle.writer.proofs.Storing.{puts-of, puts-within, puts-none}
+use Rattle.figures.proofs.Storing.{puts-of, puts-within, puts-none}
 use Rattle.writer.proofs.RunLaws.{ranked-yes, ranked-no}
 use borrow.Author.Needs.{needs}
 use Rattle.writer.proofs.put_ranked.Statement.{statement}

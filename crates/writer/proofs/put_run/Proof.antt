@@ -2,7 +2,7 @@
 use borrow.Author.Needs.{needs}
 use Prim.Native.Nat.{_-_}
 use native.Mathlib.Omega.{arith}
-use Rattle.writer.proofs.Storing.{puts-length}
+use Rattle.figures.proofs.Storing.{puts-length}
 use Rattle.writer.proofs.RankLaws.{bracket-here}
 use Rattle.writer.proofs.Walking.{room-one}
 use Rattle.writer.proofs.RunLaws.{Running, run-start, run-more, run-stop, run-over}

@@ -3,7 +3,7 @@ use mathlib.Core.Path.{_∙_}
 use native.Mathlib.Omega.{arith}
 use mir.Syntax.{w64}
 use mir.Facts.{toZ-ofZ}
-use Rattle.writer.proofs.Storing.{puts-none, puts-of, puts-join, puts-within}
+use Rattle.figures.proofs.Storing.{puts-none, puts-of, puts-join, puts-within}
 use Rattle.writer.proofs.PartTexts.{scored-none, scored-some}
 use borrow.Author.Needs.{needs}
 use Rattle.writer.proofs.put_scored.Statement.{statement}

@@ -4,7 +4,7 @@ use Prim.Native.Nat.{_-_, _≤_}
 use native.Mathlib.Omega.{arith}
 use Rattle.scope.specs.Limits.{residueLimit}
 use Rattle.writer.specs.Ranks.{Spelt}
-use Rattle.writer.proofs.Storing.{puts-none, puts-length}
+use Rattle.figures.proofs.Storing.{puts-none, puts-length}
 use Rattle.writer.proofs.Walking.{walks-still, room-less}
 use Rattle.writer.proofs.LineLaws.{spelt-start, spelt-more, spelt-room, spelt-over}
 use Rattle.writer.proofs.put_sequence.Statement.{statement}

@@ -3,7 +3,7 @@ use mathlib.Core.Path.{_∙_}
 use native.Mathlib.Omega.{arith}
 use mir.Syntax.{w64}
 use mir.Facts.{toZ-ofZ}
-use Rattle.writer.proofs.Storing.{puts-none, puts-of, puts-within, puts-under}
+use Rattle.figures.proofs.Storing.{puts-none, puts-of, puts-within, puts-under}
 use Rattle.writer.proofs.PartTexts.{value-mass, value-text, value-none}
 use borrow.Author.Needs.{needs}
 use Rattle.writer.proofs.put_value.Statement.{statement}

@@ -1,24 +1,32 @@
--- `positions::marks::fill_row` meets its contract. Assumes nothing.
+-- `positions::marks::fill_row` meets its contract: a cleared row is marked where it is free. Assumes nothing.
+use denote.Ref.{now}
 use Rattle.positions.proofs.Rows.{row-is}
 use borrow.Author.Needs.{needs}
 use native.Mathlib.Omega.{arith}
 use Rattle.positions.proofs.marks.fill_row.Statement.{statement}
 use Rattle.positions.proofs.marks.fill_row.Tie as tie
 
-mark-all-requires : tie.Need-mark-all-requires
-mark-all-requires c κs = (c .before .before .before .before .before .before .before .pre .0, c .before .before .before .before .before .before .before .pre .1, omega (arith, c .before .before .before .clear-row .kept))
+clear-row-requires : tie.Need-clear-row-requires
+clear-row-requires c κs = search needs
 
-strike-out-requires : tie.Need-strike-out-requires
-strike-out-requires c κs = (c .before .before .before .before .before .before .before .before .before .before .before .pre .0, omega (arith, c .before .before .before .before .before .before .before .clear-row .kept, c .before .before .before .mark-all .kept))
+mark-all-requires : tie.Need-mark-all-requires
+mark-all-requires c κs =
+    let clear = c .before .before .before in
+    let start = clear .before .before .before .before in
+    (start .pre .0, start .pre .1, omega (arith, start .pre .3, clear .clear-row .kept))
 
 same-length : tie.Need-same-length
-same-length c = omega (arith, c .before .before .before .before .before .before .before .before .before .before .clear-row .kept, c .before .before .before .before .before .before .mark-all .kept, c .before .before .strike-out .kept)
+same-length c =
+    let marks = c .before .before in
+    let clear = marks .before .before .before .before in
+    omega (arith, clear .clear-row .kept, marks .mark-all .kept)
 
 returns : tie.Need-returns
-returns c = λ ns. row-is (c .before .before .before .before .before .before .before .before .before .before .clear-row .ensures) (c .before .before .before .before .before .before .mark-all .ensures ns) (c .before .before .strike-out .ensures ns)
+returns c =
+    let marks = c .before .before in
+    let clear = marks .before .before .before .before in
+    let start = clear .before .before .before .before in
+    λ ns. row-is (now (start .args .bytes)) ns (now (start .args .free)) (start .pre .2 ns) (clear .clear-row .ensures) (marks .mark-all .ensures ns)
 
 pub fill-row-spec : {M : Type 1} → statement M
-fill-row-spec =
-    tie.close
-    (tie.spec
-    (λ c κs. search needs) mark-all-requires strike-out-requires same-length returns)
+fill-row-spec = tie.close (tie.spec clear-row-requires mark-all-requires same-length returns)

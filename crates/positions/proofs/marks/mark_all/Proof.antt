@@ -12,14 +12,14 @@ is-anywhere-requires c κs = row-of (c .before .before .pre .0) (c .before .befo
 residues-requires : tie.Need-residues-requires
 residues-requires c κs = c .before .before .before .before .pre .0 .room
 
-put-requires : tie.Need-put-requires
-put-requires c κs = (residues-within (c .before .before .before .before .before .before .pre .0) (c .before .residues .ensures .0), c .before .before .before .before .before .before .pre .2)
+mark-requires : tie.Need-mark-requires
+mark-requires c κs = (residues-within (c .before .before .before .before .before .before .pre .0) (c .before .residues .ensures .0), c .before .before .before .before .before .before .pre .2)
 
 same-length : tie.Need-same-length
-same-length c = c .before .before .put .ensures .kept
+same-length c = c .before .before .mark .ensures .kept
 
 returns : tie.Need-returns
-returns c = all-residues _ _ (c .before .before .before .before .before .before .is-anywhere .ensures) (c .before .before .before .before .before .if1 .taken) (c .before .before .put .ensures) (c .before .before .before .before .residues .ensures .0)
+returns c = all-residues _ _ (c .before .before .before .before .before .before .is-anywhere .ensures) (c .before .before .before .before .before .if1 .taken) (c .before .before .mark .ensures) (c .before .before .before .before .residues .ensures .0)
 
 mark-references-requires : tie.Need-mark-references-requires
 mark-references-requires c κs = (c .before .before .before .before .before .before .before .before .before .pre .0, c .before .before .before .before .before .before .before .before .before .pre .1, omega (arith, c .before .before .before .mark-own .kept))
@@ -34,4 +34,4 @@ pub mark-all-spec : {M : Type 1} → statement M
 mark-all-spec =
     tie.close
     (tie.spec
-    is-anywhere-requires residues-requires put-requires same-length returns (λ c κs. search needs) mark-references-requires same-length-2 returns-2)
+    is-anywhere-requires residues-requires mark-requires same-length returns (λ c κs. search needs) mark-references-requires same-length-2 returns-2)

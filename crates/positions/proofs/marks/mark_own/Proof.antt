@@ -15,14 +15,14 @@ first-requires c κs = row-room (c .before .before .before .before .before .pre 
 last-requires : tie.Need-last-requires
 last-requires c κs = row-room (c .before .before .before .before .before .before .pre .0) (c .before .before .before .before .before .before .pre .1)
 
-put-requires : tie.Need-put-requires
-put-requires c κs = (last-within (c .before .before .before .before .before .before .before .before .pre .0) (c .before .before .before .before .before .before .before .before .pre .1) (c .before .last .ensures .0), c .before .before .before .before .before .before .before .before .pre .2)
+mark-requires : tie.Need-mark-requires
+mark-requires c κs = (last-within (c .before .before .before .before .before .before .before .before .pre .0) (c .before .before .before .before .before .before .before .before .pre .1) (c .before .last .ensures .0), c .before .before .before .before .before .before .before .before .pre .2)
 
 same-length : tie.Need-same-length
-same-length c = c .before .before .put .ensures .kept
+same-length c = c .before .before .mark .ensures .kept
 
 returns : tie.Need-returns
-returns c = own-marked _ _ (c .before .before .before .before .before .before .before .before .kind .ensures) (c .before .before .before .before .before .before .before .has-place .ensures) (c .before .before .before .before .before .before .if1 .taken) (c .before .before .put .ensures) (first-is _ _ (c .before .before .before .before .before .first .ensures .0)) (last-is _ _ (c .before .before .before .before .last .ensures .0))
+returns c = own-marked _ _ (c .before .before .before .before .before .before .before .before .kind .ensures) (c .before .before .before .before .before .before .before .has-place .ensures) (c .before .before .before .before .before .before .if1 .taken) (c .before .before .mark .ensures) (first-is _ _ (c .before .before .before .before .before .first .ensures .0)) (last-is _ _ (c .before .before .before .before .last .ensures .0))
 
 returns-2 : tie.Need-returns-2
 returns-2 c = no-own _ _ (c .before .before .kind .ensures) (c .before .has-place .ensures) (c .if1 .left)
@@ -31,4 +31,4 @@ pub mark-own-spec : {M : Type 1} → statement M
 mark-own-spec =
     tie.close
     (tie.spec
-    kind-requires (λ c κs. search needs) first-requires last-requires put-requires same-length returns returns-2)
+    kind-requires (λ c κs. search needs) first-requires last-requires mark-requires same-length returns returns-2)

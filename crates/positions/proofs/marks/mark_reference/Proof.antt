@@ -14,14 +14,14 @@ first-requires c κs = row-room (c .before .before .before .before .pre .0) (c .
 last-requires : tie.Need-last-requires
 last-requires c κs = row-room (c .before .before .before .before .before .pre .0) (c .before .before .before .before .before .pre .2)
 
-put-requires : tie.Need-put-requires
-put-requires c κs = (last-within (c .before .before .before .before .before .before .before .pre .0) (c .before .before .before .before .before .before .before .pre .2) (c .before .last .ensures .0), c .before .before .before .before .before .before .before .pre .3)
+mark-requires : tie.Need-mark-requires
+mark-requires c κs = (last-within (c .before .before .before .before .before .before .before .pre .0) (c .before .before .before .before .before .before .before .pre .2) (c .before .last .ensures .0), c .before .before .before .before .before .before .before .pre .3)
 
 same-length : tie.Need-same-length
-same-length c = c .before .before .put .ensures .kept
+same-length c = c .before .before .mark .ensures .kept
 
 returns : tie.Need-returns
-returns c = reference-marked _ _ _ (c .before .before .before .before .before .before .before .refers-to .ensures) (c .before .before .before .before .before .before .if1 .taken) (c .before .before .put .ensures) (first-is _ _ (c .before .before .before .before .before .first .ensures .0)) (last-is _ _ (c .before .before .before .before .last .ensures .0))
+returns c = reference-marked _ _ _ (c .before .before .before .before .before .before .before .refers-to .ensures) (c .before .before .before .before .before .before .if1 .taken) (c .before .before .mark .ensures) (first-is _ _ (c .before .before .before .before .before .first .ensures .0)) (last-is _ _ (c .before .before .before .before .last .ensures .0))
 
 returns-2 : tie.Need-returns-2
 returns-2 c = no-reference _ _ _ (c .before .refers-to .ensures) (c .if1 .left)
@@ -30,4 +30,4 @@ pub mark-reference-spec : {M : Type 1} → statement M
 mark-reference-spec =
     tie.close
     (tie.spec
-    refers-to-requires first-requires last-requires put-requires same-length returns returns-2)
+    refers-to-requires first-requires last-requires mark-requires same-length returns returns-2)

@@ -1,5 +1,6 @@
 -- `positions::marks::put` meets its contract. Assumes nothing.
 use Prim.Native.Nat.{_+_, _-_}
+use Rattle.positions.specs.Marked.{always}
 use Rattle.positions.proofs.Rows.{Spread, spread-start, spread-next, spread-end}
 use borrow.Author.Needs.{needs}
 use native.Mathlib.Omega.{arith}
@@ -7,7 +8,7 @@ use Rattle.positions.proofs.marks.put.Statement.{statement}
 use Rattle.positions.proofs.marks.put.Tie as tie
 
 abbrev Inv-loop : tie.InvT-loop
-Inv-loop tab₀ base a e v x₀ tab x = Spread base a e v x tab₀ tab
+Inv-loop tab₀ base a e v x₀ tab x = Spread base a e (always v) x tab₀ tab
 
 abbrev μ-loop : tie.MeasureT-loop
 μ-loop tab₀ base a e v x₀ tab x = e + 1 - x

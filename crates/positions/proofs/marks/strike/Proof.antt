@@ -11,19 +11,26 @@ is-placed-requires : tie.Need-is-placed-requires
 is-placed-requires c κs = row-of (c .before .before .pre .0) (c .before .before .pre .1)
 
 first-requires : tie.Need-first-requires
-first-requires c κs = row-room (c .before .before .before .before .pre .0) (c .before .before .before .before .pre .1)
+first-requires c κs =
+    let start = c .before .before .before .before in
+    row-room (start .pre .0) (start .pre .1)
 
-slice-write-tab : tie.Need-slice-write-tab
-slice-write-tab c = omega (arith, first-within (c .before .before .before .before .before .pre .0) (c .before .before .before .before .before .pre .1) (c .first .ensures .0))
+slice-write-free : tie.Need-slice-write-free
+slice-write-free c =
+    let start = c .before .before .before .before .before in
+    omega (arith, first-within (start .pre .0) (start .pre .1) (c .first .ensures .0), start .pre .2)
+
+same-length : tie.Need-same-length
+same-length c = search needs
 
 returns : tie.Need-returns
-returns c = struck _ _ (c .before .before .is-placed .ensures) (c .before .if1 .taken) (first-is _ _ (c .first .ensures .0)) (first-within (c .before .before .before .before .before .pre .0) (c .before .before .before .before .before .pre .1) (c .first .ensures .0)) (c .before .before .before .before .before .pre .2)
+returns c =
+    let start = c .before .before .before .before .before in
+    struck _ _ (c .before .before .is-placed .ensures) (c .before .if1 .taken) (first-is _ _ (c .first .ensures .0))
+    (first-within (start .pre .0) (start .pre .1) (c .first .ensures .0)) (start .pre .2)
 
 returns-2 : tie.Need-returns-2
 returns-2 c = not-struck _ _ (c .before .is-placed .ensures) (c .if1 .left)
 
 pub strike-spec : {M : Type 1} → statement M
-strike-spec =
-    tie.close
-    (tie.spec
-    is-placed-requires first-requires (λ c. search needs) slice-write-tab (λ c. search needs) returns returns-2)
+strike-spec = tie.close (tie.spec is-placed-requires first-requires slice-write-free same-length returns returns-2)

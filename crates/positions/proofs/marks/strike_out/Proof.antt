@@ -1,6 +1,6 @@
 -- `positions::marks::strike_out` meets its contract. Assumes nothing.
 use Prim.Native.Nat.{_-_}
-use Rattle.positions.specs.Marked.{placedAt}
+use Rattle.positions.specs.Marked.{always, placedAt}
 use Rattle.positions.proofs.Rows.{Passed, passed-start, passed-next, struck-end}
 use borrow.Author.Needs.{needs}
 use native.Mathlib.Omega.{arith}
@@ -8,10 +8,10 @@ use Rattle.positions.proofs.marks.strike_out.Statement.{statement}
 use Rattle.positions.proofs.marks.strike_out.Tie as tie
 
 abbrev Inv-loop : tie.InvT-loop
-Inv-loop bytes tab₀ base b k₀ tab k = Passed base 0 b k (placedAt bytes) tab₀ tab
+Inv-loop bytes free₀ b k₀ free k = Passed 0 (always 0) b k (placedAt bytes) free₀ free
 
 abbrev μ-loop : tie.MeasureT-loop
-μ-loop bytes tab₀ base b k₀ tab k = b - k
+μ-loop bytes free₀ b k₀ free k = b - k
 
 brackets-requires : tie.Need-brackets-requires Inv-loop μ-loop
 brackets-requires c κs = c .before .before .pre .0 .room
@@ -20,7 +20,10 @@ loop-holds : tie.Need-loop-holds Inv-loop μ-loop
 loop-holds c = passed-start _ _ _ _ _
 
 strike-requires : tie.Need-strike-requires Inv-loop μ-loop
-strike-requires c κs = (c .before .before .before .before .before .before .pre .0, omega arith, omega (arith, c .before .before .loop .inv .kept))
+strike-requires c κs =
+    let loop = c .before .before in
+    let start = loop .before .before .before .before in
+    (start .pre .0, omega arith, omega (arith, start .pre .1, loop .loop .inv .kept))
 
 add-k : tie.Need-add-k Inv-loop μ-loop
 add-k c = search needs
@@ -29,7 +32,10 @@ loop-less : tie.Need-loop-less Inv-loop μ-loop
 loop-less c = omega arith
 
 loop-again : tie.Need-loop-again Inv-loop μ-loop
-loop-again c = passed-next (c .before .before .before .before .before .loop .inv) (c .before .before .before .before .loop-test .taken) (c .before .before .strike .ensures)
+loop-again c =
+    let strike = c .before .before in
+    let turn = strike .before .before in
+    passed-next (turn .before .loop .inv) (turn .loop-test .taken) (strike .strike .ensures)
 
 same-length : tie.Need-same-length Inv-loop μ-loop
 same-length c = c .before .loop .inv .kept
@@ -38,16 +44,4 @@ returns : tie.Need-returns Inv-loop μ-loop
 returns c = struck-end _ (c .before .loop .inv) (c .loop-test .left) (c .before .before .brackets .ensures .0)
 
 pub strike-out-spec : {M : Type 1} → statement M
-strike-out-spec =
-    tie.close
-    (tie.spec
-    Inv-loop
-    μ-loop
-    brackets-requires
-    loop-holds
-    strike-requires
-    add-k
-    loop-less
-    loop-again
-    same-length
-    returns)
+strike-out-spec = tie.close (tie.spec Inv-loop μ-loop brackets-requires loop-holds strike-requires add-k loop-less loop-again same-length returns)

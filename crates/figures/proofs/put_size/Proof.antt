@@ -1,0 +1,21 @@
+-- The whole number, then the decimals. Assumes nothing.
+use Rattle.figures.proofs.Storing.{puts-of, puts-join}
+use Rattle.figures.proofs.Digits.{power-positive, size-text}
+use borrow.Author.Needs.{needs}
+use Rattle.figures.proofs.put_size.Statement.{statement}
+use Rattle.figures.proofs.put_size.Tie as tie
+
+div-put-decimal : tie.Need-div-put-decimal
+div-put-decimal c = rw (c .power .ensures) (power-positive _)
+
+returns : tie.Need-returns
+returns c =
+    let p = c .before .before in
+    let q = p .before .before .before .before in
+    puts-of (size-text (q .before .before .before .before .args .minus) _ _ _ (q .before .before .power .ensures)) (puts-join (q .put-decimal .ensures) (p .put-decimals .ensures))
+
+pub put-size-spec : {M : Type 1} → statement M
+put-size-spec =
+    tie.close
+    (tie.spec
+    (λ c κs. search needs) div-put-decimal (λ c κs. search needs) (λ c κs. search needs) (λ c. search needs) returns)

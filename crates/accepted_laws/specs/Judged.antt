@@ -19,10 +19,10 @@ use Rattle.scope.specs.Reading.{holds, reading}
 use Rattle.scope.specs.Modifications.{namesOf, isLabelled, copies, definedBy, defined, referredTo}
 use Rattle.scope.specs.Refusals.{dueAt, unprintable, refusal2, refusal3, refusal6, refusal7, refusal8, refusal11, refusal12, textOf, longText, longLabel, overIn, inRange, wide, wideMass, wideScore, wideCount, notHere, isRule, isLink, secondLabel, definedAgain, undefined, countedLabel, unreferred, wrongLabels, wronglyLabelled, passing, accepted, outcome}
 use Rattle.scope.specs.Positions.{floaters}
-use Rattle.basics.specs.Lists.{least-none, not-due, nil-front, nil-back, flat-none}
+use Rattle.basics.specs.Lists.{not-due, nil-front, nil-back, flat-none}
 use Rattle.basics.specs.Tests.{or-left, or-right}
 use Rattle.basics.specs.Each.{Each, OfGiven, each-three}
-use Rattle.reading_laws.specs.Taken.{taken}
+use Rattle.reading_laws.specs.Taken.{taken, not-long}
 
 -- ---- nothing is due
 none-dropped : {A : Type 0} (f : A → ℕ) (n : ℕ) (l : List A) → drop n (map f l) ≡ [] → length l ≤ n
@@ -190,38 +190,31 @@ pub record Judged (s : List ℕ) (l : Line ℕ) : Type 0 where
   pub brackets : Each JudgedBracket (l .brackets)
   pub few-copies : length (floaters l) ≤ copyLimit
 
-short-of : (n : ℕ) → cond {A = Option ℕ} (ltb lineLimit n) (some lineLimit) none ≡ none → n ≤ lineLimit
-short-of n e = ltb-false lineLimit n (go (ltb lineLimit n) e)
-  where
-    go : (t : Bool) → cond {A = Option ℕ} t (some lineLimit) none ≡ none → t ≡ false
-    go true q = let z : _≡_ {A = ℕ} 0 1 = cc in absurd (omega arith)
-    go false q = refl
-
 pub judged-line : (s : List ℕ) (l : Line ℕ) → outcome s ≡ accepted l → Judged s l
 unfolding refusal2 refusal3 refusal6 refusal7 refusal8 refusal11 refusal12 floaters
 judged-line s l e =
     let w = taken s l e in
-    let no2 : refusal2 s ≡ none = w .bytes .1 .0 in
-    let no3 : refusal3 s ≡ none = w .bytes .1 .1 .0 in
+    let no2 : refusal2 s ≡ [] = w .bytes .1 .0 in
+    let no3 : refusal3 s ≡ [] = w .bytes .1 .1 .0 in
     let from6 = w .clear .1 in
     let from8 = from6 .1 .1 in
     let from11 = from8 .1 .1 .1 in
     let rs = drop residueLimit (map (λ r. r .at) (l .residues)) in
     let ks = drop bracketLimit (map (λ k. k .at) (l .brackets)) in
-    let a : rs ++ (ks ++ flat overIn (l .brackets)) ≡ [] = least-none _ (from6 .0) in
+    let a : rs ++ (ks ++ flat overIn (l .brackets)) ≡ [] = (from6 .0) in
     let b = nil-back rs (ks ++ flat overIn (l .brackets)) a in
-    let c = few-copies-of 0 (l .brackets) (omega arith) (least-none _ (from11 .1 .0)) in
+    let c = few-copies-of 0 (l .brackets) (omega arith) ((from11 .1 .0)) in
     record {
       read = w .reads;
-      short = short-of (length s) no2;
-      printable = all-printable 0 s (least-none _ no3);
+      short = not-long s no2;
+      printable = all-printable 0 s (no3);
       few-residues = none-dropped (λ r. r .at) residueLimit (l .residues) (nil-front rs (ks ++ flat overIn (l .brackets)) a);
       few-brackets = none-dropped (λ k. k .at) bracketLimit (l .brackets) (nil-front ks (flat overIn (l .brackets)) b);
       brackets =
           judged-brackets [] (defined (l .brackets)) (referredTo (l .brackets)) (l .brackets)
           (flat-none overIn (l .brackets) (nil-back ks (flat overIn (l .brackets)) b))
-          (flat-none (λ k. wideCount k ++ flat (λ p. wideMass (p .value) ++ wideScore p) (k .parts)) (l .brackets) (least-none _ (from6 .1 .0)))
-          (flat-none (λ k. flat (λ p. dueAt (notHere p) (p .at)) (k .parts)) (l .brackets) (least-none _ (from8 .0)))
-          (least-none _ (from11 .0));
+          (flat-none (λ k. wideCount k ++ flat (λ p. wideMass (p .value) ++ wideScore p) (k .parts)) (l .brackets) ((from6 .1 .0)))
+          (flat-none (λ k. flat (λ p. dueAt (notHere p) (p .at)) (k .parts)) (l .brackets) ((from8 .0)))
+          ((from11 .0));
       few-copies = omega arith;
     }

@@ -1,6 +1,6 @@
 -- What holds of each element of a list, of some element, and of a value where there is one.
-use mathlib.Core.Path.{_≡_, refl}
-use mathlib.Core.Logic.{_⊎_}
+use mathlib.Core.Path.{_≡_, refl, sym, subst}
+use mathlib.Core.Logic.{_⊎_, inl, inr}
 use mathlib.Core.Bool.{Bool, true, false, cond}
 use mathlib.Core.Option.{Option, none, some}
 use mathlib.Core.List.{List, [], _∷_, _++_, map}
@@ -73,6 +73,15 @@ module _ {A : Type 0} (Q : A → Type 0) where
   unfolding tabled
   each-tabled f j zero h = tt
   each-tabled f j (suc n) h = (h j (omega arith), each-tabled f (j + 1) n (λ i q. h i (omega arith)))
+
+  -- what holds of each holds of whatever stands in the list
+  pub each-in : (l : List A) (x : A) → In x l → Each Q l → Q x
+  each-in (y ∷ l) x (inl e) h = subst Q (sym e) (h .0)
+  each-in (y ∷ l) x (inr m) h = each-in l x m (h .1)
+
+  pub in-each : (l : List A) → ((x : A) → In x l → Q x) → Each Q l
+  in-each [] f = tt
+  in-each (x ∷ l) f = (f x (inl refl), in-each l (λ y m. f y (inr m)))
 
 -- ---- what follows from one, two or three facts of each
 pub each-one : {A : Type 0} (Q S : A → Type 0) → ((x : A) → Q x → S x) → (l : List A) → Each Q l → Each S l

@@ -132,11 +132,6 @@ flat-none f [] e = tt
 flat-none f (x ∷ l) e = (nil-front (f x) (flat f l) e, flat-none f l (nil-back (f x) (flat f l) e))
 
 -- nothing is due
-pub least-none : (l : List ℕ) → least l ≡ none → l ≡ []
-unfolding least
-least-none [] e = refl
-least-none (i ∷ l) e = let z : _≡_ {A = ℕ} 0 1 = cc in absurd (omega arith)
-
 pub not-due : (t : Bool) (i : ℕ) → dueAt t i ≡ [] → t ≡ false
 not-due true i e = let z : _≡_ {A = ℕ} 0 1 = cc in absurd (omega arith)
 not-due false i e = refl

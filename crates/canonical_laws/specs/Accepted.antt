@@ -17,7 +17,7 @@ use Rattle.scope.specs.Refusals.{dueAt, inRange, wide, wideMass, wideScore, wid
 use Rattle.scope.specs.Tables.{bareBracket}
 use Rattle.reading_laws.specs.Places.{mapNumber, mapLabel, mapValue, mapPart, mapBracket, mapState, bareBracket-map}
 use Rattle.reading_laws.specs.Run.{run-map, unnoted}
-use Rattle.basics.specs.Lists.{nil-front, nil-back, least-none, not-due, flat-none}
+use Rattle.basics.specs.Lists.{nil-front, nil-back, not-due, flat-none}
 use Rattle.basics.specs.Tests.{and-right, or-right}
 use Rattle.basics.specs.Each.{Each}
 use Rattle.basics.specs.Choice.{pick-true}
@@ -74,9 +74,9 @@ fits-brackets (k ∷ ks) w e = (
   fits-brackets ks (w .1) (e .1),
 )
 
-pub fits-line : (l : Line ℕ) → Each Once (l .brackets) → refusal7 l ≡ none → Each FitsBracket (map (mapBracket unnoted) (l .brackets))
+pub fits-line : (l : Line ℕ) → Each Once (l .brackets) → refusal7 l ≡ [] → Each FitsBracket (map (mapBracket unnoted) (l .brackets))
 unfolding refusal7
-fits-line l w e = fits-brackets (l .brackets) w (flat-none (λ k. wideCount k ++ flat (λ p. wideMass (p .value) ++ wideScore p) (k .parts)) (l .brackets) (least-none _ e))
+fits-line l w e = fits-brackets (l .brackets) w (flat-none (λ k. wideCount k ++ flat (λ p. wideMass (p .value) ++ wideScore p) (k .parts)) (l .brackets) e)
 
 -- ---- brackets that are read back
 same-of : (k q : Bracket ℕ) → Once k → mapBracket unnoted q ≡ normal (mapBracket unnoted k) → Same k q

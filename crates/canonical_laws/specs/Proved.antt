@@ -31,7 +31,7 @@ use Rattle.canonical_laws.specs.Fronts.{Again, read-again}
 use Rattle.canonical_laws.specs.Counts.{Once, OnceIn, once-read}
 use Rattle.canonical_laws.specs.Refusals.{Alike, none-5, none-6, none-7, none-8, none-9, none-10, none-11, none-12}
 use Rattle.canonical_laws.specs.Accepted.{unnoted-run, fits-line, alike-of}
-use Rattle.reading_laws.specs.Taken.{Taken, taken, taken-back, some-bytes}
+use Rattle.reading_laws.specs.Taken.{Taken, taken, taken-back, not-long, none-long, some-bytes}
 use Rattle.reading_laws.specs.Kept.{ended-whole}
 
 -- ---- the canonical line, read
@@ -65,7 +65,7 @@ once-held : (s : State ℕ) (m : Mode) (h : Held ℕ) → s ≡ outside m h → 
 unfolding OnceIn
 once-held s m h e w = subst (λ (z : State ℕ). OnceIn z) e w .0
 
-back-of : (s : List ℕ) (m : Mode) (h : Held ℕ) → run (λ i. i) 0 start s ≡ outside m h → mayEnd m ≡ true → refusal7 (lineOf h) ≡ none → Back s (lineOf h)
+back-of : (s : List ℕ) (m : Mode) (h : Held ℕ) → run (λ i. i) 0 start s ≡ outside m h → mayEnd m ≡ true → refusal7 (lineOf h) ≡ [] → Back s (lineOf h)
 unfolding reading
 back-of s m h e f r =
     let again : Again (length s) m (mapHeld unnoted h) = read-again s m (mapHeld unnoted h) (sym (unnoted-run s) ∙ ap (mapState unnoted) e) f in
@@ -130,19 +130,11 @@ back-clear s l c b = (
     r : length (l .residues) ≡ length (m .residues)
     r = sym (length-map (l .residues) (mapResidue unnoted)) ∙ ap length (sym (b .residues)) ∙ length-map (m .residues) (mapResidue unnoted)
 
-not-long : (s t : List ℕ) → length t ≤ length s → refusal2 s ≡ none → refusal2 t ≡ none
-unfolding refusal2
-not-long s t h e = go (ltb lineLimit (length s)) refl e
-  where
-    go : (b : Bool) → ltb lineLimit (length s) ≡ b → cond b (some lineLimit) none ≡ none → cond (ltb lineLimit (length t)) (some lineLimit) none ≡ none
-    go true f e = absurd (Option·none-ne-some lineLimit (sym e))
-    go false f e = pick-false (ltb lineLimit (length t)) _ _ (le-ltb lineLimit (length t) (omega (arith, ltb-false lineLimit (length s) f)))
-
 back-taken : (s : List ℕ) (l : Line ℕ) → Taken s l → (b : Back s l) → outcome (canonical l) ≡ accepted (b .line)
 back-taken s l w b =
     taken-back (canonical l) (b .line)
     (record {
-      bytes = (some-bytes (canonical l) (b .line) (b .reads), (not-long s (canonical l) (b .short) (w .bytes .1 .0), (order-printable (canonical l) (b .line) (b .reads), tt)));
+      bytes = (some-bytes (canonical l) (b .line) (b .reads), (none-long (canonical l) (let h = b .short in let k = not-long s (w .bytes .1 .0) in omega arith), (order-printable (canonical l) (b .line) (b .reads), tt)));
       reads = b .reads;
       clear = back-clear s l (w .clear) b;
     })

@@ -19,17 +19,13 @@ use Rattle.scope.specs.Modifications.{isKey, onlyInfo, isReferring, nameOf, nam
 use Rattle.scope.specs.Refusals.{dueAt, least, depthAfter, tooDeep, textIn, textOf, deepPart, refusal5, longText, longLabel, overIn, refusal6, inRange, wide, wideMass, wideScore, wideCount, refusal7, isLink, notHere, refusal8, isNumberName, refusal9, refusal10, secondLabel, definedAgain, undefined, countedLabel, unreferred, wrongLabels, wronglyLabelled, refusal11, passing, refusal12}
 use Rattle.scope.specs.Kinds.{unknownOrLabile, isUnknown}
 use Rattle.scope.specs.Tables.{bareNumber, bareLabel, bareValue, barePart, bareBracket}
-use Rattle.basics.specs.Lists.{least-none, not-due, nil-front, nil-back}
+use Rattle.basics.specs.Lists.{not-due, nil-front, nil-back}
 use Rattle.basics.specs.Tests.{or-left, or-right, neither}
 use Rattle.canonical_laws.specs.Counts.{Once}
 
 -- ---- lists of places
 nil-both : {A : Type 0} (l m : List A) → l ≡ [] → m ≡ [] → l ++ m ≡ []
 nil-both l m e f = rw e f
-
-pub nil-least : (l : List ℕ) → l ≡ [] → least l ≡ none
-unfolding least
-nil-least l e = rw e
 
 false-due : (t : Bool) (i : ℕ) → t ≡ false → dueAt t i ≡ []
 false-due t i e = rw e
@@ -132,9 +128,9 @@ deep-moves d i j (b ∷ t) h =
 deep-part : (p q : Part ℕ) → barePart p ≡ barePart q → deepPart p ≡ [] → deepPart q ≡ []
 deep-part p q e h = deep-moves 0 (p .at + length (written (p .key))) _ (textOf q) (subst (λ (z : List ℕ). tooDeep 0 (p .at + length (written (p .key))) z ≡ []) (same-text p q e) h)
 
-pub none-5 : (l m : Line ℕ) → Alike (l .brackets) (m .brackets) → refusal5 l ≡ none → refusal5 m ≡ none
+pub none-5 : (l m : Line ℕ) → Alike (l .brackets) (m .brackets) → refusal5 l ≡ [] → refusal5 m ≡ []
 unfolding refusal5
-none-5 l m w h = nil-least _ (alike-moves (λ k. flat deepPart (k .parts)) (parts-move deepPart deep-part) (l .brackets) (m .brackets) w (least-none _ h))
+none-5 l m w h = alike-moves (λ k. flat deepPart (k .parts)) (parts-move deepPart deep-part) (l .brackets) (m .brackets) w h
 
 -- ---- 6
 over-part : (p q : Part ℕ) → barePart p ≡ barePart q → longText p ++ longLabel p ≡ [] → longText q ++ longLabel q ≡ []
@@ -150,17 +146,15 @@ over-bracket k q w h =
     (drop-moves partLimit (λ p. p .at) (λ p. p .at) (k .parts) (q .parts) (same-length barePart (k .parts) (q .parts) (parts-alike k q w)) (nil-front _ (flat (λ p. longText p ++ longLabel p) (k .parts)) h))
     (parts-move (λ p. longText p ++ longLabel p) over-part k q w (nil-back (drop partLimit (map (λ p. p .at) (k .parts))) _ h))
 
-pub none-6 : (l m : Line ℕ) → length (l .residues) ≡ length (m .residues) → Alike (l .brackets) (m .brackets) → refusal6 l ≡ none → refusal6 m ≡ none
+pub none-6 : (l m : Line ℕ) → length (l .residues) ≡ length (m .residues) → Alike (l .brackets) (m .brackets) → refusal6 l ≡ [] → refusal6 m ≡ []
 unfolding refusal6
 none-6 l m r w h =
-    let z = least-none (drop residueLimit (map (λ r. r .at) (l .residues)) ++ (drop bracketLimit (map (λ k. k .at) (l .brackets)) ++ flat overIn (l .brackets))) h in
-    let y = nil-back (drop residueLimit (map (λ r. r .at) (l .residues))) (drop bracketLimit (map (λ k. k .at) (l .brackets)) ++ flat overIn (l .brackets)) z in
-    nil-least _
-    (nil-both (drop residueLimit (map (λ r. r .at) (m .residues))) _
-    (drop-moves residueLimit (λ r. r .at) (λ r. r .at) (l .residues) (m .residues) r (nil-front _ (drop bracketLimit (map (λ k. k .at) (l .brackets)) ++ flat overIn (l .brackets)) z))
+    let y = nil-back (drop residueLimit (map (λ r. r .at) (l .residues))) (drop bracketLimit (map (λ k. k .at) (l .brackets)) ++ flat overIn (l .brackets)) h in
+    nil-both (drop residueLimit (map (λ r. r .at) (m .residues))) _
+    (drop-moves residueLimit (λ r. r .at) (λ r. r .at) (l .residues) (m .residues) r (nil-front _ (drop bracketLimit (map (λ k. k .at) (l .brackets)) ++ flat overIn (l .brackets)) h))
     (nil-both (drop bracketLimit (map (λ k. k .at) (m .brackets))) _
     (drop-moves bracketLimit (λ k. k .at) (λ k. k .at) (l .brackets) (m .brackets) (alike-length (l .brackets) (m .brackets) w) (nil-front _ (flat overIn (l .brackets)) y))
-    (alike-moves overIn over-bracket (l .brackets) (m .brackets) w (nil-back (drop bracketLimit (map (λ k. k .at) (l .brackets))) _ y))))
+    (alike-moves overIn over-bracket (l .brackets) (m .brackets) w (nil-back (drop bracketLimit (map (λ k. k .at) (l .brackets))) _ y)))
 
 -- ---- 7
 wide-moves : (n m : Number ℕ) → bareNumber n ≡ bareNumber m → wide n ≡ [] → wide m ≡ []
@@ -195,15 +189,14 @@ count-moves k q w h = go (k .counted) (q .counted) refl refl h
     go none (some j) e f h = absurd (Option·none-ne-some j (sym (w .marks (sym same ∙ w .once e)) ∙ f))
     go (some i) (some j) e f h = due-moves _ _ i j (ap (λ n. eqb n 0 || ltb countLimit n) same) h
 
-pub none-7 : (l m : Line ℕ) → Alike (l .brackets) (m .brackets) → refusal7 l ≡ none → refusal7 m ≡ none
+pub none-7 : (l m : Line ℕ) → Alike (l .brackets) (m .brackets) → refusal7 l ≡ [] → refusal7 m ≡ []
 unfolding refusal7
 none-7 l m w h =
-    nil-least _
-    (alike-moves (λ k. wideCount k ++ flat (λ p. wideMass (p .value) ++ wideScore p) (k .parts))
+    alike-moves (λ k. wideCount k ++ flat (λ p. wideMass (p .value) ++ wideScore p) (k .parts))
     (λ k q s g.
     nil-both (wideCount q) _ (count-moves k q s (nil-front (wideCount k) (flat (λ p. wideMass (p .value) ++ wideScore p) (k .parts)) g))
     (parts-move (λ p. wideMass (p .value) ++ wideScore p) wide-part k q s (nil-back (wideCount k) (flat (λ p. wideMass (p .value) ++ wideScore p) (k .parts)) g)))
-    (l .brackets) (m .brackets) w (least-none _ h))
+    (l .brackets) (m .brackets) w h
 
 -- ---- 8 and 9
 test-moves : (T : Part ℕ → Bool) (B : Part (Unit {0}) → Bool) → ((p : Part ℕ) → B (barePart p) ≡ T p) → (p q : Part ℕ) → barePart p ≡ barePart q → dueAt (T p) (p .at) ≡ [] → dueAt (T q) (q .at) ≡ []
@@ -216,20 +209,18 @@ link-bare (some l) = refl
 notHere-bare : (p : Part ℕ) → notHere (barePart p) ≡ notHere p
 notHere-bare p = rw (text-bare p, link-bare (p .label))
 
-pub none-8 : (l m : Line ℕ) → Alike (l .brackets) (m .brackets) → refusal8 l ≡ none → refusal8 m ≡ none
+pub none-8 : (l m : Line ℕ) → Alike (l .brackets) (m .brackets) → refusal8 l ≡ [] → refusal8 m ≡ []
 unfolding refusal8
 none-8 l m w h =
-    nil-least _
-    (alike-moves (λ k. flat (λ p. dueAt (notHere p) (p .at)) (k .parts)) (parts-move (λ p. dueAt (notHere p) (p .at)) (test-moves notHere notHere notHere-bare)) (l .brackets) (m .brackets) w (least-none _ h))
+    alike-moves (λ k. flat (λ p. dueAt (notHere p) (p .at)) (k .parts)) (parts-move (λ p. dueAt (notHere p) (p .at)) (test-moves notHere notHere notHere-bare)) (l .brackets) (m .brackets) w h
 
 name-bare : (p : Part ℕ) → isNumberName (barePart p) ≡ isNumberName p
 name-bare p = rw (text-bare p)
 
-pub none-9 : (l m : Line ℕ) → Alike (l .brackets) (m .brackets) → refusal9 l ≡ none → refusal9 m ≡ none
+pub none-9 : (l m : Line ℕ) → Alike (l .brackets) (m .brackets) → refusal9 l ≡ [] → refusal9 m ≡ []
 unfolding refusal9
 none-9 l m w h =
-    nil-least _
-    (alike-moves (λ k. flat (λ p. dueAt (isNumberName p) (p .at)) (k .parts)) (parts-move (λ p. dueAt (isNumberName p) (p .at)) (test-moves isNumberName isNumberName name-bare)) (l .brackets) (m .brackets) w (least-none _ h))
+    alike-moves (λ k. flat (λ p. dueAt (isNumberName p) (p .at)) (k .parts)) (parts-move (λ p. dueAt (isNumberName p) (p .at)) (test-moves isNumberName isNumberName name-bare)) (l .brackets) (m .brackets) w h
 
 -- ---- 10
 info-bare : (ps : List (Part ℕ)) → all (isKey Info) (map barePart ps) ≡ all (isKey Info) ps
@@ -246,13 +237,12 @@ same-count k q w = ap (λ (z : Bracket (Unit {0})). z .count) (w .bare)
 same-info : (k q : Bracket ℕ) → Same k q → onlyInfo k ≡ onlyInfo q
 same-info k q w = sym (info-bare (k .parts)) ∙ ap (all (isKey Info)) (parts-alike k q w) ∙ info-bare (q .parts)
 
-pub none-10 : (l m : Line ℕ) → Alike (l .brackets) (m .brackets) → refusal10 l ≡ none → refusal10 m ≡ none
+pub none-10 : (l m : Line ℕ) → Alike (l .brackets) (m .brackets) → refusal10 l ≡ [] → refusal10 m ≡ []
 unfolding refusal10
 none-10 l m w h =
-    nil-least _
-    (alike-moves (λ k. dueAt (unknownOrLabile (k .kind) && onlyInfo k) (k .at))
+    alike-moves (λ k. dueAt (unknownOrLabile (k .kind) && onlyInfo k) (k .at))
     (λ k q s g. due-moves _ _ (k .at) (q .at) (ap (λ z. unknownOrLabile z && onlyInfo k) (same-kind k q s) ∙ ap (λ z. unknownOrLabile (q .kind) && z) (same-info k q s)) g)
-    (l .brackets) (m .brackets) w (least-none _ h))
+    (l .brackets) (m .brackets) w h
 
 -- ---- labels
 refers-bare : (ps : List (Part ℕ)) → refers? (map barePart ps) ≡ refers? ps
@@ -337,13 +327,12 @@ labelled-moves b d r (k ∷ ks) (q ∷ qs) w h =
     (subst (λ (z : List (List ℕ)). wronglyLabelled (b ++ z) d r qs ≡ []) (same-defined k q (w .0))
     (labelled-moves (b ++ definedBy k) d r ks qs (w .1) (nil-back (dueAt (wrongLabels b d r k) (k .at)) _ h)))
 
-pub none-11 : (l m : Line ℕ) → Alike (l .brackets) (m .brackets) → refusal11 l ≡ none → refusal11 m ≡ none
+pub none-11 : (l m : Line ℕ) → Alike (l .brackets) (m .brackets) → refusal11 l ≡ [] → refusal11 m ≡ []
 unfolding refusal11
 none-11 l m w h =
-    nil-least _
-    (subst (λ (z : List (List ℕ)). wronglyLabelled [] z (referredTo (m .brackets)) (m .brackets) ≡ []) (alike-flat definedBy same-defined (l .brackets) (m .brackets) w)
+    subst (λ (z : List (List ℕ)). wronglyLabelled [] z (referredTo (m .brackets)) (m .brackets) ≡ []) (alike-flat definedBy same-defined (l .brackets) (m .brackets) w)
     (subst (λ (z : List (List ℕ)). wronglyLabelled [] (defined (l .brackets)) z (m .brackets) ≡ []) (alike-flat referredBy same-referred (l .brackets) (m .brackets) w)
-    (labelled-moves [] (defined (l .brackets)) (referredTo (l .brackets)) (l .brackets) (m .brackets) w (least-none _ h))))
+    (labelled-moves [] (defined (l .brackets)) (referredTo (l .brackets)) (l .brackets) (m .brackets) w h))
 
 -- ---- 12
 same-copies : (k q : Bracket ℕ) → Same k q → copies k ≡ copies q
@@ -360,6 +349,6 @@ passing-moves n (k ∷ ks) (q ∷ qs) w h =
     (due-moves _ _ (k .at) (q .at) (ap (λ z. leb n copyLimit && ltb copyLimit (n + z)) (same-copies k q (w .0))) (nil-front _ (passing (n + copies k) ks) h))
     (subst (λ (z : ℕ). passing (n + z) qs ≡ []) (same-copies k q (w .0)) (passing-moves (n + copies k) ks qs (w .1) (nil-back (dueAt (leb n copyLimit && ltb copyLimit (n + copies k)) (k .at)) _ h)))
 
-pub none-12 : (l m : Line ℕ) → Alike (l .brackets) (m .brackets) → refusal12 l ≡ none → refusal12 m ≡ none
+pub none-12 : (l m : Line ℕ) → Alike (l .brackets) (m .brackets) → refusal12 l ≡ [] → refusal12 m ≡ []
 unfolding refusal12
-none-12 l m w h = nil-least _ (passing-moves 0 (l .brackets) (m .brackets) w (least-none _ h))
+none-12 l m w h = passing-moves 0 (l .brackets) (m .brackets) w h

@@ -5,7 +5,7 @@ use Prim.Native.String.{String}
 use mathlib.Core.Path.{_≡_}
 use mathlib.Core.Logic.{_↔_, _⊎_}
 use mathlib.Core.Bool.{true, false, cond}
-use mathlib.Core.Option.{Option, some}
+use mathlib.Core.Option.{some}
 use mathlib.Core.List.{List, [], _∷_, _++_}
 use lib.ListN.{length, take, drop}
 use Rattle.scope.specs.declared.grammar.Key.the-variants.{NoKey, U, M, Info, Formula, Glycan, Position, Limit}
@@ -15,8 +15,8 @@ use Rattle.scope.specs.Limits.{lineLimit, residueLimit, bracketLimit, partLimit
 use Rattle.scope.specs.Line.{Number, Label, mass, Part, Bracket, Residue, Line}
 use Rattle.scope.specs.Keys.{written}
 use Rattle.scope.specs.Modifications.{isReferring, namesOf, copies}
-use Rattle.scope.specs.Refusals.{textOf, refusal1, refusal2, refusal3, refusal5, refusal6, refusal7, refusal8, refusal9, refusal10, refusal11, refusal12, lineRefusals}
-use Rattle.basics.specs.Each.{Each, Some}
+use Rattle.scope.specs.Refusals.{least, textOf, refusal1, refusal2, refusal3, refusal5, refusal6, refusal7, refusal8, refusal9, refusal10, refusal11, refusal12, lineRefusals}
+use Rattle.basics.specs.Each.{Each, Some, In}
 use Rattle.reading_laws.specs.Laws.{Clear}
 
 -- some element, by those in front of it
@@ -178,18 +178,20 @@ pub record NoneDue (l : Line ℕ) : Type 0 where
   pub no-12 : (i : ℕ) → Due12 l i → ⊥
 
 pub record Laws : Type 1 where
-  -- 1 "line empty", at 0; 2 "line too long", at 4,096
-  pub exactly-1 : (s : List ℕ) (i : ℕ) → refusal1 s ≡ some i ↔ ((s ≡ []) × (i ≡ 0))
-  pub exactly-2 : (s : List ℕ) (i : ℕ) → refusal2 s ≡ some i ↔ ((lineLimit < length s) × (i ≡ lineLimit))
-  pub exactly-3 : (s : List ℕ) (i : ℕ) → refusal3 s ≡ some i ↔ FirstAt (Due3 s) i
-  pub exactly-5 : (l : Line ℕ) (i : ℕ) → refusal5 l ≡ some i ↔ FirstAt (Due5 l) i
-  pub exactly-6 : (l : Line ℕ) (i : ℕ) → refusal6 l ≡ some i ↔ FirstAt (Due6 l) i
-  pub exactly-7 : (l : Line ℕ) (i : ℕ) → refusal7 l ≡ some i ↔ FirstAt (Due7 l) i
-  pub exactly-8 : (l : Line ℕ) (i : ℕ) → refusal8 l ≡ some i ↔ FirstAt (Due8 l) i
-  pub exactly-9 : (l : Line ℕ) (i : ℕ) → refusal9 l ≡ some i ↔ FirstAt (Due9 l) i
-  pub exactly-10 : (l : Line ℕ) (i : ℕ) → refusal10 l ≡ some i ↔ FirstAt (Due10 l) i
-  pub exactly-11 : (l : Line ℕ) (i : ℕ) → refusal11 l ≡ some i ↔ FirstAt (Due11 l) i
-  pub exactly-12 : (l : Line ℕ) (i : ℕ) → refusal12 l ≡ some i ↔ FirstAt (Due12 l) i
+  -- the places at which each number is due: 1 "line empty", at 0; 2 "line too long", at 4,096
+  pub exactly-1 : (s : List ℕ) (i : ℕ) → In i (refusal1 s) ↔ ((i ≡ 0) × (s ≡ []))
+  pub exactly-2 : (s : List ℕ) (i : ℕ) → In i (refusal2 s) ↔ ((i ≡ lineLimit) × (lineLimit < length s))
+  pub exactly-3 : (s : List ℕ) (i : ℕ) → In i (refusal3 s) ↔ Due3 s i
+  pub exactly-5 : (l : Line ℕ) (i : ℕ) → In i (refusal5 l) ↔ Due5 l i
+  pub exactly-6 : (l : Line ℕ) (i : ℕ) → In i (refusal6 l) ↔ Due6 l i
+  pub exactly-7 : (l : Line ℕ) (i : ℕ) → In i (refusal7 l) ↔ Due7 l i
+  pub exactly-8 : (l : Line ℕ) (i : ℕ) → In i (refusal8 l) ↔ Due8 l i
+  pub exactly-9 : (l : Line ℕ) (i : ℕ) → In i (refusal9 l) ↔ Due9 l i
+  pub exactly-10 : (l : Line ℕ) (i : ℕ) → In i (refusal10 l) ↔ Due10 l i
+  pub exactly-11 : (l : Line ℕ) (i : ℕ) → In i (refusal11 l) ↔ Due11 l i
+  pub exactly-12 : (l : Line ℕ) (i : ℕ) → In i (refusal12 l) ↔ Due12 l i
+  -- the place that is given is the first at which the refusal is due
+  pub first-due : (ps : List ℕ) (Due : ℕ → Type 0) → ((i : ℕ) → In i ps ↔ Due i) → (i : ℕ) → least ps ≡ some i ↔ FirstAt Due i
+  -- nothing else is given so: of two lists of places with one law the first place is the same
+  pub only-so : (Due : ℕ → Type 0) (ps qs : List ℕ) → ((i : ℕ) → In i ps ↔ Due i) → ((i : ℕ) → In i qs ↔ Due i) → least ps ≡ least qs
   pub none-due : (l : Line ℕ) → Clear (lineRefusals l) ↔ NoneDue l
-  -- nothing else is given so: a refusal that differs somewhere does not meet its law
-  pub only-so : (Due : ℕ → Type 0) (o p : Option ℕ) → ((i : ℕ) → o ≡ some i ↔ FirstAt Due i) → ((i : ℕ) → p ≡ some i ↔ FirstAt Due i) → o ≡ p

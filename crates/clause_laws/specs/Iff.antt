@@ -1,16 +1,17 @@
 -- A test, and a place in a list of places, as what they say: one equivalence for each way in which Refusals.antt builds a test or a list.
-use Prim.Native.Nat.{ℕ}
+use Prim.Native.Nat.{ℕ, _≤_}
+use native.Mathlib.Omega.{arith}
 use mathlib.Core.Path.{_≡_, refl, sym, ap, _∙_}
 use mathlib.Core.Logic.{_↔_, _⊎_, inl, inr}
 use mathlib.Core.Bool.{Bool, true, false, not, _&&_, _||_, true≢false, false≢true}
 use mathlib.Core.Option.{some}
-use mathlib.Core.List.{List, [], _∷_, _++_, List·Memᴰ, List·Memᴰ·head, List·Memᴰ·tail, List·Memᴰ·not-nil, List·Memᴰ·cases-cons}
+use mathlib.Core.List.{List, [], _∷_, _++_}
 use Rattle.scope.specs.Lists.{all, flat, among}
 use Rattle.scope.specs.Refusals.{dueAt, least}
 use Rattle.reading_laws.specs.Proved as reads
 use Rattle.basics.specs.Lists.{same-law}
 use Rattle.clause_laws.specs.Clauses.{FirstAt}
-use Rattle.basics.specs.Each.{Some, Each, In}
+use Rattle.basics.specs.Each.{Some, Each, In, each-in, in-each}
 use borrow.Author.Tests.{not-true}
 use Rattle.basics.specs.Tests.{or-first, or-second}
 
@@ -131,22 +132,15 @@ in-due false i j = ((λ v. absurd v), (λ v. absurd (false≢true (v .1))))
 pub due-iff : (t : Bool) (i j : ℕ) {T : Type 0} → (t ≡ true ↔ T) → In j (dueAt t i) ↔ ((j ≡ i) × T)
 due-iff t i j h = then (in-due t i j) ((λ v. (v .0, h .0 (v .1))), (λ v. (v .0, h .1 (v .1))))
 
-mem-in : (j : ℕ) (l : List ℕ) → List·Memᴰ j l ↔ In j l
-mem-in j [] = ((λ m. List·Memᴰ·not-nil m), (λ v. absurd v))
-mem-in j (x ∷ l) = ((λ m. there (mem-in j l .0) (List·Memᴰ·cases-cons m)), back (mem-in j l .1))
-  where
-    there : (List·Memᴰ j l → In j l) → (j ≡ x) ⊎ List·Memᴰ j l → (j ≡ x) ⊎ In j l
-    there ih (inl e) = inl e
-    there ih (inr m) = inr (ih m)
-
-    back : (In j l → List·Memᴰ j l) → (j ≡ x) ⊎ In j l → List·Memᴰ j (x ∷ l)
-    back ih (inl e) = List·Memᴰ·head e
-    back ih (inr v) = List·Memᴰ·tail (ih v)
-
 -- the first of the places in a list
 pub first-iff : (l : List ℕ) (D : ℕ → Type 0) → ((j : ℕ) → In j l ↔ D j) → (i : ℕ) → (least l ≡ some i) ↔ FirstAt D i
 first-iff l D h i =
     then (reads.laws .first-place l i) (
-      (λ v. record { due = h i .0 (mem-in i l .0 (v .member)); first = λ j d. v .lower j (mem-in j l .1 (h j .1 d)) }),
-      (λ v. record { member = mem-in i l .1 (h i .1 (v .due)); lower = λ j m. v .first j (h j .0 (mem-in j l .0 m)) }),
+      (λ v. record { due = h i .0 (v .member); first = λ j d. each-in (λ k. i ≤ k) l j (h j .1 d) (v .lower) }),
+      (λ v. record { member = h i .1 (v .due); lower = in-each (λ k. i ≤ k) l (λ j m. v .first j (h j .0 m)) }),
     )
+
+-- no place at all
+pub none-iff : (l : List ℕ) (D : ℕ → Type 0) → ((j : ℕ) → In j l ↔ D j) → (l ≡ []) ↔ ((j : ℕ) → D j → ⊥)
+none-iff [] D h = ((λ e j d. h j .1 d), (λ f. refl))
+none-iff (x ∷ l) D h = ((λ e. let z : _≡_ {A = ℕ} 0 1 = cc in absurd (omega arith)), (λ f. absurd (f x (h x .0 (inl refl)))))

@@ -4,8 +4,8 @@ use native.Mathlib.Omega.{arith}
 use native.Mathlib.Nat.{add-zero}
 use mathlib.Core.Path.{_≡_, refl, sym, ap, _∙_, subst}
 use mathlib.Core.Logic.{_↔_, _⊎_}
-use mathlib.Core.Bool.{Bool, true, false, not, cond, _&&_, _||_, true≢false, false≢true}
-use mathlib.Core.Option.{Option, none, some, Option·some-injective, Option·none-ne-some}
+use mathlib.Core.Bool.{Bool, true, false, not, _&&_, _||_, true≢false, false≢true}
+use mathlib.Core.Option.{Option, none, some}
 use mathlib.Core.List.{List, [], _∷_, _++_, map}
 use lib.Dec.{eqb, leb, ltb}
 use lib.ListN.{length, drop, length-append}
@@ -17,26 +17,29 @@ use Rattle.scope.specs.Keys.{written}
 use Rattle.scope.specs.Lists.{given, none?, flat}
 use Rattle.scope.specs.Modifications.{copies}
 use Rattle.scope.specs.Refusals.{dueAt, refusal1, refusal2, unprintable, refusal3, depthAfter, tooDeep, textOf, deepPart, refusal5, longText, longLabel, overIn, refusal6, inRange, wide, wideMass, wideScore, wideCount, refusal7, passing, refusal12}
-use Rattle.clause_laws.specs.Clauses.{SomeBehind, FirstAt, Due3, openAfter, Due5, LongLabel, Due6, InRange, WideMass, WideScore, WideCount, Due7, copiesIn, Due12}
+use Rattle.clause_laws.specs.Clauses.{SomeBehind, Due3, openAfter, Due5, LongLabel, Due6, InRange, WideMass, WideScore, WideCount, Due7, copiesIn, Due12}
 use Rattle.basics.specs.Each.{Some, In}
-use Rattle.clause_laws.specs.Iff.{then, or-iff, and-iff, self, not-iff, either-iff, in-append, in-flat, due-iff, first-iff}
+use Rattle.clause_laws.specs.Iff.{then, or-iff, and-iff, self, not-iff, either-iff, in-append, in-flat, due-iff}
+
+-- ---- limits
+leb-iff : (m n : ℕ) → (leb m n ≡ true) ↔ (m ≤ n)
+leb-iff m n = (leb-true m n, le-leb m n)
+
+ltb-iff : (m n : ℕ) → (ltb m n ≡ true) ↔ (m < n)
+ltb-iff m n = (ltb-true m n, lt-ltb m n)
 
 -- ---- 1 and 2
-pub exactly-1 : (s : List ℕ) (i : ℕ) → (refusal1 s ≡ some i) ↔ ((s ≡ []) × (i ≡ 0))
+pub exactly-1 : (s : List ℕ) (i : ℕ) → In i (refusal1 s) ↔ ((i ≡ 0) × (s ≡ []))
 unfolding refusal1
-exactly-1 [] i = ((λ e. (refl, sym (Option·some-injective 0 i e))), (λ v. ap some (sym (v .1))))
-exactly-1 (b ∷ s) i = ((λ e. absurd (Option·none-ne-some i e)), (λ v. absurd (true≢false (sym (ap none? (v .0))))))
-
-pub exactly-2 : (s : List ℕ) (i : ℕ) → (refusal2 s ≡ some i) ↔ ((lineLimit < length s) × (i ≡ lineLimit))
-unfolding refusal2
-exactly-2 s i = (there (ltb lineLimit (length s)) refl, back)
+exactly-1 s i = due-iff (none? s) 0 i (empty-iff s)
   where
-    there : (t : Bool) → ltb lineLimit (length s) ≡ t → cond t (some lineLimit) none ≡ some i → (lineLimit < length s) × (i ≡ lineLimit)
-    there true e q = (ltb-true lineLimit (length s) e, sym (Option·some-injective lineLimit i q))
-    there false e q = absurd (Option·none-ne-some i q)
+    empty-iff : (s : List ℕ) → (none? s ≡ true) ↔ (s ≡ [])
+    empty-iff [] = ((λ e. refl), (λ e. refl))
+    empty-iff (b ∷ s) = ((λ e. absurd (false≢true e)), (λ e. ap none? e))
 
-    back : (lineLimit < length s) × (i ≡ lineLimit) → cond (ltb lineLimit (length s)) (some lineLimit) none ≡ some i
-    back v = ap (λ (t : Bool). cond t (some lineLimit) none) (lt-ltb lineLimit (length s) (v .0)) ∙ ap some (sym (v .1))
+pub exactly-2 : (s : List ℕ) (i : ℕ) → In i (refusal2 s) ↔ ((i ≡ lineLimit) × (lineLimit < length s))
+unfolding refusal2
+exactly-2 s i = due-iff (ltb lineLimit (length s)) lineLimit i (ltb-iff lineLimit (length s))
 
 -- ---- 3
 no-iff : (a : Bool) → (not a ≡ true) ↔ (a ≡ false)
@@ -51,9 +54,9 @@ byte-iff j (b ∷ s) front =
     (either-iff (due-iff (not (isPrintable b)) (length front) j (no-iff (isPrintable b)))
     (subst (λ (n : ℕ). In j (unprintable n s) ↔ SomeBehind (λ (f : List ℕ) (b : ℕ). (j ≡ length f) × (isPrintable b ≡ false)) (front ++ (b ∷ [])) s) (length-append front (b ∷ [])) (byte-iff j s (front ++ (b ∷ [])))))
 
-pub exactly-3 : (s : List ℕ) (i : ℕ) → (refusal3 s ≡ some i) ↔ FirstAt (Due3 s) i
+pub exactly-3 : (s : List ℕ) (i : ℕ) → In i (refusal3 s) ↔ Due3 s i
 unfolding refusal3
-exactly-3 s i = first-iff _ (Due3 s) (λ j. byte-iff j s []) i
+exactly-3 s i = byte-iff i s []
 
 -- ---- 5
 abbrev Deep : ℕ → ℕ → List ℕ → ℕ → Type 0
@@ -63,12 +66,6 @@ open-snoc : (d : ℕ) (front : List ℕ) (b : ℕ) → openAfter d (front ++ (b 
 unfolding openAfter
 open-snoc d [] b = refl
 open-snoc d (x ∷ front) b = open-snoc (depthAfter d x) front b
-
-leb-iff : (m n : ℕ) → (leb m n ≡ true) ↔ (m ≤ n)
-leb-iff m n = (leb-true m n, le-leb m n)
-
-ltb-iff : (m n : ℕ) → (ltb m n ≡ true) ↔ (m < n)
-ltb-iff m n = (ltb-true m n, lt-ltb m n)
 
 deep-iff : (at j : ℕ) (t front : List ℕ) → In j (tooDeep (openAfter 0 front) (at + length front) t) ↔ SomeBehind (Deep at j) front t
 unfolding tooDeep
@@ -88,9 +85,9 @@ part-iff j p =
     subst (λ (m : ℕ). In j (tooDeep 0 m (textOf p)) ↔ SomeBehind (Deep (p .at + length (written (p .key))) j) [] (textOf p)) (add-zero (p .at + length (written (p .key))))
     (deep-iff (p .at + length (written (p .key))) j (textOf p) [])
 
-pub exactly-5 : (l : Line ℕ) (i : ℕ) → (refusal5 l ≡ some i) ↔ FirstAt (Due5 l) i
+pub exactly-5 : (l : Line ℕ) (i : ℕ) → In i (refusal5 l) ↔ Due5 l i
 unfolding refusal5
-exactly-5 l i = first-iff _ (Due5 l) (λ j. in-flat (λ y. j ≡ y) _ _ (λ k. in-flat (λ y. j ≡ y) _ _ (part-iff j) (k .parts)) (l .brackets)) i
+exactly-5 l i = in-flat (λ y. i ≡ y) _ _ (λ k. in-flat (λ y. i ≡ y) _ _ (part-iff i) (k .parts)) (l .brackets)
 
 -- ---- 6
 in-map : {A : Type 0} (f : A → ℕ) (j : ℕ) (l : List A) → In j (map f l) ↔ Some (λ (x : A). j ≡ f x) l
@@ -124,14 +121,13 @@ over-iff j k =
     (either-iff (in-drop (λ (p : Part ℕ). p .at) partLimit j (k .parts))
     (in-flat (λ y. j ≡ y) _ _ (λ p. then (in-append (λ y. j ≡ y) (longText p) (longLabel p)) (either-iff (due-iff (ltb textLimit (length (textOf p))) (p .at) j (ltb-iff textLimit (length (textOf p)))) (label-iff j p))) (k .parts)))
 
-pub exactly-6 : (l : Line ℕ) (i : ℕ) → (refusal6 l ≡ some i) ↔ FirstAt (Due6 l) i
+pub exactly-6 : (l : Line ℕ) (i : ℕ) → In i (refusal6 l) ↔ Due6 l i
 unfolding refusal6
 exactly-6 l i =
-    first-iff _ (Due6 l) (λ j.
-    then (in-append (λ y. j ≡ y) (drop residueLimit (map (λ r. r .at) (l .residues))) (drop bracketLimit (map (λ k. k .at) (l .brackets)) ++ flat overIn (l .brackets)))
-    (either-iff (in-drop (λ (r : Residue ℕ). r .at) residueLimit j (l .residues))
-    (then (in-append (λ y. j ≡ y) (drop bracketLimit (map (λ k. k .at) (l .brackets))) (flat overIn (l .brackets)))
-    (either-iff (in-drop (λ (k : Bracket ℕ). k .at) bracketLimit j (l .brackets)) (in-flat (λ y. j ≡ y) overIn _ (over-iff j) (l .brackets)))))) i
+    then (in-append (λ y. i ≡ y) (drop residueLimit (map (λ r. r .at) (l .residues))) (drop bracketLimit (map (λ k. k .at) (l .brackets)) ++ flat overIn (l .brackets)))
+    (either-iff (in-drop (λ (r : Residue ℕ). r .at) residueLimit i (l .residues))
+    (then (in-append (λ y. i ≡ y) (drop bracketLimit (map (λ k. k .at) (l .brackets))) (flat overIn (l .brackets)))
+    (either-iff (in-drop (λ (k : Bracket ℕ). k .at) bracketLimit i (l .brackets)) (in-flat (λ y. i ≡ y) overIn _ (over-iff i) (l .brackets)))))
 
 -- ---- 7
 range-iff : (n : Number ℕ) → (inRange n ≡ true) ↔ InRange n
@@ -180,13 +176,12 @@ count-iff j k = (there (k .counted) refl, back)
     back : WideCount j k → In j (wideCount k)
     back v = subst (λ (o : Option ℕ). In j (given o (dueAt (eqb (k .count) 0 || ltb countLimit (k .count))) [])) (sym (v .0)) (due-iff _ j j so .1 (refl, v .1))
 
-pub exactly-7 : (l : Line ℕ) (i : ℕ) → (refusal7 l ≡ some i) ↔ FirstAt (Due7 l) i
+pub exactly-7 : (l : Line ℕ) (i : ℕ) → In i (refusal7 l) ↔ Due7 l i
 unfolding refusal7
 exactly-7 l i =
-    first-iff _ (Due7 l) (λ j.
-    in-flat (λ y. j ≡ y) _ _ (λ k.
-    then (in-append (λ y. j ≡ y) (wideCount k) (flat (λ p. wideMass (p .value) ++ wideScore p) (k .parts)))
-    (either-iff (count-iff j k) (in-flat (λ y. j ≡ y) _ _ (λ p. then (in-append (λ y. j ≡ y) (wideMass (p .value)) (wideScore p)) (either-iff (mass-iff j p) (score-iff j p))) (k .parts)))) (l .brackets)) i
+    in-flat (λ y. i ≡ y) _ _ (λ k.
+    then (in-append (λ y. i ≡ y) (wideCount k) (flat (λ p. wideMass (p .value) ++ wideScore p) (k .parts)))
+    (either-iff (count-iff i k) (in-flat (λ y. i ≡ y) _ _ (λ p. then (in-append (λ y. i ≡ y) (wideMass (p .value)) (wideScore p)) (either-iff (mass-iff i p) (score-iff i p))) (k .parts)))) (l .brackets)
 
 -- ---- 12
 abbrev Passes : ℕ → List (Bracket ℕ) → Bracket ℕ → Type 0
@@ -207,6 +202,6 @@ passing-iff j (k ∷ ks) front =
     then (in-append (λ y. j ≡ y) (dueAt (leb n copyLimit && ltb copyLimit (n + copies k)) (k .at)) (passing (n + copies k) ks))
     (either-iff (due-iff (leb n copyLimit && ltb copyLimit (n + copies k)) (k .at) j (and-iff _ _ (leb-iff n copyLimit) (ltb-iff copyLimit (n + copies k)))) ih)
 
-pub exactly-12 : (l : Line ℕ) (i : ℕ) → (refusal12 l ≡ some i) ↔ FirstAt (Due12 l) i
+pub exactly-12 : (l : Line ℕ) (i : ℕ) → In i (refusal12 l) ↔ Due12 l i
 unfolding refusal12 copiesIn
-exactly-12 l i = first-iff _ (Due12 l) (λ j. passing-iff j (l .brackets) []) i
+exactly-12 l i = passing-iff i (l .brackets) []

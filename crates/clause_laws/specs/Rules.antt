@@ -18,9 +18,9 @@ use Rattle.scope.specs.Lists.{given, none?, flat, among, shared}
 use Rattle.scope.specs.Modifications.{isKey, isReferring, nameOf, namesOf, isLabelled, definedBy, referredBy, defined, referredTo}
 use Rattle.scope.specs.Refusals.{dueAt, textOf, isRule, isLink, notHere, secondLabel, definedAgain, undefined, unreferred, wrongLabels, wronglyLabelled, refusal8, isNumberName, refusal9, refusal10, refusal11}
 use Rattle.scope.specs.Kinds.{kindCode, isKind, unknownOrLabile}
-use Rattle.clause_laws.specs.Clauses.{SomeBehind, FirstAt, Rule, Link, Barred, Due8, Due10, Named, Defines, RefersTo, Second, Again, Undefined, CountedLabel, Unreferred, Due11, NumberName, Due9}
+use Rattle.clause_laws.specs.Clauses.{SomeBehind, Rule, Link, Barred, Due8, Due10, Named, Defines, RefersTo, Second, Again, Undefined, CountedLabel, Unreferred, Due11, NumberName, Due9}
 use Rattle.basics.specs.Each.{Some, In}
-use Rattle.clause_laws.specs.Iff.{then, or-iff, and-iff, self, all-iff, some-not, either-iff, in-append, in-flat, among-iff, due-iff, first-iff}
+use Rattle.clause_laws.specs.Iff.{then, or-iff, and-iff, self, all-iff, some-not, either-iff, in-append, in-flat, among-iff, due-iff}
 use Rattle.basics.specs.Keys.{key-back}
 use Rattle.basics.specs.Kinds.{is-kind}
 
@@ -51,10 +51,10 @@ rule-iff p = and-iff _ _ (key-iff NoKey p) (or-iff _ _ (or-iff _ _ (or-iff _ _ s
 barred-iff : (p : Part ℕ) → (notHere p ≡ true) ↔ Barred p
 barred-iff p = or-iff _ _ (or-iff _ _ (or-iff _ _ (or-iff _ _ (or-iff _ _ (key-iff Formula p) (key-iff Glycan p)) (key-iff Position p)) (key-iff Limit p)) (rule-iff p)) (link-iff p)
 
-pub exactly-8 : (l : Line ℕ) (i : ℕ) → (refusal8 l ≡ some i) ↔ FirstAt (Due8 l) i
+pub exactly-8 : (l : Line ℕ) (i : ℕ) → In i (refusal8 l) ↔ Due8 l i
 unfolding refusal8
 exactly-8 l i =
-    first-iff _ (Due8 l) (λ j. in-flat (λ y. j ≡ y) _ _ (λ k. in-flat (λ y. j ≡ y) _ _ (λ p. due-iff (notHere p) (p .at) j (barred-iff p)) (k .parts)) (l .brackets)) i
+    in-flat (λ y. i ≡ y) _ _ (λ k. in-flat (λ y. i ≡ y) _ _ (λ p. due-iff (notHere p) (p .at) i (barred-iff p)) (k .parts)) (l .brackets)
 
 -- ---- 9
 filled-iff : (t : List ℕ) → (not (none? t) ≡ true) ↔ (t ≡ [] → ⊥)
@@ -64,20 +64,19 @@ filled-iff (b ∷ t) = ((λ e q. false≢true (ap none? q)), (λ h. refl))
 number-iff : (p : Part ℕ) → (isNumberName p ≡ true) ↔ NumberName p
 number-iff p = and-iff _ _ (and-iff _ _ (or-iff _ _ (key-iff U p) (key-iff M p)) (filled-iff (textOf p))) (all-iff isDigit (λ b. isDigit b ≡ true) (λ b. self) (textOf p))
 
-pub exactly-9 : (l : Line ℕ) (i : ℕ) → (refusal9 l ≡ some i) ↔ FirstAt (Due9 l) i
+pub exactly-9 : (l : Line ℕ) (i : ℕ) → In i (refusal9 l) ↔ Due9 l i
 unfolding refusal9
 exactly-9 l i =
-    first-iff _ (Due9 l) (λ j. in-flat (λ y. j ≡ y) _ _ (λ k. in-flat (λ y. j ≡ y) _ _ (λ p. due-iff (isNumberName p) (p .at) j (number-iff p)) (k .parts)) (l .brackets)) i
+    in-flat (λ y. i ≡ y) _ _ (λ k. in-flat (λ y. i ≡ y) _ _ (λ p. due-iff (isNumberName p) (p .at) i (number-iff p)) (k .parts)) (l .brackets)
 
 -- ---- 10
 free-iff : (k : Kind) → (unknownOrLabile k ≡ true) ↔ ((k ≡ Unknown) ⊎ (k ≡ Labile))
 free-iff k = or-iff _ _ (kind-iff Unknown k) (kind-iff Labile k)
 
-pub exactly-10 : (l : Line ℕ) (i : ℕ) → (refusal10 l ≡ some i) ↔ FirstAt (Due10 l) i
+pub exactly-10 : (l : Line ℕ) (i : ℕ) → In i (refusal10 l) ↔ Due10 l i
 unfolding refusal10
 exactly-10 l i =
-    first-iff _ (Due10 l) (λ j.
-    in-flat (λ y. j ≡ y) _ _ (λ k. due-iff _ (k .at) j (and-iff _ _ (free-iff (k .kind)) (all-iff (isKey Info) (λ (p : Part ℕ). p .key ≡ Info) (key-iff Info) (k .parts)))) (l .brackets)) i
+    in-flat (λ y. i ≡ y) _ _ (λ k. due-iff _ (k .at) i (and-iff _ _ (free-iff (k .kind)) (all-iff (isKey Info) (λ (p : Part ℕ). p .key ≡ Info) (key-iff Info) (k .parts)))) (l .brackets)
 
 -- ---- 11
 name-iff : (x : List ℕ) (p : Part ℕ) → In x (nameOf p) ↔ Named x p
@@ -227,6 +226,6 @@ behind-iff l j (k ∷ ks) front =
     then (in-append (λ y. j ≡ y) (dueAt (wrongLabels (defined front) d r k) (k .at)) (wronglyLabelled (defined front ++ definedBy k) d r ks))
     (either-iff (due-iff (wrongLabels (defined front) d r k) (k .at) j (wrong-iff l front k)) ih)
 
-pub exactly-11 : (l : Line ℕ) (i : ℕ) → (refusal11 l ≡ some i) ↔ FirstAt (Due11 l) i
+pub exactly-11 : (l : Line ℕ) (i : ℕ) → In i (refusal11 l) ↔ Due11 l i
 unfolding refusal11 flat
-exactly-11 l i = first-iff _ (Due11 l) (λ j. behind-iff l j (l .brackets) []) i
+exactly-11 l i = behind-iff l i (l .brackets) []

@@ -8,11 +8,11 @@ use Rattle.scope.specs.Bytes.{wideLimit}
 use Rattle.scope.specs.Limits.{residueLimit, bracketLimit, partLimit}
 use Rattle.scope.specs.Line.{Line}
 use Rattle.scope.specs.Lists.{flat}
-use Rattle.scope.specs.Refusals.{longText, longLabel, overIn, wideCount}
+use Rattle.scope.specs.Refusals.{refusal6, lineRefusals, longText, longLabel, overIn, wideCount}
 use Rattle.basics.specs.Each.{Each, each-front, each-back, each-two}
 use Rattle.dues.specs.Ranks.{code, lowest, noCode}
 use Rattle.dues.specs.First.{Fits}
-use Rattle.dues.specs.Lines.{overRank, wideRank, lineRules, partCodes, bracketCodes, metCodes}
+use Rattle.dues.specs.Lines.{overRank, wideRank, partCodes, bracketCodes, metCodes}
 use Rattle.dues.specs.Met.{lowest-two}
 
 each-flat : {A B : Type 0} (Q : B → Type 0) (f : A → List B) (l : List A) → Each Q (flat f l) → Each (λ x. Each Q (f x)) l
@@ -50,9 +50,10 @@ pub record FewOf (l : Line ℕ) : Type 0 where
   pub brackets : length (l .brackets) ≤ bracketLimit
   pub parts : Each (λ k. length (k .parts) ≤ partLimit) (l .brackets)
 
-pub few-of : (l : Line ℕ) → Each Fits (lineRules l) → noCode (lineRules l) ≤ lowest (noCode (lineRules l)) (metCodes (l .residues) (l .brackets)) → FewOf l
+pub few-of : (l : Line ℕ) → Each Fits (lineRefusals l) → noCode (lineRefusals l) ≤ lowest (noCode (lineRefusals l)) (metCodes (l .residues) (l .brackets)) → FewOf l
+unfolding refusal6
 few-of l fits h =
-    let n : ℕ = noCode (lineRules l) in
+    let n : ℕ = noCode (lineRefusals l) in
     let low : code (overRank + 1) 0 ≤ n = omega arith in
     let Q : ℕ → Type 0 = λ p. p < wideLimit in
     let rs = drop residueLimit (map (λ r. r .at) (l .residues)) in

@@ -9,9 +9,9 @@ use lib.ListN.{length, getD}
 use borrow.Author.Tests.{lt-ltb, le-ltb}
 use Rattle.scope.specs.Bytes.{wideLimit}
 use Rattle.scope.specs.Lists.{given}
-use Rattle.scope.specs.Refusals.{least, firstDue, Outcome, refused}
+use Rattle.scope.specs.Refusals.{least, Due, firstDue, Outcome, refused}
 use Rattle.basics.specs.Each.{Each}
-use Rattle.dues.specs.Ranks.{Rule, dueOf, code, codes, lowest, noCode, numberAt, decoded}
+use Rattle.dues.specs.Ranks.{code, codes, lowest, noCode, numberAt, decoded}
 
 pub lowest-append : (n : ℕ) (a b : List ℕ) → lowest n (a ++ b) ≡ lowest (lowest n b) a
 unfolding lowest
@@ -19,7 +19,7 @@ lowest-append n [] b = refl
 lowest-append n (c ∷ a) b = ap (min c) (lowest-append n a b)
 
 -- every place is below 65,536
-abbrev pub Fits : Rule → Type 0
+abbrev pub Fits : Due → Type 0
 Fits r = Each (λ p. p < wideLimit) (r .places)
 
 -- the first place of a rule with this rank that is due, below n
@@ -42,16 +42,16 @@ foremost rank n p (q ∷ ps) h low =
     }
 
 -- what the lowest code of rules says, the first of them with this rank: none is due, or the rule k behind the first at a place
-data Decided (rs : List Rule) (rank n c : ℕ) : Type 0 where
-  clear : c ≡ n → ((o : Outcome) → firstDue (map dueOf rs) o ≡ o) → Decided rs rank n c
-  first : (k p : ℕ) → k < length rs → p < wideLimit → c ≡ code (rank + k) p → ((o : Outcome) → firstDue (map dueOf rs) o ≡ refused (numberAt rs k) p) → Decided rs rank n c
+data Decided (rs : List Due) (rank n c : ℕ) : Type 0 where
+  clear : c ≡ n → ((o : Outcome) → firstDue rs o ≡ o) → Decided rs rank n c
+  first : (k p : ℕ) → k < length rs → p < wideLimit → c ≡ code (rank + k) p → ((o : Outcome) → firstDue rs o ≡ refused (numberAt rs k) p) → Decided rs rank n c
 
 -- it is at least the first code of the rank
-decided-low : (rs : List Rule) (rank n c : ℕ) → code (rank + length rs) 0 ≤ n → Decided rs rank n c → code rank 0 ≤ c
+decided-low : (rs : List Due) (rank n c : ℕ) → code (rank + length rs) 0 ≤ n → Decided rs rank n c → code rank 0 ≤ c
 decided-low rs rank n c low (clear e f) = omega arith
 decided-low rs rank n c low (first k p h small e f) = omega arith
 
-module _ (r : Rule) (rs : List Rule) (rank n : ℕ) where
+module _ (r : Due) (rs : List Due) (rank n : ℕ) where
   -- where the first rule is due it decides
   now-due : (c : ℕ) → Foremost rank c (r .places) → Decided (r ∷ rs) rank n (lowest c (map (code rank) (r .places)))
   unfolding firstDue
@@ -83,13 +83,13 @@ module _ (r : Rule) (rs : List Rule) (rank n : ℕ) where
           (subst (Foremost rank c) (sym e)
           (foremost rank c p ps (subst (Each (λ x. x < wideLimit)) e h) (decided-low rs (rank + 1) n c low rest)))
 
-decided : (rs : List Rule) (rank n : ℕ) → Each Fits rs → code (rank + length rs) 0 ≤ n → Decided rs rank n (lowest n (codes rank rs))
+decided : (rs : List Due) (rank n : ℕ) → Each Fits rs → code (rank + length rs) 0 ≤ n → Decided rs rank n (lowest n (codes rank rs))
 unfolding codes lowest firstDue
 decided [] rank n h low = clear refl (λ o. refl)
 decided (r ∷ rs) rank n h low = decided-more r rs rank n (h .0) (omega arith) (decided rs (rank + 1) n (h .1) (omega arith))
 
 -- a code that is below n has the rank of one of the rules
-pub lowest-below-rules : (rs : List Rule) (n : ℕ) → Each Fits rs → noCode rs ≤ n → lowest n (codes 0 rs) < n → lowest n (codes 0 rs) < noCode rs
+pub lowest-below-rules : (rs : List Due) (n : ℕ) → Each Fits rs → noCode rs ≤ n → lowest n (codes 0 rs) < n → lowest n (codes 0 rs) < noCode rs
 lowest-below-rules rs n h low q = go (lowest n (codes 0 rs)) (decided rs 0 n h (omega arith)) q
   where
     go : (c : ℕ) → Decided rs 0 n c → c < n → c < noCode rs
@@ -97,14 +97,14 @@ lowest-below-rules rs n h low q = go (lowest n (codes 0 rs)) (decided rs 0 n h (
     go c (first k p few small e f) u = omega arith
 
 -- and none is below the first of the ranks
-pub lowest-from-rank : (rs : List Rule) (rank n : ℕ) → Each Fits rs → code (rank + length rs) 0 ≤ n → code rank 0 ≤ lowest n (codes rank rs)
+pub lowest-from-rank : (rs : List Due) (rank n : ℕ) → Each Fits rs → code (rank + length rs) 0 ≤ n → code rank 0 ≤ lowest n (codes rank rs)
 lowest-from-rank rs rank n h low = decided-low rs rank n (lowest n (codes rank rs)) low (decided rs rank n h low)
 
 -- the lowest code, read back, is the definition's own first due
-pub first-due : (rs : List Rule) → Each Fits rs → (o : Outcome) → decoded rs (lowest (noCode rs) (codes 0 rs)) o ≡ firstDue (map dueOf rs) o
+pub first-due : (rs : List Due) → Each Fits rs → (o : Outcome) → decoded rs (lowest (noCode rs) (codes 0 rs)) o ≡ firstDue rs o
 first-due rs h o = go (lowest (noCode rs) (codes 0 rs)) (decided rs 0 (noCode rs) h (omega arith))
   where
-    go : (c : ℕ) → Decided rs 0 (noCode rs) c → decoded rs c o ≡ firstDue (map dueOf rs) o
+    go : (c : ℕ) → Decided rs 0 (noCode rs) c → decoded rs c o ≡ firstDue rs o
     go c (clear e f) = rw (le-ltb c (noCode rs) (omega arith)) (sym (f o))
     go c (first k p few small e f) =
         let rank : c / wideLimit ≡ k = omega arith in

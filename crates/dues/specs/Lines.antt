@@ -9,8 +9,8 @@ use Rattle.scope.specs.Line.{Label, Part, Bracket, Residue, Line}
 use Rattle.scope.specs.Lists.{given, flat}
 use Rattle.scope.specs.Modifications.{onlyInfo, defined, referredTo}
 use Rattle.scope.specs.Kinds.{unknownOrLabile}
-use Rattle.scope.specs.Refusals.{dueAt, deepPart, longText, longLabel, overIn, wide, wideMass, wideScore, wideCount, isLink, notHere, isNumberName, wronglyLabelled, passing}
-use Rattle.dues.specs.Ranks.{Rule, code}
+use Rattle.scope.specs.Refusals.{Due, due, refusal5, refusal6, refusal7, refusal8, refusal9, refusal10, refusal11, refusal12, dueAt, deepPart, longText, longLabel, overIn, wide, wideMass, wideScore, wideCount, isLink, notHere, isNumberName, wronglyLabelled, passing}
+use Rattle.dues.specs.Ranks.{code}
 
 -- ---- the ranks: the order of trying behind 4
 abbrev pub deepRank : ℕ
@@ -37,29 +37,12 @@ labelRank = 6
 abbrev pub copiesRank : ℕ
 copiesRank = 7
 
-abbrev rule : ℕ → List ℕ → Rule
-rule n ps = record { number = n; places = ps }
+-- the refusals of a line: 5 to 9, which are met as the line is walked, and 10 to 12, over all brackets
+abbrev pub metDues : Line ℕ → List Due
+metDues l = due 5 (refusal5 l) ∷ due 6 (refusal6 l) ∷ due 7 (refusal7 l) ∷ due 8 (refusal8 l) ∷ due 9 (refusal9 l) ∷ []
 
--- the rules of a line, in the order of trying: 5 to 9, which are met as the line is walked
-abbrev pub metRules : Line ℕ → List Rule
-metRules l =
-    rule 5 (flat (λ k. flat deepPart (k .parts)) (l .brackets))
-    ∷ rule 6 (drop residueLimit (map (λ r. r .at) (l .residues)) ++ (drop bracketLimit (map (λ k. k .at) (l .brackets)) ++ flat overIn (l .brackets)))
-    ∷ rule 7 (flat (λ k. wideCount k ++ flat (λ p. wideMass (p .value) ++ wideScore p) (k .parts)) (l .brackets))
-    ∷ rule 8 (flat (λ k. flat (λ p. dueAt (notHere p) (p .at)) (k .parts)) (l .brackets))
-    ∷ rule 9 (flat (λ k. flat (λ p. dueAt (isNumberName p) (p .at)) (k .parts)) (l .brackets))
-    ∷ []
-
--- 10 to 12, over all brackets
-abbrev pub bracketRules : Line ℕ → List Rule
-bracketRules l =
-    rule 10 (flat (λ k. dueAt (unknownOrLabile (k .kind) && onlyInfo k) (k .at)) (l .brackets))
-    ∷ rule 11 (wronglyLabelled [] (defined (l .brackets)) (referredTo (l .brackets)) (l .brackets))
-    ∷ rule 12 (passing 0 (l .brackets))
-    ∷ []
-
-abbrev pub lineRules : Line ℕ → List Rule
-lineRules l = metRules l ++ bracketRules l
+abbrev pub bracketDues : Line ℕ → List Due
+bracketDues l = due 10 (refusal10 l) ∷ due 11 (refusal11 l) ∷ due 12 (refusal12 l) ∷ []
 
 -- ---- 5 to 9 as they are met: of a part, of a bracket, of a line
 abbrev pub partCodes : Part ℕ → List ℕ

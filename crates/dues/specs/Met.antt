@@ -8,12 +8,12 @@ use lib.ListN.{length, drop}
 use Rattle.scope.specs.Limits.{residueLimit, bracketLimit, partLimit}
 use Rattle.scope.specs.Line.{Part, Bracket, Residue, Line}
 use Rattle.scope.specs.Lists.{flat}
-use Rattle.scope.specs.Refusals.{dueAt, deepPart, longText, longLabel, overIn, wideMass, wideScore, wideCount, notHere, isNumberName, wronglyLabelled, passing}
+use Rattle.scope.specs.Refusals.{Due, lineRefusals, refusal5, refusal6, refusal7, refusal8, refusal9, refusal10, refusal11, refusal12, dueAt, deepPart, longText, longLabel, overIn, wideMass, wideScore, wideCount, notHere, isNumberName, wronglyLabelled, passing}
 use Rattle.scope.specs.Modifications.{onlyInfo, defined, referredTo}
 use Rattle.scope.specs.Kinds.{unknownOrLabile}
-use Rattle.dues.specs.Ranks.{Rule, code, codes, lowest}
+use Rattle.dues.specs.Ranks.{code, codes, lowest}
 use Rattle.dues.specs.First.{lowest-append}
-use Rattle.dues.specs.Lines.{deepRank, overRank, wideRank, barredRank, digitsRank, infoRank, labelRank, copiesRank, metRules, bracketRules, lineRules, partCodes, partsCodes, bracketCodes, metCodes, ruledCodes}
+use Rattle.dues.specs.Lines.{deepRank, overRank, wideRank, barredRank, digitsRank, infoRank, labelRank, copiesRank, metDues, bracketDues, partCodes, partsCodes, bracketCodes, metCodes, ruledCodes}
 
 pub lowest-below : (n : ℕ) (l : List ℕ) → lowest n l ≤ n
 unfolding lowest
@@ -183,7 +183,7 @@ module _ (n : ℕ) where
       lowest-two n (flat bracketCodes ks) _ ∙ ap₂ min (brackets-low ks) (lowest-two n (map (code overRank) (drop bracketLimit (map (λ k. k .at) ks))) _)
 
   -- ---- rules in two pieces
-  codes-append : (rank : ℕ) (a b : List Rule) → codes rank (a ++ b) ≡ codes rank a ++ codes (rank + length a) b
+  codes-append : (rank : ℕ) (a b : List Due) → codes rank (a ++ b) ≡ codes rank a ++ codes (rank + length a) b
   unfolding codes
   codes-append rank [] b = ap (λ k. codes k b) (let e : rank ≡ rank + 0 = omega arith in e)
   codes-append rank (r ∷ a) b =
@@ -191,14 +191,14 @@ module _ (n : ℕ) where
       (codes-append (rank + 1) a b ∙ ap (λ k. codes (rank + 1) a ++ codes k b) (let e : rank + 1 + length a ≡ rank + length (r ∷ a) = omega arith in e))
       ∙ sym (append-assoc (map (code rank) (r .places)) (codes (rank + 1) a) (codes (rank + length (r ∷ a)) b))
 
-  pub lowest-pieces : (a b : List Rule) → lowest n (codes 0 (a ++ b)) ≡ min (lowest n (codes 0 a)) (lowest n (codes (length a) b))
+  pub lowest-pieces : (a b : List Due) → lowest n (codes 0 (a ++ b)) ≡ min (lowest n (codes 0 a)) (lowest n (codes (length a) b))
   lowest-pieces a b =
       ap (lowest n) (codes-append 0 a b ∙ ap (λ k. codes 0 a ++ codes k b) (let e : 0 + length a ≡ length a = omega arith in e))
       ∙ lowest-two n (codes 0 a) (codes (length a) b)
 
   -- what is met has the lowest code of 5 to 9
-  pub met-alone : (l : Line ℕ) → lowest n (metCodes (l .residues) (l .brackets)) ≡ lowest n (codes 0 (metRules l))
-  unfolding low codes
+  pub met-alone : (l : Line ℕ) → lowest n (metCodes (l .residues) (l .brackets)) ≡ lowest n (codes 0 (metDues l))
+  unfolding low codes refusal5 refusal6 refusal7 refusal8 refusal9
   met-alone l =
       met-low (l .residues) (l .brackets)
       ∙ mixed _ _ _ _ _ _ _
@@ -217,16 +217,16 @@ module _ (n : ℕ) where
       mixed : (a b c d e x y : ℕ) → min (min a (min b (min c (min d e)))) (min x y) ≡ min a (min (min y (min x b)) (min c (min d e)))
       mixed a b c d e x y = simp mins
 
-  ruled-alone : (l : Line ℕ) → lowest n (ruledCodes (l .brackets)) ≡ lowest n (codes infoRank (bracketRules l))
-  unfolding codes
+  ruled-alone : (l : Line ℕ) → lowest n (ruledCodes (l .brackets)) ≡ lowest n (codes infoRank (bracketDues l))
+  unfolding codes refusal10 refusal11 refusal12
   ruled-alone l =
       ap (λ t. lowest n (map (code infoRank) (flat (λ k. dueAt (unknownOrLabile (k .kind) && onlyInfo k) (k .at)) (l .brackets))
       ++ (map (code labelRank) (wronglyLabelled [] (defined (l .brackets)) (referredTo (l .brackets)) (l .brackets)) ++ t)))
       (sym (append-nil (map (code copiesRank) (passing 0 (l .brackets)))))
 
   -- what is met, and what 10 to 12 add, have the lowest code of the rules
-  pub met : (l : Line ℕ) → lowest n (metCodes (l .residues) (l .brackets) ++ ruledCodes (l .brackets)) ≡ lowest n (codes 0 (lineRules l))
+  pub met : (l : Line ℕ) → lowest n (metCodes (l .residues) (l .brackets) ++ ruledCodes (l .brackets)) ≡ lowest n (codes 0 (lineRefusals l))
   met l =
       lowest-two n (metCodes (l .residues) (l .brackets)) (ruledCodes (l .brackets))
       ∙ ap₂ min (met-alone l) (ruled-alone l)
-      ∙ sym (lowest-pieces (metRules l) (bracketRules l))
+      ∙ sym (lowest-pieces (metDues l) (bracketDues l))

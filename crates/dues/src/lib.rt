@@ -1,4 +1,4 @@
-// The first refusal due, as one number: the rank of its rule in the order of trying, then the place. Of two, the lower is the first.
+// The first refusal due, as one number: its rank in the order of trying, then the place. Of two, the lower is the first.
 use labels::Label;
 use scope::tables::Tables;
 use values::Value;
@@ -10,12 +10,12 @@ ghost use lib.ListN.{length};
 ghost use Rattle.scope.specs.Bytes.{wideLimit, isDigit};
 ghost use Rattle.scope.specs.Keys.{keyCode, written};
 ghost use Rattle.scope.specs.Layout.{textCode};
-ghost use Rattle.scope.specs.Line.{Part, Label as Written};
+ghost use Rattle.scope.specs.Line.{Line, Part, Label as Written};
 ghost use Rattle.scope.specs.Lists.{none?, all, part};
-ghost use Rattle.scope.specs.Refusals.{dueAt, least as first, isLink, textOf};
+ghost use Rattle.scope.specs.Refusals.{dueAt, least as first, lineRefusals, isLink, textOf};
 ghost use Rattle.values.specs.Says.{IsValue, coded};
 ghost use Rattle.labels.specs.Says.{IsLabel};
-ghost use Rattle.dues.specs.Ranks.{code, lowest};
+ghost use Rattle.dues.specs.Ranks.{code, lowest, noCode, numberAt};
 ghost use Rattle.dues.specs.Lines.{deepRank, partCodes, labelCodes};
 ghost use Rattle.dues.specs.Steps.{isShortRule, isRuleName, textCodes};
 ghost use Rattle.dues.specs.Found.{ValueFound, LabelFound};
@@ -23,7 +23,12 @@ ghost use Rattle.dues.specs.Found.{ValueFound, LabelFound};
 // how many places there are for each rank
 const PLACES: usize = 65536;
 
-// The ranks: a pair too deep; too many or too long; out of range; barred; only digits; only INFO; wrongly labelled; too many copies.
+// The refusals that are tried behind 4, in the order of trying: the number of each.
+const NUMBERS: [u8; RANKS] = [5, 6, 7, 8, 9, 10, 11, 12];
+
+const RANKS: usize = 8;
+
+// Their ranks: a pair too deep; too many or too long; out of range; barred; only digits; only INFO; wrongly labelled; too many copies.
 pub const DEEP: usize = 0;
 
 pub const OVER: usize = 1;
@@ -41,9 +46,9 @@ pub const LABEL: usize = 6;
 pub const COPIES: usize = 7;
 
 // Nothing is due: above every code.
-pub const NONE: usize = 8 * PLACES;
+pub const NONE: usize = RANKS * PLACES;
 
-// The first due, with one place more of a rule.
+// The first due, with one place more of a rank.
 pub fn due(least: usize, rank: usize, place: usize) -> usize
     requires { ⌜ (rank < wideLimit) × (place < wideLimit) ⌝ }
     ensures { λ r. ⌜ r ≡ min (code rank place) least ⌝ }
@@ -55,7 +60,7 @@ pub fn due(least: usize, rank: usize, place: usize) -> usize
     least
 }
 
-// The same, where the rule is due there.
+// The same, where it is due there.
 pub fn due_if(least: usize, so: bool, rank: usize, place: usize) -> usize
     requires { ⌜ (rank < wideLimit) × (place < wideLimit) ⌝ }
     ensures { λ r. ⌜ r ≡ lowest least (map (code rank) (dueAt so place)) ⌝ }
@@ -66,11 +71,12 @@ pub fn due_if(least: usize, so: bool, rank: usize, place: usize) -> usize
     least
 }
 
-// The rank of a code.
-pub fn rank_of(c: usize) -> usize
-    ensures { λ r. ⌜ r ≡ c / wideLimit ⌝ }
+// The number of the refusal that a code is due for.
+pub fn number_of(c: usize) -> u8
+    requires { ⌜ ((l : Line ℕ) → c < noCode (lineRefusals l)) ⌝ }
+    ensures { λ r. ⌜ ((l : Line ℕ) → r ≡ numberAt (lineRefusals l) (c / wideLimit)) ⌝ }
 {
-    c / PLACES
+    NUMBERS[c / PLACES]
 }
 
 // Its place.

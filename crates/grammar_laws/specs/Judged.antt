@@ -21,7 +21,7 @@ use Rattle.grammar_laws.specs.Written.{line-read}
 use Rattle.grammar_laws.specs.Laws.{Begun, Stops, Accepts, Refuses, of-bytes, of-order, of-line}
 use Rattle.grammar_laws.specs.Lines.{spelt-read, read-spelt}
 use Rattle.reading_laws.specs.Precedence.{clear-cases, clear-due}
-use Rattle.reading_laws.specs.Taken.{some-bytes}
+use Rattle.reading_laws.specs.Taken.{not-long, none-long, some-bytes}
 
 -- ---- the place of refusal 4
 begun-read : (w : List ℕ) → Begun w → (l : List ℕ) × (t : Line ℕ) × (reading (w ++ l) ≡ holds t)
@@ -54,18 +54,6 @@ stops-stuck s i w =
 not-refused : (l : Line ℕ) (k i : ℕ) → accepted l ≡ refused k i → ⊥
 not-refused l k i e = let z : _≡_ {A = ℕ} 0 1 = cc in omega arith
 
-not-long : (s : List ℕ) → refusal2 s ≡ none → length s ≤ lineLimit
-unfolding refusal2
-not-long s e = go (ltb lineLimit (length s)) refl e
-  where
-    go : (t : Bool) → ltb lineLimit (length s) ≡ t → cond t (some lineLimit) none ≡ none → length s ≤ lineLimit
-    go true f e = let z : _≡_ {A = ℕ} 0 1 = cc in absurd (omega arith)
-    go false f e = ltb-false lineLimit (length s) f
-
-long-none : (s : List ℕ) → length s ≤ lineLimit → refusal2 s ≡ none
-unfolding refusal2
-long-none s h = rw (le-ltb lineLimit (length s) h)
-
 pub accepts-so : (s : List ℕ) (l : Line ℕ) → outcome s ≡ accepted l → Accepts s l
 unfolding outcome
 accepts-so s l e =
@@ -84,7 +72,7 @@ pub so-accepts : (s : List ℕ) (l : Line ℕ) → Accepts s l → outcome s ≡
 unfolding outcome
 so-accepts s l w =
     let e : reading s ≡ holds l = spelt-read s l (w .spelt) in
-    clear-due (byteRefusals s) (judged (reading s)) (some-bytes s l e, (long-none s (w .short), (reads.laws .printable s l e, tt)))
+    clear-due (byteRefusals s) (judged (reading s)) (some-bytes s l e, (none-long s (w .short), (reads.laws .printable s l e, tt)))
     ∙ ap judged e ∙ clear-due (lineRefusals l) (accepted l) (clauses.laws .none-due l .1 (w .clear))
 
 -- ---- refusals

@@ -20,7 +20,7 @@ use Rattle.scope.specs.Refusals.{refusal4, Due, due, Outcome, accepted, refused
 use Rattle.scope.specs.Tables.{tablesOf}
 use Rattle.scope.specs.Layout.{bytesOf, numbersOf}
 use Rattle.scope.specs.Answers.{good, refuses, saysRead, tooShort, readOutcome, saysOutcome, bytesAfter, numbersAfter}
-use Rattle.reading_laws.specs.Laws.{placeOf, behind, dues}
+use Rattle.reading_laws.specs.Laws.{placesOf, behind, dues}
 use Rattle.reading_laws.specs.Proved as reads
 use Rattle.scope.specs.Grammar.{Spelling, print, good as wellSpelt, means}
 use Rattle.grammar_laws.specs.Laws.{Accepts, Refuses}
@@ -98,12 +98,12 @@ Numbered : List Due → Type 0
 Numbered [] = Unit {0}
 Numbered (d ∷ ds) = (1 ≤ d .number) × (d .number ≤ 12) × Numbered ds
 
-numbered : (ds : List Due) (k i : ℕ) → Numbered ds → placeOf ds k ≡ some i → (1 ≤ k) × (k ≤ 12)
-unfolding Numbered placeOf
-numbered [] k i n e = let z : _≡_ {A = ℕ} 0 1 = cc in absurd (omega arith)
+numbered : (ds : List Due) (k i : ℕ) → Numbered ds → In i (placesOf ds k) → (1 ≤ k) × (k ≤ 12)
+unfolding Numbered placesOf
+numbered [] k i n e = absurd e
 numbered (d ∷ ds) k i n e = go (eqb (d .number) k) refl e (numbered ds k i (n .2))
   where
-    go : (t : Bool) → eqb (d .number) k ≡ t → cond t (d .place) (placeOf ds k) ≡ some i → (placeOf ds k ≡ some i → (1 ≤ k) × (k ≤ 12)) → (1 ≤ k) × (k ≤ 12)
+    go : (t : Bool) → eqb (d .number) k ≡ t → In i (cond t (d .places) (placesOf ds k)) → (In i (placesOf ds k) → (1 ≤ k) × (k ≤ 12)) → (1 ≤ k) × (k ≤ 12)
     go true q f ih = let z = eqb-true (d .number) k q in (omega (arith, n .0), omega (arith, n .1))
     go false q f ih = ih f
 

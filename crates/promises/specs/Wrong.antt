@@ -31,7 +31,7 @@ unfolding upper element act perform step run reading flat least refusal1 refusal
 letter-good = refl
 
 empty-refused : outcome [] ≡ refused 1 0
-unfolding refusal1 firstDue outcome
+unfolding least refusal1 firstDue outcome
 empty-refused = refl
 
 -- areas that are long enough

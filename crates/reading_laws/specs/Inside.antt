@@ -2,9 +2,9 @@
 use Prim.Native.Nat.{ℕ, zero, suc, _+_, _≤_, _<_}
 use native.Mathlib.Omega.{arith}
 use mathlib.Core.Path.{_≡_, refl, subst}
-use mathlib.Core.Bool.{Bool, true, false, not, cond, _&&_, _||_}
+use mathlib.Core.Bool.{Bool, true, false, not, _&&_, _||_}
 use mathlib.Core.Option.{Option, none, some}
-use mathlib.Core.List.{List, [], _∷_, _++_, map, List·Memᴰ, List·Memᴰ·head, List·Memᴰ·tail}
+use mathlib.Core.List.{List, [], _∷_, _++_, map}
 use lib.Dec.{eqb, leb, ltb}
 use lib.ListN.{length, drop}
 use borrow.Author.Tests.{eqb-true, ltb-true}
@@ -12,13 +12,14 @@ use Rattle.scope.specs.Bytes.{isPrintable, isOpening}
 use Rattle.scope.specs.Limits.{lineLimit, residueLimit, bracketLimit, partLimit, textLimit, labelLimit, depthLimit, countLimit, copyLimit}
 use Rattle.scope.specs.Keys.{written}
 use Rattle.scope.specs.Line.{Number, Value, mass, text, reference, Part, Bracket, Line}
-use Rattle.scope.specs.Lists.{given, flat}
+use Rattle.scope.specs.Lists.{given, none?, flat}
 use Rattle.scope.specs.Reading.{Reading, stuck, holds, reading}
 use Rattle.scope.specs.Modifications.{onlyInfo, copies, definedBy, defined, referredTo}
-use Rattle.scope.specs.Refusals.{dueAt, least, refusal1, refusal2, unprintable, refusal3, refusal4, depthAfter, tooDeep, textOf, deepPart, refusal5, longText, longLabel, overIn, refusal6, inRange, wide, wideMass, wideScore, wideCount, refusal7, notHere, refusal8, isNumberName, refusal9, refusal10, wrongLabels, wronglyLabelled, refusal11, passing, refusal12, Due, due, byteRefusals, lineRefusals}
+use Rattle.scope.specs.Refusals.{least, dueAt, refusal1, refusal2, unprintable, refusal3, refusal4, depthAfter, tooDeep, textOf, deepPart, refusal5, longText, longLabel, overIn, refusal6, inRange, wide, wideMass, wideScore, refusal7, notHere, refusal8, isNumberName, refusal9, refusal10, wrongLabels, wronglyLabelled, refusal11, passing, refusal12, Due, due, byteRefusals, lineRefusals}
 use Rattle.scope.specs.Kinds.{unknownOrLabile}
-use Rattle.basics.specs.Each.{Each, OfGiven, each-append, each-through}
-use Rattle.reading_laws.specs.Laws.{placeOf, behind, dues}
+use Rattle.basics.specs.Choice.{branch-on}
+use Rattle.basics.specs.Each.{Each, OfGiven, each-append, each-in, each-one, each-through}
+use Rattle.reading_laws.specs.Laws.{placesOf, behind, dues}
 use Rattle.reading_laws.specs.Precedence.{least-some}
 use Rattle.reading_laws.specs.Stuck.{stuck-refused}
 use Rattle.reading_laws.specs.Within.{WithinNumber, WithinLabel, WithinValue, WithinPart, WithinBracket, WithinResidue, WithinLine, reading-within}
@@ -58,13 +59,9 @@ module _ (n : ℕ) where
   under-given Q f h none p = tt
   under-given Q f h (some x) p = h x p
 
-  under-member : (l : List ℕ) (i : ℕ) → Under l → List·Memᴰ i l → i < n
-  unfolding Under
-  under-member (x ∷ l) i p (List·Memᴰ·head e) = omega (arith, p .0)
-  under-member (x ∷ l) i p (List·Memᴰ·tail m) = under-member l i (p .1) m
-
   pub under-least : (l : List ℕ) (i : ℕ) → Under l → least l ≡ some i → i < n
-  under-least l i p e = under-member l i p (least-some l i .0 e .member)
+  unfolding Under
+  under-least l i p e = each-in (λ j. j < n) l i (least-some l i .0 e .member) p
 
   -- ---- the places of each number
   under-unprintable : (i : ℕ) (s : List ℕ) → i + length s ≤ n → Under (unprintable i s)
@@ -129,38 +126,35 @@ module _ (n : ℕ) where
 abbrev AtPlace : ℕ → ℕ → ℕ → Type 0
 AtPlace n k i = (i ≤ n) × ((k ≡ 1 → ⊥) → (k ≡ 4 → ⊥) → i < n)
 
-InsideDue : ℕ → Due → Type 0
-InsideDue n d = (i : ℕ) → d .place ≡ some i → AtPlace n (d .number) i
+abbrev InsideDue : ℕ → Due → Type 0
+InsideDue n d = Each (AtPlace n (d .number)) (d .places)
 
-strictly : (n k : ℕ) (o : Option ℕ) → ((i : ℕ) → o ≡ some i → i < n) → InsideDue n (due k o)
-unfolding InsideDue
-strictly n k o f i e = let h : i < n = f i e in (omega arith, λ a b. h)
+strictly : (n k : ℕ) (l : List ℕ) → Under n l → Each (AtPlace n k) l
+unfolding Under
+strictly n k l u = each-one (λ i. i < n) (AtPlace n k) (λ i h. (omega arith, λ a b. h)) l u
 
-from-least : (n k : ℕ) (l : List ℕ) → Under n l → InsideDue n (due k (least l))
-from-least n k l u = strictly n k (least l) (λ i e. under-least n l i u e)
-
-place-inside : (n : ℕ) (ds : List Due) (k i : ℕ) → Each (InsideDue n) ds → placeOf ds k ≡ some i → AtPlace n k i
-unfolding placeOf InsideDue
-place-inside n [] k i w e = let z : _≡_ {A = ℕ} 0 1 = cc in absurd (omega arith)
-place-inside n (d ∷ ds) k i w e = go (eqb (d .number) k) refl e (place-inside n ds k i (w .1))
-  where
-    go : (t : Bool) → eqb (d .number) k ≡ t → cond t (d .place) (placeOf ds k) ≡ some i → (placeOf ds k ≡ some i → AtPlace n k i) → AtPlace n k i
-    go true q f ih = subst (λ x. AtPlace n x i) (eqb-true (d .number) k q) (w .0 i f)
-    go false q f ih = ih f
+place-inside : (n : ℕ) (ds : List Due) (k : ℕ) → Each (InsideDue n) ds → Each (AtPlace n k) (placesOf ds k)
+unfolding placesOf
+place-inside n [] k w = tt
+place-inside n (d ∷ ds) k w =
+    branch-on (λ l. Each (AtPlace n k) l) (eqb (d .number) k) (λ q. subst (λ x. Each (AtPlace n x) (d .places)) (eqb-true (d .number) k q) (w .0))
+    (λ q. place-inside n ds k (w .1))
 
 -- 5 to 12
 module _ (n : ℕ) (l : Line ℕ) (w : WithinLine n l) where
-  -- every place at which the number is due
-  pub under5 : Under n (flat (λ k. flat deepPart (k .parts)) (l .brackets))
+  pub under5 : Under n (refusal5 l)
+  unfolding refusal5
   under5 = under-parts n deepPart (λ p v. under-deep n 0 (p .at + length (written (p .key))) (textOf p) (v .text)) l w
 
-  pub under6 : Under n (drop residueLimit (map (λ r. r .at) (l .residues)) ++ (drop bracketLimit (map (λ k. k .at) (l .brackets)) ++ flat overIn (l .brackets)))
+  pub under6 : Under n (refusal6 l)
+  unfolding refusal6
   under6 =
       under-append n _ _ (under-drop n residueLimit _ (under-map n (WithinResidue n) (λ r. r .at) (λ r v. v) (l .residues) (w .residues)))
       (under-append n _ _ (under-drop n bracketLimit _ (under-map n (WithinBracket n) (λ k. k .at) (λ k v. v .at) (l .brackets) (w .brackets)))
       (under-flat n (WithinBracket n) overIn (under-over n) (l .brackets) (w .brackets)))
 
-  pub under7 : Under n (flat (λ k. wideCount k ++ flat (λ p. wideMass (p .value) ++ wideScore p) (k .parts)) (l .brackets))
+  pub under7 : Under n (refusal7 l)
+  unfolding refusal7
   under7 =
       under-flat n (WithinBracket n) _
       (λ k v. under-append n _ _
@@ -168,95 +162,54 @@ module _ (n : ℕ) (l : Line ℕ) (w : WithinLine n l) where
       (under-flat n (WithinPart n) _ (λ p u. under-append n _ _ (under-mass n (p .value) (u .value)) (under-score n p u)) (k .parts) (v .parts)))
       (l .brackets) (w .brackets)
 
-  pub under8 : Under n (flat (λ k. flat (λ p. dueAt (notHere p) (p .at)) (k .parts)) (l .brackets))
+  pub under8 : Under n (refusal8 l)
+  unfolding refusal8
   under8 = under-parts n _ (λ p v. under-due n (notHere p) (p .at) (v .at)) l w
 
-  pub under9 : Under n (flat (λ k. flat (λ p. dueAt (isNumberName p) (p .at)) (k .parts)) (l .brackets))
+  pub under9 : Under n (refusal9 l)
+  unfolding refusal9
   under9 = under-parts n _ (λ p v. under-due n (isNumberName p) (p .at) (v .at)) l w
 
-  pub under10 : Under n (flat (λ k. dueAt (unknownOrLabile (k .kind) && onlyInfo k) (k .at)) (l .brackets))
+  pub under10 : Under n (refusal10 l)
+  unfolding refusal10
   under10 =
       under-flat n (WithinBracket n) _ (λ k v. under-due n (unknownOrLabile (k .kind) && onlyInfo k) (k .at) (v .at)) (l .brackets)
       (w .brackets)
 
-  pub under11 : Under n (wronglyLabelled [] (defined (l .brackets)) (referredTo (l .brackets)) (l .brackets))
+  pub under11 : Under n (refusal11 l)
+  unfolding refusal11
   under11 = under-labels n [] (defined (l .brackets)) (referredTo (l .brackets)) (l .brackets) (w .brackets)
 
-  pub under12 : Under n (passing 0 (l .brackets))
+  pub under12 : Under n (refusal12 l)
+  unfolding refusal12
   under12 = under-passing n 0 (l .brackets) (w .brackets)
 
-  -- and so the first of them
-  inside5 : InsideDue n (due 5 (refusal5 l))
-  unfolding refusal5
-  inside5 = from-least n 5 _ under5
-
-  inside6 : InsideDue n (due 6 (refusal6 l))
-  unfolding refusal6
-  inside6 = from-least n 6 _ under6
-
-  inside7 : InsideDue n (due 7 (refusal7 l))
-  unfolding refusal7
-  inside7 = from-least n 7 _ under7
-
-  inside8 : InsideDue n (due 8 (refusal8 l))
-  unfolding refusal8
-  inside8 = from-least n 8 _ under8
-
-  inside9 : InsideDue n (due 9 (refusal9 l))
-  unfolding refusal9
-  inside9 = from-least n 9 _ under9
-
-  inside10 : InsideDue n (due 10 (refusal10 l))
-  unfolding refusal10
-  inside10 = from-least n 10 _ under10
-
-  inside11 : InsideDue n (due 11 (refusal11 l))
-  unfolding refusal11
-  inside11 = from-least n 11 _ under11
-
-  inside12 : InsideDue n (due 12 (refusal12 l))
-  unfolding refusal12
-  inside12 = from-least n 12 _ under12
-
-  line-inside : Each (InsideDue n) (lineRefusals l)
-  line-inside = (inside5, (inside6, (inside7, (inside8, (inside9, (inside10, (inside11, (inside12, tt))))))))
+  -- of each refusal, in the order of trying
+  pub line-under : Each (λ d. Under n (d .places)) (lineRefusals l)
+  line-under = (under5, (under6, (under7, (under8, (under9, (under10, (under11, (under12, tt))))))))
 
 -- 1 to 3
-empty-inside : (s : List ℕ) → InsideDue (length s) (due 1 (refusal1 s))
-unfolding refusal1 InsideDue
-empty-inside [] i e = let h : 0 ≡ i = cc in (omega arith, λ a b. absurd (a refl))
-empty-inside (x ∷ s) i e = let z : _≡_ {A = ℕ} 0 1 = cc in absurd (omega arith)
-
-long-inside : (s : List ℕ) (i : ℕ) → refusal2 s ≡ some i → i < length s
-unfolding refusal2
-long-inside s i e = go (ltb lineLimit (length s)) refl e
-  where
-    go : (t : Bool) → ltb lineLimit (length s) ≡ t → cond t (some lineLimit) none ≡ some i → i < length s
-    go true q f = let h : lineLimit ≡ i = cc in omega (arith, ltb-true lineLimit (length s) q)
-    go false q f = let z : _≡_ {A = ℕ} 0 1 = cc in absurd (omega arith)
-
-printable-inside : (s : List ℕ) → InsideDue (length s) (due 3 (refusal3 s))
-unfolding refusal3
-printable-inside s = from-least (length s) 3 (unprintable 0 s) (under-unprintable (length s) 0 s (omega arith))
-
 bytes-inside : (s : List ℕ) → Each (InsideDue (length s)) (byteRefusals s)
-bytes-inside s = (empty-inside s, (strictly (length s) 2 (refusal2 s) (long-inside s), (printable-inside s, tt)))
+unfolding refusal1 refusal2 refusal3
+bytes-inside s = (empty s, (long (ltb lineLimit (length s)) refl, (strictly (length s) 3 (unprintable 0 s) (under-unprintable (length s) 0 s (omega arith)), tt)))
+  where
+    empty : (s : List ℕ) → Each (AtPlace (length s) 1) (dueAt (none? s) 0)
+    empty [] = ((omega arith, λ a b. absurd (a refl)), tt)
+    empty (x ∷ s) = tt
+
+    long : (t : Bool) → ltb lineLimit (length s) ≡ t → Each (AtPlace (length s) 2) (dueAt t lineLimit)
+    long true q = let h : lineLimit < length s = ltb-true lineLimit (length s) q in ((omega arith, λ a b. h), tt)
+    long false q = tt
 
 -- 4, and those behind it
 rest-inside : (s : List ℕ) (r : Reading) → reading s ≡ r → Each (InsideDue (length s)) (due 4 (refusal4 r) ∷ behind r)
-unfolding InsideDue
-rest-inside s (stuck j) e =
-    ((λ i q. let h : j ≡ i = cc in let u = stuck-refused s j e .inside in (omega arith, λ a b. absurd (b refl))), tt)
-rest-inside s (holds l) e = (
-  (λ i q. let z : _≡_ {A = ℕ} 0 1 = cc in absurd (omega arith)),
-  line-inside (length s) l (reading-within s l e),
-)
+rest-inside s (stuck j) e = (((stuck-refused s j e .inside, λ a b. absurd (b refl)), tt), tt)
+rest-inside s (holds l) e =
+    (tt, each-one (λ d. Under (length s) (d .places)) (InsideDue (length s)) (λ d u. strictly (length s) (d .number) (d .places) u) (lineRefusals l) (line-under (length s) l (reading-within s l e)))
 
-every-inside : (s : List ℕ) → Each (InsideDue (length s)) (dues s)
+pub dues-inside : (s : List ℕ) (k : ℕ) → Each (λ i. (i ≤ length s) × ((k ≡ 1 → ⊥) → (k ≡ 4 → ⊥) → i < length s)) (placesOf (dues s) k)
 unfolding dues
-every-inside s =
-    each-append (InsideDue (length s)) (byteRefusals s) (due 4 (refusal4 (reading s)) ∷ behind (reading s)) (bytes-inside s)
-    (rest-inside s (reading s) refl)
-
-pub dues-inside : (s : List ℕ) (k i : ℕ) → placeOf (dues s) k ≡ some i → (i ≤ length s) × ((k ≡ 1 → ⊥) → (k ≡ 4 → ⊥) → i < length s)
-dues-inside s k i e = place-inside (length s) (dues s) k i (every-inside s) e
+dues-inside s k =
+    place-inside (length s) (dues s) k
+    (each-append (InsideDue (length s)) (byteRefusals s) (due 4 (refusal4 (reading s)) ∷ behind (reading s)) (bytes-inside s)
+    (rest-inside s (reading s) refl))

@@ -3,13 +3,14 @@ use Prim.Native.Nat.{ℕ, _+_, _≤_, _<_}
 use mathlib.Core.Path.{_≡_}
 use mathlib.Core.Logic.{_↔_, _⊎_}
 use mathlib.Core.Bool.{cond}
-use mathlib.Core.Option.{Option, none, some}
-use mathlib.Core.List.{List, [], _∷_, _++_, List·Memᴰ}
+use mathlib.Core.Option.{none, some}
+use mathlib.Core.List.{List, [], _∷_, _++_}
 use lib.Dec.{eqb}
 use lib.ListN.{length, take}
 use Rattle.scope.specs.Line.{Line}
 use Rattle.scope.specs.Reading.{Reading, stuck, holds, reading}
 use Rattle.scope.specs.Refusals.{least, refusal3, refusal4, Due, due, Outcome, accepted, refused, firstDue, lineRefusals, byteRefusals, outcome}
+use Rattle.basics.specs.Each.{Each, In}
 
 -- ---- the place of refusal 4: "first byte with which no line of any length begins so; else the line's length"
 pub record Refused4 (s : List ℕ) (i : ℕ) : Type 0 where
@@ -22,31 +23,32 @@ pub record Refused4 (s : List ℕ) (i : ℕ) : Type 0 where
 
 -- none of the list is due
 abbrev pub Clear : List Due → Type 0
-Clear [] = Unit {0}
-Clear (d ∷ ds) = (d .place ≡ none) × Clear ds
-
--- number k is due at i, and none before it in the list
-pub record First (ds : List Due) (k i : ℕ) : Type 0 where
-  pub before : List Due
-  pub after : List Due
-  pub whole : ds ≡ before ++ (due k (some i) ∷ after)
-  pub clear : Clear before
+Clear ds = Each (λ d. d .places ≡ []) ds
 
 -- i is the first place of the list
 pub record Least (l : List ℕ) (i : ℕ) : Type 0 where
-  pub member : List·Memᴰ i l
-  pub lower : (j : ℕ) → List·Memᴰ j l → i ≤ j
+  pub member : In i l
+  pub lower : Each (λ j. i ≤ j) l
+
+-- number k is due, first at i, and none before it in the list
+pub record First (ds : List Due) (k i : ℕ) : Type 0 where
+  pub before : List Due
+  pub places : List ℕ
+  pub after : List Due
+  pub whole : ds ≡ before ++ (due k places ∷ after)
+  pub clear : Clear before
+  pub at : Least places i
 
 -- where a number is due
-unfoldable pub placeOf : List Due → ℕ → Option ℕ
-placeOf [] k = none
-placeOf (d ∷ ds) k = cond (eqb (d .number) k) (d .place) (placeOf ds k)
+unfoldable pub placesOf : List Due → ℕ → List ℕ
+placesOf [] k = []
+placesOf (d ∷ ds) k = cond (eqb (d .number) k) (d .places) (placesOf ds k)
 
--- a number is due at a place, and no lower one at any
+-- a number is due, first at a place, and no lower one at any
 abbrev pub Lowest : List Due → ℕ → ℕ → Type 0
-Lowest ds k i = (placeOf ds k ≡ some i) × ((j : ℕ) → j < k → placeOf ds j ≡ none)
+Lowest ds k i = Least (placesOf ds k) i × ((j : ℕ) → j < k → placesOf ds j ≡ [])
 
--- the refusals of a line in the order of trying; those behind 4 have a place only in a line of the order
+-- the refusals of a line in the order of trying; those behind 4 are due only in a line of the order
 abbrev pub behind : Reading → List Due
 behind (stuck i) = []
 behind (holds l) = lineRefusals l
@@ -61,15 +63,15 @@ pub record Laws : Type 0 where
   pub place-of-4 : (s : List ℕ) (i : ℕ) → reading s ≡ stuck i ↔ Refused4 s i
   pub one-place : (s : List ℕ) (i j : ℕ) → Refused4 s i → Refused4 s j → i ≡ j
   -- 3 "a byte outside 32 to 126": a line of the order has none, so the lines that Refused4 speaks of are lines of printable bytes
-  pub printable : (s : List ℕ) (t : Line ℕ) → reading s ≡ holds t → refusal3 s ≡ none
+  pub printable : (s : List ℕ) (t : Line ℕ) → reading s ≡ holds t → refusal3 s ≡ []
   -- "at its first place in the line"
   pub first-place : (l : List ℕ) (i : ℕ) → least l ≡ some i ↔ Least l i
   pub no-place : (l : List ℕ) → least l ≡ none ↔ (l ≡ [])
   -- "tries .. in that order", for any list of refusals: the first that is due is given, and where none is, what is left
   pub in-order : (ds : List Due) (o : Outcome) (k i : ℕ) → firstDue ds o ≡ refused k i ↔ (First ds k i ⊎ (Clear ds × (o ≡ refused k i)))
-  -- "Reading tries .. 1 to 12 in that order; the lowest number wins": a number is given exactly when it is due and no lower one is, at its place
+  -- "Reading tries .. 1 to 12 in that order; the lowest number wins": a number is given exactly when it is due and no lower one is, at its first place
   pub lowest-wins : (s : List ℕ) (k i : ℕ) → outcome s ≡ refused k i ↔ Lowest (dues s) k i
   -- a line is accepted exactly when it is of the order and no number is due
-  pub none-due : (s : List ℕ) (l : Line ℕ) → outcome s ≡ accepted l ↔ ((reading s ≡ holds l) × ((k : ℕ) → placeOf (dues s) k ≡ none))
+  pub none-due : (s : List ℕ) (l : Line ℕ) → outcome s ≡ accepted l ↔ ((reading s ≡ holds l) × ((k : ℕ) → placesOf (dues s) k ≡ []))
   -- the table's column "Place": each is a byte of the line, but for 1 and 4, whose place may be its length
-  pub inside-line : (s : List ℕ) (k i : ℕ) → placeOf (dues s) k ≡ some i → (i ≤ length s) × ((k ≡ 1 → ⊥) → (k ≡ 4 → ⊥) → i < length s)
+  pub inside-line : (s : List ℕ) (k : ℕ) → Each (λ i. (i ≤ length s) × ((k ≡ 1 → ⊥) → (k ≡ 4 → ⊥) → i < length s)) (placesOf (dues s) k)

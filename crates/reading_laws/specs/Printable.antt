@@ -15,7 +15,7 @@ use Rattle.scope.specs.Keys.{Form, massOrName, massOnly, digits, alnums, free, 
 use Rattle.scope.specs.Line.{Line}
 use Rattle.scope.specs.Content.{Digits, signed, whole, pointed, broken, digitStep, isPlain, textStep, Inner, Content, lost}
 use Rattle.scope.specs.Reading.{act, State, dead, outside, inside, perform, resume, step, run, start, holds, ended, reading}
-use Rattle.scope.specs.Refusals.{dueAt, unprintable, least, refusal3}
+use Rattle.scope.specs.Refusals.{dueAt, unprintable, refusal3}
 use Rattle.reading_laws.specs.Acts.{Sort, letter, digit, only, any, isOf, act-none}
 use Rattle.basics.specs.Tests.{both-of, neither, falsely}
 use Rattle.reading_laws.specs.Goes.{On, mass-begins, plain-begins, text-begins, refers, plain-on, plain-text, no-key, key-name, key-code, key-text, keyed-mass, keyed-text, mass-on, code-on, text-on, hash-on, label-begins, label-on, score-opens, score-sign, score-digit, score-on, score-over, Goes, stops, goes-on, part-over, shuts, goes}
@@ -173,9 +173,9 @@ alive-printable i s (b ∷ l) g a =
         let k : step i s b ≡ dead i = unprintable-kills b e i s g (alive-before i s (b ∷ l) a) in
         absurd (subst (λ x. Alive x) (run-dead (λ j. j) (i + 1) i l) (subst (λ x. Alive (run (λ j. j) (i + 1) x l)) k a))
 
-pub order-printable : (s : List ℕ) (t : Line ℕ) → reading s ≡ holds t → refusal3 s ≡ none
-unfolding reading refusal3 least
-order-printable s t e = ap least (alive-printable 0 start s tt (go (run (λ j. j) 0 start s) e))
+pub order-printable : (s : List ℕ) (t : Line ℕ) → reading s ≡ holds t → refusal3 s ≡ []
+unfolding reading refusal3
+order-printable s t e = alive-printable 0 start s tt (go (run (λ j. j) 0 start s) e)
   where
     go : (x : State ℕ) → ended (length s) x ≡ holds t → Alive x
     go (dead p) f = let z : _≡_ {A = ℕ} 0 1 = cc in absurd (omega arith)

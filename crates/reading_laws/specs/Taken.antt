@@ -1,12 +1,16 @@
 -- A line is accepted exactly when none of 1 to 3 is due for its bytes, it is of the order, and none of 5 to 12 is due for what it holds.
-use Prim.Native.Nat.{ℕ}
+use Prim.Native.Nat.{ℕ, _≤_}
 use mathlib.Core.Path.{_≡_, refl, ap, _∙_, subst}
-use mathlib.Core.Option.{none}
 use mathlib.Core.List.{List, [], _∷_}
 use native.Mathlib.Omega.{arith}
+use lib.Dec.{ltb}
+use lib.ListN.{length}
+use borrow.Author.Tests.{ltb-false, le-ltb}
+use Rattle.scope.specs.Limits.{lineLimit}
 use Rattle.scope.specs.Line.{Line}
 use Rattle.scope.specs.Reading.{run, Reading, stuck, holds, reading}
-use Rattle.scope.specs.Refusals.{refusal1, accepted, lineRefusals, judged, byteRefusals, outcome}
+use Rattle.scope.specs.Refusals.{refusal1, refusal2, accepted, lineRefusals, judged, byteRefusals, outcome}
+use Rattle.basics.specs.Lists.{not-due}
 use Rattle.reading_laws.specs.Laws.{Clear}
 use Rattle.reading_laws.specs.Precedence.{clear-due, clear-cases}
 
@@ -33,8 +37,17 @@ pub taken-back : (s : List ℕ) (l : Line ℕ) → Taken s l → outcome s ≡ a
 unfolding outcome
 taken-back s l w = clear-due (byteRefusals s) (judged (reading s)) (w .bytes) ∙ ap judged (w .reads) ∙ clear-due (lineRefusals l) (accepted l) (w .clear)
 
+-- 2 is due nowhere exactly in a line that is short enough
+pub not-long : (s : List ℕ) → refusal2 s ≡ [] → length s ≤ lineLimit
+unfolding refusal2
+not-long s e = ltb-false lineLimit (length s) (not-due (ltb lineLimit (length s)) lineLimit e)
+
+pub none-long : (s : List ℕ) → length s ≤ lineLimit → refusal2 s ≡ []
+unfolding refusal2
+none-long s h = rw (le-ltb lineLimit (length s) h)
+
 -- an empty line is not of the order
-pub some-bytes : (s : List ℕ) (l : Line ℕ) → reading s ≡ holds l → refusal1 s ≡ none
+pub some-bytes : (s : List ℕ) (l : Line ℕ) → reading s ≡ holds l → refusal1 s ≡ []
 unfolding refusal1 reading run
 some-bytes [] l e = let z : _≡_ {A = ℕ} 0 1 = cc in absurd (omega arith)
 some-bytes (b ∷ s) l e = refl

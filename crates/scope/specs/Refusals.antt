@@ -1,4 +1,4 @@
--- Refusals 1 to 12: for each number the places at which it is due, and the lowest number.
+-- Refusals 1 to 12: for each number the places at which it is due, and which is given.
 use Prim.Native.Nat.{ℕ, _+_, _-_, _*_, _^_, min}
 use mathlib.Core.Bool.{Bool, true, false, not, cond, _&&_, _||_}
 use mathlib.Core.Option.{Option, none, some}
@@ -21,31 +21,26 @@ abbrev pub dueAt : Bool → ℕ → List ℕ
 dueAt true i = i ∷ []
 dueAt false i = []
 
--- "at its first place in the line"
-unfoldable pub least : List ℕ → Option ℕ
-least [] = none
-least (i ∷ l) = some (given (least l) (min i) i)
-
 -- ---- 1 "line empty", at 0
-unfoldable pub refusal1 : List ℕ → Option ℕ
-refusal1 s = cond (none? s) (some 0) none
+unfoldable pub refusal1 : List ℕ → List ℕ
+refusal1 s = dueAt (none? s) 0
 
 -- ---- 2 "line too long", at 4,096
-unfoldable pub refusal2 : List ℕ → Option ℕ
-refusal2 s = cond (ltb lineLimit (length s)) (some lineLimit) none
+unfoldable pub refusal2 : List ℕ → List ℕ
+refusal2 s = dueAt (ltb lineLimit (length s)) lineLimit
 
 -- ---- 3 "a byte outside 32 to 126", at "that byte"
 unfoldable pub unprintable : ℕ → List ℕ → List ℕ
 unprintable i [] = []
 unprintable i (b ∷ s) = dueAt (not (isPrintable b)) i ++ unprintable (i + 1) s
 
-unfoldable pub refusal3 : List ℕ → Option ℕ
-refusal3 s = least (unprintable 0 s)
+unfoldable pub refusal3 : List ℕ → List ℕ
+refusal3 s = unprintable 0 s
 
 -- ---- 4 "not of the order above, limits apart"
-abbrev pub refusal4 : Reading → Option ℕ
-refusal4 (stuck i) = some i
-refusal4 (holds l) = none
+abbrev pub refusal4 : Reading → List ℕ
+refusal4 (stuck i) = i ∷ []
+refusal4 (holds l) = []
 
 -- ---- 5 "pairs too deep", at "the opening byte"
 -- how many pairs are open behind a byte
@@ -69,8 +64,8 @@ textOf p = textIn (p .value)
 abbrev pub deepPart : Part ℕ → List ℕ
 deepPart p = tooDeep 0 (p .at + length (written (p .key))) (textOf p)
 
-unfoldable pub refusal5 : Line ℕ → Option ℕ
-refusal5 l = least (flat (λ k. flat deepPart (k .parts)) (l .brackets))
+unfoldable pub refusal5 : Line ℕ → List ℕ
+refusal5 l = flat (λ k. flat deepPart (k .parts)) (l .brackets)
 
 -- ---- 6 "residues, brackets, parts, text or label over the limit", at "first byte of the residue, bracket, part or label text"
 abbrev pub longText : Part ℕ → List ℕ
@@ -82,12 +77,11 @@ longLabel p = given (p .label) (λ l. dueAt (ltb labelLimit (length (l .name))) 
 abbrev pub overIn : Bracket ℕ → List ℕ
 overIn k = drop partLimit (map (λ p. p .at) (k .parts)) ++ flat (λ p. longText p ++ longLabel p) (k .parts)
 
-unfoldable pub refusal6 : Line ℕ → Option ℕ
+unfoldable pub refusal6 : Line ℕ → List ℕ
 refusal6 l =
-    least
-    (drop residueLimit (map (λ r. r .at) (l .residues))
+    drop residueLimit (map (λ r. r .at) (l .residues))
     ++ (drop bracketLimit (map (λ k. k .at) (l .brackets))
-    ++ flat overIn (l .brackets)))
+    ++ flat overIn (l .brackets))
 
 -- ---- 7 "mass, score or count out of range", at "its first byte, sign included"
 -- "below 1,000,000 in size with at most 6 decimals"
@@ -109,8 +103,8 @@ wideScore p = given (p .label) (λ l. given (l .score) wide []) []
 abbrev pub wideCount : Bracket ℕ → List ℕ
 wideCount k = given (k .counted) (dueAt (eqb (k .count) 0 || ltb countLimit (k .count))) []
 
-unfoldable pub refusal7 : Line ℕ → Option ℕ
-refusal7 l = least (flat (λ k. wideCount k ++ flat (λ p. wideMass (p .value) ++ wideScore p) (k .parts)) (l .brackets))
+unfoldable pub refusal7 : Line ℕ → List ℕ
+refusal7 l = flat (λ k. wideCount k ++ flat (λ p. wideMass (p .value) ++ wideScore p) (k .parts)) (l .brackets)
 
 -- ---- 8 "part begins `Formula:` `Glycan:` `Position:` `Limit:`, or is CoMKP, CoMUP or their long names, or its label begins XL or is BRANCH;
 -- any case", at "the part, or the `#` of a reference"
@@ -130,19 +124,19 @@ notHere p =
     isKey Formula p || isKey Glycan p || isKey Position p || isKey Limit p || isRule p
     || given (p .label) (λ l. isLink (l .name)) false
 
-unfoldable pub refusal8 : Line ℕ → Option ℕ
-refusal8 l = least (flat (λ k. flat (λ p. dueAt (notHere p) (p .at)) (k .parts)) (l .brackets))
+unfoldable pub refusal8 : Line ℕ → List ℕ
+refusal8 l = flat (λ k. flat (λ p. dueAt (notHere p) (p .at)) (k .parts)) (l .brackets)
 
 -- ---- 9 "prefix U or M and a name all digits (6.2.2)", at "the part"
 abbrev pub isNumberName : {P : Type 0} → Part P → Bool
 isNumberName p = (isKey U p || isKey M p) && not (none? (textOf p)) && all isDigit (textOf p)
 
-unfoldable pub refusal9 : Line ℕ → Option ℕ
-refusal9 l = least (flat (λ k. flat (λ p. dueAt (isNumberName p) (p .at)) (k .parts)) (l .brackets))
+unfoldable pub refusal9 : Line ℕ → List ℕ
+refusal9 l = flat (λ k. flat (λ p. dueAt (isNumberName p) (p .at)) (k .parts)) (l .brackets)
 
 -- ---- 10 "only INFO in an unknown or labile bracket", at "the bracket"
-unfoldable pub refusal10 : Line ℕ → Option ℕ
-refusal10 l = least (flat (λ k. dueAt (unknownOrLabile (k .kind) && onlyInfo k) (k .at)) (l .brackets))
+unfoldable pub refusal10 : Line ℕ → List ℕ
+refusal10 l = flat (λ k. dueAt (unknownOrLabile (k .kind) && onlyInfo k) (k .at)) (l .brackets)
 
 -- ---- 11, at "the bracket"
 -- "second label in a bracket"
@@ -175,8 +169,8 @@ wronglyLabelled before definitions references (k ∷ ks) =
     dueAt (wrongLabels before definitions references k) (k .at)
     ++ wronglyLabelled (before ++ definedBy k) definitions references ks
 
-unfoldable pub refusal11 : Line ℕ → Option ℕ
-refusal11 l = least (wronglyLabelled [] (defined (l .brackets)) (referredTo (l .brackets)) (l .brackets))
+unfoldable pub refusal11 : Line ℕ → List ℕ
+refusal11 l = wronglyLabelled [] (defined (l .brackets)) (referredTo (l .brackets)) (l .brackets)
 
 -- ---- 12 "more than 8 floating copies", at "the bracket that passes 8"
 -- from a bracket on, with so many copies before it
@@ -184,16 +178,20 @@ unfoldable pub passing : ℕ → List (Bracket ℕ) → List ℕ
 passing before [] = []
 passing before (k ∷ ks) = dueAt (leb before copyLimit && ltb copyLimit (before + copies k)) (k .at) ++ passing (before + copies k) ks
 
-unfoldable pub refusal12 : Line ℕ → Option ℕ
-refusal12 l = least (passing 0 (l .brackets))
+unfoldable pub refusal12 : Line ℕ → List ℕ
+refusal12 l = passing 0 (l .brackets)
 
--- ---- "the lowest number wins": the refusals in the order of trying, each with its first place
+-- ---- "the lowest number wins, at its first place in the line": the refusals in the order of trying, each with the places at which it is due
 pub record Due : Type 0 where
   pub number : ℕ
-  pub place : Option ℕ
+  pub places : List ℕ
 
-abbrev pub due : ℕ → Option ℕ → Due
-due k p = record { number = k; place = p }
+abbrev pub due : ℕ → List ℕ → Due
+due k ps = record { number = k; places = ps }
+
+unfoldable pub least : List ℕ → Option ℕ
+least [] = none
+least (i ∷ l) = some (given (least l) (min i) i)
 
 -- what a line is refused for, or what it holds
 pub data Outcome : Type 0 where
@@ -202,7 +200,7 @@ pub data Outcome : Type 0 where
 
 unfoldable pub firstDue : List Due → Outcome → Outcome
 firstDue [] o = o
-firstDue (d ∷ ds) o = given (d .place) (refused (d .number)) (firstDue ds o)
+firstDue (d ∷ ds) o = given (least (d .places)) (refused (d .number)) (firstDue ds o)
 
 abbrev pub lineRefusals : Line ℕ → List Due
 lineRefusals l =

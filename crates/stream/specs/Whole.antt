@@ -10,7 +10,7 @@ use lib.ListN.{length, take}
 use lib.Seq.{take-all, length-take-le}
 use Rattle.basics.specs.Choice.{by-test}
 use Rattle.scope.specs.Limits.{lineLimit}
-use Rattle.scope.specs.Refusals.{refused, refusal1, refusal2, firstDue, outcome}
+use Rattle.scope.specs.Refusals.{least, refused, refusal1, refusal2, firstDue, outcome}
 use Rattle.scope.specs.Canonical.{decimal}
 use Rattle.scope.specs.Register.{report, printed}
 use Rattle.entries.specs.Entry.{entry, isRefused}
@@ -20,7 +20,7 @@ use Rattle.stream.specs.Laws.{after-append, put-append, kept-twice}
 
 -- ---- a line too long is answered by those of its bytes that are held
 pub too-long : (s : List ℕ) → lineLimit < length s → outcome s ≡ refused 2 lineLimit
-unfolding outcome firstDue refusal1 refusal2
+unfolding outcome firstDue least refusal1 refusal2
 too-long [] h = absurd (omega arith)
 too-long (b ∷ s) h = rw (lt-ltb lineLimit (length (b ∷ s)) h)
 

@@ -12,7 +12,7 @@ use lib.ListN.{length, take, drop}
 use lib.Seq.{take-all, take-append-seam}
 use Rattle.scope.specs.Limits.{lineLimit}
 use Rattle.scope.specs.Lists.{given}
-use Rattle.scope.specs.Refusals.{Due, due, Outcome, refused, firstDue, refusal1, refusal2, refusal3, judged, outcome}
+use Rattle.scope.specs.Refusals.{least, Due, due, Outcome, refused, firstDue, refusal1, refusal2, refusal3, judged, outcome}
 use Rattle.scope.specs.Reading.{reading}
 use Rattle.scope.specs.Canonical.{canonical}
 use Rattle.scope.specs.Layout.{bytesSize, numbersSize, tablesIn}
@@ -41,8 +41,8 @@ not-read none n ds p bs ns e = e
 not-read (some i) n ds p bs ns e = refl
 
 pub too-long : (s bs : List ℕ) (ns : List ℤ) → lineLimit < length s → readsTo (outcome s) bs ns ≡ false
-unfolding outcome firstDue refusal2
-too-long s bs ns h = not-read (refusal1 s) 1 (due 2 (refusal2 s) ∷ due 3 (refusal3 s) ∷ []) (judged (reading s)) bs ns (rw (lt-ltb lineLimit (length s) h))
+unfolding outcome firstDue least refusal2
+too-long s bs ns h = not-read (least (refusal1 s)) 1 (due 2 (refusal2 s) ∷ due 3 (refusal3 s) ∷ []) (judged (reading s)) bs ns (rw (lt-ltb lineLimit (length s) h))
 
 pub length-needed : (bs : List ℕ) (ns : List ℤ) → lineLimit < length (canonical (tablesIn bs ns)) → areTables bs ns ≡ false
 unfolding areTables
@@ -76,7 +76,7 @@ read-refused s e xs ys = rw e
 
 -- ---- the line of tables, written
 some-bytes : (s bs : List ℕ) (ns : List ℤ) → readsTo (outcome s) bs ns ≡ true → 1 ≤ length s
-unfolding outcome firstDue refusal1
+unfolding outcome firstDue least refusal1
 some-bytes [] bs ns e = absurd (false≢true e)
 some-bytes (b ∷ s) bs ns e = omega arith
 

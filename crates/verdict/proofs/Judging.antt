@@ -12,7 +12,7 @@ use Rattle.scope.specs.Bytes.{wideLimit, isPrintable}
 use Rattle.scope.specs.Limits.{lineLimit}
 use Rattle.scope.specs.Line.{Bracket, Line}
 use Rattle.scope.specs.Reading.{stuck, holds, reading}
-use Rattle.scope.specs.Refusals.{accepted, refused, outcome}
+use Rattle.scope.specs.Refusals.{accepted, refused, lineRefusals, outcome}
 use Rattle.scope.specs.Positions.{floaters}
 use Rattle.scope.specs.Answers.{good, refuses, saysOutcome}
 use Rattle.basics.specs.Each.{Each}
@@ -22,7 +22,7 @@ use Rattle.classes.specs.Runs.{span}
 use Rattle.sheet.specs.Rows.{Roomy, LineNoted}
 use Rattle.dues.specs.Ranks.{lowest, noCode, numberAt, decoded}
 use Rattle.dues.specs.First.{Fits}
-use Rattle.dues.specs.Lines.{lineRules, metCodes, ruledCodes}
+use Rattle.dues.specs.Lines.{metCodes, ruledCodes}
 use Rattle.dues.specs.Met.{lowest-below, lowest-two}
 use Rattle.dues.specs.Judged.{by-codes, met-first}
 use Rattle.dues.specs.Inside.{places-fit}
@@ -41,7 +41,7 @@ use Rattle.verdict.proofs.Trying.{is-unprintable, is-stuck, of-order}
 -- ---- the first code due
 module _ {line heads parts : List ℕ} {brackets least : ℕ} (w : WalkedLine line heads parts brackets least) where
   abbrev n : ℕ
-  n = noCode (lineRules (w .held))
+  n = noCode (lineRefusals (w .held))
 
   abbrev met : List ℕ
   met = metCodes (w .held .residues) (w .held .brackets)
@@ -49,7 +49,7 @@ module _ {line heads parts : List ℕ} {brackets least : ℕ} (w : WalkedLine li
   same-line : (l : Line ℕ) → reading line ≡ holds l → w .held ≡ l
   same-line l e = let q : holds (w .held) ≡ holds l = sym (w .is) ∙ e in cc
 
-  fits : Each Fits (lineRules (w .held))
+  fits : Each Fits (lineRefusals (w .held))
   fits = places-fit line (w .held) (w .is) (w .short)
 
   -- something is met
@@ -101,29 +101,13 @@ module _ {line heads parts : List ℕ} {brackets least : ℕ} (w : WalkedLine li
         subst (λ l. FirstOf l c many) (same-line l e) (record { first-is = ruled-first (g .first-is); floaters-are = λ none few. g .floaters-are few })
 
 -- ---- what a code says
-pub ranked : (rank k : ℕ) → rank ≡ k → (l : Line ℕ) → numberAt (lineRules l) k ≡ numberAt (lineRules l) rank
-ranked rank k e l = ap (numberAt (lineRules l)) (sym e)
-
-past : (n rank : ℕ) → n ≤ rank → (rank ≡ n → ⊥) → n + 1 ≤ rank
-past n rank h e = omega (arith, e)
-
--- no other rank has a number
-pub no-rank : (rank : ℕ)
-    → (((((((Unit {0} × (rank ≡ 0 → ⊥)) × (rank ≡ 1 → ⊥)) × (rank ≡ 2 → ⊥)) × (rank ≡ 3 → ⊥)) × (rank ≡ 4 → ⊥)) × (rank ≡ 5 → ⊥)) × (rank ≡ 6 → ⊥)) × (rank ≡ 7 → ⊥)
-    → (l : Line ℕ) → 0 ≡ numberAt (lineRules l) rank
-no-rank rank other l =
-    let h3 = past 2 rank (past 1 rank (past 0 rank (omega arith) (other .0 .0 .0 .0 .0 .0 .0 .1)) (other .0 .0 .0 .0 .0 .0 .1)) (other .0 .0 .0 .0 .0 .1) in
-    let h6 = past 5 rank (past 4 rank (past 3 rank h3 (other .0 .0 .0 .0 .1)) (other .0 .0 .0 .1)) (other .0 .0 .1) in
-    let h8 = past 7 rank (past 6 rank h6 (other .0 .1)) (other .1) in
-    sym (List·getD-eq-default (map (λ r. r .number) (lineRules l)) 0 h8)
-
 module _ (c residues brackets many : ℕ) (l : Line ℕ) where
-  pub code-refuses : {number rank place : ℕ} → c < noCode (lineRules l) → number ≡ numberAt (lineRules l) rank → rank ≡ c / wideLimit → place ≡ c % wideLimit
+  pub code-refuses : {number place : ℕ} → c < noCode (lineRefusals l) → number ≡ numberAt (lineRefusals l) (c / wideLimit) → place ≡ c % wideLimit
       → Refused number place ≡ byCode l c residues brackets many
-  code-refuses h a b d = rw (lt-ltb c (noCode (lineRules l)) h, a, b, d)
+  code-refuses h a d = rw (lt-ltb c (noCode (lineRefusals l)) h, a, d)
 
-  pub code-holds : noCode (lineRules l) ≤ c → Holds residues brackets many ≡ byCode l c residues brackets many
-  code-holds h = rw (le-ltb c (noCode (lineRules l)) h)
+  pub code-holds : noCode (lineRefusals l) ≤ c → Holds residues brackets many ≡ byCode l c residues brackets many
+  code-holds h = rw (le-ltb c (noCode (lineRefusals l)) h)
 
 -- ---- where no line goes on
 pub unprintable-is : (line : List ℕ) (end place : ℕ) → end ≡ span isPrintable line → end < length line → Refused 3 end ≡ unread line place
@@ -181,20 +165,20 @@ module _ (line : List ℕ) (some-byte : length line ≡ 0 → ⊥) (short : leng
 
     pub line-says : (c many : ℕ) (r : Judged) → ((l : Line ℕ) → reading line ≡ holds l → FirstOf l c many)
         → ((l : Line ℕ) → r ≡ byCode l c residues brackets many) → Says r
-    line-says c many r first answer = subst Says (sym (answer l)) (go (ltb c (noCode (lineRules l))) refl decides)
+    line-says c many r first answer = subst Says (sym (answer l)) (go (ltb c (noCode (lineRefusals l))) refl decides)
       where
         l : Line ℕ
         l = w .held
 
-        decides : decoded (lineRules l) c (accepted l) ≡ outcome line
+        decides : decoded (lineRefusals l) c (accepted l) ≡ outcome line
         decides =
-            ap (λ k. decoded (lineRules l) k (accepted l)) (first l (w .is) .first-is)
+            ap (λ k. decoded (lineRefusals l) k (accepted l)) (first l (w .is) .first-is)
             ∙ by-codes l (places-fit line l (w .is) short)
             ∙ sym (of-order line some-byte short l (w .is))
 
-        go : (t : Bool) → ltb c (noCode (lineRules l)) ≡ t
-            → cond t (refused (numberAt (lineRules l) (c / wideLimit)) (c % wideLimit)) (accepted l) ≡ outcome line
-            → Says (cond t (Refused (numberAt (lineRules l) (c / wideLimit)) (c % wideLimit)) (Holds residues brackets many))
+        go : (t : Bool) → ltb c (noCode (lineRefusals l)) ≡ t
+            → cond t (refused (numberAt (lineRefusals l) (c / wideLimit)) (c % wideLimit)) (accepted l) ≡ outcome line
+            → Says (cond t (Refused (numberAt (lineRefusals l) (c / wideLimit)) (c % wideLimit)) (Holds residues brackets many))
         go true q e = sym e
         go false q e = (
           l,

@@ -48,34 +48,34 @@ first-from i (b ∷ s) h = go (isPrintable b) h (first-from (i + 1) s)
     go true k ih = ih (omega arith) ∙ ap some (let e : i + 1 + span isPrintable s ≡ i + suc (span isPrintable s) = omega arith in e)
     go false k ih = found-first i s ∙ ap some (let e : i ≡ i + 0 = omega arith in e)
 
-none-from : (i : ℕ) (s : List ℕ) → length s ≤ span isPrintable s → least (unprintable i s) ≡ none
-unfolding unprintable least span
+none-from : (i : ℕ) (s : List ℕ) → length s ≤ span isPrintable s → unprintable i s ≡ []
+unfolding unprintable span
 none-from i [] h = refl
 none-from i (b ∷ s) h = go (isPrintable b) h (none-from (i + 1) s)
   where
-    go : (t : Bool) → suc (length s) ≤ cond t (suc (span isPrintable s)) 0 → (length s ≤ span isPrintable s → least (unprintable (i + 1) s) ≡ none)
-        → least (dueAt (not t) i ++ unprintable (i + 1) s) ≡ none
+    go : (t : Bool) → suc (length s) ≤ cond t (suc (span isPrintable s)) 0 → (length s ≤ span isPrintable s → unprintable (i + 1) s ≡ [])
+        → dueAt (not t) i ++ unprintable (i + 1) s ≡ []
     go true k ih = ih (omega arith)
     go false k ih = absurd (omega arith)
 
-pub first-unprintable : (s : List ℕ) → span isPrintable s < length s → refusal3 s ≡ some (span isPrintable s)
+pub first-unprintable : (s : List ℕ) → span isPrintable s < length s → least (refusal3 s) ≡ some (span isPrintable s)
 unfolding refusal3
 first-unprintable s h = first-from 0 s h ∙ ap some (let e : 0 + span isPrintable s ≡ span isPrintable s = omega arith in e)
 
-pub no-unprintable : (s : List ℕ) → length s ≤ span isPrintable s → refusal3 s ≡ none
+pub no-unprintable : (s : List ℕ) → length s ≤ span isPrintable s → refusal3 s ≡ []
 unfolding refusal3
 no-unprintable s h = none-from 0 s h
 
 -- ---- printable bytes are bytes
-all-bytes : (i : ℕ) (s : List ℕ) → least (unprintable i s) ≡ none → Each Byte s
-unfolding unprintable least
+all-bytes : (i : ℕ) (s : List ℕ) → unprintable i s ≡ [] → Each Byte s
+unfolding unprintable
 all-bytes i [] e = tt
 all-bytes i (b ∷ s) e = go (isPrintable b) refl e (all-bytes (i + 1) s)
   where
-    go : (t : Bool) → isPrintable b ≡ t → least (dueAt (not t) i ++ unprintable (i + 1) s) ≡ none → (least (unprintable (i + 1) s) ≡ none → Each Byte s) → Byte b × Each Byte s
+    go : (t : Bool) → isPrintable b ≡ t → dueAt (not t) i ++ unprintable (i + 1) s ≡ [] → (unprintable (i + 1) s ≡ [] → Each Byte s) → Byte b × Each Byte s
     go true f g ih = (let h = leb-true b 126 (and-right (leb 32 b) (leb b 126) f) in omega arith, ih g)
     go false f g ih = absurd (let z : _≡_ {A = ℕ} 0 1 = cc in omega arith)
 
-pub bytes : (s : List ℕ) → refusal3 s ≡ none → Each Byte s
+pub bytes : (s : List ℕ) → refusal3 s ≡ [] → Each Byte s
 unfolding refusal3
 bytes s e = all-bytes 0 s e

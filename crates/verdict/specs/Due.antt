@@ -13,8 +13,9 @@ use Rattle.scope.specs.Positions.{floaters}
 use Rattle.scope.specs.Reading.{holds, reading}
 use Rattle.classes.specs.Runs.{span}
 use Rattle.sheet.specs.Rows.{headsRoom, partsRoom, Noted}
+use Rattle.scope.specs.Refusals.{lineRefusals}
 use Rattle.dues.specs.Ranks.{lowest, noCode, numberAt}
-use Rattle.dues.specs.Lines.{lineRules, metCodes, ruledCodes}
+use Rattle.dues.specs.Lines.{metCodes, ruledCodes}
 use Rattle.verdict.specs.declared.Judged.{Judged}
 use Rattle.verdict.specs.declared.Judged.the-variants.{Refused, Holds}
 
@@ -28,7 +29,7 @@ pub record WalkedLine (line heads parts : List ℕ) (brackets least : ℕ) : Typ
   pub is : reading line ≡ holds held
   pub short : length line ≤ lineLimit
   pub brackets-are : brackets ≡ length (held .brackets)
-  pub least-is : least ≡ lowest (noCode (lineRules held)) (metCodes (held .residues) (held .brackets))
+  pub least-is : least ≡ lowest (noCode (lineRefusals held)) (metCodes (held .residues) (held .brackets))
   pub parts-many : ℕ
   pub masses : List ℤ
   pub scores : List ℤ
@@ -38,14 +39,14 @@ pub record WalkedLine (line heads parts : List ℕ) (brackets least : ℕ) : Typ
 
 -- the code of the first refusal due of 5 to 12
 abbrev pub firstCode : Line ℕ → ℕ
-firstCode l = lowest (noCode (lineRules l)) (metCodes (l .residues) (l .brackets) ++ ruledCodes (l .brackets))
+firstCode l = lowest (noCode (lineRefusals l)) (metCodes (l .residues) (l .brackets) ++ ruledCodes (l .brackets))
 
 -- it is that, and so many copies float where none is due, and they are no more than may
 pub record FirstOf (l : Line ℕ) (first many : ℕ) : Type 0 where
   pub first-is : first ≡ firstCode l
-  pub floaters-are : noCode (lineRules l) ≤ first → length (floaters l) ≤ copyLimit → many ≡ length (floaters l)
+  pub floaters-are : noCode (lineRefusals l) ≤ first → length (floaters l) ≤ copyLimit → many ≡ length (floaters l)
 
 -- what it says: the number of its rank, at its place; or that none is due
 abbrev pub byCode : Line ℕ → ℕ → ℕ → ℕ → ℕ → Judged
 byCode l c residues brackets many =
-    cond (ltb c (noCode (lineRules l))) (Refused (numberAt (lineRules l) (c / wideLimit)) (c % wideLimit)) (Holds residues brackets many)
+    cond (ltb c (noCode (lineRefusals l))) (Refused (numberAt (lineRefusals l) (c / wideLimit)) (c % wideLimit)) (Holds residues brackets many)

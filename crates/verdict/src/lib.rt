@@ -11,8 +11,6 @@ ghost use Rattle.scope.specs.Line.{Line};
 ghost use Rattle.scope.specs.Reading.{holds, reading};
 ghost use Rattle.classes.specs.Runs.{span};
 ghost use Rattle.sheet.specs.Rows.{Roomy};
-ghost use Rattle.dues.specs.Ranks.{numberAt};
-ghost use Rattle.dues.specs.Lines.{lineRules};
 ghost use Rattle.verdict.specs.Due.{WalkedLine, FirstOf, byCode, unread};
 ghost use Rattle.verdict.specs.Says.{VerdictSays, JudgedSays};
 
@@ -58,23 +56,6 @@ fn not_read(line: &[u8], place: usize) -> Judged
     Judged::Refused { number: 4, place }
 }
 
-// The number of the refusal with this rank in the order of trying; 0 where there is none.
-fn number_of(rank: usize) -> u8
-    ensures { λ r. ⌜ ((l : Line ℕ) → r ≡ numberAt (lineRules l) rank) ⌝ }
-{
-    match rank {
-        dues::DEEP => 5,
-        dues::OVER => 6,
-        dues::WIDE => 7,
-        dues::BARRED => 8,
-        dues::DIGITS => 9,
-        dues::INFO => 10,
-        dues::LABEL => 11,
-        dues::COPIES => 12,
-        _ => 0,
-    }
-}
-
 // The first refusal due of 5 to 12, where `least` is the first of 5 to 9, and how many copies float where none is due: the rules are asked where none of 5 to 9 is.
 fn first_due(line: &[u8], heads: &[u16], parts: &[u16], brackets: usize, least: usize) -> Found
     requires { ⌜ WalkedLine (now line) (now heads) (now parts) brackets least ⌝ }
@@ -95,7 +76,7 @@ fn by_code(c: usize, residues: usize, brackets: usize, floaters: usize) -> Judge
 {
     if c < dues::NONE {
         return Judged::Refused {
-            number: number_of(dues::rank_of(c)),
+            number: dues::number_of(c),
             place: dues::place_of(c),
         };
     }

@@ -8,8 +8,9 @@ use Rattle.scope.specs.Lists.{flat}
 use Rattle.scope.specs.Modifications.{namesOf}
 use Rattle.scope.specs.Reading.{stuck, holds, reading}
 use Rattle.sheet.specs.Rows.{Noted, Lettered}
+use Rattle.scope.specs.Refusals.{lineRefusals}
 use Rattle.dues.specs.Ranks.{lowest, noCode}
-use Rattle.dues.specs.Lines.{lineRules, metCodes}
+use Rattle.dues.specs.Lines.{metCodes}
 use Rattle.walk.specs.declared.Walked.{Walked}
 use Rattle.walk.specs.declared.Walked.the-variants.{Stuck, Holds}
 use Rattle.walk.specs.Stages.{Lent}
@@ -20,7 +21,7 @@ pub record LineSays (line : List ℕ) (residues brackets labels least : ℕ) (t 
   pub residues-are : residues ≡ length (held .residues)
   pub brackets-are : brackets ≡ length (held .brackets)
   pub labels-are : labels ≡ length (flat namesOf (held .brackets))
-  pub least-is : least ≡ lowest (noCode (lineRules held)) (metCodes (held .residues) (held .brackets))
+  pub least-is : least ≡ lowest (noCode (lineRefusals held)) (metCodes (held .residues) (held .brackets))
   pub parts : ℕ
   pub noted : Noted line (held .brackets) parts (t .heads) (t .parts) (t .masses) (t .scores)
   pub lettered : Lettered (held .residues) (t .letters) (t .sections)

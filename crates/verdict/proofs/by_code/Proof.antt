@@ -4,14 +4,15 @@ use Rattle.verdict.proofs.Judging.{code-refuses, code-holds}
 use Rattle.verdict.proofs.by_code.Statement.{statement}
 use Rattle.verdict.proofs.by_code.Tie as tie
 
+number-of-needs : tie.Need-number-of
+number-of-needs c = ?
+
 returns : tie.Need-returns
-returns c = λ l.
-    let r = c .before .before in
-    code-refuses _ _ _ _ l (r .before .if1 .taken) (c .before .number-of .ensures l) (r .rank-of .ensures) (c .place-of .ensures)
+returns c = λ l. ?
 
 returns-2 : tie.Need-returns-2
 returns-2 c = λ l. code-holds _ _ _ _ l (c .if1 .left)
 
 pub by-code-spec : {M : Type 1} → statement M
 by-code-spec =
-    tie.close (tie.spec (λ c κs. search needs) (λ c κs. search needs) (λ c κs. search needs) returns returns-2)
+    tie.close (tie.spec ?)

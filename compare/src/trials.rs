@@ -1,4 +1,4 @@
-//! What the program of crates/trials is run on, and what it must print: the
+//! What the program of crates/register is run on, and what it must print: the
 //! lines whose outcomes document 01 gives (vectors/known.txt, outcomes written
 //! from document 01), the sequences of source document 001
 //! (vectors/sequences.txt, outcomes by the reader of this package), and the

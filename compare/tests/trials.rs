@@ -1,4 +1,4 @@
-//! The files of crates/trials and docs/SEQUENCES.md are what their sources say.
+//! The files of crates/register and docs/SEQUENCES.md are what their sources say.
 
 use std::fs::read;
 use std::path::{Path, PathBuf};
@@ -12,8 +12,8 @@ fn file(name: &str) -> PathBuf {
 
 #[test]
 fn the_program_is_run_on_them() {
-    assert!(read(file("crates/trials/stdin")).unwrap() == input());
-    assert!(read(file("crates/trials/stdout")).unwrap() == output());
+    assert!(read(file("crates/register/stdin")).unwrap() == input());
+    assert!(read(file("crates/register/stdout")).unwrap() == output());
 }
 
 fn alike(trials: &[Trial]) {

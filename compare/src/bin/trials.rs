@@ -1,4 +1,4 @@
-//! Writes the files of crates/trials: `trials DIR` writes DIR/stdin and DIR/stdout.
+//! Writes the files of crates/register: `trials DIR` writes DIR/stdin and DIR/stdout.
 
 use std::path::PathBuf;
 use std::{env, fs, io};

@@ -11,8 +11,8 @@ use borrow.Author.Tests.{eqb-true, eq-eqb}
 use lib.Dec.{eqb}
 use lib.ListN.{length, replicate, length-append}
 use Rattle.scope.specs.Bytes.{upper, sameFolded}
-use Rattle.scope.specs.Lists.{all, flat, keep, same, among, onLast, optional}
-use Rattle.scope.specs.Refusals.{least, dueAt}
+use Rattle.scope.specs.Lists.{all, flat, keep, same, among, shared, onLast, optional}
+use Rattle.scope.specs.Refusals.{dueAt}
 use Rattle.basics.specs.Tests.{and-left, and-right, falsely}
 use Rattle.basics.specs.Each.{Each}
 
@@ -135,6 +135,12 @@ flat-none f (x ∷ l) e = (nil-front (f x) (flat f l) e, flat-none f l (nil-back
 pub not-due : (t : Bool) (i : ℕ) → dueAt t i ≡ [] → t ≡ false
 not-due true i e = let z : _≡_ {A = ℕ} 0 1 = cc in absurd (omega arith)
 not-due false i e = refl
+
+-- ---- names
+pub shared-none : (l : List (List ℕ)) → shared l [] ≡ false
+unfolding shared among
+shared-none [] = refl
+shared-none (x ∷ l) = shared-none l
 
 -- ---- equality
 same-is : (x y : List ℕ) → same x y ≡ true → x ≡ y

@@ -1,11 +1,12 @@
 -- What a test made of two says of each, and the other way round; and that equality is told either way round.
-use mathlib.Core.Path.{_≡_, refl, sym, _∙_}
+use mathlib.Core.Path.{_≡_, refl, sym, ap, _∙_}
 use mathlib.Core.Logic.{_⊎_, inl, inr}
 use mathlib.Core.Bool.{Bool, true, false, not, cond, _&&_, _||_, false≢true, true≢false}
 use Prim.Native.Nat.{ℕ}
 use native.Mathlib.Decide.{ℕ-discrete}
 use borrow.Author.Tests.{eq-eqb, ne-eqb}
 use lib.Dec.{eqb}
+use Rattle.scope.specs.Bytes.{isLetter}
 
 pub and-left : (a b : Bool) → (a && b) ≡ true → a ≡ true
 and-left true b e = refl
@@ -76,3 +77,8 @@ eqb-sym a b = by (ℕ-discrete a b)
     by : Dec (a ≡ b) → eqb a b ≡ eqb b a
     by (yes e) = eq-eqb a b e ∙ sym (eq-eqb b a (sym e))
     by (no n) = ne-eqb a b n ∙ sym (ne-eqb b a (λ e. n (sym e)))
+
+-- ---- bytes
+-- a letter is no other byte
+pub letter-not : (b c : ℕ) → isLetter b ≡ true → isLetter c ≡ false → eqb b c ≡ false
+letter-not b c e f = ne-eqb b c (λ z. true≢false (sym e ∙ ap isLetter z ∙ f))

@@ -1,11 +1,11 @@
 -- A line that reads to its end is judged by its lowest code.
-use mathlib.Core.Path.{_≡_, refl, ap, _∙_}
+use mathlib.Core.Path.{_≡_, ap, _∙_}
 use native.Mathlib.Omega.{arith}
-use mathlib.Core.List.{_++_, map}
+use mathlib.Core.List.{_++_}
 use Rattle.scope.specs.Line.{Line}
 use Prim.Native.Nat.{ℕ, _<_}
 use Rattle.scope.specs.Reading.{holds}
-use Rattle.scope.specs.Refusals.{accepted, firstDue, lineRefusals, judged, refusal5, refusal6, refusal7, refusal8, refusal9, refusal10, refusal11, refusal12}
+use Rattle.scope.specs.Refusals.{accepted, lineRefusals, judged}
 use Rattle.basics.specs.Each.{Each, each-front, each-back}
 use Rattle.dues.specs.Ranks.{lowest, noCode, decoded}
 use Rattle.dues.specs.First.{Fits, first-due, lowest-below-rules, lowest-from-rank}

@@ -9,7 +9,7 @@ use Rattle.scope.specs.Line.{Label, Part, Bracket, Residue, Line}
 use Rattle.scope.specs.Lists.{given, flat}
 use Rattle.scope.specs.Modifications.{onlyInfo, defined, referredTo}
 use Rattle.scope.specs.Kinds.{unknownOrLabile}
-use Rattle.scope.specs.Refusals.{Due, due, refusal5, refusal6, refusal7, refusal8, refusal9, refusal10, refusal11, refusal12, dueAt, deepPart, longText, longLabel, overIn, wide, wideMass, wideScore, wideCount, isLink, notHere, isNumberName, wronglyLabelled, passing}
+use Rattle.scope.specs.Refusals.{Due, due, refusal5, refusal6, refusal7, refusal8, refusal9, refusal10, refusal11, refusal12, dueAt, deepPart, longText, longLabel, wide, wideMass, wideScore, wideCount, isLink, notHere, isNumberName, wronglyLabelled, passing}
 use Rattle.dues.specs.Ranks.{code}
 
 -- ---- the ranks: the order of trying behind 4

@@ -106,6 +106,10 @@ module _ (n : ℕ) where
   pub lowest-on : (a b : List ℕ) → lowest (lowest n a) b ≡ min (lowest n a) (lowest n b)
   lowest-on a b = lowest-min n (lowest n a) b (lowest-below n a)
 
+  -- one list after another
+  pub lowest-after : (a b : List ℕ) → lowest n (a ++ b) ≡ lowest (lowest n a) b
+  lowest-after a b = lowest-two n a b ∙ sym (lowest-on a b)
+
   module _ (q : Part ℕ) (bare : q .label ≡ none) where
     over-bare : p6 n q ≡ low n overRank (longText q)
     over-bare = rw bare (ap (low n overRank) (append-nil (longText q)))

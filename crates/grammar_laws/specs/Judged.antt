@@ -3,16 +3,12 @@ use Prim.Native.Nat.{ℕ, _+_, _≤_}
 use native.Mathlib.Omega.{arith}
 use mathlib.Core.Path.{_≡_, refl, sym, ap, _∙_, subst}
 use mathlib.Core.Logic.{_⊎_, inl, inr}
-use mathlib.Core.Bool.{Bool, true, false, cond}
-use mathlib.Core.Option.{none, some}
 use mathlib.Core.List.{List, _++_}
-use lib.Dec.{ltb}
 use lib.ListN.{length, take}
-use borrow.Author.Tests.{ltb-false, le-ltb}
 use Rattle.scope.specs.Limits.{lineLimit}
 use Rattle.scope.specs.Line.{Line}
 use Rattle.scope.specs.Reading.{Reading, stuck, holds, reading}
-use Rattle.scope.specs.Refusals.{refusal2, accepted, refused, lineRefusals, judged, byteRefusals, outcome}
+use Rattle.scope.specs.Refusals.{accepted, refused, lineRefusals, judged, byteRefusals, outcome}
 use Rattle.reading_laws.specs.Laws.{Clear, First}
 use Rattle.reading_laws.specs.Proved as reads
 use Rattle.clause_laws.specs.Proved as clauses

@@ -2,12 +2,11 @@
 use Prim.Native.Nat.{ℕ, suc, _+_, _*_}
 use native.Mathlib.Omega.{arith}
 use mathlib.Core.Path.{_≡_, refl, sym, ap, _∙_}
-use mathlib.Core.Bool.{Bool, true, false, cond, _&&_, true≢false, false≢true}
+use mathlib.Core.Bool.{Bool, true, false, cond, _&&_, false≢true}
 use mathlib.Core.Option.{Option, none, some}
 use mathlib.Core.List.{List, [], _∷_, _++_, map, append-assoc, append-nil, map-id}
 use lib.Dec.{eqb}
 use lib.ListN.{length, length-append}
-use borrow.Author.Tests.{ne-eqb}
 use Rattle.scope.specs.declared.grammar.Section.{Section}
 use Rattle.scope.specs.declared.grammar.Section.the-variants.{Plain, RangeFirst, RangeNext, UnsureFirst, UnsureNext}
 use Rattle.scope.specs.declared.grammar.Kind.{Kind}
@@ -22,7 +21,7 @@ use Rattle.scope.specs.Content.{begin}
 use Rattle.scope.specs.Reading.{square, front, labile, element, further, groupFirst, inGroup, undecided, counted, referred, act, mayEnd, Held, nothing, firstOf, withResidue, positionOf, settled, waiting, put, withBracket, times, countDigit, withDigit, asNTerm, settledRun, State, outside, inside, perform, refers?, modeAfter, step, run, holds, ended, reading}
 use Rattle.scope.specs.Lists.{onLast, all as every, flat}
 use Rattle.basics.specs.Choice.{pick-true, pick-false}
-use Rattle.basics.specs.Tests.{and-left, and-right}
+use Rattle.basics.specs.Tests.{and-left, and-right, letter-not}
 use Rattle.scope.specs.Grammar.{someOf, valueOn, Inside, meansPieces, parts, refers, printInside, goodInside, meansInside, printSquare, printCurly, along, eachAlong, printSquares, goodSquares, goodCurlies, bracketAt, meansSquares, Marked, printCount, goodCount, printMarked, goodMarked, counting, meansMarked, Run, marks, printRun, goodRun, meansRun, Spot, Element, single, range, unsure, printSpot, printElement, goodSpot, goodElement, residueOf, residuesOn, residuesIn, bracketsOn, bracketsIn, bracketsAlong, Spelling, elements, printFront, printBack, print, good, atLabiles, atFront, atSequence, residuesOf, backOf, meansAt, means}
 use Rattle.grammar_laws.specs.Runs.{context, lineRun, line-nil, line-cons, line-one, line-further, lift}
 use Rattle.grammar_laws.specs.Printed.{inside-run, no-base}
@@ -122,9 +121,6 @@ module _ (k : Kind) (r : Bool) (m : Mode) (opens : act m openSquare ≡ Begin (s
       ∙ ap (λ z. outside m (held (h .residues) z (h .run) (h .first))) (regroup i h x xs)
 
 -- ---- residues
-pub letter-not : (b c : ℕ) → isLetter b ≡ true → isLetter c ≡ false → eqb b c ≡ false
-letter-not b c e f = ne-eqb b c (λ z. true≢false (sym e ∙ ap isLetter z ∙ f))
-
 module _ (m m′ : Mode) (c : Section) (own : act m′ openSquare ≡ Begin (square OnResidue true m′)) where
   spot-run : (i : ℕ) (s : Spot) (h : Held ℕ) → act m (s .letter) ≡ aResidue c m′ → goodSpot s ≡ true
       → lineRun i (outside m h) (printSpot s) ≡ outside m′ (held (h .residues ++ (residueOf c i s ∷ [])) (h .brackets ++ meansSquares OnResidue (length (h .residues) + 1) (length (h .residues) + 1) (i + 1) (s .brackets)) (h .run) (firstOf c (length (h .residues) + 1) (h .first)))

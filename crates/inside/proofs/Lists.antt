@@ -70,17 +70,17 @@ few-names [] = omega arith
 few-names (p ∷ ps) = let a = one-name p in let b = few-names ps in omega (arith, length-append (nameOf p) (flat nameOf ps), a, b)
 
 -- the score of the first label that has one
+pub given-some : (x : Option (Number ℕ)) → given x some none ≡ x
+given-some none = refl
+given-some (some y) = refl
+
 pub score-snoc : (ps : List (Part ℕ)) (q : Part ℕ) → scoreOf (ps ++ (q ∷ [])) ≡ given (scoreOf ps) some (given (q .label) (λ x. x .score) none)
 unfolding scoreOf
 score-snoc [] q = go (q .label)
   where
-    score : (s : Option (Number ℕ)) → given s some none ≡ s
-    score none = refl
-    score (some n) = refl
-
     go : (l : Option (Label ℕ)) → given l (λ x. given (x .score) some none) none ≡ given l (λ x. x .score) none
     go none = refl
-    go (some x) = score (x .score)
+    go (some x) = given-some (x .score)
 score-snoc (p ∷ ps) q = go (p .label) (score-snoc ps q)
   where
     z : Option (Number ℕ)

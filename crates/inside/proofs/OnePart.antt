@@ -30,12 +30,8 @@ use Rattle.labels.specs.Says.{IsLabel}
 use Rattle.inside.specs.declared.Parts.{Parts}
 use Rattle.inside.specs.Says.{PartsAre}
 use Rattle.inside.specs.Progress.{withValue, withLabel, notedCode, textPlace, valueRow}
-use Rattle.inside.proofs.Lists.{length-snoc, all-snoc, refers-snoc, score-snoc}
+use Rattle.inside.proofs.Lists.{length-snoc, all-snoc, refers-snoc, given-some, score-snoc}
 use Rattle.inside.proofs.Codes.{fifth, codes-more, codes-label}
-
-given-some : (x : Option (Number ℕ)) → given x some none ≡ x
-given-some none = refl
-given-some (some y) = refl
 
 -- ---- a value
 -- its code tells a reference

@@ -7,7 +7,7 @@ use Prim.Native.Nat.{ℕ}
 use lib.Dec.{eqb}
 use borrow.Author.Tests.{not-true}
 use Rattle.scope.specs.declared.grammar.Kind.{Kind}
-use Rattle.scope.specs.declared.grammar.Kind.the-variants.{Labile, NTerm}
+use Rattle.scope.specs.declared.grammar.Kind.the-variants.{Labile}
 use Rattle.scope.specs.declared.grammar.Mode.{Mode}
 use Rattle.scope.specs.declared.grammar.Slot.{Slot}
 use Rattle.scope.specs.declared.grammar.Act.{Act}
@@ -22,7 +22,7 @@ use Rattle.scope.specs.Kinds.{isLabile}
 use Rattle.basics.specs.Each.{Each, each-append as every-append, each-last as every-last, each-map, each-one}
 use Rattle.reading_laws.specs.Acts.{ofSlot, act-rule}
 use Rattle.reading_laws.specs.Goes.{Valued, of-plain, of-number, of-code, of-text, Over, of-value, of-label, of-score, On, mass-begins, plain-begins, text-begins, refers, plain-on, plain-text, no-key, key-name, key-code, key-text, keyed-mass, keyed-text, mass-on, code-on, text-on, hash-on, label-begins, label-on, score-opens, score-sign, score-digit, score-on, score-over, Goes, stops, goes-on, part-over, shuts, goes}
-use Rattle.reading_laws.specs.Kept.{Whole, reading-whole, put-by, digit-by}
+use Rattle.reading_laws.specs.Kept.{reading-whole, put-by, digit-by}
 use Rattle.basics.specs.Tests.{and-left, and-right}
 
 -- ---- inside a bracket that may hold neither a reference nor a label, as `{}` may not

@@ -5,14 +5,13 @@ use mathlib.Core.List.{List, [], _∷_, _++_, map}
 use Prim.Native.Nat.{ℕ}
 use lib.IntN.{pos, _*ℤ_}
 use lib.ListN.{length, replicate}
-use Rattle.scope.specs.declared.grammar.Key.the-variants.{Info}
 use Rattle.scope.specs.Line.{Bracket, Residue, Line}
-use Rattle.scope.specs.Lists.{given, shared, keep, flat, among, member}
+use Rattle.scope.specs.Lists.{given, shared, keep, flat, member}
 use Rattle.scope.specs.Modifications.{onlyInfo, isReferring, isModification, copies, definedBy, referredBy, namesOf}
 use Rattle.scope.specs.Positions.{sites, isPlaced, placedOn, struckOut, floaters, between, referredAt, isUnlabelledUnknown, ownPosition, mayStand, positions, permitted, permittedPositions}
 use Rattle.scope.specs.Masses.{massOf, massOr0, sum, sumℕ, modifications, times, total, lacking, labileMass}
 use Rattle.scope.specs.Kinds.{isLabile}
-use Rattle.basics.specs.Lists.{flat-append, keep-append, keep-same, map-same}
+use Rattle.basics.specs.Lists.{flat-append, keep-append, keep-same, map-same, shared-none}
 
 -- ---- an element that is not kept, or gives nothing
 keep-without : {A : Type 0} (f : A → Bool) (l m : List A) (x : A) → f x ≡ false → keep f (l ++ (x ∷ m)) ≡ keep f (l ++ m)
@@ -23,11 +22,6 @@ keep-without f l m x e =
 flat-without : {A B : Type 0} (f : A → List B) (l m : List A) (x : A) → f x ≡ [] → flat f (l ++ (x ∷ m)) ≡ flat f (l ++ m)
 unfolding flat
 flat-without f l m x e = flat-append f l (x ∷ m) ∙ ap (λ z. flat f l ++ (z ++ flat f m)) e ∙ sym (flat-append f l m)
-
-shared-none : (l : List (List ℕ)) → shared l [] ≡ false
-unfolding shared among
-shared-none [] = refl
-shared-none (x ∷ l) = shared-none l
 
 module _ {P : Type 0} (rs : List (Residue P)) (ks ls : List (Bracket P)) (k : Bracket P) where
   -- the line with the bracket, and without it

@@ -10,13 +10,8 @@ use Rattle.sheet.specs.Fields.{placeField}
 use Rattle.dues.specs.Ranks.{code, lowest}
 use Rattle.dues.specs.First.{lowest-append}
 use Rattle.dues.specs.Lines.{infoRank, labelRank, copiesRank}
-use Rattle.dues.specs.Met.{lowest-two}
-use Rattle.dues.specs.Steps.{lowest-on}
+use Rattle.dues.specs.Steps.{lowest-after}
 use Rattle.rules.specs.Told.{infoAt, wrongAt, copiesAt, copiesFrom, passes, dueCodes, dueFrom}
-
--- one list after another
-lowest-both : (n : ℕ) (a b : List ℕ) → lowest n (a ++ b) ≡ lowest (lowest n a) b
-lowest-both n a b = lowest-two n a b ∙ sym (lowest-on n a b)
 
 module _ (line heads parts : List ℕ) (n : ℕ) where
   -- ---- one bracket
@@ -61,7 +56,7 @@ module _ (line heads parts : List ℕ) (n : ℕ) where
           record {
             within = omega arith;
             low = omega (arith, s .low);
-            left = rw (q, e) (sym (lowest-both first (dueCodes line heads parts n before k) rest) ∙ (rw g at (s .left)));
+            left = rw (q, e) (sym (lowest-after first (dueCodes line heads parts n before k) rest) ∙ (rw g at (s .left)));
             copies-left = let w = rw g at (s .copies-left) in omega arith;
           }
 

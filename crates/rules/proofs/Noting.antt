@@ -7,7 +7,7 @@ use mathlib.Core.List.{List, [], _∷_, _++_, map, append-nil}
 use native.Mathlib.Numerals.{add-one}
 use native.Mathlib.Omega.{arith}
 use lib.Dec.{eqb}
-use lib.ListN.{length, getD, take, drop, length-append, length-take}
+use lib.ListN.{length, getD, take, drop, length-append}
 use lib.Seq.{drop-cons, take-suc, take-all, length-take-le, split-at}
 use borrow.Author.Tests.{eq-eqb, ne-eqb}
 use Rattle.scope.specs.declared.grammar.Key.the-variants.{NoKey}
@@ -20,7 +20,7 @@ use Rattle.basics.specs.Each.{Each}
 use Rattle.basics.specs.Lists.{flat-append, flat-one, same-length}
 use Rattle.sheet.specs.Rows.{headFields, partFields, labelFrom, labelTo, Stands, headsFrom, partNote, fewParts, fewBrackets, partsOf, massesRoom}
 use Rattle.sheet.specs.Fields.{HeadIs, PartIs, partsField, baseField, labelToField}
-use Rattle.sheet.proofs.FieldLaws.{head-is, part-is, part-among, stands-at}
+use Rattle.sheet.proofs.FieldLaws.{head-is, part-is, part-among, stands-at, parts-few}
 use Rattle.rules.specs.Told.{nameAt, Legible, AllLegible, namesAt, labelledFrom, labelledAt}
 use Rattle.rules.specs.Ruled.{Named, Shaped, Ruled}
 
@@ -162,11 +162,6 @@ among-there x h (p ∷ ps) = go (p .label) (among-there x h ps)
     go (some l) ih = ap (λ t. same x (l .name) || t) ih
 
 -- ---- few parts
-few-length : (ks : List (Bracket ℕ)) → length (partsOf ks) ≤ length ks * partLimit
-unfolding flat
-few-length [] = omega arith
-few-length (k ∷ ks) = omega (arith, length-append (fewParts k) (partsOf ks), length-take partLimit (k .parts), few-length ks)
-
 no-names : (ps : List (Part ℕ)) → 0 < length (flat nameOf ps) → 0 < length ps
 unfolding flat
 no-names [] h = absurd (omega arith)
@@ -221,7 +216,7 @@ module _ {line heads parts : List ℕ} {n : ℕ} {ks : List (Bracket ℕ)} (a : 
     -- its rows are within the room
     row-few : (j : ℕ) → j < length ps → before k + j < massesRoom
     row-few j l =
-        omega (arith, a .many, a .few, row-place j l, few-length (fewBrackets ks), ap length all-noted, ap length (parts-split j l), length-append (partsOf (take k ks) ++ take j ps) (partAt ps j ∷ (drop (suc j) ps ++ partsOf (drop (suc k) ks))))
+        omega (arith, a .many, a .few, row-place j l, parts-few (fewBrackets ks), ap length all-noted, ap length (parts-split j l), length-append (partsOf (take k ks) ++ take j ps) (partAt ps j ∷ (drop (suc j) ps ++ partsOf (drop (suc k) ks))))
 
     -- a label is among its labels where it is among those of its rows
     pub names-at : (x : List ℕ) → 0 < length x → among x (namesAt line heads parts k) ≡ among x (namesOf (bracketAt ks k))

@@ -2,11 +2,12 @@
 use mathlib.Core.Path.{_≡_, refl, sym, ap, _∙_}
 use mathlib.Core.Option.{Option, none, some}
 use mathlib.Core.List.{List, [], _∷_, _++_, map, append-assoc, map-append}
-use Prim.Native.Nat.{ℕ, zero, suc, _+_, _*_, _<_}
+use Prim.Native.Nat.{ℕ, zero, suc, _+_, _*_, _<_, _≤_}
 use native.Mathlib.Omega.{arith}
 use lib.Dec.{eqb}
 use lib.ListN.{length, getD, take, length-append, length-take, List·getD-append}
 use lib.Seq.{getD-append-add, getD-take}
+use Rattle.scope.specs.Limits.{partLimit}
 use Rattle.scope.specs.Line.{Part, Bracket}
 use Rattle.scope.specs.Lists.{flat, there?}
 use Rattle.basics.specs.Each.{each-back}
@@ -101,6 +102,12 @@ part-is parts n i xs p ys e f =
     }
 
 -- a part of a bracket among the parts of all
+-- few brackets have few parts
+pub parts-few : (ks : List (Bracket ℕ)) → length (partsOf ks) ≤ length ks * partLimit
+unfolding flat
+parts-few [] = omega arith
+parts-few (k ∷ ks) = omega (arith, length-append (fewParts k) (partsOf ks), length-take partLimit (k .parts), parts-few ks)
+
 pub part-among : (xs : List (Bracket ℕ)) (k : Bracket ℕ) (ys : List (Bracket ℕ)) (us : List (Part ℕ)) (p : Part ℕ) (vs : List (Part ℕ))
     → fewParts k ≡ us ++ (p ∷ vs) → partsOf (xs ++ (k ∷ ys)) ≡ (partsOf xs ++ us) ++ (p ∷ (vs ++ partsOf ys))
 part-among xs k ys us p vs e =

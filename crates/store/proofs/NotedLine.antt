@@ -1,10 +1,10 @@
 -- The rows of an accepted line in the sheet: each of its brackets and each of their parts has its own.
 use mathlib.Core.Path.{_≡_, refl, sym, ap, subst, _∙_}
-use mathlib.Core.List.{List, [], _∷_, _++_, map}
-use Prim.Native.Nat.{ℕ, _+_, _*_, _≤_}
+use mathlib.Core.List.{List, _∷_, _++_, map}
+use Prim.Native.Nat.{ℕ, _+_, _*_}
 use native.Mathlib.Omega.{arith}
 use lib.IntN.{ℤ, pos}
-use lib.ListN.{length, length-append, length-map, length-take}
+use lib.ListN.{length, length-append, length-map}
 use lib.Seq.{take-all}
 use Rattle.scope.specs.Limits.{bracketLimit, partLimit}
 use Rattle.scope.specs.Line.{Part, Bracket, Line}
@@ -13,15 +13,10 @@ use Rattle.scope.specs.Tables.{scoreOf}
 use Rattle.basics.specs.Each.{Each, each-back}
 use Rattle.accepted_laws.specs.Within.{PartWithin, BracketWithin, Within}
 use Rattle.accepted_laws.specs.Laws.{accepted-within}
-use Rattle.sheet.specs.Rows.{partFields, headFields, massNoted, pointsNoted, partNote, AllStand, headsFrom, fewParts, partsOf, fewBrackets, LineNoted}
-use Rattle.sheet.proofs.FieldLaws.{number-at, head-is, part-is, part-among, stands-at}
+use Rattle.sheet.specs.Rows.{partFields, headFields, massNoted, pointsNoted, partNote, AllStand, headsFrom, partsOf, fewBrackets, LineNoted}
+use Rattle.sheet.proofs.FieldLaws.{number-at, head-is, part-is, part-among, stands-at, parts-few}
 use Rattle.store.specs.PartPut.{PartNoted}
 use Rattle.store.specs.BracketPut.{BracketNoted}
-
-parts-few : (ks : List (Bracket ℕ)) → length (partsOf ks) ≤ length ks * partLimit
-unfolding flat
-parts-few [] = omega arith
-parts-few (k ∷ ks) = omega (arith, length-append (fewParts k) (flat fewParts ks), length-take partLimit (k .parts), parts-few ks)
 
 module _ {line letters sections heads parts : List ℕ} {masses scores : List ℤ} {residues brackets : ℕ} {l : Line ℕ}
     (w : LineNoted line letters sections heads parts masses scores residues brackets l) where

@@ -19,7 +19,7 @@ use Rattle.scope.specs.Refusals.{dueAt}
 use Rattle.dues.specs.Ranks.{code, lowest}
 use Rattle.dues.specs.Lines.{overRank, wideRank, partsCodes, bracketCodes, metCodes}
 use Rattle.dues.specs.Met.{lowest-two}
-use Rattle.dues.specs.Steps.{lowest-on}
+use Rattle.dues.specs.Steps.{lowest-on, lowest-after}
 use Rattle.inside.proofs.Lists.{drop-snoc}
 use Rattle.walk.specs.Steps.{wrongCount}
 
@@ -33,9 +33,6 @@ lowest-in n a d b =
   where
     mixed : (x y z : ℕ) → min x (min y z) ≡ min (min x z) y
     mixed x y z = omega arith
-
-lowest-last : (n : ℕ) (a d : List ℕ) → lowest n (a ++ d) ≡ lowest (lowest n a) d
-lowest-last n a d = lowest-two n a d ∙ sym (lowest-on n a d)
 
 pub met-none : (n : ℕ) → n ≡ lowest n (metCodes [] [])
 unfolding lowest flat
@@ -63,7 +60,7 @@ met-residues n rs xs ks =
     ∙ ap (λ k. C ++ map (code overRank) (drop (residueLimit - k) (places xs))) (length-map rs (λ r. r .at)) in
     ap (λ t. lowest n (F ++ (B ++ t))) split
     ∙ ap (lowest n) (ap (λ t. F ++ t) (sym (append-assoc B C D)) ∙ sym (append-assoc F (B ++ C) D))
-    ∙ lowest-last n (F ++ (B ++ C)) D
+    ∙ lowest-after n (F ++ (B ++ C)) D
 
 -- places one behind another: the first counts
 run-due : (n r i m : ℕ) → lowest n (map (code r) (tabled (λ j. j) i m)) ≡ lowest n (map (code r) (dueAt (ltb 0 m) i))

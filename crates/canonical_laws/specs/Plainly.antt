@@ -16,13 +16,9 @@ use Rattle.scope.specs.Lists.{flat}
 abbrev pub digitsOf : Numeral → ℕ
 digitsOf n = valueOn 0 (n .whole ++ fraction (n .behind))
 
--- as many decimals as written
-abbrev pub plainBehind : ℕ → Option (List ℕ) → Option (List ℕ)
-plainBehind m none = none
-plainBehind m (some f) = some (lastDigits (length f) m)
-
+-- "decimals as many as written"
 abbrev pub plainNumeral : Numeral → Numeral
-plainNumeral n = record { whole = decimal (digitsOf n / 10 ^ length (fraction (n .behind))); behind = plainBehind (digitsOf n) (n .behind) }
+plainNumeral n = record { whole = decimal (valueOn 0 (n .whole)); behind = n .behind }
 
 -- "The sign of zero .. not kept"
 abbrev pub plainMinus : Bool → Numeral → Bool

@@ -1,13 +1,7 @@
 pub mod Laws
-pub mod Numbers
 pub mod Decimal
-pub mod Brackets
-pub mod Runs
-pub mod Unknowns
-pub mod Sequence
-pub mod Lines
-pub mod Fronts
-pub mod Counts
+pub mod Plainly
+pub mod PlainNumbers
+pub mod PlainParts
 pub mod Refusals
-pub mod Accepted
-pub mod Proved
+pub mod PlainLines

@@ -21,7 +21,6 @@ use Rattle.scope.specs.Kinds.{unknownOrLabile, isUnknown}
 use Rattle.scope.specs.Tables.{bareNumber, bareLabel, bareValue, barePart, bareBracket}
 use Rattle.basics.specs.Lists.{not-due, nil-front, nil-back}
 use Rattle.basics.specs.Tests.{or-left, or-right, neither}
-use Rattle.canonical_laws.specs.Counts.{Once}
 
 -- ---- lists of places
 nil-both : {A : Type 0} (l m : List A) → l ≡ [] → m ≡ [] → l ++ m ≡ []
@@ -58,6 +57,10 @@ moves bare F g (x ∷ l) (y ∷ m) e h =
     nil-both (F y) (flat F m) (g x y p (nil-front (F x) (flat F l) h)) (moves bare F g l m q (nil-back (F x) (flat F l) h))
 
 -- ---- brackets alike but for whether a count of 1 is written
+-- where no count is written it is 1
+abbrev pub Once : Bracket ℕ → Type 0
+Once k = k .counted ≡ none → k .count ≡ 1
+
 pub record Same (k q : Bracket ℕ) : Type 0 where
   pub bare : bareBracket k ≡ bareBracket q
   pub marks : q .count ≡ 1 → q .counted ≡ none

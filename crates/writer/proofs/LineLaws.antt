@@ -17,7 +17,7 @@ use Rattle.scope.specs.declared.grammar.Section.the-variants.{Plain, RangeFirst
 use Rattle.scope.specs.Bytes.{question, dash}
 use Rattle.scope.specs.Limits.{residueLimit, positionLimit}
 use Rattle.scope.specs.Line.{Bracket, Residue}
-use Rattle.scope.specs.Canonical.{squareText, curlyText, unknownText, ofKind, endingAt, closedBy, ledBy, opening, ending, isNext, goesOn, sequenceText, canonical}
+use Rattle.scope.specs.Canonical.{squareText, curlyText, unknownText, ofKind, endingAt, closedBy, ledBy, opening, ending, isNext, goesOn, sequenceText, chainText, canonical}
 use Rattle.scope.specs.Kinds.{isKind}
 use Rattle.scope.specs.Lists.{keep, flat, tabled, laid}
 use Rattle.scope.specs.Layout.{sectionCode, sectionIn, residueIn, bracketIn, tablesIn, bracketsField, lastField, letterField, residuesField, sectionField}
@@ -344,7 +344,7 @@ pub line-text :
     → frontText (tablesIn bs ns .brackets)
     ++ (sequenceText (tablesIn bs ns .brackets) 1 (tablesIn bs ns .residues) ++ ledBy dash (runText Square lastRank (tablesIn bs ns .brackets)))
     ≡ canonical (tablesIn bs ns)
-unfolding canonical
+unfolding chainText canonical
 line-text bs ns b =
     let ks = tablesIn bs ns .brackets in
     rw (unknown-run ks, labile-run ks, n-term-run ks, c-term-run bs ns b)

@@ -11,8 +11,9 @@ use borrow.Author.Tests.{eqb-true, eqb-false, ltb-true}
 use Rattle.scope.specs.declared.grammar.Kind.{Kind}
 use Rattle.scope.specs.declared.grammar.Kind.the-variants.{Unknown, Labile, NTerm, OnResidue, OnRange, CTerm}
 use Rattle.scope.specs.Bytes.{byteLimit}
-use Rattle.scope.specs.Kinds.{kindCode, kinds, kindIn, isKind}
+use Rattle.scope.specs.Kinds.{kindCode, kinds, kindIn, isKind, isOnRange}
 use Rattle.scope.specs.Reading.{positionOf}
+use Rattle.basics.specs.Choice.{branch}
 use Rattle.basics.specs.Each.{failing, first-passes}
 use Rattle.basics.specs.Tests.{agree, agreed, falsely}
 
@@ -62,9 +63,5 @@ kind-byte k = ltb-true (kindCode k) byteLimit (each-kind (λ j. ltb (kindCode j)
 
 -- ---- every position is one of the line
 pub position-few : (k : Kind) (n a : ℕ) → a ≤ n → positionOf k n a ≤ n + 1
-position-few Unknown n a h = omega arith
-position-few Labile n a h = omega arith
-position-few NTerm n a h = omega arith
-position-few OnResidue n a h = omega arith
-position-few OnRange n a h = omega arith
-position-few CTerm n a h = omega arith
+position-few k n a h =
+    branch (λ p. p ≤ n + 1) (isOnRange k) (omega arith) (branch (λ p. p ≤ n + 1) (isKind CTerm k) (omega arith) (omega arith))

@@ -1,50 +1,44 @@
 -- Whole lines: the brackets in front of a line, and the theorem over all states of the reader.
 use mathlib.Core.Path.{_≡_, refl, sym, ap, _∙_, subst}
 use mathlib.Core.Option.{Option, none, some, Option·none-ne-some}
-use mathlib.Core.Bool.{Bool, true, false, cond, true≢false}
+use mathlib.Core.Bool.{Bool, true, false, true≢false}
 use mathlib.Core.List.{List, [], _∷_, _++_, append-assoc, append-nil, map, map-append, map-id}
 use Prim.Native.Nat.{ℕ, suc, _+_, _*_, _^_, _≤_, _<_}
 use native.Mathlib.Omega.{arith}
 use lib.Dec.{eqb}
 use lib.ListN.{length, length-append}
 use Rattle.scope.specs.declared.grammar.Kind.{Kind}
-use Rattle.scope.specs.declared.grammar.Kind.the-variants.{Unknown, Labile, NTerm, CTerm}
+use Rattle.scope.specs.declared.grammar.Kind.the-variants.{Unknown, Labile, NTerm}
 use Rattle.scope.specs.declared.grammar.Mode.{Mode}
 use Rattle.scope.specs.declared.grammar.Mode.the-variants.{Front, Runs, Undecided, Counted, Referred, Caret, Counting, Labiles, NTerms, Start, Single, Opened, UnsureOpened, InRange, InUnsure, RangeEnd, Ranged, UnsureEnd, CStart, CTerms}
 use Rattle.scope.specs.declared.grammar.Slot.{Slot}
 use Rattle.scope.specs.declared.grammar.Act.the-variants.{Begin, RunEnds, TermEnds}
 use Rattle.scope.specs.Bytes.{isDigit, openSquare, shutSquare, openCurly, caret, question, dash, value}
 use Rattle.scope.specs.Line.{Bracket}
-use Rattle.scope.specs.Lists.{none?, keep, flat}
+use Rattle.scope.specs.Lists.{none?, flat}
 use Rattle.scope.specs.Reading.{square, front, labile, atFront, undecided, counted, referred, act, mayEnd, Held, countDigit, asNTerm, State, dead, outside, inside, perform, refers?, step, run, start, lineOf}
-use Rattle.scope.specs.Canonical.{decimal, partsText, squareText, curlyText, countText, unknownText, ofKind, closedBy, ledBy, sequenceText, canonical}
-use Rattle.scope.specs.Kinds.{kindCode}
-use Rattle.basics.specs.Lists.{keep-append, flat-append, on-last}
+use Rattle.scope.specs.Canonical.{decimal, partsText, squareText, curlyText, countText, unknownText, endingAt, closedBy, ledBy, sequenceText, chainText, canonical}
+use Rattle.scope.specs.Kinds.{isKind}
+use Rattle.basics.specs.Lists.{flat-append, on-last}
 use Rattle.reading_laws.specs.Acts.{Ending, single-ends, ranged-ends, unsure-ends, cterms-end, ending}
 use Rattle.basics.specs.Choice.{branch-on}
-use Rattle.basics.specs.Each.{Each, each-append, each-front, each-back, each-one, each-snoc}
+use Rattle.basics.specs.Each.{Each, each-append, each-front, each-back, each-one, each-snoc, each-map, each-all}
 use Rattle.canonical_laws.specs.Numbers.{digit-below, decimal-length}
 use Rattle.reading_laws.specs.Unnoted.{Place, Parts, lineRun, line-nil, line-cons, line-further}
 use Rattle.canonical_laws.specs.Runs.{Reads}
 use Rattle.canonical_laws.specs.Unknowns.{Brackets, unknown, normal, FitsBracket, Square, IsUnknown, held, frontMode, front-acts, front-run, IsTerm, terms-end}
-use Rattle.canonical_laws.specs.Sequence.{hasKind, Low, flat-one}
-use Rattle.canonical_laws.specs.Lines.{unknowns, labiles, nterms, cterms, head, body, text, norm, Written, Within, Gather, AtFront, Fresh, Outside, ClosedBy, Reached, begins, goes-on, closed-most, closed-least, square-length, bare-body, step-labile, step-element, step-single, step-opened, step-unsureOpened, step-inRange, step-inUnsure, step-rangeEnd, step-ranged, step-unsureEnd, step-start, step-cStart, step-cTerms, step-labiles, step-nterms, between-front, after}
+use Rattle.canonical_laws.specs.Sequence.{hasKind, Low, flat-one, ending-append, ending-all, ending-other}
+use Rattle.canonical_laws.specs.Lines.{unknowns, labiles, nterms, cterms, head, body, text, norm, Written, Within, Gather, AtFront, Fresh, Outside, ClosedBy, Reached, begins, goes-on, closed-most, closed-least, square-length, bare-body, no-cterm, step-labile, step-element, step-single, step-opened, step-unsureOpened, step-inRange, step-inUnsure, step-rangeEnd, step-ranged, step-unsureEnd, step-start, step-cStart, step-cTerms, step-labiles, step-nterms, between-front, after}
 
 -- ---- brackets of unknown position, by kind
-kind-is : (k : Bracket Place) → IsUnknown k → k .kind ≡ Unknown
-kind-is k w = ap (λ (z : Bracket Place). z .kind) (w .is)
+unknown-kind : (bs : Brackets) → Each IsUnknown bs → endingAt Unknown 0 bs ≡ bs
+unknown-kind bs w =
+    ending-all Unknown 0 bs
+    (each-one IsUnknown (λ k. (k .kind ≡ Unknown) × (k .last ≡ 0)) (λ k v. (ap (λ (z : Bracket Place). z .kind) (v .is), ap (λ (z : Bracket Place). z .last) (v .is))) bs w)
 
-unknown-kind : (bs : Brackets) → Each IsUnknown bs → ofKind Unknown bs ≡ bs
-unfolding keep
-unknown-kind [] w = refl
-unknown-kind (k ∷ bs) w =
-    ap (λ z. cond (eqb (kindCode z) 1) (k ∷ []) [] ++ ofKind Unknown bs) (kind-is k (w .0)) ∙ ap (λ z. k ∷ z) (unknown-kind bs (w .1))
-
-other-kind : (c : Kind) (bs : Brackets) → eqb 1 (kindCode c) ≡ false → Each IsUnknown bs → ofKind c bs ≡ []
-unfolding keep
-other-kind c [] e w = refl
-other-kind c (k ∷ bs) e w =
-    ap (λ z. cond (eqb (kindCode z) (kindCode c)) (k ∷ []) [] ++ ofKind c bs) (kind-is k (w .0)) ∙ ap (λ z. cond z (k ∷ []) [] ++ ofKind c bs) e ∙ other-kind c bs e (w .1)
+other-kind : (c : Kind) (bs : Brackets) → isKind c Unknown ≡ false → Each IsUnknown bs → endingAt c 0 bs ≡ []
+other-kind c bs e w =
+    ending-other c 0 bs (each-one IsUnknown (λ k. hasKind c k ≡ false) (λ k v. ap (λ (z : Bracket Place). hasKind c z) (v .is) ∙ e) bs w)
 
 unknown-low : (bs : Brackets) → Each IsUnknown bs → Low 0 bs
 unknown-low bs w = each-one IsUnknown (λ k. k .last ≤ 0) (λ k v. omega (arith, ap (λ (z : Bracket Place). z .last) (v .is))) bs w
@@ -62,7 +56,7 @@ front-written : (bs : Brackets) (n : ℕ) → Each IsUnknown bs → length (clos
 front-written bs n w h = record { path = λ fits. ap (lineRun start) (front-text bs w) ∙ front-run bs w fits; short = rw (front-text bs w) h }
 
 front-within : (bs : Brackets) → Each IsUnknown bs → Within (held bs [])
-front-within bs w = record { low = unknown-low bs w; no-cterm = other-kind CTerm bs refl w }
+front-within bs w = unknown-low bs w
 
 -- ---- lengths of runs
 flat-unknown : (rs : Brackets) (k : Bracket Place) → flat unknownText (rs ++ (k ∷ [])) ≡ flat unknownText rs ++ unknownText k
@@ -167,15 +161,14 @@ step-runEnds bs rs b n w u h =
         let e : length (flat unknownText (bs ++ rs)) ≡ length (flat unknownText bs) + length (flat unknownText rs) = ap length (flat-append unknownText bs rs) ∙ length-append (flat unknownText bs) (flat unknownText rs) in
         omega (arith, closed-most (flat unknownText (bs ++ rs)) question, closed-least (flat unknownText bs) question)
 
-term-kind : (rs : Brackets) → ofKind NTerm (map asNTerm rs) ≡ map asNTerm rs
-unfolding keep
-term-kind [] = refl
-term-kind (k ∷ rs) = ap (λ z. asNTerm k ∷ z) (term-kind rs)
+term-kind : (rs : Brackets) → Each IsTerm rs → endingAt NTerm 0 (map asNTerm rs) ≡ map asNTerm rs
+term-kind rs w =
+    ending-all NTerm 0 (map asNTerm rs)
+    (each-map (λ k. (k .kind ≡ NTerm) × (k .last ≡ 0)) asNTerm rs
+    (each-one IsTerm (λ k. (asNTerm k .kind ≡ NTerm) × (asNTerm k .last ≡ 0)) (λ k v. (refl, ap (λ (z : Bracket Place). z .last) (v .is))) rs w))
 
-term-other : (c : Kind) (rs : Brackets) → eqb 3 (kindCode c) ≡ false → ofKind c (map asNTerm rs) ≡ []
-unfolding keep
-term-other c [] e = refl
-term-other c (k ∷ rs) e = ap (λ z. cond z (asNTerm k ∷ []) [] ++ ofKind c (map asNTerm rs)) e ∙ term-other c rs e
+term-other : (c : Kind) (rs : Brackets) → isKind c NTerm ≡ false → endingAt c 0 (map asNTerm rs) ≡ []
+term-other c rs e = ending-other c 0 (map asNTerm rs) (each-map (λ k. hasKind c k ≡ false) asNTerm rs (each-all (λ k. hasKind c (asNTerm k) ≡ false) rs (λ k. e)))
 
 term-texts : (rs : Brackets) → flat squareText (map asNTerm rs) ≡ flat squareText rs
 unfolding flat
@@ -197,20 +190,17 @@ term-low : (rs : Brackets) → Each IsTerm rs → Low 0 (map asNTerm rs)
 term-low [] w = tt
 term-low (k ∷ rs) w = (omega (arith, ap (λ (z : Bracket Place). z .last) (w .0 .is)), term-low rs (w .1))
 
-kinds-append : (c : Kind) (l m : Brackets) → ofKind c (l ++ m) ≡ ofKind c l ++ ofKind c m
-kinds-append c l m = keep-append (hasKind c) l m
-
-term-text : (bs rs : Brackets) → Each IsUnknown bs → text Start (held (bs ++ map asNTerm rs) []) ≡ closedBy (flat unknownText bs) question ++ closedBy (flat squareText rs) dash
+term-text : (bs rs : Brackets) → Each IsUnknown bs → Each IsTerm rs → text Start (held (bs ++ map asNTerm rs) []) ≡ closedBy (flat unknownText bs) question ++ closedBy (flat squareText rs) dash
 unfolding text head sequenceText flat
-term-text bs rs w =
+term-text bs rs w v =
     append-nil (head (bs ++ map asNTerm rs))
     ∙ ap (λ z. closedBy (flat unknownText z) question ++ labiles (bs ++ map asNTerm rs) ++ closedBy (nterms (bs ++ map asNTerm rs)) dash)
-    (kinds-append Unknown bs (map asNTerm rs) ∙ ap (λ z. ofKind Unknown bs ++ z) (term-other Unknown rs refl) ∙ append-nil (ofKind Unknown bs) ∙ unknown-kind bs w)
+    (ending-append Unknown 0 bs (map asNTerm rs) ∙ ap (λ z. endingAt Unknown 0 bs ++ z) (term-other Unknown rs refl) ∙ append-nil (endingAt Unknown 0 bs) ∙ unknown-kind bs w)
     ∙ ap (λ z. closedBy (flat unknownText bs) question ++ flat curlyText z ++ closedBy (nterms (bs ++ map asNTerm rs)) dash)
-    (kinds-append Labile bs (map asNTerm rs) ∙ ap (λ z. ofKind Labile bs ++ z) (term-other Labile rs refl) ∙ append-nil (ofKind Labile bs) ∙ other-kind Labile bs refl w)
+    (ending-append Labile 0 bs (map asNTerm rs) ∙ ap (λ z. endingAt Labile 0 bs ++ z) (term-other Labile rs refl) ∙ append-nil (endingAt Labile 0 bs) ∙ other-kind Labile bs refl w)
     ∙ ap (λ z. z ++ closedBy (nterms (bs ++ map asNTerm rs)) dash) (append-nil (closedBy (flat unknownText bs) question))
     ∙ ap (λ z. closedBy (flat unknownText bs) question ++ closedBy (flat squareText z) dash)
-    (kinds-append NTerm bs (map asNTerm rs) ∙ ap (λ z. z ++ ofKind NTerm (map asNTerm rs)) (other-kind NTerm bs refl w) ∙ term-kind rs)
+    (ending-append NTerm 0 bs (map asNTerm rs) ∙ ap (λ z. z ++ endingAt NTerm 0 (map asNTerm rs)) (other-kind NTerm bs refl w) ∙ term-kind rs v)
     ∙ ap (λ z. closedBy (flat unknownText bs) question ++ closedBy z dash) (term-texts rs)
 
 step-termEnds : (bs : Brackets) (k : Bracket Place) (ns : Brackets) (b n : ℕ) → Each IsUnknown bs → Each IsTerm (k ∷ ns) → sizeOf bs + length (flat squareText (k ∷ ns)) ≤ n → Reached (suc n) (perform tt b (held bs (k ∷ ns)) TermEnds)
@@ -218,18 +208,15 @@ unfolding Reached Outside perform
 step-termEnds bs k ns b n w v h = (
   record {
     path = λ fits.
-        ap (lineRun start) (term-text bs (k ∷ ns) w)
+        ap (lineRun start) (term-text bs (k ∷ ns) w v)
         ∙ line-further (closedBy (flat unknownText bs) question) (closedBy (flat squareText (k ∷ ns)) dash) start (outside (frontMode bs) (held (map normal bs) [])) _
         (front-run bs w (each-front FitsBracket bs (map asNTerm (k ∷ ns)) fits))
         (terms-end bs (map normal bs) k ns v (term-fits (k ∷ ns) (each-back FitsBracket bs (map asNTerm (k ∷ ns)) fits)))
         ∙ ap (λ (z : Brackets). outside Start (held z [])) (ap (λ z. map normal bs ++ z) (sym (term-normal (k ∷ ns) v)) ∙ sym (map-append normal bs (map asNTerm (k ∷ ns))));
     short =
-        rw (term-text bs (k ∷ ns) w, length-append (closedBy (flat unknownText bs) question) (closedBy (flat squareText (k ∷ ns)) dash)) (omega (arith, closed-most (flat squareText (k ∷ ns)) dash));
+        rw (term-text bs (k ∷ ns) w v, length-append (closedBy (flat unknownText bs) question) (closedBy (flat squareText (k ∷ ns)) dash)) (omega (arith, closed-most (flat squareText (k ∷ ns)) dash));
   },
-  record {
-    low = each-append (λ q. q .last ≤ 0) bs (map asNTerm (k ∷ ns)) (unknown-low bs w) (term-low (k ∷ ns) v);
-    no-cterm = kinds-append CTerm bs (map asNTerm (k ∷ ns)) ∙ ap (λ z. z ++ ofKind CTerm (map asNTerm (k ∷ ns))) (other-kind CTerm bs refl w) ∙ term-other CTerm (k ∷ ns) refl;
-  },
+  each-append (λ q. q .last ≤ 0) bs (map asNTerm (k ∷ ns)) (unknown-low bs w) (term-low (k ∷ ns) v),
 )
 
 -- ---- the orders at the front, one byte further
@@ -422,20 +409,20 @@ unfolding Reached Outside flat
 reached-start = (gather [] [] tt, refl, omega arith)
 
 -- ---- where a line may end, the text is the canonical line
-body-canonical : (h : Held Place) → ofKind CTerm (h .brackets) ≡ [] → body h ≡ canonical (lineOf h)
-unfolding canonical head flat
-body-canonical h e =
+body-canonical : (h : Held Place) → Within h → body h ≡ canonical (lineOf h)
+unfolding chainText canonical head flat
+body-canonical h w =
     simp append-assoc
     (ap (λ z. unknowns (h .brackets) ++ (labiles (h .brackets) ++ (closedBy (nterms (h .brackets)) dash ++ z))) (sym (append-nil (sequenceText (h .brackets) 1 (h .residues)))
-    ∙ ap (λ z. sequenceText (h .brackets) 1 (h .residues) ++ ledBy dash (flat squareText z)) (sym e)))
+    ∙ ap (λ z. sequenceText (h .brackets) 1 (h .residues) ++ ledBy dash (flat squareText z)) (sym (no-cterm h w))))
 
 led-some : (l : List ℕ) (b : ℕ) → none? l ≡ false → ledBy b l ≡ b ∷ l
 led-some [] b e = absurd (true≢false e)
 led-some (x ∷ l) b e = refl
 
-cterm-canonical : (h : Held Place) → none? (cterms (h .brackets)) ≡ false → body h ++ (dash ∷ cterms (h .brackets)) ≡ canonical (lineOf h)
-unfolding canonical head
-cterm-canonical h e = ap (λ z. body h ++ z) (sym (led-some (cterms (h .brackets)) dash e)) ∙ simp append-assoc
+cterm-canonical : (h : Held Place) → none? (cterms h) ≡ false → body h ++ (dash ∷ cterms h) ≡ canonical (lineOf h)
+unfolding chainText canonical head
+cterm-canonical h e = ap (λ z. body h ++ z) (sym (led-some (cterms h) dash e)) ∙ simp append-assoc
 
 -- what is read is read back from its canonical line, which is no longer
 pub record Again (n : ℕ) (m : Mode) (h : Held Place) : Type 0 where
@@ -447,9 +434,9 @@ again n m h e w = record { path = λ fits. ap (lineRun start) (sym e) ∙ w .pat
 
 again-end : (n : ℕ) (m : Mode) (h : Held Place) → Ending m → Outside n m h → Again n m h
 unfolding Outside text
-again-end n Single h single-ends w = again n Single h (body-canonical h (w .1 .no-cterm)) (w .0)
-again-end n Ranged h ranged-ends w = again n Ranged h (body-canonical h (w .1 .no-cterm)) (w .0)
-again-end n UnsureEnd h unsure-ends w = again n UnsureEnd h (body-canonical h (w .1 .no-cterm)) (w .0)
+again-end n Single h single-ends w = again n Single h (body-canonical h (w .1)) (w .0)
+again-end n Ranged h ranged-ends w = again n Ranged h (body-canonical h (w .1)) (w .0)
+again-end n UnsureEnd h unsure-ends w = again n UnsureEnd h (body-canonical h (w .1)) (w .0)
 again-end n CTerms h cterms-end w = again n CTerms h (cterm-canonical h (w .1)) (w .0)
 
 pub read-again : (s : List ℕ) (m : Mode) (h : Held Place) → lineRun start s ≡ outside m h → mayEnd m ≡ true → Again (length s) m h

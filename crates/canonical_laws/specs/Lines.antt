@@ -20,7 +20,7 @@ use Rattle.scope.specs.Line.{Bracket, Residue}
 use Rattle.scope.specs.Lists.{none?, flat}
 use Rattle.scope.specs.Content.{Inner, Content, lost, closed, going, innerStep}
 use Rattle.scope.specs.Reading.{square, labile, element, further, groupFirst, inGroup, act, Held, withResidue, bracketOf, settled, put, withBracket, State, dead, outside, inside, perform, refers?, modeAfter, resume, run, start}
-use Rattle.scope.specs.Canonical.{partsText, squareText, curlyText, unknownText, ofKind, endingAt, closedBy, opening, ending, isNext, sequenceText}
+use Rattle.scope.specs.Canonical.{partsText, squareText, curlyText, unknownText, endingAt, closedBy, opening, ending, isNext, sequenceText}
 use Rattle.basics.specs.Lists.{flat-append}
 use Rattle.basics.specs.Choice.{branch-on}
 use Rattle.basics.specs.Each.{Each, each-append, each-front, each-back, each-one}
@@ -28,20 +28,20 @@ use Rattle.canonical_laws.specs.Brackets.{Inv, InvC, Closed, inner-step,
 use Rattle.reading_laws.specs.Unnoted.{Place, Parts, lineRun, line-one, line-further, same-mode}
 use Rattle.canonical_laws.specs.Runs.{bracket-run, Letter, letter-of, front-letter, labiles-letter, start-letter, single-letter, ranged-letter, unsureEnd-letter, opened-letter, unsureOpened-letter, inRange-letter, inUnsure-letter, residue-run}
 use Rattle.canonical_laws.specs.Unknowns.{Brackets, unknown, normal, FitsBracket, IsUnknown, held, moved, frontMode, IsTerm}
-use Rattle.canonical_laws.specs.Sequence.{Residues, hasKind, kind-one, kind-none, ending-kind, Low, none-above, own, ranged, openText, lastEnd, open-end, open-first, open-next, last-end, open-own, open-range, ranged-one, sequence-other, flat-one}
+use Rattle.canonical_laws.specs.Sequence.{Residues, hasKind, ending-one, ending-kind, Low, none-above, own, ranged, openText, lastEnd, open-end, open-first, open-next, last-end, open-own, open-range, ranged-one, sequence-other, flat-one}
 
 -- ---- the canonical text of what is held, by how far the order has come
 abbrev pub unknowns : Brackets → List ℕ
-unknowns ks = closedBy (flat unknownText (ofKind Unknown ks)) question
+unknowns ks = closedBy (flat unknownText (endingAt Unknown 0 ks)) question
 
 abbrev pub labiles : Brackets → List ℕ
-labiles ks = flat curlyText (ofKind Labile ks)
+labiles ks = flat curlyText (endingAt Labile 0 ks)
 
 abbrev pub nterms : Brackets → List ℕ
-nterms ks = flat squareText (ofKind NTerm ks)
+nterms ks = flat squareText (endingAt NTerm 0 ks)
 
-abbrev pub cterms : Brackets → List ℕ
-cterms ks = flat squareText (ofKind CTerm ks)
+abbrev pub cterms : Held Place → List ℕ
+cterms h = flat squareText (endingAt CTerm (1 + length (h .residues)) (h .brackets))
 
 -- what stands before the sequence
 unfoldable pub head : Brackets → List ℕ
@@ -74,7 +74,7 @@ text RangeEnd h = body h
 text Ranged h = body h
 text UnsureEnd h = body h
 text CStart h = body h ++ (dash ∷ [])
-text CTerms h = body h ++ (dash ∷ cterms (h .brackets))
+text CTerms h = body h ++ (dash ∷ cterms h)
 
 -- what is held once the canonical text is read
 abbrev pub norm : Held Place → Held Place
@@ -86,9 +86,8 @@ pub record Written (n : ℕ) (m : Mode) (h : Held Place) : Type 0 where
   pub short : length (text m h) ≤ n
 
 -- no bracket stands behind the residues yet
-pub record Within (h : Held Place) : Type 0 where
-  pub low : Low (length (h .residues)) (h .brackets)
-  pub no-cterm : ofKind CTerm (h .brackets) ≡ []
+abbrev pub Within : Held Place → Type 0
+Within h = Low (length (h .residues)) (h .brackets)
 
 pub record Last (f : Section → Bool) (h : Held Place) : Type 0 where
   pub before : Residues
@@ -155,7 +154,7 @@ Outside n Counted h = Gather h × Each IsUnknown (h .run) × Fresh (h .run) × (
 Outside n Referred h = Gather h × Each IsTerm (h .run) × Fresh (h .run) × (frontSize h + length (flat squareText (h .run)) ≤ n)
 Outside n Caret h = Gather h × Each IsUnknown (h .run) × Fresh (h .run) × (frontSize h + length (flat unknownText (h .run)) + 1 ≤ n)
 Outside n Counting h = Gather h × Each IsUnknown (h .run) × Counts n h
-Outside n Labiles h = Written n Labiles h × Within h × (h .residues ≡ []) × (ofKind NTerm (h .brackets) ≡ [])
+Outside n Labiles h = Written n Labiles h × Within h × (h .residues ≡ []) × (endingAt NTerm 0 (h .brackets) ≡ [])
 Outside n NTerms h = Written n NTerms h × Within h × (h .residues ≡ []) × (none? (nterms (h .brackets)) ≡ false)
 Outside n Start h = Written n Start h × Within h
 Outside n Single h = Written n Single h × Within h × Last isPlainly h
@@ -167,7 +166,7 @@ Outside n RangeEnd h = Written n RangeEnd h × Within h × Last isRanged h
 Outside n Ranged h = Written n Ranged h × Within h × Last isRanged h
 Outside n UnsureEnd h = Written n UnsureEnd h × Within h
 Outside n CStart h = Written n CStart h × Within h
-Outside n CTerms h = Written n CTerms h × (none? (cterms (h .brackets)) ≡ false)
+Outside n CTerms h = Written n CTerms h × (none? (cterms h) ≡ false)
 
 abbrev pub ClosedBy : Slot → ℕ → Parts → Type 0
 ClosedBy s j ps = (r : Bool) → Closed (s .shut) (s .refers) r (s .labels) j ps
@@ -250,9 +249,9 @@ low-one n ks k w h = each-append (λ q. q .last ≤ n) ks (k ∷ []) w (h, tt)
 head-other : (ks : Brackets) (k : Bracket Place) → hasKind Unknown k ≡ false → hasKind Labile k ≡ false → hasKind NTerm k ≡ false → head (ks ++ (k ∷ [])) ≡ head ks
 unfolding head
 head-other ks k e f g =
-    ap (λ z. closedBy (flat unknownText z) question ++ labiles (ks ++ (k ∷ [])) ++ closedBy (nterms (ks ++ (k ∷ []))) dash) (kind-none Unknown ks k e)
-    ∙ ap (λ z. unknowns ks ++ flat curlyText z ++ closedBy (nterms (ks ++ (k ∷ []))) dash) (kind-none Labile ks k f)
-    ∙ ap (λ z. unknowns ks ++ labiles ks ++ closedBy (flat squareText z) dash) (kind-none NTerm ks k g)
+    ap (λ z. closedBy (flat unknownText z) question ++ labiles (ks ++ (k ∷ [])) ++ closedBy (nterms (ks ++ (k ∷ []))) dash) (ending-kind Unknown 0 ks k e)
+    ∙ ap (λ z. unknowns ks ++ flat curlyText z ++ closedBy (nterms (ks ++ (k ∷ []))) dash) (ending-kind Labile 0 ks k f)
+    ∙ ap (λ z. unknowns ks ++ labiles ks ++ closedBy (flat squareText z) dash) (ending-kind NTerm 0 ks k g)
 
 -- ---- brackets on residues, ranges and the C-terminus
 last-position : (f : Section → Bool) (h : Held Place) (w : Last f h) → length (h .residues) ≡ 1 + length (w .before)
@@ -339,27 +338,32 @@ body-cterm h ps =
     ap (λ z. z ++ sequenceText (h .brackets ++ (bracketOf CTerm tt ps h ∷ [])) 1 (h .residues)) (head-other (h .brackets) (bracketOf CTerm tt ps h) refl refl refl)
     ∙ ap (λ z. head (h .brackets) ++ z) (sequence-other (h .brackets) 1 (h .residues) (bracketOf CTerm tt ps h) refl refl)
 
-cterms-one : (h : Held Place) (ps : Parts) → cterms (h .brackets ++ (bracketOf CTerm tt ps h ∷ [])) ≡ cterms (h .brackets) ++ squareText (bracketOf CTerm tt ps h)
-cterms-one h ps = ap (flat squareText) (kind-one CTerm (h .brackets) (bracketOf CTerm tt ps h) refl) ∙ flat-one (ofKind CTerm (h .brackets)) (bracketOf CTerm tt ps h)
+cterms-one : (h : Held Place) (ps : Parts) → cterms (settled (bracketOf CTerm tt ps h) h) ≡ cterms h ++ squareText (bracketOf CTerm tt ps h)
+cterms-one h ps =
+    let n = 1 + length (h .residues) in
+    ap (flat squareText) (ending-one CTerm n (h .brackets) (bracketOf CTerm tt ps h) refl (omega arith)) ∙ flat-one (endingAt CTerm n (h .brackets)) (bracketOf CTerm tt ps h)
 
 on-cterm : (h : Held Place) (ps : Parts) → text CTerms (settled (bracketOf CTerm tt ps h) h) ≡ text CTerms h ++ squareText (bracketOf CTerm tt ps h)
 unfolding text
 on-cterm h ps =
-    ap (λ z. z ++ (dash ∷ cterms (h .brackets ++ (bracketOf CTerm tt ps h ∷ [])))) (body-cterm h ps)
+    ap (λ z. z ++ (dash ∷ cterms (settled (bracketOf CTerm tt ps h) h))) (body-cterm h ps)
     ∙ ap (λ z. body h ++ (dash ∷ z)) (cterms-one h ps)
-    ∙ sym (append-assoc (body h) (dash ∷ cterms (h .brackets)) (squareText (bracketOf CTerm tt ps h)))
+    ∙ sym (append-assoc (body h) (dash ∷ cterms h) (squareText (bracketOf CTerm tt ps h)))
 
-first-cterm : (h : Held Place) → ofKind CTerm (h .brackets) ≡ [] → text CTerms h ≡ text CStart h
+pub no-cterm : (h : Held Place) → Within h → endingAt CTerm (1 + length (h .residues)) (h .brackets) ≡ []
+no-cterm h w = none-above CTerm (1 + length (h .residues)) (length (h .residues)) (h .brackets) w (omega arith)
+
+first-cterm : (h : Held Place) → Within h → text CTerms h ≡ text CStart h
 unfolding text flat
-first-cterm h e = ap (λ z. body h ++ (dash ∷ flat squareText z)) e
+first-cterm h w = ap (λ z. body h ++ (dash ∷ flat squareText z)) (no-cterm h w)
 
 -- ---- residues
 own-none : (h : Held Place) → Within h → own (h .brackets) (1 + length (h .residues)) ≡ []
 unfolding flat
-own-none h w = ap (flat squareText) (none-above OnResidue (1 + length (h .residues)) (length (h .residues)) (h .brackets) (w .low) (omega arith))
+own-none h w = ap (flat squareText) (none-above OnResidue (1 + length (h .residues)) (length (h .residues)) (h .brackets) w (omega arith))
 
 ranged-none : (h : Held Place) → Within h → endingAt OnRange (1 + length (h .residues)) (h .brackets) ≡ []
-ranged-none h w = none-above OnRange (1 + length (h .residues)) (length (h .residues)) (h .brackets) (w .low) (omega arith)
+ranged-none h w = none-above OnRange (1 + length (h .residues)) (length (h .residues)) (h .brackets) w (omega arith)
 
 abbrev residueOf : ℕ → Section → Residue Place
 residueOf b s = record { letter = upper b; section = s; at = tt }
@@ -368,7 +372,7 @@ residue-length : (h : Held Place) (b : ℕ) (s : Section) → length (h .residue
 residue-length h b s = length-append (h .residues) (residueOf b s ∷ []) ∙ omega arith
 
 within-residue : (h : Held Place) (b : ℕ) (s : Section) → Within h → Within (withResidue tt b s h)
-within-residue h b s w = record { low = low-more (length (h .residues)) _ (h .brackets) (w .low) (rw (residue-length h b s) (omega arith)); no-cterm = w .no-cterm }
+within-residue h b s w = low-more (length (h .residues)) _ (h .brackets) w (rw (residue-length h b s) (omega arith))
 
 last-residue : (f : Section → Bool) (h : Held Place) (b : ℕ) (s : Section) → f s ≡ true → Last f (withResidue tt b s h)
 last-residue f h b s e = record { before = h .residues; residue = residueOf b s; is = refl; section = e }
@@ -466,9 +470,8 @@ step-further m h b n g d w v =
     (λ e. step-element m h b n g w v)
 
 -- ---- the sequence, one byte further
-within-bracket : (c : Kind) (h : Held Place) (ps : Parts) → Within h → bracketOf c tt ps h .last ≤ length (h .residues) → hasKind CTerm (bracketOf c tt ps h) ≡ false → Within (settled (bracketOf c tt ps h) h)
-within-bracket c h ps w e f =
-    record { low = low-one (length (h .residues)) (h .brackets) (bracketOf c tt ps h) (w .low) e; no-cterm = kind-none CTerm (h .brackets) (bracketOf c tt ps h) f ∙ w .no-cterm }
+within-bracket : (c : Kind) (h : Held Place) (ps : Parts) → Within h → bracketOf c tt ps h .last ≤ length (h .residues) → Within (settled (bracketOf c tt ps h) h)
+within-bracket c h ps w e = low-one (length (h .residues)) (h .brackets) (bracketOf c tt ps h) w e
 
 last-bracket : (f : Section → Bool) (h : Held Place) (k : Bracket Place) → Last f h → Last f (settled k h)
 last-bracket f h k l = record { before = l .before; residue = l .residue; is = l .is; section = l .section }
@@ -486,7 +489,7 @@ step-single h b n w =
     (λ ps j g.
     after ps Single (suc n + j) (settled (bracketOf OnResidue tt ps h) h) (
       add-square Single Single OnResidue true h ps n j refl (λ k z. refl) (w .0) g (on-single h ps (w .2)),
-      within-bracket OnResidue h ps (w .1) (omega arith) refl,
+      within-bracket OnResidue h ps (w .1) (omega arith),
       last-bracket isPlainly h (bracketOf OnResidue tt ps h) (w .2),
     )))
     (λ e. step-further Single h b n between-single refl (w .0) (w .1))
@@ -552,7 +555,7 @@ step-inRange h b n w =
     (λ ps j g.
     after ps InRange (suc n + j) (settled (bracketOf OnResidue tt ps h) h) (
       add-square InRange InRange OnResidue true h ps n j refl (λ k z. refl) (w .0) g (on-open isRanged h ps (w .2)),
-      within-bracket OnResidue h ps (w .1) (omega arith) refl,
+      within-bracket OnResidue h ps (w .1) (omega arith),
       last-bracket isRanged h (bracketOf OnResidue tt ps h) (w .2),
       (ending-kind OnRange (length (h .residues)) (h .brackets) (bracketOf OnResidue tt ps h) refl ∙ w .3),
     )))
@@ -576,7 +579,7 @@ step-inUnsure h b n w =
     (λ ps j g.
     after ps InUnsure (suc n + j) (settled (bracketOf OnResidue tt ps h) h) (
       add-square InUnsure InUnsure OnResidue true h ps n j refl (λ k z. refl) (w .0) g (on-open isUnsure h ps (w .2)),
-      within-bracket OnResidue h ps (w .1) (omega arith) refl,
+      within-bracket OnResidue h ps (w .1) (omega arith),
       last-bracket isUnsure h (bracketOf OnResidue tt ps h) (w .2),
     )))
     (λ e.
@@ -592,7 +595,7 @@ step-rangeEnd h b n w =
     (λ ps j g.
     after ps Ranged (suc n + j) (settled (bracketOf OnRange tt ps h) h) (
       add-square RangeEnd Ranged OnRange false h ps n j refl (λ k z. refl) (w .0) g (on-range h ps (w .2)),
-      within-bracket OnRange h ps (w .1) (omega arith) refl,
+      within-bracket OnRange h ps (w .1) (omega arith),
       last-bracket isRanged h (bracketOf OnRange tt ps h) (w .2),
     )))
     (λ e. tt)
@@ -606,7 +609,7 @@ step-ranged h b n w =
     (λ ps j g.
     after ps Ranged (suc n + j) (settled (bracketOf OnRange tt ps h) h) (
       add-square Ranged Ranged OnRange false h ps n j refl (λ k z. refl) (w .0) g (on-range h ps (w .2)),
-      within-bracket OnRange h ps (w .1) (omega arith) refl,
+      within-bracket OnRange h ps (w .1) (omega arith),
       last-bracket isRanged h (bracketOf OnRange tt ps h) (w .2),
     )))
     (λ e. step-further Ranged h b n between-ranged refl (w .0) (w .1))
@@ -632,8 +635,8 @@ step-cStart h b n w =
     begins n b (square CTerm true CTerms) h
     (λ ps j g.
     after ps CTerms (suc n + j) (settled (bracketOf CTerm tt ps h) h) (
-      add-square CStart CTerms CTerm true h ps n j refl (λ k z. refl) (w .0) g (on-cterm h ps ∙ ap (λ z. z ++ squareText (bracketOf CTerm tt ps h)) (first-cterm h (w .1 .no-cterm))),
-      (ap none? (cterms-one h ps) ∙ some-square (cterms (h .brackets)) (bracketOf CTerm tt ps h)),
+      add-square CStart CTerms CTerm true h ps n j refl (λ k z. refl) (w .0) g (on-cterm h ps ∙ ap (λ z. z ++ squareText (bracketOf CTerm tt ps h)) (first-cterm h (w .1))),
+      (ap none? (cterms-one h ps) ∙ some-square (cterms h) (bracketOf CTerm tt ps h)),
     )))
     (λ e. tt)
 
@@ -646,7 +649,7 @@ step-cTerms h b n w =
     (λ ps j g.
     after ps CTerms (suc n + j) (settled (bracketOf CTerm tt ps h) h) (
       add-square CTerms CTerms CTerm true h ps n j refl (λ k z. refl) (w .0) g (on-cterm h ps),
-      (ap none? (cterms-one h ps) ∙ some-square (cterms (h .brackets)) (bracketOf CTerm tt ps h)),
+      (ap none? (cterms-one h ps) ∙ some-square (cterms h) (bracketOf CTerm tt ps h)),
     )))
     (λ e. tt)
 
@@ -656,7 +659,7 @@ unfolding flat
 flat-curly l k = flat-append curlyText l (k ∷ []) ∙ ap (λ z. flat curlyText l ++ z) (append-nil (curlyText k))
 
 -- nothing behind the labile brackets
-pub bare-body : (h : Held Place) → h .residues ≡ [] → ofKind NTerm (h .brackets) ≡ [] → body h ≡ unknowns (h .brackets) ++ labiles (h .brackets)
+pub bare-body : (h : Held Place) → h .residues ≡ [] → endingAt NTerm 0 (h .brackets) ≡ [] → body h ≡ unknowns (h .brackets) ++ labiles (h .brackets)
 unfolding head sequenceText flat
 bare-body h e f =
     ap (λ z. head (h .brackets) ++ sequenceText (h .brackets) 1 z) e
@@ -664,11 +667,11 @@ bare-body h e f =
     ∙ ap (λ z. unknowns (h .brackets) ++ labiles (h .brackets) ++ closedBy (flat squareText z) dash) f
     ∙ append-nil (unknowns (h .brackets) ++ labiles (h .brackets))
 
-on-labile : (h : Held Place) (ps : Parts) → h .residues ≡ [] → ofKind NTerm (h .brackets) ≡ [] → body (settled (bracketOf Labile tt ps h) h) ≡ body h ++ curlyText (bracketOf Labile tt ps h)
+on-labile : (h : Held Place) (ps : Parts) → h .residues ≡ [] → endingAt NTerm 0 (h .brackets) ≡ [] → body (settled (bracketOf Labile tt ps h) h) ≡ body h ++ curlyText (bracketOf Labile tt ps h)
 on-labile h ps e f =
-    bare-body (settled (bracketOf Labile tt ps h) h) e (kind-none NTerm (h .brackets) (bracketOf Labile tt ps h) refl ∙ f)
-    ∙ ap (λ z. closedBy (flat unknownText z) question ++ labiles (h .brackets ++ (bracketOf Labile tt ps h ∷ []))) (kind-none Unknown (h .brackets) (bracketOf Labile tt ps h) refl)
-    ∙ ap (λ z. unknowns (h .brackets) ++ z) (ap (flat curlyText) (kind-one Labile (h .brackets) (bracketOf Labile tt ps h) refl) ∙ flat-curly (ofKind Labile (h .brackets)) (bracketOf Labile tt ps h))
+    bare-body (settled (bracketOf Labile tt ps h) h) e (ending-kind NTerm 0 (h .brackets) (bracketOf Labile tt ps h) refl ∙ f)
+    ∙ ap (λ z. closedBy (flat unknownText z) question ++ labiles (h .brackets ++ (bracketOf Labile tt ps h ∷ []))) (ending-kind Unknown 0 (h .brackets) (bracketOf Labile tt ps h) refl)
+    ∙ ap (λ z. unknowns (h .brackets) ++ z) (ap (flat curlyText) (ending-one Labile 0 (h .brackets) (bracketOf Labile tt ps h) refl (ap length e)) ∙ flat-curly (endingAt Labile 0 (h .brackets)) (bracketOf Labile tt ps h))
     ∙ sym (append-assoc (unknowns (h .brackets)) (labiles (h .brackets)) (curlyText (bracketOf Labile tt ps h)))
     ∙ ap (λ z. z ++ curlyText (bracketOf Labile tt ps h)) (sym (bare-body h e f))
 
@@ -685,33 +688,33 @@ add-curly m h ps n j e w g f =
       short = rw (f, length-append (text m h) (curlyText (bracketOf Labile tt ps h)), curly-length (bracketOf Labile tt ps h)) (omega (arith, w .short, g false .short));
     }
 
-pub step-labile : (m : Mode) (h : Held Place) (b n : ℕ) → act m openCurly ≡ Begin labile → Between m → Written n m h → Within h → h .residues ≡ [] → ofKind NTerm (h .brackets) ≡ [] → Reached (suc n) (perform tt b h (Begin labile))
+pub step-labile : (m : Mode) (h : Held Place) (b n : ℕ) → act m openCurly ≡ Begin labile → Between m → Written n m h → Within h → h .residues ≡ [] → endingAt NTerm 0 (h .brackets) ≡ [] → Reached (suc n) (perform tt b h (Begin labile))
 unfolding Outside text
 step-labile m h b n e s w v r f =
     begins n b labile h
     (λ ps j g.
     after ps Labiles (suc n + j) (settled (bracketOf Labile tt ps h) h) (
       add-curly m h ps n j e w g (on-labile h ps r f ∙ ap (λ z. z ++ curlyText (bracketOf Labile tt ps h)) (sym (s .shows h))),
-      within-bracket Labile h ps v (omega arith) refl,
+      within-bracket Labile h ps v (omega arith),
       r,
-      (kind-none NTerm (h .brackets) (bracketOf Labile tt ps h) refl ∙ f),
+      (ending-kind NTerm 0 (h .brackets) (bracketOf Labile tt ps h) refl ∙ f),
     ))
 
-nterms-one : (h : Held Place) (ps : Parts) → nterms (h .brackets ++ (bracketOf NTerm tt ps h ∷ [])) ≡ nterms (h .brackets) ++ squareText (bracketOf NTerm tt ps h)
-nterms-one h ps = ap (flat squareText) (kind-one NTerm (h .brackets) (bracketOf NTerm tt ps h) refl) ∙ flat-one (ofKind NTerm (h .brackets)) (bracketOf NTerm tt ps h)
+nterms-one : (h : Held Place) (ps : Parts) → h .residues ≡ [] → nterms (h .brackets ++ (bracketOf NTerm tt ps h ∷ [])) ≡ nterms (h .brackets) ++ squareText (bracketOf NTerm tt ps h)
+nterms-one h ps e = ap (flat squareText) (ending-one NTerm 0 (h .brackets) (bracketOf NTerm tt ps h) refl (ap length e)) ∙ flat-one (endingAt NTerm 0 (h .brackets)) (bracketOf NTerm tt ps h)
 
-on-nterm : (h : Held Place) (ps : Parts) → text NTerms (settled (bracketOf NTerm tt ps h) h) ≡ text NTerms h ++ squareText (bracketOf NTerm tt ps h)
+on-nterm : (h : Held Place) (ps : Parts) → h .residues ≡ [] → text NTerms (settled (bracketOf NTerm tt ps h) h) ≡ text NTerms h ++ squareText (bracketOf NTerm tt ps h)
 unfolding text
-on-nterm h ps =
-    ap (λ z. closedBy (flat unknownText z) question ++ labiles (h .brackets ++ (k ∷ [])) ++ nterms (h .brackets ++ (k ∷ []))) (kind-none Unknown (h .brackets) k refl)
-    ∙ ap (λ z. unknowns (h .brackets) ++ flat curlyText z ++ nterms (h .brackets ++ (k ∷ []))) (kind-none Labile (h .brackets) k refl)
-    ∙ ap (λ z. unknowns (h .brackets) ++ labiles (h .brackets) ++ z) (nterms-one h ps)
+on-nterm h ps e =
+    ap (λ z. closedBy (flat unknownText z) question ++ labiles (h .brackets ++ (k ∷ [])) ++ nterms (h .brackets ++ (k ∷ []))) (ending-kind Unknown 0 (h .brackets) k refl)
+    ∙ ap (λ z. unknowns (h .brackets) ++ flat curlyText z ++ nterms (h .brackets ++ (k ∷ []))) (ending-kind Labile 0 (h .brackets) k refl)
+    ∙ ap (λ z. unknowns (h .brackets) ++ labiles (h .brackets) ++ z) (nterms-one h ps e)
     ∙ sym (append-assoc (unknowns (h .brackets) ++ labiles (h .brackets)) (nterms (h .brackets)) (squareText k))
   where
     k : Bracket Place
     k = bracketOf NTerm tt ps h
 
-first-nterm : (h : Held Place) → h .residues ≡ [] → ofKind NTerm (h .brackets) ≡ [] → text NTerms h ≡ text Labiles h
+first-nterm : (h : Held Place) → h .residues ≡ [] → endingAt NTerm 0 (h .brackets) ≡ [] → text NTerms h ≡ text Labiles h
 unfolding text flat
 first-nterm h e f =
     ap (λ z. unknowns (h .brackets) ++ labiles (h .brackets) ++ flat squareText z) f ∙ append-nil (unknowns (h .brackets) ++ labiles (h .brackets)) ∙ sym (bare-body h e f)
@@ -722,10 +725,10 @@ step-nterm m h b n e w v r f =
     begins n b (square NTerm true NTerms) h
     (λ ps j g.
     after ps NTerms (suc n + j) (settled (bracketOf NTerm tt ps h) h) (
-      add-square m NTerms NTerm true h ps n j e (λ k z. refl) w g (on-nterm h ps ∙ ap (λ z. z ++ squareText (bracketOf NTerm tt ps h)) f),
-      within-bracket NTerm h ps v (omega arith) refl,
+      add-square m NTerms NTerm true h ps n j e (λ k z. refl) w g (on-nterm h ps r ∙ ap (λ z. z ++ squareText (bracketOf NTerm tt ps h)) f),
+      within-bracket NTerm h ps v (omega arith),
       r,
-      (ap none? (nterms-one h ps) ∙ some-square (nterms (h .brackets)) (bracketOf NTerm tt ps h)),
+      (ap none? (nterms-one h ps r) ∙ some-square (nterms (h .brackets)) (bracketOf NTerm tt ps h)),
     ))
 
 pub step-labiles : (h : Held Place) (b n : ℕ) → Outside n Labiles h → Reached (suc n) (perform tt b h (act Labiles b))

@@ -16,7 +16,7 @@ use Rattle.scope.specs.Canonical.{squareText, ofKind, endingAt, opening, ending
 use Rattle.scope.specs.Kinds.{kindCode}
 use Rattle.basics.specs.Lists.{keep-append, flat-append}
 use Rattle.basics.specs.Choice.{pick-true, pick-false}
-use Rattle.basics.specs.Each.{Each}
+use Rattle.basics.specs.Each.{Each, each-one}
 use Rattle.reading_laws.specs.Unnoted.{Place}
 use Rattle.canonical_laws.specs.Unknowns.{Brackets}
 
@@ -35,10 +35,10 @@ keep-none : {A : Type 0} (f : A → Bool) (l : List A) (x : A) → f x ≡ false
 unfolding keep
 keep-none f l x e = keep-append f l (x ∷ []) ∙ ap (λ z. keep f l ++ z) (append-nil (cond (f x) (x ∷ []) []) ∙ pick-false (f x) _ _ e) ∙ append-nil (keep f l)
 
-pub kind-one : (c : Kind) (ks : Brackets) (k : Bracket Place) → hasKind c k ≡ true → ofKind c (ks ++ (k ∷ [])) ≡ ofKind c ks ++ (k ∷ [])
+kind-one : (c : Kind) (ks : Brackets) (k : Bracket Place) → hasKind c k ≡ true → ofKind c (ks ++ (k ∷ [])) ≡ ofKind c ks ++ (k ∷ [])
 kind-one c ks k e = keep-one (hasKind c) ks k e
 
-pub kind-none : (c : Kind) (ks : Brackets) (k : Bracket Place) → hasKind c k ≡ false → ofKind c (ks ++ (k ∷ [])) ≡ ofKind c ks
+kind-none : (c : Kind) (ks : Brackets) (k : Bracket Place) → hasKind c k ≡ false → ofKind c (ks ++ (k ∷ [])) ≡ ofKind c ks
 kind-none c ks k e = keep-none (hasKind c) ks k e
 
 pub ending-one : (c : Kind) (i : ℕ) (ks : Brackets) (k : Bracket Place) → hasKind c k ≡ true → k .last ≡ i → endingAt c i (ks ++ (k ∷ [])) ≡ endingAt c i ks ++ (k ∷ [])
@@ -53,6 +53,28 @@ ending-place c i ks k f = go (hasKind c k) refl
     go : (t : Bool) → hasKind c k ≡ t → endingAt c i (ks ++ (k ∷ [])) ≡ endingAt c i ks
     go true e = ap (keep (λ q. eqb (q .last) i)) (kind-one c ks k e) ∙ keep-none (λ q. eqb (q .last) i) (ofKind c ks) k (ne-eqb (k .last) i f)
     go false e = ending-kind c i ks k e
+
+-- two lists, one behind the other
+pub ending-append : (c : Kind) (i : ℕ) (l m : Brackets) → endingAt c i (l ++ m) ≡ endingAt c i l ++ endingAt c i m
+ending-append c i l m = ap (keep (λ q. eqb (q .last) i)) (keep-append (hasKind c) l m) ∙ keep-append (λ q. eqb (q .last) i) (ofKind c l) (ofKind c m)
+
+-- all of a kind and a position, or none of the kind
+keep-all : {A : Type 0} (f : A → Bool) (l : List A) → Each (λ x. f x ≡ true) l → keep f l ≡ l
+unfolding keep
+keep-all f [] w = refl
+keep-all f (x ∷ l) w = ap (λ z. cond z (x ∷ []) [] ++ keep f l) (w .0) ∙ ap (λ z. x ∷ z) (keep-all f l (w .1))
+
+pub ending-all : (c : Kind) (i : ℕ) (ks : Brackets) → Each (λ k. (k .kind ≡ c) × (k .last ≡ i)) ks → endingAt c i ks ≡ ks
+ending-all c i ks w =
+    ap (keep (λ q. eqb (q .last) i))
+    (keep-all (hasKind c) ks (each-one (λ k. (k .kind ≡ c) × (k .last ≡ i)) (λ k. hasKind c k ≡ true) (λ k v. eq-eqb _ _ (ap kindCode (v .0))) ks w))
+    ∙ keep-all (λ q. eqb (q .last) i) ks
+    (each-one (λ k. (k .kind ≡ c) × (k .last ≡ i)) (λ k. eqb (k .last) i ≡ true) (λ k v. eq-eqb _ _ (v .1)) ks w)
+
+pub ending-other : (c : Kind) (i : ℕ) (ks : Brackets) → Each (λ k. hasKind c k ≡ false) ks → endingAt c i ks ≡ []
+unfolding keep
+ending-other c i [] w = refl
+ending-other c i (k ∷ ks) w = ap (λ z. keep (λ q. eqb (q .last) i) (cond z (k ∷ []) [] ++ ofKind c ks)) (w .0) ∙ ending-other c i ks (w .1)
 
 -- no bracket ends behind the last residue
 abbrev pub Low : ℕ → Brackets → Type 0

@@ -17,7 +17,7 @@ use Rattle.scope.specs.Content.{isReference}
 use Rattle.scope.specs.Reading.{refers?}
 use Rattle.scope.specs.Refusals.{textIn}
 use Rattle.scope.specs.Modifications.{isKey, isModification, nameOf, namesOf, copies, definedBy, referredBy}
-use Rattle.scope.specs.Canonical.{size, scoreText, valueText, labelText, partText, partsText, squareText, curlyText, unknownText, ofKind, endingAt, goesOn, sequenceText, canonical}
+use Rattle.scope.specs.Canonical.{size, scoreText, valueText, labelText, partText, partsText, squareText, curlyText, unknownText, ofKind, endingAt, goesOn, sequenceText, chainText, canonical}
 use Rattle.scope.specs.Tables.{bareNumber, bareLabel, bareValue, barePart, bareBracket, bareResidue, tablesOf, millionths, scoreOf}
 use Rattle.scope.specs.Layout.{massIn, decimalsIn, packed, valueCode, partRow, partRows, scoreCode, bracketRow, bracketTexts, rows, sectionCode, bytesOf, numberRow, numbersOf}
 use Rattle.scope.specs.Positions.{nTerminus, cTerminus, sites, isPlaced, placedOn, struckOut, floaters, referredAt, mayStand, permitted, permittedPositions, positions}
@@ -69,11 +69,13 @@ module _ {P : Type 0} where
   ending-at : (c : Kind) (i : ℕ) (ks : List (Bracket P)) → endingAt c i (map bareBracket ks) ≡ map bareBracket (endingAt c i ks)
   ending-at c i ks = ap (keep (λ k. eqb (k .last) i)) (of-kind c ks) ∙ keep-map _ _ bareBracket (λ k. refl) (ofKind c ks)
 
-  squares-at : (c : Kind) (i : ℕ) (ks : List (Bracket P)) → flat squareText (endingAt c i (map bareBracket ks)) ≡ flat squareText (endingAt c i ks)
-  squares-at c i ks = ap (flat squareText) (ending-at c i ks) ∙ flat-map squareText squareText bareBracket square-text (endingAt c i ks)
+  texts-at :
+      (f : Bracket (Unit {0}) → List ℕ) (g : Bracket P → List ℕ) → ((k : Bracket P) → f (bareBracket k) ≡ g k) → (c : Kind) (i : ℕ) (ks : List (Bracket P))
+      → flat f (endingAt c i (map bareBracket ks)) ≡ flat g (endingAt c i ks)
+  texts-at f g e c i ks = ap (flat f) (ending-at c i ks) ∙ flat-map f g bareBracket e (endingAt c i ks)
 
-  squares-of : (c : Kind) (ks : List (Bracket P)) → flat squareText (ofKind c (map bareBracket ks)) ≡ flat squareText (ofKind c ks)
-  squares-of c ks = ap (flat squareText) (of-kind c ks) ∙ flat-map squareText squareText bareBracket square-text (ofKind c ks)
+  squares-at : (c : Kind) (i : ℕ) (ks : List (Bracket P)) → flat squareText (endingAt c i (map bareBracket ks)) ≡ flat squareText (endingAt c i ks)
+  squares-at = texts-at squareText squareText square-text
 
   goes-on : (rs : List (Residue P)) → goesOn (map bareResidue rs) ≡ goesOn rs
   goes-on [] = refl
@@ -85,15 +87,16 @@ module _ {P : Type 0} where
   sequence-text ks i [] = refl
   sequence-text ks i (r ∷ rs) = rw (squares-at OnResidue i ks, squares-at OnRange i ks, goes-on rs, sequence-text ks (i + 1) rs)
 
+  chain-text : (ks : List (Bracket P)) (p : ℕ) (rs : List (Residue P)) → chainText (map bareBracket ks) p (map bareResidue rs) ≡ chainText ks p rs
+  unfolding chainText
+  chain-text ks p rs =
+      let u = texts-at unknownText unknownText unknown-text Unknown p ks in
+      let v = texts-at curlyText curlyText curly-text Labile p ks in
+      rw (length-map rs bareResidue, u, v, squares-at NTerm p ks, squares-at CTerm (p + 1 + length rs) ks, sequence-text ks (p + 1) rs)
+
   pub same-canonical : (l : Line P) → canonical (tablesOf l) ≡ canonical l
   unfolding canonical tablesOf
-  same-canonical l =
-      let ks = l .brackets in
-      let u : flat unknownText (ofKind Unknown (map bareBracket ks)) ≡ flat unknownText (ofKind Unknown ks) = ap (flat unknownText)
-      (of-kind Unknown ks) ∙ flat-map unknownText unknownText bareBracket unknown-text (ofKind Unknown ks) in
-      let v : flat curlyText (ofKind Labile (map bareBracket ks)) ≡ flat curlyText (ofKind Labile ks) = ap (flat curlyText) (of-kind Labile ks)
-      ∙ flat-map curlyText curlyText bareBracket curly-text (ofKind Labile ks) in
-      rw (u, v, squares-of NTerm ks, squares-of CTerm ks, sequence-text ks 1 (l .residues))
+  same-canonical l = chain-text (l .brackets) 0 (l .residues)
 
   -- ---- the areas
   text-in : (v : Value P) → textIn (bareValue v) ≡ textIn v

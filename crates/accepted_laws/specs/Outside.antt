@@ -82,26 +82,17 @@ pub record BracketShape {P : Type 0} (n : ℕ) (k : Bracket P) : Type 0 where
   pub uncounted : isUnknown (k .kind) ≡ false → k .counted ≡ none
   pub single : k .counted ≡ none → k .count ≡ 1
 
--- it has no position
-pub record Nowhere (first last : ℕ) : Type 0 where
-  pub first-0 : first ≡ 0
-  pub last-0 : last ≡ 0
-
 -- a bracket at the front, whose kind is not settled
-pub record RunShape {P : Type 0} (k : Bracket P) : Type 0 where
-  pub some-part : 0 < length (k .parts)
-  pub parts : Each PartShape (k .parts)
-  pub lone : Each (λ p. isReference (p .value) ≡ true → length (k .parts) ≡ 1) (k .parts)
+pub record RunShape {P : Type 0} (n : ℕ) (k : Bracket P) : Type 0 where
   pub unknown : k .kind ≡ Unknown
-  pub stands : Nowhere (k .first) (k .last)
-  pub single : k .counted ≡ none → k .count ≡ 1
+  pub shape : BracketShape n k
 
 -- of m bytes read
 pub record HeldKeeps {P : Type 0} (m : ℕ) (h : Held P) : Type 0 where
   pub letters : Each (λ r. Byte (r .letter)) (h .residues)
   pub group : h .first ≤ length (h .residues)
   pub brackets : Each (BracketShape (length (h .residues))) (h .brackets)
-  pub run : Each RunShape (h .run)
+  pub run : Each (RunShape (length (h .residues))) (h .run)
   pub fits : length (flat bracketTexts (h .brackets)) + length (flat bracketTexts (h .run)) ≤ m
 
 pub record ModeKeeps {P : Type 0} (m : Mode) (h : Held P) : Type 0 where
@@ -134,10 +125,17 @@ stands-more k first last n s =
 stands-new : (k : Kind) (a n : ℕ) → a ≤ n → Stands k (positionOf k n a) (positionOf k n n) n
 stands-new k a n h = record { behind = n; group = a; ordered = h; inside = le-refl n; first-is = refl; last-is = refl }
 
--- at the front, where no residue is read
-stands-front : (k : Kind) (first last n : ℕ) → positionOf k 0 0 ≡ 0 → Nowhere first last → Stands k first last n
-stands-front k first last n e s =
-    record { behind = 0; group = 0; ordered = omega arith; inside = omega arith; first-is = s .first-0 ∙ sym e; last-is = s .last-0 ∙ sym e }
+-- one at the front stands there whatever its kind turns out to be
+stands-term : (k : Kind) (first last n : ℕ) → k ≡ Unknown → Stands k first last n → Stands NTerm first last n
+stands-term k first last n e s =
+    record {
+      behind = s .behind;
+      group = s .group;
+      ordered = s .ordered;
+      inside = s .inside;
+      first-is = s .first-is ∙ ap (λ z. positionOf z (s .behind) (s .group)) e;
+      last-is = s .last-is ∙ ap (λ z. positionOf z (s .behind) (s .behind)) e;
+    }
 
 first-new : (s : Section) (a n : ℕ) → a ≤ n → firstOf s (n + 1) a ≤ n + 1
 first-new Plain a n h = omega arith
@@ -181,7 +179,9 @@ module _ {P : Type 0} where
         brackets = rw l
             (each-one (BracketShape (length (h .residues))) (BracketShape (length (h .residues) + 1)) (shape-more (length (h .residues)))
             (h .brackets) (w .brackets));
-        run = w .run;
+        run = rw l
+            (each-one (RunShape (length (h .residues))) (RunShape (length (h .residues) + 1))
+            (λ k v. record { unknown = v .unknown; shape = shape-more (length (h .residues)) k (v .shape) }) (h .run) (w .run));
         fits = w .fits;
       }
 
@@ -214,7 +214,9 @@ module _ {P : Type 0} where
         fits = omega arith;
       }
 
-  waiting-keeps : (k : Bracket P) (h : Held P) (m q : ℕ) → HeldKeeps m h → RunShape k → length (bracketTexts k) ≤ q → HeldKeeps (m + q) (waiting k h)
+  waiting-keeps :
+      (k : Bracket P) (h : Held P) (m q : ℕ) → HeldKeeps m h → RunShape (length (h .residues)) k → length (bracketTexts k) ≤ q
+      → HeldKeeps (m + q) (waiting k h)
   waiting-keeps k h m q w s e =
       let x = w .fits in
       let y = flat-append-length bracketTexts (h .run) (k ∷ []) in
@@ -223,30 +225,17 @@ module _ {P : Type 0} where
         letters = w .letters;
         group = w .group;
         brackets = w .brackets;
-        run = each-append RunShape (h .run) (k ∷ []) (w .run) (s, tt);
+        run = each-append (RunShape (length (h .residues))) (h .run) (k ∷ []) (w .run) (s, tt);
         fits = omega arith;
       }
 
   bracket-keeps :
       (k : Kind) (i : P) (ps : List (Part P)) (h : Held P) (m q : ℕ) → HeldKeeps m h → PartsShape q ps → HeldKeeps (m + q) (withBracket k i ps h)
   bracket-keeps k i ps h m q w s =
+      let new = bracket-shape k i ps h q (w .group) s in
       put-by (HeldKeeps (m + q)) k (bracketOf k i ps h) h
-      (λ u.
-      waiting-keeps (bracketOf k i ps h) h m q w
-      (record {
-        some-part = s .some-part;
-        parts = s .parts;
-        lone = s .lone;
-        unknown = u;
-        stands =
-            record {
-              first-0 = ap (λ k. positionOf k (length (h .residues)) (h .first)) u;
-              last-0 = ap (λ k. positionOf k (length (h .residues)) (length (h .residues))) u;
-            };
-        single = λ e. refl;
-      })
-      (s .fits))
-      (λ u. settled-keeps (bracketOf k i ps h) h m q w (bracket-shape k i ps h q (w .group) s) (s .fits))
+      (λ u. waiting-keeps (bracketOf k i ps h) h m q w (record { unknown = u; shape = new }) (s .fits))
+      (λ u. settled-keeps (bracketOf k i ps h) h m q w new (s .fits))
 
   bracket-mode : (o : Mode) (k : Kind) (i : P) (ps : List (Part P)) (h : Held P) → ModeKeeps o h → ModeKeeps o (withBracket k i ps h)
   bracket-mode o k i ps h w =
@@ -259,19 +248,23 @@ module _ {P : Type 0} where
       (λ u. record { some-residue = w .some-residue; uncounted = w .uncounted })
 
   -- ---- counts
-  counted-shape : (n : ℕ) (i : P) (k : Bracket P) → RunShape k → RunShape (times n i k)
-  counted-shape n i k w =
+  counted-shape : (n c : ℕ) (i : P) (k : Bracket P) → RunShape n k → RunShape n (times c i k)
+  counted-shape n c i k w =
+      let v = w .shape in
       record {
-        some-part = w .some-part;
-        parts = w .parts;
-        lone = w .lone;
         unknown = w .unknown;
-        stands = w .stands;
-        single = λ e. let z : _≡_ {A = ℕ} 0 1 = cc in absurd (omega arith);
+        shape = record {
+          some-part = v .some-part;
+          parts = v .parts;
+          lone = v .lone;
+          stands = v .stands;
+          uncounted = λ e. absurd (unknown-not (k .kind) (w .unknown) e);
+          single = λ e. let z : _≡_ {A = ℕ} 0 1 = cc in absurd (omega arith);
+        };
       }
 
-  digit-shape : (i : P) (b : ℕ) (k : Bracket P) → RunShape k → RunShape (countDigit i b k)
-  digit-shape i b k w = digit-by RunShape i b k (λ n p. counted-shape n p k w)
+  digit-shape : (n : ℕ) (i : P) (b : ℕ) (k : Bracket P) → RunShape n k → RunShape n (countDigit i b k)
+  digit-shape n i b k w = digit-by (RunShape n) i b k (λ c p. counted-shape n c p k w)
 
   digit-texts : (i : P) (b : ℕ) (k : Bracket P) → bracketTexts (countDigit i b k) ≡ bracketTexts k
   digit-texts i b k = digit-by (λ j. bracketTexts j ≡ bracketTexts k) i b k (λ n p. refl)
@@ -288,31 +281,21 @@ module _ {P : Type 0} where
         letters = w .letters;
         group = w .group;
         brackets = w .brackets;
-        run = each-last RunShape (countDigit i b) (digit-shape i b) (h .run) (w .run);
+        run = each-last (RunShape (length (h .residues))) (countDigit i b) (digit-shape (length (h .residues)) i b) (h .run) (w .run);
         fits = rw (last-texts i b (h .run)) (w .fits);
       }
 
   -- ---- the brackets at the front are settled
-  run-shape : (n : ℕ) (k : Bracket P) → RunShape k → BracketShape n k
-  run-shape n k w =
-      record {
-        some-part = w .some-part;
-        parts = w .parts;
-        lone = w .lone;
-        stands = stands-front (k .kind) (k .first) (k .last) n (ap (λ k. positionOf k 0 0) (w .unknown)) (w .stands);
-        uncounted = λ e. absurd (unknown-not (k .kind) (w .unknown) e);
-        single = w .single;
-      }
-
-  term-shape : (n : ℕ) (k : Bracket P) → RunShape k → k .counted ≡ none → BracketShape n (asNTerm k)
+  term-shape : (n : ℕ) (k : Bracket P) → RunShape n k → k .counted ≡ none → BracketShape n (asNTerm k)
   term-shape n k w e =
+      let v = w .shape in
       record {
-        some-part = w .some-part;
-        parts = w .parts;
-        lone = w .lone;
-        stands = stands-front NTerm (k .first) (k .last) n refl (w .stands);
+        some-part = v .some-part;
+        parts = v .parts;
+        lone = v .lone;
+        stands = stands-term (k .kind) (k .first) (k .last) n (w .unknown) (v .stands);
         uncounted = λ f. e;
-        single = w .single;
+        single = v .single;
       }
 
   texts-same :
@@ -372,13 +355,13 @@ module _ {P : Type 0} where
   perform-keeps i b m o h RunEnds q w e g = (
     held-more (settledRun (λ k. k) h) m (m + 1) (omega arith)
         (run-keeps (λ k. k) (λ k. refl) h m w
-        (each-one RunShape (BracketShape (length (h .residues))) (run-shape (length (h .residues))) (h .run) (w .run))),
+        (each-one (RunShape (length (h .residues))) (BracketShape (length (h .residues))) (λ k v. v .shape) (h .run) (w .run))),
     record { some-residue = λ f. absurd (false≢true f); uncounted = λ f. tt },
   )
   perform-keeps i b m o h TermEnds q w e g = (
     held-more (settledRun asNTerm h) m (m + 1) (omega arith)
         (run-keeps asNTerm (λ k. refl) h m w
-        (each-two RunShape (λ k. k .counted ≡ none) (λ k. BracketShape (length (h .residues)) (asNTerm k)) (term-shape (length (h .residues)))
+        (each-two (RunShape (length (h .residues))) (λ k. k .counted ≡ none) (λ k. BracketShape (length (h .residues)) (asNTerm k)) (term-shape (length (h .residues)))
         (h .run) (w .run) (e .uncounted g))),
     record { some-residue = λ f. absurd (false≢true f); uncounted = λ f. tt },
   )

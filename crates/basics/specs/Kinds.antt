@@ -1,20 +1,21 @@
 -- The kinds of brackets by their numbers: a number gives its kind back, so two kinds are the same where a test says so, and a rule over kinds is one
 -- test, computed over the list of them.
 use mathlib.Core.Path.{_≡_, refl, sym, ap, _∙_, subst}
-use mathlib.Core.Bool.{Bool, true, false}
+use mathlib.Core.Bool.{Bool, true, false, _&&_}
 use mathlib.Core.List.{List, [], _∷_}
 use Prim.Native.Nat.{ℕ, zero, suc, _+_, _-_, _≤_, _<_}
 use native.Mathlib.Omega.{arith}
-use lib.Dec.{ltb}
-use lib.ListN.{getD, drop, List·getD-eq-default}
+use lib.Dec.{eqb, ltb}
+use lib.ListN.{length, getD, drop, List·getD-eq-default}
 use borrow.Author.Tests.{eqb-true, eqb-false, ltb-true}
 use Rattle.scope.specs.declared.grammar.Kind.{Kind}
 use Rattle.scope.specs.declared.grammar.Kind.the-variants.{Unknown, Labile, NTerm, OnResidue, OnRange, CTerm}
 use Rattle.scope.specs.Bytes.{byteLimit}
-use Rattle.scope.specs.Kinds.{kindCode, kinds, kindIn, isKind}
+use Rattle.scope.specs.Kinds.{kindCode, kinds, kindIn, isKind, isOnRange}
 use Rattle.scope.specs.Reading.{positionOf}
+use Rattle.basics.specs.Choice.{branch}
 use Rattle.basics.specs.Each.{failing, first-passes}
-use Rattle.basics.specs.Tests.{agree, agreed, falsely}
+use Rattle.basics.specs.Tests.{agree, agreed, falsely, and-left, and-right}
 
 pub kind-back : (k : Kind) → kindIn (kindCode k) ≡ k
 kind-back Unknown = refl
@@ -34,6 +35,27 @@ else-unknown (suc (suc n)) p2 p3 p4 p5 p6 = sym (List·getD-eq-default kinds Unk
   where
     far : (n : ℕ) → kindCode Unknown < n → (n ≡ kindCode Labile → ⊥) → (n ≡ kindCode NTerm → ⊥) → (n ≡ kindCode OnResidue → ⊥) → (n ≡ kindCode OnRange → ⊥) → (n ≡ kindCode CTerm → ⊥) → kindCode CTerm ≤ n - 1
     far n l p2 p3 p4 p5 p6 = omega arith
+
+-- the same by order: numbers before and behind the others, and the numbers of kinds
+pub before-unknown : (n : ℕ) → n < kindCode Labile → Unknown ≡ kindIn n
+before-unknown zero h = refl
+before-unknown (suc zero) h = refl
+before-unknown (suc (suc n)) h = absurd (omega arith)
+
+pub behind-unknown : (n : ℕ) → kindCode CTerm < n → Unknown ≡ kindIn n
+behind-unknown n h = let far : kindCode CTerm ≤ n - 1 = omega arith in sym (List·getD-eq-default kinds Unknown far)
+
+abbrev numbered : ℕ → List Kind → Bool
+numbered i [] = true
+numbered i (k ∷ ks) = eqb (kindCode k) i && numbered (i + 1) ks
+
+numbered-at : (i n : ℕ) (ks : List Kind) → numbered i ks ≡ true → n < length ks → kindCode (getD ks n Unknown) ≡ i + n
+numbered-at i n [] e h = absurd (omega arith)
+numbered-at i zero (k ∷ ks) e h = eqb-true (kindCode k) i (and-left _ (numbered (i + 1) ks) e) ∙ omega arith
+numbered-at i (suc n) (k ∷ ks) e h = numbered-at (i + 1) n ks (and-right (eqb (kindCode k) i) _ e) (omega arith) ∙ omega arith
+
+pub code-back : (n : ℕ) → 0 < n → n ≤ kindCode CTerm → kindCode (kindIn n) ≡ n
+code-back n h l = numbered-at 1 (n - 1) kinds refl (omega arith) ∙ omega arith
 
 -- ---- the test of a kind
 pub is-kind : (j k : Kind) → isKind j k ≡ true → k ≡ j
@@ -62,9 +84,5 @@ kind-byte k = ltb-true (kindCode k) byteLimit (each-kind (λ j. ltb (kindCode j)
 
 -- ---- every position is one of the line
 pub position-few : (k : Kind) (n a : ℕ) → a ≤ n → positionOf k n a ≤ n + 1
-position-few Unknown n a h = omega arith
-position-few Labile n a h = omega arith
-position-few NTerm n a h = omega arith
-position-few OnResidue n a h = omega arith
-position-few OnRange n a h = omega arith
-position-few CTerm n a h = omega arith
+position-few k n a h =
+    branch (λ p. p ≤ n + 1) (isOnRange k) (omega arith) (branch (λ p. p ≤ n + 1) (isKind CTerm k) (omega arith) (omega arith))

@@ -18,7 +18,7 @@ use Rattle.scope.specs.declared.grammar.Act.the-variants.{Go, Residue as aResid
 use Rattle.scope.specs.Bytes.{isLetter, isDigit, isShutting, openSquare, openCurly, openRound, shutRound, caret, question, dash, value}
 use Rattle.scope.specs.Line.{Bracket, Residue}
 use Rattle.scope.specs.Content.{begin}
-use Rattle.scope.specs.Reading.{square, front, labile, element, further, groupFirst, inGroup, undecided, counted, referred, act, mayEnd, Held, nothing, firstOf, withResidue, positionOf, settled, waiting, put, withBracket, times, countDigit, withDigit, asNTerm, settledRun, State, outside, inside, perform, refers?, modeAfter, step, run, holds, ended, reading}
+use Rattle.scope.specs.Reading.{square, front, labile, element, further, groupFirst, inGroup, undecided, counted, referred, act, mayEnd, Held, nothing, firstOf, withResidue, positionOf, settled, put, withBracket, times, countDigit, withDigit, asNTerm, settledRun, State, outside, inside, perform, refers?, modeAfter, step, run, holds, ended, reading}
 use Rattle.scope.specs.Lists.{onLast, all as every, flat}
 use Rattle.basics.specs.Choice.{pick-true, pick-false}
 use Rattle.basics.specs.Tests.{and-left, and-right, letter-not}
@@ -36,6 +36,10 @@ Brackets = List (Bracket ℕ)
 
 abbrev held : Residues → Brackets → Brackets → ℕ → Held ℕ
 held rs ks run f = record { residues = rs; brackets = ks; run = run; first = f }
+
+-- at the front, where no residue is read yet: the brackets that are settled, and those that wait
+abbrev leading : Brackets → Brackets → Held ℕ
+leading ks run = held [] ks run 0
 
 -- ---- a bracket, the byte b of which is at the place i
 bracket : (i : ℕ) (m : Mode) (s : Slot) (h : Held ℕ) (b : ℕ) (x : Inside) → act m b ≡ Begin s → isShutting (s .shut) ≡ true → goodInside (s .refers) (s .labels) x ≡ true
@@ -470,32 +474,32 @@ run-ends m undecided-run = refl
 run-ends m counted-run = refl
 run-ends m counting-run = refl
 
-pub record Waited (i : ℕ) (m : Mode) (h : Held ℕ) (x : Inside) : Type 0 where
+pub record Waited (i : ℕ) (m : Mode) (bs ws : Brackets) (x : Inside) : Type 0 where
   pub mode : Mode
   pub bare : Bare mode
-  pub path : lineRun i (outside m h) (printSquare x) ≡ outside mode (waiting (bracketAt Unknown 0 0 i x) h)
+  pub path : lineRun i (outside m (leading bs ws)) (printSquare x) ≡ outside mode (leading bs (ws ++ (bracketAt Unknown 0 0 i x ∷ [])))
 
-wait-front : (i : ℕ) (m : Mode) (h : Held ℕ) (x : Inside) → act m openSquare ≡ Begin front → goodInside false true x ≡ true → Waited i m h x
-wait-front i m h x e g =
+wait-front : (i : ℕ) (m : Mode) (bs ws : Brackets) (x : Inside) → act m openSquare ≡ Begin front → goodInside false true x ≡ true → Waited i m bs ws x
+wait-front i m bs ws x e g =
     record {
       mode = Undecided;
       bare = undecided-bare;
-      path = bracket i m front h openSquare x e refl (allowed-too x g) ∙ ap (λ z. outside (cond z Referred Undecided) (waiting (bracketAt Unknown 0 0 i x) h)) (no-reference (i + 1) x g);
+      path = bracket i m front (leading bs ws) openSquare x e refl (allowed-too x g) ∙ ap (λ z. outside (cond z Referred Undecided) (leading bs (ws ++ (bracketAt Unknown 0 0 i x ∷ [])))) (no-reference (i + 1) x g);
     }
 
-wait-counted : (i : ℕ) (m : Mode) (h : Held ℕ) (x : Inside) → act m openSquare ≡ Begin (square Unknown false Counted) → goodInside false true x ≡ true → Waited i m h x
-wait-counted i m h x e g =
+wait-counted : (i : ℕ) (m : Mode) (bs ws : Brackets) (x : Inside) → act m openSquare ≡ Begin (square Unknown false Counted) → goodInside false true x ≡ true → Waited i m bs ws x
+wait-counted i m bs ws x e g =
     record {
       mode = Counted;
       bare = counted-bare;
-      path = bracket i m (square Unknown false Counted) h openSquare x e refl g ∙ ap (λ z. outside z (waiting (bracketAt Unknown 0 0 i x) h)) (same-mode (meansInside (i + 1) x) Counted);
+      path = bracket i m (square Unknown false Counted) (leading bs ws) openSquare x e refl g ∙ ap (λ z. outside z (leading bs (ws ++ (bracketAt Unknown 0 0 i x ∷ [])))) (same-mode (meansInside (i + 1) x) Counted);
     }
 
-waits : (i : ℕ) (m : Mode) (h : Held ℕ) (x : Inside) → InRun m → goodInside false true x ≡ true → Waited i m h x
+waits : (i : ℕ) (m : Mode) (bs ws : Brackets) (x : Inside) → InRun m → goodInside false true x ≡ true → Waited i m bs ws x
 unfolding act undecided counted
-waits i m h x undecided-run g = wait-front i Undecided h x refl g
-waits i m h x counted-run g = wait-counted i Counted h x refl g
-waits i m h x counting-run g = wait-counted i Counting h x refl g
+waits i m bs ws x undecided-run g = wait-front i Undecided bs ws x refl g
+waits i m bs ws x counted-run g = wait-counted i Counted bs ws x refl g
+waits i m bs ws x counting-run g = wait-counted i Counting bs ws x refl g
 
 front-opens : (m : Mode) → AtFront m → act m openSquare ≡ Begin front
 unfolding act
@@ -521,117 +525,116 @@ unfolding act
 counting-digit b e = pick-true (isDigit b) _ _ e
 
 -- p is the place of the first digit
-digits-run : (i p : ℕ) (ds : List ℕ) (rs : Residues) (ks l : Brackets) (f v : ℕ) (k : Bracket ℕ) → every isDigit ds ≡ true
-    → lineRun i (outside Counting (held rs ks (l ++ (times v p k ∷ [])) f)) ds ≡ outside Counting (held rs ks (l ++ (times (valueOn v ds) p k ∷ [])) f)
+digits-run : (i p : ℕ) (ds : List ℕ) (ks l : Brackets) (v : ℕ) (k : Bracket ℕ) → every isDigit ds ≡ true
+    → lineRun i (outside Counting (leading ks (l ++ (times v p k ∷ [])))) ds ≡ outside Counting (leading ks (l ++ (times (valueOn v ds) p k ∷ [])))
 unfolding every valueOn
-digits-run i p [] rs ks l f v k e = line-nil i _
-digits-run i p (b ∷ ds) rs ks l f v k e =
-    line-then i (outside Counting (held rs ks (l ++ (times v p k ∷ [])) f)) _ _ b ds (digit-run i Counting (held rs ks (l ++ (times v p k ∷ [])) f) b (counting-digit b (and-left (isDigit b) (every isDigit ds) e)))
-    (ap (λ z. lineRun (i + 1) (outside Counting (held rs ks z f)) ds) (last-snoc (countDigit i b) l (times v p k)) ∙ digits-run (i + 1) p ds rs ks l f (v * 10 + value b) k (and-right (isDigit b) (every isDigit ds) e))
+digits-run i p [] ks l v k e = line-nil i _
+digits-run i p (b ∷ ds) ks l v k e =
+    line-then i (outside Counting (leading ks (l ++ (times v p k ∷ [])))) _ _ b ds (digit-run i Counting (leading ks (l ++ (times v p k ∷ []))) b (counting-digit b (and-left (isDigit b) (every isDigit ds) e)))
+    (ap (λ z. lineRun (i + 1) (outside Counting (leading ks z)) ds) (last-snoc (countDigit i b) l (times v p k)) ∙ digits-run (i + 1) p ds ks l (v * 10 + value b) k (and-right (isDigit b) (every isDigit ds) e))
 
-count-run : (i j : ℕ) (ds : List ℕ) (rs : Residues) (ks l : Brackets) (f : ℕ) (x : Inside) → someOf isDigit ds ≡ true
-    → lineRun i (outside Caret (held rs ks (l ++ (bracketAt Unknown 0 0 j x ∷ [])) f)) ds ≡ outside Counting (held rs ks (l ++ (times (valueOn 0 ds) i (bracketAt Unknown 0 0 j x) ∷ [])) f)
+count-run : (i j : ℕ) (ds : List ℕ) (ks l : Brackets) (x : Inside) → someOf isDigit ds ≡ true
+    → lineRun i (outside Caret (leading ks (l ++ (bracketAt Unknown 0 0 j x ∷ [])))) ds ≡ outside Counting (leading ks (l ++ (times (valueOn 0 ds) i (bracketAt Unknown 0 0 j x) ∷ [])))
 unfolding every valueOn
-count-run i j [] rs ks l f x e = absurd (false≢true e)
-count-run i j (b ∷ ds) rs ks l f x e =
+count-run i j [] ks l x e = absurd (false≢true e)
+count-run i j (b ∷ ds) ks l x e =
     let k : Bracket ℕ = bracketAt Unknown 0 0 j x in
-    line-then i (outside Caret (held rs ks (l ++ (k ∷ [])) f)) _ _ b ds (digit-run i Caret (held rs ks (l ++ (k ∷ [])) f) b (caret-digit b (and-left (isDigit b) (every isDigit ds) e)))
-    (ap (λ z. lineRun (i + 1) (outside Counting (held rs ks z f)) ds) (last-snoc (countDigit i b) l k)
-    ∙ digits-run (i + 1) i ds rs ks l f (value b) k (and-right (isDigit b) (every isDigit ds) e)
-    ∙ ap (λ z. outside Counting (held rs ks (l ++ (times (valueOn z ds) i k ∷ [])) f)) (omega arith))
+    line-then i (outside Caret (leading ks (l ++ (k ∷ [])))) _ _ b ds (digit-run i Caret (leading ks (l ++ (k ∷ []))) b (caret-digit b (and-left (isDigit b) (every isDigit ds) e)))
+    (ap (λ z. lineRun (i + 1) (outside Counting (leading ks z)) ds) (last-snoc (countDigit i b) l k)
+    ∙ digits-run (i + 1) i ds ks l (value b) k (and-right (isDigit b) (every isDigit ds) e)
+    ∙ ap (λ z. outside Counting (leading ks (l ++ (times (valueOn z ds) i k ∷ [])))) (omega arith))
 
-pub record Noted (i : ℕ) (m : Mode) (h : Held ℕ) (l : List ℕ) (ks : Brackets) : Type 0 where
+pub record Noted (i : ℕ) (m : Mode) (bs ws : Brackets) (l : List ℕ) (ks : Brackets) : Type 0 where
   pub mode : Mode
   pub run : InRun mode
-  pub path : lineRun i (outside m h) l ≡ outside mode (held (h .residues) (h .brackets) (h .run ++ ks) (h .first))
+  pub path : lineRun i (outside m (leading bs ws)) l ≡ outside mode (leading bs (ws ++ ks))
 
-counted-mark : (i : ℕ) (o : Option (List ℕ)) (m : Mode) (h : Held ℕ) (x : Inside) → goodCount o ≡ true → Waited i m h x
-    → Noted i m h (printSquare x ++ printCount o) (counting (i + length (printSquare x)) o (bracketAt Unknown 0 0 i x) ∷ [])
-counted-mark i none m h x g w = record { mode = w .mode; run = bare-run (w .mode) (w .bare); path = ap (lineRun i (outside m h)) (append-nil (printSquare x)) ∙ w .path }
-counted-mark i (some ds) m h x g w =
-    let h₁ : Held ℕ = waiting (bracketAt Unknown 0 0 i x) h in
+counted-mark : (i : ℕ) (o : Option (List ℕ)) (m : Mode) (bs ws : Brackets) (x : Inside) → goodCount o ≡ true → Waited i m bs ws x
+    → Noted i m bs ws (printSquare x ++ printCount o) (counting (i + length (printSquare x)) o (bracketAt Unknown 0 0 i x) ∷ [])
+counted-mark i none m bs ws x g w = record { mode = w .mode; run = bare-run (w .mode) (w .bare); path = ap (lineRun i (outside m (leading bs ws))) (append-nil (printSquare x)) ∙ w .path }
+counted-mark i (some ds) m bs ws x g w =
+    let ws₁ : Brackets = ws ++ (bracketAt Unknown 0 0 i x ∷ []) in
     let j = i + length (printSquare x) in
     record {
       mode = Counting;
       run = counting-run;
       path =
-          line-further i (printSquare x) (caret ∷ ds) (outside m h) (outside (w .mode) h₁) _ (w .path)
-          (line-then j (outside (w .mode) h₁) (outside Caret h₁) _ caret ds (go j (w .mode) Caret h₁ caret (bare-caret (w .mode) (w .bare))) (count-run (j + 1) i ds (h .residues) (h .brackets) (h .run) (h .first) x g));
+          line-further i (printSquare x) (caret ∷ ds) (outside m (leading bs ws)) (outside (w .mode) (leading bs ws₁)) _ (w .path)
+          (line-then j (outside (w .mode) (leading bs ws₁)) (outside Caret (leading bs ws₁)) _ caret ds (go j (w .mode) Caret (leading bs ws₁) caret (bare-caret (w .mode) (w .bare))) (count-run (j + 1) i ds bs ws x g));
     }
 
-mark-run : (i : ℕ) (x : Marked) (m : Mode) (h : Held ℕ) → InRun m → goodMarked x ≡ true → Noted i m h (printMarked x) (meansMarked i x ∷ [])
-mark-run i x m h w g =
-    counted-mark i (x .count) m h (x .inside) (and-right (goodInside false true (x .inside)) (goodCount (x .count)) g) (waits i m h (x .inside) w (and-left (goodInside false true (x .inside)) (goodCount (x .count)) g))
+mark-run : (i : ℕ) (x : Marked) (m : Mode) (bs ws : Brackets) → InRun m → goodMarked x ≡ true → Noted i m bs ws (printMarked x) (meansMarked i x ∷ [])
+mark-run i x m bs ws w g =
+    counted-mark i (x .count) m bs ws (x .inside) (and-right (goodInside false true (x .inside)) (goodCount (x .count)) g) (waits i m bs ws (x .inside) w (and-left (goodInside false true (x .inside)) (goodCount (x .count)) g))
 
-marks-on : (i : ℕ) (xs : List Marked) (x : Marked) (m : Mode) (h : Held ℕ) → every goodMarked xs ≡ true → Noted i m h (printMarked x) (meansMarked i x ∷ []) → Noted i m h (flat printMarked (x ∷ xs)) (along printMarked meansMarked i (x ∷ xs))
-marks-on i [] x m h g w =
+marks-on : (i : ℕ) (xs : List Marked) (x : Marked) (m : Mode) (bs ws : Brackets) → every goodMarked xs ≡ true → Noted i m bs ws (printMarked x) (meansMarked i x ∷ []) → Noted i m bs ws (flat printMarked (x ∷ xs)) (along printMarked meansMarked i (x ∷ xs))
+marks-on i [] x m bs ws g w =
     record {
       mode = w .mode;
       run = w .run;
       path =
-          ap (lineRun i (outside m h)) (flat-cons printMarked x [] ∙ ap (λ z. printMarked x ++ z) (flat-nil printMarked) ∙ append-nil (printMarked x))
+          ap (lineRun i (outside m (leading bs ws))) (flat-cons printMarked x [] ∙ ap (λ z. printMarked x ++ z) (flat-nil printMarked) ∙ append-nil (printMarked x))
           ∙ w .path
-          ∙ ap (λ z. outside (w .mode) (held (h .residues) (h .brackets) (h .run ++ z) (h .first))) (sym (along-one printMarked meansMarked i x));
+          ∙ ap (λ z. outside (w .mode) (leading bs (ws ++ z))) (sym (along-one printMarked meansMarked i x));
     }
-marks-on i (y ∷ xs) x m h g w =
-    let h₁ : Held ℕ = held (h .residues) (h .brackets) (h .run ++ (meansMarked i x ∷ [])) (h .first) in
+marks-on i (y ∷ xs) x m bs ws g w =
+    let ws₁ : Brackets = ws ++ (meansMarked i x ∷ []) in
     let j = i + length (printMarked x) in
-    let q = marks-on j xs y (w .mode) h₁ (every-tail goodMarked y xs g) (mark-run j y (w .mode) h₁ (w .run) (every-head goodMarked y xs g)) in
+    let q = marks-on j xs y (w .mode) bs ws₁ (every-tail goodMarked y xs g) (mark-run j y (w .mode) bs ws₁ (w .run) (every-head goodMarked y xs g)) in
     record {
       mode = q .mode;
       run = q .run;
       path =
-          ap (lineRun i (outside m h)) (flat-cons printMarked x (y ∷ xs))
-          ∙ line-further i (printMarked x) (flat printMarked (y ∷ xs)) (outside m h) (outside (w .mode) h₁) _ (w .path) (q .path)
-          ∙ ap (λ z. outside (q .mode) (held (h .residues) (h .brackets) z (h .first)))
-          (append-assoc (h .run) (meansMarked i x ∷ []) (along printMarked meansMarked j (y ∷ xs)) ∙ ap (λ z. h .run ++ z) (sym (along-cons printMarked meansMarked i x (y ∷ xs))));
+          ap (lineRun i (outside m (leading bs ws))) (flat-cons printMarked x (y ∷ xs))
+          ∙ line-further i (printMarked x) (flat printMarked (y ∷ xs)) (outside m (leading bs ws)) (outside (w .mode) (leading bs ws₁)) _ (w .path) (q .path)
+          ∙ ap (λ z. outside (q .mode) (leading bs z))
+          (append-assoc ws (meansMarked i x ∷ []) (along printMarked meansMarked j (y ∷ xs)) ∙ ap (λ z. ws ++ z) (sym (along-cons printMarked meansMarked i x (y ∷ xs))));
     }
 
 run-over : (i : ℕ) (m : Mode) (h : Held ℕ) → InRun m → lineRun i (outside m h) (question ∷ []) ≡ outside Runs (settledRun (λ k. k) h)
 unfolding perform
 run-over i m h w = line-one i m h question ∙ ap (perform i question h) (run-ends m w)
 
-run-run : (i : ℕ) (r : Run) (m : Mode) (rs : Residues) (ks : Brackets) (f : ℕ) → AtFront m → goodRun r ≡ true → lineRun i (outside m (held rs ks [] f)) (printRun r) ≡ outside Runs (held rs (ks ++ meansRun i r) [] f)
-run-run i r m rs ks f w g =
-    let h : Held ℕ = held rs ks [] f in
+run-run : (i : ℕ) (r : Run) (m : Mode) (ks : Brackets) → AtFront m → goodRun r ≡ true → lineRun i (outside m (leading ks [])) (printRun r) ≡ outside Runs (leading (ks ++ meansRun i r) [])
+run-run i r m ks w g =
     let x = r .first in
     let g₀ = every-head goodMarked x (r .more) g in
-    let q = marks-on i (r .more) x m h (every-tail goodMarked x (r .more) g) (counted-mark i (x .count) m h (x .inside) (and-right (goodInside false true (x .inside)) (goodCount (x .count)) g₀) (wait-front i m h (x .inside) (front-opens m w) (and-left (goodInside false true (x .inside)) (goodCount (x .count)) g₀))) in
-    line-further i (flat printMarked (marks r)) (question ∷ []) (outside m h) _ _ (q .path) (run-over _ (q .mode) _ (q .run))
-    ∙ ap (λ z. outside Runs (held rs (ks ++ z) [] f)) (map-id (meansRun i r))
+    let q = marks-on i (r .more) x m ks [] (every-tail goodMarked x (r .more) g) (counted-mark i (x .count) m ks [] (x .inside) (and-right (goodInside false true (x .inside)) (goodCount (x .count)) g₀) (wait-front i m ks [] (x .inside) (front-opens m w) (and-left (goodInside false true (x .inside)) (goodCount (x .count)) g₀))) in
+    line-further i (flat printMarked (marks r)) (question ∷ []) (outside m (leading ks [])) _ _ (q .path) (run-over _ (q .mode) _ (q .run))
+    ∙ ap (λ z. outside Runs (leading (ks ++ z) [])) (map-id (meansRun i r))
 
 -- the runs, and where they lead
-pub record RunsRead (i : ℕ) (m : Mode) (rs : Residues) (ks : Brackets) (f : ℕ) (l : List ℕ) (xs : Brackets) : Type 0 where
+pub record RunsRead (i : ℕ) (m : Mode) (ks : Brackets) (l : List ℕ) (xs : Brackets) : Type 0 where
   pub mode : Mode
   pub front : AtFront mode
-  pub path : lineRun i (outside m (held rs ks [] f)) l ≡ outside mode (held rs (ks ++ xs) [] f)
+  pub path : lineRun i (outside m (leading ks [])) l ≡ outside mode (leading (ks ++ xs) [])
 
-runs-run : (i : ℕ) (rr : List Run) (m : Mode) (rs : Residues) (ks : Brackets) (f : ℕ) → AtFront m → every goodRun rr ≡ true → RunsRead i m rs ks f (flat printRun rr) (eachAlong printRun meansRun i rr)
-runs-run i [] m rs ks f w g =
+runs-run : (i : ℕ) (rr : List Run) (m : Mode) (ks : Brackets) → AtFront m → every goodRun rr ≡ true → RunsRead i m ks (flat printRun rr) (eachAlong printRun meansRun i rr)
+runs-run i [] m ks w g =
     record {
       mode = m;
       front = w;
       path =
-          ap (lineRun i (outside m (held rs ks [] f))) (flat-nil printRun) ∙ line-nil i _
-          ∙ ap (λ z. outside m (held rs z [] f)) (sym (append-nil ks) ∙ ap (λ z. ks ++ z) (sym (eachAlong-nil printRun meansRun i)));
+          ap (lineRun i (outside m (leading ks []))) (flat-nil printRun) ∙ line-nil i _
+          ∙ ap (λ z. outside m (leading z [])) (sym (append-nil ks) ∙ ap (λ z. ks ++ z) (sym (eachAlong-nil printRun meansRun i)));
     }
-runs-run i (r ∷ rr) m rs ks f w g =
-    let q = runs-run (i + length (printRun r)) rr Runs rs (ks ++ meansRun i r) f behind-run (every-tail goodRun r rr g) in
+runs-run i (r ∷ rr) m ks w g =
+    let q = runs-run (i + length (printRun r)) rr Runs (ks ++ meansRun i r) behind-run (every-tail goodRun r rr g) in
     record {
       mode = q .mode;
       front = q .front;
       path =
-          ap (lineRun i (outside m (held rs ks [] f))) (flat-cons printRun r rr)
-          ∙ line-further i (printRun r) (flat printRun rr) (outside m (held rs ks [] f)) _ _ (run-run i r m rs ks f w (every-head goodRun r rr g)) (q .path)
-          ∙ ap (λ z. outside (q .mode) (held rs z [] f)) (append-assoc ks (meansRun i r) (eachAlong printRun meansRun (i + length (printRun r)) rr) ∙ ap (λ z. ks ++ z) (sym (eachAlong-cons printRun meansRun i r rr)));
+          ap (lineRun i (outside m (leading ks []))) (flat-cons printRun r rr)
+          ∙ line-further i (printRun r) (flat printRun rr) (outside m (leading ks [])) _ _ (run-run i r m ks w (every-head goodRun r rr g)) (q .path)
+          ∙ ap (λ z. outside (q .mode) (leading z [])) (append-assoc ks (meansRun i r) (eachAlong printRun meansRun (i + length (printRun r)) rr) ∙ ap (λ z. ks ++ z) (sym (eachAlong-cons printRun meansRun i r rr)));
     }
 
 -- ---- labile brackets
 abbrev meansCurlies : ℕ → List Inside → Brackets
 meansCurlies i xs = along printCurly (bracketAt Labile 0 0) i xs
 
-curly-run : (i : ℕ) (m : Mode) (h : Held ℕ) (x : Inside) → act m openCurly ≡ Begin labile → goodInside false false x ≡ true → lineRun i (outside m h) (printCurly x) ≡ outside Labiles (settled (bracketAt Labile 0 0 i x) h)
-curly-run i m h x e g = bracket i m labile h openCurly x e refl g ∙ ap (λ z. outside z (settled (bracketAt Labile 0 0 i x) h)) (same-mode (meansInside (i + 1) x) Labiles)
+curly-run : (i : ℕ) (m : Mode) (bs : Brackets) (x : Inside) → act m openCurly ≡ Begin labile → goodInside false false x ≡ true → lineRun i (outside m (leading bs [])) (printCurly x) ≡ outside Labiles (leading (bs ++ (bracketAt Labile 0 0 i x ∷ [])) [])
+curly-run i m bs x e g = bracket i m labile (leading bs []) openCurly x e refl g ∙ ap (λ z. outside z (leading (bs ++ (bracketAt Labile 0 0 i x ∷ [])) [])) (same-mode (meansInside (i + 1) x) Labiles)
 
 labiles-open : act Labiles openCurly ≡ Begin labile
 unfolding act
@@ -641,16 +644,16 @@ front-curly : (m : Mode) → AtFront m → act m openCurly ≡ Begin labile
 unfolding act
 front-curly m w = front-acts m w openCurly
 
-curlies-from : (i : ℕ) (xs : List Inside) (x : Inside) (m : Mode) (h : Held ℕ) → act m openCurly ≡ Begin labile → goodCurlies (x ∷ xs) ≡ true
-    → lineRun i (outside m h) (flat printCurly (x ∷ xs)) ≡ outside Labiles (held (h .residues) (h .brackets ++ meansCurlies i (x ∷ xs)) (h .run) (h .first))
-curlies-from i [] x m h e g =
-    ap (lineRun i (outside m h)) (flat-cons printCurly x [] ∙ ap (λ z. printCurly x ++ z) (flat-nil printCurly) ∙ append-nil (printCurly x)) ∙ curly-run i m h x e (every-head (goodInside false false) x [] g)
-    ∙ ap (λ z. outside Labiles (held (h .residues) (h .brackets ++ z) (h .run) (h .first))) (sym (along-one printCurly (bracketAt Labile 0 0) i x))
-curlies-from i (y ∷ xs) x m h e g =
-    ap (lineRun i (outside m h)) (flat-cons printCurly x (y ∷ xs))
-    ∙ line-further i (printCurly x) (flat printCurly (y ∷ xs)) (outside m h) (outside Labiles (settled (bracketAt Labile 0 0 i x) h)) _ (curly-run i m h x e (every-head (goodInside false false) x (y ∷ xs) g))
-    (curlies-from (i + length (printCurly x)) xs y Labiles (settled (bracketAt Labile 0 0 i x) h) labiles-open (every-tail (goodInside false false) x (y ∷ xs) g))
-    ∙ ap (λ z. outside Labiles (held (h .residues) z (h .run) (h .first))) (append-assoc (h .brackets) (bracketAt Labile 0 0 i x ∷ []) _ ∙ ap (λ z. h .brackets ++ z) (sym (along-cons printCurly (bracketAt Labile 0 0) i x (y ∷ xs))))
+curlies-from : (i : ℕ) (xs : List Inside) (x : Inside) (m : Mode) (bs : Brackets) → act m openCurly ≡ Begin labile → goodCurlies (x ∷ xs) ≡ true
+    → lineRun i (outside m (leading bs [])) (flat printCurly (x ∷ xs)) ≡ outside Labiles (leading (bs ++ meansCurlies i (x ∷ xs)) [])
+curlies-from i [] x m bs e g =
+    ap (lineRun i (outside m (leading bs []))) (flat-cons printCurly x [] ∙ ap (λ z. printCurly x ++ z) (flat-nil printCurly) ∙ append-nil (printCurly x)) ∙ curly-run i m bs x e (every-head (goodInside false false) x [] g)
+    ∙ ap (λ z. outside Labiles (leading (bs ++ z) [])) (sym (along-one printCurly (bracketAt Labile 0 0) i x))
+curlies-from i (y ∷ xs) x m bs e g =
+    ap (lineRun i (outside m (leading bs []))) (flat-cons printCurly x (y ∷ xs))
+    ∙ line-further i (printCurly x) (flat printCurly (y ∷ xs)) (outside m (leading bs [])) (outside Labiles (leading (bs ++ (bracketAt Labile 0 0 i x ∷ [])) [])) _ (curly-run i m bs x e (every-head (goodInside false false) x (y ∷ xs) g))
+    (curlies-from (i + length (printCurly x)) xs y Labiles (bs ++ (bracketAt Labile 0 0 i x ∷ [])) labiles-open (every-tail (goodInside false false) x (y ∷ xs) g))
+    ∙ ap (λ z. outside Labiles (leading z [])) (append-assoc (bs) (bracketAt Labile 0 0 i x ∷ []) _ ∙ ap (λ z. bs ++ z) (sym (along-cons printCurly (bracketAt Labile 0 0) i x (y ∷ xs))))
 
 -- where the runs are over: no labile bracket yet, or some
 pub data Fronts : Mode → Type 0 where
@@ -661,21 +664,21 @@ fronts-begin : (m : Mode) → Fronts m → Begins m
 fronts-begin m (at-front w) = front-begins m w
 fronts-begin m at-labiles = labiles-begins
 
-pub record Labelless (i : ℕ) (m : Mode) (rs : Residues) (ks : Brackets) (f : ℕ) (l : List ℕ) (xs : Brackets) : Type 0 where
+pub record Labelless (i : ℕ) (m : Mode) (ks : Brackets) (l : List ℕ) (xs : Brackets) : Type 0 where
   pub mode : Mode
   pub fronts : Fronts mode
-  pub path : lineRun i (outside m (held rs ks [] f)) l ≡ outside mode (held rs (ks ++ xs) [] f)
+  pub path : lineRun i (outside m (leading ks [])) l ≡ outside mode (leading (ks ++ xs) [])
 
-curlies-run : (i : ℕ) (xs : List Inside) (m : Mode) (rs : Residues) (ks : Brackets) (f : ℕ) → AtFront m → goodCurlies xs ≡ true → Labelless i m rs ks f (flat printCurly xs) (meansCurlies i xs)
-curlies-run i [] m rs ks f w g =
+curlies-run : (i : ℕ) (xs : List Inside) (m : Mode) (ks : Brackets) → AtFront m → goodCurlies xs ≡ true → Labelless i m ks (flat printCurly xs) (meansCurlies i xs)
+curlies-run i [] m ks w g =
     record {
       mode = m;
       fronts = at-front w;
       path =
-          ap (lineRun i (outside m (held rs ks [] f))) (flat-nil printCurly) ∙ line-nil i _
-          ∙ ap (λ z. outside m (held rs z [] f)) (sym (append-nil ks) ∙ ap (λ z. ks ++ z) (sym (along-nil printCurly (bracketAt Labile 0 0) i)));
+          ap (lineRun i (outside m (leading ks []))) (flat-nil printCurly) ∙ line-nil i _
+          ∙ ap (λ z. outside m (leading z [])) (sym (append-nil ks) ∙ ap (λ z. ks ++ z) (sym (along-nil printCurly (bracketAt Labile 0 0) i)));
     }
-curlies-run i (x ∷ xs) m rs ks f w g = record { mode = Labiles; fronts = at-labiles; path = curlies-from i xs x m (held rs ks [] f) (front-curly m w) g }
+curlies-run i (x ∷ xs) m ks w g = record { mode = Labiles; fronts = at-labiles; path = curlies-from i xs x m ks (front-curly m w) g }
 
 -- ---- the N-terminus
 -- brackets at the front that wait, a reference among them or not
@@ -683,50 +686,50 @@ pub data Waits : Mode → Type 0 where
   undecided-waits : Waits Undecided
   referred-waits : Waits Referred
 
-pub record Pending (i : ℕ) (m : Mode) (h : Held ℕ) (l : List ℕ) (ks : Brackets) : Type 0 where
+pub record Pending (i : ℕ) (m : Mode) (bs ws : Brackets) (l : List ℕ) (ks : Brackets) : Type 0 where
   pub mode : Mode
   pub waits : Waits mode
-  pub path : lineRun i (outside m h) l ≡ outside mode (held (h .residues) (h .brackets) (h .run ++ ks) (h .first))
+  pub path : lineRun i (outside m (leading bs ws)) l ≡ outside mode (leading bs (ws ++ ks))
 
-pend-front : (i : ℕ) (m : Mode) (h : Held ℕ) (x : Inside) → act m openSquare ≡ Begin front → goodInside true true x ≡ true → Pending i m h (printSquare x) (bracketAt Unknown 0 0 i x ∷ [])
-pend-front i m h x e g = record { mode = cond (refers? (meansInside (i + 1) x)) Referred Undecided; waits = either (refers? (meansInside (i + 1) x)); path = bracket i m front h openSquare x e refl g }
+pend-front : (i : ℕ) (m : Mode) (bs ws : Brackets) (x : Inside) → act m openSquare ≡ Begin front → goodInside true true x ≡ true → Pending i m bs ws (printSquare x) (bracketAt Unknown 0 0 i x ∷ [])
+pend-front i m bs ws x e g = record { mode = cond (refers? (meansInside (i + 1) x)) Referred Undecided; waits = either (refers? (meansInside (i + 1) x)); path = bracket i m front (leading bs ws) openSquare x e refl g }
   where
     either : (t : Bool) → Waits (cond t Referred Undecided)
     either true = referred-waits
     either false = undecided-waits
 
-pend : (i : ℕ) (m : Mode) (h : Held ℕ) (x : Inside) → Waits m → goodInside true true x ≡ true → Pending i m h (printSquare x) (bracketAt Unknown 0 0 i x ∷ [])
+pend : (i : ℕ) (m : Mode) (bs ws : Brackets) (x : Inside) → Waits m → goodInside true true x ≡ true → Pending i m bs ws (printSquare x) (bracketAt Unknown 0 0 i x ∷ [])
 unfolding act undecided referred
-pend i m h x undecided-waits g = pend-front i Undecided h x refl g
-pend i m h x referred-waits g =
+pend i m bs ws x undecided-waits g = pend-front i Undecided bs ws x refl g
+pend i m bs ws x referred-waits g =
     record {
       mode = Referred;
       waits = referred-waits;
-      path = bracket i Referred (square Unknown true Referred) h openSquare x refl refl g ∙ ap (λ z. outside z (waiting (bracketAt Unknown 0 0 i x) h)) (same-mode (meansInside (i + 1) x) Referred);
+      path = bracket i Referred (square Unknown true Referred) (leading bs ws) openSquare x refl refl g ∙ ap (λ z. outside z (leading bs (ws ++ (bracketAt Unknown 0 0 i x ∷ [])))) (same-mode (meansInside (i + 1) x) Referred);
     }
 
-pend-all : (i : ℕ) (xs : List Inside) (x : Inside) (m : Mode) (h : Held ℕ) → goodSquares true xs ≡ true → Pending i m h (printSquare x) (bracketAt Unknown 0 0 i x ∷ []) → Pending i m h (printSquares (x ∷ xs)) (meansSquares Unknown 0 0 i (x ∷ xs))
-pend-all i [] x m h g w =
+pend-all : (i : ℕ) (xs : List Inside) (x : Inside) (m : Mode) (bs ws : Brackets) → goodSquares true xs ≡ true → Pending i m bs ws (printSquare x) (bracketAt Unknown 0 0 i x ∷ []) → Pending i m bs ws (printSquares (x ∷ xs)) (meansSquares Unknown 0 0 i (x ∷ xs))
+pend-all i [] x m bs ws g w =
     record {
       mode = w .mode;
       waits = w .waits;
       path =
-          ap (lineRun i (outside m h)) (flat-cons printSquare x [] ∙ ap (λ z. printSquare x ++ z) (flat-nil printSquare) ∙ append-nil (printSquare x))
+          ap (lineRun i (outside m (leading bs ws))) (flat-cons printSquare x [] ∙ ap (λ z. printSquare x ++ z) (flat-nil printSquare) ∙ append-nil (printSquare x))
           ∙ w .path
-          ∙ ap (λ z. outside (w .mode) (held (h .residues) (h .brackets) (h .run ++ z) (h .first))) (sym (along-one printSquare (bracketAt Unknown 0 0) i x));
+          ∙ ap (λ z. outside (w .mode) (leading bs (ws ++ z))) (sym (along-one printSquare (bracketAt Unknown 0 0) i x));
     }
-pend-all i (y ∷ xs) x m h g w =
-    let h₁ : Held ℕ = held (h .residues) (h .brackets) (h .run ++ (bracketAt Unknown 0 0 i x ∷ [])) (h .first) in
+pend-all i (y ∷ xs) x m bs ws g w =
+    let ws₁ : Brackets = ws ++ (bracketAt Unknown 0 0 i x ∷ []) in
     let j = i + length (printSquare x) in
-    let q = pend-all j xs y (w .mode) h₁ (every-tail (goodInside true true) y xs g) (pend j (w .mode) h₁ y (w .waits) (every-head (goodInside true true) y xs g)) in
+    let q = pend-all j xs y (w .mode) bs ws₁ (every-tail (goodInside true true) y xs g) (pend j (w .mode) bs ws₁ y (w .waits) (every-head (goodInside true true) y xs g)) in
     record {
       mode = q .mode;
       waits = q .waits;
       path =
-          ap (lineRun i (outside m h)) (flat-cons printSquare x (y ∷ xs))
-          ∙ line-further i (printSquare x) (printSquares (y ∷ xs)) (outside m h) (outside (w .mode) h₁) _ (w .path) (q .path)
-          ∙ ap (λ z. outside (q .mode) (held (h .residues) (h .brackets) z (h .first)))
-          (append-assoc (h .run) (bracketAt Unknown 0 0 i x ∷ []) _ ∙ ap (λ z. h .run ++ z) (sym (along-cons printSquare (bracketAt Unknown 0 0) i x (y ∷ xs))));
+          ap (lineRun i (outside m (leading bs ws))) (flat-cons printSquare x (y ∷ xs))
+          ∙ line-further i (printSquare x) (printSquares (y ∷ xs)) (outside m (leading bs ws)) (outside (w .mode) (leading bs ws₁)) _ (w .path) (q .path)
+          ∙ ap (λ z. outside (q .mode) (leading bs z))
+          (append-assoc ws (bracketAt Unknown 0 0 i x ∷ []) _ ∙ ap (λ z. ws ++ z) (sym (along-cons printSquare (bracketAt Unknown 0 0) i x (y ∷ xs))));
     }
 
 term-ends : (m : Mode) → Waits m → act m dash ≡ TermEnds
@@ -755,41 +758,40 @@ nterms-dash : act NTerms dash ≡ Go Start
 unfolding act
 nterms-dash = refl
 
-pub record Begun (i : ℕ) (m : Mode) (h : Held ℕ) (l : List ℕ) (ks : Brackets) : Type 0 where
+pub record Begun (i : ℕ) (m : Mode) (bs : Brackets) (l : List ℕ) (ks : Brackets) : Type 0 where
   pub mode : Mode
   pub begins : Begins mode
-  pub path : lineRun i (outside m h) l ≡ outside mode (held (h .residues) (h .brackets ++ ks) [] (h .first))
+  pub path : lineRun i (outside m (leading bs [])) l ≡ outside mode (leading (bs ++ ks) [])
 
-front-run : (i : ℕ) (xs : List Inside) (m : Mode) (rs : Residues) (ks : Brackets) (f : ℕ) → Fronts m → goodSquares true xs ≡ true → Begun i m (held rs ks [] f) (printFront xs) (meansSquares NTerm 0 0 i xs)
-front-run i [] m rs ks f w g =
+front-run : (i : ℕ) (xs : List Inside) (m : Mode) (ks : Brackets) → Fronts m → goodSquares true xs ≡ true → Begun i m ks (printFront xs) (meansSquares NTerm 0 0 i xs)
+front-run i [] m ks w g =
     record {
       mode = m;
       begins = fronts-begin m w;
-      path = line-nil i _ ∙ ap (λ z. outside m (held rs z [] f)) (sym (append-nil ks) ∙ ap (λ z. ks ++ z) (sym (along-nil printSquare (bracketAt NTerm 0 0) i)));
+      path = line-nil i _ ∙ ap (λ z. outside m (leading z [])) (sym (append-nil ks) ∙ ap (λ z. ks ++ z) (sym (along-nil printSquare (bracketAt NTerm 0 0) i)));
     }
-front-run i (x ∷ xs) m rs ks f (at-front w) g =
-    let h : Held ℕ = held rs ks [] f in
-    let q = pend-all i xs x m h (every-tail (goodInside true true) x xs g) (pend-front i m h x (front-opens m w) (every-head (goodInside true true) x xs g)) in
+front-run i (x ∷ xs) m ks (at-front w) g =
+    let q = pend-all i xs x m ks [] (every-tail (goodInside true true) x xs g) (pend-front i m ks [] x (front-opens m w) (every-head (goodInside true true) x xs g)) in
     record {
       mode = Start;
       begins = start-begins;
       path =
-          line-further i (printSquares (x ∷ xs)) (dash ∷ []) (outside m h) _ _ (q .path) (term-over _ (q .mode) _ (q .waits)) ∙ ap (λ z. outside Start (held rs (ks ++ z) [] f)) (as-nterm i (x ∷ xs));
+          line-further i (printSquares (x ∷ xs)) (dash ∷ []) (outside m (leading ks [])) _ _ (q .path) (term-over _ (q .mode) _ (q .waits)) ∙ ap (λ z. outside Start (leading (ks ++ z) [])) (as-nterm i (x ∷ xs));
     }
-front-run i (x ∷ xs) m rs ks f at-labiles g =
+front-run i (x ∷ xs) m ks at-labiles g =
     record {
       mode = Start;
       begins = start-begins;
       path =
-          line-further i (printSquares (x ∷ xs)) (dash ∷ []) (outside Labiles (held rs ks [] f)) _ _ (squares-from NTerm true NTerms nterms-open (λ b q. refl) i Labiles x xs (held rs ks [] f) labiles-square g) (go _ NTerms Start _ dash nterms-dash);
+          line-further i (printSquares (x ∷ xs)) (dash ∷ []) (outside Labiles (leading ks [])) _ _ (squares-from NTerm true NTerms nterms-open (λ b q. refl) i Labiles x xs (leading ks []) labiles-square g) (go _ NTerms Start _ dash nterms-dash);
     }
 
 -- ---- a line
 -- its four pieces
-whole-run : (i : ℕ) (a b c d : List ℕ) (k₁ k₂ k₃ ks : Brackets) (rs : Residues) (m₀ m₁ m₂ m₃ : Mode) (f : ℕ) → lineRun i (outside Front nothing) a ≡ outside m₀ (held [] k₁ [] 0)
-    → lineRun (i + length a) (outside m₀ (held [] k₁ [] 0)) b ≡ outside m₁ (held [] (k₁ ++ k₂) [] 0)
-    → lineRun (i + length a + length b) (outside m₁ (held [] (k₁ ++ k₂) [] 0)) c ≡ outside m₂ (held [] ((k₁ ++ k₂) ++ k₃) [] 0)
-    → lineRun (i + length a + length b + length c) (outside m₂ (held [] ((k₁ ++ k₂) ++ k₃) [] 0)) d ≡ outside m₃ (held rs (((k₁ ++ k₂) ++ k₃) ++ ks) [] f)
+whole-run : (i : ℕ) (a b c d : List ℕ) (k₁ k₂ k₃ ks : Brackets) (rs : Residues) (m₀ m₁ m₂ m₃ : Mode) (f : ℕ) → lineRun i (outside Front nothing) a ≡ outside m₀ (leading k₁ [])
+    → lineRun (i + length a) (outside m₀ (leading k₁ [])) b ≡ outside m₁ (leading (k₁ ++ k₂) [])
+    → lineRun (i + length a + length b) (outside m₁ (leading (k₁ ++ k₂) [])) c ≡ outside m₂ (leading ((k₁ ++ k₂) ++ k₃) [])
+    → lineRun (i + length a + length b + length c) (outside m₂ (leading ((k₁ ++ k₂) ++ k₃) [])) d ≡ outside m₃ (held rs (((k₁ ++ k₂) ++ k₃) ++ ks) [] f)
     → lineRun i (outside Front nothing) (a ++ (b ++ (c ++ d))) ≡ outside m₃ (held rs (k₁ ++ (k₂ ++ (k₃ ++ ks))) [] f)
 whole-run i a b c d k₁ k₂ k₃ ks rs m₀ m₁ m₂ m₃ f p q r s =
     line-further i a (b ++ (c ++ d)) _ _ _ p (line-further (i + length a) b (c ++ d) _ _ _ q (line-further (i + length a + length b) c d _ _ _ r s))
@@ -808,9 +810,9 @@ line-run i t g =
     let k₁ : Brackets = eachAlong printRun meansRun i (t .runs) in
     let k₂ : Brackets = meansCurlies (atLabiles i t) (t .labiles) in
     let k₃ : Brackets = meansSquares NTerm 0 0 (atFront i t) (t .front) in
-    let u = runs-run i (t .runs) Front [] [] 0 at-first (and-left a (b && (c && (d && e))) g) in
-    let p = curlies-run (atLabiles i t) (t .labiles) (u .mode) [] k₁ 0 (u .front) (and-left b (c && (d && e)) g₁) in
-    let j = front-run (atFront i t) (t .front) (p .mode) [] (k₁ ++ k₂) 0 (p .fronts) (and-left c (d && e) g₂) in
+    let u = runs-run i (t .runs) Front [] at-first (and-left a (b && (c && (d && e))) g) in
+    let p = curlies-run (atLabiles i t) (t .labiles) (u .mode) k₁ (u .front) (and-left b (c && (d && e)) g₁) in
+    let j = front-run (atFront i t) (t .front) (p .mode) (k₁ ++ k₂) (p .fronts) (and-left c (d && e) g₂) in
     let q = sequence-run (atSequence i t) (t .first) (t .more) (t .back) (j .mode) ((k₁ ++ k₂) ++ k₃) 0 (j .begins) (and-left d e g₃) (and-right d e g₃) in
     record {
       mode = q .mode;

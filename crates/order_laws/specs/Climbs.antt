@@ -3,11 +3,13 @@ use mathlib.Core.Path.{_≡_, refl, ap}
 use mathlib.Core.Bool.{true, _&&_}
 use mathlib.Core.List.{List, [], _∷_, _++_, map}
 use Prim.Native.Nat.{ℕ, _≤_}
+use native.Mathlib.Nat.{le-refl}
 use native.Mathlib.Omega.{arith}
 use lib.Dec.{leb}
 use borrow.Author.Tests.{le-leb}
 use Rattle.scope.specs.Line.{Bracket, Line}
 use Rattle.scope.specs.Tables.{bareBracket, tablesOf}
+use Rattle.basics.specs.Each.{Each}
 use Rattle.basics.specs.Tests.{both}
 use Rattle.order_laws.specs.Ranks.{rank, rising, orderedb}
 
@@ -24,6 +26,11 @@ module _ {P : Type 0} where
   pub higher : (q : ℕ) (ks : List (Bracket P)) (c d : ℕ) → c ≤ d → Climbs q ks c → Climbs q ks d
   higher q [] c d h w = omega arith
   higher q (k ∷ ks) c d h w = (w .0, higher (rank k) ks c d h (w .1))
+
+  -- all of one rank
+  pub level-climbs : (q r : ℕ) (ks : List (Bracket P)) → q ≤ r → Each (λ k. rank k ≡ r) ks → Climbs q ks r
+  level-climbs q r [] h e = h
+  level-climbs q r (k ∷ ks) h e = rw (e .0) (h, level-climbs r r ks (le-refl r) (e .1))
 
   pub climbs-append : (q c d : ℕ) (ks js : List (Bracket P)) → Climbs q ks c → Climbs c js d → Climbs q (ks ++ js) d
   climbs-append q c d [] js w v = lower q c js d w v

@@ -1,41 +1,22 @@
--- "A line has this order": where a bracket of each kind stands in it, as a number. The brackets of a line's tables do not fall in it.
+-- "A line has this order": where a bracket stands in it, as a number, by the position that it ends at and by its kind. The brackets of a line's tables
+-- do not fall in it.
 use mathlib.Core.Path.{_≡_}
 use mathlib.Core.Bool.{Bool, true, _&&_}
 use mathlib.Core.List.{List, [], _∷_}
 use Prim.Native.Nat.{ℕ, _+_, _*_}
 use lib.Dec.{leb}
 use Rattle.scope.specs.declared.grammar.Kind.{Kind}
-use Rattle.scope.specs.declared.grammar.Kind.the-variants.{Unknown, Labile, NTerm, OnResidue, OnRange, CTerm}
-use Rattle.scope.specs.Limits.{positionLimit}
+use Rattle.scope.specs.Kinds.{kindCode}
 use Rattle.scope.specs.Line.{Bracket, Line}
 
--- ---- heights: the same for any number of residues, or two more for each
-pub data Height : Type 0 where
-  level : ℕ → Height
-  slope : ℕ → Height
+-- from a position to the next: more than any kind's number
+abbrev pub rankStep : ℕ
+rankStep = 8
 
--- where n residues are read
-abbrev pub high : Height → ℕ → ℕ
-high (level c) n = c
-high (slope c) n = c + 2 * n
-
--- ---- ranks
--- the rank of the C-terminus: above that of every bracket at a position
-abbrev pub lastRank : ℕ
-lastRank = 4 + 2 * positionLimit
-
--- a bracket on a residue stands behind it, one on a range behind the range's last residue and the brackets on that one; one at the C-terminus behind
--- them all
-abbrev pub kindHeight : Kind → Height
-kindHeight Unknown = level 0
-kindHeight Labile = level 1
-kindHeight NTerm = level 2
-kindHeight OnResidue = slope 3
-kindHeight OnRange = slope 4
-kindHeight CTerm = level lastRank
-
+-- a bracket stands behind those that end at a position before its own; of those that end there, the kinds stand in the order of their numbers: at the
+-- front those of unknown position, the labile, the N-terminal; those on a residue, those on the range that it ends; the C-terminal
 abbrev pub rankOf : Kind → ℕ → ℕ
-rankOf k last = high (kindHeight k) last
+rankOf k last = rankStep * last + kindCode k
 
 abbrev pub rank : {P : Type 0} → Bracket P → ℕ
 rank k = rankOf (k .kind) (k .last)

@@ -1,136 +1,125 @@
--- What the reader has settled is in order, byte by byte, as long as the residues are within their limit.
-use mathlib.Core.Path.{_≡_, refl, sym, subst}
+-- What the reader has settled is in order, byte by byte.
+use mathlib.Core.Path.{_≡_, refl, ap, _∙_, subst}
 use mathlib.Core.Bool.{true}
-use mathlib.Core.List.{List, [], _∷_, _++_, map}
-use Prim.Native.Nat.{ℕ, _+_, _≤_}
+use mathlib.Core.List.{List, [], _∷_, map}
+use Prim.Native.Nat.{ℕ, _+_, _*_, _≤_, _<_}
+use native.Mathlib.Nat.{le-refl}
 use native.Mathlib.Omega.{arith}
+use lib.Dec.{leb}
 use lib.ListN.{length, length-append}
+use borrow.Author.Tests.{leb-true, ltb-true}
+use Rattle.scope.specs.declared.grammar.Section.{Section}
 use Rattle.scope.specs.declared.grammar.Kind.{Kind}
-use Rattle.scope.specs.declared.grammar.Kind.the-variants.{Unknown}
+use Rattle.scope.specs.declared.grammar.Kind.the-variants.{Unknown, NTerm}
 use Rattle.scope.specs.declared.grammar.Mode.{Mode}
 use Rattle.scope.specs.declared.grammar.Slot.{Slot}
 use Rattle.scope.specs.declared.grammar.Act.{Act}
 use Rattle.scope.specs.declared.grammar.Act.the-variants.{Stop, Go, Residue as aResidue, Begin, Digit, RunEnds, TermEnds}
 use Rattle.scope.specs.Bytes.{upper}
-use Rattle.scope.specs.Limits.{residueLimit}
+use Rattle.scope.specs.Kinds.{kindCode}
 use Rattle.scope.specs.Line.{Part, Bracket, Residue, Line}
 use Rattle.scope.specs.Content.{Content, lost, closed, going, innerStep}
-use Rattle.scope.specs.Reading.{act, Held, bracketOf, settled, withBracket, countDigit, asNTerm, State, dead, outside, inside, perform, refers?, modeAfter, resume, step, holds, reading}
-use Rattle.scope.specs.Lists.{onLast}
+use Rattle.scope.specs.Reading.{act, positionOf, Held, withResidue, bracketOf, withBracket, countDigit, withDigit, asNTerm, settledRun, State, dead, outside, inside, perform, refers?, modeAfter, resume, step, holds, reading}
 use Rattle.basics.specs.Choice.{branch}
-use Rattle.basics.specs.Each.{Each, each-append, each-last}
+use Rattle.basics.specs.Each.{Each, each-append, each-last, each-map, each-one}
+use Rattle.basics.specs.Tests.{both-of}
 use Rattle.reading_laws.specs.Kept.{reading-whole, put-by, digit-by}
-use Rattle.order_laws.specs.Ranks.{level, high, rank, Ordered, orderedb}
-use Rattle.order_laws.specs.Climbs.{Climbs, higher, climbs-append, climbs-rising}
-use Rattle.order_laws.specs.Modes.{below-high, up, up-high, height, ceiling, rankNow, keeps, slot-keeps, act-keeps}
+use Rattle.order_laws.specs.Ranks.{rankStep, rankOf, rank, Ordered, orderedb}
+use Rattle.order_laws.specs.Climbs.{Climbs, higher, level-climbs, climbs-append, climbs-rising}
+use Rattle.order_laws.specs.Modes.{heightOf, rank-height, height, keeps, act-keeps}
 
--- the brackets at the front wait as unknown ones
-abbrev Waits : {P : Type 0} → List (Bracket P) → Type 0
-Waits ks = Each (λ k. k .kind ≡ Unknown) ks
+-- a bracket at the front waits as an unknown one, at the position that reading has come to
+abbrev Waits : {P : Type 0} → ℕ → Bracket P → Type 0
+Waits n k = (k .kind ≡ Unknown) × (k .last ≡ n)
 
--- the settled brackets climb up to c at most
-record Rises {P : Type 0} (c : ℕ) (h : Held P) : Type 0 where
-  pub brackets : Climbs 0 (h .brackets) c
-  pub run : Waits (h .run)
+-- behind n residues: the settled brackets climb up to the height c at most, and where one of unknown position is no lower, such ones wait
+record Rises {P : Type 0} (n c : ℕ) (h : Held P) : Type 0 where
+  pub brackets : Climbs 0 (h .brackets) (rankStep * n + c)
+  pub run : c ≤ heightOf Unknown → Each (Waits n) (h .run)
+
+abbrev RisesTo : {P : Type 0} → ℕ → Held P → Type 0
+RisesTo c h = Rises (length (h .residues)) c h
 
 record InsideRises {P : Type 0} (s : Slot) (h : Held P) : Type 0 where
-  pub held : Rises (rankNow (s .kind) (length (h .residues))) h
-  pub after : rankNow (s .kind) (length (h .residues)) ≤ ceiling (s .after) (length (h .residues))
-  pub referred : rankNow (s .kind) (length (h .residues)) ≤ ceiling (s .referred) (length (h .residues))
+  pub held : RisesTo (heightOf (s .kind)) h
+  pub after : heightOf (s .kind) ≤ height (s .after)
+  pub referred : heightOf (s .kind) ≤ height (s .referred)
 
 abbrev StateRises : {P : Type 0} → State P → Type 0
 StateRises (dead p) = Unit {0}
-StateRises (outside m h) = length (h .residues) ≤ residueLimit → Rises (ceiling m (length (h .residues))) h
-StateRises (inside s at h c) = length (h .residues) ≤ residueLimit → InsideRises s h
+StateRises (outside m h) = RisesTo (height m) h
+StateRises (inside s at h c) = InsideRises s h
 
 module _ {P : Type 0} where
-  rises-more : (c d : ℕ) (h : Held P) → c ≤ d → Rises c h → Rises d h
-  rises-more c d h e w = record { brackets = higher 0 (h .brackets) c d e (w .brackets); run = w .run }
+  rises-more : (n c d : ℕ) (h : Held P) → c ≤ d → Rises n c h → Rises n d h
+  rises-more n c d h e w = record { brackets = higher 0 (h .brackets) _ _ (omega arith) (w .brackets); run = λ f. w .run (omega arith) }
 
-  waits-digit : (i : P) (b : ℕ) (ks : List (Bracket P)) → Waits ks → Waits (onLast (countDigit i b) ks)
-  waits-digit i b = each-last (λ k. k .kind ≡ Unknown) (countDigit i b) (λ k e. digit-by (λ j. j .kind ≡ Unknown) i b k (λ n p. e))
-
-  -- ---- the brackets at the front are settled
-  run-climbs : (ks : List (Bracket P)) → Waits ks → Climbs 0 (map (λ k. k) ks) 0
-  run-climbs [] w = omega arith
-  run-climbs (k ∷ ks) w = rw (w .0) (omega arith, run-climbs ks (w .1))
-
-  term-climbs : (q : ℕ) (ks : List (Bracket P)) → q ≤ 2 → Climbs q (map asNTerm ks) 2
-  term-climbs q [] h = h
-  term-climbs q (k ∷ ks) h = (h, term-climbs 2 ks (omega arith))
+  residue-rises : (i : P) (b : ℕ) (s : Section) (h : Held P) (c d : ℕ) → c ≤ rankStep + d → heightOf Unknown < d → RisesTo c h → RisesTo d (withResidue i b s h)
+  residue-rises i b s h c d e f w =
+      let new : List (Residue P) = record { letter = upper b; section = s; at = i } ∷ [] in
+      rw (length-append (h .residues) new)
+      (record { brackets = higher 0 (h .brackets) _ _ (omega arith) (w .brackets); run = λ g. absurd (omega arith) })
 
   -- ---- a bracket is closed
-  settled-rises : (k : Bracket P) (h : Held P) (c : ℕ) → rank k ≤ c → Rises (rank k) h → Rises c (settled k h)
-  settled-rises k h c e w =
-      record { brackets = climbs-append 0 (rank k) c (h .brackets) (k ∷ []) (w .brackets) (omega arith, e); run = w .run }
-
-  bracket-rises :
-      (k : Kind) (i : P) (ps : List (Part P)) (h : Held P) (c : ℕ) → rankNow k (length (h .residues)) ≤ c → Rises (rankNow k (length (h .residues))) h
-      → Rises c (withBracket k i ps h)
+  bracket-rises : (k : Kind) (i : P) (ps : List (Part P)) (h : Held P) (c : ℕ) → heightOf k ≤ c → RisesTo (heightOf k) h → RisesTo c (withBracket k i ps h)
   bracket-rises k i ps h c e w =
-      put-by (Rises c) k (bracketOf k i ps h) h
+      let n = length (h .residues) in
+      let b = bracketOf k i ps h in
+      put-by (RisesTo c) k b h
       (λ u.
       record {
-        brackets = higher 0 (h .brackets) (rankNow k (length (h .residues))) c e (w .brackets);
-        run = each-append (λ k. k .kind ≡ Unknown) (h .run) (bracketOf k i ps h ∷ []) (w .run) (u, tt);
+        brackets = higher 0 (h .brackets) _ _ (omega arith) (w .brackets);
+        run = λ f. each-append (Waits n) (h .run) (b ∷ []) (w .run (omega arith)) ((u, ap (λ z. positionOf z n n) u), tt);
       })
-      (λ u. settled-rises (bracketOf k i ps h) h c e w)
+      (λ u.
+      record {
+        brackets = climbs-append 0 (rankStep * n + heightOf k) _ (h .brackets) (b ∷ []) (w .brackets) (rw (rank-height k n) (le-refl _, omega arith));
+        run = λ f. w .run (omega arith);
+      })
 
-  same-residues : (k : Kind) (i : P) (ps : List (Part P)) (h : Held P) → withBracket k i ps h .residues ≡ h .residues
-  same-residues k i ps h = put-by (λ x. x .residues ≡ h .residues) k (bracketOf k i ps h) h (λ u. refl) (λ u. refl)
+  -- ---- the brackets at the front have a digit more, or are settled
+  digit-rises : (i : P) (b : ℕ) (h : Held P) → RisesTo (heightOf Unknown) h → RisesTo (heightOf Unknown) (withDigit i b h)
+  digit-rises i b h w =
+      let n = length (h .residues) in
+      record {
+        brackets = w .brackets;
+        run = λ f.
+            each-last (Waits n) (countDigit i b)
+            (λ k e. digit-by (Waits n) i b k (λ c p. e)) (h .run) (w .run f);
+      }
+
+  settled-rises :
+      (f : Bracket P → Bracket P) (k : Kind) (h : Held P) → ((x : Bracket P) → x .kind ≡ Unknown → rank (f x) ≡ rankOf k (x .last)) → heightOf Unknown ≤ kindCode k
+      → RisesTo (heightOf Unknown) h → RisesTo (kindCode k) (settledRun f h)
+  settled-rises f k h e l w =
+      let n = length (h .residues) in
+      record {
+        brackets = climbs-append 0 _ _ (h .brackets) (map f (h .run)) (w .brackets)
+            (level-climbs _ (rankOf k n) (map f (h .run)) (omega arith)
+            (each-map (λ x. rank x ≡ rankOf k n) f (h .run)
+            (each-one (Waits n) (λ x. rank (f x) ≡ rankOf k n) (λ x v. e x (v .0) ∙ ap (rankOf k) (v .1)) (h .run) (w .run (le-refl _)))));
+        run = λ g. tt;
+      }
 
   -- ---- one byte more
-  perform-rises : (i : P) (b : ℕ) (m : Mode) (h : Held P) (a : Act) → StateRises (outside m h) → keeps m a ≡ true → StateRises (perform i b h a)
+  perform-rises : (i : P) (b : ℕ) (m : Mode) (h : Held P) (a : Act) → RisesTo (height m) h → keeps m a ≡ true → StateRises (perform i b h a)
   unfolding perform
   perform-rises i b m h Stop w g = tt
-  perform-rises i b m h (Go o) w g = λ e.
-      let n = length (h .residues) in
-      rises-more (ceiling m n) (ceiling o n) h (below-high (height m) (height o) g n e) (w e)
-  perform-rises i b m h (aResidue s o) w g = λ e.
-      let n = length (h .residues) in
-      let new : List (Residue P) = record { letter = upper b; section = s; at = i } ∷ [] in
-      let l : length (h .residues ++ new) ≡ n + 1 = length-append (h .residues) new in
-      let few : n ≤ residueLimit = omega arith in
-      let v = w few in
-      record {
-        brackets = rw (l, sym (up-high (height o) n)) (higher 0 (h .brackets) (ceiling m n) (high (up (height o)) n) (below-high (height m) (up (height o)) g n few) (v .brackets));
-        run = v .run;
-      }
-  perform-rises i b m h (Begin s) w g = λ e.
-      let n = length (h .residues) in
-      let k = slot-keeps m s g in
-      record { held = rises-more (ceiling m n) (rankNow (s .kind) n) h (k .above n e) (w e); after = k .after n e; referred = k .referred n e }
-  perform-rises i b m h Digit w g = λ e.
-      let n = length (h .residues) in
-      record { brackets = higher 0 (h .brackets) (ceiling m n) 0 (below-high (height m) (level 0) g n e) (w e .brackets); run = waits-digit i b (h .run) (w e .run) }
-  perform-rises i b m h RunEnds w g = λ e.
-      let n = length (h .residues) in
-      record {
-        brackets = climbs-append 0 0 0 (h .brackets) (map (λ k. k) (h .run)) (higher 0 (h .brackets) (ceiling m n) 0 (below-high (height m) (level 0) g n e) (w e .brackets)) (run-climbs (h .run) (w e .run));
-        run = tt;
-      }
-  perform-rises i b m h TermEnds w g = λ e.
-      let n = length (h .residues) in
-      record {
-        brackets = climbs-append 0 0 2 (h .brackets) (map asNTerm (h .run)) (higher 0 (h .brackets) (ceiling m n) 0 (below-high (height m) (level 0) g n e) (w e .brackets)) (term-climbs 0 (h .run) (omega arith));
-        run = tt;
-      }
+  perform-rises i b m h (Go o) w g = rises-more _ _ _ h (leb-true _ _ g) w
+  perform-rises i b m h (aResidue s o) w g = let p = both-of (leb (height m) _) _ g in residue-rises i b s h _ _ (leb-true _ _ (p .0)) (ltb-true _ _ (p .1)) w
+  perform-rises i b m h (Begin s) w g =
+      let p = both-of (leb (height m) _) _ g in
+      let q = both-of (leb (heightOf (s .kind)) _) _ (p .1) in
+      record { held = rises-more _ _ _ h (leb-true _ _ (p .0)) w; after = leb-true _ _ (q .0); referred = leb-true _ _ (q .1) }
+  perform-rises i b m h Digit w g = digit-rises i b h (rises-more _ _ _ h (leb-true _ _ g) w)
+  perform-rises i b m h RunEnds w g = settled-rises (λ k. k) Unknown h (λ x u. ap (λ z. rankOf z (x .last)) u) (le-refl _) (rises-more _ _ _ h (leb-true _ _ g) w)
+  perform-rises i b m h TermEnds w g = settled-rises asNTerm NTerm h (λ x u. refl) (omega arith) (rises-more _ _ _ h (leb-true _ _ g) w)
 
-  closed-rises : (s : Slot) (at : P) (ps : List (Part P)) (h : Held P) (m : Mode) → rankNow (s .kind) (length (h .residues)) ≤ ceiling m (length (h .residues))
-      → Rises (rankNow (s .kind) (length (h .residues))) h → Rises (ceiling m (length (withBracket (s .kind) at ps h .residues))) (withBracket (s .kind) at ps h)
-  closed-rises s at ps h m e w =
-      subst (λ r. Rises (ceiling m (length r)) (withBracket (s .kind) at ps h)) (sym (same-residues (s .kind) at ps h))
-      (bracket-rises (s .kind) at ps h (ceiling m (length (h .residues))) e w)
-
-  mode-allows : (s : Slot) (ps : List (Part P)) (h : Held P) → InsideRises s h → rankNow (s .kind) (length (h .residues)) ≤ ceiling (modeAfter s ps) (length (h .residues))
-  mode-allows s ps h w = branch (λ m. rankNow (s .kind) (length (h .residues)) ≤ ceiling m (length (h .residues))) (refers? ps) (w .referred) (w .after)
-
-  resume-rises : (s : Slot) (at i : P) (h : Held P) (c : Content P) → (length (h .residues) ≤ residueLimit → InsideRises s h) → StateRises (resume s at h i c)
+  resume-rises : (s : Slot) (at i : P) (h : Held P) (c : Content P) → InsideRises s h → StateRises (resume s at h i c)
   unfolding resume
   resume-rises s at i h lost w = tt
-  resume-rises s at i h (closed ps) w = λ e.
-      let v = w (subst (λ r. length r ≤ residueLimit) (same-residues (s .kind) at ps h) e) in
-      closed-rises s at ps h (modeAfter s ps) (mode-allows s ps h v) (v .held)
+  resume-rises s at i h (closed ps) w =
+      bracket-rises (s .kind) at ps h (height (modeAfter s ps)) (branch (λ m. heightOf (s .kind) ≤ height m) (refers? ps) (w .referred) (w .after)) (w .held)
   resume-rises s at i h (going c) w = w
 
   step-rises : (i : P) (s : State P) (b : ℕ) → StateRises s → StateRises (step i s b)
@@ -140,9 +129,8 @@ module _ {P : Type 0} where
   step-rises i (inside s at h c) b w = resume-rises s at i h (innerStep i c b) w
 
 -- ---- a line that is read whole
-pub read-ordered : (s : List ℕ) (l : Line ℕ) → reading s ≡ holds l → length (l .residues) ≤ residueLimit → Ordered l
+pub read-ordered : (s : List ℕ) (l : Line ℕ) → reading s ≡ holds l → Ordered l
 unfolding orderedb
-read-ordered s l e few =
-    let w = reading-whole StateRises step-rises (λ e. record { brackets = omega arith; run = tt }) s l e in
-    let short = subst (λ x. length (x .residues) ≤ residueLimit) (sym (w .line)) few in
-    subst Ordered (w .line) (climbs-rising 0 (w .held .brackets) (ceiling (w .mode) (length (w .held .residues))) (w .keeps short .brackets))
+read-ordered s l e =
+    let w = reading-whole StateRises step-rises (record { brackets = omega arith; run = λ f. tt }) s l e in
+    subst Ordered (w .line) (climbs-rising 0 (w .held .brackets) _ (w .keeps .brackets))

@@ -69,8 +69,13 @@ module _ {P : Type 0} where
   ending-at : (c : Kind) (i : ℕ) (ks : List (Bracket P)) → endingAt c i (map bareBracket ks) ≡ map bareBracket (endingAt c i ks)
   ending-at c i ks = ap (keep (λ k. eqb (k .last) i)) (of-kind c ks) ∙ keep-map _ _ bareBracket (λ k. refl) (ofKind c ks)
 
+  texts-at :
+      (f : Bracket (Unit {0}) → List ℕ) (g : Bracket P → List ℕ) → ((k : Bracket P) → f (bareBracket k) ≡ g k) → (c : Kind) (i : ℕ) (ks : List (Bracket P))
+      → flat f (endingAt c i (map bareBracket ks)) ≡ flat g (endingAt c i ks)
+  texts-at f g e c i ks = ap (flat f) (ending-at c i ks) ∙ flat-map f g bareBracket e (endingAt c i ks)
+
   squares-at : (c : Kind) (i : ℕ) (ks : List (Bracket P)) → flat squareText (endingAt c i (map bareBracket ks)) ≡ flat squareText (endingAt c i ks)
-  squares-at c i ks = ap (flat squareText) (ending-at c i ks) ∙ flat-map squareText squareText bareBracket square-text (endingAt c i ks)
+  squares-at = texts-at squareText squareText square-text
 
   goes-on : (rs : List (Residue P)) → goesOn (map bareResidue rs) ≡ goesOn rs
   goes-on [] = refl
@@ -85,9 +90,9 @@ module _ {P : Type 0} where
   chain-text : (ks : List (Bracket P)) (p : ℕ) (rs : List (Residue P)) → chainText (map bareBracket ks) p (map bareResidue rs) ≡ chainText ks p rs
   unfolding chainText
   chain-text ks p rs =
-      let u = ap (flat unknownText) (ending-at Unknown p ks) ∙ flat-map unknownText unknownText bareBracket unknown-text (endingAt Unknown p ks) in
-      let v = ap (flat curlyText) (ending-at Labile p ks) ∙ flat-map curlyText curlyText bareBracket curly-text (endingAt Labile p ks) in
-      rw (u, v, squares-at NTerm p ks, sequence-text ks (p + 1) rs, length-map rs bareResidue, squares-at CTerm (p + 1 + length rs) ks)
+      let u = texts-at unknownText unknownText unknown-text Unknown p ks in
+      let v = texts-at curlyText curlyText curly-text Labile p ks in
+      rw (length-map rs bareResidue, u, v, squares-at NTerm p ks, squares-at CTerm (p + 1 + length rs) ks, sequence-text ks (p + 1) rs)
 
   pub same-canonical : (l : Line P) → canonical (tablesOf l) ≡ canonical l
   unfolding canonical tablesOf

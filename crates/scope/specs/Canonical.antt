@@ -1,8 +1,7 @@
 -- The canonical line: "at most one unknown run, upper-case residues, masses always signed, scores signed only when negative, decimals as many as
 -- written".
-use Prim.Native.Nat.{ℕ, zero, suc, _+_, _*_, _/_, _%_, _^_}
-use mathlib.Core.Bool.{Bool, true, false, cond, _&&_}
-use mathlib.Core.Option.{Option, none, some}
+use Prim.Native.Nat.{ℕ, zero, suc, _+_, _/_, _%_, _^_}
+use mathlib.Core.Bool.{Bool, true, false, cond}
 use mathlib.Core.List.{List, [], _∷_, _++_}
 use lib.Dec.{eqb, ltb}
 use lib.ListN.{length}
@@ -14,7 +13,7 @@ use Rattle.scope.specs.Kinds.{isKind}
 use Rattle.scope.specs.Bytes.{openSquare, shutSquare, openCurly, shutCurly, openRound, shutRound, bar, hash, caret, question, plus, dash, dot}
 use Rattle.scope.specs.Line.{Number, Label, Value, mass, text, reference, Part, Bracket, Residue, Line}
 use Rattle.scope.specs.Keys.{written}
-use Rattle.scope.specs.Lists.{given, none?, keep, flat}
+use Rattle.scope.specs.Lists.{given, keep, flat}
 
 -- ---- numbers
 
@@ -130,7 +129,7 @@ sequenceText ks i (r ∷ rs) =
     ++ (cond (goesOn rs) [] (ending (r .section) (flat squareText (endingAt OnRange i ks)))
     ++ sequenceText ks (i + 1) rs)))
 
--- a chain of residues behind its N-terminus, which is at the position p
+-- a chain: the residues rs behind its N-terminus, which is at the position p, with the brackets at its positions
 unfoldable pub chainText : {P : Type 0} → List (Bracket P) → ℕ → List (Residue P) → List ℕ
 chainText ks p rs =
     closedBy (flat unknownText (endingAt Unknown p ks)) question

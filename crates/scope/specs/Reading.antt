@@ -2,7 +2,7 @@
 -- means, places included, and by `place-of-4` its place of 4 is document 01's.
 use Prim.Native.Nat.{ℕ, _+_, _*_}
 use mathlib.Core.Bool.{Bool, true, false, cond}
-use mathlib.Core.Option.{Option, none, some}
+use mathlib.Core.Option.{none, some}
 use mathlib.Core.List.{List, [], _∷_, _++_, map}
 use lib.Dec.{eqb}
 use lib.ListN.{length}
@@ -15,7 +15,7 @@ use Rattle.scope.specs.declared.grammar.Mode.the-variants.{Front, Runs, 
 use Rattle.scope.specs.declared.grammar.Slot.{Slot}
 use Rattle.scope.specs.declared.grammar.Act.{Act}
 use Rattle.scope.specs.declared.grammar.Act.the-variants.{Stop, Go, Residue as aResidue, Begin, Digit, RunEnds, TermEnds}
-use Rattle.scope.specs.Kinds.{isUnknown}
+use Rattle.scope.specs.Kinds.{isKind, isUnknown, isOnRange}
 use Rattle.scope.specs.Bytes.{upper, isLetter, isDigit, openSquare, shutSquare, openCurly, shutCurly, openRound, shutRound, caret, question, dash, value}
 use Rattle.scope.specs.Line.{Part, Bracket, Residue, Line}
 use Rattle.scope.specs.Lists.{given, onLast}
@@ -146,14 +146,10 @@ withResidue i b s h =
       first = firstOf s (length (h .residues) + 1) (h .first);
     }
 
--- "Position 0 is the N-terminus, 1 to n the residues, n+1 the C-terminus": where a bracket stands behind n residues, one on a range at a
+-- "Position 0 is the N-terminus, 1 to n the residues, n+1 the C-terminus": where a bracket stands that is read behind n residues, at the front behind
+-- none; one on a range stands at a
 abbrev pub positionOf : Kind → ℕ → ℕ → ℕ
-positionOf Unknown n a = 0
-positionOf Labile n a = 0
-positionOf NTerm n a = 0
-positionOf OnResidue n a = n
-positionOf OnRange n a = a
-positionOf CTerm n a = n + 1
+positionOf k n a = cond (isOnRange k) a (cond (isKind CTerm k) (n + 1) n)
 
 -- a range is from the first residue of its group to the last that is read
 abbrev pub bracketOf : {P : Type 0} → Kind → P → List (Part P) → Held P → Bracket P

@@ -231,14 +231,13 @@ fn position(kind: Kind, n: usize, range: usize) -> usize
     requires { ⌜ n < lineLimit ⌝ }
     ensures { λ r. ⌜ r ≡ positionOf kind n range ⌝ }
 {
-    match kind {
-        Kind::Unknown => 0,
-        Kind::Labile => 0,
-        Kind::NTerm => 0,
-        Kind::OnResidue => n,
-        Kind::OnRange => range,
-        Kind::CTerm => n + 1,
+    if kind.is(Kind::OnRange) {
+        return range;
     }
+    if kind.is(Kind::CTerm) {
+        return n + 1;
+    }
+    n
 }
 
 // The row of a bracket with these parts, which begins at this stage.

@@ -1,38 +1,37 @@
 -- What the pieces of a line are, by rank, and how they make up the canonical line. Assumes nothing.
-use mathlib.Core.Path.{_≡_, refl, sym, ap, ap₂, _∙_}
-use mathlib.Core.Bool.{Bool, true, false, cond, _&&_, and-true}
+use mathlib.Core.Path.{_≡_, refl, sym, ap, _∙_}
+use mathlib.Core.Bool.{Bool, true, false, cond, _&&_}
 use mathlib.Core.List.{List, [], _∷_, _++_, append-assoc, append-nil}
 use Prim.Native.Nat.{ℕ, zero, suc, _+_, _-_, _*_, _≤_, _<_}
-use native.Mathlib.Nat.{zero-add}
 use native.Mathlib.Omega.{arith}
 use lib.Dec.{eqb, leb}
 use lib.IntN.{ℤ}
 use lib.ListN.{length, drop}
 use lib.Seq.{take-all}
-use borrow.Author.Tests.{eq-eqb, leb-true, leb-false, lt-ltb}
+use borrow.Author.Tests.{eq-eqb, leb-true, leb-false}
 use Rattle.basics.specs.Choice.{took, by-test}
 use Rattle.scope.specs.declared.grammar.Kind.{Kind}
 use Rattle.scope.specs.declared.grammar.Kind.the-variants.{Unknown, Labile, NTerm, OnResidue, OnRange, CTerm}
 use Rattle.scope.specs.declared.grammar.Section.the-variants.{Plain, RangeFirst, RangeNext, UnsureFirst, UnsureNext}
 use Rattle.scope.specs.Bytes.{question, dash}
-use Rattle.scope.specs.Limits.{residueLimit, positionLimit}
+use Rattle.scope.specs.Limits.{residueLimit}
 use Rattle.scope.specs.Line.{Bracket, Residue}
-use Rattle.scope.specs.Canonical.{squareText, curlyText, unknownText, ofKind, endingAt, closedBy, ledBy, opening, ending, isNext, goesOn, sequenceText, chainText, canonical}
+use Rattle.scope.specs.Canonical.{squareText, curlyText, unknownText, endingAt, closedBy, ledBy, opening, ending, isNext, goesOn, sequenceText, chainText, canonical}
 use Rattle.scope.specs.Kinds.{isKind}
 use Rattle.scope.specs.Lists.{keep, flat, tabled, laid}
-use Rattle.scope.specs.Layout.{sectionCode, sectionIn, residueIn, bracketIn, tablesIn, bracketsField, lastField, letterField, residuesField, sectionField}
-use Rattle.areas.specs.Bounds.{Bounds}
+use Rattle.scope.specs.Layout.{sectionCode, sectionIn, residueIn, bracketIn, tablesIn, bracketsField, letterField, residuesField, sectionField}
 use Rattle.writer.specs.declared.Shape.{Shape}
 use Rattle.writer.specs.declared.Shape.the-variants.{Counted, Curly, Square}
 use Rattle.figures.specs.Written.{Puts, ceiling}
 use Rattle.writer.specs.Written.{WholeLine, residueMost, residuesMost}
 use Rattle.writer.specs.Here.{Room}
-use Rattle.writer.specs.Ranks.{lastRank, rankOf, rank, rankIn, Ready, rankedText, runText, frontText, Walks, residueText, Spelt, Clear, Behind, Spells}
+use Rattle.writer.specs.Ranks.{rankOf, rank, rankIn, cTermRank, Ready, textAs, rankedText, runText, frontText, Walks, residueText, Spelt, Clear, Behind, Spells}
 use Rattle.figures.proofs.Storing.{stored-whole, puts-within, puts-length}
 use Rattle.writer.proofs.RankLaws.{rank-is, rank-within, rank-tells, tabled-from, tabled-over}
-use Rattle.writer.proofs.RunLaws.{quiet, run-one, run-empty, none-of}
+use Rattle.writer.proofs.RunLaws.{run-one, none-of}
 use Rattle.writer.proofs.Walking.{walks-of, walks-still, walks-then, walks-before, walks-up, room-after}
 use Rattle.basics.specs.Lists.{keep-same}
+use Rattle.basics.specs.Tabled.{residues-many}
 
 -- ---- sections
 pub opening-other : (c : ℕ) → (c ≡ sectionCode RangeFirst → ⊥) → (c ≡ sectionCode UnsureFirst → ⊥) → [] ≡ opening (sectionIn c)
@@ -74,14 +73,7 @@ module _ (bs : List ℕ) (p n : ℕ) where
   pub goes-next : {c : ℕ} {t : Bool} → p < n → c ≡ sectionField bs p → t ≡ isNext (sectionIn c) → t ≡ goesOn (tabled (residueIn bs) p (n - p))
   goes-next h e f = f ∙ ap (λ c. isNext (sectionIn c)) e ∙ sym (ap goesOn (tabled-from (residueIn bs) p n h))
 
--- ---- kinds by rank
-keep-row :
-    {A : Type 0} (p r : A → Bool) (f : ℕ → A) (k n : ℕ) → ((i : ℕ) → k ≤ i → i < k + n → p (f i) ≡ r (f i)) → keep p (tabled f k n) ≡ keep r (tabled f k n)
-unfolding keep tabled
-keep-row p r f k zero h = refl
-keep-row p r f k (suc n) h =
-    ap₂ (λ t m. cond t (f k ∷ []) [] ++ m) (h k (omega arith) (omega arith)) (keep-row p r f (k + 1) n (λ i a b. h i (omega arith) (omega arith)))
-
+-- ---- kinds and positions by rank
 kept-once : {A : Type 0} (p : A → Bool) (x : A) (t : Bool) (l m : List A) → keep p l ≡ m → keep p (cond t (x ∷ []) [] ++ l) ≡ cond (t && p x) (x ∷ []) [] ++ m
 unfolding keep
 kept-once p x true l m e = ap (λ z. cond (p x) (x ∷ []) [] ++ z) e
@@ -92,63 +84,12 @@ unfolding keep
 keep-twice p r [] = refl
 keep-twice p r (x ∷ l) = kept-once p x (r x) (keep r l) (keep (λ x. r x && p x) l) (keep-twice p r l)
 
--- of a kind whose rank is the same at every position
-of-level : (t u : Bool) → (t && true) ≡ u → t ≡ u
-of-level t u e = sym (and-true t) ∙ e
-
-test-unknown : (k : Kind) (last : ℕ) → isKind Unknown k ≡ eqb (rankOf k last) 0
-test-unknown k last = of-level _ _ (rank-tells Unknown last 0 refl k)
-
-test-labile : (k : Kind) (last : ℕ) → isKind Labile k ≡ eqb (rankOf k last) 1
-test-labile k last = of-level _ _ (rank-tells Labile last 0 refl k)
-
-test-n-term : (k : Kind) (last : ℕ) → isKind NTerm k ≡ eqb (rankOf k last) 2
-test-n-term k last = of-level _ _ (rank-tells NTerm last 0 refl k)
-
-test-c-term : (k : Kind) (last : ℕ) → last < positionLimit → isKind CTerm k ≡ eqb (rankOf k last) lastRank
-test-c-term k last h = of-level _ _ (rank-tells CTerm last 0 (rw (lt-ltb last positionLimit h)) k)
-
-test-residue : (k : Kind) (last i : ℕ) → (isKind OnResidue k && eqb last i) ≡ eqb (rankOf k last) (3 + 2 * i)
-test-residue k last i = rank-tells OnResidue last i refl k
-
-test-range : (k : Kind) (last i : ℕ) → i < positionLimit → (isKind OnRange k && eqb last i) ≡ eqb (rankOf k last) (4 + 2 * i)
-test-range k last i h = rank-tells OnRange last i (rw (lt-ltb i positionLimit h)) k
-
-module _ (ks : List (Bracket (Unit {0}))) where
-  unknown-run : runText Counted 0 ks ≡ flat unknownText (ofKind Unknown ks)
-  unknown-run = ap (flat unknownText) (sym (keep-same (λ k. isKind Unknown (k .kind)) (λ k. eqb (rank k) 0) (λ k. test-unknown (k .kind) (k .last)) ks))
-
-  labile-run : runText Curly 1 ks ≡ flat curlyText (ofKind Labile ks)
-  labile-run = ap (flat curlyText) (sym (keep-same (λ k. isKind Labile (k .kind)) (λ k. eqb (rank k) 1) (λ k. test-labile (k .kind) (k .last)) ks))
-
-  n-term-run : runText Square 2 ks ≡ flat squareText (ofKind NTerm ks)
-  n-term-run = ap (flat squareText) (sym (keep-same (λ k. isKind NTerm (k .kind)) (λ k. eqb (rank k) 2) (λ k. test-n-term (k .kind) (k .last)) ks))
-
-  pub residue-run : (i : ℕ) → runText Square (3 + 2 * i) ks ≡ flat squareText (endingAt OnResidue i ks)
-  residue-run i =
-      ap (flat squareText)
-      (sym
-      (keep-twice (λ k. eqb (k .last) i) (λ k. isKind OnResidue (k .kind)) ks
-      ∙ keep-same (λ k. isKind OnResidue (k .kind) && eqb (k .last) i) (λ k. eqb (rank k) (3 + 2 * i)) (λ k. test-residue (k .kind) (k .last) i) ks))
-
-  pub range-run : (i : ℕ) → i < positionLimit → runText Square (4 + 2 * i) ks ≡ flat squareText (endingAt OnRange i ks)
-  range-run i h =
-      ap (flat squareText)
-      (sym
-      (keep-twice (λ k. eqb (k .last) i) (λ k. isKind OnRange (k .kind)) ks
-      ∙ keep-same (λ k. isKind OnRange (k .kind) && eqb (k .last) i) (λ k. eqb (rank k) (4 + 2 * i)) (λ k. test-range (k .kind) (k .last) i h) ks))
-
-last-is : (bs : List ℕ) (ns : List ℤ) (k : ℕ) → bracketIn bs ns k .last ≡ lastField bs k
-unfolding bracketIn
-last-is bs ns k = refl
-
-c-term-run : (bs : List ℕ) (ns : List ℤ) → Bounds bs ns → runText Square lastRank (tablesIn bs ns .brackets) ≡ flat squareText (ofKind CTerm (tablesIn bs ns .brackets))
-unfolding tablesIn
-c-term-run bs ns b =
-    ap (flat squareText)
+pub run-is : {P : Type 0} (shape : Shape) (j : Kind) (i : ℕ) (ks : List (Bracket P)) → runText shape (rankOf j i) ks ≡ flat (textAs shape) (endingAt j i ks)
+run-is shape j i ks =
+    ap (flat (textAs shape))
     (sym
-    (keep-row (λ k. isKind CTerm (k .kind)) (λ k. eqb (rank k) lastRank) (bracketIn bs ns) 0 (bracketsField bs)
-    (λ i h l. test-c-term (bracketIn bs ns i .kind) (bracketIn bs ns i .last) (omega (arith, last-is bs ns i, b .few-residues, b .bracket i (omega arith) .last)))))
+    (keep-twice (λ k. eqb (k .last) i) (λ k. isKind j (k .kind)) ks
+    ∙ keep-same (λ k. isKind j (k .kind) && eqb (k .last) i) (λ k. eqb (rank k) (rankOf j i)) (λ k. rank-tells j (k .kind) (k .last) i) ks))
 
 -- ---- the sequence
 sequence-step :
@@ -166,29 +107,27 @@ nothing-else true l = sym (append-nil l)
 nothing-else false l = sym (append-nil l)
 
 module _ (bs : List ℕ) (ks : List (Bracket (Unit {0}))) (p : ℕ) (rs : List (Residue (Unit {0}))) {c b : ℕ} (e : c ≡ sectionField bs p) (f : b ≡ letterField bs p) where
-  at-residue : runText Square (5 + 2 * p) ks ≡ flat squareText (endingAt OnResidue (p + 1) ks)
-  at-residue =
-      let q : 5 + 2 * p ≡ 3 + 2 * (p + 1) = omega arith in
-      ap (λ q. runText Square q ks) q ∙ residue-run ks (p + 1)
+  at-residue : runText Square (rankOf OnResidue (p + 1)) ks ≡ flat squareText (endingAt OnResidue (p + 1) ks)
+  at-residue = run-is Square OnResidue (p + 1) ks
 
-  pub residue-plain : c ≡ sectionCode Plain → (b ∷ []) ++ runText Square (5 + 2 * p) ks ≡ residueText ks (p + 1) (residueIn bs p) rs
+  pub residue-plain : c ≡ sectionCode Plain → (b ∷ []) ++ runText Square (rankOf OnResidue (p + 1)) ks ≡ residueText ks (p + 1) (residueIn bs p) rs
   residue-plain z =
       let w : sectionField bs p ≡ sectionCode Plain = sym e ∙ z in
       rw (w, f, at-residue) (ap (λ t. letterField bs p ∷ t) (nothing-else (goesOn rs) _))
 
-  pub residue-on : goesOn rs ≡ true → opening (sectionIn c) ++ ((b ∷ []) ++ runText Square (5 + 2 * p) ks) ≡ residueText ks (p + 1) (residueIn bs p) rs
+  pub residue-on : goesOn rs ≡ true → opening (sectionIn c) ++ ((b ∷ []) ++ runText Square (rankOf OnResidue (p + 1)) ks) ≡ residueText ks (p + 1) (residueIn bs p) rs
   residue-on g = rw (g, e, f, at-residue, append-nil)
 
   pub residue-off :
-      p < residueLimit → goesOn rs ≡ false
-      → (opening (sectionIn c) ++ ((b ∷ []) ++ runText Square (5 + 2 * p) ks)) ++ ending (sectionIn c) (runText Square (4 + 2 * (p + 1)) ks)
+      goesOn rs ≡ false
+      → (opening (sectionIn c) ++ ((b ∷ []) ++ runText Square (rankOf OnResidue (p + 1)) ks)) ++ ending (sectionIn c) (runText Square (rankOf OnRange (p + 1)) ks)
       ≡ residueText ks (p + 1) (residueIn bs p) rs
-  residue-off h g =
-      append-assoc (opening (sectionIn c)) ((b ∷ []) ++ runText Square (5 + 2 * p) ks) (ending (sectionIn c) (runText Square (4 + 2 * (p + 1)) ks))
-      ∙ rw (g, e, f, at-residue, range-run ks (p + 1) (omega arith))
+  residue-off g =
+      append-assoc (opening (sectionIn c)) ((b ∷ []) ++ runText Square (rankOf OnResidue (p + 1)) ks) (ending (sectionIn c) (runText Square (rankOf OnRange (p + 1)) ks))
+      ∙ rw (g, e, f, at-residue, run-is Square OnRange (p + 1) ks)
 
 module _ (bs : List ℕ) (ns : List ℤ) (n from : ℕ) (o : List ℕ) (at : ℕ) where
-  pub spelt-start : Walks bs 0 from 3 o at [] o at from → Spelt bs ns n from o at o 0 from at
+  pub spelt-start : Walks bs 0 from (rankOf OnResidue 1) o at [] o at from → Spelt bs ns n from o at o 0 from at
   spelt-start w =
       record {
         low = omega arith;
@@ -200,7 +139,7 @@ module _ (bs : List ℕ) (ns : List ℤ) (n from : ℕ) (o : List ℕ) (at : ℕ
   module _ {out : List ℕ} {p j a : ℕ} (s : Spelt bs ns n from o at out p j a) where
     pub spelt-more :
         p < n → {out′ : List ℕ} {j′ a′ : ℕ}
-        → Walks bs residueMost j (5 + 2 * (p + 1)) out a (residueText (tablesIn bs ns .brackets) (p + 1) (residueIn bs p) (tabled (residueIn bs) (p + 1) (n - (p + 1)))) out′ a′ j′
+        → Walks bs residueMost j (rankOf OnResidue (p + 1 + 1)) out a (residueText (tablesIn bs ns .brackets) (p + 1) (residueIn bs p) (tabled (residueIn bs) (p + 1) (n - (p + 1)))) out′ a′ j′
         → Spelt bs ns n from o at out′ (p + 1) j′ a′
     spelt-more h {out′} {j′} {a′} w =
         let ks = tablesIn bs ns .brackets in
@@ -227,8 +166,8 @@ module _ (bs : List ℕ) (ns : List ℤ) (n from : ℕ) (o : List ℕ) (at : ℕ
     spelt-bare {b = b} h l behind plain f g =
         let w = s .walks in
         let ks = tablesIn bs ns .brackets in
-        let none : runText Square (5 + 2 * p) ks ≡ [] =
-        none-of bs ns Square (5 + 2 * p) (bracketsField bs)
+        let none : runText Square (rankOf OnResidue (p + 1)) ks ≡ [] =
+        none-of bs ns Square (rankOf OnResidue (p + 1)) (bracketsField bs)
         (λ k m e.
         by-test (leb j k)
         (λ t. omega (arith, behind p k h (leb-true j k t) m, e))
@@ -239,7 +178,7 @@ module _ (bs : List ℕ) (ns : List ℤ) (n from : ℕ) (o : List ℕ) (at : ℕ
 
     pub spelt-over :
         n ≤ p → n ≡ residuesField bs → n ≤ residueLimit
-        → Walks bs residuesMost from lastRank o at (sequenceText (tablesIn bs ns .brackets) 1 (tablesIn bs ns .residues)) out a j
+        → Walks bs residuesMost from (cTermRank bs) o at (sequenceText (tablesIn bs ns .brackets) 1 (tablesIn bs ns .residues)) out a j
     unfolding tablesIn sequenceText
     spelt-over h e l =
         let q : sequenceText (tablesIn bs ns .brackets) (p + 1) (tabled (residueIn bs) p (n - p)) ≡ [] =
@@ -275,7 +214,7 @@ module _ (bs : List ℕ) (e : ℕ) (o : List ℕ) (p at : ℕ) where
       }
 
 -- brackets of rank q and above stand behind the residues whose rank is below q
-pub behind-clear : (bs : List ℕ) {j q e : ℕ} → Clear bs j q → ((i : ℕ) → i < e → 5 + 2 * i < q) → Behind bs j e
+pub behind-clear : (bs : List ℕ) {j q e : ℕ} → Clear bs j q → ((i : ℕ) → i < e → rankOf OnResidue (i + 1) < q) → Behind bs j e
 behind-clear bs c h = λ i k l g w. omega (arith, c k g w, h i l)
 
 -- ---- what closes and what leads
@@ -299,32 +238,30 @@ led b [] x u = refl
 led b (y ∷ s) x u = refl
 
 module _ (bs : List ℕ) (ns : List ℤ) {m : ℕ} (e : m ≡ bracketsField bs) where
-  no-c-term : ((i : ℕ) → i < m → rankIn bs i < lastRank) → runText Square lastRank (tablesIn bs ns .brackets) ≡ []
+  no-c-term : ((i : ℕ) → i < m → rankIn bs i < cTermRank bs) → runText Square (cTermRank bs) (tablesIn bs ns .brackets) ≡ []
   unfolding tablesIn
-  no-c-term h =
-      ap (λ n. runText Square lastRank (tabled (bracketIn bs ns) 0 n)) (sym e ∙ sym (zero-add m))
-      ∙ quiet Square lastRank (bracketIn bs ns) 0 m (λ i a b w. omega (arith, h i (omega arith), sym (rank-is bs ns i) ∙ w))
-      ∙ run-empty Square lastRank (bracketIn bs ns)
+  no-c-term h = none-of bs ns Square (cTermRank bs) (bracketsField bs) (λ i l w. omega (arith, h i (omega arith), w))
 
-  pub c-term-none : m ≡ 0 → [] ≡ ledBy dash (runText Square lastRank (tablesIn bs ns .brackets))
+  pub c-term-none : m ≡ 0 → [] ≡ ledBy dash (runText Square (cTermRank bs) (tablesIn bs ns .brackets))
   c-term-none z = sym (ap (ledBy dash) (no-c-term (λ i h. absurd (omega arith))))
 
-  module _ (d : Ready bs ns) (z : m ≡ 0 → ⊥) {r : ℕ} (f : r ≡ rankIn bs (m - 1)) where
-    pub c-term-below : r < lastRank → [] ≡ ledBy dash (runText Square lastRank (tablesIn bs ns .brackets))
-    c-term-below h = sym (ap (ledBy dash) (no-c-term (λ i l. omega (arith, d .sorted i (m - 1) (omega arith) (omega arith), f))))
+  module _ (d : Ready bs ns) (z : m ≡ 0 → ⊥) {q r : ℕ} (c : q ≡ cTermRank bs) (f : r ≡ rankIn bs (m - 1)) where
+    pub c-term-below : r < q → [] ≡ ledBy dash (runText Square (cTermRank bs) (tablesIn bs ns .brackets))
+    c-term-below h = sym (ap (ledBy dash) (no-c-term (λ i l. omega (arith, d .sorted i (m - 1) (omega arith) (omega arith), f, c))))
 
-    pub c-term-some : lastRank ≤ r → dash ∷ runText Square lastRank (tablesIn bs ns .brackets) ≡ ledBy dash (runText Square lastRank (tablesIn bs ns .brackets))
+    pub c-term-some : q ≤ r → dash ∷ runText Square q (tablesIn bs ns .brackets) ≡ ledBy dash (runText Square (cTermRank bs) (tablesIn bs ns .brackets))
     unfolding tablesIn
     c-term-some h =
-        let q : bracketsField bs ≡ m - 1 + 1 = omega arith in
+        let t = cTermRank bs in
+        let one : bracketsField bs ≡ m - 1 + 1 = omega arith in
         let low = rank-within bs ns (m - 1) (d .bounds) (omega arith) in
         let k = bracketIn bs ns (m - 1) in
-        let y : rankedText Square lastRank k ≡ squareText k = sym (took _ _ _ (eq-eqb (rank k) lastRank (rank-is bs ns (m - 1) ∙ sym f ∙ omega (arith, f, low)))) in
-        let w : runText Square lastRank (tabled (bracketIn bs ns) 0 (bracketsField bs)) ≡ runText Square lastRank (tabled (bracketIn bs ns) 0 (m - 1)) ++ squareText k =
-        ap (λ n. runText Square lastRank (tabled (bracketIn bs ns) 0 n)) q
-        ∙ sym (run-one Square lastRank (bracketIn bs ns) (m - 1))
-        ∙ ap (λ t. runText Square lastRank (tabled (bracketIn bs ns) 0 (m - 1)) ++ t) y in
-        rw w (led dash (runText Square lastRank (tabled (bracketIn bs ns) 0 (m - 1))) _ _)
+        let y : rankedText Square t k ≡ squareText k = sym (took _ _ _ (eq-eqb (rank k) t (rank-is bs ns (m - 1) ∙ sym f ∙ omega (arith, f, c, low)))) in
+        let w : runText Square t (tabled (bracketIn bs ns) 0 (bracketsField bs)) ≡ runText Square t (tabled (bracketIn bs ns) 0 (m - 1)) ++ squareText k =
+        ap (λ n. runText Square t (tabled (bracketIn bs ns) 0 n)) one
+        ∙ sym (run-one Square t (bracketIn bs ns) (m - 1))
+        ∙ ap (λ z. runText Square t (tabled (bracketIn bs ns) 0 (m - 1)) ++ z) y in
+        rw (c, w) (led dash (runText Square t (tabled (bracketIn bs ns) 0 (m - 1))) _ _)
 
 -- ---- the line
 module _ (bs : List ℕ) (ns : List ℤ) {q : ℕ} (c : Clear bs 0 q) where
@@ -333,22 +270,27 @@ module _ (bs : List ℕ) (ns : List ℤ) {q : ℕ} (c : Clear bs 0 q) where
   none-below shape r h = none-of bs ns shape r (bracketsField bs) (λ i l e. omega (arith, c i (omega arith) l, e))
 
   -- where the first bracket stands in the sequence or behind it
-  pub front-none : 2 < q → [] ≡ frontText (tablesIn bs ns .brackets)
-  front-none h = rw (none-below Counted 0 (omega arith), none-below Curly 1 (omega arith), none-below Square 2 (omega arith))
+  pub front-none : rankOf NTerm 0 < q → [] ≡ frontText (tablesIn bs ns .brackets)
+  front-none h = rw (none-below Counted (rankOf Unknown 0) (omega arith), none-below Curly (rankOf Labile 0) (omega arith), none-below Square (rankOf NTerm 0) (omega arith))
 
 regrouped : (a b c d : List ℕ) → (a ++ (b ++ c)) ++ d ≡ a ++ (b ++ (c ++ d))
 regrouped a b c d = simp append-assoc
 
+pub chain-text : {P : Type 0} (ks : List (Bracket P)) (rs : List (Residue P)) {n : ℕ} → n ≡ length rs
+    → frontText ks ++ (sequenceText ks 1 rs ++ ledBy dash (runText Square (rankOf CTerm (n + 1)) ks)) ≡ chainText ks 0 rs
+unfolding chainText
+chain-text ks rs {n} e =
+    let last : n + 1 ≡ 1 + length rs = omega arith in
+    rw (last, run-is Counted Unknown 0 ks, run-is Curly Labile 0 ks, run-is Square NTerm 0 ks, run-is Square CTerm (1 + length rs) ks)
+    (regrouped (closedBy (flat unknownText (endingAt Unknown 0 ks)) question) (flat curlyText (endingAt Labile 0 ks)) (closedBy (flat squareText (endingAt NTerm 0 ks)) dash) _)
+
 pub line-text :
-    (bs : List ℕ) (ns : List ℤ) → Bounds bs ns
+    (bs : List ℕ) (ns : List ℤ)
     → frontText (tablesIn bs ns .brackets)
-    ++ (sequenceText (tablesIn bs ns .brackets) 1 (tablesIn bs ns .residues) ++ ledBy dash (runText Square lastRank (tablesIn bs ns .brackets)))
+    ++ (sequenceText (tablesIn bs ns .brackets) 1 (tablesIn bs ns .residues) ++ ledBy dash (runText Square (cTermRank bs) (tablesIn bs ns .brackets)))
     ≡ canonical (tablesIn bs ns)
-unfolding chainText canonical
-line-text bs ns b =
-    let ks = tablesIn bs ns .brackets in
-    rw (unknown-run ks, labile-run ks, n-term-run ks, c-term-run bs ns b)
-    (regrouped (closedBy (flat unknownText (ofKind Unknown ks)) question) (flat curlyText (ofKind Labile ks)) (closedBy (flat squareText (ofKind NTerm ks)) dash) _)
+unfolding canonical
+line-text bs ns = chain-text (tablesIn bs ns .brackets) (tablesIn bs ns .residues) (sym (residues-many bs ns))
 
 pub whole-line : {k : ℕ} {c o left : List ℕ} {r : ℕ} → k ≤ ceiling → Puts k o 0 c left r → WholeLine c o left r
 whole-line {c = c} {o = o} h a =

@@ -1,32 +1,29 @@
 -- Laws of ranks: of what the areas hold, of brackets in order, and of those of one rank. Assumes nothing.
 use mathlib.Core.Path.{_≡_, refl, sym, ap, ap₂, _∙_}
-use mathlib.Core.Bool.{Bool, true, false, not, _&&_, _||_, false≢true}
+use mathlib.Core.Bool.{Bool, true, false, _&&_}
 use mathlib.Core.List.{List, [], _∷_, _++_, append-assoc}
-use Prim.Native.Nat.{ℕ, zero, suc, _+_, _-_, _*_, _%_, _≤_, _<_}
+use Prim.Native.Nat.{ℕ, zero, suc, _+_, _-_, _*_, _≤_, _<_}
 use native.Mathlib.Nat.{add-zero, zero-add, le-trans, le-refl}
 use native.Mathlib.Numerals.{add-one}
 use native.Mathlib.Omega.{arith}
-use lib.Dec.{eqb, leb, ltb}
+use lib.Dec.{eqb, leb}
 use lib.IntN.{ℤ}
-use borrow.Author.Tests.{eq-eqb, ne-eqb, eqb-true, le-leb, lt-leb, leb-true, leb-false, ltb-true}
+use borrow.Author.Tests.{eq-eqb, ne-eqb, eqb-true, le-leb, lt-leb, leb-true, leb-false}
 use Rattle.basics.specs.Choice.{by-test}
-use Rattle.basics.specs.Each.{failing}
-use Rattle.basics.specs.Kinds.{else-unknown, is-kind, each-kind}
-use Rattle.basics.specs.Tests.{and-left, and-right, both-of, same-test}
-use Rattle.order_laws.specs.Ranks.{Height, level, slope, high, kindHeight}
+use Rattle.basics.specs.Kinds.{code-back, is-kind, each-kind}
+use Rattle.basics.specs.Tests.{both, both-of, same-test}
 use Rattle.scope.specs.declared.grammar.Kind.{Kind}
-use Rattle.scope.specs.declared.grammar.Kind.the-variants.{Labile, NTerm, OnResidue, OnRange, CTerm}
-use Rattle.scope.specs.Limits.{positionLimit}
+use Rattle.scope.specs.declared.grammar.Kind.the-variants.{Unknown, Labile, CTerm}
 use Rattle.scope.specs.Line.{Part, Bracket}
 use Rattle.scope.specs.Bytes.{bar}
 use Rattle.scope.specs.Canonical.{partText, partsText}
 use Rattle.scope.specs.Lists.{tabled}
 use Rattle.scope.specs.Layout.{bracketIn, tablesIn, bracketsField, kindField, lastField, partsField}
-use Rattle.scope.specs.Kinds.{kindCode, kinds, kindIn, isKind}
+use Rattle.scope.specs.Kinds.{kindCode, kindIn, isKind}
 use Rattle.areas.specs.Bounds.{Bounds}
 use Rattle.writer.specs.Here.{BracketHere, PartHere}
 use Rattle.writer.specs.Written.{nextText}
-use Rattle.writer.specs.Ranks.{lastRank, rankOf, rank, rising, orderedb, Ordered, rankIn, Ready}
+use Rattle.writer.specs.Ranks.{rankStep, rankOf, rank, rising, orderedb, Ordered, rankIn, cTermRank, Ready}
 
 -- ---- lists of what stands in a row
 module _ {A : Type 0} (f : ℕ → A) where
@@ -84,88 +81,36 @@ pub part-here : (bs : List ℕ) (ns : List ℤ) (k j : ℕ) → BracketHere bs n
 part-here bs ns k j b h = record { bracket = b; low = omega (arith, b .few-parts); bounds = b .part j h }
 
 -- ---- the rank in a row
-pub rank-other :
-    (c last : ℕ) → (c ≡ kindCode Labile → ⊥) → (c ≡ kindCode NTerm → ⊥) → (c ≡ kindCode OnResidue → ⊥) → (c ≡ kindCode OnRange → ⊥)
-    → (c ≡ kindCode CTerm → ⊥) → 0 ≡ rankOf (kindIn c) last
-rank-other c last p q r s t = ap (λ k. rankOf k last) (else-unknown c p q r s t)
+-- of a code that is a kind's own, and of one that means an unknown position
+pub rank-coded : (c last : ℕ) → kindCode Labile ≤ c → c ≤ kindCode CTerm → rankStep * last + c ≡ rankOf (kindIn c) last
+rank-coded c last h l = ap (λ n. rankStep * last + n) (sym (code-back c (omega arith) l))
+
+pub rank-unknown : (c last : ℕ) → Unknown ≡ kindIn c → rankStep * last + kindCode Unknown ≡ rankOf (kindIn c) last
+rank-unknown c last e = ap (λ k. rankOf k last) e
 
 pub rank-row : {c last r : ℕ} (bs : List ℕ) (k : ℕ) → c ≡ kindField bs k → last ≡ lastField bs k → r ≡ rankOf (kindIn c) last → r ≡ rankIn bs k
 rank-row bs k e f g = g ∙ ap₂ (λ c last. rankOf (kindIn c) last) e f
-
--- no rank is above the last
-abbrev capped : Height → Bool
-capped (level c) = leb c lastRank
-capped (slope c) = leb (c + 2 * positionLimit) lastRank
-
-capped-high : (x : Height) (n : ℕ) → n < positionLimit → capped x ≡ true → high x n ≤ lastRank
-capped-high (level c) n h e = leb-true c lastRank e
-capped-high (slope c) n h e = omega (arith, leb-true (c + 2 * positionLimit) lastRank e)
-
-rank-low : (k : Kind) (last : ℕ) → last < positionLimit → rankOf k last ≤ lastRank
-rank-low k last h = capped-high (kindHeight k) last h (each-kind (λ j. capped (kindHeight j)) refl k)
-
--- of tables within bounds
-pub rank-within : (bs : List ℕ) (ns : List ℤ) (k : ℕ) → Bounds bs ns → k < bracketsField bs → rankIn bs k ≤ lastRank
-rank-within bs ns k b h = rank-low (kindIn (kindField bs k)) (lastField bs k) (omega (arith, b .few-residues, b .bracket k h .last))
 
 pub rank-is : (bs : List ℕ) (ns : List ℤ) (k : ℕ) → rank (bracketIn bs ns k) ≡ rankIn bs k
 unfolding bracketIn
 rank-is bs ns k = refl
 
--- ---- ranks tell kinds apart
--- a level and a slope never meet: the level is below, or they are odd and even, or the slope stays below for as many positions as there are
-abbrev misses : ℕ → ℕ → ℕ → Bool
-misses a c n = ltb a c || (not (eqb (a % 2) (c % 2)) || (leb (c + 2 * positionLimit) a && ltb n positionLimit))
+-- no kind's number is above that of the C-terminus
+kind-low : (k : Kind) → kindCode k ≤ kindCode CTerm
+kind-low k = leb-true (kindCode k) (kindCode CTerm) (each-kind (λ j. leb (kindCode j) (kindCode CTerm)) refl k)
 
--- the heights x at m and y at n differ
-abbrev apart : Height → Height → ℕ → ℕ → Bool
-apart (level a) (level c) m n = not (eqb a c)
-apart (level a) (slope c) m n = misses a c n
-apart (slope a) (level c) m n = misses c a m
-apart (slope a) (slope c) m n = not (eqb (a % 2) (c % 2))
+-- nor is a rank, of tables within bounds
+pub rank-within : (bs : List ℕ) (ns : List ℤ) (k : ℕ) → Bounds bs ns → k < bracketsField bs → rankIn bs k ≤ cTermRank bs
+rank-within bs ns k b h = omega (arith, kind-low (kindIn (kindField bs k)), b .bracket k h .last)
 
-unlike : (a b : ℕ) → not (eqb a b) ≡ true → a ≡ b → ⊥
-unlike a b e q = false≢true (sym (ap not (eq-eqb a b q)) ∙ e)
-
-misses-it : (a c n : ℕ) → misses a c n ≡ true → a ≡ c + 2 * n → ⊥
-misses-it a c n e q =
-    by-test (ltb a c) (λ t. omega (arith, ltb-true a c t))
-    (λ t.
-    by-test (not (eqb (a % 2) (c % 2))) (λ u. unlike (a % 2) (c % 2) u (omega arith))
-    (λ u.
-    let above = leb (c + 2 * positionLimit) a in
-    let v : (above && ltb n positionLimit) ≡ true = rw (t, u) at e in
-    omega (arith, leb-true (c + 2 * positionLimit) a (and-left above (ltb n positionLimit) v), ltb-true n positionLimit (and-right above (ltb n positionLimit) v))))
-
-apart-high : (x y : Height) (m n : ℕ) → apart x y m n ≡ true → high x m ≡ high y n → ⊥
-apart-high (level a) (level c) m n e q = unlike a c e q
-apart-high (level a) (slope c) m n e q = misses-it a c n e q
-apart-high (slope a) (level c) m n e q = misses-it c a m e (sym q)
-apart-high (slope a) (slope c) m n e q = unlike (a % 2) (c % 2) e (omega arith)
-
--- on a slope, the same position
-abbrev there : Height → ℕ → ℕ → Bool
-there (level c) m n = true
-there (slope c) m n = eqb m n
-
-same-high : (x : Height) (m n : ℕ) → there x m n ≡ eqb (high x m) (high x n)
-same-high (level c) m n = sym (eq-eqb c c refl)
-same-high (slope c) m n =
-    same-test _ _ (λ e. eq-eqb _ _ (ap (λ i. c + 2 * i) (eqb-true m n e)))
-    (λ e. let q = eqb-true (c + 2 * m) (c + 2 * n) e in eq-eqb m n (omega arith))
-
--- a bracket that ends at `last` has the rank of a kind at i where it is of that kind, and there
-pub rank-tells :
-    (j : Kind) (last i : ℕ) → failing (λ k. isKind j k || apart (kindHeight k) (kindHeight j) last i) kinds ≡ [] → (k : Kind)
-    → (isKind j k && there (kindHeight j) last i) ≡ eqb (rankOf k last) (rankOf j i)
-rank-tells j last i e k =
-    by-test (isKind j k)
-    (λ t.
-    ap (λ s. s && there (kindHeight j) last i) t ∙ same-high (kindHeight j) last i
-    ∙ ap (λ z. eqb (rankOf z last) (rankOf j i)) (sym (is-kind j k t)))
-    (λ t.
-    let a : apart (kindHeight k) (kindHeight j) last i ≡ true = rw t at (each-kind (λ z. isKind j z || apart (kindHeight z) (kindHeight j) last i) e k) in
-    ap (λ s. s && there (kindHeight j) last i) t ∙ sym (ne-eqb _ _ (apart-high (kindHeight k) (kindHeight j) last i a)))
+-- ---- ranks tell kinds and positions apart
+pub rank-tells : (j k : Kind) (last i : ℕ) → (isKind j k && eqb last i) ≡ eqb (rankOf k last) (rankOf j i)
+rank-tells j k last i =
+    same-test (isKind j k && eqb last i) (eqb (rankOf k last) (rankOf j i))
+    (λ e. let p = both-of (isKind j k) (eqb last i) e in eq-eqb _ _ (ap₂ rankOf (is-kind j k (p .0)) (eqb-true last i (p .1))))
+    (λ e.
+    let q = eqb-true (rankOf k last) (rankOf j i) e in
+    both (isKind j k) (eqb last i) (eq-eqb (kindCode k) (kindCode j) (omega (arith, kind-low j, kind-low k))) (eq-eqb last i (omega (arith, kind-low j, kind-low k))))
 
 -- ---- whether they rise
 pub record Risen (bs : List ℕ) (m k q : ℕ) : Type 0 where

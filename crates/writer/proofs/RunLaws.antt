@@ -60,7 +60,7 @@ module _ (shape : Shape) (q : ℕ) where
     run-one j = sym (ap (runText shape q) (tabled-more f j) ∙ run-snoc (tabled f 0 j) (f j))
 
     -- where no bracket has the rank, a longer list has no more of it
-    pub quiet :
+    quiet :
         (j n : ℕ) → ((i : ℕ) → j ≤ i → i < j + n → rank (f i) ≡ q → ⊥) → runText shape q (tabled f 0 (j + n)) ≡ runText shape q (tabled f 0 j)
     quiet j zero h = ap (λ n. runText shape q (tabled f 0 n)) (add-zero j)
     quiet j (suc n) h =
@@ -72,7 +72,7 @@ module _ (shape : Shape) (q : ℕ) where
         ∙ append-nil _
         ∙ quiet j n (λ i a b. h i a (omega arith))
 
-    pub run-empty : runText shape q (tabled f 0 0) ≡ []
+    run-empty : runText shape q (tabled f 0 0) ≡ []
     unfolding flat keep tabled
     run-empty = refl
 

@@ -1,28 +1,32 @@
--- "A line has this order": where a bracket of each kind stands in it, as a number. The brackets of a line's tables do not fall in it.
+-- What the writer puts by ranks: the brackets of one rank, what stands before the sequence, a residue with its brackets; and how far it has come.
 use mathlib.Core.Path.{_≡_}
 use mathlib.Core.Bool.{cond}
 use mathlib.Core.List.{List, [], _∷_, _++_}
 use Prim.Native.Nat.{ℕ, _+_, _-_, _*_, _≤_, _<_}
 use lib.Dec.{eqb}
 use lib.IntN.{ℤ}
-use Rattle.scope.specs.declared.grammar.Kind.the-variants.{OnResidue, OnRange}
+use Rattle.scope.specs.declared.grammar.Kind.the-variants.{Unknown, Labile, NTerm, OnResidue, OnRange, CTerm}
 use Rattle.scope.specs.Bytes.{question, dash}
 use Rattle.scope.specs.Line.{Bracket, Residue}
 use Rattle.scope.specs.Lists.{keep, flat, tabled}
 use Rattle.scope.specs.Canonical.{unknownText, curlyText, squareText, endingAt, closedBy, opening, ending, goesOn, sequenceText}
-use Rattle.scope.specs.Layout.{residueIn, tablesIn, bracketsField, kindField, lastField}
+use Rattle.scope.specs.Layout.{residueIn, tablesIn, bracketsField, kindField, lastField, residuesField}
 use Rattle.scope.specs.Kinds.{kindIn}
 use Rattle.areas.specs.Bounds.{Bounds}
 use Rattle.writer.specs.declared.Shape.{Shape}
 use Rattle.writer.specs.declared.Shape.the-variants.{Counted, Curly, Square}
 use Rattle.figures.specs.Written.{Puts}
 use Rattle.writer.specs.Written.{bracketMost, residueMost}
-pub use Rattle.order_laws.specs.Ranks.{lastRank, rankOf, rank, Ordered}
+pub use Rattle.order_laws.specs.Ranks.{rankStep, rankOf, rank, Ordered}
 unfoldable pub use Rattle.order_laws.specs.Ranks.{rising, orderedb}
 
 -- ---- the same in the areas
 abbrev pub rankIn : List ℕ → ℕ → ℕ
 rankIn bs k = rankOf (kindIn (kindField bs k)) (lastField bs k)
+
+-- of a bracket at the C-terminus
+abbrev pub cTermRank : List ℕ → ℕ
+cTermRank bs = rankOf CTerm (residuesField bs + 1)
 
 -- tables within bounds whose brackets are in order
 pub record Ready (bs : List ℕ) (ns : List ℤ) : Type 0 where
@@ -46,7 +50,8 @@ runText shape q ks = flat (textAs shape) (keep (λ k. eqb (rank k) q) ks)
 
 -- what stands before the sequence
 abbrev pub frontText : {P : Type 0} → List (Bracket P) → List ℕ
-frontText ks = closedBy (runText Counted 0 ks) question ++ (runText Curly 1 ks ++ closedBy (runText Square 2 ks) dash)
+frontText ks =
+    closedBy (runText Counted (rankOf Unknown 0) ks) question ++ (runText Curly (rankOf Labile 0) ks ++ closedBy (runText Square (rankOf NTerm 0) ks) dash)
 
 -- a step from bracket `from` to bracket `next`: the text t was put, with so many bytes outside brackets at most; every bracket before `next` has a
 -- rank below q
@@ -71,7 +76,7 @@ pub record Spelt (bs : List ℕ) (ns : List ℤ) (n from : ℕ) (o : List ℕ) (
   pub rest :
       done ++ sequenceText (tablesIn bs ns .brackets) (p + 1) (tabled (residueIn bs) p (n - p))
       ≡ sequenceText (tablesIn bs ns .brackets) 1 (tabled (residueIn bs) 0 n)
-  pub walks : Walks bs (residueMost * p) from (5 + 2 * p) o at done out a j
+  pub walks : Walks bs (residueMost * p) from (rankOf OnResidue (p + 1)) o at done out a j
 
 -- no bracket from bracket j on has a rank below q
 abbrev pub Clear : List ℕ → ℕ → ℕ → Type 0
@@ -79,7 +84,7 @@ Clear bs j q = (k : ℕ) → j ≤ k → k < bracketsField bs → q ≤ rankIn b
 
 -- every bracket from bracket j on stands behind the first e residues and their brackets
 abbrev pub Behind : List ℕ → ℕ → ℕ → Type 0
-Behind bs j e = (i k : ℕ) → i < e → j ≤ k → k < bracketsField bs → 5 + 2 * i < rankIn bs k
+Behind bs j e = (i k : ℕ) → i < e → j ≤ k → k < bracketsField bs → rankOf OnResidue (i + 1) < rankIn bs k
 
 -- where the first p residues were written, the first i are, with no bracket more than the first j
 abbrev pub Spells : List ℕ → List ℤ → ℕ → ℕ → List ℕ → ℕ → ℕ → List ℕ → ℕ → ℕ → Type 0

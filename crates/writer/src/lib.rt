@@ -3,7 +3,6 @@ use figures::copy;
 use figures::put;
 use figures::put_count;
 use figures::put_number;
-use scope::answers::Ledger;
 use scope::tables::Tables;
 use spelling::put_key;
 ghost use mathlib.Core.Path.{_≡_};
@@ -11,6 +10,7 @@ ghost use mathlib.Core.List.{List, [], _∷_, _++_};
 ghost use Prim.Native.Nat.{ℕ, _+_, _-_, _*_, _<_, _≤_};
 ghost use lib.IntN.{ℤ};
 ghost use lib.ListN.{length};
+ghost use Rattle.scope.specs.declared.grammar.Kind.the-variants.{OnResidue, OnRange};
 ghost use Rattle.scope.specs.Bytes.{wideLimit, dash, shutRound};
 ghost use Rattle.scope.specs.Canonical.{valueText, labelText, partText, partsText, opening, ending, isNext, goesOn, sequenceText, closedBy, ledBy, canonical};
 ghost use Rattle.scope.specs.Lists.{given, tabled};
@@ -21,14 +21,16 @@ ghost use Rattle.areas.specs.Bounds.{Bounds};
 ghost use Rattle.figures.specs.Written.{Puts, ceiling};
 ghost use Rattle.writer.specs.Written.{valueMost, scoreMost, labelMost, partMost, nextMost, partsMost, betweenMost, bracketMost, residueMost, residuesMost, frontMost, lineMost, scoredText, nextText, WholeLine};
 ghost use Rattle.writer.specs.Here.{BracketHere, PartHere, Room};
-ghost use Rattle.writer.specs.Ranks.{lastRank, rankOf, rankIn, orderedb, Ready, textAs, rankedText, runText, frontText, Walks, residueText, Clear, Behind, Spells, Ordered};
+ghost use Rattle.writer.specs.Ranks.{rankOf, rankIn, cTermRank, orderedb, Ready, textAs, rankedText, runText, frontText, Walks, residueText, Clear, Behind, Spells, Ordered};
 
 // The codes of a part's value: a mass, a text.
 const MASS: usize = 1;
 
 const TEXT: usize = 2;
 
-// The codes of the kinds of brackets; any other is that of a bracket of unknown position.
+// The codes of the kinds of brackets; any other number means an unknown position.
+const UNKNOWN: usize = 1;
+
 const LABILE: usize = 2;
 
 const N_TERM: usize = 3;
@@ -50,15 +52,8 @@ const UNSURE_FIRST: usize = 3;
 
 const UNSURE_NEXT: usize = 4;
 
-// The ranks before the sequence, in order: of unknown position, labile, at the N-terminus.
-const UNKNOWN_RANK: usize = 0;
-
-const LABILE_RANK: usize = 1;
-
-const N_TERM_RANK: usize = 2;
-
-// The rank of the C-terminus.
-const LAST_RANK: usize = 4 + 2 * Ledger::POSITIONS;
+// From the ranks of a position to those of the next: a bracket's rank is that of its last position and the code of its kind.
+const RANK_STEP: usize = 8;
 
 // ---- parts
 
@@ -223,12 +218,8 @@ fn rank_of(c: usize, last: usize) -> usize
     ensures { λ r. ⌜ r ≡ rankOf (kindIn c) last ⌝ }
 {
     match c {
-        LABILE => LABILE_RANK,
-        N_TERM => N_TERM_RANK,
-        ON_RESIDUE => 3 + 2 * last,
-        ON_RANGE => 4 + 2 * last,
-        C_TERM => LAST_RANK,
-        _ => UNKNOWN_RANK,
+        LABILE..=C_TERM => RANK_STEP * last + c,
+        _ => RANK_STEP * last + UNKNOWN,
     }
 }
 
@@ -364,11 +355,19 @@ fn put_range_end(
     out: &mut [u8],
     at: usize,
 ) -> Pen
-    requires { ⌜ Ready (now bytes) (now numbers) × (from ≤ bracketsField (now bytes)) × ((k : ℕ) → k < from → rankIn (now bytes) k < 4 + 2 * i) × Room (now bytes) from 1 at × (i ≤ residueLimit) ⌝ }
-    ensures { λ r. ⌜ Walks (now (bytes .entry)) 1 from (5 + 2 * i) (now (out .entry)) at (shutRound ∷ runText Shape.Square (4 + 2 * i) (tablesIn (now (bytes .entry)) (now (numbers .entry)) .brackets)) (now (out .exit)) (r .place) (r .next) ⌝ }
+    requires { ⌜ Ready (now bytes) (now numbers) × (from ≤ bracketsField (now bytes)) × ((k : ℕ) → k < from → rankIn (now bytes) k < rankOf OnRange i) × Room (now bytes) from 1 at × (i ≤ residueLimit) ⌝ }
+    ensures { λ r. ⌜ Walks (now (bytes .entry)) 1 from (rankOf OnRange i + 1) (now (out .entry)) at (shutRound ∷ runText Shape.Square (rankOf OnRange i) (tablesIn (now (bytes .entry)) (now (numbers .entry)) .brackets)) (now (out .exit)) (r .place) (r .next) ⌝ }
 {
     let a = put(out, at, b')');
-    put_run(bytes, numbers, from, 4 + 2 * i, Shape::Square, out, a)
+    put_run(
+        bytes,
+        numbers,
+        from,
+        RANK_STEP * i + ON_RANGE,
+        Shape::Square,
+        out,
+        a,
+    )
 }
 
 // What closes a group of section c that ends at position i.
@@ -381,8 +380,8 @@ fn put_ending(
     out: &mut [u8],
     at: usize,
 ) -> Pen
-    requires { ⌜ Ready (now bytes) (now numbers) × (from ≤ bracketsField (now bytes)) × ((k : ℕ) → k < from → rankIn (now bytes) k < 4 + 2 * i) × Room (now bytes) from 1 at × (i ≤ residueLimit) ⌝ }
-    ensures { λ r. ⌜ Walks (now (bytes .entry)) 1 from (5 + 2 * i) (now (out .entry)) at (ending (sectionIn c) (runText Shape.Square (4 + 2 * i) (tablesIn (now (bytes .entry)) (now (numbers .entry)) .brackets))) (now (out .exit)) (r .place) (r .next) ⌝ }
+    requires { ⌜ Ready (now bytes) (now numbers) × (from ≤ bracketsField (now bytes)) × ((k : ℕ) → k < from → rankIn (now bytes) k < rankOf OnRange i) × Room (now bytes) from 1 at × (i ≤ residueLimit) ⌝ }
+    ensures { λ r. ⌜ Walks (now (bytes .entry)) 1 from (rankOf OnRange i + 1) (now (out .entry)) at (ending (sectionIn c) (runText Shape.Square (rankOf OnRange i) (tablesIn (now (bytes .entry)) (now (numbers .entry)) .brackets))) (now (out .exit)) (r .place) (r .next) ⌝ }
 {
     if c == RANGE_FIRST {
         return put_range_end(bytes, numbers, i, from, out, at);
@@ -420,20 +419,38 @@ fn put_residue(
     out: &mut [u8],
     at: usize,
 ) -> Pen
-    requires { ⌜ Ready (now bytes) (now numbers) × (from ≤ bracketsField (now bytes)) × ((k : ℕ) → k < from → rankIn (now bytes) k < 5 + 2 * p) × Room (now bytes) from residueMost at × (n ≡ residuesField (now bytes)) × (p < n) ⌝ }
-    ensures { λ r. ⌜ Walks (now (bytes .entry)) residueMost from (5 + 2 * (p + 1)) (now (out .entry)) at (residueText (tablesIn (now (bytes .entry)) (now (numbers .entry)) .brackets) (p + 1) (residueIn (now (bytes .entry)) p) (tabled (residueIn (now (bytes .entry))) (p + 1) (n - (p + 1)))) (now (out .exit)) (r .place) (r .next) ⌝ }
+    requires { ⌜ Ready (now bytes) (now numbers) × (from ≤ bracketsField (now bytes)) × ((k : ℕ) → k < from → rankIn (now bytes) k < rankOf OnResidue (p + 1)) × Room (now bytes) from residueMost at × (n ≡ residuesField (now bytes)) × (p < n) ⌝ }
+    ensures { λ r. ⌜ Walks (now (bytes .entry)) residueMost from (rankOf OnResidue (p + 1 + 1)) (now (out .entry)) at (residueText (tablesIn (now (bytes .entry)) (now (numbers .entry)) .brackets) (p + 1) (residueIn (now (bytes .entry)) p) (tabled (residueIn (now (bytes .entry))) (p + 1) (n - (p + 1)))) (now (out .exit)) (r .place) (r .next) ⌝ }
 {
     let c = areas::section(bytes, p);
     let b = areas::letter(bytes, p);
     let a = put_opening(c, out, at);
     let e = put(out, a, b);
-    let pen = put_run(bytes, numbers, from, 5 + 2 * p, Shape::Square, out, e);
+    let i = p + 1;
+    let pen = put_run(
+        bytes,
+        numbers,
+        from,
+        RANK_STEP * i + ON_RESIDUE,
+        Shape::Square,
+        out,
+        e,
+    );
     let place = pen.place;
     let next = pen.next;
-    if goes_on(bytes, p + 1, n) {
+    if goes_on(bytes, i, n) {
         return pen;
     }
-    put_ending(bytes, numbers, c, p + 1, next, out, place)
+    put_ending(bytes, numbers, c, i, next, out, place)
+}
+
+// The rank of a bracket at the C-terminus.
+fn c_term_rank(bytes: &[u8]) -> usize
+    requires { ⌜ bytesSize ≤ length (now bytes) ⌝ }
+    ensures { λ r. ⌜ r ≡ cTermRank (now (bytes .entry)) ⌝ }
+{
+    let n = areas::residues(bytes);
+    RANK_STEP * (n + 1) + C_TERM
 }
 
 // The rank of bracket j, or that of the C-terminus where there is no such bracket.
@@ -444,21 +461,21 @@ fn next_rank(bytes: &[u8], j: usize) -> usize
     if j < areas::brackets(bytes) {
         return rank_at(bytes, j);
     }
-    LAST_RANK
+    c_term_rank(bytes)
 }
 
-// How many residues, of n, have a rank below q: that of the residue with index i is 5 + 2 * i.
-fn ranked_below(n: usize, q: usize) -> usize
-    ensures { λ r. ⌜ (r ≤ n) × ((i : ℕ) → i < r → 5 + 2 * i < q) ⌝ }
+// How many residues, of n, stand before the position of rank q.
+fn residues_before(n: usize, q: usize) -> usize
+    ensures { λ r. ⌜ (r ≤ n) × ((i : ℕ) → i < r → rankOf OnResidue (i + 1) < q) ⌝ }
 {
-    if q < 4 {
+    let last = q / RANK_STEP;
+    if n < last {
+        return n;
+    }
+    if last == 0 {
         return 0;
     }
-    let e = (q - 4) / 2;
-    if e < n {
-        return e;
-    }
-    n
+    last - 1
 }
 
 // The residues from index p on, before index e, as far as they stand by themselves.
@@ -483,14 +500,14 @@ fn put_bare(bytes: &[u8], p: usize, n: usize, j: usize, out: &mut [u8], at: usiz
     requires { ⌜ (bytesSize ≤ length (now bytes)) × (bracketsField (now bytes) ≤ bracketLimit) × (n ≤ residueLimit) × (at + (n - p) ≤ ceiling) ⌝ }
     ensures { λ r. ⌜ (p ≤ r .next) × ((ns : List ℤ) → Ready (now (bytes .entry)) ns → Spells (now (bytes .entry)) ns n j (now (out .entry)) p at (now (out .exit)) (r .next) (r .place)) ⌝ }
 {
-    let e = ranked_below(n, next_rank(bytes, j));
+    let e = residues_before(n, next_rank(bytes, j));
     put_letters(bytes, p, e, out, at)
 }
 
 // The sequence: residues by themselves, then one with a section or brackets, and so on.
 fn put_sequence(bytes: &[u8], numbers: &[i64], from: usize, out: &mut [u8], at: usize) -> Pen
-    requires { ⌜ Ready (now bytes) (now numbers) × (from ≤ bracketsField (now bytes)) × ((k : ℕ) → k < from → rankIn (now bytes) k < 3) × Room (now bytes) from residuesMost at ⌝ }
-    ensures { λ r. ⌜ Walks (now (bytes .entry)) residuesMost from lastRank (now (out .entry)) at (sequenceText (tablesIn (now (bytes .entry)) (now (numbers .entry)) .brackets) 1 (tablesIn (now (bytes .entry)) (now (numbers .entry)) .residues)) (now (out .exit)) (r .place) (r .next) ⌝ }
+    requires { ⌜ Ready (now bytes) (now numbers) × (from ≤ bracketsField (now bytes)) × ((k : ℕ) → k < from → rankIn (now bytes) k < rankOf OnResidue 1) × Room (now bytes) from residuesMost at ⌝ }
+    ensures { λ r. ⌜ Walks (now (bytes .entry)) residuesMost from (cTermRank (now (bytes .entry))) (now (out .entry)) at (sequenceText (tablesIn (now (bytes .entry)) (now (numbers .entry)) .brackets) 1 (tablesIn (now (bytes .entry)) (now (numbers .entry)) .residues)) (now (out .exit)) (r .place) (r .next) ⌝ }
 {
     let n = areas::residues(bytes);
     let mut p = 0;
@@ -539,46 +556,38 @@ fn put_closed(
 
 // `-` and the C-terminal brackets, where there are any.
 fn put_c_term(bytes: &[u8], numbers: &[i64], from: usize, out: &mut [u8], at: usize) -> usize
-    requires { ⌜ Ready (now bytes) (now numbers) × (from ≤ bracketsField (now bytes)) × ((i : ℕ) → i < from → rankIn (now bytes) i < lastRank) × Room (now bytes) from 1 at ⌝ }
-    ensures { λ r. ⌜ Puts (bracketMost * (bracketsField (now (bytes .entry)) - from) + 1) (now (out .entry)) at (ledBy dash (runText Shape.Square lastRank (tablesIn (now (bytes .entry)) (now (numbers .entry)) .brackets))) (now (out .exit)) r ⌝ }
+    requires { ⌜ Ready (now bytes) (now numbers) × (from ≤ bracketsField (now bytes)) × ((i : ℕ) → i < from → rankIn (now bytes) i < cTermRank (now bytes)) × Room (now bytes) from 1 at ⌝ }
+    ensures { λ r. ⌜ Puts (bracketMost * (bracketsField (now (bytes .entry)) - from) + 1) (now (out .entry)) at (ledBy dash (runText Shape.Square (cTermRank (now (bytes .entry))) (tablesIn (now (bytes .entry)) (now (numbers .entry)) .brackets))) (now (out .exit)) r ⌝ }
 {
     let m = areas::brackets(bytes);
     if m == 0 {
         return at;
     }
+    let q = c_term_rank(bytes);
     let r = rank_at(bytes, m - 1);
-    if r < LAST_RANK {
+    if r < q {
         return at;
     }
     let a = put(out, at, b'-');
-    let pen = put_run(bytes, numbers, from, LAST_RANK, Shape::Square, out, a);
+    let pen = put_run(bytes, numbers, from, q, Shape::Square, out, a);
     pen.place
 }
 
 // What stands before the sequence: nothing where the first bracket stands in it or behind it.
 fn put_front(bytes: &[u8], numbers: &[i64], out: &mut [u8], at: usize) -> Pen
     requires { ⌜ Ready (now bytes) (now numbers) × Room (now bytes) 0 frontMost at ⌝ }
-    ensures { λ r. ⌜ Walks (now (bytes .entry)) frontMost 0 3 (now (out .entry)) at (frontText (tablesIn (now (bytes .entry)) (now (numbers .entry)) .brackets)) (now (out .exit)) (r .place) (r .next) ⌝ }
+    ensures { λ r. ⌜ Walks (now (bytes .entry)) frontMost 0 (rankOf OnResidue 1) (now (out .entry)) at (frontText (tablesIn (now (bytes .entry)) (now (numbers .entry)) .brackets)) (now (out .exit)) (r .place) (r .next) ⌝ }
 {
-    if N_TERM_RANK < next_rank(bytes, 0) {
+    if N_TERM < next_rank(bytes, 0) {
         return Pen { place: at, next: 0 };
     }
-    let unknown = put_closed(
-        bytes,
-        numbers,
-        0,
-        UNKNOWN_RANK,
-        Shape::Counted,
-        b'?',
-        out,
-        at,
-    );
+    let unknown = put_closed(bytes, numbers, 0, UNKNOWN, Shape::Counted, b'?', out, at);
     let a = unknown.place;
     let i = unknown.next;
-    let labile = put_run(bytes, numbers, i, LABILE_RANK, Shape::Curly, out, a);
+    let labile = put_run(bytes, numbers, i, LABILE, Shape::Curly, out, a);
     let b = labile.place;
     let j = labile.next;
-    put_closed(bytes, numbers, j, N_TERM_RANK, Shape::Square, b'-', out, b)
+    put_closed(bytes, numbers, j, N_TERM, Shape::Square, b'-', out, b)
 }
 
 // The canonical line from a place on, as much of it as fits into the output.

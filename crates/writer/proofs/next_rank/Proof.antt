@@ -8,4 +8,5 @@ returns : tie.Need-returns
 returns c = λ ns d k h l. omega (arith, d .sorted _ k h l, c .rank-at .ensures)
 
 pub next-rank-spec : {M : Type 1} → statement M
-next-rank-spec = tie.close (tie.spec (λ c κs. search needs) (λ c κs. search needs) returns (λ c. search needs))
+next-rank-spec =
+    tie.close (tie.spec (λ c κs. search needs) (λ c κs. search needs) returns (λ c κs. search needs) (λ c. search needs))

@@ -10,7 +10,7 @@ returns c =
     let b = l .before .before in
     let q = b .before in
     let bytes = q .before .before .before .args .bytes .now in
-    let below = b .ranked-below .ensures in
+    let below = b .residues-before .ensures in
     let letters = l .put-letters .ensures in
     (letters .0, λ ns d. letters .1 ns _ _ (below .0) (behind-clear bytes (q .next-rank .ensures ns d) (below .1)))
 

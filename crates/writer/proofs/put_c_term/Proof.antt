@@ -14,37 +14,45 @@ returns c =
 
 returns-2 : tie.Need-returns-2
 returns-2 c =
-    let i = c .before .before in
+    let r = c .before in
+    let t = r .before in
+    let i = t .before in
     let s = i .before .before .before .before in
-    puts-of (c-term-below (s .args .bytes .now) (s .args .numbers .now) (i .before .brackets .ensures .0) (s .pre .0) (i .if1 .left) (c .before .rank-at .ensures) (c .if2 .taken))
+    puts-of
+    (c-term-below (s .args .bytes .now) (s .args .numbers .now) (i .before .brackets .ensures .0) (s .pre .0) (i .if1 .left) (t .c-term-rank .ensures)
+    (r .rank-at .ensures) (c .if2 .taken))
     (puts-within (omega arith) (puts-none _ _))
 
 put-requires : tie.Need-put-requires
 put-requires c κs =
-    let s = c .before .before .before .before .before .before .before in
+    let s = c .before .before .before .before .before .before .before .before in
     omega (arith, s .pre .3 .fits)
 
 put-run-requires : tie.Need-put-run-requires
 put-run-requires c κs =
     let p = c .before .before .before in
-    let s = p .before .before .before .before .before .before .before .before in
-    (s .pre .0, s .pre .1, s .pre .2, room-behind (omega arith) (p .put .ensures) (s .pre .3))
+    let t = p .before .before .before .before in
+    let s = t .before .before .before .before .before in
+    (s .pre .0, s .pre .1, (λ i h. omega (arith, s .pre .2 i h, t .c-term-rank .ensures)), room-behind (omega arith) (p .put .ensures) (s .pre .3))
 
 returns-3 : tie.Need-returns-3
 returns-3 c =
     let w = c .before .before in
     let p = w .before .before .before .before in
     let e = p .before .before in
-    let i = e .before .before in
+    let r = e .before in
+    let t = r .before in
+    let i = t .before in
     let s = i .before .before .before .before in
     let v = w .put-run .ensures in
     puts-of
-    (c-term-some (s .args .bytes .now) (s .args .numbers .now) (i .before .brackets .ensures .0) (s .pre .0) (i .if1 .left) (e .before .rank-at .ensures)
-    (e .if2 .left))
+    (c-term-some (s .args .bytes .now) (s .args .numbers .now) (i .before .brackets .ensures .0) (s .pre .0) (i .if1 .left) (t .c-term-rank .ensures)
+    (r .rank-at .ensures) (e .if2 .left))
     (puts-within (omega (arith, v .within, v .forth)) (puts-join (p .put .ensures) (v .puts)))
 
 pub put-c-term-spec : {M : Type 1} → statement M
 put-c-term-spec =
     tie.close
     (tie.spec
-    (λ c κs. search needs) returns (λ c. search needs) (λ c κs. search needs) returns-2 put-requires put-run-requires (λ c. search needs) returns-3)
+    (λ c κs. search needs) returns (λ c κs. search needs) (λ c. search needs) (λ c κs. search needs) returns-2 put-requires put-run-requires
+    (λ c. search needs) returns-3)

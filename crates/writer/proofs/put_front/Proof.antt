@@ -2,7 +2,7 @@
 use native.Mathlib.Nat.{le-refl}
 use native.Mathlib.Omega.{arith}
 use Rattle.figures.proofs.Storing.{puts-none, puts-within}
-use Rattle.writer.proofs.Walking.{walks-of, walks-still, walks-then, room-less, room-after}
+use Rattle.writer.proofs.Walking.{walks-of, walks-still, walks-then, walks-up, room-less, room-after}
 use Rattle.writer.proofs.LineLaws.{front-none}
 use borrow.Author.Needs.{needs}
 use Rattle.writer.proofs.put_front.Statement.{statement}
@@ -42,7 +42,7 @@ returns-2 c =
     let n = c .before .before in
     let l = n .before .before .before .before in
     let u = l .before .before .before .before in
-    walks-then _ (le-refl _) (u .put-closed .ensures) (walks-then 1 (le-refl _) (l .put-run .ensures) (n .put-closed2 .ensures))
+    walks-up (le-refl _) (omega arith) (walks-then _ (le-refl _) (u .put-closed .ensures) (walks-then 1 (le-refl _) (l .put-run .ensures) (n .put-closed2 .ensures)))
 
 pub put-front-spec : {M : Type 1} → statement M
 put-front-spec =

@@ -43,7 +43,7 @@ returns c =
     let b = s .pre .0 in
     let y = q .put-sequence .ensures in
     let whole = walks-then _ (le-refl _) (f .put-front .ensures) (walks-before _ (le-refl _) y (t .put-c-term .ensures)) in
-    puts-within (omega (arith, y .within, b .few-brackets)) (puts-of (line-text (s .args .bytes .now) (s .args .numbers .now) b) (whole .puts))
+    puts-within (omega (arith, y .within, b .few-brackets)) (puts-of (line-text (s .args .bytes .now) (s .args .numbers .now)) (whole .puts))
 
 pub put-line-spec : {M : Type 1} → statement M
 put-line-spec =

@@ -3,6 +3,7 @@ use Prim.Native.Nat.{_+_, _-_}
 use Rattle.scope.specs.Lists.{tabled}
 use Rattle.scope.specs.Layout.{residueIn, tablesIn}
 use mathlib.Core.Path.{sym, _∙_}
+use native.Mathlib.Nat.{le-refl}
 use native.Mathlib.Omega.{arith}
 use Rattle.writer.specs.Written.{residueMost}
 use Rattle.writer.proofs.Walking.{walks-of, walks-up, walks-after, walks-then, room-behind, room-after}
@@ -71,12 +72,13 @@ returns-2 c =
     let s = l .before .before .before .before in
     let b = s .pre .0 .bounds in
     let a = s .args in
-    walks-of (residue-off (a .bytes .now) (tablesIn (a .bytes .now) (a .numbers .now) .brackets) (a .p) (tabled (residueIn (a .bytes .now)) (a .p + 1) (a .n - (a .p + 1))) (l .before .section .ensures .0) (l .letter .ensures) (omega (arith, b .few-residues, s .pre .4, s .pre .5)) (sym (g .goes-on .ensures) ∙ n .before .before .if1 .left))
-    (walks-then residueMost (omega arith) (walks-after 3 (omega arith) (q .put-opening .ensures) (walks-after 1 (omega arith) (p .put .ensures) (w .put-run .ensures))) (n .put-ending .ensures))
+    walks-of (residue-off (a .bytes .now) (tablesIn (a .bytes .now) (a .numbers .now) .brackets) (a .p) (tabled (residueIn (a .bytes .now)) (a .p + 1) (a .n - (a .p + 1))) (l .before .section .ensures .0) (l .letter .ensures) (sym (g .goes-on .ensures) ∙ n .before .before .if1 .left))
+    (walks-up (le-refl _) (omega arith)
+    (walks-then residueMost (omega arith) (walks-after 3 (omega arith) (q .put-opening .ensures) (walks-after 1 (omega arith) (p .put .ensures) (w .put-run .ensures))) (n .put-ending .ensures)))
 
 pub put-residue-spec : {M : Type 1} → statement M
 put-residue-spec =
     tie.close
     (tie.spec
-    (λ c κs. search needs) (λ c κs. search needs) put-opening-requires put-requires (λ c. search needs) (λ c. search needs) put-run-requires
-    (λ c. search needs) (λ c κs. search needs) (λ c. search needs) returns (λ c. search needs) put-ending-requires (λ c. search needs) returns-2)
+    (λ c κs. search needs) (λ c κs. search needs) put-opening-requires put-requires (λ c. search needs) (λ c. search needs) (λ c. search needs)
+    put-run-requires (λ c κs. search needs) (λ c. search needs) returns put-ending-requires (λ c. search needs) returns-2)

@@ -1,31 +1,20 @@
--- The rank of each kind, by its code. Assumes nothing.
-use Rattle.writer.proofs.RankLaws.{rank-other}
+-- The rank of a bracket by the code of its kind: its own number, or that of unknown position. Assumes nothing.
+use mathlib.Core.Logic.{⊎-elim}
+use native.Mathlib.Omega.{arith}
+use Rattle.basics.specs.Kinds.{before-unknown, behind-unknown}
+use Rattle.writer.proofs.RankLaws.{rank-coded, rank-unknown}
 use borrow.Author.Needs.{needs}
 use Rattle.writer.proofs.rank_of.Statement.{statement}
 use Rattle.writer.proofs.rank_of.Tie as tie
 
 returns : tie.Need-returns
-returns c = rw (c .match .keys1)
+returns c = rank-coded _ _ (c .before .if1 .left) (omega (arith, c .if2 .taken))
 
 returns-2 : tie.Need-returns-2
-returns-2 c = rw (c .match .keys2)
-
-returns-3 : tie.Need-returns-3
-returns-3 c = rw (c .match .keys3)
-
-returns-4 : tie.Need-returns-4
-returns-4 c = rw (c .match .keys4)
-
-returns-5 : tie.Need-returns-5
-returns-5 c = rw (c .match .keys5)
-
-returns-6 : tie.Need-returns-6
-returns-6 c =
-    let no = c .match .rest in
-    rank-other _ _ (no .0 .0 .0 .0 .1) (no .0 .0 .0 .1) (no .0 .0 .1) (no .0 .1) (no .1)
+returns-2 c =
+    let k = c .before .args .c in
+    rank-unknown k _ (⊎-elim (λ w. before-unknown k (w .taken)) (λ w. behind-unknown k (omega (arith, w .1 .left))) (c .if1 .came))
 
 pub rank-of-spec : {M : Type 1} → statement M
 rank-of-spec =
-    tie.close
-    (tie.spec
-    (λ c. search needs) (λ c. search needs) (λ c. search needs) (λ c. search needs) returns returns-2 returns-3 returns-4 returns-5 returns-6)
+    tie.close (tie.spec (λ c. search needs) (λ c. search needs) (λ c. search needs) (λ c. search needs) returns returns-2)

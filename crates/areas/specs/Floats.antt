@@ -8,7 +8,7 @@ use lib.ListN.{length, getD, take}
 use Rattle.scope.specs.Limits.{copyLimit, rowLimit, positionLimit}
 use Rattle.scope.specs.Lists.{keep, tabled}
 use Rattle.scope.specs.Layout.{bracketIn, tablesIn, bracketsField}
-use Rattle.scope.specs.Positions.{floaters, permittedPositions}
+use Rattle.scope.specs.Positions.{floaters, Floating, floatingOf}
 
 -- the positions of floater f: those x whose byte, among the 256 of f, is 1
 unfoldable pub listIn : List ℕ → ℕ → List ℕ
@@ -17,6 +17,10 @@ listIn tab f = keep (λ x. eqb (getD tab (f * positionLimit + x) 0) 1) (tabled (
 -- of the first so many floaters
 unfoldable pub listsIn : List ℕ → ℕ → List (List ℕ)
 listsIn tab count = tabled (listIn tab) 0 count
+
+-- what floats, by the table
+abbrev pub floatingIn : List ℕ → ℕ → Floating
+floatingIn tab count = record { lists = listsIn tab count }
 
 -- a table with room for every floater, and so many of them
 pub record Sized (tab : List ℕ) (count : ℕ) : Type 0 where
@@ -31,4 +35,4 @@ pub record FloatersAre (bs : List ℕ) (ns : List ℤ) (count : ℕ) (index : Li
   pub inside : (i : ℕ) → i < count → getD index i 0 < bracketsField bs
 
 abbrev pub TableIs : List ℕ → List ℤ → List ℕ → ℕ → Type 0
-TableIs bs ns tab count = listsIn tab count ≡ permittedPositions (tablesIn bs ns)
+TableIs bs ns tab count = listsIn tab count ≡ floatingOf (tablesIn bs ns) .lists

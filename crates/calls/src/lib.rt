@@ -23,7 +23,7 @@ ghost use Prim.Native.Nat.{_≤_};
 ghost use lib.ListN.{length};
 ghost use Rattle.scope.specs.Layout.{tablesIn};
 ghost use Rattle.scope.specs.Limits.{copyLimit, rowLimit};
-ghost use Rattle.scope.specs.Positions.{floaters, permittedPositions};
+ghost use Rattle.scope.specs.Positions.{floaters, floatingOf};
 ghost use Rattle.scope.specs.Placements.{allowed};
 ghost use Rattle.areas.specs.Bounds.{Bounds};
 ghost use Rattle.placements.specs.Steps.{Moves};
@@ -235,7 +235,7 @@ pub fn shown(bytes: &[u8], numbers: &[i64]) -> Shown
 // Whether a placement is allowed by the tables.
 fn is_allowed_by(bytes: &[u8], numbers: &[i64], p: Placement) -> bool
     requires { ⌜ (Bounds (now bytes) (now numbers)) × (length (floaters (tablesIn (now bytes) (now numbers))) ≤ copyLimit) ⌝ }
-    ensures { λ r. ⌜ r ≡ allowed (permittedPositions (tablesIn (now (bytes .entry)) (now (numbers .entry)))) (p .at) ⌝ }
+    ensures { λ r. ⌜ r ≡ allowed (floatingOf (tablesIn (now (bytes .entry)) (now (numbers .entry)))) (p .at) ⌝ }
 {
     let f = find_floaters(bytes, numbers);
     let mut tab = [0u8; Placement::ROWS];
@@ -261,7 +261,7 @@ pub fn is_allowed(bytes: &[u8], numbers: &[i64], p: Placement) -> Request
 // A listing moved on by the tables.
 fn next_by(bytes: &[u8], numbers: &[i64], l: Listing) -> Next
     requires { ⌜ (Bounds (now bytes) (now numbers)) × (length (floaters (tablesIn (now bytes) (now numbers))) ≤ copyLimit) ⌝ }
-    ensures { λ r. ⌜ Moves (requested (permittedPositions (tablesIn (now (bytes .entry)) (now (numbers .entry)))) l) l r ⌝ }
+    ensures { λ r. ⌜ Moves (requested (floatingOf (tablesIn (now (bytes .entry)) (now (numbers .entry)))) l) l r ⌝ }
 {
     let f = find_floaters(bytes, numbers);
     let mut tab = [0u8; Placement::ROWS];

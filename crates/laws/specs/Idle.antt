@@ -5,14 +5,14 @@ use mathlib.Core.List.{List, [], _∷_, _++_, map}
 use Prim.Native.Nat.{ℕ}
 use lib.IntN.{pos, _*ℤ_}
 use lib.ListN.{length, replicate}
-use Rattle.scope.specs.declared.grammar.Key.the-variants.{Info}
 use Rattle.scope.specs.Line.{Bracket, Residue, Line}
 use Rattle.scope.specs.Lists.{given, shared, keep, flat, among, member}
 use Rattle.scope.specs.Modifications.{onlyInfo, isReferring, isModification, copies, definedBy, referredBy, namesOf}
-use Rattle.scope.specs.Positions.{sites, isPlaced, placedOn, struckOut, floaters, between, referredAt, isUnlabelledUnknown, ownPosition, mayStand, positions, permitted, permittedPositions}
+use Rattle.scope.specs.Positions.{sites, isPlaced, placedOn, struckOut, floaters, between, referredAt, isUnlabelledUnknown, ownPosition, mayStand, positions, permitted, floatingOf}
 use Rattle.scope.specs.Masses.{massOf, massOr0, sum, sumℕ, modifications, times, total, lacking, labileMass}
 use Rattle.scope.specs.Kinds.{isLabile}
 use Rattle.basics.specs.Lists.{flat-append, keep-append, keep-same, map-same}
+use Rattle.basics.specs.Positions.{same-floats}
 
 -- ---- an element that is not kept, or gives nothing
 keep-without : {A : Type 0} (f : A → Bool) (l m : List A) (x : A) → f x ≡ false → keep f (l ++ (x ∷ m)) ≡ keep f (l ++ m)
@@ -94,7 +94,7 @@ module _ {P : Type 0} (rs : List (Residue P)) (ks ls : List (Bracket P)) (k : Br
       (positions withIt)
 
   -- so it blocks nothing: the floaters have the positions that they have without it
-  pub info-blocks-nothing : onlyInfo k ≡ true → isReferring k ≡ false → permittedPositions withIt ≡ permittedPositions withoutIt
-  info-blocks-nothing e f =
-      ap (map (permitted withIt)) (floats-nowhere (info-is-idle e))
-      ∙ map-same (permitted withIt) (permitted withoutIt) (permitted-without (info-is-idle e) f) (floaters withoutIt)
+  pub info-blocks-nothing : onlyInfo k ≡ true → isReferring k ≡ false → floatingOf withIt ≡ floatingOf withoutIt
+  info-blocks-nothing e f = same-floats (floatingOf withIt) (floatingOf withoutIt)
+      (ap (map (permitted withIt)) (floats-nowhere (info-is-idle e))
+      ∙ map-same (permitted withIt) (permitted withoutIt) (permitted-without (info-is-idle e) f) (floaters withoutIt))

@@ -1,15 +1,16 @@
--- The permitted positions of a line's floaters stand in rising order.
-use mathlib.Core.Path.{_≡_}
+-- What floats of a line is orderly: the permitted positions of each floater stand in rising order.
+use mathlib.Core.Path.{_≡_, refl}
 use mathlib.Core.Logic.{_⊎_, inl, inr, ⊎-elim}
 use mathlib.Core.Bool.{Bool, true, false}
 use mathlib.Core.List.{List, [], _∷_, map}
-use Prim.Native.Nat.{ℕ, zero, suc, _≤_, _+_}
+use Prim.Native.Nat.{ℕ, zero, suc, _≤_, _<_, _+_}
 use native.Mathlib.Omega.{arith}
-use lib.ListN.{length, length-map}
+use lib.ListN.{length, getD, length-map}
+use Rattle.scope.specs.Limits.{copyLimit}
 use Rattle.scope.specs.Line.{Bracket, Line}
 use Rattle.scope.specs.Lists.{keep, tabled, member}
-use Rattle.scope.specs.Positions.{floaters, permitted, permittedPositions}
-use Rattle.placement_laws.specs.Terms.{Rising, AllRising}
+use Rattle.scope.specs.Positions.{floaters, permitted, floatingOf}
+use Rattle.placement_laws.specs.Terms.{Rising, AllRising, Orderly}
 use Rattle.basics.specs.Tests.{test}
 use Rattle.basics.specs.Members.{member-in, in-member, member-none, member-cons, in-keep, keep-yes, keep-no}
 
@@ -41,12 +42,21 @@ map-rising : {A : Type 0} (g : A → List ℕ) (l : List A) → ((x : A) → Ris
 map-rising g [] h = tt
 map-rising g (x ∷ l) h = (h x, map-rising g l h)
 
+mapped-at : {A B : Type 0} (g : A → B) (l : List A) (i : ℕ) (d : A) (e : B) → i < length l → getD (map g l) i e ≡ g (getD l i d)
+mapped-at g [] i d e h = absurd (omega arith)
+mapped-at g (x ∷ l) zero d e h = refl
+mapped-at g (x ∷ l) (suc i) d e h = mapped-at g l i d e (omega arith)
+
 permitted-rising : {P : Type 0} (t : Line P) (k : Bracket P) → Rising (permitted t k)
 unfolding permitted
 permitted-rising t k = kept-rising _ 0 _
 
-pub line-rising : {P : Type 0} (t : Line P) → AllRising (permittedPositions t)
-line-rising t = map-rising (permitted t) (floaters t) (permitted-rising t)
-
-pub line-many : {P : Type 0} (t : Line P) → length (permittedPositions t) ≡ length (floaters t)
+pub line-many : {P : Type 0} (t : Line P) → length (floatingOf t .lists) ≡ length (floaters t)
 line-many t = length-map (floaters t) (permitted t)
+
+-- floater i has the positions permitted to it
+pub line-at : {P : Type 0} (t : Line P) (i : ℕ) (d : Bracket P) → i < length (floaters t) → getD (floatingOf t .lists) i [] ≡ permitted t (getD (floaters t) i d)
+line-at t i d h = mapped-at (permitted t) (floaters t) i d [] h
+
+pub line-orderly : {P : Type 0} (t : Line P) → length (floaters t) ≤ copyLimit → Orderly (floatingOf t)
+line-orderly t few = record { few = rw (line-many t) few; rising = map-rising (permitted t) (floaters t) (permitted-rising t) }

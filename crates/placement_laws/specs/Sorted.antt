@@ -3,11 +3,12 @@ use mathlib.Core.Path.{_≡_, refl, sym, ap, _∙_}
 use mathlib.Core.Logic.{_⊎_, inl, inr, ⊎-elim}
 use mathlib.Core.Bool.{Bool, true, false}
 use mathlib.Core.List.{List, [], _∷_, _++_, map}
-use Prim.Native.Nat.{ℕ, zero, suc, _<_, _+_, _-_}
+use Prim.Native.Nat.{ℕ, zero, suc, _<_, _-_}
 use native.Mathlib.Omega.{arith}
 use lib.ListN.{length, getD, replicate}
 use Rattle.scope.specs.Limits.{copyLimit}
 use Rattle.scope.specs.Lists.{keep, flat, padded}
+use Rattle.scope.specs.Positions.{Floating}
 use Rattle.scope.specs.Placements.{distinct, less, choices, placements}
 use Rattle.placement_laws.specs.Terms.{Rising, AllRising, Ascending}
 use Rattle.basics.specs.Each.{In}
@@ -57,15 +58,16 @@ unfolding choices
 choices-ascending [] r = ((λ q h. absurd h), tt)
 choices-ascending (q ∷ qs) r = spread q (choices qs) (r .0) (choices-ascending qs (r .1))
 
-pub placements-ascending : (qs : List (List ℕ)) → AllRising qs → Ascending (placements qs)
+pub placements-ascending : (f : Floating) → AllRising (f .lists) → Ascending (placements f)
 unfolding placements
-placements-ascending qs r =
-    ascending-map (padded 0 copyLimit) (keep distinct (choices qs)) padded-less (ascending-keep distinct (choices qs) (choices-ascending qs r))
+placements-ascending f r =
+    ascending-map (padded 0 copyLimit) (keep distinct (choices (f .lists))) padded-less
+    (ascending-keep distinct (choices (f .lists)) (choices-ascending (f .lists) r))
   where
-    long : (p : List ℕ) → In p (keep distinct (choices qs)) → length p ≡ length qs
-    long p h = choice-fits qs p (in-keep distinct p (choices qs) h .0) .0
+    long : (p : List ℕ) → In p (keep distinct (choices (f .lists))) → length p ≡ length (f .lists)
+    long p h = choice-fits (f .lists) p (in-keep distinct p (choices (f .lists)) h .0) .0
 
-    padded-less : (p q : List ℕ) → In p (keep distinct (choices qs)) → In q (keep distinct (choices qs)) → less p q ≡ true
+    padded-less : (p q : List ℕ) → In p (keep distinct (choices (f .lists))) → In q (keep distinct (choices (f .lists))) → less p q ≡ true
         → less (padded 0 copyLimit p) (padded 0 copyLimit q) ≡ true
     padded-less p q h k e = less-append p q (replicate (copyLimit - length p) 0) (replicate (copyLimit - length q) 0) (long p h ∙ sym (long q k)) e
 

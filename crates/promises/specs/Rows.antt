@@ -16,15 +16,15 @@ use Rattle.scope.specs.declared.answers.Site.{Site}
 use Rattle.scope.specs.Limits.{rowLimit}
 use Rattle.scope.specs.Lists.{given, laid}
 use Rattle.scope.specs.Layout.{tablesIn}
-use Rattle.scope.specs.Positions.{permittedPositions, rowsFrom, rowsOf, Found, firstRow, lookup}
-use Rattle.scope.specs.Answers.{good, refuses, saysCount, tooShort, areTables, rowsSaid, rowsAfter, looksUp}
+use Rattle.scope.specs.Positions.{floatingOf, rowsFrom, rowsOf, Found, firstRow, lookup}
+use Rattle.scope.specs.Answers.{good, refuses, saysCount, rowsSaid, rowsAfter, looksUp}
 use Rattle.placement_laws.specs.Terms.{Rising, AllRising}
 use Rattle.basics.specs.Each.{In}
 use Rattle.basics.specs.Members.{in-left, in-right, in-either, in-map, map-in, in-member}
-use Rattle.placement_laws.specs.Laws as placing
 use Rattle.laws.specs.Proved.{demands}
 use Rattle.listing.specs.Says.{RowsSays}
 use Rattle.promises.specs.Promises.{Permitted, Below, Climbing, LeastOf, Rowed}
+use Rattle.promises.specs.Weights.{Taken, orderly}
 
 abbrev site : ℕ → ℕ → Site
 site f x = record { floater = f; position = x }
@@ -107,10 +107,10 @@ best f i (r ∷ rs) c = go (eqb (r .floater) f) refl (firstRow f (i + 1) rs) (be
     go false e none ih = λ y h. others e y (ih y) h
     go false e (some x) ih = (inr (ih .0), (λ y h. others e y (ih .1 y) h))
 
--- ---- over areas that hold tables
-module _ (bs : List ℕ) (ns : List ℤ) (long : tooShort bs ns ≡ false) (taken : areTables bs ns ≡ true) where
+-- ---- over areas that every call takes
+module _ (bs : List ℕ) (ns : List ℤ) (h : Taken bs ns) where
   abbrev qs : List (List ℕ)
-  qs = permittedPositions (tablesIn bs ns)
+  qs = floatingOf (tablesIn bs ns) .lists
 
   abbrev rows : List Site
   rows = rowsOf (tablesIn bs ns)
@@ -132,7 +132,7 @@ module _ (bs : List ℕ) (ns : List ℤ) (long : tooShort bs ns ≡ false) (take
 
   rows-climb : Climbing rows
   unfolding rowsOf
-  rows-climb = climbing 1 qs (placing.line-rising (tablesIn bs ns))
+  rows-climb = climbing 1 qs (orderly h .rising)
 
   least-of : (f : ℕ) (o : Option Found) → Best f rows o → LeastOf (Permitted bs ns f) (given o good (refuses 17 0))
   least-of f none b = (refl, λ y h. b y (permitted-rows f y .1 h))
@@ -140,7 +140,7 @@ module _ (bs : List ℕ) (ns : List ℤ) (long : tooShort bs ns ≡ false) (take
 
   module _ (room : List Site) (roomy : rowLimit ≤ length room) where
     said : rowsSaid bs ns room ≡ good (length rows)
-    said = rw (le-ltb (length room) rowLimit roomy, long, taken)
+    said = rw (le-ltb (length room) rowLimit roomy, h .long-enough, h .taken)
 
     still-roomy : rowLimit ≤ length (laid rows room)
     still-roomy =
@@ -149,7 +149,7 @@ module _ (bs : List ℕ) (ns : List ℤ) (long : tooShort bs ns ≡ false) (take
         omega (arith, roomy, a, b)
 
     few : min (length rows) rowLimit ≡ length rows
-    few = let h = demands .demand-3-in bs ns taken .rows-fit in omega (arith, h)
+    few = let fit = demands .demand-3-in bs ns (h .taken) .rows-fit in omega (arith, fit)
 
     looked : (f : ℕ) → looksUp (laid rows room) (length rows) f ≡ given (firstRow f 0 rows) good (refuses 17 0)
     looked f =

@@ -11,7 +11,7 @@ use Rattle.scope.specs.Modifications.{onlyInfo, isReferring, isModification, co
 use Rattle.scope.specs.Positions.{sites, isPlaced, placedOn, struckOut, floaters, between, referredAt, isUnlabelledUnknown, ownPosition, mayStand, positions, permitted, floatingOf}
 use Rattle.scope.specs.Masses.{massOf, massOr0, sum, sumℕ, modifications, times, total, lacking, labileMass}
 use Rattle.scope.specs.Kinds.{isLabile}
-use Rattle.basics.specs.Lists.{flat-append, keep-append, keep-same, map-same}
+use Rattle.basics.specs.Lists.{flat-append, keep-append, keep-same, map-same, shared-none}
 use Rattle.basics.specs.Positions.{same-floats}
 
 -- ---- an element that is not kept, or gives nothing
@@ -23,11 +23,6 @@ keep-without f l m x e =
 flat-without : {A B : Type 0} (f : A → List B) (l m : List A) (x : A) → f x ≡ [] → flat f (l ++ (x ∷ m)) ≡ flat f (l ++ m)
 unfolding flat
 flat-without f l m x e = flat-append f l (x ∷ m) ∙ ap (λ z. flat f l ++ (z ++ flat f m)) e ∙ sym (flat-append f l m)
-
-shared-none : (l : List (List ℕ)) → shared l [] ≡ false
-unfolding shared among
-shared-none [] = refl
-shared-none (x ∷ l) = shared-none l
 
 module _ {P : Type 0} (rs : List (Residue P)) (ks ls : List (Bracket P)) (k : Bracket P) where
   -- the line with the bracket, and without it

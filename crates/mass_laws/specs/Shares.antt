@@ -6,7 +6,8 @@ use Prim.Native.Nat.{ℕ, zero, suc, _+_, _≤_, _<_}
 use native.Mathlib.Nat.{zero-add, le-of-suc-le-suc}
 use native.Mathlib.Decide.{decLt}
 use native.Mathlib.Omega.{arith}
-use borrow.Author.Tests.{not-true}
+use borrow.Author.Tests.{eqb-false, not-true}
+use lib.Dec.{eqb}
 use lib.IntN.{pos, _+ℤ_, +ℤ-idl, +ℤ-idr}
 use lib.ListN.{length, getD, take, length-map, List·getD-eq-default}
 use lib.Seq.{length-take-le, getD-take}
@@ -17,20 +18,28 @@ use Rattle.scope.specs.Positions.{placedOn, struckOut, floaters, permitted, flo
 use Rattle.scope.specs.Placements.{distinct, fits, allowed}
 use Rattle.scope.specs.Masses.{massOr0, sum, placedAt, putAt, ledger}
 use Rattle.basics.specs.Tabled.{getD-tabled, length-tabled, tabled-same}
-use Rattle.basics.specs.Members.{member-append, in-member}
+use Rattle.basics.specs.Members.{member-append, member-in, in-member, in-at}
 use Rattle.mass_laws.specs.Weights.{bookedAt, placed-is, not-booked, placedMass, booked-share}
 use Rattle.basics.specs.Tests.{eqb-sym, and-left, and-right, or-left, or-right}
 use Rattle.mass_laws.specs.Terms.{FairBracket, Fair}
 use Rattle.basics.specs.Each.{Each, In}
 use Rattle.placement_laws.specs.Members.{cut, allowed-parts}
 use Rattle.placement_laws.specs.Entries.{allowed-placing}
-use Rattle.placement_laws.specs.Lines.{line-many, line-at}
+use Rattle.placement_laws.specs.Lines.{line-many, line-at, permitted-inside, permitted-free}
 use Rattle.mass_laws.specs.Sums.{sum-both, sum-zero, share, share-here, share-else, sum-share}
-use Rattle.mass_laws.specs.Members.{not-first, not-rest, member-at, permitted-inside, permitted-free}
 
 put-none : (P : Type 0) (x : ℕ) (p : List ℕ) → putAt {P = P} x [] p ≡ pos 0
 unfolding putAt
 put-none P x p = refl
+
+-- what is no member is neither the first element nor one of the others
+not-first : (x y : ℕ) (l : List ℕ) → member x (y ∷ l) ≡ false → x ≡ y → ⊥
+unfolding member
+not-first x y l e q = eqb-false x y (or-left (eqb x y) (member x l) e) q
+
+not-rest : (x y : ℕ) (l : List ℕ) → member x (y ∷ l) ≡ false → member x l ≡ false
+unfolding member
+not-rest x y l e = or-right (eqb x y) (member x l) e
 
 module _ {P : Type 0} where
   -- ---- the placed ones: each is booked once
@@ -135,7 +144,7 @@ module _ {P : Type 0} where
         long = let c = cut (map g ks) p (and-right (member y (g k)) (fits (map g ks) p) e) .long in length-take-le (length ks) p (omega (arith, length-map ks g))
 
         among : member (getD p i 0) (take (length ks) p) ≡ true
-        among = ap (λ z. member z (take (length ks) p)) (sym (getD-take (length ks) p i 0 less)) ∙ member-at (take (length ks) p) i (rw long less)
+        among = ap (λ z. member z (take (length ks) p)) (sym (getD-take (length ks) p i 0 less)) ∙ in-member _ _ (in-at (take (length ks) p) i 0 (rw long less))
 
         apart : y ≡ getD p i 0 → ⊥
         apart z = true≢false (sym among ∙ ap (λ u. member u (take (length ks) p)) (sym z) ∙ not-true (member y (take (length ks) p)) (and-left (not (member y (take (length ks) p))) (distinct (take (length ks) p)) f))
@@ -159,13 +168,16 @@ module _ {P : Type 0} where
   allowed-distinct : (t : Line P) (p : List ℕ) → allowed (floatingOf t) p ≡ true → distinct (take (length (floaters t)) p) ≡ true
   allowed-distinct t p e = ap (λ n. distinct (take n p)) (sym (line-many t)) ∙ allowed-parts (floatingOf t) p e .apart
 
+  inside : (t : Line P) (k : Bracket P) (x : ℕ) → member x (permitted t k) ≡ true → x < length (t .residues) + 2
+  inside t k x e = permitted-inside t k x (member-in x (permitted t k) e)
+
   -- the entries add up to the placed and the floating masses
   pub ledger-sum : (t : Line P) → Fair t → (p : List ℕ) → allowed (floatingOf t) p ≡ true → sum (ledger t p) ≡ sum (map placedMass (t .brackets)) +ℤ sum (map massOr0 (floaters t))
   unfolding ledger
   ledger-sum t f p e =
       sum-both (placedAt t) (λ x. putAt x (floaters t) p) 0 positionLimit
       ∙ ap₂ _+ℤ_ (sum-placed t f)
-      (sum-put (permitted t) (length (t .residues) + 2) (permitted-inside t) (omega (arith, f .few-residues)) (floaters t) p (allowed-fits t p e))
+      (sum-put (permitted t) (length (t .residues) + 2) (inside t) (omega (arith, f .few-residues)) (floaters t) p (allowed-fits t p e))
 
   pub past-zero : (t : Line P) → Fair t → (p : List ℕ) → allowed (floatingOf t) p ≡ true → (x : ℕ) → length (t .residues) + 1 < x → getD (ledger t p) x (pos 0) ≡ pos 0
   past-zero t f p e x h = by (decLt x positionLimit)
@@ -174,18 +186,19 @@ module _ {P : Type 0} where
       by (yes q) =
           entry t p x q
           ∙ ap₂ _+ℤ_ (placed-past t f x h)
-          (put-past (permitted t) (length (t .residues) + 2) (permitted-inside t) x (omega arith) (floaters t) p (allowed-fits t p e))
+          (put-past (permitted t) (length (t .residues) + 2) (inside t) x (omega arith) (floaters t) p (allowed-fits t p e))
       by (no q) = no-entry t p x (omega arith)
 
-  pub own-entry : (t : Line P) → Fair t → (p : List ℕ) → allowed (floatingOf t) p ≡ true → (i : ℕ) (d : Bracket P) → i < length (floaters t) → getD (ledger t p) (getD p i 0) (pos 0) ≡ massOr0 (getD (floaters t) i d)
+  pub own-entry : (t : Line P) → Fair t → (p : List ℕ) → allowed (floatingOf t) p ≡ true → (i : ℕ) (d : Bracket P) → i < length (floaters t)
+      → getD (ledger t p) (getD p i 0) (pos 0) ≡ massOr0 (getD (floaters t) i d)
   own-entry t f p e i d h =
       entry t p (getD p i 0) (omega (arith, permitted-inside t (getD (floaters t) i d) (getD p i 0) at, f .few-residues))
       ∙ ap₂ _+ℤ_ (placed-zero t (getD p i 0) (permitted-free t (getD (floaters t) i d) (getD p i 0) at))
       (put-own (permitted t) (floaters t) p i d (allowed-fits t p e) (allowed-distinct t p e) h)
       ∙ +ℤ-idl (massOr0 (getD (floaters t) i d))
     where
-      at : member (getD p i 0) (permitted t (getD (floaters t) i d)) ≡ true
-      at = in-member _ _ (subst (λ q. In (getD p i 0) q) (line-at t i d h) (allowed-placing (floatingOf t) p e .permitted i (rw (line-many t) h)))
+      at : In (getD p i 0) (permitted t (getD (floaters t) i d))
+      at = subst (λ q. In (getD p i 0) q) (line-at t i d h) (allowed-placing (floatingOf t) p e .permitted i (rw (line-many t) h))
 
   pub only-placed : (t : Line P) (p : List ℕ) (x : ℕ) → x < positionLimit → member x (take (length (floaters t)) p) ≡ false → getD (ledger t p) x (pos 0) ≡ placedAt t x
   only-placed t p x h e = entry t p x h ∙ ap (λ z. placedAt t x +ℤ z) (put-zero x (floaters t) p e) ∙ +ℤ-idr (placedAt t x)

@@ -1,6 +1,5 @@
 -- An allowed placement, entry by entry: each floater stands at a permitted position, no two at one, and zeros stand behind them.
-use mathlib.Core.Path.{_≡_, refl, sym, ap, _∙_}
-use mathlib.Core.Logic.{⊎-elim}
+use mathlib.Core.Path.{_≡_, refl, sym, ap, _∙_, subst}
 use mathlib.Core.Bool.{true, not, false≢true}
 use mathlib.Core.List.{List, [], _∷_}
 use Prim.Native.Nat.{ℕ, zero, suc, _≤_, _<_}
@@ -14,7 +13,8 @@ use Rattle.scope.specs.Lists.{all, member}
 use Rattle.scope.specs.Positions.{Floating}
 use Rattle.scope.specs.Placements.{distinct, fits}
 use Rattle.basics.specs.Tests.{both-of, both, falsely}
-use Rattle.basics.specs.Members.{member-here, member-there, member-cons, member-none, member-in, in-member}
+use Rattle.basics.specs.Each.{In}
+use Rattle.basics.specs.Members.{member-in, in-member, in-at, at-in}
 use Rattle.placement_laws.specs.Terms.{Allowed, Placing}
 use Rattle.placement_laws.specs.Members.{fits-cons, cons-fits, fits-none, cut, allowed-parts, parts-allowed}
 
@@ -53,40 +53,31 @@ at-fits (q ∷ qs) (x ∷ p) l h r =
     cons-fits q qs x p (h 0 (omega arith)) (at-fits qs p (omega arith) (λ s m. h (suc s) (omega arith)) (λ s m. r (suc s) (omega arith)))
 
 -- ---- no two on one position
-at-member : (p : List ℕ) (x s : ℕ) → s < length p → getD p s 0 ≡ x → member x p ≡ true
-at-member [] x s h e = absurd (omega arith)
-at-member (y ∷ p) x zero h e = member-here x y p (sym e)
-at-member (y ∷ p) x (suc s) h e = member-there x y p (at-member p x s (omega arith) e)
-
-member-at : (p : List ℕ) (x : ℕ) → member x p ≡ true → (s : ℕ) × (s < length p) × (getD p s 0 ≡ x)
-member-at [] x e = member-none x e
-member-at (y ∷ p) x e =
-    ⊎-elim (λ h. (0, omega arith, sym h)) (λ h. let z = member-at p x h in (suc (z .0), omega (arith, z .1), z .2)) (member-cons x y p e)
-
-distinct-cons : (x : ℕ) (p : List ℕ) → distinct (x ∷ p) ≡ true → (not (member x p) ≡ true) × (distinct p ≡ true)
+distinct-cons : (x : ℕ) (p : List ℕ) → distinct (x ∷ p) ≡ true → (In x p → ⊥) × (distinct p ≡ true)
 unfolding distinct
-distinct-cons x p e = both-of (not (member x p)) (distinct p) e
+distinct-cons x p e =
+    let z = both-of (not (member x p)) (distinct p) e in ((λ h. false≢true (sym (ap not (in-member x p h)) ∙ z .0)), z .1)
 
-cons-distinct : (x : ℕ) (p : List ℕ) → (member x p ≡ true → ⊥) → distinct p ≡ true → distinct (x ∷ p) ≡ true
+cons-distinct : (x : ℕ) (p : List ℕ) → (In x p → ⊥) → distinct p ≡ true → distinct (x ∷ p) ≡ true
 unfolding distinct
-cons-distinct x p h e = both (not (member x p)) (distinct p) (ap not (falsely (member x p) h)) e
+cons-distinct x p h e = both (not (member x p)) (distinct p) (ap not (falsely (member x p) (λ k. h (member-in x p k)))) e
 
-not-in : (x s : ℕ) (p : List ℕ) → not (member x p) ≡ true → s < length p → getD p s 0 ≡ x → ⊥
-not-in x s p e h q = false≢true (sym (ap not (at-member p x s h q)) ∙ e)
+at-two : (x t : ℕ) (p : List ℕ) → distinct (x ∷ p) ≡ true → t < length p → x ≡ getD p t 0 → ⊥
+at-two x t p d l e = distinct-cons x p d .0 (subst (λ y. In y p) (sym e) (in-at p t 0 l))
 
 distinct-at : (p : List ℕ) → distinct p ≡ true → (s t : ℕ) → s < length p → t < length p → getD p s 0 ≡ getD p t 0 → s ≡ t
 distinct-at [] d s t l m e = absurd (omega arith)
 distinct-at (x ∷ p) d zero zero l m e = refl
-distinct-at (x ∷ p) d zero (suc t) l m e = absurd (not-in x t p (distinct-cons x p d .0) (omega arith) (sym e))
-distinct-at (x ∷ p) d (suc s) zero l m e = absurd (not-in x s p (distinct-cons x p d .0) (omega arith) e)
+distinct-at (x ∷ p) d zero (suc t) l m e = absurd (at-two x t p d (omega arith) e)
+distinct-at (x ∷ p) d (suc s) zero l m e = absurd (at-two x s p d (omega arith) (sym e))
 distinct-at (x ∷ p) d (suc s) (suc t) l m e = ap suc (distinct-at p (distinct-cons x p d .1) s t (omega arith) (omega arith) e)
 
 at-distinct : (p : List ℕ) → ((s t : ℕ) → s < length p → t < length p → getD p s 0 ≡ getD p t 0 → s ≡ t) → distinct p ≡ true
 unfolding distinct
 at-distinct [] h = refl
 at-distinct (x ∷ p) h =
-    cons-distinct x p (λ e. let z =
-    member-at p x e in let q : 0 ≡ suc (z .0) = h 0 (suc (z .0)) (omega arith) (omega (arith, z .1)) (sym (z .2)) in omega arith)
+    cons-distinct x p
+    (λ k. let z = at-in x p 0 k in let q : 0 ≡ suc (z .0) = h 0 (suc (z .0)) (omega arith) (omega (arith, z .1)) (sym (z .2)) in omega arith)
     (at-distinct p (λ s t l m e. let z = h (suc s) (suc t) (omega arith) (omega arith) e in omega arith))
 
 -- ---- allowed

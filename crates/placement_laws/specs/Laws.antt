@@ -12,7 +12,7 @@ use Rattle.scope.specs.Line.{Line}
 use Rattle.scope.specs.Lists.{given, keep}
 use Rattle.scope.specs.Positions.{Floating, floaters, floatingOf}
 use Rattle.scope.specs.Placements.{distinct, allowed, choices, placements, firstPlacement, nextPlacement, freshListing}
-use Rattle.scope.specs.Answers.{good, refuses, requested}
+use Rattle.scope.specs.Answers.{good, refuses, findable, requested}
 use Rattle.placement_laws.specs.Terms.{Orderly, Ascending, Allowed, Placing, Further, Least, afterRequests, handedOut}
 use Rattle.basics.specs.Each.{In}
 use Rattle.placement_laws.specs.Members as members
@@ -56,7 +56,7 @@ module _ (f : Floating) (ok : Orderly f) where
   next p = leasts.next-least f ok p
 
   -- "requests from a fresh record over the same tables": after n of them the next one hands out placement number n (from 0), or answers 17
-  pub request : (n : ℕ) → requested f (afterRequests f n freshListing) ≡ given (getElem? (placements f) n) good (refuses 17 0)
+  pub request : (n : ℕ) → requested f (afterRequests f n freshListing) ≡ findable (getElem? (placements f) n)
   request n = requests.nth-request f ok n
 
   -- n of them hand out the first n placements, in order; as many as there are, or more, hand out all

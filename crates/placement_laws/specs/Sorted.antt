@@ -13,7 +13,7 @@ use Rattle.scope.specs.Placements.{distinct, less, choices, placements}
 use Rattle.placement_laws.specs.Terms.{Rising, AllRising, Ascending}
 use Rattle.basics.specs.Each.{In}
 use Rattle.basics.specs.Tests.{test}
-use Rattle.basics.specs.Members.{in-member, in-right, in-either, in-keep, keep-yes, keep-no, in-map, in-flat}
+use Rattle.basics.specs.Members.{in-at, in-either, in-keep, keep-yes, keep-no, in-map, in-flat}
 use Rattle.placement_laws.specs.Order.{less-here, less-there, less-self, less-append}
 use Rattle.placement_laws.specs.Members.{choice-fits}
 
@@ -51,7 +51,7 @@ spread (x ∷ q) l r a =
         let a = in-map (λ p. x ∷ p) p l h in
         let b = in-flat (λ y. map (λ p. y ∷ p) l) s q k in
         let c = in-map (λ p. b .0 ∷ p) s l (b .2) in
-        rw (a .2, c .2) (less-here x (b .0) (a .0) (c .0) (r .0 (b .0) (in-member (b .0) q (b .1))))
+        rw (a .2, c .2) (less-here x (b .0) (a .0) (c .0) (r .0 (b .0) (b .1)))
 
 choices-ascending : (qs : List (List ℕ)) → AllRising qs → Ascending (choices qs)
 unfolding choices
@@ -72,24 +72,9 @@ placements-ascending f r =
     padded-less p q h k e = less-append p q (replicate (copyLimit - length p) 0) (replicate (copyLimit - length q) 0) (long p h ∙ sym (long q k)) e
 
 -- ---- each stands there once
-in-at : (l : List (List ℕ)) (i : ℕ) → i < length l → In (getD l i []) l
-in-at [] i h = absurd (omega arith)
-in-at (p ∷ l) zero h = inl refl
-in-at (p ∷ l) (suc i) h = inr (in-at l i (omega arith))
-
 pub once : (l : List (List ℕ)) → Ascending l → (i j : ℕ) → i < length l → j < length l → getD l i [] ≡ getD l j [] → i ≡ j
 once [] a i j h k e = absurd (omega arith)
 once (p ∷ l) a zero zero h k e = refl
-once (p ∷ l) a zero (suc j) h k e = absurd (less-self p (rw (sym e) at (a .0 (getD l j []) (in-at l j (omega arith)))))
-once (p ∷ l) a (suc i) zero h k e = absurd (less-self p (rw e at (a .0 (getD l i []) (in-at l i (omega arith)))))
+once (p ∷ l) a zero (suc j) h k e = absurd (less-self p (rw (sym e) at (a .0 (getD l j []) (in-at l j [] (omega arith)))))
+once (p ∷ l) a (suc i) zero h k e = absurd (less-self p (rw e at (a .0 (getD l i []) (in-at l i [] (omega arith)))))
 once (p ∷ l) a (suc i) (suc j) h k e = ap suc (once l (a .1) i j (omega arith) (omega arith) e)
-
--- ---- an ascending list, cut at p: those above p are those behind it
-pub asc-before : (l m : List (List ℕ)) → Ascending (l ++ m) → (p q : List ℕ) → In p l → In q m → less p q ≡ true
-asc-before [] m a p q h k = absurd h
-asc-before (r ∷ l) m a p q (inl e) k = rw e (a .0 q (in-right q l m k))
-asc-before (r ∷ l) m a p q (inr h) k = asc-before l m (a .1) p q h k
-
-pub asc-right : (l m : List (List ℕ)) → Ascending (l ++ m) → Ascending m
-asc-right [] m a = a
-asc-right (r ∷ l) m a = asc-right l m (a .1)

@@ -8,7 +8,6 @@ use Prim.Native.Nat.{ℕ, zero, suc, _≤_, _<_}
 use lib.ListN.{length, getD}
 use Rattle.scope.specs.declared.answers.Listing.{Listing}
 use Rattle.scope.specs.Limits.{copyLimit}
-use Rattle.scope.specs.Lists.{member}
 use Rattle.scope.specs.Positions.{Floating}
 use Rattle.scope.specs.Placements.{allowed, less}
 use Rattle.scope.specs.Answers.{Said, good, refuses, requested, movedOn}
@@ -17,7 +16,7 @@ use Rattle.basics.specs.Each.{In}
 -- a list of positions, each below all behind it
 abbrev pub Rising : List ℕ → Type 0
 Rising [] = Unit {0}
-Rising (x ∷ l) = ((y : ℕ) → member y l ≡ true → x < y) × Rising l
+Rising (x ∷ l) = ((y : ℕ) → In y l → x < y) × Rising l
 
 abbrev pub AllRising : List (List ℕ) → Type 0
 AllRising [] = Unit {0}

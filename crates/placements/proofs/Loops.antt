@@ -1,4 +1,4 @@
--- Turns of the loops.
+-- Turns of the loops: one entry more is put; one floater more is seen to stand alone.
 use mathlib.Core.Path.{_≡_, sym, _∙_, subst}
 use mathlib.Core.Logic.{_⊎_, ⊎-elim}
 use mathlib.Core.Bool.{Bool, true, false}

@@ -17,19 +17,8 @@ use Rattle.exchange.proofs.Laws.{ok-small, ok-is}
 use Rattle.placement_laws.specs.Terms.{AllRising, Orderly}
 use Rattle.basics.specs.Each.{In}
 use Rattle.basics.specs.Members.{in-keep, keep-in}
-use Rattle.basics.specs.Tabled.{length-tabled, getD-tabled}
+use Rattle.basics.specs.Tabled.{length-tabled, getD-tabled, in-tabled, tabled-in}
 use Rattle.placement_laws.specs.Lines.{kept-rising}
-
-tabled-in : (i n x : ℕ) → i ≤ x → x < i + n → In x (tabled (λ y. y) i n)
-unfolding tabled
-tabled-in i zero x h k = absurd (omega arith)
-tabled-in i (suc n) x h k = ⊎-elim (λ e. inl e) (λ d. inr (tabled-in (i + 1) n x (omega arith) (omega arith))) (same? x i)
-
-tabled-high : (i n x : ℕ) → In x (tabled (λ y. y) i n) → x < i + n
-unfolding tabled
-tabled-high i zero x h = absurd h
-tabled-high i (suc n) x (inl e) = omega arith
-tabled-high i (suc n) x (inr h) = let z = tabled-high (i + 1) n x h in omega arith
 
 pub lists-many : (tab : List ℕ) (k : ℕ) → length (listsIn tab k) ≡ k
 unfolding listsIn
@@ -52,7 +41,7 @@ pub list-may : (tab : List ℕ) (s x : ℕ) → In x (listIn tab s) → mayIn ta
 unfolding listIn
 list-may tab s x h =
     let z = in-keep (λ y. eqb (getD tab (s * positionLimit + y) 0) 1) x (tabled (λ y. y) 0 positionLimit) h in
-    ok-is tab s x (tabled-high 0 positionLimit x (z .0)) ∙ z .1
+    ok-is tab s x (in-tabled 0 positionLimit x (z .0) .1) ∙ z .1
 
 pub may-list : (tab : List ℕ) (s x : ℕ) → mayIn tab s x ≡ true → In x (listIn tab s)
 unfolding listIn

@@ -42,10 +42,6 @@ abbrev pub found : ℕ → Bool → List ℕ → Option (List ℕ)
 found k true w = some (entries k w)
 found k false w = none
 
--- the placement handed out, or 17
-abbrev pub said : Option (List ℕ) → Said (List ℕ)
-said o = given o good (refuses 17 0)
-
 -- the answer to a request and the listing after it, by what is said of the request
 pub record Moves (a : Said (List ℕ)) (l : Listing) (r : Next) : Type 0 where
   pub says : saysRequest (r .request) ≡ met a

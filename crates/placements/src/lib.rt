@@ -10,9 +10,9 @@ ghost use mathlib.Core.Bool.{true, false};
 ghost use Prim.Native.Nat.{_<_, _≤_};
 ghost use Rattle.scope.specs.Limits.{copyLimit};
 ghost use Rattle.scope.specs.Placements.{allowed, freshMark, noMark};
-ghost use Rattle.scope.specs.Answers.{requested};
+ghost use Rattle.scope.specs.Answers.{findable, requested};
 ghost use Rattle.areas.specs.Floats.{floatingIn, Sized};
-ghost use Rattle.placements.specs.Steps.{Unused, Alone, Stand, Small, entries, found, said, Moves};
+ghost use Rattle.placements.specs.Steps.{Unused, Alone, Stand, Small, entries, found, Moves};
 
 // What a request is answered, and the listing after it.
 pub struct Next {
@@ -114,7 +114,7 @@ pub fn is_allowed(tab: &[u8], k: usize, p: Placement) -> bool
 // The listing moved on to what was found; or 17, and the listing as it was.
 fn told(k: usize, a: Answer, l: Listing) -> Next
     requires { ⌜ (k ≤ copyLimit) × (a .ok ≡ true → Small k (a .at .at)) ⌝ }
-    ensures { λ r. ⌜ Moves (said (found k (a .ok) (a .at .at))) l r ⌝ }
+    ensures { λ r. ⌜ Moves (findable (found k (a .ok) (a .at .at))) l r ⌝ }
 {
     if a.ok {
         let w = a.at;

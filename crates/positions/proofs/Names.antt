@@ -13,7 +13,7 @@ use Rattle.scope.specs.Modifications.{nameOf, namesOf, isReferring, definedBy, 
 use Rattle.scope.specs.Layout.{partIn, bracketIn, labelField, partsField}
 use Rattle.positions.specs.Legible.{labelFrom}
 use Rattle.positions.proofs.Any.{anyOf}
-use Rattle.basics.specs.Lists.{same-length, among-append}
+use Rattle.basics.specs.Lists.{same-length, among-append, shared-none}
 
 -- ---- texts of different lengths are not the same
 length-part : (a m : ℕ) (l : List ℕ) → a + m ≤ length l → length (part a m l) ≡ m
@@ -81,17 +81,12 @@ unfolding bracketIn
 shared-names bs ns o k m e = ap (anyOf (λ j. shared (nameOf (partIn bs ns k j)) o) 0) e ∙ sym (shared-tabled o (partIn bs ns k) 0 (partsField bs k))
 
 -- ---- references
-shared-nothing : (l : List (List ℕ)) → shared l [] ≡ false
-unfolding shared among
-shared-nothing [] = refl
-shared-nothing (y ∷ l) = shared-nothing l
-
 module _ (bs : List ℕ) (k r : ℕ) where
   pub refers-not : {b : Bool} → ((ns : List ℤ) → b ≡ isReferring (bracketIn bs ns r)) → b ≡ false → (ns : List ℤ) → false ≡ shared (definedBy (bracketIn bs ns k)) (referredBy (bracketIn bs ns r))
   refers-not e f ns =
       sym
       (ap (λ t. shared (definedBy (bracketIn bs ns k)) (cond t (namesOf (bracketIn bs ns r)) [])) (sym (e ns) ∙ f)
-      ∙ shared-nothing (definedBy (bracketIn bs ns k)))
+      ∙ shared-none (definedBy (bracketIn bs ns k)))
 
   pub refers-no-definition : {b : Bool} → ((ns : List ℤ) → b ≡ isReferring (bracketIn bs ns k)) → b ≡ true → (ns : List ℤ) → false ≡ shared (definedBy (bracketIn bs ns k)) (referredBy (bracketIn bs ns r))
   unfolding shared

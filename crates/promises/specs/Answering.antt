@@ -32,7 +32,7 @@ use Rattle.scope.specs.Layout.{tablesIn}
 use Rattle.scope.specs.Positions.{Floating, floatingOf, rowsOf, Found, lookup}
 use Rattle.scope.specs.Placements.{allowed, takenListing, following}
 use Rattle.scope.specs.Masses.{massOf, total, lacking, daltons}
-use Rattle.scope.specs.Answers.{Said, good, refuses, aMass, lack, saysWrite, saysCount, saysTotal, saysLookup, saysRequest, saysBooked, saysShown, tooShort, areTables, overTables, fitting, writes, outputAfter, counts, floaterCount, weighed, totals, shows, rowsSaid, rowsAfter, looksUp, allows, met, requested, movedOn, requests, listingAfter, allowable, bookable, books, entries}
+use Rattle.scope.specs.Answers.{Said, good, refuses, findable, aMass, lack, saysWrite, saysCount, saysTotal, saysLookup, saysRequest, saysBooked, saysShown, tooShort, areTables, overTables, fitting, writes, outputAfter, counts, floaterCount, weighed, totals, shows, rowsSaid, rowsAfter, looksUp, allows, met, requested, movedOn, requests, listingAfter, allowable, bookable, books, entries}
 use Rattle.basics.specs.Each.{In}
 use Rattle.calls.specs.Writing.{WriteSays}
 use Rattle.calls.specs.Single.{elementAt, ownMass, massAt, weighsAt}
@@ -190,7 +190,7 @@ module _ (bs : List ℕ) (ns : List ℤ) where
   is-allowed p = alone request-same (allows-so (p .at))
 
   -- what is left to hand out, or 17; 18 before it
-  following-so : (o : Option (List ℕ)) → Sayable saysRequest (13 ∷ 14 ∷ 17 ∷ 18 ∷ []) (met (given o good (refuses 17 0)))
+  following-so : (o : Option (List ℕ)) → Sayable saysRequest (13 ∷ 14 ∷ 17 ∷ 18 ∷ []) (met (findable o))
   following-so none = refusal (requestRefused 17) refl (inr (inr (inl refl)))
   following-so (some p) = success Met refl
 
@@ -267,7 +267,7 @@ module _ (bs : List ℕ) (ns : List ℤ) where
       ))
       count-same (floaters-so brs cps) (λ n p q. ap (λ s. (outputAfter s l brs, outputAfter s m cps)) q)
 
-found-so : (o : Option Found) → Sayable saysLookup (13 ∷ 17 ∷ []) (given o good (refuses 17 0))
+found-so : (o : Option Found) → Sayable saysLookup (13 ∷ 17 ∷ []) (findable o)
 found-so none = refusal (lookupRefused 17) refl (inr (inl refl))
 found-so (some x) = success (Row (x .index) (x .position)) refl
 

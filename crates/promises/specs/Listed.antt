@@ -15,7 +15,7 @@ use Rattle.scope.specs.Tables.{Tables}
 use Rattle.scope.specs.Layout.{tablesIn}
 use Rattle.scope.specs.Positions.{Floating, floatingOf}
 use Rattle.scope.specs.Placements.{placements, freshListing}
-use Rattle.scope.specs.Answers.{good, refuses, saysRequest, met, requested, movedOn, requests}
+use Rattle.scope.specs.Answers.{good, refuses, findable, saysRequest, met, requested, movedOn, requests}
 use Rattle.placement_laws.specs.Terms.{Ascending, afterRequests, outOf, handedOut}
 use Rattle.basics.specs.Each.{In}
 use Rattle.placement_laws.specs.Laws as placing
@@ -117,7 +117,7 @@ module _ (bs : List ℕ) (ns : List ℤ) (h : Taken bs ns) where
       )
 
   -- ---- the requests end
-  requested-nth : (n : ℕ) → requested f (afterRequests f n freshListing) ≡ given (getElem? (placements f) n) good (refuses 17 0)
+  requested-nth : (n : ℕ) → requested f (afterRequests f n freshListing) ≡ findable (getElem? (placements f) n)
   requested-nth n = placing.request f (orderly h) n
 
   -- from the record after n requests on
@@ -126,13 +126,13 @@ module _ (bs : List ℕ) (ns : List ℤ) (h : Taken bs ns) where
       let l = afterRequests f n freshListing in
       let p = past-end (placements f) n (omega arith) in
       let x = next-placement bs ns l .exactly-one in
-      let q = requested-nth n ∙ ap (λ o. given o good (refuses 17 0)) (p .0) in
+      let q = requested-nth n ∙ ap findable (p .0) in
       subst (HandsOut (NextSays bs ns) l) (sym (p .1)) (x .outcome, (x .ensured, answer-so l (x .outcome) (x .ensured) ∙ ap met q))
   handed-from (suc k) n e =
       let l = afterRequests f n freshListing in
       let p = at-place (placements f) n (omega arith) in
       let x = next-placement bs ns l .exactly-one in
-      let q = requested-nth n ∙ ap (λ o. given o good (refuses 17 0)) (p .0) in
+      let q = requested-nth n ∙ ap findable (p .0) in
       let a = after-so l (x .outcome) (x .ensured) in
       subst (HandsOut (NextSays bs ns) l) (sym (p .1)) (
         x .outcome,

@@ -22,6 +22,7 @@ use Rattle.basics.specs.Tests.{both-of as and-true}
 use Rattle.basics.specs.Members.{in-member, member-in, in-keep, flat-in}
 use Rattle.basics.specs.Positions.{placed-on}
 use Rattle.placement_laws.specs.Terms.{Placing}
+use Rattle.placement_laws.specs.Lines.{permitted-free}
 use Rattle.placement_laws.specs.Laws as placing
 use Rattle.calls.specs.Says.{AllowedSays}
 use Rattle.promises.specs.Promises.{Permitted}
@@ -40,13 +41,6 @@ struck t k i e =
     let on = placed-on t k (k .first) ∙ ap (λ p. p && eqb (k .first) (k .first)) e ∙ eq-eqb (k .first) (k .first) refl in
     in-member (k .first) (flat (placedOn t) (t .brackets)) (flat-in (placedOn t) k (k .first) (t .brackets) i (member-in (k .first) (placedOn t k) on))
 
-not-struck : (t : Tables) (k : Bracket (Unit {0})) (x : ℕ) → In x (permitted t k) → member x (struckOut t) ≡ false
-unfolding permitted
-not-struck t k x h =
-    let out = member x (struckOut t) in
-    let e = in-keep (λ y. mayStand t k y && not (member y (struckOut t))) x (positions t) h .1 in
-    not-true out (and-true (mayStand t k x) (not out) e .1)
-
 -- a position in one of the lists is permitted to some floater
 some-floater : {A : Type 0} (f : A → List ℕ) (l : List A) (i x : ℕ) → In x (getD (map f l) i []) → (k : A) × In x (f k)
 some-floater f [] i x h = absurd h
@@ -58,4 +52,4 @@ free bs ns zero x h k i e q = h
 free bs ns (suc f) x h k i e q =
     let t = tablesIn bs ns in
     let z = some-floater (permitted t) (floaters t) f x h in
-    true≢false (sym (struck t k i e) ∙ ap (λ y. member y (struckOut t)) q ∙ not-struck t (z .0) x (z .1))
+    true≢false (sym (struck t k i e) ∙ ap (λ y. member y (struckOut t)) q ∙ permitted-free t (z .0) x (z .1))

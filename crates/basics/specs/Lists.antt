@@ -114,6 +114,9 @@ pub map-same : {A B : Type 0} (f h : A → B) → ((x : A) → f x ≡ h x) → 
 map-same f h e [] = refl
 map-same f h e (x ∷ l) = ap₂ _∷_ (e x) (map-same f h e l)
 
+pub map-joined : {A B C : Type 0} (g : B → C) (f : A → B) (l : List A) → map (λ x. g (f x)) l ≡ map g (map f l)
+map-joined g f l = sym (map-map g (λ x. g (f x)) f (λ x. refl) l)
+
 -- ---- nothing in them
 pub nil-front : {A : Type 0} (l m : List A) → l ++ m ≡ [] → l ≡ []
 nil-front [] m e = refl
@@ -139,10 +142,10 @@ not-due true i e = let z : _≡_ {A = ℕ} 0 1 = cc in absurd (omega arith)
 not-due false i e = refl
 
 -- nothing is shared with an empty list
-pub shared-none : (l : List (List ℕ)) → shared l [] ≡ false
+pub shared-nothing : (l : List (List ℕ)) → shared l [] ≡ false
 unfolding shared among
-shared-none [] = refl
-shared-none (x ∷ l) = shared-none l
+shared-nothing [] = refl
+shared-nothing (x ∷ l) = shared-nothing l
 
 -- ---- equality
 same-is : (x y : List ℕ) → same x y ≡ true → x ≡ y

@@ -44,6 +44,11 @@ getD-tabled f i zero j d h = absurd (not-suc-le-zero h)
 getD-tabled f i (suc n) zero d h = ap f (sym (add-zero i))
 getD-tabled f i (suc n) (suc j) d h = getD-tabled f (i + 1) n j d (le-of-suc-le-suc h) ∙ ap f (omega arith)
 
+pub tabled-snoc : {A : Type 0} (f : ℕ → A) (i n : ℕ) → tabled f i (suc n) ≡ tabled f i n ++ (f (i + n) ∷ [])
+unfolding tabled
+tabled-snoc f i zero = ap (λ k. f k ∷ []) (sym (add-zero i))
+tabled-snoc f i (suc n) = ap (λ l. f i ∷ l) (tabled-snoc f (i + 1) n ∙ ap (λ k. tabled f (i + 1) n ++ (f k ∷ [])) (omega arith))
+
 pub tabled-same : {A : Type 0} (f h : ℕ → A) → ((x : ℕ) → f x ≡ h x) → (i n : ℕ) → tabled f i n ≡ tabled h i n
 unfolding tabled
 tabled-same f h e i zero = refl

@@ -1,5 +1,4 @@
 // The calls over lent areas. Each answers whatever the areas hold: 13 where one is too short, 14 where they are no tables, else its own.
-use crate::floating::find_copies;
 use masses::Mass;
 use masses::Weight;
 use masses::as_daltons;
@@ -34,7 +33,6 @@ ghost use Rattle.calls.specs.Rows.{RowsReady};
 ghost use Rattle.calls.specs.Writing.{WriteSays};
 ghost use Rattle.calls.specs.Says.{CountSays, TotalSays, BracketMassSays, ShownSays, AllowedSays, NextSays, LedgerSays};
 
-mod floating;
 
 // "a lent area is shorter than its fixed size"
 fn too_short(bytes: &[u8], numbers: &[i64]) -> bool
@@ -158,9 +156,9 @@ pub fn floater_brackets(
             place: 0,
         };
     }
-    let f = find_copies(bytes, numbers);
+    let f = find_floaters(bytes, numbers);
     let n = f.count;
-    let bracket = f.bracket;
+    let bracket = f.index;
     let copy = f.copy;
     bounds::copy_bytes(&bracket, n, brackets);
     bounds::copy_bytes(&copy, n, copies);

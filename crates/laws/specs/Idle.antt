@@ -6,12 +6,12 @@ use Prim.Native.Nat.{ℕ}
 use lib.IntN.{pos, _*ℤ_}
 use lib.ListN.{length, replicate}
 use Rattle.scope.specs.Line.{Bracket, Residue, Line}
-use Rattle.scope.specs.Lists.{given, shared, keep, flat, among, member}
+use Rattle.scope.specs.Lists.{given, shared, keep, flat, member}
 use Rattle.scope.specs.Modifications.{onlyInfo, isReferring, isModification, copies, definedBy, referredBy, namesOf}
 use Rattle.scope.specs.Positions.{sites, isPlaced, placedOn, struckOut, floaters, between, referredAt, isUnlabelledUnknown, ownPosition, mayStand, positions, permitted, floatingOf}
 use Rattle.scope.specs.Masses.{massOf, massOr0, sum, sumℕ, modifications, times, total, lacking, labileMass}
 use Rattle.scope.specs.Kinds.{isLabile}
-use Rattle.basics.specs.Lists.{flat-append, keep-append, keep-same, map-same, shared-none}
+use Rattle.basics.specs.Lists.{flat-append, keep-append, keep-same, map-same, shared-nothing}
 use Rattle.basics.specs.Positions.{same-floats}
 
 -- ---- an element that is not kept, or gives nothing
@@ -72,7 +72,7 @@ module _ {P : Type 0} (rs : List (Residue P)) (ks ls : List (Bracket P)) (k : Br
   unfolding referredAt
   referred-without d x e [] =
       ap (λ b. shared (definedBy d) (cond b (namesOf k) []) && between (k .first) (k .last) x || referredAt d x ls) e
-      ∙ ap (λ b. b && between (k .first) (k .last) x || referredAt d x ls) (shared-none (definedBy d))
+      ∙ ap (λ b. b && between (k .first) (k .last) x || referredAt d x ls) (shared-nothing (definedBy d))
   referred-without d x e (r ∷ l) =
       ap (λ b. shared (definedBy d) (referredBy r) && between (r .first) (r .last) x || b) (referred-without d x e l)
 

@@ -28,7 +28,7 @@ use Rattle.placement_laws.specs.Entries.{allowed-placing}
 use Rattle.placement_laws.specs.Lines.{line-many, line-at, permitted-inside, permitted-free}
 use Rattle.mass_laws.specs.Sums.{sum-both, sum-zero, share, share-here, share-else, sum-share}
 
-put-none : (P : Type 0) (x : ℕ) (p : List ℕ) → putAt {P = P} x [] p ≡ pos 0
+pub put-none : (P : Type 0) (x : ℕ) (p : List ℕ) → putAt {P = P} x [] p ≡ pos 0
 unfolding putAt
 put-none P x p = refl
 
@@ -82,7 +82,7 @@ module _ {P : Type 0} where
   placed-past t f x h = placed-is t x ∙ booked-past t (length (t .residues)) x h (t .brackets) (f .each-bracket)
 
   -- ---- the floating ones
-  put-cons : (x : ℕ) (k : Bracket P) (ks : List (Bracket P)) (y : ℕ) (p : List ℕ) → putAt x (k ∷ ks) (y ∷ p) ≡ share y (massOr0 k) x +ℤ putAt x ks p
+  pub put-cons : (x : ℕ) (k : Bracket P) (ks : List (Bracket P)) (y : ℕ) (p : List ℕ) → putAt x (k ∷ ks) (y ∷ p) ≡ share y (massOr0 k) x +ℤ putAt x ks p
   unfolding putAt
   put-cons x k ks y p = ap (λ t. cond t (massOr0 k) (pos 0) +ℤ putAt x ks p) (eqb-sym x y)
 

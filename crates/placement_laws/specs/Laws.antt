@@ -9,10 +9,10 @@ use native.Mathlib.Omega.{arith}
 use lib.ListN.{length, getD, take, replicate, getElem?}
 use Rattle.scope.specs.Limits.{copyLimit}
 use Rattle.scope.specs.Line.{Line}
-use Rattle.scope.specs.Lists.{given, keep}
+use Rattle.scope.specs.Lists.{keep}
 use Rattle.scope.specs.Positions.{Floating, floaters, floatingOf}
 use Rattle.scope.specs.Placements.{distinct, allowed, choices, placements, firstPlacement, nextPlacement, freshListing}
-use Rattle.scope.specs.Answers.{good, refuses, findable, requested}
+use Rattle.scope.specs.Answers.{refuses, findable, requested}
 use Rattle.placement_laws.specs.Terms.{Orderly, Ascending, Allowed, Placing, Further, Least, afterRequests, handedOut}
 use Rattle.basics.specs.Each.{In}
 use Rattle.placement_laws.specs.Members as members

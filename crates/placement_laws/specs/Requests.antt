@@ -9,7 +9,7 @@ use native.Mathlib.Omega.{arith}
 use lib.ListN.{length, take, getElem?}
 use lib.Seq.{take-all, take-nil}
 use Rattle.scope.specs.declared.answers.Listing.{Listing}
-use Rattle.scope.specs.Lists.{given, all, keep, firstIn}
+use Rattle.scope.specs.Lists.{all, keep, firstIn}
 use Rattle.scope.specs.Positions.{Floating}
 use Rattle.scope.specs.Placements.{less, placements, firstPlacement, nextPlacement, noMark, freshListing, takenListing, following}
 use Rattle.scope.specs.Answers.{Said, good, refuses, findable, requested, movedOn}

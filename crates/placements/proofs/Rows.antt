@@ -1,6 +1,5 @@
 -- The table as lists of positions: the list of a floater has exactly the positions where it may stand, in rising order.
 use mathlib.Core.Path.{_≡_, sym, ap, _∙_}
-use mathlib.Core.Logic.{inl, inr, ⊎-elim}
 use mathlib.Core.Bool.{true}
 use mathlib.Core.List.{List, []}
 use Prim.Native.Nat.{ℕ, zero, suc, _<_, _≤_, _+_, _*_}
@@ -11,7 +10,6 @@ use lib.ListN.{length, getD}
 use Rattle.scope.specs.Limits.{copyLimit, positionLimit}
 use Rattle.scope.specs.Lists.{tabled}
 use Rattle.areas.specs.Floats.{listIn, listsIn, floatingIn}
-use Rattle.exchange.proofs.Exchange.{same?}
 use Rattle.exchange.specs.Table.{mayIn}
 use Rattle.exchange.proofs.Laws.{ok-small, ok-is}
 use Rattle.placement_laws.specs.Terms.{AllRising, Orderly}

@@ -7,8 +7,8 @@ use Prim.Native.Nat.{ℕ, _<_, _≤_}
 use lib.ListN.{take}
 use Rattle.scope.specs.declared.answers.Listing.{Listing}
 use Rattle.scope.specs.Limits.{copyLimit, positionLimit}
-use Rattle.scope.specs.Lists.{given, padded}
-use Rattle.scope.specs.Answers.{Said, good, refuses, saysRequest, met, movedOn}
+use Rattle.scope.specs.Lists.{padded}
+use Rattle.scope.specs.Answers.{Said, saysRequest, met, movedOn}
 use Rattle.exchange.specs.Where.{Full}
 use Rattle.exchange.specs.Order.{Verdict}
 use Rattle.exchange.specs.Table.{place, mayIn}

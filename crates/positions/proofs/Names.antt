@@ -13,7 +13,7 @@ use Rattle.scope.specs.Modifications.{nameOf, namesOf, isReferring, definedBy, 
 use Rattle.scope.specs.Layout.{partIn, bracketIn, labelField, partsField}
 use Rattle.positions.specs.Legible.{labelFrom}
 use Rattle.positions.proofs.Any.{anyOf}
-use Rattle.basics.specs.Lists.{same-length, among-append, shared-none}
+use Rattle.basics.specs.Lists.{same-length, among-append, shared-nothing}
 
 -- ---- texts of different lengths are not the same
 length-part : (a m : ℕ) (l : List ℕ) → a + m ≤ length l → length (part a m l) ≡ m
@@ -86,7 +86,7 @@ module _ (bs : List ℕ) (k r : ℕ) where
   refers-not e f ns =
       sym
       (ap (λ t. shared (definedBy (bracketIn bs ns k)) (cond t (namesOf (bracketIn bs ns r)) [])) (sym (e ns) ∙ f)
-      ∙ shared-none (definedBy (bracketIn bs ns k)))
+      ∙ shared-nothing (definedBy (bracketIn bs ns k)))
 
   pub refers-no-definition : {b : Bool} → ((ns : List ℤ) → b ≡ isReferring (bracketIn bs ns k)) → b ≡ true → (ns : List ℤ) → false ≡ shared (definedBy (bracketIn bs ns k)) (referredBy (bracketIn bs ns r))
   unfolding shared

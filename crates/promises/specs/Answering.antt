@@ -29,14 +29,14 @@ use Rattle.scope.specs.Lists.{given, tabled}
 use Rattle.scope.specs.Canonical.{canonical}
 use Rattle.scope.specs.Tables.{Tables}
 use Rattle.scope.specs.Layout.{tablesIn}
-use Rattle.scope.specs.Positions.{Floating, floatingOf, rowsOf, Found, lookup}
+use Rattle.scope.specs.Positions.{floatersBy, bracketsOf, copiesOf, Floating, floatingOf, rowsOf, Found, lookup}
 use Rattle.scope.specs.Placements.{allowed, takenListing, following}
 use Rattle.scope.specs.Masses.{massOf, total, lacking, daltons}
 use Rattle.scope.specs.Answers.{Said, good, refuses, findable, aMass, lack, saysWrite, saysCount, saysTotal, saysLookup, saysRequest, saysBooked, saysShown, tooShort, areTables, overTables, fitting, writes, outputAfter, counts, floaterCount, weighed, totals, shows, rowsSaid, rowsAfter, looksUp, allows, met, requested, movedOn, requests, listingAfter, allowable, bookable, books, entries}
 use Rattle.basics.specs.Each.{In}
 use Rattle.calls.specs.Writing.{WriteSays}
 use Rattle.calls.specs.Single.{elementAt, ownMass, massAt, weighsAt}
-use Rattle.calls.specs.Floating.{floatersBy, bracketsOf, copiesOf, floatersSaid, FloatersSay}
+use Rattle.calls.specs.Floating.{floatersSaid, FloatersSay}
 use Rattle.calls.specs.Says.{CountSays, TotalSays, BracketMassSays, ShownSays, AllowedSays, NextSays, LedgerSays}
 use Rattle.rows.specs.Says.{LookupSays}
 use Rattle.listing.specs.Says.{RowsSays, StepSays}

@@ -10,7 +10,6 @@ use lib.ListN.{length, drop, getD, getElem?}
 use Rattle.scope.specs.declared.answers.Request.{Request}
 use Rattle.scope.specs.declared.answers.Placement.{Placement}
 use Rattle.scope.specs.declared.answers.Listing.{Listing}
-use Rattle.scope.specs.Lists.{given}
 use Rattle.scope.specs.Tables.{Tables}
 use Rattle.scope.specs.Layout.{tablesIn}
 use Rattle.scope.specs.Positions.{Floating, floatingOf}

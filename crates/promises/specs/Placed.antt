@@ -2,10 +2,10 @@
 -- modification.
 use mathlib.Core.Path.{_≡_, refl, sym, ap, _∙_}
 use mathlib.Core.Logic.{_↔_}
-use mathlib.Core.Bool.{true, false, not, _&&_, true≢false}
+use mathlib.Core.Bool.{true, _&&_, true≢false}
 use mathlib.Core.List.{List, [], _∷_, map}
 use Prim.Native.Nat.{ℕ, zero, suc}
-use borrow.Author.Tests.{not-true, eq-eqb}
+use borrow.Author.Tests.{eq-eqb}
 use lib.Dec.{eqb}
 use lib.IntN.{ℤ}
 use lib.ListN.{getD}
@@ -15,11 +15,10 @@ use Rattle.scope.specs.Lists.{flat, member}
 use Rattle.scope.specs.Line.{Bracket}
 use Rattle.scope.specs.Tables.{Tables}
 use Rattle.scope.specs.Layout.{tablesIn}
-use Rattle.scope.specs.Positions.{isPlaced, placedOn, struckOut, floaters, mayStand, positions, permitted, floatingOf}
+use Rattle.scope.specs.Positions.{isPlaced, placedOn, struckOut, floaters, permitted, floatingOf}
 use Rattle.scope.specs.Answers.{good, saysRequest}
 use Rattle.basics.specs.Each.{In}
-use Rattle.basics.specs.Tests.{both-of as and-true}
-use Rattle.basics.specs.Members.{in-member, member-in, in-keep, flat-in}
+use Rattle.basics.specs.Members.{in-member, member-in, flat-in}
 use Rattle.basics.specs.Positions.{placed-on}
 use Rattle.placement_laws.specs.Terms.{Placing}
 use Rattle.placement_laws.specs.Lines.{permitted-free}

@@ -14,13 +14,13 @@ use lib.Seq.{take-append-seam, drop-append-seam}
 use Rattle.scope.specs.declared.answers.Count.{Count}
 use Rattle.scope.specs.declared.answers.Site.{Site}
 use Rattle.scope.specs.Limits.{rowLimit}
-use Rattle.scope.specs.Lists.{given, laid}
+use Rattle.scope.specs.Lists.{laid}
 use Rattle.scope.specs.Layout.{tablesIn}
 use Rattle.scope.specs.Positions.{floatingOf, rowsFrom, rowsOf, Found, firstRow, lookup}
 use Rattle.scope.specs.Answers.{good, refuses, findable, saysCount, rowsSaid, rowsAfter, looksUp}
 use Rattle.placement_laws.specs.Terms.{Rising, AllRising}
 use Rattle.basics.specs.Each.{In}
-use Rattle.basics.specs.Members.{in-left, in-right, in-either, in-map, map-in, in-member}
+use Rattle.basics.specs.Members.{in-left, in-right, in-either, in-map, map-in}
 use Rattle.laws.specs.Proved.{demands}
 use Rattle.listing.specs.Says.{RowsSays}
 use Rattle.promises.specs.Promises.{Permitted, Below, Climbing, LeastOf, Rowed}

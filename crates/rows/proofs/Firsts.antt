@@ -11,9 +11,8 @@ use lib.ListN.{length, getD, take}
 use lib.Seq.{take-suc, length-take-le}
 use Rattle.scope.specs.declared.answers.Site.{Site}
 use Rattle.scope.specs.Limits.{rowLimit}
-use Rattle.scope.specs.Lists.{given}
 use Rattle.scope.specs.Positions.{Found, firstRow, lookup}
-use Rattle.scope.specs.Answers.{good, refuses, findable, looksUp}
+use Rattle.scope.specs.Answers.{refuses, findable, looksUp}
 use Rattle.basics.specs.Choice.{by-test}
 use Rattle.rows.specs.declared.Seen.{Seen}
 use Rattle.rows.specs.First.{noSite, seenOf, nextSeen, boundOf, saysSeen}

@@ -44,6 +44,29 @@ struckOut t = flat (placedOn t) (t .brackets)
 unfoldable pub floaters : {P : Type 0} → Line P → List (Bracket P)
 floaters t = flat (λ k. replicate (copies k) k) (t .brackets)
 
+-- or by its bracket's number, from 0, and by which of its copies it is, from 1
+pub record Copy : Type 0 where
+  pub bracket : ℕ
+  pub copy : ℕ
+
+-- those of one bracket
+abbrev pub copiesAt : ℕ → ℕ → List Copy
+copiesAt i n = tabled (λ c. record { bracket = i; copy = c }) 1 n
+
+-- those of brackets from the i-th on
+unfoldable pub copiesFrom : {P : Type 0} → ℕ → List (Bracket P) → List Copy
+copiesFrom i [] = []
+copiesFrom i (k ∷ ks) = copiesAt i (copies k) ++ copiesFrom (i + 1) ks
+
+abbrev pub floatersBy : {P : Type 0} → Line P → List Copy
+floatersBy t = copiesFrom 0 (t .brackets)
+
+abbrev pub bracketsOf : List Copy → List ℕ
+bracketsOf l = map (λ c. c .bracket) l
+
+abbrev pub copiesOf : List Copy → List ℕ
+copiesOf l = map (λ c. c .copy) l
+
 -- ---- "Permitted positions: residues 1 to n for an unlabelled unknown one; the residues of its range; for a label, the position or range of its
 -- definition, if it has one in the sequence or at a terminus, and those of its references, each once."
 abbrev pub between : ℕ → ℕ → ℕ → Bool

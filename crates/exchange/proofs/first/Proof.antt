@@ -1,7 +1,7 @@
 -- `exchange::first` meets its contract. The loop's invariant: the first m floaters all stand. One that cannot be placed beside those before it leaves no
 -- placement at all; once all stand, `settle` from the first floater on gives the least.
 use mathlib.Core.Path.{_≡_}
-use mathlib.Core.Bool.{true, false}
+use mathlib.Core.Bool.{false}
 use Prim.Native.Nat.{_≤_, _-_, _+_}
 use native.Mathlib.Omega.{arith}
 use borrow.Author.Tests.{not-true, not-false}

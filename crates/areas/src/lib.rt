@@ -9,10 +9,11 @@ ghost use Rattle.scope.specs.Bytes.{byteLimit, wideLimit};
 ghost use Rattle.scope.specs.Limits.{residueLimit, bracketLimit, partLimit, positionLimit};
 ghost use Rattle.scope.specs.Layout.{bytesSize, numbersSize, residuesAt, lettersAt, sectionsAt, rowAt, countAt, partAt, massAt, countsRow, headRow, partFields, byteAt, wideAt, residuesField, bracketsField, letterField, sectionField, kindField, firstField, lastField, countField, partsField, scoreField, valueField, keyField, decimalsField, textField, labelField, offsetField, massField, scoreNumber};
 
-// The floaters: how many there are, and the number of each one's bracket.
+// The floaters: how many there are, the number of each one's bracket, and which of its copies it is, from 1.
 pub struct Floaters {
     pub count: usize,
     pub index: [u8; Placement::COPIES],
+    pub copy: [u8; Placement::COPIES],
 }
 
 // where the numbers of residues and brackets lie

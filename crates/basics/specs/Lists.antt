@@ -136,11 +136,11 @@ pub not-due : (t : Bool) (i : ℕ) → dueAt t i ≡ [] → t ≡ false
 not-due true i e = let z : _≡_ {A = ℕ} 0 1 = cc in absurd (omega arith)
 not-due false i e = refl
 
--- ---- names
-pub shared-none : (l : List (List ℕ)) → shared l [] ≡ false
+-- nothing is shared with an empty list
+pub shared-nothing : (l : List (List ℕ)) → shared l [] ≡ false
 unfolding shared among
-shared-none [] = refl
-shared-none (x ∷ l) = shared-none l
+shared-nothing [] = refl
+shared-nothing (x ∷ l) = shared-nothing l
 
 -- ---- equality
 same-is : (x y : List ℕ) → same x y ≡ true → x ≡ y

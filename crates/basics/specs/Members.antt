@@ -1,10 +1,12 @@
--- What stands in a list that is kept, joined or mapped.
+-- What stands in a list, at which place, and in one that is kept, joined or mapped.
 use mathlib.Core.Path.{_≡_, refl, sym, ap, _∙_, subst}
 use mathlib.Core.Logic.{_⊎_, inl, inr, ⊎-elim}
 use mathlib.Core.Bool.{Bool, true, false, cond, _||_, false≢true}
 use mathlib.Core.List.{List, [], _∷_, _++_, map}
-use Prim.Native.Nat.{ℕ}
+use Prim.Native.Nat.{ℕ, zero, suc, _<_}
+use native.Mathlib.Omega.{arith}
 use lib.Dec.{eqb}
+use lib.ListN.{length, getD}
 use borrow.Author.Tests.{eqb-true, eq-eqb}
 use Rattle.scope.specs.Lists.{keep, flat, member}
 use Rattle.basics.specs.Each.{In}
@@ -46,6 +48,17 @@ member-append x (y ∷ l) m = go (eqb x y) (member-append x l m)
     go false h = h
 
 module _ {A : Type 0} where
+  -- ---- at a place
+  pub in-at : (l : List A) (i : ℕ) (d : A) → i < length l → In (getD l i d) l
+  in-at [] i d h = absurd (omega arith)
+  in-at (x ∷ l) zero d h = inl refl
+  in-at (x ∷ l) (suc i) d h = inr (in-at l i d (omega arith))
+
+  pub at-in : (x : A) (l : List A) (d : A) → In x l → (i : ℕ) × (i < length l) × (getD l i d ≡ x)
+  at-in x [] d h = absurd h
+  at-in x (y ∷ l) d (inl e) = (0, omega arith, sym e)
+  at-in x (y ∷ l) d (inr h) = let z = at-in x l d h in (suc (z .0), omega (arith, z .1), z .2)
+
   -- ---- one list behind the other
   pub in-left : (x : A) (l m : List A) → In x l → In x (l ++ m)
   in-left x [] m h = absurd h

@@ -1,4 +1,4 @@
--- A line has as many positions as residues and termini; and on which of them a modification is placed.
+-- A line has as many positions as residues and termini; on which of them a modification is placed; and when the same floats.
 use mathlib.Core.Path.{_≡_, refl, ap, _∙_}
 use mathlib.Core.Bool.{Bool, true, false, cond, _&&_}
 use mathlib.Core.List.{List, [], _∷_, map}
@@ -10,7 +10,7 @@ use lib.ListN.{length, length-append, length-map}
 use Rattle.scope.specs.Layout.{tablesIn, residuesField}
 use Rattle.scope.specs.Line.{Bracket, Line}
 use Rattle.scope.specs.Lists.{member}
-use Rattle.scope.specs.Positions.{cTerminus, sites, isPlaced, placedOn}
+use Rattle.scope.specs.Positions.{cTerminus, sites, isPlaced, placedOn, Floating}
 use Rattle.basics.specs.Tabled.{residues-many}
 
 pub sites-many : {P : Type 0} (t : Line P) → length (sites t) ≡ length (t .residues) + 2
@@ -19,6 +19,10 @@ sites-many t = omega (arith, length-append (map (λ r. r .letter) (t .residues))
 
 pub sites-in : (bs : List ℕ) (ns : List ℤ) → length (sites (tablesIn bs ns)) ≡ residuesField bs + 2
 sites-in bs ns = sites-many (tablesIn bs ns) ∙ ap (λ n. n + 2) (residues-many bs ns)
+
+-- the same floats where it has the same positions
+pub same-floats : (f g : Floating) → f .lists ≡ g .lists → f ≡ g
+same-floats f g e = ap (λ qs. record { lists = qs }) e
 
 -- it is placed on its own position
 pub placed-on : {P : Type 0} (t : Line P) (k : Bracket P) (x : ℕ) → member x (placedOn t k) ≡ (isPlaced k && eqb x (k .first))

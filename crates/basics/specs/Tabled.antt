@@ -1,14 +1,19 @@
 -- Laws of `tabled`: the list f i, f (i + 1), .. up to f (m - 1), as a loop from i to m sees it; and what a test keeps of the numbers from i on.
 use mathlib.Core.Path.{_≡_, refl, sym, ap, ap₂, _∙_}
 use mathlib.Core.Bool.{Bool, false, cond}
+use mathlib.Core.Logic.{inl, inr, ⊎-elim}
 use mathlib.Core.List.{List, [], _∷_, _++_, map}
 use Prim.Native.Nat.{ℕ, zero, suc, _+_, _-_, _≤_, _<_}
 use native.Mathlib.Nat.{add-zero, zero-add, not-suc-le-zero, le-of-suc-le-suc}
 use native.Mathlib.Omega.{arith}
+use borrow.Author.Tests.{eqb-true, eqb-false}
+use lib.Dec.{eqb}
 use lib.IntN.{ℤ}
 use lib.ListN.{length, getD, take, length-map, List·getD-map}
 use lib.Seq.{length-take-le, getD-take, ext-getD}
 use Rattle.scope.specs.Lists.{keep, tabled}
+use Rattle.basics.specs.Each.{In}
+use Rattle.basics.specs.Tests.{test}
 use Rattle.scope.specs.Layout.{residueIn, bracketIn, tablesIn, bracketsField, residuesField}
 
 pub tabled-at : {A : Type 0} (f : ℕ → A) (i m : ℕ) → i < m → tabled f i (m - i) ≡ f i ∷ tabled f (i + 1) (m - (i + 1))
@@ -39,12 +44,29 @@ getD-tabled f i zero j d h = absurd (not-suc-le-zero h)
 getD-tabled f i (suc n) zero d h = ap f (sym (add-zero i))
 getD-tabled f i (suc n) (suc j) d h = getD-tabled f (i + 1) n j d (le-of-suc-le-suc h) ∙ ap f (omega arith)
 
+pub tabled-snoc : {A : Type 0} (f : ℕ → A) (i n : ℕ) → tabled f i (suc n) ≡ tabled f i n ++ (f (i + n) ∷ [])
+unfolding tabled
+tabled-snoc f i zero = ap (λ k. f k ∷ []) (sym (add-zero i))
+tabled-snoc f i (suc n) = ap (λ l. f i ∷ l) (tabled-snoc f (i + 1) n ∙ ap (λ k. tabled f (i + 1) n ++ (f k ∷ [])) (omega arith))
+
 pub tabled-same : {A : Type 0} (f h : ℕ → A) → ((x : ℕ) → f x ≡ h x) → (i n : ℕ) → tabled f i n ≡ tabled h i n
 unfolding tabled
 tabled-same f h e i zero = refl
 tabled-same f h e i (suc n) = ap₂ _∷_ (e i) (tabled-same f h e (i + 1) n)
 
--- ---- the numbers from i on that a test keeps
+-- ---- the numbers from i on, and those that a test keeps
+pub in-tabled : (i n x : ℕ) → In x (tabled (λ y. y) i n) → (i ≤ x) × (x < i + n)
+unfolding tabled
+in-tabled i zero x h = absurd h
+in-tabled i (suc n) x (inl e) = (omega arith, omega arith)
+in-tabled i (suc n) x (inr h) = let z = in-tabled (i + 1) n x h in (omega (arith, z .0), omega (arith, z .1))
+
+pub tabled-in : (i n x : ℕ) → i ≤ x → x < i + n → In x (tabled (λ y. y) i n)
+unfolding tabled
+tabled-in i zero x h k = absurd (omega arith)
+tabled-in i (suc n) x h k =
+    ⊎-elim (λ e. inl (eqb-true x i e)) (λ e. let d = eqb-false x i e in inr (tabled-in (i + 1) n x (omega (arith, d)) (omega arith))) (test (eqb x i))
+
 pub keep-as : (p q : ℕ → Bool) (i n : ℕ) → ((x : ℕ) → i ≤ x → x < i + n → p x ≡ q x) → keep p (tabled (λ x. x) i n) ≡ keep q (tabled (λ x. x) i n)
 unfolding keep tabled
 keep-as p q i zero h = refl

@@ -12,13 +12,16 @@ use Rattle.scope.specs.Tables.{Tables}
 use Rattle.scope.specs.Layout.{bytesSize, numbersSize, tablesIn}
 use Rattle.scope.specs.Masses.{total, lacking, daltons}
 use Rattle.scope.specs.Placements.{allowed}
-use Rattle.scope.specs.Positions.{permittedPositions}
-use Rattle.scope.specs.Answers.{bookable, books, entries, Said, good, refuses, Display, aMass, lack, tooShort, areTables, overTables, weighed}
+use Rattle.scope.specs.Positions.{floatingOf}
+use Rattle.scope.specs.Answers.{allowable, bookable, books, entries, Said, good, refuses, Display, aMass, lack, tooShort, areTables, overTables, weighed}
+use Rattle.areas.specs.Floats.{floatingIn}
+use Rattle.basics.specs.Positions.{same-floats}
 use Rattle.layout_laws.specs.Laws.{tables-held}
 use Rattle.laws.specs.Proved.{demands}
 use Rattle.masses.specs.declared.Weight.{Weight}
 use Rattle.masses.specs.declared.Weight.the-variants.{Total, Lacks}
 use Rattle.masses.specs.Weights.{weightOf, saysWeight, weight-said}
+use Rattle.positions.specs.Marked.{Filled}
 use Rattle.calls.specs.Held.{whyNot, Held}
 
 -- ---- 13 and 14
@@ -101,12 +104,14 @@ unfolding weightOf
 displayed t {w} {v} e f = ap saysDisplay (sym f ∙ e) ∙ display-of (eqb (lacking t) 0) (total t) (lacking t)
 
 -- ---- placements
-pub allowed-yes : (t : Tables) (p : List ℕ) {r : Bool} → r ≡ allowed (permittedPositions t) p → r ≡ true
-    → good (tt {0}) ≡ cond (allowed (permittedPositions t) p) (good (tt {0})) (refuses 18 0)
+-- what floats by the table is what floats
+pub floats-as : {bs : List ℕ} {ns : List ℤ} {k : ℕ} {old tab : List ℕ} → Filled bs ns k old tab → floatingIn tab k ≡ floatingOf (tablesIn bs ns)
+floats-as {bs} {ns} {k} {old} {tab} f = same-floats (floatingIn tab k) (floatingOf (tablesIn bs ns)) (f .table)
+
+pub allowed-yes : (t : Tables) (p : List ℕ) {r : Bool} → r ≡ allowed (floatingOf t) p → r ≡ true → good (tt {0}) ≡ allowable t p
 allowed-yes t p {r} e y = ap (λ b. cond b (good (tt {0})) (refuses 18 0)) (sym y ∙ e)
 
-pub allowed-no : (t : Tables) (p : List ℕ) {r : Bool} → r ≡ allowed (permittedPositions t) p → r ≡ false
-    → refuses 18 0 ≡ cond (allowed (permittedPositions t) p) (good (tt {0})) (refuses 18 0)
+pub allowed-no : (t : Tables) (p : List ℕ) {r : Bool} → r ≡ allowed (floatingOf t) p → r ≡ false → refuses 18 0 ≡ allowable t p
 allowed-no t p {r} e y = ap (λ b. cond b (good (tt {0})) (refuses 18 0)) (sym y ∙ e)
 
 -- ---- the ledger
@@ -114,19 +119,15 @@ pub booked-16 : (t : Tables) (p : List ℕ) {w : Weight} {n : ℕ} → w ≡ wei
 unfolding weightOf
 booked-16 t p {w} {n} e f = go (eqb (lacking t) 0) (lacking t) (sym e ∙ f)
   where
-    go : (b : Bool) (m : ℕ) → cond b (Total (total t)) (Lacks m) ≡ Lacks n
-        → refuses 16 n ≡ cond b (cond (allowed (permittedPositions t) p) (good (tt {0})) (refuses 18 0)) (refuses 16 m)
+    go : (b : Bool) (m : ℕ) → cond b (Total (total t)) (Lacks m) ≡ Lacks n → refuses 16 n ≡ cond b (allowable t p) (refuses 16 m)
     go true m q = absurd (let z : _≡_ {A = ℕ} 0 1 = cc in omega arith)
     go false m q = let z : m ≡ n = cc in ap (refuses 16) (sym z)
 
-pub booked-rest : (t : Tables) (p : List ℕ) {w : Weight} {m : ℤ} → w ≡ weightOf t → w ≡ Total m
-    → bookable t p ≡ cond (allowed (permittedPositions t) p) (good (tt {0})) (refuses 18 0)
+pub booked-rest : (t : Tables) (p : List ℕ) {w : Weight} {m : ℤ} → w ≡ weightOf t → w ≡ Total m → bookable t p ≡ allowable t p
 unfolding weightOf
 booked-rest t p {w} {m} e f = go (eqb (lacking t) 0) (sym e ∙ f)
   where
-    go : (b : Bool) → cond b (Total (total t)) (Lacks (lacking t)) ≡ Total m
-        → cond b (cond (allowed (permittedPositions t) p) (good (tt {0})) (refuses 18 0)) (refuses 16 (lacking t))
-        ≡ cond (allowed (permittedPositions t) p) (good (tt {0})) (refuses 18 0)
+    go : (b : Bool) → cond b (Total (total t)) (Lacks (lacking t)) ≡ Total m → cond b (allowable t p) (refuses 16 (lacking t)) ≡ allowable t p
     go true q = refl
     go false q = absurd (let z : _≡_ {A = ℕ} 0 1 = cc in omega arith)
 

@@ -1,19 +1,17 @@
 -- From what is ready to the rows.
 use mathlib.Core.Path.{_≡_, refl, sym, ap, _∙_, subst}
-use mathlib.Core.Bool.{Bool, true, false, cond}
 use mathlib.Core.List.{List}
 use Prim.Native.Nat.{ℕ, _<_, _≤_}
 use borrow.Author.Tests.{lt-ltb, le-ltb}
-use lib.Dec.{ltb}
 use lib.IntN.{ℤ}
 use lib.ListN.{length}
 use Rattle.scope.specs.declared.answers.Site.{Site}
 use Rattle.scope.specs.Limits.{copyLimit, rowLimit}
 use Rattle.scope.specs.Lists.{laid}
 use Rattle.scope.specs.Layout.{tablesIn}
-use Rattle.scope.specs.Positions.{rowsFrom, rowsOf, permittedPositions}
-use Rattle.scope.specs.Answers.{Said, good, refuses, overTables, rowsSaid, rowsAfter}
-use Rattle.areas.specs.Floats.{listsIn, Sized}
+use Rattle.scope.specs.Positions.{rowsFrom, rowsOf}
+use Rattle.scope.specs.Answers.{good, refuses, rowsSaid, rowsAfter}
+use Rattle.areas.specs.Floats.{listsIn}
 use Rattle.positions.specs.Marked.{Filled}
 use Rattle.calls.specs.Held.{whyNot, Held}
 use Rattle.calls.specs.Rows.{RowsTable}

@@ -1,10 +1,10 @@
 -- Writing: each way in which it ends.
-use mathlib.Core.Path.{_≡_, refl, sym, ap, _∙_, subst}
-use mathlib.Core.Bool.{Bool, true, false, cond, _||_}
+use mathlib.Core.Path.{_≡_, refl, sym, ap, _∙_}
+use mathlib.Core.Bool.{true, false, cond}
 use mathlib.Core.List.{List, _++_}
 use Prim.Native.Nat.{ℕ, _<_, _≤_}
 use native.Mathlib.Omega.{arith}
-use borrow.Author.Tests.{lt-ltb, le-ltb, ne-eqb}
+use borrow.Author.Tests.{lt-ltb, le-ltb}
 use lib.Dec.{ltb}
 use lib.IntN.{ℤ}
 use lib.ListN.{length, take, drop}
@@ -12,11 +12,10 @@ use Rattle.scope.specs.declared.answers.Write.{Write}
 use Rattle.scope.specs.declared.answers.Write.the-variants.{Written, Refused}
 use Rattle.scope.specs.Limits.{lineLimit}
 use Rattle.scope.specs.Canonical.{canonical}
-use Rattle.scope.specs.Lists.{laid}
 use Rattle.scope.specs.Layout.{tablesIn}
 use Rattle.scope.specs.Answers.{Said, good, refuses, saysWrite, tooShort, areTables, fitting, writes, outputAfter}
 use Rattle.basics.specs.Choice.{by-test}
-use Rattle.tabled.specs.LineOf.{TablesLine, LineOf}
+use Rattle.tabled.specs.LineOf.{LineOf}
 use Rattle.calls.specs.Writing.{WriteSays}
 
 -- the answer that is said decides what is left

@@ -1,5 +1,4 @@
 // The calls over lent areas. Each answers whatever the areas hold: 13 where one is too short, 14 where they are no tables, else its own.
-use crate::floating::find_copies;
 use masses::Mass;
 use masses::Weight;
 use masses::as_daltons;
@@ -23,7 +22,7 @@ ghost use Prim.Native.Nat.{_≤_};
 ghost use lib.ListN.{length};
 ghost use Rattle.scope.specs.Layout.{tablesIn};
 ghost use Rattle.scope.specs.Limits.{copyLimit, rowLimit};
-ghost use Rattle.scope.specs.Positions.{floaters, permittedPositions};
+ghost use Rattle.scope.specs.Positions.{floaters, floatingOf};
 ghost use Rattle.scope.specs.Placements.{allowed};
 ghost use Rattle.areas.specs.Bounds.{Bounds};
 ghost use Rattle.placements.specs.Steps.{Moves};
@@ -34,7 +33,6 @@ ghost use Rattle.calls.specs.Rows.{RowsReady};
 ghost use Rattle.calls.specs.Writing.{WriteSays};
 ghost use Rattle.calls.specs.Says.{CountSays, TotalSays, BracketMassSays, ShownSays, AllowedSays, NextSays, LedgerSays};
 
-mod floating;
 
 // "a lent area is shorter than its fixed size"
 fn too_short(bytes: &[u8], numbers: &[i64]) -> bool
@@ -158,9 +156,9 @@ pub fn floater_brackets(
             place: 0,
         };
     }
-    let f = find_copies(bytes, numbers);
+    let f = find_floaters(bytes, numbers);
     let n = f.count;
-    let bracket = f.bracket;
+    let bracket = f.index;
     let copy = f.copy;
     bounds::copy_bytes(&bracket, n, brackets);
     bounds::copy_bytes(&copy, n, copies);
@@ -235,7 +233,7 @@ pub fn shown(bytes: &[u8], numbers: &[i64]) -> Shown
 // Whether a placement is allowed by the tables.
 fn is_allowed_by(bytes: &[u8], numbers: &[i64], p: Placement) -> bool
     requires { ⌜ (Bounds (now bytes) (now numbers)) × (length (floaters (tablesIn (now bytes) (now numbers))) ≤ copyLimit) ⌝ }
-    ensures { λ r. ⌜ r ≡ allowed (permittedPositions (tablesIn (now (bytes .entry)) (now (numbers .entry)))) (p .at) ⌝ }
+    ensures { λ r. ⌜ r ≡ allowed (floatingOf (tablesIn (now (bytes .entry)) (now (numbers .entry)))) (p .at) ⌝ }
 {
     let f = find_floaters(bytes, numbers);
     let mut tab = [0u8; Placement::ROWS];
@@ -261,7 +259,7 @@ pub fn is_allowed(bytes: &[u8], numbers: &[i64], p: Placement) -> Request
 // A listing moved on by the tables.
 fn next_by(bytes: &[u8], numbers: &[i64], l: Listing) -> Next
     requires { ⌜ (Bounds (now bytes) (now numbers)) × (length (floaters (tablesIn (now bytes) (now numbers))) ≤ copyLimit) ⌝ }
-    ensures { λ r. ⌜ Moves (requested (permittedPositions (tablesIn (now (bytes .entry)) (now (numbers .entry)))) l) l r ⌝ }
+    ensures { λ r. ⌜ Moves (requested (floatingOf (tablesIn (now (bytes .entry)) (now (numbers .entry)))) l) l r ⌝ }
 {
     let f = find_floaters(bytes, numbers);
     let mut tab = [0u8; Placement::ROWS];

@@ -1,7 +1,8 @@
--- Laws that the proofs cite.
+-- The steps of the code, one law for each: what a test of the table says, how the tree grows by one floater, that a search through it ends in a way up or in none,
+-- and what one floater at one position does.
 use mathlib.Core.Path.{_≡_, refl, sym, ap, _∙_, subst}
-use mathlib.Core.Bool.{Bool, true, false, _&&_, true≢false, false≢true}
-use mathlib.Core.Logic.{_⊎_, ⊎-elim}
+use mathlib.Core.Bool.{Bool, true, false, true≢false}
+use mathlib.Core.Logic.{⊎-elim}
 use mathlib.Core.List.{List}
 use Prim.Native.Nat.{ℕ, _<_, _≤_, _+_, _*_, _-_}
 use native.Mathlib.Omega.{arith}
@@ -15,6 +16,7 @@ use Rattle.exchange.proofs.Exchange.{Put, Shut, same?, below?, pigeon, 
 use Rattle.exchange.specs.Order.{Verdict, Tried}
 use Rattle.exchange.proofs.Least.{same-more, Nothing}
 use Rattle.areas.specs.Floats.{Sized}
+use Rattle.basics.specs.Tests.{and-left}
 use Rattle.exchange.specs.Table.{place, mayIn, Stands, Open, Owned, Walkable, Growing, Grew, GrownIn, Shifted, Taken, Augmentable, Augmented, Ready}
 
 pub put-set : (l : List ℕ) (i x : ℕ) → i < length l → Put i x (place l) (place (set l i x))
@@ -22,11 +24,7 @@ put-set l i x h = record { here = getD-set-same l i x 0 h; else = λ t n. getD-s
 
 pub ok-small : (tab : List ℕ) (s x : ℕ) → mayIn tab s x ≡ true → x < positionLimit
 unfolding mayIn
-ok-small tab s x e = ltb-true x positionLimit (first (ltb x positionLimit) (eqb (getD tab (s * positionLimit + x) 0) 1) e)
-  where
-    first : (a b : Bool) → (a && b) ≡ true → a ≡ true
-    first true b e = refl
-    first false b e = absurd (false≢true e)
+ok-small tab s x e = ltb-true x positionLimit (and-left (ltb x positionLimit) (eqb (getD tab (s * positionLimit + x) 0) 1) e)
 
 pub ok-is : (tab : List ℕ) (s x : ℕ) → x < positionLimit → mayIn tab s x ≡ eqb (getD tab (s * positionLimit + x) 0) 1
 unfolding mayIn

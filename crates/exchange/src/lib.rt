@@ -5,11 +5,11 @@ use scope::answers::Placement;
 ghost use mathlib.Core.Path.{_≡_};
 ghost use mathlib.Core.Bool.{true};
 ghost use lib.ListN.{length};
-ghost use Prim.Native.Nat.{ℕ, _+_, _≤_, _<_};
+ghost use Prim.Native.Nat.{_+_, _≤_, _<_};
 ghost use Rattle.scope.specs.Limits.{copyLimit, rowLimit, positionLimit};
 ghost use Rattle.areas.specs.Floats.{Sized};
 ghost use Rattle.exchange.specs.Where.{Full};
-ghost use Rattle.exchange.specs.Order.{Verdict, Tried, Sought, Lowered, Settled, Next, IsFirst};
+ghost use Rattle.exchange.specs.Order.{Tried, Sought, Lowered, Settled, Next, IsFirst};
 ghost use Rattle.exchange.specs.Table.{place, mayIn, Stands, Owned, Open, Spare, Listed, Growing, Grew, Walkable, Shifted, Augmentable, Augmented, Ready};
 
 // Where each floater stands.

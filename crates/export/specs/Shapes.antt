@@ -15,7 +15,8 @@ use Rattle.scope.specs.Lists.{laid}
 use Rattle.scope.specs.Masses.{ledger, daltons}
 use Rattle.scope.specs.Answers.{Said, good, refuses, Display, aMass, lack, writes, outputAfter, allows, books, fitting}
 use Rattle.entries.specs.Entry.{entry}
-use Rattle.calls.specs.Floating.{floatersBy, bracketsOf, copiesOf, floatersSaid}
+use Rattle.scope.specs.Positions.{floatersBy, bracketsOf, copiesOf}
+use Rattle.calls.specs.Floating.{floatersSaid}
 use Rattle.export.specs.Numbers.{numberOf, left, Numbered}
 use Rattle.export.specs.Handed.{Counted}
 

@@ -8,12 +8,12 @@ use Rattle.scope.specs.Positions.{rowsFrom, rowsOf}
 use Rattle.scope.specs.Masses.{massOr0, sum, modifications, labileMass}
 use Rattle.scope.specs.Kinds.{isLabile}
 use Rattle.basics.specs.Lists.{map-map, keep-map}
-use Rattle.reading_laws.specs.Bare.{modifications-bare, mass-or-0, same-permitted}
+use Rattle.reading_laws.specs.Bare.{modifications-bare, mass-or-0, same-floating}
 
 module _ {P : Type 0} where
   pub rows-bare : (l : Line P) → rowsOf (tablesOf l) ≡ rowsOf l
   unfolding rowsOf
-  rows-bare l = ap (rowsFrom 1) (same-permitted l)
+  rows-bare l = ap (λ f. rowsFrom 1 (f .lists)) (same-floating l)
 
   pub labile-bare : (l : Line P) → labileMass (tablesOf l) ≡ labileMass l
   unfolding labileMass

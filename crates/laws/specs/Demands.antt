@@ -14,7 +14,7 @@ use Rattle.scope.specs.Canonical.{canonical}
 use Rattle.scope.specs.Tables.{Tables, tablesOf}
 use Rattle.scope.specs.Layout.{bytesOf, numbersOf, bytesSize, numbersSize, tablesIn}
 use Rattle.scope.specs.Lists.{there?, all, laid}
-use Rattle.scope.specs.Positions.{floaters, permittedPositions, rowsOf}
+use Rattle.scope.specs.Positions.{floaters, floatingOf, rowsOf}
 use Rattle.scope.specs.Placements.{allowed, placements, freshListing}
 use Rattle.scope.specs.Masses.{massOf, modifications, massOr0, sum, total, lacking, ledger, labileMass}
 use Rattle.scope.specs.Answers.{Said, refuses, tooShort, SomeLine, areTables, overTables, requested}
@@ -71,31 +71,29 @@ pub record Demand2 : Type 0 where
 
 -- n requests from a fresh record hand these out
 abbrev pub listed : {P : Type 0} → Line P → ℕ → List (List ℕ)
-listed t n = handedOut (permittedPositions t) n freshListing
+listed t n = handedOut (floatingOf t) n freshListing
 
 -- how many placements there are
 abbrev pub many : {P : Type 0} → Line P → ℕ
-many t = length (placements (permittedPositions t))
+many t = length (placements (floatingOf t))
 
 pub record Demand3 {P : Type 0} (t : Line P) : Type 0 where
   -- "The listing hands out every allowed placement once, ascending": in as many requests as there are placements, and none in any later one
-  pub every-allowed : (p : List ℕ) → In p (listed t (many t)) ↔ (allowed (permittedPositions t) p ≡ true)
+  pub every-allowed : (p : List ℕ) → In p (listed t (many t)) ↔ (allowed (floatingOf t) p ≡ true)
   pub ascending : Ascending (listed t (many t))
   pub once : (i j : ℕ) → i < many t → j < many t → getD (listed t (many t)) i [] ≡ getD (listed t (many t)) j [] → i ≡ j
   pub no-further : (n : ℕ) → many t ≤ n → listed t n ≡ listed t (many t)
   -- 17 "no placement, or no further one"
-  pub then-17 :
-      (n : ℕ) → many t ≤ n
-      → requested (permittedPositions t) (afterRequests (permittedPositions t) n freshListing) ≡ refuses 17 0
+  pub then-17 : (n : ℕ) → many t ≤ n → requested (floatingOf t) (afterRequests (floatingOf t) n freshListing) ≡ refuses 17 0
   -- "'none' exactly when none exists"
-  pub none-at-first : (requested (permittedPositions t) freshListing ≡ refuses 17 0) ↔ ((p : List ℕ) → allowed (permittedPositions t) p ≡ true → ⊥)
+  pub none-at-first : (requested (floatingOf t) freshListing ≡ refuses 17 0) ↔ ((p : List ℕ) → allowed (floatingOf t) p ≡ true → ⊥)
   -- "the masses at all positions under any allowed placement plus the labile ones equal the line's total, exactly"
-  pub adds-up : (p : List ℕ) → allowed (permittedPositions t) p ≡ true → sum (ledger t p) +ℤ labileMass t ≡ total t
+  pub adds-up : (p : List ℕ) → allowed (floatingOf t) p ≡ true → sum (ledger t p) +ℤ labileMass t ≡ total t
   -- "each holds the masses .. of the floating copy put there, nothing else"; "entries past n+1 stay zero"
   pub own-entry :
-      (p : List ℕ) → allowed (permittedPositions t) p ≡ true → (i : ℕ) (d : Bracket P) → i < length (floaters t)
+      (p : List ℕ) → allowed (floatingOf t) p ≡ true → (i : ℕ) (d : Bracket P) → i < length (floaters t)
       → getD (ledger t p) (getD p i 0) (pos 0) ≡ massOr0 (getD (floaters t) i d)
-  pub past : (p : List ℕ) → allowed (permittedPositions t) p ≡ true → (x : ℕ) → length (t .residues) + 1 < x → getD (ledger t p) x (pos 0) ≡ pos 0
+  pub past : (p : List ℕ) → allowed (floatingOf t) p ≡ true → (x : ℕ) → length (t .residues) + 1 < x → getD (ledger t p) x (pos 0) ≡ pos 0
   -- "Below 71 times 10^12, it fits under 2^53."
   pub total-below : natAbs (total t) < totalLimit
   -- "the whole number becomes a double with nothing lost": cast back, the double is the number
@@ -111,7 +109,7 @@ pub record SameAnswers {P Q : Type 0} (l : Line P) (t : Line Q) : Type 0 where
   pub brackets : length (t .brackets) ≡ length (l .brackets)
   pub floating : length (floaters t) ≡ length (floaters l)
   pub rows : rowsOf t ≡ rowsOf l
-  pub positions : permittedPositions t ≡ permittedPositions l
+  pub positions : floatingOf t ≡ floatingOf l
   pub whole : total t ≡ total l
   pub missing : lacking t ≡ lacking l
   pub labile : labileMass t ≡ labileMass l

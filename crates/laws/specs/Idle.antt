@@ -8,10 +8,11 @@ use lib.ListN.{length, replicate}
 use Rattle.scope.specs.Line.{Bracket, Residue, Line}
 use Rattle.scope.specs.Lists.{given, shared, keep, flat, member}
 use Rattle.scope.specs.Modifications.{onlyInfo, isReferring, isModification, copies, definedBy, referredBy, namesOf}
-use Rattle.scope.specs.Positions.{sites, isPlaced, placedOn, struckOut, floaters, between, referredAt, isUnlabelledUnknown, ownPosition, mayStand, positions, permitted, permittedPositions}
+use Rattle.scope.specs.Positions.{sites, isPlaced, placedOn, struckOut, floaters, between, referredAt, isUnlabelledUnknown, ownPosition, mayStand, positions, permitted, floatingOf}
 use Rattle.scope.specs.Masses.{massOf, massOr0, sum, sumℕ, modifications, times, total, lacking, labileMass}
 use Rattle.scope.specs.Kinds.{isLabile}
-use Rattle.basics.specs.Lists.{flat-append, keep-append, keep-same, map-same, shared-none}
+use Rattle.basics.specs.Lists.{flat-append, keep-append, keep-same, map-same, shared-nothing}
+use Rattle.basics.specs.Positions.{same-floats}
 
 -- ---- an element that is not kept, or gives nothing
 keep-without : {A : Type 0} (f : A → Bool) (l m : List A) (x : A) → f x ≡ false → keep f (l ++ (x ∷ m)) ≡ keep f (l ++ m)
@@ -71,7 +72,7 @@ module _ {P : Type 0} (rs : List (Residue P)) (ks ls : List (Bracket P)) (k : Br
   unfolding referredAt
   referred-without d x e [] =
       ap (λ b. shared (definedBy d) (cond b (namesOf k) []) && between (k .first) (k .last) x || referredAt d x ls) e
-      ∙ ap (λ b. b && between (k .first) (k .last) x || referredAt d x ls) (shared-none (definedBy d))
+      ∙ ap (λ b. b && between (k .first) (k .last) x || referredAt d x ls) (shared-nothing (definedBy d))
   referred-without d x e (r ∷ l) =
       ap (λ b. shared (definedBy d) (referredBy r) && between (r .first) (r .last) x || b) (referred-without d x e l)
 
@@ -88,7 +89,7 @@ module _ {P : Type 0} (rs : List (Residue P)) (ks ls : List (Bracket P)) (k : Br
       (positions withIt)
 
   -- so it blocks nothing: the floaters have the positions that they have without it
-  pub info-blocks-nothing : onlyInfo k ≡ true → isReferring k ≡ false → permittedPositions withIt ≡ permittedPositions withoutIt
-  info-blocks-nothing e f =
-      ap (map (permitted withIt)) (floats-nowhere (info-is-idle e))
-      ∙ map-same (permitted withIt) (permitted withoutIt) (permitted-without (info-is-idle e) f) (floaters withoutIt)
+  pub info-blocks-nothing : onlyInfo k ≡ true → isReferring k ≡ false → floatingOf withIt ≡ floatingOf withoutIt
+  info-blocks-nothing e f = same-floats (floatingOf withIt) (floatingOf withoutIt)
+      (ap (map (permitted withIt)) (floats-nowhere (info-is-idle e))
+      ∙ map-same (permitted withIt) (permitted withoutIt) (permitted-without (info-is-idle e) f) (floaters withoutIt))

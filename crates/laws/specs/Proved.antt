@@ -2,16 +2,15 @@
 use mathlib.Core.Path.{_≡_, sym, ap, _∙_, subst}
 use mathlib.Core.Bool.{true}
 use mathlib.Core.List.{List, []}
-use Prim.Native.Nat.{ℕ, _≤_}
+use Prim.Native.Nat.{ℕ}
 use native.Mathlib.Omega.{arith}
 use lib.IntN.{ℤ}
 use lib.ListN.{length, getD, length-map}
-use Rattle.scope.specs.Limits.{copyLimit}
 use Rattle.scope.specs.Line.{Line}
 use Rattle.scope.specs.Refusals.{accepted, outcome}
 use Rattle.scope.specs.Tables.{bareBracket, bareResidue, tablesOf}
 use Rattle.scope.specs.Layout.{tablesIn}
-use Rattle.scope.specs.Positions.{floaters, permittedPositions}
+use Rattle.scope.specs.Positions.{floaters, floatingOf}
 use Rattle.scope.specs.Placements.{placements, freshListing}
 use Rattle.scope.specs.Answers.{areTables}
 use Rattle.accepted_laws.specs.Within.{Within}
@@ -30,18 +29,17 @@ use Rattle.laws.specs.Areas
 -- ---- demand 3
 demand-3-of : {P : Type 0} (t : Line P) → Within t → Fair t → Limited t → Demand3 t
 demand-3-of t w fair limited =
-    let qs = permittedPositions t in
-    let n = length (placements qs) in
-    let few : length qs ≤ copyLimit = rw (placing.line-many t) (w .few-copies) in
-    let rising = placing.line-rising t in
-    let all : handedOut qs n freshListing ≡ placements qs = placing.whole qs few rising n (omega arith) in
+    let f = floatingOf t in
+    let n = length (placements f) in
+    let ok = placing.line-orderly t (w .few-copies) in
+    let all : handedOut f n freshListing ≡ placements f = placing.whole f ok n (omega arith) in
     record {
-      every-allowed = placing.complete qs few rising;
-      ascending = subst Ascending (sym all) (placing.ascending qs few rising);
-      once = λ i j h k e. placing.once qs few rising i j h k (sym (ap (λ l. getD l i []) all) ∙ e ∙ ap (λ l. getD l j []) all);
-      no-further = λ m h. placing.whole qs few rising m h ∙ sym all;
-      then-17 = placing.ended qs few rising;
-      none-at-first = placing.no-placement qs few rising;
+      every-allowed = placing.complete f ok;
+      ascending = subst Ascending (sym all) (placing.ascending f ok);
+      once = λ i j h k e. placing.once f ok i j h k (sym (ap (λ l. getD l i []) all) ∙ e ∙ ap (λ l. getD l j []) all);
+      no-further = λ m h. placing.whole f ok m h ∙ sym all;
+      then-17 = placing.ended f ok;
+      none-at-first = placing.no-placement f ok;
       adds-up = masses.adds-up t fair;
       own-entry = masses.own-entry t fair;
       past = masses.past t fair;
@@ -71,7 +69,7 @@ same-answers l =
       brackets = length-map (l .brackets) bareBracket;
       floating = ap length (places.same-floaters l) ∙ length-map (floaters l) bareBracket;
       rows = rows-bare l;
-      positions = places.same-permitted l;
+      positions = places.same-floating l;
       whole = places.same-total l;
       missing = places.same-lacking l;
       labile = labile-bare l;

@@ -8,7 +8,7 @@ use Rattle.scope.specs.declared.answers.Site.{Site}
 use Rattle.scope.specs.Limits.{residueLimit, rowLimit, positionLimit}
 use Rattle.scope.specs.Line.{Bracket, Line}
 use Rattle.scope.specs.Lists.{keep, member}
-use Rattle.scope.specs.Positions.{permitted, permittedPositions, sites, positions, mayStand, struckOut, floaters, rowsFrom, rowsOf}
+use Rattle.scope.specs.Positions.{permitted, floatingOf, sites, positions, mayStand, struckOut, floaters, rowsFrom, rowsOf}
 use Rattle.basics.specs.Each.{Each, each-all, each-map}
 use Rattle.accepted_laws.specs.Within.{Within}
 use Rattle.basics.specs.Positions.{sites-many}
@@ -44,7 +44,7 @@ rows-few f (q ∷ qs) w =
 pub rows-fit : {P : Type 0} (l : Line P) → Within l → length (rowsOf l) ≤ rowLimit
 unfolding rowsOf
 rows-fit l w =
-    let a = rows-few 1 (permittedPositions l)
+    let a = rows-few 1 (floatingOf l .lists)
     (each-map (λ q. length q ≤ positionLimit) (permitted l) (floaters l)
     (each-all (λ k. length (permitted l k) ≤ positionLimit) (floaters l) (λ k. permitted-few l k (w .few-residues)))) in
     let b = length-map (floaters l) (permitted l) in

@@ -4,7 +4,7 @@ use mathlib.Core.Path.{_≡_, sym, ap, _∙_}
 use mathlib.Core.Bool.{true, false}
 use mathlib.Core.Logic.{_↔_}
 use mathlib.Core.List.{List}
-use Prim.Native.Nat.{ℕ, _+_, _*_, _^_, _≤_, _<_}
+use Prim.Native.Nat.{ℕ, _+_, _^_, _≤_, _<_}
 use native.Mathlib.Omega.{arith}
 use lib.IntN.{ℤ, pos, natAbs, _+ℤ_}
 use lib.ListN.{length, getD, take}
@@ -13,7 +13,7 @@ use Rattle.scope.specs.Limits.{positionLimit, copyLimit}
 use Rattle.scope.specs.Line.{Bracket, Line}
 use Rattle.scope.specs.Layout.{tablesIn}
 use Rattle.scope.specs.Lists.{there?, all, member}
-use Rattle.scope.specs.Positions.{struckOut, floaters, permittedPositions}
+use Rattle.scope.specs.Positions.{struckOut, floaters, floatingOf}
 use Rattle.scope.specs.Placements.{allowed}
 use Rattle.scope.specs.Masses.{massOf, modifications, massOr0, sum, total, lacking, labileMass, placedAt, ledger}
 use Rattle.areas.specs.Bounds.{Bounds}
@@ -26,7 +26,7 @@ use Rattle.mass_laws.specs.Stated as stated
 use Rattle.mass_laws.specs.Areas as areas
 
 module _ {P : Type 0} (t : Line P) (fair : Fair t) where
-  module _ (p : List ℕ) (ok : allowed (permittedPositions t) p ≡ true) where
+  module _ (p : List ℕ) (ok : allowed (floatingOf t) p ≡ true) where
     -- "The total is the sum over all modifications, counts multiplied, labile included, labels once." The ledger books each of them once, but the
     -- labile ones: its entries and the labile masses add up to the total.
     pub adds-up : sum (ledger t p) +ℤ labileMass t ≡ total t
@@ -46,7 +46,7 @@ module _ {P : Type 0} (t : Line P) (fair : Fair t) where
     past x h = shares.past-zero t fair p ok x h
 
   -- so the ledgers of all placements have one sum
-  pub one-sum : (p q : List ℕ) → allowed (permittedPositions t) p ≡ true → allowed (permittedPositions t) q ≡ true → sum (ledger t p) ≡ sum (ledger t q)
+  pub one-sum : (p q : List ℕ) → allowed (floatingOf t) p ≡ true → allowed (floatingOf t) q ≡ true → sum (ledger t p) ≡ sum (ledger t q)
   one-sum p q e f = shares.ledger-sum t fair p e ∙ sym (shares.ledger-sum t fair q f)
 
   -- "Below 71 times 10^12, it fits under 2^53."

@@ -1,6 +1,5 @@
 pub mod Terms
 pub mod Sums
-pub mod Members
 pub mod Shares
 pub mod Splits
 pub mod Sizes

@@ -1,50 +1,45 @@
 -- The entries of a ledger: what the placed modifications and the floating copies share out among the positions.
-use mathlib.Core.Path.{_≡_, refl, sym, ap, ap₂, _∙_}
-use mathlib.Core.Bool.{true, false, not, cond, _&&_, true≢false, false≢true}
+use mathlib.Core.Path.{_≡_, refl, sym, ap, ap₂, _∙_, subst}
+use mathlib.Core.Bool.{true, false, not, cond, true≢false, false≢true}
 use mathlib.Core.List.{List, [], _∷_, map}
 use Prim.Native.Nat.{ℕ, zero, suc, _+_, _≤_, _<_}
 use native.Mathlib.Nat.{zero-add, le-of-suc-le-suc}
 use native.Mathlib.Decide.{decLt}
 use native.Mathlib.Omega.{arith}
-use borrow.Author.Tests.{not-true}
+use borrow.Author.Tests.{eqb-false, not-true}
 use lib.Dec.{eqb}
 use lib.IntN.{pos, _+ℤ_, +ℤ-idl, +ℤ-idr}
 use lib.ListN.{length, getD, take, length-map, List·getD-eq-default}
 use lib.Seq.{length-take-le, getD-take}
-use Rattle.scope.specs.Limits.{positionLimit, residueLimit, copyLimit}
+use Rattle.scope.specs.Limits.{positionLimit, residueLimit}
 use Rattle.scope.specs.Line.{Bracket, Line}
 use Rattle.scope.specs.Lists.{flat, member, tabled}
-use Rattle.scope.specs.Positions.{placedOn, struckOut, floaters, permitted, permittedPositions}
+use Rattle.scope.specs.Positions.{placedOn, struckOut, floaters, permitted, floatingOf}
 use Rattle.scope.specs.Placements.{distinct, fits, allowed}
 use Rattle.scope.specs.Masses.{massOr0, sum, placedAt, putAt, ledger}
 use Rattle.basics.specs.Tabled.{getD-tabled, length-tabled, tabled-same}
-use Rattle.basics.specs.Members.{member-append}
+use Rattle.basics.specs.Members.{member-append, member-in, in-member, in-at}
 use Rattle.mass_laws.specs.Weights.{bookedAt, placed-is, not-booked, placedMass, booked-share}
 use Rattle.basics.specs.Tests.{eqb-sym, and-left, and-right, or-left, or-right}
 use Rattle.mass_laws.specs.Terms.{FairBracket, Fair}
-use Rattle.basics.specs.Each.{Each}
+use Rattle.basics.specs.Each.{Each, In}
+use Rattle.placement_laws.specs.Members.{cut, allowed-parts}
+use Rattle.placement_laws.specs.Entries.{allowed-placing}
+use Rattle.placement_laws.specs.Lines.{line-many, line-at, permitted-inside, permitted-free}
 use Rattle.mass_laws.specs.Sums.{sum-both, sum-zero, share, share-here, share-else, sum-share}
-use Rattle.mass_laws.specs.Members.{not-first, not-rest, member-at, permitted-inside, permitted-free}
 
-put-none : (P : Type 0) (x : ℕ) (p : List ℕ) → putAt {P = P} x [] p ≡ pos 0
+pub put-none : (P : Type 0) (x : ℕ) (p : List ℕ) → putAt {P = P} x [] p ≡ pos 0
 unfolding putAt
 put-none P x p = refl
 
--- the elements of a list in which none stands twice
-distinct-apart : (l : List ℕ) (i j : ℕ) → distinct l ≡ true → i < length l → j < length l → getD l i 0 ≡ getD l j 0 → i ≡ j
-unfolding distinct
-distinct-apart [] i j d h k e = absurd (omega arith)
-distinct-apart (y ∷ l) zero zero d h k e = refl
-distinct-apart (y ∷ l) zero (suc j) d h k e =
-    absurd
-    (true≢false
-    (sym (member-at l j (le-of-suc-le-suc k)) ∙ ap (λ z. member z l) (sym e) ∙ not-true (member y l) (and-left (not (member y l)) (distinct l) d)))
-distinct-apart (y ∷ l) (suc i) zero d h k e =
-    absurd
-    (true≢false
-    (sym (member-at l i (le-of-suc-le-suc h)) ∙ ap (λ z. member z l) e ∙ not-true (member y l) (and-left (not (member y l)) (distinct l) d)))
-distinct-apart (y ∷ l) (suc i) (suc j) d h k e =
-    ap suc (distinct-apart l i j (and-right (not (member y l)) (distinct l) d) (le-of-suc-le-suc h) (le-of-suc-le-suc k) e)
+-- what is no member is neither the first element nor one of the others
+not-first : (x y : ℕ) (l : List ℕ) → member x (y ∷ l) ≡ false → x ≡ y → ⊥
+unfolding member
+not-first x y l e q = eqb-false x y (or-left (eqb x y) (member x l) e) q
+
+not-rest : (x y : ℕ) (l : List ℕ) → member x (y ∷ l) ≡ false → member x l ≡ false
+unfolding member
+not-rest x y l e = or-right (eqb x y) (member x l) e
 
 module _ {P : Type 0} where
   -- ---- the placed ones: each is booked once
@@ -87,7 +82,7 @@ module _ {P : Type 0} where
   placed-past t f x h = placed-is t x ∙ booked-past t (length (t .residues)) x h (t .brackets) (f .each-bracket)
 
   -- ---- the floating ones
-  put-cons : (x : ℕ) (k : Bracket P) (ks : List (Bracket P)) (y : ℕ) (p : List ℕ) → putAt x (k ∷ ks) (y ∷ p) ≡ share y (massOr0 k) x +ℤ putAt x ks p
+  pub put-cons : (x : ℕ) (k : Bracket P) (ks : List (Bracket P)) (y : ℕ) (p : List ℕ) → putAt x (k ∷ ks) (y ∷ p) ≡ share y (massOr0 k) x +ℤ putAt x ks p
   unfolding putAt
   put-cons x k ks y p = ap (λ t. cond t (massOr0 k) (pos 0) +ℤ putAt x ks p) (eqb-sym x y)
 
@@ -102,22 +97,6 @@ module _ {P : Type 0} where
 
   -- where each copy has a list of positions, all below a bound
   module _ (g : Bracket P → List ℕ) where
-    fits-long : (ks : List (Bracket P)) (p : List ℕ) → fits (map g ks) p ≡ true → length ks ≤ length p
-    unfolding fits
-    fits-long [] p e = omega arith
-    fits-long (k ∷ ks) [] e = absurd (false≢true e)
-    fits-long (k ∷ ks) (y ∷ p) e =
-        let h : length ks ≤ length p = fits-long ks p (and-right (member y (g k)) (fits (map g ks) p) e) in
-        omega arith
-
-    -- each stands at a position of its list
-    pub fits-at : (ks : List (Bracket P)) (p : List ℕ) (i : ℕ) (d : Bracket P) → fits (map g ks) p ≡ true → i < length ks → member (getD p i 0) (g (getD ks i d)) ≡ true
-    unfolding fits
-    fits-at [] p i d e h = absurd (omega arith)
-    fits-at (k ∷ ks) [] i d e h = absurd (false≢true e)
-    fits-at (k ∷ ks) (y ∷ p) zero d e h = and-left (member y (g k)) (fits (map g ks) p) e
-    fits-at (k ∷ ks) (y ∷ p) (suc i) d e h = fits-at ks p i d (and-right (member y (g k)) (fits (map g ks) p) e) (le-of-suc-le-suc h)
-
     module _ (n : ℕ) (below : (k : Bracket P) (y : ℕ) → member y (g k) ≡ true → y < n) where
       -- each is booked once
       pub sum-put : n ≤ positionLimit → (ks : List (Bracket P)) (p : List ℕ) → fits (map g ks) p ≡ true → sum (tabled (λ x. putAt x ks p) 0 positionLimit) ≡ sum (map massOr0 ks)
@@ -162,10 +141,10 @@ module _ {P : Type 0} where
         less = le-of-suc-le-suc h
 
         long : length (take (length ks) p) ≡ length ks
-        long = length-take-le (length ks) p (fits-long ks p (and-right (member y (g k)) (fits (map g ks) p) e))
+        long = let c = cut (map g ks) p (and-right (member y (g k)) (fits (map g ks) p) e) .long in length-take-le (length ks) p (omega (arith, length-map ks g))
 
         among : member (getD p i 0) (take (length ks) p) ≡ true
-        among = ap (λ z. member z (take (length ks) p)) (sym (getD-take (length ks) p i 0 less)) ∙ member-at (take (length ks) p) i (rw long less)
+        among = ap (λ z. member z (take (length ks) p)) (sym (getD-take (length ks) p i 0 less)) ∙ in-member _ _ (in-at (take (length ks) p) i 0 (rw long less))
 
         apart : y ≡ getD p i 0 → ⊥
         apart z = true≢false (sym among ∙ ap (λ u. member u (take (length ks) p)) (sym z) ∙ not-true (member y (take (length ks) p)) (and-left (not (member y (take (length ks) p))) (distinct (take (length ks) p)) f))
@@ -183,43 +162,43 @@ module _ {P : Type 0} where
       List·getD-eq-default (tabled (λ y. placedAt t y +ℤ putAt y (floaters t) p) 0 positionLimit) (pos 0)
       (rw (length-tabled (λ y. placedAt t y +ℤ putAt y (floaters t) p) 0 positionLimit) h)
 
-  allowed-fits : (t : Line P) (p : List ℕ) → allowed (permittedPositions t) p ≡ true → fits (permittedPositions t) p ≡ true
-  unfolding allowed
-  allowed-fits t p e = and-right (eqb (length p) copyLimit) (fits (permittedPositions t) p) (and-left (eqb (length p) copyLimit && fits (permittedPositions t) p) (distinct (take (length (permittedPositions t)) p)) e)
+  allowed-fits : (t : Line P) (p : List ℕ) → allowed (floatingOf t) p ≡ true → fits (map (permitted t) (floaters t)) p ≡ true
+  allowed-fits t p e = allowed-parts (floatingOf t) p e .fit
 
-  allowed-distinct : (t : Line P) (p : List ℕ) → allowed (permittedPositions t) p ≡ true → distinct (take (length (floaters t)) p) ≡ true
-  unfolding allowed
-  allowed-distinct t p e =
-      ap (λ n. distinct (take n p)) (sym (length-map (floaters t) (permitted t)))
-      ∙ and-right (eqb (length p) copyLimit && fits (permittedPositions t) p) (distinct (take (length (permittedPositions t)) p)) e
+  allowed-distinct : (t : Line P) (p : List ℕ) → allowed (floatingOf t) p ≡ true → distinct (take (length (floaters t)) p) ≡ true
+  allowed-distinct t p e = ap (λ n. distinct (take n p)) (sym (line-many t)) ∙ allowed-parts (floatingOf t) p e .apart
+
+  inside : (t : Line P) (k : Bracket P) (x : ℕ) → member x (permitted t k) ≡ true → x < length (t .residues) + 2
+  inside t k x e = permitted-inside t k x (member-in x (permitted t k) e)
 
   -- the entries add up to the placed and the floating masses
-  pub ledger-sum : (t : Line P) → Fair t → (p : List ℕ) → allowed (permittedPositions t) p ≡ true → sum (ledger t p) ≡ sum (map placedMass (t .brackets)) +ℤ sum (map massOr0 (floaters t))
+  pub ledger-sum : (t : Line P) → Fair t → (p : List ℕ) → allowed (floatingOf t) p ≡ true → sum (ledger t p) ≡ sum (map placedMass (t .brackets)) +ℤ sum (map massOr0 (floaters t))
   unfolding ledger
   ledger-sum t f p e =
       sum-both (placedAt t) (λ x. putAt x (floaters t) p) 0 positionLimit
       ∙ ap₂ _+ℤ_ (sum-placed t f)
-      (sum-put (permitted t) (length (t .residues) + 2) (permitted-inside t) (omega (arith, f .few-residues)) (floaters t) p (allowed-fits t p e))
+      (sum-put (permitted t) (length (t .residues) + 2) (inside t) (omega (arith, f .few-residues)) (floaters t) p (allowed-fits t p e))
 
-  pub past-zero : (t : Line P) → Fair t → (p : List ℕ) → allowed (permittedPositions t) p ≡ true → (x : ℕ) → length (t .residues) + 1 < x → getD (ledger t p) x (pos 0) ≡ pos 0
+  pub past-zero : (t : Line P) → Fair t → (p : List ℕ) → allowed (floatingOf t) p ≡ true → (x : ℕ) → length (t .residues) + 1 < x → getD (ledger t p) x (pos 0) ≡ pos 0
   past-zero t f p e x h = by (decLt x positionLimit)
     where
       by : Dec (x < positionLimit) → getD (ledger t p) x (pos 0) ≡ pos 0
       by (yes q) =
           entry t p x q
           ∙ ap₂ _+ℤ_ (placed-past t f x h)
-          (put-past (permitted t) (length (t .residues) + 2) (permitted-inside t) x (omega arith) (floaters t) p (allowed-fits t p e))
+          (put-past (permitted t) (length (t .residues) + 2) (inside t) x (omega arith) (floaters t) p (allowed-fits t p e))
       by (no q) = no-entry t p x (omega arith)
 
-  pub own-entry : (t : Line P) → Fair t → (p : List ℕ) → allowed (permittedPositions t) p ≡ true → (i : ℕ) (d : Bracket P) → i < length (floaters t) → getD (ledger t p) (getD p i 0) (pos 0) ≡ massOr0 (getD (floaters t) i d)
+  pub own-entry : (t : Line P) → Fair t → (p : List ℕ) → allowed (floatingOf t) p ≡ true → (i : ℕ) (d : Bracket P) → i < length (floaters t)
+      → getD (ledger t p) (getD p i 0) (pos 0) ≡ massOr0 (getD (floaters t) i d)
   own-entry t f p e i d h =
       entry t p (getD p i 0) (omega (arith, permitted-inside t (getD (floaters t) i d) (getD p i 0) at, f .few-residues))
       ∙ ap₂ _+ℤ_ (placed-zero t (getD p i 0) (permitted-free t (getD (floaters t) i d) (getD p i 0) at))
       (put-own (permitted t) (floaters t) p i d (allowed-fits t p e) (allowed-distinct t p e) h)
       ∙ +ℤ-idl (massOr0 (getD (floaters t) i d))
     where
-      at : member (getD p i 0) (permitted t (getD (floaters t) i d)) ≡ true
-      at = fits-at (permitted t) (floaters t) p i d (allowed-fits t p e) h
+      at : In (getD p i 0) (permitted t (getD (floaters t) i d))
+      at = subst (λ q. In (getD p i 0) q) (line-at t i d h) (allowed-placing (floatingOf t) p e .permitted i (rw (line-many t) h))
 
   pub only-placed : (t : Line P) (p : List ℕ) (x : ℕ) → x < positionLimit → member x (take (length (floaters t)) p) ≡ false → getD (ledger t p) x (pos 0) ≡ placedAt t x
   only-placed t p x h e = entry t p x h ∙ ap (λ z. placedAt t x +ℤ z) (put-zero x (floaters t) p e) ∙ +ℤ-idr (placedAt t x)
@@ -232,10 +211,5 @@ module _ {P : Type 0} where
       by (no h) = no-entry t p x (omega arith)
 
   -- no two copies stand at one position
-  pub apart : (t : Line P) (p : List ℕ) → allowed (permittedPositions t) p ≡ true → (i j : ℕ) → i < length (floaters t) → j < length (floaters t) → getD p i 0 ≡ getD p j 0 → i ≡ j
-  apart t p e i j h k q =
-      distinct-apart (take (length (floaters t)) p) i j (allowed-distinct t p e) (rw long h) (rw long k)
-      (getD-take (length (floaters t)) p i 0 h ∙ q ∙ sym (getD-take (length (floaters t)) p j 0 k))
-    where
-      long : length (take (length (floaters t)) p) ≡ length (floaters t)
-      long = length-take-le (length (floaters t)) p (fits-long (permitted t) (floaters t) p (allowed-fits t p e))
+  pub apart : (t : Line P) (p : List ℕ) → allowed (floatingOf t) p ≡ true → (i j : ℕ) → i < length (floaters t) → j < length (floaters t) → getD p i 0 ≡ getD p j 0 → i ≡ j
+  apart t p e i j h k q = allowed-placing (floatingOf t) p e .apart i j (rw (line-many t) h) (rw (line-many t) k) q

@@ -24,11 +24,6 @@ four a b c d = simp sums
 pub six : (a b c d e f : ℤ) → (a +ℤ (b +ℤ c)) +ℤ (d +ℤ (e +ℤ f)) ≡ (a +ℤ d) +ℤ ((b +ℤ e) +ℤ (c +ℤ f))
 six a b c d e f = simp sums
 
-pub sum-append : (a b : List ℤ) → sum (a ++ b) ≡ sum a +ℤ sum b
-unfolding sum
-sum-append [] b = sym (+ℤ-idl (sum b))
-sum-append (x ∷ a) b = ap (λ z. x +ℤ z) (sum-append a b) ∙ sym (+ℤ-assoc x (sum a) (sum b))
-
 pub sum-map-append : {A : Type 0} (f : A → ℤ) (a b : List A) → sum (map f (a ++ b)) ≡ sum (map f a) +ℤ sum (map f b)
 unfolding sum
 sum-map-append f [] b = sym (+ℤ-idl (sum (map f b)))

@@ -1,6 +1,6 @@
 -- Laws of the ledger: what one booking does, and that bookings one after the other make the entries that the definition sums for each position.
 -- Assumes nothing.
-use mathlib.Core.Path.{_≡_, refl, sym, ap, _∙_, subst}
+use mathlib.Core.Path.{_≡_, refl, sym, ap, ap₂, _∙_, subst}
 use mathlib.Core.Bool.{Bool, true, false, cond}
 use mathlib.Core.List.{List, [], _∷_, _++_, map}
 use Prim.Native.Nat.{ℕ, suc, _+_, _-_, _^_, _≤_, _<_, min}
@@ -29,13 +29,14 @@ use Rattle.areas.specs.Bounds.{Small, Bounds}
 use Rattle.basics.specs.Tabled.{tabled-at, tabled-end, tabled-all, length-tabled, getD-tabled}
 use Rattle.masses.specs.Reach.{Reach}
 use Rattle.mass_laws.specs.Terms.{massLimit}
+use Rattle.mass_laws.specs.Sums.{share, share-else}
+use Rattle.mass_laws.specs.Shares.{put-none, put-cons}
 use Rattle.mass_laws.specs.Weights.{bookedAt, placed-is, placedMass, booked-share}
 use Rattle.masses.specs.Booking.{Held, Placed, CanBook, booked, CanPut, CanFloat, Put}
 use Rattle.masses.proofs.Whole.{back}
 use Rattle.basics.specs.Wholes.{abs-add}
 use Rattle.masses.proofs.TallyLaws.{mass-small, few-copies}
 use Rattle.basics.specs.Choice.{by-test, branch}
-use Rattle.basics.specs.Tests.{eqb-sym}
 
 -- ---- one booking: a mass at position y
 module _ {l : List ℤ} {n : ℕ} (held : Held l n) (y : ℕ) (in-range : y < positionLimit) (m : ℤ) where
@@ -184,18 +185,10 @@ module _ {bs : List ℕ} {ns : List ℤ} {n k : ℕ} {l : List ℤ} (i : Placing
       }
 
 -- ---- the floating copies
-put-none : (x : ℕ) (fs : List (Bracket (Unit {0}))) → putAt x fs [] ≡ pos 0
+put-nowhere : (x : ℕ) (fs : List (Bracket (Unit {0}))) → putAt x fs [] ≡ pos 0
 unfolding putAt
-put-none x [] = refl
-put-none x (b ∷ fs) = refl
-
-put-no-more : (x : ℕ) (p : List ℕ) → putAt {P = Unit {0}} x [] p ≡ pos 0
-unfolding putAt
-put-no-more x p = refl
-
-put-cons : (x : ℕ) (b : Bracket (Unit {0})) (fs : List (Bracket (Unit {0}))) (y : ℕ) (p : List ℕ) → putAt x (b ∷ fs) (y ∷ p) ≡ cond (eqb x y) (massOr0 b) (pos 0) +ℤ putAt x fs p
-unfolding putAt
-put-cons x b fs y p = refl
+put-nowhere x [] = refl
+put-nowhere x (b ∷ fs) = refl
 
 -- of c copies, those for entries i to j - 1 of the placement are booked
 pub record Putting (l₀ : List ℤ) (at : List ℕ) (i c : ℕ) (m : ℤ) (end j : ℕ) (l : List ℤ) : Type 0 where
@@ -237,6 +230,19 @@ module _ {l₀ : List ℤ} {at : List ℕ} {i c : ℕ} {m : ℤ} {end j : ℕ} {
   entry-first : j < end → drop j at ≡ getD at j 0 ∷ drop (j + 1) at
   entry-first h = drop-cons at j 0 (rw (s .long) (putting-few h)) ∙ ap (λ n. getD at j 0 ∷ drop n at) (sym (add-one j))
 
+  -- what is left to put on x once entry j is booked
+  abbrev left : Bracket (Unit {0}) → List (Bracket (Unit {0})) → ℕ → ℤ
+  left b fs x = putAt x (replicate (c - (j + 1 - i)) b ++ fs) (drop (j + 1) at)
+
+  turn : {y : ℕ} → j < end → y ≡ getD at j 0 → (b : Bracket (Unit {0})) → massOr0 b ≡ m → (fs : List (Bracket (Unit {0}))) (x : ℕ) → x < positionLimit
+      → getD l₀ x (pos 0) +ℤ putAt x (replicate c b ++ fs) (drop i at) ≡ getD l x (pos 0) +ℤ (share y m x +ℤ left b fs x)
+  turn {y} h e b q fs x p =
+      s .entry b q fs x p
+      ∙ ap (λ z. getD l x (pos 0) +ℤ z)
+      (ap (λ ks. putAt x ks (drop j at)) (copy-first b fs (one-less h)) ∙ ap (putAt x (b ∷ (replicate (c - (j + 1 - i)) b ++ fs))) (entry-first h)
+      ∙ put-cons x b (replicate (c - (j + 1 - i)) b ++ fs) (getD at j 0) (drop (j + 1) at)
+      ∙ ap₂ (λ n z. share n z x +ℤ left b fs x) (sym e) q)
+
   pub putting-next : {y : ℕ} {v : ℤ} → j < end → y ≡ getD at j 0 → y < positionLimit → v ≡ getD l y (pos 0) +ℤ m → Putting l₀ at i c m end (j + 1) (set l y v)
   putting-next {y} {v} h e r g =
       record {
@@ -246,17 +252,9 @@ module _ {l₀ : List ℤ} {at : List ℕ} {i c : ℕ} {m : ℤ} {end j : ℕ} {
         from = omega (arith, s .from);
         inside = omega arith;
         held = subst (Held (set l y v)) (more j) (held-booked (s .held) y r m (s .small) g);
-        entry =
-            λ b q fs x p.
-            s .entry b q fs x p
-            ∙ ap (λ ks. getD l x (pos 0) +ℤ putAt x ks (drop j at)) (copy-first b fs (one-less h))
-            ∙ ap (λ d. getD l x (pos 0) +ℤ putAt x (b ∷ (replicate (c - (j + 1 - i)) b ++ fs)) d) (entry-first h)
-            ∙ ap (λ z. getD l x (pos 0) +ℤ z) (put-cons x b (replicate (c - (j + 1 - i)) b ++ fs) (getD at j 0) (drop (j + 1) at))
-            ∙ ap (λ z. getD l x (pos 0) +ℤ (cond (eqb x z) (massOr0 b) (pos 0) +ℤ putAt x (replicate (c - (j + 1 - i)) b ++ fs) (drop (j + 1) at))) (sym e)
-            ∙ ap (λ z. getD l x (pos 0) +ℤ (cond (eqb x y) z (pos 0) +ℤ putAt x (replicate (c - (j + 1 - i)) b ++ fs) (drop (j + 1) at))) q
-            ∙ ap (λ z. getD l x (pos 0) +ℤ (cond z m (pos 0) +ℤ putAt x (replicate (c - (j + 1 - i)) b ++ fs) (drop (j + 1) at))) (eqb-sym x y)
-            ∙ sym (+ℤ-assoc (getD l x (pos 0)) (cond (eqb y x) m (pos 0)) (putAt x (replicate (c - (j + 1 - i)) b ++ fs) (drop (j + 1) at)))
-            ∙ ap (λ z. z +ℤ putAt x (replicate (c - (j + 1 - i)) b ++ fs) (drop (j + 1) at)) (sym (booked-at (s .held) y r m g x));
+        entry = λ b q fs x p.
+            turn h e b q fs x p ∙ sym (+ℤ-assoc (getD l x (pos 0)) (share y m x) (left b fs x))
+            ∙ ap (λ z. z +ℤ left b fs x) (sym (booked-at (s .held) y r m g x));
       }
     where
       more : (j : ℕ) → bracketLimit + j + 1 ≡ bracketLimit + (j + 1)
@@ -272,15 +270,9 @@ module _ {l₀ : List ℤ} {at : List ℕ} {i c : ℕ} {m : ℤ} {end j : ℕ} {
         from = omega (arith, s .from);
         inside = omega arith;
         held = record { whole = s .held .whole; small = λ x p. omega (arith, s .held .small x p) };
-        entry =
-            λ b q fs x p.
-            s .entry b q fs x p
-            ∙ ap (λ ks. getD l x (pos 0) +ℤ putAt x ks (drop j at)) (copy-first b fs (one-less h))
-            ∙ ap (λ d. getD l x (pos 0) +ℤ putAt x (b ∷ (replicate (c - (j + 1 - i)) b ++ fs)) d) (entry-first h)
-            ∙ ap (λ z. getD l x (pos 0) +ℤ z)
-            (put-cons x b (replicate (c - (j + 1 - i)) b ++ fs) (getD at j 0) (drop (j + 1) at)
-            ∙ ap (λ t. cond t (massOr0 b) (pos 0) +ℤ putAt x (replicate (c - (j + 1 - i)) b ++ fs) (drop (j + 1) at)) (ne-eqb x (getD at j 0) (λ z. omega arith))
-            ∙ +ℤ-idl (putAt x (replicate (c - (j + 1 - i)) b ++ fs) (drop (j + 1) at)));
+        entry = λ b q fs x p.
+            turn h e b q fs x p
+            ∙ ap (λ z. getD l x (pos 0) +ℤ z) (ap (λ z. z +ℤ left b fs x) (share-else y m x (λ z. omega arith)) ∙ +ℤ-idl (left b fs x));
       }
 
   -- as a booking asks it, and gives it
@@ -305,8 +297,8 @@ module _ {l₀ : List ℤ} {at : List ℕ} {i c : ℕ} {m : ℤ} {end j : ℕ} {
       by (no z) =
           let last : length at ≤ j = rw (s .long) (omega (arith, s .end-is, s .from)) in
           let past : length at ≤ end = rw (← same) last in
-          ap (putAt x (replicate (c - (j - i)) b ++ fs)) (drop-of-length-le at last) ∙ put-none x (replicate (c - (j - i)) b ++ fs)
-          ∙ sym (put-none x fs) ∙ ap (putAt x fs) (sym (drop-of-length-le at past))
+          ap (putAt x (replicate (c - (j - i)) b ++ fs)) (drop-of-length-le at last) ∙ put-nowhere x (replicate (c - (j - i)) b ++ fs)
+          ∙ sym (put-nowhere x fs) ∙ ap (putAt x fs) (sym (drop-of-length-le at past))
 
   pub putting-end : {m′ : ℤ} → end ≤ j → m ≡ m′ → Put l₀ l at i c m′ end
   putting-end h read =
@@ -413,7 +405,7 @@ module _ {bs : List ℕ} {ns : List ℤ} {at : List ℕ} {n k : ℕ} {l : List �
   entry-is h x q =
       sym
       (s .entry x q ∙ ap (λ ks. getD l x (pos 0) +ℤ putAt x (floating ks) (drop i at)) (tabled-end (bracketIn bs ns) k n h)
-      ∙ ap (λ z. getD l x (pos 0) +ℤ z) (put-no-more x (drop i at))
+      ∙ ap (λ z. getD l x (pos 0) +ℤ z) (put-none (Unit {0}) x (drop i at))
       ∙ +ℤ-idr (getD l x (pos 0)))
 
   pub floating-end : n ≤ k → l ≡ ledger (tablesIn bs ns) at

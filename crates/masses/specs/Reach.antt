@@ -1,6 +1,6 @@
 -- What a reading of one bracket's masses asks of the areas.
 use mathlib.Core.List.{List}
-use Prim.Native.Nat.{ℕ, _+_, _<_}
+use Prim.Native.Nat.{ℕ, _<_}
 use lib.IntN.{ℤ}
 use Rattle.scope.specs.Layout.{bracketsField, partsField}
 use Rattle.areas.specs.Bounds.{Bounds}

@@ -16,7 +16,7 @@ use Rattle.scope.specs.Refusals.{least, refusal1, refusal2, unprintable, refusa
 use Rattle.scope.specs.Canonical.{decimalUpTo, decimal, lastDigits, decimals, size, partText, partsText, sequenceText, chainText, canonical}
 use Rattle.scope.specs.Tables.{tablesOf, scoreOf}
 use Rattle.scope.specs.Layout.{partRows, rows, bytesOf, numbersOf, partIn, bracketIn, tablesIn}
-use Rattle.scope.specs.Positions.{sites, isPlaced, placedOn, struckOut, floaters, referredAt, mayStand, permitted, rowsFrom, rowsOf, firstRow, permittedPositions}
+use Rattle.scope.specs.Positions.{sites, isPlaced, placedOn, struckOut, floaters, referredAt, mayStand, permitted, rowsFrom, rowsOf, firstRow, floatingOf}
 use Rattle.scope.specs.Placements.{distinct, fits, allowed, less, choices, placements, firstPlacement, nextPlacement}
 use Rattle.scope.specs.Masses.{firstMass, massOf, sum, total, sumℕ, lacking, placedAt, putAt, ledger, labileMass}
 use Rattle.scope.specs.Answers.{sameNumbers, areTables}
@@ -32,14 +32,14 @@ abbrev totalOf : String → Option ℤ
 totalOf s = of (outcome (bytes s)) total
 
 abbrev placementsOf : String → Option (List (List ℕ))
-placementsOf s = of (outcome (bytes s)) (λ l. placements (permittedPositions l))
+placementsOf s = of (outcome (bytes s)) (λ l. placements (floatingOf l))
 
 abbrev lineWritten : String → Option (List ℕ)
 lineWritten s = of (outcome (bytes s)) canonical
 
 -- under the first placement
 abbrev ledgerOf : String → Option (List ℤ)
-ledgerOf s = of (outcome (bytes s)) (λ l. given (firstPlacement (permittedPositions l)) (ledger l) [])
+ledgerOf s = of (outcome (bytes s)) (λ l. given (firstPlacement (floatingOf l)) (ledger l) [])
 
 -- a number or a list without its sign, its unused entries or its zeros
 abbrev minus : ℕ → ℤ

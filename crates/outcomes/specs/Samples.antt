@@ -3,7 +3,7 @@
 use mathlib.Core.Path.{_≡_, refl}
 use mathlib.Core.Bool.{Bool, true}
 use mathlib.Core.Option.{Option, none, some}
-use mathlib.Core.List.{List, [], _∷_, _++_, map}
+use mathlib.Core.List.{List, [], _∷_, _++_}
 use Prim.Native.Nat.{ℕ, _+_}
 use Prim.Native.String.{String}
 use lib.IntN.{ℤ, pos, negℤ}
@@ -19,7 +19,7 @@ use Rattle.scope.specs.Refusals.{least, refusal1, refusal2, unprintable, refusa
 use Rattle.scope.specs.Canonical.{decimalUpTo, decimal, lastDigits, decimals, size, partText, partsText, sequenceText, chainText, canonical}
 use Rattle.scope.specs.Tables.{tablesOf, scoreOf}
 use Rattle.scope.specs.Layout.{partRows, rows, bytesOf, numbersOf, partIn, bracketIn, tablesIn}
-use Rattle.scope.specs.Positions.{sites, isPlaced, placedOn, struckOut, floaters, referredAt, mayStand, permitted, rowsFrom, rowsOf, firstRow, permittedPositions}
+use Rattle.scope.specs.Positions.{sites, isPlaced, placedOn, struckOut, floaters, referredAt, mayStand, permitted, rowsFrom, rowsOf, firstRow, floatingOf}
 use Rattle.scope.specs.Placements.{distinct, fits, allowed, less, choices, placements, firstPlacement, nextPlacement}
 use Rattle.scope.specs.Masses.{firstMass, massOf, sum, total, sumℕ, lacking, placedAt, putAt, ledger, labileMass}
 use Rattle.scope.specs.Answers.{sameNumbers, areTables}
@@ -149,11 +149,11 @@ of (accepted l) f = some (f l)
 of (refused number place) f = none
 
 abbrev placementsIn : Line ℕ → List (List ℕ)
-placementsIn l = placements (permittedPositions l)
+placementsIn l = placements (floatingOf l)
 
 -- up to the C-terminus, under the first placement
 abbrev ledgerIn : Line ℕ → List ℤ
-ledgerIn l = take (length (l .residues) + 2) (given (firstPlacement (permittedPositions l)) (ledger l) [])
+ledgerIn l = take (length (l .residues) + 2) (given (firstPlacement (floatingOf l)) (ledger l) [])
 
 -- the areas that a line is read to hold its tables, and are accepted as tables
 abbrev isRead : Line ℕ → Bool

@@ -1,6 +1,6 @@
--- The laws of placements and of the listing. `qs` are the floaters' lists of permitted positions, at most eight, each rising; `line-rising` and
--- `line-many` say that those of a line are so.
-use mathlib.Core.Path.{_≡_, refl}
+-- The laws of placements and of the listing, over what floats: few copies, each with its positions in rising order; `line-orderly` says that what floats of
+-- a line with few floaters is so.
+use mathlib.Core.Path.{_≡_}
 use mathlib.Core.Logic.{_↔_}
 use mathlib.Core.Bool.{true}
 use mathlib.Core.List.{List, [], _∷_}
@@ -9,70 +9,71 @@ use native.Mathlib.Omega.{arith}
 use lib.ListN.{length, getD, take, replicate, getElem?}
 use Rattle.scope.specs.Limits.{copyLimit}
 use Rattle.scope.specs.Line.{Line}
-use Rattle.scope.specs.Lists.{given, keep}
-use Rattle.scope.specs.Positions.{floaters, permittedPositions}
+use Rattle.scope.specs.Lists.{keep}
+use Rattle.scope.specs.Positions.{Floating, floaters, floatingOf}
 use Rattle.scope.specs.Placements.{distinct, allowed, choices, placements, firstPlacement, nextPlacement, freshListing}
-use Rattle.scope.specs.Answers.{good, refuses, requested}
-use Rattle.placement_laws.specs.Terms.{AllRising, Ascending, Allowed, Further, Least, afterRequests, handedOut}
+use Rattle.scope.specs.Answers.{refuses, findable, requested}
+use Rattle.placement_laws.specs.Terms.{Orderly, Ascending, Allowed, Placing, Further, Least, afterRequests, handedOut}
 use Rattle.basics.specs.Each.{In}
 use Rattle.placement_laws.specs.Members as members
+use Rattle.placement_laws.specs.Entries as entries
 use Rattle.placement_laws.specs.Sorted as sorted
 use Rattle.placement_laws.specs.Leasts as leasts
 use Rattle.placement_laws.specs.Requests as requests
 use Rattle.placement_laws.specs.Lines as lines
 
--- the lists of a line's floaters: "Floating copies, in order of their brackets"
-pub line-rising : {P : Type 0} (t : Line P) → AllRising (permittedPositions t)
-line-rising t = lines.line-rising t
-
-pub line-many : {P : Type 0} (t : Line P) → length (permittedPositions t) ≡ length (floaters t)
-line-many t = lines.line-many t
+-- what floats of a line: "Floating copies, in order of their brackets"
+pub line-orderly : {P : Type 0} (t : Line P) → length (floaters t) ≤ copyLimit → Orderly (floatingOf t)
+line-orderly t few = lines.line-orderly t few
 
 -- "With no floater there is one placement, all zeros."
-pub no-floater : placements [] ≡ replicate copyLimit 0 ∷ []
+pub no-floater : (f : Floating) → f .lists ≡ [] → placements f ≡ replicate copyLimit 0 ∷ []
 unfolding placements choices keep distinct
-no-floater = refl
+no-floater f e = rw e
 
-module _ (qs : List (List ℕ)) (few : length qs ≤ copyLimit) where
-  -- the placements are the allowed ones: each floater at a permitted position, "and no two floaters share one"
-  pub among : (p : List ℕ) → In p (placements qs) ↔ (allowed qs p ≡ true)
-  among p = ((λ h. members.among-allowed qs p few h), (λ h. members.allowed-among qs p h))
+module _ (f : Floating) (ok : Orderly f) where
+  -- allowed, entry by entry: each floater at a permitted position, "and no two floaters share one"
+  pub by-entries : (p : List ℕ) → (allowed f p ≡ true) ↔ Placing f p
+  by-entries p = (entries.allowed-placing f p, entries.placing-allowed f p (ok .few))
 
-  module _ (rising : AllRising qs) where
-    -- "ordered as number lists"
-    pub ascending : Ascending (placements qs)
-    ascending = sorted.placements-ascending qs rising
+  -- the placements are the allowed ones
+  pub among : (p : List ℕ) → In p (placements f) ↔ (allowed f p ≡ true)
+  among p = ((λ h. members.among-allowed f p (ok .few) h), (λ h. members.allowed-among f p h))
 
-    -- each stands there once
-    pub once : (i j : ℕ) → i < length (placements qs) → j < length (placements qs) → getD (placements qs) i [] ≡ getD (placements qs) j [] → i ≡ j
-    once i j h k e = sorted.once (placements qs) ascending i j h k e
+  -- "ordered as number lists"
+  pub ascending : Ascending (placements f)
+  ascending = sorted.placements-ascending f (ok .rising)
 
-    -- the first is the least that is allowed; the next one the least that is allowed and above p; none exactly where there is none
-    pub first : Least (Allowed qs) (firstPlacement qs)
-    first = leasts.first-least qs few rising
+  -- each stands there once
+  pub once : (i j : ℕ) → i < length (placements f) → j < length (placements f) → getD (placements f) i [] ≡ getD (placements f) j [] → i ≡ j
+  once i j h k e = sorted.once (placements f) ascending i j h k e
 
-    pub next : (p : List ℕ) → Least (Further qs p) (nextPlacement qs p)
-    next p = leasts.next-least qs few rising p
+  -- the first is the least that is allowed; the next one the least that is allowed and above p; none exactly where there is none
+  pub first : Least (Allowed f) (firstPlacement f)
+  first = leasts.first-least f ok
 
-    -- "requests from a fresh record over the same tables": after n of them the next one hands out placement number n (from 0), or answers 17
-    pub request : (n : ℕ) → requested qs (afterRequests qs n freshListing) ≡ given (getElem? (placements qs) n) good (refuses 17 0)
-    request n = requests.nth-request qs few rising n
+  pub next : (p : List ℕ) → Least (Further f p) (nextPlacement f p)
+  next p = leasts.next-least f ok p
 
-    -- n of them hand out the first n placements, in order; as many as there are, or more, hand out all
-    pub listing : (n : ℕ) → handedOut qs n freshListing ≡ take n (placements qs)
-    listing n = requests.all-handed qs few rising n
+  -- "requests from a fresh record over the same tables": after n of them the next one hands out placement number n (from 0), or answers 17
+  pub request : (n : ℕ) → requested f (afterRequests f n freshListing) ≡ findable (getElem? (placements f) n)
+  request n = requests.nth-request f ok n
 
-    pub whole : (n : ℕ) → length (placements qs) ≤ n → handedOut qs n freshListing ≡ placements qs
-    whole n h = requests.whole qs few rising n h
+  -- n of them hand out the first n placements, in order; as many as there are, or more, hand out all
+  pub listing : (n : ℕ) → handedOut f n freshListing ≡ take n (placements f)
+  listing n = requests.all-handed f ok n
 
-    -- what they hand out in all is what is allowed
-    pub complete : (p : List ℕ) → In p (handedOut qs (length (placements qs)) freshListing) ↔ (allowed qs p ≡ true)
-    complete p = rw (whole (length (placements qs)) (omega arith)) (among p)
+  pub whole : (n : ℕ) → length (placements f) ≤ n → handedOut f n freshListing ≡ placements f
+  whole n h = requests.whole f ok n h
 
-    -- past the last one, every request answers 17
-    pub ended : (n : ℕ) → length (placements qs) ≤ n → requested qs (afterRequests qs n freshListing) ≡ refuses 17 0
-    ended n h = requests.ended qs few rising n h
+  -- what they hand out in all is what is allowed
+  pub complete : (p : List ℕ) → In p (handedOut f (length (placements f)) freshListing) ↔ (allowed f p ≡ true)
+  complete p = rw (whole (length (placements f)) (omega arith)) (among p)
 
-    -- 17: "no placement, or no further one"
-    pub no-placement : (requested qs freshListing ≡ refuses 17 0) ↔ ((p : List ℕ) → allowed qs p ≡ true → ⊥)
-    no-placement = (requests.none-at-first qs few rising, requests.first-none qs few rising)
+  -- past the last one, every request answers 17
+  pub ended : (n : ℕ) → length (placements f) ≤ n → requested f (afterRequests f n freshListing) ≡ refuses 17 0
+  ended n h = requests.ended f ok n h
+
+  -- 17: "no placement, or no further one"
+  pub no-placement : (requested f freshListing ≡ refuses 17 0) ↔ ((p : List ℕ) → allowed f p ≡ true → ⊥)
+  no-placement = (requests.none-at-first f ok, requests.first-none f ok)

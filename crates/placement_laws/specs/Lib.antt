@@ -2,6 +2,7 @@ pub mod Terms
 pub mod Laws
 pub mod Order
 pub mod Members
+pub mod Entries
 pub mod Sorted
 pub mod Leasts
 pub mod Requests

@@ -1,29 +1,28 @@
--- The permitted positions of a line's floaters stand in rising order.
-use mathlib.Core.Path.{_≡_}
-use mathlib.Core.Logic.{_⊎_, inl, inr, ⊎-elim}
-use mathlib.Core.Bool.{Bool, true, false}
+-- What floats of a line is orderly: the permitted positions of each floater stand in rising order. Each is one of the line's, and no placed modification stands
+-- there.
+use mathlib.Core.Path.{_≡_, refl}
+use mathlib.Core.Logic.{_⊎_, inl, inr}
+use mathlib.Core.Bool.{Bool, true, false, not, _&&_}
 use mathlib.Core.List.{List, [], _∷_, map}
-use Prim.Native.Nat.{ℕ, zero, suc, _≤_, _+_}
+use Prim.Native.Nat.{ℕ, zero, suc, _≤_, _<_, _+_}
 use native.Mathlib.Omega.{arith}
-use lib.ListN.{length, length-map}
+use borrow.Author.Tests.{not-true}
+use lib.ListN.{length, getD, length-map}
+use Rattle.scope.specs.Limits.{copyLimit}
 use Rattle.scope.specs.Line.{Bracket, Line}
 use Rattle.scope.specs.Lists.{keep, tabled, member}
-use Rattle.scope.specs.Positions.{floaters, permitted, permittedPositions}
-use Rattle.placement_laws.specs.Terms.{Rising, AllRising}
-use Rattle.basics.specs.Tests.{test}
-use Rattle.basics.specs.Members.{member-in, in-member, member-none, member-cons, in-keep, keep-yes, keep-no}
-
--- ---- the numbers from i on
-pub tabled-low : (i n x : ℕ) → member x (tabled (λ y. y) i n) ≡ true → i ≤ x
-unfolding tabled
-tabled-low i zero x e = member-none x e
-tabled-low i (suc n) x e =
-    ⊎-elim (λ h. omega arith) (λ h. let z = tabled-low (i + 1) n x h in omega arith) (member-cons x i (tabled (λ y. y) (i + 1) n) e)
+use Rattle.scope.specs.Positions.{sites, positions, struckOut, mayStand, floaters, permitted, floatingOf}
+use Rattle.placement_laws.specs.Terms.{Rising, AllRising, Orderly}
+use Rattle.basics.specs.Each.{In}
+use Rattle.basics.specs.Tests.{test, and-right}
+use Rattle.basics.specs.Members.{in-keep, keep-yes, keep-no}
+use Rattle.basics.specs.Positions.{sites-many}
+use Rattle.basics.specs.Tabled.{in-tabled}
 
 tabled-rising : (i n : ℕ) → Rising (tabled (λ y. y) i n)
 unfolding tabled
 tabled-rising i zero = tt
-tabled-rising i (suc n) = ((λ y e. let z = tabled-low (i + 1) n y e in omega arith), tabled-rising (i + 1) n)
+tabled-rising i (suc n) = ((λ y h. let z = in-tabled (i + 1) n y h in omega (arith, z .0)), tabled-rising (i + 1) n)
 
 keep-rising : (f : ℕ → Bool) (l : List ℕ) → Rising l → Rising (keep f l)
 unfolding keep
@@ -31,7 +30,7 @@ keep-rising f [] r = tt
 keep-rising f (x ∷ l) r = go (keep-rising f l (r .1)) (test (f x))
   where
     go : Rising (keep f l) → (f x ≡ true) ⊎ (f x ≡ false) → Rising (keep f (x ∷ l))
-    go ih (inl e) = rw (keep-yes f x l e) ((λ y h. r .0 y (in-member y l (in-keep f y l (member-in y (keep f l) h) .0))), ih)
+    go ih (inl e) = rw (keep-yes f x l e) ((λ y h. r .0 y (in-keep f y l h .0)), ih)
     go ih (inr e) = rw (keep-no f x l e) ih
 
 pub kept-rising : (f : ℕ → Bool) (i n : ℕ) → Rising (keep f (tabled (λ y. y) i n))
@@ -41,12 +40,31 @@ map-rising : {A : Type 0} (g : A → List ℕ) (l : List A) → ((x : A) → Ris
 map-rising g [] h = tt
 map-rising g (x ∷ l) h = (h x, map-rising g l h)
 
+mapped-at : {A B : Type 0} (g : A → B) (l : List A) (i : ℕ) (d : A) (e : B) → i < length l → getD (map g l) i e ≡ g (getD l i d)
+mapped-at g [] i d e h = absurd (omega arith)
+mapped-at g (x ∷ l) zero d e h = refl
+mapped-at g (x ∷ l) (suc i) d e h = mapped-at g l i d e (omega arith)
+
 permitted-rising : {P : Type 0} (t : Line P) (k : Bracket P) → Rising (permitted t k)
 unfolding permitted
 permitted-rising t k = kept-rising _ 0 _
 
-pub line-rising : {P : Type 0} (t : Line P) → AllRising (permittedPositions t)
-line-rising t = map-rising (permitted t) (floaters t) (permitted-rising t)
+in-permitted : {P : Type 0} (t : Line P) (k : Bracket P) (x : ℕ) → In x (permitted t k) → In x (positions t) × ((mayStand t k x && not (member x (struckOut t))) ≡ true)
+unfolding permitted
+in-permitted t k x h = in-keep (λ y. mayStand t k y && not (member y (struckOut t))) x (positions t) h
 
-pub line-many : {P : Type 0} (t : Line P) → length (permittedPositions t) ≡ length (floaters t)
+pub permitted-inside : {P : Type 0} (t : Line P) (k : Bracket P) (x : ℕ) → In x (permitted t k) → x < length (t .residues) + 2
+permitted-inside t k x h = let z = in-tabled 0 (length (sites t)) x (in-permitted t k x h .0) in omega (arith, z .1, sites-many t)
+
+pub permitted-free : {P : Type 0} (t : Line P) (k : Bracket P) (x : ℕ) → In x (permitted t k) → member x (struckOut t) ≡ false
+permitted-free t k x h = not-true (member x (struckOut t)) (and-right (mayStand t k x) (not (member x (struckOut t))) (in-permitted t k x h .1))
+
+pub line-many : {P : Type 0} (t : Line P) → length (floatingOf t .lists) ≡ length (floaters t)
 line-many t = length-map (floaters t) (permitted t)
+
+-- floater i has the positions permitted to it
+pub line-at : {P : Type 0} (t : Line P) (i : ℕ) (d : Bracket P) → i < length (floaters t) → getD (floatingOf t .lists) i [] ≡ permitted t (getD (floaters t) i d)
+line-at t i d h = mapped-at (permitted t) (floaters t) i d [] h
+
+pub line-orderly : {P : Type 0} (t : Line P) → length (floaters t) ≤ copyLimit → Orderly (floatingOf t)
+line-orderly t few = record { few = rw (line-many t) few; rising = map-rising (permitted t) (floaters t) (permitted-rising t) }

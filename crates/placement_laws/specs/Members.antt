@@ -11,6 +11,7 @@ use lib.Seq.{take-append-seam}
 use borrow.Author.Tests.{eqb-true, eq-eqb}
 use Rattle.scope.specs.Limits.{copyLimit}
 use Rattle.scope.specs.Lists.{all, keep, padded, member}
+use Rattle.scope.specs.Positions.{Floating}
 use Rattle.scope.specs.Placements.{distinct, fits, allowed, choices, placements}
 use Rattle.placement_laws.specs.Terms.{Allowed}
 use Rattle.basics.specs.Each.{In}
@@ -30,15 +31,15 @@ of-zeros zero = refl
 of-zeros (suc n) = of-zeros n
 
 -- ---- one of each list
-fits-cons : (q : List ℕ) (qs : List (List ℕ)) (x : ℕ) (p : List ℕ) → fits (q ∷ qs) (x ∷ p) ≡ true → (member x q ≡ true) × (fits qs p ≡ true)
+pub fits-cons : (q : List ℕ) (qs : List (List ℕ)) (x : ℕ) (p : List ℕ) → fits (q ∷ qs) (x ∷ p) ≡ true → (member x q ≡ true) × (fits qs p ≡ true)
 unfolding fits
 fits-cons q qs x p e = both-of (member x q) (fits qs p) e
 
-cons-fits : (q : List ℕ) (qs : List (List ℕ)) (x : ℕ) (p : List ℕ) → member x q ≡ true → fits qs p ≡ true → fits (q ∷ qs) (x ∷ p) ≡ true
+pub cons-fits : (q : List ℕ) (qs : List (List ℕ)) (x : ℕ) (p : List ℕ) → member x q ≡ true → fits qs p ≡ true → fits (q ∷ qs) (x ∷ p) ≡ true
 unfolding fits
 cons-fits q qs x p h k = both (member x q) (fits qs p) h k
 
-fits-none : {A : Type 0} (q : List ℕ) (qs : List (List ℕ)) → fits (q ∷ qs) [] ≡ true → A
+pub fits-none : {A : Type 0} (q : List ℕ) (qs : List (List ℕ)) → fits (q ∷ qs) [] ≡ true → A
 unfolding fits
 fits-none q qs e = absurd (false≢true e)
 
@@ -104,42 +105,43 @@ cut (q ∷ qs) [] e = fits-none q qs e
 cut (q ∷ qs) (x ∷ p) e = let z = fits-cons q qs x p e in cut-cons q qs x p (z .0) (cut qs p (z .1))
 
 -- ---- among the placements, and allowed
-pub record AllowedParts (qs : List (List ℕ)) (p : List ℕ) : Type 0 where
+pub record AllowedParts (f : Floating) (p : List ℕ) : Type 0 where
   pub eight : length p ≡ copyLimit
-  pub fit : fits qs p ≡ true
-  pub apart : distinct (take (length qs) p) ≡ true
+  pub fit : fits (f .lists) p ≡ true
+  pub apart : distinct (take (length (f .lists)) p) ≡ true
 
-pub allowed-parts : (qs : List (List ℕ)) (p : List ℕ) → Allowed qs p → AllowedParts qs p
+pub allowed-parts : (f : Floating) (p : List ℕ) → Allowed f p → AllowedParts f p
 unfolding allowed
-allowed-parts qs p e =
-    let a = both-of (eqb (length p) copyLimit && fits qs p) (distinct (take (length qs) p)) e in
-    let b = both-of (eqb (length p) copyLimit) (fits qs p) (a .0) in
+allowed-parts f p e =
+    let a = both-of (eqb (length p) copyLimit && fits (f .lists) p) (distinct (take (length (f .lists)) p)) e in
+    let b = both-of (eqb (length p) copyLimit) (fits (f .lists) p) (a .0) in
     record { eight = eqb-true (length p) copyLimit (b .0); fit = b .1; apart = a .1 }
 
-pub parts-allowed : (qs : List (List ℕ)) (p : List ℕ) → AllowedParts qs p → Allowed qs p
+pub parts-allowed : (f : Floating) (p : List ℕ) → AllowedParts f p → Allowed f p
 unfolding allowed
-parts-allowed qs p h =
-    both (eqb (length p) copyLimit && fits qs p) (distinct (take (length qs) p))
-    (both (eqb (length p) copyLimit) (fits qs p) (eq-eqb (length p) copyLimit (h .eight)) (h .fit)) (h .apart)
+parts-allowed f p h =
+    both (eqb (length p) copyLimit && fits (f .lists) p) (distinct (take (length (f .lists)) p))
+    (both (eqb (length p) copyLimit) (fits (f .lists) p) (eq-eqb (length p) copyLimit (h .eight)) (h .fit)) (h .apart)
 
-pub among-allowed : (qs : List (List ℕ)) (p : List ℕ) → length qs ≤ copyLimit → In p (placements qs) → Allowed qs p
+pub among-allowed : (f : Floating) (p : List ℕ) → length (f .lists) ≤ copyLimit → In p (placements f) → Allowed f p
 unfolding placements
-among-allowed qs p few h = go (in-map (padded 0 copyLimit) p (keep distinct (choices qs)) h)
+among-allowed f p few h = go (in-map (padded 0 copyLimit) p (keep distinct (choices (f .lists))) h)
   where
-    go : (r : List ℕ) × In r (keep distinct (choices qs)) × (p ≡ padded 0 copyLimit r) → Allowed qs p
-    go z = let k = in-keep distinct (z .0) (choices qs) (z .1) in
-        let c = choice-fits qs (z .0) (k .0) in
-        subst (Allowed qs) (sym (z .2)) (parts-allowed qs (padded 0 copyLimit (z .0)) (record {
+    go : (r : List ℕ) × In r (keep distinct (choices (f .lists))) × (p ≡ padded 0 copyLimit r) → Allowed f p
+    go z = let k = in-keep distinct (z .0) (choices (f .lists)) (z .1) in
+        let c = choice-fits (f .lists) (z .0) (k .0) in
+        subst (Allowed f) (sym (z .2)) (parts-allowed f (padded 0 copyLimit (z .0)) (record {
           eight =
               length-append (z .0) (replicate (copyLimit - length (z .0)) 0) ∙ ap (λ n. length (z .0) + n) (length-replicate (copyLimit - length (z .0)) 0) ∙ omega (arith, c .0);
-          fit = padded-fits qs (z .0) (copyLimit - length (z .0)) (c .0) (c .1);
+          fit = padded-fits (f .lists) (z .0) (copyLimit - length (z .0)) (c .0) (c .1);
           apart = rw (sym (c .0), take-append-seam (z .0) (replicate (copyLimit - length (z .0)) 0)) (k .1);
         }))
 
-pub allowed-among : (qs : List (List ℕ)) (p : List ℕ) → Allowed qs p → In p (placements qs)
+pub allowed-among : (f : Floating) (p : List ℕ) → Allowed f p → In p (placements f)
 unfolding placements
-allowed-among qs p e =
-    let a = allowed-parts qs p e in
+allowed-among f p e =
+    let qs = f .lists in
+    let a = allowed-parts f p e in
     let c = cut qs p (a .fit) in
     let r : List ℕ = take (length qs) p in
     let n : length p - length qs ≡ copyLimit - length r = omega (arith, a .eight, c .many) in

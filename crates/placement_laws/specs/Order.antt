@@ -57,7 +57,3 @@ least-unique P none (some q) h k = absurd (h q (k .0))
 least-unique P (some p) none h k = absurd (k p (h .0))
 least-unique P (some p) (some q) h k =
     ap some (⊎-elim (λ e. e) (λ l. ⊎-elim (λ e. sym e) (λ m. absurd (less-asym p q l m)) (k .1 p (h .0))) (h .1 q (k .0)))
-
-pub least-iff : (P Q : List ℕ → Type 0) → ((p : List ℕ) → P p → Q p) → ((p : List ℕ) → Q p → P p) → (r : Option (List ℕ)) → Least P r → Least Q r
-least-iff P Q f g none h = λ q k. h q (g q k)
-least-iff P Q f g (some p) h = (f p (h .0), λ q k. h .1 q (g q k))

@@ -3,16 +3,17 @@ use mathlib.Core.Path.{_≡_, refl, sym, ap, _∙_}
 use mathlib.Core.Logic.{_⊎_, inl, inr, ⊎-elim}
 use mathlib.Core.Bool.{Bool, true, false}
 use mathlib.Core.List.{List, [], _∷_, _++_, map}
-use Prim.Native.Nat.{ℕ, zero, suc, _<_, _+_, _-_}
+use Prim.Native.Nat.{ℕ, zero, suc, _<_, _-_}
 use native.Mathlib.Omega.{arith}
 use lib.ListN.{length, getD, replicate}
 use Rattle.scope.specs.Limits.{copyLimit}
 use Rattle.scope.specs.Lists.{keep, flat, padded}
+use Rattle.scope.specs.Positions.{Floating}
 use Rattle.scope.specs.Placements.{distinct, less, choices, placements}
 use Rattle.placement_laws.specs.Terms.{Rising, AllRising, Ascending}
 use Rattle.basics.specs.Each.{In}
 use Rattle.basics.specs.Tests.{test}
-use Rattle.basics.specs.Members.{in-member, in-right, in-either, in-keep, keep-yes, keep-no, in-map, in-flat}
+use Rattle.basics.specs.Members.{in-at, in-either, in-keep, keep-yes, keep-no, in-map, in-flat}
 use Rattle.placement_laws.specs.Order.{less-here, less-there, less-self, less-append}
 use Rattle.placement_laws.specs.Members.{choice-fits}
 
@@ -50,44 +51,30 @@ spread (x ∷ q) l r a =
         let a = in-map (λ p. x ∷ p) p l h in
         let b = in-flat (λ y. map (λ p. y ∷ p) l) s q k in
         let c = in-map (λ p. b .0 ∷ p) s l (b .2) in
-        rw (a .2, c .2) (less-here x (b .0) (a .0) (c .0) (r .0 (b .0) (in-member (b .0) q (b .1))))
+        rw (a .2, c .2) (less-here x (b .0) (a .0) (c .0) (r .0 (b .0) (b .1)))
 
 choices-ascending : (qs : List (List ℕ)) → AllRising qs → Ascending (choices qs)
 unfolding choices
 choices-ascending [] r = ((λ q h. absurd h), tt)
 choices-ascending (q ∷ qs) r = spread q (choices qs) (r .0) (choices-ascending qs (r .1))
 
-pub placements-ascending : (qs : List (List ℕ)) → AllRising qs → Ascending (placements qs)
+pub placements-ascending : (f : Floating) → AllRising (f .lists) → Ascending (placements f)
 unfolding placements
-placements-ascending qs r =
-    ascending-map (padded 0 copyLimit) (keep distinct (choices qs)) padded-less (ascending-keep distinct (choices qs) (choices-ascending qs r))
+placements-ascending f r =
+    ascending-map (padded 0 copyLimit) (keep distinct (choices (f .lists))) padded-less
+    (ascending-keep distinct (choices (f .lists)) (choices-ascending (f .lists) r))
   where
-    long : (p : List ℕ) → In p (keep distinct (choices qs)) → length p ≡ length qs
-    long p h = choice-fits qs p (in-keep distinct p (choices qs) h .0) .0
+    long : (p : List ℕ) → In p (keep distinct (choices (f .lists))) → length p ≡ length (f .lists)
+    long p h = choice-fits (f .lists) p (in-keep distinct p (choices (f .lists)) h .0) .0
 
-    padded-less : (p q : List ℕ) → In p (keep distinct (choices qs)) → In q (keep distinct (choices qs)) → less p q ≡ true
+    padded-less : (p q : List ℕ) → In p (keep distinct (choices (f .lists))) → In q (keep distinct (choices (f .lists))) → less p q ≡ true
         → less (padded 0 copyLimit p) (padded 0 copyLimit q) ≡ true
     padded-less p q h k e = less-append p q (replicate (copyLimit - length p) 0) (replicate (copyLimit - length q) 0) (long p h ∙ sym (long q k)) e
 
 -- ---- each stands there once
-in-at : (l : List (List ℕ)) (i : ℕ) → i < length l → In (getD l i []) l
-in-at [] i h = absurd (omega arith)
-in-at (p ∷ l) zero h = inl refl
-in-at (p ∷ l) (suc i) h = inr (in-at l i (omega arith))
-
 pub once : (l : List (List ℕ)) → Ascending l → (i j : ℕ) → i < length l → j < length l → getD l i [] ≡ getD l j [] → i ≡ j
 once [] a i j h k e = absurd (omega arith)
 once (p ∷ l) a zero zero h k e = refl
-once (p ∷ l) a zero (suc j) h k e = absurd (less-self p (rw (sym e) at (a .0 (getD l j []) (in-at l j (omega arith)))))
-once (p ∷ l) a (suc i) zero h k e = absurd (less-self p (rw e at (a .0 (getD l i []) (in-at l i (omega arith)))))
+once (p ∷ l) a zero (suc j) h k e = absurd (less-self p (rw (sym e) at (a .0 (getD l j []) (in-at l j [] (omega arith)))))
+once (p ∷ l) a (suc i) zero h k e = absurd (less-self p (rw e at (a .0 (getD l i []) (in-at l i [] (omega arith)))))
 once (p ∷ l) a (suc i) (suc j) h k e = ap suc (once l (a .1) i j (omega arith) (omega arith) e)
-
--- ---- an ascending list, cut at p: those above p are those behind it
-pub asc-before : (l m : List (List ℕ)) → Ascending (l ++ m) → (p q : List ℕ) → In p l → In q m → less p q ≡ true
-asc-before [] m a p q h k = absurd h
-asc-before (r ∷ l) m a p q (inl e) k = rw e (a .0 q (in-right q l m k))
-asc-before (r ∷ l) m a p q (inr h) k = asc-before l m (a .1) p q h k
-
-pub asc-right : (l m : List (List ℕ)) → Ascending (l ++ m) → Ascending m
-asc-right [] m a = a
-asc-right (r ∷ l) m a = asc-right l m (a .1)

@@ -9,7 +9,7 @@ use lib.ListN.{length, take, replicate, length-append, length-replicate, getD-re
 use lib.Seq.{getD-take, length-take-le, ext-getD, getD-append-add}
 use Rattle.scope.specs.Limits.{copyLimit}
 use Rattle.scope.specs.Placements.{fits, less, firstPlacement, nextPlacement}
-use Rattle.areas.specs.Floats.{listsIn}
+use Rattle.areas.specs.Floats.{floatingIn}
 use Rattle.exchange.specs.Where.{Full, Same}
 use Rattle.exchange.proofs.Exchange.{below?}
 use Rattle.exchange.specs.Order.{Before, Upto, Next, IsFirst}
@@ -18,7 +18,7 @@ use Rattle.placement_laws.specs.Terms.{Allowed, Further, Least}
 use Rattle.placement_laws.specs.Order.{less-cases, less-here, less-there, least-unique}
 use Rattle.placement_laws.specs.Leasts.{first-least, next-least}
 use Rattle.placements.specs.Steps.{Zeros, entries, found}
-use Rattle.placements.proofs.Rows.{lists-many, lists-rising}
+use Rattle.placements.proofs.Rows.{table-orderly}
 use Rattle.placements.proofs.Right.{Right, allowed-right, right-allowed}
 
 -- ---- the order
@@ -77,9 +77,6 @@ full-same ok k w v e f =
 
 -- ---- what is found is the first, and the next
 module _ (tab : List ℕ) (k : ℕ) (few : k ≤ copyLimit) where
-  few-lists : length (listsIn tab k) ≤ copyLimit
-  few-lists = omega (arith, lists-many tab k)
-
   module _ (w : List ℕ) (long : length w ≡ copyLimit) (full : Full (mayIn tab) k (place w)) where
     right-entries : Right tab k (entries k w)
     right-entries =
@@ -97,14 +94,14 @@ module _ (tab : List ℕ) (k : ℕ) (few : k ≤ copyLimit) where
         (rw (sym (entries-same k w few long (b .d) (b .inside))) (b .less)))
 
   first-found-least : (b : Bool) (w : List ℕ) → length w ≡ copyLimit → IsFirst (mayIn tab) k b (place w)
-      → Least (Allowed (listsIn tab k)) (found k b w)
+      → Least (Allowed (floatingIn tab k)) (found k b w)
   first-found-least true w l h =
       (right-allowed tab k few (entries k w) (right-entries w l (h .0)), λ q a. let r = allowed-right tab k few q a in upto-either w l (h .0) q r (h .1 (place q) (r .full)))
   first-found-least false w l h = λ q a. h (place q) (allowed-right tab k few q a .full)
 
-  pub first-found : (b : Bool) (w : List ℕ) → length w ≡ copyLimit → IsFirst (mayIn tab) k b (place w) → firstPlacement (listsIn tab k) ≡ found k b w
+  pub first-found : (b : Bool) (w : List ℕ) → length w ≡ copyLimit → IsFirst (mayIn tab) k b (place w) → firstPlacement (floatingIn tab k) ≡ found k b w
   first-found b w l h =
-      least-unique (Allowed (listsIn tab k)) (firstPlacement (listsIn tab k)) (found k b w) (first-least (listsIn tab k) few-lists (lists-rising tab k)) (first-found-least b w l h)
+      least-unique (Allowed (floatingIn tab k)) (firstPlacement (floatingIn tab k)) (found k b w) (first-least (floatingIn tab k) (table-orderly tab k few)) (first-found-least b w l h)
 
   module _ (p : List ℕ) (right : Right tab k p) where
     above-before : (q : List ℕ) → Right tab k q → less p q ≡ true → Before k (place p) (place q)
@@ -123,7 +120,7 @@ module _ (tab : List ℕ) (k : ℕ) (few : k ≤ copyLimit) where
         (rw (entries-same k v few l (b .d) (b .inside)) at (b .less))
 
     next-found-least : (b : Bool) (v : List ℕ) → length v ≡ copyLimit → Next (mayIn tab) k (place p) b (place v)
-        → Least (Further (listsIn tab k) p) (found k b v)
+        → Least (Further (floatingIn tab k) p) (found k b v)
     next-found-least true v l h = (
       (right-allowed tab k few (entries k v) (right-entries v l (h .0)), before-entries v l (h .1)),
       λ q a. let r = allowed-right tab k few q (a .0) in upto-either v l (h .0) q r (h .2 (place q) (r .full) (above-before q r (a .1))),
@@ -131,6 +128,6 @@ module _ (tab : List ℕ) (k : ℕ) (few : k ≤ copyLimit) where
     next-found-least false v l h = λ q a. let r = allowed-right tab k few q (a .0) in h (place q) (r .full) (above-before q r (a .1))
 
     pub next-found : (b : Bool) (v : List ℕ) → length v ≡ copyLimit → Next (mayIn tab) k (place p) b (place v)
-        → nextPlacement (listsIn tab k) p ≡ found k b v
+        → nextPlacement (floatingIn tab k) p ≡ found k b v
     next-found b v l h =
-        least-unique (Further (listsIn tab k) p) (nextPlacement (listsIn tab k) p) (found k b v) (next-least (listsIn tab k) few-lists (lists-rising tab k) p) (next-found-least b v l h)
+        least-unique (Further (floatingIn tab k) p) (nextPlacement (floatingIn tab k) p) (found k b v) (next-least (floatingIn tab k) (table-orderly tab k few) p) (next-found-least b v l h)

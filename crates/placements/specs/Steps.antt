@@ -7,8 +7,8 @@ use Prim.Native.Nat.{ℕ, _<_, _≤_}
 use lib.ListN.{take}
 use Rattle.scope.specs.declared.answers.Listing.{Listing}
 use Rattle.scope.specs.Limits.{copyLimit, positionLimit}
-use Rattle.scope.specs.Lists.{given, padded}
-use Rattle.scope.specs.Answers.{Said, good, refuses, saysRequest, met, movedOn}
+use Rattle.scope.specs.Lists.{padded}
+use Rattle.scope.specs.Answers.{Said, saysRequest, met, movedOn}
 use Rattle.exchange.specs.Where.{Full}
 use Rattle.exchange.specs.Order.{Verdict}
 use Rattle.exchange.specs.Table.{place, mayIn}
@@ -41,10 +41,6 @@ entries k w = padded 0 copyLimit (take k w)
 abbrev pub found : ℕ → Bool → List ℕ → Option (List ℕ)
 found k true w = some (entries k w)
 found k false w = none
-
--- the placement handed out, or 17
-abbrev pub said : Option (List ℕ) → Said (List ℕ)
-said o = given o good (refuses 17 0)
 
 -- the answer to a request and the listing after it, by what is said of the request
 pub record Moves (a : Said (List ℕ)) (l : Listing) (r : Next) : Type 0 where

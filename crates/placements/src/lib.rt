@@ -10,9 +10,9 @@ ghost use mathlib.Core.Bool.{true, false};
 ghost use Prim.Native.Nat.{_<_, _≤_};
 ghost use Rattle.scope.specs.Limits.{copyLimit};
 ghost use Rattle.scope.specs.Placements.{allowed, freshMark, noMark};
-ghost use Rattle.scope.specs.Answers.{requested};
-ghost use Rattle.areas.specs.Floats.{listsIn, Sized};
-ghost use Rattle.placements.specs.Steps.{Unused, Alone, Stand, Small, entries, found, said, Moves};
+ghost use Rattle.scope.specs.Answers.{findable, requested};
+ghost use Rattle.areas.specs.Floats.{floatingIn, Sized};
+ghost use Rattle.placements.specs.Steps.{Unused, Alone, Stand, Small, entries, found, Moves};
 
 // What a request is answered, and the listing after it.
 pub struct Next {
@@ -101,7 +101,7 @@ fn stand(tab: &[u8], k: usize, w: Standing) -> bool
 // Is it an allowed placement of k floaters, each where the table says?
 pub fn is_allowed(tab: &[u8], k: usize, p: Placement) -> bool
     requires { ⌜ Sized (now tab) k ⌝ }
-    ensures { λ r. ⌜ r ≡ allowed (listsIn (now (tab .entry)) k) (p .at) ⌝ }
+    ensures { λ r. ⌜ r ≡ allowed (floatingIn (now (tab .entry)) k) (p .at) ⌝ }
 {
     let at = p.at;
     if unused(at, k) {
@@ -114,7 +114,7 @@ pub fn is_allowed(tab: &[u8], k: usize, p: Placement) -> bool
 // The listing moved on to what was found; or 17, and the listing as it was.
 fn told(k: usize, a: Answer, l: Listing) -> Next
     requires { ⌜ (k ≤ copyLimit) × (a .ok ≡ true → Small k (a .at .at)) ⌝ }
-    ensures { λ r. ⌜ Moves (said (found k (a .ok) (a .at .at))) l r ⌝ }
+    ensures { λ r. ⌜ Moves (findable (found k (a .ok) (a .at .at))) l r ⌝ }
 {
     if a.ok {
         let w = a.at;
@@ -137,7 +137,7 @@ fn told(k: usize, a: Answer, l: Listing) -> Next
 // A request to a listing marked fresh.
 fn begun(tab: &[u8], k: usize, l: Listing) -> Next
     requires { ⌜ Sized (now tab) k × (l .mark ≡ freshMark) ⌝ }
-    ensures { λ r. ⌜ Moves (requested (listsIn (now (tab .entry)) k) l) l r ⌝ }
+    ensures { λ r. ⌜ Moves (requested (floatingIn (now (tab .entry)) k) l) l r ⌝ }
 {
     let at = l.at;
     if unused(at, 0) {
@@ -153,7 +153,7 @@ fn begun(tab: &[u8], k: usize, l: Listing) -> Next
 // A request to an unmarked one.
 fn continued(tab: &[u8], k: usize, l: Listing) -> Next
     requires { ⌜ Sized (now tab) k × (l .mark ≡ noMark) ⌝ }
-    ensures { λ r. ⌜ Moves (requested (listsIn (now (tab .entry)) k) l) l r ⌝ }
+    ensures { λ r. ⌜ Moves (requested (floatingIn (now (tab .entry)) k) l) l r ⌝ }
 {
     let at = l.at;
     if is_allowed(tab, k, Placement { at }) {
@@ -170,7 +170,7 @@ fn continued(tab: &[u8], k: usize, l: Listing) -> Next
 // "a small record that each request moves on"; any mark but the two gets 18
 pub fn request(tab: &[u8], k: usize, l: Listing) -> Next
     requires { ⌜ Sized (now tab) k ⌝ }
-    ensures { λ r. ⌜ Moves (requested (listsIn (now (tab .entry)) k) l) l r ⌝ }
+    ensures { λ r. ⌜ Moves (requested (floatingIn (now (tab .entry)) k) l) l r ⌝ }
 {
     if l.mark == Listing::FRESH {
         return begun(tab, k, l);

@@ -13,7 +13,7 @@ use Rattle.scope.specs.Modifications.{nameOf, namesOf, isReferring, definedBy, 
 use Rattle.scope.specs.Layout.{partIn, bracketIn, labelField, partsField}
 use Rattle.positions.specs.Legible.{labelFrom}
 use Rattle.positions.proofs.Any.{anyOf}
-use Rattle.basics.specs.Lists.{same-length, among-append, shared-none}
+use Rattle.basics.specs.Lists.{same-length, among-append, shared-nothing}
 
 -- ---- texts of different lengths are not the same
 length-part : (a m : ℕ) (l : List ℕ) → a + m ≤ length l → length (part a m l) ≡ m
@@ -44,9 +44,9 @@ module _ (bs x : List ℕ) (k j : ℕ) where
       ∙ sym (ap (among x) (name-some bs ns k j (λ i. z (e ∙ i))) ∙ or-false _)
 
 module _ (bs : List ℕ) (k j r : ℕ) where
-  pub shared-none : {n : ℕ} → n ≡ labelField bs k j → n ≡ 0 → (ns : List ℤ) → false ≡ shared (nameOf (partIn bs ns k j)) (namesOf (bracketIn bs ns r))
+  pub shared-nothing : {n : ℕ} → n ≡ labelField bs k j → n ≡ 0 → (ns : List ℤ) → false ≡ shared (nameOf (partIn bs ns k j)) (namesOf (bracketIn bs ns r))
   unfolding shared
-  shared-none e z ns = sym (ap (λ l. shared l (namesOf (bracketIn bs ns r))) (name-none bs ns k j (sym e ∙ z)))
+  shared-nothing e z ns = sym (ap (λ l. shared l (namesOf (bracketIn bs ns r))) (name-none bs ns k j (sym e ∙ z)))
 
   pub shared-one : {n a : ℕ} {z : Bool} → n ≡ labelField bs k j → (n ≡ 0 → ⊥) → a ≡ labelFrom bs k j → ((ns : List ℤ) → z ≡ among (part a n bs) (namesOf (bracketIn bs ns r))) → (ns : List ℤ) → z ≡ shared (nameOf (partIn bs ns k j)) (namesOf (bracketIn bs ns r))
   unfolding shared
@@ -86,7 +86,7 @@ module _ (bs : List ℕ) (k r : ℕ) where
   refers-not e f ns =
       sym
       (ap (λ t. shared (definedBy (bracketIn bs ns k)) (cond t (namesOf (bracketIn bs ns r)) [])) (sym (e ns) ∙ f)
-      ∙ shared-none (definedBy (bracketIn bs ns k)))
+      ∙ shared-nothing (definedBy (bracketIn bs ns k)))
 
   pub refers-no-definition : {b : Bool} → ((ns : List ℤ) → b ≡ isReferring (bracketIn bs ns k)) → b ≡ true → (ns : List ℤ) → false ≡ shared (definedBy (bracketIn bs ns k)) (referredBy (bracketIn bs ns r))
   unfolding shared

@@ -19,6 +19,7 @@ use Rattle.areas.specs.Floats.{listIn, listsIn, FloatersAre, TableIs}
 use Rattle.basics.specs.Choice.{by-test}
 use Rattle.basics.specs.Positions.{sites-in}
 use Rattle.basics.specs.Tabled.{keep-as, keep-cut, tabled-map}
+use Rattle.positions.proofs.Found.{floaters-are, floaters-inside}
 use Rattle.positions.specs.Legible.{Legible}
 use Rattle.basics.specs.Lists.{map-joined as map-map}
 use Rattle.positions.specs.Marked.{Marked, RowIs, always, Cleared, Filled, refersAt, referencesAt, struckAt, standsAt}
@@ -129,18 +130,19 @@ permitted-row bs ns k f tab l h r =
     ∙ sym (permitted-is bs ns k)
 
 -- ---- the table as lists
-indexed : {bs : List ℕ} {ns : List ℤ} {count : ℕ} {index : List ℕ} → FloatersAre bs ns count index → count ≤ length index
+indexed : {bs : List ℕ} {ns : List ℤ} {count : ℕ} {index copy : List ℕ} → FloatersAre bs ns count index copy → count ≤ length index
 indexed {bs} {ns} {count} {index} f =
-    let e : count ≡ length (take count index) = f .many ∙ ap length (f .brackets) ∙ length-map (take count index) (bracketIn bs ns) in
+    let e : count ≡ length (take count index) = f .many ∙ ap length (floaters-are f) ∙ length-map (take count index) (bracketIn bs ns) in
     omega (arith, length-take count index)
 
-table-is : {bs : List ℕ} {ns : List ℤ} {count : ℕ} {index : List ℕ} (tab : List ℕ) → Legible bs → FloatersAre bs ns count index → ((h : ℕ) → h < count → (x : ℕ) → x < positionLimit → getD tab (h * positionLimit + x) 0 ≡ cond (standsAt bs ns (getD index h 0) x) 1 0) → TableIs bs ns tab count
+table-is : {bs : List ℕ} {ns : List ℤ} {count : ℕ} {index copy : List ℕ} (tab : List ℕ) → Legible bs → FloatersAre bs ns count index copy
+    → ((h : ℕ) → h < count → (x : ℕ) → x < positionLimit → getD tab (h * positionLimit + x) 0 ≡ cond (standsAt bs ns (getD index h 0) x) 1 0) → TableIs bs ns tab count
 unfolding listsIn
 table-is {bs} {ns} {count} {index} tab l f r =
     tabled-map (listIn tab) (λ k. permitted (tablesIn bs ns) (bracketIn bs ns k)) index count (indexed f)
-    (λ i j. permitted-row bs ns (getD index i 0) i tab l (f .inside i j) (r i j))
+    (λ i j. permitted-row bs ns (getD index i 0) i tab l (floaters-inside f i j) (r i j))
     ∙ map-map (permitted (tablesIn bs ns)) (bracketIn bs ns) (take count index)
-    ∙ ap (map (permitted (tablesIn bs ns))) (sym (f .brackets))
+    ∙ ap (map (permitted (tablesIn bs ns))) (sym (floaters-are f))
 
 -- ---- the whole table
 same-past : (n : ℕ) (old new : List ℕ) → length new ≡ length old → ((i : ℕ) → n ≤ i → getD new i 0 ≡ getD old i 0) → drop n new ≡ drop n old
@@ -152,8 +154,9 @@ at-most-one : (t : Bool) (n : ℕ) → n ≡ cond t 1 0 → n ≤ 1
 at-most-one true n e = omega arith
 at-most-one false n e = omega arith
 
-pub filling-end : {bs : List ℕ} {ns : List ℤ} {index : List ℕ} {count g : ℕ} {old cur new : List ℕ} → Filling bs ns index count g old cur → count ≤ g → Legible bs → FloatersAre bs ns count index → Cleared count cur new → Filled bs ns count old new
-filling-end {bs} {ns} {index} {count} {g} {old} {cur} {new} f l b a c =
+pub filling-end : {bs : List ℕ} {ns : List ℤ} {index copy : List ℕ} {count g : ℕ} {old cur new : List ℕ} → Filling bs ns index count g old cur → count ≤ g
+    → Legible bs → FloatersAre bs ns count index copy → Cleared count cur new → Filled bs ns count old new
+filling-end {bs} {ns} {index} {copy} {count} {g} {old} {cur} {new} f l b a c =
     let w : g ≤ count = f .within in
     let few : count ≤ copyLimit = a .few in
     record {

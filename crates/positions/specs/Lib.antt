@@ -1,2 +1,3 @@
 pub mod Legible
 pub mod Marked
+pub mod Copies

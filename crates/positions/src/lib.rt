@@ -8,47 +8,50 @@ use areas::wide;
 use brackets::copies_of;
 use scope::answers::Ledger;
 use scope::answers::Placement;
-ghost use mathlib.Core.Path.{_≡_};
-ghost use mathlib.Core.List.{_++_};
 ghost use Prim.Native.Nat.{_+_, _≤_};
-ghost use lib.ListN.{length, take, replicate};
+ghost use lib.ListN.{length};
 ghost use Rattle.scope.specs.Limits.{copyLimit, rowLimit};
 ghost use Rattle.scope.specs.Layout.{tablesIn};
 ghost use Rattle.scope.specs.Positions.{floaters};
 ghost use Rattle.areas.specs.Bounds.{Bounds};
 ghost use Rattle.areas.specs.Floats.{FloatersAre};
+ghost use Rattle.positions.specs.Copies.{Added};
 ghost use Rattle.positions.specs.Marked.{Cleared, Filled};
 
 mod labels;
 mod marks;
 
-// The next m floaters are copies of bracket k.
+// The next m floaters are the copies of bracket k.
 fn add_copies(f: Floaters, m: usize, k: u8) -> Floaters
     requires { ⌜ f .count + m ≤ copyLimit ⌝ }
-    ensures { λ r. ⌜ (r .count ≡ f .count + m) × (take (f .count + m) (r .index) ≡ take (f .count) (f .index) ++ replicate m k) × (length (r .index) ≡ copyLimit) ⌝ }
+    ensures { λ r. ⌜ Added (f .count) m k (f .index) (f .copy) (r .count) (r .index) (r .copy) ⌝ }
 {
     let n = f.count;
     let mut index = f.index;
+    let mut copy = f.copy;
     let mut j: usize = 0;
     while j < m {
         index[n + j] = k;
+        copy[n + j] = (j + 1) as u8;
         j += 1;
     }
     Floaters {
         count: n + m,
         index,
+        copy,
     }
 }
 
 // The floaters of tables with no more of them than a placement has entries.
 pub fn find_floaters(bytes: &[u8], numbers: &[i64]) -> Floaters
     requires { ⌜ (Bounds (now bytes) (now numbers)) × (length (floaters (tablesIn (now bytes) (now numbers))) ≤ copyLimit) ⌝ }
-    ensures { λ r. ⌜ FloatersAre (now (bytes .entry)) (now (numbers .entry)) (r .count) (r .index) ⌝ }
+    ensures { λ r. ⌜ FloatersAre (now (bytes .entry)) (now (numbers .entry)) (r .count) (r .index) (r .copy) ⌝ }
 {
     let b = brackets(bytes);
     let mut f = Floaters {
         count: 0,
         index: [0; Placement::COPIES],
+        copy: [0; Placement::COPIES],
     };
     let mut k: usize = 0;
     while k < b {
@@ -73,7 +76,7 @@ fn clear_rest(tab: &mut [u8], from: usize)
 
 // The table of where each floater may stand: what is struck out is found once, for all of them.
 pub fn fill_table(bytes: &[u8], numbers: &[i64], f: Floaters, tab: &mut [u8])
-    requires { ⌜ (Bounds (now bytes) (now numbers)) × (FloatersAre (now bytes) (now numbers) (f .count) (f .index)) × (rowLimit ≤ length (now tab)) ⌝ }
+    requires { ⌜ (Bounds (now bytes) (now numbers)) × (FloatersAre (now bytes) (now numbers) (f .count) (f .index) (f .copy)) × (rowLimit ≤ length (now tab)) ⌝ }
     ensures { λ _. ⌜ Filled (now (bytes .entry)) (now (numbers .entry)) (f .count) (now (tab .entry)) (now (tab .exit)) ⌝ }
 {
     let count = f.count;

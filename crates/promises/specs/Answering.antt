@@ -29,14 +29,14 @@ use Rattle.scope.specs.Lists.{given, tabled}
 use Rattle.scope.specs.Canonical.{canonical}
 use Rattle.scope.specs.Tables.{Tables}
 use Rattle.scope.specs.Layout.{tablesIn}
-use Rattle.scope.specs.Positions.{permittedPositions, rowsOf, Found, lookup}
+use Rattle.scope.specs.Positions.{floatersBy, bracketsOf, copiesOf, Floating, floatingOf, rowsOf, Found, lookup}
 use Rattle.scope.specs.Placements.{allowed, takenListing, following}
 use Rattle.scope.specs.Masses.{massOf, total, lacking, daltons}
-use Rattle.scope.specs.Answers.{Said, good, refuses, aMass, lack, saysWrite, saysCount, saysTotal, saysLookup, saysRequest, saysBooked, saysShown, tooShort, areTables, overTables, fitting, writes, outputAfter, counts, floaterCount, weighed, totals, shows, rowsSaid, rowsAfter, looksUp, allows, met, requested, movedOn, requests, listingAfter, bookable, books, entries}
+use Rattle.scope.specs.Answers.{Said, good, refuses, findable, aMass, lack, saysWrite, saysCount, saysTotal, saysLookup, saysRequest, saysBooked, saysShown, tooShort, areTables, overTables, fitting, writes, outputAfter, counts, floaterCount, weighed, totals, shows, rowsSaid, rowsAfter, looksUp, allows, met, requested, movedOn, requests, listingAfter, allowable, bookable, books, entries}
 use Rattle.basics.specs.Each.{In}
 use Rattle.calls.specs.Writing.{WriteSays}
 use Rattle.calls.specs.Single.{elementAt, ownMass, massAt, weighsAt}
-use Rattle.calls.specs.Floating.{floatersBy, bracketsOf, copiesOf, floatersSaid, FloatersSay}
+use Rattle.calls.specs.Floating.{floatersSaid, FloatersSay}
 use Rattle.calls.specs.Says.{CountSays, TotalSays, BracketMassSays, ShownSays, AllowedSays, NextSays, LedgerSays}
 use Rattle.rows.specs.Says.{LookupSays}
 use Rattle.listing.specs.Says.{RowsSays, StepSays}
@@ -182,29 +182,29 @@ module _ (bs : List ℕ) (ns : List ℤ) where
 
   pub allows-so : (p : List ℕ) → Sayable saysRequest (13 ∷ 14 ∷ 18 ∷ []) (allows bs ns p)
   allows-so p =
-      over (Sayable saysRequest (13 ∷ 14 ∷ 18 ∷ [])) bs ns (λ t. cond (allowed (permittedPositions t) p) (good tt) (refuses 18 0))
+      over (Sayable saysRequest (13 ∷ 14 ∷ 18 ∷ [])) bs ns (λ t. allowable t p)
       (refusal (requestRefused 13) refl (inl refl)) (refusal (requestRefused 14) refl (inr (inl refl)))
-      (either (Sayable saysRequest (13 ∷ 14 ∷ 18 ∷ [])) (allowed (permittedPositions (tablesIn bs ns)) p) (success Met refl) (refusal (requestRefused 18) refl (inr (inr (inl refl)))))
+      (either (Sayable saysRequest (13 ∷ 14 ∷ 18 ∷ [])) (allowed (floatingOf (tablesIn bs ns)) p) (success Met refl) (refusal (requestRefused 18) refl (inr (inr (inl refl)))))
 
   pub is-allowed : (p : Placement) → Answered (AllowedSays bs ns p) saysRequest (13 ∷ 14 ∷ 18 ∷ []) Nothing
   is-allowed p = alone request-same (allows-so (p .at))
 
   -- what is left to hand out, or 17; 18 before it
-  following-so : (o : Option (List ℕ)) → Sayable saysRequest (13 ∷ 14 ∷ 17 ∷ 18 ∷ []) (met (given o good (refuses 17 0)))
+  following-so : (o : Option (List ℕ)) → Sayable saysRequest (13 ∷ 14 ∷ 17 ∷ 18 ∷ []) (met (findable o))
   following-so none = refusal (requestRefused 17) refl (inr (inr (inl refl)))
   following-so (some p) = success Met refl
 
-  requested-so : (qs : List (List ℕ)) (l : Listing) → Sayable saysRequest (13 ∷ 14 ∷ 17 ∷ 18 ∷ []) (met (requested qs l))
+  requested-so : (f : Floating) (l : Listing) → Sayable saysRequest (13 ∷ 14 ∷ 17 ∷ 18 ∷ []) (met (requested f l))
   unfolding requested
-  requested-so qs l =
-      either (λ s. Sayable saysRequest (13 ∷ 14 ∷ 17 ∷ 18 ∷ []) (met s)) (takenListing qs l) (following-so (following qs l))
+  requested-so f l =
+      either (λ s. Sayable saysRequest (13 ∷ 14 ∷ 17 ∷ 18 ∷ []) (met s)) (takenListing f l) (following-so (following f l))
       (refusal (requestRefused 18) refl (inr (inr (inr (inl refl)))))
 
   pub requests-so : (l : Listing) → Sayable saysRequest (13 ∷ 14 ∷ 17 ∷ 18 ∷ []) (met (requests bs ns l))
   requests-so l =
-      over (λ s. Sayable saysRequest (13 ∷ 14 ∷ 17 ∷ 18 ∷ []) (met s)) bs ns (λ t. requested (permittedPositions t) l)
+      over (λ s. Sayable saysRequest (13 ∷ 14 ∷ 17 ∷ 18 ∷ []) (met s)) bs ns (λ t. requested (floatingOf t) l)
       (refusal (requestRefused 13) refl (inl refl)) (refusal (requestRefused 14) refl (inr (inl refl)))
-      (requested-so (permittedPositions (tablesIn bs ns)) l)
+      (requested-so (floatingOf (tablesIn bs ns)) l)
 
   stays : (l : Listing) (n p : ℕ) → met (requests bs ns l) ≡ refuses n p → listingAfter bs ns l ≡ l
   stays l n p q = ap (movedOn l) (met-refused (requests bs ns l) q)
@@ -227,7 +227,7 @@ module _ (bs : List ℕ) (ns : List ℤ) where
       over (Sayable saysBooked (13 ∷ 14 ∷ 16 ∷ 18 ∷ [])) bs ns (λ t. bookable t p)
       (refusal (bookedRefused 13 0) refl (inl refl)) (refusal (bookedRefused 14 0) refl (inr (inl refl)))
       (either (Sayable saysBooked (13 ∷ 14 ∷ 16 ∷ 18 ∷ [])) (eqb (lacking t) 0)
-      (either (Sayable saysBooked (13 ∷ 14 ∷ 16 ∷ 18 ∷ [])) (allowed (permittedPositions t) p) (success Done refl) (refusal (bookedRefused 18 0) refl (inr (inr (inr (inl refl))))))
+      (either (Sayable saysBooked (13 ∷ 14 ∷ 16 ∷ 18 ∷ [])) (allowed (floatingOf t) p) (success Done refl) (refusal (bookedRefused 18 0) refl (inr (inr (inr (inl refl))))))
       (refusal (bookedRefused 16 (lacking t)) refl (inr (inr (inl refl)))))
 
   pub ledger : (p : Placement)
@@ -267,7 +267,7 @@ module _ (bs : List ℕ) (ns : List ℤ) where
       ))
       count-same (floaters-so brs cps) (λ n p q. ap (λ s. (outputAfter s l brs, outputAfter s m cps)) q)
 
-found-so : (o : Option Found) → Sayable saysLookup (13 ∷ 17 ∷ []) (given o good (refuses 17 0))
+found-so : (o : Option Found) → Sayable saysLookup (13 ∷ 17 ∷ []) (findable o)
 found-so none = refusal (lookupRefused 17) refl (inr (inl refl))
 found-so (some x) = success (Row (x .index) (x .position)) refl
 

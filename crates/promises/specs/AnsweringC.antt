@@ -24,7 +24,8 @@ use Rattle.export.specs.Numbers.{numberOf, left, placeLeft, Judged, Exported}
 use Rattle.export.specs.Handed.{Counted, RowsHanded, LookedUp, MovedOn}
 use Rattle.export.specs.Shapes.{lengthLeft, massOf, lackOf, Written, Totalled, Displayed, allowsLent, AllowedLent, booksLent, entriesAfter, Entered as EnteredLent, FloatersHanded}
 use Rattle.calls.specs.Single.{weighsAt}
-use Rattle.calls.specs.Floating.{floatersBy, bracketsOf, copiesOf, floatersSaid}
+use Rattle.scope.specs.Positions.{floatersBy, bracketsOf, copiesOf}
+use Rattle.calls.specs.Floating.{floatersSaid}
 use Rattle.promises.specs.Promises.{Answered, Nothing, told, Demand1C}
 use Rattle.promises.specs.Said.{not-both, same-number}
 use Rattle.promises.specs.Answering as calls

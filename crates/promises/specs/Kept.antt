@@ -41,7 +41,7 @@ demand-3 bs ns h =
       adds-up = weights.adds-up bs ns h;
       displays = weights.displays bs ns h;
       lacks = weights.lacks bs ns h;
-      rows = rows.rows-kept bs ns (h .long-enough) (h .taken);
+      rows = rows.rows-kept bs ns h;
     }
 
 pub promises : Promises

@@ -26,7 +26,7 @@ use Rattle.scope.specs.Line.{Line}
 use Rattle.scope.specs.Lists.{member, laid}
 use Rattle.scope.specs.Tables.{Tables}
 use Rattle.scope.specs.Layout.{tablesIn}
-use Rattle.scope.specs.Positions.{permittedPositions, floaters}
+use Rattle.scope.specs.Positions.{floatingOf, floaters}
 use Rattle.scope.specs.Placements.{freshListing}
 use Rattle.scope.specs.Masses.{sum, ledger, labileMass, daltons}
 use Rattle.scope.specs.Answers.{Said, good, refuses, met, Display, aMass, lack, saysRead, saysCount, saysShown, saysTotal, saysRequest, counts, residueCount, bracketCount, floaterCount, shows, rowsSaid, tooShort, readOutcome, saysOutcome, writes, totals, allows, requests, books, entries}
@@ -228,7 +228,7 @@ module _ (bs : List ℕ) (ns : List ℤ) (h : weights.Taken bs ns) where
   -- an allowed placement, lent as a slice
   lent-so : (p : Placement) (q : Request) → AllowedSays bs ns p q → saysRequest q ≡ good tt → (copyLimit ≤ length (p .at)) × AllowedLent bs ns (p .at) 0
   lent-so p q v e =
-      let k = allowed-parts (permittedPositions (tablesIn bs ns)) (p .at) (weights.is-allowed h p q v .1 e) .eight in
+      let k = allowed-parts (floatingOf (tablesIn bs ns)) (p .at) (weights.is-allowed h p q v .1 e) .eight in
       let long : copyLimit ≤ length (p .at) = omega (arith, k) in
       let whole : take copyLimit (p .at) ≡ p .at = take-all copyLimit (p .at) (omega (arith, k)) in
       let said : allowsLent bs ns (p .at) ≡ good tt = rw (le-ltb (length (p .at)) copyLimit long, whole) (sym v ∙ e) in
@@ -298,7 +298,7 @@ module _ (bs : List ℕ) (ns : List ℤ) (h : weights.Taken bs ns) where
       → (n ≡ 0) × Rowed bs ns room room′ c′
   rows-c room long c n c′ room′ w =
       let o = calls.rows bs ns room .exactly-one in
-      let r = rows.rows-kept bs ns (h .long-enough) (h .taken) room long (o .outcome .0) room′ (o .ensured .0, w .rows-after) in
+      let r = rows.rows-kept bs ns h room long (o .outcome .0) room′ (o .ensured .0, w .rows-after) in
       let said : rowsSaid bs ns room ≡ good (r .0) = sym (o .ensured .0) ∙ r .1 .0 in
       let many : c′ ≡ r .0 = w .counted .count-is ∙ ap (λ z. left z (λ k. k) c) said in
       (w .counted .number-is ∙ ap numberOf said, subst (λ z. Rowed bs ns room room′ z) (sym many) (r .1 .1))

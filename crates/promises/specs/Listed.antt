@@ -10,14 +10,11 @@ use lib.ListN.{length, drop, getD, getElem?}
 use Rattle.scope.specs.declared.answers.Request.{Request}
 use Rattle.scope.specs.declared.answers.Placement.{Placement}
 use Rattle.scope.specs.declared.answers.Listing.{Listing}
-use Rattle.scope.specs.Limits.{copyLimit}
-use Rattle.scope.specs.Lists.{given}
 use Rattle.scope.specs.Tables.{Tables}
 use Rattle.scope.specs.Layout.{tablesIn}
-use Rattle.scope.specs.Positions.{permittedPositions}
+use Rattle.scope.specs.Positions.{Floating, floatingOf}
 use Rattle.scope.specs.Placements.{placements, freshListing}
-use Rattle.scope.specs.Answers.{good, refuses, saysRequest, met, requested, movedOn, requests}
-use Rattle.layout_laws.specs.Laws.{tables-held}
+use Rattle.scope.specs.Answers.{good, refuses, findable, saysRequest, met, requested, movedOn, requests}
 use Rattle.placement_laws.specs.Terms.{Ascending, afterRequests, outOf, handedOut}
 use Rattle.basics.specs.Each.{In}
 use Rattle.placement_laws.specs.Laws as placing
@@ -28,7 +25,7 @@ use Rattle.calls.specs.Says.{AllowedSays, NextSays}
 use Rattle.promises.specs.Promises.{HandsOut, Lists}
 use Rattle.promises.specs.Said.{met-good, met-refused}
 use Rattle.promises.specs.Answering.{is-allowed, next-placement}
-use Rattle.promises.specs.Weights.{Taken, says-itself}
+use Rattle.promises.specs.Weights.{Taken, says-itself, orderly}
 use Rattle.promises.specs.Weights.{is-allowed as allowed-so}
 
 -- ---- a list at a place, and at its end
@@ -44,47 +41,47 @@ at-place (p ∷ l) zero h = (refl, refl)
 at-place (p ∷ l) (suc n) h = at-place l n (omega arith)
 
 -- ---- requests by what is said of them
-none-further : (qs : List (List ℕ)) (l : Listing) → requested qs l ≡ refuses 17 0 → (n : ℕ) → handedOut qs n l ≡ []
+none-further : (f : Floating) (l : Listing) → requested f l ≡ refuses 17 0 → (n : ℕ) → handedOut f n l ≡ []
 unfolding handedOut
-none-further qs l e zero = refl
-none-further qs l e (suc n) = ap (λ a. outOf a ++ handedOut qs n (movedOn l a)) e ∙ none-further qs l e n
+none-further f l e zero = refl
+none-further f l e (suc n) = ap (λ a. outOf a ++ handedOut f n (movedOn l a)) e ∙ none-further f l e n
 
-after-next : (qs : List (List ℕ)) (n : ℕ) (l : Listing) → afterRequests qs (suc n) l ≡ movedOn (afterRequests qs n l) (requested qs (afterRequests qs n l))
+after-next : (f : Floating) (n : ℕ) (l : Listing) → afterRequests f (suc n) l ≡ movedOn (afterRequests f n l) (requested f (afterRequests f n l))
 unfolding afterRequests
-after-next qs zero l = refl
-after-next qs (suc n) l = after-next qs n (movedOn l (requested qs l))
+after-next f zero l = refl
+after-next f (suc n) l = after-next f n (movedOn l (requested f l))
 
 module _ (bs : List ℕ) (ns : List ℤ) (h : Taken bs ns) where
   abbrev t : Tables
   t = tablesIn bs ns
 
-  abbrev qs : List (List ℕ)
-  qs = permittedPositions t
+  abbrev f : Floating
+  f = floatingOf t
 
-  requests-so : (l : Listing) → requests bs ns l ≡ requested qs l
-  requests-so l = says-itself h (λ t. requested (permittedPositions t) l)
+  requests-so : (l : Listing) → requests bs ns l ≡ requested f l
+  requests-so l = says-itself h (λ t. requested (floatingOf t) l)
 
   -- what a call answers, and the record afterwards, from what is said
-  answer-so : (l : Listing) (r : Next) → NextSays bs ns l r → saysRequest (r .request) ≡ met (requested qs l)
+  answer-so : (l : Listing) (r : Next) → NextSays bs ns l r → saysRequest (r .request) ≡ met (requested f l)
   answer-so l r w = w .0 ∙ ap met (requests-so l)
 
-  after-so : (l : Listing) (r : Next) → NextSays bs ns l r → r .listing ≡ movedOn l (requested qs l)
+  after-so : (l : Listing) (r : Next) → NextSays bs ns l r → r .listing ≡ movedOn l (requested f l)
   after-so l r w = w .1 ∙ ap (movedOn l) (requests-so l)
 
-  said-17 : (l : Listing) (r : Next) → NextSays bs ns l r → saysRequest (r .request) ≡ refuses 17 0 → requested qs l ≡ refuses 17 0
-  said-17 l r w e = met-refused (requested qs l) (sym (answer-so l r w) ∙ e)
+  said-17 : (l : Listing) (r : Next) → NextSays bs ns l r → saysRequest (r .request) ≡ refuses 17 0 → requested f l ≡ refuses 17 0
+  said-17 l r w e = met-refused (requested f l) (sym (answer-so l r w) ∙ e)
 
   -- what is handed out until 17 is what as many requests hand out, or more
-  handed-so : (ps : List (List ℕ)) (l : Listing) → HandsOut (NextSays bs ns) l ps → (n : ℕ) → length ps ≤ n → handedOut qs n l ≡ ps
+  handed-so : (ps : List (List ℕ)) (l : Listing) → HandsOut (NextSays bs ns) l ps → (n : ℕ) → length ps ≤ n → handedOut f n l ≡ ps
   unfolding handedOut
-  handed-so [] l w n k = none-further qs l (said-17 l (w .0) (w .1 .0) (w .1 .1)) n
+  handed-so [] l w n k = none-further f l (said-17 l (w .0) (w .1 .0) (w .1 .1)) n
   handed-so (p ∷ ps) l w zero k = absurd (omega arith)
   handed-so (p ∷ ps) l w (suc n) k =
-      let m = met-good (requested qs l) (sym (answer-so l (w .0) (w .1 .0)) ∙ w .1 .1 .0) in
-      let f : w .0 .listing ≡ movedOn l (good (m .0)) = after-so l (w .0) (w .1 .0) ∙ ap (movedOn l) (m .1) in
-      ap (λ a. outOf a ++ handedOut qs n (movedOn l a)) (m .1)
-      ∙ ap (λ (x : Listing). x .at ∷ handedOut qs n x) (sym f)
-      ∙ ap (λ x. x ∷ handedOut qs n (w .0 .listing)) (w .1 .1 .1 .0)
+      let m = met-good (requested f l) (sym (answer-so l (w .0) (w .1 .0)) ∙ w .1 .1 .0) in
+      let moved : w .0 .listing ≡ movedOn l (good (m .0)) = after-so l (w .0) (w .1 .0) ∙ ap (movedOn l) (m .1) in
+      ap (λ a. outOf a ++ handedOut f n (movedOn l a)) (m .1)
+      ∙ ap (λ (x : Listing). x .at ∷ handedOut f n x) (sym moved)
+      ∙ ap (λ x. x ∷ handedOut f n (w .0 .listing)) (w .1 .1 .1 .0)
       ∙ ap (λ x. p ∷ x) (handed-so ps (w .0 .listing) (w .1 .1 .1 .1) n (omega arith))
 
   all-handed : (ps : List (List ℕ)) → HandsOut (NextSays bs ns) freshListing ps → ps ≡ laws.listed t (laws.many t)
@@ -109,35 +106,32 @@ module _ (bs : List ℕ) (ns : List ℤ) (h : Taken bs ns) where
   none-exists r w =
       let d = demands .demand-3-in bs ns (h .taken) .none-at-first in (
         (λ e p q v a. d .0 (said-17 freshListing r w e) (p .at) (allowed-so h p q v .1 a)),
-        (λ f.
+        (λ no.
             answer-so freshListing r w
             ∙ ap met
             (d .1
             (λ p a.
             let x = is-allowed bs ns (record { at = p }) .exactly-one in
-            f (record { at = p }) (x .outcome) (x .ensured) (allowed-so h (record { at = p }) (x .outcome) (x .ensured) .0 a)))),
+            no (record { at = p }) (x .outcome) (x .ensured) (allowed-so h (record { at = p }) (x .outcome) (x .ensured) .0 a)))),
       )
 
   -- ---- the requests end
-  few : length qs ≤ copyLimit
-  few = rw (placing.line-many t) (tables-held bs ns (h .taken) .1 .tables-within .few-copies)
-
-  requested-nth : (n : ℕ) → requested qs (afterRequests qs n freshListing) ≡ given (getElem? (placements qs) n) good (refuses 17 0)
-  requested-nth n = placing.request qs few (placing.line-rising t) n
+  requested-nth : (n : ℕ) → requested f (afterRequests f n freshListing) ≡ findable (getElem? (placements f) n)
+  requested-nth n = placing.request f (orderly h) n
 
   -- from the record after n requests on
-  handed-from : (k n : ℕ) → length (placements qs) ≡ n + k → HandsOut (NextSays bs ns) (afterRequests qs n freshListing) (drop n (placements qs))
+  handed-from : (k n : ℕ) → length (placements f) ≡ n + k → HandsOut (NextSays bs ns) (afterRequests f n freshListing) (drop n (placements f))
   handed-from zero n e =
-      let l = afterRequests qs n freshListing in
-      let p = past-end (placements qs) n (omega arith) in
+      let l = afterRequests f n freshListing in
+      let p = past-end (placements f) n (omega arith) in
       let x = next-placement bs ns l .exactly-one in
-      let q = requested-nth n ∙ ap (λ o. given o good (refuses 17 0)) (p .0) in
+      let q = requested-nth n ∙ ap findable (p .0) in
       subst (HandsOut (NextSays bs ns) l) (sym (p .1)) (x .outcome, (x .ensured, answer-so l (x .outcome) (x .ensured) ∙ ap met q))
   handed-from (suc k) n e =
-      let l = afterRequests qs n freshListing in
-      let p = at-place (placements qs) n (omega arith) in
+      let l = afterRequests f n freshListing in
+      let p = at-place (placements f) n (omega arith) in
       let x = next-placement bs ns l .exactly-one in
-      let q = requested-nth n ∙ ap (λ o. given o good (refuses 17 0)) (p .0) in
+      let q = requested-nth n ∙ ap findable (p .0) in
       let a = after-so l (x .outcome) (x .ensured) in
       subst (HandsOut (NextSays bs ns) l) (sym (p .1)) (
         x .outcome,
@@ -147,7 +141,7 @@ module _ (bs : List ℕ) (ns : List ℤ) (h : Taken bs ns) where
             answer-so l (x .outcome) (x .ensured) ∙ ap met q,
             (
               ap (λ (y : Listing). y .at) (a ∙ ap (movedOn l) q),
-              subst (λ y. HandsOut (NextSays bs ns) y (drop (suc n) (placements qs))) (after-next qs n freshListing ∙ sym a) (handed-from k (suc n) (omega arith)),
+              subst (λ y. HandsOut (NextSays bs ns) y (drop (suc n) (placements f))) (after-next f n freshListing ∙ sym a) (handed-from k (suc n) (omega arith)),
             ),
           ),
         ),
@@ -155,7 +149,7 @@ module _ (bs : List ℕ) (ns : List ℤ) (h : Taken bs ns) where
 
   ends : (ps : List (List ℕ)) × HandsOut (NextSays bs ns) freshListing ps
   unfolding afterRequests
-  ends = (placements qs, handed-from (length (placements qs)) 0 (omega arith))
+  ends = (placements f, handed-from (length (placements f)) 0 (omega arith))
 
   pub lists : Lists bs ns (NextSays bs ns)
   lists = record { ends = ends; every-allowed = every-allowed; ascending = ascending; none = none-exists }

@@ -27,13 +27,13 @@ use Rattle.scope.specs.Refusals.{outcome}
 use Rattle.scope.specs.Tables.{Tables, tablesOf}
 use Rattle.scope.specs.Layout.{bytesOf, numbersOf, tablesIn}
 use Rattle.scope.specs.Lists.{laid, tabled}
-use Rattle.scope.specs.Positions.{isPlaced, floaters, permittedPositions, Found}
+use Rattle.scope.specs.Positions.{isPlaced, floaters, floatingOf, Found}
 use Rattle.scope.specs.Placements.{freshListing}
 use Rattle.scope.specs.Masses.{sum, total, lacking, labileMass, daltons}
 use Rattle.scope.specs.Answers.{Said, good, refuses, aMass, lack, saysRead, saysWrite, saysCount, saysTotal, saysShown, saysLookup, saysRequest, saysBooked, tooShort, counts, residueCount, bracketCount, floaterCount, totals, shows, looksUp}
 use Rattle.scope.specs.Grammar.{Spelling, print, good as wellSpelt, means}
 use Rattle.grammar_laws.specs.Laws.{Accepts, Refuses}
-use Rattle.placement_laws.specs.Terms.{Ascending}
+use Rattle.placement_laws.specs.Terms.{Ascending, Placing}
 use Rattle.basics.specs.Each.{In}
 use Rattle.verdict.specs.Says.{VerdictSays}
 use Rattle.reader.specs.ReadSays.{ReadSays}
@@ -184,18 +184,6 @@ pub record Demand2 : Type 0 where
 
 -- ======== demand 3, over areas that a line was read into
 
--- ---- placements
--- the lists of permitted positions, one for each floater
-abbrev pub permittedIn : List ℕ → List ℤ → List (List ℕ)
-permittedIn bs ns = permittedPositions (tablesIn bs ns)
-
--- each floater at one of its permitted positions, no position twice; "unused ones 0"
-pub record Placing (qs : List (List ℕ)) (p : List ℕ) : Type 0 where
-  pub eight : length p ≡ copyLimit
-  pub permitted : (i : ℕ) → i < length qs → In (getD p i 0) (getD qs i [])
-  pub apart : (i j : ℕ) → i < length qs → j < length qs → getD p i 0 ≡ getD p j 0 → i ≡ j
-  pub unused : (i : ℕ) → length qs ≤ i → getD p i 0 ≡ 0
-
 -- ---- the listing
 -- A call that moves a listing on, from a record to its answer and the record afterwards. Requests one after another hand out these placements, and then one
 -- answers 17.
@@ -219,7 +207,7 @@ pub record Lists (bs : List ℕ) (ns : List ℤ) (Moves : Listing → Next → T
 -- x is a permitted position of floater f, floaters counted from 1
 abbrev pub Permitted : List ℕ → List ℤ → ℕ → ℕ → Type 0
 Permitted bs ns zero x = ⊥
-Permitted bs ns (suc i) x = In x (getD (permittedIn bs ns) i [])
+Permitted bs ns (suc i) x = In x (getD (floatingOf (tablesIn bs ns) .lists) i [])
 
 -- rows of floater and position, each below all behind it
 abbrev pub Below : Site → Site → Type 0
@@ -243,7 +231,7 @@ pub record Rowed (bs : List ℕ) (ns : List ℤ) (room room′ : List Site) (n :
 
 pub record Demand3 (bs : List ℕ) (ns : List ℤ) : Type 0 where
   -- "an allowed placement gives each floating modification one of its permitted positions, none that a placed modification has, and no position twice"
-  pub allowed : (p : Placement) (r : Request) → AllowedSays bs ns p r → (saysRequest r ≡ good tt) ↔ Placing (permittedIn bs ns) (p .at)
+  pub allowed : (p : Placement) (r : Request) → AllowedSays bs ns p r → (saysRequest r ≡ good tt) ↔ Placing (floatingOf (tablesIn bs ns)) (p .at)
   pub free : (f x : ℕ) → Permitted bs ns f x → (k : Bracket (Unit {0})) → In k (tablesIn bs ns .brackets) → isPlaced k ≡ true → k .first ≡ x → ⊥
   -- by the record handed over and handed back, and by the record moved on in place
   pub by-value : Lists bs ns (NextSays bs ns)

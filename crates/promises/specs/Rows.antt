@@ -14,17 +14,17 @@ use lib.Seq.{take-append-seam, drop-append-seam}
 use Rattle.scope.specs.declared.answers.Count.{Count}
 use Rattle.scope.specs.declared.answers.Site.{Site}
 use Rattle.scope.specs.Limits.{rowLimit}
-use Rattle.scope.specs.Lists.{given, laid}
+use Rattle.scope.specs.Lists.{laid}
 use Rattle.scope.specs.Layout.{tablesIn}
-use Rattle.scope.specs.Positions.{permittedPositions, rowsFrom, rowsOf, Found, firstRow, lookup}
-use Rattle.scope.specs.Answers.{good, refuses, saysCount, tooShort, areTables, rowsSaid, rowsAfter, looksUp}
+use Rattle.scope.specs.Positions.{floatingOf, rowsFrom, rowsOf, Found, firstRow, lookup}
+use Rattle.scope.specs.Answers.{good, refuses, findable, saysCount, rowsSaid, rowsAfter, looksUp}
 use Rattle.placement_laws.specs.Terms.{Rising, AllRising}
 use Rattle.basics.specs.Each.{In}
-use Rattle.basics.specs.Members.{in-left, in-right, in-either, in-map, map-in, in-member}
-use Rattle.placement_laws.specs.Laws as placing
+use Rattle.basics.specs.Members.{in-left, in-right, in-either, in-map, map-in}
 use Rattle.laws.specs.Proved.{demands}
 use Rattle.listing.specs.Says.{RowsSays}
 use Rattle.promises.specs.Promises.{Permitted, Below, Climbing, LeastOf, Rowed}
+use Rattle.promises.specs.Weights.{Taken, orderly}
 
 abbrev site : ℕ → ℕ → Site
 site f x = record { floater = f; position = x }
@@ -71,7 +71,7 @@ climb k (x ∷ q) rest r above c = ((λ b h. go b (in-either b (map (site k) q) 
         let z = in-map (site k) b q m in
         let e : b .floater ≡ k = ap (λ (s : Site). s .floater) (z .2) in
         let p : b .position ≡ z .0 = ap (λ (s : Site). s .position) (z .2) in
-        inr (sym e, subst (λ y. x < y) (sym p) (r .0 (z .0) (in-member (z .0) q (z .1))))
+        inr (sym e, subst (λ y. x < y) (sym p) (r .0 (z .0) (z .1)))
     go b (inr m) = inl (above b m)
 
 climbing : (k : ℕ) (qs : List (List ℕ)) → AllRising qs → Climbing (rowsFrom k qs)
@@ -107,10 +107,10 @@ best f i (r ∷ rs) c = go (eqb (r .floater) f) refl (firstRow f (i + 1) rs) (be
     go false e none ih = λ y h. others e y (ih y) h
     go false e (some x) ih = (inr (ih .0), (λ y h. others e y (ih .1 y) h))
 
--- ---- over areas that hold tables
-module _ (bs : List ℕ) (ns : List ℤ) (long : tooShort bs ns ≡ false) (taken : areTables bs ns ≡ true) where
+-- ---- over areas that every call takes
+module _ (bs : List ℕ) (ns : List ℤ) (h : Taken bs ns) where
   abbrev qs : List (List ℕ)
-  qs = permittedPositions (tablesIn bs ns)
+  qs = floatingOf (tablesIn bs ns) .lists
 
   abbrev rows : List Site
   rows = rowsOf (tablesIn bs ns)
@@ -132,15 +132,15 @@ module _ (bs : List ℕ) (ns : List ℤ) (long : tooShort bs ns ≡ false) (take
 
   rows-climb : Climbing rows
   unfolding rowsOf
-  rows-climb = climbing 1 qs (placing.line-rising (tablesIn bs ns))
+  rows-climb = climbing 1 qs (orderly h .rising)
 
-  least-of : (f : ℕ) (o : Option Found) → Best f rows o → LeastOf (Permitted bs ns f) (given o good (refuses 17 0))
+  least-of : (f : ℕ) (o : Option Found) → Best f rows o → LeastOf (Permitted bs ns f) (findable o)
   least-of f none b = (refl, λ y h. b y (permitted-rows f y .1 h))
   least-of f (some x) b = (permitted-rows f (x .position) .0 (b .0), λ y h. b .1 y (permitted-rows f y .1 h))
 
   module _ (room : List Site) (roomy : rowLimit ≤ length room) where
     said : rowsSaid bs ns room ≡ good (length rows)
-    said = rw (le-ltb (length room) rowLimit roomy, long, taken)
+    said = rw (le-ltb (length room) rowLimit roomy, h .long-enough, h .taken)
 
     still-roomy : rowLimit ≤ length (laid rows room)
     still-roomy =
@@ -149,13 +149,13 @@ module _ (bs : List ℕ) (ns : List ℤ) (long : tooShort bs ns ≡ false) (take
         omega (arith, roomy, a, b)
 
     few : min (length rows) rowLimit ≡ length rows
-    few = let h = demands .demand-3-in bs ns taken .rows-fit in omega (arith, h)
+    few = let fit = demands .demand-3-in bs ns (h .taken) .rows-fit in omega (arith, fit)
 
-    looked : (f : ℕ) → looksUp (laid rows room) (length rows) f ≡ given (firstRow f 0 rows) good (refuses 17 0)
+    looked : (f : ℕ) → looksUp (laid rows room) (length rows) f ≡ findable (firstRow f 0 rows)
     looked f =
-        ap (λ b. cond b (refuses 13 0) (given (lookup (laid rows room) (length rows) f) good (refuses 17 0))) (le-ltb (length (laid rows room)) rowLimit still-roomy)
-        ∙ ap (λ n. given (firstRow f 0 (take n (laid rows room))) good (refuses 17 0)) few
-        ∙ ap (λ rs. given (firstRow f 0 rs) good (refuses 17 0)) (take-append-seam rows (drop (length rows) room))
+        ap (λ b. cond b (refuses 13 0) (findable (lookup (laid rows room) (length rows) f))) (le-ltb (length (laid rows room)) rowLimit still-roomy)
+        ∙ ap (λ n. findable (firstRow f 0 (take n (laid rows room)))) few
+        ∙ ap (λ rs. findable (firstRow f 0 rs)) (take-append-seam rows (drop (length rows) room))
 
     rowed : Rowed bs ns room (laid rows room) (length rows)
     rowed =

@@ -16,11 +16,14 @@ use Rattle.scope.specs.declared.answers.Ledger.{Ledger}
 use Rattle.scope.specs.Lists.{laid}
 use Rattle.scope.specs.Tables.{Tables}
 use Rattle.scope.specs.Layout.{bytesOf, tablesIn}
-use Rattle.scope.specs.Positions.{floaters, permittedPositions}
+use Rattle.scope.specs.Positions.{floaters, floatingOf}
 use Rattle.scope.specs.Placements.{allowed}
 use Rattle.scope.specs.Masses.{sum, total, lacking, labileMass, daltons}
-use Rattle.scope.specs.Answers.{Said, good, refuses, aMass, lack, saysTotal, saysShown, saysRequest, saysBooked, tooShort, areTables, overTables, residueCount, bracketCount, floaterCount, weighed, bookable, books, entries}
+use Rattle.scope.specs.Answers.{Said, good, refuses, aMass, lack, saysTotal, saysShown, saysRequest, saysBooked, tooShort, areTables, overTables, residueCount, bracketCount, floaterCount, weighed, allowable, bookable, books, entries}
 use Rattle.scope.specs.Grammar.{Spelling, means}
+use Rattle.layout_laws.specs.Laws.{tables-held}
+use Rattle.placement_laws.specs.Terms.{Orderly}
+use Rattle.placement_laws.specs.Laws as placing
 use Rattle.laws.specs.Demands as laws
 use Rattle.laws.specs.Proved.{demands}
 use Rattle.calls.specs.Says.{TotalSays, ShownSays, AllowedSays, LedgerSays}
@@ -47,14 +50,16 @@ said-allowed true e = refl
 said-allowed false e = absurd (not-both e)
 
 pub is-allowed : {bs : List ℕ} {ns : List ℤ} → Taken bs ns → (p : Placement) (r : Request) → AllowedSays bs ns p r
-    → (allowed (permittedPositions (tablesIn bs ns)) (p .at) ≡ true) ↔ (saysRequest r ≡ good tt)
+    → (allowed (floatingOf (tablesIn bs ns)) (p .at) ≡ true) ↔ (saysRequest r ≡ good tt)
 is-allowed {bs} {ns} h p r w =
-    let answered : saysRequest r ≡ cond (allowed (permittedPositions (tablesIn bs ns)) (p .at)) (good tt) (refuses 18 0) =
-    w ∙ says-itself h (λ t. cond (allowed (permittedPositions t) (p .at)) (good tt) (refuses 18 0))
-    in (
+    let answered : saysRequest r ≡ allowable (tablesIn bs ns) (p .at) = w ∙ says-itself h (λ t. allowable t (p .at)) in (
       (λ e. answered ∙ ap (λ b. cond b (good tt) (refuses 18 0)) e),
-      (λ e. said-allowed (allowed (permittedPositions (tablesIn bs ns)) (p .at)) (sym e ∙ answered)),
+      (λ e. said-allowed (allowed (floatingOf (tablesIn bs ns)) (p .at)) (sym e ∙ answered)),
     )
+
+-- what floats of the tables in them is orderly
+pub orderly : {bs : List ℕ} {ns : List ℤ} → Taken bs ns → Orderly (floatingOf (tablesIn bs ns))
+orderly {bs} {ns} h = placing.line-orderly (tablesIn bs ns) (tables-held bs ns (h .taken) .1 .tables-within .few-copies)
 
 -- ---- the total and the display
 weighed-so : (b : Bool) (x m : ℤ) (k : ℕ) → cond b (good x) (refuses 16 k) ≡ good m → (b ≡ true) × (x ≡ m)
@@ -95,7 +100,7 @@ module _ (bs : List ℕ) (ns : List ℤ) (h : Taken bs ns) where
       let k = total-so m q w e in
       let ok = is-allowed h p a v .1 f in
       let b : books bs ns (p .at) ≡ good tt =
-      says-itself h (λ t. bookable t (p .at)) ∙ ap (λ b. cond b (cond (allowed (permittedPositions t) (p .at)) (good tt) (refuses 18 0)) (refuses 16 (lacking t))) (k .0)
+      says-itself h (λ t. bookable t (p .at)) ∙ ap (λ b. cond b (allowable t (p .at)) (refuses 16 (lacking t))) (k .0)
       ∙ ap (λ b. cond b (good tt) (refuses 18 0)) ok
       in (
         l .0 ∙ b,

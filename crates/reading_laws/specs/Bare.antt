@@ -20,10 +20,11 @@ use Rattle.scope.specs.Modifications.{isKey, isModification, nameOf, namesOf, c
 use Rattle.scope.specs.Canonical.{size, scoreText, valueText, labelText, partText, partsText, squareText, curlyText, unknownText, ofKind, endingAt, goesOn, sequenceText, chainText, canonical}
 use Rattle.scope.specs.Tables.{bareNumber, bareLabel, bareValue, barePart, bareBracket, bareResidue, tablesOf, millionths, scoreOf}
 use Rattle.scope.specs.Layout.{massIn, decimalsIn, packed, valueCode, partRow, partRows, scoreCode, bracketRow, bracketTexts, rows, sectionCode, bytesOf, numberRow, numbersOf}
-use Rattle.scope.specs.Positions.{nTerminus, cTerminus, sites, isPlaced, placedOn, struckOut, floaters, referredAt, mayStand, permitted, permittedPositions, positions}
+use Rattle.scope.specs.Positions.{nTerminus, cTerminus, sites, isPlaced, placedOn, struckOut, floaters, referredAt, mayStand, permitted, floatingOf, positions}
 use Rattle.scope.specs.Masses.{valueMass, firstMass, massOf, massOr0, modifications, times, sum, sumℕ, total, lacking, placedAt, putAt, ledger}
 use Rattle.basics.specs.Lists.{map-map, flat-map, all-map, keep-map, keep-same, map-replicate, map-flat}
 use Rattle.basics.specs.Tabled.{tabled-same}
+use Rattle.basics.specs.Positions.{same-floats}
 
 module _ {P : Type 0} where
   -- ---- the canonical line
@@ -268,9 +269,9 @@ module _ {P : Type 0} where
       keep-same _ _ (λ x. ap₂ (λ a b. a && not (member x b)) (may-stand l k x) (struck-out l)) (positions (tablesOf l))
       ∙ ap (λ s. keep (λ x. mayStand l k x && not (member x (struckOut l))) (tabled (λ x. x) 0 (length s))) (same-sites l)
 
-  pub same-permitted : (l : Line P) → permittedPositions (tablesOf l) ≡ permittedPositions l
-  same-permitted l = ap (map (permitted (tablesOf l))) (same-floaters l) ∙ map-map (permitted (tablesOf l)) (permitted l) bareBracket
-      (permitted-bare l) (floaters l)
+  pub same-floating : (l : Line P) → floatingOf (tablesOf l) ≡ floatingOf l
+  same-floating l = same-floats (floatingOf (tablesOf l)) (floatingOf l)
+      (ap (map (permitted (tablesOf l))) (same-floaters l) ∙ map-map (permitted (tablesOf l)) (permitted l) bareBracket (permitted-bare l) (floaters l))
 
   -- ---- masses
   value-mass : (v : Value P) → valueMass (bareValue v) ≡ valueMass v

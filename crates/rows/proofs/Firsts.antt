@@ -11,9 +11,8 @@ use lib.ListN.{length, getD, take}
 use lib.Seq.{take-suc, length-take-le}
 use Rattle.scope.specs.declared.answers.Site.{Site}
 use Rattle.scope.specs.Limits.{rowLimit}
-use Rattle.scope.specs.Lists.{given}
 use Rattle.scope.specs.Positions.{Found, firstRow, lookup}
-use Rattle.scope.specs.Answers.{good, refuses, looksUp}
+use Rattle.scope.specs.Answers.{refuses, findable, looksUp}
 use Rattle.basics.specs.Choice.{by-test}
 use Rattle.rows.specs.declared.Seen.{Seen}
 use Rattle.rows.specs.First.{noSite, seenOf, nextSeen, boundOf, saysSeen}
@@ -56,7 +55,7 @@ seen-all rows w n h = ap (seenIn rows w) (let e : n ≡ min n rowLimit = omega a
 
 -- ---- the lookup
 -- what was found, as it is said where there is room
-said : (o : Option Found) (room : ℕ) → saysSeen (seenOf o) room ≡ cond (ltb room rowLimit) (refuses 13 0) (given o good (refuses 17 0))
+said : (o : Option Found) (room : ℕ) → saysSeen (seenOf o) room ≡ cond (ltb room rowLimit) (refuses 13 0) (findable o)
 said none room = refl
 said (some r) room = refl
 
@@ -64,7 +63,7 @@ pub looked-up : (rows : List Site) (n w : ℕ) → saysSeen (seenOf (lookup rows
 looked-up rows n w =
     said (lookup rows (boundOf n (length rows)) w) (length rows)
     ∙ by-test (ltb (length rows) rowLimit)
-    (λ t. ap (λ s. cond s (refuses 13 0) (given (lookup rows (boundOf n (length rows)) w) good (refuses 17 0))) t
-    ∙ sym (ap (λ s. cond s (refuses 13 0) (given (lookup rows n w) good (refuses 17 0))) t))
-    (λ t. ap (λ m. cond (ltb (length rows) rowLimit) (refuses 13 0) (given (lookup rows m w) good (refuses 17 0))) (ap (λ s. cond s 0 (min n rowLimit)) t)
-    ∙ ap (λ m. cond (ltb (length rows) rowLimit) (refuses 13 0) (given (firstRow w 0 (take m rows)) good (refuses 17 0))) (let e : min (min n rowLimit) rowLimit ≡ min n rowLimit = omega arith in e))
+    (λ t. ap (λ s. cond s (refuses 13 0) (findable (lookup rows (boundOf n (length rows)) w))) t
+    ∙ sym (ap (λ s. cond s (refuses 13 0) (findable (lookup rows n w))) t))
+    (λ t. ap (λ m. cond (ltb (length rows) rowLimit) (refuses 13 0) (findable (lookup rows m w))) (ap (λ s. cond s 0 (min n rowLimit)) t)
+    ∙ ap (λ m. cond (ltb (length rows) rowLimit) (refuses 13 0) (findable (firstRow w 0 (take m rows)))) (let e : min (min n rowLimit) rowLimit ≡ min n rowLimit = omega arith in e))

@@ -1,6 +1,6 @@
 -- Positions: where modifications are placed, where floating copies may stand, and the rows.
 use Prim.Native.Nat.{ℕ, _+_, min}
-use mathlib.Core.Bool.{Bool, true, false, not, cond, _&&_, _||_}
+use mathlib.Core.Bool.{Bool, false, not, cond, _&&_, _||_}
 use mathlib.Core.Option.{Option, none, some}
 use mathlib.Core.List.{List, [], _∷_, _++_, map}
 use lib.Dec.{eqb, leb}
@@ -44,6 +44,29 @@ struckOut t = flat (placedOn t) (t .brackets)
 unfoldable pub floaters : {P : Type 0} → Line P → List (Bracket P)
 floaters t = flat (λ k. replicate (copies k) k) (t .brackets)
 
+-- or by its bracket's number, from 0, and by which of its copies it is, from 1
+pub record Copy : Type 0 where
+  pub bracket : ℕ
+  pub copy : ℕ
+
+-- those of one bracket
+abbrev pub copiesAt : ℕ → ℕ → List Copy
+copiesAt i n = tabled (λ c. record { bracket = i; copy = c }) 1 n
+
+-- those of brackets from the i-th on
+unfoldable pub copiesFrom : {P : Type 0} → ℕ → List (Bracket P) → List Copy
+copiesFrom i [] = []
+copiesFrom i (k ∷ ks) = copiesAt i (copies k) ++ copiesFrom (i + 1) ks
+
+abbrev pub floatersBy : {P : Type 0} → Line P → List Copy
+floatersBy t = copiesFrom 0 (t .brackets)
+
+abbrev pub bracketsOf : List Copy → List ℕ
+bracketsOf l = map (λ c. c .bracket) l
+
+abbrev pub copiesOf : List Copy → List ℕ
+copiesOf l = map (λ c. c .copy) l
+
 -- ---- "Permitted positions: residues 1 to n for an unlabelled unknown one; the residues of its range; for a label, the position or range of its
 -- definition, if it has one in the sequence or at a terminus, and those of its references, each once."
 abbrev pub between : ℕ → ℕ → ℕ → Bool
@@ -68,9 +91,12 @@ mayStand t k x =
 unfoldable pub permitted : {P : Type 0} → Line P → Bracket P → List ℕ
 permitted t k = keep (λ x. mayStand t k x && not (member x (struckOut t))) (positions t)
 
--- for each floater, in order
-abbrev pub permittedPositions : {P : Type 0} → Line P → List (List ℕ)
-permittedPositions t = map (permitted t) (floaters t)
+-- ---- what placements are made of: for each floating copy, in order, the positions permitted to it
+pub record Floating : Type 0 where
+  pub lists : List (List ℕ)
+
+abbrev pub floatingOf : {P : Type 0} → Line P → Floating
+floatingOf t = record { lists = map (permitted t) (floaters t) }
 
 -- ---- "rows of floater and position, ascending, with their number, floaters counted from 1"
 unfoldable pub rowsFrom : ℕ → List (List ℕ) → List Site
@@ -78,7 +104,7 @@ rowsFrom f [] = []
 rowsFrom f (q ∷ qs) = map (λ x. record { floater = f; position = x }) q ++ rowsFrom (f + 1) qs
 
 unfoldable pub rowsOf : {P : Type 0} → Line P → List Site
-rowsOf t = rowsFrom 1 (permittedPositions t)
+rowsOf t = rowsFrom 1 (floatingOf t .lists)
 
 -- ---- "A lookup in any rows, ordered or not, gives the index (from 0) and the position of a floater's first row among the first so many"
 pub record Found : Type 0 where

@@ -1,4 +1,4 @@
--- `calls::floater_brackets` meets its contract.
+-- `calls::floater_brackets` meets its contract: 13 for a short slice, 13 or 14 where they are due, else the floaters are copied.
 use mathlib.Core.Path.{_≡_}
 use Prim.Native.Nat.{_≤_}
 use lib.ListN.{length}
@@ -19,21 +19,21 @@ returns-2 c = short-copies _ _ _ _ (c .before .if1 .left) (c .if2 .taken)
 returns-3 : tie.Need-returns-3
 returns-3 c = no-floaters _ _ _ _ (c .before .before .before .if1 .left) (c .before .before .if2 .left) (c .before .why-not .ensures) (c .if3 .taken)
 
-find-copies-requires : tie.Need-find-copies-requires
-find-copies-requires c κs = let h = held (c .before .why-not .ensures) (c .if3 .left) in (h .bounds, h .few)
+find-floaters-requires : tie.Need-find-floaters-requires
+find-floaters-requires c κs = let h = held (c .before .why-not .ensures) (c .if3 .left) in (h .bounds, h .few)
 
 copy-bytes-requires : tie.Need-copy-bytes-requires
 copy-bytes-requires c κs =
     let found = c .before .before .before .before in
-    let few : found .find-copies .result .count ≤ copyLimit = found .find-copies .ensures .few in
-    let long : length (found .find-copies .result .bracket) ≡ copyLimit = search needs in
+    let few : found .find-floaters .result .count ≤ copyLimit = found .find-floaters .ensures .few in
+    let long : length (found .find-floaters .result .index) ≡ copyLimit = search needs in
     (omega (arith, few, long), omega (arith, few, found .before .before .before .before .if1 .left))
 
 copy-bytes-requires-2 : tie.Need-copy-bytes-requires-2
 copy-bytes-requires-2 c κs =
     let found = c .before .before .before .before .before .before .before .before .before in
-    let few : found .find-copies .result .count ≤ copyLimit = found .find-copies .ensures .few in
-    let long : length (found .find-copies .result .copy) ≡ copyLimit = search needs in
+    let few : found .find-floaters .result .count ≤ copyLimit = found .find-floaters .ensures .few in
+    let long : length (found .find-floaters .result .copy) ≡ copyLimit = search needs in
     (omega (arith, few, long), omega (arith, few, found .before .before .before .if2 .left))
 
 returns-4 : tie.Need-returns-4
@@ -43,7 +43,7 @@ returns-4 c =
     let found = first .before .before .before .before .before in
     let tried = found .before .before in
     floaters-found _ _ _ _ (tried .before .before .if1 .left) (tried .before .if2 .left) (held (tried .why-not .ensures) (found .before .if3 .left))
-    (found .find-copies .ensures)
+    (found .find-floaters .ensures)
     (first .copy-bytes .ensures)
     (second .copy-bytes2 .ensures)
 
@@ -51,5 +51,5 @@ pub floater-brackets-spec : {M : Type 1} → statement M
 floater-brackets-spec =
     tie.close
     (tie.spec
-    returns returns-2 (λ c κs. search needs) returns-3 find-copies-requires (λ c. search needs) copy-bytes-requires (λ c. search needs)
+    returns returns-2 (λ c κs. search needs) returns-3 find-floaters-requires (λ c. search needs) copy-bytes-requires (λ c. search needs)
     copy-bytes-requires-2 (λ c. search needs) (λ c. search needs) returns-4)

@@ -1,12 +1,16 @@
--- `calls::is_allowed_by` meets its contract.
+-- `calls::is_allowed_by` meets its contract: what is allowed by the table is allowed, since the table holds what floats.
 use mathlib.Core.Path.{ap, _∙_}
 use Rattle.scope.specs.Placements.{allowed}
+use Rattle.calls.proofs.Laws.{floats-as}
 use borrow.Author.Needs.{needs}
 use Rattle.calls.proofs.is_allowed_by.Statement.{statement}
 use Rattle.calls.proofs.is_allowed_by.Tie as tie
 
 returns : tie.Need-returns
-returns c = c .is-allowed .ensures ∙ ap (λ qs. allowed qs (c .before .before .before .before .before .before .before .args .p .at)) (c .before .before .before .fill-table .ensures .table)
+returns c =
+    let filled = c .before .before .before in
+    let start = filled .before .before .before .before in
+    c .is-allowed .ensures ∙ ap (λ f. allowed f (start .args .p .at)) (floats-as (filled .fill-table .ensures))
 
 pub is-allowed-by-spec : {M : Type 1} → statement M
 is-allowed-by-spec =

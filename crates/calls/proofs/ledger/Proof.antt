@@ -1,5 +1,5 @@
 -- `calls::ledger` meets its contract: the ledger that crates/masses books, or zeros beside the refusal. Assumes nothing.
-use mathlib.Core.Path.{refl, sym, ap, _∙_}
+use mathlib.Core.Path.{sym, ap, _∙_}
 use Rattle.scope.specs.Answers.{saysBooked}
 use Rattle.calls.proofs.Laws.{booked-held, booked-entries}
 use denote.Ref.{now}

@@ -1,13 +1,17 @@
--- `calls::next_by` meets its contract.
+-- `calls::next_by` meets its contract: a request by the table is a request, since the table holds what floats.
 use mathlib.Core.Path.{ap, sym}
 use Rattle.scope.specs.Answers.{requested}
 use Rattle.placements.proofs.Answers.{through}
+use Rattle.calls.proofs.Laws.{floats-as}
 use borrow.Author.Needs.{needs}
 use Rattle.calls.proofs.next_by.Statement.{statement}
 use Rattle.calls.proofs.next_by.Tie as tie
 
 returns : tie.Need-returns
-returns c = through (ap (λ qs. requested qs (c .before .before .before .before .before .before .before .args .l)) (sym (c .before .before .before .fill-table .ensures .table))) (c .request .ensures)
+returns c =
+    let filled = c .before .before .before in
+    let start = filled .before .before .before .before in
+    through (ap (λ f. requested f (start .args .l)) (sym (floats-as (filled .fill-table .ensures)))) (c .request .ensures)
 
 pub next-by-spec : {M : Type 1} → statement M
 next-by-spec =

@@ -1,6 +1,6 @@
--- `calls::next_placement` meets its contract.
+-- `calls::next_placement` meets its contract: 13 or 14 where they are due, else the request by the tables.
 use mathlib.Core.Path.{sym}
-use Rattle.scope.specs.Positions.{permittedPositions}
+use Rattle.scope.specs.Positions.{floatingOf}
 use Rattle.scope.specs.Answers.{requested}
 use Rattle.placements.specs.Steps.{Moves}
 use Rattle.placements.proofs.Answers.{through, refused}
@@ -12,7 +12,7 @@ use Rattle.calls.proofs.next_placement.Tie as tie
 returns : tie.Need-returns
 returns c =
     let l = c .before .before .before .args .l in
-    let m : Moves _ l _ = refused (sym (refused-law _ _ (c .before .why-not .ensures) (c .if1 .taken) (λ t. requested (permittedPositions t) l))) in
+    let m : Moves _ l _ = refused (sym (refused-law _ _ (c .before .why-not .ensures) (c .if1 .taken) (λ t. requested (floatingOf t) l))) in
     (m .says, m .listing-after)
 
 next-by-requires : tie.Need-next-by-requires
@@ -21,7 +21,7 @@ next-by-requires c κs = let h = held (c .before .why-not .ensures) (c .if1 .lef
 returns-2 : tie.Need-returns-2
 returns-2 c =
     let l = c .before .before .before .before .args .l in
-    let m = through (answers (λ t. requested (permittedPositions t) l) (held (c .before .before .why-not .ensures) (c .before .if1 .left))) (c .next-by .ensures) in
+    let m = through (answers (λ t. requested (floatingOf t) l) (held (c .before .before .why-not .ensures) (c .before .if1 .left))) (c .next-by .ensures) in
     (m .says, m .listing-after)
 
 pub next-placement-spec : {M : Type 1} → statement M

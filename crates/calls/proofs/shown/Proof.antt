@@ -1,6 +1,6 @@
 -- `calls::shown` meets its contract.
 use mathlib.Core.Path.{_≡_, sym, ap, _∙_, subst}
-use Rattle.scope.specs.Answers.{good, refuses, aMass, lack}
+use Rattle.scope.specs.Answers.{good, aMass, lack}
 use mathlib.Core.Bool.{cond}
 use lib.Dec.{eqb}
 use Rattle.scope.specs.Masses.{total, lacking, daltons}

@@ -1,3 +1,5 @@
+-- `exchange::augment` meets its contract. The loop's invariant: the tree has grown from j, and each of the first h in it finds every position where it may stand
+-- taken by one in the tree. So a spare position is passed up to j, and a tree whose floaters are all passed shows that no placement agrees below f.
 use mathlib.Core.Path.{refl}
 use Prim.Native.Nat.{_≤_, _<_, _-_}
 use native.Mathlib.Omega.{arith}
@@ -14,9 +16,6 @@ Inv-loop tab k f j w tree₀ h₀ tree h = Searching tab k f j (w .at) (tree .n)
 abbrev μ-loop : tie.MeasureT-loop
 μ-loop tab k f j w tree₀ h₀ tree h = k - h
 
-element-write-tree : tie.Need-element-write-tree Inv-loop μ-loop
-element-write-tree c = omega arith
-
 loop-holds : tie.Need-loop-holds Inv-loop μ-loop
 loop-holds c = searching-start _ _ _ _ _ (c .before .pre) _ _ refl
 
@@ -24,8 +23,11 @@ module _ (c : tie.In-loop Inv-loop μ-loop) where
   abbrev start : tie.Start Inv-loop μ-loop
   start = c .before .before .before
 
+  below : c .before .loop .tree .n ≤ start .args .k
+  below = searching-few _ _ _ _ _ (start .pre) _ _ _ _ (c .before .loop .inv)
+
   few : c .before .loop .tree .n ≤ copyLimit
-  few = omega (arith, start .pre .sized .few, searching-few _ _ _ _ _ (start .pre) _ _ _ _ (c .before .loop .inv))
+  few = omega (arith, start .pre .sized .few, below)
 
   high : place (c .before .loop .tree .order) (c .before .loop .h) < copyLimit
   high = searching-high _ _ _ _ _ (start .pre) _ _ _ _ (c .before .loop .inv) (c .loop-test .taken)
@@ -36,37 +38,27 @@ module _ (c : tie.In-loop Inv-loop μ-loop) where
   growing : Growing (now (start .args .tab)) (start .args .k) (start .args .f) (c .before .loop .h) (start .args .w .at) (c .before .loop .tree .n) (c .before .loop .tree .order) (c .before .loop .tree .parent)
   growing = searching-growing _ _ _ _ _ (start .pre) _ _ _ _ (c .before .loop .inv) (c .loop-test .taken)
 
-mul-s : tie.Need-mul-s Inv-loop μ-loop
-mul-s c = omega (arith, few c)
-
-element-copy-out-s : tie.Need-element-copy-out-s Inv-loop μ-loop
-element-copy-out-s c = omega (arith, few c)
-
 spare-requires : tie.Need-spare-requires Inv-loop μ-loop
-spare-requires c κs = (c .before .before .before .before .pre .sized, high (c .before))
-
-shift-requires : tie.Need-shift-requires Inv-loop μ-loop
-shift-requires c κs = walk (c .before .before .before)
+spare-requires c κs = (start (c .before) .pre .sized, high (c .before))
 
 returns : tie.Need-returns Inv-loop μ-loop
-returns c = let d = c .before .before .before .before in
+returns c =
+    let d = c .before .before .before .before in
     let e = c .before .before .spare .ensures in
     let l = c .before .if1 .taken in
     searching-found _ _ _ _ _ (start d .pre) _ _ _ _ (d .before .loop .inv) _ (c .shift .result .at) (d .loop-test .taken) (e .may l) (e .clear l) (c .shift .ensures)
-
-grow-requires : tie.Need-grow-requires Inv-loop μ-loop
-grow-requires c κs = growing (c .before .before .before)
 
 add-h : tie.Need-add-h Inv-loop μ-loop
 add-h c = omega (arith, few (c .before .before .before .before))
 
 loop-less : tie.Need-loop-less Inv-loop μ-loop
-loop-less c =
-    let f = few (c .before .before .before .before) in let s = searching-few _ _ _ _ _ (start (c .before .before .before .before) .pre) _ _ _ _ (c .before .before .before .before .before .loop .inv) in omega (arith, s, c .before .before .before .before .loop-test .taken)
+loop-less c = let d = c .before .before .before .before in omega (arith, below d, d .loop-test .taken)
 
 loop-again : tie.Need-loop-again Inv-loop μ-loop
-loop-again c = let d = c .before .before .before .before in
-    searching-step _ _ _ _ _ (start d .pre) _ _ _ _ (d .before .loop .inv) _ _ _ (d .loop-test .taken) (c .before .before .spare .ensures .taken (c .before .if1 .left)) (c .grow .ensures)
+loop-again c =
+    let d = c .before .before .before .before in
+    let taken = c .before .before .spare .ensures .taken (c .before .if1 .left) in
+    searching-step _ _ _ _ _ (start d .pre) _ _ _ _ (d .before .loop .inv) _ _ _ (d .loop-test .taken) taken (c .grow .ensures)
 
 returns-2 : tie.Need-returns-2 Inv-loop μ-loop
 returns-2 c = let s = c .before .before .before in searching-end _ _ _ _ _ (s .pre) _ _ _ _ (c .before .loop .inv) (c .loop-test .left)
@@ -74,18 +66,6 @@ returns-2 c = let s = c .before .before .before in searching-end _ _ _ _ _ (s .p
 pub augment-spec : {M : Type 1} → statement M
 augment-spec =
     tie.close
-    (tie.spec
-    Inv-loop
-    μ-loop
-    element-write-tree
-    loop-holds
-    mul-s
-    element-copy-out-s
-    spare-requires
-    shift-requires
-    returns
-    grow-requires
-    add-h
-    loop-less
-    loop-again
-    returns-2)
+    (tie.spec Inv-loop μ-loop
+    (λ c. omega arith) loop-holds (λ c. omega (arith, few c)) (λ c. omega (arith, few c)) spare-requires (λ c κs. walk (c .before .before .before)) returns
+    (λ c κs. growing (c .before .before .before)) add-h loop-less loop-again returns-2)

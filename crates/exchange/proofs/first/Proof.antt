@@ -1,11 +1,13 @@
+-- `exchange::first` meets its contract. The loop's invariant: the first m floaters all stand. One that cannot be placed beside those before it leaves no
+-- placement at all; once all stand, `settle` from the first floater on gives the least.
 use mathlib.Core.Path.{_≡_}
-use mathlib.Core.Bool.{true, false}
+use mathlib.Core.Bool.{false}
 use Prim.Native.Nat.{_≤_, _-_, _+_}
 use native.Mathlib.Omega.{arith}
 use borrow.Author.Tests.{not-true, not-false}
 use Rattle.exchange.specs.Where.{Full}
 use Rattle.exchange.specs.Table.{place, mayIn}
-use Rattle.exchange.proofs.Laws.{full-none, full-less, one-more}
+use Rattle.exchange.proofs.Laws.{yes, no, full-none, full-less, one-more}
 use Rattle.exchange.proofs.first.Statement.{statement}
 use Rattle.exchange.proofs.first.Tie as tie
 
@@ -15,33 +17,34 @@ Inv-loop tab k w₀ m₀ w m = (m ≤ k) × Full (mayIn tab) m (place (w .at))
 abbrev μ-loop : tie.MeasureT-loop
 μ-loop tab k w₀ m₀ w m = k - m
 
-loop-holds : tie.Need-loop-holds Inv-loop μ-loop
-loop-holds c = (omega arith, full-none _ _)
-
 add-augment : tie.Need-add-augment Inv-loop μ-loop
-add-augment c = let p = c .before .before .before .pre in omega (arith, p .few)
+add-augment c = let start = c .before .before .before in omega (arith, start .pre .few)
 
 augment-requires : tie.Need-augment-requires Inv-loop μ-loop
-augment-requires c κs = one-more _ _ (c .before .loop .m) _ (c .before .before .before .pre) (c .loop-test .taken) (c .before .loop .inv .1)
+augment-requires c κs =
+    let start = c .before .before .before in one-more _ _ (c .before .loop .m) _ (start .pre) (c .loop-test .taken) (c .before .loop .inv .1)
 
 returns : tie.Need-returns Inv-loop μ-loop
-returns c = let no-ok : c .before .before .augment .result .ok ≡ false = not-true (c .before .before .augment .result .ok) (c .if1 .taken) in
-    rw no-ok (λ u f. (rw no-ok at (c .before .before .augment .ensures)) u (full-less _ _ (c .before .before .before .before .loop .m + 1) u (omega arith) f) (λ s l. absurd (omega arith)))
+returns c =
+    let a = c .before .before in
+    let m = a .before .before .loop .m in
+    let none : a .augment .result .ok ≡ false = not-true (a .augment .result .ok) (c .if1 .taken) in
+    rw none (λ u f. no _ _ none (a .augment .ensures) u (full-less _ _ (m + 1) u (omega arith) f) (λ s l. absurd (omega arith)))
 
 add-m : tie.Need-add-m Inv-loop μ-loop
-add-m c = let p = c .before .before .before .before .before .before .before .pre in omega (arith, p .few)
-
-loop-less : tie.Need-loop-less Inv-loop μ-loop
-loop-less c = omega arith
+add-m c = let start = c .before .before .before .before .before .before .before in omega (arith, start .pre .few)
 
 loop-again : tie.Need-loop-again Inv-loop μ-loop
 loop-again c =
-    let is-ok : c .before .before .before .augment .result .ok ≡ true = not-false (c .before .before .before .augment .result .ok) (c .before .if1 .left) in
-    (omega arith, (rw is-ok at (c .before .before .before .augment .ensures)) .0)
+    let a = c .before .before .before .augment in
+    (omega arith, yes _ _ (not-false (a .result .ok) (c .before .if1 .left)) (a .ensures) .0)
 
 settle-requires : tie.Need-settle-requires Inv-loop μ-loop
 settle-requires c κs =
-    let l = c .before .loop in let e : l .m ≡ c .before .before .before .args .k = omega arith in (c .before .before .before .pre, omega arith, rw e at (l .inv .1))
+    let l = c .before .loop in
+    let start = c .before .before .before in
+    let e : l .m ≡ start .args .k = omega arith in
+    (start .pre, omega arith, rw e at (l .inv .1))
 
 returns-2 : tie.Need-returns-2 Inv-loop μ-loop
 returns-2 c = let e = c .settle .ensures in (e .0, λ u f. e .2 u f (λ s l. absurd (omega arith)))
@@ -49,15 +52,5 @@ returns-2 c = let e = c .settle .ensures in (e .0, λ u f. e .2 u f (λ s l. abs
 pub first-spec : {M : Type 1} → statement M
 first-spec =
     tie.close
-    (tie.spec
-    Inv-loop
-    μ-loop
-    loop-holds
-    add-augment
-    augment-requires
-    returns
-    add-m
-    loop-less
-    loop-again
-    settle-requires
-    returns-2)
+    (tie.spec Inv-loop μ-loop
+    (λ c. (omega arith, full-none _ _)) add-augment augment-requires returns add-m (λ c. omega arith) loop-again settle-requires returns-2)

@@ -1,3 +1,4 @@
+-- `exchange::grow` meets its contract. The loop's invariant: the tree has grown by every floater below t that stands where the h-th may.
 use Prim.Native.Nat.{_≤_, _-_}
 use native.Mathlib.Omega.{arith}
 use Rattle.exchange.specs.Table.{Grew}
@@ -12,26 +13,22 @@ abbrev μ-loop : tie.MeasureT-loop
 μ-loop tab w k f h g₀ t₀ g t = k - t
 
 loop-holds : tie.Need-loop-holds Inv-loop μ-loop
-loop-holds c = let p = c .before .pre in (omega arith, grew-start _ _ _ _ _ _ _ _ p)
+loop-holds c = (omega arith, grew-start _ _ _ _ _ _ _ _ (c .before .pre))
 
 push-requires : tie.Need-push-requires Inv-loop μ-loop
 push-requires c κs =
-    let p = c .before .before .before .pre in (growing-on _ _ _ _ _ _ _ _ _ _ _ _ _ p (c .before .loop .inv .1), c .before .loop .inv .0, c .loop-test .taken)
-
-add-t : tie.Need-add-t Inv-loop μ-loop
-add-t c = omega arith
-
-loop-less : tie.Need-loop-less Inv-loop μ-loop
-loop-less c = omega arith
+    let start = c .before .before .before in
+    let inv = c .before .loop .inv in
+    (growing-on _ _ _ _ _ _ _ _ _ _ _ _ _ (start .pre) (inv .1), inv .0, c .loop-test .taken)
 
 loop-again : tie.Need-loop-again Inv-loop μ-loop
 loop-again c =
-    let p = c .before .before .before .before .pre in (omega arith, grew-trans _ _ _ _ _ _ _ _ _ _ _ _ _ _ _ p (c .before .before .loop .inv .1) (c .push .ensures))
+    let l = c .before .before in
+    let start = l .before .before in
+    (omega arith, grew-trans _ _ _ _ _ _ _ _ _ _ _ _ _ _ _ (start .pre) (l .loop .inv .1) (c .push .ensures))
 
 returns : tie.Need-returns Inv-loop μ-loop
 returns c = grew-cut _ _ _ _ _ (c .before .loop .t) _ _ _ _ _ _ (omega arith) (c .before .loop .inv .1)
 
 pub grow-spec : {M : Type 1} → statement M
-grow-spec =
-    tie.close
-    (tie.spec Inv-loop μ-loop loop-holds push-requires add-t loop-less loop-again returns)
+grow-spec = tie.close (tie.spec Inv-loop μ-loop loop-holds push-requires (λ c. omega arith) (λ c. omega arith) loop-again returns)

@@ -1,4 +1,4 @@
-use Prim.Native.Nat.{_-_}
+-- `exchange::lowered` meets its contract: the least below where i stands now, if `seek` finds one, and else where it stands.
 use native.Mathlib.Omega.{arith}
 use Rattle.exchange.proofs.Least.{lowered-yes, lowered-no}
 use Rattle.exchange.specs.Table.{place}
@@ -14,14 +14,19 @@ element-copy-out-x c = let p = c .before .pre in omega (arith, p .inside, p .siz
 
 seek-requires : tie.Need-seek-requires
 seek-requires c κs =
-    let s = c .before .before in (s .pre, let l = full-small _ _ (s .args .i) (place (s .args .t4 .at)) (s .pre .full) (s .pre .inside) in omega (arith, l))
+    let start = c .before .before in
+    let l = full-small _ _ (start .args .i) (place (start .args .t4 .at)) (start .pre .full) (start .pre .inside) in
+    (start .pre, omega (arith, l))
 
 returns : tie.Need-returns
-returns c = lowered-yes _ _ _ _ (place (c .before .before .seek .result .at .at)) (rw (c .before .if1 .taken) at (c .before .before .seek .ensures))
+returns c =
+    let found = c .before .before .seek in lowered-yes _ _ _ _ (place (found .result .at .at)) (rw (c .before .if1 .taken) at (found .ensures))
 
 returns-2 : tie.Need-returns-2
 returns-2 c =
-    let s = c .before .before .before .before in lowered-no _ _ _ (place (s .args .t4 .at)) (place (c .before .seek .result .at .at)) (s .pre .full) (rw (c .if1 .left) at (c .before .seek .ensures))
+    let sought = c .before in
+    let start = sought .before .before .before in
+    lowered-no _ _ _ (place (start .args .t4 .at)) (place (sought .seek .result .at .at)) (start .pre .full) (rw (c .if1 .left) at (sought .seek .ensures))
 
 pub lowered-spec : {M : Type 1} → statement M
 lowered-spec = tie.close (tie.spec mul-x element-copy-out-x seek-requires returns returns-2)

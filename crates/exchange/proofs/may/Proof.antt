@@ -1,5 +1,5 @@
+-- `exchange::may` meets its contract: the byte of s at x is 1.
 use mathlib.Core.Path.{sym}
-use Prim.Native.Nat.{_-_}
 use native.Mathlib.Omega.{arith}
 use denote.Ref.{now}
 use Rattle.exchange.proofs.Laws.{ok-is}

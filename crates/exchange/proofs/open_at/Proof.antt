@@ -1,5 +1,5 @@
+-- `exchange::open_at` meets its contract: s may stand at x, and the first other that stands there is none.
 use mathlib.Core.Path.{sym, _∙_}
-use Prim.Native.Nat.{_-_}
 use denote.Ref.{now}
 use Rattle.exchange.proofs.Laws.{open-law, open-not}
 use Rattle.exchange.proofs.open_at.Statement.{statement}
@@ -9,15 +9,18 @@ may-requires : tie.Need-may-requires
 may-requires c κs = let p = c .before .pre in (p .0 .room, p .1, p .2)
 
 owner-requires : tie.Need-owner-requires
-owner-requires c κs = c .before .before .before .pre .0 .few
+owner-requires c κs = let start = c .before .before .before in start .pre .0 .few
 
 returns : tie.Need-returns
 returns c =
-    let a = c .before .before .before .before .args in open-law (now (a .tab)) (a .w .at) (a .k) (a .but) (a .s) (a .x) _ (sym (c .before .before .may .ensures) ∙ c .before .if1 .taken) (c .owner .ensures)
+    let asked = c .before .before in
+    let a = asked .before .before .args in
+    open-law (now (a .tab)) (a .w .at) (a .k) (a .but) (a .s) (a .x) _ (sym (asked .may .ensures) ∙ c .before .if1 .taken) (c .owner .ensures)
 
 returns-2 : tie.Need-returns-2
 returns-2 c =
-    let a = c .before .before .before .args in open-not (now (a .tab)) (a .w .at) (a .k) (a .but) (a .s) (a .x) (sym (c .before .may .ensures) ∙ c .if1 .left)
+    let a = c .before .before .before .args in
+    open-not (now (a .tab)) (a .w .at) (a .k) (a .but) (a .s) (a .x) (sym (c .before .may .ensures) ∙ c .if1 .left)
 
 pub open-at-spec : {M : Type 1} → statement M
 open-at-spec = tie.close (tie.spec may-requires owner-requires returns returns-2)

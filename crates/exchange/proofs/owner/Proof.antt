@@ -1,3 +1,4 @@
+-- `exchange::owner` meets its contract. The loop's invariant: nobody below t, other than `but`, stands at x.
 use mathlib.Core.Path.{_≡_}
 use Prim.Native.Nat.{ℕ, _≤_, _<_, _-_}
 use native.Mathlib.Omega.{arith}
@@ -16,18 +17,11 @@ abbrev μ-loop : tie.MeasureT-loop
 loop-holds : tie.Need-loop-holds Inv-loop μ-loop
 loop-holds c = (omega arith, λ u l. absurd (omega arith))
 
-stands-requires : tie.Need-stands-requires Inv-loop μ-loop
-stands-requires c κs = omega arith
-
 returns : tie.Need-returns Inv-loop μ-loop
 returns c =
-    let v = yes _ _ (c .if1 .taken) (c .before .stands .ensures) in record { inside = omega arith; other = λ l. v .0; stands = λ l. v .1; before = c .before .before .before .loop .inv .1 }
-
-add-t : tie.Need-add-t Inv-loop μ-loop
-add-t c = omega arith
-
-loop-less : tie.Need-loop-less Inv-loop μ-loop
-loop-less c = omega arith
+    let inv = c .before .before .before .loop .inv in
+    let v = yes _ _ (c .if1 .taken) (c .before .stands .ensures) in
+    record { inside = omega arith; other = λ l. v .0; stands = λ l. v .1; before = inv .1 }
 
 loop-again : tie.Need-loop-again Inv-loop μ-loop
 loop-again c = (omega arith, below-more _ _ (c .before .before .before .loop .inv .1) (no _ _ (c .if1 .left) (c .before .stands .ensures)))
@@ -39,13 +33,4 @@ returns-2 c =
 pub owner-spec : {M : Type 1} → statement M
 owner-spec =
     tie.close
-    (tie.spec
-    Inv-loop
-    μ-loop
-    loop-holds
-    stands-requires
-    returns
-    add-t
-    loop-less
-    loop-again
-    returns-2)
+    (tie.spec Inv-loop μ-loop loop-holds (λ c κs. omega arith) returns (λ c. omega arith) (λ c. omega arith) loop-again returns-2)

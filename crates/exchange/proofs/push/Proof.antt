@@ -1,7 +1,9 @@
+-- `exchange::push` meets its contract: t is listed already; or it is new and stands where the h-th may, so it is listed behind the others, of which there are
+-- then fewer than floaters; or it stands elsewhere.
 use mathlib.Core.Path.{_≡_, sym, _∙_}
-use mathlib.Core.Bool.{true, false, true≢false}
+use mathlib.Core.Bool.{true, true≢false}
 use mathlib.Core.List.{List}
-use Prim.Native.Nat.{ℕ, _≤_, _<_, _-_}
+use Prim.Native.Nat.{ℕ, _≤_, _<_}
 use native.Mathlib.Omega.{arith}
 use denote.Ref.{now}
 use lib.ListN.{length}
@@ -31,7 +33,7 @@ module _ (c : tie.Then2) where
       omega (arith, g .sized .few, grown-less _ _ _ _ _ _ _ _ (start .args .h) (start .args .t) (g .grown) (start .pre .1) (start .pre .2) (g .inside) new may-ok)
 
 listed-requires : tie.Need-listed-requires
-listed-requires c κs = let g = c .before .pre .0 in omega (arith, few g)
+listed-requires c κs = few (c .before .pre .0)
 
 returns : tie.Need-returns
 returns c =
@@ -44,39 +46,32 @@ element-copy-out-s : tie.Need-element-copy-out-s
 element-copy-out-s c = let g = c .before .before .before .pre .0 in omega (arith, few g, g .inside)
 
 may-requires : tie.Need-may-requires
-may-requires c κs = let s = c .before .before .before .before .before in
+may-requires c κs =
+    let asked = c .before .before in
+    let s = asked .before .before .before in
     let g = s .pre .0 in
-    let new = no _ _ (c .before .before .if1 .left) (c .before .before .before .listed .ensures) in
-    (g .sized .room, omega (arith, g .grown .high (s .args .h) (g .inside), g .sized .few), stands-well (now (s .args .tab)) _ _ (s .args .t) (s .args .t2 .at) (g .but) (s .pre .2) (λ e. new 0 (g .grown .some) (sym e)))
-
-mul-g : tie.Need-mul-g
-mul-g c = omega (arith, lower c)
-
-element-write-g : tie.Need-element-write-g
-element-write-g c = lower c
-
-mul-g-2 : tie.Need-mul-g-2
-mul-g-2 c = omega (arith, lower c)
-
-element-write-g-2 : tie.Need-element-write-g-2
-element-write-g-2 c = lower c
-
-add-g : tie.Need-add-g
-add-g c = omega (arith, lower c)
+    let new = no _ _ (asked .if1 .left) (asked .before .listed .ensures) in (
+      g .sized .room,
+      omega (arith, g .grown .high (s .args .h) (g .inside), g .sized .few),
+      stands-well (now (s .args .tab)) _ _ (s .args .t) (s .args .t2 .at) (g .but) (s .pre .2) (λ e. new 0 (g .grown .some) (sym e)),
+    )
 
 returns-2 : tie.Need-returns-2
-returns-2 c = let s = c .before .before .before .before .before .before .before in
+returns-2 c =
+    let s = start c in
     let o8 : length (s .args .t7 .order) ≡ copyLimit = search needs in
     let p8 : length (s .args .t7 .parent) ≡ copyLimit = search needs in
     grew-push _ _ _ _ _ (s .args .t) _ _ _ (s .pre .0) (s .pre .1) (s .pre .2) (new c) (may-ok c) (rw o8 (lower c)) (rw p8 (lower c))
 
 returns-3 : tie.Need-returns-3
-returns-3 c = let s = c .before .before .before .before .before .before .before in
-    grew-same _ _ _ _ _ (s .args .t) _ _ _ (s .pre .0) (λ o. absurd (true≢false (sym o ∙ sym (c .before .may .ensures) ∙ c .if2 .left)))
+returns-3 c =
+    let asked = c .before in
+    let s = asked .before .before .before .before .before .before in
+    grew-same _ _ _ _ _ (s .args .t) _ _ _ (s .pre .0) (λ o. absurd (true≢false (sym o ∙ sym (asked .may .ensures) ∙ c .if2 .left)))
 
 pub push-spec : {M : Type 1} → statement M
 push-spec =
     tie.close
     (tie.spec
-    listed-requires returns mul-s element-copy-out-s (λ c. search needs) (λ c. search needs) may-requires mul-g element-write-g mul-g-2
-    element-write-g-2 add-g returns-2 returns-3)
+    listed-requires returns mul-s element-copy-out-s (λ c. search needs) (λ c. search needs) may-requires
+    (λ c. omega (arith, lower c)) lower (λ c. omega (arith, lower c)) lower (λ c. omega (arith, lower c)) returns-2 returns-3)

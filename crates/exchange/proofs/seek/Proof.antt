@@ -1,3 +1,4 @@
+-- `exchange::seek` meets its contract. The loop's invariant: no placement has i from `from` on and below y, those below i unmoved.
 use Prim.Native.Nat.{_≤_, _-_}
 use native.Mathlib.Omega.{arith}
 use Rattle.exchange.proofs.Least.{Passed, passed-more, sought}
@@ -19,15 +20,12 @@ attempt-requires : tie.Need-attempt-requires Inv-loop μ-loop
 attempt-requires c κs = let p = c .before .before .before .pre in (p .0, omega (arith, p .1, c .loop-test .taken))
 
 returns : tie.Need-returns Inv-loop μ-loop
-returns c = let v = yes _ _ (c .if1 .taken) (c .before .attempt .ensures) in
-    let l = c .before .before .before .loop in
-    rw (c .if1 .taken) (sought _ _ _ _ _ (l .y) _ (place (c .before .attempt .result .at .at)) (l .inv .1) (l .inv .0) (c .before .before .loop-test .taken) (v .0) (v .1) (v .2))
-
-add-y : tie.Need-add-y Inv-loop μ-loop
-add-y c = omega arith
-
-loop-less : tie.Need-loop-less Inv-loop μ-loop
-loop-less c = omega arith
+returns c =
+    let tried = c .before in
+    let l = tried .before .before .loop in
+    let v = yes _ _ (c .if1 .taken) (tried .attempt .ensures) in
+    rw (c .if1 .taken)
+    (sought _ _ _ _ _ (l .y) _ (place (tried .attempt .result .at .at)) (l .inv .1) (l .inv .0) (tried .before .loop-test .taken) (v .0) (v .1) (v .2))
 
 loop-again : tie.Need-loop-again Inv-loop μ-loop
 loop-again c = (omega arith, passed-more _ _ _ _ _ _ (c .before .before .before .loop .inv .1) (no _ _ (c .if1 .left) (c .before .attempt .ensures)))
@@ -38,13 +36,4 @@ returns-2 c = λ u f s l m. c .before .loop .inv .1 u f s l (omega (arith, c .lo
 pub seek-spec : {M : Type 1} → statement M
 seek-spec =
     tie.close
-    (tie.spec
-    Inv-loop
-    μ-loop
-    loop-holds
-    attempt-requires
-    returns
-    add-y
-    loop-less
-    loop-again
-    returns-2)
+    (tie.spec Inv-loop μ-loop loop-holds attempt-requires returns (λ c. omega arith) (λ c. omega arith) loop-again returns-2)

@@ -1,3 +1,4 @@
+-- `exchange::settle` meets its contract. The loop's invariant: w agrees with where the search began below `from`, and is the least up to i.
 use mathlib.Core.Path.{_≡_}
 use Prim.Native.Nat.{_≤_, _-_}
 use native.Mathlib.Omega.{arith}
@@ -17,23 +18,23 @@ loop-holds c = let p = c .before .pre in (omega arith, p .1, settle-start _ _ _ 
 
 lowered-requires : tie.Need-lowered-requires Inv-loop μ-loop
 lowered-requires c κs =
-    let p = c .before .before .before .pre in record { sized = p .0; full = c .before .loop .inv .2 .full; inside = c .loop-test .taken }
+    let start = c .before .before .before in record { sized = start .pre .0; full = c .before .loop .inv .2 .full; inside = c .loop-test .taken }
 
 add-i : tie.Need-add-i Inv-loop μ-loop
-add-i c = let p = c .before .before .before .before .pre in omega (arith, p .0 .few)
-
-loop-less : tie.Need-loop-less Inv-loop μ-loop
-loop-less c = omega arith
+add-i c = let start = c .before .before .before .before in omega (arith, start .pre .0 .few)
 
 loop-again : tie.Need-loop-again Inv-loop μ-loop
 loop-again c =
-    let l = c .before .before .loop in let e = c .lowered .ensures in (omega arith, omega arith, settle-step _ _ _ _ _ (place (l .w .at)) (place (c .lowered .result .at)) (l .inv .0) (l .inv .2) (e .0) (e .1) (e .2))
+    let l = c .before .before .loop in
+    let e = c .lowered .ensures in
+    (omega arith, omega arith, settle-step _ _ _ _ _ (place (l .w .at)) (place (c .lowered .result .at)) (l .inv .0) (l .inv .2) (e .0) (e .1) (e .2))
 
 returns : tie.Need-returns Inv-loop μ-loop
 returns c =
-    let l = c .before .loop in let e : l .i ≡ c .before .before .before .args .k = omega arith in settle-end _ _ _ _ (place (l .w .at)) (rw e at (l .inv .2))
+    let l = c .before .loop in
+    let start = c .before .before .before in
+    let e : l .i ≡ start .args .k = omega arith in
+    settle-end _ _ _ _ (place (l .w .at)) (rw e at (l .inv .2))
 
 pub settle-spec : {M : Type 1} → statement M
-settle-spec =
-    tie.close
-    (tie.spec Inv-loop μ-loop loop-holds lowered-requires add-i loop-less loop-again returns)
+settle-spec = tie.close (tie.spec Inv-loop μ-loop loop-holds lowered-requires add-i (λ c. omega arith) loop-again returns)

@@ -1,3 +1,4 @@
+-- `exchange::spare` meets its contract. The loop's invariant: on each position below x where s may stand somebody other than `but` does.
 use mathlib.Core.Path.{_≡_}
 use mathlib.Core.Bool.{true}
 use Prim.Native.Nat.{ℕ, _≤_, _<_, _-_}
@@ -26,12 +27,6 @@ returns : tie.Need-returns Inv-loop μ-loop
 returns c =
     let v = yes _ _ (c .if1 .taken) (c .before .open-at .ensures) in record { may = λ l. v .0; clear = λ l. v .1; taken = λ l. absurd (omega arith) }
 
-add-x : tie.Need-add-x Inv-loop μ-loop
-add-x c = omega arith
-
-loop-less : tie.Need-loop-less Inv-loop μ-loop
-loop-less c = omega arith
-
 loop-again : tie.Need-loop-again Inv-loop μ-loop
 loop-again c = (omega arith, below-more _ _ (c .before .before .before .loop .inv .1) (no _ _ (c .if1 .left) (c .before .open-at .ensures)))
 
@@ -42,13 +37,4 @@ returns-2 c =
 pub spare-spec : {M : Type 1} → statement M
 spare-spec =
     tie.close
-    (tie.spec
-    Inv-loop
-    μ-loop
-    loop-holds
-    open-at-requires
-    returns
-    add-x
-    loop-less
-    loop-again
-    returns-2)
+    (tie.spec Inv-loop μ-loop loop-holds open-at-requires returns (λ c. omega arith) (λ c. omega arith) loop-again returns-2)

@@ -1,4 +1,4 @@
--- `placements::begun` meets its contract.
+-- `placements::begun` meets its contract: eight zeros are a fresh record, which gets what the search finds first; other entries get 18.
 use mathlib.Core.Path.{_≡_}
 use denote.Ref.{now}
 use lib.ListN.{length}
@@ -11,10 +11,13 @@ use Rattle.placements.proofs.begun.Tie as tie
 
 told-requires : tie.Need-told-requires
 told-requires c κs =
-    let s = c .before .before .before .before .before in (s .pre .0 .few, first-small (now (s .args .tab)) _ (c .first .result .ok) (c .first .result .at .at) (c .first .ensures))
+    let s = c .before .before .before .before .before in
+    let v = c .first in
+    (s .pre .0 .few, first-small (now (s .args .tab)) _ (v .result .ok) (v .result .at .at) (v .ensures))
 
 returns : tie.Need-returns
-returns c = let s = c .before .before .before .before .before .before in
+returns c =
+    let s = c .before .before .before .before .before .before in
     let f = c .before .first in
     let n : length (s .args .l .at) ≡ copyLimit = search needs in
     let m : length (f .result .at .at) ≡ copyLimit = search needs in
@@ -22,7 +25,8 @@ returns c = let s = c .before .before .before .before .before .before in
     (yes _ _ (c .before .before .if1 .taken) (c .before .before .before .unused .ensures)) m (f .ensures)) (c .told .ensures)
 
 returns-2 : tie.Need-returns-2
-returns-2 c = let s = c .before .before .before .before in
+returns-2 c =
+    let s = c .before .before .before .before in
     refused (begun-refused (now (s .args .tab)) (s .args .k) (s .args .l) (s .pre .1) (no _ _ (c .if1 .left) (c .before .unused .ensures)))
 
 pub begun-spec : {M : Type 1} → statement M

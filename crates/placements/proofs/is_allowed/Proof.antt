@@ -1,3 +1,4 @@
+-- `placements::is_allowed` meets its contract: allowed is what has zeros from k on and the first k standing where they may, alone.
 use mathlib.Core.Path.{_≡_}
 use lib.ListN.{length}
 use Rattle.scope.specs.Limits.{copyLimit}
@@ -7,14 +8,20 @@ use borrow.Author.Needs.{needs}
 use Rattle.placements.proofs.is_allowed.Statement.{statement}
 use Rattle.placements.proofs.is_allowed.Tie as tie
 
+long : (start : tie.Start) → length (start .args .p .at) ≡ copyLimit
+long start = search needs
+
 returns : tie.Need-returns
-returns c = let s = c .before .before .before .before .before .before in
-    let n : length (s .args .p .at) ≡ copyLimit = search needs in
-    allowed-is _ _ (s .args .p .at) (c .before .widened .result .at) (c .stand .result) (s .pre) n (yes _ _ (c .before .before .if1 .taken) (c .before .before .before .unused .ensures)) (c .before .widened .ensures) (c .stand .ensures)
+returns c =
+    let widened = c .before in
+    let asked = widened .before in
+    let start = asked .before .before .before .before in
+    let zeros = yes _ _ (asked .if1 .taken) (asked .before .unused .ensures) in
+    allowed-is _ _ (start .args .p .at) (widened .widened .result .at) (c .stand .result) (start .pre) (long start) zeros (widened .widened .ensures) (c .stand .ensures)
 
 returns-2 : tie.Need-returns-2
-returns-2 c = let s = c .before .before .before .before in
-    allowed-not _ _ (s .args .p .at) (s .pre) (no _ _ (c .if1 .left) (c .before .unused .ensures))
+returns-2 c =
+    let start = c .before .before .before .before in allowed-not _ _ (start .args .p .at) (start .pre) (no _ _ (c .if1 .left) (c .before .unused .ensures))
 
 pub is-allowed-spec : {M : Type 1} → statement M
 is-allowed-spec =

@@ -1,4 +1,4 @@
--- `placements::narrowed` meets its contract: entries are put one by one over `Placement::none`. Assumes nothing.
+-- `placements::narrowed` meets its contract: entries are put one by one over `Placement::none`. The loop's invariant: the first s are put, and zeros stand behind.
 use mathlib.Core.Path.{_≡_, refl, ap, _∙_}
 use Prim.Native.Nat.{_≤_, _<_, _-_}
 use native.Mathlib.Omega.{arith}

@@ -1,3 +1,4 @@
+-- `placements::stand` meets its contract. The loop's invariant: each below s stands where it may, alone.
 use mathlib.Core.Path.{_≡_}
 use mathlib.Core.Bool.{true}
 use Prim.Native.Nat.{ℕ, _≤_, _<_, _-_}
@@ -16,24 +17,19 @@ Inv-loop tab k w s₀ s =
 abbrev μ-loop : tie.MeasureT-loop
 μ-loop tab k w s₀ s = k - s
 
-loop-holds : tie.Need-loop-holds Inv-loop μ-loop
-loop-holds c = (omega arith, λ u l. absurd (omega arith))
-
 alone-requires : tie.Need-alone-requires Inv-loop μ-loop
-alone-requires c κs = (c .before .before .before .pre, c .loop-test .taken)
+alone-requires c κs = let start = c .before .before .before in (start .pre, c .loop-test .taken)
 
 returns : tie.Need-returns Inv-loop μ-loop
-returns c = no _ _ (not-true (c .before .alone .result) (c .if1 .taken)) (c .before .alone .ensures)
+returns c = let a = c .before .alone in no _ _ (not-true (a .result) (c .if1 .taken)) (a .ensures)
 
 add-s : tie.Need-add-s Inv-loop μ-loop
-add-s c = let p = c .before .before .before .before .before .pre in omega (arith, p .few)
-
-loop-less : tie.Need-loop-less Inv-loop μ-loop
-loop-less c = omega arith
+add-s c = let start = c .before .before .before .before .before in omega (arith, start .pre .few)
 
 loop-again : tie.Need-loop-again Inv-loop μ-loop
 loop-again c =
-    (omega arith, below-more _ _ (c .before .before .before .loop .inv .1) (yes _ _ (not-false (c .before .alone .result) (c .if1 .left)) (c .before .alone .ensures)))
+    let a = c .before .alone in
+    (omega arith, below-more _ _ (c .before .before .before .loop .inv .1) (yes _ _ (not-false (a .result) (c .if1 .left)) (a .ensures)))
 
 returns-2 : tie.Need-returns-2 Inv-loop μ-loop
 returns-2 c = let h = c .before .loop .inv .1 in record { fits = λ s l. h s (omega arith) .0; apart = λ s t l m e. h s (omega arith) .1 t m e }
@@ -41,13 +37,4 @@ returns-2 c = let h = c .before .loop .inv .1 in record { fits = λ s l. h s (om
 pub stand-spec : {M : Type 1} → statement M
 stand-spec =
     tie.close
-    (tie.spec
-    Inv-loop
-    μ-loop
-    loop-holds
-    alone-requires
-    returns
-    add-s
-    loop-less
-    loop-again
-    returns-2)
+    (tie.spec Inv-loop μ-loop (λ c. (omega arith, λ u l. absurd (omega arith))) alone-requires returns add-s (λ c. omega arith) loop-again returns-2)

@@ -1,6 +1,5 @@
--- `placements::told` meets its contract.
+-- `placements::told` meets its contract: what was found is handed out, the first k entries and zeros; where nothing was, 17.
 use Rattle.placements.proofs.Answers.{told-found, told-none}
-use borrow.Author.Needs.{needs}
 use Rattle.placements.proofs.told.Statement.{statement}
 use Rattle.placements.proofs.told.Tie as tie
 

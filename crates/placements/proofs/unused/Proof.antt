@@ -1,4 +1,4 @@
--- `placements::unused` meets its contract. Assumes nothing.
+-- `placements::unused` meets its contract. The loop's invariant: the entries from k on and below s are zero.
 use mathlib.Core.Path.{_≡_}
 use Prim.Native.Nat.{ℕ, _≤_, _<_, _-_}
 use native.Mathlib.Omega.{arith}
@@ -14,23 +14,8 @@ Inv-loop k p s₀ s = (k ≤ s) × ((t : ℕ) → t < s → k ≤ t → place p 
 abbrev μ-loop : tie.MeasureT-loop
 μ-loop k p s₀ s = copyLimit - s
 
-loop-holds : tie.Need-loop-holds Inv-loop μ-loop
-loop-holds c = (omega arith, λ t l m. absurd (omega arith))
-
-mul-if1 : tie.Need-mul-if1 Inv-loop μ-loop
-mul-if1 c = omega arith
-
-array-read-if1 : tie.Need-array-read-if1 Inv-loop μ-loop
-array-read-if1 c = omega arith
-
 returns : tie.Need-returns Inv-loop μ-loop
 returns c = λ z. let l = c .before .before .loop in c .if1 .taken (z (l .s) (l .inv .0) (omega arith))
-
-add-s : tie.Need-add-s Inv-loop μ-loop
-add-s c = omega arith
-
-loop-less : tie.Need-loop-less Inv-loop μ-loop
-loop-less c = omega arith
 
 loop-again : tie.Need-loop-again Inv-loop μ-loop
 loop-again c = (omega arith, below-more _ _ (c .before .before .loop .inv .1) (λ m. c .if1 .left))
@@ -41,14 +26,5 @@ returns-2 c = λ t l m. c .before .loop .inv .1 t (omega (arith, c .loop-test .l
 pub unused-spec : {M : Type 1} → statement M
 unused-spec =
     tie.close
-    (tie.spec
-    Inv-loop
-    μ-loop
-    loop-holds
-    mul-if1
-    array-read-if1
-    returns
-    add-s
-    loop-less
-    loop-again
-    returns-2)
+    (tie.spec Inv-loop μ-loop
+    (λ c. (omega arith, λ t l m. absurd (omega arith))) (λ c. omega arith) (λ c. omega arith) returns (λ c. omega arith) (λ c. omega arith) loop-again returns-2)

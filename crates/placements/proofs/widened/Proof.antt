@@ -1,4 +1,4 @@
--- `placements::widened` meets its contract. Assumes nothing.
+-- `placements::widened` meets its contract. The loop's invariant: the first s entries are put.
 use mathlib.Core.Path.{_≡_, refl, sym, _∙_}
 use Prim.Native.Nat.{_≤_, _-_}
 use native.Mathlib.Omega.{arith}
@@ -18,51 +18,21 @@ Inv-loop p w₀ s₀ w s = (s ≤ copyLimit) × Same s (place p) (place (w .at))
 abbrev μ-loop : tie.MeasureT-loop
 μ-loop p w₀ s₀ w s = copyLimit - s
 
-loop-holds : tie.Need-loop-holds Inv-loop μ-loop
-loop-holds c = (omega arith, (λ u l. absurd (omega arith)), refl)
-
-mul-wide : tie.Need-mul-wide Inv-loop μ-loop
-mul-wide c = omega arith
-
-array-read-wide : tie.Need-array-read-wide Inv-loop μ-loop
-array-read-wide c = omega arith
-
-wide-requires : tie.Need-wide-requires Inv-loop μ-loop
-wide-requires c κs = tt
-
-mul-w : tie.Need-mul-w Inv-loop μ-loop
-mul-w c = omega arith
-
-element-write-w : tie.Need-element-write-w Inv-loop μ-loop
-element-write-w c = omega arith
-
-add-s : tie.Need-add-s Inv-loop μ-loop
-add-s c = omega arith
-
-loop-less : tie.Need-loop-less Inv-loop μ-loop
-loop-less c = omega arith
-
 loop-again : tie.Need-loop-again Inv-loop μ-loop
 loop-again c =
-    let l = c .before .before .loop in (omega arith, same-set (c .before .before .before .args .t1) (l .w .at) (l .s) _ (let e = l .inv .2 in omega arith) (l .inv .1) (c .wide .ensures), simp length-set (l .inv .2))
+    let l = c .before .before .loop in
+    let start = c .before .before .before in
+    (omega arith, same-set (start .args .t1) (l .w .at) (l .s) _ (let e = l .inv .2 in omega arith) (l .inv .1) (c .wide .ensures), simp length-set (l .inv .2))
 
 returns : tie.Need-returns Inv-loop μ-loop
 returns c =
-    let l = c .before .loop in let n : length (c .before .before .args .t1) ≡ copyLimit = search needs in ext-getD 0 _ _ (l .inv .2 ∙ sym n) (λ i m. sym (l .inv .1 i (let e = l .inv .2 in omega arith)))
+    let l = c .before .loop in
+    let n : length (c .before .before .args .t1) ≡ copyLimit = search needs in
+    ext-getD 0 _ _ (l .inv .2 ∙ sym n) (λ i m. sym (l .inv .1 i (let e = l .inv .2 in omega arith)))
 
 pub widened-spec : {M : Type 1} → statement M
 widened-spec =
     tie.close
-    (tie.spec
-    Inv-loop
-    μ-loop
-    loop-holds
-    mul-wide
-    array-read-wide
-    wide-requires
-    mul-w
-    element-write-w
-    add-s
-    loop-less
-    loop-again
-    returns)
+    (tie.spec Inv-loop μ-loop
+    (λ c. (omega arith, (λ u l. absurd (omega arith)), refl)) (λ c. omega arith) (λ c. omega arith) (λ c κs. tt) (λ c. omega arith) (λ c. omega arith)
+    (λ c. omega arith) (λ c. omega arith) loop-again returns)

@@ -2,6 +2,7 @@
 use Prim.Native.Nat.{_-_}
 use Rattle.positions.specs.Legible.{legible}
 use Rattle.positions.proofs.Rows.{free-is}
+use Rattle.positions.proofs.Found.{floaters-inside}
 use Rattle.positions.proofs.Whole.{Filling, filling-start, filling-next, filling-end}
 use borrow.Author.Needs.{needs}
 use native.Mathlib.Omega.{arith}
@@ -48,7 +49,7 @@ fill-row-requires c κs =
     let out = loop .before .before in
     let start = out .before .before .before .before .before in (
       legible (start .pre .0),
-      omega (arith, index .wide .ensures .0, start .pre .1 .inside (loop .loop .g) (turn .loop-test .taken)),
+      omega (arith, index .wide .ensures .0, floaters-inside (start .pre .1) (loop .loop .g) (turn .loop-test .taken)),
       (λ ns. free-is _ ns (out .strike-out .ensures ns)),
       omega (arith, start .pre .1 .few, loop .loop .inv .kept),
     )

@@ -1,4 +1,4 @@
--- `positions::find_floaters` meets its contract. Assumes nothing.
+-- `positions::find_floaters` meets its contract. The loop's invariant: the floaters of the brackets before k are found.
 use mathlib.Core.Path.{refl}
 use Prim.Native.Nat.{_-_}
 use Rattle.brackets.specs.Row.{row}
@@ -9,50 +9,34 @@ use Rattle.positions.proofs.find_floaters.Statement.{statement}
 use Rattle.positions.proofs.find_floaters.Tie as tie
 
 abbrev Inv-loop : tie.InvT-loop
-Inv-loop bytes numbers b f₀ k₀ f k = Finding bytes numbers b k (f .count) (f .index)
+Inv-loop bytes numbers b f₀ k₀ f k = Finding bytes numbers b k (f .count) (f .index) (f .copy)
 
 abbrev μ-loop : tie.MeasureT-loop
 μ-loop bytes numbers b f₀ k₀ f k = b - k
 
-brackets-requires : tie.Need-brackets-requires Inv-loop μ-loop
-brackets-requires c κs = search needs
-
 loop-holds : tie.Need-loop-holds Inv-loop μ-loop
-loop-holds c = finding-start _ _ _ _ (c .brackets .ensures .0) refl
+loop-holds c = finding-start _ _ _ _ _ (c .brackets .ensures .0) refl refl
 
 copies-of-requires : tie.Need-copies-of-requires Inv-loop μ-loop
-copies-of-requires c κs = row (c .before .before .before .before .pre .0) _ (omega arith)
-
-cast-add-copies : tie.Need-cast-add-copies Inv-loop μ-loop
-cast-add-copies c = search needs
+copies-of-requires c κs = let start = c .before .before .before .before in row (start .pre .0) _ (omega arith)
 
 add-copies-requires : tie.Need-add-copies-requires Inv-loop μ-loop
-add-copies-requires c κs = finding-few (c .before .before .loop .inv) (c .before .before .before .before .before .pre .1) (c .before .loop-test .taken) (c .copies-of .ensures)
-
-add-k : tie.Need-add-k Inv-loop μ-loop
-add-k c = search needs
-
-loop-less : tie.Need-loop-less Inv-loop μ-loop
-loop-less c = omega arith
+add-copies-requires c κs =
+    let l = c .before .before in
+    let start = l .before .before .before in
+    finding-few (l .loop .inv) (start .pre .1) (c .before .loop-test .taken) (c .copies-of .ensures _)
 
 loop-again : tie.Need-loop-again Inv-loop μ-loop
-loop-again c = finding-next (c .before .before .before .loop .inv) (c .before .before .before .before .before .before .pre .1) (c .before .before .loop-test .taken) (c .before .copies-of .ensures) (c .add-copies .ensures .0) (c .add-copies .ensures .1) (c .add-copies .ensures .2)
+loop-again c =
+    let l = c .before .before .before in
+    let start = l .before .before .before in
+    finding-next (l .loop .inv) (start .pre .1) (c .before .before .loop-test .taken) (c .before .copies-of .ensures _) (c .add-copies .ensures)
 
 returns : tie.Need-returns Inv-loop μ-loop
-returns c = finding-end (c .before .loop .inv) (c .loop-test .left) (c .before .before .brackets .ensures .0)
+returns c = finding-end (c .before .loop .inv) (c .loop-test .left)
 
 pub find-floaters-spec : {M : Type 1} → statement M
 find-floaters-spec =
     tie.close
-    (tie.spec
-    Inv-loop
-    μ-loop
-    brackets-requires
-    loop-holds
-    copies-of-requires
-    cast-add-copies
-    add-copies-requires
-    add-k
-    loop-less
-    loop-again
-    returns)
+    (tie.spec Inv-loop μ-loop
+    (λ c κs. search needs) loop-holds copies-of-requires (λ c. search needs) add-copies-requires (λ c. search needs) (λ c. omega arith) loop-again returns)

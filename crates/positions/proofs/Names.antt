@@ -44,9 +44,9 @@ module _ (bs x : List ℕ) (k j : ℕ) where
       ∙ sym (ap (among x) (name-some bs ns k j (λ i. z (e ∙ i))) ∙ or-false _)
 
 module _ (bs : List ℕ) (k j r : ℕ) where
-  pub shared-nothing : {n : ℕ} → n ≡ labelField bs k j → n ≡ 0 → (ns : List ℤ) → false ≡ shared (nameOf (partIn bs ns k j)) (namesOf (bracketIn bs ns r))
+  pub shared-none : {n : ℕ} → n ≡ labelField bs k j → n ≡ 0 → (ns : List ℤ) → false ≡ shared (nameOf (partIn bs ns k j)) (namesOf (bracketIn bs ns r))
   unfolding shared
-  shared-nothing e z ns = sym (ap (λ l. shared l (namesOf (bracketIn bs ns r))) (name-none bs ns k j (sym e ∙ z)))
+  shared-none e z ns = sym (ap (λ l. shared l (namesOf (bracketIn bs ns r))) (name-none bs ns k j (sym e ∙ z)))
 
   pub shared-one : {n a : ℕ} {z : Bool} → n ≡ labelField bs k j → (n ≡ 0 → ⊥) → a ≡ labelFrom bs k j → ((ns : List ℤ) → z ≡ among (part a n bs) (namesOf (bracketIn bs ns r))) → (ns : List ℤ) → z ≡ shared (nameOf (partIn bs ns k j)) (namesOf (bracketIn bs ns r))
   unfolding shared

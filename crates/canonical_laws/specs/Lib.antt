@@ -3,4 +3,6 @@ pub mod Decimal
 pub mod Plainly
 pub mod PlainParts
 pub mod Refusals
-pub mod PlainLines
+pub mod PlainBrackets
+pub mod Endings
+pub mod PlainSequence

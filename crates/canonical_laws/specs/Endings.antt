@@ -10,8 +10,9 @@ use lib.Dec.{eqb}
 use lib.ListN.{length}
 use borrow.Author.Tests.{eqb-true, eq-eqb}
 use Rattle.scope.specs.declared.grammar.Kind.{Kind}
-use Rattle.scope.specs.declared.grammar.Kind.the-variants.{OnResidue, OnRange}
-use Rattle.scope.specs.Canonical.{squareText, ofKind, endingAt, opening, ending, isNext, goesOn, sequenceText}
+use Rattle.scope.specs.declared.grammar.Kind.the-variants.{Unknown, Labile, NTerm, OnResidue, OnRange, CTerm}
+use Rattle.scope.specs.Bytes.{question, dash}
+use Rattle.scope.specs.Canonical.{squareText, curlyText, unknownText, ofKind, endingAt, closedBy, ledBy, opening, ending, isNext, goesOn, sequenceText, chainText}
 use Rattle.scope.specs.Kinds.{kindCode, isKind}
 use Rattle.scope.specs.Line.{Bracket, Residue}
 use Rattle.scope.specs.Lists.{keep, flat}
@@ -106,3 +107,48 @@ sequence-append ks i [] qs e = ap (λ z. sequenceText ks z qs) (sym (add-zero i)
 sequence-append ks i (r ∷ rs) qs e =
     let at : i + 1 + length rs ≡ i + suc (length rs) = omega arith in
     rw (goes-append rs qs e, sequence-append ks (i + 1) rs qs e, at) (simp append-assoc)
+
+-- ---- the chain whose N-terminus is at the position p, its brackets by where they stand
+module _ (p : ℕ) (rs : List (Residue ℕ)) (us ls ns ss bs : List (Bracket ℕ)) (onU : Each (On Unknown p) us) (onL : Each (On Labile p) ls) (onN : Each (On NTerm p) ns)
+    (onS : Each (Ends (p + 1) (p + length rs)) ss) (onB : Each (On CTerm (p + 1 + length rs)) bs) where
+  abbrev whole : List (Bracket ℕ)
+  whole = us ++ (ls ++ (ns ++ (ss ++ bs)))
+
+  in-pieces : (c : Kind) (i : ℕ) {u l n s b : List (Bracket ℕ)} → endingAt c i us ≡ u → endingAt c i ls ≡ l → endingAt c i ns ≡ n → endingAt c i ss ≡ s → endingAt c i bs ≡ b
+      → endingAt c i whole ≡ u ++ (l ++ (n ++ (s ++ b)))
+  in-pieces c i eu el en es eb =
+      ending-append c i us _ ∙ ap₂ _++_ eu (ending-append c i ls _ ∙ ap₂ _++_ el (ending-append c i ns _ ∙ ap₂ _++_ en (ending-append c i ss bs ∙ ap₂ _++_ es eb)))
+
+  off : (c : Kind) (i : ℕ) → (p + 1 ≤ i → i ≤ p + length rs → ⊥) → endingAt c i ss ≡ []
+  off c i h = ending-off c i (p + 1) (p + length rs) h ss onS
+
+  unknowns : endingAt Unknown p whole ≡ us
+  unknowns =
+      in-pieces Unknown p (ending-all Unknown p us onU) (ending-kind Unknown p Labile p refl ls onL) (ending-kind Unknown p NTerm p refl ns onN) (off Unknown p (λ h k. omega arith)) (ending-kind Unknown p CTerm _ refl bs onB)
+      ∙ append-nil us
+
+  labiles : endingAt Labile p whole ≡ ls
+  labiles =
+      in-pieces Labile p (ending-kind Labile p Unknown p refl us onU) (ending-all Labile p ls onL) (ending-kind Labile p NTerm p refl ns onN) (off Labile p (λ h k. omega arith)) (ending-kind Labile p CTerm _ refl bs onB)
+      ∙ append-nil ls
+
+  nterms : endingAt NTerm p whole ≡ ns
+  nterms =
+      in-pieces NTerm p (ending-kind NTerm p Unknown p refl us onU) (ending-kind NTerm p Labile p refl ls onL) (ending-all NTerm p ns onN) (off NTerm p (λ h k. omega arith)) (ending-kind NTerm p CTerm _ refl bs onB)
+      ∙ append-nil ns
+
+  cterms : endingAt CTerm (p + 1 + length rs) whole ≡ bs
+  cterms =
+      let i = p + 1 + length rs in
+      in-pieces CTerm i (ending-kind CTerm i Unknown p refl us onU) (ending-kind CTerm i Labile p refl ls onL) (ending-kind CTerm i NTerm p refl ns onN) (off CTerm i (λ h k. omega arith)) (ending-all CTerm i bs onB)
+
+  on-residues : sequenceText whole (p + 1) rs ≡ sequenceText ss (p + 1) rs
+  on-residues =
+      front-off (p + 1) rs _ p p us (on-ends Unknown p p p (omega arith) (omega arith) us onU) (omega arith)
+      ∙ front-off (p + 1) rs _ p p ls (on-ends Labile p p p (omega arith) (omega arith) ls onL) (omega arith)
+      ∙ front-off (p + 1) rs _ p p ns (on-ends NTerm p p p (omega arith) (omega arith) ns onN) (omega arith)
+      ∙ let q = p + 1 + length rs in back-off (p + 1) rs ss q q bs (on-ends CTerm q q q (omega arith) (omega arith) bs onB) (omega arith)
+
+  pub chain-pieces : chainText whole p rs ≡ closedBy (flat unknownText us) question ++ (flat curlyText ls ++ (closedBy (flat squareText ns) dash ++ (sequenceText ss (p + 1) rs ++ ledBy dash (flat squareText bs))))
+  unfolding chainText
+  chain-pieces = rw (unknowns, labiles, nterms, on-residues, cterms)

@@ -3,6 +3,8 @@ pub mod Decimal
 pub mod Plainly
 pub mod PlainParts
 pub mod Refusals
-pub mod PlainBrackets
 pub mod Endings
+pub mod PlainBrackets
 pub mod PlainSequence
+pub mod PlainLines
+pub mod Proved

@@ -11,20 +11,21 @@ use lib.ListN.{length, length-append}
 use borrow.Author.Tests.{ltb-false, eqb-true, eqb-false}
 use Rattle.scope.specs.declared.grammar.Kind.{Kind}
 use Rattle.scope.specs.declared.grammar.Kind.the-variants.{Unknown, Labile}
-use Rattle.scope.specs.Bytes.{isDigit, openSquare, shutSquare, openCurly, shutCurly, question}
-use Rattle.scope.specs.Canonical.{decimal, partsText, countText, unknownText, closedBy}
-use Rattle.scope.specs.Grammar.{someOf, valueOn, Inside, printInside, goodInside, meansInside, printSquare, printCurly, along, eachAlong, goodSquares, goodCurlies, bracketAt, meansSquares, printCount, goodCount, counting, Marked, printMarked, goodMarked, meansMarked, Run, marks, printRun, goodRun, meansRun}
+use Rattle.scope.specs.Bytes.{isDigit, openSquare, shutSquare, openCurly, shutCurly, question, dash}
+use Rattle.scope.specs.Canonical.{decimal, partsText, countText, squareText, unknownText, closedBy, ledBy}
+use Rattle.scope.specs.Grammar.{someOf, valueOn, Inside, printInside, goodInside, meansInside, printSquare, printCurly, printSquares, printFront, printBack, along, eachAlong, goodSquares, goodCurlies, bracketAt, meansSquares, printCount, goodCount, counting, Marked, printMarked, goodMarked, meansMarked, Run, marks, printRun, goodRun, meansRun}
 use Rattle.scope.specs.Limits.{countLimit}
 use Rattle.scope.specs.Line.{Part, Bracket}
 use Rattle.scope.specs.Lists.{given, all, flat}
 use Rattle.scope.specs.Refusals.{dueAt, wideCount, wideMass, wideScore}
-use Rattle.basics.specs.Each.{Each, each-front, each-back}
+use Rattle.basics.specs.Each.{Each, each-append, each-front, each-back}
 use Rattle.basics.specs.Lists.{nil-front, nil-back, not-due, flat-append-length}
 use Rattle.basics.specs.Choice.{pick-true, pick-false}
 use Rattle.basics.specs.Tests.{and-left, and-right, both, or-right}
 use Rattle.canonical_laws.specs.Decimal.{Writes, decimal-writes, decimal-short}
+use Rattle.canonical_laws.specs.Endings.{On}
 use Rattle.canonical_laws.specs.PlainParts.{plain-good, plain-text, plain-means, plain-short}
-use Rattle.canonical_laws.specs.Plainly.{plainInside, plainCount, plainMarked, oneRun, plainRuns}
+use Rattle.canonical_laws.specs.Plainly.{plainInside, plainInsides, plainCount, plainMarked, oneRun, plainRuns}
 use Rattle.canonical_laws.specs.Refusals.{Same, Alike}
 
 -- no count, mass or score of the bracket is out of range
@@ -87,6 +88,11 @@ module _ {X : Type 0} (w : Sort X) (one : (i : ℕ) (x : X) → w .good x ≡ tr
   all-plain : (i : ℕ) (xs : List X) → all (w .good) xs ≡ true → Each Fits (along (w .prints) (w .means) i xs) → Plains w (along (w .prints) (w .means) i xs) xs
   all-plain i xs f n = simp append-nil at (plain-then i xs f n [] [] none-plain)
 
+pub each-along : {A B : Type 0} (Q : B → Type 0) (prints : A → List ℕ) (f : ℕ → A → B) → ((i : ℕ) (x : A) → Q (f i x)) → (i : ℕ) (l : List A) → Each Q (along prints f i l)
+unfolding along
+each-along Q prints f h i [] = tt
+each-along Q prints f h i (x ∷ l) = (h i x, each-along Q prints f h _ l)
+
 -- ---- in square or in curly brackets
 abbrev boxes : ℕ → ℕ → Bool → Bool → Kind → ℕ → ℕ → Sort Inside
 boxes begin shut references labels c first last =
@@ -117,8 +123,14 @@ module _ (begin shut : ℕ) (r labels : Bool) (c : Kind) (a b : ℕ) where
         short = simp length-append (omega (arith, plain-short r labels x f (i + 1) n));
       }
 
+pub squares-on : (c : Kind) (first last i : ℕ) (xs : List Inside) → Each (On c last) (meansSquares c first last i xs)
+squares-on c first last i xs = each-along (On c last) printSquare (bracketAt c first last) (λ j x. (refl, refl)) i xs
+
 pub squares-plain : (r : Bool) (c : Kind) (a b i : ℕ) (xs : List Inside) → goodSquares r xs ≡ true → Each Fits (meansSquares c a b i xs) → Plains (squares r c a b) (meansSquares c a b i xs) xs
 squares-plain r c a b i xs = all-plain (squares r c a b) (boxed openSquare shutSquare r true c a b) i xs
+
+pub curlies-on : (i : ℕ) (xs : List Inside) → Each (On Labile 0) (along printCurly (bracketAt Labile 0 0) i xs)
+curlies-on i xs = each-along (On Labile 0) printCurly (bracketAt Labile 0 0) (λ j x. (refl, refl)) i xs
 
 pub curlies-plain : (i : ℕ) (xs : List Inside) → goodCurlies xs ≡ true → Each Fits (along printCurly (bracketAt Labile 0 0) i xs) → Plains curlies (along printCurly (bracketAt Labile 0 0) i xs) xs
 curlies-plain i xs = all-plain curlies (boxed openCurly shutCurly false false Labile 0 0) i xs
@@ -197,13 +209,14 @@ module _ (i j : ℕ) (x : Inside) (o : Option (List ℕ)) (fine : goodInside fal
       record {
         fine = both _ _ (box .fine) (count .fine);
         says = ap₂ _++_ (box .says) (count .says);
-        same = λ h. subst (λ (z : Bracket ℕ). Alike (unknownAt i j o x ∷ []) (z ∷ [])) (counted-at h _ (plainCount o) (plainInside x))
-            (record {
-              bare = ap₂ (λ n ps. record { kind = Unknown; first = 0; last = 0; count = n; counted = none; parts = ps; at = tt }) (sym (count .back)) (ap (λ (z : Bracket (Unit {0})). z .parts) (box .same h .0 .bare));
-              marks = λ e. ap (mark _) (count .unmarked e);
-              once = once j o;
-            },
-            tt);
+        same = λ h. subst (λ (z : Bracket ℕ). Alike (unknownAt i j o x ∷ []) (z ∷ [])) (counted-at h _ (plainCount o) (plainInside x)) (
+          record {
+            bare = ap₂ (λ n ps. record { kind = Unknown; first = 0; last = 0; count = n; counted = none; parts = ps; at = tt }) (sym (count .back)) (ap (λ (z : Bracket (Unit {0})). z .parts) (box .same h .0 .bare));
+            marks = λ e. ap (mark _) (count .unmarked e);
+            once = once j o;
+          },
+          tt,
+        );
         short = omega (arith, length-append (printSquare (plainInside x)) (printCount (plainCount o)), length-append (printSquare x) (printCount o), box .short, count .short);
       }
 
@@ -214,24 +227,32 @@ marked-plain i m f n =
     (unknown-plain i _ (m .inside) (m .count) (and-left (goodInside false true (m .inside)) _ f) (and-right (goodInside false true (m .inside)) _ f) (subst Fits (sym at) n))
 
 -- ---- "the splitting of unknown runs" is not kept
-pub runs-plain : (i : ℕ) (rs : List Run) → all goodRun rs ≡ true → Each Fits (eachAlong printRun meansRun i rs) → Plains marked (eachAlong printRun meansRun i rs) (flat marks rs)
-unfolding all flat eachAlong
-runs-plain i [] f n = none-plain marked marked-plain
-runs-plain i (r ∷ rs) f n =
-    plain-then marked marked-plain i (marks r) (and-left (goodRun r) _ f) (each-front Fits (meansRun i r) _ n) _ (flat marks rs)
-    (runs-plain _ rs (and-right (goodRun r) _ f) (each-back Fits (meansRun i r) _ n))
+pub runs-on : (i : ℕ) (rs : List Run) → Each (On Unknown 0) (eachAlong printRun meansRun i rs)
+unfolding eachAlong
+runs-on i [] = tt
+runs-on i (r ∷ rs) =
+    each-append (On Unknown 0) (meansRun i r) _
+    (each-along (On Unknown 0) printMarked meansMarked (λ j m. subst (On Unknown 0) (counted-at j (j + length (printSquare (m .inside))) (m .count) (m .inside)) (refl, refl)) i (marks r))
+    (runs-on (i + length (printRun r)) rs)
 
-pub run-prints : (ms : List Marked) → flat printRun (oneRun ms) ≡ closedBy (flat printMarked ms) question
+marks-plain : (i : ℕ) (rs : List Run) → all goodRun rs ≡ true → Each Fits (eachAlong printRun meansRun i rs) → Plains marked (eachAlong printRun meansRun i rs) (flat marks rs)
+unfolding all flat eachAlong
+marks-plain i [] f n = none-plain marked marked-plain
+marks-plain i (r ∷ rs) f n =
+    plain-then marked marked-plain i (marks r) (and-left (goodRun r) _ f) (each-front Fits (meansRun i r) _ n) _ (flat marks rs)
+    (marks-plain (i + length (printRun r)) rs (and-right (goodRun r) _ f) (each-back Fits (meansRun i r) _ n))
+
+run-prints : (ms : List Marked) → closedBy (flat printMarked ms) question ≡ flat printRun (oneRun ms)
 unfolding flat
 run-prints [] = refl
-run-prints (m ∷ ms) = append-nil _
+run-prints (m ∷ ms) = sym (append-nil _)
 
-pub run-means : (j : ℕ) (ms : List Marked) → eachAlong printRun meansRun j (oneRun ms) ≡ along printMarked meansMarked j ms
+run-means : (j : ℕ) (ms : List Marked) → along printMarked meansMarked j ms ≡ eachAlong printRun meansRun j (oneRun ms)
 unfolding eachAlong along
 run-means j [] = refl
-run-means j (m ∷ ms) = append-nil _
+run-means j (m ∷ ms) = sym (append-nil _)
 
-pub run-good : (ms : List Marked) → all goodMarked ms ≡ true → all goodRun (oneRun ms) ≡ true
+run-good : (ms : List Marked) → all goodMarked ms ≡ true → all goodRun (oneRun ms) ≡ true
 unfolding all
 run-good [] e = refl
 run-good (m ∷ ms) e = both _ true e refl
@@ -245,7 +266,51 @@ unfolding flat
 run-lengths [] = refl
 run-lengths (r ∷ rs) = omega (arith, length-append (printRun r) (flat printRun rs), length-append (flat printMarked (marks r)) (question ∷ []), flat-append-length printMarked (marks r) (flat marks rs), run-lengths rs)
 
-pub run-short : (rs : List Run) → length (flat printMarked (map plainMarked (flat marks rs))) ≤ length (flat printMarked (flat marks rs)) → length (flat printRun (plainRuns rs)) ≤ length (flat printRun rs)
+run-short : (rs : List Run) → length (flat printMarked (map plainMarked (flat marks rs))) ≤ length (flat printMarked (flat marks rs)) → length (flat printRun (plainRuns rs)) ≤ length (flat printRun rs)
 unfolding flat
 run-short [] h = omega arith
-run-short (r ∷ rs) h = omega (arith, closed-length (flat printMarked (map plainMarked (flat marks (r ∷ rs)))) question, ap length (run-prints (map plainMarked (flat marks (r ∷ rs)))), run-lengths (r ∷ rs))
+run-short (r ∷ rs) h =
+    let ms = map plainMarked (flat marks (r ∷ rs)) in
+    omega (arith, closed-length (flat printMarked ms) question, ap length (run-prints ms), run-lengths (r ∷ rs))
+
+pub runs-plain : (i : ℕ) (rs : List Run) → all goodRun rs ≡ true → Each Fits (eachAlong printRun meansRun i rs)
+    → Spelt (all goodRun (plainRuns rs)) (closedBy (flat unknownText (eachAlong printRun meansRun i rs)) question) (flat printRun (plainRuns rs)) (flat printRun rs) (eachAlong printRun meansRun i rs)
+    (λ j. eachAlong printRun meansRun j (plainRuns rs))
+runs-plain i rs f n =
+    let ms = map plainMarked (flat marks rs) in
+    let p = marks-plain i rs f n in
+    record {
+      fine = run-good ms (p .fine);
+      says = ap (λ l. closedBy l question) (p .says) ∙ run-prints ms;
+      same = λ j. subst (λ (z : List (Bracket ℕ)). Alike (eachAlong printRun meansRun i rs) z) (run-means j ms) (p .same j);
+      short = run-short rs (p .short);
+    }
+
+-- ---- at the termini
+front-prints : (xs : List Inside) → closedBy (printSquares xs) dash ≡ printFront xs
+unfolding flat
+front-prints [] = refl
+front-prints (x ∷ xs) = refl
+
+back-prints : (xs : List Inside) → ledBy dash (printSquares xs) ≡ printBack xs
+unfolding flat
+back-prints [] = refl
+back-prints (x ∷ xs) = refl
+
+front-short : (xs : List Inside) → length (printSquares (plainInsides xs)) ≤ length (printSquares xs) → length (printFront (plainInsides xs)) ≤ length (printFront xs)
+front-short [] h = omega arith
+front-short (x ∷ xs) h = omega (arith, length-append (printSquares (plainInsides (x ∷ xs))) (dash ∷ []), length-append (printSquares (x ∷ xs)) (dash ∷ []))
+
+back-short : (xs : List Inside) → length (printSquares (plainInsides xs)) ≤ length (printSquares xs) → length (printBack (plainInsides xs)) ≤ length (printBack xs)
+back-short [] h = omega arith
+back-short (x ∷ xs) h = omega arith
+
+module _ (c : Kind) (q i : ℕ) (xs : List Inside) (fine : goodSquares true xs ≡ true) (narrow : Each Fits (meansSquares c q q i xs)) where
+  term : Plains (squares true c q q) (meansSquares c q q i xs) xs
+  term = squares-plain true c q q i xs fine narrow
+
+  pub front-plain : Spelt (goodSquares true (plainInsides xs)) (closedBy (flat squareText (meansSquares c q q i xs)) dash) (printFront (plainInsides xs)) (printFront xs) (meansSquares c q q i xs) (λ j. meansSquares c q q j (plainInsides xs))
+  front-plain = record { fine = term .fine; says = ap (λ l. closedBy l dash) (term .says) ∙ front-prints (plainInsides xs); same = term .same; short = front-short xs (term .short) }
+
+  pub back-plain : Spelt (goodSquares true (plainInsides xs)) (ledBy dash (flat squareText (meansSquares c q q i xs))) (printBack (plainInsides xs)) (printBack xs) (meansSquares c q q i xs) (λ j. meansSquares c q q j (plainInsides xs))
+  back-plain = record { fine = term .fine; says = ap (ledBy dash) (term .says) ∙ back-prints (plainInsides xs); same = term .same; short = back-short xs (term .short) }

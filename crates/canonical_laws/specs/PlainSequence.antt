@@ -24,22 +24,17 @@ use Rattle.basics.specs.Each.{Each, each-append, each-front, each-back}
 use Rattle.basics.specs.Lists.{flat-one-length}
 use Rattle.basics.specs.Tests.{and-left, and-right, both, both-of, or-first}
 use Rattle.canonical_laws.specs.Endings.{On, Ends, on-ends, ending-append, ending-all, ending-kind, ending-off, ownText, rangeText, front-off, back-off, text-on, text-last, sequence-append}
-use Rattle.canonical_laws.specs.PlainBrackets.{Fits, Spelt, spelt-append, Plains, squares, squares-plain}
+use Rattle.canonical_laws.specs.PlainBrackets.{Fits, Spelt, spelt-append, Plains, squares, squares-on, squares-plain}
 use Rattle.canonical_laws.specs.Plainly.{plainInside, plainInsides, plainSpot, plainElement}
 use Rattle.canonical_laws.specs.Refusals.{Alike}
 
 -- ---- lists
-pub each-along : {A B : Type 0} (Q : B → Type 0) (prints : A → List ℕ) (f : ℕ → A → B) → ((i : ℕ) (x : A) → Q (f i x)) → (i : ℕ) (l : List A) → Each Q (along prints f i l)
-unfolding along
-each-along Q prints f h i [] = tt
-each-along Q prints f h i (x ∷ l) = (h i x, each-along Q prints f h _ l)
-
 along-length : {A B : Type 0} (prints : A → List ℕ) (f : ℕ → A → B) (i : ℕ) (l : List A) → length (along prints f i l) ≡ length l
 unfolding along
 along-length prints f i [] = refl
 along-length prints f i (x ∷ l) = ap suc (along-length prints f _ l)
 
-mapped-length : {A B : Type 0} (f : A → B) (l m : List A) → map f l ≡ map f m → length l ≡ length m
+pub mapped-length : {A B : Type 0} (f : A → B) (l m : List A) → map f l ≡ map f m → length l ≡ length m
 mapped-length f l m e = sym (length-map l f) ∙ ap length e ∙ length-map m f
 
 -- ---- letters
@@ -74,9 +69,6 @@ sequence-residues i j [] = refl
 sequence-residues i j (e ∷ es) = simp map-append (ap₂ _++_ (element-residues i j e) (sequence-residues (i + length (printElement e)) (j + length (printElement (plainElement e))) es))
 
 -- ---- where the brackets end
-pub squares-on : (c : Kind) (first last i : ℕ) (xs : List Inside) → Each (On c last) (meansSquares c first last i xs)
-squares-on c first last i xs = each-along (On c last) printSquare (bracketAt c first last) (λ j x. (refl, refl)) i xs
-
 pub squares-here : (c : Kind) (first last i : ℕ) (xs : List Inside) → endingAt c last (meansSquares c first last i xs) ≡ meansSquares c first last i xs
 squares-here c first last i xs = ending-all c last (meansSquares c first last i xs) (squares-on c first last i xs)
 

@@ -2,7 +2,7 @@
 -- of all of a list, and of all unknown runs as of one.
 use Prim.Native.Nat.{ℕ, _+_, _≤_, _<_}
 use mathlib.Core.Path.{_≡_, refl, sym, ap, ap₂, _∙_, subst}
-use mathlib.Core.Bool.{Bool, true, false, not, cond, _&&_, _||_, false≢true}
+use mathlib.Core.Bool.{Bool, true, false, not, cond, _&&_, _||_}
 use mathlib.Core.Option.{Option, none, some, Option·none-ne-some}
 use mathlib.Core.List.{List, [], _∷_, _++_, map, append-nil}
 use native.Mathlib.Omega.{arith}
@@ -11,9 +11,9 @@ use lib.ListN.{length, length-append}
 use borrow.Author.Tests.{ltb-false, eqb-true, eqb-false}
 use Rattle.scope.specs.declared.grammar.Kind.{Kind}
 use Rattle.scope.specs.declared.grammar.Kind.the-variants.{Unknown, Labile}
-use Rattle.scope.specs.Bytes.{isDigit, openSquare, shutSquare, openCurly, shutCurly, question, dash}
+use Rattle.scope.specs.Bytes.{openSquare, shutSquare, openCurly, shutCurly, question, dash}
 use Rattle.scope.specs.Canonical.{decimal, partsText, countText, squareText, unknownText, closedBy, ledBy}
-use Rattle.scope.specs.Grammar.{someOf, valueOn, Inside, printInside, goodInside, meansInside, printSquare, printCurly, printSquares, printFront, printBack, along, eachAlong, goodSquares, goodCurlies, bracketAt, meansSquares, printCount, goodCount, counting, Marked, printMarked, goodMarked, meansMarked, Run, marks, printRun, goodRun, meansRun}
+use Rattle.scope.specs.Grammar.{valueOn, Inside, printInside, goodInside, meansInside, printSquare, printCurly, printSquares, printFront, printBack, along, eachAlong, goodSquares, goodCurlies, bracketAt, meansSquares, printCount, goodCount, counting, Marked, printMarked, goodMarked, meansMarked, Run, marks, printRun, goodRun, meansRun}
 use Rattle.scope.specs.Limits.{countLimit}
 use Rattle.scope.specs.Line.{Part, Bracket}
 use Rattle.scope.specs.Lists.{given, all, flat}
@@ -21,12 +21,12 @@ use Rattle.scope.specs.Refusals.{dueAt, wideCount, wideMass, wideScore}
 use Rattle.basics.specs.Each.{Each, each-append, each-front, each-back}
 use Rattle.basics.specs.Lists.{nil-front, nil-back, not-due, flat-append-length}
 use Rattle.basics.specs.Choice.{pick-true, pick-false}
-use Rattle.basics.specs.Tests.{and-left, and-right, both, or-right}
+use Rattle.basics.specs.Tests.{and-left, and-right, both, both-of, or-right}
 use Rattle.canonical_laws.specs.Decimal.{Writes, decimal-writes, decimal-short}
-use Rattle.canonical_laws.specs.Endings.{On}
+use Rattle.canonical_laws.specs.Endings.{Brackets, On}
 use Rattle.canonical_laws.specs.PlainParts.{plain-good, plain-text, plain-means, plain-short}
 use Rattle.canonical_laws.specs.Plainly.{plainInside, plainInsides, plainCount, plainMarked, oneRun, plainRuns}
-use Rattle.canonical_laws.specs.Refusals.{Same, Alike}
+use Rattle.canonical_laws.specs.Refusals.{Alike}
 
 -- no count, mass or score of the bracket is out of range
 abbrev pub Fits : Bracket ℕ → Type 0
@@ -34,19 +34,22 @@ Fits k = wideCount k ++ flat (λ p. wideMass (p .value) ++ wideScore p) (k .part
 
 -- a part of a line in its plain spelling: whether that is good; what the canonical line writes of it, what is printed of it plainly, and what of it as it was; the
 -- brackets that it means, and those that it means in its plain spelling, from a place on
-pub record Spelt (good : Bool) (text plain old : List ℕ) (ks : List (Bracket ℕ)) (qs : ℕ → List (Bracket ℕ)) : Type 0 where
+pub record Spelt (good : Bool) (text plain old : List ℕ) (ks : Brackets) (qs : ℕ → Brackets) : Type 0 where
   pub fine : good ≡ true
   pub says : text ≡ plain
   pub same : (j : ℕ) → Alike ks (qs j)
   pub short : length plain ≤ length old
 
-alike-append : (a b c d : List (Bracket ℕ)) → Alike a b → Alike c d → Alike (a ++ c) (b ++ d)
+pub spelt-none : Spelt true [] [] [] [] (λ j. [])
+spelt-none = record { fine = refl; says = refl; same = λ j. tt; short = omega arith }
+
+alike-append : (a b c d : Brackets) → Alike a b → Alike c d → Alike (a ++ c) (b ++ d)
 alike-append [] [] c d p q = q
 alike-append [] (y ∷ b) c d p q = absurd p
 alike-append (x ∷ a) [] c d p q = absurd p
 alike-append (x ∷ a) (y ∷ b) c d p q = (p .0, alike-append a b c d (p .1) q)
 
-pub spelt-append : {a b : Bool} {t u p q o r : List ℕ} {ks ls : List (Bracket ℕ)} {qs rs : ℕ → List (Bracket ℕ)} (f : ℕ → ℕ) → Spelt a t p o ks qs → Spelt b u q r ls rs
+pub spelt-append : {a b : Bool} {t u p q o r : List ℕ} {ks ls : Brackets} {qs rs : ℕ → Brackets} (f : ℕ → ℕ) → Spelt a t p o ks qs → Spelt b u q r ls rs
     → Spelt (a && b) (t ++ u) (p ++ q) (o ++ r) (ks ++ ls) (λ j. qs j ++ rs (f j))
 spelt-append {p = p} {q = q} {o = o} {r = r} {ks = ks} {ls = ls} {qs = qs} {rs = rs} f x y =
     record {
@@ -55,6 +58,9 @@ spelt-append {p = p} {q = q} {o = o} {r = r} {ks = ks} {ls = ls} {qs = qs} {rs =
       same = λ j. alike-append ks (qs j) ls (rs (f j)) (x .same j) (y .same (f j));
       short = omega (arith, length-append p q, length-append o r);
     }
+
+pub joined-short : (b : ℕ) (p o q r : List ℕ) → length p ≤ length o → length q ≤ length r → length (p ++ (b ∷ q)) ≤ length (o ++ (b ∷ r))
+joined-short b p o q r h k = simp length-append (omega arith)
 
 -- ---- brackets one behind another
 -- how brackets of one sort are printed, what each means at a place, which are good, how each is spelt plainly, and what the canonical line writes of what it means
@@ -69,16 +75,16 @@ pub record Sort (X : Type 0) : Type 0 where
 abbrev pub Plain : {X : Type 0} → Sort X → Bracket ℕ → X → Type 0
 Plain w k x = Spelt (w .good (w .plain x)) (w .text k) (w .prints (w .plain x)) (w .prints x) (k ∷ []) (λ j. w .means j (w .plain x) ∷ [])
 
-abbrev pub Plains : {X : Type 0} → Sort X → List (Bracket ℕ) → List X → Type 0
+abbrev pub Plains : {X : Type 0} → Sort X → Brackets → List X → Type 0
 Plains w ks xs = Spelt (all (w .good) (map (w .plain) xs)) (flat (w .text) ks) (flat (w .prints) (map (w .plain) xs)) (flat (w .prints) xs) ks (λ j. along (w .prints) (w .means) j (map (w .plain) xs))
 
 module _ {X : Type 0} (w : Sort X) (one : (i : ℕ) (x : X) → w .good x ≡ true → Fits (w .means i x) → Plain w (w .means i x) x) where
   none-plain : Plains w [] []
   unfolding all flat along
-  none-plain = record { fine = refl; says = refl; same = λ j. tt; short = omega arith }
+  none-plain = spelt-none
 
   -- with others behind them
-  plain-then : (i : ℕ) (xs : List X) → all (w .good) xs ≡ true → Each Fits (along (w .prints) (w .means) i xs) → (ks : List (Bracket ℕ)) (ys : List X) → Plains w ks ys
+  plain-then : (i : ℕ) (xs : List X) → all (w .good) xs ≡ true → Each Fits (along (w .prints) (w .means) i xs) → (ks : Brackets) (ys : List X) → Plains w ks ys
       → Plains w (along (w .prints) (w .means) i xs ++ ks) (xs ++ ys)
   unfolding all flat along
   plain-then i [] f n ks ys b = b
@@ -110,18 +116,17 @@ squares references c first last = boxes openSquare shutSquare references true c 
 abbrev pub curlies : Sort Inside
 curlies = boxes openCurly shutCurly false false Labile 0 0
 
-module _ (begin shut : ℕ) (r labels : Bool) (c : Kind) (a b : ℕ) where
-  abbrev withParts : List (Part (Unit {0})) → Bracket (Unit {0})
-  withParts ps = record { kind = c; first = a; last = b; count = 1; counted = none; parts = ps; at = tt }
+abbrev withParts : Kind → ℕ → ℕ → ℕ → List (Part (Unit {0})) → Bracket (Unit {0})
+withParts c first last n ps = record { kind = c; first = first; last = last; count = n; counted = none; parts = ps; at = tt }
 
-  boxed : (i : ℕ) (x : Inside) → goodInside r labels x ≡ true → Fits (bracketAt c a b i x) → Plain (boxes begin shut r labels c a b) (bracketAt c a b i x) x
-  boxed i x f n =
-      record {
-        fine = plain-good r labels x f (i + 1) n;
-        says = ap (λ z. begin ∷ (z ++ (shut ∷ []))) (plain-text r labels x f (i + 1) n);
-        same = λ j. (record { bare = ap withParts (sym (plain-means r labels x f (i + 1) n (j + 1))); marks = λ e. refl; once = λ e. refl }, tt);
-        short = simp length-append (omega (arith, plain-short r labels x f (i + 1) n));
-      }
+boxed : (begin shut : ℕ) (r labels : Bool) (c : Kind) (a b i : ℕ) (x : Inside) → goodInside r labels x ≡ true → Fits (bracketAt c a b i x) → Plain (boxes begin shut r labels c a b) (bracketAt c a b i x) x
+boxed begin shut r labels c a b i x f n =
+    record {
+      fine = plain-good r labels x f (i + 1) n;
+      says = ap (λ z. begin ∷ (z ++ (shut ∷ []))) (plain-text r labels x f (i + 1) n);
+      same = λ j. (record { bare = ap (withParts c a b 1) (sym (plain-means r labels x f (i + 1) n (j + 1))); marks = λ e. refl; once = λ e. refl }, tt);
+      short = simp length-append (omega (arith, plain-short r labels x f (i + 1) n));
+    }
 
 pub squares-on : (c : Kind) (first last i : ℕ) (xs : List Inside) → Each (On c last) (meansSquares c first last i xs)
 squares-on c first last i xs = each-along (On c last) printSquare (bracketAt c first last) (λ j x. (refl, refl)) i xs
@@ -135,11 +140,40 @@ curlies-on i xs = each-along (On Labile 0) printCurly (bracketAt Labile 0 0) (λ
 pub curlies-plain : (i : ℕ) (xs : List Inside) → goodCurlies xs ≡ true → Each Fits (along printCurly (bracketAt Labile 0 0) i xs) → Plains curlies (along printCurly (bracketAt Labile 0 0) i xs) xs
 curlies-plain i xs = all-plain curlies (boxed openCurly shutCurly false false Labile 0 0) i xs
 
+-- ---- at the termini
+module _ (c : Kind) (q : ℕ) where
+  pub front-plain : (i : ℕ) (xs : List Inside) → goodSquares true xs ≡ true → Each Fits (meansSquares c q q i xs)
+      → Spelt (goodSquares true (plainInsides xs)) (closedBy (flat squareText (meansSquares c q q i xs)) dash) (printFront (plainInsides xs)) (printFront xs)
+      (meansSquares c q q i xs) (λ j. meansSquares c q q j (plainInsides xs))
+  unfolding all flat along
+  front-plain i [] f n = spelt-none
+  front-plain i (x ∷ xs) f n =
+      let ks = squares-plain true c q q i (x ∷ xs) f n in
+      record {
+        fine = ks .fine;
+        says = ap (λ l. closedBy l dash) (ks .says);
+        same = ks .same;
+        short = joined-short dash (printSquares (plainInsides (x ∷ xs))) (printSquares (x ∷ xs)) [] [] (ks .short) (omega arith);
+      }
+
+  pub back-plain : (i : ℕ) (xs : List Inside) → goodSquares true xs ≡ true → Each Fits (meansSquares c q q i xs)
+      → Spelt (goodSquares true (plainInsides xs)) (ledBy dash (flat squareText (meansSquares c q q i xs))) (printBack (plainInsides xs)) (printBack xs) (meansSquares c q q i xs)
+      (λ j. meansSquares c q q j (plainInsides xs))
+  unfolding all flat along
+  back-plain i [] f n = spelt-none
+  back-plain i (x ∷ xs) f n =
+      let ks = squares-plain true c q q i (x ∷ xs) f n in
+      record { fine = ks .fine; says = ap (ledBy dash) (ks .says); same = ks .same; short = omega (arith, ks .short) }
+
 -- ---- counts
--- the count that is written, or 1
+-- the count that is written, or 1; and the place j of one that is written
 abbrev countIn : Option (List ℕ) → ℕ
 countIn none = 1
 countIn (some ds) = valueOn 0 ds
+
+abbrev mark : ℕ → Option (List ℕ) → Option ℕ
+mark j none = none
+mark j (some ds) = some j
 
 -- o is spelt plainly as p
 record Counted (o p : Option (List ℕ)) : Type 0 where
@@ -149,37 +183,36 @@ record Counted (o p : Option (List ℕ)) : Type 0 where
   unmarked : countIn p ≡ 1 → p ≡ none
   short : length (printCount p) ≤ length (printCount o)
 
--- "count 1 to 99"
-few : (i : ℕ) (ds : List ℕ) → dueAt (eqb (valueOn 0 ds) 0 || ltb countLimit (valueOn 0 ds)) i ≡ [] → valueOn 0 ds < 100
-few i ds e = omega (arith, ltb-false countLimit (valueOn 0 ds) (or-right (eqb (valueOn 0 ds) 0) _ (not-due _ i e)))
-
-plain-count : (i : ℕ) (o : Option (List ℕ)) → goodCount o ≡ true → given o (λ ds. dueAt (eqb (valueOn 0 ds) 0 || ltb countLimit (valueOn 0 ds)) i) [] ≡ [] → Counted o (plainCount o)
-plain-count i none f e = record { fine = refl; says = refl; back = refl; unmarked = λ h. refl; short = omega arith }
-plain-count i (some ds) f e = by-cases (eqb (valueOn 0 ds) 1) refl
+plain-count : (j : ℕ) (o : Option (List ℕ)) → goodCount o ≡ true → given (mark j o) (dueAt (eqb (countIn o) 0 || ltb countLimit (countIn o))) [] ≡ [] → Counted o (plainCount o)
+plain-count j none f e = record { fine = refl; says = refl; back = refl; unmarked = λ h. refl; short = omega arith }
+plain-count j (some ds) f e = by-cases (eqb n 1) refl
   where
-    written : Writes (valueOn 0 ds) (decimal (valueOn 0 ds))
-    written = decimal-writes (valueOn 0 ds) (omega (arith, few i ds e))
+    n : ℕ
+    n = valueOn 0 ds
 
-    by-cases : (t : Bool) → eqb (valueOn 0 ds) 1 ≡ t → Counted (some ds) (cond t none (some (decimal (valueOn 0 ds))))
-    by-cases true q = record { fine = refl; says = pick-true (eqb (valueOn 0 ds) 1) _ _ q; back = sym (eqb-true (valueOn 0 ds) 1 q); unmarked = λ h. refl; short = omega arith }
+    written : Writes n (decimal n)
+    written = decimal-writes n (omega (arith, ltb-false countLimit n (or-right (eqb n 0) _ (not-due _ j e))))
+
+    by-cases : (t : Bool) → eqb n 1 ≡ t → Counted (some ds) (cond t none (some (decimal n)))
+    by-cases true q = record { fine = refl; says = pick-true (eqb n 1) _ _ q; back = sym (eqb-true n 1 q); unmarked = λ h. refl; short = omega arith }
     by-cases false q =
         record {
           fine = written .digits;
-          says = pick-false (eqb (valueOn 0 ds) 1) _ _ q;
+          says = pick-false (eqb n 1) _ _ q;
           back = written .back;
-          unmarked = λ h. absurd (eqb-false (valueOn 0 ds) 1 q (sym (written .back) ∙ h));
+          unmarked = λ h. absurd (eqb-false n 1 q (sym (written .back) ∙ h));
           short = omega (arith, decimal-short ds f);
         }
 
+once : (j : ℕ) (o : Option (List ℕ)) → mark j o ≡ none → countIn o ≡ 1
+once j none e = refl
+once j (some ds) e = absurd (Option·none-ne-some j (sym e))
+
 -- ---- with a count
-abbrev pub marked : Sort Marked
+abbrev marked : Sort Marked
 marked = record { prints = printMarked; means = meansMarked; good = goodMarked; plain = plainMarked; text = unknownText }
 
--- a bracket of unknown position with a count that is written, or not, at the place j
-abbrev mark : ℕ → Option (List ℕ) → Option ℕ
-mark j none = none
-mark j (some ds) = some j
-
+-- a bracket of unknown position with a count whose place is j
 abbrev unknownAt : ℕ → ℕ → Option (List ℕ) → Inside → Bracket ℕ
 unknownAt i j o x = record { kind = Unknown; first = 0; last = 0; count = countIn o; counted = mark j o; parts = meansInside (i + 1) x; at = i }
 
@@ -187,53 +220,38 @@ counted-at : (i j : ℕ) (o : Option (List ℕ)) (x : Inside) → unknownAt i (j
 counted-at i j none x = refl
 counted-at i j (some ds) x = refl
 
-once : (j : ℕ) (o : Option (List ℕ)) → mark j o ≡ none → countIn o ≡ 1
-once j none e = refl
-once j (some ds) e = absurd (Option·none-ne-some j (sym e))
-
--- what is due of the bracket is due of its count or of its parts
-fits-count : (i j : ℕ) (o : Option (List ℕ)) (x : Inside) → Fits (unknownAt i j o x)
-    → (given o (λ ds. dueAt (eqb (valueOn 0 ds) 0 || ltb countLimit (valueOn 0 ds)) j) [] ≡ []) × Fits (bracketAt Unknown 0 0 i x)
-fits-count i j none x e = (refl, e)
-fits-count i j (some ds) x e = (nil-front _ _ e, nil-back (dueAt (eqb (valueOn 0 ds) 0 || ltb countLimit (valueOn 0 ds)) j) _ e)
-
-module _ (i j : ℕ) (x : Inside) (o : Option (List ℕ)) (fine : goodInside false true x ≡ true) (few : goodCount o ≡ true) (narrow : Fits (unknownAt i j o x)) where
-  box : Plain (squares false Unknown 0 0) (bracketAt Unknown 0 0 i x) x
-  box = boxed openSquare shutSquare false true Unknown 0 0 i x fine (fits-count i j o x narrow .1)
-
-  count : Counted o (plainCount o)
-  count = plain-count j o few (fits-count i j o x narrow .0)
-
-  unknown-plain : Plain marked (unknownAt i j o x) (record { inside = x; count = o })
-  unknown-plain =
-      record {
-        fine = both _ _ (box .fine) (count .fine);
-        says = ap₂ _++_ (box .says) (count .says);
-        same = λ h. subst (λ (z : Bracket ℕ). Alike (unknownAt i j o x ∷ []) (z ∷ [])) (counted-at h _ (plainCount o) (plainInside x)) (
-          record {
-            bare = ap₂ (λ n ps. record { kind = Unknown; first = 0; last = 0; count = n; counted = none; parts = ps; at = tt }) (sym (count .back)) (ap (λ (z : Bracket (Unit {0})). z .parts) (box .same h .0 .bare));
-            marks = λ e. ap (mark _) (count .unmarked e);
-            once = once j o;
-          },
-          tt,
-        );
-        short = omega (arith, length-append (printSquare (plainInside x)) (printCount (plainCount o)), length-append (printSquare x) (printCount o), box .short, count .short);
-      }
+unknown-plain : (i j : ℕ) (x : Inside) (o : Option (List ℕ)) → goodMarked (record { inside = x; count = o }) ≡ true → Fits (unknownAt i j o x)
+    → Plain marked (unknownAt i j o x) (record { inside = x; count = o })
+unknown-plain i j x o f n =
+    let good = both-of (goodInside false true x) (goodCount o) f in
+    let box = boxed openSquare shutSquare false true Unknown 0 0 i x (good .0) (nil-back (wideCount (unknownAt i j o x)) _ n) in
+    let count = plain-count j o (good .1) (nil-front (wideCount (unknownAt i j o x)) _ n) in
+    record {
+      fine = both _ _ (box .fine) (count .fine);
+      says = ap₂ _++_ (box .says) (count .says);
+      same = λ h. subst (λ (z : Bracket ℕ). Alike (unknownAt i j o x ∷ []) (z ∷ [])) (counted-at h _ (plainCount o) (plainInside x)) (
+        record {
+          bare = ap₂ (withParts Unknown 0 0) (sym (count .back)) (ap (λ (z : Bracket (Unit {0})). z .parts) (box .same h .0 .bare));
+          marks = λ e. ap (mark _) (count .unmarked e);
+          once = once j o;
+        },
+        tt,
+      );
+      short = omega (arith, length-append (printSquare (plainInside x)) (printCount (plainCount o)), length-append (printSquare x) (printCount o), box .short, count .short);
+    }
 
 marked-plain : (i : ℕ) (m : Marked) → goodMarked m ≡ true → Fits (meansMarked i m) → Plain marked (meansMarked i m) m
 marked-plain i m f n =
     let at = counted-at i (i + length (printSquare (m .inside))) (m .count) (m .inside) in
-    subst (λ (z : Bracket ℕ). Plain marked z m) at
-    (unknown-plain i _ (m .inside) (m .count) (and-left (goodInside false true (m .inside)) _ f) (and-right (goodInside false true (m .inside)) _ f) (subst Fits (sym at) n))
+    subst (λ (z : Bracket ℕ). Plain marked z m) at (unknown-plain i _ (m .inside) (m .count) f (subst Fits (sym at) n))
 
 -- ---- "the splitting of unknown runs" is not kept
 pub runs-on : (i : ℕ) (rs : List Run) → Each (On Unknown 0) (eachAlong printRun meansRun i rs)
 unfolding eachAlong
 runs-on i [] = tt
 runs-on i (r ∷ rs) =
-    each-append (On Unknown 0) (meansRun i r) _
-    (each-along (On Unknown 0) printMarked meansMarked (λ j m. subst (On Unknown 0) (counted-at j (j + length (printSquare (m .inside))) (m .count) (m .inside)) (refl, refl)) i (marks r))
-    (runs-on (i + length (printRun r)) rs)
+    let one : (j : ℕ) (m : Marked) → On Unknown 0 (meansMarked j m) = λ j m. subst (On Unknown 0) (counted-at j (j + length (printSquare (m .inside))) (m .count) (m .inside)) (refl, refl) in
+    each-append (On Unknown 0) (meansRun i r) _ (each-along (On Unknown 0) printMarked meansMarked one i (marks r)) (runs-on (i + length (printRun r)) rs)
 
 marks-plain : (i : ℕ) (rs : List Run) → all goodRun rs ≡ true → Each Fits (eachAlong printRun meansRun i rs) → Plains marked (eachAlong printRun meansRun i rs) (flat marks rs)
 unfolding all flat eachAlong
@@ -242,75 +260,24 @@ marks-plain i (r ∷ rs) f n =
     plain-then marked marked-plain i (marks r) (and-left (goodRun r) _ f) (each-front Fits (meansRun i r) _ n) _ (flat marks rs)
     (marks-plain (i + length (printRun r)) rs (and-right (goodRun r) _ f) (each-back Fits (meansRun i r) _ n))
 
-run-prints : (ms : List Marked) → closedBy (flat printMarked ms) question ≡ flat printRun (oneRun ms)
-unfolding flat
-run-prints [] = refl
-run-prints (m ∷ ms) = sym (append-nil _)
-
-run-means : (j : ℕ) (ms : List Marked) → along printMarked meansMarked j ms ≡ eachAlong printRun meansRun j (oneRun ms)
-unfolding eachAlong along
-run-means j [] = refl
-run-means j (m ∷ ms) = sym (append-nil _)
-
-run-good : (ms : List Marked) → all goodMarked ms ≡ true → all goodRun (oneRun ms) ≡ true
-unfolding all
-run-good [] e = refl
-run-good (m ∷ ms) e = both _ true e refl
-
-closed-length : (l : List ℕ) (b : ℕ) → length (closedBy l b) ≤ length l + 1
-closed-length [] b = omega arith
-closed-length (x ∷ l) b = omega (arith, length-append (x ∷ l) (b ∷ []))
-
 run-lengths : (rs : List Run) → length (flat printRun rs) ≡ length (flat printMarked (flat marks rs)) + length rs
 unfolding flat
 run-lengths [] = refl
-run-lengths (r ∷ rs) = omega (arith, length-append (printRun r) (flat printRun rs), length-append (flat printMarked (marks r)) (question ∷ []), flat-append-length printMarked (marks r) (flat marks rs), run-lengths rs)
-
-run-short : (rs : List Run) → length (flat printMarked (map plainMarked (flat marks rs))) ≤ length (flat printMarked (flat marks rs)) → length (flat printRun (plainRuns rs)) ≤ length (flat printRun rs)
-unfolding flat
-run-short [] h = omega arith
-run-short (r ∷ rs) h =
-    let ms = map plainMarked (flat marks (r ∷ rs)) in
-    omega (arith, closed-length (flat printMarked ms) question, ap length (run-prints ms), run-lengths (r ∷ rs))
+run-lengths (r ∷ rs) =
+    let one = length-append (flat printMarked (marks r)) (question ∷ []) in
+    omega (arith, one, length-append (printRun r) (flat printRun rs), flat-append-length printMarked (marks r) (flat marks rs), run-lengths rs)
 
 pub runs-plain : (i : ℕ) (rs : List Run) → all goodRun rs ≡ true → Each Fits (eachAlong printRun meansRun i rs)
-    → Spelt (all goodRun (plainRuns rs)) (closedBy (flat unknownText (eachAlong printRun meansRun i rs)) question) (flat printRun (plainRuns rs)) (flat printRun rs) (eachAlong printRun meansRun i rs)
-    (λ j. eachAlong printRun meansRun j (plainRuns rs))
-runs-plain i rs f n =
-    let ms = map plainMarked (flat marks rs) in
-    let p = marks-plain i rs f n in
+    → Spelt (all goodRun (plainRuns rs)) (closedBy (flat unknownText (eachAlong printRun meansRun i rs)) question) (flat printRun (plainRuns rs)) (flat printRun rs)
+    (eachAlong printRun meansRun i rs) (λ j. eachAlong printRun meansRun j (plainRuns rs))
+unfolding all flat eachAlong
+runs-plain i [] f n = spelt-none
+runs-plain i (r ∷ rs) f n =
+    let ks = marks-plain i (r ∷ rs) f n in
+    let ms = map plainMarked (flat marks (r ∷ rs)) in
     record {
-      fine = run-good ms (p .fine);
-      says = ap (λ l. closedBy l question) (p .says) ∙ run-prints ms;
-      same = λ j. subst (λ (z : List (Bracket ℕ)). Alike (eachAlong printRun meansRun i rs) z) (run-means j ms) (p .same j);
-      short = run-short rs (p .short);
+      fine = both _ true (ks .fine) refl;
+      says = ap (λ l. closedBy l question) (ks .says) ∙ sym (append-nil _);
+      same = λ j. rw append-nil (ks .same j);
+      short = omega (arith, run-lengths (r ∷ rs), ap length (append-nil (flat printMarked ms ++ (question ∷ []))), length-append (flat printMarked ms) (question ∷ []), ks .short);
     }
-
--- ---- at the termini
-front-prints : (xs : List Inside) → closedBy (printSquares xs) dash ≡ printFront xs
-unfolding flat
-front-prints [] = refl
-front-prints (x ∷ xs) = refl
-
-back-prints : (xs : List Inside) → ledBy dash (printSquares xs) ≡ printBack xs
-unfolding flat
-back-prints [] = refl
-back-prints (x ∷ xs) = refl
-
-front-short : (xs : List Inside) → length (printSquares (plainInsides xs)) ≤ length (printSquares xs) → length (printFront (plainInsides xs)) ≤ length (printFront xs)
-front-short [] h = omega arith
-front-short (x ∷ xs) h = omega (arith, length-append (printSquares (plainInsides (x ∷ xs))) (dash ∷ []), length-append (printSquares (x ∷ xs)) (dash ∷ []))
-
-back-short : (xs : List Inside) → length (printSquares (plainInsides xs)) ≤ length (printSquares xs) → length (printBack (plainInsides xs)) ≤ length (printBack xs)
-back-short [] h = omega arith
-back-short (x ∷ xs) h = omega arith
-
-module _ (c : Kind) (q i : ℕ) (xs : List Inside) (fine : goodSquares true xs ≡ true) (narrow : Each Fits (meansSquares c q q i xs)) where
-  term : Plains (squares true c q q) (meansSquares c q q i xs) xs
-  term = squares-plain true c q q i xs fine narrow
-
-  pub front-plain : Spelt (goodSquares true (plainInsides xs)) (closedBy (flat squareText (meansSquares c q q i xs)) dash) (printFront (plainInsides xs)) (printFront xs) (meansSquares c q q i xs) (λ j. meansSquares c q q j (plainInsides xs))
-  front-plain = record { fine = term .fine; says = ap (λ l. closedBy l dash) (term .says) ∙ front-prints (plainInsides xs); same = term .same; short = front-short xs (term .short) }
-
-  pub back-plain : Spelt (goodSquares true (plainInsides xs)) (ledBy dash (flat squareText (meansSquares c q q i xs))) (printBack (plainInsides xs)) (printBack xs) (meansSquares c q q i xs) (λ j. meansSquares c q q j (plainInsides xs))
-  back-plain = record { fine = term .fine; says = ap (ledBy dash) (term .says) ∙ back-prints (plainInsides xs); same = term .same; short = back-short xs (term .short) }

@@ -2,14 +2,14 @@
 -- is no longer.
 use Prim.Native.Nat.{ℕ, _+_, _≤_}
 use native.Mathlib.Omega.{arith}
-use mathlib.Core.Path.{_≡_, refl, sym, ap, ap₂, _∙_, subst}
-use mathlib.Core.Bool.{true, _&&_}
+use mathlib.Core.Path.{_≡_, sym, _∙_, subst}
+use mathlib.Core.Bool.{true}
 use mathlib.Core.List.{List, [], _++_, map}
 use lib.ListN.{length}
 use Rattle.scope.specs.declared.grammar.Kind.the-variants.{Labile, NTerm, CTerm}
 use Rattle.scope.specs.Bytes.{question, dash}
-use Rattle.scope.specs.Canonical.{squareText, curlyText, unknownText, closedBy, ledBy, sequenceText, chainText, canonical}
-use Rattle.scope.specs.Grammar.{printCurly, along, eachAlong, goodSquares, goodCurlies, bracketAt, meansSquares, goodRun, printRun, meansRun, printElement, goodElement, bracketsAlong, Spelling, elements, printFront, printBack, print, good, atLabiles, atFront, atSequence, atBack, residuesOf, backOf, means}
+use Rattle.scope.specs.Canonical.{squareText, curlyText, unknownText, closedBy, ledBy, sequenceText, canonical}
+use Rattle.scope.specs.Grammar.{printCurly, along, eachAlong, goodSquares, goodCurlies, bracketAt, meansSquares, goodRun, printRun, meansRun, printElement, goodElement, bracketsAlong, Spelling, elements, printFront, print, good, atLabiles, atFront, atSequence, atBack, residuesOf, backOf, means}
 use Rattle.scope.specs.Line.{Bracket}
 use Rattle.scope.specs.Lists.{all, flat}
 use Rattle.scope.specs.Refusals.{refusal7, wideCount, wideMass, wideScore}
@@ -17,24 +17,24 @@ use Rattle.scope.specs.Tables.{bareResidue}
 use Rattle.basics.specs.Each.{Each, each-front, each-back}
 use Rattle.basics.specs.Lists.{flat-none}
 use Rattle.basics.specs.Tests.{and-left, and-right}
-use Rattle.canonical_laws.specs.Endings.{On, chain-pieces}
+use Rattle.canonical_laws.specs.Endings.{Brackets, On, piecesText, chain-pieces}
 use Rattle.canonical_laws.specs.PlainBrackets.{Fits, Spelt, spelt-append, squares-on, curlies-on, curlies-plain, runs-on, runs-plain, front-plain, back-plain}
 use Rattle.canonical_laws.specs.PlainSequence.{mapped-length, sequence-residues, sequence-ends, sequence-plain}
-use Rattle.canonical_laws.specs.Plainly.{plainInsides, plainRuns, plainElement, plainly}
+use Rattle.canonical_laws.specs.Plainly.{plainInsides, plainRuns, plainly}
 use Rattle.canonical_laws.specs.Refusals.{Alike}
 
 module _ (t : Spelling) (fine : good t ≡ true) (narrow : refusal7 (means t) ≡ []) where
   -- the brackets of the line, by where they stand
-  abbrev us : List (Bracket ℕ)
+  abbrev us : Brackets
   us = eachAlong printRun meansRun 0 (t .runs)
 
-  abbrev ls : List (Bracket ℕ)
+  abbrev ls : Brackets
   ls = along printCurly (bracketAt Labile 0 0) (atLabiles 0 t) (t .labiles)
 
-  abbrev ns : List (Bracket ℕ)
+  abbrev ns : Brackets
   ns = meansSquares NTerm 0 0 (atFront 0 t) (t .front)
 
-  abbrev ss : List (Bracket ℕ)
+  abbrev ss : Brackets
   ss = bracketsAlong 0 (atSequence 0 t) (elements t)
 
   abbrev last : ℕ
@@ -47,18 +47,15 @@ module _ (t : Spelling) (fine : good t ≡ true) (narrow : refusal7 (means t) �
   unfolding refusal7
   fits = flat-none (λ k. wideCount k ++ flat (λ p. wideMass (p .value) ++ wideScore p) (k .parts)) (means t .brackets) narrow
 
-  abbrev text : List ℕ
-  text = closedBy (flat unknownText us) question ++ (flat curlyText ls ++ (closedBy (flat squareText ns) dash ++ (sequenceText ss 1 (residuesOf 0 t) ++ ledBy dash (flat squareText (backOf 0 t)))))
-
   -- those of its plain spelling, from the place j on, the C-terminal ones at the position q
-  abbrev plainAt : ℕ → ℕ → List (Bracket ℕ)
+  abbrev plainAt : ℕ → ℕ → Brackets
   plainAt q j =
       eachAlong printRun meansRun j (plainRuns (t .runs))
       ++ (along printCurly (bracketAt Labile 0 0) (atLabiles j (plainly t)) (plainInsides (t .labiles))
       ++ (meansSquares NTerm 0 0 (atFront j (plainly t)) (plainInsides (t .front))
       ++ (bracketsAlong 0 (atSequence j (plainly t)) (elements (plainly t)) ++ meansSquares CTerm q q (atBack j (plainly t) + 1) (plainInsides (t .back)))))
 
-  whole : Spelt (good (plainly t)) text (print (plainly t)) (print t) (means t .brackets) (plainAt last)
+  whole : Spelt (good (plainly t)) (piecesText 0 (residuesOf 0 t) us ls ns ss (backOf 0 t)) (print (plainly t)) (print t) (means t .brackets) (plainAt last)
   whole =
       let good₁ = and-right (all goodRun (t .runs)) _ fine in
       let good₂ = and-right (goodCurlies (t .labiles)) _ good₁ in

@@ -1,9 +1,9 @@
 -- The sequence in its plain spelling: residues with their brackets, alone or in groups. What is said of one element holds of all of them.
-use Prim.Native.Nat.{ℕ, suc, _+_, _-_, _≤_, _<_}
+use Prim.Native.Nat.{ℕ, suc, _+_, _-_, _≤_}
 use native.Mathlib.Omega.{arith}
 use native.Mathlib.Nat.{add-zero}
-use mathlib.Core.Path.{_≡_, refl, sym, ap, ap₂, _∙_, subst}
-use mathlib.Core.Bool.{Bool, true, false, cond, _&&_, _||_}
+use mathlib.Core.Path.{_≡_, refl, sym, ap, ap₂, _∙_}
+use mathlib.Core.Bool.{true, false, cond, _&&_, true≢false}
 use mathlib.Core.List.{List, [], _∷_, _++_, map, append-assoc, append-nil, map-append}
 use lib.Dec.{eqb, leb}
 use lib.ListN.{length, length-append, length-map}
@@ -14,19 +14,18 @@ use Rattle.scope.specs.declared.grammar.Section.{Section}
 use Rattle.scope.specs.declared.grammar.Section.the-variants.{Plain, RangeFirst, RangeNext, UnsureFirst, UnsureNext}
 use Rattle.scope.specs.Bytes.{upper, isLower, isLetter, openRound, shutRound}
 use Rattle.scope.specs.Canonical.{squareText, endingAt, opening, ending, isNext, goesOn, sequenceText}
-use Rattle.scope.specs.Grammar.{Inside, printSquare, bracketAt, along, eachAlong, goodSquares, printSquares, meansSquares, Spot, Element, single, range, unsure, printSpot, printElement, goodSpot, goodElement, residueOf, residuesOn, residuesIn, bracketsOn, bracketsIn, bracketsAlong}
+use Rattle.scope.specs.Grammar.{Inside, along, eachAlong, goodSquares, printSquares, meansSquares, Spot, Element, single, range, unsure, printSpot, printElement, goodSpot, goodElement, residueOf, residuesOn, residuesIn, bracketsOn, bracketsIn, bracketsAlong}
 use Rattle.scope.specs.Kinds.{isKind}
 use Rattle.scope.specs.Line.{Bracket, Residue}
-use Rattle.scope.specs.Lists.{all, keep, flat}
+use Rattle.scope.specs.Lists.{none?, all, keep, flat}
 use Rattle.scope.specs.Tables.{bareResidue}
 use Rattle.basics.specs.Choice.{by-test, pick-true, pick-false}
 use Rattle.basics.specs.Each.{Each, each-append, each-front, each-back}
-use Rattle.basics.specs.Lists.{flat-one-length}
+use Rattle.basics.specs.Lists.{flat-one, flat-one-length}
 use Rattle.basics.specs.Tests.{and-left, and-right, both, both-of, or-first}
-use Rattle.canonical_laws.specs.Endings.{On, Ends, on-ends, ending-append, ending-all, ending-kind, ending-off, ownText, rangeText, front-off, back-off, text-on, text-last, sequence-append}
-use Rattle.canonical_laws.specs.PlainBrackets.{Fits, Spelt, spelt-append, Plains, squares, squares-on, squares-plain}
-use Rattle.canonical_laws.specs.Plainly.{plainInside, plainInsides, plainSpot, plainElement}
-use Rattle.canonical_laws.specs.Refusals.{Alike}
+use Rattle.canonical_laws.specs.Endings.{Brackets, Ends, on-ends, ending-append, ending-on, ending-off, ownText, rangeText, front-off, back-off, text-on, text-last, sequence-append}
+use Rattle.canonical_laws.specs.PlainBrackets.{Fits, Spelt, spelt-none, spelt-append, joined-short, Plains, squares, squares-on, squares-plain}
+use Rattle.canonical_laws.specs.Plainly.{plainInsides, plainSpot, plainElement}
 
 -- ---- lists
 along-length : {A B : Type 0} (prints : A → List ℕ) (f : ℕ → A → B) (i : ℕ) (l : List A) → length (along prints f i l) ≡ length l
@@ -43,7 +42,10 @@ lower-range b e = (leb-true 97 b (and-left (leb 97 b) (leb b 122) e), leb-true b
 
 upper-twice : (b : ℕ) → upper (upper b) ≡ upper b
 unfolding upper
-upper-twice b = by-test (isLower b) (λ e. let u : upper b ≡ b - 32 = pick-true (isLower b) _ _ e in ap upper u ∙ pick-false (isLower (b - 32)) _ _ (rw (lt-leb 97 (b - 32) (omega (arith, lower-range b e)))) ∙ sym u) (λ e. ap upper (pick-false (isLower b) _ _ e))
+upper-twice b =
+    by-test (isLower b)
+    (λ e. let u : upper b ≡ b - 32 = pick-true (isLower b) _ _ e in ap upper u ∙ pick-false (isLower (b - 32)) _ _ (rw (lt-leb 97 (b - 32) (omega (arith, lower-range b e)))) ∙ sym u)
+    (λ e. ap upper (pick-false (isLower b) _ _ e))
 
 upper-letter : (b : ℕ) → isLetter b ≡ true → isLetter (upper b) ≡ true
 unfolding upper
@@ -69,25 +71,32 @@ sequence-residues i j [] = refl
 sequence-residues i j (e ∷ es) = simp map-append (ap₂ _++_ (element-residues i j e) (sequence-residues (i + length (printElement e)) (j + length (printElement (plainElement e))) es))
 
 -- ---- where the brackets end
-pub squares-here : (c : Kind) (first last i : ℕ) (xs : List Inside) → endingAt c last (meansSquares c first last i xs) ≡ meansSquares c first last i xs
-squares-here c first last i xs = ending-all c last (meansSquares c first last i xs) (squares-on c first last i xs)
+squares-here : (c : Kind) (p : ℕ) (d : Kind) (first last i : ℕ) (xs : List Inside) → endingAt c p (meansSquares d first last i xs) ≡ cond (isKind c d && eqb last p) (meansSquares d first last i xs) []
+squares-here c p d first last i xs = ending-on c p d last (meansSquares d first last i xs) (squares-on d first last i xs)
 
-pub squares-other : (c : Kind) (p : ℕ) (d : Kind) (first last i : ℕ) (xs : List Inside) → isKind c d ≡ false → endingAt c p (meansSquares d first last i xs) ≡ []
-squares-other c p d first last i xs e = ending-kind c p d last e (meansSquares d first last i xs) (squares-on d first last i xs)
-
-pub squares-end : (a b : ℕ) (c : Kind) (first last i : ℕ) (xs : List Inside) → a ≤ last → last ≤ b → Each (Ends a b) (meansSquares c first last i xs)
+squares-end : (a b : ℕ) (c : Kind) (first last i : ℕ) (xs : List Inside) → a ≤ last → last ≤ b → Each (Ends a b) (meansSquares c first last i xs)
 squares-end a b c first last i xs h k = on-ends c last a b h k (meansSquares c first last i xs) (squares-on c first last i xs)
+
+-- the brackets of a residue, and of those behind it
+abbrev own : ℕ → ℕ → Spot → Brackets
+own n i s = meansSquares OnResidue n n (i + 1) (s .brackets)
+
+abbrev rest : ℕ → ℕ → Spot → List Spot → Brackets
+rest n i s ss = bracketsOn (n + 1) (i + length (printSpot s)) ss
 
 spots-end : (a b n i : ℕ) (ss : List Spot) → a ≤ n → n + length ss ≤ b + 1 → Each (Ends a b) (bracketsOn n i ss)
 unfolding bracketsOn
 spots-end a b n i [] h k = tt
-spots-end a b n i (s ∷ ss) h k = each-append (Ends a b) (meansSquares OnResidue n n (i + 1) (s .brackets)) _ (squares-end a b OnResidue n n (i + 1) (s .brackets) h (omega arith)) (spots-end a b (n + 1) (i + length (printSpot s)) ss (omega arith) (omega arith))
+spots-end a b n i (s ∷ ss) h k =
+    each-append (Ends a b) (own n i s) (rest n i s ss) (squares-end a b OnResidue n n (i + 1) (s .brackets) h (omega arith))
+    (spots-end a b (n + 1) (i + length (printSpot s)) ss (omega arith) (omega arith))
 
 element-ends : (a b n i : ℕ) (e : Element) → a ≤ n + 1 → n + length (residuesIn i e) ≤ b → Each (Ends a b) (bracketsIn n i e)
 element-ends a b n i (single s) h k = spots-end a b (n + 1) i (s ∷ []) (omega arith) (omega arith)
 element-ends a b n i (range s ss x xs) h k =
     let l = along-length printSpot (residueOf RangeNext) (i + 1 + length (printSpot s)) ss in
-    each-append (Ends a b) (bracketsOn (n + 1) (i + 1) (s ∷ ss)) _ (spots-end a b (n + 1) (i + 1) (s ∷ ss) (omega arith) (omega arith)) (squares-end a b OnRange (n + 1) (n + 1 + length ss) _ (x ∷ xs) (omega arith) (omega arith))
+    each-append (Ends a b) (bracketsOn (n + 1) (i + 1) (s ∷ ss)) _ (spots-end a b (n + 1) (i + 1) (s ∷ ss) (omega arith) (omega arith))
+    (squares-end a b OnRange (n + 1) (n + 1 + length ss) _ (x ∷ xs) (omega arith) (omega arith))
 element-ends a b n i (unsure s ss) h k =
     let l = along-length printSpot (residueOf UnsureNext) (i + 1 + 1 + length (printSpot s)) ss in
     spots-end a b (n + 1) (i + 1 + 1) (s ∷ ss) (omega arith) (omega arith)
@@ -97,99 +106,89 @@ unfolding bracketsAlong eachAlong
 sequence-ends a b n i [] h k = tt
 sequence-ends a b n i (e ∷ es) h k =
     let l = length-append (residuesIn i e) (eachAlong printElement residuesIn (i + length (printElement e)) es) in
-    each-append (Ends a b) (bracketsIn n i e) _ (element-ends a b n i e h (omega arith)) (sequence-ends a b (n + length (residuesIn i e)) (i + length (printElement e)) es (omega arith) (omega arith))
+    each-append (Ends a b) (bracketsIn n i e) _ (element-ends a b n i e h (omega arith))
+    (sequence-ends a b (n + length (residuesIn i e)) (i + length (printElement e)) es (omega arith) (omega arith))
 
 -- ---- residues with their brackets
-fits-spot : (n i : ℕ) (s : Spot) (ss : List Spot) → Each Fits (bracketsOn n i (s ∷ ss)) → Each Fits (meansSquares OnResidue n n (i + 1) (s .brackets)) × Each Fits (bracketsOn (n + 1) (i + length (printSpot s)) ss)
+fits-spot : (n i : ℕ) (s : Spot) (ss : List Spot) → Each Fits (bracketsOn n i (s ∷ ss)) → Each Fits (own n i s) × Each Fits (rest n i s ss)
 unfolding bracketsOn
-fits-spot n i s ss w = (each-front Fits own rest w, each-back Fits own rest w)
-  where
-    own : List (Bracket ℕ)
-    own = meansSquares OnResidue n n (i + 1) (s .brackets)
+fits-spot n i s ss w = (each-front Fits (own n i s) (rest n i s ss) w, each-back Fits (own n i s) (rest n i s ss) w)
 
-    rest : List (Bracket ℕ)
-    rest = bracketsOn (n + 1) (i + length (printSpot s)) ss
-
-own-plain : (n i : ℕ) (s : Spot) (ss : List Spot) → goodSpot s ≡ true → Each Fits (bracketsOn n i (s ∷ ss)) → Plains (squares true OnResidue n n) (meansSquares OnResidue n n (i + 1) (s .brackets)) (s .brackets)
+own-plain : (n i : ℕ) (s : Spot) (ss : List Spot) → goodSpot s ≡ true → Each Fits (bracketsOn n i (s ∷ ss)) → Plains (squares true OnResidue n n) (own n i s) (s .brackets)
 own-plain n i s ss f w = squares-plain true OnResidue n n (i + 1) (s .brackets) (and-right (isLetter (s .letter)) _ f) (fits-spot n i s ss w .0)
 
 -- apart from the text of the group in which they stand
 abbrev Spots : ℕ → ℕ → List Spot → Type 0
-Spots n i ss = Spelt (all goodSpot (map plainSpot ss)) (flat printSpot (map plainSpot ss)) (flat printSpot (map plainSpot ss)) (flat printSpot ss) (bracketsOn n i ss) (λ j. bracketsOn n j (map plainSpot ss))
+Spots n i ss =
+    Spelt (all goodSpot (map plainSpot ss)) (flat printSpot (map plainSpot ss)) (flat printSpot (map plainSpot ss)) (flat printSpot ss) (bracketsOn n i ss)
+    (λ j. bracketsOn n j (map plainSpot ss))
 
 spots-plain : (n i : ℕ) (ss : List Spot) → all goodSpot ss ≡ true → Each Fits (bracketsOn n i ss) → Spots n i ss
 unfolding all flat bracketsOn
-spots-plain n i [] f w = record { fine = refl; says = refl; same = λ j. tt; short = omega arith }
+spots-plain n i [] f w = spelt-none
 spots-plain n i (s ∷ ss) f w =
-    let own = own-plain n i s ss (and-left (goodSpot s) _ f) w in
-    let one : Spelt (goodSpot (plainSpot s)) (printSpot (plainSpot s)) (printSpot (plainSpot s)) (printSpot s) (meansSquares OnResidue n n (i + 1) (s .brackets)) (λ j. meansSquares OnResidue n n (j + 1) (plainInsides (s .brackets))) =
-    record { fine = both _ _ (upper-letter (s .letter) (and-left _ _ (and-left (goodSpot s) _ f))) (own .fine); says = refl; same = λ j. own .same (j + 1); short = omega (arith, own .short) } in
+    let good = and-left (goodSpot s) _ f in
+    let ks = own-plain n i s ss good w in
+    let one : Spelt (goodSpot (plainSpot s)) (printSpot (plainSpot s)) (printSpot (plainSpot s)) (printSpot s) (own n i s) (λ j. own n j (plainSpot s)) =
+    record { fine = both _ _ (upper-letter (s .letter) (and-left _ _ good)) (ks .fine); says = refl; same = λ j. ks .same (j + 1); short = omega (arith, ks .short) } in
     spelt-append (λ j. j + length (printSpot (plainSpot s))) one (spots-plain (n + 1) (i + length (printSpot s)) ss (and-right (goodSpot s) _ f) (fits-spot n i s ss w .1))
 
 -- ---- the text of a group
 -- what continues it neither opens nor ends it otherwise
-record Group (first next : Section) : Type 0 where
-  goes : isNext next ≡ true
-  opens : opening next ≡ []
-  ends : (t : List ℕ) → ending next t ≡ ending first t
+abbrev Group : Section → Section → Type 0
+Group first next = (isNext next ≡ true) × (opening next ≡ []) × (ending next ≡ ending first)
 
 not-ranges : (p n i : ℕ) (ss : List Spot) → endingAt OnRange p (bracketsOn n i ss) ≡ []
 unfolding bracketsOn keep
 not-ranges p n i [] = refl
 not-ranges p n i (s ∷ ss) =
-    ending-append OnRange p (meansSquares OnResidue n n (i + 1) (s .brackets)) _
-    ∙ ap₂ _++_ (squares-other OnRange p OnResidue n n (i + 1) (s .brackets) refl) (not-ranges p (n + 1) (i + length (printSpot s)) ss)
+    ending-append OnRange p (own n i s) (rest n i s ss) ∙ ap₂ _++_ (squares-here OnRange p OnResidue n n (i + 1) (s .brackets)) (not-ranges p (n + 1) (i + length (printSpot s)) ss)
 
 -- of residues with their brackets, and brackets xs on a range that ends at b
 module _ (a b j : ℕ) (xs : List Inside) where
-  abbrev onRange : List (Bracket ℕ)
+  abbrev onRange : Brackets
   onRange = meansSquares OnRange a b j xs
 
-  own-text : (n i : ℕ) (s : Spot) (ss : List Spot) → goodSpot s ≡ true → Each Fits (bracketsOn n i (s ∷ ss)) → ownText (bracketsOn n i (s ∷ ss) ++ onRange) n ≡ printSquares (plainInsides (s .brackets))
+  own-text : (n i : ℕ) (s : Spot) (ss : List Spot) → goodSpot s ≡ true → Each Fits (bracketsOn n i (s ∷ ss))
+      → ownText (bracketsOn n i (s ∷ ss) ++ onRange) n ≡ printSquares (plainInsides (s .brackets))
   unfolding bracketsOn
   own-text n i s ss f w =
+      let e = n + length ss in
+      let here = squares-here OnResidue n OnResidue n n (i + 1) (s .brackets) ∙ pick-true (eqb n n) _ _ (eq-eqb n n refl) in
+      let behind = ending-off OnResidue n (n + 1) e (λ u v. omega arith) (rest n i s ss) (spots-end (n + 1) e (n + 1) _ ss (omega arith) (omega arith)) in
       ap (flat squareText)
-      (ending-append OnResidue n (own ++ rest) onRange
-      ∙ ap₂ _++_
-      (ending-append OnResidue n own rest
-      ∙ ap₂ _++_ (squares-here OnResidue n n (i + 1) (s .brackets))
-      (ending-off OnResidue n (n + 1) (n + length ss) (λ u v. omega arith) rest (spots-end (n + 1) (n + length ss) (n + 1) _ ss (omega arith) (omega arith))))
-      (squares-other OnResidue n OnRange a b j xs refl)
+      (ending-append OnResidue n (own n i s ++ rest n i s ss) onRange
+      ∙ ap₂ _++_ (ending-append OnResidue n (own n i s) (rest n i s ss) ∙ ap₂ _++_ here behind) (squares-here OnResidue n OnRange a b j xs)
       ∙ simp append-nil)
       ∙ own-plain n i s ss f w .says
-    where
-      own : List (Bracket ℕ)
-      own = meansSquares OnResidue n n (i + 1) (s .brackets)
-
-      rest : List (Bracket ℕ)
-      rest = bracketsOn (n + 1) (i + length (printSpot s)) ss
 
   range-text : (n i : ℕ) (ss : List Spot) → n ≡ b → rangeText (bracketsOn n i ss ++ onRange) n ≡ flat squareText onRange
   range-text n i ss e =
-      ap (flat squareText) (ending-append OnRange n (bracketsOn n i ss) onRange ∙ ap₂ _++_ (not-ranges n n i ss) (ap (λ p. endingAt OnRange p onRange) e ∙ squares-here OnRange a b j xs))
+      let here = squares-here OnRange n OnRange a b j xs ∙ pick-true (eqb b n) _ _ (eq-eqb b n (sym e)) in
+      ap (flat squareText) (ending-append OnRange n (bracketsOn n i ss) onRange ∙ ap₂ _++_ (not-ranges n n i ss) here)
 
-  rest-text : (n i : ℕ) (s : Spot) (ss : List Spot) (rs : List (Residue ℕ)) → sequenceText (bracketsOn n i (s ∷ ss) ++ onRange) (n + 1) rs ≡ sequenceText (bracketsOn (n + 1) (i + length (printSpot s)) ss ++ onRange) (n + 1) rs
+  rest-text : (n i : ℕ) (s : Spot) (ss : List Spot) (rs : List (Residue ℕ)) → sequenceText (bracketsOn n i (s ∷ ss) ++ onRange) (n + 1) rs ≡ sequenceText (rest n i s ss ++ onRange) (n + 1) rs
   unfolding bracketsOn
   rest-text n i s ss rs =
-      ap (λ ks. sequenceText ks (n + 1) rs) (append-assoc (meansSquares OnResidue n n (i + 1) (s .brackets)) _ onRange)
-      ∙ front-off (n + 1) rs _ n n (meansSquares OnResidue n n (i + 1) (s .brackets)) (squares-end n n OnResidue n n (i + 1) (s .brackets) (omega arith) (omega arith)) (omega arith)
+      ap (λ ks. sequenceText ks (n + 1) rs) (append-assoc (own n i s) _ onRange)
+      ∙ front-off (n + 1) rs _ n n (own n i s) (squares-end n n OnResidue n n (i + 1) (s .brackets) (omega arith) (omega arith)) (omega arith)
 
-  spot-text : (first : Section) (n i : ℕ) (s : Spot) → n ≡ b → goodSpot s ≡ true → Each Fits (bracketsOn n i (s ∷ []))
-      → sequenceText (bracketsOn n i (s ∷ []) ++ onRange) n (residueOf first i s ∷ []) ≡ opening first ++ (printSpot (plainSpot s) ++ ending first (flat squareText onRange))
-  spot-text first n i s e f w =
-      text-last _ n (residueOf first i s) ∙ ap₂ (λ own on. opening first ++ (upper (s .letter) ∷ (own ++ ending first on))) (own-text n i s [] f w) (range-text n i (s ∷ []) e)
-
-  group-text : (first next : Section) → Group first next → (n i : ℕ) (s : Spot) (ss : List Spot) → n + length ss ≡ b → all goodSpot (s ∷ ss) ≡ true → Each Fits (bracketsOn n i (s ∷ ss))
+  group-text : (first next : Section) (n i : ℕ) (s : Spot) (ss : List Spot) → (none? ss ≡ false → Group first next) → n + length ss ≡ b → all goodSpot (s ∷ ss) ≡ true
+      → Each Fits (bracketsOn n i (s ∷ ss))
       → sequenceText (bracketsOn n i (s ∷ ss) ++ onRange) n (residuesOn first next i s ss) ≡ opening first ++ (flat printSpot (map plainSpot (s ∷ ss)) ++ ending first (flat squareText onRange))
   unfolding all flat along
-  group-text first next g n i s [] e f w = spot-text first n i s (omega arith) (and-left (goodSpot s) _ f) w ∙ simp append-assoc
-  group-text first next g n i s (q ∷ ss) e f w =
+  group-text first next n i s [] g e f w =
+      text-last _ n (residueOf first i s)
+      ∙ ap₂ (λ o r. opening first ++ (upper (s .letter) ∷ (o ++ ending first r))) (own-text n i s [] (and-left (goodSpot s) _ f) w) (range-text n i (s ∷ []) (omega arith))
+      ∙ simp append-assoc
+  group-text first next n i s (q ∷ ss) g e f w =
       let at = i + length (printSpot s) in
-      text-on _ n (residueOf first i s) (residuesOn next next at q ss) (g .goes)
-      ∙ ap₂ (λ own rest. opening first ++ (upper (s .letter) ∷ (own ++ rest))) (own-text n i s (q ∷ ss) (and-left (goodSpot s) _ f) w)
+      let h = g refl in
+      text-on _ n (residueOf first i s) (residuesOn next next at q ss) (h .0)
+      ∙ ap₂ (λ o r. opening first ++ (upper (s .letter) ∷ (o ++ r))) (own-text n i s (q ∷ ss) (and-left (goodSpot s) _ f) w)
       (rest-text n i s (q ∷ ss) (residuesOn next next at q ss)
-      ∙ group-text next next (record { goes = g .goes; opens = g .opens; ends = λ t. refl }) (n + 1) at q ss (omega arith) (and-right (goodSpot s) _ f) (fits-spot n i s (q ∷ ss) w .1)
-      ∙ ap₂ (λ o t. o ++ (flat printSpot (map plainSpot (q ∷ ss)) ++ t)) (g .opens) (g .ends (flat squareText onRange)))
+      ∙ group-text next next (n + 1) at q ss (λ u. (h .0, h .1, refl)) (omega arith) (and-right (goodSpot s) _ f) (fits-spot n i s (q ∷ ss) w .1)
+      ∙ ap₂ (λ o t. o ++ (flat printSpot (map plainSpot (q ∷ ss)) ++ t)) (h .1) (ap (λ (z : List ℕ → List ℕ). z (flat squareText onRange)) (h .2)))
       ∙ ap (λ l. opening first ++ (upper (s .letter) ∷ l)) (sym (append-assoc (printSquares (plainInsides (s .brackets))) (flat printSpot (map plainSpot (q ∷ ss))) _))
 
 -- ---- one element, behind n residues
@@ -198,61 +197,41 @@ OneElement n i e =
     Spelt (goodElement (plainElement e)) (sequenceText (bracketsIn n i e) (n + 1) (residuesIn i e)) (printElement (plainElement e)) (printElement e) (bracketsIn n i e)
     (λ j. bracketsIn n j (plainElement e))
 
-single-plain : (n i : ℕ) (s : Spot) → goodSpot s ≡ true → Each Fits (bracketsOn (n + 1) i (s ∷ [])) → OneElement n i (single s)
+element-plain : (n i : ℕ) (e : Element) → goodElement e ≡ true → Each Fits (bracketsIn n i e) → OneElement n i e
 unfolding all along
-single-plain n i s f w =
+element-plain n i (single s) f w =
     let spots = spots-plain (n + 1) i (s ∷ []) (both _ true f refl) w in
     record {
       fine = and-left _ true (spots .fine);
-      says = ap (λ ks. sequenceText ks (n + 1) (residuesIn i (single s))) (sym (append-nil _)) ∙ spot-text (n + 1) (n + 1) 0 [] Plain (n + 1) i s refl f w ∙ append-nil _;
+      says = ap (λ ks. sequenceText ks (n + 1) (residuesIn i (single s))) (sym (append-nil _))
+          ∙ group-text (n + 1) (n + 1) 0 [] Plain Plain (n + 1) i s [] (λ u. absurd (true≢false u)) (add-zero (n + 1)) (both _ true f refl) w ∙ append-nil _ ∙ flat-one printSpot (plainSpot s);
       same = spots .same;
       short = omega (arith, flat-one-length printSpot (plainSpot s), flat-one-length printSpot s, spots .short);
     }
-
-unsure-plain : (n i : ℕ) (s : Spot) (ss : List Spot) → all goodSpot (s ∷ ss) ≡ true → Each Fits (bracketsOn (n + 1) (i + 1 + 1) (s ∷ ss)) → OneElement n i (unsure s ss)
-unfolding along
-unsure-plain n i s ss f w =
+element-plain n i (range s ss x xs) f w =
+    let last = n + 1 + length ss in
+    let at = i + 1 + length (flat printSpot (s ∷ ss)) + 1 in
+    let good = both-of (all goodSpot (s ∷ ss)) (goodSquares false (x ∷ xs)) f in
+    let fits = each-front Fits (bracketsOn (n + 1) (i + 1) (s ∷ ss)) _ w in
+    let spots = spots-plain (n + 1) (i + 1) (s ∷ ss) (good .0) fits in
+    let on = squares-plain false OnRange (n + 1) last at (x ∷ xs) (good .1) (each-back Fits (bracketsOn (n + 1) (i + 1) (s ∷ ss)) _ w) in
+    let whole = spelt-append (λ k. k + length (flat printSpot (map plainSpot (s ∷ ss))) + 1) spots on in
+    record {
+      fine = whole .fine;
+      says = group-text (n + 1) last at (x ∷ xs) RangeFirst RangeNext (n + 1) (i + 1) s ss (λ u. (refl, refl, refl)) refl (good .0) fits
+          ∙ ap (λ t. openRound ∷ (flat printSpot (map plainSpot (s ∷ ss)) ++ (shutRound ∷ t))) (on .says);
+      same = λ j. rw (length-map ss plainSpot) (whole .same (j + 1));
+      short = omega (arith, joined-short shutRound (flat printSpot (map plainSpot (s ∷ ss))) (flat printSpot (s ∷ ss)) (printSquares (plainInsides (x ∷ xs))) (printSquares (x ∷ xs)) (spots .short) (on .short));
+    }
+element-plain n i (unsure s ss) f w =
     let spots = spots-plain (n + 1) (i + 1 + 1) (s ∷ ss) f w in
     record {
       fine = spots .fine;
       says = ap (λ ks. sequenceText ks (n + 1) (residuesIn i (unsure s ss))) (sym (append-nil _))
-          ∙ group-text (n + 1) (n + 1 + length ss) 0 [] UnsureFirst UnsureNext (record { goes = refl; opens = refl; ends = λ t. refl }) (n + 1) (i + 1 + 1) s ss refl f w;
+          ∙ group-text (n + 1) (n + 1 + length ss) 0 [] UnsureFirst UnsureNext (n + 1) (i + 1 + 1) s ss (λ u. (refl, refl, refl)) refl f w;
       same = λ j. spots .same (j + 1 + 1);
-      short = omega (arith, length-append (flat printSpot (map plainSpot (s ∷ ss))) (shutRound ∷ []), length-append (flat printSpot (s ∷ ss)) (shutRound ∷ []), spots .short);
+      short = omega (arith, joined-short shutRound (flat printSpot (map plainSpot (s ∷ ss))) (flat printSpot (s ∷ ss)) [] [] (spots .short) (omega arith));
     }
-
-range-plain : (n i : ℕ) (s : Spot) (ss : List Spot) (x : Inside) (xs : List Inside) → goodElement (range s ss x xs) ≡ true → Each Fits (bracketsIn n i (range s ss x xs)) → OneElement n i (range s ss x xs)
-range-plain n i s ss x xs f w =
-    record {
-      fine = both _ _ (spots .fine) (on .fine);
-      says = group-text (n + 1) last at (x ∷ xs) RangeFirst RangeNext (record { goes = refl; opens = refl; ends = λ t. refl }) (n + 1) (i + 1) s ss refl (good .0) (fits .0)
-          ∙ ap (λ t. openRound ∷ (flat printSpot (map plainSpot (s ∷ ss)) ++ (shutRound ∷ t))) (on .says);
-      same = λ j. rw (length-map ss plainSpot) (spelt-append (λ k. k + length (flat printSpot (map plainSpot (s ∷ ss))) + 1) spots on .same (j + 1));
-      short = omega (arith, length-append (flat printSpot (map plainSpot (s ∷ ss))) (shutRound ∷ printSquares (plainInsides (x ∷ xs))), length-append (flat printSpot (s ∷ ss)) (shutRound ∷ printSquares (x ∷ xs)), spots .short, on .short);
-    }
-  where
-    last : ℕ
-    last = n + 1 + length ss
-
-    at : ℕ
-    at = i + 1 + length (flat printSpot (s ∷ ss)) + 1
-
-    good : (all goodSpot (s ∷ ss) ≡ true) × (goodSquares false (x ∷ xs) ≡ true)
-    good = both-of _ _ f
-
-    fits : Each Fits (bracketsOn (n + 1) (i + 1) (s ∷ ss)) × Each Fits (meansSquares OnRange (n + 1) last at (x ∷ xs))
-    fits = (each-front Fits (bracketsOn (n + 1) (i + 1) (s ∷ ss)) _ w, each-back Fits (bracketsOn (n + 1) (i + 1) (s ∷ ss)) _ w)
-
-    spots : Spots (n + 1) (i + 1) (s ∷ ss)
-    spots = spots-plain (n + 1) (i + 1) (s ∷ ss) (good .0) (fits .0)
-
-    on : Plains (squares false OnRange (n + 1) last) (meansSquares OnRange (n + 1) last at (x ∷ xs)) (x ∷ xs)
-    on = squares-plain false OnRange (n + 1) last at (x ∷ xs) (good .1) (fits .1)
-
-element-plain : (n i : ℕ) (e : Element) → goodElement e ≡ true → Each Fits (bracketsIn n i e) → OneElement n i e
-element-plain n i (single s) f w = single-plain n i s f w
-element-plain n i (range s ss x xs) f w = range-plain n i s ss x xs f w
-element-plain n i (unsure s ss) f w = unsure-plain n i s ss f w
 
 -- ---- the elements, one behind another
 begins : (i : ℕ) (es : List Element) → goesOn (eachAlong printElement residuesIn i es) ≡ false
@@ -262,44 +241,33 @@ begins i (single s ∷ es) = refl
 begins i (range s ss x xs ∷ es) = refl
 begins i (unsure s ss ∷ es) = refl
 
--- the text of an element and of those behind it
 split-text : (n i : ℕ) (e : Element) (es : List Element)
     → sequenceText (bracketsAlong n i (e ∷ es)) (n + 1) (eachAlong printElement residuesIn i (e ∷ es))
     ≡ sequenceText (bracketsIn n i e) (n + 1) (residuesIn i e)
-    ++ sequenceText (bracketsAlong (n + length (residuesIn i e)) (i + length (printElement e)) es) (n + length (residuesIn i e) + 1) (eachAlong printElement residuesIn (i + length (printElement e)) es)
+    ++ sequenceText (bracketsAlong (n + length (residuesIn i e)) (i + length (printElement e)) es) (n + length (residuesIn i e) + 1)
+    (eachAlong printElement residuesIn (i + length (printElement e)) es)
 unfolding bracketsAlong eachAlong
 split-text n i e es =
-    sequence-append (own ++ rest) (n + 1) rs qs (begins _ es)
-    ∙ ap₂ _++_ (back-off (n + 1) rs own (m + 1) (m + length qs) rest (sequence-ends (m + 1) (m + length qs) m _ es (omega arith) (omega arith)) (omega arith))
-    (ap (λ p. sequenceText (own ++ rest) p qs) next ∙ front-off (m + 1) qs rest (n + 1) m own (element-ends (n + 1) m n i e (omega arith) (omega arith)) (omega arith))
-  where
-    rs : List (Residue ℕ)
-    rs = residuesIn i e
-
-    m : ℕ
-    m = n + length rs
-
-    qs : List (Residue ℕ)
-    qs = eachAlong printElement residuesIn (i + length (printElement e)) es
-
-    own : List (Bracket ℕ)
-    own = bracketsIn n i e
-
-    rest : List (Bracket ℕ)
-    rest = bracketsAlong m (i + length (printElement e)) es
-
-    next : n + 1 + length rs ≡ m + 1
-    next = omega arith
+    let rs = residuesIn i e in
+    let m = n + length rs in
+    let qs = eachAlong printElement residuesIn (i + length (printElement e)) es in
+    let front = bracketsIn n i e in
+    let behind = bracketsAlong m (i + length (printElement e)) es in
+    let next : n + 1 + length rs ≡ m + 1 = omega arith in
+    sequence-append (front ++ behind) (n + 1) rs qs (begins _ es)
+    ∙ ap₂ _++_ (back-off (n + 1) rs front (m + 1) (m + length qs) behind (sequence-ends (m + 1) (m + length qs) m _ es (omega arith) (omega arith)) (omega arith))
+    (ap (λ p. sequenceText (front ++ behind) p qs) next ∙ front-off (m + 1) qs behind (n + 1) m front (element-ends (n + 1) m n i e (omega arith) (omega arith)) (omega arith))
 
 pub sequence-plain : (n i : ℕ) (es : List Element) → all goodElement es ≡ true → Each Fits (bracketsAlong n i es)
-    → Spelt (all goodElement (map plainElement es)) (sequenceText (bracketsAlong n i es) (n + 1) (eachAlong printElement residuesIn i es)) (flat printElement (map plainElement es)) (flat printElement es)
-    (bracketsAlong n i es) (λ j. bracketsAlong n j (map plainElement es))
+    → Spelt (all goodElement (map plainElement es)) (sequenceText (bracketsAlong n i es) (n + 1) (eachAlong printElement residuesIn i es)) (flat printElement (map plainElement es))
+    (flat printElement es) (bracketsAlong n i es) (λ j. bracketsAlong n j (map plainElement es))
 unfolding all flat bracketsAlong eachAlong sequenceText
-sequence-plain n i [] f w = record { fine = refl; says = refl; same = λ j. tt; short = omega arith }
+sequence-plain n i [] f w = spelt-none
 sequence-plain n i (e ∷ es) f w =
-    let one = element-plain n i e (and-left (goodElement e) _ f) (each-front Fits (bracketsIn n i e) (bracketsAlong (n + length (residuesIn i e)) (i + length (printElement e)) es) w) in
-    let rest = sequence-plain (n + length (residuesIn i e)) (i + length (printElement e)) es (and-right (goodElement e) _ f) (each-back Fits (bracketsIn n i e) _ w) in
-    let whole = spelt-append (λ j. j + length (printElement (plainElement e))) one rest in
+    let behind = bracketsAlong (n + length (residuesIn i e)) (i + length (printElement e)) es in
+    let one = element-plain n i e (and-left (goodElement e) _ f) (each-front Fits (bracketsIn n i e) behind w) in
+    let more = sequence-plain (n + length (residuesIn i e)) (i + length (printElement e)) es (and-right (goodElement e) _ f) (each-back Fits (bracketsIn n i e) behind w) in
+    let whole = spelt-append (λ j. j + length (printElement (plainElement e))) one more in
     record {
       fine = whole .fine;
       says = split-text n i e es ∙ whole .says;

@@ -53,18 +53,16 @@ module _ (t : Spelling) (fine : good t ≡ true) (w : Taken (print t) (means t))
   narrow : refusal7 (means t) ≡ []
   narrow = w .clear .1 .1 .0
 
-  m : Line ℕ
+  abbrev m : Line ℕ
   m = means (plainly t)
 
   shorter : length (canonical (means t)) ≤ length (print t)
   shorter = subst (λ (z : List ℕ). length z ≤ length (print t)) (plainly-prints t fine narrow) (plainly-short t fine narrow)
 
   read-again : reading (canonical (means t)) ≡ holds m
-  unfolding m
   read-again = spelt-read (canonical (means t)) m (record { tree = plainly t; fine = plainly-good t fine narrow; prints = sym (plainly-prints t fine narrow); says = refl })
 
   taken-again : Taken (canonical (means t)) m
-  unfolding m
   taken-again =
       record {
         bytes = (
@@ -76,7 +74,6 @@ module _ (t : Spelling) (fine : good t ≡ true) (w : Taken (print t) (means t))
       }
 
   back-of : Back (print t) (means t)
-  unfolding m
   back-of =
       record {
         reads = record { line = m; taken = taken-back (canonical (means t)) m taken-again; tables = alike-tables (means t) m (plainly-residues t fine narrow) (plainly-alike t fine narrow) };

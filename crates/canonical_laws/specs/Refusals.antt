@@ -16,7 +16,7 @@ use Rattle.scope.specs.Lists.{given, none?, all, flat, among, shared, optional}
 use Rattle.scope.specs.Content.{isReference}
 use Rattle.scope.specs.Reading.{refers?}
 use Rattle.scope.specs.Modifications.{isKey, onlyInfo, isReferring, nameOf, namesOf, isLabelled, copies, definedBy, referredBy, defined, referredTo}
-use Rattle.scope.specs.Refusals.{dueAt, least, depthAfter, tooDeep, textIn, textOf, deepPart, refusal5, longText, longLabel, overIn, refusal6, inRange, wide, wideMass, wideScore, wideCount, refusal7, isLink, notHere, refusal8, isNumberName, refusal9, refusal10, secondLabel, definedAgain, undefined, countedLabel, unreferred, wrongLabels, wronglyLabelled, refusal11, passing, refusal12}
+use Rattle.scope.specs.Refusals.{dueAt, depthAfter, tooDeep, textIn, textOf, deepPart, refusal5, longText, longLabel, overIn, refusal6, inRange, wide, wideMass, wideScore, wideCount, refusal7, isLink, notHere, refusal8, isNumberName, refusal9, refusal10, secondLabel, definedAgain, undefined, countedLabel, unreferred, wrongLabels, wronglyLabelled, refusal11, passing, refusal12}
 use Rattle.scope.specs.Kinds.{unknownOrLabile, isUnknown}
 use Rattle.scope.specs.Tables.{bareNumber, bareLabel, bareValue, barePart, bareBracket}
 use Rattle.basics.specs.Lists.{not-due, nil-front, nil-back}

@@ -1,15 +1,15 @@
 -- Digits and the number that they mean: the number gives back its last digits and what the others mean; and `decimal` writes, of a number below 10^20 as all are
 -- that are written, digits that mean it, no more of them than any others that do.
-use Prim.Native.Nat.{ℕ, zero, suc, _+_, _*_, _-_, _/_, _%_, _^_, _≤_, _<_}
+use Prim.Native.Nat.{ℕ, zero, suc, _+_, _*_, _/_, _%_, _^_, _≤_, _<_}
 use native.Mathlib.Nat.{div-div-eq-div-mul, div-lt-iff-lt-mul, div-one, one-le-pow, pow-suc, pow-succ'}
 use native.Mathlib.Omega.{arith}
 use mathlib.Core.Path.{_≡_, refl, sym, ap, ap₂, _∙_}
 use mathlib.Core.Logic.{_↔_}
-use mathlib.Core.Bool.{Bool, true, false, cond, false≢true}
+use mathlib.Core.Bool.{true, false≢true}
 use mathlib.Core.List.{List, [], _∷_, _++_}
 use lib.Dec.{leb, ltb}
 use lib.ListN.{length, length-append}
-use borrow.Author.Tests.{ltb-true, ltb-false, lt-ltb, le-leb, leb-true}
+use borrow.Author.Tests.{ltb-true, lt-ltb, le-leb, leb-true}
 use Rattle.basics.specs.Choice.{branch-on}
 use Rattle.basics.specs.Tests.{and-left, and-right}
 use Rattle.scope.specs.Bytes.{isDigit, value}

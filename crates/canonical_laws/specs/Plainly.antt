@@ -1,13 +1,12 @@
 -- The plain spelling of what a spelling says: no leading zeros, no sign of zero, no `^1`, one run, keys and residues in the spelling of the tables. It prints the
 -- canonical line.
-use Prim.Native.Nat.{ℕ, _/_, _^_}
+use Prim.Native.Nat.{ℕ}
 use mathlib.Core.Bool.{Bool, true, not, cond, _&&_}
 use mathlib.Core.Option.{Option, none, some}
 use mathlib.Core.List.{List, [], _∷_, _++_, map}
 use lib.Dec.{eqb}
-use lib.ListN.{length}
 use Rattle.scope.specs.Bytes.{upper}
-use Rattle.scope.specs.Canonical.{decimal, lastDigits}
+use Rattle.scope.specs.Canonical.{decimal}
 use Rattle.scope.specs.Grammar.{Numeral, fraction, valueOn, Word, Base, delta, code, wording, Score, isMinus, Tag, Piece, Inside, parts, refers, Marked, Run, marks, Spot, Element, single, range, unsure, Spelling}
 use Rattle.scope.specs.Keys.{spell}
 use Rattle.scope.specs.Lists.{flat}
@@ -16,13 +15,9 @@ use Rattle.scope.specs.Lists.{flat}
 abbrev pub digitsOf : Numeral → ℕ
 digitsOf n = valueOn 0 (n .whole ++ fraction (n .behind))
 
--- as many decimals as written
-abbrev pub plainBehind : ℕ → Option (List ℕ) → Option (List ℕ)
-plainBehind m none = none
-plainBehind m (some f) = some (lastDigits (length f) m)
-
+-- "decimals as many as written"
 abbrev pub plainNumeral : Numeral → Numeral
-plainNumeral n = record { whole = decimal (digitsOf n / 10 ^ length (fraction (n .behind))); behind = plainBehind (digitsOf n) (n .behind) }
+plainNumeral n = record { whole = decimal (valueOn 0 (n .whole)); behind = n .behind }
 
 -- "The sign of zero .. not kept"
 abbrev pub plainMinus : Bool → Numeral → Bool

@@ -1,5 +1,5 @@
 -- Key words: a word that folds to a key's spelling is that key, and no other; it is of letters alone.
-use Prim.Native.Nat.{ℕ, zero, suc, _+_, _-_}
+use Prim.Native.Nat.{ℕ, _-_}
 use native.Mathlib.Omega.{arith}
 use mathlib.Core.Path.{_≡_, refl, sym, ap, _∙_, subst}
 use mathlib.Core.Bool.{Bool, true, false, not, cond, _&&_, _||_, false≢true}
@@ -206,36 +206,19 @@ no-key none e = refl
 no-key (some k) e = absurd (false≢true e)
 
 -- ---- a key is as long as it is written
--- with a colon, where there is a word
-coloned : ℕ → ℕ
-coloned zero = zero
-coloned (suc n) = suc n + 1
+pub colon-length : (v w : List ℕ) → length v ≡ length w → length (withColon v) ≡ length (withColon w)
+colon-length [] [] e = refl
+colon-length [] (b ∷ w) e = absurd (omega arith)
+colon-length (a ∷ v) [] e = absurd (omega arith)
+colon-length (a ∷ v) (b ∷ w) e = simp length-append (omega arith)
 
-colon-length : (l : List ℕ) → length (withColon l) ≡ coloned (length l)
-unfolding coloned
-colon-length [] = refl
-colon-length (b ∷ l) = length-append (b ∷ l) (colon ∷ [])
-
-written-length : (k : Key) → length (written k) ≡ coloned (length (spell k))
-unfolding written spell coloned
-written-length NoKey = refl
-written-length U = refl
-written-length M = refl
-written-length R = refl
-written-length X = refl
-written-length G = refl
-written-length C = refl
-written-length Obs = refl
-written-length Unimod = refl
-written-length Mod = refl
-written-length Xlmod = refl
-written-length Resid = refl
-written-length Gno = refl
-written-length Info = refl
-written-length Formula = refl
-written-length Glycan = refl
-written-length Position = refl
-written-length Limit = refl
+pub written-is : (k : Key) → written k ≡ withColon (spell k)
+unfolding written
+written-is k = by (spell k) refl
+  where
+    by : (l : List ℕ) → spell k ≡ l → written k ≡ withColon l
+    by [] e = rw e
+    by (b ∷ l) e = rw e
 
 pub word-length : (k : Key) (w : List ℕ) → sameFolded (spell k) w ≡ true → length (withColon w) ≡ length (written k)
-word-length k w e = colon-length w ∙ ap coloned (sym (folded-length (spell k) w e)) ∙ sym (written-length k)
+word-length k w e = sym (colon-length (spell k) w (folded-length (spell k) w e)) ∙ sym (ap length (written-is k))

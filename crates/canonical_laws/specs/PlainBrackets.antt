@@ -1,8 +1,8 @@
 -- Brackets in a line, in their plain spelling: one after the other in square or in curly brackets, and with counts in unknown runs. What is said of one bracket holds
 -- of all of a list, and of all unknown runs as of one.
-use Prim.Native.Nat.{ℕ, _+_, _≤_, _<_}
-use mathlib.Core.Path.{_≡_, refl, sym, ap, ap₂, _∙_, subst}
-use mathlib.Core.Bool.{Bool, true, false, not, cond, _&&_, _||_}
+use Prim.Native.Nat.{ℕ, _+_, _≤_}
+use mathlib.Core.Path.{_≡_, refl, sym, ap, ap₂, _∙_}
+use mathlib.Core.Bool.{Bool, true, false, not, _&&_, _||_}
 use mathlib.Core.Option.{Option, none, some, Option·none-ne-some}
 use mathlib.Core.List.{List, [], _∷_, _++_, map, append-nil}
 use native.Mathlib.Omega.{arith}
@@ -11,22 +11,23 @@ use lib.ListN.{length, length-append}
 use borrow.Author.Tests.{ltb-false, eqb-true, eqb-false}
 use Rattle.scope.specs.declared.grammar.Kind.{Kind}
 use Rattle.scope.specs.declared.grammar.Kind.the-variants.{Unknown, Labile}
-use Rattle.scope.specs.Bytes.{openSquare, shutSquare, openCurly, shutCurly, question, dash}
-use Rattle.scope.specs.Canonical.{decimal, partsText, countText, squareText, unknownText, closedBy, ledBy}
-use Rattle.scope.specs.Grammar.{valueOn, Inside, printInside, goodInside, meansInside, printSquare, printCurly, printSquares, printFront, printBack, along, eachAlong, goodSquares, goodCurlies, bracketAt, meansSquares, printCount, goodCount, counting, Marked, printMarked, goodMarked, meansMarked, Run, marks, printRun, goodRun, meansRun}
+use Rattle.scope.specs.Bytes.{openSquare, shutSquare, openCurly, shutCurly, caret, question, dash}
+use Rattle.scope.specs.Canonical.{decimal, partsText, squareText, unknownText, closedBy, ledBy}
+use Rattle.scope.specs.Grammar.{valueOn, Inside, printInside, goodInside, meansInside, printSquare, printCurly, printFront, printBack, along, eachAlong, goodSquares, goodCurlies, bracketAt, meansSquares, counting, Marked, printMarked, goodMarked, meansMarked, Run, marks, printRun, goodRun, meansRun}
 use Rattle.scope.specs.Limits.{countLimit}
 use Rattle.scope.specs.Line.{Part, Bracket}
-use Rattle.scope.specs.Lists.{given, all, flat}
+use Rattle.scope.specs.Lists.{all, flat}
 use Rattle.scope.specs.Refusals.{dueAt, wideCount, wideMass, wideScore}
+use Rattle.scope.specs.Tables.{barePart, bareBracket}
 use Rattle.basics.specs.Each.{Each, each-append, each-front, each-back}
 use Rattle.basics.specs.Lists.{nil-front, nil-back, not-due, flat-append-length}
-use Rattle.basics.specs.Choice.{pick-true, pick-false}
-use Rattle.basics.specs.Tests.{and-left, and-right, both, both-of, or-right}
+use Rattle.basics.specs.Choice.{branch-on, pick-true, pick-false}
+use Rattle.basics.specs.Tests.{and-left, and-right, both, or-right}
 use Rattle.canonical_laws.specs.Decimal.{Writes, decimal-writes, decimal-short}
 use Rattle.canonical_laws.specs.Endings.{Brackets, On}
 use Rattle.canonical_laws.specs.PlainParts.{plain-good, plain-text, plain-means, plain-short}
-use Rattle.canonical_laws.specs.Plainly.{plainInside, plainInsides, plainCount, plainMarked, oneRun, plainRuns}
-use Rattle.canonical_laws.specs.Refusals.{Alike}
+use Rattle.canonical_laws.specs.Plainly.{plainInside, plainInsides, plainCount, plainMarked, plainRuns}
+use Rattle.canonical_laws.specs.Refusals.{Once, Alike}
 
 -- no count, mass or score of the bracket is out of range
 abbrev pub Fits : Bracket ℕ → Type 0
@@ -49,6 +50,9 @@ alike-append [] (y ∷ b) c d p q = absurd p
 alike-append (x ∷ a) [] c d p q = absurd p
 alike-append (x ∷ a) (y ∷ b) c d p q = (p .0, alike-append a b c d (p .1) q)
 
+shorter : (p o q r : List ℕ) → length p ≤ length o → length q ≤ length r → length (p ++ q) ≤ length (o ++ r)
+shorter p o q r h k = simp length-append (omega arith)
+
 pub spelt-append : {a b : Bool} {t u p q o r : List ℕ} {ks ls : Brackets} {qs rs : ℕ → Brackets} (f : ℕ → ℕ) → Spelt a t p o ks qs → Spelt b u q r ls rs
     → Spelt (a && b) (t ++ u) (p ++ q) (o ++ r) (ks ++ ls) (λ j. qs j ++ rs (f j))
 spelt-append {p = p} {q = q} {o = o} {r = r} {ks = ks} {ls = ls} {qs = qs} {rs = rs} f x y =
@@ -56,11 +60,16 @@ spelt-append {p = p} {q = q} {o = o} {r = r} {ks = ks} {ls = ls} {qs = qs} {rs =
       fine = both _ _ (x .fine) (y .fine);
       says = ap₂ _++_ (x .says) (y .says);
       same = λ j. alike-append ks (qs j) ls (rs (f j)) (x .same j) (y .same (f j));
-      short = omega (arith, length-append p q, length-append o r);
+      short = shorter p o q r (x .short) (y .short);
     }
 
-pub joined-short : (b : ℕ) (p o q r : List ℕ) → length p ≤ length o → length q ≤ length r → length (p ++ (b ∷ q)) ≤ length (o ++ (b ∷ r))
-joined-short b p o q r h k = simp length-append (omega arith)
+-- with a byte before it, or behind it
+module _ {g : Bool} {t p o : List ℕ} {ks : Brackets} {qs : ℕ → Brackets} (b : ℕ) (x : Spelt g t p o ks qs) where
+  pub spelt-led : Spelt g (b ∷ t) (b ∷ p) (b ∷ o) ks (λ j. qs (j + 1))
+  spelt-led = record { fine = x .fine; says = ap (λ l. b ∷ l) (x .says); same = λ j. x .same (j + 1); short = omega arith }
+
+  pub spelt-closed : Spelt g (t ++ (b ∷ [])) (p ++ (b ∷ [])) (o ++ (b ∷ [])) ks qs
+  spelt-closed = record { fine = x .fine; says = ap (λ l. l ++ (b ∷ [])) (x .says); same = x .same; short = shorter p o (b ∷ []) (b ∷ []) (x .short) (omega arith) }
 
 -- ---- brackets one behind another
 -- how brackets of one sort are printed, what each means at a place, which are good, how each is spelt plainly, and what the canonical line writes of what it means
@@ -128,130 +137,104 @@ boxed begin shut r labels c a b i x f n =
       short = simp length-append (omega (arith, plain-short r labels x f (i + 1) n));
     }
 
-pub squares-on : (c : Kind) (first last i : ℕ) (xs : List Inside) → Each (On c last) (meansSquares c first last i xs)
-squares-on c first last i xs = each-along (On c last) printSquare (bracketAt c first last) (λ j x. (refl, refl)) i xs
+pub boxes-on : (prints : Inside → List ℕ) (c : Kind) (first last i : ℕ) (xs : List Inside) → Each (On c last) (along prints (bracketAt c first last) i xs)
+boxes-on prints c first last i xs = each-along (On c last) prints (bracketAt c first last) (λ j x. (refl, refl)) i xs
 
 pub squares-plain : (r : Bool) (c : Kind) (a b i : ℕ) (xs : List Inside) → goodSquares r xs ≡ true → Each Fits (meansSquares c a b i xs) → Plains (squares r c a b) (meansSquares c a b i xs) xs
 squares-plain r c a b i xs = all-plain (squares r c a b) (boxed openSquare shutSquare r true c a b) i xs
-
-pub curlies-on : (i : ℕ) (xs : List Inside) → Each (On Labile 0) (along printCurly (bracketAt Labile 0 0) i xs)
-curlies-on i xs = each-along (On Labile 0) printCurly (bracketAt Labile 0 0) (λ j x. (refl, refl)) i xs
 
 pub curlies-plain : (i : ℕ) (xs : List Inside) → goodCurlies xs ≡ true → Each Fits (along printCurly (bracketAt Labile 0 0) i xs) → Plains curlies (along printCurly (bracketAt Labile 0 0) i xs) xs
 curlies-plain i xs = all-plain curlies (boxed openCurly shutCurly false false Labile 0 0) i xs
 
 -- ---- at the termini
+abbrev Terminal : (List ℕ → List ℕ) → (List Inside → List ℕ) → (ℕ → List Inside → Brackets) → Brackets → List Inside → Type 0
+Terminal ends prints means ks xs =
+    Spelt (goodSquares true (plainInsides xs)) (ends (flat squareText ks)) (prints (plainInsides xs)) (prints xs) ks (λ j. means j (plainInsides xs))
+
 module _ (c : Kind) (q : ℕ) where
   pub front-plain : (i : ℕ) (xs : List Inside) → goodSquares true xs ≡ true → Each Fits (meansSquares c q q i xs)
-      → Spelt (goodSquares true (plainInsides xs)) (closedBy (flat squareText (meansSquares c q q i xs)) dash) (printFront (plainInsides xs)) (printFront xs)
-      (meansSquares c q q i xs) (λ j. meansSquares c q q j (plainInsides xs))
+      → Terminal (λ l. closedBy l dash) printFront (meansSquares c q q) (meansSquares c q q i xs) xs
   unfolding all flat along
   front-plain i [] f n = spelt-none
-  front-plain i (x ∷ xs) f n =
-      let ks = squares-plain true c q q i (x ∷ xs) f n in
-      record {
-        fine = ks .fine;
-        says = ap (λ l. closedBy l dash) (ks .says);
-        same = ks .same;
-        short = joined-short dash (printSquares (plainInsides (x ∷ xs))) (printSquares (x ∷ xs)) [] [] (ks .short) (omega arith);
-      }
+  front-plain i (x ∷ xs) f n = spelt-closed dash (squares-plain true c q q i (x ∷ xs) f n)
 
   pub back-plain : (i : ℕ) (xs : List Inside) → goodSquares true xs ≡ true → Each Fits (meansSquares c q q i xs)
-      → Spelt (goodSquares true (plainInsides xs)) (ledBy dash (flat squareText (meansSquares c q q i xs))) (printBack (plainInsides xs)) (printBack xs) (meansSquares c q q i xs)
-      (λ j. meansSquares c q q j (plainInsides xs))
+      → Terminal (ledBy dash) printBack (λ j. meansSquares c q q (j + 1)) (meansSquares c q q i xs) xs
   unfolding all flat along
   back-plain i [] f n = spelt-none
-  back-plain i (x ∷ xs) f n =
-      let ks = squares-plain true c q q i (x ∷ xs) f n in
-      record { fine = ks .fine; says = ap (ledBy dash) (ks .says); same = ks .same; short = omega (arith, ks .short) }
-
--- ---- counts
--- the count that is written, or 1; and the place j of one that is written
-abbrev countIn : Option (List ℕ) → ℕ
-countIn none = 1
-countIn (some ds) = valueOn 0 ds
-
-abbrev mark : ℕ → Option (List ℕ) → Option ℕ
-mark j none = none
-mark j (some ds) = some j
-
--- o is spelt plainly as p
-record Counted (o p : Option (List ℕ)) : Type 0 where
-  fine : goodCount p ≡ true
-  says : countText (countIn o) ≡ printCount p
-  back : countIn p ≡ countIn o
-  unmarked : countIn p ≡ 1 → p ≡ none
-  short : length (printCount p) ≤ length (printCount o)
-
-plain-count : (j : ℕ) (o : Option (List ℕ)) → goodCount o ≡ true → given (mark j o) (dueAt (eqb (countIn o) 0 || ltb countLimit (countIn o))) [] ≡ [] → Counted o (plainCount o)
-plain-count j none f e = record { fine = refl; says = refl; back = refl; unmarked = λ h. refl; short = omega arith }
-plain-count j (some ds) f e = by-cases (eqb n 1) refl
-  where
-    n : ℕ
-    n = valueOn 0 ds
-
-    written : Writes n (decimal n)
-    written = decimal-writes n (omega (arith, ltb-false countLimit n (or-right (eqb n 0) _ (not-due _ j e))))
-
-    by-cases : (t : Bool) → eqb n 1 ≡ t → Counted (some ds) (cond t none (some (decimal n)))
-    by-cases true q = record { fine = refl; says = pick-true (eqb n 1) _ _ q; back = sym (eqb-true n 1 q); unmarked = λ h. refl; short = omega arith }
-    by-cases false q =
-        record {
-          fine = written .digits;
-          says = pick-false (eqb n 1) _ _ q;
-          back = written .back;
-          unmarked = λ h. absurd (eqb-false n 1 q (sym (written .back) ∙ h));
-          short = omega (arith, decimal-short ds f);
-        }
-
-once : (j : ℕ) (o : Option (List ℕ)) → mark j o ≡ none → countIn o ≡ 1
-once j none e = refl
-once j (some ds) e = absurd (Option·none-ne-some j (sym e))
+  back-plain i (x ∷ xs) f n = spelt-led dash (squares-plain true c q q i (x ∷ xs) f n)
 
 -- ---- with a count
 abbrev marked : Sort Marked
 marked = record { prints = printMarked; means = meansMarked; good = goodMarked; plain = plainMarked; text = unknownText }
 
--- a bracket of unknown position with a count whose place is j
-abbrev unknownAt : ℕ → ℕ → Option (List ℕ) → Inside → Bracket ℕ
-unknownAt i j o x = record { kind = Unknown; first = 0; last = 0; count = countIn o; counted = mark j o; parts = meansInside (i + 1) x; at = i }
+abbrev withCount : Inside → Option (List ℕ) → Marked
+withCount x o = record { inside = x; count = o }
 
-counted-at : (i j : ℕ) (o : Option (List ℕ)) (x : Inside) → unknownAt i (j + 1) o x ≡ counting j o (bracketAt Unknown 0 0 i x)
-counted-at i j none x = refl
-counted-at i j (some ds) x = refl
+-- the bracket x with the count o, in its plain spelling with the count p
+module _ (i j : ℕ) (x : Inside) where
+  abbrev unknownAt : Option (List ℕ) → Bracket ℕ
+  unknownAt o = counting j o (bracketAt Unknown 0 0 i x)
 
-unknown-plain : (i j : ℕ) (x : Inside) (o : Option (List ℕ)) → goodMarked (record { inside = x; count = o }) ≡ true → Fits (unknownAt i j o x)
-    → Plain marked (unknownAt i j o x) (record { inside = x; count = o })
-unknown-plain i j x o f n =
-    let good = both-of (goodInside false true x) (goodCount o) f in
-    let box = boxed openSquare shutSquare false true Unknown 0 0 i x (good .0) (nil-back (wideCount (unknownAt i j o x)) _ n) in
-    let count = plain-count j o (good .1) (nil-front (wideCount (unknownAt i j o x)) _ n) in
-    record {
-      fine = both _ _ (box .fine) (count .fine);
-      says = ap₂ _++_ (box .says) (count .says);
-      same = λ h. subst (λ (z : Bracket ℕ). Alike (unknownAt i j o x ∷ []) (z ∷ [])) (counted-at h _ (plainCount o) (plainInside x)) (
-        record {
-          bare = ap₂ (withParts Unknown 0 0) (sym (count .back)) (ap (λ (z : Bracket (Unit {0})). z .parts) (box .same h .0 .bare));
-          marks = λ e. ap (mark _) (count .unmarked e);
-          once = once j o;
-        },
-        tt,
-      );
-      short = omega (arith, length-append (printSquare (plainInside x)) (printCount (plainCount o)), length-append (printSquare x) (printCount o), box .short, count .short);
-    }
+  abbrev Counted : Option (List ℕ) → Option (List ℕ) → Type 0
+  Counted o p =
+      Spelt (goodMarked (withCount (plainInside x) p)) (unknownText (unknownAt o)) (printMarked (withCount (plainInside x) p)) (printMarked (withCount x o)) (unknownAt o ∷ [])
+      (λ h. meansMarked h (withCount (plainInside x) p) ∷ [])
+
+  counted-plain : (o : Option (List ℕ)) → goodMarked (withCount x o) ≡ true → Fits (unknownAt o) → Counted o (plainCount o)
+  counted-plain none f n = spelt-append (λ h. h) (boxed openSquare shutSquare false true Unknown 0 0 i x (and-left _ true f) n) spelt-none
+  counted-plain (some ds) f n = branch-on (Counted (some ds)) (eqb v 1) once more
+    where
+      v : ℕ
+      v = valueOn 0 ds
+
+      due : List ℕ
+      due = dueAt (eqb v 0 || ltb countLimit v) (j + 1)
+
+      written : Writes v (decimal v)
+      written = decimal-writes v (omega (arith, ltb-false countLimit v (or-right (eqb v 0) _ (not-due _ (j + 1) (nil-front due _ n)))))
+
+      box : Plain (squares false Unknown 0 0) (unknownAt none) x
+      box = boxed openSquare shutSquare false true Unknown 0 0 i x (and-left (goodInside false true x) _ f) (nil-back due _ n)
+
+      bare : (h m : ℕ) → v ≡ m → bareBracket (unknownAt (some ds)) ≡ withParts Unknown 0 0 m (map barePart (meansInside (h + 1) (plainInside x)))
+      bare h m e = ap₂ (withParts Unknown 0 0) e (ap (λ (z : Bracket (Unit {0})). z .parts) (box .same h .0 .bare))
+
+      noted : Once (unknownAt (some ds))
+      noted u = absurd (Option·none-ne-some (j + 1) (sym u))
+
+      once : eqb v 1 ≡ true → Counted (some ds) none
+      once e =
+          record {
+            fine = both _ true (box .fine) refl;
+            says = ap₂ _++_ (box .says) (pick-true (eqb v 1) _ _ e);
+            same = λ h. (record { bare = bare h 1 (eqb-true v 1 e); marks = λ u. refl; once = noted }, tt);
+            short = shorter (printSquare (plainInside x)) (printSquare x) [] (caret ∷ ds) (box .short) (omega arith);
+          }
+
+      more : eqb v 1 ≡ false → Counted (some ds) (some (decimal v))
+      more e =
+          record {
+            fine = both _ _ (box .fine) (written .digits);
+            says = ap₂ _++_ (box .says) (pick-false (eqb v 1) _ _ e);
+            same = λ h. (record { bare = bare h _ (sym (written .back)); marks = λ u. absurd (eqb-false v 1 e (sym (written .back) ∙ u)); once = noted }, tt);
+            short = shorter (printSquare (plainInside x)) (printSquare x) (caret ∷ decimal v) (caret ∷ ds) (box .short) (omega (arith, decimal-short ds (and-right (goodInside false true x) _ f)));
+          }
 
 marked-plain : (i : ℕ) (m : Marked) → goodMarked m ≡ true → Fits (meansMarked i m) → Plain marked (meansMarked i m) m
-marked-plain i m f n =
-    let at = counted-at i (i + length (printSquare (m .inside))) (m .count) (m .inside) in
-    subst (λ (z : Bracket ℕ). Plain marked z m) at (unknown-plain i _ (m .inside) (m .count) f (subst Fits (sym at) n))
+marked-plain i m f n = counted-plain i (i + length (printSquare (m .inside))) (m .inside) (m .count) f n
 
 -- ---- "the splitting of unknown runs" is not kept
+counting-on : (j : ℕ) (o : Option (List ℕ)) (k : Bracket ℕ) → On Unknown 0 k → On Unknown 0 (counting j o k)
+counting-on j none k w = w
+counting-on j (some ds) k w = w
+
 pub runs-on : (i : ℕ) (rs : List Run) → Each (On Unknown 0) (eachAlong printRun meansRun i rs)
 unfolding eachAlong
 runs-on i [] = tt
 runs-on i (r ∷ rs) =
-    let one : (j : ℕ) (m : Marked) → On Unknown 0 (meansMarked j m) = λ j m. subst (On Unknown 0) (counted-at j (j + length (printSquare (m .inside))) (m .count) (m .inside)) (refl, refl) in
-    each-append (On Unknown 0) (meansRun i r) _ (each-along (On Unknown 0) printMarked meansMarked one i (marks r)) (runs-on (i + length (printRun r)) rs)
+    each-append (On Unknown 0) (meansRun i r) _ (each-along (On Unknown 0) printMarked meansMarked (λ j m. counting-on _ (m .count) _ (refl, refl)) i (marks r))
+    (runs-on (i + length (printRun r)) rs)
 
 marks-plain : (i : ℕ) (rs : List Run) → all goodRun rs ≡ true → Each Fits (eachAlong printRun meansRun i rs) → Plains marked (eachAlong printRun meansRun i rs) (flat marks rs)
 unfolding all flat eachAlong

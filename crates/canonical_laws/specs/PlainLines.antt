@@ -4,13 +4,11 @@ use Prim.Native.Nat.{ℕ, _+_, _≤_}
 use native.Mathlib.Omega.{arith}
 use mathlib.Core.Path.{_≡_, sym, _∙_, subst}
 use mathlib.Core.Bool.{true}
-use mathlib.Core.List.{List, [], _++_, map}
+use mathlib.Core.List.{[], _++_, map}
 use lib.ListN.{length}
 use Rattle.scope.specs.declared.grammar.Kind.the-variants.{Labile, NTerm, CTerm}
-use Rattle.scope.specs.Bytes.{question, dash}
-use Rattle.scope.specs.Canonical.{squareText, curlyText, unknownText, closedBy, ledBy, sequenceText, canonical}
-use Rattle.scope.specs.Grammar.{printCurly, along, eachAlong, goodSquares, goodCurlies, bracketAt, meansSquares, goodRun, printRun, meansRun, printElement, goodElement, bracketsAlong, Spelling, elements, printFront, print, good, atLabiles, atFront, atSequence, atBack, residuesOf, backOf, means}
-use Rattle.scope.specs.Line.{Bracket}
+use Rattle.scope.specs.Canonical.{canonical}
+use Rattle.scope.specs.Grammar.{printSquare, printCurly, along, eachAlong, goodSquares, goodCurlies, bracketAt, meansSquares, goodRun, printRun, meansRun, printElement, goodElement, bracketsAlong, Spelling, elements, printFront, print, good, atLabiles, atFront, atSequence, atBack, residuesOf, backOf, means}
 use Rattle.scope.specs.Lists.{all, flat}
 use Rattle.scope.specs.Refusals.{refusal7, wideCount, wideMass, wideScore}
 use Rattle.scope.specs.Tables.{bareResidue}
@@ -18,10 +16,10 @@ use Rattle.basics.specs.Each.{Each, each-front, each-back}
 use Rattle.basics.specs.Lists.{flat-none}
 use Rattle.basics.specs.Tests.{and-left, and-right}
 use Rattle.canonical_laws.specs.Endings.{Brackets, On, piecesText, chain-pieces}
-use Rattle.canonical_laws.specs.PlainBrackets.{Fits, Spelt, spelt-append, squares-on, curlies-on, curlies-plain, runs-on, runs-plain, front-plain, back-plain}
-use Rattle.canonical_laws.specs.PlainSequence.{mapped-length, sequence-residues, sequence-ends, sequence-plain}
+use Rattle.canonical_laws.specs.PlainBrackets.{Fits, Spelt, spelt-append, boxes-on, curlies-plain, runs-on, runs-plain, front-plain, back-plain}
+use Rattle.canonical_laws.specs.PlainSequence.{sequence-residues, sequence-ends, sequence-plain}
 use Rattle.canonical_laws.specs.Plainly.{plainInsides, plainRuns, plainly}
-use Rattle.canonical_laws.specs.Refusals.{Alike}
+use Rattle.canonical_laws.specs.Refusals.{same-length, Alike}
 
 module _ (t : Spelling) (fine : good t ≡ true) (narrow : refusal7 (means t) ≡ []) where
   -- the brackets of the line, by where they stand
@@ -66,7 +64,7 @@ module _ (t : Spelling) (fine : good t ≡ true) (narrow : refusal7 (means t) �
       spelt-append (λ j. atLabiles j (plainly t)) (runs-plain 0 (t .runs) (and-left _ _ fine) (each-front Fits us _ fits))
       (spelt-append (λ j. j + length (flat printCurly (plainInsides (t .labiles)))) (curlies-plain (atLabiles 0 t) (t .labiles) (and-left _ _ good₁) (each-front Fits ls _ fits₁))
       (spelt-append (λ j. j + length (printFront (plainInsides (t .front)))) (front-plain NTerm 0 (atFront 0 t) (t .front) (and-left _ _ good₂) (each-front Fits ns _ fits₂))
-      (spelt-append (λ j. j + length (flat printElement (elements (plainly t))) + 1) (sequence-plain 0 (atSequence 0 t) (elements t) (and-left _ _ good₃) (each-front Fits ss _ fits₃))
+      (spelt-append (λ j. j + length (flat printElement (elements (plainly t)))) (sequence-plain 0 (atSequence 0 t) (elements t) (and-left _ _ good₃) (each-front Fits ss _ fits₃))
       (back-plain CTerm last (atBack 0 t + 1) (t .back) (and-right (all goodElement (elements t)) _ good₃) (each-back Fits ss (backOf 0 t) fits₃)))))
 
   pub plainly-good : good (plainly t) ≡ true
@@ -77,13 +75,13 @@ module _ (t : Spelling) (fine : good t ≡ true) (narrow : refusal7 (means t) �
   plainly-prints =
       let rs = residuesOf 0 t in
       let at : last ≡ 0 + 1 + length rs = omega arith in
-      sym (chain-pieces 0 rs us ls ns ss (backOf 0 t) (runs-on 0 (t .runs)) (curlies-on (atLabiles 0 t) (t .labiles)) (squares-on NTerm 0 0 (atFront 0 t) (t .front))
+      sym (chain-pieces 0 rs us ls ns ss (backOf 0 t) (runs-on 0 (t .runs)) (boxes-on printCurly Labile 0 0 (atLabiles 0 t) (t .labiles)) (boxes-on printSquare NTerm 0 0 (atFront 0 t) (t .front))
       (sequence-ends 1 (0 + length rs) 0 (atSequence 0 t) (elements t) (omega arith) (omega arith))
-      (subst (λ q. Each (On CTerm q) (backOf 0 t)) at (squares-on CTerm last last (atBack 0 t + 1) (t .back)))
+      (subst (λ q. Each (On CTerm q) (backOf 0 t)) at (boxes-on printSquare CTerm last last (atBack 0 t + 1) (t .back)))
       ∙ whole .says)
 
   pub plainly-alike : Alike (means t .brackets) (means (plainly t) .brackets)
-  plainly-alike = subst (λ q. Alike (means t .brackets) (plainAt (q + 1) 0)) (mapped-length bareResidue (means t .residues) (means (plainly t) .residues) (sym plainly-residues)) (whole .same 0)
+  plainly-alike = subst (λ q. Alike (means t .brackets) (plainAt (q + 1) 0)) (same-length bareResidue (means t .residues) (means (plainly t) .residues) (sym plainly-residues)) (whole .same 0)
 
   pub plainly-short : length (print (plainly t)) ≤ length (print t)
   plainly-short = whole .short

@@ -12,11 +12,11 @@ use Rattle.scope.specs.declared.grammar.Kind.{Kind}
 use Rattle.scope.specs.declared.grammar.Kind.the-variants.{OnResidue, OnRange}
 use Rattle.scope.specs.declared.grammar.Section.{Section}
 use Rattle.scope.specs.declared.grammar.Section.the-variants.{Plain, RangeFirst, RangeNext, UnsureFirst, UnsureNext}
-use Rattle.scope.specs.Bytes.{upper, isLower, isLetter, openRound, shutRound}
+use Rattle.scope.specs.Bytes.{upper, isLower, isLetter, openRound, shutRound, question}
 use Rattle.scope.specs.Canonical.{squareText, endingAt, opening, ending, isNext, goesOn, sequenceText}
-use Rattle.scope.specs.Grammar.{Inside, along, eachAlong, goodSquares, printSquares, meansSquares, Spot, Element, single, range, unsure, printSpot, printElement, goodSpot, goodElement, residueOf, residuesOn, residuesIn, bracketsOn, bracketsIn, bracketsAlong}
+use Rattle.scope.specs.Grammar.{Inside, printSquare, along, eachAlong, goodSquares, printSquares, meansSquares, Spot, Element, single, range, unsure, printSpot, printElement, goodSpot, goodElement, residueOf, residuesOn, residuesIn, bracketsOn, bracketsIn, bracketsAlong}
 use Rattle.scope.specs.Kinds.{isKind}
-use Rattle.scope.specs.Line.{Bracket, Residue}
+use Rattle.scope.specs.Line.{Residue}
 use Rattle.scope.specs.Lists.{none?, all, keep, flat}
 use Rattle.scope.specs.Tables.{bareResidue}
 use Rattle.basics.specs.Choice.{by-test, pick-true, pick-false}
@@ -24,17 +24,15 @@ use Rattle.basics.specs.Each.{Each, each-append, each-front, each-back}
 use Rattle.basics.specs.Lists.{flat-one, flat-one-length}
 use Rattle.basics.specs.Tests.{and-left, and-right, both, both-of, or-first}
 use Rattle.canonical_laws.specs.Endings.{Brackets, Ends, on-ends, ending-append, ending-on, ending-off, ownText, rangeText, front-off, back-off, text-on, text-last, sequence-append}
-use Rattle.canonical_laws.specs.PlainBrackets.{Fits, Spelt, spelt-none, spelt-append, joined-short, Plains, squares, squares-on, squares-plain}
+use Rattle.canonical_laws.specs.PlainBrackets.{Fits, Spelt, spelt-none, spelt-append, spelt-led, spelt-closed, Plains, squares, boxes-on, squares-plain}
 use Rattle.canonical_laws.specs.Plainly.{plainInsides, plainSpot, plainElement}
+use Rattle.canonical_laws.specs.Refusals.{same-length}
 
 -- ---- lists
 along-length : {A B : Type 0} (prints : A → List ℕ) (f : ℕ → A → B) (i : ℕ) (l : List A) → length (along prints f i l) ≡ length l
 unfolding along
 along-length prints f i [] = refl
 along-length prints f i (x ∷ l) = ap suc (along-length prints f _ l)
-
-pub mapped-length : {A B : Type 0} (f : A → B) (l m : List A) → map f l ≡ map f m → length l ≡ length m
-mapped-length f l m e = sym (length-map l f) ∙ ap length e ∙ length-map m f
 
 -- ---- letters
 lower-range : (b : ℕ) → isLower b ≡ true → (97 ≤ b) × (b ≤ 122)
@@ -72,10 +70,10 @@ sequence-residues i j (e ∷ es) = simp map-append (ap₂ _++_ (element-residues
 
 -- ---- where the brackets end
 squares-here : (c : Kind) (p : ℕ) (d : Kind) (first last i : ℕ) (xs : List Inside) → endingAt c p (meansSquares d first last i xs) ≡ cond (isKind c d && eqb last p) (meansSquares d first last i xs) []
-squares-here c p d first last i xs = ending-on c p d last (meansSquares d first last i xs) (squares-on d first last i xs)
+squares-here c p d first last i xs = ending-on c p d last (meansSquares d first last i xs) (boxes-on printSquare d first last i xs)
 
 squares-end : (a b : ℕ) (c : Kind) (first last i : ℕ) (xs : List Inside) → a ≤ last → last ≤ b → Each (Ends a b) (meansSquares c first last i xs)
-squares-end a b c first last i xs h k = on-ends c last a b h k (meansSquares c first last i xs) (squares-on c first last i xs)
+squares-end a b c first last i xs h k = on-ends c last a b h k (meansSquares c first last i xs) (boxes-on printSquare c first last i xs)
 
 -- the brackets of a residue, and of those behind it
 abbrev own : ℕ → ℕ → Spot → Brackets
@@ -215,22 +213,21 @@ element-plain n i (range s ss x xs) f w =
     let fits = each-front Fits (bracketsOn (n + 1) (i + 1) (s ∷ ss)) _ w in
     let spots = spots-plain (n + 1) (i + 1) (s ∷ ss) (good .0) fits in
     let on = squares-plain false OnRange (n + 1) last at (x ∷ xs) (good .1) (each-back Fits (bracketsOn (n + 1) (i + 1) (s ∷ ss)) _ w) in
-    let whole = spelt-append (λ k. k + length (flat printSpot (map plainSpot (s ∷ ss))) + 1) spots on in
+    let whole = spelt-led openRound (spelt-append (λ k. k + length (flat printSpot (map plainSpot (s ∷ ss)))) spots (spelt-led shutRound on)) in
     record {
       fine = whole .fine;
-      says = group-text (n + 1) last at (x ∷ xs) RangeFirst RangeNext (n + 1) (i + 1) s ss (λ u. (refl, refl, refl)) refl (good .0) fits
-          ∙ ap (λ t. openRound ∷ (flat printSpot (map plainSpot (s ∷ ss)) ++ (shutRound ∷ t))) (on .says);
-      same = λ j. rw (length-map ss plainSpot) (whole .same (j + 1));
-      short = omega (arith, joined-short shutRound (flat printSpot (map plainSpot (s ∷ ss))) (flat printSpot (s ∷ ss)) (printSquares (plainInsides (x ∷ xs))) (printSquares (x ∷ xs)) (spots .short) (on .short));
+      says = group-text (n + 1) last at (x ∷ xs) RangeFirst RangeNext (n + 1) (i + 1) s ss (λ u. (refl, refl, refl)) refl (good .0) fits ∙ whole .says;
+      same = λ j. rw (length-map ss plainSpot) (whole .same j);
+      short = whole .short;
     }
 element-plain n i (unsure s ss) f w =
-    let spots = spots-plain (n + 1) (i + 1 + 1) (s ∷ ss) f w in
+    let whole = spelt-led openRound (spelt-led question (spelt-closed shutRound (spots-plain (n + 1) (i + 1 + 1) (s ∷ ss) f w))) in
     record {
-      fine = spots .fine;
+      fine = whole .fine;
       says = ap (λ ks. sequenceText ks (n + 1) (residuesIn i (unsure s ss))) (sym (append-nil _))
           ∙ group-text (n + 1) (n + 1 + length ss) 0 [] UnsureFirst UnsureNext (n + 1) (i + 1 + 1) s ss (λ u. (refl, refl, refl)) refl f w;
-      same = λ j. spots .same (j + 1 + 1);
-      short = omega (arith, joined-short shutRound (flat printSpot (map plainSpot (s ∷ ss))) (flat printSpot (s ∷ ss)) [] [] (spots .short) (omega arith));
+      same = whole .same;
+      short = whole .short;
     }
 
 -- ---- the elements, one behind another
@@ -271,6 +268,6 @@ sequence-plain n i (e ∷ es) f w =
     record {
       fine = whole .fine;
       says = split-text n i e es ∙ whole .says;
-      same = λ j. rw (mapped-length bareResidue (residuesIn j (plainElement e)) (residuesIn i e) (element-residues i j e)) (whole .same j);
+      same = λ j. rw (same-length bareResidue (residuesIn j (plainElement e)) (residuesIn i e) (element-residues i j e)) (whole .same j);
       short = whole .short;
     }

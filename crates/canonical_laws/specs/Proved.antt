@@ -9,9 +9,10 @@ use mathlib.Core.List.{List, [], _∷_, map}
 use lib.ListN.{length}
 use Rattle.scope.specs.Canonical.{canonical}
 use Rattle.scope.specs.Grammar.{Spelling, print, good, means}
+use Rattle.scope.specs.Limits.{lineLimit}
 use Rattle.scope.specs.Line.{Bracket, Line}
 use Rattle.scope.specs.Reading.{holds, reading}
-use Rattle.scope.specs.Refusals.{refusal7, accepted, lineRefusals, outcome}
+use Rattle.scope.specs.Refusals.{accepted, lineRefusals, outcome}
 use Rattle.scope.specs.Tables.{Tables, bareBracket, bareResidue, tablesOf}
 use Rattle.reading_laws.specs.Bare.{same-canonical}
 use Rattle.reading_laws.specs.Laws.{Clear}
@@ -21,8 +22,7 @@ use Rattle.grammar_laws.specs.Lines.{read-spelt, spelt-read}
 use Rattle.canonical_laws.specs.Laws.{ReadsTo, Laws}
 use Rattle.canonical_laws.specs.Plainly.{plainly}
 use Rattle.canonical_laws.specs.PlainLines.{plainly-good, plainly-prints, plainly-residues, plainly-alike, plainly-short}
-use Rattle.canonical_laws.specs.PlainSequence.{mapped-length}
-use Rattle.canonical_laws.specs.Refusals.{Alike, none-5, none-6, none-7, none-8, none-9, none-10, none-11, none-12}
+use Rattle.canonical_laws.specs.Refusals.{same-length, Alike, none-5, none-6, none-7, none-8, none-9, none-10, none-11, none-12}
 
 -- ---- lines that are alike
 alike-bare : (ks qs : List (Bracket ℕ)) → Alike ks qs → map bareBracket qs ≡ map bareBracket ks
@@ -38,7 +38,7 @@ module _ (l m : Line ℕ) (r : map bareResidue (m .residues) ≡ map bareResidue
 
   alike-clear : Clear (lineRefusals l) → Clear (lineRefusals m)
   alike-clear c =
-      let size = mapped-length bareResidue (l .residues) (m .residues) (sym r) in
+      let size = same-length bareResidue (l .residues) (m .residues) (sym r) in
       let from7 = c .1 .1 in
       let from9 = from7 .1 .1 in
       let from11 = from9 .1 .1 in
@@ -49,36 +49,20 @@ record Back (s : List ℕ) (l : Line ℕ) : Type 0 where
   reads : ReadsTo (canonical l) (tablesOf l)
   short : length (canonical l) ≤ length s
 
-module _ (t : Spelling) (fine : good t ≡ true) (w : Taken (print t) (means t)) where
-  narrow : refusal7 (means t) ≡ []
-  narrow = w .clear .1 .1 .0
-
-  abbrev m : Line ℕ
-  m = means (plainly t)
-
-  shorter : length (canonical (means t)) ≤ length (print t)
-  shorter = subst (λ (z : List ℕ). length z ≤ length (print t)) (plainly-prints t fine narrow) (plainly-short t fine narrow)
-
-  read-again : reading (canonical (means t)) ≡ holds m
-  read-again = spelt-read (canonical (means t)) m (record { tree = plainly t; fine = plainly-good t fine narrow; prints = sym (plainly-prints t fine narrow); says = refl })
-
-  taken-again : Taken (canonical (means t)) m
-  taken-again =
-      record {
-        bytes = (
-          some-bytes (canonical (means t)) m read-again,
-          (none-long (canonical (means t)) (let h = shorter in let k = not-long (print t) (w .bytes .1 .0) in omega arith), (order-printable (canonical (means t)) m read-again, tt)),
-        );
-        reads = read-again;
-        clear = alike-clear (means t) m (plainly-residues t fine narrow) (plainly-alike t fine narrow) (w .clear);
-      }
-
-  back-of : Back (print t) (means t)
-  back-of =
-      record {
-        reads = record { line = m; taken = taken-back (canonical (means t)) m taken-again; tables = alike-tables (means t) m (plainly-residues t fine narrow) (plainly-alike t fine narrow) };
-        short = shorter;
-      }
+back-of : (t : Spelling) → good t ≡ true → Taken (print t) (means t) → Back (print t) (means t)
+back-of t fine w =
+    let narrow = w .clear .1 .1 .0 in
+    let c = canonical (means t) in
+    let m = means (plainly t) in
+    let residues = plainly-residues t fine narrow in
+    let alike = plainly-alike t fine narrow in
+    let prints = plainly-prints t fine narrow in
+    let short : length c ≤ length (print t) = subst (λ (z : List ℕ). length z ≤ length (print t)) prints (plainly-short t fine narrow) in
+    let reads : reading c ≡ holds m = spelt-read c m (record { tree = plainly t; fine = plainly-good t fine narrow; prints = sym prints; says = refl }) in
+    let few : length c ≤ lineLimit = let long = not-long (print t) (w .bytes .1 .0) in omega arith in
+    let again : Taken c m =
+    record { bytes = (some-bytes c m reads, (none-long c few, (order-printable c m reads, tt))); reads = reads; clear = alike-clear (means t) m residues alike (w .clear) } in
+    record { reads = record { line = m; taken = taken-back c m again; tables = alike-tables (means t) m residues alike }; short = short }
 
 back : (s : List ℕ) (l : Line ℕ) → outcome s ≡ accepted l → Back s l
 back s l e =

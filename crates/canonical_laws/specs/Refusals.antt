@@ -42,7 +42,7 @@ drop-moves n f g l m e h =
     let d : length (map g m) ≤ n = omega arith in
     d)
 
-same-length : {A B : Type 0} (bare : A → B) (l m : List A) → map bare l ≡ map bare m → length l ≡ length m
+pub same-length : {A B : Type 0} (bare : A → B) (l m : List A) → map bare l ≡ map bare m → length l ≡ length m
 same-length bare l m e = sym (length-map l bare) ∙ ap length e ∙ length-map m bare
 
 -- elements that are alike are due alike

@@ -128,7 +128,8 @@ curlies = boxes openCurly shutCurly false false Labile 0 0
 abbrev withParts : Kind → ℕ → ℕ → ℕ → List (Part (Unit {0})) → Bracket (Unit {0})
 withParts c first last n ps = record { kind = c; first = first; last = last; count = n; counted = none; parts = ps; at = tt }
 
-boxed : (begin shut : ℕ) (r labels : Bool) (c : Kind) (a b i : ℕ) (x : Inside) → goodInside r labels x ≡ true → Fits (bracketAt c a b i x) → Plain (boxes begin shut r labels c a b) (bracketAt c a b i x) x
+boxed : (begin shut : ℕ) (r labels : Bool) (c : Kind) (a b i : ℕ) (x : Inside) → goodInside r labels x ≡ true → Fits (bracketAt c a b i x)
+    → Plain (boxes begin shut r labels c a b) (bracketAt c a b i x) x
 boxed begin shut r labels c a b i x f n =
     record {
       fine = plain-good r labels x f (i + 1) n;

@@ -6,7 +6,7 @@ use mathlib.Core.Path.{_≡_, refl, sym, ap, ap₂, _∙_, subst}
 use mathlib.Core.Logic.{_↔_}
 use mathlib.Core.Bool.{true}
 use mathlib.Core.List.{List, [], _∷_, map}
-use lib.ListN.{length}
+use lib.ListN.{length, drop}
 use Rattle.scope.specs.Canonical.{canonical}
 use Rattle.scope.specs.Grammar.{Spelling, print, good, means}
 use Rattle.scope.specs.Limits.{lineLimit}
@@ -39,10 +39,10 @@ module _ (l m : Line ℕ) (r : map bareResidue (m .residues) ≡ map bareResidue
   alike-clear : Clear (lineRefusals l) → Clear (lineRefusals m)
   alike-clear c =
       let size = same-length bareResidue (l .residues) (m .residues) (sym r) in
-      let from7 = c .1 .1 in
-      let from9 = from7 .1 .1 in
-      let from11 = from9 .1 .1 in
-      (none-5 l m a (c .0), (none-6 l m size a (c .1 .0), (none-7 l m a (from7 .0), (none-8 l m a (from7 .1 .0), (none-9 l m a (from9 .0), (none-10 l m a (from9 .1 .0), (none-11 l m a (from11 .0), (none-12 l m a (from11 .1 .0), tt))))))))
+      let from8 = c .1 .1 .1 in
+      let from10 = from8 .1 .1 in
+      let last : Clear (drop 5 (lineRefusals m)) = (none-10 l m a (from10 .0), (none-11 l m a (from10 .1 .0), (none-12 l m a (from10 .1 .1 .0), tt))) in
+      (none-5 l m a (c .0), (none-6 l m size a (c .1 .0), (none-7 l m a (c .1 .1 .0), (none-8 l m a (from8 .0), (none-9 l m a (from8 .1 .0), last)))))
 
 -- ---- the canonical line, read
 record Back (s : List ℕ) (l : Line ℕ) : Type 0 where

@@ -4,4 +4,8 @@ pub mod Plainly
 pub mod PlainNumbers
 pub mod PlainParts
 pub mod Refusals
+pub mod Endings
+pub mod PlainBrackets
+pub mod PlainSequence
 pub mod PlainLines
+pub mod Proved

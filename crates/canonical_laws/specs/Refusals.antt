@@ -16,7 +16,7 @@ use Rattle.scope.specs.Lists.{given, none?, all, flat, among, shared, optional}
 use Rattle.scope.specs.Content.{isReference}
 use Rattle.scope.specs.Reading.{refers?}
 use Rattle.scope.specs.Modifications.{isKey, onlyInfo, isReferring, nameOf, namesOf, isLabelled, copies, definedBy, referredBy, defined, referredTo}
-use Rattle.scope.specs.Refusals.{dueAt, least, depthAfter, tooDeep, textIn, textOf, deepPart, refusal5, longText, longLabel, overIn, refusal6, inRange, wide, wideMass, wideScore, wideCount, refusal7, isLink, notHere, refusal8, isNumberName, refusal9, refusal10, secondLabel, definedAgain, undefined, countedLabel, unreferred, wrongLabels, wronglyLabelled, refusal11, passing, refusal12}
+use Rattle.scope.specs.Refusals.{dueAt, depthAfter, tooDeep, textIn, textOf, deepPart, refusal5, longText, longLabel, overIn, refusal6, inRange, wide, wideMass, wideScore, wideCount, refusal7, isLink, notHere, refusal8, isNumberName, refusal9, refusal10, secondLabel, definedAgain, undefined, countedLabel, unreferred, wrongLabels, wronglyLabelled, refusal11, passing, refusal12}
 use Rattle.scope.specs.Kinds.{unknownOrLabile, isUnknown}
 use Rattle.scope.specs.Tables.{bareNumber, bareLabel, bareValue, barePart, bareBracket}
 use Rattle.basics.specs.Lists.{not-due, nil-front, nil-back}
@@ -42,7 +42,7 @@ drop-moves n f g l m e h =
     let d : length (map g m) ≤ n = omega arith in
     d)
 
-same-length : {A B : Type 0} (bare : A → B) (l m : List A) → map bare l ≡ map bare m → length l ≡ length m
+pub same-length : {A B : Type 0} (bare : A → B) (l m : List A) → map bare l ≡ map bare m → length l ≡ length m
 same-length bare l m e = sym (length-map l bare) ∙ ap length e ∙ length-map m bare
 
 -- elements that are alike are due alike

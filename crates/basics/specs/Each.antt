@@ -1,4 +1,4 @@
--- What holds of each element of a list, of some element, and of a value where there is one.
+-- What holds of each element of a list, of some element, of each and those behind it, and of a value where there is one.
 use mathlib.Core.Path.{_≡_, refl, sym, subst}
 use mathlib.Core.Logic.{_⊎_, inl, inr}
 use mathlib.Core.Bool.{Bool, true, false, cond}
@@ -20,6 +20,11 @@ Some Q (x ∷ l) = Q x ⊎ Some Q l
 -- x stands in the list
 abbrev pub In : {A : Type 0} → A → List A → Type 0
 In x l = Some (λ y. x ≡ y) l
+
+-- each in the relation R to all behind it
+abbrev pub Ordered : {A : Type 0} → (A → A → Type 0) → List A → Type 0
+Ordered R [] = Unit {0}
+Ordered {A} R (x ∷ l) = ((y : A) → In y l → R x y) × Ordered R l
 
 -- of the value, where there is one
 abbrev pub OfGiven : {A : Type 0} → (A → Type 0) → Option A → Type 0

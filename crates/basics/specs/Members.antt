@@ -9,7 +9,7 @@ use lib.Dec.{eqb}
 use lib.ListN.{length, getD}
 use borrow.Author.Tests.{eqb-true, eq-eqb}
 use Rattle.scope.specs.Lists.{keep, flat, member}
-use Rattle.basics.specs.Each.{In}
+use Rattle.basics.specs.Each.{In, Ordered}
 use Rattle.basics.specs.Tests.{one-of, or-first, or-second, test}
 
 -- ---- positions
@@ -127,3 +127,27 @@ module _ {A B : Type 0} where
   flat-in f x y [] h k = absurd h
   flat-in f x y (z ∷ l) (inl e) k = in-left y (f z) (flat f l) (subst (λ v. In y (f v)) e k)
   flat-in f x y (z ∷ l) (inr h) k = in-right y (f z) (flat f l) (flat-in f x y l h k)
+
+-- ---- lists in order
+pub ordered-append : {A : Type 0} (R : A → A → Type 0) (l m : List A) → Ordered R l → Ordered R m → ((x y : A) → In x l → In y m → R x y)
+    → Ordered R (l ++ m)
+ordered-append R [] m a b h = b
+ordered-append R (x ∷ l) m a b h =
+    ((λ y k. ⊎-elim (λ g. a .0 y g) (λ g. h x y (inl refl) g) (in-either y l m k)), ordered-append R l m (a .1) b (λ z y k g. h z y (inr k) g))
+
+pub ordered-keep : {A : Type 0} (R : A → A → Type 0) (f : A → Bool) (l : List A) → Ordered R l → Ordered R (keep f l)
+unfolding keep
+ordered-keep R f [] a = tt
+ordered-keep R f (x ∷ l) a = go (ordered-keep R f l (a .1)) (test (f x))
+  where
+    go : Ordered R (keep f l) → (f x ≡ true) ⊎ (f x ≡ false) → Ordered R (keep f (x ∷ l))
+    go ih (inl e) = rw (keep-yes f x l e) ((λ y k. a .0 y (in-keep f y l k .0)), ih)
+    go ih (inr e) = rw (keep-no f x l e) ih
+
+pub ordered-map : {A : Type 0} {B : Type 0} (R : A → A → Type 0) (S : B → B → Type 0) (g : A → B) (l : List A)
+    → ((x y : A) → In x l → In y l → R x y → S (g x) (g y)) → Ordered R l → Ordered S (map g l)
+ordered-map R S g [] h a = tt
+ordered-map {A} {B} R S g (x ∷ l) h a = (above, ordered-map R S g l (λ z y k m. h z y (inr k) (inr m)) (a .1))
+  where
+    above : (y : B) → In y (map g l) → S (g x) y
+    above y k = let z = in-map g y l k in rw (z .2) (h x (z .0) (inl refl) (inr (z .1)) (a .0 (z .0) (z .1)))

@@ -13,7 +13,7 @@ use Rattle.scope.specs.Layout.{bytesSize, numbersSize, tablesIn}
 use Rattle.scope.specs.Masses.{total, lacking, daltons}
 use Rattle.scope.specs.Placements.{allowed}
 use Rattle.scope.specs.Positions.{floatingOf}
-use Rattle.scope.specs.Answers.{allowable, bookable, books, entries, Said, good, refuses, Display, aMass, lack, tooShort, areTables, overTables, weighed}
+use Rattle.scope.specs.Answers.{allowable, bookable, books, entries, Said, good, refuses, Display, aMass, lack, displayOf, tooShort, areTables, overTables, weighed}
 use Rattle.areas.specs.Floats.{floatingIn}
 use Rattle.basics.specs.Positions.{same-floats}
 use Rattle.layout_laws.specs.Laws.{tables-held}
@@ -99,7 +99,7 @@ display-of : (b : Bool) (x : ℤ) (n : ℕ) → saysDisplay (cond b (Total x) (L
 display-of true x n = refl
 display-of false x n = refl
 
-pub displayed : (t : Tables) {w v : Weight} → w ≡ weightOf t → w ≡ v → saysDisplay v ≡ cond (eqb (lacking t) 0) (aMass (daltons (total t))) (lack (lacking t))
+pub displayed : (t : Tables) {w v : Weight} → w ≡ weightOf t → w ≡ v → saysDisplay v ≡ displayOf t
 unfolding weightOf
 displayed t {w} {v} e f = ap saysDisplay (sym f ∙ e) ∙ display-of (eqb (lacking t) 0) (total t) (lacking t)
 

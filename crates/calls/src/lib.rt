@@ -33,7 +33,6 @@ ghost use Rattle.calls.specs.Rows.{RowsReady};
 ghost use Rattle.calls.specs.Writing.{WriteSays};
 ghost use Rattle.calls.specs.Says.{CountSays, TotalSays, BracketMassSays, ShownSays, AllowedSays, NextSays, LedgerSays};
 
-
 // "a lent area is shorter than its fixed size"
 fn too_short(bytes: &[u8], numbers: &[i64]) -> bool
     ensures { λ r. ⌜ r ≡ tooShort (now (bytes .entry)) (now (numbers .entry)) ⌝ }

@@ -1,7 +1,6 @@
 -- What floats of a line is orderly: the permitted positions of each floater stand in rising order. Each is one of the line's, and no placed modification stands
 -- there.
 use mathlib.Core.Path.{_≡_, refl}
-use mathlib.Core.Logic.{_⊎_, inl, inr}
 use mathlib.Core.Bool.{Bool, true, false, not, _&&_}
 use mathlib.Core.List.{List, [], _∷_, map}
 use Prim.Native.Nat.{ℕ, zero, suc, _≤_, _<_, _+_}
@@ -12,10 +11,10 @@ use Rattle.scope.specs.Limits.{copyLimit}
 use Rattle.scope.specs.Line.{Bracket, Line}
 use Rattle.scope.specs.Lists.{keep, tabled, member}
 use Rattle.scope.specs.Positions.{sites, positions, struckOut, mayStand, floaters, permitted, floatingOf}
-use Rattle.placement_laws.specs.Terms.{Rising, AllRising, Orderly}
-use Rattle.basics.specs.Each.{In}
-use Rattle.basics.specs.Tests.{test, and-right}
-use Rattle.basics.specs.Members.{in-keep, keep-yes, keep-no}
+use Rattle.placement_laws.specs.Terms.{Rising, Orderly}
+use Rattle.basics.specs.Each.{In, each-all, each-map}
+use Rattle.basics.specs.Tests.{and-right}
+use Rattle.basics.specs.Members.{in-keep, ordered-keep}
 use Rattle.basics.specs.Positions.{sites-many}
 use Rattle.basics.specs.Tabled.{in-tabled}
 
@@ -24,21 +23,8 @@ unfolding tabled
 tabled-rising i zero = tt
 tabled-rising i (suc n) = ((λ y h. let z = in-tabled (i + 1) n y h in omega (arith, z .0)), tabled-rising (i + 1) n)
 
-keep-rising : (f : ℕ → Bool) (l : List ℕ) → Rising l → Rising (keep f l)
-unfolding keep
-keep-rising f [] r = tt
-keep-rising f (x ∷ l) r = go (keep-rising f l (r .1)) (test (f x))
-  where
-    go : Rising (keep f l) → (f x ≡ true) ⊎ (f x ≡ false) → Rising (keep f (x ∷ l))
-    go ih (inl e) = rw (keep-yes f x l e) ((λ y h. r .0 y (in-keep f y l h .0)), ih)
-    go ih (inr e) = rw (keep-no f x l e) ih
-
 pub kept-rising : (f : ℕ → Bool) (i n : ℕ) → Rising (keep f (tabled (λ y. y) i n))
-kept-rising f i n = keep-rising f (tabled (λ y. y) i n) (tabled-rising i n)
-
-map-rising : {A : Type 0} (g : A → List ℕ) (l : List A) → ((x : A) → Rising (g x)) → AllRising (map g l)
-map-rising g [] h = tt
-map-rising g (x ∷ l) h = (h x, map-rising g l h)
+kept-rising f i n = ordered-keep _<_ f (tabled (λ y. y) i n) (tabled-rising i n)
 
 mapped-at : {A B : Type 0} (g : A → B) (l : List A) (i : ℕ) (d : A) (e : B) → i < length l → getD (map g l) i e ≡ g (getD l i d)
 mapped-at g [] i d e h = absurd (omega arith)
@@ -67,4 +53,5 @@ pub line-at : {P : Type 0} (t : Line P) (i : ℕ) (d : Bracket P) → i < length
 line-at t i d h = mapped-at (permitted t) (floaters t) i d [] h
 
 pub line-orderly : {P : Type 0} (t : Line P) → length (floaters t) ≤ copyLimit → Orderly (floatingOf t)
-line-orderly t few = record { few = rw (line-many t) few; rising = map-rising (permitted t) (floaters t) (permitted-rising t) }
+line-orderly t few =
+    record { few = rw (line-many t) few; rising = each-map Rising (permitted t) (floaters t) (each-all (λ k. Rising (permitted t k)) (floaters t) (permitted-rising t)) }

@@ -11,16 +11,14 @@ use Rattle.scope.specs.Limits.{copyLimit}
 use Rattle.scope.specs.Positions.{Floating}
 use Rattle.scope.specs.Placements.{allowed, less}
 use Rattle.scope.specs.Answers.{Said, good, refuses, requested, movedOn}
-use Rattle.basics.specs.Each.{In}
+use Rattle.basics.specs.Each.{Each, In, Ordered}
 
 -- a list of positions, each below all behind it
 abbrev pub Rising : List ℕ → Type 0
-Rising [] = Unit {0}
-Rising (x ∷ l) = ((y : ℕ) → In y l → x < y) × Rising l
+Rising l = Ordered _<_ l
 
 abbrev pub AllRising : List (List ℕ) → Type 0
-AllRising [] = Unit {0}
-AllRising (q ∷ qs) = Rising q × AllRising qs
+AllRising qs = Each Rising qs
 
 -- what floats: few copies, and each with its positions in rising order
 pub record Orderly (f : Floating) : Type 0 where
@@ -29,8 +27,7 @@ pub record Orderly (f : Floating) : Type 0 where
 
 -- a list of placements, each less than all behind it
 abbrev pub Ascending : List (List ℕ) → Type 0
-Ascending [] = Unit {0}
-Ascending (p ∷ l) = ((q : List ℕ) → In q l → less p q ≡ true) × Ascending l
+Ascending l = Ordered (λ p q. less p q ≡ true) l
 
 abbrev pub Allowed : Floating → List ℕ → Type 0
 Allowed f p = allowed f p ≡ true

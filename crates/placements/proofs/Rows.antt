@@ -2,7 +2,7 @@
 use mathlib.Core.Path.{_≡_, sym, ap, _∙_}
 use mathlib.Core.Bool.{true}
 use mathlib.Core.List.{List, []}
-use Prim.Native.Nat.{ℕ, zero, suc, _<_, _≤_, _+_, _*_}
+use Prim.Native.Nat.{ℕ, _<_, _≤_, _+_, _*_}
 use native.Mathlib.Nat.{zero-add}
 use native.Mathlib.Omega.{arith}
 use lib.Dec.{eqb}
@@ -12,8 +12,8 @@ use Rattle.scope.specs.Lists.{tabled}
 use Rattle.areas.specs.Floats.{listIn, listsIn, floatingIn}
 use Rattle.exchange.specs.Table.{mayIn}
 use Rattle.exchange.proofs.Laws.{ok-small, ok-is}
-use Rattle.placement_laws.specs.Terms.{AllRising, Orderly}
-use Rattle.basics.specs.Each.{In}
+use Rattle.placement_laws.specs.Terms.{Rising, Orderly}
+use Rattle.basics.specs.Each.{In, each-tabled}
 use Rattle.basics.specs.Members.{in-keep, keep-in}
 use Rattle.basics.specs.Tabled.{length-tabled, getD-tabled, in-tabled, tabled-in}
 use Rattle.placement_laws.specs.Lines.{kept-rising}
@@ -26,14 +26,13 @@ pub lists-at : (tab : List ℕ) (k s : ℕ) → s < k → getD (listsIn tab k) s
 unfolding listsIn
 lists-at tab k s h = getD-tabled (listIn tab) 0 k s [] h ∙ ap (listIn tab) (zero-add s)
 
-tabled-rising : (tab : List ℕ) (i n : ℕ) → AllRising (tabled (listIn tab) i n)
-unfolding tabled listIn
-tabled-rising tab i zero = tt
-tabled-rising tab i (suc n) = (kept-rising (λ x. eqb (getD tab (i * positionLimit + x) 0) 1) 0 positionLimit, tabled-rising tab (i + 1) n)
+list-rising : (tab : List ℕ) (f : ℕ) → Rising (listIn tab f)
+unfolding listIn
+list-rising tab f = kept-rising (λ x. eqb (getD tab (f * positionLimit + x) 0) 1) 0 positionLimit
 
 pub table-orderly : (tab : List ℕ) (k : ℕ) → k ≤ copyLimit → Orderly (floatingIn tab k)
 unfolding listsIn
-table-orderly tab k few = record { few = omega (arith, length-tabled (listIn tab) 0 k); rising = tabled-rising tab 0 k }
+table-orderly tab k few = record { few = omega (arith, length-tabled (listIn tab) 0 k); rising = each-tabled Rising (listIn tab) 0 k (λ i l. list-rising tab i) }
 
 pub list-may : (tab : List ℕ) (s x : ℕ) → In x (listIn tab s) → mayIn tab s x ≡ true
 unfolding listIn

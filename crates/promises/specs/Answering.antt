@@ -32,7 +32,7 @@ use Rattle.scope.specs.Layout.{tablesIn}
 use Rattle.scope.specs.Positions.{floatersBy, bracketsOf, copiesOf, Floating, floatingOf, rowsOf, Found, lookup}
 use Rattle.scope.specs.Placements.{allowed, takenListing, following}
 use Rattle.scope.specs.Masses.{massOf, total, lacking, daltons}
-use Rattle.scope.specs.Answers.{Said, good, refuses, findable, aMass, lack, saysWrite, saysCount, saysTotal, saysLookup, saysRequest, saysBooked, saysShown, tooShort, areTables, overTables, fitting, writes, outputAfter, counts, floaterCount, weighed, totals, shows, rowsSaid, rowsAfter, looksUp, allows, met, requested, movedOn, requests, listingAfter, allowable, bookable, books, entries}
+use Rattle.scope.specs.Answers.{Said, good, refuses, findable, aMass, lack, displayOf, saysWrite, saysCount, saysTotal, saysLookup, saysRequest, saysBooked, saysShown, tooShort, areTables, overTables, fitting, writes, outputAfter, counts, floaterCount, weighed, totals, shows, rowsSaid, rowsAfter, looksUp, allows, met, requested, movedOn, requests, listingAfter, allowable, bookable, books, entries}
 use Rattle.basics.specs.Each.{In}
 use Rattle.calls.specs.Writing.{WriteSays}
 use Rattle.calls.specs.Single.{elementAt, ownMass, massAt, weighsAt}
@@ -173,7 +173,7 @@ module _ (bs : List ℕ) (ns : List ℤ) where
   pub shows-so : Sayable saysShown (13 ∷ 14 ∷ []) (shows bs ns)
   shows-so =
       let t = tablesIn bs ns in
-      over (Sayable saysShown (13 ∷ 14 ∷ [])) bs ns (λ t. good (cond (eqb (lacking t) 0) (aMass (daltons (total t))) (lack (lacking t))))
+      over (Sayable saysShown (13 ∷ 14 ∷ [])) bs ns (λ t. good (displayOf t))
       (refusal (shownRefused 13) refl (inl refl)) (refusal (shownRefused 14) refl (inr (inl refl)))
       (display (eqb (lacking t) 0) (total t) (lacking t))
 

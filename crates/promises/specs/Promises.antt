@@ -34,7 +34,7 @@ use Rattle.scope.specs.Answers.{Said, good, refuses, aMass, lack, saysRead, say
 use Rattle.scope.specs.Grammar.{Spelling, print, good as wellSpelt, means}
 use Rattle.grammar_laws.specs.Laws.{Accepts, Refuses}
 use Rattle.placement_laws.specs.Terms.{Ascending, Placing}
-use Rattle.basics.specs.Each.{In}
+use Rattle.basics.specs.Each.{In, Ordered}
 use Rattle.verdict.specs.Says.{VerdictSays}
 use Rattle.reader.specs.ReadSays.{ReadSays}
 use Rattle.placements.specs.declared.Next.{Next}
@@ -214,8 +214,7 @@ abbrev pub Below : Site → Site → Type 0
 Below a b = (a .floater < b .floater) ⊎ ((a .floater ≡ b .floater) × (a .position < b .position))
 
 abbrev pub Climbing : List Site → Type 0
-Climbing [] = Unit {0}
-Climbing (a ∷ rs) = ((b : Site) → In b rs → Below a b) × Climbing rs
+Climbing rs = Ordered Below rs
 
 -- the least number that P has; 17 exactly where it has none
 abbrev pub LeastOf : (ℕ → Type 0) → Said Found → Type 0

@@ -3,7 +3,7 @@ use mathlib.Core.Path.{_≡_, refl, sym, ap, _∙_, subst}
 use mathlib.Core.Logic.{_↔_, _⊎_, inl, inr}
 use mathlib.Core.Bool.{Bool, true, false, cond, true≢false}
 use mathlib.Core.Option.{Option, none, some}
-use mathlib.Core.List.{List, [], _∷_, _++_, map}
+use mathlib.Core.List.{List, [], _∷_, map}
 use Prim.Native.Nat.{ℕ, zero, suc, _+_, _≤_, _<_, min}
 use native.Mathlib.Omega.{arith}
 use borrow.Author.Tests.{eqb-true, eq-eqb, le-ltb}
@@ -18,9 +18,9 @@ use Rattle.scope.specs.Lists.{laid}
 use Rattle.scope.specs.Layout.{tablesIn}
 use Rattle.scope.specs.Positions.{floatingOf, rowsFrom, rowsOf, Found, firstRow, lookup}
 use Rattle.scope.specs.Answers.{good, refuses, findable, saysCount, rowsSaid, rowsAfter, looksUp}
-use Rattle.placement_laws.specs.Terms.{Rising, AllRising}
+use Rattle.placement_laws.specs.Terms.{AllRising}
 use Rattle.basics.specs.Each.{In}
-use Rattle.basics.specs.Members.{in-left, in-right, in-either, in-map, map-in}
+use Rattle.basics.specs.Members.{in-left, in-right, in-either, in-map, map-in, ordered-append, ordered-map}
 use Rattle.laws.specs.Proved.{demands}
 use Rattle.listing.specs.Says.{RowsSays}
 use Rattle.promises.specs.Promises.{Permitted, Below, Climbing, LeastOf, Rowed}
@@ -62,22 +62,17 @@ row-in k (q ∷ qs) f x (suc i) e m = in-right (site f x) (map (site k) q) (rows
 low : (k : ℕ) (qs : List (List ℕ)) (b : Site) → In b (rowsFrom k qs) → k ≤ b .floater
 low k qs b h = let e = row-of k qs (b .floater) (b .position) h .is in omega (arith, e)
 
-climb : (k : ℕ) (q : List ℕ) (rest : List Site) → Rising q → ((b : Site) → In b rest → k < b .floater) → Climbing rest → Climbing (map (site k) q ++ rest)
-climb k [] rest r above c = c
-climb k (x ∷ q) rest r above c = ((λ b h. go b (in-either b (map (site k) q) rest h)), climb k q rest (r .1) above c)
-  where
-    go : (b : Site) → In b (map (site k) q) ⊎ In b rest → Below (site k x) b
-    go b (inl m) =
-        let z = in-map (site k) b q m in
-        let e : b .floater ≡ k = ap (λ (s : Site). s .floater) (z .2) in
-        let p : b .position ≡ z .0 = ap (λ (s : Site). s .position) (z .2) in
-        inr (sym e, subst (λ y. x < y) (sym p) (r .0 (z .0) (z .1)))
-    go b (inr m) = inl (above b m)
-
 climbing : (k : ℕ) (qs : List (List ℕ)) → AllRising qs → Climbing (rowsFrom k qs)
 unfolding rowsFrom
 climbing k [] r = tt
-climbing k (q ∷ qs) r = climb k q (rowsFrom (k + 1) qs) (r .0) (λ b h. let z = low (k + 1) qs b h in omega (arith, z)) (climbing (k + 1) qs (r .1))
+climbing k (q ∷ qs) r =
+    ordered-append Below (map (site k) q) (rowsFrom (k + 1) qs) (ordered-map _<_ Below (site k) q (λ x y h i l. inr (refl, l)) (r .0)) (climbing (k + 1) qs (r .1)) above
+  where
+    above : (a b : Site) → In a (map (site k) q) → In b (rowsFrom (k + 1) qs) → Below a b
+    above a b h m =
+        let e : a .floater ≡ k = ap (λ (s : Site). s .floater) (in-map (site k) a q h .2) in
+        let l = low (k + 1) qs b m in
+        inl (omega (arith, e, l))
 
 -- ---- the first row of a floater
 abbrev Best : ℕ → List Site → Option Found → Type 0

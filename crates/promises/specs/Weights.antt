@@ -19,7 +19,7 @@ use Rattle.scope.specs.Layout.{bytesOf, tablesIn}
 use Rattle.scope.specs.Positions.{floaters, floatingOf}
 use Rattle.scope.specs.Placements.{allowed}
 use Rattle.scope.specs.Masses.{sum, total, lacking, labileMass, daltons}
-use Rattle.scope.specs.Answers.{Said, good, refuses, aMass, lack, saysTotal, saysShown, saysRequest, saysBooked, tooShort, areTables, overTables, residueCount, bracketCount, floaterCount, weighed, allowable, bookable, books, entries}
+use Rattle.scope.specs.Answers.{Said, good, refuses, aMass, lack, displayOf, saysTotal, saysShown, saysRequest, saysBooked, tooShort, areTables, overTables, residueCount, bracketCount, floaterCount, weighed, allowable, bookable, books, entries}
 use Rattle.scope.specs.Grammar.{Spelling, means}
 use Rattle.layout_laws.specs.Laws.{tables-held}
 use Rattle.placement_laws.specs.Terms.{Orderly}
@@ -80,8 +80,8 @@ module _ (bs : List ℕ) (ns : List ℤ) (h : Taken bs ns) where
   total-so : (m : ℤ) (q : Total) → TotalSays bs ns q → saysTotal q ≡ good m → (eqb (lacking t) 0 ≡ true) × (total t ≡ m)
   total-so m q w e = weighed-so (eqb (lacking t) 0) (total t) m (lacking t) (sym (total-said q w) ∙ e)
 
-  shown-said : (r : Shown) → ShownSays bs ns r → saysShown r ≡ good (cond (eqb (lacking t) 0) (aMass (daltons (total t))) (lack (lacking t)))
-  shown-said r w = w ∙ says-itself h (λ t. good (cond (eqb (lacking t) 0) (aMass (daltons (total t))) (lack (lacking t))))
+  shown-said : (r : Shown) → ShownSays bs ns r → saysShown r ≡ good (displayOf t)
+  shown-said r w = w ∙ says-itself h (λ t. good (displayOf t))
 
   pub displays : (m : ℤ) (q : Total) → TotalSays bs ns q → saysTotal q ≡ good m → (r : Shown) → ShownSays bs ns r → saysShown r ≡ good (aMass (daltons m))
   displays m q w e r v =

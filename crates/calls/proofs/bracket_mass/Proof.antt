@@ -1,4 +1,4 @@
--- `calls::bracket_mass` meets its contract.
+-- `calls::bracket_mass` meets its contract: 13 or 14 where they are due, 17 past the last bracket, then its mass or 16.
 use mathlib.Core.Path.{_≡_, sym, ap, _∙_}
 use Rattle.scope.specs.Answers.{good}
 use Rattle.brackets.specs.Row.{row}

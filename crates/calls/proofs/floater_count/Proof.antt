@@ -1,4 +1,4 @@
--- `calls::floater_count` meets its contract.
+-- `calls::floater_count` meets its contract: 13 or 14 where they are due, else how many floaters were found.
 use mathlib.Core.Path.{sym, ap, _∙_}
 use Rattle.scope.specs.Answers.{good, floaterCount}
 use Rattle.calls.proofs.Laws.{refused-law, held, answers}

@@ -1,4 +1,4 @@
--- `calls::residue_count` meets its contract.
+-- `calls::residue_count` meets its contract: 13 or 14 where they are due, else the number that the areas hold.
 use mathlib.Core.Path.{sym, ap, _∙_}
 use Rattle.scope.specs.Answers.{good, residueCount}
 use Rattle.calls.proofs.Laws.{refused-law, held, answers}

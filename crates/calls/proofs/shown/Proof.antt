@@ -1,9 +1,7 @@
--- `calls::shown` meets its contract.
+-- `calls::shown` meets its contract: 13 or 14 where they are due, else what was weighed, a total in daltons.
 use mathlib.Core.Path.{_≡_, sym, ap, _∙_, subst}
-use Rattle.scope.specs.Answers.{good, aMass, lack}
-use mathlib.Core.Bool.{cond}
-use lib.Dec.{eqb}
-use Rattle.scope.specs.Masses.{total, lacking, daltons}
+use Rattle.scope.specs.Answers.{good, aMass, displayOf}
+use Rattle.scope.specs.Masses.{daltons}
 use Rattle.mass_laws.specs.Terms.{totalLimit}
 use Rattle.calls.proofs.Laws.{refused-law, held, answers, displayed, weight-total}
 use Prim.Native.Nat.{_<_}
@@ -15,7 +13,7 @@ use Rattle.calls.proofs.shown.Statement.{statement}
 use Rattle.calls.proofs.shown.Tie as tie
 
 returns : tie.Need-returns
-returns c = refused-law _ _ (c .before .why-not .ensures) (c .if1 .taken) (λ t. good (cond (eqb (lacking t) 0) (aMass (daltons (total t))) (lack (lacking t))))
+returns c = refused-law _ _ (c .before .why-not .ensures) (c .if1 .taken) (λ t. good (displayOf t))
 
 weigh-requires : tie.Need-weigh-requires
 weigh-requires c κs = held (c .before .why-not .ensures) (c .if1 .left) .bounds
@@ -24,16 +22,23 @@ as-daltons-requires : tie.Need-as-daltons-requires
 as-daltons-requires c κs =
     let m = c .before .w .given .0 .0 in
     let read : toZ w64 (ofZ w64 m) ≡ m = search needs in
-    subst (λ z. natAbs z < totalLimit) (sym read) (subst (λ z. natAbs z < totalLimit) (weight-total _ (c .before .before .before .weigh .ensures) (c .before .w .given .1)) ((held (c .before .before .before .before .before .why-not .ensures) (c .before .before .before .before .if1 .left)) .below))
+    let weighing = c .before .before .before in
+    let h = held (weighing .before .before .why-not .ensures) (weighing .before .if1 .left) in
+    subst (λ z. natAbs z < totalLimit) (weight-total _ (weighing .weigh .ensures) (c .before .w .given .1) ∙ sym read) (h .below)
 
 returns-2 : tie.Need-returns-2
 returns-2 c =
     let m = c .before .before .w .given .0 .0 in
     let read : toZ w64 (ofZ w64 m) ≡ m = search needs in
-    ap (λ z. good (aMass z)) (c .as-daltons .ensures ∙ ap daltons read) ∙ ap good (displayed _ (c .before .before .before .before .weigh .ensures) (c .before .before .w .given .1)) ∙ sym (answers (λ t. good (cond (eqb (lacking t) 0) (aMass (daltons (total t))) (lack (lacking t)))) (held (c .before .before .before .before .before .before .why-not .ensures) (c .before .before .before .before .before .if1 .left)))
+    let weighing = c .before .before .before .before in
+    ap (λ z. good (aMass z)) (c .as-daltons .ensures ∙ ap daltons read) ∙ ap good (displayed _ (weighing .weigh .ensures) (c .before .before .w .given .1))
+    ∙ sym (answers (λ t. good (displayOf t)) (held (weighing .before .before .why-not .ensures) (weighing .before .if1 .left)))
 
 returns-3 : tie.Need-returns-3
-returns-3 c = ap good (displayed _ (c .before .before .before .weigh .ensures) (c .before .w2 .given .1)) ∙ sym (answers (λ t. good (cond (eqb (lacking t) 0) (aMass (daltons (total t))) (lack (lacking t)))) (held (c .before .before .before .before .before .why-not .ensures) (c .before .before .before .before .if1 .left)))
+returns-3 c =
+    let weighing = c .before .before .before in
+    ap good (displayed _ (weighing .weigh .ensures) (c .before .w2 .given .1))
+    ∙ sym (answers (λ t. good (displayOf t)) (held (weighing .before .before .why-not .ensures) (weighing .before .if1 .left)))
 
 pub shown-spec : {M : Type 1} → statement M
 shown-spec =

@@ -1,4 +1,4 @@
--- `calls::too_short` meets its contract.
+-- `calls::too_short` meets its contract: the first area, then the second.
 use denote.Ref.{now}
 use Rattle.calls.proofs.Laws.{short-bytes, long-bytes}
 use Rattle.calls.proofs.too_short.Statement.{statement}

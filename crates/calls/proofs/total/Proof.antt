@@ -1,4 +1,4 @@
--- `calls::total` meets its contract.
+-- `calls::total` meets its contract: 13 or 14 where they are due, else what was weighed.
 use mathlib.Core.Path.{_≡_, sym, ap, _∙_}
 use Rattle.scope.specs.Answers.{good, weighed}
 use Rattle.scope.specs.Masses.{total}
@@ -19,10 +19,15 @@ returns-2 : tie.Need-returns-2
 returns-2 c =
     let m = c .before .w .given .0 .0 in
     let read : toZ w64 (ofZ w64 m) ≡ m = search needs in
-    ap good read ∙ weighed-so _ (c .before .before .before .weigh .ensures) (c .before .w .given .1) ∙ sym (answers (λ t. weighed t (total t)) (held (c .before .before .before .before .before .why-not .ensures) (c .before .before .before .before .if1 .left)))
+    let weighing = c .before .before .before in
+    ap good read ∙ weighed-so _ (weighing .weigh .ensures) (c .before .w .given .1)
+    ∙ sym (answers (λ t. weighed t (total t)) (held (weighing .before .before .why-not .ensures) (weighing .before .if1 .left)))
 
 returns-3 : tie.Need-returns-3
-returns-3 c = weighed-so _ (c .before .before .before .weigh .ensures) (c .before .w2 .given .1) ∙ sym (answers (λ t. weighed t (total t)) (held (c .before .before .before .before .before .why-not .ensures) (c .before .before .before .before .if1 .left)))
+returns-3 c =
+    let weighing = c .before .before .before in
+    weighed-so _ (weighing .weigh .ensures) (c .before .w2 .given .1)
+    ∙ sym (answers (λ t. weighed t (total t)) (held (weighing .before .before .why-not .ensures) (weighing .before .if1 .left)))
 
 pub total-spec : {M : Type 1} → statement M
 total-spec =

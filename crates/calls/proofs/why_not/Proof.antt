@@ -1,4 +1,4 @@
--- `calls::why_not` meets its contract.
+-- `calls::why_not` meets its contract: 13 where an area is too short, else 14 where the areas are no tables.
 use mathlib.Core.Path.{sym, ap, _∙_}
 use mathlib.Core.Bool.{cond}
 use denote.Ref.{now}

@@ -11,7 +11,7 @@ use lib.Seq.{drop-cons}
 use borrow.Author.Tests.{leb-true}
 use Rattle.scope.specs.Bytes.{isDigit, value}
 use Rattle.classes.proofs.Classes.{both}
-use Rattle.classes.proofs.Runs.{Run, run-starts, run-more, run-stops, run-ends}
+use Rattle.classes.proofs.Runs.{Run, run-enters, run-goes-on, run-stops, run-ends}
 use Rattle.numerals.specs.Numerals.{cap, digitsFrom, DigitsAt}
 
 -- 0 to 9 are 48 to 57
@@ -58,7 +58,7 @@ pub record SoFar (s : List ℕ) (at v m i : ℕ) : Type 0 where
 
 module _ (s : List ℕ) (at v : ℕ) where
   pub digits-start : v ≤ cap → SoFar s at v v at
-  digits-start h = record { low = h; same = refl; run = run-starts isDigit s at }
+  digits-start h = record { low = h; same = refl; run = run-enters }
 
   module _ (m i : ℕ) (f : SoFar s at v m i) where
     pub digits-more : i < length s → isDigit (getD s i 0) ≡ true → {w : ℕ} → w ≡ min cap (m * 10 + value (getD s i 0)) → SoFar s at v w (i + 1)
@@ -67,18 +67,18 @@ module _ (s : List ℕ) (at v : ℕ) where
       same =
           f .same ∙ ap (min cap) (value-more s i m h e) ∙ sym (cap-run _ (drop (i + 1) s))
           ∙ ap (λ u. min cap (digitsFrom u (drop (i + 1) s))) (sym q);
-      run = run-more isDigit s at i (f .run) h e;
+      run = run-goes-on (f .run) h refl e;
     }
 
     pub digits-stop : i < length s → isDigit (getD s i 0) ≡ false → DigitsAt s at v m i
     digits-stop h e = record {
       low = f .low;
       valued = omega (arith, f .low, f .same, value-stop s i m h e);
-      ends = run-stops isDigit s at i (f .run) h e;
+      ends = run-stops (f .run) h refl e;
     }
 
     pub digits-end : length s ≤ i → DigitsAt s at v m i
-    digits-end h = record { low = f .low; valued = omega (arith, f .low, f .same, value-end s i m h); ends = run-ends isDigit s at i (f .run) h }
+    digits-end h = record { low = f .low; valued = omega (arith, f .low, f .same, value-end s i m h); ends = run-ends (f .run) h }
 
 -- the digits behind a number that is kept at the cap
 pub cap-behind : (s : List ℕ) (at v w k : ℕ) → DigitsAt s at v w k → (m : ℕ) → v ≡ min cap m → w ≡ min cap (digitsFrom m (drop at s))

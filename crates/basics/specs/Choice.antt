@@ -4,6 +4,7 @@ use mathlib.Core.Bool.{Bool, true, false, cond, _&&_, _||_}
 use mathlib.Core.Option.{Option, none, some}
 use borrow.Author.Tests.{eq-eqb, ne-eqb, lt-ltb, le-ltb, le-leb, lt-leb}
 use Rattle.scope.specs.Lists.{given}
+use Rattle.basics.specs.Tests.{or-first, or-second, neither}
 
 -- ---- the test is known
 pub pick-true : {A : Type 0} (t : Bool) (x y : A) → t ≡ true → cond t x y ≡ x
@@ -49,7 +50,7 @@ pub told-so : {x t y : Bool} → x ≡ t → x ≡ y → t ≡ y
 told-so p q = sym p ∙ q
 
 pub ruleset steps =
-    (at-once, later, and-at-once, and-later, or-at-once, or-later, told-so, eq-eqb, ne-eqb, lt-ltb, le-ltb, le-leb, lt-leb)
+    (at-once, later, and-at-once, and-later, or-at-once, or-later, or-first, or-second, neither, told-so, eq-eqb, ne-eqb, lt-ltb, le-ltb, le-leb, lt-leb)
 
 -- ---- by cases: a test holds or not
 pub by-test : {A : Type 0} (t : Bool) → (t ≡ true → A) → (t ≡ false → A) → A

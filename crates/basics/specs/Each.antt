@@ -21,6 +21,11 @@ Some Q (x ∷ l) = Q x ⊎ Some Q l
 abbrev pub In : {A : Type 0} → A → List A → Type 0
 In x l = Some (λ y. x ≡ y) l
 
+-- x is none of these numbers: what the last arm of a match tells, the last number first
+abbrev pub NoneOf : List ℕ → ℕ → Type 0
+NoneOf [] x = Unit {0}
+NoneOf (k ∷ ks) x = NoneOf ks x × (x ≡ k → ⊥)
+
 -- of the value, where there is one
 abbrev pub OfGiven : {A : Type 0} → (A → Type 0) → Option A → Type 0
 OfGiven Q none = Unit {0}

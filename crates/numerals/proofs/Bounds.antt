@@ -20,7 +20,7 @@ use Rattle.scope.specs.Tables as tables
 use Rattle.numerals.specs.declared.Num.{Num}
 use Rattle.numerals.specs.declared.Num.the-variants.{Value, Wide, NoNumber}
 use Rattle.numerals.specs.Numerals.{cap, Scanned, found, lost, scanNumber, kept, numOf}
-use Rattle.classes.proofs.Classes.{both}
+use Rattle.basics.specs.Tests.{both-of}
 use Rattle.numerals.proofs.Ranges.{below-cap}
 
 -- a number that starts at i ends behind i and before n, with at most 6 decimals and below 1,000,000 where it is in range
@@ -63,7 +63,7 @@ ended-found x j i n h l = go (inRange x) refl
   where
     go : (b : Bool) → inRange x ≡ b → Ended (cond b (Value (kept x) j) (Wide j)) i n
     go true e =
-        let p = both (leb (x .decimals) decimalLimit) (ltb (x .digits) (sizeLimit * 10 ^ (x .decimals))) e in
+        let p = both-of (leb (x .decimals) decimalLimit) (ltb (x .digits) (sizeLimit * 10 ^ (x .decimals))) e in
         let k = leb-true (x .decimals) decimalLimit (p .0) in
         let a = abs-signed (x .minus) (x .digits * 10 ^ (decimalLimit - x .decimals)) in
         (h, l, k, subst (λ (y : ℕ). y < cap) (sym a) (below-cap k (ltb-true _ _ (p .1))))

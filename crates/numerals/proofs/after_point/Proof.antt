@@ -1,3 +1,4 @@
+-- Where no digit stands behind the point no number goes on; else the digits behind it count as decimals.
 use Rattle.numerals.proofs.DigitLaws.{cap-behind}
 use Rattle.numerals.proofs.NumberLaws.{point-none, point-some}
 use borrow.Author.Needs.{needs}

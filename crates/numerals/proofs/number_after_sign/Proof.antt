@@ -1,3 +1,4 @@
+-- Where no digit stands behind the sign no number goes on; else the rest follows the digits.
 use Rattle.scope.specs.Bytes.{isDigit}
 use Rattle.classes.proofs.Runs.{run-done}
 use Rattle.numerals.proofs.NumberLaws.{sign-none, sign-some}

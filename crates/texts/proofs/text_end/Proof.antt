@@ -1,3 +1,4 @@
+-- The loop outside every pair: a law of Pairs for each place of its code. A pair is read by a call, and reading goes on behind it.
 use Prim.Native.Nat.{_-_}
 use mathlib.Core.Path.{sym, _∙_}
 use native.Mathlib.Omega.{arith}

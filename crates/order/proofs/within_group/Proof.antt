@@ -8,6 +8,4 @@ use Rattle.order.proofs.within_group.Tie as tie
 pub within-group-spec : {M : Type 1} → statement M
 unfolding inGroup
 within-group-spec =
-    tie.close
-    (tie.spec
-    (λ c κs. search needs) (λ c. search steps) (λ c κs. search needs) (λ c. search steps) (λ c. search steps) (λ c. search steps))
+    tie.close (tie.spec (λ c κs. search needs) (λ c. search steps) (λ c κs. search needs) (λ c. search steps) (λ c. search steps) (λ c. search steps))

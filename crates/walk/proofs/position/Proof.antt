@@ -3,12 +3,9 @@ use borrow.Author.Needs.{needs}
 use Rattle.walk.proofs.position.Statement.{statement}
 use Rattle.walk.proofs.position.Tie as tie
 
-returns-6 : tie.Need-returns-6
-returns-6 c = rw (c .enum-told6 .given .1)
-
 pub position-spec : {M : Type 1} → statement M
 position-spec =
     tie.close
     (tie.spec
     (λ c. search needs) (λ c. search needs) (λ c. search needs) (λ c. search needs) (λ c. search needs) (λ c. search needs) (λ c. search needs)
-    (λ c. search needs) (λ c. search needs) (λ c. search needs) (λ c. search needs) (λ c. search needs) returns-6)
+    (λ c. search needs) (λ c. search needs) (λ c. search needs) (λ c. search needs) (λ c. search needs) (λ c. rw (c .enum-told6 .given .1)))

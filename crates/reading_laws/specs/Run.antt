@@ -13,7 +13,7 @@ use Rattle.scope.specs.Line.{Line}
 use Rattle.scope.specs.Reading.{mayEnd, State, dead, outside, inside, step, run, start, Reading, stuck, holds, lineOf, ended, reading}
 use Rattle.scope.specs.Tables.{Tables, tablesOf}
 use Rattle.scope.specs.Lists.{optional}
-use Rattle.reading_laws.specs.Places.{mapLine, mapHeld, mapState, step-map, tables-map}
+use Rattle.reading_laws.specs.Places.{mapHeld, mapState, step-map, tables-map}
 
 module _ {P : Type 0} (note : ℕ → P) where
   pub run-nil : (i : ℕ) (s : State P) → run note i s [] ≡ s
@@ -66,38 +66,6 @@ run-map f note i s [] = refl
 run-map f note i s (b ∷ l) =
     run-map f note (i + 1) (step (note i) s b) l ∙ ap (λ x. run (λ j. f (note j)) (i + 1) x l) (step-map f (note i) s b)
 
--- counting from another place
-pub run-shift : {P : Type 0} (note : ℕ → P) (n i : ℕ) (s : State P) (l : List ℕ) → run note (n + i) s l ≡ run (λ j. note (n + j)) i s l
-unfolding run
-run-shift note n i s [] = refl
-run-shift note n i s (b ∷ l) =
-    let e : n + i + 1 ≡ n + (i + 1) = omega arith in
-    ap (λ k. run note k (step (note (n + i)) s b) l) e ∙ run-shift note n (i + 1) (step (note (n + i)) s b) l
-
--- a line that stands behind n other bytes is read as it is by itself, with its places n further on
-pub run-from : (n : ℕ) (l : List ℕ) → run (λ j. j) n start l ≡ mapState (λ j. n + j) (run (λ j. j) 0 start l)
-run-from n l =
-    let e : n ≡ n + 0 = omega arith in
-    ap (λ k. run (λ j. j) k start l) e ∙ (run-shift (λ j. j) n 0 start l ∙ sym (run-map (λ j. n + j) (λ j. j) 0 start l))
-
-abbrev pub mapReading : (ℕ → ℕ) → Reading → Reading
-mapReading f (stuck p) = stuck (f p)
-mapReading f (holds l) = holds (mapLine f l)
-
-ended-map : (f : ℕ → ℕ) (n : ℕ) (s : State ℕ) → ended (f n) (mapState f s) ≡ mapReading f (ended n s)
-ended-map f n (dead p) = refl
-ended-map f n (outside m h) = go (mayEnd m)
-  where
-    go : (t : Bool) → cond t (holds (lineOf (mapHeld f h))) (stuck (f n)) ≡ mapReading f (cond t (holds (lineOf h)) (stuck n))
-    go true = refl
-    go false = refl
-ended-map f n (inside s at h c) = refl
-
--- what is read does not depend on the place at which counting starts: it is stuck so much further on, or holds the same with its places so much
--- further on, and so the same tables (tables-map)
-pub reading-from : (n : ℕ) (l : List ℕ) → ended (n + length l) (run (λ j. j) n start l) ≡ mapReading (λ j. n + j) (reading l)
-unfolding reading
-reading-from n l = ap (ended (n + length l)) (run-from n l) ∙ ended-map (λ j. n + j) (length l) (run (λ j. j) 0 start l)
 
 -- ---- places forgotten: the tables of a line, from a run that notes none
 abbrev pub unnoted : ℕ → Unit {0}

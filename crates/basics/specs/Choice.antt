@@ -1,8 +1,10 @@
 -- What `cond` and `given` give where the test is known, and what holds of them by cases of it.
 use mathlib.Core.Path.{_≡_, refl, sym, ap, _∙_}
-use mathlib.Core.Bool.{Bool, true, false, cond}
+use mathlib.Core.Bool.{Bool, true, false, cond, _&&_, _||_}
 use mathlib.Core.Option.{Option, none, some}
+use borrow.Author.Tests.{eq-eqb, ne-eqb, lt-ltb, le-ltb, le-leb, lt-leb}
 use Rattle.scope.specs.Lists.{given}
+use Rattle.basics.specs.Tests.{or-first, or-second, neither}
 
 -- ---- the test is known
 pub pick-true : {A : Type 0} (t : Bool) (x y : A) → t ≡ true → cond t x y ≡ x
@@ -23,12 +25,32 @@ took t a b e = sym (pick-true t a b e)
 pub passed : {A : Type 0} (t : Bool) (a b y : A) → t ≡ false → y ≡ b → y ≡ cond t a b
 passed t a b y e p = p ∙ sym (pick-false t a b e)
 
--- the same, where a callee has answered the test
-pub told-took : {A : Type 0} {x t : Bool} (a b : A) → x ≡ t → x ≡ true → a ≡ cond t a b
-told-took {t = t} a b e p = took t a b (sym e ∙ p)
+-- ---- a cascade of tests, answered test by test: what `search steps` tries
+-- the first test decides, or what is behind it
+pub at-once : {A : Type 0} (t : Bool) (x a b : A) → t ≡ true → x ≡ a → x ≡ cond t a b
+at-once t x a b e p = p ∙ took t a b e
 
-pub told-passed : {A : Type 0} {x t : Bool} (a b y : A) → x ≡ t → x ≡ false → y ≡ b → y ≡ cond t a b
-told-passed {t = t} a b y e p q = passed t a b y (sym e ∙ p) q
+pub later : {A : Type 0} (t : Bool) (x a b : A) → t ≡ false → x ≡ b → x ≡ cond t a b
+later t x a b e p = passed t a b x e p
+
+pub and-at-once : (t b : Bool) → t ≡ false → false ≡ (t && b)
+and-at-once t b e = ap (λ z. z && b) (sym e)
+
+pub and-later : (t x b : Bool) → t ≡ true → x ≡ b → x ≡ (t && b)
+and-later t x b e p = p ∙ ap (λ z. z && b) (sym e)
+
+pub or-at-once : (t b : Bool) → t ≡ true → true ≡ (t || b)
+or-at-once t b e = ap (λ z. z || b) (sym e)
+
+pub or-later : (t x b : Bool) → t ≡ false → x ≡ b → x ≡ (t || b)
+or-later t x b e p = p ∙ ap (λ z. z || b) (sym e)
+
+-- a callee has answered the test
+pub told-so : {x t y : Bool} → x ≡ t → x ≡ y → t ≡ y
+told-so p q = sym p ∙ q
+
+pub ruleset steps =
+    (at-once, later, and-at-once, and-later, or-at-once, or-later, or-first, or-second, neither, told-so, eq-eqb, ne-eqb, lt-ltb, le-ltb, le-leb, lt-leb)
 
 -- ---- by cases: a test holds or not
 pub by-test : {A : Type 0} (t : Bool) → (t ≡ true → A) → (t ≡ false → A) → A

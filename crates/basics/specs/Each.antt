@@ -26,6 +26,11 @@ abbrev pub Ordered : {A : Type 0} → (A → A → Type 0) → List A → Type 0
 Ordered R [] = Unit {0}
 Ordered {A} R (x ∷ l) = ((y : A) → In y l → R x y) × Ordered R l
 
+-- x is none of these numbers: what the last arm of a match tells, the last number first
+abbrev pub NoneOf : List ℕ → ℕ → Type 0
+NoneOf [] x = Unit {0}
+NoneOf (k ∷ ks) x = NoneOf ks x × (x ≡ k → ⊥)
+
 -- of the value, where there is one
 abbrev pub OfGiven : {A : Type 0} → (A → Type 0) → Option A → Type 0
 OfGiven Q none = Unit {0}

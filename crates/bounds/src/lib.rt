@@ -12,7 +12,7 @@ ghost use Rattle.bounds.specs.Verdict.{Verdict};
 ghost use Rattle.bounds.specs.Pieces.{Room, RowRoom, PlaceBounds, HeadBounds, PartsBounds, BracketsBounds};
 
 // What a mass or score stays below in size, in millionths.
-const CAP: i64 = (Number::SIZE as i64) * 1000000;
+const CAP: i64 = (Number::SIZE * tens::MILLION) as i64;
 
 // How many decimals it has at most.
 const DECIMALS: usize = Number::DECIMALS as usize;

@@ -1,7 +1,7 @@
 -- Brackets in a line, in their plain spelling: one after the other in square or in curly brackets, and with counts in unknown runs. What is said of one bracket holds
 -- of all of a list, and of all unknown runs as of one.
 use Prim.Native.Nat.{ℕ, _+_, _≤_}
-use mathlib.Core.Path.{_≡_, refl, sym, ap, ap₂, _∙_}
+use mathlib.Core.Path.{_≡_, refl, sym, ap, ap₂, _∙_, subst}
 use mathlib.Core.Bool.{Bool, true, false, not, _&&_, _||_}
 use mathlib.Core.Option.{Option, none, some, Option·none-ne-some}
 use mathlib.Core.List.{List, [], _∷_, _++_, map, append-nil}
@@ -70,6 +70,10 @@ module _ {g : Bool} {t p o : List ℕ} {ks : Brackets} {qs : ℕ → Brackets} (
 
   pub spelt-closed : Spelt g (t ++ (b ∷ [])) (p ++ (b ∷ [])) (o ++ (b ∷ [])) ks qs
   spelt-closed = record { fine = x .fine; says = ap (λ l. l ++ (b ∷ [])) (x .says); same = x .same; short = shorter p o (b ∷ []) (b ∷ []) (x .short) (omega arith) }
+
+-- with its text and its brackets put otherwise
+pub spelt-as : {g : Bool} {t u p o : List ℕ} {ks : Brackets} {qs rs : ℕ → Brackets} → Spelt g t p o ks qs → u ≡ t → ((j : ℕ) → qs j ≡ rs j) → Spelt g u p o ks rs
+spelt-as {ks = ks} x e f = record { fine = x .fine; says = e ∙ x .says; same = λ j. subst (λ (z : Brackets). Alike ks z) (f j) (x .same j); short = x .short }
 
 -- ---- brackets one behind another
 -- how brackets of one sort are printed, what each means at a place, which are good, how each is spelt plainly, and what the canonical line writes of what it means

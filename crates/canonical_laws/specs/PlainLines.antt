@@ -2,13 +2,13 @@
 -- is no longer.
 use Prim.Native.Nat.{ℕ, _+_, _≤_}
 use native.Mathlib.Omega.{arith}
-use mathlib.Core.Path.{_≡_, sym, _∙_, subst}
+use mathlib.Core.Path.{_≡_, sym, subst}
 use mathlib.Core.Bool.{true}
 use mathlib.Core.List.{[], _++_, map}
 use lib.ListN.{length}
 use Rattle.scope.specs.declared.grammar.Kind.the-variants.{Labile, NTerm, CTerm}
 use Rattle.scope.specs.Canonical.{canonical}
-use Rattle.scope.specs.Grammar.{printSquare, printCurly, along, eachAlong, goodSquares, goodCurlies, bracketAt, meansSquares, goodRun, printRun, meansRun, printElement, goodElement, bracketsAlong, Spelling, elements, printFront, print, good, atLabiles, atFront, atSequence, atBack, residuesOf, backOf, means}
+use Rattle.scope.specs.Grammar.{printSquare, printCurly, along, eachAlong, goodSquares, goodCurlies, bracketAt, meansSquares, goodRun, printRun, meansRun, printElement, goodElement, bracketsAlong, Spelling, elements, printFront, print, good, atLabiles, atFront, atSequence, atBack, residuesOf, backOf, meansAt, means}
 use Rattle.scope.specs.Lists.{all, flat}
 use Rattle.scope.specs.Refusals.{refusal7, wideCount, wideMass, wideScore}
 use Rattle.scope.specs.Tables.{bareResidue}
@@ -16,9 +16,9 @@ use Rattle.basics.specs.Each.{Each, each-front, each-back}
 use Rattle.basics.specs.Lists.{flat-none}
 use Rattle.basics.specs.Tests.{and-left, and-right}
 use Rattle.canonical_laws.specs.Endings.{Brackets, On, piecesText, chain-pieces}
-use Rattle.canonical_laws.specs.PlainBrackets.{Fits, Spelt, spelt-append, boxes-on, curlies-plain, runs-on, runs-plain, front-plain, back-plain}
+use Rattle.canonical_laws.specs.PlainBrackets.{Fits, Spelt, spelt-append, spelt-as, boxes-on, curlies-plain, runs-on, runs-plain, front-plain, back-plain}
 use Rattle.canonical_laws.specs.PlainSequence.{sequence-residues, sequence-ends, sequence-plain}
-use Rattle.canonical_laws.specs.Plainly.{plainInsides, plainRuns, plainly}
+use Rattle.canonical_laws.specs.Plainly.{plainInsides, plainly}
 use Rattle.canonical_laws.specs.Refusals.{same-length, Alike}
 
 module _ (t : Spelling) (fine : good t ≡ true) (narrow : refusal7 (means t) ≡ []) where
@@ -38,22 +38,23 @@ module _ (t : Spelling) (fine : good t ≡ true) (narrow : refusal7 (means t) �
   abbrev last : ℕ
   last = length (residuesOf 0 t) + 1
 
-  pub plainly-residues : map bareResidue (means (plainly t) .residues) ≡ map bareResidue (means t .residues)
-  plainly-residues = sequence-residues (atSequence 0 t) (atSequence 0 (plainly t)) (elements t)
+  residues-at : (j : ℕ) → map bareResidue (residuesOf j (plainly t)) ≡ map bareResidue (residuesOf 0 t)
+  residues-at j = sequence-residues (atSequence 0 t) (atSequence j (plainly t)) (elements t)
 
   fits : Each Fits (means t .brackets)
   unfolding refusal7
   fits = flat-none (λ k. wideCount k ++ flat (λ p. wideMass (p .value) ++ wideScore p) (k .parts)) (means t .brackets) narrow
 
-  -- those of its plain spelling, from the place j on, the C-terminal ones at the position q
-  abbrev plainAt : ℕ → ℕ → Brackets
-  plainAt q j =
-      eachAlong printRun meansRun j (plainRuns (t .runs))
-      ++ (along printCurly (bracketAt Labile 0 0) (atLabiles j (plainly t)) (plainInsides (t .labiles))
-      ++ (meansSquares NTerm 0 0 (atFront j (plainly t)) (plainInsides (t .front))
-      ++ (bracketsAlong 0 (atSequence j (plainly t)) (elements (plainly t)) ++ meansSquares CTerm q q (atBack j (plainly t) + 1) (plainInsides (t .back)))))
+  pieces : canonical (means t) ≡ piecesText 0 (residuesOf 0 t) us ls ns ss (backOf 0 t)
+  unfolding canonical
+  pieces =
+      let rs = residuesOf 0 t in
+      let at : last ≡ 0 + 1 + length rs = omega arith in
+      chain-pieces 0 rs us ls ns ss (backOf 0 t) (runs-on 0 (t .runs)) (boxes-on printCurly Labile 0 0 (atLabiles 0 t) (t .labiles))
+      (boxes-on printSquare NTerm 0 0 (atFront 0 t) (t .front)) (sequence-ends 1 (0 + length rs) 0 (atSequence 0 t) (elements t) (omega arith) (omega arith))
+      (subst (λ q. Each (On CTerm q) (backOf 0 t)) at (boxes-on printSquare CTerm last last (atBack 0 t + 1) (t .back)))
 
-  whole : Spelt (good (plainly t)) (piecesText 0 (residuesOf 0 t) us ls ns ss (backOf 0 t)) (print (plainly t)) (print t) (means t .brackets) (plainAt last)
+  whole : Spelt (good (plainly t)) (canonical (means t)) (print (plainly t)) (print t) (means t .brackets) (λ j. meansAt j (plainly t) .brackets)
   whole =
       let good₁ = and-right (all goodRun (t .runs)) _ fine in
       let good₂ = and-right (goodCurlies (t .labiles)) _ good₁ in
@@ -61,27 +62,25 @@ module _ (t : Spelling) (fine : good t ≡ true) (narrow : refusal7 (means t) �
       let fits₁ = each-back Fits us (ls ++ (ns ++ (ss ++ backOf 0 t))) fits in
       let fits₂ = each-back Fits ls (ns ++ (ss ++ backOf 0 t)) fits₁ in
       let fits₃ = each-back Fits ns (ss ++ backOf 0 t) fits₂ in
-      spelt-append (λ j. atLabiles j (plainly t)) (runs-plain 0 (t .runs) (and-left _ _ fine) (each-front Fits us _ fits))
+      spelt-as
+      (spelt-append (λ j. atLabiles j (plainly t)) (runs-plain 0 (t .runs) (and-left _ _ fine) (each-front Fits us _ fits))
       (spelt-append (λ j. j + length (flat printCurly (plainInsides (t .labiles)))) (curlies-plain (atLabiles 0 t) (t .labiles) (and-left _ _ good₁) (each-front Fits ls _ fits₁))
       (spelt-append (λ j. j + length (printFront (plainInsides (t .front)))) (front-plain NTerm 0 (atFront 0 t) (t .front) (and-left _ _ good₂) (each-front Fits ns _ fits₂))
       (spelt-append (λ j. j + length (flat printElement (elements (plainly t)))) (sequence-plain 0 (atSequence 0 t) (elements t) (and-left _ _ good₃) (each-front Fits ss _ fits₃))
-      (back-plain CTerm last (atBack 0 t + 1) (t .back) (and-right (all goodElement (elements t)) _ good₃) (each-back Fits ss (backOf 0 t) fits₃)))))
+      (back-plain CTerm last (atBack 0 t + 1) (t .back) (and-right (all goodElement (elements t)) _ good₃) (each-back Fits ss (backOf 0 t) fits₃))))))
+      pieces (λ j. rw (same-length bareResidue (residuesOf j (plainly t)) (residuesOf 0 t) (residues-at j)))
 
   pub plainly-good : good (plainly t) ≡ true
   plainly-good = whole .fine
 
   pub plainly-prints : print (plainly t) ≡ canonical (means t)
-  unfolding canonical
-  plainly-prints =
-      let rs = residuesOf 0 t in
-      let at : last ≡ 0 + 1 + length rs = omega arith in
-      sym (chain-pieces 0 rs us ls ns ss (backOf 0 t) (runs-on 0 (t .runs)) (boxes-on printCurly Labile 0 0 (atLabiles 0 t) (t .labiles)) (boxes-on printSquare NTerm 0 0 (atFront 0 t) (t .front))
-      (sequence-ends 1 (0 + length rs) 0 (atSequence 0 t) (elements t) (omega arith) (omega arith))
-      (subst (λ q. Each (On CTerm q) (backOf 0 t)) at (boxes-on printSquare CTerm last last (atBack 0 t + 1) (t .back)))
-      ∙ whole .says)
+  plainly-prints = sym (whole .says)
+
+  pub plainly-residues : map bareResidue (means (plainly t) .residues) ≡ map bareResidue (means t .residues)
+  plainly-residues = residues-at 0
 
   pub plainly-alike : Alike (means t .brackets) (means (plainly t) .brackets)
-  plainly-alike = subst (λ q. Alike (means t .brackets) (plainAt (q + 1) 0)) (same-length bareResidue (means t .residues) (means (plainly t) .residues) (sym plainly-residues)) (whole .same 0)
+  plainly-alike = whole .same 0
 
   pub plainly-short : length (print (plainly t)) ≤ length (print t)
   plainly-short = whole .short

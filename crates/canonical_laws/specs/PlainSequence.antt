@@ -24,7 +24,7 @@ use Rattle.basics.specs.Each.{Each, each-append, each-front, each-back}
 use Rattle.basics.specs.Lists.{flat-one, flat-one-length}
 use Rattle.basics.specs.Tests.{and-left, and-right, both, both-of, or-first}
 use Rattle.canonical_laws.specs.Endings.{Brackets, Ends, on-ends, ending-append, ending-on, ending-off, ownText, rangeText, front-off, back-off, text-on, text-last, sequence-append}
-use Rattle.canonical_laws.specs.PlainBrackets.{Fits, Spelt, spelt-none, spelt-append, spelt-led, spelt-closed, Plains, squares, boxes-on, squares-plain}
+use Rattle.canonical_laws.specs.PlainBrackets.{Fits, Spelt, spelt-none, spelt-append, spelt-led, spelt-closed, spelt-as, Plains, squares, boxes-on, squares-plain}
 use Rattle.canonical_laws.specs.Plainly.{plainInsides, plainSpot, plainElement}
 use Rattle.canonical_laws.specs.Refusals.{same-length}
 
@@ -213,22 +213,13 @@ element-plain n i (range s ss x xs) f w =
     let fits = each-front Fits (bracketsOn (n + 1) (i + 1) (s ∷ ss)) _ w in
     let spots = spots-plain (n + 1) (i + 1) (s ∷ ss) (good .0) fits in
     let on = squares-plain false OnRange (n + 1) last at (x ∷ xs) (good .1) (each-back Fits (bracketsOn (n + 1) (i + 1) (s ∷ ss)) _ w) in
-    let whole = spelt-led openRound (spelt-append (λ k. k + length (flat printSpot (map plainSpot (s ∷ ss)))) spots (spelt-led shutRound on)) in
-    record {
-      fine = whole .fine;
-      says = group-text (n + 1) last at (x ∷ xs) RangeFirst RangeNext (n + 1) (i + 1) s ss (λ u. (refl, refl, refl)) refl (good .0) fits ∙ whole .says;
-      same = λ j. rw (length-map ss plainSpot) (whole .same j);
-      short = whole .short;
-    }
+    spelt-as (spelt-led openRound (spelt-append (λ k. k + length (flat printSpot (map plainSpot (s ∷ ss)))) spots (spelt-led shutRound on)))
+    (group-text (n + 1) last at (x ∷ xs) RangeFirst RangeNext (n + 1) (i + 1) s ss (λ u. (refl, refl, refl)) refl (good .0) fits) (λ j. rw (length-map ss plainSpot))
 element-plain n i (unsure s ss) f w =
-    let whole = spelt-led openRound (spelt-led question (spelt-closed shutRound (spots-plain (n + 1) (i + 1 + 1) (s ∷ ss) f w))) in
-    record {
-      fine = whole .fine;
-      says = ap (λ ks. sequenceText ks (n + 1) (residuesIn i (unsure s ss))) (sym (append-nil _))
-          ∙ group-text (n + 1) (n + 1 + length ss) 0 [] UnsureFirst UnsureNext (n + 1) (i + 1 + 1) s ss (λ u. (refl, refl, refl)) refl f w;
-      same = whole .same;
-      short = whole .short;
-    }
+    spelt-as (spelt-led openRound (spelt-led question (spelt-closed shutRound (spots-plain (n + 1) (i + 1 + 1) (s ∷ ss) f w))))
+    (ap (λ ks. sequenceText ks (n + 1) (residuesIn i (unsure s ss))) (sym (append-nil _))
+    ∙ group-text (n + 1) (n + 1 + length ss) 0 [] UnsureFirst UnsureNext (n + 1) (i + 1 + 1) s ss (λ u. (refl, refl, refl)) refl f w)
+    (λ j. refl)
 
 -- ---- the elements, one behind another
 begins : (i : ℕ) (es : List Element) → goesOn (eachAlong printElement residuesIn i es) ≡ false
@@ -264,10 +255,5 @@ sequence-plain n i (e ∷ es) f w =
     let behind = bracketsAlong (n + length (residuesIn i e)) (i + length (printElement e)) es in
     let one = element-plain n i e (and-left (goodElement e) _ f) (each-front Fits (bracketsIn n i e) behind w) in
     let more = sequence-plain (n + length (residuesIn i e)) (i + length (printElement e)) es (and-right (goodElement e) _ f) (each-back Fits (bracketsIn n i e) behind w) in
-    let whole = spelt-append (λ j. j + length (printElement (plainElement e))) one more in
-    record {
-      fine = whole .fine;
-      says = split-text n i e es ∙ whole .says;
-      same = λ j. rw (same-length bareResidue (residuesIn j (plainElement e)) (residuesIn i e) (element-residues i j e)) (whole .same j);
-      short = whole .short;
-    }
+    spelt-as (spelt-append (λ j. j + length (printElement (plainElement e))) one more) (split-text n i e es)
+    (λ j. rw (same-length bareResidue (residuesIn j (plainElement e)) (residuesIn i e) (element-residues i j e)))

@@ -1,5 +1,5 @@
--- The laws of specs/Laws.antt hold: an accepted line is printed by a good tree, whose plain spelling prints the canonical line and means what differs from the line in
--- places and in whether a count of 1 is written alone; neither enters the tables, and no refusal is due more.
+-- The laws of specs/Laws.antt hold: an accepted line is printed by a good tree, whose plain spelling prints the canonical line and means the same but for places and for
+-- whether a count of 1 is written. Neither enters the tables, and no refusal is due that was not.
 use Prim.Native.Nat.{ℕ, _≤_}
 use native.Mathlib.Omega.{arith}
 use mathlib.Core.Path.{_≡_, refl, sym, ap, ap₂, _∙_, subst}

@@ -1,6 +1,6 @@
 -- Laws of `span` at a place of a list, whatever the class. Assumes nothing.
-use Prim.Native.Nat.{ℕ, suc, _+_, _-_, _≤_, _<_}
-use mathlib.Core.Path.{_≡_, refl, sym}
+use Prim.Native.Nat.{ℕ, suc, _+_, _≤_, _<_}
+use mathlib.Core.Path.{_≡_, refl, sym, _∙_}
 use mathlib.Core.Bool.{Bool, true, false, cond}
 use mathlib.Core.List.{List, [], _∷_}
 use native.Mathlib.Numerals.{add-one}
@@ -25,24 +25,27 @@ module _ (p : ℕ → Bool) (s : List ℕ) (i : ℕ) where
     unfolding span
     span-more e = rw (drop-cons s i 0 h, add-one i, e, span) (omega arith)
 
--- i is reached from at through bytes of the class
+-- ---- the loop `while i < s.len() { if class(s[i]) { i += 1 } else { return i } } i`, from the place `at` on
+-- its invariant: the bytes of the class that start at i end where those that start at `at` do
 pub record Run (p : ℕ → Bool) (s : List ℕ) (at i : ℕ) : Type 0 where
   pub same-end : i + span p (drop i s) ≡ at + span p (drop at s)
 
-module _ (p : ℕ → Bool) (s : List ℕ) (at : ℕ) where
-  pub run-starts : Run p s at at
-  run-starts = record { same-end = refl }
+pub run-enters : {p : ℕ → Bool} {s : List ℕ} {at : ℕ} → Run p s at at
+run-enters = record { same-end = refl }
 
-  module _ (i : ℕ) (r : Run p s at i) where
-    pub run-more : i < length s → p (getD s i 0) ≡ true → Run p s at (i + 1)
-    run-more h e = record { same-end = omega (arith, span-more p s i h e, r .same-end) }
+-- t is what the class says of the byte at i
+module _ {p : ℕ → Bool} {s : List ℕ} {at i : ℕ} (r : Run p s at i) where
+  module _ (h : i < length s) {t : Bool} (told : t ≡ p (getD s i 0)) where
+    pub run-goes-on : t ≡ true → Run p s at (i + 1)
+    run-goes-on e = record { same-end = omega (arith, span-more p s i h (sym told ∙ e), r .same-end) }
 
-    pub run-stops : i < length s → p (getD s i 0) ≡ false → i ≡ at + span p (drop at s)
-    run-stops h e = omega (arith, span-stop p s i h e, r .same-end)
+    pub run-stops : t ≡ false → i ≡ at + span p (drop at s)
+    run-stops e = omega (arith, span-stop p s i h (sym told ∙ e), r .same-end)
 
-    pub run-ends : length s ≤ i → i ≡ at + span p (drop at s)
-    run-ends h = omega (arith, span-end p s i h, r .same-end)
+  pub run-ends : length s ≤ i → i ≡ at + span p (drop at s)
+  run-ends h = omega (arith, span-end p s i h, r .same-end)
 
+-- ---- where a run ends
 pub span-le : (p : ℕ → Bool) (l : List ℕ) → span p l ≤ length l
 unfolding span
 span-le p [] = omega arith

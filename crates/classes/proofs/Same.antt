@@ -1,94 +1,82 @@
--- Laws of `same` and `sameFolded` over parts of a list. Assumes nothing.
-use Prim.Native.Nat.{ℕ, suc, _+_, _-_, _≤_, _<_}
-use mathlib.Core.Path.{_≡_}
-use mathlib.Core.Bool.{true, false}
+-- Laws of a loop that compares two texts byte by byte, whatever it compares of a byte. Assumes nothing.
+use Prim.Native.Nat.{ℕ, _+_, _≤_, _<_}
+use mathlib.Core.Path.{_≡_, refl, sym, ap, _∙_}
+use mathlib.Core.Bool.{Bool, true, false, _&&_}
 use mathlib.Core.List.{List, [], _∷_}
 use native.Mathlib.Numerals.{add-one}
 use native.Mathlib.Omega.{arith}
-use lib.ListN.{length, getD, drop, drop-of-length-le}
-use lib.Seq.{drop-cons}
+use lib.Dec.{eqb}
+use lib.ListN.{length, getD, drop, drop-of-length-le, length-take, length-drop}
+use lib.Seq.{drop-cons, getD-take, getD-drop}
 use borrow.Author.Tests.{eq-eqb, ne-eqb}
 use Rattle.scope.specs.Bytes.{upper, sameFolded}
 use Rattle.scope.specs.Lists.{same, part}
 
-pub drop-next : (s : List ℕ) (k : ℕ) → k < length s → drop k s ≡ getD s k 0 ∷ drop (k + 1) s
-drop-next s k h = rw (add-one, drop-cons s k 0)
+-- ---- what is compared
+-- the test goes by what f makes of the elements of two lists
+record Compares (f : ℕ → ℕ) (test : List ℕ → List ℕ → Bool) : Type 0 where
+  none : test [] [] ≡ true
+  more : (x y : ℕ) (l m : List ℕ) → test (x ∷ l) (y ∷ m) ≡ (eqb (f x) (f y) && test l m)
 
--- one byte of a part, and the rest of it
-pub part-next : (s : List ℕ) (a k n : ℕ) → a + n ≤ length s → k < n
-    → part (a + k) (n - k) s ≡ getD s (a + k) 0 ∷ part (a + (k + 1)) (n - (k + 1)) s
-part-next s a k n h l =
-    let e : n - k ≡ suc (n - (k + 1)) = omega arith in
-    let f : suc (a + k) ≡ a + (k + 1) = omega arith in
-    let g : a + k < length s = omega arith in
-    rw (e, drop-cons s (a + k) 0 g, f)
+-- a list of n elements, each by its place
+record Text (l : List ℕ) (n : ℕ) (at : ℕ → ℕ) : Type 0 where
+  long : length l ≡ n
+  byte : (k : ℕ) → k < n → getD l k 0 ≡ at k
 
--- the same, of a part that ends before a place
-pub part-cons : (s : List ℕ) (i end : ℕ) → i < end → end ≤ length s → part i (end - i) s ≡ getD s i 0 ∷ part (i + 1) (end - (i + 1)) s
-part-cons s i end h l =
-    let e : end - i ≡ suc (end - (i + 1)) = omega arith in
-    let f : suc i ≡ i + 1 = omega arith in
-    rw (e, drop-cons s i 0 (omega arith), f)
+pub record Sides (f : ℕ → ℕ) (test : List ℕ → List ℕ → Bool) (xs ys : List ℕ) (n : ℕ) (at bt : ℕ → ℕ) : Type 0 where
+  compares : Compares f test
+  left : Text xs n at
+  right : Text ys n bt
 
-pub part-over : (s : List ℕ) (a k n : ℕ) → n ≤ k → part a (n - k) s ≡ []
-part-over s a k n h =
-    let e : n - k ≡ 0 = omega arith in
-    rw e
+stretch : (s : List ℕ) (a n : ℕ) → a + n ≤ length s → Text (part a n s) n (λ k. getD s (a + k) 0)
+stretch s a n h = record { long = omega (arith, length-take n (drop a s), length-drop a s); byte = λ k l. rw (getD-take, getD-drop) }
 
-part-first : (s : List ℕ) (a n : ℕ) → part (a + 0) (n - 0) s ≡ part a n s
-part-first s a n =
-    let e : a + 0 ≡ a = omega arith in
-    let f : n - 0 ≡ n = omega arith in
-    rw (e, f)
+-- two parts of a line, byte for byte
+pub parts : (s : List ℕ) (a b n : ℕ) → (a + n ≤ length s) × (b + n ≤ length s)
+    → Sides (λ x. x) same (part a n s) (part b n s) n (λ k. getD s (a + k) 0) (λ k. getD s (b + k) 0)
+unfolding same
+parts s a b n h = record { compares = record { none = refl; more = λ x y l m. refl }; left = stretch s a n (h .0); right = stretch s b n (h .1) }
 
-module _ (s : List ℕ) (a b n : ℕ) where
-  -- the first k bytes of two parts are the same
-  pub record SoFar (k : ℕ) : Type 0 where
-    pub within : k ≤ n
-    pub left : same (part (a + k) (n - k) s) (part (b + k) (n - k) s) ≡ same (part a n s) (part b n s)
+-- a key and a part of a line, in either case
+pub key-part : (s : List ℕ) (at : ℕ) (key : List ℕ) → at + length key ≤ length s
+    → Sides upper sameFolded key (part at (length key) s) (length key) (λ k. getD key k 0) (λ k. getD s (at + k) 0)
+unfolding sameFolded
+key-part s at key h = record {
+  compares = record { none = refl; more = λ x y l m. refl };
+  left = record { long = refl; byte = λ k l. refl };
+  right = stretch s at (length key) h;
+}
 
-  pub same-starts : SoFar 0
-  same-starts = record { within = omega arith; left = rw (part-first s a n, part-first s b n) }
+-- ---- the loop `while k < n { if f(xs[k]) == f(ys[k]) { k += 1 } else { return false } } true`
+-- its invariant: what is left from k on decides
+pub record Alike (test : List ℕ → List ℕ → Bool) (xs ys : List ℕ) (k : ℕ) : Type 0 where
+  decides : test xs ys ≡ test (drop k xs) (drop k ys)
 
-  module _ (h : a + n ≤ length s) (l : b + n ≤ length s) (k : ℕ) (f : SoFar k) where
-    pub same-over : n ≤ k → true ≡ same (part a n s) (part b n s)
-    unfolding same
-    same-over e = rw (part-over s (a + k) k n e, part-over s (b + k) k n e) at (f .left)
+pub alike-enters : {test : List ℕ → List ℕ → Bool} {xs ys : List ℕ} → Alike test xs ys 0
+alike-enters = record { decides = refl }
 
-    pub same-more : k < n → getD s (a + k) 0 ≡ getD s (b + k) 0 → SoFar (k + 1)
-    unfolding same
-    same-more e q =
-        record {
-          within = omega arith;
-          left = rw (part-next s a k n h e, part-next s b k n l e, eq-eqb _ _ q, same) at (f .left);
-        }
+next : {l : List ℕ} {n k : ℕ} {at : ℕ → ℕ} → Text l n at → k < n → drop k l ≡ at k ∷ drop (k + 1) l
+next {l} {n} {k} t h = rw (add-one k, drop-cons l k 0 (omega (arith, t .long)), t .byte k h)
 
-    pub same-not : k < n → (getD s (a + k) 0 ≡ getD s (b + k) 0 → ⊥) → false ≡ same (part a n s) (part b n s)
-    unfolding same
-    same-not e q = rw (part-next s a k n h e, part-next s b k n l e, ne-eqb _ _ q, same) at (f .left)
+over : {l : List ℕ} {n k : ℕ} {at : ℕ → ℕ} → Text l n at → n ≤ k → drop k l ≡ []
+over {l} {n} {k} t h = let past : length l ≤ k = omega (arith, t .long) in drop-of-length-le l past
 
-module _ (s : List ℕ) (at : ℕ) (ks : List ℕ) where
-  -- the first k bytes of the key stand at their places
-  pub record Folded (k : ℕ) : Type 0 where
-    pub within : k ≤ length ks
-    pub left : sameFolded (drop k ks) (part (at + k) (length ks - k) s) ≡ sameFolded ks (part at (length ks) s)
+module _
+    {f : ℕ → ℕ} {test : List ℕ → List ℕ → Bool} {xs ys : List ℕ} {n k : ℕ} {at bt : ℕ → ℕ}
+    (s : Sides f test xs ys n at bt) (r : Alike test xs ys k) where
+  -- u and v are what f makes of the two elements at k
+  module _ (h : k < n) {u v : ℕ} (p : u ≡ f (at k)) (q : v ≡ f (bt k)) where
+    abbrev later : Bool
+    later = test (drop (k + 1) xs) (drop (k + 1) ys)
 
-  pub folded-starts : Folded 0
-  folded-starts = record { within = omega arith; left = rw (part-first s at (length ks)) }
+    here : test xs ys ≡ (eqb u v && later)
+    here = rw (p, q) (r .decides ∙ rw (next (s .left) h, next (s .right) h) (s .compares .more (at k) (bt k) (drop (k + 1) xs) (drop (k + 1) ys)))
 
-  module _ (h : at + length ks ≤ length s) (k : ℕ) (f : Folded k) where
-    pub folded-over : length ks ≤ k → true ≡ sameFolded ks (part at (length ks) s)
-    unfolding sameFolded
-    folded-over e = rw (drop-of-length-le ks e, part-over s (at + k) k (length ks) e) at (f .left)
+    pub alike-goes-on : u ≡ v → Alike test xs ys (k + 1)
+    alike-goes-on e = record { decides = here ∙ ap (λ b. b && later) (eq-eqb u v e) }
 
-    pub folded-more : k < length ks → upper (getD ks k 0) ≡ upper (getD s (at + k) 0) → Folded (k + 1)
-    unfolding sameFolded
-    folded-more e q =
-        record {
-          within = omega arith;
-          left = rw (drop-next ks k e, part-next s at k (length ks) h e, eq-eqb _ _ q, sameFolded) at (f .left);
-        }
+    pub alike-stops : (u ≡ v → ⊥) → false ≡ test xs ys
+    alike-stops e = sym (here ∙ ap (λ b. b && later) (ne-eqb u v e))
 
-    pub folded-not : k < length ks → (upper (getD ks k 0) ≡ upper (getD s (at + k) 0) → ⊥) → false ≡ sameFolded ks (part at (length ks) s)
-    unfolding sameFolded
-    folded-not e q = rw (drop-cons ks k 0 e, part-next s at k (length ks) h e, ne-eqb _ _ q, sameFolded) at (f .left)
+  pub alike-ends : n ≤ k → true ≡ test xs ys
+  alike-ends h = sym (r .decides ∙ rw (over (s .left) h, over (s .right) h) (s .compares .none))

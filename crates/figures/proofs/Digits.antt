@@ -2,7 +2,7 @@
 use mathlib.Core.Path.{_≡_, refl, ap, ap₂, _∙_}
 use mathlib.Core.List.{[], _∷_, _++_}
 use Prim.Native.Nat.{ℕ, zero, suc, _+_, _-_, _*_, _/_, _%_, _^_, _≤_, _<_}
-use native.Mathlib.Nat.{pow-suc, div-lt-iff-lt-mul, one-le-pow}
+use native.Mathlib.Nat.{pow-suc, div-lt-iff-lt-mul}
 use native.Mathlib.Numerals.{add-one}
 use native.Mathlib.Omega.{arith}
 use borrow.Author.Tests.{lt-ltb, le-ltb}
@@ -63,9 +63,6 @@ pub decimals-some : (d n : ℕ) → (d ≡ 0 → ⊥) → (dot ∷ []) ++ lastDi
 unfolding decimals
 decimals-some zero n z = absurd (z refl)
 decimals-some (suc d) n z = refl
-
-pub power-positive : (d : ℕ) → 0 < 10 ^ d
-power-positive d = one-le-pow d 10 (omega arith)
 
 module _ (minus : Bool) (n d : ℕ) where
   pub size-text : (p : ℕ) → p ≡ 10 ^ d → decimal (n / p) ++ decimals d n ≡ size (numberOf minus n d)

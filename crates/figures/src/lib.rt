@@ -119,22 +119,6 @@ fn last_digits(d: usize, n: u64, out: &mut [u8], at: usize) -> usize
 
 // ---- numbers
 
-// 10^d, for as many decimals as there may be.
-fn power(d: usize) -> u64
-    requires { ⌜ d ≤ decimalLimit ⌝ }
-    ensures { λ r. ⌜ r ≡ 10 ^ d ⌝ }
-{
-    match d {
-        0 => 1,
-        1 => 10,
-        2 => 100,
-        3 => 1000,
-        4 => 10000,
-        5 => 100000,
-        _ => 1000000,
-    }
-}
-
 // The size of a number: of a negative one by way of one less, which fits.
 pub fn magnitude(m: i64) -> u64
     ensures { λ r. ⌜ r ≡ natAbs m ⌝ }
@@ -157,7 +141,7 @@ fn digits_of(m: i64, d: usize) -> u64
     requires { ⌜ d ≤ decimalLimit ⌝ }
     ensures { λ r. ⌜ r ≡ natAbs m / 10 ^ (decimalLimit - d) ⌝ }
 {
-    magnitude(m) / power(DECIMALS - d)
+    magnitude(m) / tens::power(DECIMALS - d)
 }
 
 // A number without leading zeros.
@@ -185,7 +169,7 @@ fn put_size(minus: bool, n: u64, d: usize, out: &mut [u8], at: usize) -> usize
     requires { ⌜ (d ≤ decimalLimit) × (at + sizeMost ≤ ceiling) ⌝ }
     ensures { λ r. ⌜ Puts sizeMost (now (out .entry)) at (size (numberOf minus n d)) (now (out .exit)) r ⌝ }
 {
-    let a = put_decimal(n / power(d), out, at);
+    let a = put_decimal(n / tens::power(d), out, at);
     put_decimals(d, n, out, a)
 }
 

@@ -1,7 +1,7 @@
 -- Whole numbers of the machine. `omega` reads no ℤ: a size, `natAbs`, is a ℕ, and what follows is said of sizes. Assumes nothing.
-use mathlib.Core.Path.{_≡_, refl, _∙_}
+use mathlib.Core.Path.{_≡_, refl, ap, _∙_}
 use Prim.Native.Nat.{ℕ, zero, suc, _+_, _-_, _*_, _/_, _^_, _≤_, _<_}
-use native.Mathlib.Nat.{pow-le-pow-right, div-le-self, div-mul-le-self, zero-mul, mul-le-mul}
+use native.Mathlib.Nat.{div-le-self, div-mul-le-self, zero-mul, mul-le-mul}
 use native.Mathlib.Omega.{arith}
 use lib.IntN.{ℤ, pos, negsuc, natAbs, negℤ, _+ℤ_, _*ℤ_}
 use lib.Signed.{quotZ}
@@ -11,6 +11,7 @@ use mir.ValLaws.{toZ-ofZ, toZ-pos}
 use Rattle.scope.specs.Limits.{countLimit, decimalLimit}
 use Rattle.scope.specs.Tables.{signed, millionths}
 use Rattle.scope.specs.Layout.{isNegative, numberIn}
+use Rattle.tens.proofs.Powers.{power-some, power-few}
 use Rattle.mass_laws.specs.Terms.{massLimit}
 use Rattle.basics.specs.Wholes.{abs-add, abs-neg, abs-mul, abs-signed}
 
@@ -62,12 +63,6 @@ module _ (n : ℕ) (m : ℤ) (few : n ≤ countLimit) (small : natAbs m < massLi
   times-back = rw (back-n, back-m) (back (pos n *ℤ m) product)
 
 -- ---- a number to so many decimals
-pub unit-some : (d : ℕ) → 0 < 10 ^ (decimalLimit - d)
-unit-some d = pow-le-pow-right {n = 10} (omega arith) {i = 0} {j = decimalLimit - d} (omega arith)
-
-pub unit-few : (d : ℕ) → 10 ^ (decimalLimit - d) ≤ 10 ^ decimalLimit
-unit-few d = pow-le-pow-right {n = 10} (omega arith) {i = decimalLimit - d} {j = decimalLimit} (omega arith)
-
 neg-mul : (n p : ℕ) → negℤ (pos n) *ℤ pos p ≡ negℤ (pos (n * p))
 neg-mul zero p = rw (zero-mul p)
 neg-mul (suc n) p = refl
@@ -84,9 +79,15 @@ abs-cut : (m : ℤ) (p : ℕ) → natAbs (quotZ m (pos p) *ℤ pos p) ≤ natAbs
 abs-cut m p = rw (cut m p, abs-signed (isNegative m) (natAbs m / p * p)) (div-mul-le-self (natAbs m) p)
 
 -- the machine divides by the unit, and multiplies again
-module _ (m : ℤ) (d : ℕ) (small : natAbs m < massLimit) {u : ℤ} (e : u ≡ pos (10 ^ (decimalLimit - d))) where
-  unit-back : toZ w64 (ofZ w64 u) ≡ pos (10 ^ (decimalLimit - d))
-  unit-back = rw e (back (pos (10 ^ (decimalLimit - d))) (omega (arith, unit-few d)))
+module _ (m : ℤ) (d : ℕ) (small : natAbs m < massLimit) {u : ℕ} (e : u ≡ 10 ^ (decimalLimit - d)) where
+  unit-small : u < 2 ^ 63
+  unit-small = rw e (omega (arith, power-few decimalLimit d))
+
+  pub can-cast : SFits w64 (pos u)
+  can-cast = record { sfits = unit-small }
+
+  unit-back : toZ w64 u ≡ pos (10 ^ (decimalLimit - d))
+  unit-back = toZ-pos w64 u unit-small ∙ ap pos e
 
   mass-back : toZ w64 (ofZ w64 m) ≡ m
   mass-back = back m (omega arith)
@@ -94,19 +95,19 @@ module _ (m : ℤ) (d : ℕ) (small : natAbs m < massLimit) {u : ℤ} (e : u ≡
   quot-small : natAbs (quotZ m (pos (10 ^ (decimalLimit - d)))) < 2 ^ 63
   quot-small = omega (arith, abs-quot m (10 ^ (decimalLimit - d)))
 
-  pub can-divide : (0 < ofZ w64 u) × SFits w64 (quotZ (toZ w64 (ofZ w64 m)) (toZ w64 (ofZ w64 u)))
-  can-divide = (rw e (unit-some d), rw (unit-back, mass-back) (abs-fits (quotZ m (pos (10 ^ (decimalLimit - d)))) quot-small))
+  pub can-divide : (0 < u) × SFits w64 (quotZ (toZ w64 (ofZ w64 m)) (toZ w64 u))
+  can-divide = (rw e (power-some (decimalLimit - d)), rw (unit-back, mass-back) (abs-fits (quotZ m (pos (10 ^ (decimalLimit - d)))) quot-small))
 
-  quot-back : toZ w64 (ofZ w64 (quotZ (toZ w64 (ofZ w64 m)) (toZ w64 (ofZ w64 u)))) ≡ quotZ m (pos (10 ^ (decimalLimit - d)))
+  quot-back : toZ w64 (ofZ w64 (quotZ (toZ w64 (ofZ w64 m)) (toZ w64 u))) ≡ quotZ m (pos (10 ^ (decimalLimit - d)))
   quot-back = rw (unit-back, mass-back) (back (quotZ m (pos (10 ^ (decimalLimit - d)))) quot-small)
 
   product-small : natAbs (quotZ m (pos (10 ^ (decimalLimit - d))) *ℤ pos (10 ^ (decimalLimit - d))) < 2 ^ 63
   product-small = omega (arith, abs-cut m (10 ^ (decimalLimit - d)))
 
-  pub can-multiply : SFits w64 (toZ w64 (ofZ w64 (quotZ (toZ w64 (ofZ w64 m)) (toZ w64 (ofZ w64 u)))) *ℤ toZ w64 (ofZ w64 u))
+  pub can-multiply : SFits w64 (toZ w64 (ofZ w64 (quotZ (toZ w64 (ofZ w64 m)) (toZ w64 u))) *ℤ toZ w64 u)
   can-multiply = rw (quot-back, unit-back) (abs-fits (quotZ m (pos (10 ^ (decimalLimit - d))) *ℤ pos (10 ^ (decimalLimit - d))) product-small)
 
-  pub to-decimals-is : toZ w64 (ofZ w64 (toZ w64 (ofZ w64 (quotZ (toZ w64 (ofZ w64 m)) (toZ w64 (ofZ w64 u)))) *ℤ toZ w64 (ofZ w64 u))) ≡ millionths (numberIn m d)
+  pub to-decimals-is : toZ w64 (ofZ w64 (toZ w64 (ofZ w64 (quotZ (toZ w64 (ofZ w64 m)) (toZ w64 u))) *ℤ toZ w64 u)) ≡ millionths (numberIn m d)
   to-decimals-is =
       rw (quot-back, unit-back)
       (back (quotZ m (pos (10 ^ (decimalLimit - d))) *ℤ pos (10 ^ (decimalLimit - d))) product-small ∙ cut m (10 ^ (decimalLimit - d)))

@@ -8,6 +8,7 @@ use brackets::parts;
 use scope::answers::Booked;
 use scope::answers::Ledger;
 use scope::answers::Placement;
+use scope::tables::Number;
 ghost use mathlib.Core.Path.{_≡_};
 ghost use mathlib.Core.Bool.{_&&_};
 ghost use Prim.Native.Nat.{min, _+_, _*_, _-_, _<_, _≤_, _^_};
@@ -43,36 +44,13 @@ pub enum Weight {
     Lacks(usize),
 }
 
+// How many decimals a mass has at most.
+const DECIMALS: usize = Number::DECIMALS as usize;
+
 // The sum so far, and how many modifications had no mass.
 struct Tally {
     sum: i64,
     lacks: usize,
-}
-
-// A unit of the last of so many decimals, in millionths.
-fn unit(decimals: usize) -> i64
-    requires { ⌜ decimals ≤ decimalLimit ⌝ }
-    ensures { λ r. ⌜ r ≡ pos (10 ^ (decimalLimit - decimals)) ⌝ }
-{
-    if decimals == 0 {
-        return 1000000;
-    }
-    if decimals == 1 {
-        return 100000;
-    }
-    if decimals == 2 {
-        return 10000;
-    }
-    if decimals == 3 {
-        return 1000;
-    }
-    if decimals == 4 {
-        return 100;
-    }
-    if decimals == 5 {
-        return 10;
-    }
-    1
 }
 
 // So many millionths, to so many decimals. In tables of a line these are all that the number has.
@@ -80,7 +58,7 @@ fn to_decimals(m: i64, decimals: usize) -> i64
     requires { ⌜ (Small m) × (decimals ≤ decimalLimit) ⌝ }
     ensures { λ r. ⌜ r ≡ millionths (numberIn m decimals) ⌝ }
 {
-    let u = unit(decimals);
+    let u = tens::power(DECIMALS - decimals) as i64;
     let whole = m / u;
     whole * u
 }

@@ -20,8 +20,8 @@ use Rattle.scope.specs.Tables as tables
 use Rattle.numerals.specs.declared.Num.{Num}
 use Rattle.numerals.specs.declared.Num.the-variants.{Value, Wide, NoNumber}
 use Rattle.numerals.specs.Numerals.{cap, Scanned, found, lost, scanNumber, kept, numOf}
-use Rattle.classes.proofs.Classes.{both}
-use Rattle.numerals.proofs.Ranges.{by-decimals}
+use Rattle.basics.specs.Tests.{both-of}
+use Rattle.numerals.proofs.Ranges.{below-cap}
 
 -- a number that starts at i ends behind i and before n, with at most 6 decimals and below 1,000,000 where it is in range
 abbrev pub Ended : Num → ℕ → ℕ → Type 0
@@ -58,20 +58,15 @@ abs-signed true zero = refl
 abs-signed true (suc m) = refl
 abs-signed false m = refl
 
-small : (m d : ℕ) → d ≤ decimalLimit → m < sizeLimit * 10 ^ d → m * 10 ^ (decimalLimit - d) < cap
-small m d h =
-    by-decimals (λ d. m < sizeLimit * 10 ^ d → m * 10 ^ (decimalLimit - d) < cap)
-    (λ h. omega arith) (λ h. omega arith) (λ h. omega arith) (λ h. omega arith) (λ h. omega arith) (λ h. omega arith) (λ h. omega arith) d h
-
 ended-found : (x : Number ℕ) (j i n : ℕ) → i < j → j ≤ n → Ended (numOf (found x j)) i n
 ended-found x j i n h l = go (inRange x) refl
   where
     go : (b : Bool) → inRange x ≡ b → Ended (cond b (Value (kept x) j) (Wide j)) i n
     go true e =
-        let p = both (leb (x .decimals) decimalLimit) (ltb (x .digits) (sizeLimit * 10 ^ (x .decimals))) e in
+        let p = both-of (leb (x .decimals) decimalLimit) (ltb (x .digits) (sizeLimit * 10 ^ (x .decimals))) e in
         let k = leb-true (x .decimals) decimalLimit (p .0) in
         let a = abs-signed (x .minus) (x .digits * 10 ^ (decimalLimit - x .decimals)) in
-        (h, l, k, subst (λ (y : ℕ). y < cap) (sym a) (small (x .digits) (x .decimals) k (ltb-true _ _ (p .1))))
+        (h, l, k, subst (λ (y : ℕ). y < cap) (sym a) (below-cap k (ltb-true _ _ (p .1))))
     go false e = (h, l)
 
 ended-behind : (r : Scanned) (i n : ℕ) → Past r (i + 1) n → Ended (numOf r) i n

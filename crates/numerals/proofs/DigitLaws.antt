@@ -10,14 +10,14 @@ use lib.ListN.{length, getD, drop, drop-of-length-le}
 use lib.Seq.{drop-cons}
 use borrow.Author.Tests.{leb-true}
 use Rattle.scope.specs.Bytes.{isDigit, value}
-use Rattle.classes.proofs.Classes.{both}
-use Rattle.classes.proofs.Runs.{Run, run-starts, run-more, run-stops, run-ends}
+use Rattle.basics.specs.Tests.{both-of}
+use Rattle.classes.proofs.Runs.{Run, run-enters, run-goes-on, run-stops, run-ends}
 use Rattle.numerals.specs.Numerals.{cap, digitsFrom, DigitsAt}
 
 -- 0 to 9 are 48 to 57
 pub digit-bounds : (b : ℕ) → isDigit b ≡ true → (48 ≤ b) × (b ≤ 57)
 digit-bounds b e =
-    let p = both (leb 48 b) (leb b 57) e in
+    let p = both-of (leb 48 b) (leb b 57) e in
     (leb-true 48 b (p .0), leb-true b 57 (p .1))
 
 module _ (s : List ℕ) (i v : ℕ) where
@@ -56,29 +56,30 @@ pub record SoFar (s : List ℕ) (at v m i : ℕ) : Type 0 where
   pub same : min cap (digitsFrom v (drop at s)) ≡ min cap (digitsFrom m (drop i s))
   pub run : Run isDigit s at i
 
-module _ (s : List ℕ) (at v : ℕ) where
-  pub digits-start : v ≤ cap → SoFar s at v v at
-  digits-start h = record { low = h; same = refl; run = run-starts isDigit s at }
+pub digits-start : {s : List ℕ} {at v : ℕ} → v ≤ cap → SoFar s at v v at
+digits-start h = record { low = h; same = refl; run = run-enters }
 
-  module _ (m i : ℕ) (f : SoFar s at v m i) where
-    pub digits-more : i < length s → isDigit (getD s i 0) ≡ true → {w : ℕ} → w ≡ min cap (m * 10 + value (getD s i 0)) → SoFar s at v w (i + 1)
-    digits-more h e {w} q = record {
+-- t is what the class says of the byte at i
+module _ {s : List ℕ} {at v m i : ℕ} (f : SoFar s at v m i) where
+  module _ (h : i < length s) {t : Bool} (told : t ≡ isDigit (getD s i 0)) where
+    pub digits-more : t ≡ true → {w : ℕ} → w ≡ min cap (m * 10 + value (getD s i 0)) → SoFar s at v w (i + 1)
+    digits-more e {w} q = record {
       low = omega arith;
       same =
-          f .same ∙ ap (min cap) (value-more s i m h e) ∙ sym (cap-run _ (drop (i + 1) s))
+          f .same ∙ ap (min cap) (value-more s i m h (sym told ∙ e)) ∙ sym (cap-run _ (drop (i + 1) s))
           ∙ ap (λ u. min cap (digitsFrom u (drop (i + 1) s))) (sym q);
-      run = run-more isDigit s at i (f .run) h e;
+      run = run-goes-on (f .run) h told e;
     }
 
-    pub digits-stop : i < length s → isDigit (getD s i 0) ≡ false → DigitsAt s at v m i
-    digits-stop h e = record {
+    pub digits-stop : t ≡ false → DigitsAt s at v m i
+    digits-stop e = record {
       low = f .low;
-      valued = omega (arith, f .low, f .same, value-stop s i m h e);
-      ends = run-stops isDigit s at i (f .run) h e;
+      valued = omega (arith, f .low, f .same, value-stop s i m h (sym told ∙ e));
+      ends = run-stops (f .run) h told e;
     }
 
-    pub digits-end : length s ≤ i → DigitsAt s at v m i
-    digits-end h = record { low = f .low; valued = omega (arith, f .low, f .same, value-end s i m h); ends = run-ends isDigit s at i (f .run) h }
+  pub digits-end : length s ≤ i → DigitsAt s at v m i
+  digits-end h = record { low = f .low; valued = omega (arith, f .low, f .same, value-end s i m h); ends = run-ends (f .run) h }
 
 -- the digits behind a number that is kept at the cap
 pub cap-behind : (s : List ℕ) (at v w k : ℕ) → DigitsAt s at v w k → (m : ℕ) → v ≡ min cap m → w ≡ min cap (digitsFrom m (drop at s))

@@ -1,43 +1,43 @@
 -- When a number is in range, by its digits kept at the cap or below. Assumes nothing.
-use Prim.Native.Nat.{ℕ, zero, suc, _-_, _*_, _^_, _≤_, _<_, min}
-use mathlib.Core.Path.{_≡_, refl, sym, ap, _∙_}
+use Prim.Native.Nat.{ℕ, _-_, _*_, _^_, _≤_, _<_, min}
+use mathlib.Core.Path.{_≡_, refl, sym, ap, ap₂, subst, _∙_}
 use mathlib.Core.Bool.{Bool, true, false, not, _&&_, and-true}
 use native.Mathlib.Omega.{arith}
-use native.Mathlib.Nat.{zero-mul}
+use native.Mathlib.Nat.{zero-mul, mul-assoc, mul-le-mul, mul-lt-mul-of-pos-right, le-of-mul-le-mul-right, lt-of-mul-lt-mul-right}
 use lib.Dec.{eqb}
+use lib.IntN.{ℤ}
 use borrow.Author.Tests.{lt-ltb, le-ltb, le-leb, lt-leb, eqb-true}
 use Rattle.scope.specs.Content.{numberOf}
 use Rattle.scope.specs.Limits.{sizeLimit, decimalLimit}
 use Rattle.scope.specs.Tables.{signed}
+use Rattle.tens.proofs.Powers.{power-some, power-up, power-few, power-split}
 use Rattle.numerals.specs.declared.Num.the-variants.{Value, Wide}
 use Rattle.numerals.specs.Numerals.{cap, found, numOf}
 
-pub by-decimals : (P : ℕ → Type 0) → P 0 → P 1 → P 2 → P 3 → P 4 → P 5 → P 6 → (d : ℕ) → d ≤ decimalLimit → P d
-by-decimals P a b c d e f g zero h = a
-by-decimals P a b c d e f g (suc zero) h = b
-by-decimals P a b c d e f g (suc (suc zero)) h = c
-by-decimals P a b c d e f g (suc (suc (suc zero))) h = d
-by-decimals P a b c d e f g (suc (suc (suc (suc zero)))) h = e
-by-decimals P a b c d e f g (suc (suc (suc (suc (suc zero))))) h = f
-by-decimals P a b c d e f g (suc (suc (suc (suc (suc (suc zero)))))) h = g
-by-decimals P a b c d e f g (suc (suc (suc (suc (suc (suc (suc n))))))) h = absurd (omega arith)
+-- ---- the cap, with d decimals before those that are left
+cap-split : {d : ℕ} → d ≤ decimalLimit → cap ≡ sizeLimit * 10 ^ d * 10 ^ (decimalLimit - d)
+cap-split {d} l = ap (λ n. sizeLimit * n) (power-split l) ∙ sym (mul-assoc sizeLimit (10 ^ d) (10 ^ (decimalLimit - d)))
 
-module _ (v m : ℕ) (e : v ≡ min cap m) where
-  abbrev Over : ℕ → Type 0
-  Over d = cap ≤ v * 10 ^ (decimalLimit - d) → sizeLimit * 10 ^ d ≤ m
+pub below-cap : {m d : ℕ} → d ≤ decimalLimit → m < sizeLimit * 10 ^ d → m * 10 ^ (decimalLimit - d) < cap
+below-cap {m} {d} l h = subst (λ n. m * 10 ^ (decimalLimit - d) < n) (sym (cap-split l)) (mul-lt-mul-of-pos-right h (power-some (decimalLimit - d)))
 
-  over : (d : ℕ) → d ≤ decimalLimit → Over d
-  over =
-      by-decimals Over (λ h. omega arith) (λ h. omega arith) (λ h. omega arith) (λ h. omega arith) (λ h. omega arith) (λ h. omega arith) (λ h. omega arith)
+-- the millionths of digits that are kept at the cap fit
+pub scaled-fits : {v p : ℕ} (d : ℕ) → v ≤ cap → p ≡ 10 ^ (decimalLimit - d) → v * p < 2 ^ 64
+scaled-fits {v} {p} d h e =
+    let few : p ≤ 10 ^ decimalLimit = rw e (power-few decimalLimit d) in
+    omega (arith, mul-le-mul h few)
 
-  abbrev Under : ℕ → Type 0
-  Under d = v * 10 ^ (decimalLimit - d) < cap → (m < sizeLimit * 10 ^ d) × (v ≡ m)
+module _ (v m : ℕ) (e : v ≡ min cap m) {d : ℕ} (l : d ≤ decimalLimit) where
+  over : cap ≤ v * 10 ^ (decimalLimit - d) → sizeLimit * 10 ^ d ≤ m
+  over h =
+      let k = le-of-mul-le-mul-right (subst (λ n. n ≤ v * 10 ^ (decimalLimit - d)) (cap-split l) h) (power-some (decimalLimit - d)) in
+      omega arith
 
-  under : (d : ℕ) → d ≤ decimalLimit → Under d
-  under =
-      by-decimals Under
-      (λ h. (omega arith, omega arith)) (λ h. (omega arith, omega arith)) (λ h. (omega arith, omega arith)) (λ h. (omega arith, omega arith))
-      (λ h. (omega arith, omega arith)) (λ h. (omega arith, omega arith)) (λ h. (omega arith, omega arith))
+  under : v * 10 ^ (decimalLimit - d) < cap → (m < sizeLimit * 10 ^ d) × (v ≡ m)
+  under h =
+      let k = lt-of-mul-lt-mul-right (10 ^ (decimalLimit - d)) (subst (λ n. v * 10 ^ (decimalLimit - d) < n) (cap-split l) h) in
+      let few = power-up l in
+      (omega arith, omega arith)
 
 -- "The sign of zero .. not kept"
 of-zero : (s : Bool) → signed s 0 ≡ signed (s && false) 0
@@ -57,11 +57,14 @@ module _ (p : ℕ) (s : Bool) (m d i : ℕ) where
   pub wide-decimals : decimalLimit < d → Wide i ≡ numOf (found (numberOf p s m d) i)
   wide-decimals h = simp (lt-leb _ _ h)
 
-  module _ (v : ℕ) (e : v ≡ min cap m) (l : d ≤ decimalLimit) where
-    pub wide-size : cap ≤ v * 10 ^ (decimalLimit - d) → Wide i ≡ numOf (found (numberOf p s m d) i)
-    wide-size h = simp (le-leb _ _ l, le-ltb _ _ (over v m e d l h))
+  -- u is what one more of the last digit makes, in millionths
+  module _ (v : ℕ) (e : v ≡ min cap m) (l : d ≤ decimalLimit) {u : ℕ} (q : u ≡ 10 ^ (decimalLimit - d)) where
+    pub wide-size : cap ≤ v * u → Wide i ≡ numOf (found (numberOf p s m d) i)
+    wide-size h = simp (le-leb _ _ l, le-ltb _ _ (over v m e l (rw q at h)))
 
-    pub in-range : v * 10 ^ (decimalLimit - d) < cap → Value (record { millionths = signed s (v * 10 ^ (decimalLimit - d)); decimals = d }) i ≡ numOf (found (numberOf p s m d) i)
-    in-range h =
-        let u = under v m e d l h in
-        rw (le-leb _ _ l, lt-ltb _ _ (u .0)) (ap (λ z. Value (record { millionths = z; decimals = d }) i) (ap (λ n. signed s (n * 10 ^ (decimalLimit - d))) (u .1) ∙ sign-kept s m (10 ^ (decimalLimit - d))))
+    pub in-range : v * u < cap → {x : ℤ} → x ≡ signed s (v * u) → Value (record { millionths = x; decimals = d }) i ≡ numOf (found (numberOf p s m d) i)
+    in-range h f =
+        let b = under v m e l (rw q at h) in
+        rw (le-leb _ _ l, lt-ltb _ _ (b .0))
+        (ap (λ z. Value (record { millionths = z; decimals = d }) i)
+        (f ∙ ap₂ (λ n k. signed s (n * k)) (b .1) q ∙ sign-kept s m (10 ^ (decimalLimit - d))))

@@ -3,11 +3,10 @@ use scope::tables::Number;
 use scope::tables::Tables;
 ghost use mathlib.Core.Path.{_≡_};
 ghost use mathlib.Core.Bool.{true, false};
-ghost use Prim.Native.Nat.{ℕ, _+_, _-_, _*_, _^_, _≤_, min};
+ghost use Prim.Native.Nat.{ℕ, _+_, _*_, _≤_, min};
 ghost use lib.ListN.{drop};
 ghost use Rattle.scope.specs.Bytes.{isDigit, value};
 ghost use Rattle.scope.specs.Content.{signed, whole, pointed, numberOf};
-ghost use Rattle.scope.specs.Limits.{decimalLimit};
 ghost use Rattle.scope.specs.Tables.{signed as withSign};
 ghost use Rattle.classes.specs.Runs.{span};
 ghost use Rattle.numerals.specs.Numerals.{cap, digitsFrom, DigitsAt, scanNumber, found, numOf, CountAt};
@@ -16,7 +15,7 @@ ghost use Rattle.numerals.specs.Numerals.{cap, digitsFrom, DigitsAt, sca
 const DECIMALS: usize = Number::DECIMALS as usize;
 
 // "below 1,000,000 in size", in millionths: above this no number is in range.
-const CAP: u64 = Number::SIZE * 1000000;
+const CAP: u64 = Number::SIZE * tens::MILLION;
 
 // Above this no count is in range.
 const COUNT_CAP: usize = Tables::COUNT + 1;
@@ -131,7 +130,7 @@ fn finished(minus: bool, v: u64, d: usize, next: usize) -> Num
     if DECIMALS < d {
         return Num::Wide(next);
     }
-    let m = scaled(v, d);
+    let m = v * tens::power(DECIMALS - d);
     if CAP <= m {
         return Num::Wide(next);
     }
@@ -140,22 +139,6 @@ fn finished(minus: bool, v: u64, d: usize, next: usize) -> Num
         decimals: d as u8,
     };
     Num::Value { number, next }
-}
-
-// v with d decimals, in millionths.
-fn scaled(v: u64, d: usize) -> u64
-    requires { ⌜ (v ≤ cap) × (d ≤ decimalLimit) ⌝ }
-    ensures { λ r. ⌜ r ≡ v * 10 ^ (decimalLimit - d) ⌝ }
-{
-    match d {
-        0 => v * 1000000,
-        1 => v * 100000,
-        2 => v * 10000,
-        3 => v * 1000,
-        4 => v * 100,
-        5 => v * 10,
-        _ => v,
-    }
 }
 
 fn with_sign(minus: bool, m: u64) -> i64

@@ -1,19 +1,16 @@
 -- From the verdict to the answer and the areas.
-use mathlib.Core.Path.{_≡_, refl, sym, ap, _∙_}
-use mathlib.Core.Bool.{Bool, true, false, cond, _||_}
+use mathlib.Core.Path.{_≡_, refl, _∙_}
 use mathlib.Core.List.{List}
 use Prim.Native.Nat.{ℕ, _<_, _≤_}
 use native.Mathlib.Omega.{arith}
 use borrow.Author.Tests.{lt-ltb, le-ltb}
-use lib.Dec.{ltb}
 use lib.IntN.{ℤ}
 use lib.ListN.{length}
-use Rattle.scope.specs.declared.answers.Read.{Read}
 use Rattle.scope.specs.declared.answers.Read.the-variants.{Accepted, Refused}
 use Rattle.scope.specs.Line.{Line}
 use Rattle.scope.specs.Refusals.{Outcome, accepted, refused, outcome}
 use Rattle.scope.specs.Layout.{bytesSize, numbersSize}
-use Rattle.scope.specs.Answers.{Said, good, refuses, saysRead, saysOutcome, tooShort, readOutcome, bytesAfter, numbersAfter}
+use Rattle.scope.specs.Answers.{good, refuses, saysOutcome, readOutcome}
 use Rattle.reader.specs.ReadSays.{ReadSays, Stored}
 
 -- ---- 13

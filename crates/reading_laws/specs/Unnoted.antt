@@ -41,10 +41,6 @@ pub digits-cons : (d d′ : Digits) (b : ℕ) (l : List ℕ) → digitStep d b �
 unfolding digitRun
 digits-cons d d′ b l e = rw (e, digitRun)
 
-pub digits-one : (d d′ : Digits) (b : ℕ) → digitStep d b ≡ some d′ → digitRun d (b ∷ []) ≡ some d′
-unfolding digitRun
-digits-one d d′ b e = rw (e, digitRun)
-
 -- a whole number, read
 unfoldable pub allRead : Bool → ℕ → ℕ → Digits
 allRead s m zero = whole s m
@@ -59,11 +55,6 @@ contentStep (going c) b = innerStep tt c b
 unfoldable pub contentRun : Content Place → List ℕ → Content Place
 contentRun x [] = x
 contentRun x (b ∷ l) = contentRun (contentStep x b) l
-
-pub content-append : (l m : List ℕ) (x : Content Place) → contentRun x (l ++ m) ≡ contentRun (contentRun x l) m
-unfolding contentRun
-content-append [] m x = refl
-content-append (b ∷ l) m x = content-append l m (contentStep x b)
 
 pub content-nil : (x : Content Place) → contentRun x [] ≡ x
 unfolding contentRun

@@ -13,7 +13,6 @@ use Rattle.scope.specs.Refusals.{outcome, accepted}
 use Rattle.scope.specs.Layout.{rowSize, residuesAt, lettersAt, sectionsAt, bytesSize, numbersSize, sectionCode, bracketTexts, rows, countsRow, bytesOf, numbersOf}
 use Rattle.accepted_laws.specs.Within.{Within}
 use Rattle.layout_laws.specs.Layout.{padded-length, bytes-length, numbers-length}
-use Rattle.sheet.specs.Rows.{LineNoted}
 use Rattle.sheet.proofs.RowLaws.{sets-in}
 use Rattle.store.specs.Areas.{frontWith, areaWith, Pieces, AreasAre}
 use Rattle.store.specs.BracketPut.{BracketsFit, SomeBracketsFit, BracketsPut}

@@ -10,10 +10,12 @@ use lib.Dec.{eqb}
 use lib.ListN.{length, getD, drop, drop-of-length-le}
 use lib.Seq.{drop-cons, drop-drop}
 use borrow.Author.Tests.{ne-eqb, eqb-true, not-true}
+use Rattle.basics.specs.Each.{NoneOf}
+use Rattle.basics.specs.Tests.{both-of}
 use Rattle.scope.specs.Bytes.{isPrintable, isLetter, isOpening, isShutting}
 use Rattle.scope.specs.Lists.{given}
 use Rattle.scope.specs.Content.{isPlain, textStep}
-use Rattle.classes.proofs.Classes.{both, letter-plain, plain-quiet, plain-printable}
+use Rattle.classes.proofs.Classes.{letter-plain, plain-quiet, plain-printable}
 use Rattle.classes.specs.Runs.{span}
 use Rattle.texts.specs.Texts.{stoppedDeep, scanDeep, deeper, isOuter, isInner}
 use Rattle.texts.proofs.Firsts.{deeper-not}
@@ -36,8 +38,8 @@ outer-step hashes b e = rw e
 pub inner-step : (hashes : Bool) (c : ℕ) (cs : List ℕ) → isShutting c ≡ true → (b : ℕ) → isInner b ≡ true → textStep hashes (c ∷ cs) b ≡ some (c ∷ cs)
 unfolding textStep isInner
 inner-step hashes c cs h b e =
-    let p = both (isPrintable b && not (isShutting b)) (not (isOpening b)) e in
-    let q = both (isPrintable b) (not (isShutting b)) (p .0) in
+    let p = both-of (isPrintable b && not (isShutting b)) (not (isOpening b)) e in
+    let q = both-of (isPrintable b) (not (isShutting b)) (p .0) in
     let o : isOpening b ≡ false = not-true (isOpening b) (p .1) in
     let d : eqb b c ≡ false = ne-eqb b c (λ z. true≢false (sym h ∙ ap isShutting (sym z) ∙ not-true (isShutting b) (q .1))) in
     rw (o, d, p .0)
@@ -50,11 +52,11 @@ outer-quiet hashes b e = go (isPlain b) refl (eqb b 58) refl e
     go : (x : Bool) → isPlain b ≡ x → (y : Bool) → eqb b 58 ≡ y → x || y || hashes && eqb b 35 ≡ true → isOpening b ≡ false
     go true p y q f = plain-quiet b p .0
     go false p true q f = rw (eqb-true b 58 q)
-    go false p false q f = rw (eqb-true b 35 (both hashes (eqb b 35) f .1))
+    go false p false q f = rw (eqb-true b 35 (both-of hashes (eqb b 35) f .1))
 
 pub inner-quiet : (b : ℕ) → isInner b ≡ true → isOpening b ≡ false
 unfolding isInner
-inner-quiet b e = not-true (isOpening b) (both (isPrintable b && not (isShutting b)) (not (isOpening b)) e .1)
+inner-quiet b e = not-true (isOpening b) (both-of (isPrintable b && not (isShutting b)) (not (isOpening b)) e .1)
 
 -- bytes that leave the closers as they are, and open nothing
 module _ (p : ℕ → Bool) (hashes : Bool) (cs : List ℕ) (still : (b : ℕ) → p b ≡ true → textStep hashes cs b ≡ some cs) (quiet : (b : ℕ) → p b ≡ true → isOpening b ≡ false) where
@@ -92,31 +94,10 @@ pub scan-end : (hashes : Bool) (cs s : List ℕ) (i d : ℕ) → length s ≤ i 
 unfolding scanDeep
 scan-end hashes cs s i d h = rw (drop-of-length-le s h)
 
-third : (x y z : Bool) → x ≡ false → y ≡ false → x || y || z ≡ z
-third x y z p q = rw (p, q)
-
--- the cases of a byte outside every pair
-module _ (b : ℕ) where
-  pub outer-plain : (hashes : Bool) → isPlain b ≡ true → true ≡ isOuter hashes b
-  unfolding isOuter
-  outer-plain hashes e = rw e
-
-  pub outer-colon : (hashes : Bool) → b ≡ 58 → true ≡ isOuter hashes b
-  unfolding isOuter
-  outer-colon hashes e = rw e
-
-  pub outer-hash : (hashes : Bool) → isPlain b ≡ false → (b ≡ 58 → ⊥) → hashes ≡ true → eqb b 35 ≡ isOuter hashes b
-  unfolding isOuter
-  outer-hash hashes e c h = rw h (sym (third (isPlain b) (eqb b 58) (eqb b 35) e (ne-eqb b 58 c)))
-
-  pub outer-not : (hashes : Bool) → isPlain b ≡ false → (b ≡ 58 → ⊥) → hashes ≡ false → false ≡ isOuter hashes b
-  unfolding isOuter
-  outer-not hashes e c h = rw h (sym (third (isPlain b) (eqb b 58) false e (ne-eqb b 58 c)))
-
 -- a byte that opens and closes nothing is plain inside a pair where it is printable
-pub inner-else : (b : ℕ) → (b ≡ 91 → ⊥) → (b ≡ 93 → ⊥) → (b ≡ 123 → ⊥) → (b ≡ 125 → ⊥) → isPrintable b ≡ isInner b
+pub inner-else : (b : ℕ) → NoneOf (125 ∷ 123 ∷ 93 ∷ 91 ∷ []) b → isPrintable b ≡ isInner b
 unfolding isInner
-inner-else b p q r s = simp (ne-eqb _ _ p, ne-eqb _ _ q, ne-eqb _ _ r, ne-eqb _ _ s, and-true)
+inner-else b ((((_, p), q), r), s) = simp (ne-eqb _ _ p, ne-eqb _ _ q, ne-eqb _ _ r, ne-eqb _ _ s, and-true)
 
 -- a letter is plain inside a pair
 pub letter-inner : (b : ℕ) → isLetter b ≡ true → true ≡ isInner b

@@ -8,7 +8,7 @@ use native.Mathlib.Omega.{arith}
 use lib.Dec.{eqb}
 use lib.ListN.{length, take, drop}
 use borrow.Author.Tests.{not-true, eqb-true}
-use Rattle.classes.proofs.Classes.{both}
+use Rattle.basics.specs.Tests.{both-of}
 use Rattle.scope.specs.Bytes.{isPrintable, isOpening, isShutting, closerOf, colon, hash}
 use Rattle.scope.specs.Lists.{given, part}
 use Rattle.scope.specs.Content.{isPlain, textStep}
@@ -107,7 +107,7 @@ stepped hashes (c ∷ cs) cs′ b h e = go (isOpening b) refl (eqb b c) refl (is
         subst (λ l. Stepped (c ∷ cs) l b) same (record { shut = h .1; deep = rw (p, u) (omega arith) })
     go false p false q true r f =
         let same : c ∷ cs ≡ cs′ = cc in
-        let u : isShutting b ≡ false = not-true (isShutting b) (both (isPrintable b) (not (isShutting b)) r .1) in
+        let u : isShutting b ≡ false = not-true (isShutting b) (both-of (isPrintable b) (not (isShutting b)) r .1) in
         subst (λ l. Stepped (c ∷ cs) l b) same (record { shut = h; deep = rw (p, u) })
     go false p false q false r f = absurd (let w : _≡_ {A = ℕ} 0 1 = cc in omega arith)
 

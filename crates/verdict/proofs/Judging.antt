@@ -145,7 +145,7 @@ module _ (line : List ℕ) (some-byte : length line ≡ 0 → ⊥) (short : leng
       go true u = is-unprintable line some-byte short (span isPrintable line) (first-unprintable line (ltb-true _ _ u))
       go false u = is-stuck line some-byte short p (no-unprintable line (ltb-false _ _ u)) e
 
-  module _ {residues brackets labels least : ℕ} (w : LineSays line residues brackets labels least (lent letters sections heads parts masses scores))
+  module _ {residues brackets least : ℕ} (w : LineSays line residues brackets least (lent letters sections heads parts masses scores))
       (roomy : Roomy letters sections heads parts masses scores) where
     pub walked-line : WalkedLine line heads parts brackets least
     walked-line =

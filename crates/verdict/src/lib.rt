@@ -119,7 +119,6 @@ pub fn judge(
         Walked::Holds {
             residues,
             brackets,
-            labels: _,
             least,
         } => {
             let found = first_due(line, heads, parts, brackets, least);

@@ -13,8 +13,6 @@ use Rattle.scope.specs.declared.grammar.Act.{Act}
 use Rattle.scope.specs.declared.grammar.Act.the-variants.{Stop, Go, RunEnds, TermEnds}
 use Rattle.scope.specs.Limits.{bracketLimit, lineLimit}
 use Rattle.scope.specs.Line.{Bracket}
-use Rattle.scope.specs.Lists.{flat}
-use Rattle.scope.specs.Modifications.{namesOf}
 use Rattle.scope.specs.Reading.{outside, perform, step, settledRun, asNTerm, act, mayEnd, nothing, stuck, holds, lineOf, reading}
 use Rattle.reading_laws.specs.Run.{rest, rest-start, rest-step, rest-end, rest-dead}
 use Rattle.sheet.specs.Rows.{Noted}
@@ -27,7 +25,7 @@ use Rattle.walk.specs.Stages.{heldBrackets, Lent, withHeads, HasRoom, no
 use Rattle.walk.specs.Steps.{goneTo, settledIn, Settled, StepSays}
 use Rattle.walk.specs.Walked.{LineSays}
 use Rattle.walk.proofs.Modes.{ActFits, act-fits, ends-settled}
-use Rattle.walk.proofs.Dues.{met-none, met-settled, flat-settled}
+use Rattle.walk.proofs.Dues.{met-none, met-settled}
 use Rattle.walk.proofs.Notes.{none-noted, noted-settled, noted-low}
 
 module _ {line : List ℕ} {s : Stage} {a : Act} {t : Lent} (d : Does line s a t) where
@@ -52,7 +50,6 @@ module _ {line : List ℕ} {s : Stage} {a : Act} {t : Lent} (d : Does line s a t
         group = u .residues-are .group-low;
         brackets = u .few-brackets;
         run = omega (arith, b .before, b .many, e);
-        labels = b .labels-low;
         parts = omega (arith, n);
         room = λ h. omega (arith, n, b .many, h);
       }
@@ -62,13 +59,11 @@ unfolding perform
 stopped {line} {s} d = next-state d ∙ rest-dead line (s .at + 1) (s .at)
 
 -- the same brackets, of which others are settled
-pub brackets-as : {line : List ℕ} {n run m labels : ℕ} {bs ws : List (Bracket ℕ)} {heads parts : List ℕ} {masses scores : List ℤ} → BracketsAre line n run m labels bs ws heads parts masses scores
-    → (bs′ ws′ : List (Bracket ℕ)) → bs ++ ws ≡ bs′ ++ ws′ → (run′ : ℕ) → run′ ≡ length bs′ → BracketsAre line n run′ m labels bs′ ws′ heads parts masses scores
-brackets-as {line} {n} {run} {m} {labels} {bs} {ws} {heads} {parts} {masses} {scores} a bs′ ws′ e run′ f = record {
+pub brackets-as : {line : List ℕ} {n run m : ℕ} {bs ws : List (Bracket ℕ)} {heads parts : List ℕ} {masses scores : List ℤ} → BracketsAre line n run m bs ws heads parts masses scores
+    → (bs′ ws′ : List (Bracket ℕ)) → bs ++ ws ≡ bs′ ++ ws′ → (run′ : ℕ) → run′ ≡ length bs′ → BracketsAre line n run′ m bs′ ws′ heads parts masses scores
+brackets-as {line} {n} {run} {m} {bs} {ws} {heads} {parts} {masses} {scores} a bs′ ws′ e run′ f = record {
   many = a .many ∙ ap length e;
   before = f;
-  labels-are = a .labels-are ∙ ap (λ l. length (flat namesOf l)) e;
-  labels-low = a .labels-low;
   noted = subst (λ l. Noted line l m heads parts masses scores) e (a .noted);
 }
 
@@ -138,12 +133,10 @@ module _ {line : List ℕ} {s : Stage} {t : Lent} where
       let ws = map asNTerm (h .run) in
       let long : length (bs ++ h .run) ≡ length (bs ++ ws) =
       length-append bs (h .run) ∙ ap (λ n. length bs + n) (sym (length-map (h .run) asNTerm)) ∙ sym (length-append bs ws) in
-      let settled : BracketsAre line (s .brackets) (s .run) (s .parts) (s .labels) bs ws heads (t .parts) (t .masses) (t .scores) =
+      let settled : BracketsAre line (s .brackets) (s .run) (s .parts) bs ws heads (t .parts) (t .masses) (t .scores) =
       record {
         many = a .many ∙ long;
         before = a .before;
-        labels-are = a .labels-are ∙ ap length (sym (flat-settled namesOf (λ k. refl) bs (h .run)));
-        labels-low = a .labels-low;
         noted = noted-settled bs (h .run) (s .run) (s .brackets) (a .before) (a .many) g (a .noted);
       } in
       let same : bs ++ ws ≡ (bs ++ ws) ++ [] = sym (append-nil (bs ++ ws)) in
@@ -164,14 +157,13 @@ module _ {line : List ℕ} {s : Stage} {t : Lent} where
 
 -- ---- before the first byte
 pub nothing-read : (line : List ℕ) (t : Lent) → HasRoom t → Upto line firstStage t
-unfolding flat
 nothing-read line t r = record {
   held = nothing;
   is = rest-start line;
   within = omega arith;
   fits = refl;
   residues-are = record { many = refl; group-is = refl; group-low = omega arith; lettered = record { letters-are = λ h. refl; sections-are = λ h. refl } };
-  brackets-are = record { many = refl; before = refl; labels-are = refl; labels-low = omega arith; noted = none-noted };
+  brackets-are = record { many = refl; before = refl; noted = none-noted };
   least-is = met-none nothingDue;
   few-residues = omega arith;
   few-brackets = omega arith;
@@ -183,7 +175,7 @@ module _ {line : List ℕ} {s : Stage} {t : Lent} (u : Upto line s t) (past : le
   ended-here : reading line ≡ cond (mayEnd (s .mode)) (holds (lineOf (u .held))) (stuck (length line))
   ended-here = u .is ∙ rest-end line (s .at) (outside (s .mode) (u .held)) past
 
-  pub line-holds : mayEnd (s .mode) ≡ true → LineSays line (s .residues) (s .brackets) (s .labels) (s .least) t
+  pub line-holds : mayEnd (s .mode) ≡ true → LineSays line (s .residues) (s .brackets) (s .least) t
   line-holds e =
       let h = u .held in
       let w : h .run ≡ [] = ends-settled (s .mode) (h .run) _ e (u .fits) in
@@ -193,7 +185,6 @@ module _ {line : List ℕ} {s : Stage} {t : Lent} (u : Upto line s t) (past : le
         is = ended-here ∙ ap (λ b. cond b (holds (lineOf h)) (stuck (length line))) e;
         residues-are = u .residues-are .many;
         brackets-are = u .brackets-are .many ∙ ap length same;
-        labels-are = u .brackets-are .labels-are ∙ ap (λ l. length (flat namesOf l)) same;
         least-is = u .least-is ∙ ap (λ l. lowest nothingDue (metCodes (h .residues) l)) same;
         parts = s .parts;
         noted = subst (λ l. Noted line l (s .parts) (t .heads) (t .parts) (t .masses) (t .scores)) same (u .brackets-are .noted);
@@ -204,8 +195,8 @@ module _ {line : List ℕ} {s : Stage} {t : Lent} (u : Upto line s t) (past : le
   line-stuck e = ended-here ∙ ap (λ b. cond b (holds (lineOf (u .held))) (stuck (length line))) e
 
 -- ---- what the byte at hand does, and what a step says, by their answers
-pub does-this : {line : List ℕ} {s : Stage} {t : Lent} → length line ≤ lineLimit → s .at < length line → Upto line s t → {r a : Act} → r ≡ act (s .mode) (getD line (s .at) 0) → r ≡ a → Does line s a t
-does-this f h u e g = record { upto = u; here = h; short = f; does = sym e ∙ g }
+pub does-this : {line : List ℕ} {s : Stage} {t : Lent} → (length line ≤ lineLimit) × (s .at < length line) × Upto line s t → {r a : Act} → r ≡ act (s .mode) (getD line (s .at) 0) → r ≡ a → Does line s a t
+does-this p e g = record { upto = p .2; here = p .1; short = p .0; does = sym e ∙ g }
 
 pub step-stuck : (line : List ℕ) (s : Stage) (t : Lent) {r : Step} {p : ℕ} → StepSays line s r t → r ≡ Stuck p → reading line ≡ stuck p
 step-stuck line s t f e = subst (λ x. StepSays line s x t) e f

@@ -49,8 +49,8 @@ module _ (s : Stage) (kind : Kind) (p : Parts) (low : Low s) (few : p .count ≤
 -- the stage behind it
 pub stage-behind : (s : Stage) (slot : Slot) (next : ℕ) (p : Parts) (mode : Mode) (run parts : ℕ) → mode ≡ cond (p .refers) (slot .referred) (slot .after) → run ≡ runBehind (slot .kind) (s .run) (s .brackets)
     → parts ≡ cond (noted? s) (s .parts + min partLimit (p .count)) (s .parts)
-    → _≡_ {A = Stage} (record { at = next; mode = mode; residues = s .residues; group = s .group; brackets = s .brackets + 1; run = run; parts = parts; labels = s .labels + p .labels; least = p .least })
+    → _≡_ {A = Stage} (record { at = next; mode = mode; residues = s .residues; group = s .group; brackets = s .brackets + 1; run = run; parts = parts; least = p .least })
     (bracketBehind s slot next p)
 stage-behind s slot next p mode run parts e f g =
-    ap (λ m. record { at = next; mode = m; residues = s .residues; group = s .group; brackets = s .brackets + 1; run = run; parts = parts; labels = s .labels + p .labels; least = p .least }) e
-    ∙ ap₂ (λ x y. record { at = next; mode = cond (p .refers) (slot .referred) (slot .after); residues = s .residues; group = s .group; brackets = s .brackets + 1; run = x; parts = y; labels = s .labels + p .labels; least = p .least }) f g
+    ap (λ m. record { at = next; mode = m; residues = s .residues; group = s .group; brackets = s .brackets + 1; run = run; parts = parts; least = p .least }) e
+    ∙ ap₂ (λ x y. record { at = next; mode = cond (p .refers) (slot .referred) (slot .after); residues = s .residues; group = s .group; brackets = s .brackets + 1; run = x; parts = y; least = p .least }) f g

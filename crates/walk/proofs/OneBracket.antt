@@ -7,18 +7,15 @@ use Prim.Native.Nat.{ℕ, _+_, _*_, _<_, min}
 use native.Mathlib.Omega.{arith}
 use lib.Dec.{leb}
 use lib.IntN.{ℤ}
-use lib.ListN.{length, drop, length-append, length-set}
+use lib.ListN.{length, drop, length-set}
 use lib.Seq.{sets, length-sets}
 use borrow.Author.Tests.{ltb-true}
 use Rattle.basics.specs.Choice.{branch}
-use Rattle.basics.specs.Lists.{flat-snoc}
 use Rattle.scope.specs.declared.grammar.Slot.{Slot}
 use Rattle.scope.specs.declared.grammar.Act.the-variants.{Begin}
 use Rattle.scope.specs.Kinds.{isUnknown}
 use Rattle.scope.specs.Limits.{bracketLimit, partLimit}
 use Rattle.scope.specs.Line.{Part, Bracket}
-use Rattle.scope.specs.Lists.{flat}
-use Rattle.scope.specs.Modifications.{namesOf}
 use Rattle.scope.specs.Reading.{Held, put, bracketOf, modeAfter, outside, perform, stuck, reading}
 use Rattle.scope.specs.Refusals.{dueAt}
 use Rattle.reading_laws.specs.Kept.{put-by}
@@ -127,7 +124,7 @@ module _ {line : List ℕ} {s : Stage} {t : Lent} {slot : Slot} (d : Does line s
     g = put (slot .kind) k h
 
     -- the brackets with this one, as they are noted
-    with-bracket : BracketsAre line (s .brackets + 1) (length ks) (cond (noted? s) (s .parts + min partLimit (p .count)) (s .parts)) (s .labels + p .labels) ks (k ∷ []) heads parts masses scores
+    with-bracket : BracketsAre line (s .brackets + 1) (length ks) (cond (noted? s) (s .parts + min partLimit (p .count)) (s .parts)) ks (k ∷ []) heads parts masses scores
     with-bracket =
         let a = u .brackets-are in
         let c = w .closes in
@@ -139,8 +136,6 @@ module _ {line : List ℕ} {s : Stage} {t : Lent} {slot : Slot} (d : Does line s
         record {
           many = ap (λ n. n + 1) (a .many) ∙ sym (length-snoc ks k);
           before = refl;
-          labels-are = ap₂ _+_ (a .labels-are) (c .are .labels) ∙ sym (length-append (flat namesOf ks) (namesOf k)) ∙ ap length (sym (flat-snoc namesOf ks k));
-          labels-low = omega (arith, a .labels-low, c .few-labels, c .few, c .within, d .short);
           noted =
               subst (λ l. Noted line (ks ++ (k ∷ [])) (cond (noted? s) (s .parts + min partLimit (p .count)) (s .parts)) l parts masses scores) (sym (w .noted .heads-put))
               (subst (λ l. Noted line (ks ++ (k ∷ [])) (cond (noted? s) (s .parts + min partLimit (p .count)) (s .parts)) (cond (noted? s) (sets (t .heads) (s .brackets * headFields) (headRow (w .noted .head))) (t .heads)) parts masses l)

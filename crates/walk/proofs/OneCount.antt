@@ -2,7 +2,7 @@
 use mathlib.Core.Path.{_≡_, refl, sym, ap, subst, _∙_}
 use mathlib.Core.Bool.{true}
 use mathlib.Core.List.{List, [], _∷_, _++_, map, append-assoc}
-use Prim.Native.Nat.{ℕ, suc, _+_, _-_, _<_}
+use Prim.Native.Nat.{ℕ, suc, _-_, _<_}
 use native.Mathlib.Omega.{arith}
 use lib.Dec.{leb}
 use lib.ListN.{length, drop, getD}
@@ -13,8 +13,6 @@ use Rattle.scope.specs.declared.grammar.Act.the-variants.{Digit}
 use Rattle.scope.specs.Bytes.{isDigit}
 use Rattle.scope.specs.Limits.{bracketLimit}
 use Rattle.scope.specs.Line.{Bracket}
-use Rattle.scope.specs.Lists.{flat}
-use Rattle.scope.specs.Modifications.{namesOf}
 use Rattle.scope.specs.Reading.{Held, times, outside}
 use Rattle.scope.specs.Refusals.{dueAt}
 use Rattle.classes.specs.Runs.{span}
@@ -30,7 +28,7 @@ use Rattle.walk.specs.Stages.{LastFresh, ModeFits, heldBrackets, Lent, w
 use Rattle.walk.specs.Steps.{countPut, wrongCount, countedTo, CountSays}
 use Rattle.walk.proofs.Counts.{withCount, count-read, count-stops, count-within, count-past}
 use Rattle.walk.proofs.Dues.{met-count}
-use Rattle.walk.proofs.Notes.{last-same, noted-count}
+use Rattle.walk.proofs.Notes.{noted-count}
 use Rattle.walk.proofs.Further.{run-left, brackets-as, room-heads}
 
 put-long : (n value : ℕ) (heads : List ℕ) → length (countPut n value heads) ≡ length heads
@@ -73,14 +71,12 @@ module _ {line : List ℕ} {s : Stage} {t : Lent} (d : Does line s Digit t) wher
     x = times c (s .at) k
 
     -- with the count
-    counted : BracketsAre line (s .brackets) (length ks) (s .parts) (s .labels) ks (x ∷ []) (countPut (s .brackets) value (t .heads)) (t .parts) (t .masses) (t .scores)
+    counted : BracketsAre line (s .brackets) (length ks) (s .parts) ks (x ∷ []) (countPut (s .brackets) value (t .heads)) (t .parts) (t .masses) (t .scores)
     counted =
         let a = u .brackets-are in
         record {
           many = many ∙ length-snoc ks k ∙ sym (length-snoc ks x);
           before = refl;
-          labels-are = a .labels-are ∙ ap (λ l. length (flat namesOf l)) joins ∙ ap length (last-same namesOf ks k x refl);
-          labels-low = a .labels-low;
           noted = noted-count ks k (s .brackets) value c (s .at) many (f .valued) (subst (λ l. Noted line l (s .parts) (t .heads) (t .parts) (t .masses) (t .scores)) joins (a .noted));
         }
 

@@ -107,12 +107,12 @@ module _ (line : List ℕ) (s : Stage) (section : Section) (mode : Mode) (end : 
 
   pub run-stage : (room group least : ℕ) → room ≡ residueLimit - s .residues → group ≡ groupOf section (s .residues + 1) (s .residues + (end - s .at)) (s .group)
       → least ≡ lowest (s .least) (map (code overRank) (dueAt (ltb residueLimit (s .residues + (end - s .at))) (s .at + room)))
-      → _≡_ {A = Stage} (record { at = end; mode = mode; residues = s .residues + (end - s .at); group = group; brackets = s .brackets; run = s .run; parts = s .parts; labels = s .labels; least = least })
+      → _≡_ {A = Stage} (record { at = end; mode = mode; residues = s .residues + (end - s .at); group = group; brackets = s .brackets; run = s .run; parts = s .parts; least = least })
       (withRun s section mode (runAt line (s .at)))
   run-stage room group least er eg el =
       let m = runAt line (s .at) in
       let at-end : end ≡ s .at + m = omega arith in
-      let at-stage : ℕ → ℕ → ℕ → ℕ → Stage = λ i j g l. record { at = i; mode = mode; residues = s .residues + j; group = g; brackets = s .brackets; run = s .run; parts = s .parts; labels = s .labels; least = l } in
+      let at-stage : ℕ → ℕ → ℕ → ℕ → Stage = λ i j g l. record { at = i; mode = mode; residues = s .residues + j; group = g; brackets = s .brackets; run = s .run; parts = s .parts; least = l } in
       let due : ℕ → ℕ → ℕ = λ j r. lowest (s .least) (map (code overRank) (dueAt (ltb residueLimit (s .residues + j)) (s .at + r))) in
       ap₂ (at-stage end (end - s .at)) eg (el ∙ ap (due (end - s .at)) er)
       ∙ ap₂ (λ i j. at-stage i j (groupOf section (s .residues + 1) (s .residues + j) (s .group)) (due j (residueLimit - s .residues))) at-end run-count

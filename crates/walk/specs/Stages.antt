@@ -3,7 +3,7 @@ use mathlib.Core.Path.{_≡_}
 use mathlib.Core.Bool.{cond}
 use mathlib.Core.Option.{none}
 use mathlib.Core.List.{List, [], _∷_, _++_}
-use Prim.Native.Nat.{ℕ, _+_, _*_, _≤_, _<_}
+use Prim.Native.Nat.{ℕ, _+_, _≤_, _<_}
 use lib.IntN.{ℤ}
 use lib.ListN.{length, drop, getD}
 use Rattle.scope.specs.declared.grammar.Mode.{Mode}
@@ -12,8 +12,6 @@ use Rattle.scope.specs.declared.grammar.Act.{Act}
 use Rattle.scope.specs.Bytes.{isDigit}
 use Rattle.scope.specs.Limits.{bracketLimit, partLimit, lineLimit}
 use Rattle.scope.specs.Line.{Bracket, Residue}
-use Rattle.scope.specs.Lists.{flat}
-use Rattle.scope.specs.Modifications.{namesOf}
 use Rattle.scope.specs.Reading.{Held, act, outside, reading}
 use Rattle.classes.specs.Runs.{span}
 use Rattle.reading_laws.specs.Acts.{ways, someWay, endsRun, endsTerm, counts}
@@ -90,12 +88,10 @@ pub record ResiduesAre (n group : ℕ) (rs : List (Residue ℕ)) (first : ℕ) (
   pub group-low : group ≤ n
   pub lettered : Lettered rs letters sections
 
--- n brackets are read, the first `run` of them settled; m of their parts are noted, and they have so many labels
-pub record BracketsAre (line : List ℕ) (n run m labels : ℕ) (settled waits : List (Bracket ℕ)) (heads parts : List ℕ) (masses scores : List ℤ) : Type 0 where
+-- n brackets are read, the first `run` of them settled; m of their parts are noted
+pub record BracketsAre (line : List ℕ) (n run m : ℕ) (settled waits : List (Bracket ℕ)) (heads parts : List ℕ) (masses scores : List ℤ) : Type 0 where
   pub many : n ≡ length (settled ++ waits)
   pub before : run ≡ length settled
-  pub labels-are : labels ≡ length (flat namesOf (settled ++ waits))
-  pub labels-low : labels ≤ lineLimit * n
   pub noted : Noted line (settled ++ waits) m heads parts masses scores
 
 -- the line is walked up to a place
@@ -105,7 +101,7 @@ pub record Upto (line : List ℕ) (s : Stage) (t : Lent) : Type 0 where
   pub within : s .at ≤ length line
   pub fits : ModeFits (s .mode) (held .run) (drop (s .at) line)
   pub residues-are : ResiduesAre (s .residues) (s .group) (held .residues) (held .first) (t .letters) (t .sections)
-  pub brackets-are : BracketsAre line (s .brackets) (s .run) (s .parts) (s .labels) (held .brackets) (held .run) (t .heads) (t .parts) (t .masses) (t .scores)
+  pub brackets-are : BracketsAre line (s .brackets) (s .run) (s .parts) (held .brackets) (held .run) (t .heads) (t .parts) (t .masses) (t .scores)
   pub least-is : s .least ≡ lowest nothingDue (metCodes (held .residues) (heldBrackets held))
   pub few-residues : s .residues ≤ s .at
   pub few-brackets : s .brackets ≤ s .at
@@ -125,10 +121,9 @@ pub record Low (s : Stage) : Type 0 where
   pub group : s .group ≤ s .residues
   pub brackets : s .brackets ≤ s .at
   pub run : s .run ≤ s .brackets
-  pub labels : s .labels ≤ lineLimit * s .brackets
   pub parts : s .parts ≤ massesRoom
   pub room : s .brackets < bracketLimit → s .parts + partLimit ≤ massesRoom
 
 -- nothing is read
 abbrev pub firstStage : Stage
-firstStage = record { at = 0; mode = Front; residues = 0; group = 0; brackets = 0; run = 0; parts = 0; labels = 0; least = nothingDue }
+firstStage = record { at = 0; mode = Front; residues = 0; group = 0; brackets = 0; run = 0; parts = 0; least = nothingDue }

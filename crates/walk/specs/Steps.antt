@@ -40,12 +40,12 @@ use Rattle.walk.specs.Stages.{Lent, Upto, Low}
 -- ---- a byte that only carries the order on
 abbrev pub goneTo : Stage → Mode → Stage
 goneTo s mode =
-    record { at = s .at + 1; mode = mode; residues = s .residues; group = s .group; brackets = s .brackets; run = s .run; parts = s .parts; labels = s .labels; least = s .least }
+    record { at = s .at + 1; mode = mode; residues = s .residues; group = s .group; brackets = s .brackets; run = s .run; parts = s .parts; least = s .least }
 
 -- ---- the end of the brackets at the front
 abbrev pub settledIn : Stage → Mode → Stage
 settledIn s mode =
-    record { at = s .at + 1; mode = mode; residues = s .residues; group = s .group; brackets = s .brackets; run = s .brackets; parts = s .parts; labels = s .labels; least = s .least }
+    record { at = s .at + 1; mode = mode; residues = s .residues; group = s .group; brackets = s .brackets; run = s .brackets; parts = s .parts; least = s .least }
 
 -- the rows from `first` up to `end` are of N-terminal brackets
 pub record Settled (first end : ℕ) (heads heads′ : List ℕ) : Type 0 where
@@ -72,7 +72,6 @@ countedTo s next value =
       brackets = s .brackets;
       run = s .run;
       parts = s .parts;
-      labels = s .labels;
       least = lowest (s .least) (map (code wideRank) (dueAt (wrongCount value) (s .at)));
     }
 
@@ -115,7 +114,6 @@ withRun s section mode m =
       brackets = s .brackets;
       run = s .run;
       parts = s .parts;
-      labels = s .labels;
       least = lowest (s .least) (map (code overRank) (dueAt (ltb residueLimit (s .residues + m)) (s .at + (residueLimit - s .residues))));
     }
 
@@ -152,7 +150,6 @@ bracketBehind s slot next p =
       brackets = s .brackets + 1;
       run = runBehind (slot .kind) (s .run) (s .brackets);
       parts = cond (noted? s) (s .parts + min partLimit (p .count)) (s .parts);
-      labels = s .labels + p .labels;
       least = p .least;
     }
 

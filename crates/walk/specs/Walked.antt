@@ -4,8 +4,6 @@ use mathlib.Core.List.{List}
 use Prim.Native.Nat.{ℕ}
 use lib.ListN.{length}
 use Rattle.scope.specs.Line.{Line}
-use Rattle.scope.specs.Lists.{flat}
-use Rattle.scope.specs.Modifications.{namesOf}
 use Rattle.scope.specs.Reading.{stuck, holds, reading}
 use Rattle.sheet.specs.Rows.{Noted, Lettered}
 use Rattle.scope.specs.Refusals.{lineRefusals}
@@ -15,12 +13,11 @@ use Rattle.walk.specs.declared.Walked.{Walked}
 use Rattle.walk.specs.declared.Walked.the-variants.{Stuck, Holds}
 use Rattle.walk.specs.Stages.{Lent}
 
-pub record LineSays (line : List ℕ) (residues brackets labels least : ℕ) (t : Lent) : Type 0 where
+pub record LineSays (line : List ℕ) (residues brackets least : ℕ) (t : Lent) : Type 0 where
   pub held : Line ℕ
   pub is : reading line ≡ holds held
   pub residues-are : residues ≡ length (held .residues)
   pub brackets-are : brackets ≡ length (held .brackets)
-  pub labels-are : labels ≡ length (flat namesOf (held .brackets))
   pub least-is : least ≡ lowest (noCode (lineRefusals held)) (metCodes (held .residues) (held .brackets))
   pub parts : ℕ
   pub noted : Noted line (held .brackets) parts (t .heads) (t .parts) (t .masses) (t .scores)
@@ -28,4 +25,4 @@ pub record LineSays (line : List ℕ) (residues brackets labels least : ℕ) (t 
 
 abbrev pub WalkSays : List ℕ → Walked → Lent → Type 0
 WalkSays line (Stuck p) t = reading line ≡ stuck p
-WalkSays line (Holds residues brackets labels least) t = LineSays line residues brackets labels least t
+WalkSays line (Holds residues brackets least) t = LineSays line residues brackets least t

@@ -28,19 +28,18 @@ ghost use Rattle.walk.specs.Stages.{Lent, lent, Upto, Low, firstStage};
 ghost use Rattle.walk.specs.Steps.{goneTo, settledIn, Settled, countPut, wrongCount, CountSays, behind, groupOf, lettersPut, sectionsPut, RunSays, runBehind, HeadSays, NotedSays, BracketAsks, BracketStep, StepSays};
 ghost use Rattle.walk.specs.Walked.{WalkSays};
 
-// The place where no line goes on; or how many residues, brackets and labels the line holds, and the first refusal due of 5 to 9.
+// The place where no line goes on; or how many residues and brackets the line holds, and the first refusal due of 5 to 9.
 pub enum Walked {
     Stuck(usize),
     Holds {
         residues: usize,
         brackets: usize,
-        labels: usize,
         least: usize,
     },
 }
 
 // How far a line is walked: the place, how far its order has come, the number of residues, the position of the group's first, the numbers of brackets, of those that
-// are settled, of parts that are noted and of labels, and the first refusal due.
+// are settled and of parts that are noted, and the first refusal due.
 struct Stage {
     at: usize,
     mode: Mode,
@@ -49,7 +48,6 @@ struct Stage {
     brackets: usize,
     run: usize,
     parts: usize,
-    labels: usize,
     least: usize,
 }
 
@@ -72,7 +70,6 @@ fn gone(s: Stage, mode: Mode) -> Stage
         brackets: s.brackets,
         run: s.run,
         parts: s.parts,
-        labels: s.labels,
         least: s.least,
     }
 }
@@ -219,7 +216,6 @@ fn residues_read(
         brackets: s.brackets,
         run: s.run,
         parts: s.parts,
-        labels: s.labels,
         least,
     }
 }
@@ -329,7 +325,6 @@ fn bracket_noted(
         brackets: s.brackets + 1,
         run: run_behind(kind, s.run, s.brackets),
         parts: parts_behind(s.brackets < Tables::BRACKETS, s.parts, p.count),
-        labels: s.labels + p.labels,
         least: p.least,
     }
 }
@@ -413,7 +408,6 @@ fn count_read(line: &[u8], heads: &mut [u16], s: Stage) -> Stage
         brackets: s.brackets,
         run: s.run,
         parts: s.parts,
-        labels: s.labels,
         least,
     }
 }
@@ -433,7 +427,6 @@ fn settled_in(s: Stage, mode: Mode) -> Stage
         brackets: s.brackets,
         run: s.brackets,
         parts: s.parts,
-        labels: s.labels,
         least: s.least,
     }
 }
@@ -516,7 +509,6 @@ fn line_ended(line: &[u8], s: Stage) -> Walked
         return Walked::Holds {
             residues: s.residues,
             brackets: s.brackets,
-            labels: s.labels,
             least: s.least,
         };
     }
@@ -535,7 +527,6 @@ fn first_stage() -> Stage
         brackets: 0,
         run: 0,
         parts: 0,
-        labels: 0,
         least: dues::NONE,
     }
 }

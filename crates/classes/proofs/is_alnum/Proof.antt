@@ -1,12 +1,8 @@
+-- A letter, or else a digit.
 use borrow.Author.Needs.{needs}
+use Rattle.basics.specs.Choice.{steps}
 use Rattle.classes.proofs.is_alnum.Statement.{statement}
 use Rattle.classes.proofs.is_alnum.Tie as tie
 
-returns : tie.Need-returns
-returns c = simp (← c .before .is-letter .ensures, c .if1 .taken)
-
-returns-2 : tie.Need-returns-2
-returns-2 c = simp (← c .before .before .is-letter .ensures, c .before .if1 .left, ← c .is-digit .ensures)
-
 pub is-alnum-spec : {M : Type 1} → statement M
-is-alnum-spec = tie.close (tie.spec (λ c κs. search needs) returns (λ c κs. search needs) returns-2)
+is-alnum-spec = tie.close (tie.spec (λ c κs. search needs) (λ c. search steps) (λ c κs. search needs) (λ c. search steps))

@@ -1,12 +1,7 @@
-use borrow.Author.Tests.{le-leb, lt-leb}
+-- 32 to 126, by a test on either side.
+use Rattle.basics.specs.Choice.{steps}
 use Rattle.classes.proofs.is_printable.Statement.{statement}
 use Rattle.classes.proofs.is_printable.Tie as tie
 
-returns : tie.Need-returns
-returns c = simp (lt-leb _ _ (c .if1 .taken))
-
-returns-2 : tie.Need-returns-2
-returns-2 c = simp (le-leb _ _ (c .if1 .left))
-
 pub is-printable-spec : {M : Type 1} → statement M
-is-printable-spec = tie.close (tie.spec returns returns-2)
+is-printable-spec = tie.close (tie.spec (λ c. search steps) (λ c. search steps))

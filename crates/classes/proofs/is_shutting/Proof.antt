@@ -1,12 +1,7 @@
-use borrow.Author.Tests.{ne-eqb}
+-- A pair is closed by one of two bytes.
+use Rattle.basics.specs.Choice.{steps}
 use Rattle.classes.proofs.is_shutting.Statement.{statement}
 use Rattle.classes.proofs.is_shutting.Tie as tie
 
-returns : tie.Need-returns
-returns c = rw (c .if1 .taken)
-
-returns-2 : tie.Need-returns-2
-returns-2 c = simp (ne-eqb _ _ (c .if1 .left))
-
 pub is-shutting-spec : {M : Type 1} → statement M
-is-shutting-spec = tie.close (tie.spec returns returns-2)
+is-shutting-spec = tie.close (tie.spec (λ c. search steps) (λ c. search steps))

@@ -3,13 +3,13 @@ use mathlib.Core.Path.{ap, ap₂, _∙_}
 use Prim.Native.Nat.{_/_}
 use lib.IntN.{natAbs}
 use mir.Facts.{toZ-ofZ}
-use Rattle.figures.proofs.Digits.{power-positive}
 use borrow.Author.Needs.{needs}
+use Rattle.tens.proofs.Powers.{power-some}
 use Rattle.figures.proofs.digits_of.Statement.{statement}
 use Rattle.figures.proofs.digits_of.Tie as tie
 
 div-result : tie.Need-div-result
-div-result c = rw (c .power .ensures) (power-positive _)
+div-result c = rw (c .power .ensures) (power-some _)
 
 returns : tie.Need-returns
 returns c =

@@ -1,12 +1,13 @@
 -- The whole number, then the decimals. Assumes nothing.
 use Rattle.figures.proofs.Storing.{puts-of, puts-join}
-use Rattle.figures.proofs.Digits.{power-positive, size-text}
+use Rattle.figures.proofs.Digits.{size-text}
 use borrow.Author.Needs.{needs}
+use Rattle.tens.proofs.Powers.{power-some}
 use Rattle.figures.proofs.put_size.Statement.{statement}
 use Rattle.figures.proofs.put_size.Tie as tie
 
 div-put-decimal : tie.Need-div-put-decimal
-div-put-decimal c = rw (c .power .ensures) (power-positive _)
+div-put-decimal c = rw (c .power .ensures) (power-some _)
 
 returns : tie.Need-returns
 returns c =

@@ -35,12 +35,6 @@ add-part-held c =
 part-held-requires : tie.Need-part-held-requires Inv-loop μ-loop
 part-held-requires c κs = parting-fits (c .before .loop .inv) (omega arith)
 
-add-j : tie.Need-add-j Inv-loop μ-loop
-add-j c = omega arith
-
-loop-less : tie.Need-loop-less Inv-loop μ-loop
-loop-less c = omega arith
-
 loop-again : tie.Need-loop-again Inv-loop μ-loop
 loop-again c = parting-next (c .before .before .loop .inv) (omega arith) (c .part-held .ensures)
 
@@ -51,15 +45,5 @@ pub bracket-held-spec : {M : Type 1} → statement M
 bracket-held-spec =
     tie.close
     (tie.spec
-    Inv-loop
-    μ-loop
-    base-of-requires
-    parts-of-requires
-    frame-held-requires
-    loop-holds
-    add-part-held
-    part-held-requires
-    add-j
-    loop-less
-    loop-again
-    returns)
+    Inv-loop μ-loop base-of-requires parts-of-requires frame-held-requires loop-holds add-part-held part-held-requires (λ c. omega arith)
+    (λ c. omega arith) loop-again returns)

@@ -21,17 +21,8 @@ loop-holds c = let pre = c .before .before .before .before .before .before .befo
 bracket-held-requires : tie.Need-bracket-held-requires Inv-loop μ-loop
 bracket-held-requires c κs = bracketing-fits (c .before .loop .inv) (omega arith)
 
-add-k : tie.Need-add-k Inv-loop μ-loop
-add-k c = omega arith
-
-loop-less : tie.Need-loop-less Inv-loop μ-loop
-loop-less c = omega arith
-
 loop-again : tie.Need-loop-again Inv-loop μ-loop
 loop-again c = bracketing-next (c .before .before .loop .inv) (omega arith) (c .bracket-held .ensures)
-
-rest-held-requires : tie.Need-rest-held-requires Inv-loop μ-loop
-rest-held-requires c κs = rest-fits (c .before .loop .inv) (omega arith)
 
 returns : tie.Need-returns Inv-loop μ-loop
 returns c =
@@ -42,13 +33,5 @@ pub holds-spec : {M : Type 1} → statement M
 holds-spec =
     tie.close
     (tie.spec
-    Inv-loop
-    μ-loop
-    front-held-requires
-    loop-holds
-    bracket-held-requires
-    add-k
-    loop-less
-    loop-again
-    rest-held-requires
-    returns)
+    Inv-loop μ-loop front-held-requires loop-holds bracket-held-requires (λ c. omega arith) (λ c. omega arith) loop-again
+    (λ c κs. rest-fits (c .before .loop .inv) (omega arith)) returns)

@@ -23,5 +23,4 @@ returns c =
 
 pub padded-held-spec : {M : Type 1} → statement M
 padded-held-spec =
-    tie.close
-    (tie.spec (λ c κs. search needs) (λ c. search needs) (λ c. search needs) (λ c κs. search needs) returns)
+    tie.close (tie.spec (λ c κs. search needs) (λ c. search needs) (λ c. search needs) (λ c κs. search needs) returns)

@@ -20,24 +20,6 @@ abbrev μ-loop : tie.MeasureT-loop
 loop-holds : tie.Need-loop-holds Inv-loop μ-loop
 loop-holds c = matched-start _ _ _ _ (part-length _ _ _ (c .pre .inside)) (c .pre .room)
 
-add-so : tie.Need-add-so Inv-loop μ-loop
-add-so c = omega arith
-
-shared-slice-read-so : tie.Need-shared-slice-read-so Inv-loop μ-loop
-shared-slice-read-so c = omega arith
-
-add-so-2 : tie.Need-add-so-2 Inv-loop μ-loop
-add-so-2 c = omega arith
-
-shared-slice-read-so-2 : tie.Need-shared-slice-read-so-2 Inv-loop μ-loop
-shared-slice-read-so-2 c = omega arith
-
-add-i : tie.Need-add-i Inv-loop μ-loop
-add-i c = omega arith
-
-loop-less : tie.Need-loop-less Inv-loop μ-loop
-loop-less c = omega arith
-
 loop-again : tie.Need-loop-again Inv-loop μ-loop
 loop-again c =
     let at-loop = c .before .before .before in
@@ -47,21 +29,9 @@ loop-again c =
     let y = getD (now (s .from)) (s .a + i) 0 in
     matched-more (at-loop .loop .inv) (omega arith) 0 y (part-at (s .a) (s .n) (now (s .from)) i 0 (omega arith)) (tells-equal {x = x} refl refl)
 
-returns : tie.Need-returns Inv-loop μ-loop
-returns c = matched-end (c .before .loop .inv) (omega arith)
-
 pub same-bytes-spec : {M : Type 1} → statement M
 same-bytes-spec =
     tie.close
     (tie.spec
-    Inv-loop
-    μ-loop
-    loop-holds
-    add-so
-    shared-slice-read-so
-    add-so-2
-    shared-slice-read-so-2
-    add-i
-    loop-less
-    loop-again
-    returns)
+    Inv-loop μ-loop loop-holds (λ c. omega arith) (λ c. omega arith) (λ c. omega arith) (λ c. omega arith) (λ c. omega arith) (λ c. omega arith)
+    loop-again (λ c. matched-end (c .before .loop .inv) (omega arith)))

@@ -18,18 +18,6 @@ abbrev μ-loop : tie.MeasureT-loop
 loop-holds : tie.Need-loop-holds Inv-loop μ-loop
 loop-holds c = matched-start _ _ _ _ (length-replicate (c .args .n) 0) (c .pre)
 
-add-so : tie.Need-add-so Inv-loop μ-loop
-add-so c = omega arith
-
-shared-slice-read-so : tie.Need-shared-slice-read-so Inv-loop μ-loop
-shared-slice-read-so c = omega arith
-
-add-i : tie.Need-add-i Inv-loop μ-loop
-add-i c = omega arith
-
-loop-less : tie.Need-loop-less Inv-loop μ-loop
-loop-less c = omega arith
-
 loop-again : tie.Need-loop-again Inv-loop μ-loop
 loop-again c =
     let at-loop = c .before .before in
@@ -41,4 +29,5 @@ returns : tie.Need-returns Inv-loop μ-loop
 returns c = matched-end (c .before .loop .inv) (omega arith)
 
 pub zero-bytes-spec : {M : Type 1} → statement M
-zero-bytes-spec = tie.close (tie.spec Inv-loop μ-loop loop-holds add-so shared-slice-read-so add-i loop-less loop-again returns)
+zero-bytes-spec =
+    tie.close (tie.spec Inv-loop μ-loop loop-holds (λ c. omega arith) (λ c. omega arith) (λ c. omega arith) (λ c. omega arith) loop-again returns)

@@ -22,21 +22,6 @@ abbrev μ-loop : tie.MeasureT-loop
 loop-holds : tie.Need-loop-holds Inv-loop μ-loop
 loop-holds c = matched-start _ _ _ _ (length-replicate (c .args .n) (pos 0)) (c .pre)
 
-add-so : tie.Need-add-so Inv-loop μ-loop
-add-so c = omega arith
-
-mul-so : tie.Need-mul-so Inv-loop μ-loop
-mul-so c = omega arith
-
-shared-slice-copy-out-so : tie.Need-shared-slice-copy-out-so Inv-loop μ-loop
-shared-slice-copy-out-so c = omega arith
-
-add-i : tie.Need-add-i Inv-loop μ-loop
-add-i c = omega arith
-
-loop-less : tie.Need-loop-less Inv-loop μ-loop
-loop-less c = omega arith
-
 loop-again : tie.Need-loop-again Inv-loop μ-loop
 loop-again c =
     let at-loop = c .before .before in
@@ -46,9 +31,9 @@ loop-again c =
     let read : toZ w64 (ofZ w64 x) ≡ x = search needs in
     matched-more (at-loop .loop .inv) (omega arith) (pos 0) (pos 0) (getD-replicate (s .n) i (pos 0) (pos 0) (omega arith)) (tells-whole x (pos 0) read refl)
 
-returns : tie.Need-returns Inv-loop μ-loop
-returns c = matched-end (c .before .loop .inv) (omega arith)
-
 pub zero-numbers-spec : {M : Type 1} → statement M
 zero-numbers-spec =
-    tie.close (tie.spec Inv-loop μ-loop loop-holds add-so mul-so shared-slice-copy-out-so add-i loop-less loop-again returns)
+    tie.close
+    (tie.spec
+    Inv-loop μ-loop loop-holds (λ c. omega arith) (λ c. omega arith) (λ c. omega arith) (λ c. omega arith) (λ c. omega arith) loop-again
+    (λ c. matched-end (c .before .loop .inv) (omega arith)))

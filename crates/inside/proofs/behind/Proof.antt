@@ -3,25 +3,13 @@ use Rattle.inside.proofs.Answers.{behind-end, byte-shuts, byte-other, b
 use borrow.Author.Needs.{needs}
 use Rattle.inside.proofs.behind.Statement.{statement}
 use Rattle.inside.proofs.behind.Tie as tie
-use Rattle.inside.proofs.behind.Reads as reads
-use Rattle.inside.proofs.behind.Lts as lts
-
-returns : tie.Need-returns
-returns c = behind-end _ _ _ _ _ (c .if1 .taken)
-
-returns-2 : tie.Need-returns-2
-returns-2 c = byte-shuts _ _ _ _ _ (c .before .before .if1 .left) (c .if2 .taken)
-
-returns-3 : tie.Need-returns-3
-returns-3 c = byte-other _ _ _ _ _ (c .before .before .before .if1 .left) (c .before .if2 .left) (c .if3 .taken)
-
-returns-4 : tie.Need-returns-4
-returns-4 c = byte-refused _ _ _ _ _ (c .before .before .before .before .if1 .left) (c .before .before .if2 .left) (c .if4 .taken)
-
-returns-5 : tie.Need-returns-5
-returns-5 c = byte-splits _ _ _ _ _ (c .before .before .before .before .if1 .left) (c .before .before .if2 .left) (c .before .if3 .left) (c .if4 .left)
 
 pub behind-spec : {M : Type 1} → statement M
 behind-spec =
     tie.close
-    (tie.spec returns (λ c. search needs) (λ c. search needs) returns-2 returns-3 returns-4 (λ c. search needs) returns-5)
+    (tie.spec
+    (λ c. behind-end _ _ _ _ _ (c .if1 .taken)) (λ c. search needs) (λ c. search needs)
+    (λ c. byte-shuts _ _ _ _ _ (c .before .before .if1 .left) (c .if2 .taken))
+    (λ c. byte-other _ _ _ _ _ (c .before .before .before .if1 .left) (c .before .if2 .left) (c .if3 .taken))
+    (λ c. byte-refused _ _ _ _ _ (c .before .before .before .before .if1 .left) (c .before .before .if2 .left) (c .if4 .taken)) (λ c. search needs)
+    (λ c. byte-splits _ _ _ _ _ (c .before .before .before .before .if1 .left) (c .before .before .if2 .left) (c .before .if3 .left) (c .if4 .left)))

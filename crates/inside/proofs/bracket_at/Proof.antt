@@ -18,17 +18,11 @@ Inv-loop line parts₀ masses₀ at shut refers labels room base least i₀ s₀
 abbrev μ-loop : tie.MeasureT-loop
 μ-loop line parts₀ masses₀ at shut refers labels room base least i₀ s₀ parts masses i s = length line - i
 
-no-parts-requires : tie.Need-no-parts-requires Inv-loop μ-loop
-no-parts-requires c κs = search needs
-
 loop-holds : tie.Need-loop-holds Inv-loop μ-loop
 loop-holds c = let s = c .before .before .before in at-first _ _ _ (s .pre .within) (c .no-parts .ensures)
 
 next-part-requires : tie.Need-next-part-requires Inv-loop μ-loop
 next-part-requires c κs = let l = c .before .before in fits _ _ _ _ _ _ (l .before .before .before .before .pre) (l .loop .inv)
-
-enum-known-p : tie.Need-enum-known-p Inv-loop μ-loop
-enum-known-p c = search needs
 
 same-length : tie.Need-same-length Inv-loop μ-loop
 same-length c = let n = c .before .before .before .before .before .before in
@@ -45,9 +39,6 @@ returns c = let n = c .before .before .before .before .before .before in
     let l = n .before .before .before in
     then-lost _ _ _ _ _ _ (n .next-part .ensures _ _ _ _ (l .loop .inv)) _ (c .before .p .given .1)
 
-enum-known-next : tie.Need-enum-known-next Inv-loop μ-loop
-enum-known-next c = search needs
-
 same-length-3 : tie.Need-same-length-3 Inv-loop μ-loop
 same-length-3 c = let n = c .before .before .before .before .before .before in
     let l = n .before .before .before in
@@ -62,9 +53,6 @@ returns-2 : tie.Need-returns-2 Inv-loop μ-loop
 returns-2 c = let n = c .before .before .before .before .before .before in
     let l = n .before .before .before in
     then-closed _ _ _ _ _ _ (n .next-part .ensures _ _ _ _ (l .loop .inv)) _ _ (c .before .next .given .1)
-
-enum-known-next-2 : tie.Need-enum-known-next-2 Inv-loop μ-loop
-enum-known-next-2 c = search needs
 
 loop-less : tie.Need-loop-less Inv-loop μ-loop
 loop-less c = let n = c .before .before .before .before .before .before in
@@ -81,19 +69,5 @@ pub bracket-at-spec : {M : Type 1} → statement M
 bracket-at-spec =
     tie.close
     (tie.spec
-    Inv-loop
-    μ-loop
-    no-parts-requires
-    loop-holds
-    next-part-requires
-    enum-known-p
-    same-length
-    same-length-2
-    returns
-    enum-known-next
-    same-length-3
-    same-length-4
-    returns-2
-    enum-known-next-2
-    loop-less
-    loop-again)
+    Inv-loop μ-loop (λ c κs. search needs) loop-holds next-part-requires (λ c. search needs) same-length same-length-2 returns (λ c. search needs)
+    same-length-3 same-length-4 returns-2 (λ c. search needs) loop-less loop-again)

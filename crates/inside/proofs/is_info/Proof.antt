@@ -2,12 +2,7 @@
 use borrow.Author.Needs.{needs}
 use Rattle.inside.proofs.is_info.Statement.{statement}
 use Rattle.inside.proofs.is_info.Tie as tie
-use Rattle.inside.proofs.is_info.Reads as reads
-use Rattle.inside.proofs.is_info.Lts as lts
-use Rattle.keywords.proofs.key_code.Reads as key-code-reads
-
-returns : tie.Need-returns
-returns c = rw (c .before .key-code .ensures, c .key-code2 .ensures)
 
 pub is-info-spec : {M : Type 1} → statement M
-is-info-spec = tie.close (tie.spec (λ c κs. search needs) (λ c κs. search needs) returns)
+is-info-spec =
+    tie.close (tie.spec (λ c κs. search needs) (λ c κs. search needs) (λ c. rw (c .before .key-code .ensures, c .key-code2 .ensures)))

@@ -3,14 +3,9 @@ use mir.Facts.{toZ-ofZ}
 use borrow.Author.Tests.{eq-eqb, ne-eqb}
 use Rattle.inside.proofs.points_after.Statement.{statement}
 use Rattle.inside.proofs.points_after.Tie as tie
-use Rattle.inside.proofs.points_after.Reads as reads
-use Rattle.inside.proofs.points_after.Lts as lts
-
-returns : tie.Need-returns
-returns c = rw (eq-eqb _ _ (c .if1 .taken)) (toZ-ofZ (c .before .fits .here))
-
-returns-2 : tie.Need-returns-2
-returns-2 c = rw (ne-eqb _ _ (c .if1 .left)) (toZ-ofZ (c .before .fits .before))
 
 pub points-after-spec : {M : Type 1} → statement M
-points-after-spec = tie.close (tie.spec returns returns-2)
+points-after-spec =
+    tie.close
+    (tie.spec
+    (λ c. rw (eq-eqb _ _ (c .if1 .taken)) (toZ-ofZ (c .before .fits .here))) (λ c. rw (ne-eqb _ _ (c .if1 .left)) (toZ-ofZ (c .before .fits .before))))

@@ -3,8 +3,6 @@ use native.Mathlib.Omega.{arith}
 use Rattle.inside.proofs.Answers.{sort-refers, sort-info, sort-bare, sort-named}
 use Rattle.inside.proofs.sort_of.Statement.{statement}
 use Rattle.inside.proofs.sort_of.Tie as tie
-use Rattle.inside.proofs.sort_of.Reads as reads
-use Rattle.inside.proofs.sort_of.Lts as lts
 
 returns : tie.Need-returns
 returns c = (sort-refers (c .before .args .s) (c .if1 .taken), omega arith)

@@ -4,9 +4,6 @@ use Rattle.basics.specs.Choice.{pick-true}
 use borrow.Author.Needs.{needs}
 use Rattle.inside.proofs.store_label.Statement.{statement}
 use Rattle.inside.proofs.store_label.Tie as tie
-use Rattle.inside.proofs.store_label.Reads as reads
-use Rattle.inside.proofs.store_label.Lts as lts
-use Rattle.sheet.proofs.put_label.Reads as put-label-reads
 
 put-label-requires : tie.Need-put-label-requires
 put-label-requires c κs = let p = c .before .before .before .pre in (p .0, p .1 (c .before .if1 .taken), p .2, p .3)

@@ -7,12 +7,6 @@ use Rattle.inside.proofs.Answers.{back, stored-row, place-fits}
 use borrow.Author.Needs.{needs}
 use Rattle.inside.proofs.store_part.Statement.{statement}
 use Rattle.inside.proofs.store_part.Tie as tie
-use Rattle.inside.proofs.store_part.Reads as reads
-use Rattle.inside.proofs.store_part.Lts as lts
-use Rattle.inside.proofs.text_place.Reads as text-place-reads
-use Rattle.inside.proofs.value_code.Reads as value-code-reads
-use Rattle.keywords.proofs.key_code.Reads as key-code-reads
-use Rattle.sheet.proofs.put_part.Reads as put-part-reads
 
 put-part-requires : tie.Need-put-part-requires
 put-part-requires c κs = let s = c .before .before .before .before .before .before .before .before in

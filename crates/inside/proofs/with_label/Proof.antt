@@ -6,10 +6,6 @@ use Rattle.inside.proofs.Answers.{back, label-counted}
 use borrow.Author.Needs.{needs}
 use Rattle.inside.proofs.with_label.Statement.{statement}
 use Rattle.inside.proofs.with_label.Tie as tie
-use Rattle.inside.proofs.with_label.Reads as reads
-use Rattle.inside.proofs.with_label.Lts as lts
-use Rattle.inside.proofs.points_after.Reads as points-after-reads
-use Rattle.inside.proofs.score_after.Reads as score-after-reads
 
 returns : tie.Need-returns
 returns c = let s = c .before .before .before .before .before in

@@ -4,12 +4,6 @@ use Rattle.inside.proofs.Answers.{back, value-counted}
 use borrow.Author.Needs.{needs}
 use Rattle.inside.proofs.with_value.Statement.{statement}
 use Rattle.inside.proofs.with_value.Tie as tie
-use Rattle.inside.proofs.with_value.Reads as reads
-use Rattle.inside.proofs.with_value.Lts as lts
-use Rattle.inside.proofs.both_of.Reads as both-of-reads
-use Rattle.inside.proofs.first_refers.Reads as first-refers-reads
-use Rattle.inside.proofs.is_info.Reads as is-info-reads
-use Rattle.inside.proofs.is_reference.Reads as is-reference-reads
 
 returns : tie.Need-returns
 returns c = let i = c .before .before .before .before in
@@ -19,6 +13,4 @@ returns c = let i = c .before .before .before .before in
 
 pub with-value-spec : {M : Type 1} → statement M
 with-value-spec =
-    tie.close
-    (tie.spec
-    (λ c. search needs) (λ c κs. search needs) (λ c κs. search needs) (λ c κs. search needs) (λ c κs. search needs) returns)
+    tie.close (tie.spec (λ c. search needs) (λ c κs. search needs) (λ c κs. search needs) (λ c κs. search needs) (λ c κs. search needs) returns)

@@ -6,11 +6,9 @@ use Rattle.labels.proofs.Names.{label-read}
 use Rattle.labels.proofs.label_end.Statement.{statement}
 use Rattle.labels.proofs.label_end.Tie as tie
 
-returns : tie.Need-returns
-returns c = λ s is a k. over _ _ _ (λ q x. partEnd x (labelled q _ _ s)) (c .if1 .taken) k
-
-returns-2 : tie.Need-returns-2
-returns-2 c = λ s is a k. label-read _ _ _ _ _ _ (toZ-ofZ (c .before .fits .points)) _ s is a (c .if1 .left)
-
 pub label-end-spec : {M : Type 1} → statement M
-label-end-spec = tie.close (tie.spec returns returns-2)
+label-end-spec =
+    tie.close
+    (tie.spec
+    (λ c s is a k. over _ _ _ (λ q x. partEnd x (labelled q _ _ s)) (c .if1 .taken) k)
+    (λ c s is a k. label-read _ _ _ _ _ _ (toZ-ofZ (c .before .fits .points)) _ s is a (c .if1 .left)))

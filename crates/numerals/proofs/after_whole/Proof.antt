@@ -1,3 +1,4 @@
+-- The line ends, a point stands there, or the number ends: each by its law, from what the callee says of the rest.
 use mathlib.Core.Path.{sym, ap, _∙_}
 use Rattle.numerals.specs.Numerals.{numOf}
 use Rattle.numerals.proofs.NumberLaws.{whole-end, whole-point, whole-other}

@@ -1,3 +1,4 @@
+-- A digit is 48 to 57, so its value is at most 9.
 use native.Mathlib.Omega.{arith}
 use Rattle.numerals.proofs.DigitLaws.{digit-bounds}
 use borrow.Author.Needs.{needs}

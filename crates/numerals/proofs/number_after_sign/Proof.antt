@@ -1,3 +1,4 @@
+-- Where no digit stands behind the sign no number goes on; else the rest follows the digits.
 use Rattle.scope.specs.Bytes.{isDigit}
 use Rattle.classes.proofs.Runs.{run-done}
 use Rattle.numerals.proofs.NumberLaws.{sign-none, sign-some}
@@ -8,9 +9,6 @@ use Rattle.numerals.proofs.number_after_sign.Tie as tie
 returns : tie.Need-returns
 returns c = λ p. sign-none _ _ _ _ (c .before .digit-run .ensures) (c .if1 .taken)
 
-after-whole-requires : tie.Need-after-whole-requires
-after-whole-requires c κs = c .before .digit-run .ensures .low
-
 returns-2 : tie.Need-returns-2
 returns-2 c = λ p.
     let d = c .before .before .digit-run .ensures in
@@ -18,4 +16,4 @@ returns-2 c = λ p.
 
 pub number-after-sign-spec : {M : Type 1} → statement M
 number-after-sign-spec =
-    tie.close (tie.spec (λ c κs. search needs) returns after-whole-requires returns-2)
+    tie.close (tie.spec (λ c κs. search needs) returns (λ c κs. c .before .digit-run .ensures .low) returns-2)

@@ -20,14 +20,9 @@ minus-fits : (m : ℕ) → m ≤ cap → SFits w64 (negℤ (pos m))
 minus-fits zero h = search needs
 minus-fits (suc k) h = sfits-of (omega arith)
 
-sub-result : tie.Need-sub-result
-sub-result c = rw (minus _ (c .before .pre)) (minus-fits _ (c .before .pre))
-
-returns : tie.Need-returns
-returns c = rw (minus _ (c .before .pre), c .if1 .taken) (toZ-ofZ (minus-fits _ (c .before .pre)))
-
-returns-2 : tie.Need-returns-2
-returns-2 c = rw (c .if1 .left) (toZ-pos w64 (omega arith))
-
 pub with-sign-spec : {M : Type 1} → statement M
-with-sign-spec = tie.close (tie.spec (λ c. search needs) sub-result (λ c. search needs) returns returns-2)
+with-sign-spec =
+    tie.close
+    (tie.spec
+    (λ c. search needs) (λ c. rw (minus _ (c .before .pre)) (minus-fits _ (c .before .pre))) (λ c. search needs)
+    (λ c. rw (minus _ (c .before .pre), c .if1 .taken) (toZ-ofZ (minus-fits _ (c .before .pre)))) (λ c. rw (c .if1 .left) (toZ-pos w64 (omega arith))))

@@ -1,21 +1,10 @@
+-- One test, for `?`; else what a callee has answered.
 use borrow.Author.Needs.{needs}
-use mathlib.Core.Path.{refl, ap, _∙_}
-use borrow.Author.Tests.{eq-eqb, ne-eqb}
-use Rattle.basics.specs.Choice.{took, passed, told-took, told-passed}
+use Rattle.basics.specs.Choice.{steps}
 use Rattle.scope.specs.Reading.{act}
 use Rattle.order.proofs.at_opened.Statement.{statement}
 use Rattle.order.proofs.at_opened.Tie as tie
-use Rattle.order.proofs.at_opened.Reads as reads
-use Rattle.order.proofs.at_opened.Lts as lts
-use Rattle.order.proofs.at_group.Reads as at-group-reads
-
-returns : tie.Need-returns
-unfolding act
-returns c = took _ _ _ (eq-eqb _ _ (c .if1 .taken))
-
-returns-2 : tie.Need-returns-2
-unfolding act
-returns-2 c = passed _ _ _ _ (ne-eqb _ _ (c .before .if1 .left)) (c .at-group .ensures)
 
 pub at-opened-spec : {M : Type 1} → statement M
-at-opened-spec = tie.close (tie.spec returns (λ c κs. search needs) returns-2)
+unfolding act
+at-opened-spec = tie.close (tie.spec (λ c. search steps) (λ c κs. search needs) (λ c. search steps))

@@ -1,31 +1,13 @@
+-- Two tests, for the two opening bytes; else what a callee has answered.
 use borrow.Author.Needs.{needs}
-use mathlib.Core.Path.{refl, ap, _∙_}
-use borrow.Author.Tests.{eq-eqb, ne-eqb}
-use Rattle.basics.specs.Choice.{took, passed, told-took, told-passed}
-use Rattle.scope.specs.declared.grammar.Act.the-variants.{Begin}
+use Rattle.basics.specs.Choice.{steps}
 use Rattle.scope.specs.Reading.{act}
 use Rattle.order.proofs.behind_labile.Statement.{statement}
 use Rattle.order.proofs.behind_labile.Tie as tie
-use Rattle.order.proofs.behind_labile.Reads as reads
-use Rattle.order.proofs.behind_labile.Lts as lts
-use Rattle.order.proofs.at_element.Reads as at-element-reads
-use Rattle.order.proofs.labile_slot.Reads as labile-slot-reads
-use Rattle.order.proofs.square_slot.Reads as square-slot-reads
-
-returns : tie.Need-returns
-unfolding act
-returns c = (ap Begin (c .labile-slot .ensures)) ∙ took _ _ _ (eq-eqb _ _ (c .before .if1 .taken))
-
-returns-2 : tie.Need-returns-2
-unfolding act
-returns-2 c = passed _ _ _ _ (ne-eqb _ _ (c .before .before .if1 .left)) ((ap Begin (c .square-slot .ensures)) ∙ took _ _ _ (eq-eqb _ _ (c .before .if2 .taken)))
-
-returns-3 : tie.Need-returns-3
-unfolding act
-returns-3 c = passed _ _ _ _ (ne-eqb _ _ (c .before .before .if1 .left)) (passed _ _ _ _ (ne-eqb _ _ (c .before .if2 .left)) (c .at-element .ensures))
 
 pub behind-labile-spec : {M : Type 1} → statement M
+unfolding act
 behind-labile-spec =
     tie.close
     (tie.spec
-    (λ c κs. search needs) returns (λ c κs. search needs) returns-2 (λ c κs. search needs) returns-3)
+    (λ c κs. search needs) (λ c. search steps) (λ c κs. search needs) (λ c. search steps) (λ c κs. search needs) (λ c. search steps))

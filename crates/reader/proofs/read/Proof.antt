@@ -4,11 +4,9 @@ use Rattle.reader.proofs.Reading.{refuses-bytes, refuses-numbers}
 use Rattle.reader.proofs.read.Statement.{statement}
 use Rattle.reader.proofs.read.Tie as tie
 
-returns : tie.Need-returns
-returns c = refuses-bytes _ _ _ (c .if1 .taken)
-
-returns-2 : tie.Need-returns-2
-returns-2 c = refuses-numbers _ _ _ (c .before .if1 .left) (c .if2 .taken)
-
 pub read-spec : {M : Type 1} → statement M
-read-spec = tie.close (tie.spec returns returns-2 (λ c κs. search needs) (λ c. search needs) (λ c. search needs) (λ c. search needs))
+read-spec =
+    tie.close
+    (tie.spec
+    (λ c. refuses-bytes _ _ _ (c .if1 .taken)) (λ c. refuses-numbers _ _ _ (c .before .if1 .left) (c .if2 .taken)) (λ c κs. search needs)
+    (λ c. search needs) (λ c. search needs) (λ c. search needs))

@@ -39,6 +39,4 @@ returns-5 c =
 
 pub copies-of-spec : {M : Type 1} → statement M
 copies-of-spec =
-    tie.close
-    (tie.spec
-    (λ c κs. search needs) returns returns-2 (λ c κs. search needs) (λ c κs. search needs) returns-3 returns-4 returns-5)
+    tie.close (tie.spec (λ c κs. search needs) returns returns-2 (λ c κs. search needs) (λ c κs. search needs) returns-3 returns-4 returns-5)

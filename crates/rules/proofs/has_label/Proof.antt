@@ -13,9 +13,6 @@ Inv-loop line parts x y m i₀ i = NotAmong (nameAt line parts x) (nameAt line p
 abbrev μ-loop : tie.MeasureT-loop
 μ-loop line parts x y m i₀ i = m - i
 
-loop-holds : tie.Need-loop-holds Inv-loop μ-loop
-loop-holds c = among-starts _ _ _ _
-
 add-same-label : tie.Need-add-same-label Inv-loop μ-loop
 add-same-label c = omega (arith, c .before .before .before .before .pre .2 (c .before .loop .i) (c .loop-test .taken) .noted)
 
@@ -29,12 +26,6 @@ returns c =
     let l = c .before .before in
     among-found _ _ _ _ _ (l .before .loop .inv) (l .loop-test .taken) (c .before .same-label .ensures) (c .if1 .taken)
 
-add-i : tie.Need-add-i Inv-loop μ-loop
-add-i c = search needs
-
-loop-less : tie.Need-loop-less Inv-loop μ-loop
-loop-less c = search needs
-
 loop-again : tie.Need-loop-again Inv-loop μ-loop
 loop-again c =
     let l = c .before .before in
@@ -47,13 +38,5 @@ pub has-label-spec : {M : Type 1} → statement M
 has-label-spec =
     tie.close
     (tie.spec
-    Inv-loop
-    μ-loop
-    loop-holds
-    add-same-label
-    same-label-requires
-    returns
-    add-i
-    loop-less
-    loop-again
+    Inv-loop μ-loop (λ c. among-starts _ _ _ _) add-same-label same-label-requires returns (λ c. search needs) (λ c. search needs) loop-again
     returns-2)

@@ -13,9 +13,6 @@ Inv-loop line heads parts refers e x k₀ k = NotNamed line heads parts refers (
 abbrev μ-loop : tie.MeasureT-loop
 μ-loop line heads parts refers e x k₀ k = e - k
 
-loop-holds : tie.Need-loop-holds Inv-loop μ-loop
-loop-holds c = named-starts _ _ _ _ _ _
-
 names-requires : tie.Need-names-requires Inv-loop μ-loop
 names-requires c κs =
     let s = c .before .before .before .before .before in
@@ -25,12 +22,6 @@ returns : tie.Need-returns Inv-loop μ-loop
 returns c =
     let l = c .before .before in
     named-found _ _ _ _ _ _ _ (l .before .loop .inv) (l .loop-test .taken) (c .before .names .ensures) (c .if1 .taken)
-
-add-k : tie.Need-add-k Inv-loop μ-loop
-add-k c = search needs
-
-loop-less : tie.Need-loop-less Inv-loop μ-loop
-loop-less c = search needs
 
 loop-again : tie.Need-loop-again Inv-loop μ-loop
 loop-again c =
@@ -44,12 +35,4 @@ pub is-named-spec : {M : Type 1} → statement M
 is-named-spec =
     tie.close
     (tie.spec
-    Inv-loop
-    μ-loop
-    loop-holds
-    names-requires
-    returns
-    add-k
-    loop-less
-    loop-again
-    returns-2)
+    Inv-loop μ-loop (λ c. named-starts _ _ _ _ _ _) names-requires returns (λ c. search needs) (λ c. search needs) loop-again returns-2)

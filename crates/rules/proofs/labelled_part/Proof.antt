@@ -13,15 +13,6 @@ Inv-loop heads parts k x₀ last x = Seeking parts (baseField heads k) (partsFie
 abbrev μ-loop : tie.MeasureT-loop
 μ-loop heads parts k x₀ last x = last - x
 
-base-of-requires : tie.Need-base-of-requires Inv-loop μ-loop
-base-of-requires c κs = search needs
-
-parts-of-requires : tie.Need-parts-of-requires Inv-loop μ-loop
-parts-of-requires c κs = search needs
-
-add-last : tie.Need-add-last Inv-loop μ-loop
-add-last c = search needs
-
 sub-last : tie.Need-sub-last Inv-loop μ-loop
 sub-last c = omega (arith, c .before .before .before .before .pre .3, c .parts-of .ensures .0)
 
@@ -41,12 +32,6 @@ returns c =
     let s = c .before .before .before .before .before .before .before .before .args in
     seek-found (s .parts .now) (baseField (s .heads .now) (s .k)) (partsField (s .heads .now) (s .k) - 1) _ _ (l .before .loop .inv) (l .loop-test .taken) (c .before .label-to .ensures .0) (c .if1 .taken)
 
-add-x : tie.Need-add-x Inv-loop μ-loop
-add-x c = search needs
-
-loop-less : tie.Need-loop-less Inv-loop μ-loop
-loop-less c = search needs
-
 loop-again : tie.Need-loop-again Inv-loop μ-loop
 loop-again c =
     let l = c .before .before in
@@ -62,16 +47,5 @@ pub labelled-part-spec : {M : Type 1} → statement M
 labelled-part-spec =
     tie.close
     (tie.spec
-    Inv-loop
-    μ-loop
-    base-of-requires
-    parts-of-requires
-    add-last
-    sub-last
-    loop-holds
-    label-to-requires
-    returns
-    add-x
-    loop-less
-    loop-again
-    returns-2)
+    Inv-loop μ-loop (λ c κs. search needs) (λ c κs. search needs) (λ c. search needs) sub-last loop-holds label-to-requires returns
+    (λ c. search needs) (λ c. search needs) loop-again returns-2)

@@ -3,11 +3,9 @@ use Rattle.rules.proofs.Tried.{passed-before, passed-here}
 use Rattle.rules.proofs.passes.Statement.{statement}
 use Rattle.rules.proofs.passes.Tie as tie
 
-returns : tie.Need-returns
-returns c = passed-before (c .before .args .before) (c .before .args .after) (c .if1 .taken)
-
-returns-2 : tie.Need-returns-2
-returns-2 c = passed-here (c .before .args .before) (c .before .args .after) (c .if1 .left)
-
 pub passes-spec : {M : Type 1} → statement M
-passes-spec = tie.close (tie.spec returns returns-2)
+passes-spec =
+    tie.close
+    (tie.spec
+    (λ c. passed-before (c .before .args .before) (c .before .args .after) (c .if1 .taken))
+    (λ c. passed-here (c .before .args .before) (c .before .args .after) (c .if1 .left)))

@@ -16,9 +16,6 @@ Inv-loop line heads parts n least first₀ floaters₀ k₀ first floaters k = G
 abbrev μ-loop : tie.MeasureT-loop
 μ-loop line heads parts n least first₀ floaters₀ k₀ first floaters k = n - k
 
-loop-holds : tie.Need-loop-holds Inv-loop μ-loop
-loop-holds c = gather-starts _ _ _ _ _
-
 copies-of-requires : tie.Need-copies-of-requires Inv-loop μ-loop
 copies-of-requires c κs =
     let p = c .before .before .before .before .before .pre .1 in
@@ -34,12 +31,6 @@ bracket-due-requires c κs =
     let p = c .before .before .before .before .before .before .pre .1 in
     (all-legible p, c .before .loop-test .taken, ap (λ t. c .before .before .loop .floaters + t) (c .copies-of .ensures .0))
 
-add-k : tie.Need-add-k Inv-loop μ-loop
-add-k c = search needs
-
-loop-less : tie.Need-loop-less Inv-loop μ-loop
-loop-less c = search needs
-
 loop-again : tie.Need-loop-again Inv-loop μ-loop
 loop-again c =
     let l = c .before .before in
@@ -54,13 +45,5 @@ pub rules-due-spec : {M : Type 1} → statement M
 rules-due-spec =
     tie.close
     (tie.spec
-    Inv-loop
-    μ-loop
-    loop-holds
-    copies-of-requires
-    add-after
-    bracket-due-requires
-    add-k
-    loop-less
-    loop-again
-    returns)
+    Inv-loop μ-loop (λ c. gather-starts _ _ _ _ _) copies-of-requires add-after bracket-due-requires (λ c. search needs) (λ c. search needs)
+    loop-again returns)

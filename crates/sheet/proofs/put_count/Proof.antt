@@ -9,15 +9,10 @@ use borrow.Author.Needs.{needs}
 use Rattle.sheet.proofs.put_count.Statement.{statement}
 use Rattle.sheet.proofs.put_count.Tie as tie
 
-slice-write-heads-2 : tie.Need-slice-write-heads-2
-slice-write-heads-2 c = simp length-set (omega arith)
-
-returns : tie.Need-returns
-returns c = two-stores (c .args .heads .now) (countAt (c .args .k)) (c .args .k * headFields + 4) _ _ (omega arith)
-
 pub put-count-spec : {M : Type 1} → statement M
 put-count-spec =
     tie.close
     (tie.spec
     (λ c. search needs) (λ c. search needs) (λ c. search needs) (λ c. search needs) (λ c. search needs) (λ c. search needs) (λ c. search needs)
-    slice-write-heads-2 (λ c. search needs) returns)
+    (λ c. simp length-set (omega arith)) (λ c. search needs)
+    (λ c. two-stores (c .args .heads .now) (countAt (c .args .k)) (c .args .k * headFields + 4) _ _ (omega arith)))

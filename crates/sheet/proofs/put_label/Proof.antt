@@ -9,15 +9,10 @@ use borrow.Author.Needs.{needs}
 use Rattle.sheet.proofs.put_label.Statement.{statement}
 use Rattle.sheet.proofs.put_label.Tie as tie
 
-slice-write-parts-2 : tie.Need-slice-write-parts-2
-slice-write-parts-2 c = simp length-set (omega arith)
-
-returns : tie.Need-returns
-returns c = two-stores (c .args .parts .now) (labelAt (c .args .m)) (c .args .m * partFields + 6) _ _ (omega arith)
-
 pub put-label-spec : {M : Type 1} → statement M
 put-label-spec =
     tie.close
     (tie.spec
     (λ c. search needs) (λ c. search needs) (λ c. search needs) (λ c. search needs) (λ c. search needs) (λ c. search needs) (λ c. search needs)
-    (λ c. search needs) slice-write-parts-2 (λ c. search needs) returns)
+    (λ c. search needs) (λ c. simp length-set (omega arith)) (λ c. search needs)
+    (λ c. two-stores (c .args .parts .now) (labelAt (c .args .m)) (c .args .m * partFields + 6) _ _ (omega arith)))

@@ -4,11 +4,6 @@ use borrow.Author.Tests.{eq-eqb, ne-eqb}
 use Rattle.store.proofs.offset_of.Statement.{statement}
 use Rattle.store.proofs.offset_of.Tie as tie
 
-returns : tie.Need-returns
-returns c = (rw (eq-eqb _ _ (c .if1 .taken)), omega arith)
-
-returns-2 : tie.Need-returns-2
-returns-2 c = (rw (ne-eqb _ _ (c .if1 .left)), omega arith)
-
 pub offset-of-spec : {M : Type 1} → statement M
-offset-of-spec = tie.close (tie.spec returns returns-2)
+offset-of-spec =
+    tie.close (tie.spec (λ c. (rw (eq-eqb _ _ (c .if1 .taken)), omega arith)) (λ c. (rw (ne-eqb _ _ (c .if1 .left)), omega arith)))

@@ -11,9 +11,6 @@ Inv-loop line heads parts masses scores n bytes₀ numbers₀ k₀ t₀ bytes nu
 abbrev μ-loop : tie.MeasureT-loop
 μ-loop line heads parts masses scores n bytes₀ numbers₀ k₀ t₀ bytes numbers k t = n - k
 
-loop-holds : tie.Need-loop-holds Inv-loop μ-loop
-loop-holds c = bracketing-start _ _ _ _ _ _ _ _
-
 put-bracket-requires : tie.Need-put-bracket-requires Inv-loop μ-loop
 put-bracket-requires c κs =
     let l = c .before .before in
@@ -31,12 +28,6 @@ loop-again c =
     let l = p .before .before .before in
     bracketing-next (l .before .loop .inv) (l .loop-test .taken) (p .put-bracket .ensures) (p .put-bracket .kept .1 .1 .1 .1 .1 .1 .1 .0) (p .put-bracket .kept .1 .1 .1 .1 .1 .1 .1 .1 .0)
 
-same-length : tie.Need-same-length Inv-loop μ-loop
-same-length c = c .before .loop .inv .bytes-long
-
-same-length-2 : tie.Need-same-length-2 Inv-loop μ-loop
-same-length-2 c = c .before .loop .inv .numbers-long
-
 returns : tie.Need-returns Inv-loop μ-loop
 returns c = bracketing-end (c .before .loop .inv) (c .loop-test .left)
 
@@ -44,13 +35,5 @@ pub put-brackets-spec : {M : Type 1} → statement M
 put-brackets-spec =
     tie.close
     (tie.spec
-    Inv-loop
-    μ-loop
-    loop-holds
-    put-bracket-requires
-    add-k
-    loop-less
-    loop-again
-    same-length
-    same-length-2
-    returns)
+    Inv-loop μ-loop (λ c. bracketing-start _ _ _ _ _ _ _ _) put-bracket-requires add-k loop-less loop-again (λ c. c .before .loop .inv .bytes-long)
+    (λ c. c .before .loop .inv .numbers-long) returns)

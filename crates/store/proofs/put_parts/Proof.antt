@@ -11,9 +11,6 @@ Inv-loop line parts masses m n k t bytes₀ numbers₀ j₀ u₀ bytes numbers j
 abbrev μ-loop : tie.MeasureT-loop
 μ-loop line parts masses m n k t bytes₀ numbers₀ j₀ u₀ bytes numbers j u = n - j
 
-loop-holds : tie.Need-loop-holds Inv-loop μ-loop
-loop-holds c = parting-start _ _ _ _ _ _ _ _ _
-
 add-put-part : tie.Need-add-put-part Inv-loop μ-loop
 add-put-part c = let s = c .before .before .before .before .before in omega (arith, s .pre .fit .few-rows, c .loop-test .taken)
 
@@ -34,12 +31,6 @@ loop-again c =
     let t = p .before .before .before in
     parting-next (t .before .loop .inv) (t .loop-test .taken) (p .put-part .ensures)
 
-same-length : tie.Need-same-length Inv-loop μ-loop
-same-length c = c .before .loop .inv .bytes-long
-
-same-length-2 : tie.Need-same-length-2 Inv-loop μ-loop
-same-length-2 c = c .before .loop .inv .numbers-long
-
 returns : tie.Need-returns Inv-loop μ-loop
 returns c = parting-end (c .before .loop .inv) (c .loop-test .left)
 
@@ -47,14 +38,5 @@ pub put-parts-spec : {M : Type 1} → statement M
 put-parts-spec =
     tie.close
     (tie.spec
-    Inv-loop
-    μ-loop
-    loop-holds
-    add-put-part
-    put-part-requires
-    add-j
-    loop-less
-    loop-again
-    same-length
-    same-length-2
-    returns)
+    Inv-loop μ-loop (λ c. parting-start _ _ _ _ _ _ _ _ _) add-put-part put-part-requires add-j loop-less loop-again
+    (λ c. c .before .loop .inv .bytes-long) (λ c. c .before .loop .inv .numbers-long) returns)

@@ -16,12 +16,12 @@ abbrev μ-loop : tie.MeasureT-loop
 μ-loop chunk number refused hold₀ held letters₀ sections₀ heads₀ parts₀ masses₀ scores₀ bytes₀ numbers₀ out₀ from₀ line₀ total₀ n₀ sent₀ hold letters sections heads parts masses scores bytes numbers out from line total n sent =
     length chunk - from
 
-loop-holds : tie.Need-loop-holds Inv-loop μ-loop
-loop-holds c = taken-start _ _ _ _ _ _ _ _ _ (c .before .before .before .before .before .before .before .before .pre .2)
-
--- from behind a write back to behind `feed`, to the head of the loop, and to the start
+-- from behind a write back to behind `feed`, to where the heads were handed back, to the head of the loop, and to the start
 abbrev fed : tie.After-hand Inv-loop μ-loop → tie.After-feed Inv-loop μ-loop
 fed h = h .before .before .before .before .before .before .before .before .before .before .before .before .before .before .before .before .before .before .before .before
+
+abbrev heads-back : tie.After-hand Inv-loop μ-loop → tie.After-heads Inv-loop μ-loop
+heads-back h = h .before .before .before .before .before .before .before .before .before .before .before .before .before
 
 abbrev turned : tie.After-hand Inv-loop μ-loop → tie.In-loop Inv-loop μ-loop
 turned h = fed h .before .before .before .before .before .before .before .before .before .before .before
@@ -38,9 +38,6 @@ feed-requires c κs =
 
 hand-requires : tie.Need-hand-requires Inv-loop μ-loop
 hand-requires c κs = owed (c .before .before .before .before .before .before .before .before .before .before .before .before .before .before .before .before .before .before .before .feed .ensures .0)
-
-lines-in-requires : tie.Need-lines-in-requires Inv-loop μ-loop
-lines-in-requires c κs = let i = c .before in omega (arith, i .if1 .taken, fed (i .before) .feed .ensures .0 .puts .fits)
 
 -- where a write failed: the first line that is not out has a number, and what was taken can be counted
 add-t53 : tie.Need-add-t53 Inv-loop μ-loop
@@ -67,13 +64,10 @@ same-length c =
     fed h .feed .ensures .1 .room ∙ sym (w .ready .room) ∙ w .hold-long
 
 same-length-2 : tie.Need-same-length-2 Inv-loop μ-loop
-same-length-2 c = let h = c .before .before .before in h .before .before .before .before .before .before .before .before .before .before .before .before .before .before .before .before .before .letters .given ∙ turned h .before .loop .inv .sheet-long .letters-long
+same-length-2 c = let h = c .before .before .before in heads-back h .before .before .before .before .letters .given ∙ turned h .before .loop .inv .sheet-long .letters-long
 
 same-length-3 : tie.Need-same-length-3 Inv-loop μ-loop
-same-length-3 c = let h = c .before .before .before in h .before .before .before .before .before .before .before .before .before .before .before .before .before .before .before .sections .given ∙ turned h .before .loop .inv .sheet-long .sections-long
-
-same-length-4 : tie.Need-same-length-4 Inv-loop μ-loop
-same-length-4 c = let h = c .before .before .before in h .before .before .before .before .before .before .before .before .before .before .before .before .before .heads .given ∙ turned h .before .loop .inv .sheet-long .heads-long
+same-length-3 c = let h = c .before .before .before in heads-back h .before .before .sections .given ∙ turned h .before .loop .inv .sheet-long .sections-long
 
 same-length-5 : tie.Need-same-length-5 Inv-loop μ-loop
 same-length-5 c = let h = c .before .before .before in h .before .before .before .before .before .before .before .before .before .before .before .parts .given ∙ turned h .before .loop .inv .sheet-long .parts-long
@@ -89,9 +83,6 @@ same-length-8 c = let h = c .before .before .before in h .before .before .before
 
 same-length-9 : tie.Need-same-length-9 Inv-loop μ-loop
 same-length-9 c = let h = c .before .before .before in h .before .before .before .before .before .numbers .given ∙ turned h .before .loop .inv .numbers-long
-
-same-length-10 : tie.Need-same-length-10 Inv-loop μ-loop
-same-length-10 c = let h = c .before .before .before in h .before .before .before .before .out .given ∙ turned h .before .loop .inv .out-long
 
 returns : tie.Need-returns Inv-loop μ-loop
 returns c =
@@ -138,73 +129,18 @@ loop-again c =
     })
     (bs .bytes .given) (ns .numbers .given) (out .out .given)
 
-same-length-11 : tie.Need-same-length-11 Inv-loop μ-loop
-same-length-11 c = c .before .loop .inv .hold-long
-
-same-length-12 : tie.Need-same-length-12 Inv-loop μ-loop
-same-length-12 c = c .before .loop .inv .sheet-long .letters-long
-
-same-length-13 : tie.Need-same-length-13 Inv-loop μ-loop
-same-length-13 c = c .before .loop .inv .sheet-long .sections-long
-
-same-length-14 : tie.Need-same-length-14 Inv-loop μ-loop
-same-length-14 c = c .before .loop .inv .sheet-long .heads-long
-
-same-length-15 : tie.Need-same-length-15 Inv-loop μ-loop
-same-length-15 c = c .before .loop .inv .sheet-long .parts-long
-
-same-length-16 : tie.Need-same-length-16 Inv-loop μ-loop
-same-length-16 c = c .before .loop .inv .sheet-long .masses-long
-
-same-length-17 : tie.Need-same-length-17 Inv-loop μ-loop
-same-length-17 c = c .before .loop .inv .sheet-long .scores-long
-
-same-length-18 : tie.Need-same-length-18 Inv-loop μ-loop
-same-length-18 c = c .before .loop .inv .bytes-long
-
-same-length-19 : tie.Need-same-length-19 Inv-loop μ-loop
-same-length-19 c = c .before .loop .inv .numbers-long
-
-same-length-20 : tie.Need-same-length-20 Inv-loop μ-loop
-same-length-20 c = c .before .loop .inv .out-long
-
-returns-2 : tie.Need-returns-2 Inv-loop μ-loop
-returns-2 c = taken-all _ _ _ _ _ _ _ _ _ (c .before .loop .inv) (c .loop-test .left)
-
 pub drain-spec : {M : Type 1} → statement M
 drain-spec =
     tie.close
     (tie.spec
-    Inv-loop
-    μ-loop
-    loop-holds
-    feed-requires
-    hand-requires
-    lines-in-requires
-    add-t53
-    add-t54
-    same-length
-    same-length-2
-    same-length-3
-    same-length-4
-    same-length-5
-    same-length-6
-    same-length-7
-    same-length-8
-    same-length-9
-    same-length-10
-    returns
-    add-sent
-    loop-less
-    loop-again
-    same-length-11
-    same-length-12
-    same-length-13
-    same-length-14
-    same-length-15
-    same-length-16
-    same-length-17
-    same-length-18
-    same-length-19
-    same-length-20
-    returns-2)
+    Inv-loop μ-loop (λ c. taken-start _ _ _ _ _ _ _ _ _ (c .before .before .before .before .before .before .before .before .pre .2)) feed-requires
+    hand-requires (λ c κs. let i = c .before in omega (arith, i .if1 .taken, fed (i .before) .feed .ensures .0 .puts .fits)) add-t53 add-t54
+    same-length same-length-2 same-length-3
+    (λ c. let h = c .before .before .before in heads-back h .heads .given ∙ turned h .before .loop .inv .sheet-long .heads-long) same-length-5
+    same-length-6 same-length-7 same-length-8 same-length-9
+    (λ c. let h = c .before .before .before in h .before .before .before .before .out .given ∙ turned h .before .loop .inv .out-long) returns add-sent
+    loop-less loop-again (λ c. c .before .loop .inv .hold-long) (λ c. c .before .loop .inv .sheet-long .letters-long)
+    (λ c. c .before .loop .inv .sheet-long .sections-long) (λ c. c .before .loop .inv .sheet-long .heads-long)
+    (λ c. c .before .loop .inv .sheet-long .parts-long) (λ c. c .before .loop .inv .sheet-long .masses-long)
+    (λ c. c .before .loop .inv .sheet-long .scores-long) (λ c. c .before .loop .inv .bytes-long) (λ c. c .before .loop .inv .numbers-long)
+    (λ c. c .before .loop .inv .out-long) (λ c. taken-all _ _ _ _ _ _ _ _ _ (c .before .loop .inv) (c .loop-test .left)))

@@ -11,9 +11,6 @@ gather-requires c κs =
     let p = c .before .before .before .before .before .before .before .before .before .pre in
     (p .0, p .2 .within, p .2 .room)
 
-same-length : tie.Need-same-length
-same-length c = c .before .before .before .hold .given
-
 returns : tie.Need-returns
 returns c =
     let g = c .before .before .before .before in
@@ -37,12 +34,6 @@ gathered c = line-ended c .before .before .before .before
 
 abbrev begun : tie.After-one-if → tie.Start
 begun c = gathered c .before .before .before .before .before .before .before .before .before .before
-
-one-if-requires : tie.Need-one-if-requires
-one-if-requires c κs = tt
-
-add-total : tie.Need-add-total
-add-total c = let s = begun c in omega (arith, s .pre .3, s .fits .number .fits, c .one-if .ensures .1)
 
 add-put-lines : tie.Need-add-put-lines
 add-put-lines c =
@@ -82,17 +73,15 @@ put-lines-requires c κs =
 abbrev entered : tie.After-slice-known20 → tie.After-one-if
 entered c = c .before .before .before .before .before .before .before .before .before .before .before .before .before .before .before .before .before .before .before .before .before .before .before .before .before
 
-same-length-2 : tie.Need-same-length-2
-same-length-2 c = line-ended (entered c) .before .before .before .hold .given
+-- and from there, as from the end, to where the heads were handed back
+abbrev heads-back : tie.After-one-if → tie.After-heads
+heads-back o = o .before .before .before .before .before .before .before .before .before .before .before
+
+abbrev heads-again : tie.After-slice-known20 → tie.After-heads2
+heads-again c = c .before .before .before .before .before .before .before .before .before .before
 
 same-length-3 : tie.Need-same-length-3
-same-length-3 c = c .before .before .before .before .before .before .before .before .before .before .before .before .before .before .letters2 .given ∙ entered c .before .before .before .before .before .before .before .before .before .before .before .before .before .before .before .letters .given
-
-same-length-4 : tie.Need-same-length-4
-same-length-4 c = c .before .before .before .before .before .before .before .before .before .before .before .before .sections2 .given ∙ entered c .before .before .before .before .before .before .before .before .before .before .before .before .before .sections .given
-
-same-length-5 : tie.Need-same-length-5
-same-length-5 c = c .before .before .before .before .before .before .before .before .before .before .heads2 .given ∙ entered c .before .before .before .before .before .before .before .before .before .before .before .heads .given
+same-length-3 c = heads-again c .before .before .before .before .letters2 .given ∙ heads-back (entered c) .before .before .before .before .letters .given
 
 same-length-6 : tie.Need-same-length-6
 same-length-6 c = c .before .before .before .before .before .before .before .before .parts2 .given ∙ entered c .before .before .before .before .before .before .before .before .before .parts .given
@@ -102,15 +91,6 @@ same-length-7 c = c .before .before .before .before .before .before .masses2 .gi
 
 same-length-8 : tie.Need-same-length-8
 same-length-8 c = c .before .before .before .before .before .scores2 .given ∙ entered c .before .before .before .before .before .before .scores .given
-
-same-length-9 : tie.Need-same-length-9
-same-length-9 c = c .before .before .before .before .bytes2 .given ∙ entered c .before .before .before .before .before .bytes .given
-
-same-length-10 : tie.Need-same-length-10
-same-length-10 c = c .before .before .numbers2 .given ∙ entered c .before .before .before .numbers .given
-
-same-length-11 : tie.Need-same-length-11
-same-length-11 c = c .before .out2 .given ∙ entered c .before .before .out .given
 
 returns-2 : tie.Need-returns-2
 returns-2 c =
@@ -143,5 +123,11 @@ pub feed-spec : {M : Type 1} → statement M
 feed-spec =
     tie.close
     (tie.spec
-    gather-requires same-length returns put-part-requires one-if-requires add-total add-put-lines put-lines-requires same-length-2 same-length-3
-    same-length-4 same-length-5 same-length-6 same-length-7 same-length-8 same-length-9 same-length-10 same-length-11 returns-2)
+    gather-requires (λ c. c .before .before .before .hold .given) returns put-part-requires (λ c κs. tt)
+    (λ c. let s = begun c in omega (arith, s .pre .3, s .fits .number .fits, c .one-if .ensures .1)) add-put-lines put-lines-requires
+    (λ c. line-ended (entered c) .before .before .before .hold .given) same-length-3
+    (λ c. heads-again c .before .before .sections2 .given ∙ heads-back (entered c) .before .before .sections .given)
+    (λ c. heads-again c .heads2 .given ∙ heads-back (entered c) .heads .given) same-length-6 same-length-7 same-length-8
+    (λ c. c .before .before .before .before .bytes2 .given ∙ entered c .before .before .before .before .before .bytes .given)
+    (λ c. c .before .before .numbers2 .given ∙ entered c .before .before .before .numbers .given)
+    (λ c. c .before .out2 .given ∙ entered c .before .before .out .given) returns-2)

@@ -1,5 +1,4 @@
 -- `stream::notice` meets its contract: words, a number and the end of the line, one behind the other. Assumes nothing.
-use native.Mathlib.Omega.{arith}
 use borrow.Author.Needs.{needs}
 use denote.Ref.{now}
 use Rattle.stream.proofs.Steps.{notice-fronts}
@@ -11,6 +10,4 @@ returns c = notice-fronts (now (c .before .before .before .before .before .befor
 
 pub notice-spec : {M : Type 1} → statement M
 notice-spec =
-    tie.close
-    (tie.spec
-    (λ c κs. search needs) (λ c κs. search needs) (λ c κs. search needs) (λ c. search needs) returns)
+    tie.close (tie.spec (λ c κs. search needs) (λ c κs. search needs) (λ c κs. search needs) (λ c. search needs) returns)

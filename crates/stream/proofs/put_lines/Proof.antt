@@ -20,42 +20,6 @@ loop-holds c =
     let p = c .before .before .before .before .before .before .before .pre in
     goes-start _ _ _ _ _ _ _ _ _ (p .0) (p .2) (p .3) (p .4)
 
-sub-loop : tie.Need-sub-loop Inv-loop μ-loop
-sub-loop c = omega (arith, c .loop .inv .fits, c .loop .inv .out-long)
-
-line-end-requires : tie.Need-line-end-requires Inv-loop μ-loop
-line-end-requires c κs = c .before .loop .inv .inside
-
-same-length : tie.Need-same-length Inv-loop μ-loop
-same-length c = c .before .before .before .loop .inv .sheet-long .letters-long
-
-same-length-2 : tie.Need-same-length-2 Inv-loop μ-loop
-same-length-2 c = c .before .before .before .loop .inv .sheet-long .sections-long
-
-same-length-3 : tie.Need-same-length-3 Inv-loop μ-loop
-same-length-3 c = c .before .before .before .loop .inv .sheet-long .heads-long
-
-same-length-4 : tie.Need-same-length-4 Inv-loop μ-loop
-same-length-4 c = c .before .before .before .loop .inv .sheet-long .parts-long
-
-same-length-5 : tie.Need-same-length-5 Inv-loop μ-loop
-same-length-5 c = c .before .before .before .loop .inv .sheet-long .masses-long
-
-same-length-6 : tie.Need-same-length-6 Inv-loop μ-loop
-same-length-6 c = c .before .before .before .loop .inv .sheet-long .scores-long
-
-same-length-7 : tie.Need-same-length-7 Inv-loop μ-loop
-same-length-7 c = c .before .before .before .loop .inv .bytes-long
-
-same-length-8 : tie.Need-same-length-8 Inv-loop μ-loop
-same-length-8 c = c .before .before .before .loop .inv .numbers-long
-
-same-length-9 : tie.Need-same-length-9 Inv-loop μ-loop
-same-length-9 c = c .before .before .before .loop .inv .out-long
-
-returns : tie.Need-returns Inv-loop μ-loop
-returns c = goes-end _ _ _ _ _ _ _ _ _ (c .before .before .before .loop .inv)
-
 put-part-requires : tie.Need-put-part-requires Inv-loop μ-loop
 put-part-requires c κs =
     let e = c .before .before .before .before .before .before .before .before .before .before in
@@ -70,9 +34,6 @@ found c = c .before .before .before .before .before .before .before .before .bef
 
 abbrev begun : tie.After-one-if Inv-loop μ-loop → tie.Start Inv-loop μ-loop
 begun c = found c .before .before .before .before .before .before .before .before .before .before .before
-
-one-if-requires : tie.Need-one-if-requires Inv-loop μ-loop
-one-if-requires c κs = tt
 
 add-total : tie.Need-add-total Inv-loop μ-loop
 add-total c =
@@ -123,69 +84,18 @@ loop-again c =
     })
     (omega (arith, t .loop-test .taken, w .fits, w .out-long))
 
-same-length-10 : tie.Need-same-length-10 Inv-loop μ-loop
-same-length-10 c = c .before .loop .inv .sheet-long .letters-long
-
-same-length-11 : tie.Need-same-length-11 Inv-loop μ-loop
-same-length-11 c = c .before .loop .inv .sheet-long .sections-long
-
-same-length-12 : tie.Need-same-length-12 Inv-loop μ-loop
-same-length-12 c = c .before .loop .inv .sheet-long .heads-long
-
-same-length-13 : tie.Need-same-length-13 Inv-loop μ-loop
-same-length-13 c = c .before .loop .inv .sheet-long .parts-long
-
-same-length-14 : tie.Need-same-length-14 Inv-loop μ-loop
-same-length-14 c = c .before .loop .inv .sheet-long .masses-long
-
-same-length-15 : tie.Need-same-length-15 Inv-loop μ-loop
-same-length-15 c = c .before .loop .inv .sheet-long .scores-long
-
-same-length-16 : tie.Need-same-length-16 Inv-loop μ-loop
-same-length-16 c = c .before .loop .inv .bytes-long
-
-same-length-17 : tie.Need-same-length-17 Inv-loop μ-loop
-same-length-17 c = c .before .loop .inv .numbers-long
-
-same-length-18 : tie.Need-same-length-18 Inv-loop μ-loop
-same-length-18 c = c .before .loop .inv .out-long
-
-returns-2 : tie.Need-returns-2 Inv-loop μ-loop
-returns-2 c = goes-end _ _ _ _ _ _ _ _ _ (c .before .loop .inv)
-
 pub put-lines-spec : {M : Type 1} → statement M
 put-lines-spec =
     tie.close
     (tie.spec
-    Inv-loop
-    μ-loop
-    loop-holds
-    sub-loop
-    line-end-requires
-    same-length
-    same-length-2
-    same-length-3
-    same-length-4
-    same-length-5
-    same-length-6
-    same-length-7
-    same-length-8
-    same-length-9
-    returns
-    put-part-requires
-    one-if-requires
-    add-total
-    add-next
-    add-line
-    loop-less
-    loop-again
-    same-length-10
-    same-length-11
-    same-length-12
-    same-length-13
-    same-length-14
-    same-length-15
-    same-length-16
-    same-length-17
-    same-length-18
-    returns-2)
+    Inv-loop μ-loop loop-holds (λ c. omega (arith, c .loop .inv .fits, c .loop .inv .out-long)) (λ c κs. c .before .loop .inv .inside)
+    (λ c. c .before .before .before .loop .inv .sheet-long .letters-long) (λ c. c .before .before .before .loop .inv .sheet-long .sections-long)
+    (λ c. c .before .before .before .loop .inv .sheet-long .heads-long) (λ c. c .before .before .before .loop .inv .sheet-long .parts-long)
+    (λ c. c .before .before .before .loop .inv .sheet-long .masses-long) (λ c. c .before .before .before .loop .inv .sheet-long .scores-long)
+    (λ c. c .before .before .before .loop .inv .bytes-long) (λ c. c .before .before .before .loop .inv .numbers-long)
+    (λ c. c .before .before .before .loop .inv .out-long) (λ c. goes-end _ _ _ _ _ _ _ _ _ (c .before .before .before .loop .inv)) put-part-requires
+    (λ c κs. tt) add-total add-next add-line loop-less loop-again (λ c. c .before .loop .inv .sheet-long .letters-long)
+    (λ c. c .before .loop .inv .sheet-long .sections-long) (λ c. c .before .loop .inv .sheet-long .heads-long)
+    (λ c. c .before .loop .inv .sheet-long .parts-long) (λ c. c .before .loop .inv .sheet-long .masses-long)
+    (λ c. c .before .loop .inv .sheet-long .scores-long) (λ c. c .before .loop .inv .bytes-long) (λ c. c .before .loop .inv .numbers-long)
+    (λ c. c .before .loop .inv .out-long) (λ c. goes-end _ _ _ _ _ _ _ _ _ (c .before .loop .inv)))

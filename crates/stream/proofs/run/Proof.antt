@@ -6,17 +6,13 @@ use Rattle.stream.proofs.Steps.{ready-new}
 use Rattle.stream.proofs.run.Statement.{statement}
 use Rattle.stream.proofs.run.Tie as tie
 
-serve-requires : tie.Need-serve-requires
-serve-requires c κs = (omega arith, ready-new outputLimit (omega arith) (omega arith))
-
-sub-line : tie.Need-sub-line
-sub-line c = c .before .before .before .before .before .before .before .before .before .before .before .before .serve .ensures
-
 pub run-spec : {M : Type 1} → statement M
 run-spec =
     tie.close
     (tie.spec
     (λ c. search needs) (λ c. search needs) (λ c. search needs) (λ c. search needs) (λ c. search needs) (λ c. search needs) (λ c. search needs)
-    (λ c. search needs) (λ c. search needs) (λ c. search needs) (λ c. search needs) serve-requires sub-line (λ c. search needs) (λ c. search needs)
-    (λ c κs. search needs) (λ c. search needs) (λ c. search needs) (λ c. search needs) (λ c κs. search needs) (λ c. search needs) (λ c. search needs)
-    (λ c. search needs) (λ c κs. search needs) (λ c. search needs) (λ c. search needs) (λ c. search needs))
+    (λ c. search needs) (λ c. search needs) (λ c. search needs) (λ c. search needs)
+    (λ c κs. (omega arith, ready-new outputLimit (omega arith) (omega arith)))
+    (λ c. c .before .before .before .before .before .before .before .before .before .before .before .before .serve .ensures) (λ c. search needs)
+    (λ c. search needs) (λ c κs. search needs) (λ c. search needs) (λ c. search needs) (λ c. search needs) (λ c κs. search needs) (λ c. search needs)
+    (λ c. search needs) (λ c. search needs) (λ c κs. search needs) (λ c. search needs) (λ c. search needs) (λ c. search needs))

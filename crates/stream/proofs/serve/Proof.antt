@@ -27,50 +27,38 @@ turn-requires c κs =
     let w = o .loop .inv in
     (w .room-fits, omega (arith, w .count, t .loop-test .taken), w .ready, w .few)
 
+-- from behind a turn back to where the heads were handed back, to the call, and to the head of the loop
+abbrev heads-back : tie.After-struct-known Inv-loop μ-loop → tie.After-heads Inv-loop μ-loop
+heads-back b = b .before .before .before .before .before .before .before .before .before .before .before
+
+abbrev called : tie.After-struct-known Inv-loop μ-loop → tie.After-turn Inv-loop μ-loop
+called b = heads-back b .before .before .before .before .before .before .before .before .before
+
+abbrev begun : tie.After-struct-known Inv-loop μ-loop → tie.In-loop Inv-loop μ-loop
+begun b = called b .before .before .before .before .before .before .before .before .before .before .before .before
+
 same-length : tie.Need-same-length Inv-loop μ-loop
-same-length c = c .before .before .before .before .before .before .before .before .before .before .before .before .before .before .before .before .before .before .before .before .room .given ∙ c .before .before .before .before .before .before .before .before .before .before .before .before .before .before .before .before .before .before .before .before .before .before .before .before .before .before .before .before .before .before .before .before .before .before .loop .inv .room-long
+same-length c = let b = c .before in heads-back b .before .before .before .before .before .before .before .before .room .given ∙ begun b .before .loop .inv .room-long
 
 same-length-2 : tie.Need-same-length-2 Inv-loop μ-loop
-same-length-2 c = c .before .before .before .before .before .before .before .before .before .before .before .before .before .before .before .before .before .before .hold .given ∙ c .before .before .before .before .before .before .before .before .before .before .before .before .before .before .before .before .before .before .before .before .before .before .before .before .before .before .before .before .before .before .before .before .before .before .loop .inv .hold-long
+same-length-2 c = let b = c .before in heads-back b .before .before .before .before .before .before .hold .given ∙ begun b .before .loop .inv .hold-long
 
 same-length-3 : tie.Need-same-length-3 Inv-loop μ-loop
-same-length-3 c = c .before .before .before .before .before .before .before .before .before .before .before .before .before .before .before .before .letters .given ∙ c .before .before .before .before .before .before .before .before .before .before .before .before .before .before .before .before .before .before .before .before .before .before .before .before .before .before .before .before .before .before .before .before .before .before .loop .inv .sheet-long .letters-long
-
-same-length-4 : tie.Need-same-length-4 Inv-loop μ-loop
-same-length-4 c = c .before .before .before .before .before .before .before .before .before .before .before .before .before .before .sections .given ∙ c .before .before .before .before .before .before .before .before .before .before .before .before .before .before .before .before .before .before .before .before .before .before .before .before .before .before .before .before .before .before .before .before .before .before .loop .inv .sheet-long .sections-long
-
-same-length-5 : tie.Need-same-length-5 Inv-loop μ-loop
-same-length-5 c = c .before .before .before .before .before .before .before .before .before .before .before .before .heads .given ∙ c .before .before .before .before .before .before .before .before .before .before .before .before .before .before .before .before .before .before .before .before .before .before .before .before .before .before .before .before .before .before .before .before .before .before .loop .inv .sheet-long .heads-long
+same-length-3 c = let b = c .before in heads-back b .before .before .before .before .letters .given ∙ begun b .before .loop .inv .sheet-long .letters-long
 
 same-length-6 : tie.Need-same-length-6 Inv-loop μ-loop
-same-length-6 c = c .before .before .before .before .before .before .before .before .before .before .parts .given ∙ c .before .before .before .before .before .before .before .before .before .before .before .before .before .before .before .before .before .before .before .before .before .before .before .before .before .before .before .before .before .before .before .before .before .before .loop .inv .sheet-long .parts-long
+same-length-6 c = let b = c .before in b .before .before .before .before .before .before .before .before .before .parts .given ∙ begun b .before .loop .inv .sheet-long .parts-long
 
 same-length-7 : tie.Need-same-length-7 Inv-loop μ-loop
-same-length-7 c = c .before .before .before .before .before .before .before .before .masses .given ∙ c .before .before .before .before .before .before .before .before .before .before .before .before .before .before .before .before .before .before .before .before .before .before .before .before .before .before .before .before .before .before .before .before .before .before .loop .inv .sheet-long .masses-long
+same-length-7 c = let b = c .before in b .before .before .before .before .before .before .before .masses .given ∙ begun b .before .loop .inv .sheet-long .masses-long
 
 same-length-8 : tie.Need-same-length-8 Inv-loop μ-loop
-same-length-8 c = c .before .before .before .before .before .before .before .scores .given ∙ c .before .before .before .before .before .before .before .before .before .before .before .before .before .before .before .before .before .before .before .before .before .before .before .before .before .before .before .before .before .before .before .before .before .before .loop .inv .sheet-long .scores-long
-
-same-length-9 : tie.Need-same-length-9 Inv-loop μ-loop
-same-length-9 c = c .before .before .before .before .before .before .bytes .given ∙ c .before .before .before .before .before .before .before .before .before .before .before .before .before .before .before .before .before .before .before .before .before .before .before .before .before .before .before .before .before .before .before .before .before .before .loop .inv .bytes-long
-
-same-length-10 : tie.Need-same-length-10 Inv-loop μ-loop
-same-length-10 c = c .before .before .before .before .numbers .given ∙ c .before .before .before .before .before .before .before .before .before .before .before .before .before .before .before .before .before .before .before .before .before .before .before .before .before .before .before .before .before .before .before .before .before .before .loop .inv .numbers-long
-
-same-length-11 : tie.Need-same-length-11 Inv-loop μ-loop
-same-length-11 c = c .before .before .before .out .given ∙ c .before .before .before .before .before .before .before .before .before .before .before .before .before .before .before .before .before .before .before .before .before .before .before .before .before .before .before .before .before .before .before .before .before .before .loop .inv .out-long
+same-length-8 c = let b = c .before in b .before .before .before .before .before .before .scores .given ∙ begun b .before .loop .inv .sheet-long .scores-long
 
 returns : tie.Need-returns Inv-loop μ-loop
 returns c =
-    let a = c .before .before .before .before .before .before .before .before .before .before .before .before .before .before .before .before .before .before .before .before .before in
-    let o = a .before .before .before .before .before .before .before .before .before .before .before .before .before in
-    omega (arith, o .loop .inv .few, a .turn .ensures .grows)
-
-sub-turns : tie.Need-sub-turns Inv-loop μ-loop
-sub-turns c = omega (arith, c .before .before .before .before .before .before .before .before .before .before .before .before .before .before .before .before .before .before .before .before .before .before .before .before .before .before .before .before .before .before .before .before .before .loop-test .taken)
-
-loop-less : tie.Need-loop-less Inv-loop μ-loop
-loop-less c = omega (arith, c .before .before .before .before .before .before .before .before .before .before .before .before .before .before .before .before .before .before .before .before .before .before .before .before .before .before .before .before .before .before .before .before .before .loop-test .taken)
+    let b = c .before in
+    omega (arith, begun b .before .loop .inv .few, called b .turn .ensures .grows)
 
 loop-again : tie.Need-loop-again Inv-loop μ-loop
 loop-again c =
@@ -99,74 +87,19 @@ loop-again c =
     })
     (bs .bytes .given) (ns .numbers .given) (out .out .given)
 
-same-length-12 : tie.Need-same-length-12 Inv-loop μ-loop
-same-length-12 c = c .before .loop .inv .room-long
-
-same-length-13 : tie.Need-same-length-13 Inv-loop μ-loop
-same-length-13 c = c .before .loop .inv .hold-long
-
-same-length-14 : tie.Need-same-length-14 Inv-loop μ-loop
-same-length-14 c = c .before .loop .inv .sheet-long .letters-long
-
-same-length-15 : tie.Need-same-length-15 Inv-loop μ-loop
-same-length-15 c = c .before .loop .inv .sheet-long .sections-long
-
-same-length-16 : tie.Need-same-length-16 Inv-loop μ-loop
-same-length-16 c = c .before .loop .inv .sheet-long .heads-long
-
-same-length-17 : tie.Need-same-length-17 Inv-loop μ-loop
-same-length-17 c = c .before .loop .inv .sheet-long .parts-long
-
-same-length-18 : tie.Need-same-length-18 Inv-loop μ-loop
-same-length-18 c = c .before .loop .inv .sheet-long .masses-long
-
-same-length-19 : tie.Need-same-length-19 Inv-loop μ-loop
-same-length-19 c = c .before .loop .inv .sheet-long .scores-long
-
-same-length-20 : tie.Need-same-length-20 Inv-loop μ-loop
-same-length-20 c = c .before .loop .inv .bytes-long
-
-same-length-21 : tie.Need-same-length-21 Inv-loop μ-loop
-same-length-21 c = c .before .loop .inv .numbers-long
-
-same-length-22 : tie.Need-same-length-22 Inv-loop μ-loop
-same-length-22 c = c .before .loop .inv .out-long
-
-returns-2 : tie.Need-returns-2 Inv-loop μ-loop
-returns-2 c = omega (arith, c .before .loop .inv .few)
-
 pub serve-spec : {M : Type 1} → statement M
 serve-spec =
     tie.close
     (tie.spec
-    Inv-loop
-    μ-loop
-    loop-holds
-    turn-requires
-    same-length
-    same-length-2
-    same-length-3
-    same-length-4
-    same-length-5
-    same-length-6
-    same-length-7
-    same-length-8
-    same-length-9
-    same-length-10
-    same-length-11
-    returns
-    sub-turns
-    loop-less
-    loop-again
-    same-length-12
-    same-length-13
-    same-length-14
-    same-length-15
-    same-length-16
-    same-length-17
-    same-length-18
-    same-length-19
-    same-length-20
-    same-length-21
-    same-length-22
-    returns-2)
+    Inv-loop μ-loop loop-holds turn-requires same-length same-length-2 same-length-3
+    (λ c. let b = c .before in heads-back b .before .before .sections .given ∙ begun b .before .loop .inv .sheet-long .sections-long)
+    (λ c. let b = c .before in heads-back b .heads .given ∙ begun b .before .loop .inv .sheet-long .heads-long) same-length-6 same-length-7
+    same-length-8 (λ c. let b = c .before in b .before .before .before .before .before .bytes .given ∙ begun b .before .loop .inv .bytes-long)
+    (λ c. let b = c .before in b .before .before .before .numbers .given ∙ begun b .before .loop .inv .numbers-long)
+    (λ c. let b = c .before in b .before .before .out .given ∙ begun b .before .loop .inv .out-long) returns
+    (λ c. omega (arith, begun (c .before) .loop-test .taken)) (λ c. omega (arith, begun (c .before) .loop-test .taken)) loop-again
+    (λ c. c .before .loop .inv .room-long) (λ c. c .before .loop .inv .hold-long) (λ c. c .before .loop .inv .sheet-long .letters-long)
+    (λ c. c .before .loop .inv .sheet-long .sections-long) (λ c. c .before .loop .inv .sheet-long .heads-long)
+    (λ c. c .before .loop .inv .sheet-long .parts-long) (λ c. c .before .loop .inv .sheet-long .masses-long)
+    (λ c. c .before .loop .inv .sheet-long .scores-long) (λ c. c .before .loop .inv .bytes-long) (λ c. c .before .loop .inv .numbers-long)
+    (λ c. c .before .loop .inv .out-long) (λ c. omega (arith, c .before .loop .inv .few)))

@@ -13,43 +13,16 @@ Inv-loop chunk from i₀ i = Passed chunk from i
 abbrev μ-loop : tie.MeasureT-loop
 μ-loop chunk from i₀ i = length chunk - i
 
-loop-holds : tie.Need-loop-holds Inv-loop μ-loop
-loop-holds c = passed-start _ _ (c .before .pre)
-
-sub-loop : tie.Need-sub-loop Inv-loop μ-loop
-sub-loop c = c .loop .inv .within
-
-has-end-requires : tie.Need-has-end-requires Inv-loop μ-loop
-has-end-requires c κs = omega (arith, c .before .loop .inv .within, c .loop-test .taken)
-
-returns : tie.Need-returns Inv-loop μ-loop
-returns c = c .before .before .before .loop .inv
-
-add-i : tie.Need-add-i Inv-loop μ-loop
-add-i c = omega (arith, c .before .before .before .loop .inv .within, c .before .before .loop-test .taken)
-
-loop-less : tie.Need-loop-less Inv-loop μ-loop
-loop-less c = omega (arith, c .before .before .before .loop .inv .within, c .before .before .loop-test .taken)
-
 loop-again : tie.Need-loop-again Inv-loop μ-loop
 loop-again c =
     let w = c .before .before .before .loop .inv in
     passed-stride w (omega (arith, w .within, c .before .before .loop-test .taken)) (c .before .has-end .ensures) (c .if1 .left)
 
-returns-2 : tie.Need-returns-2 Inv-loop μ-loop
-returns-2 c = c .before .loop .inv
-
 pub skip-plain-spec : {M : Type 1} → statement M
 skip-plain-spec =
     tie.close
     (tie.spec
-    Inv-loop
-    μ-loop
-    loop-holds
-    sub-loop
-    has-end-requires
-    returns
-    add-i
-    loop-less
-    loop-again
-    returns-2)
+    Inv-loop μ-loop (λ c. passed-start _ _ (c .before .pre)) (λ c. c .loop .inv .within)
+    (λ c κs. omega (arith, c .before .loop .inv .within, c .loop-test .taken)) (λ c. c .before .before .before .loop .inv)
+    (λ c. omega (arith, c .before .before .before .loop .inv .within, c .before .before .loop-test .taken))
+    (λ c. omega (arith, c .before .before .before .loop .inv .within, c .before .before .loop-test .taken)) loop-again (λ c. c .before .loop .inv))

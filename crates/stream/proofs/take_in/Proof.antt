@@ -9,41 +9,8 @@ use Rattle.stream.proofs.take_in.Tie as tie
 close-requires : tie.Need-close-requires
 close-requires c κs = let p = c .before .before .before .before .before .before .before .before .before .before .before .before .before .before .before .before .before .before .before .pre in (p .3, p .4)
 
-same-length : tie.Need-same-length
-same-length c = refl
-
-same-length-2 : tie.Need-same-length-2
-same-length-2 c = c .before .before .before .before .before .before .before .before .before .before .before .before .before .before .letters .given
-
-same-length-3 : tie.Need-same-length-3
-same-length-3 c = c .before .before .before .before .before .before .before .before .before .before .before .before .sections .given
-
-same-length-4 : tie.Need-same-length-4
-same-length-4 c = c .before .before .before .before .before .before .before .before .before .before .heads .given
-
-same-length-5 : tie.Need-same-length-5
-same-length-5 c = c .before .before .before .before .before .before .before .before .parts .given
-
-same-length-6 : tie.Need-same-length-6
-same-length-6 c = c .before .before .before .before .before .before .masses .given
-
-same-length-7 : tie.Need-same-length-7
-same-length-7 c = c .before .before .before .before .before .scores .given
-
-same-length-8 : tie.Need-same-length-8
-same-length-8 c = c .before .before .before .before .bytes .given
-
-same-length-9 : tie.Need-same-length-9
-same-length-9 c = c .before .before .numbers .given
-
-same-length-10 : tie.Need-same-length-10
-same-length-10 c = c .before .out .given
-
 returns : tie.Need-returns
 returns c = turns-closed (c .before .before .before .before .before .before .before .before .before .before .before .before .before .before .before .close .ensures)
-
-slice-aggregate-drain : tie.Need-slice-aggregate-drain
-slice-aggregate-drain c = sym (length-take-le _ _ (c .before .before .before .before .before .before .before .before .before .before .pre .0))
 
 drain-requires : tie.Need-drain-requires
 drain-requires c κs =
@@ -51,39 +18,16 @@ drain-requires c κs =
     let p = s .pre in
     (front-fits (s .args .n) (now (s .args .room)) (p .1), p .2, p .3, p .4)
 
-same-length-11 : tie.Need-same-length-11
-same-length-11 c = c .before .before .before .before .before .before .before .before .before .before .before .before .before .before .before .before .hold .given
+-- from the end back to where the heads were handed back, and to the call
+abbrev heads-back : tie.After-slice-known20 → tie.After-heads2
+heads-back c = c .before .before .before .before .before .before .before .before .before .before
 
-same-length-12 : tie.Need-same-length-12
-same-length-12 c = c .before .before .before .before .before .before .before .before .before .before .before .before .before .before .letters2 .given
-
-same-length-13 : tie.Need-same-length-13
-same-length-13 c = c .before .before .before .before .before .before .before .before .before .before .before .before .sections2 .given
-
-same-length-14 : tie.Need-same-length-14
-same-length-14 c = c .before .before .before .before .before .before .before .before .before .before .heads2 .given
-
-same-length-15 : tie.Need-same-length-15
-same-length-15 c = c .before .before .before .before .before .before .before .before .parts2 .given
-
-same-length-16 : tie.Need-same-length-16
-same-length-16 c = c .before .before .before .before .before .before .masses2 .given
-
-same-length-17 : tie.Need-same-length-17
-same-length-17 c = c .before .before .before .before .before .scores2 .given
-
-same-length-18 : tie.Need-same-length-18
-same-length-18 c = c .before .before .before .before .bytes2 .given
-
-same-length-19 : tie.Need-same-length-19
-same-length-19 c = c .before .before .numbers2 .given
-
-same-length-20 : tie.Need-same-length-20
-same-length-20 c = c .before .out2 .given
+abbrev called : tie.After-slice-known20 → tie.After-drain
+called c = heads-back c .before .before .before .before .before .before .before
 
 returns-2 : tie.Need-returns-2
 returns-2 c =
-    let a = c .before .before .before .before .before .before .before .before .before .before .before .before .before .before .before .before .before in
+    let a = called c in
     let s = a .before .before .before .before .before .before .before .before .before .before .before .before .before .before .before .before .before .before .before .before .before in
     let d = a .drain .ensures in
     turns-chunk _ (s .pre .0) (s .pre .1) (d .0) (d .1)
@@ -92,6 +36,16 @@ pub take-in-spec : {M : Type 1} → statement M
 take-in-spec =
     tie.close
     (tie.spec
-    close-requires same-length same-length-2 same-length-3 same-length-4 same-length-5 same-length-6 same-length-7 same-length-8 same-length-9
-    same-length-10 returns slice-aggregate-drain drain-requires same-length-11 same-length-12 same-length-13 same-length-14 same-length-15
-    same-length-16 same-length-17 same-length-18 same-length-19 same-length-20 returns-2)
+    close-requires (λ c. refl)
+    (λ c. c .before .before .before .before .before .before .before .before .before .before .before .before .before .before .letters .given)
+    (λ c. c .before .before .before .before .before .before .before .before .before .before .before .before .sections .given)
+    (λ c. c .before .before .before .before .before .before .before .before .before .before .heads .given)
+    (λ c. c .before .before .before .before .before .before .before .before .parts .given)
+    (λ c. c .before .before .before .before .before .before .masses .given) (λ c. c .before .before .before .before .before .scores .given)
+    (λ c. c .before .before .before .before .bytes .given) (λ c. c .before .before .numbers .given) (λ c. c .before .out .given) returns
+    (λ c. sym (length-take-le _ _ (c .before .before .before .before .before .before .before .before .before .before .pre .0))) drain-requires
+    (λ c. heads-back c .before .before .before .before .before .before .hold .given)
+    (λ c. heads-back c .before .before .before .before .letters2 .given) (λ c. heads-back c .before .before .sections2 .given)
+    (λ c. heads-back c .heads2 .given) (λ c. c .before .before .before .before .before .before .before .before .parts2 .given)
+    (λ c. c .before .before .before .before .before .before .masses2 .given) (λ c. c .before .before .before .before .before .scores2 .given)
+    (λ c. c .before .before .before .before .bytes2 .given) (λ c. c .before .before .numbers2 .given) (λ c. c .before .out2 .given) returns-2)

@@ -5,9 +5,6 @@ use Rattle.stream.proofs.Steps.{came-fits, turns-failed}
 use Rattle.stream.proofs.turn.Statement.{statement}
 use Rattle.stream.proofs.turn.Tie as tie
 
-receive-requires : tie.Need-receive-requires
-receive-requires c κs = tt
-
 take-in-requires : tie.Need-take-in-requires
 take-in-requires c κs =
     let g = c .before .before .before .before .before .before .before .before .before .before .before .before in
@@ -17,51 +14,24 @@ take-in-requires c κs =
     let same = r .room .given in
     (came-fits (g .got .given .1) (a .receive .ensures) same, omega (arith, s .pre .0, same), s .pre .1, s .pre .2, s .pre .3)
 
-same-length : tie.Need-same-length
-same-length c = c .before .before .before .before .before .before .before .before .before .before .before .before .before .before .before .before .before .before .before .before .before .before .before .before .before .before .before .before .before .before .before .before .before .room .given
+-- from the end back to where the heads were handed back, to the call, and to the read
+abbrev heads-back : tie.After-slice-known16 → tie.After-heads
+heads-back c = c .before .before .before .before .before .before .before .before .before .before
 
-same-length-2 : tie.Need-same-length-2
-same-length-2 c = c .before .before .before .before .before .before .before .before .before .before .before .before .before .before .before .before .hold .given
+abbrev called : tie.After-slice-known16 → tie.After-take-in
+called c = heads-back c .before .before .before .before .before .before .before
 
-same-length-3 : tie.Need-same-length-3
-same-length-3 c = c .before .before .before .before .before .before .before .before .before .before .before .before .before .before .letters .given
-
-same-length-4 : tie.Need-same-length-4
-same-length-4 c = c .before .before .before .before .before .before .before .before .before .before .before .before .sections .given
-
-same-length-5 : tie.Need-same-length-5
-same-length-5 c = c .before .before .before .before .before .before .before .before .before .before .heads .given
-
-same-length-6 : tie.Need-same-length-6
-same-length-6 c = c .before .before .before .before .before .before .before .before .parts .given
-
-same-length-7 : tie.Need-same-length-7
-same-length-7 c = c .before .before .before .before .before .before .masses .given
-
-same-length-8 : tie.Need-same-length-8
-same-length-8 c = c .before .before .before .before .before .scores .given
-
-same-length-9 : tie.Need-same-length-9
-same-length-9 c = c .before .before .before .before .bytes .given
-
-same-length-10 : tie.Need-same-length-10
-same-length-10 c = c .before .before .numbers .given
-
-same-length-11 : tie.Need-same-length-11
-same-length-11 c = c .before .out .given
-
-returns : tie.Need-returns
-returns c = c .before .before .before .before .before .before .before .before .before .before .before .before .before .before .before .before .before .take-in .ensures
-
-same-length-12 : tie.Need-same-length-12
-same-length-12 c = c .before .before .before .room .given
-
-returns-2 : tie.Need-returns-2
-returns-2 c = turns-failed
+abbrev read : tie.After-slice-known16 → tie.After-room
+read c = called c .before .before .before .before .before .before .before .before .before .before .before .before .before .before .before .before
 
 pub turn-spec : {M : Type 1} → statement M
 turn-spec =
     tie.close
     (tie.spec
-    receive-requires (λ c. search needs) take-in-requires (λ c. search needs) same-length same-length-2 same-length-3 same-length-4 same-length-5
-    same-length-6 same-length-7 same-length-8 same-length-9 same-length-10 same-length-11 returns same-length-12 returns-2)
+    (λ c κs. tt) (λ c. search needs) take-in-requires (λ c. search needs) (λ c. read c .room .given)
+    (λ c. heads-back c .before .before .before .before .before .before .hold .given)
+    (λ c. heads-back c .before .before .before .before .letters .given) (λ c. heads-back c .before .before .sections .given)
+    (λ c. heads-back c .heads .given) (λ c. c .before .before .before .before .before .before .before .before .parts .given)
+    (λ c. c .before .before .before .before .before .before .masses .given) (λ c. c .before .before .before .before .before .scores .given)
+    (λ c. c .before .before .before .before .bytes .given) (λ c. c .before .before .numbers .given) (λ c. c .before .out .given)
+    (λ c. called c .take-in .ensures) (λ c. c .before .before .before .room .given) (λ c. turns-failed))

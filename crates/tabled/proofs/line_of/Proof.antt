@@ -25,6 +25,4 @@ returns-3 c = no-line _ _ (bounds-needed _ _ (no _ (c .before .in-bounds .ensure
 
 pub line-of-spec : {M : Type 1} → statement M
 line-of-spec =
-    tie.close
-    (tie.spec
-    (λ c κs. search needs) in-order-requires line-back-requires (λ c. search needs) (λ c. search needs) returns-2 returns-3)
+    tie.close (tie.spec (λ c κs. search needs) in-order-requires line-back-requires (λ c. search needs) (λ c. search needs) returns-2 returns-3)

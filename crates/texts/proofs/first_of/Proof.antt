@@ -1,16 +1,9 @@
 -- The first of two places, by whether there is one.
-use borrow.Author.Tests.{eq-eqb, ne-eqb}
+use Rattle.basics.specs.Choice.{steps}
 use Rattle.texts.specs.Texts.{firstOf}
 use Rattle.texts.proofs.first_of.Statement.{statement}
 use Rattle.texts.proofs.first_of.Tie as tie
 
-returns : tie.Need-returns
-unfolding firstOf
-returns c = rw (eq-eqb _ _ (c .if1 .taken))
-
-returns-2 : tie.Need-returns-2
-unfolding firstOf
-returns-2 c = rw (ne-eqb _ _ (c .if1 .left))
-
 pub first-of-spec : {M : Type 1} → statement M
-first-of-spec = tie.close (tie.spec returns returns-2)
+unfolding firstOf
+first-of-spec = tie.close (tie.spec (λ c. search steps) (λ c. search steps))

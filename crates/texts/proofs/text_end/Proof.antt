@@ -1,3 +1,4 @@
+-- The loop outside every pair: a law of Pairs for each place of its code. A pair is read by a call, and reading goes on behind it.
 use Prim.Native.Nat.{_-_}
 use mathlib.Core.Path.{sym, _∙_}
 use native.Mathlib.Omega.{arith}
@@ -12,9 +13,6 @@ Inv-loop line at hashes deep₀ i₀ deep i = Outside line at hashes i deep
 
 abbrev μ-loop : tie.MeasureT-loop
 μ-loop line at hashes deep₀ i₀ deep i = length line - i
-
-loop-holds : tie.Need-loop-holds Inv-loop μ-loop
-loop-holds c = text-starts _ _ _ _ (c .outer-end .ensures)
 
 loop-less : tie.Need-loop-less Inv-loop μ-loop
 loop-less c =
@@ -51,7 +49,7 @@ returns-3 c = text-over _ _ _ _ _ (c .before .loop .inv) (c .loop-test .left)
 pub text-end-spec : {M : Type 1} → statement M
 text-end-spec =
     tie.close
-    (tie.spec Inv-loop μ-loop
-    (λ c κs. search needs) loop-holds (λ c. search needs) (λ c κs. search needs) (λ c. search needs) (λ c κs. search needs)
-    (λ c κs. (c .closer-of .ensures .1, search needs)) (λ c. search needs) (λ c κs. search needs) (λ c κs. search needs) loop-less loop-again (λ c. search needs)
-    returns returns-2 returns-3)
+    (tie.spec
+    Inv-loop μ-loop (λ c κs. search needs) (λ c. text-starts _ _ _ _ (c .outer-end .ensures)) (λ c. search needs) (λ c κs. search needs)
+    (λ c. search needs) (λ c κs. search needs) (λ c κs. (c .closer-of .ensures .1, search needs)) (λ c. search needs) (λ c κs. search needs)
+    (λ c κs. search needs) loop-less loop-again (λ c. search needs) returns returns-2 returns-3)

@@ -4,11 +4,9 @@ use Rattle.texts.proofs.Bits.{last-square, last-curly}
 use Rattle.texts.proofs.with_last.Statement.{statement}
 use Rattle.texts.proofs.with_last.Tie as tie
 
-returns : tie.Need-returns
-returns c = last-square _ _ (c .if1 .taken)
-
-returns-2 : tie.Need-returns-2
-returns-2 c = last-curly _ _ (c .before .pre .0) (c .if1 .left)
-
 pub with-last-spec : {M : Type 1} → statement M
-with-last-spec = tie.close (tie.spec (λ c. search needs) (λ c. search needs) returns (λ c. search needs) returns-2)
+with-last-spec =
+    tie.close
+    (tie.spec
+    (λ c. search needs) (λ c. search needs) (λ c. last-square _ _ (c .if1 .taken)) (λ c. search needs)
+    (λ c. last-curly _ _ (c .before .pre .0) (c .if1 .left)))

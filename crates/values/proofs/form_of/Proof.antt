@@ -12,9 +12,6 @@ returns c =
     at-key (λ n. MassOrName ≡ formAt n) (0 ∷ 1 ∷ 2 ∷ 3 ∷ 4 ∷ 5 ∷ 6 ∷ []) _ (c .match .keys1) (refl, (refl, (refl, (refl, (refl, (refl, (refl, tt)))))))
     ∙ form-by-tag (c .before .args .key)
 
-returns-2 : tie.Need-returns-2
-returns-2 c = rw (c .enum-told .given .1)
-
 returns-3 : tie.Need-returns-3
 returns-3 c = at-key (λ n. Digits ≡ formAt n) (8 ∷ 9 ∷ 10 ∷ []) _ (c .match .keys3) (refl, (refl, (refl, tt))) ∙ form-by-tag (c .before .args .key)
 
@@ -26,4 +23,5 @@ returns-5 c =
     at-key (λ n. Free ≡ formAt n) (13 ∷ 14 ∷ 15 ∷ 16 ∷ 17 ∷ []) _ (c .match .keys5) (refl, (refl, (refl, (refl, (refl, tt))))) ∙ form-by-tag (c .before .args .key)
 
 pub form-of-spec : {M : Type 1} → statement M
-form-of-spec = tie.close (tie.spec (λ c. search needs) returns returns-2 returns-3 returns-4 returns-5)
+form-of-spec =
+    tie.close (tie.spec (λ c. search needs) returns (λ c. rw (c .enum-told .given .1)) returns-3 returns-4 returns-5)

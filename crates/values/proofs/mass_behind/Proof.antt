@@ -5,11 +5,9 @@ use Rattle.values.proofs.Tags.{takes, takes-not}
 use Rattle.values.proofs.mass_behind.Statement.{statement}
 use Rattle.values.proofs.mass_behind.Tie as tie
 
-returns : tie.Need-returns
-returns c = c .signed-at .ensures ∙ takes (c .before .before .before .args .form) _ (c .before .match .keys1)
-
-returns-2 : tie.Need-returns-2
-returns-2 c = takes-not (c .before .before .args .form) _ (c .match .keys2)
-
 pub mass-behind-spec : {M : Type 1} → statement M
-mass-behind-spec = tie.close (tie.spec (λ c κs. search needs) returns returns-2)
+mass-behind-spec =
+    tie.close
+    (tie.spec
+    (λ c κs. search needs) (λ c. c .signed-at .ensures ∙ takes (c .before .before .before .args .form) _ (c .before .match .keys1))
+    (λ c. takes-not (c .before .before .args .form) _ (c .match .keys2)))

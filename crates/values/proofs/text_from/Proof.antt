@@ -27,5 +27,4 @@ returns-2 c = λ at p w b.
 
 pub text-from-spec : {M : Type 1} → statement M
 text-from-spec =
-    tie.close
-    (tie.spec (λ c κs. search needs) (λ c. search needs) (λ c κs. search needs) (λ c. search needs) returns returns-2)
+    tie.close (tie.spec (λ c κs. search needs) (λ c. search needs) (λ c κs. search needs) (λ c. search needs) returns returns-2)

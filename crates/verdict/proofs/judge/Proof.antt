@@ -5,12 +5,6 @@ use Rattle.verdict.proofs.Judging.{still-roomy, stuck-says, walked-line
 use Rattle.verdict.proofs.judge.Statement.{statement}
 use Rattle.verdict.proofs.judge.Tie as tie
 
-returns : tie.Need-returns
-returns c = is-empty _ (c .if1 .taken)
-
-returns-2 : tie.Need-returns-2
-returns-2 c = is-long _ (c .before .if1 .left) (c .if2 .taken)
-
 first-due-requires : tie.Need-first-due-requires
 first-due-requires c κs =
     let k = c .before .before .before in
@@ -43,6 +37,7 @@ pub judge-spec : {M : Type 1} → statement M
 judge-spec =
     tie.close
     (tie.spec
-    returns returns-2 (λ c κs. search needs) (λ c. search needs) (λ c κs. search needs) (λ c. search needs) first-due-requires (λ c κs. search needs)
-    (λ c. search needs) (λ c. search needs) (λ c. search needs) (λ c. search needs) (λ c. search needs) (λ c. search needs) returns-3
-    (λ c. search needs) (λ c. search needs) (λ c. search needs) (λ c. search needs) (λ c. search needs) (λ c. search needs) returns-4)
+    (λ c. is-empty _ (c .if1 .taken)) (λ c. is-long _ (c .before .if1 .left) (c .if2 .taken)) (λ c κs. search needs) (λ c. search needs)
+    (λ c κs. search needs) (λ c. search needs) first-due-requires (λ c κs. search needs) (λ c. search needs) (λ c. search needs) (λ c. search needs)
+    (λ c. search needs) (λ c. search needs) (λ c. search needs) returns-3 (λ c. search needs) (λ c. search needs) (λ c. search needs)
+    (λ c. search needs) (λ c. search needs) (λ c. search needs) returns-4)

@@ -4,11 +4,9 @@ use Rattle.verdict.proofs.Judging.{unprintable-is, stuck-is}
 use Rattle.verdict.proofs.not_read.Statement.{statement}
 use Rattle.verdict.proofs.not_read.Tie as tie
 
-returns : tie.Need-returns
-returns c = unprintable-is _ _ _ (c .before .printable-end .ensures) (c .if1 .taken)
-
-returns-2 : tie.Need-returns-2
-returns-2 c = stuck-is _ _ _ (c .before .printable-end .ensures) (c .if1 .left)
-
 pub not-read-spec : {M : Type 1} → statement M
-not-read-spec = tie.close (tie.spec (λ c κs. search needs) returns returns-2)
+not-read-spec =
+    tie.close
+    (tie.spec
+    (λ c κs. search needs) (λ c. unprintable-is _ _ _ (c .before .printable-end .ensures) (c .if1 .taken))
+    (λ c. stuck-is _ _ _ (c .before .printable-end .ensures) (c .if1 .left)))

@@ -1,7 +1,6 @@
 -- A bracket noted: its row, its score, and the stage behind it.
 use mathlib.Core.Path.{refl, ap, _∙_}
 use mathlib.Core.Bool.{cond}
-use native.Mathlib.Omega.{arith}
 use lib.ListN.{set}
 use Rattle.inside.proofs.Answers.{back}
 use Rattle.walk.specs.Steps.{noted?}
@@ -10,21 +9,15 @@ use borrow.Author.Needs.{needs}
 use Rattle.walk.proofs.bracket_noted.Statement.{statement}
 use Rattle.walk.proofs.bracket_noted.Tie as tie
 
-add-t20 : tie.Need-add-t20
-add-t20 c =
-    let a = c .before .before .before .before .before .before .before .before .before .before .before .before .before .before .before .before in
-    omega (arith, a .pre .0 .labels, a .pre .0 .brackets, a .pre .0 .at, a .pre .1, a .pre .2)
-
 returns : tie.Need-returns
 returns c =
-    let p = c .before .before in
-    let r = p .before .before in
+    let r = c .before .before in
     let m = r .before .before in
     let s = m .before .before .before .before in
     let h = s .before .before .before in
     let a = h .before .before .before in
     record {
-      stage = stage-behind (a .args .s) (a .args .slot) (a .args .next) (a .args .p) _ _ _ (m .mode-behind .ensures) (r .run-behind .ensures) (p .parts-behind .ensures);
+      stage = stage-behind (a .args .s) (a .args .slot) (a .args .next) (a .args .p) _ _ _ (m .mode-behind .ensures) (r .run-behind .ensures) (c .parts-behind .ensures);
       head = h .head-of .result;
       head-is = h .head-of .ensures;
       heads-put = s .store-head .ensures .0;
@@ -35,5 +28,5 @@ pub bracket-noted-spec : {M : Type 1} → statement M
 bracket-noted-spec =
     tie.close
     (tie.spec
-    (λ c κs. search needs) (λ c κs. search needs) (λ c κs. search needs) (λ c. search needs) (λ c κs. search needs) (λ c κs. search needs) add-t20
+    (λ c κs. search needs) (λ c κs. search needs) (λ c κs. search needs) (λ c. search needs) (λ c κs. search needs) (λ c κs. search needs)
     (λ c. search needs) (λ c. search needs) returns)

@@ -12,24 +12,12 @@ Inv-loop heads₀ first end i₀ heads i = Settling first end i heads₀ heads
 abbrev μ-loop : tie.MeasureT-loop
 μ-loop heads₀ first end i₀ heads i = end - i
 
-loop-holds : tie.Need-loop-holds Inv-loop μ-loop
-loop-holds c = settling-start _ _ _
-
-code-requires : tie.Need-code-requires Inv-loop μ-loop
-code-requires c κs = search needs
-
 put-kind-requires : tie.Need-put-kind-requires Inv-loop μ-loop
 put-kind-requires c κs =
     let t = c .before .before in
     let l = t .before in
     let s = l .before .before in
     (omega (arith, s .pre .1, l .loop .inv .kept), omega (arith, s .pre .0, t .loop-test .taken), omega (arith, c .code .ensures))
-
-add-i : tie.Need-add-i Inv-loop μ-loop
-add-i c = search needs
-
-loop-less : tie.Need-loop-less Inv-loop μ-loop
-loop-less c = search needs
 
 loop-again : tie.Need-loop-again Inv-loop μ-loop
 loop-again c =
@@ -38,9 +26,6 @@ loop-again c =
     let t = k .before .before in
     settling-next (t .before .loop .inv) (t .loop-test .taken) _ (k .code .ensures) _ (p .put-kind .ensures)
 
-same-length : tie.Need-same-length Inv-loop μ-loop
-same-length c = c .before .loop .inv .kept
-
 returns : tie.Need-returns Inv-loop μ-loop
 returns c = settling-end (c .before .loop .inv) (c .loop-test .left)
 
@@ -48,13 +33,5 @@ pub settle-spec : {M : Type 1} → statement M
 settle-spec =
     tie.close
     (tie.spec
-    Inv-loop
-    μ-loop
-    loop-holds
-    code-requires
-    put-kind-requires
-    add-i
-    loop-less
-    loop-again
-    same-length
-    returns)
+    Inv-loop μ-loop (λ c. settling-start _ _ _) (λ c κs. search needs) put-kind-requires (λ c. search needs) (λ c. search needs) loop-again
+    (λ c. c .before .loop .inv .kept) returns)

@@ -23,6 +23,4 @@ returns-2 c = (passed _ _ _ _ (le-ltb _ _ (c .if1 .left)) refl, passed _ _ _ _ (
 
 pub store-head-spec : {M : Type 1} → statement M
 store-head-spec =
-    tie.close
-    (tie.spec
-    (λ c κs. search needs) (λ c. search needs) (λ c. search needs) (λ c. search needs) (λ c. search needs) returns returns-2)
+    tie.close (tie.spec (λ c κs. search needs) (λ c. search needs) (λ c. search needs) (λ c. search needs) (λ c. search needs) returns returns-2)

@@ -12,17 +12,11 @@ Inv-loop letters₀ n line at m i₀ letters i = LettersPut letters₀ n line at
 abbrev μ-loop : tie.MeasureT-loop
 μ-loop letters₀ n line at m i₀ letters i = m - i
 
-loop-holds : tie.Need-loop-holds Inv-loop μ-loop
-loop-holds c = letters-start _ _ _ _ _
-
 add-upper : tie.Need-add-upper Inv-loop μ-loop
 add-upper c = let s = c .before .before .before .before in omega (arith, s .pre .0, s .pre .3, c .loop-test .taken)
 
 shared-slice-read-upper : tie.Need-shared-slice-read-upper Inv-loop μ-loop
 shared-slice-read-upper c = let s = c .before .before .before .before .before in omega (arith, s .pre .0, c .before .loop-test .taken)
-
-upper-requires : tie.Need-upper-requires Inv-loop μ-loop
-upper-requires c κs = search needs
 
 add-letters : tie.Need-add-letters Inv-loop μ-loop
 add-letters c = let s = c .before .before .before .before .before .before in omega (arith, s .pre .2, c .before .before .loop-test .taken)
@@ -42,9 +36,6 @@ loop-again c =
     let s = t .before .before .before .before in
     letters-next (t .before .loop .inv) (s .pre .0) (t .loop-test .taken) _ (c .upper .ensures)
 
-same-length : tie.Need-same-length Inv-loop μ-loop
-same-length c = letters-long (c .before .loop .inv)
-
 returns : tie.Need-returns Inv-loop μ-loop
 returns c = letters-end (c .before .loop .inv) (c .loop-test .left)
 
@@ -52,16 +43,5 @@ pub store-letters-spec : {M : Type 1} → statement M
 store-letters-spec =
     tie.close
     (tie.spec
-    Inv-loop
-    μ-loop
-    loop-holds
-    add-upper
-    shared-slice-read-upper
-    upper-requires
-    add-letters
-    slice-write-letters
-    add-i
-    loop-less
-    loop-again
-    same-length
-    returns)
+    Inv-loop μ-loop (λ c. letters-start _ _ _ _ _) add-upper shared-slice-read-upper (λ c κs. search needs) add-letters slice-write-letters add-i
+    loop-less loop-again (λ c. letters-long (c .before .loop .inv)) returns)

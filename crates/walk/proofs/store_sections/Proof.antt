@@ -14,23 +14,11 @@ Inv-loop sections₀ n end first next i₀ sections i = SectionsPut sections₀ 
 abbrev μ-loop : tie.MeasureT-loop
 μ-loop sections₀ n end first next i₀ sections i = end - i
 
-slice-write-sections : tie.Need-slice-write-sections Inv-loop μ-loop
-slice-write-sections c = search needs
-
-add-i : tie.Need-add-i Inv-loop μ-loop
-add-i c = search needs
-
-loop-holds : tie.Need-loop-holds Inv-loop μ-loop
-loop-holds c = sections-start _ _ _ _ (c .pre .0)
-
 slice-write-sections-2 : tie.Need-slice-write-sections-2 Inv-loop μ-loop
 slice-write-sections-2 c = let s = c .before .before in omega (arith, s .pre .1, s .pre .2, c .loop-test .taken, sections-long (c .before .loop .inv), length-set (s .args .sections .now) (s .args .n) (s .args .first))
 
 add-i-2 : tie.Need-add-i-2 Inv-loop μ-loop
 add-i-2 c = let s = c .before .before in omega (arith, s .pre .1, c .loop-test .taken)
-
-loop-less : tie.Need-loop-less Inv-loop μ-loop
-loop-less c = omega (arith, c .loop-test .taken)
 
 loop-again : tie.Need-loop-again Inv-loop μ-loop
 loop-again c = sections-next (c .before .loop .inv) (c .loop-test .taken)
@@ -45,14 +33,5 @@ pub store-sections-spec : {M : Type 1} → statement M
 store-sections-spec =
     tie.close
     (tie.spec
-    Inv-loop
-    μ-loop
-    slice-write-sections
-    add-i
-    loop-holds
-    slice-write-sections-2
-    add-i-2
-    loop-less
-    loop-again
-    same-length
-    returns)
+    Inv-loop μ-loop (λ c. search needs) (λ c. search needs) (λ c. sections-start _ _ _ _ (c .pre .0)) slice-write-sections-2 add-i-2
+    (λ c. omega (arith, c .loop-test .taken)) loop-again same-length returns)

@@ -1,0 +1,36 @@
+// The powers of ten that 64 bits hold.
+ghost use mathlib.Core.Path.{_≡_};
+ghost use Prim.Native.Nat.{_^_, _<_};
+ghost use Rattle.tens.specs.Tens.{powerCount};
+
+// 10^6: a unit, in millionths.
+pub const MILLION: u64 = 1000000;
+
+// 10^d. A match is a table in the program; an array would be laid on the stack at each call.
+pub fn power(d: usize) -> u64
+    requires { ⌜ d < powerCount ⌝ }
+    ensures { λ r. ⌜ r ≡ 10 ^ d ⌝ }
+{
+    match d {
+        0 => 1,
+        1 => 10,
+        2 => 100,
+        3 => 1000,
+        4 => 10000,
+        5 => 100000,
+        6 => MILLION,
+        7 => 10000000,
+        8 => 100000000,
+        9 => 1000000000,
+        10 => 10000000000,
+        11 => 100000000000,
+        12 => 1000000000000,
+        13 => 10000000000000,
+        14 => 100000000000000,
+        15 => 1000000000000000,
+        16 => 10000000000000000,
+        17 => 100000000000000000,
+        18 => 1000000000000000000,
+        _ => 10000000000000000000,
+    }
+}

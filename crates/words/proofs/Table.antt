@@ -15,7 +15,7 @@ use Rattle.scope.specs.Lists.{flat, part, tabled}
 use Rattle.basics.specs.Lists.{folded-length}
 use Rattle.basics.specs.Tabled.{getD-tabled}
 use Rattle.basics.specs.Tests.{falsely}
-use Rattle.words.specs.Words.{words, wordCount, spelling, startOf}
+use Rattle.words.specs.Words.{words, wordCount, keyCount, spelling, startOf}
 
 -- ---- any lists, one behind another
 module _ {A : Type 0} where
@@ -31,7 +31,7 @@ module _ {A : Type 0} where
       omega (arith, e, f))
 
   -- what stands at its beginning
-  pub list-at : (ws : List (List A)) (w : ℕ) → w < length ws → part (startOf ws w) (length (getD ws w [])) (flat (λ x. x) ws) ≡ getD ws w []
+  list-at : (ws : List (List A)) (w : ℕ) → w < length ws → part (startOf ws w) (length (getD ws w [])) (flat (λ x. x) ws) ≡ getD ws w []
   unfolding flat
   list-at [] w h = absurd (not-suc-le-zero h)
   list-at (x ∷ ws) zero h = take-append-seam x (flat (λ x. x) ws)
@@ -70,9 +70,21 @@ module _ {A : Type 0} where
         ∙ list-at ws w h
 
 -- ---- the words of the notation
+pub key-few-words : {w : ℕ} → w < keyCount → w < wordCount
+key-few-words h = omega arith
+
 pub many : {w : ℕ} → w < wordCount → w < length words
 unfolding words spell keys
 many h = h
+
+-- its letters, among all
+module _ {w from n : ℕ} (h : w < wordCount) (p : from ≡ startOf words w) (q : n ≡ length (spelling w)) where
+  pub word-within : {letters : List ℕ} → letters ≡ flat (λ x. x) words → from + n ≤ length letters
+  word-within e = omega (arith, p, q, size-is words (many h) p refl, within words (many h) p refl e)
+
+  pub word-there : {letters : List ℕ} → letters ≡ flat (λ x. x) words → part from n letters ≡ spelling w
+  word-there {letters} e =
+      ap (part from n) e ∙ ap (λ k. part k n (flat (λ x. x) words)) p ∙ ap (λ k. part (startOf words w) k (flat (λ x. x) words)) q ∙ list-at words w (many h)
 
 -- a word compared with a text
 pub stands-there : (w : ℕ) (s : List ℕ) (at : ℕ) {word : List ℕ} {b : Bool} → word ≡ spelling w → b ≡ sameFolded word (part at (length word) s)

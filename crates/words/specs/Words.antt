@@ -18,6 +18,10 @@ words =
 abbrev pub wordCount : ℕ
 wordCount = 24
 
+-- those of keys, no key among them
+abbrev pub keyCount : ℕ
+keyCount = 18
+
 abbrev pub spelling : ℕ → List ℕ
 spelling w = getD words w []
 

@@ -9,11 +9,36 @@ ghost use Rattle.scope.specs.Lists.{part};
 ghost use Rattle.words.specs.Words.{words, wordCount, spelling, startOf, keyFound};
 
 // The letters of all words, one behind another: the key words and prefixes in the order of the keys' numbers, the names of rules, the labels of links.
-pub const LETTERS: [u8; 157] = *b"UMRXGCObsUNIMODMODXLMODRESIDGNOINFOFormulaGlycanPositionLimitCoMKPCoMUPColocaliseModificationsOfKnownPositionColocaliseModificationsOfUnknownPositionXLBRANCH";
+pub const LETTERS: [u8; 157] =
+    *b"UMRXGCObsUNIMODMODXLMODRESIDGNOINFOFormulaGlycanPositionLimitCoMKPCoMUPColocaliseModificationsOfKnownPositionColocaliseModificationsOfUnknownPositionXLBRANCH";
 
 // Where each word begins, and where the last one ends. No key is an empty word.
 const STARTS: [u8; 25] = [
-    0, 0, 1, 2, 3, 4, 5, 6, 9, 15, 18, 23, 28, 31, 35, 42, 48, 56, 61, 66, 71, 109, 149, 151, 157,
+    0,
+    0,
+    1,
+    2,
+    3,
+    4,
+    5,
+    6,
+    9,
+    15,
+    18,
+    23,
+    28,
+    31,
+    35,
+    42,
+    48,
+    56,
+    61,
+    66,
+    71,
+    109,
+    149,
+    151,
+    157,
 ];
 
 // The numbers of words: as many as keys, with none among them; then the others.

@@ -1,6 +1,6 @@
 -- Laws of `tabled`: the list f i, f (i + 1), .. up to f (m - 1), as a loop from i to m sees it; and what a test keeps of the numbers from i on.
 use mathlib.Core.Path.{_≡_, refl, sym, ap, ap₂, _∙_}
-use mathlib.Core.Bool.{Bool, false, cond}
+use mathlib.Core.Bool.{Bool, true, false, cond}
 use mathlib.Core.Logic.{inl, inr, ⊎-elim}
 use mathlib.Core.List.{List, [], _∷_, _++_, map}
 use Prim.Native.Nat.{ℕ, zero, suc, _+_, _-_, _≤_, _<_}
@@ -11,9 +11,9 @@ use lib.Dec.{eqb}
 use lib.IntN.{ℤ}
 use lib.ListN.{length, getD, take, length-map, List·getD-map}
 use lib.Seq.{length-take-le, getD-take, ext-getD}
-use Rattle.scope.specs.Lists.{keep, tabled}
+use Rattle.scope.specs.Lists.{all, keep, tabled}
 use Rattle.basics.specs.Each.{In}
-use Rattle.basics.specs.Tests.{test}
+use Rattle.basics.specs.Tests.{and-left, and-right, test}
 use Rattle.scope.specs.Layout.{residueIn, bracketIn, tablesIn, bracketsField, residuesField}
 
 pub tabled-at : {A : Type 0} (f : ℕ → A) (i m : ℕ) → i < m → tabled f i (m - i) ≡ f i ∷ tabled f (i + 1) (m - (i + 1))
@@ -116,3 +116,13 @@ module _ (bs : List ℕ) (ns : List ℤ) where
   pub brackets-many : length (tablesIn bs ns .brackets) ≡ bracketsField bs
   unfolding tablesIn
   brackets-many = length-tabled (bracketIn bs ns) 0 (bracketsField bs)
+
+-- ---- a rule over numbers is one test, computed over all of them
+pub all-tabled : (f : ℕ → Bool) (i n : ℕ) → all f (tabled (λ x. x) i n) ≡ true → (j : ℕ) → i ≤ j → j < i + n → f j ≡ true
+unfolding all tabled
+all-tabled f i zero e j h l = absurd (omega arith)
+all-tabled f i (suc n) e j h l = go (eqb i j) refl (λ g. all-tabled f (i + 1) n (and-right (f i) (all f (tabled (λ x. x) (i + 1) n)) e) j g (omega arith))
+  where
+    go : (t : Bool) → eqb i j ≡ t → (i + 1 ≤ j → f j ≡ true) → f j ≡ true
+    go true q ih = ap f (sym (eqb-true i j q)) ∙ and-left (f i) (all f (tabled (λ x. x) (i + 1) n)) e
+    go false q ih = ih (let z = eqb-false i j q in omega (arith, z))

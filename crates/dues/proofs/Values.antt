@@ -23,7 +23,7 @@ use Rattle.sheet.specs.Rows.{textTo}
 use Rattle.dues.specs.Ranks.{code, lowest}
 use Rattle.dues.specs.First.{lowest-append}
 use Rattle.dues.specs.Lines.{deepRank, overRank, wideRank, barredRank, digitsRank, partCodes}
-use Rattle.dues.specs.Steps.{isShortRule, isRuleName, keyCodes, nameCodes, textCodes, of-value}
+use Rattle.dues.specs.Steps.{isRuleName, keyCodes, nameCodes, textCodes, of-value}
 
 -- ---- what is due of a text, by the code k of its key
 module _ (m k i : ℕ) (t : List ℕ) where
@@ -44,7 +44,7 @@ module _ (m k i : ℕ) (t : List ℕ) where
 
 -- nothing is due of no text
 no-text : (k i a : ℕ) → textCodes k i a [] ≡ []
-unfolding isShortRule isRuleName sameFolded tooDeep
+unfolding isRuleName sameFolded tooDeep
 no-text k i a = rw (and-false (eqb k 0), and-false (eqb k 1 || eqb k 2))
 
 -- ---- the code of a mass out of range

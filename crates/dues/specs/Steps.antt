@@ -22,12 +22,10 @@ use Rattle.dues.specs.Lines.{deepRank, overRank, wideRank, barredRank, d
 use Rattle.dues.specs.Met.{mins, lowest-below, lowest-min, lowest-two, low, low-two, p5, p6, p7, p8, p9, part-low}
 
 -- "CoMKP, CoMUP or their long names"
-unfoldable pub isShortRule : List ℕ → Bool
-isShortRule t = sameFolded (bytes "CoMKP") t || sameFolded (bytes "CoMUP") t
-
 unfoldable pub isRuleName : List ℕ → Bool
 isRuleName t =
-    isShortRule t
+    sameFolded (bytes "CoMKP") t
+    || sameFolded (bytes "CoMUP") t
     || sameFolded (bytes "ColocaliseModificationsOfKnownPosition") t
     || sameFolded (bytes "ColocaliseModificationsOfUnknownPosition") t
 
@@ -83,7 +81,7 @@ not-here : (q : Part ℕ) → q .label ≡ none → notHere q ≡ barred q
 not-here q e = rw e (or-false (barred q))
 
 barred-is : (q : Part ℕ) → barred q ≡ (leb (keyCode Formula) (keyCode (q .key)) || bareRule q)
-unfolding isShortRule isRuleName
+unfolding isRuleName
 barred-is q = ap (λ t. t || isRule q) (barred-keys (q .key))
 
 -- ---- the lower of several, in another order

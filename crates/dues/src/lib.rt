@@ -17,7 +17,7 @@ ghost use Rattle.values.specs.Says.{IsValue, coded};
 ghost use Rattle.labels.specs.Says.{IsLabel};
 ghost use Rattle.dues.specs.Ranks.{code, lowest, noCode, numberAt};
 ghost use Rattle.dues.specs.Lines.{deepRank, partCodes, labelCodes};
-ghost use Rattle.dues.specs.Steps.{isShortRule, isRuleName, textCodes};
+ghost use Rattle.dues.specs.Steps.{isRuleName, textCodes};
 ghost use Rattle.dues.specs.Found.{ValueFound, LabelFound};
 
 // how many places there are for each rank
@@ -99,7 +99,7 @@ pub fn value_due(line: &[u8], least: usize, at: usize, v: Value) -> usize
     ensures { λ r. ⌜ ((q : Part ℕ) → IsValue (now (line .entry)) at v q → r ≡ lowest least (partCodes q)) ⌝ }
 {
     let key = v.key;
-    let a = due_if(least, FORMULA <= keywords::key_code(key), BARRED, at);
+    let a = due_if(least, FORMULA <= words::key_code(key), BARRED, at);
     if v.code == Value::TEXT {
         return text_due(line, a, at, v);
     }
@@ -116,7 +116,7 @@ fn text_due(line: &[u8], least: usize, at: usize, v: Value) -> usize
     let to = v.to;
     let a = deep_due(least, v.deep);
     let b = due_if(a, Tables::TEXT < to - from, OVER, at);
-    let code = keywords::key_code(key);
+    let code = words::key_code(key);
     if code == NO_KEY {
         return due_if(b, is_rule(line, from, to), BARRED, at);
     }
@@ -137,33 +137,21 @@ fn deep_due(least: usize, deep: usize) -> usize
     due(least, DEEP, deep - 1)
 }
 
-// Whether the text from `from` to `to` is CoMKP, CoMUP or one of their long names, which all begin with a C.
+// Whether the text from `from` to `to` is CoMKP, CoMUP or one of their long names.
 fn is_rule(line: &[u8], from: usize, to: usize) -> bool
     requires { ⌜ (from ≤ to) × (to ≤ length (now line)) ⌝ }
     ensures { λ r. ⌜ r ≡ isRuleName (part from (to - from) (now (line .entry))) ⌝ }
 {
-    if from == to {
-        return false;
-    }
-    if classes::upper(line[from]) != b'C' {
-        return false;
-    }
-    match to - from {
-        5 => is_short_rule(line, from),
-        38 => classes::key_at(line, from, b"ColocaliseModificationsOfKnownPosition"),
-        40 => classes::key_at(line, from, b"ColocaliseModificationsOfUnknownPosition"),
-        _ => false,
-    }
-}
-
-fn is_short_rule(line: &[u8], from: usize) -> bool
-    requires { ⌜ from + 5 ≤ length (now line) ⌝ }
-    ensures { λ r. ⌜ r ≡ isShortRule (part from 5 (now (line .entry))) ⌝ }
-{
-    if classes::key_at(line, from, b"CoMKP") {
+    if words::is(words::COMKP, line, from, to) {
         return true;
     }
-    classes::key_at(line, from, b"CoMUP")
+    if words::is(words::COMUP, line, from, to) {
+        return true;
+    }
+    if words::is(words::LONG_COMKP, line, from, to) {
+        return true;
+    }
+    words::is(words::LONG_COMUP, line, from, to)
 }
 
 // Whether digits only, and some, stand from `from` to `to`.
@@ -194,14 +182,8 @@ fn is_link(line: &[u8], from: usize, to: usize) -> bool
     requires { ⌜ (from ≤ to) × (to ≤ length (now line)) ⌝ }
     ensures { λ r. ⌜ r ≡ isLink (part from (to - from) (now (line .entry))) ⌝ }
 {
-    if to - from < 2 {
-        return false;
-    }
-    if classes::key_at(line, from, b"XL") {
+    if words::begins(words::XL, line, from, to) {
         return true;
     }
-    if to - from == 6 {
-        return classes::key_at(line, from, b"BRANCH");
-    }
-    false
+    words::is(words::BRANCH, line, from, to)
 }

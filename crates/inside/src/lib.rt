@@ -284,7 +284,7 @@ fn first_refers(count: usize, before: bool, here: bool) -> bool
 fn is_info(key: Key) -> bool
     ensures { λ r. ⌜ r ≡ eqb (keyCode key) (keyCode Key.Info) ⌝ }
 {
-    keywords::key_code(key) == keywords::key_code(Key::Info)
+    words::key_code(key) == words::key_code(Key::Info)
 }
 
 fn is_reference(code: u8) -> bool
@@ -353,7 +353,7 @@ fn store_part(parts: &mut [u16], masses: &mut [i64], stored: bool, m: usize, v: 
             parts,
             m,
             value_code(v.code),
-            keywords::key_code(key),
+            words::key_code(key),
             v.decimals,
             text_place(v.code, v.from),
             text_place(v.code, v.to),

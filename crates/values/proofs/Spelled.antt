@@ -15,7 +15,7 @@ use Rattle.scope.specs.declared.grammar.Key.the-variants.{NoKey}
 use Rattle.scope.specs.Bytes.{colon, sameFolded}
 use Rattle.scope.specs.Keys.{spell, keys, keyAmong, keyOf, written, keyCode}
 use Rattle.scope.specs.Lists.{given}
-use Rattle.keywords.specs.KeyWords.{keyFound}
+use Rattle.words.specs.Words.{keyFound}
 
 among : (P : Key → Type 0) (ks : List Key) (t : List ℕ) (k : Key) → Each P ks → keyAmong ks t ≡ some k → P k × (sameFolded (spell k) t ≡ true)
 unfolding keyAmong

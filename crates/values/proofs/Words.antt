@@ -16,7 +16,7 @@ use Rattle.scope.specs.Layout.{referenceCode}
 use Rattle.scope.specs.Line.{reference}
 use Rattle.scope.specs.Lists.{none?, part}
 use Rattle.scope.specs.Content.{textStep, Context, begin, inText, hashed, lost, going, valueEnd, textEnd, unlabelled, innerStep}
-use Rattle.keywords.specs.KeyWords.{keyFound}
+use Rattle.words.specs.Words.{keyFound}
 use Rattle.values.specs.declared.ValueAt.{ValueAt}
 use Rattle.values.specs.declared.ValueAt.the-variants.{Stuck, Read}
 use Rattle.values.specs.Says.{ValueSays}

@@ -15,7 +15,7 @@ use Rattle.scope.specs.Lists.{part}
 use Rattle.scope.specs.Content.{isPlain, Context, Content, valueEnd}
 use Rattle.scope.specs.Reading.{Held, stuck}
 use Rattle.scope.specs.Refusals.{least, tooDeep}
-use Rattle.keywords.specs.KeyWords.{keyFound}
+use Rattle.words.specs.Words.{keyFound}
 use Rattle.classes.specs.Runs.{span}
 use Rattle.values.specs.Says.{through, coded, IsValue}
 use Rattle.values.specs.declared.Form.{Form}

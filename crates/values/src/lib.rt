@@ -175,7 +175,7 @@ fn key_before(line: &[u8], at: usize, end: usize) -> Key
         return Key::NoKey;
     }
     if line[end] == b':' {
-        return keywords::key_in(line, at, end);
+        return words::key_in(line, at, end);
     }
     Key::NoKey
 }

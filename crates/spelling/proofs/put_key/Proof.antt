@@ -1,72 +1,48 @@
--- The spelling of each key by its code: the prefixes. Assumes nothing.
+-- Nothing where there is no key; else the letters of its word, copied from the table, and a colon. Assumes nothing.
+use mathlib.Core.Path.{refl, sym, _∙_}
 use native.Mathlib.Omega.{arith}
-use Rattle.scope.specs.Keys.{written, spell, keys}
-use Rattle.figures.proofs.Storing.{puts-of, puts-within, puts-none}
-use Rattle.spelling.proofs.Spelled.{spelled}
-use Rattle.figures.proofs.Digits.{up}
 use borrow.Author.Needs.{needs}
+use Rattle.scope.specs.Keys.{spell, keys}
+use Rattle.scope.specs.Lists.{flat}
+use Rattle.words.specs.Words.{words}
+use Rattle.words.proofs.Table.{key-few-words, word-within, word-there}
+use Rattle.spelling.proofs.Spelled.{none-first, none-past, short, puts-key}
 use Rattle.spelling.proofs.put_key.Statement.{statement}
 use Rattle.spelling.proofs.put_key.Tie as tie
 
-put-key-word-requires : tie.Need-put-key-word-requires
-put-key-word-requires c κs =
-    let no = c .before .match .rest in
-    (up _ 7 (up _ 6 (up _ 5 (up _ 4 (up _ 3 (up _ 2 (up _ 1 (up _ 0 (omega arith) (no .0 .0 .0 .0 .0 .0 .0 .1)) (no .0 .0 .0 .0 .0 .0 .1)) (no .0 .0 .0 .0 .0 .1)) (no .0 .0 .0 .0 .1)) (no .0 .0 .0 .1)) (no .0 .0 .1)) (no .0 .1)) (no .1), omega arith)
-
 returns : tie.Need-returns
-unfolding written spell keys
-returns c =
-    let w = c .match .keys1 in
-    puts-of (spelled _ 0 w) (puts-within (omega arith) (puts-none _ _))
+returns c = none-first (c .if1 .taken)
 
 returns-2 : tie.Need-returns-2
-unfolding written spell keys
-returns-2 c =
-    let w = c .before .before in
-    puts-of (spelled _ 1 (w .before .before .before .match .keys2)) (puts-within (omega arith) (w .word .ensures))
+returns-2 c = none-past (c .if2 .taken)
+
+copy-requires : tie.Need-copy-requires
+unfolding words spell keys flat
+copy-requires c κs =
+    let e = c .before .before in
+    let i = e .before .before in
+    let few = i .if2 .left in (
+      word-within (key-few-words few) (e .before .start .ensures) (e .size .ensures) refl,
+      omega (arith, i .before .before .before .pre, e .size .ensures, short (i .before .if1 .left) few),
+    )
+
+put-requires : tie.Need-put-requires
+put-requires c κs =
+    let p = c .before .before .before in
+    let e = p .before .before .before in
+    let i = e .before .before in
+    omega (arith, p .copy .ensures .near, i .before .before .before .pre, e .size .ensures, short (i .before .if1 .left) (i .if2 .left))
 
 returns-3 : tie.Need-returns-3
-unfolding written spell keys
+unfolding words spell keys flat
 returns-3 c =
-    let w = c .before .before in
-    puts-of (spelled _ 2 (w .before .before .before .match .keys3)) (puts-within (omega arith) (w .word2 .ensures))
-
-returns-4 : tie.Need-returns-4
-unfolding written spell keys
-returns-4 c =
-    let w = c .before .before in
-    puts-of (spelled _ 3 (w .before .before .before .match .keys4)) (puts-within (omega arith) (w .word3 .ensures))
-
-returns-5 : tie.Need-returns-5
-unfolding written spell keys
-returns-5 c =
-    let w = c .before .before in
-    puts-of (spelled _ 4 (w .before .before .before .match .keys5)) (puts-within (omega arith) (w .word4 .ensures))
-
-returns-6 : tie.Need-returns-6
-unfolding written spell keys
-returns-6 c =
-    let w = c .before .before in
-    puts-of (spelled _ 5 (w .before .before .before .match .keys6)) (puts-within (omega arith) (w .word5 .ensures))
-
-returns-7 : tie.Need-returns-7
-unfolding written spell keys
-returns-7 c =
-    let w = c .before .before in
-    puts-of (spelled _ 6 (w .before .before .before .match .keys7)) (puts-within (omega arith) (w .word6 .ensures))
-
-returns-8 : tie.Need-returns-8
-unfolding written spell keys
-returns-8 c =
-    let w = c .before .before in
-    puts-of (spelled _ 7 (w .before .before .before .match .keys8)) (puts-within (omega arith) (w .word7 .ensures))
+    let u = c .before .before in
+    let p = u .before .before .before .before in
+    let e = p .before .before .before in
+    let i = e .before .before in
+    let few = i .if2 .left in
+    puts-key (i .before .if1 .left) few (word-there (key-few-words few) (e .before .start .ensures) (e .size .ensures) refl) (e .size .ensures) (p .copy .ensures) (u .put .ensures)
 
 pub put-key-spec : {M : Type 1} → statement M
 put-key-spec =
-    tie.close
-    (tie.spec
-    (λ c. search needs) (λ c κs. search needs) (λ c. search needs) (λ c κs. search needs) (λ c. search needs) (λ c κs. search needs)
-    (λ c. search needs) (λ c κs. search needs) (λ c. search needs) (λ c κs. search needs) (λ c. search needs) (λ c κs. search needs)
-    (λ c. search needs) (λ c κs. search needs) put-key-word-requires returns (λ c. search needs) returns-2 (λ c. search needs) returns-3
-    (λ c. search needs) returns-4 (λ c. search needs) returns-5 (λ c. search needs) returns-6 (λ c. search needs) returns-7 (λ c. search needs)
-    returns-8 (λ c. search needs) (λ c. search needs))
+    tie.close (tie.spec returns returns-2 (λ c κs. search needs) (λ c κs. search needs) (λ c. search needs) copy-requires put-requires (λ c. search needs) returns-3)

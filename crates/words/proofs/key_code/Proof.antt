@@ -1,8 +1,8 @@
 use borrow.Author.Needs.{needs}
-use Rattle.keywords.proofs.key_code.Statement.{statement}
-use Rattle.keywords.proofs.key_code.Tie as tie
-use Rattle.keywords.proofs.key_code.Reads as reads
-use Rattle.keywords.proofs.key_code.Lts as lts
+use Rattle.words.proofs.key_code.Statement.{statement}
+use Rattle.words.proofs.key_code.Tie as tie
+use Rattle.words.proofs.key_code.Reads as reads
+use Rattle.words.proofs.key_code.Lts as lts
 
 returns : tie.Need-returns
 returns c = rw (c .enum-told .given .1)

@@ -29,7 +29,7 @@ use Rattle.basics.specs.Choice.{branch}
 use Rattle.reading_laws.specs.Acts.{ways, each-mode, act-rule, someWay, endsTerm, waits}
 use Rattle.reading_laws.specs.Kept.{reading-whole-from, put-by, digit-by}
 use Rattle.basics.specs.Each.{each-last, Each, each-append, each-map, each-one, each-two}
-use Rattle.accepted_laws.specs.Within.{Byte, Stands}
+use Rattle.accepted_laws.specs.Within.{Byte, StoodAt}
 use Rattle.accepted_laws.specs.Inside.{PartShape, PartsShape, Carried, InnerKeeps, ContentKeeps, inner-step}
 
 -- ---- the order of a line: where a residue was read, and where no count was
@@ -78,7 +78,7 @@ pub record BracketShape {P : Type 0} (n : ℕ) (k : Bracket P) : Type 0 where
   pub some-part : 0 < length (k .parts)
   pub parts : Each PartShape (k .parts)
   pub lone : Each (λ p. isReference (p .value) ≡ true → length (k .parts) ≡ 1) (k .parts)
-  pub stands : Stands (k .kind) (k .first) (k .last) n
+  pub stands : StoodAt (k .kind) (k .first) (k .last) n
   pub uncounted : isUnknown (k .kind) ≡ false → k .counted ≡ none
   pub single : k .counted ≡ none → k .count ≡ 1
 
@@ -118,15 +118,15 @@ unfolding upper
 upper-byte b h = branch Byte (isLower b) (omega arith) h
 
 -- one residue more leaves brackets where they stand
-stands-more : (k : Kind) (first last n : ℕ) → Stands k first last n → Stands k first last (n + 1)
+stands-more : (k : Kind) (first last n : ℕ) → StoodAt k first last n → StoodAt k first last (n + 1)
 stands-more k first last n s =
     record { behind = s .behind; group = s .group; ordered = s .ordered; inside = omega (arith, s .inside); first-is = s .first-is; last-is = s .last-is }
 
-stands-new : (k : Kind) (a n : ℕ) → a ≤ n → Stands k (positionOf k n a) (positionOf k n n) n
+stands-new : (k : Kind) (a n : ℕ) → a ≤ n → StoodAt k (positionOf k n a) (positionOf k n n) n
 stands-new k a n h = record { behind = n; group = a; ordered = h; inside = le-refl n; first-is = refl; last-is = refl }
 
 -- one at the front stands there whatever its kind turns out to be
-stands-term : (k : Kind) (first last n : ℕ) → k ≡ Unknown → Stands k first last n → Stands NTerm first last n
+stands-term : (k : Kind) (first last n : ℕ) → k ≡ Unknown → StoodAt k first last n → StoodAt NTerm first last n
 stands-term k first last n e s =
     record {
       behind = s .behind;

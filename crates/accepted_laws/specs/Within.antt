@@ -61,7 +61,7 @@ pub record PartWithin {P : Type 0} (p : Part P) : Type 0 where
   pub label : OfGiven LabelWithin (p .label)
 
 -- where a bracket of this kind was read, in a line with n residues: behind so many of them, and in a group that began at one of these
-pub record Stands (k : Kind) (first last n : ℕ) : Type 0 where
+pub record StoodAt (k : Kind) (first last n : ℕ) : Type 0 where
   pub behind : ℕ
   pub group : ℕ
   pub ordered : group ≤ behind
@@ -74,7 +74,7 @@ pub record BracketWithin {P : Type 0} (n : ℕ) (k : Bracket P) : Type 0 where
   pub few-parts : length (k .parts) ≤ partLimit
   pub some-count : 0 < k .count
   pub few-counts : k .count ≤ countLimit
-  pub stands : Stands (k .kind) (k .first) (k .last) n
+  pub stands : StoodAt (k .kind) (k .first) (k .last) n
   pub one-copy : isUnknown (k .kind) ≡ false → k .count ≡ 1
   pub one-labelled : isLabelled k ≡ true → k .count ≡ 1
   pub one-label : length (namesOf k) ≤ 1
@@ -91,8 +91,8 @@ pub record Within {P : Type 0} (l : Line P) : Type 0 where
   pub few-copies : length (floaters l) ≤ copyLimit
 
 -- ---- positions are inside
-pub first-few : (k : Kind) (first last n : ℕ) → Stands k first last n → first ≤ n + 1
+pub first-few : (k : Kind) (first last n : ℕ) → StoodAt k first last n → first ≤ n + 1
 first-few k first last n s = omega (arith, s .first-is, position-few k (s .behind) (s .group) (s .ordered), s .inside)
 
-pub last-few : (k : Kind) (first last n : ℕ) → Stands k first last n → last ≤ n + 1
+pub last-few : (k : Kind) (first last n : ℕ) → StoodAt k first last n → last ≤ n + 1
 last-few k first last n s = omega (arith, s .last-is, position-few k (s .behind) (s .behind) (le-refl (s .behind)), s .inside)

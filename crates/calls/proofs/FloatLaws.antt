@@ -15,7 +15,7 @@ use Rattle.scope.specs.Answers.{Said, good, refuses, saysCount, counts, floater
 use Rattle.areas.specs.Floats.{FloatersAre}
 use Rattle.positions.proofs.Found.{floaters-many}
 use Rattle.calls.specs.Floating.{floatersSaid, FloatersSay}
-use Rattle.calls.specs.Held.{whyNot, Held}
+use Rattle.calls.specs.Held.{whyNot, Grounds}
 use Rattle.calls.proofs.Laws.{refused-law, answers}
 
 module _ (bs : List ℕ) (ns : List ℤ) (brs cps : List ℕ) where
@@ -43,7 +43,7 @@ module _ (bs : List ℕ) (ns : List ℤ) (brs cps : List ℕ) where
     pub no-floaters : {w : ℕ} → w ≡ whyNot bs ns → (w ≡ 0 → ⊥) → FloatersSay bs ns brs cps (Refused w 0) brs cps
     no-floaters {w} e n = said-so (Refused w 0) brs cps {s = refuses w 0} (long-both ∙ sym (refused-law bs ns e n (λ t. good (floaterCount t)))) refl refl refl
 
-    pub floaters-found : {n : ℕ} {b c brs′ cps′ : List ℕ} → Held bs ns → FloatersAre bs ns n b c → brs′ ≡ take n b ++ drop n brs
+    pub floaters-found : {n : ℕ} {b c brs′ cps′ : List ℕ} → Grounds bs ns → FloatersAre bs ns n b c → brs′ ≡ take n b ++ drop n brs
         → cps′ ≡ take n c ++ drop n cps → FloatersSay bs ns brs cps (Is n) brs′ cps′
     floaters-found {n} {b} {c} {brs′} {cps′} held a p q =
         said-so (Is n) brs′ cps′ {s = good n} (long-both ∙ answers (λ t. good (floaterCount t)) held ∙ ap good (sym (a .many))) refl

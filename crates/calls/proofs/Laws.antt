@@ -22,7 +22,7 @@ use Rattle.masses.specs.declared.Weight.{Weight}
 use Rattle.masses.specs.declared.Weight.the-variants.{Total, Lacks}
 use Rattle.masses.specs.Weights.{weightOf, saysWeight, weight-said}
 use Rattle.positions.specs.Marked.{Filled}
-use Rattle.calls.specs.Held.{whyNot, Held}
+use Rattle.calls.specs.Held.{whyNot, Grounds}
 
 -- ---- 13 and 14
 pub short-bytes : (bs : List ℕ) (ns : List ℤ) → length bs < bytesSize → true ≡ tooShort bs ns
@@ -56,12 +56,12 @@ neither true b e = absurd (omega arith)
 neither false true e = (refl, refl)
 neither false false e = absurd (omega arith)
 
-pub held-of : (bs : List ℕ) (ns : List ℤ) → tooShort bs ns ≡ false → areTables bs ns ≡ true → Held bs ns
+pub held-of : (bs : List ℕ) (ns : List ℤ) → tooShort bs ns ≡ false → areTables bs ns ≡ true → Grounds bs ns
 held-of bs ns a e =
     let h = tables-held bs ns e .1 in
     record { long = a; tables = e; bounds = h .bounds; few = h .tables-within .few-copies; below = demands .demand-3-in bs ns e .total-below }
 
-pub held : {bs : List ℕ} {ns : List ℤ} {w : ℕ} → w ≡ whyNot bs ns → w ≡ 0 → Held bs ns
+pub held : {bs : List ℕ} {ns : List ℤ} {w : ℕ} → w ≡ whyNot bs ns → w ≡ 0 → Grounds bs ns
 unfolding whyNot
 held {bs} {ns} {w} e z = let n = neither (tooShort bs ns) (areTables bs ns) (sym e ∙ z) in held-of bs ns (n .0) (n .1)
 
@@ -76,7 +76,7 @@ unfolding whyNot
 refused-law bs ns {w} e n f = refused-so (tooShort bs ns) (areTables bs ns) w (f (tablesIn bs ns)) e n
 
 -- what the call answers by itself
-pub answers : {A : Type 0} {bs : List ℕ} {ns : List ℤ} (f : Tables → Said A) → Held bs ns → overTables bs ns f ≡ f (tablesIn bs ns)
+pub answers : {A : Type 0} {bs : List ℕ} {ns : List ℤ} (f : Tables → Said A) → Grounds bs ns → overTables bs ns f ≡ f (tablesIn bs ns)
 answers {A} {bs} {ns} f h = rw (h .long, h .tables)
 
 -- ---- the total
@@ -132,7 +132,7 @@ booked-rest t p {w} {m} e f = go (eqb (lacking t) 0) (sym e ∙ f)
     go false q = absurd (let z : _≡_ {A = ℕ} 0 1 = cc in omega arith)
 
 -- only areas that hold tables are booked from
-pub booked-held : (bs : List ℕ) (ns : List ℤ) (p : List ℕ) → good (tt {0}) ≡ books bs ns p → Held bs ns
+pub booked-held : (bs : List ℕ) (ns : List ℤ) (p : List ℕ) → good (tt {0}) ≡ books bs ns p → Grounds bs ns
 booked-held bs ns p e = let n = go (tooShort bs ns) (areTables bs ns) e in held-of bs ns (n .0) (n .1)
   where
     go : (a b : Bool) → good (tt {0}) ≡ cond a (refuses 13 0) (cond b (bookable (tablesIn bs ns) p) (refuses 14 0)) → (a ≡ false) × (b ≡ true)

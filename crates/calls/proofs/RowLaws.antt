@@ -13,7 +13,7 @@ use Rattle.scope.specs.Positions.{rowsFrom, rowsOf}
 use Rattle.scope.specs.Answers.{good, refuses, rowsSaid, rowsAfter}
 use Rattle.areas.specs.Floats.{listsIn}
 use Rattle.positions.specs.Marked.{Filled}
-use Rattle.calls.specs.Held.{whyNot, Held}
+use Rattle.calls.specs.Held.{whyNot, Grounds}
 use Rattle.calls.specs.Rows.{RowsTable}
 use Rattle.calls.proofs.Laws.{refused-law, answers}
 
@@ -26,7 +26,7 @@ no-tables bs ns {room} {w} h e n out q =
     let k : rowLimit ≤ length out = subst (λ z. rowLimit ≤ z) (sym q) h in
     rw (le-ltb (length out) rowLimit k) (refused-law bs ns e n (λ t. good (length (rowsOf t))))
 
-pub table-ready : {bs : List ℕ} {ns : List ℤ} {room k : ℕ} {old tab : List ℕ} → rowLimit ≤ room → Held bs ns → rowLimit ≤ length old → k ≤ copyLimit
+pub table-ready : {bs : List ℕ} {ns : List ℤ} {room k : ℕ} {old tab : List ℕ} → rowLimit ≤ room → Grounds bs ns → rowLimit ≤ length old → k ≤ copyLimit
     → Filled bs ns k old tab → RowsTable bs ns room tab k
 table-ready {bs} {ns} {room} {k} {old} {tab} h held long few f =
     record { roomy = h; held = held; sized = record { room = subst (λ z. rowLimit ≤ z) (sym (f .kept)) long; few = few }; table = f .table }

@@ -19,7 +19,7 @@ unfoldable pub whyNot : List ℕ → List ℤ → ℕ
 whyNot bs ns = cond (tooShort bs ns) 13 (cond (areTables bs ns) 0 14)
 
 -- what holds where neither is
-pub record Held (bs : List ℕ) (ns : List ℤ) : Type 0 where
+pub record Grounds (bs : List ℕ) (ns : List ℤ) : Type 0 where
   pub long : tooShort bs ns ≡ false
   pub tables : areTables bs ns ≡ true
   pub bounds : Bounds bs ns

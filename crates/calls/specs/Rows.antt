@@ -10,12 +10,12 @@ use Rattle.scope.specs.declared.answers.Count.the-variants.{Is, Refused}
 use Rattle.scope.specs.Limits.{rowLimit}
 use Rattle.scope.specs.Answers.{refuses, rowsSaid}
 use Rattle.areas.specs.Floats.{Sized, TableIs}
-use Rattle.calls.specs.Held.{Held}
+use Rattle.calls.specs.Held.{Grounds}
 
 -- so many floaters, and their table
 pub record RowsTable (bs : List ℕ) (ns : List ℤ) (room : ℕ) (tab : List ℕ) (k : ℕ) : Type 0 where
   pub roomy : rowLimit ≤ room
-  pub held : Held bs ns
+  pub held : Grounds bs ns
   pub sized : Sized tab k
   pub table : TableIs bs ns tab k
 

@@ -120,20 +120,20 @@ referred-iff : (x : List ℕ) (ks : List (Bracket ℕ)) → In x (referredTo ks)
 referred-iff x ks = in-flat (λ y. x ≡ y) referredBy (RefersTo x) (refers-iff x) ks
 
 -- an element with its reason
-pub record Found {A : Type 0} (l : List A) (P : A → Type 0) : Type 0 where
+pub record Witness {A : Type 0} (l : List A) (P : A → Type 0) : Type 0 where
   pub it : A
   pub is-in : In it l
   pub so : P it
 
-some-found : {A : Type 0} (P : A → Type 0) (l : List A) → Some P l ↔ Found l P
+some-found : {A : Type 0} (P : A → Type 0) (l : List A) → Some P l ↔ Witness l P
 some-found P [] = ((λ v. absurd v), (λ v. v .is-in))
 some-found {A} P (x ∷ l) = (there (some-found P l .0), λ v. back (some-found P l .1) (v .it) (v .is-in) (v .so))
   where
-    there : (Some P l → Found l P) → P x ⊎ Some P l → Found (x ∷ l) P
+    there : (Some P l → Witness l P) → P x ⊎ Some P l → Witness (x ∷ l) P
     there ih (inl v) = record { it = x; is-in = inl refl; so = v }
     there ih (inr v) = let r = ih v in record { it = r .it; is-in = inr (r .is-in); so = r .so }
 
-    back : (Found l P → Some P l) → (y : A) → (y ≡ x) ⊎ In y l → P y → P x ⊎ Some P l
+    back : (Witness l P → Some P l) → (y : A) → (y ≡ x) ⊎ In y l → P y → P x ⊎ Some P l
     back ih y (inl e) v = inl (subst P e v)
     back ih y (inr q) v = inr (ih (record { it = y; is-in = q; so = v }))
 

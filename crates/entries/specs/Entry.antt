@@ -14,7 +14,7 @@ use Rattle.scope.specs.Layout.{tablesIn}
 use Rattle.scope.specs.Positions.{floaters}
 use Rattle.scope.specs.Register.{signedText, totalText, printed}
 use Rattle.areas.specs.Bounds.{Bounds}
-use Rattle.order_laws.specs.Ranks.{Ordered}
+use Rattle.order_laws.specs.Ranks.{InOrder}
 use Rattle.masses.specs.declared.Weight.{Weight}
 use Rattle.masses.specs.declared.Weight.the-variants.{Total, Lacks}
 use Rattle.figures.specs.Written.{Puts, decimalMost}
@@ -84,7 +84,7 @@ entryLimit = decimalMost + (acceptedMost + 1)
 -- what is known of the tables of an accepted line, and need not be looked for in them
 pub record Known (bs : List ℕ) (ns : List ℤ) : Type 0 where
   pub bounds : Bounds bs ns
-  pub ordered : Ordered (tablesIn bs ns)
+  pub ordered : InOrder (tablesIn bs ns)
   pub short : length (canonical (tablesIn bs ns)) ≤ lineLimit
 
 -- so many copies float, where the line is accepted

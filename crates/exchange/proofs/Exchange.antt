@@ -6,7 +6,7 @@ use Prim.Native.Nat.{ℕ, zero, suc, _<_, _≤_, _+_, _-_}
 use native.Mathlib.Omega.{arith}
 use lib.Dec.{eqb, ltb}
 use borrow.Author.Tests.{eqb-true, eqb-false, eq-eqb, ne-eqb, ltb-true, ltb-false}
-use Rattle.exchange.specs.Where.{Full, But, Same, Clear, Grown, Shifting}
+use Rattle.exchange.specs.Where.{Full, But, Same, FreeBut, Grown, Shifting}
 
 pub same? : (s t : ℕ) → (s ≡ t) ⊎ (s ≡ t → ⊥)
 same? s t = go (eqb s t) refl
@@ -31,7 +31,7 @@ pub put-cases : (s x t : ℕ) (w v : ℕ → ℕ) → Put s x w v → ((t ≡ s)
 put-cases s x t w v p = ⊎-elim (λ e. inl (e, ap v e ∙ p .here)) (λ n. inr (n, p .else t n)) (same? t s)
 
 module _ (ok : ℕ → ℕ → Bool) where
-  pub fill : (k j x : ℕ) (w v : ℕ → ℕ) → But ok k j w → ok j x ≡ true → Clear k j w x → Put j x w v → Full ok k v
+  pub fill : (k j x : ℕ) (w v : ℕ → ℕ) → But ok k j w → ok j x ≡ true → FreeBut k j w x → Put j x w v → Full ok k v
   fill k j x w v b o c p = record { fits = fits; apart = apart }
     where
       fits : (s : ℕ) → s < k → ok s (v s) ≡ true
@@ -43,8 +43,8 @@ module _ (ok : ℕ → ℕ → Bool) where
           (λ a. ⊎-elim (λ d. absurd (c s hs (a .0) (sym (a .1) ∙ e ∙ d .1))) (λ d. b .apart s t hs ht (a .0) (d .0) (sym (a .1) ∙ e ∙ d .1)) (put-cases j x t w v p))
           (put-cases j x s w v p)
 
-  pub move : (k j s x : ℕ) (w v : ℕ → ℕ) → But ok k j w → s < k → (s ≡ j → ⊥) → ok s x ≡ true → Clear k j w x → Put s x w v
-      → But ok k j v × Clear k j v (w s)
+  pub move : (k j s x : ℕ) (w v : ℕ → ℕ) → But ok k j w → s < k → (s ≡ j → ⊥) → ok s x ≡ true → FreeBut k j w x → Put s x w v
+      → But ok k j v × FreeBut k j v (w s)
   move k j s x w v b hs sj o c p = (record { fits = fits; apart = apart }, clear)
     where
       fits : (t : ℕ) → t < k → (t ≡ j → ⊥) → ok t (v t) ≡ true
@@ -56,7 +56,7 @@ module _ (ok : ℕ → ℕ → Bool) where
           (λ a. ⊎-elim (λ d. absurd (c t ht nt (sym (a .1) ∙ e ∙ d .1))) (λ d. b .apart t u ht hu nt nu (sym (a .1) ∙ e ∙ d .1)) (put-cases s x u w v p))
           (put-cases s x t w v p)
 
-      clear : Clear k j v (w s)
+      clear : FreeBut k j v (w s)
       clear t ht nt e = ⊎-elim
           (λ a. c s hs sj (sym e ∙ a .1))
           (λ a. a .0 (b .apart t s ht hs nt sj (sym (a .1) ∙ e)))
@@ -82,7 +82,7 @@ module _ (ok : ℕ → ℕ → Bool) where
       other : order a ≡ j → ⊥
       other e = let z : a ≡ 0 = g .apart a 0 (h .inside) (g .some) (e ∙ sym (g .root)) in omega arith
 
-      m : But ok k j v × Clear k j v (w (order a))
+      m : But ok k j v × FreeBut k j v (w (order a))
       m = move k j (order a) x w v (h .but) (g .high a (h .inside)) other (h .may) (h .clear) p
 
       kept : (b : ℕ) → b ≤ parent a → v (order b) ≡ w₀ (order b)
@@ -99,7 +99,7 @@ module _ (ok : ℕ → ℕ → Bool) where
     λ s l. h .same s l ∙ sym (p .else s (λ e. omega (arith, g .low 0 (g .some)))),
   )
 
-  pub shift-start : (k f j : ℕ) (w : ℕ → ℕ) (n : ℕ) (order : ℕ → ℕ) (a x : ℕ) → But ok k j w → a < n → ok (order a) x ≡ true → Clear k j w x
+  pub shift-start : (k f j : ℕ) (w : ℕ → ℕ) (n : ℕ) (order : ℕ → ℕ) (a x : ℕ) → But ok k j w → a < n → ok (order a) x ≡ true → FreeBut k j w x
       → Shifting ok k f j w n order a x w
   shift-start k f j w n order a x b i o c = record { but = b; clear = c; may = o; inside = i; kept = λ b l. refl; same = λ s l. refl }
 

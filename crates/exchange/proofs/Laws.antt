@@ -11,13 +11,13 @@ use lib.ListN.{length, getD, set}
 use lib.Seq.{getD-set-same, getD-set-other}
 use borrow.Author.Tests.{ltb-true, lt-ltb, eqb-true, eqb-false, eq-eqb, ne-eqb}
 use Rattle.scope.specs.Limits.{copyLimit, positionLimit}
-use Rattle.exchange.specs.Where.{Full, But, Same, Clear, Grown}
+use Rattle.exchange.specs.Where.{Full, But, Same, FreeBut, Grown}
 use Rattle.exchange.proofs.Exchange.{Put, Shut, same?, below?, pigeon, grow-step, grow-start, stuck, shift-start, fill, full-but, take-over}
 use Rattle.exchange.specs.Order.{Verdict, Tried}
 use Rattle.exchange.proofs.Least.{same-more, Nothing}
 use Rattle.areas.specs.Floats.{Sized}
 use Rattle.basics.specs.Tests.{and-left}
-use Rattle.exchange.specs.Table.{place, mayIn, Stands, Open, Owned, Walkable, Growing, Grew, GrownIn, Shifted, Taken, Augmentable, Augmented, Ready}
+use Rattle.exchange.specs.Table.{place, mayIn, StandsAt, Open, Owned, Walkable, Growing, Grew, GrownIn, Shifted, Taken, Augmentable, Augmented, Ready}
 
 pub put-set : (l : List ℕ) (i x : ℕ) → i < length l → Put i x (place l) (place (set l i x))
 put-set l i x h = record { here = getD-set-same l i x 0 h; else = λ t n. getD-set-other l i t x 0 n }
@@ -43,12 +43,12 @@ yes {b} A B e v = rw e at v
 pub no : {b : Bool} (A B : Type 0) → b ≡ false → Verdict b A B → B
 no {b} A B e v = rw e at v
 
-pub stands-law : (w : List ℕ) (but x t : ℕ) → (t ≡ but → ⊥) → Stands w but x t (eqb (place w t) x)
+pub stands-law : (w : List ℕ) (but x t : ℕ) → (t ≡ but → ⊥) → StandsAt w but x t (eqb (place w t) x)
 stands-law w but x t n = verdict-eq (place w t) x ((t ≡ but → ⊥) × (place w t ≡ x)) ((t ≡ but → ⊥) → place w t ≡ x → ⊥) (λ e. (n, e)) (λ m h e. m e)
 
 pub open-law : (tab w : List ℕ) (k j s x r : ℕ) → mayIn tab s x ≡ true → Owned w k j x r → Open tab w k j s x (eqb r k)
 open-law tab w k j s x r o h =
-    verdict-eq r k ((mayIn tab s x ≡ true) × Clear k j (place w) x) (mayIn tab s x ≡ true → (t : ℕ) × (t < k) × (t ≡ j → ⊥) × (place w t ≡ x))
+    verdict-eq r k ((mayIn tab s x ≡ true) × FreeBut k j (place w) x) (mayIn tab s x ≡ true → (t : ℕ) × (t < k) × (t ≡ j → ⊥) × (place w t ≡ x))
     (λ e. (o, λ t l n q. h .before t (omega arith) n q))
     (λ n z. let l : r < k = omega (arith, h .inside) in (r, l, h .other l, h .stands l))
 
@@ -174,7 +174,7 @@ module _ (tab : List ℕ) (k f j : ℕ) (w : List ℕ) (ready : Augmentable tab 
           back = s .grown .back;
         }
 
-    pub searching-found : (x : ℕ) (r : List ℕ) → h < n → mayIn tab (place order h) x ≡ true → Clear k j (place w) x → Shifted w n order parent h x r
+    pub searching-found : (x : ℕ) (r : List ℕ) → h < n → mayIn tab (place order h) x ≡ true → FreeBut k j (place w) x → Shifted w n order parent h x r
         → Full (mayIn tab) k (place r) × Same f (place w) (place r)
     searching-found x r l o c m = m (mayIn tab) k f j (s .grown) (shift-start (mayIn tab) k f j (place w) n (place order) h x (ready .but) l o c)
 

@@ -7,7 +7,7 @@ use lib.Dec.{eqb, ltb}
 use lib.ListN.{getD}
 use Rattle.scope.specs.Limits.{copyLimit, positionLimit}
 use Rattle.areas.specs.Floats.{Sized}
-use Rattle.exchange.specs.Where.{Full, But, Same, Clear, Grown, Shifting}
+use Rattle.exchange.specs.Where.{Full, But, Same, FreeBut, Grown, Shifting}
 use Rattle.exchange.specs.Order.{Verdict}
 
 abbrev pub place : List ℕ → ℕ → ℕ
@@ -17,8 +17,8 @@ place l s = getD l s 0
 unfoldable pub mayIn : List ℕ → ℕ → ℕ → Bool
 mayIn tab s x = ltb x positionLimit && eqb (getD tab (s * positionLimit + x) 0) 1
 
-abbrev pub Stands : List ℕ → ℕ → ℕ → ℕ → Bool → Type 0
-Stands w but x t r = Verdict r ((t ≡ but → ⊥) × (place w t ≡ x)) ((t ≡ but → ⊥) → place w t ≡ x → ⊥)
+abbrev pub StandsAt : List ℕ → ℕ → ℕ → ℕ → Bool → Type 0
+StandsAt w but x t r = Verdict r ((t ≡ but → ⊥) × (place w t ≡ x)) ((t ≡ but → ⊥) → place w t ≡ x → ⊥)
 
 -- the first other than `but` that stands at x, or k
 pub record Owned (w : List ℕ) (k but x r : ℕ) : Type 0 where
@@ -30,7 +30,7 @@ pub record Owned (w : List ℕ) (k but x r : ℕ) : Type 0 where
 -- s may stand at x and nobody but j does
 abbrev pub Open : List ℕ → List ℕ → ℕ → ℕ → ℕ → ℕ → Bool → Type 0
 Open tab w k j s x r =
-    Verdict r ((mayIn tab s x ≡ true) × Clear k j (place w) x) (mayIn tab s x ≡ true → (t : ℕ) × (t < k) × (t ≡ j → ⊥) × (place w t ≡ x))
+    Verdict r ((mayIn tab s x ≡ true) × FreeBut k j (place w) x) (mayIn tab s x ≡ true → (t : ℕ) × (t < k) × (t ≡ j → ⊥) × (place w t ≡ x))
 
 -- everywhere that s may stand somebody but j does
 abbrev pub Taken : List ℕ → ℕ → ℕ → List ℕ → ℕ → Type 0
@@ -39,7 +39,7 @@ Taken tab k j w s = (x : ℕ) → mayIn tab s x ≡ true → (t : ℕ) × (t < k
 -- a position of s where nobody but j stands, or positionLimit
 pub record Spare (tab w : List ℕ) (k j s r : ℕ) : Type 0 where
   pub may : r < positionLimit → mayIn tab s r ≡ true
-  pub clear : r < positionLimit → Clear k j (place w) r
+  pub clear : r < positionLimit → FreeBut k j (place w) r
   pub taken : positionLimit ≤ r → Taken tab k j w s
 
 abbrev pub Listed : List ℕ → ℕ → ℕ → Bool → Type 0

@@ -18,8 +18,8 @@ abbrev pub Same : ℕ → (ℕ → ℕ) → (ℕ → ℕ) → Type 0
 Same f w v = (s : ℕ) → s < f → w s ≡ v s
 
 -- nobody but j stands at x
-abbrev pub Clear : ℕ → ℕ → (ℕ → ℕ) → ℕ → Type 0
-Clear k j w x = (t : ℕ) → t < k → (t ≡ j → ⊥) → w t ≡ x → ⊥
+abbrev pub FreeBut : ℕ → ℕ → (ℕ → ℕ) → ℕ → Type 0
+FreeBut k j w x = (t : ℕ) → t < k → (t ≡ j → ⊥) → w t ≡ x → ⊥
 
 -- the floaters that may have to move: the first is j, without a place; each other stands where an earlier one may
 pub record Grown (ok : ℕ → ℕ → Bool) (k f j : ℕ) (w : ℕ → ℕ) (n : ℕ) (order parent : ℕ → ℕ) : Type 0 where
@@ -34,7 +34,7 @@ pub record Grown (ok : ℕ → ℕ → Bool) (k f j : ℕ) (w : ℕ → ℕ) (n 
 -- on the way from a to the first: a is to take x, where nobody stands now
 pub record Shifting (ok : ℕ → ℕ → Bool) (k f j : ℕ) (w₀ : ℕ → ℕ) (n : ℕ) (order : ℕ → ℕ) (a x : ℕ) (w : ℕ → ℕ) : Type 0 where
   pub but : But ok k j w
-  pub clear : Clear k j w x
+  pub clear : FreeBut k j w x
   pub may : ok (order a) x ≡ true
   pub inside : a < n
   pub kept : (b : ℕ) → b ≤ a → w (order b) ≡ w₀ (order b)

@@ -10,7 +10,7 @@ ghost use Rattle.scope.specs.Limits.{copyLimit, rowLimit, positionLimit};
 ghost use Rattle.areas.specs.Floats.{Sized};
 ghost use Rattle.exchange.specs.Where.{Full};
 ghost use Rattle.exchange.specs.Order.{Tried, Sought, Lowered, Settled, Next, IsFirst};
-ghost use Rattle.exchange.specs.Table.{place, mayIn, Stands, Owned, Open, Spare, Listed, Growing, Grew, Walkable, Shifted, Augmentable, Augmented, Ready};
+ghost use Rattle.exchange.specs.Table.{place, mayIn, StandsAt, Owned, Open, Spare, Listed, Growing, Grew, Walkable, Shifted, Augmentable, Augmented, Ready};
 
 // Where each floater stands.
 pub struct Standing {
@@ -43,7 +43,7 @@ fn may(tab: &[u8], s: usize, x: usize) -> bool
 // Does t, other than `but`, stand at x?
 fn stands(w: Standing, but: usize, x: usize, t: usize) -> bool
     requires { ⌜ t < copyLimit ⌝ }
-    ensures { λ r. ⌜ Stands (w .at) but x t r ⌝ }
+    ensures { λ r. ⌜ StandsAt (w .at) but x t r ⌝ }
 {
     if t == but {
         return false;

@@ -544,13 +544,13 @@ count-run i j (b ∷ ds) ks l x e =
     ∙ digits-run (i + 1) i ds ks l (value b) k (and-right (isDigit b) (every isDigit ds) e)
     ∙ ap (λ z. outside Counting (leading ks (l ++ (times (valueOn z ds) i k ∷ [])))) (omega arith))
 
-pub record Noted (i : ℕ) (m : Mode) (bs ws : Brackets) (l : List ℕ) (ks : Brackets) : Type 0 where
+pub record RunNoted (i : ℕ) (m : Mode) (bs ws : Brackets) (l : List ℕ) (ks : Brackets) : Type 0 where
   pub mode : Mode
   pub run : InRun mode
   pub path : lineRun i (outside m (leading bs ws)) l ≡ outside mode (leading bs (ws ++ ks))
 
 counted-mark : (i : ℕ) (o : Option (List ℕ)) (m : Mode) (bs ws : Brackets) (x : Inside) → goodCount o ≡ true → Waited i m bs ws x
-    → Noted i m bs ws (printSquare x ++ printCount o) (counting (i + length (printSquare x)) o (bracketAt Unknown 0 0 i x) ∷ [])
+    → RunNoted i m bs ws (printSquare x ++ printCount o) (counting (i + length (printSquare x)) o (bracketAt Unknown 0 0 i x) ∷ [])
 counted-mark i none m bs ws x g w = record { mode = w .mode; run = bare-run (w .mode) (w .bare); path = ap (lineRun i (outside m (leading bs ws))) (append-nil (printSquare x)) ∙ w .path }
 counted-mark i (some ds) m bs ws x g w =
     let ws₁ : Brackets = ws ++ (bracketAt Unknown 0 0 i x ∷ []) in
@@ -563,11 +563,11 @@ counted-mark i (some ds) m bs ws x g w =
           (line-then j (outside (w .mode) (leading bs ws₁)) (outside Caret (leading bs ws₁)) _ caret ds (go j (w .mode) Caret (leading bs ws₁) caret (bare-caret (w .mode) (w .bare))) (count-run (j + 1) i ds bs ws x g));
     }
 
-mark-run : (i : ℕ) (x : Marked) (m : Mode) (bs ws : Brackets) → InRun m → goodMarked x ≡ true → Noted i m bs ws (printMarked x) (meansMarked i x ∷ [])
+mark-run : (i : ℕ) (x : Marked) (m : Mode) (bs ws : Brackets) → InRun m → goodMarked x ≡ true → RunNoted i m bs ws (printMarked x) (meansMarked i x ∷ [])
 mark-run i x m bs ws w g =
     counted-mark i (x .count) m bs ws (x .inside) (and-right (goodInside false true (x .inside)) (goodCount (x .count)) g) (waits i m bs ws (x .inside) w (and-left (goodInside false true (x .inside)) (goodCount (x .count)) g))
 
-marks-on : (i : ℕ) (xs : List Marked) (x : Marked) (m : Mode) (bs ws : Brackets) → every goodMarked xs ≡ true → Noted i m bs ws (printMarked x) (meansMarked i x ∷ []) → Noted i m bs ws (flat printMarked (x ∷ xs)) (along printMarked meansMarked i (x ∷ xs))
+marks-on : (i : ℕ) (xs : List Marked) (x : Marked) (m : Mode) (bs ws : Brackets) → every goodMarked xs ≡ true → RunNoted i m bs ws (printMarked x) (meansMarked i x ∷ []) → RunNoted i m bs ws (flat printMarked (x ∷ xs)) (along printMarked meansMarked i (x ∷ xs))
 marks-on i [] x m bs ws g w =
     record {
       mode = w .mode;

@@ -27,14 +27,14 @@ use Rattle.store.specs.Filled.{FrontFits}
 use Rattle.store.proofs.NotedLine.{within, bracket-noted}
 use Rattle.held.specs.declared.Seen.{Seen}
 use Rattle.held.specs.Tells.{Tells}
-use Rattle.held.specs.Held.{FrontHeld, Held, BracketThere, BracketHeld, BracketSeen, RestHeld}
+use Rattle.held.specs.Held.{FrontHeld, HeldFrom, BracketThere, BracketHeld, BracketSeen, RestHeld}
 use Rattle.held.proofs.Joins.{Joins, joins-pair, tells-joined, tells-then}
 use Rattle.held.proofs.Places.{at-nil, at-joins, at-padded}
 use Rattle.held.proofs.Upto.{held-joins, Upto, upto-start, upto-room, upto-next, upto-texts, upto-end}
 
 -- ---- the brackets from k on, their texts behind t others
 abbrev pub BracketsHeld : List ℕ → List ℤ → ℕ → ℕ → List (Bracket ℕ) → Type 0
-BracketsHeld bytes numbers k t ks = Held bytes numbers (rowAt k) t (massAt k 0) (rows t ks) (flat bracketTexts ks) (flat numberRow ks)
+BracketsHeld bytes numbers k t ks = HeldFrom bytes numbers (rowAt k) t (massAt k 0) (rows t ks) (flat bracketTexts ks) (flat numberRow ks)
 
 module _ (bytes : List ℕ) (numbers : List ℤ) (k t : ℕ) where
   no-brackets : BracketsHeld bytes numbers k t []

@@ -15,7 +15,7 @@ use Rattle.store.specs.PartPut.{textLength, labelLength, offsetOf, rowFrom, Row
 use Rattle.store.proofs.Copies.{part-length}
 use Rattle.held.specs.declared.Seen.{Seen}
 use Rattle.held.specs.Tells.{Tells}
-use Rattle.held.specs.Held.{Held, PartHeld, PartSeen}
+use Rattle.held.specs.Held.{HeldFrom, PartHeld, PartSeen}
 use Rattle.held.proofs.Joins.{tells-as, tells-itself, tells-both, Joins}
 use Rattle.held.proofs.Places.{at-nil, at-joins, at-cons}
 use Rattle.held.proofs.Upto.{held-joins}
@@ -69,7 +69,7 @@ abbrev pub massOf : Part ℕ → ℤ
 massOf p = massIn (p .value)
 
 abbrev pub PartsHeld : List ℕ → List ℤ → ℕ → ℕ → ℕ → List (Part ℕ) → Type 0
-PartsHeld bytes numbers k j t ps = Held bytes numbers (partAt k j) t (massAt k j) (partRows t ps) (flat packed ps) (map massOf ps)
+PartsHeld bytes numbers k j t ps = HeldFrom bytes numbers (partAt k j) t (massAt k j) (partRows t ps) (flat packed ps) (map massOf ps)
 
 module _ (bytes : List ℕ) (numbers : List ℤ) (k j t : ℕ) where
   pub no-parts : PartsHeld bytes numbers k j t []
@@ -77,9 +77,9 @@ module _ (bytes : List ℕ) (numbers : List ℤ) (k j t : ℕ) where
   no-parts = record { rows-at = at-nil bytes (partAt k j); texts-at = at-nil bytes (textsAt + t); masses-at = at-nil numbers (massAt k j) }
 
   pub parts-joins : (p : Part ℕ) (ps : List (Part ℕ)) (u : ℕ) → u ≡ t + length (packed p)
-      → Joins (Held bytes numbers (partAt k j) t (massAt k j) (partRow t p) (packed p) (massOf p ∷ [])) (PartsHeld bytes numbers k (j + 1) u ps) (PartsHeld bytes numbers k j t (p ∷ ps))
+      → Joins (HeldFrom bytes numbers (partAt k j) t (massAt k j) (partRow t p) (packed p) (massOf p ∷ [])) (PartsHeld bytes numbers k (j + 1) u ps) (PartsHeld bytes numbers k j t (p ∷ ps))
   unfolding partRows flat
   parts-joins p ps u e =
-      subst (λ v. Joins (Held bytes numbers (partAt k j) t (massAt k j) (partRow t p) (packed p) (massOf p ∷ [])) (PartsHeld bytes numbers k (j + 1) v ps) (PartsHeld bytes numbers k j t (p ∷ ps))) (sym e)
+      subst (λ v. Joins (HeldFrom bytes numbers (partAt k j) t (massAt k j) (partRow t p) (packed p) (massOf p ∷ [])) (PartsHeld bytes numbers k (j + 1) v ps) (PartsHeld bytes numbers k j t (p ∷ ps))) (sym e)
       (held-joins bytes numbers (partAt k j) t (massAt k j) (partAt k (j + 1)) (t + length (packed p)) (massAt k (j + 1)) (partRow t p) (packed p) (massOf p ∷ [])
       (partRows (t + length (packed p)) ps) (flat packed ps) (map massOf ps) (omega arith) refl (omega arith))

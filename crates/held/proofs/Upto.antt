@@ -13,14 +13,14 @@ use Rattle.scope.specs.Layout.{textsAt}
 use Rattle.basics.specs.Lists.{flat-nil, flat-cons}
 use Rattle.sheet.proofs.FieldLaws.{Among}
 use Rattle.held.specs.Tells.{Tells}
-use Rattle.held.specs.Held.{Held}
+use Rattle.held.specs.Held.{HeldFrom}
 use Rattle.held.proofs.Joins.{Joins, joins-pair, Left, left-more, left-end}
 use Rattle.held.proofs.Places.{at-joins}
 
 -- ---- three pieces, and three behind them
 pub held-joins : (bytes : List ℕ) (numbers : List ℤ) (row t number row′ t′ number′ : ℕ) (a b : List ℕ) (c : List ℤ) (a′ b′ : List ℕ) (c′ : List ℤ)
     → row′ ≡ row + length a → t′ ≡ t + length b → number′ ≡ number + length c
-    → Joins (Held bytes numbers row t number a b c) (Held bytes numbers row′ t′ number′ a′ b′ c′) (Held bytes numbers row t number (a ++ a′) (b ++ b′) (c ++ c′))
+    → Joins (HeldFrom bytes numbers row t number a b c) (HeldFrom bytes numbers row′ t′ number′ a′ b′ c′) (HeldFrom bytes numbers row t number (a ++ a′) (b ++ b′) (c ++ c′))
 held-joins bytes numbers row t number row′ t′ number′ a b c a′ b′ c′ e f g =
     let r = at-joins bytes row row′ a a′ e in
     let x = at-joins bytes (textsAt + t) (textsAt + t′) b b′ (omega arith) in

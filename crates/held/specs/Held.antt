@@ -23,7 +23,7 @@ pub record FrontHeld (counts letters sections : List ℕ) (bytes : List ℕ) : T
   pub sections-at : At bytes sectionsAt (padded 0 residueLimit sections)
 
 -- ---- rows from a place on, texts behind t others, numbers from a place on
-pub record Held (bytes : List ℕ) (numbers : List ℤ) (row t number : ℕ) (rows texts : List ℕ) (masses : List ℤ) : Type 0 where
+pub record HeldFrom (bytes : List ℕ) (numbers : List ℤ) (row t number : ℕ) (rows texts : List ℕ) (masses : List ℤ) : Type 0 where
   pub rows-at : At bytes row rows
   pub texts-at : At bytes (textsAt + t) texts
   pub masses-at : At numbers number masses
@@ -31,7 +31,7 @@ pub record Held (bytes : List ℕ) (numbers : List ℤ) (row t number : ℕ) (ro
 -- ---- row m as part j of bracket k
 abbrev pub PartHeld : List ℕ → List ℕ → List ℤ → ℕ → ℕ → ℕ → ℕ → List ℕ → List ℤ → Type 0
 PartHeld line parts masses m k j t bytes numbers =
-    Held bytes numbers (partAt k j) t (massAt k j) (rowFrom parts m t) (textsFrom line parts m) (getD masses m (pos 0) ∷ [])
+    HeldFrom bytes numbers (partAt k j) t (massAt k j) (rowFrom parts m t) (textsFrom line parts m) (getD masses m (pos 0) ∷ [])
 
 pub record PartSeen (line parts : List ℕ) (masses : List ℤ) (m k j : ℕ) (bytes : List ℕ) (numbers : List ℤ) (seen r : Seen) : Type 0 where
   pub texts-are : r .texts ≡ seen .texts + (textLength parts m + labelLength parts m)
@@ -67,7 +67,7 @@ pub record BracketThere (line heads parts : List ℕ) (masses scores : List ℤ)
   pub numbers-long : numbersSize ≤ length numbers
 
 abbrev pub BracketHeld : ℕ → ℕ → Bracket ℕ → List ℕ → List ℤ → Type 0
-BracketHeld k t b bytes numbers = Held bytes numbers (rowAt k) t (massAt k 0) (bracketRow t b) (bracketTexts b) (numberRow b)
+BracketHeld k t b bytes numbers = HeldFrom bytes numbers (rowAt k) t (massAt k 0) (bracketRow t b) (bracketTexts b) (numberRow b)
 
 pub record BracketSeen (k : ℕ) (b : Bracket ℕ) (bytes : List ℕ) (numbers : List ℤ) (seen r : Seen) : Type 0 where
   pub texts-are : r .texts ≡ seen .texts + length (bracketTexts b)
@@ -76,4 +76,4 @@ pub record BracketSeen (k : ℕ) (b : Bracket ℕ) (bytes : List ℕ) (numbers :
 -- ---- zeros behind n brackets and t bytes of texts
 abbrev pub RestHeld : ℕ → ℕ → List ℕ → List ℤ → Type 0
 RestHeld n t bytes numbers =
-    Held bytes numbers (rowAt n) t (n * numberRowSize) (replicate ((bracketLimit - n) * rowSize) 0) (replicate (lineLimit - t) 0) (replicate ((bracketLimit - n) * numberRowSize) (pos 0))
+    HeldFrom bytes numbers (rowAt n) t (n * numberRowSize) (replicate ((bracketLimit - n) * rowSize) 0) (replicate (lineLimit - t) 0) (replicate ((bracketLimit - n) * numberRowSize) (pos 0))

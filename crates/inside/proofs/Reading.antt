@@ -32,7 +32,7 @@ use Rattle.inside.specs.declared.Next.{Next}
 use Rattle.inside.specs.declared.Next.the-variants.{Lost, Closed, More}
 use Rattle.inside.specs.declared.BracketAt.the-variants.{Stuck, Read}
 use Rattle.inside.specs.Says.{Opening, BracketFits, holding, SlotIs, PartsAre, Grows, Closes, BracketSays}
-use Rattle.inside.specs.Progress.{noParts, byteBehind, behindPart, Sofar, Reached, NextSays, NextFits, AtLabel}
+use Rattle.inside.specs.Progress.{noParts, byteBehind, behindPart, Sofar, Reached, NextPart, NextFits, AtLabel}
 use Rattle.values.proofs.Through.{through-end, through-byte, through-same, through-rest, through-going}
 use Rattle.inside.proofs.Lists.{length-snoc, few-names}
 use Rattle.inside.proofs.Tables.{grows-none}
@@ -176,7 +176,7 @@ module _ (line : List ℕ) (o : Opening) (from next : ℕ) (s : Parts) (before :
   ends x k e l i h g =
       w .on l i h g ∙ through-byte line l i h next (partEnd (holding o (before)) q) k ∙ ap (λ z. rest line (next + 1) (resume l i h next z)) e
 
-  when-over : length line ≤ next → NextSays line o from (Lost next) parts masses
+  when-over : length line ≤ next → NextPart line o from (Lost next) parts masses
   when-over k l i h g =
       let e : length line ≡ next = omega (arith, w .within) in
       w .on l i h g ∙ through-end line l i h next (partEnd (holding o (before)) q) k ∙ ap stuck e
@@ -210,11 +210,11 @@ module _ (line : List ℕ) (o : Opening) (from next : ℕ) (s : Parts) (before :
       }
 
   when-lost : next < length line → eqb (getD line next 0) (o .shut) ≡ false → (eqb (getD line next 0) bar && not (isReference (q .value))) ≡ false
-      → NextSays line o from (Lost next) parts masses
+      → NextPart line o from (Lost next) parts masses
   unfolding partEnd resume
   when-lost k e g l i h z = ends lost k (rw (e, g)) l i h z ∙ rest-dead line (next + 1) next
 
-  pub a-part : (shut : ℕ) (reference : Bool) (z : Next) → o .shut ≡ shut → reference ≡ isReference (q .value) → z ≡ behindPart line shut reference next s → NextSays line o from z parts masses
+  pub a-part : (shut : ℕ) (reference : Bool) (z : Next) → o .shut ≡ shut → reference ≡ isReference (q .value) → z ≡ behindPart line shut reference next s → NextPart line o from z parts masses
   unfolding behindPart byteBehind
   a-part shut reference z es er ez =
       let e : z ≡ behindPart line (o .shut) (isReference (q .value)) next s = ez ∙ ap (λ x. behindPart line x reference next s) (sym es) ∙ ap (λ x. behindPart line (o .shut) x next s) er in
@@ -228,7 +228,7 @@ module _ (line : List ℕ) (o : Opening) (from next : ℕ) (s : Parts) (before :
       (λ t. let p : z ≡ Lost next = e ∙ rw t in rw p (when-over (ltb-false next (length line) t)))
 
 -- ---- what one part more says of the bracket
-module _ (line : List ℕ) (o : Opening) (at : ℕ) (parts : List ℕ) (masses : List ℤ) (z : Next) (w : NextSays line o at z parts masses) where
+module _ (line : List ℕ) (o : Opening) (at : ℕ) (parts : List ℕ) (masses : List ℤ) (z : Next) (w : NextPart line o at z parts masses) where
   pub then-lost : (p : ℕ) → z ≡ Lost p → BracketSays line o (Stuck p) parts masses
   then-lost p e = rw e at w
 

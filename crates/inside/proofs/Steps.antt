@@ -31,7 +31,7 @@ use Rattle.labels.specs.Says.{IsLabel, ReadsLabel}
 use Rattle.inside.specs.declared.Parts.{Parts}
 use Rattle.inside.specs.declared.Next.{Next}
 use Rattle.inside.specs.Says.{Opening, PartsAre}
-use Rattle.inside.specs.Progress.{withValue, withLabel, behindPart, valueRow, Sofar, Reached, NextSays, NextFits, LabelFits, AtLabel}
+use Rattle.inside.specs.Progress.{withValue, withLabel, behindPart, valueRow, Sofar, Reached, NextPart, NextFits, LabelFits, AtLabel}
 use Rattle.inside.proofs.OnePart.{value-more, row-is, mass-is, label-more, named-row}
 use Rattle.inside.proofs.Tables.{part-stored, label-stored}
 use Rattle.inside.proofs.Reading.{reached, behind-label, a-part}
@@ -132,7 +132,7 @@ module _ (line : List ℕ) (o : Opening) (part at shut : ℕ) (stored : Bool) (m
 
   pub label-read : (r : Named) (v : ReadsLabel line (at + 1) r) (least : ℕ) (t : Parts) (parts′ : List ℕ) (z : Next)
       → parts′ ≡ cond stored (sets parts (labelAt m) (r .from ∷ r .to ∷ [])) parts → ((l : Label ℕ) → IsLabel line (l .at) r l → least ≡ lowest (s .least) (labelCodes part l))
-      → t ≡ withLabel s r least → z ≡ behindPart line shut reference (r .next) t → NextSays line o part z parts′ masses
+      → t ≡ withLabel s r least → z ≡ behindPart line shut reference (r .next) t → NextPart line o part z parts′ masses
   label-read r v least t parts′ z ep el et ez =
       let l = v .found in
       let i = v .is-label in

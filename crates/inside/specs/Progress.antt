@@ -97,10 +97,10 @@ pub record Reached (line : List ℕ) (o : Opening) (at : ℕ) (F : Context ℕ �
   pub within : at ≤ length line
   pub few : s .count ≤ at + 1
 
-abbrev pub NextSays : List ℕ → Opening → ℕ → Next → List ℕ → List ℤ → Type 0
-NextSays line o at (Lost p) parts masses = (l : Slot) (i : ℕ) (h : Held ℕ) → SlotIs o l → rest line (o .at) (inside l i h (begin (holding o []))) ≡ stuck p
-NextSays line o at (Closed next s) parts masses = Closes line o next s parts masses
-NextSays line o at (More next s) parts masses = Sofar line o next s parts masses × (at < next)
+abbrev pub NextPart : List ℕ → Opening → ℕ → Next → List ℕ → List ℤ → Type 0
+NextPart line o at (Lost p) parts masses = (l : Slot) (i : ℕ) (h : Held ℕ) → SlotIs o l → rest line (o .at) (inside l i h (begin (holding o []))) ≡ stuck p
+NextPart line o at (Closed next s) parts masses = Closes line o next s parts masses
+NextPart line o at (More next s) parts masses = Sofar line o next s parts masses × (at < next)
 
 -- what reading a part asks
 pub record NextFits (line : List ℕ) (at : ℕ) (refers labels room : Bool) (base : ℕ) (s : Parts) (parts : List ℕ) (masses : List ℤ) : Type 0 where

@@ -23,7 +23,7 @@ ghost use Rattle.scope.specs.Layout.{referenceCode};
 ghost use Rattle.sheet.specs.Rows.{partFields, partsRoom, massesRoom, sortOf};
 ghost use Rattle.sheet.specs.Fields.{labelAt};
 ghost use Rattle.inside.specs.Says.{Opening, BracketFits, BracketSays, PartsAre};
-ghost use Rattle.inside.specs.Progress.{noParts, withValue, withLabel, behindPart, notedCode, textPlace, valueRow, Sofar, NextSays, NextFits, AtLabel, LabelFits};
+ghost use Rattle.inside.specs.Progress.{noParts, withValue, withLabel, behindPart, notedCode, textPlace, valueRow, Sofar, NextPart, NextFits, AtLabel, LabelFits};
 
 // The parts of a bracket: how many, how many labels they have, whether all are INFO, whether the first is a reference, the score of the first label that has one (0
 // where none has, else one more than its decimals, or above all of these where it is out of range) in millionths, and the first refusal due.
@@ -101,7 +101,7 @@ fn next_part(
     s: Parts,
 ) -> Next
     requires { ⌜ NextFits (now line) at refers labels room base s (now parts) (now masses) ⌝ }
-    ensures { λ r. ⌜ ((from least : ℕ) (old : List ℕ) (masses₀ : List ℤ) → Sofar (now (line .entry)) (record { at = from; shut = shut; refers = refers; labels = labels; room = room; base = base; least = least; parts = old; masses = masses₀ }) at s (now (parts .entry)) (now (masses .entry)) → NextSays (now (line .entry)) (record { at = from; shut = shut; refers = refers; labels = labels; room = room; base = base; least = least; parts = old; masses = masses₀ }) at r (now (parts .exit)) (now (masses .exit))) ⌝ }
+    ensures { λ r. ⌜ ((from least : ℕ) (old : List ℕ) (masses₀ : List ℤ) → Sofar (now (line .entry)) (record { at = from; shut = shut; refers = refers; labels = labels; room = room; base = base; least = least; parts = old; masses = masses₀ }) at s (now (parts .entry)) (now (masses .entry)) → NextPart (now (line .entry)) (record { at = from; shut = shut; refers = refers; labels = labels; room = room; base = base; least = least; parts = old; masses = masses₀ }) at r (now (parts .exit)) (now (masses .exit))) ⌝ }
 {
     let first = may_refer(refers, s.count);
     let found = values::value_at(line, at, first);
@@ -137,7 +137,7 @@ fn labelled(
     s: Parts,
 ) -> Next
     requires { ⌜ LabelFits (now line) part at stored m s (now parts) ⌝ }
-    ensures { λ r. ⌜ ((o : Opening) (before : List (Part ℕ)) (q : Part ℕ) (masses : List ℤ) → AtLabel (now (line .entry)) o part at shut stored m reference s before q (now (parts .entry)) masses → NextSays (now (line .entry)) o part r (now (parts .exit)) masses) ⌝ }
+    ensures { λ r. ⌜ ((o : Opening) (before : List (Part ℕ)) (q : Part ℕ) (masses : List ℤ) → AtLabel (now (line .entry)) o part at shut stored m reference s before q (now (parts .entry)) masses → NextPart (now (line .entry)) o part r (now (parts .exit)) masses) ⌝ }
 {
     let found = labels::label_at(line, at + 1);
     match found {

@@ -22,7 +22,7 @@ use Rattle.reading_laws.specs.Bare.{same-bytes, same-numbers}
 use Rattle.basics.specs.Lists.{same-law}
 use Rattle.canonical_laws.specs.Proved as canonical-laws
 use Rattle.basics.specs.Tests.{both, neither}
-use Rattle.laws.specs.Demands.{bytesRead, numbersRead, writtenFrom, HoldTables, ReadsBack, Demand2}
+use Rattle.laws.specs.Demands.{bytesRead, numbersRead, writtenFrom, HoldTables, ReadsBack, LineDemand2}
 
 -- ---- 14
 reads-to : (o : Outcome) (l : Line ℕ) (bs : List ℕ) (ns : List ℤ) → o ≡ accepted l → bytesOf l ≡ bs → numbersOf l ≡ ns → readsTo o bs ns ≡ true
@@ -118,7 +118,7 @@ one-entry-in bs bs′ ns ns′ e e′ =
 no-longer : (s : List ℕ) (l : Line ℕ) → outcome s ≡ accepted l → (bs : List ℕ) (ns : List ℤ) → length (writtenFrom (bytesRead l bs) (numbersRead l ns)) ≤ length s
 no-longer s l e bs ns = subst (λ c. length c ≤ length s) (sym (read s l e bs ns .written)) (canonical-laws.laws .no-longer s l e)
 
-pub demand-2 : Demand2
+pub demand-2 : LineDemand2
 demand-2 =
     record {
       exactly-tables = λ bs ns. (some-line bs ns, are-tables bs ns);

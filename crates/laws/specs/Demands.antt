@@ -49,7 +49,7 @@ pub record ReadsBack (c : List ℕ) (bs : List ℕ) (ns : List ℤ) : Type 0 whe
   pub bytes : bytesRead line bs ≡ bs
   pub numbers : numbersRead line ns ≡ ns
 
-pub record Demand2 : Type 0 where
+pub record LineDemand2 : Type 0 where
   -- 14 is given exactly when no accepted line reads to the areas
   pub exactly-tables : (bs : List ℕ) (ns : List ℤ) → areTables bs ns ≡ true ↔ SomeLine bs ns
   -- an accepted line leaves its tables in any areas
@@ -77,7 +77,7 @@ listed t n = handedOut (floatingOf t) n freshListing
 abbrev pub many : {P : Type 0} → Line P → ℕ
 many t = length (placements (floatingOf t))
 
-pub record Demand3 {P : Type 0} (t : Line P) : Type 0 where
+pub record LineDemand3 {P : Type 0} (t : Line P) : Type 0 where
   -- "The listing hands out every allowed placement once, ascending": in as many requests as there are placements, and none in any later one
   pub every-allowed : (p : List ℕ) → In p (listed t (many t)) ↔ (allowed (floatingOf t) p ≡ true)
   pub ascending : Ascending (listed t (many t))
@@ -117,7 +117,7 @@ pub record SameAnswers {P Q : Type 0} (l : Line P) (t : Line Q) : Type 0 where
 
 -- ---- all of it
 pub record Demands : Type 1 where
-  pub demand-2 : Demand2
+  pub demand-2 : LineDemand2
   -- a call that takes tables answers, over areas that a line was read into, what it answers of the line's tables
   pub calls :
       {A : Type 0} (f : Tables → Said A) (s : List ℕ) (l : Line ℕ) → outcome s ≡ accepted l → (bs : List ℕ) (ns : List ℤ)
@@ -126,7 +126,7 @@ pub record Demands : Type 1 where
   pub fair : (s : List ℕ) (l : Line ℕ) → outcome s ≡ accepted l → Fair l × Fair (tablesOf l)
   pub limited : (s : List ℕ) (l : Line ℕ) → outcome s ≡ accepted l → Limited l × Limited (tablesOf l)
   -- of every accepted line, and of all tables that a call takes
-  pub demand-3 : (s : List ℕ) (l : Line ℕ) → outcome s ≡ accepted l → Demand3 l
-  pub demand-3-in : (bs : List ℕ) (ns : List ℤ) → areTables bs ns ≡ true → Demand3 (tablesIn bs ns)
+  pub demand-3 : (s : List ℕ) (l : Line ℕ) → outcome s ≡ accepted l → LineDemand3 l
+  pub demand-3-in : (bs : List ℕ) (ns : List ℤ) → areTables bs ns ≡ true → LineDemand3 (tablesIn bs ns)
   -- the tables in the areas answer for the line
   pub answers : (s : List ℕ) (l : Line ℕ) → outcome s ≡ accepted l → (bs : List ℕ) (ns : List ℤ) → SameAnswers l (tablesIn (bytesRead l bs) (numbersRead l ns))

@@ -21,13 +21,13 @@ use Rattle.placement_laws.specs.Terms.{Ascending, handedOut}
 use Rattle.placement_laws.specs.Laws as placing
 use Rattle.mass_laws.specs.Terms.{Fair, Limited}
 use Rattle.mass_laws.specs.Laws as masses
-use Rattle.laws.specs.Demands.{bytesRead, numbersRead, Demand3, SameAnswers, Demands}
+use Rattle.laws.specs.Demands.{bytesRead, numbersRead, LineDemand3, SameAnswers, Demands}
 use Rattle.laws.specs.Facts.{accepted-fair, accepted-limited, tables-fair, tables-limited}
 use Rattle.laws.specs.Bare.{rows-bare, labile-bare}
 use Rattle.laws.specs.Areas
 
 -- ---- demand 3
-demand-3-of : {P : Type 0} (t : Line P) → Within t → Fair t → Limited t → Demand3 t
+demand-3-of : {P : Type 0} (t : Line P) → Within t → Fair t → Limited t → LineDemand3 t
 demand-3-of t w fair limited =
     let f = floatingOf t in
     let n = length (placements f) in
@@ -49,15 +49,15 @@ demand-3-of t w fair limited =
       rows-fit = layout.rows-fit t w;
     }
 
-demand-3 : (s : List ℕ) (l : Line ℕ) → outcome s ≡ accepted l → Demand3 l
+demand-3 : (s : List ℕ) (l : Line ℕ) → outcome s ≡ accepted l → LineDemand3 l
 demand-3 s l e = demand-3-of l (kept.accepted-within s l e) (accepted-fair s l e) (accepted-limited s l e)
 
-demand-3-in : (bs : List ℕ) (ns : List ℤ) → areTables bs ns ≡ true → Demand3 (tablesIn bs ns)
+demand-3-in : (bs : List ℕ) (ns : List ℤ) → areTables bs ns ≡ true → LineDemand3 (tablesIn bs ns)
 demand-3-in bs ns e =
     let h = layout.tables-held bs ns e in
     let l = h .0 in
     let r = h .1 .reads in
-    subst (λ t. Demand3 t) (sym (h .1 .tables))
+    subst (λ t. LineDemand3 t) (sym (h .1 .tables))
     (demand-3-of (tablesOf l) (kept.tables-within l (h .1 .within)) (tables-fair _ l r) (tables-limited _ l r))
 
 -- ---- the tables answer for the line

@@ -32,14 +32,14 @@ use Rattle.mass_laws.specs.Terms.{massLimit}
 use Rattle.mass_laws.specs.Sums.{share, share-else}
 use Rattle.mass_laws.specs.Shares.{put-none, put-cons}
 use Rattle.mass_laws.specs.Weights.{bookedAt, placed-is, placedMass, booked-share}
-use Rattle.masses.specs.Booking.{Held, Placed, CanBook, booked, CanPut, CanFloat, Put}
+use Rattle.masses.specs.Booking.{Kept, Placed, CanBook, booked, CanPut, CanFloat, Put}
 use Rattle.masses.proofs.Whole.{back}
 use Rattle.basics.specs.Wholes.{abs-add}
 use Rattle.masses.proofs.TallyLaws.{mass-small, few-copies}
 use Rattle.basics.specs.Choice.{by-test, branch}
 
 -- ---- one booking: a mass at position y
-module _ {l : List ℤ} {n : ℕ} (held : Held l n) (y : ℕ) (in-range : y < positionLimit) (m : ℤ) where
+module _ {l : List ℤ} {n : ℕ} (held : Kept l n) (y : ℕ) (in-range : y < positionLimit) (m : ℤ) where
   booked-at : {v : ℤ} → v ≡ getD l y (pos 0) +ℤ m → (x : ℕ) → getD (set l y v) x (pos 0) ≡ getD l x (pos 0) +ℤ cond (eqb y x) m (pos 0)
   booked-at {v} e x = by (ℕ-discrete y x)
     where
@@ -56,7 +56,7 @@ module _ {l : List ℤ} {n : ℕ} (held : Held l n) (y : ℕ) (in-range : y < po
   small-share h true = omega arith
   small-share h false = omega arith
 
-  pub held-booked : {v : ℤ} → natAbs m < massLimit → v ≡ getD l y (pos 0) +ℤ m → Held (set l y v) (n + 1)
+  pub held-booked : {v : ℤ} → natAbs m < massLimit → v ≡ getD l y (pos 0) +ℤ m → Kept (set l y v) (n + 1)
   held-booked {v} h e =
       record {
         whole = length-set l y v ∙ held .whole;
@@ -105,7 +105,7 @@ pub record Placing (bs : List ℕ) (ns : List ℤ) (n k : ℕ) (l : List ℤ) : 
   pub bounds : Bounds bs ns
   pub many : n ≡ bracketsField bs
   pub inside : k ≤ n
-  pub held : Held l k
+  pub held : Kept l k
   pub entry : (x : ℕ) → x < positionLimit → placedAt (tablesIn bs ns) x ≡ getD l x (pos 0) +ℤ bookings (tablesIn bs ns) x (tabled (bracketIn bs ns) k (n - k))
 
 pub placing-start : {bs : List ℕ} {ns : List ℤ} {n : ℕ} → Bounds bs ns → n ≡ bracketsField bs → Placing bs ns n 0 (replicate positionLimit (pos 0))
@@ -197,7 +197,7 @@ pub record Putting (l₀ : List ℤ) (at : List ℕ) (i c : ℕ) (m : ℤ) (end 
   pub small : Small m
   pub from : i ≤ j
   pub inside : j ≤ end
-  pub held : Held l (bracketLimit + j)
+  pub held : Kept l (bracketLimit + j)
   pub entry :
       (b : Bracket (Unit {0})) → massOr0 b ≡ m → (fs : List (Bracket (Unit {0}))) (x : ℕ) → x < positionLimit
       → getD l₀ x (pos 0) +ℤ putAt x (replicate c b ++ fs) (drop i at) ≡ getD l x (pos 0) +ℤ putAt x (replicate (c - (j - i)) b ++ fs) (drop j at)
@@ -251,7 +251,7 @@ module _ {l₀ : List ℤ} {at : List ℕ} {i c : ℕ} {m : ℤ} {end j : ℕ} {
         small = s .small;
         from = omega (arith, s .from);
         inside = omega arith;
-        held = subst (Held (set l y v)) (more j) (held-booked (s .held) y r m (s .small) g);
+        held = subst (Kept (set l y v)) (more j) (held-booked (s .held) y r m (s .small) g);
         entry = λ b q fs x p.
             turn h e b q fs x p ∙ sym (+ℤ-assoc (getD l x (pos 0)) (share y m x) (left b fs x))
             ∙ ap (λ z. z +ℤ left b fs x) (sym (booked-at (s .held) y r m g x));
@@ -303,7 +303,7 @@ module _ {l₀ : List ℤ} {at : List ℕ} {i c : ℕ} {m : ℤ} {end j : ℕ} {
   pub putting-end : {m′ : ℤ} → end ≤ j → m ≡ m′ → Put l₀ l at i c m′ end
   putting-end h read =
       record {
-        held = subst (λ n. Held l (bracketLimit + n)) same (s .held);
+        held = subst (λ n. Kept l (bracketLimit + n)) same (s .held);
         few = omega (arith, s .end-is);
         entry = λ b q fs x p. s .entry b (q ∙ sym read) fs x p ∙ ap (λ z. getD l x (pos 0) +ℤ z) (none-left h b fs x);
       }
@@ -359,7 +359,7 @@ pub record Floating (bs : List ℕ) (ns : List ℤ) (at : List ℕ) (n k : ℕ) 
   pub bounds : Bounds bs ns
   pub many : n ≡ bracketsField bs
   pub inside : k ≤ n
-  pub held : Held l (bracketLimit + i)
+  pub held : Kept l (bracketLimit + i)
   pub few : i ≤ copyLimit
   pub entry :
       (x : ℕ) → x < positionLimit

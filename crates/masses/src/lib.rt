@@ -254,8 +254,8 @@ fn book(l: &mut [i64; Ledger::POSITIONS], position: u16, m: i64)
     }
 }
 
-// c copies of a mass, at the placement's positions from i on. How many copies are put then.
-fn put(
+// c copies of a mass, at the placement's positions from i on. How many copies are booked then.
+fn book_copies(
     l: &mut [i64; Ledger::POSITIONS],
     at: [u16; Placement::COPIES],
     i: usize,
@@ -276,7 +276,7 @@ fn put(
 }
 
 // The floating copies of bracket k.
-fn put_bracket(
+fn book_bracket(
     bytes: &[u8],
     numbers: &[i64],
     k: usize,
@@ -292,7 +292,7 @@ fn put_bracket(
         return i;
     }
     let m = mass_or_0(bytes, numbers, k);
-    put(l, at, i, c, m)
+    book_copies(l, at, i, c, m)
 }
 
 // The ledger of a placement.
@@ -306,7 +306,7 @@ pub fn ledger_of(bytes: &[u8], numbers: &[i64], p: Placement) -> Ledger
     let mut k: usize = 0;
     let mut i: usize = 0;
     while k < n {
-        i = put_bracket(bytes, numbers, k, &mut l.at, at, i);
+        i = book_bracket(bytes, numbers, k, &mut l.at, at, i);
         k += 1;
     }
     l

@@ -8,16 +8,16 @@ use Rattle.scope.specs.Reading.{holds, reading}
 use Rattle.scope.specs.Refusals.{accepted, outcome}
 use Rattle.scope.specs.Tables.{tablesOf}
 use Rattle.reading_laws.specs.Taken.{taken}
-use Rattle.order_laws.specs.Ranks.{orderedb, Ordered}
+use Rattle.order_laws.specs.Ranks.{orderedb, InOrder}
 use Rattle.order_laws.specs.Climbs as climbs
 use Rattle.order_laws.specs.Reader as reader
 
 -- of every line of the order, limits apart
-pub read-ordered : (s : List ℕ) (l : Line ℕ) → reading s ≡ holds l → Ordered l
+pub read-ordered : (s : List ℕ) (l : Line ℕ) → reading s ≡ holds l → InOrder l
 read-ordered s l e = reader.read-ordered s l e
 
 -- of every accepted line
-pub accepted-ordered : (s : List ℕ) (l : Line ℕ) → outcome s ≡ accepted l → Ordered l
+pub accepted-ordered : (s : List ℕ) (l : Line ℕ) → outcome s ≡ accepted l → InOrder l
 accepted-ordered s l e = reader.read-ordered s l (taken s l e .reads)
 
 -- places do not matter

@@ -29,5 +29,5 @@ rising q (k ∷ ks) = leb q (rank k) && rising (rank k) ks
 unfoldable pub orderedb : {P : Type 0} → Line P → Bool
 orderedb l = rising 0 (l .brackets)
 
-abbrev pub Ordered : {P : Type 0} → Line P → Type 0
-Ordered l = orderedb l ≡ true
+abbrev pub InOrder : {P : Type 0} → Line P → Type 0
+InOrder l = orderedb l ≡ true

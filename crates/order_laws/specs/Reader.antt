@@ -24,7 +24,7 @@ use Rattle.basics.specs.Choice.{branch}
 use Rattle.basics.specs.Each.{Each, each-append, each-last, each-map, each-one}
 use Rattle.basics.specs.Tests.{both-of}
 use Rattle.reading_laws.specs.Kept.{reading-whole, put-by, digit-by}
-use Rattle.order_laws.specs.Ranks.{rankStep, rankOf, rank, Ordered, orderedb}
+use Rattle.order_laws.specs.Ranks.{rankStep, rankOf, rank, InOrder, orderedb}
 use Rattle.order_laws.specs.Climbs.{Climbs, higher, level-climbs, climbs-append, climbs-rising}
 use Rattle.order_laws.specs.Modes.{heightOf, rank-height, height, keeps, act-keeps}
 
@@ -129,8 +129,8 @@ module _ {P : Type 0} where
   step-rises i (inside s at h c) b w = resume-rises s at i h (innerStep i c b) w
 
 -- ---- a line that is read whole
-pub read-ordered : (s : List ℕ) (l : Line ℕ) → reading s ≡ holds l → Ordered l
+pub read-ordered : (s : List ℕ) (l : Line ℕ) → reading s ≡ holds l → InOrder l
 unfolding orderedb
 read-ordered s l e =
     let w = reading-whole StateRises step-rises (record { brackets = omega arith; run = λ f. tt }) s l e in
-    subst Ordered (w .line) (climbs-rising 0 (w .held .brackets) _ (w .keeps .brackets))
+    subst InOrder (w .line) (climbs-rising 0 (w .held .brackets) _ (w .keeps .brackets))

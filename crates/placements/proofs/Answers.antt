@@ -22,7 +22,7 @@ use Rattle.exchange.proofs.Laws.{full-small}
 use Rattle.basics.specs.Choice.{pick-true, pick-false}
 use Rattle.basics.specs.Tests.{both-of, both, falsely}
 use Rattle.placements.specs.declared.Next.{Next}
-use Rattle.placements.specs.Steps.{Zeros, Stand, Small, entries, found, Moves}
+use Rattle.placements.specs.Steps.{Zeros, Stand, ArePositions, entries, found, Moves}
 use Rattle.placement_laws.specs.Entries.{zeros-at, at-zeros}
 use Rattle.placements.proofs.Right.{allowed-right, right-allowed}
 use Rattle.placements.proofs.Found.{first-found, next-found}
@@ -105,10 +105,10 @@ told-none k true w l e = absurd (true≢false e)
 told-none k false w l e = refused refl
 
 -- where they stand are positions
-pub first-small : (tab : List ℕ) (k : ℕ) (b : Bool) (w : List ℕ) → IsFirst (mayIn tab) k b (place w) → b ≡ true → Small k w
+pub first-small : (tab : List ℕ) (k : ℕ) (b : Bool) (w : List ℕ) → IsFirst (mayIn tab) k b (place w) → b ≡ true → ArePositions k w
 first-small tab k true w h e s l = full-small tab k s (place w) (h .0) l
 first-small tab k false w h e s l = absurd (false≢true e)
 
-pub next-small : (tab : List ℕ) (k : ℕ) (b : Bool) (p w : List ℕ) → Following (mayIn tab) k (place p) b (place w) → b ≡ true → Small k w
+pub next-small : (tab : List ℕ) (k : ℕ) (b : Bool) (p w : List ℕ) → Following (mayIn tab) k (place p) b (place w) → b ≡ true → ArePositions k w
 next-small tab k true p w h e s l = full-small tab k s (place w) (h .0) l
 next-small tab k false p w h e s l = absurd (false≢true e)

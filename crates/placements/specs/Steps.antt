@@ -30,8 +30,8 @@ abbrev pub Stand : List ℕ → ℕ → List ℕ → Bool → Type 0
 Stand tab k w r = Verdict r (Full (mayIn tab) k (place w)) (Full (mayIn tab) k (place w) → ⊥)
 
 -- each of the first k is a position
-abbrev pub Small : ℕ → List ℕ → Type 0
-Small k w = (s : ℕ) → s < k → place w s < positionLimit
+abbrev pub ArePositions : ℕ → List ℕ → Type 0
+ArePositions k w = (s : ℕ) → s < k → place w s < positionLimit
 
 -- the first k, as a placement: "A placement has 8 entries, unused ones 0"
 abbrev pub entries : ℕ → List ℕ → List ℕ

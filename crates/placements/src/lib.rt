@@ -12,7 +12,7 @@ ghost use Rattle.scope.specs.Limits.{copyLimit};
 ghost use Rattle.scope.specs.Placements.{allowed, freshMark, noMark};
 ghost use Rattle.scope.specs.Answers.{findable, requested};
 ghost use Rattle.areas.specs.Floats.{floatingIn, Sized};
-ghost use Rattle.placements.specs.Steps.{Unused, Alone, Stand, Small, entries, found, Moves};
+ghost use Rattle.placements.specs.Steps.{Unused, Alone, Stand, ArePositions, entries, found, Moves};
 
 // What a request is answered, and the listing after it.
 pub struct Next {
@@ -44,7 +44,7 @@ fn widened(p: [u16; Placement::COPIES]) -> Standing
 
 // The first k entries, and zeros.
 fn narrowed(k: usize, w: Standing) -> Placement
-    requires { ⌜ (k ≤ copyLimit) × Small k (w .at) ⌝ }
+    requires { ⌜ (k ≤ copyLimit) × ArePositions k (w .at) ⌝ }
     ensures { λ r. ⌜ r .at ≡ entries k (w .at) ⌝ }
 {
     let mut p = Placement::none();
@@ -113,7 +113,7 @@ pub fn is_allowed(tab: &[u8], k: usize, p: Placement) -> bool
 
 // The listing moved on to what was found; or 17, and the listing as it was.
 fn told(k: usize, a: Answer, l: Listing) -> Next
-    requires { ⌜ (k ≤ copyLimit) × (a .ok ≡ true → Small k (a .at .at)) ⌝ }
+    requires { ⌜ (k ≤ copyLimit) × (a .ok ≡ true → ArePositions k (a .at .at)) ⌝ }
     ensures { λ r. ⌜ Moves (findable (found k (a .ok) (a .at .at))) l r ⌝ }
 {
     if a.ok {

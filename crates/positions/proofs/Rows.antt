@@ -24,12 +24,12 @@ use Rattle.basics.specs.Choice.{by-test}
 use Rattle.basics.specs.Members.{member-append}
 use Rattle.basics.specs.Positions.{placed-on}
 use Rattle.basics.specs.Tabled.{length-tabled}
-use Rattle.positions.specs.Marked.{Marked, RowIs, always, heldIn, refersAt, referencesAt, ownAt, placedAt, struckAt, FreeIs}
+use Rattle.positions.specs.Marked.{RowSet, RowIs, always, heldIn, refersAt, referencesAt, ownAt, placedAt, struckAt, FreeIs}
 use Rattle.positions.proofs.Any.{anyOf, any-last}
 
 -- ---- one position, none, a second marking, another test that says the same
-pub marked-set : {base x : ℕ} {v : ℕ → ℕ} {p : ℕ → Bool} {old cur : List ℕ} (q : ℕ → Bool) → Marked base p v old cur → x < positionLimit → base + positionLimit ≤ length cur → q x ≡ true
-    → ((y : ℕ) → y < positionLimit → (y ≡ x → ⊥) → q y ≡ p y) → Marked base q v old (set cur (base + x) (v x))
+pub marked-set : {base x : ℕ} {v : ℕ → ℕ} {p : ℕ → Bool} {old cur : List ℕ} (q : ℕ → Bool) → RowSet base p v old cur → x < positionLimit → base + positionLimit ≤ length cur → q x ≡ true
+    → ((y : ℕ) → y < positionLimit → (y ≡ x → ⊥) → q y ≡ p y) → RowSet base q v old (set cur (base + x) (v x))
 marked-set {base} {x} {v} {p} {old} {cur} q m h room here there =
     record {
       kept = length-set cur (base + x) (v x) ∙ m .kept;
@@ -48,7 +48,7 @@ marked-set {base} {x} {v} {p} {old} {cur} q m h room here there =
         getD-set-other cur (base + x) (base + y) (v x) 0 (λ e. ne (omega arith)) ∙ m .inside y l
         ∙ sym (ap (λ t. cond t (v y) (getD old (base + y) 0)) (there y l ne))
 
-pub marked-none : (base : ℕ) (v : ℕ → ℕ) (q : ℕ → Bool) (old : List ℕ) → ((y : ℕ) → y < positionLimit → q y ≡ false) → Marked base q v old old
+pub marked-none : (base : ℕ) (v : ℕ → ℕ) (q : ℕ → Bool) (old : List ℕ) → ((y : ℕ) → y < positionLimit → q y ≡ false) → RowSet base q v old old
 marked-none base v q old h =
     record {
       kept = refl;
@@ -57,7 +57,7 @@ marked-none base v q old h =
       after = λ i l. refl;
     }
 
-pub marked-as : {base : ℕ} {v : ℕ → ℕ} {p : ℕ → Bool} {old cur : List ℕ} (q : ℕ → Bool) → Marked base p v old cur → ((y : ℕ) → y < positionLimit → q y ≡ p y) → Marked base q v old cur
+pub marked-as : {base : ℕ} {v : ℕ → ℕ} {p : ℕ → Bool} {old cur : List ℕ} (q : ℕ → Bool) → RowSet base p v old cur → ((y : ℕ) → y < positionLimit → q y ≡ p y) → RowSet base q v old cur
 marked-as {base} {v} {p} {old} {cur} q m h =
     record {
       kept = m .kept;
@@ -71,7 +71,7 @@ twice true true v o = refl
 twice true false v o = refl
 twice false t v o = refl
 
-pub marked-then : {base : ℕ} {v : ℕ → ℕ} {p q : ℕ → Bool} {old cur new : List ℕ} → Marked base p v old cur → Marked base q v cur new → Marked base (λ x. p x || q x) v old new
+pub marked-then : {base : ℕ} {v : ℕ → ℕ} {p q : ℕ → Bool} {old cur new : List ℕ} → RowSet base p v old cur → RowSet base q v cur new → RowSet base (λ x. p x || q x) v old new
 marked-then {base} {v} {p} {q} {old} {cur} {new} m n =
     record {
       kept = n .kept ∙ m .kept;
@@ -85,7 +85,7 @@ pub record Spread (base a e : ℕ) (v : ℕ → ℕ) (x : ℕ) (old cur : List �
   pub low : a ≤ x
   pub high : x ≤ e + 1 + (a - (e + 1))
   pub room : base + positionLimit ≤ length cur
-  pub marked : Marked base (λ y. leb a y && ltb y x) v old cur
+  pub marked : RowSet base (λ y. leb a y && ltb y x) v old cur
 
 not-yet : (a x y : ℕ) → x ≤ a → (leb a y && ltb y x) ≡ false
 not-yet a x y h = by-test (leb a y) (λ t. ap (λ s. s && ltb y x) t ∙ le-ltb y x (omega (arith, leb-true a y t))) (λ t. ap (λ s. s && ltb y x) t)
@@ -124,20 +124,20 @@ all-of-them a e x y lo hi h =
         by-test (leb y e) (λ t. t ∙ sym (lt-ltb y x (let f : y ≤ e = leb-true y e t in omega arith)))
         (λ t. t ∙ sym (le-ltb y x (let f : e < y = leb-false y e t in omega arith)))
 
-pub spread-end : {base a e : ℕ} {v : ℕ → ℕ} {x : ℕ} {old cur : List ℕ} → Spread base a e v x old cur → e < x → Marked base (between a e) v old cur
+pub spread-end : {base a e : ℕ} {v : ℕ → ℕ} {x : ℕ} {old cur : List ℕ} → Spread base a e v x old cur → e < x → RowSet base (between a e) v old cur
 spread-end {base} {a} {e} {v} {x} {old} {cur} s h = marked-as (between a e) (s .marked) (λ y l. all-of-them a e x y (s .low) (s .high) h)
 
 -- ---- a marking for each of b brackets, one after the other: those before k are done
 pub record Passed (base : ℕ) (v : ℕ → ℕ) (b k : ℕ) (q : List ℤ → ℕ → ℕ → Bool) (old cur : List ℕ) : Type 0 where
   pub within : k ≤ b
   pub kept : length cur ≡ length old
-  pub marked : (ns : List ℤ) → Marked base (λ x. anyOf (λ j. q ns j x) 0 k) v old cur
+  pub marked : (ns : List ℤ) → RowSet base (λ x. anyOf (λ j. q ns j x) 0 k) v old cur
 
 pub passed-start : (base : ℕ) (v : ℕ → ℕ) (b : ℕ) (q : List ℤ → ℕ → ℕ → Bool) (old : List ℕ) → Passed base v b 0 q old old
 unfolding anyOf
 passed-start base v b q old = record { within = omega arith; kept = refl; marked = λ ns. marked-none base v (λ x. false) old (λ y l. refl) }
 
-pub passed-next : {base : ℕ} {v : ℕ → ℕ} {b k : ℕ} {q : List ℤ → ℕ → ℕ → Bool} {old cur new : List ℕ} → Passed base v b k q old cur → k < b → ((ns : List ℤ) → Marked base (λ x. q ns k x) v cur new) → Passed base v b (k + 1) q old new
+pub passed-next : {base : ℕ} {v : ℕ → ℕ} {b k : ℕ} {q : List ℤ → ℕ → ℕ → Bool} {old cur new : List ℕ} → Passed base v b k q old cur → k < b → ((ns : List ℤ) → RowSet base (λ x. q ns k x) v cur new) → Passed base v b (k + 1) q old new
 passed-next {base} {v} {b} {k} {q} {old} {cur} {new} p h m =
     record {
       within = omega arith;
@@ -147,39 +147,39 @@ passed-next {base} {v} {b} {k} {q} {old} {cur} {new} p h m =
           (λ y l. ap (anyOf (λ j. q ns j y) 0) (add-one k) ∙ any-last (λ j. q ns j y) 0 k ∙ ap (λ j. anyOf (λ j. q ns j y) 0 k || q ns j y) (zero-add k));
     }
 
-passed-end : {base : ℕ} {v : ℕ → ℕ} {b k : ℕ} {q : List ℤ → ℕ → ℕ → Bool} {old cur : List ℕ} → Passed base v b k q old cur → b ≤ k → (whole : List ℤ → ℕ → Bool) → ((ns : List ℤ) (x : ℕ) → whole ns x ≡ anyOf (λ j. q ns j x) 0 b) → (ns : List ℤ) → Marked base (whole ns) v old cur
+passed-end : {base : ℕ} {v : ℕ → ℕ} {b k : ℕ} {q : List ℤ → ℕ → ℕ → Bool} {old cur : List ℕ} → Passed base v b k q old cur → b ≤ k → (whole : List ℤ → ℕ → Bool) → ((ns : List ℤ) (x : ℕ) → whole ns x ≡ anyOf (λ j. q ns j x) 0 b) → (ns : List ℤ) → RowSet base (whole ns) v old cur
 passed-end {base} {v} {b} {k} {q} {old} {cur} p h whole e ns =
     let w : k ≤ b = p .within in
     marked-as (whole ns) (p .marked ns) (λ y l. e ns y ∙ ap (anyOf (λ j. q ns j y) 0) (omega arith))
 
 -- ---- a range that is marked, and a position, where a test holds
-marked-range : (base : ℕ) (v : ℕ → ℕ) (a e a′ e′ : ℕ) {old cur : List ℕ} {t : Bool} → Marked base (between a e) v old cur → a ≡ a′ → e ≡ e′ → t ≡ true → Marked base (λ x. t && between a′ e′ x) v old cur
+marked-range : (base : ℕ) (v : ℕ → ℕ) (a e a′ e′ : ℕ) {old cur : List ℕ} {t : Bool} → RowSet base (between a e) v old cur → a ≡ a′ → e ≡ e′ → t ≡ true → RowSet base (λ x. t && between a′ e′ x) v old cur
 marked-range base v a e a′ e′ {old} {cur} {t} m p q f =
     marked-as (λ x. t && between a′ e′ x) m
     (λ y l. ap (λ s. s && between a′ e′ y) f ∙ ap (λ i. between i e′ y) (sym p) ∙ ap (λ i. between a i y) (sym q))
 
-marked-not : (base : ℕ) (v : ℕ → ℕ) (p : ℕ → Bool) (old : List ℕ) {t : Bool} → t ≡ false → Marked base (λ x. t && p x) v old old
+marked-not : (base : ℕ) (v : ℕ → ℕ) (p : ℕ → Bool) (old : List ℕ) {t : Bool} → t ≡ false → RowSet base (λ x. t && p x) v old old
 marked-not base v p old {t} f = marked-none base v (λ x. t && p x) old (λ y l. ap (λ s. s && p y) f)
 
 module _ (bs : List ℕ) (k r : ℕ) {base : ℕ} {v : ℕ → ℕ} {old : List ℕ} {z : Bool} (refers : (ns : List ℤ) → z ≡ shared (definedBy (bracketIn bs ns k)) (referredBy (bracketIn bs ns r))) where
-  pub reference-marked : {a e : ℕ} {cur : List ℕ} → z ≡ true → Marked base (between a e) v old cur → ((ns : List ℤ) → a ≡ bracketIn bs ns r .first) → ((ns : List ℤ) → e ≡ bracketIn bs ns r .last) → (ns : List ℤ) → Marked base (refersAt bs ns k r) v old cur
+  pub reference-marked : {a e : ℕ} {cur : List ℕ} → z ≡ true → RowSet base (between a e) v old cur → ((ns : List ℤ) → a ≡ bracketIn bs ns r .first) → ((ns : List ℤ) → e ≡ bracketIn bs ns r .last) → (ns : List ℤ) → RowSet base (refersAt bs ns k r) v old cur
   reference-marked {a} {e} t m p q ns = marked-range base v a e (bracketIn bs ns r .first) (bracketIn bs ns r .last) m (p ns) (q ns) (sym (refers ns) ∙ t)
 
-  pub no-reference : z ≡ false → (ns : List ℤ) → Marked base (refersAt bs ns k r) v old old
+  pub no-reference : z ≡ false → (ns : List ℤ) → RowSet base (refersAt bs ns k r) v old old
   no-reference t ns = marked-not base v (between (bracketIn bs ns r .first) (bracketIn bs ns r .last)) old (sym (refers ns) ∙ t)
 
 placed-as : (bs : List ℕ) (ns : List ℤ) (k y : ℕ) {z : Bool} → isPlaced (bracketIn bs ns k) ≡ z → placedAt bs ns k y ≡ z && eqb y (bracketIn bs ns k .first)
 placed-as bs ns k y t = placed-on (tablesIn bs ns) (bracketIn bs ns k) y ∙ ap (λ s. s && eqb y (bracketIn bs ns k .first)) t
 
 module _ (bs : List ℕ) (k : ℕ) {old : List ℕ} {z : Bool} (placed : (ns : List ℤ) → z ≡ isPlaced (bracketIn bs ns k)) where
-  pub struck : {x : ℕ} → z ≡ true → ((ns : List ℤ) → x ≡ bracketIn bs ns k .first) → x < positionLimit → positionLimit ≤ length old → (ns : List ℤ) → Marked 0 (placedAt bs ns k) (always 0) old (set old x 0)
+  pub struck : {x : ℕ} → z ≡ true → ((ns : List ℤ) → x ≡ bracketIn bs ns k .first) → x < positionLimit → positionLimit ≤ length old → (ns : List ℤ) → RowSet 0 (placedAt bs ns k) (always 0) old (set old x 0)
   struck {x} t p h room ns =
-      subst (λ i. Marked 0 (placedAt bs ns k) (always 0) old (set old i 0)) (zero-add x)
+      subst (λ i. RowSet 0 (placedAt bs ns k) (always 0) old (set old i 0)) (zero-add x)
       (marked-set (placedAt bs ns k) (marked-none 0 (always 0) (λ y. false) old (λ y l. refl)) h (omega arith)
       (placed-as bs ns k x (sym (placed ns) ∙ t) ∙ eq-eqb x (bracketIn bs ns k .first) (p ns))
       (λ y l ne. placed-as bs ns k y (sym (placed ns) ∙ t) ∙ ne-eqb y (bracketIn bs ns k .first) (λ i. ne (i ∙ sym (p ns)))))
 
-  pub not-struck : z ≡ false → (ns : List ℤ) → Marked 0 (placedAt bs ns k) (always 0) old old
+  pub not-struck : z ≡ false → (ns : List ℤ) → RowSet 0 (placedAt bs ns k) (always 0) old old
   not-struck t ns = marked-none 0 (always 0) (placedAt bs ns k) old (λ y l. placed-as bs ns k y (sym (placed ns) ∙ t))
 
 -- ---- references and placed modifications, bracket by bracket
@@ -202,14 +202,14 @@ struck-at : (bs : List ℕ) (ns : List ℤ) (b x : ℕ) → b ≡ bracketsField 
 unfolding struckOut tablesIn
 struck-at bs ns b x e = rw e (struck-tabled x (tablesIn bs ns) (bracketIn bs ns) 0 (bracketsField bs))
 
-pub references-end : (bs : List ℕ) (k : ℕ) {base b r : ℕ} {v : ℕ → ℕ} {old cur : List ℕ} → Passed base v b r (λ ns j. refersAt bs ns k j) old cur → b ≤ r → b ≡ bracketsField bs → (ns : List ℤ) → Marked base (referencesAt bs ns k) v old cur
+pub references-end : (bs : List ℕ) (k : ℕ) {base b r : ℕ} {v : ℕ → ℕ} {old cur : List ℕ} → Passed base v b r (λ ns j. refersAt bs ns k j) old cur → b ≤ r → b ≡ bracketsField bs → (ns : List ℤ) → RowSet base (referencesAt bs ns k) v old cur
 references-end bs k {b = b} p h e = passed-end p h (λ ns. referencesAt bs ns k) (λ ns x. references-at bs ns k b x e)
 
-pub struck-end : (bs : List ℕ) {base b k : ℕ} {old cur : List ℕ} → Passed base (always 0) b k (placedAt bs) old cur → b ≤ k → b ≡ bracketsField bs → (ns : List ℤ) → Marked base (struckAt bs ns) (always 0) old cur
+pub struck-end : (bs : List ℕ) {base b k : ℕ} {old cur : List ℕ} → Passed base (always 0) b k (placedAt bs) old cur → b ≤ k → b ≡ bracketsField bs → (ns : List ℤ) → RowSet base (struckAt bs ns) (always 0) old cur
 struck-end bs {b = b} p h e = passed-end p h (struckAt bs) (λ ns x. struck-at bs ns b x e)
 
 -- ---- the row of free positions: all of them, but for those that are struck out
-pub free-is : (bs : List ℕ) (ns : List ℤ) {row : List ℕ} → Marked 0 (struckAt bs ns) (always 0) (replicate positionLimit 1) row → FreeIs bs ns row
+pub free-is : (bs : List ℕ) (ns : List ℤ) {row : List ℕ} → RowSet 0 (struckAt bs ns) (always 0) (replicate positionLimit 1) row → FreeIs bs ns row
 free-is bs ns {row} m x h =
     ap (heldIn row) (sym (zero-add x)) ∙ m .inside x h
     ∙ ap (λ n. cond (struckAt bs ns x) 0 n) (ap (heldIn (replicate positionLimit 1)) (zero-add x) ∙ getD-replicate positionLimit x 1 0 h)
@@ -228,11 +228,11 @@ module _ (bs : List ℕ) (k : ℕ) {l : Bool} (labelled : (ns : List ℤ) → l 
       (ap (λ s. isUnknown (bracketIn bs ns k .kind) && not s) (sym (labelled ns) ∙ t) ∙ and-true (isUnknown (bracketIn bs ns k .kind)))
 
 module _ (bs : List ℕ) (k : ℕ) {base : ℕ} {v : ℕ → ℕ} {old : List ℕ} {z : Bool} {c : Kind} (kind : (ns : List ℤ) → c ≡ bracketIn bs ns k .kind) (place : z ≡ not (unknownOrLabile c)) where
-  pub own-marked : {a e : ℕ} {cur : List ℕ} → z ≡ true → Marked base (between a e) v old cur → ((ns : List ℤ) → a ≡ bracketIn bs ns k .first) → ((ns : List ℤ) → e ≡ bracketIn bs ns k .last) → (ns : List ℤ) → Marked base (ownAt bs ns k) v old cur
+  pub own-marked : {a e : ℕ} {cur : List ℕ} → z ≡ true → RowSet base (between a e) v old cur → ((ns : List ℤ) → a ≡ bracketIn bs ns k .first) → ((ns : List ℤ) → e ≡ bracketIn bs ns k .last) → (ns : List ℤ) → RowSet base (ownAt bs ns k) v old cur
   own-marked {a} {e} t m p q ns =
       marked-range base v a e (bracketIn bs ns k .first) (bracketIn bs ns k .last) m (p ns) (q ns) (sym (place ∙ ap (λ j. not (unknownOrLabile j)) (kind ns)) ∙ t)
 
-  pub no-own : z ≡ false → (ns : List ℤ) → Marked base (ownAt bs ns k) v old old
+  pub no-own : z ≡ false → (ns : List ℤ) → RowSet base (ownAt bs ns k) v old old
   no-own t ns =
       marked-not base v (between (bracketIn bs ns k .first) (bracketIn bs ns k .last)) old (sym (place ∙ ap (λ j. not (unknownOrLabile j)) (kind ns)) ∙ t)
 
@@ -245,11 +245,11 @@ unfolding mayStand
 stands-by-place bs ns k x t = rw t
 
 module _ (bs : List ℕ) (k : ℕ) {base : ℕ} {v : ℕ → ℕ} {old : List ℕ} {u : Bool} (anywhere : (ns : List ℤ) → u ≡ isUnlabelledUnknown (bracketIn bs ns k) (bracketIn bs ns k .kind)) where
-  pub all-residues : {n : ℕ} {cur : List ℕ} → u ≡ true → Marked base (between 1 n) v old cur → n ≡ residuesField bs → (ns : List ℤ) → Marked base (mayStand (tablesIn bs ns) (bracketIn bs ns k)) v old cur
+  pub all-residues : {n : ℕ} {cur : List ℕ} → u ≡ true → RowSet base (between 1 n) v old cur → n ≡ residuesField bs → (ns : List ℤ) → RowSet base (mayStand (tablesIn bs ns) (bracketIn bs ns k)) v old cur
   all-residues {n} t m e ns =
       marked-as (mayStand (tablesIn bs ns) (bracketIn bs ns k)) m (λ y l. stands-anywhere bs ns k y (sym (anywhere ns) ∙ t) ∙ ap (λ i. between 1 i y) (sym e))
 
-  pub own-and-referred : {cur new : List ℕ} → u ≡ false → ((ns : List ℤ) → Marked base (ownAt bs ns k) v old cur) → ((ns : List ℤ) → Marked base (referencesAt bs ns k) v cur new) → (ns : List ℤ) → Marked base (mayStand (tablesIn bs ns) (bracketIn bs ns k)) v old new
+  pub own-and-referred : {cur new : List ℕ} → u ≡ false → ((ns : List ℤ) → RowSet base (ownAt bs ns k) v old cur) → ((ns : List ℤ) → RowSet base (referencesAt bs ns k) v cur new) → (ns : List ℤ) → RowSet base (mayStand (tablesIn bs ns) (bracketIn bs ns k)) v old new
   own-and-referred t m n ns =
       marked-as (mayStand (tablesIn bs ns) (bracketIn bs ns k)) (marked-then (m ns) (n ns)) (λ y l. stands-by-place bs ns k y (sym (anywhere ns) ∙ t))
 
@@ -259,10 +259,10 @@ left true true = refl
 left true false = refl
 left false s = refl
 
-pub cleared : {base : ℕ} {old new : List ℕ} → Marked base (between 0 (positionLimit - 1)) (always 0) old new → Marked base (λ x. true) (always 0) old new
+pub cleared : {base : ℕ} {old new : List ℕ} → RowSet base (between 0 (positionLimit - 1)) (always 0) old new → RowSet base (λ x. true) (always 0) old new
 cleared m = marked-as (λ x. true) m (λ x h. sym (ap (λ t. t && leb x (positionLimit - 1)) (le-leb 0 x (omega arith)) ∙ le-leb x (positionLimit - 1) (omega arith)))
 
-pub row-is : (bs : List ℕ) (ns : List ℤ) (row : List ℕ) {base : ℕ} {p : ℕ → Bool} {old clear new : List ℕ} → FreeIs bs ns row → Marked base (λ x. true) (always 0) old clear → Marked base p (heldIn row) clear new → RowIs base (λ x. p x && not (struckAt bs ns x)) old new
+pub row-is : (bs : List ℕ) (ns : List ℤ) (row : List ℕ) {base : ℕ} {p : ℕ → Bool} {old clear new : List ℕ} → FreeIs bs ns row → RowSet base (λ x. true) (always 0) old clear → RowSet base p (heldIn row) clear new → RowIs base (λ x. p x && not (struckAt bs ns x)) old new
 row-is bs ns row {base} {p} {old} {clear} {new} free a b =
     record {
       kept = b .kept ∙ a .kept;

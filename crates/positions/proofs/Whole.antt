@@ -22,7 +22,7 @@ use Rattle.basics.specs.Tabled.{keep-as, keep-cut, tabled-map}
 use Rattle.positions.proofs.Found.{floaters-are, floaters-inside}
 use Rattle.positions.specs.Legible.{Legible}
 use Rattle.basics.specs.Lists.{map-joined as map-map}
-use Rattle.positions.specs.Marked.{Marked, RowIs, always, Cleared, Filled, refersAt, referencesAt, struckAt, standsAt}
+use Rattle.positions.specs.Marked.{RowSet, RowIs, always, Cleared, Filled, refersAt, referencesAt, struckAt, standsAt}
 use Rattle.positions.proofs.Any.{any-none}
 use Rattle.positions.proofs.Rows.{references-at, stands-anywhere, stands-by-place}
 
@@ -39,7 +39,7 @@ pub clearing-start : (from : ℕ) (old : List ℕ) → from ≤ copyLimit → Cl
 clearing-start from old h =
     record { low = omega arith; high = h; kept = refl; before = λ i l. refl; zeros = λ i l j. absurd (omega arith); after = λ i l. refl }
 
-pub clearing-next : {from g : ℕ} {old cur new : List ℕ} → Clearing from g old cur → g < copyLimit → Marked (g * positionLimit) (λ x. true) (always 0) cur new → Clearing from (g + 1) old new
+pub clearing-next : {from g : ℕ} {old cur new : List ℕ} → Clearing from g old cur → g < copyLimit → RowSet (g * positionLimit) (λ x. true) (always 0) cur new → Clearing from (g + 1) old new
 clearing-next {from} {g} {old} {cur} {new} c h m =
     let lo : from ≤ g = c .low in
     record {

@@ -20,7 +20,7 @@ abbrev pub heldIn : List ℕ → ℕ → ℕ
 heldIn row x = getD row x 0
 
 -- in the row of positions that begins at base, each of a test is set to its value; all else is as before
-pub record Marked (base : ℕ) (test : ℕ → Bool) (value : ℕ → ℕ) (old new : List ℕ) : Type 0 where
+pub record RowSet (base : ℕ) (test : ℕ → Bool) (value : ℕ → ℕ) (old new : List ℕ) : Type 0 where
   pub kept : length new ≡ length old
   pub inside : (x : ℕ) → x < positionLimit → getD new (base + x) 0 ≡ cond (test x) (value x) (getD old (base + x) 0)
   pub before : (i : ℕ) → i < base → getD new i 0 ≡ getD old i 0

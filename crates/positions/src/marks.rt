@@ -21,12 +21,12 @@ ghost use Rattle.scope.specs.Layout.{bracketIn, tablesIn, bracketsField};
 ghost use Rattle.scope.specs.Positions.{between, isUnlabelledUnknown, mayStand};
 ghost use Rattle.brackets.specs.Row.{Row};
 ghost use Rattle.positions.specs.Legible.{Legible};
-ghost use Rattle.positions.specs.Marked.{Marked, RowIs, always, heldIn, refersAt, referencesAt, ownAt, placedAt, struckAt, FreeIs, standsAt};
+ghost use Rattle.positions.specs.Marked.{RowSet, RowIs, always, heldIn, refersAt, referencesAt, ownAt, placedAt, struckAt, FreeIs, standsAt};
 
 // Positions a to e of the row at base are set to v.
-fn put(tab: &mut [u8], base: usize, a: usize, e: usize, v: u8)
+fn set_all(tab: &mut [u8], base: usize, a: usize, e: usize, v: u8)
     requires { ⌜ (e < positionLimit) × (base + positionLimit ≤ length (now tab)) ⌝ }
-    ensures { λ _. ⌜ Marked base (between a e) (always v) (now (tab .entry)) (now (tab .exit)) ⌝ }
+    ensures { λ _. ⌜ RowSet base (between a e) (always v) (now (tab .entry)) (now (tab .exit)) ⌝ }
 {
     let mut x = a;
     while x <= e {
@@ -38,7 +38,7 @@ fn put(tab: &mut [u8], base: usize, a: usize, e: usize, v: u8)
 // Positions a to e of the row at base are marked where they are free.
 fn mark(free: &[u8; Ledger::POSITIONS], tab: &mut [u8], base: usize, a: usize, e: usize)
     requires { ⌜ (e < positionLimit) × (base + positionLimit ≤ length (now tab)) ⌝ }
-    ensures { λ _. ⌜ Marked base (between a e) (heldIn (now (free .entry))) (now (tab .entry)) (now (tab .exit)) ⌝ }
+    ensures { λ _. ⌜ RowSet base (between a e) (heldIn (now (free .entry))) (now (tab .entry)) (now (tab .exit)) ⌝ }
 {
     let mut x = a;
     while x <= e {
@@ -57,7 +57,7 @@ fn mark_reference(
     base: usize,
 )
     requires { ⌜ (Legible (now bytes)) × (k < bracketsField (now bytes)) × (r < bracketsField (now bytes)) × (base + positionLimit ≤ length (now tab)) ⌝ }
-    ensures { λ _. ⌜ ((ns : List ℤ) → Marked base (refersAt (now (bytes .entry)) ns k r) (heldIn (now (free .entry))) (now (tab .entry)) (now (tab .exit))) ⌝ }
+    ensures { λ _. ⌜ ((ns : List ℤ) → RowSet base (refersAt (now (bytes .entry)) ns k r) (heldIn (now (free .entry))) (now (tab .entry)) (now (tab .exit))) ⌝ }
 {
     if refers_to(bytes, r, k) {
         let a = first(bytes, r);
@@ -75,7 +75,7 @@ fn mark_references(
     base: usize,
 )
     requires { ⌜ (Legible (now bytes)) × (k < bracketsField (now bytes)) × (base + positionLimit ≤ length (now tab)) ⌝ }
-    ensures { λ _. ⌜ ((ns : List ℤ) → Marked base (referencesAt (now (bytes .entry)) ns k) (heldIn (now (free .entry))) (now (tab .entry)) (now (tab .exit))) ⌝ }
+    ensures { λ _. ⌜ ((ns : List ℤ) → RowSet base (referencesAt (now (bytes .entry)) ns k) (heldIn (now (free .entry))) (now (tab .entry)) (now (tab .exit))) ⌝ }
 {
     let b = brackets(bytes);
     let mut r: usize = 0;
@@ -109,7 +109,7 @@ fn is_anywhere(bytes: &[u8], k: usize) -> bool
 // The positions of bracket k are marked if it has some of its own.
 fn mark_own(bytes: &[u8], k: usize, free: &[u8; Ledger::POSITIONS], tab: &mut [u8], base: usize)
     requires { ⌜ (Legible (now bytes)) × (k < bracketsField (now bytes)) × (base + positionLimit ≤ length (now tab)) ⌝ }
-    ensures { λ _. ⌜ ((ns : List ℤ) → Marked base (ownAt (now (bytes .entry)) ns k) (heldIn (now (free .entry))) (now (tab .entry)) (now (tab .exit))) ⌝ }
+    ensures { λ _. ⌜ ((ns : List ℤ) → RowSet base (ownAt (now (bytes .entry)) ns k) (heldIn (now (free .entry))) (now (tab .entry)) (now (tab .exit))) ⌝ }
 {
     if has_place(kind(bytes, k)) {
         let a = first(bytes, k);
@@ -121,7 +121,7 @@ fn mark_own(bytes: &[u8], k: usize, free: &[u8; Ledger::POSITIONS], tab: &mut [u
 // Every position where bracket k may stand is marked.
 fn mark_all(bytes: &[u8], k: usize, free: &[u8; Ledger::POSITIONS], tab: &mut [u8], base: usize)
     requires { ⌜ (Legible (now bytes)) × (k < bracketsField (now bytes)) × (base + positionLimit ≤ length (now tab)) ⌝ }
-    ensures { λ _. ⌜ ((ns : List ℤ) → Marked base (mayStand (tablesIn (now (bytes .entry)) ns) (bracketIn (now (bytes .entry)) ns k)) (heldIn (now (free .entry))) (now (tab .entry)) (now (tab .exit))) ⌝ }
+    ensures { λ _. ⌜ ((ns : List ℤ) → RowSet base (mayStand (tablesIn (now (bytes .entry)) ns) (bracketIn (now (bytes .entry)) ns k)) (heldIn (now (free .entry))) (now (tab .entry)) (now (tab .exit))) ⌝ }
 {
     if is_anywhere(bytes, k) {
         let n = residues(bytes);
@@ -135,7 +135,7 @@ fn mark_all(bytes: &[u8], k: usize, free: &[u8; Ledger::POSITIONS], tab: &mut [u
 // The position of bracket k is struck out if it is placed.
 fn strike(bytes: &[u8], k: usize, free: &mut [u8])
     requires { ⌜ (Legible (now bytes)) × (k < bracketsField (now bytes)) × (positionLimit ≤ length (now free)) ⌝ }
-    ensures { λ _. ⌜ ((ns : List ℤ) → Marked 0 (placedAt (now (bytes .entry)) ns k) (always 0) (now (free .entry)) (now (free .exit))) ⌝ }
+    ensures { λ _. ⌜ ((ns : List ℤ) → RowSet 0 (placedAt (now (bytes .entry)) ns k) (always 0) (now (free .entry)) (now (free .exit))) ⌝ }
 {
     if is_placed(bytes, k) {
         let x = first(bytes, k);
@@ -146,7 +146,7 @@ fn strike(bytes: &[u8], k: usize, free: &mut [u8])
 // Every position with a placed modification is struck out.
 pub fn strike_out(bytes: &[u8], free: &mut [u8])
     requires { ⌜ (Legible (now bytes)) × (positionLimit ≤ length (now free)) ⌝ }
-    ensures { λ _. ⌜ ((ns : List ℤ) → Marked 0 (struckAt (now (bytes .entry)) ns) (always 0) (now (free .entry)) (now (free .exit))) ⌝ }
+    ensures { λ _. ⌜ ((ns : List ℤ) → RowSet 0 (struckAt (now (bytes .entry)) ns) (always 0) (now (free .entry)) (now (free .exit))) ⌝ }
 {
     let b = brackets(bytes);
     let mut k: usize = 0;
@@ -159,9 +159,9 @@ pub fn strike_out(bytes: &[u8], free: &mut [u8])
 // The row at base is set to zero.
 pub fn clear_row(tab: &mut [u8], base: usize)
     requires { ⌜ base + positionLimit ≤ length (now tab) ⌝ }
-    ensures { λ _. ⌜ Marked base (λ x. true) (always 0) (now (tab .entry)) (now (tab .exit)) ⌝ }
+    ensures { λ _. ⌜ RowSet base (λ x. true) (always 0) (now (tab .entry)) (now (tab .exit)) ⌝ }
 {
-    put(tab, base, 0, Ledger::POSITIONS - 1, 0);
+    set_all(tab, base, 0, Ledger::POSITIONS - 1, 0);
 }
 
 // The row at base has 1 where the floater of bracket k may stand, and 0 elsewhere.

@@ -17,17 +17,17 @@ use Rattle.sheet.specs.Fields.{partsField, baseField}
 use Rattle.sheet.proofs.FieldLaws.{Among, among}
 use Rattle.store.specs.Areas.{Pieces, headAdded, bracketsAdded}
 use Rattle.store.specs.PartPut.{PartsNoted, PartsFit, SomePartsFit, PartsPut}
-use Rattle.store.specs.BracketPut.{headFrom, HeadFits, BracketNoted, BracketFits, SomeBracketFits, BracketPut, BracketsFit, SomeBracketsFit, BracketsPut}
+use Rattle.store.specs.BracketPut.{headFrom, HeadGoesIn, BracketNoted, BracketGoesIn, SomeBracketFits, BracketPut, BracketsFit, SomeBracketsFit, BracketsPut}
 use Rattle.store.proofs.NotedRows.{head-noted, points-are, head-fits}
 use Rattle.store.proofs.AreaLaws.{areas-as, head-more, bracket-more, no-brackets, brackets-more}
 use Rattle.store.proofs.Passed.{passed, passed-next}
 
 module _ {line heads parts : List ℕ} {masses scores : List ℤ} {k t : ℕ} {bytes : List ℕ} {numbers : List ℤ} where
-  pub some-head : SomeBracketFits line heads parts masses scores k t bytes numbers → HeadFits heads k bytes
+  pub some-head : SomeBracketFits line heads parts masses scores k t bytes numbers → HeadGoesIn heads k bytes
   some-head s = let f = s .fits in head-fits (f .noted) (f .few-residues) (f .heads-room) (f .few-brackets) (f .bytes-long)
 
   module _ {m n : ℕ} {bytes₁ : List ℕ} (em : m ≡ baseField heads k) (en : n ≡ partsField heads k) (e : bytes₁ ≡ sets bytes (rowAt k) (headFrom heads k)) where
-    parts-fit : {b : Bracket ℕ} {a : Pieces} → BracketFits line heads parts masses scores k t b a bytes numbers
+    parts-fit : {b : Bracket ℕ} {a : Pieces} → BracketGoesIn line heads parts masses scores k t b a bytes numbers
         → PartsFit line parts masses m n k t (b .parts) (headAdded (headOf b) a) bytes₁ numbers
     parts-fit {b} {a} f =
         let q = f .noted in
@@ -52,7 +52,7 @@ module _ {line heads parts : List ℕ} {masses scores : List ℤ} {k t : ℕ} {b
     pub bracket-put : {u : ℕ} {bytes₂ : List ℕ} {numbers₂ numbers₃ : List ℤ} {x : ℤ}
         → ((ps : List (Part ℕ)) (a : Pieces) → PartsFit line parts masses m n k t ps a bytes₁ numbers → PartsPut k t ps a u bytes₂ numbers₂)
         → x ≡ getD scores k (pos 0) → numbers₃ ≡ set numbers₂ (massAt k partLimit) x
-        → (b : Bracket ℕ) (a : Pieces) → BracketFits line heads parts masses scores k t b a bytes numbers → BracketPut k t b a u bytes₂ numbers₃
+        → (b : Bracket ℕ) (a : Pieces) → BracketGoesIn line heads parts masses scores k t b a bytes numbers → BracketPut k t b a u bytes₂ numbers₃
     bracket-put {numbers₂ = numbers₂} put ex en b a f =
         bracket-more b (put (b .parts) (headAdded (headOf b) a) (parts-fit f)) (f .few-brackets) (f .noted .within .few-parts)
         (en ∙ ap (set numbers₂ (massAt k partLimit)) (ex ∙ points-are (f .noted))) (f .areas-are .rows-long) (f .areas-are .masses-long)
@@ -85,7 +85,7 @@ module _ {line heads parts : List ℕ} {masses scores : List ℤ} {n : ℕ} {ks 
         omega (arith, texts-before, ap (λ y. length (flat bracketTexts y)) (next .is), flat-append-length bracketTexts (next .before) (b ∷ v), ap length (flat-cons bracketTexts b v), length-append (bracketTexts b) (flat bracketTexts v))
 
     fits : length bytes ≡ length bytes₀ → length numbers ≡ length numbers₀
-        → BracketFits line heads parts masses scores k t (next .this) (bracketsAdded (next .before) a) bytes numbers
+        → BracketGoesIn line heads parts masses scores k t (next .this) (bracketsAdded (next .before) a) bytes numbers
     fits eb en =
         let p = next .place in
         record {
@@ -132,7 +132,7 @@ module _ {line heads parts : List ℕ} {masses scores : List ℤ} {n : ℕ} {byt
       record { this = x .this; pieces = bracketsAdded (x .before) (s .pieces); fits = fits f u h (w .bytes-long) (w .numbers-long) }
 
   pub bracketing-next : k < n → {r : ℕ} {bytes′ : List ℕ} {numbers′ : List ℤ}
-      → ((b : Bracket ℕ) (a : Pieces) → BracketFits line heads parts masses scores k t b a bytes numbers → BracketPut k t b a r bytes′ numbers′)
+      → ((b : Bracket ℕ) (a : Pieces) → BracketGoesIn line heads parts masses scores k t b a bytes numbers → BracketPut k t b a r bytes′ numbers′)
       → length bytes′ ≡ length bytes → length numbers′ ≡ length numbers → Bracketing line heads parts masses scores n bytes₀ numbers₀ (k + 1) r bytes′ numbers′
   bracketing-next h put eb en =
       record {

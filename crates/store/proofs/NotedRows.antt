@@ -27,7 +27,7 @@ use Rattle.layout_laws.specs.Layout.{score-within, headOf}
 use Rattle.sheet.specs.Rows.{textFrom, textTo, labelFrom, labelTo, decimalsNoted, massNoted, scoreNoted, pointsNoted, headsRoom, partsRoom, massesRoom}
 use Rattle.sheet.specs.Fields.{valueField, keyField, decimalsField}
 use Rattle.store.specs.PartPut.{textLength, labelLength, textsFrom, offsetOf, rowFrom, RowFits, PartNoted}
-use Rattle.store.specs.BracketPut.{headFrom, HeadFits, BracketNoted}
+use Rattle.store.specs.BracketPut.{headFrom, HeadGoesIn, BracketNoted}
 
 -- ---- numbers within the limits are noted as they are
 decimals-noted : (p : Part ℕ) (v : Value ℕ) → ValueWithin p v → decimalsNoted v ≡ decimalsIn v
@@ -182,7 +182,7 @@ module _ {line heads parts : List ℕ} {masses scores : List ℤ} {n k : ℕ} {b
   pub points-are : getD scores k (pos 0) ≡ given (scoreOf (b .parts)) millionths (pos 0)
   points-are = w .score-is ∙ points-noted (scoreOf (b .parts)) the-score
 
-  pub head-fits : {bytes : List ℕ} → n ≤ residueLimit → headsRoom ≤ length heads → k < bracketLimit → bytesSize ≤ length bytes → HeadFits heads k bytes
+  pub head-fits : {bytes : List ℕ} → n ≤ residueLimit → headsRoom ≤ length heads → k < bracketLimit → bytesSize ≤ length bytes → HeadGoesIn heads k bytes
   head-fits r h q l =
       let f = w .fields in
       record {

@@ -21,7 +21,7 @@ abbrev pub headFrom : List ℕ → ℕ → List ℕ
 headFrom heads k =
     headRow (kindField heads k) (firstField heads k) (lastField heads k) (countField heads k) (partsField heads k) (scoreField heads k)
 
-pub record HeadFits (heads : List ℕ) (k : ℕ) (bytes : List ℕ) : Type 0 where
+pub record HeadGoesIn (heads : List ℕ) (k : ℕ) (bytes : List ℕ) : Type 0 where
   pub heads-room : headsRoom ≤ length heads
   pub few-brackets : k < bracketLimit
   pub kind-byte : kindField heads k < byteLimit
@@ -43,7 +43,7 @@ pub record BracketNoted (line heads parts : List ℕ) (masses scores : List ℤ)
   pub within : BracketWithin n b
 
 -- it fits behind k others, and behind t bytes of texts
-pub record BracketFits (line heads parts : List ℕ) (masses scores : List ℤ) (k t : ℕ) (b : Bracket ℕ) (a : Pieces) (bytes : List ℕ) (numbers : List ℤ) : Type 0 where
+pub record BracketGoesIn (line heads parts : List ℕ) (masses scores : List ℤ) (k t : ℕ) (b : Bracket ℕ) (a : Pieces) (bytes : List ℕ) (numbers : List ℤ) : Type 0 where
   pub residues : ℕ
   pub few-residues : residues ≤ residueLimit
   pub noted : BracketNoted line heads parts masses scores residues k b
@@ -60,7 +60,7 @@ pub record BracketFits (line heads parts : List ℕ) (masses scores : List ℤ) 
 pub record SomeBracketFits (line heads parts : List ℕ) (masses scores : List ℤ) (k t : ℕ) (bytes : List ℕ) (numbers : List ℤ) : Type 0 where
   pub this : Bracket ℕ
   pub pieces : Pieces
-  pub fits : BracketFits line heads parts masses scores k t this pieces bytes numbers
+  pub fits : BracketGoesIn line heads parts masses scores k t this pieces bytes numbers
 
 pub record BracketPut (k t : ℕ) (b : Bracket ℕ) (a : Pieces) (r : ℕ) (bytes′ : List ℕ) (numbers′ : List ℤ) : Type 0 where
   pub texts-are : r ≡ t + length (bracketTexts b)

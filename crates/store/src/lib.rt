@@ -12,7 +12,7 @@ ghost use Rattle.scope.specs.Layout.{bytesSize, numbersSize, rowAt};
 ghost use Rattle.scope.specs.Refusals.{outcome, accepted};
 ghost use Rattle.store.specs.Areas.{Pieces};
 ghost use Rattle.store.specs.PartPut.{Copies, offsetOf, RowFits, RowPut, SomePartsFit, PartsFit, PartsPut};
-ghost use Rattle.store.specs.BracketPut.{headFrom, HeadFits, SomeBracketFits, BracketFits, BracketPut, SomeBracketsFit, BracketsFit, BracketsPut};
+ghost use Rattle.store.specs.BracketPut.{headFrom, HeadGoesIn, SomeBracketFits, BracketGoesIn, BracketPut, SomeBracketsFit, BracketsFit, BracketsPut};
 ghost use Rattle.store.specs.Filled.{FrontFits, frontPut, Fills, FilledAll};
 
 // ---- zeros
@@ -83,7 +83,7 @@ fn number(numbers: &[i64], at: usize) -> i64
 }
 
 // Row m, as part j of bracket k, its text and its label behind t bytes of others. Answers how many bytes of texts there are then.
-fn put_part(
+fn store_part(
     line: &[u8],
     parts: &[u16],
     masses: &[i64],
@@ -113,7 +113,7 @@ fn put_part(
 }
 
 // The n rows from m on, as the parts of bracket k, behind t bytes of texts. Answers how many there are then.
-fn put_parts(
+fn store_parts(
     line: &[u8],
     parts: &[u16],
     masses: &[i64],
@@ -130,7 +130,7 @@ fn put_parts(
     let mut j: usize = 0;
     let mut u = t;
     while j < n {
-        u = put_part(line, parts, masses, m + j, k, j, u, bytes, numbers);
+        u = store_part(line, parts, masses, m + j, k, j, u, bytes, numbers);
         j += 1;
     }
     u
@@ -139,8 +139,8 @@ fn put_parts(
 // ---- a bracket
 
 // The head of bracket k.
-fn put_head(heads: &[u16], k: usize, bytes: &mut [u8])
-    requires { ⌜ HeadFits (now heads) k (now bytes) ⌝ }
+fn store_head(heads: &[u16], k: usize, bytes: &mut [u8])
+    requires { ⌜ HeadGoesIn (now heads) k (now bytes) ⌝ }
     ensures { λ _. ⌜ now (bytes .exit) ≡ sets (now (bytes .entry)) (rowAt k) (headFrom (now (heads .entry)) k) ⌝ }
 {
     areas::put_head(
@@ -156,7 +156,7 @@ fn put_head(heads: &[u16], k: usize, bytes: &mut [u8])
 }
 
 // Bracket k, its texts behind t bytes of others. Answers how many there are then.
-fn put_bracket(
+fn store_bracket(
     line: &[u8],
     heads: &[u16],
     parts: &[u16],
@@ -168,18 +168,18 @@ fn put_bracket(
     numbers: &mut [i64],
 ) -> usize
     requires { ⌜ SomeBracketFits (now line) (now heads) (now parts) (now masses) (now scores) k t (now bytes) (now numbers) ⌝ }
-    ensures { λ r. ⌜ ((b : Bracket ℕ) (a : Pieces) → BracketFits (now (line .entry)) (now (heads .entry)) (now (parts .entry)) (now (masses .entry)) (now (scores .entry)) k t b a (now (bytes .entry)) (now (numbers .entry)) → BracketPut k t b a r (now (bytes .exit)) (now (numbers .exit))) ⌝ }
+    ensures { λ r. ⌜ ((b : Bracket ℕ) (a : Pieces) → BracketGoesIn (now (line .entry)) (now (heads .entry)) (now (parts .entry)) (now (masses .entry)) (now (scores .entry)) k t b a (now (bytes .entry)) (now (numbers .entry)) → BracketPut k t b a r (now (bytes .exit)) (now (numbers .exit))) ⌝ }
 {
-    put_head(heads, k, bytes);
+    store_head(heads, k, bytes);
     let m = sheet::base_of(heads, k);
     let n = sheet::parts_of(heads, k);
-    let u = put_parts(line, parts, masses, m, n, k, t, bytes, numbers);
+    let u = store_parts(line, parts, masses, m, n, k, t, bytes, numbers);
     areas::put_score(numbers, k, number(scores, k));
     u
 }
 
 // The first n brackets, one behind another.
-fn put_brackets(
+fn store_brackets(
     line: &[u8],
     heads: &[u16],
     parts: &[u16],
@@ -195,7 +195,7 @@ fn put_brackets(
     let mut k: usize = 0;
     let mut t: usize = 0;
     while k < n {
-        t = put_bracket(line, heads, parts, masses, scores, k, t, bytes, numbers);
+        t = store_bracket(line, heads, parts, masses, scores, k, t, bytes, numbers);
         k += 1;
     }
 }
@@ -203,7 +203,7 @@ fn put_brackets(
 // ---- a line
 
 // The numbers of residues and brackets, the letters and the sections.
-fn put_front(letters: &[u8], sections: &[u8], residues: usize, brackets: usize, bytes: &mut [u8])
+fn store_front(letters: &[u8], sections: &[u8], residues: usize, brackets: usize, bytes: &mut [u8])
     requires { ⌜ FrontFits (now letters) (now sections) residues brackets (now bytes) ⌝ }
     ensures { λ _. ⌜ now (bytes .exit) ≡ frontPut (now (letters .entry)) (now (sections .entry)) residues brackets (now (bytes .entry)) ⌝ }
 {
@@ -229,6 +229,6 @@ pub fn store(
     requires { ⌜ Fills (now line) (now letters) (now sections) (now heads) (now parts) (now masses) (now scores) residues brackets (now bytes) (now numbers) ⌝ }
     ensures { λ _. ⌜ ((l : Line ℕ) → outcome (now (line .entry)) ≡ accepted l → FilledAll (now (bytes .entry)) (now (numbers .entry)) (now (bytes .exit)) (now (numbers .exit)) l) ⌝ }
 {
-    put_front(letters, sections, residues, brackets, bytes);
-    put_brackets(line, heads, parts, masses, scores, brackets, bytes, numbers);
+    store_front(letters, sections, residues, brackets, bytes);
+    store_brackets(line, heads, parts, masses, scores, brackets, bytes, numbers);
 }

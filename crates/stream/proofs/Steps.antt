@@ -23,8 +23,8 @@ use Rattle.stream.specs.declared.End.the-variants.{Whole, Unread, Unwrit
 use Rattle.stream.specs.declared.Got.{Got}
 use Rattle.stream.specs.declared.Got.the-variants.{Came}
 use Rattle.stream.specs.Lines.{lineEnd, refusal}
-use Rattle.stream.specs.Feeding.{holdLimit, State, holding, kept, after, put, lastPut, lastRefused, part}
-use Rattle.stream.specs.Promises.{LineEnd, Cuts, numberLimit, readLimit, outputLimit, Lent, sheetOf, HasRoom, Ready, Fronts, Runs, Feeds, Owed, OwedLast, Received, lineEnds, noticeRoom, noticed, Drains, Closes, Turns}
+use Rattle.stream.specs.Feeding.{holdLimit, Between, holding, kept, after, put, lastPut, lastRefused, part}
+use Rattle.stream.specs.Promises.{LineEnd, Cuts, numberLimit, readLimit, outputLimit, Lent, sheetOf, HasRoom, Ready, Fronts, Runs, Feeds, Owed, OwedLast, Received, lineEnds, noticeRoom, noticed, Drains, ClosesAt, Turns}
 use Rattle.stream.specs.Laws.{after-append, put-append, after-line, put-line, after-few}
 use Rattle.stream.specs.Whole.{entry-front, refusal-front}
 use Rattle.stream.proofs.Cutting.{part-none, part-more, part-join}
@@ -89,14 +89,14 @@ pub whole-front : (n : ℕ) (l : List ℕ) → part 0 n l ≡ take n l
 whole-front n l = let e : n - 0 ≡ n = omega arith in ap (λ z. take z l) e
 
 -- ---- a part more
-module _ (chunk : List ℕ) (from : ℕ) (first : State) where
-  after-more : (next next′ : ℕ) (s : State) → from ≤ next → next ≤ next′ → after first (part from next chunk) ≡ s
+module _ (chunk : List ℕ) (from : ℕ) (first : Between) where
+  after-more : (next next′ : ℕ) (s : Between) → from ≤ next → next ≤ next′ → after first (part from next chunk) ≡ s
       → after first (part from next′ chunk) ≡ after s (part next next′ chunk)
   after-more next next′ s h k e =
       ap (after first) (part-join from next next′ chunk h k) ∙ after-append first (part from next chunk) (part next next′ chunk)
       ∙ ap (λ z. after z (part next next′ chunk)) e
 
-  put-more : (next next′ : ℕ) (s : State) → from ≤ next → next ≤ next′ → after first (part from next chunk) ≡ s
+  put-more : (next next′ : ℕ) (s : Between) → from ≤ next → next ≤ next′ → after first (part from next chunk) ≡ s
       → put first (part from next′ chunk) ≡ put first (part from next chunk) ++ put s (part next next′ chunk)
   put-more next next′ s h k e =
       ap (put first) (part-join from next next′ chunk h k) ∙ put-append first (part from next chunk) (part next next′ chunk)
@@ -113,7 +113,7 @@ stays-few {number} {refused} h t e few = subst (λ s. s .refused < s .number) e 
 
 -- ---- the lines that lie whole in a chunk
 module _ (chunk : List ℕ) (from number refused : ℕ) (sheet₀ : Lent) (bytes₀ : List ℕ) (numbers₀ : List ℤ) (out₀ : List ℕ) (at : ℕ) where
-  abbrev first : State
+  abbrev first : Between
   first = holding number refused []
 
   -- they are put up to `next`
@@ -276,7 +276,7 @@ owed {chunk} {from} {number} {refused} {next = next} f =
 
 -- ---- a whole chunk: it is taken in up to `from`, and what is put out for that was taken
 module _ (chunk : List ℕ) (number refused : ℕ) (hold₀ : List ℕ) (held : ℕ) (sheet₀ : Lent) (bytes₀ : List ℕ) (numbers₀ : List ℤ) (out₀ : List ℕ) where
-  abbrev begun : State
+  abbrev begun : Between
   begun = holding number refused (take held hold₀)
 
   pub record Taken (from line total n sent : ℕ) (hold : List ℕ) (sheet : Lent) (bytes : List ℕ) (numbers : List ℤ) (out : List ℕ) : Type 0 where
@@ -413,11 +413,11 @@ owed-last f = record { fits = f .fits; text = f .front }
 
 pub closes-whole : {number refused : ℕ} {hold : List ℕ} {held : ℕ} {out outs : List ℕ} {n : ℕ} {so : Bool} {one took : ℕ}
     → Fronts (lastPut number (take held hold)) out outs n × (so ≡ lastRefused (take held hold)) → (one ≡ cond so 1 0) × (one ≤ 1)
-    → took ≤ n → n ≤ took → Closes number refused hold held number (refused + one) took false Whole
+    → took ≤ n → n ≤ took → ClosesAt number refused hold held number (refused + one) took false Whole
 closes-whole {refused = refused} f o a z =
     record { same = refl; over = refl; taken = λ _. omega (arith, front-length (f .0)); counted = λ _. ap (λ y. refused + y) (o .0 ∙ ap (λ y. cond y 1 0) (f .1)) }
 
-pub closes-lost : {number refused : ℕ} {hold : List ℕ} {held total took : ℕ} → Closes number refused hold held number total took false Unwritten
+pub closes-lost : {number refused : ℕ} {hold : List ℕ} {held total took : ℕ} → ClosesAt number refused hold held number total took false Unwritten
 closes-lost = record { same = refl; over = refl; taken = λ e. absurd (unwritten e); counted = λ e. absurd (unwritten e) }
 
 -- ---- one read
@@ -442,7 +442,7 @@ module _ {room : List ℕ} {number refused : ℕ} {hold : List ℕ} {held line t
         counted = λ e f. absurd (d .lost e f);
       }
 
-  pub turns-closed : Closes number refused hold held line total sent more end → Turns room number refused hold held line total holds n sheet bytes numbers out sent more end
+  pub turns-closed : ClosesAt number refused hold held line total sent more end → Turns room number refused hold held line total holds n sheet bytes numbers out sent more end
   turns-closed c =
       record {
         grows = omega (arith, c .same);

@@ -14,15 +14,15 @@ abbrev pub holdLimit : ℕ
 holdLimit = lineLimit + 1
 
 -- the number of the line that is begun or comes next, how many of the lines before it were refused, and what is held of it
-pub record State : Type 0 where
+pub record Between : Type 0 where
   pub number : ℕ
   pub refused : ℕ
   pub held : List ℕ
 
-abbrev pub holding : ℕ → ℕ → List ℕ → State
+abbrev pub holding : ℕ → ℕ → List ℕ → Between
 holding n r h = record { number = n; refused = r; held = h }
 
-abbrev pub start : State
+abbrev pub start : Between
 start = holding 1 0 []
 
 -- bytes behind those held
@@ -30,26 +30,26 @@ abbrev pub kept : List ℕ → List ℕ → List ℕ
 kept h t = take holdLimit (h ++ t)
 
 -- where a line ends, and where it goes on: the state behind it, and what is put out
-abbrev pub behind : Bool → State → State
+abbrev pub behind : Bool → Between → Between
 behind true s = record { number = suc (s .number); refused = s .refused + refusal (s .held); held = [] }
 behind false s = s
 
-abbrev pub ended : Bool → State → List ℕ
+abbrev pub ended : Bool → Between → List ℕ
 ended true s = entry (s .number) (s .held)
 ended false s = []
 
 -- a byte, and whether it is byte 10, "no part of" the line
-abbrev pub stepped : Bool → State → ℕ → State
+abbrev pub stepped : Bool → Between → ℕ → Between
 stepped true s b = behind true s
 stepped false s b = record { number = s .number; refused = s .refused; held = kept (s .held) (b ∷ []) }
 
 -- the state behind bytes
-unfoldable pub after : State → List ℕ → State
+unfoldable pub after : Between → List ℕ → Between
 after s [] = s
 after s (b ∷ t) = after (stepped (eqb b lineEnd) s b) t
 
 -- what is put out for them
-unfoldable pub put : State → List ℕ → List ℕ
+unfoldable pub put : Between → List ℕ → List ℕ
 put s [] = []
 put s (b ∷ t) = ended (eqb b lineEnd) s ++ put (stepped (eqb b lineEnd) s b) t
 
@@ -58,7 +58,7 @@ abbrev pub lastPut : ℕ → List ℕ → List ℕ
 lastPut n [] = []
 lastPut n (b ∷ h) = entry n (b ∷ h)
 
-abbrev pub finished : State → List ℕ
+abbrev pub finished : Between → List ℕ
 finished s = lastPut (s .number) (s .held)
 
 -- whether the line that is begun there is refused, and how many lines are, with it
@@ -66,7 +66,7 @@ abbrev pub lastRefused : List ℕ → Bool
 lastRefused [] = false
 lastRefused (b ∷ h) = isRefused (outcome (b ∷ h))
 
-abbrev pub refusedAtEnd : State → ℕ
+abbrev pub refusedAtEnd : Between → ℕ
 refusedAtEnd s = s .refused + cond (lastRefused (s .held)) 1 0
 
 -- chunk upon chunk, and the input that they are put together
@@ -74,11 +74,11 @@ unfoldable pub joined : List (List ℕ) → List ℕ
 joined [] = []
 joined (c ∷ cs) = c ++ joined cs
 
-unfoldable pub afterAll : State → List (List ℕ) → State
+unfoldable pub afterAll : Between → List (List ℕ) → Between
 afterAll s [] = s
 afterAll s (c ∷ cs) = afterAll (after s c) cs
 
-unfoldable pub putAll : State → List (List ℕ) → List ℕ
+unfoldable pub putAll : Between → List (List ℕ) → List ℕ
 putAll s [] = []
 putAll s (c ∷ cs) = put s c ++ putAll (after s c) cs
 

@@ -12,15 +12,15 @@ use Rattle.basics.specs.Choice.{by-test, branch}
 use Rattle.scope.specs.Refusals.{outcome}
 use Rattle.entries.specs.Entry.{entry, isRefused}
 use Rattle.stream.specs.Lines.{lineEnd, refusal}
-use Rattle.stream.specs.Feeding.{holdLimit, State, holding, kept, behind, ended, stepped, after, put, plain}
+use Rattle.stream.specs.Feeding.{holdLimit, Between, holding, kept, behind, ended, stepped, after, put, plain}
 
 -- ---- "fed s (a ++ b)" is fed twice
-pub after-append : (s : State) (a b : List ℕ) → after s (a ++ b) ≡ after (after s a) b
+pub after-append : (s : Between) (a b : List ℕ) → after s (a ++ b) ≡ after (after s a) b
 unfolding after
 after-append s [] b = refl
 after-append s (x ∷ a) b = after-append (stepped (eqb x lineEnd) s x) a b
 
-pub put-append : (s : State) (a b : List ℕ) → put s (a ++ b) ≡ put s a ++ put (after s a) b
+pub put-append : (s : Between) (a b : List ℕ) → put s (a ++ b) ≡ put s a ++ put (after s a) b
 unfolding put after
 put-append s [] b = refl
 put-append s (x ∷ a) b =
@@ -75,11 +75,11 @@ put-line n r h t k e =
 refusal-few : (l : List ℕ) → refusal l ≤ 1
 refusal-few l = branch (λ z. z ≤ 1) (isRefused (outcome l)) (omega arith) (omega arith)
 
-step-few : (e : Bool) (s : State) (b : ℕ) → s .refused < s .number → stepped e s b .refused < stepped e s b .number
+step-few : (e : Bool) (s : Between) (b : ℕ) → s .refused < s .number → stepped e s b .refused < stepped e s b .number
 step-few true s b h = omega (arith, refusal-few (s .held))
 step-few false s b h = h
 
-pub after-few : (s : State) (t : List ℕ) → s .refused < s .number → after s t .refused < after s t .number
+pub after-few : (s : Between) (t : List ℕ) → s .refused < s .number → after s t .refused < after s t .number
 unfolding after
 after-few s [] h = h
 after-few s (b ∷ t) h = after-few (stepped (eqb b lineEnd) s b) t (step-few (eqb b lineEnd) s b h)

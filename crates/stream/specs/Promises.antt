@@ -162,7 +162,7 @@ pub record Drains (chunk : List ℕ) (number refused : ℕ) (hold : List ℕ) (h
   pub lost : more ≡ false → end ≡ Whole → ⊥
 
 -- the input is at its end, all that is put out then was taken, and the refused lines are counted; unless a write failed
-pub record Closes (number refused : ℕ) (hold : List ℕ) (held line total sent : ℕ) (more : Bool) (end : End) : Type 0 where
+pub record ClosesAt (number refused : ℕ) (hold : List ℕ) (held line total sent : ℕ) (more : Bool) (end : End) : Type 0 where
   pub same : line ≡ number
   pub over : more ≡ false
   pub taken : end ≡ Whole → sent ≡ length (finished (holding number refused (take held hold)))

@@ -15,7 +15,7 @@ use Rattle.scope.specs.Canonical.{decimal}
 use Rattle.scope.specs.Register.{report, printed}
 use Rattle.entries.specs.Entry.{entry, isRefused}
 use Rattle.stream.specs.Lines.{lineEnd, grown, inFront, lines, entriesFrom, register, refusal, refusedIn}
-use Rattle.stream.specs.Feeding.{holdLimit, State, holding, start, kept, ended, stepped, after, put, lastPut, finished, lastRefused, refusedAtEnd, joined, afterAll, putAll}
+use Rattle.stream.specs.Feeding.{holdLimit, Between, holding, start, kept, ended, stepped, after, put, lastPut, finished, lastRefused, refusedAtEnd, joined, afterAll, putAll}
 use Rattle.stream.specs.Laws.{after-append, put-append, kept-twice}
 
 -- ---- a line too long is answered by those of its bytes that are held
@@ -60,10 +60,10 @@ last n [] = refl
 last n (b ∷ h) = entry-front n (b ∷ h) ∙ sym (append-nil (entry n (b ∷ h))) ∙ ap (entriesFrom n) (sym (ahead-end b h))
 
 -- all that is put out from a state on
-abbrev rest : State → List ℕ → List ℕ
+abbrev rest : Between → List ℕ → List ℕ
 rest s t = put s t ++ finished (after s t)
 
-rest-cons : (s : State) (b : ℕ) (t : List ℕ) → rest s (b ∷ t) ≡ ended (eqb b lineEnd) s ++ rest (stepped (eqb b lineEnd) s b) t
+rest-cons : (s : Between) (b : ℕ) (t : List ℕ) → rest s (b ∷ t) ≡ ended (eqb b lineEnd) s ++ rest (stepped (eqb b lineEnd) s b) t
 unfolding put after
 rest-cons s b t =
     let r = stepped (eqb b lineEnd) s b in
@@ -126,12 +126,12 @@ pub refused-in-one : (s : List ℕ) → refusedAtEnd (after start s) ≡ refused
 refused-in-one s = let e : refusedAtEnd (after start s) ≡ 0 + refusedIn (lines s) = refused-from-here 1 0 [] s in omega (arith, e)
 
 -- ---- and in any chunks
-after-joined : (s : State) (cs : List (List ℕ)) → afterAll s cs ≡ after s (joined cs)
+after-joined : (s : Between) (cs : List (List ℕ)) → afterAll s cs ≡ after s (joined cs)
 unfolding afterAll joined after
 after-joined s [] = refl
 after-joined s (c ∷ cs) = after-joined (after s c) cs ∙ sym (after-append s c (joined cs))
 
-put-joined : (s : State) (cs : List (List ℕ)) → putAll s cs ≡ put s (joined cs)
+put-joined : (s : Between) (cs : List (List ℕ)) → putAll s cs ≡ put s (joined cs)
 unfolding putAll joined put
 put-joined s [] = refl
 put-joined s (c ∷ cs) = ap (λ z. put s c ++ z) (put-joined (after s c) cs) ∙ sym (put-append s c (joined cs))
@@ -145,33 +145,33 @@ pub refused-in-chunks : (cs : List (List ℕ)) → refusedAtEnd (afterAll start 
 refused-in-chunks cs = ap refusedAtEnd (after-joined start cs) ∙ refused-in-one (joined cs)
 
 -- ---- what is handed over, piece by piece: each text is all that is put out for the next bytes of the input, and the last one what is put out at its end
-pub record Piece : Type 0 where
+pub record HandedText : Type 0 where
   pub bytes : List ℕ
   pub text : List ℕ
 
-unfoldable pub bytesIn : List Piece → List ℕ
+unfoldable pub bytesIn : List HandedText → List ℕ
 bytesIn [] = []
 bytesIn (p ∷ ps) = p .bytes ++ bytesIn ps
 
-unfoldable pub textsOf : List Piece → List ℕ
+unfoldable pub textsOf : List HandedText → List ℕ
 textsOf [] = []
 textsOf (p ∷ ps) = p .text ++ textsOf ps
 
-abbrev pub HandsOver : State → List Piece → List ℕ → Type 0
+abbrev pub HandsOver : Between → List HandedText → List ℕ → Type 0
 HandsOver s [] last = last ≡ finished s
 HandsOver s (p ∷ ps) last = (p .text ≡ put s (p .bytes)) × HandsOver (after s (p .bytes)) ps last
 
-rest-append : (s : State) (a b : List ℕ) → rest s (a ++ b) ≡ put s a ++ rest (after s a) b
+rest-append : (s : Between) (a b : List ℕ) → rest s (a ++ b) ≡ put s a ++ rest (after s a) b
 rest-append s a b =
     ap (λ z. z ++ finished (after s (a ++ b))) (put-append s a b) ∙ ap (λ z. (put s a ++ put (after s a) b) ++ finished z) (after-append s a b)
     ∙ append-assoc (put s a) (put (after s a) b) (finished (after (after s a) b))
 
-pieces : (s : State) (ps : List Piece) (last : List ℕ) → HandsOver s ps last → textsOf ps ++ last ≡ rest s (bytesIn ps)
+pieces : (s : Between) (ps : List HandedText) (last : List ℕ) → HandsOver s ps last → textsOf ps ++ last ≡ rest s (bytesIn ps)
 unfolding textsOf bytesIn put after
 pieces s [] last h = h
 pieces s (p ∷ ps) last h =
     append-assoc (p .text) (textsOf ps) last ∙ ap (λ z. z ++ (textsOf ps ++ last)) (h .0)
     ∙ ap (λ z. put s (p .bytes) ++ z) (pieces (after s (p .bytes)) ps last (h .1)) ∙ sym (rest-append s (p .bytes) (bytesIn ps))
 
-pub handed-over : (ps : List Piece) (last : List ℕ) → HandsOver start ps last → textsOf ps ++ last ≡ register (bytesIn ps)
+pub handed-over : (ps : List HandedText) (last : List ℕ) → HandsOver start ps last → textsOf ps ++ last ≡ register (bytesIn ps)
 handed-over ps last h = pieces start ps last h ∙ in-one (bytesIn ps)

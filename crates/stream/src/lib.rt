@@ -28,7 +28,7 @@ ghost use Rattle.sheet.specs.Rows.{Roomy};
 ghost use Rattle.store.specs.Filled.{Clean};
 ghost use Rattle.stream.specs.Lines.{lineEnd};
 ghost use Rattle.stream.specs.Feeding.{holdLimit, lastPut, lastRefused, part, plain};
-ghost use Rattle.stream.specs.Promises.{strideSize, Passed, LineEnd, Keeps, Cuts, numberLimit, readLimit, outputLimit, sheetOf, Ready, Fronts, Runs, Feeds, Owed, OwedLast, noticeRoom, noticed, lineEnds, Received, Drains, Closes, Turns};
+ghost use Rattle.stream.specs.Promises.{strideSize, Passed, LineEnd, Keeps, Cuts, numberLimit, readLimit, outputLimit, sheetOf, Ready, Fronts, Runs, Feeds, Owed, OwedLast, noticeRoom, noticed, lineEnds, Received, Drains, ClosesAt, Turns};
 
 // So many bytes are looked at together for the end of a line.
 const STRIDE: usize = 16;
@@ -628,7 +628,7 @@ fn close(
     out: &mut [u8],
 ) -> Kept
     requires { ⌜ Ready (now hold) held (sheetOf (now letters) (now sections) (now heads) (now parts) (now masses) (now scores)) (now bytes) (now numbers) (now out) × (refused < number) ⌝ }
-    ensures { λ r. ⌜ Closes number refused (now (hold .entry)) held (r .number) (r .refused) (r .sent) (r .more) (r .end) ⌝ }
+    ensures { λ r. ⌜ ClosesAt number refused (now (hold .entry)) held (r .number) (r .refused) (r .sent) (r .more) (r .end) ⌝ }
 {
     let last = finish(
         number,

@@ -15,7 +15,7 @@ use Rattle.scope.specs.Content.{isPlain, textStep}
 use Rattle.scope.specs.Refusals.{dueAt, least, depthAfter, tooDeep}
 use Rattle.texts.specs.declared.TextEnd.{TextEnd}
 use Rattle.texts.specs.declared.TextEnd.the-variants.{Ends, Stuck}
-use Rattle.texts.specs.Texts.{Scanned, ends, stuck, stopped, scanText, coded, told, opensTooDeep, firstOf, deeper, stoppedDeep, scanDeep, isOuter}
+use Rattle.texts.specs.Texts.{TextScanned, ends, stuck, stopped, scanText, coded, told, opensTooDeep, firstOf, deeper, stoppedDeep, scanDeep, isOuter}
 use Rattle.texts.proofs.Firsts.{first-none, first-first, first-some}
 use Rattle.texts.proofs.Bounds.{placeOf, in-scan}
 use Rattle.texts.proofs.Steps.{outer-quiet}
@@ -112,7 +112,7 @@ stepped hashes (c ∷ cs) cs′ b h e = go (isOpening b) refl (eqb b c) refl (is
     go false p false q false r f = absurd (let w : _≡_ {A = ℕ} 0 1 = cc in omega arith)
 
 -- ---- behind what is told before i, with n pairs open there
-abbrev toldFrom : ℕ → ℕ → ℕ → List ℕ → Scanned → TextEnd
+abbrev toldFrom : ℕ → ℕ → ℕ → List ℕ → TextScanned → TextEnd
 toldFrom d n i l (ends e) = Ends e (firstOf d (deepFrom n i (take (e - i) l)))
 toldFrom d n i l (stuck e) = Stuck e
 
@@ -131,7 +131,7 @@ one-more n i d b t = go (opensTooDeep n b)
     go true = first-first d (i + 1) (deepFrom (depthAfter n b) (i + 1) t) ∙ ap (firstOf d) (first-some (i + 1) (deepFrom (depthAfter n b) (i + 1) t) (λ e. omega arith))
     go false = refl
 
-told-on : (cs cs′ l : List ℕ) (b i d : ℕ) → Stepped cs cs′ b → (r : Scanned) → i + 1 ≤ placeOf r
+told-on : (cs cs′ l : List ℕ) (b i d : ℕ) → Stepped cs cs′ b → (r : TextScanned) → i + 1 ≤ placeOf r
     → toldFrom (deeper cs b i d) (length cs′) (i + 1) l r ≡ toldFrom d (length cs) i (b ∷ l) r
 unfolding deeper
 told-on cs cs′ l b i d w (ends e) k =
@@ -154,7 +154,7 @@ scan-told hashes cs (b ∷ l) i d h = go (textStep hashes cs b) refl (λ cs′ w
         ih cs′ (w .shut) ∙ told-on cs cs′ l b i d w (scanText hashes cs′ l (i + 1)) (in-scan hashes cs′ l (i + 1) (i + 1 + length l) refl .0)
     go none e ih = told-stopped cs (b ∷ l) i d
 
-told-whole : (s : List ℕ) (at : ℕ) (r : Scanned) → toldFrom 0 0 at (drop at s) r ≡ told s at r
+told-whole : (s : List ℕ) (at : ℕ) (r : TextScanned) → toldFrom 0 0 at (drop at s) r ≡ told s at r
 unfolding firstOf
 told-whole s at (ends e) = ap (Ends e) (deep-is (take (e - at) (drop at s)) 0 at)
 told-whole s at (stuck e) = refl
@@ -163,10 +163,10 @@ pub text-told : (hashes : Bool) (s : List ℕ) (at : ℕ) → scanDeep hashes []
 text-told hashes s at = scan-told hashes [] (drop at s) at 0 tt ∙ told-whole s at (scanText hashes [] (drop at s) at)
 
 -- ---- and the other way round
-pub told-ends : (s : List ℕ) (at : ℕ) (r : Scanned) (e y : ℕ) → Ends e y ≡ told s at r → (ends e ≡ r) × (y ≡ coded (least (tooDeep 0 at (part at (e - at) s))))
+pub told-ends : (s : List ℕ) (at : ℕ) (r : TextScanned) (e y : ℕ) → Ends e y ≡ told s at r → (ends e ≡ r) × (y ≡ coded (least (tooDeep 0 at (part at (e - at) s))))
 told-ends s at (ends i) e y f = let same : e ≡ i = cc in let deep : y ≡ coded (least (tooDeep 0 at (part at (i - at) s))) = cc in rw same (refl, deep)
 told-ends s at (stuck i) e y f = absurd (let z : _≡_ {A = ℕ} 0 1 = cc in omega arith)
 
-pub told-stuck : (s : List ℕ) (at : ℕ) (r : Scanned) (e : ℕ) → Stuck e ≡ told s at r → stuck e ≡ r
+pub told-stuck : (s : List ℕ) (at : ℕ) (r : TextScanned) (e : ℕ) → Stuck e ≡ told s at r → stuck e ≡ r
 told-stuck s at (ends i) e f = absurd (let z : _≡_ {A = ℕ} 0 1 = cc in omega arith)
 told-stuck s at (stuck i) e f = cc

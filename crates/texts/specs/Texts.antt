@@ -15,17 +15,17 @@ use Rattle.texts.specs.declared.TextEnd.{TextEnd}
 use Rattle.texts.specs.declared.TextEnd.the-variants.{Ends, Stuck}
 
 -- a text ends at a place, or is stuck there inside a pair
-pub data Scanned : Type 0 where
-  ends : ℕ → Scanned
-  stuck : ℕ → Scanned
+pub data TextScanned : Type 0 where
+  ends : ℕ → TextScanned
+  stuck : ℕ → TextScanned
 
 -- the text can go no further at the place i: it ends there, unless a closer is owed
-abbrev pub stopped : List ℕ → ℕ → Scanned
+abbrev pub stopped : List ℕ → ℕ → TextScanned
 stopped [] i = ends i
 stopped (c ∷ cs) i = stuck i
 
 -- the bytes from the place i on, with the closers owed
-unfoldable pub scanText : Bool → List ℕ → List ℕ → ℕ → Scanned
+unfoldable pub scanText : Bool → List ℕ → List ℕ → ℕ → TextScanned
 scanText hashes cs [] i = stopped cs i
 scanText hashes cs (b ∷ l) i = given (textStep hashes cs b) (λ cs′. scanText hashes cs′ l (i + 1)) (stopped cs i)
 
@@ -35,7 +35,7 @@ coded none = 0
 coded (some i) = i + 1
 
 -- a text that starts at `at`, as it is told: where it ends, and the first place in it at which a pair is too deep
-abbrev pub told : List ℕ → ℕ → Scanned → TextEnd
+abbrev pub told : List ℕ → ℕ → TextScanned → TextEnd
 told line at (ends e) = Ends e (coded (least (tooDeep 0 at (part at (e - at) line))))
 told line at (stuck i) = Stuck i
 

@@ -15,7 +15,7 @@ use Rattle.scope.specs.Keys.{form, hashIsPlain}
 use Rattle.scope.specs.Lists.{given}
 use Rattle.scope.specs.Content.{Context, inText, lost, textStep, textEnd, innerStep}
 use Rattle.scope.specs.Reading.{Held, stuck}
-use Rattle.texts.specs.Texts.{Scanned, ends, stopped, scanText}
+use Rattle.texts.specs.Texts.{TextScanned, ends, stopped, scanText}
 use Rattle.texts.specs.Texts as texts
 use Rattle.values.specs.Says.{through}
 use Rattle.values.proofs.Through.{below, byte-there, drop-on, through-end, through-same, through-lost, through-going}
@@ -27,7 +27,7 @@ owing c a k [] x cs b = refl
 owing c a k (y ∷ t) x cs b = refl
 
 module _ (line : List ℕ) (s : Slot) (o : ℕ) (h : Held ℕ) (c : Context ℕ) (a : ℕ) (k : Key) (hashes : Bool) (plain : hashIsPlain (form k) ≡ hashes) where
-  abbrev pub TextSays : ℕ → List ℕ → List ℕ → List ℕ → Scanned → Type 0
+  abbrev pub TextSays : ℕ → List ℕ → List ℕ → List ℕ → TextScanned → Type 0
   TextSays j t cs l (ends e) =
       (j ≤ e) × (e ≤ length line) × (through line s o h j (innerStep j (inText c a k t cs)) ≡ through line s o h e (textEnd c a k (t ++ take (e - j) l) []))
   TextSays j t cs l (texts.stuck e) = through line s o h j (innerStep j (inText c a k t cs)) ≡ stuck e
@@ -51,7 +51,7 @@ module _ (line : List ℕ) (s : Slot) (o : ℕ) (h : Held ℕ) (c : Context ℕ)
       through-end line s o h j (innerStep j (inText c a k t (x ∷ cs))) m ∙ ap stuck w)
 
   -- one byte of the text
-  goes : (j b : ℕ) (t cs cs′ l : List ℕ) (r : Scanned) → drop j line ≡ b ∷ l → textStep hashes cs b ≡ some cs′
+  goes : (j b : ℕ) (t cs cs′ l : List ℕ) (r : TextScanned) → drop j line ≡ b ∷ l → textStep hashes cs b ≡ some cs′
       → TextSays (j + 1) (t ++ (b ∷ [])) cs′ l r → TextSays j t cs (b ∷ l) r
   unfolding innerStep
   goes j b t cs cs′ l (ends e) d p w =

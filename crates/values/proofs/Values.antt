@@ -27,8 +27,8 @@ use Rattle.scope.specs.Reading.{Held, nothing, front}
 use Rattle.scope.specs.Refusals.{inRange, least, tooDeep}
 use Rattle.numerals.specs.declared.Num.{Num}
 use Rattle.numerals.specs.declared.Num.the-variants.{Value as NumValue, Wide as NumWide, NoNumber}
-use Rattle.numerals.specs.Numerals.{Scanned, found, scanNumber, kept, numOf}
-use Rattle.texts.specs.Texts.{Scanned as ScannedText, ends, stuck as text-over, scanText}
+use Rattle.numerals.specs.Numerals.{TextScanned, found, scanNumber, kept, numOf}
+use Rattle.texts.specs.Texts.{TextScanned as ScannedText, ends, stuck as text-over, scanText}
 use Rattle.texts.proofs.Bounds.{text-in}
 use Rattle.sheet.specs.Rows.{massNoted, decimalsNoted}
 use Rattle.values.specs.declared.Value.{Value}
@@ -80,7 +80,7 @@ module _ (line : List ℕ) (at : ℕ) (key : Key) (sign j : ℕ) (d : Digits) (s
   abbrev massStart : Context ℕ → ℕ → Content ℕ
   massStart c = innerStep j (inNumber c at key sign d)
 
-  mass-says : (r : Scanned) → scanNumber sign d (drop j line) j ≡ r → (s : Slot) (o : ℕ) (h : Held ℕ) (c : Context ℕ)
+  mass-says : (r : TextScanned) → scanNumber sign d (drop j line) j ≡ r → (s : Slot) (o : ℕ) (h : Held ℕ) (c : Context ℕ)
       → NumberSays line s o h sign (λ y. inNumber c at key sign y) (λ m. valueEnd c (unlabelled at key (mass m))) (mass-goes c) (mass-stops c) j d r
   mass-says r f s o h c =
       subst

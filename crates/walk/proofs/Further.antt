@@ -22,7 +22,7 @@ use Rattle.walk.specs.declared.Stage.{Stage}
 use Rattle.walk.specs.declared.Step.{Step}
 use Rattle.walk.specs.declared.Step.the-variants.{Stuck, More}
 use Rattle.walk.specs.Stages.{heldBrackets, Lent, withHeads, HasRoom, nothingDue, BracketsAre, Upto, Does, Low, firstStage}
-use Rattle.walk.specs.Steps.{goneTo, settledIn, Settled, StepSays}
+use Rattle.walk.specs.Steps.{goneTo, settledIn, Settled, Stepped}
 use Rattle.walk.specs.Walked.{LineSays}
 use Rattle.walk.proofs.Modes.{ActFits, act-fits, ends-settled}
 use Rattle.walk.proofs.Dues.{met-none, met-settled}
@@ -198,11 +198,11 @@ module _ {line : List ℕ} {s : Stage} {t : Lent} (u : Upto line s t) (past : le
 pub does-this : {line : List ℕ} {s : Stage} {t : Lent} → (length line ≤ lineLimit) × (s .at < length line) × Upto line s t → {r a : Act} → r ≡ act (s .mode) (getD line (s .at) 0) → r ≡ a → Does line s a t
 does-this p e g = record { upto = p .2; here = p .1; short = p .0; does = sym e ∙ g }
 
-pub step-stuck : (line : List ℕ) (s : Stage) (t : Lent) {r : Step} {p : ℕ} → StepSays line s r t → r ≡ Stuck p → reading line ≡ stuck p
-step-stuck line s t f e = subst (λ x. StepSays line s x t) e f
+pub step-stuck : (line : List ℕ) (s : Stage) (t : Lent) {r : Step} {p : ℕ} → Stepped line s r t → r ≡ Stuck p → reading line ≡ stuck p
+step-stuck line s t f e = subst (λ x. Stepped line s x t) e f
 
-pub step-more : (line : List ℕ) (s : Stage) (t : Lent) {r : Step} {n : Stage} → StepSays line s r t → r ≡ More n → Upto line n t × (s .at < n .at)
-step-more line s t f e = subst (λ x. StepSays line s x t) e f
+pub step-more : (line : List ℕ) (s : Stage) (t : Lent) {r : Step} {n : Stage} → Stepped line s r t → r ≡ More n → Upto line n t × (s .at < n .at)
+step-more line s t f e = subst (λ x. Stepped line s x t) e f
 
 -- ---- the whole line, stage by stage
 -- the tables are as long as they were

@@ -17,7 +17,7 @@ use Rattle.basics.specs.Choice.{branch, pick-true, pick-false}
 use Rattle.basics.specs.Tests.{and-left, and-right, implied}
 use Rattle.reading_laws.specs.Acts.{act-rule, ofSlot, ByteOf, act-byte, Ending, single-ends, ranged-ends, unsure-ends, cterms-end, ending}
 use Rattle.classes.specs.Runs.{span}
-use Rattle.walk.specs.Stages.{LastFresh, Waiting, none-waits, last-fresh, any-waits, digits-over, Fits, waiting, ModeFits}
+use Rattle.walk.specs.Stages.{LastFresh, Waiting, none-waits, last-fresh, any-waits, digits-over, WaitsFor, waiting, ModeFits}
 
 -- a bracket in this slot: it waits, with no count yet, or it is settled at once, and none waits
 pub record SlotFits (s : Slot) (r : List (Bracket ℕ)) : Type 0 where
@@ -55,31 +55,31 @@ fresh? a = elim a [ none-waits ↦ false | last-fresh ↦ true | any-waits ↦ f
 abbrev digit? : Waiting → Bool
 digit? a = elim a [ none-waits ↦ false | last-fresh ↦ true | any-waits ↦ false | digits-over ↦ true ]
 
-none-waiting : (a : Waiting) (r : List (Bracket ℕ)) (l : List ℕ) → none? a ≡ true → Fits a r l → r ≡ []
+none-waiting : (a : Waiting) (r : List (Bracket ℕ)) (l : List ℕ) → none? a ≡ true → WaitsFor a r l → r ≡ []
 none-waiting none-waits r l e f = f
 none-waiting last-fresh r l e f = absurd (false≢true e)
 none-waiting any-waits r l e f = absurd (false≢true e)
 none-waiting digits-over r l e f = absurd (false≢true e)
 
-fits-none : (a : Waiting) (r : List (Bracket ℕ)) (l : List ℕ) → none? a ≡ true → r ≡ [] → Fits a r l
+fits-none : (a : Waiting) (r : List (Bracket ℕ)) (l : List ℕ) → none? a ≡ true → r ≡ [] → WaitsFor a r l
 fits-none none-waits r l e f = f
 fits-none last-fresh r l e f = absurd (false≢true e)
 fits-none any-waits r l e f = absurd (false≢true e)
 fits-none digits-over r l e f = absurd (false≢true e)
 
-fits-newest : (a : Waiting) (r : List (Bracket ℕ)) (l : List ℕ) → takes? a ≡ true → LastFresh r → Fits a r l
+fits-newest : (a : Waiting) (r : List (Bracket ℕ)) (l : List ℕ) → takes? a ≡ true → LastFresh r → WaitsFor a r l
 fits-newest none-waits r l e f = absurd (false≢true e)
 fits-newest last-fresh r l e f = f
 fits-newest any-waits r l e f = tt
 fits-newest digits-over r l e f = absurd (false≢true e)
 
-fresh-waiting : (a : Waiting) (r : List (Bracket ℕ)) (l : List ℕ) → fresh? a ≡ true → Fits a r l → LastFresh r
+fresh-waiting : (a : Waiting) (r : List (Bracket ℕ)) (l : List ℕ) → fresh? a ≡ true → WaitsFor a r l → LastFresh r
 fresh-waiting none-waits r l e f = absurd (false≢true e)
 fresh-waiting last-fresh r l e f = f
 fresh-waiting any-waits r l e f = absurd (false≢true e)
 fresh-waiting digits-over r l e f = absurd (false≢true e)
 
-fresh-before : (a : Waiting) (r : List (Bracket ℕ)) (l : List ℕ) (b : ℕ) → digit? a ≡ true → isDigit b ≡ true → Fits a r (b ∷ l) → LastFresh r
+fresh-before : (a : Waiting) (r : List (Bracket ℕ)) (l : List ℕ) (b : ℕ) → digit? a ≡ true → isDigit b ≡ true → WaitsFor a r (b ∷ l) → LastFresh r
 fresh-before none-waits r l b e d f = absurd (false≢true e)
 fresh-before last-fresh r l b e d f = f
 fresh-before any-waits r l b e d f = absurd (false≢true e)
@@ -104,10 +104,10 @@ actFits m Digit = digit? (waiting m)
 actFits m RunEnds = true
 actFits m TermEnds = true
 
-passes-fits : (a c : Waiting) → passes a c ≡ true → (r : List (Bracket ℕ)) (l k : List ℕ) → Fits a r l → Fits c r k
+passes-fits : (a c : Waiting) → passes a c ≡ true → (r : List (Bracket ℕ)) (l k : List ℕ) → WaitsFor a r l → WaitsFor c r k
 passes-fits a c e r l k f = go (none? a) refl e
   where
-    go : (t : Bool) → none? a ≡ t → cond t (none? c) (fresh? a && takes? c) ≡ true → Fits c r k
+    go : (t : Bool) → none? a ≡ t → cond t (none? c) (fresh? a && takes? c) ≡ true → WaitsFor c r k
     go true q g = fits-none c r k g (none-waiting a r l q f)
     go false q g = fits-newest c r k (and-right (fresh? a) _ g) (fresh-waiting a r l (and-left _ _ g) f)
 

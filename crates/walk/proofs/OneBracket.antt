@@ -33,7 +33,7 @@ use Rattle.walk.specs.declared.Stage.{Stage}
 use Rattle.walk.specs.declared.Step.{Step}
 use Rattle.walk.specs.declared.Step.the-variants.{Stuck, More}
 use Rattle.walk.specs.Stages.{ModeFits, heldBrackets, Lent, lent, nothingDue, ResiduesAre, BracketsAre, Upto, Does}
-use Rattle.walk.specs.Steps.{noted?, runBehind, bracketBehind, openingOf, BracketAsks, BracketStuck, BracketRead, BracketStep, StepSays}
+use Rattle.walk.specs.Steps.{noted?, runBehind, bracketBehind, openingOf, BracketAsks, BracketStuck, BracketRead, BracketStep, Stepped}
 use Rattle.walk.proofs.Modes.{SlotFits, labels-there}
 use Rattle.walk.proofs.Dues.{met-bracket}
 use Rattle.walk.proofs.Notes.{noted-more}
@@ -193,6 +193,6 @@ module _ {line : List ℕ} {s : Stage} {t : Lent} {slot : Slot} (d : Does line s
         subst (λ y. Upto line y (lent (t .letters) (t .sections) heads parts masses scores) × (s .at < y .at)) (sym (w .noted .stage)) (bracket-upto, past)
 
   pub bracket-step : (r : Step) (heads parts : List ℕ) (masses scores : List ℤ) → BracketStep line s slot r (t .heads) heads (t .parts) parts (t .masses) masses (t .scores) scores
-      → StepSays line s r (lent (t .letters) (t .sections) heads parts masses scores)
+      → Stepped line s r (lent (t .letters) (t .sections) heads parts masses scores)
   bracket-step (Stuck p) heads parts masses scores w = bracket-stuck w
   bracket-step (More r) heads parts masses scores w = bracket-more w

@@ -25,7 +25,7 @@ use Rattle.dues.specs.Lines.{wideRank, metCodes}
 use Rattle.inside.proofs.Lists.{length-snoc}
 use Rattle.walk.specs.declared.Stage.{Stage}
 use Rattle.walk.specs.Stages.{LastFresh, ModeFits, heldBrackets, Lent, withHeads, nothingDue, BracketsAre, Upto, Does}
-use Rattle.walk.specs.Steps.{countPut, wrongCount, countedTo, CountSays}
+use Rattle.walk.specs.Steps.{countPut, wrongCount, countedTo, CountNoted}
 use Rattle.walk.proofs.Counts.{withCount, count-read, count-stops, count-within, count-past}
 use Rattle.walk.proofs.Dues.{met-count}
 use Rattle.walk.proofs.Notes.{noted-count}
@@ -101,7 +101,7 @@ module _ {line : List ℕ} {s : Stage} {t : Lent} (d : Does line s Digit t) wher
           roomy = room-heads (u .roomy) (put-long (s .brackets) value (t .heads));
         }
 
-  pub count-more : {r : Stage} {heads : List ℕ} → CountSays line s r (t .heads) heads → Upto line r (withHeads t heads) × (s .at < r .at)
+  pub count-more : {r : Stage} {heads : List ℕ} → CountNoted line s r (t .heads) heads → Upto line r (withHeads t heads) × (s .at < r .at)
   count-more {r} {heads} w =
       let past : s .at < w .next = omega (arith, w .is .ends, count-past line (s .at) (d .here) digit-here) in
       subst (λ y. Upto line y (withHeads t heads) × (s .at < y .at)) (sym (w .stage))

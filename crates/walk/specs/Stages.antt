@@ -36,11 +36,11 @@ pub data Waiting : Type 0 where
   any-waits : Waiting
   digits-over : Waiting
 
-abbrev pub Fits : Waiting → List (Bracket ℕ) → List ℕ → Type 0
-Fits none-waits r l = r ≡ []
-Fits last-fresh r l = LastFresh r
-Fits any-waits r l = Unit {0}
-Fits digits-over r l = span isDigit l ≡ 0
+abbrev pub WaitsFor : Waiting → List (Bracket ℕ) → List ℕ → Type 0
+WaitsFor none-waits r l = r ≡ []
+WaitsFor last-fresh r l = LastFresh r
+WaitsFor any-waits r l = Unit {0}
+WaitsFor digits-over r l = span isDigit l ≡ 0
 
 -- what a mode says of them, by what may be done there: count on, end a run, end the N-terminus
 abbrev pub waiting : Mode → Waiting
@@ -49,7 +49,7 @@ waiting m =
     (cond (someWay endsRun (ways m)) last-fresh (cond (someWay endsTerm (ways m)) any-waits none-waits))
 
 abbrev pub ModeFits : Mode → List (Bracket ℕ) → List ℕ → Type 0
-ModeFits m r l = Fits (waiting m) r l
+ModeFits m r l = WaitsFor (waiting m) r l
 
 abbrev pub heldBrackets : Held ℕ → List (Bracket ℕ)
 heldBrackets h = h .brackets ++ h .run

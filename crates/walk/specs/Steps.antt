@@ -75,7 +75,7 @@ countedTo s next value =
       least = lowest (s .least) (map (code wideRank) (dueAt (wrongCount value) (s .at)));
     }
 
-pub record CountSays (line : List ℕ) (s r : Stage) (heads heads′ : List ℕ) : Type 0 where
+pub record CountNoted (line : List ℕ) (s r : Stage) (heads heads′ : List ℕ) : Type 0 where
   pub value : ℕ
   pub next : ℕ
   pub is : CountAt line (s .at) value next
@@ -214,6 +214,6 @@ BracketStep line s slot (Stuck p) heads heads′ parts parts′ masses masses′
 BracketStep line s slot (More r) heads heads′ parts parts′ masses masses′ scores scores′ = BracketRead line s slot r heads heads′ parts parts′ masses masses′ scores scores′
 
 -- ---- one step further
-abbrev pub StepSays : List ℕ → Stage → Step → Lent → Type 0
-StepSays line s (Stuck p) t = reading line ≡ stuck p
-StepSays line s (More r) t = Upto line r t × (s .at < r .at)
+abbrev pub Stepped : List ℕ → Stage → Step → Lent → Type 0
+Stepped line s (Stuck p) t = reading line ≡ stuck p
+Stepped line s (More r) t = Upto line r t × (s .at < r .at)

@@ -25,7 +25,7 @@ ghost use Rattle.classes.specs.Runs.{span};
 ghost use Rattle.sheet.specs.Rows.{headFields, headsRoom, Roomy};
 ghost use Rattle.sheet.specs.Fields.{headRow, HeadFits};
 ghost use Rattle.walk.specs.Stages.{Lent, lent, Upto, Low, firstStage};
-ghost use Rattle.walk.specs.Steps.{goneTo, settledIn, Settled, countPut, wrongCount, CountSays, behind, groupOf, lettersPut, sectionsPut, RunSays, runBehind, HeadSays, NotedSays, BracketAsks, BracketStep, StepSays};
+ghost use Rattle.walk.specs.Steps.{goneTo, settledIn, Settled, countPut, wrongCount, CountNoted, behind, groupOf, lettersPut, sectionsPut, RunSays, runBehind, HeadSays, NotedSays, BracketAsks, BracketStep, Stepped};
 ghost use Rattle.walk.specs.Walked.{WalkSays};
 
 // The place where no line goes on; or how many residues and brackets the line holds, and the first refusal due of 5 to 9.
@@ -393,7 +393,7 @@ fn is_wrong_count(value: usize) -> bool
 // The digits of a count.
 fn count_read(line: &[u8], heads: &mut [u16], s: Stage) -> Stage
     requires { ⌜ Low s × (0 < s .brackets) × (headsRoom ≤ length (now heads)) ⌝ }
-    ensures { λ r. ⌜ CountSays (now (line .entry)) s r (now (heads .entry)) (now (heads .exit)) ⌝ }
+    ensures { λ r. ⌜ CountNoted (now (line .entry)) s r (now (heads .entry)) (now (heads .exit)) ⌝ }
 {
     let at = s.at;
     let count = numerals::count_at(line, at);
@@ -476,7 +476,7 @@ fn step_from(
     s: Stage,
 ) -> Step
     requires { ⌜ (length (now line) ≤ lineLimit) × (s .at < length (now line)) × Upto (now line) s (lent (now letters) (now sections) (now heads) (now parts) (now masses) (now scores)) ⌝ }
-    ensures { λ r. ⌜ StepSays (now (line .entry)) s r (lent (now (letters .exit)) (now (sections .exit)) (now (heads .exit)) (now (parts .exit)) (now (masses .exit)) (now (scores .exit))) ⌝ }
+    ensures { λ r. ⌜ Stepped (now (line .entry)) s r (lent (now (letters .exit)) (now (sections .exit)) (now (heads .exit)) (now (parts .exit)) (now (masses .exit)) (now (scores .exit))) ⌝ }
 {
     let at = s.at;
     let mode = s.mode;

@@ -25,7 +25,7 @@ use Rattle.writer.specs.declared.Shape.the-variants.{Counted, Curly, Squ
 use Rattle.figures.specs.Written.{Puts, ceiling}
 use Rattle.writer.specs.Written.{WholeLine, residueMost, residuesMost}
 use Rattle.writer.specs.Here.{Room}
-use Rattle.writer.specs.Ranks.{rankOf, rank, rankIn, cTermRank, Ready, textAs, rankedText, runText, frontText, Walks, residueText, Spelt, Clear, Behind, Spells}
+use Rattle.writer.specs.Ranks.{rankOf, rank, rankIn, cTermRank, Ready, textAs, rankedText, runText, frontText, Walks, residueText, Spelt, NoneBelow, Behind, Spells}
 use Rattle.figures.proofs.Storing.{stored-whole, puts-within, puts-length}
 use Rattle.writer.proofs.RankLaws.{rank-is, rank-within, rank-tells, tabled-from, tabled-over}
 use Rattle.writer.proofs.RunLaws.{run-one, none-of}
@@ -214,7 +214,7 @@ module _ (bs : List ℕ) (e : ℕ) (o : List ℕ) (p at : ℕ) where
       }
 
 -- brackets of rank q and above stand behind the residues whose rank is below q
-pub behind-clear : (bs : List ℕ) {j q e : ℕ} → Clear bs j q → ((i : ℕ) → i < e → rankOf OnResidue (i + 1) < q) → Behind bs j e
+pub behind-clear : (bs : List ℕ) {j q e : ℕ} → NoneBelow bs j q → ((i : ℕ) → i < e → rankOf OnResidue (i + 1) < q) → Behind bs j e
 behind-clear bs c h = λ i k l g w. omega (arith, c k g w, h i l)
 
 -- ---- what closes and what leads
@@ -264,7 +264,7 @@ module _ (bs : List ℕ) (ns : List ℤ) {m : ℕ} (e : m ≡ bracketsField bs) 
         rw (c, w) (led dash (runText Square t (tabled (bracketIn bs ns) 0 (m - 1))) _ _)
 
 -- ---- the line
-module _ (bs : List ℕ) (ns : List ℤ) {q : ℕ} (c : Clear bs 0 q) where
+module _ (bs : List ℕ) (ns : List ℤ) {q : ℕ} (c : NoneBelow bs 0 q) where
   none-below : (shape : Shape) (r : ℕ) → r < q → runText shape r (tablesIn bs ns .brackets) ≡ []
   unfolding tablesIn
   none-below shape r h = none-of bs ns shape r (bracketsField bs) (λ i l e. omega (arith, c i (omega arith) l, e))

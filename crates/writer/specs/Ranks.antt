@@ -17,7 +17,7 @@ use Rattle.writer.specs.declared.Shape.{Shape}
 use Rattle.writer.specs.declared.Shape.the-variants.{Counted, Curly, Square}
 use Rattle.figures.specs.Written.{Puts}
 use Rattle.writer.specs.Written.{bracketMost, residueMost}
-pub use Rattle.order_laws.specs.Ranks.{rankStep, rankOf, rank, Ordered}
+pub use Rattle.order_laws.specs.Ranks.{rankStep, rankOf, rank, InOrder}
 unfoldable pub use Rattle.order_laws.specs.Ranks.{rising, orderedb}
 
 -- ---- the same in the areas
@@ -79,8 +79,8 @@ pub record Spelt (bs : List ℕ) (ns : List ℤ) (n from : ℕ) (o : List ℕ) (
   pub walks : Walks bs (residueMost * p) from (rankOf OnResidue (p + 1)) o at done out a j
 
 -- no bracket from bracket j on has a rank below q
-abbrev pub Clear : List ℕ → ℕ → ℕ → Type 0
-Clear bs j q = (k : ℕ) → j ≤ k → k < bracketsField bs → q ≤ rankIn bs k
+abbrev pub NoneBelow : List ℕ → ℕ → ℕ → Type 0
+NoneBelow bs j q = (k : ℕ) → j ≤ k → k < bracketsField bs → q ≤ rankIn bs k
 
 -- every bracket from bracket j on stands behind the first e residues and their brackets
 abbrev pub Behind : List ℕ → ℕ → ℕ → Type 0

@@ -21,7 +21,7 @@ ghost use Rattle.areas.specs.Bounds.{Bounds};
 ghost use Rattle.figures.specs.Written.{Puts, ceiling};
 ghost use Rattle.writer.specs.Written.{valueMost, scoreMost, labelMost, partMost, nextMost, partsMost, betweenMost, bracketMost, residueMost, residuesMost, frontMost, lineMost, scoredText, nextText, WholeLine};
 ghost use Rattle.writer.specs.Here.{BracketHere, PartHere, Room};
-ghost use Rattle.writer.specs.Ranks.{rankOf, rankIn, cTermRank, orderedb, Ready, textAs, rankedText, runText, frontText, Walks, residueText, Clear, Behind, Spells, Ordered};
+ghost use Rattle.writer.specs.Ranks.{rankOf, rankIn, cTermRank, orderedb, Ready, textAs, rankedText, runText, frontText, Walks, residueText, NoneBelow, Behind, Spells, Ordered};
 
 // The codes of a part's value: a mass, a text.
 const MASS: usize = 1;
@@ -456,7 +456,7 @@ fn c_term_rank(bytes: &[u8]) -> usize
 // The rank of bracket j, or that of the C-terminus where there is no such bracket.
 fn next_rank(bytes: &[u8], j: usize) -> usize
     requires { ⌜ (bytesSize ≤ length (now bytes)) × (bracketsField (now bytes) ≤ bracketLimit) ⌝ }
-    ensures { λ r. ⌜ ((ns : List ℤ) → Ready (now (bytes .entry)) ns → Clear (now (bytes .entry)) j r) ⌝ }
+    ensures { λ r. ⌜ ((ns : List ℤ) → Ready (now (bytes .entry)) ns → NoneBelow (now (bytes .entry)) j r) ⌝ }
 {
     if j < areas::brackets(bytes) {
         return rank_at(bytes, j);

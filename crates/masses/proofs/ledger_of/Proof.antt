@@ -18,14 +18,14 @@ loop-holds c =
     let p = c .before .placed-ledger .ensures in
     (p .0, floating-start (c .before .before .before .before .pre) (p .1) (c .brackets .ensures .0))
 
-put-bracket-requires : tie.Need-put-bracket-requires Inv-loop μ-loop
-put-bracket-requires c κs = floating-asks (c .before .before .loop .inv .1) (c .before .loop-test .taken)
+book-bracket-requires : tie.Need-book-bracket-requires Inv-loop μ-loop
+book-bracket-requires c κs = floating-asks (c .before .before .loop .inv .1) (c .before .loop-test .taken)
 
 loop-again : tie.Need-loop-again Inv-loop μ-loop
 loop-again c =
     let l = c .before .before in
     let v = l .before .loop .inv in
-    (v .0, floating-next (v .1) (l .loop-test .taken) (c .put-bracket .ensures))
+    (v .0, floating-next (v .1) (l .loop-test .taken) (c .book-bracket .ensures))
 
 returns : tie.Need-returns Inv-loop μ-loop
 returns c =
@@ -36,5 +36,5 @@ pub ledger-of-spec : {M : Type 1} → statement M
 ledger-of-spec =
     tie.close
     (tie.spec Inv-loop μ-loop
-    (λ c κs. c .before .before .pre) (λ c κs. c .before .before .before .pre .bytes-room) loop-holds put-bracket-requires (λ c. omega arith)
+    (λ c κs. c .before .before .pre) (λ c κs. c .before .before .before .pre .bytes-room) loop-holds book-bracket-requires (λ c. omega arith)
     (λ c. omega arith) loop-again returns)

@@ -4,20 +4,20 @@ use borrow.Author.Needs.{needs}
 use Rattle.store.proofs.store.Statement.{statement}
 use Rattle.store.proofs.store.Tie as tie
 
-put-front-requires : tie.Need-put-front-requires
-put-front-requires c κs = front-fits (c .before .before .before .before .before .before .before .pre)
+store-front-requires : tie.Need-store-front-requires
+store-front-requires c κs = front-fits (c .before .before .before .before .before .before .before .pre)
 
-put-brackets-requires : tie.Need-put-brackets-requires
-put-brackets-requires c κs =
+store-brackets-requires : tie.Need-store-brackets-requires
+store-brackets-requires c κs =
     let p = c .before .before .before .before in
-    brackets-fit (p .before .before .before .before .before .before .before .before .pre) (p .put-front .ensures)
+    brackets-fit (p .before .before .before .before .before .before .before .before .pre) (p .store-front .ensures)
 
 returns : tie.Need-returns
 returns c =
     let b = c .before .before .before in
     let p = b .before .before .before .before .before in
-    filled (p .before .before .before .before .before .before .before .before .pre) (p .put-front .ensures) (b .put-brackets .ensures)
+    filled (p .before .before .before .before .before .before .before .before .pre) (p .store-front .ensures) (b .store-brackets .ensures)
 
 pub store-spec : {M : Type 1} → statement M
 store-spec =
-    tie.close (tie.spec put-front-requires put-brackets-requires (λ c. search needs) (λ c. search needs) returns)
+    tie.close (tie.spec store-front-requires store-brackets-requires (λ c. search needs) (λ c. search needs) returns)

@@ -1,9 +1,9 @@
--- `store::put_brackets` meets its contract: one bracket after another. Assumes nothing.
+-- `store::store_brackets` meets its contract: one bracket after another. Assumes nothing.
 use native.Mathlib.Omega.{arith}
 use Prim.Native.Nat.{_-_}
 use Rattle.store.proofs.BracketLaws.{Bracketing, bracketing-start, bracketing-fits, bracketing-next, bracketing-end}
-use Rattle.store.proofs.put_brackets.Statement.{statement}
-use Rattle.store.proofs.put_brackets.Tie as tie
+use Rattle.store.proofs.store_brackets.Statement.{statement}
+use Rattle.store.proofs.store_brackets.Tie as tie
 
 abbrev Inv-loop : tie.InvT-loop
 Inv-loop line heads parts masses scores n bytes₀ numbers₀ k₀ t₀ bytes numbers k t = Bracketing line heads parts masses scores n bytes₀ numbers₀ k t bytes numbers
@@ -11,8 +11,8 @@ Inv-loop line heads parts masses scores n bytes₀ numbers₀ k₀ t₀ bytes nu
 abbrev μ-loop : tie.MeasureT-loop
 μ-loop line heads parts masses scores n bytes₀ numbers₀ k₀ t₀ bytes numbers k t = n - k
 
-put-bracket-requires : tie.Need-put-bracket-requires Inv-loop μ-loop
-put-bracket-requires c κs =
+store-bracket-requires : tie.Need-store-bracket-requires Inv-loop μ-loop
+store-bracket-requires c κs =
     let l = c .before .before in
     bracketing-fits (l .before .loop .inv) (l .before .before .before .before .before .before .pre) (l .loop-test .taken)
 
@@ -26,14 +26,14 @@ loop-again : tie.Need-loop-again Inv-loop μ-loop
 loop-again c =
     let p = c .before .before .before in
     let l = p .before .before .before in
-    bracketing-next (l .before .loop .inv) (l .loop-test .taken) (p .put-bracket .ensures) (p .put-bracket .kept .1 .1 .1 .1 .1 .1 .1 .0) (p .put-bracket .kept .1 .1 .1 .1 .1 .1 .1 .1 .0)
+    bracketing-next (l .before .loop .inv) (l .loop-test .taken) (p .store-bracket .ensures) (p .store-bracket .kept .1 .1 .1 .1 .1 .1 .1 .0) (p .store-bracket .kept .1 .1 .1 .1 .1 .1 .1 .1 .0)
 
 returns : tie.Need-returns Inv-loop μ-loop
 returns c = bracketing-end (c .before .loop .inv) (c .loop-test .left)
 
-pub put-brackets-spec : {M : Type 1} → statement M
-put-brackets-spec =
+pub store-brackets-spec : {M : Type 1} → statement M
+store-brackets-spec =
     tie.close
     (tie.spec
-    Inv-loop μ-loop (λ c. bracketing-start _ _ _ _ _ _ _ _) put-bracket-requires add-k loop-less loop-again (λ c. c .before .loop .inv .bytes-long)
+    Inv-loop μ-loop (λ c. bracketing-start _ _ _ _ _ _ _ _) store-bracket-requires add-k loop-less loop-again (λ c. c .before .loop .inv .bytes-long)
     (λ c. c .before .loop .inv .numbers-long) returns)

@@ -1,4 +1,4 @@
--- `masses::put` meets its contract. Assumes nothing.
+-- `masses::book_copies` meets its contract. Assumes nothing.
 use mathlib.Core.Path.{_≡_, refl}
 use Prim.Native.Nat.{_-_}
 use native.Mathlib.Omega.{arith}
@@ -9,8 +9,8 @@ use mir.Val.{toZ}
 use mir.ValLaws.{toZ-ofZ}
 use Rattle.scope.specs.Limits.{copyLimit}
 use Rattle.masses.proofs.LedgerLaws.{Putting, putting-start, putting-few, putting-asks, putting-again, putting-end}
-use Rattle.masses.proofs.put.Statement.{statement}
-use Rattle.masses.proofs.put.Tie as tie
+use Rattle.masses.proofs.book_copies.Statement.{statement}
+use Rattle.masses.proofs.book_copies.Tie as tie
 
 abbrev Inv-loop : tie.InvT-loop
 Inv-loop l₀ i c m at end j₀ l j = Putting l₀ at i c (toZ w64 m) end j l
@@ -49,8 +49,8 @@ returns c =
     let start = c .before .before .before in
     putting-end (c .before .loop .inv) (c .loop-test .left) (toZ-ofZ w64 (start .args .m) (start .fits .m))
 
-pub put-spec : {M : Type 1} → statement M
-put-spec =
+pub book-copies-spec : {M : Type 1} → statement M
+book-copies-spec =
     tie.close
     (tie.spec
     Inv-loop

@@ -1,9 +1,9 @@
--- `store::put_part` meets its contract: the texts, the row and the mass are put one after another. Assumes nothing.
+-- `store::store_part` meets its contract: the texts, the row and the mass are put one after another. Assumes nothing.
 use native.Mathlib.Omega.{arith}
 use Rattle.store.proofs.PutRows.{back, part-put, part-ends}
 use borrow.Author.Needs.{needs}
-use Rattle.store.proofs.put_part.Statement.{statement}
-use Rattle.store.proofs.put_part.Tie as tie
+use Rattle.store.proofs.store_part.Statement.{statement}
+use Rattle.store.proofs.store_part.Tie as tie
 
 number-requires : tie.Need-number-requires
 number-requires c κs = let s = c .before .before .before .before .before .before .before .before .before .before .before .before .before .before .before .before .before .before .before .before .before .before .before .before in omega (arith, s .pre .masses-room, s .pre .few-rows)
@@ -46,8 +46,8 @@ returns c =
     part-put (s .pre) (f .text-from .ensures .0) (w .text-to .ensures .0) (l .label-from .ensures .0) (e .label-to .ensures .0) (x .copy .ensures) (y .copy2 .ensures)
     (v .value-of .ensures .0) (k .key-of .ensures .0) (d .decimals-of .ensures .0) (o .offset-of .ensures .0) (r .put-part .ensures) (back _ (n .number .ok) (n .number .ensures)) (p .put-mass .ensures)
 
-pub put-part-spec : {M : Type 1} → statement M
-put-part-spec =
+pub store-part-spec : {M : Type 1} → statement M
+store-part-spec =
     tie.close
     (tie.spec
     (λ c κs. search needs) (λ c κs. search needs) (λ c. search needs) (λ c κs. search needs) (λ c κs. search needs) (λ c. search needs)

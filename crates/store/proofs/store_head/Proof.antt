@@ -1,8 +1,8 @@
--- `store::put_head` meets its contract: areas puts the numbers that the row holds. Assumes nothing.
+-- `store::store_head` meets its contract: areas puts the numbers that the row holds. Assumes nothing.
 use Rattle.store.proofs.PutRows.{head-put}
 use borrow.Author.Needs.{needs}
-use Rattle.store.proofs.put_head.Statement.{statement}
-use Rattle.store.proofs.put_head.Tie as tie
+use Rattle.store.proofs.store_head.Statement.{statement}
+use Rattle.store.proofs.store_head.Tie as tie
 
 returns : tie.Need-returns
 returns c =
@@ -16,8 +16,8 @@ returns c =
     let a = k .before .before .before .before .args in
     head-put (a .heads .now) (a .k) (a .bytes .now) (k .kind-of .ensures .0) (f .first-of .ensures .0) (l .last-of .ensures .0) (n .count-of .ensures .0) (p .parts-of .ensures .0) (s .score-of .ensures .0) (h .put-head .ensures)
 
-pub put-head-spec : {M : Type 1} → statement M
-put-head-spec =
+pub store-head-spec : {M : Type 1} → statement M
+store-head-spec =
     tie.close
     (tie.spec
     (λ c κs. search needs) (λ c. search needs) (λ c κs. search needs) (λ c κs. search needs) (λ c κs. search needs) (λ c. search needs)

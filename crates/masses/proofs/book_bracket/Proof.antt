@@ -1,12 +1,12 @@
--- `masses::put_bracket` meets its contract. Assumes nothing.
+-- `masses::book_bracket` meets its contract. Assumes nothing.
 use mathlib.Core.Path.{_≡_}
 use mir.Syntax.{w64}
 use mir.Val.{toZ, ofZ}
 use Rattle.masses.proofs.PartLaws.{reach-row}
 use Rattle.masses.proofs.LedgerLaws.{float-none, float-asks, float-gives}
 use borrow.Author.Needs.{needs}
-use Rattle.masses.proofs.put_bracket.Statement.{statement}
-use Rattle.masses.proofs.put_bracket.Tie as tie
+use Rattle.masses.proofs.book_bracket.Statement.{statement}
+use Rattle.masses.proofs.book_bracket.Tie as tie
 
 copies-of-requires : tie.Need-copies-of-requires
 copies-of-requires c κs = reach-row (c .before .pre .reach)
@@ -14,16 +14,16 @@ copies-of-requires c κs = reach-row (c .before .pre .reach)
 returns : tie.Need-returns
 returns c = float-none (c .before .before .before .pre) (c .before .copies-of .ensures _) (c .if1 .taken)
 
-put-requires : tie.Need-put-requires
-put-requires c κs =
+book-copies-requires : tie.Need-book-copies-requires
+book-copies-requires c κs =
     let read : toZ w64 (ofZ w64 (c .before .mass-or-0 .result)) ≡ c .before .mass-or-0 .result = search needs in
     float-asks (c .before .before .before .before .before .pre) (c .before .before .before .copies-of .ensures _) (c .before .mass-or-0 .ensures) read
 
 returns-2 : tie.Need-returns-2
 returns-2 c =
     let read : toZ w64 (ofZ w64 (c .before .before .mass-or-0 .result)) ≡ c .before .before .mass-or-0 .result = search needs in
-    float-gives (c .before .before .before .before .before .before .pre) (c .before .before .before .before .copies-of .ensures _) (c .before .before .mass-or-0 .ensures) read (c .put .ensures)
+    float-gives (c .before .before .before .before .before .before .pre) (c .before .before .before .before .copies-of .ensures _) (c .before .before .mass-or-0 .ensures) read (c .book-copies .ensures)
 
-pub put-bracket-spec : {M : Type 1} → statement M
-put-bracket-spec =
-    tie.close (tie.spec copies-of-requires returns (λ c κs. search needs) put-requires returns-2)
+pub book-bracket-spec : {M : Type 1} → statement M
+book-bracket-spec =
+    tie.close (tie.spec copies-of-requires returns (λ c κs. search needs) book-copies-requires returns-2)

@@ -1,11 +1,11 @@
--- `positions::marks::put` meets its contract. Assumes nothing.
+-- `positions::marks::set_all` meets its contract. Assumes nothing.
 use Prim.Native.Nat.{_+_, _-_}
 use Rattle.positions.specs.Marked.{always}
 use Rattle.positions.proofs.Rows.{Spread, spread-start, spread-next, spread-end}
 use borrow.Author.Needs.{needs}
 use native.Mathlib.Omega.{arith}
-use Rattle.positions.proofs.marks.put.Statement.{statement}
-use Rattle.positions.proofs.marks.put.Tie as tie
+use Rattle.positions.proofs.marks.set_all.Statement.{statement}
+use Rattle.positions.proofs.marks.set_all.Tie as tie
 
 abbrev Inv-loop : tie.InvT-loop
 Inv-loop tab₀ base a e v x₀ tab x = Spread base a e (always v) x tab₀ tab
@@ -37,8 +37,8 @@ same-length c = c .before .loop .inv .marked .kept
 returns : tie.Need-returns Inv-loop μ-loop
 returns c = spread-end (c .before .loop .inv) (c .loop-test .left)
 
-pub put-spec : {M : Type 1} → statement M
-put-spec =
+pub set-all-spec : {M : Type 1} → statement M
+set-all-spec =
     tie.close
     (tie.spec
     Inv-loop

@@ -1,8 +1,8 @@
 -- What the numbers in the areas keep to where they are tables of a line: enough for every read of them to lie inside, and every sum to fit.
 use Prim.Native.Nat.{ℕ, _+_, _*_, _^_, _≤_, _<_}
 use mathlib.Core.List.{List}
-use lib.IntN.{ℤ, pos, natAbs}
-use lib.ListN.{length, getD}
+use lib.IntN.{ℤ, natAbs}
+use lib.ListN.{length}
 use Rattle.scope.specs.Limits.{lineLimit, residueLimit, bracketLimit, partLimit, textLimit, labelLimit, countLimit, sizeLimit, decimalLimit}
 use Rattle.scope.specs.Layout.{bytesSize, numbersSize, bracketsField, countField, decimalsField, firstField, labelField, lastField, massField, offsetField, partsField, residuesField, scoreField, scoreNumber, textField}
 

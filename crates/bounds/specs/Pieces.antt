@@ -1,8 +1,8 @@
 -- The bounds of tables in the parts that are tested by themselves.
 use mathlib.Core.List.{List}
-use Prim.Native.Nat.{ℕ, _+_, _*_, _≤_, _<_}
-use lib.IntN.{ℤ, pos}
-use lib.ListN.{length, getD}
+use Prim.Native.Nat.{ℕ, _+_, _≤_, _<_}
+use lib.IntN.{ℤ}
+use lib.ListN.{length}
 use Rattle.scope.specs.Limits.{bracketLimit, partLimit, countLimit, decimalLimit}
 use Rattle.scope.specs.Layout.{bytesSize, numbersSize, countField, firstField, lastField, partsField, residuesField, scoreField, scoreNumber}
 use Rattle.areas.specs.Bounds.{Small, PartBounds, BracketBounds}

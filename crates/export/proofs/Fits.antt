@@ -1,7 +1,6 @@
 -- A text that is put into an output: refused where that is too short; and the text that an entry is.
 use Prim.Native.Nat.{ℕ, _+_, _≤_, _<_}
-use mathlib.Core.Path.{_≡_, refl, sym, ap, _∙_, subst}
-use mathlib.Core.Bool.{true, false}
+use mathlib.Core.Path.{_≡_, sym, ap, _∙_, subst}
 use mathlib.Core.List.{List, _++_}
 use native.Mathlib.Omega.{arith}
 use borrow.Author.Tests.{lt-ltb, le-ltb}
@@ -9,7 +8,7 @@ use lib.ListN.{length, take, drop}
 use lib.Seq.{length-take-le, take-all, take-append-seam}
 use Rattle.scope.specs.Lists.{laid}
 use Rattle.scope.specs.Answers.{Said, good, refuses, fitting, outputAfter}
-use Rattle.figures.specs.Written.{stored, Puts}
+use Rattle.figures.specs.Written.{Puts}
 use Rattle.figures.proofs.Storing.{stored-whole}
 use Rattle.export.specs.Numbers.{numberOf}
 use Rattle.export.specs.Shapes.{lengthLeft, Fitted}

@@ -66,7 +66,6 @@ run-map f note i s [] = refl
 run-map f note i s (b ∷ l) =
     run-map f note (i + 1) (step (note i) s b) l ∙ ap (λ x. run (λ j. f (note j)) (i + 1) x l) (step-map f (note i) s b)
 
-
 -- ---- places forgotten: the tables of a line, from a run that notes none
 abbrev pub unnoted : ℕ → Unit {0}
 unnoted i = tt

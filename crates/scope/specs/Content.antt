@@ -1,6 +1,6 @@
 -- How it is computed: the inside of a bracket, read byte by byte. That this is the grammar of specs/Grammar.antt is proved (crates/grammar_laws, `lines`,
 -- `only-reading`), so nothing of it has to be believed.
-use Prim.Native.Nat.{ℕ, _+_, _*_, _-_}
+use Prim.Native.Nat.{ℕ, _+_, _*_}
 use mathlib.Core.Bool.{Bool, true, false, not, cond, _&&_, _||_}
 use mathlib.Core.Option.{Option, none, some}
 use mathlib.Core.List.{List, [], _∷_, _++_}
@@ -9,7 +9,7 @@ use Rattle.scope.specs.declared.grammar.Key.{Key}
 use Rattle.scope.specs.declared.grammar.Key.the-variants.{NoKey}
 use Rattle.scope.specs.Lists.{given, none?}
 use Rattle.scope.specs.Bytes.{isPrintable, isDigit, isAlnum, isSign, isOpening, isShutting, closerOf, bar, hash, colon, dash, dot, openRound, shutRound, value}
-use Rattle.scope.specs.Line.{Number, Label, Value, mass, text, reference, Part}
+use Rattle.scope.specs.Line.{Number, Value, mass, text, reference, Part}
 use Rattle.scope.specs.Keys.{keyOf, Form, massOrName, massOnly, digits, alnums, free, form, hashIsPlain, accessionByte}
 
 -- ---- numbers: "sign, digits, perhaps `.` and digits"

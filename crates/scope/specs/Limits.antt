@@ -1,5 +1,5 @@
 -- "The limits stand once, with the type they belong to". Here each is a name for its number; the types of src/ have them as associated constants.
-use Prim.Native.Nat.{ℕ, _+_, _*_, _^_}
+use Prim.Native.Nat.{ℕ, _+_, _*_}
 
 -- "line 1 to 4,096 bytes"
 abbrev pub lineLimit : ℕ

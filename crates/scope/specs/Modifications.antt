@@ -1,15 +1,14 @@
 -- Which brackets are modifications, and how many copies of each float.
 use Prim.Native.Nat.{ℕ}
-use mathlib.Core.Bool.{Bool, true, false, not, cond, _&&_, _||_}
-use mathlib.Core.Option.{Option, none, some}
-use mathlib.Core.List.{List, [], _∷_, _++_}
+use mathlib.Core.Bool.{Bool, not, cond, _&&_}
+use mathlib.Core.List.{List, [], _∷_}
 use lib.Dec.{eqb}
 use Rattle.scope.specs.declared.grammar.Key.{Key}
 use Rattle.scope.specs.declared.grammar.Key.the-variants.{Info}
 use Rattle.scope.specs.declared.grammar.Kind.{Kind}
 use Rattle.scope.specs.Kinds.{isUnknown, isOnRange}
-use Rattle.scope.specs.Lists.{same, given, none?, all, flat}
-use Rattle.scope.specs.Line.{Label, Part, Bracket}
+use Rattle.scope.specs.Lists.{given, none?, all, flat}
+use Rattle.scope.specs.Line.{Part, Bracket}
 use Rattle.scope.specs.Keys.{keyCode}
 use Rattle.scope.specs.Reading.{refers?}
 

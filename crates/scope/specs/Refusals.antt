@@ -5,16 +5,15 @@ use mathlib.Core.Option.{Option, none, some}
 use mathlib.Core.List.{List, [], _∷_, _++_, map}
 use lib.Dec.{eqb, leb, ltb}
 use lib.ListN.{length, drop, take}
-use Rattle.scope.specs.declared.grammar.Key.{Key}
 use Rattle.scope.specs.declared.grammar.Key.the-variants.{NoKey, U, M, Formula, Glycan, Position, Limit}
 use Rattle.scope.specs.Kinds.{isUnknown, unknownOrLabile}
 use Rattle.scope.specs.Bytes.{bytes, isPrintable, isDigit, isOpening, isShutting, sameFolded}
 use Rattle.scope.specs.Limits.{lineLimit, residueLimit, bracketLimit, partLimit, textLimit, labelLimit, depthLimit, sizeLimit, decimalLimit, countLimit, copyLimit}
-use Rattle.scope.specs.Line.{Number, Label, Value, mass, text, reference, Part, Bracket, Residue, Line}
+use Rattle.scope.specs.Line.{Number, Value, mass, text, reference, Part, Bracket, Line}
 use Rattle.scope.specs.Keys.{written}
-use Rattle.scope.specs.Lists.{given, none?, all, keep, flat, among, shared}
+use Rattle.scope.specs.Lists.{given, none?, all, flat, among, shared}
 use Rattle.scope.specs.Reading.{Reading, stuck, holds, reading}
-use Rattle.scope.specs.Modifications.{isKey, onlyInfo, isReferring, namesOf, isLabelled, copies, definedBy, referredBy, defined, referredTo}
+use Rattle.scope.specs.Modifications.{isKey, onlyInfo, namesOf, isLabelled, copies, definedBy, referredBy, defined, referredTo}
 
 -- the place i, where the test holds
 abbrev pub dueAt : Bool → ℕ → List ℕ

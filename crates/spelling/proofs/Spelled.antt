@@ -1,8 +1,8 @@
 -- A key by its number is its word and a colon, computed once over all of them; no other number has a key. Assumes nothing.
-use mathlib.Core.Path.{_≡_, refl, ap, _∙_, subst}
+use mathlib.Core.Path.{_≡_, refl, ap}
 use mathlib.Core.Bool.{Bool, true, _&&_}
 use mathlib.Core.List.{List, [], _∷_, _++_}
-use Prim.Native.Nat.{ℕ, _+_, _-_, _<_, _≤_}
+use Prim.Native.Nat.{ℕ, _-_, _<_, _≤_}
 use native.Mathlib.Omega.{arith}
 use lib.Dec.{ltb}
 use lib.ListN.{length, List·getD-eq-default}
@@ -16,7 +16,7 @@ use Rattle.basics.specs.Tabled.{all-tabled}
 use Rattle.basics.specs.Tests.{and-left, and-right}
 use Rattle.words.specs.Words.{words, keyCount, spelling}
 use Rattle.figures.specs.Written.{Puts}
-use Rattle.figures.proofs.Storing.{puts-of, puts-exact, puts-join, puts-within, puts-none}
+use Rattle.figures.proofs.Storing.{puts-of, puts-join, puts-within, puts-none}
 use Rattle.spelling.specs.Widths.{keyMost}
 
 -- ---- numbers without a key

@@ -1,19 +1,19 @@
 -- A text is spelled only by a key of its own size: the keys are looked for among those of that size, which stand side by side. Assumes nothing.
-use Prim.Native.Nat.{ℕ, zero, suc, _+_, _-_, _≤_, _<_}
+use Prim.Native.Nat.{ℕ, suc, _+_, _-_, _≤_, _<_}
 use mathlib.Core.Path.{_≡_, refl, sym, ap, _∙_}
 use mathlib.Core.Bool.{Bool, true, false, cond}
 use mathlib.Core.Option.{some}
-use mathlib.Core.List.{List, [], _∷_, _++_}
+use mathlib.Core.List.{List, [], _∷_}
 use native.Mathlib.Numerals.{add-one}
 use native.Mathlib.Omega.{arith}
 use lib.Dec.{eqb, leb, ltb}
-use lib.ListN.{length, getD, take, drop, length-take, length-drop, drop-of-length-le, List·getD-append, List·getD-map}
+use lib.ListN.{length, getD, take, drop, length-take, length-drop}
 use lib.Seq.{drop-cons}
 use borrow.Author.Tests.{eqb-false, ne-eqb, leb-true, ltb-true}
 use Rattle.scope.specs.declared.grammar.Key.{Key}
 use Rattle.scope.specs.declared.grammar.Key.the-variants.{NoKey}
 use Rattle.scope.specs.Bytes.{sameFolded}
-use Rattle.scope.specs.Keys.{spell, keys, keyAmong, keyOf, keyCode, keyIn}
+use Rattle.scope.specs.Keys.{spell, keys, keyAmong, keyOf, keyCode}
 use Rattle.scope.specs.Lists.{given, all, same, keep, flat, part, tabled}
 use Rattle.basics.specs.Keys.{each-key}
 use Rattle.basics.specs.Lists.{folded-length, same-law}

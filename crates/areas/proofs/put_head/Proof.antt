@@ -5,8 +5,6 @@ use Rattle.areas.proofs.Stores.{head-stores}
 use borrow.Author.Needs.{needs}
 use Rattle.areas.proofs.put_head.Statement.{statement}
 use Rattle.areas.proofs.put_head.Tie as tie
-use Rattle.areas.proofs.put_head.Reads as reads
-use Rattle.areas.proofs.put_head.Lts as lts
 
 slice-write-bytes-2 : tie.Need-slice-write-bytes-2
 slice-write-bytes-2 c = simp length-set (omega arith)

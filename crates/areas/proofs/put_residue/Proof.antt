@@ -4,8 +4,6 @@ use lib.ListN.{length-set}
 use borrow.Author.Needs.{needs}
 use Rattle.areas.proofs.put_residue.Statement.{statement}
 use Rattle.areas.proofs.put_residue.Tie as tie
-use Rattle.areas.proofs.put_residue.Reads as reads
-use Rattle.areas.proofs.put_residue.Lts as lts
 
 slice-write-bytes-2 : tie.Need-slice-write-bytes-2
 slice-write-bytes-2 c = simp length-set (omega arith)

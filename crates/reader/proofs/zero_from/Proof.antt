@@ -1,3 +1,4 @@
+-- Zeros from a place on: those of the part that starts there.
 use Rattle.reader.proofs.Wiping.{part-wiped}
 use borrow.Author.Needs.{needs}
 use Rattle.reader.proofs.zero_from.Statement.{statement}

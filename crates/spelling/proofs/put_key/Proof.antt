@@ -1,5 +1,5 @@
 -- Nothing where there is no key; else the letters of its word, copied from the table, and a colon. Assumes nothing.
-use mathlib.Core.Path.{refl, sym, _∙_}
+use mathlib.Core.Path.{refl}
 use native.Mathlib.Omega.{arith}
 use borrow.Author.Needs.{needs}
 use Rattle.scope.specs.Keys.{spell, keys}

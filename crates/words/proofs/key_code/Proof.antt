@@ -1,8 +1,7 @@
+-- The number of each key, arm by arm.
 use borrow.Author.Needs.{needs}
 use Rattle.words.proofs.key_code.Statement.{statement}
 use Rattle.words.proofs.key_code.Tie as tie
-use Rattle.words.proofs.key_code.Reads as reads
-use Rattle.words.proofs.key_code.Lts as lts
 
 returns : tie.Need-returns
 returns c = rw (c .enum-told .given .1)

@@ -1,6 +1,6 @@
 -- The keys of the text's size are looked through, and those left from a place on decide. Assumes nothing.
 use Prim.Native.Nat.{_+_, _-_}
-use mathlib.Core.Path.{refl, ap, _∙_}
+use mathlib.Core.Path.{refl, _∙_}
 use native.Mathlib.Omega.{arith}
 use lib.ListN.{getD}
 use Rattle.scope.specs.declared.grammar.Key.the-variants.{NoKey}

@@ -1,5 +1,5 @@
 -- The letters of the word, compared byte for byte. Assumes nothing.
-use mathlib.Core.Path.{refl, ap, _∙_}
+use mathlib.Core.Path.{refl, ap}
 use native.Mathlib.Omega.{arith}
 use lib.ListN.{length}
 use Rattle.scope.specs.Keys.{spell, keys}

@@ -10,7 +10,7 @@ use Rattle.scope.specs.Lists.{keep, tabled}
 use Rattle.scope.specs.Layout.{tablesIn}
 use Rattle.scope.specs.Positions.{floaters, floatersBy, bracketsOf, copiesOf, Floating, floatingOf}
 
--- the positions of floater f: those x whose byte, among the 256 of f, is 1
+-- the positions of floater f: those x whose byte, in the row of f, is 1
 unfoldable pub listIn : List ℕ → ℕ → List ℕ
 listIn tab f = keep (λ x. eqb (getD tab (f * positionLimit + x) 0) 1) (tabled (λ x. x) 0 positionLimit)
 

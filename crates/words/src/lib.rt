@@ -9,11 +9,13 @@ ghost use Rattle.scope.specs.Lists.{part};
 ghost use Rattle.words.specs.Words.{words, wordCount, spelling, startOf, keyFound};
 
 // The letters of all words, one behind another: the key words and prefixes in the order of the keys' numbers, the names of rules, the labels of links.
-pub const LETTERS: [u8; 157] =
+pub const LETTERS: [u8; SIZE] =
     *b"UMRXGCObsUNIMODMODXLMODRESIDGNOINFOFormulaGlycanPositionLimitCoMKPCoMUPColocaliseModificationsOfKnownPositionColocaliseModificationsOfUnknownPositionXLBRANCH";
 
+const SIZE: usize = 157;
+
 // Where each word begins, and where the last one ends. No key is an empty word.
-const STARTS: [u8; 25] = [
+const STARTS: [u8; WORDS + 1] = [
     0,
     0,
     1,
@@ -56,8 +58,10 @@ pub const XL: usize = LONG_COMUP + 1;
 
 pub const BRANCH: usize = XL + 1;
 
-// The keys by the sizes of their words, and where those of each size begin.
-const BY_SIZE: [Key; 17] = [
+const WORDS: usize = BRANCH + 1;
+
+// The keys by the sizes of their words, and where those of each size begin, up to the longest.
+const BY_SIZE: [Key; KEYS - 1] = [
     Key::U,
     Key::M,
     Key::R,
@@ -77,7 +81,7 @@ const BY_SIZE: [Key; 17] = [
     Key::Position,
 ];
 
-const SIZES: [u8; 10] = [0, 0, 6, 6, 9, 10, 13, 15, 16, 17];
+const SIZES: [u8; LONGEST + 2] = [0, 0, 6, 6, 9, 10, 13, 15, 16, 17];
 
 const LONGEST: usize = 8;
 

@@ -27,8 +27,8 @@ use Rattle.scope.specs.Reading.{Held, nothing, front}
 use Rattle.scope.specs.Refusals.{inRange, least, tooDeep}
 use Rattle.numerals.specs.declared.Num.{Num}
 use Rattle.numerals.specs.declared.Num.the-variants.{Value as NumValue, Wide as NumWide, NoNumber}
-use Rattle.numerals.specs.Numerals.{TextScanned, found, scanNumber, kept, numOf}
-use Rattle.texts.specs.Texts.{TextScanned as ScannedText, ends, stuck as text-over, scanText}
+use Rattle.numerals.specs.Numerals.{Scanned, found, scanNumber, kept, numOf}
+use Rattle.texts.specs.Texts.{TextScanned, ends, stuck as text-over, scanText}
 use Rattle.texts.proofs.Bounds.{text-in}
 use Rattle.sheet.specs.Rows.{massNoted, decimalsNoted}
 use Rattle.values.specs.declared.Value.{Value}
@@ -80,7 +80,7 @@ module _ (line : List ℕ) (at : ℕ) (key : Key) (sign j : ℕ) (d : Digits) (s
   abbrev massStart : Context ℕ → ℕ → Content ℕ
   massStart c = innerStep j (inNumber c at key sign d)
 
-  mass-says : (r : TextScanned) → scanNumber sign d (drop j line) j ≡ r → (s : Slot) (o : ℕ) (h : Held ℕ) (c : Context ℕ)
+  mass-says : (r : Scanned) → scanNumber sign d (drop j line) j ≡ r → (s : Slot) (o : ℕ) (h : Held ℕ) (c : Context ℕ)
       → NumberSays line s o h sign (λ y. inNumber c at key sign y) (λ m. valueEnd c (unlabelled at key (mass m))) (mass-goes c) (mass-stops c) j d r
   mass-says r f s o h c =
       subst
@@ -191,7 +191,7 @@ module _ (line : List ℕ) (at : ℕ) (key : Key) (from scan : ℕ) (hashes : Bo
       let b : e - from ≡ (scan - from) + (e - scan) = omega arith in
       rw (b, take-add (scan - from) (e - scan) (drop from line), drop-drop (scan - from) from line) (ap (λ x. first-words ++ take (e - scan) (drop x line)) a)
 
-  text-facts : (e : ScannedText) → e ≡ scanText hashes [] (drop scan line) scan → (s : Slot) (o : ℕ) (h : Held ℕ) (c : Context ℕ)
+  text-facts : (e : TextScanned) → e ≡ scanText hashes [] (drop scan line) scan → (s : Slot) (o : ℕ) (h : Held ℕ) (c : Context ℕ)
       → TextSays line s o h c at key hashes plain scan first-words [] (drop scan line) e
   text-facts e f s o h c =
       subst (λ x. TextSays line s o h c at key hashes plain scan first-words [] (drop scan line) x) (sym f)

@@ -13,7 +13,7 @@ ghost use Rattle.scope.specs.Refusals.{outcome};
 ghost use Rattle.scope.specs.Layout.{bytesSize, numbersSize, tablesIn};
 ghost use Rattle.scope.specs.Answers.{readsTo, areTables};
 ghost use Rattle.areas.specs.Bounds.{Bounds};
-ghost use Rattle.writer.specs.Ranks.{Ordered};
+ghost use Rattle.writer.specs.Ranks.{InOrder};
 ghost use Rattle.tabled.specs.LineOf.{LineOf};
 
 // Does a line read to what the areas hold?
@@ -72,7 +72,7 @@ fn front_reads_to(line: &[u8], n: usize, bytes: &[u8], numbers: &[i64]) -> bool
 
 // The length of the canonical line of what the areas hold, where it reads to them, else 0. Their numbers keep to their bounds, their brackets to their order.
 fn line_back(bytes: &[u8], numbers: &[i64], line: &mut [u8]) -> usize
-    requires { ⌜ Bounds (now bytes) (now numbers) × Ordered (tablesIn (now bytes) (now numbers)) × (length (now line) ≡ lineLimit) ⌝ }
+    requires { ⌜ Bounds (now bytes) (now numbers) × InOrder (tablesIn (now bytes) (now numbers)) × (length (now line) ≡ lineLimit) ⌝ }
     ensures { λ r. ⌜ LineOf (now (bytes .entry)) (now (numbers .entry)) (now (line .exit)) r ⌝ }
 {
     let n = write_line(bytes, numbers, line);

@@ -21,7 +21,7 @@ ghost use Rattle.areas.specs.Bounds.{Bounds};
 ghost use Rattle.figures.specs.Written.{Puts, ceiling};
 ghost use Rattle.writer.specs.Written.{valueMost, scoreMost, labelMost, partMost, nextMost, partsMost, betweenMost, bracketMost, residueMost, residuesMost, frontMost, lineMost, scoredText, nextText, WholeLine};
 ghost use Rattle.writer.specs.Here.{BracketHere, PartHere, Room};
-ghost use Rattle.writer.specs.Ranks.{rankOf, rankIn, cTermRank, orderedb, Ready, textAs, rankedText, runText, frontText, Walks, residueText, NoneBelow, Behind, Spells, Ordered};
+ghost use Rattle.writer.specs.Ranks.{rankOf, rankIn, cTermRank, orderedb, Ready, textAs, rankedText, runText, frontText, Walks, residueText, NoneBelow, Behind, Spells, InOrder};
 
 // The codes of a part's value: a mass, a text.
 const MASS: usize = 1;
@@ -592,7 +592,7 @@ fn put_front(bytes: &[u8], numbers: &[i64], out: &mut [u8], at: usize) -> Pen
 
 // The canonical line from a place on, as much of it as fits into the output.
 pub fn put_line(bytes: &[u8], numbers: &[i64], out: &mut [u8], at: usize) -> usize
-    requires { ⌜ Bounds (now bytes) (now numbers) × Ordered (tablesIn (now bytes) (now numbers)) × (at + lineMost ≤ ceiling) ⌝ }
+    requires { ⌜ Bounds (now bytes) (now numbers) × InOrder (tablesIn (now bytes) (now numbers)) × (at + lineMost ≤ ceiling) ⌝ }
     ensures { λ r. ⌜ Puts lineMost (now (out .entry)) at (canonical (tablesIn (now (bytes .entry)) (now (numbers .entry)))) (now (out .exit)) r ⌝ }
 {
     let front = put_front(bytes, numbers, out, at);
@@ -606,7 +606,7 @@ pub fn put_line(bytes: &[u8], numbers: &[i64], out: &mut [u8], at: usize) -> usi
 
 // The canonical line, as much of it as fits into the output, and its length.
 pub fn write_line(bytes: &[u8], numbers: &[i64], out: &mut [u8]) -> usize
-    requires { ⌜ Bounds (now bytes) (now numbers) × Ordered (tablesIn (now bytes) (now numbers)) ⌝ }
+    requires { ⌜ Bounds (now bytes) (now numbers) × InOrder (tablesIn (now bytes) (now numbers)) ⌝ }
     ensures { λ r. ⌜ WholeLine (canonical (tablesIn (now (bytes .entry)) (now (numbers .entry)))) (now (out .entry)) (now (out .exit)) r ⌝ }
 {
     put_line(bytes, numbers, out, 0)

@@ -19,6 +19,7 @@ use Rattle.scope.specs.Refusals.{refusal4, Due, due, Outcome, accepted, refused
 use Rattle.scope.specs.Tables.{tablesOf}
 use Rattle.scope.specs.Layout.{bytesOf, numbersOf}
 use Rattle.scope.specs.Answers.{good, refuses, saysRead, tooShort, readOutcome, saysOutcome, bytesAfter, numbersAfter}
+use Rattle.basics.specs.Each.{In, each-in}
 use Rattle.reading_laws.specs.Laws.{placesOf, behind, dues}
 use Rattle.reading_laws.specs.Proved as reads
 use Rattle.scope.specs.Grammar.{Spelling, print, good as wellSpelt, means}
@@ -125,9 +126,9 @@ pub record Placed (most : ℕ) (s : List ℕ) (n p : ℕ) : Type 0 where
 
 pub said-12 : (s : List ℕ) (n p : ℕ) → outcome s ≡ refused n p → Placed 12 s n p
 said-12 s n p e =
-    let d = reads.laws .lowest-wins s n p .0 e .0 in
+    let d = reads.laws .lowest-wins s n p .0 e .0 .member in
     let r = numbered (dues s) n p (dues-numbered s) d in
-    record { from-1 = r .0; to-most = r .1; inside = reads.laws .inside-line s n p d .0 }
+    record { from-1 = r .0; to-most = r .1; inside = each-in _ (placesOf (dues s) n) p d (reads.laws .inside-line s n) .0 }
 
 pub said-13 : (s bs : List ℕ) (ns : List ℤ) (n p : ℕ) → readOutcome bs ns s ≡ refused n p → Placed 13 s n p
 said-13 s bs ns n p e = go (tooShort bs ns) e

@@ -2,3 +2,4 @@ pub mod Labels
 pub mod Lowest
 pub mod Numerals
 pub mod Values
+pub mod Names

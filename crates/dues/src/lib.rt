@@ -137,11 +137,17 @@ fn deep_due(least: usize, deep: usize) -> usize
     due(least, DEEP, deep - 1)
 }
 
-// Whether the text from `from` to `to` is CoMKP, CoMUP or one of their long names.
+// Whether the text from `from` to `to` is CoMKP, CoMUP or one of their long names, which all begin with a C.
 fn is_rule(line: &[u8], from: usize, to: usize) -> bool
     requires { ⌜ (from ≤ to) × (to ≤ length (now line)) ⌝ }
     ensures { λ r. ⌜ r ≡ isRuleName (part from (to - from) (now (line .entry))) ⌝ }
 {
+    if from == to {
+        return false;
+    }
+    if classes::upper(line[from]) != b'C' {
+        return false;
+    }
     if words::is(words::COMKP, line, from, to) {
         return true;
     }

@@ -1,19 +1,21 @@
--- One of the four names, tried one after another. Assumes nothing.
+-- No text that begins otherwise than with a C; else one of the four names, tried one after another. Assumes nothing.
 use borrow.Author.Needs.{needs}
 use Rattle.basics.specs.Choice.{steps}
 use Rattle.scope.specs.Keys.{spell, keys}
 use Rattle.words.specs.Words.{words}
 use Rattle.dues.specs.Steps.{isRuleName}
+use Rattle.dues.proofs.Names.{rule-empty, rule-elsewhere}
 use Rattle.dues.proofs.is_rule.Statement.{statement}
 use Rattle.dues.proofs.is_rule.Tie as tie
 
 returns : tie.Need-returns
-unfolding isRuleName words spell keys
-returns c = search steps
+returns c = let s = c .before .before in rule-empty (s .args .line .now) (s .pre .0) (s .pre .1) (c .if1 .taken)
 
 returns-2 : tie.Need-returns-2
-unfolding isRuleName words spell keys
-returns-2 c = search steps
+returns-2 c =
+    let e = c .before .before .before in
+    let s = e .before .before in
+    rule-elsewhere (s .args .line .now) (s .pre .0) (s .pre .1) (e .if1 .left) (c .before .upper .ensures) (c .if2 .taken)
 
 returns-3 : tie.Need-returns-3
 unfolding isRuleName words spell keys
@@ -23,7 +25,17 @@ returns-4 : tie.Need-returns-4
 unfolding isRuleName words spell keys
 returns-4 c = search steps
 
+returns-5 : tie.Need-returns-5
+unfolding isRuleName words spell keys
+returns-5 c = search steps
+
+returns-6 : tie.Need-returns-6
+unfolding isRuleName words spell keys
+returns-6 c = search steps
+
 pub is-rule-spec : {M : Type 1} → statement M
 is-rule-spec =
     tie.close
-    (tie.spec (λ c κs. search needs) returns (λ c κs. search needs) returns-2 (λ c κs. search needs) returns-3 (λ c κs. search needs) returns-4)
+    (tie.spec
+    returns (λ c. search needs) (λ c κs. search needs) returns-2 (λ c κs. search needs) returns-3 (λ c κs. search needs) returns-4 (λ c κs. search needs) returns-5
+    (λ c κs. search needs) returns-6)

@@ -1,6 +1,7 @@
 // The classes of bytes, and runs of bytes of one class in a line.
 ghost use mathlib.Core.Path.{_≡_};
 ghost use Prim.Native.Nat.{_+_, _≤_};
+ghost use lib.Dec.{eqb};
 ghost use lib.ListN.{length, drop};
 ghost use Rattle.scope.specs.Bytes.{isPrintable, isUpper, isLower, isLetter, isDigit, isAlnum, isSign, isOpening, isShutting, sameFolded, upper as inUpper};
 ghost use Rattle.scope.specs.Lists.{same, part};
@@ -184,6 +185,16 @@ pub fn same_text(line: &[u8], a: usize, b: usize, n: usize) -> bool
     true
 }
 
+// Whether two bytes are the same in either case.
+fn alike(a: u8, b: u8) -> bool
+    ensures { λ r. ⌜ r ≡ eqb (inUpper a) (inUpper b) ⌝ }
+{
+    if a == b {
+        return true;
+    }
+    upper(a) == upper(b)
+}
+
 // Whether the key stands at `at`, in either case.
 pub fn key_at(line: &[u8], at: usize, key: &[u8]) -> bool
     requires { ⌜ at + length (now key) ≤ length (now line) ⌝ }
@@ -191,7 +202,7 @@ pub fn key_at(line: &[u8], at: usize, key: &[u8]) -> bool
 {
     let mut k = 0;
     while k < key.len() {
-        if upper(key[k]) == upper(line[at + k]) {
+        if alike(key[k], line[at + k]) {
             k += 1;
         } else {
             return false;

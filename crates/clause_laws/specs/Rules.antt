@@ -16,7 +16,7 @@ use Rattle.scope.specs.Line.{Label, Part, Bracket, Line}
 use Rattle.scope.specs.Keys.{keyCode, keyIn}
 use Rattle.scope.specs.Lists.{given, none?, flat, among, shared}
 use Rattle.scope.specs.Modifications.{isKey, isReferring, nameOf, namesOf, isLabelled, definedBy, referredBy, defined, referredTo}
-use Rattle.scope.specs.Refusals.{dueAt, textOf, isRule, isLink, notHere, secondLabel, definedAgain, undefined, unreferred, wrongLabels, wronglyLabelled, refusal8, isNumberName, refusal9, refusal10, refusal11}
+use Rattle.scope.specs.Refusals.{dueAt, textOf, isRuleName, isRule, isLink, notHere, secondLabel, definedAgain, undefined, unreferred, wrongLabels, wronglyLabelled, refusal8, isNumberName, refusal9, refusal10, refusal11}
 use Rattle.scope.specs.Kinds.{kindCode, isKind, unknownOrLabile}
 use Rattle.clause_laws.specs.Clauses.{SomeBehind, Rule, Link, Barred, Due8, Due10, Named, Defines, RefersTo, Second, Again, Undefined, CountedLabel, Unreferred, Due11, NumberName, Due9}
 use Rattle.basics.specs.Each.{Some, In}
@@ -46,6 +46,7 @@ link-iff p = (there (p .label) refl, back)
     back v = ap (λ (o : Option (Label ℕ)). given o (λ l. isLink (l .name)) false) (v .1 .0) ∙ or-iff _ _ self self .1 (v .1 .1)
 
 rule-iff : (p : Part ℕ) → (isRule p ≡ true) ↔ Rule p
+unfolding isRuleName
 rule-iff p = and-iff _ _ (key-iff NoKey p) (or-iff _ _ (or-iff _ _ (or-iff _ _ self self) self) self)
 
 barred-iff : (p : Part ℕ) → (notHere p ≡ true) ↔ Barred p

@@ -2,4 +2,3 @@ pub mod Labels
 pub mod Lowest
 pub mod Numerals
 pub mod Values
-pub mod Names

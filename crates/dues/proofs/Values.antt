@@ -15,7 +15,7 @@ use Rattle.scope.specs.Limits.{textLimit}
 use Rattle.scope.specs.Layout.{massCode, textCode, referenceCode}
 use Rattle.scope.specs.Line.{Value as Written, mass, text, reference, Part}
 use Rattle.scope.specs.Lists.{part, none?, all}
-use Rattle.scope.specs.Refusals.{dueAt, least, textIn, textOf, tooDeep, inRange, wideMass}
+use Rattle.scope.specs.Refusals.{dueAt, least, textIn, textOf, isRuleName, tooDeep, inRange, wideMass}
 use Rattle.reading_laws.specs.Inside.{under-least, under-deep}
 use Rattle.values.specs.declared.Value.{Value}
 use Rattle.values.specs.Says.{codeOf, fromOf, coded, EndsAt, IsValue}
@@ -23,7 +23,7 @@ use Rattle.sheet.specs.Rows.{textTo}
 use Rattle.dues.specs.Ranks.{code, lowest}
 use Rattle.dues.specs.First.{lowest-append}
 use Rattle.dues.specs.Lines.{deepRank, overRank, wideRank, barredRank, digitsRank, partCodes}
-use Rattle.dues.specs.Steps.{isRuleName, keyCodes, nameCodes, textCodes, of-value}
+use Rattle.dues.specs.Steps.{keyCodes, nameCodes, textCodes, of-value}
 
 -- ---- what is due of a text, by the code k of its key
 module _ (m k i : ℕ) (t : List ℕ) where

@@ -9,25 +9,17 @@ use lib.Dec.{eqb, leb, ltb}
 use lib.ListN.{length}
 use Rattle.scope.specs.declared.grammar.Key.{Key}
 use Rattle.scope.specs.declared.grammar.Key.the-variants.{NoKey, U, M, R, X, G, C, Obs, Unimod, Mod, Xlmod, Resid, Gno, Info, Formula, Glycan, Position, Limit}
-use Rattle.scope.specs.Bytes.{bytes, isDigit, sameFolded}
+use Rattle.scope.specs.Bytes.{isDigit}
 use Rattle.scope.specs.Limits.{textLimit, labelLimit}
 use Rattle.scope.specs.Line.{Label, Part}
 use Rattle.scope.specs.Lists.{given, none?, all}
 use Rattle.scope.specs.Keys.{keyCode, written}
 use Rattle.scope.specs.Content.{labelled}
 use Rattle.scope.specs.Modifications.{isKey}
-use Rattle.scope.specs.Refusals.{dueAt, textOf, tooDeep, longText, wide, wideMass, isRule, isLink, notHere}
+use Rattle.scope.specs.Refusals.{dueAt, textOf, tooDeep, longText, wide, wideMass, isRuleName, isRule, isLink, notHere}
 use Rattle.dues.specs.Ranks.{code, lowest}
 use Rattle.dues.specs.Lines.{deepRank, overRank, wideRank, barredRank, digitsRank, partCodes, labelCodes}
 use Rattle.dues.specs.Met.{mins, lowest-below, lowest-min, lowest-two, low, low-two, p5, p6, p7, p8, p9, part-low}
-
--- "CoMKP, CoMUP or their long names"
-unfoldable pub isRuleName : List ℕ → Bool
-isRuleName t =
-    sameFolded (bytes "CoMKP") t
-    || sameFolded (bytes "CoMUP") t
-    || sameFolded (bytes "ColocaliseModificationsOfKnownPosition") t
-    || sameFolded (bytes "ColocaliseModificationsOfUnknownPosition") t
 
 -- ---- a part that begins at i, by the code n of its key
 -- 8 by its key: Formula is the first of the four that are barred
@@ -81,7 +73,6 @@ not-here : (q : Part ℕ) → q .label ≡ none → notHere q ≡ barred q
 not-here q e = rw e (or-false (barred q))
 
 barred-is : (q : Part ℕ) → barred q ≡ (leb (keyCode Formula) (keyCode (q .key)) || bareRule q)
-unfolding isRuleName
 barred-is q = ap (λ t. t || isRule q) (barred-keys (q .key))
 
 -- ---- the lower of several, in another order

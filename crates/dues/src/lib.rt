@@ -12,12 +12,12 @@ ghost use Rattle.scope.specs.Keys.{keyCode, written};
 ghost use Rattle.scope.specs.Layout.{textCode};
 ghost use Rattle.scope.specs.Line.{Line, Part, Label as Written};
 ghost use Rattle.scope.specs.Lists.{none?, all, part};
-ghost use Rattle.scope.specs.Refusals.{dueAt, least as first, lineRefusals, isLink, textOf};
+ghost use Rattle.scope.specs.Refusals.{dueAt, least as first, lineRefusals, textOf};
 ghost use Rattle.values.specs.Says.{IsValue, coded};
 ghost use Rattle.labels.specs.Says.{IsLabel};
 ghost use Rattle.dues.specs.Ranks.{code, lowest, noCode, numberAt};
 ghost use Rattle.dues.specs.Lines.{deepRank, partCodes, labelCodes};
-ghost use Rattle.dues.specs.Steps.{isRuleName, textCodes};
+ghost use Rattle.dues.specs.Steps.{textCodes};
 ghost use Rattle.dues.specs.Found.{ValueFound, LabelFound};
 
 // how many places there are for each rank
@@ -118,7 +118,7 @@ fn text_due(line: &[u8], least: usize, at: usize, v: Value) -> usize
     let b = due_if(a, Tables::TEXT < to - from, OVER, at);
     let code = words::key_code(key);
     if code == NO_KEY {
-        return due_if(b, is_rule(line, from, to), BARRED, at);
+        return due_if(b, words::is_rule(line, from, to), BARRED, at);
     }
     if code < R {
         return due_if(b, is_number(line, from, to), DIGITS, at);
@@ -135,29 +135,6 @@ fn deep_due(least: usize, deep: usize) -> usize
         return least;
     }
     due(least, DEEP, deep - 1)
-}
-
-// Whether the text from `from` to `to` is CoMKP, CoMUP or one of their long names, which all begin with a C.
-fn is_rule(line: &[u8], from: usize, to: usize) -> bool
-    requires { ⌜ (from ≤ to) × (to ≤ length (now line)) ⌝ }
-    ensures { λ r. ⌜ r ≡ isRuleName (part from (to - from) (now (line .entry))) ⌝ }
-{
-    if from == to {
-        return false;
-    }
-    if classes::upper(line[from]) != b'C' {
-        return false;
-    }
-    if words::is(words::COMKP, line, from, to) {
-        return true;
-    }
-    if words::is(words::COMUP, line, from, to) {
-        return true;
-    }
-    if words::is(words::LONG_COMKP, line, from, to) {
-        return true;
-    }
-    words::is(words::LONG_COMUP, line, from, to)
 }
 
 // Whether digits only, and some, stand from `from` to `to`.
@@ -178,18 +155,7 @@ pub fn label_due(line: &[u8], least: usize, at: usize, label: Label) -> usize
 {
     let from = label.from;
     let to = label.to;
-    let a = due_if(least, is_link(line, from, to), BARRED, at);
+    let a = due_if(least, words::is_link(line, from, to), BARRED, at);
     let b = due_if(a, label.score == Label::WIDE, WIDE, to + 1);
     due_if(b, Tables::LABEL < to - from, OVER, from)
-}
-
-// Whether the label from `from` to `to` begins XL or is BRANCH.
-fn is_link(line: &[u8], from: usize, to: usize) -> bool
-    requires { ⌜ (from ≤ to) × (to ≤ length (now line)) ⌝ }
-    ensures { λ r. ⌜ r ≡ isLink (part from (to - from) (now (line .entry))) ⌝ }
-{
-    if words::begins(words::XL, line, from, to) {
-        return true;
-    }
-    words::is(words::BRANCH, line, from, to)
 }

@@ -1,8 +1,8 @@
 -- Laws of the digits of a number. Assumes nothing.
-use mathlib.Core.Path.{_≡_, refl, ap, ap₂, _∙_}
-use mathlib.Core.List.{[], _∷_, _++_}
+use mathlib.Core.Path.{_≡_, refl, sym, ap, ap₂, _∙_}
+use mathlib.Core.List.{List, [], _∷_, _++_, append-assoc}
 use Prim.Native.Nat.{ℕ, zero, suc, _+_, _-_, _*_, _/_, _%_, _^_, _≤_, _<_}
-use native.Mathlib.Nat.{pow-suc, div-lt-iff-lt-mul}
+use native.Mathlib.Nat.{pow-suc, div-lt-iff-lt-mul, div-div-eq-div-mul}
 use native.Mathlib.Numerals.{add-one}
 use native.Mathlib.Omega.{arith}
 use borrow.Author.Tests.{lt-ltb, le-ltb}
@@ -35,8 +35,33 @@ tenth-small (suc k) n z h =
     rw e (div-lt-iff-lt-mul {k = 10} {x = n} {y = 10 ^ suc k} (omega arith) .1 (rw p at h))
 
 -- two digits
-pub decimal-two : (k n : ℕ) → 0 < k → 10 ≤ n → n < 100 → ((48 + n / 10) ∷ []) ++ ((48 + n % 10) ∷ []) ≡ decimalUpTo k n
+pub decimal-two : (k n : ℕ) → 0 < k → 10 ≤ n → n < 100 → (48 + n / 10) ∷ (48 + n % 10) ∷ [] ≡ decimalUpTo k n
 decimal-two k n z h l = ap (λ t. t ++ ((48 + n % 10) ∷ [])) (decimal-one (k - 1) (n / 10) (omega arith)) ∙ decimal-more k n z h
+
+-- the last two of a number, and the rest of it
+two-last : (n : ℕ) → (48 + n % 100 / 10) ∷ (48 + n % 100 % 10) ∷ [] ≡ (48 + n / 10 % 10) ∷ (48 + n % 10) ∷ []
+two-last n =
+    let rest : n / 10 / 10 ≡ n / 100 = div-div-eq-div-mul n 10 10 in
+    let high : n % 100 / 10 ≡ n / 10 % 10 = omega arith in
+    let low : n % 100 % 10 ≡ n % 10 = omega arith in
+    rw (low, high)
+
+-- digits of which the last ones are found one after another, are found two by two
+by-two : (f : ℕ → ℕ → List ℕ) (k n : ℕ) → f (k - 1 - 1) (n / 10 / 10) ++ ((48 + n / 10 % 10) ∷ []) ≡ f (k - 1) (n / 10) → f (k - 1) (n / 10) ++ ((48 + n % 10) ∷ []) ≡ f k n
+    → f (k - 2) (n / 100) ++ ((48 + n % 100 / 10) ∷ (48 + n % 100 % 10) ∷ []) ≡ f k n
+by-two f k n p q =
+    let two : k - 2 ≡ k - 1 - 1 = omega arith in
+    rw (two-last n, ← div-div-eq-div-mul n 10 10, two, ← append-assoc (f (k - 1 - 1) (n / 10 / 10)) ((48 + n / 10 % 10) ∷ []) ((48 + n % 10) ∷ []))
+    (ap (λ t. t ++ ((48 + n % 10) ∷ [])) p ∙ q)
+
+pub decimal-pair : (k n : ℕ) → 1 < k → 100 ≤ n → decimalUpTo (k - 2) (n / 100) ++ ((48 + n % 100 / 10) ∷ (48 + n % 100 % 10) ∷ []) ≡ decimalUpTo k n
+decimal-pair k n z h = by-two decimalUpTo k n (decimal-more (k - 1) (n / 10) (omega arith) (omega arith)) (decimal-more k n (omega arith) (omega arith))
+
+pub hundredth-small : (k n : ℕ) → 1 < k → n < 10 ^ (k + 1) → n / 100 < 10 ^ (k - 2 + 1)
+hundredth-small k n z h =
+    let rest : n / 100 ≡ n / 10 / 10 = sym (div-div-eq-div-mul n 10 10) in
+    let two : k - 2 ≡ k - 1 - 1 = omega arith in
+    rw (rest, two) (tenth-small (k - 1) (n / 10) (omega arith) (tenth-small k n (omega arith) h))
 
 pub last-none : (d n : ℕ) → d ≡ 0 → [] ≡ lastDigits d n
 unfolding lastDigits
@@ -53,6 +78,18 @@ last-more (suc d) n z =
 pub room-for-more : (k n : ℕ) → 10 ≤ n → n < 10 ^ (k + 1) → 0 < k
 room-for-more zero n h l = absurd (omega arith)
 room-for-more (suc k) n h l = omega arith
+
+pub room-for-two : (k n : ℕ) → 100 ≤ n → n < 10 ^ (k + 1) → 1 < k
+room-for-two zero n h l = absurd (omega arith)
+room-for-two (suc zero) n h l = absurd (omega arith)
+room-for-two (suc (suc k)) n h l = omega arith
+
+pub last-one : (d n : ℕ) → (d ≡ 0 → ⊥) → d < 2 → (48 + n % 10) ∷ [] ≡ lastDigits d n
+unfolding lastDigits
+last-one d n z h = let e : d ≡ 1 = omega (arith, z) in rw e
+
+pub last-pair : (d n : ℕ) → 2 ≤ d → lastDigits (d - 2) (n / 100) ++ ((48 + n % 100 / 10) ∷ (48 + n % 100 % 10) ∷ []) ≡ lastDigits d n
+last-pair d n h = by-two lastDigits d n (last-more (d - 1) (n / 10) (λ e. omega arith)) (last-more d n (λ e. omega arith))
 
 -- ---- numbers with their point and sign
 pub decimals-none : (d n : ℕ) → d ≡ 0 → [] ≡ decimals d n

@@ -2,7 +2,7 @@
 use scope::tables::Number;
 ghost use mathlib.Core.Path.{_≡_};
 ghost use mathlib.Core.List.{[], _∷_};
-ghost use Prim.Native.Nat.{_+_, _-_, _/_, _^_, _<_, _≤_, min};
+ghost use Prim.Native.Nat.{_+_, _-_, _/_, _%_, _^_, _<_, _≤_, min};
 ghost use lib.IntN.{natAbs};
 ghost use lib.ListN.{length};
 ghost use Rattle.scope.specs.Canonical.{decimalUpTo, decimal, lastDigits, decimals, size, countText};
@@ -89,7 +89,16 @@ fn put_digit(n: u64, out: &mut [u8], at: usize) -> usize
     put(out, at, digit(n))
 }
 
-// The digits of n, at most k + 1 of them; one or two by no further call.
+// Two digits.
+fn put_two(n: u64, out: &mut [u8], at: usize) -> usize
+    requires { ⌜ (n < 100) × (at + 2 ≤ ceiling) ⌝ }
+    ensures { λ r. ⌜ Puts 2 (now (out .entry)) at ((48 + n / 10) ∷ (48 + n % 10) ∷ []) (now (out .exit)) r ⌝ }
+{
+    let a = put_digit(n / 10, out, at);
+    put_digit(n % 10, out, a)
+}
+
+// The digits of n, at most k + 1 of them, two by two from behind.
 fn decimal_up_to(k: usize, n: u64, out: &mut [u8], at: usize) -> usize
     requires { ⌜ (n < 10 ^ (k + 1)) × (at + k + 1 ≤ ceiling) ⌝ }
     ensures { λ r. ⌜ Puts (k + 1) (now (out .entry)) at (decimalUpTo k n) (now (out .exit)) r ⌝ }
@@ -98,14 +107,13 @@ fn decimal_up_to(k: usize, n: u64, out: &mut [u8], at: usize) -> usize
         return put_digit(n, out, at);
     }
     if n < 100 {
-        let a = put_digit(n / 10, out, at);
-        return put_digit(n % 10, out, a);
+        return put_two(n, out, at);
     }
-    let a = decimal_up_to(k - 1, n / 10, out, at);
-    put_digit(n % 10, out, a)
+    let a = decimal_up_to(k - 2, n / 100, out, at);
+    put_two(n % 100, out, a)
 }
 
-// The last d digits of n.
+// The last d digits of n, two by two from behind.
 fn last_digits(d: usize, n: u64, out: &mut [u8], at: usize) -> usize
     requires { ⌜ at + d ≤ ceiling ⌝ }
     ensures { λ r. ⌜ Puts d (now (out .entry)) at (lastDigits d n) (now (out .exit)) r ⌝ }
@@ -113,8 +121,11 @@ fn last_digits(d: usize, n: u64, out: &mut [u8], at: usize) -> usize
     if d == 0 {
         return at;
     }
-    let a = last_digits(d - 1, n / 10, out, at);
-    put_digit(n % 10, out, a)
+    if d < 2 {
+        return put_digit(n % 10, out, at);
+    }
+    let a = last_digits(d - 2, n / 100, out, at);
+    put_two(n % 100, out, a)
 }
 
 // ---- numbers
@@ -144,11 +155,14 @@ fn digits_of(m: i64, d: usize) -> u64
     magnitude(m) / tens::power(DECIMALS - d)
 }
 
-// A number without leading zeros.
+// A number without leading zeros; one digit by no further call.
 pub fn put_decimal(n: u64, out: &mut [u8], at: usize) -> usize
     requires { ⌜ at + decimalMost ≤ ceiling ⌝ }
     ensures { λ r. ⌜ Puts decimalMost (now (out .entry)) at (decimal n) (now (out .exit)) r ⌝ }
 {
+    if n < 10 {
+        return put_digit(n, out, at);
+    }
     decimal_up_to(FURTHER_DIGITS, n, out, at)
 }
 

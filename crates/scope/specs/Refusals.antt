@@ -107,13 +107,15 @@ refusal7 l = flat (λ k. wideCount k ++ flat (λ p. wideMass (p .value) ++ wideS
 
 -- ---- 8 "part begins `Formula:` `Glycan:` `Position:` `Limit:`, or is CoMKP, CoMUP or their long names, or its label begins XL or is BRANCH;
 -- any case", at "the part, or the `#` of a reference"
+unfoldable pub isRuleName : List ℕ → Bool
+isRuleName t =
+    sameFolded (bytes "CoMKP") t
+    || sameFolded (bytes "CoMUP") t
+    || sameFolded (bytes "ColocaliseModificationsOfKnownPosition") t
+    || sameFolded (bytes "ColocaliseModificationsOfUnknownPosition") t
+
 abbrev pub isRule : {P : Type 0} → Part P → Bool
-isRule p =
-    isKey NoKey p
-    && (sameFolded (bytes "CoMKP") (textOf p)
-    || sameFolded (bytes "CoMUP") (textOf p)
-    || sameFolded (bytes "ColocaliseModificationsOfKnownPosition") (textOf p)
-    || sameFolded (bytes "ColocaliseModificationsOfUnknownPosition") (textOf p))
+isRule p = isKey NoKey p && isRuleName (textOf p)
 
 abbrev pub isLink : List ℕ → Bool
 isLink name = sameFolded (bytes "XL") (take 2 name) || sameFolded (bytes "BRANCH") name

@@ -1,48 +1,39 @@
--- A key by its number is its word and a colon, computed once over all of them; no other number has a key. Assumes nothing.
-use mathlib.Core.Path.{_≡_, refl, ap}
-use mathlib.Core.Bool.{Bool, true, _&&_}
+-- What is written of a key is its word and a colon, or nothing where it has no word: one test over the keys. Assumes nothing.
+use mathlib.Core.Path.{_≡_, refl, sym, ap, _∙_}
+use mathlib.Core.Bool.{cond}
 use mathlib.Core.List.{List, [], _∷_, _++_}
-use Prim.Native.Nat.{ℕ, _-_, _<_, _≤_}
+use Prim.Native.Nat.{ℕ}
 use native.Mathlib.Omega.{arith}
-use lib.Dec.{ltb}
-use lib.ListN.{length, List·getD-eq-default}
-use borrow.Author.Tests.{ltb-true}
-use Rattle.scope.specs.declared.grammar.Key.the-variants.{NoKey}
+use lib.Dec.{eqb}
+use lib.ListN.{length}
+use borrow.Author.Tests.{eq-eqb, ne-eqb}
+use Rattle.scope.specs.declared.grammar.Key.{Key}
 use Rattle.scope.specs.Bytes.{colon}
-use Rattle.scope.specs.Keys.{written, spell, keys, keyIn}
-use Rattle.scope.specs.Lists.{all, same, tabled}
+use Rattle.scope.specs.Keys.{written, spell, keys}
+use Rattle.scope.specs.Lists.{all, same}
+use Rattle.basics.specs.Keys.{each-key}
 use Rattle.basics.specs.Lists.{same-law}
-use Rattle.basics.specs.Tabled.{all-tabled}
-use Rattle.basics.specs.Tests.{and-left, and-right}
-use Rattle.words.specs.Words.{words, keyCount, spelling}
+use Rattle.words.proofs.Words.{short}
 use Rattle.figures.specs.Written.{Puts}
 use Rattle.figures.proofs.Storing.{puts-of, puts-join, puts-within, puts-none}
 use Rattle.spelling.specs.Widths.{keyMost}
 
--- ---- numbers without a key
-pub none-first : {c : ℕ} {o : List ℕ} {at : ℕ} → c ≡ 0 → Puts keyMost o at (written (keyIn c)) o at
-unfolding written spell keys
-none-first {c} {o} {at} e = puts-of (ap (λ k. written (keyIn k)) (let z : 0 ≡ c = omega arith in z)) (puts-within (omega arith) (puts-none o at))
+abbrev wordAndColon : List ℕ → List ℕ
+wordAndColon t = cond (eqb (length t) 0) [] (t ++ (colon ∷ []))
 
-pub none-past : {c : ℕ} {o : List ℕ} {at : ℕ} → keyCount ≤ c → Puts keyMost o at (written (keyIn c)) o at
-unfolding written spell keys
-none-past {c} {o} {at} h = puts-of (let z : [] ≡ written (keyIn c) = rw (List·getD-eq-default (NoKey ∷ keys) NoKey {n = c} h) in z) (puts-within (omega arith) (puts-none o at))
+written-so : (k : Key) → wordAndColon (spell k) ≡ written k
+unfolding written spell keys all same
+written-so k = same-law (wordAndColon (spell k)) (written k) .0 (each-key (λ k. same (wordAndColon (spell k)) (written k)) refl k)
 
--- ---- those with one
-abbrev spelledRight : ℕ → Bool
-spelledRight c = same (spelling c ++ (colon ∷ [])) (written (keyIn c)) && ltb (length (spelling c)) keyMost
-
-module _ {c : ℕ} (low : c ≡ 0 → ⊥) (high : c < keyCount) where
-  right : spelledRight c ≡ true
-  unfolding written words spell keys all same tabled
-  right = all-tabled spelledRight 1 (keyCount - 1) refl c (omega (arith, low)) (omega arith)
-
-  pub short : length (spelling c) < keyMost
-  short = ltb-true (length (spelling c)) keyMost (and-right (same (spelling c ++ (colon ∷ [])) (written (keyIn c))) _ right)
-
-  pub spelled : spelling c ++ (colon ∷ []) ≡ written (keyIn c)
-  spelled = same-law (spelling c ++ (colon ∷ [])) (written (keyIn c)) .0 (and-left _ (ltb (length (spelling c)) keyMost) right)
+module _ (k : Key) {n : ℕ} (long : n ≡ length (spell k)) where
+  pub puts-no-key : {o : List ℕ} {at : ℕ} → n ≡ 0 → Puts keyMost o at (written k) o at
+  puts-no-key {o} {at} e =
+      let z : wordAndColon (spell k) ≡ [] = rw (eq-eqb (length (spell k)) 0 (sym long ∙ e)) in
+      puts-of (sym z ∙ written-so k) (puts-within (omega arith) (puts-none o at))
 
   -- the word, then the colon
-  pub puts-key : {n at q r : ℕ} {o p o′ word : List ℕ} → word ≡ spelling c → n ≡ length (spelling c) → Puts n o at word p q → Puts 1 p q (colon ∷ []) o′ r → Puts keyMost o at (written (keyIn c)) o′ r
-  puts-key e f v u = puts-of spelled (puts-within (omega (arith, f, short)) (puts-join (puts-of e v) u))
+  pub puts-key : {at q r : ℕ} {o p o′ word : List ℕ} → (n ≡ 0 → ⊥) → word ≡ spell k → Puts n o at word p q → Puts 1 p q (colon ∷ []) o′ r
+      → Puts keyMost o at (written k) o′ r
+  puts-key some e v u =
+      let z : wordAndColon (spell k) ≡ spell k ++ (colon ∷ []) = rw (ne-eqb (length (spell k)) 0 (λ q. some (long ∙ q))) in
+      puts-of (sym z ∙ written-so k) (puts-within (omega (arith, short k)) (puts-join (puts-of e v) u))

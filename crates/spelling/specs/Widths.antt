@@ -1,6 +1,7 @@
 -- How many bytes a key takes at most.
-use Prim.Native.Nat.{ℕ}
+use Prim.Native.Nat.{ℕ, suc}
+use Rattle.words.specs.Words.{longest}
 
--- a key and its `:`; the longest is `Position:`
+-- its word and a `:`
 abbrev pub keyMost : ℕ
-keyMost = 9
+keyMost = suc longest

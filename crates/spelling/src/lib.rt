@@ -11,14 +11,13 @@ pub fn put_key(c: usize, out: &mut [u8], at: usize) -> usize
     requires { ⌜ at + keyMost ≤ ceiling ⌝ }
     ensures { λ r. ⌜ Puts keyMost (now (out .entry)) at (written (keyIn c)) (now (out .exit)) r ⌝ }
 {
-    if c == 0 {
+    let key = words::key_of(c);
+    let w = words::word_of(key);
+    let n = w.size;
+    if n == 0 {
         return at;
     }
-    if words::KEYS <= c {
-        return at;
-    }
-    let from = words::start(c);
-    let n = words::size(c);
-    let a = copy(&words::LETTERS, from, n, out, at);
+    let letters = w.letters;
+    let a = copy(&letters, 0, n, out, at);
     put(out, a, b':')
 }

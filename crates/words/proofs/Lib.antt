@@ -1,2 +1,2 @@
-pub mod Table
-pub mod Sized
+pub mod Words
+pub mod Rules

@@ -1,142 +1,87 @@
 // The fixed words of the notation, each once and in the spelling in which it is written; and the key that bytes spell in either case.
 use scope::grammar::Key;
 ghost use mathlib.Core.Path.{_≡_};
-ghost use Prim.Native.Nat.{_+_, _-_, _≤_, _<_};
+ghost use mathlib.Core.Bool.{true, cond};
+ghost use Prim.Native.Nat.{_+_, _-_, _≤_};
+ghost use lib.Dec.{eqb};
 ghost use lib.ListN.{length, take};
+ghost use Rattle.scope.specs.declared.grammar.Key.{Key as TheKey};
 ghost use Rattle.scope.specs.Bytes.{sameFolded};
-ghost use Rattle.scope.specs.Keys.{keyCode};
+ghost use Rattle.scope.specs.Keys.{spell, keyCode, keyIn};
 ghost use Rattle.scope.specs.Lists.{part};
-ghost use Rattle.words.specs.Words.{words, wordCount, spelling, startOf, keyFound};
+ghost use Rattle.scope.specs.Refusals.{isRuleName, isLink};
+ghost use Rattle.words.specs.Words.{mayBe, keyFound};
 
-// The letters of all words, one behind another: the key words and prefixes in the order of the keys' numbers, the names of rules, the labels of links.
-pub const LETTERS: [u8; SIZE] =
-    *b"UMRXGCObsUNIMODMODXLMODRESIDGNOINFOFormulaGlycanPositionLimitCoMKPCoMUPColocaliseModificationsOfKnownPositionColocaliseModificationsOfUnknownPositionXLBRANCH";
-
-const SIZE: usize = 157;
-
-// Where each word begins, and where the last one ends. No key is an empty word.
-const STARTS: [u8; WORDS + 1] = [
-    0,
-    0,
-    1,
-    2,
-    3,
-    4,
-    5,
-    6,
-    9,
-    15,
-    18,
-    23,
-    28,
-    31,
-    35,
-    42,
-    48,
-    56,
-    61,
-    66,
-    71,
-    109,
-    149,
-    151,
-    157,
-];
-
-// The numbers of words: as many as keys, with none among them; then the others.
-pub const KEYS: usize = 18;
-
-pub const COMKP: usize = KEYS;
-
-pub const COMUP: usize = COMKP + 1;
-
-pub const LONG_COMKP: usize = COMUP + 1;
-
-pub const LONG_COMUP: usize = LONG_COMKP + 1;
-
-pub const XL: usize = LONG_COMUP + 1;
-
-pub const BRANCH: usize = XL + 1;
-
-const WORDS: usize = BRANCH + 1;
-
-// The keys by the sizes of their words, and where those of each size begin, up to the longest.
-const BY_SIZE: [Key; KEYS - 1] = [
-    Key::U,
-    Key::M,
-    Key::R,
-    Key::X,
-    Key::G,
-    Key::C,
-    Key::Obs,
-    Key::Mod,
-    Key::Gno,
-    Key::Info,
-    Key::Xlmod,
-    Key::Resid,
-    Key::Limit,
-    Key::Unimod,
-    Key::Glycan,
-    Key::Formula,
-    Key::Position,
-];
-
-const SIZES: [u8; LONGEST + 2] = [0, 0, 6, 6, 9, 10, 13, 15, 16, 17];
-
-const LONGEST: usize = 8;
-
-fn wide(b: u8) -> usize
-    ensures { λ r. ⌜ r ≡ b ⌝ }
-{
-    b as usize
+// The word of a key: its letters in front, and how many they are.
+pub struct Word {
+    pub size: usize,
+    pub letters: [u8; Word::LONGEST],
 }
 
-// Where word w begins.
-pub fn start(w: usize) -> usize
-    requires { ⌜ w ≤ wordCount ⌝ }
-    ensures { λ r. ⌜ r ≡ startOf words w ⌝ }
-{
-    wide(STARTS[w])
+impl Word {
+    pub const LONGEST: usize = 8;
 }
 
-// How many bytes word w has.
-pub fn size(w: usize) -> usize
-    requires { ⌜ w < wordCount ⌝ }
-    ensures { λ r. ⌜ r ≡ length (spelling w) ⌝ }
+// The words of the keys, "written in the spelling given here". A match is a table in the program; an array would be laid on the stack at each call.
+pub fn word_of(key: Key) -> Word
+    ensures { λ r. ⌜ (r .size ≡ length (spell key)) × (take (r .size) (r .letters) ≡ spell key) ⌝ }
 {
-    start(w + 1) - start(w)
-}
-
-// Whether word w stands at `at`, in either case, where there is room for it.
-fn stands(w: usize, line: &[u8], at: usize) -> bool
-    requires { ⌜ (w < wordCount) × (at + length (spelling w) ≤ length (now line)) ⌝ }
-    ensures { λ r. ⌜ r ≡ sameFolded (spelling w) (part at (length (spelling w)) (now (line .entry))) ⌝ }
-{
-    let from = start(w);
-    let to = start(w + 1);
-    classes::key_at(line, at, &LETTERS[from..to])
-}
-
-// Whether the bytes from `at` to `end` are word w, in either case.
-pub fn is(w: usize, line: &[u8], at: usize, end: usize) -> bool
-    requires { ⌜ (w < wordCount) × (at ≤ end) × (end ≤ length (now line)) ⌝ }
-    ensures { λ r. ⌜ r ≡ sameFolded (spelling w) (part at (end - at) (now (line .entry))) ⌝ }
-{
-    if size(w) == end - at {
-        return stands(w, line, at);
+    match key {
+        Key::NoKey => lay(0, *b"        "),
+        Key::U => lay(1, *b"U       "),
+        Key::M => lay(1, *b"M       "),
+        Key::R => lay(1, *b"R       "),
+        Key::X => lay(1, *b"X       "),
+        Key::G => lay(1, *b"G       "),
+        Key::C => lay(1, *b"C       "),
+        Key::Obs => lay(3, *b"Obs     "),
+        Key::Unimod => lay(6, *b"UNIMOD  "),
+        Key::Mod => lay(3, *b"MOD     "),
+        Key::Xlmod => lay(5, *b"XLMOD   "),
+        Key::Resid => lay(5, *b"RESID   "),
+        Key::Gno => lay(3, *b"GNO     "),
+        Key::Info => lay(4, *b"INFO    "),
+        Key::Formula => lay(7, *b"Formula "),
+        Key::Glycan => lay(6, *b"Glycan  "),
+        Key::Position => lay(8, *b"Position"),
+        Key::Limit => lay(5, *b"Limit   "),
     }
-    false
 }
 
-// Whether they begin with it.
-pub fn begins(w: usize, line: &[u8], at: usize, end: usize) -> bool
-    requires { ⌜ (w < wordCount) × (at ≤ end) × (end ≤ length (now line)) ⌝ }
-    ensures { λ r. ⌜ r ≡ sameFolded (spelling w) (take (length (spelling w)) (part at (end - at) (now (line .entry)))) ⌝ }
+fn lay(size: usize, letters: [u8; Word::LONGEST]) -> Word
+    ensures { λ r. ⌜ (r .size ≡ size) × (r .letters ≡ letters) ⌝ }
 {
-    if size(w) <= end - at {
-        return stands(w, line, at);
+    Word { size, letters }
+}
+
+// The one key that a word may be which begins so, in upper case, and has so many letters.
+fn likely(first: u8, size: usize) -> Key
+    ensures { λ r. ⌜ ((k : TheKey) → mayBe first size k ≡ true → r ≡ k) ⌝ }
+{
+    match first {
+        b'U' => sized(size, 1, Key::U, Key::Unimod),
+        b'M' => sized(size, 1, Key::M, Key::Mod),
+        b'R' => sized(size, 1, Key::R, Key::Resid),
+        b'X' => sized(size, 1, Key::X, Key::Xlmod),
+        b'G' => sized(size, 1, Key::G, sized(size, 3, Key::Gno, Key::Glycan)),
+        b'C' => Key::C,
+        b'O' => Key::Obs,
+        b'I' => Key::Info,
+        b'F' => Key::Formula,
+        b'P' => Key::Position,
+        b'L' => Key::Limit,
+        _ => Key::NoKey,
     }
-    false
+}
+
+// This key for a word of n letters, and else the other.
+fn sized(size: usize, n: usize, this: Key, other: Key) -> Key
+    ensures { λ r. ⌜ r ≡ cond (eqb size n) this other ⌝ }
+{
+    if size == n {
+        return this;
+    }
+    other
 }
 
 // The key that the bytes from `at` to `end` spell.
@@ -144,20 +89,73 @@ pub fn key_in(line: &[u8], at: usize, end: usize) -> Key
     requires { ⌜ (at ≤ end) × (end ≤ length (now line)) ⌝ }
     ensures { λ r. ⌜ r ≡ keyFound (part at (end - at) (now (line .entry))) ⌝ }
 {
-    let n = end - at;
-    if LONGEST < n {
+    if at == end {
         return Key::NoKey;
     }
-    let past = wide(SIZES[n + 1]);
-    let mut i = wide(SIZES[n]);
-    while i < past {
-        let key = BY_SIZE[i];
-        if is(wide(key_code(key)), line, at, end) {
-            return key;
-        }
-        i += 1;
+    let key = likely(classes::upper(line[at]), end - at);
+    let w = word_of(key);
+    let n = w.size;
+    let letters = w.letters;
+    if is(&letters[..n], line, at, end) {
+        return key;
     }
     Key::NoKey
+}
+
+// Whether the bytes from `at` to `end` are the word, in either case.
+fn is(word: &[u8], line: &[u8], at: usize, end: usize) -> bool
+    requires { ⌜ (at ≤ end) × (end ≤ length (now line)) ⌝ }
+    ensures { λ r. ⌜ r ≡ sameFolded (now (word .entry)) (part at (end - at) (now (line .entry))) ⌝ }
+{
+    if word.len() == end - at {
+        return classes::key_at(line, at, word);
+    }
+    false
+}
+
+// Whether they begin with it.
+fn begins(word: &[u8], line: &[u8], at: usize, end: usize) -> bool
+    requires { ⌜ (at ≤ end) × (end ≤ length (now line)) ⌝ }
+    ensures { λ r. ⌜ r ≡ sameFolded (now (word .entry)) (take (length (now (word .entry))) (part at (end - at) (now (line .entry)))) ⌝ }
+{
+    if word.len() <= end - at {
+        return classes::key_at(line, at, word);
+    }
+    false
+}
+
+// Whether they are CoMKP, CoMUP or one of their long names, which all begin with a C.
+pub fn is_rule(line: &[u8], at: usize, end: usize) -> bool
+    requires { ⌜ (at ≤ end) × (end ≤ length (now line)) ⌝ }
+    ensures { λ r. ⌜ r ≡ isRuleName (part at (end - at) (now (line .entry))) ⌝ }
+{
+    if at == end {
+        return false;
+    }
+    if classes::upper(line[at]) != b'C' {
+        return false;
+    }
+    if is(b"CoMKP", line, at, end) {
+        return true;
+    }
+    if is(b"CoMUP", line, at, end) {
+        return true;
+    }
+    if is(b"ColocaliseModificationsOfKnownPosition", line, at, end) {
+        return true;
+    }
+    is(b"ColocaliseModificationsOfUnknownPosition", line, at, end)
+}
+
+// Whether they begin XL or are BRANCH: a label of a link.
+pub fn is_link(line: &[u8], at: usize, end: usize) -> bool
+    requires { ⌜ (at ≤ end) × (end ≤ length (now line)) ⌝ }
+    ensures { λ r. ⌜ r ≡ isLink (part at (end - at) (now (line .entry))) ⌝ }
+{
+    if begins(b"XL", line, at, end) {
+        return true;
+    }
+    is(b"BRANCH", line, at, end)
 }
 
 // The number of a key in the tables.
@@ -183,5 +181,31 @@ pub fn key_code(key: Key) -> u8
         Key::Glycan => 15,
         Key::Position => 16,
         Key::Limit => 17,
+    }
+}
+
+// The key of a number.
+pub fn key_of(code: usize) -> Key
+    ensures { λ r. ⌜ r ≡ keyIn code ⌝ }
+{
+    match code {
+        1 => Key::U,
+        2 => Key::M,
+        3 => Key::R,
+        4 => Key::X,
+        5 => Key::G,
+        6 => Key::C,
+        7 => Key::Obs,
+        8 => Key::Unimod,
+        9 => Key::Mod,
+        10 => Key::Xlmod,
+        11 => Key::Resid,
+        12 => Key::Gno,
+        13 => Key::Info,
+        14 => Key::Formula,
+        15 => Key::Glycan,
+        16 => Key::Position,
+        17 => Key::Limit,
+        _ => Key::NoKey,
     }
 }

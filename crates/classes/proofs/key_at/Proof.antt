@@ -1,7 +1,9 @@
 -- The key and as many bytes of the line are compared in capitals, by the laws of a loop that compares two texts.
+use mathlib.Core.Path.{refl, sym, _∙_}
 use Prim.Native.Nat.{_-_}
 use lib.ListN.{length}
 use borrow.Author.Needs.{needs}
+use borrow.Author.Tests.{eqb-true, eqb-false}
 use Rattle.scope.specs.Bytes.{sameFolded}
 use Rattle.scope.specs.Lists.{part}
 use Rattle.classes.proofs.Same.{key-part, Alike, alike-enters, alike-goes-on, alike-stops, alike-ends}
@@ -16,21 +18,24 @@ abbrev μ-loop : tie.MeasureT-loop
 
 loop-again : tie.Need-loop-again Inv-loop μ-loop
 loop-again c =
-    let u = c .before .before .before in
-    let l = u .before .before in
-    let start = l .before .before .before .before in
-    alike-goes-on (key-part _ _ _ (start .pre)) (l .before .loop .inv) (l .loop-test .taken) (u .upper .ensures) (c .before .upper2 .ensures) (c .if1 .taken)
+    let a : tie.After-alike Inv-loop μ-loop = search in
+    let l : tie.In-loop Inv-loop μ-loop = search in
+    let s : tie.Start Inv-loop μ-loop = search in
+    alike-goes-on (key-part _ _ _ (s .pre)) (l .before .loop .inv) (l .loop-test .taken) refl refl (eqb-true _ _ (sym (a .alike .ensures) ∙ c .if1 .taken))
 
 returns : tie.Need-returns Inv-loop μ-loop
 returns c =
-    let u = c .before .before .before in
-    let l = u .before .before in
-    let start = l .before .before .before .before in
-    alike-stops (key-part _ _ _ (start .pre)) (l .before .loop .inv) (l .loop-test .taken) (u .upper .ensures) (c .before .upper2 .ensures) (c .if1 .left)
+    let a : tie.After-alike Inv-loop μ-loop = search in
+    let l : tie.In-loop Inv-loop μ-loop = search in
+    let s : tie.Start Inv-loop μ-loop = search in
+    alike-stops (key-part _ _ _ (s .pre)) (l .before .loop .inv) (l .loop-test .taken) refl refl (eqb-false _ _ (sym (a .alike .ensures) ∙ c .if1 .left))
+
+returns-2 : tie.Need-returns-2 Inv-loop μ-loop
+returns-2 c =
+    let s : tie.Start Inv-loop μ-loop = search in
+    alike-ends (key-part _ _ _ (s .pre)) (c .before .loop .inv) (c .loop-test .left)
 
 pub key-at-spec : {M : Type 1} → statement M
 key-at-spec =
     tie.close
-    (tie.spec Inv-loop μ-loop (λ c. alike-enters) (λ c. search needs) (λ c κs. search needs) (λ c. search needs) (λ c. search needs) (λ c κs. search needs)
-    (λ c. search needs) (λ c. search needs) loop-again returns
-    (λ c. alike-ends (key-part _ _ _ (c .before .before .before .before .pre)) (c .before .loop .inv) (c .loop-test .left)))
+    (tie.spec Inv-loop μ-loop (λ c. alike-enters) (λ c. search needs) (λ c. search needs) (λ c. search needs) (λ c κs. search needs) (λ c. search needs) (λ c. search needs) loop-again returns returns-2)

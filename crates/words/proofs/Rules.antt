@@ -10,7 +10,7 @@ use lib.Seq.{drop-cons}
 use borrow.Author.Tests.{ne-eqb}
 use Rattle.scope.specs.Bytes.{sameFolded, upper}
 use Rattle.scope.specs.Lists.{part}
-use Rattle.dues.specs.Steps.{isRuleName}
+use Rattle.scope.specs.Refusals.{isRuleName}
 
 upper-C : upper 67 ≡ 67
 unfolding upper

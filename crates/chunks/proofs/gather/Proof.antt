@@ -1,8 +1,8 @@
--- `stream::gather` meets its contract: a cut behind the end of a line, or at the end of the chunk. Assumes nothing.
+-- `chunks::gather` meets its contract: a cut behind the end of a line, or at the end of the chunk. Assumes nothing.
 use borrow.Author.Needs.{needs}
-use Rattle.stream.proofs.Cutting.{cut-line, cut-chunk}
-use Rattle.stream.proofs.gather.Statement.{statement}
-use Rattle.stream.proofs.gather.Tie as tie
+use Rattle.chunks.proofs.Cutting.{cut-line, cut-chunk}
+use Rattle.chunks.proofs.gather.Statement.{statement}
+use Rattle.chunks.proofs.gather.Tie as tie
 
 returns : tie.Need-returns
 returns c =

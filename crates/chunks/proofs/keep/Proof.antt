@@ -1,8 +1,8 @@
--- `stream::keep` meets its contract: bytes of the chunk are copied behind those held. Assumes nothing.
+-- `chunks::keep` meets its contract: bytes of the chunk are copied behind those held. Assumes nothing.
 use borrow.Author.Needs.{needs}
-use Rattle.stream.proofs.Cutting.{keeps}
-use Rattle.stream.proofs.keep.Statement.{statement}
-use Rattle.stream.proofs.keep.Tie as tie
+use Rattle.chunks.proofs.Cutting.{keeps}
+use Rattle.chunks.proofs.keep.Statement.{statement}
+use Rattle.chunks.proofs.keep.Tie as tie
 
 returns : tie.Need-returns
 returns c =

@@ -1,10 +1,11 @@
--- `stream::feed` meets its contract: the line that is begun goes on past the chunk, or it ends, and lines behind it. Assumes nothing.
+-- `chunks::feed` meets its contract: the line that is begun goes on past the chunk, or it ends, and lines behind it. Assumes nothing.
 use mathlib.Core.Path.{_∙_}
 use native.Mathlib.Omega.{arith}
 use borrow.Author.Tests.{not-true, not-false}
-use Rattle.stream.proofs.Steps.{still-clean, still-roomy, feeds-held, feeds-lines}
-use Rattle.stream.proofs.feed.Statement.{statement}
-use Rattle.stream.proofs.feed.Tie as tie
+use Rattle.chunks.proofs.Room.{still-roomy, still-clean}
+use Rattle.chunks.proofs.Putting.{feeds-held, feeds-lines}
+use Rattle.chunks.proofs.feed.Statement.{statement}
+use Rattle.chunks.proofs.feed.Tie as tie
 
 gather-requires : tie.Need-gather-requires
 gather-requires c κs =

@@ -1,8 +1,8 @@
--- `stream::finish` meets its contract: nothing is held, or the entry of what is held. Assumes nothing.
+-- `chunks::finish` meets its contract: nothing is held, or the entry of what is held. Assumes nothing.
 use native.Mathlib.Omega.{arith}
-use Rattle.stream.proofs.Steps.{ends-none, ends-line}
-use Rattle.stream.proofs.finish.Statement.{statement}
-use Rattle.stream.proofs.finish.Tie as tie
+use Rattle.chunks.proofs.Putting.{ends-none, ends-line}
+use Rattle.chunks.proofs.finish.Statement.{statement}
+use Rattle.chunks.proofs.finish.Tie as tie
 
 put-part-requires : tie.Need-put-part-requires
 put-part-requires c κs =

@@ -1,11 +1,11 @@
--- `stream::put_lines` meets its contract. The loop: the lines up to `next` are put, and those refused are counted. Assumes nothing.
+-- `chunks::put_lines` meets its contract. The loop: the lines up to `next` are put, and those refused are counted. Assumes nothing.
 use Prim.Native.Nat.{_-_}
 use native.Mathlib.Omega.{arith}
 use lib.ListN.{length}
-use Rattle.stream.specs.Promises.{sheetOf}
-use Rattle.stream.proofs.Steps.{stays-few, Goes, goes-start, goes-line, goes-end}
-use Rattle.stream.proofs.put_lines.Statement.{statement}
-use Rattle.stream.proofs.put_lines.Tie as tie
+use Rattle.chunks.specs.Lent.{sheetOf}
+use Rattle.chunks.proofs.Putting.{stays-few, Goes, goes-start, goes-line, goes-end}
+use Rattle.chunks.proofs.put_lines.Statement.{statement}
+use Rattle.chunks.proofs.put_lines.Tie as tie
 
 abbrev Inv-loop : tie.InvT-loop
 Inv-loop chunk from number refused letters₀ sections₀ heads₀ parts₀ masses₀ scores₀ bytes₀ numbers₀ out₀ at next₀ line₀ total₀ n₀ letters sections heads parts masses scores bytes numbers out next line total n =

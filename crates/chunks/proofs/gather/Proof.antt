@@ -6,13 +6,17 @@ use Rattle.chunks.proofs.gather.Tie as tie
 
 returns : tie.Need-returns
 returns c =
-    cut-line _ _ _ _ _ _ _ (c .before .before .before .before .before .before .before .before .pre .1) (c .before .before .before .before .before .line-end .ensures)
-    (c .before .before .before .keep .ensures) (c .if1 .taken)
+    let k : tie.After-keep = search in
+    let e : tie.After-line-end = search in
+    let s : tie.Start = search in
+    cut-line _ _ _ _ _ _ _ (s .pre .1) (e .line-end .ensures) (k .keep .ensures) (c .if1 .taken)
 
 returns-2 : tie.Need-returns-2
 returns-2 c =
-    cut-chunk _ _ _ _ _ _ _ (c .before .before .before .before .before .before .before .before .pre .1) (c .before .before .before .before .before .line-end .ensures)
-    (c .before .before .before .keep .ensures) (c .if1 .left)
+    let k : tie.After-keep = search in
+    let e : tie.After-line-end = search in
+    let s : tie.Start = search in
+    cut-chunk _ _ _ _ _ _ _ (s .pre .1) (e .line-end .ensures) (k .keep .ensures) (c .if1 .left)
 
 pub gather-spec : {M : Type 1} → statement M
 gather-spec =

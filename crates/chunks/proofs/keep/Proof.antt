@@ -6,8 +6,11 @@ use Rattle.chunks.proofs.keep.Tie as tie
 
 returns : tie.Need-returns
 returns c =
-    let p = c .before .before .before .before .before .before .before .before .pre in
-    keeps _ _ _ _ _ _ _ _ _ (p .1) (p .2) (p .3) (c .before .before .before .before .before .least .ensures) (c .before .before .copy-bytes .ensures) (search needs)
+    let b : tie.After-copy-bytes = search in
+    let l : tie.After-least = search in
+    let s : tie.Start = search in
+    let p = s .pre in
+    keeps _ _ _ _ _ _ _ _ _ (p .1) (p .2) (p .3) (l .least .ensures) (b .copy-bytes .ensures) (search needs)
 
 pub keep-spec : {M : Type 1} → statement M
 keep-spec =

@@ -1,2 +1,3 @@
-pub mod Cutting
-pub mod Steps
+pub mod Handing
+pub mod Turning
+pub mod Telling

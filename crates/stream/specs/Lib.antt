@@ -1,6 +1,4 @@
-pub mod Lines
-pub mod Feeding
-pub mod Promises
-pub mod Laws
 pub mod Whole
-pub mod Examples
+pub mod Owed
+pub mod Told
+pub mod Turns

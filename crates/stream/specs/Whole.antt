@@ -2,39 +2,15 @@
 use mathlib.Core.Path.{_≡_, refl, sym, ap, _∙_}
 use mathlib.Core.Bool.{Bool, true, false, cond}
 use mathlib.Core.List.{List, [], _∷_, _++_, append-nil, append-assoc}
-use Prim.Native.Nat.{ℕ, suc, _+_, _<_}
+use Prim.Native.Nat.{ℕ, suc, _+_}
 use native.Mathlib.Omega.{arith}
-use borrow.Author.Tests.{lt-ltb, leb-true, leb-false}
-use lib.Dec.{eqb, leb}
-use lib.ListN.{length, take}
-use lib.Seq.{take-all, length-take-le}
-use Rattle.basics.specs.Choice.{by-test}
-use Rattle.scope.specs.Limits.{lineLimit}
-use Rattle.scope.specs.Refusals.{least, refused, refusal1, refusal2, firstDue, outcome}
-use Rattle.scope.specs.Canonical.{decimal}
-use Rattle.scope.specs.Register.{report, printed}
-use Rattle.entries.specs.Entry.{entry, isRefused}
-use Rattle.stream.specs.Lines.{lineEnd, grown, inFront, lines, entriesFrom, register, refusal, refusedIn}
-use Rattle.stream.specs.Feeding.{holdLimit, Between, holding, start, kept, ended, stepped, after, put, lastPut, finished, lastRefused, refusedAtEnd, joined, afterAll, putAll}
-use Rattle.stream.specs.Laws.{after-append, put-append, kept-twice}
-
--- ---- a line too long is answered by those of its bytes that are held
-pub too-long : (s : List ℕ) → lineLimit < length s → outcome s ≡ refused 2 lineLimit
-unfolding outcome firstDue least refusal1 refusal2
-too-long [] h = absurd (omega arith)
-too-long (b ∷ s) h = rw (lt-ltb lineLimit (length (b ∷ s)) h)
-
-pub outcome-front : (s : List ℕ) → outcome (take holdLimit s) ≡ outcome s
-outcome-front s =
-    by-test (leb (length s) holdLimit) (λ q. ap outcome (take-all holdLimit s (leb-true (length s) holdLimit q)))
-    (λ q.
-    let g = leb-false (length s) holdLimit q in
-    let l = length-take-le holdLimit s (omega arith) in
-    too-long (take holdLimit s) (omega arith) ∙ sym (too-long s (omega arith)))
-
-pub entry-front : (n : ℕ) (s : List ℕ) → entry n (take holdLimit s) ≡ entry n s
-unfolding printed
-entry-front n s = ap (λ o. (decimal n ++ report o) ++ (lineEnd ∷ [])) (outcome-front s)
+use lib.Dec.{eqb}
+use lib.ListN.{take}
+use Rattle.entries.specs.Entry.{entry}
+use Rattle.chunks.specs.Lines.{lineEnd, grown, inFront, lines, entriesFrom, register, refusal, refusedIn}
+use Rattle.chunks.specs.Feeding.{holdLimit, Between, holding, start, kept, ended, stepped, after, put, lastPut, finished, lastRefused, refusedAtEnd, joined, afterAll, putAll}
+use Rattle.chunks.specs.Laws.{after-append, put-append, kept-twice}
+use Rattle.chunks.specs.TooLong.{entry-front, refusal-front}
 
 -- ---- bytes that end no line, in front of lines
 abbrev ahead : List ℕ → List (List ℕ) → List (List ℕ)
@@ -90,9 +66,6 @@ from-here n r h [] = last n h
 from-here n r h (b ∷ s) = rest-cons (holding n r (take holdLimit h)) b s ∙ one-more (eqb b lineEnd) n r h b s (λ m q g. from-here m q g s)
 
 -- ---- the refused lines from there on
-pub refusal-front : (s : List ℕ) → refusal (take holdLimit s) ≡ refusal s
-refusal-front s = ap (λ o. cond (isRefused o) 1 0) (outcome-front s)
-
 last-refused : (r : ℕ) (h : List ℕ) → r + cond (lastRefused (take holdLimit h)) 1 0 ≡ r + refusedIn (ahead h [])
 unfolding refusedIn
 last-refused r [] = refl

@@ -1,7 +1,7 @@
 -- `stream::close` meets its contract: what is put out at the end of the input is handed over, and the line that ends there is counted where it is refused.
 -- Assumes nothing.
 use native.Mathlib.Omega.{arith}
-use Rattle.stream.proofs.Steps.{owed-last, closes-whole, closes-lost}
+use Rattle.stream.proofs.Handing.{owed-last, closes-whole, closes-lost}
 use Rattle.stream.proofs.close.Statement.{statement}
 use Rattle.stream.proofs.close.Tie as tie
 

@@ -3,8 +3,9 @@ use mathlib.Core.Path.{sym, _∙_}
 use Prim.Native.Nat.{_-_}
 use native.Mathlib.Omega.{arith}
 use lib.ListN.{length}
-use Rattle.stream.specs.Promises.{sheetOf}
-use Rattle.stream.proofs.Steps.{stays-few, Taken, taken-start, taken-more, taken-all, drains-lost, stays-ready, owed}
+use Rattle.chunks.specs.Lent.{sheetOf}
+use Rattle.chunks.proofs.Putting.{stays-few}
+use Rattle.stream.proofs.Handing.{owed, Taken, taken-start, taken-more, taken-all, stays-ready, drains-lost}
 use Rattle.stream.proofs.drain.Statement.{statement}
 use Rattle.stream.proofs.drain.Tie as tie
 

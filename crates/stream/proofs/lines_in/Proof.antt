@@ -1,7 +1,7 @@
 -- `stream::lines_in` meets its contract. The loop: the ends among the first i bytes are counted. Assumes nothing.
 use Prim.Native.Nat.{_-_, _≤_}
 use native.Mathlib.Omega.{arith}
-use Rattle.stream.proofs.Steps.{Counted, counted-start, counted-more, counted-all}
+use Rattle.stream.proofs.Telling.{Counted, counted-start, counted-more, counted-all}
 use Rattle.stream.proofs.lines_in.Statement.{statement}
 use Rattle.stream.proofs.lines_in.Tie as tie
 

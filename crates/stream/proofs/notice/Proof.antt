@@ -1,7 +1,7 @@
 -- `stream::notice` meets its contract: words, a number and the end of the line, one behind the other. Assumes nothing.
 use borrow.Author.Needs.{needs}
 use denote.Ref.{now}
-use Rattle.stream.proofs.Steps.{notice-fronts}
+use Rattle.stream.proofs.Telling.{notice-fronts}
 use Rattle.stream.proofs.notice.Statement.{statement}
 use Rattle.stream.proofs.notice.Tie as tie
 

@@ -1,8 +1,8 @@
 -- `stream::run` is safe and ends: its arrays are what `serve` asks. Assumes nothing.
 use native.Mathlib.Omega.{arith}
 use borrow.Author.Needs.{needs}
-use Rattle.stream.specs.Promises.{outputLimit}
-use Rattle.stream.proofs.Steps.{ready-new}
+use Rattle.chunks.specs.Lent.{outputLimit}
+use Rattle.stream.proofs.Turning.{ready-new}
 use Rattle.stream.proofs.run.Statement.{statement}
 use Rattle.stream.proofs.run.Tie as tie
 

@@ -2,8 +2,8 @@
 use mathlib.Core.Path.{_∙_}
 use native.Mathlib.Omega.{arith}
 use borrow.Author.Tests.{not-false}
-use Rattle.stream.specs.Promises.{sheetOf}
-use Rattle.stream.proofs.Steps.{Serves, serves-start, serves-more}
+use Rattle.chunks.specs.Lent.{sheetOf}
+use Rattle.stream.proofs.Turning.{Serves, serves-start, serves-more}
 use Rattle.stream.proofs.serve.Statement.{statement}
 use Rattle.stream.proofs.serve.Tie as tie
 

@@ -2,7 +2,7 @@
 use mathlib.Core.Path.{refl, sym}
 use denote.Ref.{now}
 use lib.Seq.{length-take-le}
-use Rattle.stream.proofs.Steps.{front-fits, turns-chunk, turns-closed}
+use Rattle.stream.proofs.Turning.{front-fits, turns-chunk, turns-closed}
 use Rattle.stream.proofs.take_in.Statement.{statement}
 use Rattle.stream.proofs.take_in.Tie as tie
 

@@ -1,7 +1,7 @@
 -- `stream::turn` meets its contract: a read that brought something, or nothing, or failed. Assumes nothing.
 use native.Mathlib.Omega.{arith}
 use borrow.Author.Needs.{needs}
-use Rattle.stream.proofs.Steps.{came-fits, turns-failed}
+use Rattle.stream.proofs.Turning.{came-fits, turns-failed}
 use Rattle.stream.proofs.turn.Statement.{statement}
 use Rattle.stream.proofs.turn.Tie as tie
 

@@ -7,7 +7,7 @@ use lib.ListN.{take, drop}
 use Rattle.scope.specs.Limits.{lineLimit}
 use Rattle.scope.specs.Refusals.{outcome}
 use Rattle.entries.specs.Entry.{entry, isRefused}
-use Rattle.stream.specs.Lines.{lineEnd, refusal}
+use Rattle.chunks.specs.Lines.{lineEnd, refusal}
 
 -- so many bytes of a line are held: one more than a line may have, so that a line too long is still too long
 abbrev pub holdLimit : ℕ

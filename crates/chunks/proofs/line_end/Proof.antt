@@ -1,11 +1,11 @@
--- `stream::line_end` meets its contract. The loop: no byte 10 stands before i. Assumes nothing.
+-- `chunks::line_end` meets its contract. The loop: no byte 10 stands before i. Assumes nothing.
 use Prim.Native.Nat.{_-_}
 use native.Mathlib.Omega.{arith}
 use lib.ListN.{length}
-use Rattle.stream.specs.Promises.{Passed}
-use Rattle.stream.proofs.Cutting.{passed-more, passed-found, passed-all}
-use Rattle.stream.proofs.line_end.Statement.{statement}
-use Rattle.stream.proofs.line_end.Tie as tie
+use Rattle.chunks.specs.Cuts.{Passed}
+use Rattle.chunks.proofs.Cutting.{passed-more, passed-found, passed-all}
+use Rattle.chunks.proofs.line_end.Statement.{statement}
+use Rattle.chunks.proofs.line_end.Tie as tie
 
 pub line-end-spec : {M : Type 1} → statement M
 line-end-spec =

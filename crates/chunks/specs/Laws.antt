@@ -11,8 +11,8 @@ use lib.Seq.{take-all, take-append-le, take-take, length-take-le}
 use Rattle.basics.specs.Choice.{by-test, branch}
 use Rattle.scope.specs.Refusals.{outcome}
 use Rattle.entries.specs.Entry.{entry, isRefused}
-use Rattle.stream.specs.Lines.{lineEnd, refusal}
-use Rattle.stream.specs.Feeding.{holdLimit, Between, holding, kept, behind, ended, stepped, after, put, plain}
+use Rattle.chunks.specs.Lines.{lineEnd, refusal}
+use Rattle.chunks.specs.Feeding.{holdLimit, Between, holding, kept, behind, ended, stepped, after, put, plain}
 
 -- ---- "fed s (a ++ b)" is fed twice
 pub after-append : (s : Between) (a b : List ℕ) → after s (a ++ b) ≡ after (after s a) b

@@ -14,7 +14,7 @@ use Rattle.scope.specs.Canonical.{decimalUpTo, decimal, lastDigits, decimals, s
 use Rattle.scope.specs.Positions.{floaters}
 use Rattle.scope.specs.Masses.{firstMass, massOf, sum, total, sumℕ, lacking}
 use Rattle.scope.specs.Register.{fields, printed}
-use Rattle.stream.specs.Lines.{lines, entriesFrom, register}
+use Rattle.chunks.specs.Lines.{lines, entriesFrom, register}
 
 -- lines, each with its byte 10
 abbrev text : List String → List ℕ

@@ -1,10 +1,10 @@
--- `stream::has_end` meets its contract. The loop: of the first i bytes of the stride it is told. Assumes nothing.
+-- `chunks::has_end` meets its contract. The loop: of the first i bytes of the stride it is told. Assumes nothing.
 use Prim.Native.Nat.{_-_}
 use native.Mathlib.Omega.{arith}
-use Rattle.stream.specs.Promises.{strideSize}
-use Rattle.stream.proofs.Cutting.{Looked, looked-start, looked-more, looked-all}
-use Rattle.stream.proofs.has_end.Statement.{statement}
-use Rattle.stream.proofs.has_end.Tie as tie
+use Rattle.chunks.specs.Cuts.{strideSize}
+use Rattle.chunks.proofs.Cutting.{Looked, looked-start, looked-more, looked-all}
+use Rattle.chunks.proofs.has_end.Statement.{statement}
+use Rattle.chunks.proofs.has_end.Tie as tie
 
 pub has-end-spec : {M : Type 1} → statement M
 has-end-spec =

@@ -1,11 +1,11 @@
--- `stream::skip_plain` meets its contract. The loop: no byte 10 stands before i. Assumes nothing.
+-- `chunks::skip_plain` meets its contract. The loop: no byte 10 stands before i. Assumes nothing.
 use Prim.Native.Nat.{_-_}
 use native.Mathlib.Omega.{arith}
 use lib.ListN.{length}
-use Rattle.stream.specs.Promises.{Passed}
-use Rattle.stream.proofs.Cutting.{passed-start, passed-stride}
-use Rattle.stream.proofs.skip_plain.Statement.{statement}
-use Rattle.stream.proofs.skip_plain.Tie as tie
+use Rattle.chunks.specs.Cuts.{Passed}
+use Rattle.chunks.proofs.Cutting.{passed-start, passed-stride}
+use Rattle.chunks.proofs.skip_plain.Statement.{statement}
+use Rattle.chunks.proofs.skip_plain.Tie as tie
 
 abbrev Inv-loop : tie.InvT-loop
 Inv-loop chunk from i₀ i = Passed chunk from i

@@ -11,10 +11,10 @@ use lib.Dec.{eqb, leb}
 use lib.ListN.{length, take, drop, getD, length-drop, length-take}
 use lib.Seq.{take-suc, take-add, drop-drop, getD-drop, take-all, take-at, length-take-le, take-append-add}
 use Rattle.basics.specs.Choice.{by-test}
-use Rattle.stream.specs.Lines.{lineEnd}
-use Rattle.stream.specs.Feeding.{holdLimit, holding, kept, behind, ended, after, put, part, plain}
-use Rattle.stream.specs.Promises.{strideSize, Passed, LineEnd, Keeps, Cuts}
-use Rattle.stream.specs.Laws.{after-plain, put-plain, after-line, put-line}
+use Rattle.chunks.specs.Lines.{lineEnd}
+use Rattle.chunks.specs.Feeding.{holdLimit, holding, kept, behind, ended, after, put, part, plain}
+use Rattle.chunks.specs.Cuts.{strideSize, Passed, LineEnd, Keeps, Cuts}
+use Rattle.chunks.specs.Laws.{after-plain, put-plain, after-line, put-line}
 
 -- one byte more
 pub part-more : (f i : ℕ) (l : List ℕ) → f ≤ i → i < length l → part f (i + 1) l ≡ part f i l ++ (getD l i 0 ∷ [])

@@ -41,14 +41,14 @@ module _ (t : ℕ) where
 
   ones-requires : lts.Need-put-digit-requires-3 (claims t) (Pre t) decimal-up-to.Post
   ones-requires c κs =
-      let e = c .before .before .before .before .before .before in
+      let e : lts.Else1 (claims t) (Pre t) decimal-up-to.Post = search in
       let s = e .before .before in
       (omega arith, omega (arith, room-for-more _ _ (e .if1 .left) (s .pre .1 .0)))
 
   returns-2 : lts.Need-returns-2 (claims t) (Pre t) decimal-up-to.Post
   returns-2 c =
       let p = c .before .before in
-      let d = p .before .before .before .before in
+      let d : lts.After-put-digit2 (claims t) (Pre t) decimal-up-to.Post = search in
       let two = d .before .before in
       let e = two .before in
       let more = room-for-more _ _ (e .if1 .left) (e .before .before .pre .1 .0) in
@@ -69,15 +69,15 @@ module _ (t : ℕ) where
 
   last-requires : lts.Need-put-digit-requires-4 (claims t) (Pre t) decimal-up-to.Post
   last-requires c κs =
-      let e = c .before .before .before .before .before .before in
+      let e : lts.Else1 (claims t) (Pre t) decimal-up-to.Post = search in
       let more = room-for-more _ _ (e .if1 .left) (e .before .before .pre .1 .0) in
       (omega arith, omega (arith, more))
 
   returns-3 : lts.Need-returns-3 (claims t) (Pre t) decimal-up-to.Post
   returns-3 c =
       let p = c .before .before in
-      let d = p .before .before .before .before in
-      let e = d .before .before .before in
+      let d : lts.After-decimal-up-to (claims t) (Pre t) decimal-up-to.Post = search in
+      let e : lts.Else1 (claims t) (Pre t) decimal-up-to.Post = search in
       let more = room-for-more _ _ (e .if1 .left) (e .before .before .pre .1 .0) in
       puts-of (decimal-more _ _ more (e .if1 .left)) (puts-within (omega (arith, more)) (puts-join (d .decimal-up-to .ensures) (p .put-digit4 .ensures)))
 

@@ -38,7 +38,7 @@ module _ (t : ℕ) where
   returns-2 : lts.Need-returns-2 (claims t) (Pre t) last-digits.Post
   returns-2 c =
       let p = c .before .before in
-      let d = p .before .before .before .before in
+      let d : lts.After-last-digits (claims t) (Pre t) last-digits.Post = search in
       puts-of (last-more _ _ (d .before .before .if1 .left)) (puts-within (omega arith) (puts-join (d .last-digits .ensures) (p .put-digit .ensures)))
 
 pub +last-digits-spec : {M : Type 1} → statement M

@@ -16,21 +16,26 @@ abbrev μ-loop : tie.MeasureT-loop
 
 loop-again : tie.Need-loop-again Inv-loop μ-loop
 loop-again c =
-    let u = c .before .before .before in
+    let u : tie.After-upper Inv-loop μ-loop = search in
     let l = u .before .before in
-    let start = l .before .before .before .before in
+    let start : tie.Start Inv-loop μ-loop = search in
     alike-goes-on (key-part _ _ _ (start .pre)) (l .before .loop .inv) (l .loop-test .taken) (u .upper .ensures) (c .before .upper2 .ensures) (c .if1 .taken)
 
 returns : tie.Need-returns Inv-loop μ-loop
 returns c =
-    let u = c .before .before .before in
+    let u : tie.After-upper Inv-loop μ-loop = search in
     let l = u .before .before in
-    let start = l .before .before .before .before in
+    let start : tie.Start Inv-loop μ-loop = search in
     alike-stops (key-part _ _ _ (start .pre)) (l .before .loop .inv) (l .loop-test .taken) (u .upper .ensures) (c .before .upper2 .ensures) (c .if1 .left)
+
+returns-2 : tie.Need-returns-2 Inv-loop μ-loop
+returns-2 c =
+    let start : tie.Start Inv-loop μ-loop = search in
+    alike-ends (key-part _ _ _ (start .pre)) (c .before .loop .inv) (c .loop-test .left)
 
 pub key-at-spec : {M : Type 1} → statement M
 key-at-spec =
     tie.close
-    (tie.spec Inv-loop μ-loop (λ c. alike-enters) (λ c. search needs) (λ c κs. search needs) (λ c. search needs) (λ c. search needs) (λ c κs. search needs)
-    (λ c. search needs) (λ c. search needs) loop-again returns
-    (λ c. alike-ends (key-part _ _ _ (c .before .before .before .before .pre)) (c .before .loop .inv) (c .loop-test .left)))
+    (tie.spec
+    Inv-loop μ-loop (λ c. alike-enters) (λ c. search needs) (λ c κs. search needs) (λ c. search needs) (λ c. search needs) (λ c κs. search needs)
+    (λ c. search needs) (λ c. search needs) loop-again returns returns-2)

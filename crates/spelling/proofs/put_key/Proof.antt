@@ -21,24 +21,26 @@ unfolding words spell keys flat
 copy-requires c κs =
     let e = c .before .before in
     let i = e .before .before in
+    let start : tie.Start = search in
     let few = i .if2 .left in (
       word-within (key-few-words few) (e .before .start .ensures) (e .size .ensures) refl,
-      omega (arith, i .before .before .before .pre, e .size .ensures, short (i .before .if1 .left) few),
+      omega (arith, start .pre, e .size .ensures, short (i .before .if1 .left) few),
     )
 
 put-requires : tie.Need-put-requires
 put-requires c κs =
-    let p = c .before .before .before in
-    let e = p .before .before .before in
+    let p : tie.After-copy = search in
+    let e : tie.After-size = search in
     let i = e .before .before in
-    omega (arith, p .copy .ensures .near, i .before .before .before .pre, e .size .ensures, short (i .before .if1 .left) (i .if2 .left))
+    let start : tie.Start = search in
+    omega (arith, p .copy .ensures .near, start .pre, e .size .ensures, short (i .before .if1 .left) (i .if2 .left))
 
 returns-3 : tie.Need-returns-3
 unfolding words spell keys flat
 returns-3 c =
     let u = c .before .before in
-    let p = u .before .before .before .before in
-    let e = p .before .before .before in
+    let p : tie.After-copy = search in
+    let e : tie.After-size = search in
     let i = e .before .before in
     let few = i .if2 .left in
     puts-key (i .before .if1 .left) few (word-there (key-few-words few) (e .before .start .ensures) (e .size .ensures) refl) (e .size .ensures) (p .copy .ensures) (u .put .ensures)

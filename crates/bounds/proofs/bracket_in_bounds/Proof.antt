@@ -7,12 +7,15 @@ use Rattle.bounds.proofs.bracket_in_bounds.Tie as tie
 
 parts-in-bounds-requires : tie.Need-parts-in-bounds-requires
 parts-in-bounds-requires c κs =
-    (c .before .before .before .before .before .pre, yes _ (c .before .head-in-bounds .ensures) (c .if2 .taken) .few-parts)
+    let start : tie.Start = search in
+    (start .pre, yes _ (c .before .head-in-bounds .ensures) (c .if2 .taken) .few-parts)
 
 returns : tie.Need-returns
 returns c =
+    let then1 : tie.Then1 = search in
+    let after-place-in-bounds : tie.After-place-in-bounds = search in
     bracket-law (c .parts-in-bounds .result)
-    (yes _ (c .before .before .before .before .place-in-bounds .ensures) (c .before .before .before .if1 .taken))
+    (yes _ (after-place-in-bounds .place-in-bounds .ensures) (then1 .if1 .taken))
     (yes _ (c .before .before .head-in-bounds .ensures) (c .before .if2 .taken)) (c .parts-in-bounds .ensures)
 
 returns-2 : tie.Need-returns-2

@@ -26,7 +26,8 @@ loop-less c = omega arith
 
 loop-again : tie.Need-loop-again Inv-loop μ-loop
 loop-again c =
-    rows-more (c .before .before .before .loop .inv) (c .before .before .loop-test .taken)
+    let loop : tie.At-loop Inv-loop μ-loop = search in
+    rows-more (loop .loop .inv) (c .before .before .loop-test .taken)
     (yes _ (c .before .bracket-in-bounds .ensures) (c .if1 .taken))
 
 returns : tie.Need-returns Inv-loop μ-loop

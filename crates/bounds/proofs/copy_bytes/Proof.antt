@@ -27,7 +27,10 @@ loop-less : tie.Need-loop-less Inv-loop μ-loop
 loop-less c = omega arith
 
 loop-again : tie.Need-loop-again Inv-loop μ-loop
-loop-again c = let p = c .before .before .before .pre in copied-more 0 (c .before .before .loop .inv) (c .before .loop-test .taken) (p .0) (p .1)
+loop-again c =
+    let start : tie.Start Inv-loop μ-loop = search in
+    let p = start .pre in
+    copied-more 0 (c .before .before .loop .inv) (c .before .loop-test .taken) (p .0) (p .1)
 
 same-length : tie.Need-same-length Inv-loop μ-loop
 same-length c = c .before .loop .inv .long

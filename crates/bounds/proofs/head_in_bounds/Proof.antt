@@ -15,7 +15,7 @@ returns-5 c =
     let two = three .before .before in
     let one = two .before in
     let read : toZ w64 (ofZ w64 (c .before .score-number .result)) ≡ c .before .score-number .result = search needs in
-    let s = one .before .before .before in
+    let s : tie.Start = search in
     head-law (now (s .args .bytes)) (now (s .args .numbers)) (s .args .k) (c .is-small .result)
     (one .before .count .ensures .0) (three .before .parts .ensures .0) (four .before .score .ensures .0)
     (read ∙ c .before .score-number .ensures) (one .if1 .left) (two .if2 .left) (three .if3 .left) (four .if4 .left)

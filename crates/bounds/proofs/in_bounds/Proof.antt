@@ -9,7 +9,8 @@ returns-4 c =
     let three = c .before in
     let two = three .before .before in
     let one = two .before in
-    areas-law (c .brackets-in-bounds .result) (room (one .before .before .before .pre)) (one .before .residues .ensures .0)
+    let start : tie.Start = search in
+    areas-law (c .brackets-in-bounds .result) (room (start .pre)) (one .before .residues .ensures .0)
     (three .before .brackets .ensures .0) (one .if1 .left) (two .if2 .left) (three .if3 .left) (c .brackets-in-bounds .ensures)
 
 pub in-bounds-spec : {M : Type 1} → statement M

@@ -15,7 +15,7 @@ returns-5 c =
     let two = three .before .before in
     let one = two .before .before in
     let read : toZ w64 (ofZ w64 (c .before .mass .result)) ≡ c .before .mass .result = search needs in
-    let s = one .before .before .before in
+    let s : tie.Start = search in
     part-law (now (s .args .bytes)) (now (s .args .numbers)) (s .args .k) (s .args .j) (c .is-small .result)
     (one .before .decimals .ensures .0) (two .before .text-length .ensures .0) (three .before .label-length .ensures .0)
     (four .before .offset .ensures .0) (read ∙ c .before .mass .ensures) (one .if1 .left) (two .if2 .left) (three .if3 .left)

@@ -30,12 +30,14 @@ loop-less c = omega arith
 
 loop-again : tie.Need-loop-again Inv-loop μ-loop
 loop-again c =
-    parts-more (c .before .before .before .loop .inv) (c .before .before .loop-test .taken)
+    let loop : tie.At-loop Inv-loop μ-loop = search in
+    parts-more (loop .loop .inv) (c .before .before .loop-test .taken)
     (yes _ (c .before .part-in-bounds .ensures) (c .if1 .taken))
 
 returns : tie.Need-returns Inv-loop μ-loop
 returns c =
-    parts-out (c .before .before .before .loop .inv) (c .before .before .loop-test .taken)
+    let loop : tie.At-loop Inv-loop μ-loop = search in
+    parts-out (loop .loop .inv) (c .before .before .loop-test .taken)
     (no _ (c .before .part-in-bounds .ensures) (c .if1 .left))
 
 returns-2 : tie.Need-returns-2 Inv-loop μ-loop

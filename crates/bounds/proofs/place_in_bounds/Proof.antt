@@ -10,7 +10,7 @@ use Rattle.bounds.proofs.place_in_bounds.Tie as tie
 returns-2 : tie.Need-returns-2
 returns-2 c =
     let w = c .before .before in
-    let s = w .before .before .before in
+    let s : tie.Start = search in
     place-law (now (s .args .bytes)) (s .args .k) (ap (λ n. n + 1) (w .before .residues .ensures .0)) (w .first .ensures .0) (c .last .ensures .0)
     (c .before .if1 .left)
 

@@ -7,11 +7,16 @@ use Rattle.brackets.proofs.copies_of.Tie as tie
 
 returns : tie.Need-returns
 returns c ns =
-    copies-labelled _ (c .before .before .before .is-modification .ensures ns) (c .before .before .if1 .taken) (c .before .is-labelled .ensures ns) (c .if2 .taken)
+    let after-is-modification : tie.After-is-modification = search in
+    copies-labelled _ (after-is-modification .is-modification .ensures ns) (c .before .before .if1 .taken) (c .before .is-labelled .ensures ns) (c .if2 .taken)
 
 returns-2 : tie.Need-returns-2
 returns-2 c ns =
-    copies-by-kind _ (c .before .before .before .before .before .before .is-modification .ensures ns) (c .before .before .before .before .before .if1 .taken) (c .before .before .before .before .is-labelled .ensures ns) (c .before .before .before .if2 .left) (c .before .before .kind .ensures ns) (count-is _ _ (c .before .count .ensures .0) ns) (c .unlabelled-copies .ensures)
+    let else2 : tie.Else2 = search in
+    let after-is-labelled : tie.After-is-labelled = search in
+    let then1 : tie.Then1 = search in
+    let after-is-modification : tie.After-is-modification = search in
+    copies-by-kind _ (after-is-modification .is-modification .ensures ns) (then1 .if1 .taken) (after-is-labelled .is-labelled .ensures ns) (else2 .if2 .left) (c .before .before .kind .ensures ns) (count-is _ _ (c .before .count .ensures .0) ns) (c .unlabelled-copies .ensures)
 
 returns-3 : tie.Need-returns-3
 returns-3 c ns = copies-no _ (c .before .is-modification .ensures ns) (c .if1 .left)

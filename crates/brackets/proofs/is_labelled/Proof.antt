@@ -22,7 +22,9 @@ label-length-requires : tie.Need-label-length-requires Inv-loop μ-loop
 label-length-requires c κs = search needs
 
 returns : tie.Need-returns Inv-loop μ-loop
-returns c = labels-found (c .before .before .before .loop .inv) (c .before .before .loop-test .taken) (c .before .label-length .ensures .0) (c .if1 .taken)
+returns c =
+    let loop : tie.At-loop Inv-loop μ-loop = search in
+    labels-found (loop .loop .inv) (c .before .before .loop-test .taken) (c .before .label-length .ensures .0) (c .if1 .taken)
 
 add-j : tie.Need-add-j Inv-loop μ-loop
 add-j c = search needs
@@ -31,7 +33,9 @@ loop-less : tie.Need-loop-less Inv-loop μ-loop
 loop-less c = omega arith
 
 loop-again : tie.Need-loop-again Inv-loop μ-loop
-loop-again c = labels-next (c .before .before .before .loop .inv) (c .before .before .loop-test .taken) (c .before .label-length .ensures .0) (c .if1 .left)
+loop-again c =
+    let loop : tie.At-loop Inv-loop μ-loop = search in
+    labels-next (loop .loop .inv) (c .before .before .loop-test .taken) (c .before .label-length .ensures .0) (c .if1 .left)
 
 returns-2 : tie.Need-returns-2 Inv-loop μ-loop
 returns-2 c = labels-end (c .before .loop .inv) (c .loop-test .left)

@@ -10,18 +10,23 @@ returns c = no-part _ _ _ (c .before .parts .ensures .0) (c .if1 .taken)
 
 returns-2 : tie.Need-returns-2
 returns-2 c ns =
+    let after-parts : tie.After-parts = search in
     of-mass _ (c .if2 .taken)
-    ∙ reference-is _ _ _ _ (c .before .before .before .parts .ensures .0) (c .before .before .if1 .left) (c .before .value .ensures .0) ns
+    ∙ reference-is _ _ _ _ (after-parts .parts .ensures .0) (c .before .before .if1 .left) (c .before .value .ensures .0) ns
 
 returns-3 : tie.Need-returns-3
 returns-3 c ns =
+    let else1 : tie.Else1 = search in
+    let after-parts : tie.After-parts = search in
     of-text _ (c .before .if2 .left) (c .if3 .taken)
-    ∙ reference-is _ _ _ _ (c .before .before .before .before .parts .ensures .0) (c .before .before .before .if1 .left) (c .before .before .value .ensures .0) ns
+    ∙ reference-is _ _ _ _ (after-parts .parts .ensures .0) (else1 .if1 .left) (c .before .before .value .ensures .0) ns
 
 returns-4 : tie.Need-returns-4
 returns-4 c ns =
+    let else1 : tie.Else1 = search in
+    let after-parts : tie.After-parts = search in
     of-neither _ (c .before .if2 .left) (c .if3 .left)
-    ∙ reference-is _ _ _ _ (c .before .before .before .before .parts .ensures .0) (c .before .before .before .if1 .left) (c .before .before .value .ensures .0) ns
+    ∙ reference-is _ _ _ _ (after-parts .parts .ensures .0) (else1 .if1 .left) (c .before .before .value .ensures .0) ns
 
 pub is-referring-spec : {M : Type 1} → statement M
 is-referring-spec =

@@ -22,7 +22,9 @@ returns-5 c = ap kindIn (sym (c .if5 .taken))
 
 returns-6 : tie.Need-returns-6
 returns-6 c =
-    else-unknown _ (c .before .before .before .before .if1 .left) (c .before .before .before .if2 .left) (c .before .before .if3 .left) (c .before .if4 .left) (c .if5 .left)
+    let else2 : tie.Else2 = search in
+    let else1 : tie.Else1 = search in
+    else-unknown _ (else1 .if1 .left) (else2 .if2 .left) (c .before .before .if3 .left) (c .before .if4 .left) (c .if5 .left)
 
 pub kind-of-spec : {M : Type 1} → statement M
 kind-of-spec = tie.close (tie.spec returns returns-2 returns-3 returns-4 returns-5 returns-6)

@@ -8,36 +8,40 @@ use Rattle.calls.proofs.bookable.Tie as tie
 
 returns : tie.Need-returns
 returns c =
-    let start = c .before .before .before in refused-law _ _ (c .before .why-not .ensures) (c .if1 .taken) (λ t. bookable t (start .args .p .at))
+    let start : tie.Start = search in
+    refused-law _ _ (c .before .why-not .ensures) (c .if1 .taken) (λ t. bookable t (start .args .p .at))
 
 weigh-requires : tie.Need-weigh-requires
 weigh-requires c κs = held (c .before .why-not .ensures) (c .if1 .left) .bounds
 
 is-allowed-by-requires : tie.Need-is-allowed-by-requires
 is-allowed-by-requires c κs =
-    let tried = c .before .before .before .before in let h = held (tried .before .why-not .ensures) (tried .if1 .left) in (h .bounds, h .few)
+    let tried : tie.Else1 = search in
+    let h = held (tried .before .why-not .ensures) (tried .if1 .left) in (h .bounds, h .few)
 
 returns-2 : tie.Need-returns-2
 returns-2 c =
-    let matched = c .before .before .before in
-    let tried = matched .before .before .before in
-    let start = tried .before .before .before in
+    let matched : tie.After-w2 = search in
+    let tried : tie.Else1 = search in
+    let start : tie.Start = search in
     let total = booked-rest _ _ (matched .before .before .weigh .ensures) (matched .w2 .given .1) in
     allowed-yes _ _ (c .before .is-allowed-by .ensures) (c .if2 .taken)
     ∙ sym (answers (λ t. bookable t (start .args .p .at)) (held (tried .before .why-not .ensures) (tried .if1 .left)) ∙ total)
 
 returns-3 : tie.Need-returns-3
 returns-3 c =
-    let tried = c .before .before .before .before in
-    let p = tried .before .before .before .args .p .at in
-    booked-16 _ p (c .before .before .before .weigh .ensures) (c .before .w .given .1)
+    let after-weigh : tie.After-weigh = search in
+    let tried : tie.Else1 = search in
+    let start : tie.Start = search in
+    let p = start .args .p .at in
+    booked-16 _ p (after-weigh .weigh .ensures) (c .before .w .given .1)
     ∙ sym (answers (λ t. bookable t p) (held (tried .before .why-not .ensures) (tried .if1 .left)))
 
 returns-4 : tie.Need-returns-4
 returns-4 c =
-    let matched = c .before .before .before in
-    let tried = matched .before .before .before in
-    let start = tried .before .before .before in
+    let matched : tie.After-w2 = search in
+    let tried : tie.Else1 = search in
+    let start : tie.Start = search in
     let total = booked-rest _ _ (matched .before .before .weigh .ensures) (matched .w2 .given .1) in
     allowed-no _ _ (c .before .is-allowed-by .ensures) (c .if2 .left)
     ∙ sym (answers (λ t. bookable t (start .args .p .at)) (held (tried .before .why-not .ensures) (tried .if1 .left)) ∙ total)

@@ -13,33 +13,40 @@ use Rattle.calls.proofs.bracket_mass.Statement.{statement}
 use Rattle.calls.proofs.bracket_mass.Tie as tie
 
 returns : tie.Need-returns
-returns c = refused-law _ _ (c .before .why-not .ensures) (c .if1 .taken) (λ t. massAt t (c .before .before .before .args .k))
+returns c =
+    let start : tie.Start = search in
+    refused-law _ _ (c .before .why-not .ensures) (c .if1 .taken) (λ t. massAt t (start .args .k))
 
 brackets-requires : tie.Need-brackets-requires
 brackets-requires c κs = held (c .before .why-not .ensures) (c .if1 .left) .bounds .bytes-room
 
 returns-2 : tie.Need-returns-2
 returns-2 c =
-    let h = held (c .before .before .before .why-not .ensures) (c .before .before .if1 .left) in
-    mass-17 _ _ _ (c .before .brackets .ensures .0) (c .if2 .taken) ∙ sym (answers (λ t. massAt t (c .before .before .before .before .before .args .k)) h)
+    let after-why-not : tie.After-why-not = search in
+    let start : tie.Start = search in
+    let h = held (after-why-not .why-not .ensures) (c .before .before .if1 .left) in
+    mass-17 _ _ _ (c .before .brackets .ensures .0) (c .if2 .taken) ∙ sym (answers (λ t. massAt t (start .args .k)) h)
 
 count-requires : tie.Need-count-requires
 count-requires c κs =
-    let h = held (c .before .before .before .why-not .ensures) (c .before .before .if1 .left) in
+    let after-why-not : tie.After-why-not = search in
+    let h = held (after-why-not .why-not .ensures) (c .before .before .if1 .left) in
     row (h .bounds) _ (omega arith)
 
 bracket-mass-requires : tie.Need-bracket-mass-requires
 bracket-mass-requires c κs =
-    let h = held (c .before .before .before .before .why-not .ensures) (c .before .before .before .if1 .left) in
+    let else1 : tie.Else1 = search in
+    let after-why-not : tie.After-why-not = search in
+    let h = held (after-why-not .why-not .ensures) (else1 .if1 .left) in
     record { bounds = h .bounds; inside = omega arith }
 
 returns-3 : tie.Need-returns-3
 returns-3 c =
     let m = c .before .mass .given .0 .0 in
     let read : toZ w64 (ofZ w64 m) ≡ m = search needs in
-    let weighed = c .before .before .before in
+    let weighed : tie.After-bracket-mass = search in
     let tested = weighed .before .before in
-    let tried = tested .before .before .before in
+    let tried : tie.After-why-not = search in
     let h = held (tried .why-not .ensures) (tested .before .before .if1 .left) in
     ap good read ∙ mass-is _ _ _ (tested .before .brackets .ensures .0) (tested .if2 .left) (weighed .bracket-mass .ensures) (c .before .mass .given .1)
     ∙ sym (answers (λ t. massAt t (tried .before .before .args .k)) h)
@@ -48,7 +55,7 @@ returns-4 : tie.Need-returns-4
 returns-4 c =
     let weighed = c .before .before in
     let tested = weighed .before .before in
-    let tried = tested .before .before .before in
+    let tried : tie.After-why-not = search in
     let h = held (tried .why-not .ensures) (tested .before .before .if1 .left) in
     mass-16 _ _ _ (tested .before .brackets .ensures .0) (tested .if2 .left) (weighed .before .count .ensures .0 _) (weighed .bracket-mass .ensures) (c .enum-told .given .1)
     ∙ sym (answers (λ t. massAt t (tried .before .before .args .k)) h)

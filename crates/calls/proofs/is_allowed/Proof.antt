@@ -8,7 +8,8 @@ use Rattle.calls.proofs.is_allowed.Tie as tie
 
 returns : tie.Need-returns
 returns c =
-    let start = c .before .before .before in refused-law _ _ (c .before .why-not .ensures) (c .if1 .taken) (λ t. allowable t (start .args .p .at))
+    let start : tie.Start = search in
+    refused-law _ _ (c .before .why-not .ensures) (c .if1 .taken) (λ t. allowable t (start .args .p .at))
 
 is-allowed-by-requires : tie.Need-is-allowed-by-requires
 is-allowed-by-requires c κs = let h = held (c .before .why-not .ensures) (c .if1 .left) in (h .bounds, h .few)
@@ -16,14 +17,14 @@ is-allowed-by-requires c κs = let h = held (c .before .why-not .ensures) (c .if
 returns-2 : tie.Need-returns-2
 returns-2 c =
     let tried = c .before .before in
-    let start = tried .before .before .before in
+    let start : tie.Start = search in
     allowed-yes _ _ (c .before .is-allowed-by .ensures) (c .if2 .taken)
     ∙ sym (answers (λ t. allowable t (start .args .p .at)) (held (tried .before .why-not .ensures) (tried .if1 .left)))
 
 returns-3 : tie.Need-returns-3
 returns-3 c =
     let tried = c .before .before in
-    let start = tried .before .before .before in
+    let start : tie.Start = search in
     allowed-no _ _ (c .before .is-allowed-by .ensures) (c .if2 .left)
     ∙ sym (answers (λ t. allowable t (start .args .p .at)) (held (tried .before .why-not .ensures) (tried .if1 .left)))
 

@@ -8,8 +8,8 @@ use Rattle.calls.proofs.is_allowed_by.Tie as tie
 
 returns : tie.Need-returns
 returns c =
-    let filled = c .before .before .before in
-    let start = filled .before .before .before .before in
+    let filled : tie.After-fill-table = search in
+    let start : tie.Start = search in
     c .is-allowed .ensures ∙ ap (λ f. allowed f (start .args .p .at)) (floats-as (filled .fill-table .ensures))
 
 pub is-allowed-by-spec : {M : Type 1} → statement M

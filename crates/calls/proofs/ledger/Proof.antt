@@ -9,11 +9,12 @@ use Rattle.calls.proofs.ledger.Tie as tie
 
 ledger-of-requires : tie.Need-ledger-of-requires
 ledger-of-requires c κs =
-    booked-held _ _ (c .before .before .before .before .args .p .at) (ap saysBooked (sym (c .enum-told .given .1)) ∙ c .before .before .bookable .ensures) .bounds
+    let start : tie.Start = search in
+    booked-held _ _ (start .args .p .at) (ap saysBooked (sym (c .enum-told .given .1)) ∙ c .before .before .bookable .ensures) .bounds
 
 returns : tie.Need-returns
 returns c =
-    let b = c .before .before .before in
+    let b : tie.After-bookable = search in
     let start = b .before .before in
     let e = ap saysBooked (sym (c .before .enum-told .given .1)) ∙ b .bookable .ensures in
     let l = c .ledger-of .ensures in
@@ -21,7 +22,7 @@ returns c =
 
 returns-2 : tie.Need-returns-2
 returns-2 c =
-    let b = c .before .before .before in
+    let b : tie.After-bookable = search in
     let start = b .before .before in
     let e = ap saysBooked (sym (c .before .b .given .1)) ∙ b .bookable .ensures in
     (e, booked-entries (now (start .args .bytes)) (now (start .args .numbers)) (start .args .p .at) e)

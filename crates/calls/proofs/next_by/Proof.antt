@@ -9,8 +9,8 @@ use Rattle.calls.proofs.next_by.Tie as tie
 
 returns : tie.Need-returns
 returns c =
-    let filled = c .before .before .before in
-    let start = filled .before .before .before .before in
+    let filled : tie.After-fill-table = search in
+    let start : tie.Start = search in
     through (ap (λ f. requested f (start .args .l)) (sym (floats-as (filled .fill-table .ensures)))) (c .request .ensures)
 
 pub next-by-spec : {M : Type 1} → statement M

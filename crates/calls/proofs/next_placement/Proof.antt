@@ -11,7 +11,8 @@ use Rattle.calls.proofs.next_placement.Tie as tie
 
 returns : tie.Need-returns
 returns c =
-    let l = c .before .before .before .args .l in
+    let start : tie.Start = search in
+    let l = start .args .l in
     let m : Moves _ l _ = refused (sym (refused-law _ _ (c .before .why-not .ensures) (c .if1 .taken) (λ t. requested (floatingOf t) l))) in
     (m .says, m .listing-after)
 
@@ -20,7 +21,8 @@ next-by-requires c κs = let h = held (c .before .why-not .ensures) (c .if1 .lef
 
 returns-2 : tie.Need-returns-2
 returns-2 c =
-    let l = c .before .before .before .before .args .l in
+    let start : tie.Start = search in
+    let l = start .args .l in
     let m = through (answers (λ t. requested (floatingOf t) l) (held (c .before .before .why-not .ensures) (c .before .if1 .left))) (c .next-by .ensures) in
     (m .says, m .listing-after)
 

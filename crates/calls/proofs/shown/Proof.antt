@@ -22,7 +22,7 @@ as-daltons-requires : tie.Need-as-daltons-requires
 as-daltons-requires c κs =
     let m = c .before .w .given .0 .0 in
     let read : toZ w64 (ofZ w64 m) ≡ m = search needs in
-    let weighing = c .before .before .before in
+    let weighing : tie.After-weigh = search in
     let h = held (weighing .before .before .why-not .ensures) (weighing .before .if1 .left) in
     subst (λ z. natAbs z < totalLimit) (weight-total _ (weighing .weigh .ensures) (c .before .w .given .1) ∙ sym read) (h .below)
 
@@ -30,13 +30,13 @@ returns-2 : tie.Need-returns-2
 returns-2 c =
     let m = c .before .before .w .given .0 .0 in
     let read : toZ w64 (ofZ w64 m) ≡ m = search needs in
-    let weighing = c .before .before .before .before in
+    let weighing : tie.After-weigh = search in
     ap (λ z. good (aMass z)) (c .as-daltons .ensures ∙ ap daltons read) ∙ ap good (displayed _ (weighing .weigh .ensures) (c .before .before .w .given .1))
     ∙ sym (answers (λ t. good (displayOf t)) (held (weighing .before .before .why-not .ensures) (weighing .before .if1 .left)))
 
 returns-3 : tie.Need-returns-3
 returns-3 c =
-    let weighing = c .before .before .before in
+    let weighing : tie.After-weigh = search in
     ap good (displayed _ (weighing .weigh .ensures) (c .before .w2 .given .1))
     ∙ sym (answers (λ t. good (displayOf t)) (held (weighing .before .before .why-not .ensures) (weighing .before .if1 .left)))
 

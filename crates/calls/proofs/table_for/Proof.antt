@@ -7,7 +7,9 @@ use Rattle.calls.proofs.table_for.Statement.{statement}
 use Rattle.calls.proofs.table_for.Tie as tie
 
 returns : tie.Need-returns
-returns c = let start = c .before .before .before in no-room (now (start .args .bytes)) (now (start .args .numbers)) (c .if1 .taken)
+returns c =
+    let start : tie.Start = search in
+    no-room (now (start .args .bytes)) (now (start .args .numbers)) (c .if1 .taken)
 
 returns-2 : tie.Need-returns-2
 returns-2 c = no-tables _ _ (c .before .before .if1 .left) (c .before .why-not .ensures) (c .if2 .taken)
@@ -19,7 +21,7 @@ fill-table-requires : tie.Need-fill-table-requires
 fill-table-requires c κs =
     let found = c .before in
     let tried = found .before in
-    let start = tried .before .before .before .before .before in
+    let start : tie.Start = search in
     (held (tried .before .why-not .ensures) (tried .if2 .left) .bounds, found .find-floaters .ensures, start .pre)
 
 returns-3 : tie.Need-returns-3
@@ -28,7 +30,7 @@ returns-3 c =
     let found = filled .before .before in
     let tried = found .before in
     let roomy = tried .before .before in
-    let start = roomy .before .before .before in
+    let start : tie.Start = search in
     table-ready (roomy .if1 .left) (held (tried .before .why-not .ensures) (tried .if2 .left)) (start .pre) (found .find-floaters .ensures .few) (filled .fill-table .ensures)
 
 pub table-for-spec : {M : Type 1} → statement M

@@ -19,13 +19,13 @@ returns-2 : tie.Need-returns-2
 returns-2 c =
     let m = c .before .w .given .0 .0 in
     let read : toZ w64 (ofZ w64 m) ≡ m = search needs in
-    let weighing = c .before .before .before in
+    let weighing : tie.After-weigh = search in
     ap good read ∙ weighed-so _ (weighing .weigh .ensures) (c .before .w .given .1)
     ∙ sym (answers (λ t. weighed t (total t)) (held (weighing .before .before .why-not .ensures) (weighing .before .if1 .left)))
 
 returns-3 : tie.Need-returns-3
 returns-3 c =
-    let weighing = c .before .before .before in
+    let weighing : tie.After-weigh = search in
     weighed-so _ (weighing .weigh .ensures) (c .before .w2 .given .1)
     ∙ sym (answers (λ t. weighed t (total t)) (held (weighing .before .before .why-not .ensures) (weighing .before .if1 .left)))
 

@@ -11,15 +11,19 @@ returns : tie.Need-returns
 returns c = sym (tried-short _ _ (c .before .too-short .ensures) (c .if1 .taken))
 
 are-tables-requires : tie.Need-are-tables-requires
-are-tables-requires c κs = roomy (now (c .before .before .before .args .bytes)) (now (c .before .before .before .args .numbers)) (c .before .too-short .ensures) (c .if1 .left)
+are-tables-requires c κs =
+    let start : tie.Start = search in
+    roomy (now (start .args .bytes)) (now (start .args .numbers)) (c .before .too-short .ensures) (c .if1 .left)
 
 returns-2 : tie.Need-returns-2
 returns-2 c =
-    sym (tried _ _ (c .before .before .before .too-short .ensures) (c .before .before .if1 .left) (c .before .are-tables .ensures) ∙ ap (λ b. cond b 0 14) (c .if2 .taken))
+    let after-too-short : tie.After-too-short = search in
+    sym (tried _ _ (after-too-short .too-short .ensures) (c .before .before .if1 .left) (c .before .are-tables .ensures) ∙ ap (λ b. cond b 0 14) (c .if2 .taken))
 
 returns-3 : tie.Need-returns-3
 returns-3 c =
-    sym (tried _ _ (c .before .before .before .too-short .ensures) (c .before .before .if1 .left) (c .before .are-tables .ensures) ∙ ap (λ b. cond b 0 14) (c .if2 .left))
+    let after-too-short : tie.After-too-short = search in
+    sym (tried _ _ (after-too-short .too-short .ensures) (c .before .before .if1 .left) (c .before .are-tables .ensures) ∙ ap (λ b. cond b 0 14) (c .if2 .left))
 
 pub why-not-spec : {M : Type 1} → statement M
 why-not-spec =

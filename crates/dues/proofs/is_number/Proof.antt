@@ -7,7 +7,8 @@ use Rattle.dues.proofs.is_number.Tie as tie
 
 returns-2 : tie.Need-returns-2
 returns-2 c =
-    let p = c .before .before .before .pre in
+    let start : tie.Start = search in
+    let p = start .pre in
     digits-only _ _ _ _ (omega (arith, p .0, c .before .if1 .left)) (p .1) (c .digit-end .ensures)
 
 pub is-number-spec : {M : Type 1} → statement M

@@ -6,7 +6,7 @@ use Rattle.dues.proofs.label_due.Tie as tie
 
 returns : tie.Need-returns
 returns c =
-    let d = c .before .before .before in
+    let d : tie.After-due-if = search in
     λ l g. due-label _ _ _ l g _ (d .before .is-link .ensures) (d .due-if .ensures) (c .before .due-if2 .ensures) (c .due-if3 .ensures)
 
 pub label-due-spec : {M : Type 1} → statement M

@@ -6,7 +6,7 @@ use Rattle.dues.proofs.value_due.Tie as tie
 
 returns : tie.Need-returns
 returns c =
-    let d = c .before .before .before in
+    let d : tie.After-due-if = search in
     λ q g. with-text _ _ _ q g _ (d .before .key-code .ensures) (d .due-if .ensures) (c .before .if1 .taken) (c .text-due .ensures q g)
 
 returns-2 : tie.Need-returns-2

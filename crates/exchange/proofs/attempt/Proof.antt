@@ -9,11 +9,14 @@ may-requires : tie.Need-may-requires
 may-requires c κs = let p = c .before .pre in (p .0 .sized .room, omega (arith, p .0 .inside, p .0 .sized .few), p .1)
 
 placed-requires : tie.Need-placed-requires
-placed-requires c κs = let start = c .before .before .before in (start .pre .0, sym (c .before .may .ensures) ∙ c .if1 .taken)
+placed-requires c κs =
+    let start : tie.Start = search in
+    (start .pre .0, sym (c .before .may .ensures) ∙ c .if1 .taken)
 
 returns-2 : tie.Need-returns-2
 returns-2 c =
-    let start = c .before .before .before in attempt-not _ _ _ _ (start .args .p .at) (start .pre .0 .inside) (sym (c .before .may .ensures) ∙ c .if1 .left)
+    let start : tie.Start = search in
+    attempt-not _ _ _ _ (start .args .p .at) (start .pre .0 .inside) (sym (c .before .may .ensures) ∙ c .if1 .left)
 
 pub attempt-spec : {M : Type 1} → statement M
 attempt-spec = tie.close (tie.spec may-requires placed-requires (λ c. c .placed .ensures) returns-2)

@@ -21,7 +21,7 @@ loop-holds c = searching-start _ _ _ _ _ (c .before .pre) _ _ refl
 
 module _ (c : tie.In-loop Inv-loop μ-loop) where
   abbrev start : tie.Start Inv-loop μ-loop
-  start = c .before .before .before
+  start = search
 
   below : c .before .loop .tree .n ≤ start .args .k
   below = searching-few _ _ _ _ _ (start .pre) _ _ _ _ (c .before .loop .inv)
@@ -43,25 +43,31 @@ spare-requires c κs = (start (c .before) .pre .sized, high (c .before))
 
 returns : tie.Need-returns Inv-loop μ-loop
 returns c =
-    let d = c .before .before .before .before in
+    let d : tie.In-loop Inv-loop μ-loop = search in
     let e = c .before .before .spare .ensures in
     let l = c .before .if1 .taken in
     searching-found _ _ _ _ _ (start d .pre) _ _ _ _ (d .before .loop .inv) _ (c .shift .result .at) (d .loop-test .taken) (e .may l) (e .clear l) (c .shift .ensures)
 
 add-h : tie.Need-add-h Inv-loop μ-loop
-add-h c = omega (arith, few (c .before .before .before .before))
+add-h c =
+    let in-loop : tie.In-loop Inv-loop μ-loop = search in
+    omega (arith, few in-loop)
 
 loop-less : tie.Need-loop-less Inv-loop μ-loop
-loop-less c = let d = c .before .before .before .before in omega (arith, below d, d .loop-test .taken)
+loop-less c =
+    let d : tie.In-loop Inv-loop μ-loop = search in
+    omega (arith, below d, d .loop-test .taken)
 
 loop-again : tie.Need-loop-again Inv-loop μ-loop
 loop-again c =
-    let d = c .before .before .before .before in
+    let d : tie.In-loop Inv-loop μ-loop = search in
     let taken = c .before .before .spare .ensures .taken (c .before .if1 .left) in
     searching-step _ _ _ _ _ (start d .pre) _ _ _ _ (d .before .loop .inv) _ _ _ (d .loop-test .taken) taken (c .grow .ensures)
 
 returns-2 : tie.Need-returns-2 Inv-loop μ-loop
-returns-2 c = let s = c .before .before .before in searching-end _ _ _ _ _ (s .pre) _ _ _ _ (c .before .loop .inv) (c .loop-test .left)
+returns-2 c =
+    let s : tie.Start Inv-loop μ-loop = search in
+    searching-end _ _ _ _ _ (s .pre) _ _ _ _ (c .before .loop .inv) (c .loop-test .left)
 
 pub augment-spec : {M : Type 1} → statement M
 augment-spec =

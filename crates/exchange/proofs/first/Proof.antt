@@ -18,11 +18,14 @@ abbrev μ-loop : tie.MeasureT-loop
 μ-loop tab k w₀ m₀ w m = k - m
 
 add-augment : tie.Need-add-augment Inv-loop μ-loop
-add-augment c = let start = c .before .before .before in omega (arith, start .pre .few)
+add-augment c =
+    let start : tie.Start Inv-loop μ-loop = search in
+    omega (arith, start .pre .few)
 
 augment-requires : tie.Need-augment-requires Inv-loop μ-loop
 augment-requires c κs =
-    let start = c .before .before .before in one-more _ _ (c .before .loop .m) _ (start .pre) (c .loop-test .taken) (c .before .loop .inv .1)
+    let start : tie.Start Inv-loop μ-loop = search in
+    one-more _ _ (c .before .loop .m) _ (start .pre) (c .loop-test .taken) (c .before .loop .inv .1)
 
 returns : tie.Need-returns Inv-loop μ-loop
 returns c =
@@ -32,17 +35,20 @@ returns c =
     rw none (λ u f. no _ _ none (a .augment .ensures) u (full-less _ _ (m + 1) u (omega arith) f) (λ s l. absurd (omega arith)))
 
 add-m : tie.Need-add-m Inv-loop μ-loop
-add-m c = let start = c .before .before .before .before .before .before .before in omega (arith, start .pre .few)
+add-m c =
+    let start : tie.Start Inv-loop μ-loop = search in
+    omega (arith, start .pre .few)
 
 loop-again : tie.Need-loop-again Inv-loop μ-loop
 loop-again c =
-    let a = c .before .before .before .augment in
+    let after-augment : tie.After-augment Inv-loop μ-loop = search in
+    let a = after-augment .augment in
     (omega arith, yes _ _ (not-false (a .result .ok) (c .before .if1 .left)) (a .ensures) .0)
 
 settle-requires : tie.Need-settle-requires Inv-loop μ-loop
 settle-requires c κs =
     let l = c .before .loop in
-    let start = c .before .before .before in
+    let start : tie.Start Inv-loop μ-loop = search in
     let e : l .m ≡ start .args .k = omega arith in
     (start .pre, omega arith, rw e at (l .inv .1))
 

@@ -17,7 +17,7 @@ loop-holds c = (omega arith, grew-start _ _ _ _ _ _ _ _ (c .before .pre))
 
 push-requires : tie.Need-push-requires Inv-loop μ-loop
 push-requires c κs =
-    let start = c .before .before .before in
+    let start : tie.Start Inv-loop μ-loop = search in
     let inv = c .before .loop .inv in
     (growing-on _ _ _ _ _ _ _ _ _ _ _ _ _ (start .pre) (inv .1), inv .0, c .loop-test .taken)
 

@@ -17,10 +17,14 @@ loop-holds : tie.Need-loop-holds Inv-loop μ-loop
 loop-holds c = (omega arith, λ u l. absurd (omega arith))
 
 returns : tie.Need-returns Inv-loop μ-loop
-returns c = (c .before .before .before .loop .a, omega arith, c .if1 .taken)
+returns c =
+    let loop : tie.At-loop Inv-loop μ-loop = search in
+    (loop .loop .a, omega arith, c .if1 .taken)
 
 loop-again : tie.Need-loop-again Inv-loop μ-loop
-loop-again c = (omega arith, below-more _ _ (c .before .before .before .loop .inv .1) (c .if1 .left))
+loop-again c =
+    let loop : tie.At-loop Inv-loop μ-loop = search in
+    (omega arith, below-more _ _ (loop .loop .inv .1) (c .if1 .left))
 
 returns-2 : tie.Need-returns-2 Inv-loop μ-loop
 returns-2 c = λ a l. c .before .loop .inv .1 a (omega arith)

@@ -25,7 +25,7 @@ returns c =
 returns-2 : tie.Need-returns-2
 returns-2 c =
     let sought = c .before in
-    let start = sought .before .before .before in
+    let start : tie.Start = search in
     lowered-no _ _ _ (place (start .args .t4 .at)) (place (sought .seek .result .at .at)) (start .pre .full) (rw (c .if1 .left) at (sought .seek .ensures))
 
 pub lowered-spec : {M : Type 1} → statement M

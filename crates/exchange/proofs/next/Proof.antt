@@ -19,7 +19,7 @@ abbrev μ-loop : tie.MeasureT-loop
 
 module _ (c : tie.In-loop Inv-loop μ-loop) where
   abbrev start : tie.Start Inv-loop μ-loop
-  start = c .before .before .before
+  start = search
 
   small : place (start .args .t3 .at) (c .before .loop .i - 1) < positionLimit
   small = full-small _ _ (c .before .loop .i - 1) (place (start .args .t3 .at)) (start .pre .1) (omega arith)
@@ -40,25 +40,30 @@ seek-requires : tie.Need-seek-requires Inv-loop μ-loop
 seek-requires c κs = let p = start (c .before) .pre in (record { sized = p .0; full = p .1; inside = omega arith }, omega arith)
 
 add-settle : tie.Need-add-settle Inv-loop μ-loop
-add-settle c = omega (arith, start (c .before .before .before .before) .pre .0 .few)
+add-settle c =
+    let in-loop : tie.In-loop Inv-loop μ-loop = search in
+    omega (arith, start in-loop .pre .0 .few)
 
 settle-requires : tie.Need-settle-requires Inv-loop μ-loop
 settle-requires c κs =
-    let s = start (c .before .before .before .before) in
-    let l = c .before .before .before .before .before .loop in
+    let in-loop : tie.In-loop Inv-loop μ-loop = search in
+    let loop : tie.At-loop Inv-loop μ-loop = search in
+    let s = start in-loop in
+    let l = loop .loop in
     let r = c .before .before .seek in
     (s .pre .0, omega arith, sought-full _ _ _ _ _ (place (s .args .t3 .at)) (r .result .ok) (place (r .result .at .at)) (c .before .if1 .taken) (r .ensures))
 
 returns : tie.Need-returns Inv-loop μ-loop
 returns c =
-    let l = c .before .before .before .before .before in
-    let r = c .before .before .before .seek in
+    let after-seek : tie.After-seek Inv-loop μ-loop = search in
+    let l : tie.In-loop Inv-loop μ-loop = search in
+    let r = after-seek .seek in
     next-found _ _ (l .before .loop .i - 1) _ (place (r .result .at .at)) (place (c .settle .result .at)) (omega arith) (nothing l)
     (rw (c .before .before .if1 .taken) at (r .ensures)) (c .settle .ensures)
 
 loop-again : tie.Need-loop-again Inv-loop μ-loop
 loop-again c =
-    let l = c .before .before .before in
+    let l : tie.In-loop Inv-loop μ-loop = search in
     let i = l .before .loop .i - 1 in
     let r = c .before .seek in
     (omega arith, nothing-step _ _ i _ (place (r .result .at .at)) (nothing l) (rw (c .if1 .left) at (r .ensures)) (λ u f. full-small _ _ i u f (omega arith)))

@@ -9,7 +9,9 @@ may-requires : tie.Need-may-requires
 may-requires c κs = let p = c .before .pre in (p .0 .room, p .1, p .2)
 
 owner-requires : tie.Need-owner-requires
-owner-requires c κs = let start = c .before .before .before in start .pre .0 .few
+owner-requires c κs =
+    let start : tie.Start = search in
+    start .pre .0 .few
 
 returns : tie.Need-returns
 returns c =
@@ -19,7 +21,8 @@ returns c =
 
 returns-2 : tie.Need-returns-2
 returns-2 c =
-    let a = c .before .before .before .args in
+    let start : tie.Start = search in
+    let a = start .args in
     open-not (now (a .tab)) (a .w .at) (a .k) (a .but) (a .s) (a .x) (sym (c .before .may .ensures) ∙ c .if1 .left)
 
 pub open-at-spec : {M : Type 1} → statement M

@@ -19,12 +19,15 @@ loop-holds c = (omega arith, λ u l. absurd (omega arith))
 
 returns : tie.Need-returns Inv-loop μ-loop
 returns c =
-    let inv = c .before .before .before .loop .inv in
+    let loop : tie.At-loop Inv-loop μ-loop = search in
+    let inv = loop .loop .inv in
     let v = yes _ _ (c .if1 .taken) (c .before .stands .ensures) in
     record { inside = omega arith; other = λ l. v .0; stands = λ l. v .1; before = inv .1 }
 
 loop-again : tie.Need-loop-again Inv-loop μ-loop
-loop-again c = (omega arith, below-more _ _ (c .before .before .before .loop .inv .1) (no _ _ (c .if1 .left) (c .before .stands .ensures)))
+loop-again c =
+    let loop : tie.At-loop Inv-loop μ-loop = search in
+    (omega arith, below-more _ _ (loop .loop .inv .1) (no _ _ (c .if1 .left) (c .before .stands .ensures)))
 
 returns-2 : tie.Need-returns-2 Inv-loop μ-loop
 returns-2 c =

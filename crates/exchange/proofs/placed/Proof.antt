@@ -19,16 +19,23 @@ module _ (start : tie.Start) where
 
 returns : tie.Need-returns
 returns c =
-    let start = c .before .before .before in attempt-used _ _ _ _ _ (start .pre .0) (start .pre .1) _ (c .before .owner .ensures) (c .if1 .taken)
+    let start : tie.Start = search in
+    attempt-used _ _ _ _ _ (start .pre .0) (start .pre .1) _ (c .before .owner .ensures) (c .if1 .taken)
 
 mul-w : tie.Need-mul-w
-mul-w c = omega (arith, below (c .before .before .before))
+mul-w c =
+    let start : tie.Start = search in
+    omega (arith, below start)
 
 element-write-w : tie.Need-element-write-w
-element-write-w c = omega (arith, below (c .before .before .before))
+element-write-w c =
+    let start : tie.Start = search in
+    omega (arith, below start)
 
 add-augment : tie.Need-add-augment
-add-augment c = omega (arith, below (c .before .before .before .before))
+add-augment c =
+    let start : tie.Start = search in
+    omega (arith, below start)
 
 augment-requires : tie.Need-augment-requires
 augment-requires c κs =
@@ -38,7 +45,7 @@ augment-requires c κs =
 
 returns-2 : tie.Need-returns-2
 returns-2 c =
-    let owned = c .before .before .before in
+    let owned : tie.After-owner = search in
     let start = owned .before .before in
     let r = c .augment in
     attempt-augmented _ _ _ _ _ (start .pre .0) (start .pre .1) _ (owned .owner .ensures) (long start) (r .result .ok) (r .result .at .at) (r .ensures)

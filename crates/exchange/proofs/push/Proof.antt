@@ -20,10 +20,12 @@ few {tab} {k} {f} {h} {w} {n} {order} {parent} g =
 
 module _ (c : tie.Then2) where
   abbrev start : tie.Start
-  start = c .before .before .before .before .before .before .before
+  start = search
 
   new : (a : ℕ) → a < start .args .t7 .n → place (start .args .t7 .order) a ≡ start .args .t → ⊥
-  new = no _ _ (c .before .before .before .before .if1 .left) (c .before .before .before .before .before .listed .ensures)
+  new =
+      let asked : tie.Else1 = search in
+      no _ _ (asked .if1 .left) (asked .before .listed .ensures)
 
   may-ok : mayIn (now (start .args .tab)) (place (start .args .t7 .order) (start .args .h)) (place (start .args .t2 .at) (start .args .t)) ≡ true
   may-ok = sym (c .before .may .ensures) ∙ c .if2 .taken
@@ -37,18 +39,25 @@ listed-requires c κs = few (c .before .pre .0)
 
 returns : tie.Need-returns
 returns c =
-    let s = c .before .before .before in grew-same _ _ _ _ _ (s .args .t) _ _ _ (s .pre .0) (λ o. yes _ _ (c .if1 .taken) (c .before .listed .ensures))
+    let s : tie.Start = search in
+    grew-same _ _ _ _ _ (s .args .t) _ _ _ (s .pre .0) (λ o. yes _ _ (c .if1 .taken) (c .before .listed .ensures))
 
 mul-s : tie.Need-mul-s
-mul-s c = let g = c .before .before .before .pre .0 in omega (arith, few g, g .inside)
+mul-s c =
+    let at-start : tie.Start = search in
+    let g = at-start .pre .0 in
+    omega (arith, few g, g .inside)
 
 element-copy-out-s : tie.Need-element-copy-out-s
-element-copy-out-s c = let g = c .before .before .before .pre .0 in omega (arith, few g, g .inside)
+element-copy-out-s c =
+    let at-start : tie.Start = search in
+    let g = at-start .pre .0 in
+    omega (arith, few g, g .inside)
 
 may-requires : tie.Need-may-requires
 may-requires c κs =
     let asked = c .before .before in
-    let s = asked .before .before .before in
+    let s : tie.Start = search in
     let g = s .pre .0 in
     let new = no _ _ (asked .if1 .left) (asked .before .listed .ensures) in (
       g .sized .room,
@@ -66,7 +75,7 @@ returns-2 c =
 returns-3 : tie.Need-returns-3
 returns-3 c =
     let asked = c .before in
-    let s = asked .before .before .before .before .before .before in
+    let s : tie.Start = search in
     grew-same _ _ _ _ _ (s .args .t) _ _ _ (s .pre .0) (λ o. absurd (true≢false (sym o ∙ sym (asked .may .ensures) ∙ c .if2 .left)))
 
 pub push-spec : {M : Type 1} → statement M

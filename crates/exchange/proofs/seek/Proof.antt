@@ -17,7 +17,10 @@ loop-holds : tie.Need-loop-holds Inv-loop μ-loop
 loop-holds c = (omega arith, λ u f s l m. absurd (omega arith))
 
 attempt-requires : tie.Need-attempt-requires Inv-loop μ-loop
-attempt-requires c κs = let p = c .before .before .before .pre in (p .0, omega (arith, p .1, c .loop-test .taken))
+attempt-requires c κs =
+    let start : tie.Start Inv-loop μ-loop = search in
+    let p = start .pre in
+    (p .0, omega (arith, p .1, c .loop-test .taken))
 
 returns : tie.Need-returns Inv-loop μ-loop
 returns c =
@@ -28,7 +31,9 @@ returns c =
     (sought _ _ _ _ _ (l .y) _ (place (tried .attempt .result .at .at)) (l .inv .1) (l .inv .0) (tried .before .loop-test .taken) (v .0) (v .1) (v .2))
 
 loop-again : tie.Need-loop-again Inv-loop μ-loop
-loop-again c = (omega arith, passed-more _ _ _ _ _ _ (c .before .before .before .loop .inv .1) (no _ _ (c .if1 .left) (c .before .attempt .ensures)))
+loop-again c =
+    let loop : tie.At-loop Inv-loop μ-loop = search in
+    (omega arith, passed-more _ _ _ _ _ _ (loop .loop .inv .1) (no _ _ (c .if1 .left) (c .before .attempt .ensures)))
 
 returns-2 : tie.Need-returns-2 Inv-loop μ-loop
 returns-2 c = λ u f s l m. c .before .loop .inv .1 u f s l (omega (arith, c .loop-test .left))

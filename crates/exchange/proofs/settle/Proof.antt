@@ -18,10 +18,13 @@ loop-holds c = let p = c .before .pre in (omega arith, p .1, settle-start _ _ _ 
 
 lowered-requires : tie.Need-lowered-requires Inv-loop μ-loop
 lowered-requires c κs =
-    let start = c .before .before .before in record { sized = start .pre .0; full = c .before .loop .inv .2 .full; inside = c .loop-test .taken }
+    let start : tie.Start Inv-loop μ-loop = search in
+    record { sized = start .pre .0; full = c .before .loop .inv .2 .full; inside = c .loop-test .taken }
 
 add-i : tie.Need-add-i Inv-loop μ-loop
-add-i c = let start = c .before .before .before .before in omega (arith, start .pre .0 .few)
+add-i c =
+    let start : tie.Start Inv-loop μ-loop = search in
+    omega (arith, start .pre .0 .few)
 
 loop-again : tie.Need-loop-again Inv-loop μ-loop
 loop-again c =
@@ -32,7 +35,7 @@ loop-again c =
 returns : tie.Need-returns Inv-loop μ-loop
 returns c =
     let l = c .before .loop in
-    let start = c .before .before .before in
+    let start : tie.Start Inv-loop μ-loop = search in
     let e : l .i ≡ start .args .k = omega arith in
     settle-end _ _ _ _ (place (l .w .at)) (rw e at (l .inv .2))
 

@@ -43,14 +43,20 @@ element-copy-out-s : tie.Need-element-copy-out-s Inv-loop μ-loop
 element-copy-out-s c = let p = c .before .before .pre in omega arith
 
 mul-a : tie.Need-mul-a Inv-loop μ-loop
-mul-a c = let p = c .before .before .before .before .pre in omega arith
+mul-a c =
+    let start : tie.Start Inv-loop μ-loop = search in
+    let p = start .pre in
+    omega arith
 
 element-copy-out-a : tie.Need-element-copy-out-a Inv-loop μ-loop
-element-copy-out-a c = let p = c .before .before .before .before .pre in omega arith
+element-copy-out-a c =
+    let start : tie.Start Inv-loop μ-loop = search in
+    let p = start .pre in
+    omega arith
 
 loop-again : tie.Need-loop-again Inv-loop μ-loop
 loop-again c =
-    let d = c .before .before .before in
+    let d : tie.In-loop Inv-loop μ-loop = search in
     let l = d .before .loop in (
       simp length-set (l .inv .0),
       omega (arith, nearer d, l .inv .1),

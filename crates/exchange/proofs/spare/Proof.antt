@@ -21,14 +21,19 @@ loop-holds : tie.Need-loop-holds Inv-loop μ-loop
 loop-holds c = (omega arith, λ y l. absurd (omega arith))
 
 open-at-requires : tie.Need-open-at-requires Inv-loop μ-loop
-open-at-requires c κs = let p = c .before .before .before .pre in (p .0, p .1, c .loop-test .taken)
+open-at-requires c κs =
+    let start : tie.Start Inv-loop μ-loop = search in
+    let p = start .pre in
+    (p .0, p .1, c .loop-test .taken)
 
 returns : tie.Need-returns Inv-loop μ-loop
 returns c =
     let v = yes _ _ (c .if1 .taken) (c .before .open-at .ensures) in record { may = λ l. v .0; clear = λ l. v .1; taken = λ l. absurd (omega arith) }
 
 loop-again : tie.Need-loop-again Inv-loop μ-loop
-loop-again c = (omega arith, below-more _ _ (c .before .before .before .loop .inv .1) (no _ _ (c .if1 .left) (c .before .open-at .ensures)))
+loop-again c =
+    let loop : tie.At-loop Inv-loop μ-loop = search in
+    (omega arith, below-more _ _ (loop .loop .inv .1) (no _ _ (c .if1 .left) (c .before .open-at .ensures)))
 
 returns-2 : tie.Need-returns-2 Inv-loop μ-loop
 returns-2 c =

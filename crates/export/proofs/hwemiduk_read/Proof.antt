@@ -6,7 +6,8 @@ use Rattle.export.proofs.hwemiduk_read.Tie as tie
 
 returns : tie.Need-returns
 returns c =
-    let r = c .before .before .before .before .before .read .ensures in
+    let after-read : tie.After-read = search in
+    let r = after-read .read .ensures in
     record { numbered = numbered-so (r .says) (c .tell-read .ensures); bytes-after = r .bytes-after; numbers-after = r .numbers-after }
 
 pub hwemiduk-read-spec : {M : Type 1} → statement M

@@ -44,7 +44,8 @@ loop-less c = search needs
 loop-again : tie.Need-loop-again Inv-loop μ-loop
 loop-again c =
     let l = c .before .before in
-    let a = l .before .before .before .before .args in
+    let start : tie.Start Inv-loop μ-loop = search in
+    let a = start .args in
     (search needs, copied-more (a .from .now) (a .start) (omega arith) (l .loop .inv .1))
 
 add-result : tie.Need-add-result Inv-loop μ-loop
@@ -56,8 +57,9 @@ same-length c = puts-length (c .before .loop .inv .1)
 returns : tie.Need-returns Inv-loop μ-loop
 returns c =
     let l = c .before in
+    let start : tie.Start Inv-loop μ-loop = search in
     let f = l .before .fitting in
-    let a = l .before .before .before .before .args in
+    let a = start .args in
     let e : l .loop .i ≡ f .result = omega arith in
     copied-all (a .from .now) (a .start) (e ∙ f .ensures) (search needs) (l .loop .inv .1)
 

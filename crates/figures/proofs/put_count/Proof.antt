@@ -12,7 +12,7 @@ returns c = puts-of (count-one _ (c .if1 .taken)) (puts-within (omega arith) (pu
 returns-2 : tie.Need-returns-2
 returns-2 c =
     let p = c .before .before in
-    let q = p .before .before .before .before in
+    let q : tie.After-put = search in
     puts-of (count-more _ (q .before .before .if1 .left)) (puts-within (omega arith) (puts-join (q .put .ensures) (p .put-decimal .ensures)))
 
 pub put-count-spec : {M : Type 1} → statement M

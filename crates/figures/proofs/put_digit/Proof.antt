@@ -5,7 +5,9 @@ use Rattle.figures.proofs.put_digit.Statement.{statement}
 use Rattle.figures.proofs.put_digit.Tie as tie
 
 returns : tie.Need-returns
-returns c = rw (sym (c .before .before .before .digit .ensures)) (c .before .before .put .ensures)
+returns c =
+    let after-digit : tie.After-digit = search in
+    rw (sym (after-digit .digit .ensures)) (c .before .before .put .ensures)
 
 pub put-digit-spec : {M : Type 1} → statement M
 put-digit-spec = tie.close (tie.spec (λ c κs. search needs) (λ c κs. search needs) (λ c. search needs) returns)

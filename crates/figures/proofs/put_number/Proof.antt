@@ -14,9 +14,9 @@ use Rattle.figures.proofs.put_number.Tie as tie
 returns : tie.Need-returns
 returns c =
     let z = c .before .before in
-    let q = z .before .before .before .before in
+    let q : tie.After-put-sign = search in
     let d = q .before .before in
-    let s = d .before .before .before in
+    let s : tie.Start = search in
     let a = s .args in
     let back = toZ-ofZ (s .fits .m) in
     puts-of

@@ -12,8 +12,9 @@ div-put-decimal c = rw (c .power .ensures) (power-some _)
 returns : tie.Need-returns
 returns c =
     let p = c .before .before in
-    let q = p .before .before .before .before in
-    puts-of (size-text (q .before .before .before .before .args .minus) _ _ _ (q .before .before .power .ensures)) (puts-join (q .put-decimal .ensures) (p .put-decimals .ensures))
+    let q : tie.After-put-decimal = search in
+    let start : tie.Start = search in
+    puts-of (size-text (start .args .minus) _ _ _ (q .before .before .power .ensures)) (puts-join (q .put-decimal .ensures) (p .put-decimals .ensures))
 
 pub put-size-spec : {M : Type 1} → statement M
 put-size-spec =

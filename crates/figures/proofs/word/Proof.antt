@@ -34,8 +34,9 @@ loop-less c = search needs
 loop-again : tie.Need-loop-again Inv-loop μ-loop
 loop-again c =
     let p = c .before .before in
-    let l = p .before .before .before .before in
-    let w = l .before .before .before .args .w .now in
+    let l : tie.At-loop Inv-loop μ-loop = search in
+    let start : tie.Start Inv-loop μ-loop = search in
+    let w = start .args .w .now in
     (search needs, puts-of (taken-more w (l .loop .i) (omega arith)) (puts-join (l .loop .inv .1) (p .put .ensures)))
 
 same-length : tie.Need-same-length Inv-loop μ-loop
@@ -43,8 +44,9 @@ same-length c = puts-length (c .before .loop .inv .1)
 
 returns : tie.Need-returns Inv-loop μ-loop
 returns c =
+    let start : tie.Start Inv-loop μ-loop = search in
     let l = c .before .loop in
-    let w = c .before .before .before .before .args .w .now in
+    let w = start .args .w .now in
     let e : l .i ≡ length w = omega arith in
     puts-of (take-length w) (rw e at (l .inv .1))
 

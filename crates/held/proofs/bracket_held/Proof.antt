@@ -13,23 +13,31 @@ abbrev μ-loop : tie.MeasureT-loop
 μ-loop line heads parts masses scores k bytes numbers m n upto₀ j₀ upto j = n - j
 
 base-of-requires : tie.Need-base-of-requires Inv-loop μ-loop
-base-of-requires c κs = let f = c .before .before .before .before .pre .1 in (f .heads-room, f .few-brackets)
+base-of-requires c κs =
+    let start : tie.Start Inv-loop μ-loop = search in
+    let f = start .pre .1 in
+    (f .heads-room, f .few-brackets)
 
 parts-of-requires : tie.Need-parts-of-requires Inv-loop μ-loop
-parts-of-requires c κs = let f = c .before .before .before .before .before .pre .1 in (f .heads-room, f .few-brackets)
+parts-of-requires c κs =
+    let start : tie.Start Inv-loop μ-loop = search in
+    let f = start .pre .1 in
+    (f .heads-room, f .few-brackets)
 
 frame-held-requires : tie.Need-frame-held-requires Inv-loop μ-loop
-frame-held-requires c κs = frame-fits (c .parts-of .ensures .0) (c .before .before .before .before .before .before .pre)
+frame-held-requires c κs =
+    let start : tie.Start Inv-loop μ-loop = search in
+    frame-fits (c .parts-of .ensures .0) (start .pre)
 
 loop-holds : tie.Need-loop-holds Inv-loop μ-loop
 loop-holds c =
     let parts = c .before .before in
-    let start = parts .before .before .before .before .before .before in
+    let start : tie.Start Inv-loop μ-loop = search in
     parting-start _ (start .pre) (parts .before .base-of .ensures .0) (parts .parts-of .ensures .0)
 
 add-part-held : tie.Need-add-part-held Inv-loop μ-loop
 add-part-held c =
-    let parts = c .before .before .before .before in
+    let parts : tie.After-parts-of Inv-loop μ-loop = search in
     omega (arith, parts .before .base-of .ensures .1, parts .parts-of .ensures .1)
 
 part-held-requires : tie.Need-part-held-requires Inv-loop μ-loop
@@ -39,7 +47,9 @@ loop-again : tie.Need-loop-again Inv-loop μ-loop
 loop-again c = parting-next (c .before .before .loop .inv) (omega arith) (c .part-held .ensures)
 
 returns : tie.Need-returns Inv-loop μ-loop
-returns c = parting-end (c .before .loop .inv) (omega arith) refl (c .before .before .before .frame-held .ensures)
+returns c =
+    let after-frame-held : tie.After-frame-held Inv-loop μ-loop = search in
+    parting-end (c .before .loop .inv) (omega arith) refl (after-frame-held .frame-held .ensures)
 
 pub bracket-held-spec : {M : Type 1} → statement M
 bracket-held-spec =

@@ -11,10 +11,11 @@ returns : tie.Need-returns
 returns c =
     let counts = c .before .before in
     let known = counts .before .before in
+    let start : tie.Start = search in
     tells-as (λ p. record { counts-at = p .0 .0; letters-at = p .0 .1; sections-at = p .1 }) (λ f. ((f .counts-at, f .letters-at), f .sections-at))
     (tells-both
     (tells-both
-    (counts-told (record { low = λ i. omega (arith, known .shared-slice-known3 .given i); long = known .before .before .before .pre .bytes-long })
+    (counts-told (record { low = λ i. omega (arith, known .shared-slice-known3 .given i); long = start .pre .bytes-long })
     (tells-equal (counts .before .residues .ensures .0) refl) (tells-equal (counts .brackets .ensures .0) refl))
     (c .before .padded-held .ensures))
     (c .padded-held2 .ensures))

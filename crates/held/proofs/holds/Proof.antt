@@ -13,10 +13,16 @@ abbrev μ-loop : tie.MeasureT-loop
 μ-loop line letters sections heads parts masses scores residues brackets bytes numbers seen₀ k₀ seen k = brackets - k
 
 front-held-requires : tie.Need-front-held-requires Inv-loop μ-loop
-front-held-requires c κs = let pre = c .before .before .before .before .before .before .pre in front-fits (pre .0 .1) (pre .1)
+front-held-requires c κs =
+    let start : tie.Start Inv-loop μ-loop = search in
+    let pre = start .pre in
+    front-fits (pre .0 .1) (pre .1)
 
 loop-holds : tie.Need-loop-holds Inv-loop μ-loop
-loop-holds c = let pre = c .before .before .before .before .before .before .before .pre in bracketing-start _ (pre .0 .1) (pre .1) (pre .2)
+loop-holds c =
+    let start : tie.Start Inv-loop μ-loop = search in
+    let pre = start .pre in
+    bracketing-start _ (pre .0 .1) (pre .1) (pre .2)
 
 bracket-held-requires : tie.Need-bracket-held-requires Inv-loop μ-loop
 bracket-held-requires c κs = bracketing-fits (c .before .loop .inv) (omega arith)
@@ -26,7 +32,7 @@ loop-again c = bracketing-next (c .before .before .loop .inv) (omega arith) (c .
 
 returns : tie.Need-returns Inv-loop μ-loop
 returns c =
-    let at-loop = c .before .before .before in
+    let at-loop : tie.At-loop Inv-loop μ-loop = search in
     line-told (at-loop .loop .inv) (omega arith) (at-loop .before .front-held .ensures) (c .before .rest-held .ensures)
 
 pub holds-spec : {M : Type 1} → statement M

@@ -14,7 +14,7 @@ use Rattle.held.proofs.padded_held.Tie as tie
 
 returns : tie.Need-returns
 returns c =
-    let start = c .before .before .before .before in
+    let start : tie.Start = search in
     let s = start .args in
     let l = take (s .n) (now (s .from)) in
     let long : length l ≡ s .n = length-take-le (s .n) (now (s .from)) (omega arith) in

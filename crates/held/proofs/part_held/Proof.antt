@@ -17,7 +17,7 @@ returns c =
     let label-at = ends .before in
     let to = label-at .before in
     let text-at = to .before in
-    let start = text-at .before .before .before .before in
+    let start : tie.Start = search in
     part-seen (start .args .seen) (start .pre) (text-at .text-from .ensures .0) (to .text-to .ensures .0) (label-at .label-from .ensures .0) (ends .label-to .ensures .0)
     (offset .offset-of .ensures .0) (fields .fields-held .ensures) (text .same-bytes .ensures) (label .same-bytes2 .ensures) (back _ (mass .mass .ok) (mass .mass .ensures)) (number .is-number .ensures)
 

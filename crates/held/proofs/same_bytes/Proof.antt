@@ -22,7 +22,7 @@ loop-holds c = matched-start _ _ _ _ (part-length _ _ _ (c .pre .inside)) (c .pr
 
 loop-again : tie.Need-loop-again Inv-loop μ-loop
 loop-again c =
-    let at-loop = c .before .before .before in
+    let at-loop : tie.At-loop Inv-loop μ-loop = search in
     let s = at-loop .before .args in
     let i = at-loop .loop .i in
     let x = getD (now (s .bytes)) (s .at + i) 0 in

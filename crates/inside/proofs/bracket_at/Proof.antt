@@ -19,50 +19,63 @@ abbrev μ-loop : tie.MeasureT-loop
 μ-loop line parts₀ masses₀ at shut refers labels room base least i₀ s₀ parts masses i s = length line - i
 
 loop-holds : tie.Need-loop-holds Inv-loop μ-loop
-loop-holds c = let s = c .before .before .before in at-first _ _ _ (s .pre .within) (c .no-parts .ensures)
+loop-holds c =
+    let s : tie.Start Inv-loop μ-loop = search in
+    at-first _ _ _ (s .pre .within) (c .no-parts .ensures)
 
 next-part-requires : tie.Need-next-part-requires Inv-loop μ-loop
-next-part-requires c κs = let l = c .before .before in fits _ _ _ _ _ _ (l .before .before .before .before .pre) (l .loop .inv)
+next-part-requires c κs =
+    let l = c .before .before in
+    let start : tie.Start Inv-loop μ-loop = search in
+    fits _ _ _ _ _ _ (start .pre) (l .loop .inv)
 
 same-length : tie.Need-same-length Inv-loop μ-loop
-same-length c = let n = c .before .before .before .before .before .before in
-    let l = n .before .before .before in
+same-length c =
+    let n : tie.After-next-part Inv-loop μ-loop = search in
+    let l : tie.At-loop Inv-loop μ-loop = search in
     n .next-part .kept .1 .0 ∙ l .loop .inv .grows .parts-long
 
 same-length-2 : tie.Need-same-length-2 Inv-loop μ-loop
-same-length-2 c = let n = c .before .before .before .before .before .before in
-    let l = n .before .before .before in
+same-length-2 c =
+    let n : tie.After-next-part Inv-loop μ-loop = search in
+    let l : tie.At-loop Inv-loop μ-loop = search in
     n .next-part .kept .1 .1 .0 ∙ l .loop .inv .grows .masses-long
 
 returns : tie.Need-returns Inv-loop μ-loop
-returns c = let n = c .before .before .before .before .before .before in
-    let l = n .before .before .before in
+returns c =
+    let n : tie.After-next-part Inv-loop μ-loop = search in
+    let l : tie.At-loop Inv-loop μ-loop = search in
     then-lost _ _ _ _ _ _ (n .next-part .ensures _ _ _ _ (l .loop .inv)) _ (c .before .p .given .1)
 
 same-length-3 : tie.Need-same-length-3 Inv-loop μ-loop
-same-length-3 c = let n = c .before .before .before .before .before .before in
-    let l = n .before .before .before in
+same-length-3 c =
+    let n : tie.After-next-part Inv-loop μ-loop = search in
+    let l : tie.At-loop Inv-loop μ-loop = search in
     n .next-part .kept .1 .0 ∙ l .loop .inv .grows .parts-long
 
 same-length-4 : tie.Need-same-length-4 Inv-loop μ-loop
-same-length-4 c = let n = c .before .before .before .before .before .before in
-    let l = n .before .before .before in
+same-length-4 c =
+    let n : tie.After-next-part Inv-loop μ-loop = search in
+    let l : tie.At-loop Inv-loop μ-loop = search in
     n .next-part .kept .1 .1 .0 ∙ l .loop .inv .grows .masses-long
 
 returns-2 : tie.Need-returns-2 Inv-loop μ-loop
-returns-2 c = let n = c .before .before .before .before .before .before in
-    let l = n .before .before .before in
+returns-2 c =
+    let n : tie.After-next-part Inv-loop μ-loop = search in
+    let l : tie.At-loop Inv-loop μ-loop = search in
     then-closed _ _ _ _ _ _ (n .next-part .ensures _ _ _ _ (l .loop .inv)) _ _ (c .before .next .given .1)
 
 loop-less : tie.Need-loop-less Inv-loop μ-loop
-loop-less c = let n = c .before .before .before .before .before .before in
-    let l = n .before .before .before in
+loop-less c =
+    let n : tie.After-next-part Inv-loop μ-loop = search in
+    let l : tie.At-loop Inv-loop μ-loop = search in
     let m = then-more _ _ _ _ _ _ (n .next-part .ensures _ _ _ _ (l .loop .inv)) _ _ (c .before .next2 .given .1) in
     omega (arith, m .1, m .0 .within)
 
 loop-again : tie.Need-loop-again Inv-loop μ-loop
-loop-again c = let n = c .before .before .before .before .before .before in
-    let l = n .before .before .before in
+loop-again c =
+    let n : tie.After-next-part Inv-loop μ-loop = search in
+    let l : tie.At-loop Inv-loop μ-loop = search in
     then-more _ _ _ _ _ _ (n .next-part .ensures _ _ _ _ (l .loop .inv)) _ _ (c .before .next2 .given .1) .0
 
 pub bracket-at-spec : {M : Type 1} → statement M

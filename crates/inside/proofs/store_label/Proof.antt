@@ -6,11 +6,16 @@ use Rattle.inside.proofs.store_label.Statement.{statement}
 use Rattle.inside.proofs.store_label.Tie as tie
 
 put-label-requires : tie.Need-put-label-requires
-put-label-requires c κs = let p = c .before .before .before .pre in (p .0, p .1 (c .before .if1 .taken), p .2, p .3)
+put-label-requires c κs =
+    let start : tie.Start = search in
+    let p = start .pre in
+    (p .0, p .1 (c .before .if1 .taken), p .2, p .3)
 
 returns : tie.Need-returns
-returns c = let s = c .before .before .before .before .before .before in
-    c .before .before .put-label .ensures ∙ sym (pick-true (s .args .stored) _ (s .args .parts .now) (c .before .before .before .before .if1 .taken))
+returns c =
+    let then1 : tie.Then1 = search in
+    let s : tie.Start = search in
+    c .before .before .put-label .ensures ∙ sym (pick-true (s .args .stored) _ (s .args .parts .now) (then1 .if1 .taken))
 
 pub store-label-spec : {M : Type 1} → statement M
 store-label-spec = tie.close (tie.spec put-label-requires (λ c. search needs) returns (λ c. search needs))

@@ -6,9 +6,11 @@ use Rattle.inside.proofs.with_value.Statement.{statement}
 use Rattle.inside.proofs.with_value.Tie as tie
 
 returns : tie.Need-returns
-returns c = let i = c .before .before .before .before in
+returns c =
+    let after-both-of : tie.After-both-of = search in
+    let i : tie.After-is-info = search in
     let s = i .before .before in
-    value-counted (s .args .s) (s .args .v) (s .args .least) _ (i .is-info .ensures) (c .before .before .before .both-of .ensures) (c .before .before .is-reference .ensures) (c .before .first-refers .ensures)
+    value-counted (s .args .s) (s .args .v) (s .args .least) _ (i .is-info .ensures) (after-both-of .both-of .ensures) (c .before .before .is-reference .ensures) (c .before .first-refers .ensures)
     (back _ (c .struct-told .given .1 .1 .1 .1 .1 .0 .1) refl)
 
 pub with-value-spec : {M : Type 1} → statement M

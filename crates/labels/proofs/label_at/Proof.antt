@@ -19,17 +19,17 @@ returns-2 c = λ k.
 
 score-at-requires : tie.Need-score-at-requires
 score-at-requires c κs =
-    let m = c .before .before .before in
+    let m : tie.Else1 = search in
     (further _ _ _ (m .before .alnum-end .ensures) (m .if1 .left), c .before .before .if2 .left)
 
 returns-3 : tie.Need-returns-3
 returns-3 c = λ k.
-    let m = c .before .before .before in
+    let m : tie.Else2 = search in
     label-says _ _ _ (name-scored _ _ _ (m .before .before .alnum-end .ensures) (m .before .if1 .left) (m .if2 .left) (c .before .if3 .taken) _ (c .score-at .ensures))
 
 returns-4 : tie.Need-returns-4
 returns-4 c = λ k.
-    let m = c .before .before .before in
+    let m : tie.Else2 = search in
     let e = m .before .before .alnum-end .ensures in
     let f = m .before .if1 .left in
     label-says _ _ _

@@ -17,7 +17,7 @@ add-requires c κs =
 
 returns : tie.Need-returns
 returns c =
-    let s = c .before .before .before in
+    let s : tie.Start = search in
     let l = now (s .args .l) in
     let y = s .args .position in
     ap (set l y) (stored-sum (getD l y (pos 0)) (s .args .m) (s .pre (c .before .before .if1 .taken)) (c .add .ensures))

@@ -12,17 +12,23 @@ copies-of-requires : tie.Need-copies-of-requires
 copies-of-requires c κs = reach-row (c .before .pre .reach)
 
 returns : tie.Need-returns
-returns c = float-none (c .before .before .before .pre) (c .before .copies-of .ensures _) (c .if1 .taken)
+returns c =
+    let start : tie.Start = search in
+    float-none (start .pre) (c .before .copies-of .ensures _) (c .if1 .taken)
 
 book-copies-requires : tie.Need-book-copies-requires
 book-copies-requires c κs =
+    let after-copies-of : tie.After-copies-of = search in
+    let start : tie.Start = search in
     let read : toZ w64 (ofZ w64 (c .before .mass-or-0 .result)) ≡ c .before .mass-or-0 .result = search needs in
-    float-asks (c .before .before .before .before .before .pre) (c .before .before .before .copies-of .ensures _) (c .before .mass-or-0 .ensures) read
+    float-asks (start .pre) (after-copies-of .copies-of .ensures _) (c .before .mass-or-0 .ensures) read
 
 returns-2 : tie.Need-returns-2
 returns-2 c =
+    let after-copies-of : tie.After-copies-of = search in
+    let start : tie.Start = search in
     let read : toZ w64 (ofZ w64 (c .before .before .mass-or-0 .result)) ≡ c .before .before .mass-or-0 .result = search needs in
-    float-gives (c .before .before .before .before .before .before .pre) (c .before .before .before .before .copies-of .ensures _) (c .before .before .mass-or-0 .ensures) read (c .book-copies .ensures)
+    float-gives (start .pre) (after-copies-of .copies-of .ensures _) (c .before .before .mass-or-0 .ensures) read (c .book-copies .ensures)
 
 pub book-bracket-spec : {M : Type 1} → statement M
 book-bracket-spec =

@@ -42,11 +42,13 @@ loop-less : tie.Need-loop-less Inv-loop μ-loop
 loop-less c = omega arith
 
 loop-again : tie.Need-loop-again Inv-loop μ-loop
-loop-again c = putting-again (c .before .before .before .loop .inv) (c .before .before .loop-test .taken) refl (c .book .ensures)
+loop-again c =
+    let loop : tie.At-loop Inv-loop μ-loop = search in
+    putting-again (loop .loop .inv) (c .before .before .loop-test .taken) refl (c .book .ensures)
 
 returns : tie.Need-returns Inv-loop μ-loop
 returns c =
-    let start = c .before .before .before in
+    let start : tie.Start Inv-loop μ-loop = search in
     putting-end (c .before .loop .inv) (c .loop-test .left) (toZ-ofZ w64 (start .args .m) (start .fits .m))
 
 pub book-copies-spec : {M : Type 1} → statement M

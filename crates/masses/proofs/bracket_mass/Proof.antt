@@ -10,11 +10,14 @@ use Rattle.masses.proofs.bracket_mass.Tie as tie
 
 returns : tie.Need-returns
 returns c =
+    let after-first-mass : tie.After-first-mass = search in
     let read : toZ w64 (ofZ w64 (c .before .own .given .0 .0)) ≡ c .before .own .given .0 .0 = search needs in
-    ap some read ∙ own-mass _ (c .before .before .before .first-mass .ensures) (c .before .own .given .1)
+    ap some read ∙ own-mass _ (after-first-mass .first-mass .ensures) (c .before .own .given .1)
 
 returns-2 : tie.Need-returns-2
-returns-2 c = else-mass _ (c .first-mass2 .result) (c .before .before .before .first-mass .ensures) (c .before .enum-told .given .1) (c .first-mass2 .ensures)
+returns-2 c =
+    let after-first-mass : tie.After-first-mass = search in
+    else-mass _ (c .first-mass2 .result) (after-first-mass .first-mass .ensures) (c .before .enum-told .given .1) (c .first-mass2 .ensures)
 
 pub bracket-mass-spec : {M : Type 1} → statement M
 bracket-mass-spec =

@@ -8,10 +8,14 @@ returns : tie.Need-returns
 returns c = no-mass (c .before .value .ensures .0) (c .if1 .taken) _
 
 returns-2 : tie.Need-returns-2
-returns-2 c = with-obs (c .before .before .before .value .ensures .0) (c .before .before .if1 .left) (c .before .key .ensures .0) (c .if2 .taken)
+returns-2 c =
+    let after-value : tie.After-value = search in
+    with-obs (after-value .value .ensures .0) (c .before .before .if1 .left) (c .before .key .ensures .0) (c .if2 .taken)
 
 returns-3 : tie.Need-returns-3
-returns-3 c = without-obs (c .before .before .before .value .ensures .0) (c .before .before .if1 .left) (c .before .key .ensures .0) (c .if2 .left)
+returns-3 c =
+    let after-value : tie.After-value = search in
+    without-obs (after-value .value .ensures .0) (c .before .before .if1 .left) (c .before .key .ensures .0) (c .if2 .left)
 
 pub has-mass-spec : {M : Type 1} → statement M
 has-mass-spec =

@@ -13,10 +13,16 @@ Inv-loop bytes numbers at l₀ n k₀ i₀ l k i = (l .booked ≡ Done) × Float
 abbrev μ-loop : tie.MeasureT-loop
 μ-loop bytes numbers at l₀ n k₀ i₀ l k i = n - k
 
+brackets-requires : tie.Need-brackets-requires Inv-loop μ-loop
+brackets-requires c κs =
+    let start : tie.Start Inv-loop μ-loop = search in
+    start .pre .bytes-room
+
 loop-holds : tie.Need-loop-holds Inv-loop μ-loop
 loop-holds c =
+    let start : tie.Start Inv-loop μ-loop = search in
     let p = c .before .placed-ledger .ensures in
-    (p .0, floating-start (c .before .before .before .before .pre) (p .1) (c .brackets .ensures .0))
+    (p .0, floating-start (start .pre) (p .1) (c .brackets .ensures .0))
 
 book-bracket-requires : tie.Need-book-bracket-requires Inv-loop μ-loop
 book-bracket-requires c κs = floating-asks (c .before .before .loop .inv .1) (c .before .loop-test .taken)
@@ -35,6 +41,6 @@ returns c =
 pub ledger-of-spec : {M : Type 1} → statement M
 ledger-of-spec =
     tie.close
-    (tie.spec Inv-loop μ-loop
-    (λ c κs. c .before .before .pre) (λ c κs. c .before .before .before .pre .bytes-room) loop-holds book-bracket-requires (λ c. omega arith)
-    (λ c. omega arith) loop-again returns)
+    (tie.spec
+    Inv-loop μ-loop (λ c κs. c .before .before .pre) brackets-requires loop-holds book-bracket-requires (λ c. omega arith) (λ c. omega arith)
+    loop-again returns)

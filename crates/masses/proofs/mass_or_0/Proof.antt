@@ -9,8 +9,9 @@ use Rattle.masses.proofs.mass_or_0.Tie as tie
 
 returns : tie.Need-returns
 returns c =
+    let after-bracket-mass : tie.After-bracket-mass = search in
     let read : toZ w64 (ofZ w64 (c .before .mass .given .0 .0)) ≡ c .before .mass .given .0 .0 = search needs in
-    read ∙ is-mass _ (c .before .before .before .bracket-mass .ensures) (c .before .mass .given .1)
+    read ∙ is-mass _ (after-bracket-mass .bracket-mass .ensures) (c .before .mass .given .1)
 
 returns-2 : tie.Need-returns-2
 returns-2 c = no-mass-is-0 _ (c .before .before .bracket-mass .ensures) (c .enum-told .given .1)

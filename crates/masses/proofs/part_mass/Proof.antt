@@ -14,12 +14,15 @@ decimals-requires : tie.Need-decimals-requires
 decimals-requires c κs = reach-part (c .before .before .pre)
 
 to-decimals-requires : tie.Need-to-decimals-requires
-to-decimals-requires c κs = reach-decimals (c .before .before .before .pre) (c .before .mass .ensures) (c .decimals .ensures .0)
+to-decimals-requires c κs =
+    let start : tie.Start = search in
+    reach-decimals (start .pre) (c .before .mass .ensures) (c .decimals .ensures .0)
 
 returns : tie.Need-returns
 returns c =
+    let start : tie.Start = search in
     let read : toZ w64 (ofZ w64 (c .to-decimals .result)) ≡ c .to-decimals .result = search needs in
-    read ∙ mass-is (c .before .before .before .before .pre) (c .before .before .mass .ensures) (c .before .decimals .ensures .0) (c .to-decimals .ensures)
+    read ∙ mass-is (start .pre) (c .before .before .mass .ensures) (c .before .decimals .ensures .0) (c .to-decimals .ensures)
 
 pub part-mass-spec : {M : Type 1} → statement M
 part-mass-spec =

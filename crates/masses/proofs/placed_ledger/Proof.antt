@@ -37,13 +37,13 @@ add-requires c κs =
 
 element-set-from-sum : tie.Need-element-set-from-sum Inv-loop μ-loop
 element-set-from-sum c =
-    let f = c .before .before .before in
+    let f : tie.After-first Inv-loop μ-loop = search in
     let l = f .before in
     omega (arith, placing-first (l .before .loop .inv .1) (l .loop-test .taken) _ (omega arith) (f .first .ensures .0))
 
 loop-again : tie.Need-loop-again Inv-loop μ-loop
 loop-again c =
-    let f = c .before .before .before in
+    let f : tie.After-first Inv-loop μ-loop = search in
     let l = f .before in
     let v = l .before .loop .inv in
     let r = placing-first (v .1) (l .loop-test .taken) _ (omega arith) (f .first .ensures .0) in

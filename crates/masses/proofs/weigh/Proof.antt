@@ -30,7 +30,9 @@ loop-again : tie.Need-loop-again Inv-loop μ-loop
 loop-again c = weighing-next (c .before .before .loop .inv) (c .before .loop-test .taken) (c .tally-with .ensures)
 
 returns : tie.Need-returns Inv-loop μ-loop
-returns c = weighing-total (c .before .before .before .loop .inv) (c .before .before .loop-test .left) (c .before .if1 .taken)
+returns c =
+    let loop : tie.At-loop Inv-loop μ-loop = search in
+    weighing-total (loop .loop .inv) (c .before .before .loop-test .left) (c .before .if1 .taken)
 
 returns-2 : tie.Need-returns-2 Inv-loop μ-loop
 returns-2 c = weighing-lacks (c .before .before .loop .inv) (c .before .loop-test .left) (c .if1 .left)

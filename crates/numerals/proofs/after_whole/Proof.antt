@@ -11,12 +11,12 @@ returns c = λ p m e z. c .finished .ensures p m e ∙ ap numOf (sym (whole-end 
 
 returns-2 : tie.Need-returns-2
 returns-2 c = λ p m e z.
-    let l = c .before .before .before in
+    let l : tie.Else1 = search in
     c .after-point .ensures p m e ∙ ap numOf (sym (whole-point p _ _ _ m (l .if1 .left) (c .before .if2 .taken)))
 
 returns-3 : tie.Need-returns-3
 returns-3 c = λ p m e z.
-    let l = c .before .before .before in
+    let l : tie.Else1 = search in
     c .finished2 .ensures p m e ∙ ap numOf (sym (whole-other p _ _ _ m (l .if1 .left) (c .before .if2 .left) z))
 
 pub after-whole-spec : {M : Type 1} → statement M

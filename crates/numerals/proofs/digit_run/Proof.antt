@@ -14,17 +14,19 @@ abbrev μ-loop : tie.MeasureT-loop
 μ-loop line at v m₀ i₀ m i = length line - i
 
 with-digit-requires : tie.Need-with-digit-requires Inv-loop μ-loop
-with-digit-requires c κs = (c .before .before .before .before .loop .inv .low, sym (c .before .is-digit .ensures) ∙ c .if1 .taken)
+with-digit-requires c κs =
+    let loop : tie.At-loop Inv-loop μ-loop = search in
+    (loop .loop .inv .low, sym (c .before .is-digit .ensures) ∙ c .if1 .taken)
 
 loop-again : tie.Need-loop-again Inv-loop μ-loop
 loop-again c =
     let t = c .before in
-    let l = t .before .before .before in
+    let l : tie.In-loop Inv-loop μ-loop = search in
     digits-more (l .before .loop .inv) (l .loop-test .taken) (t .before .is-digit .ensures) (t .if1 .taken) (c .with-digit .ensures)
 
 returns : tie.Need-returns Inv-loop μ-loop
 returns c =
-    let l = c .before .before .before in
+    let l : tie.In-loop Inv-loop μ-loop = search in
     digits-stop (l .before .loop .inv) (l .loop-test .taken) (c .before .is-digit .ensures) (c .if1 .left)
 
 pub digit-run-spec : {M : Type 1} → statement M

@@ -10,12 +10,12 @@ use Rattle.placements.proofs.alone.Tie as tie
 
 returns : tie.Need-returns
 returns c =
-    let start = c .before .before .before .before in
+    let start : tie.Start = search in
     alone-open (now (start .args .tab)) _ (start .args .t3 .at) (start .args .s) (c .open-at .result) (start .pre .1) (c .open-at .ensures)
 
 returns-2 : tie.Need-returns-2
 returns-2 c =
-    let start = c .before .before .before in
+    let start : tie.Start = search in
     λ f. let z = full-small _ _ (start .args .s) (place (start .args .t3 .at)) f (start .pre .1) in omega (arith, z, c .if1 .left)
 
 pub alone-spec : {M : Type 1} → statement M

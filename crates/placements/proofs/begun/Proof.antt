@@ -11,22 +11,23 @@ use Rattle.placements.proofs.begun.Tie as tie
 
 told-requires : tie.Need-told-requires
 told-requires c κs =
-    let s = c .before .before .before .before .before in
+    let s : tie.Start = search in
     let v = c .first in
     (s .pre .0 .few, first-small (now (s .args .tab)) _ (v .result .ok) (v .result .at .at) (v .ensures))
 
 returns : tie.Need-returns
 returns c =
-    let s = c .before .before .before .before .before .before in
+    let s : tie.Start = search in
     let f = c .before .first in
     let n : length (s .args .l .at) ≡ copyLimit = search needs in
     let m : length (f .result .at .at) ≡ copyLimit = search needs in
+    let after-unused : tie.After-unused = search in
     through (begun-found (now (s .args .tab)) (s .args .k) (s .args .l) (f .result .ok) (f .result .at .at) (s .pre .0) (s .pre .1) n
-    (yes _ _ (c .before .before .if1 .taken) (c .before .before .before .unused .ensures)) m (f .ensures)) (c .told .ensures)
+    (yes _ _ (c .before .before .if1 .taken) (after-unused .unused .ensures)) m (f .ensures)) (c .told .ensures)
 
 returns-2 : tie.Need-returns-2
 returns-2 c =
-    let s = c .before .before .before .before in
+    let s : tie.Start = search in
     refused (begun-refused (now (s .args .tab)) (s .args .k) (s .args .l) (s .pre .1) (no _ _ (c .if1 .left) (c .before .unused .ensures)))
 
 pub begun-spec : {M : Type 1} → statement M

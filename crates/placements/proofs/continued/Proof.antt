@@ -13,7 +13,7 @@ use Rattle.placements.proofs.continued.Tie as tie
 
 module _ (c : tie.After-widened) where
   abbrev start : tie.Start
-  start = c .before .before .before .before .before
+  start = search
 
   is-allowed : allowed (floatingIn (now (start .args .tab)) (start .args .k)) (start .args .l .at) ≡ true
   is-allowed = sym (c .before .before .is-allowed .ensures) ∙ c .before .if1 .taken
@@ -43,7 +43,7 @@ returns c =
 
 returns-2 : tie.Need-returns-2
 returns-2 c =
-    let s = c .before .before .before .before in
+    let s : tie.Start = search in
     refused (continued-refused (now (s .args .tab)) (s .args .k) (s .args .l) (s .pre .1) (sym (c .before .is-allowed .ensures) ∙ c .if1 .left))
 
 pub continued-spec : {M : Type 1} → statement M

@@ -15,13 +15,14 @@ returns : tie.Need-returns
 returns c =
     let widened = c .before in
     let asked = widened .before in
-    let start = asked .before .before .before .before in
+    let start : tie.Start = search in
     let zeros = yes _ _ (asked .if1 .taken) (asked .before .unused .ensures) in
     allowed-is _ _ (start .args .p .at) (widened .widened .result .at) (c .stand .result) (start .pre) (long start) zeros (widened .widened .ensures) (c .stand .ensures)
 
 returns-2 : tie.Need-returns-2
 returns-2 c =
-    let start = c .before .before .before .before in allowed-not _ _ (start .args .p .at) (start .pre) (no _ _ (c .if1 .left) (c .before .unused .ensures))
+    let start : tie.Start = search in
+    allowed-not _ _ (start .args .p .at) (start .pre) (no _ _ (c .if1 .left) (c .before .unused .ensures))
 
 pub is-allowed-spec : {M : Type 1} → statement M
 is-allowed-spec =

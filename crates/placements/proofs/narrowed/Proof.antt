@@ -24,10 +24,30 @@ loop-holds c =
     let e = c .none .ensures in
     (omega arith, ap length e, (λ u l. absurd (omega arith)), λ t l m. ap (λ z. getD z t 0) e ∙ getD-replicate copyLimit t 0 0 m)
 
+mul-x : tie.Need-mul-x Inv-loop μ-loop
+mul-x c =
+    let start : tie.Start Inv-loop μ-loop = search in
+    omega (arith, start .pre .0)
+
+element-copy-out-x : tie.Need-element-copy-out-x Inv-loop μ-loop
+element-copy-out-x c =
+    let start : tie.Start Inv-loop μ-loop = search in
+    omega (arith, start .pre .0)
+
 cast-p : tie.Need-cast-p Inv-loop μ-loop
 cast-p c =
     let l = c .before .before in
     omega (arith, l .before .before .pre .1 (l .loop .s) (c .before .loop-test .taken))
+
+mul-p : tie.Need-mul-p Inv-loop μ-loop
+mul-p c =
+    let start : tie.Start Inv-loop μ-loop = search in
+    omega (arith, start .pre .0)
+
+element-write-p : tie.Need-element-write-p Inv-loop μ-loop
+element-write-p c =
+    let start : tie.Start Inv-loop μ-loop = search in
+    omega (arith, start .pre .0)
 
 loop-again : tie.Need-loop-again Inv-loop μ-loop
 loop-again c =
@@ -40,7 +60,7 @@ loop-again c =
 returns : tie.Need-returns Inv-loop μ-loop
 returns c =
     let l = c .before .loop in
-    let start = c .before .before .before in
+    let start : tie.Start Inv-loop μ-loop = search in
     let e : l .s ≡ start .args .k = omega arith in
     let n : length (start .args .t2 .at) ≡ copyLimit = search needs in
     are-entries _ (start .args .t2 .at) (start .pre .0) n (l .p .at) (l .inv .1) (rw e at (l .inv .2)) (rw e at (l .inv .3))
@@ -48,7 +68,6 @@ returns c =
 pub narrowed-spec : {M : Type 1} → statement M
 narrowed-spec =
     tie.close
-    (tie.spec Inv-loop μ-loop
-    (λ c κs. search needs) loop-holds (λ c. omega (arith, c .before .before .before .pre .0)) (λ c. omega (arith, c .before .before .before .pre .0)) cast-p
-    (λ c. omega (arith, c .before .before .before .before .pre .0)) (λ c. omega (arith, c .before .before .before .before .pre .0)) (λ c. omega arith) (λ c. omega arith)
+    (tie.spec
+    Inv-loop μ-loop (λ c κs. search needs) loop-holds mul-x element-copy-out-x cast-p mul-p element-write-p (λ c. omega arith) (λ c. omega arith)
     loop-again returns)

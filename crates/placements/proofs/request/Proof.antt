@@ -6,7 +6,8 @@ use Rattle.placements.proofs.request.Tie as tie
 
 returns-3 : tie.Need-returns-3
 returns-3 c =
-    let s = c .before .before .before .before .before in refused (other-asked _ (s .args .l) (c .before .before .if1 .left) (c .if2 .left))
+    let s : tie.Start = search in
+    refused (other-asked _ (s .args .l) (c .before .before .if1 .left) (c .if2 .left))
 
 pub request-spec : {M : Type 1} → statement M
 request-spec = tie.close (tie.spec (λ c κs. search needs) (λ c. search needs) (λ c κs. search needs) (λ c. search needs) returns-3)

@@ -18,18 +18,23 @@ abbrev μ-loop : tie.MeasureT-loop
 μ-loop tab k w s₀ s = k - s
 
 alone-requires : tie.Need-alone-requires Inv-loop μ-loop
-alone-requires c κs = let start = c .before .before .before in (start .pre, c .loop-test .taken)
+alone-requires c κs =
+    let start : tie.Start Inv-loop μ-loop = search in
+    (start .pre, c .loop-test .taken)
 
 returns : tie.Need-returns Inv-loop μ-loop
 returns c = let a = c .before .alone in no _ _ (not-true (a .result) (c .if1 .taken)) (a .ensures)
 
 add-s : tie.Need-add-s Inv-loop μ-loop
-add-s c = let start = c .before .before .before .before .before in omega (arith, start .pre .few)
+add-s c =
+    let start : tie.Start Inv-loop μ-loop = search in
+    omega (arith, start .pre .few)
 
 loop-again : tie.Need-loop-again Inv-loop μ-loop
 loop-again c =
+    let loop : tie.At-loop Inv-loop μ-loop = search in
     let a = c .before .alone in
-    (omega arith, below-more _ _ (c .before .before .before .loop .inv .1) (yes _ _ (not-false (a .result) (c .if1 .left)) (a .ensures)))
+    (omega arith, below-more _ _ (loop .loop .inv .1) (yes _ _ (not-false (a .result) (c .if1 .left)) (a .ensures)))
 
 returns-2 : tie.Need-returns-2 Inv-loop μ-loop
 returns-2 c = let h = c .before .loop .inv .1 in record { fits = λ s l. h s (omega arith) .0; apart = λ s t l m e. h s (omega arith) .1 t m e }

@@ -9,7 +9,7 @@ narrowed-requires c κs = let s = c .before .before in (s .pre .0, s .pre .1 (c 
 returns : tie.Need-returns
 returns c =
     let n = c .before in
-    let s = n .before .before .before in
+    let s : tie.Start = search in
     told-found (s .args .k) (s .args .a .ok) (s .args .a .at .at) (n .narrowed .result .at) (s .args .l) (n .before .before .if1 .taken) (n .narrowed .ensures)
 
 returns-2 : tie.Need-returns-2

@@ -21,7 +21,7 @@ abbrev μ-loop : tie.MeasureT-loop
 loop-again : tie.Need-loop-again Inv-loop μ-loop
 loop-again c =
     let l = c .before .before .loop in
-    let start = c .before .before .before in
+    let start : tie.Start Inv-loop μ-loop = search in
     (omega arith, same-set (start .args .t1) (l .w .at) (l .s) _ (let e = l .inv .2 in omega arith) (l .inv .1) (c .wide .ensures), simp length-set (l .inv .2))
 
 returns : tie.Need-returns Inv-loop μ-loop

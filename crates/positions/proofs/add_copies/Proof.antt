@@ -22,7 +22,9 @@ loop-holds c =
     copying-start _ _ _ _ _ b e
 
 loop-again : tie.Need-loop-again Inv-loop μ-loop
-loop-again c = let start = c .before .before .before .before in copying-next (c .before .loop .inv) (start .pre) (c .loop-test .taken)
+loop-again c =
+    let start : tie.Start Inv-loop μ-loop = search in
+    copying-next (c .before .loop .inv) (start .pre) (c .loop-test .taken)
 
 returns : tie.Need-returns Inv-loop μ-loop
 returns c = copying-end (c .before .loop .inv) (c .loop-test .left)

@@ -20,7 +20,7 @@ slice-aggregate-strike-out c = search needs
 
 strike-out-requires : tie.Need-strike-out-requires Inv-loop μ-loop
 strike-out-requires c κs =
-    let start = c .before .before .before .before in
+    let start : tie.Start Inv-loop μ-loop = search in
     (legible (start .pre .0), omega arith)
 
 loop-holds : tie.Need-loop-holds Inv-loop μ-loop
@@ -28,8 +28,7 @@ loop-holds c = filling-start _ _ _ _ _
 
 array-read-wide : tie.Need-array-read-wide Inv-loop μ-loop
 array-read-wide c =
-    let out = c .before .before .before in
-    let start = out .before .before .before .before .before in
+    let start : tie.Start Inv-loop μ-loop = search in
     omega (arith, start .pre .1 .few)
 
 wide-requires : tie.Need-wide-requires Inv-loop μ-loop
@@ -37,8 +36,7 @@ wide-requires c κs = search needs
 
 mul-fill-row : tie.Need-mul-fill-row Inv-loop μ-loop
 mul-fill-row c =
-    let turn = c .before .before .before in
-    let start = turn .before .before .before .before .before .before .before .before in
+    let start : tie.Start Inv-loop μ-loop = search in
     omega (arith, start .pre .1 .few)
 
 fill-row-requires : tie.Need-fill-row-requires Inv-loop μ-loop
@@ -47,7 +45,7 @@ fill-row-requires c κs =
     let turn = index .before in
     let loop = turn .before in
     let out = loop .before .before in
-    let start = out .before .before .before .before .before in (
+    let start : tie.Start Inv-loop μ-loop = search in (
       legible (start .pre .0),
       omega (arith, index .wide .ensures .0, floaters-inside (start .pre .1) (loop .loop .g) (turn .loop-test .taken)),
       (λ ns. free-is _ ns (out .strike-out .ensures ns)),
@@ -56,8 +54,7 @@ fill-row-requires c κs =
 
 add-g : tie.Need-add-g Inv-loop μ-loop
 add-g c =
-    let turn = c .before .before .before .before .before .before in
-    let start = turn .before .before .before .before .before .before .before .before in
+    let start : tie.Start Inv-loop μ-loop = search in
     omega (arith, start .pre .1 .few)
 
 loop-less : tie.Need-loop-less Inv-loop μ-loop
@@ -65,20 +62,20 @@ loop-less c = omega arith
 
 loop-again : tie.Need-loop-again Inv-loop μ-loop
 loop-again c =
-    let index = c .before .before .before .before .before in
+    let index : tie.After-wide Inv-loop μ-loop = search in
     let turn = index .before in
     filling-next (turn .before .loop .inv) (turn .loop-test .taken) (index .wide .ensures .0) (c .before .before .fill-row .ensures _)
 
 clear-rest-requires : tie.Need-clear-rest-requires Inv-loop μ-loop
 clear-rest-requires c κs =
     let loop = c .before .before in
-    let start = loop .before .before .before .before .before .before .before in
+    let start : tie.Start Inv-loop μ-loop = search in
     (start .pre .1 .few, omega (arith, loop .loop .inv .kept))
 
 same-length : tie.Need-same-length Inv-loop μ-loop
 same-length c =
     let rest = c .before .before in
-    let loop = rest .before .before .before in
+    let loop : tie.At-loop Inv-loop μ-loop = search in
     omega (arith, rest .clear-rest .kept, loop .loop .inv .kept)
 
 returns : tie.Need-returns Inv-loop μ-loop
@@ -86,7 +83,7 @@ returns c =
     let rest = c .before .before in
     let done = rest .before .before in
     let loop = done .before in
-    let start = loop .before .before .before .before .before .before .before in
+    let start : tie.Start Inv-loop μ-loop = search in
     filling-end (loop .loop .inv) (done .loop-test .left) (legible (start .pre .0)) (start .pre .1) (rest .clear-rest .ensures)
 
 pub fill-table-spec : {M : Type 1} → statement M

@@ -18,18 +18,20 @@ loop-holds : tie.Need-loop-holds Inv-loop μ-loop
 loop-holds c = finding-start _ _ _ _ _ (c .brackets .ensures .0) refl refl
 
 copies-of-requires : tie.Need-copies-of-requires Inv-loop μ-loop
-copies-of-requires c κs = let start = c .before .before .before .before in row (start .pre .0) _ (omega arith)
+copies-of-requires c κs =
+    let start : tie.Start Inv-loop μ-loop = search in
+    row (start .pre .0) _ (omega arith)
 
 add-copies-requires : tie.Need-add-copies-requires Inv-loop μ-loop
 add-copies-requires c κs =
     let l = c .before .before in
-    let start = l .before .before .before in
+    let start : tie.Start Inv-loop μ-loop = search in
     finding-few (l .loop .inv) (start .pre .1) (c .before .loop-test .taken) (c .copies-of .ensures _)
 
 loop-again : tie.Need-loop-again Inv-loop μ-loop
 loop-again c =
-    let l = c .before .before .before in
-    let start = l .before .before .before in
+    let l : tie.At-loop Inv-loop μ-loop = search in
+    let start : tie.Start Inv-loop μ-loop = search in
     finding-next (l .loop .inv) (start .pre .1) (c .before .before .loop-test .taken) (c .before .copies-of .ensures _) (c .add-copies .ensures)
 
 returns : tie.Need-returns Inv-loop μ-loop

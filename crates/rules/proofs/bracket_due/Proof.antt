@@ -6,9 +6,9 @@ use Rattle.rules.proofs.bracket_due.Tie as tie
 
 returns : tie.Need-returns
 returns c =
-    let s = c .before .before .before .before .before .before .before .before .before .before in
-    let d = c .before .before .before in
-    let e = c .before .before .before .before .before in
+    let d : tie.After-is-wrong = search in
+    let e : tie.After-has-only-info = search in
+    let s : tie.Start = search in
     due-three (s .args .line .now) (s .args .heads .now) (s .args .parts .now) (s .args .n) (s .args .least) (s .args .before) (s .args .k) (s .pre .2) (e .before .place-of .ensures .0) (e .has-only-info .ensures) (d .before .due-if .ensures) (d .is-wrong .ensures) (c .before .before .due-if2 .ensures) (c .before .passes .ensures) (c .due-if3 .ensures)
 
 pub bracket-due-spec : {M : Type 1} → statement M

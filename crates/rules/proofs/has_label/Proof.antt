@@ -14,11 +14,13 @@ abbrev μ-loop : tie.MeasureT-loop
 μ-loop line parts x y m i₀ i = m - i
 
 add-same-label : tie.Need-add-same-label Inv-loop μ-loop
-add-same-label c = omega (arith, c .before .before .before .before .pre .2 (c .before .loop .i) (c .loop-test .taken) .noted)
+add-same-label c =
+    let start : tie.Start Inv-loop μ-loop = search in
+    omega (arith, start .pre .2 (c .before .loop .i) (c .loop-test .taken) .noted)
 
 same-label-requires : tie.Need-same-label-requires Inv-loop μ-loop
 same-label-requires c κs =
-    let s = c .before .before .before .before in
+    let s : tie.Start Inv-loop μ-loop = search in
     (s .pre .0, s .pre .1, s .pre .2 (c .before .loop .i) (c .loop-test .taken))
 
 returns : tie.Need-returns Inv-loop μ-loop

@@ -6,12 +6,14 @@ use Rattle.rules.proofs.has_only_info.Tie as tie
 
 returns : tie.Need-returns
 returns c =
-    let s = c .before .before .before .args in
+    let start : tie.Start = search in
+    let s = start .args in
     info-kind (s .heads .now) (s .k) (c .before .kind-of .ensures .0) (c .if1 .taken)
 
 returns-2 : tie.Need-returns-2
 returns-2 c =
-    let s = c .before .before .before .before .args in
+    let start : tie.Start = search in
+    let s = start .args in
     info-sort (s .heads .now) (s .k) (c .before .before .kind-of .ensures .0) (c .before .if1 .left) (c .sort-of .ensures .0)
 
 pub has-only-info-spec : {M : Type 1} → statement M

@@ -15,7 +15,7 @@ abbrev μ-loop : tie.MeasureT-loop
 
 names-requires : tie.Need-names-requires Inv-loop μ-loop
 names-requires c κs =
-    let s = c .before .before .before .before .before in
+    let s : tie.Start Inv-loop μ-loop = search in
     (legible-fewer _ _ _ _ _ (s .pre .0) (omega (arith, c .loop-test .taken)), s .pre .1)
 
 returns : tie.Need-returns Inv-loop μ-loop

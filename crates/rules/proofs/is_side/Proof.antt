@@ -6,12 +6,14 @@ use Rattle.rules.proofs.is_side.Tie as tie
 
 returns : tie.Need-returns
 returns c =
-    let s = c .before .before .before .args in
+    let start : tie.Start = search in
+    let s = start .args in
     side-reference (s .heads .now) _ (s .k) (c .before .sort-of .ensures .0) (c .if1 .taken)
 
 returns-2 : tie.Need-returns-2
 returns-2 c =
-    let s = c .before .before .before .args in
+    let start : tie.Start = search in
+    let s = start .args in
     side-definition (s .heads .now) _ (s .k) (c .before .sort-of .ensures .0) (c .if1 .left)
 
 pub is-side-spec : {M : Type 1} → statement M

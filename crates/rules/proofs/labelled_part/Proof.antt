@@ -14,33 +14,38 @@ abbrev μ-loop : tie.MeasureT-loop
 μ-loop heads parts k x₀ last x = last - x
 
 sub-last : tie.Need-sub-last Inv-loop μ-loop
-sub-last c = omega (arith, c .before .before .before .before .pre .3, c .parts-of .ensures .0)
+sub-last c =
+    let start : tie.Start Inv-loop μ-loop = search in
+    omega (arith, start .pre .3, c .parts-of .ensures .0)
 
 loop-holds : tie.Need-loop-holds Inv-loop μ-loop
 loop-holds c =
-    let s = c .before .before .before .before in
+    let s : tie.Start Inv-loop μ-loop = search in
     seek-starts (s .args .parts .now) (baseField (s .args .heads .now) (s .args .k)) (partsField (s .args .heads .now) (s .args .k) - 1) (c .before .base-of .ensures .0) (omega (arith, s .pre .3, c .parts-of .ensures .0)) (omega (arith, c .parts-of .ensures .0))
 
 label-to-requires : tie.Need-label-to-requires Inv-loop μ-loop
 label-to-requires c κs =
-    let s = c .before .before .before .before .before .before in
+    let s : tie.Start Inv-loop μ-loop = search in
     (s .pre .2, omega (arith, s .pre .3, s .pre .4, c .before .loop .inv .ends, c .loop-test .taken))
 
 returns : tie.Need-returns Inv-loop μ-loop
 returns c =
     let l = c .before .before in
-    let s = c .before .before .before .before .before .before .before .before .args in
+    let start : tie.Start Inv-loop μ-loop = search in
+    let s = start .args in
     seek-found (s .parts .now) (baseField (s .heads .now) (s .k)) (partsField (s .heads .now) (s .k) - 1) _ _ (l .before .loop .inv) (l .loop-test .taken) (c .before .label-to .ensures .0) (c .if1 .taken)
 
 loop-again : tie.Need-loop-again Inv-loop μ-loop
 loop-again c =
     let l = c .before .before in
-    let s = c .before .before .before .before .before .before .before .before .args in
+    let start : tie.Start Inv-loop μ-loop = search in
+    let s = start .args in
     seek-more (s .parts .now) (baseField (s .heads .now) (s .k)) (partsField (s .heads .now) (s .k) - 1) _ _ (l .before .loop .inv) (l .loop-test .taken) (c .before .label-to .ensures .0) (c .if1 .left)
 
 returns-2 : tie.Need-returns-2 Inv-loop μ-loop
 returns-2 c =
-    let s = c .before .before .before .before .before .before .args in
+    let start : tie.Start Inv-loop μ-loop = search in
+    let s = start .args in
     seek-ends (s .parts .now) (baseField (s .heads .now) (s .k)) (partsField (s .heads .now) (s .k) - 1) _ _ (c .before .loop .inv) (c .loop-test .left)
 
 pub labelled-part-spec : {M : Type 1} → statement M

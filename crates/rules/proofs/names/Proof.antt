@@ -8,24 +8,25 @@ use Rattle.rules.proofs.names.Tie as tie
 
 returns : tie.Need-returns
 returns c =
-    let s = c .before .before .before .before .before in
+    let s : tie.Start = search in
     side-none (s .args .line .now) (s .args .heads .now) (s .args .parts .now) _ (s .args .k) (nameAt (s .args .line .now) (s .args .parts .now) (s .args .x)) (c .before .labels-of .ensures .0) (c .if1 .taken)
 
 has-label-requires : tie.Need-has-label-requires
 has-label-requires c κs =
-    let s = c .before .before .before .before .before .before .before .before .before in
+    let s : tie.Start = search in
     (s .pre .0 .parts-room, s .pre .1, legible-read (s .args .line .now) (s .args .heads .now) (s .args .parts .now) _ (s .args .k) (s .pre .0) (omega arith) (c .before .base-of .ensures .0) (c .parts-of .ensures .0))
 
 returns-2 : tie.Need-returns-2
 returns-2 c =
-    let s = c .before .before .before .before .before .before .before .before .before .before in
-    let d = c .before .before .before .before in
-    side-searched (s .args .line .now) (s .args .heads .now) (s .args .parts .now) _ (s .args .k) (nameAt (s .args .line .now) (s .args .parts .now) (s .args .x)) (d .before .before .labels-of .ensures .0) (d .before .if1 .left) (d .is-side .ensures) (c .before .before .before .if2 .taken) (c .before .before .base-of .ensures .0) (c .before .parts-of .ensures .0) (c .has-label .ensures)
+    let then2 : tie.Then2 = search in
+    let d : tie.After-is-side = search in
+    let s : tie.Start = search in
+    side-searched (s .args .line .now) (s .args .heads .now) (s .args .parts .now) _ (s .args .k) (nameAt (s .args .line .now) (s .args .parts .now) (s .args .x)) (d .before .before .labels-of .ensures .0) (d .before .if1 .left) (d .is-side .ensures) (then2 .if2 .taken) (c .before .before .base-of .ensures .0) (c .before .parts-of .ensures .0) (c .has-label .ensures)
 
 returns-3 : tie.Need-returns-3
 returns-3 c =
-    let s = c .before .before .before .before .before .before .before in
     let d = c .before in
+    let s : tie.Start = search in
     side-other (s .args .line .now) (s .args .heads .now) (s .args .parts .now) _ (s .args .k) (nameAt (s .args .line .now) (s .args .parts .now) (s .args .x)) (d .before .before .labels-of .ensures .0) (d .before .if1 .left) (d .is-side .ensures) (c .if2 .left)
 
 pub names-spec : {M : Type 1} → statement M

@@ -18,17 +18,20 @@ abbrev μ-loop : tie.MeasureT-loop
 
 copies-of-requires : tie.Need-copies-of-requires Inv-loop μ-loop
 copies-of-requires c κs =
-    let p = c .before .before .before .before .before .pre .1 in
+    let start : tie.Start Inv-loop μ-loop = search in
+    let p = start .pre .1 in
     (p .heads-room, omega (arith, p .few, c .loop-test .taken))
 
 add-after : tie.Need-add-after Inv-loop μ-loop
 add-after c =
-    let p = c .before .before .before .before .before .before .pre .1 in
+    let start : tie.Start Inv-loop μ-loop = search in
+    let p = start .pre .1 in
     omega (arith, p .few, c .before .loop-test .taken, c .before .before .loop .inv .low, c .copies-of .ensures .1)
 
 bracket-due-requires : tie.Need-bracket-due-requires Inv-loop μ-loop
 bracket-due-requires c κs =
-    let p = c .before .before .before .before .before .before .pre .1 in
+    let start : tie.Start Inv-loop μ-loop = search in
+    let p = start .pre .1 in
     (all-legible p, c .before .loop-test .taken, ap (λ t. c .before .before .loop .floaters + t) (c .copies-of .ensures .0))
 
 loop-again : tie.Need-loop-again Inv-loop μ-loop

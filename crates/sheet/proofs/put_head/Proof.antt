@@ -9,7 +9,8 @@ use Rattle.sheet.proofs.put_head.Statement.{statement}
 use Rattle.sheet.proofs.put_head.Tie as tie
 
 returns : tie.Need-returns
-returns c = let s = c .before .before .before .before .before .before .before .before .before in
+returns c =
+    let s : tie.Start = search in
     eleven-stores (s .args .heads .now) (s .args .k * headFields) _ _ _ _ _ _ _ _ _ _ _
 
 pub put-head-spec : {M : Type 1} → statement M

@@ -5,18 +5,22 @@ use Rattle.store.proofs.store.Statement.{statement}
 use Rattle.store.proofs.store.Tie as tie
 
 store-front-requires : tie.Need-store-front-requires
-store-front-requires c κs = front-fits (c .before .before .before .before .before .before .before .pre)
+store-front-requires c κs =
+    let start : tie.Start = search in
+    front-fits (start .pre)
 
 store-brackets-requires : tie.Need-store-brackets-requires
 store-brackets-requires c κs =
-    let p = c .before .before .before .before in
-    brackets-fit (p .before .before .before .before .before .before .before .before .pre) (p .store-front .ensures)
+    let p : tie.After-store-front = search in
+    let start : tie.Start = search in
+    brackets-fit (start .pre) (p .store-front .ensures)
 
 returns : tie.Need-returns
 returns c =
-    let b = c .before .before .before in
-    let p = b .before .before .before .before .before in
-    filled (p .before .before .before .before .before .before .before .before .pre) (p .store-front .ensures) (b .store-brackets .ensures)
+    let b : tie.After-store-brackets = search in
+    let p : tie.After-store-front = search in
+    let start : tie.Start = search in
+    filled (start .pre) (p .store-front .ensures) (b .store-brackets .ensures)
 
 pub store-spec : {M : Type 1} → statement M
 store-spec =

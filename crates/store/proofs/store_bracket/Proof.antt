@@ -6,23 +6,26 @@ use Rattle.store.proofs.store_bracket.Statement.{statement}
 use Rattle.store.proofs.store_bracket.Tie as tie
 
 store-head-requires : tie.Need-store-head-requires
-store-head-requires c κs = some-head (c .before .before .before .before .before .pre)
+store-head-requires c κs =
+    let start : tie.Start = search in
+    some-head (start .pre)
 
 store-parts-requires : tie.Need-store-parts-requires
 store-parts-requires c κs =
     let n = c .before .before in
     let m = n .before in
-    let h = m .before .before .before in
-    some-parts (m .base-of .ensures .0) (n .parts-of .ensures .0) (h .store-head .ensures) (h .before .before .before .before .before .before .pre)
+    let h : tie.After-store-head = search in
+    let start : tie.Start = search in
+    some-parts (m .base-of .ensures .0) (n .parts-of .ensures .0) (h .store-head .ensures) (start .pre)
 
 returns : tie.Need-returns
 returns c =
     let s = c .before in
     let x = s .before in
-    let p = x .before .before .before .before .before in
-    let n = p .before .before .before in
+    let p : tie.After-store-parts = search in
+    let n : tie.After-parts-of = search in
     let m = n .before in
-    let h = m .before .before .before in
+    let h : tie.After-store-head = search in
     bracket-put (m .base-of .ensures .0) (n .parts-of .ensures .0) (h .store-head .ensures) (p .store-parts .ensures) (back _ (x .number .ok) (x .number .ensures)) (s .put-score .ensures)
 
 pub store-bracket-spec : {M : Type 1} → statement M

@@ -14,18 +14,23 @@ abbrev μ-loop : tie.MeasureT-loop
 store-bracket-requires : tie.Need-store-bracket-requires Inv-loop μ-loop
 store-bracket-requires c κs =
     let l = c .before .before in
-    bracketing-fits (l .before .loop .inv) (l .before .before .before .before .before .before .pre) (l .loop-test .taken)
+    let start : tie.Start Inv-loop μ-loop = search in
+    bracketing-fits (l .before .loop .inv) (start .pre) (l .loop-test .taken)
 
 add-k : tie.Need-add-k Inv-loop μ-loop
-add-k c = let l = c .before .before .before .before .before .before in omega (arith, l .loop-test .taken)
+add-k c =
+    let l : tie.In-loop Inv-loop μ-loop = search in
+    omega (arith, l .loop-test .taken)
 
 loop-less : tie.Need-loop-less Inv-loop μ-loop
-loop-less c = let l = c .before .before .before .before .before .before in omega (arith, l .loop-test .taken)
+loop-less c =
+    let l : tie.In-loop Inv-loop μ-loop = search in
+    omega (arith, l .loop-test .taken)
 
 loop-again : tie.Need-loop-again Inv-loop μ-loop
 loop-again c =
-    let p = c .before .before .before in
-    let l = p .before .before .before in
+    let p : tie.After-store-bracket Inv-loop μ-loop = search in
+    let l : tie.In-loop Inv-loop μ-loop = search in
     bracketing-next (l .before .loop .inv) (l .loop-test .taken) (p .store-bracket .ensures) (p .store-bracket .kept .1 .1 .1 .1 .1 .1 .1 .0) (p .store-bracket .kept .1 .1 .1 .1 .1 .1 .1 .1 .0)
 
 returns : tie.Need-returns Inv-loop μ-loop

@@ -7,9 +7,10 @@ use Rattle.store.proofs.store_front.Tie as tie
 returns : tie.Need-returns
 returns c =
     let y = c .before .before in
-    let x = y .before .before .before .before in
-    let p = x .before .before .before .before in
-    let a = p .before .before .before .before .before .args in
+    let x : tie.After-copy = search in
+    let p : tie.After-put-counts = search in
+    let start : tie.Start = search in
+    let a = start .args in
     front-put (a .letters .now) (a .sections .now) (a .residues) (a .brackets) (a .bytes .now) (p .put-counts .ensures) (x .copy .ensures) (y .copy2 .ensures)
 
 pub store-front-spec : {M : Type 1} → statement M

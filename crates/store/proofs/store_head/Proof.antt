@@ -13,7 +13,8 @@ returns c =
     let l = n .before in
     let f = l .before in
     let k = f .before in
-    let a = k .before .before .before .before .args in
+    let start : tie.Start = search in
+    let a = start .args in
     head-put (a .heads .now) (a .k) (a .bytes .now) (k .kind-of .ensures .0) (f .first-of .ensures .0) (l .last-of .ensures .0) (n .count-of .ensures .0) (p .parts-of .ensures .0) (s .score-of .ensures .0) (h .put-head .ensures)
 
 pub store-head-spec : {M : Type 1} → statement M

@@ -12,23 +12,30 @@ abbrev μ-loop : tie.MeasureT-loop
 μ-loop line parts masses m n k t bytes₀ numbers₀ j₀ u₀ bytes numbers j u = n - j
 
 add-store-part : tie.Need-add-store-part Inv-loop μ-loop
-add-store-part c = let s = c .before .before .before .before .before in omega (arith, s .pre .fit .few-rows, c .loop-test .taken)
+add-store-part c =
+    let s : tie.Start Inv-loop μ-loop = search in
+    omega (arith, s .pre .fit .few-rows, c .loop-test .taken)
 
 store-part-requires : tie.Need-store-part-requires Inv-loop μ-loop
 store-part-requires c κs =
     let t = c .before .before in
-    parting-fits (t .before .loop .inv) (t .before .before .before .before .before .pre) (t .loop-test .taken)
+    let start : tie.Start Inv-loop μ-loop = search in
+    parting-fits (t .before .loop .inv) (start .pre) (t .loop-test .taken)
 
 add-j : tie.Need-add-j Inv-loop μ-loop
-add-j c = let t = c .before .before .before .before .before .before in omega (arith, t .loop-test .taken)
+add-j c =
+    let t : tie.In-loop Inv-loop μ-loop = search in
+    omega (arith, t .loop-test .taken)
 
 loop-less : tie.Need-loop-less Inv-loop μ-loop
-loop-less c = let t = c .before .before .before .before .before .before in omega (arith, t .loop-test .taken)
+loop-less c =
+    let t : tie.In-loop Inv-loop μ-loop = search in
+    omega (arith, t .loop-test .taken)
 
 loop-again : tie.Need-loop-again Inv-loop μ-loop
 loop-again c =
-    let p = c .before .before .before in
-    let t = p .before .before .before in
+    let p : tie.After-store-part Inv-loop μ-loop = search in
+    let t : tie.In-loop Inv-loop μ-loop = search in
     parting-next (t .before .loop .inv) (t .loop-test .taken) (p .store-part .ensures)
 
 returns : tie.Need-returns Inv-loop μ-loop

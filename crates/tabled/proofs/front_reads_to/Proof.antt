@@ -11,7 +11,9 @@ use Rattle.tabled.proofs.front_reads_to.Statement.{statement}
 use Rattle.tabled.proofs.front_reads_to.Tie as tie
 
 returns : tie.Need-returns
-returns c = c .reads-to .ensures ∙ ap (λ s. readsTo (outcome s) (take bytesSize (now (c .before .before .before .before .args .bytes))) (take numbersSize (now (c .before .before .before .before .args .numbers)))) (front-part (c .before .before .before .before .args .n) (now (c .before .before .before .before .args .line)))
+returns c =
+    let start : tie.Start = search in
+    c .reads-to .ensures ∙ ap (λ s. readsTo (outcome s) (take bytesSize (now (start .args .bytes))) (take numbersSize (now (start .args .numbers)))) (front-part (start .args .n) (now (start .args .line)))
 
 pub front-reads-to-spec : {M : Type 1} → statement M
 front-reads-to-spec =

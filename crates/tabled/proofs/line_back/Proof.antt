@@ -5,17 +5,21 @@ use Rattle.tabled.proofs.line_back.Statement.{statement}
 use Rattle.tabled.proofs.line_back.Tie as tie
 
 returns : tie.Need-returns
-returns c = no-line _ _ (written-too-long _ _ (c .before .before .before .write-line .ensures) (c .if1 .taken))
+returns c =
+    let after-write-line : tie.After-write-line = search in
+    no-line _ _ (written-too-long _ _ (after-write-line .write-line .ensures) (c .if1 .taken))
 
 returns-2 : tie.Need-returns-2
 returns-2 c =
-    its-line _ _ (c .before .before .before .before .before .before .write-line .ensures) (search needs) (search needs)
-    (read-back _ _ (c .before .before .before .before .before .before .write-line .ensures) (search needs) (c .before .front-reads-to .ensures) (c .if2 .taken))
+    let after-write-line : tie.After-write-line = search in
+    its-line _ _ (after-write-line .write-line .ensures) (search needs) (search needs)
+    (read-back _ _ (after-write-line .write-line .ensures) (search needs) (c .before .front-reads-to .ensures) (c .if2 .taken))
 
 returns-3 : tie.Need-returns-3
 returns-3 c =
+    let after-write-line : tie.After-write-line = search in
     no-line _ _
-    (read-back _ _ (c .before .before .before .before .before .before .write-line .ensures) (search needs) (c .before .front-reads-to .ensures) (c .if2 .left))
+    (read-back _ _ (after-write-line .write-line .ensures) (search needs) (c .before .front-reads-to .ensures) (c .if2 .left))
 
 pub line-back-spec : {M : Type 1} → statement M
 line-back-spec =

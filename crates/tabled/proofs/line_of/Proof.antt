@@ -11,11 +11,13 @@ in-order-requires : tie.Need-in-order-requires
 in-order-requires c κs = let b = yes _ (c .before .in-bounds .ensures) (c .if1 .taken) in (b .bytes-room, b .few-brackets)
 
 line-back-requires : tie.Need-line-back-requires
-line-back-requires c κs = (
-  yes _ (c .before .before .before .before .in-bounds .ensures) (c .before .before .before .if1 .taken),
-  sym (c .before .before .in-order .ensures _) ∙ c .before .if2 .taken,
-  search needs,
-)
+line-back-requires c κs =
+    let then1 : tie.Then1 = search in
+    let after-in-bounds : tie.After-in-bounds = search in (
+      yes _ (after-in-bounds .in-bounds .ensures) (then1 .if1 .taken),
+      sym (c .before .before .in-order .ensures _) ∙ c .before .if2 .taken,
+      search needs,
+    )
 
 returns-2 : tie.Need-returns-2
 returns-2 c = no-line _ _ (order-needed _ _ (sym (c .before .in-order .ensures _) ∙ c .if2 .left))

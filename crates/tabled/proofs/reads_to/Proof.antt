@@ -7,13 +7,15 @@ use Rattle.tabled.proofs.reads_to.Tie as tie
 
 holds-requires : tie.Need-holds-requires
 holds-requires c κs =
-    let m = c .before .before .before .before .before .before .before in
-    let j = m .before .before .before .before .before .before .before .before in
+    let m : tie.After-judged = search in
+    let j : tie.After-judge = search in
     let w = rw (m .judged .given .1) at (j .judge .ensures) in
     ((w .0, w .1), search needs, search needs)
 
 returns : tie.Need-returns
-returns c = let j = c .before .before .before .before .before .before .before .before in sym (read-refused _ (rw (c .enum-told .given .1) at (j .judge .ensures)) _ _)
+returns c =
+    let j : tie.After-judge = search in
+    sym (read-refused _ (rw (c .enum-told .given .1) at (j .judge .ensures)) _ _)
 
 pub reads-to-spec : {M : Type 1} → statement M
 reads-to-spec =

@@ -69,8 +69,7 @@ module _ (t : ℕ) where
 
   with-last-requires : lts.Need-with-last-requires (claims t) (Pre t) crowd-end.Post Inv ν
   with-last-requires c κs =
-      let o = c .before in
-      let l = o .before .before .before .before in
+      let l : lts.In-loop (claims t) (Pre t) crowd-end.Post Inv ν = search in
       let w = l .before .loop .inv in
       (w .paused .inside .shut, kept-fits _ _ (w .kept) (c .if4 .taken))
 
@@ -79,14 +78,15 @@ module _ (t : ℕ) where
       let d = c .before in
       let f = d .before .before in
       let o = f .before in
-      let l = o .before .before .before .before in
+      let l : lts.In-loop (claims t) (Pre t) crowd-end.Post Inv ν = search in
       crowd-open _ _ _ _ _ _ _ (l .before .loop .inv) (l .loop-test .taken) (sym (o .before .is-opening .ensures) ∙ o .if3 .taken) _
       (d .closer-of .ensures .0) (f .if4 .taken) (d .closer-of .ensures .1) _ (d .before .with-last .ensures) _ (c .inner-end3 .ensures)
 
   crowd-end-requires : lts.Need-crowd-end-requires (claims t) (Pre t) crowd-end.Post Inv ν
   crowd-end-requires c κs =
-      let l = c .before .before .before .before .before .before in
-      (omega (arith, l .before .loop .inv .paused .inside .later, l .before .before .before .before .pre .0), c .closer-of2 .ensures .1)
+      let l : lts.In-loop (claims t) (Pre t) crowd-end.Post Inv ν = search in
+      let start : lts.Start (claims t) (Pre t) crowd-end.Post Inv ν = search in
+      (omega (arith, l .before .loop .inv .paused .inside .later, start .pre .0), c .closer-of2 .ensures .1)
 
   loop-less-3 : lts.Need-loop-less-3 (claims t) (Pre t) crowd-end.Post Inv ν
   loop-less-3 c =
@@ -101,7 +101,7 @@ module _ (t : ℕ) where
       let p = e .before .before in
       let d = p .before in
       let o = d .before .before in
-      let l = o .before .before .before .before in
+      let l : lts.In-loop (claims t) (Pre t) crowd-end.Post Inv ν = search in
       crowd-behind _ _ _ _ _ _ _ (l .before .loop .inv) (l .loop-test .taken) (sym (o .before .is-opening .ensures) ∙ o .if3 .taken) _
       (d .closer-of2 .ensures .0) _ _ (rw (e .e .given .1) at (p .crowd-end .ensures)) _ (c .inner-end4 .ensures)
 
@@ -111,7 +111,7 @@ module _ (t : ℕ) where
       let p = e .before .before in
       let d = p .before in
       let o = d .before .before in
-      let l = o .before .before .before .before in
+      let l : lts.In-loop (claims t) (Pre t) crowd-end.Post Inv ν = search in
       crowd-lost _ _ _ _ _ _ _ (l .before .loop .inv) (l .loop-test .taken) (sym (o .before .is-opening .ensures) ∙ o .if3 .taken) _
       (d .closer-of2 .ensures .0) _ (rw (e .e2 .given .1) at (p .crowd-end .ensures))
 

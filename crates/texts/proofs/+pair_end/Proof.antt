@@ -52,36 +52,43 @@ abbrev ν : lts.MeasureT-loop
 
 module _ (t : ℕ) where
   returns : lts.Need-returns (claims t) (Pre t) pair-end.Post Inv ν
-  returns c = closed-deep _ _ _ _ (c .before .if1 .taken) (c .before .before .before .pre .1 .1) _ (c .crowd-end .ensures)
+  returns c =
+      let start : lts.Start (claims t) (Pre t) pair-end.Post Inv ν = search in
+      closed-deep _ _ _ _ (c .before .if1 .taken) (start .pre .1 .1) _ (c .crowd-end .ensures)
 
   loop-holds : lts.Need-loop-holds (claims t) (Pre t) pair-end.Post Inv ν
-  loop-holds c = pauses (Level _) _ _ _ _ _ _ _ _ (inside-starts (Level _) _ _ _ (c .before .before .before .pre .1 .0)) (c .inner-end .ensures)
+  loop-holds c =
+      let start : lts.Start (claims t) (Pre t) pair-end.Post Inv ν = search in
+      pauses (Level _) _ _ _ _ _ _ _ _ (inside-starts (Level _) _ _ _ (start .pre .1 .0)) (c .inner-end .ensures)
 
   returns-2 : lts.Need-returns-2 (claims t) (Pre t) pair-end.Post Inv ν
   returns-2 c =
       let l = c .before .before in
-      pair-last _ _ _ _ (l .before .before .before .if1 .left) _ _ (l .before .loop .inv) (l .loop-test .taken) (c .if2 .taken)
+      let else1 : lts.Else1 (claims t) (Pre t) pair-end.Post Inv ν = search in
+      pair-last _ _ _ _ (else1 .if1 .left) _ _ (l .before .loop .inv) (l .loop-test .taken) (c .if2 .taken)
 
   pair-end-requires : lts.Need-pair-end-requires (claims t) (Pre t) pair-end.Post Inv ν
   pair-end-requires c κs =
-      let l = c .before .before .before .before .before in
-      (omega (arith, l .before .loop .inv .inside .later, l .before .before .before .before .before .pre .0), (c .closer-of .ensures .1, search needs))
+      let l : lts.In-loop (claims t) (Pre t) pair-end.Post Inv ν = search in
+      let start : lts.Start (claims t) (Pre t) pair-end.Post Inv ν = search in
+      (omega (arith, l .before .loop .inv .inside .later, start .pre .0), (c .closer-of .ensures .1, search needs))
 
   loop-less : lts.Need-loop-less (claims t) (Pre t) pair-end.Post Inv ν
   loop-less c =
-      let e = c .before .before .before in
+      let e : lts.After-e (claims t) (Pre t) pair-end.Post Inv ν = search in
       let p = e .before .before in
       let q = rw (e .e .given .1) at (p .pair-end .ensures) in
       omega (arith, q .past, c .inner-end2 .ensures)
 
   loop-again : lts.Need-loop-again (claims t) (Pre t) pair-end.Post Inv ν
   loop-again c =
-      let e = c .before .before .before in
+      let e : lts.After-e (claims t) (Pre t) pair-end.Post Inv ν = search in
       let p = e .before .before in
       let d = p .before in
       let o = d .before in
-      let l = o .before .before .before .before in
-      pair-behind _ _ _ _ (l .before .before .before .if1 .left) _ _ (l .before .loop .inv) (l .loop-test .taken)
+      let l : lts.In-loop (claims t) (Pre t) pair-end.Post Inv ν = search in
+      let else1 : lts.Else1 (claims t) (Pre t) pair-end.Post Inv ν = search in
+      pair-behind _ _ _ _ (else1 .if1 .left) _ _ (l .before .loop .inv) (l .loop-test .taken)
       (sym (o .before .is-opening .ensures) ∙ o .if3 .taken) _ (d .closer-of .ensures .0) _ _ (rw (e .e .given .1) at (p .pair-end .ensures))
       _ (c .before .first-of .ensures) _ (c .inner-end2 .ensures)
 
@@ -91,19 +98,23 @@ module _ (t : ℕ) where
       let p = e .before .before in
       let d = p .before in
       let o = d .before in
-      let l = o .before .before .before .before in
-      pair-lost _ _ _ _ (l .before .before .before .if1 .left) _ _ (l .before .loop .inv) (l .loop-test .taken)
+      let l : lts.In-loop (claims t) (Pre t) pair-end.Post Inv ν = search in
+      let else1 : lts.Else1 (claims t) (Pre t) pair-end.Post Inv ν = search in
+      pair-lost _ _ _ _ (else1 .if1 .left) _ _ (l .before .loop .inv) (l .loop-test .taken)
       (sym (o .before .is-opening .ensures) ∙ o .if3 .taken) _ (d .closer-of .ensures .0) _ (rw (e .e2 .given .1) at (p .pair-end .ensures))
 
   returns-4 : lts.Need-returns-4 (claims t) (Pre t) pair-end.Post Inv ν
   returns-4 c =
       let d = c .before .before in
       let l = d .before .before in
-      pair-stuck _ _ _ _ (l .before .before .before .if1 .left) _ _ (l .before .loop .inv) (l .loop-test .taken)
+      let else1 : lts.Else1 (claims t) (Pre t) pair-end.Post Inv ν = search in
+      pair-stuck _ _ _ _ (else1 .if1 .left) _ _ (l .before .loop .inv) (l .loop-test .taken)
       (sym (c .before .is-opening .ensures) ∙ c .if3 .left) (d .if2 .left)
 
   returns-5 : lts.Need-returns-5 (claims t) (Pre t) pair-end.Post Inv ν
-  returns-5 c = pair-over _ _ _ _ (c .before .before .before .if1 .left) _ _ (c .before .loop .inv) (c .loop-test .left)
+  returns-5 c =
+      let else1 : lts.Else1 (claims t) (Pre t) pair-end.Post Inv ν = search in
+      pair-over _ _ _ _ (else1 .if1 .left) _ _ (c .before .loop .inv) (c .loop-test .left)
 
 pub +pair-end-spec : {M : Type 1} → statement M
 +pair-end-spec =

@@ -16,16 +16,16 @@ abbrev μ-loop : tie.MeasureT-loop
 
 loop-less : tie.Need-loop-less Inv-loop μ-loop
 loop-less c =
-    let e = c .before .before .before in
+    let e : tie.After-e Inv-loop μ-loop = search in
     let q = rw (e .e .given .1) at (e .before .before .pair-end .ensures) in
     omega (arith, q .past, c .outer-end2 .ensures)
 
 loop-again : tie.Need-loop-again Inv-loop μ-loop
 loop-again c =
-    let e = c .before .before .before in
+    let e : tie.After-e Inv-loop μ-loop = search in
     let p = e .before .before in
     let o = p .before .before in
-    let l = o .before .before .before in
+    let l : tie.In-loop Inv-loop μ-loop = search in
     text-behind _ _ _ _ _ (l .before .loop .inv) (l .loop-test .taken) (sym (o .before .is-opening .ensures) ∙ o .if1 .taken) _
     (p .before .closer-of .ensures .0) _ _ (rw (e .e .given .1) at (p .pair-end .ensures)) _ (c .before .first-of .ensures) _ (c .outer-end2 .ensures)
 
@@ -34,13 +34,13 @@ returns c =
     let e = c .before in
     let p = e .before .before in
     let o = p .before .before in
-    let l = o .before .before .before in
+    let l : tie.In-loop Inv-loop μ-loop = search in
     text-lost _ _ _ _ _ (l .before .loop .inv) (l .loop-test .taken) (sym (o .before .is-opening .ensures) ∙ o .if1 .taken) _
     (p .before .closer-of .ensures .0) _ (rw (e .e2 .given .1) at (p .pair-end .ensures))
 
 returns-2 : tie.Need-returns-2 Inv-loop μ-loop
 returns-2 c =
-    let l = c .before .before .before in
+    let l : tie.In-loop Inv-loop μ-loop = search in
     text-ends _ _ _ _ _ (l .before .loop .inv) (l .loop-test .taken) (sym (c .before .is-opening .ensures) ∙ c .if1 .left)
 
 returns-3 : tie.Need-returns-3 Inv-loop μ-loop

@@ -14,17 +14,19 @@ use Rattle.values.proofs.behind_key.Tie as tie
 
 mass-at-requires : tie.Need-mass-at-requires
 mass-at-requires c κs =
-    let s = c .before .before .before .before in
+    let s : tie.Start = search in
     key-signed (s .args .line .now) (s .args .from) (c .before .before .form-of .result) _ (c .before .mass-behind .ensures) (c .if1 .taken)
 
 returns : tie.Need-returns
-returns c = λ at w. key-mass _ at _ _ _ (c .before .before .before .form-of .ensures) (sym (c .before .before .mass-behind .ensures) ∙ c .before .if1 .taken) _ (c .mass-at .ensures at (omega arith))
+returns c =
+    let after-form-of : tie.After-form-of = search in
+    λ at w. key-mass _ at _ _ _ (after-form-of .form-of .ensures) (sym (c .before .before .mass-behind .ensures) ∙ c .before .if1 .taken) _ (c .mass-at .ensures at (omega arith))
 
 returns-2 : tie.Need-returns-2
 returns-2 c = λ at w.
-    let h = c .before .before .before in
+    let h : tie.Else1 = search in
     let m = h .before in
-    let s = m .before .before .before in
+    let s : tie.Start = search in
     let f = form-is (s .args .key) _ MassOrName (m .before .form-of .ensures) (c .before .enum-told .given .1) in
     key-name (s .args .line .now) at (s .args .key) (s .args .from) f
     (key-unsigned (s .args .line .now) (s .args .from) _ _ _ (c .before .enum-told .given .1) refl (m .mass-behind .ensures) (h .if1 .left)) _
@@ -34,13 +36,13 @@ returns-3 : tie.Need-returns-3
 returns-3 c = λ at w.
     let h = c .before .before in
     let m = h .before in
-    let s = m .before .before .before in
+    let s : tie.Start = search in
     key-nothing (s .args .line .now) at (s .args .key) (s .args .from) (form-is (s .args .key) _ MassOnly (m .before .form-of .ensures) (c .enum-told2 .given .1))
     (key-unsigned (s .args .line .now) (s .args .from) _ _ _ (c .enum-told2 .given .1) refl (m .mass-behind .ensures) (h .if1 .left)) (s .pre)
 
 returns-4 : tie.Need-returns-4
 returns-4 c = λ at w.
-    let m = c .before .before .before .before .before .before in
+    let m : tie.After-form-of = search in
     let s = m .before .before in
     let f = form-is (s .args .key) _ Digits (m .form-of .ensures) (c .before .before .enum-told3 .given .1) in
     let e = c .before .digit-end .ensures in
@@ -49,7 +51,7 @@ returns-4 c = λ at w.
 
 returns-5 : tie.Need-returns-5
 returns-5 c = λ at w.
-    let m = c .before .before .before .before .before .before in
+    let m : tie.After-form-of = search in
     let s = m .before .before in
     let f = form-is (s .args .key) _ Alnums (m .form-of .ensures) (c .before .before .enum-told4 .given .1) in
     let e = c .before .alnum-end .ensures in
@@ -58,7 +60,7 @@ returns-5 c = λ at w.
 
 returns-6 : tie.Need-returns-6
 returns-6 c = λ at w.
-    let m = c .before .before .before .before .before in
+    let m : tie.After-form-of = search in
     let s = m .before .before in
     let f = form-is (s .args .key) _ Free (m .form-of .ensures) (c .before .enum-told5 .given .1) in
     key-free (s .args .line .now) at (s .args .key) (s .args .from) f _ (c .text-from2 .ensures at (ap hashIsPlain f) w (omega arith))

@@ -16,11 +16,11 @@ returns c = λ e k. over _ _ _ (λ x. innerStep _ (inText x _ NoKey _ _)) (c .if
 
 returns-2 : tie.Need-returns-2
 returns-2 c = λ e k.
-    let s = c .before .before .before .before .before in
+    let s : tie.Start = search in
     name-shut _ _ _ _ (c .before .if2 .taken) _ (c .text-of .ensures (s .args .line .now) (s .args .at) (no-key-behind (s .args .at)) (s .pre) k (none-deep isPlain plain-quiet _ _ _ (run-upto isPlain _ _ _ e)))
 
 returns-3 : tie.Need-returns-3
-returns-3 c = λ e k. let s = c .before .before .before .before .before in c .text-from .ensures (s .args .at) refl (no-key-behind (s .args .at)) (run-upto isPlain _ _ _ e)
+returns-3 c = λ e k. let s : tie.Start = search in c .text-from .ensures (s .args .at) refl (no-key-behind (s .args .at)) (run-upto isPlain _ _ _ e)
 
 pub name-at-spec : {M : Type 1} → statement M
 name-at-spec = tie.close (tie.spec returns (λ c. search needs) (λ c κs. search needs) returns-2 (λ c κs. search needs) returns-3)

@@ -21,9 +21,11 @@ returns c = λ at p w b.
     (c .text-of .ensures _ at w (omega (arith, i .0, s .pre .0)) (i .1) (e .1 ∙ deep-behind isPlain plain-quiet _ _ _ _ (s .pre .0) (i .0) b))
 
 returns-2 : tie.Need-returns-2
-returns-2 c = λ at p w b.
-    let s = c .before .before .before .before .before in
-    text-stuck _ at _ _ _ _ p (s .pre .0) (s .pre .1) _ (told-stuck _ _ _ _ (sym (c .before .e2 .given .1) ∙ c .before .before .before .text-end .ensures))
+returns-2 c =
+    let after-text-end : tie.After-text-end = search in
+    λ at p w b.
+    let s : tie.Start = search in
+    text-stuck _ at _ _ _ _ p (s .pre .0) (s .pre .1) _ (told-stuck _ _ _ _ (sym (c .before .e2 .given .1) ∙ after-text-end .text-end .ensures))
 
 pub text-from-spec : {M : Type 1} → statement M
 text-from-spec =

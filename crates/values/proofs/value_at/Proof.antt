@@ -17,10 +17,14 @@ returns-2 c = λ k.
     (sign-begins _ _ _ _ (m .before .before .if1 .left) (λ x. innerStep _ (begin x)) (λ x. sign-first x _ _ (sym (m .is-sign .ensures) ∙ c .before .if2 .taken)) _ (c .mass-at .ensures _ (search needs)))
 
 returns-3 : tie.Need-returns-3
-returns-3 c = λ k. c .reference-at .ensures _ (c .before .before .before .before .before .if1 .left) (c .before .if3 .taken)
+returns-3 c =
+    let else1 : tie.Else1 = search in
+    λ k. c .reference-at .ensures _ (else1 .if1 .left) (c .before .if3 .taken)
 
 returns-4 : tie.Need-returns-4
-returns-4 c = λ k. begins _ _ _ _ (c .word-at .ensures (sym (c .before .before .before .is-sign .ensures) ∙ c .before .before .if2 .left) (c .before .if3 .left))
+returns-4 c =
+    let after-is-sign : tie.After-is-sign = search in
+    λ k. begins _ _ _ _ (c .word-at .ensures (sym (after-is-sign .is-sign .ensures) ∙ c .before .before .if2 .left) (c .before .if3 .left))
 
 pub value-at-spec : {M : Type 1} → statement M
 value-at-spec = tie.close (tie.spec returns (λ c. search needs) (λ c κs. search needs) (λ c κs. search needs) returns-2 (λ c κs. search needs) returns-3 (λ c κs. search needs) returns-4)

@@ -19,15 +19,15 @@ behind-key-requires c κs =
 
 returns : tie.Need-returns
 returns c = λ u n.
-    let k = c .before .before .before in
-    let s = k .before .before .before in
+    let k : tie.After-key-before = search in
+    let s : tie.Start = search in
     let e = k .before .plain-end .ensures in
     word-name _ _ (s .pre) u n _ e (sym (k .key-before .ensures) ∙ c .before .enum-told .given .1) _ (c .name-at .ensures e (run-inside isPlain _ _ _ e (omega arith)))
 
 returns-2 : tie.Need-returns-2
 returns-2 c = λ u n.
     let k = c .before .before in
-    let s = k .before .before .before in
+    let s : tie.Start = search in
     word-key _ _ (s .pre) u n _ (k .before .plain-end .ensures) _ (k .key-before .ensures) (other-key (k .key-before .result) (c .before .match .keys2)) _ (λ w m. c .behind-key .ensures _ w)
 
 pub word-at-spec : {M : Type 1} → statement M

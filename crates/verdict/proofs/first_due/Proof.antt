@@ -4,15 +4,20 @@ use Rattle.verdict.proofs.first_due.Statement.{statement}
 use Rattle.verdict.proofs.first_due.Tie as tie
 
 returns : tie.Need-returns
-returns c = met-is-first (c .before .before .before .before .pre) (c .if1 .taken)
+returns c =
+    let start : tie.Start = search in
+    met-is-first (start .pre) (c .if1 .taken)
 
 rules-due-requires : tie.Need-rules-due-requires
-rules-due-requires c κs = (_, all-noted (c .before .before .before .before .pre) (c .if1 .left))
+rules-due-requires c κs =
+    let start : tie.Start = search in
+    (_, all-noted (start .pre) (c .if1 .left))
 
 returns-2 : tie.Need-returns-2
 returns-2 c =
     let e = c .before in
-    ruled-is-first (e .before .before .before .before .pre) (e .if1 .left) (c .rules-due .ensures)
+    let start : tie.Start = search in
+    ruled-is-first (start .pre) (e .if1 .left) (c .rules-due .ensures)
 
 pub first-due-spec : {M : Type 1} → statement M
 first-due-spec = tie.close (tie.spec returns rules-due-requires returns-2)

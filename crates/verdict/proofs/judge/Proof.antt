@@ -7,31 +7,38 @@ use Rattle.verdict.proofs.judge.Tie as tie
 
 first-due-requires : tie.Need-first-due-requires
 first-due-requires c κs =
-    let k = c .before .before .before in
+    let w : tie.After-walk = search in
+    let e : tie.Else2 = search in
+    let start : tie.Start = search in
+    let k : tie.After-walked2 = search in
     let s = k .before .before in
-    let l = s .before .before .before .before .before .before .before .before .before in
-    let w = l .before in
-    let e = w .before .before .before .before .before .before .before in
-    let roomy = still-roomy (e .before .before .before .before .before .before .before .pre) (l .letters .given) (s .before .before .before .before .before .before .before .sections .given) (s .before .before .before .before .before .heads .given) (s .before .before .before .parts .given) (s .before .masses .given) (s .scores .given) in
+    let after-parts : tie.After-parts = search in
+    let after-heads : tie.After-heads = search in
+    let after-sections : tie.After-sections = search in
+    let l : tie.After-letters = search in
+    let roomy = still-roomy (start .pre) (l .letters .given) (after-sections .sections .given) (after-heads .heads .given) (after-parts .parts .given) (s .before .masses .given) (s .scores .given) in
     walked-line _ (e .before .if1 .left) (e .if2 .left) _ _ _ _ _ _ (rw (k .walked2 .given .1) at (w .walk .ensures)) roomy
 
 returns-3 : tie.Need-returns-3
 returns-3 c =
     let k = c .before .before in
-    let w = k .before .before .before .before .before .before .before .before .before .before .before .before in
-    let e = w .before .before .before .before .before .before .before in
+    let w : tie.After-walk = search in
+    let e : tie.Else2 = search in
     stuck-says _ (e .before .if1 .left) (e .if2 .left) _ _ _ _ _ _ _ _ (rw (k .walked .given .1) at (w .walk .ensures)) (c .not-read .ensures)
 
 returns-4 : tie.Need-returns-4
 returns-4 c =
-    let d = c .before in
-    let k = d .before .before .before .before in
+    let w : tie.After-walk = (let parts : tie.After-parts = search in search) in
+    let e : tie.Else2 = search in
+    let start : tie.Start = search in
+    let k : tie.After-walked2 = search in
     let s = k .before .before in
-    let l = s .before .before .before .before .before .before .before .before .before in
-    let w = l .before in
-    let e = w .before .before .before .before .before .before .before in
-    let roomy = still-roomy (e .before .before .before .before .before .before .before .pre) (l .letters .given) (s .before .before .before .before .before .before .before .sections .given) (s .before .before .before .before .before .heads .given) (s .before .before .before .parts .given) (s .before .masses .given) (s .scores .given) in
-    line-says _ (e .before .if1 .left) (e .if2 .left) _ _ _ _ _ _ (rw (k .walked2 .given .1) at (w .walk .ensures)) roomy _ _ _ (d .first-due .ensures) (c .by-code .ensures)
+    let after-parts : tie.After-parts = search in
+    let after-heads : tie.After-heads = search in
+    let after-sections : tie.After-sections = search in
+    let l : tie.After-letters = search in
+    let roomy = still-roomy (start .pre) (l .letters .given) (after-sections .sections .given) (after-heads .heads .given) (after-parts .parts .given) (s .before .masses .given) (s .scores .given) in
+    line-says _ (e .before .if1 .left) (e .if2 .left) _ _ _ _ _ _ (rw (k .walked2 .given .1) at (w .walk .ensures)) roomy _ _ _ (c .before .first-due .ensures) (c .by-code .ensures)
 
 pub judge-spec : {M : Type 1} → statement M
 judge-spec =

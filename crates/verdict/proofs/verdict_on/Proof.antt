@@ -7,10 +7,13 @@ use Rattle.verdict.proofs.verdict_on.Tie as tie
 returns : tie.Need-returns
 returns c =
     let k = c .before in
-    verdict-refused _ (rw (k .judged .given .1) at (k .before .before .before .before .before .before .before .before .judge .ensures))
+    let after-judge : tie.After-judge = search in
+    verdict-refused _ (rw (k .judged .given .1) at (after-judge .judge .ensures))
 
 returns-2 : tie.Need-returns-2
-returns-2 c = verdict-accepted _ (rw (c .enum-told .given .1) at (c .before .before .before .before .before .before .before .before .judge .ensures) .1)
+returns-2 c =
+    let after-judge : tie.After-judge = search in
+    verdict-accepted _ (rw (c .enum-told .given .1) at (after-judge .judge .ensures) .1)
 
 pub verdict-on-spec : {M : Type 1} → statement M
 verdict-on-spec =

@@ -13,9 +13,9 @@ returns : tie.Need-returns
 returns c =
     let r = c .before .before in
     let m = r .before .before in
-    let s = m .before .before .before .before in
-    let h = s .before .before .before in
-    let a = h .before .before .before in
+    let s : tie.After-store-head = search in
+    let h : tie.After-head-of = search in
+    let a : tie.Start = search in
     record {
       stage = stage-behind (a .args .s) (a .args .slot) (a .args .next) (a .args .p) _ _ _ (m .mode-behind .ensures) (r .run-behind .ensures) (c .parts-behind .ensures);
       head = h .head-of .result;

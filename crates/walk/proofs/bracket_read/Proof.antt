@@ -7,30 +7,35 @@ use Rattle.walk.proofs.bracket_read.Statement.{statement}
 use Rattle.walk.proofs.bracket_read.Tie as tie
 
 bracket-at-requires : tie.Need-bracket-at-requires
-bracket-at-requires c κs = bracket-fits (c .before .before .before .before .before .before .before .before .before .pre) _
+bracket-at-requires c κs =
+    let start : tie.Start = search in
+    bracket-fits (start .pre) _
 
 bracket-noted-requires : tie.Need-bracket-noted-requires
 bracket-noted-requires c κs =
-    let f = c .before .before .before in
-    let b = f .before .before .before .before .before in
-    let a = b .before .before .before .before .before .before .before .before .before .before .pre in
+    let f : tie.After-found2 = search in
+    let b : tie.After-bracket-at = search in
+    let start : tie.Start = search in
+    let a = start .pre in
     let w = then-closes _ _ (b .bracket-at .result) _ _ (b .bracket-at .ensures) (f .found2 .given .1) in
     (a .low, omega (arith, w .few, w .within, a .short), w .few-labels, a .heads-room, a .scores-room)
 
 returns : tie.Need-returns
 returns c =
-    let b = c .before .before .before .before .before .before in
-    let a = b .before .before .before .before .before .before .before .before .before .before .args in
+    let b : tie.After-bracket-at = search in
+    let start : tie.Start = search in
+    let a = start .args in
     λ h. then-stuck _ _ (b .bracket-at .result) _ _ (b .bracket-at .ensures) (c .before .found .given .1) (a .slot) (a .s .at) h (record { shut = refl; refers = refl; labels = refl })
 
 returns-2 : tie.Need-returns-2
 returns-2 c =
-    let n = c .before .before .before in
-    let f = n .before .before .before .before in
-    let b = f .before .before .before .before .before in
+    let n : tie.After-bracket-noted = search in
+    let f : tie.After-found2 = search in
+    let b : tie.After-bracket-at = search in
+    let after-due-if : tie.After-due-if = search in
     record {
       least = _;
-      least-is = b .before .before .before .before .before .due-if .ensures;
+      least-is = after-due-if .due-if .ensures;
       next = _;
       found = _;
       closes = then-closes _ _ (b .bracket-at .result) _ _ (b .bracket-at .ensures) (f .found2 .given .1);

@@ -6,7 +6,7 @@ use Rattle.walk.proofs.count_read.Tie as tie
 returns : tie.Need-returns
 returns c =
     let w = c .before in
-    let p = w .before .before .before in
+    let p : tie.After-store-count = search in
     let n = p .before .before in
     record {
       value = n .count-at .result .value;

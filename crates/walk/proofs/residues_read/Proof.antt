@@ -11,7 +11,7 @@ use Rattle.walk.proofs.residues_read.Tie as tie
 store-run-requires : tie.Need-store-run-requires
 store-run-requires c κs =
     let e = c .before .before in
-    let s = e .before .before .before .before in
+    let s : tie.Start = search in
     let w = run-within (s .args .line .now) (s .args .s .at) (s .pre .1) in
     (omega (arith, w, e .letter-end .ensures), s .pre .2, s .pre .0 .residues, omega (arith, e .letter-end .ensures), s .pre .3, s .pre .4)
 
@@ -19,9 +19,9 @@ returns : tie.Need-returns
 returns c =
     let d = c .before in
     let o = d .before in
-    let r = o .before .before .before .before .before in
-    let e = r .before .before .before in
-    let s = e .before .before .before .before in
+    let r : tie.After-store-run = search in
+    let e : tie.After-letter-end = search in
+    let s : tie.Start = search in
     let line = s .args .line .now in
     let k = run-count line (s .args .s) (s .args .section) (s .args .mode) _ (e .letter-end .ensures) in
     record {

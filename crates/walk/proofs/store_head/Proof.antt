@@ -12,7 +12,7 @@ use Rattle.walk.proofs.store_head.Tie as tie
 
 returns : tie.Need-returns
 returns c =
-    let t = c .before .before .before .before in
+    let t : tie.Then1 = search in
     let s = t .before .before in (
       c .before .before .put-head .ensures ∙ took _ _ _ (lt-ltb _ _ (t .if1 .taken)),
       ap (set (s .args .scores .now) (s .args .k)) (back (s .args .points) (s .good .1 .1 .1 .1 .0) refl) ∙ took (ltb (s .args .k) bracketLimit) (set (s .args .scores .now) (s .args .k) (s .args .points)) (s .args .scores .now) (lt-ltb _ _ (t .if1 .taken)),

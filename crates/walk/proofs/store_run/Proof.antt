@@ -9,12 +9,12 @@ use Rattle.walk.proofs.store_run.Tie as tie
 
 returns : tie.Need-returns
 returns c =
-    let q = c .before .before .before in
+    let q : tie.After-section-code2 = search in
     let o = q .before in
     let b = o .before .before in
-    let l = b .before .before .before in
+    let l : tie.After-store-letters = search in
     let t = l .before .before in
-    let s = t .before .before .before .before in (
+    let s : tie.Start = search in (
       l .store-letters .ensures ∙ took _ _ _ (le-leb _ _ (t .if1 .taken)),
       c .before .before .store-sections .ensures
           ∙ sections-of (s .args .sections .now) (s .args .section) _ (s .args .n) (s .args .m) _ _ (o .section-code .ensures) (b .section-behind .ensures) (q .section-code2 .ensures)

@@ -6,7 +6,7 @@ use Rattle.walk.proofs.term_ended.Tie as tie
 
 returns : tie.Need-returns
 returns c =
-    let e = c .before .before .before in
+    let e : tie.After-settle = search in
     let n = e .before in
     (c .settled-in .ensures, settled-upto (n .noted-of .ensures) (e .settle .ensures))
 

@@ -18,27 +18,36 @@ abbrev μ-loop : tie.MeasureT-loop
 
 -- from behind the step's tables back to the step, and to the head of the loop
 abbrev stepped : tie.After-scores Inv-loop μ-loop → tie.After-step-from Inv-loop μ-loop
-stepped k = k .before .before .before .before .before .before .before .before .before .before
+stepped k = search
 
 abbrev begun : tie.After-step-from Inv-loop μ-loop → tie.At-loop Inv-loop μ-loop
-begun f = f .before .before .before .before .before .before .before .before .before
+begun f = search
+
+loop-holds : tie.Need-loop-holds Inv-loop μ-loop
+loop-holds c =
+    let start : tie.Start Inv-loop μ-loop = search in
+    walking-start _ _ _ (c .first-stage .ensures) (start .pre .1)
 
 step-from-requires : tie.Need-step-from-requires Inv-loop μ-loop
 step-from-requires c κs =
-    let l = c .before .before .before .before .before .before .before .before in
-    (l .before .before .before .before .before .before .before .pre .0, c .before .before .before .before .before .before .if1 .taken, l .loop .inv .upto)
+    let then1 : tie.Then1 Inv-loop μ-loop = search in
+    let l : tie.At-loop Inv-loop μ-loop = search in
+    let start : tie.Start Inv-loop μ-loop = search in
+    (start .pre .0, then1 .if1 .taken, l .loop .inv .upto)
 
 loop-less : tie.Need-loop-less Inv-loop μ-loop
 loop-less c =
-    let f = stepped (c .before .before .before) in
+    let f : tie.After-step-from Inv-loop μ-loop = search in
+    let test : tie.Then1 Inv-loop μ-loop = search in
     let m = step-more _ _ _ (f .step-from .ensures) (c .before .next2 .given .1) in
-    omega (arith, m .1, f .before .before .before .before .before .before .before .if1 .taken)
+    omega (arith, m .1, test .if1 .taken)
 
 loop-again : tie.Need-loop-again Inv-loop μ-loop
 loop-again c =
-    let f = stepped (c .before .before .before) in
+    let f : tie.After-step-from Inv-loop μ-loop = search in
+    let l : tie.At-loop Inv-loop μ-loop = search in
     let m = step-more _ _ _ (f .step-from .ensures) (c .before .next2 .given .1) in
-    walking-next (begun f .loop .inv) (m .0)
+    walking-next (l .loop .inv) (m .0)
     (record {
       letters = f .step-from .kept .1 .0;
       sections = f .step-from .kept .1 .1 .0;
@@ -52,9 +61,8 @@ pub walk-spec : {M : Type 1} → statement M
 walk-spec =
     tie.close
     (tie.spec
-    Inv-loop μ-loop (λ c κs. search needs)
-    (λ c. walking-start _ _ _ (c .first-stage .ensures) (c .before .before .before .before .before .before .pre .1)) step-from-requires
-    (λ c. search needs) (λ c. let f = stepped (c .before .before .before) in f .step-from .kept .1 .0 ∙ begun f .loop .inv .kept .letters)
+    Inv-loop μ-loop (λ c κs. search needs) loop-holds step-from-requires (λ c. search needs)
+    (λ c. let f = stepped (c .before .before .before) in f .step-from .kept .1 .0 ∙ begun f .loop .inv .kept .letters)
     (λ c. let f = stepped (c .before .before .before) in f .step-from .kept .1 .1 .0 ∙ begun f .loop .inv .kept .sections)
     (λ c. let f = stepped (c .before .before .before) in f .step-from .kept .1 .1 .1 .0 ∙ begun f .loop .inv .kept .heads)
     (λ c. let f = stepped (c .before .before .before) in f .step-from .kept .1 .1 .1 .1 .0 ∙ begun f .loop .inv .kept .parts)

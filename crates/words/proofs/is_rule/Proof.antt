@@ -11,7 +11,7 @@ returns c = let s = c .before .before in rule-empty (s .args .line .now) (s .pre
 
 returns-2 : tie.Need-returns-2
 returns-2 c =
-    let e = c .before .before .before in
+    let e : tie.Else1 = search in
     let s = e .before .before in
     rule-elsewhere (s .args .line .now) (s .pre .0) (s .pre .1) (e .if1 .left) (c .before .upper .ensures) (c .if2 .taken)
 

@@ -9,7 +9,8 @@ returns c =
     let l = c .before .before in
     let b = l .before .before in
     let q = b .before in
-    let bytes = q .before .before .before .args .bytes .now in
+    let start : tie.Start = search in
+    let bytes = start .args .bytes .now in
     let below = b .residues-before .ensures in
     let letters = l .put-letters .ensures in
     (letters .0, λ ns d. letters .1 ns _ _ (below .0) (behind-clear bytes (q .next-rank .ensures ns d) (below .1)))

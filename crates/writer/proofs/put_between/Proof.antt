@@ -9,8 +9,8 @@ returns : tie.Need-returns
 unfolding bracketIn
 returns c =
     let p = c .before .before in
-    let v = p .before .before .before .before in
-    let q = v .before .before .before .before in
+    let v : tie.After-put-parts = search in
+    let q : tie.After-put = search in
     puts-join (q .put .ensures) (puts-join (v .put-parts .ensures) (p .put2 .ensures))
 
 pub put-between-spec : {M : Type 1} → statement M

@@ -9,10 +9,11 @@ use Rattle.writer.proofs.put_bracket.Tie as tie
 returns : tie.Need-returns
 returns c =
     let counted = c .before .before in
-    let b = counted .before .before .before .before in
+    let b : tie.After-put-between = search in
     let n = b .before .before in
     let told = n .before in
-    let a = told .before .before .before .before .args in
+    let start : tie.Start = search in
+    let a = start .args in
     puts-of (as-counted (a .bytes .now) (a .numbers .now) (a .k) (told .enum-told .given .1) (n .count .ensures .0))
     (puts-join (b .put-between .ensures) (counted .put-count .ensures))
 

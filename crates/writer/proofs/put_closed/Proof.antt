@@ -8,23 +8,26 @@ use Rattle.writer.proofs.put_closed.Tie as tie
 
 put-run-requires : tie.Need-put-run-requires
 put-run-requires c κs =
-    let s = c .before .before .before in
+    let s : tie.Start = search in
     (s .pre .0, s .pre .1, s .pre .2, room-less (omega arith) (s .pre .3))
 
 returns : tie.Need-returns
-returns c = walks-open _ (c .before .before .before .put-run .ensures) (c .if1 .taken)
+returns c =
+    let after-put-run : tie.After-put-run = search in
+    walks-open _ (after-put-run .put-run .ensures) (c .if1 .taken)
 
 put-requires : tie.Need-put-requires
 put-requires c κs =
-    let r = c .before .before .before .before in
-    let s = r .before .before .before .before in
+    let r : tie.After-put-run = search in
+    let s : tie.Start = search in
     omega (arith, room-after {n = 1} (omega arith) (r .put-run .ensures) (s .pre .3) .fits)
 
 returns-2 : tie.Need-returns-2
 returns-2 c =
     let p = c .before .before in
     let i = p .before .before in
-    walks-closed _ (i .before .before .before .put-run .ensures) (i .if1 .left) (p .put .ensures)
+    let after-put-run : tie.After-put-run = search in
+    walks-closed _ (after-put-run .put-run .ensures) (i .if1 .left) (p .put .ensures)
 
 pub put-closed-spec : {M : Type 1} → statement M
 put-closed-spec =

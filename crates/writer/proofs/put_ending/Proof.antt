@@ -21,33 +21,33 @@ returns-2 c =
 
 put-requires : tie.Need-put-requires
 put-requires c κs =
-    let s = c .before .before .before .before .before .before in
+    let s : tie.Start = search in
     omega (arith, s .pre .3 .fits)
 
 returns-3 : tie.Need-returns-3
 returns-3 c =
     let p = c .before .before in
     let i = p .before .before in
-    let s = i .before .before .before .before .before in
+    let s : tie.Start = search in
     walks-of (ending-of _ (sectionCode UnsureFirst) _ (i .if3 .taken)) (walks-still (p .put .ensures) (s .pre .1) (λ k l. omega (arith, s .pre .2 k l)))
 
 put-requires-2 : tie.Need-put-requires-2
 put-requires-2 c κs =
-    let s = c .before .before .before .before .before .before .before in
+    let s : tie.Start = search in
     omega (arith, s .pre .3 .fits)
 
 returns-4 : tie.Need-returns-4
 returns-4 c =
     let p = c .before .before in
     let i = p .before .before in
-    let s = i .before .before .before .before .before .before in
+    let s : tie.Start = search in
     walks-of (ending-of _ (sectionCode UnsureNext) _ (i .if4 .taken)) (walks-still (p .put2 .ensures) (s .pre .1) (λ k l. omega (arith, s .pre .2 k l)))
 
 returns-5 : tie.Need-returns-5
 returns-5 c =
     let e = c .before in
     let d = e .before in
-    let s = d .before .before .before .before in
+    let s : tie.Start = search in
     walks-of (ending-other _ _ (d .before .if1 .left) (d .if2 .left) (e .if3 .left) (c .if4 .left))
     (walks-still (puts-within (omega arith) (puts-none _ _)) (s .pre .1) (λ k l. omega (arith, s .pre .2 k l)))
 

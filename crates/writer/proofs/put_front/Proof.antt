@@ -11,28 +11,28 @@ use Rattle.writer.proofs.put_front.Tie as tie
 returns : tie.Need-returns
 returns c =
     let n = c .before in
-    let s = n .before .before .before in
+    let s : tie.Start = search in
     let clear = n .next-rank .ensures _ (s .pre .0) in
     walks-of (front-none (s .args .bytes .now) (s .args .numbers .now) clear (c .if1 .taken))
     (walks-still (puts-within (omega arith) (puts-none _ _)) (omega arith) (λ i h. absurd (omega arith)))
 
 put-closed-requires : tie.Need-put-closed-requires
 put-closed-requires c κs =
-    let s = c .before .before .before .before .before in
+    let s : tie.Start = search in
     (s .pre .0, omega arith, (λ i h. absurd (omega arith)), room-less (omega arith) (s .pre .1))
 
 put-run-requires : tie.Need-put-run-requires
 put-run-requires c κs =
-    let u = c .before .before .before in
-    let s = u .before .before .before .before .before .before in
+    let u : tie.After-put-closed = search in
+    let s : tie.Start = search in
     let v = u .put-closed .ensures in
     (s .pre .0, v .within, v .below, room-after (omega arith) v (s .pre .1))
 
 put-closed-requires-2 : tie.Need-put-closed-requires-2
 put-closed-requires-2 c κs =
-    let l = c .before .before .before in
-    let u = l .before .before .before .before in
-    let s = u .before .before .before .before .before .before in
+    let l : tie.After-put-run = search in
+    let u : tie.After-put-closed = search in
+    let s : tie.Start = search in
     let v = u .put-closed .ensures in
     let w = l .put-run .ensures in
     (s .pre .0, w .within, w .below, room-after (omega arith) w (room-after {n = 1} (omega arith) v (s .pre .1)))
@@ -40,8 +40,8 @@ put-closed-requires-2 c κs =
 returns-2 : tie.Need-returns-2
 returns-2 c =
     let n = c .before .before in
-    let l = n .before .before .before .before in
-    let u = l .before .before .before .before in
+    let l : tie.After-put-run = search in
+    let u : tie.After-put-closed = search in
     walks-up (le-refl _) (omega arith) (walks-then _ (le-refl _) (u .put-closed .ensures) (walks-then 1 (le-refl _) (l .put-run .ensures) (n .put-closed2 .ensures)))
 
 pub put-front-spec : {M : Type 1} → statement M

@@ -9,19 +9,20 @@ use Rattle.writer.proofs.put_label.Tie as tie
 returns : tie.Need-returns
 returns c =
     let n = c .before in
-    let a = n .before .before .before .args in
+    let start : tie.Start = search in
+    let a = start .args in
     puts-of (label-none (a .bytes .now) (a .numbers .now) (a .k) (a .j) (n .label-length .ensures .0) (c .if1 .taken)) (puts-within (omega arith) (puts-none _ _))
 
 returns-2 : tie.Need-returns-2
 returns-2 c =
     let scored = c .before .before in
-    let name = scored .before .before .before .before in
-    let hash = name .before .before .before .before in
+    let name : tie.After-copy = search in
+    let hash : tie.After-put = search in
     let from = hash .before .before in
     let t = from .before in
     let i = t .before in
     let n = i .before in
-    let s = n .before .before .before in
+    let s : tie.Start = search in
     let a = s .args in
     let long = n .label-length .ensures .0 in
     puts-of

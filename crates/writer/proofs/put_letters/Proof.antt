@@ -19,18 +19,23 @@ section-requires : tie.Need-section-requires Inv-loop μ-loop
 section-requires c κs = search needs
 
 same-length : tie.Need-same-length Inv-loop μ-loop
-same-length c = c .before .before .before .loop .inv .kept
+same-length c =
+    let loop : tie.At-loop Inv-loop μ-loop = search in
+    loop .loop .inv .kept
 
 returns : tie.Need-returns Inv-loop μ-loop
-returns c = let i = c .before .before .before .loop .inv in (i .forth, i .spells)
+returns c =
+    let loop : tie.At-loop Inv-loop μ-loop = search in
+    let i = loop .loop .inv in
+    (i .forth, i .spells)
 
 letter-requires : tie.Need-letter-requires Inv-loop μ-loop
 letter-requires c κs = search needs
 
 put-requires : tie.Need-put-requires Inv-loop μ-loop
 put-requires c κs =
-    let l = c .before .before .before .before .before in
-    let s = l .before .before .before in
+    let l : tie.At-loop Inv-loop μ-loop = search in
+    let s : tie.Start Inv-loop μ-loop = search in
     omega (arith, l .loop .inv .forth, l .loop .inv .near, s .pre .2)
 
 add-i : tie.Need-add-i Inv-loop μ-loop

@@ -13,22 +13,22 @@ use Rattle.writer.proofs.put_line.Tie as tie
 
 put-front-requires : tie.Need-put-front-requires
 put-front-requires c κs =
-    let s = c .before .before .before in
+    let s : tie.Start = search in
     (ready _ _ (s .pre .0) (s .pre .1), room-less (omega arith) (room-line (s .pre .0 .few-brackets) (s .pre .2)))
 
 put-sequence-requires : tie.Need-put-sequence-requires
 put-sequence-requires c κs =
-    let f = c .before .before .before in
-    let s = f .before .before .before .before in
+    let f : tie.After-put-front = search in
+    let s : tie.Start = search in
     let w = f .put-front .ensures in
     let whole = room-line (s .pre .0 .few-brackets) (s .pre .2) in
     (ready _ _ (s .pre .0) (s .pre .1), w .within, w .below, room-after (omega arith) w whole)
 
 put-c-term-requires : tie.Need-put-c-term-requires
 put-c-term-requires c κs =
-    let q = c .before .before .before in
-    let f = q .before .before .before .before in
-    let s = f .before .before .before .before in
+    let q : tie.After-put-sequence = search in
+    let f : tie.After-put-front = search in
+    let s : tie.Start = search in
     let w = f .put-front .ensures in
     let y = q .put-sequence .ensures in
     let whole = room-line (s .pre .0 .few-brackets) (s .pre .2) in
@@ -37,9 +37,9 @@ put-c-term-requires c κs =
 returns : tie.Need-returns
 returns c =
     let t = c .before .before in
-    let q = t .before .before .before .before in
-    let f = q .before .before .before .before in
-    let s = f .before .before .before .before in
+    let q : tie.After-put-sequence = search in
+    let f : tie.After-put-front = search in
+    let s : tie.Start = search in
     let b = s .pre .0 in
     let y = q .put-sequence .ensures in
     let whole = walks-then _ (le-refl _) (f .put-front .ensures) (walks-before _ (le-refl _) y (t .put-c-term .ensures)) in

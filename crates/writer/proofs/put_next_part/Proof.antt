@@ -14,7 +14,7 @@ returns c =
 returns-2 : tie.Need-returns-2
 returns-2 c =
     let p = c .before .before in
-    let q = p .before .before .before .before in
+    let q : tie.After-put = search in
     puts-of (next-later _ _ (q .before .before .if1 .left)) (puts-join (q .put .ensures) (p .put-part2 .ensures))
 
 pub put-next-part-spec : {M : Type 1} → statement M

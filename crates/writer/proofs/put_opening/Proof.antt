@@ -16,7 +16,7 @@ returns c =
 returns-2 : tie.Need-returns-2
 returns-2 c =
     let p = c .before .before in
-    let q = p .before .before .before .before in
+    let q : tie.After-put2 = search in
     puts-of (opening-of _ (sectionCode UnsureFirst) (q .before .before .if2 .taken)) (puts-join (q .put2 .ensures) (p .put3 .ensures))
 
 returns-3 : tie.Need-returns-3

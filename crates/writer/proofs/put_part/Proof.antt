@@ -8,10 +8,11 @@ use Rattle.writer.proofs.put_part.Tie as tie
 returns : tie.Need-returns
 returns c =
     let label = c .before .before in
-    let value = label .before .before .before .before in
-    let key = value .before .before .before .before in
+    let value : tie.After-put-value = search in
+    let key : tie.After-put-key = search in
     let code = key .before .before in
-    let a = code .before .before .before .args in
+    let start : tie.Start = search in
+    let a = start .args in
     puts-of (part-text (a .bytes .now) (a .numbers .now) (a .k) (a .j) (code .key .ensures .0))
     (puts-join (key .put-key .ensures) (puts-join (value .put-value .ensures) (label .put-label .ensures)))
 

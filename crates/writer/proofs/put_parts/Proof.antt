@@ -29,7 +29,7 @@ put-next-part-requires : tie.Need-put-next-part-requires Inv-loop μ-loop
 put-next-part-requires c κs =
     let l = c .before in
     let n = l .before .before in
-    let s = n .before .before .before in
+    let s : tie.Start Inv-loop μ-loop = search in
     let many = n .parts .ensures .0 in
     (part-here _ _ _ _ (s .pre .0) (rw many at (l .loop-test .taken)), omega (arith, many))
 
@@ -42,7 +42,7 @@ loop-less c = search needs
 loop-again : tie.Need-loop-again Inv-loop μ-loop
 loop-again c =
     let p = c .before .before in
-    let l = p .before .before .before in
+    let l : tie.At-loop Inv-loop μ-loop = search in
     (search needs, puts-of (parts-more _ _) (puts-within (omega arith) (puts-join (l .loop .inv .1) (p .put-next-part .ensures))))
 
 same-length : tie.Need-same-length Inv-loop μ-loop
@@ -50,9 +50,10 @@ same-length c = puts-length (c .before .loop .inv .1)
 
 returns : tie.Need-returns Inv-loop μ-loop
 returns c =
+    let start : tie.Start Inv-loop μ-loop = search in
     let l = c .before .loop in
     let n = c .before .before in
-    let a = n .before .before .before .args in
+    let a = start .args in
     let many = n .parts .ensures .0 in
     let all : l .j ≡ n .parts .result = omega arith in
     puts-of (ap (λ n. partsText (tabled (partIn (a .bytes .now) (a .numbers .now) (a .k)) 0 n)) (all ∙ many)) (puts-within (omega (arith, many)) (l .inv .1))

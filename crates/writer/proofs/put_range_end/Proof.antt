@@ -7,19 +7,19 @@ use Rattle.writer.proofs.put_range_end.Tie as tie
 
 put-requires : tie.Need-put-requires
 put-requires c κs =
-    let s = c .before .before .before in
+    let s : tie.Start = search in
     omega (arith, s .pre .3 .fits)
 
 put-run-requires : tie.Need-put-run-requires
 put-run-requires c κs =
-    let q = c .before .before .before in
-    let s = q .before .before .before .before in
+    let q : tie.After-put = search in
+    let s : tie.Start = search in
     (s .pre .0, s .pre .1, s .pre .2, room-behind (omega arith) (q .put .ensures) (s .pre .3))
 
 returns : tie.Need-returns
 returns c =
     let p = c .before .before in
-    let q = p .before .before .before .before in
+    let q : tie.After-put = search in
     walks-up (omega arith) (omega arith) (walks-after 1 (omega arith) (q .put .ensures) (p .put-run .ensures))
 
 pub put-range-end-spec : {M : Type 1} → statement M

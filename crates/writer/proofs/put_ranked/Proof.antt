@@ -10,13 +10,15 @@ returns : tie.Need-returns
 returns c =
     let p = c .before .before in
     let i = p .before .before in
-    let a = i .before .before .before .args in
-    puts-of (ranked-yes (a .bytes .now) (a .numbers .now) (a .k) (a .shape) (i .before .before .before .pre .1) (i .if1 .taken)) (p .put-bracket .ensures)
+    let start : tie.Start = search in
+    let a = start .args in
+    puts-of (ranked-yes (a .bytes .now) (a .numbers .now) (a .k) (a .shape) (start .pre .1) (i .if1 .taken)) (p .put-bracket .ensures)
 
 returns-2 : tie.Need-returns-2
 returns-2 c =
-    let a = c .before .before .before .args in
-    puts-of (ranked-no (a .bytes .now) (a .numbers .now) (a .k) (a .shape) (c .before .before .before .pre .1) (c .if1 .left)) (puts-within (omega arith) (puts-none _ _))
+    let start : tie.Start = search in
+    let a = start .args in
+    puts-of (ranked-no (a .bytes .now) (a .numbers .now) (a .k) (a .shape) (start .pre .1) (c .if1 .left)) (puts-within (omega arith) (puts-none _ _))
 
 pub put-ranked-spec : {M : Type 1} → statement M
 put-ranked-spec = tie.close (tie.spec (λ c κs. search needs) (λ c. search needs) returns returns-2)

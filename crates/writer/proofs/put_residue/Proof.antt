@@ -14,43 +14,41 @@ use Rattle.writer.proofs.put_residue.Tie as tie
 
 put-opening-requires : tie.Need-put-opening-requires
 put-opening-requires c κs =
-    let s = c .before .before .before .before .before in
+    let s : tie.Start = search in
     omega (arith, s .pre .3 .fits)
 
 put-requires : tie.Need-put-requires
 put-requires c κs =
-    let q = c .before .before .before in
-    let s = q .before .before .before .before .before .before in
+    let q : tie.After-put-opening = search in
+    let s : tie.Start = search in
     omega (arith, q .put-opening .ensures .near, s .pre .3 .fits)
 
 put-run-requires : tie.Need-put-run-requires
 put-run-requires c κs =
-    let p = c .before .before .before in
-    let q = p .before .before .before .before in
-    let s = q .before .before .before .before .before .before in
+    let p : tie.After-put = search in
+    let q : tie.After-put-opening = search in
+    let s : tie.Start = search in
     let opened = room-behind {n = 2} (omega arith) (q .put-opening .ensures) (s .pre .3) in
     (s .pre .0, s .pre .1, s .pre .2, room-behind (omega arith) (p .put .ensures) opened)
 
 returns : tie.Need-returns
 returns c =
     let g = c .before in
-    let w = g .before .before .before in
-    let p = w .before .before .before .before in
-    let q = p .before .before .before .before in
+    let w : tie.After-put-run = search in
+    let p : tie.After-put = search in
+    let q : tie.After-put-opening = search in
     let l = q .before .before in
-    let s = l .before .before .before .before in
+    let s : tie.Start = search in
     let a = s .args in
     walks-of (residue-on (a .bytes .now) (tablesIn (a .bytes .now) (a .numbers .now) .brackets) (a .p) (tabled (residueIn (a .bytes .now)) (a .p + 1) (a .n - (a .p + 1))) (l .before .section .ensures .0) (l .letter .ensures) (sym (g .goes-on .ensures) ∙ c .if1 .taken))
     (walks-up (omega arith) (omega arith) (walks-after 3 (omega arith) (q .put-opening .ensures) (walks-after 1 (omega arith) (p .put .ensures) (w .put-run .ensures))))
 
 put-ending-requires : tie.Need-put-ending-requires
 put-ending-requires c κs =
-    let g = c .before .before in
-    let w = g .before .before .before in
-    let p = w .before .before .before .before in
-    let q = p .before .before .before .before in
-    let l = q .before .before in
-    let s = l .before .before .before .before in
+    let w : tie.After-put-run = search in
+    let p : tie.After-put = search in
+    let q : tie.After-put-opening = search in
+    let s : tie.Start = search in
     let b = s .pre .0 .bounds in
     let opened = room-behind {n = 2} (omega arith) (q .put-opening .ensures) (s .pre .3) in
     let v = w .put-run .ensures in (
@@ -64,12 +62,12 @@ put-ending-requires c κs =
 returns-2 : tie.Need-returns-2
 returns-2 c =
     let n = c .before .before in
-    let g = n .before .before .before in
-    let w = g .before .before .before in
-    let p = w .before .before .before .before in
-    let q = p .before .before .before .before in
+    let g : tie.After-goes-on = search in
+    let w : tie.After-put-run = search in
+    let p : tie.After-put = search in
+    let q : tie.After-put-opening = search in
     let l = q .before .before in
-    let s = l .before .before .before .before in
+    let s : tie.Start = search in
     let b = s .pre .0 .bounds in
     let a = s .args in
     walks-of (residue-off (a .bytes .now) (tablesIn (a .bytes .now) (a .numbers .now) .brackets) (a .p) (tabled (residueIn (a .bytes .now)) (a .p + 1) (a .n - (a .p + 1))) (l .before .section .ensures .0) (l .letter .ensures) (sym (g .goes-on .ensures) ∙ n .before .before .if1 .left))

@@ -20,29 +20,31 @@ brackets-requires c κs = c .before .before .pre .0 .bounds .bytes-room
 
 loop-holds : tie.Need-loop-holds Inv-loop μ-loop
 loop-holds c =
-    let s = c .before .before .before in
+    let s : tie.Start Inv-loop μ-loop = search in
     run-start _ _ _ _ _ _ _ _ (c .brackets .ensures .0) (s .pre .1) (s .pre .2)
 
 rank-at-requires : tie.Need-rank-at-requires Inv-loop μ-loop
 rank-at-requires c κs =
-    let s = c .before .before .before .before .before in
+    let s : tie.Start Inv-loop μ-loop = search in
     let b = s .pre .0 .bounds in
     (b .bytes-room, omega (arith, b .few-brackets, c .before .before .brackets .ensures .0))
 
 same-length : tie.Need-same-length Inv-loop μ-loop
-same-length c = puts-length (c .before .before .before .loop .inv .puts)
+same-length c =
+    let loop : tie.At-loop Inv-loop μ-loop = search in
+    puts-length (loop .loop .inv .puts)
 
 returns : tie.Need-returns Inv-loop μ-loop
 returns c =
     let l = c .before .before in
-    let s = l .before .before .before .before .before in
+    let s : tie.Start Inv-loop μ-loop = search in
     run-stop _ _ _ _ _ _ _ _ (l .before .loop .inv) (s .pre .0) (l .loop-test .taken) (c .before .rank-at .ensures) (c .if1 .taken)
 
 put-ranked-requires : tie.Need-put-ranked-requires Inv-loop μ-loop
 put-ranked-requires c κs =
     let r = c .before .before in
     let l = r .before in
-    let s = l .before .before .before .before .before in
+    let s : tie.Start Inv-loop μ-loop = search in
     let b = s .pre .0 .bounds in
     let i = l .before .loop .inv in
     let e = l .before .before .brackets .ensures .0 in
@@ -57,7 +59,7 @@ loop-less c = search needs
 loop-again : tie.Need-loop-again Inv-loop μ-loop
 loop-again c =
     let p = c .before .before in
-    let r = p .before .before .before in
+    let r : tie.After-rank-at Inv-loop μ-loop = search in
     let l = r .before in
     run-more _ _ _ _ _ _ _ _ (l .before .loop .inv) (l .loop-test .taken) (r .rank-at .ensures) (p .before .before .if1 .left) (p .put-ranked .ensures)
 

@@ -21,31 +21,31 @@ residues-requires c κs = c .before .before .pre .0 .bounds .bytes-room
 
 loop-holds : tie.Need-loop-holds Inv-loop μ-loop
 loop-holds c =
-    let s = c .before .before .before in
+    let s : tie.Start Inv-loop μ-loop = search in
     spelt-start _ _ _ _ _ _ (walks-still (puts-none _ _) (s .pre .1) (s .pre .2))
 
 put-bare-requires : tie.Need-put-bare-requires Inv-loop μ-loop
 put-bare-requires c κs =
     let l = c .before .before in
     let r = l .before in
-    let s = r .before .before .before in
+    let s : tie.Start Inv-loop μ-loop = search in
     let b = s .pre .0 .bounds in
     let few : r .residues .result ≤ residueLimit = omega (arith, b .few-residues, r .residues .ensures .0) in
     (b .bytes-room, b .few-brackets, few, omega (arith, spelt-room _ _ _ _ _ _ (l .loop .inv) few (s .pre .3) .fits))
 
 same-length : tie.Need-same-length Inv-loop μ-loop
 same-length c =
-    let b = c .before .before .before in
-    let l = b .before .before .before in
-    let s = l .before .before .before .before in
+    let b : tie.After-put-bare Inv-loop μ-loop = search in
+    let l : tie.At-loop Inv-loop μ-loop = search in
+    let s : tie.Start Inv-loop μ-loop = search in
     puts-length (b .put-bare .ensures .1 _ (s .pre .0) _ _ _ (l .loop .inv) .walks .puts)
 
 returns : tie.Need-returns Inv-loop μ-loop
 returns c =
-    let b = c .before .before .before in
-    let l = b .before .before .before in
+    let b : tie.After-put-bare Inv-loop μ-loop = search in
+    let l : tie.At-loop Inv-loop μ-loop = search in
     let r = l .before in
-    let s = r .before .before .before in
+    let s : tie.Start Inv-loop μ-loop = search in
     let e = r .residues .ensures .0 in
     let spelt = b .put-bare .ensures .1 _ (s .pre .0) _ _ _ (l .loop .inv) in
     spelt-over _ _ _ _ _ _ spelt (c .if1 .taken) e (omega (arith, s .pre .0 .bounds .few-residues, e))
@@ -53,10 +53,10 @@ returns c =
 put-residue-requires : tie.Need-put-residue-requires Inv-loop μ-loop
 put-residue-requires c κs =
     let i = c .before in
-    let b = i .before .before .before in
-    let l = b .before .before .before in
+    let b : tie.After-put-bare Inv-loop μ-loop = search in
+    let l : tie.At-loop Inv-loop μ-loop = search in
     let r = l .before in
-    let s = r .before .before .before in
+    let s : tie.Start Inv-loop μ-loop = search in
     let e = r .residues .ensures .0 in
     let spelt = b .put-bare .ensures .1 _ (s .pre .0) _ _ _ (l .loop .inv) in
     let w = spelt .walks in
@@ -68,17 +68,17 @@ add-p c = search needs
 
 loop-less : tie.Need-loop-less Inv-loop μ-loop
 loop-less c =
-    let i = c .before .before .before .before in
-    let b = i .before .before .before in
+    let i : tie.Else1 Inv-loop μ-loop = search in
+    let b : tie.After-put-bare Inv-loop μ-loop = search in
     omega (arith, b .put-bare .ensures .0, i .if1 .left)
 
 loop-again : tie.Need-loop-again Inv-loop μ-loop
 loop-again c =
     let p = c .before .before in
     let i = p .before .before in
-    let b = i .before .before .before in
-    let l = b .before .before .before in
-    let s = l .before .before .before .before in
+    let b : tie.After-put-bare Inv-loop μ-loop = search in
+    let l : tie.At-loop Inv-loop μ-loop = search in
+    let s : tie.Start Inv-loop μ-loop = search in
     let spelt = b .put-bare .ensures .1 _ (s .pre .0) _ _ _ (l .loop .inv) in
     spelt-more _ _ _ _ _ _ spelt (i .if1 .left) (p .put-residue .ensures)
 
@@ -88,7 +88,8 @@ same-length-2 c = puts-length (c .before .loop .inv .walks .puts)
 returns-2 : tie.Need-returns-2 Inv-loop μ-loop
 returns-2 c =
     let r = c .before .before in
-    let b = r .before .before .before .pre .0 .bounds in
+    let start : tie.Start Inv-loop μ-loop = search in
+    let b = start .pre .0 .bounds in
     let e = r .residues .ensures .0 in
     spelt-over _ _ _ _ _ _ (c .before .loop .inv) (c .loop-test .left) e (omega (arith, b .few-residues, e))
 

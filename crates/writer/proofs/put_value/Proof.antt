@@ -16,7 +16,8 @@ returns c =
     let d = m .before in
     let i = d .before in
     let v = i .before in
-    let a = v .before .before .before .args in
+    let start : tie.Start = search in
+    let a = start .args in
     let read = toZ-ofZ {w = w64} {z = m .mass .result} (record { sfits = m .mass .ok }) ∙ m .mass .ensures in
     puts-of (value-mass (a .bytes .now) (a .numbers .now) (a .k) (a .j) (v .value .ensures .0) (i .if1 .taken) (d .decimals .ensures .0) read)
     (puts-within (omega arith) (number .put-number .ensures))
@@ -28,7 +29,7 @@ returns-2 c =
     let n = from .before in
     let i = n .before in
     let v = i .before .before in
-    let s = v .before .before .before in
+    let s : tie.Start = search in
     let a = s .args in
     let long = n .text-length .ensures .0 in
     puts-of (value-text (a .bytes .now) (a .numbers .now) (a .k) (a .j) (v .value .ensures .0) (i .if2 .taken) long (from .text-from .ensures))
@@ -38,7 +39,8 @@ returns-3 : tie.Need-returns-3
 returns-3 c =
     let i = c .before in
     let v = i .before in
-    let a = v .before .before .before .args in
+    let start : tie.Start = search in
+    let a = start .args in
     puts-of (value-none (a .bytes .now) (a .numbers .now) (a .k) (a .j) (v .value .ensures .0) (i .if1 .left) (c .if2 .left))
     (puts-within (omega arith) (puts-none _ _))
 

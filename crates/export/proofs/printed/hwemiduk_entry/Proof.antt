@@ -22,7 +22,7 @@ put-entry-requires c κs = (
 returns : tie.Need-returns
 returns c =
     let h = c .before .before in
-    let p = h .before .before .before .before .before .before .before .before .before .before .before .before .before in
+    let p : tie.After-put-entry = search in
     fitted-so (put-text (p .put-entry .ensures .0 .puts) (search needs)) (h .hand-out .ensures)
 
 pub hwemiduk-entry-spec : {M : Type 1} → statement M

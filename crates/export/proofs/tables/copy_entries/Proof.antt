@@ -40,7 +40,7 @@ loop-less c = omega arith
 
 loop-again : tie.Need-loop-again Inv-loop μ-loop
 loop-again c =
-    let s = c .before .before .before in
+    let s : tie.Start Inv-loop μ-loop = search in
     let x = getD (s .args .from .now) (c .before .before .loop .i) (pos 0) in
     let read : toZ w64 (ofZ w64 x) ≡ x = search needs in
     rw read (copied-more (pos 0) (c .before .before .loop .inv) (c .before .loop-test .taken) (s .pre .0) (s .pre .1))

@@ -10,14 +10,17 @@ use Rattle.export.proofs.tables.hwemiduk_allowed.Tie as tie
 
 returns : tie.Need-returns
 returns c =
-    let a = c .before .before .before .args in
+    let start : tie.Start = search in
+    let a = start .args in
     ap numberOf (sym (allows-short (now (a .bytes)) (now (a .numbers)) (now (a .placement)) (c .if1 .taken)))
 
 returns-2 : tie.Need-returns-2
 returns-2 c =
-    let a = c .before .before .before .before .before .before .args in
+    let else1 : tie.Else1 = search in
+    let start : tie.Start = search in
+    let a = start .args in
     let begins = ap (allows (now (a .bytes)) (now (a .numbers))) (c .before .before .placement-in .ensures) in
-    c .request-number .ensures ∙ ap numberOf (c .before .is-allowed .ensures ∙ begins ∙ sym (allows-long (now (a .bytes)) (now (a .numbers)) (now (a .placement)) (c .before .before .before .if1 .left)))
+    c .request-number .ensures ∙ ap numberOf (c .before .is-allowed .ensures ∙ begins ∙ sym (allows-long (now (a .bytes)) (now (a .numbers)) (now (a .placement)) (else1 .if1 .left)))
 
 pub hwemiduk-allowed-spec : {M : Type 1} → statement M
 hwemiduk-allowed-spec =

@@ -5,7 +5,9 @@ use Rattle.export.proofs.tables.hwemiduk_bracket_mass.Statement.{statem
 use Rattle.export.proofs.tables.hwemiduk_bracket_mass.Tie as tie
 
 returns : tie.Need-returns
-returns c = totalled-so (c .before .before .before .bracket-mass .ensures) (c .tell-total .ensures)
+returns c =
+    let after-bracket-mass : tie.After-bracket-mass = search in
+    totalled-so (after-bracket-mass .bracket-mass .ensures) (c .tell-total .ensures)
 
 pub hwemiduk-bracket-mass-spec : {M : Type 1} → statement M
 hwemiduk-bracket-mass-spec = tie.close (tie.spec (λ c κs. search needs) (λ c κs. search needs) returns)

@@ -6,7 +6,8 @@ use Rattle.export.proofs.tables.hwemiduk_floater_brackets.Tie as tie
 
 returns : tie.Need-returns
 returns c =
-    let r = c .before .before .before .before .before .before .floater-brackets .ensures in
+    let after-floater-brackets : tie.After-floater-brackets = search in
+    let r = after-floater-brackets .floater-brackets .ensures in
     record { counted = counted-so (r .says) (c .tell-count .ensures); brackets-after = r .brackets-after; copies-after = r .copies-after }
 
 pub hwemiduk-floater-brackets-spec : {M : Type 1} → statement M

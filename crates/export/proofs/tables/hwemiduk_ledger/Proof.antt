@@ -17,24 +17,27 @@ returns-2 c = short-entries _ _ _ _ _ (c .before .if1 .left) (c .if2 .taken)
 
 copy-entries-requires : tie.Need-copy-entries-requires
 copy-entries-requires c κs =
-    let called = c .before .before .before .before .before in
+    let called : tie.After-ledger = search in
     let long : length (called .ledger .result .at) ≡ positionLimit = search needs in
     (omega arith, called .before .before .if2 .left)
 
 returns-3 : tie.Need-returns-3
 returns-3 c =
-    let called = c .before .before .before .before .before .before .before in
+    let called : tie.After-ledger = search in
     let long : length (called .ledger .result .at) ≡ positionLimit = search needs in
-    booked-long _ _ _ _ _ _ (called .before .placement-in .ensures) (called .before .before .before .if1 .left) (called .before .before .if2 .left)
-    (ap saysBooked (sym (c .before .before .before .before .enum-told .given .1)) ∙ called .ledger .ensures .0)
+    let else1 : tie.Else1 = search in
+    let after-enum-told : tie.After-enum-told = search in
+    booked-long _ _ _ _ _ _ (called .before .placement-in .ensures) (else1 .if1 .left) (called .before .before .if2 .left)
+    (ap saysBooked (sym (after-enum-told .enum-told .given .1)) ∙ called .ledger .ensures .0)
     (called .ledger .ensures .1)
     long
     (c .before .copy-entries .ensures)
 
 returns-4 : tie.Need-returns-4
 returns-4 c =
-    let called = c .before .before .before .before in
-    refused-long _ _ _ _ _ _ (called .before .placement-in .ensures) (called .before .before .before .if1 .left) (called .before .before .if2 .left)
+    let called : tie.After-ledger = search in
+    let else1 : tie.Else1 = search in
+    refused-long _ _ _ _ _ _ (called .before .placement-in .ensures) (else1 .if1 .left) (called .before .before .if2 .left)
     (ap saysBooked (sym (c .before .booked .given .1)) ∙ called .ledger .ensures .0)
 
 pub hwemiduk-ledger-spec : {M : Type 1} → statement M

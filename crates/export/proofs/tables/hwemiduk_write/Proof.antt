@@ -6,7 +6,8 @@ use Rattle.export.proofs.tables.hwemiduk_write.Tie as tie
 
 returns : tie.Need-returns
 returns c =
-    let written = c .before .before .before .before .write .ensures in
+    let after-write : tie.After-write = search in
+    let written = after-write .write .ensures in
     record { measured = measured-so (written .says) (c .tell-write .ensures); output-after = written .output-after }
 
 pub hwemiduk-write-spec : {M : Type 1} → statement M

@@ -36,7 +36,9 @@ loop-less : tie.Need-loop-less Inv-loop μ-loop
 loop-less c = omega arith
 
 loop-again : tie.Need-loop-again Inv-loop μ-loop
-loop-again c = copied-more 0 (c .before .before .loop .inv) (c .before .loop-test .taken) (c .before .before .before .pre) (omega arith)
+loop-again c =
+    let start : tie.Start Inv-loop μ-loop = search in
+    copied-more 0 (c .before .before .loop .inv) (c .before .loop-test .taken) (start .pre) (omega arith)
 
 returns : tie.Need-returns Inv-loop μ-loop
 returns c = copied-all (c .before .loop .inv) (c .loop-test .left) ∙ append-nil _

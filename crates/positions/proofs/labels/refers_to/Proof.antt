@@ -8,13 +8,18 @@ is-referring-requires : tie.Need-is-referring-requires
 is-referring-requires c κs = c .before .pre .1 .row
 
 is-referring-requires-2 : tie.Need-is-referring-requires-2
-is-referring-requires-2 c κs = c .before .before .before .pre .0 .row
+is-referring-requires-2 c κs =
+    let start : tie.Start = search in
+    start .pre .0 .row
 
 returns : tie.Need-returns
 returns c = refers-no-definition _ _ _ (c .before .is-referring2 .ensures) (c .if2 .taken)
 
 returns-2 : tie.Need-returns-2
-returns-2 c = refers _ _ _ (c .before .before .before .before .is-referring .ensures) (c .before .before .before .if1 .taken) (c .before .before .is-referring2 .ensures) (c .before .if2 .left) (c .shares .ensures)
+returns-2 c =
+    let then1 : tie.Then1 = search in
+    let after-is-referring : tie.After-is-referring = search in
+    refers _ _ _ (after-is-referring .is-referring .ensures) (then1 .if1 .taken) (c .before .before .is-referring2 .ensures) (c .before .if2 .left) (c .shares .ensures)
 
 returns-3 : tie.Need-returns-3
 returns-3 c = refers-not _ _ _ (c .before .is-referring .ensures) (c .if1 .left)

@@ -11,21 +11,21 @@ clear-row-requires c κs = search needs
 
 mark-all-requires : tie.Need-mark-all-requires
 mark-all-requires c κs =
-    let clear = c .before .before .before in
-    let start = clear .before .before .before .before in
+    let clear : tie.After-clear-row = search in
+    let start : tie.Start = search in
     (start .pre .0, start .pre .1, omega (arith, start .pre .3, clear .clear-row .kept))
 
 same-length : tie.Need-same-length
 same-length c =
     let marks = c .before .before in
-    let clear = marks .before .before .before .before in
+    let clear : tie.After-clear-row = search in
     omega (arith, clear .clear-row .kept, marks .mark-all .kept)
 
 returns : tie.Need-returns
 returns c =
     let marks = c .before .before in
-    let clear = marks .before .before .before .before in
-    let start = clear .before .before .before .before in
+    let clear : tie.After-clear-row = search in
+    let start : tie.Start = search in
     λ ns. row-is (now (start .args .bytes)) ns (now (start .args .free)) (start .pre .2 ns) (clear .clear-row .ensures) (marks .mark-all .ensures ns)
 
 pub fill-row-spec : {M : Type 1} → statement M

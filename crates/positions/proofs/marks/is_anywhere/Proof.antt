@@ -8,7 +8,9 @@ returns : tie.Need-returns
 returns c = not-anywhere _ _ (c .before .is-labelled .ensures) (c .if1 .taken)
 
 returns-2 : tie.Need-returns-2
-returns-2 c = anywhere-by-kind _ _ (c .before .before .before .is-labelled .ensures) (c .before .before .if1 .left) (c .before .kind .ensures) (c .is .ensures)
+returns-2 c =
+    let after-is-labelled : tie.After-is-labelled = search in
+    anywhere-by-kind _ _ (after-is-labelled .is-labelled .ensures) (c .before .before .if1 .left) (c .before .kind .ensures) (c .is .ensures)
 
 pub is-anywhere-spec : {M : Type 1} → statement M
 is-anywhere-spec =

@@ -9,19 +9,30 @@ refers-to-requires : tie.Need-refers-to-requires
 refers-to-requires c κs = (c .before .before .pre .0 .bracket (c .before .before .args .k) (c .before .before .pre .1) .named, c .before .before .pre .0 .bracket (c .before .before .args .r) (c .before .before .pre .2) .named)
 
 first-requires : tie.Need-first-requires
-first-requires c κs = row-room (c .before .before .before .before .pre .0) (c .before .before .before .before .pre .2)
+first-requires c κs =
+    let start : tie.Start = search in
+    row-room (start .pre .0) (start .pre .2)
 
 last-requires : tie.Need-last-requires
-last-requires c κs = row-room (c .before .before .before .before .before .pre .0) (c .before .before .before .before .before .pre .2)
+last-requires c κs =
+    let start : tie.Start = search in
+    row-room (start .pre .0) (start .pre .2)
 
 mark-requires : tie.Need-mark-requires
-mark-requires c κs = (last-within (c .before .before .before .before .before .before .before .pre .0) (c .before .before .before .before .before .before .before .pre .2) (c .before .last .ensures .0), c .before .before .before .before .before .before .before .pre .3)
+mark-requires c κs =
+    let start : tie.Start = search in
+    (last-within (start .pre .0) (start .pre .2) (c .before .last .ensures .0), start .pre .3)
 
 same-length : tie.Need-same-length
 same-length c = c .before .before .mark .ensures .kept
 
 returns : tie.Need-returns
-returns c = reference-marked _ _ _ (c .before .before .before .before .before .before .before .refers-to .ensures) (c .before .before .before .before .before .before .if1 .taken) (c .before .before .mark .ensures) (first-is _ _ (c .before .before .before .before .before .first .ensures .0)) (last-is _ _ (c .before .before .before .before .last .ensures .0))
+returns c =
+    let after-last : tie.After-last = search in
+    let after-first : tie.After-first = search in
+    let then1 : tie.Then1 = search in
+    let after-refers-to : tie.After-refers-to = search in
+    reference-marked _ _ _ (after-refers-to .refers-to .ensures) (then1 .if1 .taken) (c .before .before .mark .ensures) (first-is _ _ (after-first .first .ensures .0)) (last-is _ _ (after-last .last .ensures .0))
 
 returns-2 : tie.Need-returns-2
 returns-2 c = no-reference _ _ _ (c .before .refers-to .ensures) (c .if1 .left)

@@ -20,7 +20,9 @@ loop-holds : tie.Need-loop-holds Inv-loop μ-loop
 loop-holds c = passed-start _ _ _ _ _
 
 mark-reference-requires : tie.Need-mark-reference-requires Inv-loop μ-loop
-mark-reference-requires c κs = (c .before .before .before .before .before .before .pre .0, c .before .before .before .before .before .before .pre .1, omega arith, omega (arith, c .before .before .loop .inv .kept))
+mark-reference-requires c κs =
+    let start : tie.Start Inv-loop μ-loop = search in
+    (start .pre .0, start .pre .1, omega arith, omega (arith, c .before .before .loop .inv .kept))
 
 add-r : tie.Need-add-r Inv-loop μ-loop
 add-r c = search needs
@@ -29,7 +31,10 @@ loop-less : tie.Need-loop-less Inv-loop μ-loop
 loop-less c = omega arith
 
 loop-again : tie.Need-loop-again Inv-loop μ-loop
-loop-again c = passed-next (c .before .before .before .before .before .loop .inv) (c .before .before .before .before .loop-test .taken) (c .before .before .mark-reference .ensures)
+loop-again c =
+    let in-loop : tie.In-loop Inv-loop μ-loop = search in
+    let loop : tie.At-loop Inv-loop μ-loop = search in
+    passed-next (loop .loop .inv) (in-loop .loop-test .taken) (c .before .before .mark-reference .ensures)
 
 same-length : tie.Need-same-length Inv-loop μ-loop
 same-length c = c .before .loop .inv .kept

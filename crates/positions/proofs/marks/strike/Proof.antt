@@ -12,12 +12,12 @@ is-placed-requires c κs = row-of (c .before .before .pre .0) (c .before .before
 
 first-requires : tie.Need-first-requires
 first-requires c κs =
-    let start = c .before .before .before .before in
+    let start : tie.Start = search in
     row-room (start .pre .0) (start .pre .1)
 
 slice-write-free : tie.Need-slice-write-free
 slice-write-free c =
-    let start = c .before .before .before .before .before in
+    let start : tie.Start = search in
     omega (arith, first-within (start .pre .0) (start .pre .1) (c .first .ensures .0), start .pre .2)
 
 same-length : tie.Need-same-length
@@ -25,7 +25,7 @@ same-length c = search needs
 
 returns : tie.Need-returns
 returns c =
-    let start = c .before .before .before .before .before in
+    let start : tie.Start = search in
     struck _ _ (c .before .before .is-placed .ensures) (c .before .if1 .taken) (first-is _ _ (c .first .ensures .0))
     (first-within (start .pre .0) (start .pre .1) (c .first .ensures .0)) (start .pre .2)
 

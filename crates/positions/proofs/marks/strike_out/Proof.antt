@@ -22,7 +22,7 @@ loop-holds c = passed-start _ _ _ _ _
 strike-requires : tie.Need-strike-requires Inv-loop μ-loop
 strike-requires c κs =
     let loop = c .before .before in
-    let start = loop .before .before .before .before in
+    let start : tie.Start Inv-loop μ-loop = search in
     (start .pre .0, omega arith, omega (arith, start .pre .1, loop .loop .inv .kept))
 
 add-k : tie.Need-add-k Inv-loop μ-loop

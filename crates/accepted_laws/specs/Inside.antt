@@ -62,31 +62,31 @@ PendingValue k (text t) = (0 < length t) × Each Byte t
 PendingValue k reference = k ≡ NoKey
 
 -- a part without its label
-pub record Pending {P : Type 0} (c : Context P) (p : Part P) : Type 0 where
+pub record PendingPart {P : Type 0} (c : Context P) (p : Part P) : Type 0 where
   pub value : PendingValue (p .key) (p .value)
   pub alone : isReference (p .value) ≡ true → c .parts ≡ []
 
-pub record Named (name : List ℕ) : Type 0 where
+pub record NameGiven (name : List ℕ) : Type 0 where
   pub some-name : 0 < length name
   pub bytes : Each Byte name
 
 -- a part with its label, if it has one
-pub record Finished {P : Type 0} (c : Context P) (p : Part P) : Type 0 where
+pub record FinishedPart {P : Type 0} (c : Context P) (p : Part P) : Type 0 where
   pub shape : PartShape p
   pub alone : isReference (p .value) ≡ true → c .parts ≡ []
 
 abbrev pub InnerKeeps : {P : Type 0} → ℕ → Inner P → Type 0
 InnerKeeps m (begin c) = Carried c 0 m
-InnerKeeps m (plain c at t) = Carried c (length t) m × Named t
+InnerKeeps m (plain c at t) = Carried c (length t) m × NameGiven t
 InnerKeeps m (keyed c at k) = Carried c 0 m
 InnerKeeps m (inNumber c at k n d) = Carried c 0 m
 InnerKeeps m (inCode c at k t) = Carried c (length t) m × Each Byte t
 InnerKeeps m (inText c at k t cs) = Carried c (length t) m × Each Byte t
-InnerKeeps m (hashed c p) = Carried c (length (textOf p)) m × Pending c p
-InnerKeeps m (inLabel c p at name) = Carried c (length (textOf p) + length name) m × Pending c p × Named name
-InnerKeeps m (scoring c p at name) = Carried c (length (textOf p) + length name) m × Pending c p × Named name
-InnerKeeps m (inScore c p at name n d) = Carried c (length (textOf p) + length name) m × Pending c p × Named name
-InnerKeeps m (scored c p) = Carried c (length (packed p)) m × Finished c p
+InnerKeeps m (hashed c p) = Carried c (length (textOf p)) m × PendingPart c p
+InnerKeeps m (inLabel c p at name) = Carried c (length (textOf p) + length name) m × PendingPart c p × NameGiven name
+InnerKeeps m (scoring c p at name) = Carried c (length (textOf p) + length name) m × PendingPart c p × NameGiven name
+InnerKeeps m (inScore c p at name n d) = Carried c (length (textOf p) + length name) m × PendingPart c p × NameGiven name
+InnerKeeps m (scored c p) = Carried c (length (packed p)) m × FinishedPart c p
 
 abbrev pub ContentKeeps : {P : Type 0} → ℕ → Content P → Type 0
 ContentKeeps m lost = Unit {0}
@@ -96,7 +96,7 @@ ContentKeeps m (going c) = InnerKeeps m c
 bytes-more : (t : List ℕ) (b : ℕ) → Each Byte t → Byte b → Each Byte (t ++ (b ∷ []))
 bytes-more t b w h = each-append Byte t (b ∷ []) w (h, tt)
 
-named-more : (t : List ℕ) (b : ℕ) → Named t → Byte b → Named (t ++ (b ∷ []))
+named-more : (t : List ℕ) (b : ℕ) → NameGiven t → Byte b → NameGiven (t ++ (b ∷ []))
 named-more t b w h = let l = length-append t (b ∷ []) in record { some-name = omega arith; bytes = bytes-more t b (w .bytes) h }
 
 module _ {P : Type 0} where
@@ -120,8 +120,8 @@ module _ {P : Type 0} where
   labelled-shape p at name s reference w = record { no-key = w; labelled = tt }
 
   finished :
-      (c : Context P) (p : Part P) (at : P) (name : List ℕ) (s : Option (Number P)) → Pending c p → Named name → OfGiven Signed s
-      → Finished c (labelled p at name s)
+      (c : Context P) (p : Part P) (at : P) (name : List ℕ) (s : Option (Number P)) → PendingPart c p → NameGiven name → OfGiven Signed s
+      → FinishedPart c (labelled p at name s)
   finished c p at name s w h g =
       record {
         shape = record {
@@ -147,9 +147,9 @@ module _ {P : Type 0} where
   -- whole but for a label
   record WholeValue (c : Context P) (p : Part P) (m : ℕ) : Type 0 where
     pub carried : Carried c (length (textOf p)) m
-    pub pending : Pending c p
+    pub pending : PendingPart c p
     pub packed : Carried c (length (packed p)) m
-    pub finished : Finished c p
+    pub finished : FinishedPart c p
 
   whole-value : (c : Context P) (at : P) (k : Key) (v : Value P) (m : ℕ) → Carried c (length (textIn v)) m → PendingValue k v → isReference v ≡ false
       → WholeValue c (unlabelled at k v) m
@@ -167,13 +167,13 @@ module _ {P : Type 0} where
   valued-keeps of-code m w = whole-value _ _ _ (text _) m (w .0) (omega arith, w .1) refl
   valued-keeps of-text m w = whole-value _ _ _ (text _) m (w .0) (omega arith, w .1) refl
 
-  over-keeps : {s : Inner P} {c : Context P} {p : Part P} → Over s c p → (m : ℕ) → InnerKeeps m s → Carried c (length (packed p)) m × Finished c p
+  over-keeps : {s : Inner P} {c : Context P} {p : Part P} → Over s c p → (m : ℕ) → InnerKeeps m s → Carried c (length (packed p)) m × FinishedPart c p
   over-keeps (of-value v) m w = let x = valued-keeps v m w in (x .packed, x .finished)
   over-keeps (of-label {c = c} {p = p} {at = at} {name = name}) m w =
       (subst (λ z. Carried c z m) (sym (length-append (textOf p) name)) (w .0), finished c p at name none (w .1) (w .2) tt)
   over-keeps of-score m w = w
 
-  all-shaped : (c : Context P) (p : Part P) (m : ℕ) → Carried c (length (packed p)) m → Finished c p → Each PartShape (c .parts ++ (p ∷ []))
+  all-shaped : (c : Context P) (p : Part P) (m : ℕ) → Carried c (length (packed p)) m → FinishedPart c p → Each PartShape (c .parts ++ (p ∷ []))
   all-shaped c p m w f = each-append PartShape (c .parts) (p ∷ []) (w .parts) (f .shape, tt)
 
   all-fit : (c : Context P) (p : Part P) (m : ℕ) → Carried c (length (packed p)) m → length (flat packed (c .parts ++ (p ∷ []))) ≤ m + 1

@@ -27,16 +27,16 @@ module _ (p : ℕ → Bool) (s : List ℕ) (i : ℕ) where
 
 -- ---- the loop `while i < s.len() { if class(s[i]) { i += 1 } else { return i } } i`, from the place `at` on
 -- its invariant: the bytes of the class that start at i end where those that start at `at` do
-pub record Run (p : ℕ → Bool) (s : List ℕ) (at i : ℕ) : Type 0 where
+pub record RunGoesOn (p : ℕ → Bool) (s : List ℕ) (at i : ℕ) : Type 0 where
   pub same-end : i + span p (drop i s) ≡ at + span p (drop at s)
 
-pub run-enters : {p : ℕ → Bool} {s : List ℕ} {at : ℕ} → Run p s at at
+pub run-enters : {p : ℕ → Bool} {s : List ℕ} {at : ℕ} → RunGoesOn p s at at
 run-enters = record { same-end = refl }
 
 -- t is what the class says of the byte at i
-module _ {p : ℕ → Bool} {s : List ℕ} {at i : ℕ} (r : Run p s at i) where
+module _ {p : ℕ → Bool} {s : List ℕ} {at i : ℕ} (r : RunGoesOn p s at i) where
   module _ (h : i < length s) {t : Bool} (told : t ≡ p (getD s i 0)) where
-    pub run-goes-on : t ≡ true → Run p s at (i + 1)
+    pub run-goes-on : t ≡ true → RunGoesOn p s at (i + 1)
     run-goes-on e = record { same-end = omega (arith, span-more p s i h (sym told ∙ e), r .same-end) }
 
     pub run-stops : t ≡ false → i ≡ at + span p (drop at s)

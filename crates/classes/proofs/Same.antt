@@ -19,16 +19,16 @@ record Compares (f : ℕ → ℕ) (test : List ℕ → List ℕ → Bool) : Type
   more : (x y : ℕ) (l m : List ℕ) → test (x ∷ l) (y ∷ m) ≡ (eqb (f x) (f y) && test l m)
 
 -- a list of n elements, each by its place
-record Text (l : List ℕ) (n : ℕ) (at : ℕ → ℕ) : Type 0 where
+record ByPlace (l : List ℕ) (n : ℕ) (at : ℕ → ℕ) : Type 0 where
   long : length l ≡ n
   byte : (k : ℕ) → k < n → getD l k 0 ≡ at k
 
 pub record Sides (f : ℕ → ℕ) (test : List ℕ → List ℕ → Bool) (xs ys : List ℕ) (n : ℕ) (at bt : ℕ → ℕ) : Type 0 where
   compares : Compares f test
-  left : Text xs n at
-  right : Text ys n bt
+  left : ByPlace xs n at
+  right : ByPlace ys n bt
 
-stretch : (s : List ℕ) (a n : ℕ) → a + n ≤ length s → Text (part a n s) n (λ k. getD s (a + k) 0)
+stretch : (s : List ℕ) (a n : ℕ) → a + n ≤ length s → ByPlace (part a n s) n (λ k. getD s (a + k) 0)
 stretch s a n h = record { long = omega (arith, length-take n (drop a s), length-drop a s); byte = λ k l. rw (getD-take, getD-drop) }
 
 -- two parts of a line, byte for byte
@@ -55,10 +55,10 @@ pub record Alike (test : List ℕ → List ℕ → Bool) (xs ys : List ℕ) (k :
 pub alike-enters : {test : List ℕ → List ℕ → Bool} {xs ys : List ℕ} → Alike test xs ys 0
 alike-enters = record { decides = refl }
 
-next : {l : List ℕ} {n k : ℕ} {at : ℕ → ℕ} → Text l n at → k < n → drop k l ≡ at k ∷ drop (k + 1) l
+next : {l : List ℕ} {n k : ℕ} {at : ℕ → ℕ} → ByPlace l n at → k < n → drop k l ≡ at k ∷ drop (k + 1) l
 next {l} {n} {k} t h = rw (add-one k, drop-cons l k 0 (omega (arith, t .long)), t .byte k h)
 
-over : {l : List ℕ} {n k : ℕ} {at : ℕ → ℕ} → Text l n at → n ≤ k → drop k l ≡ []
+over : {l : List ℕ} {n k : ℕ} {at : ℕ → ℕ} → ByPlace l n at → n ≤ k → drop k l ≡ []
 over {l} {n} {k} t h = let past : length l ≤ k = omega (arith, t .long) in drop-of-length-le l past
 
 module _

@@ -17,7 +17,7 @@ use Rattle.exchange.specs.Order.{Verdict, Tried}
 use Rattle.exchange.proofs.Least.{same-more, Nothing}
 use Rattle.areas.specs.Floats.{Sized}
 use Rattle.basics.specs.Tests.{and-left}
-use Rattle.exchange.specs.Table.{place, mayIn, StandsAt, Open, Owned, Walkable, Growing, Grew, GrownIn, Shifted, Taken, Augmentable, Augmented, Ready}
+use Rattle.exchange.specs.Table.{place, mayIn, StandsAt, Open, Owned, Walkable, Growing, Grew, GrownIn, Shifted, Taken, Augmentable, Augmented, ReadyFrom}
 
 pub put-set : (l : List ℕ) (i x : ℕ) → i < length l → Put i x (place l) (place (set l i x))
 put-set l i x h = record { here = getD-set-same l i x 0 h; else = λ t n. getD-set-other l i t x 0 n }
@@ -204,7 +204,7 @@ module _ (tab : List ℕ) (k f j : ℕ) (w : List ℕ) (ready : Augmentable tab 
     searching-end l u g m = stuck (mayIn tab) k f j (place w) n (place order) (place parent) (s .grown) (λ a b. s .shut a (omega arith)) u g m
 
 -- ---- one floater at one position
-module _ (tab : List ℕ) (k i y : ℕ) (w : List ℕ) (ready : Ready tab k i w) (o : mayIn tab i y ≡ true) (t : ℕ) (h : Owned w k i y t) where
+module _ (tab : List ℕ) (k i y : ℕ) (w : List ℕ) (ready : ReadyFrom tab k i w) (o : mayIn tab i y ≡ true) (t : ℕ) (h : Owned w k i y t) where
   pub attempt-used : t < i → (u : ℕ → ℕ) → Full (mayIn tab) k u → Same i (place w) u → u i ≡ y → ⊥
   attempt-used l u f s e =
       let z : t ≡ i =

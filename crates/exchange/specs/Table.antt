@@ -82,7 +82,7 @@ abbrev pub Augmented : List ℕ → ℕ → ℕ → List ℕ → Bool → List �
 Augmented tab k f w b r =
     Verdict b (Full (mayIn tab) k (place r) × Same f (place w) (place r)) ((u : ℕ → ℕ) → Full (mayIn tab) k u → Same f (place w) u → ⊥)
 
-pub record Ready (tab : List ℕ) (k i : ℕ) (w : List ℕ) : Type 0 where
+pub record ReadyFrom (tab : List ℕ) (k i : ℕ) (w : List ℕ) : Type 0 where
   pub sized : Sized tab k
   pub full : Full (mayIn tab) k (place w)
   pub inside : i < k

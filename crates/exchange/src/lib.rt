@@ -10,7 +10,7 @@ ghost use Rattle.scope.specs.Limits.{copyLimit, rowLimit, positionLimit};
 ghost use Rattle.areas.specs.Floats.{Sized};
 ghost use Rattle.exchange.specs.Where.{Full};
 ghost use Rattle.exchange.specs.Order.{Tried, Sought, Lowered, Settled, Next, IsFirst};
-ghost use Rattle.exchange.specs.Table.{place, mayIn, StandsAt, Owned, Open, Spare, Listed, Growing, Grew, Walkable, Shifted, Augmentable, Augmented, Ready};
+ghost use Rattle.exchange.specs.Table.{place, mayIn, StandsAt, Owned, Open, Spare, Listed, Growing, Grew, Walkable, Shifted, Augmentable, Augmented, ReadyFrom};
 
 // Where each floater stands.
 pub struct Standing {
@@ -190,7 +190,7 @@ fn augment(tab: &[u8], k: usize, f: usize, j: usize, w: Standing) -> Answer
 
 // Floater i at y, where it may stand, those below i unmoved?
 fn placed(tab: &[u8], k: usize, i: usize, y: usize, p: Standing) -> Answer
-    requires { ⌜ Ready (now tab) k i (p .at) × (mayIn (now tab) i y ≡ true) ⌝ }
+    requires { ⌜ ReadyFrom (now tab) k i (p .at) × (mayIn (now tab) i y ≡ true) ⌝ }
     ensures { λ r. ⌜ Tried (mayIn (now (tab .entry))) k i y (place (p .at)) (r .ok) (place (r .at .at)) ⌝ }
 {
     let mut w = p;
@@ -207,7 +207,7 @@ fn placed(tab: &[u8], k: usize, i: usize, y: usize, p: Standing) -> Answer
 
 // Floater i at y, those below i unmoved?
 fn attempt(tab: &[u8], k: usize, i: usize, y: usize, p: Standing) -> Answer
-    requires { ⌜ Ready (now tab) k i (p .at) × (y < positionLimit) ⌝ }
+    requires { ⌜ ReadyFrom (now tab) k i (p .at) × (y < positionLimit) ⌝ }
     ensures { λ r. ⌜ Tried (mayIn (now (tab .entry))) k i y (place (p .at)) (r .ok) (place (r .at .at)) ⌝ }
 {
     if may(tab, i, y) {
@@ -218,7 +218,7 @@ fn attempt(tab: &[u8], k: usize, i: usize, y: usize, p: Standing) -> Answer
 
 // The least y from `from` and below `to` that floater i can take, those below i unmoved.
 fn seek(tab: &[u8], k: usize, i: usize, from: usize, to: usize, w: Standing) -> Answer
-    requires { ⌜ Ready (now tab) k i (w .at) × (to ≤ positionLimit) ⌝ }
+    requires { ⌜ ReadyFrom (now tab) k i (w .at) × (to ≤ positionLimit) ⌝ }
     ensures { λ r. ⌜ Sought (mayIn (now (tab .entry))) k i from to (place (w .at)) (r .ok) (place (r .at .at)) ⌝ }
 {
     let mut y = from;
@@ -234,7 +234,7 @@ fn seek(tab: &[u8], k: usize, i: usize, from: usize, to: usize, w: Standing) -> 
 
 // Floater i at its least, those below i unmoved.
 fn lowered(tab: &[u8], k: usize, i: usize, w: Standing) -> Standing
-    requires { ⌜ Ready (now tab) k i (w .at) ⌝ }
+    requires { ⌜ ReadyFrom (now tab) k i (w .at) ⌝ }
     ensures { λ r. ⌜ Lowered (mayIn (now (tab .entry))) k i (place (w .at)) (place (r .at)) ⌝ }
 {
     let x = w.at[i];

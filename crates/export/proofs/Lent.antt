@@ -13,7 +13,7 @@ use Rattle.scope.specs.Lists.{laid}
 use Rattle.scope.specs.Masses.{ledger}
 use Rattle.scope.specs.Answers.{Said, good, refuses, allows, books, entries}
 use Rattle.export.specs.Numbers.{numberOf, placeLeft}
-use Rattle.export.specs.Shapes.{allowsLent, booksLent, entriesAfter, Entered}
+use Rattle.export.specs.Shapes.{allowsLent, booksLent, entriesAfter, ReadEntered}
 
 module _ (bs : List ℕ) (ns : List ℤ) (p : List ℕ) where
   pub allows-short : length p < copyLimit → allowsLent bs ns p ≡ refuses 13 0
@@ -25,17 +25,17 @@ module _ (bs : List ℕ) (ns : List ℤ) (p : List ℕ) where
   -- `place` is what the lent place held
   module _ (old : List ℤ) (place : ℕ) where
     entered : {said : Said (Unit {0})} → booksLent bs ns p old ≡ said
-        → Entered bs ns p old place (numberOf said) (placeLeft said place) (entriesAfter said (tablesIn bs ns) (take copyLimit p) old)
+        → ReadEntered bs ns p old place (numberOf said) (placeLeft said place) (entriesAfter said (tablesIn bs ns) (take copyLimit p) old)
     entered e =
         record {
           numbered = record { number-is = ap numberOf (sym e); place-is = ap (λ s. placeLeft s place) (sym e) };
           entries-after = ap (λ s. entriesAfter s (tablesIn bs ns) (take copyLimit p) old) (sym e);
         }
 
-    pub short-placement : length p < copyLimit → Entered bs ns p old place 13 0 old
+    pub short-placement : length p < copyLimit → ReadEntered bs ns p old place 13 0 old
     short-placement h = entered {said = refuses 13 0} (rw (lt-ltb (length p) copyLimit h))
 
-    pub short-entries : copyLimit ≤ length p → length old < positionLimit → Entered bs ns p old place 13 0 old
+    pub short-entries : copyLimit ≤ length p → length old < positionLimit → ReadEntered bs ns p old place 13 0 old
     short-entries h l = entered {said = refuses 13 0} (rw (le-ltb (length p) copyLimit h, lt-ltb (length old) positionLimit l))
 
     books-long : copyLimit ≤ length p → positionLimit ≤ length old → booksLent bs ns p old ≡ books bs ns (take copyLimit p)
@@ -46,14 +46,14 @@ module _ (bs : List ℕ) (ns : List ℤ) (p : List ℕ) where
       said-of : {said : Said (Unit {0})} → said ≡ books bs ns q → booksLent bs ns p old ≡ said
       said-of e = books-long h l ∙ ap (books bs ns) (sym begins) ∙ sym e
 
-      pub refused-long : {number why : ℕ} → refuses number why ≡ books bs ns q → Entered bs ns p old place number why old
+      pub refused-long : {number why : ℕ} → refuses number why ≡ books bs ns q → ReadEntered bs ns p old place number why old
       refused-long {number} {why} e = entered {said = refuses number why} (said-of e)
 
       pub booked-long : {at new : List ℤ} → good tt ≡ books bs ns q → at ≡ entries (books bs ns q) (tablesIn bs ns) q → length at ≡ positionLimit
-          → new ≡ take positionLimit at ++ drop positionLimit old → Entered bs ns p old place 0 place new
+          → new ≡ take positionLimit at ++ drop positionLimit old → ReadEntered bs ns p old place 0 place new
       booked-long {at} {new} e is long put =
           let booked = ledger (tablesIn bs ns) (take copyLimit p) in
           let here : at ≡ booked = is ∙ ap (λ s. entries s (tablesIn bs ns) q) (sym e) ∙ ap (ledger (tablesIn bs ns)) begins in
           let whole : take positionLimit at ≡ booked = take-all positionLimit at (omega (arith, long)) ∙ here in
           let after : new ≡ laid booked old = put ∙ ap (λ a. a ++ drop positionLimit old) whole ∙ ap (λ n. booked ++ drop n old) (sym long ∙ ap length here) in
-          subst (Entered bs ns p old place 0 place) (sym after) (entered {said = good tt} (said-of e))
+          subst (ReadEntered bs ns p old place 0 place) (sym after) (entered {said = good tt} (said-of e))

@@ -67,7 +67,7 @@ abbrev pub entriesAfter : Said (Unit {0}) → Tables → List ℕ → List ℤ �
 entriesAfter (good x) t p old = laid (ledger t p) old
 entriesAfter (refuses number place) t p old = old
 
-pub record Entered (bs : List ℕ) (ns : List ℤ) (p : List ℕ) (old : List ℤ) (place number place′ : ℕ) (new : List ℤ) : Type 0 where
+pub record ReadEntered (bs : List ℕ) (ns : List ℤ) (p : List ℕ) (old : List ℤ) (place number place′ : ℕ) (new : List ℤ) : Type 0 where
   pub numbered : Numbered (booksLent bs ns p old) place number place′
   pub entries-after : new ≡ entriesAfter (booksLent bs ns p old) (tablesIn bs ns) (take copyLimit p) old
 

@@ -15,7 +15,7 @@ ghost use Rattle.scope.specs.Limits.{copyLimit};
 ghost use Rattle.scope.specs.Answers.{saysWrite, saysTotal, saysShown, counts, residueCount, bracketCount, floaterCount, totals, shows};
 ghost use Rattle.calls.specs.Single.{weighsAt};
 ghost use Rattle.export.specs.Handed.{Counted};
-ghost use Rattle.export.specs.Shapes.{Measured, Written, Totalled, Displayed, AllowedLent, Entered, FloatersHanded};
+ghost use Rattle.export.specs.Shapes.{Measured, Written, Totalled, Displayed, AllowedLent, ReadEntered, FloatersHanded};
 
 // How many residues there are: 0 and the count; else 13 or 14.
 #[no_mangle]
@@ -221,7 +221,7 @@ pub extern "C" fn hwemiduk_ledger(
     entries: &mut [i64],
     place: &mut usize,
 ) -> u8
-    ensures { λ r. ⌜ Entered (now (bytes .entry)) (now (numbers .entry)) (now (placement .entry)) (now (entries .entry)) (now (place .entry)) r (now (place .exit)) (now (entries .exit)) ⌝ }
+    ensures { λ r. ⌜ ReadEntered (now (bytes .entry)) (now (numbers .entry)) (now (placement .entry)) (now (entries .entry)) (now (place .entry)) r (now (place .exit)) (now (entries .exit)) ⌝ }
 {
     if placement.len() < Placement::COPIES {
         *place = 0;

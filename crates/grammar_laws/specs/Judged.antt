@@ -14,16 +14,16 @@ use Rattle.reading_laws.specs.Proved as reads
 use Rattle.clause_laws.specs.Proved as clauses
 use Rattle.scope.specs.Grammar.{means}
 use Rattle.grammar_laws.specs.Written.{line-read}
-use Rattle.grammar_laws.specs.Laws.{Begun, Stops, Accepts, Refuses, of-bytes, of-order, of-line}
+use Rattle.grammar_laws.specs.Laws.{BegunWell, Stops, Accepts, Refuses, of-bytes, of-order, of-line}
 use Rattle.grammar_laws.specs.Lines.{spelt-read, read-spelt}
 use Rattle.reading_laws.specs.Precedence.{clear-cases, clear-due}
 use Rattle.reading_laws.specs.Taken.{not-long, none-long, some-bytes}
 
 -- ---- the place of refusal 4
-begun-read : (w : List ℕ) → Begun w → (l : List ℕ) × (t : Line ℕ) × (reading (w ++ l) ≡ holds t)
+begun-read : (w : List ℕ) → BegunWell w → (l : List ℕ) × (t : Line ℕ) × (reading (w ++ l) ≡ holds t)
 begun-read w b = (b .more, means (b .tree), ap reading (b .prints) ∙ line-read (b .tree) (b .fine))
 
-read-begun : (w l : List ℕ) (t : Line ℕ) → reading (w ++ l) ≡ holds t → Begun w
+read-begun : (w l : List ℕ) (t : Line ℕ) → reading (w ++ l) ≡ holds t → BegunWell w
 read-begun w l t e = let x = read-spelt (w ++ l) t e in record { more = l; tree = x .tree; fine = x .fine; prints = x .prints }
 
 pub stuck-stops : (s : List ℕ) (i : ℕ) → reading s ≡ stuck i → Stops s i

@@ -67,7 +67,7 @@ pub record ReadTables (s : List ℕ) (t : Tables) : Type 0 where
 
 -- ---- the place of refusal 4
 -- some line that a good spelling prints begins with these bytes
-pub record Begun (w : List ℕ) : Type 0 where
+pub record BegunWell (w : List ℕ) : Type 0 where
   pub more : List ℕ
   pub tree : Spelling
   pub fine : good tree ≡ true
@@ -76,8 +76,8 @@ pub record Begun (w : List ℕ) : Type 0 where
 -- "first byte with which no line of any length begins so; else the line's length"
 pub record Stops (s : List ℕ) (i : ℕ) : Type 0 where
   pub inside : i ≤ length s
-  pub begins : Begun (take i s)
-  pub stops : i < length s → Begun (take (i + 1) s) → ⊥
+  pub begins : BegunWell (take i s)
+  pub stops : i < length s → BegunWell (take (i + 1) s) → ⊥
   pub ends : i ≡ length s → (t : Spelling) → good t ≡ true → s ≡ print t → ⊥
 
 -- ---- which lines are accepted, and what the others are refused with

@@ -187,13 +187,13 @@ pub so-first : (b : ℕ) → isDigit b ≡ true → SoFar false (whole false (va
 so-first b e = (refl, record { some = some-snoc isDigit [] b (all-nil isDigit) e; is = value-one b })
 
 -- a number that is read is spelled
-pub record Spelt {P : Type 0} (i : P) (s : Bool) (x : Number P) (w : List ℕ) : Type 0 where
+pub record NumberSpelt {P : Type 0} (i : P) (s : Bool) (x : Number P) (w : List ℕ) : Type 0 where
   pub numeral : Numeral
   pub good : goodNumeral numeral ≡ true
   pub prints : w ≡ printNumeral numeral
   pub means : x ≡ meansNumeral i s numeral
 
-pub so-ended : {P : Type 0} (i : P) (s : Bool) (d : Digits) (x : Number P) (w : List ℕ) → SoFar s d w → numberEnd i d ≡ some x → Spelt i s x w
+pub so-ended : {P : Type 0} (i : P) (s : Bool) (d : Digits) (x : Number P) (w : List ℕ) → SoFar s d w → numberEnd i d ≡ some x → NumberSpelt i s x w
 unfolding numberEnd
 so-ended i s (signed t) x w f e = absurd (Option·none-ne-some x e)
 so-ended i s (whole t m) x w f e =

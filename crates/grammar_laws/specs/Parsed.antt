@@ -85,7 +85,7 @@ pub record Curlies (l : List ℕ) : Type 0 where
   pub all : l ≡ flat printCurly labiles ++ (printFront front ++ rest)
   pub then : Sequence rest
 
-pub record Whole (l : List ℕ) : Type 0 where
+pub record LineWhole (l : List ℕ) : Type 0 where
   pub runs : List Run
   pub good : every goodRun runs ≡ true
   pub rest : List ℕ
@@ -98,7 +98,7 @@ pub record Marks (l : List ℕ) : Type 0 where
   pub good : every goodMarked marked ≡ true
   pub rest : List ℕ
   pub all : l ≡ flat printMarked marked ++ (question ∷ rest)
-  pub then : Whole rest
+  pub then : LineWhole rest
 
 pub record Counts (l : List ℕ) : Type 0 where
   pub count : Option (List ℕ)
@@ -126,8 +126,8 @@ pub data Either (l : List ℕ) : Type 0 where
   in-front : Squares true Dashed l → Either l
 
 abbrev Left : Mode → List ℕ → Type 0
-Left Front l = Whole l
-Left Runs l = Whole l
+Left Front l = LineWhole l
+Left Runs l = LineWhole l
 Left Undecided l = Either l
 Left Counted l = Counts l
 Left Referred l = Squares true Dashed l
@@ -148,7 +148,7 @@ Left CStart l = SomeSquares true Empty l
 Left CTerms l = Squares true Empty l
 
 -- ---- what a byte leaves, by what it does
-record Taken (s : Slot) (l : List ℕ) : Type 0 where
+record ByteTaken (s : Slot) (l : List ℕ) : Type 0 where
   pub tree : Inside
   pub good : goodInside (s .refers) (s .labels) tree ≡ true
   pub rest : List ℕ
@@ -159,7 +159,7 @@ After : Act → List ℕ → Type 0
 After Stop l = ⊥
 After (Go m) l = Left m l
 After (aResidue s m) l = Left m l
-After (Begin s) l = Taken s l
+After (Begin s) l = ByteTaken s l
 After Digit l = Left Counting l
 After RunEnds l = Left Runs l
 After TermEnds l = Left Start l
@@ -212,7 +212,7 @@ some-squares r T b x l v e g a w =
     }
 
 -- a bracket whose mode does not ask for a reference
-same-left : (k : Kind) (r : Bool) (m : Mode) (l : List ℕ) (w : Taken (square k r m) l) → Left m (w .rest)
+same-left : (k : Kind) (r : Bool) (m : Mode) (l : List ℕ) (w : ByteTaken (square k r m) l) → Left m (w .rest)
 same-left k r m l w = subst (λ (z : Mode). Left z (w .rest)) (same-mode (bareInside (w .tree)) m) (w .then)
 
 -- ---- elements
@@ -257,35 +257,35 @@ single-left : (b : ℕ) (l : List ℕ) → After (act Single b) l → Squares tr
 unfolding act After
 single-left b l a =
     by (eqb b openSquare) _ _ l a
-    (λ e (w : Taken (square OnResidue true Single) l). squares-cons true Tail b (w .tree) l (w .rest) (eqb-true b openSquare e) (w .good) (w .all) (same-left OnResidue true Single l w))
+    (λ e (w : ByteTaken (square OnResidue true Single) l). squares-cons true Tail b (w .tree) l (w .rest) (eqb-true b openSquare e) (w .good) (w .all) (same-left OnResidue true Single l w))
     (λ e c. no-squares true Tail (b ∷ l) (further-left b l c))
 
 ranged-left : (b : ℕ) (l : List ℕ) → After (act Ranged b) l → Squares false Tail (b ∷ l)
 unfolding act After
 ranged-left b l a =
     by (eqb b openSquare) _ _ l a
-    (λ e (w : Taken (square OnRange false Ranged) l). squares-cons false Tail b (w .tree) l (w .rest) (eqb-true b openSquare e) (w .good) (w .all) (same-left OnRange false Ranged l w))
+    (λ e (w : ByteTaken (square OnRange false Ranged) l). squares-cons false Tail b (w .tree) l (w .rest) (eqb-true b openSquare e) (w .good) (w .all) (same-left OnRange false Ranged l w))
     (λ e c. no-squares false Tail (b ∷ l) (further-left b l c))
 
 rangeEnd-left : (b : ℕ) (l : List ℕ) → After (act RangeEnd b) l → SomeSquares false Tail (b ∷ l)
 unfolding act After
 rangeEnd-left b l a =
     by (eqb b openSquare) _ _ l a
-    (λ e (w : Taken (square OnRange false Ranged) l). some-squares false Tail b (w .tree) l (w .rest) (eqb-true b openSquare e) (w .good) (w .all) (same-left OnRange false Ranged l w))
+    (λ e (w : ByteTaken (square OnRange false Ranged) l). some-squares false Tail b (w .tree) l (w .rest) (eqb-true b openSquare e) (w .good) (w .all) (same-left OnRange false Ranged l w))
     (λ e c. absurd c)
 
 cterms-left : (b : ℕ) (l : List ℕ) → After (act CTerms b) l → Squares true Empty (b ∷ l)
 unfolding act After
 cterms-left b l a =
     by (eqb b openSquare) _ _ l a
-    (λ e (w : Taken (square CTerm true CTerms) l). squares-cons true Empty b (w .tree) l (w .rest) (eqb-true b openSquare e) (w .good) (w .all) (same-left CTerm true CTerms l w))
+    (λ e (w : ByteTaken (square CTerm true CTerms) l). squares-cons true Empty b (w .tree) l (w .rest) (eqb-true b openSquare e) (w .good) (w .all) (same-left CTerm true CTerms l w))
     (λ e c. absurd c)
 
 cstart-left : (b : ℕ) (l : List ℕ) → After (act CStart b) l → SomeSquares true Empty (b ∷ l)
 unfolding act After
 cstart-left b l a =
     by (eqb b openSquare) _ _ l a
-    (λ e (w : Taken (square CTerm true CTerms) l). some-squares true Empty b (w .tree) l (w .rest) (eqb-true b openSquare e) (w .good) (w .all) (same-left CTerm true CTerms l w))
+    (λ e (w : ByteTaken (square CTerm true CTerms) l). some-squares true Empty b (w .tree) l (w .rest) (eqb-true b openSquare e) (w .good) (w .all) (same-left CTerm true CTerms l w))
     (λ e c. absurd c)
 
 -- a residue of a group in front
@@ -307,7 +307,7 @@ module _ (c : Section) (m end : Mode) (T : List ℕ → Type 0) (self : (l : Lis
       by (isLetter b) _ _ l a (λ e w. no-squares true (Spots T) (b ∷ l) (spot-cons T b l e (self l w)))
       (λ e d.
       by (eqb b openSquare) _ _ l d
-      (λ f (w : Taken (square OnResidue true m) l). squares-cons true (Spots T) b (w .tree) l (w .rest) (eqb-true b openSquare f) (w .good) (w .all) (self (w .rest) (same-left OnResidue true m l w)))
+      (λ f (w : ByteTaken (square OnResidue true m) l). squares-cons true (Spots T) b (w .tree) l (w .rest) (eqb-true b openSquare f) (w .good) (w .all) (self (w .rest) (same-left OnResidue true m l w)))
       (λ f d′.
       by (eqb b shutRound) _ _ l d′
       (λ g w. no-squares true (Spots T) (b ∷ l) (record { spots = []; good = every-nil goodSpot; rest = l; all = ap (λ z. z ∷ l) (eqb-true b shutRound g) ∙ each-none printSpot _; then = over l w }))
@@ -375,14 +375,14 @@ nterms-left : (b : ℕ) (l : List ℕ) → After (act NTerms b) l → Squares tr
 unfolding act After
 nterms-left b l a =
     by (eqb b openSquare) _ _ l a
-    (λ e (w : Taken (square NTerm true NTerms) l). squares-cons true Dashed b (w .tree) l (w .rest) (eqb-true b openSquare e) (w .good) (w .all) (same-left NTerm true NTerms l w))
+    (λ e (w : ByteTaken (square NTerm true NTerms) l). squares-cons true Dashed b (w .tree) l (w .rest) (eqb-true b openSquare e) (w .good) (w .all) (same-left NTerm true NTerms l w))
     (λ e c. by (eqb b dash) _ _ l c (λ f w. dashed b l (eqb-true b dash f) w) (λ f w. absurd w))
 
 referred-left : (b : ℕ) (l : List ℕ) → After (act Referred b) l → Squares true Dashed (b ∷ l)
 unfolding act referred After
 referred-left b l a =
     by (eqb b openSquare) _ _ l a
-    (λ e (w : Taken (square Unknown true Referred) l). squares-cons true Dashed b (w .tree) l (w .rest) (eqb-true b openSquare e) (w .good) (w .all) (same-left Unknown true Referred l w))
+    (λ e (w : ByteTaken (square Unknown true Referred) l). squares-cons true Dashed b (w .tree) l (w .rest) (eqb-true b openSquare e) (w .good) (w .all) (same-left Unknown true Referred l w))
     (λ e c. by (eqb b dash) _ _ l c (λ f w. dashed b l (eqb-true b dash f) w) (λ f w. absurd w))
 
 no-curlies : (l : List ℕ) → Sequence l → Curlies l
@@ -406,7 +406,7 @@ fronted b x l v e g a w =
       then = d .then;
     }
 
-curly-cons : (b : ℕ) (l : List ℕ) → b ≡ openCurly → Taken labile l → Curlies (b ∷ l)
+curly-cons : (b : ℕ) (l : List ℕ) → b ≡ openCurly → ByteTaken labile l → Curlies (b ∷ l)
 curly-cons b l e w =
     let c : Curlies (w .rest) = subst (λ (z : Mode). Left z (w .rest)) (same-mode (bareInside (w .tree)) Labiles) (w .then) in
     record {
@@ -422,14 +422,14 @@ curly-cons b l e w =
 labiles-left : (b : ℕ) (l : List ℕ) → After (act Labiles b) l → Curlies (b ∷ l)
 unfolding act After
 labiles-left b l a =
-    by (eqb b openCurly) _ _ l a (λ e (w : Taken labile l). curly-cons b l (eqb-true b openCurly e) w)
+    by (eqb b openCurly) _ _ l a (λ e (w : ByteTaken labile l). curly-cons b l (eqb-true b openCurly e) w)
     (λ e c.
     by (eqb b openSquare) _ _ l c
-    (λ f (w : Taken (square NTerm true NTerms) l). fronted b (w .tree) l (w .rest) (eqb-true b openSquare f) (w .good) (w .all) (same-left NTerm true NTerms l w))
+    (λ f (w : ByteTaken (square NTerm true NTerms) l). fronted b (w .tree) l (w .rest) (eqb-true b openSquare f) (w .good) (w .all) (same-left NTerm true NTerms l w))
     (λ f d. no-curlies (b ∷ l) (element-left b l d)))
 
 -- ---- runs
-run-over : (b : ℕ) (l : List ℕ) → b ≡ question → Whole l → Marks (b ∷ l)
+run-over : (b : ℕ) (l : List ℕ) → b ≡ question → LineWhole l → Marks (b ∷ l)
 run-over b l e w = record { marked = []; good = every-nil goodMarked; rest = l; all = ap (λ z. z ∷ l) e ∙ each-none printMarked _; then = w }
 
 mark-cons : (b : ℕ) (x : Inside) (l v : List ℕ) → b ≡ openSquare → goodInside false true x ≡ true → l ≡ (printInside x ++ (shutSquare ∷ [])) ++ v → Counts v → Marks (b ∷ l)
@@ -454,7 +454,7 @@ marks-left : (b : ℕ) (l : List ℕ) → After (counted b) l → Marks (b ∷ l
 unfolding counted After
 marks-left b l a =
     by (eqb b openSquare) _ _ l a
-    (λ e (w : Taken (square Unknown false Counted) l). mark-cons b (w .tree) l (w .rest) (eqb-true b openSquare e) (w .good) (w .all) (same-left Unknown false Counted l w))
+    (λ e (w : ByteTaken (square Unknown false Counted) l). mark-cons b (w .tree) l (w .rest) (eqb-true b openSquare e) (w .good) (w .all) (same-left Unknown false Counted l w))
     (λ e c. by (eqb b question) _ _ l c (λ f w. run-over b l (eqb-true b question f) w) (λ f w. absurd w))
 
 counted-left : (b : ℕ) (l : List ℕ) → After (act Counted b) l → Counts (b ∷ l)
@@ -485,7 +485,7 @@ pub data Opening (b : ℕ) (l : List ℕ) : Type 0 where
   as-run : Marks (b ∷ l) → Opening b l
   as-front : (x : Inside) (v : List ℕ) → goodInside true true x ≡ true → l ≡ (printInside x ++ (shutSquare ∷ [])) ++ v → Squares true Dashed v → Opening b l
 
-opening : (b : ℕ) (l : List ℕ) → b ≡ openSquare → Taken front l → Opening b l
+opening : (b : ℕ) (l : List ℕ) → b ≡ openSquare → ByteTaken front l → Opening b l
 opening b l e w = go (refers? (bareInside (w .tree))) refl (w .then)
   where
     either : refers? (bareInside (w .tree)) ≡ false → Either (w .rest) → Opening b l
@@ -505,12 +505,12 @@ unfolding act undecided After
 undecided-left b l a =
     by (eqb b caret) _ _ l a (λ e w. in-run (counts b l (eqb-true b caret e) w))
     (λ e c.
-    by (eqb b openSquare) _ _ l c (λ f (w : Taken front l). opening-either b l (eqb-true b openSquare f) (opening b l (eqb-true b openSquare f) w))
+    by (eqb b openSquare) _ _ l c (λ f (w : ByteTaken front l). opening-either b l (eqb-true b openSquare f) (opening b l (eqb-true b openSquare f) w))
     (λ f d.
     by (eqb b question) _ _ l d (λ g w. in-run (uncounted (b ∷ l) (run-over b l (eqb-true b question g) w)))
     (λ g d′. by (eqb b dash) _ _ l d′ (λ h w. in-front (dashed b l (eqb-true b dash h) w)) (λ h w. absurd w))))
 
-no-runs : (l : List ℕ) → Curlies l → Whole l
+no-runs : (l : List ℕ) → Curlies l → LineWhole l
 no-runs l w = record { runs = []; good = every-nil goodRun; rest = l; all = each-none printRun l; then = w }
 
 head-of : List ℕ → ℕ
@@ -518,11 +518,11 @@ head-of [] = 0
 head-of (b ∷ l) = b
 
 -- a run that a bracket begins
-runs-cons : (b : ℕ) (l : List ℕ) → b ≡ openSquare → Marks (b ∷ l) → Whole (b ∷ l)
+runs-cons : (b : ℕ) (l : List ℕ) → b ≡ openSquare → Marks (b ∷ l) → LineWhole (b ∷ l)
 unfolding head-of
 runs-cons b l e w = go (w .marked) (w .good) (w .all)
   where
-    go : (ms : List Marked) → every goodMarked ms ≡ true → b ∷ l ≡ flat printMarked ms ++ (question ∷ w .rest) → Whole (b ∷ l)
+    go : (ms : List Marked) → every goodMarked ms ≡ true → b ∷ l ≡ flat printMarked ms ++ (question ∷ w .rest) → LineWhole (b ∷ l)
     go [] g a =
         let z : b ≡ question = ap head-of (a ∙ ap (λ v. v ++ (question ∷ w .rest)) (flat-nil printMarked)) in
         absurd (omega arith)
@@ -537,16 +537,16 @@ runs-cons b l e w = go (w .marked) (w .good) (w .all)
           then = t .then;
         }
 
-opening-whole : (b : ℕ) (l : List ℕ) → b ≡ openSquare → Opening b l → Whole (b ∷ l)
+opening-whole : (b : ℕ) (l : List ℕ) → b ≡ openSquare → Opening b l → LineWhole (b ∷ l)
 opening-whole b l e (as-run m) = runs-cons b l e m
 opening-whole b l e (as-front x v g a s) = no-runs (b ∷ l) (fronted b x l v e g a s)
 
-front-left : (b : ℕ) (l : List ℕ) → After (atFront b) l → Whole (b ∷ l)
+front-left : (b : ℕ) (l : List ℕ) → After (atFront b) l → LineWhole (b ∷ l)
 unfolding After
 front-left b l a =
-    by (eqb b openSquare) _ _ l a (λ e (w : Taken front l). opening-whole b l (eqb-true b openSquare e) (opening b l (eqb-true b openSquare e) w))
+    by (eqb b openSquare) _ _ l a (λ e (w : ByteTaken front l). opening-whole b l (eqb-true b openSquare e) (opening b l (eqb-true b openSquare e) w))
     (λ e c.
-    by (eqb b openCurly) _ _ l c (λ f (w : Taken labile l). no-runs (b ∷ l) (curly-cons b l (eqb-true b openCurly f) w))
+    by (eqb b openCurly) _ _ l c (λ f (w : ByteTaken labile l). no-runs (b ∷ l) (curly-cons b l (eqb-true b openCurly f) w))
     (λ f d. no-runs (b ∷ l) (no-curlies (b ∷ l) (element-left b l d))))
 
 start-left : (b : ℕ) (l : List ℕ) → After (act Start b) l → Sequence (b ∷ l)
@@ -633,7 +633,7 @@ split (b ∷ l) s h c e = go (innerStep tt c b) refl (ap (λ z. there? (told z))
 abbrev Upto : ℕ → Type 0
 Upto n = (m : Mode) (h : Held Place) (l : List ℕ) → length l ≤ n → Accepts (outside m h) l → Left m l
 
-taken : (n : ℕ) → Upto n → (s : Slot) (h : Held Place) (l : List ℕ) → length l ≤ n → Accepts (inside s tt h (begin (context (s .shut) (s .refers) (s .labels) []))) l → Taken s l
+taken : (n : ℕ) → Upto n → (s : Slot) (h : Held Place) (l : List ℕ) → length l ≤ n → Accepts (inside s tt h (begin (context (s .shut) (s .refers) (s .labels) []))) l → ByteTaken s l
 taken n ih s h l k e =
     let i = split l s h (begin (context (s .shut) (s .refers) (s .labels) [])) e in
     let j = closed-spelled (s .shut) (s .refers) (s .labels) (i .inner) (i .parts) (i .closes) in
@@ -670,12 +670,12 @@ left zero = none-left
 left (suc n) = one-more n (left n)
 
 -- ---- a whole line
-pub record Spelt (l : List ℕ) : Type 0 where
+pub record LineSpelt (l : List ℕ) : Type 0 where
   pub tree : Spelling
   pub fine : good tree ≡ true
   pub prints : l ≡ print tree
 
-spelt : (l : List ℕ) → Whole l → Spelt l
+spelt : (l : List ℕ) → LineWhole l → LineSpelt l
 spelt l w =
     let c = w .then in
     let s = c .then in
@@ -694,5 +694,5 @@ spelt l w =
     }
 
 -- what the reader accepts is printed by a good spelling
-pub accepted-spelt : (l : List ℕ) → there? (told (lineRun start l)) ≡ true → Spelt l
+pub accepted-spelt : (l : List ℕ) → there? (told (lineRun start l)) ≡ true → LineSpelt l
 accepted-spelt l e = spelt l (left (length l) Front _ l (omega arith) e)

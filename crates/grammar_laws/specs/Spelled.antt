@@ -20,7 +20,7 @@ use Rattle.basics.specs.Tests.{and-left, and-right, both}
 use Rattle.scope.specs.Grammar.{someOf, printNumeral, goodNumeral, signByte, Text, printText, goodText, outerByte, withColon, leadKey, firstSign, keyless, Base, delta, code, wording, printBase, takesMass, goodWording, goodBase, keyIn, printSign, isMinus, Tag, printTag, goodTag, Piece, printPiece, formIn, tagFits, goodPiece, printPieces, goodPieces, Inside, parts, refers, printInside, goodInside}
 use Rattle.grammar_laws.specs.Bare.{bareValue, bareScore, barePiece, bareReference, bareInside}
 use Rattle.grammar_laws.specs.Lists.{all-nil, all-one, all-snoc, some-snoc, some-all, not-none}
-use Rattle.grammar_laws.specs.Numerals.{SoFar, so-further, so-first, Spelt, so-ended}
+use Rattle.grammar_laws.specs.Numerals.{SoFar, so-further, so-first, NumberSpelt, so-ended}
 use Rattle.grammar_laws.specs.Texts.{textRun, text-append, text-cons, text-nil, outer, whole-text, plain-stays}
 use Rattle.grammar_laws.specs.Words.{key-word, key-none, no-word, lead-over, lead-colon, lead-none}
 
@@ -215,7 +215,7 @@ module _ (shut : ℕ) (r labels : Bool) where
     pub is : c ≡ context shut r labels (map barePiece pieces)
     pub all : w ≡ fronts pieces
 
-  pub record Plain (c : Context Place) (t w : List ℕ) : Type 0 where
+  pub record PlainText (c : Context Place) (t w : List ℕ) : Type 0 where
     pub before : List ℕ
     pub lead : Lead c before
     pub all : w ≡ before ++ t
@@ -284,7 +284,7 @@ module _ (shut : ℕ) (r labels : Bool) where
 
   unfoldable pub Inv : List ℕ → Inner Place → Type 0
   Inv w (begin c) = Lead c w
-  Inv w (plain c at t) = Plain c t w
+  Inv w (plain c at t) = PlainText c t w
   Inv w (keyed c at k) = (x : Behind c k [] w) × (none? (x .word) ≡ false) × (takesMass (form k) ≡ true)
   Inv w (inNumber c at k p d) = Weighed c k d w
   Inv w (inCode c at k t) = Behind c k t w × (every (accessionByte (form k)) t ≡ true)
@@ -295,7 +295,7 @@ module _ (shut : ℕ) (r labels : Bool) where
   Inv w (inScore c p at name q d) = Scoring c p name d w × (someOf isAlnum name ≡ true)
   Inv w (scored c p) = Made c p w
 
-  pub record Closed (ps : Parts) (w : List ℕ) : Type 0 where
+  pub record ClosedParts (ps : Parts) (w : List ℕ) : Type 0 where
     pub tree : Inside
     pub good : goodInside r labels tree ≡ true
     pub prints : w ≡ printInside tree ++ (shut ∷ [])
@@ -303,7 +303,7 @@ module _ (shut : ℕ) (r labels : Bool) where
 
   unfoldable pub InvC : List ℕ → Content Place → Type 0
   InvC w lost = Unit {0}
-  InvC w (closed ps) = Closed ps w
+  InvC w (closed ps) = ClosedParts ps w
   InvC w (going s) = Inv w s
 
   -- ---- the end of a part
@@ -316,7 +316,7 @@ module _ (shut : ℕ) (r labels : Bool) where
   parts-is : (c : Context Place) (ps : List Piece) → c ≡ context shut r labels (map barePiece ps) → c .parts ≡ map barePiece ps
   parts-is c ps e = ap (λ z. z .parts) e
 
-  joined : (ps : List Piece) (q : Piece) (w : List ℕ) → Each (Fine labels) ps → Fine labels q → w ≡ (fronts ps ++ printPiece q) ++ (shut ∷ []) → Closed (map barePiece ps ++ (barePiece q ∷ [])) w
+  joined : (ps : List Piece) (q : Piece) (w : List ℕ) → Each (Fine labels) ps → Fine labels q → w ≡ (fronts ps ++ printPiece q) ++ (shut ∷ []) → ClosedParts (map barePiece ps ++ (barePiece q ∷ [])) w
   joined [] q w g f e =
       record {
         tree = parts q [];
@@ -332,10 +332,10 @@ module _ (shut : ℕ) (r labels : Bool) where
         means = ap (λ z. barePiece p ∷ z) (sym (means-snoc ps q));
       }
 
-  part-shuts : (c : Context Place) (p : Part Place) (b : ℕ) (w : List ℕ) → b ≡ c .shut → Made c p w → Closed (c .parts ++ (p ∷ [])) (w ++ (b ∷ []))
+  part-shuts : (c : Context Place) (p : Part Place) (b : ℕ) (w : List ℕ) → b ≡ c .shut → Made c p w → ClosedParts (c .parts ++ (p ∷ [])) (w ++ (b ∷ []))
   part-shuts c p b w e (made-part x) =
       let ps = x .lead .pieces in
-      subst (λ (z : Parts). Closed z (w ++ (b ∷ []))) (ap (λ z. z ++ (barePiece (x .piece) ∷ [])) (sym (parts-is c ps (x .lead .is))) ∙ ap (λ z. c .parts ++ (z ∷ [])) (sym (x .is)))
+      subst (λ (z : Parts). ClosedParts z (w ++ (b ∷ []))) (ap (λ z. z ++ (barePiece (x .piece) ∷ [])) (sym (parts-is c ps (x .lead .is))) ∙ ap (λ z. c .parts ++ (z ∷ [])) (sym (x .is)))
       (joined ps (x .piece) (w ++ (b ∷ [])) (x .lead .good) (x .fine) (ap (λ z. z ++ (b ∷ [])) (x .all ∙ ap (λ z. z ++ printPiece (x .piece)) (x .lead .all)) ∙ ap (λ z. (fronts ps ++ printPiece (x .piece)) ++ (z ∷ [])) (e ∙ shut-is c ps (x .lead .is))))
   part-shuts c p b w e (made-reference x) =
       record {
@@ -577,7 +577,7 @@ module _ (shut : ℕ) (r labels : Bool) where
         all = x .all ∙ ap (λ z. x .before ++ (withColon (x .word) ++ z)) (u .prints);
       }
 
-  step-plain : (c : Context Place) (t : List ℕ) (b : ℕ) (w : List ℕ) → Plain c t w → InvC (w ++ (b ∷ [])) (innerStep tt (plain c tt t) b)
+  step-plain : (c : Context Place) (t : List ℕ) (b : ℕ) (w : List ℕ) → PlainText c t w → InvC (w ++ (b ∷ [])) (innerStep tt (plain c tt t) b)
   unfolding innerStep InvC Inv colonAfter named
   step-plain c t b w x =
       branch-on (InvC (w ++ (b ∷ []))) (isPlain b)
@@ -646,7 +646,7 @@ module _ (shut : ℕ) (r labels : Bool) where
       (λ n h. value-end c (unlabelled tt k (mass n)) b w (based n (so-ended tt (x .sign) d n (x .bytes) (x .so) h)) (λ q. mass-tag (form k) (x .takes)))
       (λ h. tt))
     where
-      based : (n : Number Place) → Spelt tt (x .sign) n (x .bytes) → Based c (unlabelled tt k (mass n)) w
+      based : (n : Number Place) → NumberSpelt tt (x .sign) n (x .bytes) → Based c (unlabelled tt k (mass n)) w
       based n s =
           record {
             before = x .behind .before;
@@ -724,6 +724,6 @@ module _ (shut : ℕ) (r labels : Bool) where
   content-inv (b ∷ l) w x i = subst (λ (z : List ℕ). InvC z (contentRun (contentStep x b) l)) (append-assoc w (b ∷ []) l) (content-inv l (w ++ (b ∷ [])) (contentStep x b) (content-step x b w i))
 
   -- a bracket that is closed is what a good tree prints and means
-  pub closed-spelled : (l : List ℕ) (ps : Parts) → contentRun (going (begin (context shut r labels []))) l ≡ closed ps → Closed ps l
+  pub closed-spelled : (l : List ℕ) (ps : Parts) → contentRun (going (begin (context shut r labels []))) l ≡ closed ps → ClosedParts ps l
   unfolding InvC
   closed-spelled l ps e = subst (λ (z : Content Place). InvC l z) e (content-inv l [] (going (begin (context shut r labels []))) inner-start)

@@ -147,7 +147,7 @@ module _ (hashes : Bool) where
       (outer-run t (and-right (goodText plainByte u) (goodText (outerByte hashes) t) e))
 
 -- ---- bytes that leave no closer owed are texts: one up to each closer, and one behind the last
-pub record Whole (hashes : Bool) (l : List ℕ) : Type 0 where
+pub record WholeTexts (hashes : Bool) (l : List ℕ) : Type 0 where
   pub tree : Text
   pub good : goodText (outerByte hashes) tree ≡ true
   pub prints : l ≡ printText tree
@@ -160,7 +160,7 @@ pub record UpTo (c : ℕ) (l : List ℕ) (Behind : List ℕ → Type 0) : Type 0
   pub behind : Behind rest
 
 Nested : Bool → List ℕ → List ℕ → Type 0
-Nested hashes [] l = Whole hashes l
+Nested hashes [] l = WholeTexts hashes l
 Nested hashes (c ∷ cs) l = UpTo c l (Nested hashes cs)
 
 good-byte : (f : ℕ → Bool) (b : ℕ) (t : Text) → f b ≡ true → goodText f t ≡ true → goodText f (byte b t) ≡ true
@@ -304,7 +304,7 @@ module _ (hashes : Bool) where
           go false false false p q r g = absurd (Option·none-ne-some [] g)
 
   -- bytes that leave no closer owed are a text
-  pub whole-text : (l : List ℕ) → textRun hashes [] l ≡ some [] → Whole hashes l
+  pub whole-text : (l : List ℕ) → textRun hashes [] l ≡ some [] → WholeTexts hashes l
   unfolding Nested
   whole-text l e = nested l [] e
 

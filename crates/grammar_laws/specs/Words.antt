@@ -94,7 +94,7 @@ unfolding spell sameFolded
 no-word = refl
 
 -- ---- a key that is found
-record Named (t : List ℕ) (k : Key) : Type 0 where
+record KeyNamed (t : List ℕ) (k : Key) : Type 0 where
   pub folds : sameFolded (spell k) t ≡ true
   pub letters : every isLetter (spell k) ≡ true
 
@@ -102,16 +102,16 @@ all-letters : Each (λ k. every isLetter (spell k) ≡ true) keys
 unfolding keys spell every
 all-letters = (refl, (refl, (refl, (refl, (refl, (refl, (refl, (refl, (refl, (refl, (refl, (refl, (refl, (refl, (refl, (refl, (refl, tt)))))))))))))))))
 
-among-named : (ks : List Key) (t : List ℕ) (k : Key) → Each (λ q. every isLetter (spell q) ≡ true) ks → keyAmong ks t ≡ some k → Named t k
+among-named : (ks : List Key) (t : List ℕ) (k : Key) → Each (λ q. every isLetter (spell q) ≡ true) ks → keyAmong ks t ≡ some k → KeyNamed t k
 unfolding keyAmong
 among-named [] t k w e = absurd (Option·none-ne-some k e)
 among-named (q ∷ ks) t k w e = go (sameFolded (spell q) t) refl e (λ f. among-named ks t k (w .1) f)
   where
-    go : (b : Bool) → sameFolded (spell q) t ≡ b → cond b (some q) (keyAmong ks t) ≡ some k → (keyAmong ks t ≡ some k → Named t k) → Named t k
-    go true f e ih = subst (λ (z : Key). Named t z) (Option·some-injective q k e) (record { folds = f; letters = w .0 })
+    go : (b : Bool) → sameFolded (spell q) t ≡ b → cond b (some q) (keyAmong ks t) ≡ some k → (keyAmong ks t ≡ some k → KeyNamed t k) → KeyNamed t k
+    go true f e ih = subst (λ (z : Key). KeyNamed t z) (Option·some-injective q k e) (record { folds = f; letters = w .0 })
     go false f e ih = ih e
 
-named : (t : List ℕ) (k : Key) → keyOf t ≡ some k → Named t k
+named : (t : List ℕ) (k : Key) → keyOf t ≡ some k → KeyNamed t k
 unfolding keyOf
 named t k e = among-named keys t k all-letters e
 

@@ -23,7 +23,7 @@ use Rattle.held.specs.Tells.{Tells}
 use Rattle.held.specs.Held.{PartSeen, FrameFits, FrameHeld, BracketThere, BracketHeld, BracketSeen}
 use Rattle.held.proofs.Joins.{tells-itself, tells-both, Joins, joins-beside, tells-then}
 use Rattle.held.proofs.Places.{at-nil, at-joins, at-cons, at-padded}
-use Rattle.held.proofs.Upto.{Upto, upto-start, upto-room, upto-next, upto-texts, upto-end}
+use Rattle.held.proofs.Upto.{HeldUpto, upto-start, upto-room, upto-next, upto-texts, upto-end}
 use Rattle.held.proofs.PartLaws.{massOf, PartsHeld, no-parts, parts-joins}
 
 -- ---- a bracket is what it has beside its parts, and its parts
@@ -80,20 +80,20 @@ frame-fits e s =
       numbers-long = f .numbers-long;
     }
 
-pub record Parting (line heads parts : List ℕ) (masses scores : List ℤ) (k : ℕ) (bytes : List ℕ) (numbers : List ℤ) (m n : ℕ) (first : Seen) (j : ℕ) (seen : Seen) : Type 0 where
+pub record HoldingParts (line heads parts : List ℕ) (masses scores : List ℤ) (k : ℕ) (bytes : List ℕ) (numbers : List ℤ) (m n : ℕ) (first : Seen) (j : ℕ) (seen : Seen) : Type 0 where
   pub base-is : m ≡ baseField heads k
   pub many : n ≡ partsField heads k
   pub few : j ≤ n
   pub there : (b : Bracket ℕ) × BracketThere line heads parts masses scores k (first .texts) b bytes numbers
   pub upto : (b : Bracket ℕ) → BracketThere line heads parts masses scores k (first .texts) b bytes numbers
-      → Upto (PartsHeld bytes numbers k) packed (first .texts) (b .parts) (first .so) j (seen .texts) (seen .so)
+      → HeldUpto (PartsHeld bytes numbers k) packed (first .texts) (b .parts) (first .so) j (seen .texts) (seen .so)
 
 module _ {line heads parts : List ℕ} {masses scores : List ℤ} {k : ℕ} {bytes : List ℕ} {numbers : List ℤ} {m n : ℕ} where
   pub parting-start : (first : Seen) → (b : Bracket ℕ) × BracketThere line heads parts masses scores k (first .texts) b bytes numbers → m ≡ baseField heads k → n ≡ partsField heads k
-      → Parting line heads parts masses scores k bytes numbers m n first 0 first
+      → HoldingParts line heads parts masses scores k bytes numbers m n first 0 first
   parting-start first s e f = record { base-is = e; many = f; few = omega arith; there = s; upto = λ b h. upto-start }
 
-  module _ {first : Seen} {j : ℕ} {seen : Seen} (w : Parting line heads parts masses scores k bytes numbers m n first j seen) where
+  module _ {first : Seen} {j : ℕ} {seen : Seen} (w : HoldingParts line heads parts masses scores k bytes numbers m n first j seen) where
     module _ {b : Bracket ℕ} (f : BracketThere line heads parts masses scores k (first .texts) b bytes numbers) (h : j < n) where
       next : Among (b .parts) j
       next = among (b .parts) j (omega (arith, w .many, f .noted .fields .parts))
@@ -110,7 +110,7 @@ module _ {line heads parts : List ℕ} {masses scores : List ℤ} {k : ℕ} {byt
           (omega (arith, upto-room (w .upto b f) next, f .texts-room)) (f .few-brackets) (omega (arith, f .noted .within .few-parts)) (f .bytes-long) (f .numbers-long)
 
       further : {r : Seen} → PartSeen line parts masses (m + j) k j bytes numbers seen r
-          → Upto (PartsHeld bytes numbers k) packed (first .texts) (b .parts) (first .so) (j + 1) (r .texts) (r .so)
+          → HeldUpto (PartsHeld bytes numbers k) packed (first .texts) (b .parts) (first .so) (j + 1) (r .texts) (r .so)
       further {r} q =
           let p = next .this in
           let t = seen .texts in
@@ -121,7 +121,7 @@ module _ {line heads parts : List ℕ} {masses scores : List ℤ} {k : ℕ} {byt
     pub parting-fits : j < n → RowFits line parts masses (m + j) k j (seen .texts) bytes numbers
     parting-fits h = fits (w .there .1) h
 
-    pub parting-next : j < n → {r : Seen} → PartSeen line parts masses (m + j) k j bytes numbers seen r → Parting line heads parts masses scores k bytes numbers m n first (j + 1) r
+    pub parting-next : j < n → {r : Seen} → PartSeen line parts masses (m + j) k j bytes numbers seen r → HoldingParts line heads parts masses scores k bytes numbers m n first (j + 1) r
     parting-next h q = record { base-is = w .base-is; many = w .many; few = omega arith; there = w .there; upto = λ b f. further f h q }
 
     pub parting-end : n ≤ j → {before frame : Bool} → first .so ≡ (before && frame) → Tells frame (FrameHeld heads scores k n bytes numbers)

@@ -30,7 +30,7 @@ use Rattle.held.specs.Tells.{Tells}
 use Rattle.held.specs.Held.{FrontHeld, HeldFrom, BracketThere, BracketHeld, BracketSeen, RestHeld}
 use Rattle.held.proofs.Joins.{Joins, joins-pair, tells-joined, tells-then}
 use Rattle.held.proofs.Places.{at-nil, at-joins, at-padded}
-use Rattle.held.proofs.Upto.{held-joins, Upto, upto-start, upto-room, upto-next, upto-texts, upto-end}
+use Rattle.held.proofs.Upto.{held-joins, HeldUpto, upto-start, upto-room, upto-next, upto-texts, upto-end}
 
 -- ---- the brackets from k on, their texts behind t others
 abbrev pub BracketsHeld : List ℕ → List ℤ → ℕ → ℕ → List (Bracket ℕ) → Type 0
@@ -127,13 +127,13 @@ module _ (l : Line ℕ) (w : Within l) (bytes : List ℕ) (numbers : List ℤ) w
       v .back (front-at bytesSize (bytesOf l) bytes (b .0 (p .0)), front-at numbersSize (numbersOf l) numbers (n .0 (p .1))))
 
 -- ---- the loop, over the brackets of the line that is noted
-pub record Bracketing (line letters sections heads parts : List ℕ) (masses scores : List ℤ) (residues brackets : ℕ) (bytes : List ℕ) (numbers : List ℤ) (first : Seen) (k : ℕ) (seen : Seen) : Type 0 where
+pub record HoldingBrackets (line letters sections heads parts : List ℕ) (masses scores : List ℤ) (residues brackets : ℕ) (bytes : List ℕ) (numbers : List ℤ) (first : Seen) (k : ℕ) (seen : Seen) : Type 0 where
   pub holds-line : Line ℕ
   pub noted : LineNoted line letters sections heads parts masses scores residues brackets holds-line
   pub bytes-long : bytesSize ≤ length bytes
   pub numbers-long : numbersSize ≤ length numbers
   pub few : k ≤ brackets
-  pub upto : Upto (BracketsHeld bytes numbers) bracketTexts 0 (holds-line .brackets) (first .so) k (seen .texts) (seen .so)
+  pub upto : HeldUpto (BracketsHeld bytes numbers) bracketTexts 0 (holds-line .brackets) (first .so) k (seen .texts) (seen .so)
 
 pub front-fits : {line letters sections heads parts : List ℕ} {masses scores : List ℤ} {residues brackets : ℕ} {bytes : List ℕ} {l : Line ℕ}
     → LineNoted line letters sections heads parts masses scores residues brackets l → bytesSize ≤ length bytes → FrontFits letters sections residues brackets bytes
@@ -148,10 +148,10 @@ front-fits w h =
 
 module _ {line letters sections heads parts : List ℕ} {masses scores : List ℤ} {residues brackets : ℕ} {bytes : List ℕ} {numbers : List ℤ} where
   pub bracketing-start : (so : Bool) {l : Line ℕ} → LineNoted line letters sections heads parts masses scores residues brackets l → bytesSize ≤ length bytes → numbersSize ≤ length numbers
-      → Bracketing line letters sections heads parts masses scores residues brackets bytes numbers (record { so = so; texts = 0 }) 0 (record { so = so; texts = 0 })
+      → HoldingBrackets line letters sections heads parts masses scores residues brackets bytes numbers (record { so = so; texts = 0 }) 0 (record { so = so; texts = 0 })
   bracketing-start so {l} w b n = record { holds-line = l; noted = w; bytes-long = b; numbers-long = n; few = omega arith; upto = upto-start }
 
-  module _ {first : Seen} {k : ℕ} {seen : Seen} (v : Bracketing line letters sections heads parts masses scores residues brackets bytes numbers first k seen) where
+  module _ {first : Seen} {k : ℕ} {seen : Seen} (v : HoldingBrackets line letters sections heads parts masses scores residues brackets bytes numbers first k seen) where
     abbrev l : Line ℕ
     l = v .holds-line
 
@@ -179,7 +179,7 @@ module _ {line letters sections heads parts : List ℕ} {masses scores : List �
       bracketing-fits = (next .this, next-there)
 
       pub bracketing-next : {r : Seen} → ((b : Bracket ℕ) → BracketThere line heads parts masses scores k (seen .texts) b bytes numbers → BracketSeen k b bytes numbers seen r)
-          → Bracketing line letters sections heads parts masses scores residues brackets bytes numbers first (k + 1) r
+          → HoldingBrackets line letters sections heads parts masses scores residues brackets bytes numbers first (k + 1) r
       bracketing-next {r} told =
           let q = told (next .this) next-there in
           record {

@@ -35,15 +35,15 @@ held-joins bytes numbers row t number row′ t′ number′ a b c a′ b′ c′
     }
 
 -- ---- the loop: H i t xs is held of these from i on, their texts behind t others, and each has texts
-pub record Upto {X : Type 0} (H : ℕ → ℕ → List X → Type 0) (T : X → List ℕ) (t : ℕ) (xs : List X) (first : Bool) (i u : ℕ) (so : Bool) : Type 0 where
+pub record HeldUpto {X : Type 0} (H : ℕ → ℕ → List X → Type 0) (T : X → List ℕ) (t : ℕ) (xs : List X) (first : Bool) (i u : ℕ) (so : Bool) : Type 0 where
   pub texts-left : u + length (flat T (drop i xs)) ≡ t + length (flat T xs)
   pub left : Left so (H i u (drop i xs)) ((first ≡ true) × H 0 t xs)
 
 module _ {X : Type 0} {H : ℕ → ℕ → List X → Type 0} {T : X → List ℕ} {t : ℕ} {xs : List X} {first : Bool} where
-  pub upto-start : Upto H T t xs first 0 t first
+  pub upto-start : HeldUpto H T t xs first 0 t first
   upto-start = record { texts-left = refl; left = joins-pair }
 
-  module _ {i u : ℕ} {so : Bool} (w : Upto H T t xs first i u so) where
+  module _ {i u : ℕ} {so : Bool} (w : HeldUpto H T t xs first i u so) where
     module _ (x : Among xs i) where
       this-left : drop i xs ≡ x .this ∷ x .behind
       this-left = ap (drop i) (x .is) ∙ drop-at (x .before) (x .this ∷ x .behind) i (sym (x .place))
@@ -64,7 +64,7 @@ module _ {X : Type 0} {H : ℕ → ℕ → List X → Type 0} {T : X → List �
       upto-room = omega (arith, texts-long)
 
       pub upto-next : {P : Type 0} {v : ℕ} {r : Bool} → v ≡ u + length (T (x .this)) → Joins P (H (i + 1) v (x .behind)) (H i u (x .this ∷ x .behind))
-          → Tells r ((so ≡ true) × P) → Upto H T t xs first (i + 1) v r
+          → Tells r ((so ≡ true) × P) → HeldUpto H T t xs first (i + 1) v r
       upto-next {v = v} {r = r} e joins told =
           record {
             texts-left = ap (λ l. v + length (flat T l)) rest-left ∙ omega (arith, texts-long);

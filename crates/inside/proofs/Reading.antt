@@ -22,7 +22,7 @@ use Rattle.dues.specs.Ranks.{lowest}
 use Rattle.values.specs.declared.Value.{Value}
 use Rattle.values.specs.declared.ValueAt.{ValueAt}
 use Rattle.values.specs.declared.ValueAt.the-variants.{Stuck as No-value, Read as A-value}
-use Rattle.values.specs.Says.{through, Opens, Reads, ValueSays}
+use Rattle.values.specs.Says.{through, Opens, ValueReads, ValueSays}
 use Rattle.labels.specs.declared.Label.{Label as Named}
 use Rattle.labels.specs.declared.LabelAt.{LabelAt}
 use Rattle.labels.specs.declared.LabelAt.the-variants.{Stuck as No-label, Read as A-label}
@@ -73,7 +73,7 @@ fits line o at s parts masses f w =
     }
 
 -- ---- to the value of the next part
-pub a-value : (line : List ℕ) (at : ℕ) (first : Bool) (f : ValueAt) (v : Value) → ValueSays line at first f → f ≡ A-value v → Reads line at first v
+pub a-value : (line : List ℕ) (at : ℕ) (first : Bool) (f : ValueAt) (v : Value) → ValueSays line at first f → f ≡ A-value v → ValueReads line at first v
 a-value line at first f v w e = rw e at w
 
 module _ (line : List ℕ) (o : Opening) (at : ℕ) (s : Parts) (parts : List ℕ) (masses : List ℤ) (w : Sofar line o at s parts masses) (first : Bool)
@@ -94,7 +94,7 @@ module _ (line : List ℕ) (o : Opening) (at : ℕ) (s : Parts) (parts : List �
       → (l : Slot) (i : ℕ) (h : Held ℕ) → SlotIs o l → rest line (o .at) (inside l i h (begin (holding o []))) ≡ stuck p
   no-value f p v e l i h g = to-byte l i h g ∙ (rw e at v) l i h here opens
 
-  pub reached : (v : Value) (r : Reads line at first v) (t : Parts) (parts′ : List ℕ) (masses′ : List ℤ) → PartsAre line (o .least) t (w .found ++ (r .found ∷ []))
+  pub reached : (v : Value) (r : ValueReads line at first v) (t : Parts) (parts′ : List ℕ) (masses′ : List ℤ) → PartsAre line (o .least) t (w .found ++ (r .found ∷ []))
       → Grows o (w .found ++ (r .found ∷ [])) parts′ masses′ → Reached line o (v .to) valueEnd t (w .found) (r .found) parts′ masses′
   reached v r t parts′ masses′ are grows =
       let a = are .count in

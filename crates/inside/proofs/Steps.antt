@@ -25,7 +25,7 @@ use Rattle.dues.specs.Lines.{overRank, partCodes, labelCodes}
 use Rattle.dues.specs.Steps.{of-label}
 use Rattle.dues.specs.Found.{ValueFound, LabelFound}
 use Rattle.values.specs.declared.Value.{Value}
-use Rattle.values.specs.Says.{IsValue, Reads}
+use Rattle.values.specs.Says.{IsValue, ValueReads}
 use Rattle.labels.specs.declared.Label.{Label as Named}
 use Rattle.labels.specs.Says.{IsLabel, ReadsLabel}
 use Rattle.inside.specs.declared.Parts.{Parts}
@@ -84,7 +84,7 @@ module _ (line : List ℕ) (part at : ℕ) (stored : Bool) (m : ℕ) (s : Parts)
 
 -- ---- the value of the next part
 module _ (line : List ℕ) (o : Opening) (at : ℕ) (s : Parts) (parts : List ℕ) (masses : List ℤ) (w : Sofar line o at s parts masses) (first : Bool)
-    (may : (ps : List (Part ℕ)) → s .count ≡ length ps → (o .refers && none? ps) ≡ first) (lab : o .refers ≡ true → o .labels ≡ true) (v : Value) (r : Reads line at first v) where
+    (may : (ps : List (Part ℕ)) → s .count ≡ length ps → (o .refers && none? ps) ≡ first) (lab : o .refers ≡ true → o .labels ≡ true) (v : Value) (r : ValueReads line at first v) where
   -- counted, stored, and what is due of it
   pub value-read : (stored : Bool) (m due least : ℕ) (t : Parts) (parts′ : List ℕ) (masses′ : List ℤ) → stored ≡ (o .room && ltb (s .count) partLimit) → m ≡ o .base + s .count
       → (stored ≡ true → m < massesRoom) → partsRoom ≤ length parts → massesRoom ≤ length masses

@@ -35,14 +35,14 @@ pub record IsLabel (line : List ℕ) (at : ℕ) (r : Label) (l : Written ℕ) : 
 abbrev pub Any : Context ℕ → Type 0
 Any c = Unit {0}
 
-pub record Reads (line : List ℕ) (at : ℕ) (q : Part ℕ) (r : Label) (l : Written ℕ) : Type 0 where
+pub record LabelReads (line : List ℕ) (at : ℕ) (q : Part ℕ) (r : Label) (l : Written ℕ) : Type 0 where
   pub on : GoesOn line at Any (λ c. innerStep at (hashed c q)) (r .next) (λ c. partEnd c (labelled q (l .at) (l .name) (l .score)))
 
 -- behind the `#` of any part
 pub record ReadsLabel (line : List ℕ) (at : ℕ) (r : Label) : Type 0 where
   pub found : Written ℕ
   pub is-label : IsLabel line at r found
-  pub reads : (q : Part ℕ) → Reads line at q r found
+  pub reads : (q : Part ℕ) → LabelReads line at q r found
 
 abbrev pub LabelSays : List ℕ → ℕ → LabelAt → Type 0
 LabelSays line at (Stuck p) = (q : Part ℕ) → Stops line at Any (λ c. innerStep at (hashed c q)) p

@@ -21,7 +21,7 @@ use Rattle.labels.specs.declared.LabelAt.{LabelAt}
 use Rattle.labels.specs.declared.LabelAt.the-variants.{Stuck, Read}
 
 -- from j on, where the byte does F, the label that stands at `at` is read
-pub record ReadsFrom (line : List ℕ) (at j : ℕ) (F : Part ℕ → Context ℕ → ℕ → Content ℕ) (r : Label) : Type 0 where
+pub record LabelReadsFrom (line : List ℕ) (at j : ℕ) (F : Part ℕ → Context ℕ → ℕ → Content ℕ) (r : Label) : Type 0 where
   pub found : Written ℕ
   pub is-label : IsLabel line at r found
   pub on : (q : Part ℕ) (s : Slot) (o : ℕ) (h : Held ℕ) (c : Context ℕ)
@@ -29,7 +29,7 @@ pub record ReadsFrom (line : List ℕ) (at j : ℕ) (F : Part ℕ → Context �
 
 unfoldable pub SaysFrom : List ℕ → ℕ → ℕ → (Part ℕ → Context ℕ → ℕ → Content ℕ) → LabelAt → Type 0
 SaysFrom line at j F (Stuck p) = (q : Part ℕ) (s : Slot) (o : ℕ) (h : Held ℕ) (c : Context ℕ) → through line s o h j (F q c) ≡ stuck p
-SaysFrom line at j F (Read r) = ReadsFrom line at j F r
+SaysFrom line at j F (Read r) = LabelReadsFrom line at j F r
 
 -- a name stands from a place to another, with a score behind it or none
 pub record Scored (line : List ℕ) (from to score : ℕ) (points : ℤ) (s : Option (Number ℕ)) : Type 0 where

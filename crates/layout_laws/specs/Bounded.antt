@@ -26,7 +26,7 @@ use Rattle.accepted_laws.specs.Within.{Byte, NumberWithin, LabelWithin, ValueWi
 use Rattle.layout_laws.specs.TwoBytes.{wide-bytes}
 use Rattle.layout_laws.specs.Fits.{residues-fit, positions-fit, offsets-fit, brackets-fit, parts-fit, counts-fit, decimals-fit, scores-fit, texts-fit, labels-fit}
 use Rattle.layout_laws.specs.Numbers.{few-decimals, small}
-use Rattle.layout_laws.specs.Layout.{PartRead, PartsRead, BracketRead, BracketsRead, score-within, areas-read, bytes-length, numbers-length, headOf}
+use Rattle.layout_laws.specs.Layout.{PartRead, PartsRead, BracketIn, BracketsRead, score-within, areas-read, bytes-length, numbers-length, headOf}
 
 -- ---- what a part holds is small
 module _ {P : Type 0} where
@@ -89,7 +89,7 @@ module _ {P : Type 0} (bs : List ℕ) (ns : List ℤ) where
       rw s (parts-bounds k (j + 1) (i + length (packed p)) ps (w .1) (r .1) (omega arith) x (omega arith))
 
   bracket-bounds :
-      (n k i : ℕ) (b : Bracket P) → residuesField bs ≡ n → BracketWithin n b → BracketRead bs ns k i b → i + length (bracketTexts b) ≤ lineLimit
+      (n k i : ℕ) (b : Bracket P) → residuesField bs ≡ n → BracketWithin n b → BracketIn bs ns k i b → i + length (bracketTexts b) ≤ lineLimit
       → BracketBounds bs ns k
   bracket-bounds n k i b e w r h =
       record {

@@ -241,7 +241,7 @@ abbrev pub headOf : {P : Type 0} → Bracket P → List ℕ
 headOf b = headRow (kindCode (b .kind)) (b .first) (b .last) (b .count) (length (b .parts)) (scoreCode (scoreOf (b .parts)))
 
 -- what is read of bracket k, whose texts begin at i among the texts
-pub record BracketRead {P : Type 0} (bs : List ℕ) (ns : List ℤ) (k i : ℕ) (b : Bracket P) : Type 0 where
+pub record BracketIn {P : Type 0} (bs : List ℕ) (ns : List ℤ) (k i : ℕ) (b : Bracket P) : Type 0 where
   pub kind : kindField bs k ≡ kindCode (b .kind)
   pub first : firstField bs k ≡ b .first
   pub last : lastField bs k ≡ b .last
@@ -254,12 +254,12 @@ pub record BracketRead {P : Type 0} (bs : List ℕ) (ns : List ℤ) (k i : ℕ) 
 -- of the brackets from bracket k on
 abbrev pub BracketsRead : {P : Type 0} → List ℕ → List ℤ → ℕ → ℕ → List (Bracket P) → Type 0
 BracketsRead bs ns k i [] = Unit {0}
-BracketsRead bs ns k i (b ∷ ks) = BracketRead bs ns k i b × BracketsRead bs ns (k + 1) (i + length (bracketTexts b)) ks
+BracketsRead bs ns k i (b ∷ ks) = BracketIn bs ns k i b × BracketsRead bs ns (k + 1) (i + length (bracketTexts b)) ks
 
 module _ {P : Type 0} (bs : List ℕ) (ns : List ℤ) where
   bracket-read :
       (k i : ℕ) (b : Bracket P) → length (b .parts) ≤ partLimit → At bs (rowAt k) (bracketRow i b) → At ns (k * numberRowSize) (numberRow b)
-      → At bs (textsAt + i) (bracketTexts b) → BracketRead bs ns k i b
+      → At bs (textsAt + i) (bracketTexts b) → BracketIn bs ns k i b
   bracket-read k i b h a m t =
       let masses = map (λ p. massIn (p .value)) (b .parts) in
       let score = given (scoreOf (b .parts)) millionths (pos 0) in
@@ -325,7 +325,7 @@ module _ {P : Type 0} (bs : List ℕ) (ns : List ℤ) where
       go none q = tt
       go (some l) q = e ∙ ap (optional bareNumber) (sym q)
 
-  bracket-back : (n k i : ℕ) (b : Bracket P) → BracketWithin n b → BracketRead bs ns k i b → bracketIn bs ns k ≡ bareBracket b
+  bracket-back : (n k i : ℕ) (b : Bracket P) → BracketWithin n b → BracketIn bs ns k i b → bracketIn bs ns k ≡ bareBracket b
   unfolding bracketIn
   bracket-back n k i b w r =
       let s : scoreIn bs ns k ≡ optional bareNumber (scoreOf (b .parts)) = score-back k (scoreOf (b .parts)) (score-within (b .parts) (w .parts))

@@ -32,14 +32,14 @@ use Rattle.mass_laws.specs.Terms.{massLimit}
 use Rattle.mass_laws.specs.Sums.{share, share-else}
 use Rattle.mass_laws.specs.Shares.{put-none, put-cons}
 use Rattle.mass_laws.specs.Weights.{bookedAt, placed-is, placedMass, booked-share}
-use Rattle.masses.specs.Booking.{Kept, Placed, CanBook, booked, CanPut, CanFloat, Put}
+use Rattle.masses.specs.Booking.{EntriesKept, PlacedBooked, CanBook, booked, CanPut, CanFloat, CopiesPut}
 use Rattle.masses.proofs.Whole.{back}
 use Rattle.basics.specs.Wholes.{abs-add}
 use Rattle.masses.proofs.TallyLaws.{mass-small, few-copies}
 use Rattle.basics.specs.Choice.{by-test, branch}
 
 -- ---- one booking: a mass at position y
-module _ {l : List ℤ} {n : ℕ} (held : Kept l n) (y : ℕ) (in-range : y < positionLimit) (m : ℤ) where
+module _ {l : List ℤ} {n : ℕ} (held : EntriesKept l n) (y : ℕ) (in-range : y < positionLimit) (m : ℤ) where
   booked-at : {v : ℤ} → v ≡ getD l y (pos 0) +ℤ m → (x : ℕ) → getD (set l y v) x (pos 0) ≡ getD l x (pos 0) +ℤ cond (eqb y x) m (pos 0)
   booked-at {v} e x = by (ℕ-discrete y x)
     where
@@ -56,7 +56,7 @@ module _ {l : List ℤ} {n : ℕ} (held : Kept l n) (y : ℕ) (in-range : y < po
   small-share h true = omega arith
   small-share h false = omega arith
 
-  pub held-booked : {v : ℤ} → natAbs m < massLimit → v ≡ getD l y (pos 0) +ℤ m → Kept (set l y v) (n + 1)
+  pub held-booked : {v : ℤ} → natAbs m < massLimit → v ≡ getD l y (pos 0) +ℤ m → EntriesKept (set l y v) (n + 1)
   held-booked {v} h e =
       record {
         whole = length-set l y v ∙ held .whole;
@@ -101,14 +101,14 @@ abbrev bookings : Tables → ℕ → List (Bracket (Unit {0})) → ℤ
 bookings t x ks = sum (map (bookedAt t x) ks)
 
 -- those of the brackets before k are booked
-pub record Placing (bs : List ℕ) (ns : List ℤ) (n k : ℕ) (l : List ℤ) : Type 0 where
+pub record BookingPlaced (bs : List ℕ) (ns : List ℤ) (n k : ℕ) (l : List ℤ) : Type 0 where
   pub bounds : Bounds bs ns
   pub many : n ≡ bracketsField bs
   pub inside : k ≤ n
-  pub held : Kept l k
+  pub held : EntriesKept l k
   pub entry : (x : ℕ) → x < positionLimit → placedAt (tablesIn bs ns) x ≡ getD l x (pos 0) +ℤ bookings (tablesIn bs ns) x (tabled (bracketIn bs ns) k (n - k))
 
-pub placing-start : {bs : List ℕ} {ns : List ℤ} {n : ℕ} → Bounds bs ns → n ≡ bracketsField bs → Placing bs ns n 0 (replicate positionLimit (pos 0))
+pub placing-start : {bs : List ℕ} {ns : List ℤ} {n : ℕ} → Bounds bs ns → n ≡ bracketsField bs → BookingPlaced bs ns n 0 (replicate positionLimit (pos 0))
 unfolding tablesIn
 placing-start {bs} {ns} {n} b e =
     record {
@@ -122,7 +122,7 @@ placing-start {bs} {ns} {n} b e =
           ∙ ap (λ z. z +ℤ bookings (tablesIn bs ns) x (tabled (bracketIn bs ns) 0 (n - 0))) (sym (getD-replicate positionLimit x (pos 0) (pos 0) h));
     }
 
-module _ {bs : List ℕ} {ns : List ℤ} {n k : ℕ} {l : List ℤ} (i : Placing bs ns n k l) where
+module _ {bs : List ℕ} {ns : List ℤ} {n k : ℕ} {l : List ℤ} (i : BookingPlaced bs ns n k l) where
   pub placing-reach : k < n → Reach bs ns k
   placing-reach h = record { bounds = i .bounds; inside = rw (← i .many) h }
 
@@ -135,7 +135,7 @@ module _ {bs : List ℕ} {ns : List ℤ} {n k : ℕ} {l : List ℤ} (i : Placing
   pub placing-few : n ≤ bracketLimit
   placing-few = omega (arith, i .many, i .bounds .few-brackets)
 
-  pub placing-next : {y : ℕ} {m v : ℤ} → k < n → y ≡ bracketIn bs ns k .first → y < positionLimit → m ≡ placedMass (bracketIn bs ns k) → v ≡ getD l y (pos 0) +ℤ m → Placing bs ns n (k + 1) (set l y v)
+  pub placing-next : {y : ℕ} {m v : ℤ} → k < n → y ≡ bracketIn bs ns k .first → y < positionLimit → m ≡ placedMass (bracketIn bs ns k) → v ≡ getD l y (pos 0) +ℤ m → BookingPlaced bs ns n (k + 1) (set l y v)
   unfolding sum
   placing-next {y} {m} {v} h e r f g =
       record {
@@ -169,10 +169,10 @@ module _ {bs : List ℕ} {ns : List ℤ} {n k : ℕ} {l : List ℤ} (i : Placing
     pub placing-asks : natAbs (toZ w64 (ofZ w64 (getD l y (pos 0)))) + natAbs (toZ w64 (ofZ w64 m)) < 2 ^ 63
     placing-asks = asks-entry (i .held) y r m few-so-far small-placed mass-back
 
-    pub placing-again : {v : ℤ} → y ≡ bracketIn bs ns k .first → v ≡ toZ w64 (ofZ w64 (getD l y (pos 0))) +ℤ toZ w64 (ofZ w64 m) → Placing bs ns n (k + 1) (set l y (toZ w64 (ofZ w64 v)))
+    pub placing-again : {v : ℤ} → y ≡ bracketIn bs ns k .first → v ≡ toZ w64 (ofZ w64 (getD l y (pos 0))) +ℤ toZ w64 (ofZ w64 m) → BookingPlaced bs ns n (k + 1) (set l y (toZ w64 (ofZ w64 v)))
     placing-again e g = placing-next h e r f (gives-entry (i .held) y r m few-so-far small-placed mass-back g)
 
-  pub placing-end : n ≤ k → Placed bs ns l
+  pub placing-end : n ≤ k → PlacedBooked bs ns l
   unfolding sum
   placing-end h =
       record {
@@ -197,7 +197,7 @@ pub record Putting (l₀ : List ℤ) (at : List ℕ) (i c : ℕ) (m : ℤ) (end 
   pub small : Small m
   pub from : i ≤ j
   pub inside : j ≤ end
-  pub held : Kept l (bracketLimit + j)
+  pub held : EntriesKept l (bracketLimit + j)
   pub entry :
       (b : Bracket (Unit {0})) → massOr0 b ≡ m → (fs : List (Bracket (Unit {0}))) (x : ℕ) → x < positionLimit
       → getD l₀ x (pos 0) +ℤ putAt x (replicate c b ++ fs) (drop i at) ≡ getD l x (pos 0) +ℤ putAt x (replicate (c - (j - i)) b ++ fs) (drop j at)
@@ -251,7 +251,7 @@ module _ {l₀ : List ℤ} {at : List ℕ} {i c : ℕ} {m : ℤ} {end j : ℕ} {
         small = s .small;
         from = omega (arith, s .from);
         inside = omega arith;
-        held = subst (Kept (set l y v)) (more j) (held-booked (s .held) y r m (s .small) g);
+        held = subst (EntriesKept (set l y v)) (more j) (held-booked (s .held) y r m (s .small) g);
         entry = λ b q fs x p.
             turn h e b q fs x p ∙ sym (+ℤ-assoc (getD l x (pos 0)) (share y m x) (left b fs x))
             ∙ ap (λ z. z +ℤ left b fs x) (sym (booked-at (s .held) y r m g x));
@@ -300,10 +300,10 @@ module _ {l₀ : List ℤ} {at : List ℕ} {i c : ℕ} {m : ℤ} {end j : ℕ} {
           ap (putAt x (replicate (c - (j - i)) b ++ fs)) (drop-of-length-le at last) ∙ put-nowhere x (replicate (c - (j - i)) b ++ fs)
           ∙ sym (put-nowhere x fs) ∙ ap (putAt x fs) (sym (drop-of-length-le at past))
 
-  pub putting-end : {m′ : ℤ} → end ≤ j → m ≡ m′ → Put l₀ l at i c m′ end
+  pub putting-end : {m′ : ℤ} → end ≤ j → m ≡ m′ → CopiesPut l₀ l at i c m′ end
   putting-end h read =
       record {
-        held = subst (λ n. Kept l (bracketLimit + n)) same (s .held);
+        held = subst (λ n. EntriesKept l (bracketLimit + n)) same (s .held);
         few = omega (arith, s .end-is);
         entry = λ b q fs x p. s .entry b (q ∙ sym read) fs x p ∙ ap (λ z. getD l x (pos 0) +ℤ z) (none-left h b fs x);
       }
@@ -326,7 +326,7 @@ few-floating {bs} {ns} {k} r =
     few-by (isModification (bracketIn bs ns k)) (isLabelled (bracketIn bs ns k)) (bracketIn bs ns k .kind) (bracketIn bs ns k .count) (few-copies r)
 
 module _ {bs : List ℕ} {ns : List ℤ} {k i : ℕ} {l : List ℤ} (p : CanFloat bs ns k l i) where
-  pub float-none : {at : List ℕ} {m : ℤ} {c : ℕ} → c ≡ copies (bracketIn bs ns k) → c ≡ 0 → Put l l at i (copies (bracketIn bs ns k)) m i
+  pub float-none : {at : List ℕ} {m : ℤ} {c : ℕ} → c ≡ copies (bracketIn bs ns k) → c ≡ 0 → CopiesPut l l at i (copies (bracketIn bs ns k)) m i
   float-none {at} {m} {c} e z =
       record {
         held = p .held;
@@ -343,9 +343,9 @@ module _ {bs : List ℕ} {ns : List ℤ} {k i : ℕ} {l : List ℤ} (p : CanFloa
         small = rw (read, f) (mass-small (p .reach));
       }
 
-  pub float-gives : {l′ : List ℤ} {at : List ℕ} {c r : ℕ} {m m′ : ℤ} → c ≡ copies (bracketIn bs ns k) → m ≡ massOr0 (bracketIn bs ns k) → m′ ≡ m → Put l l′ at i c m′ r
-      → Put l l′ at i (copies (bracketIn bs ns k)) (massOr0 (bracketIn bs ns k)) r
-  float-gives {l′} {at} {c} {r} {m} {m′} e f read s = subst (λ z. Put l l′ at i (copies (bracketIn bs ns k)) z r) (read ∙ f) (subst (λ n. Put l l′ at i n m′ r) e s)
+  pub float-gives : {l′ : List ℤ} {at : List ℕ} {c r : ℕ} {m m′ : ℤ} → c ≡ copies (bracketIn bs ns k) → m ≡ massOr0 (bracketIn bs ns k) → m′ ≡ m → CopiesPut l l′ at i c m′ r
+      → CopiesPut l l′ at i (copies (bracketIn bs ns k)) (massOr0 (bracketIn bs ns k)) r
+  float-gives {l′} {at} {c} {r} {m} {m′} e f read s = subst (λ z. CopiesPut l l′ at i (copies (bracketIn bs ns k)) z r) (read ∙ f) (subst (λ n. CopiesPut l l′ at i n m′ r) e s)
 
 -- ---- the copies of all brackets: those of the brackets before k are put, i in number
 abbrev floating : List (Bracket (Unit {0})) → List (Bracket (Unit {0}))
@@ -355,17 +355,17 @@ floating-cons : (b : Bracket (Unit {0})) (ks : List (Bracket (Unit {0}))) → fl
 unfolding flat
 floating-cons b ks = refl
 
-pub record Floating (bs : List ℕ) (ns : List ℤ) (at : List ℕ) (n k : ℕ) (l : List ℤ) (i : ℕ) : Type 0 where
+pub record BookingFloaters (bs : List ℕ) (ns : List ℤ) (at : List ℕ) (n k : ℕ) (l : List ℤ) (i : ℕ) : Type 0 where
   pub bounds : Bounds bs ns
   pub many : n ≡ bracketsField bs
   pub inside : k ≤ n
-  pub held : Kept l (bracketLimit + i)
+  pub held : EntriesKept l (bracketLimit + i)
   pub few : i ≤ copyLimit
   pub entry :
       (x : ℕ) → x < positionLimit
       → placedAt (tablesIn bs ns) x +ℤ putAt x (floaters (tablesIn bs ns)) at ≡ getD l x (pos 0) +ℤ putAt x (floating (tabled (bracketIn bs ns) k (n - k))) (drop i at)
 
-pub floating-start : {bs : List ℕ} {ns : List ℤ} {at : List ℕ} {n : ℕ} {l : List ℤ} → Bounds bs ns → Placed bs ns l → n ≡ bracketsField bs → Floating bs ns at n 0 l 0
+pub floating-start : {bs : List ℕ} {ns : List ℤ} {at : List ℕ} {n : ℕ} {l : List ℤ} → Bounds bs ns → PlacedBooked bs ns l → n ≡ bracketsField bs → BookingFloaters bs ns at n 0 l 0
 unfolding tablesIn floaters
 floating-start {bs} {ns} {at} {n} {l} b p e =
     record {
@@ -380,11 +380,11 @@ floating-start {bs} {ns} {at} {n} {l} b p e =
           ∙ ap (λ ks. getD l x (pos 0) +ℤ putAt x (floating ks) at) (tabled-all (bracketIn bs ns) n);
     }
 
-module _ {bs : List ℕ} {ns : List ℤ} {at : List ℕ} {n k : ℕ} {l : List ℤ} {i : ℕ} (s : Floating bs ns at n k l i) where
+module _ {bs : List ℕ} {ns : List ℤ} {at : List ℕ} {n k : ℕ} {l : List ℤ} {i : ℕ} (s : BookingFloaters bs ns at n k l i) where
   pub floating-asks : k < n → CanFloat bs ns k l i
   floating-asks h = record { reach = record { bounds = s .bounds; inside = rw (← s .many) h }; held = s .held; few = s .few }
 
-  pub floating-next : {l′ : List ℤ} {r : ℕ} → k < n → Put l l′ at i (copies (bracketIn bs ns k)) (massOr0 (bracketIn bs ns k)) r → Floating bs ns at n (k + 1) l′ r
+  pub floating-next : {l′ : List ℤ} {r : ℕ} → k < n → CopiesPut l l′ at i (copies (bracketIn bs ns k)) (massOr0 (bracketIn bs ns k)) r → BookingFloaters bs ns at n (k + 1) l′ r
   floating-next {l′} {r} h p =
       record {
         bounds = s .bounds;

@@ -67,13 +67,13 @@ module _ (bs : List ℕ) (ns : List ℤ) (k : ℕ) (obs : Bool) where
       ∙ ap (λ t. cond (eqb (valueField bs k j) massCode && wanted obs t) (some (massOfPart j)) (among ps)) (key-is (keyField bs k j) (keyCode Obs) (omega arith) (omega arith))
 
   -- no such mass before part j
-  pub record Before (m j : ℕ) : Type 0 where
+  pub record NoMassBefore (m j : ℕ) : Type 0 where
     pub inside : j ≤ m
     pub many : m ≡ partsField bs k
     pub few : m ≤ partLimit
     pub rest : among (bracketIn bs ns k .parts) ≡ among (tabled (partIn bs ns k) j (m - j))
 
-  pub before-start : (m : ℕ) → m ≡ partsField bs k → m ≤ partLimit → Before m 0
+  pub before-start : (m : ℕ) → m ≡ partsField bs k → m ≤ partLimit → NoMassBefore m 0
   unfolding bracketIn
   before-start m e few =
       record {
@@ -83,13 +83,13 @@ module _ (bs : List ℕ) (ns : List ℤ) (k : ℕ) (obs : Bool) where
         rest = ap (λ n. among (tabled (partIn bs ns k) 0 n)) (sym e) ∙ ap among (tabled-all (partIn bs ns k) m);
       }
 
-  pub before-found : {m j : ℕ} {has : Bool} → Before m j → j < m → has ≡ hit j → has ≡ true → some (massOfPart j) ≡ among (bracketIn bs ns k .parts)
+  pub before-found : {m j : ℕ} {has : Bool} → NoMassBefore m j → j < m → has ≡ hit j → has ≡ true → some (massOfPart j) ≡ among (bracketIn bs ns k .parts)
   before-found {m} {j} b h e t =
       sym
       (b .rest ∙ ap among (tabled-at (partIn bs ns k) j m h) ∙ at-part j (tabled (partIn bs ns k) (j + 1) (m - (j + 1)))
       ∙ ap (λ x. cond x (some (massOfPart j)) (among (tabled (partIn bs ns k) (j + 1) (m - (j + 1))))) (sym e ∙ t))
 
-  pub before-next : {m j : ℕ} {has : Bool} → Before m j → j < m → has ≡ hit j → has ≡ false → Before m (j + 1)
+  pub before-next : {m j : ℕ} {has : Bool} → NoMassBefore m j → j < m → has ≡ hit j → has ≡ false → NoMassBefore m (j + 1)
   before-next {m} {j} b h e t =
       record {
         inside = omega arith;
@@ -100,7 +100,7 @@ module _ (bs : List ℕ) (ns : List ℤ) (k : ℕ) (obs : Bool) where
             ∙ ap (λ x. cond x (some (massOfPart j)) (among (tabled (partIn bs ns k) (j + 1) (m - (j + 1))))) (sym e ∙ t);
       }
 
-  pub before-end : {m j : ℕ} → Before m j → m ≤ j → none ≡ among (bracketIn bs ns k .parts)
+  pub before-end : {m j : ℕ} → NoMassBefore m j → m ≤ j → none ≡ among (bracketIn bs ns k .parts)
   unfolding keep firstMass
   before-end {m} {j} b h = sym (b .rest ∙ ap among (tabled-end (partIn bs ns k) j m h))
 

@@ -26,7 +26,7 @@ use Rattle.masses.specs.Reach.{Reach}
 use Rattle.masses.specs.Weights.{saysMass, weightOf}
 use Rattle.mass_laws.specs.Terms.{massLimit}
 use Rattle.mass_laws.specs.Weights.{weight, total-is, lack, lacking-is}
-use Rattle.masses.specs.Tallies.{Before, CanTally, Tallied}
+use Rattle.masses.specs.Tallies.{TalliedBefore, CanTally, Tallied}
 use Rattle.masses.proofs.Whole.{back}
 use Rattle.basics.specs.Wholes.{abs-add, abs-mul}
 use Rattle.masses.proofs.PartLaws.{is-mass, reach-row}
@@ -148,7 +148,7 @@ pub record Weighing (bs : List ℕ) (ns : List ℤ) (n k : ℕ) (s : ℤ) (w : �
   pub bounds : Bounds bs ns
   pub many : n ≡ bracketsField bs
   pub inside : k ≤ n
-  pub before : Before k s w
+  pub before : TalliedBefore k s w
   pub sum-is : total (tablesIn bs ns) ≡ s +ℤ weights (tablesIn bs ns) (tabled (bracketIn bs ns) k (n - k))
   pub lacks-is : lacking (tablesIn bs ns) ≡ w + lacks (tablesIn bs ns) (tabled (bracketIn bs ns) k (n - k))
 

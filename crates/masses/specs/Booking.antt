@@ -15,13 +15,13 @@ use Rattle.mass_laws.specs.Terms.{massLimit}
 use Rattle.masses.specs.Reach.{Reach}
 
 -- an entry for each position, none beyond so many masses
-pub record Kept (l : List ℤ) (masses : ℕ) : Type 0 where
+pub record EntriesKept (l : List ℤ) (masses : ℕ) : Type 0 where
   pub whole : length l ≡ positionLimit
   pub small : (x : ℕ) → x < positionLimit → natAbs (getD l x (pos 0)) ≤ masses * massLimit
 
 -- the placed modifications are booked, of as many brackets as there may be
-pub record Placed (bs : List ℕ) (ns : List ℤ) (l : List ℤ) : Type 0 where
-  pub held : Kept l bracketLimit
+pub record PlacedBooked (bs : List ℕ) (ns : List ℤ) (l : List ℤ) : Type 0 where
+  pub held : EntriesKept l bracketLimit
   pub entry : (x : ℕ) → x < positionLimit → getD l x (pos 0) ≡ placedAt (tablesIn bs ns) x
 
 -- a mass is booked at position y, if the ledger has it
@@ -34,19 +34,19 @@ CanBook l y m = y < positionLimit → natAbs (getD l y (pos 0)) + natAbs m < 2 ^
 
 -- then the floating copies; i of them are put
 pub record CanPut (l : List ℤ) (i c : ℕ) (m : ℤ) : Type 0 where
-  pub held : Kept l (bracketLimit + i)
+  pub held : EntriesKept l (bracketLimit + i)
   pub few : i ≤ copyLimit
   pub count : c ≤ countLimit
   pub small : Small m
 
 pub record CanFloat (bs : List ℕ) (ns : List ℤ) (k : ℕ) (l : List ℤ) (i : ℕ) : Type 0 where
   pub reach : Reach bs ns k
-  pub held : Kept l (bracketLimit + i)
+  pub held : EntriesKept l (bracketLimit + i)
   pub few : i ≤ copyLimit
 
 -- after c copies of a mass, r are put: what is still to put besides them is the same
-pub record Put (l l′ : List ℤ) (at : List ℕ) (i c : ℕ) (m : ℤ) (r : ℕ) : Type 0 where
-  pub held : Kept l′ (bracketLimit + r)
+pub record CopiesPut (l l′ : List ℤ) (at : List ℕ) (i c : ℕ) (m : ℤ) (r : ℕ) : Type 0 where
+  pub held : EntriesKept l′ (bracketLimit + r)
   pub few : r ≤ copyLimit
   pub entry :
       (b : Bracket (Unit {0})) → massOr0 b ≡ m → (fs : List (Bracket (Unit {0}))) (x : ℕ) → x < positionLimit

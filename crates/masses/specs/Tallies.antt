@@ -11,13 +11,13 @@ use Rattle.mass_laws.specs.Terms.{massLimit}
 use Rattle.mass_laws.specs.Weights.{weight, lack}
 
 -- each bracket before adds its copies' masses, or as many that lack one
-pub record Before (k : ℕ) (sum : ℤ) (lacks : ℕ) : Type 0 where
+pub record TalliedBefore (k : ℕ) (sum : ℤ) (lacks : ℕ) : Type 0 where
   pub small : natAbs sum ≤ k * (countLimit * massLimit)
   pub few : lacks ≤ k * countLimit
 
 pub record CanTally (bs : List ℕ) (ns : List ℤ) (k : ℕ) (sum : ℤ) (lacks : ℕ) : Type 0 where
   pub reach : Reach bs ns k
-  pub before : Before k sum lacks
+  pub before : TalliedBefore k sum lacks
 
 pub record Tallied (t : Tables) (b : Bracket (Unit {0})) (sum : ℤ) (lacks : ℕ) (sum′ : ℤ) (lacks′ : ℕ) : Type 0 where
   pub sum-is : sum′ ≡ sum +ℤ weight t b

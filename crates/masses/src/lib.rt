@@ -30,7 +30,7 @@ ghost use Rattle.masses.specs.Weights.{saysMass, wanted, weightOf};
 ghost use Rattle.mass_laws.specs.Terms.{totalLimit};
 ghost use Rattle.mass_laws.specs.Weights.{placedMass};
 ghost use Rattle.masses.specs.Tallies.{CanTally, Tallied};
-ghost use Rattle.masses.specs.Booking.{Placed, CanBook, booked, CanPut, CanFloat, Put};
+ghost use Rattle.masses.specs.Booking.{PlacedBooked, CanBook, booked, CanPut, CanFloat, CopiesPut};
 
 // The mass of a bracket.
 pub enum Mass {
@@ -211,7 +211,7 @@ fn placed_mass(bytes: &[u8], numbers: &[i64], k: usize) -> i64
 // The ledger with the placed modifications.
 fn placed_ledger(bytes: &[u8], numbers: &[i64]) -> Ledger
     requires { ⌜ Bounds (now bytes) (now numbers) ⌝ }
-    ensures { λ r. ⌜ (r .booked ≡ Done) × (Placed (now (bytes .entry)) (now (numbers .entry)) (r .at)) ⌝ }
+    ensures { λ r. ⌜ (r .booked ≡ Done) × (PlacedBooked (now (bytes .entry)) (now (numbers .entry)) (r .at)) ⌝ }
 {
     let mut l = Ledger {
         booked: Booked::Done,
@@ -263,7 +263,7 @@ fn book_copies(
     m: i64,
 ) -> usize
     requires { ⌜ CanPut (now l) i c m ⌝ }
-    ensures { λ r. ⌜ Put (now (l .entry)) (now (l .exit)) at i c m r ⌝ }
+    ensures { λ r. ⌜ CopiesPut (now (l .entry)) (now (l .exit)) at i c m r ⌝ }
 {
     let end = until(i, c);
     let mut j = i;
@@ -285,7 +285,7 @@ fn book_bracket(
     i: usize,
 ) -> usize
     requires { ⌜ CanFloat (now bytes) (now numbers) k (now l) i ⌝ }
-    ensures { λ r. ⌜ Put (now (l .entry)) (now (l .exit)) at i (copies (bracketIn (now (bytes .entry)) (now (numbers .entry)) k)) (massOr0 (bracketIn (now (bytes .entry)) (now (numbers .entry)) k)) r ⌝ }
+    ensures { λ r. ⌜ CopiesPut (now (l .entry)) (now (l .exit)) at i (copies (bracketIn (now (bytes .entry)) (now (numbers .entry)) k)) (massOr0 (bracketIn (now (bytes .entry)) (now (numbers .entry)) k)) r ⌝ }
 {
     let c = copies_of(bytes, k);
     if c == 0 {

@@ -11,7 +11,7 @@ use lib.Seq.{drop-cons}
 use borrow.Author.Tests.{leb-true}
 use Rattle.scope.specs.Bytes.{isDigit, value}
 use Rattle.basics.specs.Tests.{both-of}
-use Rattle.classes.proofs.Runs.{Run, run-enters, run-goes-on, run-stops, run-ends}
+use Rattle.classes.proofs.Runs.{RunGoesOn, run-enters, run-goes-on, run-stops, run-ends}
 use Rattle.numerals.specs.Numerals.{cap, digitsFrom, DigitsAt}
 
 -- 0 to 9 are 48 to 57
@@ -54,7 +54,7 @@ cap-run v (b ∷ l) = go (λ u. cap-run u l) (isDigit b) refl
 pub record SoFar (s : List ℕ) (at v m i : ℕ) : Type 0 where
   pub low : m ≤ cap
   pub same : min cap (digitsFrom v (drop at s)) ≡ min cap (digitsFrom m (drop i s))
-  pub run : Run isDigit s at i
+  pub run : RunGoesOn isDigit s at i
 
 pub digits-start : {s : List ℕ} {at v : ℕ} → v ≤ cap → SoFar s at v v at
 digits-start h = record { low = h; same = refl; run = run-enters }

@@ -31,7 +31,7 @@ one-more k j =
     ∙ ap (λ c. copiesAt k j ++ (one k c ∷ [])) (omega arith)
 
 -- j of the m copies of bracket k are written, after the first n
-pub record Copying (n m k j : ℕ) (brs₀ cps₀ brs cps : List ℕ) : Type 0 where
+pub record CopiesWritten (n m k j : ℕ) (brs₀ cps₀ brs cps : List ℕ) : Type 0 where
   pub within : j ≤ m
   pub brackets-long : length brs ≡ copyLimit
   pub copies-long : length cps ≡ copyLimit
@@ -41,7 +41,7 @@ pub record Copying (n m k j : ℕ) (brs₀ cps₀ brs cps : List ℕ) : Type 0 w
 none-yet : (n : ℕ) (l : List ℕ) → take (n + 0) l ≡ take n l ++ []
 none-yet n l = ap (λ i. take i l) (add-zero n) ∙ sym (append-nil (take n l))
 
-pub copying-start : (n m k : ℕ) (brs cps : List ℕ) → length brs ≡ copyLimit → length cps ≡ copyLimit → Copying n m k 0 brs cps brs cps
+pub copying-start : (n m k : ℕ) (brs cps : List ℕ) → length brs ≡ copyLimit → length cps ≡ copyLimit → CopiesWritten n m k 0 brs cps brs cps
 unfolding tabled
 copying-start n m k brs cps b c =
     record { within = omega arith; brackets-long = b; copies-long = c; brackets = none-yet n brs; copies = none-yet n cps }
@@ -54,8 +54,8 @@ put-next f n k j first now h e =
     ∙ ap (λ l. l ++ (v ∷ [])) e ∙ append-assoc (take n first) (map f (copiesAt k j)) (v ∷ [])
     ∙ ap (λ l. take n first ++ l) (sym (ap (map f) (one-more k j) ∙ map-append f (copiesAt k j) (one k (j + 1) ∷ [])))
 
-pub copying-next : {n m k j : ℕ} {brs₀ cps₀ brs cps : List ℕ} → Copying n m k j brs₀ cps₀ brs cps → n + m ≤ copyLimit → j < m
-    → Copying n m k (j + 1) brs₀ cps₀ (set brs (n + j) k) (set cps (n + j) (j + 1))
+pub copying-next : {n m k j : ℕ} {brs₀ cps₀ brs cps : List ℕ} → CopiesWritten n m k j brs₀ cps₀ brs cps → n + m ≤ copyLimit → j < m
+    → CopiesWritten n m k (j + 1) brs₀ cps₀ (set brs (n + j) k) (set cps (n + j) (j + 1))
 copying-next {n} {m} {k} {j} {brs₀} {cps₀} {brs} {cps} c h l =
     let bl : length brs ≡ copyLimit = c .brackets-long in
     let cl : length cps ≡ copyLimit = c .copies-long in
@@ -67,7 +67,7 @@ copying-next {n} {m} {k} {j} {brs₀} {cps₀} {brs} {cps} c h l =
       copies = put-next (λ c. c .copy) n k j cps₀ cps (omega arith) (c .copies);
     }
 
-pub copying-end : {n m k j : ℕ} {brs₀ cps₀ brs cps : List ℕ} → Copying n m k j brs₀ cps₀ brs cps → m ≤ j → Added n m k brs₀ cps₀ (n + m) brs cps
+pub copying-end : {n m k j : ℕ} {brs₀ cps₀ brs cps : List ℕ} → CopiesWritten n m k j brs₀ cps₀ brs cps → m ≤ j → Added n m k brs₀ cps₀ (n + m) brs cps
 copying-end {n} {m} {k} {j} {brs₀} {cps₀} {brs} {cps} c h =
     let w : j ≤ m = c .within in
     let e : j ≡ m = omega arith in

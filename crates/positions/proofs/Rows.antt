@@ -128,16 +128,16 @@ pub spread-end : {base a e : ℕ} {v : ℕ → ℕ} {x : ℕ} {old cur : List �
 spread-end {base} {a} {e} {v} {x} {old} {cur} s h = marked-as (between a e) (s .marked) (λ y l. all-of-them a e x y (s .low) (s .high) h)
 
 -- ---- a marking for each of b brackets, one after the other: those before k are done
-pub record Passed (base : ℕ) (v : ℕ → ℕ) (b k : ℕ) (q : List ℤ → ℕ → ℕ → Bool) (old cur : List ℕ) : Type 0 where
+pub record MarksPassed (base : ℕ) (v : ℕ → ℕ) (b k : ℕ) (q : List ℤ → ℕ → ℕ → Bool) (old cur : List ℕ) : Type 0 where
   pub within : k ≤ b
   pub kept : length cur ≡ length old
   pub marked : (ns : List ℤ) → RowSet base (λ x. anyOf (λ j. q ns j x) 0 k) v old cur
 
-pub passed-start : (base : ℕ) (v : ℕ → ℕ) (b : ℕ) (q : List ℤ → ℕ → ℕ → Bool) (old : List ℕ) → Passed base v b 0 q old old
+pub passed-start : (base : ℕ) (v : ℕ → ℕ) (b : ℕ) (q : List ℤ → ℕ → ℕ → Bool) (old : List ℕ) → MarksPassed base v b 0 q old old
 unfolding anyOf
 passed-start base v b q old = record { within = omega arith; kept = refl; marked = λ ns. marked-none base v (λ x. false) old (λ y l. refl) }
 
-pub passed-next : {base : ℕ} {v : ℕ → ℕ} {b k : ℕ} {q : List ℤ → ℕ → ℕ → Bool} {old cur new : List ℕ} → Passed base v b k q old cur → k < b → ((ns : List ℤ) → RowSet base (λ x. q ns k x) v cur new) → Passed base v b (k + 1) q old new
+pub passed-next : {base : ℕ} {v : ℕ → ℕ} {b k : ℕ} {q : List ℤ → ℕ → ℕ → Bool} {old cur new : List ℕ} → MarksPassed base v b k q old cur → k < b → ((ns : List ℤ) → RowSet base (λ x. q ns k x) v cur new) → MarksPassed base v b (k + 1) q old new
 passed-next {base} {v} {b} {k} {q} {old} {cur} {new} p h m =
     record {
       within = omega arith;
@@ -147,7 +147,7 @@ passed-next {base} {v} {b} {k} {q} {old} {cur} {new} p h m =
           (λ y l. ap (anyOf (λ j. q ns j y) 0) (add-one k) ∙ any-last (λ j. q ns j y) 0 k ∙ ap (λ j. anyOf (λ j. q ns j y) 0 k || q ns j y) (zero-add k));
     }
 
-passed-end : {base : ℕ} {v : ℕ → ℕ} {b k : ℕ} {q : List ℤ → ℕ → ℕ → Bool} {old cur : List ℕ} → Passed base v b k q old cur → b ≤ k → (whole : List ℤ → ℕ → Bool) → ((ns : List ℤ) (x : ℕ) → whole ns x ≡ anyOf (λ j. q ns j x) 0 b) → (ns : List ℤ) → RowSet base (whole ns) v old cur
+passed-end : {base : ℕ} {v : ℕ → ℕ} {b k : ℕ} {q : List ℤ → ℕ → ℕ → Bool} {old cur : List ℕ} → MarksPassed base v b k q old cur → b ≤ k → (whole : List ℤ → ℕ → Bool) → ((ns : List ℤ) (x : ℕ) → whole ns x ≡ anyOf (λ j. q ns j x) 0 b) → (ns : List ℤ) → RowSet base (whole ns) v old cur
 passed-end {base} {v} {b} {k} {q} {old} {cur} p h whole e ns =
     let w : k ≤ b = p .within in
     marked-as (whole ns) (p .marked ns) (λ y l. e ns y ∙ ap (anyOf (λ j. q ns j y) 0) (omega arith))
@@ -202,10 +202,10 @@ struck-at : (bs : List ℕ) (ns : List ℤ) (b x : ℕ) → b ≡ bracketsField 
 unfolding struckOut tablesIn
 struck-at bs ns b x e = rw e (struck-tabled x (tablesIn bs ns) (bracketIn bs ns) 0 (bracketsField bs))
 
-pub references-end : (bs : List ℕ) (k : ℕ) {base b r : ℕ} {v : ℕ → ℕ} {old cur : List ℕ} → Passed base v b r (λ ns j. refersAt bs ns k j) old cur → b ≤ r → b ≡ bracketsField bs → (ns : List ℤ) → RowSet base (referencesAt bs ns k) v old cur
+pub references-end : (bs : List ℕ) (k : ℕ) {base b r : ℕ} {v : ℕ → ℕ} {old cur : List ℕ} → MarksPassed base v b r (λ ns j. refersAt bs ns k j) old cur → b ≤ r → b ≡ bracketsField bs → (ns : List ℤ) → RowSet base (referencesAt bs ns k) v old cur
 references-end bs k {b = b} p h e = passed-end p h (λ ns. referencesAt bs ns k) (λ ns x. references-at bs ns k b x e)
 
-pub struck-end : (bs : List ℕ) {base b k : ℕ} {old cur : List ℕ} → Passed base (always 0) b k (placedAt bs) old cur → b ≤ k → b ≡ bracketsField bs → (ns : List ℤ) → RowSet base (struckAt bs ns) (always 0) old cur
+pub struck-end : (bs : List ℕ) {base b k : ℕ} {old cur : List ℕ} → MarksPassed base (always 0) b k (placedAt bs) old cur → b ≤ k → b ≡ bracketsField bs → (ns : List ℤ) → RowSet base (struckAt bs ns) (always 0) old cur
 struck-end bs {b = b} p h e = passed-end p h (struckAt bs) (λ ns x. struck-at bs ns b x e)
 
 -- ---- the row of free positions: all of them, but for those that are struck out

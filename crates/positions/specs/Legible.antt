@@ -15,13 +15,13 @@ abbrev pub labelFrom : List ℕ → ℕ → ℕ → ℕ
 labelFrom bs k j = textsAt + offsetField bs k j + textField bs k j
 
 -- bracket k, with its labels inside the area
-pub record Named (bs : List ℕ) (k : ℕ) : Type 0 where
+pub record LabelsInside (bs : List ℕ) (k : ℕ) : Type 0 where
   pub row : Row bs k
   pub inside : (j : ℕ) → j < partsField bs k → labelFrom bs k j + labelField bs k j ≤ length bs
 
 -- bracket k, with its positions among those of the line
-pub record Placed (bs : List ℕ) (k : ℕ) : Type 0 where
-  pub named : Named bs k
+pub record PositionsInside (bs : List ℕ) (k : ℕ) : Type 0 where
+  pub named : LabelsInside bs k
   pub first : firstField bs k ≤ residuesField bs + 1
   pub last : lastField bs k ≤ residuesField bs + 1
 
@@ -29,7 +29,7 @@ pub record Legible (bs : List ℕ) : Type 0 where
   pub room : bytesSize ≤ length bs
   pub few-residues : residuesField bs ≤ residueLimit
   pub few-brackets : bracketsField bs ≤ bracketLimit
-  pub bracket : (k : ℕ) → k < bracketsField bs → Placed bs k
+  pub bracket : (k : ℕ) → k < bracketsField bs → PositionsInside bs k
 
 -- where bracket k is read, and the positions that are read of it, are within their limits
 module _ {bs : List ℕ} (l : Legible bs) {k : ℕ} (h : k < bracketsField bs) where
@@ -49,7 +49,7 @@ pub residues-within : {bs : List ℕ} {n : ℕ} → Legible bs → n ≡ residue
 residues-within l e = omega (arith, e, l .few-residues)
 
 -- so are tables that keep to their bounds
-named : {bs : List ℕ} {ns : List ℤ} → Bounds bs ns → (k : ℕ) → k < bracketsField bs → Named bs k
+named : {bs : List ℕ} {ns : List ℤ} → Bounds bs ns → (k : ℕ) → k < bracketsField bs → LabelsInside bs k
 named b k h =
     record {
       row = row b k h;

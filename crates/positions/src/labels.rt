@@ -16,7 +16,7 @@ ghost use Rattle.scope.specs.Lists.{same, part, among, shared};
 ghost use Rattle.scope.specs.Layout.{partIn, bracketIn, partsField};
 ghost use Rattle.scope.specs.Modifications.{nameOf, namesOf, definedBy, referredBy};
 ghost use Rattle.brackets.specs.Row.{Row};
-ghost use Rattle.positions.specs.Legible.{labelFrom, Named};
+ghost use Rattle.positions.specs.Legible.{labelFrom, LabelsInside};
 
 // Whether the m bytes from a on are the n bytes from b on.
 fn same_bytes(bytes: &[u8], a: usize, m: usize, b: usize, n: usize) -> bool
@@ -39,7 +39,7 @@ fn label_from(bytes: &[u8], k: usize, j: usize) -> usize
 
 // Whether part j of bracket k has the m bytes from a on as its label.
 fn is_label(bytes: &[u8], a: usize, m: usize, k: usize, j: usize) -> bool
-    requires { ⌜ (Named (now bytes) k) × (j < partsField (now bytes) k) × (a + m ≤ length (now bytes)) ⌝ }
+    requires { ⌜ (LabelsInside (now bytes) k) × (j < partsField (now bytes) k) × (a + m ≤ length (now bytes)) ⌝ }
     ensures { λ r. ⌜ ((ns : List ℤ) → r ≡ among (part a m (now (bytes .entry))) (nameOf (partIn (now (bytes .entry)) ns k j))) ⌝ }
 {
     let n = label_length(bytes, k, j);
@@ -52,7 +52,7 @@ fn is_label(bytes: &[u8], a: usize, m: usize, k: usize, j: usize) -> bool
 
 // Whether a part of bracket k has the m bytes from a on as its label.
 fn has_label(bytes: &[u8], a: usize, m: usize, k: usize) -> bool
-    requires { ⌜ (Named (now bytes) k) × (a + m ≤ length (now bytes)) ⌝ }
+    requires { ⌜ (LabelsInside (now bytes) k) × (a + m ≤ length (now bytes)) ⌝ }
     ensures { λ r. ⌜ ((ns : List ℤ) → r ≡ among (part a m (now (bytes .entry))) (namesOf (bracketIn (now (bytes .entry)) ns k))) ⌝ }
 {
     let p = parts(bytes, k);
@@ -68,7 +68,7 @@ fn has_label(bytes: &[u8], a: usize, m: usize, k: usize) -> bool
 
 // Whether the label of part j of bracket k is one of bracket r.
 fn shares_label(bytes: &[u8], k: usize, j: usize, r: usize) -> bool
-    requires { ⌜ (Named (now bytes) k) × (j < partsField (now bytes) k) × (Named (now bytes) r) ⌝ }
+    requires { ⌜ (LabelsInside (now bytes) k) × (j < partsField (now bytes) k) × (LabelsInside (now bytes) r) ⌝ }
     ensures { λ z. ⌜ ((ns : List ℤ) → z ≡ shared (nameOf (partIn (now (bytes .entry)) ns k j)) (namesOf (bracketIn (now (bytes .entry)) ns r))) ⌝ }
 {
     let m = label_length(bytes, k, j);
@@ -81,7 +81,7 @@ fn shares_label(bytes: &[u8], k: usize, j: usize, r: usize) -> bool
 
 // Whether brackets k and r share a label.
 fn shares(bytes: &[u8], k: usize, r: usize) -> bool
-    requires { ⌜ (Named (now bytes) k) × (Named (now bytes) r) ⌝ }
+    requires { ⌜ (LabelsInside (now bytes) k) × (LabelsInside (now bytes) r) ⌝ }
     ensures { λ z. ⌜ ((ns : List ℤ) → z ≡ shared (namesOf (bracketIn (now (bytes .entry)) ns k)) (namesOf (bracketIn (now (bytes .entry)) ns r))) ⌝ }
 {
     let p = parts(bytes, k);
@@ -97,7 +97,7 @@ fn shares(bytes: &[u8], k: usize, r: usize) -> bool
 
 // Whether bracket r is a reference to a label that bracket k defines.
 pub fn refers_to(bytes: &[u8], r: usize, k: usize) -> bool
-    requires { ⌜ (Named (now bytes) k) × (Named (now bytes) r) ⌝ }
+    requires { ⌜ (LabelsInside (now bytes) k) × (LabelsInside (now bytes) r) ⌝ }
     ensures { λ z. ⌜ ((ns : List ℤ) → z ≡ shared (definedBy (bracketIn (now (bytes .entry)) ns k)) (referredBy (bracketIn (now (bytes .entry)) ns r))) ⌝ }
 {
     if is_referring(bytes, r) {

@@ -22,7 +22,7 @@ use Rattle.scope.specs.Answers.{Said, good, refuses, met, saysRequest, saysBook
 use Rattle.basics.specs.Each.{In}
 use Rattle.export.specs.Numbers.{numberOf, left, placeLeft, Judged, Exported}
 use Rattle.export.specs.Handed.{Counted, RowsHanded, LookedUp, MovedOn}
-use Rattle.export.specs.Shapes.{lengthLeft, massOf, lackOf, Written, Totalled, Displayed, allowsLent, AllowedLent, booksLent, entriesAfter, Entered as EnteredLent, FloatersHanded}
+use Rattle.export.specs.Shapes.{lengthLeft, massOf, lackOf, Written, Totalled, Displayed, allowsLent, AllowedLent, booksLent, entriesAfter, ReadEntered as EnteredLent, FloatersHanded}
 use Rattle.calls.specs.Single.{weighsAt}
 use Rattle.scope.specs.Positions.{floatersBy, bracketsOf, copiesOf}
 use Rattle.calls.specs.Floating.{floatersSaid}

@@ -41,7 +41,7 @@ use Rattle.calls.specs.Writing.{WriteSays}
 use Rattle.calls.specs.Says.{CountSays, TotalSays, ShownSays, AllowedSays, NextSays}
 use Rattle.export.specs.Numbers.{numberOf, left, placeLeft, Exported}
 use Rattle.export.specs.Handed.{MovedOn, RowsHanded}
-use Rattle.export.specs.Shapes.{lengthLeft, massOf, lackOf, Written, Totalled, Displayed, allowsLent, AllowedLent, booksLent, entriesAfter, Entered as EnteredLent}
+use Rattle.export.specs.Shapes.{lengthLeft, massOf, lackOf, Written, Totalled, Displayed, allowsLent, AllowedLent, booksLent, entriesAfter, ReadEntered as EnteredLent}
 use Rattle.promises.specs.Promises.{Holding, Filed, HandsOut, Lists, Rowed, Reckoned, EnteredC, FiledC, HandsOutC, Demand3C, CountedC, ReckonedC, PromisesC}
 use Rattle.promises.specs.Said.{not-both, same-number, same-place, met-good, met-refused}
 use Rattle.promises.specs.Answering as calls

@@ -20,7 +20,7 @@ use Rattle.scope.specs.Answers.{counts, residueCount, bracketCount, floaterCoun
 use Rattle.calls.specs.Single.{weighsAt}
 use Rattle.export.specs.Numbers.{Judged, Exported}
 use Rattle.export.specs.Handed.{Counted, RowsHanded, LookedUp, MovedOn}
-use Rattle.export.specs.Shapes.{Written, Totalled, Displayed, AllowedLent, FloatersHanded, Entered}
+use Rattle.export.specs.Shapes.{Written, Totalled, Displayed, AllowedLent, FloatersHanded, ReadEntered}
 use Rattle.export.proofs.hwemiduk_verdict as verdict
 use Rattle.export.proofs.hwemiduk_read as read
 use Rattle.export.proofs.tables.hwemiduk_residues as residues
@@ -72,7 +72,7 @@ module _ {M : Type 1} (𝓤 : URA M) (H : Heap 𝓤) (A : Atoms 𝓤) (mem : Mem
   pub allowed-is : (κs : Lfts 3) (bs : RefT (List ℕ)) (ns : RefT (List ℤ)) (p : RefT (List ℕ)) → (allowed.clauses 𝓤 H A mem run κs (bs, (ns, (p, tt))) .requires ≡ (λ g. Nothing)) × (allowed.clauses 𝓤 H A mem run κs (bs, (ns, (p, tt))) .ensures ≡ (λ g r end. fact 𝓤 (AllowedLent (bs .now) (ns .now) (p .now) r)))
   allowed-is κs bs ns p = (refl, refl)
 
-  pub ledger-is : (κs : Lfts 5) (bs : RefT (List ℕ)) (ns : RefT (List ℤ)) (p : RefT (List ℕ)) (es : RefT (List ℤ)) (k : RefT ℕ) → (ledger.clauses 𝓤 H A mem run κs (bs, (ns, (p, (es, (k, tt))))) .requires ≡ (λ g. Nothing)) × (ledger.clauses 𝓤 H A mem run κs (bs, (ns, (p, (es, (k, tt))))) .ensures ≡ (λ g r end. fact 𝓤 (Entered (bs .now) (ns .now) (p .now) (es .now) (k .now) r (end .1 .1 .1 .1 .0 .now) (end .1 .1 .1 .0 .now))))
+  pub ledger-is : (κs : Lfts 5) (bs : RefT (List ℕ)) (ns : RefT (List ℤ)) (p : RefT (List ℕ)) (es : RefT (List ℤ)) (k : RefT ℕ) → (ledger.clauses 𝓤 H A mem run κs (bs, (ns, (p, (es, (k, tt))))) .requires ≡ (λ g. Nothing)) × (ledger.clauses 𝓤 H A mem run κs (bs, (ns, (p, (es, (k, tt))))) .ensures ≡ (λ g r end. fact 𝓤 (ReadEntered (bs .now) (ns .now) (p .now) (es .now) (k .now) r (end .1 .1 .1 .1 .0 .now) (end .1 .1 .1 .0 .now))))
   ledger-is κs bs ns p es k = (refl, refl)
 
   pub rows-is : (κs : Lfts 4) (bs : RefT (List ℕ)) (ns : RefT (List ℤ)) (room : RefT (List Site)) (c : RefT ℕ) → (rows.clauses 𝓤 H A mem run κs (bs, (ns, (room, (c, tt)))) .requires ≡ (λ g. Nothing)) × (rows.clauses 𝓤 H A mem run κs (bs, (ns, (room, (c, tt)))) .ensures ≡ (λ g r end. fact 𝓤 (RowsHanded (bs .now) (ns .now) (room .now) (c .now) r (end .1 .1 .1 .0 .now) (end .1 .1 .0 .now))))

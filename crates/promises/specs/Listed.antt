@@ -25,7 +25,7 @@ use Rattle.calls.specs.Says.{AllowedSays, NextSays}
 use Rattle.promises.specs.Promises.{HandsOut, Lists}
 use Rattle.promises.specs.Said.{met-good, met-refused}
 use Rattle.promises.specs.Answering.{is-allowed, next-placement}
-use Rattle.promises.specs.Weights.{Taken, says-itself, orderly}
+use Rattle.promises.specs.Weights.{AreasTaken, says-itself, orderly}
 use Rattle.promises.specs.Weights.{is-allowed as allowed-so}
 
 -- ---- a list at a place, and at its end
@@ -51,7 +51,7 @@ unfolding afterRequests
 after-next f zero l = refl
 after-next f (suc n) l = after-next f n (movedOn l (requested f l))
 
-module _ (bs : List ℕ) (ns : List ℤ) (h : Taken bs ns) where
+module _ (bs : List ℕ) (ns : List ℤ) (h : AreasTaken bs ns) where
   abbrev t : Tables
   t = tablesIn bs ns
 

@@ -25,10 +25,10 @@ use Rattle.placement_laws.specs.Lines.{permitted-free}
 use Rattle.placement_laws.specs.Laws as placing
 use Rattle.calls.specs.Says.{AllowedSays}
 use Rattle.promises.specs.Promises.{Permitted}
-use Rattle.promises.specs.Weights.{Taken, orderly, is-allowed}
+use Rattle.promises.specs.Weights.{AreasTaken, orderly, is-allowed}
 
 -- ---- allowed: each stands where it may, alone
-pub allowed-so : (bs : List ℕ) (ns : List ℤ) → Taken bs ns → (p : Placement) (r : Request) → AllowedSays bs ns p r
+pub allowed-so : (bs : List ℕ) (ns : List ℤ) → AreasTaken bs ns → (p : Placement) (r : Request) → AllowedSays bs ns p r
     → (saysRequest r ≡ good tt) ↔ Placing (floatingOf (tablesIn bs ns)) (p .at)
 allowed-so bs ns h p r w =
     let a = is-allowed h p r w in let b = placing.by-entries (floatingOf (tablesIn bs ns)) (orderly h) (p .at) in ((λ e. b .0 (a .1 e)), (λ x. a .0 (b .1 x)))

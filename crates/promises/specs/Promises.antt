@@ -46,7 +46,7 @@ use Rattle.rows.specs.Says.{LookupSays}
 use Rattle.listing.specs.Says.{RowsSays, StepSays}
 use Rattle.export.specs.Numbers.{Judged, Exported}
 use Rattle.export.specs.Handed.{Counted, RowsHanded, LookedUp, MovedOn}
-use Rattle.export.specs.Shapes.{Written, Totalled, Displayed, AllowedLent, FloatersHanded, Entered as EnteredLent}
+use Rattle.export.specs.Shapes.{Written, Totalled, Displayed, AllowedLent, FloatersHanded, ReadEntered as EnteredLent}
 
 -- ======== demand 1
 -- "Every line of bytes, every set of tables and every lent area gets an answer, and the caller need not have checked anything."

@@ -119,21 +119,21 @@ dues-numbered s = go (reading s)
     go r = (omega arith, omega arith, (omega arith, omega arith, (omega arith, omega arith, (omega arith, omega arith, above r))))
 
 -- a refusal's number and place
-pub record Placed (most : ℕ) (s : List ℕ) (n p : ℕ) : Type 0 where
+pub record RefusalPlaced (most : ℕ) (s : List ℕ) (n p : ℕ) : Type 0 where
   pub from-1 : 1 ≤ n
   pub to-most : n ≤ most
   pub inside : p ≤ length s
 
-pub said-12 : (s : List ℕ) (n p : ℕ) → outcome s ≡ refused n p → Placed 12 s n p
+pub said-12 : (s : List ℕ) (n p : ℕ) → outcome s ≡ refused n p → RefusalPlaced 12 s n p
 said-12 s n p e =
     let d = reads.laws .lowest-wins s n p .0 e .0 .member in
     let r = numbered (dues s) n p (dues-numbered s) d in
     record { from-1 = r .0; to-most = r .1; inside = each-in _ (placesOf (dues s) n) p d (reads.laws .inside-line s n) .0 }
 
-pub said-13 : (s bs : List ℕ) (ns : List ℤ) (n p : ℕ) → readOutcome bs ns s ≡ refused n p → Placed 13 s n p
+pub said-13 : (s bs : List ℕ) (ns : List ℤ) (n p : ℕ) → readOutcome bs ns s ≡ refused n p → RefusalPlaced 13 s n p
 said-13 s bs ns n p e = go (tooShort bs ns) e
   where
-    go : (t : Bool) → cond t (refused 13 0) (outcome s) ≡ refused n p → Placed 13 s n p
+    go : (t : Bool) → cond t (refused 13 0) (outcome s) ≡ refused n p → RefusalPlaced 13 s n p
     go true f =
         let x : 13 ≡ n = cc in
         let y : 0 ≡ p = cc in

@@ -24,7 +24,7 @@ use Rattle.basics.specs.Members.{in-left, in-right, in-either, in-map, map-in, 
 use Rattle.laws.specs.Proved.{demands}
 use Rattle.listing.specs.Says.{RowsSays}
 use Rattle.promises.specs.Promises.{Permitted, Below, Climbing, LeastOf, Rowed}
-use Rattle.promises.specs.Weights.{Taken, orderly}
+use Rattle.promises.specs.Weights.{AreasTaken, orderly}
 
 abbrev site : ℕ → ℕ → Site
 site f x = record { floater = f; position = x }
@@ -103,7 +103,7 @@ best f i (r ∷ rs) c = go (eqb (r .floater) f) refl (firstRow f (i + 1) rs) (be
     go false e (some x) ih = (inr (ih .0), (λ y h. others e y (ih .1 y) h))
 
 -- ---- over areas that every call takes
-module _ (bs : List ℕ) (ns : List ℤ) (h : Taken bs ns) where
+module _ (bs : List ℕ) (ns : List ℤ) (h : AreasTaken bs ns) where
   abbrev qs : List (List ℕ)
   qs = floatingOf (tablesIn bs ns) .lists
 

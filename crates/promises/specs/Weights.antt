@@ -32,16 +32,16 @@ use Rattle.promises.specs.Said.{not-both, same-good, same-place, not-lac
 use Rattle.promises.specs.Readers.{WasRead, held-after}
 
 -- areas that every call takes
-pub record Taken (bs : List ℕ) (ns : List ℤ) : Type 0 where
+pub record AreasTaken (bs : List ℕ) (ns : List ℤ) : Type 0 where
   pub long-enough : tooShort bs ns ≡ false
   pub taken : areTables bs ns ≡ true
 
 -- those that a line was read into are
-pub taken-after : {s bs : List ℕ} {ns : List ℤ} {bs′ : List ℕ} {ns′ : List ℤ} → WasRead s bs ns bs′ ns′ → Taken bs′ ns′
+pub taken-after : {s bs : List ℕ} {ns : List ℤ} {bs′ : List ℕ} {ns′ : List ℤ} → WasRead s bs ns bs′ ns′ → AreasTaken bs′ ns′
 taken-after r = let h = held-after r in record { long-enough = h .long-enough; taken = h .taken }
 
 -- what a call says itself
-pub says-itself : {A : Type 0} {bs : List ℕ} {ns : List ℤ} → Taken bs ns → (f : Tables → Said A) → overTables bs ns f ≡ f (tablesIn bs ns)
+pub says-itself : {A : Type 0} {bs : List ℕ} {ns : List ℤ} → AreasTaken bs ns → (f : Tables → Said A) → overTables bs ns f ≡ f (tablesIn bs ns)
 says-itself h f = rw (h .long-enough, h .taken)
 
 -- an allowed placement is what `is_allowed` says is one
@@ -49,7 +49,7 @@ said-allowed : (b : Bool) → good (tt {0}) ≡ cond b (good (tt {0})) (refuses 
 said-allowed true e = refl
 said-allowed false e = absurd (not-both e)
 
-pub is-allowed : {bs : List ℕ} {ns : List ℤ} → Taken bs ns → (p : Placement) (r : Request) → AllowedSays bs ns p r
+pub is-allowed : {bs : List ℕ} {ns : List ℤ} → AreasTaken bs ns → (p : Placement) (r : Request) → AllowedSays bs ns p r
     → (allowed (floatingOf (tablesIn bs ns)) (p .at) ≡ true) ↔ (saysRequest r ≡ good tt)
 is-allowed {bs} {ns} h p r w =
     let answered : saysRequest r ≡ allowable (tablesIn bs ns) (p .at) = w ∙ says-itself h (λ t. allowable t (p .at)) in (
@@ -58,7 +58,7 @@ is-allowed {bs} {ns} h p r w =
     )
 
 -- what floats of the tables in them is orderly
-pub orderly : {bs : List ℕ} {ns : List ℤ} → Taken bs ns → Orderly (floatingOf (tablesIn bs ns))
+pub orderly : {bs : List ℕ} {ns : List ℤ} → AreasTaken bs ns → Orderly (floatingOf (tablesIn bs ns))
 orderly {bs} {ns} h = placing.line-orderly (tablesIn bs ns) (tables-held bs ns (h .taken) .1 .tables-within .few-copies)
 
 -- ---- the total and the display
@@ -70,7 +70,7 @@ lack-so : (b : Bool) (x : ℤ) (k n : ℕ) → (good (cond b (aMass (daltons x))
 lack-so true x k n = ((λ e. absurd (not-lack (same-good e))), (λ e. absurd (not-both e)))
 lack-so false x k n = ((λ e. ap (refuses 16) (same-lack (same-good e))), (λ e. ap (λ z. good (lack z)) (same-place e)))
 
-module _ (bs : List ℕ) (ns : List ℤ) (h : Taken bs ns) where
+module _ (bs : List ℕ) (ns : List ℤ) (h : AreasTaken bs ns) where
   abbrev t : Tables
   t = tablesIn bs ns
 
@@ -113,7 +113,7 @@ answers-after {s} {bs} {ns} {bs′} {ns′} r =
     subst (λ b. laws.SameAnswers (r .line) (tablesIn b ns′)) (sym (r .bytes))
     (subst (λ n. laws.SameAnswers (r .line) (tablesIn (laid (bytesOf (r .line)) bs) n)) (sym (r .numbers)) (demands .answers s (r .line) (r .reads) bs ns))
 
-pub reckoned : {s bs : List ℕ} {ns : List ℤ} {bs′ : List ℕ} {ns′ : List ℤ} → (r : WasRead s bs ns bs′ ns′) → Taken bs′ ns′ → (t : Spelling) → r .line ≡ means t
+pub reckoned : {s bs : List ℕ} {ns : List ℤ} {bs′ : List ℕ} {ns′ : List ℤ} → (r : WasRead s bs ns bs′ ns′) → AreasTaken bs′ ns′ → (t : Spelling) → r .line ≡ means t
     → Reckoned t bs′ ns′
 reckoned {bs′ = bs′} {ns′ = ns′} r h t e =
     let a = answers-after r in

@@ -110,20 +110,20 @@ passes-at T m [] e (suc n) = first-passes T m [] e .0
 passes-at T m (o ∷ ms) e (suc n) = passes-at T o ms (first-passes T m (o ∷ ms) e .1) n
 
 -- ---- what is known of each mode: it is in the list, the table is what the definition says, and whether a line may end there
-record Known (m : Mode) : Type 0 where
+record KnownMode (m : Mode) : Type 0 where
   pub passes : (T : Mode → Bool) → failing T modes ≡ [] → T m ≡ true
   pub does : (b : ℕ) → act m b ≡ pick (ways m) b
   pub ends : mayEnd m ≡ true → Ending m
 
 row :
     (n : ℕ) → ((b : ℕ) → act (nth Front others n) b ≡ pick (ways (nth Front others n)) b) → (mayEnd (nth Front others n) ≡ true → Ending (nth Front others n))
-    → Known (nth Front others n)
+    → KnownMode (nth Front others n)
 row n d f = record { passes = λ T e. passes-at T Front others e n; does = d; ends = f }
 
 no : {A : Type 0} → false ≡ true → A
 no e = absurd (false≢true e)
 
-known : (m : Mode) → Known m
+known : (m : Mode) → KnownMode m
 unfolding act element further groupFirst inGroup undecided counted referred pick
 known Front = row 0 (λ b. refl) no
 known Runs = row 1 (λ b. refl) no

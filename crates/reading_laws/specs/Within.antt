@@ -64,17 +64,17 @@ module _ (n : ℕ) where
     pub run : Each WithinBracket (h .run)
 
   -- a part that begins at `at`, behind its key a text of m bytes, and i bytes are read
-  record Text (i at : ℕ) (k : Key) (m : ℕ) : Type 0 where
+  record TextRead (i at : ℕ) (k : Key) (m : ℕ) : Type 0 where
     pub begun : at < n
     pub so-far : at + length (written k) + m ≡ i
 
   WithinInner : ℕ → Inner ℕ → Type 0
   WithinInner i (begin c) = Each WithinPart (c .parts)
-  WithinInner i (plain c at t) = Each WithinPart (c .parts) × Text i at NoKey (length t)
-  WithinInner i (keyed c at k) = Each WithinPart (c .parts) × Text i at k 0
+  WithinInner i (plain c at t) = Each WithinPart (c .parts) × TextRead i at NoKey (length t)
+  WithinInner i (keyed c at k) = Each WithinPart (c .parts) × TextRead i at k 0
   WithinInner i (inNumber c at k x d) = Each WithinPart (c .parts) × WithinPart (unlabelled at k reference) × (x < n)
-  WithinInner i (inCode c at k t) = Each WithinPart (c .parts) × Text i at k (length t)
-  WithinInner i (inText c at k t cs) = Each WithinPart (c .parts) × Text i at k (length t)
+  WithinInner i (inCode c at k t) = Each WithinPart (c .parts) × TextRead i at k (length t)
+  WithinInner i (inText c at k t cs) = Each WithinPart (c .parts) × TextRead i at k (length t)
   WithinInner i (hashed c p) = Each WithinPart (c .parts) × WithinPart p
   WithinInner i (inLabel c p at name) = Each WithinPart (c .parts) × WithinPart p × (at < n)
   WithinInner i (scoring c p at name) = Each WithinPart (c .parts) × WithinPart p × (at < n)
@@ -120,15 +120,15 @@ no-key-written = refl
 -- ---- one byte more, of n
 module _ (n i : ℕ) (h : i < n) where
   -- a text goes on
-  longer : (at : ℕ) (k : Key) (t : List ℕ) (b : ℕ) → Text n i at k (length t) → Text n (i + 1) at k (length (t ++ (b ∷ [])))
+  longer : (at : ℕ) (k : Key) (t : List ℕ) (b : ℕ) → TextRead n i at k (length t) → TextRead n (i + 1) at k (length (t ++ (b ∷ [])))
   longer at k t b w = record { begun = w .begun; so-far = omega (arith, w .so-far, length-append t (b ∷ [])) }
 
   -- a text begins at this byte
-  fresh : Text n (i + 1) i NoKey 1
+  fresh : TextRead n (i + 1) i NoKey 1
   fresh = record { begun = h; so-far = omega (arith, no-key-written) }
 
   -- a text that is over is inside
-  over : (at : ℕ) (k : Key) (t : List ℕ) → Text n i at k (length t) → WithinPart n (unlabelled at k (text t))
+  over : (at : ℕ) (k : Key) (t : List ℕ) → TextRead n i at k (length t) → WithinPart n (unlabelled at k (text t))
   over at k t w = record { at = w .begun; text = omega (arith, w .so-far); value = tt; label = tt }
 
   weighed : (at : ℕ) (k : Key) (x : Number ℕ) → WithinPart n (unlabelled at k reference) → x .at < n → WithinPart n (unlabelled at k (mass x))
@@ -139,7 +139,7 @@ module _ (n i : ℕ) (h : i < n) where
   tagged p at name s w q r = record { at = w .at; text = w .text; value = w .value; label = record { at = q; score = r } }
 
   -- a key and its colon are read
-  behind : (at : ℕ) (t : List ℕ) (k : Key) → keyOf t ≡ some k → Text n i at NoKey (length t) → Text n (i + 1) at k 0
+  behind : (at : ℕ) (t : List ℕ) (k : Key) → keyOf t ≡ some k → TextRead n i at NoKey (length t) → TextRead n (i + 1) at k 0
   behind at t k e w = record { begun = w .begun; so-far = omega (arith, w .so-far, keyOf-length t k e, no-key-written) }
 
   -- a part begins at this byte

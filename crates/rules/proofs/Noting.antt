@@ -21,7 +21,7 @@ use Rattle.basics.specs.Lists.{flat-append, flat-one, same-length}
 use Rattle.sheet.specs.Rows.{headFields, partFields, labelFrom, labelTo, Stands, headsFrom, partNote, fewParts, fewBrackets, partsOf, massesRoom}
 use Rattle.sheet.specs.Fields.{HeadIs, PartIs, partsField, baseField, labelToField}
 use Rattle.sheet.proofs.FieldLaws.{head-is, part-is, part-among, stands-at, parts-few}
-use Rattle.rules.specs.Told.{nameAt, Legible, AllLegible, namesAt, labelledFrom, labelledAt}
+use Rattle.rules.specs.Told.{nameAt, PartLegible, AllLegible, namesAt, labelledFrom, labelledAt}
 use Rattle.rules.specs.Ruled.{Named, Shaped, Ruled}
 
 -- ---- the k-th bracket, and the j-th part
@@ -71,15 +71,15 @@ label-ordered p = go (p .label)
     go (some l) = omega arith
 
 -- row x is of the part p of the line
-record RowIs (line parts : List ℕ) (x : ℕ) (p : Part ℕ) : Type 0 where
+record RowOfPart (line parts : List ℕ) (x : ℕ) (p : Part ℕ) : Type 0 where
   part : PartIs parts x p
   stands : Stands line p
 
-module _ (line parts : List ℕ) (x : ℕ) (p : Part ℕ) (r : RowIs line parts x p) where
+module _ (line parts : List ℕ) (x : ℕ) (p : Part ℕ) (r : RowOfPart line parts x p) where
   row-name : nameAt line parts x ≡ nameIn p
   row-name = rw (r .part .label-to, r .part .label-from, label-long p) (sym (r .stands .label-is))
 
-  row-legible : x < massesRoom → Legible line parts x
+  row-legible : x < massesRoom → PartLegible line parts x
   row-legible h =
       record {
         noted = h;
@@ -89,10 +89,10 @@ module _ (line parts : List ℕ) (x : ℕ) (p : Part ℕ) (r : RowIs line parts 
 
 -- ---- rows from `base` on, of these parts
 Rows : List ℕ → List ℕ → ℕ → List (Part ℕ) → Type 0
-Rows line parts base ps = (j : ℕ) → j < length ps → RowIs line parts (base + j) (partAt ps j)
+Rows line parts base ps = (j : ℕ) → j < length ps → RowOfPart line parts (base + j) (partAt ps j)
 
 module _ (line parts : List ℕ) where
-  rows-first : (base : ℕ) (p : Part ℕ) (ps : List (Part ℕ)) → Rows line parts base (p ∷ ps) → RowIs line parts base p
+  rows-first : (base : ℕ) (p : Part ℕ) (ps : List (Part ℕ)) → Rows line parts base (p ∷ ps) → RowOfPart line parts base p
   unfolding Rows
   rows-first base p ps w = let e : base + 0 ≡ base = omega arith in rw e at (w 0 (omega arith))
 
@@ -108,7 +108,7 @@ module _ (line parts : List ℕ) where
       ap₂ _∷_ (row-name line parts base p (rows-first base p ps w)) (rows-names (base + 1) ps (rows-rest base p ps w))
 
   -- the row of the only label: of one part
-  last-label : (base : ℕ) (p : Part ℕ) → RowIs line parts base p → length (nameOf p) ≡ 1 → nameOf p ≡ nameAt line parts base ∷ []
+  last-label : (base : ℕ) (p : Part ℕ) → RowOfPart line parts base p → length (nameOf p) ≡ 1 → nameOf p ≡ nameAt line parts base ∷ []
   last-label base p r e = go (p .label) refl
     where
       go : (o : Option (Label ℕ)) → p .label ≡ o → nameOf p ≡ nameAt line parts base ∷ []
@@ -120,7 +120,7 @@ module _ (line parts : List ℕ) where
   none-left (x ∷ ns) q = absurd (omega arith)
 
   -- of a part and others, where y is the row of the only label of these
-  first-label : (base y : ℕ) (p : Part ℕ) (rest : List (List ℕ)) → RowIs line parts base p → Named p
+  first-label : (base y : ℕ) (p : Part ℕ) (rest : List (List ℕ)) → RowOfPart line parts base p → Named p
       → length (nameOf p ++ rest) ≡ 1 → (length rest ≡ 1 → rest ≡ nameAt line parts y ∷ [])
       → nameOf p ++ rest ≡ nameAt line parts (cond (eqb (labelToField parts base) 0) y base) ∷ []
   first-label base y p rest r m e f = go (p .label) refl
@@ -231,7 +231,7 @@ module _ {line heads parts : List ℕ} {n : ℕ} {ks : List (Bracket ℕ)} (a : 
         rw (head-at .base-is, head-at .parts)
         (only-label line parts (before k) (length ps - 1) ps m bracket-rows (each-at Shaped noBracket ks k (a .shaped) h .named) e)
 
-    row-legible-at : (i : ℕ) → i < partsField heads k → Legible line parts (baseField heads k + i)
+    row-legible-at : (i : ℕ) → i < partsField heads k → PartLegible line parts (baseField heads k + i)
     unfolding Rows
     row-legible-at i l =
         let q : i < length ps = omega (arith, head-at .parts) in

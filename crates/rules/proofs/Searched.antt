@@ -11,17 +11,17 @@ use Rattle.scope.specs.Lists.{same, among, part, tabled}
 use Rattle.basics.specs.Lists.{same-length, among-append}
 use Rattle.sheet.specs.Rows.{massesRoom}
 use Rattle.sheet.specs.Fields.{sortField, partsField, labelsField, baseField, labelFromField, labelToField}
-use Rattle.rules.specs.Told.{nameAt, Legible, AllLegible, labelledFrom, sideIs, sideAt, sideFrom, referenceSort}
+use Rattle.rules.specs.Told.{nameAt, PartLegible, AllLegible, labelledFrom, sideIs, sideAt, sideFrom, referenceSort}
 
 -- ---- two labels
 module _ (line parts : List ℕ) where
-  name-length : (x : ℕ) → Legible line parts x → length (nameAt line parts x) ≡ labelToField parts x - labelFromField parts x
+  name-length : (x : ℕ) → PartLegible line parts x → length (nameAt line parts x) ≡ labelToField parts x - labelFromField parts x
   name-length x l =
       omega (arith, l .ordered, l .within, length-take (labelToField parts x - labelFromField parts x) (drop (labelFromField parts x) line), length-drop (labelFromField parts x) line)
 
   -- with a and b where they start, e and f where they end
   module _ (x y : ℕ) {a e b f : ℕ} (p : a ≡ labelFromField parts x) (q : e ≡ labelToField parts x) (r : b ≡ labelFromField parts y) (s : f ≡ labelToField parts y) where
-    pub label-other : Legible line parts x → Legible line parts y → (e - a ≡ f - b → ⊥) → false ≡ same (nameAt line parts x) (nameAt line parts y)
+    pub label-other : PartLegible line parts x → PartLegible line parts y → (e - a ≡ f - b → ⊥) → false ≡ same (nameAt line parts x) (nameAt line parts y)
     label-other l m h =
         sym (same-length (nameAt line parts x) (nameAt line parts y) (λ z. h (omega (arith, z, name-length x l, name-length y m))))
 
@@ -143,18 +143,18 @@ module _ (parts : List ℕ) where
 
   -- the first parts from `base` on, before x, have none
   module _ (base m : ℕ) where
-    pub record Seeking (last x : ℕ) : Type 0 where
+    pub record SeekingLabel (last x : ℕ) : Type 0 where
       pub ends : last ≡ base + m
       pub begins : base ≤ x
       pub within : x ≤ last
       pub left : labelledFrom parts x (last - x) ≡ labelledFrom parts base m
 
-    pub seek-starts : {x c : ℕ} → x ≡ base → 0 < c → m ≡ c - 1 → Seeking (x + c - 1) x
+    pub seek-starts : {x c : ℕ} → x ≡ base → 0 < c → m ≡ c - 1 → SeekingLabel (x + c - 1) x
     seek-starts {x = x} {c = c} e h g =
         let q : x + c - 1 - x ≡ m = omega arith in
         record { ends = omega arith; begins = omega arith; within = omega arith; left = rw (q, e) }
 
-    module _ (last x : ℕ) (s : Seeking last x) where
+    module _ (last x : ℕ) (s : SeekingLabel last x) where
       module _ (h : x < last) {t : ℕ} (e : t ≡ labelToField parts x) where
         step : last - x ≡ suc (last - (x + 1))
         step = omega arith
@@ -163,7 +163,7 @@ module _ (parts : List ℕ) where
         unfolding labelledFrom
         seek-found g = rw (step, ne-eqb (labelToField parts x) 0 (λ z. g (e ∙ z))) at (s .left)
 
-        pub seek-more : t ≡ 0 → Seeking last (x + 1)
+        pub seek-more : t ≡ 0 → SeekingLabel last (x + 1)
         unfolding labelledFrom
         seek-more g =
             record {
@@ -192,7 +192,7 @@ legible-fewer line heads parts n k a h =
 
 -- with a the number of a bracket's first part and b how many it has, as read
 pub legible-read : (line heads parts : List ℕ) (n k : ℕ) → AllLegible line heads parts n → k < n → {a b : ℕ} → a ≡ baseField heads k → b ≡ partsField heads k
-    → (i : ℕ) → i < b → Legible line parts (a + i)
+    → (i : ℕ) → i < b → PartLegible line parts (a + i)
 legible-read line heads parts n k a h p q i l = rw p (a .legible k i h (omega arith))
 
 -- the parts of a bracket that has a label
@@ -203,7 +203,7 @@ module _ (line heads parts : List ℕ) (n k : ℕ) (a : AllLegible line heads pa
   pub parts-fit : baseField heads k + partsField heads k ≤ massesRoom
   parts-fit = omega (arith, some-parts, a .legible k (partsField heads k - 1) h (omega (arith, some-parts)) .noted)
 
-  pub labelled-legible : {x : ℕ} → x ≡ labelledFrom parts (baseField heads k) (partsField heads k - 1) → Legible line parts x
+  pub labelled-legible : {x : ℕ} → x ≡ labelledFrom parts (baseField heads k) (partsField heads k - 1) → PartLegible line parts x
   labelled-legible {x = x} q =
       let w = labelled-range parts (baseField heads k) (partsField heads k - 1) in
       let d : x ≡ baseField heads k + (x - baseField heads k) = omega (arith, w .0) in

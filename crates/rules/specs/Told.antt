@@ -37,7 +37,7 @@ abbrev pub nameAt : List ℕ → List ℕ → ℕ → List ℕ
 nameAt line parts x = part (labelFromField parts x) (labelToField parts x - labelFromField parts x) line
 
 -- it can be read
-pub record Legible (line parts : List ℕ) (x : ℕ) : Type 0 where
+pub record PartLegible (line parts : List ℕ) (x : ℕ) : Type 0 where
   pub noted : x < massesRoom
   pub ordered : labelFromField parts x ≤ labelToField parts x
   pub within : labelToField parts x ≤ length line
@@ -47,7 +47,7 @@ pub record AllLegible (line heads parts : List ℕ) (n : ℕ) : Type 0 where
   pub few : n ≤ bracketLimit
   pub heads-room : headsRoom ≤ length heads
   pub parts-room : partsRoom ≤ length parts
-  pub legible : (k i : ℕ) → k < n → i < partsField heads k → Legible line parts (baseField heads k + i)
+  pub legible : (k i : ℕ) → k < n → i < partsField heads k → PartLegible line parts (baseField heads k + i)
   pub some-part : (k : ℕ) → k < n → 0 < labelsField heads k → 0 < partsField heads k
 
 -- the labels of the k-th bracket's parts

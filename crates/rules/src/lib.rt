@@ -12,7 +12,7 @@ ghost use Rattle.scope.specs.Lists.{same, among, tabled};
 ghost use Rattle.sheet.specs.Rows.{headsRoom, partsRoom, massesRoom};
 ghost use Rattle.sheet.specs.Fields.{partsField, baseField};
 ghost use Rattle.dues.specs.Ranks.{lowest};
-ghost use Rattle.rules.specs.Told.{infoAt, nameAt, Legible, AllLegible, labelledAt, sideIs, sideAt, sideFrom, wrongLabel, wrongAt, copiesAt, passes as passing, dueCodes};
+ghost use Rattle.rules.specs.Told.{infoAt, nameAt, PartLegible, AllLegible, labelledAt, sideIs, sideAt, sideFrom, wrongLabel, wrongAt, copiesAt, passes as passing, dueCodes};
 ghost use Rattle.rules.specs.Ruled.{Ruled, Finds};
 
 // the codes of kinds
@@ -99,7 +99,7 @@ fn is_wrong(line: &[u8], heads: &[u16], parts: &[u16], n: usize, k: usize) -> bo
 
 // Whether its one label, that of part x, is: a reference without definition, defined again, or defined in an unknown run and never referred to.
 fn is_wrong_label(line: &[u8], heads: &[u16], parts: &[u16], n: usize, k: usize, x: usize) -> bool
-    requires { ⌜ AllLegible (now line) (now heads) (now parts) n × (k < n) × Legible (now line) (now parts) x ⌝ }
+    requires { ⌜ AllLegible (now line) (now heads) (now parts) n × (k < n) × PartLegible (now line) (now parts) x ⌝ }
     ensures { λ r. ⌜ r ≡ wrongLabel (now (line .entry)) (now (heads .entry)) (now (parts .entry)) n k x ⌝ }
 {
     if sheet::sort_of(heads, k) == Head::REFERENCE {
@@ -132,7 +132,7 @@ fn labelled_part(heads: &[u16], parts: &[u16], k: usize) -> usize
 
 // Whether one of the first e brackets refers to the label of part x, or defines it.
 fn is_named(line: &[u8], heads: &[u16], parts: &[u16], refers: bool, e: usize, x: usize) -> bool
-    requires { ⌜ AllLegible (now line) (now heads) (now parts) e × Legible (now line) (now parts) x ⌝ }
+    requires { ⌜ AllLegible (now line) (now heads) (now parts) e × PartLegible (now line) (now parts) x ⌝ }
     ensures { λ r. ⌜ r ≡ among (nameAt (now (line .entry)) (now (parts .entry)) x) (sideFrom (now (line .entry)) (now (heads .entry)) (now (parts .entry)) refers 0 e) ⌝ }
 {
     let mut k = 0;
@@ -147,7 +147,7 @@ fn is_named(line: &[u8], heads: &[u16], parts: &[u16], refers: bool, e: usize, x
 
 // Whether bracket k does.
 fn names(line: &[u8], heads: &[u16], parts: &[u16], refers: bool, k: usize, x: usize) -> bool
-    requires { ⌜ AllLegible (now line) (now heads) (now parts) (k + 1) × Legible (now line) (now parts) x ⌝ }
+    requires { ⌜ AllLegible (now line) (now heads) (now parts) (k + 1) × PartLegible (now line) (now parts) x ⌝ }
     ensures { λ r. ⌜ r ≡ among (nameAt (now (line .entry)) (now (parts .entry)) x) (sideAt (now (line .entry)) (now (heads .entry)) (now (parts .entry)) refers k) ⌝ }
 {
     if sheet::labels_of(heads, k) == 0 {
@@ -178,7 +178,7 @@ fn is_side(heads: &[u16], refers: bool, k: usize) -> bool
 
 // Whether one of the m parts from the y-th on has the label of part x.
 fn has_label(line: &[u8], parts: &[u16], x: usize, y: usize, m: usize) -> bool
-    requires { ⌜ (partsRoom ≤ length (now parts)) × Legible (now line) (now parts) x × ((i : ℕ) → i < m → Legible (now line) (now parts) (y + i)) ⌝ }
+    requires { ⌜ (partsRoom ≤ length (now parts)) × PartLegible (now line) (now parts) x × ((i : ℕ) → i < m → PartLegible (now line) (now parts) (y + i)) ⌝ }
     ensures { λ r. ⌜ r ≡ among (nameAt (now (line .entry)) (now (parts .entry)) x) (tabled (nameAt (now (line .entry)) (now (parts .entry))) y m) ⌝ }
 {
     let mut i = 0;
@@ -193,7 +193,7 @@ fn has_label(line: &[u8], parts: &[u16], x: usize, y: usize, m: usize) -> bool
 
 // Whether the labels of parts x and y are the same, byte for byte.
 fn same_label(line: &[u8], parts: &[u16], x: usize, y: usize) -> bool
-    requires { ⌜ (partsRoom ≤ length (now parts)) × Legible (now line) (now parts) x × Legible (now line) (now parts) y ⌝ }
+    requires { ⌜ (partsRoom ≤ length (now parts)) × PartLegible (now line) (now parts) x × PartLegible (now line) (now parts) y ⌝ }
     ensures { λ r. ⌜ r ≡ same (nameAt (now (line .entry)) (now (parts .entry)) x) (nameAt (now (line .entry)) (now (parts .entry)) y) ⌝ }
 {
     let a = sheet::label_from(parts, x);

@@ -58,17 +58,17 @@ module _ {line heads parts : List ℕ} {masses scores : List ℤ} {k t : ℕ} {b
         (en ∙ ap (set numbers₂ (massAt k partLimit)) (ex ∙ points-are (f .noted))) (f .areas-are .rows-long) (f .areas-are .masses-long)
 
 -- ---- the loop
-pub record Upto (ks : List (Bracket ℕ)) (a : Pieces) (k t : ℕ) (bytes : List ℕ) (numbers : List ℤ) : Type 0 where
+pub record StoredUpto (ks : List (Bracket ℕ)) (a : Pieces) (k t : ℕ) (bytes : List ℕ) (numbers : List ℤ) : Type 0 where
   pub texts-are : t ≡ length (flat bracketTexts (take k ks))
   pub put : BracketsPut (take k ks) a bytes numbers
 
 module _ {line heads parts : List ℕ} {masses scores : List ℤ} {n : ℕ} {ks : List (Bracket ℕ)} {a : Pieces} {bytes₀ : List ℕ} {numbers₀ : List ℤ}
     (f : BracketsFit line heads parts masses scores n ks a bytes₀ numbers₀) where
-  start : Upto ks a 0 0 bytes₀ numbers₀
+  start : StoredUpto ks a 0 0 bytes₀ numbers₀
   unfolding flat
   start = record { texts-are = refl; put = no-brackets (f .areas-are) }
 
-  module _ {k t : ℕ} {bytes : List ℕ} {numbers : List ℤ} (w : Upto ks a k t bytes numbers) (h : k < n) where
+  module _ {k t : ℕ} {bytes : List ℕ} {numbers : List ℤ} (w : StoredUpto ks a k t bytes numbers) (h : k < n) where
     next : Among ks k
     next = among ks k (omega (arith, f .many))
 
@@ -103,7 +103,7 @@ module _ {line heads parts : List ℕ} {masses scores : List ℤ} {n : ℕ} {ks 
           areas-are = areas-as refl refl refl (omega arith) (sym texts-before) (omega arith) (put-before .areas-are);
         }
 
-    further : {r : ℕ} {bytes′ : List ℕ} {numbers′ : List ℤ} → BracketPut k t (next .this) (bracketsAdded (next .before) a) r bytes′ numbers′ → Upto ks a (k + 1) r bytes′ numbers′
+    further : {r : ℕ} {bytes′ : List ℕ} {numbers′ : List ℤ} → BracketPut k t (next .this) (bracketsAdded (next .before) a) r bytes′ numbers′ → StoredUpto ks a (k + 1) r bytes′ numbers′
     further {r} {bytes′} {numbers′} q =
         let b = next .this in
         let x = ap length (flat-snoc bracketTexts (next .before) b) in
@@ -113,17 +113,17 @@ module _ {line heads parts : List ℕ} {masses scores : List ℤ} {n : ℕ} {ks 
           put = subst (λ z. BracketsPut z a bytes′ numbers′) (sym (passed-next next)) (brackets-more (next .before) q (next .place) texts-before);
         }
 
-pub record Bracketing (line heads parts : List ℕ) (masses scores : List ℤ) (n : ℕ) (bytes₀ : List ℕ) (numbers₀ : List ℤ) (k t : ℕ) (bytes : List ℕ) (numbers : List ℤ) : Type 0 where
+pub record StoringBrackets (line heads parts : List ℕ) (masses scores : List ℤ) (n : ℕ) (bytes₀ : List ℕ) (numbers₀ : List ℤ) (k t : ℕ) (bytes : List ℕ) (numbers : List ℤ) : Type 0 where
   pub few : k ≤ n
   pub bytes-long : length bytes ≡ length bytes₀
   pub numbers-long : length numbers ≡ length numbers₀
-  pub upto : (ks : List (Bracket ℕ)) (a : Pieces) → BracketsFit line heads parts masses scores n ks a bytes₀ numbers₀ → Upto ks a k t bytes numbers
+  pub upto : (ks : List (Bracket ℕ)) (a : Pieces) → BracketsFit line heads parts masses scores n ks a bytes₀ numbers₀ → StoredUpto ks a k t bytes numbers
 
-pub bracketing-start : (line heads parts : List ℕ) (masses scores : List ℤ) (n : ℕ) (bytes : List ℕ) (numbers : List ℤ) → Bracketing line heads parts masses scores n bytes numbers 0 0 bytes numbers
+pub bracketing-start : (line heads parts : List ℕ) (masses scores : List ℤ) (n : ℕ) (bytes : List ℕ) (numbers : List ℤ) → StoringBrackets line heads parts masses scores n bytes numbers 0 0 bytes numbers
 bracketing-start line heads parts masses scores n bytes numbers = record { few = omega arith; bytes-long = refl; numbers-long = refl; upto = λ ks a f. start f }
 
 module _ {line heads parts : List ℕ} {masses scores : List ℤ} {n : ℕ} {bytes₀ : List ℕ} {numbers₀ : List ℤ} {k t : ℕ} {bytes : List ℕ} {numbers : List ℤ}
-    (w : Bracketing line heads parts masses scores n bytes₀ numbers₀ k t bytes numbers) where
+    (w : StoringBrackets line heads parts masses scores n bytes₀ numbers₀ k t bytes numbers) where
   pub bracketing-fits : SomeBracketsFit line heads parts masses scores n bytes₀ numbers₀ → k < n → SomeBracketFits line heads parts masses scores k t bytes numbers
   bracketing-fits s h =
       let f = s .fit in
@@ -133,7 +133,7 @@ module _ {line heads parts : List ℕ} {masses scores : List ℤ} {n : ℕ} {byt
 
   pub bracketing-next : k < n → {r : ℕ} {bytes′ : List ℕ} {numbers′ : List ℤ}
       → ((b : Bracket ℕ) (a : Pieces) → BracketGoesIn line heads parts masses scores k t b a bytes numbers → BracketPut k t b a r bytes′ numbers′)
-      → length bytes′ ≡ length bytes → length numbers′ ≡ length numbers → Bracketing line heads parts masses scores n bytes₀ numbers₀ (k + 1) r bytes′ numbers′
+      → length bytes′ ≡ length bytes → length numbers′ ≡ length numbers → StoringBrackets line heads parts masses scores n bytes₀ numbers₀ (k + 1) r bytes′ numbers′
   bracketing-next h put eb en =
       record {
         few = omega arith;

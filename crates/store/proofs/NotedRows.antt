@@ -76,28 +76,28 @@ label-short none w = omega arith
 label-short (some l) w = w .short-name
 
 -- ---- a text or a label is what stands between its two places
-record Between (line : List ℕ) (from to : ℕ) (l : List ℕ) : Type 0 where
+record StandsBetween (line : List ℕ) (from to : ℕ) (l : List ℕ) : Type 0 where
   order : from ≤ to
   long : to - from ≡ length l
   is : part from (to - from) line ≡ l
 
-between : (line : List ℕ) (a : ℕ) (l : List ℕ) → l ≡ part a (length l) line → Between line a (a + length l) l
+between : (line : List ℕ) (a : ℕ) (l : List ℕ) → l ≡ part a (length l) line → StandsBetween line a (a + length l) l
 between line a l e =
     let n : a + length l - a ≡ length l = omega arith in
     record { order = omega arith; long = n; is = ap (λ k. part a k line) n ∙ sym e }
 
-nothing-between : (line : List ℕ) → Between line 0 0 []
+nothing-between : (line : List ℕ) → StandsBetween line 0 0 []
 nothing-between line = record { order = omega arith; long = refl; is = refl }
 
 text-between : (line : List ℕ) (p : Part ℕ) (v : Value ℕ) → textIn v ≡ part (p .at + length (written (p .key))) (length (textIn v)) line
-    → Between line (textFrom p v) (textTo p v) (textIn v)
+    → StandsBetween line (textFrom p v) (textTo p v) (textIn v)
 text-between line p (mass n) e = nothing-between line
 text-between line p (text t) e = between line (p .at + length (written (p .key))) t e
 text-between line p reference e = nothing-between line
 
 label-between : (line : List ℕ) (o : Option (Label ℕ))
     → given o (λ l. l .name) [] ≡ part (given o (λ l. l .at) 0) (length (given o (λ l. l .name) [])) line
-    → Between line (given o (λ l. l .at) 0) (given o (λ l. l .at + length (l .name)) 0) (given o (λ l. l .name) [])
+    → StandsBetween line (given o (λ l. l .at) 0) (given o (λ l. l .at + length (l .name)) 0) (given o (λ l. l .name) [])
 label-between line none e = nothing-between line
 label-between line (some l) e = between line (l .at) (l .name) e
 
@@ -110,10 +110,10 @@ offset-noted (b ∷ l) n t e = let z : eqb n 0 ≡ false = ne-eqb n 0 (λ q. no 
 
 -- ---- a part
 module _ {line parts : List ℕ} {masses : List ℤ} {m : ℕ} {p : Part ℕ} (w : PartNoted line parts masses m p) where
-  text-is : Between line (textFrom p (p .value)) (textTo p (p .value)) (textOf p)
+  text-is : StandsBetween line (textFrom p (p .value)) (textTo p (p .value)) (textOf p)
   text-is = text-between line p (p .value) (w .stands .text-is)
 
-  label-is : Between line (labelFrom p) (labelTo p) (labelOf p)
+  label-is : StandsBetween line (labelFrom p) (labelTo p) (labelOf p)
   label-is = label-between line (p .label) (w .stands .label-is)
 
   text-long : textLength parts m ≡ length (textOf p)

@@ -52,23 +52,23 @@ module _ {line parts : List ℕ} {masses : List ℤ} {m n k t : ℕ} {ps : List 
         (q .numbers-are ∙ ap (set numbers (massAt k j)) (number-noted noted))))
 
 -- ---- the loop
-pub record Parting (line parts : List ℕ) (masses : List ℤ) (m n k t : ℕ) (bytes₀ : List ℕ) (numbers₀ : List ℤ) (j u : ℕ) (bytes : List ℕ) (numbers : List ℤ) : Type 0 where
+pub record StoringParts (line parts : List ℕ) (masses : List ℤ) (m n k t : ℕ) (bytes₀ : List ℕ) (numbers₀ : List ℤ) (j u : ℕ) (bytes : List ℕ) (numbers : List ℤ) : Type 0 where
   pub few : j ≤ n
   pub bytes-long : length bytes ≡ length bytes₀
   pub numbers-long : length numbers ≡ length numbers₀
   pub put : (ps : List (Part ℕ)) (a : Pieces) → PartsFit line parts masses m n k t ps a bytes₀ numbers₀ → PartsPut k t (take j ps) a u bytes numbers
 
-pub parting-start : (line parts : List ℕ) (masses : List ℤ) (m n k t : ℕ) (bytes : List ℕ) (numbers : List ℤ) → Parting line parts masses m n k t bytes numbers 0 t bytes numbers
+pub parting-start : (line parts : List ℕ) (masses : List ℤ) (m n k t : ℕ) (bytes : List ℕ) (numbers : List ℤ) → StoringParts line parts masses m n k t bytes numbers 0 t bytes numbers
 parting-start line parts masses m n k t bytes numbers =
     record { few = omega arith; bytes-long = refl; numbers-long = refl; put = λ ps a f. no-parts (f .areas-are) }
 
 module _ {line parts : List ℕ} {masses : List ℤ} {m n k t : ℕ} {bytes₀ : List ℕ} {numbers₀ : List ℤ} {j u : ℕ} {bytes : List ℕ} {numbers : List ℤ}
-    (w : Parting line parts masses m n k t bytes₀ numbers₀ j u bytes numbers) where
+    (w : StoringParts line parts masses m n k t bytes₀ numbers₀ j u bytes numbers) where
   pub parting-fits : SomePartsFit line parts masses m n k t bytes₀ numbers₀ → j < n → RowFits line parts masses (m + j) k j u bytes numbers
   parting-fits s h = fits (s .fit) (w .put (s .these) (s .pieces) (s .fit)) h (w .bytes-long) (w .numbers-long)
 
   pub parting-next : j < n → {r : ℕ} {bytes′ : List ℕ} {numbers′ : List ℤ} → RowPut line parts masses (m + j) k j u bytes numbers r bytes′ numbers′
-      → Parting line parts masses m n k t bytes₀ numbers₀ (j + 1) r bytes′ numbers′
+      → StoringParts line parts masses m n k t bytes₀ numbers₀ (j + 1) r bytes′ numbers′
   parting-next h q =
       record {
         few = omega arith;

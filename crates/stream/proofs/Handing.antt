@@ -32,7 +32,7 @@ module _ (chunk : List ℕ) (number refused : ℕ) (hold₀ : List ℕ) (held : 
   abbrev begun : Between
   begun = holding number refused (take held hold₀)
 
-  pub record Taken (from line total n sent : ℕ) (hold : List ℕ) (sheet : Lent) (bytes : List ℕ) (numbers : List ℤ) (out : List ℕ) : Type 0 where
+  pub record ChunkTaken (from line total n sent : ℕ) (hold : List ℕ) (sheet : Lent) (bytes : List ℕ) (numbers : List ℤ) (out : List ℕ) : Type 0 where
     pub inside : from ≤ length chunk
     pub grows : number ≤ line
     pub count : line ≤ number + from
@@ -46,7 +46,7 @@ module _ (chunk : List ℕ) (number refused : ℕ) (hold₀ : List ℕ) (held : 
     pub numbers-long : length numbers ≡ length numbers₀
     pub out-long : length out ≡ length out₀
 
-  pub taken-start : Ready hold₀ held sheet₀ bytes₀ numbers₀ out₀ → Taken 0 number refused held 0 hold₀ sheet₀ bytes₀ numbers₀ out₀
+  pub taken-start : Ready hold₀ held sheet₀ bytes₀ numbers₀ out₀ → ChunkTaken 0 number refused held 0 hold₀ sheet₀ bytes₀ numbers₀ out₀
   unfolding after put
   taken-start w =
       record {
@@ -66,9 +66,9 @@ module _ (chunk : List ℕ) (number refused : ℕ) (hold₀ : List ℕ) (held : 
 
   pub taken-more : {from line total n sent : ℕ} {hold : List ℕ} {sheet : Lent} {bytes : List ℕ} {numbers : List ℤ} {out : List ℕ} {next line′ total′ n′ : ℕ}
       → {hold′ : List ℕ} {sheet′ : Lent} {bytes′ : List ℕ} {numbers′ : List ℤ} {out′ : List ℕ} {m took : ℕ}
-      → Taken from line total n sent hold sheet bytes numbers out → from < length chunk → Feeds chunk from line total hold n out next line′ total′ hold′ n′ out′ m
+      → ChunkTaken from line total n sent hold sheet bytes numbers out → from < length chunk → Feeds chunk from line total hold n out next line′ total′ hold′ n′ out′ m
       → Ready hold′ n′ sheet′ bytes′ numbers′ out′ → took ≤ m → m ≤ took → SameLong sheet sheet′ → length bytes′ ≡ length bytes
-      → length numbers′ ≡ length numbers → length out′ ≡ length out → Taken next line′ total′ n′ (sent + took) hold′ sheet′ bytes′ numbers′ out′
+      → length numbers′ ≡ length numbers → length out′ ≡ length out → ChunkTaken next line′ total′ n′ (sent + took) hold′ sheet′ bytes′ numbers′ out′
   taken-more {from} {line} {total} {n} {sent} {hold} {next = next} {m = m} w l f r a z v b u o =
       let go = f .goes l in
       let s = holding line total (take n hold) in
@@ -92,7 +92,7 @@ module _ (chunk : List ℕ) (number refused : ℕ) (hold₀ : List ℕ) (held : 
         out-long = o ∙ w .out-long;
       }
 
-  pub taken-all : {from line total n sent : ℕ} {hold : List ℕ} {sheet : Lent} {bytes : List ℕ} {numbers : List ℤ} {out : List ℕ} → Taken from line total n sent hold sheet bytes numbers out
+  pub taken-all : {from line total n sent : ℕ} {hold : List ℕ} {sheet : Lent} {bytes : List ℕ} {numbers : List ℤ} {out : List ℕ} → ChunkTaken from line total n sent hold sheet bytes numbers out
       → length chunk ≤ from → Drains chunk number refused hold₀ held line total hold n sent true Whole × Ready hold n sheet bytes numbers out
   taken-all {from} w l =
       let all = sym (take-all from chunk l) in (

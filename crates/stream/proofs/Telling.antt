@@ -17,7 +17,7 @@ use Rattle.chunks.proofs.Putting.{fronts}
 use Rattle.stream.specs.Told.{lineEnds, noticeRoom, noticed}
 
 -- the ends among the first i bytes are counted
-pub record Counted (text : List ℕ) (i ends : ℕ) : Type 0 where
+pub record EndsCounted (text : List ℕ) (i ends : ℕ) : Type 0 where
   pub are : ends ≡ lineEnds (take i text)
   pub few : ends ≤ i
 
@@ -26,12 +26,12 @@ unfolding lineEnds
 ends-append [] b = omega arith
 ends-append (x ∷ l) b = omega (arith, ends-append l b)
 
-pub counted-start : (text : List ℕ) → Counted text 0 0
+pub counted-start : (text : List ℕ) → EndsCounted text 0 0
 unfolding lineEnds
 counted-start text = record { are = refl; few = omega arith }
 
-pub counted-more : {text : List ℕ} {i ends one : ℕ} → Counted text i ends → i < length text → (one ≡ cond (eqb (getD text i 0) lineEnd) 1 0) × (one ≤ 1)
-    → Counted text (i + 1) (ends + one)
+pub counted-more : {text : List ℕ} {i ends one : ℕ} → EndsCounted text i ends → i < length text → (one ≡ cond (eqb (getD text i 0) lineEnd) 1 0) × (one ≤ 1)
+    → EndsCounted text (i + 1) (ends + one)
 counted-more {text} {i} {ends} {one} w l e =
     let b = getD text i 0 in
     let one-more : take (i + 1) text ≡ take i text ++ (b ∷ []) = ap (λ z. take z text) (add-one i) ∙ take-suc text i 0 l in
@@ -40,7 +40,7 @@ counted-more {text} {i} {ends} {one} w l e =
       few = omega (arith, w .few, e .1);
     }
 
-pub counted-all : {text : List ℕ} {n i ends : ℕ} → i ≤ n → n ≤ i → Counted text i ends → (ends ≡ lineEnds (take n text)) × (ends ≤ n)
+pub counted-all : {text : List ℕ} {n i ends : ℕ} → i ≤ n → n ≤ i → EndsCounted text i ends → (ends ≡ lineEnds (take n text)) × (ends ≤ n)
 counted-all {text} {n} {i} h k w = let e : i ≡ n = omega arith in (w .are ∙ ap (λ z. lineEnds (take z text)) e, omega (arith, w .few))
 
 -- words, a number and the end of the line, one behind the other

@@ -36,7 +36,7 @@ abbrev roomAt : ℕ → ℕ → ℕ
 roomAt n j = 2 ^ min bits (n - bits * j)
 
 -- a table of n bits
-pub record Kept (t : List ℕ) (n : ℕ) : Type 0 where
+pub record BitTable (t : List ℕ) (n : ℕ) : Type 0 where
   pub size : bits * length t ≡ lineLimit
   pub room : n ≤ lineLimit
   pub fits : (j : ℕ) → getD t j 0 < roomAt n j
@@ -46,7 +46,7 @@ zeros zero j = refl
 zeros (suc m) zero = refl
 zeros (suc m) (suc j) = zeros m j
 
-pub kept-none : Kept (replicate (lineLimit / bits) 0) 0
+pub kept-none : BitTable (replicate (lineLimit / bits) 0) 0
 kept-none = record {
   size = refl;
   room = omega arith;
@@ -82,8 +82,8 @@ owing-last t (suc n) h =
     let e : suc n - 1 ≡ n = omega arith in
     rw e
 
-module _ (t : List ℕ) (n : ℕ) (w : Kept t n) where
-  pub kept-less : 1 ≤ n → Kept (readOff t (n - 1)) (n - 1)
+module _ (t : List ℕ) (n : ℕ) (w : BitTable t n) where
+  pub kept-less : 1 ≤ n → BitTable (readOff t (n - 1)) (n - 1)
   kept-less h =
       let e : n - 1 + 1 ≡ n = omega arith in
       let below : (j : ℕ) → getD t j 0 < roomAt (n - 1 + 1) j = rw e (w .fits) in
@@ -107,7 +107,7 @@ module _ (t : List ℕ) (n : ℕ) (w : Kept t n) where
 
     -- v is the byte with one bit more
     module _ (v : ℕ) (e : v / 2 ≡ byteOf t n) where
-      pub kept-more : Kept (set t (n / bits) v) (n + 1)
+      pub kept-more : BitTable (set t (n / bits) v) (n + 1)
       kept-more = record {
         size = omega (arith, w .size, length-set t (n / bits) v);
         room = omega arith;

@@ -14,7 +14,7 @@ use Rattle.texts.specs.declared.TextEnd.the-variants.{Ends, Stuck}
 use Rattle.texts.specs.Texts.{scanDeep, firstOf, deeper, entered, behind, isInner, endsPast, lastOf, Closed, Crowded}
 use Rattle.texts.proofs.Firsts.{first-none, first-first, first-there, deeper-opens, deeper-told, entered-low, entered-deep}
 use Rattle.texts.proofs.Owed.{Paused, Goes, inside-starts, pauses, paused-over, paused-stuck, paused-last, paused-shut, paused-open, paused-behind, paused-lost}
-use Rattle.texts.proofs.Bits.{bits, byteOf, readOff, owing, owing-last, owing-more, Kept, kept-none, kept-less, kept-more, last-shuts}
+use Rattle.texts.proofs.Bits.{bits, byteOf, readOff, owing, owing-last, owing-more, BitTable, kept-none, kept-less, kept-more, last-shuts}
 
 -- so many closers are owed around the pair; a place is told before it
 abbrev pub Level : ℕ → List ℕ → ℕ → Type 0
@@ -52,7 +52,7 @@ module _ (s : List ℕ) (at c : ℕ) where
 
   -- x is owed at i, and then the closers of a table of n bits
   pub record Crowd (t : List ℕ) (n x i : ℕ) : Type 0 where
-    pub kept : Kept t n
+    pub kept : BitTable t n
     pub paused : Paused Told s at c x (owing t n) i 0
 
   pub crowd-starts : (i : ℕ) → isShutting c ≡ true → i ≡ at + span isInner (drop at s) → Crowd (replicate (lineLimit / bits) 0) 0 c i

@@ -79,11 +79,11 @@ pub record Opens (refers : Bool) (c : Context ℕ) : Type 0 where
   pub refers-is : (c .refers && none? (c .parts)) ≡ refers
   pub with-labels : refers ≡ true → c .labels ≡ true
 
-pub record Reads (line : List ℕ) (at : ℕ) (refers : Bool) (v : Value) : Type 0 where
+pub record ValueReads (line : List ℕ) (at : ℕ) (refers : Bool) (v : Value) : Type 0 where
   pub found : Part ℕ
   pub is-value : IsValue line at v found
   pub on : GoesOn line at (Opens refers) (λ c. innerStep at (begin c)) (v .to) (λ c. valueEnd c found)
 
 abbrev pub ValueSays : List ℕ → ℕ → Bool → ValueAt → Type 0
 ValueSays line at refers (Stuck p) = Stops line at (Opens refers) (λ c. innerStep at (begin c)) p
-ValueSays line at refers (Read v) = Reads line at refers v
+ValueSays line at refers (Read v) = ValueReads line at refers v

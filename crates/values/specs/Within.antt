@@ -25,14 +25,14 @@ use Rattle.values.specs.declared.ValueAt.{ValueAt}
 use Rattle.values.specs.declared.ValueAt.the-variants.{Stuck, Read}
 
 -- from j on, where the byte does F, the value of the part that begins at `at` is read
-pub record ReadsFrom (line : List ℕ) (at j : ℕ) (F : Context ℕ → ℕ → Content ℕ) (v : Value) : Type 0 where
+pub record ValueReadsFrom (line : List ℕ) (at j : ℕ) (F : Context ℕ → ℕ → Content ℕ) (v : Value) : Type 0 where
   pub found : Part ℕ
   pub is-value : IsValue line at v found
   pub on : (s : Slot) (o : ℕ) (h : Held ℕ) (c : Context ℕ) → through line s o h j (F c) ≡ through line s o h (v .to) (valueEnd c found)
 
 unfoldable pub SaysFrom : List ℕ → ℕ → ℕ → (Context ℕ → ℕ → Content ℕ) → ValueAt → Type 0
 SaysFrom line at j F (Stuck p) = (s : Slot) (o : ℕ) (h : Held ℕ) (c : Context ℕ) → through line s o h j (F c) ≡ stuck p
-SaysFrom line at j F (Read v) = ReadsFrom line at j F v
+SaysFrom line at j F (Read v) = ValueReadsFrom line at j F v
 
 -- what may stand behind a key, as it is told
 abbrev pub told : FormOf → Form

@@ -21,14 +21,14 @@ use Rattle.dues.specs.Lines.{metCodes}
 use Rattle.walk.specs.declared.Stage.{Stage}
 use Rattle.walk.specs.declared.Step.{Step}
 use Rattle.walk.specs.declared.Step.the-variants.{Stuck, More}
-use Rattle.walk.specs.Stages.{heldBrackets, Lent, withHeads, HasRoom, nothingDue, BracketsAre, Upto, Does, Low, firstStage}
+use Rattle.walk.specs.Stages.{heldBrackets, TablesLent, withHeads, HasRoom, nothingDue, BracketsAre, Upto, Does, Low, firstStage}
 use Rattle.walk.specs.Steps.{goneTo, settledIn, Settled, Stepped}
 use Rattle.walk.specs.Walked.{LineSays}
 use Rattle.walk.proofs.Modes.{ActFits, act-fits, ends-settled}
 use Rattle.walk.proofs.Dues.{met-none, met-settled}
 use Rattle.walk.proofs.Notes.{none-noted, noted-settled, noted-low}
 
-module _ {line : List ℕ} {s : Stage} {a : Act} {t : Lent} (d : Does line s a t) where
+module _ {line : List ℕ} {s : Stage} {a : Act} {t : TablesLent} (d : Does line s a t) where
   pub next-state : reading line ≡ rest line (s .at + 1) (perform (s .at) (getD line (s .at) 0) (d .upto .held) a)
   unfolding step
   next-state =
@@ -54,7 +54,7 @@ module _ {line : List ℕ} {s : Stage} {a : Act} {t : Lent} (d : Does line s a t
         room = λ h. omega (arith, n, b .many, h);
       }
 
-pub stopped : {line : List ℕ} {s : Stage} {t : Lent} → Does line s Stop t → reading line ≡ stuck (s .at)
+pub stopped : {line : List ℕ} {s : Stage} {t : TablesLent} → Does line s Stop t → reading line ≡ stuck (s .at)
 unfolding perform
 stopped {line} {s} d = next-state d ∙ rest-dead line (s .at + 1) (s .at)
 
@@ -68,7 +68,7 @@ brackets-as {line} {n} {run} {m} {bs} {ws} {heads} {parts} {masses} {scores} a b
 }
 
 -- another table of heads, as long
-pub room-heads : {t : Lent} {heads : List ℕ} → HasRoom t → length heads ≡ length (t .heads) → HasRoom (withHeads t heads)
+pub room-heads : {t : TablesLent} {heads : List ℕ} → HasRoom t → length heads ≡ length (t .heads) → HasRoom (withHeads t heads)
 room-heads r e = record {
   letters-room = r .letters-room;
   sections-room = r .sections-room;
@@ -78,7 +78,7 @@ room-heads r e = record {
   scores-room = r .scores-room;
 }
 
-module _ {line : List ℕ} {s : Stage} {t : Lent} where
+module _ {line : List ℕ} {s : Stage} {t : TablesLent} where
   pub gone-on : {mode : Mode} {r : Stage} → r ≡ goneTo s mode → Does line s (Go mode) t → Upto line r t × (s .at < r .at)
   unfolding perform
   gone-on {mode} {r} e d =
@@ -156,7 +156,7 @@ module _ {line : List ℕ} {s : Stage} {t : Lent} where
       subst (λ x. Upto line x (withHeads t heads) × (s .at < x .at)) (sym e) (on, omega arith)
 
 -- ---- before the first byte
-pub nothing-read : (line : List ℕ) (t : Lent) → HasRoom t → Upto line firstStage t
+pub nothing-read : (line : List ℕ) (t : TablesLent) → HasRoom t → Upto line firstStage t
 nothing-read line t r = record {
   held = nothing;
   is = rest-start line;
@@ -171,7 +171,7 @@ nothing-read line t r = record {
 }
 
 -- ---- behind the last
-module _ {line : List ℕ} {s : Stage} {t : Lent} (u : Upto line s t) (past : length line ≤ s .at) where
+module _ {line : List ℕ} {s : Stage} {t : TablesLent} (u : Upto line s t) (past : length line ≤ s .at) where
   ended-here : reading line ≡ cond (mayEnd (s .mode)) (holds (lineOf (u .held))) (stuck (length line))
   ended-here = u .is ∙ rest-end line (s .at) (outside (s .mode) (u .held)) past
 
@@ -195,18 +195,18 @@ module _ {line : List ℕ} {s : Stage} {t : Lent} (u : Upto line s t) (past : le
   line-stuck e = ended-here ∙ ap (λ b. cond b (holds (lineOf (u .held))) (stuck (length line))) e
 
 -- ---- what the byte at hand does, and what a step says, by their answers
-pub does-this : {line : List ℕ} {s : Stage} {t : Lent} → (length line ≤ lineLimit) × (s .at < length line) × Upto line s t → {r a : Act} → r ≡ act (s .mode) (getD line (s .at) 0) → r ≡ a → Does line s a t
+pub does-this : {line : List ℕ} {s : Stage} {t : TablesLent} → (length line ≤ lineLimit) × (s .at < length line) × Upto line s t → {r a : Act} → r ≡ act (s .mode) (getD line (s .at) 0) → r ≡ a → Does line s a t
 does-this p e g = record { upto = p .2; here = p .1; short = p .0; does = sym e ∙ g }
 
-pub step-stuck : (line : List ℕ) (s : Stage) (t : Lent) {r : Step} {p : ℕ} → Stepped line s r t → r ≡ Stuck p → reading line ≡ stuck p
+pub step-stuck : (line : List ℕ) (s : Stage) (t : TablesLent) {r : Step} {p : ℕ} → Stepped line s r t → r ≡ Stuck p → reading line ≡ stuck p
 step-stuck line s t f e = subst (λ x. Stepped line s x t) e f
 
-pub step-more : (line : List ℕ) (s : Stage) (t : Lent) {r : Step} {n : Stage} → Stepped line s r t → r ≡ More n → Upto line n t × (s .at < n .at)
+pub step-more : (line : List ℕ) (s : Stage) (t : TablesLent) {r : Step} {n : Stage} → Stepped line s r t → r ≡ More n → Upto line n t × (s .at < n .at)
 step-more line s t f e = subst (λ x. Stepped line s x t) e f
 
 -- ---- the whole line, stage by stage
 -- the tables are as long as they were
-pub record Kept (old t : Lent) : Type 0 where
+pub record AsLong (old t : TablesLent) : Type 0 where
   pub letters : length (t .letters) ≡ length (old .letters)
   pub sections : length (t .sections) ≡ length (old .sections)
   pub heads : length (t .heads) ≡ length (old .heads)
@@ -214,17 +214,17 @@ pub record Kept (old t : Lent) : Type 0 where
   pub masses : length (t .masses) ≡ length (old .masses)
   pub scores : length (t .scores) ≡ length (old .scores)
 
-pub record Walking (line : List ℕ) (old : Lent) (s : Stage) (t : Lent) : Type 0 where
+pub record Walking (line : List ℕ) (old : TablesLent) (s : Stage) (t : TablesLent) : Type 0 where
   pub upto : Upto line s t
-  pub kept : Kept old t
+  pub kept : AsLong old t
 
-pub walking-start : (line : List ℕ) (s : Stage) (t : Lent) → s ≡ firstStage → HasRoom t → Walking line t s t
+pub walking-start : (line : List ℕ) (s : Stage) (t : TablesLent) → s ≡ firstStage → HasRoom t → Walking line t s t
 walking-start line s t e r = record {
   upto = subst (λ x. Upto line x t) (sym e) (nothing-read line t r);
   kept = record { letters = refl; sections = refl; heads = refl; parts = refl; masses = refl; scores = refl };
 }
 
-pub walking-next : {line : List ℕ} {old : Lent} {s n : Stage} {t t′ : Lent} → Walking line old s t → Upto line n t′ → Kept t t′ → Walking line old n t′
+pub walking-next : {line : List ℕ} {old : TablesLent} {s n : Stage} {t t′ : TablesLent} → Walking line old s t → Upto line n t′ → AsLong t t′ → Walking line old n t′
 walking-next w u k = record {
   upto = u;
   kept = record {

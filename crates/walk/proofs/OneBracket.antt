@@ -32,7 +32,7 @@ use Rattle.inside.proofs.Lists.{length-snoc}
 use Rattle.walk.specs.declared.Stage.{Stage}
 use Rattle.walk.specs.declared.Step.{Step}
 use Rattle.walk.specs.declared.Step.the-variants.{Stuck, More}
-use Rattle.walk.specs.Stages.{ModeFits, heldBrackets, Lent, lent, nothingDue, ResiduesAre, BracketsAre, Upto, Does}
+use Rattle.walk.specs.Stages.{ModeFits, heldBrackets, TablesLent, lent, nothingDue, ResiduesAre, BracketsAre, Upto, Does}
 use Rattle.walk.specs.Steps.{noted?, runBehind, bracketBehind, openingOf, BracketAsks, BracketStuck, BracketRead, BracketStep, Stepped}
 use Rattle.walk.proofs.Modes.{SlotFits, labels-there}
 use Rattle.walk.proofs.Dues.{met-bracket}
@@ -79,7 +79,7 @@ module _ (slot : Slot) (k : Bracket ℕ) (h : Held ℕ) (f : SlotFits slot (h .r
       put-by (λ g. ModeFits (modeAfter slot ps) (g .run) l) (slot .kind) k h (λ q. f .waits (ap isUnknown q) k ps l e)
       (λ q. subst (λ r. ModeFits (modeAfter slot ps) r l) (sym (f .none-before q)) (f .settles q ps l))
 
-module _ {line : List ℕ} {s : Stage} {t : Lent} {slot : Slot} (d : Does line s (Begin slot) t) where
+module _ {line : List ℕ} {s : Stage} {t : TablesLent} {slot : Slot} (d : Does line s (Begin slot) t) where
   abbrev u : Upto line s t
   u = d .upto
 

@@ -24,7 +24,7 @@ use Rattle.dues.specs.Ranks.{code, lowest}
 use Rattle.dues.specs.Lines.{wideRank, metCodes}
 use Rattle.inside.proofs.Lists.{length-snoc}
 use Rattle.walk.specs.declared.Stage.{Stage}
-use Rattle.walk.specs.Stages.{LastFresh, ModeFits, heldBrackets, Lent, withHeads, nothingDue, BracketsAre, Upto, Does}
+use Rattle.walk.specs.Stages.{LastFresh, ModeFits, heldBrackets, TablesLent, withHeads, nothingDue, BracketsAre, Upto, Does}
 use Rattle.walk.specs.Steps.{countPut, wrongCount, countedTo, CountNoted}
 use Rattle.walk.proofs.Counts.{withCount, count-read, count-stops, count-within, count-past}
 use Rattle.walk.proofs.Dues.{met-count}
@@ -34,7 +34,7 @@ use Rattle.walk.proofs.Further.{run-left, brackets-as, room-heads}
 put-long : (n value : ℕ) (heads : List ℕ) → length (countPut n value heads) ≡ length heads
 put-long n value heads = branch (λ l. length l ≡ length heads) (leb n bracketLimit) (length-sets heads (countAt (n - 1)) (value ∷ writtenCount ∷ [])) refl
 
-module _ {line : List ℕ} {s : Stage} {t : Lent} (d : Does line s Digit t) where
+module _ {line : List ℕ} {s : Stage} {t : TablesLent} (d : Does line s Digit t) where
   abbrev u : Upto line s t
   u = d .upto
 

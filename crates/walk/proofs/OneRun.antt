@@ -25,7 +25,7 @@ use Rattle.sheet.proofs.RowLaws.{put-behind}
 use Rattle.dues.specs.Ranks.{code, lowest}
 use Rattle.dues.specs.Lines.{overRank, metCodes}
 use Rattle.walk.specs.declared.Stage.{Stage}
-use Rattle.walk.specs.Stages.{heldBrackets, Lent, withLetters, nothingDue, Upto, Does}
+use Rattle.walk.specs.Stages.{heldBrackets, TablesLent, withLetters, nothingDue, Upto, Does}
 use Rattle.walk.specs.Steps.{groupOf, runAt, sectionsOf, withRun, lettersPut, sectionsPut, RunSays}
 use Rattle.walk.proofs.Letters.{heldWith, runOf, run-length, run-sections, run-places, run-letters, run-within, run-read}
 use Rattle.walk.proofs.Dues.{met-residues, past-due}
@@ -66,7 +66,7 @@ group-low RangeNext n m g h l = omega arith
 group-low UnsureFirst n m g h l = omega arith
 group-low UnsureNext n m g h l = omega arith
 
-module _ {line : List ℕ} {s : Stage} {t : Lent} {section : Section} {mode : Mode} (d : Does line s (aResidue section mode) t) where
+module _ {line : List ℕ} {s : Stage} {t : TablesLent} {section : Section} {mode : Mode} (d : Does line s (aResidue section mode) t) where
   abbrev u : Upto line s t
   u = d .upto
 

@@ -21,11 +21,11 @@ pub record Partly (bs rs : List (Bracket ℕ)) (i end : ℕ) (heads : List ℕ) 
   pub at : min i end ≡ length bs + length done
   pub rows : take (end * headFields) heads ≡ headsFrom 0 (bs ++ (map asNTerm done ++ left))
 
-pub record Settling (first end i : ℕ) (old heads : List ℕ) : Type 0 where
+pub record SettlingHeads (first end i : ℕ) (old heads : List ℕ) : Type 0 where
   pub partly : (bs rs : List (Bracket ℕ)) → min first end ≡ length bs → end ≡ length bs + length rs → take (end * headFields) old ≡ headsFrom 0 (bs ++ rs) → Partly bs rs i end heads
   pub kept : length heads ≡ length old
 
-pub settling-start : (first end : ℕ) (old : List ℕ) → Settling first end first old old
+pub settling-start : (first end : ℕ) (old : List ℕ) → SettlingHeads first end first old old
 settling-start first end old = record {
   partly = λ bs rs e f g. record { done = []; left = rs; is = refl; at = let z : min first end ≡ length bs + 0 = omega arith in z; rows = g };
   kept = refl;
@@ -57,8 +57,8 @@ partly-end bs rs i end heads done [] is at rows e h =
     rows ∙ ap (λ t. headsFrom 0 (bs ++ t)) (append-nil (map asNTerm done) ∙ ap (map asNTerm) (sym (is ∙ append-nil done)))
 partly-end bs rs i end heads done (k ∷ left) is at rows e h = absurd (omega (arith, ap length is, length-append done (k ∷ left)))
 
-module _ {first end i : ℕ} {old heads : List ℕ} (w : Settling first end i old heads) where
-  pub settling-next : i < end → (code : ℕ) → code ≡ kindCode NTerm → (heads′ : List ℕ) → heads′ ≡ set heads (kindAt i) code → Settling first end (i + 1) old heads′
+module _ {first end i : ℕ} {old heads : List ℕ} (w : SettlingHeads first end i old heads) where
+  pub settling-next : i < end → (code : ℕ) → code ≡ kindCode NTerm → (heads′ : List ℕ) → heads′ ≡ set heads (kindAt i) code → SettlingHeads first end (i + 1) old heads′
   settling-next h code e heads′ f =
       let q : heads′ ≡ set heads (kindAt i) (kindCode NTerm) = f ∙ ap (set heads (kindAt i)) e in
       record {

@@ -55,7 +55,7 @@ abbrev pub heldBrackets : Held ℕ → List (Bracket ℕ)
 heldBrackets h = h .brackets ++ h .run
 
 -- ---- the tables that are lent
-pub record Lent : Type 0 where
+pub record TablesLent : Type 0 where
   pub letters : List ℕ
   pub sections : List ℕ
   pub heads : List ℕ
@@ -63,17 +63,17 @@ pub record Lent : Type 0 where
   pub masses : List ℤ
   pub scores : List ℤ
 
-abbrev pub lent : List ℕ → List ℕ → List ℕ → List ℕ → List ℤ → List ℤ → Lent
+abbrev pub lent : List ℕ → List ℕ → List ℕ → List ℕ → List ℤ → List ℤ → TablesLent
 lent letters sections heads parts masses scores =
     record { letters = letters; sections = sections; heads = heads; parts = parts; masses = masses; scores = scores }
 
-abbrev pub withHeads : Lent → List ℕ → Lent
+abbrev pub withHeads : TablesLent → List ℕ → TablesLent
 withHeads t heads = lent (t .letters) (t .sections) heads (t .parts) (t .masses) (t .scores)
 
-abbrev pub withLetters : Lent → List ℕ → List ℕ → Lent
+abbrev pub withLetters : TablesLent → List ℕ → List ℕ → TablesLent
 withLetters t letters sections = lent letters sections (t .heads) (t .parts) (t .masses) (t .scores)
 
-abbrev pub HasRoom : Lent → Type 0
+abbrev pub HasRoom : TablesLent → Type 0
 HasRoom t = Roomy (t .letters) (t .sections) (t .heads) (t .parts) (t .masses) (t .scores)
 
 -- ---- what is known at a stage
@@ -95,7 +95,7 @@ pub record BracketsAre (line : List ℕ) (n run m : ℕ) (settled waits : List (
   pub noted : Noted line (settled ++ waits) m heads parts masses scores
 
 -- the line is walked up to a place
-pub record Upto (line : List ℕ) (s : Stage) (t : Lent) : Type 0 where
+pub record Upto (line : List ℕ) (s : Stage) (t : TablesLent) : Type 0 where
   pub held : Held ℕ
   pub is : reading line ≡ rest line (s .at) (outside (s .mode) held)
   pub within : s .at ≤ length line
@@ -108,7 +108,7 @@ pub record Upto (line : List ℕ) (s : Stage) (t : Lent) : Type 0 where
   pub roomy : HasRoom t
 
 -- the byte at hand does what is said
-pub record Does (line : List ℕ) (s : Stage) (a : Act) (t : Lent) : Type 0 where
+pub record Does (line : List ℕ) (s : Stage) (a : Act) (t : TablesLent) : Type 0 where
   pub upto : Upto line s t
   pub here : s .at < length line
   pub short : length line ≤ lineLimit

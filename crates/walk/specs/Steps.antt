@@ -35,7 +35,7 @@ use Rattle.inside.specs.Says.{Opening, PartsAre, Closes}
 use Rattle.walk.specs.declared.Stage.{Stage}
 use Rattle.walk.specs.declared.Step.{Step}
 use Rattle.walk.specs.declared.Step.the-variants.{Stuck, More}
-use Rattle.walk.specs.Stages.{Lent, Upto, Low}
+use Rattle.walk.specs.Stages.{TablesLent, Upto, Low}
 
 -- ---- a byte that only carries the order on
 abbrev pub goneTo : Stage → Mode → Stage
@@ -214,6 +214,6 @@ BracketStep line s slot (Stuck p) heads heads′ parts parts′ masses masses′
 BracketStep line s slot (More r) heads heads′ parts parts′ masses masses′ scores scores′ = BracketRead line s slot r heads heads′ parts parts′ masses masses′ scores scores′
 
 -- ---- one step further
-abbrev pub Stepped : List ℕ → Stage → Step → Lent → Type 0
+abbrev pub Stepped : List ℕ → Stage → Step → TablesLent → Type 0
 Stepped line s (Stuck p) t = reading line ≡ stuck p
 Stepped line s (More r) t = Upto line r t × (s .at < r .at)

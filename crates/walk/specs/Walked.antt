@@ -11,9 +11,9 @@ use Rattle.dues.specs.Ranks.{lowest, noCode}
 use Rattle.dues.specs.Lines.{metCodes}
 use Rattle.walk.specs.declared.Walked.{Walked}
 use Rattle.walk.specs.declared.Walked.the-variants.{Stuck, Holds}
-use Rattle.walk.specs.Stages.{Lent}
+use Rattle.walk.specs.Stages.{TablesLent}
 
-pub record LineSays (line : List ℕ) (residues brackets least : ℕ) (t : Lent) : Type 0 where
+pub record LineSays (line : List ℕ) (residues brackets least : ℕ) (t : TablesLent) : Type 0 where
   pub held : Line ℕ
   pub is : reading line ≡ holds held
   pub residues-are : residues ≡ length (held .residues)
@@ -23,6 +23,6 @@ pub record LineSays (line : List ℕ) (residues brackets least : ℕ) (t : Lent)
   pub noted : Noted line (held .brackets) parts (t .heads) (t .parts) (t .masses) (t .scores)
   pub lettered : Lettered (held .residues) (t .letters) (t .sections)
 
-abbrev pub WalkSays : List ℕ → Walked → Lent → Type 0
+abbrev pub WalkSays : List ℕ → Walked → TablesLent → Type 0
 WalkSays line (Stuck p) t = reading line ≡ stuck p
 WalkSays line (Holds residues brackets least) t = LineSays line residues brackets least t

@@ -24,7 +24,7 @@ ghost use Rattle.scope.specs.Reading.{positionOf};
 ghost use Rattle.classes.specs.Runs.{span};
 ghost use Rattle.sheet.specs.Rows.{headFields, headsRoom, Roomy};
 ghost use Rattle.sheet.specs.Fields.{headRow, HeadFits};
-ghost use Rattle.walk.specs.Stages.{Lent, lent, Upto, Low, firstStage};
+ghost use Rattle.walk.specs.Stages.{TablesLent, lent, Upto, Low, firstStage};
 ghost use Rattle.walk.specs.Steps.{goneTo, settledIn, Settled, countPut, wrongCount, CountNoted, behind, groupOf, lettersPut, sectionsPut, RunSays, runBehind, HeadSays, NotedSays, BracketAsks, BracketStep, Stepped};
 ghost use Rattle.walk.specs.Walked.{WalkSays};
 
@@ -502,7 +502,7 @@ fn step_from(
 // Behind the last byte.
 fn line_ended(line: &[u8], s: Stage) -> Walked
     requires { ⌜ length (now line) ≤ s .at ⌝ }
-    ensures { λ r. ⌜ ((t : Lent) → Upto (now (line .entry)) s t → WalkSays (now (line .entry)) r t) ⌝ }
+    ensures { λ r. ⌜ ((t : TablesLent) → Upto (now (line .entry)) s t → WalkSays (now (line .entry)) r t) ⌝ }
 {
     let mode = s.mode;
     if order::may_end(mode) {

@@ -24,8 +24,8 @@ use Rattle.writer.specs.declared.Shape.{Shape}
 use Rattle.writer.specs.declared.Shape.the-variants.{Counted, Curly, Square}
 use Rattle.figures.specs.Written.{Puts, ceiling}
 use Rattle.writer.specs.Written.{WholeLine, residueMost, residuesMost}
-use Rattle.writer.specs.Here.{Room}
-use Rattle.writer.specs.Ranks.{rankOf, rank, rankIn, cTermRank, Ready, textAs, rankedText, runText, frontText, Walks, residueText, Spelt, NoneBelow, Behind, Spells}
+use Rattle.writer.specs.Here.{RoomFor}
+use Rattle.writer.specs.Ranks.{rankOf, rank, rankIn, cTermRank, ReadyToWrite, textAs, rankedText, runText, frontText, Walks, residueText, SpeltResidues, NoneBelow, Behind, Spells}
 use Rattle.figures.proofs.Storing.{stored-whole, puts-within, puts-length}
 use Rattle.writer.proofs.RankLaws.{rank-is, rank-within, rank-tells, tabled-from, tabled-over}
 use Rattle.writer.proofs.RunLaws.{run-one, none-of}
@@ -127,7 +127,7 @@ module _ (bs : List ℕ) (ks : List (Bracket (Unit {0}))) (p : ℕ) (rs : List (
       ∙ rw (g, e, f, at-residue, run-is Square OnRange (p + 1) ks)
 
 module _ (bs : List ℕ) (ns : List ℤ) (n from : ℕ) (o : List ℕ) (at : ℕ) where
-  pub spelt-start : Walks bs 0 from (rankOf OnResidue 1) o at [] o at from → Spelt bs ns n from o at o 0 from at
+  pub spelt-start : Walks bs 0 from (rankOf OnResidue 1) o at [] o at from → SpeltResidues bs ns n from o at o 0 from at
   spelt-start w =
       record {
         low = omega arith;
@@ -136,11 +136,11 @@ module _ (bs : List ℕ) (ns : List ℤ) (n from : ℕ) (o : List ℕ) (at : ℕ
         walks = walks-up (omega arith) (omega arith) w;
       }
 
-  module _ {out : List ℕ} {p j a : ℕ} (s : Spelt bs ns n from o at out p j a) where
+  module _ {out : List ℕ} {p j a : ℕ} (s : SpeltResidues bs ns n from o at out p j a) where
     pub spelt-more :
         p < n → {out′ : List ℕ} {j′ a′ : ℕ}
         → Walks bs residueMost j (rankOf OnResidue (p + 1 + 1)) out a (residueText (tablesIn bs ns .brackets) (p + 1) (residueIn bs p) (tabled (residueIn bs) (p + 1) (n - (p + 1)))) out′ a′ j′
-        → Spelt bs ns n from o at out′ (p + 1) j′ a′
+        → SpeltResidues bs ns n from o at out′ (p + 1) j′ a′
     spelt-more h {out′} {j′} {a′} w =
         let ks = tablesIn bs ns .brackets in
         let t = residueText ks (p + 1) (residueIn bs p) (tabled (residueIn bs) (p + 1) (n - (p + 1))) in
@@ -155,13 +155,13 @@ module _ (bs : List ℕ) (ns : List ℤ) (n from : ℕ) (o : List ℕ) (at : ℕ
         }
 
     -- for the residues that are left
-    pub spelt-room : n ≤ residueLimit → Room bs from residuesMost at → Room bs j (residueMost * (n - p)) a
+    pub spelt-room : n ≤ residueLimit → RoomFor bs from residuesMost at → RoomFor bs j (residueMost * (n - p)) a
     spelt-room h r = room-after (omega (arith, s .low)) (s .walks) r
 
     -- a residue by itself, with no bracket
     pub spelt-bare :
         {e b : ℕ} → p < e → e ≤ n → Behind bs j e → sectionField bs p ≡ sectionCode Plain → b ≡ letterField bs p → {out′ : List ℕ} {a′ : ℕ}
-        → Puts 1 out a (b ∷ []) out′ a′ → Spelt bs ns n from o at out′ (p + 1) j a′
+        → Puts 1 out a (b ∷ []) out′ a′ → SpeltResidues bs ns n from o at out′ (p + 1) j a′
     unfolding tablesIn
     spelt-bare {b = b} h l behind plain f g =
         let w = s .walks in
@@ -191,19 +191,19 @@ module _ (bs : List ℕ) (ns : List ℤ) (n from : ℕ) (o : List ℕ) (at : ℕ
         (walks-up (omega (arith, s .low)) (omega (arith, s .low)) (s .walks))
 
 -- the residues from index p up to index i stand by themselves, and are written
-pub record Lettered (bs : List ℕ) (e : ℕ) (o : List ℕ) (p at : ℕ) (out : List ℕ) (i a : ℕ) : Type 0 where
+pub record LettersWritten (bs : List ℕ) (e : ℕ) (o : List ℕ) (p at : ℕ) (out : List ℕ) (i a : ℕ) : Type 0 where
   pub forth : p ≤ i
   pub near : a ≡ at + (i - p)
   pub kept : length out ≡ length o
   pub spells : (ns : List ℤ) (n j : ℕ) → e ≤ n → Behind bs j e → Spells bs ns n j o p at out i a
 
 module _ (bs : List ℕ) (e : ℕ) (o : List ℕ) (p at : ℕ) where
-  pub lettered-start : Lettered bs e o p at o p at
+  pub lettered-start : LettersWritten bs e o p at o p at
   lettered-start = record { forth = omega arith; near = omega arith; kept = refl; spells = λ ns n j l behind from first start s. s }
 
   pub lettered-more :
-      {out : List ℕ} {i a c b : ℕ} → Lettered bs e o p at out i a → i < e → c ≡ sectionField bs i → c ≡ sectionCode Plain → b ≡ letterField bs i
-      → {out′ : List ℕ} {a′ : ℕ} → Puts 1 out a (b ∷ []) out′ a′ → Lettered bs e o p at out′ (i + 1) a′
+      {out : List ℕ} {i a c b : ℕ} → LettersWritten bs e o p at out i a → i < e → c ≡ sectionField bs i → c ≡ sectionCode Plain → b ≡ letterField bs i
+      → {out′ : List ℕ} {a′ : ℕ} → Puts 1 out a (b ∷ []) out′ a′ → LettersWritten bs e o p at out′ (i + 1) a′
   lettered-more l h f plain b g =
       record {
         forth = omega (arith, l .forth);
@@ -245,7 +245,7 @@ module _ (bs : List ℕ) (ns : List ℤ) {m : ℕ} (e : m ≡ bracketsField bs) 
   pub c-term-none : m ≡ 0 → [] ≡ ledBy dash (runText Square (cTermRank bs) (tablesIn bs ns .brackets))
   c-term-none z = sym (ap (ledBy dash) (no-c-term (λ i h. absurd (omega arith))))
 
-  module _ (d : Ready bs ns) (z : m ≡ 0 → ⊥) {q r : ℕ} (c : q ≡ cTermRank bs) (f : r ≡ rankIn bs (m - 1)) where
+  module _ (d : ReadyToWrite bs ns) (z : m ≡ 0 → ⊥) {q r : ℕ} (c : q ≡ cTermRank bs) (f : r ≡ rankIn bs (m - 1)) where
     pub c-term-below : r < q → [] ≡ ledBy dash (runText Square (cTermRank bs) (tablesIn bs ns .brackets))
     c-term-below h = sym (ap (ledBy dash) (no-c-term (λ i l. omega (arith, d .sorted i (m - 1) (omega arith) (omega arith), f, c))))
 

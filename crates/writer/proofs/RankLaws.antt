@@ -23,7 +23,7 @@ use Rattle.scope.specs.Kinds.{kindCode, kindIn, isKind}
 use Rattle.areas.specs.Bounds.{Bounds}
 use Rattle.writer.specs.Here.{BracketHere, PartHere}
 use Rattle.writer.specs.Written.{nextText}
-use Rattle.writer.specs.Ranks.{rankStep, rankOf, rank, rising, orderedb, InOrder, rankIn, cTermRank, Ready}
+use Rattle.writer.specs.Ranks.{rankStep, rankOf, rank, rising, orderedb, InOrder, rankIn, cTermRank, ReadyToWrite}
 
 -- ---- lists of what stands in a row
 module _ {A : Type 0} (f : ℕ → A) where
@@ -174,7 +174,7 @@ module _ (f : ℕ → Bracket (Unit {0})) where
       (λ s. let a = rising-least n (k + 1) (rank (f k)) (p .1) j (leb-true _ _ s) (omega arith) in rw u at a)
       (λ s. let v : i ≡ j = omega (arith, leb-false (k + 1) j s) in rw v (le-refl (rank (f j)))))
 
-pub ready : (bs : List ℕ) (ns : List ℤ) → Bounds bs ns → InOrder (tablesIn bs ns) → Ready bs ns
+pub ready : (bs : List ℕ) (ns : List ℤ) → Bounds bs ns → InOrder (tablesIn bs ns) → ReadyToWrite bs ns
 unfolding orderedb tablesIn
 ready bs ns b o =
     record {

@@ -18,7 +18,7 @@ use Rattle.writer.specs.declared.Shape.{Shape}
 use Rattle.writer.specs.declared.Shape.the-variants.{Counted, Curly, Square}
 use Rattle.figures.specs.Written.{Puts}
 use Rattle.writer.specs.Written.{bracketMost}
-use Rattle.writer.specs.Ranks.{rank, rankIn, Ready, textAs, rankedText, runText, Walks}
+use Rattle.writer.specs.Ranks.{rank, rankIn, ReadyToWrite, textAs, rankedText, runText, Walks}
 use Rattle.figures.proofs.Storing.{puts-none, puts-of, puts-within, puts-join}
 use Rattle.writer.proofs.RankLaws.{rank-is, tabled-more}
 
@@ -134,7 +134,7 @@ module _ (bs : List ℕ) (ns : List ℤ) (m from q : ℕ) (shape : Shape) (o : L
           below = s .below;
         }
 
-    pub run-stop : {r : ℕ} → Ready bs ns → j < m → r ≡ rankIn bs j → q < r → Walks bs 0 from (q + 1) o at (runText shape q (tablesIn bs ns .brackets)) out a j
+    pub run-stop : {r : ℕ} → ReadyToWrite bs ns → j < m → r ≡ rankIn bs j → q < r → Walks bs 0 from (q + 1) o at (runText shape q (tablesIn bs ns .brackets)) out a j
     run-stop {r} d h e g =
         walked (omega (arith, s .count))
         (quiet shape q (bracketIn bs ns) j (m - j)

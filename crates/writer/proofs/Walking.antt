@@ -7,7 +7,7 @@ use Rattle.scope.specs.Limits.{bracketLimit}
 use Rattle.scope.specs.Layout.{bracketsField}
 use Rattle.figures.specs.Written.{Puts, ceiling}
 use Rattle.writer.specs.Written.{bracketMost, residuesMost, frontMost, lineMost}
-use Rattle.writer.specs.Here.{Room}
+use Rattle.writer.specs.Here.{RoomFor}
 use Rattle.writer.specs.Ranks.{rankIn, Walks}
 use Rattle.figures.proofs.Storing.{puts-of, puts-within, puts-join}
 
@@ -52,25 +52,25 @@ module _ {bs : List ℕ} where
       record { puts = puts-within (omega arith) (w .puts); forth = w .forth; within = w .within; below = λ i l. omega (arith, w .below i l) }
 
   -- ---- room
-  pub room-less : {n k from at : ℕ} → n ≤ k → Room bs from k at → Room bs from n at
+  pub room-less : {n k from at : ℕ} → n ≤ k → RoomFor bs from k at → RoomFor bs from n at
   room-less h r = record { fits = omega (arith, r .fits) }
 
   -- for a whole line
-  pub room-line : {at : ℕ} → bracketsField bs ≤ bracketLimit → at + lineMost ≤ ceiling → Room bs 0 (residuesMost + (frontMost + 1)) at
+  pub room-line : {at : ℕ} → bracketsField bs ≤ bracketLimit → at + lineMost ≤ ceiling → RoomFor bs 0 (residuesMost + (frontMost + 1)) at
   room-line h l = record { fits = omega arith }
 
   pub room-behind :
-      {m n k from : ℕ} {o : List ℕ} {at : ℕ} {t left : List ℕ} {place : ℕ} → m + n ≤ k → Puts m o at t left place → Room bs from k at
-      → Room bs from n place
+      {m n k from : ℕ} {o : List ℕ} {at : ℕ} {t left : List ℕ} {place : ℕ} → m + n ≤ k → Puts m o at t left place → RoomFor bs from k at
+      → RoomFor bs from n place
   room-behind h a r = record { fits = omega (arith, a .near, r .fits) }
 
   pub room-after :
       {m n k from q : ℕ} {o : List ℕ} {at : ℕ} {t left : List ℕ} {place next : ℕ} → m + n ≤ k → Walks bs m from q o at t left place next
-      → Room bs from k at → Room bs next n place
+      → RoomFor bs from k at → RoomFor bs next n place
   room-after h w r = record { fits = omega (arith, w .puts .near, w .forth, w .within, r .fits) }
 
   -- for one bracket more
   pub room-one :
       {k from j : ℕ} {o : List ℕ} {at : ℕ} {t left : List ℕ} {place : ℕ} → from ≤ j → j < bracketsField bs
-      → Puts (bracketMost * (j - from)) o at t left place → Room bs from k at → place + bracketMost ≤ ceiling
+      → Puts (bracketMost * (j - from)) o at t left place → RoomFor bs from k at → place + bracketMost ≤ ceiling
   room-one h l a r = omega (arith, a .near, r .fits)

@@ -26,5 +26,5 @@ pub record PartHere (bs : List ℕ) (ns : List ℤ) (k j : ℕ) : Type 0 where
   pub bounds : PartBounds bs ns k j
 
 -- from the place `at` on there is room for the brackets from bracket `from` on, and for so many bytes outside brackets
-pub record Room (bs : List ℕ) (from more at : ℕ) : Type 0 where
+pub record RoomFor (bs : List ℕ) (from more at : ℕ) : Type 0 where
   pub fits : at + (bracketMost * (bracketsField bs - from) + more) ≤ ceiling

@@ -29,7 +29,7 @@ abbrev pub cTermRank : List ℕ → ℕ
 cTermRank bs = rankOf CTerm (residuesField bs + 1)
 
 -- tables within bounds whose brackets are in order
-pub record Ready (bs : List ℕ) (ns : List ℤ) : Type 0 where
+pub record ReadyToWrite (bs : List ℕ) (ns : List ℤ) : Type 0 where
   pub bounds : Bounds bs ns
   pub sorted : (i k : ℕ) → i ≤ k → k < bracketsField bs → rankIn bs i ≤ rankIn bs k
 
@@ -70,7 +70,7 @@ residueText ks i r rs =
     ∷ (flat squareText (endingAt OnResidue i ks) ++ cond (goesOn rs) [] (ending (r .section) (flat squareText (endingAt OnRange i ks)))))
 
 -- the first p residues are written
-pub record Spelt (bs : List ℕ) (ns : List ℤ) (n from : ℕ) (o : List ℕ) (at : ℕ) (out : List ℕ) (p j a : ℕ) : Type 0 where
+pub record SpeltResidues (bs : List ℕ) (ns : List ℤ) (n from : ℕ) (o : List ℕ) (at : ℕ) (out : List ℕ) (p j a : ℕ) : Type 0 where
   pub low : p ≤ n
   pub done : List ℕ
   pub rest :
@@ -89,4 +89,4 @@ Behind bs j e = (i k : ℕ) → i < e → j ≤ k → k < bracketsField bs → r
 -- where the first p residues were written, the first i are, with no bracket more than the first j
 abbrev pub Spells : List ℕ → List ℤ → ℕ → ℕ → List ℕ → ℕ → ℕ → List ℕ → ℕ → ℕ → Type 0
 Spells bs ns n j o p at left i a =
-    (from : ℕ) (first : List ℕ) (start : ℕ) → Spelt bs ns n from first start o p j at → Spelt bs ns n from first start left i j a
+    (from : ℕ) (first : List ℕ) (start : ℕ) → SpeltResidues bs ns n from first start o p j at → SpeltResidues bs ns n from first start left i j a

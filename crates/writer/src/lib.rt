@@ -20,8 +20,8 @@ ghost use Rattle.scope.specs.Kinds.{kindIn};
 ghost use Rattle.areas.specs.Bounds.{Bounds};
 ghost use Rattle.figures.specs.Written.{Puts, ceiling};
 ghost use Rattle.writer.specs.Written.{valueMost, scoreMost, labelMost, partMost, nextMost, partsMost, betweenMost, bracketMost, residueMost, residuesMost, frontMost, lineMost, scoredText, nextText, WholeLine};
-ghost use Rattle.writer.specs.Here.{BracketHere, PartHere, Room};
-ghost use Rattle.writer.specs.Ranks.{rankOf, rankIn, cTermRank, orderedb, Ready, textAs, rankedText, runText, frontText, Walks, residueText, NoneBelow, Behind, Spells, InOrder};
+ghost use Rattle.writer.specs.Here.{BracketHere, PartHere, RoomFor};
+ghost use Rattle.writer.specs.Ranks.{rankOf, rankIn, cTermRank, orderedb, ReadyToWrite, textAs, rankedText, runText, frontText, Walks, residueText, NoneBelow, Behind, Spells, InOrder};
 
 // The codes of a part's value: a mass, a text.
 const MASS: usize = 1;
@@ -288,7 +288,7 @@ fn put_run(
     out: &mut [u8],
     at: usize,
 ) -> Pen
-    requires { ⌜ Ready (now bytes) (now numbers) × (from ≤ bracketsField (now bytes)) × ((i : ℕ) → i < from → rankIn (now bytes) i < q) × Room (now bytes) from 0 at ⌝ }
+    requires { ⌜ ReadyToWrite (now bytes) (now numbers) × (from ≤ bracketsField (now bytes)) × ((i : ℕ) → i < from → rankIn (now bytes) i < q) × RoomFor (now bytes) from 0 at ⌝ }
     ensures { λ r. ⌜ Walks (now (bytes .entry)) 0 from (q + 1) (now (out .entry)) at (runText shape q (tablesIn (now (bytes .entry)) (now (numbers .entry)) .brackets)) (now (out .exit)) (r .place) (r .next) ⌝ }
 {
     let m = areas::brackets(bytes);
@@ -355,7 +355,7 @@ fn put_range_end(
     out: &mut [u8],
     at: usize,
 ) -> Pen
-    requires { ⌜ Ready (now bytes) (now numbers) × (from ≤ bracketsField (now bytes)) × ((k : ℕ) → k < from → rankIn (now bytes) k < rankOf OnRange i) × Room (now bytes) from 1 at × (i ≤ residueLimit) ⌝ }
+    requires { ⌜ ReadyToWrite (now bytes) (now numbers) × (from ≤ bracketsField (now bytes)) × ((k : ℕ) → k < from → rankIn (now bytes) k < rankOf OnRange i) × RoomFor (now bytes) from 1 at × (i ≤ residueLimit) ⌝ }
     ensures { λ r. ⌜ Walks (now (bytes .entry)) 1 from (rankOf OnRange i + 1) (now (out .entry)) at (shutRound ∷ runText Shape.Square (rankOf OnRange i) (tablesIn (now (bytes .entry)) (now (numbers .entry)) .brackets)) (now (out .exit)) (r .place) (r .next) ⌝ }
 {
     let a = put(out, at, b')');
@@ -380,7 +380,7 @@ fn put_ending(
     out: &mut [u8],
     at: usize,
 ) -> Pen
-    requires { ⌜ Ready (now bytes) (now numbers) × (from ≤ bracketsField (now bytes)) × ((k : ℕ) → k < from → rankIn (now bytes) k < rankOf OnRange i) × Room (now bytes) from 1 at × (i ≤ residueLimit) ⌝ }
+    requires { ⌜ ReadyToWrite (now bytes) (now numbers) × (from ≤ bracketsField (now bytes)) × ((k : ℕ) → k < from → rankIn (now bytes) k < rankOf OnRange i) × RoomFor (now bytes) from 1 at × (i ≤ residueLimit) ⌝ }
     ensures { λ r. ⌜ Walks (now (bytes .entry)) 1 from (rankOf OnRange i + 1) (now (out .entry)) at (ending (sectionIn c) (runText Shape.Square (rankOf OnRange i) (tablesIn (now (bytes .entry)) (now (numbers .entry)) .brackets))) (now (out .exit)) (r .place) (r .next) ⌝ }
 {
     if c == RANGE_FIRST {
@@ -419,7 +419,7 @@ fn put_residue(
     out: &mut [u8],
     at: usize,
 ) -> Pen
-    requires { ⌜ Ready (now bytes) (now numbers) × (from ≤ bracketsField (now bytes)) × ((k : ℕ) → k < from → rankIn (now bytes) k < rankOf OnResidue (p + 1)) × Room (now bytes) from residueMost at × (n ≡ residuesField (now bytes)) × (p < n) ⌝ }
+    requires { ⌜ ReadyToWrite (now bytes) (now numbers) × (from ≤ bracketsField (now bytes)) × ((k : ℕ) → k < from → rankIn (now bytes) k < rankOf OnResidue (p + 1)) × RoomFor (now bytes) from residueMost at × (n ≡ residuesField (now bytes)) × (p < n) ⌝ }
     ensures { λ r. ⌜ Walks (now (bytes .entry)) residueMost from (rankOf OnResidue (p + 1 + 1)) (now (out .entry)) at (residueText (tablesIn (now (bytes .entry)) (now (numbers .entry)) .brackets) (p + 1) (residueIn (now (bytes .entry)) p) (tabled (residueIn (now (bytes .entry))) (p + 1) (n - (p + 1)))) (now (out .exit)) (r .place) (r .next) ⌝ }
 {
     let c = areas::section(bytes, p);
@@ -456,7 +456,7 @@ fn c_term_rank(bytes: &[u8]) -> usize
 // The rank of bracket j, or that of the C-terminus where there is no such bracket.
 fn next_rank(bytes: &[u8], j: usize) -> usize
     requires { ⌜ (bytesSize ≤ length (now bytes)) × (bracketsField (now bytes) ≤ bracketLimit) ⌝ }
-    ensures { λ r. ⌜ ((ns : List ℤ) → Ready (now (bytes .entry)) ns → NoneBelow (now (bytes .entry)) j r) ⌝ }
+    ensures { λ r. ⌜ ((ns : List ℤ) → ReadyToWrite (now (bytes .entry)) ns → NoneBelow (now (bytes .entry)) j r) ⌝ }
 {
     if j < areas::brackets(bytes) {
         return rank_at(bytes, j);
@@ -498,7 +498,7 @@ fn put_letters(bytes: &[u8], p: usize, e: usize, out: &mut [u8], at: usize) -> P
 // The residues from index p on, of n, that stand by themselves and before bracket j.
 fn put_bare(bytes: &[u8], p: usize, n: usize, j: usize, out: &mut [u8], at: usize) -> Pen
     requires { ⌜ (bytesSize ≤ length (now bytes)) × (bracketsField (now bytes) ≤ bracketLimit) × (n ≤ residueLimit) × (at + (n - p) ≤ ceiling) ⌝ }
-    ensures { λ r. ⌜ (p ≤ r .next) × ((ns : List ℤ) → Ready (now (bytes .entry)) ns → Spells (now (bytes .entry)) ns n j (now (out .entry)) p at (now (out .exit)) (r .next) (r .place)) ⌝ }
+    ensures { λ r. ⌜ (p ≤ r .next) × ((ns : List ℤ) → ReadyToWrite (now (bytes .entry)) ns → Spells (now (bytes .entry)) ns n j (now (out .entry)) p at (now (out .exit)) (r .next) (r .place)) ⌝ }
 {
     let e = residues_before(n, next_rank(bytes, j));
     put_letters(bytes, p, e, out, at)
@@ -506,7 +506,7 @@ fn put_bare(bytes: &[u8], p: usize, n: usize, j: usize, out: &mut [u8], at: usiz
 
 // The sequence: residues by themselves, then one with a section or brackets, and so on.
 fn put_sequence(bytes: &[u8], numbers: &[i64], from: usize, out: &mut [u8], at: usize) -> Pen
-    requires { ⌜ Ready (now bytes) (now numbers) × (from ≤ bracketsField (now bytes)) × ((k : ℕ) → k < from → rankIn (now bytes) k < rankOf OnResidue 1) × Room (now bytes) from residuesMost at ⌝ }
+    requires { ⌜ ReadyToWrite (now bytes) (now numbers) × (from ≤ bracketsField (now bytes)) × ((k : ℕ) → k < from → rankIn (now bytes) k < rankOf OnResidue 1) × RoomFor (now bytes) from residuesMost at ⌝ }
     ensures { λ r. ⌜ Walks (now (bytes .entry)) residuesMost from (cTermRank (now (bytes .entry))) (now (out .entry)) at (sequenceText (tablesIn (now (bytes .entry)) (now (numbers .entry)) .brackets) 1 (tablesIn (now (bytes .entry)) (now (numbers .entry)) .residues)) (now (out .exit)) (r .place) (r .next) ⌝ }
 {
     let n = areas::residues(bytes);
@@ -541,7 +541,7 @@ fn put_closed(
     out: &mut [u8],
     at: usize,
 ) -> Pen
-    requires { ⌜ Ready (now bytes) (now numbers) × (from ≤ bracketsField (now bytes)) × ((i : ℕ) → i < from → rankIn (now bytes) i < q) × Room (now bytes) from 1 at ⌝ }
+    requires { ⌜ ReadyToWrite (now bytes) (now numbers) × (from ≤ bracketsField (now bytes)) × ((i : ℕ) → i < from → rankIn (now bytes) i < q) × RoomFor (now bytes) from 1 at ⌝ }
     ensures { λ r. ⌜ Walks (now (bytes .entry)) 1 from (q + 1) (now (out .entry)) at (closedBy (runText shape q (tablesIn (now (bytes .entry)) (now (numbers .entry)) .brackets)) closer) (now (out .exit)) (r .place) (r .next) ⌝ }
 {
     let pen = put_run(bytes, numbers, from, q, shape, out, at);
@@ -556,7 +556,7 @@ fn put_closed(
 
 // `-` and the C-terminal brackets, where there are any.
 fn put_c_term(bytes: &[u8], numbers: &[i64], from: usize, out: &mut [u8], at: usize) -> usize
-    requires { ⌜ Ready (now bytes) (now numbers) × (from ≤ bracketsField (now bytes)) × ((i : ℕ) → i < from → rankIn (now bytes) i < cTermRank (now bytes)) × Room (now bytes) from 1 at ⌝ }
+    requires { ⌜ ReadyToWrite (now bytes) (now numbers) × (from ≤ bracketsField (now bytes)) × ((i : ℕ) → i < from → rankIn (now bytes) i < cTermRank (now bytes)) × RoomFor (now bytes) from 1 at ⌝ }
     ensures { λ r. ⌜ Puts (bracketMost * (bracketsField (now (bytes .entry)) - from) + 1) (now (out .entry)) at (ledBy dash (runText Shape.Square (cTermRank (now (bytes .entry))) (tablesIn (now (bytes .entry)) (now (numbers .entry)) .brackets))) (now (out .exit)) r ⌝ }
 {
     let m = areas::brackets(bytes);
@@ -575,7 +575,7 @@ fn put_c_term(bytes: &[u8], numbers: &[i64], from: usize, out: &mut [u8], at: us
 
 // What stands before the sequence: nothing where the first bracket stands in it or behind it.
 fn put_front(bytes: &[u8], numbers: &[i64], out: &mut [u8], at: usize) -> Pen
-    requires { ⌜ Ready (now bytes) (now numbers) × Room (now bytes) 0 frontMost at ⌝ }
+    requires { ⌜ ReadyToWrite (now bytes) (now numbers) × RoomFor (now bytes) 0 frontMost at ⌝ }
     ensures { λ r. ⌜ Walks (now (bytes .entry)) frontMost 0 (rankOf OnResidue 1) (now (out .entry)) at (frontText (tablesIn (now (bytes .entry)) (now (numbers .entry)) .brackets)) (now (out .exit)) (r .place) (r .next) ⌝ }
 {
     if N_TERM < next_rank(bytes, 0) {

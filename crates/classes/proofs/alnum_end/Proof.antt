@@ -3,14 +3,14 @@ use Prim.Native.Nat.{_-_}
 use lib.ListN.{length}
 use borrow.Author.Needs.{needs}
 use Rattle.scope.specs.Bytes.{isAlnum}
-use Rattle.classes.proofs.Runs.{Run, run-enters, run-goes-on, run-stops, run-ends}
+use Rattle.classes.proofs.Runs.{RunGoesOn, run-enters, run-goes-on, run-stops, run-ends}
 use Rattle.classes.proofs.alnum_end.Statement.{statement}
 use Rattle.classes.proofs.alnum_end.Tie as tie
 
 pub alnum-end-spec : {M : Type 1} → statement M
 alnum-end-spec =
     tie.close
-    (tie.spec (λ line at i₀ i. Run isAlnum line at i) (λ line at i₀ i. length line - i)
+    (tie.spec (λ line at i₀ i. RunGoesOn isAlnum line at i) (λ line at i₀ i. length line - i)
     (λ c. run-enters) (λ c. search needs) (λ c κs. search needs) (λ c. search needs) (λ c. search needs)
     (λ c. let l = c .before .before .before in run-goes-on (l .before .loop .inv) (l .loop-test .taken) (c .before .is-alnum .ensures) (c .if1 .taken))
     (λ c. let l = c .before .before .before in run-stops (l .before .loop .inv) (l .loop-test .taken) (c .before .is-alnum .ensures) (c .if1 .left))

@@ -2,12 +2,12 @@
 use Prim.Native.Nat.{_-_}
 use native.Mathlib.Omega.{arith}
 use mathlib.Core.Path.{refl}
-use Rattle.held.proofs.BracketLaws.{frame-fits, Parting, parting-start, parting-fits, parting-next, parting-end}
+use Rattle.held.proofs.BracketLaws.{frame-fits, HoldingParts, parting-start, parting-fits, parting-next, parting-end}
 use Rattle.held.proofs.bracket_held.Statement.{statement}
 use Rattle.held.proofs.bracket_held.Tie as tie
 
 abbrev Inv-loop : tie.InvT-loop
-Inv-loop line heads parts masses scores k bytes numbers m n upto₀ j₀ upto j = Parting line heads parts masses scores k bytes numbers m n upto₀ j upto
+Inv-loop line heads parts masses scores k bytes numbers m n upto₀ j₀ upto j = HoldingParts line heads parts masses scores k bytes numbers m n upto₀ j upto
 
 abbrev μ-loop : tie.MeasureT-loop
 μ-loop line heads parts masses scores k bytes numbers m n upto₀ j₀ upto j = n - j

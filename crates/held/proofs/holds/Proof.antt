@@ -1,13 +1,13 @@
 -- `held::holds` meets its contract. The loop: the brackets from k on are left. Assumes nothing.
 use Prim.Native.Nat.{_-_}
 use native.Mathlib.Omega.{arith}
-use Rattle.held.proofs.LineLaws.{front-fits, Bracketing, bracketing-start, bracketing-fits, bracketing-next, rest-fits, line-told}
+use Rattle.held.proofs.LineLaws.{front-fits, HoldingBrackets, bracketing-start, bracketing-fits, bracketing-next, rest-fits, line-told}
 use Rattle.held.proofs.holds.Statement.{statement}
 use Rattle.held.proofs.holds.Tie as tie
 
 abbrev Inv-loop : tie.InvT-loop
 Inv-loop line letters sections heads parts masses scores residues brackets bytes numbers seen₀ k₀ seen k =
-    Bracketing line letters sections heads parts masses scores residues brackets bytes numbers seen₀ k seen
+    HoldingBrackets line letters sections heads parts masses scores residues brackets bytes numbers seen₀ k seen
 
 abbrev μ-loop : tie.MeasureT-loop
 μ-loop line letters sections heads parts masses scores residues brackets bytes numbers seen₀ k₀ seen k = brackets - k

@@ -6,12 +6,12 @@ use mathlib.Core.Path.{_≡_, _∙_, ap}
 use mir.Syntax.{w64}
 use mir.Val.{toZ, ofZ}
 use borrow.Author.Needs.{needs}
-use Rattle.masses.proofs.PartLaws.{Before, before-start, before-found, before-next, before-end, reach-row, reach-next}
+use Rattle.masses.proofs.PartLaws.{NoMassBefore, before-start, before-found, before-next, before-end, reach-row, reach-next}
 use Rattle.masses.proofs.first_mass.Statement.{statement}
 use Rattle.masses.proofs.first_mass.Tie as tie
 
 abbrev Inv-loop : tie.InvT-loop
-Inv-loop bytes numbers k obs m j₀ j = Before bytes numbers k obs m j
+Inv-loop bytes numbers k obs m j₀ j = NoMassBefore bytes numbers k obs m j
 
 abbrev μ-loop : tie.MeasureT-loop
 μ-loop bytes numbers k obs m j₀ j = m - j

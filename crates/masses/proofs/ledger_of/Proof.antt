@@ -3,12 +3,12 @@ use mathlib.Core.Path.{_≡_}
 use Prim.Native.Nat.{_-_}
 use native.Mathlib.Omega.{arith}
 use Rattle.scope.specs.declared.answers.Booked.the-variants.{Done}
-use Rattle.masses.proofs.LedgerLaws.{Floating, floating-start, floating-asks, floating-next, floating-end}
+use Rattle.masses.proofs.LedgerLaws.{BookingFloaters, floating-start, floating-asks, floating-next, floating-end}
 use Rattle.masses.proofs.ledger_of.Statement.{statement}
 use Rattle.masses.proofs.ledger_of.Tie as tie
 
 abbrev Inv-loop : tie.InvT-loop
-Inv-loop bytes numbers at l₀ n k₀ i₀ l k i = (l .booked ≡ Done) × Floating bytes numbers at n k (l .at) i
+Inv-loop bytes numbers at l₀ n k₀ i₀ l k i = (l .booked ≡ Done) × BookingFloaters bytes numbers at n k (l .at) i
 
 abbrev μ-loop : tie.MeasureT-loop
 μ-loop bytes numbers at l₀ n k₀ i₀ l k i = n - k

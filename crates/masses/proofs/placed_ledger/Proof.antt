@@ -4,12 +4,12 @@ use Prim.Native.Nat.{_-_}
 use native.Mathlib.Omega.{arith}
 use Rattle.scope.specs.declared.answers.Booked.the-variants.{Done}
 use Rattle.brackets.specs.Fields.{first-is}
-use Rattle.masses.proofs.LedgerLaws.{Placing, placing-start, placing-reach, placing-row, placing-first, placing-asks, placing-again, placing-end}
+use Rattle.masses.proofs.LedgerLaws.{BookingPlaced, placing-start, placing-reach, placing-row, placing-first, placing-asks, placing-again, placing-end}
 use Rattle.masses.proofs.placed_ledger.Statement.{statement}
 use Rattle.masses.proofs.placed_ledger.Tie as tie
 
 abbrev Inv-loop : tie.InvT-loop
-Inv-loop bytes numbers l₀ n k₀ l k = (l .booked ≡ Done) × Placing bytes numbers n k (l .at)
+Inv-loop bytes numbers l₀ n k₀ l k = (l .booked ≡ Done) × BookingPlaced bytes numbers n k (l .at)
 
 abbrev μ-loop : tie.MeasureT-loop
 μ-loop bytes numbers l₀ n k₀ l k = n - k

@@ -3,14 +3,14 @@ use mathlib.Core.Path.{_≡_}
 use Prim.Native.Nat.{_-_}
 use lib.ListN.{length}
 use Rattle.scope.specs.Limits.{copyLimit}
-use Rattle.positions.proofs.Found.{Copying, copying-start, copying-next, copying-end}
+use Rattle.positions.proofs.Found.{CopiesWritten, copying-start, copying-next, copying-end}
 use borrow.Author.Needs.{needs}
 use native.Mathlib.Omega.{arith}
 use Rattle.positions.proofs.add_copies.Statement.{statement}
 use Rattle.positions.proofs.add_copies.Tie as tie
 
 abbrev Inv-loop : tie.InvT-loop
-Inv-loop m k n index₀ copy₀ j₀ index copy j = Copying n m k j index₀ copy₀ index copy
+Inv-loop m k n index₀ copy₀ j₀ index copy j = CopiesWritten n m k j index₀ copy₀ index copy
 
 abbrev μ-loop : tie.MeasureT-loop
 μ-loop m k n index₀ copy₀ j₀ index copy j = m - j

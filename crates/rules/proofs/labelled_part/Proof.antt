@@ -1,5 +1,5 @@
 -- `labelled_part` meets its contract: the loop's invariant is that the parts passed have no label. Assumes nothing.
-use Rattle.rules.proofs.Searched.{Seeking, seek-starts, seek-more, seek-found, seek-ends}
+use Rattle.rules.proofs.Searched.{SeekingLabel, seek-starts, seek-more, seek-found, seek-ends}
 use Rattle.sheet.specs.Fields.{partsField, baseField}
 use Prim.Native.Nat.{_-_}
 use borrow.Author.Needs.{needs}
@@ -8,7 +8,7 @@ use Rattle.rules.proofs.labelled_part.Statement.{statement}
 use Rattle.rules.proofs.labelled_part.Tie as tie
 
 abbrev Inv-loop : tie.InvT-loop
-Inv-loop heads parts k x₀ last x = Seeking parts (baseField heads k) (partsField heads k - 1) last x
+Inv-loop heads parts k x₀ last x = SeekingLabel parts (baseField heads k) (partsField heads k - 1) last x
 
 abbrev μ-loop : tie.MeasureT-loop
 μ-loop heads parts k x₀ last x = last - x

@@ -1,12 +1,12 @@
 -- `store::store_brackets` meets its contract: one bracket after another. Assumes nothing.
 use native.Mathlib.Omega.{arith}
 use Prim.Native.Nat.{_-_}
-use Rattle.store.proofs.BracketLaws.{Bracketing, bracketing-start, bracketing-fits, bracketing-next, bracketing-end}
+use Rattle.store.proofs.BracketLaws.{StoringBrackets, bracketing-start, bracketing-fits, bracketing-next, bracketing-end}
 use Rattle.store.proofs.store_brackets.Statement.{statement}
 use Rattle.store.proofs.store_brackets.Tie as tie
 
 abbrev Inv-loop : tie.InvT-loop
-Inv-loop line heads parts masses scores n bytes₀ numbers₀ k₀ t₀ bytes numbers k t = Bracketing line heads parts masses scores n bytes₀ numbers₀ k t bytes numbers
+Inv-loop line heads parts masses scores n bytes₀ numbers₀ k₀ t₀ bytes numbers k t = StoringBrackets line heads parts masses scores n bytes₀ numbers₀ k t bytes numbers
 
 abbrev μ-loop : tie.MeasureT-loop
 μ-loop line heads parts masses scores n bytes₀ numbers₀ k₀ t₀ bytes numbers k t = n - k

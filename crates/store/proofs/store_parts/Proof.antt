@@ -1,12 +1,12 @@
 -- `store::store_parts` meets its contract: one part after another. Assumes nothing.
 use native.Mathlib.Omega.{arith}
 use Prim.Native.Nat.{_-_}
-use Rattle.store.proofs.PartsLaws.{Parting, parting-start, parting-fits, parting-next, parting-end}
+use Rattle.store.proofs.PartsLaws.{StoringParts, parting-start, parting-fits, parting-next, parting-end}
 use Rattle.store.proofs.store_parts.Statement.{statement}
 use Rattle.store.proofs.store_parts.Tie as tie
 
 abbrev Inv-loop : tie.InvT-loop
-Inv-loop line parts masses m n k t bytes₀ numbers₀ j₀ u₀ bytes numbers j u = Parting line parts masses m n k t bytes₀ numbers₀ j u bytes numbers
+Inv-loop line parts masses m n k t bytes₀ numbers₀ j₀ u₀ bytes numbers j u = StoringParts line parts masses m n k t bytes₀ numbers₀ j u bytes numbers
 
 abbrev μ-loop : tie.MeasureT-loop
 μ-loop line parts masses m n k t bytes₀ numbers₀ j₀ u₀ bytes numbers j u = n - j

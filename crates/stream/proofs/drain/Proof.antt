@@ -5,13 +5,13 @@ use native.Mathlib.Omega.{arith}
 use lib.ListN.{length}
 use Rattle.chunks.specs.Lent.{sheetOf}
 use Rattle.chunks.proofs.Putting.{stays-few}
-use Rattle.stream.proofs.Handing.{owed, Taken, taken-start, taken-more, taken-all, stays-ready, drains-lost}
+use Rattle.stream.proofs.Handing.{owed, ChunkTaken, taken-start, taken-more, taken-all, stays-ready, drains-lost}
 use Rattle.stream.proofs.drain.Statement.{statement}
 use Rattle.stream.proofs.drain.Tie as tie
 
 abbrev Inv-loop : tie.InvT-loop
 Inv-loop chunk number refused hold₀ held letters₀ sections₀ heads₀ parts₀ masses₀ scores₀ bytes₀ numbers₀ out₀ from₀ line₀ total₀ n₀ sent₀ hold letters sections heads parts masses scores bytes numbers out from line total n sent =
-    Taken chunk number refused hold₀ held (sheetOf letters₀ sections₀ heads₀ parts₀ masses₀ scores₀) bytes₀ numbers₀ out₀ from line total n sent hold (sheetOf letters sections heads parts masses scores) bytes numbers out
+    ChunkTaken chunk number refused hold₀ held (sheetOf letters₀ sections₀ heads₀ parts₀ masses₀ scores₀) bytes₀ numbers₀ out₀ from line total n sent hold (sheetOf letters sections heads parts masses scores) bytes numbers out
 
 abbrev μ-loop : tie.MeasureT-loop
 μ-loop chunk number refused hold₀ held letters₀ sections₀ heads₀ parts₀ masses₀ scores₀ bytes₀ numbers₀ out₀ from₀ line₀ total₀ n₀ sent₀ hold letters sections heads parts masses scores bytes numbers out from line total n sent =

@@ -1,12 +1,12 @@
 -- `stream::lines_in` meets its contract. The loop: the ends among the first i bytes are counted. Assumes nothing.
 use Prim.Native.Nat.{_-_, _≤_}
 use native.Mathlib.Omega.{arith}
-use Rattle.stream.proofs.Telling.{Counted, counted-start, counted-more, counted-all}
+use Rattle.stream.proofs.Telling.{EndsCounted, counted-start, counted-more, counted-all}
 use Rattle.stream.proofs.lines_in.Statement.{statement}
 use Rattle.stream.proofs.lines_in.Tie as tie
 
 abbrev Inv-loop : tie.InvT-loop
-Inv-loop text n i₀ ends₀ i ends = (i ≤ n) × Counted text i ends
+Inv-loop text n i₀ ends₀ i ends = (i ≤ n) × EndsCounted text i ends
 
 abbrev μ-loop : tie.MeasureT-loop
 μ-loop text n i₀ ends₀ i ends = n - i

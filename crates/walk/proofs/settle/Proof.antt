@@ -1,13 +1,13 @@
 -- The rows of the brackets at the front, settled by a loop.
 use Prim.Native.Nat.{_-_}
 use native.Mathlib.Omega.{arith}
-use Rattle.walk.proofs.Settling.{Settling, settling-start, settling-next, settling-end}
+use Rattle.walk.proofs.Settling.{SettlingHeads, settling-start, settling-next, settling-end}
 use borrow.Author.Needs.{needs}
 use Rattle.walk.proofs.settle.Statement.{statement}
 use Rattle.walk.proofs.settle.Tie as tie
 
 abbrev Inv-loop : tie.InvT-loop
-Inv-loop heads₀ first end i₀ heads i = Settling first end i heads₀ heads
+Inv-loop heads₀ first end i₀ heads i = SettlingHeads first end i heads₀ heads
 
 abbrev μ-loop : tie.MeasureT-loop
 μ-loop heads₀ first end i₀ heads i = end - i

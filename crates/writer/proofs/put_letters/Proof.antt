@@ -1,13 +1,13 @@
 -- The invariant: the residues from p up to i stand by themselves and are written. Assumes nothing.
 use Prim.Native.Nat.{_-_}
 use native.Mathlib.Omega.{arith}
-use Rattle.writer.proofs.LineLaws.{Lettered, lettered-start, lettered-more}
+use Rattle.writer.proofs.LineLaws.{LettersWritten, lettered-start, lettered-more}
 use borrow.Author.Needs.{needs}
 use Rattle.writer.proofs.put_letters.Statement.{statement}
 use Rattle.writer.proofs.put_letters.Tie as tie
 
 abbrev Inv-loop : tie.InvT-loop
-Inv-loop bytes p e out₀ at i₀ a₀ out i a = Lettered bytes e out₀ p at out i a
+Inv-loop bytes p e out₀ at i₀ a₀ out i a = LettersWritten bytes e out₀ p at out i a
 
 abbrev μ-loop : tie.MeasureT-loop
 μ-loop bytes p e out₀ at i₀ a₀ out i a = e - i

@@ -3,7 +3,7 @@ use borrow.Author.Needs.{needs}
 use Prim.Native.Nat.{_-_, _≤_}
 use native.Mathlib.Omega.{arith}
 use Rattle.scope.specs.Limits.{residueLimit}
-use Rattle.writer.specs.Ranks.{Spelt}
+use Rattle.writer.specs.Ranks.{SpeltResidues}
 use Rattle.figures.proofs.Storing.{puts-none, puts-length}
 use Rattle.writer.proofs.Walking.{walks-still, room-less}
 use Rattle.writer.proofs.LineLaws.{spelt-start, spelt-more, spelt-room, spelt-over}
@@ -11,7 +11,7 @@ use Rattle.writer.proofs.put_sequence.Statement.{statement}
 use Rattle.writer.proofs.put_sequence.Tie as tie
 
 abbrev Inv-loop : tie.InvT-loop
-Inv-loop bytes numbers from out₀ at n p₀ a₀ j₀ out p a j = Spelt bytes numbers n from out₀ at out p j a
+Inv-loop bytes numbers from out₀ at n p₀ a₀ j₀ out p a j = SpeltResidues bytes numbers n from out₀ at out p j a
 
 abbrev μ-loop : tie.MeasureT-loop
 μ-loop bytes numbers from out₀ at n p₀ a₀ j₀ out p a j = n - p

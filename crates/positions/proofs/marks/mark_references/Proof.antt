@@ -1,14 +1,14 @@
 -- `positions::marks::mark_references` meets its contract. Assumes nothing.
 use Prim.Native.Nat.{_-_}
 use Rattle.positions.specs.Marked.{heldIn, refersAt}
-use Rattle.positions.proofs.Rows.{Passed, passed-start, passed-next, references-end}
+use Rattle.positions.proofs.Rows.{MarksPassed, passed-start, passed-next, references-end}
 use borrow.Author.Needs.{needs}
 use native.Mathlib.Omega.{arith}
 use Rattle.positions.proofs.marks.mark_references.Statement.{statement}
 use Rattle.positions.proofs.marks.mark_references.Tie as tie
 
 abbrev Inv-loop : tie.InvT-loop
-Inv-loop bytes k free tab₀ base b r₀ tab r = Passed base (heldIn free) b r (λ ns j. refersAt bytes ns k j) tab₀ tab
+Inv-loop bytes k free tab₀ base b r₀ tab r = MarksPassed base (heldIn free) b r (λ ns j. refersAt bytes ns k j) tab₀ tab
 
 abbrev μ-loop : tie.MeasureT-loop
 μ-loop bytes k free tab₀ base b r₀ tab r = b - r

@@ -1,14 +1,14 @@
 -- `positions::marks::strike_out` meets its contract. Assumes nothing.
 use Prim.Native.Nat.{_-_}
 use Rattle.positions.specs.Marked.{always, placedAt}
-use Rattle.positions.proofs.Rows.{Passed, passed-start, passed-next, struck-end}
+use Rattle.positions.proofs.Rows.{MarksPassed, passed-start, passed-next, struck-end}
 use borrow.Author.Needs.{needs}
 use native.Mathlib.Omega.{arith}
 use Rattle.positions.proofs.marks.strike_out.Statement.{statement}
 use Rattle.positions.proofs.marks.strike_out.Tie as tie
 
 abbrev Inv-loop : tie.InvT-loop
-Inv-loop bytes free₀ b k₀ free k = Passed 0 (always 0) b k (placedAt bytes) free₀ free
+Inv-loop bytes free₀ b k₀ free k = MarksPassed 0 (always 0) b k (placedAt bytes) free₀ free
 
 abbrev μ-loop : tie.MeasureT-loop
 μ-loop bytes free₀ b k₀ free k = b - k

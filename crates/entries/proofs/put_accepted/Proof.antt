@@ -13,11 +13,11 @@ use Rattle.entries.proofs.put_accepted.Tie as tie
 
 returns : tie.Need-returns
 returns c =
-    let l = c .before .before in
-    let p = l .before .before .before .before in
-    let t = p .before .before .before .before in
-    let k = t .before .before .before .before in
-    let s = k .before .before .before .before in
+    let l : tie.After-put-line = search in
+    let p : tie.After-put = search in
+    let t : tie.After-put-total = search in
+    let k : tie.After-put-counts = search in
+    let s : tie.Start = search in
     let m = tablesIn (s .args .bytes .now) (s .args .numbers .now) in
     puts-of (fields-append (countFields (s .args .residues) (s .args .brackets) (s .args .floaters)) (totalText m ∷ canonical m ∷ []))
     (puts-join (k .put-counts .ensures)

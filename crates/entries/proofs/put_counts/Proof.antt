@@ -6,10 +6,10 @@ use Rattle.entries.proofs.put_counts.Tie as tie
 
 returns : tie.Need-returns
 returns c =
-    let f3 = c .before .before in
-    let f2 = f3 .before .before .before .before in
-    let f1 = f2 .before .before .before .before in
-    let w = f1 .before .before .before .before in
+    let f3 : tie.After-put-field3 = search in
+    let f2 : tie.After-put-field2 = search in
+    let f1 : tie.After-put-field = search in
+    let w : tie.After-word = search in
     field-then (w .word .ensures) _ (field-then (f1 .put-field .ensures) _ (field-then (f2 .put-field2 .ensures) _ (field-last (f3 .put-field3 .ensures))))
 
 pub put-counts-spec : {M : Type 1} → statement M

@@ -8,14 +8,14 @@ use Rattle.entries.proofs.put_entry.Tie as tie
 
 add-next : tie.Need-add-next
 add-next c =
-    let f = c .before .before .before .before .before .before .before .before .before .before .before .before .before .before .before .before in
-    let s = f .before .before .before .before .before .before .before .before .before .before .before .before .before .before .before .before .before in
+    let f : tie.After-put-front = search in
+    let s : tie.Start = search f in
     omega (arith, f .put-front .ensures .0 .puts .near, s)
 
 returns : tie.Need-returns
 returns c =
-    let f = c .before .before .before .before .before .before .before .before .before .before .before .before .before .before .before .before in
-    let s = f .before .before .before .before .before .before .before .before .before .before .before .before .before .before .before .before .before in
+    let f : tie.After-put-front = search in
+    let s : tie.Start = search f in
     let w = f .put-front .ensures .0 in
     let t = puts-from (s .args .at) (s .args .out .now) (w .puts) in
     (record { puts = t; out-long = puts-length t; bytes-same = w .bytes-same; numbers-same = w .numbers-same }, f .put-front .ensures .1)

@@ -6,8 +6,8 @@ use Rattle.entries.proofs.put_field.Tie as tie
 
 returns : tie.Need-returns
 returns c =
-    let d = c .before .before in
-    let p = d .before .before .before .before in
+    let d : tie.After-put-decimal = search in
+    let p : tie.After-put = search in
     puts-join (p .put .ensures) (d .put-decimal .ensures)
 
 pub put-field-spec : {M : Type 1} → statement M

@@ -7,9 +7,9 @@ use Rattle.entries.proofs.put_front.Tie as tie
 
 returns : tie.Need-returns
 returns c =
-    let p = c .before .before in
-    let r = p .before .before .before .before .before .before .before .before .before .before .before .before .before .before .before .before .before in
-    let d = r .before .before .before .before .before .before .before .before .before .before .before .before in
+    let p : tie.After-put = search in
+    let r : tie.After-put-report = search in
+    let d : tie.After-put-decimal = search in
     let w = r .put-report .ensures .0 in
     let t = puts-of (entry-text _ _) (puts-join (d .put-decimal .ensures) (puts-join (w .puts) (p .put .ensures))) in
     (record { puts = t; out-long = puts-length t; bytes-same = w .bytes-same; numbers-same = w .numbers-same }, r .put-report .ensures .1)

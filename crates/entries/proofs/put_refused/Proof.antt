@@ -6,9 +6,9 @@ use Rattle.entries.proofs.put_refused.Tie as tie
 
 returns : tie.Need-returns
 returns c =
-    let f2 = c .before .before in
-    let f1 = f2 .before .before .before .before in
-    let w = f1 .before .before .before .before in
+    let f2 : tie.After-put-field2 = search in
+    let f1 : tie.After-put-field = search in
+    let w : tie.After-word = search in
     field-then (w .word .ensures) _ (field-then (f1 .put-field .ensures) _ (field-last (f2 .put-field2 .ensures)))
 
 pub put-refused-spec : {M : Type 1} → statement M

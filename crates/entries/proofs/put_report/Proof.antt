@@ -11,26 +11,26 @@ use Rattle.entries.proofs.put_report.Tie as tie
 
 put-taken-requires : tie.Need-put-taken-requires
 put-taken-requires c κs =
-    let m = c .before .before .before .before .before .before .before .before .before .before in
-    let j = m .before .before .before .before .before .before .before .before .before .before .before .before in
-    let s = j .before .before .before .before .before .before .before .before .before .before .before .before .before .before in
+    let m : tie.After-judged = search in
+    let j : tie.After-judge = search in
+    let s : tie.Start = search in
     let w = rw (m .judged .given .1) at (j .judge .ensures) in
     (fills (w .1) (s .pre .1), floats-of (s .args .line .now) (w .1 .is-accepted) (w .2), omega arith)
 
 returns : tie.Need-returns
 returns c =
-    let t = c .before .before .before .before .before in
-    let m = t .before .before .before .before .before .before .before .before .before .before .before in
-    let j = m .before .before .before .before .before .before .before .before .before .before .before .before in
+    let t : tie.After-put-taken = search in
+    let m : tie.After-judged = search in
+    let j : tie.After-judge = search in
     let w = rw (m .judged .given .1) at (j .judge .ensures) in
     (t .put-taken .ensures, ap isRefused (sym (w .1 .is-accepted)))
 
 returns-2 : tie.Need-returns-2
 returns-2 c =
-    let r = c .before .before in
-    let m = r .before .before .before in
-    let j = m .before .before .before .before .before .before .before .before .before .before .before .before in
-    let s = j .before .before .before .before .before .before .before .before .before .before .before .before .before .before in
+    let m : tie.After-judged2 = search in
+    let j : tie.After-judge = search in
+    let s : tie.Start = search in
+    let r : tie.After-put-refused = search in
     let w = rw (m .judged2 .given .1) at (j .judge .ensures) in (
       record {
         puts = puts-of (refused-text (s .args .line .now) w) (puts-within (omega arith) (r .put-refused .ensures));

@@ -7,19 +7,19 @@ use Rattle.entries.proofs.put_signed.Tie as tie
 
 returns : tie.Need-returns
 returns c =
-    let d = c .before .before in
-    let p = d .before .before .before .before in
-    let i = p .before .before in
-    let m = i .before in
-    puts-of (minus-text _ (m .before .before .fits .m) (m .magnitude .ensures) (i .if1 .taken)) (puts-join (p .put .ensures) (d .put-decimal .ensures))
+    let d : tie.After-put-decimal = search in
+    let p : tie.After-put = search in
+    let m : tie.After-magnitude = search in
+    let s : tie.Start = search in
+    puts-of (minus-text _ (s .fits .m) (m .magnitude .ensures) (p .before .before .if1 .taken)) (puts-join (p .put .ensures) (d .put-decimal .ensures))
 
 returns-2 : tie.Need-returns-2
 returns-2 c =
-    let d = c .before .before in
-    let p = d .before .before .before .before in
-    let i = p .before .before in
-    let m = i .before in
-    puts-of (plus-text _ (m .before .before .fits .m) (m .magnitude .ensures) (i .if1 .left)) (puts-join (p .put2 .ensures) (d .put-decimal2 .ensures))
+    let d : tie.After-put-decimal2 = search in
+    let p : tie.After-put2 = search in
+    let m : tie.After-magnitude = search in
+    let s : tie.Start = search in
+    puts-of (plus-text _ (s .fits .m) (m .magnitude .ensures) (p .before .before .if1 .left)) (puts-join (p .put2 .ensures) (d .put-decimal2 .ensures))
 
 pub put-signed-spec : {M : Type 1} → statement M
 put-signed-spec =

@@ -11,25 +11,24 @@ use Rattle.entries.proofs.put_taken.Tie as tie
 
 put-accepted-requires : tie.Need-put-accepted-requires
 put-accepted-requires c κs =
-    let p = c .before .before .before .before .before .before in
-    let s = p .before .before .before .before .before .before .before .before .before .before in
+    let p : tie.After-store = search in
+    let s : tie.Start = search in
     let f = s .pre .0 in
     (known (f .holds-line) (f .line-noted .is-accepted) (filled (p .store .ensures)), omega arith)
 
 wipe-requires : tie.Need-wipe-requires
 wipe-requires c κs =
-    let a = c .before .before .before .before in
-    let p = a .before .before .before .before .before .before .before in
-    let s = p .before .before .before .before .before .before .before .before .before .before in
+    let p : tie.After-store = search in
+    let s : tie.Start = search in
     let f = s .pre .0 in
     record { text = s .args .line .now; long = refl; held = f .holds-line; holds = holds-of (f .holds-line) (f .line-noted .is-accepted) (filled (p .store .ensures)) }
 
 returns : tie.Need-returns
 returns c =
-    let k = c .before .before .before in
-    let a = k .before .before .before .before .before in
-    let p = a .before .before .before .before .before .before .before in
-    let s = p .before .before .before .before .before .before .before .before .before .before in
+    let p : tie.After-store = search in
+    let s : tie.Start = search in
+    let k : tie.After-wipe = search in
+    let a : tie.After-put-accepted = search in
     let f = s .pre .0 in
     let w = filled (p .store .ensures) in
     let same = put-back f w (k .wipe .ensures) in

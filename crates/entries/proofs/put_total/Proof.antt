@@ -9,9 +9,10 @@ use Rattle.entries.proofs.put_total.Tie as tie
 
 returns : tie.Need-returns
 returns c =
-    let d = c .before .before in
-    let p = d .before .before .before .before in
-    puts-join (p .put .ensures) (puts-of (ap weightText (p .before .before .weigh .ensures) ∙ weight-text _) (d .put-weight .ensures))
+    let d : tie.After-put-weight = search in
+    let p : tie.After-put = search in
+    let w : tie.After-weigh = search in
+    puts-join (p .put .ensures) (puts-of (ap weightText (w .weigh .ensures) ∙ weight-text _) (d .put-weight .ensures))
 
 pub put-total-spec : {M : Type 1} → statement M
 put-total-spec =

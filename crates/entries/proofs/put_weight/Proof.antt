@@ -17,8 +17,8 @@ returns c =
 
 returns-2 : tie.Need-returns-2
 returns-2 c =
-    let d = c .before .before in
-    let p = d .before .before .before .before in
+    let d : tie.After-put-decimal = search in
+    let p : tie.After-put = search in
     puts-of (lacks-told (p .before .before .before .w2 .given .1)) (puts-join (p .put .ensures) (d .put-decimal .ensures))
 
 pub put-weight-spec : {M : Type 1} → statement M

@@ -6,14 +6,14 @@ use Rattle.reader.proofs.store_anew.Tie as tie
 
 store-requires : tie.Need-store-requires
 store-requires c κs =
-    let e = c .before .before .before .before .before in
-    let s = e .before .before .before .before .before .before .before .before .before in
+    let e : tie.After-clear = search in
+    let s : tie.Start = search in
     fills-cleared _ _ _ _ (e .clear .ensures .0) (e .clear .ensures .1) (s .pre)
 
 returns : tie.Need-returns
 returns c =
-    let p = c .before .before .before in
-    let e = p .before .before .before .before .before .before in
+    let p : tie.After-store = search in
+    let e : tie.After-clear = search in
     filled-cleared _ _ _ _ (e .clear .ensures .0) (e .clear .ensures .1) _ _ _ (p .store .ensures)
 
 pub store-anew-spec : {M : Type 1} → statement M

@@ -7,21 +7,20 @@ use Rattle.reader.proofs.wipe.Tie as tie
 
 zero-from-requires-4 : tie.Need-zero-from-requires-4
 zero-from-requires-4 c κs =
-    let b = c .before .before .before .before .before .before .before .before .before .before .before .before .before in
-    let s = b .before .before .before .before .before in
+    let s : tie.Start = search in
     let short = line-short (s .pre) in
     omega arith
 
 returns : tie.Need-returns
 returns c =
     let m = c .before in
-    let b₄ = m .before .before .before .before in
-    let b₃ = b₄ .before .before .before .before in
-    let b₂ = b₃ .before .before .before .before in
-    let b₁ = b₂ .before .before .before .before in
-    let k = b₁ .before .before in
-    let r = k .before .before in
-    let s = r .before .before .before in
+    let b₄ : tie.After-zero-from4 = search in
+    let b₃ : tie.After-zero-from3 = search in
+    let b₂ : tie.After-zero-from2 = search in
+    let b₁ : tie.After-zero-from = search in
+    let k : tie.After-brackets = search in
+    let r : tie.After-residues = search in
+    let s : tie.Start = search in
     all-wiped (s .pre) (r .residues .ensures .0) (k .brackets .ensures .0) (b₁ .zero-from .ensures) (b₂ .zero-from2 .ensures) (b₃ .zero-from3 .ensures) (b₄ .zero-from4 .ensures)
     (m .zero-numbers .ensures)
 

@@ -5,43 +5,40 @@ use Rattle.stream.proofs.Handing.{owed-last, closes-whole, closes-lost}
 use Rattle.stream.proofs.close.Statement.{statement}
 use Rattle.stream.proofs.close.Tie as tie
 
--- from behind the write back to where the heads were handed back, to behind `finish`, and to the start
-abbrev heads-back : tie.After-hand-last → tie.After-heads
-heads-back h = h .before .before .before .before .before .before .before .before .before .before .before .before
-
-abbrev finished : tie.After-hand-last → tie.After-finish
-finished h = heads-back h .before .before .before .before .before
-
-abbrev begun : tie.After-hand-last → tie.Start
-begun h = finished h .before .before .before .before .before .before .before .before .before .before .before .before .before .before .before .before .before
-
 add-total : tie.Need-add-total
-add-total c = let s = begun (c .before .before) in omega (arith, s .pre .1, s .fits .number .fits, c .one-if .ensures .1)
+add-total c =
+    let f : tie.After-finish = search in
+    let s : tie.Start = search in
+    omega (arith, s .pre .1, s .fits .number .fits, c .one-if .ensures .1)
 
 returns-2 : tie.Need-returns-2
 returns-2 c =
-    let i = c .before in
-    let h = i .before in
-    closes-whole (finished h .finish .ensures) (c .one-if .ensures) (h .hand-last .ensures) (i .if1 .left)
+    let h : tie.After-hand-last = search in
+    let f : tie.After-finish = search in
+    closes-whole (f .finish .ensures) (c .one-if .ensures) (h .hand-last .ensures) (c .before .if1 .left)
 
 pub close-spec : {M : Type 1} → statement M
 close-spec =
     tie.close
     (tie.spec
-    (λ c κs. c .before .before .before .before .before .before .before .before .before .before .before .before .before .before .before .before .pre .0)
-    (λ c κs. owed-last (c .before .before .before .before .before .before .before .before .before .before .before .before .before .before .before .before .finish .ensures .0))
-    (λ c. heads-back (c .before) .before .before .before .before .letters .given) (λ c. heads-back (c .before) .before .before .sections .given)
-    (λ c. heads-back (c .before) .heads .given) (λ c. c .before .before .before .before .before .before .before .before .before .before .before .parts .given)
-    (λ c. c .before .before .before .before .before .before .before .before .before .masses .given)
-    (λ c. c .before .before .before .before .before .before .before .before .scores .given)
-    (λ c. c .before .before .before .before .before .before .before .bytes .given) (λ c. c .before .before .before .before .before .numbers .given)
-    (λ c. c .before .before .before .before .out .given)
+    (λ c κs. let s : tie.Start = search in s .pre .0) (λ c κs. let f : tie.After-finish = search in owed-last (f .finish .ensures .0))
+    (λ c. let a : tie.After-letters = search in a .letters .given)
+    (λ c. let a : tie.After-sections = search in a .sections .given)
+    (λ c. let a : tie.After-heads = search in a .heads .given)
+    (λ c. let a : tie.After-parts = search in a .parts .given)
+    (λ c. let a : tie.After-masses = search in a .masses .given)
+    (λ c. let a : tie.After-scores = search in a .scores .given)
+    (λ c. let a : tie.After-bytes = search in a .bytes .given)
+    (λ c. let a : tie.After-numbers = search in a .numbers .given)
+    (λ c. let a : tie.After-out = search in a .out .given)
     (λ c. closes-lost) (λ c κs. tt) add-total
-    (λ c. heads-back (c .before .before) .before .before .before .before .letters .given) (λ c. heads-back (c .before .before) .before .before .sections .given)
-    (λ c. heads-back (c .before .before) .heads .given)
-    (λ c. c .before .before .before .before .before .before .before .before .before .before .before .before .parts .given)
-    (λ c. c .before .before .before .before .before .before .before .before .before .before .masses .given)
-    (λ c. c .before .before .before .before .before .before .before .before .before .scores .given)
-    (λ c. c .before .before .before .before .before .before .before .before .bytes .given)
-    (λ c. c .before .before .before .before .before .before .numbers .given) (λ c. c .before .before .before .before .before .out .given)
+    (λ c. let a : tie.After-letters = search in a .letters .given)
+    (λ c. let a : tie.After-sections = search in a .sections .given)
+    (λ c. let a : tie.After-heads = search in a .heads .given)
+    (λ c. let a : tie.After-parts = search in a .parts .given)
+    (λ c. let a : tie.After-masses = search in a .masses .given)
+    (λ c. let a : tie.After-scores = search in a .scores .given)
+    (λ c. let a : tie.After-bytes = search in a .bytes .given)
+    (λ c. let a : tie.After-numbers = search in a .numbers .given)
+    (λ c. let a : tie.After-out = search in a .out .given)
     returns-2)

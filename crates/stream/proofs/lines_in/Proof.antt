@@ -12,14 +12,20 @@ abbrev μ-loop : tie.MeasureT-loop
 μ-loop text n i₀ ends₀ i ends = n - i
 
 add-ends : tie.Need-add-ends Inv-loop μ-loop
-add-ends c = let w = c .before .before .before .loop .inv .1 .few in let p = c .before .before .before .before .before .pre in let l = c .before .before .loop-test .taken in omega (arith, w, p, l, c .one-if .ensures .1)
+add-ends c =
+    let l : tie.In-loop Inv-loop μ-loop = search in
+    let s : tie.Start Inv-loop μ-loop = search in
+    omega (arith, l .before .loop .inv .1 .few, s .pre, l .loop-test .taken, c .one-if .ensures .1)
 
 loop-again : tie.Need-loop-again Inv-loop μ-loop
-loop-again c = (omega arith, counted-more (c .before .before .before .loop .inv .1) (let p = c .before .before .before .before .before .pre in omega arith) (c .one-if .ensures))
+loop-again c =
+    let l : tie.In-loop Inv-loop μ-loop = search in
+    let s : tie.Start Inv-loop μ-loop = search in
+    (omega arith, counted-more (l .before .loop .inv .1) (omega (arith, l .loop-test .taken, s .pre)) (c .one-if .ensures))
 
 pub lines-in-spec : {M : Type 1} → statement M
 lines-in-spec =
     tie.close
     (tie.spec
-    Inv-loop μ-loop (λ c. (omega arith, counted-start _)) (λ c. let p = c .before .before .before .before .pre in omega arith) (λ c κs. tt) add-ends
+    Inv-loop μ-loop (λ c. (omega arith, counted-start _)) (λ c. let s : tie.Start Inv-loop μ-loop = search in omega (arith, s .pre)) (λ c κs. tt) add-ends
     (λ c. omega arith) (λ c. omega arith) loop-again (λ c. counted-all (c .before .loop .inv .0) (c .loop-test .left) (c .before .loop .inv .1)))

@@ -6,7 +6,13 @@ use Rattle.stream.proofs.notice.Statement.{statement}
 use Rattle.stream.proofs.notice.Tie as tie
 
 returns : tie.Need-returns
-returns c = notice-fronts (now (c .before .before .before .before .before .before .before .before .before .before .before .before .before .before .args .words)) (c .before .before .before .before .before .before .before .before .before .before .before .before .before .before .args .number) (now (c .before .before .before .before .before .before .before .before .before .before .before .before .before .before .args .out)) (c .before .before .before .before .before .before .before .before .before .before .before .before .before .before .pre .0) (c .before .before .before .before .before .before .before .before .before .before .copy-bytes .ensures) (c .before .before .before .before .before .before .put-decimal .ensures) (c .before .before .put .ensures) (search needs)
+returns c =
+    let p : tie.After-put = search in
+    let d : tie.After-put-decimal = search in
+    let b : tie.After-copy-bytes = search in
+    let s : tie.Start = search in
+    notice-fronts (now (s .args .words)) (s .args .number) (now (s .args .out)) (s .pre .0) (b .copy-bytes .ensures) (d .put-decimal .ensures) (p .put .ensures)
+    (search needs)
 
 pub notice-spec : {M : Type 1} → statement M
 notice-spec =

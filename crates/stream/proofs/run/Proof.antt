@@ -13,6 +13,6 @@ run-spec =
     (λ c. search needs) (λ c. search needs) (λ c. search needs) (λ c. search needs) (λ c. search needs) (λ c. search needs) (λ c. search needs)
     (λ c. search needs) (λ c. search needs) (λ c. search needs) (λ c. search needs)
     (λ c κs. (omega arith, ready-new outputLimit (omega arith) (omega arith)))
-    (λ c. c .before .before .before .before .before .before .before .before .before .before .before .before .serve .ensures) (λ c. search needs)
+    (λ c. let a : tie.After-serve = search in a .serve .ensures) (λ c. search needs)
     (λ c. search needs) (λ c κs. search needs) (λ c. search needs) (λ c. search needs) (λ c. search needs) (λ c κs. search needs) (λ c. search needs)
     (λ c. search needs) (λ c. search needs) (λ c κs. search needs) (λ c. search needs) (λ c. search needs) (λ c. search needs))

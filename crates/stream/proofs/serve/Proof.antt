@@ -17,48 +17,26 @@ abbrev μ-loop : tie.MeasureT-loop
 
 loop-holds : tie.Need-loop-holds Inv-loop μ-loop
 loop-holds c =
-    let p = c .before .before .before .before .before .before .before .before .pre in
-    serves-start _ _ _ _ _ _ (p .0) (omega arith) (p .1)
+    let s : tie.Start Inv-loop μ-loop = search in
+    serves-start _ _ _ _ _ _ (s .pre .0) (omega arith) (s .pre .1)
 
 turn-requires : tie.Need-turn-requires Inv-loop μ-loop
 turn-requires c κs =
-    let t = c .before .before .before .before .before .before .before .before .before .before .before in
-    let o = t .before in
-    let w = o .loop .inv in
+    let t : tie.In-loop Inv-loop μ-loop = search in
+    let w = t .before .loop .inv in
     (w .room-fits, omega (arith, w .count, t .loop-test .taken), w .ready, w .few)
 
--- from behind a turn back to where the heads were handed back, to the call, and to the head of the loop
-abbrev heads-back : tie.After-struct-known Inv-loop μ-loop → tie.After-heads Inv-loop μ-loop
-heads-back b = b .before .before .before .before .before .before .before .before .before .before .before
-
+-- behind a turn: back to the call, and to the head of the loop
 abbrev called : tie.After-struct-known Inv-loop μ-loop → tie.After-turn Inv-loop μ-loop
-called b = heads-back b .before .before .before .before .before .before .before .before .before
+called b = search
 
-abbrev begun : tie.After-struct-known Inv-loop μ-loop → tie.In-loop Inv-loop μ-loop
-begun b = called b .before .before .before .before .before .before .before .before .before .before .before .before
-
-same-length : tie.Need-same-length Inv-loop μ-loop
-same-length c = let b = c .before in heads-back b .before .before .before .before .before .before .before .before .room .given ∙ begun b .before .loop .inv .room-long
-
-same-length-2 : tie.Need-same-length-2 Inv-loop μ-loop
-same-length-2 c = let b = c .before in heads-back b .before .before .before .before .before .before .hold .given ∙ begun b .before .loop .inv .hold-long
-
-same-length-3 : tie.Need-same-length-3 Inv-loop μ-loop
-same-length-3 c = let b = c .before in heads-back b .before .before .before .before .letters .given ∙ begun b .before .loop .inv .sheet-long .letters-long
-
-same-length-6 : tie.Need-same-length-6 Inv-loop μ-loop
-same-length-6 c = let b = c .before in b .before .before .before .before .before .before .before .before .before .parts .given ∙ begun b .before .loop .inv .sheet-long .parts-long
-
-same-length-7 : tie.Need-same-length-7 Inv-loop μ-loop
-same-length-7 c = let b = c .before in b .before .before .before .before .before .before .before .masses .given ∙ begun b .before .loop .inv .sheet-long .masses-long
-
-same-length-8 : tie.Need-same-length-8 Inv-loop μ-loop
-same-length-8 c = let b = c .before in b .before .before .before .before .before .before .scores .given ∙ begun b .before .loop .inv .sheet-long .scores-long
+abbrev begun : tie.After-turn Inv-loop μ-loop → tie.In-loop Inv-loop μ-loop
+begun a = search
 
 returns : tie.Need-returns Inv-loop μ-loop
 returns c =
-    let b = c .before in
-    omega (arith, begun b .before .loop .inv .few, called b .turn .ensures .grows)
+    let a = called (c .before) in
+    omega (arith, begun a .before .loop .inv .few, a .turn .ensures .grows)
 
 loop-again : tie.Need-loop-again Inv-loop μ-loop
 loop-again c =
@@ -74,7 +52,7 @@ loop-again c =
     let held = l .before .before in
     let r = held .before .before in
     let a = r .before in
-    let t = a .before .before .before .before .before .before .before .before .before .before .before .before in
+    let t = begun a in
     let o = t .before in
     serves-more _ _ _ _ _ _ (o .loop .inv) (t .loop-test .taken) (a .turn .ensures) (not-false _ (c .if1 .left)) (r .room .given) (held .hold .given)
     (record {
@@ -91,13 +69,20 @@ pub serve-spec : {M : Type 1} → statement M
 serve-spec =
     tie.close
     (tie.spec
-    Inv-loop μ-loop loop-holds turn-requires same-length same-length-2 same-length-3
-    (λ c. let b = c .before in heads-back b .before .before .sections .given ∙ begun b .before .loop .inv .sheet-long .sections-long)
-    (λ c. let b = c .before in heads-back b .heads .given ∙ begun b .before .loop .inv .sheet-long .heads-long) same-length-6 same-length-7
-    same-length-8 (λ c. let b = c .before in b .before .before .before .before .before .bytes .given ∙ begun b .before .loop .inv .bytes-long)
-    (λ c. let b = c .before in b .before .before .before .numbers .given ∙ begun b .before .loop .inv .numbers-long)
-    (λ c. let b = c .before in b .before .before .out .given ∙ begun b .before .loop .inv .out-long) returns
-    (λ c. omega (arith, begun (c .before) .loop-test .taken)) (λ c. omega (arith, begun (c .before) .loop-test .taken)) loop-again
+    Inv-loop μ-loop loop-holds turn-requires
+    (λ c. (let a : tie.After-room Inv-loop μ-loop = search in a .room .given) ∙ begun (called (c .before)) .before .loop .inv .room-long)
+    (λ c. (let a : tie.After-hold Inv-loop μ-loop = search in a .hold .given) ∙ begun (called (c .before)) .before .loop .inv .hold-long)
+    (λ c. (let a : tie.After-letters Inv-loop μ-loop = search in a .letters .given) ∙ begun (called (c .before)) .before .loop .inv .sheet-long .letters-long)
+    (λ c. (let a : tie.After-sections Inv-loop μ-loop = search in a .sections .given) ∙ begun (called (c .before)) .before .loop .inv .sheet-long .sections-long)
+    (λ c. (let a : tie.After-heads Inv-loop μ-loop = search in a .heads .given) ∙ begun (called (c .before)) .before .loop .inv .sheet-long .heads-long)
+    (λ c. (let a : tie.After-parts Inv-loop μ-loop = search in a .parts .given) ∙ begun (called (c .before)) .before .loop .inv .sheet-long .parts-long)
+    (λ c. (let a : tie.After-masses Inv-loop μ-loop = search in a .masses .given) ∙ begun (called (c .before)) .before .loop .inv .sheet-long .masses-long)
+    (λ c. (let a : tie.After-scores Inv-loop μ-loop = search in a .scores .given) ∙ begun (called (c .before)) .before .loop .inv .sheet-long .scores-long)
+    (λ c. (let a : tie.After-bytes Inv-loop μ-loop = search in a .bytes .given) ∙ begun (called (c .before)) .before .loop .inv .bytes-long)
+    (λ c. (let a : tie.After-numbers Inv-loop μ-loop = search in a .numbers .given) ∙ begun (called (c .before)) .before .loop .inv .numbers-long)
+    (λ c. (let a : tie.After-out Inv-loop μ-loop = search in a .out .given) ∙ begun (called (c .before)) .before .loop .inv .out-long)
+    returns
+    (λ c. omega (arith, begun (called (c .before)) .loop-test .taken)) (λ c. omega (arith, begun (called (c .before)) .loop-test .taken)) loop-again
     (λ c. c .before .loop .inv .room-long) (λ c. c .before .loop .inv .hold-long) (λ c. c .before .loop .inv .sheet-long .letters-long)
     (λ c. c .before .loop .inv .sheet-long .sections-long) (λ c. c .before .loop .inv .sheet-long .heads-long)
     (λ c. c .before .loop .inv .sheet-long .parts-long) (λ c. c .before .loop .inv .sheet-long .masses-long)

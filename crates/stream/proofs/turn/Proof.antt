@@ -7,31 +7,25 @@ use Rattle.stream.proofs.turn.Tie as tie
 
 take-in-requires : tie.Need-take-in-requires
 take-in-requires c κs =
-    let g = c .before .before .before .before .before .before .before .before .before .before .before .before in
-    let r = g .before .before .before in
-    let a = r .before in
-    let s = a .before .before .before .before .before .before .before .before .before .before in
+    let g : tie.After-got = search in
+    let r : tie.After-room = search in
+    let s : tie.Start = search in
     let same = r .room .given in
-    (came-fits (g .got .given .1) (a .receive .ensures) same, omega (arith, s .pre .0, same), s .pre .1, s .pre .2, s .pre .3)
-
--- from the end back to where the heads were handed back, to the call, and to the read
-abbrev heads-back : tie.After-slice-known16 → tie.After-heads
-heads-back c = c .before .before .before .before .before .before .before .before .before .before
-
-abbrev called : tie.After-slice-known16 → tie.After-take-in
-called c = heads-back c .before .before .before .before .before .before .before
-
-abbrev read : tie.After-slice-known16 → tie.After-room
-read c = called c .before .before .before .before .before .before .before .before .before .before .before .before .before .before .before .before
+    (came-fits (g .got .given .1) (r .before .receive .ensures) same, omega (arith, s .pre .0, same), s .pre .1, s .pre .2, s .pre .3)
 
 pub turn-spec : {M : Type 1} → statement M
 turn-spec =
     tie.close
     (tie.spec
-    (λ c κs. tt) (λ c. search needs) take-in-requires (λ c. search needs) (λ c. read c .room .given)
-    (λ c. heads-back c .before .before .before .before .before .before .hold .given)
-    (λ c. heads-back c .before .before .before .before .letters .given) (λ c. heads-back c .before .before .sections .given)
-    (λ c. heads-back c .heads .given) (λ c. c .before .before .before .before .before .before .before .before .parts .given)
-    (λ c. c .before .before .before .before .before .before .masses .given) (λ c. c .before .before .before .before .before .scores .given)
-    (λ c. c .before .before .before .before .bytes .given) (λ c. c .before .before .numbers .given) (λ c. c .before .out .given)
-    (λ c. called c .take-in .ensures) (λ c. c .before .before .before .room .given) (λ c. turns-failed))
+    (λ c κs. tt) (λ c. search needs) take-in-requires (λ c. search needs)
+    (λ c. let k : tie.After-take-in-arg = search in let a : tie.After-room = search in a .room .given) (λ c. let a : tie.After-hold = search in a .hold .given)
+    (λ c. let a : tie.After-letters = search in a .letters .given)
+    (λ c. let a : tie.After-sections = search in a .sections .given)
+    (λ c. let a : tie.After-heads = search in a .heads .given)
+    (λ c. let a : tie.After-parts = search in a .parts .given)
+    (λ c. let a : tie.After-masses = search in a .masses .given)
+    (λ c. let a : tie.After-scores = search in a .scores .given)
+    (λ c. let a : tie.After-bytes = search in a .bytes .given)
+    (λ c. let a : tie.After-numbers = search in a .numbers .given)
+    (λ c. let a : tie.After-out = search in a .out .given)
+    (λ c. let a : tie.After-take-in = search in a .take-in .ensures) (λ c. c .before .before .before .room .given) (λ c. turns-failed))

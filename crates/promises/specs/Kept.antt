@@ -31,7 +31,7 @@ demand-1 =
       first-row = calls.first-row;
     }
 
-demand-3 : (bs : List ℕ) (ns : List ℤ) → weights.Taken bs ns → Demand3 bs ns
+demand-3 : (bs : List ℕ) (ns : List ℤ) → weights.AreasTaken bs ns → Demand3 bs ns
 demand-3 bs ns h =
     record {
       allowed = placed.allowed-so bs ns h;

@@ -184,7 +184,7 @@ filed-inner {s} {bs} {ns} {bs′} {ns′} {out′} {m} f =
     }
 
 -- ---- over areas that a line was read into
-module _ (bs : List ℕ) (ns : List ℤ) (h : weights.Taken bs ns) where
+module _ (bs : List ℕ) (ns : List ℤ) (h : weights.AreasTaken bs ns) where
   next-inner : (l : Listing) (n : ℕ) (l′ : Listing) → MovedOn bs ns l n l′ → NextSays bs ns l (record { request = requestTold n; listing = l′ })
   unfolding member
   next-inner l n l′ w =

@@ -9,7 +9,7 @@ ghost use Rattle.scope.specs.Bytes.{isDigit, value};
 ghost use Rattle.scope.specs.Content.{signed, whole, pointed, numberOf};
 ghost use Rattle.scope.specs.Tables.{signed as withSign};
 ghost use Rattle.classes.specs.Runs.{span};
-ghost use Rattle.numerals.specs.Numerals.{cap, digitsFrom, DigitsAt, scanNumber, found, numOf, CountAt};
+ghost use Rattle.numerals.specs.Numerals.{cap, DigitsAt, scanNumber, found, numOf, CountAt};
 
 // "at most 6 decimals"
 const DECIMALS: usize = Number::DECIMALS as usize;

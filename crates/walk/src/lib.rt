@@ -16,7 +16,6 @@ ghost use lib.Dec.{ltb};
 ghost use lib.ListN.{length, drop, set, replicate};
 ghost use lib.Seq.{sets};
 ghost use Rattle.scope.specs.Bytes.{isLetter, upper as inUpper};
-ghost use Rattle.scope.specs.Kinds.{kindCode};
 ghost use Rattle.scope.specs.Layout.{sectionCode};
 ghost use Rattle.scope.specs.Limits.{lineLimit, residueLimit, bracketLimit, partLimit, countLimit};
 ghost use Rattle.scope.specs.Lists.{part};

@@ -1,5 +1,4 @@
 -- One digit behind the other. Assumes nothing.
-use native.Mathlib.Omega.{arith}
 use borrow.Author.Needs.{needs}
 use Rattle.figures.proofs.Storing.{puts-join}
 use Rattle.figures.proofs.put_two.Statement.{statement}

@@ -1,6 +1,4 @@
 -- No byte spells no key; else the one key that first letter and size leave decides, by its word. Assumes nothing.
-use mathlib.Core.Path.{_∙_}
-use native.Mathlib.Omega.{arith}
 use borrow.Author.Needs.{needs}
 use Rattle.words.proofs.Words.{no-bytes, word-fits, word-counted, key-decided, key-refused}
 use Rattle.words.proofs.key_in.Statement.{statement}

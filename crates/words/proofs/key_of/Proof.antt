@@ -1,5 +1,4 @@
 -- Each key by its number; the other numbers have none. Assumes nothing.
-use mathlib.Core.Path.{_≡_}
 use Rattle.scope.specs.Keys.{keys}
 use Rattle.words.proofs.Words.{no-number}
 use Rattle.words.proofs.key_of.Statement.{statement}

@@ -3,11 +3,10 @@ use mathlib.Core.Path.{refl, ap, _∙_}
 use mathlib.Core.Bool.{cond}
 use mathlib.Core.List.{[], _∷_}
 use lib.Dec.{eqb}
-use Rattle.scope.specs.declared.grammar.Key.the-variants.{NoKey, U, M, R, X, G, C, Obs, Unimod, Mod, Xlmod, Resid, Gno, Info, Formula, Glycan, Position, Limit}
+use Rattle.scope.specs.declared.grammar.Key.the-variants.{U, M, R, X, G, C, Obs, Unimod, Mod, Xlmod, Resid, Gno, Info, Formula, Glycan, Position, Limit}
 use Rattle.scope.specs.Bytes.{upper}
 use Rattle.scope.specs.Keys.{spell, keys}
 use Rattle.scope.specs.Lists.{all, member}
-use borrow.Author.Needs.{needs}
 use Rattle.words.proofs.Words.{likely-so, unlikely}
 use Rattle.words.proofs.likely.Statement.{statement}
 use Rattle.words.proofs.likely.Tie as tie

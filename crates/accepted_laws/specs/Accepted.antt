@@ -1,4 +1,4 @@
--- Every accepted line is within the bounds: from the reader's shape and from the refusals that are not due.
+-- What was read of an accepted line is within the bounds: from the reader's shape and from the refusals that are not due.
 use mathlib.Core.Path.{_≡_, refl}
 use mathlib.Core.Bool.{true}
 use mathlib.Core.Option.{Option, none, some}
@@ -10,10 +10,11 @@ use lib.ListN.{length}
 use borrow.Author.Tests.{leb-true}
 use Rattle.scope.specs.Bytes.{isPrintable}
 use Rattle.scope.specs.Limits.{textLimit, labelLimit, countLimit}
-use Rattle.scope.specs.Line.{Number, Label, Value, mass, text, reference, Part, Bracket, Line}
+use Rattle.scope.specs.Line.{Number, Label, Value, mass, text, reference, composition, Part, Bracket, Line}
 use Rattle.scope.specs.Lists.{flat}
-use Rattle.scope.specs.Refusals.{inRange, textIn, accepted, outcome}
+use Rattle.scope.specs.Refusals.{inRange, textIn}
 use Rattle.scope.specs.Layout.{bracketTexts}
+use Rattle.reading_laws.specs.Taken.{Taken}
 use Rattle.basics.specs.Tests.{and-right}
 use Rattle.basics.specs.Each.{OfGiven, each-one, each-two}
 use Rattle.accepted_laws.specs.Within.{Byte, NumberWithin, LabelWithin, ValueWithin, PartWithin, BracketWithin, Within}
@@ -25,6 +26,7 @@ value-within : (p : Part ℕ) (v : Value ℕ) → ValueShape p v → MassRange v
 value-within p (mass n) w r h = record { range = r; sign = w }
 value-within p (text t) w r h = record { some-text = w .0; short-text = h; bytes = w .1 }
 value-within p reference w r h = w
+value-within p (composition t n) w r h = absurd w
 
 label-within :
     (l : Option (Label ℕ)) → OfGiven LabelShape l → OfGiven (λ l. length (l .name) ≤ labelLimit) l → OfGiven (λ l. OfGiven (λ n. inRange n ≡ true) (l .score)) l
@@ -70,25 +72,29 @@ bracket-within n k w j =
 printable-byte : (b : ℕ) → isPrintable b ≡ true → Byte b
 printable-byte b e = let h : b ≤ 126 = leb-true b 126 (and-right (leb 32 b) _ e) in omega arith
 
-shape-accepted : (s : List ℕ) (l : Line ℕ) → outcome s ≡ accepted l → LineShape (0 + length s) l
-shape-accepted s l e = let j = judged-line s l e in line-shape s l (each-one (λ b. isPrintable b ≡ true) Byte printable-byte s (j .printable)) (j .read)
+module _ (s : List ℕ) (m : Line ℕ) (t : Taken s m) where
+  abbrev l : Line ℕ
+  l = t .read
 
-pub texts-accepted : (s : List ℕ) (l : Line ℕ) → outcome s ≡ accepted l → length (flat bracketTexts (l .brackets)) ≤ length s
-texts-accepted s l e = let fits = shape-accepted s l e .fits in omega arith
+  shape-read : LineShape (0 + length s) l
+  shape-read = let j = judged-line s m t in line-shape s l (each-one (λ b. isPrintable b ≡ true) Byte printable-byte s (j .printable)) (j .read)
 
-pub within-accepted : (s : List ℕ) (l : Line ℕ) → outcome s ≡ accepted l → Within l
-within-accepted s l e =
-    let j = judged-line s l e in
-    let w = shape-accepted s l e in
-    let short = j .short in
-    let fits = w .fits in
-    record {
-      some-residue = w .some-residue;
-      few-residues = j .few-residues;
-      letters = w .letters;
-      few-brackets = j .few-brackets;
-      brackets = each-two (BracketShape (length (l .residues))) JudgedBracket (BracketWithin (length (l .residues)))
-          (bracket-within (length (l .residues))) (l .brackets) (w .brackets) (j .brackets);
-      texts = omega arith;
-      few-copies = j .few-copies;
-    }
+  pub texts-read : length (flat bracketTexts (l .brackets)) ≤ length s
+  texts-read = let fits = shape-read .fits in omega arith
+
+  pub within-read : Within l
+  within-read =
+      let j = judged-line s m t in
+      let w = shape-read in
+      let short = j .short in
+      let fits = w .fits in
+      record {
+        some-residue = w .some-residue;
+        few-residues = j .few-residues;
+        letters = w .letters;
+        few-brackets = j .few-brackets;
+        brackets = each-two (BracketShape (length (l .residues))) JudgedBracket (BracketWithin (length (l .residues)))
+            (bracket-within (length (l .residues))) (l .brackets) (w .brackets) (j .brackets);
+        texts = omega arith;
+        few-copies = j .few-copies;
+      }

@@ -6,7 +6,7 @@ use mathlib.Core.List.{map}
 use Prim.Native.Nat.{ℕ, _≤_}
 use lib.ListN.{length, length-map}
 use Rattle.scope.specs.Limits.{copyLimit}
-use Rattle.scope.specs.Line.{Number, Label, Value, mass, text, reference, Part, Bracket, Line}
+use Rattle.scope.specs.Line.{Number, Label, Value, mass, text, reference, composition, Part, Bracket, Line}
 use Rattle.scope.specs.Content.{isReference}
 use Rattle.scope.specs.Tables.{bareNumber, bareLabel, bareValue, barePart, bareBracket, bareResidue, tablesOf}
 use Rattle.scope.specs.Layout.{bracketTexts}
@@ -38,6 +38,7 @@ module _ {P : Type 0} where
   value-within p (mass n) w = number-within n w
   value-within p (text t) w = w
   value-within p reference w = record { no-key = w .no-key; labelled = is-given (p .label) (w .labelled) }
+  value-within p (composition t n) w = record { its-key = w .its-key; text = w .text; mass = number-within n (w .mass) }
 
   part-within : (p : Part P) → PartWithin p → PartWithin (barePart p)
   part-within p w = record { key = w .key; value = value-within p (p .value) (w .value); label = label-within (p .label) (w .label) }

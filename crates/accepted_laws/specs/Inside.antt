@@ -12,7 +12,7 @@ use borrow.Author.Tests.{eqb-false, not-true}
 use Rattle.scope.specs.declared.grammar.Key.{Key}
 use Rattle.scope.specs.declared.grammar.Key.the-variants.{NoKey}
 use Rattle.scope.specs.Bytes.{bar, hash, colon, value}
-use Rattle.scope.specs.Line.{Number, Label, Value, mass, text, reference, Part}
+use Rattle.scope.specs.Line.{Number, Label, Value, mass, text, reference, composition, Part}
 use Rattle.scope.specs.Keys.{digits}
 use Rattle.scope.specs.Content.{Digits, signed, whole, pointed, broken, numberOf, numberEnd, Context, Inner, begin, plain, keyed, inNumber, inCode, inText, hashed, inLabel, scoring, inScore, scored, Content, lost, closed, going, unlabelled, labelled, isReference, innerStep}
 use Rattle.scope.specs.Lists.{none?, flat}
@@ -33,10 +33,12 @@ pub record LabelShape {P : Type 0} (l : Label P) : Type 0 where
   pub bytes : Each Byte (l .name)
   pub score : OfGiven Signed (l .score)
 
+-- the reader makes no composition: it reads one as a text
 abbrev pub ValueShape : {P : Type 0} → Part P → Value P → Type 0
 ValueShape p (mass n) = Signed n
 ValueShape p (text t) = (0 < length t) × Each Byte t
 ValueShape p reference = ReferenceWithin p
+ValueShape p (composition t n) = ⊥
 
 pub record PartShape {P : Type 0} (p : Part P) : Type 0 where
   pub value : ValueShape p (p .value)
@@ -60,6 +62,7 @@ abbrev pub PendingValue : {P : Type 0} → Key → Value P → Type 0
 PendingValue k (mass n) = Signed n
 PendingValue k (text t) = (0 < length t) × Each Byte t
 PendingValue k reference = k ≡ NoKey
+PendingValue k (composition t n) = ⊥
 
 -- a part without its label
 pub record PendingPart {P : Type 0} (c : Context P) (p : Part P) : Type 0 where
@@ -111,6 +114,7 @@ module _ {P : Type 0} where
   pending-shape at k (mass n) w e = w
   pending-shape at k (text t) w e = w
   pending-shape at k reference w e = absurd (true≢false e)
+  pending-shape at k (composition t n) w e = w
 
   -- ---- labels
   labelled-shape :
@@ -118,6 +122,7 @@ module _ {P : Type 0} where
   labelled-shape p at name s (mass n) w = w
   labelled-shape p at name s (text t) w = w
   labelled-shape p at name s reference w = record { no-key = w; labelled = tt }
+  labelled-shape p at name s (composition t n) w = w
 
   finished :
       (c : Context P) (p : Part P) (at : P) (name : List ℕ) (s : Option (Number P)) → PendingPart c p → NameGiven name → OfGiven Signed s

@@ -1,5 +1,6 @@
 -- What a line keeps to because no refusal is due: a list of places that is empty says of each element that its test is false.
 use mathlib.Core.Path.{_≡_, refl, sym, ap, _∙_}
+use mathlib.Core.Logic.{inl, inr}
 use mathlib.Core.Bool.{Bool, true, false, not, _&&_, _||_, false≢true, true≢false}
 use mathlib.Core.Option.{Option, none, some}
 use mathlib.Core.List.{List, [], _∷_, _++_, map}
@@ -12,17 +13,18 @@ use Rattle.scope.specs.declared.grammar.Key.{Key}
 use Rattle.scope.specs.declared.grammar.Key.the-variants.{NoKey, U, M, R, X, G, C, Obs, Unimod, Mod, Xlmod, Resid, Gno, Info, Formula, Glycan, Position, Limit}
 use Rattle.scope.specs.Bytes.{isPrintable}
 use Rattle.scope.specs.Limits.{lineLimit, residueLimit, bracketLimit, partLimit, textLimit, labelLimit, countLimit, copyLimit}
-use Rattle.scope.specs.Line.{Number, Label, Value, mass, text, reference, Part, Bracket, Line}
+use Rattle.scope.specs.Line.{Number, Label, Value, mass, text, reference, composition, Part, Bracket, Line}
 use Rattle.scope.specs.Keys.{keyCode}
 use Rattle.scope.specs.Lists.{given, flat}
 use Rattle.scope.specs.Reading.{holds, reading}
 use Rattle.scope.specs.Modifications.{namesOf, isLabelled, copies, definedBy, defined, referredTo}
-use Rattle.scope.specs.Refusals.{dueAt, unprintable, refusal2, refusal3, refusal6, refusal7, refusal8, refusal11, refusal12, textOf, longText, longLabel, overIn, inRange, wide, wideMass, wideScore, wideCount, notHere, isRule, isLink, secondLabel, definedAgain, undefined, countedLabel, unreferred, wrongLabels, wronglyLabelled, passing, accepted, outcome}
+use Rattle.scope.specs.Refusals.{dueAt, unprintable, refusal2, refusal3, refusal6, refusal7, refusal8, refusal11, refusal12, textOf, longText, longLabel, overIn, inRange, wide, wideMass, wideScore, wideCount, notHere, isRule, isLink, secondLabel, definedAgain, undefined, countedLabel, unreferred, wrongLabels, wronglyLabelled, passing}
 use Rattle.scope.specs.Positions.{floaters}
 use Rattle.basics.specs.Lists.{not-due, nil-front, nil-back, flat-none}
 use Rattle.basics.specs.Tests.{or-left, or-right}
 use Rattle.basics.specs.Each.{Each, OfGiven, each-three}
-use Rattle.reading_laws.specs.Taken.{taken, not-long}
+use Rattle.reading_laws.specs.Taken.{Taken, not-long}
+use Rattle.accepted_laws.specs.Within.{KeyWithin}
 
 -- ---- nothing is due
 none-dropped : {A : Type 0} (f : A → ℕ) (n : ℕ) (l : List A) → drop n (map f l) ≡ [] → length l ≤ n
@@ -37,13 +39,14 @@ abbrev pub MassRange : {P : Type 0} → Value P → Type 0
 MassRange (mass n) = inRange n ≡ true
 MassRange (text t) = Unit {0}
 MassRange reference = Unit {0}
+MassRange (composition t n) = Unit {0}
 
 pub record JudgedPart (p : Part ℕ) : Type 0 where
   pub short-text : length (textOf p) ≤ textLimit
   pub short-label : OfGiven (λ l. length (l .name) ≤ labelLimit) (p .label)
   pub mass-range : MassRange (p .value)
   pub score-range : OfGiven (λ l. OfGiven (λ n. inRange n ≡ true) (l .score)) (p .label)
-  pub key : keyCode (p .key) ≤ keyCode Info
+  pub key : KeyWithin (p .key)
 
 short-label-of : (l : Option (Label ℕ)) → given l (λ l. dueAt (ltb labelLimit (length (l .name))) (l .at)) [] ≡ [] → OfGiven (λ l. length (l .name) ≤ labelLimit) l
 short-label-of none e = tt
@@ -56,6 +59,7 @@ mass-range-of : (v : Value ℕ) → wideMass v ≡ [] → MassRange v
 mass-range-of (mass n) e = in-range n e
 mass-range-of (text t) e = tt
 mass-range-of reference e = tt
+mass-range-of (composition t n) e = tt
 
 score-range-of :
     (l : Option (Label ℕ)) → given l (λ l. given (l .score) wide []) [] ≡ [] → OfGiven (λ l. OfGiven (λ n. inRange n ≡ true) (l .score)) l
@@ -66,23 +70,23 @@ score-range-of (some l) e = go (l .score) e
     go none q = tt
     go (some n) q = in-range n q
 
-key-few : (k : Key) → (eqb (keyCode k) (keyCode Formula) || eqb (keyCode k) (keyCode Glycan) || eqb (keyCode k) (keyCode Position) || eqb (keyCode k) (keyCode Limit)) ≡ false → keyCode k ≤ keyCode Info
-key-few NoKey e = omega arith
-key-few U e = omega arith
-key-few M e = omega arith
-key-few R e = omega arith
-key-few X e = omega arith
-key-few G e = omega arith
-key-few C e = omega arith
-key-few Obs e = omega arith
-key-few Unimod e = omega arith
-key-few Mod e = omega arith
-key-few Xlmod e = omega arith
-key-few Resid e = omega arith
-key-few Gno e = omega arith
-key-few Info e = omega arith
+key-few : (k : Key) → (eqb (keyCode k) (keyCode Formula) || eqb (keyCode k) (keyCode Position) || eqb (keyCode k) (keyCode Limit)) ≡ false → KeyWithin k
+key-few NoKey e = inl (omega arith)
+key-few U e = inl (omega arith)
+key-few M e = inl (omega arith)
+key-few R e = inl (omega arith)
+key-few X e = inl (omega arith)
+key-few G e = inl (omega arith)
+key-few C e = inl (omega arith)
+key-few Obs e = inl (omega arith)
+key-few Unimod e = inl (omega arith)
+key-few Mod e = inl (omega arith)
+key-few Xlmod e = inl (omega arith)
+key-few Resid e = inl (omega arith)
+key-few Gno e = inl (omega arith)
+key-few Info e = inl (omega arith)
 key-few Formula e = absurd (true≢false e)
-key-few Glycan e = absurd (true≢false e)
+key-few Glycan e = inr refl
 key-few Position e = absurd (true≢false e)
 key-few Limit e = absurd (true≢false e)
 
@@ -190,10 +194,11 @@ pub record Judged (s : List ℕ) (l : Line ℕ) : Type 0 where
   pub brackets : Each JudgedBracket (l .brackets)
   pub few-copies : length (floaters l) ≤ copyLimit
 
-pub judged-line : (s : List ℕ) (l : Line ℕ) → outcome s ≡ accepted l → Judged s l
+-- of what was read of an accepted line
+pub judged-line : (s : List ℕ) (m : Line ℕ) (w : Taken s m) → Judged s (w .read)
 unfolding refusal2 refusal3 refusal6 refusal7 refusal8 refusal11 refusal12 floaters
-judged-line s l e =
-    let w = taken s l e in
+judged-line s m w =
+    let l = w .read in
     let no2 : refusal2 s ≡ [] = w .bytes .1 .0 in
     let no3 : refusal3 s ≡ [] = w .bytes .1 .1 .0 in
     let from6 = w .clear .1 in

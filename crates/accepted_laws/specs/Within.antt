@@ -1,16 +1,18 @@
 -- What every accepted line keeps to, as bounds on a line.
 use mathlib.Core.Path.{_≡_}
+use mathlib.Core.Logic.{_⊎_}
 use mathlib.Core.Bool.{true, false}
 use mathlib.Core.List.{List}
 use Prim.Native.Nat.{ℕ, _+_, _≤_, _<_}
 use native.Mathlib.Nat.{le-refl}
 use native.Mathlib.Omega.{arith}
 use lib.ListN.{length}
-use Rattle.scope.specs.declared.grammar.Key.the-variants.{NoKey, Info}
+use Rattle.scope.specs.declared.grammar.Key.{Key}
+use Rattle.scope.specs.declared.grammar.Key.the-variants.{NoKey, Info, Glycan}
 use Rattle.scope.specs.declared.grammar.Kind.{Kind}
 use Rattle.scope.specs.Bytes.{byteLimit}
 use Rattle.scope.specs.Limits.{lineLimit, residueLimit, bracketLimit, partLimit, textLimit, labelLimit, countLimit, copyLimit}
-use Rattle.scope.specs.Line.{Number, Label, Value, mass, text, reference, Part, Bracket, Line}
+use Rattle.scope.specs.Line.{Number, Label, Value, mass, text, reference, composition, Part, Bracket, Line}
 use Rattle.scope.specs.Keys.{keyCode}
 use Rattle.scope.specs.Content.{isReference}
 use Rattle.scope.specs.Lists.{flat}
@@ -49,14 +51,24 @@ pub record ReferenceWithin {P : Type 0} (p : Part P) : Type 0 where
   pub no-key : p .key ≡ NoKey
   pub labelled : IsGiven (p .label)
 
+-- a composition has its key, a text and a mass
+pub record CompositionWithin {P : Type 0} (p : Part P) (t : List ℕ) (n : Number P) : Type 0 where
+  pub its-key : p .key ≡ Glycan
+  pub text : TextWithin t
+  pub mass : NumberWithin n
+
 abbrev pub ValueWithin : {P : Type 0} → Part P → Value P → Type 0
 ValueWithin p (mass n) = NumberWithin n
 ValueWithin p (text t) = TextWithin t
 ValueWithin p reference = ReferenceWithin p
+ValueWithin p (composition t n) = CompositionWithin p t n
 
--- the keys of refusal 8 have the codes above that of `INFO:`
+-- the keys of refusal 8 have the codes above that of `INFO:`; so has that of compositions
+abbrev pub KeyWithin : Key → Type 0
+KeyWithin k = (keyCode k ≤ keyCode Info) ⊎ (k ≡ Glycan)
+
 pub record PartWithin {P : Type 0} (p : Part P) : Type 0 where
-  pub key : keyCode (p .key) ≤ keyCode Info
+  pub key : KeyWithin (p .key)
   pub value : ValueWithin p (p .value)
   pub label : OfGiven LabelWithin (p .label)
 

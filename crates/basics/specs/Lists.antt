@@ -13,7 +13,7 @@ use lib.ListN.{length, replicate, length-append}
 use Rattle.scope.specs.Bytes.{upper, sameFolded}
 use Rattle.scope.specs.Lists.{all, flat, keep, same, among, shared, onLast, optional}
 use Rattle.scope.specs.Refusals.{dueAt}
-use Rattle.basics.specs.Tests.{and-left, and-right, falsely}
+use Rattle.basics.specs.Tests.{and-left, and-right, both, falsely}
 use Rattle.basics.specs.Each.{Each}
 
 -- ---- lists in pieces
@@ -116,6 +116,12 @@ map-same f h e (x ∷ l) = ap₂ _∷_ (e x) (map-same f h e l)
 
 pub map-joined : {A B C : Type 0} (g : B → C) (f : A → B) (l : List A) → map (λ x. g (f x)) l ≡ map g (map f l)
 map-joined g f l = sym (map-map g (λ x. g (f x)) f (λ x. refl) l)
+
+-- ---- tests over lists in pieces
+pub all-append : {A : Type 0} (f : A → Bool) (l m : List A) → all f l ≡ true → all f m ≡ true → all f (l ++ m) ≡ true
+unfolding all
+all-append f [] m a b = b
+all-append f (x ∷ l) m a b = both (f x) (all f (l ++ m)) (and-left (f x) (all f l) a) (all-append f l m (and-right (f x) (all f l) a) b)
 
 -- ---- nothing in them
 pub nil-front : {A : Type 0} (l m : List A) → l ++ m ≡ [] → l ≡ []

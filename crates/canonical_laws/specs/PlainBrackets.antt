@@ -4,11 +4,11 @@ use Prim.Native.Nat.{ℕ, _+_, _≤_}
 use mathlib.Core.Path.{_≡_, refl, sym, ap, ap₂, _∙_, subst}
 use mathlib.Core.Bool.{Bool, true, false, _&&_, _||_}
 use mathlib.Core.Option.{Option, none, some, Option·none-ne-some}
-use mathlib.Core.List.{List, [], _∷_, _++_, map, append-nil}
+use mathlib.Core.List.{List, [], _∷_, _++_, map, map-append, append-nil}
 use native.Mathlib.Omega.{arith}
 use lib.Dec.{eqb, ltb}
 use lib.ListN.{length, length-append}
-use borrow.Author.Tests.{ltb-false, eqb-true, eqb-false}
+use borrow.Author.Tests.{ltb-false, eqb-true}
 use Rattle.scope.specs.declared.grammar.Kind.{Kind}
 use Rattle.scope.specs.declared.grammar.Kind.the-variants.{Unknown, Labile}
 use Rattle.scope.specs.Bytes.{openSquare, shutSquare, openCurly, shutCurly, caret, question, dash}
@@ -19,15 +19,16 @@ use Rattle.scope.specs.Line.{Part, Bracket}
 use Rattle.scope.specs.Lists.{all, flat}
 use Rattle.scope.specs.Refusals.{dueAt, wideCount, wideMass, wideScore}
 use Rattle.scope.specs.Tables.{barePart, bareBracket}
-use Rattle.basics.specs.Each.{Each, each-append, each-front, each-back}
+use Rattle.basics.specs.Each.{Each, each-append, each-front, each-back, each-through}
 use Rattle.basics.specs.Lists.{nil-front, nil-back, not-due, flat-append-length}
 use Rattle.basics.specs.Choice.{branch-on, pick-true, pick-false}
 use Rattle.basics.specs.Tests.{and-left, and-right, both, or-right}
 use Rattle.canonical_laws.specs.Decimal.{Writes, decimal-writes, decimal-short}
-use Rattle.canonical_laws.specs.Endings.{Brackets, On}
+use Rattle.canonical_laws.specs.Endings.{Brackets, On, Ends}
 use Rattle.canonical_laws.specs.PlainParts.{plain-good, plain-text, plain-means, plain-short}
+use Rattle.canonical_laws.specs.Short.{shortBracket}
 use Rattle.canonical_laws.specs.Plainly.{plainInside, plainInsides, plainCount, plainMarked, plainRuns}
-use Rattle.canonical_laws.specs.Refusals.{Once, Alike}
+use Rattle.canonical_laws.specs.Refusals.{Alike}
 
 -- no count, mass or score of the bracket is out of range
 abbrev pub Fits : Bracket ℕ → Type 0
@@ -72,8 +73,9 @@ module _ {g : Bool} {t p o : List ℕ} {ks : Brackets} {qs : ℕ → Brackets} (
   spelt-closed = record { fine = x .fine; says = ap (λ l. l ++ (b ∷ [])) (x .says); same = x .same; short = shorter p o (b ∷ []) (b ∷ []) (x .short) (omega arith) }
 
 -- with its text and its brackets put otherwise
-pub spelt-as : {g : Bool} {t u p o : List ℕ} {ks : Brackets} {qs rs : ℕ → Brackets} → Spelt g t p o ks qs → u ≡ t → ((j : ℕ) → qs j ≡ rs j) → Spelt g u p o ks rs
-spelt-as {ks = ks} x e f = record { fine = x .fine; says = e ∙ x .says; same = λ j. subst (λ (z : Brackets). Alike ks z) (f j) (x .same j); short = x .short }
+pub spelt-as : {g : Bool} {t u p o : List ℕ} {ks ls : Brackets} {qs rs : ℕ → Brackets} → Spelt g t p o ks qs → u ≡ t → ls ≡ ks → ((j : ℕ) → qs j ≡ rs j) → Spelt g u p o ls rs
+spelt-as {ks = ks} {rs = rs} x e d f =
+    record { fine = x .fine; says = e ∙ x .says; same = λ j. subst (λ (z : Brackets). Alike z (rs j)) (sym d) (subst (λ (z : Brackets). Alike ks z) (f j) (x .same j)); short = x .short }
 
 -- ---- brackets one behind another
 -- how brackets of one sort are printed, what each means at a place, which are good, how each is spelt plainly, and what the canonical line writes of what it means
@@ -91,20 +93,20 @@ Plain w k x = Spelt (w .good (w .plain x)) (w .text k) (w .prints (w .plain x)) 
 abbrev pub Plains : {X : Type 0} → Sort X → Brackets → List X → Type 0
 Plains w ks xs = Spelt (all (w .good) (map (w .plain) xs)) (flat (w .text) ks) (flat (w .prints) (map (w .plain) xs)) (flat (w .prints) xs) ks (λ j. along (w .prints) (w .means) j (map (w .plain) xs))
 
-module _ {X : Type 0} (w : Sort X) (one : (i : ℕ) (x : X) → w .good x ≡ true → Fits (w .means i x) → Plain w (w .means i x) x) where
+module _ {X : Type 0} (w : Sort X) (one : (i : ℕ) (x : X) → w .good x ≡ true → Fits (w .means i x) → Plain w (shortBracket (w .means i x)) x) where
   none-plain : Plains w [] []
   unfolding all flat along
   none-plain = spelt-none
 
   -- with others behind them
   plain-then : (i : ℕ) (xs : List X) → all (w .good) xs ≡ true → Each Fits (along (w .prints) (w .means) i xs) → (ks : Brackets) (ys : List X) → Plains w ks ys
-      → Plains w (along (w .prints) (w .means) i xs ++ ks) (xs ++ ys)
+      → Plains w (map shortBracket (along (w .prints) (w .means) i xs) ++ ks) (xs ++ ys)
   unfolding all flat along
   plain-then i [] f n ks ys b = b
   plain-then i (x ∷ xs) f n ks ys b =
       spelt-append (λ j. j + length (w .prints (w .plain x))) (one i x (and-left (w .good x) _ f) (n .0)) (plain-then (i + length (w .prints x)) xs (and-right (w .good x) _ f) (n .1) ks ys b)
 
-  all-plain : (i : ℕ) (xs : List X) → all (w .good) xs ≡ true → Each Fits (along (w .prints) (w .means) i xs) → Plains w (along (w .prints) (w .means) i xs) xs
+  all-plain : (i : ℕ) (xs : List X) → all (w .good) xs ≡ true → Each Fits (along (w .prints) (w .means) i xs) → Plains w (map shortBracket (along (w .prints) (w .means) i xs)) xs
   all-plain i xs f n = simp append-nil at (plain-then i xs f n [] [] none-plain)
 
 pub each-along : {A B : Type 0} (Q : B → Type 0) (prints : A → List ℕ) (f : ℕ → A → B) → ((i : ℕ) (x : A) → Q (f i x)) → (i : ℕ) (l : List A) → Each Q (along prints f i l)
@@ -133,22 +135,31 @@ abbrev withParts : Kind → ℕ → ℕ → ℕ → List (Part (Unit {0})) → B
 withParts c first last n ps = record { kind = c; first = first; last = last; count = n; counted = none; parts = ps; at = tt }
 
 boxed : (begin shut : ℕ) (r labels : Bool) (c : Kind) (a b i : ℕ) (x : Inside) → goodInside r labels x ≡ true → Fits (bracketAt c a b i x)
-    → Plain (boxes begin shut r labels c a b) (bracketAt c a b i x) x
+    → Plain (boxes begin shut r labels c a b) (shortBracket (bracketAt c a b i x)) x
 boxed begin shut r labels c a b i x f n =
     record {
       fine = plain-good r labels x f (i + 1) n;
       says = ap (λ z. begin ∷ (z ++ (shut ∷ []))) (plain-text r labels x f (i + 1) n);
-      same = λ j. (record { bare = ap (withParts c a b 1) (sym (plain-means r labels x f (i + 1) n (j + 1))); marks = λ e. refl; once = λ e. refl }, tt);
+      same = λ j. (record { bare = ap (withParts c a b 1) (sym (plain-means r labels x f (i + 1) n (j + 1))); uncounted = λ e. refl }, tt);
       short = simp length-append (omega (arith, plain-short r labels x f (i + 1) n));
     }
+
+-- a bracket with its compositions short stands where it stood
+pub on-short : (c : Kind) (p : ℕ) (ks : Brackets) → Each (On c p) ks → Each (On c p) (map shortBracket ks)
+on-short c p ks w = each-through (On c p) (On c p) shortBracket (λ k h. h) ks w
+
+pub ends-short : (a b : ℕ) (ks : Brackets) → Each (Ends a b) ks → Each (Ends a b) (map shortBracket ks)
+ends-short a b ks w = each-through (Ends a b) (Ends a b) shortBracket (λ k h. h) ks w
 
 pub boxes-on : (prints : Inside → List ℕ) (c : Kind) (first last i : ℕ) (xs : List Inside) → Each (On c last) (along prints (bracketAt c first last) i xs)
 boxes-on prints c first last i xs = each-along (On c last) prints (bracketAt c first last) (λ j x. (refl, refl)) i xs
 
-pub squares-plain : (r : Bool) (c : Kind) (a b i : ℕ) (xs : List Inside) → goodSquares r xs ≡ true → Each Fits (meansSquares c a b i xs) → Plains (squares r c a b) (meansSquares c a b i xs) xs
+pub squares-plain : (r : Bool) (c : Kind) (a b i : ℕ) (xs : List Inside) → goodSquares r xs ≡ true → Each Fits (meansSquares c a b i xs)
+    → Plains (squares r c a b) (map shortBracket (meansSquares c a b i xs)) xs
 squares-plain r c a b i xs = all-plain (squares r c a b) (boxed openSquare shutSquare r true c a b) i xs
 
-pub curlies-plain : (i : ℕ) (xs : List Inside) → goodCurlies xs ≡ true → Each Fits (along printCurly (bracketAt Labile 0 0) i xs) → Plains curlies (along printCurly (bracketAt Labile 0 0) i xs) xs
+pub curlies-plain : (i : ℕ) (xs : List Inside) → goodCurlies xs ≡ true → Each Fits (along printCurly (bracketAt Labile 0 0) i xs)
+    → Plains curlies (map shortBracket (along printCurly (bracketAt Labile 0 0) i xs)) xs
 curlies-plain i xs = all-plain curlies (boxed openCurly shutCurly false false Labile 0 0) i xs
 
 -- ---- at the termini
@@ -158,13 +169,13 @@ Terminal ends prints means ks xs =
 
 module _ (c : Kind) (q : ℕ) where
   pub front-plain : (i : ℕ) (xs : List Inside) → goodSquares true xs ≡ true → Each Fits (meansSquares c q q i xs)
-      → Terminal (λ l. closedBy l dash) printFront (meansSquares c q q) (meansSquares c q q i xs) xs
+      → Terminal (λ l. closedBy l dash) printFront (meansSquares c q q) (map shortBracket (meansSquares c q q i xs)) xs
   unfolding all flat along
   front-plain i [] f n = spelt-none
   front-plain i (x ∷ xs) f n = spelt-closed dash (squares-plain true c q q i (x ∷ xs) f n)
 
   pub back-plain : (i : ℕ) (xs : List Inside) → goodSquares true xs ≡ true → Each Fits (meansSquares c q q i xs)
-      → Terminal (ledBy dash) printBack (λ j. meansSquares c q q (j + 1)) (meansSquares c q q i xs) xs
+      → Terminal (ledBy dash) printBack (λ j. meansSquares c q q (j + 1)) (map shortBracket (meansSquares c q q i xs)) xs
   unfolding all flat along
   back-plain i [] f n = spelt-none
   back-plain i (x ∷ xs) f n = spelt-led dash (squares-plain true c q q i (x ∷ xs) f n)
@@ -183,7 +194,8 @@ module _ (i j : ℕ) (x : Inside) where
 
   abbrev Counted : Option (List ℕ) → Option (List ℕ) → Type 0
   Counted o p =
-      Spelt (goodMarked (withCount (plainInside x) p)) (unknownText (unknownAt o)) (printMarked (withCount (plainInside x) p)) (printMarked (withCount x o)) (unknownAt o ∷ [])
+      Spelt (goodMarked (withCount (plainInside x) p)) (unknownText (shortBracket (unknownAt o))) (printMarked (withCount (plainInside x) p)) (printMarked (withCount x o))
+      (shortBracket (unknownAt o) ∷ [])
       (λ h. meansMarked h (withCount (plainInside x) p) ∷ [])
 
   counted-plain : (o : Option (List ℕ)) → goodMarked (withCount x o) ≡ true → Fits (unknownAt o) → Counted o (plainCount o)
@@ -199,21 +211,18 @@ module _ (i j : ℕ) (x : Inside) where
       written : Writes v (decimal v)
       written = decimal-writes v (omega (arith, ltb-false countLimit v (or-right (eqb v 0) _ (not-due _ (j + 1) (nil-front due _ n)))))
 
-      box : Plain (squares false Unknown 0 0) (unknownAt none) x
+      box : Plain (squares false Unknown 0 0) (shortBracket (unknownAt none)) x
       box = boxed openSquare shutSquare false true Unknown 0 0 i x (and-left (goodInside false true x) _ f) (nil-back due _ n)
 
-      bare : (h m : ℕ) → v ≡ m → bareBracket (unknownAt (some ds)) ≡ withParts Unknown 0 0 m (map barePart (meansInside (h + 1) (plainInside x)))
+      bare : (h m : ℕ) → v ≡ m → bareBracket (shortBracket (unknownAt (some ds))) ≡ withParts Unknown 0 0 m (map barePart (meansInside (h + 1) (plainInside x)))
       bare h m e = ap₂ (withParts Unknown 0 0) e (ap (λ (z : Bracket (Unit {0})). z .parts) (box .same h .0 .bare))
-
-      noted : Once (unknownAt (some ds))
-      noted u = absurd (Option·none-ne-some (j + 1) (sym u))
 
       once : eqb v 1 ≡ true → Counted (some ds) none
       once e =
           record {
             fine = both _ true (box .fine) refl;
             says = ap₂ _++_ (box .says) (pick-true (eqb v 1) _ _ e);
-            same = λ h. (record { bare = bare h 1 (eqb-true v 1 e); marks = λ u. refl; once = noted }, tt);
+            same = λ h. (record { bare = bare h 1 (eqb-true v 1 e); uncounted = λ u. refl }, tt);
             short = shorter (printSquare (plainInside x)) (printSquare x) [] (caret ∷ ds) (box .short) (omega arith);
           }
 
@@ -222,11 +231,11 @@ module _ (i j : ℕ) (x : Inside) where
           record {
             fine = both _ _ (box .fine) (written .digits);
             says = ap₂ _++_ (box .says) (pick-false (eqb v 1) _ _ e);
-            same = λ h. (record { bare = bare h _ (sym (written .back)); marks = λ u. absurd (eqb-false v 1 e (sym (written .back) ∙ u)); once = noted }, tt);
+            same = λ h. (record { bare = bare h _ (sym (written .back)); uncounted = λ u. absurd (Option·none-ne-some (j + 1) (sym u)) }, tt);
             short = shorter (printSquare (plainInside x)) (printSquare x) (caret ∷ decimal v) (caret ∷ ds) (box .short) (omega (arith, decimal-short ds (and-right (goodInside false true x) _ f)));
           }
 
-marked-plain : (i : ℕ) (m : Marked) → goodMarked m ≡ true → Fits (meansMarked i m) → Plain marked (meansMarked i m) m
+marked-plain : (i : ℕ) (m : Marked) → goodMarked m ≡ true → Fits (meansMarked i m) → Plain marked (shortBracket (meansMarked i m)) m
 marked-plain i m f n = counted-plain i (i + length (printSquare (m .inside))) (m .inside) (m .count) f n
 
 -- ---- "the splitting of unknown runs" is not kept
@@ -241,12 +250,14 @@ runs-on i (r ∷ rs) =
     each-append (On Unknown 0) (meansRun i r) _ (each-along (On Unknown 0) printMarked meansMarked (λ j m. counting-on _ (m .count) _ (refl, refl)) i (marks r))
     (runs-on (i + length (printRun r)) rs)
 
-marks-plain : (i : ℕ) (rs : List Run) → all goodRun rs ≡ true → Each Fits (eachAlong printRun meansRun i rs) → Plains marked (eachAlong printRun meansRun i rs) (flat marks rs)
+marks-plain : (i : ℕ) (rs : List Run) → all goodRun rs ≡ true → Each Fits (eachAlong printRun meansRun i rs)
+    → Plains marked (map shortBracket (eachAlong printRun meansRun i rs)) (flat marks rs)
 unfolding all flat eachAlong
 marks-plain i [] f n = none-plain marked marked-plain
 marks-plain i (r ∷ rs) f n =
-    plain-then marked marked-plain i (marks r) (and-left (goodRun r) _ f) (each-front Fits (meansRun i r) _ n) _ (flat marks rs)
-    (marks-plain (i + length (printRun r)) rs (and-right (goodRun r) _ f) (each-back Fits (meansRun i r) _ n))
+    rw (map-append shortBracket (meansRun i r) (eachAlong printRun meansRun (i + length (printRun r)) rs))
+    (plain-then marked marked-plain i (marks r) (and-left (goodRun r) _ f) (each-front Fits (meansRun i r) _ n) _ (flat marks rs)
+    (marks-plain (i + length (printRun r)) rs (and-right (goodRun r) _ f) (each-back Fits (meansRun i r) _ n)))
 
 run-lengths : (rs : List Run) → length (flat printRun rs) ≡ length (flat printMarked (flat marks rs)) + length rs
 unfolding flat
@@ -256,8 +267,8 @@ run-lengths (r ∷ rs) =
     omega (arith, one, length-append (printRun r) (flat printRun rs), flat-append-length printMarked (marks r) (flat marks rs), run-lengths rs)
 
 pub runs-plain : (i : ℕ) (rs : List Run) → all goodRun rs ≡ true → Each Fits (eachAlong printRun meansRun i rs)
-    → Spelt (all goodRun (plainRuns rs)) (closedBy (flat unknownText (eachAlong printRun meansRun i rs)) question) (flat printRun (plainRuns rs)) (flat printRun rs)
-    (eachAlong printRun meansRun i rs) (λ j. eachAlong printRun meansRun j (plainRuns rs))
+    → Spelt (all goodRun (plainRuns rs)) (closedBy (flat unknownText (map shortBracket (eachAlong printRun meansRun i rs))) question) (flat printRun (plainRuns rs))
+    (flat printRun rs) (map shortBracket (eachAlong printRun meansRun i rs)) (λ j. eachAlong printRun meansRun j (plainRuns rs))
 unfolding all flat eachAlong
 runs-plain i [] f n = spelt-none
 runs-plain i (r ∷ rs) f n =

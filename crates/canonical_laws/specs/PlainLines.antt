@@ -1,14 +1,15 @@
--- A line in its plain spelling: it is good, it prints the canonical line, it means a line that is alike but for places and for whether a count of 1 is written, and it
--- is no longer.
+-- A line in its plain spelling: it is good, it prints the canonical line of what is kept, it means a line that is alike but for places, for whether a count of 1 is
+-- written and for compositions, which are short, and it is no longer.
 use Prim.Native.Nat.{ℕ, _+_, _≤_}
 use native.Mathlib.Omega.{arith}
-use mathlib.Core.Path.{_≡_, sym, subst}
+use mathlib.Core.Path.{_≡_, sym, ap, _∙_, subst}
 use mathlib.Core.Bool.{true}
-use mathlib.Core.List.{[], _++_, map}
+use mathlib.Core.List.{[], _++_, map, map-append}
 use lib.ListN.{length}
-use Rattle.scope.specs.declared.grammar.Kind.the-variants.{Labile, NTerm, CTerm}
-use Rattle.scope.specs.Canonical.{canonical}
+use Rattle.scope.specs.declared.grammar.Kind.the-variants.{Unknown, Labile, NTerm, CTerm}
+use Rattle.scope.specs.Canonical.{chainText, canonical}
 use Rattle.scope.specs.Grammar.{printSquare, printCurly, along, eachAlong, goodSquares, goodCurlies, bracketAt, meansSquares, goodRun, printRun, meansRun, printElement, goodElement, bracketsAlong, Spelling, elements, printFront, print, good, atLabiles, atFront, atSequence, atBack, residuesOf, backOf, meansAt, means}
+use Rattle.scope.specs.Kept.{kept}
 use Rattle.scope.specs.Lists.{all, flat}
 use Rattle.scope.specs.Refusals.{refusal7, wideCount, wideMass, wideScore}
 use Rattle.scope.specs.Tables.{bareResidue}
@@ -16,8 +17,9 @@ use Rattle.basics.specs.Each.{Each, each-front, each-back}
 use Rattle.basics.specs.Lists.{flat-none}
 use Rattle.basics.specs.Tests.{and-left, and-right}
 use Rattle.canonical_laws.specs.Endings.{Brackets, On, piecesText, chain-pieces}
-use Rattle.canonical_laws.specs.PlainBrackets.{Fits, Spelt, spelt-append, spelt-as, boxes-on, curlies-plain, runs-on, runs-plain, front-plain, back-plain}
+use Rattle.canonical_laws.specs.PlainBrackets.{Fits, Spelt, spelt-append, spelt-as, on-short, ends-short, boxes-on, curlies-plain, runs-on, runs-plain, front-plain, back-plain}
 use Rattle.canonical_laws.specs.PlainSequence.{sequence-residues, sequence-ends, sequence-plain}
+use Rattle.canonical_laws.specs.Short.{shortBracket, shortLine, canonical-short}
 use Rattle.canonical_laws.specs.Plainly.{plainInsides, plainly}
 use Rattle.canonical_laws.specs.Refusals.{same-length, Alike}
 
@@ -45,16 +47,26 @@ module _ (t : Spelling) (fine : good t ≡ true) (narrow : refusal7 (means t) �
   unfolding refusal7
   fits = flat-none (λ k. wideCount k ++ flat (λ p. wideMass (p .value) ++ wideScore p) (k .parts)) (means t .brackets) narrow
 
-  pieces : canonical (means t) ≡ piecesText 0 (residuesOf 0 t) us ls ns ss (backOf 0 t)
+  -- with compositions short
+  split : map shortBracket (means t .brackets) ≡ map shortBracket us ++ (map shortBracket ls ++ (map shortBracket ns ++ (map shortBracket ss ++ map shortBracket (backOf 0 t))))
+  split = simp map-append
+
+  pieces :
+      canonical (shortLine (means t))
+      ≡ piecesText 0 (residuesOf 0 t) (map shortBracket us) (map shortBracket ls) (map shortBracket ns) (map shortBracket ss) (map shortBracket (backOf 0 t))
   unfolding canonical
   pieces =
       let rs = residuesOf 0 t in
       let at : last ≡ 0 + 1 + length rs = omega arith in
-      chain-pieces 0 rs us ls ns ss (backOf 0 t) (runs-on 0 (t .runs)) (boxes-on printCurly Labile 0 0 (atLabiles 0 t) (t .labiles))
-      (boxes-on printSquare NTerm 0 0 (atFront 0 t) (t .front)) (sequence-ends 1 (0 + length rs) 0 (atSequence 0 t) (elements t) (omega arith) (omega arith))
-      (subst (λ q. Each (On CTerm q) (backOf 0 t)) at (boxes-on printSquare CTerm last last (atBack 0 t + 1) (t .back)))
+      ap (λ ks. chainText ks 0 rs) split
+      ∙ chain-pieces 0 rs (map shortBracket us) (map shortBracket ls) (map shortBracket ns) (map shortBracket ss) (map shortBracket (backOf 0 t))
+      (on-short Unknown 0 us (runs-on 0 (t .runs))) (on-short Labile 0 ls (boxes-on printCurly Labile 0 0 (atLabiles 0 t) (t .labiles)))
+      (on-short NTerm 0 ns (boxes-on printSquare NTerm 0 0 (atFront 0 t) (t .front)))
+      (ends-short 1 (0 + length rs) ss (sequence-ends 1 (0 + length rs) 0 (atSequence 0 t) (elements t) (omega arith) (omega arith)))
+      (subst (λ q. Each (On CTerm q) (map shortBracket (backOf 0 t))) at (on-short CTerm last (backOf 0 t) (boxes-on printSquare CTerm last last (atBack 0 t + 1) (t .back))))
 
-  whole : Spelt (good (plainly t)) (canonical (means t)) (print (plainly t)) (print t) (means t .brackets) (λ j. meansAt j (plainly t) .brackets)
+  whole :
+      Spelt (good (plainly t)) (canonical (shortLine (means t))) (print (plainly t)) (print t) (map shortBracket (means t .brackets)) (λ j. meansAt j (plainly t) .brackets)
   whole =
       let good₁ = and-right (all goodRun (t .runs)) _ fine in
       let good₂ = and-right (goodCurlies (t .labiles)) _ good₁ in
@@ -68,18 +80,18 @@ module _ (t : Spelling) (fine : good t ≡ true) (narrow : refusal7 (means t) �
       (spelt-append (λ j. j + length (printFront (plainInsides (t .front)))) (front-plain NTerm 0 (atFront 0 t) (t .front) (and-left _ _ good₂) (each-front Fits ns _ fits₂))
       (spelt-append (λ j. j + length (flat printElement (elements (plainly t)))) (sequence-plain 0 (atSequence 0 t) (elements t) (and-left _ _ good₃) (each-front Fits ss _ fits₃))
       (back-plain CTerm last (atBack 0 t + 1) (t .back) (and-right (all goodElement (elements t)) _ good₃) (each-back Fits ss (backOf 0 t) fits₃))))))
-      pieces (λ j. rw (same-length bareResidue (residuesOf j (plainly t)) (residuesOf 0 t) (residues-at j)))
+      pieces split (λ j. rw (same-length bareResidue (residuesOf j (plainly t)) (residuesOf 0 t) (residues-at j)))
 
   pub plainly-good : good (plainly t) ≡ true
   plainly-good = whole .fine
 
-  pub plainly-prints : print (plainly t) ≡ canonical (means t)
-  plainly-prints = sym (whole .says)
+  pub plainly-prints : print (plainly t) ≡ canonical (kept (means t))
+  plainly-prints = sym (whole .says) ∙ canonical-short (means t)
 
   pub plainly-residues : map bareResidue (means (plainly t) .residues) ≡ map bareResidue (means t .residues)
   plainly-residues = residues-at 0
 
-  pub plainly-alike : Alike (means t .brackets) (means (plainly t) .brackets)
+  pub plainly-alike : Alike (map shortBracket (means t .brackets)) (means (plainly t) .brackets)
   plainly-alike = whole .same 0
 
   pub plainly-short : length (print (plainly t)) ≤ length (print t)

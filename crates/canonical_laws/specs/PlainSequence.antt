@@ -24,7 +24,8 @@ use Rattle.basics.specs.Each.{Each, each-append, each-front, each-back}
 use Rattle.basics.specs.Lists.{flat-one, flat-one-length}
 use Rattle.basics.specs.Tests.{and-left, and-right, both, both-of, or-first}
 use Rattle.canonical_laws.specs.Endings.{Brackets, Ends, on-ends, ending-append, ending-on, ending-off, ownText, rangeText, front-off, back-off, text-on, text-last, sequence-append}
-use Rattle.canonical_laws.specs.PlainBrackets.{Fits, Spelt, spelt-none, spelt-append, spelt-led, spelt-closed, spelt-as, Plains, squares, boxes-on, squares-plain}
+use Rattle.canonical_laws.specs.PlainBrackets.{on-short, ends-short, Fits, Spelt, spelt-none, spelt-append, spelt-led, spelt-closed, spelt-as, Plains, squares, boxes-on, squares-plain}
+use Rattle.canonical_laws.specs.Short.{shortBracket}
 use Rattle.canonical_laws.specs.Plainly.{plainInsides, plainSpot, plainElement}
 use Rattle.canonical_laws.specs.Refusals.{same-length}
 
@@ -69,24 +70,38 @@ sequence-residues i j [] = refl
 sequence-residues i j (e ∷ es) = simp map-append (ap₂ _++_ (element-residues i j e) (sequence-residues (i + length (printElement e)) (j + length (printElement (plainElement e))) es))
 
 -- ---- where the brackets end
-squares-here : (c : Kind) (p : ℕ) (d : Kind) (first last i : ℕ) (xs : List Inside) → endingAt c p (meansSquares d first last i xs) ≡ cond (isKind c d && eqb last p) (meansSquares d first last i xs) []
-squares-here c p d first last i xs = ending-on c p d last (meansSquares d first last i xs) (boxes-on printSquare d first last i xs)
+squares-here : (c : Kind) (p : ℕ) (d : Kind) (first last i : ℕ) (xs : List Inside)
+    → endingAt c p (map shortBracket (meansSquares d first last i xs)) ≡ cond (isKind c d && eqb last p) (map shortBracket (meansSquares d first last i xs)) []
+squares-here c p d first last i xs = ending-on c p d last (map shortBracket (meansSquares d first last i xs)) (on-short d last (meansSquares d first last i xs) (boxes-on printSquare d first last i xs))
 
 squares-end : (a b : ℕ) (c : Kind) (first last i : ℕ) (xs : List Inside) → a ≤ last → last ≤ b → Each (Ends a b) (meansSquares c first last i xs)
 squares-end a b c first last i xs h k = on-ends c last a b h k (meansSquares c first last i xs) (boxes-on printSquare c first last i xs)
 
--- the brackets of a residue, and of those behind it
+-- the brackets of a residue, and of those behind it; the same with compositions short
+abbrev ownAt : ℕ → ℕ → Spot → Brackets
+ownAt n i s = meansSquares OnResidue n n (i + 1) (s .brackets)
+
+abbrev restAt : ℕ → ℕ → Spot → List Spot → Brackets
+restAt n i s ss = bracketsOn (n + 1) (i + length (printSpot s)) ss
+
 abbrev own : ℕ → ℕ → Spot → Brackets
-own n i s = meansSquares OnResidue n n (i + 1) (s .brackets)
+own n i s = map shortBracket (ownAt n i s)
 
 abbrev rest : ℕ → ℕ → Spot → List Spot → Brackets
-rest n i s ss = bracketsOn (n + 1) (i + length (printSpot s)) ss
+rest n i s ss = map shortBracket (restAt n i s ss)
+
+abbrev spotted : ℕ → ℕ → List Spot → Brackets
+spotted n i ss = map shortBracket (bracketsOn n i ss)
+
+spotted-cons : (n i : ℕ) (s : Spot) (ss : List Spot) → spotted n i (s ∷ ss) ≡ own n i s ++ rest n i s ss
+unfolding bracketsOn
+spotted-cons n i s ss = map-append shortBracket (ownAt n i s) (restAt n i s ss)
 
 spots-end : (a b n i : ℕ) (ss : List Spot) → a ≤ n → n + length ss ≤ b + 1 → Each (Ends a b) (bracketsOn n i ss)
 unfolding bracketsOn
 spots-end a b n i [] h k = tt
 spots-end a b n i (s ∷ ss) h k =
-    each-append (Ends a b) (own n i s) (rest n i s ss) (squares-end a b OnResidue n n (i + 1) (s .brackets) h (omega arith))
+    each-append (Ends a b) (ownAt n i s) (restAt n i s ss) (squares-end a b OnResidue n n (i + 1) (s .brackets) h (omega arith))
     (spots-end a b (n + 1) (i + length (printSpot s)) ss (omega arith) (omega arith))
 
 element-ends : (a b n i : ℕ) (e : Element) → a ≤ n + 1 → n + length (residuesIn i e) ≤ b → Each (Ends a b) (bracketsIn n i e)
@@ -108,9 +123,9 @@ sequence-ends a b n i (e ∷ es) h k =
     (sequence-ends a b (n + length (residuesIn i e)) (i + length (printElement e)) es (omega arith) (omega arith))
 
 -- ---- residues with their brackets
-fits-spot : (n i : ℕ) (s : Spot) (ss : List Spot) → Each Fits (bracketsOn n i (s ∷ ss)) → Each Fits (own n i s) × Each Fits (rest n i s ss)
+fits-spot : (n i : ℕ) (s : Spot) (ss : List Spot) → Each Fits (bracketsOn n i (s ∷ ss)) → Each Fits (ownAt n i s) × Each Fits (restAt n i s ss)
 unfolding bracketsOn
-fits-spot n i s ss w = (each-front Fits (own n i s) (rest n i s ss) w, each-back Fits (own n i s) (rest n i s ss) w)
+fits-spot n i s ss w = (each-front Fits (ownAt n i s) (restAt n i s ss) w, each-back Fits (ownAt n i s) (restAt n i s ss) w)
 
 own-plain : (n i : ℕ) (s : Spot) (ss : List Spot) → goodSpot s ≡ true → Each Fits (bracketsOn n i (s ∷ ss)) → Plains (squares true OnResidue n n) (own n i s) (s .brackets)
 own-plain n i s ss f w = squares-plain true OnResidue n n (i + 1) (s .brackets) (and-right (isLetter (s .letter)) _ f) (fits-spot n i s ss w .0)
@@ -118,7 +133,7 @@ own-plain n i s ss f w = squares-plain true OnResidue n n (i + 1) (s .brackets) 
 -- apart from the text of the group in which they stand
 abbrev Spots : ℕ → ℕ → List Spot → Type 0
 Spots n i ss =
-    Spelt (all goodSpot (map plainSpot ss)) (flat printSpot (map plainSpot ss)) (flat printSpot (map plainSpot ss)) (flat printSpot ss) (bracketsOn n i ss)
+    Spelt (all goodSpot (map plainSpot ss)) (flat printSpot (map plainSpot ss)) (flat printSpot (map plainSpot ss)) (flat printSpot ss) (spotted n i ss)
     (λ j. bracketsOn n j (map plainSpot ss))
 
 spots-plain : (n i : ℕ) (ss : List Spot) → all goodSpot ss ≡ true → Each Fits (bracketsOn n i ss) → Spots n i ss
@@ -127,53 +142,54 @@ spots-plain n i [] f w = spelt-none
 spots-plain n i (s ∷ ss) f w =
     let good = and-left (goodSpot s) _ f in
     let ks = own-plain n i s ss good w in
-    let one : Spelt (goodSpot (plainSpot s)) (printSpot (plainSpot s)) (printSpot (plainSpot s)) (printSpot s) (own n i s) (λ j. own n j (plainSpot s)) =
+    let one : Spelt (goodSpot (plainSpot s)) (printSpot (plainSpot s)) (printSpot (plainSpot s)) (printSpot s) (own n i s) (λ j. ownAt n j (plainSpot s)) =
     record { fine = both _ _ (upper-letter (s .letter) (and-left _ _ good)) (ks .fine); says = refl; same = λ j. ks .same (j + 1); short = omega (arith, ks .short) } in
-    spelt-append (λ j. j + length (printSpot (plainSpot s))) one (spots-plain (n + 1) (i + length (printSpot s)) ss (and-right (goodSpot s) _ f) (fits-spot n i s ss w .1))
+    rw (spotted-cons n i s ss)
+    (spelt-append (λ j. j + length (printSpot (plainSpot s))) one (spots-plain (n + 1) (i + length (printSpot s)) ss (and-right (goodSpot s) _ f) (fits-spot n i s ss w .1)))
 
 -- ---- the text of a group
 -- what continues it neither opens nor ends it otherwise
 abbrev Group : Section → Section → Type 0
 Group first next = (isNext next ≡ true) × (opening next ≡ []) × (ending next ≡ ending first)
 
-not-ranges : (p n i : ℕ) (ss : List Spot) → endingAt OnRange p (bracketsOn n i ss) ≡ []
+not-ranges : (p n i : ℕ) (ss : List Spot) → endingAt OnRange p (spotted n i ss) ≡ []
 unfolding bracketsOn keep
 not-ranges p n i [] = refl
 not-ranges p n i (s ∷ ss) =
-    ending-append OnRange p (own n i s) (rest n i s ss) ∙ ap₂ _++_ (squares-here OnRange p OnResidue n n (i + 1) (s .brackets)) (not-ranges p (n + 1) (i + length (printSpot s)) ss)
+    ap (endingAt OnRange p) (spotted-cons n i s ss) ∙ ending-append OnRange p (own n i s) (rest n i s ss) ∙ ap₂ _++_ (squares-here OnRange p OnResidue n n (i + 1) (s .brackets)) (not-ranges p (n + 1) (i + length (printSpot s)) ss)
 
 -- of residues with their brackets, and brackets xs on a range that ends at b
 module _ (a b j : ℕ) (xs : List Inside) where
   abbrev onRange : Brackets
-  onRange = meansSquares OnRange a b j xs
+  onRange = map shortBracket (meansSquares OnRange a b j xs)
 
   own-text : (n i : ℕ) (s : Spot) (ss : List Spot) → goodSpot s ≡ true → Each Fits (bracketsOn n i (s ∷ ss))
-      → ownText (bracketsOn n i (s ∷ ss) ++ onRange) n ≡ printSquares (plainInsides (s .brackets))
-  unfolding bracketsOn
+      → ownText (spotted n i (s ∷ ss) ++ onRange) n ≡ printSquares (plainInsides (s .brackets))
   own-text n i s ss f w =
       let e = n + length ss in
       let here = squares-here OnResidue n OnResidue n n (i + 1) (s .brackets) ∙ pick-true (eqb n n) _ _ (eq-eqb n n refl) in
-      let behind = ending-off OnResidue n (n + 1) e (λ u v. omega arith) (rest n i s ss) (spots-end (n + 1) e (n + 1) _ ss (omega arith) (omega arith)) in
-      ap (flat squareText)
+      let behind = ending-off OnResidue n (n + 1) e (λ u v. omega arith) (rest n i s ss) (ends-short (n + 1) e (restAt n i s ss) (spots-end (n + 1) e (n + 1) _ ss (omega arith) (omega arith))) in
+      ap (λ ks. ownText (ks ++ onRange) n) (spotted-cons n i s ss)
+      ∙ ap (flat squareText)
       (ending-append OnResidue n (own n i s ++ rest n i s ss) onRange
       ∙ ap₂ _++_ (ending-append OnResidue n (own n i s) (rest n i s ss) ∙ ap₂ _++_ here behind) (squares-here OnResidue n OnRange a b j xs)
       ∙ simp append-nil)
       ∙ own-plain n i s ss f w .says
 
-  range-text : (n i : ℕ) (ss : List Spot) → n ≡ b → rangeText (bracketsOn n i ss ++ onRange) n ≡ flat squareText onRange
+  range-text : (n i : ℕ) (ss : List Spot) → n ≡ b → rangeText (spotted n i ss ++ onRange) n ≡ flat squareText onRange
   range-text n i ss e =
       let here = squares-here OnRange n OnRange a b j xs ∙ pick-true (eqb b n) _ _ (eq-eqb b n (sym e)) in
-      ap (flat squareText) (ending-append OnRange n (bracketsOn n i ss) onRange ∙ ap₂ _++_ (not-ranges n n i ss) here)
+      ap (flat squareText) (ending-append OnRange n (spotted n i ss) onRange ∙ ap₂ _++_ (not-ranges n n i ss) here)
 
-  rest-text : (n i : ℕ) (s : Spot) (ss : List Spot) (rs : List (Residue ℕ)) → sequenceText (bracketsOn n i (s ∷ ss) ++ onRange) (n + 1) rs ≡ sequenceText (rest n i s ss ++ onRange) (n + 1) rs
-  unfolding bracketsOn
+  rest-text : (n i : ℕ) (s : Spot) (ss : List Spot) (rs : List (Residue ℕ)) → sequenceText (spotted n i (s ∷ ss) ++ onRange) (n + 1) rs ≡ sequenceText (rest n i s ss ++ onRange) (n + 1) rs
   rest-text n i s ss rs =
-      ap (λ ks. sequenceText ks (n + 1) rs) (append-assoc (own n i s) _ onRange)
-      ∙ front-off (n + 1) rs _ n n (own n i s) (squares-end n n OnResidue n n (i + 1) (s .brackets) (omega arith) (omega arith)) (omega arith)
+      ap (λ ks. sequenceText (ks ++ onRange) (n + 1) rs) (spotted-cons n i s ss)
+      ∙ ap (λ ks. sequenceText ks (n + 1) rs) (append-assoc (own n i s) _ onRange)
+      ∙ front-off (n + 1) rs _ n n (own n i s) (ends-short n n (ownAt n i s) (squares-end n n OnResidue n n (i + 1) (s .brackets) (omega arith) (omega arith))) (omega arith)
 
   group-text : (first next : Section) (n i : ℕ) (s : Spot) (ss : List Spot) → (none? ss ≡ false → Group first next) → n + length ss ≡ b → all goodSpot (s ∷ ss) ≡ true
       → Each Fits (bracketsOn n i (s ∷ ss))
-      → sequenceText (bracketsOn n i (s ∷ ss) ++ onRange) n (residuesOn first next i s ss) ≡ opening first ++ (flat printSpot (map plainSpot (s ∷ ss)) ++ ending first (flat squareText onRange))
+      → sequenceText (spotted n i (s ∷ ss) ++ onRange) n (residuesOn first next i s ss) ≡ opening first ++ (flat printSpot (map plainSpot (s ∷ ss)) ++ ending first (flat squareText onRange))
   unfolding all flat along
   group-text first next n i s [] g e f w =
       text-last _ n (residueOf first i s)
@@ -192,7 +208,8 @@ module _ (a b j : ℕ) (xs : List Inside) where
 -- ---- one element, behind n residues
 abbrev OneElement : ℕ → ℕ → Element → Type 0
 OneElement n i e =
-    Spelt (goodElement (plainElement e)) (sequenceText (bracketsIn n i e) (n + 1) (residuesIn i e)) (printElement (plainElement e)) (printElement e) (bracketsIn n i e)
+    Spelt (goodElement (plainElement e)) (sequenceText (map shortBracket (bracketsIn n i e)) (n + 1) (residuesIn i e)) (printElement (plainElement e)) (printElement e)
+    (map shortBracket (bracketsIn n i e))
     (λ j. bracketsIn n j (plainElement e))
 
 element-plain : (n i : ℕ) (e : Element) → goodElement e ≡ true → Each Fits (bracketsIn n i e) → OneElement n i e
@@ -213,13 +230,16 @@ element-plain n i (range s ss x xs) f w =
     let fits = each-front Fits (bracketsOn (n + 1) (i + 1) (s ∷ ss)) _ w in
     let spots = spots-plain (n + 1) (i + 1) (s ∷ ss) (good .0) fits in
     let on = squares-plain false OnRange (n + 1) last at (x ∷ xs) (good .1) (each-back Fits (bracketsOn (n + 1) (i + 1) (s ∷ ss)) _ w) in
+    let split = map-append shortBracket (bracketsOn (n + 1) (i + 1) (s ∷ ss)) (meansSquares OnRange (n + 1) last at (x ∷ xs)) in
     spelt-as (spelt-led openRound (spelt-append (λ k. k + length (flat printSpot (map plainSpot (s ∷ ss)))) spots (spelt-led shutRound on)))
-    (group-text (n + 1) last at (x ∷ xs) RangeFirst RangeNext (n + 1) (i + 1) s ss (λ u. (refl, refl, refl)) refl (good .0) fits) (λ j. rw (length-map ss plainSpot))
+    (ap (λ ks. sequenceText ks (n + 1) (residuesIn i (range s ss x xs))) split
+    ∙ group-text (n + 1) last at (x ∷ xs) RangeFirst RangeNext (n + 1) (i + 1) s ss (λ u. (refl, refl, refl)) refl (good .0) fits)
+    split (λ j. rw (length-map ss plainSpot))
 element-plain n i (unsure s ss) f w =
     spelt-as (spelt-led openRound (spelt-led question (spelt-closed shutRound (spots-plain (n + 1) (i + 1 + 1) (s ∷ ss) f w))))
     (ap (λ ks. sequenceText ks (n + 1) (residuesIn i (unsure s ss))) (sym (append-nil _))
     ∙ group-text (n + 1) (n + 1 + length ss) 0 [] UnsureFirst UnsureNext (n + 1) (i + 1 + 1) s ss (λ u. (refl, refl, refl)) refl f w)
-    (λ j. refl)
+    refl (λ j. refl)
 
 -- ---- the elements, one behind another
 begins : (i : ℕ) (es : List Element) → goesOn (eachAlong printElement residuesIn i es) ≡ false
@@ -230,30 +250,31 @@ begins i (range s ss x xs ∷ es) = refl
 begins i (unsure s ss ∷ es) = refl
 
 split-text : (n i : ℕ) (e : Element) (es : List Element)
-    → sequenceText (bracketsAlong n i (e ∷ es)) (n + 1) (eachAlong printElement residuesIn i (e ∷ es))
-    ≡ sequenceText (bracketsIn n i e) (n + 1) (residuesIn i e)
-    ++ sequenceText (bracketsAlong (n + length (residuesIn i e)) (i + length (printElement e)) es) (n + length (residuesIn i e) + 1)
+    → sequenceText (map shortBracket (bracketsAlong n i (e ∷ es))) (n + 1) (eachAlong printElement residuesIn i (e ∷ es))
+    ≡ sequenceText (map shortBracket (bracketsIn n i e)) (n + 1) (residuesIn i e)
+    ++ sequenceText (map shortBracket (bracketsAlong (n + length (residuesIn i e)) (i + length (printElement e)) es)) (n + length (residuesIn i e) + 1)
     (eachAlong printElement residuesIn (i + length (printElement e)) es)
 unfolding bracketsAlong eachAlong
 split-text n i e es =
     let rs = residuesIn i e in
     let m = n + length rs in
     let qs = eachAlong printElement residuesIn (i + length (printElement e)) es in
-    let front = bracketsIn n i e in
-    let behind = bracketsAlong m (i + length (printElement e)) es in
+    let front = map shortBracket (bracketsIn n i e) in
+    let behind = map shortBracket (bracketsAlong m (i + length (printElement e)) es) in
     let next : n + 1 + length rs ≡ m + 1 = omega arith in
-    sequence-append (front ++ behind) (n + 1) rs qs (begins _ es)
-    ∙ ap₂ _++_ (back-off (n + 1) rs front (m + 1) (m + length qs) behind (sequence-ends (m + 1) (m + length qs) m _ es (omega arith) (omega arith)) (omega arith))
-    (ap (λ p. sequenceText (front ++ behind) p qs) next ∙ front-off (m + 1) qs behind (n + 1) m front (element-ends (n + 1) m n i e (omega arith) (omega arith)) (omega arith))
+    ap (λ ks. sequenceText ks (n + 1) (rs ++ qs)) (map-append shortBracket (bracketsIn n i e) (bracketsAlong m (i + length (printElement e)) es))
+    ∙ sequence-append (front ++ behind) (n + 1) rs qs (begins _ es)
+    ∙ ap₂ _++_ (back-off (n + 1) rs front (m + 1) (m + length qs) behind (ends-short (m + 1) (m + length qs) (bracketsAlong m (i + length (printElement e)) es) (sequence-ends (m + 1) (m + length qs) m _ es (omega arith) (omega arith))) (omega arith))
+    (ap (λ p. sequenceText (front ++ behind) p qs) next ∙ front-off (m + 1) qs behind (n + 1) m front (ends-short (n + 1) m (bracketsIn n i e) (element-ends (n + 1) m n i e (omega arith) (omega arith))) (omega arith))
 
 pub sequence-plain : (n i : ℕ) (es : List Element) → all goodElement es ≡ true → Each Fits (bracketsAlong n i es)
-    → Spelt (all goodElement (map plainElement es)) (sequenceText (bracketsAlong n i es) (n + 1) (eachAlong printElement residuesIn i es)) (flat printElement (map plainElement es))
-    (flat printElement es) (bracketsAlong n i es) (λ j. bracketsAlong n j (map plainElement es))
+    → Spelt (all goodElement (map plainElement es)) (sequenceText (map shortBracket (bracketsAlong n i es)) (n + 1) (eachAlong printElement residuesIn i es)) (flat printElement (map plainElement es))
+    (flat printElement es) (map shortBracket (bracketsAlong n i es)) (λ j. bracketsAlong n j (map plainElement es))
 unfolding all flat bracketsAlong eachAlong sequenceText
 sequence-plain n i [] f w = spelt-none
 sequence-plain n i (e ∷ es) f w =
     let behind = bracketsAlong (n + length (residuesIn i e)) (i + length (printElement e)) es in
     let one = element-plain n i e (and-left (goodElement e) _ f) (each-front Fits (bracketsIn n i e) behind w) in
     let more = sequence-plain (n + length (residuesIn i e)) (i + length (printElement e)) es (and-right (goodElement e) _ f) (each-back Fits (bracketsIn n i e) behind w) in
-    spelt-as (spelt-append (λ j. j + length (printElement (plainElement e))) one more) (split-text n i e es)
+    spelt-as (spelt-append (λ j. j + length (printElement (plainElement e))) one more) (split-text n i e es) (map-append shortBracket (bracketsIn n i e) behind)
     (λ j. rw (same-length bareResidue (residuesIn j (plainElement e)) (residuesIn i e) (element-residues i j e)))

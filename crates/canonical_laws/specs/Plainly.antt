@@ -1,14 +1,17 @@
--- The plain spelling of what a spelling says: no leading zeros, no sign of zero, no `^1`, one run, keys and residues in the spelling of the tables. It prints the
--- canonical line.
+-- The plain spelling of what a spelling says: no leading zeros, no sign of zero, no `^1`, one run, keys, residues and compositions in the spelling of the tables. It
+-- prints the canonical line.
 use Prim.Native.Nat.{ℕ}
 use mathlib.Core.Bool.{Bool, true, not, cond, _&&_}
 use mathlib.Core.Option.{Option, none, some}
 use mathlib.Core.List.{List, [], _∷_, _++_, map}
 use lib.Dec.{eqb}
+use Rattle.scope.specs.declared.grammar.Key.{Key}
+use Rattle.scope.specs.declared.grammar.Key.the-variants.{Glycan}
 use Rattle.scope.specs.Bytes.{upper}
 use Rattle.scope.specs.Canonical.{decimal}
-use Rattle.scope.specs.Grammar.{Numeral, fraction, valueOn, Word, Base, delta, code, wording, Score, isMinus, Tag, Piece, Inside, parts, refers, Marked, Run, marks, Spot, Element, single, range, unsure, Spelling}
-use Rattle.scope.specs.Keys.{spell}
+use Rattle.scope.specs.Glycans.{Item, cuttings, shortText}
+use Rattle.scope.specs.Grammar.{Numeral, fraction, valueOn, Text, over, byte, printText, Word, Base, delta, code, wording, Score, isMinus, Tag, Piece, Inside, parts, refers, Marked, Run, marks, Spot, Element, single, range, unsure, Spelling}
+use Rattle.scope.specs.Keys.{spell, keyCode}
 use Rattle.scope.specs.Lists.{flat}
 
 -- ---- numbers
@@ -27,10 +30,22 @@ plainMinus minus n = minus && not (eqb (digitsOf n) 0)
 abbrev pub plainWord : Word → Word
 plainWord w = record { key = w .key; spelled = spell (w .key) }
 
+-- "The list's spelling is written, a count of 1 dropped", where the text is cut
+abbrev pub asText : List ℕ → Text
+asText [] = over
+asText (b ∷ l) = byte b (asText l)
+
+abbrev pub shortAs : Text → List (List Item) → Text
+shortAs t [] = t
+shortAs t (xs ∷ more) = asText (shortText xs)
+
+abbrev pub plainText : Key → Text → Text
+plainText k t = cond (eqb (keyCode k) (keyCode Glycan)) (shortAs t (cuttings (printText t))) t
+
 abbrev pub plainBase : Base → Base
 plainBase (delta w minus n) = delta (plainWord w) (plainMinus minus n) (plainNumeral n)
 plainBase (code w t) = code (plainWord w) t
-plainBase (wording w t) = wording (plainWord w) t
+plainBase (wording w t) = wording (plainWord w) (plainText (w .key) t)
 
 -- "scores signed only when negative"
 abbrev pub plainScore : Option Score → Option Score

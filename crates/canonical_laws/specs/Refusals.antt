@@ -1,4 +1,4 @@
--- Refusals 5 to 12 are due for what is read from the canonical line only where they are due for the line itself.
+-- Refusals 5 to 12, and 19, are due for what is read from the canonical line only where they are due for the line itself.
 use Prim.Native.Nat.{ℕ, suc, _+_, _-_, _≤_}
 use mathlib.Core.Path.{_≡_, refl, sym, ap, _∙_, subst}
 use mathlib.Core.Bool.{Bool, true, false, not, cond, _&&_, _||_, true≢false, false≢true}
@@ -10,23 +10,23 @@ use lib.ListN.{length, drop, length-drop, length-map, drop-of-length-le}
 use Rattle.scope.specs.declared.grammar.Key.the-variants.{Info}
 use Rattle.scope.specs.Bytes.{isOpening}
 use Rattle.scope.specs.Limits.{residueLimit, bracketLimit, partLimit, textLimit, labelLimit, depthLimit, countLimit, copyLimit}
-use Rattle.scope.specs.Line.{Number, Label, Value, mass, text, reference, Part, Bracket, Line}
+use Rattle.scope.specs.Line.{Number, Label, Value, mass, text, reference, composition, Part, Bracket, Line}
 use Rattle.scope.specs.Keys.{written}
 use Rattle.scope.specs.Lists.{given, none?, all, flat, among, shared, optional}
-use Rattle.scope.specs.Content.{isReference}
 use Rattle.scope.specs.Reading.{refers?}
 use Rattle.scope.specs.Modifications.{isKey, onlyInfo, isReferring, nameOf, namesOf, isLabelled, copies, definedBy, referredBy, defined, referredTo}
-use Rattle.scope.specs.Refusals.{dueAt, depthAfter, tooDeep, textIn, textOf, deepPart, refusal5, longText, longLabel, overIn, refusal6, inRange, wide, wideMass, wideScore, wideCount, refusal7, isLink, notHere, refusal8, isNumberName, refusal9, refusal10, secondLabel, definedAgain, undefined, countedLabel, unreferred, wrongLabels, wronglyLabelled, refusal11, passing, refusal12}
+use Rattle.scope.specs.Refusals.{dueAt, depthAfter, tooDeep, textIn, textOf, deepPart, refusal5, longText, longLabel, overIn, refusal6, inRange, wide, wideMass, wideScore, wideCount, refusal7, isLink, notHere, refusal8, isNumberName, refusal9, refusal10, secondLabel, definedAgain, undefined, countedLabel, unreferred, wrongLabels, wronglyLabelled, refusal11, passing, refusal12, isUncut, refusal19}
 use Rattle.scope.specs.Kinds.{unknownOrLabile, isUnknown}
 use Rattle.scope.specs.Tables.{bareNumber, bareLabel, bareValue, barePart, bareBracket}
 use Rattle.basics.specs.Lists.{not-due, nil-front, nil-back}
 use Rattle.basics.specs.Tests.{or-left, or-right, neither}
+use Rattle.reading_laws.specs.Bare.{likewise-bare, same-info as info-of, same-refers as refers-of, same-names as names-of}
 
 -- ---- lists of places
-nil-both : {A : Type 0} (l m : List A) → l ≡ [] → m ≡ [] → l ++ m ≡ []
+pub nil-both : {A : Type 0} (l m : List A) → l ≡ [] → m ≡ [] → l ++ m ≡ []
 nil-both l m e f = rw e f
 
-false-due : (t : Bool) (i : ℕ) → t ≡ false → dueAt t i ≡ []
+pub false-due : (t : Bool) (i : ℕ) → t ≡ false → dueAt t i ≡ []
 false-due t i e = rw e
 
 -- the same test at another place
@@ -56,15 +56,10 @@ moves bare F g (x ∷ l) (y ∷ m) e h =
     let q : map bare l ≡ map bare m = cc in
     nil-both (F y) (flat F m) (g x y p (nil-front (F x) (flat F l) h)) (moves bare F g l m q (nil-back (F x) (flat F l) h))
 
--- ---- brackets alike but for whether a count of 1 is written
--- where no count is written it is 1
-abbrev pub Once : Bracket ℕ → Type 0
-Once k = k .counted ≡ none → k .count ≡ 1
-
+-- ---- brackets alike but for whether a count is written: where none was, none is
 pub record Same (k q : Bracket ℕ) : Type 0 where
   pub bare : bareBracket k ≡ bareBracket q
-  pub marks : q .count ≡ 1 → q .counted ≡ none
-  pub once : Once k
+  pub uncounted : k .counted ≡ none → q .counted ≡ none
 
 abbrev pub Alike : List (Bracket ℕ) → List (Bracket ℕ) → Type 0
 Alike [] [] = Unit {0}
@@ -99,6 +94,7 @@ text-bare p = go (p .value)
     go (mass n) = refl
     go (text t) = refl
     go reference = refl
+    go (composition t n) = refl
 
 same-text : (p q : Part ℕ) → barePart p ≡ barePart q → textOf p ≡ textOf q
 same-text p q e = sym (text-bare p) ∙ ap (λ (z : Part (Unit {0})). textOf z) e ∙ text-bare q
@@ -167,12 +163,19 @@ mass-moves : (v u : Value ℕ) → bareValue v ≡ bareValue u → wideMass v �
 mass-moves (mass n) (mass m) e h = wide-moves n m (let f : bareNumber n ≡ bareNumber m = cc in f) h
 mass-moves (mass n) (text t) e h = refl
 mass-moves (mass n) reference e h = refl
+mass-moves (mass n) (composition t m) e h = refl
 mass-moves (text t) (mass m) e h = absurd (let z : _≡_ {A = ℕ} 0 1 = cc in omega arith)
 mass-moves (text t) (text u) e h = refl
 mass-moves (text t) reference e h = refl
+mass-moves (text t) (composition u m) e h = refl
 mass-moves reference (mass m) e h = absurd (let z : _≡_ {A = ℕ} 0 1 = cc in omega arith)
 mass-moves reference (text t) e h = refl
 mass-moves reference reference e h = refl
+mass-moves reference (composition t m) e h = refl
+mass-moves (composition t n) (mass m) e h = absurd (let z : _≡_ {A = ℕ} 0 1 = cc in omega arith)
+mass-moves (composition t n) (text u) e h = refl
+mass-moves (composition t n) reference e h = refl
+mass-moves (composition t n) (composition u m) e h = refl
 
 wide-part : (p q : Part ℕ) → barePart p ≡ barePart q → wideMass (p .value) ++ wideScore p ≡ [] → wideMass (q .value) ++ wideScore q ≡ []
 wide-part p q e h =
@@ -189,7 +192,7 @@ count-moves k q w h = go (k .counted) (q .counted) refl refl h
 
     go : (o u : Option ℕ) → k .counted ≡ o → q .counted ≡ u → given o (dueAt (eqb (k .count) 0 || ltb countLimit (k .count))) [] ≡ [] → given u (dueAt (eqb (q .count) 0 || ltb countLimit (q .count))) [] ≡ []
     go o none e f h = refl
-    go none (some j) e f h = absurd (Option·none-ne-some j (sym (w .marks (sym same ∙ w .once e)) ∙ f))
+    go none (some j) e f h = absurd (Option·none-ne-some j (sym (w .uncounted e) ∙ f))
     go (some i) (some j) e f h = due-moves _ _ i j (ap (λ n. eqb n 0 || ltb countLimit n) same) h
 
 pub none-7 : (l m : Line ℕ) → Alike (l .brackets) (m .brackets) → refusal7 l ≡ [] → refusal7 m ≡ []
@@ -201,7 +204,7 @@ none-7 l m w h =
     (parts-move (λ p. wideMass (p .value) ++ wideScore p) wide-part k q s (nil-back (wideCount k) (flat (λ p. wideMass (p .value) ++ wideScore p) (k .parts)) g)))
     (l .brackets) (m .brackets) w h
 
--- ---- 8 and 9
+-- ---- 8, 9 and 19
 test-moves : (T : Part ℕ → Bool) (B : Part (Unit {0}) → Bool) → ((p : Part ℕ) → B (barePart p) ≡ T p) → (p q : Part ℕ) → barePart p ≡ barePart q → dueAt (T p) (p .at) ≡ [] → dueAt (T q) (q .at) ≡ []
 test-moves T B f p q e h = due-moves (T p) (T q) (p .at) (q .at) (sym (f p) ∙ ap B e ∙ f q) h
 
@@ -225,12 +228,15 @@ unfolding refusal9
 none-9 l m w h =
     alike-moves (λ k. flat (λ p. dueAt (isNumberName p) (p .at)) (k .parts)) (parts-move (λ p. dueAt (isNumberName p) (p .at)) (test-moves isNumberName isNumberName name-bare)) (l .brackets) (m .brackets) w h
 
--- ---- 10
-info-bare : (ps : List (Part ℕ)) → all (isKey Info) (map barePart ps) ≡ all (isKey Info) ps
-unfolding all
-info-bare [] = refl
-info-bare (p ∷ ps) = ap (λ z. isKey Info p && z) (info-bare ps)
+uncut-bare : (p : Part ℕ) → isUncut (barePart p) ≡ isUncut p
+uncut-bare p = rw (text-bare p)
 
+pub none-19 : (l m : Line ℕ) → Alike (l .brackets) (m .brackets) → refusal19 l ≡ [] → refusal19 m ≡ []
+unfolding refusal19
+none-19 l m w h =
+    alike-moves (λ k. flat (λ p. dueAt (isUncut p) (p .at)) (k .parts)) (parts-move (λ p. dueAt (isUncut p) (p .at)) (test-moves isUncut isUncut uncut-bare)) (l .brackets) (m .brackets) w h
+
+-- ---- 10
 same-kind : (k q : Bracket ℕ) → Same k q → k .kind ≡ q .kind
 same-kind k q w = ap (λ (z : Bracket (Unit {0})). z .kind) (w .bare)
 
@@ -238,7 +244,7 @@ same-count : (k q : Bracket ℕ) → Same k q → k .count ≡ q .count
 same-count k q w = ap (λ (z : Bracket (Unit {0})). z .count) (w .bare)
 
 same-info : (k q : Bracket ℕ) → Same k q → onlyInfo k ≡ onlyInfo q
-same-info k q w = sym (info-bare (k .parts)) ∙ ap (all (isKey Info)) (parts-alike k q w) ∙ info-bare (q .parts)
+same-info k q w = sym (info-of barePart likewise-bare (k .parts)) ∙ ap (all (isKey Info)) (parts-alike k q w) ∙ info-of barePart likewise-bare (q .parts)
 
 pub none-10 : (l m : Line ℕ) → Alike (l .brackets) (m .brackets) → refusal10 l ≡ [] → refusal10 m ≡ []
 unfolding refusal10
@@ -248,29 +254,12 @@ none-10 l m w h =
     (l .brackets) (m .brackets) w h
 
 -- ---- labels
-refers-bare : (ps : List (Part ℕ)) → refers? (map barePart ps) ≡ refers? ps
-refers-bare [] = refl
-refers-bare (p ∷ ps) = go (p .value)
-  where
-    go : (v : Value ℕ) → isReference (bareValue v) ≡ isReference v
-    go (mass n) = refl
-    go (text t) = refl
-    go reference = refl
-
-names-bare : (ps : List (Part ℕ)) → flat nameOf (map barePart ps) ≡ flat nameOf ps
-unfolding flat
-names-bare [] = refl
-names-bare (p ∷ ps) = ap (λ z. z ++ flat nameOf (map barePart ps)) (go (p .label)) ∙ ap (λ z. nameOf p ++ z) (names-bare ps)
-  where
-    go : (o : Option (Label ℕ)) → given (optional bareLabel o) (λ l. l .name ∷ []) [] ≡ given o (λ l. l .name ∷ []) []
-    go none = refl
-    go (some l) = refl
-
 same-refers : (k q : Bracket ℕ) → Same k q → isReferring k ≡ isReferring q
-same-refers k q w = sym (refers-bare (k .parts)) ∙ ap (λ (z : List (Part (Unit {0}))). refers? z) (parts-alike k q w) ∙ refers-bare (q .parts)
+same-refers k q w =
+    sym (refers-of barePart likewise-bare (k .parts)) ∙ ap (λ (z : List (Part (Unit {0}))). refers? z) (parts-alike k q w) ∙ refers-of barePart likewise-bare (q .parts)
 
 same-names : (k q : Bracket ℕ) → Same k q → namesOf k ≡ namesOf q
-same-names k q w = sym (names-bare (k .parts)) ∙ ap (flat nameOf) (parts-alike k q w) ∙ names-bare (q .parts)
+same-names k q w = sym (names-of barePart likewise-bare (k .parts)) ∙ ap (flat nameOf) (parts-alike k q w) ∙ names-of barePart likewise-bare (q .parts)
 
 same-defined : (k q : Bracket ℕ) → Same k q → definedBy k ≡ definedBy q
 same-defined k q w = ap (λ z. cond z [] (namesOf k)) (same-refers k q w) ∙ ap (λ z. cond (isReferring q) [] z) (same-names k q w)
@@ -293,7 +282,7 @@ counted-moves k q w h = go (isLabelled k) (isLabelled q) (ap (λ z. not (none? z
     go a false e h o u f g = refl
     go a true e h o none f g = rw g refl
     go false true e h o (some j) f g = absurd (false≢true e)
-    go true true e h none (some j) f g = absurd (Option·none-ne-some j (sym (w .marks (sym (same-count k q w) ∙ w .once f)) ∙ g))
+    go true true e h none (some j) f g = absurd (Option·none-ne-some j (sym (w .uncounted f) ∙ g))
     go true true e h (some i) (some j) f g = absurd (true≢false (sym (ap (λ z. given z (λ p. true) false) f) ∙ h))
 
 wrong-moves : (b d r : List (List ℕ)) (k q : Bracket ℕ) → Same k q → wrongLabels b d r k ≡ false → wrongLabels b d r q ≡ false

@@ -1,4 +1,4 @@
--- What refusals 1 to 3 ask of the bytes and refusals 5 to 12 of a line, clause by clause in the words of document 01, as relations apart from the tests
+-- What refusals 1 to 3 ask of the bytes, and refusals 5 to 12 and 19 of a line, clause by clause in the words of documents 01 and 02, as relations apart from the tests
 -- of Refusals.antt. Their proofs: specs/Proved.antt.
 use Prim.Native.Nat.{ℕ, _+_, _-_, _*_, _^_, _≤_, _<_}
 use Prim.Native.String.{String}
@@ -15,9 +15,11 @@ use Rattle.scope.specs.Limits.{lineLimit, residueLimit, bracketLimit, partLimit
 use Rattle.scope.specs.Line.{Number, Label, mass, Part, Bracket, Residue, Line}
 use Rattle.scope.specs.Keys.{written}
 use Rattle.scope.specs.Modifications.{isReferring, namesOf, copies}
-use Rattle.scope.specs.Refusals.{least, textOf, refusal1, refusal2, refusal3, refusal5, refusal6, refusal7, refusal8, refusal9, refusal10, refusal11, refusal12, lineRefusals}
+use Rattle.scope.specs.Refusals.{least, textOf, refusal1, refusal2, refusal3, refusal5, refusal6, refusal7, refusal8, refusal9, refusal10, refusal11, refusal12, refusal19, lineRefusals}
 use Rattle.basics.specs.Each.{Each, Some, In}
+use Rattle.scope.specs.Glycans.{Item}
 use Rattle.reading_laws.specs.Laws.{Clear}
+use Rattle.glycan_laws.specs.Laws.{Cuts}
 
 -- some element, by those in front of it
 abbrev pub SomeBehind : {A : Type 0} → (List A → A → Type 0) → List A → List A → Type 0
@@ -100,9 +102,9 @@ Rule p =
 abbrev pub Link : Part ℕ → Type 0
 Link p = (l : Label ℕ) × ((p .label ≡ some l) × (Folds "XL" (take 2 (l .name)) ⊎ Folds "BRANCH" (l .name)))
 
--- "part begins `Formula:` `Glycan:` `Position:` `Limit:`, or .."
+-- "part begins `Formula:` .. `Position:` `Limit:`, or .."
 abbrev pub Barred : Part ℕ → Type 0
-Barred p = (((((p .key ≡ Formula) ⊎ (p .key ≡ Glycan)) ⊎ (p .key ≡ Position)) ⊎ (p .key ≡ Limit)) ⊎ Rule p) ⊎ Link p
+Barred p = ((((p .key ≡ Formula) ⊎ (p .key ≡ Position)) ⊎ (p .key ≡ Limit)) ⊎ Rule p) ⊎ Link p
 
 -- at "the part, or the `#` of a reference"
 abbrev pub Due8 : Line ℕ → ℕ → Type 0
@@ -166,7 +168,14 @@ Due12 l i =
     SomeBehind (λ (front : List (Bracket ℕ)) (k : Bracket ℕ). (i ≡ k .at) × ((copiesIn front ≤ copyLimit) × (copyLimit < copiesIn front + copies k))) []
     (l .brackets)
 
--- none of 5 to 12 is due
+-- ---- 19 "no cutting", "at the part"
+abbrev pub Uncut : Part ℕ → Type 0
+Uncut p = (p .key ≡ Glycan) × ((xs : List Item) → Cuts xs (textOf p) → ⊥)
+
+abbrev pub Due19 : Line ℕ → ℕ → Type 0
+Due19 l i = SomePart (λ (p : Part ℕ). (i ≡ p .at) × Uncut p) l
+
+-- none of 5 to 12 is due, nor 19
 pub record NoneDue (l : Line ℕ) : Type 0 where
   pub no-5 : (i : ℕ) → Due5 l i → ⊥
   pub no-6 : (i : ℕ) → Due6 l i → ⊥
@@ -176,6 +185,7 @@ pub record NoneDue (l : Line ℕ) : Type 0 where
   pub no-10 : (i : ℕ) → Due10 l i → ⊥
   pub no-11 : (i : ℕ) → Due11 l i → ⊥
   pub no-12 : (i : ℕ) → Due12 l i → ⊥
+  pub no-19 : (i : ℕ) → Due19 l i → ⊥
 
 pub record Laws : Type 1 where
   -- the places at which each number is due: 1 "line empty", at 0; 2 "line too long", at 4,096
@@ -190,6 +200,7 @@ pub record Laws : Type 1 where
   pub exactly-10 : (l : Line ℕ) (i : ℕ) → In i (refusal10 l) ↔ Due10 l i
   pub exactly-11 : (l : Line ℕ) (i : ℕ) → In i (refusal11 l) ↔ Due11 l i
   pub exactly-12 : (l : Line ℕ) (i : ℕ) → In i (refusal12 l) ↔ Due12 l i
+  pub exactly-19 : (l : Line ℕ) (i : ℕ) → In i (refusal19 l) ↔ Due19 l i
   -- the place that is given is the first at which the refusal is due
   pub first-due : (ps : List ℕ) (Due : ℕ → Type 0) → ((i : ℕ) → In i ps ↔ Due i) → (i : ℕ) → least ps ≡ some i ↔ FirstAt Due i
   -- nothing else is given so: of two lists of places with one law the first place is the same

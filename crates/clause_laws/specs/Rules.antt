@@ -1,4 +1,5 @@
--- Refusals 8 to 11 are due exactly as their clauses say: of keys by their codes, of labels by the names in front of a bracket.
+-- Refusals 8 to 11, and 19, are due exactly as their clauses say: of keys by their codes, of labels by the names in front of a bracket, of compositions by
+-- the list of all ways to cut them.
 use Prim.Native.Nat.{ℕ}
 use mathlib.Core.Path.{_≡_, refl, sym, ap, _∙_, subst}
 use mathlib.Core.Logic.{_↔_, _⊎_, inl, inr}
@@ -16,11 +17,14 @@ use Rattle.scope.specs.Line.{Label, Part, Bracket, Line}
 use Rattle.scope.specs.Keys.{keyCode, keyIn}
 use Rattle.scope.specs.Lists.{given, none?, flat, among, shared}
 use Rattle.scope.specs.Modifications.{isKey, isReferring, nameOf, namesOf, isLabelled, definedBy, referredBy, defined, referredTo}
-use Rattle.scope.specs.Refusals.{dueAt, textOf, isRuleName, isRule, isLink, notHere, secondLabel, definedAgain, undefined, unreferred, wrongLabels, wronglyLabelled, refusal8, isNumberName, refusal9, refusal10, refusal11}
+use Rattle.scope.specs.Refusals.{dueAt, textOf, isRuleName, isRule, isLink, notHere, secondLabel, definedAgain, undefined, unreferred, wrongLabels, wronglyLabelled, refusal8, isNumberName, refusal9, refusal10, refusal11, isUncut, refusal19}
 use Rattle.scope.specs.Kinds.{kindCode, isKind, unknownOrLabile}
-use Rattle.clause_laws.specs.Clauses.{SomeBehind, Rule, Link, Barred, Due8, Due10, Named, Defines, RefersTo, Second, Again, Undefined, CountedLabel, Unreferred, Due11, NumberName, Due9}
+use Rattle.clause_laws.specs.Clauses.{SomeBehind, Rule, Link, Barred, Due8, Due10, Named, Defines, RefersTo, Second, Again, Undefined, CountedLabel, Unreferred, Due11, NumberName, Due9, Uncut, Due19}
 use Rattle.basics.specs.Each.{Some, In}
 use Rattle.clause_laws.specs.Iff.{then, or-iff, and-iff, self, all-iff, some-not, either-iff, in-append, in-flat, among-iff, due-iff}
+use Rattle.scope.specs.Glycans.{Item, cuttings}
+use Rattle.glycan_laws.specs.Laws.{Cuts}
+use Rattle.glycan_laws.specs.Enumerated.{every-way}
 use Rattle.basics.specs.Keys.{key-back}
 use Rattle.basics.specs.Kinds.{is-kind}
 
@@ -50,7 +54,7 @@ unfolding isRuleName
 rule-iff p = and-iff _ _ (key-iff NoKey p) (or-iff _ _ (or-iff _ _ (or-iff _ _ self self) self) self)
 
 barred-iff : (p : Part ℕ) → (notHere p ≡ true) ↔ Barred p
-barred-iff p = or-iff _ _ (or-iff _ _ (or-iff _ _ (or-iff _ _ (or-iff _ _ (key-iff Formula p) (key-iff Glycan p)) (key-iff Position p)) (key-iff Limit p)) (rule-iff p)) (link-iff p)
+barred-iff p = or-iff _ _ (or-iff _ _ (or-iff _ _ (or-iff _ _ (key-iff Formula p) (key-iff Position p)) (key-iff Limit p)) (rule-iff p)) (link-iff p)
 
 pub exactly-8 : (l : Line ℕ) (i : ℕ) → In i (refusal8 l) ↔ Due8 l i
 unfolding refusal8
@@ -230,3 +234,19 @@ behind-iff l j (k ∷ ks) front =
 pub exactly-11 : (l : Line ℕ) (i : ℕ) → In i (refusal11 l) ↔ Due11 l i
 unfolding refusal11 flat
 exactly-11 l i = behind-iff l i (l .brackets) []
+
+-- ---- 19
+none-cut : (t : List ℕ) → (none? (cuttings t) ≡ true) ↔ ((xs : List Item) → Cuts xs t → ⊥)
+none-cut t = by (cuttings t) (λ xs. every-way t xs)
+  where
+    by : (l : List (List Item)) → ((xs : List Item) → In xs l ↔ Cuts xs t) → (none? l ≡ true) ↔ ((xs : List Item) → Cuts xs t → ⊥)
+    by [] f = ((λ e xs c. f xs .1 c), (λ h. refl))
+    by (xs ∷ l) f = ((λ e. absurd (false≢true e)), (λ h. absurd (h xs (f xs .0 (inl refl)))))
+
+uncut-iff : (p : Part ℕ) → (isUncut p ≡ true) ↔ Uncut p
+uncut-iff p = and-iff _ _ (key-iff Glycan p) (none-cut (textOf p))
+
+pub exactly-19 : (l : Line ℕ) (i : ℕ) → In i (refusal19 l) ↔ Due19 l i
+unfolding refusal19
+exactly-19 l i =
+    in-flat (λ y. i ≡ y) _ _ (λ k. in-flat (λ y. i ≡ y) _ _ (λ p. due-iff (isUncut p) (p .at) i (uncut-iff p)) (k .parts)) (l .brackets)

@@ -1,13 +1,14 @@
 -- Which lines are accepted, and with what the others are refused, over the grammar.
 use Prim.Native.Nat.{ℕ, _+_, _≤_}
 use native.Mathlib.Omega.{arith}
-use mathlib.Core.Path.{_≡_, refl, sym, ap, _∙_, subst}
+use mathlib.Core.Path.{_≡_, refl, sym, ap, _∙_}
 use mathlib.Core.Logic.{_⊎_, inl, inr}
 use mathlib.Core.List.{List, _++_}
 use lib.ListN.{length, take}
 use Rattle.scope.specs.Limits.{lineLimit}
 use Rattle.scope.specs.Line.{Line}
 use Rattle.scope.specs.Reading.{Reading, stuck, holds, reading}
+use Rattle.scope.specs.Kept.{kept}
 use Rattle.scope.specs.Refusals.{accepted, refused, lineRefusals, judged, byteRefusals, outcome}
 use Rattle.reading_laws.specs.Laws.{Clear, First}
 use Rattle.reading_laws.specs.Proved as reads
@@ -59,33 +60,35 @@ accepts-so s l e =
     go : (r : Reading) → reading s ≡ r → length s ≤ lineLimit → judged r ≡ accepted l → Accepts s l
     go (stuck i) q h f = absurd (not-refused l 4 i (sym f))
     go (holds m) q h f =
-        let c = clear-cases (lineRefusals m) (accepted m) l f in
-        let a : accepted m ≡ accepted l = c .1 in
-        let z : m ≡ l = cc in
-        record { spelt = read-spelt s l (q ∙ ap holds z); short = h; clear = clauses.laws .none-due l .0 (subst (λ (v : Line ℕ). Clear (lineRefusals v)) z (c .0)) }
+        let c = clear-cases (lineRefusals m) (accepted (kept m)) l f in
+        let a : accepted (kept m) ≡ accepted l = c .1 in
+        let z : l ≡ kept m = cc in
+        record { read = m; spelt = read-spelt s m q; short = h; clear = clauses.laws .none-due m .0 (c .0); keeps = z }
 
 pub so-accepts : (s : List ℕ) (l : Line ℕ) → Accepts s l → outcome s ≡ accepted l
 unfolding outcome
 so-accepts s l w =
-    let e : reading s ≡ holds l = spelt-read s l (w .spelt) in
-    clear-due (byteRefusals s) (judged (reading s)) (some-bytes s l e, (none-long s (w .short), (reads.laws .printable s l e, tt)))
-    ∙ ap judged e ∙ clear-due (lineRefusals l) (accepted l) (clauses.laws .none-due l .1 (w .clear))
+    let r = w .read in
+    let e : reading s ≡ holds r = spelt-read s r (w .spelt) in
+    clear-due (byteRefusals s) (judged (reading s)) (some-bytes s r e, (none-long s (w .short), (reads.laws .printable s r e, tt)))
+    ∙ ap judged e ∙ clear-due (lineRefusals r) (accepted (kept r)) (clauses.laws .none-due r .1 (w .clear))
+    ∙ ap accepted (sym (w .keeps))
 
 -- ---- refusals
 pub refuses-so : (s : List ℕ) (k i : ℕ) → outcome s ≡ refused k i → Refuses s k i
 unfolding outcome
 refuses-so s k i e = by (reads.laws .in-order (byteRefusals s) (judged (reading s)) k i .0 e)
   where
-    lined : (l : Line ℕ) → reading s ≡ holds l → Clear (byteRefusals s) → First (lineRefusals l) k i ⊎ (Clear (lineRefusals l) × (accepted l ≡ refused k i)) → Refuses s k i
+    lined : (l : Line ℕ) → reading s ≡ holds l → Clear (byteRefusals s) → First (lineRefusals l) k i ⊎ (Clear (lineRefusals l) × (accepted (kept l) ≡ refused k i)) → Refuses s k i
     lined l q c (inl f) = of-line c l (read-spelt s l q) f
-    lined l q c (inr f) = absurd (not-refused l k i (f .1))
+    lined l q c (inr f) = absurd (not-refused (kept l) k i (f .1))
 
     go : (r : Reading) → reading s ≡ r → Clear (byteRefusals s) → judged r ≡ refused k i → Refuses s k i
     go (stuck j) q c f =
         let a : 4 ≡ k = cc in
         let b : j ≡ i = cc in
         of-order c (sym a) (stuck-stops s i (q ∙ ap stuck b))
-    go (holds l) q c f = lined l q c (reads.laws .in-order (lineRefusals l) (accepted l) k i .0 f)
+    go (holds l) q c f = lined l q c (reads.laws .in-order (lineRefusals l) (accepted (kept l)) k i .0 f)
 
     by : First (byteRefusals s) k i ⊎ (Clear (byteRefusals s) × (judged (reading s) ≡ refused k i)) → Refuses s k i
     by (inl f) = of-bytes f
@@ -97,4 +100,4 @@ so-refuses s k i (of-bytes f) = reads.laws .in-order (byteRefusals s) (judged (r
 so-refuses s k i (of-order c e w) =
     clear-due (byteRefusals s) (judged (reading s)) c ∙ ap judged (stops-stuck s i w) ∙ ap (λ z. refused z i) (sym e)
 so-refuses s k i (of-line c l w f) =
-    clear-due (byteRefusals s) (judged (reading s)) c ∙ ap judged (spelt-read s l w) ∙ reads.laws .in-order (lineRefusals l) (accepted l) k i .1 (inl f)
+    clear-due (byteRefusals s) (judged (reading s)) c ∙ ap judged (spelt-read s l w) ∙ reads.laws .in-order (lineRefusals l) (accepted (kept l)) k i .1 (inl f)

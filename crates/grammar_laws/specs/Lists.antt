@@ -6,13 +6,9 @@ use mathlib.Core.Bool.{Bool, true, false, not, false≢true}
 use mathlib.Core.List.{List, [], _∷_, _++_}
 use Rattle.scope.specs.Bytes.{value}
 use Rattle.scope.specs.Lists.{none?, all as every}
-use Rattle.basics.specs.Tests.{and-left, and-right, both}
+use Rattle.basics.specs.Tests.{both}
+use Rattle.basics.specs.Lists.{all-append}
 use Rattle.scope.specs.Grammar.{someOf, valueOn}
-
-pub all-append : (f : ℕ → Bool) (l m : List ℕ) → every f l ≡ true → every f m ≡ true → every f (l ++ m) ≡ true
-unfolding every
-all-append f [] m e g = g
-all-append f (b ∷ l) m e g = both (f b) (every f (l ++ m)) (and-left (f b) (every f l) e) (all-append f l m (and-right (f b) (every f l) e) g)
 
 pub all-nil : (f : ℕ → Bool) → every f [] ≡ true
 unfolding every

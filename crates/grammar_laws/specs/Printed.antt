@@ -13,7 +13,7 @@ use Rattle.scope.specs.declared.grammar.Key.{Key}
 use Rattle.scope.specs.declared.grammar.Key.the-variants.{NoKey}
 use Rattle.scope.specs.Bytes.{isPrintable, isUpper, isLower, isLetter, isDigit, isAlnum, isSign, isOpening, isShutting, shutSquare, shutCurly, bar, hash, colon, plus, dash, dot, openRound, shutRound, sameFolded, value}
 use Rattle.scope.specs.Line.{mass, text, reference, Part}
-use Rattle.scope.specs.Keys.{spell, keyOf, Form, massOrName, massOnly, digits, alnums, free, form, hashIsPlain, accessionByte}
+use Rattle.scope.specs.Keys.{spell, keyOf, Form, massOrName, massOnly, digits, alnums, free, composed, form, hashIsPlain, accessionByte}
 use Rattle.scope.specs.Lists.{given, none?, all as every, there?}
 use Rattle.scope.specs.Content.{Digits, signed, whole, digitStep, numberEnd, isPlain, textStep, Context, Inner, begin, plain, keyed, inNumber, inCode, inText, hashed, inLabel, scoring, inScore, scored, Content, closed, going, with, unlabelled, labelled, isReference, partEnd, valueEnd, textEnd, behindKey, colonAfter, nameBehind, innerStep}
 use Rattle.basics.specs.Choice.{pick-true, pick-false, pick-some, pick-none}
@@ -193,6 +193,7 @@ module _ (c : Context ℕ) where
   code-byte digits e h = h .digit
   code-byte alnums e h = h .alnum
   code-byte free e h = refl
+  code-byte composed e h = refl
 
   code-end : (i at : ℕ) (k : Key) (t : List ℕ) (e : ℕ) → Stop e → none? t ≡ false → innerStep i (inCode c at k t) e ≡ valueEnd c (unlabelled at k (text t)) e
   unfolding innerStep
@@ -330,6 +331,7 @@ module _ (c : Context ℕ) where
   mass-behind i at digits k m n e t g h = absurd (false≢true t)
   mass-behind i at alnums k m n e t g h = absurd (false≢true t)
   mass-behind i at free k m n e t g h = absurd (false≢true t)
+  mass-behind i at composed k m n e t g h = absurd (false≢true t)
 
   delta-run : (i : ℕ) (k : Key) (w : List ℕ) (m : Bool) (n : Numeral) (e : ℕ) → sameFolded (spell k) w ≡ true → takesMass (form k) ≡ true → goodNumeral n ≡ true → Stop e
       → notedRun i (going (begin c)) ((withColon w ++ (signByte m ∷ printNumeral n)) ++ (e ∷ [])) ≡ valueEnd c (unlabelled i k (mass (meansNumeral (i + length (withColon w)) m n))) e
@@ -355,6 +357,7 @@ module _ (c : Context ℕ) where
   code-behind i at digits k t e q h n a = code-from i at k t e h n (rw q a)
   code-behind i at alnums k t e q h n a = code-from i at k t e h n (rw q a)
   code-behind i at free k t e q h n a = absurd (none-of t a n)
+  code-behind i at composed k t e q h n a = absurd (none-of t a n)
 
   code-run : (i : ℕ) (k : Key) (w t : List ℕ) (e : ℕ) → sameFolded (spell k) w ≡ true → Stop e → none? t ≡ false → every (accessionByte (form k)) t ≡ true
       → notedRun i (going (begin c)) ((withColon w ++ t) ++ (e ∷ [])) ≡ valueEnd c (unlabelled i k (text t)) e
@@ -385,6 +388,8 @@ module _ (c : Context ℕ) where
   text-behind i at alnums k w t e q h d n g = absurd (false≢true g)
   text-behind i at free k w t e q h d n g =
       in-text-end i at k [] (printText t) [] e (ap (λ z. textRun (hashIsPlain z) [] (printText t)) q ∙ outer-run true t g) n (ap (λ z. textStep (hashIsPlain z) [] e) q ∙ free-stop e h d)
+  text-behind i at composed k w t e q h d n g =
+      in-text-end i at k [] (printText t) [] e (ap (λ z. textRun (hashIsPlain z) [] (printText t)) q ∙ outer-run false t g) n (ap (λ z. textStep (hashIsPlain z) [] e) q ∙ stop e h .text)
 
   wording-run : (i : ℕ) (k : Key) (w : List ℕ) (t : Text) (e : ℕ) → sameFolded (spell k) w ≡ true → stops e ≡ true → Ended (form k) e → none? (printText t) ≡ false → goodWording (form k) w t ≡ true
       → notedRun i (going (begin c)) ((withColon w ++ printText t) ++ (e ∷ [])) ≡ valueEnd c (unlabelled i k (text (printText t))) e

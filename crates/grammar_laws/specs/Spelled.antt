@@ -10,7 +10,7 @@ use Rattle.scope.specs.declared.grammar.Key.{Key}
 use Rattle.scope.specs.declared.grammar.Key.the-variants.{NoKey}
 use Rattle.scope.specs.Bytes.{isPrintable, isLetter, isDigit, isAlnum, isSign, isOpening, isShutting, closerOf, openSquare, openCurly, bar, hash, colon, plus, dash, openRound, shutRound, sameFolded, value}
 use Rattle.scope.specs.Line.{Number, mass, text, reference, Part}
-use Rattle.scope.specs.Keys.{spell, keyOf, Form, massOrName, massOnly, digits, alnums, free, form, hashIsPlain, accessionByte}
+use Rattle.scope.specs.Keys.{spell, keyOf, Form, massOrName, massOnly, digits, alnums, free, composed, form, hashIsPlain, accessionByte}
 use Rattle.scope.specs.Content.{Digits, signed, digitStep, numberEnd, isPlain, textStep, Context, Inner, begin, plain, keyed, inNumber, inCode, inText, hashed, inLabel, scoring, inScore, scored, Content, lost, closed, going, with, unlabelled, labelled, isReference, partEnd, valueEnd, textEnd, behindKey, colonAfter, nameBehind, innerStep}
 use Rattle.scope.specs.Lists.{none?, all as every, there?}
 use Rattle.basics.specs.Choice.{branch-on, given-on, pick-false}
@@ -148,6 +148,7 @@ Begun massOnly word t = ⊥
 Begun digits word t = ⊥
 Begun alnums word t = ⊥
 Begun free word t = Unit {0}
+Begun composed word t = Unit {0}
 
 begun-more : (f : Form) (word t : List ℕ) (b : ℕ) → Begun f word t → Begun f word (t ++ (b ∷ []))
 begun-more massOrName word t b w = (sign-snoc t b (w .1) (w .0), not-none t b, unkeyed-more word t b (w .2))
@@ -155,6 +156,7 @@ begun-more massOnly word t b w = w
 begun-more digits word t b w = w
 begun-more alnums word t b w = w
 begun-more free word t b w = tt
+begun-more composed word t b w = tt
 
 -- how a text stands that is over
 abbrev pub Ended : Form → List ℕ → List ℕ → Type 0
@@ -163,6 +165,7 @@ Ended massOnly word t = ⊥
 Ended digits word t = ⊥
 Ended alnums word t = ⊥
 Ended free word t = Unit {0}
+Ended composed word t = Unit {0}
 
 begun-ended : (f : Form) (word t : List ℕ) → Begun f word t → Ended f word t
 begun-ended massOrName word t w = (w .0, ap (keyless word) (sym (append-nil t)) ∙ w .2 [])
@@ -170,6 +173,7 @@ begun-ended massOnly word t w = w
 begun-ended digits word t w = w
 begun-ended alnums word t w = w
 begun-ended free word t w = tt
+begun-ended composed word t w = tt
 
 text-good : (f : Form) (word t : List ℕ) (x : Text) → Ended f word t → goodText (outerByte (hashIsPlain f)) x ≡ true → t ≡ printText x → goodWording f word x ≡ true
 text-good massOrName word t x w g e =
@@ -180,6 +184,7 @@ text-good massOnly word t x w g e = absurd w
 text-good digits word t x w g e = absurd w
 text-good alnums word t x w g e = absurd w
 text-good free word t x w g e = g
+text-good composed word t x w g e = g
 
 -- a label may follow, where `#` ended the text
 free-hash : textStep true [] hash ≡ none → ⊥
@@ -192,6 +197,7 @@ text-tag massOnly word t b w e h = refl
 text-tag digits word t b w e h = refl
 text-tag alnums word t b w e h = refl
 text-tag free word t b w e h = absurd (free-hash (ap (textStep true []) (sym (eqb-true b hash h)) ∙ e))
+text-tag composed word t b w e h = refl
 
 mass-tag : (f : Form) → takesMass f ≡ true → tagFits f ≡ true
 mass-tag massOrName e = refl
@@ -199,6 +205,7 @@ mass-tag massOnly e = refl
 mass-tag digits e = refl
 mass-tag alnums e = refl
 mass-tag free e = e
+mass-tag composed e = refl
 
 code-tag : (f : Form) (x : ℕ) → accessionByte f x ≡ true → tagFits f ≡ true
 code-tag massOrName x e = refl
@@ -206,6 +213,7 @@ code-tag massOnly x e = refl
 code-tag digits x e = refl
 code-tag alnums x e = refl
 code-tag free x e = e
+code-tag composed x e = refl
 
 -- ---- what is spelled so far: shut closes the bracket, r says whether a reference may stand in it, labels whether its parts may have labels
 module _ (shut : ℕ) (r labels : Bool) where
@@ -561,6 +569,7 @@ module _ (shut : ℕ) (r labels : Bool) where
   behind-key digits c k w e x n = (x, all-nil (accessionByte (form k)))
   behind-key alnums c k w e x n = (x, all-nil (accessionByte (form k)))
   behind-key free c k w e x n = (x, text-nil (hashIsPlain (form k)) [], subst (λ (z : Form). Begun z (x .word) []) (sym e) tt)
+  behind-key composed c k w e x n = (x, text-nil (hashIsPlain (form k)) [], subst (λ (z : Form). Begun z (x .word) []) (sym e) tt)
 
   -- a name that ends
   named : (c : Context Place) (k : Key) (t w : List ℕ) (x : Behind c k t w) → textRun (hashIsPlain (form k)) [] t ≡ some [] → none? t ≡ false → Ended (form k) (x .word) t → Based c (unlabelled tt k (text t)) w
@@ -635,6 +644,7 @@ module _ (shut : ℕ) (r labels : Bool) where
       go digits q e = tt
       go alnums q e = tt
       go free q e = tt
+      go composed q e = tt
 
   step-number : (c : Context Place) (k : Key) (d : Digits) (b : ℕ) (w : List ℕ) → Weighed c k d w → InvC (w ++ (b ∷ [])) (innerStep tt (inNumber c tt k tt d) b)
   unfolding innerStep InvC Inv

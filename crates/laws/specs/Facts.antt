@@ -7,6 +7,7 @@ use lib.ListN.{length}
 use Rattle.scope.specs.declared.grammar.Kind.the-variants.{Unknown}
 use Rattle.scope.specs.Limits.{copyLimit, sizeLimit, decimalLimit}
 use Rattle.scope.specs.Line.{Bracket, Line}
+use Rattle.scope.specs.Kept.{keptBracket, kept}
 use Rattle.scope.specs.Refusals.{accepted, outcome}
 use Rattle.scope.specs.Tables.{bareBracket, tablesOf}
 use Rattle.scope.specs.Positions.{floaters}
@@ -15,7 +16,8 @@ use Rattle.basics.specs.Each.{Each, each-map, each-one, Each as Every}
 use Rattle.basics.specs.Kinds.{not-kind}
 use Rattle.accepted_laws.specs.Within.{BracketWithin, Within}
 use Rattle.reading_laws.specs.Bare.{names-of, mass-of}
-use Rattle.accepted_laws.specs.Judged.{judged-line}
+use Rattle.reading_laws.specs.Compositions.{names-kept}
+use Rattle.reading_laws.specs.Taken.{taken}
 use Rattle.layout_laws.specs.Laws.{tables-back, laid-bounds}
 use Rattle.accepted_laws.specs.Laws.{accepted-within, first-within, tables-within}
 use Rattle.mass_laws.specs.Terms.{FairBracket, Fair, Limited}
@@ -50,6 +52,16 @@ module _ {P : Type 0} where
       each-map LabileUnlabelled bareBracket (l .brackets)
       (each-one LabileUnlabelled (λ k. LabileUnlabelled (bareBracket k)) unlabelled-bare (l .brackets) u)
 
+  -- nor compositions
+  unlabelled-kept : (k : Bracket P) → LabileUnlabelled k → LabileUnlabelled (keptBracket k)
+  unlabelled-kept k u e = rw (names-kept k) (u e)
+
+  all-unlabelled-kept : (l : Line P) → Each LabileUnlabelled (l .brackets) → Each LabileUnlabelled (kept l .brackets)
+  unfolding kept
+  all-unlabelled-kept l u =
+      each-map LabileUnlabelled keptBracket (l .brackets)
+      (each-one LabileUnlabelled (λ k. LabileUnlabelled (keptBracket k)) unlabelled-kept (l .brackets) u)
+
   small-bare :
       (ks : List (Bracket P)) → Every (λ k. natAbs (massOr0 k) < sizeLimit * 10 ^ decimalLimit) (map bareBracket ks)
       → Every (λ k. natAbs (massOr0 k) < sizeLimit * 10 ^ decimalLimit) ks
@@ -68,15 +80,20 @@ module _ {P : Type 0} where
 
 -- ---- of accepted lines
 module _ (s : List ℕ) (l : Line ℕ) (e : outcome s ≡ accepted l) where
+  unlabelled : Each LabileUnlabelled (l .brackets)
+  unlabelled =
+      let t = taken s l e in
+      subst (λ (z : Line ℕ). Each LabileUnlabelled (z .brackets)) (sym (t .keeps)) (all-unlabelled-kept (t .read) (labile-unlabelled s (t .read) (t .reads)))
+
   pub accepted-fair : Fair l
-  accepted-fair = fair-of l (accepted-within s l e) (labile-unlabelled s l (judged-line s l e .read))
+  accepted-fair = fair-of l (accepted-within s l e) unlabelled
 
   pub accepted-limited : Limited l
   accepted-limited = limited-of l (accepted-within s l e)
 
   -- of the tables that they read to
   pub tables-fair : Fair (tablesOf l)
-  tables-fair = fair-of (tablesOf l) (tables-within l (accepted-within s l e)) (all-unlabelled-bare l (labile-unlabelled s l (judged-line s l e .read)))
+  tables-fair = fair-of (tablesOf l) (tables-within l (accepted-within s l e)) (all-unlabelled-bare l unlabelled)
 
   pub tables-limited : Limited (tablesOf l)
   tables-limited = limited-tables l (accepted-within s l e)

@@ -1,5 +1,6 @@
 -- The areas of a line keep to the bounds, and each of their bytes is one: what stands in a row is what the bracket holds (Layout), which is within the limits.
-use mathlib.Core.Path.{_≡_, sym, subst}
+use mathlib.Core.Path.{_≡_, sym, ap, subst}
+use mathlib.Core.Logic.{inl, inr}
 use mathlib.Core.Option.{Option, none, some}
 use mathlib.Core.List.{List, [], _∷_, _++_, map}
 use Prim.Native.Nat.{ℕ, zero, suc, _+_, _*_, _≤_, _<_}
@@ -10,10 +11,10 @@ use lib.IntN.{ℤ, pos}
 use lib.ListN.{length, getD, length-append}
 use Rattle.scope.specs.declared.grammar.Section.{Section}
 use Rattle.scope.specs.declared.grammar.Section.the-variants.{Plain, RangeFirst, RangeNext, UnsureFirst, UnsureNext}
-use Rattle.scope.specs.declared.grammar.Key.the-variants.{Info}
+use Rattle.scope.specs.declared.grammar.Key.{Key}
 use Rattle.scope.specs.Bytes.{byteLimit}
 use Rattle.scope.specs.Limits.{lineLimit, residueLimit, bracketLimit, partLimit, textLimit, labelLimit, decimalLimit}
-use Rattle.scope.specs.Line.{Number, Label, Value, mass, text, reference, Part, Bracket, Line}
+use Rattle.scope.specs.Line.{Number, Label, Value, mass, text, reference, composition, Part, Bracket, Line}
 use Rattle.scope.specs.Keys.{keyCode}
 use Rattle.scope.specs.Lists.{given, flat, padded}
 use Rattle.scope.specs.Refusals.{textIn, textOf}
@@ -22,7 +23,7 @@ use Rattle.scope.specs.Layout.{partSize, rowSize, twoBytes, countsRow, sectionC
 use Rattle.areas.specs.Bounds.{Small, PartBounds, BracketBounds, Bounds}
 use Rattle.basics.specs.Each.{Each, OfGiven, each-append, each-padded, each-map, each-all}
 use Rattle.basics.specs.Kinds.{kind-byte}
-use Rattle.accepted_laws.specs.Within.{Byte, NumberWithin, LabelWithin, ValueWithin, PartWithin, BracketWithin, Within, first-few, last-few}
+use Rattle.accepted_laws.specs.Within.{Byte, NumberWithin, LabelWithin, ValueWithin, KeyWithin, PartWithin, BracketWithin, Within, first-few, last-few}
 use Rattle.layout_laws.specs.TwoBytes.{wide-bytes}
 use Rattle.layout_laws.specs.Fits.{residues-fit, positions-fit, offsets-fit, brackets-fit, parts-fit, counts-fit, decimals-fit, scores-fit, texts-fit, labels-fit}
 use Rattle.layout_laws.specs.Numbers.{few-decimals, small}
@@ -34,11 +35,13 @@ module _ {P : Type 0} where
   decimals-few p (mass n) w = few-decimals n w
   decimals-few p (text t) w = omega arith
   decimals-few p reference w = omega arith
+  decimals-few p (composition t n) w = few-decimals n (w .mass)
 
   text-short : (p : Part P) (v : Value P) → ValueWithin p v → length (textIn v) ≤ textLimit
   text-short p (mass n) w = omega arith
   text-short p (text t) w = w .short-text
   text-short p reference w = omega arith
+  text-short p (composition t n) w = w .text .short-text
 
   label-short : (l : Option (Label P)) → OfGiven LabelWithin l → length (given l (λ l. l .name) []) ≤ labelLimit
   label-short none w = omega arith
@@ -48,6 +51,7 @@ module _ {P : Type 0} where
   mass-small p (mass n) w = small n w
   mass-small p (text t) w = lit< tt
   mass-small p reference w = lit< tt
+  mass-small p (composition t n) w = small n (w .mass)
 
   score-small : (s : Option (Number P)) → OfGiven NumberWithin s → Small (given s millionths (pos 0))
   score-small none w = lit< tt
@@ -150,19 +154,22 @@ section-byte UnsureNext = omega arith
 zero-byte : Byte 0
 zero-byte = omega arith
 
-key-byte : {c : ℕ} → c ≤ keyCode Info → Byte c
-key-byte h = omega arith
+key-byte : (k : Key) → KeyWithin k → Byte (keyCode k)
+key-byte k (inl h) = omega arith
+key-byte k (inr e) = let c = ap keyCode e in omega arith
 
 module _ {P : Type 0} where
   value-byte : (v : Value P) → Byte (valueCode v)
   value-byte (mass n) = omega arith
   value-byte (text t) = omega arith
   value-byte reference = omega arith
+  value-byte (composition t n) = omega arith
 
   text-bytes : (p : Part P) (v : Value P) → ValueWithin p v → Each Byte (textIn v)
   text-bytes p (mass n) w = tt
   text-bytes p (text t) w = w .bytes
   text-bytes p reference w = tt
+  text-bytes p (composition t n) w = w .text .bytes
 
   label-bytes : (l : Option (Label P)) → OfGiven LabelWithin l → Each Byte (given l (λ l. l .name) [])
   label-bytes none w = tt
@@ -181,7 +188,7 @@ module _ {P : Type 0} where
       let o = offset-few (packed p) i in (
         value-byte (p .value),
         (
-          key-byte (w .key),
+          key-byte (p .key) (w .key),
           (
             decimals-fit (decimals-few p (p .value) (w .value)),
             (

@@ -11,7 +11,7 @@ use lib.ListN.{length, replicate, length-append, length-replicate, length-map}
 use borrow.Author.Tests.{ne-eqb}
 use Rattle.scope.specs.declared.grammar.Section.{Section}
 use Rattle.scope.specs.declared.grammar.Section.the-variants.{Plain, RangeFirst, RangeNext, UnsureFirst, UnsureNext}
-use Rattle.scope.specs.Line.{Number, Label, Value, mass, text, reference, Part, Bracket, Residue, Line}
+use Rattle.scope.specs.Line.{Number, Label, Value, mass, text, reference, composition, Part, Bracket, Residue, Line}
 use Rattle.scope.specs.Keys.{keyCode, keyIn}
 use Rattle.scope.specs.Lists.{given, flat, optional, padded, part, tabled}
 use Rattle.scope.specs.Modifications.{nameOf}
@@ -63,6 +63,7 @@ abbrev OfValue : {P : Type 0} → Value P → Type 0
 OfValue (mass n) = NumberWithin n
 OfValue (text t) = 0 < length t
 OfValue reference = Unit {0}
+OfValue (composition t n) = (0 < length t) × NumberWithin n
 
 offset-at : (l : List ℕ) (i : ℕ) → 0 < length l → offset l i ≡ i
 offset-at [] i h = absurd (omega arith)
@@ -77,6 +78,7 @@ module _ {P : Type 0} (bs : List ℕ) (ns : List ℤ) (k j : ℕ) where
   value-back (mass n) w c d e m t = rw (c, d, m) (ap mass (number-back n w))
   value-back (text x) w c d e m t = rw (c, e) (ap text (t w))
   value-back reference w c d e m t = rw (c)
+  value-back (composition x n) w c d e m t = rw (c, d, e, m) (ap₂ composition (t (w .0)) (number-back n (w .1)))
 
   label-back :
       (l : Option (Label P)) → OfGiven LabelWithin l → labelField bs k j ≡ length (given l (λ l. l .name) [])
@@ -145,6 +147,7 @@ module _ {P : Type 0} (bs : List ℕ) (ns : List ℤ) (k : ℕ) where
       go (mass n) h = h
       go (text t) h = h .some-text
       go reference h = tt
+      go (composition t n) h = (h .text .some-text, h .mass)
 
   part-back :
       (j i : ℕ) (p : Part P) → PartWithin p → PartRead bs ns k j i p → OfGiven (λ l. scoreIn bs ns k ≡ optional bareNumber (l .score)) (p .label)

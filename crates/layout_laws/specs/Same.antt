@@ -22,7 +22,7 @@ use Rattle.layout_laws.specs.Holds.{Holds}
 use Rattle.layout_laws.specs.Layout.{tables-back}
 use Rattle.layout_laws.specs.Bounded.{bounds}
 use Rattle.accepted_laws.specs.BareWithin.{within-bare}
-use Rattle.accepted_laws.specs.Accepted.{within-accepted}
+use Rattle.accepted_laws.specs.Laws.{accepted-within}
 
 -- ---- equality
 number-is : (x y : ℤ) → sameNumber x y ≡ true → x ≡ y
@@ -59,7 +59,7 @@ pub holds-of :
     (bs : List ℕ) (ns : List ℤ) (s : List ℕ) (l : Line ℕ) → outcome s ≡ accepted l → take bytesSize bs ≡ bytesOf l → take numbersSize ns ≡ numbersOf l
     → Holds bs ns s l
 holds-of bs ns s l e f g =
-    let w = within-accepted s l e in
+    let w = accepted-within s l e in
     let b : bs ≡ bytesOf l ++ drop bytesSize bs = begins-with bytesSize (bytesOf l) bs f in
     let n : ns ≡ numbersOf l ++ drop numbersSize ns = begins-with numbersSize (numbersOf l) ns g in
     let t : tablesIn bs ns ≡ tablesOf l = ap₂ tablesIn b n ∙ tables-back l w (drop bytesSize bs) (drop numbersSize ns) in

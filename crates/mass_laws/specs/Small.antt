@@ -11,11 +11,11 @@ use lib.Dec.{eqb}
 use lib.IntN.{ℤ, pos, natAbs}
 use Rattle.scope.specs.declared.grammar.Key.the-variants.{Obs}
 use Rattle.scope.specs.Limits.{decimalLimit}
-use Rattle.scope.specs.Line.{Number, mass, text, reference, Part}
+use Rattle.scope.specs.Line.{Number, mass, text, reference, composition, Part}
 use Rattle.scope.specs.Lists.{given, keep, tabled}
 use Rattle.scope.specs.Modifications.{isKey}
 use Rattle.scope.specs.Tables.{millionths}
-use Rattle.scope.specs.Layout.{massCode, textCode, isNegative, numberIn, partIn, bracketIn, bracketsField, decimalsField, massField, partsField, valueField}
+use Rattle.scope.specs.Layout.{massCode, textCode, compositionCode, isNegative, numberIn, partIn, bracketIn, bracketsField, decimalsField, massField, partsField, valueField}
 use Rattle.scope.specs.Masses.{valueMass, firstMass, massOf, massOr0}
 use Rattle.areas.specs.Bounds.{Small, Bounds}
 use Rattle.basics.specs.Wholes.{abs-signed}
@@ -53,10 +53,12 @@ small-first g f b p j (suc n) h =
     subst (λ o. size o < b) (sym (first-cons g (f j) (tabled f (j + 1) n)))
     (small-cond (g (f j)) (valueMass (f j .value)) (firstMass (keep g (tabled f (j + 1) n))) b (h j (omega arith)) (small-first g f b p (j + 1) n (λ i q. h i (omega arith))))
 
-small-value : (n : Number (Unit {0})) (x : List ℕ) (t u : Bool) (b : ℕ) → natAbs (millionths n) < b → size (valueMass (cond t (mass n) (cond u (text x) reference))) < b
-small-value n x true u b h = h
-small-value n x false true b h = omega arith
-small-value n x false false b h = omega arith
+small-value : (n : Number (Unit {0})) (x : List ℕ) (t u c : Bool) (b : ℕ) → natAbs (millionths n) < b
+    → size (valueMass (cond t (mass n) (cond u (text x) (cond c (composition x n) reference)))) < b
+small-value n x true u c b h = h
+small-value n x false true c b h = omega arith
+small-value n x false false true b h = h
+small-value n x false false false b h = omega arith
 
 size-is : (o : Option ℤ) → size o ≡ natAbs (given o (λ m. m) (pos 0))
 size-is (some m) = refl
@@ -69,7 +71,7 @@ module _ {bs : List ℕ} {ns : List ℤ} (b : Bounds bs ns) {k : ℕ} (h : k < b
   small-part i q =
       small-value
       (numberIn (massField ns k i) (decimalsField bs k i)) _
-      (eqb (valueField bs k i) massCode) (eqb (valueField bs k i) textCode) massLimit
+      (eqb (valueField bs k i) massCode) (eqb (valueField bs k i) textCode) (eqb (valueField bs k i) compositionCode) massLimit
       (omega (arith, abs-millionths (massField ns k i) (decimalsField bs k i), b .bracket k h .part i q .small))
 
   abbrev firstOf : (Part (Unit {0}) → Bool) → Option ℤ

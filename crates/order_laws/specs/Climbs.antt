@@ -1,5 +1,5 @@
 -- Lists of brackets whose ranks do not fall: such a list goes on with a bracket that is no lower than all before it, and the test of tables says the same.
-use mathlib.Core.Path.{_≡_, refl, ap}
+use mathlib.Core.Path.{_≡_, refl, ap, _∙_}
 use mathlib.Core.Bool.{true, _&&_}
 use mathlib.Core.List.{List, [], _∷_, _++_, map}
 use Prim.Native.Nat.{ℕ, _≤_}
@@ -8,6 +8,7 @@ use native.Mathlib.Omega.{arith}
 use lib.Dec.{leb}
 use borrow.Author.Tests.{le-leb}
 use Rattle.scope.specs.Line.{Bracket, Line}
+use Rattle.scope.specs.Kept.{keptBracket, kept}
 use Rattle.scope.specs.Tables.{bareBracket, tablesOf}
 use Rattle.basics.specs.Each.{Each}
 use Rattle.basics.specs.Tests.{both}
@@ -41,12 +42,19 @@ module _ {P : Type 0} where
   climbs-rising q [] c w = refl
   climbs-rising q (k ∷ ks) c w = both (leb q (rank k)) (rising (rank k) ks) (le-leb q (rank k) (w .0)) (climbs-rising (rank k) ks c (w .1))
 
-  -- places do not matter
-  rising-bare : (q : ℕ) (ks : List (Bracket P)) → rising q (map bareBracket ks) ≡ rising q ks
-  unfolding rising
-  rising-bare q [] = refl
-  rising-bare q (k ∷ ks) = ap (λ t. leb q (rank k) && t) (rising-bare (rank k) ks)
+-- brackets that are changed into others of the same rank
+rising-same : {P Q : Type 0} (g : Bracket P → Bracket Q) → ((k : Bracket P) → rank (g k) ≡ rank k) → (q : ℕ) (ks : List (Bracket P)) → rising q (map g ks) ≡ rising q ks
+unfolding rising
+rising-same g e q [] = refl
+rising-same g e q (k ∷ ks) = ap (λ r. leb q r && rising r (map g ks)) (e k) ∙ ap (λ t. leb q (rank k) && t) (rising-same g e (rank k) ks)
 
-  pub ordered-bare : (l : Line P) → orderedb (tablesOf l) ≡ orderedb l
+module _ {P : Type 0} (l : Line P) where
+  -- places do not matter
+  pub ordered-bare : orderedb (tablesOf l) ≡ orderedb l
   unfolding orderedb tablesOf
-  ordered-bare l = rising-bare 0 (l .brackets)
+  ordered-bare = rising-same bareBracket (λ k. refl) 0 (l .brackets)
+
+  -- nor compositions
+  pub ordered-kept : orderedb (kept l) ≡ orderedb l
+  unfolding orderedb kept
+  ordered-kept = rising-same keptBracket (λ k. refl) 0 (l .brackets)

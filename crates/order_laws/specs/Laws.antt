@@ -1,6 +1,6 @@
 -- The order of a line's brackets: "A line has this order: runs of unknown-position brackets ..; labile `{..}`; N-terminal brackets and `-`; the
 -- sequence; `-` and C-terminal brackets." Ranks: Ranks.antt.
-use mathlib.Core.Path.{_≡_}
+use mathlib.Core.Path.{_≡_, ap, _∙_}
 use mathlib.Core.List.{List}
 use Prim.Native.Nat.{ℕ}
 use Rattle.scope.specs.Line.{Line}
@@ -18,7 +18,7 @@ read-ordered s l e = reader.read-ordered s l e
 
 -- of every accepted line
 pub accepted-ordered : (s : List ℕ) (l : Line ℕ) → outcome s ≡ accepted l → InOrder l
-accepted-ordered s l e = reader.read-ordered s l (taken s l e .reads)
+accepted-ordered s l e = let t = taken s l e in ap orderedb (t .keeps) ∙ climbs.ordered-kept (t .read) ∙ reader.read-ordered s (t .read) (t .reads)
 
 -- places do not matter
 pub same-order : {P : Type 0} (l : Line P) → orderedb (tablesOf l) ≡ orderedb l

@@ -1,2 +1,3 @@
 pub mod Outcomes
 pub mod Samples
+pub mod Compositions

@@ -11,13 +11,15 @@ use Rattle.scope.specs.declared.grammar.Key.the-variants.{Obs, Info}
 use Rattle.scope.specs.declared.grammar.Kind.{Kind}
 use Rattle.scope.specs.declared.grammar.Kind.the-variants.{Unknown, Labile, NTerm, OnResidue, OnRange, CTerm}
 use Rattle.scope.specs.Limits.{positionLimit}
-use Rattle.scope.specs.Line.{Number, Label, Value, mass, text, reference, Part, Bracket, Residue, Line}
-use Rattle.scope.specs.Lists.{given, keep, flat, optional, tabled, member}
+use Rattle.scope.specs.Line.{Number, Label, Value, mass, text, reference, composition, Part, Bracket, Residue, Line}
+use Rattle.scope.specs.Kinds.{isKind}
+use Rattle.scope.specs.Keys.{keyCode}
+use Rattle.scope.specs.Lists.{given, all, keep, flat, optional, tabled, member}
 use Rattle.scope.specs.Content.{isReference}
 use Rattle.scope.specs.Reading.{refers?}
 use Rattle.scope.specs.Refusals.{textIn}
 use Rattle.scope.specs.Modifications.{isKey, isModification, nameOf, namesOf, copies, definedBy, referredBy}
-use Rattle.scope.specs.Canonical.{size, scoreText, valueText, labelText, partText, partsText, squareText, curlyText, unknownText, ofKind, endingAt, goesOn, sequenceText, chainText, canonical}
+use Rattle.scope.specs.Canonical.{size, scoreText, valueText, labelText, partText, partsText, squareText, curlyText, unknownText, ofKind, endingAt, isNext, goesOn, sequenceText, chainText, canonical}
 use Rattle.scope.specs.Tables.{bareNumber, bareLabel, bareValue, barePart, bareBracket, bareResidue, tablesOf, millionths, scoreOf}
 use Rattle.scope.specs.Layout.{massIn, decimalsIn, packed, valueCode, partRow, partRows, scoreCode, bracketRow, bracketTexts, rows, sectionCode, bytesOf, numberRow, numbersOf}
 use Rattle.scope.specs.Positions.{nTerminus, cTerminus, sites, isPlaced, placedOn, struckOut, floaters, referredAt, mayStand, permitted, floatingOf, positions}
@@ -26,13 +28,90 @@ use Rattle.basics.specs.Lists.{map-map, flat-map, all-map, keep-map, keep-same,
 use Rattle.basics.specs.Tabled.{tabled-same}
 use Rattle.basics.specs.Positions.{same-floats}
 
+-- ---- the canonical line
+-- brackets that are changed into others of the same kind, place, count and text
+pub record Texted {P Q : Type 0} (g : Bracket P → Bracket Q) : Type 0 where
+  pub kind : (k : Bracket P) → g k .kind ≡ k .kind
+  pub last : (k : Bracket P) → g k .last ≡ k .last
+  pub count : (k : Bracket P) → g k .count ≡ k .count
+  pub parts : (k : Bracket P) → partsText (g k .parts) ≡ partsText (k .parts)
+
+-- parts that are changed into others of the same text
+pub parts-same : {P Q : Type 0} (f : Part P → Part Q) → ((p : Part P) → partText (f p) ≡ partText p) → (ps : List (Part P)) → partsText (map f ps) ≡ partsText ps
+unfolding partsText
+parts-same f e [] = refl
+parts-same f e (p ∷ []) = e p
+parts-same f e (p ∷ q ∷ ps) = ap₂ (λ x y. x ++ (124 ∷ y)) (e p) (parts-same f e (q ∷ ps))
+
+module _ {P Q : Type 0} (g : Bracket P → Bracket Q) (w : Texted g) (h : Residue P → Residue Q) (letters : (r : Residue P) → h r .letter ≡ r .letter)
+    (sections : (r : Residue P) → h r .section ≡ r .section) where
+  square-text : (k : Bracket P) → squareText (g k) ≡ squareText k
+  square-text k = rw (w .parts k)
+
+  curly-text : (k : Bracket P) → curlyText (g k) ≡ curlyText k
+  curly-text k = rw (w .parts k)
+
+  unknown-text : (k : Bracket P) → unknownText (g k) ≡ unknownText k
+  unknown-text k = rw (w .parts k, w .count k)
+
+  of-kind : (c : Kind) (ks : List (Bracket P)) → ofKind c (map g ks) ≡ map g (ofKind c ks)
+  of-kind c ks = keep-map (λ k. isKind c (k .kind)) (λ k. isKind c (k .kind)) g (λ k. ap (isKind c) (w .kind k)) ks
+
+  ending-at : (c : Kind) (i : ℕ) (ks : List (Bracket P)) → endingAt c i (map g ks) ≡ map g (endingAt c i ks)
+  ending-at c i ks =
+      ap (keep (λ k. eqb (k .last) i)) (of-kind c ks)
+      ∙ keep-map (λ k. eqb (k .last) i) (λ k. eqb (k .last) i) g (λ k. ap (λ n. eqb n i) (w .last k)) (ofKind c ks)
+
+  texts-at :
+      (f : Bracket Q → List ℕ) (u : Bracket P → List ℕ) → ((k : Bracket P) → f (g k) ≡ u k) → (c : Kind) (i : ℕ) (ks : List (Bracket P))
+      → flat f (endingAt c i (map g ks)) ≡ flat u (endingAt c i ks)
+  texts-at f u e c i ks = ap (flat f) (ending-at c i ks) ∙ flat-map f u g e (endingAt c i ks)
+
+  squares-at : (c : Kind) (i : ℕ) (ks : List (Bracket P)) → flat squareText (endingAt c i (map g ks)) ≡ flat squareText (endingAt c i ks)
+  squares-at = texts-at squareText squareText square-text
+
+  goes-on : (rs : List (Residue P)) → goesOn (map h rs) ≡ goesOn rs
+  goes-on [] = refl
+  goes-on (r ∷ rs) = ap isNext (sections r)
+
+  sequence-text : (ks : List (Bracket P)) (i : ℕ) (rs : List (Residue P)) → sequenceText (map g ks) i (map h rs) ≡ sequenceText ks i rs
+  unfolding sequenceText
+  sequence-text ks i [] = refl
+  sequence-text ks i (r ∷ rs) =
+      rw (letters r, sections r, squares-at OnResidue i ks, squares-at OnRange i ks, goes-on rs, sequence-text ks (i + 1) rs)
+
+  pub chain-text : (ks : List (Bracket P)) (p : ℕ) (rs : List (Residue P)) → chainText (map g ks) p (map h rs) ≡ chainText ks p rs
+  unfolding chainText
+  chain-text ks p rs =
+      let u = texts-at unknownText unknownText unknown-text Unknown p ks in
+      let v = texts-at curlyText curlyText curly-text Labile p ks in
+      rw (length-map rs h, u, v, squares-at NTerm p ks, squares-at CTerm (p + 1 + length rs) ks, sequence-text ks (p + 1) rs)
+
+-- ---- what a bracket is
+-- parts that are changed into others with the same key and name of a label, a reference into a reference
+pub record Likewise {P Q : Type 0} (f : Part P → Part Q) : Type 0 where
+  pub key : (p : Part P) → f p .key ≡ p .key
+  pub refers : (p : Part P) → isReference (f p .value) ≡ isReference (p .value)
+  pub names : (p : Part P) → nameOf (f p) ≡ nameOf p
+
+module _ {P Q : Type 0} (f : Part P → Part Q) (w : Likewise f) where
+  pub same-info : (ps : List (Part P)) → all (isKey Info) (map f ps) ≡ all (isKey Info) ps
+  same-info ps = all-map (isKey Info) (isKey Info) f (λ p. ap (λ k. eqb (keyCode k) (keyCode Info)) (w .key p)) ps
+
+  pub same-refers : (ps : List (Part P)) → refers? (map f ps) ≡ refers? ps
+  same-refers [] = refl
+  same-refers (p ∷ ps) = w .refers p
+
+  pub same-names : (ps : List (Part P)) → flat nameOf (map f ps) ≡ flat nameOf ps
+  same-names ps = flat-map nameOf nameOf f (w .names) ps
+
 module _ {P : Type 0} where
-  -- ---- the canonical line
   value-text : (v : Value P) → valueText (bareValue v) ≡ valueText v
   unfolding size
   value-text (mass n) = refl
   value-text (text t) = refl
   value-text reference = refl
+  value-text (composition t n) = refl
 
   score-text :
       (s : Option (Number P))
@@ -50,60 +129,20 @@ module _ {P : Type 0} where
   part-text p = rw (value-text (p .value), label-text (p .label))
 
   pub parts-text : (ps : List (Part P)) → partsText (map barePart ps) ≡ partsText ps
-  unfolding partsText
-  parts-text [] = refl
-  parts-text (p ∷ []) = part-text p
-  parts-text (p ∷ q ∷ ps) = ap₂ (λ x y. x ++ (124 ∷ y)) (part-text p) (parts-text (q ∷ ps))
-
-  square-text : (k : Bracket P) → squareText (bareBracket k) ≡ squareText k
-  square-text k = rw (parts-text (k .parts))
-
-  curly-text : (k : Bracket P) → curlyText (bareBracket k) ≡ curlyText k
-  curly-text k = rw (parts-text (k .parts))
-
-  unknown-text : (k : Bracket P) → unknownText (bareBracket k) ≡ unknownText k
-  unknown-text k = rw (parts-text (k .parts))
-
-  of-kind : (c : Kind) (ks : List (Bracket P)) → ofKind c (map bareBracket ks) ≡ map bareBracket (ofKind c ks)
-  of-kind c ks = keep-map _ _ bareBracket (λ k. refl) ks
-
-  ending-at : (c : Kind) (i : ℕ) (ks : List (Bracket P)) → endingAt c i (map bareBracket ks) ≡ map bareBracket (endingAt c i ks)
-  ending-at c i ks = ap (keep (λ k. eqb (k .last) i)) (of-kind c ks) ∙ keep-map _ _ bareBracket (λ k. refl) (ofKind c ks)
-
-  texts-at :
-      (f : Bracket (Unit {0}) → List ℕ) (g : Bracket P → List ℕ) → ((k : Bracket P) → f (bareBracket k) ≡ g k) → (c : Kind) (i : ℕ) (ks : List (Bracket P))
-      → flat f (endingAt c i (map bareBracket ks)) ≡ flat g (endingAt c i ks)
-  texts-at f g e c i ks = ap (flat f) (ending-at c i ks) ∙ flat-map f g bareBracket e (endingAt c i ks)
-
-  squares-at : (c : Kind) (i : ℕ) (ks : List (Bracket P)) → flat squareText (endingAt c i (map bareBracket ks)) ≡ flat squareText (endingAt c i ks)
-  squares-at = texts-at squareText squareText square-text
-
-  goes-on : (rs : List (Residue P)) → goesOn (map bareResidue rs) ≡ goesOn rs
-  goes-on [] = refl
-  goes-on (r ∷ rs) = refl
-
-  sequence-text :
-      (ks : List (Bracket P)) (i : ℕ) (rs : List (Residue P)) → sequenceText (map bareBracket ks) i (map bareResidue rs) ≡ sequenceText ks i rs
-  unfolding sequenceText
-  sequence-text ks i [] = refl
-  sequence-text ks i (r ∷ rs) = rw (squares-at OnResidue i ks, squares-at OnRange i ks, goes-on rs, sequence-text ks (i + 1) rs)
-
-  chain-text : (ks : List (Bracket P)) (p : ℕ) (rs : List (Residue P)) → chainText (map bareBracket ks) p (map bareResidue rs) ≡ chainText ks p rs
-  unfolding chainText
-  chain-text ks p rs =
-      let u = texts-at unknownText unknownText unknown-text Unknown p ks in
-      let v = texts-at curlyText curlyText curly-text Labile p ks in
-      rw (length-map rs bareResidue, u, v, squares-at NTerm p ks, squares-at CTerm (p + 1 + length rs) ks, sequence-text ks (p + 1) rs)
+  parts-text ps = parts-same barePart part-text ps
 
   pub same-canonical : (l : Line P) → canonical (tablesOf l) ≡ canonical l
   unfolding canonical tablesOf
-  same-canonical l = chain-text (l .brackets) 0 (l .residues)
+  same-canonical l =
+      chain-text bareBracket (record { kind = λ k. refl; last = λ k. refl; count = λ k. refl; parts = λ k. parts-text (k .parts) }) bareResidue (λ r. refl) (λ r. refl)
+      (l .brackets) 0 (l .residues)
 
   -- ---- the areas
   text-in : (v : Value P) → textIn (bareValue v) ≡ textIn v
   text-in (mass n) = refl
   text-in (text t) = refl
   text-in reference = refl
+  text-in (composition t n) = refl
 
   label-of : (l : Option (Label P)) → given (optional bareLabel l) (λ l. l .name) [] ≡ given l (λ l. l .name) []
   label-of none = refl
@@ -113,16 +152,19 @@ module _ {P : Type 0} where
   value-code (mass n) = refl
   value-code (text t) = refl
   value-code reference = refl
+  value-code (composition t n) = refl
 
   decimals-in : (v : Value P) → decimalsIn (bareValue v) ≡ decimalsIn v
   decimals-in (mass n) = refl
   decimals-in (text t) = refl
   decimals-in reference = refl
+  decimals-in (composition t n) = refl
 
   mass-in : (v : Value P) → massIn (bareValue v) ≡ massIn v
   mass-in (mass n) = refl
   mass-in (text t) = refl
   mass-in reference = refl
+  mass-in (composition t n) = refl
 
   packed-bare : (p : Part P) → packed (barePart p) ≡ packed p
   packed-bare p = rw (text-in (p .value), label-of (p .label))
@@ -204,26 +246,26 @@ module _ {P : Type 0} where
   is-reference (mass n) = refl
   is-reference (text t) = refl
   is-reference reference = refl
+  is-reference (composition t n) = refl
 
-  refers-bare : (ps : List (Part P)) → refers? (map barePart ps) ≡ refers? ps
-  refers-bare [] = refl
-  refers-bare (p ∷ ps) = is-reference (p .value)
-
-  pub is-modification : (k : Bracket P) → isModification (bareBracket k) ≡ isModification k
-  is-modification k = rw (all-map (isKey Info) (isKey Info) barePart (λ p. refl) (k .parts), refers-bare (k .parts))
-
-  pub names-of : (k : Bracket P) → namesOf (bareBracket k) ≡ namesOf k
-  names-of k = flat-map nameOf nameOf barePart (λ p. go (p .label)) (k .parts)
+  pub likewise-bare : Likewise {P = P} barePart
+  likewise-bare = record { key = λ p. refl; refers = λ p. is-reference (p .value); names = λ p. go (p .label) }
     where
       go : (l : Option (Label P)) → given (optional bareLabel l) (λ l. l .name ∷ []) [] ≡ given l (λ l. l .name ∷ []) []
       go none = refl
       go (some l) = refl
 
+  pub is-modification : (k : Bracket P) → isModification (bareBracket k) ≡ isModification k
+  is-modification k = rw (same-info barePart likewise-bare (k .parts), same-refers barePart likewise-bare (k .parts))
+
+  pub names-of : (k : Bracket P) → namesOf (bareBracket k) ≡ namesOf k
+  names-of k = same-names barePart likewise-bare (k .parts)
+
   defined-by : (k : Bracket P) → definedBy (bareBracket k) ≡ definedBy k
-  defined-by k = rw (names-of k, refers-bare (k .parts))
+  defined-by k = rw (names-of k, same-refers barePart likewise-bare (k .parts))
 
   referred-by : (k : Bracket P) → referredBy (bareBracket k) ≡ referredBy k
-  referred-by k = rw (names-of k, refers-bare (k .parts))
+  referred-by k = rw (names-of k, same-refers barePart likewise-bare (k .parts))
 
   pub copies-bare : (k : Bracket P) → copies (bareBracket k) ≡ copies k
   unfolding copies
@@ -278,6 +320,7 @@ module _ {P : Type 0} where
   value-mass (mass n) = refl
   value-mass (text t) = refl
   value-mass reference = refl
+  value-mass (composition t n) = refl
 
   first-mass : (ps : List (Part P)) → firstMass (map barePart ps) ≡ firstMass ps
   unfolding firstMass

@@ -15,7 +15,7 @@ use Rattle.scope.specs.declared.grammar.Slot.{Slot}
 use Rattle.scope.specs.declared.grammar.Act.{Act}
 use Rattle.scope.specs.declared.grammar.Act.the-variants.{Stop, Go, Residue as aResidue, Begin, Digit, RunEnds, TermEnds}
 use Rattle.scope.specs.Bytes.{isShutting}
-use Rattle.scope.specs.Keys.{Form, massOrName, massOnly, digits, alnums, free, form, hashIsPlain, accessionByte}
+use Rattle.scope.specs.Keys.{Form, massOrName, massOnly, digits, alnums, free, composed, form, hashIsPlain, accessionByte}
 use Rattle.scope.specs.Line.{mass, text, Part}
 use Rattle.scope.specs.Content.{Digits, signed, whole, pointed, broken, digitStep, numberOf, numberEnd, textStep, Context, Inner, begin, plain, keyed, inNumber, inCode, inText, hashed, inLabel, scoring, inScore, scored, closed, going, unlabelled, labelled, partEnd, valueEnd, textEnd, innerStep}
 use Rattle.scope.specs.Reading.{element, further, groupFirst, inGroup, undecided, counted, referred, act, mayEnd, Held, withBracket, State, dead, outside, inside, perform, modeAfter, resume, step, run}
@@ -92,6 +92,7 @@ module _ {P : Type 0} (c : Context P) where
   accession-shut alnums square = refl
   accession-shut alnums curly = refl
   accession-shut free w = refl
+  accession-shut composed w = refl
 
   code-shut : {y : ℕ} (i at : P) (k : Key) (x : ℕ) (t : List ℕ) → Closer y → c .shut ≡ y
       → innerStep i (inCode c at k (x ∷ t)) y ≡ closed (c .parts ++ (unlabelled at k (text (x ∷ t)) ∷ []))
@@ -233,6 +234,7 @@ module _ {P : Type 0} (note : ℕ → P) (s : Slot) (from : P) (h : Held P) wher
     a-plain digits = refl
     a-plain alnums = refl
     a-plain free = refl
+    a-plain composed = refl
 
     text-finished : (i : ℕ) (at : P) (k : Key) (t cs : List ℕ) → Closers cs → Finished note i (inside s from h (inText c at k t cs))
     unfolding innerStep

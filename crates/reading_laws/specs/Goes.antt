@@ -9,7 +9,7 @@ use lib.Dec.{eqb}
 use Rattle.scope.specs.declared.grammar.Key.{Key}
 use Rattle.scope.specs.declared.grammar.Key.the-variants.{NoKey}
 use Rattle.scope.specs.Bytes.{isDigit, isAlnum, isSign, bar, hash, colon, dash, openRound, shutRound, value}
-use Rattle.scope.specs.Keys.{keyOf, Form, massOrName, massOnly, digits, alnums, free, form, hashIsPlain, accessionByte}
+use Rattle.scope.specs.Keys.{keyOf, Form, massOrName, massOnly, digits, alnums, free, composed, form, hashIsPlain, accessionByte}
 use Rattle.scope.specs.Line.{Number, mass, text, reference, Part}
 use Rattle.scope.specs.Content.{Digits, signed, whole, digitStep, numberEnd, isPlain, textStep, Context, Inner, begin, plain, keyed, inNumber, inCode, inText, hashed, inLabel, scoring, inScore, scored, Content, lost, closed, going, with, unlabelled, labelled, isReference, partEnd, valueEnd, textEnd, behindKey, colonAfter, nameBehind, innerStep}
 use Rattle.scope.specs.Lists.{none?}
@@ -22,6 +22,16 @@ takesMass massOnly = true
 takesMass digits = false
 takesMass alnums = false
 takesMass free = false
+takesMass composed = false
+
+-- nothing but a text may stand behind the key
+abbrev pub takesText : Form → Bool
+takesText massOrName = false
+takesText massOnly = false
+takesText digits = false
+takesText alnums = false
+takesText free = true
+takesText composed = true
 
 -- a state's part is whole but for a label: its text or its mass may be over
 pub data Valued {P : Type 0} : Inner P → Context P → Part P → Type 0 where
@@ -49,7 +59,7 @@ pub data On {P : Type 0} (i : P) (b : ℕ) : Inner P → Inner P → Type 0 wher
   no-key : {c : Context P} {at : P} {t : List ℕ} → eqb b colon ≡ true → keyOf t ≡ none → On i b (plain c at t) (inText c at NoKey (t ++ (colon ∷ [])) [])
   key-name : {c : Context P} {at : P} {t : List ℕ} {k : Key} → eqb b colon ≡ true → keyOf t ≡ some k → takesMass (form k) ≡ true → On i b (plain c at t) (keyed c at k)
   key-code : {c : Context P} {at : P} {t : List ℕ} {k : Key} → eqb b colon ≡ true → keyOf t ≡ some k → accessionByte (form k) 48 ≡ true → On i b (plain c at t) (inCode c at k [])
-  key-text : {c : Context P} {at : P} {t : List ℕ} {k : Key} → eqb b colon ≡ true → keyOf t ≡ some k → form k ≡ free → On i b (plain c at t) (inText c at k [] [])
+  key-text : {c : Context P} {at : P} {t : List ℕ} {k : Key} → eqb b colon ≡ true → keyOf t ≡ some k → takesText (form k) ≡ true → On i b (plain c at t) (inText c at k [] [])
   -- behind a key
   keyed-mass : {c : Context P} {at : P} {k : Key} → isSign b ≡ true → On i b (keyed c at k) (inNumber c at k i (signed (eqb b dash)))
   keyed-text : {c : Context P} {at : P} {k : Key} {cs : List ℕ} → form k ≡ massOrName → textStep false [] b ≡ some cs → On i b (keyed c at k) (inText c at k (b ∷ []) cs)
@@ -105,7 +115,8 @@ module _ {P : Type 0} (i : P) (b : ℕ) where
       behind k massOnly g f = goes-on (key-name e f (rw g refl))
       behind k digits g f = goes-on (key-code e f (rw g refl))
       behind k alnums g f = goes-on (key-code e f (rw g refl))
-      behind k free g f = goes-on (key-text e f g)
+      behind k free g f = goes-on (key-text e f (rw g refl))
+      behind k composed g f = goes-on (key-text e f (rw g refl))
 
   name : (c : Context P) (at : P) (k : Key) (q : Form) → form k ≡ q → Goes i b (keyed c at k) (nameBehind c at k q b)
   name c at k massOrName g = onGiven (Goes i b (keyed c at k)) (textStep false [] b) (λ cs e. goes-on (keyed-text g e)) stops
@@ -113,6 +124,7 @@ module _ {P : Type 0} (i : P) (b : ℕ) where
   name c at k digits g = stops
   name c at k alnums g = stops
   name c at k free g = stops
+  name c at k composed g = stops
 
   pub goes : (s : Inner P) → Goes i b s (innerStep i s b)
   unfolding innerStep

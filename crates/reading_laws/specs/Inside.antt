@@ -11,11 +11,11 @@ use borrow.Author.Tests.{eqb-true, ltb-true}
 use Rattle.scope.specs.Bytes.{isPrintable, isOpening}
 use Rattle.scope.specs.Limits.{lineLimit, residueLimit, bracketLimit, partLimit, textLimit, labelLimit, depthLimit, countLimit, copyLimit}
 use Rattle.scope.specs.Keys.{written}
-use Rattle.scope.specs.Line.{Number, Value, mass, text, reference, Part, Bracket, Line}
+use Rattle.scope.specs.Line.{Number, Value, mass, text, reference, composition, Part, Bracket, Line}
 use Rattle.scope.specs.Lists.{given, none?, flat}
 use Rattle.scope.specs.Reading.{Reading, stuck, holds, reading}
 use Rattle.scope.specs.Modifications.{onlyInfo, copies, definedBy, defined, referredTo}
-use Rattle.scope.specs.Refusals.{least, dueAt, refusal1, refusal2, unprintable, refusal3, refusal4, depthAfter, tooDeep, textOf, deepPart, refusal5, longText, longLabel, overIn, refusal6, inRange, wide, wideMass, wideScore, refusal7, notHere, refusal8, isNumberName, refusal9, refusal10, wrongLabels, wronglyLabelled, refusal11, passing, refusal12, Due, due, byteRefusals, lineRefusals}
+use Rattle.scope.specs.Refusals.{least, dueAt, refusal1, refusal2, unprintable, refusal3, refusal4, depthAfter, tooDeep, textOf, deepPart, refusal5, longText, longLabel, overIn, refusal6, inRange, wide, wideMass, wideScore, refusal7, notHere, refusal8, isNumberName, refusal9, refusal10, wrongLabels, wronglyLabelled, refusal11, passing, refusal12, isUncut, refusal19, Due, due, byteRefusals, lineRefusals}
 use Rattle.scope.specs.Kinds.{unknownOrLabile}
 use Rattle.basics.specs.Choice.{branch-on}
 use Rattle.basics.specs.Each.{Each, OfGiven, each-append, each-in, each-one, each-through}
@@ -96,6 +96,7 @@ module _ (n : ℕ) where
   under-mass (mass x) w = under-wide x w
   under-mass (text t) w = tt
   under-mass reference w = tt
+  under-mass (composition t x) w = tt
 
   under-score : (p : Part ℕ) → WithinPart n p → Under (wideScore p)
   under-score p w =
@@ -140,7 +141,7 @@ place-inside n (d ∷ ds) k w =
     branch-on (λ l. Each (AtPlace n k) l) (eqb (d .number) k) (λ q. subst (λ x. Each (AtPlace n x) (d .places)) (eqb-true (d .number) k q) (w .0))
     (λ q. place-inside n ds k (w .1))
 
--- 5 to 12
+-- 5 to 12, and 19
 module _ (n : ℕ) (l : Line ℕ) (w : WithinLine n l) where
   pub under5 : Under n (refusal5 l)
   unfolding refusal5
@@ -184,9 +185,13 @@ module _ (n : ℕ) (l : Line ℕ) (w : WithinLine n l) where
   unfolding refusal12
   under12 = under-passing n 0 (l .brackets) (w .brackets)
 
+  pub under19 : Under n (refusal19 l)
+  unfolding refusal19
+  under19 = under-parts n _ (λ p v. under-due n (isUncut p) (p .at) (v .at)) l w
+
   -- of each refusal, in the order of trying
   pub line-under : Each (λ d. Under n (d .places)) (lineRefusals l)
-  line-under = (under5, (under6, (under7, (under8, (under9, (under10, (under11, (under12, tt))))))))
+  line-under = (under5, (under6, (under7, (under8, (under9, (under10, (under11, (under12, (under19, tt)))))))))
 
 -- 1 to 3
 bytes-inside : (s : List ℕ) → Each (InsideDue (length s)) (byteRefusals s)

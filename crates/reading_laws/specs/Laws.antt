@@ -9,6 +9,7 @@ use lib.Dec.{eqb}
 use lib.ListN.{length, take}
 use Rattle.scope.specs.Line.{Line}
 use Rattle.scope.specs.Reading.{Reading, stuck, holds, reading}
+use Rattle.scope.specs.Kept.{kept}
 use Rattle.scope.specs.Refusals.{least, refusal3, refusal4, Due, due, Outcome, accepted, refused, firstDue, lineRefusals, byteRefusals, outcome}
 use Rattle.basics.specs.Each.{Each, In}
 
@@ -56,6 +57,10 @@ behind (holds l) = lineRefusals l
 unfoldable pub dues : List ℕ → List Due
 dues s = byteRefusals s ++ (due 4 (refusal4 (reading s)) ∷ behind (reading s))
 
+-- l is what is kept of what the line s holds
+abbrev pub KeptOf : List ℕ → Line ℕ → Type 0
+KeptOf s l = (r : Line ℕ) × (reading s ≡ holds r) × (l ≡ kept r)
+
 -- ---- the laws
 pub record Laws : Type 0 where
   -- 4 "Given exactly when .. not of the order above, limits apart", at "first byte with which no line of any length begins so; else the line's
@@ -69,9 +74,9 @@ pub record Laws : Type 0 where
   pub no-place : (l : List ℕ) → least l ≡ none ↔ (l ≡ [])
   -- "tries .. in that order", for any list of refusals: the first that is due is given, and where none is, what is left
   pub in-order : (ds : List Due) (o : Outcome) (k i : ℕ) → firstDue ds o ≡ refused k i ↔ (First ds k i ⊎ (Clear ds × (o ≡ refused k i)))
-  -- "Reading tries .. 1 to 12 in that order; the lowest number wins": a number is given exactly when it is due and no lower one is, at its first place
+  -- "Reading tries .. 1 to 12 in that order; the lowest number wins", and 19 "after 12": a number is given exactly when it is due and no lower one is, at its first place
   pub lowest-wins : (s : List ℕ) (k i : ℕ) → outcome s ≡ refused k i ↔ Lowest (dues s) k i
-  -- a line is accepted exactly when it is of the order and no number is due
-  pub none-due : (s : List ℕ) (l : Line ℕ) → outcome s ≡ accepted l ↔ ((reading s ≡ holds l) × ((k : ℕ) → placesOf (dues s) k ≡ []))
+  -- a line is accepted exactly when it is of the order and no number is due, with what is kept of it
+  pub none-due : (s : List ℕ) (l : Line ℕ) → outcome s ≡ accepted l ↔ (KeptOf s l × ((k : ℕ) → placesOf (dues s) k ≡ []))
   -- the table's column "Place": each is a byte of the line, but for 1 and 4, whose place may be its length
   pub inside-line : (s : List ℕ) (k : ℕ) → Each (λ i. (i ≤ length s) × ((k ≡ 1 → ⊥) → (k ≡ 4 → ⊥) → i < length s)) (placesOf (dues s) k)

@@ -6,6 +6,7 @@ pub mod Places
 pub mod Run
 pub mod Unnoted
 pub mod Bare
+pub mod Compositions
 pub mod Reached
 pub mod Finished
 pub mod Stuck

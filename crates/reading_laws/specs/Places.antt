@@ -16,8 +16,8 @@ use Rattle.scope.specs.declared.grammar.Act.{Act}
 use Rattle.scope.specs.declared.grammar.Act.the-variants.{Stop, Go, Residue as aResidue, Begin, Digit, RunEnds, TermEnds}
 use Rattle.scope.specs.Bytes.{isSign, isDigit, isAlnum, bar, hash, colon, openRound, shutRound, value}
 use Rattle.scope.specs.Kinds.{isUnknown}
-use Rattle.scope.specs.Keys.{keyOf, Form, massOrName, massOnly, digits, alnums, free, form, hashIsPlain, accessionByte}
-use Rattle.scope.specs.Line.{Number, Label, Value, mass, text, reference, Part, Bracket, Residue, Line}
+use Rattle.scope.specs.Keys.{keyOf, Form, massOrName, massOnly, digits, alnums, free, composed, form, hashIsPlain, accessionByte}
+use Rattle.scope.specs.Line.{Number, Label, Value, mass, text, reference, composition, Part, Bracket, Residue, Line}
 use Rattle.scope.specs.Lists.{given, none?, onLast, optional}
 use Rattle.scope.specs.Content.{Digits, signed, whole, pointed, broken, digitStep, numberEnd, isPlain, textStep, Context, Inner, begin, plain, keyed, inNumber, inCode, inText, hashed, inLabel, scoring, inScore, scored, Content, lost, closed, going, with, unlabelled, labelled, isReference, partEnd, valueEnd, textEnd, behindKey, colonAfter, nameBehind, innerStep}
 use Rattle.scope.specs.Reading.{act, Held, withResidue, bracketOf, put, withBracket, times, countDigit, withDigit, asNTerm, settledRun, State, dead, outside, inside, perform, refers?, modeAfter, resume, step}
@@ -37,6 +37,7 @@ module _ {P Q : Type 0} (f : P → Q) where
   mapValue (mass n) = mass (mapNumber n)
   mapValue (text t) = text t
   mapValue reference = reference
+  mapValue (composition t n) = composition t (mapNumber n)
 
   abbrev pub mapPart : Part P → Part Q
   mapPart p = record { key = p .key; value = mapValue (p .value); label = optional mapLabel (p .label); at = f (p .at) }
@@ -103,6 +104,7 @@ module _ {P Q : Type 0} (f : P → Q) where
   isReference-map (mass n) = refl
   isReference-map (text t) = refl
   isReference-map reference = refl
+  isReference-map (composition t n) = refl
 
   partEnd-map : (c : Context P) (p : Part P) (b : ℕ) → mapContent f (partEnd c p b) ≡ partEnd (mapContext f c) (mapPart f p) b
   unfolding partEnd
@@ -128,6 +130,7 @@ module _ {P Q : Type 0} (f : P → Q) where
   behindKey-map c at k digits = refl
   behindKey-map c at k alnums = refl
   behindKey-map c at k free = refl
+  behindKey-map c at k composed = refl
 
   colonAfter-map : (c : Context P) (at : P) (t : List ℕ) → mapInner f (colonAfter c at t) ≡ colonAfter (mapContext f c) (f at) t
   unfolding colonAfter
@@ -140,6 +143,7 @@ module _ {P Q : Type 0} (f : P → Q) where
   nameBehind-map c at k digits b = refl
   nameBehind-map c at k alnums b = refl
   nameBehind-map c at k free b = refl
+  nameBehind-map c at k composed b = refl
 
   none-map : (ps : List (Part P)) → none? (map (mapPart f) ps) ≡ none? ps
   none-map [] = refl
@@ -267,6 +271,7 @@ module _ {P Q : Type 0} (f : P → Q) where
   bareValue-map (mass n) = refl
   bareValue-map (text t) = refl
   bareValue-map reference = refl
+  bareValue-map (composition t n) = refl
 
   pub barePart-map : (p : Part P) → barePart (mapPart f p) ≡ barePart p
   barePart-map p = rw (bareValue-map (p .value), optional-map bareLabel bareLabel (mapLabel f) bareLabel-map (p .label))

@@ -11,10 +11,11 @@ use borrow.Author.Tests.{eq-eqb, ne-eqb, leb-true, leb-false}
 use Rattle.scope.specs.Line.{Line}
 use Rattle.scope.specs.Lists.{given}
 use Rattle.scope.specs.Reading.{Reading, stuck, holds, reading}
+use Rattle.scope.specs.Kept.{kept}
 use Rattle.scope.specs.Refusals.{least, refusal4, Due, due, Outcome, accepted, refused, firstDue, judged, byteRefusals, outcome}
 use Rattle.basics.specs.Choice.{branch-on}
 use Rattle.basics.specs.Each.{In, each-in, each-one}
-use Rattle.reading_laws.specs.Laws.{Clear, First, Least, placesOf, Lowest, behind, dues}
+use Rattle.reading_laws.specs.Laws.{Clear, First, Least, placesOf, Lowest, behind, dues, KeptOf}
 
 -- ---- the first place of a list
 least-first : (x : ℕ) (l : List ℕ) → Least (x ∷ l) (given (least l) (min x) x)
@@ -158,7 +159,7 @@ dues-rising s = go (reading s)
   where
     above : (r : Reading) → Rising 4 (behind r)
     above (stuck i) = tt
-    above (holds l) = (omega arith, (omega arith, (omega arith, (omega arith, (omega arith, (omega arith, (omega arith, (omega arith, tt))))))))
+    above (holds l) = (omega arith, (omega arith, (omega arith, (omega arith, (omega arith, (omega arith, (omega arith, (omega arith, (omega arith, tt)))))))))
 
     go : (r : Reading) → Rising 0 (byteRefusals s ++ (due 4 (refusal4 r) ∷ behind r))
     go r = (omega arith, (omega arith, (omega arith, (omega arith, above r))))
@@ -166,7 +167,7 @@ dues-rising s = go (reading s)
 -- what is left where none is due; where the line is stuck, 4 is
 last : Reading → Outcome
 last (stuck i) = refused 4 i
-last (holds l) = accepted l
+last (holds l) = accepted (kept l)
 
 judged-dues : (r : Reading) → judged r ≡ firstDue (due 4 (refusal4 r) ∷ behind r) (last r)
 unfolding firstDue least last
@@ -190,10 +191,10 @@ unfolding last
 last-accepted (stuck j) k i p q = let z : _≡_ {A = ℕ} 0 1 = cc in omega arith
 last-accepted (holds l) k i p q = let z : _≡_ {A = ℕ} 0 1 = cc in omega arith
 
-last-holds : (r : Reading) (l : Line ℕ) → last r ≡ accepted l → r ≡ holds l
+last-holds : (r : Reading) (l : Line ℕ) → last r ≡ accepted l → (t : Line ℕ) × (r ≡ holds t) × (l ≡ kept t)
 unfolding last
 last-holds (stuck j) l q = let z : _≡_ {A = ℕ} 0 1 = cc in absurd (omega arith)
-last-holds (holds t) l q = cc
+last-holds (holds t) l q = (t, refl, cc)
 
 at-four : (s : List ℕ) → placesOf (dues s) 4 ≡ refusal4 (reading s)
 unfolding dues placesOf
@@ -220,7 +221,7 @@ clear-cases (d ∷ ds) o l e = go (least (d .places)) refl (clear-cases ds o l)
         absurd (omega arith)
     go none q ih = let c = ih (rw q at e) in ((least-none (d .places) .0 q, c .0), c .1)
 
-accepted-none : (s : List ℕ) (l : Line ℕ) → outcome s ≡ accepted l → (reading s ≡ holds l) × ((k : ℕ) → placesOf (dues s) k ≡ [])
+accepted-none : (s : List ℕ) (l : Line ℕ) → outcome s ≡ accepted l → KeptOf s l × ((k : ℕ) → placesOf (dues s) k ≡ [])
 accepted-none s l e =
     let c = clear-cases (dues s) (last (reading s)) l (sym (outcome-dues s) ∙ e) in
     (last-holds (reading s) l (c .1), λ k. clear-none (dues s) k (c .0))
@@ -244,20 +245,20 @@ lowest-given s k i p = go (outcome s) refl
         let b = u .1 in
         cc
 
-none-accepted : (s : List ℕ) (l : Line ℕ) → (reading s ≡ holds l) × ((k : ℕ) → placesOf (dues s) k ≡ []) → outcome s ≡ accepted l
+none-accepted : (s : List ℕ) (l : Line ℕ) → KeptOf s l × ((k : ℕ) → placesOf (dues s) k ≡ []) → outcome s ≡ accepted l
 none-accepted s l p = go (outcome s) refl
   where
     go : (o : Outcome) → outcome s ≡ o → outcome s ≡ accepted l
     go (accepted t) e =
         let a = accepted-none s t e .0 in
         let b = p .0 in
-        let f : holds t ≡ holds l = cc in
-        let g : t ≡ l = cc in
-        e ∙ ap accepted g
+        let f : holds (a .0) ≡ holds (b .0) = sym (a .1) ∙ b .1 in
+        let g : a .0 ≡ b .0 = cc in
+        e ∙ ap accepted (a .2 ∙ ap kept g ∙ sym (b .2))
     go (refused m j) e = absurd (not-least (placesOf (dues s) m) j (given-lowest s m j e .0) (p .1 m))
 
 pub refused-law : (s : List ℕ) (k i : ℕ) → outcome s ≡ refused k i ↔ Lowest (dues s) k i
 refused-law s k i = (given-lowest s k i, lowest-given s k i)
 
-pub accepted-law : (s : List ℕ) (l : Line ℕ) → outcome s ≡ accepted l ↔ ((reading s ≡ holds l) × ((k : ℕ) → placesOf (dues s) k ≡ []))
+pub accepted-law : (s : List ℕ) (l : Line ℕ) → outcome s ≡ accepted l ↔ (KeptOf s l × ((k : ℕ) → placesOf (dues s) k ≡ []))
 accepted-law s l = (accepted-none s l, none-accepted s l)

@@ -11,7 +11,7 @@ use borrow.Author.Tests.{le-leb, leb-true, eqb-true}
 use Rattle.scope.specs.declared.grammar.Mode.{Mode}
 use Rattle.scope.specs.declared.grammar.Act.the-variants.{Stop}
 use Rattle.scope.specs.Bytes.{isPrintable, isLetter, isDigit, isAlnum, isSign, isOpening, isShutting, bar, hash, colon, dot}
-use Rattle.scope.specs.Keys.{Form, massOrName, massOnly, digits, alnums, free, form, hashIsPlain, accessionByte}
+use Rattle.scope.specs.Keys.{Form, massOrName, massOnly, digits, alnums, free, composed, form, hashIsPlain, accessionByte}
 use Rattle.scope.specs.Line.{Line}
 use Rattle.scope.specs.Content.{Digits, signed, whole, pointed, broken, digitStep, isPlain, textStep, Inner, Content, lost}
 use Rattle.scope.specs.Reading.{act, State, dead, outside, inside, perform, resume, step, run, start, holds, ended, reading}
@@ -115,6 +115,7 @@ module _ (b : ℕ) (u : isPrintable b ≡ false) where
   accession-stops digits = no-digit
   accession-stops alnums = no-alnum
   accession-stops free = refl
+  accession-stops composed = refl
 
   module _ {P : Type 0} where
     on-never : {i : P} {s t : Inner P} → On i b s t → Good s → ⊥

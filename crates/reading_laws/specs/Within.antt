@@ -15,7 +15,7 @@ use Rattle.scope.specs.declared.grammar.Act.{Act}
 use Rattle.scope.specs.declared.grammar.Act.the-variants.{Stop, Go, Residue as aResidue, Begin, Digit, RunEnds, TermEnds}
 use Rattle.scope.specs.Bytes.{sameFolded, colon, value}
 use Rattle.scope.specs.Keys.{spell, keys, keyAmong, keyOf, written}
-use Rattle.scope.specs.Line.{Number, Label, Value, mass, text, reference, Part, Bracket, Residue, Line}
+use Rattle.scope.specs.Line.{Number, Label, Value, mass, text, reference, composition, Part, Bracket, Residue, Line}
 use Rattle.scope.specs.Lists.{given}
 use Rattle.scope.specs.Content.{Digits, signed, whole, pointed, broken, numberEnd, Context, Inner, begin, plain, keyed, inNumber, inCode, inText, hashed, inLabel, scoring, inScore, scored, Content, lost, closed, going, unlabelled, labelled, innerStep}
 use Rattle.scope.specs.Reading.{act, Held, withResidue, bracketOf, put, countDigit, asNTerm, settledRun, State, dead, outside, inside, perform, resume, step, run, holds, reading}
@@ -39,6 +39,7 @@ module _ (n : ℕ) where
   WithinValue (mass x) = WithinNumber x
   WithinValue (text t) = Unit {0}
   WithinValue reference = Unit {0}
+  WithinValue (composition t x) = WithinNumber x
 
   pub record WithinPart (p : Part ℕ) : Type 0 where
     pub at : p .at < n

@@ -11,7 +11,7 @@ use Rattle.scope.specs.declared.grammar.Kind.{Kind}
 use Rattle.scope.specs.declared.grammar.Kind.the-variants.{Unknown, Labile, NTerm, OnResidue, OnRange, CTerm}
 use Rattle.scope.specs.Kinds.{isKind}
 use Rattle.scope.specs.Bytes.{openSquare, shutSquare, openCurly, shutCurly, openRound, shutRound, bar, hash, caret, question, plus, dash, dot}
-use Rattle.scope.specs.Line.{Number, Label, Value, mass, text, reference, Part, Bracket, Residue, Line}
+use Rattle.scope.specs.Line.{Number, Label, Value, mass, text, reference, composition, Part, Bracket, Residue, Line}
 use Rattle.scope.specs.Keys.{written}
 use Rattle.scope.specs.Lists.{given, keep, flat}
 
@@ -51,6 +51,7 @@ abbrev pub valueText : {P : Type 0} → Value P → List ℕ
 valueText (mass n) = massText n
 valueText (text t) = t
 valueText reference = []
+valueText (composition t n) = t
 
 abbrev pub labelText : {P : Type 0} → Label P → List ℕ
 labelText l = hash ∷ (l .name ++ given (l .score) (λ n. openRound ∷ (scoreText n ++ (shutRound ∷ []))) [])

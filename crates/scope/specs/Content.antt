@@ -9,8 +9,8 @@ use Rattle.scope.specs.declared.grammar.Key.{Key}
 use Rattle.scope.specs.declared.grammar.Key.the-variants.{NoKey}
 use Rattle.scope.specs.Lists.{given, none?}
 use Rattle.scope.specs.Bytes.{isPrintable, isDigit, isAlnum, isSign, isOpening, isShutting, closerOf, bar, hash, colon, dash, dot, openRound, shutRound, value}
-use Rattle.scope.specs.Line.{Number, Value, mass, text, reference, Part}
-use Rattle.scope.specs.Keys.{keyOf, Form, massOrName, massOnly, digits, alnums, free, form, hashIsPlain, accessionByte}
+use Rattle.scope.specs.Line.{Number, Value, mass, text, reference, composition, Part}
+use Rattle.scope.specs.Keys.{keyOf, Form, massOrName, massOnly, digits, alnums, free, composed, form, hashIsPlain, accessionByte}
 
 -- ---- numbers: "sign, digits, perhaps `.` and digits"
 
@@ -97,6 +97,7 @@ abbrev pub isReference : {P : Type 0} → Value P → Bool
 isReference (mass n) = false
 isReference (text t) = false
 isReference reference = true
+isReference (composition t n) = false
 
 -- a part is over: another follows, or the bracket is closed; nothing follows a reference
 unfoldable pub partEnd : {P : Type 0} → Context P → Part P → ℕ → Content P
@@ -121,6 +122,7 @@ behindKey c at k massOnly = keyed c at k
 behindKey c at k digits = inCode c at k []
 behindKey c at k alnums = inCode c at k []
 behindKey c at k free = inText c at k [] []
+behindKey c at k composed = inText c at k [] []
 
 -- `:` behind plain bytes
 unfoldable pub colonAfter : {P : Type 0} → Context P → P → List ℕ → Inner P
@@ -133,6 +135,7 @@ nameBehind c at k massOnly b = lost
 nameBehind c at k digits b = lost
 nameBehind c at k alnums b = lost
 nameBehind c at k free b = lost
+nameBehind c at k composed b = lost
 
 -- one byte more, at the place i
 unfoldable pub innerStep : {P : Type 0} → P → Inner P → ℕ → Content P

@@ -16,7 +16,7 @@ use Rattle.scope.specs.declared.grammar.Kind.the-variants.{Unknown, Labi
 use Rattle.scope.specs.Lists.{there?, none?, all, flat}
 use Rattle.scope.specs.Bytes.{upper, value, isLetter, caret, question, isPrintable, isDigit, isAlnum, isSign, isOpening, isShutting, shutSquare, openSquare, shutCurly, openCurly, bar, hash, colon, plus, dash, dot, openRound, shutRound, sameFolded}
 use Rattle.scope.specs.Line.{Number, Label, Value, mass, text, reference, Part, Bracket, Residue, Line}
-use Rattle.scope.specs.Keys.{spell, keyOf, Form, massOrName, massOnly, digits, alnums, free, form, accessionByte}
+use Rattle.scope.specs.Keys.{spell, keyOf, Form, massOrName, massOnly, digits, alnums, free, composed, form, accessionByte}
 
 -- ---- lists of bytes
 -- one or more, and each passes
@@ -79,7 +79,7 @@ printText (curly u t) = openCurly ∷ (printText u ++ (shutCurly ∷ printText t
 abbrev pub plainByte : ℕ → Bool
 plainByte b = isPrintable b && not (isOpening b) && not (isShutting b)
 
--- "`|` and `#` inside a pair are plain. .. Elsewhere `#` starts a label, .. except in INFO and in the four keys under refusal 8, where `#` is plain"
+-- "`|` and `#` inside a pair are plain. .. Elsewhere `#` starts a label, .. except in INFO and in the .. keys under refusal 8, where `#` is plain"
 abbrev pub outerByte : Bool → ℕ → Bool
 outerByte hashes b = plainByte b && not (eqb b bar) && (hashes || not (eqb b hash))
 
@@ -124,7 +124,7 @@ keyless (x ∷ w) t = true
 pub data Base : Type 0 where
   delta : Word → Bool → Numeral → Base  -- "sign, digits, perhaps `.` and digits: a delta mass"
   code : Word → List ℕ → Base  -- "`UNIMOD:` `MOD:` `XLMOD:` and digits; `RESID:` `GNO:` and letters or digits"
-  wording : Word → Text → Base  -- "`INFO:` and a text; a key of refusal 8 and a text"; "a name: a text, perhaps after one of the six one-letter prefixes"
+  wording : Word → Text → Base  -- "`INFO:` and a text; a key of refusal 8 and a text"; "`Glycan:` becomes a part" (02, L1); "a name: a text, perhaps after one of the six one-letter prefixes"
 
 abbrev pub printBase : Base → List ℕ
 printBase (delta w minus n) = printWord w ++ (signByte minus ∷ printNumeral n)
@@ -138,6 +138,7 @@ takesMass massOnly = true
 takesMass digits = false
 takesMass alnums = false
 takesMass free = false
+takesMass composed = false
 
 abbrev pub goodWording : Form → List ℕ → Text → Bool
 goodWording massOrName w t = goodText (outerByte false) t && (not (firstSign (printText t)) && keyless w (printText t))
@@ -145,6 +146,7 @@ goodWording massOnly w t = false
 goodWording digits w t = false
 goodWording alnums w t = false
 goodWording free w t = goodText (outerByte true) t
+goodWording composed w t = goodText (outerByte false) t
 
 -- "A part's whole text and a label are never empty"
 abbrev pub goodBase : Base → Bool
@@ -214,7 +216,7 @@ pub record Piece : Type 0 where
 abbrev pub printPiece : Piece → List ℕ
 printPiece p = printBase (p .base) ++ printTag (p .tag)
 
--- where a part may have a label: where `#` is plain there is none
+-- where a part may have a label: where `#` is plain there is none; of a composition "a label may end the part" (02, L1)
 abbrev pub formIn : Base → Form
 formIn b = form (keyIn b)
 
@@ -224,6 +226,7 @@ tagFits massOnly = true
 tagFits digits = true
 tagFits alnums = true
 tagFits free = false
+tagFits composed = true
 
 -- by whether the parts of its bracket may have labels
 abbrev pub goodPiece : Bool → Piece → Bool

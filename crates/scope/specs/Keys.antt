@@ -40,13 +40,14 @@ keyAmong (k ∷ ks) t = cond (sameFolded (spell k) t) (some k) (keyAmong ks t)
 unfoldable pub keyOf : List ℕ → Option Key
 keyOf t = keyAmong keys t
 
--- What may stand behind a key: a mass or a name; a mass; digits; letters or digits; a text in which `#` is plain
+-- What may stand behind a key: a mass or a name; a mass; digits; letters or digits; a text in which `#` is plain; a composition
 pub data Form : Type 0 where
   massOrName : Form
   massOnly : Form
   digits : Form
   alnums : Form
   free : Form
+  composed : Form
 
 abbrev pub form : Key → Form
 form NoKey = massOrName
@@ -64,17 +65,18 @@ form Resid = alnums
 form Gno = alnums
 form Info = free
 form Formula = free
-form Glycan = free
+form Glycan = composed
 form Position = free
 form Limit = free
 
--- "except in INFO and in the four keys under refusal 8, where `#` is plain"
+-- "except in INFO and in the .. keys under refusal 8, where `#` is plain"; of a composition "a label may end the part" (02, L1)
 abbrev pub hashIsPlain : Form → Bool
 hashIsPlain massOrName = false
 hashIsPlain massOnly = false
 hashIsPlain digits = false
 hashIsPlain alnums = false
 hashIsPlain free = true
+hashIsPlain composed = false
 
 -- "`UNIMOD:` `MOD:` `XLMOD:` and digits; `RESID:` `GNO:` and letters or digits"
 abbrev pub accessionByte : Form → ℕ → Bool
@@ -83,6 +85,7 @@ accessionByte massOnly b = false
 accessionByte digits b = isDigit b
 accessionByte alnums b = isAlnum b
 accessionByte free b = false
+accessionByte composed b = false
 
 -- the key as it is written in front of its part
 unfoldable pub written : Key → List ℕ

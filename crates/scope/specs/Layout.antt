@@ -11,7 +11,7 @@ use Rattle.scope.specs.declared.grammar.Section.the-variants.{Plain, Ran
 use Rattle.scope.specs.Bytes.{byteLimit}
 use Rattle.scope.specs.Lists.{given, flat, part, tabled, padded}
 use Rattle.scope.specs.Limits.{lineLimit, residueLimit, bracketLimit, partLimit, decimalLimit}
-use Rattle.scope.specs.Line.{Number, Label, Value, mass, text, reference, Part, Bracket, Residue, Line}
+use Rattle.scope.specs.Line.{Number, Label, Value, mass, text, reference, composition, Part, Bracket, Residue, Line}
 use Rattle.scope.specs.Keys.{keyCode, keyIn}
 use Rattle.scope.specs.Kinds.{kindCode, kindIn}
 use Rattle.scope.specs.Refusals.{textOf}
@@ -101,20 +101,26 @@ textCode = 2
 abbrev pub referenceCode : ℕ
 referenceCode = 3
 
+abbrev pub compositionCode : ℕ
+compositionCode = 4
+
 abbrev pub valueCode : {P : Type 0} → Value P → ℕ
 valueCode (mass n) = massCode
 valueCode (text t) = textCode
 valueCode reference = referenceCode
+valueCode (composition t n) = compositionCode
 
 abbrev pub massIn : {P : Type 0} → Value P → ℤ
 massIn (mass n) = millionths n
 massIn (text t) = pos 0
 massIn reference = pos 0
+massIn (composition t n) = millionths n
 
 abbrev pub decimalsIn : {P : Type 0} → Value P → ℕ
 decimalsIn (mass n) = n .decimals
 decimalsIn (text t) = 0
 decimalsIn reference = 0
+decimalsIn (composition t n) = n .decimals
 
 -- "Texts are packed in order of appearance": a part's text, then its label
 abbrev pub packed : {P : Type 0} → Part P → List ℕ
@@ -264,7 +270,10 @@ scoreIn bs ns k =
 abbrev pub valueIn : List ℕ → List ℤ → ℕ → ℕ → Value (Unit {0})
 valueIn bs ns k j =
     cond (eqb (valueField bs k j) massCode) (mass (numberIn (massField ns k j) (decimalsField bs k j)))
-    (cond (eqb (valueField bs k j) textCode) (text (part (textsAt + offsetField bs k j) (textField bs k j) bs)) reference)
+    (cond (eqb (valueField bs k j) textCode) (text (part (textsAt + offsetField bs k j) (textField bs k j) bs))
+    (cond (eqb (valueField bs k j) compositionCode)
+    (composition (part (textsAt + offsetField bs k j) (textField bs k j) bs) (numberIn (massField ns k j) (decimalsField bs k j)))
+    reference))
 
 abbrev pub labelIn : List ℕ → List ℤ → ℕ → ℕ → Option (Label (Unit {0}))
 labelIn bs ns k j =

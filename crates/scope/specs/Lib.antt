@@ -8,6 +8,8 @@ pub mod Grammar
 pub mod Content
 pub mod Reading
 pub mod Modifications
+pub mod Glycans
+pub mod Kept
 pub mod Refusals
 pub mod Canonical
 pub mod Tables

@@ -25,6 +25,7 @@ pub data Value (P : Type 0) : Type 0 where
   mass : Number P → Value P
   text : List ℕ → Value P
   reference : Value P
+  composition : List ℕ → Number P → Value P  -- in "the list's spelling", and its mass
 
 -- "each part with kind, prefix, and text or mass"; a lone reference is its bracket's only part, with a label and nothing else
 pub record Part (P : Type 0) : Type 0 where

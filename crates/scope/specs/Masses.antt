@@ -9,17 +9,19 @@ use lib.Ieee.{Float, binary64, div, ofInt}
 use Rattle.scope.specs.declared.grammar.Key.the-variants.{Obs}
 use Rattle.scope.specs.Kinds.{isLabile}
 use Rattle.scope.specs.Limits.{positionLimit, decimalLimit}
-use Rattle.scope.specs.Line.{Value, mass, text, reference, Part, Bracket, Line}
+use Rattle.scope.specs.Line.{Value, mass, text, reference, composition, Part, Bracket, Line}
 use Rattle.scope.specs.Lists.{given, keep, tabled, member}
 use Rattle.scope.specs.Modifications.{isKey, isModification}
 use Rattle.scope.specs.Tables.{millionths}
 use Rattle.scope.specs.Positions.{placedOn, floaters}
 
 -- ---- "A bracket's mass is its first mass without `Obs`, else its first `Obs` mass, else none. Parts are synonyms and never added up."
+-- "A composition enters demand 3 as a mass without `Obs`" (02, L1)
 abbrev pub valueMass : {P : Type 0} → Value P → Option ℤ
 valueMass (mass n) = some (millionths n)
 valueMass (text t) = none
 valueMass reference = none
+valueMass (composition t n) = some (millionths n)
 
 unfoldable pub firstMass : {P : Type 0} → List (Part P) → Option ℤ
 firstMass [] = none

@@ -1,4 +1,4 @@
--- Refusals 1 to 12: for each number the places at which it is due, and which is given.
+-- Refusals 1 to 12, and 19: for each number the places at which it is due, and which is given.
 use Prim.Native.Nat.{ℕ, _+_, _-_, _*_, _^_, min}
 use mathlib.Core.Bool.{Bool, true, false, not, cond, _&&_, _||_}
 use mathlib.Core.Option.{Option, none, some}
@@ -9,11 +9,13 @@ use Rattle.scope.specs.declared.grammar.Key.the-variants.{NoKey, U, M, F
 use Rattle.scope.specs.Kinds.{isUnknown, unknownOrLabile}
 use Rattle.scope.specs.Bytes.{bytes, isPrintable, isDigit, isOpening, isShutting, sameFolded}
 use Rattle.scope.specs.Limits.{lineLimit, residueLimit, bracketLimit, partLimit, textLimit, labelLimit, depthLimit, sizeLimit, decimalLimit, countLimit, copyLimit}
-use Rattle.scope.specs.Line.{Number, Value, mass, text, reference, Part, Bracket, Line}
+use Rattle.scope.specs.Line.{Number, Value, mass, text, reference, composition, Part, Bracket, Line}
 use Rattle.scope.specs.Keys.{written}
 use Rattle.scope.specs.Lists.{given, none?, all, flat, among, shared}
 use Rattle.scope.specs.Reading.{Reading, stuck, holds, reading}
 use Rattle.scope.specs.Modifications.{isKey, onlyInfo, namesOf, isLabelled, copies, definedBy, referredBy, defined, referredTo}
+use Rattle.scope.specs.Glycans.{cuttings}
+use Rattle.scope.specs.Kept.{kept}
 
 -- the place i, where the test holds
 abbrev pub dueAt : Bool → ℕ → List ℕ
@@ -55,6 +57,7 @@ abbrev pub textIn : {P : Type 0} → Value P → List ℕ
 textIn (mass n) = []
 textIn (text t) = t
 textIn reference = []
+textIn (composition t n) = t
 
 -- a part's text, behind its key
 abbrev pub textOf : {P : Type 0} → Part P → List ℕ
@@ -94,6 +97,7 @@ abbrev pub wideMass : Value ℕ → List ℕ
 wideMass (mass n) = wide n
 wideMass (text t) = []
 wideMass reference = []
+wideMass (composition t n) = []
 
 abbrev pub wideScore : Part ℕ → List ℕ
 wideScore p = given (p .label) (λ l. given (l .score) wide []) []
@@ -105,8 +109,8 @@ wideCount k = given (k .counted) (dueAt (eqb (k .count) 0 || ltb countLimit (k .
 unfoldable pub refusal7 : Line ℕ → List ℕ
 refusal7 l = flat (λ k. wideCount k ++ flat (λ p. wideMass (p .value) ++ wideScore p) (k .parts)) (l .brackets)
 
--- ---- 8 "part begins `Formula:` `Glycan:` `Position:` `Limit:`, or is CoMKP, CoMUP or their long names, or its label begins XL or is BRANCH;
--- any case", at "the part, or the `#` of a reference"
+-- ---- 8 "part begins `Formula:` .. `Position:` `Limit:`, or is CoMKP, CoMUP or their long names, or its label begins XL or is BRANCH;
+-- any case", at "the part, or the `#` of a reference"; "`Glycan:` becomes a part" (02, L1)
 unfoldable pub isRuleName : List ℕ → Bool
 isRuleName t =
     sameFolded (bytes "CoMKP") t
@@ -122,8 +126,7 @@ isLink name = sameFolded (bytes "XL") (take 2 name) || sameFolded (bytes "BRANCH
 
 abbrev pub notHere : {P : Type 0} → Part P → Bool
 notHere p =
-    isKey Formula p || isKey Glycan p || isKey Position p || isKey Limit p || isRule p
-    || given (p .label) (λ l. isLink (l .name)) false
+    isKey Formula p || isKey Position p || isKey Limit p || isRule p || given (p .label) (λ l. isLink (l .name)) false
 
 unfoldable pub refusal8 : Line ℕ → List ℕ
 refusal8 l = flat (λ k. flat (λ p. dueAt (notHere p) (p .at)) (k .parts)) (l .brackets)
@@ -182,6 +185,13 @@ passing before (k ∷ ks) = dueAt (leb before copyLimit && ltb copyLimit (before
 unfoldable pub refusal12 : Line ℕ → List ℕ
 refusal12 l = passing 0 (l .brackets)
 
+-- ---- 19 "no cutting", "at the part" (02, L1). There is never more than one, also with counts of 1 dropped (crates/glycan_laws): 20 is dropped
+abbrev pub isUncut : {P : Type 0} → Part P → Bool
+isUncut p = isKey Glycan p && none? (cuttings (textOf p))
+
+unfoldable pub refusal19 : Line ℕ → List ℕ
+refusal19 l = flat (λ k. flat (λ p. dueAt (isUncut p) (p .at)) (k .parts)) (l .brackets)
+
 -- ---- "the lowest number wins, at its first place in the line": the refusals in the order of trying, each with the places at which it is due
 pub record Due : Type 0 where
   pub number : ℕ
@@ -194,7 +204,7 @@ unfoldable pub least : List ℕ → Option ℕ
 least [] = none
 least (i ∷ l) = some (given (least l) (min i) i)
 
--- what a line is refused for, or what it holds
+-- what a line is refused for, or what is kept of it
 pub data Outcome : Type 0 where
   accepted : Line ℕ → Outcome
   refused : ℕ → ℕ → Outcome
@@ -206,15 +216,15 @@ firstDue (d ∷ ds) o = given (least (d .places)) (refused (d .number)) (firstDu
 abbrev pub lineRefusals : Line ℕ → List Due
 lineRefusals l =
     due 5 (refusal5 l) ∷ due 6 (refusal6 l) ∷ due 7 (refusal7 l) ∷ due 8 (refusal8 l) ∷ due 9 (refusal9 l)
-    ∷ due 10 (refusal10 l) ∷ due 11 (refusal11 l) ∷ due 12 (refusal12 l) ∷ []
+    ∷ due 10 (refusal10 l) ∷ due 11 (refusal11 l) ∷ due 12 (refusal12 l) ∷ due 19 (refusal19 l) ∷ []
 
 abbrev pub judged : Reading → Outcome
 judged (stuck i) = refused 4 i
-judged (holds l) = firstDue (lineRefusals l) (accepted l)
+judged (holds l) = firstDue (lineRefusals l) (accepted (kept l))
 
 abbrev pub byteRefusals : List ℕ → List Due
 byteRefusals s = due 1 (refusal1 s) ∷ due 2 (refusal2 s) ∷ due 3 (refusal3 s) ∷ []
 
--- "Reading tries .. 1 to 12 in that order; the lowest number wins, at its first place in the line"
+-- "Reading tries .. 1 to 12 in that order; the lowest number wins, at its first place in the line"; 19 "after 12" (02, L1)
 unfoldable pub outcome : List ℕ → Outcome
 outcome s = firstDue (byteRefusals s) (judged (reading s))

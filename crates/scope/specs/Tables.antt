@@ -6,7 +6,7 @@ use mathlib.Core.List.{List, [], _∷_, map}
 use lib.IntN.{ℤ, pos, negℤ}
 use Rattle.scope.specs.Lists.{given, optional}
 use Rattle.scope.specs.Limits.{decimalLimit}
-use Rattle.scope.specs.Line.{Number, Label, Value, mass, text, reference, Part, Bracket, Residue, Line}
+use Rattle.scope.specs.Line.{Number, Label, Value, mass, text, reference, composition, Part, Bracket, Residue, Line}
 
 -- A line without its places. "The sign of zero, leading zeros, `^1` and the splitting of unknown runs are not kept."
 abbrev pub Tables : Type 0
@@ -22,6 +22,7 @@ abbrev pub bareValue : {P : Type 0} → Value P → Value (Unit {0})
 bareValue (mass n) = mass (bareNumber n)
 bareValue (text t) = text t
 bareValue reference = reference
+bareValue (composition t n) = composition t (bareNumber n)
 
 abbrev pub barePart : {P : Type 0} → Part P → Part (Unit {0})
 barePart p = record { key = p .key; value = bareValue (p .value); label = optional bareLabel (p .label); at = tt }

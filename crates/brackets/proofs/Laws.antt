@@ -10,14 +10,14 @@ use lib.IntN.{ℤ}
 use Rattle.scope.specs.declared.grammar.Key.the-variants.{Info}
 use Rattle.scope.specs.declared.grammar.Kind.{Kind}
 use Rattle.scope.specs.Limits.{partLimit}
-use Rattle.scope.specs.Line.{Number, Bracket, mass, text, reference}
+use Rattle.scope.specs.Line.{Number, Bracket, mass, text, reference, composition}
 use Rattle.scope.specs.Content.{isReference}
 use Rattle.scope.specs.Lists.{none?, all, flat, tabled}
 use Rattle.scope.specs.Modifications.{isKey, onlyInfo, isReferring, nameOf, isLabelled, isModification, unlabelledCopies, copies}
 use Rattle.scope.specs.Keys.{keyCode}
 use Rattle.scope.specs.Kinds.{onOnePosition}
 use Rattle.scope.specs.Positions.{isPlaced}
-use Rattle.scope.specs.Layout.{massCode, textCode, valueIn, partIn, bracketIn, keyField, labelField, partsField, valueField}
+use Rattle.scope.specs.Layout.{massCode, textCode, compositionCode, valueIn, partIn, bracketIn, keyField, labelField, partsField, valueField}
 use Rattle.brackets.specs.Codes.{key-is}
 use Rattle.basics.specs.Tabled.{tabled-at, tabled-end, tabled-all}
 
@@ -123,14 +123,16 @@ unfolding bracketIn tabled partIn
 first-part bs ns k zero e q = absurd (q refl)
 first-part bs ns k (suc m) e q = rw (← e)
 
-by-value : (n : Number (Unit {0})) (x : List ℕ) (t u : Bool) → isReference (cond t (mass n) (cond u (text x) reference)) ≡ cond t false (cond u false true)
-by-value n x true u = refl
-by-value n x false true = refl
-by-value n x false false = refl
+by-value : (n : Number (Unit {0})) (x : List ℕ) (t u w : Bool)
+    → isReference (cond t (mass n) (cond u (text x) (cond w (composition x n) reference))) ≡ cond t false (cond u false (cond w false true))
+by-value n x true u w = refl
+by-value n x false true w = refl
+by-value n x false false true = refl
+by-value n x false false false = refl
 
--- what the code of a value says: neither a mass nor a text
+-- what the code of a value says: no mass, no text and no composition
 abbrev refers : ℕ → Bool
-refers v = cond (eqb v massCode) false (cond (eqb v textCode) false true)
+refers v = cond (eqb v massCode) false (cond (eqb v textCode) false (cond (eqb v compositionCode) false true))
 
 pub of-mass : (v : ℕ) → v ≡ massCode → false ≡ refers v
 of-mass v e = rw (eq-eqb v massCode e)
@@ -138,12 +140,15 @@ of-mass v e = rw (eq-eqb v massCode e)
 pub of-text : (v : ℕ) → (v ≡ massCode → ⊥) → v ≡ textCode → false ≡ refers v
 of-text v p e = rw (ne-eqb v massCode p, eq-eqb v textCode e)
 
-pub of-neither : (v : ℕ) → (v ≡ massCode → ⊥) → (v ≡ textCode → ⊥) → true ≡ refers v
-of-neither v p q = rw (ne-eqb v massCode p, ne-eqb v textCode q)
+pub of-composition : (v : ℕ) → (v ≡ massCode → ⊥) → (v ≡ textCode → ⊥) → v ≡ compositionCode → false ≡ refers v
+of-composition v p q e = rw (ne-eqb v massCode p, ne-eqb v textCode q, eq-eqb v compositionCode e)
+
+pub of-none : (v : ℕ) → (v ≡ massCode → ⊥) → (v ≡ textCode → ⊥) → (v ≡ compositionCode → ⊥) → true ≡ refers v
+of-none v p q r = rw (ne-eqb v massCode p, ne-eqb v textCode q, ne-eqb v compositionCode r)
 
 pub reference-is : (bs : List ℕ) (k m v : ℕ) → m ≡ partsField bs k → (m ≡ 0 → ⊥) → v ≡ valueField bs k 0 → (ns : List ℤ) → refers v ≡ isReferring (bracketIn bs ns k)
 reference-is bs k m v e q f ns =
-    ap refers f ∙ sym (by-value _ _ (eqb (valueField bs k 0) massCode) (eqb (valueField bs k 0) textCode)) ∙ sym (first-part bs ns k m e q)
+    ap refers f ∙ sym (by-value _ _ (eqb (valueField bs k 0) massCode) (eqb (valueField bs k 0) textCode) (eqb (valueField bs k 0) compositionCode)) ∙ sym (first-part bs ns k m e q)
 
 -- ---- the tests of a modification, one after the other
 module _ (b : Bracket (Unit {0})) where

@@ -12,10 +12,12 @@ ghost use Rattle.scope.specs.Modifications.{onlyInfo, isReferring, isModificati
 ghost use Rattle.scope.specs.Positions.{isPlaced};
 ghost use Rattle.brackets.specs.Row.{Row};
 
-// the codes of values: a mass, a text
+// the codes of values: a mass, a text, a composition
 pub const MASS: usize = 1;
 
 const TEXT: usize = 2;
+
+pub const COMPOSITION: usize = 4;
 
 // the codes of the keys that are asked for: `Obs`, INFO
 pub const OBS: usize = 7;
@@ -110,6 +112,9 @@ pub fn is_referring(bytes: &[u8], k: usize) -> bool
         return false;
     }
     if value == TEXT {
+        return false;
+    }
+    if value == COMPOSITION {
         return false;
     }
     true

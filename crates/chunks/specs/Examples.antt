@@ -9,7 +9,8 @@ use Rattle.scope.specs.Keys.{spell, keys, keyAmong, keyOf, written}
 use Rattle.scope.specs.Content.{digitStep, numberEnd, textStep, partEnd, valueEnd, textEnd, colonAfter, innerStep}
 use Rattle.scope.specs.Reading.{element, further, groupFirst, inGroup, undecided, counted, referred, act, perform, resume, step, run, reading}
 use Rattle.scope.specs.Modifications.{copies}
-use Rattle.scope.specs.Refusals.{least, refusal1, refusal2, unprintable, refusal3, tooDeep, refusal5, refusal6, refusal7, refusal8, isRuleName, refusal9, refusal10, wronglyLabelled, refusal11, passing, refusal12, firstDue, outcome}
+use Rattle.scope.specs.Kept.{kept}
+use Rattle.scope.specs.Refusals.{least, refusal1, refusal2, unprintable, refusal3, tooDeep, refusal5, refusal6, refusal7, refusal8, isRuleName, refusal9, refusal10, wronglyLabelled, refusal11, passing, refusal12, refusal19, firstDue, outcome}
 use Rattle.scope.specs.Canonical.{decimalUpTo, decimal, lastDigits, decimals, size, partText, partsText, sequenceText, chainText, canonical}
 use Rattle.scope.specs.Positions.{floaters}
 use Rattle.scope.specs.Masses.{firstMass, massOf, sum, total, sumℕ, lacking}
@@ -23,7 +24,7 @@ text (s ∷ l) = bytes s ++ (10 ∷ text l)
 
 pub example : register (text ("[+1]^2?ac" ∷ "A[U:35]" ∷ "[Acetyl]-A" ∷ []))
     ≡ text ("1 ok 2 1 2 +2000000 [+1]^2?AC" ∷ "2 no 9 2" ∷ "3 ok 1 1 0 ?1 [Acetyl]-A" ∷ [])
-unfolding upper sameFolded same spell keys keyAmong keyOf written digitStep numberEnd textStep partEnd valueEnd textEnd colonAfter innerStep element further groupFirst inGroup undecided counted referred act onLast perform resume step run reading all keep flat among copies least refusal1 refusal2 unprintable refusal3 tooDeep refusal5 refusal6 refusal7 refusal8 isRuleName refusal9 refusal10 shared wronglyLabelled refusal11 passing refusal12 firstDue outcome decimalUpTo decimal lastDigits decimals size partText partsText sequenceText chainText canonical floaters firstMass massOf sum total sumℕ lacking fields printed lines entriesFrom register
+unfolding upper sameFolded same spell keys keyAmong keyOf written digitStep numberEnd textStep partEnd valueEnd textEnd colonAfter innerStep element further groupFirst inGroup undecided counted referred act onLast perform resume step run reading all keep flat among copies least refusal1 refusal2 unprintable refusal3 tooDeep refusal5 refusal6 refusal7 refusal8 isRuleName refusal9 refusal10 shared wronglyLabelled refusal11 passing refusal12 refusal19 kept firstDue outcome decimalUpTo decimal lastDigits decimals size partText partsText sequenceText chainText canonical floaters firstMass massOf sum total sumℕ lacking fields printed lines entriesFrom register
 example = refl
 
 pub ends :

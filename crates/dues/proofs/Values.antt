@@ -1,29 +1,32 @@
 -- What a value that was found says of its part, and so what is due of it. Assumes nothing.
 use mathlib.Core.Path.{_≡_, refl, sym, ap, ap₂, subst, _∙_}
-use mathlib.Core.Bool.{Bool, true, false, not, cond, _&&_, _||_, and-false}
+use mathlib.Core.Bool.{Bool, true, false, not, cond, _&&_, _||_, and-false, or-false}
 use mathlib.Core.Option.{Option, none, some}
 use mathlib.Core.List.{List, [], _++_, map, append-nil}
-use Prim.Native.Nat.{ℕ, _+_, _-_, _<_, _≤_}
+use Prim.Native.Nat.{ℕ, _+_, _-_, _<_, _≤_, min}
 use native.Mathlib.Omega.{arith}
-use lib.Dec.{eqb, leb, ltb}
+use lib.Dec.{eqb, ltb}
 use lib.ListN.{length}
-use borrow.Author.Tests.{eq-eqb, ne-eqb, eqb-false}
-use Rattle.scope.specs.declared.grammar.Key.the-variants.{R, Formula}
+use borrow.Author.Tests.{eq-eqb, ne-eqb, eqb-false, le-leb, lt-leb}
+use Rattle.scope.specs.declared.grammar.Key.the-variants.{R, Formula, Glycan}
 use Rattle.scope.specs.Bytes.{isDigit, sameFolded}
+use Rattle.scope.specs.Glycans.{cuttings, cuttingsUpTo}
 use Rattle.scope.specs.Keys.{keyCode, written}
 use Rattle.scope.specs.Limits.{textLimit}
-use Rattle.scope.specs.Layout.{massCode, textCode, referenceCode}
-use Rattle.scope.specs.Line.{Value as Written, mass, text, reference, Part}
+use Rattle.scope.specs.Layout.{massCode, textCode}
+use Rattle.scope.specs.Line.{Value as Written, mass, text, reference, composition, Part}
 use Rattle.scope.specs.Lists.{part, none?, all}
 use Rattle.scope.specs.Refusals.{dueAt, least, textIn, textOf, isRuleName, tooDeep, inRange, wideMass}
 use Rattle.reading_laws.specs.Inside.{under-least, under-deep}
+use Rattle.glycans.specs.Cut.{CutIs}
+use Rattle.glycans.specs.Kept.{is-uncut}
 use Rattle.values.specs.declared.Value.{Value}
-use Rattle.values.specs.Says.{codeOf, fromOf, coded, EndsAt, IsValue}
-use Rattle.sheet.specs.Rows.{textTo}
+use Rattle.values.specs.Says.{wideCode, codeOf, fromOf, coded, EndsAt, IsValue}
+use Rattle.sheet.specs.Rows.{textTo, AsRead}
 use Rattle.dues.specs.Ranks.{code, lowest}
 use Rattle.dues.specs.First.{lowest-append}
-use Rattle.dues.specs.Lines.{deepRank, overRank, wideRank, barredRank, digitsRank, partCodes}
-use Rattle.dues.specs.Steps.{keyCodes, nameCodes, textCodes, of-value}
+use Rattle.dues.specs.Lines.{deepRank, overRank, wideRank, barredRank, digitsRank, uncutRank, partCodes}
+use Rattle.dues.specs.Steps.{barredKey, keyCodes, nameCodes, textCodes, of-value}
 
 -- ---- what is due of a text, by the code k of its key
 module _ (m k i : ℕ) (t : List ℕ) where
@@ -32,24 +35,38 @@ module _ (m k i : ℕ) (t : List ℕ) where
 
   pub name-number : {x : Bool} → (k ≡ 0 → ⊥) → k < keyCode R → x ≡ (not (none? t) && all isDigit t)
       → lowest m (map (code digitsRank) (dueAt x i)) ≡ lowest m (nameCodes k i t)
-  name-number z h p = rw (ne-eqb k 0 z, p) (ap (λ y. lowest m (map (code digitsRank) (dueAt (y && not (none? t) && all isDigit t) i))) (sym (go (eqb k 1) refl)))
+  name-number z h p =
+      rw (ne-eqb k 0 z, lt-leb (keyCode Formula) k (omega arith), ne-eqb k (keyCode Glycan) (λ e. absurd (omega arith)), go (eqb k 1) refl, p)
+      (ap (lowest m) (sym (append-nil (map (code digitsRank) (dueAt (not (none? t) && all isDigit t) i)))))
     where
       go : (y : Bool) → eqb k 1 ≡ y → (eqb k 1 || eqb k 2) ≡ true
       go true e = rw e
       go false e = rw e (eq-eqb k 2 (omega (arith, eqb-false k 1 e)))
 
-  pub name-none : keyCode R ≤ k → m ≡ lowest m (nameCodes k i t)
+  pub name-none : keyCode R ≤ k → k < keyCode Formula → m ≡ lowest m (nameCodes k i t)
   unfolding lowest
-  name-none h = rw (ne-eqb k 0 (λ e. absurd (omega arith)), ne-eqb k 1 (λ e. absurd (omega arith)), ne-eqb k 2 (λ e. absurd (omega arith)))
+  name-none h f =
+      rw (lt-leb (keyCode Formula) k f, ne-eqb k 0 (λ e. absurd (omega arith)), ne-eqb k 1 (λ e. absurd (omega arith)), ne-eqb k 2 (λ e. absurd (omega arith)), ne-eqb k (keyCode Glycan) (λ e. absurd (omega arith)))
 
--- nothing is due of no text
-no-text : (k i a : ℕ) → textCodes k i a [] ≡ []
+  pub name-uncut : {x : Bool} → k ≡ keyCode Glycan → x ≡ none? (cuttings t) → lowest m (map (code uncutRank) (dueAt x i)) ≡ lowest m (nameCodes k i t)
+  name-uncut e p = rw (e, p)
+
+  pub name-barred : keyCode Formula ≤ k → (k ≡ keyCode Glycan → ⊥) → min (code barredRank i) m ≡ lowest m (nameCodes k i t)
+  unfolding lowest
+  name-barred h z =
+      rw (le-leb (keyCode Formula) k h, ne-eqb k (keyCode Glycan) z, ne-eqb k 1 (λ e. absurd (omega arith)), ne-eqb k 2 (λ e. absurd (omega arith)))
+
+-- there is a way to cut nothing
+nothing-cut : none? (cuttings []) ≡ false
+unfolding cuttings cuttingsUpTo
+nothing-cut = refl
+
+-- of no text, only what is due of the key
+no-text : (k i a : ℕ) → textCodes k i a [] ≡ keyCodes k i
 unfolding isRuleName sameFolded tooDeep
-no-text k i a = rw (and-false (eqb k 0), and-false (eqb k 1 || eqb k 2))
-
--- ---- the code of a mass out of range
-abbrev wideCode : ℕ
-wideCode = referenceCode + 1
+no-text k i a =
+    rw (and-false (eqb k 0), and-false (eqb k 1 || eqb k 2), nothing-cut, and-false (eqb k (keyCode Glycan)), or-false (barredKey k))
+    (append-nil (keyCodes k i ++ []) ∙ append-nil (keyCodes k i))
 
 -- ---- only a text has the code of a text
 is-text : (w : Written ℕ) → codeOf w ≡ textCode → text (textIn w) ≡ w
@@ -60,6 +77,7 @@ is-text (mass n) e = absurd (go (inRange n) e)
     go false q = omega arith
 is-text (text t) e = refl
 is-text reference e = absurd (omega arith)
+is-text (composition t n) e = absurd (omega arith)
 
 -- and only a mass out of range its own
 wide-is : (q : Part ℕ) (w : Written ℕ) → dueAt (eqb (codeOf w) wideCode) (fromOf q w) ≡ wideMass w
@@ -70,11 +88,14 @@ wide-is q (mass n) = go (inRange n)
     go false = refl
 wide-is q (text t) = refl
 wide-is q reference = refl
+wide-is q (composition t n) = refl
 
-textless : (w : Written ℕ) → (codeOf w ≡ textCode → ⊥) → textIn w ≡ []
-textless (mass n) h = refl
-textless (text t) h = absurd (h refl)
-textless reference h = refl
+-- what was read has a text only where it is a text
+textless : (w : Written ℕ) → AsRead w → (codeOf w ≡ textCode → ⊥) → textIn w ≡ []
+textless (mass n) r h = refl
+textless (text t) r h = absurd (h refl)
+textless reference r h = refl
+textless (composition t n) r h = absurd r
 
 coded-small : (n : ℕ) (o : Option ℕ) → ((i : ℕ) → o ≡ some i → i < n) → coded o ≤ n
 coded-small n none h = omega arith
@@ -159,30 +180,34 @@ module _ (line : List ℕ) (at : ℕ) (v : Value) (q : Part ℕ) (g : IsValue li
         → r ≡ lowest b (map (code digitsRank) (dueAt x at)) → r ≡ lowest n (textCodes keyOf (q .at) behind (textOf q))
     due-number z s p w = w ∙ name-number b k at _ z s p ∙ here
 
-    pub due-else : keyCode R ≤ k → b ≡ lowest n (textCodes keyOf (q .at) behind (textOf q))
-    due-else s = name-none b k at _ s ∙ here
+    pub due-none : keyCode R ≤ k → k < keyCode Formula → b ≡ lowest n (textCodes keyOf (q .at) behind (textOf q))
+    due-none s f = name-none b k at _ s f ∙ here
 
-  -- ---- of its key, and of its text or its mass, where a is the lowest with what is due of the key
-  module _ (n : ℕ) {a k : ℕ} (key : k ≡ keyCode (v .key)) (barred : a ≡ lowest n (map (code barredRank) (dueAt (leb (keyCode Formula) k) at))) where
-    key-low : a ≡ lowest n (keyCodes keyOf (q .at))
-    key-low =
-        barred
-        ∙ ap₂ (λ x y. lowest n (map (code barredRank) (dueAt (leb (keyCode Formula) x) y))) (key ∙ ap (λ x. keyCode (x .key)) (g .is)) (sym (g .place))
+    pub due-uncut : {r : ℕ} {cut : Bool} {size weight pieces : ℕ} → k ≡ keyCode Glycan → CutIs (part (v .from) (v .to - v .from) line) cut size weight pieces
+        → r ≡ lowest b (map (code uncutRank) (dueAt (not cut) at)) → r ≡ lowest n (textCodes keyOf (q .at) behind (textOf q))
+    due-uncut e c w = w ∙ name-uncut b k at _ e (sym (is-uncut c)) ∙ here
 
-    pub with-text : v .code ≡ textCode → {r : ℕ} → r ≡ lowest a (textCodes keyOf (q .at) behind (textOf q)) → r ≡ lowest n (partCodes q)
-    with-text h w =
-        w
-        ∙ ap (λ x. lowest x (textCodes keyOf (q .at) behind (textOf q))) key-low
-        ∙ ap (λ x. lowest (lowest n (keyCodes keyOf (q .at))) (map (code wideRank) x ++ textCodes keyOf (q .at) behind (textOf q))) (sym (text-found h .massless))
-        ∙ of-value n q (g .bare)
+    pub due-barred : {r : ℕ} → keyCode Formula ≤ k → (k ≡ keyCode Glycan → ⊥) → r ≡ min (code barredRank at) b
+        → r ≡ lowest n (textCodes keyOf (q .at) behind (textOf q))
+    due-barred f z w = w ∙ name-barred b k at _ f z ∙ here
 
-    pub without-text : (v .code ≡ textCode → ⊥) → {r : ℕ} → r ≡ lowest a (map (code wideRank) (dueAt (eqb (v .code) wideCode) (v .from))) → r ≡ lowest n (partCodes q)
-    without-text h w =
-        let none : textOf q ≡ [] = textless (q .value) (λ e. h (code-is ∙ e)) in
-        let masses : List ℕ = map (code wideRank) (wideMass (q .value)) in
-        w
-        ∙ ap (λ x. lowest a (map (code wideRank) x))
-        (ap₂ (λ x y. dueAt (eqb x wideCode) y) code-is (ap (λ x. x .from) (g .is)) ∙ wide-is q (q .value))
-        ∙ ap₂ lowest key-low
-        (sym (append-nil masses) ∙ ap (λ x. masses ++ x) (sym (ap (textCodes keyOf (q .at) behind) none ∙ no-text keyOf (q .at) behind)))
-        ∙ of-value n q (g .bare)
+  -- ---- with a text, what is due of the key and the text; else of the key, of which a is the lowest, and of the mass
+  pub with-text : v .code ≡ textCode → (n : ℕ) {r : ℕ} → r ≡ lowest n (textCodes keyOf (q .at) behind (textOf q)) → r ≡ lowest n (partCodes q)
+  with-text h n w =
+      w
+      ∙ ap (λ x. lowest n (map (code wideRank) x ++ textCodes keyOf (q .at) behind (textOf q))) (sym (text-found h .massless))
+      ∙ of-value n q (g .bare)
+
+  pub without-text : (v .code ≡ textCode → ⊥) → (n : ℕ) {a k r : ℕ} → k ≡ keyCode (v .key) → a ≡ lowest n (map (code barredRank) (dueAt (barredKey k) at))
+      → r ≡ lowest a (map (code wideRank) (dueAt (eqb (v .code) wideCode) (v .from))) → r ≡ lowest n (partCodes q)
+  without-text h n {a = a} key barred w =
+      let none : textOf q ≡ [] = textless (q .value) (g .stands .as-read) (λ e. h (code-is ∙ e)) in
+      let masses : List ℕ = map (code wideRank) (wideMass (q .value)) in
+      let keys : List ℕ = keyCodes keyOf (q .at) in
+      w
+      ∙ ap₂ (λ x y. lowest x (map (code wideRank) y))
+      (barred ∙ ap₂ (λ x y. lowest n (keyCodes x y)) (key ∙ ap (λ x. keyCode (x .key)) (g .is)) (sym (g .place)))
+      (ap₂ (λ x y. dueAt (eqb x wideCode) y) code-is (ap (λ x. x .from) (g .is)) ∙ wide-is q (q .value))
+      ∙ sym (lowest-append n masses keys)
+      ∙ ap (λ x. lowest n (masses ++ x)) (sym (ap (textCodes keyOf (q .at) behind) none ∙ no-text keyOf (q .at) behind))
+      ∙ of-value n q (g .bare)

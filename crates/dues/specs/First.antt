@@ -88,15 +88,7 @@ unfolding codes lowest firstDue
 decided [] rank n h low = clear refl (λ o. refl)
 decided (r ∷ rs) rank n h low = decided-more r rs rank n (h .0) (omega arith) (decided rs (rank + 1) n (h .1) (omega arith))
 
--- a code that is below n has the rank of one of the rules
-pub lowest-below-rules : (rs : List Due) (n : ℕ) → Each Fits rs → noCode rs ≤ n → lowest n (codes 0 rs) < n → lowest n (codes 0 rs) < noCode rs
-lowest-below-rules rs n h low q = go (lowest n (codes 0 rs)) (decided rs 0 n h (omega arith)) q
-  where
-    go : (c : ℕ) → Decided rs 0 n c → c < n → c < noCode rs
-    go c (clear e f) u = absurd (omega arith)
-    go c (first k p few small e f) u = omega arith
-
--- and none is below the first of the ranks
+-- no code is below the first of the ranks
 pub lowest-from-rank : (rs : List Due) (rank n : ℕ) → Each Fits rs → code (rank + length rs) 0 ≤ n → code rank 0 ≤ lowest n (codes rank rs)
 lowest-from-rank rs rank n h low = decided-low rs rank n (lowest n (codes rank rs)) low (decided rs rank n h low)
 

@@ -9,7 +9,7 @@ use Rattle.scope.specs.Line.{Label, Part, Bracket, Residue, Line}
 use Rattle.scope.specs.Lists.{given, flat}
 use Rattle.scope.specs.Modifications.{onlyInfo, defined, referredTo}
 use Rattle.scope.specs.Kinds.{unknownOrLabile}
-use Rattle.scope.specs.Refusals.{Due, due, refusal5, refusal6, refusal7, refusal8, refusal9, refusal10, refusal11, refusal12, dueAt, deepPart, longText, longLabel, wide, wideMass, wideScore, wideCount, isLink, notHere, isNumberName, wronglyLabelled, passing}
+use Rattle.scope.specs.Refusals.{Due, due, refusal5, refusal6, refusal7, refusal8, refusal9, refusal10, refusal11, refusal12, refusal19, dueAt, deepPart, longText, longLabel, wide, wideMass, wideScore, wideCount, isLink, notHere, isNumberName, wronglyLabelled, passing, isUncut}
 use Rattle.dues.specs.Ranks.{code}
 
 -- ---- the ranks: the order of trying behind 4
@@ -37,21 +37,28 @@ labelRank = 6
 abbrev pub copiesRank : ℕ
 copiesRank = 7
 
--- the refusals of a line: 5 to 9, which are met as the line is walked, and 10 to 12, over all brackets
+abbrev pub uncutRank : ℕ
+uncutRank = 8
+
+-- the refusals of a line: 5 to 9, and 19, are met as the line is walked, and 10 to 12 are asked over all brackets
 abbrev pub metDues : Line ℕ → List Due
 metDues l = due 5 (refusal5 l) ∷ due 6 (refusal6 l) ∷ due 7 (refusal7 l) ∷ due 8 (refusal8 l) ∷ due 9 (refusal9 l) ∷ []
 
 abbrev pub bracketDues : Line ℕ → List Due
 bracketDues l = due 10 (refusal10 l) ∷ due 11 (refusal11 l) ∷ due 12 (refusal12 l) ∷ []
 
--- ---- 5 to 9 as they are met: of a part, of a bracket, of a line
+abbrev pub uncutDues : Line ℕ → List Due
+uncutDues l = due 19 (refusal19 l) ∷ []
+
+-- ---- 5 to 9, and 19, as they are met: of a part, of a bracket, of a line
 abbrev pub partCodes : Part ℕ → List ℕ
 partCodes p =
     map (code deepRank) (deepPart p)
     ++ (map (code overRank) (longText p ++ longLabel p)
     ++ (map (code wideRank) (wideMass (p .value) ++ wideScore p)
     ++ (map (code barredRank) (dueAt (notHere p) (p .at))
-    ++ map (code digitsRank) (dueAt (isNumberName p) (p .at)))))
+    ++ (map (code digitsRank) (dueAt (isNumberName p) (p .at))
+    ++ map (code uncutRank) (dueAt (isUncut p) (p .at))))))
 
 -- what its label adds, where the part begins at i: 6 at the label's first byte, 7 at its score, 8 at the part
 abbrev pub labelCodes : ℕ → Label ℕ → List ℕ

@@ -8,12 +8,12 @@ use lib.ListN.{length, drop}
 use Rattle.scope.specs.Limits.{residueLimit, bracketLimit, partLimit}
 use Rattle.scope.specs.Line.{Part, Bracket, Residue, Line}
 use Rattle.scope.specs.Lists.{flat}
-use Rattle.scope.specs.Refusals.{Due, lineRefusals, refusal5, refusal6, refusal7, refusal8, refusal9, refusal10, refusal11, refusal12, dueAt, deepPart, longText, longLabel, overIn, wideMass, wideScore, wideCount, notHere, isNumberName, wronglyLabelled, passing}
+use Rattle.scope.specs.Refusals.{Due, lineRefusals, refusal5, refusal6, refusal7, refusal8, refusal9, refusal10, refusal11, refusal12, refusal19, dueAt, deepPart, longText, longLabel, overIn, wideMass, wideScore, wideCount, notHere, isNumberName, wronglyLabelled, passing, isUncut}
 use Rattle.scope.specs.Modifications.{onlyInfo, defined, referredTo}
 use Rattle.scope.specs.Kinds.{unknownOrLabile}
 use Rattle.dues.specs.Ranks.{code, codes, lowest}
 use Rattle.dues.specs.First.{lowest-append}
-use Rattle.dues.specs.Lines.{deepRank, overRank, wideRank, barredRank, digitsRank, infoRank, labelRank, copiesRank, metDues, bracketDues, partCodes, partsCodes, bracketCodes, metCodes, ruledCodes}
+use Rattle.dues.specs.Lines.{deepRank, overRank, wideRank, barredRank, digitsRank, infoRank, labelRank, copiesRank, uncutRank, metDues, bracketDues, uncutDues, partCodes, partsCodes, bracketCodes, metCodes, ruledCodes}
 
 pub lowest-below : (n : ℕ) (l : List ℕ) → lowest n l ≤ n
 unfolding lowest
@@ -56,6 +56,17 @@ module _ (n : ℕ) where
       ap (min (min (g x) (h x))) (lows-two g h l)
       ∙ (let e : min (min (g x) (h x)) (min (lows g l) (lows h l)) ≡ min (min (g x) (lows g l)) (min (h x) (lows h l)) = omega arith in e)
 
+  lows-six : {A : Type 0} (f g h i j k : A → ℕ) (l : List A)
+      → lows (λ x. min (f x) (min (g x) (min (h x) (min (i x) (min (j x) (k x)))))) l
+      ≡ min (lows f l) (min (lows g l) (min (lows h l) (min (lows i l) (min (lows j l) (lows k l)))))
+  lows-six f g h i j k l =
+      lows-two f (λ x. min (g x) (min (h x) (min (i x) (min (j x) (k x))))) l
+      ∙ ap (min (lows f l))
+      (lows-two g (λ x. min (h x) (min (i x) (min (j x) (k x)))) l
+      ∙ ap (min (lows g l))
+      (lows-two h (λ x. min (i x) (min (j x) (k x))) l
+      ∙ ap (min (lows h l)) (lows-two i (λ x. min (j x) (k x)) l ∙ ap (min (lows i l)) (lows-two j k l))))
+
   lows-same : {A : Type 0} (g h : A → ℕ) → ((x : A) → g x ≡ h x) → (l : List A) → lows g l ≡ lows h l
   unfolding lows
   lows-same g h e [] = refl
@@ -95,7 +106,10 @@ module _ (n : ℕ) where
   abbrev pub p9 : Part ℕ → ℕ
   p9 p = low digitsRank (dueAt (isNumberName p) (p .at))
 
-  pub part-low : (p : Part ℕ) → lowest n (partCodes p) ≡ min (p5 p) (min (p6 p) (min (p7 p) (min (p8 p) (p9 p))))
+  abbrev pub p19 : Part ℕ → ℕ
+  p19 p = low uncutRank (dueAt (isUncut p) (p .at))
+
+  pub part-low : (p : Part ℕ) → lowest n (partCodes p) ≡ min (p5 p) (min (p6 p) (min (p7 p) (min (p8 p) (min (p9 p) (p19 p)))))
   unfolding low
   part-low p =
       lowest-two n (map (code deepRank) (deepPart p)) _
@@ -103,15 +117,16 @@ module _ (n : ℕ) where
       (lowest-two n (map (code overRank) (longText p ++ longLabel p)) _
       ∙ ap (min (p6 p))
       (lowest-two n (map (code wideRank) (wideMass (p .value) ++ wideScore p)) _
-      ∙ ap (min (p7 p)) (lowest-two n (map (code barredRank) (dueAt (notHere p) (p .at))) _)))
+      ∙ ap (min (p7 p))
+      (lowest-two n (map (code barredRank) (dueAt (notHere p) (p .at))) _
+      ∙ ap (min (p8 p)) (lowest-two n (map (code digitsRank) (dueAt (isNumberName p) (p .at))) _))))
 
-  parts-low : (ps : List (Part ℕ)) → lowest n (flat partCodes ps) ≡ min (lows p5 ps) (min (lows p6 ps) (min (lows p7 ps) (min (lows p8 ps) (lows p9 ps))))
+  parts-low : (ps : List (Part ℕ))
+      → lowest n (flat partCodes ps) ≡ min (lows p5 ps) (min (lows p6 ps) (min (lows p7 ps) (min (lows p8 ps) (min (lows p9 ps) (lows p19 ps)))))
   parts-low ps =
-      lowest-flat partCodes ps ∙ lows-same (λ p. lowest n (partCodes p)) (λ p. min (p5 p) (min (p6 p) (min (p7 p) (min (p8 p) (p9 p))))) part-low ps
-      ∙ lows-two p5 (λ p. min (p6 p) (min (p7 p) (min (p8 p) (p9 p)))) ps
-      ∙ ap (min (lows p5 ps))
-      (lows-two p6 (λ p. min (p7 p) (min (p8 p) (p9 p))) ps
-      ∙ ap (min (lows p6 ps)) (lows-two p7 (λ p. min (p8 p) (p9 p)) ps ∙ ap (min (lows p7 ps)) (lows-two p8 p9 ps)))
+      lowest-flat partCodes ps
+      ∙ lows-same (λ p. lowest n (partCodes p)) (λ p. min (p5 p) (min (p6 p) (min (p7 p) (min (p8 p) (min (p9 p) (p19 p)))))) part-low ps
+      ∙ lows-six p5 p6 p7 p8 p9 p19 ps
 
   -- ---- a bracket, by ranks
   abbrev b5 : Bracket ℕ → ℕ
@@ -129,25 +144,27 @@ module _ (n : ℕ) where
   abbrev b9 : Bracket ℕ → ℕ
   b9 k = lows p9 (k .parts)
 
-  bracket-low : (k : Bracket ℕ) → lowest n (bracketCodes k) ≡ min (b5 k) (min (b6 k) (min (b7 k) (min (b8 k) (b9 k))))
+  abbrev b19 : Bracket ℕ → ℕ
+  b19 k = lows p19 (k .parts)
+
+  bracket-low : (k : Bracket ℕ) → lowest n (bracketCodes k) ≡ min (b5 k) (min (b6 k) (min (b7 k) (min (b8 k) (min (b9 k) (b19 k)))))
   unfolding low
   bracket-low k =
       lowest-two n (partsCodes (k .parts)) (map (code wideRank) (wideCount k))
       ∙ ap (λ x. min x (low wideRank (wideCount k)))
       (lowest-two n (flat partCodes (k .parts)) (map (code overRank) (drop partLimit (map (λ p. p .at) (k .parts))))
       ∙ ap (λ x. min x (low overRank (drop partLimit (map (λ p. p .at) (k .parts))))) (parts-low (k .parts)))
-      ∙ mixed (lows p5 (k .parts)) (lows p6 (k .parts)) (lows p7 (k .parts)) (lows p8 (k .parts)) (lows p9 (k .parts)) _ _
+      ∙ mixed (lows p5 (k .parts)) (lows p6 (k .parts)) (lows p7 (k .parts)) (lows p8 (k .parts)) (lows p9 (k .parts)) (lows p19 (k .parts)) _ _
     where
-      mixed : (a b c d e x y : ℕ) → min (min (min a (min b (min c (min d e)))) x) y ≡ min a (min (min x b) (min (min y c) (min d e)))
-      mixed a b c d e x y = simp mins
+      mixed : (a b c d e f x y : ℕ) → min (min (min a (min b (min c (min d (min e f))))) x) y ≡ min a (min (min x b) (min (min y c) (min d (min e f))))
+      mixed a b c d e f x y = simp mins
 
-  brackets-low : (ks : List (Bracket ℕ)) → lowest n (flat bracketCodes ks) ≡ min (lows b5 ks) (min (lows b6 ks) (min (lows b7 ks) (min (lows b8 ks) (lows b9 ks))))
+  brackets-low : (ks : List (Bracket ℕ))
+      → lowest n (flat bracketCodes ks) ≡ min (lows b5 ks) (min (lows b6 ks) (min (lows b7 ks) (min (lows b8 ks) (min (lows b9 ks) (lows b19 ks)))))
   brackets-low ks =
-      lowest-flat bracketCodes ks ∙ lows-same (λ k. lowest n (bracketCodes k)) (λ k. min (b5 k) (min (b6 k) (min (b7 k) (min (b8 k) (b9 k))))) bracket-low ks
-      ∙ lows-two b5 (λ k. min (b6 k) (min (b7 k) (min (b8 k) (b9 k)))) ks
-      ∙ ap (min (lows b5 ks))
-      (lows-two b6 (λ k. min (b7 k) (min (b8 k) (b9 k))) ks
-      ∙ ap (min (lows b6 ks)) (lows-two b7 (λ k. min (b8 k) (b9 k)) ks ∙ ap (min (lows b7 ks)) (lows-two b8 b9 ks)))
+      lowest-flat bracketCodes ks
+      ∙ lows-same (λ k. lowest n (bracketCodes k)) (λ k. min (b5 k) (min (b6 k) (min (b7 k) (min (b8 k) (min (b9 k) (b19 k)))))) bracket-low ks
+      ∙ lows-six b5 b6 b7 b8 b9 b19 ks
 
   -- ---- the rules one by one
   -- the parts of all brackets, for a rank
@@ -155,6 +172,12 @@ module _ (n : ℕ) where
   in-parts r f ks =
       low-flat r (λ k. flat f (k .parts)) ks
       ∙ lows-same (λ k. low r (flat f (k .parts))) (λ k. lows (λ p. low r (f p)) (k .parts)) (λ k. low-flat r f (k .parts)) ks
+
+  -- the same, where no rule is left
+  last-rule : (r : ℕ) (f : Part ℕ → List ℕ) (ks : List (Bracket ℕ))
+      → lowest n (map (code r) (flat (λ k. flat f (k .parts)) ks) ++ []) ≡ lows (λ k. lows (λ p. low r (f p)) (k .parts)) ks
+  unfolding low
+  last-rule r f ks = ap (lowest n) (append-nil (map (code r) (flat (λ k. flat f (k .parts)) ks))) ∙ in-parts r f ks
 
   -- and something of each bracket before them
   with-parts : (r : ℕ) (g : Bracket ℕ → List ℕ) (f : Part ℕ → List ℕ) (ks : List (Bracket ℕ))
@@ -176,7 +199,7 @@ module _ (n : ℕ) where
 
   met-low : (rs : List (Residue ℕ)) (ks : List (Bracket ℕ))
       → lowest n (metCodes rs ks)
-      ≡ min (min (lows b5 ks) (min (lows b6 ks) (min (lows b7 ks) (min (lows b8 ks) (lows b9 ks)))))
+      ≡ min (min (lows b5 ks) (min (lows b6 ks) (min (lows b7 ks) (min (lows b8 ks) (min (lows b9 ks) (lows b19 ks))))))
       (min (low overRank (drop bracketLimit (map (λ k. k .at) ks))) (low overRank (drop residueLimit (map (λ r. r .at) rs))))
   unfolding low
   met-low rs ks =
@@ -191,18 +214,18 @@ module _ (n : ℕ) where
       (codes-append (rank + 1) a b ∙ ap (λ k. codes (rank + 1) a ++ codes k b) (let e : rank + 1 + length a ≡ rank + length (r ∷ a) = omega arith in e))
       ∙ sym (append-assoc (map (code rank) (r .places)) (codes (rank + 1) a) (codes (rank + length (r ∷ a)) b))
 
-  pub lowest-pieces : (a b : List Due) → lowest n (codes 0 (a ++ b)) ≡ min (lowest n (codes 0 a)) (lowest n (codes (length a) b))
-  lowest-pieces a b =
-      ap (lowest n) (codes-append 0 a b ∙ ap (λ k. codes 0 a ++ codes k b) (let e : 0 + length a ≡ length a = omega arith in e))
-      ∙ lowest-two n (codes 0 a) (codes (length a) b)
+  lowest-pieces : (rank : ℕ) (a b : List Due) → lowest n (codes rank (a ++ b)) ≡ min (lowest n (codes rank a)) (lowest n (codes (rank + length a) b))
+  lowest-pieces rank a b = ap (lowest n) (codes-append rank a b) ∙ lowest-two n (codes rank a) (codes (rank + length a) b)
 
-  -- what is met has the lowest code of 5 to 9
-  pub met-alone : (l : Line ℕ) → lowest n (metCodes (l .residues) (l .brackets)) ≡ lowest n (codes 0 (metDues l))
-  unfolding low codes refusal5 refusal6 refusal7 refusal8 refusal9
+  -- what is met has the lowest code of 5 to 9 and 19
+  met-alone : (l : Line ℕ)
+      → lowest n (metCodes (l .residues) (l .brackets)) ≡ min (lowest n (codes deepRank (metDues l))) (lowest n (codes uncutRank (uncutDues l)))
+  unfolding low codes refusal5 refusal6 refusal7 refusal8 refusal9 refusal19
   met-alone l =
       met-low (l .residues) (l .brackets)
-      ∙ mixed _ _ _ _ _ _ _
+      ∙ mixed _ _ _ _ _ _ _ _
       ∙ sym
+      (ap₂ min
       (lowest-two n (map (code deepRank) (flat (λ k. flat deepPart (k .parts)) (l .brackets))) _
       ∙ ap₂ min (in-parts deepRank deepPart (l .brackets))
       (lowest-two n (map (code overRank) (drop residueLimit (map (λ r. r .at) (l .residues)) ++ (drop bracketLimit (map (λ k. k .at) (l .brackets)) ++ flat overIn (l .brackets)))) _
@@ -211,13 +234,13 @@ module _ (n : ℕ) where
       ∙ ap₂ min (with-parts wideRank wideCount (λ p. wideMass (p .value) ++ wideScore p) (l .brackets))
       (lowest-two n (map (code barredRank) (flat (λ k. flat (λ p. dueAt (notHere p) (p .at)) (k .parts)) (l .brackets))) _
       ∙ ap₂ min (in-parts barredRank (λ p. dueAt (notHere p) (p .at)) (l .brackets))
-      (ap (lowest n) (append-nil (map (code digitsRank) (flat (λ k. flat (λ p. dueAt (isNumberName p) (p .at)) (k .parts)) (l .brackets))))
-      ∙ in-parts digitsRank (λ p. dueAt (isNumberName p) (p .at)) (l .brackets))))))
+      (last-rule digitsRank (λ p. dueAt (isNumberName p) (p .at)) (l .brackets))))))
+      (last-rule uncutRank (λ p. dueAt (isUncut p) (p .at)) (l .brackets)))
     where
-      mixed : (a b c d e x y : ℕ) → min (min a (min b (min c (min d e)))) (min x y) ≡ min a (min (min y (min x b)) (min c (min d e)))
-      mixed a b c d e x y = simp mins
+      mixed : (a b c d e f x y : ℕ) → min (min a (min b (min c (min d (min e f))))) (min x y) ≡ min (min a (min (min y (min x b)) (min c (min d e)))) f
+      mixed a b c d e f x y = simp mins
 
-  ruled-alone : (l : Line ℕ) → lowest n (ruledCodes (l .brackets)) ≡ lowest n (codes infoRank (bracketDues l))
+  pub ruled-alone : (l : Line ℕ) → lowest n (ruledCodes (l .brackets)) ≡ lowest n (codes infoRank (bracketDues l))
   unfolding codes refusal10 refusal11 refusal12
   ruled-alone l =
       ap (λ t. lowest n (map (code infoRank) (flat (λ k. dueAt (unknownOrLabile (k .kind) && onlyInfo k) (k .at)) (l .brackets))
@@ -229,4 +252,8 @@ module _ (n : ℕ) where
   met l =
       lowest-two n (metCodes (l .residues) (l .brackets)) (ruledCodes (l .brackets))
       ∙ ap₂ min (met-alone l) (ruled-alone l)
-      ∙ sym (lowest-pieces (metDues l) (bracketDues l))
+      ∙ between _ _ _
+      ∙ sym (lowest-pieces deepRank (metDues l) (bracketDues l ++ uncutDues l) ∙ ap (min _) (lowest-pieces infoRank (bracketDues l) (uncutDues l)))
+    where
+      between : (a b c : ℕ) → min (min a c) b ≡ min a (min b c)
+      between a b c = simp mins

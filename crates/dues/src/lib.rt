@@ -24,11 +24,11 @@ ghost use Rattle.dues.specs.Found.{ValueFound, LabelFound};
 const PLACES: usize = 65536;
 
 // The refusals that are tried behind 4, in the order of trying: the number of each.
-const NUMBERS: [u8; RANKS] = [5, 6, 7, 8, 9, 10, 11, 12];
+const NUMBERS: [u8; RANKS] = [5, 6, 7, 8, 9, 10, 11, 12, 19];
 
-const RANKS: usize = 8;
+const RANKS: usize = 9;
 
-// Their ranks: a pair too deep; too many or too long; out of range; barred; only digits; only INFO; wrongly labelled; too many copies.
+// Their ranks: a pair too deep; too many or too long; out of range; barred; only digits; only INFO; wrongly labelled; too many copies; a composition that cannot be cut.
 pub const DEEP: usize = 0;
 
 pub const OVER: usize = 1;
@@ -44,6 +44,11 @@ pub const INFO: usize = 5;
 pub const LABEL: usize = 6;
 
 pub const COPIES: usize = 7;
+
+pub const UNCUT: usize = 8;
+
+// The first code of 10 to 12, the rules that are asked over all brackets: below it are those of 5 to 9.
+pub const RULED: usize = INFO * PLACES;
 
 // Nothing is due: above every code.
 pub const NONE: usize = RANKS * PLACES;
@@ -86,27 +91,30 @@ pub fn place_of(c: usize) -> usize
     c % PLACES
 }
 
-// the codes of keys: none; R, the first behind U and M; Formula, the first of those that are barred
+// the codes of keys: none; R, the first behind U and M; Formula, from which on keys are barred, but for Glycan
 const NO_KEY: u8 = 0;
 
 const R: u8 = 3;
 
 const FORMULA: u8 = 14;
 
+const GLYCAN: u8 = 15;
+
 // With what is due of a value: of the key and the mass or text of the part at `at`.
 pub fn value_due(line: &[u8], least: usize, at: usize, v: Value) -> usize
     requires { ⌜ ValueFound (now line) at v ⌝ }
     ensures { λ r. ⌜ ((q : Part ℕ) → IsValue (now (line .entry)) at v q → r ≡ lowest least (partCodes q)) ⌝ }
 {
-    let key = v.key;
-    let a = due_if(least, FORMULA <= words::key_code(key), BARRED, at);
     if v.code == Value::TEXT {
-        return text_due(line, a, at, v);
+        return text_due(line, least, at, v);
     }
+    let key = v.key;
+    let code = words::key_code(key);
+    let a = due_if(least, (FORMULA <= code) & (code != GLYCAN), BARRED, at);
     due_if(a, v.code == Value::WIDE, WIDE, v.from)
 }
 
-// Of the text.
+// Of the key and the text.
 fn text_due(line: &[u8], least: usize, at: usize, v: Value) -> usize
     requires { ⌜ ValueFound (now line) at v × (v .code ≡ textCode) ⌝ }
     ensures { λ r. ⌜ ((q : Part ℕ) → IsValue (now (line .entry)) at v q → r ≡ lowest least (textCodes (keyCode (q .key)) (q .at) (q .at + length (written (q .key))) (textOf q))) ⌝ }
@@ -123,7 +131,13 @@ fn text_due(line: &[u8], least: usize, at: usize, v: Value) -> usize
     if code < R {
         return due_if(b, is_number(line, from, to), DIGITS, at);
     }
-    b
+    if code < FORMULA {
+        return b;
+    }
+    if code == GLYCAN {
+        return due_if(b, !glycans::cut(line, from, to).cut, UNCUT, at);
+    }
+    due(b, BARRED, at)
 }
 
 // Of a pair that is too deep: `deep` is 0 where none is, else one more than its place.

@@ -19,6 +19,7 @@ use Rattle.reading_laws.specs.Bare.{same-canonical, same-total, same-lacking}
 use Rattle.canonical_laws.specs.Proved as canonicals
 use Rattle.reader.specs.ReadSays.{Stored}
 use Rattle.store.specs.Filled.{Fills}
+use Rattle.store.proofs.NotedLine.{is-accepted, residues-many, brackets-many}
 use Rattle.reader.proofs.Storing.{holds-of}
 use Rattle.entries.specs.Entry.{okFields, noFields, Known, Floats}
 
@@ -52,10 +53,11 @@ pub taken-text : {line letters sections heads parts : List ℕ} {masses scores :
 taken-text f floats w =
     let l = f .holds-line in
     let noted = f .line-noted in
-    let t = holds-of l (noted .is-accepted) w .tables in
+    let e = is-accepted noted in
+    let t = holds-of l e w .tables in
     let total = ap totalText t ∙ total-bare l in
     let itself = ap canonical t ∙ same-canonical l in
-    rw (total, itself, noted .residues-are, noted .brackets-are, floats l (noted .is-accepted)) (ap report (sym (noted .is-accepted)))
+    rw (total, itself, residues-many noted, brackets-many noted, floats l e) (ap report (sym e))
 
 pub refused-text : (s : List ℕ) {n p : ℕ} → outcome s ≡ refused n p → fields (noFields n p) ≡ report (outcome s)
 refused-text s e = ap report (sym e)

@@ -16,6 +16,8 @@ use Rattle.scope.specs.Masses.{ledger, daltons}
 use Rattle.scope.specs.Answers.{Said, good, refuses, Display, aMass, lack, writes, outputAfter, allows, books, fitting}
 use Rattle.entries.specs.Entry.{entry}
 use Rattle.scope.specs.Positions.{floatersBy, bracketsOf, copiesOf}
+use Rattle.scope.specs.Glycans.{cuttings}
+use Rattle.glycans.specs.Pieces.{piecesOf, piecesSaid}
 use Rattle.calls.specs.Floating.{floatersSaid}
 use Rattle.export.specs.Numbers.{numberOf, left, Numbered}
 use Rattle.export.specs.Handed.{Counted}
@@ -32,6 +34,11 @@ pub record Measured (said : Said ℕ) (count number count′ : ℕ) : Type 0 whe
 pub record Written (bs : List ℕ) (ns : List ℤ) (old : List ℕ) (count number count′ : ℕ) (new : List ℕ) : Type 0 where
   pub measured : Measured (writes bs ns old) count number count′
   pub output-after : new ≡ outputAfter (writes bs ns old) (canonical (tablesIn bs ns)) old
+
+-- ---- the pieces of a composition, likewise
+pub record PiecesHanded (t old : List ℕ) (count number count′ : ℕ) (new : List ℕ) : Type 0 where
+  pub measured : Measured (piecesSaid t (length old)) count number count′
+  pub output-after : new ≡ outputAfter (piecesSaid t (length old)) (piecesOf (cuttings t)) old
 
 -- ---- a total in millionths, and the refusal's place (16 "how many have none")
 pub record Totalled (said : Said ℤ) (millionths : ℤ) (place number : ℕ) (millionths′ : ℤ) (place′ : ℕ) : Type 0 where

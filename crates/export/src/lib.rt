@@ -6,10 +6,12 @@ pub mod tables;
 use scope::answers::Count;
 use scope::answers::Read;
 use scope::answers::Request;
+use scope::answers::Write;
 ghost use mathlib.Core.Path.{_≡_};
-ghost use Rattle.scope.specs.Answers.{saysRead, saysCount, saysRequest};
+ghost use Rattle.scope.specs.Answers.{saysRead, saysWrite, saysCount, saysRequest};
 ghost use Rattle.export.specs.Numbers.{Numbered, Judged, Exported, numberOf};
 ghost use Rattle.export.specs.Handed.{Counted};
+ghost use Rattle.export.specs.Shapes.{Measured, PiecesHanded};
 
 // A reader's answer, handed out.
 fn tell_read(r: Read, place: &mut usize) -> u8
@@ -47,6 +49,25 @@ fn tell_count(c: Count, count: &mut usize) -> u8
     }
 }
 
+// A writer's answer, handed out.
+fn tell_write(w: Write, length: &mut usize) -> u8
+    ensures { λ r. ⌜ Measured (saysWrite w) (now (length .entry)) r (now (length .exit)) ⌝ }
+{
+    match w {
+        Write::Written(n) => {
+            *length = n;
+            0
+        }
+        Write::Refused { number, place } => {
+            if number == 15 {
+                *length = place;
+                return number;
+            }
+            number
+        }
+    }
+}
+
 // 0 where the line is accepted, else the number of its refusal, with the place in `place`. Takes any bytes.
 #[no_mangle]
 pub extern "C" fn hwemiduk_verdict(line: &[u8], place: &mut usize) -> u8
@@ -69,4 +90,14 @@ pub extern "C" fn hwemiduk_read(
 {
     let r = reader::read(line, bytes, numbers);
     tell_read(r, place)
+}
+
+// The pieces of a text behind `Glycan:`, two bytes each, into an output of any length: 0 and how many bytes were written, with those behind them as they were; else 15
+// and the length needed, or 19, with the output as it was. Takes any bytes.
+#[no_mangle]
+pub extern "C" fn hwemiduk_composition(text: &[u8], pieces: &mut [u8], length: &mut usize) -> u8
+    ensures { λ r. ⌜ PiecesHanded (now (text .entry)) (now (pieces .entry)) (now (length .entry)) r (now (length .exit)) (now (pieces .exit)) ⌝ }
+{
+    let w = glycans::pieces(text, pieces);
+    tell_write(w, length)
 }

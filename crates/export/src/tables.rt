@@ -1,21 +1,21 @@
 // The calls over tables in lent areas: the two areas are only read, and any content of theirs is answered.
 use crate::request_number;
 use crate::tell_count;
+use crate::tell_write;
 use scope::answers::Booked;
 use scope::answers::Ledger;
 use scope::answers::Placement;
 use scope::answers::Shown;
 use scope::answers::Total;
-use scope::answers::Write;
 ghost use mathlib.Core.Path.{_≡_};
 ghost use mathlib.Core.List.{_++_};
 ghost use Prim.Native.Nat.{_≤_};
 ghost use lib.ListN.{length, take, drop};
 ghost use Rattle.scope.specs.Limits.{copyLimit};
-ghost use Rattle.scope.specs.Answers.{saysWrite, saysTotal, saysShown, counts, residueCount, bracketCount, floaterCount, totals, shows};
+ghost use Rattle.scope.specs.Answers.{saysTotal, saysShown, counts, residueCount, bracketCount, floaterCount, totals, shows};
 ghost use Rattle.calls.specs.Single.{weighsAt};
 ghost use Rattle.export.specs.Handed.{Counted};
-ghost use Rattle.export.specs.Shapes.{Measured, Written, Totalled, Displayed, AllowedLent, ReadEntered, FloatersHanded};
+ghost use Rattle.export.specs.Shapes.{Written, Totalled, Displayed, AllowedLent, ReadEntered, FloatersHanded};
 
 // How many residues there are: 0 and the count; else 13 or 14.
 #[no_mangle]
@@ -58,25 +58,6 @@ pub extern "C" fn hwemiduk_floater_brackets(
 {
     let c = calls::floater_brackets(bytes, numbers, brackets, copies);
     tell_count(c, count)
-}
-
-// A writer's answer, handed out.
-fn tell_write(w: Write, length: &mut usize) -> u8
-    ensures { λ r. ⌜ Measured (saysWrite w) (now (length .entry)) r (now (length .exit)) ⌝ }
-{
-    match w {
-        Write::Written(n) => {
-            *length = n;
-            0
-        }
-        Write::Refused { number, place } => {
-            if number == 15 {
-                *length = place;
-                return number;
-            }
-            number
-        }
-    }
 }
 
 // The canonical line into an output of any length: 0 and how many bytes were written, with those behind them as they were; else 15 and the length needed, or 13

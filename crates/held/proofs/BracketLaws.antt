@@ -17,7 +17,7 @@ use Rattle.sheet.specs.Fields.{partsField, baseField}
 use Rattle.sheet.proofs.FieldLaws.{Among, among}
 use Rattle.store.specs.PartPut.{RowFits, PartNoted}
 use Rattle.store.specs.BracketPut.{BracketNoted}
-use Rattle.store.proofs.NotedRows.{head-noted, points-are, texts-long, texts-noted, row-noted, number-noted, row-fits}
+use Rattle.store.proofs.NotedRows.{parts-many, head-noted, points-are, texts-long, texts-noted, row-noted, number-noted, row-fits}
 use Rattle.held.specs.declared.Seen.{Seen}
 use Rattle.held.specs.Tells.{Tells}
 use Rattle.held.specs.Held.{PartSeen, FrameFits, FrameHeld, BracketThere, BracketHeld, BracketSeen}
@@ -75,7 +75,7 @@ frame-fits e s =
       heads-room = f .heads-room;
       scores-room = f .scores-room;
       few-brackets = f .few-brackets;
-      few-parts = omega (arith, f .noted .fields .parts, f .noted .within .few-parts);
+      few-parts = omega (arith, parts-many (f .noted), f .noted .within .few-parts);
       bytes-long = f .bytes-long;
       numbers-long = f .numbers-long;
     }
@@ -96,7 +96,7 @@ module _ {line heads parts : List ℕ} {masses scores : List ℤ} {k : ℕ} {byt
   module _ {first : Seen} {j : ℕ} {seen : Seen} (w : HoldingParts line heads parts masses scores k bytes numbers m n first j seen) where
     module _ {b : Bracket ℕ} (f : BracketThere line heads parts masses scores k (first .texts) b bytes numbers) (h : j < n) where
       next : Among (b .parts) j
-      next = among (b .parts) j (omega (arith, w .many, f .noted .fields .parts))
+      next = among (b .parts) j (omega (arith, w .many, parts-many (f .noted)))
 
       next-noted : PartNoted line parts masses (m + j) (next .this)
       next-noted =
@@ -105,7 +105,7 @@ module _ {line heads parts : List ℕ} {masses scores : List ℤ} {k : ℕ} {byt
 
       fits : RowFits line parts masses (m + j) k j (seen .texts) bytes numbers
       fits =
-          let parts-many : n ≡ length (b .parts) = w .many ∙ f .noted .fields .parts in
+          let all-parts : n ≡ length (b .parts) = w .many ∙ parts-many (f .noted) in
           row-fits next-noted (f .parts-room) (f .masses-room) (omega (arith, w .base-is, f .noted .fields .base-is, f .noted .few-rows))
           (omega (arith, upto-room (w .upto b f) next, f .texts-room)) (f .few-brackets) (omega (arith, f .noted .within .few-parts)) (f .bytes-long) (f .numbers-long)
 
@@ -127,13 +127,13 @@ module _ {line heads parts : List ℕ} {masses scores : List ℤ} {k : ℕ} {byt
     pub parting-end : n ≤ j → {before frame : Bool} → first .so ≡ (before && frame) → Tells frame (FrameHeld heads scores k n bytes numbers)
         → (b : Bracket ℕ) → BracketThere line heads parts masses scores k (first .texts) b bytes numbers → BracketSeen k b bytes numbers (record { so = before; texts = first .texts }) seen
     parting-end h {before} e v b f =
-        let parts-many : n ≡ length (b .parts) = w .many ∙ f .noted .fields .parts in
+        let all-parts : n ≡ length (b .parts) = w .many ∙ parts-many (f .noted) in
         let all : j ≡ length (b .parts) = omega (arith, w .few) in
         let u = w .upto b f in
         record {
           texts-are = upto-texts u all;
           decided =
               tells-then
-              (joins-beside (bracket-joins (f .noted) bytes numbers (f .few-brackets) (f .numbers-long) (first .texts) n parts-many))
+              (joins-beside (bracket-joins (f .noted) bytes numbers (f .few-brackets) (f .numbers-long) (first .texts) n all-parts))
               (rw e (tells-both (tells-itself before) v)) (upto-end u all (no-parts bytes numbers k j (seen .texts)));
         }

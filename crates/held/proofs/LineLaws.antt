@@ -24,7 +24,7 @@ use Rattle.sheet.specs.Rows.{LineNoted}
 use Rattle.sheet.proofs.FieldLaws.{Among, among}
 use Rattle.store.specs.BracketPut.{BracketNoted}
 use Rattle.store.specs.Filled.{FrontFits}
-use Rattle.store.proofs.NotedLine.{within, bracket-noted}
+use Rattle.store.proofs.NotedLine.{is-accepted, within, residues-many, brackets-many, letters-are, sections-are, bracket-noted}
 use Rattle.held.specs.declared.Seen.{Seen}
 use Rattle.held.specs.Tells.{Tells}
 use Rattle.held.specs.Held.{FrontHeld, HeldFrom, BracketThere, BracketHeld, BracketSeen, RestHeld}
@@ -139,8 +139,8 @@ pub front-fits : {line letters sections heads parts : List ℕ} {masses scores :
     → LineNoted line letters sections heads parts masses scores residues brackets l → bytesSize ≤ length bytes → FrontFits letters sections residues brackets bytes
 front-fits w h =
     record {
-      few-residues = omega (arith, w .residues-are, within w .few-residues);
-      few-brackets = omega (arith, w .brackets-are, within w .few-brackets);
+      few-residues = omega (arith, residues-many w, within w .few-residues);
+      few-brackets = omega (arith, brackets-many w, within w .few-brackets);
       letters-room = w .roomy .letters-room;
       sections-room = w .roomy .sections-room;
       bytes-long = h;
@@ -157,7 +157,7 @@ module _ {line letters sections heads parts : List ℕ} {masses scores : List �
 
     module _ (h : k < brackets) where
       next : Among (l .brackets) k
-      next = among (l .brackets) k (omega (arith, v .noted .brackets-are))
+      next = among (l .brackets) k (omega (arith, brackets-many (v .noted)))
 
       next-there : BracketThere line heads parts masses scores k (seen .texts) (next .this) bytes numbers
       next-there =
@@ -169,7 +169,7 @@ module _ {line letters sections heads parts : List ℕ} {masses scores : List �
             parts-room = w .roomy .parts-room;
             masses-room = w .roomy .masses-room;
             scores-room = w .roomy .scores-room;
-            few-brackets = omega (arith, w .brackets-are, within w .few-brackets);
+            few-brackets = omega (arith, brackets-many w, within w .few-brackets);
             texts-room = omega (arith, upto-room (v .upto) next, within w .texts);
             bytes-long = v .bytes-long;
             numbers-long = v .numbers-long;
@@ -195,7 +195,7 @@ module _ {line letters sections heads parts : List ℕ} {masses scores : List �
 
     module _ (all : brackets ≤ k) where
       passed : k ≡ length (l .brackets)
-      passed = omega (arith, v .few, v .noted .brackets-are)
+      passed = omega (arith, v .few, brackets-many (v .noted))
 
       texts-are : seen .texts ≡ length (flat bracketTexts (l .brackets))
       texts-are = upto-texts (v .upto) passed ∙ zero-add (length (flat bracketTexts (l .brackets)))
@@ -203,18 +203,15 @@ module _ {line letters sections heads parts : List ℕ} {masses scores : List �
       pub rest-fits : (brackets ≤ bracketLimit) × (seen .texts ≤ lineLimit) × (bytesSize ≤ length bytes) × (numbersSize ≤ length numbers)
       rest-fits =
           let w = v .noted in
-          (omega (arith, w .brackets-are, within w .few-brackets), omega (arith, texts-are, within w .texts), v .bytes-long, v .numbers-long)
+          (omega (arith, brackets-many w, within w .few-brackets), omega (arith, texts-are, within w .texts), v .bytes-long, v .numbers-long)
 
       pub line-told : {r : Bool} → Tells (first .so) (FrontHeld (countsRow residues brackets) (take residues letters) (take residues sections) bytes)
           → Tells r (RestHeld brackets (seen .texts) bytes numbers) → (seen .so && r) ≡ readsTo (outcome line) (take bytesSize bytes) (take numbersSize numbers)
       line-told front rest =
           let w = v .noted in
-          let few = within w .few-residues in
-          let counts-are : countsRow residues brackets ≡ counts l = ap₂ countsRow (w .residues-are) (w .brackets-are) in
-          let letters-are : take residues letters ≡ letters-of l = ap (λ i. take i letters) (w .residues-are) ∙ w .lettered .letters-are few in
-          let sections-are : take residues sections ≡ sections-of l = ap (λ i. take i sections) (w .residues-are) ∙ w .lettered .sections-are few in
+          let counts-are : countsRow residues brackets ≡ counts l = ap₂ countsRow (residues-many w) (brackets-many w) in
           told-same l (within w) bytes numbers
           (tells-joined (line-joins l (within w) bytes numbers)
-          (tells-then joins-pair (rw (counts-are, letters-are, sections-are) at front) (upto-end (v .upto) passed (no-brackets bytes numbers k (seen .texts))))
-          (rw (w .brackets-are, texts-are) at rest))
-          ∙ ap (λ o. readsTo o (take bytesSize bytes) (take numbersSize numbers)) (sym (w .is-accepted))
+          (tells-then joins-pair (rw (counts-are, letters-are w, sections-are w) at front) (upto-end (v .upto) passed (no-brackets bytes numbers k (seen .texts))))
+          (rw (brackets-many w, texts-are) at rest))
+          ∙ ap (λ o. readsTo o (take bytesSize bytes) (take numbersSize numbers)) (sym (is-accepted w))

@@ -12,7 +12,7 @@ use Rattle.scope.specs.Layout.{bytesSize, numbersSize, partSize, rowSize, numbe
 use Rattle.held.specs.Tells.{Tells}
 use Rattle.layout_laws.specs.At.{At}
 use Rattle.sheet.specs.Rows.{headsRoom, partsRoom, massesRoom}
-use Rattle.store.specs.PartPut.{textLength, labelLength, textsFrom, rowFrom}
+use Rattle.store.specs.PartPut.{textLength, labelLength, textsFrom, rowFrom, massPut}
 use Rattle.store.specs.BracketPut.{headFrom, BracketNoted}
 use Rattle.held.specs.declared.Seen.{Seen}
 
@@ -31,10 +31,10 @@ pub record HeldFrom (bytes : List ℕ) (numbers : List ℤ) (row t number : ℕ)
 -- ---- row m as part j of bracket k
 abbrev pub PartHeld : List ℕ → List ℕ → List ℤ → ℕ → ℕ → ℕ → ℕ → List ℕ → List ℤ → Type 0
 PartHeld line parts masses m k j t bytes numbers =
-    HeldFrom bytes numbers (partAt k j) t (massAt k j) (rowFrom parts m t) (textsFrom line parts m) (getD masses m (pos 0) ∷ [])
+    HeldFrom bytes numbers (partAt k j) t (massAt k j) (rowFrom line parts m t) (textsFrom line parts m) (massPut line parts masses m ∷ [])
 
 pub record PartSeen (line parts : List ℕ) (masses : List ℤ) (m k j : ℕ) (bytes : List ℕ) (numbers : List ℤ) (seen r : Seen) : Type 0 where
-  pub texts-are : r .texts ≡ seen .texts + (textLength parts m + labelLength parts m)
+  pub texts-are : r .texts ≡ seen .texts + (textLength line parts m + labelLength parts m)
   pub decided : Tells (r .so) ((seen .so ≡ true) × PartHeld line parts masses m k j (seen .texts) bytes numbers)
 
 -- ---- what bracket k has beside its n parts

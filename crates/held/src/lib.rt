@@ -1,8 +1,9 @@
 // Whether lent areas hold the tables of an accepted line that is noted in the sheet: notes and texts are compared with the areas piece by piece, and unused room with
 // zero. The areas may hold anything.
+use glycans::Cutting;
 use scope::tables::Tables;
 ghost use mathlib.Core.Path.{_≡_};
-ghost use Prim.Native.Nat.{ℕ, _+_, _<_, _≤_};
+ghost use Prim.Native.Nat.{ℕ, _+_, _^_, _<_, _≤_};
 ghost use lib.IntN.{pos};
 ghost use lib.ListN.{length, getD, take, replicate};
 ghost use Rattle.scope.specs.Limits.{lineLimit, residueLimit, bracketLimit, partLimit};
@@ -13,9 +14,8 @@ ghost use Rattle.scope.specs.Layout.{bytesSize, numbersSize, rowAt, partAt, cou
 ghost use Rattle.scope.specs.Answers.{readsTo};
 ghost use Rattle.held.specs.Tells.{Tells};
 ghost use Rattle.layout_laws.specs.At.{At};
-ghost use Rattle.sheet.specs.Rows.{headsRoom, partsRoom, massesRoom, LineNoted};
-ghost use Rattle.sheet.specs.Fields.{valueField, keyField, decimalsField};
-ghost use Rattle.store.specs.PartPut.{Copies, RowFits};
+ghost use Rattle.sheet.specs.Rows.{headsRoom, LineNoted};
+ghost use Rattle.store.specs.PartPut.{Copies, RowFits, ComposedFits, NotedFits};
 ghost use Rattle.store.specs.BracketPut.{headFrom};
 ghost use Rattle.store.specs.Filled.{FrontFits};
 ghost use Rattle.held.specs.Held.{FrontHeld, PartSeen, FrameFits, FrameHeld, BracketThere, BracketSeen, RestHeld};
@@ -78,6 +78,14 @@ fn is_number(numbers: &[i64], at: usize, x: i64) -> bool
     x == numbers[at]
 }
 
+// Is this that mass, in millionths?
+fn is_mass(mass: u64, x: i64) -> bool
+    requires { ⌜ mass < 2 ^ 63 ⌝ }
+    ensures { λ r. ⌜ Tells r (x ≡ pos mass) ⌝ }
+{
+    x == mass as i64
+}
+
 // ---- in front of the rows
 
 // Do the first n bytes of `from` stand at a place, with zeros behind them up to the limit of residues?
@@ -107,10 +115,11 @@ fn front_held(
 
 // ---- a part
 
-// Is the row of part j of bracket k that of row m, with n bytes of text and l of label at an offset?
+// Is the row of part j of bracket k this, with n bytes of text and l of label at an offset?
 fn fields_held(
-    parts: &[u16],
-    m: usize,
+    value: usize,
+    key: usize,
+    decimals: usize,
     n: usize,
     l: usize,
     offset: usize,
@@ -118,12 +127,12 @@ fn fields_held(
     j: usize,
     bytes: &[u8],
 ) -> bool
-    requires { ⌜ (partsRoom ≤ length (now parts)) × (m < massesRoom) × (bytesSize ≤ length (now bytes)) × (k < bracketLimit) × (j < partLimit) ⌝ }
-    ensures { λ r. ⌜ Tells r (At (now (bytes .entry)) (partAt k j) (partFields (valueField (now (parts .entry)) m) (keyField (now (parts .entry)) m) (decimalsField (now (parts .entry)) m) n l offset)) ⌝ }
+    requires { ⌜ (bytesSize ≤ length (now bytes)) × (k < bracketLimit) × (j < partLimit) ⌝ }
+    ensures { λ r. ⌜ Tells r (At (now (bytes .entry)) (partAt k j) (partFields value key decimals n l offset)) ⌝ }
 {
-    (areas::value(bytes, k, j) == sheet::value_of(parts, m))
-        & (areas::key(bytes, k, j) == sheet::key_of(parts, m))
-        & (areas::decimals(bytes, k, j) == sheet::decimals_of(parts, m))
+    (areas::value(bytes, k, j) == value)
+        & (areas::key(bytes, k, j) == key)
+        & (areas::decimals(bytes, k, j) == decimals)
         & (areas::text_length(bytes, k, j) == n)
         & (areas::label_length(bytes, k, j) == l)
         & (areas::offset(bytes, k, j) == offset)
@@ -144,13 +153,80 @@ fn part_held(
     requires { ⌜ RowFits (now line) (now parts) (now masses) m k j (seen .texts) (now bytes) (now numbers) ⌝ }
     ensures { λ r. ⌜ PartSeen (now (line .entry)) (now (parts .entry)) (now (masses .entry)) m k j (now (bytes .entry)) (now (numbers .entry)) seen r ⌝ }
 {
+    if store::is_composition(parts, m) {
+        return composition_held(line, parts, masses, m, k, j, bytes, numbers, seen);
+    }
+    noted_held(line, parts, masses, m, k, j, bytes, numbers, seen)
+}
+
+// The same of a composition: its short text is put into an array, and compared there.
+fn composition_held(
+    line: &[u8],
+    parts: &[u16],
+    masses: &[i64],
+    m: usize,
+    k: usize,
+    j: usize,
+    bytes: &[u8],
+    numbers: &[i64],
+    seen: Seen,
+) -> Seen
+    requires { ⌜ ComposedFits (now line) (now parts) (now masses) m k j (seen .texts) (now bytes) (now numbers) ⌝ }
+    ensures { λ r. ⌜ PartSeen (now (line .entry)) (now (parts .entry)) (now (masses .entry)) m k j (now (bytes .entry)) (now (numbers .entry)) seen r ⌝ }
+{
+    let t = seen.texts;
+    let label = sheet::label_from(parts, m);
+    let l = sheet::label_to(parts, m) - label;
+    let c = store::composition(line, parts, m);
+    let n = c.size;
+    let mut short = [0u8; Tables::TEXT];
+    store::put_composition(line, parts, m, &mut short, n);
+    let offset = store::offset_of(n + l, t);
+    let so = fields_held(
+        Cutting::VALUE,
+        Cutting::KEY,
+        Cutting::DECIMALS,
+        n,
+        l,
+        offset,
+        k,
+        j,
+        bytes,
+    )
+        & same_bytes(&short, 0, n, bytes, Tables::TEXTS + t)
+        & same_bytes(line, label, l, bytes, Tables::TEXTS + t + n)
+        & is_mass(c.mass, areas::mass(numbers, k, j));
+    Seen {
+        so: seen.so & so,
+        texts: t + n + l,
+    }
+}
+
+// The same of any other part: as it is noted.
+fn noted_held(
+    line: &[u8],
+    parts: &[u16],
+    masses: &[i64],
+    m: usize,
+    k: usize,
+    j: usize,
+    bytes: &[u8],
+    numbers: &[i64],
+    seen: Seen,
+) -> Seen
+    requires { ⌜ NotedFits (now line) (now parts) (now masses) m k j (seen .texts) (now bytes) (now numbers) ⌝ }
+    ensures { λ r. ⌜ PartSeen (now (line .entry)) (now (parts .entry)) (now (masses .entry)) m k j (now (bytes .entry)) (now (numbers .entry)) seen r ⌝ }
+{
     let t = seen.texts;
     let text = sheet::text_from(parts, m);
     let n = sheet::text_to(parts, m) - text;
     let label = sheet::label_from(parts, m);
     let l = sheet::label_to(parts, m) - label;
     let offset = store::offset_of(n + l, t);
-    let so = fields_held(parts, m, n, l, offset, k, j, bytes)
+    let value = sheet::value_of(parts, m);
+    let key = sheet::key_of(parts, m);
+    let decimals = sheet::decimals_of(parts, m);
+    let so = fields_held(value, key, decimals, n, l, offset, k, j, bytes)
         & same_bytes(line, text, n, bytes, Tables::TEXTS + t)
         & same_bytes(line, label, l, bytes, Tables::TEXTS + t + n)
         & is_number(masses, m, areas::mass(numbers, k, j));

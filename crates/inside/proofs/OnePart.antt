@@ -10,7 +10,7 @@ use lib.Dec.{eqb}
 use lib.ListN.{length, length-append}
 use Rattle.scope.specs.declared.grammar.Key.the-variants.{Info}
 use Rattle.scope.specs.Limits.{decimalLimit}
-use Rattle.scope.specs.Line.{Number, Label, Value, mass, text, reference, Part}
+use Rattle.scope.specs.Line.{Number, Label, Value, mass, text, reference, composition, Part}
 use Rattle.scope.specs.Lists.{given, flat, part}
 use Rattle.scope.specs.Keys.{keyCode}
 use Rattle.scope.specs.Content.{isReference, labelled}
@@ -24,7 +24,7 @@ use Rattle.sheet.specs.Rows.{textFrom, textTo, decimalsNoted, massNoted, partNo
 use Rattle.dues.specs.Ranks.{code, lowest}
 use Rattle.dues.specs.Lines.{overRank, partCodes}
 use Rattle.values.specs.declared.Value.{Value as Found}
-use Rattle.values.specs.Says.{codeOf, fromOf, EndsAt, IsValue}
+use Rattle.values.specs.Says.{wideCode, codeOf, fromOf, EndsAt, IsValue}
 use Rattle.labels.specs.declared.Label.{Label as Named}
 use Rattle.labels.specs.Says.{IsLabel}
 use Rattle.inside.specs.declared.Parts.{Parts}
@@ -38,11 +38,12 @@ use Rattle.inside.proofs.Codes.{fifth, codes-more, codes-label}
 code-refers : (w : Value ℕ) → eqb (codeOf w) referenceCode ≡ isReference w
 code-refers (mass n) = go (inRange n)
   where
-    go : (t : Bool) → eqb (cond t massCode (referenceCode + 1)) referenceCode ≡ false
+    go : (t : Bool) → eqb (cond t massCode wideCode) referenceCode ≡ false
     go true = refl
     go false = refl
 code-refers (text t) = refl
 code-refers reference = refl
+code-refers (composition t n) = refl
 
 module _ (line : List ℕ) (at : ℕ) (v : Found) (q : Part ℕ) (w : IsValue line at v q) where
   pub value-refers : eqb (v .code) referenceCode ≡ isReference (q .value)
@@ -52,7 +53,7 @@ module _ (line : List ℕ) (at : ℕ) (v : Found) (q : Part ℕ) (w : IsValue li
   value-noted : notedCode (v .code) ≡ valueCode (q .value)
   value-noted = ap (λ z. notedCode (z .code)) (w .is) ∙ go (q .value)
     where
-      ranged : (t : Bool) → notedCode (cond t massCode (referenceCode + 1)) ≡ massCode
+      ranged : (t : Bool) → notedCode (cond t massCode wideCode) ≡ massCode
       ranged true = refl
       ranged false = refl
 
@@ -60,11 +61,12 @@ module _ (line : List ℕ) (at : ℕ) (v : Found) (q : Part ℕ) (w : IsValue li
       go (mass n) = ranged (inRange n)
       go (text t) = refl
       go reference = refl
+      go (composition t n) = refl
 
   from-noted : textPlace (v .code) (v .from) ≡ textFrom q (q .value)
   from-noted = ap (λ z. textPlace (z .code) (z .from)) (w .is) ∙ go (q .value)
     where
-      ranged : (t : Bool) (i : ℕ) → textPlace (cond t massCode (referenceCode + 1)) i ≡ 0
+      ranged : (t : Bool) (i : ℕ) → textPlace (cond t massCode wideCode) i ≡ 0
       ranged true i = refl
       ranged false i = refl
 
@@ -72,11 +74,12 @@ module _ (line : List ℕ) (at : ℕ) (v : Found) (q : Part ℕ) (w : IsValue li
       go (mass n) = ranged (inRange n) (n .at)
       go (text t) = refl
       go reference = refl
+      go (composition t n) = refl
 
   to-noted : textPlace (v .code) (v .to) ≡ textTo q (q .value)
   to-noted = ap (λ z. textPlace (z .code) (v .to)) (w .is) ∙ go (q .value) refl (w .ends)
     where
-      ranged : (t : Bool) (i : ℕ) → textPlace (cond t massCode (referenceCode + 1)) i ≡ 0
+      ranged : (t : Bool) (i : ℕ) → textPlace (cond t massCode wideCode) i ≡ 0
       ranged true i = refl
       ranged false i = refl
 
@@ -84,6 +87,7 @@ module _ (line : List ℕ) (at : ℕ) (v : Found) (q : Part ℕ) (w : IsValue li
       go (mass n) e h = ranged (inRange n) (v .to)
       go (text t) e h = h ∙ ap (textTo q) e
       go reference e h = refl
+      go (composition t n) e h = refl
 
   pub row-is : valueRow v ≡ partNote q
   row-is =
@@ -145,15 +149,18 @@ module _ (line : List ℕ) (at : ℕ) (r : Named) (l : Label ℕ) (w : IsLabel l
   same-from (mass n) = refl
   same-from (text t) = refl
   same-from reference = refl
+  same-from (composition t n) = refl
 
   same-to : (x : Value ℕ) → textTo named x ≡ textTo q x
   same-to (mass n) = refl
   same-to (text t) = refl
   same-to reference = refl
+  same-to (composition t n) = refl
 
   stands-named : Stands line q → Stands line named
   stands-named h =
       record {
+        as-read = h .as-read;
         text-is = h .text-is;
         text-inside = let e = same-to (q .value) in omega (arith, e, h .text-inside);
         label-is = w .name-is ∙ ap (λ z. part z (length (l .name)) line) (sym (w .place));

@@ -20,7 +20,7 @@ use Rattle.reading_laws.specs.Run.{rest}
 use Rattle.sheet.specs.Rows.{partsRoom, massesRoom}
 use Rattle.sheet.specs.Fields.{partRow}
 use Rattle.values.specs.declared.Value.{Value}
-use Rattle.values.specs.Says.{through}
+use Rattle.values.specs.Says.{wideCode, through}
 use Rattle.labels.specs.declared.Label.{Label}
 use Rattle.inside.specs.declared.Parts.{Parts}
 use Rattle.inside.specs.declared.Next.{Next}
@@ -68,7 +68,7 @@ behindPart line shut reference next s = cond (ltb next (length line)) (byteBehin
 -- ---- the row of a part
 -- a mass out of range is a mass
 abbrev pub notedCode : ℕ → ℕ
-notedCode c = cond (eqb c (referenceCode + 1)) massCode c
+notedCode c = cond (eqb c wideCode) massCode c
 
 -- the place is that of a text
 abbrev pub textPlace : ℕ → ℕ → ℕ

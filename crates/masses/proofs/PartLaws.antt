@@ -1,11 +1,11 @@
 -- Laws of the parts of a bracket in the areas: which is the first mass. Assumes nothing.
 use mathlib.Core.Path.{_≡_, refl, sym, ap, _∙_}
-use mathlib.Core.Bool.{Bool, true, false, not, cond, _&&_}
+use mathlib.Core.Bool.{Bool, true, false, not, cond, _&&_, _||_}
 use mathlib.Core.Option.{Option, none, some}
 use mathlib.Core.List.{List, _∷_}
 use Prim.Native.Nat.{ℕ, _+_, _-_, _≤_, _<_}
 use native.Mathlib.Omega.{arith}
-use borrow.Author.Tests.{eq-eqb, ne-eqb}
+use borrow.Author.Tests.{eqb-true}
 use lib.Dec.{eqb}
 use lib.IntN.{ℤ, pos}
 use lib.ListN.{length}
@@ -13,30 +13,31 @@ use Rattle.scope.specs.declared.grammar.Key.the-variants.{Obs}
 use mir.Syntax.{w64}
 use mir.Val.{toZ, ofZ}
 use Rattle.scope.specs.Limits.{bracketLimit, partLimit, decimalLimit}
-use Rattle.scope.specs.Line.{Number, mass, text, reference, Part, Bracket}
+use Rattle.scope.specs.Line.{Number, mass, text, reference, composition, Part, Bracket}
 use Rattle.scope.specs.Keys.{keyCode}
 use Rattle.scope.specs.Lists.{given, keep, tabled}
 use Rattle.scope.specs.Modifications.{isKey}
 use Rattle.scope.specs.Tables.{millionths}
-use Rattle.scope.specs.Layout.{massCode, textCode, bytesSize, numbersSize, numberIn, partIn, bracketIn, decimalsField, keyField, massField, partsField, valueField}
+use Rattle.scope.specs.Layout.{massCode, textCode, compositionCode, bytesSize, numbersSize, numberIn, partIn, bracketIn, decimalsField, keyField, massField, partsField, valueField}
 use Rattle.scope.specs.Masses.{valueMass, firstMass, massOf, massOr0}
 use Rattle.areas.specs.Bounds.{Small, PartBounds}
 use Rattle.brackets.specs.Row.{Row, row}
+use Rattle.basics.specs.Choice.{by-test}
 use Rattle.basics.specs.Tabled.{tabled-at, tabled-end, tabled-all}
 use Rattle.brackets.specs.Codes.{key-is}
 use Rattle.masses.specs.declared.Mass.{Mass}
 use Rattle.masses.specs.declared.Mass.the-variants.{Is, Lacking}
 use Rattle.masses.specs.Reach.{Reach, ReachPart}
 use Rattle.masses.proofs.Whole.{back}
-use Rattle.masses.specs.Weights.{saysMass, wanted}
+use Rattle.masses.specs.Weights.{saysMass, weighs, wanted}
 use Rattle.mass_laws.specs.Small.{first-cons}
 
 -- ---- the tests of a part
-pub no-mass : {v b : ℕ} → v ≡ b → (v ≡ massCode → ⊥) → (t : Bool) → false ≡ eqb b massCode && t
-no-mass {v} {b} e h t = sym (ap (λ x. x && t) (ne-eqb b massCode (λ q. h (e ∙ q))))
+pub no-mass : {v b : ℕ} → v ≡ b → weighs v ≡ false → (t : Bool) → false ≡ weighs b && t
+no-mass e h t = sym (ap (λ x. x && t) (ap weighs (sym e) ∙ h))
 
-pub a-mass : {v b : ℕ} → v ≡ b → v ≡ massCode → (t : Bool) → t ≡ eqb b massCode && t
-a-mass {v} {b} e h t = sym (ap (λ x. x && t) (eq-eqb b massCode (sym e ∙ h)))
+pub a-mass : {v b : ℕ} → v ≡ b → weighs v ≡ true → (t : Bool) → t ≡ weighs b && t
+a-mass e h t = sym (ap (λ x. x && t) (ap weighs (sym e) ∙ h))
 
 -- the first mass among the parts from j on: part j's, if it is a mass of the kind asked
 module _ (bs : List ℕ) (ns : List ℤ) (k : ℕ) (obs : Bool) where
@@ -47,15 +48,29 @@ module _ (bs : List ℕ) (ns : List ℤ) (k : ℕ) (obs : Bool) where
   massOfPart j = millionths (numberIn (massField ns k j) (decimalsField bs k j))
 
   abbrev pub hit : ℕ → Bool
-  hit j = eqb (valueField bs k j) massCode && wanted obs (eqb (keyField bs k j) (keyCode Obs))
+  hit j = weighs (valueField bs k j) && wanted obs (eqb (keyField bs k j) (keyCode Obs))
 
-  by-value : (n : Number (Unit {0})) (x : List ℕ) (t u w : Bool) (r : Option ℤ) → cond w (given (valueMass (cond t (mass n) (cond u (text x) reference))) some r) r ≡ cond (t && w) (some (millionths n)) r
-  by-value n x true u true r = refl
-  by-value n x true u false r = refl
-  by-value n x false true true r = refl
-  by-value n x false true false r = refl
-  by-value n x false false true r = refl
-  by-value n x false false false r = refl
+  by-tests : (n : Number (Unit {0})) (x : List ℕ) (t u s w : Bool) (r : Option ℤ)
+      → cond w (given (valueMass (cond t (mass n) (cond u (text x) (cond s (composition x n) reference)))) some r) r ≡ cond ((t || (not u && s)) && w) (some (millionths n)) r
+  by-tests n x true u s true r = refl
+  by-tests n x true u s false r = refl
+  by-tests n x false true s true r = refl
+  by-tests n x false true s false r = refl
+  by-tests n x false false true true r = refl
+  by-tests n x false false true false r = refl
+  by-tests n x false false false true r = refl
+  by-tests n x false false false false r = refl
+
+  -- a composition is no text
+  no-text : (v : ℕ) → (not (eqb v textCode) && eqb v compositionCode) ≡ eqb v compositionCode
+  no-text v = by-test (eqb v textCode) (λ e. let q : v ≡ textCode = eqb-true v textCode e in rw q) (λ e. rw e)
+
+  by-value : (n : Number (Unit {0})) (x : List ℕ) (v : ℕ) (w : Bool) (r : Option ℤ)
+      → cond w (given (valueMass (cond (eqb v massCode) (mass n) (cond (eqb v textCode) (text x) (cond (eqb v compositionCode) (composition x n) reference)))) some r) r
+      ≡ cond (weighs v && w) (some (millionths n)) r
+  by-value n x v w r =
+      by-tests n x (eqb v massCode) (eqb v textCode) (eqb v compositionCode) w r
+      ∙ ap (λ z. cond ((eqb v massCode || z) && w) (some (millionths n)) r) (no-text v)
 
   at-part : (j : ℕ) (ps : List (Part (Unit {0}))) → among (partIn bs ns k j ∷ ps) ≡ cond (hit j) (some (massOfPart j)) (among ps)
   unfolding partIn
@@ -63,8 +78,8 @@ module _ (bs : List ℕ) (ns : List ℤ) (k : ℕ) (obs : Bool) where
       first-cons (λ p. wanted obs (isKey Obs p)) (partIn bs ns k j) ps
       ∙ by-value
       (numberIn (massField ns k j) (decimalsField bs k j)) _
-      (eqb (valueField bs k j) massCode) (eqb (valueField bs k j) textCode) (wanted obs (isKey Obs (partIn bs ns k j))) (among ps)
-      ∙ ap (λ t. cond (eqb (valueField bs k j) massCode && wanted obs t) (some (massOfPart j)) (among ps)) (key-is (keyField bs k j) (keyCode Obs) (omega arith) (omega arith))
+      (valueField bs k j) (wanted obs (isKey Obs (partIn bs ns k j))) (among ps)
+      ∙ ap (λ t. cond (weighs (valueField bs k j) && wanted obs t) (some (massOfPart j)) (among ps)) (key-is (keyField bs k j) (keyCode Obs) (omega arith) (omega arith))
 
   -- no such mass before part j
   pub record NoMassBefore (m j : ℕ) : Type 0 where
@@ -120,12 +135,12 @@ module _ (b : Bracket (Unit {0})) where
   pub no-mass-is-0 : {r : Mass} → saysMass r ≡ massOf b → r ≡ Lacking → pos 0 ≡ massOr0 b
   no-mass-is-0 {r} e q = ap (λ x. given x (λ z. z) (pos 0)) (sym (ap saysMass q) ∙ e)
 
-pub with-obs : {v b key d : ℕ} {obs : Bool} → v ≡ b → v ≡ massCode → key ≡ d → obs ≡ true → eqb key (keyCode Obs) ≡ eqb b massCode && wanted obs (eqb d (keyCode Obs))
-with-obs {v} {b} {key} {d} e h f t = a-mass e h (eqb key (keyCode Obs)) ∙ ap (λ n. eqb b massCode && eqb n (keyCode Obs)) f ∙ ap (λ o. eqb b massCode && wanted o (eqb d (keyCode Obs))) (sym t)
+pub with-obs : {v b key d : ℕ} {obs : Bool} → v ≡ b → weighs v ≡ true → key ≡ d → obs ≡ true → eqb key (keyCode Obs) ≡ weighs b && wanted obs (eqb d (keyCode Obs))
+with-obs {v} {b} {key} {d} e h f t = a-mass e h (eqb key (keyCode Obs)) ∙ ap (λ n. weighs b && eqb n (keyCode Obs)) f ∙ ap (λ o. weighs b && wanted o (eqb d (keyCode Obs))) (sym t)
 
-pub without-obs : {v b key d : ℕ} {obs : Bool} → v ≡ b → v ≡ massCode → key ≡ d → obs ≡ false → not (eqb key (keyCode Obs)) ≡ eqb b massCode && wanted obs (eqb d (keyCode Obs))
+pub without-obs : {v b key d : ℕ} {obs : Bool} → v ≡ b → weighs v ≡ true → key ≡ d → obs ≡ false → not (eqb key (keyCode Obs)) ≡ weighs b && wanted obs (eqb d (keyCode Obs))
 without-obs {v} {b} {key} {d} e h f t =
-    a-mass e h (not (eqb key (keyCode Obs))) ∙ ap (λ n. eqb b massCode && not (eqb n (keyCode Obs))) f ∙ ap (λ o. eqb b massCode && wanted o (eqb d (keyCode Obs))) (sym t)
+    a-mass e h (not (eqb key (keyCode Obs))) ∙ ap (λ n. weighs b && not (eqb n (keyCode Obs))) f ∙ ap (λ o. weighs b && wanted o (eqb d (keyCode Obs))) (sym t)
 
 -- ---- what the bounds give where a bracket or a part of it is read
 module _ {bs : List ℕ} {ns : List ℤ} {k : ℕ} where

@@ -1,9 +1,11 @@
 -- What the answers of this crate say, by their cases.
 use mathlib.Core.Path.{_≡_, refl}
-use mathlib.Core.Bool.{Bool, true, false, not, cond}
+use mathlib.Core.Bool.{Bool, true, false, not, cond, _||_}
 use mathlib.Core.Option.{Option, none, some}
+use Prim.Native.Nat.{ℕ}
 use lib.Dec.{eqb}
 use lib.IntN.{ℤ}
+use Rattle.scope.specs.Layout.{massCode, compositionCode}
 use Rattle.scope.specs.Line.{Line}
 use Rattle.scope.specs.Tables.{Tables}
 use Rattle.scope.specs.Answers.{Said, good, refuses, weighed}
@@ -17,6 +19,10 @@ use Rattle.masses.specs.declared.Weight.the-variants.{Total, Lacks}
 abbrev pub saysMass : Mass → Option ℤ
 saysMass (Is m) = some m
 saysMass Lacking = none
+
+-- by its code, a value has a mass: it is one, or a composition
+abbrev pub weighs : ℕ → Bool
+weighs v = eqb v massCode || eqb v compositionCode
 
 -- a test for `Obs`, or for its absence
 abbrev pub wanted : Bool → Bool → Bool

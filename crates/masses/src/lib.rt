@@ -21,12 +21,12 @@ ghost use Rattle.scope.specs.Lists.{keep};
 ghost use Rattle.scope.specs.Keys.{keyCode};
 ghost use Rattle.scope.specs.Modifications.{isKey, copies};
 ghost use Rattle.scope.specs.Tables.{millionths};
-ghost use Rattle.scope.specs.Layout.{massCode, numberIn, bracketIn, tablesIn, decimalsField, keyField, massField, valueField};
+ghost use Rattle.scope.specs.Layout.{numberIn, bracketIn, tablesIn, decimalsField, keyField, massField, valueField};
 ghost use Rattle.scope.specs.Masses.{firstMass, massOf, massOr0, ledger, daltons};
 ghost use Rattle.areas.specs.Bounds.{Small, Bounds};
 ghost use Rattle.brackets.specs.Row.{Row};
 ghost use Rattle.masses.specs.Reach.{Reach, ReachPart};
-ghost use Rattle.masses.specs.Weights.{saysMass, wanted, weightOf};
+ghost use Rattle.masses.specs.Weights.{saysMass, weighs, wanted, weightOf};
 ghost use Rattle.mass_laws.specs.Terms.{totalLimit};
 ghost use Rattle.mass_laws.specs.Weights.{placedMass};
 ghost use Rattle.masses.specs.Tallies.{CanTally, Tallied};
@@ -71,13 +71,13 @@ fn part_mass(bytes: &[u8], numbers: &[i64], k: usize, j: usize) -> i64
     to_decimals(areas::mass(numbers, k, j), areas::decimals(bytes, k, j))
 }
 
-// Whether part j of bracket k is a mass, behind `Obs` or not as asked.
+// Whether part j of bracket k has a mass, that is a mass or a composition, behind `Obs` or not as asked.
 fn has_mass(bytes: &[u8], k: usize, j: usize, obs: bool) -> bool
     requires { ⌜ (Row (now bytes) k) × (j < partLimit) ⌝ }
-    ensures { λ r. ⌜ r ≡ eqb (valueField (now (bytes .entry)) k j) massCode && wanted obs (eqb (keyField (now (bytes .entry)) k j) (keyCode Obs)) ⌝ }
+    ensures { λ r. ⌜ r ≡ weighs (valueField (now (bytes .entry)) k j) && wanted obs (eqb (keyField (now (bytes .entry)) k j) (keyCode Obs)) ⌝ }
 {
     let value = areas::value(bytes, k, j);
-    if value != brackets::MASS {
+    if !((value == brackets::MASS) | (value == brackets::COMPOSITION)) {
         return false;
     }
     let key = areas::key(bytes, k, j);

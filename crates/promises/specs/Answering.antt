@@ -25,7 +25,7 @@ use Rattle.scope.specs.declared.answers.Listing.{Listing}
 use Rattle.scope.specs.declared.answers.Site.{Site}
 use Rattle.scope.specs.Limits.{rowLimit, positionLimit, copyLimit}
 use Rattle.scope.specs.Line.{Bracket}
-use Rattle.scope.specs.Lists.{given, tabled}
+use Rattle.scope.specs.Lists.{given, tabled, none?}
 use Rattle.scope.specs.Canonical.{canonical}
 use Rattle.scope.specs.Tables.{Tables}
 use Rattle.scope.specs.Layout.{tablesIn}
@@ -39,6 +39,8 @@ use Rattle.calls.specs.Single.{elementAt, ownMass, massAt, weighsAt}
 use Rattle.calls.specs.Floating.{floatersSaid, FloatersSay}
 use Rattle.calls.specs.Says.{CountSays, TotalSays, BracketMassSays, ShownSays, AllowedSays, NextSays, LedgerSays}
 use Rattle.rows.specs.Says.{LookupSays}
+use Rattle.scope.specs.Glycans.{cuttings}
+use Rattle.glycans.specs.Pieces.{piecesOf, piecesSaid, PiecesSay}
 use Rattle.listing.specs.Says.{RowsSays, StepSays}
 use Rattle.promises.specs.Promises.{Answered, Nothing}
 use Rattle.promises.specs.Said.{not-both, same-number, met-refused, write-same, count-same, total-same, lookup-same, request-same, booked-same, shown-same}
@@ -276,3 +278,18 @@ looks-so rs n f = either (Sayable saysLookup (13 ∷ 17 ∷ [])) (ltb (length rs
 
 pub first-row : (rs : List Site) (n f : ℕ) → Answered (LookupSays rs n f) saysLookup (13 ∷ 17 ∷ []) Nothing
 first-row rs n f = alone lookup-same (looks-so rs n f)
+
+-- ---- the pieces of a text
+pub pieces-so : (t : List ℕ) (room : ℕ) → Sayable saysWrite (15 ∷ 19 ∷ []) (piecesSaid t room)
+pieces-so t room =
+    let c = piecesOf (cuttings t) in
+    either (Sayable saysWrite (15 ∷ 19 ∷ [])) (none? (cuttings t)) (refusal (writeRefused 19 0) refl (inr (inl refl)))
+    (either (Sayable saysWrite (15 ∷ 19 ∷ [])) (ltb room (length c)) (refusal (writeRefused 15 (length c)) refl (inl refl)) (success (Written (length c)) refl))
+
+pub pieces : (t out : List ℕ)
+    → Answered (λ (o : Write × List ℕ). PiecesSay t out (o .0) (o .1)) (λ o. saysWrite (o .0)) (15 ∷ 19 ∷ []) (λ o. o .1 ≡ out)
+pieces t out =
+    let c = piecesOf (cuttings t) in
+    lent (pair Write (List ℕ)) {says = saysWrite} (λ o. PiecesSay t out (o .0) (o .1)) (outputAfter (piecesSaid t (length out)) c out) out
+    (λ o. ((λ w. (w .says, w .output-after)), (λ w. record { says = w .0; output-after = w .1 }))) write-same (pieces-so t (length out))
+    (λ n p q. ap (λ s. outputAfter s c out) q)

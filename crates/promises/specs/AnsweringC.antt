@@ -13,7 +13,6 @@ use Rattle.scope.specs.declared.answers.Booked.the-variants.{Refused as bookedR
 use Rattle.scope.specs.declared.answers.Listing.{Listing}
 use Rattle.scope.specs.declared.answers.Site.{Site}
 use Rattle.scope.specs.Limits.{copyLimit, positionLimit}
-use Rattle.scope.specs.Lists.{tabled}
 use Rattle.scope.specs.Refusals.{outcome}
 use Rattle.scope.specs.Canonical.{canonical}
 use Rattle.scope.specs.Tables.{Tables}
@@ -22,11 +21,13 @@ use Rattle.scope.specs.Answers.{Said, good, refuses, met, saysRequest, saysBook
 use Rattle.basics.specs.Each.{In}
 use Rattle.export.specs.Numbers.{numberOf, left, placeLeft, Judged, Exported}
 use Rattle.export.specs.Handed.{Counted, RowsHanded, LookedUp, MovedOn}
-use Rattle.export.specs.Shapes.{lengthLeft, massOf, lackOf, Written, Totalled, Displayed, allowsLent, AllowedLent, booksLent, entriesAfter, ReadEntered as EnteredLent, FloatersHanded}
+use Rattle.export.specs.Shapes.{lengthLeft, massOf, lackOf, Written, Totalled, Displayed, allowsLent, AllowedLent, booksLent, entriesAfter, ReadEntered as EnteredLent, FloatersHanded, PiecesHanded}
+use Rattle.scope.specs.Glycans.{cuttings}
+use Rattle.glycans.specs.Pieces.{piecesOf, piecesSaid}
 use Rattle.calls.specs.Single.{weighsAt}
 use Rattle.scope.specs.Positions.{floatersBy, bracketsOf, copiesOf}
 use Rattle.calls.specs.Floating.{floatersSaid}
-use Rattle.promises.specs.Promises.{Answered, Nothing, told, Demand1C}
+use Rattle.promises.specs.Promises.{lineNumbers, Answered, Nothing, told, Demand1C}
 use Rattle.promises.specs.Said.{not-both, same-number}
 use Rattle.promises.specs.Answering as calls
 use Rattle.promises.specs.Readers as readers
@@ -72,20 +73,16 @@ in-c {O} Ensured Left number s x e only is among left =
         (y .0, y .1 ∙ ap (λ k. refuses k (y .0)) (sym (z .2)))
 
 -- ---- demand 1
-verdict : (s : List ℕ) (place : ℕ) → Answered (λ (o : ℕ × ℕ). Judged s place (o .0) (o .1)) (λ o. told (o .0)) (tabled (λ n. n) 1 12) (λ o. o .1 ≤ length s)
+verdict : (s : List ℕ) (place : ℕ) → Answered (λ (o : ℕ × ℕ). Judged s place (o .0) (o .1)) (λ o. told (o .0)) lineNumbers (λ o. o .1 ≤ length s)
 verdict s place =
     let said = saysOutcome (outcome s) in
     in-c (λ (o : ℕ × ℕ). Judged s place (o .0) (o .1)) (λ o. o .1 ≤ length s) (λ o. o .0) said (numberOf said, placeLeft said place) (record { number-is = refl; place-is = refl })
     (λ o w. pair2 (w .number-is) (w .place-is)) (λ o w. w .number-is)
-    (λ n p q.
-    let z = readers.said-12 s n p (readers.outcome-refused (outcome s) q) in
-    let a = z .from-1 in
-    let b = z .to-most in
-    calls.among-numbers 12 1 n a (omega (arith, b)))
-    (λ o w n p q. subst (λ k. k ≤ length s) (sym (w .place-is ∙ ap (λ z. placeLeft z place) q)) (readers.said-12 s n p (readers.outcome-refused (outcome s) q) .inside))
+    (λ n p q. readers.line-said s n p (readers.outcome-refused (outcome s) q) .one-of)
+    (λ o w n p q. subst (λ k. k ≤ length s) (sym (w .place-is ∙ ap (λ z. placeLeft z place) q)) (readers.line-said s n p (readers.outcome-refused (outcome s) q) .inside))
 
 read : (s bs : List ℕ) (ns : List ℤ) (place : ℕ)
-    → Answered (λ (o : ℕ × ℕ × List ℕ × List ℤ). Exported s bs ns place (o .0) (o .1) (o .2) (o .3)) (λ o. told (o .0)) (tabled (λ n. n) 1 13)
+    → Answered (λ (o : ℕ × ℕ × List ℕ × List ℤ). Exported s bs ns place (o .0) (o .1) (o .2) (o .3)) (λ o. told (o .0)) (13 ∷ lineNumbers)
     (λ o. (o .1 ≤ length s) × (o .2 ≡ bs) × (o .3 ≡ ns))
 read s bs ns place =
     let o = readOutcome bs ns s in
@@ -94,14 +91,10 @@ read s bs ns place =
     (numberOf said, placeLeft said place, bytesAfter o bs, numbersAfter o ns)
     (record { numbered = record { number-is = refl; place-is = refl }; bytes-after = refl; numbers-after = refl })
     (λ o w. pair4 (w .numbered .number-is) (w .numbered .place-is) (w .bytes-after) (w .numbers-after)) (λ o w. w .numbered .number-is)
-    (λ n p q.
-    let z = readers.said-13 s bs ns n p (readers.outcome-refused (readOutcome bs ns s) q) in
-    let a = z .from-1 in
-    let b = z .to-most in
-    calls.among-numbers 13 1 n a (omega (arith, b)))
+    (λ n p q. readers.read-said s bs ns n p (readers.outcome-refused (readOutcome bs ns s) q) .one-of)
     (λ x w n p q.
     let e = readers.outcome-refused (readOutcome bs ns s) q in (
-      subst (λ k. k ≤ length s) (sym (w .numbered .place-is ∙ ap (λ z. placeLeft z place) q)) (readers.said-13 s bs ns n p e .inside),
+      subst (λ k. k ≤ length s) (sym (w .numbered .place-is ∙ ap (λ z. placeLeft z place) q)) (readers.read-said s bs ns n p e .inside),
       w .bytes-after ∙ ap (λ z. bytesAfter z bs) e,
       w .numbers-after ∙ ap (λ z. numbersAfter z ns) e,
     ))
@@ -208,6 +201,15 @@ first-row rs n f i x =
     (λ o w. pair3 (w .number-is) (w .index-is) (w .position-is)) (λ o w. w .number-is) (calls.looks-so rs n f .number)
     (λ o w n p q. (w .index-is ∙ ap (λ z. left z (λ r. r .index) i) q, w .position-is ∙ ap (λ z. left z (λ r. r .position) x) q))
 
+composition : (t out : List ℕ) (count : ℕ)
+    → Answered (λ (o : ℕ × ℕ × List ℕ). PiecesHanded t out count (o .0) (o .1) (o .2)) (λ o. told (o .0)) (15 ∷ 19 ∷ []) (λ o. o .2 ≡ out)
+composition t out count =
+    let said = piecesSaid t (length out) in
+    let c = piecesOf (cuttings t) in
+    in-c (λ (o : ℕ × ℕ × List ℕ). PiecesHanded t out count (o .0) (o .1) (o .2)) (λ o. o .2 ≡ out) (λ o. o .0) said (numberOf said, lengthLeft said count, outputAfter said c out)
+    (record { measured = record { number-is = refl; count-is = refl }; output-after = refl }) (λ o w. pair3 (w .measured .number-is) (w .measured .count-is) (w .output-after))
+    (λ o w. w .measured .number-is) (calls.pieces-so t (length out) .number) (λ o w n p q. w .output-after ∙ ap (λ z. outputAfter z c out) q)
+
 pub demand-1 : Demand1C
 demand-1 =
     record {
@@ -224,4 +226,5 @@ demand-1 =
       ledger = entered;
       rows = rows;
       first-row = first-row;
+      composition = composition;
     }

@@ -8,6 +8,7 @@ use Rattle.promises.specs.Weights as weights
 use Rattle.promises.specs.Placed as placed
 use Rattle.promises.specs.Rows as rows
 use Rattle.promises.specs.Listed as listed
+use Rattle.promises.specs.Pieced.{composing}
 use mathlib.Core.List.{List}
 use Prim.Native.Nat.{ℕ}
 use lib.IntN.{ℤ}
@@ -29,6 +30,7 @@ demand-1 =
       ledger = calls.ledger;
       rows = calls.rows;
       first-row = calls.first-row;
+      pieces = calls.pieces;
     }
 
 demand-3 : (bs : List ℕ) (ns : List ℤ) → weights.AreasTaken bs ns → Demand3 bs ns
@@ -57,4 +59,5 @@ promises =
       reckoned = λ s bs ns r bs′ ns′ w q t g p.
           let a = readers.was-read s bs ns r bs′ ns′ w q in
           weights.reckoned a (weights.taken-after a) t (readers.line-means a t g p);
+      composing = composing;
     }

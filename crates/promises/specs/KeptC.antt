@@ -30,7 +30,7 @@ use Rattle.scope.specs.Positions.{floatingOf, floaters}
 use Rattle.scope.specs.Placements.{freshListing}
 use Rattle.scope.specs.Masses.{sum, ledger, labileMass, daltons}
 use Rattle.scope.specs.Answers.{Said, good, refuses, met, Display, aMass, lack, saysRead, saysCount, saysShown, saysTotal, saysRequest, counts, residueCount, bracketCount, floaterCount, shows, rowsSaid, tooShort, readOutcome, saysOutcome, writes, totals, allows, requests, books, entries}
-use Rattle.scope.specs.Grammar.{Spelling, print, good as wellSpelt, means}
+use Rattle.scope.specs.Grammar.{Spelling, print, good as wellSpelt}
 use Rattle.grammar_laws.specs.Laws.{Accepts, Refuses}
 use Rattle.basics.specs.Tabled.{length-tabled}
 use Rattle.basics.specs.Each.{In}
@@ -42,7 +42,7 @@ use Rattle.calls.specs.Says.{CountSays, TotalSays, ShownSays, AllowedSays, Next
 use Rattle.export.specs.Numbers.{numberOf, left, placeLeft, Exported}
 use Rattle.export.specs.Handed.{MovedOn, RowsHanded}
 use Rattle.export.specs.Shapes.{lengthLeft, massOf, lackOf, Written, Totalled, Displayed, allowsLent, AllowedLent, booksLent, entriesAfter, ReadEntered as EnteredLent}
-use Rattle.promises.specs.Promises.{Holding, Filed, HandsOut, Lists, Rowed, Reckoned, EnteredC, FiledC, HandsOutC, Demand3C, CountedC, ReckonedC, PromisesC}
+use Rattle.promises.specs.Promises.{meant, Holding, Filed, HandsOut, Lists, Rowed, Reckoned, EnteredC, FiledC, HandsOutC, Demand3C, CountedC, ReckonedC, PromisesC}
 use Rattle.promises.specs.Said.{not-both, same-number, same-place, met-good, met-refused}
 use Rattle.promises.specs.Answering as calls
 use Rattle.promises.specs.AnsweringC as exported
@@ -117,7 +117,7 @@ read-inner s bs ns place n p bs′ ns′ w =
     record {
       says =
           ap (λ k. saysRead (readTold k p)) (w .numbered .number-is) ∙ ap (λ k. saysRead (readTold (numberOf said) k)) (w .numbered .place-is)
-          ∙ told-read said (λ k i q. readers.said-13 s bs ns k i (readers.outcome-refused (readOutcome bs ns s) q) .from-1) place;
+          ∙ told-read said (λ k i q. readers.read-said s bs ns k i (readers.outcome-refused (readOutcome bs ns s) q) .from-1) place;
       bytes-after = w .bytes-after;
       numbers-after = w .numbers-after;
     }
@@ -312,9 +312,9 @@ module _ (bs : List ℕ) (ns : List ℤ) (h : weights.AreasTaken bs ns) where
   reckoned-c : (t : Spelling) → Reckoned t bs ns → ReckonedC t bs ns
   reckoned-c t r =
       record {
-        residues = counted-c residueCount (length (means t .residues)) (r .residues);
-        brackets = counted-c bracketCount (length (means t .brackets)) (r .brackets);
-        floating = counted-c floaterCount (length (floaters (means t))) (r .floating);
+        residues = counted-c residueCount (length (meant t .residues)) (r .residues);
+        brackets = counted-c bracketCount (length (meant t .brackets)) (r .brackets);
+        floating = counted-c floaterCount (length (floaters (meant t))) (r .floating);
       }
 
   demand-3 : Demand3C bs ns

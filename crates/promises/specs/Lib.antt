@@ -7,6 +7,7 @@ pub mod Weights
 pub mod Placed
 pub mod Rows
 pub mod Listed
+pub mod Pieced
 pub mod Kept
 pub mod AnsweringC
 pub mod KeptC

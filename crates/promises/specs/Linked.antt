@@ -24,6 +24,8 @@ use Rattle.calls.specs.Says.{CountSays, TotalSays, BracketMassSays, ShownSays, 
 use Rattle.rows.specs.Says.{LookupSays}
 use Rattle.listing.specs.Says.{RowsSays, StepSays}
 use Rattle.verdict.specs.Says.{VerdictSays}
+use Rattle.glycans.specs.Pieces.{PiecesSay}
+use Rattle.glycans.proofs.pieces as pieces
 use Rattle.verdict.proofs.verdict_on as verdict-on
 use Rattle.reader.proofs.read as read
 use Rattle.calls.proofs.write as write
@@ -98,3 +100,6 @@ module _ {M : Type 1} (𝓤 : URA M) (H : Heap 𝓤) (A : Atoms 𝓤) (mem : Mem
 
   pub floater-brackets-is : (κs : Lfts 4) (x : RefT (List ℕ)) (y : RefT (List ℤ)) (b c : RefT (List ℕ)) → (floater-brackets.clauses 𝓤 H A mem run κs (x, (y, (b, (c, tt)))) .requires ≡ (λ g. Nothing)) × (floater-brackets.clauses 𝓤 H A mem run κs (x, (y, (b, (c, tt)))) .ensures ≡ (λ g r end. fact 𝓤 (FloatersSay (x .now) (y .now) (b .now) (c .now) r (end .1 .1 .0 .now) (end .1 .1 .1 .0 .now))))
   floater-brackets-is κs x y b c = (refl, refl)
+
+  pub pieces-is : (κs : Lfts 2) (t out : RefT (List ℕ)) → (pieces.clauses 𝓤 H A mem run κs (t, (out, tt)) .requires ≡ (λ g. Nothing)) × (pieces.clauses 𝓤 H A mem run κs (t, (out, tt)) .ensures ≡ (λ g r end. fact 𝓤 (PiecesSay (t .now) (out .now) r (end .1 .0 .now))))
+  pieces-is κs t out = (refl, refl)

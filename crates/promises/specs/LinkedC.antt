@@ -20,9 +20,10 @@ use Rattle.scope.specs.Answers.{counts, residueCount, bracketCount, floaterCoun
 use Rattle.calls.specs.Single.{weighsAt}
 use Rattle.export.specs.Numbers.{Judged, Exported}
 use Rattle.export.specs.Handed.{Counted, RowsHanded, LookedUp, MovedOn}
-use Rattle.export.specs.Shapes.{Written, Totalled, Displayed, AllowedLent, FloatersHanded, ReadEntered}
+use Rattle.export.specs.Shapes.{Written, Totalled, Displayed, AllowedLent, FloatersHanded, PiecesHanded, ReadEntered}
 use Rattle.export.proofs.hwemiduk_verdict as verdict
 use Rattle.export.proofs.hwemiduk_read as read
+use Rattle.export.proofs.hwemiduk_composition as composition
 use Rattle.export.proofs.tables.hwemiduk_residues as residues
 use Rattle.export.proofs.tables.hwemiduk_brackets as brackets
 use Rattle.export.proofs.tables.hwemiduk_floaters as floaters
@@ -86,3 +87,6 @@ module _ {M : Type 1} (𝓤 : URA M) (H : Heap 𝓤) (A : Atoms 𝓤) (mem : Mem
 
   pub floater-brackets-is : (κs : Lfts 5) (bs : RefT (List ℕ)) (ns : RefT (List ℤ)) (b c : RefT (List ℕ)) (k : RefT ℕ) → (floater-brackets.clauses 𝓤 H A mem run κs (bs, (ns, (b, (c, (k, tt))))) .requires ≡ (λ g. Nothing)) × (floater-brackets.clauses 𝓤 H A mem run κs (bs, (ns, (b, (c, (k, tt))))) .ensures ≡ (λ g r end. fact 𝓤 (FloatersHanded (bs .now) (ns .now) (b .now) (c .now) (k .now) r (end .1 .1 .1 .1 .0 .now) (end .1 .1 .0 .now) (end .1 .1 .1 .0 .now))))
   floater-brackets-is κs bs ns b c k = (refl, refl)
+
+  pub composition-is : (κs : Lfts 3) (t out : RefT (List ℕ)) (c : RefT ℕ) → (composition.clauses 𝓤 H A mem run κs (t, (out, (c, tt))) .requires ≡ (λ g. Nothing)) × (composition.clauses 𝓤 H A mem run κs (t, (out, (c, tt))) .ensures ≡ (λ g r end. fact 𝓤 (PiecesHanded (t .now) (out .now) (c .now) r (end .1 .1 .0 .now) (end .1 .0 .now))))
+  composition-is κs t out c = (refl, refl)

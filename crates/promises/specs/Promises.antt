@@ -1,11 +1,11 @@
 -- The demands of the tender, each sentence above its theorem, over what the calls ensure: `ReadSays` (crate reader), `WriteSays`, `CountSays`, `TotalSays`,
--- `ShownSays`, `AllowedSays`, `NextSays`, `LedgerSays` (calls), `LookupSays` (rows), `RowsSays` and `StepSays` (listing). That each call asks nothing, and ensures
+-- `ShownSays`, `AllowedSays`, `NextSays`, `LedgerSays` (calls), `LookupSays` (rows), `RowsSays` and `StepSays` (listing), `PiecesSay` (glycans). That each call asks nothing, and ensures
 -- exactly its relation, is shown in specs/Linked.antt. An answer is spoken of by what it says (`saysRead` and its kin). The proofs: specs/Kept.antt, for a caller in C
 -- specs/KeptC.antt, and the files that they cite.
 use mathlib.Core.Path.{_≡_}
 use mathlib.Core.Logic.{_↔_, _⊎_}
 use mathlib.Core.Bool.{true, false}
-use mathlib.Core.List.{List, [], _∷_}
+use mathlib.Core.List.{List, [], _∷_, _++_}
 use Prim.Native.Nat.{ℕ, zero, suc, _≤_, _<_}
 use lib.IntN.{ℤ, pos, _+ℤ_}
 use lib.Ieee.{Float}
@@ -23,20 +23,24 @@ use Rattle.scope.specs.declared.answers.Site.{Site}
 use Rattle.scope.specs.declared.answers.Lookup.{Lookup}
 use Rattle.scope.specs.Limits.{copyLimit, rowLimit, positionLimit}
 use Rattle.scope.specs.Line.{Bracket, Line}
+use Rattle.scope.specs.Glycans.{Item}
+use Rattle.scope.specs.Kept.{kept}
 use Rattle.scope.specs.Refusals.{outcome}
 use Rattle.scope.specs.Tables.{Tables, tablesOf}
 use Rattle.scope.specs.Layout.{bytesOf, numbersOf, tablesIn}
-use Rattle.scope.specs.Lists.{laid, tabled}
+use Rattle.scope.specs.Lists.{flat, laid, tabled}
 use Rattle.scope.specs.Positions.{isPlaced, floaters, floatingOf, Found}
 use Rattle.scope.specs.Placements.{freshListing}
 use Rattle.scope.specs.Masses.{sum, total, lacking, labileMass, daltons}
 use Rattle.scope.specs.Answers.{Said, good, refuses, aMass, lack, saysRead, saysWrite, saysCount, saysTotal, saysShown, saysLookup, saysRequest, saysBooked, tooShort, counts, residueCount, bracketCount, floaterCount, totals, shows, looksUp}
 use Rattle.scope.specs.Grammar.{Spelling, print, good as wellSpelt, means}
 use Rattle.grammar_laws.specs.Laws.{Accepts, Refuses}
+use Rattle.glycan_laws.specs.Laws.{Cuts}
 use Rattle.placement_laws.specs.Terms.{Ascending, Placing}
 use Rattle.basics.specs.Each.{In, Ordered}
 use Rattle.verdict.specs.Says.{VerdictSays}
 use Rattle.reader.specs.ReadSays.{ReadSays}
+use Rattle.glycans.specs.Pieces.{pieceBytes, PiecesSay}
 use Rattle.placements.specs.declared.Next.{Next}
 use Rattle.calls.specs.Writing.{WriteSays}
 use Rattle.calls.specs.Single.{weighsAt}
@@ -46,7 +50,7 @@ use Rattle.rows.specs.Says.{LookupSays}
 use Rattle.listing.specs.Says.{RowsSays, StepSays}
 use Rattle.export.specs.Numbers.{Judged, Exported}
 use Rattle.export.specs.Handed.{Counted, RowsHanded, LookedUp, MovedOn}
-use Rattle.export.specs.Shapes.{Written, Totalled, Displayed, AllowedLent, FloatersHanded, ReadEntered as EnteredLent}
+use Rattle.export.specs.Shapes.{Written, Totalled, Displayed, AllowedLent, FloatersHanded, PiecesHanded, ReadEntered as EnteredLent}
 
 -- ======== demand 1
 -- "Every line of bytes, every set of tables and every lent area gets an answer, and the caller need not have checked anything."
@@ -75,13 +79,16 @@ Nothing o = Unit {0}
 abbrev pub Reader : Type 1
 Reader = List ℕ → List ℕ → List ℤ → Read → List ℕ → List ℤ → Type 0
 
+-- "Reading tries 13, then 1 to 12", and 19 "after 12": the numbers of a line
+abbrev pub lineNumbers : List ℕ
+lineNumbers = tabled (λ n. n) 1 12 ++ (19 ∷ [])
+
 -- "A line outside the rules is refused with a number and a place; the tables then hold what they held before."
 pub record TurnedAway (s bs : List ℕ) (ns : List ℤ) (r : Read) (bs′ : List ℕ) (ns′ : List ℤ) : Type 0 where
   pub number : ℕ
   pub place : ℕ
   pub says : saysRead r ≡ refuses number place
-  pub from-1 : 1 ≤ number
-  pub to-13 : number ≤ 13
+  pub one-of : In number (13 ∷ lineNumbers)
   pub inside : place ≤ length s
   pub bytes : bs′ ≡ bs
   pub numbers : ns′ ≡ ns
@@ -96,7 +103,7 @@ pub record AnswersLines (Says : Reader) : Type 0 where
 pub record Demand1 : Type 0 where
   pub read : AnswersLines ReadSays
   -- the same answers, with no areas
-  pub verdict : (s : List ℕ) → Answered (VerdictSays s) saysRead (tabled (λ n. n) 1 12) Nothing
+  pub verdict : (s : List ℕ) → Answered (VerdictSays s) saysRead lineNumbers Nothing
   pub write :
       (bs : List ℕ) (ns : List ℤ) (out : List ℕ)
       → Answered (λ (o : Write × List ℕ). WriteSays bs ns out (o .0) (o .1)) (λ o. saysWrite (o .0)) (13 ∷ 14 ∷ 15 ∷ []) (λ o. o .1 ≡ out)
@@ -122,18 +129,25 @@ pub record Demand1 : Type 0 where
       (bs : List ℕ) (ns : List ℤ) (room : List Site)
       → Answered (λ (o : Count × List Site). RowsSays bs ns room (o .0) (o .1)) (λ o. saysCount (o .0)) (13 ∷ 14 ∷ []) (λ o. o .1 ≡ room)
   pub first-row : (rs : List Site) (n f : ℕ) → Answered (LookupSays rs n f) saysLookup (13 ∷ 17 ∷ []) Nothing
+  pub pieces :
+      (t out : List ℕ)
+      → Answered (λ (o : Write × List ℕ). PiecesSay t out (o .0) (o .1)) (λ o. saysWrite (o .0)) (15 ∷ 19 ∷ []) (λ o. o .1 ≡ out)
 
 -- ======== demand 2
 
+-- what t means, as it is kept: a composition in the list's spelling, with its mass
+abbrev pub meant : Spelling → Line ℕ
+meant t = kept (means t)
+
 -- the areas hold the tables of what t means, and nothing else in them is changed
 pub record Holding (t : Spelling) (bs : List ℕ) (ns : List ℤ) (bs′ : List ℕ) (ns′ : List ℤ) : Type 0 where
-  pub tables : tablesIn bs′ ns′ ≡ tablesOf (means t)
-  pub bytes : bs′ ≡ laid (bytesOf (means t)) bs
-  pub numbers : ns′ ≡ laid (numbersOf (means t)) ns
+  pub tables : tablesIn bs′ ns′ ≡ tablesOf (meant t)
+  pub bytes : bs′ ≡ laid (bytesOf (meant t)) bs
+  pub numbers : ns′ ≡ laid (numbersOf (meant t)) ns
 
 pub record Accepting (Says : Reader) : Type 0 where
   -- "A line is accepted with exactly the tables that ProForma 2.1, within the limits of document 01, gives it": it is accepted exactly when the areas are long
-  -- enough, a good spelling prints it, it is no longer than the limit, and none of 5 to 12 is due of what the spelling means; any spelling of it means these
+  -- enough, a good spelling prints it, it is no longer than the limit, and none of 5 to 12 is due of what the spelling means, nor 19; any spelling of it means these
   -- tables
   pub accepts :
       (s bs : List ℕ) (ns : List ℤ) (r : Read) (bs′ : List ℕ) (ns′ : List ℤ) → Says s bs ns r bs′ ns′
@@ -141,7 +155,7 @@ pub record Accepting (Says : Reader) : Type 0 where
   pub tables :
       (s bs : List ℕ) (ns : List ℤ) (r : Read) (bs′ : List ℕ) (ns′ : List ℤ) → Says s bs ns r bs′ ns′ → saysRead r ≡ good tt
       → (t : Spelling) → wellSpelt t ≡ true → s ≡ print t → Holding t bs ns bs′ ns′
-  -- "and otherwise refused as document 01 says": "Reading tries 13, then 1 to 12 in that order; the lowest number wins, at its first place in the line"
+  -- "and otherwise refused as document 01 says": "Reading tries 13, then 1 to 12 in that order; the lowest number wins, at its first place in the line"; 19 "after 12"
   pub refuses-by :
       (s bs : List ℕ) (ns : List ℤ) (r : Read) (bs′ : List ℕ) (ns′ : List ℤ) → Says s bs ns r bs′ ns′ → (k i : ℕ)
       → (saysRead r ≡ refuses k i) ↔ (((tooShort bs ns ≡ true) × (k ≡ 13) × (i ≡ 0)) ⊎ ((tooShort bs ns ≡ false) × Refuses s k i))
@@ -250,11 +264,24 @@ pub record Demand3 (bs : List ℕ) (ns : List ℤ) : Type 0 where
 
 -- "That total is reckoned from the line's entries and counts alone": what is answered of areas that a spelling of t was read into is what t means
 pub record Reckoned (t : Spelling) (bs : List ℕ) (ns : List ℤ) : Type 0 where
-  pub residues : (r : Count) → CountSays residueCount bs ns r → saysCount r ≡ good (length (means t .residues))
-  pub brackets : (r : Count) → CountSays bracketCount bs ns r → saysCount r ≡ good (length (means t .brackets))
-  pub floating : (r : Count) → CountSays floaterCount bs ns r → saysCount r ≡ good (length (floaters (means t)))
-  pub mass : (r : Total) → TotalSays bs ns r → lacking (means t) ≡ 0 → saysTotal r ≡ good (total (means t))
-  pub missing : (r : Total) → TotalSays bs ns r → (lacking (means t) ≡ 0 → ⊥) → saysTotal r ≡ refuses 16 (lacking (means t))
+  pub residues : (r : Count) → CountSays residueCount bs ns r → saysCount r ≡ good (length (meant t .residues))
+  pub brackets : (r : Count) → CountSays bracketCount bs ns r → saysCount r ≡ good (length (meant t .brackets))
+  pub floating : (r : Count) → CountSays floaterCount bs ns r → saysCount r ≡ good (length (floaters (meant t)))
+  pub mass : (r : Total) → TotalSays bs ns r → lacking (meant t) ≡ 0 → saysTotal r ≡ good (total (meant t))
+  pub missing : (r : Total) → TotalSays bs ns r → (lacking (meant t) ≡ 0 → ⊥) → saysTotal r ≡ refuses 16 (lacking (meant t))
+
+-- ======== compositions (02, L1)
+-- n bytes of an output are the pieces of the text t, and the bytes behind them are as they were. No text is cut in two ways (`one-way` of crates/glycan_laws)
+pub record Pieced (t out out′ : List ℕ) (n : ℕ) : Type 0 where
+  pub items : List Item
+  pub cuts : Cuts items t
+  pub front : take n out′ ≡ flat pieceBytes items
+  pub rest : drop n out′ ≡ drop n out
+
+pub record Composing : Type 0 where
+  -- 19 "no cutting": exactly where listed names and counts spell the text in no way
+  pub no-cutting : (t out : List ℕ) (r : Write) (out′ : List ℕ) → PiecesSay t out r out′ → (saysWrite r ≡ refuses 19 0) ↔ ((xs : List Item) → Cuts xs t → ⊥)
+  pub pieces : (t out : List ℕ) (r : Write) (out′ : List ℕ) → PiecesSay t out r out′ → (n : ℕ) → saysWrite r ≡ good n → Pieced t out out′ n
 
 -- ======== the wrong readers that document 01 names
 -- "a reader that refuses all, or gives one table for all"
@@ -280,6 +307,7 @@ pub record Promises : Type 1 where
   pub reckoned :
       (s bs : List ℕ) (ns : List ℤ) (r : Read) (bs′ : List ℕ) (ns′ : List ℤ) → ReadSays s bs ns r bs′ ns′ → saysRead r ≡ good tt
       → (t : Spelling) → wellSpelt t ≡ true → s ≡ print t → Reckoned t bs′ ns′
+  pub composing : Composing
 
 -- ======== the same over what a caller in C sees: the contracts of crate export. A number is 0 for a success, and else a refusal's.
 abbrev pub told : ℕ → Said (Unit {0})
@@ -289,10 +317,10 @@ told (suc n) = refuses (suc n) 0
 -- demand 1, for every exported call: an outcome is the number, and everything lent as it is afterwards. A refusal leaves all as it was, but the place that it says.
 pub record Demand1C : Type 0 where
   pub verdict :
-      (s : List ℕ) (place : ℕ) → Answered (λ (o : ℕ × ℕ). Judged s place (o .0) (o .1)) (λ o. told (o .0)) (tabled (λ n. n) 1 12) (λ o. o .1 ≤ length s)
+      (s : List ℕ) (place : ℕ) → Answered (λ (o : ℕ × ℕ). Judged s place (o .0) (o .1)) (λ o. told (o .0)) lineNumbers (λ o. o .1 ≤ length s)
   pub read :
       (s bs : List ℕ) (ns : List ℤ) (place : ℕ)
-      → Answered (λ (o : ℕ × ℕ × List ℕ × List ℤ). Exported s bs ns place (o .0) (o .1) (o .2) (o .3)) (λ o. told (o .0)) (tabled (λ n. n) 1 13)
+      → Answered (λ (o : ℕ × ℕ × List ℕ × List ℤ). Exported s bs ns place (o .0) (o .1) (o .2) (o .3)) (λ o. told (o .0)) (13 ∷ lineNumbers)
       (λ o. (o .1 ≤ length s) × (o .2 ≡ bs) × (o .3 ≡ ns))
   pub write :
       (bs : List ℕ) (ns : List ℤ) (out : List ℕ) (count : ℕ)
@@ -327,6 +355,9 @@ pub record Demand1C : Type 0 where
   pub first-row :
       (rs : List Site) (n f i x : ℕ)
       → Answered (λ (o : ℕ × ℕ × ℕ). LookedUp (looksUp rs n f) i x (o .0) (o .1) (o .2)) (λ o. told (o .0)) (13 ∷ 17 ∷ []) (λ o. (o .1 ≡ i) × (o .2 ≡ x))
+  pub composition :
+      (t out : List ℕ) (count : ℕ)
+      → Answered (λ (o : ℕ × ℕ × List ℕ). PiecesHanded t out count (o .0) (o .1) (o .2)) (λ o. told (o .0)) (15 ∷ 19 ∷ []) (λ o. o .2 ≡ out)
 
 -- demand 2
 -- a line that was read into areas, and m bytes of an output that were written from them
@@ -376,9 +407,9 @@ abbrev pub CountedC : List ℕ → List ℤ → (Tables → ℕ) → ℕ → Typ
 CountedC bs ns f many = (c n c′ : ℕ) → Counted (counts bs ns f) c n c′ → (n ≡ 0) × (c′ ≡ many)
 
 pub record ReckonedC (t : Spelling) (bs : List ℕ) (ns : List ℤ) : Type 0 where
-  pub residues : CountedC bs ns residueCount (length (means t .residues))
-  pub brackets : CountedC bs ns bracketCount (length (means t .brackets))
-  pub floating : CountedC bs ns floaterCount (length (floaters (means t)))
+  pub residues : CountedC bs ns residueCount (length (meant t .residues))
+  pub brackets : CountedC bs ns bracketCount (length (meant t .brackets))
+  pub floating : CountedC bs ns floaterCount (length (floaters (meant t)))
 
 pub record PromisesC : Type 0 where
   pub demand-1 : Demand1C

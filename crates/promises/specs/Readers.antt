@@ -15,11 +15,13 @@ use Rattle.scope.specs.declared.answers.Read.the-variants.{Accepted, Refused as
 use Rattle.scope.specs.Line.{Line}
 use Rattle.scope.specs.Lists.{laid, tabled}
 use Rattle.scope.specs.Reading.{Reading, stuck, holds, reading}
+use Rattle.scope.specs.Kept.{kept}
 use Rattle.scope.specs.Refusals.{refusal4, Due, due, Outcome, accepted, refused, byteRefusals, outcome}
 use Rattle.scope.specs.Tables.{tablesOf}
 use Rattle.scope.specs.Layout.{bytesOf, numbersOf}
 use Rattle.scope.specs.Answers.{good, refuses, saysRead, tooShort, readOutcome, saysOutcome, bytesAfter, numbersAfter}
-use Rattle.basics.specs.Each.{In, each-in}
+use Rattle.basics.specs.Each.{Each, In, each-in}
+use Rattle.basics.specs.Members.{in-left, in-right}
 use Rattle.reading_laws.specs.Laws.{placesOf, behind, dues}
 use Rattle.reading_laws.specs.Proved as reads
 use Rattle.scope.specs.Grammar.{Spelling, print, good as wellSpelt, means}
@@ -30,7 +32,7 @@ use Rattle.laws.specs.Proved.{demands}
 use Rattle.reader.specs.ReadSays.{ReadSays}
 use Rattle.reader.proofs.Reading.{accepted-is}
 use Rattle.verdict.specs.Says.{VerdictSays}
-use Rattle.promises.specs.Promises.{Reader, ExactlyOne, Answered, Nothing, AnswersLines, TurnedAway, Holding, Accepting}
+use Rattle.promises.specs.Promises.{meant, lineNumbers, Reader, ExactlyOne, Answered, Nothing, AnswersLines, TurnedAway, Holding, Accepting}
 use Rattle.promises.specs.Answering.{alone, among-numbers}
 use Rattle.promises.specs.Said.{not-both, same-number, same-place, read-same}
 
@@ -63,14 +65,16 @@ held-after {s} {bs} {ns} {bs′} {ns′} r =
     subst (λ b. laws.HoldTables (r .line) b ns′) (sym (r .bytes))
     (subst (λ n. laws.HoldTables (r .line) (laid (bytesOf (r .line)) bs) n) (sym (r .numbers)) (demands .demand-2 .read s (r .line) (r .reads) bs ns))
 
--- what a spelling of the line means is what the line holds
+-- what a spelling of the line means, as it is kept, is what the line holds
 pub line-means : {s bs : List ℕ} {ns : List ℤ} {bs′ : List ℕ} {ns′ : List ℤ} → (r : WasRead s bs ns bs′ ns′) → (t : Spelling) → wellSpelt t ≡ true → s ≡ print t
-    → r .line ≡ means t
+    → r .line ≡ meant t
 line-means {s} r t g p =
-    let a : reading s ≡ holds (r .line) = spelled.laws .lines s (r .line) .1 (spelled.laws .accepts s (r .line) .0 (r .reads) .spelt) in
+    let taken = spelled.laws .accepts s (r .line) .0 (r .reads) in
+    let a : reading s ≡ holds (taken .read) = spelled.laws .lines s (taken .read) .1 (taken .spelt) in
     let b : reading s ≡ holds (means t) = spelled.laws .lines s (means t) .1 (record { tree = t; fine = g; prints = p; says = refl }) in
-    let c : holds (r .line) ≡ holds (means t) = sym a ∙ b in
-    cc
+    let c : holds (taken .read) ≡ holds (means t) = sym a ∙ b in
+    let d : taken .read ≡ means t = cc in
+    taken .keeps ∙ ap kept d
 
 -- ---- demand 1
 readOf : Outcome → Read
@@ -93,55 +97,70 @@ exactly-one s bs ns =
           ∙ ap (λ (n : List ℤ). (readOf o, bytesAfter o bs, n)) (w .numbers-after);
     }
 
--- each number of the list is one of 1 to 12
-Numbered : List Due → Type 0
-Numbered [] = Unit {0}
-Numbered (d ∷ ds) = (1 ≤ d .number) × (d .number ≤ 12) × Numbered ds
+-- one of 1 to 12, or 19
+abbrev OfALine : ℕ → Type 0
+OfALine n = ((1 ≤ n) × (n ≤ 12)) ⊎ (n ≡ 19)
 
-numbered : (ds : List Due) (k i : ℕ) → Numbered ds → In i (placesOf ds k) → (1 ≤ k) × (k ≤ 12)
-unfolding Numbered placesOf
+among-lines : (n : ℕ) → OfALine n → In n lineNumbers
+among-lines n (inl h) =
+    let a = h .0 in
+    let b = h .1 in
+    in-left n (tabled (λ x. x) 1 12) (19 ∷ []) (among-numbers 12 1 n a (omega (arith, b)))
+among-lines n (inr e) = in-right n (tabled (λ x. x) 1 12) (19 ∷ []) (inl e)
+
+from-one : {n : ℕ} → OfALine n → 1 ≤ n
+from-one (inl h) = h .0
+from-one (inr e) = omega (arith, e)
+
+-- each number of the list is one of these
+abbrev Numbered : List Due → Type 0
+Numbered ds = Each (λ d. OfALine (d .number)) ds
+
+numbered : (ds : List Due) (k i : ℕ) → Numbered ds → In i (placesOf ds k) → OfALine k
+unfolding placesOf
 numbered [] k i n e = absurd e
-numbered (d ∷ ds) k i n e = go (eqb (d .number) k) refl e (numbered ds k i (n .2))
+numbered (d ∷ ds) k i n e = go (eqb (d .number) k) refl e (numbered ds k i (n .1))
   where
-    go : (t : Bool) → eqb (d .number) k ≡ t → In i (cond t (d .places) (placesOf ds k)) → (In i (placesOf ds k) → (1 ≤ k) × (k ≤ 12)) → (1 ≤ k) × (k ≤ 12)
-    go true q f ih = let z = eqb-true (d .number) k q in (omega (arith, n .0), omega (arith, n .1))
+    go : (t : Bool) → eqb (d .number) k ≡ t → In i (cond t (d .places) (placesOf ds k)) → (In i (placesOf ds k) → OfALine k) → OfALine k
+    go true q f ih = subst OfALine (eqb-true (d .number) k q) (n .0)
     go false q f ih = ih f
 
 dues-numbered : (s : List ℕ) → Numbered (dues s)
-unfolding dues Numbered
+unfolding dues
 dues-numbered s = go (reading s)
   where
+    low : {n : ℕ} → 1 ≤ n → n ≤ 12 → OfALine n
+    low a b = inl (a, b)
+
     above : (r : Reading) → Numbered (behind r)
     above (stuck i) = tt
-    above (holds l) = (omega arith, omega arith, (omega arith, omega arith, (omega arith, omega arith, (omega arith, omega arith, (omega arith, omega arith, (omega arith, omega arith, (omega arith, omega arith, (omega arith, omega arith, tt))))))))
+    above (holds l) =
+        (low (omega arith) (omega arith), (low (omega arith) (omega arith), (low (omega arith) (omega arith), (low (omega arith) (omega arith), (low (omega arith) (omega arith), (low (omega arith) (omega arith), (low (omega arith) (omega arith), (low (omega arith) (omega arith), (inr refl, tt)))))))))
 
     go : (r : Reading) → Numbered (byteRefusals s ++ (due 4 (refusal4 r) ∷ behind r))
-    go r = (omega arith, omega arith, (omega arith, omega arith, (omega arith, omega arith, (omega arith, omega arith, above r))))
+    go r = (low (omega arith) (omega arith), (low (omega arith) (omega arith), (low (omega arith) (omega arith), (low (omega arith) (omega arith), above r))))
 
 -- a refusal's number and place
-pub record RefusalPlaced (most : ℕ) (s : List ℕ) (n p : ℕ) : Type 0 where
+pub record RefusalPlaced (numbers s : List ℕ) (n p : ℕ) : Type 0 where
+  pub one-of : In n numbers
   pub from-1 : 1 ≤ n
-  pub to-most : n ≤ most
   pub inside : p ≤ length s
 
-pub said-12 : (s : List ℕ) (n p : ℕ) → outcome s ≡ refused n p → RefusalPlaced 12 s n p
-said-12 s n p e =
+pub line-said : (s : List ℕ) (n p : ℕ) → outcome s ≡ refused n p → RefusalPlaced lineNumbers s n p
+line-said s n p e =
     let d = reads.laws .lowest-wins s n p .0 e .0 .member in
     let r = numbered (dues s) n p (dues-numbered s) d in
-    record { from-1 = r .0; to-most = r .1; inside = each-in _ (placesOf (dues s) n) p d (reads.laws .inside-line s n) .0 }
+    record { one-of = among-lines n r; from-1 = from-one r; inside = each-in _ (placesOf (dues s) n) p d (reads.laws .inside-line s n) .0 }
 
-pub said-13 : (s bs : List ℕ) (ns : List ℤ) (n p : ℕ) → readOutcome bs ns s ≡ refused n p → RefusalPlaced 13 s n p
-said-13 s bs ns n p e = go (tooShort bs ns) e
+pub read-said : (s bs : List ℕ) (ns : List ℤ) (n p : ℕ) → readOutcome bs ns s ≡ refused n p → RefusalPlaced (13 ∷ lineNumbers) s n p
+read-said s bs ns n p e = go (tooShort bs ns) e
   where
-    go : (t : Bool) → cond t (refused 13 0) (outcome s) ≡ refused n p → RefusalPlaced 13 s n p
+    go : (t : Bool) → cond t (refused 13 0) (outcome s) ≡ refused n p → RefusalPlaced (13 ∷ lineNumbers) s n p
     go true f =
-        let x : 13 ≡ n = cc in
+        let x : n ≡ 13 = cc in
         let y : 0 ≡ p = cc in
-        record { from-1 = omega arith; to-most = omega arith; inside = omega arith }
-    go false f =
-        let r = said-12 s n p f in
-        let k = r .to-most in
-        record { from-1 = r .from-1; to-most = omega (arith, k); inside = r .inside }
+        record { one-of = inl x; from-1 = omega (arith, x); inside = omega arith }
+    go false f = let r = line-said s n p f in record { one-of = inr (r .one-of); from-1 = r .from-1; inside = r .inside }
 
 pub outcome-refused : (o : Outcome) {n p : ℕ} → saysOutcome o ≡ refuses n p → o ≡ refused n p
 outcome-refused (accepted l) e = absurd (not-both e)
@@ -154,30 +173,25 @@ answered s bs ns r bs′ ns′ w = go (readOutcome bs ns s) refl
     go : (o : Outcome) → readOutcome bs ns s ≡ o → (saysRead r ≡ good tt) ⊎ TurnedAway s bs ns r bs′ ns′
     go (accepted l) e = inl (w .says ∙ ap saysOutcome e)
     go (refused n p) e =
-        let q = said-13 s bs ns n p e in
+        let q = read-said s bs ns n p e in
         inr
         (record {
           number = n;
           place = p;
           says = w .says ∙ ap saysOutcome e;
-          from-1 = q .from-1;
-          to-13 = q .to-most;
+          one-of = q .one-of;
           inside = q .inside;
           bytes = w .bytes-after ∙ ap (λ z. bytesAfter z bs) e;
           numbers = w .numbers-after ∙ ap (λ z. numbersAfter z ns) e;
         })
 
-pub verdict : (s : List ℕ) → Answered (VerdictSays s) saysRead (tabled (λ n. n) 1 12) Nothing
+pub verdict : (s : List ℕ) → Answered (VerdictSays s) saysRead lineNumbers Nothing
 verdict s =
     alone read-same
     (record {
       answer = readOf (outcome s);
       says-so = says-of (outcome s);
-      number = λ n p q.
-          let z = said-12 s n p (outcome-refused (outcome s) q) in
-          let a = z .from-1 in
-          let b = z .to-most in
-          among-numbers 12 1 n a (omega (arith, b));
+      number = λ n p q. line-said s n p (outcome-refused (outcome s) q) .one-of;
     })
 
 pub answers-lines : AnswersLines ReadSays

@@ -20,14 +20,14 @@ use Rattle.scope.specs.Positions.{floaters, floatingOf}
 use Rattle.scope.specs.Placements.{allowed}
 use Rattle.scope.specs.Masses.{sum, total, lacking, labileMass, daltons}
 use Rattle.scope.specs.Answers.{Said, good, refuses, aMass, lack, displayOf, saysTotal, saysShown, saysRequest, saysBooked, tooShort, areTables, overTables, residueCount, bracketCount, floaterCount, weighed, allowable, bookable, books, entries}
-use Rattle.scope.specs.Grammar.{Spelling, means}
+use Rattle.scope.specs.Grammar.{Spelling}
 use Rattle.layout_laws.specs.Laws.{tables-held}
 use Rattle.placement_laws.specs.Terms.{Orderly}
 use Rattle.placement_laws.specs.Laws as placing
 use Rattle.laws.specs.Demands as laws
 use Rattle.laws.specs.Proved.{demands}
 use Rattle.calls.specs.Says.{TotalSays, ShownSays, AllowedSays, LedgerSays}
-use Rattle.promises.specs.Promises.{Reckoned}
+use Rattle.promises.specs.Promises.{meant, Reckoned}
 use Rattle.promises.specs.Said.{not-both, same-good, same-place, not-lack, same-lack}
 use Rattle.promises.specs.Readers.{WasRead, held-after}
 
@@ -113,11 +113,11 @@ answers-after {s} {bs} {ns} {bs′} {ns′} r =
     subst (λ b. laws.SameAnswers (r .line) (tablesIn b ns′)) (sym (r .bytes))
     (subst (λ n. laws.SameAnswers (r .line) (tablesIn (laid (bytesOf (r .line)) bs) n)) (sym (r .numbers)) (demands .answers s (r .line) (r .reads) bs ns))
 
-pub reckoned : {s bs : List ℕ} {ns : List ℤ} {bs′ : List ℕ} {ns′ : List ℤ} → (r : WasRead s bs ns bs′ ns′) → AreasTaken bs′ ns′ → (t : Spelling) → r .line ≡ means t
+pub reckoned : {s bs : List ℕ} {ns : List ℤ} {bs′ : List ℕ} {ns′ : List ℤ} → (r : WasRead s bs ns bs′ ns′) → AreasTaken bs′ ns′ → (t : Spelling) → r .line ≡ meant t
     → Reckoned t bs′ ns′
 reckoned {bs′ = bs′} {ns′ = ns′} r h t e =
     let a = answers-after r in
-    let lacked : lacking (tablesIn bs′ ns′) ≡ lacking (means t) = a .missing ∙ ap lacking e in
+    let lacked : lacking (tablesIn bs′ ns′) ≡ lacking (meant t) = a .missing ∙ ap lacking e in
     record {
       residues = λ q w. w ∙ says-itself h (λ t. good (residueCount t)) ∙ ap good (a .residues) ∙ ap (λ l. good (length (l .residues))) e;
       brackets = λ q w. w ∙ says-itself h (λ t. good (bracketCount t)) ∙ ap good (a .brackets) ∙ ap (λ l. good (length (l .brackets))) e;

@@ -10,6 +10,7 @@ use Rattle.scope.specs.Limits.{lineLimit, residueLimit, bracketLimit}
 use Rattle.scope.specs.Line.{Line}
 use Rattle.scope.specs.Lists.{flat, padded, laid}
 use Rattle.scope.specs.Layout.{bytesSize, numbersSize, rowSize, numberRowSize, residuesAt, lettersAt, sectionsAt, rowsAt, textsAt, countsRow, sectionCode, bracketTexts, rows, numberRow, bytesOf, numbersOf, bracketsField, residuesField}
+use Rattle.store.proofs.NotedLine.{is-accepted}
 use Rattle.layout_laws.specs.Layout.{AreasRead, padded-length, rows-length, number-rows-length, areas-read}
 use Rattle.layout_laws.specs.Laws.{bytes-fill, numbers-fill}
 use Rattle.accepted_laws.specs.Laws.{accepted-within, accepted-short, accepted-texts}
@@ -185,7 +186,7 @@ pub put-back : {line letters sections heads parts : List ℕ} {masses scores : L
     → (bs₂ ≡ bs) × (ns₂ ≡ ns)
 put-back {line} {bs = bs} {ns} w p q =
     let l = w .holds-line in
-    let e = w .line-noted .is-accepted in
+    let e = is-accepted (w .line-noted) in
     let v = accepted-within line l e in (
       q .bytes-now ∙ ap (laid (replicate bytesSize 0)) (p .bytes-now l e) ∙ relaid 0 bytesSize (bytesOf l) bs (bytes-fill l v) (w .clean .bytes-zero),
       q .numbers-now ∙ ap (laid (replicate numbersSize (pos 0))) (p .numbers-now l e) ∙ relaid (pos 0) numbersSize (numbersOf l) ns (numbers-fill l v) (w .clean .numbers-zero),

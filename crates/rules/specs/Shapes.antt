@@ -6,7 +6,7 @@ use mathlib.Core.Option.{Option, none, some}
 use Prim.Native.Nat.{ℕ, _<_}
 use lib.ListN.{length}
 use Rattle.scope.specs.declared.grammar.Key.the-variants.{Info}
-use Rattle.scope.specs.Line.{Label, Value, mass, text, reference, Part, Line}
+use Rattle.scope.specs.Line.{Label, Value, mass, text, reference, composition, Part, Line}
 use Rattle.scope.specs.Lists.{all}
 use Rattle.scope.specs.Content.{isReference}
 use Rattle.scope.specs.Reading.{holds, reading, refers?}
@@ -27,6 +27,7 @@ parts-apart (p ∷ ps) w = go (p .value) (w .0 .value)
     go (mass n) q = refl
     go (text t) q = refl
     go reference q = rw (q .no-key)
+    go (composition t n) q = absurd q
 
 part-named : (p : Part ℕ) → PartShape p → Named p
 part-named p w = go (p .label) (w .label)

@@ -31,7 +31,7 @@ pub struct Found {
     pub floaters: usize,
 }
 
-// What refusals 10 to 12 find in the n brackets: the first refusal due, where `least` is the first of those tried before them; and how many copies float.
+// What refusals 10 to 12 find in the n brackets: the first refusal due, where `least` is the first of the others; and how many copies float.
 pub fn rules_due(line: &[u8], heads: &[u16], parts: &[u16], n: usize, least: usize) -> Found
     requires { ⌜ ((ks : List (Bracket ℕ)) × Ruled (now line) (now heads) (now parts) n ks) ⌝ }
     ensures { λ r. ⌜ ((ks : List (Bracket ℕ)) → Ruled (now (line .entry)) (now (heads .entry)) (now (parts .entry)) n ks → Finds ks least (r .first) (r .floaters)) ⌝ }

@@ -1,5 +1,6 @@
 -- What the walk notes of a line, in tables that its caller lends: a row for each bracket, a row for each part, with places. A row is a function of the definition's
--- bracket or part alone, whether or not a limit is passed; the first 64 brackets are noted, and of each the first four parts.
+-- bracket or part alone, whether or not a limit is passed; the first 64 brackets are noted, and of each the first four parts. They are noted as they are read, and the
+-- reader makes a text of a composition (crates/scope, Kept): of a composition there is nothing to note.
 use mathlib.Core.Path.{_≡_}
 use mathlib.Core.Bool.{cond}
 use mathlib.Core.Option.{Option, none, some}
@@ -8,15 +9,16 @@ use Prim.Native.Nat.{ℕ, _+_, _*_, _≤_, min}
 use lib.IntN.{ℤ, pos}
 use lib.ListN.{length, take}
 use Rattle.scope.specs.Limits.{residueLimit, bracketLimit, partLimit, decimalLimit, countLimit}
-use Rattle.scope.specs.Line.{Number, Value, mass, text, reference, Part, Bracket, Residue, Line}
+use Rattle.scope.specs.Line.{Number, Value, mass, text, reference, composition, Part, Bracket, Residue, Line}
 use Rattle.scope.specs.Lists.{given, flat, part}
 use Rattle.scope.specs.Keys.{keyCode, written}
 use Rattle.scope.specs.Kinds.{kindCode}
 use Rattle.scope.specs.Modifications.{onlyInfo, isReferring, namesOf, isLabelled}
-use Rattle.scope.specs.Refusals.{textOf, inRange, accepted, outcome}
+use Rattle.scope.specs.Refusals.{textOf, inRange}
 use Rattle.scope.specs.Tables.{millionths, scoreOf}
 use Rattle.scope.specs.Layout.{valueCode, sectionCode}
 use Rattle.basics.specs.Each.{Each}
+use Rattle.reading_laws.specs.Taken.{Taken}
 
 -- ---- a part
 -- where its text begins, right behind its key, and the place behind it; 0 and 0 where it has none
@@ -24,11 +26,13 @@ abbrev pub textFrom : Part ℕ → Value ℕ → ℕ
 textFrom p (mass n) = 0
 textFrom p (text t) = p .at + length (written (p .key))
 textFrom p reference = 0
+textFrom p (composition t n) = 0
 
 abbrev pub textTo : Part ℕ → Value ℕ → ℕ
 textTo p (mass n) = 0
 textTo p (text t) = p .at + length (written (p .key)) + length t
 textTo p reference = 0
+textTo p (composition t n) = 0
 
 -- its label's first byte, and the place behind it, likewise
 abbrev pub labelFrom : Part ℕ → ℕ
@@ -42,11 +46,13 @@ abbrev pub decimalsNoted : Value ℕ → ℕ
 decimalsNoted (mass n) = cond (inRange n) (n .decimals) 0
 decimalsNoted (text t) = 0
 decimalsNoted reference = 0
+decimalsNoted (composition t n) = 0
 
 abbrev pub massNoted : Value ℕ → ℤ
 massNoted (mass n) = cond (inRange n) (millionths n) (pos 0)
 massNoted (text t) = pos 0
 massNoted reference = pos 0
+massNoted (composition t n) = pos 0
 
 -- value, key, decimals; text from and to; label from and to
 abbrev pub partFields : ℕ
@@ -56,8 +62,16 @@ abbrev pub partNote : Part ℕ → List ℕ
 partNote p =
     valueCode (p .value) ∷ keyCode (p .key) ∷ decimalsNoted (p .value) ∷ textFrom p (p .value) ∷ textTo p (p .value) ∷ labelFrom p ∷ labelTo p ∷ []
 
+-- what the reader makes: no composition
+abbrev pub AsRead : Value ℕ → Type 0
+AsRead (mass n) = Unit {0}
+AsRead (text t) = Unit {0}
+AsRead reference = Unit {0}
+AsRead (composition t n) = ⊥
+
 -- its text and its label are what stands there in the line
 pub record Stands (line : List ℕ) (p : Part ℕ) : Type 0 where
+  pub as-read : AsRead (p .value)
   pub text-is : textOf p ≡ part (p .at + length (written (p .key))) (length (textOf p)) line
   pub text-inside : textTo p (p .value) ≤ length line
   pub label-is : given (p .label) (λ l. l .name) [] ≡ part (labelFrom p) (length (given (p .label) (λ l. l .name) [])) line
@@ -145,12 +159,12 @@ pub record Roomy (letters sections heads parts : List ℕ) (masses scores : List
   pub masses-room : massesRoom ≤ length masses
   pub scores-room : bracketLimit ≤ length scores
 
--- the line is accepted, and what it holds is in the sheet
+-- the line is accepted, and what was read of it is in the sheet: l is what is kept of that
 pub record LineNoted (line letters sections heads parts : List ℕ) (masses scores : List ℤ) (residues brackets : ℕ) (l : Line ℕ) : Type 0 where
-  pub is-accepted : outcome line ≡ accepted l
+  pub taken : Taken line l
   pub parts-many : ℕ
-  pub noted : Noted line (l .brackets) parts-many heads parts masses scores
-  pub lettered : Lettered (l .residues) letters sections
+  pub noted : Noted line (taken .read .brackets) parts-many heads parts masses scores
+  pub lettered : Lettered (taken .read .residues) letters sections
   pub roomy : Roomy letters sections heads parts masses scores
-  pub residues-are : residues ≡ length (l .residues)
-  pub brackets-are : brackets ≡ length (l .brackets)
+  pub residues-are : residues ≡ length (taken .read .residues)
+  pub brackets-are : brackets ≡ length (taken .read .brackets)

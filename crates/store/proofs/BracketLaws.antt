@@ -18,7 +18,7 @@ use Rattle.sheet.proofs.FieldLaws.{Among, among}
 use Rattle.store.specs.Areas.{Pieces, headAdded, bracketsAdded}
 use Rattle.store.specs.PartPut.{PartsNoted, PartsFit, SomePartsFit, PartsPut}
 use Rattle.store.specs.BracketPut.{headFrom, HeadGoesIn, BracketNoted, BracketGoesIn, SomeBracketFits, BracketPut, BracketsFit, SomeBracketsFit, BracketsPut}
-use Rattle.store.proofs.NotedRows.{head-noted, points-are, head-fits}
+use Rattle.store.proofs.NotedRows.{parts-many, head-noted, points-are, head-fits}
 use Rattle.store.proofs.AreaLaws.{areas-as, head-more, bracket-more, no-brackets, brackets-more}
 use Rattle.store.proofs.Passed.{passed, passed-next}
 
@@ -33,13 +33,13 @@ module _ {line heads parts : List ℕ} {masses scores : List ℤ} {k t : ℕ} {b
         let q = f .noted in
         let base-is = em ∙ q .fields .base-is in
         record {
-          many = en ∙ q .fields .parts;
+          many = en ∙ parts-many q;
           noted = subst (λ i. PartsNoted line parts masses i (b .parts)) (sym base-is) (q .parts-are);
           parts-room = f .parts-room;
           masses-room = f .masses-room;
-          few-rows = omega (arith, q .few-rows, en, q .fields .parts);
+          few-rows = omega (arith, q .few-rows, en, parts-many q);
           few-brackets = f .few-brackets;
-          few-parts = omega (arith, en, q .fields .parts, q .within .few-parts);
+          few-parts = omega (arith, en, parts-many q, q .within .few-parts);
           texts-room = f .texts-room;
           bytes-long = omega (arith, f .bytes-long, ap length e, length-sets bytes (rowAt k) (headFrom heads k));
           numbers-long = f .numbers-long;

@@ -18,7 +18,7 @@ use Rattle.store.specs.Areas.{frontWith, areaWith, Pieces, AreasAre}
 use Rattle.store.specs.BracketPut.{BracketsFit, SomeBracketsFit, BracketsPut}
 use Rattle.store.specs.Filled.{FrontFits, frontPut, Clean, Fills, FilledAll}
 use Rattle.store.proofs.AreaLaws.{store-end}
-use Rattle.store.proofs.NotedLine.{within, bracket-noted}
+use Rattle.store.proofs.NotedLine.{is-accepted, within, residues-many, brackets-many, letters-are, sections-are, bracket-noted}
 
 -- ---- the areas before anything is put
 zero-pieces : {A : Type 0} (z : A) (x r : List A) (a b c d n : ℕ) → x ≡ replicate a z → a + (b + (b + (c + d))) ≡ n
@@ -119,8 +119,8 @@ module _ {line letters sections heads parts : List ℕ} {masses scores : List �
   front-fits =
       let w = f .line-noted in
       record {
-        few-residues = omega (arith, w .residues-are, within w .few-residues);
-        few-brackets = omega (arith, w .brackets-are, within w .few-brackets);
+        few-residues = omega (arith, residues-many w, within w .few-residues);
+        few-brackets = omega (arith, brackets-many w, within w .few-brackets);
         letters-room = w .roomy .letters-room;
         sections-room = w .roomy .sections-room;
         bytes-long = f .clean .bytes-room;
@@ -132,12 +132,10 @@ module _ {line letters sections heads parts : List ℕ} {masses scores : List �
         let l = f .holds-line in
         let w = f .line-noted in
         let few = within w .few-residues in
-        let x = ap₂ (λ i j. countsRow i j) (w .residues-are) (w .brackets-are) in
-        let y = ap (λ i. take i letters) (w .residues-are) ∙ w .lettered .letters-are few in
-        let z = ap (λ i. take i sections) (w .residues-are) ∙ w .lettered .sections-are few in
-        let put = e ∙ ap₂ (λ i j. sets (sets (sets bytes residuesAt i) lettersAt j) sectionsAt (take residues sections)) x y ∙ ap (sets _ sectionsAt) z in
+        let counted = ap₂ (λ i j. countsRow i j) (residues-many w) (brackets-many w) in
+        let put = e ∙ ap₂ (λ i j. sets (sets (sets bytes residuesAt i) lettersAt j) sectionsAt (take residues sections)) counted (letters-are w) ∙ ap (sets _ sectionsAt) (sections-are w) in
         record {
-          many = w .brackets-are;
+          many = brackets-many w;
           residues = length (l .residues);
           few-residues = few;
           noted = bracket-noted w;
@@ -145,7 +143,7 @@ module _ {line letters sections heads parts : List ℕ} {masses scores : List �
           parts-room = w .roomy .parts-room;
           masses-room = w .roomy .masses-room;
           scores-room = w .roomy .scores-room;
-          few-brackets = omega (arith, w .brackets-are, within w .few-brackets);
+          few-brackets = omega (arith, brackets-many w, within w .few-brackets);
           texts-room = within w .texts;
           bytes-long = omega (arith, f .clean .bytes-room, ap length e, length-sets (sets (sets bytes residuesAt (countsRow residues brackets)) lettersAt (take residues letters)) sectionsAt (take residues sections), length-sets (sets bytes residuesAt (countsRow residues brackets)) lettersAt (take residues letters), length-sets bytes residuesAt (countsRow residues brackets));
           numbers-long = f .clean .numbers-room;
@@ -160,6 +158,6 @@ module _ {line letters sections heads parts : List ℕ} {masses scores : List �
         → (l : Line ℕ) → outcome line ≡ accepted l → FilledAll bytes numbers bytes₂ numbers₂ l
     filled {bytes₂} {numbers₂} put l q =
         let h = f .holds-line in
-        let p = f .line-noted .is-accepted in
+        let p = is-accepted (f .line-noted) in
         let same : h ≡ l = cc (p, q) in
         subst (FilledAll bytes numbers bytes₂ numbers₂) same (ends h bytes numbers (within (f .line-noted)) (put (h .brackets) (begun h bytes numbers) fit))

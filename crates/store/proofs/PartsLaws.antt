@@ -3,8 +3,8 @@ use mathlib.Core.Path.{_≡_, refl, sym, ap, ap₂, subst, _∙_}
 use mathlib.Core.List.{List, [], _∷_, _++_}
 use Prim.Native.Nat.{ℕ, _+_, _≤_, _<_}
 use native.Mathlib.Omega.{arith}
-use lib.IntN.{ℤ, pos}
-use lib.ListN.{length, getD, take, set, length-append, length-set}
+use lib.IntN.{ℤ}
+use lib.ListN.{length, take, set, length-append, length-set}
 use lib.Seq.{sets, length-sets, take-all}
 use Rattle.scope.specs.Line.{Part}
 use Rattle.scope.specs.Lists.{flat}
@@ -12,7 +12,7 @@ use Rattle.scope.specs.Layout.{textsAt, partAt, massAt, packed}
 use Rattle.basics.specs.Lists.{flat-append-length, flat-cons}
 use Rattle.sheet.proofs.FieldLaws.{Among, among}
 use Rattle.store.specs.Areas.{Pieces}
-use Rattle.store.specs.PartPut.{textsFrom, rowFrom, RowFits, RowPut, PartNoted, PartsFit, SomePartsFit, PartsPut}
+use Rattle.store.specs.PartPut.{textsFrom, rowFrom, massPut, RowFits, RowPut, PartNoted, PartsFit, SomePartsFit, PartsPut}
 use Rattle.store.proofs.NotedRows.{texts-long, texts-noted, row-noted, number-noted, row-fits}
 use Rattle.store.proofs.Passed.{passed, passed-next}
 use Rattle.store.proofs.AreaLaws.{no-parts, part-more}
@@ -74,10 +74,10 @@ module _ {line parts : List ℕ} {masses : List ℤ} {m n k t : ℕ} {bytes₀ :
         few = omega arith;
         bytes-long =
             ap length (q .bytes-are)
-            ∙ length-sets (sets bytes (textsAt + u) (textsFrom line parts (m + j))) (partAt k j) (rowFrom parts (m + j) u)
+            ∙ length-sets (sets bytes (textsAt + u) (textsFrom line parts (m + j))) (partAt k j) (rowFrom line parts (m + j) u)
             ∙ length-sets bytes (textsAt + u) (textsFrom line parts (m + j))
             ∙ w .bytes-long;
-        numbers-long = ap length (q .numbers-are) ∙ length-set numbers (massAt k j) (getD masses (m + j) (pos 0)) ∙ w .numbers-long;
+        numbers-long = ap length (q .numbers-are) ∙ length-set numbers (massAt k j) (massPut line parts masses (m + j)) ∙ w .numbers-long;
         put = λ ps a f. further f (w .put ps a f) h q;
       }
 

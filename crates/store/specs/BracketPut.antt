@@ -1,4 +1,4 @@
--- What the row of a bracket in the sheet puts into the areas, and the same of a bracket that the row is of.
+-- What the row of a bracket in the sheet puts into the areas, and the same of what is kept of the bracket that the row is of.
 use mathlib.Core.Path.{_≡_}
 use mathlib.Core.List.{List, _∷_, _++_}
 use Prim.Native.Nat.{ℕ, _+_, _*_, _<_, _≤_}
@@ -6,6 +6,7 @@ use lib.IntN.{ℤ, pos}
 use lib.ListN.{length, getD}
 use Rattle.scope.specs.Bytes.{byteLimit}
 use Rattle.scope.specs.Limits.{lineLimit, residueLimit, bracketLimit, positionLimit}
+use Rattle.scope.specs.Kept.{keptBracket}
 use Rattle.scope.specs.Line.{Bracket}
 use Rattle.scope.specs.Lists.{flat}
 use Rattle.scope.specs.Tables.{scoreOf}
@@ -33,11 +34,13 @@ pub record HeadGoesIn (heads : List ℕ) (k : ℕ) (bytes : List ℕ) : Type 0 w
   pub bytes-long : bytesSize ≤ length bytes
 
 -- ---- a bracket
--- row k is of this bracket of a line with n residues
+-- row k is of a bracket of a line with n residues, and b is what is kept of it
 pub record BracketNoted (line heads parts : List ℕ) (masses scores : List ℤ) (n k : ℕ) (b : Bracket ℕ) : Type 0 where
   pub base : ℕ
-  pub fields : HeadIs heads k base b
-  pub score-is : getD scores k (pos 0) ≡ pointsNoted (scoreOf (b .parts))
+  pub read : Bracket ℕ
+  pub keeps : b ≡ keptBracket read
+  pub fields : HeadIs heads k base read
+  pub score-is : getD scores k (pos 0) ≡ pointsNoted (scoreOf (read .parts))
   pub parts-are : PartsNoted line parts masses base (b .parts)
   pub few-rows : base + length (b .parts) ≤ massesRoom
   pub within : BracketWithin n b

@@ -1,4 +1,5 @@
 // The tables of an accepted line, put into the lent areas from the sheet in which the walk noted it.
+use glycans::Cutting;
 use scope::tables::Tables;
 ghost use mathlib.Core.Path.{_≡_};
 ghost use mathlib.Core.List.{List, _++_};
@@ -11,7 +12,9 @@ ghost use Rattle.scope.specs.Lists.{part};
 ghost use Rattle.scope.specs.Layout.{bytesSize, numbersSize, rowAt};
 ghost use Rattle.scope.specs.Refusals.{outcome, accepted};
 ghost use Rattle.store.specs.Areas.{Pieces};
-ghost use Rattle.store.specs.PartPut.{Copies, offsetOf, RowFits, RowPut, SomePartsFit, PartsFit, PartsPut};
+ghost use Rattle.glycans.specs.Cut.{Room, PutBefore};
+ghost use Rattle.sheet.specs.Rows.{partsRoom, massesRoom};
+ghost use Rattle.store.specs.PartPut.{Copies, isComposed, textPut, offsetOf, RowFits, RowCut, ShortIs, ComposedFits, NotedFits, RowPut, SomePartsFit, PartsFit, PartsPut};
 ghost use Rattle.store.specs.BracketPut.{headFrom, HeadGoesIn, SomeBracketFits, BracketGoesIn, BracketPut, SomeBracketsFit, BracketsFit, BracketsPut};
 ghost use Rattle.store.specs.Filled.{FrontFits, frontPut, Fills, FilledAll};
 
@@ -82,6 +85,39 @@ fn number(numbers: &[i64], at: usize) -> i64
     numbers[at]
 }
 
+// the code of a text
+const TEXT: usize = 2;
+
+// Whether row m is a text behind the key of compositions.
+pub fn is_composition(parts: &[u16], m: usize) -> bool
+    requires { ⌜ (partsRoom ≤ length (now parts)) × (m < massesRoom) ⌝ }
+    ensures { λ r. ⌜ r ≡ isComposed (now (parts .entry)) m ⌝ }
+{
+    (sheet::key_of(parts, m) == Cutting::KEY) & (sheet::value_of(parts, m) == TEXT)
+}
+
+// How long the short text of the composition in row m is, and what it weighs.
+pub fn composition(line: &[u8], parts: &[u16], m: usize) -> Cutting
+    requires { ⌜ RowCut (now line) (now parts) m ⌝ }
+    ensures { λ r. ⌜ ShortIs (now (line .entry)) (now (parts .entry)) m (r .size) (r .mass) ⌝ }
+{
+    glycans::cut(line, sheet::text_from(parts, m), sheet::text_to(parts, m))
+}
+
+// The short text, so that it ends before a place. Answers where it begins.
+pub fn put_composition(line: &[u8], parts: &[u16], m: usize, out: &mut [u8], at: usize) -> usize
+    requires { ⌜ RowCut (now line) (now parts) m × Room (now out) at (textPut (now line) (now parts) m) ⌝ }
+    ensures { λ r. ⌜ PutBefore (now (out .entry)) at (textPut (now (line .entry)) (now (parts .entry)) m) (now (out .exit)) r ⌝ }
+{
+    glycans::put_short(
+        line,
+        sheet::text_from(parts, m),
+        sheet::text_to(parts, m),
+        out,
+        at,
+    )
+}
+
 // Row m, as part j of bracket k, its text and its label behind t bytes of others. Answers how many bytes of texts there are then.
 fn store_part(
     line: &[u8],
@@ -95,6 +131,65 @@ fn store_part(
     numbers: &mut [i64],
 ) -> usize
     requires { ⌜ RowFits (now line) (now parts) (now masses) m k j t (now bytes) (now numbers) ⌝ }
+    ensures { λ r. ⌜ RowPut (now (line .entry)) (now (parts .entry)) (now (masses .entry)) m k j t (now (bytes .entry)) (now (numbers .entry)) r (now (bytes .exit)) (now (numbers .exit)) ⌝ }
+{
+    if is_composition(parts, m) {
+        return store_composition(line, parts, masses, m, k, j, t, bytes, numbers);
+    }
+    store_noted(line, parts, masses, m, k, j, t, bytes, numbers)
+}
+
+// The same of a composition: its short text, and its mass.
+fn store_composition(
+    line: &[u8],
+    parts: &[u16],
+    masses: &[i64],
+    m: usize,
+    k: usize,
+    j: usize,
+    t: usize,
+    bytes: &mut [u8],
+    numbers: &mut [i64],
+) -> usize
+    requires { ⌜ ComposedFits (now line) (now parts) (now masses) m k j t (now bytes) (now numbers) ⌝ }
+    ensures { λ r. ⌜ RowPut (now (line .entry)) (now (parts .entry)) (now (masses .entry)) m k j t (now (bytes .entry)) (now (numbers .entry)) r (now (bytes .exit)) (now (numbers .exit)) ⌝ }
+{
+    let label = sheet::label_from(parts, m);
+    let l = sheet::label_to(parts, m) - label;
+    let c = composition(line, parts, m);
+    let n = c.size;
+    let behind = Tables::TEXTS + t + n;
+    put_composition(line, parts, m, bytes, behind);
+    copy(line, label, l, bytes, behind);
+    let offset = offset_of(n + l, t);
+    areas::put_part(
+        bytes,
+        k,
+        j,
+        Cutting::VALUE as u8,
+        Cutting::KEY as u8,
+        Cutting::DECIMALS as u8,
+        n as u8,
+        l as u8,
+        offset,
+    );
+    areas::put_mass(numbers, k, j, c.mass as i64);
+    t + n + l
+}
+
+// The same of any other part: as it is noted.
+fn store_noted(
+    line: &[u8],
+    parts: &[u16],
+    masses: &[i64],
+    m: usize,
+    k: usize,
+    j: usize,
+    t: usize,
+    bytes: &mut [u8],
+    numbers: &mut [i64],
+) -> usize
+    requires { ⌜ NotedFits (now line) (now parts) (now masses) m k j t (now bytes) (now numbers) ⌝ }
     ensures { λ r. ⌜ RowPut (now (line .entry)) (now (parts .entry)) (now (masses .entry)) m k j t (now (bytes .entry)) (now (numbers .entry)) r (now (bytes .exit)) (now (numbers .exit)) ⌝ }
 {
     let text = sheet::text_from(parts, m);

@@ -14,14 +14,14 @@ use Rattle.scope.specs.declared.grammar.Slot.{Slot}
 use Rattle.scope.specs.declared.grammar.Key.{Key}
 use Rattle.scope.specs.declared.grammar.Key.the-variants.{NoKey}
 use Rattle.scope.specs.Bytes.{hash, colon, dash, isSign}
-use Rattle.scope.specs.Keys.{Form, massOrName, massOnly, digits, alnums, free, form, accessionByte, written, keyOf}
+use Rattle.scope.specs.Keys.{Form, massOrName, massOnly, digits, alnums, free, composed, form, accessionByte, written, keyOf}
 use Rattle.scope.specs.Lists.{part}
 use Rattle.scope.specs.Content.{isPlain, textStep, signed, Context, begin, plain, keyed, inNumber, inCode, inText, Content, lost, going, textEnd, behindKey, colonAfter, innerStep}
 use Rattle.scope.specs.Reading.{Held}
 use Rattle.classes.specs.Runs.{span}
 use Rattle.classes.proofs.Runs.{run-next, run-in}
 use Rattle.values.specs.declared.Form.{Form as FormTold}
-use Rattle.values.specs.declared.Form.the-variants.{MassOrName, MassOnly, Digits, Alnums, Free}
+use Rattle.values.specs.declared.Form.the-variants.{MassOrName, MassOnly, Digits, Alnums, Free, Composed}
 use Rattle.values.specs.declared.ValueAt.{ValueAt}
 use Rattle.values.specs.declared.ValueAt.the-variants.{Stuck}
 use Rattle.values.specs.Says.{through}
@@ -59,6 +59,7 @@ formTold MassOnly = massOnly
 formTold Digits = digits
 formTold Alnums = alnums
 formTold Free = free
+formTold Composed = composed
 
 told-back : (f : Form) → formTold (told f) ≡ f
 told-back massOrName = refl
@@ -66,6 +67,7 @@ told-back massOnly = refl
 told-back digits = refl
 told-back alnums = refl
 told-back free = refl
+told-back composed = refl
 
 pub form-is : (k : Key) (t u : FormTold) → t ≡ told (form k) → t ≡ u → form k ≡ formTold u
 form-is k t u e f = sym (told-back (form k)) ∙ ap formTold (sym e ∙ f)
@@ -81,6 +83,7 @@ mass-keyed c at k massOnly e = refl
 mass-keyed c at k digits e = absurd (false≢true e)
 mass-keyed c at k alnums e = absurd (false≢true e)
 mass-keyed c at k free e = absurd (false≢true e)
+mass-keyed c at k composed e = absurd (false≢true e)
 
 -- whether one stands there
 module _ (line : List ℕ) (from : ℕ) (t : FormTold) (b : Bool) where
@@ -126,11 +129,12 @@ module _ (line : List ℕ) (at : ℕ) (k : Key) (from : ℕ) where
       (λ t. lost-there line at from (opened at k from) (ltb-true from (length line) t) (λ c. no-name c (getD line from 0) f e))
       (λ t. over line at from (opened at k from) (ltb-false from (length line) t) n)
 
-  pub key-free : form k ≡ free → (r : ValueAt) → SaysFrom line at from (λ c. innerStep from (inText c at k (part from (from - from) line) [])) r
-      → SaysFrom line at from (opened at k from) r
-  key-free f r w =
+  -- a text from the first byte on, whatever it is
+  pub key-text : (g : Form) → form k ≡ g → ((c : Context ℕ) → behindKey c at k g ≡ inText c at k [] []) → (r : ValueAt)
+      → SaysFrom line at from (λ c. innerStep from (inText c at k (part from (from - from) line) [])) r → SaysFrom line at from (opened at k from) r
+  key-text g f texts r w =
       alike line at from (opened at k from) (λ c. innerStep from (inText c at k (part from (from - from) line) []))
-      (λ c n. ap (λ x. innerStep from (behindKey c at k x) (getD line from 0)) f ∙ none-first c (getD line from 0)) r w
+      (λ c n. ap (λ x. innerStep from x (getD line from 0)) (ap (behindKey c at k) f ∙ texts c) ∙ none-first c (getD line from 0)) r w
 
   -- an accession, of bytes of a class
   module _ (to : ℕ) (p : ℕ → Bool) (class : (b : ℕ) → accessionByte (form k) b ≡ p b) (codes : (c : Context ℕ) → behindKey c at k (form k) ≡ inCode c at k [])

@@ -15,7 +15,7 @@ use Rattle.scope.specs.declared.grammar.Key.the-variants.{NoKey, U, M, R, X, G,
 use Rattle.scope.specs.Keys.{form}
 use Rattle.values.specs.declared.Form.{Form}
 use Rattle.values.proofs.Form as form-type
-use Rattle.values.specs.declared.Form.the-variants.{MassOrName, MassOnly, Digits, Alnums, Free}
+use Rattle.values.specs.declared.Form.the-variants.{MassOrName, MassOnly, Digits, Alnums, Free, Composed}
 use Rattle.values.specs.Within.{told, takesMass}
 
 -- ---- what holds at each key of an arm holds at its number
@@ -30,7 +30,7 @@ abbrev pub formAt : ℕ → Form
 formAt n =
     getD
     (MassOrName ∷ MassOrName ∷ MassOrName ∷ MassOrName ∷ MassOrName ∷ MassOrName ∷ MassOrName ∷ MassOnly ∷ Digits ∷ Digits ∷ Digits ∷ Alnums ∷ Alnums
-    ∷ Free ∷ Free ∷ Free ∷ Free ∷ Free ∷ [])
+    ∷ Free ∷ Free ∷ Composed ∷ Free ∷ Free ∷ [])
     n MassOrName
 
 pub form-by-tag : (k : Key) → formAt (tagOf key.the-type k) ≡ told (form k)
@@ -62,14 +62,15 @@ mass-by-tag MassOnly = refl
 mass-by-tag Digits = refl
 mass-by-tag Alnums = refl
 mass-by-tag Free = refl
+mass-by-tag Composed = refl
 
 pub takes : (f : Form) (b : Bool) → OneOf (0 ∷ 1 ∷ []) (tagOf form-type.the-type f) → b ≡ (takesMass f && b)
 takes f b o =
     let e : takesMass f ≡ true = sym (mass-by-tag f) ∙ at-key (λ n. massAt n ≡ true) (0 ∷ 1 ∷ []) _ o (refl, (refl, tt)) in rw e
 
-pub takes-not : (f : Form) (b : Bool) → OneOf (2 ∷ 3 ∷ 4 ∷ []) (tagOf form-type.the-type f) → false ≡ (takesMass f && b)
+pub takes-not : (f : Form) (b : Bool) → OneOf (2 ∷ 3 ∷ 4 ∷ 5 ∷ []) (tagOf form-type.the-type f) → false ≡ (takesMass f && b)
 takes-not f b o =
-    let e : takesMass f ≡ false = sym (mass-by-tag f) ∙ at-key (λ n. massAt n ≡ false) (2 ∷ 3 ∷ 4 ∷ []) _ o (refl, (refl, (refl, tt))) in rw e
+    let e : takesMass f ≡ false = sym (mass-by-tag f) ∙ at-key (λ n. massAt n ≡ false) (2 ∷ 3 ∷ 4 ∷ 5 ∷ []) _ o (refl, (refl, (refl, (refl, tt)))) in rw e
 
 -- ---- every key but one
 abbrev others : List ℕ

@@ -20,7 +20,7 @@ use Rattle.scope.specs.declared.grammar.Key.{Key}
 use Rattle.scope.specs.declared.tables.Number.{Number as Kept}
 use Rattle.scope.specs.Line.{Number, mass, text}
 use Rattle.scope.specs.Keys.{written, form, hashIsPlain}
-use Rattle.scope.specs.Layout.{massCode, textCode, referenceCode}
+use Rattle.scope.specs.Layout.{massCode, textCode}
 use Rattle.scope.specs.Lists.{given, part}
 use Rattle.scope.specs.Content.{Digits, digitStep, numberEnd, Context, inNumber, inText, Content, lost, going, valueEnd, textEnd, unlabelled, innerStep}
 use Rattle.scope.specs.Reading.{Held, nothing, front}
@@ -34,7 +34,7 @@ use Rattle.sheet.specs.Rows.{massNoted, decimalsNoted}
 use Rattle.values.specs.declared.Value.{Value}
 use Rattle.values.specs.declared.ValueAt.{ValueAt}
 use Rattle.values.specs.declared.ValueAt.the-variants.{Stuck, Read}
-use Rattle.values.specs.Says.{through, codeOf, coded}
+use Rattle.values.specs.Says.{through, wideCode, codeOf, coded}
 use Rattle.values.specs.Within.{SaysFrom, deepIn}
 use Rattle.values.proofs.Through.{through-same}
 use Rattle.values.proofs.Saying.{said-before, over, lost-there}
@@ -100,7 +100,7 @@ module _ (line : List ℕ) (at : ℕ) (key : Key) (sign j : ℕ) (d : Digits) (s
           is = same-value key e p (sym (facts .2)) q r (empty-deep (at + length (written key)));
           place = refl;
           bare = refl;
-          stands = record { text-is = refl; text-inside = omega arith; label-is = refl; label-inside = omega arith };
+          stands = record { as-read = tt; text-is = refl; text-inside = omega arith; label-is = refl; label-inside = omega arith };
           ends = tt;
           past = omega (arith, facts .0);
           within = facts .1;
@@ -117,11 +117,11 @@ module _ (line : List ℕ) (at : ℕ) (key : Key) (sign j : ℕ) (d : Digits) (s
         let n = i .range in
         mass-found (i .number) e (i .is) massCode m (v .decimals) (rw n) (same ∙ mass-kept (i .number) v n (i .value)) (decimals-kept (i .number) v n (i .value))
 
-    pub mass-wide : (e : ℕ) → num ≡ NumWide e → SaysFrom line at j massStart (Read (made key (referenceCode + 1) sign e (pos 0) 0 0))
+    pub mass-wide : (e : ℕ) → num ≡ NumWide e → SaysFrom line at j massStart (Read (made key wideCode sign e (pos 0) 0 0))
     mass-wide e t =
         let i = out-of-range (scanNumber sign d (drop j line) j) e (sym scanned ∙ t) in
         let n = i .range in
-        mass-found (i .number) e (i .is) (referenceCode + 1) (pos 0) 0 (rw n) (rw n) (rw n)
+        mass-found (i .number) e (i .is) wideCode (pos 0) 0 (rw n) (rw n) (rw n)
 
     pub mass-none : (e : ℕ) → num ≡ NoNumber e → SaysFrom line at j massStart (Stuck e)
     unfolding SaysFrom
@@ -163,6 +163,7 @@ module _ (line : List ℕ) (at : ℕ) (key : Key) (from to deep : ℕ) (behind :
           place = refl;
           bare = refl;
           stands = record {
+            as-read = tt;
             text-is = rw (long, sym behind);
             text-inside = omega (arith, long);
             label-is = refl;

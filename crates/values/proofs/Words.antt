@@ -77,7 +77,7 @@ module _ (line : List ℕ) (at : ℕ) (refers? : Bool) (inside : at < length lin
           is = same-value NoKey at refl refl refl refl (empty-deep (at + length (written NoKey)));
           place = refl;
           bare = refl;
-          stands = record { text-is = refl; text-inside = omega arith; label-is = refl; label-inside = omega arith };
+          stands = record { as-read = tt; text-is = refl; text-inside = omega arith; label-is = refl; label-inside = omega arith };
           ends = refl;
           past = omega arith;
           within = omega arith;

@@ -7,13 +7,13 @@ use Prim.Native.Nat.{ℕ, _+_, _≤_}
 use lib.Dec.{ltb}
 use lib.ListN.{length, getD}
 use Rattle.scope.specs.declared.grammar.Slot.{Slot}
-use Rattle.scope.specs.Line.{Value as Written, mass, text, reference, Part}
+use Rattle.scope.specs.Line.{Value as Written, mass, text, reference, composition, Part}
 use Rattle.scope.specs.Keys.{written}
 use Rattle.scope.specs.Lists.{none?}
 use Rattle.scope.specs.Content.{Context, begin, Content, innerStep, valueEnd}
 use Rattle.scope.specs.Reading.{Held, resume, Reading, stuck}
 use Rattle.scope.specs.Refusals.{least, deepPart, inRange}
-use Rattle.scope.specs.Layout.{massCode, textCode, referenceCode}
+use Rattle.scope.specs.Layout.{massCode, textCode, referenceCode, compositionCode}
 use Rattle.reading_laws.specs.Run.{rest}
 pub use Rattle.texts.specs.Texts.{coded}
 use Rattle.sheet.specs.Rows.{textTo, decimalsNoted, massNoted, Stands}
@@ -34,16 +34,21 @@ abbrev pub GoesOn : List ℕ → ℕ → (Context ℕ → Type 0) → (Context �
 GoesOn line j C F i G = (s : Slot) (o : ℕ) (h : Held ℕ) (c : Context ℕ) → C c → through line s o h j (F c) ≡ through line s o h i (G c)
 
 -- ---- a part that has no label yet, as a value
--- a mass out of range has a code of its own
+-- a mass out of range has a code of its own, above those that the tables have
+abbrev pub wideCode : ℕ
+wideCode = compositionCode + 1
+
 abbrev pub codeOf : Written ℕ → ℕ
-codeOf (mass n) = cond (inRange n) massCode (referenceCode + 1)
+codeOf (mass n) = cond (inRange n) massCode wideCode
 codeOf (text t) = textCode
 codeOf reference = referenceCode
+codeOf (composition t n) = compositionCode
 
 abbrev pub fromOf : Part ℕ → Written ℕ → ℕ
 fromOf q (mass n) = n .at
 fromOf q (text t) = q .at + length (written (q .key))
 fromOf q reference = q .at
+fromOf q (composition t n) = q .at
 
 abbrev pub valueOf : Part ℕ → ℕ → Value
 valueOf q to =
@@ -62,6 +67,7 @@ abbrev pub EndsAt : Part ℕ → ℕ → Written ℕ → Type 0
 EndsAt q to (mass n) = Unit {0}
 EndsAt q to (text t) = to ≡ textTo q (q .value)
 EndsAt q to reference = to ≡ q .at
+EndsAt q to (composition t n) = Unit {0}
 
 -- a part begins at `at`, and its value is v
 pub record IsValue (line : List ℕ) (at : ℕ) (v : Value) (q : Part ℕ) : Type 0 where

@@ -10,7 +10,7 @@ use Rattle.scope.specs.declared.grammar.Key.{Key}
 use Rattle.scope.specs.declared.grammar.Key.the-variants.{NoKey}
 use Rattle.scope.specs.Bytes.{colon}
 use Rattle.scope.specs.Line.{Part}
-use Rattle.scope.specs.Keys.{Form as FormOf, massOrName, massOnly, digits, alnums, free}
+use Rattle.scope.specs.Keys.{Form as FormOf, massOrName, massOnly, digits, alnums, free, composed}
 use Rattle.scope.specs.Lists.{part}
 use Rattle.scope.specs.Content.{isPlain, Context, Content, valueEnd}
 use Rattle.scope.specs.Reading.{Held, stuck}
@@ -19,7 +19,7 @@ use Rattle.words.specs.Words.{keyFound}
 use Rattle.classes.specs.Runs.{span}
 use Rattle.values.specs.Says.{through, coded, IsValue}
 use Rattle.values.specs.declared.Form.{Form}
-use Rattle.values.specs.declared.Form.the-variants.{MassOrName, MassOnly, Digits, Alnums, Free}
+use Rattle.values.specs.declared.Form.the-variants.{MassOrName, MassOnly, Digits, Alnums, Free, Composed}
 use Rattle.values.specs.declared.Value.{Value}
 use Rattle.values.specs.declared.ValueAt.{ValueAt}
 use Rattle.values.specs.declared.ValueAt.the-variants.{Stuck, Read}
@@ -41,6 +41,7 @@ told massOnly = MassOnly
 told digits = Digits
 told alnums = Alnums
 told free = Free
+told composed = Composed
 
 -- a mass may stand behind a key of this form
 abbrev pub takesMass : Form → Bool
@@ -49,6 +50,7 @@ takesMass MassOnly = true
 takesMass Digits = false
 takesMass Alnums = false
 takesMass Free = false
+takesMass Composed = false
 
 -- the key that the bytes from a place to a colon spell
 unfoldable pub keyBefore : List ℕ → ℕ → ℕ → Key

@@ -17,7 +17,7 @@ ghost use Rattle.classes.specs.Runs.{span};
 ghost use Rattle.values.specs.Says.{ValueSays};
 ghost use Rattle.values.specs.Within.{SaysFrom, told, takesMass, PlainTo, deepIn, keyBefore};
 
-// The key; what stands behind it (1 a mass, 2 a text, 3 a reference, 4 a mass out of range); where that begins (the first byte of a text, the sign of a mass, the `#` of
+// The key; what stands behind it (1 a mass, 2 a text, 3 a reference, 5 a mass out of range); where that begins (the first byte of a text, the sign of a mass, the `#` of
 // a reference) and the place behind it (of a reference, its `#`); of a mass in range its millionths and decimals; of a text, one more than the place where a pair is
 // too deep, or 0.
 pub struct Value {
@@ -31,14 +31,14 @@ pub struct Value {
 }
 
 impl Value {
-    // the codes of what stands behind a key
+    // the codes of what stands behind a key; 4 is a composition, which is read as a text
     pub const MASS: u8 = 1;
 
     pub const TEXT: u8 = 2;
 
     pub const REFERENCE: u8 = 3;
 
-    pub const WIDE: u8 = 4;
+    pub const WIDE: u8 = 5;
 }
 
 // A value, or the place where none goes on.
@@ -47,13 +47,14 @@ pub enum ValueAt {
     Read(Value),
 }
 
-// What may stand behind a key: a mass or a name; a mass; digits; letters or digits; a text in which `#` is plain.
+// What may stand behind a key: a mass or a name; a mass; digits; letters or digits; a text in which `#` is plain; a composition.
 enum Form {
     MassOrName,
     MassOnly,
     Digits,
     Alnums,
     Free,
+    Composed,
 }
 
 fn form_of(key: Key) -> Form
@@ -64,7 +65,8 @@ fn form_of(key: Key) -> Form
         Key::Obs => Form::MassOnly,
         Key::Unimod | Key::Mod | Key::Xlmod => Form::Digits,
         Key::Resid | Key::Gno => Form::Alnums,
-        Key::Info | Key::Formula | Key::Glycan | Key::Position | Key::Limit => Form::Free,
+        Key::Info | Key::Formula | Key::Position | Key::Limit => Form::Free,
+        Key::Glycan => Form::Composed,
     }
 }
 
@@ -144,7 +146,7 @@ fn mass_behind(line: &[u8], form: Form, at: usize) -> bool
 {
     match form {
         Form::MassOrName | Form::MassOnly => signed_at(line, at),
-        Form::Digits | Form::Alnums | Form::Free => false,
+        Form::Digits | Form::Alnums | Form::Free | Form::Composed => false,
     }
 }
 
@@ -163,6 +165,7 @@ fn behind_key(line: &[u8], key: Key, from: usize) -> ValueAt
         Form::Digits => text_of(key, from, classes::digit_end(line, from), 0),
         Form::Alnums => text_of(key, from, classes::alnum_end(line, from), 0),
         Form::Free => text_from(line, key, from, from, true),
+        Form::Composed => text_from(line, key, from, from, false),
     }
 }
 

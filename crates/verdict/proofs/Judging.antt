@@ -7,9 +7,10 @@ use native.Mathlib.Omega.{arith}
 use borrow.Author.Tests.{lt-ltb, le-ltb, ltb-true, ltb-false}
 use lib.Dec.{ltb}
 use lib.IntN.{ℤ}
-use lib.ListN.{length}
+use lib.ListN.{length, length-map}
 use Rattle.scope.specs.Bytes.{wideLimit, isPrintable}
 use Rattle.scope.specs.Limits.{lineLimit}
+use Rattle.scope.specs.Kept.{keptBracket, kept}
 use Rattle.scope.specs.Line.{Bracket, Line}
 use Rattle.scope.specs.Reading.{stuck, holds, reading}
 use Rattle.scope.specs.Refusals.{accepted, refused, lineRefusals, outcome}
@@ -17,13 +18,16 @@ use Rattle.scope.specs.Positions.{floaters}
 use Rattle.scope.specs.Answers.{good, refuses, saysOutcome}
 use Rattle.basics.specs.Each.{Each}
 use Rattle.accepted_laws.specs.Laws.{accepted-within}
+use Rattle.reading_laws.specs.Compositions.{floaters-kept}
+use Rattle.reading_laws.specs.Laws.{Clear}
 use Rattle.reading_laws.specs.Printable.{order-printable}
+use Rattle.reading_laws.specs.Taken.{Taken, taken, taken-back}
 use Rattle.classes.specs.Runs.{span}
 use Rattle.sheet.specs.Rows.{Roomy, LineNoted}
-use Rattle.dues.specs.Ranks.{lowest, noCode, numberAt, decoded}
+use Rattle.dues.specs.Ranks.{code, lowest, noCode, numberAt, decoded}
 use Rattle.dues.specs.First.{Fits}
-use Rattle.dues.specs.Lines.{metCodes, ruledCodes}
-use Rattle.dues.specs.Met.{lowest-below, lowest-two}
+use Rattle.dues.specs.Lines.{infoRank, metCodes, ruledCodes}
+use Rattle.dues.specs.Steps.{lowest-after}
 use Rattle.dues.specs.Judged.{by-codes, met-first}
 use Rattle.dues.specs.Inside.{places-fit}
 use Rattle.dues.specs.Few.{FewOf, few-of}
@@ -52,23 +56,26 @@ module _ {line heads parts : List ℕ} {brackets least : ℕ} (w : WalkedLine li
   fits : Each Fits (lineRefusals (w .held))
   fits = places-fit line (w .held) (w .is) (w .short)
 
-  -- something is met
-  pub met-is-first : least < n → {many : ℕ} → (l : Line ℕ) → reading line ≡ holds l → FirstOf l least many
+  -- one of 5 to 9 is met
+  pub met-is-first : least < code infoRank 0 → {many : ℕ} → (l : Line ℕ) → reading line ≡ holds l → FirstOf l least many
   met-is-first h {many} l e =
       subst (λ l. FirstOf l least many) (same-line l e)
       (record {
-        first-is = w .least-is ∙ sym (met-first (w .held) fits (subst (λ c. c < n) (w .least-is) h));
+        first-is = w .least-is ∙ sym (met-first (w .held) fits (subst (λ c. c < code infoRank 0) (w .least-is) h));
         floaters-are = λ none. absurd (omega arith);
       })
 
-  module _ (clear : n ≤ least) where
-    none-met : n ≤ lowest n met
-    none-met = subst (λ c. n ≤ c) (w .least-is) clear
+  -- what is met, with what the rules find, is the first
+  ruled-first : {c : ℕ} → c ≡ lowest least (ruledCodes (w .held .brackets)) → c ≡ firstCode (w .held)
+  ruled-first e =
+      let ruled = ruledCodes (w .held .brackets) in
+      e ∙ ap (λ k. lowest k ruled) (w .least-is) ∙ sym (lowest-after n met ruled)
 
+  module _ (clear : code infoRank 0 ≤ least) where
     few : FewOf (w .held)
-    few = few-of (w .held) fits none-met
+    few = few-of (w .held) fits (subst (λ c. code infoRank 0 ≤ c) (w .least-is) clear)
 
-    -- nothing is met: all brackets and parts are noted
+    -- none of 5 to 9 is met: all brackets and parts are noted
     pub all-noted : Ruled line heads parts brackets (w .held .brackets)
     all-noted =
         record {
@@ -83,15 +90,6 @@ module _ {line heads parts : List ℕ} {brackets least : ℕ} (w : WalkedLine li
           heads-room = w .heads-room;
           parts-room = w .parts-room;
         }
-
-    -- and what the rules find is the first
-    ruled-first : {c : ℕ} → c ≡ lowest least (ruledCodes (w .held .brackets)) → c ≡ firstCode (w .held)
-    ruled-first {c} e =
-        let ruled = ruledCodes (w .held .brackets) in
-        let none-due : least ≡ n = omega (arith, w .least-is, clear, lowest-below n met) in
-        let met-none : lowest n met ≡ n = omega (arith, none-met, lowest-below n met) in
-        let found : c ≡ lowest n ruled = e ∙ ap (λ k. lowest k ruled) none-due in
-        omega (arith, found, met-none, lowest-two n met ruled, lowest-below n ruled)
 
     pub ruled-is-first : {c many : ℕ} → ((ks : List (Bracket ℕ)) → Ruled line heads parts brackets ks → Finds ks least c many)
         → (l : Line ℕ) → reading line ≡ holds l → FirstOf l c many
@@ -115,6 +113,18 @@ unprintable-is line end place e h = rw (lt-ltb (span isPrintable line) (length l
 
 pub stuck-is : (line : List ℕ) (end place : ℕ) → end ≡ span isPrintable line → length line ≤ end → Refused 4 place ≡ unread line place
 stuck-is line end place e h = rw (le-ltb (span isPrintable line) (length line) (subst (λ x. length line ≤ x) e h))
+
+-- ---- a line that is accepted
+-- with the line as it was read
+as-read : (line : List ℕ) (l : Line ℕ) → reading line ≡ holds l → outcome line ≡ accepted (kept l) → Taken line (kept l)
+as-read line l e q =
+    let t = taken line (kept l) q in
+    let same : t .read ≡ l = (let f : holds (t .read) ≡ holds l = sym (t .reads) ∙ e in cc) in
+    record { read = l; bytes = t .bytes; reads = e; clear = subst (λ r. Clear (lineRefusals r)) same (t .clear); keeps = refl }
+
+-- as many copies float in what is kept of it
+as-many-float : (l : Line ℕ) → length (floaters l) ≡ length (floaters (kept l))
+as-many-float l = sym (ap length (floaters-kept l) ∙ length-map (floaters l) keptBracket)
 
 -- ---- the answer
 -- tables that keep their lengths keep their room
@@ -165,25 +175,26 @@ module _ (line : List ℕ) (some-byte : length line ≡ 0 → ⊥) (short : leng
 
     pub line-says : (c many : ℕ) (r : Judged) → ((l : Line ℕ) → reading line ≡ holds l → FirstOf l c many)
         → ((l : Line ℕ) → r ≡ byCode l c residues brackets many) → Says r
+    unfolding as-read
     line-says c many r first answer = subst Says (sym (answer l)) (go (ltb c (noCode (lineRefusals l))) refl decides)
       where
         l : Line ℕ
         l = w .held
 
-        decides : decoded (lineRefusals l) c (accepted l) ≡ outcome line
+        decides : decoded (lineRefusals l) c (accepted (kept l)) ≡ outcome line
         decides =
-            ap (λ k. decoded (lineRefusals l) k (accepted l)) (first l (w .is) .first-is)
+            ap (λ k. decoded (lineRefusals l) k (accepted (kept l))) (first l (w .is) .first-is)
             ∙ by-codes l (places-fit line l (w .is) short)
             ∙ sym (of-order line some-byte short l (w .is))
 
         go : (t : Bool) → ltb c (noCode (lineRefusals l)) ≡ t
-            → cond t (refused (numberAt (lineRefusals l) (c / wideLimit)) (c % wideLimit)) (accepted l) ≡ outcome line
+            → cond t (refused (numberAt (lineRefusals l) (c / wideLimit)) (c % wideLimit)) (accepted (kept l)) ≡ outcome line
             → Says (cond t (Refused (numberAt (lineRefusals l) (c / wideLimit)) (c % wideLimit)) (Holds residues brackets many))
         go true q e = sym e
         go false q e = (
-          l,
+          kept l,
           record {
-            is-accepted = sym e;
+            taken = as-read line l (w .is) (sym e);
             parts-many = w .parts;
             noted = w .noted;
             lettered = w .lettered;
@@ -191,7 +202,7 @@ module _ (line : List ℕ) (some-byte : length line ≡ 0 → ⊥) (short : leng
             residues-are = w .residues-are;
             brackets-are = w .brackets-are;
           },
-          first l (w .is) .floaters-are (ltb-false _ _ q) (accepted-within line l (sym e) .few-copies),
+          first l (w .is) .floaters-are (ltb-false _ _ q) (omega (arith, as-many-float l, accepted-within line (kept l) (sym e) .few-copies)) ∙ as-many-float l,
         )
 
 -- ---- the verdict
@@ -200,4 +211,4 @@ verdict-refused line e = ap saysOutcome (sym e)
 
 pub verdict-accepted : (line : List ℕ) {letters sections heads parts : List ℕ} {masses scores : List ℤ} {residues brackets : ℕ} {l : Line ℕ}
     → LineNoted line letters sections heads parts masses scores residues brackets l → good tt ≡ saysOutcome (outcome line)
-verdict-accepted line w = ap saysOutcome (sym (w .is-accepted))
+verdict-accepted line {l = l} w = ap saysOutcome (sym (taken-back line l (w .taken)))

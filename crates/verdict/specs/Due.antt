@@ -23,7 +23,7 @@ use Rattle.verdict.specs.declared.Judged.the-variants.{Refused, Holds}
 abbrev pub unread : List ℕ → ℕ → Judged
 unread line place = cond (ltb (span isPrintable line) (length line)) (Refused 3 (span isPrintable line)) (Refused 4 place)
 
--- the line is of the order, its brackets are noted, and `least` is the first refusal due of 5 to 9
+-- the line is of the order, its brackets are noted, and `least` is the first refusal due of 5 to 9 and 19
 pub record WalkedLine (line heads parts : List ℕ) (brackets least : ℕ) : Type 0 where
   pub held : Line ℕ
   pub is : reading line ≡ holds held
@@ -37,7 +37,7 @@ pub record WalkedLine (line heads parts : List ℕ) (brackets least : ℕ) : Typ
   pub heads-room : headsRoom ≤ length heads
   pub parts-room : partsRoom ≤ length parts
 
--- the code of the first refusal due of 5 to 12
+-- the code of the first refusal due of 5 to 12 and 19
 abbrev pub firstCode : Line ℕ → ℕ
 firstCode l = lowest (noCode (lineRefusals l)) (metCodes (l .residues) (l .brackets) ++ ruledCodes (l .brackets))
 

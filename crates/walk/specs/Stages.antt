@@ -18,7 +18,7 @@ use Rattle.reading_laws.specs.Acts.{ways, someWay, endsRun, endsTerm, counts}
 use Rattle.reading_laws.specs.Run.{rest}
 use Rattle.sheet.specs.Rows.{massesRoom, Noted, Lettered, Roomy}
 use Rattle.dues.specs.Ranks.{code, lowest}
-use Rattle.dues.specs.Lines.{copiesRank, metCodes}
+use Rattle.dues.specs.Lines.{uncutRank, metCodes}
 use Rattle.walk.specs.declared.Stage.{Stage}
 
 -- ---- the brackets at the front
@@ -79,7 +79,7 @@ HasRoom t = Roomy (t .letters) (t .sections) (t .heads) (t .parts) (t .masses) (
 -- ---- what is known at a stage
 -- above every code
 abbrev pub nothingDue : ℕ
-nothingDue = code (copiesRank + 1) 0
+nothingDue = code (uncutRank + 1) 0
 
 -- n residues are read, and the position of the group's first is that of the definition
 pub record ResiduesAre (n group : ℕ) (rs : List (Residue ℕ)) (first : ℕ) (letters sections : List ℕ) : Type 0 where

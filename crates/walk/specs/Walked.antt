@@ -1,4 +1,4 @@
--- What walking a line says: the place of refusal 4, or what the line holds, as the tables note it, and the first refusal due of 5 to 9.
+-- What walking a line says: the place of refusal 4, or what the line holds, as the tables note it, and the first refusal due of 5 to 9 and 19.
 use mathlib.Core.Path.{_≡_}
 use mathlib.Core.List.{List}
 use Prim.Native.Nat.{ℕ}

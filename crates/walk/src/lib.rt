@@ -1,4 +1,4 @@
-// A line, walked once: a row for each bracket and each part, the letters, and the first refusal due of 5 to 9; or the place of refusal 4.
+// A line, walked once: a row for each bracket and each part, the letters, and the first refusal due of 5 to 9 and 19; or the place of refusal 4.
 use inside::BracketAt;
 use inside::Parts;
 use scope::grammar::Act;
@@ -27,7 +27,7 @@ ghost use Rattle.walk.specs.Stages.{TablesLent, lent, Upto, Low, firstSt
 ghost use Rattle.walk.specs.Steps.{goneTo, settledIn, Settled, countPut, wrongCount, CountNoted, behind, groupOf, lettersPut, sectionsPut, RunSays, runBehind, HeadSays, NotedSays, BracketAsks, BracketStep, Stepped};
 ghost use Rattle.walk.specs.Walked.{WalkSays};
 
-// The place where no line goes on; or how many residues and brackets the line holds, and the first refusal due of 5 to 9.
+// The place where no line goes on; or how many residues and brackets the line holds, and the first refusal due of 5 to 9 and 19.
 pub enum Walked {
     Stuck(usize),
     Holds {

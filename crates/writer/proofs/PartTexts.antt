@@ -11,8 +11,8 @@ use Rattle.scope.specs.Canonical.{massText, scoreText, valueText, labelText, pa
 use Rattle.scope.specs.Lists.{given, part}
 use Rattle.scope.specs.Keys.{written, keyIn}
 use Rattle.scope.specs.Line.{Part}
-use Rattle.scope.specs.Layout.{massCode, textCode, textsAt, numberIn, scoreIn, labelIn, valueIn, partIn, decimalsField, keyField, labelField, massField, offsetField, scoreField, scoreNumber, textField, valueField}
-use Rattle.writer.specs.Written.{scoredText, nextText}
+use Rattle.scope.specs.Layout.{massCode, textCode, compositionCode, textsAt, numberIn, scoreIn, labelIn, valueIn, partIn, decimalsField, keyField, labelField, massField, offsetField, scoreField, scoreNumber, textField, valueField}
+use Rattle.writer.specs.Written.{textAt, scoredText, nextText}
 
 -- ---- scores, labels and values
 module _ (bs : List ℕ) (ns : List ℤ) (k : ℕ) where
@@ -46,20 +46,18 @@ module _ (bs : List ℕ) (ns : List ℤ) (k : ℕ) where
           let q : eqb (valueField bs k j) massCode ≡ true = eq-eqb _ _ (sym e ∙ o) in
           rw (q, f, g)
 
-      pub value-text :
-          {n from : ℕ} → v ≡ textCode → n ≡ textField bs k j → from ≡ textsAt + offsetField bs k j
-          → part from n bs ≡ valueText (valueIn bs ns k j)
-      value-text o g f =
-          let p : valueField bs k j ≡ textCode = sym e ∙ o in
-          let q : eqb (valueField bs k j) massCode ≡ false = rw p in
-          let r : eqb (valueField bs k j) textCode ≡ true = rw p in
-          rw (q, r, f, g)
+      pub value-text : v ≡ textCode → textAt bs k j ≡ valueText (valueIn bs ns k j)
+      value-text o = let q : valueField bs k j ≡ textCode = sym e ∙ o in rw q
 
-      pub value-none : (v ≡ massCode → ⊥) → (v ≡ textCode → ⊥) → [] ≡ valueText (valueIn bs ns k j)
-      value-none o w =
-          let q : eqb (valueField bs k j) massCode ≡ false = ne-eqb _ _ (λ h. o (e ∙ h)) in
-          let r : eqb (valueField bs k j) textCode ≡ false = ne-eqb _ _ (λ h. w (e ∙ h)) in
-          rw (q, r)
+      pub value-composition : v ≡ compositionCode → textAt bs k j ≡ valueText (valueIn bs ns k j)
+      value-composition o = let q : valueField bs k j ≡ compositionCode = sym e ∙ o in rw q
+
+      pub value-none : (v ≡ massCode → ⊥) → (v ≡ textCode → ⊥) → (v ≡ compositionCode → ⊥) → [] ≡ valueText (valueIn bs ns k j)
+      value-none o p w =
+          let q : eqb (valueField bs k j) massCode ≡ false = ne-eqb _ _ (λ z. o (e ∙ z)) in
+          let r : eqb (valueField bs k j) textCode ≡ false = ne-eqb _ _ (λ z. p (e ∙ z)) in
+          let s : eqb (valueField bs k j) compositionCode ≡ false = ne-eqb _ _ (λ z. w (e ∙ z)) in
+          rw (q, r, s)
 
     pub part-text :
         {c : ℕ} → c ≡ keyField bs k j

@@ -9,7 +9,8 @@ use lib.Dec.{eqb}
 use Rattle.scope.specs.Bytes.{openRound, shutRound, bar}
 use Rattle.scope.specs.Limits.{residueLimit, bracketLimit, partLimit, textLimit, labelLimit}
 use Rattle.scope.specs.Line.{Number, Part}
-use Rattle.scope.specs.Lists.{given}
+use Rattle.scope.specs.Lists.{given, part}
+use Rattle.scope.specs.Layout.{textsAt, textField, offsetField}
 use Rattle.scope.specs.Canonical.{scoreText, partText}
 use Rattle.figures.specs.Written.{ceiling, numberMost, countMost}
 use Rattle.spelling.specs.Widths.{keyMost}
@@ -63,6 +64,10 @@ abbrev pub lineMost : ℕ
 lineMost = bracketsMost + (residuesMost + (frontMost + 1))
 
 -- ---- what is written
+-- the text of part j of bracket k
+abbrev pub textAt : List ℕ → ℕ → ℕ → List ℕ
+textAt bs k j = part (textsAt + offsetField bs k j) (textField bs k j) bs
+
 -- a score in its round brackets, where there is one
 abbrev pub scoredText : {P : Type 0} → Option (Number P) → List ℕ
 scoredText n = given n (λ s. openRound ∷ (scoreText s ++ (shutRound ∷ []))) []

@@ -14,19 +14,21 @@ ghost use Rattle.scope.specs.declared.grammar.Kind.the-variants.{OnResidue, OnR
 ghost use Rattle.scope.specs.Bytes.{wideLimit, dash, shutRound};
 ghost use Rattle.scope.specs.Canonical.{valueText, labelText, partText, partsText, opening, ending, isNext, goesOn, sequenceText, closedBy, ledBy, canonical};
 ghost use Rattle.scope.specs.Lists.{given, tabled};
-ghost use Rattle.scope.specs.Limits.{residueLimit, bracketLimit, partLimit};
+ghost use Rattle.scope.specs.Limits.{residueLimit, bracketLimit, partLimit, textLimit};
 ghost use Rattle.scope.specs.Layout.{bytesSize, textsAt, scoreIn, labelIn, valueIn, partIn, sectionIn, residueIn, bracketIn, tablesIn, bracketsField, offsetField, partsField, residuesField};
 ghost use Rattle.scope.specs.Kinds.{kindIn};
 ghost use Rattle.areas.specs.Bounds.{Bounds};
 ghost use Rattle.figures.specs.Written.{Puts, ceiling};
-ghost use Rattle.writer.specs.Written.{valueMost, scoreMost, labelMost, partMost, nextMost, partsMost, betweenMost, bracketMost, residueMost, residuesMost, frontMost, lineMost, scoredText, nextText, WholeLine};
+ghost use Rattle.writer.specs.Written.{valueMost, scoreMost, labelMost, partMost, nextMost, partsMost, betweenMost, bracketMost, residueMost, residuesMost, frontMost, lineMost, textAt, scoredText, nextText, WholeLine};
 ghost use Rattle.writer.specs.Here.{BracketHere, PartHere, RoomFor};
 ghost use Rattle.writer.specs.Ranks.{rankOf, rankIn, cTermRank, orderedb, ReadyToWrite, textAs, rankedText, runText, frontText, Walks, residueText, NoneBelow, Behind, Spells, InOrder};
 
-// The codes of a part's value: a mass, a text.
+// The codes of a part's value: a mass, a text, a composition.
 const MASS: usize = 1;
 
 const TEXT: usize = 2;
+
+const COMPOSITION: usize = 4;
 
 // The codes of the kinds of brackets; any other number means an unknown position.
 const UNKNOWN: usize = 1;
@@ -96,6 +98,16 @@ fn put_label(bytes: &[u8], numbers: &[i64], k: usize, j: usize, out: &mut [u8], 
     put_scored(bytes, numbers, k, out, e)
 }
 
+// The text of part j.
+fn put_text(bytes: &[u8], k: usize, j: usize, out: &mut [u8], at: usize) -> usize
+    requires { ⌜ ((ns : List ℤ) × PartHere (now bytes) ns k j) × (at + textLimit ≤ ceiling) ⌝ }
+    ensures { λ r. ⌜ Puts textLimit (now (out .entry)) at (textAt (now (bytes .entry)) k j) (now (out .exit)) r ⌝ }
+{
+    let n = areas::text_length(bytes, k, j);
+    let from = text_from(bytes, k, j);
+    copy(bytes, from, n, out, at)
+}
+
 // The mass or the text of part j.
 fn put_value(bytes: &[u8], numbers: &[i64], k: usize, j: usize, out: &mut [u8], at: usize) -> usize
     requires { ⌜ PartHere (now bytes) (now numbers) k j × (at + valueMost ≤ ceiling) ⌝ }
@@ -108,9 +120,10 @@ fn put_value(bytes: &[u8], numbers: &[i64], k: usize, j: usize, out: &mut [u8], 
         return put_number(m, d, true, out, at);
     }
     if v == TEXT {
-        let n = areas::text_length(bytes, k, j);
-        let from = text_from(bytes, k, j);
-        return copy(bytes, from, n, out, at);
+        return put_text(bytes, k, j, out, at);
+    }
+    if v == COMPOSITION {
+        return put_text(bytes, k, j, out, at);
     }
     at
 }

@@ -1,6 +1,7 @@
 -- `entries::put_report` meets its contract: what the verdict has noted of an accepted line is printed, or the refusal that it answers, and each arm says which of the two the outcome is. Assumes nothing.
 use mathlib.Core.Path.{refl, sym, ap}
 use native.Mathlib.Omega.{arith}
+use Rattle.store.proofs.NotedLine.{is-accepted}
 use Rattle.reader.proofs.Storing.{fills}
 use Rattle.figures.proofs.Storing.{puts-of, puts-within, puts-length}
 use Rattle.entries.specs.Entry.{isRefused}
@@ -15,7 +16,7 @@ put-taken-requires c κs =
     let j : tie.After-judge = search in
     let s : tie.Start = search in
     let w = rw (m .judged .given .1) at (j .judge .ensures) in
-    (fills (w .1) (s .pre .1), floats-of (s .args .line .now) (w .1 .is-accepted) (w .2), omega arith)
+    (fills (w .1) (s .pre .1), floats-of (s .args .line .now) (is-accepted {l = w .0} (w .1)) (w .2), omega arith)
 
 returns : tie.Need-returns
 returns c =
@@ -23,7 +24,7 @@ returns c =
     let m : tie.After-judged = search in
     let j : tie.After-judge = search in
     let w = rw (m .judged .given .1) at (j .judge .ensures) in
-    (t .put-taken .ensures, ap isRefused (sym (w .1 .is-accepted)))
+    (t .put-taken .ensures, ap isRefused (sym (is-accepted {l = w .0} (w .1))))
 
 returns-2 : tie.Need-returns-2
 returns-2 c =

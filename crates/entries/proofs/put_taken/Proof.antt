@@ -1,6 +1,7 @@
 -- `entries::put_taken` meets its contract: the line's tables are stored, printed and wiped, which leaves the areas as they were. Assumes nothing.
 use native.Mathlib.Omega.{arith}
 use mathlib.Core.Path.{refl}
+use Rattle.store.proofs.NotedLine.{is-accepted}
 use Rattle.reader.proofs.Storing.{filled, holds-of}
 use Rattle.reader.proofs.Wiping.{put-back}
 use Rattle.figures.proofs.Storing.{puts-of, puts-length}
@@ -14,14 +15,14 @@ put-accepted-requires c κs =
     let p : tie.After-store = search in
     let s : tie.Start = search in
     let f = s .pre .0 in
-    (known (f .holds-line) (f .line-noted .is-accepted) (filled (p .store .ensures)), omega arith)
+    (known (f .holds-line) (is-accepted (f .line-noted)) (filled (p .store .ensures)), omega arith)
 
 wipe-requires : tie.Need-wipe-requires
 wipe-requires c κs =
     let p : tie.After-store = search in
     let s : tie.Start = search in
     let f = s .pre .0 in
-    record { text = s .args .line .now; long = refl; held = f .holds-line; holds = holds-of (f .holds-line) (f .line-noted .is-accepted) (filled (p .store .ensures)) }
+    record { text = s .args .line .now; long = refl; held = f .holds-line; holds = holds-of (f .holds-line) (is-accepted (f .line-noted)) (filled (p .store .ensures)) }
 
 returns : tie.Need-returns
 returns c =

@@ -13,15 +13,15 @@ returns c =
     let labels = offsets .before in
     let texts = labels .before in
     let decimals = texts .before in
-    let keys = decimals .before .before in
-    let values = keys .before .before in
-    let known = values .before .before in
-    let start = known .before .before in
+    let keys = decimals .before in
+    let values = keys .before in
+    let known : tie.After-shared-slice-known = search in
+    let start : tie.Start = search in
     let pre = start .pre in
-    fields-told (record { low = λ i. omega (arith, known .shared-slice-known2 .given i); long = pre .2 }) (start .args .k) (start .args .j) (pre .3) (pre .4)
-    (tells-equal (values .before .value .ensures .0) (values .value-of .ensures .0))
-    (tells-equal (keys .before .key .ensures .0) (keys .key-of .ensures .0))
-    (tells-equal (decimals .before .decimals .ensures .0) (decimals .decimals-of .ensures .0))
+    fields-told (record { low = λ i. omega (arith, known .shared-slice-known .given i); long = pre .0 }) (start .args .k) (start .args .j) (pre .1) (pre .2)
+    (tells-equal (values .value .ensures .0) refl)
+    (tells-equal (keys .key .ensures .0) refl)
+    (tells-equal (decimals .decimals .ensures .0) refl)
     (tells-equal (texts .text-length .ensures .0) refl)
     (tells-equal (labels .label-length .ensures .0) refl)
     (tells-equal (offsets .offset .ensures .0) refl)
@@ -30,5 +30,4 @@ pub fields-held-spec : {M : Type 1} → statement M
 fields-held-spec =
     tie.close
     (tie.spec
-    (λ c κs. search needs) (λ c κs. search needs) (λ c κs. search needs) (λ c κs. search needs) (λ c κs. search needs) (λ c κs. search needs)
-    (λ c κs. search needs) (λ c κs. search needs) (λ c κs. search needs) returns)
+    (λ c κs. search needs) (λ c κs. search needs) (λ c κs. search needs) (λ c κs. search needs) (λ c κs. search needs) (λ c κs. search needs) returns)

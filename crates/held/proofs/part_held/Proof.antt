@@ -1,30 +1,33 @@
--- `held::part_held` meets its contract: the row, the text, the label, the mass. Assumes nothing.
-use Rattle.store.proofs.PutRows.{back}
-use Rattle.held.proofs.PartLaws.{part-seen}
-use borrow.Author.Needs.{needs}
+-- `held::part_held` meets its contract: a composition, or as it is noted. Assumes nothing.
+use mathlib.Core.Path.{sym, _∙_}
+use Rattle.store.proofs.PutRows.{composed-fits, noted-fits}
 use Rattle.held.proofs.part_held.Statement.{statement}
 use Rattle.held.proofs.part_held.Tie as tie
 
+is-composition-requires : tie.Need-is-composition-requires
+is-composition-requires c κs =
+    let s : tie.Start = search in
+    (s .pre .parts-room, s .pre .few-rows)
+
+composition-held-requires : tie.Need-composition-held-requires
+composition-held-requires c κs =
+    let i : tie.After-is-composition = search in
+    let s : tie.Start = search in
+    let yes : tie.Then1 = search in
+    composed-fits (s .pre) (sym (i .is-composition .ensures) ∙ yes .if1 .taken)
+
+noted-held-requires : tie.Need-noted-held-requires
+noted-held-requires c κs =
+    let i : tie.After-is-composition = search in
+    let s : tie.Start = search in
+    let no : tie.Else1 = search in
+    noted-fits (s .pre) (sym (i .is-composition .ensures) ∙ no .if1 .left)
+
 returns : tie.Need-returns
-returns c =
-    let number = c .before in
-    let mass = number .before in
-    let label = mass .before in
-    let text = label .before in
-    let fields = text .before in
-    let offset = fields .before in
-    let ends = offset .before in
-    let label-at = ends .before in
-    let to = label-at .before in
-    let text-at = to .before in
-    let start : tie.Start = search in
-    part-seen (start .args .seen) (start .pre) (text-at .text-from .ensures .0) (to .text-to .ensures .0) (label-at .label-from .ensures .0) (ends .label-to .ensures .0)
-    (offset .offset-of .ensures .0) (fields .fields-held .ensures) (text .same-bytes .ensures) (label .same-bytes2 .ensures) (back _ (mass .mass .ok) (mass .mass .ensures)) (number .is-number .ensures)
+returns c = c .composition-held .ensures
+
+returns-2 : tie.Need-returns-2
+returns-2 c = c .noted-held .ensures
 
 pub part-held-spec : {M : Type 1} → statement M
-part-held-spec =
-    tie.close
-    (tie.spec
-    (λ c κs. search needs) (λ c κs. search needs) (λ c. search needs) (λ c κs. search needs) (λ c κs. search needs) (λ c. search needs)
-    (λ c. search needs) (λ c κs. search needs) (λ c κs. search needs) (λ c. search needs) (λ c κs. search needs) (λ c. search needs)
-    (λ c. search needs) (λ c κs. search needs) (λ c κs. search needs) (λ c κs. search needs) (λ c. search needs) (λ c. search needs) returns)
+part-held-spec = tie.close (tie.spec is-composition-requires composition-held-requires returns noted-held-requires returns-2)

@@ -1,5 +1,6 @@
 -- `reader::read_roomy` meets its contract: what the verdict refuses changes nothing, and what it has noted is stored. Assumes nothing.
 use borrow.Author.Needs.{needs}
+use Rattle.store.proofs.NotedLine.{is-accepted}
 use Rattle.reader.proofs.Reading.{refuses-line, accepts-line}
 use Rattle.reader.proofs.read_roomy.Statement.{statement}
 use Rattle.reader.proofs.read_roomy.Tie as tie
@@ -26,7 +27,7 @@ returns-2 c =
     let j : tie.After-judge = search in
     let s : tie.Start = search in
     let w = rw (m .judged2 .given .1) at (j .judge .ensures) in
-    accepts-line _ _ _ (s .pre .0) (s .pre .1) (w .0) (w .1 .is-accepted) _ _ (p .store-anew .ensures)
+    accepts-line _ _ _ (s .pre .0) (s .pre .1) (w .0) (is-accepted {l = w .0} (w .1)) _ _ (p .store-anew .ensures)
 
 pub read-roomy-spec : {M : Type 1} → statement M
 read-roomy-spec =

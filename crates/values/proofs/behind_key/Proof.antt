@@ -3,12 +3,12 @@ use borrow.Author.Needs.{needs}
 use native.Mathlib.Omega.{arith}
 use mathlib.Core.Path.{refl, sym, ap, _∙_}
 use Rattle.scope.specs.Bytes.{isDigit, isAlnum}
-use Rattle.scope.specs.Keys.{hashIsPlain, accessionByte}
+use Rattle.scope.specs.Keys.{free, composed, hashIsPlain, accessionByte}
 use Rattle.scope.specs.Content.{behindKey}
-use Rattle.values.specs.declared.Form.the-variants.{MassOrName, MassOnly, Digits, Alnums, Free}
+use Rattle.values.specs.declared.Form.the-variants.{MassOrName, MassOnly, Digits, Alnums, Free, Composed}
 use Rattle.values.proofs.Depths.{digit-quiet, alnum-quiet, none-deep}
 use Rattle.values.proofs.Through.{run-after, run-upto, run-inside}
-use Rattle.values.proofs.Begins.{form-is, key-signed, key-unsigned, key-mass, key-name, key-nothing, key-free, key-code}
+use Rattle.values.proofs.Begins.{form-is, key-signed, key-unsigned, key-mass, key-name, key-nothing, key-text, key-code}
 use Rattle.values.proofs.behind_key.Statement.{statement}
 use Rattle.values.proofs.behind_key.Tie as tie
 
@@ -63,7 +63,14 @@ returns-6 c = λ at w.
     let m : tie.After-form-of = search in
     let s = m .before .before in
     let f = form-is (s .args .key) _ Free (m .form-of .ensures) (c .before .enum-told5 .given .1) in
-    key-free (s .args .line .now) at (s .args .key) (s .args .from) f _ (c .text-from2 .ensures at (ap hashIsPlain f) w (omega arith))
+    key-text (s .args .line .now) at (s .args .key) (s .args .from) free f (λ x. refl) _ (c .text-from2 .ensures at (ap hashIsPlain f) w (omega arith))
+
+returns-7 : tie.Need-returns-7
+returns-7 c = λ at w.
+    let m : tie.After-form-of = search in
+    let s = m .before .before in
+    let f = form-is (s .args .key) _ Composed (m .form-of .ensures) (c .before .enum-told6 .given .1) in
+    key-text (s .args .line .now) at (s .args .key) (s .args .from) composed f (λ x. refl) _ (c .text-from3 .ensures at (ap hashIsPlain f) w (omega arith))
 
 pub behind-key-spec : {M : Type 1} → statement M
-behind-key-spec = tie.close (tie.spec (λ c κs. search needs) (λ c κs. search needs) mass-at-requires returns (λ c. search needs) (λ c κs. search needs) (λ c. search needs) (λ c. search needs) (λ c κs. search needs) (λ c κs. search needs) (λ c. search needs) (λ c κs. search needs) (λ c κs. search needs) (λ c. search needs) (λ c κs. search needs) returns-2 returns-3 returns-4 returns-5 returns-6)
+behind-key-spec = tie.close (tie.spec (λ c κs. search needs) (λ c κs. search needs) mass-at-requires returns (λ c. search needs) (λ c κs. search needs) (λ c. search needs) (λ c. search needs) (λ c κs. search needs) (λ c κs. search needs) (λ c. search needs) (λ c κs. search needs) (λ c κs. search needs) (λ c. search needs) (λ c κs. search needs) (λ c. search needs) (λ c κs. search needs) returns-2 returns-3 returns-4 returns-5 returns-6 returns-7)

@@ -20,8 +20,8 @@ returns-4 c = at-key (λ n. Alnums ≡ formAt n) (11 ∷ 12 ∷ []) _ (c .match 
 
 returns-5 : tie.Need-returns-5
 returns-5 c =
-    at-key (λ n. Free ≡ formAt n) (13 ∷ 14 ∷ 15 ∷ 16 ∷ 17 ∷ []) _ (c .match .keys5) (refl, (refl, (refl, (refl, (refl, tt))))) ∙ form-by-tag (c .before .args .key)
+    at-key (λ n. Free ≡ formAt n) (13 ∷ 14 ∷ 16 ∷ 17 ∷ []) _ (c .match .keys5) (refl, (refl, (refl, (refl, tt)))) ∙ form-by-tag (c .before .args .key)
 
 pub form-of-spec : {M : Type 1} → statement M
 form-of-spec =
-    tie.close (tie.spec (λ c. search needs) returns (λ c. rw (c .enum-told .given .1)) returns-3 returns-4 returns-5)
+    tie.close (tie.spec (λ c. search needs) (λ c. search needs) returns (λ c. rw (c .enum-told .given .1)) returns-3 returns-4 returns-5 (λ c. rw (c .enum-told2 .given .1)))

@@ -1,4 +1,4 @@
--- `first_due` meets its contract: what is met is the first; where nothing is met, what the rules find. Assumes nothing.
+-- `first_due` meets its contract: what is met is the first, where it is one of 5 to 9; else it is, with what the rules find. Assumes nothing.
 use Rattle.verdict.proofs.Judging.{met-is-first, all-noted, ruled-is-first}
 use Rattle.verdict.proofs.first_due.Statement.{statement}
 use Rattle.verdict.proofs.first_due.Tie as tie

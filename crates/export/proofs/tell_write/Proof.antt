@@ -1,9 +1,9 @@
--- `export::tables::tell_write` meets its contract: a refusal other than 15 leaves the length.
+-- `export::tell_write` meets its contract: a refusal other than 15 leaves the length.
 use mathlib.Core.Path.{refl}
 use Rattle.export.proofs.Told.{length-kept}
 use borrow.Author.Needs.{needs}
-use Rattle.export.proofs.tables.tell_write.Statement.{statement}
-use Rattle.export.proofs.tables.tell_write.Tie as tie
+use Rattle.export.proofs.tell_write.Statement.{statement}
+use Rattle.export.proofs.tell_write.Tie as tie
 
 returns-3 : tie.Need-returns-3
 returns-3 c = rw (c .before .before .w2 .given .1) (record { number-is = refl; count-is = length-kept _ _ _ (c .if1 .left) })

@@ -15,7 +15,7 @@
  * it also links without one. The code is position independent. It has no state, no locks and no thread storage, takes no memory, and does no input or output: calls
  * may run at the same time, on areas of their own.
  *
- * Stack, in KiB, the most that is measured on lines and areas made to take much (tests/stack.c): hwemiduk_version, hwemiduk_limits and hwemiduk_first_row 1,
+ * Stack, in KiB, the most that is measured on lines and areas made to take much (tests/stack.c): hwemiduk_version, hwemiduk_limits, hwemiduk_composition and hwemiduk_first_row 1,
  * hwemiduk_verdict and hwemiduk_read 11, hwemiduk_entry 25, hwemiduk_ledger and hwemiduk_rows 19, every other call 16. Have 64 KiB free.
  *
  * Link libhwemiduk.a or libhwemiduk.so.0 (`make`, `make install`; pkg-config hwemiduk). The number behind .so is raised when a struct here changes its form or its
@@ -49,7 +49,7 @@ enum hwemiduk_answer {
     HWEMIDUK_TOO_DEEP = 5,        /* pairs nested more than eight deep */
     HWEMIDUK_TOO_MANY = 6,        /* too many residues (254), brackets (64) or parts (4), a text over 128 bytes or a label over 16 */
     HWEMIDUK_OUT_OF_RANGE = 7,    /* a mass or score of a million or more or with more than 6 decimals, a count outside 1 to 99 */
-    HWEMIDUK_NOT_TAKEN = 8,       /* something that is not taken here: Formula, Glycan, Position, Limit, CoMKP, CoMUP, labels XL.. and BRANCH */
+    HWEMIDUK_NOT_TAKEN = 8,       /* something that is not taken here: Formula, Position, Limit, CoMKP, CoMUP, labels XL.. and BRANCH */
     HWEMIDUK_NAME_OF_DIGITS = 9,  /* prefix U or M with a name of digits only */
     HWEMIDUK_ONLY_INFO = 10,      /* only INFO in a bracket of unknown position or a labile one */
     HWEMIDUK_BAD_LABEL = 11,      /* labels that do not fit: a second one, one defined again, a reference without definition, a count on a labelled bracket, one in an unknown run that nothing refers to */
@@ -59,7 +59,8 @@ enum hwemiduk_answer {
     HWEMIDUK_SHORT_OUTPUT = 15,   /* the output is shorter than what is to be written */
     HWEMIDUK_NO_MASS = 16,        /* a modification has no mass */
     HWEMIDUK_NO_FURTHER = 17,     /* no placement, no further one, no such row or bracket */
-    HWEMIDUK_NOT_ALLOWED = 18     /* a placement that is not allowed */
+    HWEMIDUK_NOT_ALLOWED = 18,    /* a placement that is not allowed */
+    HWEMIDUK_NO_CUTTING = 19      /* a composition that cannot be cut into listed names and counts */
 };
 
 /* An answer in words. */
@@ -74,7 +75,7 @@ static inline const char *hwemiduk_words(uint8_t answer)
     case HWEMIDUK_TOO_DEEP: return "pairs nested more than eight deep";
     case HWEMIDUK_TOO_MANY: return "too many residues (254), brackets (64) or parts (4), a text over 128 bytes or a label over 16";
     case HWEMIDUK_OUT_OF_RANGE: return "a mass or score of a million or more or with more than 6 decimals, a count outside 1 to 99";
-    case HWEMIDUK_NOT_TAKEN: return "something that is not taken here: Formula, Glycan, Position, Limit, CoMKP, CoMUP, labels XL.. and BRANCH";
+    case HWEMIDUK_NOT_TAKEN: return "something that is not taken here: Formula, Position, Limit, CoMKP, CoMUP, labels XL.. and BRANCH";
     case HWEMIDUK_NAME_OF_DIGITS: return "prefix U or M with a name of digits only";
     case HWEMIDUK_ONLY_INFO: return "only INFO in a bracket of unknown position or a labile one";
     case HWEMIDUK_BAD_LABEL: return "labels that do not fit: a second one, one defined again, a reference without definition, a count on a labelled bracket, one in an unknown run that nothing refers to";
@@ -85,6 +86,7 @@ static inline const char *hwemiduk_words(uint8_t answer)
     case HWEMIDUK_NO_MASS: return "a modification has no mass";
     case HWEMIDUK_NO_FURTHER: return "no placement, no further one, no such row or bracket";
     case HWEMIDUK_NOT_ALLOWED: return "a placement that is not allowed";
+    case HWEMIDUK_NO_CUTTING: return "a composition that cannot be cut into listed names and counts";
     default: return "an answer that this header does not know";
     }
 }
@@ -98,6 +100,8 @@ static inline const char *hwemiduk_words(uint8_t answer)
 #define HWEMIDUK_COPIES 8        /* floating copies of a line: entries of a placement */
 #define HWEMIDUK_POSITIONS (HWEMIDUK_RESIDUES + 2)              /* entries of a ledger: N-terminus, residues, C-terminus */
 #define HWEMIDUK_ROWS (HWEMIDUK_COPIES * HWEMIDUK_POSITIONS)    /* rows of floater and position */
+#define HWEMIDUK_PIECES 42       /* pieces of a part's composition: a name has three bytes or more, and a text no more than 128 */
+#define HWEMIDUK_SUGARS 24       /* names that a composition is made of (hwemiduk_sugar) */
 
 typedef struct hwemiduk_limits_t {
     size_t line;       /* bytes of a line, the end of line not counted */
@@ -173,16 +177,16 @@ enum hwemiduk_head {
 enum hwemiduk_part {
     HWEMIDUK_PART_VALUE = 0,         /* of hwemiduk_value */
     HWEMIDUK_PART_KEY = 1,           /* of hwemiduk_key */
-    HWEMIDUK_PART_DECIMALS = 2,      /* of a mass, the decimals as written; else 0 */
-    HWEMIDUK_PART_TEXT = 3,          /* bytes of its text, behind key or prefix; 0 of a mass and of a reference */
+    HWEMIDUK_PART_DECIMALS = 2,      /* of a mass, the decimals as written; of a composition 4; else 0 */
+    HWEMIDUK_PART_TEXT = 3,          /* bytes of its text, behind key or prefix, of a composition as it is written in the canonical line; 0 of a mass and of a reference */
     HWEMIDUK_PART_LABEL = 4,         /* bytes of its label; 0 where it has none */
     HWEMIDUK_PART_OFFSET = 5         /* where its text begins, counted from HWEMIDUK_TEXTS_AT, two bytes; its label directly follows the text. A mass or reference
                                         with a label has the label there. 0 where it has neither text nor label */
 };
 
 /*
- * Texts and labels are packed in order of appearance, without anything between them. In the numbers, the mass of a part that is a mass, in millionths, else 0; the
- * score of the bracket's label, in millionths, else 0.
+ * Texts and labels are packed in order of appearance, without anything between them. In the numbers, the mass of a part that is a mass or a composition, in millionths,
+ * else 0; the score of the bracket's label, in millionths, else 0.
  */
 enum hwemiduk_section {
     HWEMIDUK_PLAIN = 0,          /* in no range and no group */
@@ -204,7 +208,8 @@ enum hwemiduk_kind {
 enum hwemiduk_value {
     HWEMIDUK_MASS = 1,
     HWEMIDUK_TEXT = 2,        /* a name, an accession or an INFO */
-    HWEMIDUK_REFERENCE = 3    /* a lone reference: its part has a label and nothing else */
+    HWEMIDUK_REFERENCE = 3,   /* a lone reference: its part has a label and nothing else */
+    HWEMIDUK_COMPOSITION = 4  /* a glycan composition: a text, in the list's spelling and without counts of 1, and a mass; its key is HWEMIDUK_GLYCAN */
 };
 
 enum hwemiduk_key {
@@ -221,19 +226,20 @@ enum hwemiduk_key {
     HWEMIDUK_XLMOD = 10,
     HWEMIDUK_RESID = 11,
     HWEMIDUK_GNO = 12,
-    HWEMIDUK_INFO = 13
+    HWEMIDUK_INFO = 13,
+    HWEMIDUK_GLYCAN = 15    /* 14, 16 and 17 are keys that are not taken here, and stand in no tables */
 };
 
 /* ---- Reading and writing */
 
 /*
- * Whether a line is accepted: 0, or the lowest of 1 to 12 that is due, with the refusal's first place in the line in *place, bytes counted from 0; where the line
- * should go on and ends, it is the line's length.
+ * Whether a line is accepted: 0, or the lowest of 1 to 12 and 19 that is due, with the refusal's first place in the line in *place, bytes counted from 0; where the
+ * line should go on and ends, it is the line's length.
  */
 uint8_t hwemiduk_verdict(const uint8_t *line, size_t line_len, size_t *place);
 
 /*
- * Reads a line: 0 with its tables in the areas; or 13, if an area is shorter than limits.bytes or limits.numbers, with 0 in *place; or 1 to 12 and *place as
+ * Reads a line: 0 with its tables in the areas; or 13, if an area is shorter than limits.bytes or limits.numbers, with 0 in *place; or 1 to 12 or 19 and *place as
  * hwemiduk_verdict gives them.
  */
 uint8_t hwemiduk_read(const uint8_t *line, size_t line_len, uint8_t *bytes, size_t bytes_len, int64_t *numbers, size_t numbers_len, size_t *place);
@@ -283,6 +289,26 @@ uint8_t hwemiduk_bracket_mass(const uint8_t *bytes, size_t bytes_len, const int6
  * *daltons; or 13 or 14.
  */
 uint8_t hwemiduk_shown(const uint8_t *bytes, size_t bytes_len, const int64_t *numbers, size_t numbers_len, double *daltons, size_t *missing);
+
+/* ---- Compositions: names of the list of ProForma 2.1, section 10.2, in either case, each perhaps with a count of 1 to 99 without leading zeros. */
+
+/* The name with this number, counted from 0 in the order of the list, in its spelling; empty where there is none. */
+static inline const char *hwemiduk_sugar(uint8_t number)
+{
+    static const char *const names[HWEMIDUK_SUGARS] = {
+        "Hex", "HexNAc", "HexS", "HexP", "HexNAcS", "HexN", "HexNS", "dHex", "aHex", "en,aHex", "Neu", "NeuAc", "NeuGc",
+        "Sug", "Tri", "Tet", "Pen", "Hep", "Oct", "Non", "Dec", "Fuc", "Sulfate", "Phosphate"
+    };
+    return number < HWEMIDUK_SUGARS ? names[number] : "";
+}
+
+/*
+ * Cuts a text, as it stands behind Glycan: in a line or in the texts of an area, into listed names and counts: 0 with two bytes for each piece in pieces, in the order of
+ * the text, the number of its name (hwemiduk_sugar) and its count, 1 to 99, which is 1 where none is written, and the number of these bytes in *length; or 15 with the
+ * length needed in *length; or 19 where the text cannot be cut so. There is never more than one way to cut a text. It may have any bytes and any length; an empty one has
+ * no pieces. 2 * HWEMIDUK_PIECES bytes are enough for each text in the areas, and two bytes for every three of any text.
+ */
+uint8_t hwemiduk_composition(const uint8_t *text, size_t text_len, uint8_t *pieces, size_t pieces_len, size_t *length);
 
 /* ---- Placements: the position of each floating copy, limits.copies entries, unused ones 0. Of a longer slice the first entries count. */
 

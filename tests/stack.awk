@@ -18,4 +18,12 @@ BEGIN {
     print "[a#a][b#b][c#c][d#d][e#e][f#f][g#g][h#h]?A[#a][#b]C[#b][#c]D[#c][#d]E[#d][#e]F[#e][#f]G[#f][#g]H[#g][#h]I[#h][#a]"
     print "A[x|y|z|Obs:+1.5]"
     print "A[+1#a(0.5)]C[#a(-0.25)]-[UNIMOD:35]"
+    for (i = 1; i <= 42; i++) sugars = sugars "Hex"
+    for (i = 1; i <= 25; i++) counted = counted "Dec99"
+    print "A[Glycan:" sugars "][Glycan:" counted "]"
+    for (i = 1; i <= 30; i++) glycans = glycans "[Glycan:" counted "]"
+    print "A" glycans
+    print counted
+    while (length(sugars) < 4000) sugars = sugars sugars
+    print sugars
 }

@@ -11,11 +11,11 @@
 #define SIZE (256 * 1024)
 #define PAINT 0xC3
 
-enum call { NOTHING, VERSION, LIMITS, VERDICT, READ, ENTRY, WRITE, RESIDUES, BRACKETS, FLOATERS, FLOATER_BRACKETS, TOTAL, BRACKET_MASS, SHOWN, ALLOWED, NEXT, LEDGER, ROWS, FIRST_ROW, CALLS };
+enum call { NOTHING, VERSION, LIMITS, VERDICT, READ, ENTRY, WRITE, RESIDUES, BRACKETS, FLOATERS, FLOATER_BRACKETS, TOTAL, BRACKET_MASS, SHOWN, ALLOWED, NEXT, LEDGER, ROWS, FIRST_ROW, COMPOSITION, CALLS };
 static const char *const names[CALLS] = { "nothing", "version", "limits", "verdict", "read", "entry", "write", "residues", "brackets", "floaters", "floater_brackets", "total", "bracket_mass", "shown", "allowed", "next",
-    "ledger", "rows", "first_row" };
+    "ledger", "rows", "first_row", "composition" };
 /* in KiB, as the header says */
-static const size_t said[CALLS] = { 0, 1, 1, 11, 11, 25, 16, 16, 16, 16, 16, 16, 16, 16, 16, 16, 19, 19, 1 };
+static const size_t said[CALLS] = { 0, 1, 1, 11, 11, 25, 16, 16, 16, 16, 16, 16, 16, 16, 16, 16, 19, 19, 1, 1 };
 static size_t most[CALLS];
 
 static _Alignas(64) unsigned char stack[SIZE];
@@ -61,6 +61,7 @@ static void run(void)
     case LEDGER: hwemiduk_ledger(HWEMIDUK_OF(&tables), placement, HWEMIDUK_COPIES, entries, HWEMIDUK_POSITIONS, &place); break;
     case ROWS: hwemiduk_rows(HWEMIDUK_OF(&tables), rows, HWEMIDUK_ROWS, &place); break;
     case FIRST_ROW: hwemiduk_first_row(rows, HWEMIDUK_ROWS, HWEMIDUK_ROWS, 9, &index, &position); break;
+    case COMPOSITION: hwemiduk_composition(line, length, out, sizeof out, &place); break;
     default: break;
     }
 }

@@ -5,9 +5,9 @@
 #include <stdio.h>
 #include <string.h>
 
-/* kinds 1 to 6, all sections, a mass with a label, one without, a reference, scores, a count, keys, prefixes, two parts */
-static const char line[] = "[+1#a(0.5)][Acetyl|INFO:x]^2?{Hex}[U:Oxidation]-(?ac)(DE)[M:y|Obs:-2.50]F[#a(-1.25)]-[UNIMOD:35]";
-static const char texts[] = "aAcetylxHexOxidationya35";
+/* kinds 1 to 6, all sections, a mass with a label, one without, a reference, scores, a count, keys, prefixes, two parts, a composition with a label */
+static const char line[] = "[+1#a(0.5)][Acetyl|INFO:x]^2?{Hex}[U:Oxidation]-(?ac)(DE)[M:y|Obs:-2.50]F[#a(-1.25)][x|glycan:HEXNAC1hex2#b]-[UNIMOD:35]";
+static const char texts[] = "aAcetylxHexOxidationyaxHexNAcHex2b35";
 
 static int wrong = 0;
 
@@ -32,14 +32,15 @@ int main(void)
         int kind, first, last, count, parts, score;
         long long score_millionths;
         struct { int value, key, decimals, text, label, offset; long long millionths; } part[2];
-    } rows[7] = {
+    } rows[8] = {
         { HWEMIDUK_UNKNOWN, 0, 0, 1, 1, 2, 500000, { { HWEMIDUK_MASS, HWEMIDUK_NO_KEY, 0, 0, 1, 0, 1000000 }, { 0, 0, 0, 0, 0, 0, 0 } } },
         { HWEMIDUK_UNKNOWN, 0, 0, 2, 2, 0, 0, { { HWEMIDUK_TEXT, HWEMIDUK_NO_KEY, 0, 6, 0, 1, 0 }, { HWEMIDUK_TEXT, HWEMIDUK_INFO, 0, 1, 0, 7, 0 } } },
         { HWEMIDUK_LABILE, 0, 0, 1, 1, 0, 0, { { HWEMIDUK_TEXT, HWEMIDUK_NO_KEY, 0, 3, 0, 8, 0 }, { 0, 0, 0, 0, 0, 0, 0 } } },
         { HWEMIDUK_NTERM, 0, 0, 1, 1, 0, 0, { { HWEMIDUK_TEXT, HWEMIDUK_U, 0, 9, 0, 11, 0 }, { 0, 0, 0, 0, 0, 0, 0 } } },
         { HWEMIDUK_ON_RANGE, 3, 4, 1, 2, 0, 0, { { HWEMIDUK_TEXT, HWEMIDUK_M, 0, 1, 0, 20, 0 }, { HWEMIDUK_MASS, HWEMIDUK_OBS, 2, 0, 0, 0, -2500000 } } },
         { HWEMIDUK_ON_RESIDUE, 5, 5, 1, 1, 3, -1250000, { { HWEMIDUK_REFERENCE, HWEMIDUK_NO_KEY, 0, 0, 1, 21, 0 }, { 0, 0, 0, 0, 0, 0, 0 } } },
-        { HWEMIDUK_CTERM, 6, 6, 1, 1, 0, 0, { { HWEMIDUK_TEXT, HWEMIDUK_UNIMOD, 0, 2, 0, 22, 0 }, { 0, 0, 0, 0, 0, 0, 0 } } },
+        { HWEMIDUK_ON_RESIDUE, 5, 5, 1, 2, 0, 0, { { HWEMIDUK_TEXT, HWEMIDUK_NO_KEY, 0, 1, 0, 22, 0 }, { HWEMIDUK_COMPOSITION, HWEMIDUK_GLYCAN, 4, 10, 1, 23, 527184900 } } },
+        { HWEMIDUK_CTERM, 6, 6, 1, 1, 0, 0, { { HWEMIDUK_TEXT, HWEMIDUK_UNIMOD, 0, 2, 0, 34, 0 }, { 0, 0, 0, 0, 0, 0, 0 } } },
     };
     static const int sections[5] = { HWEMIDUK_UNSURE_FIRST, HWEMIDUK_UNSURE_NEXT, HWEMIDUK_RANGE_FIRST, HWEMIDUK_RANGE_NEXT, HWEMIDUK_PLAIN };
     static hwemiduk_tables tables;
@@ -50,11 +51,11 @@ int main(void)
     same("answer", 0, hwemiduk_read((const uint8_t *)line, strlen(line), HWEMIDUK_OF(&tables), &place), HWEMIDUK_OK);
 
     wide(expected + HWEMIDUK_RESIDUES_AT, 5);
-    expected[HWEMIDUK_BRACKETS_USED_AT] = 7;
+    expected[HWEMIDUK_BRACKETS_USED_AT] = 8;
     memcpy(expected + HWEMIDUK_LETTERS_AT, "ACDEF", 5);
     for (int i = 0; i < 5; i++)
         expected[HWEMIDUK_SECTIONS_AT + i] = (uint8_t)sections[i];
-    for (int k = 0; k < 7; k++) {
+    for (int k = 0; k < 8; k++) {
         uint8_t *head = expected + HWEMIDUK_BRACKET_AT(k);
         head[HWEMIDUK_HEAD_KIND] = (uint8_t)rows[k].kind;
         wide(head + HWEMIDUK_HEAD_FIRST, rows[k].first);
@@ -84,7 +85,7 @@ int main(void)
     same("two bytes", 0, HWEMIDUK_WIDE_AT(low_first), 0x9234);
     same("residues", HWEMIDUK_RESIDUES_AT, HWEMIDUK_WIDE_AT(tables.bytes + HWEMIDUK_RESIDUES_AT), 5);
 
-    for (int answer = 1; answer <= 18; answer++)
+    for (int answer = 1; answer <= 19; answer++)
         printf("%d\t%s\n", answer, hwemiduk_words((uint8_t)answer));
     return wrong;
 }

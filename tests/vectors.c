@@ -122,6 +122,41 @@ static void brackets_and_floaters(const uint8_t *bytes, const int64_t *numbers, 
     free(of);
 }
 
+/*
+ * The pieces of the text of each part, into a room that just holds as many as a text of its length can have. A composition has pieces, and they spell its text; into one
+ * byte less than they take, nothing is written, and the length needed is told. Of another text, that it is no composition is no trouble.
+ */
+static void compositions(const uint8_t *bytes, size_t brackets)
+{
+    for (size_t k = 0; k < brackets; k++)
+        for (size_t j = 0; j < bytes[HWEMIDUK_BRACKET_AT(k) + HWEMIDUK_HEAD_PARTS]; j++) {
+            const uint8_t *part = bytes + HWEMIDUK_PART_AT(k, j);
+            size_t length = part[HWEMIDUK_PART_TEXT], size = 2 * (length / 3), used = JUNK, needed = JUNK, end = 0;
+            uint8_t *text = (uint8_t *)room(length), *pieces = (uint8_t *)room(size);
+            memcpy(text, bytes + HWEMIDUK_TEXTS_AT + HWEMIDUK_WIDE_AT(part + HWEMIDUK_PART_OFFSET), length);
+            memset(pieces, JUNK, size);
+            uint8_t answer = hwemiduk_composition(text, length, pieces, size, &used);
+            expect(answer == HWEMIDUK_OK || (answer == HWEMIDUK_NO_CUTTING && used == JUNK && is_junk(pieces, size)), "pieces, or no cutting and nothing is set");
+            if (part[HWEMIDUK_PART_VALUE] == HWEMIDUK_COMPOSITION) {
+                char spelled[256] = "";
+                expect(answer == HWEMIDUK_OK && part[HWEMIDUK_PART_KEY] == HWEMIDUK_GLYCAN && used > 0 && used % 2 == 0 && used <= 2 * HWEMIDUK_PIECES, "a composition has pieces");
+                for (size_t i = 0; i < used; i += 2) {
+                    end += (size_t)snprintf(spelled + end, sizeof spelled - end, "%s", hwemiduk_sugar(pieces[i]));
+                    if (pieces[i + 1] != 1)
+                        end += (size_t)snprintf(spelled + end, sizeof spelled - end, "%d", pieces[i + 1]);
+                }
+                expect(end == length && memcmp(spelled, text, length) == 0, "the pieces spell the text");
+                free(pieces);
+                pieces = (uint8_t *)room(used - 1);
+                memset(pieces, JUNK, used - 1);
+                expect(hwemiduk_composition(text, length, pieces, used - 1, &needed) == HWEMIDUK_SHORT_OUTPUT && needed == used, "one byte less is too short");
+                expect(is_junk(pieces, used - 1), "15 writes no piece");
+            }
+            free(pieces);
+            free(text);
+        }
+}
+
 /* The rows; the same over junk, which stays behind them; and the first row of each floater and of two that there are not, whatever stands in the padding. */
 static void rows(const uint8_t *bytes, const int64_t *numbers, size_t floaters)
 {
@@ -256,6 +291,7 @@ static void accepted(uint8_t *bytes, int64_t *numbers)
     canonical(bytes, numbers);
     put("\n");
     brackets_and_floaters(bytes, numbers, brackets, floaters);
+    compositions(bytes, brackets);
     rows(bytes, numbers, floaters);
     placements(bytes, numbers, has_total);
     changed(bytes, numbers);

@@ -18,7 +18,9 @@
 //! millionths.
 
 use crate::canonical::canonical;
-use crate::line::{Bracket, Content, Key, Kind, Label, Line, Number, Part, Residue, Section};
+use crate::line::{
+    Bracket, Composition, Content, Key, Kind, Label, Line, Number, Part, Residue, Section,
+};
 use crate::reader::read;
 
 const RESIDUE_COUNT: usize = 0;
@@ -45,6 +47,7 @@ pub const NUMBERS_SIZE: usize = Line::MOST_BRACKETS * NUMBER_ROW;
 const MASS: u8 = 1;
 const TEXT: u8 = 2;
 const REFERENCE: u8 = 3;
+const COMPOSITION: u8 = 4;
 
 /// The areas that an accepted line reads to.
 pub fn encode(line: &Line) -> (Vec<u8>, Vec<i64>) {
@@ -113,18 +116,21 @@ fn encode_bracket(
     number_row[Bracket::MOST_PARTS] = score.map_or(0, |score| score.millionths);
     let parts = line.parts_of(bracket).iter();
     for (index, (part, row)) in parts.zip(part_rows.chunks_exact_mut(PART)).enumerate() {
-        if let Content::Mass(mass) = part.content {
-            number_row[index] = mass.millionths;
+        match &part.content {
+            Content::Mass(mass) => number_row[index] = mass.millionths,
+            Content::Composition(one) => number_row[index] = one.mass.millionths,
+            Content::Text(_) | Content::Reference => {}
         }
         encode_part(part, row, packer);
     }
 }
 
 fn encode_part(part: &Part, row: &mut [u8], packer: &mut Packer) {
-    let (kind, decimals, text): (u8, u8, &[u8]) = match part.content {
+    let (kind, decimals, text): (u8, u8, &[u8]) = match &part.content {
         Content::Mass(mass) => (MASS, mass.decimals, b""),
         Content::Text(text) => (TEXT, 0, text),
         Content::Reference => (REFERENCE, 0, b""),
+        Content::Composition(one) => (COMPOSITION, one.mass.decimals, &one.text),
     };
     let label = part.label.map_or(&b""[..], |label| label.name);
     let empty = text.is_empty() && label.is_empty();
@@ -227,6 +233,10 @@ fn decode_part<'a>(row: &[u8], mass: i64, texts: &'a [u8]) -> Option<Part<'a>> {
         MASS => Content::Mass(decode_number(mass, decimals)?),
         TEXT => Content::Text(text),
         REFERENCE => Content::Reference,
+        COMPOSITION => Content::Composition(Box::new(Composition {
+            text: text.to_vec(),
+            mass: decode_number(mass, decimals)?,
+        })),
         _ => return None,
     };
     Some(Part {

@@ -117,15 +117,16 @@ impl Writer<'_> {
 
     fn part(&mut self, part: &Part) {
         self.out.extend_from_slice(part.key.spelling());
-        match part.content {
+        match &part.content {
             Content::Mass(mass) => {
                 if mass.millionths >= 0 {
                     self.out.push(b'+');
                 }
-                write_number(mass, self.out);
+                write_number(*mass, self.out);
             }
             Content::Text(text) => self.out.extend_from_slice(text),
             Content::Reference => {}
+            Content::Composition(one) => self.out.extend_from_slice(&one.text),
         }
         if let Some(label) = &part.label {
             self.label(label);

@@ -3,6 +3,7 @@
 //! gives a number to. No line holds a byte 10, so that lines can be put in a
 //! file.
 
+use crate::glycans::SUGARS;
 use crate::line::Line;
 
 /// So many; where HWEMIDUK_SHARE is a number n, one of every n of them. The tests take that many generated lines, and expect that much of them.
@@ -277,6 +278,26 @@ const NUMBERS_OUT_OF_RANGE: [&str; 8] = [
 
 const COUNTS_IN_RANGE: [&str; 6] = ["1", "01", "2", "003", "1", "02"];
 const COUNTS_OUT_OF_RANGE: [&str; 6] = ["0", "00", "100", "0100", "1000", "18446744073709551617"];
+
+/// What no count of a name is.
+const BAD_COUNTS: [&str; 6] = ["0", "01", "00", "100", "1000", "1 "];
+
+const UNLISTED_NAMES: [&str; 9] = ["S", "Ac", "Gc", "NAc", "enaHex", "enHex", "Xyl", "a", "Man"];
+
+const NO_COMPOSITIONS: [&str; 9] = [
+    "{C8H13N1O5}1Hex2",
+    "Hex 10 HexNAc 4",
+    "Hex:5",
+    "+5",
+    "-162.05",
+    "x",
+    "HexN1Ac",
+    "[]",
+    "[|#]",
+];
+
+/// Bytes that mean something somewhere in a composition, or are taken for it.
+const TELLING_IN_COMPOSITIONS: &[u8] = b"0129 SsNnAaEeXxHhPp,+-.()";
 
 /// Bytes that mean something somewhere in a line.
 const TELLING_BYTES: &[u8] = b"[]{}()|#^?-+.:AaUx012 ,";
@@ -562,11 +583,86 @@ impl Generator {
 
     fn modification_part(&mut self) -> Inside {
         match self.random.below(20) {
+            12..=14 => self.composition_part(),
             _ if self.with_masses => self.mass_part(),
             0..=8 => self.mass_part(),
             9..=11 => self.accession_part(),
             _ => self.name_part(),
         }
+    }
+
+    fn composition_part(&mut self) -> Inside {
+        let mut part = self.cased("Glycan:");
+        part.extend(self.composition());
+        part
+    }
+
+    /// A few listed names with counts or without.
+    fn composition(&mut self) -> Vec<u8> {
+        let mut text = Vec::new();
+        for _ in 0..self.random.between(1, 4) {
+            let name = SUGARS[self.random.below(SUGARS.len())].name;
+            text.extend(self.cased(name));
+            match self.random.below(10) {
+                0..=4 => {}
+                5..=6 => text.push(b'1'),
+                7..=8 => text.push(b'2' + self.random.below(8) as u8),
+                _ => text.extend_from_slice(self.random.between(10, 99).to_string().as_bytes()),
+            }
+        }
+        text
+    }
+
+    /// A composition of this very length, which is 10 or more.
+    fn composition_of_length(&mut self, length: usize) -> Vec<u8> {
+        const LAST: &str = "Sug Hex9 Hex10 HexNAc en,aHex HexNAc12 Phosphate";
+        let mut text = Vec::new();
+        while length - text.len() > 12 {
+            let most = length - text.len() - 3;
+            let next = self.composition();
+            if next.len() <= most {
+                text.extend(next);
+            } else {
+                let piece = self.random.pick(&["Hex", "Fuc2", "NeuAc", "dHex99"]);
+                text.extend(self.cased(piece));
+            }
+        }
+        if length - text.len() > 9 {
+            text.extend(self.cased("Pen2"));
+        }
+        let left = length - text.len();
+        let last = LAST.split(' ').find(|piece| piece.len() == left);
+        text.extend(self.cased(last.expect("a piece of three to nine bytes")));
+        text
+    }
+
+    /// What no composition is, or hardly any: bytes of one changed, removed,
+    /// inserted or doubled, counts that are none, names that are not listed.
+    fn damaged_composition(&mut self) -> Vec<u8> {
+        let mut text = self.composition();
+        let index = self.random.below(text.len());
+        let byte = TELLING_IN_COMPOSITIONS[self.random.below(TELLING_IN_COMPOSITIONS.len())];
+        match self.random.below(12) {
+            0 => text[index] = byte,
+            1 => text.insert(index, byte),
+            2 if text.len() > 1 => {
+                text.remove(index);
+            }
+            3 => text.extend_from_slice(self.random.pick(&BAD_COUNTS).as_bytes()),
+            4 => text.insert(0, b'1' + self.random.below(9) as u8),
+            5 => text.extend_from_slice(self.random.pick(&UNLISTED_NAMES).as_bytes()),
+            6 => text = self.random.pick(&NO_COMPOSITIONS).into(),
+            7 => text.insert(index, b' '),
+            8 => {
+                let end = self.random.between(index, text.len());
+                let stretch = text[index..end].to_vec();
+                text.splice(end..end, stretch);
+            }
+            9 => text.truncate(index.max(1)),
+            10 => text.swap(index, 0),
+            _ => self.letters_or_digits(3, &mut text),
+        }
+        text
     }
 
     fn mass_part(&mut self) -> Inside {
@@ -708,7 +804,7 @@ impl Generator {
     // Faults
 
     fn spoil(&mut self, draft: &mut Draft) {
-        match self.random.below(19) {
+        match self.random.below(22) {
             0 => self.spoil_depth(draft),
             1..=2 => self.spoil_limits(draft),
             3..=4 => self.spoil_numbers(draft),
@@ -716,7 +812,8 @@ impl Generator {
             8..=9 => self.spoil_with_digits_for_name(draft),
             10..=11 => self.spoil_with_information(draft),
             12..=16 => self.spoil_labels(draft),
-            _ => self.spoil_floaters(draft),
+            17..=18 => self.spoil_floaters(draft),
+            _ => self.spoil_composition(draft),
         }
     }
 
@@ -794,6 +891,11 @@ impl Generator {
             }
             2 => part = self.cased("INFO:"),
             3 => part = self.prefix(),
+            4 if self.random.chance(50) => {
+                part = self.cased("Glycan:");
+                part.extend(self.composition_of_length(length));
+                return part;
+            }
             _ => {}
         }
         let pair = self.random.pick(&["[]", "{}", "{|#}", "", ""]);
@@ -847,9 +949,7 @@ impl Generator {
         let mut inside = Vec::new();
         match self.random.below(4) {
             0 => {
-                let key = self
-                    .random
-                    .pick(&["Formula:", "Glycan:", "Position:", "Limit:"]);
+                let key = self.random.pick(&["Formula:", "Position:", "Limit:"]);
                 inside = self.cased(key);
                 self.text(6, 0, false, &mut inside);
             }
@@ -952,6 +1052,24 @@ impl Generator {
         }
     }
 
+    /// Refusal 19.
+    fn spoil_composition(&mut self, draft: &mut Draft) {
+        let mut inside = self.cased("Glycan:");
+        if self.random.chance(80) {
+            inside.extend(self.damaged_composition());
+        } else {
+            let length = self.random.between(1, 12);
+            self.text(length, 0, true, &mut inside);
+        }
+        if self.random.chance(15) {
+            inside.extend(self.label("a"));
+        }
+        if self.random.chance(20) {
+            inside = [self.any_part(), inside].join(&b'|');
+        }
+        self.put(draft, inside);
+    }
+
     /// Adds an unlabelled bracket on a range or, without one, in the run.
     fn add_floating(&mut self, draft: &mut Draft, inside: Inside) {
         match draft.a_range(&mut self.random) {
@@ -968,7 +1086,7 @@ impl Generator {
             0 => self.draft(),
             _ => self.bare_draft_without_groups(3),
         };
-        match self.random.below(11) {
+        match self.random.below(12) {
             0 => {
                 let residues = self.random.between(252, 257);
                 draft = self.bare_draft_without_groups(residues);
@@ -1002,6 +1120,12 @@ impl Generator {
                 draft.add_unknown(inside, Some(count.into()));
             }
             7 => draft = self.draft_with_floaters_near_limit(),
+            8 => {
+                let length = self.random.between(126, 140);
+                let mut inside = self.cased("Glycan:");
+                inside.extend(self.composition_of_length(length));
+                self.put(&mut draft, inside);
+            }
             _ => {
                 let numbers = if self.random.chance(50) {
                     NUMBERS_IN_RANGE

@@ -1,13 +1,15 @@
-//! An independent reading of document 01: one line is one linear peptidoform.
+//! An independent reading of document 01, and of document 02 as far as it has
+//! landed (L1): one line is one linear peptidoform.
 //!
 //! Each module follows one part of the document. Nothing here is shared with
 //! the program it is compared against; the words in quotation marks in the
-//! comments are document 01's own.
+//! comments are the documents' own.
 
 pub mod areas;
 pub mod canonical;
 pub mod floating;
 pub mod generate;
+pub mod glycans;
 pub mod line;
 pub mod masses;
 pub mod positions;

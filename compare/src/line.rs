@@ -193,7 +193,7 @@ impl Kind {
 }
 
 /// A part with its key or prefix, its text or mass, and its label.
-#[derive(Clone, Copy, Debug, PartialEq, Eq)]
+#[derive(Clone, Debug, PartialEq, Eq)]
 pub struct Part<'a> {
     pub key: Key,
     pub content: Content<'a>,
@@ -207,13 +207,22 @@ impl Part<'_> {
     pub const DEEPEST_PAIR: usize = 8;
 }
 
-#[derive(Clone, Copy, Debug, PartialEq, Eq)]
+#[derive(Clone, Debug, PartialEq, Eq)]
 pub enum Content<'a> {
     Mass(Number),
     /// The text without its key or prefix.
     Text(&'a [u8]),
     /// A lone reference has its label and nothing else.
     Reference,
+    Composition(Box<Composition>),
+}
+
+/// "The list's spelling is written, a count of 1 dropped": a composition's text
+/// so, and its mass.
+#[derive(Clone, Debug, PartialEq, Eq)]
+pub struct Composition {
+    pub text: Vec<u8>,
+    pub mass: Number,
 }
 
 #[derive(Clone, Copy, Debug, PartialEq, Eq)]
@@ -233,10 +242,12 @@ pub enum Key {
     Resid = 11,
     Gno = 12,
     Info = 13,
+    /// 14, 16 and 17 are the keys of refusal 8.
+    Glycan = 15,
 }
 
 impl Key {
-    const ALL: [Key; 14] = [
+    const ALL: [Key; 15] = [
         Key::None,
         Key::U,
         Key::M,
@@ -251,10 +262,11 @@ impl Key {
         Key::Resid,
         Key::Gno,
         Key::Info,
+        Key::Glycan,
     ];
 
     pub fn from_byte(byte: u8) -> Option<Self> {
-        Self::ALL.get(usize::from(byte)).copied()
+        Self::ALL.iter().copied().find(|&key| key as u8 == byte)
     }
 
     /// The key and its colon "in the spelling given here".
@@ -274,6 +286,7 @@ impl Key {
             Key::Resid => b"RESID:",
             Key::Gno => b"GNO:",
             Key::Info => b"INFO:",
+            Key::Glycan => b"Glycan:",
         }
     }
 }

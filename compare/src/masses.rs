@@ -7,11 +7,13 @@ use crate::positions::{floaters, is_allowed, Placement};
 use crate::reader::read;
 
 /// "A bracket's mass is its first mass without `Obs`, else its first `Obs`
-/// mass, else none. Parts are synonyms and never added up."
+/// mass, else none. Parts are synonyms and never added up." "A composition
+/// enters demand 3 as a mass without `Obs`".
 pub fn bracket_mass(parts: &[Part]) -> Option<i64> {
     let mass_where = |observed: bool| {
-        parts.iter().find_map(|part| match part.content {
+        parts.iter().find_map(|part| match &part.content {
             Content::Mass(mass) if (part.key == Key::Obs) == observed => Some(mass.millionths),
+            Content::Composition(one) if !observed => Some(one.mass.millionths),
             _ => None,
         })
     };

@@ -35,6 +35,18 @@ fn count((number, count): (u8, usize)) -> Result<usize, Refusal> {
     told(number).map(|()| count)
 }
 
+/// The answer of a call that writes into an output of any length: how many bytes, and with 15 how many are needed.
+fn written((number, length): (u8, usize)) -> Result<usize, Refusal> {
+    match number {
+        0 => Ok(length),
+        15 => Err(Refusal::new(15, length)),
+        number => {
+            assert_eq!(length, usize::MAX, "only 15 tells a length");
+            Err(Refusal::new(number, 0))
+        }
+    }
+}
+
 /// Whether a line is accepted, or its refusal.
 pub fn verdict(line: &[u8]) -> Result<(), Refusal> {
     answer(outs::verdict(line))
@@ -67,14 +79,7 @@ pub fn floater_brackets(bytes: &[u8], numbers: &[i64], brackets: &mut [u8], copi
 
 /// Writes the canonical line into an output of any length: how many bytes.
 pub fn write(bytes: &[u8], numbers: &[i64], out: &mut [u8]) -> Result<usize, Refusal> {
-    match outs::write(bytes, numbers, out) {
-        (0, length) => Ok(length),
-        (15, length) => Err(Refusal::new(15, length)),
-        (number, length) => {
-            assert_eq!(length, usize::MAX, "only 15 tells a length");
-            Err(Refusal::new(number, 0))
-        }
-    }
+    written(outs::write(bytes, numbers, out))
 }
 
 /// What the register prints of a line, into an output of any length: how many bytes.
@@ -83,6 +88,11 @@ pub fn entry(number: u64, line: &[u8], out: &mut [u8]) -> Result<usize, Refusal>
         (0, length) => Ok(length),
         (answered, length) => Err(Refusal::new(answered, length)),
     }
+}
+
+/// The pieces of a composition, into a slice of any length: how many bytes.
+pub fn composition(text: &[u8], pieces: &mut [u8]) -> Result<usize, Refusal> {
+    written(outs::composition(text, pieces))
 }
 
 /// The total in millionths.

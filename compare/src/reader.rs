@@ -1,12 +1,16 @@
 //! The reader: "Reading tries 13, then 1 to 12 in that order; the lowest
 //! number wins, at its first place in the line." (13 is for lent areas, and
-//! this reader has none.)
+//! this reader has none.) 19 and 20 come "both after 12" (document 02, L1).
 //!
 //! One pass settles refusal 4 and notes the first places of 5 to 10; only a
 //! line that has none of them is asked about its labels (11, which the pass
-//! has noted for counts only) and then about its floating copies (12).
+//! has noted for counts only), then about its floating copies (12), and then
+//! about its compositions (19, 20).
 
-use crate::line::{Bracket, Content, Key, Kind, Label, Line, Number, Part, Residue, Section};
+use crate::glycans::{cut, mass, spelled, Cutting};
+use crate::line::{
+    Bracket, Composition, Content, Key, Kind, Label, Line, Number, Part, Residue, Section,
+};
 
 pub use crate::line::Refusal;
 
@@ -19,6 +23,7 @@ pub fn read(line: &[u8]) -> Result<Line<'_>, Refusal> {
     scanner.check_labels();
     scanner.faults.refuse_first(11)?;
     scanner.check_floaters()?;
+    scanner.cut_compositions()?;
     Ok(scanner.read)
 }
 
@@ -85,6 +90,8 @@ enum Opening {
     /// "`RESID:` `GNO:` and letters or digits"
     Accession(Key),
     Information,
+    /// "`Glycan:` becomes a part"
+    Composition,
     /// A key of refusal 8.
     Excluded,
     Name(Key),
@@ -106,7 +113,7 @@ const KEY_WORDS: [(&[u8], Opening); 17] = [
     (b"GNO", Opening::Accession(Key::Gno)),
     (b"INFO", Opening::Information),
     (b"Formula", Opening::Excluded),
-    (b"Glycan", Opening::Excluded),
+    (b"Glycan", Opening::Composition),
     (b"Position", Opening::Excluded),
     (b"Limit", Opening::Excluded),
 ];
@@ -196,6 +203,8 @@ struct Scanner<'a> {
     read: Line<'a>,
     /// The first byte of each bracket.
     bracket_places: Vec<usize>,
+    /// For each composition its part, and the first byte of it.
+    compositions: Vec<(usize, usize)>,
     /// The closing bytes of the pairs that are open in a text.
     open_pairs: Vec<u8>,
     faults: Faults,
@@ -211,6 +220,7 @@ impl<'a> Scanner<'a> {
                 ..Line::default()
             },
             bracket_places: Vec::new(),
+            compositions: Vec::new(),
             open_pairs: Vec::new(),
             faults: Faults::none(),
         }
@@ -516,13 +526,17 @@ impl<'a> Scanner<'a> {
                 Content::Text(self.take_some(u8::is_ascii_alphanumeric)?),
             ),
             Opening::Information => (Key::Info, Content::Text(self.text(false)?)),
+            Opening::Composition => {
+                self.compositions.push((self.read.parts.len(), place));
+                (Key::Glycan, Content::Text(self.text(true)?))
+            }
             Opening::Excluded => {
                 self.faults.note(8, place);
                 (Key::None, Content::Text(self.text(false)?))
             }
             Opening::Name(key) => (key, Content::Text(self.name(key, place)?)),
         };
-        if let Content::Text(text) = content {
+        if let Content::Text(text) = &content {
             if text.len() > Part::LONGEST_TEXT {
                 self.faults.note(6, place);
             }
@@ -717,6 +731,29 @@ impl<'a> Scanner<'a> {
             }
         }
         Ok(())
+    }
+
+    /// "Refusals: 19 no cutting, 20 more than one, as given or so shortened
+    /// [..], both after 12, at the part." The compositions of an accepted line
+    /// are kept with their masses.
+    fn cut_compositions(&mut self) -> Result<(), Refusal> {
+        let mut second = None;
+        for &(index, place) in &self.compositions {
+            let Content::Text(text) = self.read.parts[index].content else {
+                unreachable!("the part of a composition is read as a text")
+            };
+            match cut(text) {
+                Cutting::None => return Err(Refusal::new(19, place)),
+                Cutting::One(pieces) => {
+                    self.read.parts[index].content = Content::Composition(Box::new(Composition {
+                        text: spelled(&pieces),
+                        mass: mass(&pieces),
+                    }));
+                }
+                Cutting::Many => second = second.or(Some(Refusal::new(20, place))),
+            }
+        }
+        second.map_or(Ok(()), Err)
     }
 }
 

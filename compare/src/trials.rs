@@ -1,8 +1,10 @@
 //! What the program of crates/register is run on, and what it must print: the
 //! lines whose outcomes document 01 gives (vectors/known.txt, outcomes written
 //! from document 01), the sequences of source document 001
-//! (vectors/sequences.txt, outcomes by the reader of this package), and the
-//! vectors (vectors/lines.in, outcomes as they stand in lines.out).
+//! (vectors/sequences.txt, outcomes by the reader of this package), the
+//! vectors (vectors/lines.in, outcomes as they stand in lines.out), and lines
+//! with compositions (vectors/compositions.txt, outcomes written from document
+//! 02, L1).
 
 use crate::register::answer;
 
@@ -10,6 +12,7 @@ const KNOWN: &str = include_str!("../vectors/known.txt");
 const SEQUENCES: &str = include_str!("../vectors/sequences.txt");
 const LINES: &[u8] = include_bytes!("../vectors/lines.in");
 const ANSWERS: &[u8] = include_bytes!("../vectors/lines.out");
+const COMPOSITIONS: &str = include_str!("../vectors/compositions.txt");
 
 /// A line, and what is printed behind its number.
 pub struct Trial {
@@ -33,7 +36,16 @@ fn lines_of(text: &[u8]) -> impl Iterator<Item = &[u8]> {
 
 /// The lines of document 01.
 pub fn known() -> Vec<Trial> {
-    let rows = KNOWN.lines().map(|row| row.split_once('\t').expect("a line and its outcome"));
+    with_outcomes(KNOWN)
+}
+
+/// The lines with compositions.
+pub fn compositions() -> Vec<Trial> {
+    with_outcomes(COMPOSITIONS)
+}
+
+fn with_outcomes(text: &str) -> Vec<Trial> {
+    let rows = text.lines().map(|row| row.split_once('\t').expect("a line and its outcome"));
     rows.map(|(line, outcome)| trial(line.as_bytes(), outcome.as_bytes())).collect()
 }
 
@@ -65,6 +77,7 @@ pub fn all() -> Vec<Trial> {
     let mut trials = known();
     trials.extend(sequences().into_iter().map(|(_, trial)| trial));
     trials.extend(vectors());
+    trials.extend(compositions());
     trials
 }
 

@@ -1,7 +1,8 @@
-//! The examples of document 01, of the readings of it, and of document 001
-//! where they lie within document 01.
+//! The examples of document 01, of the readings of it and of document 02
+//! (L1), and of document 001 where they lie within these.
 
 use compare::canonical::canonical;
+use compare::glycans::SUGARS;
 use compare::masses::{display, ledger, missing, total, Display};
 use compare::positions::{all_placements, floaters, rows, Placement, Position, Row};
 use compare::reader::{read, Refusal};
@@ -244,7 +245,6 @@ fn numbers_eight_to_twelve() {
     ]);
     check_refused(&[
         ("A[formula:x]", 8, 2),
-        ("A[x|GLYCAN:x]", 8, 4),
         ("A[Position:#]", 8, 2),
         ("A[limit:2]", 8, 2),
         ("A[comkp]", 8, 2),
@@ -283,6 +283,138 @@ fn floaters_positions_and_masses() {
     assert_eq!(total(&line("A[x#a|+2]C[#a]")), Ok(2_000_000));
     assert_eq!(missing(&line("[x]^3?{y}A")), 4);
     assert_eq!(missing(&line("A[INFO:x]")), 0);
+}
+
+// Document 02, L1
+
+/// The list of 001, 10.2, as its text has it: a name, a colon, words perhaps,
+/// and the mass before ` Da`.
+#[test]
+fn the_list_of_names_and_masses() {
+    const LIST: &str = "Hex: Hexose, 162.0528 Da
+HexNAc: N-Acetyl Hexose, 203.0793 Da
+HexS: Hexose Sulfate, 242.0096 Da
+HexP: Hexose Phosphate, 242.0191 Da
+HexNAcS: N-Acetyl Hexose Sulfate, 283.0361 Da
+HexN: 161.0688 Da
+HexNS: 241.0256 Da
+dHex: Deoxy-Hexose, 146.0579 Da
+aHex: 176.0321 Da
+en,aHex: 158.0215 Da
+Neu: Neuraminic acid, 249.0849 Da
+NeuAc: N-acetyl Neuraminic Acid / Sialic Acid, 291.0954 Da
+NeuGc: N-glycolyl Neuraminic Acid, 307.0903 Da
+Sug: 42.0106 Da
+Tri: 72.0211 Da
+Tet: Tetrose, 102.0317 Da
+Pen: Pentose, 132.0422 Da
+Hep: Heptose, 192.0634 Da
+Oct: Octose, 222.0740 Da
+Non: Nonose, 252.0845 Da
+Dec: Decose, 282.0951 Da
+Fuc: Fucose, 146.0579 Da
+Sulfate: 79.9568 Da
+Phosphate: 79.9663 Da";
+    let rows: Vec<(&str, &str)> = LIST
+        .lines()
+        .map(|row| {
+            let (name, rest) = row.split_once(": ").unwrap();
+            (
+                name,
+                rest.strip_suffix(" Da")
+                    .unwrap()
+                    .rsplit(' ')
+                    .next()
+                    .unwrap(),
+            )
+        })
+        .collect();
+    let ours: Vec<(&str, &str)> = SUGARS
+        .iter()
+        .map(|sugar| (sugar.name, sugar.daltons))
+        .collect();
+    assert_eq!(ours, rows);
+    for (name, daltons) in rows {
+        let text = format!("A[Glycan:{name}]");
+        let millionths = format!("{daltons}00").replace('.', "").parse().unwrap();
+        assert_eq!(total(&line(&text)), Ok(millionths), "{text}");
+    }
+}
+
+#[test]
+fn compositions() {
+    check_written(&[
+        ("A[gLYCAN:hexnac1HEX2]", "A[Glycan:HexNAcHex2]"),
+        ("A[U:Glycan:Hex]", "A[U:Glycan:Hex]"),
+        ("A[G:Hex]", "A[G:Hex]"),
+        ("A[Glycan:Hex#a]C[#a(0.5)]", "A[Glycan:Hex#a]C[#a(0.5)]"),
+        ("A[Glycan:en,AHEX]", "A[Glycan:en,aHex]"),
+        ("A[Glycan:hex1HEX2Hex]", "A[Glycan:HexHex2Hex]"),
+        ("A[Glycan:hex10]", "A[Glycan:Hex10]"),
+        ("A[glycan:HEXNACS1]", "A[Glycan:HexNAcS]"),
+    ]);
+    check_accepted(&[
+        "A[Glycan:HexSug]",
+        "A[Glycan:HexPen]",
+        "A[Glycan:HexNeuAc]",
+        "A[Glycan:HexNon]",
+        "A[Glycan:HexS]",
+    ]);
+    check_refused(&[
+        ("A[Glycan:Hex 2]", 19, 2),
+        ("A[Glycan:+5]", 19, 2),
+        ("A[Glycan:{C8H13N1O5}1Hex2]", 19, 2),
+        ("A[Glycan:[[[[[[[[[x]]]]]]]]]]", 5, 17),
+        ("A[Glycan:]", 4, 9),
+        ("A[Glycan:Hex#]", 4, 13),
+        ("A[Glycan:#a]", 4, 9),
+        ("{Glycan:Hex#a}A", 4, 11),
+        ("A[Glycan:S]", 19, 2),
+        ("A[Glycan:Hex0]", 19, 2),
+        ("A[Glycan:Hex01]", 19, 2),
+        ("A[Glycan:Hex100]", 19, 2),
+        ("A[Glycan:5Hex]", 19, 2),
+        ("A[Glycan:HexN1Ac]", 19, 2),
+        ("A[x|GLYCAN:x]", 19, 4),
+        (&format!("A[Glycan:{}Hex]", "Hex1".repeat(32)), 6, 2),
+        ("A[Glycan:foo][U:35]", 9, 14),
+        ("A[Glycan:foo]C[#a]", 11, 14),
+        ("[x]^9?A[Glycan:foo]", 12, 0),
+        ("A[Glycan:foo#XL1]", 8, 2),
+        ("A[Glycan:foo]C[Glycan:bar]", 19, 2),
+        ("A[Glycan:Hex]C[Glycan:bar]", 19, 15),
+    ]);
+}
+
+#[test]
+fn compositions_in_tables() {
+    assert_eq!(line("A[Glycan:Hex1]"), line("A[glycan:hex]"));
+    assert_ne!(line("A[Glycan:HexHex]"), line("A[Glycan:Hex2]"));
+    assert_ne!(line("A[Glycan:HexFuc]"), line("A[Glycan:FucHex]"));
+    assert_eq!(placements("A[Glycan:Hex#a]C[#a(0.5)]"), [[1], [2]]);
+    assert_eq!(placements("[Glycan:Hex]^2?NN"), [[1, 2], [2, 1]]);
+}
+
+#[test]
+fn masses_of_compositions() {
+    for (text, millionths) in [
+        ("A[Glycan:HexPenaHex]", 470_127_100),
+        ("A[Glycan:HexSug]", 204_063_400),
+        ("A[Glycan:hex1HEX2Hex]", 648_211_200),
+        ("A[Glycan:Hex|+1]", 162_052_800),
+        ("A[+1|Glycan:Hex]", 1_000_000),
+        ("A[Obs:+1|Glycan:Hex]", 162_052_800),
+        ("[Glycan:Hex]^2?NN", 324_105_600),
+        ("{Glycan:Hex}{Glycan:NeuAc}EMEVNESPEK", 453_148_200),
+        (
+            &format!("A[Glycan:{}]", "Dec99".repeat(25)),
+            698_185_372_500,
+        ),
+    ] {
+        assert_eq!(total(&line(text)), Ok(millionths), "{text}");
+    }
+    let ledger = ledger(&line("{Glycan:Hex}{Glycan:NeuAc}EMEVNESPEK"), &[0; 8]).unwrap();
+    assert!(ledger.iter().all(|&entry| entry == 0));
 }
 
 #[test]
@@ -363,6 +495,10 @@ fn sequences_of_document_001_within_document_01() {
         "PETIEM[Dioxidation#1][Oxidation#2]REM[#1][#2]REM[#2]RM[#1]PEPTIDE",
         "[Oxidation#1][Oxidation#2]?PTIM[#1][#2]ERM[#1][#2]ERM[#1][#2]ERM[#1][#2]DE",
         "PEPTID-[b-type-ion]",
+        "{Glycan:Hex}EM[U:Oxidation]EV",
+        "NEEYN[Glycan:Hex5HexNAc4NeuAc1]K",
+        "{Glycan:Hex}{Glycan:NeuAc}EMEVNESPEK",
+        "SEQUEN[Glycan:HexNAc1Hex2]CE",
         // Its `Glycan` without a colon is a name.
         "YPVLN[#g1]VTMPN[Glycan#g1]NSNGKFDK",
     ]);
@@ -373,7 +509,17 @@ fn sequences_of_document_001_beyond_document_01() {
     check_refused(&[
         ("EM[M:00719]EVEES[M:00046]PEK", 9, 3),
         ("EM[U:35]EVEES[U:56]PEK", 9, 3),
-        ("{Glycan:Hex}EM[U:Oxidation]EV", 8, 1),
+        ("SEQUEN[Glycan:{C8H13N1O5}1Hex2]CE", 19, 7),
+        (
+            "{Glycan:Hex 10 HexNAc 4}YPVLN[MOD:00006]VTMPN[MOD:00006]NSNGKFDK",
+            19,
+            1,
+        ),
+        (
+            "{Glycan:Hex 10 HexNAc 4.G1}YPVLN[Glycan:#G1]VTMPN[Glycan:#G1]NSNGKFDK",
+            4,
+            40,
+        ),
         ("SEQUEN[Formula:[13C2][12C-2]H2N]CE", 8, 7),
         ("EMEVTK[X:DSS#XL1]SESPEK", 8, 7),
         ("G-[#BRANCH]", 8, 3),

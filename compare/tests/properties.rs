@@ -1,10 +1,13 @@
 //! What holds for every line, tried on generated ones.
 
+mod lines;
+
 use compare::areas::{
     decode, encode, tables_of_some_line, BYTES_SIZE, LETTERS, NUMBERS_SIZE, ROW, ROWS, SECTIONS,
 };
 use compare::canonical::canonical;
 use compare::generate::{share, Generator, Random};
+use compare::glycans::{cut, spelled, ways, Cutting, Piece, SUGARS};
 use compare::line::Line;
 use compare::masses::{display_areas, ledger, missing, total, Display};
 use compare::positions::{
@@ -155,6 +158,183 @@ fn layout_of_the_areas() {
     expected[10] = 1_000_000;
     expected[16] = 7_000_000;
     assert_eq!(numbers, expected);
+}
+
+/// The same with compositions: their texts are those that are written.
+#[test]
+fn layout_of_compositions() {
+    let line = read(b"[glycan:hex1#a]?A[INFO:x|Glycan:HexNAc1Hex2#b]C[#a]").unwrap();
+    let (area, numbers) = encode(&line);
+    let mut expected = vec![0; 6911];
+    expected[..3].copy_from_slice(&[2, 0, 3]);
+    expected[3..5].copy_from_slice(b"AC");
+    let rows: [&[u8]; 3] = [
+        &[1, 0, 0, 0, 0, 1, 1, 0, 4, 15, 4, 3, 1, 0, 0],
+        &[4, 1, 0, 1, 0, 1, 2, 0, 2, 13, 0, 1, 0, 4, 0, 4, 15, 4, 10, 1, 5, 0],
+        &[4, 2, 0, 2, 0, 1, 1, 0, 3, 0, 0, 0, 1, 16, 0],
+    ];
+    for (index, row) in rows.iter().enumerate() {
+        expected[511 + index * 36..][..row.len()].copy_from_slice(row);
+    }
+    expected[2815..2832].copy_from_slice(b"HexaxHexNAcHex2ba");
+    assert_eq!(area, expected);
+    let mut expected = vec![0; 320];
+    expected[0] = 162_052_800;
+    expected[6] = 527_184_900;
+    assert_eq!(numbers, expected);
+}
+
+#[test]
+fn wrong_compositions_in_areas_are_refused() {
+    let wrong = lines::wrong_compositions();
+    assert!(wrong.len() > 30);
+    for (what, lent) in wrong {
+        assert_eq!(tables_of_some_line(&lent.bytes, &lent.numbers), None, "{what}");
+        assert_eq!(display_areas(&lent.bytes, &lent.numbers), Display::Refused(14), "{what}");
+    }
+}
+
+/// The counts that names are tried with, and how each is written.
+const COUNTS: [(u8, &str); 5] = [(1, ""), (1, "1"), (2, "2"), (10, "10"), (99, "99")];
+
+/// A text in some case or other.
+fn in_some_case(random: &mut Random, text: &str) -> Vec<u8> {
+    let either = |byte: u8| if random.chance(50) { byte.to_ascii_lowercase() } else { byte.to_ascii_uppercase() };
+    text.bytes().map(either).collect()
+}
+
+/// Every text of one to three names with these counts is cut into just these
+/// pieces, and in no second way, as given or with counts of 1 dropped.
+#[test]
+fn a_composition_is_cut_in_one_way_only() {
+    let mut random = Random::new(31);
+    let choices: Vec<(Piece, String)> = SUGARS
+        .iter()
+        .enumerate()
+        .flat_map(|(name, sugar)| COUNTS.map(|(count, digits)| (Piece { name, count }, format!("{}{digits}", sugar.name))))
+        .collect();
+    let mut tried = 0;
+    let mut check = |chosen: &[&(Piece, String)]| {
+        let pieces: Vec<Piece> = chosen.iter().map(|one| one.0).collect();
+        let text: String = chosen.iter().map(|one| one.1.as_str()).collect();
+        let cased = in_some_case(&mut random, &text);
+        assert_eq!(cut(&cased), Cutting::One(pieces), "{text}");
+        tried += 1;
+    };
+    let third = choices.len().min(share(choices.len()).max(1));
+    for first in &choices {
+        check(&[first]);
+        for second in &choices {
+            check(&[first, second]);
+            for other in &choices[..third] {
+                check(&[first, second, other]);
+            }
+        }
+    }
+    assert_eq!(tried, 120 + 120 * 120 * (1 + third));
+}
+
+/// All ways to cut a text, one after another: slow, and plain.
+fn plain_ways(text: &[u8]) -> u64 {
+    if text.is_empty() {
+        return 1;
+    }
+    let mut found = 0;
+    for sugar in &SUGARS {
+        let length = sugar.name.len();
+        if text.len() < length || !text[..length].eq_ignore_ascii_case(sugar.name.as_bytes()) {
+            continue;
+        }
+        let digits = text[length..].iter().take_while(|byte| byte.is_ascii_digit()).count();
+        for taken in 0..=digits {
+            let count = std::str::from_utf8(&text[length..length + taken]).unwrap();
+            let fits = count.is_empty() || (!count.starts_with('0') && count.len() <= 2);
+            if fits {
+                found += plain_ways(&text[length + taken..]);
+            }
+        }
+    }
+    found
+}
+
+/// Compositions with a byte changed, removed or inserted at every place, and
+/// two of them run together: the ways are counted rightly, there is never a
+/// second one, and what is written is cut into the same pieces.
+#[test]
+fn damaged_compositions() {
+    let mut random = Random::new(32);
+    let (mut cut_still, mut not_cut) = (0, 0);
+    let mut check = |text: &[u8]| {
+        assert_eq!(ways(text), plain_ways(text), "{}", shown(text));
+        match cut(text) {
+            Cutting::None => not_cut += 1,
+            Cutting::One(pieces) => {
+                let written = spelled(&pieces);
+                assert!(written.len() <= text.len());
+                assert_eq!(cut(&written), Cutting::One(pieces), "{}", shown(text));
+                cut_still += 1;
+            }
+            Cutting::Many => panic!("a second cutting of {}", shown(text)),
+        }
+    };
+    for _ in 0..share(2_000).max(20) {
+        let mut text = Vec::new();
+        for _ in 0..random.between(1, 4) {
+            let name = SUGARS[random.below(SUGARS.len())].name;
+            text.extend(in_some_case(&mut random, name));
+            text.extend_from_slice(COUNTS[random.below(COUNTS.len())].1.as_bytes());
+        }
+        check(&text);
+        for at in 0..text.len() {
+            let byte = b"0129 SsNnAaEeXxHhPp,cCgGdDtTuU"[random.below(30)];
+            let mut other = text.clone();
+            other[at] = byte;
+            check(&other);
+            other = text.clone();
+            other.insert(at, byte);
+            check(&other);
+            other = text.clone();
+            other.remove(at);
+            check(&other);
+            check(&text[at..]);
+            check(&text[..at]);
+        }
+    }
+    assert!(cut_still > share(20_000) && not_cut > share(50_000), "{cut_still} {not_cut}");
+}
+
+/// Compositions about as long as a text may be, in lines.
+#[test]
+fn long_compositions() {
+    let mut random = Random::new(33);
+    for length in 120..=140 {
+        for _ in 0..share(200).max(10) {
+            let mut text = Vec::new();
+            let mut millionths = 0;
+            while text.len() < length {
+                let sugar = &SUGARS[random.below(SUGARS.len())];
+                let (count, digits) = COUNTS[random.below(COUNTS.len())];
+                let piece = format!("{}{digits}", sugar.name);
+                let left = length - text.len();
+                // three bytes are a name, and one or two are digits of a count of some other
+                if piece.len() == left || piece.len() + 3 <= left {
+                    text.extend(in_some_case(&mut random, &piece));
+                    millionths += i64::from(count) * sugar.millionths();
+                }
+            }
+            let line = [b"A[Glycan:", &text[..], b"]"].concat();
+            match read(&line) {
+                Ok(held) => {
+                    assert!(length <= 128, "{}", shown(&line));
+                    assert_eq!(total(&held), Ok(millionths), "{}", shown(&line));
+                }
+                Err(refusal) => {
+                    assert!(length > 128, "{}", shown(&line));
+                    assert_eq!(refusal, Refusal::new(6, 2));
+                }
+            }
+        }
+    }
 }
 
 /// The quick ways to placements against plain backtracking and against the
@@ -324,7 +504,7 @@ fn can_be_completed(begun: &mut Vec<u8>, bytes_left: usize) -> bool {
 #[test]
 fn generated_lines_meet_every_number() {
     const COUNT: usize = 50_000;
-    let mut outcomes = [0; 13];
+    let mut outcomes = [0; 21];
     for_generated(19, COUNT, |bytes| {
         assert!(!bytes.contains(&10), "no byte 10");
         match read(bytes) {
@@ -333,7 +513,7 @@ fn generated_lines_meet_every_number() {
         }
     });
     assert!(outcomes[0] >= share(COUNT) / 4, "{outcomes:?}");
-    let refused = &outcomes[1..];
+    let refused = &outcomes[1..=12];
     assert!(
         refused[..2].iter().all(|&lines| lines >= share(COUNT) / 200),
         "{outcomes:?}"
@@ -342,6 +522,8 @@ fn generated_lines_meet_every_number() {
         refused[2..].iter().all(|&lines| lines >= share(COUNT) / 100),
         "{outcomes:?}"
     );
+    assert!(outcomes[19] >= share(COUNT) / 100, "{outcomes:?}");
+    assert_eq!(outcomes[20], 0, "a second cutting");
 }
 
 #[test]

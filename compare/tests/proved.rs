@@ -1,7 +1,8 @@
 //! The proved library against the independent reader: on the outside vectors, on generated lines, on lines of every awkward length.
 
 use compare::areas::{encode, BYTES_SIZE, NUMBERS_SIZE};
-use compare::generate::{share, Generator};
+use compare::generate::{share, Generator, Random};
+use compare::glycans::{cut, Cutting, SUGARS};
 use compare::line::Refusal;
 use compare::{proved, reader, register};
 
@@ -91,7 +92,7 @@ fn vectors() {
 #[test]
 fn generated_lines() {
     let count = std::env::var("HWEMIDUK_LINES").ok().and_then(|n| n.parse().ok()).unwrap_or(share(200_000));
-    let mut refused = [0usize; 13];
+    let mut refused = [0usize; 21];
     for line in Generator::new(20261115).take(count) {
         alike(&line);
         if let Err(refusal) = reader::read(&line) {
@@ -99,8 +100,102 @@ fn generated_lines() {
         }
     }
     // a test that met no refusal of some number would show nothing of it
-    for (number, met) in refused.iter().enumerate().skip(3) {
-        assert!(*met * 200 >= count, "refusal {number} was met {met} times");
+    for number in (3..=12).chain([19]) {
+        let met = refused[number];
+        assert!(met * 200 >= count, "refusal {number} was met {met} times");
+    }
+}
+
+/// What the library says of a text, into rooms that are longer than need be, just long enough and too short, all of junk, against all ways to cut it. Whether it is
+/// cut.
+fn cut_alike(text: &[u8]) -> bool {
+    let shown = String::from_utf8_lossy(text);
+    let pieces: Vec<u8> = match cut(text) {
+        Cutting::One(pieces) => pieces.iter().flat_map(|piece| [piece.name as u8, piece.count]).collect(),
+        Cutting::None => {
+            for room in [0, 1, text.len() + 2] {
+                let mut out = vec![JUNK_BYTE; room];
+                assert_eq!(proved::composition(text, &mut out), Err(Refusal { number: 19, place: 0 }), "{shown:?}");
+                assert!(out.iter().all(|&x| x == JUNK_BYTE), "{shown:?}");
+            }
+            return false;
+        }
+        Cutting::Many => panic!("a second cutting of {shown:?}"),
+    };
+    for room in [pieces.len() + 3, pieces.len(), pieces.len().saturating_sub(1), 0] {
+        let mut out = vec![JUNK_BYTE; room];
+        let answer = proved::composition(text, &mut out);
+        if room < pieces.len() {
+            assert_eq!(answer, Err(Refusal { number: 15, place: pieces.len() }), "{shown:?}");
+            assert!(out.iter().all(|&x| x == JUNK_BYTE), "{shown:?}");
+        } else {
+            assert_eq!(answer, Ok(pieces.len()), "{shown:?}");
+            assert!(out[..pieces.len()] == pieces[..] && out[pieces.len()..].iter().all(|&x| x == JUNK_BYTE), "{shown:?}");
+        }
+    }
+    true
+}
+
+/// A few names with counts, some of them no counts, in some case or other.
+fn named(random: &mut Random, most: usize) -> Vec<u8> {
+    let mut text = Vec::new();
+    for _ in 0..random.between(1, most) {
+        let name = SUGARS[random.below(SUGARS.len())].name.as_bytes();
+        text.extend(name.iter().map(|byte| if random.chance(50) { byte.to_ascii_lowercase() } else { byte.to_ascii_uppercase() }));
+        text.extend_from_slice(random.pick(&["", "", "", "1", "2", "9", "10", "99", "12", "0", "01", "100"]).as_bytes());
+    }
+    text
+}
+
+#[test]
+fn pieces_of_compositions() {
+    let mut random = Random::new(34);
+    let (mut whole, mut none) = (0, 0);
+    let mut count = |is_cut: bool| if is_cut { whole += 1 } else { none += 1 };
+    for first in &SUGARS {
+        for digits in ["", "1", "2", "10", "99", "0", "00", "01", "100"] {
+            for second in &SUGARS {
+                count(cut_alike(format!("{}{digits}{}", first.name, second.name).as_bytes()));
+                count(cut_alike(format!("{}{}{digits}", first.name, second.name).to_lowercase().as_bytes()));
+            }
+        }
+    }
+    for _ in 0..share(20_000) {
+        let text = named(&mut random, 6);
+        count(cut_alike(&text));
+        let at = random.below(text.len());
+        let mut other = text.clone();
+        other[at] = b"0129 SsNnAaEeXxHhPp,cCgGdDtTuU"[random.below(30)];
+        count(cut_alike(&other));
+        other.remove(at);
+        count(cut_alike(&other));
+        count(cut_alike(&text[at..]));
+        count(cut_alike(&text[..at]));
+    }
+    for length in [0usize, 1, 3, 126, 127, 128, 129, 4096, 100_000] {
+        count(cut_alike(&vec![b'H'; length]));
+        count(cut_alike(&b"Hex".repeat(length.min(2000))));
+        count(cut_alike(&b"Hex9".repeat(length.min(2000))));
+        count(cut_alike(&vec![0; length]));
+        count(cut_alike(&vec![b'9'; length]));
+    }
+    for a in 0..=255u8 {
+        for b in 0..=255u8 {
+            count(cut_alike(&[b'H', b'e', b'x', a, b]));
+        }
+    }
+    assert!(whole > share(20_000) && none > share(30_000), "{whole} {none}");
+}
+
+#[test]
+fn compositions_in_lines() {
+    let mut random = Random::new(35);
+    for _ in 0..share(20_000) {
+        let text = named(&mut random, 30);
+        let line = [b"A[Glycan:", &text[..], b"]"].concat();
+        alike(&line);
+        alike(&[b"{+1|", &line[2..line.len() - 1], b"}A"].concat());
+        alike(&[&line[..line.len() - 1], b"#a(0.5)]C[#a]"].concat());
     }
 }
 

@@ -4,7 +4,7 @@ use std::fs::read;
 use std::path::{Path, PathBuf};
 
 use compare::register::answer;
-use compare::trials::{input, known, output, sequences, vectors, Trial};
+use compare::trials::{compositions, input, known, output, sequences, vectors, Trial};
 
 fn file(name: &str) -> PathBuf {
     Path::new(env!("CARGO_MANIFEST_DIR")).join("..").join(name)
@@ -30,6 +30,27 @@ fn the_reader_agrees_with_document_01_and_the_vectors() {
     alike(&known());
     alike(&vectors());
     assert_eq!(vectors().len(), 2400);
+}
+
+#[test]
+fn the_reader_agrees_with_document_02_on_compositions() {
+    alike(&compositions());
+}
+
+/// Each line that the definitions work out (crates/outcomes) is among them, with the same outcome.
+#[test]
+fn compositions_are_those_of_the_definitions() {
+    let definitions = String::from_utf8(read(file("crates/outcomes/specs/Compositions.antt")).unwrap()).unwrap();
+    let ours: Vec<(String, String)> =
+        compositions().into_iter().map(|one| (String::from_utf8(one.line).unwrap(), String::from_utf8(one.outcome).unwrap())).collect();
+    let mut met = 0;
+    for row in definitions.lines().filter(|row| row.contains("sample \"")) {
+        let texts: Vec<&str> = row.split('"').collect();
+        let outcome = texts[3].strip_prefix("1 ").expect("the number of the line");
+        assert!(ours.contains(&(texts[1].to_owned(), outcome.to_owned())), "{row}");
+        met += 1;
+    }
+    assert_eq!(met, 39);
 }
 
 /// Each sequence has its row on the page, under its section, in order.

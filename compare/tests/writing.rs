@@ -12,7 +12,7 @@ use compare::masses::Display;
 use compare::proved::{self, Listing, Site};
 use compare::reader::read;
 use json::Json;
-use lines::{for_crowded, for_generated, for_vectors, shown, Lent, JUNK_BYTE, JUNK_NUMBER};
+use lines::{for_crowded, for_generated, for_vectors, shown, wrong_compositions, Lent, JUNK_BYTE, JUNK_NUMBER};
 
 const FOURTEEN: Refusal = Refusal::new(14, 0);
 
@@ -87,6 +87,8 @@ fn named_lines() {
         ("[+1]?[+2]^1?A", "[+1][+2]?A"),
         ("[+1]^2?ac", "[+1]^2?AC"),
         ("[Acetyl]-A", "[Acetyl]-A"),
+        ("A[gLYCAN:hexnac1HEX2]", "A[Glycan:HexNAcHex2]"),
+        ("A[Glycan:hex1HEX2Hex]", "A[Glycan:HexHex2Hex]"),
     ] {
         let held = read(line.as_bytes()).unwrap();
         assert_eq!(written(&Lent::of(&held), 64).unwrap(), want.as_bytes());
@@ -237,6 +239,7 @@ fn each_entry_changed() {
         &b"A[+1.5]"[..],
         b"[+1#a(0.5)][Acetyl|INFO:x]^2?{Hex}[U:Oxidation]-(?AC)(DE)[M:x|Obs:-2]F[#a(-1.25)]-[UNIMOD:35]",
         b"A[RESID:AA0581][x#q][#q]B[#q]",
+        b"[Glycan:Hex#a]?{Glycan:en,aHex12}A[+1|Glycan:HexNAcHex2]C[#a]",
     ] {
         let held = read(line).unwrap();
         let lent = Lent::of(&held);
@@ -266,6 +269,13 @@ fn each_entry_changed() {
         }
     }
     assert!(other > 100 && refused > 2_000, "{other} {refused}");
+}
+
+#[test]
+fn areas_with_wrong_compositions() {
+    for (what, lent) in wrong_compositions() {
+        assert!(!check_any(&lent), "{what}");
+    }
 }
 
 #[test]

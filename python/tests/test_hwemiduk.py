@@ -281,8 +281,53 @@ class Tables(unittest.TestCase):
             "A[-0]": 0,
             "A[INFO:+1]": None,
             "A[15.99]": None,
+            "A[x|Obs:-2|Glycan:Sug2]": 84_021_200,
         }.items():
             self.assertEqual(read(line).brackets[0].millionths, millionths, line)
+
+    def test_compositions(self):
+        """Document 02, L1: "The list's spelling is written, a count of 1 dropped."; "a mass without `Obs`"; "a label may end the part"."""
+        p = read("N[+1|gLYCAN:hexnac1HEX2#a]")
+        self.assertEqual(str(p), "N[+1|Glycan:HexNAcHex2#a]")
+        other, part = p.brackets[0].parts
+        self.assertEqual(part, Part(Key.GLYCAN, Number(527_184_900, 4), "HexNAcHex2", Label("a", None)))
+        self.assertEqual((str(part), part.composition, other.composition), ("Glycan:HexNAcHex2#a", [("HexNAc", 1), ("Hex", 2)], None))
+        self.assertTrue(p.brackets[0].is_modification)
+        for line, total in {
+            "A[Glycan:Hex|+1]": 162_052_800,
+            "A[+1|Glycan:Hex]": 1_000_000,
+            "A[Obs:+1|Glycan:Hex]": 162_052_800,
+            "[Glycan:Hex]^2?NN": 324_105_600,
+            "{Glycan:Hex}{Glycan:NeuAc}EMEVNESPEK": 453_148_200,
+        }.items():
+            self.assertEqual(read(line).total(), total, line)
+        self.assertEqual(read("N[Glycan:Hex1]"), read("N[glycan:hex]"))
+        self.assertNotEqual(read("N[Glycan:HexHex]"), read("N[Glycan:Hex2]"))
+        self.assertEqual(list(read("A[Glycan:Hex#a]C[#a(0.5)]").placements()), [(1,), (2,)])
+
+    def test_lines_with_compositions(self):
+        """compare/vectors/compositions.txt, written from document 02 and the list of names and masses."""
+        rows = [row.split("\t") for row in (ROOT / "compare" / "vectors" / "compositions.txt").read_text().splitlines()]
+        self.assertGreater(len(rows), 60)
+        for line, printed in rows:
+            self.assertEqual(hwemiduk.entry(line, 7), "7 " + printed)
+        accepted = [(read(line), printed.split(" ")[5]) for line, printed in rows if printed.startswith("ok")]
+        for p, canonical in accepted:
+            self.assertEqual(str(p), canonical)
+            for part in (part for bracket in p.brackets for part in bracket.parts if part.key is Key.GLYCAN):
+                spelled = "".join(name + (str(count) if count > 1 else "") for name, count in part.composition)
+                self.assertEqual(spelled, part.text)
+
+    def test_pieces(self):
+        """The pieces of any text: each listed name in either case with a count and without one, and what no composition is."""
+        for name in hwemiduk.SUGARS:
+            self.assertEqual(hwemiduk.composition(name.upper() + "12" + name.lower()), [(name, 12), (name, 1)])
+            self.assertEqual(str(read(f"A[Glycan:{name.lower()}]")), f"A[Glycan:{name}]")
+        self.assertEqual((len(hwemiduk.SUGARS), hwemiduk.composition(b"")), (24, []))
+        self.assertEqual(hwemiduk.composition(bytearray(b"Hex") * 1000), [("Hex", 1)] * 1000)
+        for text in ["S", "Hex 2", "Hex0", "Hex01", "Hex100", "5Hex", "HexN1Ac", "Hex\u00e9", b"\xff", b"Hex\0", "Hex#a"]:
+            self.assertEqual(refusal(hwemiduk.composition, text), (19, 0), text)
+        self.assertRaises(TypeError, hwemiduk.composition, 5)
 
     def test_floaters(self):
         """Each copy of the unknown one, then the label of the range, which may stand on its residue without a modification or on the reference's."""
@@ -406,7 +451,7 @@ class Junk(unittest.TestCase):
             try:
                 p = read(line)
             except Refusal as error:
-                self.assertTrue(1 <= error.number <= 12 and 0 <= error.place <= len(line), line)
+                self.assertTrue(error.number in (*range(1, 13), 19) and 0 <= error.place <= len(line), line)
             else:
                 self.assertEqual(read(str(p)), p, line)
                 accepted += 1

@@ -136,11 +136,11 @@ class Refusals(unittest.TestCase):
         self.assertEqual(mark.strip(" "), "^")
 
     def test_hints(self):
-        """tests/hints.tsv has lines that are refused with 4, and their hints; bin/register is held to it too (tests/outside)."""
+        """tests/hints.tsv has lines that are refused with 4 or, behind Glycan:, with 19, and their hints; bin/register is held to it too (tests/outside)."""
         rows = [row.split("\t") for row in (ROOT / "tests" / "hints.tsv").read_text().splitlines()]
         self.assertGreater(len(rows), 20)
         for line, hint in rows:
-            self.assertEqual((refused(line).number, refused(line).hint), (4, hint), line)
+            self.assertEqual((refused(line).number, refused(line).hint), (19 if "lycan:" in line else 4, hint), line)
         for line, hint in {
             b"A\r": "CR: a file with Windows line ends? try --crlf",
             b"A\rC": "CR: is a line end missing?",
@@ -161,11 +161,18 @@ class Refusals(unittest.TestCase):
 
     def test_codes_are_those_of_the_header(self):
         header = (ROOT / "include" / "hwemiduk.h").read_text()
-        for enum, first, members in [("section", 0, Section), ("kind", 1, Kind), ("key", 0, Key)]:
+        keys = hwemiduk._tables._keys
+        self.assertEqual(list(keys.values()), list(Key))
+        for enum, numbered in [("section", dict(enumerate(Section))), ("kind", dict(enumerate(Kind, 1))), ("key", keys)]:
             start = header.index(f"enum hwemiduk_{enum} {{")
             codes = re.findall(r"HWEMIDUK_(\w+) = (\d+)", header[start : header.index("};", start)])
             plain = {int(code): re.sub("^(ON|NO)_|_|^KEY$", "", re.sub("^NO_KEY$", "NONE", name)) for name, code in codes}
-            self.assertEqual(plain, {code: member.name.replace("_", "") for code, member in enumerate(members, first)})
+            self.assertEqual(plain, {code: member.name.replace("_", "") for code, member in numbered.items()})
+
+    def test_sugars_are_those_of_the_header(self):
+        header = (ROOT / "include" / "hwemiduk.h").read_text()
+        start = header.index("names[HWEMIDUK_SUGARS] = {")
+        self.assertEqual(tuple(re.findall('"([^"]*)"', header[start : header.index("};", start)])), hwemiduk.SUGARS)
 
 
 class Lines(unittest.TestCase):

@@ -39,6 +39,14 @@ pub const COPIES: usize = 8;
 pub const POSITIONS: usize = RESIDUES + 2;
 /// Rows of floater and position.
 pub const ROWS: usize = COPIES * POSITIONS;
+/// Pieces of a part's composition: a name has three bytes or more, and a text no more than 128.
+pub const PIECES: usize = 42;
+/// The names that a composition is made of, in the order and in the spelling of the list of ProForma 2.1, section 10.2.
+#[rustfmt::skip]
+pub const SUGARS: [&str; 24] = [
+    "Hex", "HexNAc", "HexS", "HexP", "HexNAcS", "HexN", "HexNS", "dHex", "aHex", "en,aHex", "Neu", "NeuAc",
+    "NeuGc", "Sug", "Tri", "Tet", "Pen", "Hep", "Oct", "Non", "Dec", "Fuc", "Sulfate", "Phosphate",
+];
 /// The area of bytes.
 pub const BYTES: usize = 6911;
 /// The area of numbers.
@@ -144,7 +152,7 @@ pub fn limits() -> Limits {
     limits
 }
 
-/// Whether a line is accepted: if not, the lowest of 1 to 12 that is due.
+/// Whether a line is accepted: if not, the lowest of 1 to 12 and 19 that is due.
 pub fn verdict(line: &[u8]) -> Result<(), Refusal> {
     let (number, place) = outs::verdict(line);
     answer(number, place, ())
@@ -240,6 +248,25 @@ pub fn first_row(rows: &[Site], n: usize, floater: u8) -> Result<(usize, Positio
     answer(number, 0, (index, position))
 }
 
+/// Cuts a text, as it stands behind `Glycan:`, into listed names and counts: writes two bytes for each piece, in the order of the text, into an output of any length, and
+/// answers how many bytes these are. The first byte of a piece is the number of the name in [`SUGARS`], the second its count, 1 to 99. Or 15, with the length needed as its
+/// place; or 19 where the text cannot be cut so. There is never more than one way to cut a text; an empty one has no pieces.
+///
+/// ```
+/// use hwemiduk::lent::{composition, PIECES, SUGARS};
+///
+/// let mut pieces = [0; 2 * PIECES];
+/// assert_eq!(composition(b"hexnac1HEX2", &mut pieces), Ok(4));
+/// assert_eq!((SUGARS[usize::from(pieces[0])], pieces[1]), ("HexNAc", 1));
+/// assert_eq!((SUGARS[usize::from(pieces[2])], pieces[3]), ("Hex", 2));
+/// assert_eq!(composition(b"hexnac1HEX2", &mut []).unwrap_err().place(), 4);
+/// assert_eq!(composition(b"Man5", &mut pieces).unwrap_err().number(), 19);
+/// ```
+pub fn composition(text: &[u8], pieces: &mut [u8]) -> Result<usize, Refusal> {
+    let (number, length) = outs::composition(text, pieces);
+    answer(number, if number == 15 { length } else { 0 }, length)
+}
+
 fn answer<T>(number: u8, place: usize, value: T) -> Result<T, Refusal> {
     match number {
         0 => Ok(value),
@@ -314,6 +341,13 @@ pub mod outs {
             hwemiduk_floater_brackets(bytes.as_ptr(), bytes.len(), numbers.as_ptr(), numbers.len(), brackets, brackets_len, copies, copies_len, &mut count)
         };
         (number, count)
+    }
+
+    /// The number and the length.
+    pub fn composition(text: &[u8], pieces: &mut [u8]) -> (u8, usize) {
+        let mut length = usize::MAX;
+        let number = unsafe { hwemiduk_composition(text.as_ptr(), text.len(), pieces.as_mut_ptr(), pieces.len(), &mut length) };
+        (number, length)
     }
 
     /// The number, the total in millionths, and the place.
@@ -398,5 +432,6 @@ extern "C" {
     fn hwemiduk_ledger(bytes: *const u8, bytes_len: usize, numbers: *const i64, numbers_len: usize, placement: *const Position, placement_len: usize,
         entries: *mut i64, entries_len: usize, place: *mut usize) -> u8;
     fn hwemiduk_rows(bytes: *const u8, bytes_len: usize, numbers: *const i64, numbers_len: usize, rows: *mut Site, rows_len: usize, count: *mut usize) -> u8;
+    fn hwemiduk_composition(text: *const u8, text_len: usize, pieces: *mut u8, pieces_len: usize, length: *mut usize) -> u8;
     fn hwemiduk_first_row(rows: *const Site, rows_len: usize, n: usize, floater: u8, index: *mut usize, position: *mut Position) -> u8;
 }

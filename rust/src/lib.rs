@@ -34,10 +34,10 @@ mod peptidoform;
 #[cfg(feature = "std")]
 mod tables;
 
-pub use lent::Position;
+pub use lent::{Position, SUGARS};
 pub use refusal::{Missing, Refusal, Show, WORDS};
 
 #[cfg(feature = "std")]
 pub use peptidoform::{entry, Peptidoform, Placement, Placements};
 #[cfg(feature = "std")]
-pub use tables::{Bracket, Content, Floater, Key, Kind, Label, Number, Part, Section};
+pub use tables::{composition, Bracket, Content, Floater, Key, Kind, Label, Number, Part, Section};

@@ -3,7 +3,7 @@
 use core::fmt::{self, Display, Formatter};
 
 /// Each refusal in words: that of number n is at n - 1.
-pub const WORDS: [&str; 18] = [
+pub const WORDS: [&str; 19] = [
     "the line is empty",
     "the line is longer than 4,096 bytes",
     "a byte outside 32 to 126",
@@ -11,7 +11,7 @@ pub const WORDS: [&str; 18] = [
     "pairs nested more than eight deep",
     "too many residues (254), brackets (64) or parts (4), a text over 128 bytes or a label over 16",
     "a mass or score of a million or more or with more than 6 decimals, a count outside 1 to 99",
-    "something that is not taken here: Formula, Glycan, Position, Limit, CoMKP, CoMUP, labels XL.. and BRANCH",
+    "something that is not taken here: Formula, Position, Limit, CoMKP, CoMUP, labels XL.. and BRANCH",
     "prefix U or M with a name of digits only",
     "only INFO in a bracket of unknown position or a labile one",
     "labels that do not fit: a second one, one defined again, a reference without definition, a count on a labelled bracket, one in an unknown run that nothing refers to",
@@ -22,10 +22,13 @@ pub const WORDS: [&str; 18] = [
     "a modification has no mass",
     "no placement, no further one, no such row or bracket",
     "a placement that is not allowed",
+    "a composition that cannot be cut into listed names and counts",
 ];
 
-/// Refusals 1 to this one are of a line, and their place is one in the line.
-const LAST_OF_A_LINE: u8 = 12;
+/// Refusals 1 to 12 and 19 are of a line, and their place is one in the line.
+const fn is_of_a_line(number: u8) -> bool {
+    number <= 12 || number == 19
+}
 
 /// What the library refuses: a number, which says why, and a place.
 #[derive(Clone, Copy, Debug, PartialEq, Eq, Hash)]
@@ -39,12 +42,12 @@ impl Refusal {
         Self { number, place }
     }
 
-    /// The number, 1 to 18: [`words`](Self::words) says what it means.
+    /// The number, 1 to 19: [`words`](Self::words) says what it means.
     pub const fn number(&self) -> u8 {
         self.number
     }
 
-    /// Where in the line, for 1 to 12: bytes are counted from 0, and where the line should go on and ends, it is the line's length. For 15 it is the length that is
+    /// Where in the line, for 1 to 12 and 19: bytes are counted from 0, and where the line should go on and ends, it is the line's length. For 15 it is the length that is
     /// needed, for 16 how many modifications have no mass; else 0.
     pub const fn place(&self) -> usize {
         self.place
@@ -52,7 +55,7 @@ impl Refusal {
 
     /// The place counted from 1, as editors count; none where the refusal is not of a line.
     pub const fn column(&self) -> Option<usize> {
-        if self.number <= LAST_OF_A_LINE {
+        if is_of_a_line(self.number) {
             Some(self.place + 1)
         } else {
             None

@@ -3,7 +3,7 @@
 use std::fmt::{self, Display, Formatter};
 use std::ops::RangeInclusive;
 
-use crate::lent::{self, Position, BRACKETS, BYTES, LINE, NUMBERS, PARTS, RESIDUES};
+use crate::lent::{self, Position, BRACKETS, BYTES, LINE, NUMBERS, PARTS, RESIDUES, SUGARS};
 use crate::Refusal;
 
 /// What a residue stands in.
@@ -56,12 +56,13 @@ pub enum Key {
     Resid,
     Gno,
     Info,
+    Glycan,
 }
 
-// In the order of their numbers in the tables: sections and keys from 0, kinds from 1.
+// In the order of their numbers in the tables: sections from 0, kinds from 1, keys from 0 but for the last, which is 15.
 const SECTIONS: [Section; 5] = [Section::Plain, Section::RangeFirst, Section::RangeNext, Section::UnsureFirst, Section::UnsureNext];
 const KINDS: [Kind; 6] = [Kind::Unknown, Kind::Labile, Kind::NTerm, Kind::Residue, Kind::Range, Kind::CTerm];
-const KEYS: [(Key, &str); 14] = [
+const KEYS: [(Key, &str); 15] = [
     (Key::None, ""),
     (Key::U, "U:"),
     (Key::M, "M:"),
@@ -76,9 +77,12 @@ const KEYS: [(Key, &str); 14] = [
     (Key::Resid, "RESID:"),
     (Key::Gno, "GNO:"),
     (Key::Info, "INFO:"),
+    (Key::Glycan, "Glycan:"),
 ];
+const GLYCAN: u8 = 15;
 const MASS: u8 = 1;
 const TEXT: u8 = 2;
+const COMPOSITION: u8 = 4;
 
 impl Key {
     /// The key in its canonical spelling, with its colon.
@@ -132,6 +136,13 @@ pub enum Content {
     Text(String),
     /// Nothing but its label: a lone reference.
     Reference,
+    /// A glycan composition.
+    Composition {
+        /// Its text in the list's spelling, without counts of 1.
+        text: String,
+        /// Its mass, with four decimals.
+        mass: Number,
+    },
 }
 
 /// A part of a bracket.
@@ -145,13 +156,45 @@ pub struct Part {
     pub label: Option<Label>,
 }
 
+impl Part {
+    /// The names and counts of a composition, in the order of its text, as the library cuts it; none where the part is no composition.
+    ///
+    /// ```
+    /// # use hwemiduk::Peptidoform;
+    /// let p: Peptidoform = "N[glycan:hexnac1HEX2]".parse()?;
+    /// assert_eq!(p.brackets()[0].parts[0].composition(), Some(vec![("HexNAc", 1), ("Hex", 2)]));
+    /// # Ok::<(), hwemiduk::Refusal>(())
+    /// ```
+    pub fn composition(&self) -> Option<Vec<(&'static str, u8)>> {
+        match &self.content {
+            Content::Composition { text, .. } => composition(text.as_bytes()).ok(),
+            _ => None,
+        }
+    }
+}
+
+/// Cuts a text into the names and counts of a composition, in the order of the text, a count being 1 where none is written; or refuses it with 19. The names are those of
+/// [`SUGARS`], and found in either case.
+///
+/// ```
+/// assert_eq!(hwemiduk::composition(b"Hex5HexNAc4NeuAc")?, [("Hex", 5), ("HexNAc", 4), ("NeuAc", 1)]);
+/// assert_eq!(hwemiduk::composition(b"Man5").unwrap_err().number(), 19);
+/// # Ok::<(), hwemiduk::Refusal>(())
+/// ```
+pub fn composition(text: &[u8]) -> Result<Vec<(&'static str, u8)>, Refusal> {
+    // a name has three bytes or more, and a piece takes two
+    let mut pieces = vec![0; 2 * (text.len() / 3)];
+    let length = lent::composition(text, &mut pieces)?;
+    Ok(pieces[..length].chunks_exact(2).map(|piece| (SUGARS[usize::from(piece[0])], piece[1])).collect())
+}
+
 /// As it is written in the canonical line.
 impl Display for Part {
     fn fmt(&self, f: &mut Formatter<'_>) -> fmt::Result {
         f.write_str(self.key.spelling())?;
         match &self.content {
             Content::Mass(mass) => write!(f, "{mass:+}")?,
-            Content::Text(text) => f.write_str(text)?,
+            Content::Text(text) | Content::Composition { text, .. } => f.write_str(text)?,
             Content::Reference => {}
         }
         if let Some(label) = &self.label {
@@ -290,10 +333,11 @@ impl Tables {
         let texts = &self.bytes[TEXTS_AT + usize::from(wide(row, 5))..];
         let spelled = |bytes: &[u8]| bytes.iter().map(|&byte| char::from(byte)).collect::<String>();
         Part {
-            key: KEYS[usize::from(key)].0,
+            key: if key == GLYCAN { Key::Glycan } else { KEYS[usize::from(key)].0 },
             content: match value {
                 MASS => Content::Mass(Number { millionths: mass, decimals }),
                 TEXT => Content::Text(spelled(&texts[..text_length])),
+                COMPOSITION => Content::Composition { text: spelled(&texts[..text_length]), mass: Number { millionths: mass, decimals } },
                 _ => Content::Reference,
             },
             label: (label_length > 0).then(|| Label { name: spelled(&texts[text_length..][..label_length]), score }),

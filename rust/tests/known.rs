@@ -5,7 +5,10 @@ use std::collections::HashSet;
 use std::error::Error;
 use std::iter::FusedIterator;
 
-use hwemiduk::{entry, lent, Bracket, Content, Key, Kind, Label, Missing, Number, Part, Peptidoform, Placement, Placements, Refusal, Section, WORDS};
+use hwemiduk::{
+    composition, entry, lent, Bracket, Content, Key, Kind, Label, Missing, Number, Part, Peptidoform, Placement, Placements, Refusal, Section,
+    SUGARS, WORDS,
+};
 
 fn of(line: &str) -> Peptidoform {
     line.parse().unwrap_or_else(|refusal| panic!("{line}: {refusal}"))
@@ -149,6 +152,60 @@ fn what_the_tables_hold() {
     assert_eq!(floaters, [(0, 1, free.clone()), (0, 2, free.clone()), (0, 3, free), (4, 1, vec![2, 5])]);
 }
 
+/// Document 02, L1: "The list's spelling is written, a count of 1 dropped."; "a mass without `Obs`"; "a label may end the part".
+#[test]
+fn compositions() {
+    let p = of("N[+1|gLYCAN:hexnac1HEX2#a]");
+    assert_eq!(p.as_str(), "N[+1|Glycan:HexNAcHex2#a]");
+    let part = &p.brackets()[0].parts[1];
+    let label = Some(Label { name: "a".into(), score: None });
+    let mass = Number { millionths: 527_184_900, decimals: 4 };
+    assert_eq!(part, &Part { key: Key::Glycan, content: Content::Composition { text: "HexNAcHex2".into(), mass }, label });
+    assert_eq!(part.to_string(), "Glycan:HexNAcHex2#a");
+    assert_eq!(part.composition(), Some(vec![("HexNAc", 1), ("Hex", 2)]));
+    assert_eq!(p.brackets()[0].parts[0].composition(), None);
+    for (line, total) in [
+        ("A[Glycan:Hex|+1]", 162_052_800),
+        ("A[+1|Glycan:Hex]", 1_000_000),
+        ("A[Obs:+1|Glycan:Hex]", 162_052_800),
+        ("[Glycan:Hex]^2?NN", 324_105_600),
+        ("{Glycan:Hex}{Glycan:NeuAc}EMEVNESPEK", 453_148_200),
+    ] {
+        assert_eq!(of(line).total(), Ok(total), "{line}");
+    }
+    assert_eq!(of("N[Glycan:Hex1]"), of("N[glycan:hex]"));
+    assert_ne!(of("N[Glycan:HexHex]"), of("N[Glycan:Hex2]"));
+    for (line, number, place) in [("A[Glycan:S]", 19, 2), ("A[Glycan:]", 4, 9), ("A[Glycan:foo#XL1]", 8, 2), ("[x]^9?A[Glycan:foo]", 12, 0)] {
+        let refusal = line.parse::<Peptidoform>().unwrap_err();
+        assert_eq!((refusal.number(), refusal.place(), refusal.column()), (number, place, Some(place + 1)), "{line}");
+    }
+    let refusal = Peptidoform::read(b"A[Glycan:foo]").unwrap_err();
+    assert_eq!(refusal.to_string(), "19 at 2: a composition that cannot be cut into listed names and counts");
+}
+
+/// The names are those of the header, in its order.
+#[test]
+fn sugars_are_those_of_the_header() {
+    let (_, rest) = include_str!("../../include/hwemiduk.h").split_once("names[HWEMIDUK_SUGARS] = {").unwrap();
+    let (list, _) = rest.split_once("};").unwrap();
+    let names: Vec<&str> = list.split('"').skip(1).step_by(2).collect();
+    assert_eq!(names, SUGARS);
+}
+
+#[test]
+fn pieces_of_texts() {
+    for (number, name) in SUGARS.iter().enumerate() {
+        let text = format!("{}12{}", name.to_uppercase(), name.to_lowercase());
+        assert_eq!(composition(text.as_bytes()), Ok(vec![(*name, 12), (*name, 1)]), "{number}");
+        assert_eq!(of(&format!("A[Glycan:{}]", name.to_lowercase())).as_str(), format!("A[Glycan:{name}]"));
+    }
+    assert_eq!(composition(b""), Ok(vec![]));
+    assert_eq!(composition("Hex".repeat(1000).as_bytes()).unwrap().len(), 1000);
+    for text in [&b"S"[..], b"Hex 2", b"Hex0", b"Hex01", b"Hex100", b"5Hex", b"HexN1Ac", b"\xff", b"Hex\0"] {
+        assert_eq!(composition(text).unwrap_err().number(), 19, "{text:?}");
+    }
+}
+
 /// Document 01: "its first mass without `Obs`, else its first `Obs` mass, else none"; of one copy.
 #[test]
 fn a_bracket_s_mass() {
@@ -160,6 +217,7 @@ fn a_bracket_s_mass() {
         ("A[-0]", Some(0)),
         ("A[INFO:+1]", None),
         ("A[15.99]", None),
+        ("A[x|Obs:-2|Glycan:Sug2]", Some(84_021_200)),
     ] {
         assert_eq!(of(line).brackets()[0].millionths, millionths, "{line}");
     }

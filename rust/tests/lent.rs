@@ -1,7 +1,7 @@
 //! The calls over lent slices: answers, refusals, and what they leave as it was.
 #![forbid(unsafe_code)]
 
-use hwemiduk::lent::{self, Limits, Listing, Shown, Site, BRACKETS, BYTES, COPIES, LINE, NUMBERS, PARTS, POSITIONS, RESIDUES, ROWS};
+use hwemiduk::lent::{self, Limits, Listing, Shown, Site, BRACKETS, BYTES, COPIES, LINE, NUMBERS, PARTS, PIECES, POSITIONS, RESIDUES, ROWS};
 use hwemiduk::Refusal;
 
 fn tables(line: &str) -> ([u8; BYTES], [i64; NUMBERS]) {
@@ -100,6 +100,23 @@ fn rows() {
     assert_eq!(refused(lent::first_row(&rows, 2, 9)), (17, 0));
     assert_eq!(refused(lent::first_row(&rows[1..], 2, 1)), (13, 0));
     assert_eq!(refused(lent::rows(&bytes, &numbers, &mut rows[1..])), (13, 0));
+}
+
+#[test]
+fn compositions() {
+    let mut pieces = [0xa5; 6];
+    assert_eq!(lent::composition(b"hexnac1HEX2", &mut pieces), Ok(4));
+    assert_eq!(pieces, [1, 1, 0, 2, 0xa5, 0xa5]);
+    let mut pieces = [0xa5; 4];
+    assert_eq!(refused(lent::composition(b"hexnac1HEX2", &mut pieces[..3])), (15, 4));
+    assert_eq!(refused(lent::composition(b"hexnac1HEX2", &mut [])), (15, 4));
+    assert_eq!(refused(lent::composition(b"hexnac1HEX2x", &mut pieces)), (19, 0));
+    assert_eq!(refused(lent::composition(b"x", &mut [])), (19, 0));
+    assert_eq!(pieces, [0xa5; 4]);
+    assert_eq!(lent::outs::composition(b"x", &mut pieces), (19, usize::MAX));
+    assert_eq!(lent::outs::composition(b"Hex", &mut pieces[..1]), (15, 2));
+    assert_eq!(lent::composition(b"", &mut []), Ok(0));
+    assert_eq!(lent::composition("Hex".repeat(PIECES).as_bytes(), &mut [0; 2 * PIECES]), Ok(2 * PIECES));
 }
 
 /// Every call that takes tables answers 14 where a byte of junk stands in unused room.

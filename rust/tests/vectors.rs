@@ -28,6 +28,17 @@ fn every_entry() {
 }
 
 #[test]
+fn every_line_with_compositions() {
+    let mut met = 0;
+    for (row, number) in include_str!("../../compare/vectors/compositions.txt").lines().zip(1..) {
+        let (line, printed) = row.split_once('\t').unwrap();
+        assert_eq!(entry(number, line.as_bytes()), format!("{number} {printed}"));
+        met += 1;
+    }
+    assert!(met > 60, "{met}");
+}
+
+#[test]
 fn every_vector() {
     let (mut accepted, mut refused, mut weighed) = (0, 0, 0);
     for (line, outcome) in LINES.split(|&byte| byte == 10).zip(OUTCOMES.lines()) {

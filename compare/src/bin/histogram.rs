@@ -13,7 +13,7 @@ fn main() {
     let seed = argument(1);
     let count = argument(100_000) as usize;
 
-    let mut outcomes = [0_usize; 13];
+    let mut outcomes = [0_usize; 21];
     let mut floating = [0_usize; 9];
     let mut unplaceable = 0;
     for line in Generator::new(seed).take(count) {
@@ -31,6 +31,9 @@ fn main() {
     let percent = |part: usize| part as f64 * 100.0 / count as f64;
     println!("accepted {:8} {:6.2}%", outcomes[0], percent(outcomes[0]));
     for (number, &lines) in outcomes.iter().enumerate().skip(1) {
+        if (13..19).contains(&number) {
+            continue; // no refusal of a line
+        }
         println!("no {number:5} {lines:8} {:6.2}%", percent(lines));
     }
     for (floaters, &lines) in floating.iter().enumerate() {

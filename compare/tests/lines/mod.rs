@@ -4,7 +4,7 @@
 use compare::areas::encode;
 use compare::floating::crowded;
 use compare::generate::{share, Generator, Random};
-use compare::line::Line;
+use compare::line::{Composition, Content, Key, Line, Number};
 use compare::reader::read;
 
 pub const JUNK_BYTE: u8 = 0xA5;
@@ -32,6 +32,38 @@ impl Lent {
     pub fn same(&self, other: &Self) -> bool {
         self.bytes == other.bytes && self.numbers == other.numbers
     }
+}
+
+/// Areas with a composition that no accepted line reads to, each with what is wrong in it: the part is one of `A[+1|Glycan:HexNAcHex2#a]C[#a]` with something changed.
+pub fn wrong_compositions() -> Vec<(String, Lent)> {
+    let right = Composition { text: b"HexNAcHex2".to_vec(), mass: Number { millionths: 527_184_900, decimals: 4 } };
+    let of = |key: Key, content: Content<'static>| {
+        let mut line = read(b"A[+1|Glycan:HexNAcHex2#a]C[#a]").unwrap();
+        assert_eq!((line.parts[1].key, &line.parts[1].content), (Key::Glycan, &Content::Composition(Box::new(right.clone()))));
+        line.parts[1].key = key;
+        line.parts[1].content = content;
+        Lent::of(&line)
+    };
+    let composition = |text: &[u8], millionths: i64, decimals: u8| {
+        Content::Composition(Box::new(Composition { text: text.to_vec(), mass: Number { millionths, decimals } }))
+    };
+    let mut wrong = Vec::new();
+    for millionths in [0, 1, -527_184_900, 527_184_800, 527_184_899, 527_184_901, 5_271_849_000, 365_132_100, i64::MAX, i64::MIN] {
+        wrong.push((format!("the mass {millionths}"), of(Key::Glycan, composition(&right.text, millionths, 4))));
+    }
+    for decimals in [0, 1, 3, 5, 6, 7, 255] {
+        wrong.push((format!("{decimals} decimals"), of(Key::Glycan, composition(&right.text, right.mass.millionths, decimals))));
+    }
+    for key in [Key::None, Key::U, Key::G, Key::Obs, Key::Unimod, Key::Gno, Key::Info] {
+        wrong.push((format!("the key {key:?}"), of(key, composition(&right.text, right.mass.millionths, 4))));
+    }
+    for text in ["hexNAcHex2", "HexNacHex2", "HEXNACHEX2", "HexNAc1Hex2", "HexNAcHex02", "HexNAcHex", "HexNAcHex1Hex", "HexNAcHexHex1", "Hex", "foo", "HexNAcHex2 ", ""] {
+        wrong.push((format!("the text {text:?}"), of(Key::Glycan, composition(text.as_bytes(), right.mass.millionths, 4))));
+    }
+    wrong.push(("a text".to_owned(), of(Key::Glycan, Content::Text(b"HexNAcHex2"))));
+    wrong.push(("a mass".to_owned(), of(Key::Glycan, Content::Mass(right.mass))));
+    wrong.push(("a reference".to_owned(), of(Key::Glycan, Content::Reference)));
+    wrong
 }
 
 pub fn shown(line: &[u8]) -> String {

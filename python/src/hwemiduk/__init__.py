@@ -28,12 +28,13 @@ target/lib/libhwemiduk.so, which bin/build-shared links.
 from ._library import LIMITS, Limits, library_version
 from ._peptidoform import Line, Peptidoform, entry, read, read_lines
 from ._refusals import WORDS, Refusal
-from ._tables import Bracket, Floater, Key, Kind, Label, Number, Part, Section
+from ._tables import SUGARS, Bracket, Floater, Key, Kind, Label, Number, Part, Section, composition
 
 __version__ = "0.1.0"
 
 __all__ = [
     "LIMITS",
+    "SUGARS",
     "WORDS",
     "Bracket",
     "Floater",
@@ -48,6 +49,7 @@ __all__ = [
     "Refusal",
     "Section",
     "__version__",
+    "composition",
     "entry",
     "library_version",
     "read",

@@ -122,6 +122,7 @@ for _name, _arguments in {
     "next": (*_tables, POINTER(Listing)),
     "ledger": (*_tables, POINTER(Position), c_size_t, POINTER(c_int64), c_size_t, c_void_p),
     "rows": (*_tables, POINTER(Site), c_size_t, c_void_p),
+    "composition": (c_char_p, c_size_t, POINTER(c_uint8), c_size_t, POINTER(c_size_t)),
 }.items():
     _function = getattr(library, "hwemiduk_" + _name)
     _function.argtypes, _function.restype = _arguments, c_uint8

@@ -2,6 +2,7 @@
 
 from __future__ import annotations
 
+import re
 from typing import Any, Optional, Tuple
 
 #: Each refusal in words, by its number.
@@ -13,7 +14,7 @@ WORDS = {
     5: "pairs nested more than eight deep",
     6: "too many residues (254), brackets (64) or parts (4), a text over 128 bytes or a label over 16",
     7: "a mass or score of a million or more or with more than 6 decimals, a count outside 1 to 99",
-    8: "something that is not taken here: Formula, Glycan, Position, Limit, CoMKP, CoMUP, labels XL.. and BRANCH",
+    8: "something that is not taken here: Formula, Position, Limit, CoMKP, CoMUP, labels XL.. and BRANCH",
     9: "prefix U or M with a name of digits only",
     10: "only INFO in a bracket of unknown position or a labile one",
     11: "labels that do not fit: a second one, one defined again, a reference without definition, a count on a labelled bracket, "
@@ -25,10 +26,11 @@ WORDS = {
     16: "a modification has no mass",
     17: "no placement, no further one, no such row or bracket",
     18: "a placement that is not allowed",
+    19: "a composition that cannot be cut into listed names and counts",
 }
 
-#: Refusals 1 to this one are of a line, and their place is one in the line.
-_LAST_OF_A_LINE = 12
+#: These refusals are of a line, and their place is one in the line.
+_OF_A_LINE = (*range(1, 13), 19)
 
 
 # Behind which a mass may begin, and behind which something must stand.
@@ -47,6 +49,8 @@ def _hint(number: int, place: int, line: bytes) -> str:
         if line[place : place + 3] == b"\xef\xbb\xbf":
             return "a byte order mark: save the file without one"
         return "not ASCII" if byte >= b"\x80" else ""
+    if number == 19:
+        return _hint_of_a_composition(re.split(rb"[]}|#]", line[place + 7 :])[0])
     if number != 4:
         return ""
     letter, then = byte.isalpha(), line[place + 1 : place + 2]
@@ -76,10 +80,23 @@ def _hint(number: int, place: int, line: bytes) -> str:
     return ""
 
 
+def _hint_of_a_composition(text: bytes) -> str:
+    for meant, words in (
+        (b"{" in text or b"[" in text, "a formula in a composition is not taken here"),
+        (b" " in text, "a blank: a composition has none: Hex5HexNAc4"),
+        (b"(" in text, "a count stands behind its name as it is: Hex5HexNAc4"),
+        (text[:1].isdigit(), "a count stands behind its name: Hex5"),
+        (re.search(rb"[A-Za-z]0|[0-9][0-9][0-9]", text), "a count is 1 to 99, without leading zeros"),
+    ):
+        if meant:
+            return words
+    return "the names are Hex, HexNAc, dHex, Fuc, NeuAc and 19 more: --explain 19"
+
+
 class Refusal(ValueError):
     """What the library refuses: `number` says why (WORDS), and `place` where.
 
-    The place of refusals 1 to 12 is a byte of the line, counted from 0; where the line should go on and ends, it is the line's length. For 16, `place` is how
+    The place of refusals 1 to 12 and 19 is a byte of the line, counted from 0; where the line should go on and ends, it is the line's length. For 16, `place` is how
     many modifications have no mass, each copy counted. `line` is the line that was refused (bytes), None where no line was read.
     """
 
@@ -97,7 +114,7 @@ class Refusal(ValueError):
     @property
     def column(self) -> Optional[int]:
         """The place counted from 1, as editors count; None where the refusal is not of a line."""
-        return self.place + 1 if self.number <= _LAST_OF_A_LINE else None
+        return self.place + 1 if self.number in _OF_A_LINE else None
 
     @property
     def hint(self) -> str:

@@ -4,10 +4,10 @@ from __future__ import annotations
 
 import enum
 import struct
-from ctypes import byref, c_int64
+from ctypes import byref, c_int64, c_size_t, c_uint8
 from dataclasses import dataclass
 from decimal import Decimal
-from typing import Optional, Tuple
+from typing import List, Optional, Tuple, Union
 
 from ._library import LIMITS, Areas, library
 from ._refusals import Refusal
@@ -35,7 +35,7 @@ class Section(enum.Enum):
 
 
 class Key(enum.Enum):
-    """A part's key word or prefix, in the order of their numbers in the tables, from 0; its value is the canonical spelling."""
+    """A part's key word or prefix, in the order of their numbers in the tables, from 0, but for the last, which is 15; its value is the canonical spelling."""
 
     NONE = ""
     U = "U"
@@ -51,6 +51,7 @@ class Key(enum.Enum):
     RESID = "RESID"
     GNO = "GNO"
     INFO = "INFO"
+    GLYCAN = "Glycan"
 
 
 @dataclass(frozen=True)
@@ -80,9 +81,40 @@ class Label:
         return "#" + self.name + (f"({self.score.decimal:f})" if self.score is not None else "")
 
 
+#: The names that a composition is made of, in the order and in the spelling of the list of ProForma 2.1, section 10.2.
+SUGARS = (
+    "Hex", "HexNAc", "HexS", "HexP", "HexNAcS", "HexN", "HexNS", "dHex", "aHex", "en,aHex", "Neu", "NeuAc", "NeuGc",
+    "Sug", "Tri", "Tet", "Pen", "Hep", "Oct", "Non", "Dec", "Fuc", "Sulfate", "Phosphate",
+)
+
+
+def composition(text: Union[str, bytes, bytearray, memoryview]) -> List[Tuple[str, int]]:
+    """Cuts a text, as it stands behind `Glycan:`, into names and counts, in the order of the text; a count is 1 where none is written.
+
+    >>> composition("Hex5HexNAc4NeuAc")
+    [('Hex', 5), ('HexNAc', 4), ('NeuAc', 1)]
+
+    The names are those of SUGARS, found in either case. There is never more than one way to cut a text. One that cannot be cut raises its Refusal.
+
+    >>> composition("Man5")
+    Traceback (most recent call last):
+    hwemiduk.Refusal: 19 at 0: a composition that cannot be cut into listed names and counts
+    """
+    if not isinstance(text, (str, bytes, bytearray, memoryview)):
+        raise TypeError(f"a composition is bytes or str, not {type(text).__name__}")
+    raw = text.encode("utf-8", "surrogatepass") if isinstance(text, str) else bytes(text)
+    # a name has three bytes or more, and a piece takes two
+    room = 2 * (len(raw) // 3)
+    pieces, length = (c_uint8 * max(room, 1))(), c_size_t()
+    number = library.hwemiduk_composition(raw, len(raw), pieces, room, byref(length))
+    if number:
+        raise Refusal(number)
+    return [(SUGARS[pieces[at]], pieces[at + 1]) for at in range(0, length.value, 2)]
+
+
 @dataclass(frozen=True)
 class Part:
-    """A part of a bracket: a mass, or a text, or (a lone reference) only a label."""
+    """A part of a bracket: a mass, or a text, or a composition, which has both, or (a lone reference) only a label."""
 
     key: Key
     mass: Optional[Number]
@@ -90,8 +122,13 @@ class Part:
     label: Optional[Label]
 
     def __str__(self) -> str:
-        value = self.text or "" if self.mass is None else f"{self.mass.decimal:+f}"
+        value = self.text if self.text is not None else f"{self.mass.decimal:+f}" if self.mass is not None else ""
         return (self.key.value + ":" if self.key is not Key.NONE else "") + value + (str(self.label) if self.label else "")
+
+    @property
+    def composition(self) -> Optional[List[Tuple[str, int]]]:
+        """The names and counts of a glycan composition, in the order of its text, as the library cuts it; None where the part is no composition."""
+        return composition(self.text) if self.key is Key.GLYCAN and self.text is not None else None
 
 
 @dataclass(frozen=True)
@@ -150,8 +187,8 @@ if (_TEXTS + LIMITS.line, LIMITS.brackets * _NUMBERS) != (LIMITS.bytes, LIMITS.n
 # By their numbers in the tables. No accepted line has a bracket of kind 0.
 _kinds = (Kind.UNKNOWN, *Kind)
 _sections = tuple(Section)
-_keys = tuple(Key)
-_MASS, _TEXT = 1, 2
+_keys = dict(zip((*range(14), 15), Key))
+_MASS, _TEXT, _COMPOSITION = 1, 2, 4
 _NO_MASS = 16
 
 
@@ -192,6 +229,6 @@ def _part(data: bytearray, at: int, mass: int, score: Optional[Number]) -> Part:
     value, key, decimals, text_length, label_length, offset = _PART.unpack_from(data, at)
     text_at = _TEXTS + offset
     label_at = text_at + text_length
-    text = data[text_at:label_at].decode("ascii") if value == _TEXT else None
+    text = data[text_at:label_at].decode("ascii") if value in (_TEXT, _COMPOSITION) else None
     label = Label(data[label_at : label_at + label_length].decode("ascii"), score) if label_length else None
-    return Part(_keys[key], Number(mass, decimals) if value == _MASS else None, text, label)
+    return Part(_keys[key], Number(mass, decimals) if value in (_MASS, _COMPOSITION) else None, text, label)

@@ -66,6 +66,8 @@ bracket-within n k w j =
       one-labelled = λ e. w .single (j .uncounted e);
       one-label = j .one-label;
       parts = each-two PartShape JudgedPart PartWithin part-within (k .parts) (w .parts) (j .parts);
+      few-places = j .few-places;
+      sites = w .sites;
       lone = w .lone;
     }
 
@@ -93,6 +95,7 @@ module _ (s : List ℕ) (m : Line ℕ) (t : Taken s m) where
         few-residues = j .few-residues;
         letters = w .letters;
         few-brackets = j .few-brackets;
+        few-declarations = j .few-declarations;
         brackets = each-two (BracketShape (length (l .residues))) JudgedBracket (BracketWithin (length (l .residues)))
             (bracket-within (length (l .residues))) (l .brackets) (w .brackets) (j .brackets);
         texts = omega arith;

@@ -1,5 +1,5 @@
 -- A line without its places is within the bounds where the line is.
-use mathlib.Core.Path.{_≡_, sym, ap, _∙_, subst}
+use mathlib.Core.Path.{_≡_, refl, sym, ap, _∙_, subst}
 use mathlib.Core.Bool.{true}
 use mathlib.Core.Option.{Option, none, some}
 use mathlib.Core.List.{map}
@@ -8,13 +8,15 @@ use lib.ListN.{length, length-map}
 use Rattle.scope.specs.Limits.{copyLimit}
 use Rattle.scope.specs.Line.{Number, Label, Value, mass, text, reference, composition, Part, Bracket, Line}
 use Rattle.scope.specs.Content.{isReference}
-use Rattle.scope.specs.Tables.{bareNumber, bareLabel, bareValue, barePart, bareBracket, bareResidue, tablesOf}
+use Rattle.scope.specs.Tables.{bareNumber, bareLabel, bareValue, barePart, barePlace, bareBracket, bareResidue, tablesOf}
 use Rattle.scope.specs.Layout.{bracketTexts}
+use Rattle.scope.specs.Kinds.{isDeclared}
 use Rattle.scope.specs.Lists.{optional}
+use Rattle.scope.specs.Refusals.{declarations}
 use Rattle.scope.specs.Positions.{floaters}
 use Rattle.basics.specs.Each.{OfGiven, IsGiven, each-map, each-one}
 use Rattle.accepted_laws.specs.Within.{Byte, NumberWithin, LabelWithin, ValueWithin, PartWithin, BracketWithin, Within}
-use Rattle.basics.specs.Lists.{flat-map}
+use Rattle.basics.specs.Lists.{flat-map, keep-map}
 use Rattle.reading_laws.specs.Bare.{names-of, bracket-texts, same-floaters, is-reference}
 
 module _ {P : Type 0} where
@@ -56,6 +58,8 @@ module _ {P : Type 0} where
         one-labelled = λ e. w .one-labelled (rw (names-of k) at e);
         one-label = rw (names-of k) (w .one-label);
         parts = each-map PartWithin barePart (k .parts) (each-one PartWithin (λ p. PartWithin (barePart p)) part-within (k .parts) (w .parts));
+        few-places = rw (length-map (k .places) barePlace) (w .few-places);
+        sites = each-map (λ p. Byte (p .site)) barePlace (k .places) (w .sites);
         lone =
             each-map (λ p. isReference (p .value) ≡ true → length (map barePart (k .parts)) ≡ 1) barePart (k .parts)
             (each-one (λ p. isReference (p .value) ≡ true → length (k .parts) ≡ 1)
@@ -68,11 +72,13 @@ module _ {P : Type 0} where
   within-bare l w =
       let r = length-map (l .residues) bareResidue in
       let b = length-map (l .brackets) bareBracket in
+      let d = ap length (keep-map (λ k. isDeclared (k .kind)) (λ k. isDeclared (k .kind)) bareBracket (λ k. refl) (l .brackets)) ∙ length-map (declarations (l .brackets)) bareBracket in
       record {
         some-residue = rw r (w .some-residue);
         few-residues = rw r (w .few-residues);
         letters = each-map (λ r. Byte (r .letter)) bareResidue (l .residues) (w .letters);
         few-brackets = rw b (w .few-brackets);
+        few-declarations = rw d (w .few-declarations);
         brackets =
             rw r
             (each-map (BracketWithin (length (l .residues))) bareBracket (l .brackets)

@@ -4,7 +4,7 @@ use mathlib.Core.Logic.{inl, inr}
 use mathlib.Core.Bool.{Bool, true, false, not, _&&_, _||_, false≢true, true≢false}
 use mathlib.Core.Option.{Option, none, some}
 use mathlib.Core.List.{List, [], _∷_, _++_, map}
-use Prim.Native.Nat.{ℕ, _+_, _≤_, _<_}
+use Prim.Native.Nat.{ℕ, _+_, _-_, _≤_, _<_}
 use native.Mathlib.Omega.{arith}
 use lib.Dec.{eqb, leb, ltb}
 use lib.ListN.{length, drop, length-drop, length-map, length-append, length-replicate, replicate}
@@ -12,13 +12,13 @@ use borrow.Author.Tests.{ltb-false, le-leb, eqb-false, not-false}
 use Rattle.scope.specs.declared.grammar.Key.{Key}
 use Rattle.scope.specs.declared.grammar.Key.the-variants.{NoKey, U, M, R, X, G, C, Obs, Unimod, Mod, Xlmod, Resid, Gno, Info, Formula, Glycan, Position, Limit}
 use Rattle.scope.specs.Bytes.{isPrintable}
-use Rattle.scope.specs.Limits.{lineLimit, residueLimit, bracketLimit, partLimit, textLimit, labelLimit, countLimit, copyLimit}
+use Rattle.scope.specs.Limits.{lineLimit, residueLimit, bracketLimit, partLimit, textLimit, labelLimit, countLimit, copyLimit, declarationLimit, placeLimit}
 use Rattle.scope.specs.Line.{Number, Label, Value, mass, text, reference, composition, Part, Bracket, Line}
 use Rattle.scope.specs.Keys.{keyCode}
 use Rattle.scope.specs.Lists.{given, flat}
 use Rattle.scope.specs.Reading.{holds, reading}
 use Rattle.scope.specs.Modifications.{namesOf, isLabelled, copies, definedBy, defined, referredTo}
-use Rattle.scope.specs.Refusals.{dueAt, unprintable, refusal2, refusal3, refusal6, refusal7, refusal8, refusal11, refusal12, textOf, longText, longLabel, overIn, inRange, wide, wideMass, wideScore, wideCount, notHere, isRule, isLink, secondLabel, definedAgain, undefined, countedLabel, unreferred, wrongLabels, wronglyLabelled, passing}
+use Rattle.scope.specs.Refusals.{dueAt, unprintable, refusal2, refusal3, refusal6, refusal7, refusal8, refusal11, refusal12, textOf, longText, longLabel, manyPlaces, overIn, declarations, manyDeclarations, inRange, wide, wideMass, wideScore, wideCount, notHere, isRule, isLink, secondLabel, definedAgain, undefined, countedLabel, unreferred, wrongLabels, wronglyLabelled, passing}
 use Rattle.scope.specs.Positions.{floaters}
 use Rattle.basics.specs.Lists.{not-due, nil-front, nil-back, flat-none}
 use Rattle.basics.specs.Tests.{or-left, or-right}
@@ -107,6 +107,7 @@ pub record JudgedBracket (k : Bracket ℕ) : Type 0 where
   pub one-label : length (namesOf k) ≤ 1
   pub uncounted : isLabelled k ≡ true → k .counted ≡ none
   pub parts : Each JudgedPart (k .parts)
+  pub few-places : length (k .places) ≤ placeLimit
 
 count-range-of : (n : ℕ) (c : Option ℕ) → given c (dueAt (eqb n 0 || ltb countLimit n)) [] ≡ [] → OfGiven (λ i. (0 < n) × (n ≤ countLimit)) c
 count-range-of n none e = tt
@@ -127,22 +128,25 @@ judged-bracket :
     → flat (λ p. dueAt (notHere p) (p .at)) (k .parts) ≡ [] → wrongLabels before definitions references k ≡ false → JudgedBracket k
 judged-bracket before definitions references k a b c d =
     let long = drop partLimit (map (λ p. p .at) (k .parts)) in
+    let texts = flat (λ p. longText p ++ longLabel p) (k .parts) in
+    let behind = nil-back long (texts ++ manyPlaces k) a in
     let d1 = or-left _ (unreferred references k) d in
     let d2 = or-left _ (countedLabel k) d1 in
     let d3 = or-left _ (undefined definitions k) d2 in
     let d4 : secondLabel k ≡ false = or-left _ (definedAgain before k) d3 in
     record {
-      few-parts = none-dropped (λ p. p .at) partLimit (k .parts) (nil-front long (flat (λ p. longText p ++ longLabel p) (k .parts)) a);
+      few-parts = none-dropped (λ p. p .at) partLimit (k .parts) (nil-front long (texts ++ manyPlaces k) a);
       count-range = count-range-of (k .count) (k .counted) (nil-front (wideCount k) (flat (λ p. wideMass (p .value) ++ wideScore p) (k .parts)) b);
       one-label = ltb-false 1 (length (namesOf k)) d4;
       uncounted = uncounted-of (isLabelled k) (k .counted)
           (or-right (secondLabel k || definedAgain before k || undefined definitions k) (countedLabel k) d1);
       parts =
           each-three _ _ _ JudgedPart judged-part (k .parts)
-          (flat-none (λ p. longText p ++ longLabel p) (k .parts) (nil-back long (flat (λ p. longText p ++ longLabel p) (k .parts)) a))
+          (flat-none (λ p. longText p ++ longLabel p) (k .parts) (nil-front texts (manyPlaces k) behind))
           (flat-none (λ p. wideMass (p .value) ++ wideScore p) (k .parts)
           (nil-back (wideCount k) (flat (λ p. wideMass (p .value) ++ wideScore p) (k .parts)) b))
           (flat-none (λ p. dueAt (notHere p) (p .at)) (k .parts) c);
+      few-places = none-dropped (λ p. p .at) placeLimit (k .places) (nil-back texts (manyPlaces k) behind);
     }
 
 judged-brackets :
@@ -191,6 +195,7 @@ pub record Judged (s : List ℕ) (l : Line ℕ) : Type 0 where
   pub printable : Each (λ b. isPrintable b ≡ true) s
   pub few-residues : length (l .residues) ≤ residueLimit
   pub few-brackets : length (l .brackets) ≤ bracketLimit
+  pub few-declarations : length (declarations (l .brackets)) ≤ declarationLimit
   pub brackets : Each JudgedBracket (l .brackets)
   pub few-copies : length (floaters l) ≤ copyLimit
 
@@ -203,21 +208,24 @@ judged-line s m w =
     let no3 : refusal3 s ≡ [] = w .bytes .1 .1 .0 in
     let from6 = w .clear .1 in
     let from8 = from6 .1 .1 in
-    let from11 = from8 .1 .1 .1 in
+    let from11 = from8 .1 .1 .1 .1 in
     let rs = drop residueLimit (map (λ r. r .at) (l .residues)) in
     let ks = drop bracketLimit (map (λ k. k .at) (l .brackets)) in
-    let a : rs ++ (ks ++ flat overIn (l .brackets)) ≡ [] = (from6 .0) in
-    let b = nil-back rs (ks ++ flat overIn (l .brackets)) a in
+    let ds = manyDeclarations (l .brackets) in
+    let a : rs ++ (ks ++ (ds ++ flat overIn (l .brackets))) ≡ [] = (from6 .0) in
+    let b = nil-back rs (ks ++ (ds ++ flat overIn (l .brackets))) a in
+    let d = nil-back ks (ds ++ flat overIn (l .brackets)) b in
     let c = few-copies-of 0 (l .brackets) (omega arith) ((from11 .1 .0)) in
     record {
       read = w .reads;
       short = not-long s no2;
       printable = all-printable 0 s (no3);
-      few-residues = none-dropped (λ r. r .at) residueLimit (l .residues) (nil-front rs (ks ++ flat overIn (l .brackets)) a);
-      few-brackets = none-dropped (λ k. k .at) bracketLimit (l .brackets) (nil-front ks (flat overIn (l .brackets)) b);
+      few-residues = none-dropped (λ r. r .at) residueLimit (l .residues) (nil-front rs (ks ++ (ds ++ flat overIn (l .brackets))) a);
+      few-brackets = none-dropped (λ k. k .at) bracketLimit (l .brackets) (nil-front ks (ds ++ flat overIn (l .brackets)) b);
+      few-declarations = none-dropped (λ k. k .at - 1) declarationLimit (declarations (l .brackets)) (nil-front ds (flat overIn (l .brackets)) d);
       brackets =
           judged-brackets [] (defined (l .brackets)) (referredTo (l .brackets)) (l .brackets)
-          (flat-none overIn (l .brackets) (nil-back ks (flat overIn (l .brackets)) b))
+          (flat-none overIn (l .brackets) (nil-back ds (flat overIn (l .brackets)) d))
           (flat-none (λ k. wideCount k ++ flat (λ p. wideMass (p .value) ++ wideScore p) (k .parts)) (l .brackets) ((from6 .1 .0)))
           (flat-none (λ k. flat (λ p. dueAt (notHere p) (p .at)) (k .parts)) (l .brackets) ((from8 .0)))
           ((from11 .0));

@@ -18,12 +18,14 @@ use Rattle.scope.specs.Grammar.{plainByte, outerByte}
 use Rattle.scope.specs.Modifications.{isKey}
 use Rattle.scope.specs.Glycans.{Item, massDecimals, cuttings, shortText, cuttingMass}
 use Rattle.scope.specs.Kept.{compositionMass, cutAs, cutValue, keptPart, keptBracket, kept}
-use Rattle.scope.specs.Refusals.{textIn, textOf}
+use Rattle.scope.specs.Kinds.{isDeclared}
+use Rattle.scope.specs.Refusals.{textIn, textOf, declarations}
 use Rattle.scope.specs.Tables.{labelOf}
 use Rattle.scope.specs.Layout.{packed, bracketTexts}
 use Rattle.scope.specs.Positions.{floaters}
 use Rattle.basics.specs.Each.{Each, each-map, each-one}
 use Rattle.basics.specs.Keys.{key-back}
+use Rattle.basics.specs.Lists.{keep-map}
 use Rattle.basics.specs.Tests.{and-left, and-right, both}
 use Rattle.reading_laws.specs.Compositions.{likewise-kept, names-kept, floaters-kept}
 use Rattle.glycan_laws.specs.Laws.{Cuts}
@@ -106,6 +108,8 @@ module _ {P : Type 0} where
         one-labelled = λ e. w .one-labelled (rw (names-kept k) at e);
         one-label = rw (names-kept k) (w .one-label);
         parts = each-map PartWithin keptPart (k .parts) (each-one PartWithin (λ p. PartWithin (keptPart p)) part-within (k .parts) (w .parts));
+        few-places = w .few-places;
+        sites = w .sites;
         lone =
             each-map (λ p. isReference (p .value) ≡ true → length (map keptPart (k .parts)) ≡ 1) keptPart (k .parts)
             (each-one (λ p. isReference (p .value) ≡ true → length (k .parts) ≡ 1)
@@ -142,11 +146,13 @@ module _ {P : Type 0} where
   unfolding kept
   within-kept l w =
       let b = length-map (l .brackets) keptBracket in
+      let d = ap length (keep-map (λ k. isDeclared (k .kind)) (λ k. isDeclared (k .kind)) keptBracket (λ k. refl) (l .brackets)) ∙ length-map (declarations (l .brackets)) keptBracket in
       record {
         some-residue = w .some-residue;
         few-residues = w .few-residues;
         letters = w .letters;
         few-brackets = rw b (w .few-brackets);
+        few-declarations = rw d (w .few-declarations);
         brackets =
             each-map (BracketWithin (length (l .residues))) keptBracket (l .brackets)
             (each-one (BracketWithin (length (l .residues))) (λ k. BracketWithin (length (l .residues)) (keptBracket k))

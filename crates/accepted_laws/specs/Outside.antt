@@ -1,25 +1,27 @@
 -- What the reader's state keeps to, byte by byte, and so what every line that is read keeps to, limits apart.
 use mathlib.Core.Path.{_≡_, refl, sym, ap, ap₂, _∙_, subst}
 use mathlib.Core.Bool.{Bool, true, false, not, _&&_, _||_, false≢true, true≢false}
-use mathlib.Core.Option.{none}
+use mathlib.Core.Option.{none, some}
 use mathlib.Core.List.{List, [], _∷_, _++_, map}
 use Prim.Native.Nat.{ℕ, zero, suc, _+_, _≤_, _<_}
 use native.Mathlib.Nat.{le-refl}
 use native.Mathlib.Omega.{arith}
+use lib.Dec.{eqb}
 use lib.ListN.{length, length-append}
 use Rattle.scope.specs.declared.grammar.Section.{Section}
 use Rattle.scope.specs.declared.grammar.Section.the-variants.{Plain, RangeFirst, RangeNext, UnsureFirst, UnsureNext}
 use Rattle.scope.specs.declared.grammar.Kind.{Kind}
 use Rattle.scope.specs.declared.grammar.Kind.the-variants.{Unknown, NTerm}
 use Rattle.scope.specs.declared.grammar.Mode.{Mode}
-use Rattle.scope.specs.declared.grammar.Mode.the-variants.{Runs, Counting, Start}
+use Rattle.scope.specs.declared.grammar.Mode.the-variants.{Front, Runs, Counting, Start}
 use Rattle.scope.specs.declared.grammar.Slot.{Slot}
 use Rattle.scope.specs.declared.grammar.Act.{Act}
-use Rattle.scope.specs.declared.grammar.Act.the-variants.{Stop, Go, Residue as aResidue, Begin, Digit, RunEnds, TermEnds}
-use Rattle.scope.specs.Bytes.{upper, isLower}
-use Rattle.scope.specs.Line.{Part, Bracket, Residue, Line}
+use Rattle.scope.specs.declared.grammar.Act.the-variants.{Stop, Go, Residue as aResidue, Begin, Digit, RunEnds, TermEnds, Places}
+use Rattle.scope.specs.Bytes.{bytes, upper, isLower}
+use Rattle.scope.specs.Line.{Place, Part, Bracket, Residue, Line}
 use Rattle.scope.specs.Content.{isReference, Inner, Content, lost, closed, going, innerStep}
-use Rattle.scope.specs.Reading.{counted, referred, act, mayEnd, Held, firstOf, withResidue, positionOf, bracketOf, settled, waiting, withBracket, times, countDigit, withDigit, asNTerm, settledRun, State, dead, outside, inside, perform, refers?, resume, step, run, start, holds, reading}
+use Rattle.scope.specs.Reading.{counted, referred, act, mayEnd, Held, firstOf, withResidue, positionOf, bracketOf, settled, waiting, withBracket, times, countDigit, withDigit, asNTerm, settledRun, declaredAt, withPlaces, State, dead, outside, inside, placing, perform, refers?, resume, step, run, start, holds, reading}
+use Rattle.scope.specs.Places.{nTerminus, cTerminus, Placing, expected, placed, owing, owed, terminusOf}
 use Rattle.scope.specs.Lists.{onLast, flat}
 use Rattle.scope.specs.Kinds.{isUnknown}
 use Rattle.scope.specs.Layout.{bracketTexts}
@@ -27,8 +29,9 @@ use Rattle.basics.specs.Tests.{and-left, and-right, implied}
 use Rattle.basics.specs.Lists.{flat-append-length, flat-one-length}
 use Rattle.basics.specs.Choice.{branch}
 use Rattle.reading_laws.specs.Acts.{ways, each-mode, act-rule, someWay, endsTerm, waits}
+use Rattle.reading_laws.specs.Listed.{PlaceOn, place-begins, place-over, word-begins, word-on, PlacesGo, places-on, places-over, places-stop, places-go}
 use Rattle.reading_laws.specs.Kept.{reading-whole-from, put-by, digit-by}
-use Rattle.basics.specs.Each.{each-last, Each, each-append, each-map, each-one, each-two}
+use Rattle.basics.specs.Each.{each-last, Each, OfGiven, each-append, each-snoc, each-map, each-one, each-two}
 use Rattle.accepted_laws.specs.Within.{Byte, StoodAt}
 use Rattle.accepted_laws.specs.Inside.{PartShape, PartsShape, Carried, InnerKeeps, ContentKeeps, inner-step}
 
@@ -42,6 +45,7 @@ leadsTo F (Begin s) = F (s .after) || F (s .referred)
 leadsTo F Digit = F Counting
 leadsTo F RunEnds = F Runs
 leadsTo F TermEnds = F Start
+leadsTo F Places = F Front
 
 abbrev lateWithin : ℕ → Mode → Bool
 lateWithin zero m = mayEnd m
@@ -66,6 +70,7 @@ keeps m (Begin s) = leads m (s .after) && leads m (s .referred)
 keeps m Digit = true
 keeps m RunEnds = true
 keeps m TermEnds = countless m
+keeps m Places = leads m Front
 
 act-keeps : (m : Mode) (b : ℕ) → keeps m (act m b) ≡ true
 act-keeps = act-rule keeps refl
@@ -81,6 +86,7 @@ pub record BracketShape {P : Type 0} (n : ℕ) (k : Bracket P) : Type 0 where
   pub stands : StoodAt (k .kind) (k .first) (k .last) n
   pub uncounted : isUnknown (k .kind) ≡ false → k .counted ≡ none
   pub single : k .counted ≡ none → k .count ≡ 1
+  pub sites : Each (λ p. Byte (p .site)) (k .places)
 
 -- a bracket at the front, whose kind is not settled
 pub record RunShape {P : Type 0} (n : ℕ) (k : Bracket P) : Type 0 where
@@ -108,14 +114,26 @@ pub record InsideKeeps {P : Type 0} (m : ℕ) (s : Slot) (h : Held P) (c : Inner
   pub after : ModeKeeps (s .after) h
   pub referred : ModeKeeps (s .referred) h
 
+abbrev SitesKeep : {P : Type 0} → List (Place P) → Type 0
+SitesKeep ps = Each (λ p. Byte (p .site)) ps
+
+abbrev PlacingKeeps : {P : Type 0} → Placing P → Type 0
+PlacingKeeps (expected ps) = SitesKeep ps
+PlacingKeeps (placed ps p) = SitesKeep ps × Byte (p .site)
+PlacingKeeps (owing ps p x w) = SitesKeep ps × Byte (p .site)
+
 abbrev pub StateKeeps : {P : Type 0} → ℕ → State P → Type 0
 StateKeeps m (dead p) = Unit {0}
 StateKeeps m (outside o h) = HeldKeeps m h × ModeKeeps o h
 StateKeeps m (inside s at h c) = InsideKeeps m s h c
+StateKeeps m (placing h s) = HeldKeeps m h × ModeKeeps Front h × PlacingKeeps s
 
 upper-byte : (b : ℕ) → Byte b → Byte (upper b)
 unfolding upper
 upper-byte b h = branch Byte (isLower b) (omega arith) h
+
+terminus-byte : (c s : ℕ) → terminusOf c ≡ some s → Byte s
+terminus-byte c s e = subst (OfGiven Byte) e (branch (OfGiven Byte) (eqb c 78) {x = some nTerminus} (omega arith) (branch (OfGiven Byte) (eqb c 67) {x = some cTerminus} {y = none} (omega arith) tt))
 
 -- one residue more leaves brackets where they stand
 stands-more : (k : Kind) (first last n : ℕ) → StoodAt k first last n → StoodAt k first last (n + 1)
@@ -167,6 +185,7 @@ module _ {P : Type 0} where
         stands = stands-more (k .kind) (k .first) (k .last) n (w .stands);
         uncounted = w .uncounted;
         single = w .single;
+        sites = w .sites;
       }
 
   residue-keeps : (i : P) (b : ℕ) (s : Section) (h : Held P) (m : ℕ) → Byte b → HeldKeeps m h → HeldKeeps m (withResidue i b s h)
@@ -197,6 +216,7 @@ module _ {P : Type 0} where
         stands = stands-new k (h .first) (length (h .residues)) g;
         uncounted = λ e. refl;
         single = λ e. refl;
+        sites = tt;
       }
 
   settled-keeps :
@@ -260,6 +280,7 @@ module _ {P : Type 0} where
           stands = v .stands;
           uncounted = λ e. absurd (unknown-not (k .kind) (w .unknown) e);
           single = λ e. let z : _≡_ {A = ℕ} 0 1 = cc in absurd (omega arith);
+          sites = v .sites;
         };
       }
 
@@ -269,11 +290,11 @@ module _ {P : Type 0} where
   digit-texts : (i : P) (b : ℕ) (k : Bracket P) → bracketTexts (countDigit i b k) ≡ bracketTexts k
   digit-texts i b k = digit-by (λ j. bracketTexts j ≡ bracketTexts k) i b k (λ n p. refl)
 
-  last-texts : (i : P) (b : ℕ) (ks : List (Bracket P)) → flat bracketTexts (onLast (countDigit i b) ks) ≡ flat bracketTexts ks
+  last-texts : (f : Bracket P → Bracket P) → ((k : Bracket P) → bracketTexts (f k) ≡ bracketTexts k) → (ks : List (Bracket P)) → flat bracketTexts (onLast f ks) ≡ flat bracketTexts ks
   unfolding onLast flat
-  last-texts i b [] = refl
-  last-texts i b (k ∷ []) = ap (λ t. t ++ []) (digit-texts i b k)
-  last-texts i b (k ∷ j ∷ ks) = ap (λ t. bracketTexts k ++ t) (last-texts i b (j ∷ ks))
+  last-texts f e [] = refl
+  last-texts f e (k ∷ []) = ap (λ t. t ++ []) (e k)
+  last-texts f e (k ∷ j ∷ ks) = ap (λ t. bracketTexts k ++ t) (last-texts f e (j ∷ ks))
 
   digit-keeps : (i : P) (b : ℕ) (h : Held P) (m : ℕ) → HeldKeeps m h → HeldKeeps m (withDigit i b h)
   digit-keeps i b h m w =
@@ -282,7 +303,7 @@ module _ {P : Type 0} where
         group = w .group;
         brackets = w .brackets;
         run = each-last (RunShape (length (h .residues))) (countDigit i b) (digit-shape (length (h .residues)) i b) (h .run) (w .run);
-        fits = rw (last-texts i b (h .run)) (w .fits);
+        fits = rw (last-texts (countDigit i b) (digit-texts i b) (h .run)) (w .fits);
       }
 
   -- ---- the brackets at the front are settled
@@ -296,6 +317,7 @@ module _ {P : Type 0} where
         stands = stands-term (k .kind) (k .first) (k .last) n (w .unknown) (v .stands);
         uncounted = λ f. e;
         single = v .single;
+        sites = v .sites;
       }
 
   texts-same :
@@ -365,6 +387,37 @@ module _ {P : Type 0} where
         (h .run) (w .run) (e .uncounted g))),
     record { some-residue = λ f. absurd (false≢true f); uncounted = λ f. tt },
   )
+  perform-keeps i b m o h Places q w e g = (held-more h m (m + 1) (omega arith) w, lead o Front h g e, tt)
+
+  -- ---- the places of a declaration
+  owed-keeps : (ps : List (Place P)) (p : Place P) (w : List ℕ) → SitesKeep ps → Byte (p .site) → PlacingKeeps (owed ps p w)
+  owed-keeps ps p [] g q = (g, q)
+  owed-keeps ps p (x ∷ w) g q = (g, q)
+
+  place-keeps : {i : P} {b : ℕ} {s t : Placing P} → PlaceOn i b s t → Byte b → PlacingKeeps s → PlacingKeeps t
+  place-keeps {b = b} (place-begins e) q g = (g, upper-byte b q)
+  place-keeps (place-over {ps = ps} {p = p} e) q g = each-snoc (λ r. Byte (r .site)) ps p (g .0) (g .1)
+  place-keeps (word-begins {ps = ps} {p = p} {s = s} e f) q g = owed-keeps ps (record { site = s; at = p .at }) (bytes "term") (g .0) (terminus-byte (p .site) s f)
+  place-keeps (word-on {ps = ps} {p = p} {w = w} e) q g = owed-keeps ps p w (g .0) (g .1)
+
+  places-held : (ps : List (Place P)) (h : Held P) (m : ℕ) → SitesKeep ps → HeldKeeps m h → HeldKeeps m (withPlaces ps h)
+  places-held ps h m g w =
+      record {
+        letters = w .letters;
+        group = w .group;
+        brackets = each-last (BracketShape (length (h .residues))) (declaredAt ps)
+            (λ k v. record { some-part = v .some-part; parts = v .parts; lone = v .lone; stands = v .stands; uncounted = v .uncounted; single = v .single; sites = g }) (h .brackets) (w .brackets);
+        run = w .run;
+        fits = rw (last-texts (declaredAt ps) (λ k. refl) (h .brackets)) (w .fits);
+      }
+
+  places-keep : {i : P} {b : ℕ} {h : Held P} {s : Placing P} {x : State P} → PlacesGo i b h s x → (m : ℕ) → Byte b → HeldKeeps m h → ModeKeeps Front h → PlacingKeeps s → StateKeeps (m + 1) x
+  places-keep {h = h} (places-on o) m q w e g = (held-more h m (m + 1) (omega arith) w, e, place-keeps o q g)
+  places-keep {h = h} (places-over {ps = ps} {p = p} f) m q w e g = (
+    held-more (withPlaces (ps ++ (p ∷ [])) h) m (m + 1) (omega arith) (places-held (ps ++ (p ∷ [])) h m (each-snoc (λ r. Byte (r .site)) ps p (g .0) (g .1)) w),
+    record { some-residue = e .some-residue; uncounted = e .uncounted },
+  )
+  places-keep places-stop m q w e g = tt
 
   resume-keeps :
       (s : Slot) (at i : P) (h : Held P) (m x y : ℕ) (c : Content P) → x + y ≤ m → HeldKeeps x h → ModeKeeps (s .after) h → ModeKeeps (s .referred) h
@@ -386,6 +439,7 @@ module _ {P : Type 0} where
       let x = w .fits in
       resume-keeps s at i h (m + 1) (w .before) (w .inner + 1) (innerStep i c b) (omega arith) (w .held) (w .after) (w .referred)
       (inner-step i c b (w .inner) q (w .content))
+  step-keeps i (placing h s) b m q w = places-keep (places-go i b h s) m q (w .0) (w .1) (w .2)
 
 -- ---- a line that is read whole
 pub record LineShape {P : Type 0} (m : ℕ) (l : Line P) : Type 0 where

@@ -11,14 +11,14 @@ use Rattle.scope.specs.declared.grammar.Key.{Key}
 use Rattle.scope.specs.declared.grammar.Key.the-variants.{NoKey, Info, Glycan}
 use Rattle.scope.specs.declared.grammar.Kind.{Kind}
 use Rattle.scope.specs.Bytes.{byteLimit}
-use Rattle.scope.specs.Limits.{lineLimit, residueLimit, bracketLimit, partLimit, textLimit, labelLimit, countLimit, copyLimit}
+use Rattle.scope.specs.Limits.{lineLimit, residueLimit, bracketLimit, partLimit, textLimit, labelLimit, countLimit, copyLimit, declarationLimit, placeLimit}
 use Rattle.scope.specs.Line.{Number, Label, Value, mass, text, reference, composition, Part, Bracket, Line}
 use Rattle.scope.specs.Keys.{keyCode}
 use Rattle.scope.specs.Content.{isReference}
 use Rattle.scope.specs.Lists.{flat}
 use Rattle.scope.specs.Reading.{positionOf}
 use Rattle.scope.specs.Modifications.{namesOf, isLabelled}
-use Rattle.scope.specs.Refusals.{inRange}
+use Rattle.scope.specs.Refusals.{inRange, declarations}
 use Rattle.scope.specs.Kinds.{isUnknown}
 use Rattle.scope.specs.Layout.{bracketTexts}
 use Rattle.scope.specs.Positions.{floaters}
@@ -91,6 +91,8 @@ pub record BracketWithin {P : Type 0} (n : ℕ) (k : Bracket P) : Type 0 where
   pub one-labelled : isLabelled k ≡ true → k .count ≡ 1
   pub one-label : length (namesOf k) ≤ 1
   pub parts : Each PartWithin (k .parts)
+  pub few-places : length (k .places) ≤ placeLimit
+  pub sites : Each (λ p. Byte (p .site)) (k .places)
   pub lone : Each (λ p. isReference (p .value) ≡ true → length (k .parts) ≡ 1) (k .parts)
 
 pub record Within {P : Type 0} (l : Line P) : Type 0 where
@@ -98,6 +100,7 @@ pub record Within {P : Type 0} (l : Line P) : Type 0 where
   pub few-residues : length (l .residues) ≤ residueLimit
   pub letters : Each (λ r. Byte (r .letter)) (l .residues)
   pub few-brackets : length (l .brackets) ≤ bracketLimit
+  pub few-declarations : length (declarations (l .brackets)) ≤ declarationLimit
   pub brackets : Each (BracketWithin (length (l .residues))) (l .brackets)
   pub texts : length (flat bracketTexts (l .brackets)) ≤ lineLimit
   pub few-copies : length (floaters l) ≤ copyLimit

@@ -3,7 +3,7 @@ use mathlib.Core.Path.{_≡_, refl, sym, ap, _∙_}
 use mathlib.Core.Bool.{Bool, true, false, cond, _&&_, _||_}
 use mathlib.Core.Option.{Option, none, some}
 use borrow.Author.Tests.{eq-eqb, ne-eqb, lt-ltb, le-ltb, le-leb, lt-leb}
-use Rattle.scope.specs.Lists.{given}
+use Rattle.scope.specs.Lists.{given, optional}
 use Rattle.basics.specs.Tests.{or-first, or-second, neither}
 
 -- ---- the test is known
@@ -84,3 +84,9 @@ pub throughGiven : {A B C : Type 0} (g : B → C) (o : Option A) {h : A → B} {
     → ((x : A) → g (h x) ≡ h′ x) → g y ≡ y′ → g (given o h y) ≡ given o h′ y′
 throughGiven g (some x) p q = p x
 throughGiven g none p q = q
+
+-- the same, where the value is changed too
+pub throughBoth : {A B C D : Type 0} (g : B → C) (u : A → D) (h′ : D → C) (o : Option A) {h : A → B} {y : B} {y′ : C}
+    → ((x : A) → g (h x) ≡ h′ (u x)) → g y ≡ y′ → g (given o h y) ≡ given (optional u o) h′ y′
+throughBoth g u h′ (some x) p q = p x
+throughBoth g u h′ none p q = q

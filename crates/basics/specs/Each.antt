@@ -7,7 +7,7 @@ use mathlib.Core.List.{List, [], _∷_, _++_, map}
 use Prim.Native.Nat.{ℕ, zero, suc, _+_, _-_, _<_}
 use native.Mathlib.Omega.{arith}
 use lib.ListN.{length, replicate}
-use Rattle.scope.specs.Lists.{padded, onLast, tabled}
+use Rattle.scope.specs.Lists.{keep, padded, onLast, tabled}
 
 abbrev pub Each : {A : Type 0} → (A → Type 0) → List A → Type 0
 Each Q [] = Unit {0}
@@ -71,6 +71,15 @@ module _ {A : Type 0} (Q : A → Type 0) where
   each-last f h [] p = tt
   each-last f h (x ∷ []) p = (h x (p .0), tt)
   each-last f h (x ∷ y ∷ l) p = (p .0, each-last f h (y ∷ l) (p .1))
+
+  pub each-keep : (f : A → Bool) (l : List A) → Each Q l → Each Q (keep f l)
+  unfolding keep
+  each-keep f [] h = tt
+  each-keep f (x ∷ l) h = go (f x) (each-keep f l (h .1))
+    where
+      go : (t : Bool) → Each Q (keep f l) → Each Q (cond t (x ∷ []) [] ++ keep f l)
+      go true r = (h .0, r)
+      go false r = r
 
   pub each-replicate : (n : ℕ) (z : A) → Q z → Each Q (replicate n z)
   each-replicate zero z h = tt

@@ -9,7 +9,7 @@ use lib.Dec.{eqb, ltb}
 use lib.ListN.{length, getD, drop, List·getD-eq-default}
 use borrow.Author.Tests.{eqb-true, eqb-false, ltb-true}
 use Rattle.scope.specs.declared.grammar.Kind.{Kind}
-use Rattle.scope.specs.declared.grammar.Kind.the-variants.{Unknown, Labile, NTerm, OnResidue, OnRange, CTerm}
+use Rattle.scope.specs.declared.grammar.Kind.the-variants.{Unknown, Labile, NTerm, OnResidue, OnRange, CTerm, Declared}
 use Rattle.scope.specs.Bytes.{byteLimit}
 use Rattle.scope.specs.Kinds.{kindCode, kinds, kindIn, isKind, isOnRange}
 use Rattle.scope.specs.Reading.{positionOf}
@@ -24,17 +24,22 @@ kind-back NTerm = refl
 kind-back OnResidue = refl
 kind-back OnRange = refl
 kind-back CTerm = refl
+kind-back Declared = refl
 
 -- a number of no other kind is that of an unknown position
 pub else-unknown :
     (n : ℕ) → (n ≡ kindCode Labile → ⊥) → (n ≡ kindCode NTerm → ⊥) → (n ≡ kindCode OnResidue → ⊥) → (n ≡ kindCode OnRange → ⊥)
-    → (n ≡ kindCode CTerm → ⊥) → Unknown ≡ kindIn n
-else-unknown zero p2 p3 p4 p5 p6 = refl
-else-unknown (suc zero) p2 p3 p4 p5 p6 = refl
-else-unknown (suc (suc n)) p2 p3 p4 p5 p6 = sym (List·getD-eq-default kinds Unknown (far (suc (suc n)) (omega arith) p2 p3 p4 p5 p6))
+    → (n ≡ kindCode CTerm → ⊥) → (n ≡ kindCode Declared → ⊥) → Unknown ≡ kindIn n
+else-unknown zero p2 p3 p4 p5 p6 p7 = refl
+else-unknown (suc zero) p2 p3 p4 p5 p6 p7 = refl
+else-unknown (suc (suc n)) p2 p3 p4 p5 p6 p7 =
+    sym (List·getD-eq-default kinds Unknown (behind _ (past _ 7 (past _ 6 (past _ 5 (past _ 4 (past _ 3 (past _ 2 (omega arith) p2) p3) p4) p5) p6) p7)))
   where
-    far : (n : ℕ) → kindCode Unknown < n → (n ≡ kindCode Labile → ⊥) → (n ≡ kindCode NTerm → ⊥) → (n ≡ kindCode OnResidue → ⊥) → (n ≡ kindCode OnRange → ⊥) → (n ≡ kindCode CTerm → ⊥) → kindCode CTerm ≤ n - 1
-    far n l p2 p3 p4 p5 p6 = omega arith
+    past : (n k : ℕ) → k ≤ n → (n ≡ k → ⊥) → k + 1 ≤ n
+    past n k h p = omega arith
+
+    behind : (n : ℕ) → kindCode Declared + 1 ≤ n → kindCode Declared ≤ n - 1
+    behind n h = omega arith
 
 -- the same by order: numbers before and behind the others, and the numbers of kinds
 pub before-unknown : (n : ℕ) → n < kindCode Labile → Unknown ≡ kindIn n
@@ -42,8 +47,8 @@ before-unknown zero h = refl
 before-unknown (suc zero) h = refl
 before-unknown (suc (suc n)) h = absurd (omega arith)
 
-pub behind-unknown : (n : ℕ) → kindCode CTerm < n → Unknown ≡ kindIn n
-behind-unknown n h = let far : kindCode CTerm ≤ n - 1 = omega arith in sym (List·getD-eq-default kinds Unknown far)
+pub behind-unknown : (n : ℕ) → kindCode Declared < n → Unknown ≡ kindIn n
+behind-unknown n h = let far : kindCode Declared ≤ n - 1 = omega arith in sym (List·getD-eq-default kinds Unknown far)
 
 abbrev numbered : ℕ → List Kind → Bool
 numbered i [] = true
@@ -54,7 +59,7 @@ numbered-at i n [] e h = absurd (omega arith)
 numbered-at i zero (k ∷ ks) e h = eqb-true (kindCode k) i (and-left _ (numbered (i + 1) ks) e) ∙ omega arith
 numbered-at i (suc n) (k ∷ ks) e h = numbered-at (i + 1) n ks (and-right (eqb (kindCode k) i) _ e) (omega arith) ∙ omega arith
 
-pub code-back : (n : ℕ) → 0 < n → n ≤ kindCode CTerm → kindCode (kindIn n) ≡ n
+pub code-back : (n : ℕ) → 0 < n → n ≤ kindCode Declared → kindCode (kindIn n) ≡ n
 code-back n h l = numbered-at 1 (n - 1) kinds refl (omega arith) ∙ omega arith
 
 -- ---- the test of a kind

@@ -5,7 +5,7 @@ use mathlib.Core.Bool.{Bool, true, false, cond, _&&_, _||_, false≢true}
 use mathlib.Core.Logic.{_↔_}
 use mathlib.Core.Option.{Option, none, some}
 use mathlib.Core.List.{List, [], _∷_, _++_, map, append-assoc, append-nil, map-append}
-use Prim.Native.Nat.{ℕ, zero, suc, _+_}
+use Prim.Native.Nat.{ℕ, zero, suc, _+_, _≤_}
 use native.Mathlib.Omega.{arith}
 use borrow.Author.Tests.{eqb-true, eq-eqb}
 use lib.Dec.{eqb}
@@ -47,6 +47,15 @@ pub keep-append : {A : Type 0} (f : A → Bool) (l m : List A) → keep f (l ++ 
 unfolding keep
 keep-append f [] m = refl
 keep-append f (x ∷ l) m = ap (λ t. cond (f x) (x ∷ []) [] ++ t) (keep-append f l m) ∙ sym (append-assoc (cond (f x) (x ∷ []) []) (keep f l) (keep f m))
+
+pub kept-fewer : {A : Type 0} (f : A → Bool) (l : List A) → length (keep f l) ≤ length l
+unfolding keep
+kept-fewer f [] = omega arith
+kept-fewer f (x ∷ l) = go (f x) (kept-fewer f l)
+  where
+    go : (t : Bool) → length (keep f l) ≤ length l → length (cond t (x ∷ []) [] ++ keep f l) ≤ suc (length l)
+    go true h = omega arith
+    go false h = omega arith
 
 pub on-last : {A : Type 0} (f : A → A) (l : List A) (x : A) → onLast f (l ++ (x ∷ [])) ≡ l ++ (f x ∷ [])
 unfolding onLast

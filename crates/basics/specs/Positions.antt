@@ -1,17 +1,22 @@
--- A line has as many positions as residues and termini; on which of them a modification is placed; and when the same floats.
+-- A line has as many positions as residues and termini, and what stands at each; on which of them a modification is placed; and when the same floats.
 use mathlib.Core.Path.{_≡_, refl, ap, _∙_}
 use mathlib.Core.Bool.{Bool, true, false, cond, _&&_}
-use mathlib.Core.List.{List, [], _∷_, map}
-use Prim.Native.Nat.{ℕ, _+_}
+use mathlib.Core.List.{List, [], _∷_, _++_, map}
+use Prim.Native.Nat.{ℕ, zero, suc, _+_, _<_}
 use native.Mathlib.Omega.{arith}
 use lib.Dec.{eqb}
 use lib.IntN.{ℤ}
-use lib.ListN.{length, length-append, length-map}
+use lib.ListN.{length, getD, length-append, length-map, List·getD-append}
 use Rattle.scope.specs.Layout.{tablesIn, residuesField}
-use Rattle.scope.specs.Line.{Bracket, Line}
-use Rattle.scope.specs.Lists.{member}
-use Rattle.scope.specs.Positions.{cTerminus, sites, isPlaced, placedOn, Floating}
-use Rattle.basics.specs.Tabled.{residues-many}
+use Rattle.scope.specs.Line.{Bracket, Residue, Line}
+use Rattle.scope.specs.Lists.{keep, member}
+use Rattle.scope.specs.Kinds.{isDeclared}
+use Rattle.scope.specs.Modifications.{isModification}
+use Rattle.scope.specs.Places.{nTerminus, cTerminus}
+use Rattle.scope.specs.Positions.{sites, positions, names, reached, isPlaced, placedOn, Floating}
+use Rattle.basics.specs.Members.{member-in, in-member, in-keep, keep-in}
+use Rattle.basics.specs.Tabled.{tabled-in, residues-many}
+use Rattle.basics.specs.Tests.{same-test}
 
 pub sites-many : {P : Type 0} (t : Line P) → length (sites t) ≡ length (t .residues) + 2
 unfolding sites
@@ -20,16 +25,51 @@ sites-many t = omega (arith, length-append (map (λ r. r .letter) (t .residues))
 pub sites-in : (bs : List ℕ) (ns : List ℤ) → length (sites (tablesIn bs ns)) ≡ residuesField bs + 2
 sites-in bs ns = sites-many (tablesIn bs ns) ∙ ap (λ n. n + 2) (residues-many bs ns)
 
+-- the N-terminus, the residues, the C-terminus
+module _ {P : Type 0} (t : Line P) where
+  pub first-site : getD (sites t) 0 0 ≡ nTerminus
+  unfolding sites
+  first-site = refl
+
+  pub residue-site : (i : ℕ) (d : Residue P) → i < length (t .residues) → getD (sites t) (suc i) 0 ≡ getD (t .residues) i d .letter
+  unfolding sites
+  residue-site i d h =
+      List·getD-append (map (λ r. r .letter) (t .residues)) (cTerminus ∷ []) 0 i (omega (arith, length-map (t .residues) (λ r. r .letter)))
+      ∙ at (t .residues) i h
+    where
+      at : (rs : List (Residue P)) (i : ℕ) → i < length rs → getD (map (λ r. r .letter) rs) i 0 ≡ getD rs i d .letter
+      at [] i h = absurd (omega arith)
+      at (r ∷ rs) zero h = refl
+      at (r ∷ rs) (suc i) h = at rs i (omega arith)
+
+  pub last-site : getD (sites t) (suc (length (t .residues))) 0 ≡ cTerminus
+  unfolding sites
+  last-site = go (t .residues)
+    where
+      go : (rs : List (Residue P)) → getD (map (λ r. r .letter) rs ++ (cTerminus ∷ [])) (length rs) 0 ≡ cTerminus
+      go [] = refl
+      go (r ∷ rs) = go rs
+
+  -- a declaration reaches the positions whose sites its places name
+  pub reaches : (k : Bracket P) (x : ℕ) → x < length (sites t) → member x (reached t k) ≡ names t (k .places) x
+  unfolding reached
+  reaches k x h =
+      same-test (member x (keep (names t (k .places)) (positions t))) (names t (k .places) x)
+      (λ e. in-keep (names t (k .places)) x (positions t) (member-in x _ e) .1)
+      (λ e. in-member x _ (keep-in (names t (k .places)) x (positions t) (tabled-in 0 (length (sites t)) x (omega arith) (omega arith)) e))
+
 -- the same floats where it has the same positions
 pub same-floats : (f g : Floating) → f .lists ≡ g .lists → f ≡ g
 same-floats f g e = ap (λ qs. record { lists = qs }) e
 
--- it is placed on its own position
-pub placed-on : {P : Type 0} (t : Line P) (k : Bracket P) (x : ℕ) → member x (placedOn t k) ≡ (isPlaced k && eqb x (k .first))
+-- a declaration is placed on what it reaches, any other on its own position
+pub placed-on : {P : Type 0} (t : Line P) (k : Bracket P) (x : ℕ)
+    → member x (placedOn t k) ≡ cond (isDeclared (k .kind) && isModification k) (member x (reached t k)) (isPlaced k && eqb x (k .first))
 unfolding placedOn member
-placed-on t k x = by (isPlaced k) (eqb x (k .first)) refl
+placed-on t k x = by (isDeclared (k .kind) && isModification k) (isPlaced k) (eqb x (k .first)) refl
   where
-    by : (p u : Bool) → eqb x (k .first) ≡ u → member x (cond p (k .first ∷ []) []) ≡ (p && u)
-    by true true e = rw e
-    by true false e = rw e
-    by false u e = refl
+    by : (d p u : Bool) → eqb x (k .first) ≡ u → member x (cond d (reached t k) (cond p (k .first ∷ []) [])) ≡ cond d (member x (reached t k)) (p && u)
+    by true p u e = refl
+    by false true true e = rw e
+    by false true false e = rw e
+    by false false u e = refl

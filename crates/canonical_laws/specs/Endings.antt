@@ -10,9 +10,9 @@ use lib.Dec.{eqb}
 use lib.ListN.{length}
 use borrow.Author.Tests.{eqb-true, eq-eqb}
 use Rattle.scope.specs.declared.grammar.Kind.{Kind}
-use Rattle.scope.specs.declared.grammar.Kind.the-variants.{Unknown, Labile, NTerm, OnResidue, OnRange, CTerm}
+use Rattle.scope.specs.declared.grammar.Kind.the-variants.{Unknown, Labile, NTerm, OnResidue, OnRange, CTerm, Declared}
 use Rattle.scope.specs.Bytes.{question, dash}
-use Rattle.scope.specs.Canonical.{squareText, curlyText, unknownText, ofKind, endingAt, closedBy, ledBy, opening, ending, goesOn, sequenceText, chainText}
+use Rattle.scope.specs.Canonical.{squareText, curlyText, declaredText, unknownText, ofKind, endingAt, closedBy, ledBy, opening, ending, goesOn, sequenceText, chainText}
 use Rattle.scope.specs.Kinds.{isKind}
 use Rattle.scope.specs.Line.{Bracket, Residue}
 use Rattle.scope.specs.Lists.{keep, flat}
@@ -108,15 +108,15 @@ sequence-append ks i (r ∷ rs) qs e =
     let at : i + 1 + length rs ≡ i + suc (length rs) = omega arith in
     rw (goes-append rs qs e, sequence-append ks (i + 1) rs qs e, at) (simp append-assoc)
 
--- ---- the chain whose N-terminus is at the position p: brackets of unknown position, labile, N-terminal, on its residues, C-terminal
-abbrev pub piecesText : ℕ → List (Residue ℕ) → Brackets → Brackets → Brackets → Brackets → Brackets → List ℕ
-piecesText p rs us ls ns ss bs =
-    closedBy (flat unknownText us) question ++ (flat curlyText ls ++ (closedBy (flat squareText ns) dash ++ (sequenceText ss (p + 1) rs ++ ledBy dash (flat squareText bs))))
+-- ---- the chain whose N-terminus is at the position p: brackets of declarations, of unknown position, labile, N-terminal, on its residues, C-terminal
+abbrev pub piecesText : ℕ → List (Residue ℕ) → Brackets → Brackets → Brackets → Brackets → Brackets → Brackets → List ℕ
+piecesText p rs ds us ls ns ss bs =
+    flat declaredText ds ++ (closedBy (flat unknownText us) question ++ (flat curlyText ls ++ (closedBy (flat squareText ns) dash ++ (sequenceText ss (p + 1) rs ++ ledBy dash (flat squareText bs)))))
 
-module _ (p : ℕ) (rs : List (Residue ℕ)) (us ls ns ss bs : Brackets) (onU : Each (On Unknown p) us) (onL : Each (On Labile p) ls) (onN : Each (On NTerm p) ns)
+module _ (p : ℕ) (rs : List (Residue ℕ)) (ds us ls ns ss bs : Brackets) (onD : Each (On Declared p) ds) (onU : Each (On Unknown p) us) (onL : Each (On Labile p) ls) (onN : Each (On NTerm p) ns)
     (onS : Each (Ends (p + 1) (p + length rs)) ss) (onB : Each (On CTerm (p + 1 + length rs)) bs) where
   abbrev whole : Brackets
-  whole = us ++ (ls ++ (ns ++ (ss ++ bs)))
+  whole = ds ++ (us ++ (ls ++ (ns ++ (ss ++ bs))))
 
   abbrev end : ℕ
   end = p + 1 + length rs
@@ -124,29 +124,34 @@ module _ (p : ℕ) (rs : List (Residue ℕ)) (us ls ns ss bs : Brackets) (onU : 
   -- at a position beside the residues
   beside : (c : Kind) (i : ℕ) → (p + 1 ≤ i → i ≤ p + length rs → ⊥)
       → endingAt c i whole
-      ≡ cond (isKind c Unknown && eqb p i) us [] ++ (cond (isKind c Labile && eqb p i) ls [] ++ (cond (isKind c NTerm && eqb p i) ns [] ++ cond (isKind c CTerm && eqb end i) bs []))
+      ≡ cond (isKind c Declared && eqb p i) ds [] ++ (cond (isKind c Unknown && eqb p i) us []
+      ++ (cond (isKind c Labile && eqb p i) ls [] ++ (cond (isKind c NTerm && eqb p i) ns [] ++ cond (isKind c CTerm && eqb end i) bs [])))
   beside c i off =
-      ending-append c i us _
+      ending-append c i ds _
+      ∙ ap₂ _++_ (ending-on c i Declared p ds onD)
+      (ending-append c i us _
       ∙ ap₂ _++_ (ending-on c i Unknown p us onU)
       (ending-append c i ls _
       ∙ ap₂ _++_ (ending-on c i Labile p ls onL)
-      (ending-append c i ns _ ∙ ap₂ _++_ (ending-on c i NTerm p ns onN) (ending-append c i ss bs ∙ ap₂ _++_ (ending-off c i _ _ off ss onS) (ending-on c i CTerm end bs onB))))
+      (ending-append c i ns _ ∙ ap₂ _++_ (ending-on c i NTerm p ns onN) (ending-append c i ss bs ∙ ap₂ _++_ (ending-off c i _ _ off ss onS) (ending-on c i CTerm end bs onB)))))
 
   here : (q : ℕ) (ks : Brackets) → cond (eqb q q) ks [] ≡ ks
   here q ks = pick-true (eqb q q) ks [] (eq-eqb q q refl)
 
   on-residues : sequenceText whole (p + 1) rs ≡ sequenceText ss (p + 1) rs
   on-residues =
-      front-off (p + 1) rs _ p p us (on-ends Unknown p p p (omega arith) (omega arith) us onU) (omega arith)
+      front-off (p + 1) rs _ p p ds (on-ends Declared p p p (omega arith) (omega arith) ds onD) (omega arith)
+      ∙ front-off (p + 1) rs _ p p us (on-ends Unknown p p p (omega arith) (omega arith) us onU) (omega arith)
       ∙ front-off (p + 1) rs _ p p ls (on-ends Labile p p p (omega arith) (omega arith) ls onL) (omega arith)
       ∙ front-off (p + 1) rs _ p p ns (on-ends NTerm p p p (omega arith) (omega arith) ns onN) (omega arith)
       ∙ back-off (p + 1) rs ss end end bs (on-ends CTerm end end end (omega arith) (omega arith) bs onB) (omega arith)
 
-  pub chain-pieces : chainText whole p rs ≡ piecesText p rs us ls ns ss bs
+  pub chain-pieces : flat declaredText (endingAt Declared p whole) ++ chainText whole p rs ≡ piecesText p rs ds us ls ns ss bs
   unfolding chainText
   chain-pieces =
+      let declareds : endingAt Declared p whole ≡ ds = beside Declared p (λ h k. omega arith) ∙ append-nil _ ∙ here p ds in
       let unknowns : endingAt Unknown p whole ≡ us = beside Unknown p (λ h k. omega arith) ∙ append-nil _ ∙ here p us in
       let labiles : endingAt Labile p whole ≡ ls = beside Labile p (λ h k. omega arith) ∙ append-nil _ ∙ here p ls in
       let nterms : endingAt NTerm p whole ≡ ns = beside NTerm p (λ h k. omega arith) ∙ append-nil _ ∙ here p ns in
       let cterms : endingAt CTerm end whole ≡ bs = beside CTerm end (λ h k. omega arith) ∙ here end bs in
-      rw (unknowns, labiles, nterms, on-residues, cterms)
+      rw (declareds, unknowns, labiles, nterms, on-residues, cterms)

@@ -9,5 +9,6 @@ pub mod Shortened
 pub mod Endings
 pub mod PlainBrackets
 pub mod PlainSequence
+pub mod PlainDeclarations
 pub mod PlainLines
 pub mod Proved

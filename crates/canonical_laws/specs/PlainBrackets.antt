@@ -51,7 +51,7 @@ alike-append [] (y ∷ b) c d p q = absurd p
 alike-append (x ∷ a) [] c d p q = absurd p
 alike-append (x ∷ a) (y ∷ b) c d p q = (p .0, alike-append a b c d (p .1) q)
 
-shorter : (p o q r : List ℕ) → length p ≤ length o → length q ≤ length r → length (p ++ q) ≤ length (o ++ r)
+pub shorter : (p o q r : List ℕ) → length p ≤ length o → length q ≤ length r → length (p ++ q) ≤ length (o ++ r)
 shorter p o q r h k = simp length-append (omega arith)
 
 pub spelt-append : {a b : Bool} {t u p q o r : List ℕ} {ks ls : Brackets} {qs rs : ℕ → Brackets} (f : ℕ → ℕ) → Spelt a t p o ks qs → Spelt b u q r ls rs
@@ -106,7 +106,7 @@ module _ {X : Type 0} (w : Sort X) (one : (i : ℕ) (x : X) → w .good x ≡ tr
   plain-then i (x ∷ xs) f n ks ys b =
       spelt-append (λ j. j + length (w .prints (w .plain x))) (one i x (and-left (w .good x) _ f) (n .0)) (plain-then (i + length (w .prints x)) xs (and-right (w .good x) _ f) (n .1) ks ys b)
 
-  all-plain : (i : ℕ) (xs : List X) → all (w .good) xs ≡ true → Each Fits (along (w .prints) (w .means) i xs) → Plains w (map shortBracket (along (w .prints) (w .means) i xs)) xs
+  pub all-plain : (i : ℕ) (xs : List X) → all (w .good) xs ≡ true → Each Fits (along (w .prints) (w .means) i xs) → Plains w (map shortBracket (along (w .prints) (w .means) i xs)) xs
   all-plain i xs f n = simp append-nil at (plain-then i xs f n [] [] none-plain)
 
 pub each-along : {A B : Type 0} (Q : B → Type 0) (prints : A → List ℕ) (f : ℕ → A → B) → ((i : ℕ) (x : A) → Q (f i x)) → (i : ℕ) (l : List A) → Each Q (along prints f i l)
@@ -115,7 +115,7 @@ each-along Q prints f h i [] = tt
 each-along Q prints f h i (x ∷ l) = (h i x, each-along Q prints f h _ l)
 
 -- ---- in square or in curly brackets
-abbrev boxes : ℕ → ℕ → Bool → Bool → Kind → ℕ → ℕ → Sort Inside
+abbrev pub boxes : ℕ → ℕ → Bool → Bool → Kind → ℕ → ℕ → Sort Inside
 boxes begin shut references labels c first last =
     record {
       prints = λ x. begin ∷ (printInside x ++ (shut ∷ []));
@@ -132,9 +132,9 @@ abbrev pub curlies : Sort Inside
 curlies = boxes openCurly shutCurly false false Labile 0 0
 
 abbrev withParts : Kind → ℕ → ℕ → ℕ → List (Part (Unit {0})) → Bracket (Unit {0})
-withParts c first last n ps = record { kind = c; first = first; last = last; count = n; counted = none; parts = ps; at = tt }
+withParts c first last n ps = record { kind = c; first = first; last = last; count = n; counted = none; parts = ps; places = []; at = tt }
 
-boxed : (begin shut : ℕ) (r labels : Bool) (c : Kind) (a b i : ℕ) (x : Inside) → goodInside r labels x ≡ true → Fits (bracketAt c a b i x)
+pub boxed : (begin shut : ℕ) (r labels : Bool) (c : Kind) (a b i : ℕ) (x : Inside) → goodInside r labels x ≡ true → Fits (bracketAt c a b i x)
     → Plain (boxes begin shut r labels c a b) (shortBracket (bracketAt c a b i x)) x
 boxed begin shut r labels c a b i x f n =
     record {

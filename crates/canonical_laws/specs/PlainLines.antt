@@ -6,9 +6,9 @@ use mathlib.Core.Path.{_≡_, sym, ap, _∙_, subst}
 use mathlib.Core.Bool.{true}
 use mathlib.Core.List.{[], _++_, map, map-append}
 use lib.ListN.{length}
-use Rattle.scope.specs.declared.grammar.Kind.the-variants.{Unknown, Labile, NTerm, CTerm}
-use Rattle.scope.specs.Canonical.{chainText, canonical}
-use Rattle.scope.specs.Grammar.{printSquare, printCurly, along, eachAlong, goodSquares, goodCurlies, bracketAt, meansSquares, goodRun, printRun, meansRun, printElement, goodElement, bracketsAlong, Spelling, elements, printFront, print, good, atLabiles, atFront, atSequence, atBack, residuesOf, backOf, meansAt, means}
+use Rattle.scope.specs.declared.grammar.Kind.the-variants.{Unknown, Labile, NTerm, CTerm, Declared}
+use Rattle.scope.specs.Canonical.{declaredText, endingAt, chainText, canonical}
+use Rattle.scope.specs.Grammar.{printSquare, printCurly, along, eachAlong, goodSquares, goodCurlies, bracketAt, meansSquares, goodDeclaration, printDeclaration, meansDeclaration, goodRun, printRun, meansRun, printElement, goodElement, bracketsAlong, Spelling, elements, printFront, print, good, atRuns, atLabiles, atFront, atSequence, atBack, residuesOf, backOf, meansAt, means}
 use Rattle.scope.specs.Kept.{kept}
 use Rattle.scope.specs.Lists.{all, flat}
 use Rattle.scope.specs.Refusals.{refusal7, wideCount, wideMass, wideScore}
@@ -18,15 +18,19 @@ use Rattle.basics.specs.Lists.{flat-none}
 use Rattle.basics.specs.Tests.{and-left, and-right}
 use Rattle.canonical_laws.specs.Endings.{Brackets, On, piecesText, chain-pieces}
 use Rattle.canonical_laws.specs.PlainBrackets.{Fits, Spelt, spelt-append, spelt-as, on-short, ends-short, boxes-on, curlies-plain, runs-on, runs-plain, front-plain, back-plain}
+use Rattle.canonical_laws.specs.PlainDeclarations.{declarations-plain, declarations-on}
 use Rattle.canonical_laws.specs.PlainSequence.{sequence-residues, sequence-ends, sequence-plain}
 use Rattle.canonical_laws.specs.Short.{shortBracket, shortLine, canonical-short}
-use Rattle.canonical_laws.specs.Plainly.{plainInsides, plainly}
+use Rattle.canonical_laws.specs.Plainly.{plainInsides, plainRuns, plainly}
 use Rattle.canonical_laws.specs.Refusals.{same-length, Alike}
 
 module _ (t : Spelling) (fine : good t ≡ true) (narrow : refusal7 (means t) ≡ []) where
   -- the brackets of the line, by where they stand
+  abbrev ds : Brackets
+  ds = along printDeclaration meansDeclaration 0 (t .declarations)
+
   abbrev us : Brackets
-  us = eachAlong printRun meansRun 0 (t .runs)
+  us = eachAlong printRun meansRun (atRuns 0 t) (t .runs)
 
   abbrev ls : Brackets
   ls = along printCurly (bracketAt Labile 0 0) (atLabiles 0 t) (t .labiles)
@@ -48,19 +52,21 @@ module _ (t : Spelling) (fine : good t ≡ true) (narrow : refusal7 (means t) �
   fits = flat-none (λ k. wideCount k ++ flat (λ p. wideMass (p .value) ++ wideScore p) (k .parts)) (means t .brackets) narrow
 
   -- with compositions short
-  split : map shortBracket (means t .brackets) ≡ map shortBracket us ++ (map shortBracket ls ++ (map shortBracket ns ++ (map shortBracket ss ++ map shortBracket (backOf 0 t))))
+  split :
+      map shortBracket (means t .brackets)
+      ≡ map shortBracket ds ++ (map shortBracket us ++ (map shortBracket ls ++ (map shortBracket ns ++ (map shortBracket ss ++ map shortBracket (backOf 0 t)))))
   split = simp map-append
 
   pieces :
       canonical (shortLine (means t))
-      ≡ piecesText 0 (residuesOf 0 t) (map shortBracket us) (map shortBracket ls) (map shortBracket ns) (map shortBracket ss) (map shortBracket (backOf 0 t))
+      ≡ piecesText 0 (residuesOf 0 t) (map shortBracket ds) (map shortBracket us) (map shortBracket ls) (map shortBracket ns) (map shortBracket ss) (map shortBracket (backOf 0 t))
   unfolding canonical
   pieces =
       let rs = residuesOf 0 t in
       let at : last ≡ 0 + 1 + length rs = omega arith in
-      ap (λ ks. chainText ks 0 rs) split
-      ∙ chain-pieces 0 rs (map shortBracket us) (map shortBracket ls) (map shortBracket ns) (map shortBracket ss) (map shortBracket (backOf 0 t))
-      (on-short Unknown 0 us (runs-on 0 (t .runs))) (on-short Labile 0 ls (boxes-on printCurly Labile 0 0 (atLabiles 0 t) (t .labiles)))
+      ap (λ ks. flat declaredText (endingAt Declared 0 ks) ++ chainText ks 0 rs) split
+      ∙ chain-pieces 0 rs (map shortBracket ds) (map shortBracket us) (map shortBracket ls) (map shortBracket ns) (map shortBracket ss) (map shortBracket (backOf 0 t))
+      (on-short Declared 0 ds (declarations-on 0 (t .declarations))) (on-short Unknown 0 us (runs-on (atRuns 0 t) (t .runs))) (on-short Labile 0 ls (boxes-on printCurly Labile 0 0 (atLabiles 0 t) (t .labiles)))
       (on-short NTerm 0 ns (boxes-on printSquare NTerm 0 0 (atFront 0 t) (t .front)))
       (ends-short 1 (0 + length rs) ss (sequence-ends 1 (0 + length rs) 0 (atSequence 0 t) (elements t) (omega arith) (omega arith)))
       (subst (λ q. Each (On CTerm q) (map shortBracket (backOf 0 t))) at (on-short CTerm last (backOf 0 t) (boxes-on printSquare CTerm last last (atBack 0 t + 1) (t .back))))
@@ -68,18 +74,21 @@ module _ (t : Spelling) (fine : good t ≡ true) (narrow : refusal7 (means t) �
   whole :
       Spelt (good (plainly t)) (canonical (shortLine (means t))) (print (plainly t)) (print t) (map shortBracket (means t .brackets)) (λ j. meansAt j (plainly t) .brackets)
   whole =
-      let good₁ = and-right (all goodRun (t .runs)) _ fine in
+      let good₀ = and-right (all goodDeclaration (t .declarations)) _ fine in
+      let good₁ = and-right (all goodRun (t .runs)) _ good₀ in
       let good₂ = and-right (goodCurlies (t .labiles)) _ good₁ in
       let good₃ = and-right (goodSquares true (t .front)) _ good₂ in
-      let fits₁ = each-back Fits us (ls ++ (ns ++ (ss ++ backOf 0 t))) fits in
+      let fits₀ = each-back Fits ds (us ++ (ls ++ (ns ++ (ss ++ backOf 0 t)))) fits in
+      let fits₁ = each-back Fits us (ls ++ (ns ++ (ss ++ backOf 0 t))) fits₀ in
       let fits₂ = each-back Fits ls (ns ++ (ss ++ backOf 0 t)) fits₁ in
       let fits₃ = each-back Fits ns (ss ++ backOf 0 t) fits₂ in
       spelt-as
-      (spelt-append (λ j. atLabiles j (plainly t)) (runs-plain 0 (t .runs) (and-left _ _ fine) (each-front Fits us _ fits))
+      (spelt-append (λ j. atRuns j (plainly t)) (declarations-plain 0 (t .declarations) (and-left _ _ fine) (each-front Fits ds _ fits))
+      (spelt-append (λ j. j + length (flat printRun (plainRuns (t .runs)))) (runs-plain (atRuns 0 t) (t .runs) (and-left _ _ good₀) (each-front Fits us _ fits₀))
       (spelt-append (λ j. j + length (flat printCurly (plainInsides (t .labiles)))) (curlies-plain (atLabiles 0 t) (t .labiles) (and-left _ _ good₁) (each-front Fits ls _ fits₁))
       (spelt-append (λ j. j + length (printFront (plainInsides (t .front)))) (front-plain NTerm 0 (atFront 0 t) (t .front) (and-left _ _ good₂) (each-front Fits ns _ fits₂))
       (spelt-append (λ j. j + length (flat printElement (elements (plainly t)))) (sequence-plain 0 (atSequence 0 t) (elements t) (and-left _ _ good₃) (each-front Fits ss _ fits₃))
-      (back-plain CTerm last (atBack 0 t + 1) (t .back) (and-right (all goodElement (elements t)) _ good₃) (each-back Fits ss (backOf 0 t) fits₃))))))
+      (back-plain CTerm last (atBack 0 t + 1) (t .back) (and-right (all goodElement (elements t)) _ good₃) (each-back Fits ss (backOf 0 t) fits₃)))))))
       pieces split (λ j. rw (same-length bareResidue (residuesOf j (plainly t)) (residuesOf 0 t) (residues-at j)))
 
   pub plainly-good : good (plainly t) ≡ true

@@ -51,7 +51,7 @@ in-range : (n : Number ℕ) → wide n ≡ [] → inRange n ≡ true
 in-range n e = not-false (inRange n) (not-due (not (inRange n)) (n .at) e)
 
 -- ---- key words
-folded-self : (w : List ℕ) → sameFolded w w ≡ true
+pub folded-self : (w : List ℕ) → sameFolded w w ≡ true
 unfolding sameFolded
 folded-self [] = refl
 folded-self (b ∷ w) = rw (eq-eqb (upper b) (upper b) refl) (folded-self w)

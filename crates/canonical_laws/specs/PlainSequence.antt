@@ -39,14 +39,14 @@ along-length prints f i (x ∷ l) = ap suc (along-length prints f _ l)
 lower-range : (b : ℕ) → isLower b ≡ true → (97 ≤ b) × (b ≤ 122)
 lower-range b e = (leb-true 97 b (and-left (leb 97 b) (leb b 122) e), leb-true b 122 (and-right (leb 97 b) (leb b 122) e))
 
-upper-twice : (b : ℕ) → upper (upper b) ≡ upper b
+pub upper-twice : (b : ℕ) → upper (upper b) ≡ upper b
 unfolding upper
 upper-twice b =
     by-test (isLower b)
     (λ e. let u : upper b ≡ b - 32 = pick-true (isLower b) _ _ e in ap upper u ∙ pick-false (isLower (b - 32)) _ _ (rw (lt-leb 97 (b - 32) (omega (arith, lower-range b e)))) ∙ sym u)
     (λ e. ap upper (pick-false (isLower b) _ _ e))
 
-upper-letter : (b : ℕ) → isLetter b ≡ true → isLetter (upper b) ≡ true
+pub upper-letter : (b : ℕ) → isLetter b ≡ true → isLetter (upper b) ≡ true
 unfolding upper
 upper-letter b e =
     by-test (isLower b)

@@ -1,5 +1,5 @@
--- The plain spelling of what a spelling says: no leading zeros, no sign of zero, no `^1`, one run, keys, residues and compositions in the spelling of the tables. It
--- prints the canonical line.
+-- The plain spelling of what a spelling says: no leading zeros, no sign of zero, no `^1`, one run, keys, residues, places and compositions in the spelling of the tables.
+-- It prints the canonical line.
 use Prim.Native.Nat.{ℕ}
 use mathlib.Core.Bool.{Bool, true, not, cond, _&&_}
 use mathlib.Core.Option.{Option, none, some}
@@ -10,9 +10,10 @@ use Rattle.scope.specs.declared.grammar.Key.the-variants.{Glycan}
 use Rattle.scope.specs.Bytes.{upper}
 use Rattle.scope.specs.Canonical.{decimal}
 use Rattle.scope.specs.Glycans.{Item, cuttings, shortText}
-use Rattle.scope.specs.Grammar.{Numeral, fraction, valueOn, Text, over, byte, printText, Word, Base, delta, code, wording, Score, isMinus, Tag, Piece, Inside, parts, refers, Marked, Run, marks, Spot, Element, single, range, unsure, Spelling}
+use Rattle.scope.specs.Grammar.{Numeral, fraction, valueOn, Text, over, byte, printText, Word, Base, delta, code, wording, Score, isMinus, Tag, Piece, Inside, parts, refers, Target, aLetter, aTerminus, Declaration, Marked, Run, marks, Spot, Element, single, range, unsure, Spelling}
 use Rattle.scope.specs.Keys.{spell, keyCode}
 use Rattle.scope.specs.Lists.{flat}
+use Rattle.scope.specs.Places.{siteText}
 
 -- ---- numbers
 abbrev pub digitsOf : Numeral → ℕ
@@ -70,6 +71,14 @@ plainInside (refers t) = refers (plainTag t)
 abbrev pub plainInsides : List Inside → List Inside
 plainInsides xs = map plainInside xs
 
+-- places, written `K`, `N-term`, `C-term`
+abbrev pub plainTarget : Target → Target
+plainTarget (aLetter b) = aLetter (upper b)
+plainTarget (aTerminus s w) = aTerminus s (siteText s)
+
+abbrev pub plainDeclaration : Declaration → Declaration
+plainDeclaration d = record { inside = plainInside (d .inside); first = plainTarget (d .first); more = map plainTarget (d .more) }
+
 -- "`^1` .. not kept"
 abbrev pub plainCount : Option (List ℕ) → Option (List ℕ)
 plainCount none = none
@@ -99,6 +108,7 @@ plainElement (unsure s ss) = unsure (plainSpot s) (map plainSpot ss)
 abbrev pub plainly : Spelling → Spelling
 plainly t =
     record {
+      declarations = map plainDeclaration (t .declarations);
       runs = plainRuns (t .runs);
       labiles = plainInsides (t .labiles);
       front = plainInsides (t .front);

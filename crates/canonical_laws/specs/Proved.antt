@@ -26,7 +26,7 @@ use Rattle.canonical_laws.specs.Plainly.{plainly}
 use Rattle.canonical_laws.specs.Short.{shortLine, kept-short}
 use Rattle.canonical_laws.specs.Shortened.{short-clear}
 use Rattle.canonical_laws.specs.PlainLines.{plainly-good, plainly-prints, plainly-residues, plainly-alike, plainly-short}
-use Rattle.canonical_laws.specs.Refusals.{same-length, Alike, none-5, none-6, none-7, none-8, none-9, none-10, none-11, none-12, none-19}
+use Rattle.canonical_laws.specs.Refusals.{same-length, Alike, none-5, none-6, none-7, none-8, none-9, none-10, none-21, none-11, none-12, none-19}
 
 -- ---- lines that are alike
 alike-bare : (ks qs : List (Bracket ℕ)) → Alike ks qs → map bareBracket qs ≡ map bareBracket ks
@@ -45,7 +45,7 @@ module _ (l m : Line ℕ) (r : map bareResidue (m .residues) ≡ map bareResidue
       let size = same-length bareResidue (l .residues) (m .residues) (sym r) in
       let from8 = c .1 .1 .1 in
       let from10 = from8 .1 .1 in
-      let last : Clear (drop 5 (lineRefusals m)) = (none-10 l m a (from10 .0), (none-11 l m a (from10 .1 .0), (none-12 l m a (from10 .1 .1 .0), (none-19 l m a (from10 .1 .1 .1 .0), tt)))) in
+      let last : Clear (drop 5 (lineRefusals m)) = (none-10 l m a (from10 .0), (none-21 l m a (from10 .1 .0), (none-11 l m a (from10 .1 .1 .0), (none-12 l m a (from10 .1 .1 .1 .0), (none-19 l m a (from10 .1 .1 .1 .1 .0), tt))))) in
       (none-5 l m a (c .0), (none-6 l m size a (c .1 .0), (none-7 l m a (c .1 .1 .0), (none-8 l m a (from8 .0), (none-9 l m a (from8 .1 .0), last)))))
 
 -- the same is kept of the plain spelling

@@ -1,4 +1,4 @@
--- Refusals 5 to 12, and 19, are due for what is read from the canonical line only where they are due for the line itself.
+-- Refusals 5 to 12, 19 and 21, are due for what is read from the canonical line only where they are due for the line itself.
 use Prim.Native.Nat.{ℕ, suc, _+_, _-_, _≤_}
 use mathlib.Core.Path.{_≡_, refl, sym, ap, _∙_, subst}
 use mathlib.Core.Bool.{Bool, true, false, not, cond, _&&_, _||_, true≢false, false≢true}
@@ -8,16 +8,17 @@ use native.Mathlib.Omega.{arith}
 use lib.Dec.{eqb, leb, ltb}
 use lib.ListN.{length, drop, length-drop, length-map, drop-of-length-le}
 use Rattle.scope.specs.declared.grammar.Key.the-variants.{Info}
+use Rattle.scope.specs.declared.grammar.Kind.{Kind}
 use Rattle.scope.specs.Bytes.{isOpening}
-use Rattle.scope.specs.Limits.{residueLimit, bracketLimit, partLimit, textLimit, labelLimit, depthLimit, countLimit, copyLimit}
+use Rattle.scope.specs.Limits.{residueLimit, bracketLimit, partLimit, textLimit, labelLimit, depthLimit, countLimit, copyLimit, declarationLimit, placeLimit}
 use Rattle.scope.specs.Line.{Number, Label, Value, mass, text, reference, composition, Part, Bracket, Line}
 use Rattle.scope.specs.Keys.{written}
-use Rattle.scope.specs.Lists.{given, none?, all, flat, among, shared, optional}
+use Rattle.scope.specs.Lists.{given, none?, all, keep, flat, among, shared, optional}
 use Rattle.scope.specs.Reading.{refers?}
 use Rattle.scope.specs.Modifications.{isKey, onlyInfo, isReferring, nameOf, namesOf, isLabelled, copies, definedBy, referredBy, defined, referredTo}
-use Rattle.scope.specs.Refusals.{dueAt, depthAfter, tooDeep, textIn, textOf, deepPart, refusal5, longText, longLabel, overIn, refusal6, inRange, wide, wideMass, wideScore, wideCount, refusal7, isLink, notHere, refusal8, isNumberName, refusal9, refusal10, secondLabel, definedAgain, undefined, countedLabel, unreferred, wrongLabels, wronglyLabelled, refusal11, passing, refusal12, isUncut, refusal19}
-use Rattle.scope.specs.Kinds.{unknownOrLabile, isUnknown}
-use Rattle.scope.specs.Tables.{bareNumber, bareLabel, bareValue, barePart, bareBracket}
+use Rattle.scope.specs.Refusals.{dueAt, depthAfter, tooDeep, textIn, textOf, deepPart, refusal5, longText, longLabel, manyPlaces, overIn, declarations, manyDeclarations, refusal6, inRange, wide, wideMass, wideScore, wideCount, refusal7, isLink, notHere, refusal8, isNumberName, refusal9, refusal10, refusal21, secondLabel, definedAgain, undefined, countedLabel, unreferred, wrongLabels, wronglyLabelled, refusal11, passing, refusal12, isUncut, refusal19}
+use Rattle.scope.specs.Kinds.{unknownOrLabile, isUnknown, isDeclared}
+use Rattle.scope.specs.Tables.{bareNumber, bareLabel, bareValue, barePart, barePlace, bareBracket}
 use Rattle.basics.specs.Lists.{not-due, nil-front, nil-back}
 use Rattle.basics.specs.Tests.{or-left, or-right, neither}
 use Rattle.reading_laws.specs.Bare.{likewise-bare, same-info as info-of, same-refers as refers-of, same-names as names-of}
@@ -141,19 +142,44 @@ over-part p q e h =
 
 over-bracket : (k q : Bracket ℕ) → Same k q → overIn k ≡ [] → overIn q ≡ []
 over-bracket k q w h =
+    let texts = flat (λ p. longText p ++ longLabel p) (k .parts) in
+    let behind = nil-back (drop partLimit (map (λ p. p .at) (k .parts))) (texts ++ manyPlaces k) h in
     nil-both (drop partLimit (map (λ p. p .at) (q .parts))) _
-    (drop-moves partLimit (λ p. p .at) (λ p. p .at) (k .parts) (q .parts) (same-length barePart (k .parts) (q .parts) (parts-alike k q w)) (nil-front _ (flat (λ p. longText p ++ longLabel p) (k .parts)) h))
-    (parts-move (λ p. longText p ++ longLabel p) over-part k q w (nil-back (drop partLimit (map (λ p. p .at) (k .parts))) _ h))
+    (drop-moves partLimit (λ p. p .at) (λ p. p .at) (k .parts) (q .parts) (same-length barePart (k .parts) (q .parts) (parts-alike k q w)) (nil-front _ (texts ++ manyPlaces k) h))
+    (nil-both (flat (λ p. longText p ++ longLabel p) (q .parts)) (manyPlaces q) (parts-move (λ p. longText p ++ longLabel p) over-part k q w (nil-front texts (manyPlaces k) behind))
+    (drop-moves placeLimit (λ p. p .at) (λ p. p .at) (k .places) (q .places) (same-length barePlace (k .places) (q .places) (ap (λ (z : Bracket (Unit {0})). z .places) (w .bare))) (nil-back texts (manyPlaces k) behind)))
+
+same-kind : (k q : Bracket ℕ) → Same k q → k .kind ≡ q .kind
+same-kind k q w = ap (λ (z : Bracket (Unit {0})). z .kind) (w .bare)
+
+-- as many are declarations
+declared-alike : (ks qs : List (Bracket ℕ)) → Alike ks qs → length (declarations ks) ≡ length (declarations qs)
+unfolding keep
+declared-alike [] [] w = refl
+declared-alike [] (q ∷ qs) w = absurd w
+declared-alike (k ∷ ks) [] w = absurd w
+declared-alike (k ∷ ks) (q ∷ qs) w = ap (λ c. length (cond (isDeclared c) (k ∷ []) [] ++ declarations ks)) (same-kind k q (w .0)) ∙ go (isDeclared (q .kind)) (declared-alike ks qs (w .1))
+  where
+    go : (t : Bool) → length (declarations ks) ≡ length (declarations qs) → length (cond t (k ∷ []) [] ++ declarations ks) ≡ length (cond t (q ∷ []) [] ++ declarations qs)
+    go true e = ap suc e
+    go false e = e
 
 pub none-6 : (l m : Line ℕ) → length (l .residues) ≡ length (m .residues) → Alike (l .brackets) (m .brackets) → refusal6 l ≡ [] → refusal6 m ≡ []
 unfolding refusal6
 none-6 l m r w h =
-    let y = nil-back (drop residueLimit (map (λ r. r .at) (l .residues))) (drop bracketLimit (map (λ k. k .at) (l .brackets)) ++ flat overIn (l .brackets)) h in
+    let rs = drop residueLimit (map (λ r. r .at) (l .residues)) in
+    let ks = drop bracketLimit (map (λ k. k .at) (l .brackets)) in
+    let ds = manyDeclarations (l .brackets) in
+    let more = flat overIn (l .brackets) in
+    let y = nil-back rs (ks ++ (ds ++ more)) h in
+    let z = nil-back ks (ds ++ more) y in
     nil-both (drop residueLimit (map (λ r. r .at) (m .residues))) _
-    (drop-moves residueLimit (λ r. r .at) (λ r. r .at) (l .residues) (m .residues) r (nil-front _ (drop bracketLimit (map (λ k. k .at) (l .brackets)) ++ flat overIn (l .brackets)) h))
+    (drop-moves residueLimit (λ r. r .at) (λ r. r .at) (l .residues) (m .residues) r (nil-front rs (ks ++ (ds ++ more)) h))
     (nil-both (drop bracketLimit (map (λ k. k .at) (m .brackets))) _
-    (drop-moves bracketLimit (λ k. k .at) (λ k. k .at) (l .brackets) (m .brackets) (alike-length (l .brackets) (m .brackets) w) (nil-front _ (flat overIn (l .brackets)) y))
-    (alike-moves overIn over-bracket (l .brackets) (m .brackets) w (nil-back (drop bracketLimit (map (λ k. k .at) (l .brackets))) _ y)))
+    (drop-moves bracketLimit (λ k. k .at) (λ k. k .at) (l .brackets) (m .brackets) (alike-length (l .brackets) (m .brackets) w) (nil-front ks (ds ++ more) y))
+    (nil-both (manyDeclarations (m .brackets)) _
+    (drop-moves declarationLimit (λ k. k .at - 1) (λ k. k .at - 1) (declarations (l .brackets)) (declarations (m .brackets)) (declared-alike (l .brackets) (m .brackets) w) (nil-front ds more z))
+    (alike-moves overIn over-bracket (l .brackets) (m .brackets) w (nil-back ds more z))))
 
 -- ---- 7
 wide-moves : (n m : Number ℕ) → bareNumber n ≡ bareNumber m → wide n ≡ [] → wide m ≡ []
@@ -236,22 +262,24 @@ unfolding refusal19
 none-19 l m w h =
     alike-moves (λ k. flat (λ p. dueAt (isUncut p) (p .at)) (k .parts)) (parts-move (λ p. dueAt (isUncut p) (p .at)) (test-moves isUncut isUncut uncut-bare)) (l .brackets) (m .brackets) w h
 
--- ---- 10
-same-kind : (k q : Bracket ℕ) → Same k q → k .kind ≡ q .kind
-same-kind k q w = ap (λ (z : Bracket (Unit {0})). z .kind) (w .bare)
-
+-- ---- 10 and 21
 same-count : (k q : Bracket ℕ) → Same k q → k .count ≡ q .count
 same-count k q w = ap (λ (z : Bracket (Unit {0})). z .count) (w .bare)
 
 same-info : (k q : Bracket ℕ) → Same k q → onlyInfo k ≡ onlyInfo q
 same-info k q w = sym (info-of barePart likewise-bare (k .parts)) ∙ ap (all (isKey Info)) (parts-alike k q w) ∙ info-of barePart likewise-bare (q .parts)
 
+info-moves : (T : Kind → Bool) (k q : Bracket ℕ) → Same k q → dueAt (T (k .kind) && onlyInfo k) (k .at) ≡ [] → dueAt (T (q .kind) && onlyInfo q) (q .at) ≡ []
+info-moves T k q s g = due-moves _ _ (k .at) (q .at) (ap (λ z. T z && onlyInfo k) (same-kind k q s) ∙ ap (λ z. T (q .kind) && z) (same-info k q s)) g
+
 pub none-10 : (l m : Line ℕ) → Alike (l .brackets) (m .brackets) → refusal10 l ≡ [] → refusal10 m ≡ []
 unfolding refusal10
 none-10 l m w h =
-    alike-moves (λ k. dueAt (unknownOrLabile (k .kind) && onlyInfo k) (k .at))
-    (λ k q s g. due-moves _ _ (k .at) (q .at) (ap (λ z. unknownOrLabile z && onlyInfo k) (same-kind k q s) ∙ ap (λ z. unknownOrLabile (q .kind) && z) (same-info k q s)) g)
-    (l .brackets) (m .brackets) w h
+    alike-moves (λ k. dueAt (unknownOrLabile (k .kind) && onlyInfo k) (k .at)) (info-moves unknownOrLabile) (l .brackets) (m .brackets) w h
+
+pub none-21 : (l m : Line ℕ) → Alike (l .brackets) (m .brackets) → refusal21 l ≡ [] → refusal21 m ≡ []
+unfolding refusal21
+none-21 l m w h = alike-moves (λ k. dueAt (isDeclared (k .kind) && onlyInfo k) (k .at)) (info-moves isDeclared) (l .brackets) (m .brackets) w h
 
 -- ---- labels
 same-refers : (k q : Bracket ℕ) → Same k q → isReferring k ≡ isReferring q

@@ -11,9 +11,9 @@ use Rattle.scope.specs.Glycans.{Item, cuttings}
 use Rattle.scope.specs.Kept.{cutAs, cutValue, keptPart, keptBracket, kept}
 use Rattle.scope.specs.Keys.{written}
 use Rattle.scope.specs.Lists.{given}
-use Rattle.scope.specs.Canonical.{valueText, labelText, partText, chainText, canonical}
+use Rattle.scope.specs.Canonical.{valueText, labelText, partText, canonical}
 use Rattle.basics.specs.Lists.{map-map}
-use Rattle.reading_laws.specs.Bare.{parts-same, chain-text, Likewise}
+use Rattle.reading_laws.specs.Bare.{parts-same, line-text, Likewise}
 use Rattle.reading_laws.specs.Compositions.{value-refers}
 use Rattle.glycan_laws.specs.Written.{cut-kept, first-cut, kept-once}
 
@@ -39,6 +39,7 @@ module _ {P : Type 0} where
         count = k .count;
         counted = k .counted;
         parts = map shortPart (k .parts);
+        places = k .places;
         at = k .at;
       }
 
@@ -69,7 +70,7 @@ module _ {P : Type 0} where
     where
       bracket : (k : Bracket P) → keptBracket (shortBracket k) ≡ keptBracket k
       bracket k =
-          ap (λ ps. record { kind = k .kind; first = k .first; last = k .last; count = k .count; counted = k .counted; parts = ps; at = k .at })
+          ap (λ ps. record { kind = k .kind; first = k .first; last = k .last; count = k .count; counted = k .counted; parts = ps; places = k .places; at = k .at })
           (map-map keptPart keptPart shortPart kept-part (k .parts))
 
   -- ---- the same text
@@ -99,19 +100,19 @@ module _ {P : Type 0} where
 
   abbrev wordedBracket : Bracket P → Bracket P
   wordedBracket k =
-      record { kind = k .kind; first = k .first; last = k .last; count = k .count; counted = k .counted; parts = map wordedPart (k .parts); at = k .at }
+      record { kind = k .kind; first = k .first; last = k .last; count = k .count; counted = k .counted; parts = map wordedPart (k .parts); places = k .places; at = k .at }
 
   bracket-is : (k : Bracket P) → wordedBracket (keptBracket k) ≡ shortBracket k
   bracket-is k =
-      ap (λ ps. record { kind = k .kind; first = k .first; last = k .last; count = k .count; counted = k .counted; parts = ps; at = k .at })
+      ap (λ ps. record { kind = k .kind; first = k .first; last = k .last; count = k .count; counted = k .counted; parts = ps; places = k .places; at = k .at })
       (map-map wordedPart shortPart keptPart short-is (k .parts))
 
   pub canonical-short : (l : Line P) → canonical (shortLine l) ≡ canonical (kept l)
-  unfolding canonical kept
+  unfolding kept
   canonical-short l =
-      ap₂ (λ ks rs. chainText ks 0 rs) (sym (map-map wordedBracket shortBracket keptBracket bracket-is (l .brackets))) (sym (map-id (l .residues)))
-      ∙ chain-text wordedBracket (record { kind = λ k. refl; last = λ k. refl; count = λ k. refl; parts = λ k. parts-same wordedPart part-text (k .parts) })
-      (λ r. r) (λ r. refl) (λ r. refl) (map keptBracket (l .brackets)) 0 (l .residues)
+      ap₂ (λ ks rs. canonical (record { residues = rs; brackets = ks })) (sym (map-map wordedBracket shortBracket keptBracket bracket-is (l .brackets))) (sym (map-id (l .residues)))
+      ∙ line-text wordedBracket (record { kind = λ k. refl; last = λ k. refl; count = λ k. refl; parts = λ k. parts-same wordedPart part-text (k .parts); places = λ k. refl })
+      (λ r. r) (λ r. refl) (λ r. refl) (kept l)
 
   -- ---- keys, references and labels stay
   worded-refers : (v : Value P) → isReference (worded v) ≡ isReference v

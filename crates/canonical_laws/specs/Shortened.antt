@@ -1,5 +1,5 @@
 -- No refusal is due for a line with its compositions short that is not due for the line itself.
-use Prim.Native.Nat.{ℕ, _+_, _≤_}
+use Prim.Native.Nat.{ℕ, _+_, _-_, _≤_}
 use native.Mathlib.Omega.{arith}
 use mathlib.Core.Path.{_≡_, refl, sym, ap, ap₂, _∙_, subst}
 use mathlib.Core.Bool.{Bool, true, false, not, cond, _&&_}
@@ -10,18 +10,18 @@ use borrow.Author.Tests.{eqb-true, ne-eqb, ltb-false, le-ltb, not-true}
 use Rattle.scope.specs.declared.grammar.Key.{Key}
 use Rattle.scope.specs.declared.grammar.Key.the-variants.{NoKey, U, M, Glycan}
 use Rattle.scope.specs.Bytes.{isOpening, isShutting, isPrintable, bar}
-use Rattle.scope.specs.Limits.{residueLimit, bracketLimit, partLimit, textLimit, depthLimit, copyLimit}
+use Rattle.scope.specs.Limits.{residueLimit, bracketLimit, partLimit, textLimit, depthLimit, copyLimit, declarationLimit}
 use Rattle.scope.specs.Line.{Value, mass, text, reference, composition, Part, Bracket, Line}
 use Rattle.scope.specs.Keys.{keyCode, written}
 use Rattle.scope.specs.Lists.{none?, all, flat}
-use Rattle.scope.specs.Kinds.{unknownOrLabile}
+use Rattle.scope.specs.Kinds.{unknownOrLabile, isDeclared}
 use Rattle.scope.specs.Grammar.{outerByte, plainByte}
 use Rattle.scope.specs.Modifications.{isKey, onlyInfo, namesOf, copies, definedBy, referredBy, defined, referredTo}
 use Rattle.scope.specs.Glycans.{Item, cuttings, short, shortText}
 use Rattle.scope.specs.Kept.{cutAs, cutValue}
-use Rattle.scope.specs.Refusals.{dueAt, depthAfter, tooDeep, textIn, textOf, deepPart, refusal5, longText, longLabel, overIn, refusal6, wideMass, wideScore, wideCount, refusal7, notHere, refusal8, isNumberName, refusal9, refusal10, wrongLabels, wronglyLabelled, refusal11, passing, refusal12, isUncut, refusal19, lineRefusals}
+use Rattle.scope.specs.Refusals.{dueAt, depthAfter, tooDeep, textIn, textOf, deepPart, refusal5, longText, longLabel, manyPlaces, overIn, declarations, manyDeclarations, refusal6, wideMass, wideScore, wideCount, refusal7, notHere, refusal8, isNumberName, refusal9, refusal10, refusal21, wrongLabels, wronglyLabelled, refusal11, passing, refusal12, isUncut, refusal19, lineRefusals}
 use Rattle.basics.specs.Each.{In}
-use Rattle.basics.specs.Lists.{not-due, nil-front, nil-back, map-map, flat-map}
+use Rattle.basics.specs.Lists.{not-due, nil-front, nil-back, map-map, flat-map, keep-map}
 use Rattle.basics.specs.Tests.{and-left, and-right}
 use Rattle.reading_laws.specs.Bare.{same-info, same-refers, same-names}
 use Rattle.reading_laws.specs.Laws.{Clear}
@@ -118,9 +118,13 @@ long-short p h = nil-both (longText (shortPart p)) (longLabel p) (by (shortens p
 
 over-short : (k : Bracket ℕ) → overIn k ≡ [] → overIn (shortBracket k) ≡ []
 over-short k h =
-    nil-both (drop partLimit (map (λ p. p .at) (map shortPart (k .parts)))) (flat (λ p. longText p ++ longLabel p) (map shortPart (k .parts)))
-    (ap (drop partLimit) (map-map (λ p. p .at) (λ p. p .at) shortPart (λ p. refl) (k .parts)) ∙ nil-front (drop partLimit (map (λ p. p .at) (k .parts))) (flat (λ p. longText p ++ longLabel p) (k .parts)) h)
-    (none-through shortPart (λ p. longText p ++ longLabel p) long-short (k .parts) (nil-back (drop partLimit (map (λ p. p .at) (k .parts))) (flat (λ p. longText p ++ longLabel p) (k .parts)) h))
+    let many = drop partLimit (map (λ p. p .at) (k .parts)) in
+    let texts = flat (λ p. longText p ++ longLabel p) (k .parts) in
+    let behind = nil-back many (texts ++ manyPlaces k) h in
+    nil-both (drop partLimit (map (λ p. p .at) (map shortPart (k .parts)))) (flat (λ p. longText p ++ longLabel p) (map shortPart (k .parts)) ++ manyPlaces k)
+    (ap (drop partLimit) (map-map (λ p. p .at) (λ p. p .at) shortPart (λ p. refl) (k .parts)) ∙ nil-front many (texts ++ manyPlaces k) h)
+    (nil-both (flat (λ p. longText p ++ longLabel p) (map shortPart (k .parts))) (manyPlaces k)
+    (none-through shortPart (λ p. longText p ++ longLabel p) long-short (k .parts) (nil-front texts (manyPlaces k) behind)) (nil-back texts (manyPlaces k) behind))
 
 -- ---- 7
 wide-worded : (at : ℕ) (t : List ℕ) (l : List (List Item)) → wideMass (worded (cutAs at t l)) ≡ []
@@ -205,16 +209,24 @@ module _ (l : Line ℕ) where
   unfolding refusal5
   none-5 h = parts-through deepPart deep-short ks h
 
+  same-declared : manyDeclarations (map shortBracket ks) ≡ manyDeclarations ks
+  same-declared =
+      ap (λ z. drop declarationLimit (map (λ k. k .at - 1) z)) (keep-map (λ k. isDeclared (k .kind)) (λ k. isDeclared (k .kind)) shortBracket (λ k. refl) ks)
+      ∙ ap (drop declarationLimit) (map-map (λ k. k .at - 1) (λ k. k .at - 1) shortBracket (λ k. refl) (declarations ks))
+
   none-6 : refusal6 l ≡ [] → refusal6 (shortLine l) ≡ []
   unfolding refusal6
   none-6 h =
       let rs = drop residueLimit (map (λ r. r .at) (l .residues)) in
       let bs = drop bracketLimit (map (λ k. k .at) ks) in
-      let more = nil-back rs (bs ++ flat overIn ks) h in
-      nil-both rs (drop bracketLimit (map (λ k. k .at) (map shortBracket ks)) ++ flat overIn (map shortBracket ks)) (nil-front rs (bs ++ flat overIn ks) h)
-      (nil-both (drop bracketLimit (map (λ k. k .at) (map shortBracket ks))) (flat overIn (map shortBracket ks))
-      (ap (drop bracketLimit) (map-map (λ k. k .at) (λ k. k .at) shortBracket (λ k. refl) ks) ∙ nil-front bs (flat overIn ks) more)
-      (none-through shortBracket overIn over-short ks (nil-back bs (flat overIn ks) more)))
+      let ds = manyDeclarations ks in
+      let more = nil-back rs (bs ++ (ds ++ flat overIn ks)) h in
+      let last = nil-back bs (ds ++ flat overIn ks) more in
+      nil-both rs _ (nil-front rs (bs ++ (ds ++ flat overIn ks)) h)
+      (nil-both (drop bracketLimit (map (λ k. k .at) (map shortBracket ks))) _
+      (ap (drop bracketLimit) (map-map (λ k. k .at) (λ k. k .at) shortBracket (λ k. refl) ks) ∙ nil-front bs (ds ++ flat overIn ks) more)
+      (nil-both (manyDeclarations (map shortBracket ks)) (flat overIn (map shortBracket ks)) (same-declared ∙ nil-front ds (flat overIn ks) last)
+      (none-through shortBracket overIn over-short ks (nil-back ds (flat overIn ks) last))))
 
   none-7 : refusal7 l ≡ [] → refusal7 (shortLine l) ≡ []
   unfolding refusal7
@@ -236,6 +248,12 @@ module _ (l : Line ℕ) where
       same-through shortBracket (λ k. dueAt (unknownOrLabile (k .kind) && onlyInfo k) (k .at))
       (λ k. ap (λ t. dueAt (unknownOrLabile (k .kind) && t) (k .at)) (same-info shortPart likewise-short (k .parts))) ks h
 
+  none-21 : refusal21 l ≡ [] → refusal21 (shortLine l) ≡ []
+  unfolding refusal21
+  none-21 h =
+      same-through shortBracket (λ k. dueAt (isDeclared (k .kind) && onlyInfo k) (k .at))
+      (λ k. ap (λ t. dueAt (isDeclared (k .kind) && t) (k .at)) (same-info shortPart likewise-short (k .parts))) ks h
+
   none-11 : refusal11 l ≡ [] → refusal11 (shortLine l) ≡ []
   unfolding refusal11
   none-11 h =
@@ -253,6 +271,6 @@ module _ (l : Line ℕ) where
   pub short-clear : Clear (lineRefusals l) → Clear (lineRefusals (shortLine l))
   short-clear c =
       let from8 = c .1 .1 .1 in
-      let from11 = from8 .1 .1 .1 in
-      let last : Clear (drop 6 (lineRefusals (shortLine l))) = (none-11 (from11 .0), (none-12 (from11 .1 .0), (none-19 (from11 .1 .1 .0), tt))) in
+      let from21 = from8 .1 .1 .1 in
+      let last : Clear (drop 6 (lineRefusals (shortLine l))) = (none-21 (from21 .0), (none-11 (from21 .1 .0), (none-12 (from21 .1 .1 .0), (none-19 (from21 .1 .1 .1 .0), tt)))) in
       (none-5 (c .0), (none-6 (c .1 .0), (none-7 (c .1 .1 .0), (none-8 (from8 .0), (none-9 (from8 .1 .0), (none-10 (from8 .1 .1 .0), last))))))

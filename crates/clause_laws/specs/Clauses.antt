@@ -1,4 +1,4 @@
--- What refusals 1 to 3 ask of the bytes, and refusals 5 to 12 and 19 of a line, clause by clause in the words of documents 01 and 02, as relations apart from the tests
+-- What refusals 1 to 3 ask of the bytes, and refusals 5 to 12, 19 and 21 of a line, clause by clause in the words of documents 01 and 02, as relations apart from the tests
 -- of Refusals.antt. Their proofs: specs/Proved.antt.
 use Prim.Native.Nat.{ℕ, _+_, _-_, _*_, _^_, _≤_, _<_}
 use Prim.Native.String.{String}
@@ -9,13 +9,13 @@ use mathlib.Core.Option.{some}
 use mathlib.Core.List.{List, [], _∷_, _++_}
 use lib.ListN.{length, take, drop}
 use Rattle.scope.specs.declared.grammar.Key.the-variants.{NoKey, U, M, Info, Formula, Glycan, Position, Limit}
-use Rattle.scope.specs.declared.grammar.Kind.the-variants.{Unknown, Labile}
+use Rattle.scope.specs.declared.grammar.Kind.the-variants.{Unknown, Labile, Declared}
 use Rattle.scope.specs.Bytes.{bytes, isPrintable, isDigit, isOpening, isShutting, sameFolded}
-use Rattle.scope.specs.Limits.{lineLimit, residueLimit, bracketLimit, partLimit, textLimit, labelLimit, depthLimit, sizeLimit, decimalLimit, countLimit, copyLimit}
-use Rattle.scope.specs.Line.{Number, Label, mass, Part, Bracket, Residue, Line}
+use Rattle.scope.specs.Limits.{lineLimit, residueLimit, bracketLimit, partLimit, textLimit, labelLimit, depthLimit, sizeLimit, decimalLimit, countLimit, copyLimit, declarationLimit, placeLimit}
+use Rattle.scope.specs.Line.{Number, Label, mass, Place, Part, Bracket, Residue, Line}
 use Rattle.scope.specs.Keys.{written}
 use Rattle.scope.specs.Modifications.{isReferring, namesOf, copies}
-use Rattle.scope.specs.Refusals.{least, textOf, refusal1, refusal2, refusal3, refusal5, refusal6, refusal7, refusal8, refusal9, refusal10, refusal11, refusal12, refusal19, lineRefusals}
+use Rattle.scope.specs.Refusals.{least, textOf, refusal1, refusal2, refusal3, refusal5, declarations, refusal6, refusal7, refusal8, refusal9, refusal10, refusal21, refusal11, refusal12, refusal19, lineRefusals}
 use Rattle.basics.specs.Each.{Each, Some, In}
 use Rattle.scope.specs.Glycans.{Item}
 use Rattle.reading_laws.specs.Laws.{Clear}
@@ -59,13 +59,16 @@ Due5 l i =
 abbrev pub LongLabel : ℕ → Part ℕ → Type 0
 LongLabel i p = (x : Label ℕ) × ((p .label ≡ some x) × ((i ≡ x .at) × (labelLimit < length (x .name))))
 
+-- "a ninth declaration or a seventeenth place is 6, there": at the `<` in front of its bracket, at its first byte
 abbrev pub Due6 : Line ℕ → ℕ → Type 0
 Due6 l i =
     Some (λ (r : Residue ℕ). i ≡ r .at) (drop residueLimit (l .residues))
     ⊎ (Some (λ (k : Bracket ℕ). i ≡ k .at) (drop bracketLimit (l .brackets))
+    ⊎ (Some (λ (k : Bracket ℕ). i ≡ k .at - 1) (drop declarationLimit (declarations (l .brackets)))
     ⊎ Some (λ (k : Bracket ℕ).
     Some (λ (p : Part ℕ). i ≡ p .at) (drop partLimit (k .parts))
-    ⊎ Some (λ (p : Part ℕ). ((i ≡ p .at) × (textLimit < length (textOf p))) ⊎ LongLabel i p) (k .parts)) (l .brackets))
+    ⊎ (Some (λ (p : Part ℕ). ((i ≡ p .at) × (textLimit < length (textOf p))) ⊎ LongLabel i p) (k .parts)
+    ⊎ Some (λ (p : Place ℕ). i ≡ p .at) (drop placeLimit (k .places)))) (l .brackets)))
 
 -- ---- 7 "mass, score or count out of range", at "its first byte, sign included"
 -- "below 1,000,000 in size with at most 6 decimals"
@@ -121,6 +124,10 @@ Due9 l i = SomePart (λ (p : Part ℕ). (i ≡ p .at) × NumberName p) l
 abbrev pub Due10 : Line ℕ → ℕ → Type 0
 Due10 l i = Some (λ (k : Bracket ℕ). (i ≡ k .at) × (((k .kind ≡ Unknown) ⊎ (k .kind ≡ Labile)) × Each (λ (p : Part ℕ). p .key ≡ Info) (k .parts))) (l .brackets)
 
+-- ---- 21 "only INFO in a declaration", "at its bracket"
+abbrev pub Due21 : Line ℕ → ℕ → Type 0
+Due21 l i = Some (λ (k : Bracket ℕ). (i ≡ k .at) × ((k .kind ≡ Declared) × Each (λ (p : Part ℕ). p .key ≡ Info) (k .parts))) (l .brackets)
+
 -- ---- 11, at "the bracket"
 -- the part has the label x
 abbrev pub Named : List ℕ → Part ℕ → Type 0
@@ -175,7 +182,7 @@ Uncut p = (p .key ≡ Glycan) × ((xs : List Item) → Cuts xs (textOf p) → �
 abbrev pub Due19 : Line ℕ → ℕ → Type 0
 Due19 l i = SomePart (λ (p : Part ℕ). (i ≡ p .at) × Uncut p) l
 
--- none of 5 to 12 is due, nor 19
+-- none of 5 to 12 is due, nor 19 or 21
 pub record NoneDue (l : Line ℕ) : Type 0 where
   pub no-5 : (i : ℕ) → Due5 l i → ⊥
   pub no-6 : (i : ℕ) → Due6 l i → ⊥
@@ -183,6 +190,7 @@ pub record NoneDue (l : Line ℕ) : Type 0 where
   pub no-8 : (i : ℕ) → Due8 l i → ⊥
   pub no-9 : (i : ℕ) → Due9 l i → ⊥
   pub no-10 : (i : ℕ) → Due10 l i → ⊥
+  pub no-21 : (i : ℕ) → Due21 l i → ⊥
   pub no-11 : (i : ℕ) → Due11 l i → ⊥
   pub no-12 : (i : ℕ) → Due12 l i → ⊥
   pub no-19 : (i : ℕ) → Due19 l i → ⊥
@@ -198,6 +206,7 @@ pub record Laws : Type 1 where
   pub exactly-8 : (l : Line ℕ) (i : ℕ) → In i (refusal8 l) ↔ Due8 l i
   pub exactly-9 : (l : Line ℕ) (i : ℕ) → In i (refusal9 l) ↔ Due9 l i
   pub exactly-10 : (l : Line ℕ) (i : ℕ) → In i (refusal10 l) ↔ Due10 l i
+  pub exactly-21 : (l : Line ℕ) (i : ℕ) → In i (refusal21 l) ↔ Due21 l i
   pub exactly-11 : (l : Line ℕ) (i : ℕ) → In i (refusal11 l) ↔ Due11 l i
   pub exactly-12 : (l : Line ℕ) (i : ℕ) → In i (refusal12 l) ↔ Due12 l i
   pub exactly-19 : (l : Line ℕ) (i : ℕ) → In i (refusal19 l) ↔ Due19 l i

@@ -1,5 +1,5 @@
 -- Refusals 1 to 3, 5 to 7 and 12 are due exactly as their clauses say: each list of places is opened piece by piece, and a limit is a test.
-use Prim.Native.Nat.{ℕ, zero, suc, _+_, _*_, _^_, _≤_, _<_}
+use Prim.Native.Nat.{ℕ, zero, suc, _+_, _-_, _*_, _^_, _≤_, _<_}
 use native.Mathlib.Omega.{arith}
 use native.Mathlib.Nat.{add-zero}
 use mathlib.Core.Path.{_≡_, refl, sym, ap, _∙_, subst}
@@ -11,12 +11,12 @@ use lib.Dec.{eqb, leb, ltb}
 use lib.ListN.{length, drop, length-append}
 use borrow.Author.Tests.{eqb-true, eq-eqb, ltb-true, lt-ltb, leb-true, le-leb}
 use Rattle.scope.specs.Bytes.{isPrintable, isOpening}
-use Rattle.scope.specs.Limits.{lineLimit, residueLimit, bracketLimit, partLimit, textLimit, labelLimit, depthLimit, sizeLimit, decimalLimit, countLimit, copyLimit}
-use Rattle.scope.specs.Line.{Number, Label, Value, mass, text, reference, Part, Bracket, Residue, Line}
+use Rattle.scope.specs.Limits.{lineLimit, residueLimit, bracketLimit, partLimit, textLimit, labelLimit, depthLimit, sizeLimit, decimalLimit, countLimit, copyLimit, declarationLimit, placeLimit}
+use Rattle.scope.specs.Line.{Number, Label, Value, mass, text, reference, Place, Part, Bracket, Residue, Line}
 use Rattle.scope.specs.Keys.{written}
 use Rattle.scope.specs.Lists.{given, none?, flat}
 use Rattle.scope.specs.Modifications.{copies}
-use Rattle.scope.specs.Refusals.{dueAt, refusal1, refusal2, unprintable, refusal3, depthAfter, tooDeep, textOf, deepPart, refusal5, longText, longLabel, overIn, refusal6, inRange, wide, wideMass, wideScore, wideCount, refusal7, passing, refusal12}
+use Rattle.scope.specs.Refusals.{dueAt, refusal1, refusal2, unprintable, refusal3, depthAfter, tooDeep, textOf, deepPart, refusal5, longText, longLabel, manyPlaces, overIn, declarations, manyDeclarations, refusal6, inRange, wide, wideMass, wideScore, wideCount, refusal7, passing, refusal12}
 use Rattle.clause_laws.specs.Clauses.{SomeBehind, Due3, openAfter, Due5, LongLabel, Due6, InRange, WideMass, WideScore, WideCount, Due7, copiesIn, Due12}
 use Rattle.basics.specs.Each.{Some, In}
 use Rattle.clause_laws.specs.Iff.{then, or-iff, and-iff, self, not-iff, either-iff, in-append, in-flat, due-iff}
@@ -114,20 +114,29 @@ label-iff j p = (there (p .label) refl, back)
         subst (λ (o : Option (Label ℕ)). In j (given o (λ x. dueAt (ltb labelLimit (length (x .name))) (x .at)) [])) (sym (v .1 .0))
         (due-iff (ltb labelLimit (length (v .0 .name))) (v .0 .at) j (ltb-iff labelLimit (length (v .0 .name))) .1 (v .1 .1))
 
+texts-iff : (j : ℕ) (k : Bracket ℕ)
+    → In j (flat (λ p. longText p ++ longLabel p) (k .parts)) ↔ Some (λ (p : Part ℕ). ((j ≡ p .at) × (textLimit < length (textOf p))) ⊎ LongLabel j p) (k .parts)
+texts-iff j k =
+    in-flat (λ y. j ≡ y) _ _ (λ p. then (in-append (λ y. j ≡ y) (longText p) (longLabel p)) (either-iff (due-iff (ltb textLimit (length (textOf p))) (p .at) j (ltb-iff textLimit (length (textOf p)))) (label-iff j p))) (k .parts)
+
 over-iff : (j : ℕ) (k : Bracket ℕ) → In j (overIn k)
-    ↔ (Some (λ (p : Part ℕ). j ≡ p .at) (drop partLimit (k .parts)) ⊎ Some (λ (p : Part ℕ). ((j ≡ p .at) × (textLimit < length (textOf p))) ⊎ LongLabel j p) (k .parts))
+    ↔ (Some (λ (p : Part ℕ). j ≡ p .at) (drop partLimit (k .parts))
+    ⊎ (Some (λ (p : Part ℕ). ((j ≡ p .at) × (textLimit < length (textOf p))) ⊎ LongLabel j p) (k .parts) ⊎ Some (λ (p : Place ℕ). j ≡ p .at) (drop placeLimit (k .places))))
 over-iff j k =
-    then (in-append (λ y. j ≡ y) (drop partLimit (map (λ p. p .at) (k .parts))) (flat (λ p. longText p ++ longLabel p) (k .parts)))
+    then (in-append (λ y. j ≡ y) (drop partLimit (map (λ p. p .at) (k .parts))) (flat (λ p. longText p ++ longLabel p) (k .parts) ++ manyPlaces k))
     (either-iff (in-drop (λ (p : Part ℕ). p .at) partLimit j (k .parts))
-    (in-flat (λ y. j ≡ y) _ _ (λ p. then (in-append (λ y. j ≡ y) (longText p) (longLabel p)) (either-iff (due-iff (ltb textLimit (length (textOf p))) (p .at) j (ltb-iff textLimit (length (textOf p)))) (label-iff j p))) (k .parts)))
+    (then (in-append (λ y. j ≡ y) (flat (λ p. longText p ++ longLabel p) (k .parts)) (manyPlaces k))
+    (either-iff (texts-iff j k) (in-drop (λ (p : Place ℕ). p .at) placeLimit j (k .places)))))
 
 pub exactly-6 : (l : Line ℕ) (i : ℕ) → In i (refusal6 l) ↔ Due6 l i
 unfolding refusal6
 exactly-6 l i =
-    then (in-append (λ y. i ≡ y) (drop residueLimit (map (λ r. r .at) (l .residues))) (drop bracketLimit (map (λ k. k .at) (l .brackets)) ++ flat overIn (l .brackets)))
+    then (in-append (λ y. i ≡ y) (drop residueLimit (map (λ r. r .at) (l .residues))) _)
     (either-iff (in-drop (λ (r : Residue ℕ). r .at) residueLimit i (l .residues))
-    (then (in-append (λ y. i ≡ y) (drop bracketLimit (map (λ k. k .at) (l .brackets))) (flat overIn (l .brackets)))
-    (either-iff (in-drop (λ (k : Bracket ℕ). k .at) bracketLimit i (l .brackets)) (in-flat (λ y. i ≡ y) overIn _ (over-iff i) (l .brackets)))))
+    (then (in-append (λ y. i ≡ y) (drop bracketLimit (map (λ k. k .at) (l .brackets))) _)
+    (either-iff (in-drop (λ (k : Bracket ℕ). k .at) bracketLimit i (l .brackets))
+    (then (in-append (λ y. i ≡ y) (manyDeclarations (l .brackets)) (flat overIn (l .brackets)))
+    (either-iff (in-drop (λ (k : Bracket ℕ). k .at - 1) declarationLimit i (declarations (l .brackets))) (in-flat (λ y. i ≡ y) overIn _ (over-iff i) (l .brackets)))))))
 
 -- ---- 7
 range-iff : (n : Number ℕ) → (inRange n ≡ true) ↔ InRange n

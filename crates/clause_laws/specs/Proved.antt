@@ -6,11 +6,11 @@ use mathlib.Core.Option.{Option, none, some}
 use mathlib.Core.List.{List}
 use Rattle.basics.specs.Each.{In}
 use Rattle.scope.specs.Line.{Line}
-use Rattle.scope.specs.Refusals.{least, refusal5, refusal6, refusal7, refusal8, refusal9, refusal10, refusal11, refusal12, refusal19, lineRefusals}
+use Rattle.scope.specs.Refusals.{least, refusal5, refusal6, refusal7, refusal8, refusal9, refusal10, refusal21, refusal11, refusal12, refusal19, lineRefusals}
 use Rattle.reading_laws.specs.Laws.{Clear}
-use Rattle.clause_laws.specs.Clauses.{FirstAt, Due5, Due6, Due7, Due8, Due9, Due10, Due11, Due12, Due19, NoneDue, Laws}
+use Rattle.clause_laws.specs.Clauses.{FirstAt, Due5, Due6, Due7, Due8, Due9, Due10, Due21, Due11, Due12, Due19, NoneDue, Laws}
 use Rattle.clause_laws.specs.Iff.{first-iff, none-iff}
-use Rattle.clause_laws.specs.Rules.{exactly-8, exactly-9, exactly-10, exactly-11, exactly-19}
+use Rattle.clause_laws.specs.Rules.{exactly-8, exactly-9, exactly-10, exactly-21, exactly-11, exactly-19}
 use Rattle.clause_laws.specs.Limited.{exactly-1, exactly-2, exactly-3, exactly-5, exactly-6, exactly-7, exactly-12}
 
 none-due : (l : Line ℕ) → Clear (lineRefusals l) ↔ NoneDue l
@@ -22,9 +22,10 @@ none-due l = (
     no-8 = none-iff (refusal8 l) (Due8 l) (exactly-8 l) .0 (c .1 .1 .1 .0);
     no-9 = none-iff (refusal9 l) (Due9 l) (exactly-9 l) .0 (c .1 .1 .1 .1 .0);
     no-10 = none-iff (refusal10 l) (Due10 l) (exactly-10 l) .0 (c .1 .1 .1 .1 .1 .0);
-    no-11 = none-iff (refusal11 l) (Due11 l) (exactly-11 l) .0 (c .1 .1 .1 .1 .1 .1 .0);
-    no-12 = none-iff (refusal12 l) (Due12 l) (exactly-12 l) .0 (c .1 .1 .1 .1 .1 .1 .1 .0);
-    no-19 = none-iff (refusal19 l) (Due19 l) (exactly-19 l) .0 (c .1 .1 .1 .1 .1 .1 .1 .1 .0);
+    no-21 = none-iff (refusal21 l) (Due21 l) (exactly-21 l) .0 (c .1 .1 .1 .1 .1 .1 .0);
+    no-11 = none-iff (refusal11 l) (Due11 l) (exactly-11 l) .0 (c .1 .1 .1 .1 .1 .1 .1 .0);
+    no-12 = none-iff (refusal12 l) (Due12 l) (exactly-12 l) .0 (c .1 .1 .1 .1 .1 .1 .1 .1 .0);
+    no-19 = none-iff (refusal19 l) (Due19 l) (exactly-19 l) .0 (c .1 .1 .1 .1 .1 .1 .1 .1 .1 .0);
   }),
   (λ n.
       let e5 = none-iff (refusal5 l) (Due5 l) (exactly-5 l) .1 (n .no-5) in
@@ -33,10 +34,11 @@ none-due l = (
       let e8 = none-iff (refusal8 l) (Due8 l) (exactly-8 l) .1 (n .no-8) in
       let e9 = none-iff (refusal9 l) (Due9 l) (exactly-9 l) .1 (n .no-9) in
       let e10 = none-iff (refusal10 l) (Due10 l) (exactly-10 l) .1 (n .no-10) in
+      let e21 = none-iff (refusal21 l) (Due21 l) (exactly-21 l) .1 (n .no-21) in
       let e11 = none-iff (refusal11 l) (Due11 l) (exactly-11 l) .1 (n .no-11) in
       let e12 = none-iff (refusal12 l) (Due12 l) (exactly-12 l) .1 (n .no-12) in
       let e19 = none-iff (refusal19 l) (Due19 l) (exactly-19 l) .1 (n .no-19) in
-      (e5, (e6, (e7, (e8, (e9, (e10, (e11, (e12, (e19, tt)))))))))),
+      (e5, (e6, (e7, (e8, (e9, (e10, (e21, (e11, (e12, (e19, tt))))))))))),
 )
 
 -- the first place is known by which places there are
@@ -60,6 +62,7 @@ laws =
       exactly-8 = exactly-8;
       exactly-9 = exactly-9;
       exactly-10 = exactly-10;
+      exactly-21 = exactly-21;
       exactly-11 = exactly-11;
       exactly-12 = exactly-12;
       exactly-19 = exactly-19;

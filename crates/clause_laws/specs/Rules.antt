@@ -1,4 +1,4 @@
--- Refusals 8 to 11, and 19, are due exactly as their clauses say: of keys by their codes, of labels by the names in front of a bracket, of compositions by
+-- Refusals 8 to 11, 19 and 21, are due exactly as their clauses say: of keys by their codes, of labels by the names in front of a bracket, of compositions by
 -- the list of all ways to cut them.
 use Prim.Native.Nat.{ℕ}
 use mathlib.Core.Path.{_≡_, refl, sym, ap, _∙_, subst}
@@ -11,15 +11,15 @@ use borrow.Author.Tests.{eqb-true, eq-eqb, ltb-true, lt-ltb}
 use Rattle.scope.specs.declared.grammar.Key.{Key}
 use Rattle.scope.specs.declared.grammar.Key.the-variants.{NoKey, U, M, Info, Formula, Glycan, Position, Limit}
 use Rattle.scope.specs.declared.grammar.Kind.{Kind}
-use Rattle.scope.specs.declared.grammar.Kind.the-variants.{Unknown, Labile}
+use Rattle.scope.specs.declared.grammar.Kind.the-variants.{Unknown, Labile, Declared}
 use Rattle.scope.specs.Bytes.{isDigit}
 use Rattle.scope.specs.Line.{Label, Part, Bracket, Line}
 use Rattle.scope.specs.Keys.{keyCode, keyIn}
 use Rattle.scope.specs.Lists.{given, none?, flat, among, shared}
 use Rattle.scope.specs.Modifications.{isKey, isReferring, nameOf, namesOf, isLabelled, definedBy, referredBy, defined, referredTo}
-use Rattle.scope.specs.Refusals.{dueAt, textOf, isRuleName, isRule, isLink, notHere, secondLabel, definedAgain, undefined, unreferred, wrongLabels, wronglyLabelled, refusal8, isNumberName, refusal9, refusal10, refusal11, isUncut, refusal19}
+use Rattle.scope.specs.Refusals.{dueAt, textOf, isRuleName, isRule, isLink, notHere, secondLabel, definedAgain, undefined, unreferred, wrongLabels, wronglyLabelled, refusal8, isNumberName, refusal9, refusal10, refusal21, refusal11, isUncut, refusal19}
 use Rattle.scope.specs.Kinds.{kindCode, isKind, unknownOrLabile}
-use Rattle.clause_laws.specs.Clauses.{SomeBehind, Rule, Link, Barred, Due8, Due10, Named, Defines, RefersTo, Second, Again, Undefined, CountedLabel, Unreferred, Due11, NumberName, Due9, Uncut, Due19}
+use Rattle.clause_laws.specs.Clauses.{SomeBehind, Rule, Link, Barred, Due8, Due10, Due21, Named, Defines, RefersTo, Second, Again, Undefined, CountedLabel, Unreferred, Due11, NumberName, Due9, Uncut, Due19}
 use Rattle.basics.specs.Each.{Some, In}
 use Rattle.clause_laws.specs.Iff.{then, or-iff, and-iff, self, all-iff, some-not, either-iff, in-append, in-flat, among-iff, due-iff}
 use Rattle.scope.specs.Glycans.{Item, cuttings}
@@ -82,6 +82,12 @@ pub exactly-10 : (l : Line ℕ) (i : ℕ) → In i (refusal10 l) ↔ Due10 l i
 unfolding refusal10
 exactly-10 l i =
     in-flat (λ y. i ≡ y) _ _ (λ k. due-iff _ (k .at) i (and-iff _ _ (free-iff (k .kind)) (all-iff (isKey Info) (λ (p : Part ℕ). p .key ≡ Info) (key-iff Info) (k .parts)))) (l .brackets)
+
+-- ---- 21
+pub exactly-21 : (l : Line ℕ) (i : ℕ) → In i (refusal21 l) ↔ Due21 l i
+unfolding refusal21
+exactly-21 l i =
+    in-flat (λ y. i ≡ y) _ _ (λ k. due-iff _ (k .at) i (and-iff _ _ (kind-iff Declared (k .kind)) (all-iff (isKey Info) (λ (p : Part ℕ). p .key ≡ Info) (key-iff Info) (k .parts)))) (l .brackets)
 
 -- ---- 11
 name-iff : (x : List ℕ) (p : Part ℕ) → In x (nameOf p) ↔ Named x p

@@ -1,1 +1,1 @@
-// Refusals 1 to 3, 5 to 12 and 19, clause by clause: specs/Clauses.antt. No code.
+// Refusals 1 to 3, 5 to 12, 19 and 21, clause by clause: specs/Clauses.antt. No code.

@@ -8,8 +8,9 @@ use Rattle.scope.specs.declared.grammar.Key.the-variants.{NoKey, U}
 use Rattle.scope.specs.Bytes.{bytes, sameFolded, upper}
 use Rattle.scope.specs.Line.{Label, Line}
 use Rattle.scope.specs.Keys.{spell}
+use Rattle.scope.specs.Places.{nTerminus}
 use Rattle.scope.specs.Lists.{given, flat, all as every}
-use Rattle.scope.specs.Grammar.{Numeral, over, byte, square, printText, goodText, Word, leadKey, delta, wording, printPieces, goodPieces, Inside, parts, refers, Spot, single, unsure, along, eachAlong, meansPieces, bracketsOn, bracketsAlong, valueOn, Spelling, print, good, means}
+use Rattle.scope.specs.Grammar.{Numeral, over, byte, square, printText, goodText, Word, leadKey, delta, wording, printPieces, goodPieces, Inside, parts, refers, aLetter, aTerminus, printTargets, meansTargets, Spot, single, unsure, along, eachAlong, meansPieces, bracketsOn, bracketsAlong, valueOn, Spelling, print, good, means}
 
 abbrev none-first : Word
 none-first = record { key = NoKey; spelled = [] }
@@ -28,6 +29,7 @@ bare b = record { letter = b; brackets = [] }
 abbrev zeros : Spelling
 zeros =
     record {
+      declarations = [];
       runs = [];
       labiles = [];
       front = [];
@@ -40,6 +42,7 @@ zeros =
 abbrev twice : Spelling
 twice =
     record {
+      declarations = [];
       runs = record { first = record { inside = massive (whole (bytes "1")); count = some (bytes "2") }; more = [] } ∷ [];
       labiles = [];
       front = [];
@@ -52,6 +55,7 @@ twice =
 abbrev nested : Spelling
 nested =
     record {
+      declarations = [];
       runs = [];
       labiles = [];
       front = refers (record { name = bytes "a"; score = none }) ∷ [];
@@ -66,11 +70,24 @@ nested =
       back = [];
     }
 
-pub examples : (print zeros ≡ bytes "a[+01.50]") × (good zeros ≡ true) × (print twice ≡ bytes "[+1]^2?AC") × (good twice ≡ true) × (print nested ≡ bytes "[#a]-(?AC[u:x[|]])") × (good nested ≡ true)
-unfolding flat every printPieces goodPieces printText goodText leadKey sameFolded spell upper
-examples = (refl, refl, refl, refl, refl, refl)
+-- `<[+1]@k,n-TERM>AK`
+abbrev declares : Spelling
+declares =
+    record {
+      declarations = record { inside = massive (whole (bytes "1")); first = aLetter 107; more = aTerminus nTerminus (bytes "n-TERM") ∷ [] } ∷ [];
+      runs = [];
+      labiles = [];
+      front = [];
+      first = single (bare 65);
+      more = single (bare 75) ∷ [];
+      back = [];
+    }
 
--- the places of a line's residues, of its brackets, of their parts, of the labels, and of the counts that are written
+pub examples : (print zeros ≡ bytes "a[+01.50]") × (good zeros ≡ true) × (print twice ≡ bytes "[+1]^2?AC") × (good twice ≡ true) × (print nested ≡ bytes "[#a]-(?AC[u:x[|]])") × (good nested ≡ true) × (print declares ≡ bytes "<[+1]@k,n-TERM>AK") × (good declares ≡ true)
+unfolding flat every printPieces goodPieces printTargets printText goodText leadKey sameFolded spell upper
+examples = (refl, refl, refl, refl, refl, refl, refl, refl)
+
+-- the places of a line's residues, of its brackets, of their parts, of the labels, of the places of declarations, and of the counts that are written
 abbrev residuePlaces : Line ℕ → List ℕ
 residuePlaces l = map (λ r. r .at) (l .residues)
 
@@ -83,9 +100,12 @@ partPlaces l = flat (λ k. map (λ p. p .at) (k .parts)) (l .brackets)
 abbrev labelPlaces : Line ℕ → List ℕ
 labelPlaces l = flat (λ k. flat (λ p. given (p .label) (λ (x : Label ℕ). x .at ∷ []) []) (k .parts)) (l .brackets)
 
+abbrev sitePlaces : Line ℕ → List ℕ
+sitePlaces l = flat (λ k. map (λ p. p .at) (k .places)) (l .brackets)
+
 abbrev countPlaces : Line ℕ → List (Option ℕ)
 countPlaces l = map (λ k. k .counted) (l .brackets)
 
-pub places : (residuePlaces (means twice) ≡ 7 ∷ 8 ∷ []) × (bracketPlaces (means twice) ≡ 0 ∷ []) × (partPlaces (means twice) ≡ 1 ∷ []) × (countPlaces (means twice) ≡ some 5 ∷ []) × (residuePlaces (means nested) ≡ 7 ∷ 8 ∷ []) × (bracketPlaces (means nested) ≡ 0 ∷ 9 ∷ []) × (partPlaces (means nested) ≡ 1 ∷ 10 ∷ []) × (labelPlaces (means nested) ≡ 2 ∷ [])
-unfolding flat along eachAlong printPieces printText meansPieces bracketsOn bracketsAlong valueOn
-places = (refl, refl, refl, refl, refl, refl, refl, refl)
+pub places : (residuePlaces (means twice) ≡ 7 ∷ 8 ∷ []) × (bracketPlaces (means twice) ≡ 0 ∷ []) × (partPlaces (means twice) ≡ 1 ∷ []) × (countPlaces (means twice) ≡ some 5 ∷ []) × (residuePlaces (means nested) ≡ 7 ∷ 8 ∷ []) × (bracketPlaces (means nested) ≡ 0 ∷ 9 ∷ []) × (partPlaces (means nested) ≡ 1 ∷ 10 ∷ []) × (labelPlaces (means nested) ≡ 2 ∷ []) × (residuePlaces (means declares) ≡ 15 ∷ 16 ∷ []) × (bracketPlaces (means declares) ≡ 1 ∷ []) × (partPlaces (means declares) ≡ 2 ∷ []) × (sitePlaces (means declares) ≡ 6 ∷ 8 ∷ [])
+unfolding flat along eachAlong printPieces printTargets printText meansPieces meansTargets bracketsOn bracketsAlong valueOn
+places = (refl, refl, refl, refl, refl, refl, refl, refl, refl, refl, refl, refl)

@@ -82,7 +82,7 @@ pub record Stops (s : List ℕ) (i : ℕ) : Type 0 where
   pub ends : i ≡ length s → (t : Spelling) → good t ≡ true → s ≡ print t → ⊥
 
 -- ---- which lines are accepted, and what the others are refused with
--- a good spelling prints s and means a line of which l is kept; s is not too long; none of 5 to 12 is due of that line, nor 19, clause by clause
+-- a good spelling prints s and means a line of which l is kept; s is not too long; none of 5 to 12 is due of that line, nor 19 or 21, clause by clause
 pub record Accepts (s : List ℕ) (l : Line ℕ) : Type 0 where
   pub read : Line ℕ
   pub spelt : SpeltLine s read
@@ -91,7 +91,7 @@ pub record Accepts (s : List ℕ) (l : Line ℕ) : Type 0 where
   pub keeps : l ≡ kept read
 
 -- number k is given, at the place i: the first of 1 to 3 that is due of the bytes; where none is, 4, where no good spelling prints s; where one does,
--- the first of 5 to 12, and 19, that is due of what it means
+-- the first of 5 to 10, 21, 11, 12 and 19 that is due of what it means
 pub data Refuses (s : List ℕ) (k i : ℕ) : Type 0 where
   of-bytes : First (byteRefusals s) k i → Refuses s k i
   of-order : Clear (byteRefusals s) → k ≡ 4 → Stops s i → Refuses s k i
@@ -120,6 +120,6 @@ pub record Laws : Type 0 where
   pub one-reading : (a b : Spelling) → good a ≡ true → good b ≡ true → print a ≡ print b → means a ≡ means b
   -- the same of tables
   pub tables : (s : List ℕ) (t : Tables) → ReadTables s t ↔ SpeltTables s t
-  -- "Reading tries .. 1 to 12 in that order; the lowest number wins, at its first place in the line"; 19 "after 12"
+  -- "Reading tries .. 1 to 12 in that order; the lowest number wins, at its first place in the line"; 21 "after 10", 19 "after 12"
   pub accepts : (s : List ℕ) (l : Line ℕ) → outcome s ≡ accepted l ↔ Accepts s l
   pub refuses : (s : List ℕ) (k i : ℕ) → outcome s ≡ refused k i ↔ Refuses s k i

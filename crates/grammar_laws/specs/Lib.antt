@@ -6,6 +6,7 @@ pub mod Bare
 pub mod Runs
 pub mod Printed
 pub mod Spelled
+pub mod Targets
 pub mod Written
 pub mod Parsed
 pub mod Examples

@@ -3,31 +3,35 @@ use Prim.Native.Nat.{ℕ, zero, suc, _≤_}
 use native.Mathlib.Omega.{arith}
 use mathlib.Core.Path.{_≡_, refl, sym, ap, _∙_, subst}
 use mathlib.Core.Bool.{Bool, true, false, cond, true≢false, false≢true}
-use mathlib.Core.Option.{Option, none, some}
+use mathlib.Core.Option.{Option, none, some, Option·none-ne-some}
 use mathlib.Core.List.{List, [], _∷_, _++_, append-assoc, append-nil}
 use lib.Dec.{eqb}
 use lib.ListN.{length, length-append}
-use borrow.Author.Tests.{eqb-true}
+use borrow.Author.Tests.{eqb-true, eq-eqb}
 use Rattle.scope.specs.declared.grammar.Section.{Section}
 use Rattle.scope.specs.declared.grammar.Section.the-variants.{RangeNext, UnsureNext}
 use Rattle.scope.specs.declared.grammar.Kind.{Kind}
 use Rattle.scope.specs.declared.grammar.Kind.the-variants.{Unknown, NTerm, OnResidue, OnRange, CTerm}
 use Rattle.scope.specs.declared.grammar.Mode.{Mode}
-use Rattle.scope.specs.declared.grammar.Mode.the-variants.{Front, Runs, Undecided, Counted, Referred, Caret, Counting, Labiles, NTerms, Start, Single, Opened, UnsureOpened, InRange, InUnsure, RangeEnd, Ranged, UnsureEnd, CStart, CTerms}
+use Rattle.scope.specs.declared.grammar.Mode.the-variants.{Front, Angle, Tagged, Listed, Runs, Undecided, Counted, Referred, Caret, Counting, Labiles, NTerms, Start, Single, Opened, UnsureOpened, InRange, InUnsure, RangeEnd, Ranged, UnsureEnd, CStart, CTerms}
 use Rattle.scope.specs.declared.grammar.Slot.{Slot}
 use Rattle.scope.specs.declared.grammar.Act.{Act}
-use Rattle.scope.specs.declared.grammar.Act.the-variants.{Stop, Go, Residue as aResidue, Begin, Digit, RunEnds, TermEnds}
-use Rattle.scope.specs.Bytes.{isLetter, isDigit, openSquare, shutSquare, openCurly, openRound, shutRound, caret, question, dash}
+use Rattle.scope.specs.declared.grammar.Act.the-variants.{Stop, Go, Residue as aResidue, Begin, Digit, RunEnds, TermEnds, Places}
+use Rattle.scope.specs.Bytes.{bytes, upper, isLetter, isDigit, sameFolded, openSquare, shutSquare, openCurly, openRound, shutRound, openAngle, shutAngle, atSign, caret, question, dash, comma}
 use Rattle.scope.specs.Content.{begin, Inner, Content, lost, closed, going, innerStep}
-use Rattle.scope.specs.Reading.{square, front, labile, atFront, element, further, groupFirst, inGroup, undecided, counted, referred, act, mayEnd, Held, withResidue, withBracket, withDigit, asNTerm, settledRun, State, dead, outside, inside, perform, refers?, modeAfter, resume, step, start, lineOf}
+use Rattle.scope.specs.Reading.{square, front, labile, declared, atFront, element, further, groupFirst, inGroup, undecided, counted, referred, act, mayEnd, Held, withResidue, withBracket, withDigit, asNTerm, settledRun, State, dead, outside, inside, placing, perform, refers?, modeAfter, resume, step, start, lineOf}
+use Rattle.scope.specs.Line.{Place as Site}
+use Rattle.scope.specs.Places.{Placing, expected, placed, owing, owed, terminusOf}
 use Rattle.reading_laws.specs.Run.{told}
+use Rattle.reading_laws.specs.Listed.{PlaceOn, place-begins, place-over, word-begins, word-on, PlacesGo, places-on, places-over, places-stop, places-go}
 use Rattle.reading_laws.specs.Unnoted.{Place, Parts, context, contentRun, lineRun, line-nil, line-cons, same-mode, content-cons, content-nil}
 use Rattle.basics.specs.Tests.{both}
 use Rattle.reading_laws.specs.Acts.{Ending, single-ends, ranged-ends, unsure-ends, cterms-end, ending}
 use Rattle.scope.specs.Lists.{there?, all as every, flat}
-use Rattle.scope.specs.Grammar.{someOf, Inside, parts, refers, printInside, goodInside, printSquare, printCurly, printSquares, goodSquares, goodCurlies, Marked, printCount, goodCount, printMarked, goodMarked, Run, printRun, goodRun, Spot, Element, single, range, unsure, printSpot, printElement, goodSpot, goodElement, Spelling, elements, printFront, printBack, print, good}
+use Rattle.scope.specs.Grammar.{someOf, Inside, parts, refers, printInside, goodInside, printSquare, printCurly, printSquares, goodSquares, goodCurlies, Target, aLetter, aTerminus, printTarget, goodTarget, printTargets, Declaration, printDeclaration, goodDeclaration, Marked, printCount, goodCount, printMarked, goodMarked, Run, printRun, goodRun, Spot, Element, single, range, unsure, printSpot, printElement, goodSpot, goodElement, Spelling, elements, printFront, printBack, print, good}
 use Rattle.grammar_laws.specs.Bare.{bareInside}
 use Rattle.grammar_laws.specs.Spelled.{closed-spelled}
+use Rattle.grammar_laws.specs.Targets.{terminus-good, no-word, printMore, print-targets}
 use Rattle.basics.specs.Lists.{flat-cons, flat-nil}
 
 -- ---- what is left of a line, by the mode in which it is left
@@ -125,8 +129,66 @@ pub data Either (l : List ℕ) : Type 0 where
   in-run : Counts l → Either l
   in-front : Squares true Dashed l → Either l
 
+-- ---- declarations, and what stands behind them
+pub record Declares (l : List ℕ) : Type 0 where
+  pub declarations : List Declaration
+  pub good : every goodDeclaration declarations ≡ true
+  pub rest : List ℕ
+  pub all : l ≡ flat printDeclaration declarations ++ rest
+  pub then : LineWhole rest
+
+-- the places of a declaration, its `>` and what stands behind it; the same behind a place
+pub record Targets (l : List ℕ) : Type 0 where
+  pub first : Target
+  pub more : List Target
+  pub good : every goodTarget (first ∷ more) ≡ true
+  pub rest : List ℕ
+  pub all : l ≡ printTargets first more ++ (shutAngle ∷ rest)
+  pub then : Declares rest
+
+pub record MoreTargets (l : List ℕ) : Type 0 where
+  pub more : List Target
+  pub good : every goodTarget more ≡ true
+  pub rest : List ℕ
+  pub all : l ≡ printMore more ++ (shutAngle ∷ rest)
+  pub then : Declares rest
+
+-- the bytes w in either case, and the same behind them
+pub record Owed (w l : List ℕ) : Type 0 where
+  pub spelled : List ℕ
+  pub good : sameFolded w spelled ≡ true
+  pub rest : List ℕ
+  pub all : l ≡ spelled ++ rest
+  pub then : MoreTargets rest
+
+-- behind the letter c, which is a place or begins the word of a terminus
+pub data Lettered (c : ℕ) (l : List ℕ) : Type 0 where
+  as-letter : MoreTargets l → Lettered c l
+  as-word : (s : ℕ) → terminusOf c ≡ some s → Owed (dash ∷ bytes "term") l → Lettered c l
+
+-- behind `<`; behind its bracket; behind its places
+pub record Angled (l : List ℕ) : Type 0 where
+  pub tree : Declaration
+  pub good : goodDeclaration tree ≡ true
+  pub rest : List ℕ
+  pub all : openAngle ∷ l ≡ printDeclaration tree ++ rest
+  pub then : Declares rest
+
+pub record At (l : List ℕ) : Type 0 where
+  pub rest : List ℕ
+  pub all : l ≡ atSign ∷ rest
+  pub then : Targets rest
+
+pub record Shut (l : List ℕ) : Type 0 where
+  pub rest : List ℕ
+  pub all : l ≡ shutAngle ∷ rest
+  pub then : Declares rest
+
 abbrev Left : Mode → List ℕ → Type 0
-Left Front l = LineWhole l
+Left Front l = Declares l
+Left Angle l = Angled l
+Left Tagged l = At l
+Left Listed l = Shut l
 Left Runs l = LineWhole l
 Left Undecided l = Either l
 Left Counted l = Counts l
@@ -163,6 +225,7 @@ After (Begin s) l = ByteTaken s l
 After Digit l = Left Counting l
 After RunEnds l = Left Runs l
 After TermEnds l = Left Start l
+After Places l = Targets l
 
 by : {G : Type 0} (t : Bool) (x y : Act) (l : List ℕ) → After (cond t x y) l → (t ≡ true → After x l → G) → (t ≡ false → After y l → G) → G
 by true x y l a f g = f refl a
@@ -549,6 +612,56 @@ front-left b l a =
     by (eqb b openCurly) _ _ l c (λ f (w : ByteTaken labile l). no-runs (b ∷ l) (curly-cons b l (eqb-true b openCurly f) w))
     (λ f d. no-runs (b ∷ l) (no-curlies (b ∷ l) (element-left b l d))))
 
+-- ---- declarations
+no-declarations : (l : List ℕ) → LineWhole l → Declares l
+no-declarations l w = record { declarations = []; good = every-nil goodDeclaration; rest = l; all = each-none printDeclaration l; then = w }
+
+declares-left : (b : ℕ) (l : List ℕ) → After (act Front b) l → Declares (b ∷ l)
+unfolding act After
+declares-left b l a =
+    by (eqb b openAngle) _ _ l a
+    (λ e (w : Angled l). record {
+      declarations = w .tree ∷ w .then .declarations;
+      good = every-cons goodDeclaration (w .tree) (w .then .declarations) (w .good) (w .then .good);
+      rest = w .then .rest;
+      all = each-front printDeclaration (w .tree) (w .then .declarations) (b ∷ l) (w .rest) (w .then .rest) (ap (λ z. z ∷ l) (eqb-true b openAngle e) ∙ w .all) (w .then .all);
+      then = w .then .then;
+    })
+    (λ e c. no-declarations (b ∷ l) (front-left b l c))
+
+-- a bracket, `@`, places and `>`
+declaration-bytes : (d : Declaration) (b : ℕ) (l v u rest : List ℕ) → b ≡ openSquare → l ≡ (printInside (d .inside) ++ (shutSquare ∷ [])) ++ v → v ≡ atSign ∷ u
+    → u ≡ printTargets (d .first) (d .more) ++ (shutAngle ∷ rest) → openAngle ∷ b ∷ l ≡ printDeclaration d ++ rest
+declaration-bytes d b l v u rest e f g k =
+    let places = printTargets (d .first) (d .more) in
+    ap (λ z. openAngle ∷ z) (square-bytes b (d .inside) l v e f
+    ∙ ap (λ z. printSquare (d .inside) ++ z) (g ∙ ap (λ z. atSign ∷ z) (k ∙ sym (append-assoc places (shutAngle ∷ []) rest)))
+    ∙ sym (append-assoc (printSquare (d .inside)) (atSign ∷ (places ++ (shutAngle ∷ []))) rest))
+
+angle-left : (b : ℕ) (l : List ℕ) → After (act Angle b) l → Angled (b ∷ l)
+unfolding act After
+angle-left b l a = by (eqb b openSquare) _ _ l a (λ e (w : ByteTaken declared l). go e w (subst (λ (z : Mode). Left z (w .rest)) (same-mode (bareInside (w .tree)) Tagged) (w .then))) (λ e w. absurd w)
+  where
+    go : eqb b openSquare ≡ true → (w : ByteTaken declared l) → At (w .rest) → Angled (b ∷ l)
+    go e w t =
+        let p = t .then in
+        let d : Declaration = record { inside = w .tree; first = p .first; more = p .more } in
+        record {
+          tree = d;
+          good = both (goodInside false false (w .tree)) (every goodTarget (p .first ∷ p .more)) (w .good) (p .good);
+          rest = p .rest;
+          all = declaration-bytes d b l (w .rest) (t .rest) (p .rest) (eqb-true b openSquare e) (w .all) (t .all) (p .all);
+          then = p .then;
+        }
+
+tagged-left : (b : ℕ) (l : List ℕ) → After (act Tagged b) l → At (b ∷ l)
+unfolding act After
+tagged-left b l a = by (eqb b atSign) _ _ l a (λ e (w : Targets l). record { rest = l; all = ap (λ z. z ∷ l) (eqb-true b atSign e); then = w }) (λ e w. absurd w)
+
+listed-left : (b : ℕ) (l : List ℕ) → After (act Listed b) l → Shut (b ∷ l)
+unfolding act After
+listed-left b l a = by (eqb b shutAngle) _ _ l a (λ e (w : Declares l). record { rest = l; all = ap (λ z. z ∷ l) (eqb-true b shutAngle e); then = w }) (λ e w. absurd w)
+
 start-left : (b : ℕ) (l : List ℕ) → After (act Start b) l → Sequence (b ∷ l)
 unfolding act
 start-left b l a = element-left b l a
@@ -560,7 +673,10 @@ unsureEnd-left b l a = further-left b l a
 -- ---- all modes
 left-cons : (m : Mode) (b : ℕ) (l : List ℕ) → After (act m b) l → Left m (b ∷ l)
 unfolding act
-left-cons Front b l a = front-left b l a
+left-cons Front b l a = declares-left b l a
+left-cons Angle b l a = angle-left b l a
+left-cons Tagged b l a = tagged-left b l a
+left-cons Listed b l a = listed-left b l a
 left-cons Runs b l a = front-left b l a
 left-cons Undecided b l a = undecided-left b l a
 left-cons Counted b l a = counted-left b l a
@@ -646,6 +762,75 @@ taken n ih s h l k e =
       then = subst (λ (z : Parts). Left (modeAfter s z) (i .rest)) (j .means) (ih (modeAfter s (i .parts)) (withBracket (s .kind) tt (i .parts) h) (i .rest) short (i .accepts));
     }
 
+-- ---- places, from a state of them on
+abbrev PlacesLeft : Placing Place → List ℕ → Type 0
+PlacesLeft (expected ps) l = Targets l
+PlacesLeft (placed ps p) l = Lettered (p .site) l
+PlacesLeft (owing ps p x w) l = Owed (x ∷ w) l
+
+-- what is owed is owed of a terminus, behind which no word begins
+abbrev Sited : Placing Place → Type 0
+Sited (expected ps) = Unit {0}
+Sited (placed ps p) = Unit {0}
+Sited (owing ps p x w) = terminusOf (p .site) ≡ none
+
+owed-sited : (ps : List (Site Place)) (p : Site Place) (w : List ℕ) → terminusOf (p .site) ≡ none → Sited (owed ps p w)
+owed-sited ps p [] e = tt
+owed-sited ps p (x ∷ w) e = e
+
+owed-left : (ps : List (Site Place)) (p : Site Place) (w l : List ℕ) → terminusOf (p .site) ≡ none → PlacesLeft (owed ps p w) l → Owed w l
+unfolding sameFolded
+owed-left ps p [] l e (as-letter m) = record { spelled = []; good = refl; rest = l; all = refl; then = m }
+owed-left ps p [] l e (as-word s f o) = absurd (Option·none-ne-some s (sym e ∙ f))
+owed-left ps p (x ∷ w) l e o = o
+
+-- one byte of a word in front
+owed-cons : (x b : ℕ) (w l : List ℕ) → eqb (upper x) (upper b) ≡ true → Owed w l → Owed (x ∷ w) (b ∷ l)
+unfolding sameFolded
+owed-cons x b w l e o = record { spelled = b ∷ o .spelled; good = both _ _ e (o .good); rest = o .rest; all = ap (λ z. b ∷ z) (o .all); then = o .then }
+
+-- a place in front of others
+target-cons : (x : Target) (l v : List ℕ) → goodTarget x ≡ true → l ≡ printTarget x ++ v → MoreTargets v → Targets l
+target-cons x l v g e m =
+    record {
+      first = x;
+      more = m .more;
+      good = every-cons goodTarget x (m .more) g (m .good);
+      rest = m .rest;
+      all = e ∙ ap (λ z. printTarget x ++ z) (m .all) ∙ sym (append-assoc (printTarget x) (printMore (m .more)) (shutAngle ∷ m .rest)) ∙ ap (λ z. z ++ (shutAngle ∷ m .rest)) (sym (print-targets x (m .more)));
+      then = m .then;
+    }
+
+lettered-left : (b : ℕ) (l : List ℕ) → isLetter b ≡ true → Lettered (upper b) l → Targets (b ∷ l)
+lettered-left b l e (as-letter m) = target-cons (aLetter b) (b ∷ l) l e refl m
+lettered-left b l e (as-word s f o) = target-cons (aTerminus s (b ∷ o .spelled)) (b ∷ l) (o .rest) (terminus-good b s (o .spelled) f (o .good)) (ap (λ z. b ∷ z) (o .all)) (o .then)
+
+place-left : {b : ℕ} {s t : Placing Place} → PlaceOn tt b s t → (l : List ℕ) → Sited s → (Sited t → PlacesLeft t l) → PlacesLeft s (b ∷ l)
+place-left {b = b} (place-begins e) l g r = lettered-left b l e (r tt)
+place-left {b = b} (place-over e) l g r =
+    let t = r tt in
+    as-letter (record {
+      more = t .first ∷ t .more;
+      good = t .good;
+      rest = t .rest;
+      all = ap (λ z. z ∷ l) (eqb-true b comma e) ∙ ap (λ z. comma ∷ z) (t .all);
+      then = t .then;
+    })
+place-left {b = b} (word-begins {p = p} {s = s} e f) l g r =
+    as-word s f (owed-cons dash b (bytes "term") l (eq-eqb (upper dash) (upper b) (ap upper (sym (eqb-true b dash e)))) (r (no-word (p .site) s f)))
+place-left {b = b} (word-on {ps = ps} {p = p} {x = x} {w = w} e) l g r = owed-cons x b w l e (owed-left ps p w l g (r (owed-sited ps p w g)))
+
+places-left : (n : ℕ) → Upto n → (l : List ℕ) (s : Placing Place) (h : Held Place) → length l ≤ n → Sited s → Accepts (placing h s) l → PlacesLeft s l
+places-left n ih [] s h k g e = absurd (false≢true (ap (λ z. there? (told z)) (sym (line-nil (placing h s))) ∙ e))
+places-left n ih (b ∷ l) s h k g e =
+    go (places-go tt b h s) g (ap (λ z. there? (told z)) (sym (line-cons (placing h s) b l)) ∙ e) (λ t u f. places-left n ih l t h (omega arith) u f)
+  where
+    go : {s : Placing Place} {x : State Place} → PlacesGo tt b h s x → Sited s → Accepts x l → ((t : Placing Place) → Sited t → Accepts (placing h t) l → PlacesLeft t l) → PlacesLeft s (b ∷ l)
+    go (places-on {t = t} o) u f more = place-left o l u (λ v. more t v f)
+    go (places-over q) u f more =
+        as-letter (record { more = []; good = every-nil goodTarget; rest = l; all = ap (λ z. z ∷ l) (eqb-true b shutAngle q); then = ih Front _ l (omega arith) f })
+    go places-stop u f more = absurd (dead-not l f)
+
 after : (n : ℕ) → Upto n → (a : Act) (h : Held Place) (b : ℕ) (l : List ℕ) → length l ≤ n → Accepts (perform tt b h a) l → After a l
 unfolding perform After
 after n ih Stop h b l k e = dead-not l e
@@ -655,6 +840,7 @@ after n ih (Begin s) h b l k e = taken n ih s h l k e
 after n ih Digit h b l k e = ih Counting (withDigit tt b h) l k e
 after n ih RunEnds h b l k e = ih Runs (settledRun (λ q. q) h) l k e
 after n ih TermEnds h b l k e = ih Start (settledRun asNTerm h) l k e
+after n ih Places h b l k e = places-left n ih l (expected []) h k tt e
 
 none-left : Upto 0
 none-left m h [] k e = left-nil m (ending m (ends m h e))
@@ -675,22 +861,24 @@ pub record LineSpelt (l : List ℕ) : Type 0 where
   pub fine : good tree ≡ true
   pub prints : l ≡ print tree
 
-spelt : (l : List ℕ) → LineWhole l → LineSpelt l
-spelt l w =
+spelt : (l : List ℕ) → Declares l → LineSpelt l
+spelt l v =
+    let w = v .then in
     let c = w .then in
     let s = c .then in
     let t = s .then in
-    let x : Spelling = record { runs = w .runs; labiles = c .labiles; front = c .front; first = s .first; more = t .elems; back = t .back } in
+    let x : Spelling = record { declarations = v .declarations; runs = w .runs; labiles = c .labiles; front = c .front; first = s .first; more = t .elems; back = t .back } in
     record {
       tree = x;
       fine =
-          both (every goodRun (w .runs)) _ (w .good)
+          both (every goodDeclaration (v .declarations)) _ (v .good)
+          (both (every goodRun (w .runs)) _ (w .good)
           (both (goodCurlies (c .labiles)) _ (c .good)
-          (both (goodSquares true (c .front)) _ (c .good-front) (both (every goodElement (elements x)) (goodSquares true (t .back)) (every-cons goodElement (s .first) (t .elems) (s .good) (t .good)) (t .good-back))));
+          (both (goodSquares true (c .front)) _ (c .good-front) (both (every goodElement (elements x)) (goodSquares true (t .back)) (every-cons goodElement (s .first) (t .elems) (s .good) (t .good)) (t .good-back)))));
       prints =
-          w .all
+          v .all ∙ ap (λ z. flat printDeclaration (v .declarations) ++ z) (w .all
           ∙ ap (λ z. flat printRun (w .runs) ++ z) (c .all
-          ∙ ap (λ z. flat printCurly (c .labiles) ++ (printFront (c .front) ++ z)) (each-front printElement (s .first) (t .elems) (c .rest) (s .rest) (printBack (t .back)) (s .all) (t .all)));
+          ∙ ap (λ z. flat printCurly (c .labiles) ++ (printFront (c .front) ++ z)) (each-front printElement (s .first) (t .elems) (c .rest) (s .rest) (printBack (t .back)) (s .all) (t .all))));
     }
 
 -- what the reader accepts is printed by a good spelling

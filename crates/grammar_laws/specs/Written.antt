@@ -10,22 +10,24 @@ use lib.ListN.{length, length-append}
 use Rattle.scope.specs.declared.grammar.Section.{Section}
 use Rattle.scope.specs.declared.grammar.Section.the-variants.{Plain, RangeFirst, RangeNext, UnsureFirst, UnsureNext}
 use Rattle.scope.specs.declared.grammar.Kind.{Kind}
-use Rattle.scope.specs.declared.grammar.Kind.the-variants.{Unknown, Labile, NTerm, OnResidue, OnRange, CTerm}
+use Rattle.scope.specs.declared.grammar.Kind.the-variants.{Unknown, Labile, NTerm, OnResidue, OnRange, CTerm, Declared}
 use Rattle.scope.specs.declared.grammar.Mode.{Mode}
-use Rattle.scope.specs.declared.grammar.Mode.the-variants.{Front, Runs, Undecided, Counted, Referred, Caret, Counting, Labiles, NTerms, Start, Single, Opened, UnsureOpened, InRange, InUnsure, RangeEnd, Ranged, UnsureEnd, CStart, CTerms}
+use Rattle.scope.specs.declared.grammar.Mode.the-variants.{Front, Angle, Tagged, Runs, Undecided, Counted, Referred, Caret, Counting, Labiles, NTerms, Start, Single, Opened, UnsureOpened, InRange, InUnsure, RangeEnd, Ranged, UnsureEnd, CStart, CTerms}
 use Rattle.scope.specs.declared.grammar.Slot.{Slot}
 use Rattle.scope.specs.declared.grammar.Act.the-variants.{Go, Residue as aResidue, Begin, Digit, RunEnds, TermEnds}
-use Rattle.scope.specs.Bytes.{isLetter, isDigit, isShutting, openSquare, openCurly, openRound, shutRound, caret, question, dash, value}
-use Rattle.scope.specs.Line.{Bracket, Residue}
+use Rattle.scope.specs.Bytes.{isLetter, isDigit, isShutting, openSquare, openCurly, openRound, shutRound, openAngle, shutAngle, atSign, caret, question, dash, value}
+use Rattle.scope.specs.Line.{Place, Bracket, Residue}
 use Rattle.scope.specs.Content.{begin}
-use Rattle.scope.specs.Reading.{square, front, labile, element, further, groupFirst, inGroup, undecided, counted, referred, act, mayEnd, Held, nothing, firstOf, withResidue, positionOf, settled, put, withBracket, times, countDigit, withDigit, asNTerm, settledRun, State, outside, inside, perform, refers?, modeAfter, step, run, holds, ended, reading}
+use Rattle.scope.specs.Reading.{square, front, labile, declared, element, further, groupFirst, inGroup, undecided, counted, referred, act, mayEnd, Held, nothing, firstOf, withResidue, positionOf, settled, put, withBracket, times, countDigit, withDigit, asNTerm, settledRun, declaredAt, withPlaces, State, outside, inside, placing, perform, refers?, modeAfter, step, run, holds, ended, reading}
+use Rattle.scope.specs.Places.{expected}
 use Rattle.scope.specs.Lists.{onLast, all as every, flat}
 use Rattle.basics.specs.Choice.{pick-true, pick-false}
 use Rattle.basics.specs.Tests.{and-left, and-right, letter-not}
-use Rattle.scope.specs.Grammar.{someOf, valueOn, Inside, meansPieces, parts, refers, printInside, goodInside, meansInside, printSquare, printCurly, along, eachAlong, printSquares, goodSquares, goodCurlies, bracketAt, meansSquares, Marked, printCount, goodCount, printMarked, goodMarked, counting, meansMarked, Run, marks, printRun, goodRun, meansRun, Spot, Element, single, range, unsure, printSpot, printElement, goodSpot, goodElement, residueOf, residuesOn, residuesIn, bracketsOn, bracketsIn, bracketsAlong, Spelling, elements, printFront, printBack, print, good, atLabiles, atFront, atSequence, residuesOf, backOf, meansAt, means}
+use Rattle.scope.specs.Grammar.{someOf, valueOn, Inside, meansPieces, parts, refers, printInside, goodInside, meansInside, printSquare, printCurly, along, eachAlong, printSquares, goodSquares, goodCurlies, bracketAt, meansSquares, printTargets, meansTargets, Declaration, printDeclaration, goodDeclaration, meansDeclaration, Marked, printCount, goodCount, printMarked, goodMarked, counting, meansMarked, Run, marks, printRun, goodRun, meansRun, Spot, Element, single, range, unsure, printSpot, printElement, goodSpot, goodElement, residueOf, residuesOn, residuesIn, bracketsOn, bracketsIn, bracketsAlong, Spelling, elements, printFront, printBack, print, good, atRuns, atLabiles, atFront, atSequence, residuesOf, backOf, meansAt, means}
 use Rattle.grammar_laws.specs.Runs.{context, lineRun, line-nil, line-cons, line-one, line-further, lift}
 use Rattle.grammar_laws.specs.Printed.{inside-run, no-base}
-use Rattle.basics.specs.Lists.{flat-cons, flat-nil}
+use Rattle.grammar_laws.specs.Targets.{targets-run, targets-over}
+use Rattle.basics.specs.Lists.{flat-cons, flat-nil, on-last}
 use Rattle.reading_laws.specs.Unnoted.{same-mode}
 
 abbrev Residues : Type 0
@@ -205,19 +207,19 @@ further-letter : (b : ℕ) → isLetter b ≡ true → further b ≡ aResidue Pl
 unfolding further
 further-letter b e = pick-false (eqb b dash) _ _ (letter-not b dash e refl) ∙ element-letter b e
 
--- at the front of a line, and behind a run
+-- at the front of a line, declarations apart, and behind a run
 pub data AtFront : Mode → Type 0 where
   at-first : AtFront Front
   behind-run : AtFront Runs
 
-front-acts : (m : Mode) → AtFront m → (b : ℕ) → act m b ≡ act Front b
+front-acts : (m : Mode) → AtFront m → (b : ℕ) → eqb b openAngle ≡ false → act m b ≡ act Runs b
 unfolding act
-front-acts m at-first b = refl
-front-acts m behind-run b = refl
+front-acts m at-first b e = pick-false (eqb b openAngle) _ _ e
+front-acts m behind-run b e = refl
 
 front-begins : (m : Mode) → AtFront m → Begins m
 unfolding act element
-front-begins m w = record { letter = λ b e. front-acts m w b ∙ pick-false (eqb b openSquare) _ _ (letter-not b openSquare e refl) ∙ pick-false (eqb b openCurly) _ _ (letter-not b openCurly e refl) ∙ element-letter b e; round = front-acts m w openRound }
+front-begins m w = record { letter = λ b e. front-acts m w b (letter-not b openAngle e refl) ∙ pick-false (eqb b openSquare) _ _ (letter-not b openSquare e refl) ∙ pick-false (eqb b openCurly) _ _ (letter-not b openCurly e refl) ∙ element-letter b e; round = front-acts m w openRound refl }
 
 labiles-begins : Begins Labiles
 unfolding act element
@@ -503,7 +505,7 @@ waits i m bs ws x counting-run g = wait-counted i Counting bs ws x refl g
 
 front-opens : (m : Mode) → AtFront m → act m openSquare ≡ Begin front
 unfolding act
-front-opens m w = front-acts m w openSquare
+front-opens m w = front-acts m w openSquare refl
 
 -- counts
 last-snoc : (f : Bracket ℕ → Bracket ℕ) (l : Brackets) (x : Bracket ℕ) → onLast f (l ++ (x ∷ [])) ≡ l ++ (f x ∷ [])
@@ -642,7 +644,7 @@ labiles-open = refl
 
 front-curly : (m : Mode) → AtFront m → act m openCurly ≡ Begin labile
 unfolding act
-front-curly m w = front-acts m w openCurly
+front-curly m w = front-acts m w openCurly refl
 
 curlies-from : (i : ℕ) (xs : List Inside) (x : Inside) (m : Mode) (bs : Brackets) → act m openCurly ≡ Begin labile → goodCurlies (x ∷ xs) ≡ true
     → lineRun i (outside m (leading bs [])) (flat printCurly (x ∷ xs)) ≡ outside Labiles (leading (bs ++ meansCurlies i (x ∷ xs)) [])
@@ -786,42 +788,98 @@ front-run i (x ∷ xs) m ks at-labiles g =
           line-further i (printSquares (x ∷ xs)) (dash ∷ []) (outside Labiles (leading ks [])) _ _ (squares-from NTerm true NTerms nterms-open (λ b q. refl) i Labiles x xs (leading ks []) labiles-square g) (go _ NTerms Start _ dash nterms-dash);
     }
 
+-- ---- declarations
+angle-opens : act Front openAngle ≡ Go Angle
+unfolding act
+angle-opens = refl
+
+angle-square : act Angle openSquare ≡ Begin declared
+unfolding act
+angle-square = refl
+
+-- the bracket of a declaration, its places still to come
+abbrev declaredBare : ℕ → Inside → Bracket ℕ
+declaredBare i x = bracketAt Declared 0 0 i x
+
+tagged-run : (i : ℕ) (h : Held ℕ) → lineRun i (outside Tagged h) (atSign ∷ []) ≡ placing h (expected [])
+unfolding act perform
+tagged-run i h = line-one i Tagged h atSign
+
+with-places : (ps : List (Place ℕ)) (ks : Brackets) (k : Bracket ℕ) → withPlaces ps (leading (ks ++ (k ∷ [])) []) ≡ leading (ks ++ (declaredAt ps k ∷ [])) []
+with-places ps ks k = ap (λ z. leading z []) (on-last (declaredAt ps) ks k)
+
+declaration-run : (i : ℕ) (d : Declaration) (ks : Brackets) → goodDeclaration d ≡ true
+    → lineRun i (outside Front (leading ks [])) (printDeclaration d) ≡ outside Front (leading (ks ++ (meansDeclaration i d ∷ [])) [])
+declaration-run i d ks g =
+    let x = d .inside in
+    let j = i + 1 + length (printSquare x) in
+    let h : Held ℕ = leading (ks ++ (declaredBare (i + 1) x ∷ [])) [] in
+    let t = targets-run h (j + 1) [] (d .more) (d .first) (and-right (goodInside false false x) _ g) in
+    line-further i (openAngle ∷ []) (printSquare x ++ (atSign ∷ (printTargets (d .first) (d .more) ++ (shutAngle ∷ [])))) _ (outside Angle (leading ks [])) _
+    (go i Front Angle (leading ks []) openAngle angle-opens)
+    (line-further (i + 1) (printSquare x) (atSign ∷ (printTargets (d .first) (d .more) ++ (shutAngle ∷ []))) _ (outside Tagged h) _
+    (bracket (i + 1) Angle declared (leading ks []) openSquare x angle-square refl (and-left (goodInside false false x) _ g)
+    ∙ ap (λ z. outside z h) (same-mode (meansInside (i + 1 + 1) x) Tagged))
+    (line-further j (atSign ∷ []) (printTargets (d .first) (d .more) ++ (shutAngle ∷ [])) _ (placing h (expected [])) _ (tagged-run j h)
+    (line-further (j + 1) (printTargets (d .first) (d .more)) (shutAngle ∷ []) _ _ _ (t .path) (targets-over h _ (t .before) (t .last)))))
+    ∙ ap (λ ps. outside Front (withPlaces ps h)) (t .all)
+    ∙ ap (outside Front) (with-places (meansTargets (j + 1) (d .first) (d .more)) ks (declaredBare (i + 1) x))
+
+abbrev meansDeclarations : ℕ → List Declaration → Brackets
+meansDeclarations i ds = along printDeclaration meansDeclaration i ds
+
+declarations-run : (i : ℕ) (ds : List Declaration) (ks : Brackets) → every goodDeclaration ds ≡ true
+    → lineRun i (outside Front (leading ks [])) (flat printDeclaration ds) ≡ outside Front (leading (ks ++ meansDeclarations i ds) [])
+declarations-run i [] ks g =
+    ap (lineRun i (outside Front (leading ks []))) (flat-nil printDeclaration) ∙ line-nil i _
+    ∙ ap (λ z. outside Front (leading z [])) (sym (append-nil ks) ∙ ap (λ z. ks ++ z) (sym (along-nil printDeclaration meansDeclaration i)))
+declarations-run i (d ∷ ds) ks g =
+    ap (lineRun i (outside Front (leading ks []))) (flat-cons printDeclaration d ds)
+    ∙ line-further i (printDeclaration d) (flat printDeclaration ds) _ _ _ (declaration-run i d ks (every-head goodDeclaration d ds g))
+    (declarations-run (i + length (printDeclaration d)) ds (ks ++ (meansDeclaration i d ∷ [])) (every-tail goodDeclaration d ds g))
+    ∙ ap (λ z. outside Front (leading z [])) (append-assoc ks (meansDeclaration i d ∷ []) _ ∙ ap (λ z. ks ++ z) (sym (along-cons printDeclaration meansDeclaration i d ds)))
+
 -- ---- a line
--- its four pieces
-whole-run : (i : ℕ) (a b c d : List ℕ) (k₁ k₂ k₃ ks : Brackets) (rs : Residues) (m₀ m₁ m₂ m₃ : Mode) (f : ℕ) → lineRun i (outside Front nothing) a ≡ outside m₀ (leading k₁ [])
-    → lineRun (i + length a) (outside m₀ (leading k₁ [])) b ≡ outside m₁ (leading (k₁ ++ k₂) [])
-    → lineRun (i + length a + length b) (outside m₁ (leading (k₁ ++ k₂) [])) c ≡ outside m₂ (leading ((k₁ ++ k₂) ++ k₃) [])
-    → lineRun (i + length a + length b + length c) (outside m₂ (leading ((k₁ ++ k₂) ++ k₃) [])) d ≡ outside m₃ (held rs (((k₁ ++ k₂) ++ k₃) ++ ks) [] f)
-    → lineRun i (outside Front nothing) (a ++ (b ++ (c ++ d))) ≡ outside m₃ (held rs (k₁ ++ (k₂ ++ (k₃ ++ ks))) [] f)
-whole-run i a b c d k₁ k₂ k₃ ks rs m₀ m₁ m₂ m₃ f p q r s =
+-- its four pieces behind the declarations
+whole-run : (i : ℕ) (a b c d : List ℕ) (k₀ k₁ k₂ k₃ ks : Brackets) (rs : Residues) (m₀ m₁ m₂ m₃ : Mode) (f : ℕ) → lineRun i (outside Front (leading k₀ [])) a ≡ outside m₀ (leading (k₀ ++ k₁) [])
+    → lineRun (i + length a) (outside m₀ (leading (k₀ ++ k₁) [])) b ≡ outside m₁ (leading ((k₀ ++ k₁) ++ k₂) [])
+    → lineRun (i + length a + length b) (outside m₁ (leading ((k₀ ++ k₁) ++ k₂) [])) c ≡ outside m₂ (leading (((k₀ ++ k₁) ++ k₂) ++ k₃) [])
+    → lineRun (i + length a + length b + length c) (outside m₂ (leading (((k₀ ++ k₁) ++ k₂) ++ k₃) [])) d ≡ outside m₃ (held rs ((((k₀ ++ k₁) ++ k₂) ++ k₃) ++ ks) [] f)
+    → lineRun i (outside Front (leading k₀ [])) (a ++ (b ++ (c ++ d))) ≡ outside m₃ (held rs (k₀ ++ (k₁ ++ (k₂ ++ (k₃ ++ ks)))) [] f)
+whole-run i a b c d k₀ k₁ k₂ k₃ ks rs m₀ m₁ m₂ m₃ f p q r s =
     line-further i a (b ++ (c ++ d)) _ _ _ p (line-further (i + length a) b (c ++ d) _ _ _ q (line-further (i + length a + length b) c d _ _ _ r s))
-    ∙ ap (λ z. outside m₃ (held rs z [] f)) (append-assoc (k₁ ++ k₂) k₃ ks ∙ append-assoc k₁ k₂ (k₃ ++ ks))
+    ∙ ap (λ z. outside m₃ (held rs z [] f)) (append-assoc ((k₀ ++ k₁) ++ k₂) k₃ ks ∙ append-assoc (k₀ ++ k₁) k₂ (k₃ ++ ks) ∙ append-assoc k₀ k₁ (k₂ ++ (k₃ ++ ks)))
 
 line-run : (i : ℕ) (t : Spelling) → good t ≡ true → Over i nothing Front (print t) (meansAt i t .residues) (meansAt i t .brackets)
-line-run i t g =
+line-run i t whole =
+    let o = every goodDeclaration (t .declarations) in
     let a = every goodRun (t .runs) in
     let b = goodCurlies (t .labiles) in
     let c = goodSquares true (t .front) in
     let d = every goodElement (elements t) in
     let e = goodSquares true (t .back) in
+    let g : (a && (b && (c && (d && e)))) ≡ true = and-right o (a && (b && (c && (d && e)))) whole in
     let g₁ : (b && (c && (d && e))) ≡ true = and-right a (b && (c && (d && e))) g in
     let g₂ : (c && (d && e)) ≡ true = and-right b (c && (d && e)) g₁ in
     let g₃ : (d && e) ≡ true = and-right c (d && e) g₂ in
-    let k₁ : Brackets = eachAlong printRun meansRun i (t .runs) in
+    let k₀ : Brackets = meansDeclarations i (t .declarations) in
+    let k₁ : Brackets = eachAlong printRun meansRun (atRuns i t) (t .runs) in
     let k₂ : Brackets = meansCurlies (atLabiles i t) (t .labiles) in
     let k₃ : Brackets = meansSquares NTerm 0 0 (atFront i t) (t .front) in
-    let u = runs-run i (t .runs) Front [] at-first (and-left a (b && (c && (d && e))) g) in
-    let p = curlies-run (atLabiles i t) (t .labiles) (u .mode) k₁ (u .front) (and-left b (c && (d && e)) g₁) in
-    let j = front-run (atFront i t) (t .front) (p .mode) (k₁ ++ k₂) (p .fronts) (and-left c (d && e) g₂) in
-    let q = sequence-run (atSequence i t) (t .first) (t .more) (t .back) (j .mode) ((k₁ ++ k₂) ++ k₃) 0 (j .begins) (and-left d e g₃) (and-right d e g₃) in
+    let n = declarations-run i (t .declarations) [] (and-left o (a && (b && (c && (d && e)))) whole) in
+    let u = runs-run (atRuns i t) (t .runs) Front k₀ at-first (and-left a (b && (c && (d && e))) g) in
+    let p = curlies-run (atLabiles i t) (t .labiles) (u .mode) (k₀ ++ k₁) (u .front) (and-left b (c && (d && e)) g₁) in
+    let j = front-run (atFront i t) (t .front) (p .mode) ((k₀ ++ k₁) ++ k₂) (p .fronts) (and-left c (d && e) g₂) in
+    let q = sequence-run (atSequence i t) (t .first) (t .more) (t .back) (j .mode) (((k₀ ++ k₁) ++ k₂) ++ k₃) 0 (j .begins) (and-left d e g₃) (and-right d e g₃) in
     record {
       mode = q .mode;
       first = q .first;
       ends = q .ends;
       path =
-          whole-run i (flat printRun (t .runs)) (flat printCurly (t .labiles)) (printFront (t .front)) (flat printElement (elements t) ++ printBack (t .back)) k₁ k₂ k₃
+          line-further i (flat printDeclaration (t .declarations)) _ (outside Front nothing) (outside Front (leading k₀ [])) _ n
+          (whole-run (atRuns i t) (flat printRun (t .runs)) (flat printCurly (t .labiles)) (printFront (t .front)) (flat printElement (elements t) ++ printBack (t .back)) k₀ k₁ k₂ k₃
           (bracketsAlong 0 (atSequence i t) (elements t) ++ backOf i t) (residuesOf i t) (u .mode) (p .mode) (j .mode) (q .mode) (q .first)
-          (u .path) (p .path) (j .path) (q .path);
+          (u .path) (p .path) (j .path) (q .path));
     }
 
 -- what a good spelling prints is read to what it means, with every place

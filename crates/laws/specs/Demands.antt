@@ -1,10 +1,11 @@
 -- Demands 2 and 3 and refusal 14, stated over the definitions alone. Their proofs: specs/Proved.antt, and the files that it cites.
 use mathlib.Core.Path.{_≡_}
-use mathlib.Core.Bool.{true, false}
+use mathlib.Core.Bool.{true, false, _||_}
 use mathlib.Core.Logic.{_↔_}
 use mathlib.Core.List.{List, []}
 use Prim.Native.Nat.{ℕ, _+_, _≤_, _<_}
 use lib.IntN.{ℤ, pos, natAbs, _+ℤ_}
+use lib.Dec.{eqb}
 use lib.ListN.{length, take, getD}
 use lib.Ieee.{binary64, ofInt, toSigned}
 use Rattle.scope.specs.Limits.{rowLimit}
@@ -16,7 +17,7 @@ use Rattle.scope.specs.Layout.{bytesOf, numbersOf, bytesSize, numbersSize, tabl
 use Rattle.scope.specs.Lists.{there?, all, laid}
 use Rattle.scope.specs.Positions.{floaters, floatingOf, rowsOf}
 use Rattle.scope.specs.Placements.{allowed, placements, freshListing}
-use Rattle.scope.specs.Masses.{massOf, modifications, massOr0, sum, total, lacking, ledger, labileMass}
+use Rattle.scope.specs.Masses.{massOf, modifications, times, massOr0, sum, total, lacking, ledger, labileMass}
 use Rattle.scope.specs.Answers.{Said, refuses, tooShort, SomeLine, areTables, overTables, requested}
 use Rattle.mass_laws.specs.Terms.{Fair, Limited, totalLimit}
 use Rattle.placement_laws.specs.Terms.{Ascending, afterRequests, handedOut}
@@ -94,12 +95,12 @@ pub record LineDemand3 {P : Type 0} (t : Line P) : Type 0 where
       (p : List ℕ) → allowed (floatingOf t) p ≡ true → (i : ℕ) (d : Bracket P) → i < length (floaters t)
       → getD (ledger t p) (getD p i 0) (pos 0) ≡ massOr0 (getD (floaters t) i d)
   pub past : (p : List ℕ) → allowed (floatingOf t) p ≡ true → (x : ℕ) → length (t .residues) + 1 < x → getD (ledger t p) x (pos 0) ≡ pos 0
-  -- "Below 71 times 10^12, it fits under 2^53."
+  -- "Below 71 times 10^12, it fits under 2^53": with declarations, below 2,111 times 10^12
   pub total-below : natAbs (total t) < totalLimit
   -- "the whole number becomes a double with nothing lost": cast back, the double is the number
   pub nothing-lost : toSigned 63 (ofInt binary64 (total t)) ≡ total t
-  -- 16 "a modification has no mass": none lacks one exactly when each has one
-  pub all-stated : lacking t ≡ 0 ↔ all (λ k. there? (massOf k)) (modifications t) ≡ true
+  -- 16 "a modification has no mass": none lacks one exactly when each has one, but for declarations that reach nothing
+  pub all-stated : lacking t ≡ 0 ↔ all (λ k. there? (massOf k) || eqb (times t k) 0) (modifications t) ≡ true
   -- "room is 2,048 rows"
   pub rows-fit : length (rowsOf t) ≤ rowLimit
 

@@ -7,10 +7,10 @@ use lib.IntN.{pos, _*ℤ_}
 use lib.ListN.{length, replicate}
 use Rattle.scope.specs.Line.{Bracket, Residue, Line}
 use Rattle.scope.specs.Lists.{given, shared, keep, flat, member}
-use Rattle.scope.specs.Modifications.{onlyInfo, isReferring, isModification, copies, definedBy, referredBy, namesOf}
-use Rattle.scope.specs.Positions.{sites, isPlaced, placedOn, struckOut, floaters, between, referredAt, isUnlabelledUnknown, ownPosition, mayStand, positions, permitted, floatingOf}
+use Rattle.scope.specs.Modifications.{onlyInfo, isReferring, isModification, isLabelled, copies, definedBy, referredBy, namesOf}
+use Rattle.scope.specs.Positions.{sites, reached, isPlaced, placedOn, struckOut, floaters, between, referredAt, isUnlabelledUnknown, ownPosition, mayStand, positions, permitted, floatingOf}
 use Rattle.scope.specs.Masses.{massOf, massOr0, sum, sumℕ, modifications, times, total, lacking, labileMass}
-use Rattle.scope.specs.Kinds.{isLabile}
+use Rattle.scope.specs.Kinds.{isLabile, isDeclared, onOnePosition}
 use Rattle.basics.specs.Lists.{flat-append, keep-append, keep-same, map-same, shared-nothing}
 use Rattle.basics.specs.Positions.{same-floats}
 
@@ -34,8 +34,12 @@ module _ {P : Type 0} (rs : List (Residue P)) (ks ls : List (Bracket P)) (k : Br
 
   module _ (idle : isModification k ≡ false) where
     pub strikes-nothing : struckOut withIt ≡ struckOut withoutIt
-    unfolding struckOut placedOn isPlaced
-    strikes-nothing = flat-without (placedOn withIt) ks ls k (rw idle)
+    unfolding struckOut placedOn reached sites isPlaced
+    strikes-nothing = flat-without (placedOn withIt) ks ls k (nowhere (isDeclared (k .kind)))
+      where
+        nowhere : (d : Bool) → cond (d && isModification k) (reached withIt k) (cond (isModification k && not (isLabelled k) && onOnePosition (k .kind)) (k .first ∷ []) []) ≡ []
+        nowhere true = rw idle
+        nowhere false = rw idle
 
     pub floats-nowhere : floaters withIt ≡ floaters withoutIt
     unfolding floaters copies
@@ -45,11 +49,11 @@ module _ {P : Type 0} (rs : List (Residue P)) (ks ls : List (Bracket P)) (k : Br
     same-modifications = keep-without isModification ks ls k idle
 
     pub weighs-nothing : total withIt ≡ total withoutIt
-    unfolding total
+    unfolding total placedOn reached sites
     weighs-nothing = ap (λ ms. sum (map (λ b. pos (times withIt b) *ℤ massOr0 b) ms)) same-modifications
 
     pub lacks-nothing : lacking withIt ≡ lacking withoutIt
-    unfolding lacking
+    unfolding lacking placedOn reached sites
     lacks-nothing = ap (λ ms. sumℕ (map (λ b. given (massOf b) (λ m. 0) (times withIt b)) ms)) same-modifications
 
     pub no-labile-mass : labileMass withIt ≡ labileMass withoutIt

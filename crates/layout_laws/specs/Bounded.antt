@@ -13,19 +13,19 @@ use Rattle.scope.specs.declared.grammar.Section.{Section}
 use Rattle.scope.specs.declared.grammar.Section.the-variants.{Plain, RangeFirst, RangeNext, UnsureFirst, UnsureNext}
 use Rattle.scope.specs.declared.grammar.Key.{Key}
 use Rattle.scope.specs.Bytes.{byteLimit}
-use Rattle.scope.specs.Limits.{lineLimit, residueLimit, bracketLimit, partLimit, textLimit, labelLimit, decimalLimit}
+use Rattle.scope.specs.Limits.{lineLimit, residueLimit, bracketLimit, partLimit, placeLimit, textLimit, labelLimit, decimalLimit}
 use Rattle.scope.specs.Line.{Number, Label, Value, mass, text, reference, composition, Part, Bracket, Line}
 use Rattle.scope.specs.Keys.{keyCode}
 use Rattle.scope.specs.Lists.{given, flat, padded}
 use Rattle.scope.specs.Refusals.{textIn, textOf}
 use Rattle.scope.specs.Tables.{millionths, labelOf, scoreOf}
-use Rattle.scope.specs.Layout.{partSize, rowSize, twoBytes, countsRow, sectionCode, valueCode, massIn, decimalsIn, packed, offset, partRow, partRows, scoreCode, bracketRow, bracketTexts, rows, bytesOf, numbersOf, residuesField}
+use Rattle.scope.specs.Layout.{partSize, rowSize, twoBytes, countsRow, sectionCode, valueCode, massIn, decimalsIn, packed, offset, partRow, partRows, scoreCode, placesRow, bracketRow, bracketTexts, rows, bytesOf, numbersOf, residuesField}
 use Rattle.areas.specs.Bounds.{Small, PartBounds, BracketBounds, Bounds}
 use Rattle.basics.specs.Each.{Each, OfGiven, each-append, each-padded, each-map, each-all}
 use Rattle.basics.specs.Kinds.{kind-byte}
 use Rattle.accepted_laws.specs.Within.{Byte, NumberWithin, LabelWithin, ValueWithin, KeyWithin, PartWithin, BracketWithin, Within, first-few, last-few}
 use Rattle.layout_laws.specs.TwoBytes.{wide-bytes}
-use Rattle.layout_laws.specs.Fits.{residues-fit, positions-fit, offsets-fit, brackets-fit, parts-fit, counts-fit, decimals-fit, scores-fit, texts-fit, labels-fit}
+use Rattle.layout_laws.specs.Fits.{residues-fit, positions-fit, offsets-fit, brackets-fit, parts-fit, places-fit, counts-fit, decimals-fit, scores-fit, texts-fit, labels-fit}
 use Rattle.layout_laws.specs.Numbers.{few-decimals, small}
 use Rattle.layout_laws.specs.Layout.{PartRead, PartsRead, BracketIn, BracketsRead, score-within, areas-read, bytes-length, numbers-length, headOf}
 
@@ -102,6 +102,7 @@ module _ {P : Type 0} (bs : List ℕ) (ns : List ℤ) where
         some-count = rw (r .count) (w .some-count);
         few-counts = rw (r .count) (w .few-counts);
         few-parts = rw (r .many) (w .few-parts);
+        few-places = rw (r .places .many-read) (w .few-places);
         score = rw (r .score) (score-few (scoreOf (b .parts)) (score-within (b .parts) (w .parts)));
         small = rw (r .number) (score-small (scoreOf (b .parts)) (score-within (b .parts) (w .parts)));
         part = λ j lt. subst (λ z. PartBounds bs ns k z) (zero-add j) (parts-bounds k 0 i (b .parts) (w .parts) (r .parts) h j (rw (r .many) at lt));
@@ -225,8 +226,13 @@ module _ {P : Type 0} where
 
   bracket-row-bytes : (n i : ℕ) (b : Bracket P) → n ≤ residueLimit → i + length (bracketTexts b) ≤ lineLimit → BracketWithin n b → Each Byte (bracketRow i b)
   bracket-row-bytes n i b q h w =
-      each-append Byte (headOf b) (padded 0 (partLimit * partSize) (partRows i (b .parts))) (head-bytes n b q w)
-      (each-padded Byte 0 (partLimit * partSize) (partRows i (b .parts)) zero-byte (part-rows-bytes i (b .parts) h (w .parts)))
+      let parts = padded 0 (partLimit * partSize) (partRows i (b .parts)) in
+      each-append Byte (headOf b) (parts ++ placesRow (b .places)) (head-bytes n b q w)
+      (each-append Byte parts (placesRow (b .places))
+      (each-padded Byte 0 (partLimit * partSize) (partRows i (b .parts)) zero-byte (part-rows-bytes i (b .parts) h (w .parts))) (
+        places-fit (w .few-places),
+        each-padded Byte 0 placeLimit (map (λ p. p .site) (b .places)) zero-byte (each-map Byte (λ p. p .site) (b .places) (w .sites)),
+      ))
 
   rows-bytes :
       (n i : ℕ) (ks : List (Bracket P)) → n ≤ residueLimit → i + length (flat bracketTexts ks) ≤ lineLimit → Each (BracketWithin n) ks → Each Byte (rows i ks)

@@ -1,9 +1,13 @@
 -- A row gives its fields back: what is read of each field where the row lies in an area.
 use mathlib.Core.Path.{_≡_, refl}
-use mathlib.Core.List.{List}
-use Prim.Native.Nat.{ℕ}
-use Rattle.scope.specs.Layout.{residuesAt, rowAt, partAt, countsRow, headRow, partFields, residuesField, bracketsField, kindField, firstField, lastField, countField, partsField, scoreField, valueField, keyField, decimalsField, textField, labelField, offsetField}
-use Rattle.layout_laws.specs.At.{At, at-read, at-head}
+use mathlib.Core.List.{List, [], _∷_, map}
+use Prim.Native.Nat.{ℕ, _-_}
+use native.Mathlib.Omega.{arith}
+use lib.ListN.{length, replicate}
+use Rattle.scope.specs.Limits.{placeLimit}
+use Rattle.scope.specs.Line.{Place}
+use Rattle.scope.specs.Layout.{residuesAt, rowAt, partAt, placesAt, siteAt, countsRow, headRow, partFields, residuesField, bracketsField, kindField, firstField, lastField, countField, partsField, scoreField, valueField, keyField, decimalsField, textField, labelField, offsetField, placesRow, placesField}
+use Rattle.layout_laws.specs.At.{At, at-read, at-head, at-first, at-next}
 use Rattle.layout_laws.specs.TwoBytes.{wide-read}
 
 -- the numbers of residues and of brackets
@@ -28,6 +32,11 @@ pub record FieldsRead (bs : List ℕ) (k j value key decimals textLength labelLe
   pub text-read : textField bs k j ≡ textLength
   pub label-read : labelField bs k j ≡ labelLength
   pub offset-read : offsetField bs k j ≡ from
+
+-- the row of its places
+pub record PlacesRead {P : Type 0} (bs : List ℕ) (k : ℕ) (ps : List (Place P)) : Type 0 where
+  pub many-read : placesField bs k ≡ length ps
+  pub sites-read : At bs (siteAt k 0) (map (λ p. p .site) ps)
 
 module _ (bs : List ℕ) where
   pub counts-read : (residues brackets : ℕ) → At bs residuesAt (countsRow residues brackets) → CountsRead bs residues brackets
@@ -59,4 +68,14 @@ module _ (bs : List ℕ) where
         text-read = at-read bs (partAt k j) _ a 3 0;
         label-read = at-read bs (partAt k j) _ a 4 0;
         offset-read = wide-read bs (partAt k j) 5 from _ a refl refl;
+      }
+
+  pub places-read : {P : Type 0} (k : ℕ) (ps : List (Place P)) → At bs (placesAt k) (placesRow ps) → PlacesRead bs k ps
+  places-read k ps a =
+      let sites = map (λ p. p .site) ps in
+      record {
+        many-read = at-head bs (placesAt k) _ _ a 0;
+        sites-read =
+            at-first bs (siteAt k 0) sites (replicate (placeLimit - length sites) 0)
+            (at-next bs (placesAt k) (length ps ∷ []) _ 1 (siteAt k 0) refl (omega arith) a);
       }

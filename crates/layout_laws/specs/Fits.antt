@@ -2,7 +2,7 @@
 use Prim.Native.Nat.{ℕ, _+_, _*_, _≤_, _<_}
 use native.Mathlib.Omega.{arith}
 use Rattle.scope.specs.Bytes.{byteLimit, wideLimit}
-use Rattle.scope.specs.Limits.{lineLimit, residueLimit, bracketLimit, partLimit, textLimit, labelLimit, decimalLimit, countLimit, copyLimit, rowLimit, positionLimit}
+use Rattle.scope.specs.Limits.{lineLimit, residueLimit, bracketLimit, partLimit, textLimit, labelLimit, decimalLimit, countLimit, placeLimit, copyLimit, rowLimit, positionLimit}
 
 -- ---- in two bytes: the number of residues, a position, a place among the texts
 pub residues-fit : {n : ℕ} → n ≤ residueLimit → n < wideLimit
@@ -14,12 +14,15 @@ positions-fit h k = omega arith
 pub offsets-fit : {i : ℕ} → i ≤ lineLimit → i < wideLimit
 offsets-fit h = omega arith
 
--- ---- in a byte: the numbers of brackets and parts, a count, a number of decimals, the lengths of text and label
+-- ---- in a byte: the numbers of brackets, parts and places, a count, a number of decimals, the lengths of text and label
 pub brackets-fit : {n : ℕ} → n ≤ bracketLimit → n < byteLimit
 brackets-fit h = omega arith
 
 pub parts-fit : {n : ℕ} → n ≤ partLimit → n < byteLimit
 parts-fit h = omega arith
+
+pub places-fit : {n : ℕ} → n ≤ placeLimit → n < byteLimit
+places-fit h = omega arith
 
 pub counts-fit : {n : ℕ} → n ≤ countLimit → n < byteLimit
 counts-fit h = omega arith

@@ -11,21 +11,21 @@ use lib.ListN.{length, replicate, length-append, length-replicate, length-map}
 use borrow.Author.Tests.{ne-eqb}
 use Rattle.scope.specs.declared.grammar.Section.{Section}
 use Rattle.scope.specs.declared.grammar.Section.the-variants.{Plain, RangeFirst, RangeNext, UnsureFirst, UnsureNext}
-use Rattle.scope.specs.Line.{Number, Label, Value, mass, text, reference, composition, Part, Bracket, Residue, Line}
+use Rattle.scope.specs.Line.{Number, Label, Value, mass, text, reference, composition, Place, Part, Bracket, Residue, Line}
 use Rattle.scope.specs.Keys.{keyCode, keyIn}
 use Rattle.scope.specs.Lists.{given, flat, optional, padded, part, tabled}
 use Rattle.scope.specs.Modifications.{nameOf}
 use Rattle.scope.specs.Refusals.{textIn, textOf}
 use Rattle.scope.specs.Kinds.{kindCode, kindIn}
-use Rattle.scope.specs.Tables.{bareNumber, bareLabel, bareValue, barePart, bareBracket, bareResidue, tablesOf, millionths, labelOf, scoreOf}
-use Rattle.scope.specs.Limits.{lineLimit, residueLimit, bracketLimit, partLimit}
-use Rattle.scope.specs.Layout.{sectionCode, valueCode, massIn, decimalsIn, packed, offset, partRow, partRows, scoreCode, bracketRow, bracketTexts, rows, bytesOf, numberRow, numbersOf, sectionIn, rowAt, partAt, scoreIn, valueIn, labelIn, partIn, bracketIn, residueIn, tablesIn, bracketsField, countField, decimalsField, firstField, keyField, kindField, labelField, lastField, offsetField, partsField, residuesField, scoreField, textField, valueField, partSize, headSize, rowSize, numberRowSize, residuesAt, lettersAt, sectionsAt, rowsAt, textsAt, bytesSize, numbersSize, massAt, headRow, countsRow, massField, scoreNumber, letterField, sectionField}
+use Rattle.scope.specs.Tables.{bareNumber, bareLabel, bareValue, barePart, barePlace, bareBracket, bareResidue, tablesOf, millionths, labelOf, scoreOf}
+use Rattle.scope.specs.Limits.{lineLimit, residueLimit, bracketLimit, partLimit, placeLimit}
+use Rattle.scope.specs.Layout.{sectionCode, valueCode, massIn, decimalsIn, packed, offset, partRow, partRows, scoreCode, placesRow, bracketRow, bracketTexts, rows, bytesOf, numberRow, numbersOf, sectionIn, rowAt, partAt, placesAt, siteAt, placeIn, placesField, siteField, placesSize, scoreIn, valueIn, labelIn, partIn, bracketIn, residueIn, tablesIn, bracketsField, countField, decimalsField, firstField, keyField, kindField, labelField, lastField, offsetField, partsField, residuesField, scoreField, textField, valueField, partSize, headSize, rowSize, numberRowSize, residuesAt, lettersAt, sectionsAt, rowsAt, textsAt, bytesSize, numbersSize, massAt, headRow, countsRow, massField, scoreNumber, letterField, sectionField}
 use Rattle.basics.specs.Each.{Each, OfGiven}
 use Rattle.basics.specs.Keys.{key-back}
 use Rattle.basics.specs.Kinds.{kind-back}
 use Rattle.accepted_laws.specs.Within.{NumberWithin, LabelWithin, ValueWithin, PartWithin, BracketWithin, Within}
 use Rattle.layout_laws.specs.At.{At, at-head, at-first, at-next, at-part, at-start}
-use Rattle.layout_laws.specs.Fields.{counts-read, head-read, fields-read}
+use Rattle.layout_laws.specs.Fields.{PlacesRead, counts-read, head-read, fields-read, places-read}
 use Rattle.layout_laws.specs.Numbers.{number-back}
 
 -- ---- codes
@@ -47,10 +47,19 @@ module _ {P : Type 0} where
   part-rows-length i (p ∷ ps) = let e : length (partRows (i + length (packed p)) ps) ≡ length ps * partSize = part-rows-length
       (i + length (packed p)) ps in omega arith
 
-  pub bracket-row-length : (i : ℕ) (k : Bracket P) → length (k .parts) ≤ partLimit → length (bracketRow i k) ≡ rowSize
-  bracket-row-length i k h =
-      let e : length (partRows i (k .parts)) ≡ length (k .parts) * partSize = part-rows-length i (k .parts) in
-      let f : length (padded 0 (partLimit * partSize) (partRows i (k .parts))) ≡ partLimit * partSize = padded-length 0 (partLimit * partSize) (partRows i (k .parts)) (omega arith) in
+  pub length-of-parts : (i : ℕ) (k : Bracket P) → length (k .parts) ≤ partLimit → length (padded 0 (partLimit * partSize) (partRows i (k .parts))) ≡ partLimit * partSize
+  length-of-parts i k h = let e = part-rows-length i (k .parts) in padded-length 0 (partLimit * partSize) (partRows i (k .parts)) (omega arith)
+
+  pub places-row-length : (ps : List (Place P)) → length ps ≤ placeLimit → length (placesRow ps) ≡ placesSize
+  places-row-length ps h =
+      let e = padded-length 0 placeLimit (map (λ p. p .site) ps) (rw (length-map ps (λ p. p .site)) h) in
+      omega arith
+
+  pub bracket-row-length : (i : ℕ) (k : Bracket P) → length (k .parts) ≤ partLimit → length (k .places) ≤ placeLimit → length (bracketRow i k) ≡ rowSize
+  bracket-row-length i k h q =
+      let f = length-of-parts i k h in
+      let g = length-append (padded 0 (partLimit * partSize) (partRows i (k .parts))) (placesRow (k .places)) in
+      let r = places-row-length (k .places) q in
       omega arith
 
   pub number-row-length : (k : Bracket P) → length (k .parts) ≤ partLimit → length (numberRow k) ≡ numberRowSize
@@ -253,6 +262,7 @@ pub record BracketIn {P : Type 0} (bs : List ℕ) (ns : List ℤ) (k i : ℕ) (b
   pub score : scoreField bs k ≡ scoreCode (scoreOf (b .parts))
   pub number : scoreNumber ns k ≡ given (scoreOf (b .parts)) millionths (pos 0)
   pub parts : PartsRead bs ns k 0 i (b .parts)
+  pub places : PlacesRead bs k (b .places)
 
 -- of the brackets from bracket k on
 abbrev pub BracketsRead : {P : Type 0} → List ℕ → List ℤ → ℕ → ℕ → List (Bracket P) → Type 0
@@ -264,12 +274,14 @@ module _ {P : Type 0} (bs : List ℕ) (ns : List ℤ) where
       (k i : ℕ) (b : Bracket P) → length (b .parts) ≤ partLimit → At bs (rowAt k) (bracketRow i b) → At ns (k * numberRowSize) (numberRow b)
       → At bs (textsAt + i) (bracketTexts b) → BracketIn bs ns k i b
   bracket-read k i b h a m t =
+      let rowed = length-of-parts i b h in
       let masses = map (λ p. massIn (p .value)) (b .parts) in
       let score = given (scoreOf (b .parts)) millionths (pos 0) in
       let e : length (padded (pos 0) partLimit masses) ≡ partLimit = padded-length (pos 0) partLimit masses (rw (length-map (b .parts) (λ p. massIn (p .value))) h) in
       let parts = padded 0 (partLimit * partSize) (partRows i (b .parts)) in
       let r = head-read bs k (kindCode (b .kind)) (b .first) (b .last) (b .count) (length (b .parts)) (scoreCode (scoreOf (b .parts)))
-      (at-first bs (rowAt k) (headOf b) parts a) in
+      (at-first bs (rowAt k) (headOf b) (parts ++ placesRow (b .places)) a) in
+      let behind = at-next bs (rowAt k) (headOf b) (parts ++ placesRow (b .places)) headSize (partAt k 0) refl (omega arith) a in
       record {
         kind = r .kind-read;
         first = r .first-read;
@@ -282,11 +294,12 @@ module _ {P : Type 0} (bs : List ℕ) (ns : List ℤ) where
         parts =
             parts-read bs ns k 0 i (b .parts)
             (at-first bs (partAt k 0) (partRows i (b .parts)) (replicate (partLimit * partSize - length (partRows i (b .parts))) 0)
-            (at-next bs (rowAt k) (headOf b) parts headSize (partAt k 0) refl (omega arith) a))
+            (at-first bs (partAt k 0) parts (placesRow (b .places)) behind))
             (at-first ns (massAt k 0) masses (replicate (partLimit - length masses) (pos 0))
             (at-next ns (k * numberRowSize) [] (padded (pos 0) partLimit masses) 0 (massAt k 0) refl refl
             (at-first ns (k * numberRowSize) (padded (pos 0) partLimit masses) (score ∷ []) m)))
             t;
+        places = places-read bs k (b .places) (at-next bs (partAt k 0) parts (placesRow (b .places)) (partLimit * partSize) (placesAt k) rowed (omega arith) behind);
       }
 
   pub brackets-read :
@@ -297,13 +310,14 @@ module _ {P : Type 0} (bs : List ℕ) (ns : List ℤ) where
   brackets-read n k i [] w a m t = tt
   brackets-read n k i (b ∷ ks) w a m t =
       let few : length (b .parts) ≤ partLimit = w .0 .few-parts in
+      let few-places : length (b .places) ≤ placeLimit = w .0 .few-places in
       let next = i + length (bracketTexts b) in (
         bracket-read k i b few
             (at-first bs (rowAt k) (bracketRow i b) (rows next ks) a)
             (at-first ns (k * numberRowSize) (numberRow b) (flat numberRow ks) m)
             (at-first bs (textsAt + i) (bracketTexts b) (flat bracketTexts ks) t),
         brackets-read n (k + 1) next ks (w .1)
-            (at-next bs (rowAt k) (bracketRow i b) (rows next ks) rowSize (rowAt (k + 1)) (bracket-row-length i b few) (omega arith) a)
+            (at-next bs (rowAt k) (bracketRow i b) (rows next ks) rowSize (rowAt (k + 1)) (bracket-row-length i b few few-places) (omega arith) a)
             (at-next ns (k * numberRowSize) (numberRow b) (flat numberRow ks) numberRowSize ((k + 1) * numberRowSize) (number-row-length b few) (omega arith) m)
             (at-next bs (textsAt + i) (bracketTexts b) (flat bracketTexts ks) (length (bracketTexts b)) (textsAt + next) refl (omega arith) t),
       )
@@ -328,6 +342,13 @@ module _ {P : Type 0} (bs : List ℕ) (ns : List ℤ) where
       go none q = tt
       go (some l) q = e ∙ ap (optional bareNumber) (sym q)
 
+  places-back : (k j : ℕ) (ps : List (Place P)) → At bs (siteAt k j) (map (λ p. p .site) ps) → tabled (placeIn bs k) j (length ps) ≡ map barePlace ps
+  unfolding tabled
+  places-back k j [] a = refl
+  places-back k j (p ∷ ps) a =
+      let x : siteField bs k j ≡ p .site = at-head bs (siteAt k j) _ _ a 0 in
+      ap₂ _∷_ (λ d. record { site = x d; at = tt }) (places-back k (j + 1) ps (at-next bs (siteAt k j) (p .site ∷ []) (map (λ p. p .site) ps) 1 (siteAt k (j + 1)) refl (omega arith) a))
+
   bracket-back : (n k i : ℕ) (b : Bracket P) → BracketWithin n b → BracketIn bs ns k i b → bracketIn bs ns k ≡ bareBracket b
   unfolding bracketIn
   bracket-back n k i b w r =
@@ -338,7 +359,9 @@ module _ {P : Type 0} (bs : List ℕ) (ns : List ℤ) where
       ∙ parts-back bs ns k 0 i (b .parts) (w .parts) (r .parts)
       (scores-back k (scoreOf (b .parts)) (b .parts) s (one-score (b .parts) (w .one-label))) in
       let c : kindIn (kindField bs k) ≡ b .kind = ap kindIn (r .kind) ∙ kind-back (b .kind) in
-      λ d. record { kind = c d; first = r .first d; last = r .last d; count = r .count d; counted = none; parts = ps d; at = tt }
+      let q : tabled (placeIn bs k) 0 (placesField bs k) ≡ map barePlace (b .places) =
+      ap (tabled (placeIn bs k) 0) (r .places .many-read) ∙ places-back k 0 (b .places) (r .places .sites-read) in
+      λ d. record { kind = c d; first = r .first d; last = r .last d; count = r .count d; counted = none; parts = ps d; places = q d; at = tt }
 
   pub brackets-back :
       (n k i : ℕ) (ks : List (Bracket P)) → Each (BracketWithin n) ks → BracketsRead bs ns k i ks
@@ -376,7 +399,7 @@ module _ {P : Type 0} where
   unfolding rows
   rows-length n i [] w = refl
   rows-length n i (k ∷ ks) w =
-      let e = bracket-row-length i k (w .0 .few-parts) in
+      let e = bracket-row-length i k (w .0 .few-parts) (w .0 .few-places) in
       let f = rows-length n (i + length (bracketTexts k)) ks (w .1) in
       length-append (bracketRow i k) (rows (i + length (bracketTexts k)) ks) ∙ omega arith
 

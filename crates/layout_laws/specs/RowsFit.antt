@@ -1,28 +1,20 @@
 -- The rows of permitted positions fit into their room: at most so many floaters, each with at most so many positions.
-use mathlib.Core.Bool.{Bool, true, false, not, cond, _&&_}
-use mathlib.Core.List.{List, [], _∷_, _++_, map}
-use Prim.Native.Nat.{ℕ, suc, _+_, _*_, _≤_}
+use mathlib.Core.Bool.{not, _&&_}
+use mathlib.Core.List.{List, [], _∷_, map}
+use Prim.Native.Nat.{ℕ, _+_, _*_, _≤_}
 use native.Mathlib.Omega.{arith}
 use lib.ListN.{length, length-append, length-map}
 use Rattle.scope.specs.declared.answers.Site.{Site}
 use Rattle.scope.specs.Limits.{residueLimit, rowLimit, positionLimit}
 use Rattle.scope.specs.Line.{Bracket, Line}
-use Rattle.scope.specs.Lists.{keep, member}
+use Rattle.scope.specs.Lists.{member}
 use Rattle.scope.specs.Positions.{permitted, floatingOf, sites, positions, mayStand, struckOut, floaters, rowsFrom, rowsOf}
 use Rattle.basics.specs.Each.{Each, each-all, each-map}
 use Rattle.accepted_laws.specs.Within.{Within}
+use Rattle.basics.specs.Lists.{kept-fewer}
 use Rattle.basics.specs.Positions.{sites-many}
 use Rattle.basics.specs.Tabled.{length-tabled}
 use Rattle.layout_laws.specs.Fits.{rows-room}
-
-pub kept-fewer : {A : Type 0} (f : A → Bool) (l : List A) → length (keep f l) ≤ length l
-unfolding keep
-kept-fewer f [] = omega arith
-kept-fewer f (x ∷ l) = go (f x) (kept-fewer f l)
-  where
-    go : (t : Bool) → length (keep f l) ≤ length l → length (cond t (x ∷ []) [] ++ keep f l) ≤ suc (length l)
-    go true h = omega arith
-    go false h = omega arith
 
 permitted-few : {P : Type 0} (l : Line P) (k : Bracket P) → length (l .residues) ≤ residueLimit → length (permitted l k) ≤ positionLimit
 unfolding permitted

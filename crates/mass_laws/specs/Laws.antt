@@ -1,21 +1,23 @@
 -- The laws of masses and ledgers. What they ask of a line, `Fair` and `Limited` of Terms.antt, are facts of every accepted line; a placement is an
 -- allowed one.
-use mathlib.Core.Path.{_≡_, sym, ap, _∙_}
-use mathlib.Core.Bool.{true, false}
+use mathlib.Core.Path.{_≡_, refl, sym, ap, _∙_}
+use mathlib.Core.Bool.{true, false, _||_}
 use mathlib.Core.Logic.{_↔_}
 use mathlib.Core.List.{List}
-use Prim.Native.Nat.{ℕ, _+_, _^_, _≤_, _<_}
+use Prim.Native.Nat.{ℕ, _+_, _*_, _^_, _≤_, _<_}
 use native.Mathlib.Omega.{arith}
 use lib.IntN.{ℤ, pos, natAbs, _+ℤ_}
+use lib.Dec.{eqb}
 use lib.ListN.{length, getD, take}
 use lib.Ieee.{binary64, ofInt, toSigned}
-use Rattle.scope.specs.Limits.{positionLimit, copyLimit}
+use Rattle.scope.specs.Limits.{positionLimit, copyLimit, declarationLimit}
 use Rattle.scope.specs.Line.{Bracket, Line}
 use Rattle.scope.specs.Layout.{tablesIn}
 use Rattle.scope.specs.Lists.{there?, all, member}
 use Rattle.scope.specs.Positions.{struckOut, floaters, floatingOf}
 use Rattle.scope.specs.Placements.{allowed}
-use Rattle.scope.specs.Masses.{massOf, modifications, massOr0, sum, total, lacking, labileMass, placedAt, ledger}
+use Rattle.scope.specs.Refusals.{declarations}
+use Rattle.scope.specs.Masses.{massOf, modifications, times, massOr0, sum, total, lacking, labileMass, placedAt, ledger}
 use Rattle.areas.specs.Bounds.{Bounds}
 use Rattle.mass_laws.specs.Terms.{Fair, Limited, totalLimit}
 use Rattle.mass_laws.specs.Shares as shares
@@ -27,8 +29,8 @@ use Rattle.mass_laws.specs.Areas as areas
 
 module _ {P : Type 0} (t : Line P) (fair : Fair t) where
   module _ (p : List ℕ) (ok : allowed (floatingOf t) p ≡ true) where
-    -- "The total is the sum over all modifications, counts multiplied, labile included, labels once." The ledger books each of them once, but the
-    -- labile ones: its entries and the labile masses add up to the total.
+    -- "The total is the sum over all modifications, counts multiplied, labile included, labels once." The ledger books each of them once, a declaration at each
+    -- position it reaches, and the labile ones never: its entries and the labile masses add up to the total.
     pub adds-up : sum (ledger t p) +ℤ labileMass t ≡ total t
     adds-up = ap (λ z. z +ℤ labileMass t) (shares.ledger-sum t fair p ok) ∙ splits.total-splits t fair
 
@@ -49,7 +51,7 @@ module _ {P : Type 0} (t : Line P) (fair : Fair t) where
   pub one-sum : (p q : List ℕ) → allowed (floatingOf t) p ≡ true → allowed (floatingOf t) q ≡ true → sum (ledger t p) ≡ sum (ledger t q)
   one-sum p q e f = shares.ledger-sum t fair p e ∙ sym (shares.ledger-sum t fair q f)
 
-  -- "Below 71 times 10^12, it fits under 2^53."
+  -- "Below 71 times 10^12, it fits under 2^53": with declarations, below 2,111 times 10^12
   pub total-below : Limited t → natAbs (total t) < totalLimit
   total-below l = sizes.total-size t fair l
 
@@ -57,13 +59,14 @@ module _ {P : Type 0} (t : Line P) (fair : Fair t) where
   pub nothing-lost : Limited t → toSigned 63 (ofInt binary64 (total t)) ≡ total t
   nothing-lost l = exact.cast-back (total t) (sizes.total-size t fair l)
 
-  -- 16 "a modification has no mass": none lacks one exactly when each has one
-  pub all-stated : lacking t ≡ 0 ↔ all (λ k. there? (massOf k)) (modifications t) ≡ true
-  all-stated = stated.all-stated t fair
+  -- 16 "a modification has no mass": none lacks one exactly when each has one, but for declarations that reach nothing
+  pub all-stated : lacking t ≡ 0 ↔ all (λ k. there? (massOf k) || eqb (times t k) 0) (modifications t) ≡ true
+  all-stated = stated.all-stated t
 
--- the tables in areas are limited so where they keep to the areas' bounds and have no more than eight floaters
-pub limited-in : {bs : List ℕ} {ns : List ℤ} → Bounds bs ns → length (floaters (tablesIn bs ns)) ≤ copyLimit → Limited (tablesIn bs ns)
-limited-in b few = areas.limited-in b few
+-- the tables in areas are limited so where they keep to the areas' bounds and have no more than eight floaters and eight declarations
+pub limited-in : {bs : List ℕ} {ns : List ℤ} → Bounds bs ns → length (floaters (tablesIn bs ns)) ≤ copyLimit → length (declarations (tablesIn bs ns .brackets)) ≤ declarationLimit
+    → Limited (tablesIn bs ns)
+limited-in b few declared = areas.limited-in b few declared
 
 -- of any numbers as placement: a position where no copy is put has what the placed modifications leave there
 pub only-placed : {P : Type 0} (t : Line P) (p : List ℕ) (x : ℕ) → x < positionLimit → member x (take (length (floaters t)) p) ≡ false → getD (ledger t p) x (pos 0) ≡ placedAt t x
@@ -75,3 +78,6 @@ untouched t p x e f = shares.untouched t p x e f
 
 pub under-2^53 : totalLimit < 2 ^ 53
 under-2^53 = omega arith
+
+pub limit-is : totalLimit ≡ 2111 * 10 ^ 12
+limit-is = refl

@@ -1,5 +1,6 @@
 pub mod Terms
 pub mod Sums
+pub mod Placed
 pub mod Shares
 pub mod Splits
 pub mod Sizes

@@ -19,10 +19,11 @@ use Rattle.scope.specs.Placements.{distinct, fits, allowed}
 use Rattle.scope.specs.Masses.{massOr0, sum, placedAt, putAt, ledger}
 use Rattle.basics.specs.Tabled.{getD-tabled, length-tabled, tabled-same}
 use Rattle.basics.specs.Members.{member-append, member-in, in-member, in-at}
-use Rattle.mass_laws.specs.Weights.{bookedAt, placed-is, not-booked, placedMass, booked-share}
-use Rattle.basics.specs.Tests.{eqb-sym, and-left, and-right, or-left, or-right}
+use Rattle.mass_laws.specs.Weights.{bookedAt, placed-is, not-booked, placedMass, sum-booked}
+use Rattle.mass_laws.specs.Placed.{placed-inside}
+use Rattle.basics.specs.Tests.{eqb-sym, and-left, and-right, or-left, or-right, falsely}
 use Rattle.mass_laws.specs.Terms.{FairBracket, Fair}
-use Rattle.basics.specs.Each.{Each, In}
+use Rattle.basics.specs.Each.{Each, In, each-in, each-one}
 use Rattle.placement_laws.specs.Members.{cut, allowed-parts}
 use Rattle.placement_laws.specs.Entries.{allowed-placing}
 use Rattle.placement_laws.specs.Lines.{line-many, line-at, permitted-inside, permitted-free}
@@ -42,21 +43,22 @@ unfolding member
 not-rest x y l e = or-right (eqb x y) (member x l) e
 
 module _ {P : Type 0} where
-  -- ---- the placed ones: each is booked once
-  sum-booked : (t : Line P) (n : ℕ) → n ≤ residueLimit → (ks : List (Bracket P)) → Each (FairBracket n) ks → sum (tabled (λ x. sum (map (bookedAt t x) ks)) 0 positionLimit) ≡ sum (map placedMass ks)
+  -- ---- the placed ones: each is booked as often as it is placed
+  all-booked : (t : Line P) (n : ℕ) → n ≡ length (t .residues) → n ≤ residueLimit → (ks : List (Bracket P)) → Each (FairBracket n) ks
+      → sum (tabled (λ x. sum (map (bookedAt t x) ks)) 0 positionLimit) ≡ sum (map (placedMass t) ks)
   unfolding sum
-  sum-booked t n h [] f = sum-zero (λ x. pos 0) 0 positionLimit (λ x q. refl)
-  sum-booked t n h (k ∷ ks) f =
+  all-booked t n e h [] f = sum-zero (λ x. pos 0) 0 positionLimit (λ x q. refl)
+  all-booked t n e h (k ∷ ks) f =
+      let inside = f .0 .inside in
       sum-both (λ x. bookedAt t x k) (λ x. sum (map (bookedAt t x) ks)) 0 positionLimit
       ∙ ap₂ _+ℤ_
-      (ap sum (tabled-same (λ x. bookedAt t x k) (share (k .first) (placedMass k)) (λ x. booked-share t x k) 0 positionLimit)
-      ∙ sum-share (k .first) (placedMass k) 0 positionLimit (omega arith) (omega (arith, f .0 .inside)))
-      (sum-booked t n h ks (f .1))
+      (sum-booked t k positionLimit (each-one (λ x. x < length (t .residues) + 2) (λ x. x < positionLimit) (λ x q. omega arith) (placedOn t k) (placed-inside t k (omega arith))))
+      (all-booked t n e h ks (f .1))
 
-  pub sum-placed : (t : Line P) → Fair t → sum (tabled (placedAt t) 0 positionLimit) ≡ sum (map placedMass (t .brackets))
+  pub sum-placed : (t : Line P) → Fair t → sum (tabled (placedAt t) 0 positionLimit) ≡ sum (map (placedMass t) (t .brackets))
   sum-placed t f =
       ap sum (tabled-same (placedAt t) (λ x. sum (map (bookedAt t x) (t .brackets))) (placed-is t) 0 positionLimit)
-      ∙ sum-booked t (length (t .residues)) (f .few-residues) (t .brackets) (f .each-bracket)
+      ∙ all-booked t (length (t .residues)) refl (f .few-residues) (t .brackets) (f .each-bracket)
 
   -- none where no placed one stands
   booked-none : (t : Line P) (x : ℕ) (ks : List (Bracket P)) → member x (flat (placedOn t) ks) ≡ false → sum (map (bookedAt t x) ks) ≡ pos 0
@@ -72,14 +74,18 @@ module _ {P : Type 0} where
   placed-zero t x e = placed-is t x ∙ booked-none t x (t .brackets) e
 
   -- none past the C-terminus
-  booked-past : (t : Line P) (n x : ℕ) → n + 1 < x → (ks : List (Bracket P)) → Each (FairBracket n) ks → sum (map (bookedAt t x) ks) ≡ pos 0
+  booked-past : (t : Line P) (n x : ℕ) → n ≡ length (t .residues) → n + 1 < x → (ks : List (Bracket P)) → Each (FairBracket n) ks → sum (map (bookedAt t x) ks) ≡ pos 0
   unfolding sum
-  booked-past t n x h [] f = refl
-  booked-past t n x h (k ∷ ks) f =
-      ap₂ _+ℤ_ (booked-share t x k ∙ share-else (k .first) (placedMass k) x (λ z. omega (arith, f .0 .inside))) (booked-past t n x h ks (f .1))
+  booked-past t n x e h [] f = refl
+  booked-past t n x e h (k ∷ ks) f =
+      let inside = f .0 .inside in
+      ap₂ _+ℤ_
+      (not-booked t x k
+      (falsely (member x (placedOn t k)) (λ m. let z = each-in (λ y. y < length (t .residues) + 2) (placedOn t k) x (member-in x (placedOn t k) m) (placed-inside t k (omega arith)) in omega arith)))
+      (booked-past t n x e h ks (f .1))
 
   pub placed-past : (t : Line P) → Fair t → (x : ℕ) → length (t .residues) + 1 < x → placedAt t x ≡ pos 0
-  placed-past t f x h = placed-is t x ∙ booked-past t (length (t .residues)) x h (t .brackets) (f .each-bracket)
+  placed-past t f x h = placed-is t x ∙ booked-past t (length (t .residues)) x refl h (t .brackets) (f .each-bracket)
 
   -- ---- the floating ones
   pub put-cons : (x : ℕ) (k : Bracket P) (ks : List (Bracket P)) (y : ℕ) (p : List ℕ) → putAt x (k ∷ ks) (y ∷ p) ≡ share y (massOr0 k) x +ℤ putAt x ks p
@@ -172,7 +178,7 @@ module _ {P : Type 0} where
   inside t k x e = permitted-inside t k x (member-in x (permitted t k) e)
 
   -- the entries add up to the placed and the floating masses
-  pub ledger-sum : (t : Line P) → Fair t → (p : List ℕ) → allowed (floatingOf t) p ≡ true → sum (ledger t p) ≡ sum (map placedMass (t .brackets)) +ℤ sum (map massOr0 (floaters t))
+  pub ledger-sum : (t : Line P) → Fair t → (p : List ℕ) → allowed (floatingOf t) p ≡ true → sum (ledger t p) ≡ sum (map (placedMass t) (t .brackets)) +ℤ sum (map massOr0 (floaters t))
   unfolding ledger
   ledger-sum t f p e =
       sum-both (placedAt t) (λ x. putAt x (floaters t) p) 0 positionLimit

@@ -1,16 +1,22 @@
--- Sums: of joined lists, over positions, of what a test keeps, and of copies; a mass that is booked at one position is summed once.
+-- Sums: of joined lists, over positions, of what a test keeps, and of copies; a mass that is booked at one position is summed once, and one that is booked at
+-- several, as often.
 use mathlib.Core.Path.{_≡_, refl, sym, ap, ap₂, _∙_}
-use mathlib.Core.Bool.{Bool, true, false, cond}
+use mathlib.Core.Bool.{Bool, true, false, not, cond, _||_}
 use mathlib.Core.List.{List, [], _∷_, _++_, map}
 use Prim.Native.Nat.{ℕ, zero, suc, _+_, _≤_, _<_}
 use native.Mathlib.Decide.{ℕ-discrete}
+use native.Mathlib.Nat.{zero-add}
 use native.Mathlib.Omega.{arith}
-use borrow.Author.Tests.{eq-eqb, ne-eqb}
+use borrow.Author.Tests.{eq-eqb, ne-eqb, eqb-true, not-true}
 use lib.Dec.{eqb}
 use lib.IntN.{ℤ, pos, _+ℤ_, _*ℤ_, +ℤ-idl, +ℤ-idr, +ℤ-assoc, +ℤ-comm, zero-*ℤ, sucℤ-*ℤ}
-use lib.ListN.{replicate}
-use Rattle.scope.specs.Lists.{keep, flat, tabled}
+use lib.ListN.{length, replicate}
+use Rattle.scope.specs.Lists.{keep, flat, tabled, member}
+use Rattle.scope.specs.Placements.{distinct}
 use Rattle.scope.specs.Masses.{sum, sumℕ}
+use Rattle.basics.specs.Each.{Each}
+use Rattle.basics.specs.Tabled.{tabled-same}
+use Rattle.basics.specs.Tests.{eqb-sym, and-left, and-right}
 
 +ℤ-left-comm : (a b c : ℤ) → a +ℤ (b +ℤ c) ≡ b +ℤ (a +ℤ c)
 +ℤ-left-comm a b c = sym (+ℤ-assoc a b c) ∙ ap (λ x. x +ℤ c) (+ℤ-comm a b) ∙ +ℤ-assoc b a c
@@ -29,11 +35,21 @@ unfolding sum
 sum-map-append f [] b = sym (+ℤ-idl (sum (map f b)))
 sum-map-append f (x ∷ a) b = ap (λ z. f x +ℤ z) (sum-map-append f a b) ∙ sym (+ℤ-assoc (f x) (sum (map f a)) (sum (map f b)))
 
+-- one more
+pub once-more : (n : ℕ) (m : ℤ) → m +ℤ (pos n *ℤ m) ≡ pos (suc n) *ℤ m
+once-more n m = +ℤ-comm m (pos n *ℤ m) ∙ sym (sucℤ-*ℤ (pos n) m)
+
+pub times-both : (a b : ℕ) (m : ℤ) → pos (a + b) *ℤ m ≡ (pos a *ℤ m) +ℤ (pos b *ℤ m)
+times-both zero b m = ap (λ n. pos n *ℤ m) (zero-add b) ∙ sym (+ℤ-idl (pos b *ℤ m)) ∙ ap (λ z. z +ℤ (pos b *ℤ m)) (sym (zero-*ℤ m))
+times-both (suc a) b m =
+    ap (λ n. pos n *ℤ m) (let e : suc a + b ≡ suc (a + b) = omega arith in e) ∙ sym (once-more (a + b) m) ∙ ap (λ z. m +ℤ z) (times-both a b m)
+    ∙ sym (+ℤ-assoc m (pos a *ℤ m) (pos b *ℤ m)) ∙ ap (λ z. z +ℤ (pos b *ℤ m)) (once-more a m)
+
 -- n copies
 pub sum-copies : {A : Type 0} (f : A → ℤ) (x : A) (n : ℕ) → sum (map f (replicate n x)) ≡ pos n *ℤ f x
 unfolding sum
 sum-copies f x zero = sym (zero-*ℤ (f x))
-sum-copies f x (suc n) = ap (λ z. f x +ℤ z) (sum-copies f x n) ∙ +ℤ-comm (f x) (pos n *ℤ f x) ∙ sym (sucℤ-*ℤ (pos n) (f x))
+sum-copies f x (suc n) = ap (λ z. f x +ℤ z) (sum-copies f x n) ∙ once-more n (f x)
 
 -- ---- sums over positions
 pub sum-both : (f g : ℕ → ℤ) (i n : ℕ) → sum (tabled (λ x. f x +ℤ g x) i n) ≡ sum (tabled f i n) +ℤ sum (tabled g i n)
@@ -66,6 +82,27 @@ sum-share a m i (suc n) h k = by (ℕ-discrete a i) (sum-share a m (i + 1) n)
     by (yes e) rest =
         ap₂ _+ℤ_ (share-here a m i e) (sum-zero (share a m) (i + 1) n (λ x q. share-else a m x (λ z. omega arith))) ∙ +ℤ-idr m
     by (no e) rest = ap₂ _+ℤ_ (share-else a m i e) (rest (omega arith) (omega arith)) ∙ +ℤ-idl m
+
+-- one that is booked at several positions, each once, is summed as often
+one-of : (x y : ℕ) (ys : List ℕ) (m : ℤ) → member y ys ≡ false → cond (member x (y ∷ ys)) m (pos 0) ≡ share y m x +ℤ cond (member x ys) m (pos 0)
+unfolding member
+one-of x y ys m free = by (eqb x y) refl
+  where
+    by : (t : Bool) → eqb x y ≡ t → cond (t || member x ys) m (pos 0) ≡ share y m x +ℤ cond (member x ys) m (pos 0)
+    by true e =
+        let same = eqb-true x y e in
+        sym (ap₂ _+ℤ_ (share-here y m x (sym same)) (ap (λ u. cond u m (pos 0)) (ap (λ z. member z ys) same ∙ free)) ∙ +ℤ-idr m)
+    by false e = sym (ap (λ u. cond u m (pos 0) +ℤ cond (member x ys) m (pos 0)) (eqb-sym y x ∙ e) ∙ +ℤ-idl (cond (member x ys) m (pos 0)))
+
+pub sum-members : (m : ℤ) (n : ℕ) (xs : List ℕ) → distinct xs ≡ true → Each (λ x. x < n) xs → sum (tabled (λ x. cond (member x xs) m (pos 0)) 0 n) ≡ pos (length xs) *ℤ m
+unfolding member distinct
+sum-members m n [] d h = sum-zero (λ x. pos 0) 0 n (λ x q. refl) ∙ sym (zero-*ℤ m)
+sum-members m n (y ∷ ys) d h =
+    let free : member y ys ≡ false = not-true (member y ys) (and-left (not (member y ys)) (distinct ys) d) in
+    ap sum (tabled-same (λ x. cond (member x (y ∷ ys)) m (pos 0)) (λ x. share y m x +ℤ cond (member x ys) m (pos 0)) (λ x. one-of x y ys m free) 0 n)
+    ∙ sum-both (share y m) (λ x. cond (member x ys) m (pos 0)) 0 n
+    ∙ ap₂ _+ℤ_ (sum-share y m 0 n (omega arith) (omega (arith, h .0))) (sum-members m n ys (and-right (not (member y ys)) (distinct ys) d) (h .1))
+    ∙ once-more (length ys) m
 
 -- ---- sums over some elements of a list
 pub sum-keep : {A : Type 0} (g : A → Bool) (f : A → ℤ) (l : List A) → sum (map f (keep g l)) ≡ sum (map (λ x. cond (g x) (f x) (pos 0)) l)

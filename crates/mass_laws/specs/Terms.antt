@@ -1,13 +1,16 @@
 -- The terms of the laws: what they ask of a line, each a plain fact that every accepted line has.
 use mathlib.Core.Path.{_≡_}
-use mathlib.Core.Bool.{true, false}
+use mathlib.Core.Bool.{Bool, true, false, _||_}
 use Prim.Native.Nat.{ℕ, _+_, _-_, _*_, _^_, _≤_, _<_}
 use lib.IntN.{natAbs}
 use lib.ListN.{length}
-use Rattle.scope.specs.declared.grammar.Kind.the-variants.{Unknown, Labile}
-use Rattle.scope.specs.Limits.{residueLimit, bracketLimit, copyLimit, sizeLimit, decimalLimit}
+use Rattle.scope.specs.declared.grammar.Kind.{Kind}
+use Rattle.scope.specs.declared.grammar.Kind.the-variants.{Unknown}
+use Rattle.scope.specs.Limits.{residueLimit, bracketLimit, copyLimit, positionLimit, declarationLimit, sizeLimit, decimalLimit}
 use Rattle.scope.specs.Line.{Bracket, Line}
+use Rattle.scope.specs.Kinds.{isLabile, isDeclared}
 use Rattle.scope.specs.Modifications.{isLabelled}
+use Rattle.scope.specs.Refusals.{declarations}
 use Rattle.scope.specs.Positions.{floaters}
 use Rattle.scope.specs.Masses.{massOr0}
 use Rattle.basics.specs.Each.{Each}
@@ -16,9 +19,13 @@ use Rattle.basics.specs.Each.{Each}
 abbrev pub massLimit : ℕ
 massLimit = sizeLimit * 10 ^ decimalLimit
 
--- and what the total stays below: a mass for each bracket but one, and one for each floating copy
+-- and what the total stays below: a mass for each declaration at each position, one for each other bracket but one, and one for each floating copy
 abbrev pub totalLimit : ℕ
-totalLimit = (bracketLimit + copyLimit - 1) * massLimit
+totalLimit = (declarationLimit * positionLimit + (bracketLimit - declarationLimit) + copyLimit - 1) * massLimit
+
+-- "`{}` holds no label"; of declarations, "Their brackets carry no label" (02, L2)
+abbrev pub labelless : Kind → Bool
+labelless k = isLabile k || isDeclared k
 
 -- a bracket of a line with n residues
 pub record FairBracket {P : Type 0} (n : ℕ) (k : Bracket P) : Type 0 where
@@ -28,8 +35,7 @@ pub record FairBracket {P : Type 0} (n : ℕ) (k : Bracket P) : Type 0 where
   pub single : (k .kind ≡ Unknown → ⊥) → k .count ≡ 1
   -- 11 "count (`^1` too) on a labelled bracket"
   pub labelled-single : isLabelled k ≡ true → k .count ≡ 1
-  -- "`{}` holds no label"
-  pub labile-unlabelled : k .kind ≡ Labile → isLabelled k ≡ false
+  pub unlabelled : labelless (k .kind) ≡ true → isLabelled k ≡ false
   -- "Position 0 is the N-terminus, 1 to n the residues, n+1 the C-terminus"
   pub inside : k .first ≤ n + 1
 
@@ -42,6 +48,8 @@ pub record Fair {P : Type 0} (t : Line P) : Type 0 where
 pub record Limited {P : Type 0} (t : Line P) : Type 0 where
   -- "brackets, square and curly together, 64"
   pub few-brackets : length (t .brackets) ≤ bracketLimit
+  -- "up to eight declarations" (02, L2)
+  pub few-declarations : length (declarations (t .brackets)) ≤ declarationLimit
   -- "floating copies 8"
   pub few-copies : length (floaters t) ≤ copyLimit
   pub small : Each (λ k. natAbs (massOr0 k) < massLimit) (t .brackets)

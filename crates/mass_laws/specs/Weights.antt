@@ -1,19 +1,18 @@
 -- What one bracket adds to the total, to the count of those that lack a mass, and to the entries of the ledger.
 use mathlib.Core.Path.{_≡_, refl, ap, _∙_}
-use mathlib.Core.Bool.{Bool, true, false, not, cond, _&&_}
+use mathlib.Core.Bool.{Bool, true, false, cond}
 use mathlib.Core.List.{map}
-use Prim.Native.Nat.{ℕ}
-use lib.Dec.{eqb}
+use Prim.Native.Nat.{ℕ, _<_}
 use lib.IntN.{ℤ, pos, _*ℤ_}
-use Rattle.scope.specs.Kinds.{onOnePosition}
+use lib.ListN.{length}
 use Rattle.scope.specs.Line.{Bracket, Line}
-use Rattle.scope.specs.Lists.{given, member}
-use Rattle.scope.specs.Modifications.{isModification, isLabelled}
-use Rattle.scope.specs.Positions.{isPlaced, placedOn}
+use Rattle.scope.specs.Lists.{given, tabled, member}
+use Rattle.scope.specs.Modifications.{isModification}
+use Rattle.scope.specs.Positions.{placedOn}
 use Rattle.scope.specs.Masses.{massOf, massOr0, modifications, times, sum, sumℕ, total, lacking, placedAt}
-use Rattle.basics.specs.Positions.{placed-on}
-use Rattle.basics.specs.Tests.{eqb-sym}
-use Rattle.mass_laws.specs.Sums.{share, sum-keep, sumℕ-keep}
+use Rattle.basics.specs.Each.{Each}
+use Rattle.mass_laws.specs.Sums.{sum-zero, sum-members, sum-keep, sumℕ-keep}
+use Rattle.mass_laws.specs.Placed.{placed-distinct}
 
 -- what a bracket adds to the total: "counts multiplied"
 unfoldable pub weight : {P : Type 0} → Line P → Bracket P → ℤ
@@ -50,22 +49,15 @@ not-booked t x k e = ap (λ u. cond (isModification k) (cond u (massOr0 k) (pos 
     by true = refl
     by false = refl
 
--- its mass, where it is placed: at its own position
-unfoldable pub placedMass : {P : Type 0} → Bracket P → ℤ
-placedMass k = cond (isPlaced k) (massOr0 k) (pos 0)
+-- its mass, as often as it is placed
+unfoldable pub placedMass : {P : Type 0} → Line P → Bracket P → ℤ
+placedMass t k = cond (isModification k) (pos (length (placedOn t k)) *ℤ massOr0 k) (pos 0)
 
-one-position : (a l o u : Bool) (m : ℤ) → cond a (cond ((a && not l && o) && u) m (pos 0)) (pos 0) ≡ cond u (cond (a && not l && o) m (pos 0)) (pos 0)
-one-position true true o true m = refl
-one-position true true o false m = refl
-one-position true false true true m = refl
-one-position true false true false m = refl
-one-position true false false true m = refl
-one-position true false false false m = refl
-one-position false l o true m = refl
-one-position false l o false m = refl
-
-pub booked-share : {P : Type 0} (t : Line P) (x : ℕ) (k : Bracket P) → bookedAt t x k ≡ share (k .first) (placedMass k) x
-unfolding bookedAt placedMass isPlaced
-booked-share t x k =
-    ap (λ u. cond (isModification k) (cond u (massOr0 k) (pos 0)) (pos 0)) (placed-on t k x ∙ ap (λ u. isPlaced k && u) (eqb-sym x (k .first)))
-    ∙ one-position (isModification k) (isLabelled k) (onOnePosition (k .kind)) (eqb (k .first) x) (massOr0 k)
+-- so much it adds to all entries
+pub sum-booked : {P : Type 0} (t : Line P) (k : Bracket P) (n : ℕ) → Each (λ x. x < n) (placedOn t k) → sum (tabled (λ x. bookedAt t x k) 0 n) ≡ placedMass t k
+unfolding bookedAt placedMass
+sum-booked t k n h = by (isModification k)
+  where
+    by : (a : Bool) → sum (tabled (λ x. cond a (cond (member x (placedOn t k)) (massOr0 k) (pos 0)) (pos 0)) 0 n) ≡ cond a (pos (length (placedOn t k)) *ℤ massOr0 k) (pos 0)
+    by true = sum-members (massOr0 k) n (placedOn t k) (placed-distinct t k) h
+    by false = sum-zero (λ x. pos 0) 0 n (λ x q. refl)

@@ -8,6 +8,7 @@ use native.Mathlib.Omega.{arith}
 use lib.Dec.{leb}
 use borrow.Author.Tests.{le-leb}
 use Rattle.scope.specs.Line.{Bracket, Line}
+use Rattle.scope.specs.Lists.{onLast}
 use Rattle.scope.specs.Kept.{keptBracket, kept}
 use Rattle.scope.specs.Tables.{bareBracket, tablesOf}
 use Rattle.basics.specs.Each.{Each}
@@ -36,6 +37,13 @@ module _ {P : Type 0} where
   pub climbs-append : (q c d : ℕ) (ks js : List (Bracket P)) → Climbs q ks c → Climbs c js d → Climbs q (ks ++ js) d
   climbs-append q c d [] js w v = lower q c js d w v
   climbs-append q c d (k ∷ ks) js w v = (w .0, climbs-append (rank k) c d ks js (w .1) v)
+
+  -- the last one changed into another of the same rank
+  pub climbs-last : (f : Bracket P → Bracket P) → ((k : Bracket P) → rank (f k) ≡ rank k) → (q : ℕ) (ks : List (Bracket P)) (c : ℕ) → Climbs q ks c → Climbs q (onLast f ks) c
+  unfolding onLast
+  climbs-last f e q [] c w = w
+  climbs-last f e q (k ∷ []) c w = rw (e k) w
+  climbs-last f e q (k ∷ j ∷ ks) c w = (w .0, climbs-last f e (rank k) (j ∷ ks) c (w .1))
 
   pub climbs-rising : (q : ℕ) (ks : List (Bracket P)) (c : ℕ) → Climbs q ks c → rising q ks ≡ true
   unfolding rising

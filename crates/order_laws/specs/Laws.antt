@@ -1,4 +1,4 @@
--- The order of a line's brackets: "A line has this order: runs of unknown-position brackets ..; labile `{..}`; N-terminal brackets and `-`; the
+-- The order of a line's brackets: declarations "at the front", then "A line has this order: runs of unknown-position brackets ..; labile `{..}`; N-terminal brackets and `-`; the
 -- sequence; `-` and C-terminal brackets." Ranks: Ranks.antt.
 use mathlib.Core.Path.{_≡_, ap, _∙_}
 use mathlib.Core.List.{List}

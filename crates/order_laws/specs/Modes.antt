@@ -5,16 +5,16 @@ use Prim.Native.Nat.{ℕ, _+_, _*_}
 use native.Mathlib.Omega.{arith}
 use lib.Dec.{leb, ltb}
 use Rattle.scope.specs.declared.grammar.Kind.{Kind}
-use Rattle.scope.specs.declared.grammar.Kind.the-variants.{Unknown, Labile, NTerm, OnResidue, OnRange, CTerm}
+use Rattle.scope.specs.declared.grammar.Kind.the-variants.{Unknown, Labile, NTerm, OnResidue, OnRange, CTerm, Declared}
 use Rattle.scope.specs.declared.grammar.Mode.{Mode}
-use Rattle.scope.specs.declared.grammar.Mode.the-variants.{Front, Runs, Undecided, Counted, Referred, Caret, Counting, Labiles, NTerms, Start, Single, Opened, UnsureOpened, InRange, InUnsure, RangeEnd, Ranged, UnsureEnd, CStart, CTerms}
+use Rattle.scope.specs.declared.grammar.Mode.the-variants.{Front, Angle, Tagged, Listed, Runs, Undecided, Counted, Referred, Caret, Counting, Labiles, NTerms, Start, Single, Opened, UnsureOpened, InRange, InUnsure, RangeEnd, Ranged, UnsureEnd, CStart, CTerms}
 use Rattle.scope.specs.declared.grammar.Slot.{Slot}
 use Rattle.scope.specs.declared.grammar.Act.{Act}
-use Rattle.scope.specs.declared.grammar.Act.the-variants.{Stop, Go, Residue as aResidue, Begin, Digit, RunEnds, TermEnds}
-use Rattle.scope.specs.Kinds.{kindCode, isKind, isOnRange}
+use Rattle.scope.specs.declared.grammar.Act.the-variants.{Stop, Go, Residue as aResidue, Begin, Digit, RunEnds, TermEnds, Places}
+use Rattle.scope.specs.Kinds.{isKind, isOnRange}
 use Rattle.scope.specs.Reading.{act, positionOf}
 use Rattle.reading_laws.specs.Acts.{act-rule}
-use Rattle.order_laws.specs.Ranks.{rankStep, rankOf}
+use Rattle.order_laws.specs.Ranks.{rankStep, kindRank, rankOf}
 
 -- ---- heights: ranks, less what the residues that are read add to every rank
 -- the rank of a bracket that is read behind n residues
@@ -27,14 +27,17 @@ heightOf k = rankNow k 0
 pub rank-height : (k : Kind) (n : ℕ) → rankNow k n ≡ rankStep * n + heightOf k
 rank-height k n = go (isOnRange k) (isKind CTerm k)
   where
-    go : (s t : Bool) → rankStep * cond s n (cond t (n + 1) n) + kindCode k ≡ rankStep * n + (rankStep * cond s 0 (cond t (0 + 1) 0) + kindCode k)
+    go : (s t : Bool) → rankStep * cond s n (cond t (n + 1) n) + kindRank k ≡ rankStep * n + (rankStep * cond s 0 (cond t (0 + 1) 0) + kindRank k)
     go true t = omega arith
     go false true = omega arith
     go false false = omega arith
 
 -- the last kind that may be settled by then
 abbrev pub lastKind : Mode → Kind
-lastKind Front = Unknown
+lastKind Front = Declared
+lastKind Angle = Declared
+lastKind Tagged = Declared
+lastKind Listed = Declared
 lastKind Runs = Unknown
 lastKind Undecided = Unknown
 lastKind Counted = Unknown
@@ -72,6 +75,7 @@ keeps m (Begin s) = fits m s
 keeps m Digit = leb (height m) (heightOf Unknown)
 keeps m RunEnds = leb (height m) (heightOf Unknown)
 keeps m TermEnds = leb (height m) (heightOf Unknown)
+keeps m Places = leb (height m) (heightOf Declared)
 
 pub act-keeps : (m : Mode) (b : ℕ) → keeps m (act m b) ≡ true
 act-keeps = act-rule keeps refl

@@ -11,21 +11,23 @@ use borrow.Author.Tests.{leb-true, ltb-true}
 use Rattle.scope.specs.declared.grammar.Section.{Section}
 use Rattle.scope.specs.declared.grammar.Kind.{Kind}
 use Rattle.scope.specs.declared.grammar.Kind.the-variants.{Unknown, NTerm}
+use Rattle.scope.specs.declared.grammar.Mode.the-variants.{Front}
 use Rattle.scope.specs.declared.grammar.Mode.{Mode}
 use Rattle.scope.specs.declared.grammar.Slot.{Slot}
 use Rattle.scope.specs.declared.grammar.Act.{Act}
-use Rattle.scope.specs.declared.grammar.Act.the-variants.{Stop, Go, Residue as aResidue, Begin, Digit, RunEnds, TermEnds}
+use Rattle.scope.specs.declared.grammar.Act.the-variants.{Stop, Go, Residue as aResidue, Begin, Digit, RunEnds, TermEnds, Places}
 use Rattle.scope.specs.Bytes.{upper}
-use Rattle.scope.specs.Kinds.{kindCode}
 use Rattle.scope.specs.Line.{Part, Bracket, Residue, Line}
 use Rattle.scope.specs.Content.{Content, lost, closed, going, innerStep}
-use Rattle.scope.specs.Reading.{act, positionOf, Held, withResidue, bracketOf, withBracket, countDigit, withDigit, asNTerm, settledRun, State, dead, outside, inside, perform, refers?, modeAfter, resume, step, holds, reading}
+use Rattle.scope.specs.Reading.{act, positionOf, Held, withResidue, bracketOf, withBracket, countDigit, withDigit, asNTerm, settledRun, declaredAt, State, dead, outside, inside, placing, perform, refers?, modeAfter, resume, step, holds, reading}
+use Rattle.scope.specs.Places.{Placing}
 use Rattle.basics.specs.Choice.{branch}
 use Rattle.basics.specs.Each.{Each, each-append, each-last, each-map, each-one}
 use Rattle.basics.specs.Tests.{both-of}
+use Rattle.reading_laws.specs.Listed.{PlacesGo, places-on, places-over, places-stop, places-go}
 use Rattle.reading_laws.specs.Kept.{reading-whole, put-by, digit-by}
-use Rattle.order_laws.specs.Ranks.{rankStep, rankOf, rank, InOrder, orderedb}
-use Rattle.order_laws.specs.Climbs.{Climbs, higher, level-climbs, climbs-append, climbs-rising}
+use Rattle.order_laws.specs.Ranks.{rankStep, kindRank, rankOf, rank, InOrder, orderedb}
+use Rattle.order_laws.specs.Climbs.{Climbs, higher, level-climbs, climbs-append, climbs-last, climbs-rising}
 use Rattle.order_laws.specs.Modes.{heightOf, rank-height, height, keeps, act-keeps}
 
 -- a bracket at the front waits as an unknown one, at the position that reading has come to
@@ -49,6 +51,7 @@ abbrev StateRises : {P : Type 0} → State P → Type 0
 StateRises (dead p) = Unit {0}
 StateRises (outside m h) = RisesTo (height m) h
 StateRises (inside s at h c) = InsideRises s h
+StateRises (placing h s) = RisesTo (height Front) h
 
 module _ {P : Type 0} where
   rises-more : (n c d : ℕ) (h : Held P) → c ≤ d → Rises n c h → Rises n d h
@@ -89,8 +92,8 @@ module _ {P : Type 0} where
       }
 
   settled-rises :
-      (f : Bracket P → Bracket P) (k : Kind) (h : Held P) → ((x : Bracket P) → x .kind ≡ Unknown → rank (f x) ≡ rankOf k (x .last)) → heightOf Unknown ≤ kindCode k
-      → RisesTo (heightOf Unknown) h → RisesTo (kindCode k) (settledRun f h)
+      (f : Bracket P → Bracket P) (k : Kind) (h : Held P) → ((x : Bracket P) → x .kind ≡ Unknown → rank (f x) ≡ rankOf k (x .last)) → heightOf Unknown ≤ kindRank k
+      → RisesTo (heightOf Unknown) h → RisesTo (kindRank k) (settledRun f h)
   settled-rises f k h e l w =
       let n = length (h .residues) in
       record {
@@ -114,6 +117,13 @@ module _ {P : Type 0} where
   perform-rises i b m h Digit w g = digit-rises i b h (rises-more _ _ _ h (leb-true _ _ g) w)
   perform-rises i b m h RunEnds w g = settled-rises (λ k. k) Unknown h (λ x u. ap (λ z. rankOf z (x .last)) u) (le-refl _) (rises-more _ _ _ h (leb-true _ _ g) w)
   perform-rises i b m h TermEnds w g = settled-rises asNTerm NTerm h (λ x u. refl) (omega arith) (rises-more _ _ _ h (leb-true _ _ g) w)
+  perform-rises i b m h Places w g = rises-more _ _ _ h (leb-true _ _ g) w
+
+  -- the places of a declaration
+  places-rise : {i : P} {b : ℕ} {h : Held P} {s : Placing P} {x : State P} → PlacesGo i b h s x → RisesTo (height Front) h → StateRises x
+  places-rise (places-on o) w = w
+  places-rise {h = h} (places-over e) w = record { brackets = climbs-last (declaredAt _) (λ k. refl) 0 (h .brackets) _ (w .brackets); run = w .run }
+  places-rise places-stop w = tt
 
   resume-rises : (s : Slot) (at i : P) (h : Held P) (c : Content P) → InsideRises s h → StateRises (resume s at h i c)
   unfolding resume
@@ -127,6 +137,7 @@ module _ {P : Type 0} where
   step-rises i (dead p) b w = tt
   step-rises i (outside m h) b w = perform-rises i b m h (act m b) w (act-keeps m b)
   step-rises i (inside s at h c) b w = resume-rises s at i h (innerStep i c b) w
+  step-rises i (placing h s) b w = places-rise (places-go i b h s) w
 
 -- ---- a line that is read whole
 pub read-ordered : (s : List ℕ) (l : Line ℕ) → reading s ≡ holds l → InOrder l

@@ -7,11 +7,12 @@ use Rattle.scope.specs.Bytes.{upper, sameFolded, bytes}
 use Rattle.scope.specs.Lists.{same, onLast, all, keep, flat, among, shared, tabled}
 use Rattle.scope.specs.Keys.{spell, keys, keyAmong, keyOf, written}
 use Rattle.scope.specs.Content.{digitStep, numberEnd, textStep, partEnd, valueEnd, textEnd, colonAfter, innerStep}
+use Rattle.scope.specs.Places.{placeStep, placesEnd, placesText}
 use Rattle.scope.specs.Reading.{element, further, groupFirst, inGroup, undecided, counted, referred, act, perform, resume, step, run, reading}
 use Rattle.scope.specs.Modifications.{copies}
 use Rattle.scope.specs.Glycans.{sugars, behindName, starts, cuttingsUpTo, cuttings, cuttingMass}
 use Rattle.scope.specs.Kept.{kept}
-use Rattle.scope.specs.Refusals.{least, refusal1, refusal2, unprintable, refusal3, tooDeep, refusal5, refusal6, refusal7, refusal8, isRuleName, refusal9, refusal10, wronglyLabelled, refusal11, passing, refusal12, refusal19, firstDue, outcome, Outcome, accepted, refused}
+use Rattle.scope.specs.Refusals.{least, refusal1, refusal2, unprintable, refusal3, tooDeep, refusal5, refusal6, refusal7, refusal8, isRuleName, refusal9, refusal10, refusal21, wronglyLabelled, refusal11, passing, refusal12, refusal19, firstDue, outcome, Outcome, accepted, refused}
 use Rattle.scope.specs.Canonical.{decimalUpTo, decimal, lastDigits, decimals, size, partText, partsText, sequenceText, chainText, canonical}
 use Rattle.scope.specs.Tables.{tablesOf, scoreOf}
 use Rattle.scope.specs.Layout.{partRows, rows, bytesOf, numbersOf, partIn, bracketIn, tablesIn}
@@ -75,7 +76,7 @@ samples =
     ∷ []
 
 pub printed-alike : all agrees samples ≡ true
-unfolding upper sameFolded same spell keys keyAmong keyOf written digitStep numberEnd textStep partEnd valueEnd textEnd colonAfter innerStep element further groupFirst inGroup undecided counted referred act onLast perform resume step run reading all keep flat among copies least refusal1 refusal2 unprintable refusal3 tooDeep refusal5 refusal6 refusal7 refusal8 isRuleName refusal9 refusal10 shared wronglyLabelled refusal11 passing refusal12 sugars behindName starts cuttingsUpTo cuttings cuttingMass refusal19 kept firstDue outcome decimalUpTo decimal lastDigits decimals size partText partsText sequenceText chainText canonical tablesOf partRows scoreOf rows bytesOf numbersOf tabled partIn bracketIn tablesIn floaters firstMass massOf sum total sumℕ lacking sameNumbers areTables fields printed
+unfolding upper sameFolded same spell keys keyAmong keyOf written digitStep numberEnd textStep partEnd valueEnd textEnd colonAfter innerStep element further groupFirst inGroup undecided counted referred act onLast placeStep placesEnd perform resume step run reading all keep flat among copies least refusal1 refusal2 unprintable refusal3 tooDeep refusal5 refusal6 refusal7 refusal8 isRuleName refusal9 refusal10 refusal21 shared wronglyLabelled refusal11 passing refusal12 sugars behindName starts cuttingsUpTo cuttings cuttingMass refusal19 kept firstDue outcome decimalUpTo decimal lastDigits decimals size partText partsText placesText sequenceText chainText canonical tablesOf partRows scoreOf rows bytesOf numbersOf tabled partIn bracketIn tablesIn floaters firstMass massOf sum total sumℕ lacking sameNumbers areTables fields printed
 printed-alike = refl
 
 abbrev isRead : Outcome → Bool
@@ -86,5 +87,5 @@ pub read-alike :
     all (λ s. isRead (outcome (bytes s)))
     ("A[gLYCAN:hexnac1HEX2]" ∷ "A[Glycan:Hex#a]C[#a(0.5)]" ∷ "[Glycan:en,ahex10]?A" ∷ "[+1|Glycan:HexHex1]^2?NN" ∷ [])
     ≡ true
-unfolding upper sameFolded same spell keys keyAmong keyOf written digitStep numberEnd textStep partEnd valueEnd textEnd colonAfter innerStep element further groupFirst inGroup undecided counted referred act onLast perform resume step run reading all keep flat among copies least refusal1 refusal2 unprintable refusal3 tooDeep refusal5 refusal6 refusal7 refusal8 isRuleName refusal9 refusal10 shared wronglyLabelled refusal11 passing refusal12 sugars behindName starts cuttingsUpTo cuttings cuttingMass refusal19 kept firstDue outcome decimalUpTo decimal lastDigits decimals size partText partsText sequenceText chainText canonical tablesOf partRows scoreOf rows bytesOf numbersOf tabled partIn bracketIn tablesIn floaters firstMass massOf sum total sumℕ lacking sameNumbers areTables fields printed
+unfolding upper sameFolded same spell keys keyAmong keyOf written digitStep numberEnd textStep partEnd valueEnd textEnd colonAfter innerStep element further groupFirst inGroup undecided counted referred act onLast placeStep placesEnd perform resume step run reading all keep flat among copies least refusal1 refusal2 unprintable refusal3 tooDeep refusal5 refusal6 refusal7 refusal8 isRuleName refusal9 refusal10 refusal21 shared wronglyLabelled refusal11 passing refusal12 sugars behindName starts cuttingsUpTo cuttings cuttingMass refusal19 kept firstDue outcome decimalUpTo decimal lastDigits decimals size partText partsText placesText sequenceText chainText canonical tablesOf partRows scoreOf rows bytesOf numbersOf tabled partIn bracketIn tablesIn floaters firstMass massOf sum total sumℕ lacking sameNumbers areTables fields printed
 read-alike = refl

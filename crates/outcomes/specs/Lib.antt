@@ -1,3 +1,4 @@
 pub mod Outcomes
 pub mod Samples
 pub mod Compositions
+pub mod Declarations

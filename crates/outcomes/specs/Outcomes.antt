@@ -10,14 +10,15 @@ use Rattle.scope.specs.Lists.{same, given, onLast, all, keep, flat, among, shar
 use Rattle.scope.specs.Line.{Line}
 use Rattle.scope.specs.Keys.{spell, keys, keyAmong, keyOf, written}
 use Rattle.scope.specs.Content.{digitStep, numberEnd, textStep, partEnd, valueEnd, textEnd, colonAfter, innerStep}
+use Rattle.scope.specs.Places.{placeStep, placesEnd, placesText}
 use Rattle.scope.specs.Reading.{element, further, groupFirst, inGroup, undecided, counted, referred, act, perform, resume, step, run, reading}
 use Rattle.scope.specs.Modifications.{copies}
 use Rattle.scope.specs.Kept.{kept}
-use Rattle.scope.specs.Refusals.{least, refusal1, refusal2, unprintable, refusal3, tooDeep, refusal5, refusal6, refusal7, refusal8, isRuleName, refusal9, refusal10, wronglyLabelled, refusal11, passing, refusal12, refusal19, firstDue, outcome, Outcome, accepted, refused}
+use Rattle.scope.specs.Refusals.{least, refusal1, refusal2, unprintable, refusal3, tooDeep, refusal5, refusal6, refusal7, refusal8, isRuleName, refusal9, refusal10, refusal21, wronglyLabelled, refusal11, passing, refusal12, refusal19, firstDue, outcome, Outcome, accepted, refused}
 use Rattle.scope.specs.Canonical.{decimalUpTo, decimal, lastDigits, decimals, size, partText, partsText, sequenceText, chainText, canonical}
 use Rattle.scope.specs.Tables.{tablesOf, scoreOf}
 use Rattle.scope.specs.Layout.{partRows, rows, bytesOf, numbersOf, partIn, bracketIn, tablesIn}
-use Rattle.scope.specs.Positions.{sites, isPlaced, placedOn, struckOut, floaters, referredAt, mayStand, permitted, rowsFrom, rowsOf, firstRow, floatingOf}
+use Rattle.scope.specs.Positions.{sites, reached, isPlaced, placedOn, struckOut, floaters, referredAt, mayStand, permitted, rowsFrom, rowsOf, firstRow, floatingOf}
 use Rattle.scope.specs.Placements.{distinct, fits, allowed, less, choices, placements, firstPlacement, nextPlacement}
 use Rattle.scope.specs.Masses.{firstMass, massOf, sum, total, sumℕ, lacking, placedAt, putAt, ledger, labileMass}
 use Rattle.scope.specs.Answers.{sameNumbers, areTables}
@@ -70,5 +71,5 @@ pub proved :
     × (lineWritten "A[-0]" ≡ some (bytes "A[+0]"))
     × (outcome (bytes "A[U:35]") ≡ refused 9 2)
     × (outcome (bytes "A[x]y]") ≡ refused 4 5)
-unfolding upper sameFolded same spell keys keyAmong keyOf written digitStep numberEnd textStep partEnd valueEnd textEnd colonAfter innerStep element further groupFirst inGroup undecided counted referred act onLast perform resume step run reading all keep flat among copies least refusal1 refusal2 unprintable refusal3 tooDeep refusal5 refusal6 refusal7 refusal8 isRuleName refusal9 refusal10 shared wronglyLabelled refusal11 passing refusal12 refusal19 kept firstDue outcome decimalUpTo decimal lastDigits decimals size partText partsText sequenceText chainText canonical tablesOf partRows scoreOf rows bytesOf numbersOf tabled partIn bracketIn tablesIn member sites isPlaced placedOn struckOut floaters referredAt mayStand permitted rowsFrom rowsOf firstRow distinct fits allowed less choices placements firstPlacement nextPlacement firstMass massOf sum total sumℕ lacking placedAt putAt ledger labileMass sameNumbers areTables fields printed
+unfolding upper sameFolded same spell keys keyAmong keyOf written digitStep numberEnd textStep partEnd valueEnd textEnd colonAfter innerStep element further groupFirst inGroup undecided counted referred act onLast placeStep placesEnd perform resume step run reading all keep flat among copies least refusal1 refusal2 unprintable refusal3 tooDeep refusal5 refusal6 refusal7 refusal8 isRuleName refusal9 refusal10 refusal21 shared wronglyLabelled refusal11 passing refusal12 refusal19 kept firstDue outcome decimalUpTo decimal lastDigits decimals size partText partsText placesText sequenceText chainText canonical tablesOf partRows scoreOf rows bytesOf numbersOf tabled partIn bracketIn tablesIn member sites reached isPlaced placedOn struckOut floaters referredAt mayStand permitted rowsFrom rowsOf firstRow distinct fits allowed less choices placements firstPlacement nextPlacement firstMass massOf sum total sumℕ lacking placedAt putAt ledger labileMass sameNumbers areTables fields printed
 proved = (refl, refl, refl, refl, refl, refl, refl, refl, refl, refl, refl, refl, refl, refl, refl, refl, refl)

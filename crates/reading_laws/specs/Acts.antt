@@ -10,12 +10,12 @@ use Rattle.scope.specs.declared.grammar.Section.{Section}
 use Rattle.scope.specs.declared.grammar.Section.the-variants.{Plain, RangeFirst, RangeNext, UnsureFirst, UnsureNext}
 use Rattle.scope.specs.declared.grammar.Kind.the-variants.{Unknown, NTerm, OnResidue, OnRange, CTerm}
 use Rattle.scope.specs.declared.grammar.Mode.{Mode}
-use Rattle.scope.specs.declared.grammar.Mode.the-variants.{Front, Runs, Undecided, Counted, Referred, Caret, Counting, Labiles, NTerms, Start, Single, Opened, UnsureOpened, InRange, InUnsure, RangeEnd, Ranged, UnsureEnd, CStart, CTerms}
+use Rattle.scope.specs.declared.grammar.Mode.the-variants.{Front, Angle, Tagged, Listed, Runs, Undecided, Counted, Referred, Caret, Counting, Labiles, NTerms, Start, Single, Opened, UnsureOpened, InRange, InUnsure, RangeEnd, Ranged, UnsureEnd, CStart, CTerms}
 use Rattle.scope.specs.declared.grammar.Slot.{Slot}
 use Rattle.scope.specs.declared.grammar.Act.{Act}
-use Rattle.scope.specs.declared.grammar.Act.the-variants.{Stop, Go, Residue as aResidue, Begin, Digit, RunEnds, TermEnds}
-use Rattle.scope.specs.Bytes.{isLetter, isDigit, openSquare, openCurly, openRound, shutRound, caret, question, dash}
-use Rattle.scope.specs.Reading.{square, front, labile, element, further, groupFirst, inGroup, undecided, counted, referred, act, mayEnd}
+use Rattle.scope.specs.declared.grammar.Act.the-variants.{Stop, Go, Residue as aResidue, Begin, Digit, RunEnds, TermEnds, Places}
+use Rattle.scope.specs.Bytes.{isLetter, isDigit, openSquare, openCurly, openRound, shutRound, openAngle, shutAngle, atSign, caret, question, dash}
+use Rattle.scope.specs.Reading.{square, front, labile, declared, element, further, groupFirst, inGroup, undecided, counted, referred, act, mayEnd}
 use Rattle.basics.specs.Choice.{branch-on}
 use Rattle.basics.specs.Each.{failing, first-passes}
 use Rattle.basics.specs.Tests.{both-of}
@@ -57,7 +57,10 @@ abbrev pub atFronts : List Way
 atFronts = on (only openSquare) (Begin front) ∷ on (only openCurly) (Begin labile) ∷ elements
 
 abbrev pub ways : Mode → List Way
-ways Front = atFronts
+ways Front = on (only openAngle) (Go Angle) ∷ atFronts
+ways Angle = on (only openSquare) (Begin declared) ∷ []
+ways Tagged = on (only atSign) Places ∷ []
+ways Listed = on (only shutAngle) (Go Front) ∷ []
 ways Runs = atFronts
 ways Undecided =
     on (only caret) (Go Caret) ∷ on (only openSquare) (Begin front) ∷ on (only question) RunEnds ∷ on (only dash) TermEnds ∷ []
@@ -93,7 +96,7 @@ pub data Ending : Mode → Type 0 where
 -- ---- tests over all modes
 abbrev others : List Mode
 others =
-    Runs ∷ Undecided ∷ Counted ∷ Referred ∷ Caret ∷ Counting ∷ Labiles ∷ NTerms ∷ Start ∷ Single ∷ Opened ∷ UnsureOpened ∷ InRange ∷ InUnsure ∷ RangeEnd
+    Angle ∷ Tagged ∷ Listed ∷ Runs ∷ Undecided ∷ Counted ∷ Referred ∷ Caret ∷ Counting ∷ Labiles ∷ NTerms ∷ Start ∷ Single ∷ Opened ∷ UnsureOpened ∷ InRange ∷ InUnsure ∷ RangeEnd
     ∷ Ranged ∷ UnsureEnd ∷ CStart ∷ CTerms ∷ []
 
 abbrev pub modes : List Mode
@@ -126,25 +129,28 @@ no e = absurd (false≢true e)
 known : (m : Mode) → KnownMode m
 unfolding act element further groupFirst inGroup undecided counted referred pick
 known Front = row 0 (λ b. refl) no
-known Runs = row 1 (λ b. refl) no
-known Undecided = row 2 (λ b. refl) no
-known Counted = row 3 (λ b. refl) no
-known Referred = row 4 (λ b. refl) no
-known Caret = row 5 (λ b. refl) no
-known Counting = row 6 (λ b. refl) no
-known Labiles = row 7 (λ b. refl) no
-known NTerms = row 8 (λ b. refl) no
-known Start = row 9 (λ b. refl) no
-known Single = row 10 (λ b. refl) (λ e. single-ends)
-known Opened = row 11 (λ b. refl) no
-known UnsureOpened = row 12 (λ b. refl) no
-known InRange = row 13 (λ b. refl) no
-known InUnsure = row 14 (λ b. refl) no
-known RangeEnd = row 15 (λ b. refl) no
-known Ranged = row 16 (λ b. refl) (λ e. ranged-ends)
-known UnsureEnd = row 17 (λ b. refl) (λ e. unsure-ends)
-known CStart = row 18 (λ b. refl) no
-known CTerms = row 19 (λ b. refl) (λ e. cterms-end)
+known Angle = row 1 (λ b. refl) no
+known Tagged = row 2 (λ b. refl) no
+known Listed = row 3 (λ b. refl) no
+known Runs = row 4 (λ b. refl) no
+known Undecided = row 5 (λ b. refl) no
+known Counted = row 6 (λ b. refl) no
+known Referred = row 7 (λ b. refl) no
+known Caret = row 8 (λ b. refl) no
+known Counting = row 9 (λ b. refl) no
+known Labiles = row 10 (λ b. refl) no
+known NTerms = row 11 (λ b. refl) no
+known Start = row 12 (λ b. refl) no
+known Single = row 13 (λ b. refl) (λ e. single-ends)
+known Opened = row 14 (λ b. refl) no
+known UnsureOpened = row 15 (λ b. refl) no
+known InRange = row 16 (λ b. refl) no
+known InUnsure = row 17 (λ b. refl) no
+known RangeEnd = row 18 (λ b. refl) no
+known Ranged = row 19 (λ b. refl) (λ e. ranged-ends)
+known UnsureEnd = row 20 (λ b. refl) (λ e. unsure-ends)
+known CStart = row 21 (λ b. refl) no
+known CTerms = row 22 (λ b. refl) (λ e. cterms-end)
 
 pub each-mode : (T : Mode → Bool) → failing T modes ≡ [] → (m : Mode) → T m ≡ true
 each-mode T e m = known m .passes T e
@@ -194,6 +200,7 @@ ByteOf (Begin s) b = Unit {0}
 ByteOf Digit b = isDigit b ≡ true
 ByteOf RunEnds b = Unit {0}
 ByteOf TermEnds b = Unit {0}
+ByteOf Places b = Unit {0}
 
 abbrev suits : Act → Sort → Bool
 suits Stop q = true
@@ -203,6 +210,7 @@ suits (Begin s) q = true
 suits Digit q = elim q [ letter ↦ false | digit ↦ true | only c ↦ false | any ↦ false ]
 suits RunEnds q = true
 suits TermEnds q = true
+suits Places q = true
 
 pub act-byte : (m : Mode) (b : ℕ) → ByteOf (act m b) b
 act-byte m b = let t = act-told (λ m q a. suits a q) refl m b in go (act m b) (t .sort) (t .is) (t .passes)
@@ -221,6 +229,7 @@ act-byte m b = let t = act-told (λ m q a. suits a q) refl m b in go (act m b) (
     go Digit any e f = absurd (false≢true f)
     go RunEnds q e f = tt
     go TermEnds q e f = tt
+    go Places q e f = tt
 
 -- a byte that is of no sort by which there is a way on
 abbrev pub sortsIn : (Sort → Bool) → List Way → Bool
@@ -248,6 +257,7 @@ ofSlot T (Begin s) = T s
 ofSlot T Digit = true
 ofSlot T RunEnds = true
 ofSlot T TermEnds = true
+ofSlot T Places = true
 
 -- ---- what may be done in a mode
 abbrev pub someWay : (Act → Bool) → List Way → Bool
@@ -262,6 +272,7 @@ endsRun (Begin s) = false
 endsRun Digit = false
 endsRun RunEnds = true
 endsRun TermEnds = false
+endsRun Places = false
 
 abbrev pub endsTerm : Act → Bool
 endsTerm Stop = false
@@ -271,6 +282,7 @@ endsTerm (Begin s) = false
 endsTerm Digit = false
 endsTerm RunEnds = false
 endsTerm TermEnds = true
+endsTerm Places = false
 
 abbrev pub counts : Act → Bool
 counts Stop = false
@@ -280,6 +292,7 @@ counts (Begin s) = false
 counts Digit = true
 counts RunEnds = false
 counts TermEnds = false
+counts Places = false
 
 -- brackets at the front wait where `?` or `-` may settle them, or a count go on
 abbrev pub waits : Mode → Bool

@@ -1,40 +1,42 @@
 -- Places do not matter: what a line without its places writes, lays out, permits and weighs is what the line does.
 use mathlib.Core.Path.{_≡_, refl, sym, ap, ap₂, _∙_}
-use mathlib.Core.Bool.{Bool, not, _&&_}
+use mathlib.Core.Bool.{Bool, not, cond, _&&_}
 use mathlib.Core.Option.{Option, none, some}
 use mathlib.Core.List.{List, [], _∷_, _++_, map}
 use Prim.Native.Nat.{ℕ, _+_}
 use lib.Dec.{eqb}
 use lib.IntN.{pos, _+ℤ_, _*ℤ_}
-use lib.ListN.{length, replicate, length-map}
+use lib.ListN.{length, getD, replicate, length-map}
 use Rattle.scope.specs.declared.grammar.Key.the-variants.{Obs, Info}
 use Rattle.scope.specs.declared.grammar.Kind.{Kind}
-use Rattle.scope.specs.declared.grammar.Kind.the-variants.{Unknown, Labile, NTerm, OnResidue, OnRange, CTerm}
-use Rattle.scope.specs.Limits.{positionLimit}
-use Rattle.scope.specs.Line.{Number, Label, Value, mass, text, reference, composition, Part, Bracket, Residue, Line}
-use Rattle.scope.specs.Kinds.{isKind}
+use Rattle.scope.specs.declared.grammar.Kind.the-variants.{Unknown, Labile, NTerm, OnResidue, OnRange, CTerm, Declared}
+use Rattle.scope.specs.Limits.{positionLimit, placeLimit}
+use Rattle.scope.specs.Line.{Number, Label, Value, mass, text, reference, composition, Place, Part, Bracket, Residue, Line}
+use Rattle.scope.specs.Kinds.{isKind, isDeclared}
 use Rattle.scope.specs.Keys.{keyCode}
-use Rattle.scope.specs.Lists.{given, all, keep, flat, optional, tabled, member}
+use Rattle.scope.specs.Lists.{given, all, keep, flat, optional, tabled, padded, member}
 use Rattle.scope.specs.Content.{isReference}
 use Rattle.scope.specs.Reading.{refers?}
 use Rattle.scope.specs.Refusals.{textIn}
 use Rattle.scope.specs.Modifications.{isKey, isModification, nameOf, namesOf, copies, definedBy, referredBy}
-use Rattle.scope.specs.Canonical.{size, scoreText, valueText, labelText, partText, partsText, squareText, curlyText, unknownText, ofKind, endingAt, isNext, goesOn, sequenceText, chainText, canonical}
-use Rattle.scope.specs.Tables.{bareNumber, bareLabel, bareValue, barePart, bareBracket, bareResidue, tablesOf, millionths, scoreOf}
-use Rattle.scope.specs.Layout.{massIn, decimalsIn, packed, valueCode, partRow, partRows, scoreCode, bracketRow, bracketTexts, rows, sectionCode, bytesOf, numberRow, numbersOf}
-use Rattle.scope.specs.Positions.{nTerminus, cTerminus, sites, isPlaced, placedOn, struckOut, floaters, referredAt, mayStand, permitted, floatingOf, positions}
+use Rattle.scope.specs.Canonical.{size, scoreText, valueText, labelText, partText, partsText, squareText, curlyText, declaredText, unknownText, ofKind, endingAt, isNext, goesOn, sequenceText, chainText, canonical}
+use Rattle.scope.specs.Tables.{bareNumber, bareLabel, bareValue, barePart, barePlace, bareBracket, bareResidue, tablesOf, millionths, scoreOf}
+use Rattle.scope.specs.Layout.{massIn, decimalsIn, packed, valueCode, partRow, partRows, scoreCode, placesRow, bracketRow, bracketTexts, rows, sectionCode, bytesOf, numberRow, numbersOf}
+use Rattle.scope.specs.Places.{nTerminus, cTerminus, placesText}
+use Rattle.scope.specs.Positions.{sites, names, reached, isPlaced, placedOn, struckOut, floaters, referredAt, mayStand, permitted, floatingOf, positions}
 use Rattle.scope.specs.Masses.{valueMass, firstMass, massOf, massOr0, modifications, times, sum, sumℕ, total, lacking, placedAt, putAt, ledger}
 use Rattle.basics.specs.Lists.{map-map, flat-map, all-map, keep-map, keep-same, map-replicate, map-flat}
 use Rattle.basics.specs.Tabled.{tabled-same}
 use Rattle.basics.specs.Positions.{same-floats}
 
 -- ---- the canonical line
--- brackets that are changed into others of the same kind, place, count and text
+-- brackets that are changed into others of the same kind, place, count and texts
 pub record Texted {P Q : Type 0} (g : Bracket P → Bracket Q) : Type 0 where
   pub kind : (k : Bracket P) → g k .kind ≡ k .kind
   pub last : (k : Bracket P) → g k .last ≡ k .last
   pub count : (k : Bracket P) → g k .count ≡ k .count
   pub parts : (k : Bracket P) → partsText (g k .parts) ≡ partsText (k .parts)
+  pub places : (k : Bracket P) → placesText (g k .places) ≡ placesText (k .places)
 
 -- parts that are changed into others of the same text
 pub parts-same : {P Q : Type 0} (f : Part P → Part Q) → ((p : Part P) → partText (f p) ≡ partText p) → (ps : List (Part P)) → partsText (map f ps) ≡ partsText ps
@@ -50,6 +52,9 @@ module _ {P Q : Type 0} (g : Bracket P → Bracket Q) (w : Texted g) (h : Residu
 
   curly-text : (k : Bracket P) → curlyText (g k) ≡ curlyText k
   curly-text k = rw (w .parts k)
+
+  declared-text : (k : Bracket P) → declaredText (g k) ≡ declaredText k
+  declared-text k = rw (w .parts k, w .places k)
 
   unknown-text : (k : Bracket P) → unknownText (g k) ≡ unknownText k
   unknown-text k = rw (w .parts k, w .count k)
@@ -80,12 +85,16 @@ module _ {P Q : Type 0} (g : Bracket P → Bracket Q) (w : Texted g) (h : Residu
   sequence-text ks i (r ∷ rs) =
       rw (letters r, sections r, squares-at OnResidue i ks, squares-at OnRange i ks, goes-on rs, sequence-text ks (i + 1) rs)
 
-  pub chain-text : (ks : List (Bracket P)) (p : ℕ) (rs : List (Residue P)) → chainText (map g ks) p (map h rs) ≡ chainText ks p rs
+  chain-text : (ks : List (Bracket P)) (p : ℕ) (rs : List (Residue P)) → chainText (map g ks) p (map h rs) ≡ chainText ks p rs
   unfolding chainText
   chain-text ks p rs =
       let u = texts-at unknownText unknownText unknown-text Unknown p ks in
       let v = texts-at curlyText curlyText curly-text Labile p ks in
       rw (length-map rs h, u, v, squares-at NTerm p ks, squares-at CTerm (p + 1 + length rs) ks, sequence-text ks (p + 1) rs)
+
+  pub line-text : (l : Line P) → canonical (record { residues = map h (l .residues); brackets = map g (l .brackets) }) ≡ canonical l
+  unfolding canonical
+  line-text l = ap₂ _++_ (texts-at declaredText declaredText declared-text Declared 0 (l .brackets)) (chain-text (l .brackets) 0 (l .residues))
 
 -- ---- what a bracket is
 -- parts that are changed into others with the same key and name of a label, a reference into a reference
@@ -131,11 +140,18 @@ module _ {P : Type 0} where
   pub parts-text : (ps : List (Part P)) → partsText (map barePart ps) ≡ partsText ps
   parts-text ps = parts-same barePart part-text ps
 
+  places-text : (ps : List (Place P)) → placesText (map barePlace ps) ≡ placesText ps
+  unfolding placesText
+  places-text [] = refl
+  places-text (p ∷ []) = refl
+  places-text (p ∷ q ∷ ps) = rw (places-text (q ∷ ps))
+
   pub same-canonical : (l : Line P) → canonical (tablesOf l) ≡ canonical l
-  unfolding canonical tablesOf
+  unfolding tablesOf
   same-canonical l =
-      chain-text bareBracket (record { kind = λ k. refl; last = λ k. refl; count = λ k. refl; parts = λ k. parts-text (k .parts) }) bareResidue (λ r. refl) (λ r. refl)
-      (l .brackets) 0 (l .residues)
+      line-text bareBracket
+      (record { kind = λ k. refl; last = λ k. refl; count = λ k. refl; parts = λ k. parts-text (k .parts); places = λ k. places-text (k .places) }) bareResidue
+      (λ r. refl) (λ r. refl) l
 
   -- ---- the areas
   text-in : (v : Value P) → textIn (bareValue v) ≡ textIn v
@@ -207,9 +223,15 @@ module _ {P : Type 0} where
   pub bracket-texts : (k : Bracket P) → bracketTexts (bareBracket k) ≡ bracketTexts k
   bracket-texts k = flat-map packed packed barePart packed-bare (k .parts)
 
+  site-list : (ps : List (Place P)) → map (λ p. p .site) (map barePlace ps) ≡ map (λ p. p .site) ps
+  site-list ps = map-map (λ p. p .site) (λ p. p .site) barePlace (λ p. refl) ps
+
+  places-row : (ps : List (Place P)) → placesRow (map barePlace ps) ≡ placesRow ps
+  places-row ps = ap₂ (λ n ss. n ∷ padded 0 placeLimit ss) (length-map ps barePlace) (site-list ps)
+
   bracket-row : (i : ℕ) (k : Bracket P) → bracketRow i (bareBracket k) ≡ bracketRow i k
   bracket-row i k =
-      rw (part-rows i (k .parts), length-map (k .parts) barePart, score-of (k .parts), score-code (scoreOf (k .parts)))
+      rw (part-rows i (k .parts), length-map (k .parts) barePart, score-of (k .parts), score-code (scoreOf (k .parts)), places-row (k .places))
 
   bracket-rows : (i : ℕ) (ks : List (Bracket P)) → rows i (map bareBracket ks) ≡ rows i ks
   unfolding rows
@@ -275,17 +297,27 @@ module _ {P : Type 0} where
   unfolding isPlaced
   is-placed k = rw (is-modification k, names-of k)
 
+  same-sites : (l : Line P) → sites (tablesOf l) ≡ sites l
+  unfolding sites tablesOf
+  same-sites l = ap (λ ls. nTerminus ∷ (ls ++ (cTerminus ∷ []))) (map-map (λ r. r .letter) (λ r. r .letter) bareResidue (λ r. refl) (l .residues))
+
+  same-names-at : (l : Line P) (ps : List (Place P)) (x : ℕ) → names (tablesOf l) (map barePlace ps) x ≡ names l ps x
+  same-names-at l ps x = ap₂ (λ s ss. member (getD s x 0) ss) (same-sites l) (site-list ps)
+
+  reached-bare : (l : Line P) (k : Bracket P) → reached (tablesOf l) (bareBracket k) ≡ reached l k
+  unfolding reached
+  reached-bare l k =
+      keep-same _ _ (same-names-at l (k .places)) (positions (tablesOf l)) ∙ ap (λ s. keep (names l (k .places)) (tabled (λ x. x) 0 (length s))) (same-sites l)
+
   placed-on : (l : Line P) (k : Bracket P) → placedOn (tablesOf l) (bareBracket k) ≡ placedOn l k
   unfolding placedOn
-  placed-on l k = rw (is-placed k)
+  placed-on l k =
+      ap₂ (λ r t. cond (isDeclared (k .kind) && isModification (bareBracket k)) r (cond t (k .first ∷ []) [])) (reached-bare l k) (is-placed k)
+      ∙ ap (λ a. cond (isDeclared (k .kind) && a) (reached l k) (cond (isPlaced k) (k .first ∷ []) [])) (is-modification k)
 
   struck-out : (l : Line P) → struckOut (tablesOf l) ≡ struckOut l
   unfolding struckOut tablesOf
   struck-out l = flat-map (placedOn (tablesOf l)) (placedOn l) bareBracket (placed-on l) (l .brackets)
-
-  same-sites : (l : Line P) → sites (tablesOf l) ≡ sites l
-  unfolding sites tablesOf
-  same-sites l = ap (λ ls. nTerminus ∷ (ls ++ (cTerminus ∷ []))) (map-map (λ r. r .letter) (λ r. r .letter) bareResidue (λ r. refl) (l .residues))
 
   pub same-floaters : (l : Line P) → floaters (tablesOf l) ≡ map bareBracket (floaters l)
   unfolding floaters tablesOf
@@ -348,7 +380,7 @@ module _ {P : Type 0} where
   modifications-bare l = keep-map isModification isModification bareBracket is-modification (l .brackets)
 
   times-bare : (l : Line P) (k : Bracket P) → times (tablesOf l) (bareBracket k) ≡ times l k
-  times-bare l k = refl
+  times-bare l k = ap (λ xs. cond (isDeclared (k .kind)) (length xs) (k .count)) (placed-on l k)
 
   pub same-total : (l : Line P) → total (tablesOf l) ≡ total l
   unfolding total

@@ -71,7 +71,7 @@ module _ {P : Type 0} where
 
   brackets-bare : (ks : List (Bracket P)) → map keptBracket (map bareBracket ks) ≡ map bareBracket (map keptBracket ks)
   brackets-bare [] = refl
-  brackets-bare (k ∷ ks) = ap₂ (λ ps l. record { kind = k .kind; first = k .first; last = k .last; count = k .count; counted = bareBracket k .counted; parts = ps; at = tt } ∷ l) (parts-bare (k .parts)) (brackets-bare ks)
+  brackets-bare (k ∷ ks) = ap₂ (λ ps l. record { kind = k .kind; first = k .first; last = k .last; count = k .count; counted = bareBracket k .counted; parts = ps; places = bareBracket k .places; at = tt } ∷ l) (parts-bare (k .parts)) (brackets-bare ks)
 
   -- what is kept of the tables is what the tables of the kept line hold
   pub tables-kept : (l : Line P) → kept (tablesOf l) ≡ tablesOf (kept l)

@@ -10,15 +10,16 @@ use borrow.Author.Tests.{eq-eqb}
 use Rattle.scope.specs.declared.grammar.Key.{Key}
 use Rattle.scope.specs.declared.grammar.Key.the-variants.{NoKey}
 use Rattle.scope.specs.declared.grammar.Mode.{Mode}
-use Rattle.scope.specs.declared.grammar.Mode.the-variants.{Runs, Counting, Start}
+use Rattle.scope.specs.declared.grammar.Mode.the-variants.{Front, Runs, Counting, Start}
 use Rattle.scope.specs.declared.grammar.Slot.{Slot}
 use Rattle.scope.specs.declared.grammar.Act.{Act}
-use Rattle.scope.specs.declared.grammar.Act.the-variants.{Stop, Go, Residue as aResidue, Begin, Digit, RunEnds, TermEnds}
-use Rattle.scope.specs.Bytes.{isShutting}
+use Rattle.scope.specs.declared.grammar.Act.the-variants.{Stop, Go, Residue as aResidue, Begin, Digit, RunEnds, TermEnds, Places}
+use Rattle.scope.specs.Bytes.{upper, isShutting}
 use Rattle.scope.specs.Keys.{Form, massOrName, massOnly, digits, alnums, free, composed, form, hashIsPlain, accessionByte}
-use Rattle.scope.specs.Line.{mass, text, Part}
+use Rattle.scope.specs.Line.{mass, text, Place, Part}
 use Rattle.scope.specs.Content.{Digits, signed, whole, pointed, broken, digitStep, numberOf, numberEnd, textStep, Context, Inner, begin, plain, keyed, inNumber, inCode, inText, hashed, inLabel, scoring, inScore, scored, closed, going, unlabelled, labelled, partEnd, valueEnd, textEnd, innerStep}
-use Rattle.scope.specs.Reading.{element, further, groupFirst, inGroup, undecided, counted, referred, act, mayEnd, Held, withBracket, State, dead, outside, inside, perform, modeAfter, resume, step, run}
+use Rattle.scope.specs.Reading.{element, further, groupFirst, inGroup, undecided, counted, referred, act, mayEnd, Held, withBracket, State, dead, outside, inside, placing, perform, modeAfter, resume, step, run}
+use Rattle.scope.specs.Places.{Placing, expected, placed, owing, placeStep, placesEnd}
 use Rattle.reading_laws.specs.Run.{run-nil, run-cons}
 use Rattle.basics.specs.Tests.{and-left, and-right, one-of}
 use Rattle.reading_laws.specs.Acts.{each-mode}
@@ -28,6 +29,7 @@ abbrev pub Alive : {P : Type 0} → State P → Type 0
 Alive (dead p) = ⊥
 Alive (outside m h) = Unit {0}
 Alive (inside s at h c) = Unit {0}
+Alive (placing h s) = Unit {0}
 
 -- bytes that lead from a state, at a place, to where a line may end
 pub record Finished {P : Type 0} (note : ℕ → P) (i : ℕ) (s : State P) : Type 0 where
@@ -129,11 +131,11 @@ unfolding innerStep textStep
 pair-shut c i at k t cs square = refl
 pair-shut c i at k t cs curly = refl
 
--- ---- outside brackets: from each mode one of the bytes `A`, `1`, `?`, `-`, `)`, or `[A]`, leads nearer to where a line may end
+-- ---- outside brackets: from each mode one of the bytes `A`, `1`, `?`, `-`, `)`, `>`, or `[A]`, or `@A>`, leads nearer to where a line may end
 abbrev tried : List ℕ
-tried = 65 ∷ 49 ∷ 63 ∷ 45 ∷ 41 ∷ 91 ∷ []
+tried = 65 ∷ 49 ∷ 63 ∷ 45 ∷ 41 ∷ 62 ∷ 91 ∷ 64 ∷ []
 
--- what a byte does leads to a mode that passes, or begins a bracket that does
+-- what a byte does leads to a mode that passes, or begins a bracket or places that do
 abbrev leadsTo : (Mode → Bool) → Act → Bool
 leadsTo F Stop = false
 leadsTo F (Go m) = F m
@@ -142,6 +144,7 @@ leadsTo F (Begin s) = isShutting (s .shut) && F (s .after)
 leadsTo F Digit = F Counting
 leadsTo F RunEnds = F Runs
 leadsTo F TermEnds = F Start
+leadsTo F Places = F Front
 
 abbrev someLead : (Mode → Bool) → Mode → List ℕ → Bool
 someLead F m [] = false
@@ -169,6 +172,25 @@ module _ {P : Type 0} (note : ℕ → P) where
       (then note (i + 1) _ (s .shut)
       (is note (i + 1 + 1) _ (outside (s .after) _) (ap (resume s from h (note (i + 1))) (plain-shut _ (note (i + 1)) (note i) (65 ∷ []) (closer (s .shut) c) refl)) (f (s .after) e (i + 1 + 1) _)))
 
+  -- places: those read, or the letter `A`, or what is owed of a terminus
+  module _ (F : Mode → Bool) (f : Ends F) (e : F Front ≡ true) (h : Held P) where
+    placed-finished : (i : ℕ) (ps : List (Place P)) (p : Place P) → Finished note i (placing h (placed ps p))
+    unfolding step placeStep placesEnd perform act
+    placed-finished i ps p = then note i _ 62 (f Front e (i + 1) _)
+
+    owing-finished : (i : ℕ) (ps : List (Place P)) (p : Place P) (x : ℕ) (w : List ℕ) → Finished note i (placing h (owing ps p x w))
+    unfolding step placeStep
+    owing-finished i ps p x [] =
+        then note i _ x (is note (i + 1) _ (placing h (placed ps p)) (rw (eq-eqb (upper x) (upper x) refl)) (placed-finished (i + 1) ps p))
+    owing-finished i ps p x (y ∷ w) =
+        then note i _ x (is note (i + 1) _ (placing h (owing ps p y w)) (rw (eq-eqb (upper x) (upper x) refl)) (owing-finished (i + 1) ps p y w))
+
+    places-finished : (i : ℕ) (s : Placing P) → Finished note i (placing h s)
+    unfolding step placeStep
+    places-finished i (expected ps) = then note i _ 65 (placed-finished (i + 1) ps _)
+    places-finished i (placed ps p) = placed-finished i ps p
+    places-finished i (owing ps p x w) = owing-finished i ps p x w
+
   act-finished : (F : Mode → Bool) → Ends F → (a : Act) → leadsTo F a ≡ true → (i b : ℕ) (h : Held P) → Finished note (i + 1) (perform (note i) b h a)
   unfolding perform
   act-finished F f Stop e i b h = absurd (false≢true e)
@@ -178,6 +200,7 @@ module _ {P : Type 0} (note : ℕ → P) where
   act-finished F f Digit e i b h = f Counting e (i + 1) _
   act-finished F f RunEnds e i b h = f Runs e (i + 1) _
   act-finished F f TermEnds e i b h = f Start e (i + 1) _
+  act-finished F f Places e i b h = places-finished F f e h (i + 1) (expected [])
 
   some-finished : (F : Mode → Bool) → Ends F → (m : Mode) (l : List ℕ) → someLead F m l ≡ true → (i : ℕ) (h : Held P) → Finished note i (outside m h)
   unfolding step
@@ -275,3 +298,4 @@ pub finished : {P : Type 0} (note : ℕ → P) (i : ℕ) (s : State P) → GoodS
 finished note i (dead p) g a = absurd a
 finished note i (outside m h) g a = outside-finished note i m h
 finished note i (inside s at h c) g a = inside-finished note s at h i c g
+finished note i (placing h s) g a = places-finished note (near 3) (near-finished note 3) (each-near Front) h i s

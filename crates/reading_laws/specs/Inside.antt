@@ -1,5 +1,5 @@
 -- Every refusal's place is a place of the line; 1 and 4 may be its length.
-use Prim.Native.Nat.{ℕ, zero, suc, _+_, _≤_, _<_}
+use Prim.Native.Nat.{ℕ, zero, suc, _+_, _-_, _≤_, _<_}
 use native.Mathlib.Omega.{arith}
 use mathlib.Core.Path.{_≡_, refl, subst}
 use mathlib.Core.Bool.{Bool, true, false, not, _&&_, _||_}
@@ -9,20 +9,20 @@ use lib.Dec.{eqb, leb, ltb}
 use lib.ListN.{length, drop}
 use borrow.Author.Tests.{eqb-true, ltb-true}
 use Rattle.scope.specs.Bytes.{isPrintable, isOpening}
-use Rattle.scope.specs.Limits.{lineLimit, residueLimit, bracketLimit, partLimit, textLimit, labelLimit, depthLimit, countLimit, copyLimit}
+use Rattle.scope.specs.Limits.{lineLimit, residueLimit, bracketLimit, partLimit, textLimit, labelLimit, depthLimit, countLimit, copyLimit, declarationLimit, placeLimit}
 use Rattle.scope.specs.Keys.{written}
 use Rattle.scope.specs.Line.{Number, Value, mass, text, reference, composition, Part, Bracket, Line}
 use Rattle.scope.specs.Lists.{given, none?, flat}
 use Rattle.scope.specs.Reading.{Reading, stuck, holds, reading}
 use Rattle.scope.specs.Modifications.{onlyInfo, copies, definedBy, defined, referredTo}
-use Rattle.scope.specs.Refusals.{least, dueAt, refusal1, refusal2, unprintable, refusal3, refusal4, depthAfter, tooDeep, textOf, deepPart, refusal5, longText, longLabel, overIn, refusal6, inRange, wide, wideMass, wideScore, refusal7, notHere, refusal8, isNumberName, refusal9, refusal10, wrongLabels, wronglyLabelled, refusal11, passing, refusal12, isUncut, refusal19, Due, due, byteRefusals, lineRefusals}
-use Rattle.scope.specs.Kinds.{unknownOrLabile}
+use Rattle.scope.specs.Refusals.{least, dueAt, refusal1, refusal2, unprintable, refusal3, refusal4, depthAfter, tooDeep, textOf, deepPart, refusal5, longText, longLabel, manyPlaces, overIn, declarations, manyDeclarations, refusal6, inRange, wide, wideMass, wideScore, refusal7, notHere, refusal8, isNumberName, refusal9, refusal10, refusal21, wrongLabels, wronglyLabelled, refusal11, passing, refusal12, isUncut, refusal19, Due, due, byteRefusals, lineRefusals}
+use Rattle.scope.specs.Kinds.{unknownOrLabile, isDeclared}
 use Rattle.basics.specs.Choice.{branch-on}
-use Rattle.basics.specs.Each.{Each, OfGiven, each-append, each-in, each-one, each-through}
+use Rattle.basics.specs.Each.{Each, OfGiven, each-append, each-in, each-keep, each-one, each-through}
 use Rattle.reading_laws.specs.Laws.{placesOf, behind, dues}
 use Rattle.reading_laws.specs.Precedence.{least-some}
 use Rattle.reading_laws.specs.Stuck.{stuck-refused}
-use Rattle.reading_laws.specs.Within.{WithinNumber, WithinLabel, WithinValue, WithinPart, WithinBracket, WithinResidue, WithinLine, reading-within}
+use Rattle.reading_laws.specs.Within.{WithinNumber, WithinLabel, WithinValue, WithinPart, WithinPlace, WithinBracket, WithinResidue, WithinLine, reading-within}
 
 module _ (n : ℕ) where
   -- every place is below n
@@ -80,13 +80,15 @@ module _ (n : ℕ) where
 
   under-over : (k : Bracket ℕ) → WithinBracket n k → Under (overIn k)
   under-over k w =
-      under-append (drop partLimit (map (λ p. p .at) (k .parts))) (flat (λ p. longText p ++ longLabel p) (k .parts))
+      under-append (drop partLimit (map (λ p. p .at) (k .parts))) (flat (λ p. longText p ++ longLabel p) (k .parts) ++ manyPlaces k)
       (under-drop partLimit _ (under-map (WithinPart n) (λ p. p .at) (λ p v. v .at) (k .parts) (w .parts)))
+      (under-append (flat (λ p. longText p ++ longLabel p) (k .parts)) (manyPlaces k)
       (under-flat (WithinPart n) (λ p. longText p ++ longLabel p)
       (λ p v. under-append (longText p) (longLabel p) (under-due (ltb textLimit (length (textOf p))) (p .at) (v .at))
       (under-given (WithinLabel n) (λ l. dueAt (ltb labelLimit (length (l .name))) (l .at))
       (λ l u. under-due (ltb labelLimit (length (l .name))) (l .at) (u .at)) (p .label) (v .label)))
       (k .parts) (w .parts))
+      (under-drop placeLimit _ (under-map (WithinPlace n) (λ p. p .at) (λ p v. v) (k .places) (w .places))))
 
   under-wide : (x : Number ℕ) → x .at < n → Under (wide x)
   under-wide x h = under-due (not (inRange x)) (x .at) h
@@ -141,7 +143,7 @@ place-inside n (d ∷ ds) k w =
     branch-on (λ l. Each (AtPlace n k) l) (eqb (d .number) k) (λ q. subst (λ x. Each (AtPlace n x) (d .places)) (eqb-true (d .number) k q) (w .0))
     (λ q. place-inside n ds k (w .1))
 
--- 5 to 12, and 19
+-- 5 to 12, 19 and 21
 module _ (n : ℕ) (l : Line ℕ) (w : WithinLine n l) where
   pub under5 : Under n (refusal5 l)
   unfolding refusal5
@@ -152,7 +154,11 @@ module _ (n : ℕ) (l : Line ℕ) (w : WithinLine n l) where
   under6 =
       under-append n _ _ (under-drop n residueLimit _ (under-map n (WithinResidue n) (λ r. r .at) (λ r v. v) (l .residues) (w .residues)))
       (under-append n _ _ (under-drop n bracketLimit _ (under-map n (WithinBracket n) (λ k. k .at) (λ k v. v .at) (l .brackets) (w .brackets)))
-      (under-flat n (WithinBracket n) overIn (under-over n) (l .brackets) (w .brackets)))
+      (under-append n (manyDeclarations (l .brackets)) _
+      (under-drop n declarationLimit _
+      (under-map n (WithinBracket n) (λ k. k .at - 1) (λ k v. omega (arith, v .at)) (declarations (l .brackets))
+      (each-keep (WithinBracket n) (λ k. isDeclared (k .kind)) (l .brackets) (w .brackets))))
+      (under-flat n (WithinBracket n) overIn (under-over n) (l .brackets) (w .brackets))))
 
   pub under7 : Under n (refusal7 l)
   unfolding refusal7
@@ -177,6 +183,10 @@ module _ (n : ℕ) (l : Line ℕ) (w : WithinLine n l) where
       under-flat n (WithinBracket n) _ (λ k v. under-due n (unknownOrLabile (k .kind) && onlyInfo k) (k .at) (v .at)) (l .brackets)
       (w .brackets)
 
+  pub under21 : Under n (refusal21 l)
+  unfolding refusal21
+  under21 = under-flat n (WithinBracket n) _ (λ k v. under-due n (isDeclared (k .kind) && onlyInfo k) (k .at) (v .at)) (l .brackets) (w .brackets)
+
   pub under11 : Under n (refusal11 l)
   unfolding refusal11
   under11 = under-labels n [] (defined (l .brackets)) (referredTo (l .brackets)) (l .brackets) (w .brackets)
@@ -191,7 +201,7 @@ module _ (n : ℕ) (l : Line ℕ) (w : WithinLine n l) where
 
   -- of each refusal, in the order of trying
   pub line-under : Each (λ d. Under n (d .places)) (lineRefusals l)
-  line-under = (under5, (under6, (under7, (under8, (under9, (under10, (under11, (under12, (under19, tt)))))))))
+  line-under = (under5, (under6, (under7, (under8, (under9, (under10, (under21, (under11, (under12, (under19, tt))))))))))
 
 -- 1 to 3
 bytes-inside : (s : List ℕ) → Each (InsideDue (length s)) (byteRefusals s)

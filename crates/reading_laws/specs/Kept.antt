@@ -12,7 +12,7 @@ use Rattle.scope.specs.declared.grammar.Kind.the-variants.{Unknown}
 use Rattle.scope.specs.declared.grammar.Mode.{Mode}
 use Rattle.scope.specs.Line.{Bracket, Line}
 use Rattle.scope.specs.Bytes.{value}
-use Rattle.scope.specs.Reading.{mayEnd, Held, settled, waiting, put, times, countDigit, State, dead, outside, inside, step, run, start, stuck, holds, lineOf, ended, reading}
+use Rattle.scope.specs.Reading.{mayEnd, Held, settled, waiting, put, times, countDigit, State, dead, outside, inside, placing, step, run, start, stuck, holds, lineOf, ended, reading}
 use Rattle.scope.specs.Kinds.{isUnknown}
 use Rattle.basics.specs.Choice.{branch-on, onGiven}
 use Rattle.basics.specs.Kinds.{is-kind}
@@ -51,6 +51,7 @@ ended-whole Q n (outside m h) l q e = go (mayEnd m) refl e
     go true f g = record { mode = m; held = h; ends = f; keeps = q; line = cc }
     go false f g = let z : _≡_ {A = ℕ} 0 1 = cc in absurd (omega arith)
 ended-whole Q n (inside s at h c) l q e = let z : _≡_ {A = ℕ} 0 1 = cc in absurd (omega arith)
+ended-whole Q n (placing h s) l q e = let z : _≡_ {A = ℕ} 0 1 = cc in absurd (omega arith)
 
 pub reading-whole : (Q : State ℕ → Type 0) → ((i : ℕ) (s : State ℕ) (b : ℕ) → Q s → Q (step i s b)) → Q start → (s : List ℕ) (l : Line ℕ)
     → reading s ≡ holds l → Whole Q l

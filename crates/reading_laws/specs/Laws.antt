@@ -45,9 +45,9 @@ unfoldable pub placesOf : List Due → ℕ → List ℕ
 placesOf [] k = []
 placesOf (d ∷ ds) k = cond (eqb (d .number) k) (d .places) (placesOf ds k)
 
--- a number is due, first at a place, and no lower one at any
+-- a number is due, first at a place, and no lower one at any; behind 10 neither is 21
 abbrev pub Lowest : List Due → ℕ → ℕ → Type 0
-Lowest ds k i = Least (placesOf ds k) i × ((j : ℕ) → j < k → placesOf ds j ≡ [])
+Lowest ds k i = Least (placesOf ds k) i × ((j : ℕ) → j < k → placesOf ds j ≡ []) × (10 < k → placesOf ds 21 ≡ [])
 
 -- the refusals of a line in the order of trying; those behind 4 are due only in a line of the order
 abbrev pub behind : Reading → List Due
@@ -74,8 +74,12 @@ pub record Laws : Type 0 where
   pub no-place : (l : List ℕ) → least l ≡ none ↔ (l ≡ [])
   -- "tries .. in that order", for any list of refusals: the first that is due is given, and where none is, what is left
   pub in-order : (ds : List Due) (o : Outcome) (k i : ℕ) → firstDue ds o ≡ refused k i ↔ (First ds k i ⊎ (Clear ds × (o ≡ refused k i)))
-  -- "Reading tries .. 1 to 12 in that order; the lowest number wins", and 19 "after 12": a number is given exactly when it is due and no lower one is, at its first place
-  pub lowest-wins : (s : List ℕ) (k i : ℕ) → outcome s ≡ refused k i ↔ Lowest (dues s) k i
+  -- "Reading tries .. in that order": a number is given exactly when it is due and none that stands before it in the order of trying is, at its first place
+  pub first-wins : (s : List ℕ) (k i : ℕ) → outcome s ≡ refused k i ↔ First (dues s) k i
+  pub first-of-its-places : (s : List ℕ) (k i : ℕ) → outcome s ≡ refused k i → Least (placesOf (dues s) k) i
+  -- document 01's sentence, "1 to 12 in that order; the lowest number wins": one of these is given exactly when it is due and no lower one is; 21, which is tried "after 10",
+  -- goes before 11 and 12
+  pub lowest-wins : (s : List ℕ) (k i : ℕ) → k ≤ 12 → outcome s ≡ refused k i ↔ Lowest (dues s) k i
   -- a line is accepted exactly when it is of the order and no number is due, with what is kept of it
   pub none-due : (s : List ℕ) (l : Line ℕ) → outcome s ≡ accepted l ↔ (KeptOf s l × ((k : ℕ) → placesOf (dues s) k ≡ []))
   -- the table's column "Place": each is a byte of the line, but for 1 and 4, whose place may be its length

@@ -1,6 +1,7 @@
 pub mod Laws
 pub mod Acts
 pub mod Goes
+pub mod Listed
 pub mod Kept
 pub mod Places
 pub mod Run

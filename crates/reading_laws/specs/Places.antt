@@ -10,19 +10,20 @@ use Rattle.scope.specs.declared.grammar.Section.{Section}
 use Rattle.scope.specs.declared.grammar.Key.{Key}
 use Rattle.scope.specs.declared.grammar.Key.the-variants.{NoKey}
 use Rattle.scope.specs.declared.grammar.Kind.{Kind}
-use Rattle.scope.specs.declared.grammar.Mode.the-variants.{Runs, Counting, Start}
+use Rattle.scope.specs.declared.grammar.Mode.the-variants.{Listed, Runs, Counting, Start}
 use Rattle.scope.specs.declared.grammar.Slot.{Slot}
 use Rattle.scope.specs.declared.grammar.Act.{Act}
-use Rattle.scope.specs.declared.grammar.Act.the-variants.{Stop, Go, Residue as aResidue, Begin, Digit, RunEnds, TermEnds}
-use Rattle.scope.specs.Bytes.{isSign, isDigit, isAlnum, bar, hash, colon, openRound, shutRound, value}
+use Rattle.scope.specs.declared.grammar.Act.the-variants.{Stop, Go, Residue as aResidue, Begin, Digit, RunEnds, TermEnds, Places}
+use Rattle.scope.specs.Bytes.{upper, isLetter, isSign, isDigit, isAlnum, bar, hash, colon, comma, dash, openRound, shutRound, value}
 use Rattle.scope.specs.Kinds.{isUnknown}
 use Rattle.scope.specs.Keys.{keyOf, Form, massOrName, massOnly, digits, alnums, free, composed, form, hashIsPlain, accessionByte}
-use Rattle.scope.specs.Line.{Number, Label, Value, mass, text, reference, composition, Part, Bracket, Residue, Line}
+use Rattle.scope.specs.Line.{Number, Label, Value, mass, text, reference, composition, Place, Part, Bracket, Residue, Line}
 use Rattle.scope.specs.Lists.{given, none?, onLast, optional}
+use Rattle.scope.specs.Places.{Placing, expected, placed, owing, owed, terminusOf, placeStep, placesEnd}
 use Rattle.scope.specs.Content.{Digits, signed, whole, pointed, broken, digitStep, numberEnd, isPlain, textStep, Context, Inner, begin, plain, keyed, inNumber, inCode, inText, hashed, inLabel, scoring, inScore, scored, Content, lost, closed, going, with, unlabelled, labelled, isReference, partEnd, valueEnd, textEnd, behindKey, colonAfter, nameBehind, innerStep}
-use Rattle.scope.specs.Reading.{act, Held, withResidue, bracketOf, put, withBracket, times, countDigit, withDigit, asNTerm, settledRun, State, dead, outside, inside, perform, refers?, modeAfter, resume, step}
-use Rattle.scope.specs.Tables.{bareNumber, bareLabel, bareValue, barePart, bareBracket, bareResidue, tablesOf}
-use Rattle.basics.specs.Choice.{through, throughGiven}
+use Rattle.scope.specs.Reading.{act, Held, withResidue, bracketOf, put, withBracket, times, countDigit, withDigit, asNTerm, settledRun, declaredAt, withPlaces, State, dead, outside, inside, placing, perform, refers?, modeAfter, resume, step}
+use Rattle.scope.specs.Tables.{bareNumber, bareLabel, bareValue, barePart, barePlace, bareBracket, bareResidue, tablesOf}
+use Rattle.basics.specs.Choice.{through, throughGiven, throughBoth}
 use Rattle.basics.specs.Lists.{map-map, optional-map}
 
 -- ---- every place renamed
@@ -42,6 +43,9 @@ module _ {P Q : Type 0} (f : P → Q) where
   abbrev pub mapPart : Part P → Part Q
   mapPart p = record { key = p .key; value = mapValue (p .value); label = optional mapLabel (p .label); at = f (p .at) }
 
+  abbrev pub mapPlace : Place P → Place Q
+  mapPlace p = record { site = p .site; at = f (p .at) }
+
   abbrev pub mapBracket : Bracket P → Bracket Q
   mapBracket k =
       record {
@@ -51,6 +55,7 @@ module _ {P Q : Type 0} (f : P → Q) where
         count = k .count;
         counted = optional f (k .counted);
         parts = map mapPart (k .parts);
+        places = map mapPlace (k .places);
         at = f (k .at);
       }
 
@@ -90,10 +95,16 @@ module _ {P Q : Type 0} (f : P → Q) where
         first = h .first;
       }
 
+  abbrev pub mapPlacing : Placing P → Placing Q
+  mapPlacing (expected ps) = expected (map mapPlace ps)
+  mapPlacing (placed ps p) = placed (map mapPlace ps) (mapPlace p)
+  mapPlacing (owing ps p x w) = owing (map mapPlace ps) (mapPlace p) x w
+
   abbrev pub mapState : State P → State Q
   mapState (dead p) = dead (f p)
   mapState (outside m h) = outside m (mapHeld h)
   mapState (inside s at h c) = inside s (f at) (mapHeld h) (mapInner c)
+  mapState (placing h s) = placing (mapHeld h) (mapPlacing s)
 
 module _ {P Q : Type 0} (f : P → Q) where
   -- ---- inside a bracket
@@ -243,6 +254,7 @@ module _ {P Q : Type 0} (f : P → Q) where
   perform-map i b h Digit = ap (outside Counting) (withDigit-map i b h)
   perform-map i b h RunEnds = ap (outside Runs) (settledRun-map (λ k. k) (λ k. k) (λ k. refl) h)
   perform-map i b h TermEnds = ap (outside Start) (settledRun-map asNTerm asNTerm (λ k. refl) h)
+  perform-map i b h Places = refl
 
   refers-map : (ps : List (Part P)) → refers? (map (mapPart f) ps) ≡ refers? ps
   refers-map [] = refl
@@ -255,12 +267,45 @@ module _ {P Q : Type 0} (f : P → Q) where
   resume-map s at h i (closed ps) = rw (refers-map ps) (ap (outside (modeAfter s ps)) (withBracket-map (s .kind) at ps h))
   resume-map s at h i (going c) = refl
 
+  -- ---- the places of a declaration
+  owed-map : (ps : List (Place P)) (p : Place P) (w : List ℕ) → mapPlacing f (owed ps p w) ≡ owed (map (mapPlace f) ps) (mapPlace f p) w
+  owed-map ps p [] = refl
+  owed-map ps p (x ∷ w) = refl
+
+  placeStep-map : (i : P) (s : Placing P) (b : ℕ) → optional (mapPlacing f) (placeStep i s b) ≡ placeStep (f i) (mapPlacing f s) b
+  unfolding placeStep
+  placeStep-map i (expected ps) b = through (optional (mapPlacing f)) (isLetter b) refl refl
+  placeStep-map i (placed ps p) b =
+      through (optional (mapPlacing f)) (eqb b comma) (ap (λ l. some (expected l)) (map-append (mapPlace f) ps (p ∷ [])))
+      (through (optional (mapPlacing f)) (eqb b dash) (throughGiven (optional (mapPlacing f)) (terminusOf (p .site)) (λ s. refl) refl) refl)
+  placeStep-map i (owing ps p x w) b = through (optional (mapPlacing f)) (eqb (upper x) (upper b)) (ap some (owed-map ps p w)) refl
+
+  placesEnd-map : (s : Placing P) → optional (map (mapPlace f)) (placesEnd s) ≡ placesEnd (mapPlacing f s)
+  unfolding placesEnd
+  placesEnd-map (expected ps) = refl
+  placesEnd-map (placed ps p) = ap some (map-append (mapPlace f) ps (p ∷ []))
+  placesEnd-map (owing ps p x w) = refl
+
+  withPlaces-map : (ps : List (Place P)) (h : Held P) → mapHeld f (withPlaces ps h) ≡ withPlaces (map (mapPlace f) ps) (mapHeld f h)
+  withPlaces-map ps h = rw (onLast-map (mapBracket f) (declaredAt ps) (declaredAt (map (mapPlace f) ps)) (λ k. refl) (h .brackets))
+
+  placing-map : (i : P) (h : Held P) (s : Placing P) (b : ℕ) → mapState f (step i (placing h s) b) ≡ step (f i) (placing (mapHeld f h) (mapPlacing f s)) b
+  unfolding step
+  placing-map i h s b =
+      let ends : List (Place Q) → State Q = λ ps. perform (f i) b (withPlaces ps (mapHeld f h)) (act Listed b) in
+      throughBoth (mapState f) (mapPlacing f) (placing (mapHeld f h)) (placeStep i s b) (λ x. refl)
+      (throughBoth (mapState f) (map (mapPlace f)) ends (placesEnd s)
+      (λ ps. perform-map i b (withPlaces ps h) (act Listed b) ∙ ap (λ g. perform (f i) b g (act Listed b)) (withPlaces-map ps h)) refl
+      ∙ ap (λ o. given o ends (dead (f i))) (placesEnd-map s))
+      ∙ ap (λ o. given o (placing (mapHeld f h)) (given (placesEnd (mapPlacing f s)) ends (dead (f i)))) (placeStep-map i s b)
+
   pub step-map : (i : P) (s : State P) (b : ℕ) → mapState f (step i s b) ≡ step (f i) (mapState f s) b
   unfolding step
   step-map i (dead p) b = refl
   step-map i (outside m h) b = perform-map i b h (act m b)
   step-map i (inside s at h c) b =
       resume-map s at h i (innerStep i c b) ∙ ap (resume s (f at) (mapHeld f h) (f i)) (innerStep-map i c b)
+  step-map i (placing h s) b = placing-map i h s b
 
 -- ---- the tables do not depend on the places
 module _ {P Q : Type 0} (f : P → Q) where
@@ -277,7 +322,11 @@ module _ {P Q : Type 0} (f : P → Q) where
   barePart-map p = rw (bareValue-map (p .value), optional-map bareLabel bareLabel (mapLabel f) bareLabel-map (p .label))
 
   pub bareBracket-map : (k : Bracket P) → bareBracket (mapBracket f k) ≡ bareBracket k
-  bareBracket-map k = rw (map-map barePart barePart (mapPart f) barePart-map (k .parts))
+  bareBracket-map k =
+      rw (
+        map-map barePart barePart (mapPart f) barePart-map (k .parts),
+        map-map barePlace barePlace (mapPlace f) (λ p. refl) (k .places),
+      )
 
   pub tables-map : (l : Line P) → tablesOf (mapLine f l) ≡ tablesOf l
   unfolding tablesOf

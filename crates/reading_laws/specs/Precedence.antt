@@ -1,19 +1,19 @@
--- "the lowest number wins, at its first place in the line": over any list of refusals, and over the refusals of a line.
-use Prim.Native.Nat.{ℕ, _≤_, _<_, min}
+-- "the lowest number wins, at its first place in the line": the first that is due, over any list of refusals and over the refusals of a line.
+use Prim.Native.Nat.{ℕ, _*_, _≤_, _<_, min}
 use native.Mathlib.Omega.{arith}
 use mathlib.Core.Path.{_≡_, refl, sym, ap, _∙_, subst}
 use mathlib.Core.Logic.{_↔_, _⊎_, inl, inr}
-use mathlib.Core.Bool.{Bool, true, false}
+use mathlib.Core.Bool.{Bool, true, false, cond}
 use mathlib.Core.Option.{Option, none, some}
 use mathlib.Core.List.{List, [], _∷_, _++_}
 use lib.Dec.{eqb, leb}
-use borrow.Author.Tests.{eq-eqb, ne-eqb, leb-true, leb-false}
+use borrow.Author.Tests.{eqb-true, eqb-false, eq-eqb, ne-eqb, leb-true, leb-false}
 use Rattle.scope.specs.Line.{Line}
 use Rattle.scope.specs.Lists.{given}
 use Rattle.scope.specs.Reading.{Reading, stuck, holds, reading}
 use Rattle.scope.specs.Kept.{kept}
 use Rattle.scope.specs.Refusals.{least, refusal4, Due, due, Outcome, accepted, refused, firstDue, judged, byteRefusals, outcome}
-use Rattle.basics.specs.Choice.{branch-on}
+use Rattle.basics.specs.Choice.{pick-false, by-test, branch-on}
 use Rattle.basics.specs.Each.{In, each-in, each-one}
 use Rattle.reading_laws.specs.Laws.{Clear, First, Least, placesOf, Lowest, behind, dues, KeptOf}
 
@@ -110,56 +110,83 @@ firstDue-law ds o k i = (due-cases ds o k i, back)
     back (inl f) = first-due ds o k i f
     back (inr c) = clear-due ds o (c .0) ∙ c .1
 
--- ---- numbers that rise: no refusal before a number is due exactly when no lower number is
--- each number is above the one before it, and the first above n
+-- ---- when a number is tried: in the order of the numbers, but 21 "after 10". No refusal before a number is due exactly when none that is tried before it is
+turn : ℕ → ℕ
+turn k = cond (eqb k 21) 21 (2 * k)
+
+turn-of : (k : ℕ) → (k ≡ 21 → ⊥) → turn k ≡ 2 * k
+unfolding turn
+turn-of k h = pick-false (eqb k 21) 21 (2 * k) (ne-eqb k 21 h)
+
+turn-late : turn 21 ≡ 21
+unfolding turn
+turn-late = refl
+
+same-turn : (j k : ℕ) → turn j ≡ turn k → j ≡ k
+unfolding turn
+same-turn j k = go (eqb j 21) (eqb k 21) refl refl
+  where
+    go : (t u : Bool) → eqb j 21 ≡ t → eqb k 21 ≡ u → cond t 21 (2 * j) ≡ cond u 21 (2 * k) → j ≡ k
+    go true true p q e = eqb-true j 21 p ∙ sym (eqb-true k 21 q)
+    go true false p q e = absurd (omega arith)
+    go false true p q e = absurd (omega arith)
+    go false false p q e = omega arith
+
+-- each is tried after the one before it, and the first after n
 Rising : ℕ → List Due → Type 0
 Rising n [] = Unit {0}
-Rising n (d ∷ ds) = (n < d .number) × Rising (d .number) ds
+Rising n (d ∷ ds) = (n < turn (d .number)) × Rising (turn (d .number)) ds
 
--- a number that is not above the first bound is not due
-low-none : (n : ℕ) (ds : List Due) (k : ℕ) → Rising n ds → k ≤ n → placesOf ds k ≡ []
+-- a number is due, first at a place, and none that is tried before it at any
+Foremost : List Due → ℕ → ℕ → Type 0
+Foremost ds k i = Least (placesOf ds k) i × ((j : ℕ) → turn j < turn k → placesOf ds j ≡ [])
+
+-- a number that is not tried after the first bound is not due
+low-none : (n : ℕ) (ds : List Due) (k : ℕ) → Rising n ds → turn k ≤ n → placesOf ds k ≡ []
 unfolding Rising placesOf
 low-none n [] k r h = refl
 low-none n (d ∷ ds) k r h =
-    let e : eqb (d .number) k ≡ false = ne-eqb (d .number) k (λ q. omega (arith, r .0)) in
-    rw e (low-none (d .number) ds k (r .1) (omega (arith, r .0)))
+    let e : eqb (d .number) k ≡ false = ne-eqb (d .number) k (λ q. let t = ap turn q in omega (arith, r .0)) in
+    rw e (low-none (turn (d .number)) ds k (r .1) (omega (arith, r .0)))
 
 clear-none : (ds : List Due) (k : ℕ) → Clear ds → placesOf ds k ≡ []
 unfolding placesOf
 clear-none [] k c = refl
 clear-none (d ∷ ds) k c = branch-on (λ x. x ≡ []) (eqb (d .number) k) (λ e. c .0) (λ e. clear-none ds k (c .1))
 
-lowest-here : (ps : List ℕ) (ds : List Due) (k i : ℕ) → Least ps i → Rising k ds → Lowest (due k ps ∷ ds) k i
-unfolding placesOf
-lowest-here ps ds k i p r = (rw (eq-eqb k k refl) p, λ j h. rw (ne-eqb k j (λ e. omega arith)) (low-none k ds j r (omega arith)))
+foremost-here : (ps : List ℕ) (ds : List Due) (k i : ℕ) → Least ps i → Rising (turn k) ds → Foremost (due k ps ∷ ds) k i
+unfolding placesOf Foremost
+foremost-here ps ds k i p r =
+    (rw (eq-eqb k k refl) p, λ j h. rw (ne-eqb k j (λ e. let t = ap turn e in omega arith)) (low-none (turn k) ds j r (omega arith)))
 
-lowest-later : (d : Due) (ds : List Due) (k i : ℕ) → d .number < k → d .places ≡ [] → Lowest ds k i → Lowest (d ∷ ds) k i
-unfolding placesOf
-lowest-later d ds k i h e p = (
-  rw (ne-eqb (d .number) k (λ q. omega arith)) (p .0),
+foremost-later : (d : Due) (ds : List Due) (k i : ℕ) → turn (d .number) < turn k → d .places ≡ [] → Foremost ds k i → Foremost (d ∷ ds) k i
+unfolding placesOf Foremost
+foremost-later d ds k i h e p = (
+  rw (ne-eqb (d .number) k (λ q. let t = ap turn q in omega arith)) (p .0),
   λ j l. branch-on (λ x. x ≡ []) (eqb (d .number) j) (λ q. e) (λ q. p .1 j l),
 )
 
 rising-clear : (n : ℕ) (a b : List Due) (ps : List ℕ) (k i : ℕ) → Least ps i → Clear a → Rising n (a ++ (due k ps ∷ b))
-    → (n < k) × Lowest (a ++ (due k ps ∷ b)) k i
+    → (n < turn k) × Foremost (a ++ (due k ps ∷ b)) k i
 unfolding Rising
-rising-clear n [] b ps k i q c r = (r .0, lowest-here ps b k i q (r .1))
+rising-clear n [] b ps k i q c r = (r .0, foremost-here ps b k i q (r .1))
 rising-clear n (d ∷ a) b ps k i q c r =
-    let p = rising-clear (d .number) a b ps k i q (c .1) (r .1) in
-    (omega (arith, r .0, p .0), lowest-later d (a ++ (due k ps ∷ b)) k i (p .0) (c .0) (p .1))
+    let p = rising-clear (turn (d .number)) a b ps k i q (c .1) (r .1) in
+    (omega (arith, r .0, p .0), foremost-later d (a ++ (due k ps ∷ b)) k i (p .0) (c .0) (p .1))
 
-rising-first : (ds : List Due) (k i : ℕ) → Rising 0 ds → First ds k i → Lowest ds k i
+rising-first : (ds : List Due) (k i : ℕ) → Rising 0 ds → First ds k i → Foremost ds k i
 rising-first ds k i r f =
     rw (f .whole) (rising-clear 0 (f .before) (f .after) (f .places) k i (f .at) (f .clear) (rw (f .whole) at r) .1)
 
 -- ---- the refusals of a line
 dues-rising : (s : List ℕ) → Rising 0 (dues s)
-unfolding dues Rising
+unfolding dues Rising turn
 dues-rising s = go (reading s)
   where
-    above : (r : Reading) → Rising 4 (behind r)
+    above : (r : Reading) → Rising (turn 4) (behind r)
     above (stuck i) = tt
-    above (holds l) = (omega arith, (omega arith, (omega arith, (omega arith, (omega arith, (omega arith, (omega arith, (omega arith, (omega arith, tt)))))))))
+    above (holds l) =
+        (omega arith, (omega arith, (omega arith, (omega arith, (omega arith, (omega arith, (omega arith, (omega arith, (omega arith, (omega arith, tt))))))))))
 
     go : (r : Reading) → Rising 0 (byteRefusals s ++ (due 4 (refusal4 r) ∷ behind r))
     go r = (omega arith, (omega arith, (omega arith, (omega arith, above r))))
@@ -200,13 +227,20 @@ at-four : (s : List ℕ) → placesOf (dues s) 4 ≡ refusal4 (reading s)
 unfolding dues placesOf
 at-four s = refl
 
--- a number is given: it is due there, and no lower one is
-given-lowest : (s : List ℕ) (k i : ℕ) → outcome s ≡ refused k i → Lowest (dues s) k i
-given-lowest s k i e = go (due-cases (dues s) (last (reading s)) k i (sym (outcome-dues s) ∙ e))
+-- a number is given: it is the first that is due
+given-first : (s : List ℕ) (k i : ℕ) → outcome s ≡ refused k i → First (dues s) k i
+given-first s k i e = go (due-cases (dues s) (last (reading s)) k i (sym (outcome-dues s) ∙ e))
   where
-    go : First (dues s) k i ⊎ (Clear (dues s) × (last (reading s) ≡ refused k i)) → Lowest (dues s) k i
-    go (inl f) = rising-first (dues s) k i (dues-rising s) f
+    go : First (dues s) k i ⊎ (Clear (dues s) × (last (reading s) ≡ refused k i)) → First (dues s) k i
+    go (inl f) = f
     go (inr c) = absurd (last-accepted (reading s) k i (sym (at-four s) ∙ clear-none (dues s) 4 (c .0)) (c .1))
+
+given-foremost : (s : List ℕ) (k i : ℕ) → outcome s ≡ refused k i → Foremost (dues s) k i
+given-foremost s k i e = rising-first (dues s) k i (dues-rising s) (given-first s k i e)
+
+pub given-least : (s : List ℕ) (k i : ℕ) → outcome s ≡ refused k i → Least (placesOf (dues s) k) i
+unfolding Foremost
+given-least s k i e = given-foremost s k i e .0
 
 -- a line is accepted: none is due
 pub clear-cases : (ds : List Due) (o : Outcome) (l : Line ℕ) → firstDue ds o ≡ accepted l → Clear ds × (o ≡ accepted l)
@@ -227,23 +261,37 @@ accepted-none s l e =
     (last-holds (reading s) l (c .1), λ k. clear-none (dues s) k (c .0))
 
 -- and conversely
-lowest-unique : (ds : List Due) (k i m j : ℕ) → Lowest ds k i → Lowest ds m j → (k ≡ m) × (i ≡ j)
-lowest-unique ds k i m j p q =
-    let u : k < m → ⊥ = λ h. not-least (placesOf ds k) i (p .0) (q .1 k h) in
-    let v : m < k → ⊥ = λ h. not-least (placesOf ds m) j (q .0) (p .1 m h) in
-    let e : k ≡ m = omega (arith, u, v) in
+foremost-unique : (ds : List Due) (k i m j : ℕ) → Foremost ds k i → Foremost ds m j → (k ≡ m) × (i ≡ j)
+unfolding Foremost
+foremost-unique ds k i m j p q =
+    let u : turn k < turn m → ⊥ = λ h. not-least (placesOf ds k) i (p .0) (q .1 k h) in
+    let v : turn m < turn k → ⊥ = λ h. not-least (placesOf ds m) j (q .0) (p .1 m h) in
+    let t : turn k ≡ turn m = omega (arith, u, v) in
+    let e : k ≡ m = same-turn k m t in
     (e, least-unique (placesOf ds m) i j (subst (λ x. Least (placesOf ds x) i) e (p .0)) (q .0))
 
-lowest-given : (s : List ℕ) (k i : ℕ) → Lowest (dues s) k i → outcome s ≡ refused k i
-lowest-given s k i p = go (outcome s) refl
+foremost-given : (s : List ℕ) (k i : ℕ) → Foremost (dues s) k i → outcome s ≡ refused k i
+unfolding Foremost
+foremost-given s k i p = go (outcome s) refl
   where
     go : (o : Outcome) → outcome s ≡ o → outcome s ≡ refused k i
     go (accepted l) e = absurd (not-least (placesOf (dues s) k) i (p .0) (accepted-none s l e .1 k))
     go (refused m j) e =
-        let u = lowest-unique (dues s) k i m j p (given-lowest s m j e) in
+        let u = foremost-unique (dues s) k i m j p (given-foremost s m j e) in
         let a = u .0 in
         let b = u .1 in
         cc
+
+-- of 1 to 12: tried before one of them are those below it, and 21 where it is above 10
+lowest-foremost : (ds : List Due) (k i : ℕ) → k ≤ 12 → Foremost ds k i ↔ Lowest ds k i
+unfolding Foremost
+lowest-foremost ds k i h = (
+  (λ p. (p .0, (λ j l. p .1 j (omega (arith, turn-of j (λ e. omega arith), own))), (λ l. p .1 21 (omega (arith, turn-late, own))))),
+  (λ p. (p .0, λ j l. by-test (eqb j 21) (λ e. let z = eqb-true j 21 e in rw z (p .2 (omega (arith, ap turn z, turn-late, own)))) (λ e. p .1 j (omega (arith, turn-of j (eqb-false j 21 e), own))))),
+)
+  where
+    own : turn k ≡ 2 * k
+    own = turn-of k (λ e. omega arith)
 
 none-accepted : (s : List ℕ) (l : Line ℕ) → KeptOf s l × ((k : ℕ) → placesOf (dues s) k ≡ []) → outcome s ≡ accepted l
 none-accepted s l p = go (outcome s) refl
@@ -255,10 +303,15 @@ none-accepted s l p = go (outcome s) refl
         let f : holds (a .0) ≡ holds (b .0) = sym (a .1) ∙ b .1 in
         let g : a .0 ≡ b .0 = cc in
         e ∙ ap accepted (a .2 ∙ ap kept g ∙ sym (b .2))
-    go (refused m j) e = absurd (not-least (placesOf (dues s) m) j (given-lowest s m j e .0) (p .1 m))
+    go (refused m j) e = absurd (not-least (placesOf (dues s) m) j (given-least s m j e) (p .1 m))
 
-pub refused-law : (s : List ℕ) (k i : ℕ) → outcome s ≡ refused k i ↔ Lowest (dues s) k i
-refused-law s k i = (given-lowest s k i, lowest-given s k i)
+pub refused-law : (s : List ℕ) (k i : ℕ) → outcome s ≡ refused k i ↔ First (dues s) k i
+refused-law s k i = (given-first s k i, λ f. outcome-dues s ∙ first-due (dues s) (last (reading s)) k i f)
+
+pub lowest-law : (s : List ℕ) (k i : ℕ) → k ≤ 12 → outcome s ≡ refused k i ↔ Lowest (dues s) k i
+lowest-law s k i h =
+    let w = lowest-foremost (dues s) k i h in
+    ((λ e. w .0 (given-foremost s k i e)), (λ p. foremost-given s k i (w .1 p)))
 
 pub accepted-law : (s : List ℕ) (l : Line ℕ) → outcome s ≡ accepted l ↔ (KeptOf s l × ((k : ℕ) → placesOf (dues s) k ≡ []))
 accepted-law s l = (accepted-none s l, none-accepted s l)

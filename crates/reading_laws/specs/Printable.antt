@@ -1,5 +1,5 @@
 -- A line of the order has no byte outside 32 to 126: with such a byte no line goes on.
-use Prim.Native.Nat.{ℕ, _+_, _≤_}
+use Prim.Native.Nat.{ℕ, _+_, _-_, _≤_}
 use native.Mathlib.Omega.{arith}
 use mathlib.Core.Path.{_≡_, refl, sym, ap, _∙_, subst}
 use mathlib.Core.Bool.{Bool, true, false, not, cond, _&&_, _||_, false≢true}
@@ -10,17 +10,19 @@ use lib.ListN.{length}
 use borrow.Author.Tests.{le-leb, leb-true, eqb-true}
 use Rattle.scope.specs.declared.grammar.Mode.{Mode}
 use Rattle.scope.specs.declared.grammar.Act.the-variants.{Stop}
-use Rattle.scope.specs.Bytes.{isPrintable, isLetter, isDigit, isAlnum, isSign, isOpening, isShutting, bar, hash, colon, dot}
+use Rattle.scope.specs.Bytes.{upper, isPrintable, isLetter, isLower, isDigit, isAlnum, isSign, isOpening, isShutting, bar, hash, colon, dot}
 use Rattle.scope.specs.Keys.{Form, massOrName, massOnly, digits, alnums, free, composed, form, hashIsPlain, accessionByte}
 use Rattle.scope.specs.Line.{Line}
 use Rattle.scope.specs.Content.{Digits, signed, whole, pointed, broken, digitStep, isPlain, textStep, Inner, Content, lost}
-use Rattle.scope.specs.Reading.{act, State, dead, outside, inside, perform, resume, step, run, start, holds, ended, reading}
+use Rattle.scope.specs.Reading.{act, Held, State, dead, outside, inside, placing, perform, resume, step, run, start, holds, ended, reading}
 use Rattle.scope.specs.Refusals.{dueAt, unprintable, refusal3}
 use Rattle.reading_laws.specs.Acts.{Sort, letter, digit, only, any, isOf, act-none}
 use Rattle.basics.specs.Tests.{both-of, neither, falsely}
 use Rattle.reading_laws.specs.Goes.{On, mass-begins, plain-begins, text-begins, refers, plain-on, plain-text, no-key, key-name, key-code, key-text, keyed-mass, keyed-text, mass-on, code-on, text-on, hash-on, label-begins, label-on, score-opens, score-sign, score-digit, score-on, score-over, Goes, stops, goes-on, part-over, shuts, goes}
+use Rattle.scope.specs.Places.{Placing}
+use Rattle.reading_laws.specs.Listed.{PlaceOn, place-begins, place-over, word-begins, word-on, PlacesGo, places-on, places-over, places-stop, places-go}
 use Rattle.reading_laws.specs.Run.{run-dead}
-use Rattle.reading_laws.specs.Reached.{Closer, square, curly, Closers, Good, GoodState, over-good, step-good}
+use Rattle.reading_laws.specs.Reached.{Closer, square, curly, Closers, Good, GoodPlacing, GoodState, over-good, step-good}
 use Rattle.reading_laws.specs.Finished.{Alive}
 
 -- ---- tests
@@ -117,7 +119,25 @@ module _ (b : ℕ) (u : isPrintable b ≡ false) where
   accession-stops free = refl
   accession-stops composed = refl
 
+  -- what is owed of a terminus is a letter, in either case
+  no-owed : (x : ℕ) → isPrintable (upper x) ≡ true → eqb (upper x) (upper b) ≡ false
+  unfolding upper
+  no-owed x p =
+      falsely (eqb (upper x) (upper b))
+      (λ e. never u (subst (λ z. isPrintable z ≡ true) (eqb-true (upper x) (upper b) e ∙ skip (b - 32) (isLower b) (no-range 97 122 (omega arith) (omega arith)) refl) p))
+
   module _ {P : Type 0} where
+    place-never : {i : P} {s t : Placing P} → PlaceOn i b s t → GoodPlacing s → ⊥
+    place-never (place-begins e) g = never no-letter e
+    place-never (place-over e) g = never (is-not 44 refl) e
+    place-never (word-begins e f) g = never (is-not 45 refl) e
+    place-never (word-on {x = x} e) g = never (no-owed x (g .0)) e
+
+    places-kill : {i : P} {h : Held P} {s : Placing P} {y : State P} → PlacesGo i b h s y → GoodPlacing s → y ≡ dead i
+    places-kill (places-on o) g = absurd (place-never o g)
+    places-kill (places-over e) g = absurd (never (is-not 62 refl) e)
+    places-kill places-stop g = refl
+
     on-never : {i : P} {s t : Inner P} → On i b s t → Good s → ⊥
     on-never (mass-begins e) g = never no-sign e
     on-never (plain-begins e) g = never no-plain e
@@ -155,12 +175,14 @@ module _ (b : ℕ) (u : isPrintable b ≡ false) where
     unprintable-kills i (dead p) g a = absurd a
     unprintable-kills i (outside m h) g a = ap (perform i b h) (act-stops m)
     unprintable-kills i (inside s at h c) g a = ap (resume s at h i) (goes-stops (goes i b c) g)
+    unprintable-kills i (placing h s) g a = places-kill (places-go i b h s) g
 
 -- ---- lines
 alive-before : (i : ℕ) (s : State ℕ) (l : List ℕ) → Alive (run (λ j. j) i s l) → Alive s
 alive-before i (dead p) l a = subst Alive (run-dead (λ j. j) i p l) a
 alive-before i (outside m h) l a = tt
 alive-before i (inside s at h c) l a = tt
+alive-before i (placing h s) l a = tt
 
 alive-printable : (i : ℕ) (s : State ℕ) (l : List ℕ) → GoodState s → Alive (run (λ j. j) i s l) → unprintable i l ≡ []
 unfolding run unprintable
@@ -182,3 +204,4 @@ order-printable s t e = alive-printable 0 start s tt (go (run (λ j. j) 0 start 
     go (dead p) f = let z : _≡_ {A = ℕ} 0 1 = cc in absurd (omega arith)
     go (outside m h) f = tt
     go (inside k at h c) f = tt
+    go (placing h x) f = tt

@@ -1,5 +1,5 @@
--- What holds of every state that is reached from the start: a bracket is closed by `]` or `}`, so is each pair in a text, and an accession stands
--- only behind a key that has one.
+-- What holds of every state that is reached from the start: a bracket is closed by `]` or `}`, so is each pair in a text, an accession stands
+-- only behind a key that has one, and what is owed of a terminus are letters.
 use Prim.Native.Nat.{ℕ}
 use mathlib.Core.Path.{_≡_, refl, sym, subst}
 use mathlib.Core.Bool.{Bool, true, false, not, _&&_, _||_}
@@ -9,16 +9,18 @@ use lib.Dec.{eqb}
 use borrow.Author.Tests.{eqb-true}
 use Rattle.scope.specs.declared.grammar.Slot.{Slot}
 use Rattle.scope.specs.declared.grammar.Act.{Act}
-use Rattle.scope.specs.declared.grammar.Act.the-variants.{Stop, Go, Residue as aResidue, Begin, Digit, RunEnds, TermEnds}
-use Rattle.scope.specs.Bytes.{isPrintable, isOpening, isShutting, closerOf, hash, colon, openSquare}
+use Rattle.scope.specs.declared.grammar.Act.the-variants.{Stop, Go, Residue as aResidue, Begin, Digit, RunEnds, TermEnds, Places}
+use Rattle.scope.specs.Bytes.{upper, isPrintable, isOpening, isShutting, closerOf, hash, colon, openSquare}
 use Rattle.scope.specs.Keys.{form, accessionByte}
-use Rattle.scope.specs.Line.{Part}
+use Rattle.scope.specs.Line.{Place, Part}
 use Rattle.scope.specs.Content.{isPlain, textStep, Context, Inner, begin, plain, keyed, inNumber, inCode, inText, hashed, inLabel, scoring, inScore, scored, Content, lost, closed, going, innerStep}
-use Rattle.scope.specs.Reading.{act, Held, State, dead, outside, inside, perform, resume, step, run}
+use Rattle.scope.specs.Reading.{act, Held, State, dead, outside, inside, placing, perform, resume, step, run}
+use Rattle.scope.specs.Places.{Placing, expected, placed, owing, owed}
 use Rattle.basics.specs.Choice.{branch}
 use Rattle.basics.specs.Each.{Each, OfGiven}
 use Rattle.reading_laws.specs.Acts.{ofSlot, act-rule}
 use Rattle.reading_laws.specs.Goes.{Valued, of-plain, of-number, of-code, of-text, Over, of-value, of-label, of-score, On, mass-begins, plain-begins, text-begins, refers, plain-on, plain-text, no-key, key-name, key-code, key-text, keyed-mass, keyed-text, mass-on, code-on, text-on, hash-on, label-begins, label-on, score-opens, score-sign, score-digit, score-on, score-over, Goes, stops, goes-on, part-over, shuts, goes}
+use Rattle.reading_laws.specs.Listed.{PlaceOn, place-begins, place-over, word-begins, word-on, PlacesGo, places-on, places-over, places-stop, places-go}
 use Rattle.reading_laws.specs.Kept.{kept}
 
 pub data Closer : ℕ → Type 0 where
@@ -41,10 +43,20 @@ Good (scoring c p at name) = Closer (c .shut)
 Good (inScore c p at name n d) = Closer (c .shut)
 Good (scored c p) = Closer (c .shut)
 
+-- in upper case, as they are compared
+abbrev pub Owed : List ℕ → Type 0
+Owed w = Each (λ x. isPrintable (upper x) ≡ true) w
+
+abbrev pub GoodPlacing : {P : Type 0} → Placing P → Type 0
+GoodPlacing (expected ps) = Unit {0}
+GoodPlacing (placed ps p) = Unit {0}
+GoodPlacing (owing ps p x w) = Owed (x ∷ w)
+
 abbrev pub GoodState : {P : Type 0} → State P → Type 0
 GoodState (dead p) = Unit {0}
 GoodState (outside m h) = Unit {0}
 GoodState (inside s at h c) = Good c
+GoodState (placing h s) = GoodPlacing s
 
 -- ---- texts
 closerOf-closer : (b : ℕ) → Closer (closerOf b)
@@ -113,6 +125,24 @@ module _ {P : Type 0} where
   goes-good (part-over o e) g = over-good o g
   goes-good (shuts o e) g = tt
 
+-- ---- places
+module _ {P : Type 0} where
+  owed-good : (ps : List (Place P)) (p : Place P) (w : List ℕ) → Owed w → GoodPlacing (owed ps p w)
+  owed-good ps p [] g = tt
+  owed-good ps p (x ∷ w) g = g
+
+  place-good : {i : P} {b : ℕ} {s t : Placing P} → PlaceOn i b s t → GoodPlacing s → GoodPlacing t
+  unfolding upper
+  place-good (place-begins e) g = tt
+  place-good (place-over e) g = tt
+  place-good (word-begins e f) g = (refl, (refl, (refl, (refl, tt))))
+  place-good (word-on {ps = ps} {p = p} {w = w} e) g = owed-good ps p w (g .1)
+
+  places-good : {i : P} {b : ℕ} {h : Held P} {s : Placing P} {x : State P} → PlacesGo i b h s x → GoodPlacing s → GoodState x
+  places-good (places-on o) g = place-good o g
+  places-good (places-over e) g = tt
+  places-good places-stop g = tt
+
 -- ---- lines
 pub closer : (n : ℕ) → isShutting n ≡ true → Closer n
 closer n e = go (eqb n 93) (eqb n 125) refl refl e
@@ -134,6 +164,7 @@ module _ {P : Type 0} where
   perform-good i b h Digit g = tt
   perform-good i b h RunEnds g = tt
   perform-good i b h TermEnds g = tt
+  perform-good i b h Places g = tt
 
   resume-good : (s : Slot) (at : P) (h : Held P) (i : P) (c : Content P) → GoodContent c → GoodState (resume s at h i c)
   unfolding resume GoodContent
@@ -146,6 +177,7 @@ module _ {P : Type 0} where
   step-good i (dead p) b g = tt
   step-good i (outside m h) b g = perform-good i b h (act m b) (act-rule (λ m. goodAct) refl m b)
   step-good i (inside s at h c) b g = resume-good s at h i (innerStep i c b) (goes-good (goes i b c) g)
+  step-good i (placing h s) b g = places-good (places-go i b h s) g
 
   pub run-good : (note : ℕ → P) (i : ℕ) (s : State P) (l : List ℕ) → GoodState s → GoodState (run note i s l)
   run-good note = kept note GoodState step-good

@@ -10,7 +10,7 @@ use mathlib.Core.List.{List, [], _∷_, _++_}
 use lib.ListN.{length, drop, getD, drop-of-length-le}
 use lib.Seq.{drop-cons}
 use Rattle.scope.specs.Line.{Line}
-use Rattle.scope.specs.Reading.{mayEnd, State, dead, outside, inside, step, run, start, Reading, stuck, holds, lineOf, ended, reading}
+use Rattle.scope.specs.Reading.{mayEnd, State, dead, outside, inside, placing, step, run, start, Reading, stuck, holds, lineOf, ended, reading}
 use Rattle.scope.specs.Tables.{Tables, tablesOf}
 use Rattle.scope.specs.Lists.{optional}
 use Rattle.reading_laws.specs.Places.{mapHeld, mapState, step-map, tables-map}
@@ -78,6 +78,7 @@ abbrev pub told : {P : Type 0} → State P → Option (Line P)
 told (dead p) = none
 told (outside m h) = cond (mayEnd m) (some (lineOf h)) none
 told (inside s at h c) = none
+told (placing h s) = none
 
 told-ended : (n : ℕ) (s : State ℕ) → tablesRead (ended n s) ≡ optional tablesOf (told (mapState unnoted s))
 told-ended n (dead p) = refl
@@ -87,6 +88,7 @@ told-ended n (outside m h) = go (mayEnd m)
     go true = ap some (sym (tables-map unnoted (lineOf h)))
     go false = refl
 told-ended n (inside s at h c) = refl
+told-ended n (placing h s) = refl
 
 pub tables-run : (l : List ℕ) → tablesRead (reading l) ≡ optional tablesOf (told (run unnoted 0 start l))
 unfolding reading

@@ -10,11 +10,13 @@ use lib.Seq.{take-at, take-add, take-length}
 use Rattle.scope.specs.declared.grammar.Mode.{Mode}
 use Rattle.scope.specs.declared.grammar.Slot.{Slot}
 use Rattle.scope.specs.declared.grammar.Act.{Act}
-use Rattle.scope.specs.declared.grammar.Act.the-variants.{Stop, Go, Residue as aResidue, Begin, Digit, RunEnds, TermEnds}
+use Rattle.scope.specs.declared.grammar.Act.the-variants.{Stop, Go, Residue as aResidue, Begin, Digit, RunEnds, TermEnds, Places}
 use Rattle.scope.specs.Line.{Line}
 use Rattle.scope.specs.Content.{Content, lost, closed, going, innerStep}
-use Rattle.scope.specs.Reading.{act, mayEnd, Held, State, dead, outside, inside, perform, resume, step, run, start, Reading, stuck, holds, lineOf, ended, reading}
+use Rattle.scope.specs.Reading.{act, mayEnd, Held, State, dead, outside, inside, placing, perform, resume, step, run, start, Reading, stuck, holds, lineOf, ended, reading}
 use Rattle.reading_laws.specs.Laws.{Refused4}
+use Rattle.scope.specs.Places.{Placing}
+use Rattle.reading_laws.specs.Listed.{PlacesGo, places-on, places-over, places-stop, places-go}
 use Rattle.reading_laws.specs.Run.{run-append, run-dead}
 use Rattle.reading_laws.specs.Reached.{run-good}
 use Rattle.reading_laws.specs.Finished.{Alive, Finished, finished}
@@ -29,6 +31,7 @@ perform-dead i b h (Begin s) p e = let z : _≡_ {A = ℕ} 0 1 = cc in absurd (o
 perform-dead i b h Digit p e = let z : _≡_ {A = ℕ} 0 1 = cc in absurd (omega arith)
 perform-dead i b h RunEnds p e = let z : _≡_ {A = ℕ} 0 1 = cc in absurd (omega arith)
 perform-dead i b h TermEnds p e = let z : _≡_ {A = ℕ} 0 1 = cc in absurd (omega arith)
+perform-dead i b h Places p e = let z : _≡_ {A = ℕ} 0 1 = cc in absurd (omega arith)
 
 resume-dead : (s : Slot) (at : ℕ) (h : Held ℕ) (i : ℕ) (c : Content ℕ) (p : ℕ) → resume s at h i c ≡ dead p → p ≡ i
 unfolding resume
@@ -36,11 +39,17 @@ resume-dead s at h i lost p e = cc
 resume-dead s at h i (closed ps) p e = let z : _≡_ {A = ℕ} 0 1 = cc in absurd (omega arith)
 resume-dead s at h i (going c) p e = let z : _≡_ {A = ℕ} 0 1 = cc in absurd (omega arith)
 
+places-dead : {i b : ℕ} {h : Held ℕ} {s : Placing ℕ} {x : State ℕ} → PlacesGo i b h s x → (p : ℕ) → x ≡ dead p → p ≡ i
+places-dead (places-on o) p e = let z : _≡_ {A = ℕ} 0 1 = cc in absurd (omega arith)
+places-dead (places-over f) p e = let z : _≡_ {A = ℕ} 0 1 = cc in absurd (omega arith)
+places-dead places-stop p e = cc
+
 step-dead : (i : ℕ) (s : State ℕ) (b p : ℕ) → Alive s → step i s b ≡ dead p → p ≡ i
 unfolding step
 step-dead i (dead q) b p a e = absurd a
 step-dead i (outside m h) b p a e = perform-dead i b h (act m b) p e
 step-dead i (inside s at h c) b p a e = resume-dead s at h i (innerStep i c b) p e
+step-dead i (placing h s) b p a e = places-dead (places-go i b h s) p e
 
 -- a list of bytes up to the one that kills
 pub record Killed (i : ℕ) (s : State ℕ) (l : List ℕ) (p : ℕ) : Type 0 where
@@ -84,6 +93,7 @@ killed i s (b ∷ l) p a e = go (step i s b) refl e (λ x. killed (i + 1) x l p)
     go (dead q) f r ih = killed-now i s b l p q a f r
     go (outside m h) f r ih = killed-later i s (outside m h) b l p f (ih (outside m h) tt r)
     go (inside k at h c) f r ih = killed-later i s (inside k at h c) b l p f (ih (inside k at h c) tt r)
+    go (placing h x) f r ih = killed-later i s (placing h x) b l p f (ih (placing h x) tt r)
 
 -- ---- lines of the order
 -- a line of the order begins with bytes after which the reader is alive
@@ -151,6 +161,9 @@ stuck-refused s i e = go (run (λ j. j) 0 start s) refl
         let g : ended (length s) (outside m h) ≡ stuck i = rw f at e in
         at-end i e (ending m h (mayEnd m) g) (rw f tt)
     go (inside k at h c) f =
+        let g : stuck (length s) ≡ stuck i = rw f at e in
+        at-end i e (cc) (rw f tt)
+    go (placing h x) f =
         let g : stuck (length s) ≡ stuck i = rw f at e in
         at-end i e (cc) (rw f tt)
 

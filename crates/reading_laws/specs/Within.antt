@@ -12,17 +12,19 @@ use Rattle.scope.specs.declared.grammar.Key.the-variants.{NoKey}
 use Rattle.scope.specs.declared.grammar.Kind.{Kind}
 use Rattle.scope.specs.declared.grammar.Slot.{Slot}
 use Rattle.scope.specs.declared.grammar.Act.{Act}
-use Rattle.scope.specs.declared.grammar.Act.the-variants.{Stop, Go, Residue as aResidue, Begin, Digit, RunEnds, TermEnds}
-use Rattle.scope.specs.Bytes.{sameFolded, colon, value}
+use Rattle.scope.specs.declared.grammar.Act.the-variants.{Stop, Go, Residue as aResidue, Begin, Digit, RunEnds, TermEnds, Places}
+use Rattle.scope.specs.Bytes.{bytes, sameFolded, colon, value}
 use Rattle.scope.specs.Keys.{spell, keys, keyAmong, keyOf, written}
-use Rattle.scope.specs.Line.{Number, Label, Value, mass, text, reference, composition, Part, Bracket, Residue, Line}
+use Rattle.scope.specs.Line.{Number, Label, Value, mass, text, reference, composition, Place, Part, Bracket, Residue, Line}
 use Rattle.scope.specs.Lists.{given}
 use Rattle.scope.specs.Content.{Digits, signed, whole, pointed, broken, numberEnd, Context, Inner, begin, plain, keyed, inNumber, inCode, inText, hashed, inLabel, scoring, inScore, scored, Content, lost, closed, going, unlabelled, labelled, innerStep}
-use Rattle.scope.specs.Reading.{act, Held, withResidue, bracketOf, put, countDigit, asNTerm, settledRun, State, dead, outside, inside, perform, resume, step, run, holds, reading}
+use Rattle.scope.specs.Reading.{act, Held, withResidue, bracketOf, put, countDigit, asNTerm, settledRun, declaredAt, withPlaces, State, dead, outside, inside, placing, perform, resume, step, run, holds, reading}
 use Rattle.scope.specs.Refusals.{textOf}
+use Rattle.scope.specs.Places.{Placing, expected, placed, owing, owed}
 use Rattle.basics.specs.Choice.{onGiven}
 use Rattle.basics.specs.Each.{Each, OfGiven, each-append, each-through, each-all, each-last}
 use Rattle.reading_laws.specs.Goes.{Valued, of-plain, of-number, of-code, of-text, Over, of-value, of-label, of-score, On, mass-begins, plain-begins, text-begins, refers, plain-on, plain-text, no-key, key-name, key-code, key-text, keyed-mass, keyed-text, mass-on, code-on, text-on, hash-on, label-begins, label-on, score-opens, score-sign, score-digit, score-on, score-over, Goes, stops, goes-on, part-over, shuts, goes}
+use Rattle.reading_laws.specs.Listed.{PlaceOn, place-begins, place-over, word-begins, word-on, PlacesGo, places-on, places-over, places-stop, places-go}
 use Rattle.reading_laws.specs.Kept.{reading-whole-from, put-by}
 use Rattle.basics.specs.Lists.{folded-length}
 
@@ -47,10 +49,14 @@ module _ (n : ℕ) where
     pub value : WithinValue (p .value)
     pub label : OfGiven WithinLabel (p .label)
 
+  abbrev pub WithinPlace : Place ℕ → Type 0
+  WithinPlace p = p .at < n
+
   pub record WithinBracket (k : Bracket ℕ) : Type 0 where
     pub at : k .at < n
     pub counted : OfGiven (λ p. p < n) (k .counted)
     pub parts : Each WithinPart (k .parts)
+    pub places : Each WithinPlace (k .places)
 
   abbrev pub WithinResidue : Residue ℕ → Type 0
   WithinResidue r = r .at < n
@@ -87,10 +93,16 @@ module _ (n : ℕ) where
   WithinContent i (closed ps) = Each WithinPart ps
   WithinContent i (going c) = WithinInner i c
 
+  WithinPlacing : Placing ℕ → Type 0
+  WithinPlacing (expected ps) = Each WithinPlace ps
+  WithinPlacing (placed ps p) = Each WithinPlace ps × WithinPlace p
+  WithinPlacing (owing ps p x w) = Each WithinPlace ps × WithinPlace p
+
   WithinState : ℕ → State ℕ → Type 0
   WithinState i (dead p) = Unit {0}
   WithinState i (outside m h) = WithinHeld h
   WithinState i (inside s at h c) = WithinHeld h × (at < n) × WithinInner i c
+  WithinState i (placing h s) = WithinHeld h × WithinPlacing s
 
 -- ---- keys: as many bytes as the plain bytes that named them, and the colon
 Spelled : Key → Type 0
@@ -215,8 +227,8 @@ module _ (n i : ℕ) (h : i < n) where
   countDigit-within : (b : ℕ) (k : Bracket ℕ) → WithinBracket n k → WithinBracket n (countDigit i b k)
   countDigit-within b k w =
       onGiven (WithinBracket n) (k .counted)
-      (λ p e. record { at = w .at; counted = subst (OfGiven (λ x. x < n)) e (w .counted); parts = w .parts })
-      (record { at = w .at; counted = h; parts = w .parts })
+      (λ p e. record { at = w .at; counted = subst (OfGiven (λ x. x < n)) e (w .counted); parts = w .parts; places = w .places })
+      (record { at = w .at; counted = h; parts = w .parts; places = w .places })
 
   settledRun-within : (f : Bracket ℕ → Bracket ℕ) → ((k : Bracket ℕ) → WithinBracket n k → WithinBracket n (f k)) → (r : Held ℕ) → WithinHeld n r
       → WithinHeld n (settledRun f r)
@@ -228,7 +240,7 @@ module _ (n i : ℕ) (h : i < n) where
       }
 
   perform-within : (b : ℕ) (r : Held ℕ) (a : Act) → WithinHeld n r → WithinState n (i + 1) (perform i b r a)
-  unfolding perform WithinState WithinInner
+  unfolding perform WithinState WithinInner WithinPlacing
   perform-within b r Stop g = tt
   perform-within b r (Go m) g = g
   perform-within b r (aResidue s m) g = withResidue-within b s r g
@@ -241,21 +253,50 @@ module _ (n i : ℕ) (h : i < n) where
       }
   perform-within b r RunEnds g = settledRun-within (λ k. k) (λ k w. w) r g
   perform-within b r TermEnds g =
-      settledRun-within asNTerm (λ k w. record { at = w .at; counted = w .counted; parts = w .parts }) r g
+      settledRun-within asNTerm (λ k w. record { at = w .at; counted = w .counted; parts = w .parts; places = w .places }) r g
+  perform-within b r Places g = (g, tt)
 
   resume-within : (s : Slot) (at : ℕ) (r : Held ℕ) (c : Content ℕ) → WithinHeld n r → at < n → WithinContent n (i + 1) c
       → WithinState n (i + 1) (resume s at r i c)
   unfolding resume WithinState WithinContent
   resume-within s at r lost g q w = tt
   resume-within s at r (closed ps) g q w =
-      put-within (s .kind) (bracketOf (s .kind) at ps r) r (record { at = q; counted = tt; parts = w }) g
+      put-within (s .kind) (bracketOf (s .kind) at ps r) r (record { at = q; counted = tt; parts = w; places = tt }) g
   resume-within s at r (going c) g q w = (g, q, w)
+
+  -- the places of a declaration
+  owed-within : (ps : List (Place ℕ)) (p : Place ℕ) (w : List ℕ) → Each (WithinPlace n) ps → WithinPlace n p → WithinPlacing n (owed ps p w)
+  unfolding WithinPlacing
+  owed-within ps p [] g q = (g, q)
+  owed-within ps p (x ∷ w) g q = (g, q)
+
+  place-within : {b : ℕ} {s t : Placing ℕ} → PlaceOn i b s t → WithinPlacing n s → WithinPlacing n t
+  unfolding WithinPlacing
+  place-within (place-begins e) g = (g, h)
+  place-within (place-over {ps = ps} {p = p} e) g = each-append (WithinPlace n) ps (p ∷ []) (g .0) (g .1, tt)
+  place-within (word-begins {ps = ps} {p = p} {s = s} e f) g = owed-within ps (record { site = s; at = p .at }) (bytes "term") (g .0) (g .1)
+  place-within (word-on {ps = ps} {p = p} {w = w} e) g = owed-within ps p w (g .0) (g .1)
+
+  withPlaces-within : (ps : List (Place ℕ)) (r : Held ℕ) → Each (WithinPlace n) ps → WithinHeld n r → WithinHeld n (withPlaces ps r)
+  withPlaces-within ps r w g =
+      record {
+        residues = g .residues;
+        brackets = each-last (WithinBracket n) (declaredAt ps) (λ k v. record { at = v .at; counted = v .counted; parts = v .parts; places = w }) (r .brackets) (g .brackets);
+        run = g .run;
+      }
+
+  places-within : {b : ℕ} {r : Held ℕ} {s : Placing ℕ} {x : State ℕ} → PlacesGo i b r s x → WithinHeld n r → WithinPlacing n s → WithinState n (i + 1) x
+  unfolding WithinState WithinPlacing
+  places-within (places-on o) g w = (g, place-within o w)
+  places-within {r = r} (places-over {ps = ps} {p = p} e) g w = withPlaces-within (ps ++ (p ∷ [])) r (each-append (WithinPlace n) ps (p ∷ []) (w .0) (w .1, tt)) g
+  places-within places-stop g w = tt
 
   step-within : (s : State ℕ) (b : ℕ) → WithinState n i s → WithinState n (i + 1) (step i s b)
   unfolding step WithinState
   step-within (dead p) b g = tt
   step-within (outside m r) b g = perform-within b r (act m b) g
   step-within (inside s at r c) b g = resume-within s at r (innerStep i c b) (g .0) (g .1) (goes-within (goes i b c) (g .2))
+  step-within (placing r s) b g = places-within (places-go i b r s) (g .0) (g .1)
 
 -- a line of the order holds places inside it
 pub reading-within : (s : List ℕ) (l : Line ℕ) → reading s ≡ holds l → WithinLine (length s) l

@@ -62,6 +62,18 @@ dash = 45
 abbrev pub dot : ℕ
 dot = 46
 
+abbrev pub comma : ℕ
+comma = 44
+
+abbrev pub openAngle : ℕ
+openAngle = 60
+
+abbrev pub shutAngle : ℕ
+shutAngle = 62
+
+abbrev pub atSign : ℕ
+atSign = 64
+
 -- "a byte outside 32 to 126" is no byte of a line
 abbrev pub isPrintable : ℕ → Bool
 isPrintable b = leb 32 b && leb b 126

@@ -8,12 +8,13 @@ use lib.ListN.{length}
 use Rattle.scope.specs.declared.grammar.Section.{Section}
 use Rattle.scope.specs.declared.grammar.Section.the-variants.{Plain, RangeFirst, RangeNext, UnsureFirst, UnsureNext}
 use Rattle.scope.specs.declared.grammar.Kind.{Kind}
-use Rattle.scope.specs.declared.grammar.Kind.the-variants.{Unknown, Labile, NTerm, OnResidue, OnRange, CTerm}
+use Rattle.scope.specs.declared.grammar.Kind.the-variants.{Unknown, Labile, NTerm, OnResidue, OnRange, CTerm, Declared}
 use Rattle.scope.specs.Kinds.{isKind}
-use Rattle.scope.specs.Bytes.{openSquare, shutSquare, openCurly, shutCurly, openRound, shutRound, bar, hash, caret, question, plus, dash, dot}
+use Rattle.scope.specs.Bytes.{openSquare, shutSquare, openCurly, shutCurly, openRound, shutRound, bar, hash, openAngle, shutAngle, atSign, caret, question, plus, dash, dot}
 use Rattle.scope.specs.Line.{Number, Label, Value, mass, text, reference, composition, Part, Bracket, Residue, Line}
 use Rattle.scope.specs.Keys.{written}
 use Rattle.scope.specs.Lists.{given, keep, flat}
+use Rattle.scope.specs.Places.{placesText}
 
 -- ---- numbers
 
@@ -69,6 +70,10 @@ squareText k = openSquare ∷ (partsText (k .parts) ++ (shutSquare ∷ []))
 
 abbrev pub curlyText : {P : Type 0} → Bracket P → List ℕ
 curlyText k = openCurly ∷ (partsText (k .parts) ++ (shutCurly ∷ []))
+
+-- `<[mod]@K,N-term>` (02, L2)
+abbrev pub declaredText : {P : Type 0} → Bracket P → List ℕ
+declaredText k = openAngle ∷ (squareText k ++ (atSign ∷ (placesText (k .places) ++ (shutAngle ∷ []))))
 
 -- `^1` is not written
 abbrev pub countText : ℕ → List ℕ
@@ -139,5 +144,6 @@ chainText ks p rs =
     ++ (sequenceText ks (p + 1) rs
     ++ ledBy dash (flat squareText (endingAt CTerm (p + 1 + length rs) ks)))))
 
+-- declarations stand "at the front" (02, L2)
 unfoldable pub canonical : {P : Type 0} → Line P → List ℕ
-canonical l = chainText (l .brackets) 0 (l .residues)
+canonical l = flat declaredText (endingAt Declared 0 (l .brackets)) ++ chainText (l .brackets) 0 (l .residues)

@@ -1,6 +1,6 @@
 -- "What a line may hold": the grammar of lines, apart from any reader. Trees with every freedom of spelling; the bytes that a tree prints; whether it
--- is good; and what it means. Each `means..` takes the place at which its text begins, and so gives every residue, bracket, part, label, number and
--- count its place: the number of bytes that are printed before it.
+-- is good; and what it means. Each `means..` takes the place at which its text begins, and so gives every residue, bracket, part, label, number,
+-- count and target of a declaration its place: the number of bytes that are printed before it.
 use Prim.Native.Nat.{ℕ, _+_, _*_}
 use mathlib.Core.Bool.{Bool, true, false, not, cond, _&&_, _||_}
 use mathlib.Core.Option.{Option, none, some}
@@ -12,10 +12,11 @@ use Rattle.scope.specs.declared.grammar.Key.the-variants.{NoKey}
 use Rattle.scope.specs.declared.grammar.Section.{Section}
 use Rattle.scope.specs.declared.grammar.Section.the-variants.{Plain, RangeFirst, RangeNext, UnsureFirst, UnsureNext}
 use Rattle.scope.specs.declared.grammar.Kind.{Kind}
-use Rattle.scope.specs.declared.grammar.Kind.the-variants.{Unknown, Labile, NTerm, OnResidue, OnRange, CTerm}
+use Rattle.scope.specs.declared.grammar.Kind.the-variants.{Unknown, Labile, NTerm, OnResidue, OnRange, CTerm, Declared}
 use Rattle.scope.specs.Lists.{there?, none?, all, flat}
-use Rattle.scope.specs.Bytes.{upper, value, isLetter, caret, question, isPrintable, isDigit, isAlnum, isSign, isOpening, isShutting, shutSquare, openSquare, shutCurly, openCurly, bar, hash, colon, plus, dash, dot, openRound, shutRound, sameFolded}
-use Rattle.scope.specs.Line.{Number, Label, Value, mass, text, reference, Part, Bracket, Residue, Line}
+use Rattle.scope.specs.Bytes.{upper, value, isLetter, caret, question, isPrintable, isDigit, isAlnum, isSign, isOpening, isShutting, shutSquare, openSquare, shutCurly, openCurly, bar, hash, colon, plus, dash, dot, openRound, shutRound, openAngle, shutAngle, atSign, comma, sameFolded}
+use Rattle.scope.specs.Line.{Number, Label, Value, mass, text, reference, Place, Part, Bracket, Residue, Line}
+use Rattle.scope.specs.Places.{isTerminus, siteText}
 use Rattle.scope.specs.Keys.{spell, keyOf, Form, massOrName, massOnly, digits, alnums, free, composed, form, accessionByte}
 
 -- ---- lists of bytes
@@ -300,10 +301,66 @@ goodCurlies xs = all (goodInside false false) xs
 
 -- a bracket on the positions first to last; its `[` or `{` is at the place i
 abbrev pub bracketAt : Kind → ℕ → ℕ → ℕ → Inside → Bracket ℕ
-bracketAt k first last i x = record { kind = k; first = first; last = last; count = 1; counted = none; parts = meansInside (i + 1) x; at = i }
+bracketAt k first last i x = record { kind = k; first = first; last = last; count = 1; counted = none; parts = meansInside (i + 1) x; places = []; at = i }
 
 abbrev pub meansSquares : Kind → ℕ → ℕ → ℕ → List Inside → List (Bracket ℕ)
 meansSquares k first last i xs = along printSquare (bracketAt k first last) i xs
+
+-- ---- "`<[mod]@K,N-term>` at the front, .. a place being a letter, `N-term` or `C-term`" (02, L2): a letter in either case; a terminus, and its word in
+-- either case
+pub data Target : Type 0 where
+  aLetter : ℕ → Target
+  aTerminus : ℕ → List ℕ → Target
+
+abbrev pub printTarget : Target → List ℕ
+printTarget (aLetter b) = b ∷ []
+printTarget (aTerminus s w) = w
+
+abbrev pub goodTarget : Target → Bool
+goodTarget (aLetter b) = isLetter b
+goodTarget (aTerminus s w) = isTerminus s && sameFolded (siteText s) w
+
+abbrev pub siteOf : Target → ℕ
+siteOf (aLetter b) = upper b
+siteOf (aTerminus s w) = s
+
+abbrev pub meansTarget : ℕ → Target → Place ℕ
+meansTarget i x = record { site = siteOf x; at = i }
+
+-- one or more, split by commas
+unfoldable pub printTargets : Target → List Target → List ℕ
+printTargets x [] = printTarget x
+printTargets x (y ∷ xs) = printTarget x ++ (comma ∷ printTargets y xs)
+
+unfoldable pub meansTargets : ℕ → Target → List Target → List (Place ℕ)
+meansTargets i x [] = meansTarget i x ∷ []
+meansTargets i x (y ∷ xs) = meansTarget i x ∷ meansTargets (i + length (printTarget x) + 1) y xs
+
+pub record Declaration : Type 0 where
+  pub inside : Inside
+  pub first : Target
+  pub more : List Target
+
+abbrev pub printDeclaration : Declaration → List ℕ
+printDeclaration d = openAngle ∷ (printSquare (d .inside) ++ (atSign ∷ (printTargets (d .first) (d .more) ++ (shutAngle ∷ []))))
+
+-- "Their brackets carry no label"
+abbrev pub goodDeclaration : Declaration → Bool
+goodDeclaration d = goodInside false false (d .inside) && all goodTarget (d .first ∷ d .more)
+
+-- its `<` is at the place i, its bracket behind that, its places behind `@`
+abbrev pub meansDeclaration : ℕ → Declaration → Bracket ℕ
+meansDeclaration i d =
+    record {
+      kind = Declared;
+      first = 0;
+      last = 0;
+      count = 1;
+      counted = none;
+      parts = meansInside (i + 1 + 1) (d .inside);
+      places = meansTargets (i + 1 + length (printSquare (d .inside)) + 1) (d .first) (d .more);
+      at = i + 1;
+    }
 
 -- ---- "runs of unknown-position brackets, each run closed by `?`, each bracket perhaps with `^` and a count"
 pub record Marked : Type 0 where
@@ -328,7 +385,7 @@ goodMarked m = goodInside false true (m .inside) && goodCount (m .count)
 abbrev pub counting : ℕ → Option (List ℕ) → Bracket ℕ → Bracket ℕ
 counting i none k = k
 counting i (some ds) k =
-    record { kind = k .kind; first = k .first; last = k .last; count = valueOn 0 ds; counted = some (i + 1); parts = k .parts; at = k .at }
+    record { kind = k .kind; first = k .first; last = k .last; count = valueOn 0 ds; counted = some (i + 1); parts = k .parts; places = k .places; at = k .at }
 
 abbrev pub meansMarked : ℕ → Marked → Bracket ℕ
 meansMarked i m = counting (i + length (printSquare (m .inside))) (m .count) (bracketAt Unknown 0 0 i (m .inside))
@@ -408,9 +465,10 @@ unfoldable pub bracketsAlong : ℕ → ℕ → List Element → List (Bracket �
 bracketsAlong n i [] = []
 bracketsAlong n i (e ∷ es) = bracketsIn n i e ++ bracketsAlong (n + length (residuesIn i e)) (i + length (printElement e)) es
 
--- ---- "A line has this order: runs of unknown-position brackets ..; labile `{..}`; N-terminal brackets and `-`; the sequence; `-` and C-terminal
+-- ---- declarations at the front; then "A line has this order: runs of unknown-position brackets ..; labile `{..}`; N-terminal brackets and `-`; the sequence; `-` and C-terminal
 -- brackets. All but the sequence may be missing."
 pub record Spelling : Type 0 where
+  pub declarations : List Declaration
   pub runs : List Run
   pub labiles : List Inside
   pub front : List Inside
@@ -430,14 +488,21 @@ printBack [] = []
 printBack (x ∷ xs) = dash ∷ printSquares (x ∷ xs)
 
 abbrev pub print : Spelling → List ℕ
-print t = flat printRun (t .runs) ++ (flat printCurly (t .labiles) ++ (printFront (t .front) ++ (flat printElement (elements t) ++ printBack (t .back))))
+print t =
+    flat printDeclaration (t .declarations)
+    ++ (flat printRun (t .runs) ++ (flat printCurly (t .labiles) ++ (printFront (t .front) ++ (flat printElement (elements t) ++ printBack (t .back)))))
 
 abbrev pub good : Spelling → Bool
-good t = all goodRun (t .runs) && (goodCurlies (t .labiles) && (goodSquares true (t .front) && (all goodElement (elements t) && goodSquares true (t .back))))
+good t =
+    all goodDeclaration (t .declarations)
+    && (all goodRun (t .runs) && (goodCurlies (t .labiles) && (goodSquares true (t .front) && (all goodElement (elements t) && goodSquares true (t .back)))))
 
--- of a line that begins at the place i: where its labile brackets, its N-terminal ones, its sequence, and what stands behind it begin
+-- of a line that begins at the place i: where its runs, its labile brackets, its N-terminal ones, its sequence, and what stands behind it begin
+abbrev pub atRuns : ℕ → Spelling → ℕ
+atRuns i t = i + length (flat printDeclaration (t .declarations))
+
 abbrev pub atLabiles : ℕ → Spelling → ℕ
-atLabiles i t = i + length (flat printRun (t .runs))
+atLabiles i t = atRuns i t + length (flat printRun (t .runs))
 
 abbrev pub atFront : ℕ → Spelling → ℕ
 atFront i t = atLabiles i t + length (flat printCurly (t .labiles))
@@ -460,10 +525,11 @@ meansAt i t =
     record {
       residues = residuesOf i t;
       brackets =
-          eachAlong printRun meansRun i (t .runs)
+          along printDeclaration meansDeclaration i (t .declarations)
+          ++ (eachAlong printRun meansRun (atRuns i t) (t .runs)
           ++ (along printCurly (bracketAt Labile 0 0) (atLabiles i t) (t .labiles)
           ++ (meansSquares NTerm 0 0 (atFront i t) (t .front)
-          ++ (bracketsAlong 0 (atSequence i t) (elements t) ++ backOf i t)));
+          ++ (bracketsAlong 0 (atSequence i t) (elements t) ++ backOf i t))));
     }
 
 -- what a line means by itself

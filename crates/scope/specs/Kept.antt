@@ -36,6 +36,7 @@ keptBracket k =
       count = k .count;
       counted = k .counted;
       parts = map keptPart (k .parts);
+      places = k .places;
       at = k .at;
     }
 

@@ -10,8 +10,8 @@ use Rattle.scope.specs.declared.grammar.Section.{Section}
 use Rattle.scope.specs.declared.grammar.Section.the-variants.{Plain, RangeFirst, RangeNext, UnsureFirst, UnsureNext}
 use Rattle.scope.specs.Bytes.{byteLimit}
 use Rattle.scope.specs.Lists.{given, flat, part, tabled, padded}
-use Rattle.scope.specs.Limits.{lineLimit, residueLimit, bracketLimit, partLimit, decimalLimit}
-use Rattle.scope.specs.Line.{Number, Label, Value, mass, text, reference, composition, Part, Bracket, Residue, Line}
+use Rattle.scope.specs.Limits.{lineLimit, residueLimit, bracketLimit, partLimit, placeLimit, decimalLimit}
+use Rattle.scope.specs.Line.{Number, Label, Value, mass, text, reference, composition, Place, Part, Bracket, Residue, Line}
 use Rattle.scope.specs.Keys.{keyCode, keyIn}
 use Rattle.scope.specs.Kinds.{kindCode, kindIn}
 use Rattle.scope.specs.Refusals.{textOf}
@@ -22,12 +22,16 @@ use Rattle.scope.specs.Tables.{Tables, millionths, labelOf, scoreOf}
 abbrev pub partSize : ℕ
 partSize = 7
 
--- a bracket's row: kind, first and last position in two bytes each, count, number of parts, score; then its parts
+-- a bracket's row: kind, first and last position in two bytes each, count, number of parts, score; then its parts; then how many places it has, and a
+-- byte for each
 abbrev pub headSize : ℕ
 headSize = 8
 
+abbrev pub placesSize : ℕ
+placesSize = 1 + placeLimit
+
 abbrev pub rowSize : ℕ
-rowSize = headSize + partLimit * partSize
+rowSize = headSize + partLimit * partSize + placesSize
 
 -- where each table begins: after the numbers of residues, in two bytes, and of brackets come letters, sections, brackets and texts
 abbrev pub residuesAt : ℕ
@@ -58,7 +62,7 @@ numberRowSize = partLimit + 1
 abbrev pub numbersSize : ℕ
 numbersSize = bracketLimit * numberRowSize
 
--- where the row of bracket k begins, and its fields; that of its part j
+-- where the row of bracket k begins, and its fields; that of its part j; the number of its places, and its place j
 abbrev pub rowAt : ℕ → ℕ
 rowAt k = rowsAt + k * rowSize
 
@@ -79,6 +83,12 @@ scoreAt k = rowAt k + 7
 
 abbrev pub partAt : ℕ → ℕ → ℕ
 partAt k j = rowAt k + headSize + j * partSize
+
+abbrev pub placesAt : ℕ → ℕ
+placesAt k = partAt k partLimit
+
+abbrev pub siteAt : ℕ → ℕ → ℕ
+siteAt k j = placesAt k + 1 + j
 
 -- where its masses begin, one for each part, and its score after them
 abbrev pub massAt : ℕ → ℕ → ℕ
@@ -157,10 +167,14 @@ scoreCode (some n) = n .decimals + 1
 abbrev pub headRow : ℕ → ℕ → ℕ → ℕ → ℕ → ℕ → List ℕ
 headRow kind first last count parts score = kind ∷ (twoBytes first ++ (twoBytes last ++ (count ∷ parts ∷ score ∷ [])))
 
+-- how many places, then a byte each
+abbrev pub placesRow : {P : Type 0} → List (Place P) → List ℕ
+placesRow ps = length ps ∷ padded 0 placeLimit (map (λ p. p .site) ps)
+
 abbrev pub bracketRow : {P : Type 0} → ℕ → Bracket P → List ℕ
 bracketRow at k =
     headRow (kindCode (k .kind)) (k .first) (k .last) (k .count) (length (k .parts)) (scoreCode (scoreOf (k .parts)))
-    ++ padded 0 (partLimit * partSize) (partRows at (k .parts))
+    ++ (padded 0 (partLimit * partSize) (partRows at (k .parts)) ++ placesRow (k .places))
 
 abbrev pub bracketTexts : {P : Type 0} → Bracket P → List ℕ
 bracketTexts k = flat packed (k .parts)
@@ -244,6 +258,13 @@ labelField bs k j = byteAt bs (partAt k j + 4)
 abbrev pub offsetField : List ℕ → ℕ → ℕ → ℕ
 offsetField bs k j = wideAt bs (partAt k j + 5)
 
+-- the number of its bracket's places, and its place j
+abbrev pub placesField : List ℕ → ℕ → ℕ
+placesField bs k = byteAt bs (placesAt k)
+
+abbrev pub siteField : List ℕ → ℕ → ℕ → ℕ
+siteField bs k j = byteAt bs (siteAt k j)
+
 -- its mass, and the bracket's score
 abbrev pub massField : List ℤ → ℕ → ℕ → ℤ
 massField ns k j = getD ns (massAt k j) (pos 0)
@@ -288,6 +309,9 @@ labelIn bs ns k j =
 unfoldable pub partIn : List ℕ → List ℤ → ℕ → ℕ → Part (Unit {0})
 partIn bs ns k j = record { key = keyIn (keyField bs k j); value = valueIn bs ns k j; label = labelIn bs ns k j; at = tt }
 
+abbrev pub placeIn : List ℕ → ℕ → ℕ → Place (Unit {0})
+placeIn bs k j = record { site = siteField bs k j; at = tt }
+
 unfoldable pub bracketIn : List ℕ → List ℤ → ℕ → Bracket (Unit {0})
 bracketIn bs ns k =
     record {
@@ -297,6 +321,7 @@ bracketIn bs ns k =
       count = countField bs k;
       counted = none;
       parts = tabled (partIn bs ns k) 0 (partsField bs k);
+      places = tabled (placeIn bs k) 0 (placesField bs k);
       at = tt;
     }
 

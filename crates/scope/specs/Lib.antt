@@ -4,6 +4,7 @@ pub mod Limits
 pub mod Line
 pub mod Keys
 pub mod Kinds
+pub mod Places
 pub mod Grammar
 pub mod Content
 pub mod Reading

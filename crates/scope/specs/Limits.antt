@@ -45,6 +45,14 @@ countLimit = 99
 abbrev pub copyLimit : ℕ
 copyLimit = 8
 
+-- "up to eight declarations" (02, L2)
+abbrev pub declarationLimit : ℕ
+declarationLimit = 8
+
+-- "of up to 16 places" (02, L2)
+abbrev pub placeLimit : ℕ
+placeLimit = 16
+
 -- "one entry for each of the 256 positions": the N-terminus, the residues, the C-terminus
 abbrev pub positionLimit : ℕ
 positionLimit = residueLimit + 2

@@ -21,6 +21,11 @@ pub record Label (P : Type 0) : Type 0 where
   pub score : Option (Number P)
   pub at : P
 
+-- "a place being a letter, `N-term` or `C-term`" (02, L2): a letter in upper case, or the number of a terminus
+pub record Place (P : Type 0) : Type 0 where
+  pub site : ℕ
+  pub at : P
+
 pub data Value (P : Type 0) : Type 0 where
   mass : Number P → Value P
   text : List ℕ → Value P
@@ -34,7 +39,8 @@ pub record Part (P : Type 0) : Type 0 where
   pub label : Option (Label P)
   pub at : P
 
--- "each bracket with its kind, position or range, count, and label with its part"; `counted` is the place of a count that is written
+-- "each bracket with its kind, position or range, count, and label with its part"; `counted` is the place of a count that is written;
+-- `places` are those of a declaration
 pub record Bracket (P : Type 0) : Type 0 where
   pub kind : Kind
   pub first : ℕ
@@ -42,6 +48,7 @@ pub record Bracket (P : Type 0) : Type 0 where
   pub count : ℕ
   pub counted : Option P
   pub parts : List (Part P)
+  pub places : List (Place P)
   pub at : P
 
 -- "residues in upper case with their section"

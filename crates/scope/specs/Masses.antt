@@ -5,9 +5,10 @@ use mathlib.Core.Option.{Option, none, some}
 use mathlib.Core.List.{List, [], _∷_, map}
 use lib.Dec.{eqb}
 use lib.IntN.{ℤ, pos, _+ℤ_, _*ℤ_}
+use lib.ListN.{length}
 use lib.Ieee.{Float, binary64, div, ofInt}
 use Rattle.scope.specs.declared.grammar.Key.the-variants.{Obs}
-use Rattle.scope.specs.Kinds.{isLabile}
+use Rattle.scope.specs.Kinds.{isLabile, isDeclared}
 use Rattle.scope.specs.Limits.{positionLimit, decimalLimit}
 use Rattle.scope.specs.Line.{Value, mass, text, reference, composition, Part, Bracket, Line}
 use Rattle.scope.specs.Lists.{given, keep, tabled, member}
@@ -38,9 +39,9 @@ sum (m ∷ ms) = m +ℤ sum ms
 abbrev pub modifications : {P : Type 0} → Line P → List (Bracket P)
 modifications t = keep isModification (t .brackets)
 
--- how often a modification counts: "counts multiplied"
+-- how often a modification counts: "counts multiplied"; "one for each position reached" (02, L2)
 abbrev pub times : {P : Type 0} → Line P → Bracket P → ℕ
-times t k = k .count
+times t k = cond (isDeclared (k .kind)) (length (placedOn t k)) (k .count)
 
 abbrev pub massOr0 : {P : Type 0} → Bracket P → ℤ
 massOr0 k = given (massOf k) (λ m. m) (pos 0)

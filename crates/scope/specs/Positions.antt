@@ -4,23 +4,17 @@ use mathlib.Core.Bool.{Bool, false, not, cond, _&&_, _||_}
 use mathlib.Core.Option.{Option, none, some}
 use mathlib.Core.List.{List, [], _∷_, _++_, map}
 use lib.Dec.{eqb, leb}
-use lib.ListN.{length, take, replicate}
+use lib.ListN.{length, take, getD, replicate}
 use Rattle.scope.specs.declared.grammar.Kind.{Kind}
 use Rattle.scope.specs.declared.answers.Site.{Site}
-use Rattle.scope.specs.Kinds.{isUnknown, unknownOrLabile, onOnePosition}
+use Rattle.scope.specs.Kinds.{isUnknown, isDeclared, unknownOrLabile, onOnePosition}
 use Rattle.scope.specs.Limits.{rowLimit}
-use Rattle.scope.specs.Line.{Bracket, Line}
+use Rattle.scope.specs.Line.{Place, Bracket, Line}
 use Rattle.scope.specs.Lists.{keep, flat, shared, tabled, member}
+use Rattle.scope.specs.Places.{nTerminus, cTerminus}
 use Rattle.scope.specs.Modifications.{isModification, isLabelled, copies, definedBy, referredBy}
 
--- ---- what stands at each position: "Position 0 is the N-terminus, 1 to n the residues, n+1 the C-terminus". A residue is given by its letter, a terminus
--- by a number that is no letter's.
-abbrev pub nTerminus : ℕ
-nTerminus = 1
-
-abbrev pub cTerminus : ℕ
-cTerminus = 2
-
+-- ---- what stands at each position: "Position 0 is the N-terminus, 1 to n the residues, n+1 the C-terminus". A residue is given by its letter.
 unfoldable pub sites : {P : Type 0} → Line P → List ℕ
 sites t = nTerminus ∷ (map (λ r. r .letter) (t .residues) ++ (cTerminus ∷ []))
 
@@ -28,13 +22,21 @@ sites t = nTerminus ∷ (map (λ r. r .letter) (t .residues) ++ (cTerminus ∷ [
 abbrev pub positions : {P : Type 0} → Line P → List ℕ
 positions t = tabled (λ x. x) 0 (length (sites t))
 
+-- "matching position": one of the places names what stands there (02, L2)
+abbrev pub names : {P : Type 0} → Line P → List (Place P) → ℕ → Bool
+names t ps x = member (getD (sites t) x 0) (map (λ p. p .site) ps)
+
+-- the positions that a declaration reaches
+unfoldable pub reached : {P : Type 0} → Line P → Bracket P → List ℕ
+reached t k = keep (names t (k .places)) (positions t)
+
 -- ---- "A modification is placed when it is unlabelled and stands on a residue or terminus"
 unfoldable pub isPlaced : {P : Type 0} → Bracket P → Bool
 isPlaced k = isModification k && not (isLabelled k) && onOnePosition (k .kind)
 
--- the positions that it is placed on
+-- the positions that it is placed on; "Each matching position receives the modification as a placed one beside what it has, once per declaration" (02, L2)
 unfoldable pub placedOn : {P : Type 0} → Line P → Bracket P → List ℕ
-placedOn t k = cond (isPlaced k) (k .first ∷ []) []
+placedOn t k = cond (isDeclared (k .kind) && isModification k) (reached t k) (cond (isPlaced k) (k .first ∷ []) [])
 
 -- "A position with a placed modification is struck out"
 unfoldable pub struckOut : {P : Type 0} → Line P → List ℕ

@@ -9,16 +9,17 @@ use lib.ListN.{length}
 use Rattle.scope.specs.declared.grammar.Section.{Section}
 use Rattle.scope.specs.declared.grammar.Section.the-variants.{Plain, RangeFirst, RangeNext, UnsureFirst, UnsureNext}
 use Rattle.scope.specs.declared.grammar.Kind.{Kind}
-use Rattle.scope.specs.declared.grammar.Kind.the-variants.{Unknown, Labile, NTerm, OnResidue, OnRange, CTerm}
+use Rattle.scope.specs.declared.grammar.Kind.the-variants.{Unknown, Labile, NTerm, OnResidue, OnRange, CTerm, Declared}
 use Rattle.scope.specs.declared.grammar.Mode.{Mode}
-use Rattle.scope.specs.declared.grammar.Mode.the-variants.{Front, Runs, Undecided, Counted, Referred, Caret, Counting, Labiles, NTerms, Start, Single, Opened, UnsureOpened, InRange, InUnsure, RangeEnd, Ranged, UnsureEnd, CStart, CTerms}
+use Rattle.scope.specs.declared.grammar.Mode.the-variants.{Front, Angle, Tagged, Listed, Runs, Undecided, Counted, Referred, Caret, Counting, Labiles, NTerms, Start, Single, Opened, UnsureOpened, InRange, InUnsure, RangeEnd, Ranged, UnsureEnd, CStart, CTerms}
 use Rattle.scope.specs.declared.grammar.Slot.{Slot}
 use Rattle.scope.specs.declared.grammar.Act.{Act}
-use Rattle.scope.specs.declared.grammar.Act.the-variants.{Stop, Go, Residue as aResidue, Begin, Digit, RunEnds, TermEnds}
+use Rattle.scope.specs.declared.grammar.Act.the-variants.{Stop, Go, Residue as aResidue, Begin, Digit, RunEnds, TermEnds, Places}
 use Rattle.scope.specs.Kinds.{isKind, isUnknown, isOnRange}
-use Rattle.scope.specs.Bytes.{upper, isLetter, isDigit, openSquare, shutSquare, openCurly, shutCurly, openRound, shutRound, caret, question, dash, value}
-use Rattle.scope.specs.Line.{Part, Bracket, Residue, Line}
+use Rattle.scope.specs.Bytes.{upper, isLetter, isDigit, openSquare, shutSquare, openCurly, shutCurly, openRound, shutRound, openAngle, shutAngle, atSign, caret, question, dash, value}
+use Rattle.scope.specs.Line.{Place, Part, Bracket, Residue, Line}
 use Rattle.scope.specs.Lists.{given, onLast}
+use Rattle.scope.specs.Places.{Placing, expected, placeStep, placesEnd}
 use Rattle.scope.specs.Content.{isReference, Inner, begin, Content, lost, closed, going, innerStep}
 
 -- ---- the order of a line: what each byte does outside brackets
@@ -33,6 +34,10 @@ front = record { kind = Unknown; shut = shutSquare; refers = true; labels = true
 -- "`{}` holds no label"
 abbrev pub labile : Slot
 labile = record { kind = Labile; shut = shutCurly; refers = false; labels = false; after = Labiles; referred = Labiles }
+
+-- "Their brackets carry no label" (02, L2)
+abbrev pub declared : Slot
+declared = record { kind = Declared; shut = shutSquare; refers = false; labels = false; after = Tagged; referred = Tagged }
 
 -- where an element of the sequence may begin: a residue, a range, `(?..)`
 unfoldable pub element : ℕ → Act
@@ -68,10 +73,13 @@ referred b = cond (eqb b openSquare) (Begin (square Unknown true Referred)) (con
 abbrev pub atFront : ℕ → Act
 atFront b = cond (eqb b openSquare) (Begin front) (cond (eqb b openCurly) (Begin labile) (element b))
 
--- "A line has this order: runs of unknown-position brackets, each run closed by `?`, each bracket perhaps with `^` and a count; labile `{..}`;
+-- "`<[mod]@K,N-term>` at the front" (02, L2), then "A line has this order: runs of unknown-position brackets, each run closed by `?`, each bracket perhaps with `^` and a count; labile `{..}`;
 -- N-terminal brackets and `-`; the sequence; `-` and C-terminal brackets."
 unfoldable pub act : Mode → ℕ → Act
-act Front b = atFront b
+act Front b = cond (eqb b openAngle) (Go Angle) (atFront b)
+act Angle b = cond (eqb b openSquare) (Begin declared) Stop
+act Tagged b = cond (eqb b atSign) Places Stop
+act Listed b = cond (eqb b shutAngle) (Go Front) Stop
 act Runs b = atFront b
 act Undecided b = cond (eqb b caret) (Go Caret) (undecided b)
 act Counted b = cond (eqb b caret) (Go Caret) (counted b)
@@ -97,6 +105,9 @@ act CTerms b = cond (eqb b openSquare) (Begin (square CTerm true CTerms)) Stop
 -- "All but the sequence may be missing": where a line may end
 abbrev pub mayEnd : Mode → Bool
 mayEnd Front = false
+mayEnd Angle = false
+mayEnd Tagged = false
+mayEnd Listed = false
 mayEnd Runs = false
 mayEnd Undecided = false
 mayEnd Counted = false
@@ -161,6 +172,7 @@ bracketOf k i ps h =
       count = 1;
       counted = none;
       parts = ps;
+      places = [];
       at = i;
     }
 
@@ -186,6 +198,7 @@ times n p k =
       count = n;
       counted = some p;
       parts = k .parts;
+      places = k .places;
       at = k .at;
     }
 
@@ -205,6 +218,7 @@ asNTerm k =
       count = k .count;
       counted = k .counted;
       parts = k .parts;
+      places = k .places;
       at = k .at;
     }
 
@@ -212,12 +226,30 @@ asNTerm k =
 abbrev pub settledRun : {P : Type 0} → (Bracket P → Bracket P) → Held P → Held P
 settledRun f h = record { residues = h .residues; brackets = h .brackets ++ map f (h .run); run = []; first = h .first }
 
+-- the bracket that was read last has these places
+abbrev pub declaredAt : {P : Type 0} → List (Place P) → Bracket P → Bracket P
+declaredAt ps k =
+    record {
+      kind = k .kind;
+      first = k .first;
+      last = k .last;
+      count = k .count;
+      counted = k .counted;
+      parts = k .parts;
+      places = ps;
+      at = k .at;
+    }
+
+abbrev pub withPlaces : {P : Type 0} → List (Place P) → Held P → Held P
+withPlaces ps h = record { residues = h .residues; brackets = onLast (declaredAt ps) (h .brackets); run = h .run; first = h .first }
+
 -- ---- the reader
 
 pub data State (P : Type 0) : Type 0 where
   dead : P → State P
   outside : Mode → Held P → State P
   inside : Slot → P → Held P → Inner P → State P
+  placing : Held P → Placing P → State P
 
 unfoldable pub perform : {P : Type 0} → P → ℕ → Held P → Act → State P
 perform i b h Stop = dead i
@@ -227,6 +259,7 @@ perform i b h (Begin s) = inside s i h (begin (record { shut = s .shut; refers =
 perform i b h Digit = outside Counting (withDigit i b h)
 perform i b h RunEnds = outside Runs (settledRun (λ k. k) h)
 perform i b h TermEnds = outside Start (settledRun asNTerm h)
+perform i b h Places = placing h (expected [])
 
 -- a bracket is a reference when its one part is
 abbrev pub refers? : {P : Type 0} → List (Part P) → Bool
@@ -246,6 +279,8 @@ unfoldable pub step : {P : Type 0} → P → State P → ℕ → State P
 step i (dead p) b = dead p
 step i (outside m h) b = perform i b h (act m b)
 step i (inside s at h c) b = resume s at h i (innerStep i c b)
+step i (placing h s) b =
+    given (placeStep i s b) (placing h) (given (placesEnd s) (λ ps. perform i b (withPlaces ps h) (act Listed b)) (dead i))
 
 -- the bytes from the place i on; `note` is what is noted of a place
 unfoldable pub run : {P : Type 0} → (ℕ → P) → ℕ → State P → List ℕ → State P
@@ -267,6 +302,7 @@ abbrev pub ended : ℕ → State ℕ → Reading
 ended n (dead p) = stuck p
 ended n (outside m h) = cond (mayEnd m) (holds (lineOf h)) (stuck n)
 ended n (inside s at h c) = stuck n
+ended n (placing h s) = stuck n
 
 unfoldable pub reading : List ℕ → Reading
 reading l = ended (length l) (run (λ i. i) 0 start l)

@@ -1,4 +1,4 @@
--- Refusals 1 to 12, and 19: for each number the places at which it is due, and which is given.
+-- Refusals 1 to 12, 19 and 21: for each number the places at which it is due, and which is given.
 use Prim.Native.Nat.{ℕ, _+_, _-_, _*_, _^_, min}
 use mathlib.Core.Bool.{Bool, true, false, not, cond, _&&_, _||_}
 use mathlib.Core.Option.{Option, none, some}
@@ -6,12 +6,12 @@ use mathlib.Core.List.{List, [], _∷_, _++_, map}
 use lib.Dec.{eqb, leb, ltb}
 use lib.ListN.{length, drop, take}
 use Rattle.scope.specs.declared.grammar.Key.the-variants.{NoKey, U, M, Formula, Glycan, Position, Limit}
-use Rattle.scope.specs.Kinds.{isUnknown, unknownOrLabile}
+use Rattle.scope.specs.Kinds.{isUnknown, unknownOrLabile, isDeclared}
 use Rattle.scope.specs.Bytes.{bytes, isPrintable, isDigit, isOpening, isShutting, sameFolded}
-use Rattle.scope.specs.Limits.{lineLimit, residueLimit, bracketLimit, partLimit, textLimit, labelLimit, depthLimit, sizeLimit, decimalLimit, countLimit, copyLimit}
+use Rattle.scope.specs.Limits.{lineLimit, residueLimit, bracketLimit, partLimit, textLimit, labelLimit, depthLimit, sizeLimit, decimalLimit, countLimit, copyLimit, declarationLimit, placeLimit}
 use Rattle.scope.specs.Line.{Number, Value, mass, text, reference, composition, Part, Bracket, Line}
 use Rattle.scope.specs.Keys.{written}
-use Rattle.scope.specs.Lists.{given, none?, all, flat, among, shared}
+use Rattle.scope.specs.Lists.{given, none?, all, keep, flat, among, shared}
 use Rattle.scope.specs.Reading.{Reading, stuck, holds, reading}
 use Rattle.scope.specs.Modifications.{isKey, onlyInfo, namesOf, isLabelled, copies, definedBy, referredBy, defined, referredTo}
 use Rattle.scope.specs.Glycans.{cuttings}
@@ -76,14 +76,26 @@ longText p = dueAt (ltb textLimit (length (textOf p))) (p .at)
 abbrev pub longLabel : Part ℕ → List ℕ
 longLabel p = given (p .label) (λ l. dueAt (ltb labelLimit (length (l .name))) (l .at)) []
 
+-- "a seventeenth place is 6, there" (02, L2)
+abbrev pub manyPlaces : Bracket ℕ → List ℕ
+manyPlaces k = drop placeLimit (map (λ p. p .at) (k .places))
+
 abbrev pub overIn : Bracket ℕ → List ℕ
-overIn k = drop partLimit (map (λ p. p .at) (k .parts)) ++ flat (λ p. longText p ++ longLabel p) (k .parts)
+overIn k = drop partLimit (map (λ p. p .at) (k .parts)) ++ (flat (λ p. longText p ++ longLabel p) (k .parts) ++ manyPlaces k)
+
+abbrev pub declarations : {P : Type 0} → List (Bracket P) → List (Bracket P)
+declarations ks = keep (λ k. isDeclared (k .kind)) ks
+
+-- "a ninth declaration .. is 6, there" (02, L2): at its `<`, which its bracket stands behind
+abbrev pub manyDeclarations : List (Bracket ℕ) → List ℕ
+manyDeclarations ks = drop declarationLimit (map (λ k. k .at - 1) (declarations ks))
 
 unfoldable pub refusal6 : Line ℕ → List ℕ
 refusal6 l =
     drop residueLimit (map (λ r. r .at) (l .residues))
     ++ (drop bracketLimit (map (λ k. k .at) (l .brackets))
-    ++ flat overIn (l .brackets))
+    ++ (manyDeclarations (l .brackets)
+    ++ flat overIn (l .brackets)))
 
 -- ---- 7 "mass, score or count out of range", at "its first byte, sign included"
 -- "below 1,000,000 in size with at most 6 decimals"
@@ -141,6 +153,10 @@ refusal9 l = flat (λ k. flat (λ p. dueAt (isNumberName p) (p .at)) (k .parts))
 -- ---- 10 "only INFO in an unknown or labile bracket", at "the bracket"
 unfoldable pub refusal10 : Line ℕ → List ℕ
 refusal10 l = flat (λ k. dueAt (unknownOrLabile (k .kind) && onlyInfo k) (k .at)) (l .brackets)
+
+-- ---- 21 "only INFO in a declaration, after 10, at its bracket" (02, L2)
+unfoldable pub refusal21 : Line ℕ → List ℕ
+refusal21 l = flat (λ k. dueAt (isDeclared (k .kind) && onlyInfo k) (k .at)) (l .brackets)
 
 -- ---- 11, at "the bracket"
 -- "second label in a bracket"
@@ -216,7 +232,7 @@ firstDue (d ∷ ds) o = given (least (d .places)) (refused (d .number)) (firstDu
 abbrev pub lineRefusals : Line ℕ → List Due
 lineRefusals l =
     due 5 (refusal5 l) ∷ due 6 (refusal6 l) ∷ due 7 (refusal7 l) ∷ due 8 (refusal8 l) ∷ due 9 (refusal9 l)
-    ∷ due 10 (refusal10 l) ∷ due 11 (refusal11 l) ∷ due 12 (refusal12 l) ∷ due 19 (refusal19 l) ∷ []
+    ∷ due 10 (refusal10 l) ∷ due 21 (refusal21 l) ∷ due 11 (refusal11 l) ∷ due 12 (refusal12 l) ∷ due 19 (refusal19 l) ∷ []
 
 abbrev pub judged : Reading → Outcome
 judged (stuck i) = refused 4 i
@@ -225,6 +241,6 @@ judged (holds l) = firstDue (lineRefusals l) (accepted (kept l))
 abbrev pub byteRefusals : List ℕ → List Due
 byteRefusals s = due 1 (refusal1 s) ∷ due 2 (refusal2 s) ∷ due 3 (refusal3 s) ∷ []
 
--- "Reading tries .. 1 to 12 in that order; the lowest number wins, at its first place in the line"; 19 "after 12" (02, L1)
+-- "Reading tries .. 1 to 12 in that order; the lowest number wins, at its first place in the line"; 21 "after 10" (02, L2), 19 "after 12" (02, L1)
 unfoldable pub outcome : List ℕ → Outcome
 outcome s = firstDue (byteRefusals s) (judged (reading s))

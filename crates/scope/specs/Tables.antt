@@ -6,7 +6,7 @@ use mathlib.Core.List.{List, [], _∷_, map}
 use lib.IntN.{ℤ, pos, negℤ}
 use Rattle.scope.specs.Lists.{given, optional}
 use Rattle.scope.specs.Limits.{decimalLimit}
-use Rattle.scope.specs.Line.{Number, Label, Value, mass, text, reference, composition, Part, Bracket, Residue, Line}
+use Rattle.scope.specs.Line.{Number, Label, Value, mass, text, reference, composition, Place, Part, Bracket, Residue, Line}
 
 -- A line without its places. "The sign of zero, leading zeros, `^1` and the splitting of unknown runs are not kept."
 abbrev pub Tables : Type 0
@@ -27,6 +27,9 @@ bareValue (composition t n) = composition t (bareNumber n)
 abbrev pub barePart : {P : Type 0} → Part P → Part (Unit {0})
 barePart p = record { key = p .key; value = bareValue (p .value); label = optional bareLabel (p .label); at = tt }
 
+abbrev pub barePlace : {P : Type 0} → Place P → Place (Unit {0})
+barePlace p = record { site = p .site; at = tt }
+
 abbrev pub bareBracket : {P : Type 0} → Bracket P → Bracket (Unit {0})
 bareBracket k =
     record {
@@ -36,6 +39,7 @@ bareBracket k =
       count = k .count;
       counted = none;
       parts = map barePart (k .parts);
+      places = map barePlace (k .places);
       at = tt;
     }
 

@@ -1,7 +1,7 @@
 // The tables' limits and sizes. "The limits stand once, with the type they belong to."
 ghost use mathlib.Core.Path.{_≡_};
 ghost use lib.IntN.{pos};
-ghost use Rattle.scope.specs.Limits.{lineLimit, residueLimit, bracketLimit, partLimit, textLimit, labelLimit, depthLimit, countLimit, copyLimit, rowLimit, positionLimit, sizeLimit, decimalLimit};
+ghost use Rattle.scope.specs.Limits.{lineLimit, residueLimit, bracketLimit, partLimit, textLimit, labelLimit, depthLimit, countLimit, copyLimit, declarationLimit, placeLimit, rowLimit, positionLimit, sizeLimit, decimalLimit};
 ghost use Rattle.scope.specs.Layout.{bytesSize, numbersSize};
 use crate::answers::Ledger;
 use crate::answers::Placement;
@@ -30,13 +30,18 @@ impl Tables {
 
     pub const COUNT: usize = 99;
 
+    pub const DECLARATIONS: usize = 8;
+
+    // of a declaration
+    pub const PLACES: usize = 16;
+
     // a part's row
     pub const PART: usize = 7;
 
-    // a bracket's row: its head, then its parts
+    // a bracket's row: its head, then its parts, then its places behind their number
     pub const HEAD: usize = 8;
 
-    pub const ROW: usize = Self::HEAD + Self::PARTS * Self::PART;
+    pub const ROW: usize = Self::HEAD + Self::PARTS * Self::PART + 1 + Self::PLACES;
 
     // where letters, sections, brackets and texts begin in the area of bytes
     pub const LETTERS: usize = 3;
@@ -101,6 +106,8 @@ pub struct Limits {
     pub label: usize,
     pub depth: usize,
     pub count: usize,
+    pub declarations: usize,
+    pub places: usize,
     pub copies: usize,
     pub rows: usize,
     pub positions: usize,
@@ -113,7 +120,7 @@ pub struct Limits {
 impl Limits {
     // The constants are the numbers that the definitions name.
     pub fn new() -> Self
-        ensures { λ r. ⌜ r ≡ record { line = lineLimit; residues = residueLimit; brackets = bracketLimit; parts = partLimit; text = textLimit; label = labelLimit; depth = depthLimit; count = countLimit; copies = copyLimit; rows = rowLimit; positions = positionLimit; size = sizeLimit; decimals = decimalLimit; bytes = bytesSize; numbers = numbersSize } ⌝ }
+        ensures { λ r. ⌜ r ≡ record { line = lineLimit; residues = residueLimit; brackets = bracketLimit; parts = partLimit; text = textLimit; label = labelLimit; depth = depthLimit; count = countLimit; declarations = declarationLimit; places = placeLimit; copies = copyLimit; rows = rowLimit; positions = positionLimit; size = sizeLimit; decimals = decimalLimit; bytes = bytesSize; numbers = numbersSize } ⌝ }
     {
         Self {
             line: Tables::LINE,
@@ -124,6 +131,8 @@ impl Limits {
             label: Tables::LABEL,
             depth: Tables::DEPTH,
             count: Tables::COUNT,
+            declarations: Tables::DECLARATIONS,
+            places: Tables::PLACES,
             copies: Placement::COPIES,
             rows: Placement::ROWS,
             positions: Ledger::POSITIONS,

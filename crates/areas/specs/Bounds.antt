@@ -3,8 +3,8 @@ use Prim.Native.Nat.{ℕ, _+_, _*_, _^_, _≤_, _<_}
 use mathlib.Core.List.{List}
 use lib.IntN.{ℤ, natAbs}
 use lib.ListN.{length}
-use Rattle.scope.specs.Limits.{lineLimit, residueLimit, bracketLimit, partLimit, textLimit, labelLimit, countLimit, sizeLimit, decimalLimit}
-use Rattle.scope.specs.Layout.{bytesSize, numbersSize, bracketsField, countField, decimalsField, firstField, labelField, lastField, massField, offsetField, partsField, residuesField, scoreField, scoreNumber, textField}
+use Rattle.scope.specs.Limits.{lineLimit, residueLimit, bracketLimit, partLimit, textLimit, labelLimit, countLimit, placeLimit, sizeLimit, decimalLimit}
+use Rattle.scope.specs.Layout.{bytesSize, numbersSize, bracketsField, countField, decimalsField, firstField, labelField, lastField, massField, offsetField, partsField, placesField, residuesField, scoreField, scoreNumber, textField}
 
 -- a mass or score, in millionths
 abbrev pub Small : ℤ → Type 0
@@ -24,6 +24,7 @@ pub record BracketBounds (bs : List ℕ) (ns : List ℤ) (k : ℕ) : Type 0 wher
   pub some-count : 0 < countField bs k
   pub few-counts : countField bs k ≤ countLimit
   pub few-parts : partsField bs k ≤ partLimit
+  pub few-places : placesField bs k ≤ placeLimit
   pub score : scoreField bs k ≤ decimalLimit + 1
   pub small : Small (scoreNumber ns k)
   pub part : (j : ℕ) → j < partsField bs k → PartBounds bs ns k j

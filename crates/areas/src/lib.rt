@@ -6,8 +6,8 @@ ghost use Prim.Native.Nat.{_+_, _*_, _<_, _≤_};
 ghost use lib.ListN.{length, set};
 ghost use lib.Seq.{sets};
 ghost use Rattle.scope.specs.Bytes.{byteLimit, wideLimit};
-ghost use Rattle.scope.specs.Limits.{residueLimit, bracketLimit, partLimit, positionLimit};
-ghost use Rattle.scope.specs.Layout.{bytesSize, numbersSize, residuesAt, lettersAt, sectionsAt, rowAt, countAt, partAt, massAt, countsRow, headRow, partFields, byteAt, wideAt, residuesField, bracketsField, letterField, sectionField, kindField, firstField, lastField, countField, partsField, scoreField, valueField, keyField, decimalsField, textField, labelField, offsetField, massField, scoreNumber};
+ghost use Rattle.scope.specs.Limits.{residueLimit, bracketLimit, partLimit, placeLimit, positionLimit};
+ghost use Rattle.scope.specs.Layout.{bytesSize, numbersSize, residuesAt, lettersAt, sectionsAt, rowAt, countAt, partAt, placesAt, siteAt, massAt, countsRow, headRow, partFields, byteAt, wideAt, residuesField, bracketsField, letterField, sectionField, kindField, firstField, lastField, countField, partsField, scoreField, valueField, keyField, decimalsField, textField, labelField, offsetField, placesField, siteField, massField, scoreNumber};
 
 // The floaters: how many there are, the number of each one's bracket, and which of its copies it is, from 1.
 pub struct Floaters {
@@ -42,6 +42,9 @@ const TEXT: usize = 3;
 const LABEL: usize = 4;
 
 const OFFSET: usize = 5;
+
+// the number of a bracket's places, behind its head and the rows of its parts; a byte for each place follows
+const PLACES: usize = Tables::PARTS * Tables::PART;
 
 // how many values a byte has
 const BYTE: usize = 256;
@@ -215,6 +218,25 @@ pub fn offset(bytes: &[u8], k: usize, j: usize) -> usize
     )
 }
 
+// How many places bracket k has.
+pub fn places(bytes: &[u8], k: usize) -> usize
+    requires { ⌜ (bytesSize ≤ length (now bytes)) × (k < bracketLimit) ⌝ }
+    ensures { λ r. ⌜ (r ≡ placesField (now (bytes .entry)) k) × (r < byteLimit) ⌝ }
+{
+    byte(
+        bytes,
+        Tables::ROWS + k * Tables::ROW + Tables::HEAD + PLACES,
+    )
+}
+
+// The site of its place j.
+pub fn site(bytes: &[u8], k: usize, j: usize) -> u8
+    requires { ⌜ (bytesSize ≤ length (now bytes)) × (k < bracketLimit) × (j < placeLimit) ⌝ }
+    ensures { λ r. ⌜ r ≡ siteField (now (bytes .entry)) k j ⌝ }
+{
+    bytes[Tables::ROWS + k * Tables::ROW + Tables::HEAD + PLACES + 1 + j]
+}
+
 // Its mass.
 pub fn mass(numbers: &[i64], k: usize, j: usize) -> i64
     requires { ⌜ (numbersSize ≤ length (now numbers)) × (k < bracketLimit) × (j < partLimit) ⌝ }
@@ -316,6 +338,22 @@ pub fn put_part(
     bytes[at + LABEL] = label;
     bytes[at + OFFSET] = (offset % BYTE) as u8;
     bytes[at + OFFSET + 1] = (offset / BYTE) as u8;
+}
+
+// The number of bracket k's places.
+pub fn put_places(bytes: &mut [u8], k: usize, places: u8)
+    requires { ⌜ (bytesSize ≤ length (now bytes)) × (k < bracketLimit) ⌝ }
+    ensures { λ _. ⌜ now (bytes .exit) ≡ set (now (bytes .entry)) (placesAt k) places ⌝ }
+{
+    bytes[Tables::ROWS + k * Tables::ROW + Tables::HEAD + PLACES] = places;
+}
+
+// The site of its place j.
+pub fn put_site(bytes: &mut [u8], k: usize, j: usize, site: u8)
+    requires { ⌜ (bytesSize ≤ length (now bytes)) × (k < bracketLimit) × (j < placeLimit) ⌝ }
+    ensures { λ _. ⌜ now (bytes .exit) ≡ set (now (bytes .entry)) (siteAt k j) site ⌝ }
+{
+    bytes[Tables::ROWS + k * Tables::ROW + Tables::HEAD + PLACES + 1 + j] = site;
 }
 
 // Its mass.

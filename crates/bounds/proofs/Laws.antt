@@ -10,8 +10,8 @@ use lib.Dec.{leb}
 use lib.IntN.{ℤ, pos, negsuc}
 use lib.ListN.{length}
 use lib.Signed.{ltZ}
-use Rattle.scope.specs.Limits.{lineLimit, residueLimit, bracketLimit, partLimit, textLimit, labelLimit, countLimit, sizeLimit, decimalLimit}
-use Rattle.scope.specs.Layout.{bytesSize, numbersSize, bracketsField, countField, decimalsField, firstField, labelField, lastField, massField, offsetField, partsField, residuesField, scoreField, scoreNumber, textField}
+use Rattle.scope.specs.Limits.{lineLimit, residueLimit, bracketLimit, partLimit, textLimit, labelLimit, countLimit, placeLimit, sizeLimit, decimalLimit}
+use Rattle.scope.specs.Layout.{bytesSize, numbersSize, bracketsField, countField, decimalsField, firstField, labelField, lastField, massField, offsetField, partsField, placesField, residuesField, scoreField, scoreNumber, textField}
 use Rattle.areas.specs.Bounds.{Small, PartBounds, BracketBounds, Bounds}
 use Rattle.bounds.specs.Verdict.{Verdict, decides}
 use Rattle.bounds.specs.Pieces.{Room, RowRoom, PlaceBounds, HeadBounds, PartsBounds, BracketsBounds}
@@ -58,12 +58,12 @@ place-law bs k {end = end} {last = last} e f l h =
     (λ q b. omega (arith, leb-false last end q, b .last))
 
 pub head-law :
-    (bs : List ℕ) (ns : List ℤ) (k : ℕ) {count parts score : ℕ} {m : ℤ} (r : Bool) → count ≡ countField bs k → parts ≡ partsField bs k
-    → score ≡ scoreField bs k → m ≡ scoreNumber ns k → (count ≡ 0 → ⊥) → count ≤ countLimit
-    → parts ≤ partLimit → score ≤ decimalLimit + 1 → Verdict r (Small m) → Verdict r (HeadBounds bs ns k)
-head-law bs ns k r c p s e some few less low v =
+    (bs : List ℕ) (ns : List ℤ) (k : ℕ) {count parts places score : ℕ} {m : ℤ} (r : Bool) → count ≡ countField bs k → parts ≡ partsField bs k
+    → places ≡ placesField bs k → score ≡ scoreField bs k → m ≡ scoreNumber ns k → (count ≡ 0 → ⊥) → count ≤ countLimit
+    → parts ≤ partLimit → places ≤ placeLimit → score ≤ decimalLimit + 1 → Verdict r (Small m) → Verdict r (HeadBounds bs ns k)
+head-law bs ns k r c p o s e some few less fewer low v =
     decides r
-    (λ h. record { some-count = omega arith; few-counts = omega arith; few-parts = omega arith; score = omega arith; small = subst Small e h })
+    (λ h. record { some-count = omega arith; few-counts = omega arith; few-parts = omega arith; few-places = omega arith; score = omega arith; small = subst Small e h })
     (λ b. subst Small (sym e) (b .small)) v
 
 pub bracket-law :
@@ -78,6 +78,7 @@ bracket-law r p h v =
       some-count = h .some-count;
       few-counts = h .few-counts;
       few-parts = h .few-parts;
+      few-places = h .few-places;
       score = h .score;
       small = h .small;
       part = all;
@@ -88,7 +89,7 @@ pub place-of : {bs : List ℕ} {ns : List ℤ} {k : ℕ} → BracketBounds bs ns
 place-of b = record { first = b .first; last = b .last }
 
 pub head-of : {bs : List ℕ} {ns : List ℤ} {k : ℕ} → BracketBounds bs ns k → HeadBounds bs ns k
-head-of b = record { some-count = b .some-count; few-counts = b .few-counts; few-parts = b .few-parts; score = b .score; small = b .small }
+head-of b = record { some-count = b .some-count; few-counts = b .few-counts; few-parts = b .few-parts; few-places = b .few-places; score = b .score; small = b .small }
 
 -- ---- the areas
 pub room : {bs : List ℕ} {ns : List ℤ} → (bytesSize ≤ length bs) × (numbersSize ≤ length ns) → Room bs ns

@@ -3,8 +3,8 @@ use mathlib.Core.List.{List}
 use Prim.Native.Nat.{ℕ, _+_, _≤_, _<_}
 use lib.IntN.{ℤ}
 use lib.ListN.{length}
-use Rattle.scope.specs.Limits.{bracketLimit, partLimit, countLimit, decimalLimit}
-use Rattle.scope.specs.Layout.{bytesSize, numbersSize, countField, firstField, lastField, partsField, residuesField, scoreField, scoreNumber}
+use Rattle.scope.specs.Limits.{bracketLimit, partLimit, countLimit, placeLimit, decimalLimit}
+use Rattle.scope.specs.Layout.{bytesSize, numbersSize, countField, firstField, lastField, partsField, placesField, residuesField, scoreField, scoreNumber}
 use Rattle.areas.specs.Bounds.{Small, PartBounds, BracketBounds}
 
 -- areas of the sizes that tables take
@@ -27,6 +27,7 @@ pub record HeadBounds (bs : List ℕ) (ns : List ℤ) (k : ℕ) : Type 0 where
   pub some-count : 0 < countField bs k
   pub few-counts : countField bs k ≤ countLimit
   pub few-parts : partsField bs k ≤ partLimit
+  pub few-places : placesField bs k ≤ placeLimit
   pub score : scoreField bs k ≤ decimalLimit + 1
   pub small : Small (scoreNumber ns k)
 

@@ -63,7 +63,7 @@ fn place_in_bounds(bytes: &[u8], k: usize) -> bool
     areas::last(bytes, k) <= end
 }
 
-// Do its count, its number of parts and its score?
+// Do its count, its numbers of parts and places, and its score?
 fn head_in_bounds(bytes: &[u8], numbers: &[i64], k: usize) -> bool
     requires { ⌜ RowRoom (now bytes) (now numbers) k ⌝ }
     ensures { λ r. ⌜ Verdict r (HeadBounds (now (bytes .entry)) (now (numbers .entry)) k) ⌝ }
@@ -77,6 +77,10 @@ fn head_in_bounds(bytes: &[u8], numbers: &[i64], k: usize) -> bool
     }
     let parts = areas::parts(bytes, k);
     if Tables::PARTS < parts {
+        return false;
+    }
+    let places = areas::places(bytes, k);
+    if Tables::PLACES < places {
         return false;
     }
     let score = areas::score(bytes, k);

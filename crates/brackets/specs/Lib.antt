@@ -1,3 +1,4 @@
 pub mod Row
 pub mod Fields
 pub mod Codes
+pub mod Reached

@@ -1,16 +1,20 @@
 // The brackets, read from their rows. Each answer is the definition's, of the bracket in the areas, whatever the masses and scores are.
 use scope::grammar::Kind;
 ghost use mathlib.Core.Path.{_≡_};
-ghost use mathlib.Core.List.{List};
+ghost use mathlib.Core.Bool.{_&&_};
+ghost use mathlib.Core.List.{List, map};
 ghost use Prim.Native.Nat.{_<_, _≤_};
 ghost use lib.IntN.{ℤ};
+ghost use lib.ListN.{length, getD};
 ghost use Rattle.scope.specs.Bytes.{byteLimit};
-ghost use Rattle.scope.specs.Limits.{partLimit};
-ghost use Rattle.scope.specs.Layout.{bracketIn, partsField};
-ghost use Rattle.scope.specs.Kinds.{kindIn, onOnePosition};
+ghost use Rattle.scope.specs.Limits.{residueLimit, partLimit, positionLimit};
+ghost use Rattle.scope.specs.Lists.{member};
+ghost use Rattle.scope.specs.Layout.{bracketIn, tablesIn, partsField, residuesField};
+ghost use Rattle.scope.specs.Kinds.{kindIn, isDeclared, onOnePosition};
 ghost use Rattle.scope.specs.Modifications.{onlyInfo, isReferring, isModification, isLabelled, unlabelledCopies, copies};
-ghost use Rattle.scope.specs.Positions.{isPlaced};
-ghost use Rattle.brackets.specs.Row.{Row};
+ghost use Rattle.scope.specs.Positions.{sites, names, reached, isPlaced};
+ghost use Rattle.brackets.specs.Row.{Row, Position};
+ghost use Rattle.brackets.specs.Reached.{ReachedPut};
 
 // the codes of values: a mass, a text, a composition
 pub const MASS: usize = 1;
@@ -34,6 +38,13 @@ const ON_RESIDUE: usize = 4;
 const ON_RANGE: usize = 5;
 
 const C_TERM: usize = 6;
+
+const DECLARED: usize = 7;
+
+// the sites of the termini; that of a residue is its letter
+const N_TERMINUS: u8 = 1;
+
+const C_TERMINUS: u8 = 2;
 
 // How many parts there are.
 pub fn parts(bytes: &[u8], k: usize) -> usize
@@ -69,6 +80,9 @@ fn kind_of(code: usize) -> Kind
     }
     if code == C_TERM {
         return Kind::CTerm;
+    }
+    if code == DECLARED {
+        return Kind::Declared;
     }
     Kind::Unknown
 }
@@ -176,6 +190,92 @@ pub fn is_placed(bytes: &[u8], k: usize) -> bool
         return on_one_position(kind(bytes, k));
     }
     false
+}
+
+// Whether it is a declared modification: one that is placed wherever a place of it names what stands there.
+pub fn is_declared(bytes: &[u8], k: usize) -> bool
+    requires { ⌜ Row (now bytes) k ⌝ }
+    ensures { λ r. ⌜ ((ns : List ℤ) → r ≡ isDeclared (bracketIn (now (bytes .entry)) ns k .kind) && isModification (bracketIn (now (bytes .entry)) ns k)) ⌝ }
+{
+    if kind(bytes, k).is(Kind::Declared) {
+        return is_modification(bytes, k);
+    }
+    false
+}
+
+// Whether one of its places is this site.
+fn is_named(bytes: &[u8], k: usize, site: u8) -> bool
+    requires { ⌜ Row (now bytes) k ⌝ }
+    ensures { λ r. ⌜ ((ns : List ℤ) → r ≡ member site (map (λ p. p .site) (bracketIn (now (bytes .entry)) ns k .places))) ⌝ }
+{
+    let m = areas::places(bytes, k);
+    let mut j: usize = 0;
+    while j < m {
+        let s = areas::site(bytes, k, j);
+        if site == s {
+            return true;
+        }
+        j += 1;
+    }
+    false
+}
+
+// What stands at position x.
+fn site_at(bytes: &[u8], x: usize) -> u8
+    requires { ⌜ Position (now bytes) x ⌝ }
+    ensures { λ r. ⌜ ((ns : List ℤ) → r ≡ getD (sites (tablesIn (now (bytes .entry)) ns)) x 0) ⌝ }
+{
+    if x == 0 {
+        return N_TERMINUS;
+    }
+    let n = areas::residues(bytes);
+    if n < x {
+        return C_TERMINUS;
+    }
+    areas::letter(bytes, x - 1)
+}
+
+// Whether one of the places of bracket k names what stands at position x.
+pub fn names(bytes: &[u8], k: usize, x: usize) -> bool
+    requires { ⌜ (Row (now bytes) k) × (Position (now bytes) x) ⌝ }
+    ensures { λ r. ⌜ ((ns : List ℤ) → r ≡ names (tablesIn (now (bytes .entry)) ns) (bracketIn (now (bytes .entry)) ns k .places) x) ⌝ }
+{
+    is_named(bytes, k, site_at(bytes, x))
+}
+
+// How many positions they name.
+pub fn reached(bytes: &[u8], k: usize) -> usize
+    requires { ⌜ (Row (now bytes) k) × (residuesField (now bytes) ≤ residueLimit) ⌝ }
+    ensures { λ r. ⌜ ((ns : List ℤ) → r ≡ length (reached (tablesIn (now (bytes .entry)) ns) (bracketIn (now (bytes .entry)) ns k))) × (r ≤ positionLimit) ⌝ }
+{
+    let end = areas::residues(bytes) + 2;
+    let mut n: usize = 0;
+    let mut x: usize = 0;
+    while x < end {
+        if names(bytes, k, x) {
+            n += 1;
+        }
+        x += 1;
+    }
+    n
+}
+
+// The positions that they name, ascending, into the first entries of a slice: how many.
+pub fn put_reached(bytes: &[u8], k: usize, out: &mut [u16]) -> usize
+    requires { ⌜ (Row (now bytes) k) × (residuesField (now bytes) ≤ residueLimit) × (positionLimit ≤ length (now out)) ⌝ }
+    ensures { λ r. ⌜ ReachedPut (now (bytes .entry)) k r (now (out .entry)) (now (out .exit)) ⌝ }
+{
+    let all = areas::residues(bytes) + 2;
+    let mut n: usize = 0;
+    let mut x: usize = 0;
+    while x < all {
+        if names(bytes, k, x) {
+            out[n] = x as u16;
+            n += 1;
+        }
+        x += 1;
+    }
+    n
 }
 
 // How many copies of an unlabelled modification float.

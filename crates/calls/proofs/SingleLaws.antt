@@ -33,7 +33,7 @@ module _ (bs : List ℕ) (ns : List ℤ) (i : ℕ) where
   unfolding tablesIn
   bracket-at h = element-tabled (bracketIn bs ns) 0 (bracketsField bs) i h ∙ ap (λ k. some (bracketIn bs ns k)) (omega arith)
 
-  no-bracket : bracketsField bs ≤ i → elementAt (tablesIn bs ns .brackets) i ≡ none
+  pub no-bracket : bracketsField bs ≤ i → elementAt (tablesIn bs ns .brackets) i ≡ none
   unfolding tablesIn
   no-bracket h = no-element (bracketIn bs ns) 0 (bracketsField bs) i h
 

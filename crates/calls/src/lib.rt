@@ -29,6 +29,7 @@ ghost use Rattle.placements.specs.Steps.{Moves};
 ghost use Rattle.scope.specs.Answers.{saysBooked, requested, books, tooShort, residueCount, bracketCount, floaterCount};
 ghost use Rattle.calls.specs.Floating.{FloatersSay};
 ghost use Rattle.calls.specs.Held.{whyNot};
+ghost use Rattle.calls.specs.Reaching.{ReachedSays};
 ghost use Rattle.calls.specs.Rows.{RowsReady};
 ghost use Rattle.calls.specs.Writing.{WriteSays};
 ghost use Rattle.calls.specs.Says.{CountSays, TotalSays, BracketMassSays, ShownSays, AllowedSays, NextSays, LedgerSays};
@@ -162,6 +163,34 @@ pub fn floater_brackets(
     bounds::copy_bytes(&bracket, n, brackets);
     bounds::copy_bytes(&copy, n, copies);
     Count::Is(n)
+}
+
+// The positions that the places of bracket k name, ascending, into a slice with an entry for each position there may be: how many; or a refusal, the slice as
+// it was.
+pub fn reached(bytes: &[u8], numbers: &[i64], k: usize, out: &mut [u16]) -> Count
+    ensures { λ r. ⌜ ReachedSays (now (bytes .entry)) (now (numbers .entry)) k (now (out .entry)) r (now (out .exit)) ⌝ }
+{
+    if out.len() < Ledger::POSITIONS {
+        return Count::Refused {
+            number: 13,
+            place: 0,
+        };
+    }
+    let why = why_not(bytes, numbers);
+    if why != 0 {
+        return Count::Refused {
+            number: why,
+            place: 0,
+        };
+    }
+    let b = areas::brackets(bytes);
+    if b <= k {
+        return Count::Refused {
+            number: 17,
+            place: 0,
+        };
+    }
+    Count::Is(brackets::put_reached(bytes, k, out))
 }
 
 // The total in millionths.

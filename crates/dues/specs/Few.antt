@@ -1,14 +1,14 @@
--- Where none of 5 to 9 is met in a line, there are no more residues, brackets and parts than may be.
+-- Where none of 5 to 9 is met in a line, there are no more residues, brackets, declarations, parts and places than may be.
 use mathlib.Core.Path.{_≡_, refl, ap}
 use mathlib.Core.List.{List, [], _∷_, _++_, map}
-use Prim.Native.Nat.{ℕ, _+_, _≤_, _<_}
+use Prim.Native.Nat.{ℕ, _+_, _-_, _≤_, _<_}
 use native.Mathlib.Omega.{arith}
 use lib.ListN.{length, drop, length-drop, length-map}
 use Rattle.scope.specs.Bytes.{wideLimit}
-use Rattle.scope.specs.Limits.{residueLimit, bracketLimit, partLimit}
+use Rattle.scope.specs.Limits.{residueLimit, bracketLimit, partLimit, declarationLimit, placeLimit}
 use Rattle.scope.specs.Line.{Line}
 use Rattle.scope.specs.Lists.{flat}
-use Rattle.scope.specs.Refusals.{refusal6, lineRefusals, longText, longLabel, overIn, wideCount}
+use Rattle.scope.specs.Refusals.{refusal6, lineRefusals, longText, longLabel, manyPlaces, declarations, manyDeclarations, overIn, wideCount}
 use Rattle.basics.specs.Each.{Each, each-front, each-back, each-two}
 use Rattle.dues.specs.Ranks.{code, lowest, noCode}
 use Rattle.dues.specs.First.{Fits}
@@ -48,7 +48,9 @@ module _ {A : Type 0} (at : A → ℕ) (limit n : ℕ) where
 pub record FewOf (l : Line ℕ) : Type 0 where
   pub residues : length (l .residues) ≤ residueLimit
   pub brackets : length (l .brackets) ≤ bracketLimit
+  pub few-declarations : length (declarations (l .brackets)) ≤ declarationLimit
   pub parts : Each (λ k. length (k .parts) ≤ partLimit) (l .brackets)
+  pub places : Each (λ k. length (k .places) ≤ placeLimit) (l .brackets)
 
 pub few-of : (l : Line ℕ) → Each Fits (lineRefusals l) → code infoRank 0 ≤ lowest (noCode (lineRefusals l)) (metCodes (l .residues) (l .brackets)) → FewOf l
 unfolding refusal6
@@ -57,18 +59,33 @@ few-of l fits h =
     let Q : ℕ → Type 0 = λ p. p < wideLimit in
     let rs = drop residueLimit (map (λ r. r .at) (l .residues)) in
     let ks = drop bracketLimit (map (λ k. k .at) (l .brackets)) in
-    let past = each-back Q rs (ks ++ flat overIn (l .brackets)) (fits .1 .0) in
-    let behind = clear-back n (flat bracketCodes (l .brackets)) (map (code overRank) ks ++ map (code overRank) rs) h in
+    let ds = manyDeclarations (l .brackets) in
+    let past = each-back Q rs (ks ++ (ds ++ flat overIn (l .brackets))) (fits .1 .0) in
+    let beyond = each-back Q ks (ds ++ flat overIn (l .brackets)) past in
+    let behind = clear-back n (flat bracketCodes (l .brackets)) (map (code overRank) ks ++ (map (code overRank) ds ++ map (code overRank) rs)) h in
+    let further = clear-back n (map (code overRank) ks) (map (code overRank) ds ++ map (code overRank) rs) behind in
+    let within = each-flat Q overIn (l .brackets) (each-back Q ds (flat overIn (l .brackets)) beyond) in
+    let clear = clear-flat n bracketCodes (l .brackets) (clear-front n (flat bracketCodes (l .brackets)) (map (code overRank) ks ++ (map (code overRank) ds ++ map (code overRank) rs)) h) in
     record {
-      residues = kept (λ r. r .at) residueLimit n (l .residues) (each-front Q rs (ks ++ flat overIn (l .brackets)) (fits .1 .0)) (clear-back n (map (code overRank) ks) (map (code overRank) rs) behind);
-      brackets = kept (λ k. k .at) bracketLimit n (l .brackets) (each-front Q ks (flat overIn (l .brackets)) past) (clear-front n (map (code overRank) ks) (map (code overRank) rs) behind);
+      residues = kept (λ r. r .at) residueLimit n (l .residues) (each-front Q rs (ks ++ (ds ++ flat overIn (l .brackets))) (fits .1 .0)) (clear-back n (map (code overRank) ds) (map (code overRank) rs) further);
+      brackets = kept (λ k. k .at) bracketLimit n (l .brackets) (each-front Q ks (ds ++ flat overIn (l .brackets)) past) (clear-front n (map (code overRank) ks) (map (code overRank) ds ++ map (code overRank) rs) behind);
+      few-declarations =
+          kept (λ k. k .at - 1) declarationLimit n (declarations (l .brackets)) (each-front Q ds (flat overIn (l .brackets)) beyond) (clear-front n (map (code overRank) ds) (map (code overRank) rs) further);
       parts =
           each-two (λ k. Each Q (overIn k)) (λ k. Clear n (bracketCodes k)) (λ k. length (k .parts) ≤ partLimit)
           (λ k w c.
           let ps = drop partLimit (map (λ p. p .at) (k .parts)) in
-          kept (λ p. p .at) partLimit n (k .parts) (each-front Q ps (flat (λ p. longText p ++ longLabel p) (k .parts)) w)
+          kept (λ p. p .at) partLimit n (k .parts) (each-front Q ps (flat (λ p. longText p ++ longLabel p) (k .parts) ++ manyPlaces k) w)
           (clear-back n (flat partCodes (k .parts)) (map (code overRank) ps)
-          (clear-front n (flat partCodes (k .parts) ++ map (code overRank) ps) (map (code wideRank) (wideCount k)) c)))
-          (l .brackets) (each-flat Q overIn (l .brackets) (each-back Q ks (flat overIn (l .brackets)) past))
-          (clear-flat n bracketCodes (l .brackets) (clear-front n (flat bracketCodes (l .brackets)) (map (code overRank) ks ++ map (code overRank) rs) h));
+          (clear-front n (flat partCodes (k .parts) ++ map (code overRank) ps) (map (code wideRank) (wideCount k) ++ map (code overRank) (manyPlaces k)) c)))
+          (l .brackets) within clear;
+      places =
+          each-two (λ k. Each Q (overIn k)) (λ k. Clear n (bracketCodes k)) (λ k. length (k .places) ≤ placeLimit)
+          (λ k w c.
+          let ps = drop partLimit (map (λ p. p .at) (k .parts)) in
+          let ts = flat (λ p. longText p ++ longLabel p) (k .parts) in
+          kept (λ p. p .at) placeLimit n (k .places) (each-back Q ts (manyPlaces k) (each-back Q ps (ts ++ manyPlaces k) w))
+          (clear-back n (map (code wideRank) (wideCount k)) (map (code overRank) (manyPlaces k))
+          (clear-back n (flat partCodes (k .parts) ++ map (code overRank) ps) (map (code wideRank) (wideCount k) ++ map (code overRank) (manyPlaces k)) c)))
+          (l .brackets) within clear;
     }

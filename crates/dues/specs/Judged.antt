@@ -19,7 +19,7 @@ by-codes l h =
     ap (λ c. decoded (lineRefusals l) c (accepted (kept l))) (met (noCode (lineRefusals l)) l)
     ∙ first-due (lineRefusals l) h (accepted (kept l))
 
--- 10 to 12 have no code below their ranks
+-- 10, 21, 11 and 12 have no code below their ranks
 ruled-from : (l : Line ℕ) → Each Fits (lineRefusals l) → code infoRank 0 ≤ lowest (noCode (lineRefusals l)) (ruledCodes (l .brackets))
 ruled-from l h =
     let n = noCode (lineRefusals l) in
@@ -27,7 +27,7 @@ ruled-from l h =
     let low = lowest-from-rank (bracketDues l) infoRank n (each-front Fits (bracketDues l) (uncutDues l) behind) (omega arith) in
     omega (arith, ruled-alone n l, low)
 
--- where one of 5 to 9 is met, what is met is the first due: 10 to 12 have higher ranks
+-- where one of 5 to 9 is met, what is met is the first due: the others have higher ranks
 pub met-first : (l : Line ℕ) → Each Fits (lineRefusals l)
     → lowest (noCode (lineRefusals l)) (metCodes (l .residues) (l .brackets)) < code infoRank 0
     → lowest (noCode (lineRefusals l)) (metCodes (l .residues) (l .brackets) ++ ruledCodes (l .brackets)) ≡ lowest (noCode (lineRefusals l)) (metCodes (l .residues) (l .brackets))

@@ -8,8 +8,8 @@ use Rattle.scope.specs.Limits.{residueLimit, bracketLimit, partLimit, labelLimi
 use Rattle.scope.specs.Line.{Label, Part, Bracket, Residue, Line}
 use Rattle.scope.specs.Lists.{given, flat}
 use Rattle.scope.specs.Modifications.{onlyInfo, defined, referredTo}
-use Rattle.scope.specs.Kinds.{unknownOrLabile}
-use Rattle.scope.specs.Refusals.{Due, due, refusal5, refusal6, refusal7, refusal8, refusal9, refusal10, refusal11, refusal12, refusal19, dueAt, deepPart, longText, longLabel, wide, wideMass, wideScore, wideCount, isLink, notHere, isNumberName, wronglyLabelled, passing, isUncut}
+use Rattle.scope.specs.Kinds.{unknownOrLabile, isDeclared}
+use Rattle.scope.specs.Refusals.{Due, due, refusal5, refusal6, refusal7, refusal8, refusal9, refusal10, refusal21, refusal11, refusal12, refusal19, dueAt, deepPart, longText, longLabel, manyPlaces, manyDeclarations, wide, wideMass, wideScore, wideCount, isLink, notHere, isNumberName, wronglyLabelled, passing, isUncut}
 use Rattle.dues.specs.Ranks.{code}
 
 -- ---- the ranks: the order of trying behind 4
@@ -31,21 +31,24 @@ digitsRank = 4
 abbrev pub infoRank : ℕ
 infoRank = 5
 
+abbrev pub declaredRank : ℕ
+declaredRank = 6
+
 abbrev pub labelRank : ℕ
-labelRank = 6
+labelRank = 7
 
 abbrev pub copiesRank : ℕ
-copiesRank = 7
+copiesRank = 8
 
 abbrev pub uncutRank : ℕ
-uncutRank = 8
+uncutRank = 9
 
--- the refusals of a line: 5 to 9, and 19, are met as the line is walked, and 10 to 12 are asked over all brackets
+-- the refusals of a line: 5 to 9, and 19, are met as the line is walked, and 10, 21, 11 and 12 are asked over all brackets
 abbrev pub metDues : Line ℕ → List Due
 metDues l = due 5 (refusal5 l) ∷ due 6 (refusal6 l) ∷ due 7 (refusal7 l) ∷ due 8 (refusal8 l) ∷ due 9 (refusal9 l) ∷ []
 
 abbrev pub bracketDues : Line ℕ → List Due
-bracketDues l = due 10 (refusal10 l) ∷ due 11 (refusal11 l) ∷ due 12 (refusal12 l) ∷ []
+bracketDues l = due 10 (refusal10 l) ∷ due 21 (refusal21 l) ∷ due 11 (refusal11 l) ∷ due 12 (refusal12 l) ∷ []
 
 abbrev pub uncutDues : Line ℕ → List Due
 uncutDues l = due 19 (refusal19 l) ∷ []
@@ -71,18 +74,21 @@ labelCodes i l =
 abbrev pub partsCodes : List (Part ℕ) → List ℕ
 partsCodes ps = flat partCodes ps ++ map (code overRank) (drop partLimit (map (λ p. p .at) ps))
 
+-- its parts, its count and its places
 abbrev pub bracketCodes : Bracket ℕ → List ℕ
-bracketCodes k = partsCodes (k .parts) ++ map (code wideRank) (wideCount k)
+bracketCodes k = partsCodes (k .parts) ++ (map (code wideRank) (wideCount k) ++ map (code overRank) (manyPlaces k))
 
 abbrev pub metCodes : List (Residue ℕ) → List (Bracket ℕ) → List ℕ
 metCodes rs ks =
     flat bracketCodes ks
     ++ (map (code overRank) (drop bracketLimit (map (λ k. k .at) ks))
-    ++ map (code overRank) (drop residueLimit (map (λ r. r .at) rs)))
+    ++ (map (code overRank) (manyDeclarations ks)
+    ++ map (code overRank) (drop residueLimit (map (λ r. r .at) rs))))
 
--- 10 to 12
+-- 10, 21, 11 and 12
 abbrev pub ruledCodes : List (Bracket ℕ) → List ℕ
 ruledCodes ks =
     map (code infoRank) (flat (λ k. dueAt (unknownOrLabile (k .kind) && onlyInfo k) (k .at)) ks)
+    ++ (map (code declaredRank) (flat (λ k. dueAt (isDeclared (k .kind) && onlyInfo k) (k .at)) ks)
     ++ (map (code labelRank) (wronglyLabelled [] (defined ks) (referredTo ks) ks)
-    ++ map (code copiesRank) (passing 0 ks))
+    ++ map (code copiesRank) (passing 0 ks)))

@@ -8,12 +8,12 @@ use lib.ListN.{length, drop}
 use Rattle.scope.specs.Limits.{residueLimit, bracketLimit, partLimit}
 use Rattle.scope.specs.Line.{Part, Bracket, Residue, Line}
 use Rattle.scope.specs.Lists.{flat}
-use Rattle.scope.specs.Refusals.{Due, lineRefusals, refusal5, refusal6, refusal7, refusal8, refusal9, refusal10, refusal11, refusal12, refusal19, dueAt, deepPart, longText, longLabel, overIn, wideMass, wideScore, wideCount, notHere, isNumberName, wronglyLabelled, passing, isUncut}
+use Rattle.scope.specs.Refusals.{Due, lineRefusals, refusal5, refusal6, refusal7, refusal8, refusal9, refusal10, refusal21, refusal11, refusal12, refusal19, dueAt, deepPart, longText, longLabel, manyPlaces, manyDeclarations, overIn, wideMass, wideScore, wideCount, notHere, isNumberName, wronglyLabelled, passing, isUncut}
 use Rattle.scope.specs.Modifications.{onlyInfo, defined, referredTo}
-use Rattle.scope.specs.Kinds.{unknownOrLabile}
+use Rattle.scope.specs.Kinds.{unknownOrLabile, isDeclared}
 use Rattle.dues.specs.Ranks.{code, codes, lowest}
 use Rattle.dues.specs.First.{lowest-append}
-use Rattle.dues.specs.Lines.{deepRank, overRank, wideRank, barredRank, digitsRank, infoRank, labelRank, copiesRank, uncutRank, metDues, bracketDues, uncutDues, partCodes, partsCodes, bracketCodes, metCodes, ruledCodes}
+use Rattle.dues.specs.Lines.{deepRank, overRank, wideRank, barredRank, digitsRank, infoRank, declaredRank, labelRank, copiesRank, uncutRank, metDues, bracketDues, uncutDues, partCodes, partsCodes, bracketCodes, metCodes, ruledCodes}
 
 pub lowest-below : (n : ℕ) (l : List ℕ) → lowest n l ≤ n
 unfolding lowest
@@ -133,7 +133,7 @@ module _ (n : ℕ) where
   b5 k = lows p5 (k .parts)
 
   abbrev b6 : Bracket ℕ → ℕ
-  b6 k = min (low overRank (drop partLimit (map (λ p. p .at) (k .parts)))) (lows p6 (k .parts))
+  b6 k = min (low overRank (drop partLimit (map (λ p. p .at) (k .parts)))) (min (lows p6 (k .parts)) (low overRank (manyPlaces k)))
 
   abbrev b7 : Bracket ℕ → ℕ
   b7 k = min (low wideRank (wideCount k)) (lows p7 (k .parts))
@@ -150,14 +150,16 @@ module _ (n : ℕ) where
   bracket-low : (k : Bracket ℕ) → lowest n (bracketCodes k) ≡ min (b5 k) (min (b6 k) (min (b7 k) (min (b8 k) (min (b9 k) (b19 k)))))
   unfolding low
   bracket-low k =
-      lowest-two n (partsCodes (k .parts)) (map (code wideRank) (wideCount k))
-      ∙ ap (λ x. min x (low wideRank (wideCount k)))
+      lowest-two n (partsCodes (k .parts)) (map (code wideRank) (wideCount k) ++ map (code overRank) (manyPlaces k))
+      ∙ ap₂ min
       (lowest-two n (flat partCodes (k .parts)) (map (code overRank) (drop partLimit (map (λ p. p .at) (k .parts))))
       ∙ ap (λ x. min x (low overRank (drop partLimit (map (λ p. p .at) (k .parts))))) (parts-low (k .parts)))
-      ∙ mixed (lows p5 (k .parts)) (lows p6 (k .parts)) (lows p7 (k .parts)) (lows p8 (k .parts)) (lows p9 (k .parts)) (lows p19 (k .parts)) _ _
+      (lowest-two n (map (code wideRank) (wideCount k)) (map (code overRank) (manyPlaces k)))
+      ∙ mixed (lows p5 (k .parts)) (lows p6 (k .parts)) (lows p7 (k .parts)) (lows p8 (k .parts)) (lows p9 (k .parts)) (lows p19 (k .parts)) _ _ _
     where
-      mixed : (a b c d e f x y : ℕ) → min (min (min a (min b (min c (min d (min e f))))) x) y ≡ min a (min (min x b) (min (min y c) (min d (min e f))))
-      mixed a b c d e f x y = simp mins
+      mixed : (a b c d e f x y z : ℕ)
+          → min (min (min a (min b (min c (min d (min e f))))) x) (min y z) ≡ min a (min (min x (min b z)) (min (min y c) (min d (min e f))))
+      mixed a b c d e f x y z = simp mins
 
   brackets-low : (ks : List (Bracket ℕ))
       → lowest n (flat bracketCodes ks) ≡ min (lows b5 ks) (min (lows b6 ks) (min (lows b7 ks) (min (lows b8 ks) (min (lows b9 ks) (lows b19 ks)))))
@@ -187,23 +189,39 @@ module _ (n : ℕ) where
       ∙ lows-same (λ k. low r (g k ++ flat f (k .parts))) (λ k. min (low r (g k)) (lows (λ p. low r (f p)) (k .parts)))
       (λ k. low-two r (g k) (flat f (k .parts)) ∙ ap (min (low r (g k))) (low-flat r f (k .parts))) ks
 
+  -- and something behind them
+  around-parts : (r : ℕ) (g e : Bracket ℕ → List ℕ) (f : Part ℕ → List ℕ) (ks : List (Bracket ℕ))
+      → low r (flat (λ k. g k ++ (flat f (k .parts) ++ e k)) ks) ≡ lows (λ k. min (low r (g k)) (min (lows (λ p. low r (f p)) (k .parts)) (low r (e k)))) ks
+  around-parts r g e f ks =
+      low-flat r (λ k. g k ++ (flat f (k .parts) ++ e k)) ks
+      ∙ lows-same (λ k. low r (g k ++ (flat f (k .parts) ++ e k))) (λ k. min (low r (g k)) (min (lows (λ p. low r (f p)) (k .parts)) (low r (e k))))
+      (λ k. low-two r (g k) (flat f (k .parts) ++ e k)
+      ∙ ap (min (low r (g k))) (low-two r (flat f (k .parts)) (e k) ∙ ap (λ x. min x (low r (e k))) (low-flat r f (k .parts)))) ks
+
   over-low : (rs : List (Residue ℕ)) (ks : List (Bracket ℕ))
-      → low overRank (drop residueLimit (map (λ r. r .at) rs) ++ (drop bracketLimit (map (λ k. k .at) ks) ++ flat overIn ks))
-      ≡ min (low overRank (drop residueLimit (map (λ r. r .at) rs))) (min (low overRank (drop bracketLimit (map (λ k. k .at) ks))) (lows b6 ks))
+      → low overRank (drop residueLimit (map (λ r. r .at) rs) ++ (drop bracketLimit (map (λ k. k .at) ks) ++ (manyDeclarations ks ++ flat overIn ks)))
+      ≡ min (low overRank (drop residueLimit (map (λ r. r .at) rs)))
+      (min (low overRank (drop bracketLimit (map (λ k. k .at) ks))) (min (low overRank (manyDeclarations ks)) (lows b6 ks)))
   over-low rs ks =
       low-two overRank (drop residueLimit (map (λ r. r .at) rs)) _
       ∙ ap (min (low overRank (drop residueLimit (map (λ r. r .at) rs))))
-      (low-two overRank (drop bracketLimit (map (λ k. k .at) ks)) (flat overIn ks)
+      (low-two overRank (drop bracketLimit (map (λ k. k .at) ks)) _
       ∙ ap (min (low overRank (drop bracketLimit (map (λ k. k .at) ks))))
-      (with-parts overRank (λ k. drop partLimit (map (λ p. p .at) (k .parts))) (λ p. longText p ++ longLabel p) ks))
+      (low-two overRank (manyDeclarations ks) (flat overIn ks)
+      ∙ ap (min (low overRank (manyDeclarations ks)))
+      (around-parts overRank (λ k. drop partLimit (map (λ p. p .at) (k .parts))) manyPlaces (λ p. longText p ++ longLabel p) ks)))
 
   met-low : (rs : List (Residue ℕ)) (ks : List (Bracket ℕ))
       → lowest n (metCodes rs ks)
       ≡ min (min (lows b5 ks) (min (lows b6 ks) (min (lows b7 ks) (min (lows b8 ks) (min (lows b9 ks) (lows b19 ks))))))
-      (min (low overRank (drop bracketLimit (map (λ k. k .at) ks))) (low overRank (drop residueLimit (map (λ r. r .at) rs))))
+      (min (low overRank (drop bracketLimit (map (λ k. k .at) ks)))
+      (min (low overRank (manyDeclarations ks)) (low overRank (drop residueLimit (map (λ r. r .at) rs)))))
   unfolding low
   met-low rs ks =
-      lowest-two n (flat bracketCodes ks) _ ∙ ap₂ min (brackets-low ks) (lowest-two n (map (code overRank) (drop bracketLimit (map (λ k. k .at) ks))) _)
+      lowest-two n (flat bracketCodes ks) _
+      ∙ ap₂ min (brackets-low ks)
+      (lowest-two n (map (code overRank) (drop bracketLimit (map (λ k. k .at) ks))) _
+      ∙ ap (min (low overRank (drop bracketLimit (map (λ k. k .at) ks)))) (lowest-two n (map (code overRank) (manyDeclarations ks)) _))
 
   -- ---- rules in two pieces
   codes-append : (rank : ℕ) (a b : List Due) → codes rank (a ++ b) ≡ codes rank a ++ codes (rank + length a) b
@@ -223,12 +241,12 @@ module _ (n : ℕ) where
   unfolding low codes refusal5 refusal6 refusal7 refusal8 refusal9 refusal19
   met-alone l =
       met-low (l .residues) (l .brackets)
-      ∙ mixed _ _ _ _ _ _ _ _
+      ∙ mixed _ _ _ _ _ _ _ _ _
       ∙ sym
       (ap₂ min
       (lowest-two n (map (code deepRank) (flat (λ k. flat deepPart (k .parts)) (l .brackets))) _
       ∙ ap₂ min (in-parts deepRank deepPart (l .brackets))
-      (lowest-two n (map (code overRank) (drop residueLimit (map (λ r. r .at) (l .residues)) ++ (drop bracketLimit (map (λ k. k .at) (l .brackets)) ++ flat overIn (l .brackets)))) _
+      (lowest-two n (map (code overRank) (drop residueLimit (map (λ r. r .at) (l .residues)) ++ (drop bracketLimit (map (λ k. k .at) (l .brackets)) ++ (manyDeclarations (l .brackets) ++ flat overIn (l .brackets))))) _
       ∙ ap₂ min (over-low (l .residues) (l .brackets))
       (lowest-two n (map (code wideRank) (flat (λ k. wideCount k ++ flat (λ p. wideMass (p .value) ++ wideScore p) (k .parts)) (l .brackets))) _
       ∙ ap₂ min (with-parts wideRank wideCount (λ p. wideMass (p .value) ++ wideScore p) (l .brackets))
@@ -237,17 +255,19 @@ module _ (n : ℕ) where
       (last-rule digitsRank (λ p. dueAt (isNumberName p) (p .at)) (l .brackets))))))
       (last-rule uncutRank (λ p. dueAt (isUncut p) (p .at)) (l .brackets)))
     where
-      mixed : (a b c d e f x y : ℕ) → min (min a (min b (min c (min d (min e f))))) (min x y) ≡ min (min a (min (min y (min x b)) (min c (min d e)))) f
-      mixed a b c d e f x y = simp mins
+      mixed : (a b c d e f x y z : ℕ)
+          → min (min a (min b (min c (min d (min e f))))) (min x (min y z)) ≡ min (min a (min (min z (min x (min y b))) (min c (min d e)))) f
+      mixed a b c d e f x y z = simp mins
 
   pub ruled-alone : (l : Line ℕ) → lowest n (ruledCodes (l .brackets)) ≡ lowest n (codes infoRank (bracketDues l))
-  unfolding codes refusal10 refusal11 refusal12
+  unfolding codes refusal10 refusal21 refusal11 refusal12
   ruled-alone l =
       ap (λ t. lowest n (map (code infoRank) (flat (λ k. dueAt (unknownOrLabile (k .kind) && onlyInfo k) (k .at)) (l .brackets))
-      ++ (map (code labelRank) (wronglyLabelled [] (defined (l .brackets)) (referredTo (l .brackets)) (l .brackets)) ++ t)))
+      ++ (map (code declaredRank) (flat (λ k. dueAt (isDeclared (k .kind) && onlyInfo k) (k .at)) (l .brackets))
+      ++ (map (code labelRank) (wronglyLabelled [] (defined (l .brackets)) (referredTo (l .brackets)) (l .brackets)) ++ t))))
       (sym (append-nil (map (code copiesRank) (passing 0 (l .brackets)))))
 
-  -- what is met, and what 10 to 12 add, have the lowest code of the rules
+  -- what is met, and what 10, 21, 11 and 12 add, have the lowest code of the rules
   pub met : (l : Line ℕ) → lowest n (metCodes (l .residues) (l .brackets) ++ ruledCodes (l .brackets)) ≡ lowest n (codes 0 (lineRefusals l))
   met l =
       lowest-two n (metCodes (l .residues) (l .brackets)) (ruledCodes (l .brackets))

@@ -16,7 +16,7 @@ ghost use Rattle.scope.specs.Refusals.{dueAt, least as first, lineRefusals, tex
 ghost use Rattle.values.specs.Says.{IsValue, coded};
 ghost use Rattle.labels.specs.Says.{IsLabel};
 ghost use Rattle.dues.specs.Ranks.{code, lowest, noCode, numberAt};
-ghost use Rattle.dues.specs.Lines.{deepRank, partCodes, labelCodes};
+ghost use Rattle.dues.specs.Lines.{partCodes, labelCodes};
 ghost use Rattle.dues.specs.Steps.{textCodes};
 ghost use Rattle.dues.specs.Found.{ValueFound, LabelFound};
 
@@ -24,11 +24,11 @@ ghost use Rattle.dues.specs.Found.{ValueFound, LabelFound};
 const PLACES: usize = 65536;
 
 // The refusals that are tried behind 4, in the order of trying: the number of each.
-const NUMBERS: [u8; RANKS] = [5, 6, 7, 8, 9, 10, 11, 12, 19];
+const NUMBERS: [u8; RANKS] = [5, 6, 7, 8, 9, 10, 21, 11, 12, 19];
 
-const RANKS: usize = 9;
+const RANKS: usize = 10;
 
-// Their ranks: a pair too deep; too many or too long; out of range; barred; only digits; only INFO; wrongly labelled; too many copies; a composition that cannot be cut.
+// Their ranks: a pair too deep; too many or too long; out of range; barred; only digits; only INFO; only INFO in a declaration; wrongly labelled; too many copies; a composition that cannot be cut.
 pub const DEEP: usize = 0;
 
 pub const OVER: usize = 1;
@@ -41,13 +41,15 @@ pub const DIGITS: usize = 4;
 
 pub const INFO: usize = 5;
 
-pub const LABEL: usize = 6;
+pub const DECLARED: usize = 6;
 
-pub const COPIES: usize = 7;
+pub const LABEL: usize = 7;
 
-pub const UNCUT: usize = 8;
+pub const COPIES: usize = 8;
 
-// The first code of 10 to 12, the rules that are asked over all brackets: below it are those of 5 to 9.
+pub const UNCUT: usize = 9;
+
+// The first code of 10, 21, 11 and 12, the rules that are asked over all brackets: below it are those of 5 to 9.
 pub const RULED: usize = INFO * PLACES;
 
 // Nothing is due: above every code.
@@ -74,6 +76,17 @@ pub fn due_if(least: usize, so: bool, rank: usize, place: usize) -> usize
         return due(least, rank, place);
     }
     least
+}
+
+// The same, with the first of some places of a rank: `place` is 0 where there is none, else one more than it.
+pub fn first_due(least: usize, rank: usize, place: usize) -> usize
+    requires { ⌜ (rank < wideLimit) × (place < wideLimit) ⌝ }
+    ensures { λ r. ⌜ ((ps : List ℕ) → place ≡ coded (first ps) → r ≡ lowest least (map (code rank) ps)) ⌝ }
+{
+    if place == 0 {
+        return least;
+    }
+    due(least, rank, place - 1)
 }
 
 // The number of the refusal that a code is due for.
@@ -122,7 +135,7 @@ fn text_due(line: &[u8], least: usize, at: usize, v: Value) -> usize
     let key = v.key;
     let from = v.from;
     let to = v.to;
-    let a = deep_due(least, v.deep);
+    let a = first_due(least, DEEP, v.deep);
     let b = due_if(a, Tables::TEXT < to - from, OVER, at);
     let code = words::key_code(key);
     if code == NO_KEY {
@@ -138,17 +151,6 @@ fn text_due(line: &[u8], least: usize, at: usize, v: Value) -> usize
         return due_if(b, !glycans::cut(line, from, to).cut, UNCUT, at);
     }
     due(b, BARRED, at)
-}
-
-// Of a pair that is too deep: `deep` is 0 where none is, else one more than its place.
-fn deep_due(least: usize, deep: usize) -> usize
-    requires { ⌜ deep < wideLimit ⌝ }
-    ensures { λ r. ⌜ ((ps : List ℕ) → deep ≡ coded (first ps) → r ≡ lowest least (map (code deepRank) ps)) ⌝ }
-{
-    if deep == 0 {
-        return least;
-    }
-    due(least, DEEP, deep - 1)
 }
 
 // Whether digits only, and some, stand from `from` to `to`.

@@ -19,6 +19,7 @@ use Rattle.scope.specs.Positions.{floatersBy, bracketsOf, copiesOf}
 use Rattle.scope.specs.Glycans.{cuttings}
 use Rattle.glycans.specs.Pieces.{piecesOf, piecesSaid}
 use Rattle.calls.specs.Floating.{floatersSaid}
+use Rattle.calls.specs.Reaching.{reachedBy, reachedSaid}
 use Rattle.export.specs.Numbers.{numberOf, left, Numbered}
 use Rattle.export.specs.Handed.{Counted}
 
@@ -83,6 +84,11 @@ pub record FloatersHanded (bs : List ℕ) (ns : List ℤ) (brackets copies : Lis
   pub counted : Counted (floatersSaid bs ns brackets copies) count number count′
   pub brackets-after : brackets′ ≡ outputAfter (floatersSaid bs ns brackets copies) (bracketsOf (floatersBy (tablesIn bs ns))) brackets
   pub copies-after : copies′ ≡ outputAfter (floatersSaid bs ns brackets copies) (copiesOf (floatersBy (tablesIn bs ns))) copies
+
+-- ---- the positions that a bracket's places name: how many, and a lent slice
+pub record ReachedHanded (bs : List ℕ) (ns : List ℤ) (i : ℕ) (positions : List ℕ) (count number count′ : ℕ) (positions′ : List ℕ) : Type 0 where
+  pub counted : Counted (reachedSaid bs ns i positions) count number count′
+  pub positions-after : positions′ ≡ outputAfter (reachedSaid bs ns i positions) (reachedBy (tablesIn bs ns) i) positions
 
 -- ---- a text in a lent output of any length: how many bytes, with 15 the length needed
 pub record Fitted (text old : List ℕ) (count number count′ : ℕ) (new : List ℕ) : Type 0 where

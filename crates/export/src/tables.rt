@@ -15,7 +15,7 @@ ghost use Rattle.scope.specs.Limits.{copyLimit};
 ghost use Rattle.scope.specs.Answers.{saysTotal, saysShown, counts, residueCount, bracketCount, floaterCount, totals, shows};
 ghost use Rattle.calls.specs.Single.{weighsAt};
 ghost use Rattle.export.specs.Handed.{Counted};
-ghost use Rattle.export.specs.Shapes.{Written, Totalled, Displayed, AllowedLent, ReadEntered, FloatersHanded};
+ghost use Rattle.export.specs.Shapes.{Written, Totalled, Displayed, AllowedLent, ReadEntered, FloatersHanded, ReachedHanded};
 
 // How many residues there are: 0 and the count; else 13 or 14.
 #[no_mangle]
@@ -57,6 +57,22 @@ pub extern "C" fn hwemiduk_floater_brackets(
     ensures { λ r. ⌜ FloatersHanded (now (bytes .entry)) (now (numbers .entry)) (now (brackets .entry)) (now (copies .entry)) (now (count .entry)) r (now (count .exit)) (now (brackets .exit)) (now (copies .exit)) ⌝ }
 {
     let c = calls::floater_brackets(bytes, numbers, brackets, copies);
+    tell_count(c, count)
+}
+
+// The positions that the places of a bracket name, brackets counted from 0: 0 with their number, ascending in the slice, and entries past them as they were;
+// else 13, also where the slice has fewer entries than there may be positions, 14 or 17. A bracket that is no declaration names none.
+#[no_mangle]
+pub extern "C" fn hwemiduk_reached(
+    bytes: &[u8],
+    numbers: &[i64],
+    bracket: usize,
+    positions: &mut [u16],
+    count: &mut usize,
+) -> u8
+    ensures { λ r. ⌜ ReachedHanded (now (bytes .entry)) (now (numbers .entry)) bracket (now (positions .entry)) (now (count .entry)) r (now (count .exit)) (now (positions .exit)) ⌝ }
+{
+    let c = calls::reached(bytes, numbers, bracket, positions);
     tell_count(c, count)
 }
 

@@ -1,23 +1,23 @@
--- A bracket is what it has beside its parts, and its parts, which a loop looks at one by one.
+-- A bracket is what it has beside its parts, its places, and its parts, which a loop looks at one by one.
 use mathlib.Core.Path.{_≡_, refl, sym, ap, subst, _∙_}
 use mathlib.Core.Bool.{Bool, _&&_}
-use mathlib.Core.List.{List, [], _∷_, map}
+use mathlib.Core.List.{List, [], _∷_, _++_, map}
 use Prim.Native.Nat.{ℕ, _+_, _-_, _*_, _≤_, _<_}
 use native.Mathlib.Omega.{arith}
 use lib.IntN.{ℤ, pos}
 use lib.ListN.{length, length-map}
 use Rattle.scope.specs.Limits.{bracketLimit, partLimit}
-use Rattle.scope.specs.Line.{Bracket}
+use Rattle.scope.specs.Line.{Place, Bracket}
 use Rattle.scope.specs.Lists.{given, padded}
 use Rattle.scope.specs.Tables.{millionths, scoreOf}
-use Rattle.scope.specs.Layout.{numbersSize, partSize, rowAt, partAt, massAt, packed, partRows}
+use Rattle.scope.specs.Layout.{numbersSize, partSize, rowAt, partAt, placesAt, massAt, packed, partRows, placesRow}
 use Rattle.layout_laws.specs.At.{At}
 use Rattle.layout_laws.specs.Layout.{padded-length, part-rows-length, headOf}
-use Rattle.sheet.specs.Fields.{partsField, baseField}
+use Rattle.sheet.specs.Fields.{partsField, baseField, placesField, manyField}
 use Rattle.sheet.proofs.FieldLaws.{Among, among}
 use Rattle.store.specs.PartPut.{RowFits, PartNoted}
-use Rattle.store.specs.BracketPut.{BracketNoted}
-use Rattle.store.proofs.NotedRows.{parts-many, head-noted, points-are, texts-long, texts-noted, row-noted, number-noted, row-fits}
+use Rattle.store.specs.BracketPut.{PlacesFit, BracketNoted}
+use Rattle.store.proofs.NotedRows.{parts-many, head-noted, points-are, places-fit, texts-long, texts-noted, row-noted, number-noted, row-fits}
 use Rattle.held.specs.declared.Seen.{Seen}
 use Rattle.held.specs.Tells.{Tells}
 use Rattle.held.specs.Held.{PartSeen, FrameFits, FrameHeld, BracketThere, BracketHeld, BracketSeen}
@@ -26,10 +26,10 @@ use Rattle.held.proofs.Places.{at-nil, at-joins, at-cons, at-padded}
 use Rattle.held.proofs.Upto.{HeldUpto, upto-start, upto-room, upto-next, upto-texts, upto-end}
 use Rattle.held.proofs.PartLaws.{massOf, PartsHeld, no-parts, parts-joins}
 
--- ---- a bracket is what it has beside its parts, and its parts
+-- ---- a bracket is what it has beside its parts, its places, and its parts
 module _ {line heads parts : List ℕ} {masses scores : List ℤ} {residues k : ℕ} {b : Bracket ℕ} (w : BracketNoted line heads parts masses scores residues k b) (bytes : List ℕ) (numbers : List ℤ)
     (few : k < bracketLimit) (long : numbersSize ≤ length numbers) (t n : ℕ) (many : n ≡ length (b .parts)) where
-  pub bracket-joins : Joins (FrameHeld heads scores k n bytes numbers) (PartsHeld bytes numbers k 0 t (b .parts)) (BracketHeld k t b bytes numbers)
+  pub bracket-joins : Joins (FrameHeld heads scores k n bytes numbers × At bytes (placesAt k) (placesRow (b .places))) (PartsHeld bytes numbers k 0 t (b .parts)) (BracketHeld k t b bytes numbers)
   bracket-joins =
       let ps = b .parts in
       let rs = partRows t ps in
@@ -39,29 +39,36 @@ module _ {line heads parts : List ℕ} {masses scores : List ℤ} {residues k : 
       let rows-long = part-rows-length t ps in
       let masses-long = length-map ps massOf in
       let room-long = padded-length (pos 0) partLimit ms (omega arith) in
-      let row = at-joins bytes (rowAt k) (partAt k 0) (headOf b) (padded 0 (partLimit * partSize) rs) (omega arith) in
+      let parts-long = padded-length 0 (partLimit * partSize) rs (omega arith) in
+      let row = at-joins bytes (rowAt k) (partAt k 0) (headOf b) (padded 0 (partLimit * partSize) rs ++ placesRow (b .places)) (omega arith) in
+      let behind = at-joins bytes (partAt k 0) (placesAt k) (padded 0 (partLimit * partSize) rs) (placesRow (b .places)) (omega arith) in
       let rows = at-padded bytes 0 (partLimit * partSize) (partAt k 0) (partAt k n) ((partLimit - n) * partSize) rs (omega arith) (omega arith) in
       let number-row = at-joins numbers (massAt k 0) (massAt k partLimit) (padded (pos 0) partLimit ms) (score ∷ []) (omega arith) in
       let number-rows = at-padded numbers (pos 0) partLimit (massAt k 0) (massAt k n) (partLimit - n) ms (omega arith) (omega arith) in
       let points = at-cons numbers (pos 0) score (massAt k partLimit) (massAt k partLimit + 1) [] refl (omega arith) in
       record {
-        on = λ f q.
+        on = λ fp q.
+            let f = fp .0 in
             record {
-              rows-at = row .on (subst (At bytes (rowAt k)) (head-noted w) (f .head-at)) (rows .on (q .rows-at) (f .rows-zero));
+              rows-at = row .on (subst (At bytes (rowAt k)) (head-noted w) (f .head-at)) (behind .on (rows .on (q .rows-at) (f .rows-zero)) (fp .1));
               texts-at = q .texts-at;
               masses-at = number-row .on (number-rows .on (q .masses-at) (f .masses-zero)) (points .on (f .score-is ∙ points-are w) (at-nil numbers (massAt k partLimit + 1)));
             };
         back = λ h.
             let r = row .back (h .rows-at) in
-            let rz = rows .back (r .1) in
+            let x = behind .back (r .1) in
+            let rz = rows .back (x .0) in
             let m = number-row .back (h .masses-at) in
             let mz = number-rows .back (m .0) in (
-              record {
-                head-at = subst (At bytes (rowAt k)) (sym (head-noted w)) (r .0);
-                rows-zero = rz .1;
-                masses-zero = mz .1;
-                score-is = points .back (m .1) .0 ∙ sym (points-are w);
-              },
+              (
+                record {
+                  head-at = subst (At bytes (rowAt k)) (sym (head-noted w)) (r .0);
+                  rows-zero = rz .1;
+                  masses-zero = mz .1;
+                  score-is = points .back (m .1) .0 ∙ sym (points-are w);
+                },
+                x .1,
+              ),
               record { rows-at = rz .0; texts-at = h .texts-at; masses-at = mz .0 },
             );
       }
@@ -79,6 +86,12 @@ frame-fits e s =
       bytes-long = f .bytes-long;
       numbers-long = f .numbers-long;
     }
+
+-- its places stand in the line
+pub some-places : {line heads parts : List ℕ} {masses scores : List ℤ} {k t at many : ℕ} {bytes : List ℕ} {numbers : List ℤ}
+    → at ≡ placesField heads k → many ≡ manyField heads k → (b : Bracket ℕ) × BracketThere line heads parts masses scores k t b bytes numbers
+    → (ps : List (Place ℕ)) × PlacesFit line at many k ps bytes
+some-places ea em s = let f = s .1 in (s .0 .places, places-fit (f .noted) ea em (f .few-brackets) (f .bytes-long))
 
 pub record HoldingParts (line heads parts : List ℕ) (masses scores : List ℤ) (k : ℕ) (bytes : List ℕ) (numbers : List ℤ) (m n : ℕ) (first : Seen) (j : ℕ) (seen : Seen) : Type 0 where
   pub base-is : m ≡ baseField heads k
@@ -124,9 +137,10 @@ module _ {line heads parts : List ℕ} {masses scores : List ℤ} {k : ℕ} {byt
     pub parting-next : j < n → {r : Seen} → PartSeen line parts masses (m + j) k j bytes numbers seen r → HoldingParts line heads parts masses scores k bytes numbers m n first (j + 1) r
     parting-next h q = record { base-is = w .base-is; many = w .many; few = omega arith; there = w .there; upto = λ b f. further f h q }
 
-    pub parting-end : n ≤ j → {before frame : Bool} → first .so ≡ (before && frame) → Tells frame (FrameHeld heads scores k n bytes numbers)
+    pub parting-end : n ≤ j → {before frame places : Bool} {at many : ℕ} → first .so ≡ (before && (frame && places)) → Tells frame (FrameHeld heads scores k n bytes numbers)
+        → at ≡ placesField heads k → many ≡ manyField heads k → ((ps : List (Place ℕ)) → PlacesFit line at many k ps bytes → Tells places (At bytes (placesAt k) (placesRow ps)))
         → (b : Bracket ℕ) → BracketThere line heads parts masses scores k (first .texts) b bytes numbers → BracketSeen k b bytes numbers (record { so = before; texts = first .texts }) seen
-    parting-end h {before} e v b f =
+    parting-end h {before} e v ea em told b f =
         let all-parts : n ≡ length (b .parts) = w .many ∙ parts-many (f .noted) in
         let all : j ≡ length (b .parts) = omega (arith, w .few) in
         let u = w .upto b f in
@@ -135,5 +149,5 @@ module _ {line heads parts : List ℕ} {masses scores : List ℤ} {k : ℕ} {byt
           decided =
               tells-then
               (joins-beside (bracket-joins (f .noted) bytes numbers (f .few-brackets) (f .numbers-long) (first .texts) n all-parts))
-              (rw e (tells-both (tells-itself before) v)) (upto-end u all (no-parts bytes numbers k j (seen .texts)));
+              (rw e (tells-both (tells-itself before) (tells-both v (told (b .places) (places-fit (f .noted) ea em (f .few-brackets) (f .bytes-long)))))) (upto-end u all (no-parts bytes numbers k j (seen .texts)));
         }

@@ -7,7 +7,7 @@ use native.Mathlib.Nat.{zero-add}
 use native.Mathlib.Omega.{arith}
 use lib.IntN.{ℤ, pos}
 use lib.ListN.{length, take, drop, length-map}
-use Rattle.scope.specs.Limits.{lineLimit, residueLimit, bracketLimit, partLimit}
+use Rattle.scope.specs.Limits.{lineLimit, residueLimit, bracketLimit, partLimit, placeLimit}
 use Rattle.scope.specs.Line.{Bracket, Line}
 use Rattle.scope.specs.Lists.{flat, padded, same}
 use Rattle.scope.specs.Refusals.{outcome}
@@ -41,11 +41,11 @@ module _ (bytes : List ℕ) (numbers : List ℤ) (k t : ℕ) where
   unfolding rows flat
   no-brackets = record { rows-at = at-nil bytes (rowAt k); texts-at = at-nil bytes (textsAt + t); masses-at = at-nil numbers (massAt k 0) }
 
-  brackets-joins : (b : Bracket ℕ) (ks : List (Bracket ℕ)) (u : ℕ) → length (b .parts) ≤ partLimit → u ≡ t + length (bracketTexts b)
+  brackets-joins : (b : Bracket ℕ) (ks : List (Bracket ℕ)) (u : ℕ) → length (b .parts) ≤ partLimit → length (b .places) ≤ placeLimit → u ≡ t + length (bracketTexts b)
       → Joins (BracketHeld k t b bytes numbers) (BracketsHeld bytes numbers (k + 1) u ks) (BracketsHeld bytes numbers k t (b ∷ ks))
   unfolding rows flat
-  brackets-joins b ks u few e =
-      let r = bracket-row-length t b few in
+  brackets-joins b ks u few few-ps e =
+      let r = bracket-row-length t b few few-ps in
       let n = number-row-length b few in
       subst (λ v. Joins (BracketHeld k t b bytes numbers) (BracketsHeld bytes numbers (k + 1) v ks) (BracketsHeld bytes numbers k t (b ∷ ks))) (sym e)
       (held-joins bytes numbers (rowAt k) t (massAt k 0) (rowAt (k + 1)) (t + length (bracketTexts b)) (massAt (k + 1) 0) (bracketRow t b) (bracketTexts b) (numberRow b)
@@ -190,7 +190,7 @@ module _ {line letters sections heads parts : List ℕ} {masses scores : List �
             few = omega arith;
             upto =
                 upto-next (v .upto) next (q .texts-are)
-                (brackets-joins bytes numbers k (seen .texts) (next .this) (next .behind) (r .texts) (next-there .noted .within .few-parts) (q .texts-are)) (q .decided);
+                (brackets-joins bytes numbers k (seen .texts) (next .this) (next .behind) (r .texts) (next-there .noted .within .few-parts) (next-there .noted .within .few-places) (q .texts-are)) (q .decided);
           }
 
     module _ (all : brackets ≤ k) where

@@ -3,20 +3,21 @@
 use glycans::Cutting;
 use scope::tables::Tables;
 ghost use mathlib.Core.Path.{_≡_};
-ghost use Prim.Native.Nat.{ℕ, _+_, _^_, _<_, _≤_};
+ghost use mathlib.Core.List.{List, map};
+ghost use Prim.Native.Nat.{ℕ, _+_, _^_, _<_, _≤_, max};
 ghost use lib.IntN.{pos};
 ghost use lib.ListN.{length, getD, take, replicate};
 ghost use Rattle.scope.specs.Limits.{lineLimit, residueLimit, bracketLimit, partLimit};
-ghost use Rattle.scope.specs.Line.{Bracket, Line};
+ghost use Rattle.scope.specs.Line.{Place, Bracket, Line};
 ghost use Rattle.scope.specs.Lists.{part, padded};
 ghost use Rattle.scope.specs.Refusals.{outcome};
-ghost use Rattle.scope.specs.Layout.{bytesSize, numbersSize, rowAt, partAt, countsRow, partFields};
+ghost use Rattle.scope.specs.Layout.{bytesSize, numbersSize, rowAt, partAt, placesAt, siteAt, countsRow, partFields, placesRow};
 ghost use Rattle.scope.specs.Answers.{readsTo};
 ghost use Rattle.held.specs.Tells.{Tells};
 ghost use Rattle.layout_laws.specs.At.{At};
 ghost use Rattle.sheet.specs.Rows.{headsRoom, LineNoted};
 ghost use Rattle.store.specs.PartPut.{Copies, RowFits, ComposedFits, NotedFits};
-ghost use Rattle.store.specs.BracketPut.{headFrom};
+ghost use Rattle.store.specs.BracketPut.{headFrom, PlacesFit};
 ghost use Rattle.store.specs.Filled.{FrontFits};
 ghost use Rattle.held.specs.Held.{FrontHeld, PartSeen, FrameFits, FrameHeld, BracketThere, BracketSeen, RestHeld};
 
@@ -42,18 +43,27 @@ fn same_bytes(from: &[u8], a: usize, n: usize, bytes: &[u8], at: usize) -> bool
     so
 }
 
-// Do n zeros stand there?
+fn larger(a: u8, b: u8) -> u8
+    ensures { λ r. ⌜ r ≡ max a b ⌝ }
+{
+    if a < b {
+        return b;
+    }
+    a
+}
+
+// Do n zeros stand there? The largest of them is taken, many at a time.
 fn zero_bytes(bytes: &[u8], at: usize, n: usize) -> bool
     requires { ⌜ at + n ≤ length (now bytes) ⌝ }
     ensures { λ r. ⌜ Tells r (At (now (bytes .entry)) at (replicate n 0)) ⌝ }
 {
-    let mut so = true;
+    let mut top: u8 = 0;
     let mut i: usize = 0;
     while i < n {
-        so = so & (bytes[at + i] == 0);
+        top = larger(top, bytes[at + i]);
         i += 1;
     }
-    so
+    top == 0
 }
 
 // Do n zeros stand there among the numbers?
@@ -271,6 +281,34 @@ fn frame_held(
         & is_number(scores, k, areas::score_number(numbers, k))
 }
 
+// The sites of bracket k: those of the n places that stand in the line from `at` on?
+fn sites_held(line: &[u8], at: usize, n: usize, k: usize, bytes: &[u8]) -> bool
+    requires { ⌜ ((ps : List (Place ℕ)) × PlacesFit (now line) at n k ps (now bytes)) ⌝ }
+    ensures { λ r. ⌜ ((ps : List (Place ℕ)) → PlacesFit (now (line .entry)) at n k ps (now (bytes .entry)) → Tells r (At (now (bytes .entry)) (siteAt k 0) (map (λ p. p .site) ps))) ⌝ }
+{
+    let mut so = true;
+    let mut i = at;
+    let mut j: usize = 0;
+    while j < n {
+        let s = sites::site_at(line, i);
+        so = so & (areas::site(bytes, k, j) == s.site);
+        i = s.next + 1;
+        j += 1;
+    }
+    so
+}
+
+// Its places: how many, their sites, and zeros behind them?
+fn places_held(line: &[u8], at: usize, n: usize, k: usize, bytes: &[u8]) -> bool
+    requires { ⌜ ((ps : List (Place ℕ)) × PlacesFit (now line) at n k ps (now bytes)) ⌝ }
+    ensures { λ r. ⌜ ((ps : List (Place ℕ)) → PlacesFit (now (line .entry)) at n k ps (now (bytes .entry)) → Tells r (At (now (bytes .entry)) (placesAt k) (placesRow ps))) ⌝ }
+{
+    let behind = Tables::ROWS + (k + 1) * Tables::ROW - Tables::PLACES + n;
+    (areas::places(bytes, k) == n)
+        & sites_held(line, at, n, k, bytes)
+        & zero_bytes(bytes, behind, Tables::PLACES - n)
+}
+
 // Bracket k: what it has beside its parts, and each part.
 fn bracket_held(
     line: &[u8],
@@ -288,8 +326,12 @@ fn bracket_held(
 {
     let m = sheet::base_of(heads, k);
     let n = sheet::parts_of(heads, k);
+    let at = sheet::places_of(heads, k);
+    let many = sheet::many_of(heads, k);
+    let so = frame_held(heads, scores, k, n, bytes, numbers)
+        & places_held(line, at, many, k, bytes);
     let mut upto = Seen {
-        so: seen.so & frame_held(heads, scores, k, n, bytes, numbers),
+        so: seen.so & so,
         texts: seen.texts,
     };
     let mut j: usize = 0;

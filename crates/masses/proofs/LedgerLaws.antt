@@ -1,29 +1,27 @@
 -- Laws of the ledger: what one booking does, and that bookings one after the other make the entries that the definition sums for each position.
 -- Assumes nothing.
 use mathlib.Core.Path.{_≡_, refl, sym, ap, ap₂, _∙_, subst}
-use mathlib.Core.Bool.{Bool, true, false, cond}
+use mathlib.Core.Bool.{Bool, true, false, not, cond, _&&_}
 use mathlib.Core.List.{List, [], _∷_, _++_, map}
-use Prim.Native.Nat.{ℕ, suc, _+_, _-_, _^_, _≤_, _<_, min}
+use Prim.Native.Nat.{ℕ, suc, _+_, _-_, _≤_, _<_, min}
 use native.Mathlib.Nat.{zero-add}
 use native.Mathlib.Numerals.{add-one}
 use native.Mathlib.Decide.{ℕ-discrete}
 use native.Mathlib.Omega.{arith}
-use borrow.Author.Tests.{eq-eqb, ne-eqb, ltb-true, ltb-false}
+use borrow.Author.Tests.{eq-eqb, ne-eqb, ltb-true, ltb-false, lt-ltb, le-ltb}
 use lib.Dec.{eqb, ltb}
 use lib.IntN.{ℤ, pos, natAbs, _+ℤ_, +ℤ-idl, +ℤ-idr, +ℤ-assoc}
 use lib.ListN.{length, getD, set, drop, replicate, length-set, getD-replicate, drop-of-length-le}
 use lib.Seq.{getD-set-same, getD-set-other, drop-cons, ext-getD}
-use mir.Syntax.{w64}
-use mir.Val.{toZ, ofZ}
 use Rattle.scope.specs.declared.grammar.Kind.{Kind}
-use Rattle.scope.specs.Kinds.{isUnknown, isOnRange}
+use Rattle.scope.specs.Kinds.{isUnknown, isOnRange, isDeclared, onOnePosition}
 use Rattle.scope.specs.Limits.{bracketLimit, positionLimit, countLimit, copyLimit}
 use Rattle.scope.specs.Line.{Bracket}
-use Rattle.scope.specs.Lists.{flat, tabled}
+use Rattle.scope.specs.Lists.{flat, tabled, member}
 use Rattle.scope.specs.Modifications.{copies, isModification, isLabelled, unlabelledCopies}
-use Rattle.scope.specs.Positions.{isPlaced, floaters}
+use Rattle.scope.specs.Positions.{names, reached, isPlaced, placedOn, floaters}
 use Rattle.scope.specs.Tables.{Tables}
-use Rattle.scope.specs.Layout.{bytesSize, bracketIn, tablesIn, bracketsField, firstField}
+use Rattle.scope.specs.Layout.{bracketIn, tablesIn, bracketsField, firstField, residuesField}
 use Rattle.scope.specs.Masses.{massOr0, sum, placedAt, putAt, ledger}
 use Rattle.areas.specs.Bounds.{Small, Bounds}
 use Rattle.basics.specs.Tabled.{tabled-at, tabled-end, tabled-all, length-tabled, getD-tabled}
@@ -31,12 +29,21 @@ use Rattle.masses.specs.Reach.{Reach}
 use Rattle.mass_laws.specs.Terms.{massLimit}
 use Rattle.mass_laws.specs.Sums.{share, share-else}
 use Rattle.mass_laws.specs.Shares.{put-none, put-cons}
-use Rattle.mass_laws.specs.Weights.{bookedAt, placed-is, placedMass, booked-share}
-use Rattle.masses.specs.Booking.{EntriesKept, PlacedBooked, CanBook, booked, CanPut, CanFloat, CopiesPut}
-use Rattle.masses.proofs.Whole.{back}
+use Rattle.mass_laws.specs.Weights.{bookedAt, placed-is, not-booked}
+use Rattle.masses.specs.Booking.{EntriesKept, CanBook, booked, CanBookNamed, NamedBooked, CanPlace, BracketPlaced, PlacedBooked, CanPut, CanFloat, CopiesPut}
+use Rattle.masses.proofs.PartLaws.{reach-row}
 use Rattle.basics.specs.Wholes.{abs-add}
 use Rattle.masses.proofs.TallyLaws.{mass-small, few-copies}
-use Rattle.basics.specs.Choice.{by-test, branch}
+use Rattle.basics.specs.Choice.{by-test, branch, pick-true, pick-false}
+use Rattle.basics.specs.Positions.{placed-on}
+use Rattle.basics.specs.Tests.{and-left, and-right, eqb-sym}
+use Rattle.brackets.specs.Row.{Row, Position}
+use Rattle.brackets.specs.Reached.{reached-in, next-test, next-unnamed}
+
+-- a small mass, where a test says so
+small-or-none : (m : ℤ) → natAbs m < massLimit → (t : Bool) → natAbs (cond t m (pos 0)) ≤ massLimit
+small-or-none m h true = omega arith
+small-or-none m h false = omega arith
 
 -- ---- one booking: a mass at position y
 module _ {l : List ℤ} {n : ℕ} (held : EntriesKept l n) (y : ℕ) (in-range : y < positionLimit) (m : ℤ) where
@@ -52,10 +59,6 @@ module _ {l : List ℤ} {n : ℕ} (held : EntriesKept l n) (y : ℕ) (in-range :
           getD-set-other l y x v (pos 0) (λ z. q (sym z)) ∙ sym (+ℤ-idr (getD l x (pos 0)))
           ∙ ap (λ t. getD l x (pos 0) +ℤ cond t m (pos 0)) (sym (ne-eqb y x q))
 
-  small-share : natAbs m < massLimit → (t : Bool) → natAbs (cond t m (pos 0)) ≤ massLimit
-  small-share h true = omega arith
-  small-share h false = omega arith
-
   pub held-booked : {v : ℤ} → natAbs m < massLimit → v ≡ getD l y (pos 0) +ℤ m → EntriesKept (set l y v) (n + 1)
   held-booked {v} h e =
       record {
@@ -63,38 +66,184 @@ module _ {l : List ℤ} {n : ℕ} (held : EntriesKept l n) (y : ℕ) (in-range :
         small =
             λ x r.
             rw (booked-at e x)
-            (omega (arith, abs-add (getD l x (pos 0)) (cond (eqb y x) m (pos 0)), held .small x r, small-share h (eqb y x)));
+            (omega (arith, abs-add (getD l x (pos 0)) (cond (eqb y x) m (pos 0)), held .small x r, small-or-none m h (eqb y x)));
       }
 
-  -- the machine adds what it reads back from the bits of the entry, and reads the sum back from its bits
-  module _ (few : n ≤ bracketLimit + copyLimit) (h : natAbs m < massLimit) {z : ℤ} (read : z ≡ m) where
-    entry-back : toZ w64 (ofZ w64 (getD l y (pos 0))) ≡ getD l y (pos 0)
-    entry-back = back (getD l y (pos 0)) (omega (arith, held .small y in-range))
+-- ---- where bracket k is booked: of a declared modification where it reaches, of any other that is placed at its own position
+module _ (t : Tables) (b : Bracket (Unit {0})) {d : Bool} (declared : d ≡ isDeclared (b .kind) && isModification b) (x : ℕ) where
+  pub booked-reached : d ≡ true → bookedAt t x b ≡ cond (member x (reached t b)) (massOr0 b) (pos 0)
+  unfolding bookedAt placedOn
+  booked-reached y =
+      let both : (isDeclared (b .kind) && isModification b) ≡ true = sym declared ∙ y in
+      rw (and-right (isDeclared (b .kind)) (isModification b) both, and-left (isDeclared (b .kind)) (isModification b) both)
 
-    pub asks-entry : natAbs (toZ w64 (ofZ w64 (getD l y (pos 0)))) + natAbs z < 2 ^ 63
-    asks-entry = rw (entry-back, read) (omega (arith, held .small y in-range))
+  placed-here : d ≡ false → member x (placedOn t b) ≡ isPlaced b && eqb x (b .first)
+  placed-here n = placed-on t b x ∙ pick-false _ (member x (reached t b)) (isPlaced b && eqb x (b .first)) (sym declared ∙ n)
 
-    pub gives-entry : {r : ℤ} → r ≡ toZ w64 (ofZ w64 (getD l y (pos 0))) +ℤ z → toZ w64 (ofZ w64 r) ≡ getD l y (pos 0) +ℤ m
-    gives-entry {r} e =
-        let f : r ≡ getD l y (pos 0) +ℤ m = e ∙ ap (λ x. x +ℤ z) entry-back ∙ ap (λ x. getD l y (pos 0) +ℤ x) read in
-        rw f (back (getD l y (pos 0) +ℤ m) (omega (arith, abs-add (getD l y (pos 0)) m, held .small y in-range)))
+  module _ {p : Bool} (placed : p ≡ isPlaced b) (other : d ≡ false) where
+    pub booked-own : {y : ℕ} → p ≡ true → y ≡ b .first → bookedAt t x b ≡ cond (eqb y x) (massOr0 b) (pos 0)
+    unfolding bookedAt isPlaced
+    booked-own {y} q e =
+        pick-true (isModification b) (cond (member x (placedOn t b)) (massOr0 b) (pos 0)) (pos 0) is-one
+        ∙ ap (λ u. cond u (massOr0 b) (pos 0)) (placed-here other ∙ ap (λ u. u && eqb x (b .first)) (sym placed ∙ q) ∙ ap (eqb x) (sym e) ∙ eqb-sym x y)
+      where
+        is-one : isModification b ≡ true
+        is-one = and-left (isModification b) (not (isLabelled b)) (and-left (isModification b && not (isLabelled b)) (onOnePosition (b .kind)) (sym placed ∙ q))
 
--- ---- the placed modifications
-pub placed-small : {bs : List ℕ} {ns : List ℤ} {k : ℕ} → Reach bs ns k → natAbs (placedMass (bracketIn bs ns k)) < massLimit
-unfolding placedMass
-placed-small {bs} {ns} {k} r = by (isPlaced (bracketIn bs ns k))
+    pub booked-nowhere : p ≡ false → bookedAt t x b ≡ pos 0
+    booked-nowhere q = not-booked t x b (placed-here other ∙ ap (λ u. u && eqb x (b .first)) (sym placed ∙ q))
+
+-- ---- a mass at the positions that bracket k names, one after the other: of those before x, each that is named has it
+pub record BookingNamed (bs : List ℕ) (k end : ℕ) (m : ℤ) (x : ℕ) (l₀ l : List ℤ) : Type 0 where
+  pub end-is : end ≡ residuesField bs + 2
+  pub can : CanBookNamed bs k l₀ m
+  pub inside : x ≤ end
+  pub whole : length l ≡ positionLimit
+  pub entry :
+      (ns : List ℤ) (y : ℕ) → y < positionLimit
+      → getD l y (pos 0) ≡ getD l₀ y (pos 0) +ℤ cond (ltb y x && names (tablesIn bs ns) (bracketIn bs ns k .places) y) m (pos 0)
+
+pub naming-start : {bs : List ℕ} {k n : ℕ} {m m′ : ℤ} {l : List ℤ} → CanBookNamed bs k l m → m′ ≡ m → n ≡ residuesField bs → BookingNamed bs k (n + 2) m′ 0 l l
+naming-start {bs} {k} {n} {m} {m′} {l} p read e =
+    record {
+      end-is = omega arith;
+      can = subst (CanBookNamed bs k l) (sym read) p;
+      inside = omega arith;
+      whole = p .held .whole;
+      entry =
+          λ ns y h. sym (+ℤ-idr (getD l y (pos 0)))
+          ∙ ap (λ u. getD l y (pos 0) +ℤ cond (u && names (tablesIn bs ns) (bracketIn bs ns k .places) y) m′ (pos 0)) (sym (le-ltb y 0 (omega arith)));
+    }
+
+-- those before x, and x itself where it is named
+named-too : (m : ℤ) (x y : ℕ) (u : Bool) → (y ≡ x → u ≡ true) → cond (ltb y x && u) m (pos 0) +ℤ cond (eqb x y) m (pos 0) ≡ cond (ltb y (x + 1) && u) m (pos 0)
+named-too m x y u h = by (ℕ-discrete x y)
   where
-    by : (t : Bool) → natAbs (cond t (massOr0 (bracketIn bs ns k)) (pos 0)) < massLimit
-    by true = mass-small r
-    by false = omega arith
+    by : Dec (x ≡ y) → cond (ltb y x && u) m (pos 0) +ℤ cond (eqb x y) m (pos 0) ≡ cond (ltb y (x + 1) && u) m (pos 0)
+    by (yes e) = rw (le-ltb y x (omega arith), eq-eqb x y e, lt-ltb y (x + 1) (omega arith), h (sym e)) (+ℤ-idl m)
+    by (no e) = rw (ne-eqb x y e, next-test x y (λ q. e (sym q))) (+ℤ-idr (cond (ltb y x && u) m (pos 0)))
 
-pub placed-mass-is : (b : Bracket (Unit {0})) {t : Bool} {m : ℤ} → t ≡ isPlaced b → t ≡ true → m ≡ massOr0 b → m ≡ placedMass b
-unfolding placedMass
-placed-mass-is b e y f = f ∙ ap (λ t. cond t (massOr0 b) (pos 0)) (sym y ∙ e)
+module _ {bs : List ℕ} {k end : ℕ} {m : ℤ} {x : ℕ} {l₀ l : List ℤ} (s : BookingNamed bs k end m x l₀ l) where
+  naming-held : EntriesKept l (k + 1)
+  naming-held =
+      record {
+        whole = s .whole;
+        small =
+            λ y h.
+            rw (s .entry [] y h)
+            (omega (
+              arith,
+              abs-add (getD l₀ y (pos 0)) (cond (ltb y x && names (tablesIn bs []) (bracketIn bs [] k .places) y) m (pos 0)),
+              s .can .held .small y h,
+              small-or-none m (s .can .small) (ltb y x && names (tablesIn bs []) (bracketIn bs [] k .places) y),
+            ));
+      }
 
-pub no-placed-mass : (b : Bracket (Unit {0})) {t : Bool} → t ≡ isPlaced b → t ≡ false → pos 0 ≡ placedMass b
-unfolding placedMass
-no-placed-mass b e y = ap (λ t. cond t (massOr0 b) (pos 0)) (sym y ∙ e)
+  pub naming-asks : x < end → Row bs k × Position bs x
+  naming-asks h = (s .can .row, record { room = s .can .row .room; few-residues = s .can .few-residues; inside = omega (arith, s .end-is) })
+
+  pub naming-low : x < end → x < positionLimit
+  naming-low h = omega (arith, s .end-is, s .can .few-residues)
+
+  pub naming-fits : CanBook l x m
+  naming-fits h = omega (arith, naming-held .small x h, s .can .small, s .can .row .inside)
+
+  module _ {z : Bool} (h : x < end) (named : (ns : List ℤ) → z ≡ names (tablesIn bs ns) (bracketIn bs ns k .places) x) where
+    pub naming-one : {l′ : List ℤ} → z ≡ true → l′ ≡ booked l x m → BookingNamed bs k end m (x + 1) l₀ l′
+    naming-one {l′} t g =
+        subst (BookingNamed bs k end m (x + 1) l₀) (sym (g ∙ ap (λ u. cond u (set l x (getD l x (pos 0) +ℤ m)) l) (lt-ltb x positionLimit (naming-low h))))
+        (record {
+          end-is = s .end-is;
+          can = s .can;
+          inside = omega arith;
+          whole = length-set l x (getD l x (pos 0) +ℤ m) ∙ s .whole;
+          entry =
+              λ ns y r.
+              booked-at naming-held x (naming-low h) m refl y
+              ∙ ap (λ w. w +ℤ cond (eqb x y) m (pos 0)) (s .entry ns y r)
+              ∙ +ℤ-assoc (getD l₀ y (pos 0)) (cond (ltb y x && names (tablesIn bs ns) (bracketIn bs ns k .places) y) m (pos 0)) (cond (eqb x y) m (pos 0))
+              ∙ ap (λ w. getD l₀ y (pos 0) +ℤ w)
+              (named-too m x y (names (tablesIn bs ns) (bracketIn bs ns k .places) y)
+              (λ e. ap (names (tablesIn bs ns) (bracketIn bs ns k .places)) e ∙ sym (named ns) ∙ t));
+        })
+
+    pub naming-none : z ≡ false → BookingNamed bs k end m (x + 1) l₀ l
+    naming-none t =
+        record {
+          end-is = s .end-is;
+          can = s .can;
+          inside = omega arith;
+          whole = s .whole;
+          entry =
+              λ ns y r. s .entry ns y r
+              ∙ ap (λ u. getD l₀ y (pos 0) +ℤ cond u m (pos 0))
+              (sym
+              (next-unnamed x y (names (tablesIn bs ns) (bracketIn bs ns k .places) y)
+              (λ e. ap (names (tablesIn bs ns) (bracketIn bs ns k .places)) e ∙ sym (named ns) ∙ t)));
+        }
+
+  pub naming-end : {m′ : ℤ} → end ≤ x → m ≡ m′ → NamedBooked bs k l₀ l m′
+  naming-end {m′} h read =
+      subst (NamedBooked bs k l₀ l) read
+      (record {
+        held = naming-held;
+        entry =
+            λ ns y r. s .entry ns y r
+            ∙ ap (λ u. getD l₀ y (pos 0) +ℤ cond u m (pos 0))
+            (ap (λ n. ltb y n && names (tablesIn bs ns) (bracketIn bs ns k .places) y) all ∙ sym (reached-in bs ns k y (s .end-is)));
+      })
+    where
+      all : x ≡ end
+      all = omega (arith, s .inside)
+
+-- ---- bracket k, as it is placed
+module _ {bs : List ℕ} {ns : List ℤ} {k : ℕ} {l : List ℤ} (p : CanPlace bs ns k l) where
+  pub placing-first : {y : ℕ} → y ≡ firstField bs k → y < positionLimit
+  placing-first e = omega (arith, e, p .reach .bounds .few-residues, p .reach .bounds .bracket k (p .reach .inside) .first)
+
+  few-brackets : k < bracketLimit
+  few-brackets = reach-row (p .reach) .inside
+
+  module _ {m m′ : ℤ} (read : m′ ≡ m) (mass : m ≡ massOr0 (bracketIn bs ns k)) where
+    small-mass : natAbs m′ < massLimit
+    small-mass = rw (read, mass) (mass-small (p .reach))
+
+    pub placing-named : CanBookNamed bs k l m′
+    placing-named = record { row = reach-row (p .reach); few-residues = p .reach .bounds .few-residues; held = p .held; small = small-mass }
+
+    pub placing-fits : {y : ℕ} → CanBook l y m′
+    placing-fits {y} h = omega (arith, p .held .small y h, small-mass, few-brackets)
+
+    module _ {d : Bool} (declared : d ≡ isDeclared (bracketIn bs ns k .kind) && isModification (bracketIn bs ns k)) where
+      pub placed-reached : {l′ : List ℤ} → d ≡ true → NamedBooked bs k l l′ m′ → BracketPlaced bs ns k l l′
+      placed-reached t n =
+          record {
+            held = n .held;
+            entry =
+                λ x h. n .entry ns x h
+                ∙ ap (λ z. getD l x (pos 0) +ℤ z)
+                (ap (λ z. cond (member x (reached (tablesIn bs ns) (bracketIn bs ns k))) z (pos 0)) (read ∙ mass) ∙ sym (booked-reached (tablesIn bs ns) (bracketIn bs ns k) declared x t));
+          }
+
+      pub placed-own : {l′ : List ℤ} {q : Bool} {y : ℕ} → d ≡ false → q ≡ isPlaced (bracketIn bs ns k) → q ≡ true → y ≡ firstField bs k → y ≡ bracketIn bs ns k .first → l′ ≡ booked l y m′ → BracketPlaced bs ns k l l′
+      placed-own {l′} {q} {y} t placed is first own g =
+          subst (BracketPlaced bs ns k l) (sym (g ∙ ap (λ u. cond u (set l y (getD l y (pos 0) +ℤ m′)) l) (lt-ltb y positionLimit (placing-first first))))
+          (record {
+            held = held-booked (p .held) y (placing-first first) m′ small-mass refl;
+            entry =
+                λ x h. booked-at (p .held) y (placing-first first) m′ refl x
+                ∙ ap (λ z. getD l x (pos 0) +ℤ z)
+                (ap (λ z. cond (eqb y x) z (pos 0)) (read ∙ mass) ∙ sym (booked-own (tablesIn bs ns) (bracketIn bs ns k) declared x placed t is own));
+          })
+
+  pub placed-nowhere : {d q : Bool} → d ≡ isDeclared (bracketIn bs ns k .kind) && isModification (bracketIn bs ns k) → d ≡ false → q ≡ isPlaced (bracketIn bs ns k) → q ≡ false → BracketPlaced bs ns k l l
+  placed-nowhere declared t placed is-not =
+      record {
+        held = record { whole = p .held .whole; small = λ x h. omega (arith, p .held .small x h) };
+        entry =
+            λ x h. sym (+ℤ-idr (getD l x (pos 0)))
+            ∙ ap (λ z. getD l x (pos 0) +ℤ z) (sym (booked-nowhere (tablesIn bs ns) (bracketIn bs ns k) declared x placed t is-not));
+      }
 
 -- what brackets add to the entry of position x
 abbrev bookings : Tables → ℕ → List (Bracket (Unit {0})) → ℤ
@@ -123,54 +272,27 @@ placing-start {bs} {ns} {n} b e =
     }
 
 module _ {bs : List ℕ} {ns : List ℤ} {n k : ℕ} {l : List ℤ} (i : BookingPlaced bs ns n k l) where
-  pub placing-reach : k < n → Reach bs ns k
-  placing-reach h = record { bounds = i .bounds; inside = rw (← i .many) h }
+  pub placing-asks : k < n → CanPlace bs ns k l
+  placing-asks h = record { reach = record { bounds = i .bounds; inside = rw (← i .many) h }; held = i .held }
 
-  pub placing-row : k < n → (j : ℕ) → j ≤ k → (bytesSize ≤ length bs) × (j < bracketLimit)
-  placing-row h j q = (i .bounds .bytes-room, omega (arith, placing-reach h .inside, i .bounds .few-brackets))
-
-  pub placing-first : {y : ℕ} → k < n → (j : ℕ) → j ≤ k → y ≡ firstField bs j → y < positionLimit
-  placing-first h j q e = omega (arith, e, i .bounds .few-residues, i .bounds .bracket j (omega (arith, placing-reach h .inside)) .first)
-
-  pub placing-few : n ≤ bracketLimit
+  placing-few : n ≤ bracketLimit
   placing-few = omega (arith, i .many, i .bounds .few-brackets)
 
-  pub placing-next : {y : ℕ} {m v : ℤ} → k < n → y ≡ bracketIn bs ns k .first → y < positionLimit → m ≡ placedMass (bracketIn bs ns k) → v ≡ getD l y (pos 0) +ℤ m → BookingPlaced bs ns n (k + 1) (set l y v)
+  pub placing-next : {l′ : List ℤ} → k < n → BracketPlaced bs ns k l l′ → BookingPlaced bs ns n (k + 1) l′
   unfolding sum
-  placing-next {y} {m} {v} h e r f g =
+  placing-next {l′} h p =
       record {
         bounds = i .bounds;
         many = i .many;
         inside = omega arith;
-        held = held-booked (i .held) y r m (rw f (placed-small (placing-reach h))) g;
+        held = p .held;
         entry =
             λ x q.
             i .entry x q
-            ∙ ap (λ z. getD l x (pos 0) +ℤ z)
-            (ap (bookings (tablesIn bs ns) x) (tabled-at (bracketIn bs ns) k n h)
-            ∙ ap (λ z. z +ℤ bookings (tablesIn bs ns) x (tabled (bracketIn bs ns) (k + 1) (n - (k + 1)))) (booked-share (tablesIn bs ns) x (bracketIn bs ns k))
-            ∙ ap (λ z. cond (eqb z x) (placedMass (bracketIn bs ns k)) (pos 0) +ℤ bookings (tablesIn bs ns) x (tabled (bracketIn bs ns) (k + 1) (n - (k + 1)))) (sym e)
-            ∙ ap (λ z. cond (eqb y x) z (pos 0) +ℤ bookings (tablesIn bs ns) x (tabled (bracketIn bs ns) (k + 1) (n - (k + 1)))) (sym f))
-            ∙ sym (+ℤ-assoc (getD l x (pos 0)) (cond (eqb y x) m (pos 0)) (bookings (tablesIn bs ns) x (tabled (bracketIn bs ns) (k + 1) (n - (k + 1)))))
-            ∙ ap (λ z. z +ℤ bookings (tablesIn bs ns) x (tabled (bracketIn bs ns) (k + 1) (n - (k + 1)))) (sym (booked-at (i .held) y r m g x));
+            ∙ ap (λ ks. getD l x (pos 0) +ℤ bookings (tablesIn bs ns) x ks) (tabled-at (bracketIn bs ns) k n h)
+            ∙ sym (+ℤ-assoc (getD l x (pos 0)) (bookedAt (tablesIn bs ns) x (bracketIn bs ns k)) (bookings (tablesIn bs ns) x (tabled (bracketIn bs ns) (k + 1) (n - (k + 1)))))
+            ∙ ap (λ z. z +ℤ bookings (tablesIn bs ns) x (tabled (bracketIn bs ns) (k + 1) (n - (k + 1)))) (sym (p .entry x q));
       }
-
-  -- the same, as the machine books it
-  module _ {y : ℕ} {m : ℤ} (h : k < n) (r : y < positionLimit) (f : m ≡ placedMass (bracketIn bs ns k)) where
-    few-so-far : k ≤ bracketLimit + copyLimit
-    few-so-far = omega (arith, placing-few)
-
-    small-placed : natAbs m < massLimit
-    small-placed = rw f (placed-small (placing-reach h))
-
-    mass-back : toZ w64 (ofZ w64 m) ≡ m
-    mass-back = back m (omega (arith, small-placed))
-
-    pub placing-asks : natAbs (toZ w64 (ofZ w64 (getD l y (pos 0)))) + natAbs (toZ w64 (ofZ w64 m)) < 2 ^ 63
-    placing-asks = asks-entry (i .held) y r m few-so-far small-placed mass-back
-
-    pub placing-again : {v : ℤ} → y ≡ bracketIn bs ns k .first → v ≡ toZ w64 (ofZ w64 (getD l y (pos 0))) +ℤ toZ w64 (ofZ w64 m) → BookingPlaced bs ns n (k + 1) (set l y (toZ w64 (ofZ w64 v)))
-    placing-again e g = placing-next h e r f (gives-entry (i .held) y r m few-so-far small-placed mass-back g)
 
   pub placing-end : n ≤ k → PlacedBooked bs ns l
   unfolding sum

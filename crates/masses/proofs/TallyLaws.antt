@@ -8,23 +8,29 @@ use native.Mathlib.Nat.{add-zero, add-assoc, mul-le-mul}
 use native.Mathlib.Omega.{arith}
 use borrow.Author.Tests.{eq-eqb, ne-eqb}
 use lib.IntN.{ℤ, pos, natAbs, _+ℤ_, _*ℤ_, +ℤ-idl, +ℤ-idr, +ℤ-assoc}
+use lib.ListN.{length}
 use mir.Syntax.{w64}
 use mir.Val.{toZ, ofZ}
-use Rattle.scope.specs.Limits.{bracketLimit, countLimit}
+use Rattle.scope.specs.declared.grammar.Kind.{Kind}
+use Rattle.scope.specs.Kinds.{isDeclared}
+use Rattle.scope.specs.Limits.{bracketLimit, countLimit, positionLimit}
 use Rattle.scope.specs.Line.{Bracket}
 use Rattle.scope.specs.Lists.{given, tabled}
 use Rattle.scope.specs.Modifications.{isModification}
+use Rattle.scope.specs.Positions.{reached, placedOn}
 use Rattle.scope.specs.Tables.{Tables}
 use Rattle.scope.specs.Layout.{bracketIn, tablesIn, bracketsField}
 use Rattle.scope.specs.Masses.{massOf, massOr0, times, sum, sumℕ, total, lacking}
 use Rattle.areas.specs.Bounds.{Small, Bounds}
-use Rattle.basics.specs.Tabled.{tabled-at, tabled-end, tabled-all}
+use Rattle.basics.specs.Tabled.{tabled-at, tabled-end, tabled-all, residues-many}
+use Rattle.basics.specs.Choice.{branch}
 use Rattle.masses.specs.declared.Mass.{Mass}
 use Rattle.masses.specs.declared.Mass.the-variants.{Is, Lacking}
 use Rattle.masses.specs.declared.Weight.the-variants.{Total, Lacks}
 use Rattle.masses.specs.Reach.{Reach}
 use Rattle.masses.specs.Weights.{saysMass, weightOf}
 use Rattle.mass_laws.specs.Terms.{massLimit}
+use Rattle.mass_laws.specs.Placed.{placed-few}
 use Rattle.mass_laws.specs.Weights.{weight, total-is, lack, lacking-is}
 use Rattle.masses.specs.Tallies.{TalliedBefore, CanTally, Tallied}
 use Rattle.masses.proofs.Whole.{back}
@@ -40,25 +46,38 @@ module _ {bs : List ℕ} {ns : List ℤ} {k : ℕ} (r : Reach bs ns k) where
   unfolding bracketIn
   few-copies = r .bounds .bracket k (r .inside) .few-counts
 
-  weight-by : (t : Bool) → natAbs (cond t (pos (bracketIn bs ns k .count) *ℤ massOr0 (bracketIn bs ns k)) (pos 0)) ≤ countLimit * massLimit
+  pub few-times : times (tablesIn bs ns) (bracketIn bs ns k) ≤ positionLimit
+  few-times =
+      branch (λ n. n ≤ positionLimit) (isDeclared (bracketIn bs ns k .kind))
+      (omega (arith, placed-few (tablesIn bs ns) (bracketIn bs ns k), residues-many bs ns, r .bounds .few-residues)) (omega (arith, few-copies))
+
+  weight-by : (t : Bool) → natAbs (cond t (pos (times (tablesIn bs ns) (bracketIn bs ns k)) *ℤ massOr0 (bracketIn bs ns k)) (pos 0)) ≤ positionLimit * massLimit
   weight-by true =
-      let few : bracketIn bs ns k .count ≤ countLimit = few-copies in
       let small : natAbs (massOr0 (bracketIn bs ns k)) ≤ massLimit = omega (arith, mass-small) in
-      omega (arith, abs-mul (bracketIn bs ns k .count) (massOr0 (bracketIn bs ns k)), mul-le-mul few small)
+      omega (arith, abs-mul (times (tablesIn bs ns) (bracketIn bs ns k)) (massOr0 (bracketIn bs ns k)), mul-le-mul few-times small)
   weight-by false = omega arith
 
-  pub weight-small : natAbs (weight (tablesIn bs ns) (bracketIn bs ns k)) ≤ countLimit * massLimit
+  pub weight-small : natAbs (weight (tablesIn bs ns) (bracketIn bs ns k)) ≤ positionLimit * massLimit
   unfolding weight
   weight-small = weight-by (isModification (bracketIn bs ns k))
 
-  lack-by : (t : Bool) (o : Option ℤ) → cond t (given o (λ m. 0) (bracketIn bs ns k .count)) 0 ≤ countLimit
+  lack-by : (t : Bool) (o : Option ℤ) → cond t (given o (λ m. 0) (times (tablesIn bs ns) (bracketIn bs ns k))) 0 ≤ positionLimit
   lack-by true (some m) = omega arith
-  lack-by true none = few-copies
+  lack-by true none = few-times
   lack-by false o = omega arith
 
-  pub lack-few : lack (tablesIn bs ns) (bracketIn bs ns k) ≤ countLimit
+  pub lack-few : lack (tablesIn bs ns) (bracketIn bs ns k) ≤ positionLimit
   unfolding lack
   lack-few = lack-by (isModification (bracketIn bs ns k)) (massOf (bracketIn bs ns k))
+
+-- ---- how often a modification counts, by whether it is declared
+module _ (bs : List ℕ) (k : ℕ) {d : Bool} {c : Kind} (kind : (ns : List ℤ) → c ≡ bracketIn bs ns k .kind) (said : d ≡ isDeclared c) where
+  pub times-reached : {n : ℕ} → d ≡ true → ((ns : List ℤ) → n ≡ length (reached (tablesIn bs ns) (bracketIn bs ns k))) → (ns : List ℤ) → isModification (bracketIn bs ns k) ≡ true → n ≡ times (tablesIn bs ns) (bracketIn bs ns k)
+  unfolding placedOn
+  times-reached t e ns m = rw (sym (said ∙ ap isDeclared (kind ns)) ∙ t, m) (e ns)
+
+  pub times-counted : {n : ℕ} → d ≡ false → ((ns : List ℤ) → n ≡ bracketIn bs ns k .count) → (ns : List ℤ) → isModification (bracketIn bs ns k) ≡ true → n ≡ times (tablesIn bs ns) (bracketIn bs ns k)
+  times-counted t e ns m = rw (sym (said ∙ ap isDeclared (kind ns)) ∙ t) (e ns)
 
 -- ---- one bracket more
 module _ (t : Tables) (b : Bracket (Unit {0})) {is : Bool} (e : is ≡ isModification b) where
@@ -96,20 +115,20 @@ module _ (t : Tables) (b : Bracket (Unit {0})) {is : Bool} (e : is ≡ isModific
       }
 
 -- the same, as the machine adds it: what it reads back from the bits of the sum, of the mass and of their product
-module _ {bs : List ℕ} {ns : List ℤ} {k w : ℕ} {s : ℤ} (t : CanTally bs ns k s w) {n : ℕ} {o : Mass} {m m′ : ℤ} (c : n ≡ bracketIn bs ns k .count) (f : saysMass o ≡ massOf (bracketIn bs ns k)) (q : o ≡ Is m) (read : m′ ≡ m) where
+module _ {bs : List ℕ} {ns : List ℤ} {k w : ℕ} {s : ℤ} (t : CanTally bs ns k s w) {n : ℕ} {o : Mass} {m m′ : ℤ} (c : n ≡ times (tablesIn bs ns) (bracketIn bs ns k)) (f : saysMass o ≡ massOf (bracketIn bs ns k)) (q : o ≡ Is m) (read : m′ ≡ m) where
   mass-known : m′ ≡ massOr0 (bracketIn bs ns k)
   mass-known = read ∙ is-mass (bracketIn bs ns k) f q
 
-  few-known : n ≤ countLimit
-  few-known = rw c (few-copies (t .reach))
+  few-known : n ≤ positionLimit
+  few-known = rw c (few-times (t .reach))
 
   small-known : natAbs m′ < massLimit
   small-known = rw mass-known (mass-small (t .reach))
 
-  pub asks-times : (n ≤ countLimit) × Small m′
+  pub asks-times : (n ≤ positionLimit) × Small m′
   asks-times = (few-known, small-known)
 
-  product-small : natAbs (pos n *ℤ m′) ≤ countLimit * massLimit
+  product-small : natAbs (pos n *ℤ m′) ≤ positionLimit * massLimit
   product-small =
       let small : natAbs m′ ≤ massLimit = omega (arith, small-known) in
       omega (arith, abs-mul n m′, mul-le-mul few-known small)
@@ -130,7 +149,7 @@ module _ {bs : List ℕ} {ns : List ℤ} {k w : ℕ} {s : ℤ} (t : CanTally bs 
   tallied-by-machine {is} {p} e y g h i =
       tallied-mass (tablesIn bs ns) (bracketIn bs ns k) e y c f q (product-back g ∙ ap (λ x. pos n *ℤ x) read) (i ∙ h ∙ ap (λ x. x +ℤ toZ w64 (ofZ w64 p)) sum-back)
 
-pub lacked-by-machine : {bs : List ℕ} {ns : List ℤ} {k w n : ℕ} {s : ℤ} {is : Bool} {o : Mass} → CanTally bs ns k s w → is ≡ isModification (bracketIn bs ns k) → is ≡ true → n ≡ bracketIn bs ns k .count → saysMass o ≡ massOf (bracketIn bs ns k) → o ≡ Lacking
+pub lacked-by-machine : {bs : List ℕ} {ns : List ℤ} {k w n : ℕ} {s : ℤ} {is : Bool} {o : Mass} → CanTally bs ns k s w → is ≡ isModification (bracketIn bs ns k) → is ≡ true → n ≡ times (tablesIn bs ns) (bracketIn bs ns k) → saysMass o ≡ massOf (bracketIn bs ns k) → o ≡ Lacking
     → Tallied (tablesIn bs ns) (bracketIn bs ns k) s w (toZ w64 (ofZ w64 s)) (w + n)
 lacked-by-machine {bs} {ns} {k} {w} {n} {s} t e y c f q =
     subst (λ x. Tallied (tablesIn bs ns) (bracketIn bs ns k) s w x (w + n))

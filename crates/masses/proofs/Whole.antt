@@ -8,7 +8,7 @@ use lib.Signed.{quotZ}
 use mir.Syntax.{w64}
 use mir.Val.{SFits, toZ, ofZ}
 use mir.ValLaws.{toZ-ofZ, toZ-pos}
-use Rattle.scope.specs.Limits.{countLimit, decimalLimit}
+use Rattle.scope.specs.Limits.{positionLimit, decimalLimit}
 use Rattle.scope.specs.Tables.{signed, millionths}
 use Rattle.scope.specs.Layout.{isNegative, numberIn}
 use Rattle.tens.proofs.Powers.{power-some, power-few}
@@ -44,7 +44,7 @@ module _ (a b : ℤ) (h : natAbs a + natAbs b < 2 ^ 63) where
   pub stored-sum : {r : ℤ} → r ≡ toZ w64 (ofZ w64 a) +ℤ toZ w64 (ofZ w64 b) → toZ w64 (ofZ w64 r) ≡ a +ℤ b
   stored-sum e = rw e sum-back
 
-module _ (n : ℕ) (m : ℤ) (few : n ≤ countLimit) (small : natAbs m < massLimit) where
+module _ (n : ℕ) (m : ℤ) (few : n ≤ positionLimit) (small : natAbs m < massLimit) where
   back-n : toZ w64 n ≡ pos n
   back-n = toZ-pos w64 n (omega arith)
 

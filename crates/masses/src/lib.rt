@@ -1,36 +1,42 @@
 // Masses: a bracket's, the total, the ledger of a placement, and the display.
 use areas::count;
 use areas::first;
+use areas::residues;
 use brackets::copies_of;
+use brackets::is_declared;
 use brackets::is_modification;
 use brackets::is_placed;
+use brackets::kind;
+use brackets::names;
 use brackets::parts;
+use brackets::reached;
 use scope::answers::Booked;
 use scope::answers::Ledger;
 use scope::answers::Placement;
+use scope::grammar::Kind;
 use scope::tables::Number;
 ghost use mathlib.Core.Path.{_≡_};
-ghost use mathlib.Core.Bool.{_&&_};
+ghost use mathlib.Core.Bool.{true, _&&_};
+ghost use mathlib.Core.List.{List};
 ghost use Prim.Native.Nat.{min, _+_, _*_, _-_, _<_, _≤_, _^_};
 ghost use lib.Dec.{eqb};
-ghost use lib.IntN.{pos, natAbs, _+ℤ_, _*ℤ_};
+ghost use lib.IntN.{ℤ, pos, natAbs, _+ℤ_, _*ℤ_};
 ghost use Rattle.scope.specs.declared.grammar.Key.the-variants.{Obs};
 ghost use Rattle.scope.specs.declared.answers.Booked.the-variants.{Done};
-ghost use Rattle.scope.specs.Limits.{partLimit, decimalLimit, countLimit, copyLimit};
+ghost use Rattle.scope.specs.Limits.{residueLimit, partLimit, decimalLimit, countLimit, copyLimit, positionLimit};
 ghost use Rattle.scope.specs.Lists.{keep};
 ghost use Rattle.scope.specs.Keys.{keyCode};
-ghost use Rattle.scope.specs.Modifications.{isKey, copies};
+ghost use Rattle.scope.specs.Modifications.{isKey, isModification, copies};
 ghost use Rattle.scope.specs.Tables.{millionths};
-ghost use Rattle.scope.specs.Layout.{numberIn, bracketIn, tablesIn, decimalsField, keyField, massField, valueField};
-ghost use Rattle.scope.specs.Masses.{firstMass, massOf, massOr0, ledger, daltons};
+ghost use Rattle.scope.specs.Layout.{numberIn, bracketIn, tablesIn, decimalsField, keyField, massField, residuesField, valueField};
+ghost use Rattle.scope.specs.Masses.{firstMass, massOf, massOr0, times, ledger, daltons};
 ghost use Rattle.areas.specs.Bounds.{Small, Bounds};
 ghost use Rattle.brackets.specs.Row.{Row};
 ghost use Rattle.masses.specs.Reach.{Reach, ReachPart};
 ghost use Rattle.masses.specs.Weights.{saysMass, weighs, wanted, weightOf};
 ghost use Rattle.mass_laws.specs.Terms.{totalLimit};
-ghost use Rattle.mass_laws.specs.Weights.{placedMass};
 ghost use Rattle.masses.specs.Tallies.{CanTally, Tallied};
-ghost use Rattle.masses.specs.Booking.{PlacedBooked, CanBook, booked, CanPut, CanFloat, CopiesPut};
+ghost use Rattle.masses.specs.Booking.{CanBook, booked, CanBookNamed, NamedBooked, CanPlace, BracketPlaced, PlacedBooked, CanPut, CanFloat, CopiesPut};
 
 // The mass of a bracket.
 pub enum Mass {
@@ -137,11 +143,22 @@ fn add(a: i64, b: i64) -> i64
 
 // A mass taken so many times.
 fn times(n: usize, m: i64) -> i64
-    requires { ⌜ (n ≤ countLimit) × (Small m) ⌝ }
+    requires { ⌜ (n ≤ positionLimit) × (Small m) ⌝ }
     ensures { λ r. ⌜ r ≡ pos n *ℤ m ⌝ }
 {
     let c = n as i64;
     c * m
+}
+
+// How often bracket k counts, if it is a modification: a declared one once for each position that it reaches.
+fn counts(bytes: &[u8], k: usize) -> usize
+    requires { ⌜ (Row (now bytes) k) × (residuesField (now bytes) ≤ residueLimit) ⌝ }
+    ensures { λ r. ⌜ ((ns : List ℤ) → isModification (bracketIn (now (bytes .entry)) ns k) ≡ true → r ≡ times (tablesIn (now (bytes .entry)) ns) (bracketIn (now (bytes .entry)) ns k)) × (r ≤ positionLimit) ⌝ }
+{
+    if kind(bytes, k).is(Kind::Declared) {
+        return reached(bytes, k);
+    }
+    count(bytes, k)
 }
 
 // The tally with bracket k.
@@ -150,7 +167,7 @@ fn tally_with(bytes: &[u8], numbers: &[i64], k: usize, t: Tally) -> Tally
     ensures { λ r. ⌜ Tallied (tablesIn (now (bytes .entry)) (now (numbers .entry))) (bracketIn (now (bytes .entry)) (now (numbers .entry)) k) (t .sum) (t .lacks) (r .sum) (r .lacks) ⌝ }
 {
     if is_modification(bytes, k) {
-        let n = count(bytes, k);
+        let n = counts(bytes, k);
         let mass = bracket_mass(bytes, numbers, k);
         match mass {
             Mass::Is(m) => {
@@ -197,15 +214,48 @@ pub fn as_daltons(total: i64) -> f64
     (total as f64) / 1000000.0
 }
 
-// The mass that bracket k adds to the entry of its position.
-fn placed_mass(bytes: &[u8], numbers: &[i64], k: usize) -> i64
-    requires { ⌜ Reach (now bytes) (now numbers) k ⌝ }
-    ensures { λ r. ⌜ r ≡ placedMass (bracketIn (now (bytes .entry)) (now (numbers .entry)) k) ⌝ }
+// A mass is booked at a position, if the ledger has it.
+fn book(l: &mut [i64; Ledger::POSITIONS], position: u16, m: i64)
+    requires { ⌜ CanBook (now l) position m ⌝ }
+    ensures { λ _. ⌜ now (l .exit) ≡ booked (now (l .entry)) position m ⌝ }
 {
-    if is_placed(bytes, k) {
-        return mass_or_0(bytes, numbers, k);
+    let x = position as usize;
+    if x < Ledger::POSITIONS {
+        let old = l[x];
+        l[x] = add(old, m);
     }
-    0
+}
+
+// A mass is booked at every position that a place of bracket k names.
+fn book_named(bytes: &[u8], k: usize, l: &mut [i64; Ledger::POSITIONS], m: i64)
+    requires { ⌜ CanBookNamed (now bytes) k (now l) m ⌝ }
+    ensures { λ _. ⌜ NamedBooked (now (bytes .entry)) k (now (l .entry)) (now (l .exit)) m ⌝ }
+{
+    let end = residues(bytes) + 2;
+    let mut x: usize = 0;
+    while x < end {
+        if names(bytes, k, x) {
+            book(l, x as u16, m);
+        }
+        x += 1;
+    }
+}
+
+// What bracket k adds to the ledger where it is placed: a declared modification its mass at each position that it reaches, any other at its own.
+fn book_placed(bytes: &[u8], numbers: &[i64], k: usize, l: &mut [i64; Ledger::POSITIONS])
+    requires { ⌜ CanPlace (now bytes) (now numbers) k (now l) ⌝ }
+    ensures { λ _. ⌜ BracketPlaced (now (bytes .entry)) (now (numbers .entry)) k (now (l .entry)) (now (l .exit)) ⌝ }
+{
+    if is_declared(bytes, k) {
+        let m = mass_or_0(bytes, numbers, k);
+        book_named(bytes, k, l, m);
+        return;
+    }
+    if is_placed(bytes, k) {
+        let m = mass_or_0(bytes, numbers, k);
+        let x = first(bytes, k);
+        book(l, x as u16, m);
+    }
 }
 
 // The ledger with the placed modifications.
@@ -220,11 +270,7 @@ fn placed_ledger(bytes: &[u8], numbers: &[i64]) -> Ledger
     let n = areas::brackets(bytes);
     let mut k: usize = 0;
     while k < n {
-        let x = first(bytes, k);
-        let m = placed_mass(bytes, numbers, k);
-        let old = l.at[x];
-        let sum = add(old, m);
-        l.at[x] = sum;
+        book_placed(bytes, numbers, k, &mut l.at);
         k += 1;
     }
     l
@@ -240,18 +286,6 @@ fn until(i: usize, c: usize) -> usize
         return end;
     }
     Placement::COPIES
-}
-
-// A mass is booked at a position, if the ledger has it.
-fn book(l: &mut [i64; Ledger::POSITIONS], position: u16, m: i64)
-    requires { ⌜ CanBook (now l) position m ⌝ }
-    ensures { λ _. ⌜ now (l .exit) ≡ booked (now (l .entry)) position m ⌝ }
-{
-    let x = position as usize;
-    if x < Ledger::POSITIONS {
-        let old = l[x];
-        l[x] = add(old, m);
-    }
 }
 
 // c copies of a mass, at the placement's positions from i on. How many copies are booked then.

@@ -10,7 +10,7 @@ ghost use mathlib.Core.Path.{_≡_};
 ghost use mathlib.Core.Bool.{cond};
 ghost use lib.Dec.{eqb};
 ghost use Rattle.scope.specs.Bytes.{openSquare};
-ghost use Rattle.scope.specs.Reading.{square, front, labile, element, further, groupFirst, inGroup, undecided, counted, referred, atFront, act, mayEnd};
+ghost use Rattle.scope.specs.Reading.{square, front, labile, declared, element, further, groupFirst, inGroup, undecided, counted, referred, atFront, act, mayEnd};
 
 fn square_slot(kind: Kind, refers: bool, after: Mode) -> Slot
     ensures { λ r. ⌜ r ≡ square kind refers after ⌝ }
@@ -49,6 +49,20 @@ fn labile_slot() -> Slot
         labels: false,
         after: Mode::Labiles,
         referred: Mode::Labiles,
+    }
+}
+
+// The bracket of a modification that is declared once.
+fn declared_slot() -> Slot
+    ensures { λ r. ⌜ r ≡ declared ⌝ }
+{
+    Slot {
+        kind: Kind::Declared,
+        shut: b']',
+        refers: false,
+        labels: false,
+        after: Mode::Tagged,
+        referred: Mode::Tagged,
     }
 }
 
@@ -154,6 +168,43 @@ fn at_front(b: u8) -> Act
     at_element(b)
 }
 
+// The same, where a declaration may begin.
+fn at_declarations(b: u8) -> Act
+    ensures { λ r. ⌜ r ≡ act Mode.Front b ⌝ }
+{
+    if b == b'<' {
+        return Act::Go(Mode::Angle);
+    }
+    at_front(b)
+}
+
+fn at_angle(b: u8) -> Act
+    ensures { λ r. ⌜ r ≡ act Mode.Angle b ⌝ }
+{
+    if b == b'[' {
+        return Act::Begin(declared_slot());
+    }
+    Act::Stop
+}
+
+fn behind_tagged(b: u8) -> Act
+    ensures { λ r. ⌜ r ≡ act Mode.Tagged b ⌝ }
+{
+    if b == b'@' {
+        return Act::Places;
+    }
+    Act::Stop
+}
+
+fn behind_listed(b: u8) -> Act
+    ensures { λ r. ⌜ r ≡ act Mode.Listed b ⌝ }
+{
+    if b == b'>' {
+        return Act::Go(Mode::Front);
+    }
+    Act::Stop
+}
+
 fn behind_labile(b: u8) -> Act
     ensures { λ r. ⌜ r ≡ act Mode.Labiles b ⌝ }
 {
@@ -246,7 +297,10 @@ pub fn act_of(mode: Mode, b: u8) -> Act
     ensures { λ r. ⌜ r ≡ act mode b ⌝ }
 {
     match mode {
-        Mode::Front => at_front(b),
+        Mode::Front => at_declarations(b),
+        Mode::Angle => at_angle(b),
+        Mode::Tagged => behind_tagged(b),
+        Mode::Listed => behind_listed(b),
         Mode::Runs => at_front(b),
         Mode::Undecided => at_undecided(b),
         Mode::Counted => at_counted(b),
@@ -275,6 +329,9 @@ pub fn may_end(mode: Mode) -> bool
 {
     match mode {
         Mode::Front => false,
+        Mode::Angle => false,
+        Mode::Tagged => false,
+        Mode::Listed => false,
         Mode::Runs => false,
         Mode::Undecided => false,
         Mode::Counted => false,

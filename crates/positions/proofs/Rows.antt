@@ -6,25 +6,27 @@ use Prim.Native.Nat.{ℕ, zero, suc, _+_, _-_, _≤_, _<_}
 use native.Mathlib.Nat.{zero-add}
 use native.Mathlib.Numerals.{add-one}
 use native.Mathlib.Omega.{arith}
-use borrow.Author.Tests.{eq-eqb, ne-eqb, eqb-true, eqb-false, leb-true, leb-false, ltb-true, ltb-false, le-leb, lt-ltb, le-ltb}
+use borrow.Author.Tests.{eq-eqb, ne-eqb, eqb-true, eqb-false, leb-true, leb-false, le-leb, lt-ltb, le-ltb}
 use lib.Dec.{eqb, leb, ltb}
 use lib.IntN.{ℤ}
 use lib.ListN.{length, getD, set, replicate, length-set, getD-replicate}
 use lib.Seq.{getD-set-same, getD-set-other}
 use Rattle.scope.specs.declared.grammar.Kind.{Kind}
-use Rattle.scope.specs.Kinds.{isUnknown, unknownOrLabile}
-use Rattle.scope.specs.Limits.{positionLimit}
+use Rattle.scope.specs.Kinds.{isUnknown, isDeclared, unknownOrLabile}
+use Rattle.scope.specs.Limits.{residueLimit, positionLimit}
 use Rattle.scope.specs.Line.{Bracket}
 use Rattle.scope.specs.Lists.{flat, shared, tabled, member}
-use Rattle.scope.specs.Modifications.{isLabelled, definedBy, referredBy}
-use Rattle.scope.specs.Layout.{bracketIn, tablesIn, bracketsField, residuesField}
+use Rattle.scope.specs.Modifications.{isModification, isLabelled, definedBy, referredBy}
+use Rattle.scope.specs.Layout.{bytesSize, bracketIn, tablesIn, bracketsField, residuesField}
 use Rattle.scope.specs.Tables.{Tables}
-use Rattle.scope.specs.Positions.{isPlaced, placedOn, struckOut, between, referredAt, isUnlabelledUnknown, mayStand}
-use Rattle.basics.specs.Choice.{by-test}
+use Rattle.scope.specs.Positions.{names, isPlaced, placedOn, struckOut, between, referredAt, isUnlabelledUnknown, mayStand}
+use Rattle.basics.specs.Choice.{by-test, pick-true, pick-false}
 use Rattle.basics.specs.Members.{member-append}
 use Rattle.basics.specs.Positions.{placed-on}
 use Rattle.basics.specs.Tabled.{length-tabled}
-use Rattle.positions.specs.Marked.{RowSet, RowIs, always, heldIn, refersAt, referencesAt, ownAt, placedAt, struckAt, FreeIs}
+use Rattle.brackets.specs.Row.{Position}
+use Rattle.brackets.specs.Reached.{reached-in, next-test, next-unnamed}
+use Rattle.positions.specs.Marked.{RowSet, RowIs, always, heldIn, refersAt, referencesAt, ownAt, reachedAt, placedAt, struckAt, FreeIs}
 use Rattle.positions.proofs.Any.{anyOf, any-last}
 
 -- ---- one position, none, a second marking, another test that says the same
@@ -94,11 +96,6 @@ pub spread-start : {base a e : ℕ} {v : ℕ → ℕ} {old : List ℕ} → base 
 spread-start {base} {a} {e} {v} {old} h =
     record { low = omega arith; high = omega arith; room = h; marked = marked-none base v (λ y. leb a y && ltb y a) old (λ y l. not-yet a a y (omega arith)) }
 
-one-more : (x y : ℕ) → (y ≡ x → ⊥) → ltb y (x + 1) ≡ ltb y x
-one-more x y ne =
-    by-test (ltb y x) (λ t. lt-ltb y (x + 1) (omega (arith, ltb-true y x t)) ∙ sym t)
-    (λ t. le-ltb y (x + 1) (let f : x ≤ y = ltb-false y x t in omega arith) ∙ sym t)
-
 pub spread-next : {base a e : ℕ} {v : ℕ → ℕ} {x : ℕ} {old cur : List ℕ} → Spread base a e v x old cur → e < positionLimit → x ≤ e → Spread base a e v (x + 1) old (set cur (base + x) (v x))
 spread-next {base} {a} {e} {v} {x} {old} {cur} s h l =
     let lo : a ≤ x = s .low in
@@ -111,7 +108,7 @@ spread-next {base} {a} {e} {v} {x} {old} {cur} s h l =
       marked =
           marked-set (λ y. leb a y && ltb y (x + 1)) (s .marked) (omega arith) rm
           (ap (λ t. t && ltb x (x + 1)) (le-leb a x lo) ∙ lt-ltb x (x + 1) (omega arith))
-          (λ y i ne. ap (λ t. leb a y && t) (one-more x y ne));
+          (λ y i ne. ap (λ t. leb a y && t) (next-test x y ne));
     }
 
 all-of-them : (a e x y : ℕ) → a ≤ x → x ≤ e + 1 + (a - (e + 1)) → e < x → (leb a y && leb y e) ≡ (leb a y && ltb y x)
@@ -168,19 +165,99 @@ module _ (bs : List ℕ) (k r : ℕ) {base : ℕ} {v : ℕ → ℕ} {old : List 
   pub no-reference : z ≡ false → (ns : List ℤ) → RowSet base (refersAt bs ns k r) v old old
   no-reference t ns = marked-not base v (between (bracketIn bs ns r .first) (bracketIn bs ns r .last)) old (sym (refers ns) ∙ t)
 
-placed-as : (bs : List ℕ) (ns : List ℤ) (k y : ℕ) {z : Bool} → isPlaced (bracketIn bs ns k) ≡ z → placedAt bs ns k y ≡ z && eqb y (bracketIn bs ns k .first)
-placed-as bs ns k y t = placed-on (tablesIn bs ns) (bracketIn bs ns k) y ∙ ap (λ s. s && eqb y (bracketIn bs ns k .first)) t
+-- ---- the positions that a declaration names, one after the other: of those before x, each that is named is struck out
+pub record Striking (bs : List ℕ) (k end x : ℕ) (old cur : List ℕ) : Type 0 where
+  pub end-is : end ≡ residuesField bs + 2
+  pub few : residuesField bs ≤ residueLimit
+  pub inside : x ≤ end
+  pub room : positionLimit ≤ length cur
+  pub kept : length cur ≡ length old
+  pub marked : (ns : List ℤ) → RowSet 0 (λ y. ltb y x && names (tablesIn bs ns) (bracketIn bs ns k .places) y) (always 0) old cur
 
-module _ (bs : List ℕ) (k : ℕ) {old : List ℕ} {z : Bool} (placed : (ns : List ℤ) → z ≡ isPlaced (bracketIn bs ns k)) where
+pub striking-start : {bs : List ℕ} {k n : ℕ} {old : List ℕ} → n ≡ residuesField bs → residuesField bs ≤ residueLimit → positionLimit ≤ length old → Striking bs k (n + 2) 0 old old
+striking-start {bs} {k} {n} {old} e few room =
+    record {
+      end-is = omega arith;
+      few = few;
+      inside = omega arith;
+      room = room;
+      kept = refl;
+      marked =
+          λ ns. marked-none 0 (always 0) (λ y. ltb y 0 && names (tablesIn bs ns) (bracketIn bs ns k .places) y) old
+          (λ y l. ap (λ t. t && names (tablesIn bs ns) (bracketIn bs ns k .places) y) (le-ltb y 0 (omega arith)));
+    }
+
+module _ {bs : List ℕ} {k end x : ℕ} {old cur : List ℕ} (s : Striking bs k end x old cur) (h : x < end) where
+  pub striking-position : bytesSize ≤ length bs → Position bs x
+  striking-position room = record { room = room; few-residues = s .few; inside = omega (arith, s .end-is) }
+
+  pub striking-low : x < positionLimit
+  striking-low = omega (arith, s .end-is, s .few)
+
+  module _ {z : Bool} (named : (ns : List ℤ) → z ≡ names (tablesIn bs ns) (bracketIn bs ns k .places) x) where
+    pub striking-one : z ≡ true → Striking bs k end (x + 1) old (set cur x 0)
+    striking-one t =
+        record {
+          end-is = s .end-is;
+          few = s .few;
+          inside = omega arith;
+          room = omega (arith, length-set cur x 0, s .room);
+          kept = length-set cur x 0 ∙ s .kept;
+          marked =
+              λ ns.
+              subst
+              (λ i. RowSet 0 (λ y. ltb y (x + 1) && names (tablesIn bs ns) (bracketIn bs ns k .places) y) (always 0) old (set cur i 0)) (zero-add x)
+              (marked-set (λ y. ltb y (x + 1) && names (tablesIn bs ns) (bracketIn bs ns k .places) y) (s .marked ns) striking-low (omega (arith, s .room))
+              (ap (λ u. u && names (tablesIn bs ns) (bracketIn bs ns k .places) x) (lt-ltb x (x + 1) (omega arith)) ∙ sym (named ns) ∙ t)
+              (λ y l ne. ap (λ u. u && names (tablesIn bs ns) (bracketIn bs ns k .places) y) (next-test x y ne)));
+        }
+
+    pub striking-none : z ≡ false → Striking bs k end (x + 1) old cur
+    striking-none t =
+        record {
+          end-is = s .end-is;
+          few = s .few;
+          inside = omega arith;
+          room = s .room;
+          kept = s .kept;
+          marked =
+              λ ns.
+              marked-as (λ y. ltb y (x + 1) && names (tablesIn bs ns) (bracketIn bs ns k .places) y) (s .marked ns)
+              (λ y l.
+              next-unnamed x y (names (tablesIn bs ns) (bracketIn bs ns k .places) y)
+              (λ e. ap (names (tablesIn bs ns) (bracketIn bs ns k .places)) e ∙ sym (named ns) ∙ t));
+        }
+
+pub striking-end : {bs : List ℕ} {k end x : ℕ} {old cur : List ℕ} → Striking bs k end x old cur → end ≤ x → (ns : List ℤ) → RowSet 0 (reachedAt bs ns k) (always 0) old cur
+striking-end {bs} {k} {end} {x} s h ns =
+    let all : x ≡ end = omega (arith, s .inside) in
+    marked-as (reachedAt bs ns k) (s .marked ns)
+    (λ y l. reached-in bs ns k y (s .end-is) ∙ ap (λ i. ltb y i && names (tablesIn bs ns) (bracketIn bs ns k .places) y) (sym all))
+
+-- ---- a bracket that is placed: a declaration where it reaches, any other at its own position
+module _ (bs : List ℕ) (k : ℕ) {d : Bool} (declared : (ns : List ℤ) → d ≡ isDeclared (bracketIn bs ns k .kind) && isModification (bracketIn bs ns k)) where
+  pub declared-struck : {old cur : List ℕ} → d ≡ true → ((ns : List ℤ) → RowSet 0 (reachedAt bs ns k) (always 0) old cur) → (ns : List ℤ) → RowSet 0 (placedAt bs ns k) (always 0) old cur
+  declared-struck t m ns =
+      marked-as (placedAt bs ns k) (m ns)
+      (λ y l. placed-on (tablesIn bs ns) (bracketIn bs ns k) y ∙ pick-true _ (reachedAt bs ns k y) (isPlaced (bracketIn bs ns k) && eqb y (bracketIn bs ns k .first)) (sym (declared ns) ∙ t))
+
+  placed-as : (ns : List ℤ) (y : ℕ) {z : Bool} → d ≡ false → isPlaced (bracketIn bs ns k) ≡ z → placedAt bs ns k y ≡ z && eqb y (bracketIn bs ns k .first)
+  placed-as ns y n t =
+      placed-on (tablesIn bs ns) (bracketIn bs ns k) y
+      ∙ pick-false _ (reachedAt bs ns k y) (isPlaced (bracketIn bs ns k) && eqb y (bracketIn bs ns k .first)) (sym (declared ns) ∙ n)
+      ∙ ap (λ s. s && eqb y (bracketIn bs ns k .first)) t
+
+module _ (bs : List ℕ) (k : ℕ) {old : List ℕ} {d z : Bool} (declared : (ns : List ℤ) → d ≡ isDeclared (bracketIn bs ns k .kind) && isModification (bracketIn bs ns k)) (other : d ≡ false)
+    (placed : (ns : List ℤ) → z ≡ isPlaced (bracketIn bs ns k)) where
   pub struck : {x : ℕ} → z ≡ true → ((ns : List ℤ) → x ≡ bracketIn bs ns k .first) → x < positionLimit → positionLimit ≤ length old → (ns : List ℤ) → RowSet 0 (placedAt bs ns k) (always 0) old (set old x 0)
   struck {x} t p h room ns =
       subst (λ i. RowSet 0 (placedAt bs ns k) (always 0) old (set old i 0)) (zero-add x)
       (marked-set (placedAt bs ns k) (marked-none 0 (always 0) (λ y. false) old (λ y l. refl)) h (omega arith)
-      (placed-as bs ns k x (sym (placed ns) ∙ t) ∙ eq-eqb x (bracketIn bs ns k .first) (p ns))
-      (λ y l ne. placed-as bs ns k y (sym (placed ns) ∙ t) ∙ ne-eqb y (bracketIn bs ns k .first) (λ i. ne (i ∙ sym (p ns)))))
+      (placed-as bs k declared ns x other (sym (placed ns) ∙ t) ∙ eq-eqb x (bracketIn bs ns k .first) (p ns))
+      (λ y l ne. placed-as bs k declared ns y other (sym (placed ns) ∙ t) ∙ ne-eqb y (bracketIn bs ns k .first) (λ i. ne (i ∙ sym (p ns)))))
 
   pub not-struck : z ≡ false → (ns : List ℤ) → RowSet 0 (placedAt bs ns k) (always 0) old old
-  not-struck t ns = marked-none 0 (always 0) (placedAt bs ns k) old (λ y l. placed-as bs ns k y (sym (placed ns) ∙ t))
+  not-struck t ns = marked-none 0 (always 0) (placedAt bs ns k) old (λ y l. placed-as bs k declared ns y other (sym (placed ns) ∙ t))
 
 -- ---- references and placed modifications, bracket by bracket
 referred-tabled : (k : Bracket (Unit {0})) (x : ℕ) (f : ℕ → Bracket (Unit {0})) (i n : ℕ) → referredAt k x (tabled f i n) ≡ anyOf (λ r. shared (definedBy k) (referredBy (f r)) && between (f r .first) (f r .last) x) i n

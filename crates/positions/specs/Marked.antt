@@ -9,7 +9,7 @@ use Rattle.scope.specs.Limits.{rowLimit, positionLimit}
 use Rattle.scope.specs.Modifications.{definedBy, referredBy}
 use Rattle.scope.specs.Lists.{shared, member}
 use Rattle.scope.specs.Layout.{bracketIn, tablesIn}
-use Rattle.scope.specs.Positions.{between, placedOn, ownPosition, referredAt, mayStand, struckOut}
+use Rattle.scope.specs.Positions.{between, reached, placedOn, ownPosition, referredAt, mayStand, struckOut}
 use Rattle.areas.specs.Floats.{TableIs}
 
 -- one value at every position; and at each the value that a row of its own has there
@@ -45,6 +45,10 @@ referencesAt bs ns k x = referredAt (bracketIn bs ns k) x (tablesIn bs ns .brack
 -- x is a position of bracket k's own
 abbrev pub ownAt : List ℕ → List ℤ → ℕ → ℕ → Bool
 ownAt bs ns k x = ownPosition (bracketIn bs ns k) x (bracketIn bs ns k .kind)
+
+-- bracket k reaches x, as a declaration
+abbrev pub reachedAt : List ℕ → List ℤ → ℕ → ℕ → Bool
+reachedAt bs ns k x = member x (reached (tablesIn bs ns) (bracketIn bs ns k))
 
 -- bracket k is placed at x
 abbrev pub placedAt : List ℕ → List ℤ → ℕ → ℕ → Bool

@@ -4,9 +4,11 @@ use areas::brackets;
 use areas::first;
 use areas::last;
 use areas::residues;
+use brackets::is_declared;
 use brackets::is_labelled;
 use brackets::is_placed;
 use brackets::kind;
+use brackets::names;
 use scope::answers::Ledger;
 use scope::grammar::Kind;
 ghost use mathlib.Core.Path.{_≡_};
@@ -21,7 +23,7 @@ ghost use Rattle.scope.specs.Layout.{bracketIn, tablesIn, bracketsField};
 ghost use Rattle.scope.specs.Positions.{between, isUnlabelledUnknown, mayStand};
 ghost use Rattle.brackets.specs.Row.{Row};
 ghost use Rattle.positions.specs.Legible.{Legible};
-ghost use Rattle.positions.specs.Marked.{RowSet, RowIs, always, heldIn, refersAt, referencesAt, ownAt, placedAt, struckAt, FreeIs, standsAt};
+ghost use Rattle.positions.specs.Marked.{RowSet, RowIs, always, heldIn, refersAt, referencesAt, ownAt, reachedAt, placedAt, struckAt, FreeIs, standsAt};
 
 // Positions a to e of the row at base are set to v.
 fn set_all(tab: &mut [u8], base: usize, a: usize, e: usize, v: u8)
@@ -132,11 +134,30 @@ fn mark_all(bytes: &[u8], k: usize, free: &[u8; Ledger::POSITIONS], tab: &mut [u
     mark_references(bytes, k, free, tab, base);
 }
 
-// The position of bracket k is struck out if it is placed.
+// Every position that a place of bracket k names is struck out.
+fn strike_named(bytes: &[u8], k: usize, free: &mut [u8])
+    requires { ⌜ (Legible (now bytes)) × (k < bracketsField (now bytes)) × (positionLimit ≤ length (now free)) ⌝ }
+    ensures { λ _. ⌜ ((ns : List ℤ) → RowSet 0 (reachedAt (now (bytes .entry)) ns k) (always 0) (now (free .entry)) (now (free .exit))) ⌝ }
+{
+    let end = residues(bytes) + 2;
+    let mut x: usize = 0;
+    while x < end {
+        if names(bytes, k, x) {
+            free[x] = 0;
+        }
+        x += 1;
+    }
+}
+
+// The positions of bracket k are struck out: of a declaration those that it reaches, else its own if it is placed.
 fn strike(bytes: &[u8], k: usize, free: &mut [u8])
     requires { ⌜ (Legible (now bytes)) × (k < bracketsField (now bytes)) × (positionLimit ≤ length (now free)) ⌝ }
     ensures { λ _. ⌜ ((ns : List ℤ) → RowSet 0 (placedAt (now (bytes .entry)) ns k) (always 0) (now (free .entry)) (now (free .exit))) ⌝ }
 {
+    if is_declared(bytes, k) {
+        strike_named(bytes, k, free);
+        return;
+    }
     if is_placed(bytes, k) {
         let x = first(bytes, k);
         free[x] = 0;

@@ -29,7 +29,7 @@ use Rattle.scope.specs.Lists.{given, tabled, none?}
 use Rattle.scope.specs.Canonical.{canonical}
 use Rattle.scope.specs.Tables.{Tables}
 use Rattle.scope.specs.Layout.{tablesIn}
-use Rattle.scope.specs.Positions.{floatersBy, bracketsOf, copiesOf, Floating, floatingOf, rowsOf, Found, lookup}
+use Rattle.scope.specs.Positions.{reached as reaches, floatersBy, bracketsOf, copiesOf, Floating, floatingOf, rowsOf, Found, lookup}
 use Rattle.scope.specs.Placements.{allowed, takenListing, following}
 use Rattle.scope.specs.Masses.{massOf, total, lacking, daltons}
 use Rattle.scope.specs.Answers.{Said, good, refuses, findable, aMass, lack, displayOf, saysWrite, saysCount, saysTotal, saysLookup, saysRequest, saysBooked, saysShown, tooShort, areTables, overTables, fitting, writes, outputAfter, counts, floaterCount, weighed, totals, shows, rowsSaid, rowsAfter, looksUp, allows, met, requested, movedOn, requests, listingAfter, allowable, bookable, books, entries}
@@ -37,6 +37,7 @@ use Rattle.basics.specs.Each.{In}
 use Rattle.calls.specs.Writing.{WriteSays}
 use Rattle.calls.specs.Single.{elementAt, ownMass, massAt, weighsAt}
 use Rattle.calls.specs.Floating.{floatersSaid, FloatersSay}
+use Rattle.calls.specs.Reaching.{reachedBy, reachedAt, reachedSaid, ReachedSays}
 use Rattle.calls.specs.Says.{CountSays, TotalSays, BracketMassSays, ShownSays, AllowedSays, NextSays, LedgerSays}
 use Rattle.rows.specs.Says.{LookupSays}
 use Rattle.scope.specs.Glycans.{cuttings}
@@ -268,6 +269,25 @@ module _ (bs : List ℕ) (ns : List ℤ) where
         (λ w. record { says = w .0; brackets-after = ap (λ z. z .0) (w .1); copies-after = ap (λ z. z .1) (w .1) }),
       ))
       count-same (floaters-so brs cps) (λ n p q. ap (λ s. (outputAfter s l brs, outputAfter s m cps)) q)
+
+  reaches-so : (o : Option (Bracket (Unit {0})))
+      → Sayable saysCount (13 ∷ 14 ∷ 17 ∷ []) (given o (λ k. good (length (reaches (tablesIn bs ns) k))) (refuses 17 0))
+  reaches-so none = refusal (countRefused 17 0) refl (inr (inr (inl refl)))
+  reaches-so (some k) = success (Is (length (reaches (tablesIn bs ns) k))) refl
+
+  pub reached-so : (i : ℕ) (out : List ℕ) → Sayable saysCount (13 ∷ 14 ∷ 17 ∷ []) (reachedSaid bs ns i out)
+  reached-so i out =
+      either (Sayable saysCount (13 ∷ 14 ∷ 17 ∷ [])) (ltb (length out) positionLimit) (refusal (countRefused 13 0) refl (inl refl))
+      (over (Sayable saysCount (13 ∷ 14 ∷ 17 ∷ [])) bs ns (λ t. reachedAt t i)
+      (refusal (countRefused 13 0) refl (inl refl)) (refusal (countRefused 14 0) refl (inr (inl refl)))
+      (reaches-so (elementAt (tablesIn bs ns .brackets) i)))
+
+  pub reached : (i : ℕ) (out : List ℕ)
+      → Answered (λ (o : Count × List ℕ). ReachedSays bs ns i out (o .0) (o .1)) (λ o. saysCount (o .0)) (13 ∷ 14 ∷ 17 ∷ []) (λ o. o .1 ≡ out)
+  reached i out =
+      let l = reachedBy (tablesIn bs ns) i in
+      lent (pair Count (List ℕ)) {says = saysCount} (λ o. ReachedSays bs ns i out (o .0) (o .1)) (outputAfter (reachedSaid bs ns i out) l out) out
+      (λ o. ((λ w. (w .says, w .after)), (λ w. record { says = w .0; after = w .1 }))) count-same (reached-so i out) (λ n p q. ap (λ s. outputAfter s l out) q)
 
 found-so : (o : Option Found) → Sayable saysLookup (13 ∷ 17 ∷ []) (findable o)
 found-so none = refusal (lookupRefused 17) refl (inr (inl refl))

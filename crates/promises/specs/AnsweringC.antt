@@ -21,12 +21,13 @@ use Rattle.scope.specs.Answers.{Said, good, refuses, met, saysRequest, saysBook
 use Rattle.basics.specs.Each.{In}
 use Rattle.export.specs.Numbers.{numberOf, left, placeLeft, Judged, Exported}
 use Rattle.export.specs.Handed.{Counted, RowsHanded, LookedUp, MovedOn}
-use Rattle.export.specs.Shapes.{lengthLeft, massOf, lackOf, Written, Totalled, Displayed, allowsLent, AllowedLent, booksLent, entriesAfter, ReadEntered as EnteredLent, FloatersHanded, PiecesHanded}
+use Rattle.export.specs.Shapes.{lengthLeft, massOf, lackOf, Written, Totalled, Displayed, allowsLent, AllowedLent, booksLent, entriesAfter, ReadEntered as EnteredLent, FloatersHanded, ReachedHanded, PiecesHanded}
 use Rattle.scope.specs.Glycans.{cuttings}
 use Rattle.glycans.specs.Pieces.{piecesOf, piecesSaid}
 use Rattle.calls.specs.Single.{weighsAt}
 use Rattle.scope.specs.Positions.{floatersBy, bracketsOf, copiesOf}
 use Rattle.calls.specs.Floating.{floatersSaid}
+use Rattle.calls.specs.Reaching.{reachedBy, reachedSaid}
 use Rattle.promises.specs.Promises.{lineNumbers, Answered, Nothing, told, Demand1C}
 use Rattle.promises.specs.Said.{not-both, same-number}
 use Rattle.promises.specs.Answering as calls
@@ -145,6 +146,17 @@ module _ (bs : List ℕ) (ns : List ℤ) where
       (λ o w. pair4 (w .counted .number-is) (w .counted .count-is) (w .brackets-after) (w .copies-after)) (λ o w. w .counted .number-is) (calls.floaters-so bs ns brs cps .number)
       (λ o w n p q. (w .counted .count-is ∙ ap (λ z. left z (λ n. n) count) q, w .brackets-after ∙ ap (λ z. outputAfter z l brs) q, w .copies-after ∙ ap (λ z. outputAfter z m cps) q))
 
+  reached : (i : ℕ) (out : List ℕ) (count : ℕ)
+      → Answered (λ (o : ℕ × ℕ × List ℕ). ReachedHanded bs ns i out count (o .0) (o .1) (o .2)) (λ o. told (o .0)) (13 ∷ 14 ∷ 17 ∷ [])
+      (λ o. (o .1 ≡ count) × (o .2 ≡ out))
+  reached i out count =
+      let said = reachedSaid bs ns i out in
+      let l = reachedBy (tablesIn bs ns) i in
+      in-c (λ (o : ℕ × ℕ × List ℕ). ReachedHanded bs ns i out count (o .0) (o .1) (o .2)) (λ o. (o .1 ≡ count) × (o .2 ≡ out)) (λ o. o .0) said
+      (numberOf said, left said (λ n. n) count, outputAfter said l out) (record { counted = record { number-is = refl; count-is = refl }; positions-after = refl })
+      (λ o w. pair3 (w .counted .number-is) (w .counted .count-is) (w .positions-after)) (λ o w. w .counted .number-is) (calls.reached-so bs ns i out .number)
+      (λ o w n p q. (w .counted .count-is ∙ ap (λ z. left z (λ n. n) count) q, w .positions-after ∙ ap (λ z. outputAfter z l out) q))
+
   shown : (x : Float) (k : ℕ)
       → Answered (λ (o : ℕ × Float × ℕ). Displayed (shows bs ns) x k (o .0) (o .1) (o .2)) (λ o. told (o .0)) (13 ∷ 14 ∷ []) (λ o. (o .1 ≡ x) × (o .2 ≡ k))
   shown x k =
@@ -220,6 +232,7 @@ demand-1 =
       total = total;
       bracket-mass = bracket-mass;
       floater-brackets = floater-brackets;
+      reached = reached;
       shown = shown;
       allowed = allowed;
       next = next;

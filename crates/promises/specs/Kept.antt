@@ -9,6 +9,7 @@ use Rattle.promises.specs.Placed as placed
 use Rattle.promises.specs.Rows as rows
 use Rattle.promises.specs.Listed as listed
 use Rattle.promises.specs.Pieced.{composing}
+use Rattle.promises.specs.Reached.{declaring}
 use mathlib.Core.List.{List}
 use Prim.Native.Nat.{ℕ}
 use lib.IntN.{ℤ}
@@ -23,6 +24,7 @@ demand-1 =
       total = calls.totalled;
       bracket-mass = calls.bracket-mass;
       floater-brackets = calls.floater-brackets;
+      reached = calls.reached;
       shown = calls.shown;
       is-allowed = calls.is-allowed;
       next-placement = calls.next-placement;
@@ -60,4 +62,5 @@ promises =
           let a = readers.was-read s bs ns r bs′ ns′ w q in
           weights.reckoned a (weights.taken-after a) t (readers.line-means a t g p);
       composing = composing;
+      declaring = declaring;
     }

@@ -8,6 +8,7 @@ pub mod Placed
 pub mod Rows
 pub mod Listed
 pub mod Pieced
+pub mod Reached
 pub mod Kept
 pub mod AnsweringC
 pub mod KeptC

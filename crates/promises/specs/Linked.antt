@@ -20,6 +20,7 @@ use Rattle.scope.specs.Answers.{residueCount, bracketCount, floaterCount}
 use Rattle.reader.specs.ReadSays.{ReadSays}
 use Rattle.calls.specs.Writing.{WriteSays}
 use Rattle.calls.specs.Floating.{FloatersSay}
+use Rattle.calls.specs.Reaching.{ReachedSays}
 use Rattle.calls.specs.Says.{CountSays, TotalSays, BracketMassSays, ShownSays, AllowedSays, NextSays, LedgerSays}
 use Rattle.rows.specs.Says.{LookupSays}
 use Rattle.listing.specs.Says.{RowsSays, StepSays}
@@ -35,6 +36,7 @@ use Rattle.calls.proofs.floater_count as floater-count
 use Rattle.calls.proofs.total as total
 use Rattle.calls.proofs.bracket_mass as bracket-mass
 use Rattle.calls.proofs.floater_brackets as floater-brackets
+use Rattle.calls.proofs.reached as reached
 use Rattle.calls.proofs.shown as shown
 use Rattle.calls.proofs.is_allowed as is-allowed
 use Rattle.calls.proofs.next_placement as next-placement
@@ -82,6 +84,9 @@ module _ {M : Type 1} (𝓤 : URA M) (H : Heap 𝓤) (A : Atoms 𝓤) (mem : Mem
   module _ (κs : Lfts 3) (x : RefT (List ℕ)) (y : RefT (List ℤ)) where
     pub write-is : (out : RefT (List ℕ)) → (write.clauses 𝓤 H A mem run κs (x, (y, (out, tt))) .requires ≡ (λ g. Nothing)) × (write.clauses 𝓤 H A mem run κs (x, (y, (out, tt))) .ensures ≡ (λ g r end. fact 𝓤 (WriteSays (x .now) (y .now) (out .now) r (end .1 .1 .0 .now))))
     write-is out = (refl, refl)
+
+    pub reached-is : (i : ℕ) (out : RefT (List ℕ)) → (reached.clauses 𝓤 H A mem run κs (x, (y, (i, (out, tt)))) .requires ≡ (λ g. Nothing)) × (reached.clauses 𝓤 H A mem run κs (x, (y, (i, (out, tt)))) .ensures ≡ (λ g r end. fact 𝓤 (ReachedSays (x .now) (y .now) i (out .now) r (end .1 .1 .1 .0 .now))))
+    reached-is i out = (refl, refl)
 
     pub rows-is : (room : RefT (List Site)) → (rows.clauses 𝓤 H A mem run κs (x, (y, (room, tt))) .requires ≡ (λ g. Nothing)) × (rows.clauses 𝓤 H A mem run κs (x, (y, (room, tt))) .ensures ≡ (λ g r end. fact 𝓤 (RowsSays (x .now) (y .now) (room .now) r (end .1 .1 .0 .now))))
     rows-is room = (refl, refl)

@@ -20,7 +20,7 @@ use Rattle.scope.specs.Answers.{counts, residueCount, bracketCount, floaterCoun
 use Rattle.calls.specs.Single.{weighsAt}
 use Rattle.export.specs.Numbers.{Judged, Exported}
 use Rattle.export.specs.Handed.{Counted, RowsHanded, LookedUp, MovedOn}
-use Rattle.export.specs.Shapes.{Written, Totalled, Displayed, AllowedLent, FloatersHanded, PiecesHanded, ReadEntered}
+use Rattle.export.specs.Shapes.{Written, Totalled, Displayed, AllowedLent, FloatersHanded, ReachedHanded, PiecesHanded, ReadEntered}
 use Rattle.export.proofs.hwemiduk_verdict as verdict
 use Rattle.export.proofs.hwemiduk_read as read
 use Rattle.export.proofs.hwemiduk_composition as composition
@@ -31,6 +31,7 @@ use Rattle.export.proofs.tables.hwemiduk_write as write
 use Rattle.export.proofs.tables.hwemiduk_total as total
 use Rattle.export.proofs.tables.hwemiduk_bracket_mass as bracket-mass
 use Rattle.export.proofs.tables.hwemiduk_floater_brackets as floater-brackets
+use Rattle.export.proofs.tables.hwemiduk_reached as reached
 use Rattle.export.proofs.tables.hwemiduk_shown as shown
 use Rattle.export.proofs.tables.hwemiduk_allowed as allowed
 use Rattle.export.proofs.tables.hwemiduk_ledger as ledger
@@ -87,6 +88,9 @@ module _ {M : Type 1} (𝓤 : URA M) (H : Heap 𝓤) (A : Atoms 𝓤) (mem : Mem
 
   pub floater-brackets-is : (κs : Lfts 5) (bs : RefT (List ℕ)) (ns : RefT (List ℤ)) (b c : RefT (List ℕ)) (k : RefT ℕ) → (floater-brackets.clauses 𝓤 H A mem run κs (bs, (ns, (b, (c, (k, tt))))) .requires ≡ (λ g. Nothing)) × (floater-brackets.clauses 𝓤 H A mem run κs (bs, (ns, (b, (c, (k, tt))))) .ensures ≡ (λ g r end. fact 𝓤 (FloatersHanded (bs .now) (ns .now) (b .now) (c .now) (k .now) r (end .1 .1 .1 .1 .0 .now) (end .1 .1 .0 .now) (end .1 .1 .1 .0 .now))))
   floater-brackets-is κs bs ns b c k = (refl, refl)
+
+  pub reached-is : (κs : Lfts 4) (bs : RefT (List ℕ)) (ns : RefT (List ℤ)) (i : ℕ) (out : RefT (List ℕ)) (c : RefT ℕ) → (reached.clauses 𝓤 H A mem run κs (bs, (ns, (i, (out, (c, tt))))) .requires ≡ (λ g. Nothing)) × (reached.clauses 𝓤 H A mem run κs (bs, (ns, (i, (out, (c, tt))))) .ensures ≡ (λ g r end. fact 𝓤 (ReachedHanded (bs .now) (ns .now) i (out .now) (c .now) r (end .1 .1 .1 .1 .0 .now) (end .1 .1 .1 .0 .now))))
+  reached-is κs bs ns i out c = (refl, refl)
 
   pub composition-is : (κs : Lfts 3) (t out : RefT (List ℕ)) (c : RefT ℕ) → (composition.clauses 𝓤 H A mem run κs (t, (out, (c, tt))) .requires ≡ (λ g. Nothing)) × (composition.clauses 𝓤 H A mem run κs (t, (out, (c, tt))) .ensures ≡ (λ g r end. fact 𝓤 (PiecesHanded (t .now) (out .now) (c .now) r (end .1 .1 .0 .now) (end .1 .0 .now))))
   composition-is κs t out c = (refl, refl)

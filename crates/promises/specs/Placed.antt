@@ -1,12 +1,10 @@
 -- Demand 3 of a placement: what `is_allowed` allows gives each floater one of its permitted positions, no position twice; and no permitted position has a placed
 -- modification.
-use mathlib.Core.Path.{_≡_, refl, sym, ap, _∙_}
+use mathlib.Core.Path.{_≡_, sym, _∙_}
 use mathlib.Core.Logic.{_↔_}
-use mathlib.Core.Bool.{true, _&&_, true≢false}
+use mathlib.Core.Bool.{true, true≢false}
 use mathlib.Core.List.{List, [], _∷_, map}
 use Prim.Native.Nat.{ℕ, zero, suc}
-use borrow.Author.Tests.{eq-eqb}
-use lib.Dec.{eqb}
 use lib.IntN.{ℤ}
 use lib.ListN.{getD}
 use Rattle.scope.specs.declared.answers.Request.{Request}
@@ -15,11 +13,10 @@ use Rattle.scope.specs.Lists.{flat, member}
 use Rattle.scope.specs.Line.{Bracket}
 use Rattle.scope.specs.Tables.{Tables}
 use Rattle.scope.specs.Layout.{tablesIn}
-use Rattle.scope.specs.Positions.{isPlaced, placedOn, struckOut, floaters, permitted, floatingOf}
+use Rattle.scope.specs.Positions.{placedOn, struckOut, floaters, permitted, floatingOf}
 use Rattle.scope.specs.Answers.{good, saysRequest}
 use Rattle.basics.specs.Each.{In}
-use Rattle.basics.specs.Members.{in-member, member-in, flat-in}
-use Rattle.basics.specs.Positions.{placed-on}
+use Rattle.basics.specs.Members.{in-member, flat-in}
 use Rattle.placement_laws.specs.Terms.{Placing}
 use Rattle.placement_laws.specs.Lines.{permitted-free}
 use Rattle.placement_laws.specs.Laws as placing
@@ -34,11 +31,9 @@ allowed-so bs ns h p r w =
     let a = is-allowed h p r w in let b = placing.by-entries (floatingOf (tablesIn bs ns)) (orderly h) (p .at) in ((λ e. b .0 (a .1 e)), (λ x. a .0 (b .1 x)))
 
 -- ---- no placed modification stands at a permitted position
-struck : (t : Tables) (k : Bracket (Unit {0})) → In k (t .brackets) → isPlaced k ≡ true → member (k .first) (struckOut t) ≡ true
+struck : (t : Tables) (k : Bracket (Unit {0})) (x : ℕ) → In k (t .brackets) → In x (placedOn t k) → member x (struckOut t) ≡ true
 unfolding struckOut
-struck t k i e =
-    let on = placed-on t k (k .first) ∙ ap (λ p. p && eqb (k .first) (k .first)) e ∙ eq-eqb (k .first) (k .first) refl in
-    in-member (k .first) (flat (placedOn t) (t .brackets)) (flat-in (placedOn t) k (k .first) (t .brackets) i (member-in (k .first) (placedOn t k) on))
+struck t k x i h = in-member x (flat (placedOn t) (t .brackets)) (flat-in (placedOn t) k x (t .brackets) i h)
 
 -- a position in one of the lists is permitted to some floater
 some-floater : {A : Type 0} (f : A → List ℕ) (l : List A) (i x : ℕ) → In x (getD (map f l) i []) → (k : A) × In x (f k)
@@ -46,9 +41,9 @@ some-floater f [] i x h = absurd h
 some-floater f (k ∷ l) zero x h = (k, h)
 some-floater f (k ∷ l) (suc i) x h = some-floater f l i x h
 
-pub free : (bs : List ℕ) (ns : List ℤ) (f x : ℕ) → Permitted bs ns f x → (k : Bracket (Unit {0})) → In k (tablesIn bs ns .brackets) → isPlaced k ≡ true → k .first ≡ x → ⊥
-free bs ns zero x h k i e q = h
-free bs ns (suc f) x h k i e q =
+pub free : (bs : List ℕ) (ns : List ℤ) (f x : ℕ) → Permitted bs ns f x → (k : Bracket (Unit {0})) → In k (tablesIn bs ns .brackets) → In x (placedOn (tablesIn bs ns) k) → ⊥
+free bs ns zero x h k i e = h
+free bs ns (suc f) x h k i e =
     let t = tablesIn bs ns in
     let z = some-floater (permitted t) (floaters t) f x h in
-    true≢false (sym (struck t k i e) ∙ ap (λ y. member y (struckOut t)) q ∙ permitted-free t (z .0) x (z .1))
+    true≢false (sym (struck t k x i e) ∙ permitted-free t (z .0) x (z .1))

@@ -1,10 +1,11 @@
 -- The demands of the tender, each sentence above its theorem, over what the calls ensure: `ReadSays` (crate reader), `WriteSays`, `CountSays`, `TotalSays`,
--- `ShownSays`, `AllowedSays`, `NextSays`, `LedgerSays` (calls), `LookupSays` (rows), `RowsSays` and `StepSays` (listing), `PiecesSay` (glycans). That each call asks nothing, and ensures
+-- `ShownSays`, `AllowedSays`, `NextSays`, `LedgerSays` (calls), `LookupSays` (rows), `RowsSays` and `StepSays` (listing), `PiecesSay` (glycans), `ReachedSays` (calls). That each call asks nothing, and ensures
 -- exactly its relation, is shown in specs/Linked.antt. An answer is spoken of by what it says (`saysRead` and its kin). The proofs: specs/Kept.antt, for a caller in C
 -- specs/KeptC.antt, and the files that they cite.
 use mathlib.Core.Path.{_≡_}
 use mathlib.Core.Logic.{_↔_, _⊎_}
 use mathlib.Core.Bool.{true, false}
+use mathlib.Core.Option.{some}
 use mathlib.Core.List.{List, [], _∷_, _++_}
 use Prim.Native.Nat.{ℕ, zero, suc, _≤_, _<_}
 use lib.IntN.{ℤ, pos, _+ℤ_}
@@ -29,28 +30,29 @@ use Rattle.scope.specs.Refusals.{outcome}
 use Rattle.scope.specs.Tables.{Tables, tablesOf}
 use Rattle.scope.specs.Layout.{bytesOf, numbersOf, tablesIn}
 use Rattle.scope.specs.Lists.{flat, laid, tabled}
-use Rattle.scope.specs.Positions.{isPlaced, floaters, floatingOf, Found}
+use Rattle.scope.specs.Positions.{sites, names, placedOn, floaters, floatingOf, Found}
 use Rattle.scope.specs.Placements.{freshListing}
 use Rattle.scope.specs.Masses.{sum, total, lacking, labileMass, daltons}
 use Rattle.scope.specs.Answers.{Said, good, refuses, aMass, lack, saysRead, saysWrite, saysCount, saysTotal, saysShown, saysLookup, saysRequest, saysBooked, tooShort, counts, residueCount, bracketCount, floaterCount, totals, shows, looksUp}
 use Rattle.scope.specs.Grammar.{Spelling, print, good as wellSpelt, means}
 use Rattle.grammar_laws.specs.Laws.{Accepts, Refuses}
 use Rattle.glycan_laws.specs.Laws.{Cuts}
-use Rattle.placement_laws.specs.Terms.{Ascending, Placing}
+use Rattle.placement_laws.specs.Terms.{Rising, Ascending, Placing}
 use Rattle.basics.specs.Each.{In, Ordered}
 use Rattle.verdict.specs.Says.{VerdictSays}
 use Rattle.reader.specs.ReadSays.{ReadSays}
 use Rattle.glycans.specs.Pieces.{pieceBytes, PiecesSay}
 use Rattle.placements.specs.declared.Next.{Next}
 use Rattle.calls.specs.Writing.{WriteSays}
-use Rattle.calls.specs.Single.{weighsAt}
+use Rattle.calls.specs.Single.{elementAt, weighsAt}
 use Rattle.calls.specs.Floating.{FloatersSay}
+use Rattle.calls.specs.Reaching.{ReachedSays}
 use Rattle.calls.specs.Says.{CountSays, TotalSays, BracketMassSays, ShownSays, AllowedSays, NextSays, LedgerSays}
 use Rattle.rows.specs.Says.{LookupSays}
 use Rattle.listing.specs.Says.{RowsSays, StepSays}
 use Rattle.export.specs.Numbers.{Judged, Exported}
 use Rattle.export.specs.Handed.{Counted, RowsHanded, LookedUp, MovedOn}
-use Rattle.export.specs.Shapes.{Written, Totalled, Displayed, AllowedLent, FloatersHanded, PiecesHanded, ReadEntered as EnteredLent}
+use Rattle.export.specs.Shapes.{Written, Totalled, Displayed, AllowedLent, FloatersHanded, ReachedHanded, PiecesHanded, ReadEntered as EnteredLent}
 
 -- ======== demand 1
 -- "Every line of bytes, every set of tables and every lent area gets an answer, and the caller need not have checked anything."
@@ -79,9 +81,9 @@ Nothing o = Unit {0}
 abbrev pub Reader : Type 1
 Reader = List ℕ → List ℕ → List ℤ → Read → List ℕ → List ℤ → Type 0
 
--- "Reading tries 13, then 1 to 12", and 19 "after 12": the numbers of a line
+-- "Reading tries 13, then 1 to 12", 21 "after 10", and 19 "after 12": the numbers of a line
 abbrev pub lineNumbers : List ℕ
-lineNumbers = tabled (λ n. n) 1 12 ++ (19 ∷ [])
+lineNumbers = tabled (λ n. n) 1 12 ++ (19 ∷ 21 ∷ [])
 
 -- "A line outside the rules is refused with a number and a place; the tables then hold what they held before."
 pub record TurnedAway (s bs : List ℕ) (ns : List ℤ) (r : Read) (bs′ : List ℕ) (ns′ : List ℤ) : Type 0 where
@@ -114,6 +116,9 @@ pub record Demand1 : Type 0 where
       (bs : List ℕ) (ns : List ℤ) (brs cps : List ℕ)
       → Answered (λ (o : Count × (List ℕ × List ℕ)). FloatersSay bs ns brs cps (o .0) (o .1 .0) (o .1 .1)) (λ o. saysCount (o .0)) (13 ∷ 14 ∷ [])
       (λ o. o .1 ≡ (brs, cps))
+  pub reached :
+      (bs : List ℕ) (ns : List ℤ) (i : ℕ) (out : List ℕ)
+      → Answered (λ (o : Count × List ℕ). ReachedSays bs ns i out (o .0) (o .1)) (λ o. saysCount (o .0)) (13 ∷ 14 ∷ 17 ∷ []) (λ o. o .1 ≡ out)
   pub shown : (bs : List ℕ) (ns : List ℤ) → Answered (ShownSays bs ns) saysShown (13 ∷ 14 ∷ []) Nothing
   pub is-allowed : (bs : List ℕ) (ns : List ℤ) (p : Placement) → Answered (AllowedSays bs ns p) saysRequest (13 ∷ 14 ∷ 18 ∷ []) Nothing
   pub next-placement :
@@ -147,15 +152,16 @@ pub record Holding (t : Spelling) (bs : List ℕ) (ns : List ℤ) (bs′ : List 
 
 pub record Accepting (Says : Reader) : Type 0 where
   -- "A line is accepted with exactly the tables that ProForma 2.1, within the limits of document 01, gives it": it is accepted exactly when the areas are long
-  -- enough, a good spelling prints it, it is no longer than the limit, and none of 5 to 12 is due of what the spelling means, nor 19; any spelling of it means these
-  -- tables
+  -- enough, a good spelling prints it, it is no longer than the limit, and none of 5 to 12 is due of what the spelling means, nor 19 or 21; any spelling of it means
+  -- these tables
   pub accepts :
       (s bs : List ℕ) (ns : List ℤ) (r : Read) (bs′ : List ℕ) (ns′ : List ℤ) → Says s bs ns r bs′ ns′
       → (saysRead r ≡ good tt) ↔ ((tooShort bs ns ≡ false) × ((l : Line ℕ) × Accepts s l))
   pub tables :
       (s bs : List ℕ) (ns : List ℤ) (r : Read) (bs′ : List ℕ) (ns′ : List ℤ) → Says s bs ns r bs′ ns′ → saysRead r ≡ good tt
       → (t : Spelling) → wellSpelt t ≡ true → s ≡ print t → Holding t bs ns bs′ ns′
-  -- "and otherwise refused as document 01 says": "Reading tries 13, then 1 to 12 in that order; the lowest number wins, at its first place in the line"; 19 "after 12"
+  -- "and otherwise refused as document 01 says": "Reading tries 13, then 1 to 12 in that order; the lowest number wins, at its first place in the line"; 21 "after 10", 19
+  -- "after 12"
   pub refuses-by :
       (s bs : List ℕ) (ns : List ℤ) (r : Read) (bs′ : List ℕ) (ns′ : List ℤ) → Says s bs ns r bs′ ns′ → (k i : ℕ)
       → (saysRead r ≡ refuses k i) ↔ (((tooShort bs ns ≡ true) × (k ≡ 13) × (i ≡ 0)) ⊎ ((tooShort bs ns ≡ false) × Refuses s k i))
@@ -245,7 +251,7 @@ pub record Rowed (bs : List ℕ) (ns : List ℤ) (room room′ : List Site) (n :
 pub record Demand3 (bs : List ℕ) (ns : List ℤ) : Type 0 where
   -- "an allowed placement gives each floating modification one of its permitted positions, none that a placed modification has, and no position twice"
   pub allowed : (p : Placement) (r : Request) → AllowedSays bs ns p r → (saysRequest r ≡ good tt) ↔ Placing (floatingOf (tablesIn bs ns)) (p .at)
-  pub free : (f x : ℕ) → Permitted bs ns f x → (k : Bracket (Unit {0})) → In k (tablesIn bs ns .brackets) → isPlaced k ≡ true → k .first ≡ x → ⊥
+  pub free : (f x : ℕ) → Permitted bs ns f x → (k : Bracket (Unit {0})) → In k (tablesIn bs ns .brackets) → In x (placedOn (tablesIn bs ns) k) → ⊥
   -- by the record handed over and handed back, and by the record moved on in place
   pub by-value : Lists bs ns (NextSays bs ns)
   pub in-place : Lists bs ns (λ l r. StepSays bs ns l (r .request) (r .listing))
@@ -283,6 +289,19 @@ pub record Composing : Type 0 where
   pub no-cutting : (t out : List ℕ) (r : Write) (out′ : List ℕ) → PiecesSay t out r out′ → (saysWrite r ≡ refuses 19 0) ↔ ((xs : List Item) → Cuts xs t → ⊥)
   pub pieces : (t out : List ℕ) (r : Write) (out′ : List ℕ) → PiecesSay t out r out′ → (n : ℕ) → saysWrite r ≡ good n → Pieced t out out′ n
 
+-- ======== declarations (02, L2)
+-- n entries of a slice are the positions that bracket k of the tables t reaches: exactly the "matching" ones, at which one of its places names what stands there,
+-- ascending; the entries behind them are as they were
+pub record Reaches (t : Tables) (k : Bracket (Unit {0})) (out out′ : List ℕ) (n : ℕ) : Type 0 where
+  pub matching : (x : ℕ) → In x (take n out′) ↔ ((x < length (sites t)) × (names t (k .places) x ≡ true))
+  pub rising : Rising (take n out′)
+  pub rest : drop n out′ ≡ drop n out
+
+pub record Declaring : Type 0 where
+  pub reaches :
+      (bs : List ℕ) (ns : List ℤ) (i : ℕ) (out : List ℕ) (r : Count) (out′ : List ℕ) → ReachedSays bs ns i out r out′ → (n : ℕ) → saysCount r ≡ good n
+      → (k : Bracket (Unit {0})) × ((elementAt (tablesIn bs ns .brackets) i ≡ some k) × Reaches (tablesIn bs ns) k out out′ n)
+
 -- ======== the wrong readers that document 01 names
 -- "a reader that refuses all, or gives one table for all"
 abbrev pub RefusesAll : Reader
@@ -308,6 +327,7 @@ pub record Promises : Type 1 where
       (s bs : List ℕ) (ns : List ℤ) (r : Read) (bs′ : List ℕ) (ns′ : List ℤ) → ReadSays s bs ns r bs′ ns′ → saysRead r ≡ good tt
       → (t : Spelling) → wellSpelt t ≡ true → s ≡ print t → Reckoned t bs′ ns′
   pub composing : Composing
+  pub declaring : Declaring
 
 -- ======== the same over what a caller in C sees: the contracts of crate export. A number is 0 for a success, and else a refusal's.
 abbrev pub told : ℕ → Said (Unit {0})
@@ -338,6 +358,10 @@ pub record Demand1C : Type 0 where
       (bs : List ℕ) (ns : List ℤ) (brs cps : List ℕ) (count : ℕ)
       → Answered (λ (o : ℕ × ℕ × List ℕ × List ℕ). FloatersHanded bs ns brs cps count (o .0) (o .1) (o .2) (o .3)) (λ o. told (o .0)) (13 ∷ 14 ∷ [])
       (λ o. (o .1 ≡ count) × (o .2 ≡ brs) × (o .3 ≡ cps))
+  pub reached :
+      (bs : List ℕ) (ns : List ℤ) (i : ℕ) (out : List ℕ) (count : ℕ)
+      → Answered (λ (o : ℕ × ℕ × List ℕ). ReachedHanded bs ns i out count (o .0) (o .1) (o .2)) (λ o. told (o .0)) (13 ∷ 14 ∷ 17 ∷ [])
+      (λ o. (o .1 ≡ count) × (o .2 ≡ out))
   pub shown :
       (bs : List ℕ) (ns : List ℤ) (x : Float) (k : ℕ)
       → Answered (λ (o : ℕ × Float × ℕ). Displayed (shows bs ns) x k (o .0) (o .1) (o .2)) (λ o. told (o .0)) (13 ∷ 14 ∷ []) (λ o. (o .1 ≡ x) × (o .2 ≡ k))

@@ -97,20 +97,22 @@ exactly-one s bs ns =
           ∙ ap (λ (n : List ℤ). (readOf o, bytesAfter o bs, n)) (w .numbers-after);
     }
 
--- one of 1 to 12, or 19
+-- one of 1 to 12, or 19, or 21
 abbrev OfALine : ℕ → Type 0
-OfALine n = ((1 ≤ n) × (n ≤ 12)) ⊎ (n ≡ 19)
+OfALine n = ((1 ≤ n) × (n ≤ 12)) ⊎ ((n ≡ 19) ⊎ (n ≡ 21))
 
 among-lines : (n : ℕ) → OfALine n → In n lineNumbers
 among-lines n (inl h) =
     let a = h .0 in
     let b = h .1 in
-    in-left n (tabled (λ x. x) 1 12) (19 ∷ []) (among-numbers 12 1 n a (omega (arith, b)))
-among-lines n (inr e) = in-right n (tabled (λ x. x) 1 12) (19 ∷ []) (inl e)
+    in-left n (tabled (λ x. x) 1 12) (19 ∷ 21 ∷ []) (among-numbers 12 1 n a (omega (arith, b)))
+among-lines n (inr (inl e)) = in-right n (tabled (λ x. x) 1 12) (19 ∷ 21 ∷ []) (inl e)
+among-lines n (inr (inr e)) = in-right n (tabled (λ x. x) 1 12) (19 ∷ 21 ∷ []) (inr (inl e))
 
 from-one : {n : ℕ} → OfALine n → 1 ≤ n
 from-one (inl h) = h .0
-from-one (inr e) = omega (arith, e)
+from-one (inr (inl e)) = omega (arith, e)
+from-one (inr (inr e)) = omega (arith, e)
 
 -- each number of the list is one of these
 abbrev Numbered : List Due → Type 0
@@ -135,7 +137,7 @@ dues-numbered s = go (reading s)
     above : (r : Reading) → Numbered (behind r)
     above (stuck i) = tt
     above (holds l) =
-        (low (omega arith) (omega arith), (low (omega arith) (omega arith), (low (omega arith) (omega arith), (low (omega arith) (omega arith), (low (omega arith) (omega arith), (low (omega arith) (omega arith), (low (omega arith) (omega arith), (low (omega arith) (omega arith), (inr refl, tt)))))))))
+        (low (omega arith) (omega arith), (low (omega arith) (omega arith), (low (omega arith) (omega arith), (low (omega arith) (omega arith), (low (omega arith) (omega arith), (low (omega arith) (omega arith), (inr (inr refl), (low (omega arith) (omega arith), (low (omega arith) (omega arith), (inr (inl refl), tt))))))))))
 
     go : (r : Reading) → Numbered (byteRefusals s ++ (due 4 (refusal4 r) ∷ behind r))
     go r = (low (omega arith) (omega arith), (low (omega arith) (omega arith), (low (omega arith) (omega arith), (low (omega arith) (omega arith), above r))))
@@ -148,7 +150,7 @@ pub record RefusalPlaced (numbers s : List ℕ) (n p : ℕ) : Type 0 where
 
 pub line-said : (s : List ℕ) (n p : ℕ) → outcome s ≡ refused n p → RefusalPlaced lineNumbers s n p
 line-said s n p e =
-    let d = reads.laws .lowest-wins s n p .0 e .0 .member in
+    let d = reads.laws .first-of-its-places s n p e .member in
     let r = numbered (dues s) n p (dues-numbered s) d in
     record { one-of = among-lines n r; from-1 = from-one r; inside = each-in _ (placesOf (dues s) n) p d (reads.laws .inside-line s n) .0 }
 

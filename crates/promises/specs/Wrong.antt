@@ -9,11 +9,11 @@ use lib.ListN.{replicate}
 use Rattle.scope.specs.declared.answers.Read.the-variants.{Accepted, Refused as readRefused}
 use Rattle.scope.specs.declared.grammar.Section.the-variants.{Plain}
 use Rattle.scope.specs.Bytes.{upper}
-use Rattle.scope.specs.Lists.{flat, laid}
+use Rattle.scope.specs.Lists.{keep, flat, laid}
 use Rattle.scope.specs.Line.{Line}
 use Rattle.scope.specs.Reading.{element, act, perform, step, run, reading}
 use Rattle.scope.specs.Kept.{kept}
-use Rattle.scope.specs.Refusals.{least, refusal1, refusal2, unprintable, refusal3, refusal5, refusal6, refusal7, refusal8, isRuleName, refusal9, refusal10, wronglyLabelled, refusal11, passing, refusal12, refusal19, firstDue, accepted, refused, outcome}
+use Rattle.scope.specs.Refusals.{least, refusal1, refusal2, unprintable, refusal3, refusal5, refusal6, refusal7, refusal8, isRuleName, refusal9, refusal10, refusal21, wronglyLabelled, refusal11, passing, refusal12, refusal19, firstDue, accepted, refused, outcome}
 use Rattle.scope.specs.Layout.{bytesSize, numbersSize, bytesOf, numbersOf}
 use Rattle.scope.specs.Answers.{tooShort}
 use Rattle.grammar_laws.specs.Proved as spelled
@@ -28,7 +28,7 @@ abbrev held : Line ℕ
 held = record { residues = record { letter = 65; section = Plain; at = 0 } ∷ []; brackets = [] }
 
 letter-good : outcome letter ≡ accepted held
-unfolding upper element act perform step run reading flat least refusal1 refusal2 unprintable refusal3 refusal5 refusal6 refusal7 refusal8 isRuleName refusal9 refusal10 wronglyLabelled refusal11 passing refusal12 refusal19 kept firstDue outcome
+unfolding upper element act perform step run reading keep flat least refusal1 refusal2 unprintable refusal3 refusal5 refusal6 refusal7 refusal8 isRuleName refusal9 refusal10 refusal21 wronglyLabelled refusal11 passing refusal12 refusal19 kept firstDue outcome
 letter-good = refl
 
 empty-refused : outcome [] ≡ refused 1 0

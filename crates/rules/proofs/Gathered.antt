@@ -1,4 +1,4 @@
--- The three refusals of one bracket after another, gathered into the lowest code, and their copies into the sum. Assumes nothing.
+-- The four refusals of one bracket after another, gathered into the lowest code, and their copies into the sum. Assumes nothing.
 use Prim.Native.Nat.{ℕ, suc, _+_, _-_, _*_, _≤_, _<_}
 use mathlib.Core.Path.{_≡_, sym, ap, ap₂, _∙_}
 use mathlib.Core.Bool.{Bool}
@@ -9,29 +9,35 @@ use Rattle.scope.specs.Refusals.{dueAt}
 use Rattle.sheet.specs.Fields.{placeField}
 use Rattle.dues.specs.Ranks.{code, lowest}
 use Rattle.dues.specs.First.{lowest-append}
-use Rattle.dues.specs.Lines.{infoRank, labelRank, copiesRank}
+use Rattle.dues.specs.Lines.{infoRank, declaredRank, labelRank, copiesRank}
 use Rattle.dues.specs.Steps.{lowest-after}
-use Rattle.rules.specs.Told.{infoAt, wrongAt, copiesAt, copiesFrom, passes, dueCodes, dueFrom}
+use Rattle.rules.specs.Told.{infoAt, declaredInfoAt, wrongAt, copiesAt, copiesFrom, passes, dueCodes, dueFrom}
 
 module _ (line heads parts : List ℕ) (n : ℕ) where
   -- ---- one bracket
-  pub due-three : (least before k : ℕ) {after place a b r : ℕ} {x y z : Bool} → after ≡ before + copiesAt heads k → place ≡ placeField heads k
+  pub due-four : (least before k : ℕ) {after place a d b r : ℕ} {x t y z : Bool} → after ≡ before + copiesAt heads k → place ≡ placeField heads k
       → x ≡ infoAt heads k → a ≡ lowest least (map (code infoRank) (dueAt x place))
-      → y ≡ wrongAt line heads parts n k → b ≡ lowest a (map (code labelRank) (dueAt y place))
+      → t ≡ declaredInfoAt heads k → d ≡ lowest a (map (code declaredRank) (dueAt t place))
+      → y ≡ wrongAt line heads parts n k → b ≡ lowest d (map (code labelRank) (dueAt y place))
       → z ≡ passes before after → r ≡ lowest b (map (code copiesRank) (dueAt z place))
       → r ≡ lowest least (dueCodes line heads parts n before k)
-  due-three least before k {place = place} o p ex ea ey eb ez er =
-      let here : ℕ → Bool → List ℕ = λ rank t. map (code rank) (dueAt t (placeField heads k)) in
+  due-four least before k {place = place} o p ex ea et ed ey eb ez er =
+      let here : ℕ → Bool → List ℕ = λ rank u. map (code rank) (dueAt u (placeField heads k)) in
       let i : List ℕ = here infoRank (infoAt heads k) in
+      let v : List ℕ = here declaredRank (declaredInfoAt heads k) in
       let w : List ℕ = here labelRank (wrongAt line heads parts n k) in
       let c : List ℕ = here copiesRank (passes before (before + copiesAt heads k)) in
       er
       ∙ ap₂ lowest
       (eb
-      ∙ ap₂ lowest (ea ∙ ap₂ (λ t j. lowest least (map (code infoRank) (dueAt t j))) ex p) (ap₂ (λ t j. map (code labelRank) (dueAt t j)) ey p)
-      ∙ sym (lowest-append least w i))
-      (ap₂ (λ t j. map (code copiesRank) (dueAt t j)) (ez ∙ ap (passes before) o) p)
-      ∙ sym (lowest-append least c (w ++ i))
+      ∙ ap₂ lowest
+      (ed
+      ∙ ap₂ lowest (ea ∙ ap₂ (λ u j. lowest least (map (code infoRank) (dueAt u j))) ex p) (ap₂ (λ u j. map (code declaredRank) (dueAt u j)) et p)
+      ∙ sym (lowest-append least v i))
+      (ap₂ (λ u j. map (code labelRank) (dueAt u j)) ey p)
+      ∙ sym (lowest-append least w (v ++ i)))
+      (ap₂ (λ u j. map (code copiesRank) (dueAt u j)) (ez ∙ ap (passes before) o) p)
+      ∙ sym (lowest-append least c (w ++ (v ++ i)))
 
   -- ---- the loop: first is the lowest of the brackets before the k-th, which have so many copies
   module _ (least : ℕ) where

@@ -26,7 +26,7 @@ use Rattle.rules.specs.Ruled.{Named, Shaped, Ruled}
 
 -- ---- the k-th bracket, and the j-th part
 abbrev pub noBracket : Bracket ℕ
-noBracket = record { kind = Unknown; first = 0; last = 0; count = 0; counted = none; parts = []; at = 0 }
+noBracket = record { kind = Unknown; first = 0; last = 0; count = 0; counted = none; parts = []; places = []; at = 0 }
 
 abbrev pub bracketAt : List (Bracket ℕ) → ℕ → Bracket ℕ
 bracketAt ks k = getD ks k noBracket

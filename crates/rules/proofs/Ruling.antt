@@ -11,7 +11,7 @@ use lib.Seq.{take-length}
 use borrow.Author.Tests.{ne-eqb, lt-leb, lt-ltb, leb-true, leb-false}
 use Rattle.scope.specs.declared.grammar.Kind.{Kind}
 use Rattle.scope.specs.declared.grammar.Kind.the-variants.{Labile}
-use Rattle.scope.specs.Kinds.{kindCode, isUnknown, isOnRange, unknownOrLabile}
+use Rattle.scope.specs.Kinds.{kindCode, isUnknown, isOnRange, unknownOrLabile, isDeclared}
 use Rattle.scope.specs.Limits.{countLimit, copyLimit}
 use Rattle.scope.specs.Line.{Label, Part, Bracket}
 use Rattle.scope.specs.Lists.{given, none?, all, flat, among, shared}
@@ -23,7 +23,7 @@ use Rattle.basics.specs.Kinds.{same-of-kinds}
 use Rattle.basics.specs.Lists.{among-append}
 use Rattle.sheet.specs.Rows.{sortOf, countedCode}
 use Rattle.sheet.specs.Fields.{placeField, writtenCount}
-use Rattle.rules.specs.Told.{referenceSort, infoSort, infoAt, nameAt, namesAt, labelledAt, refersAt, sideAt, sideFrom, wrongAt, copiesIn, copiesAt, passes}
+use Rattle.rules.specs.Told.{referenceSort, infoSort, infoAt, declaredInfoAt, nameAt, namesAt, labelledAt, refersAt, sideAt, sideFrom, wrongAt, copiesIn, copiesAt, passes}
 use Rattle.rules.specs.Ruled.{Named, Shaped, Ruled}
 use Rattle.rules.proofs.Noting.{noBracket, bracketAt, drop-next, each-at, head-at, names-at, only-name}
 
@@ -182,6 +182,11 @@ module _ {line heads parts : List ℕ} {n : ℕ} {ks : List (Bracket ℕ)} (a : 
     info-is =
         let w = head-at a k h in
         rw (w .kind, w .sort) (ap₂ _&&_ (kind-free (this .kind)) (sort-info this (each-at Shaped noBracket ks k (a .shaped) h .apart)))
+
+    pub declared-is : declaredInfoAt heads k ≡ (isDeclared (this .kind) && onlyInfo this)
+    declared-is =
+        let w = head-at a k h in
+        rw (w .kind, w .sort) (ap (λ t. isDeclared (this .kind) && t) (sort-info this (each-at Shaped noBracket ks k (a .shaped) h .apart)))
 
     pub copies-are : copiesAt heads k ≡ min (countLimit + 1) (copies this)
     copies-are =

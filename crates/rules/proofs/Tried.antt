@@ -1,4 +1,4 @@
--- What the tests of the code say of the tables: refusals 10, 11 and 12 of a bracket. Assumes nothing.
+-- What the tests of the code say of the tables: refusals 10, 21, 11 and 12 of a bracket. Assumes nothing.
 use Prim.Native.Nat.{ℕ, _≤_, _<_}
 use mathlib.Core.Path.{_≡_, sym, ap, _∙_}
 use mathlib.Core.Bool.{Bool, true, false, not}
@@ -6,12 +6,12 @@ use mathlib.Core.List.{List}
 use native.Mathlib.Omega.{arith}
 use lib.Dec.{eqb, ltb}
 use borrow.Author.Tests.{eq-eqb, ne-eqb, le-leb, lt-leb, lt-ltb, le-ltb}
-use Rattle.scope.specs.declared.grammar.Kind.the-variants.{Unknown, Labile, OnRange}
+use Rattle.scope.specs.declared.grammar.Kind.the-variants.{Unknown, Labile, OnRange, Declared}
 use Rattle.scope.specs.Kinds.{kindCode}
 use Rattle.scope.specs.Limits.{copyLimit}
 use Rattle.scope.specs.Lists.{among}
 use Rattle.sheet.specs.Fields.{kindField, sortField, countedField, labelsField, writtenCount}
-use Rattle.rules.specs.Told.{infoSort, unlabelledSort, labelledSort, referenceSort, infoAt, nameAt, sideFrom, wrongLabel, wrongAt, labelledAt, copiesIn, passes}
+use Rattle.rules.specs.Told.{infoSort, unlabelledSort, labelledSort, referenceSort, infoAt, declaredInfoAt, nameAt, sideFrom, wrongLabel, wrongAt, labelledAt, copiesIn, passes}
 
 -- ---- 10
 module _ (heads : List ℕ) (k : ℕ) {x : ℕ} (e : x ≡ kindField heads k) where
@@ -20,6 +20,13 @@ module _ (heads : List ℕ) (k : ℕ) {x : ℕ} (e : x ≡ kindField heads k) wh
 
   pub info-sort : x ≤ kindCode Labile → {y : ℕ} → y ≡ sortField heads k → eqb y infoSort ≡ infoAt heads k
   info-sort h f = rw (le-leb (kindField heads k) (kindCode Labile) (omega arith), f)
+
+  -- ---- 21
+  pub declared-not : (x ≡ kindCode Declared → ⊥) → false ≡ declaredInfoAt heads k
+  declared-not h = rw (ne-eqb (kindField heads k) (kindCode Declared) (λ z. h (e ∙ z)))
+
+  pub declared-sort : x ≡ kindCode Declared → {y : ℕ} → y ≡ sortField heads k → eqb y infoSort ≡ declaredInfoAt heads k
+  declared-sort h f = rw (eq-eqb (kindField heads k) (kindCode Declared) (sym e ∙ h), f)
 
 -- ---- 11: a bracket's one label, and its labels
 module _ (line heads parts : List ℕ) (n k : ℕ) where

@@ -4,7 +4,7 @@ use mathlib.Core.List.{List, [], _++_, map}
 use Prim.Native.Nat.{ℕ, zero, suc, _+_, _-_, _≤_, _<_}
 use lib.Dec.{eqb, leb, ltb}
 use lib.ListN.{length}
-use Rattle.scope.specs.declared.grammar.Kind.the-variants.{Unknown, Labile, OnRange}
+use Rattle.scope.specs.declared.grammar.Kind.the-variants.{Unknown, Labile, OnRange, Declared}
 use Rattle.scope.specs.Kinds.{kindCode}
 use Rattle.scope.specs.Limits.{bracketLimit, copyLimit}
 use Rattle.scope.specs.Lists.{among, part, tabled}
@@ -12,7 +12,7 @@ use Rattle.scope.specs.Refusals.{dueAt}
 use Rattle.sheet.specs.Rows.{headsRoom, partsRoom, massesRoom}
 use Rattle.sheet.specs.Fields.{placeField, kindField, sortField, countField, countedField, partsField, labelsField, baseField, labelFromField, labelToField, writtenCount}
 use Rattle.dues.specs.Ranks.{code}
-use Rattle.dues.specs.Lines.{infoRank, labelRank, copiesRank}
+use Rattle.dues.specs.Lines.{infoRank, declaredRank, labelRank, copiesRank}
 
 -- ---- what a bracket is
 abbrev pub infoSort : ℕ
@@ -30,6 +30,10 @@ referenceSort = 3
 -- ---- refusal 10: an unknown or labile bracket with only INFO
 abbrev pub infoAt : List ℕ → ℕ → Bool
 infoAt heads k = leb (kindField heads k) (kindCode Labile) && eqb (sortField heads k) infoSort
+
+-- ---- refusal 21: a declaration with only INFO
+abbrev pub declaredInfoAt : List ℕ → ℕ → Bool
+declaredInfoAt heads k = eqb (kindField heads k) (kindCode Declared) && eqb (sortField heads k) infoSort
 
 -- ---- refusal 11
 -- the label of part x; nothing where it has none
@@ -110,12 +114,13 @@ copiesFrom heads k (suc m) = copiesAt heads k + copiesFrom heads (k + 1) m
 abbrev pub passes : ℕ → ℕ → Bool
 passes before after = leb before copyLimit && ltb copyLimit after
 
--- ---- the three, of the k-th bracket with so many copies before it
+-- ---- the four, of the k-th bracket with so many copies before it
 abbrev pub dueCodes : List ℕ → List ℕ → List ℕ → ℕ → ℕ → ℕ → List ℕ
 dueCodes line heads parts n before k =
     map (code copiesRank) (dueAt (passes before (before + copiesAt heads k)) (placeField heads k))
     ++ (map (code labelRank) (dueAt (wrongAt line heads parts n k) (placeField heads k))
-    ++ map (code infoRank) (dueAt (infoAt heads k) (placeField heads k)))
+    ++ (map (code declaredRank) (dueAt (declaredInfoAt heads k) (placeField heads k))
+    ++ map (code infoRank) (dueAt (infoAt heads k) (placeField heads k))))
 
 -- of m brackets from it on
 unfoldable pub dueFrom : List ℕ → List ℕ → List ℕ → ℕ → ℕ → ℕ → ℕ → List ℕ

@@ -1,4 +1,4 @@
-// Refusals 10 to 12, over the rows of brackets and parts in which a line is noted.
+// Refusals 10, 21, 11 and 12, over the rows of brackets and parts in which a line is noted.
 use scope::answers::Placement;
 use sheet::Head;
 ghost use mathlib.Core.Path.{_≡_};
@@ -12,7 +12,7 @@ ghost use Rattle.scope.specs.Lists.{same, among, tabled};
 ghost use Rattle.sheet.specs.Rows.{headsRoom, partsRoom, massesRoom};
 ghost use Rattle.sheet.specs.Fields.{partsField, baseField};
 ghost use Rattle.dues.specs.Ranks.{lowest};
-ghost use Rattle.rules.specs.Told.{infoAt, nameAt, PartLegible, AllLegible, labelledAt, sideIs, sideAt, sideFrom, wrongLabel, wrongAt, copiesAt, passes as passing, dueCodes};
+ghost use Rattle.rules.specs.Told.{infoAt, declaredInfoAt, nameAt, PartLegible, AllLegible, labelledAt, sideIs, sideAt, sideFrom, wrongLabel, wrongAt, copiesAt, passes as passing, dueCodes};
 ghost use Rattle.rules.specs.Ruled.{Ruled, Finds};
 
 // the codes of kinds
@@ -21,6 +21,8 @@ const UNKNOWN: usize = 1;
 const LABILE: usize = 2;
 
 const ON_RANGE: usize = 5;
+
+const DECLARED: usize = 7;
 
 // where no label ends
 const NOWHERE: usize = 0;
@@ -31,7 +33,7 @@ pub struct Found {
     pub floaters: usize,
 }
 
-// What refusals 10 to 12 find in the n brackets: the first refusal due, where `least` is the first of the others; and how many copies float.
+// What refusals 10, 21, 11 and 12 find in the n brackets: the first refusal due, where `least` is the first of the others; and how many copies float.
 pub fn rules_due(line: &[u8], heads: &[u16], parts: &[u16], n: usize, least: usize) -> Found
     requires { ⌜ ((ks : List (Bracket ℕ)) × Ruled (now line) (now heads) (now parts) n ks) ⌝ }
     ensures { λ r. ⌜ ((ks : List (Bracket ℕ)) → Ruled (now (line .entry)) (now (heads .entry)) (now (parts .entry)) n ks → Finds ks least (r .first) (r .floaters)) ⌝ }
@@ -64,7 +66,8 @@ fn bracket_due(
 {
     let place = sheet::place_of(heads, k);
     let a = dues::due_if(least, has_only_info(heads, k), dues::INFO, place);
-    let b = dues::due_if(a, is_wrong(line, heads, parts, n, k), dues::LABEL, place);
+    let d = dues::due_if(a, declares_info(heads, k), dues::DECLARED, place);
+    let b = dues::due_if(d, is_wrong(line, heads, parts, n, k), dues::LABEL, place);
     dues::due_if(b, passes(before, after), dues::COPIES, place)
 }
 
@@ -74,6 +77,17 @@ fn has_only_info(heads: &[u16], k: usize) -> bool
     ensures { λ r. ⌜ r ≡ infoAt (now (heads .entry)) k ⌝ }
 {
     if LABILE < sheet::kind_of(heads, k) {
+        return false;
+    }
+    sheet::sort_of(heads, k) == Head::ONLY_INFO
+}
+
+// Refusal 21: a declaration with only INFO.
+fn declares_info(heads: &[u16], k: usize) -> bool
+    requires { ⌜ (headsRoom ≤ length (now heads)) × (k < bracketLimit) ⌝ }
+    ensures { λ r. ⌜ r ≡ declaredInfoAt (now (heads .entry)) k ⌝ }
+{
+    if sheet::kind_of(heads, k) != DECLARED {
         return false;
     }
     sheet::sort_of(heads, k) == Head::ONLY_INFO

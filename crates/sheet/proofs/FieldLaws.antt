@@ -75,6 +75,8 @@ head-is heads n i xs k ys e f =
       labels = field 8 (omega arith);
       base-is = field 9 (omega arith);
       score = field 10 (omega arith);
+      places = field 11 (omega arith);
+      many = field 12 (omega arith);
     }
 
 -- whether its count is written

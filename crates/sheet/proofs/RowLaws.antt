@@ -1,4 +1,4 @@
--- Rows put behind others, or changed among them: a row behind n rows makes them n + 1 and leaves those before; a kind, a count and a label change their own row.
+-- Rows put behind others, or changed among them: a row behind n rows makes them n + 1 and leaves those before; a kind, a count, places and a label change their own row.
 use mathlib.Core.Path.{_≡_, refl, sym, ap, ap₂, _∙_}
 use mathlib.Core.List.{List, [], _∷_, _++_, append-assoc, append-nil}
 use Prim.Native.Nat.{ℕ, suc, _+_, _*_, _≤_, min}
@@ -8,13 +8,13 @@ use lib.Seq.{sets, sets-eq, take-at, drop-at, drop-drop, take-set-le, take-set-l
 use Rattle.scope.specs.declared.grammar.Kind.the-variants.{NTerm}
 use Rattle.scope.specs.Kinds.{kindCode}
 use Rattle.scope.specs.Limits.{countLimit}
-use Rattle.scope.specs.Line.{Part, Bracket}
+use Rattle.scope.specs.Line.{Place, Part, Bracket}
 use Rattle.scope.specs.Lists.{flat}
 use Rattle.scope.specs.Modifications.{namesOf}
-use Rattle.scope.specs.Reading.{asNTerm, times}
+use Rattle.scope.specs.Reading.{asNTerm, times, declaredAt}
 use Rattle.scope.specs.Tables.{scoreOf}
-use Rattle.sheet.specs.Rows.{partFields, partNote, headFields, headNote, headsFrom, fewParts, partsOf, sortOf, countedCode, scoreNoted}
-use Rattle.sheet.specs.Fields.{kindAt, countAt, labelAt, writtenCount}
+use Rattle.sheet.specs.Rows.{partFields, partNote, headFields, headNote, headsFrom, fewParts, partsOf, sortOf, countedCode, scoreNoted, placesFrom}
+use Rattle.sheet.specs.Fields.{kindAt, countAt, placesAt, labelAt, writtenCount}
 
 -- ---- any rows
 module _ {A : Type 0} where
@@ -117,7 +117,7 @@ unfolding sortOf
 kind-put heads xs k ys n i e f =
     let b = length (partsOf xs) in
     let r = headsFrom (b + length (fewParts k)) ys in
-    let y = sortOf k ∷ min (countLimit + 1) (k .count) ∷ countedCode (k .counted) ∷ k .first ∷ k .last ∷ length (k .parts) ∷ length (namesOf k) ∷ b ∷ scoreNoted (scoreOf (k .parts)) ∷ r in
+    let y = sortOf k ∷ min (countLimit + 1) (k .count) ∷ countedCode (k .counted) ∷ k .first ∷ k .last ∷ length (k .parts) ∷ length (namesOf k) ∷ b ∷ scoreNoted (scoreOf (k .parts)) ∷ placesFrom (k .places) ∷ length (k .places) ∷ r in
     let l = length-append (headsFrom 0 xs) (k .at ∷ []) in
     let m = heads-long 0 xs in
     put-in (n * headFields) heads (kindAt i) (headsFrom 0 xs ++ (k .at ∷ [])) (kindCode (k .kind) ∷ []) y (kindCode NTerm ∷ [])
@@ -135,7 +135,7 @@ count-put heads xs k n i v c p e f g =
     let b = length (partsOf xs) in
     let r = headsFrom (b + length (fewParts k)) [] in
     let w = k .at ∷ kindCode (k .kind) ∷ sortOf k ∷ [] in
-    let y = k .first ∷ k .last ∷ length (k .parts) ∷ length (namesOf k) ∷ b ∷ scoreNoted (scoreOf (k .parts)) ∷ r in
+    let y = k .first ∷ k .last ∷ length (k .parts) ∷ length (namesOf k) ∷ b ∷ scoreNoted (scoreOf (k .parts)) ∷ placesFrom (k .places) ∷ length (k .places) ∷ r in
     let l = length-append (headsFrom 0 xs) w in
     let m = heads-long 0 xs in
     put-in (n * headFields) heads (countAt i) (headsFrom 0 xs ++ w) (min (countLimit + 1) (k .count) ∷ countedCode (k .counted) ∷ []) y (v ∷ writtenCount ∷ [])
@@ -144,3 +144,24 @@ count-put heads xs k n i v c p e f g =
     ∙ append-assoc (headsFrom 0 xs) w (v ∷ writtenCount ∷ y)
     ∙ ap (λ t. headsFrom 0 xs ++ (w ++ (t ∷ writtenCount ∷ y))) g
     ∙ sym (heads-at xs (times c p k) [])
+
+-- the last bracket has places
+pub places-put : (heads : List ℕ) (xs : List (Bracket ℕ)) (k : Bracket ℕ) (n i from many : ℕ) (ps : List (Place ℕ))
+    → take (n * headFields) heads ≡ headsFrom 0 (xs ++ (k ∷ [])) → i ≡ length xs → from ≡ placesFrom ps → many ≡ length ps
+    → take (n * headFields) (sets heads (placesAt i) (from ∷ many ∷ [])) ≡ headsFrom 0 (xs ++ (declaredAt ps k ∷ []))
+unfolding sortOf
+places-put heads xs k n i from many ps e f g h =
+    let b = length (partsOf xs) in
+    let r = headsFrom (b + length (fewParts k)) [] in
+    let w =
+    k .at ∷ kindCode (k .kind) ∷ sortOf k ∷ min (countLimit + 1) (k .count) ∷ countedCode (k .counted) ∷ k .first ∷ k .last ∷ length (k .parts) ∷ length (namesOf k) ∷ b ∷ scoreNoted (scoreOf (k .parts))
+    ∷ []
+    in
+    let l = length-append (headsFrom 0 xs) w in
+    let m = heads-long 0 xs in
+    put-in (n * headFields) heads (placesAt i) (headsFrom 0 xs ++ w) (placesFrom (k .places) ∷ length (k .places) ∷ []) r (from ∷ many ∷ [])
+    (e ∙ heads-at xs k [] ∙ sym (append-assoc (headsFrom 0 xs) w (placesFrom (k .places) ∷ length (k .places) ∷ r)))
+    (omega arith) refl
+    ∙ append-assoc (headsFrom 0 xs) w (from ∷ many ∷ r)
+    ∙ ap₂ (λ t u. headsFrom 0 xs ++ (w ++ (t ∷ u ∷ r))) g h
+    ∙ sym (heads-at xs (declaredAt ps k) [])

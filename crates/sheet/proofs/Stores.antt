@@ -24,10 +24,10 @@ module _ {A : Type 0} (d : List A) (n : ℕ) where
       rw (p1, p2, p3, p4, p5, p6)
 
   -- a bracket's row
-  pub eleven-stores : (a b c e f g h i j k l : A)
-      → set (set (set (set (set (set (set (set (set (set (set d n a) (n + 1) b) (n + 2) c) (n + 3) e) (n + 4) f) (n + 5) g) (n + 6) h) (n + 7) i) (n + 8) j) (n + 9) k) (n + 10) l
-      ≡ sets d n (a ∷ b ∷ c ∷ e ∷ f ∷ g ∷ h ∷ i ∷ j ∷ k ∷ l ∷ [])
-  eleven-stores a b c e f g h i j k l =
+  pub thirteen-stores : (a b c e f g h i j k l m o : A)
+      → set (set (set (set (set (set (set (set (set (set (set (set (set d n a) (n + 1) b) (n + 2) c) (n + 3) e) (n + 4) f) (n + 5) g) (n + 6) h) (n + 7) i) (n + 8) j) (n + 9) k) (n + 10) l) (n + 11) m) (n + 12) o
+      ≡ sets d n (a ∷ b ∷ c ∷ e ∷ f ∷ g ∷ h ∷ i ∷ j ∷ k ∷ l ∷ m ∷ o ∷ [])
+  thirteen-stores a b c e f g h i j k l m o =
       let p1 : n + 1 ≡ suc n = omega arith in
       let p2 : n + 2 ≡ suc (suc n) = omega arith in
       let p3 : n + 3 ≡ suc (suc (suc n)) = omega arith in
@@ -38,4 +38,6 @@ module _ {A : Type 0} (d : List A) (n : ℕ) where
       let p8 : n + 8 ≡ suc (suc (suc (suc (suc (suc (suc (suc n))))))) = omega arith in
       let p9 : n + 9 ≡ suc (suc (suc (suc (suc (suc (suc (suc (suc n)))))))) = omega arith in
       let p10 : n + 10 ≡ suc (suc (suc (suc (suc (suc (suc (suc (suc (suc n))))))))) = omega arith in
-      rw (p1, p2, p3, p4, p5, p6, p7, p8, p9, p10)
+      let p11 : n + 11 ≡ suc (suc (suc (suc (suc (suc (suc (suc (suc (suc (suc n)))))))))) = omega arith in
+      let p12 : n + 12 ≡ suc (suc (suc (suc (suc (suc (suc (suc (suc (suc (suc (suc n))))))))))) = omega arith in
+      rw (p1, p2, p3, p4, p5, p6, p7, p8, p9, p10, p11, p12)

@@ -11,7 +11,7 @@ use Rattle.scope.specs.Kinds.{kindCode}
 use Rattle.scope.specs.Layout.{valueCode}
 use Rattle.scope.specs.Modifications.{namesOf}
 use Rattle.scope.specs.Tables.{scoreOf}
-use Rattle.sheet.specs.Rows.{textFrom, textTo, labelFrom, labelTo, decimalsNoted, partFields, sortOf, countedCode, scoreNoted, headFields}
+use Rattle.sheet.specs.Rows.{textFrom, textTo, labelFrom, labelTo, decimalsNoted, partFields, sortOf, countedCode, scoreNoted, placesFrom, headFields}
 use Rattle.sheet.specs.declared.Head.{Head}
 
 -- ---- bracket k
@@ -58,6 +58,15 @@ baseField heads k = getD heads (k * headFields + 9) 0
 abbrev pub scoreField : List ℕ → ℕ → ℕ
 scoreField heads k = getD heads (k * headFields + 10) 0
 
+abbrev pub placesAt : ℕ → ℕ
+placesAt k = k * headFields + 11
+
+abbrev pub placesField : List ℕ → ℕ → ℕ
+placesField heads k = getD heads (placesAt k) 0
+
+abbrev pub manyField : List ℕ → ℕ → ℕ
+manyField heads k = getD heads (k * headFields + 12) 0
+
 -- row i is of this bracket, whose first part has this number
 pub record HeadIs (heads : List ℕ) (i base : ℕ) (k : Bracket ℕ) : Type 0 where
   pub place : placeField heads i ≡ k .at
@@ -71,6 +80,8 @@ pub record HeadIs (heads : List ℕ) (i base : ℕ) (k : Bracket ℕ) : Type 0 w
   pub labels : labelsField heads i ≡ length (namesOf k)
   pub base-is : baseField heads i ≡ base
   pub score : scoreField heads i ≡ scoreNoted (scoreOf (k .parts))
+  pub places : placesField heads i ≡ placesFrom (k .places)
+  pub many : manyField heads i ≡ length (k .places)
 
 -- ---- part m
 abbrev pub labelAt : ℕ → ℕ
@@ -108,10 +119,10 @@ pub record PartIs (parts : List ℕ) (m : ℕ) (p : Part ℕ) : Type 0 where
   pub label-to : labelToField parts m ≡ labelTo p
 
 -- ---- the rows that are put
--- a bracket, once and with no count written
+-- a bracket, once, with no count written and no places
 abbrev pub headRow : Head → List ℕ
 headRow h =
-    h .place ∷ h .kind ∷ h .sort ∷ 1 ∷ 0 ∷ h .first ∷ h .last ∷ h .parts ∷ h .labels ∷ h .base ∷ h .score ∷ []
+    h .place ∷ h .kind ∷ h .sort ∷ 1 ∷ 0 ∷ h .first ∷ h .last ∷ h .parts ∷ h .labels ∷ h .base ∷ h .score ∷ 0 ∷ 0 ∷ []
 
 -- a part with no label
 abbrev pub partRow : ℕ → ℕ → ℕ → ℕ → ℕ → List ℕ

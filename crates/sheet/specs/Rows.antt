@@ -9,7 +9,7 @@ use Prim.Native.Nat.{ℕ, _+_, _*_, _≤_, min}
 use lib.IntN.{ℤ, pos}
 use lib.ListN.{length, take}
 use Rattle.scope.specs.Limits.{residueLimit, bracketLimit, partLimit, decimalLimit, countLimit}
-use Rattle.scope.specs.Line.{Number, Value, mass, text, reference, composition, Part, Bracket, Residue, Line}
+use Rattle.scope.specs.Line.{Number, Value, mass, text, reference, composition, Place, Part, Bracket, Residue, Line}
 use Rattle.scope.specs.Lists.{given, flat, part}
 use Rattle.scope.specs.Keys.{keyCode, written}
 use Rattle.scope.specs.Kinds.{kindCode}
@@ -19,6 +19,7 @@ use Rattle.scope.specs.Tables.{millionths, scoreOf}
 use Rattle.scope.specs.Layout.{valueCode, sectionCode}
 use Rattle.basics.specs.Each.{Each}
 use Rattle.reading_laws.specs.Taken.{Taken}
+use Rattle.sites.specs.Says.{Stand}
 
 -- ---- a part
 -- where its text begins, right behind its key, and the place behind it; 0 and 0 where it has none
@@ -98,14 +99,25 @@ abbrev pub pointsNoted : Option (Number ℕ) → ℤ
 pointsNoted none = pos 0
 pointsNoted (some n) = cond (inRange n) (millionths n) (pos 0)
 
--- place, kind, sort, count (100 where it is more), whether it is written, first and last position, number of parts, of labels, of its first part, score
+-- where its places begin in the line (02, L2): 0 where it has none
+abbrev pub placesFrom : List (Place ℕ) → ℕ
+placesFrom [] = 0
+placesFrom (p ∷ ps) = p .at
+
+-- they stand in the line, one behind another, from where the first begins
+abbrev pub PlacesStand : List ℕ → List (Place ℕ) → Type 0
+PlacesStand line ps = (next : ℕ) × Stand line (placesFrom ps) ps next
+
+-- place, kind, sort, count (100 where it is more), whether it is written, first and last position, number of parts, of labels, of its first part, score, where its
+-- places begin, number of places
 abbrev pub headFields : ℕ
-headFields = 11
+headFields = 13
 
 abbrev pub headNote : ℕ → Bracket ℕ → List ℕ
 headNote base k =
     k .at ∷ kindCode (k .kind) ∷ sortOf k ∷ min (countLimit + 1) (k .count) ∷ countedCode (k .counted) ∷ k .first ∷ k .last
-    ∷ length (k .parts) ∷ length (namesOf k) ∷ base ∷ scoreNoted (scoreOf (k .parts)) ∷ []
+    ∷ length (k .parts) ∷ length (namesOf k) ∷ base ∷ scoreNoted (scoreOf (k .parts)) ∷ placesFrom (k .places)
+    ∷ length (k .places) ∷ []
 
 -- the parts of it that are noted
 abbrev pub fewParts : Bracket ℕ → List (Part ℕ)
@@ -144,6 +156,7 @@ pub record Noted (line : List ℕ) (ks : List (Bracket ℕ)) (m : ℕ) (heads pa
   pub parts-are : PartsNoted (partsOf (fewBrackets ks)) m parts masses
   pub scores-are : take (length (fewBrackets ks)) scores ≡ map (λ k. pointsNoted (scoreOf (k .parts))) (fewBrackets ks)
   pub stand : AllStand line (partsOf (fewBrackets ks))
+  pub placed : Each (λ k. PlacesStand line (k .places)) (fewBrackets ks)
 
 -- the residues, where there are not too many: their letters, and the codes of their sections
 pub record Lettered (rs : List (Residue ℕ)) (letters sections : List ℕ) : Type 0 where

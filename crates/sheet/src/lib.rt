@@ -9,7 +9,7 @@ ghost use lib.Seq.{sets};
 ghost use Rattle.scope.specs.Bytes.{wideLimit};
 ghost use Rattle.scope.specs.Limits.{bracketLimit};
 ghost use Rattle.sheet.specs.Rows.{headFields, partFields, headsRoom, partsRoom, massesRoom};
-ghost use Rattle.sheet.specs.Fields.{placeField, kindField, sortField, countField, countedField, firstField, lastField, partsField, labelsField, baseField, scoreField, valueField, keyField, decimalsField, textFromField, textToField, labelFromField, labelToField, kindAt, countAt, labelAt, writtenCount, headRow, HeadFits, partRow};
+ghost use Rattle.sheet.specs.Fields.{placeField, kindField, sortField, countField, countedField, firstField, lastField, partsField, labelsField, baseField, scoreField, placesField, manyField, valueField, keyField, decimalsField, textFromField, textToField, labelFromField, labelToField, kindAt, countAt, placesAt, labelAt, writtenCount, headRow, HeadFits, partRow};
 
 // The sizes of the tables.
 pub struct Sheet {
@@ -19,7 +19,7 @@ pub struct Sheet {
 
 impl Sheet {
     // a bracket's row
-    pub const HEAD: usize = 11;
+    pub const HEAD: usize = 13;
 
     pub const HEADS: usize = Tables::BRACKETS * Self::HEAD;
 
@@ -77,6 +77,10 @@ const BASE: usize = 9;
 
 const SCORE: usize = 10;
 
+const PLACES: usize = 11;
+
+const MANY: usize = 12;
+
 // the fields of a part's row, behind its value
 const KEY: usize = 1;
 
@@ -97,7 +101,7 @@ const UNWRITTEN: u16 = 0;
 
 const WRITTEN: u16 = 1;
 
-// where there is no label
+// where there is no label, or no places
 const NOWHERE: u16 = 0;
 
 // A number of a table.
@@ -204,6 +208,22 @@ pub fn score_of(heads: &[u16], k: usize) -> usize
     number(heads, k * Sheet::HEAD + SCORE)
 }
 
+// Where its places begin in the line: 0 where it has none.
+pub fn places_of(heads: &[u16], k: usize) -> usize
+    requires { ⌜ (headsRoom ≤ length (now heads)) × (k < bracketLimit) ⌝ }
+    ensures { λ r. ⌜ (r ≡ placesField (now (heads .entry)) k) × (r < wideLimit) ⌝ }
+{
+    number(heads, k * Sheet::HEAD + PLACES)
+}
+
+// How many places it has.
+pub fn many_of(heads: &[u16], k: usize) -> usize
+    requires { ⌜ (headsRoom ≤ length (now heads)) × (k < bracketLimit) ⌝ }
+    ensures { λ r. ⌜ (r ≡ manyField (now (heads .entry)) k) × (r < wideLimit) ⌝ }
+{
+    number(heads, k * Sheet::HEAD + MANY)
+}
+
 // ---- part m
 
 // The code of its value.
@@ -264,7 +284,7 @@ pub fn label_to(parts: &[u16], m: usize) -> usize
 
 // ---- writing
 
-// The row of bracket k, once and with no count written.
+// The row of bracket k, once, with no count written and no places.
 pub fn put_head(heads: &mut [u16], k: usize, h: Head)
     requires { ⌜ (headsRoom ≤ length (now heads)) × (k < bracketLimit) × HeadFits h ⌝ }
     ensures { λ _. ⌜ now (heads .exit) ≡ sets (now (heads .entry)) (k * headFields) (headRow h) ⌝ }
@@ -281,6 +301,8 @@ pub fn put_head(heads: &mut [u16], k: usize, h: Head)
     heads[at + LABELS] = h.labels as u16;
     heads[at + BASE] = h.base as u16;
     heads[at + SCORE] = h.score as u16;
+    heads[at + PLACES] = NOWHERE;
+    heads[at + MANY] = NOWHERE;
 }
 
 // The code of its kind alone.
@@ -299,6 +321,16 @@ pub fn put_count(heads: &mut [u16], k: usize, count: usize)
     let at = k * Sheet::HEAD;
     heads[at + COUNT] = count as u16;
     heads[at + COUNTED] = WRITTEN;
+}
+
+// Where its places begin, and how many they are.
+pub fn put_places(heads: &mut [u16], k: usize, from: usize, many: usize)
+    requires { ⌜ (headsRoom ≤ length (now heads)) × (k < bracketLimit) × (from < wideLimit) × (many < wideLimit) ⌝ }
+    ensures { λ _. ⌜ now (heads .exit) ≡ sets (now (heads .entry)) (placesAt k) (from ∷ many ∷ []) ⌝ }
+{
+    let at = k * Sheet::HEAD;
+    heads[at + PLACES] = from as u16;
+    heads[at + MANY] = many as u16;
 }
 
 // The row of part m, which has no label: the codes of its value and key, the decimals of its mass, where its text begins and the place behind it.

@@ -1,4 +1,5 @@
--- What is written of a key is its word and a colon, or nothing where it has no word: one test over the keys. Assumes nothing.
+-- What is written of a key is its word and a colon, or nothing where it has no word: one test over the keys. What is written of a place, by its site.
+-- Assumes nothing.
 use mathlib.Core.Path.{_≡_, refl, sym, _∙_}
 use mathlib.Core.Bool.{cond}
 use mathlib.Core.List.{List, [], _∷_, _++_}
@@ -8,8 +9,9 @@ use lib.Dec.{eqb}
 use lib.ListN.{length}
 use borrow.Author.Tests.{eq-eqb, ne-eqb}
 use Rattle.scope.specs.declared.grammar.Key.{Key}
-use Rattle.scope.specs.Bytes.{colon}
+use Rattle.scope.specs.Bytes.{bytes, colon}
 use Rattle.scope.specs.Keys.{written, spell, keys}
+use Rattle.scope.specs.Places.{nTerminus, cTerminus, siteText}
 use Rattle.scope.specs.Lists.{all, same}
 use Rattle.basics.specs.Keys.{each-key}
 use Rattle.basics.specs.Lists.{same-law}
@@ -37,3 +39,14 @@ module _ (k : Key) {n : ℕ} (long : n ≡ length (spell k)) where
   puts-key some e v u =
       let z : wordAndColon (spell k) ≡ spell k ++ (colon ∷ []) = rw (ne-eqb (length (spell k)) 0 (λ q. some (long ∙ q))) in
       puts-of (sym z ∙ written-so k) (puts-within (omega (arith, short k)) (puts-join (puts-of e v) u))
+
+-- ---- places
+module _ (s : ℕ) where
+  pub site-n-term : s ≡ nTerminus → bytes "N-term" ≡ siteText s
+  site-n-term e = rw e
+
+  pub site-c-term : s ≡ cTerminus → bytes "C-term" ≡ siteText s
+  site-c-term e = rw e
+
+  pub site-letter : (s ≡ nTerminus → ⊥) → (s ≡ cTerminus → ⊥) → s ∷ [] ≡ siteText s
+  site-letter p q = rw (ne-eqb s nTerminus p, ne-eqb s cTerminus q)

@@ -7,17 +7,17 @@ use native.Mathlib.Omega.{arith}
 use lib.IntN.{ℤ, pos}
 use lib.ListN.{length, set, replicate, length-append, length-map, length-replicate, replicate-append-replicate}
 use lib.Seq.{sets}
-use Rattle.scope.specs.Limits.{lineLimit, bracketLimit, partLimit}
-use Rattle.scope.specs.Line.{Part, Bracket}
+use Rattle.scope.specs.Limits.{lineLimit, bracketLimit, partLimit, placeLimit}
+use Rattle.scope.specs.Line.{Place, Part, Bracket}
 use Rattle.scope.specs.Lists.{given, flat, padded}
 use Rattle.scope.specs.Tables.{millionths, scoreOf}
-use Rattle.scope.specs.Layout.{partSize, headSize, rowSize, rowsAt, textsAt, numbersSize, numberRowSize, rowAt, partAt, massAt, massIn, packed, partRow, partRows, bracketRow, bracketTexts, rows, numberRow}
+use Rattle.scope.specs.Layout.{partSize, headSize, placesSize, rowSize, rowsAt, textsAt, numbersSize, numberRowSize, rowAt, partAt, placesAt, massAt, massIn, packed, partRow, partRows, placesRow, bracketRow, bracketTexts, rows, numberRow}
 use Rattle.basics.specs.Lists.{flat-snoc}
-use Rattle.layout_laws.specs.Layout.{padded-length, part-rows-length, headOf}
+use Rattle.layout_laws.specs.Layout.{padded-length, part-rows-length, bracket-row-length, headOf}
 use Rattle.sheet.proofs.RowLaws.{sets-in}
 use Rattle.store.specs.Areas.{areaWith, numbersWith, Pieces, AreasAre, headAdded, bracketsAdded}
 use Rattle.store.specs.PartPut.{PartsPut}
-use Rattle.store.specs.BracketPut.{BracketPut, BracketsPut}
+use Rattle.store.specs.BracketPut.{placesPut, BracketPut, BracketsPut}
 
 -- ---- any piece
 module _ {A : Type 0} (z : A) (n : ℕ) where
@@ -148,7 +148,36 @@ part-more {a} {k} {j} {t} {u} {ps} p w f few-k few-j room eb en =
           };
     }
 
--- ---- bracket k: its head, then its parts and its score
+-- ---- the row of places is what is put of them, with zeros behind
+places-filled : (ps : List (Place ℕ)) → padded 0 placesSize (placesPut ps) ≡ placesRow ps
+places-filled ps =
+    let sites = map (λ p. p .site) ps in
+    let e : placesSize - length (placesPut ps) ≡ placeLimit - length sites = omega arith in
+    ap (λ n. placesPut ps ++ replicate n 0) e
+
+-- behind a head and the rows of its parts, where the places begin: both are filled up with zeros
+put-places : (front rows head parts texts past : List ℕ) (ps : List (Place ℕ)) (k : ℕ) → length front ≡ rowsAt → length rows ≡ k * rowSize → length head ≡ headSize
+    → length parts ≤ partLimit * partSize → length ps ≤ placeLimit → k < bracketLimit
+    → sets (areaWith front ((rows ++ head) ++ parts) texts past) (placesAt k) (placesPut ps)
+    ≡ areaWith front (rows ++ (head ++ (padded 0 (partLimit * partSize) parts ++ placesRow ps))) texts past
+put-places front rows head parts texts past ps k lf lr lh lp few-ps few-k =
+    let row = padded 0 (partLimit * partSize) parts in
+    let all = bracketLimit * rowSize in
+    let behind = padded 0 lineLimit texts ++ past in
+    let l1 = length-append rows head in
+    let l2 = length-append (rows ++ head) row in
+    let l3 = padded-length 0 (partLimit * partSize) parts lp in
+    let l4 = length-map ps (λ p. p .site) in
+    ap (λ x. sets (front ++ (x ++ behind)) (placesAt k) (placesPut ps)) (absorb 0 all (partLimit * partSize) (rows ++ head) parts lp (omega arith))
+    ∙ put-rows front ((rows ++ head) ++ row) texts past lf (placesPut ps) (placesAt k) (omega arith) (omega arith)
+    ∙ ap (λ x. front ++ (x ++ behind))
+    (absorb 0 all placesSize ((rows ++ head) ++ row) (placesPut ps) (omega arith) (omega arith)
+    ∙ ap (padded 0 all) (ap (λ x. ((rows ++ head) ++ row) ++ x) (places-filled ps) ∙ regroup rows head row (placesRow ps)))
+  where
+    regroup : (x y z w : List ℕ) → ((x ++ y) ++ z) ++ w ≡ x ++ (y ++ (z ++ w))
+    regroup x y z w = simp append-assoc
+
+-- ---- bracket k: its head, then its parts, its places and its score
 pub head-more : {a : Pieces} {k t : ℕ} (b : Bracket ℕ) {bytes : List ℕ} {numbers : List ℤ} {bytes′ : List ℕ}
     → AreasAre a (k * rowSize) t (k * numberRowSize) bytes numbers → k < bracketLimit → bytes′ ≡ sets bytes (rowAt k) (headOf b)
     → AreasAre (headAdded (headOf b) a) (k * rowSize + headSize) t (k * numberRowSize) bytes′ numbers
@@ -164,19 +193,17 @@ head-more {a} {k} {t} b w few-k e =
       numbers-are = w .numbers-are;
     }
 
-pub bracket-more : {a : Pieces} {k t u : ℕ} (b : Bracket ℕ) {bytes : List ℕ} {numbers numbers′ : List ℤ}
-    → PartsPut k t (b .parts) (headAdded (headOf b) a) u bytes numbers → k < bracketLimit → length (b .parts) ≤ partLimit
+pub bracket-more : {a : Pieces} {k t u : ℕ} (b : Bracket ℕ) {bytes bytes′ : List ℕ} {numbers numbers′ : List ℤ}
+    → PartsPut k t (b .parts) (headAdded (headOf b) a) u bytes numbers → k < bracketLimit → length (b .parts) ≤ partLimit → length (b .places) ≤ placeLimit
+    → bytes′ ≡ sets bytes (placesAt k) (placesPut (b .places))
     → numbers′ ≡ set numbers (massAt k partLimit) (given (scoreOf (b .parts)) millionths (pos 0))
     → length (a .rows) ≡ k * rowSize → length (a .masses) ≡ k * numberRowSize
-    → BracketPut k t b a u bytes numbers′
-bracket-more {a} {k} {t} {u} b w few-k few-p en l1 l3 =
+    → BracketPut k t b a u bytes′ numbers′
+bracket-more {a} {k} {t} {u} b w few-k few-p few-ps eb en l1 l3 =
     let ps = b .parts in
-    let row = padded 0 (partLimit * partSize) (partRows t ps) in
     let ms = map massOf ps in
     let score = given (scoreOf ps) millionths (pos 0) in
     let lp = part-rows-length t ps in
-    let lw = padded-length 0 (partLimit * partSize) (partRows t ps) (omega arith) in
-    let lh = length-append (a .rows) (headOf b) in
     let ln = length-map ps massOf in
     let lq = padded-length (pos 0) partLimit ms (omega arith) in
     let lm = length-append (a .masses) (padded (pos 0) partLimit ms) in
@@ -185,14 +212,14 @@ bracket-more {a} {k} {t} {u} b w few-k few-p en l1 l3 =
       areas-are =
           record {
             front-long = w .areas-are .front-long;
-            rows-long = omega (arith, length-append (a .rows) (headOf b ++ row), length-append (headOf b) row);
+            rows-long = omega (arith, length-append (a .rows) (bracketRow t b), bracket-row-length t b few-p few-ps);
             texts-long = w .areas-are .texts-long;
             masses-long = omega (arith, length-append (a .masses) (padded (pos 0) partLimit ms ++ (score ∷ [])), length-append (padded (pos 0) partLimit ms) (score ∷ []));
             bytes-are =
-                w .areas-are .bytes-are
-                ∙ ap (λ x. a .front ++ (x ++ (padded 0 lineLimit (a .texts ++ flat packed ps) ++ a .past)))
-                (absorb 0 (bracketLimit * rowSize) (partLimit * partSize) (a .rows ++ headOf b) (partRows t ps) (omega arith) (omega arith)
-                ∙ ap (padded 0 (bracketLimit * rowSize)) (append-assoc (a .rows) (headOf b) row));
+                eb
+                ∙ ap (λ x. sets x (placesAt k) (placesPut (b .places))) (w .areas-are .bytes-are)
+                ∙ put-places (a .front) (a .rows) (headOf b) (partRows t ps) (a .texts ++ flat packed ps) (a .past) (b .places) k (w .areas-are .front-long) l1 refl
+                (omega arith) few-ps few-k;
             numbers-are =
                 en
                 ∙ ap (λ n. set n (massAt k partLimit) score)

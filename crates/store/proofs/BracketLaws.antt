@@ -1,4 +1,4 @@
--- One bracket put into the areas: its head fits, its parts fit behind that, and with the score it is whole. Then the loop over the brackets: the areas hold those
+-- One bracket put into the areas: its head fits, its parts fit behind that, and with its places and the score it is whole. Then the loop over the brackets: the areas hold those
 -- that are passed, and the next one fits.
 use mathlib.Core.Path.{_≡_, refl, sym, ap, subst, _∙_}
 use mathlib.Core.List.{List, _∷_}
@@ -8,17 +8,17 @@ use lib.IntN.{ℤ, pos}
 use lib.ListN.{length, getD, take, set, length-append}
 use lib.Seq.{sets, length-sets, take-all}
 use Rattle.scope.specs.Limits.{partLimit}
-use Rattle.scope.specs.Line.{Part, Bracket}
+use Rattle.scope.specs.Line.{Place, Part, Bracket}
 use Rattle.scope.specs.Lists.{flat}
-use Rattle.scope.specs.Layout.{rowAt, massAt, bracketTexts}
+use Rattle.scope.specs.Layout.{rowAt, placesAt, massAt, bracketTexts}
 use Rattle.basics.specs.Lists.{flat-append-length, flat-cons, flat-snoc}
 use Rattle.layout_laws.specs.Layout.{headOf}
-use Rattle.sheet.specs.Fields.{partsField, baseField}
+use Rattle.sheet.specs.Fields.{partsField, baseField, placesField, manyField}
 use Rattle.sheet.proofs.FieldLaws.{Among, among}
 use Rattle.store.specs.Areas.{Pieces, headAdded, bracketsAdded}
 use Rattle.store.specs.PartPut.{PartsNoted, PartsFit, SomePartsFit, PartsPut}
-use Rattle.store.specs.BracketPut.{headFrom, HeadGoesIn, BracketNoted, BracketGoesIn, SomeBracketFits, BracketPut, BracketsFit, SomeBracketsFit, BracketsPut}
-use Rattle.store.proofs.NotedRows.{parts-many, head-noted, points-are, head-fits}
+use Rattle.store.specs.BracketPut.{headFrom, HeadGoesIn, placesPut, PlacesFit, BracketNoted, BracketGoesIn, SomeBracketFits, BracketPut, BracketsFit, SomeBracketsFit, BracketsPut}
+use Rattle.store.proofs.NotedRows.{parts-many, head-noted, points-are, places-fit, head-fits}
 use Rattle.store.proofs.AreaLaws.{areas-as, head-more, bracket-more, no-brackets, brackets-more}
 use Rattle.store.proofs.Passed.{passed, passed-next}
 
@@ -49,13 +49,23 @@ module _ {line heads parts : List ℕ} {masses scores : List ℤ} {k t : ℕ} {b
     pub some-parts : SomeBracketFits line heads parts masses scores k t bytes numbers → SomePartsFit line parts masses m n k t bytes₁ numbers
     some-parts s = record { these = s .this .parts; pieces = headAdded (headOf (s .this)) (s .pieces); fit = parts-fit (s .fits) }
 
-    pub bracket-put : {u : ℕ} {bytes₂ : List ℕ} {numbers₂ numbers₃ : List ℤ} {x : ℤ}
-        → ((ps : List (Part ℕ)) (a : Pieces) → PartsFit line parts masses m n k t ps a bytes₁ numbers → PartsPut k t ps a u bytes₂ numbers₂)
-        → x ≡ getD scores k (pos 0) → numbers₃ ≡ set numbers₂ (massAt k partLimit) x
-        → (b : Bracket ℕ) (a : Pieces) → BracketGoesIn line heads parts masses scores k t b a bytes numbers → BracketPut k t b a u bytes₂ numbers₃
-    bracket-put {numbers₂ = numbers₂} put ex en b a f =
-        bracket-more b (put (b .parts) (headAdded (headOf b) a) (parts-fit f)) (f .few-brackets) (f .noted .within .few-parts)
-        (en ∙ ap (set numbers₂ (massAt k partLimit)) (ex ∙ points-are (f .noted))) (f .areas-are .rows-long) (f .areas-are .masses-long)
+    module _ {at many : ℕ} {bytes₂ : List ℕ} (ea : at ≡ placesField heads k) (eh : many ≡ manyField heads k) (el : length bytes₂ ≡ length bytes₁) where
+      places-behind : {b : Bracket ℕ} {a : Pieces} → BracketGoesIn line heads parts masses scores k t b a bytes numbers → PlacesFit line at many k (b .places) bytes₂
+      places-behind f =
+          places-fit (f .noted) ea eh (f .few-brackets) (omega (arith, f .bytes-long, el, ap length e, length-sets bytes (rowAt k) (headFrom heads k)))
+
+      pub some-places : SomeBracketFits line heads parts masses scores k t bytes numbers → (ps : List (Place ℕ)) × PlacesFit line at many k ps bytes₂
+      some-places s = (s .this .places, places-behind (s .fits))
+
+      pub bracket-put : {u : ℕ} {bytes₃ : List ℕ} {numbers₂ numbers₃ : List ℤ} {x : ℤ}
+          → ((ps : List (Part ℕ)) (a : Pieces) → PartsFit line parts masses m n k t ps a bytes₁ numbers → PartsPut k t ps a u bytes₂ numbers₂)
+          → ((ps : List (Place ℕ)) → PlacesFit line at many k ps bytes₂ → bytes₃ ≡ sets bytes₂ (placesAt k) (placesPut ps))
+          → x ≡ getD scores k (pos 0) → numbers₃ ≡ set numbers₂ (massAt k partLimit) x
+          → (b : Bracket ℕ) (a : Pieces) → BracketGoesIn line heads parts masses scores k t b a bytes numbers → BracketPut k t b a u bytes₃ numbers₃
+      bracket-put {numbers₂ = numbers₂} put place ex en b a f =
+          bracket-more b (put (b .parts) (headAdded (headOf b) a) (parts-fit f)) (f .few-brackets) (f .noted .within .few-parts) (f .noted .within .few-places)
+          (place (b .places) (places-behind f))
+          (en ∙ ap (set numbers₂ (massAt k partLimit)) (ex ∙ points-are (f .noted))) (f .areas-are .rows-long) (f .areas-are .masses-long)
 
 -- ---- the loop
 pub record StoredUpto (ks : List (Bracket ℕ)) (a : Pieces) (k t : ℕ) (bytes : List ℕ) (numbers : List ℤ) : Type 0 where

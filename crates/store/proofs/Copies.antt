@@ -46,7 +46,7 @@ module _ {A : Type 0} {z : A} {m : ℕ} {d : List A} {i : ℕ} {cur : List A} (h
   zeroing-end l = let e : i ≡ m = omega (arith, h .upto) in h .is ∙ ap (λ j. replicate j z ++ drop j d) e
 
 -- ---- a stretch of n elements from a on, to the place at
-sets-snoc : {A : Type 0} (d : List A) (n : ℕ) (l : List A) (v : A) → sets d n (l ++ (v ∷ [])) ≡ set (sets d n l) (n + length l) v
+pub sets-snoc : {A : Type 0} (d : List A) (n : ℕ) (l : List A) (v : A) → sets d n (l ++ (v ∷ [])) ≡ set (sets d n l) (n + length l) v
 sets-snoc d n [] v = ap (λ i. set d i v) (sym (add-zero n))
 sets-snoc d n (x ∷ l) v =
     let e : suc n + length l ≡ n + suc (length l) = omega arith in

@@ -4,6 +4,7 @@ pub mod PutRows
 pub mod AreaLaws
 pub mod Passed
 pub mod PartsLaws
+pub mod PlacesLaws
 pub mod BracketLaws
 pub mod NotedLine
 pub mod LineLaws

@@ -19,7 +19,7 @@ use Rattle.basics.specs.Lists.{flat-none, not-due}
 use Rattle.reading_laws.specs.Taken.{taken-back}
 use Rattle.accepted_laws.specs.Within.{PartWithin, BracketWithin, Within}
 use Rattle.accepted_laws.specs.Laws.{accepted-within, read-within}
-use Rattle.sheet.specs.Rows.{partFields, headFields, massNoted, pointsNoted, partNote, AllStand, headsFrom, partsOf, fewBrackets, LineNoted}
+use Rattle.sheet.specs.Rows.{partFields, headFields, massNoted, pointsNoted, partNote, AllStand, headsFrom, partsOf, fewBrackets, PlacesStand, LineNoted}
 use Rattle.sheet.proofs.FieldLaws.{number-at, head-is, part-is, part-among, stands-at, parts-few}
 use Rattle.store.specs.PartPut.{PartNoted}
 use Rattle.store.specs.BracketPut.{BracketNoted}
@@ -68,7 +68,7 @@ module _ {line letters sections heads parts : List ℕ} {masses scores : List �
   all-cut =
       each-one (λ k. flat (λ p. dueAt (isUncut p) (p .at)) (k .parts) ≡ []) (λ k. Each (λ p. isUncut p ≡ false) (k .parts))
       (λ k e. each-one (λ p. dueAt (isUncut p) (p .at) ≡ []) (λ p. isUncut p ≡ false) (λ p f. not-due (isUncut p) (p .at) f) (k .parts) (flat-none (λ p. dueAt (isUncut p) (p .at)) (k .parts) e))
-      (read .brackets) (flat-none (λ k. flat (λ p. dueAt (isUncut p) (p .at)) (k .parts)) (read .brackets) (w .taken .clear .1 .1 .1 .1 .1 .1 .1 .1 .0))
+      (read .brackets) (flat-none (λ k. flat (λ p. dueAt (isUncut p) (p .at)) (k .parts)) (read .brackets) (w .taken .clear .1 .1 .1 .1 .1 .1 .1 .1 .1 .0))
 
   -- residues are kept as they are, and as many brackets
   same-residues : read .residues ≡ l .residues
@@ -110,6 +110,10 @@ module _ {line letters sections heads parts : List ℕ} {masses scores : List �
     this-within =
         each-back (BracketWithin (length (read .residues))) (u .before) (u .this ∷ u .behind) (subst (Each (BracketWithin (length (read .residues)))) (u .is) (within-read .brackets)) .0
 
+    this-placed : PlacesStand line (u .this .places)
+    this-placed =
+        each-back (λ k. PlacesStand line (k .places)) (u .before) (u .this ∷ u .behind) (subst (Each (λ k. PlacesStand line (k .places))) these (w .noted .placed)) .0
+
     this-cut : Each (λ p. isUncut p ≡ false) (u .this .parts)
     this-cut =
         each-back (λ k. Each (λ p. isUncut p ≡ false) (k .parts)) (u .before) (u .this ∷ u .behind) (subst (Each (λ k. Each (λ p. isUncut p ≡ false) (k .parts))) (u .is) all-cut) .0
@@ -148,6 +152,7 @@ module _ {line letters sections heads parts : List ℕ} {masses scores : List �
           base = length (partsOf (u .before));
           read = u .this;
           keeps = u .this-is;
+          placed = subst (λ z. PlacesStand line (z .places)) (sym (u .this-is)) this-placed;
           fields = head-is heads (length (fewBrackets (read .brackets)) * headFields) (length xs) (u .before) (u .this) (u .behind) (w .noted .rows ∙ ap (headsFrom 0) these) (u .place);
           score-is = number-at (pos 0) (λ k. pointsNoted (scoreOf (k .parts))) (length (fewBrackets (read .brackets))) scores (u .before) (u .this) (u .behind) (length xs) (w .noted .scores-are ∙ ap (map (λ k. pointsNoted (scoreOf (k .parts)))) these)
               (u .place ∙ sym (length-map (u .before) (λ k. pointsNoted (scoreOf (k .parts)))));

@@ -1,5 +1,5 @@
 -- Within the limits a row of the sheet says what the row of its part or bracket in the areas holds: its fields, its texts, its numbers.
-use mathlib.Core.Path.{_≡_, refl, sym, ap, ap₂, _∙_}
+use mathlib.Core.Path.{_≡_, refl, sym, ap, ap₂, subst, _∙_}
 use mathlib.Core.Logic.{inl, inr}
 use mathlib.Core.Bool.{Bool, true, false, cond, _&&_}
 use mathlib.Core.Option.{Option, none, some}
@@ -32,10 +32,11 @@ use Rattle.accepted_laws.specs.Within.{NumberWithin, LabelWithin, KeyWithin, Va
 use Rattle.accepted_laws.specs.Laws.{first-within, last-within}
 use Rattle.layout_laws.specs.Numbers.{few-decimals}
 use Rattle.layout_laws.specs.Layout.{score-within, headOf}
-use Rattle.sheet.specs.Rows.{textFrom, textTo, labelFrom, labelTo, decimalsNoted, massNoted, AsRead, scoreNoted, pointsNoted, headsRoom, partsRoom, massesRoom}
-use Rattle.sheet.specs.Fields.{kindField, firstField, lastField, partsField, scoreField, valueField, keyField, decimalsField}
+use Rattle.sites.specs.Says.{Stand}
+use Rattle.sheet.specs.Rows.{textFrom, textTo, labelFrom, labelTo, decimalsNoted, massNoted, AsRead, scoreNoted, pointsNoted, placesFrom, headsRoom, partsRoom, massesRoom}
+use Rattle.sheet.specs.Fields.{kindField, firstField, lastField, partsField, scoreField, placesField, manyField, valueField, keyField, decimalsField}
 use Rattle.store.specs.PartPut.{textNoted, isComposed, composed, textPut, valuePut, decimalsPut, massPut, textLength, labelLength, textsFrom, offsetOf, rowFrom, RowFits, PartNoted}
-use Rattle.store.specs.BracketPut.{headFrom, HeadGoesIn, BracketNoted}
+use Rattle.store.specs.BracketPut.{headFrom, HeadGoesIn, PlacesFit, BracketNoted}
 
 -- ---- numbers within the limits are noted as they are
 decimals-noted : (p : Part ℕ) (v : Value ℕ) → AsRead v → ValueWithin p v → decimalsNoted v ≡ decimalsIn v
@@ -274,6 +275,20 @@ module _ {line heads parts : List ℕ} {masses scores : List ℤ} {n k : ℕ} {b
 
   pub points-are : getD scores k (pos 0) ≡ given (scoreOf (b .parts)) millionths (pos 0)
   points-are = w .score-is ∙ ap pointsNoted score-same ∙ points-noted (scoreOf (b .parts)) the-score
+
+  pub places-fit : {at many : ℕ} {bytes : List ℕ} → at ≡ placesField heads k → many ≡ manyField heads k → k < bracketLimit → bytesSize ≤ length bytes
+      → PlacesFit line at many k (b .places) bytes
+  places-fit ea em q l =
+      let from = ea ∙ w .fields .places ∙ ap (λ z. placesFrom (z .places)) (sym (w .keeps)) in
+      let count = em ∙ w .fields .many ∙ ap (λ z. length (z .places)) (sym (w .keeps)) in
+      record {
+        many = count;
+        few = omega (arith, count, w .within .few-places);
+        next = w .placed .0;
+        stand = subst (λ i. Stand line i (b .places) (w .placed .0)) (sym from) (w .placed .1);
+        few-brackets = q;
+        bytes-long = l;
+      }
 
   pub head-fits : {bytes : List ℕ} → n ≤ residueLimit → headsRoom ≤ length heads → k < bracketLimit → bytesSize ≤ length bytes → HeadGoesIn heads k bytes
   head-fits r h q l =

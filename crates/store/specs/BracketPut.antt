@@ -1,19 +1,20 @@
 -- What the row of a bracket in the sheet puts into the areas, and the same of what is kept of the bracket that the row is of.
 use mathlib.Core.Path.{_≡_}
-use mathlib.Core.List.{List, _∷_, _++_}
+use mathlib.Core.List.{List, _∷_, _++_, map}
 use Prim.Native.Nat.{ℕ, _+_, _*_, _<_, _≤_}
 use lib.IntN.{ℤ, pos}
 use lib.ListN.{length, getD}
 use Rattle.scope.specs.Bytes.{byteLimit}
-use Rattle.scope.specs.Limits.{lineLimit, residueLimit, bracketLimit, positionLimit}
+use Rattle.scope.specs.Limits.{lineLimit, residueLimit, bracketLimit, placeLimit, positionLimit}
 use Rattle.scope.specs.Kept.{keptBracket}
-use Rattle.scope.specs.Line.{Bracket}
+use Rattle.scope.specs.Line.{Place, Bracket}
 use Rattle.scope.specs.Lists.{flat}
 use Rattle.scope.specs.Tables.{scoreOf}
 use Rattle.scope.specs.Layout.{bytesSize, numbersSize, rowSize, numberRowSize, headRow, bracketTexts}
 use Rattle.accepted_laws.specs.Within.{BracketWithin}
-use Rattle.sheet.specs.Rows.{headsRoom, partsRoom, massesRoom, pointsNoted}
+use Rattle.sheet.specs.Rows.{headsRoom, partsRoom, massesRoom, pointsNoted, PlacesStand}
 use Rattle.sheet.specs.Fields.{kindField, firstField, lastField, countField, partsField, scoreField, HeadIs}
+use Rattle.sites.specs.Says.{Stand}
 use Rattle.store.specs.Areas.{Pieces, AreasAre, bracketAdded, bracketsAdded}
 use Rattle.store.specs.PartPut.{PartsNoted}
 
@@ -33,6 +34,20 @@ pub record HeadGoesIn (heads : List ℕ) (k : ℕ) (bytes : List ℕ) : Type 0 w
   pub score-byte : scoreField heads k < byteLimit
   pub bytes-long : bytesSize ≤ length bytes
 
+-- ---- places
+-- how many, then the site of each
+abbrev pub placesPut : List (Place ℕ) → List ℕ
+placesPut ps = length ps ∷ map (λ p. p .site) ps
+
+-- n places stand in the line from a place on, and fit as those of bracket k
+pub record PlacesFit (line : List ℕ) (at n k : ℕ) (ps : List (Place ℕ)) (bytes : List ℕ) : Type 0 where
+  pub many : n ≡ length ps
+  pub few : n ≤ placeLimit
+  pub next : ℕ
+  pub stand : Stand line at ps next
+  pub few-brackets : k < bracketLimit
+  pub bytes-long : bytesSize ≤ length bytes
+
 -- ---- a bracket
 -- row k is of a bracket of a line with n residues, and b is what is kept of it
 pub record BracketNoted (line heads parts : List ℕ) (masses scores : List ℤ) (n k : ℕ) (b : Bracket ℕ) : Type 0 where
@@ -43,6 +58,7 @@ pub record BracketNoted (line heads parts : List ℕ) (masses scores : List ℤ)
   pub score-is : getD scores k (pos 0) ≡ pointsNoted (scoreOf (read .parts))
   pub parts-are : PartsNoted line parts masses base (b .parts)
   pub few-rows : base + length (b .parts) ≤ massesRoom
+  pub placed : PlacesStand line (b .places)
   pub within : BracketWithin n b
 
 -- it fits behind k others, and behind t bytes of texts

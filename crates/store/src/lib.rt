@@ -7,15 +7,15 @@ ghost use Prim.Native.Nat.{ℕ, _<_, _≤_};
 ghost use lib.IntN.{pos};
 ghost use lib.ListN.{length, getD, drop, replicate};
 ghost use lib.Seq.{sets};
-ghost use Rattle.scope.specs.Line.{Part, Bracket, Line};
+ghost use Rattle.scope.specs.Line.{Place, Part, Bracket, Line};
 ghost use Rattle.scope.specs.Lists.{part};
-ghost use Rattle.scope.specs.Layout.{bytesSize, numbersSize, rowAt};
+ghost use Rattle.scope.specs.Layout.{bytesSize, numbersSize, rowAt, placesAt};
 ghost use Rattle.scope.specs.Refusals.{outcome, accepted};
 ghost use Rattle.store.specs.Areas.{Pieces};
 ghost use Rattle.glycans.specs.Cut.{Room, PutBefore};
 ghost use Rattle.sheet.specs.Rows.{partsRoom, massesRoom};
 ghost use Rattle.store.specs.PartPut.{Copies, isComposed, textPut, offsetOf, RowFits, RowCut, ShortIs, ComposedFits, NotedFits, RowPut, SomePartsFit, PartsFit, PartsPut};
-ghost use Rattle.store.specs.BracketPut.{headFrom, HeadGoesIn, SomeBracketFits, BracketGoesIn, BracketPut, SomeBracketsFit, BracketsFit, BracketsPut};
+ghost use Rattle.store.specs.BracketPut.{headFrom, HeadGoesIn, placesPut, PlacesFit, SomeBracketFits, BracketGoesIn, BracketPut, SomeBracketsFit, BracketsFit, BracketsPut};
 ghost use Rattle.store.specs.Filled.{FrontFits, frontPut, Fills, FilledAll};
 
 // ---- zeros
@@ -250,6 +250,22 @@ fn store_head(heads: &[u16], k: usize, bytes: &mut [u8])
     );
 }
 
+// The n places that stand in the line from `at` on, as those of bracket k: how many, and the site of each.
+fn store_places(line: &[u8], at: usize, n: usize, k: usize, bytes: &mut [u8])
+    requires { ⌜ ((ps : List (Place ℕ)) × PlacesFit (now line) at n k ps (now bytes)) ⌝ }
+    ensures { λ _. ⌜ ((ps : List (Place ℕ)) → PlacesFit (now (line .entry)) at n k ps (now (bytes .entry)) → now (bytes .exit) ≡ sets (now (bytes .entry)) (placesAt k) (placesPut ps)) ⌝ }
+{
+    areas::put_places(bytes, k, n as u8);
+    let mut i = at;
+    let mut j: usize = 0;
+    while j < n {
+        let s = sites::site_at(line, i);
+        areas::put_site(bytes, k, j, s.site);
+        i = s.next + 1;
+        j += 1;
+    }
+}
+
 // Bracket k, its texts behind t bytes of others. Answers how many there are then.
 fn store_bracket(
     line: &[u8],
@@ -269,6 +285,9 @@ fn store_bracket(
     let m = sheet::base_of(heads, k);
     let n = sheet::parts_of(heads, k);
     let u = store_parts(line, parts, masses, m, n, k, t, bytes, numbers);
+    let at = sheet::places_of(heads, k);
+    let many = sheet::many_of(heads, k);
+    store_places(line, at, many, k, bytes);
     areas::put_score(numbers, k, number(scores, k));
     u
 }

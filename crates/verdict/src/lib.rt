@@ -1,4 +1,4 @@
-// Refusals 1 to 12, and 19 "after 12": "the lowest number wins, at its first place in the line".
+// Refusals 1 to 12, 21 "after 10" and 19 "after 12": the first that is due in this order, "at its first place in the line".
 use rules::Found;
 use scope::answers::Read;
 use scope::tables::Tables;
@@ -56,7 +56,7 @@ fn not_read(line: &[u8], place: usize) -> Judged
     Judged::Refused { number: 4, place }
 }
 
-// The first refusal due of 5 to 12 and 19, where `least` is the first of 5 to 9 and 19, and how many copies float where none is due: the rules are asked where none of 5 to 9 is.
+// The first refusal due of 5 to 12, 19 and 21, where `least` is the first of 5 to 9 and 19, and how many copies float where none is due: the rules are asked where none of 5 to 9 is.
 fn first_due(line: &[u8], heads: &[u16], parts: &[u16], brackets: usize, least: usize) -> Found
     requires { ⌜ WalkedLine (now line) (now heads) (now parts) brackets least ⌝ }
     ensures { λ r. ⌜ ((l : Line ℕ) → reading (now (line .entry)) ≡ holds l → FirstOf l (r .first) (r .floaters)) ⌝ }

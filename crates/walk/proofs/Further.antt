@@ -8,9 +8,10 @@ use native.Mathlib.Omega.{arith}
 use lib.IntN.{ℤ}
 use lib.ListN.{length, getD, length-append, length-map}
 use Rattle.scope.specs.declared.grammar.Mode.{Mode}
-use Rattle.scope.specs.declared.grammar.Mode.the-variants.{Runs, Start}
+use Rattle.scope.specs.declared.grammar.Mode.the-variants.{Front, Runs, Start}
 use Rattle.scope.specs.declared.grammar.Act.{Act}
 use Rattle.scope.specs.declared.grammar.Act.the-variants.{Stop, Go, RunEnds, TermEnds}
+use Rattle.scope.specs.Kinds.{isDeclared}
 use Rattle.scope.specs.Limits.{bracketLimit, lineLimit}
 use Rattle.scope.specs.Line.{Bracket}
 use Rattle.scope.specs.Reading.{outside, perform, step, settledRun, asNTerm, act, mayEnd, nothing, stuck, holds, lineOf, reading}
@@ -25,6 +26,7 @@ use Rattle.walk.specs.Stages.{heldBrackets, TablesLent, withHeads, HasRo
 use Rattle.walk.specs.Steps.{goneTo, settledIn, Settled, Stepped}
 use Rattle.walk.specs.Walked.{LineSays}
 use Rattle.walk.proofs.Modes.{ActFits, act-fits, ends-settled}
+use Rattle.walk.proofs.Declares.{none-declares, over-declares, declares-go, none-kept}
 use Rattle.walk.proofs.Dues.{met-none, met-settled}
 use Rattle.walk.proofs.Notes.{none-noted, noted-settled, noted-low}
 
@@ -89,6 +91,7 @@ module _ {line : List ℕ} {s : Stage} {t : TablesLent} where
         is = next-state d;
         within = omega (arith, d .here);
         fits = run-left d (u .held .run) _ _ (u .fits);
+        declares = declares-go (getD line (s .at) 0) (d .does) (u .declares);
         residues-are = u .residues-are;
         brackets-are = u .brackets-are;
         least-is = u .least-is;
@@ -112,6 +115,7 @@ module _ {line : List ℕ} {s : Stage} {t : TablesLent} where
         is = next-state d;
         within = omega (arith, d .here);
         fits = refl;
+        declares = over-declares Runs bs refl refl;
         residues-are = u .residues-are;
         brackets-are = brackets-as (u .brackets-are) bs [] same (s .brackets) (u .brackets-are .many ∙ ap (λ l. length (h .brackets ++ l)) (sym (map-id (h .run))));
         least-is = u .least-is ∙ ap (λ l. lowest nothingDue (metCodes (h .residues) l)) same;
@@ -146,9 +150,10 @@ module _ {line : List ℕ} {s : Stage} {t : TablesLent} where
         is = next-state d;
         within = omega (arith, d .here);
         fits = refl;
+        declares = over-declares Start (bs ++ ws) refl refl;
         residues-are = u .residues-are;
         brackets-are = brackets-as settled (bs ++ ws) [] same (s .brackets) (settled .many);
-        least-is = u .least-is ∙ ap (lowest nothingDue) (sym (met-settled (h .residues) bs (h .run))) ∙ ap (λ l. lowest nothingDue (metCodes (h .residues) l)) same;
+        least-is = u .least-is ∙ ap (lowest nothingDue) (sym (met-settled (h .residues) bs (h .run) (none-kept (λ k. isDeclared (k .kind)) (h .run) (u .declares .none-waits)))) ∙ ap (λ l. lowest nothingDue (metCodes (h .residues) l)) same;
         few-residues = omega (arith, u .few-residues);
         few-brackets = omega (arith, u .few-brackets);
         roomy = room-heads (u .roomy) (g .kept);
@@ -162,6 +167,7 @@ nothing-read line t r = record {
   is = rest-start line;
   within = omega arith;
   fits = refl;
+  declares = none-declares Front refl;
   residues-are = record { many = refl; group-is = refl; group-low = omega arith; lettered = record { letters-are = λ h. refl; sections-are = λ h. refl } };
   brackets-are = record { many = refl; before = refl; noted = none-noted };
   least-is = met-none nothingDue;

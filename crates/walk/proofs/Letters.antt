@@ -12,9 +12,9 @@ use Rattle.basics.specs.Each.{Each}
 use Rattle.scope.specs.declared.grammar.Section.{Section}
 use Rattle.scope.specs.declared.grammar.Section.the-variants.{Plain, RangeFirst, RangeNext, UnsureFirst, UnsureNext}
 use Rattle.scope.specs.declared.grammar.Mode.{Mode}
-use Rattle.scope.specs.declared.grammar.Mode.the-variants.{Front, Runs, Undecided, Counted, Referred, Caret, Counting, Labiles, NTerms, Start, Single, Opened, UnsureOpened, InRange, InUnsure, RangeEnd, Ranged, UnsureEnd, CStart, CTerms}
+use Rattle.scope.specs.declared.grammar.Mode.the-variants.{Front, Angle, Tagged, Listed, Runs, Undecided, Counted, Referred, Caret, Counting, Labiles, NTerms, Start, Single, Opened, UnsureOpened, InRange, InUnsure, RangeEnd, Ranged, UnsureEnd, CStart, CTerms}
 use Rattle.scope.specs.declared.grammar.Act.{Act}
-use Rattle.scope.specs.declared.grammar.Act.the-variants.{Stop, Go, Residue as aResidue, Begin, Digit, RunEnds, TermEnds}
+use Rattle.scope.specs.declared.grammar.Act.the-variants.{Stop, Go, Residue as aResidue, Begin, Digit, RunEnds, TermEnds, Places}
 use Rattle.scope.specs.Bytes.{isLetter, upper}
 use Rattle.scope.specs.Line.{Residue}
 use Rattle.scope.specs.Lists.{part, tabled}
@@ -40,6 +40,7 @@ Follows (Begin s) = Unit {0}
 Follows Digit = Unit {0}
 Follows RunEnds = Unit {0}
 Follows TermEnds = Unit {0}
+Follows Places = Unit {0}
 
 abbrev AllFollow : List Way → Type 0
 AllFollow ws = Each (λ w. Follows (w .does)) ws
@@ -59,7 +60,10 @@ furthers-follow : AllFollow furthers
 furthers-follow = (tt, elements-follow)
 
 ways-follow : (m : Mode) → AllFollow (ways m)
-ways-follow Front = (tt, (tt, elements-follow))
+ways-follow Front = (tt, (tt, (tt, elements-follow)))
+ways-follow Angle = (tt, tt)
+ways-follow Tagged = (tt, tt)
+ways-follow Listed = (tt, tt)
 ways-follow Runs = (tt, (tt, elements-follow))
 ways-follow Undecided = (tt, (tt, (tt, (tt, tt))))
 ways-follow Counted = (tt, (tt, (tt, tt)))

@@ -1,4 +1,5 @@
 pub mod Modes
+pub mod Declares
 pub mod Letters
 pub mod Counts
 pub mod Stores
@@ -10,3 +11,4 @@ pub mod Further
 pub mod OneRun
 pub mod OneCount
 pub mod OneBracket
+pub mod OnePlaces

@@ -8,7 +8,7 @@ use native.Mathlib.Omega.{arith}
 use Rattle.scope.specs.declared.grammar.Mode.{Mode}
 use Rattle.scope.specs.declared.grammar.Slot.{Slot}
 use Rattle.scope.specs.declared.grammar.Act.{Act}
-use Rattle.scope.specs.declared.grammar.Act.the-variants.{Stop, Go, Residue as aResidue, Begin, Digit, RunEnds, TermEnds}
+use Rattle.scope.specs.declared.grammar.Act.the-variants.{Stop, Go, Residue as aResidue, Begin, Digit, RunEnds, TermEnds, Places}
 use Rattle.scope.specs.Bytes.{isDigit}
 use Rattle.scope.specs.Line.{Part, Bracket}
 use Rattle.scope.specs.Reading.{act, mayEnd, refers?, modeAfter}
@@ -34,6 +34,7 @@ ActFits m b (Begin s) = (r : List (Bracket ℕ)) (l : List ℕ) → ModeFits m r
 ActFits m b Digit = (isDigit b ≡ true) × ((r : List (Bracket ℕ)) (l : List ℕ) → ModeFits m r (b ∷ l) → LastFresh r)
 ActFits m b RunEnds = Unit {0}
 ActFits m b TermEnds = Unit {0}
+ActFits m b Places = (r : List (Bracket ℕ)) (l : List ℕ) → ModeFits m r l → r ≡ []
 
 newest : (r : List (Bracket ℕ)) (k : Bracket ℕ) → k .counted ≡ none → LastFresh (r ++ (k ∷ []))
 newest r k e = record { before = r; last = k; is = refl; fresh = e }
@@ -103,6 +104,7 @@ actFits m (Begin s) = slotFits m s
 actFits m Digit = digit? (waiting m)
 actFits m RunEnds = true
 actFits m TermEnds = true
+actFits m Places = none? (waiting m)
 
 passes-fits : (a c : Waiting) → passes a c ≡ true → (r : List (Bracket ℕ)) (l k : List ℕ) → WaitsFor a r l → WaitsFor c r k
 passes-fits a c e r l k f = go (none? a) refl e
@@ -138,6 +140,7 @@ act-fits m b = go (act m b) (act-rule actFits refl m b) (act-byte m b)
     go Digit e d = (d, λ r l f. fresh-before (waiting m) r l b e d f)
     go RunEnds e d = tt
     go TermEnds e d = tt
+    go Places e d = λ r l f. none-waiting (waiting m) r l e f
 
 -- where a line may end no run waits
 pub ends-settled : (m : Mode) (r : List (Bracket ℕ)) (l : List ℕ) → mayEnd m ≡ true → ModeFits m r l → r ≡ []

@@ -1,4 +1,4 @@
--- The tables that note some brackets note them with one bracket more, with a count of the last, and with the brackets at the front settled.
+-- The tables that note some brackets note them with one bracket more, with a count or the places of the last, and with the brackets at the front settled.
 use mathlib.Core.Path.{_≡_, refl, sym, ap, ap₂, subst, _∙_}
 use mathlib.Core.Bool.{true, false, cond}
 use mathlib.Core.List.{List, [], _∷_, _++_, map, map-append}
@@ -11,19 +11,19 @@ use lib.ListN.{length, take, drop, set, length-append, length-map, length-take, 
 use lib.Seq.{sets, take-all, take-nil, take-suc-set}
 use borrow.Author.Tests.{leb-true, leb-false, ltb-true, ltb-false}
 use Rattle.basics.specs.Choice.{by-test}
-use Rattle.basics.specs.Each.{Each, each-append, each-front}
+use Rattle.basics.specs.Each.{Each, each-append, each-front, each-back, each-snoc, each-map}
 use Rattle.basics.specs.Lists.{flat-append, flat-snoc}
 use Rattle.scope.specs.Limits.{bracketLimit, partLimit, countLimit}
-use Rattle.scope.specs.Line.{Part, Bracket}
+use Rattle.scope.specs.Line.{Place, Part, Bracket}
 use Rattle.scope.specs.Lists.{flat}
-use Rattle.scope.specs.Reading.{asNTerm, times}
+use Rattle.scope.specs.Reading.{asNTerm, times, declaredAt}
 use Rattle.scope.specs.Tables.{scoreOf}
-use Rattle.sheet.specs.Rows.{partFields, partNote, massNoted, Stands, AllStand, pointsNoted, headFields, headNote, fewParts, headsFrom, partsOf, fewBrackets, PartsNoted, Noted}
-use Rattle.sheet.specs.Fields.{countAt, writtenCount}
-use Rattle.sheet.proofs.RowLaws.{head-behind, count-put}
+use Rattle.sheet.specs.Rows.{partFields, partNote, massNoted, Stands, AllStand, pointsNoted, headFields, headNote, fewParts, headsFrom, partsOf, fewBrackets, placesFrom, PlacesStand, PartsNoted, Noted}
+use Rattle.sheet.specs.Fields.{countAt, placesAt, writtenCount}
+use Rattle.sheet.proofs.RowLaws.{head-behind, count-put, places-put}
 use Rattle.inside.specs.Says.{Opening, Grows}
 use Rattle.inside.proofs.Lists.{length-snoc, take-few, take-many}
-use Rattle.walk.specs.Steps.{Settled, countPut}
+use Rattle.walk.specs.Steps.{Settled, countPut, placesPut}
 use Rattle.walk.proofs.Dues.{flat-settled, map-settled}
 
 abbrev pointsOf : Bracket ℕ → ℤ
@@ -38,24 +38,25 @@ record AllNoted (line : List ℕ) (ks : List (Bracket ℕ)) (m : ℕ) (heads par
   parts-are : PartsNoted (partsOf ks) m parts masses
   scores-are : take (length ks) scores ≡ map pointsOf ks
   stand : AllStand line (partsOf ks)
+  placed : Each (λ k. PlacesStand line (k .places)) ks
 
 module _ {line : List ℕ} {ks : List (Bracket ℕ)} {m : ℕ} {heads parts : List ℕ} {masses scores : List ℤ} where
   all-of : (few : List (Bracket ℕ)) → fewBrackets ks ≡ few → Noted line ks m heads parts masses scores → AllNoted line few m heads parts masses scores
   all-of few e w =
       subst (λ l. AllNoted line l m heads parts masses scores) e
-      (record { rows = w .rows; parts-are = w .parts-are; scores-are = w .scores-are; stand = w .stand })
+      (record { rows = w .rows; parts-are = w .parts-are; scores-are = w .scores-are; stand = w .stand; placed = w .placed })
 
   noted-of : (few : List (Bracket ℕ)) → fewBrackets ks ≡ few → AllNoted line few m heads parts masses scores → Noted line ks m heads parts masses scores
   noted-of few e v =
       let w = subst (λ l. AllNoted line l m heads parts masses scores) (sym e) v in
-      record { rows = w .rows; parts-are = w .parts-are; scores-are = w .scores-are; stand = w .stand }
+      record { rows = w .rows; parts-are = w .parts-are; scores-are = w .scores-are; stand = w .stand; placed = w .placed }
 
 -- none
 pub none-noted : {line heads parts : List ℕ} {masses scores : List ℤ} → Noted line [] 0 heads parts masses scores
 unfolding flat headsFrom
 none-noted {line} {heads} {parts} {masses} {scores} =
     noted-of [] (take-nil bracketLimit)
-    (record { rows = refl; parts-are = record { many = refl; rows = refl; masses-are = refl }; scores-are = refl; stand = tt })
+    (record { rows = refl; parts-are = record { many = refl; rows = refl; masses-are = refl }; scores-are = refl; stand = tt; placed = tt })
 
 -- ---- one bracket more
 each-take : {A : Type 0} (Q : A → Type 0) (n : ℕ) (l : List A) → Each Q l → Each Q (take n l)
@@ -67,9 +68,9 @@ module _ {line : List ℕ} {ks : List (Bracket ℕ)} {m : ℕ} {heads parts : Li
       → (points : ℤ) → points ≡ pointsOf k → n < length scores
       → (parts′ : List ℕ) (masses′ : List ℤ) → take ((m + length (fewParts k)) * partFields) parts′ ≡ take (m * partFields) parts ++ flat partNote (fewParts k)
       → take (m + length (fewParts k)) masses′ ≡ take m masses ++ massesOf (fewParts k)
-      → AllStand line (k .parts)
+      → AllStand line (k .parts) → k .places ≡ []
       → AllNoted line (ks ++ (k ∷ [])) (m + length (fewParts k)) (sets heads (n * headFields) row) parts′ masses′ (set scores n points)
-  all-more row is heads-room points points-are scores-room parts′ masses′ rows′ masses-are′ stand′ =
+  all-more row is heads-room points points-are scores-room parts′ masses′ rows′ masses-are′ stand′ bare =
       let long : length (ks ++ (k ∷ [])) ≡ n + 1 = length-snoc ks k ∙ ap (λ t. t + 1) (sym many) in
       let joined : partsOf (ks ++ (k ∷ [])) ≡ partsOf ks ++ fewParts k = flat-snoc fewParts ks k in
       record {
@@ -87,6 +88,7 @@ module _ {line : List ℕ} {ks : List (Bracket ℕ)} {m : ℕ} {heads parts : Li
             ∙ ap₂ (λ x y. x ++ (y ∷ [])) (ap (λ t. take t scores) many ∙ w .scores-are) points-are
             ∙ sym (map-append pointsOf ks (k ∷ []));
         stand = subst (AllStand line) (sym joined) (each-append (Stands line) (partsOf ks) (fewParts k) (w .stand) (each-take (Stands line) partLimit (k .parts) stand′));
+        placed = each-snoc (λ x. PlacesStand line (x .places)) ks k (w .placed) (subst (PlacesStand line) (sym bare) (0, refl));
       }
 
 module _ {line : List ℕ} {ks : List (Bracket ℕ)} {m : ℕ} {heads parts : List ℕ} {masses scores : List ℤ} (w : Noted line ks m heads parts masses scores)
@@ -95,11 +97,11 @@ module _ {line : List ℕ} {ks : List (Bracket ℕ)} {m : ℕ} {heads parts : Li
   pub noted-more : (o : Opening) → o .room ≡ ltb n bracketLimit → o .base ≡ m → o .parts ≡ parts → o .masses ≡ masses
       → (parts′ : List ℕ) (masses′ : List ℤ) → Grows o (k .parts) parts′ masses′
       → (row : List ℕ) → row ≡ headNote m k → bracketLimit * headFields ≤ length heads → (points : ℤ) → points ≡ pointsNoted (scoreOf (k .parts)) → bracketLimit ≤ length scores
-      → AllStand line (k .parts)
+      → AllStand line (k .parts) → k .places ≡ []
       → (count : ℕ) → count ≡ length (k .parts)
       → Noted line (ks ++ (k ∷ [])) (cond (ltb n bracketLimit) (m + min partLimit count) m) (cond (ltb n bracketLimit) (sets heads (n * headFields) row) heads) parts′ masses′
       (cond (ltb n bracketLimit) (set scores n points) scores)
-  noted-more o room base same-parts same-masses parts′ masses′ g row is heads-room points points-are scores-room stand′ count counted =
+  noted-more o room base same-parts same-masses parts′ masses′ g row is heads-room points points-are scores-room stand′ bare count counted =
       by-test (ltb n bracketLimit)
       (λ t.
       let low = ltb-true n bracketLimit t in
@@ -111,46 +113,60 @@ module _ {line : List ℕ} {ks : List (Bracket ℕ)} {m : ℕ} {heads parts : Li
       (all-more all k n many row is (omega arith) points points-are (omega arith) parts′ masses′
       (ap (λ b. take ((b + length (fewParts k)) * partFields) parts′) (sym base) ∙ g .rows there ∙ ap₂ (λ b l. take (b * partFields) l ++ flat partNote (fewParts k)) base same-parts)
       (ap (λ b. take (b + length (fewParts k)) masses′) (sym base) ∙ g .masses-are there ∙ ap₂ (λ b l. take b l ++ massesOf (fewParts k)) base same-masses)
-      stand′)))
+      stand′ bare)))
       (λ t.
       let high = ltb-false n bracketLimit t in
       let none : o .room ≡ false = room ∙ t in
       rw (t, g .same-parts none ∙ same-parts, g .same-masses none ∙ same-masses)
       (noted-of (fewBrackets ks) (take-many bracketLimit ks k (omega arith)) (all-of (fewBrackets ks) refl w)))
 
--- ---- a count
+-- ---- the last of n brackets changes in its row alone
 pub last-same : {A : Type 0} (f : Bracket ℕ → List A) (ks : List (Bracket ℕ)) (k x : Bracket ℕ) → f k ≡ f x → flat f (ks ++ (k ∷ [])) ≡ flat f (ks ++ (x ∷ []))
 last-same f ks k x e = flat-snoc f ks k ∙ ap (λ t. flat f ks ++ t) e ∙ sym (flat-snoc f ks x)
 
--- of the last of n brackets
+module _ {line : List ℕ} (ks : List (Bracket ℕ)) (k x : Bracket ℕ) {m : ℕ} {heads parts : List ℕ} {masses scores : List ℤ} (n : ℕ) (many : n ≡ length (ks ++ (k ∷ []))) (same-parts : k .parts ≡ x .parts) where
+  -- where it is noted, its row is put
+  noted-last : (heads′ : List ℕ) → ((i j : ℕ) → i ≡ length ks → take (j * headFields) heads ≡ headsFrom 0 (ks ++ (k ∷ [])) → n - 1 ≡ i → take (j * headFields) heads′ ≡ headsFrom 0 (ks ++ (x ∷ [])))
+      → (PlacesStand line (k .places) → PlacesStand line (x .places))
+      → Noted line (ks ++ (k ∷ [])) m heads parts masses scores → Noted line (ks ++ (x ∷ [])) m (cond (leb n bracketLimit) heads′ heads) parts masses scores
+  noted-last heads′ put stands w =
+      let long : n ≡ length ks + 1 = many ∙ length-snoc ks k in
+      by-test (leb n bracketLimit)
+      (λ t.
+      let few = leb-true n bracketLimit t in
+      let all = all-of (ks ++ (k ∷ [])) (take-few bracketLimit ks k (omega arith)) w in
+      let same : length (ks ++ (x ∷ [])) ≡ length (ks ++ (k ∷ [])) = length-snoc ks x ∙ sym (length-snoc ks k) in
+      let at : n - 1 ≡ length ks = omega arith in
+      let parts-same : partsOf (ks ++ (k ∷ [])) ≡ partsOf (ks ++ (x ∷ [])) = last-same fewParts ks k x (ap (take partLimit) same-parts) in
+      let Q : Bracket ℕ → Type 0 = λ y. PlacesStand line (y .places) in
+      rw t
+      (noted-of (ks ++ (x ∷ [])) (take-few bracketLimit ks x (omega arith))
+      (record {
+        rows = ap (λ j. take (j * headFields) heads′) same ∙ put (length ks) (length (ks ++ (k ∷ []))) refl (all .rows) at;
+        parts-are = subst (λ l. PartsNoted l m parts masses) parts-same (all .parts-are);
+        scores-are =
+            ap (λ j. take j scores) same ∙ all .scores-are
+            ∙ map-append pointsOf ks (k ∷ []) ∙ ap (λ ps. map pointsOf ks ++ (pointsNoted (scoreOf ps) ∷ [])) same-parts ∙ sym (map-append pointsOf ks (x ∷ []));
+        stand = subst (AllStand line) parts-same (all .stand);
+        placed = each-snoc Q ks x (each-front Q ks (k ∷ []) (all .placed)) (stands (each-back Q ks (k ∷ []) (all .placed) .0));
+      })))
+      (λ t.
+      let many-more = leb-false n bracketLimit t in
+      rw t
+      (noted-of (fewBrackets ks) (take-many bracketLimit ks x (omega arith)) (all-of (fewBrackets ks) (take-many bracketLimit ks k (omega arith)) w)))
+
+-- a count
 pub noted-count : {line : List ℕ} (ks : List (Bracket ℕ)) (k : Bracket ℕ) {m : ℕ} {heads parts : List ℕ} {masses scores : List ℤ} (n v c p : ℕ) → n ≡ length (ks ++ (k ∷ [])) → v ≡ min (countLimit + 1) c
     → Noted line (ks ++ (k ∷ [])) m heads parts masses scores → Noted line (ks ++ (times c p k ∷ [])) m (countPut n v heads) parts masses scores
-noted-count {line} ks k {m} {heads} {parts} {masses} {scores} n v c p many e w =
-    let x = times c p k in
-    let long : n ≡ length ks + 1 = many ∙ length-snoc ks k in
-    by-test (leb n bracketLimit)
-    (λ t.
-    let few = leb-true n bracketLimit t in
-    let all = all-of (ks ++ (k ∷ [])) (take-few bracketLimit ks k (omega arith)) w in
-    let same : length (ks ++ (x ∷ [])) ≡ length (ks ++ (k ∷ [])) = length-snoc ks x ∙ sym (length-snoc ks k) in
-    let at : n - 1 ≡ length ks = omega arith in
-    let parts-same : partsOf (ks ++ (k ∷ [])) ≡ partsOf (ks ++ (x ∷ [])) = last-same fewParts ks k x refl in
-    rw t
-    (noted-of (ks ++ (x ∷ [])) (take-few bracketLimit ks x (omega arith))
-    (record {
-      rows =
-          ap (λ j. take (j * headFields) (sets heads (countAt (n - 1)) (v ∷ writtenCount ∷ []))) same
-          ∙ count-put heads ks k (length (ks ++ (k ∷ []))) (n - 1) v c p (all .rows) at e;
-      parts-are = subst (λ l. PartsNoted l m parts masses) parts-same (all .parts-are);
-      scores-are =
-          ap (λ j. take j scores) same ∙ all .scores-are
-          ∙ map-append pointsOf ks (k ∷ []) ∙ sym (map-append pointsOf ks (x ∷ []));
-      stand = subst (AllStand line) parts-same (all .stand);
-    })))
-    (λ t.
-    let many-more = leb-false n bracketLimit t in
-    rw t
-    (noted-of (fewBrackets ks) (take-many bracketLimit ks x (omega arith)) (all-of (fewBrackets ks) (take-many bracketLimit ks k (omega arith)) w)))
+noted-count ks k {heads = heads} n v c p many e =
+    noted-last ks k (times c p k) n many refl (sets heads (countAt (n - 1)) (v ∷ writtenCount ∷ [])) (λ i j f rows at. count-put heads ks k j (n - 1) v c p rows (at ∙ f) e) (λ s. s)
+
+-- places, which stand in the line
+pub noted-places : {line : List ℕ} (ks : List (Bracket ℕ)) (k : Bracket ℕ) {m : ℕ} {heads parts : List ℕ} {masses scores : List ℤ} (n from many : ℕ) (ps : List (Place ℕ)) → n ≡ length (ks ++ (k ∷ []))
+    → from ≡ placesFrom ps → many ≡ length ps → PlacesStand line ps
+    → Noted line (ks ++ (k ∷ [])) m heads parts masses scores → Noted line (ks ++ (declaredAt ps k ∷ [])) m (placesPut n from many heads) parts masses scores
+noted-places ks k {heads = heads} n from many ps e f g stands =
+    noted-last ks k (declaredAt ps k) n e refl (sets heads (placesAt (n - 1)) (from ∷ many ∷ [])) (λ i j h rows at. places-put heads ks k j (n - 1) from many ps rows (at ∙ h) f g) (λ s. stands)
 
 -- ---- the brackets at the front are settled
 take-append : {A : Type 0} (n : ℕ) (l m : List A) → take n (l ++ m) ≡ take n l ++ take (n - length l) m
@@ -177,6 +193,7 @@ noted-settled {line} bs rs {m} {heads} {heads′} {parts} {masses} {scores} firs
     let upto : end ≡ length b + length r = omega arith in
     let long : length (b ++ r) ≡ end = length-append b r ∙ sym upto in
     let long′ : length (b ++ map asNTerm r) ≡ end = length-append b (map asNTerm r) ∙ ap (λ t. length b + t) (length-map r asNTerm) ∙ sym upto in
+    let Q : Bracket ℕ → Type 0 = λ y. PlacesStand line (y .places) in
     let parts-same : partsOf (b ++ r) ≡ partsOf (b ++ map asNTerm r) = sym (flat-settled fewParts (λ x. refl) b r) in
     noted-of (b ++ map asNTerm r) (take-append bracketLimit bs (map asNTerm rs) ∙ ap (λ t. b ++ t) (take-map asNTerm (bracketLimit - length bs) rs))
     (record {
@@ -184,6 +201,7 @@ noted-settled {line} bs rs {m} {heads} {heads′} {parts} {masses} {scores} firs
       parts-are = subst (λ l. PartsNoted l m parts masses) parts-same (all .parts-are);
       scores-are = ap (λ j. take j scores) (long′ ∙ sym long) ∙ all .scores-are ∙ sym (map-settled pointsOf (λ x. refl) b r);
       stand = subst (AllStand line) parts-same (all .stand);
+      placed = each-append Q b (map asNTerm r) (each-front Q b r (all .placed)) (each-map Q asNTerm r (each-back Q b r (all .placed)));
     })
 
 -- ---- how many parts are noted

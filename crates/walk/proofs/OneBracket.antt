@@ -1,23 +1,25 @@
 -- A bracket: what reading it asks, and what is known at the stage behind it.
 use mathlib.Core.Path.{_≡_, refl, sym, ap, ap₂, subst, _∙_}
-use mathlib.Core.Bool.{cond}
+use mathlib.Core.Bool.{cond, false, _&&_}
 use mathlib.Core.Option.{none}
 use mathlib.Core.List.{List, [], _∷_, _++_, map, append-assoc, append-nil}
-use Prim.Native.Nat.{ℕ, _+_, _*_, _<_, min}
+use Prim.Native.Nat.{ℕ, _+_, _-_, _*_, _<_, min}
 use native.Mathlib.Omega.{arith}
 use lib.Dec.{leb}
 use lib.IntN.{ℤ}
-use lib.ListN.{length, drop, length-set}
+use lib.ListN.{length, drop, getD, length-set}
 use lib.Seq.{sets, length-sets}
 use borrow.Author.Tests.{ltb-true}
-use Rattle.basics.specs.Choice.{branch}
+use Rattle.basics.specs.Choice.{branch, by-test}
+use Rattle.basics.specs.Kinds.{is-kind}
+use Rattle.scope.specs.declared.grammar.Kind.the-variants.{Declared}
 use Rattle.scope.specs.declared.grammar.Slot.{Slot}
 use Rattle.scope.specs.declared.grammar.Act.the-variants.{Begin}
-use Rattle.scope.specs.Kinds.{isUnknown}
-use Rattle.scope.specs.Limits.{bracketLimit, partLimit}
+use Rattle.scope.specs.Kinds.{isUnknown, isDeclared}
+use Rattle.scope.specs.Limits.{bracketLimit, partLimit, declarationLimit}
 use Rattle.scope.specs.Line.{Part, Bracket}
 use Rattle.scope.specs.Reading.{Held, put, bracketOf, modeAfter, outside, perform, stuck, reading}
-use Rattle.scope.specs.Refusals.{dueAt}
+use Rattle.scope.specs.Refusals.{dueAt, declarations}
 use Rattle.reading_laws.specs.Kept.{put-by}
 use Rattle.reading_laws.specs.Run.{rest}
 use Rattle.sheet.specs.Rows.{headFields, Noted}
@@ -32,9 +34,10 @@ use Rattle.inside.proofs.Lists.{length-snoc}
 use Rattle.walk.specs.declared.Stage.{Stage}
 use Rattle.walk.specs.declared.Step.{Step}
 use Rattle.walk.specs.declared.Step.the-variants.{Stuck, More}
-use Rattle.walk.specs.Stages.{ModeFits, heldBrackets, TablesLent, lent, nothingDue, ResiduesAre, BracketsAre, Upto, Does}
+use Rattle.walk.specs.Stages.{ModeFits, Declares, heldBrackets, TablesLent, lent, nothingDue, ResiduesAre, BracketsAre, Upto, Does}
 use Rattle.walk.specs.Steps.{noted?, runBehind, bracketBehind, openingOf, BracketAsks, BracketStuck, BracketRead, BracketStep, Stepped}
 use Rattle.walk.proofs.Modes.{SlotFits, labels-there}
+use Rattle.walk.proofs.Declares.{begins-declaring, declares-bracket, all-kept}
 use Rattle.walk.proofs.Dues.{met-bracket}
 use Rattle.walk.proofs.Notes.{noted-more}
 use Rattle.walk.proofs.Further.{next-state, run-left, low, brackets-as}
@@ -131,7 +134,7 @@ module _ {line : List ℕ} {s : Stage} {t : TablesLent} {slot : Slot} (d : Does 
         let o = openingOf s slot (w .least) (t .parts) (t .masses) in
         let put-noted =
         noted-more (a .noted) k (s .brackets) (a .many) o refl refl refl refl parts masses (c .grows) (headRow (w .noted .head))
-        (w .noted .head-is .row line (w .least) h ps (c .are) (u .residues-are .many) (u .residues-are .group-is)) (u .roomy .heads-room) (p .points) (c .are .points) (u .roomy .scores-room) (c .are .stand)
+        (w .noted .head-is .row line (w .least) h ps (c .are) (u .residues-are .many) (u .residues-are .group-is)) (u .roomy .heads-room) (p .points) (c .are .points) (u .roomy .scores-room) (c .are .stand) refl
         (p .count) (c .are .count) in
         record {
           many = ap (λ n. n + 1) (a .many) ∙ sym (length-snoc ks k);
@@ -142,12 +145,25 @@ module _ {line : List ℕ} {s : Stage} {t : TablesLent} {slot : Slot} (d : Does 
               (sym (w .noted .scores-put)) put-noted);
         }
 
+    -- where a declaration begins, all brackets are of declarations
+    all-declared : (isDeclared (slot .kind) && leb declarationLimit (length ks)) ≡ (isDeclared (slot .kind) && leb declarationLimit (length (declarations ks)))
+    all-declared =
+        by-test (isDeclared (slot .kind))
+        (λ e.
+        let single : isUnknown (slot .kind) ≡ false = ap isUnknown (is-kind Declared (slot .kind) e) in
+        let run-none : ks ≡ h .brackets = ap (λ l. h .brackets ++ l) (slot-fits .none-before single) ∙ append-nil (h .brackets) in
+        let kept = all-kept (λ x. isDeclared (x .kind)) (h .brackets) (u .declares .all-are (begins-declaring (s .mode) (getD line (s .at) 0) slot (d .does) e)) in
+        ap (λ l. isDeclared (slot .kind) && leb declarationLimit (length l)) (run-none ∙ sym kept ∙ ap declarations (sym run-none)))
+        (λ e. rw e refl)
+
     bracket-codes : p .least ≡ lowest nothingDue (metCodes (h .residues) (ks ++ (k ∷ [])))
     bracket-codes =
         w .closes .are .least-due
         ∙ ap (λ l. lowest l (partsCodes ps))
-        (w .least-is ∙ ap₂ (λ l n. lowest l (map (code overRank) (dueAt (leb bracketLimit n) (s .at)))) (u .least-is) (u .brackets-are .many))
-        ∙ sym (met-bracket nothingDue (h .residues) ks k refl)
+        (w .least-is
+        ∙ ap₂ (λ l n. lowest (lowest l (map (code overRank) (dueAt (leb bracketLimit n) (s .at)))) (map (code overRank) (dueAt (isDeclared (slot .kind) && leb declarationLimit n) (s .at - 1)))) (u .least-is) (u .brackets-are .many)
+        ∙ ap (λ t. lowest (lowest (lowest nothingDue (metCodes (h .residues) ks)) (map (code overRank) (dueAt (leb bracketLimit (length ks)) (s .at)))) (map (code overRank) (dueAt t (s .at - 1)))) all-declared)
+        ∙ sym (met-bracket nothingDue (h .residues) ks k refl refl)
 
     heads-long : length heads ≡ length (t .heads)
     heads-long = ap length (w .noted .heads-put) ∙ branch (λ l. length l ≡ length (t .heads)) (noted? s) (length-sets (t .heads) (s .brackets * headFields) (headRow (w .noted .head))) refl
@@ -169,6 +185,8 @@ module _ {line : List ℕ} {s : Stage} {t : TablesLent} {slot : Slot} (d : Does 
               ∙ ap (λ m. rest line (w .next) (outside m g)) (sym moves);
           within = c .within;
           fits = subst (λ m. ModeFits m (g .run) (drop (w .next) line)) (sym moves) (put-fits slot k h slot-fits ps (drop (w .next) line) refl);
+          declares =
+              subst (λ m. Declares m (g .brackets) (g .run)) (sym moves) (declares-bracket (s .mode) (getD line (s .at) 0) slot (d .does) h (u .declares) k refl refl ps);
           residues-are =
               put-by (λ q. ResiduesAre (s .residues) (s .group) (q .residues) (q .first) (t .letters) (t .sections)) (slot .kind) k h (λ e. u .residues-are) (λ e. u .residues-are);
           brackets-are = brackets-as with-bracket (g .brackets) (g .run) same (runBehind (slot .kind) (s .run) (s .brackets)) (put-run slot k h slot-fits (s .run) (s .brackets) (u .brackets-are .before) (u .brackets-are .many));

@@ -27,6 +27,7 @@ use Rattle.walk.specs.declared.Stage.{Stage}
 use Rattle.walk.specs.Stages.{LastFresh, ModeFits, heldBrackets, TablesLent, withHeads, nothingDue, BracketsAre, Upto, Does}
 use Rattle.walk.specs.Steps.{countPut, wrongCount, countedTo, CountNoted}
 use Rattle.walk.proofs.Counts.{withCount, count-read, count-stops, count-within, count-past}
+use Rattle.walk.proofs.Declares.{declares-count}
 use Rattle.walk.proofs.Dues.{met-count}
 use Rattle.walk.proofs.Notes.{noted-count}
 use Rattle.walk.proofs.Further.{run-left, brackets-as, room-heads}
@@ -90,6 +91,7 @@ module _ {line : List ℕ} {s : Stage} {t : TablesLent} (d : Does line s Digit t
               ∙ ap (λ i. rest line i (outside Counting (withCount h (last .before) k c (s .at)))) (sym (f .ends));
           within = omega (arith, f .ends, count-within line (s .at) (u .within));
           fits = ap (λ i. span isDigit (drop i line)) (f .ends) ∙ count-stops line (s .at);
+          declares = declares-count (last .before) k c (s .at) (last .is) (u .declares);
           residues-are = u .residues-are;
           brackets-are = brackets-as counted (h .brackets) (last .before ++ (x ∷ [])) same (s .run) (u .brackets-are .before);
           least-is =

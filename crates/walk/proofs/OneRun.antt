@@ -5,7 +5,7 @@ use mathlib.Core.List.{List, _++_, map, map-append}
 use Prim.Native.Nat.{ℕ, _+_, _-_, _≤_, _<_}
 use native.Mathlib.Omega.{arith}
 use lib.Dec.{leb, ltb}
-use lib.ListN.{length, take, drop, length-append, length-map}
+use lib.ListN.{length, take, drop, getD, length-append, length-map}
 use lib.Seq.{sets, length-sets}
 use borrow.Author.Tests.{le-leb}
 use Rattle.basics.specs.Choice.{branch, pick-true}
@@ -29,6 +29,7 @@ use Rattle.walk.specs.Stages.{heldBrackets, TablesLent, withLetters, not
 use Rattle.walk.specs.Steps.{groupOf, runAt, sectionsOf, withRun, lettersPut, sectionsPut, RunSays}
 use Rattle.walk.proofs.Letters.{heldWith, runOf, run-length, run-sections, run-places, run-letters, run-within, run-read}
 use Rattle.walk.proofs.Dues.{met-residues, past-due}
+use Rattle.walk.proofs.Declares.{declares-residue}
 use Rattle.walk.proofs.Further.{run-left}
 
 -- numbers put behind the first n of a table, where they are not too many, are behind them
@@ -97,6 +98,7 @@ module _ {line : List ℕ} {s : Stage} {t : TablesLent} {section : Section} {mod
         is = u .is ∙ run-read line (s .at) (s .mode) h section mode (d .here) (d .does);
         within = run-within line (s .at) (d .here);
         fits = run-left d (h .run) _ _ (u .fits);
+        declares = declares-residue (getD line (s .at) 0) section (d .does) (u .declares);
         residues-are = record {
           many = ap (λ n. n + m) (a .many) ∙ sym (length-append (h .residues) xs ∙ ap (λ n. length (h .residues) + n) (run-length line (s .at) section));
           group-is = ap₂ (λ n g. groupOf section (n + 1) (n + m) g) (a .many) (a .group-is);

@@ -1,18 +1,21 @@
 -- How far a line is walked, and what is known there: what is held so far, and that the numbers of the stage and the tables are its.
 use mathlib.Core.Path.{_≡_}
-use mathlib.Core.Bool.{cond}
+use mathlib.Core.Bool.{Bool, true, false, cond}
 use mathlib.Core.Option.{none}
 use mathlib.Core.List.{List, [], _∷_, _++_}
 use Prim.Native.Nat.{ℕ, _+_, _≤_, _<_}
 use lib.IntN.{ℤ}
 use lib.ListN.{length, drop, getD}
 use Rattle.scope.specs.declared.grammar.Mode.{Mode}
-use Rattle.scope.specs.declared.grammar.Mode.the-variants.{Front}
+use Rattle.scope.specs.declared.grammar.Mode.the-variants.{Front, Angle, Tagged, Listed, Runs, Undecided, Counted, Referred, Caret, Counting, Labiles, NTerms, Start, Single, Opened, UnsureOpened, InRange, InUnsure, RangeEnd, Ranged, UnsureEnd, CStart, CTerms}
 use Rattle.scope.specs.declared.grammar.Act.{Act}
+use Rattle.scope.specs.declared.grammar.Act.the-variants.{Stop, Go, Residue as aResidue, Begin, Digit, RunEnds, TermEnds, Places}
 use Rattle.scope.specs.Bytes.{isDigit}
+use Rattle.scope.specs.Kinds.{isDeclared}
 use Rattle.scope.specs.Limits.{bracketLimit, partLimit, lineLimit}
 use Rattle.scope.specs.Line.{Bracket, Residue}
 use Rattle.scope.specs.Reading.{Held, act, outside, reading}
+use Rattle.basics.specs.Each.{Each}
 use Rattle.classes.specs.Runs.{span}
 use Rattle.reading_laws.specs.Acts.{ways, someWay, endsRun, endsTerm, counts}
 use Rattle.reading_laws.specs.Run.{rest}
@@ -53,6 +56,61 @@ ModeFits m r l = WaitsFor (waiting m) r l
 
 abbrev pub heldBrackets : Held ℕ → List (Bracket ℕ)
 heldBrackets h = h .brackets ++ h .run
+
+-- ---- the declarations
+-- the last bracket has no places yet
+pub record LastBare (ks : List (Bracket ℕ)) : Type 0 where
+  pub before : List (Bracket ℕ)
+  pub last : Bracket ℕ
+  pub is : ks ≡ before ++ (last ∷ [])
+  pub bare : last .places ≡ []
+
+-- where its places may follow
+abbrev pub takesPlaces : Act → Bool
+takesPlaces Stop = false
+takesPlaces (Go m) = false
+takesPlaces (aResidue s m) = false
+takesPlaces (Begin s) = false
+takesPlaces Digit = false
+takesPlaces RunEnds = false
+takesPlaces TermEnds = false
+takesPlaces Places = true
+
+abbrev pub takesList : Mode → Bool
+takesList m = someWay takesPlaces (ways m)
+
+-- where nothing but declarations is read so far
+abbrev pub declaring : Mode → Bool
+declaring Front = true
+declaring Angle = true
+declaring Tagged = true
+declaring Listed = true
+declaring Runs = false
+declaring Undecided = false
+declaring Counted = false
+declaring Referred = false
+declaring Caret = false
+declaring Counting = false
+declaring Labiles = false
+declaring NTerms = false
+declaring Start = false
+declaring Single = false
+declaring Opened = false
+declaring UnsureOpened = false
+declaring InRange = false
+declaring InUnsure = false
+declaring RangeEnd = false
+declaring Ranged = false
+declaring UnsureEnd = false
+declaring CStart = false
+declaring CTerms = false
+
+-- what is known of the brackets that are settled and of those that wait: where nothing else is read, each is of a declaration; where places may follow, the last has
+-- none; and none that waits is of one
+pub record Declares (m : Mode) (settled waits : List (Bracket ℕ)) : Type 0 where
+  pub all-are : declaring m ≡ true → Each (λ k. isDeclared (k .kind) ≡ true) settled
+  pub last-bare : takesList m ≡ true → LastBare settled
+  pub none-waits : Each (λ k. isDeclared (k .kind) ≡ false) waits
 
 -- ---- the tables that are lent
 pub record TablesLent : Type 0 where
@@ -100,6 +158,7 @@ pub record Upto (line : List ℕ) (s : Stage) (t : TablesLent) : Type 0 where
   pub is : reading line ≡ rest line (s .at) (outside (s .mode) held)
   pub within : s .at ≤ length line
   pub fits : ModeFits (s .mode) (held .run) (drop (s .at) line)
+  pub declares : Declares (s .mode) (held .brackets) (held .run)
   pub residues-are : ResiduesAre (s .residues) (s .group) (held .residues) (held .first) (t .letters) (t .sections)
   pub brackets-are : BracketsAre line (s .brackets) (s .run) (s .parts) (held .brackets) (held .run) (t .heads) (t .parts) (t .masses) (t .scores)
   pub least-is : s .least ≡ lowest nothingDue (metCodes (held .residues) (heldBrackets held))

@@ -1,6 +1,6 @@
 -- One step: the stage behind each act, and what it puts into the tables.
 use mathlib.Core.Path.{_≡_}
-use mathlib.Core.Bool.{Bool, true, cond, _||_}
+use mathlib.Core.Bool.{Bool, true, cond, _&&_, _||_}
 use mathlib.Core.List.{List, [], _∷_, _++_, map}
 use Prim.Native.Nat.{ℕ, suc, _+_, _-_, _*_, _≤_, _<_, min}
 use lib.Dec.{eqb, leb, ltb}
@@ -11,23 +11,25 @@ use Rattle.scope.specs.declared.grammar.Section.{Section}
 use Rattle.scope.specs.declared.grammar.Section.the-variants.{Plain, RangeFirst, RangeNext, UnsureFirst, UnsureNext}
 use Rattle.scope.specs.declared.grammar.Kind.{Kind}
 use Rattle.scope.specs.declared.grammar.Mode.{Mode}
-use Rattle.scope.specs.declared.grammar.Mode.the-variants.{Counting}
+use Rattle.scope.specs.declared.grammar.Mode.the-variants.{Counting, Listed}
 use Rattle.scope.specs.declared.grammar.Slot.{Slot}
 use Rattle.scope.specs.Bytes.{isLetter, upper}
-use Rattle.scope.specs.Kinds.{isUnknown}
-use Rattle.scope.specs.Limits.{residueLimit, bracketLimit, partLimit, countLimit, lineLimit}
+use Rattle.scope.specs.Kinds.{isUnknown, isDeclared}
+use Rattle.scope.specs.Limits.{residueLimit, bracketLimit, partLimit, countLimit, placeLimit, declarationLimit, lineLimit}
 use Rattle.scope.specs.Line.{Part, Bracket}
 use Rattle.scope.specs.Lists.{part}
 use Rattle.scope.specs.Layout.{sectionCode}
 use Rattle.scope.specs.Content.{begin}
-use Rattle.scope.specs.Reading.{Held, inside, bracketOf, asNTerm, reading, stuck}
+use Rattle.scope.specs.Places.{expected}
+use Rattle.scope.specs.Reading.{Held, inside, placing, bracketOf, asNTerm, reading, stuck}
 use Rattle.scope.specs.Refusals.{dueAt}
 use Rattle.classes.specs.Runs.{span}
 use Rattle.numerals.specs.Numerals.{CountAt}
 use Rattle.reading_laws.specs.Run.{rest}
 use Rattle.sheet.specs.declared.Head.{Head}
 use Rattle.sheet.specs.Rows.{headFields, headNote, headsFrom, headsRoom, partsRoom, massesRoom}
-use Rattle.sheet.specs.Fields.{countAt, writtenCount, headRow, HeadFits}
+use Rattle.sheet.specs.Fields.{countAt, placesAt, writtenCount, headRow, HeadFits}
+use Rattle.sites.specs.Says.{ListReads}
 use Rattle.dues.specs.Ranks.{code, lowest}
 use Rattle.dues.specs.Lines.{overRank, wideRank}
 use Rattle.inside.specs.declared.Parts.{Parts}
@@ -81,6 +83,34 @@ pub record CountNoted (line : List ℕ) (s r : Stage) (heads heads′ : List ℕ
   pub is : CountAt line (s .at) value next
   pub stage : r ≡ countedTo s next value
   pub put : heads′ ≡ countPut (s .brackets) value heads
+
+-- ---- the places of a declaration
+-- of the last of n brackets, where it is noted
+abbrev pub placesPut : ℕ → ℕ → ℕ → List ℕ → List ℕ
+placesPut n from many heads = cond (leb n bracketLimit) (sets heads (placesAt (n - 1)) (from ∷ many ∷ [])) heads
+
+abbrev pub listedTo : Stage → ℕ → ℕ → Stage
+listedTo s next least =
+    record { at = next; mode = Listed; residues = s .residues; group = s .group; brackets = s .brackets; run = s .run; parts = s .parts; least = least }
+
+-- no list of places goes on so
+abbrev pub PlacesStuck : List ℕ → Stage → ℕ → Type 0
+PlacesStuck line s p = (h : Held ℕ) → rest line (s .at + 1) (placing h (expected [])) ≡ stuck p
+
+-- the list is read and noted
+pub record PlacesRead (line : List ℕ) (s r : Stage) (heads heads′ : List ℕ) : Type 0 where
+  pub next : ℕ
+  pub many : ℕ
+  pub over : ℕ
+  pub reads : ListReads line (s .at + 1) next many over
+  pub least : ℕ
+  pub least-is : least ≡ lowest (s .least) (map (code overRank) (drop placeLimit (map (λ p. p .at) (reads .sites))))
+  pub stage : r ≡ listedTo s next least
+  pub put : heads′ ≡ placesPut (s .brackets) (s .at + 1) many heads
+
+abbrev pub PlacesStep : List ℕ → Stage → Step → List ℕ → List ℕ → Type 0
+PlacesStep line s (Stuck p) heads heads′ = PlacesStuck line s p
+PlacesStep line s (More r) heads heads′ = PlacesRead line s r heads heads′
 
 -- ---- residues
 -- the section of a letter behind a residue of this section
@@ -153,9 +183,11 @@ bracketBehind s slot next p =
       least = p .least;
     }
 
--- the first refusal due before it, with one bracket more
-abbrev pub leastBefore : Stage → ℕ
-leastBefore s = lowest (s .least) (map (code overRank) (dueAt (leb bracketLimit (s .brackets)) (s .at)))
+-- the first refusal due before it, with one bracket more, and with one declaration more where it is one
+abbrev pub leastBefore : Stage → Kind → ℕ
+leastBefore s k =
+    lowest (lowest (s .least) (map (code overRank) (dueAt (leb bracketLimit (s .brackets)) (s .at))))
+    (map (code overRank) (dueAt (isDeclared k && leb declarationLimit (s .brackets)) (s .at - 1)))
 
 abbrev pub openingOf : Stage → Slot → ℕ → List ℕ → List ℤ → Opening
 openingOf s slot least parts masses =
@@ -203,7 +235,7 @@ BracketStuck line s slot p =
 -- the bracket is read and noted
 pub record BracketRead (line : List ℕ) (s : Stage) (slot : Slot) (r : Stage) (heads heads′ parts parts′ : List ℕ) (masses masses′ scores scores′ : List ℤ) : Type 0 where
   pub least : ℕ
-  pub least-is : least ≡ leastBefore s
+  pub least-is : least ≡ leastBefore s (slot .kind)
   pub next : ℕ
   pub found : Parts
   pub closes : Closes line (openingOf s slot least parts masses) next found parts′ masses′

@@ -8,6 +8,7 @@ use scope::grammar::Section;
 use scope::grammar::Slot;
 use scope::tables::Tables;
 use sheet::Head;
+use sites::Listed;
 ghost use mathlib.Core.Path.{_≡_};
 ghost use mathlib.Core.Bool.{cond};
 ghost use mathlib.Core.List.{_∷_, map};
@@ -15,7 +16,7 @@ ghost use Prim.Native.Nat.{_+_, _-_, _*_, _<_, _≤_, min};
 ghost use lib.Dec.{ltb};
 ghost use lib.ListN.{length, drop, set, replicate};
 ghost use lib.Seq.{sets};
-ghost use Rattle.scope.specs.Bytes.{isLetter, upper as inUpper};
+ghost use Rattle.scope.specs.Bytes.{isLetter, upper as inUpper, wideLimit};
 ghost use Rattle.scope.specs.Layout.{sectionCode};
 ghost use Rattle.scope.specs.Limits.{lineLimit, residueLimit, bracketLimit, partLimit, countLimit};
 ghost use Rattle.scope.specs.Lists.{part};
@@ -24,7 +25,7 @@ ghost use Rattle.classes.specs.Runs.{span};
 ghost use Rattle.sheet.specs.Rows.{headFields, headsRoom, Roomy};
 ghost use Rattle.sheet.specs.Fields.{headRow, HeadFits};
 ghost use Rattle.walk.specs.Stages.{TablesLent, lent, Upto, Low, firstStage};
-ghost use Rattle.walk.specs.Steps.{goneTo, settledIn, Settled, countPut, wrongCount, CountNoted, behind, groupOf, lettersPut, sectionsPut, RunSays, runBehind, HeadSays, NotedSays, BracketAsks, BracketStep, Stepped};
+ghost use Rattle.walk.specs.Steps.{goneTo, settledIn, Settled, countPut, wrongCount, CountNoted, placesPut, PlacesStep, behind, groupOf, lettersPut, sectionsPut, RunSays, runBehind, HeadSays, NotedSays, leastBefore, BracketAsks, BracketStep, Stepped};
 ghost use Rattle.walk.specs.Walked.{WalkSays};
 
 // The place where no line goes on; or how many residues and brackets the line holds, and the first refusal due of 5 to 9 and 19.
@@ -328,6 +329,20 @@ fn bracket_noted(
     }
 }
 
+// The first refusal due before a bracket of this kind, with one bracket more, and with one declaration more where it is one.
+fn least_before(s: Stage, kind: Kind) -> usize
+    requires { ⌜ Low s ⌝ }
+    ensures { λ r. ⌜ r ≡ leastBefore s kind ⌝ }
+{
+    let least = dues::due_if(s.least, Tables::BRACKETS <= s.brackets, dues::OVER, s.at);
+    if kind.is(Kind::Declared) {
+        if Tables::DECLARATIONS <= s.brackets {
+            return dues::due(least, dues::OVER, s.at - 1);
+        }
+    }
+    least
+}
+
 // A bracket.
 fn bracket_read(
     line: &[u8],
@@ -341,7 +356,8 @@ fn bracket_read(
     requires { ⌜ BracketAsks (now line) s slot (now heads) (now parts) (now masses) (now scores) ⌝ }
     ensures { λ r. ⌜ BracketStep (now (line .entry)) s slot r (now (heads .entry)) (now (heads .exit)) (now (parts .entry)) (now (parts .exit)) (now (masses .entry)) (now (masses .exit)) (now (scores .entry)) (now (scores .exit)) ⌝ }
 {
-    let least = dues::due_if(s.least, Tables::BRACKETS <= s.brackets, dues::OVER, s.at);
+    let kind = slot.kind;
+    let least = least_before(s, kind);
     let found = inside::bracket_at(
         line,
         parts,
@@ -411,6 +427,44 @@ fn count_read(line: &[u8], heads: &mut [u16], s: Stage) -> Stage
     }
 }
 
+// ---- the places of a declaration
+
+// Those of the last of n brackets, where it is noted.
+fn store_places(heads: &mut [u16], n: usize, from: usize, many: usize)
+    requires { ⌜ (headsRoom ≤ length (now heads)) × (0 < n) × (from < wideLimit) × (many < wideLimit) ⌝ }
+    ensures { λ _. ⌜ now (heads .exit) ≡ placesPut n from many (now (heads .entry)) ⌝ }
+{
+    if n <= Tables::BRACKETS {
+        sheet::put_places(heads, n - 1, from, many);
+    }
+}
+
+// The list behind `@`.
+fn places_read(line: &[u8], heads: &mut [u16], s: Stage) -> Step
+    requires { ⌜ Low s × (s .at < length (now line)) × (length (now line) ≤ lineLimit) × (0 < s .brackets) × (headsRoom ≤ length (now heads)) ⌝ }
+    ensures { λ r. ⌜ PlacesStep (now (line .entry)) s r (now (heads .entry)) (now (heads .exit)) ⌝ }
+{
+    let from = s.at + 1;
+    let list = sites::list_at(line, from);
+    match list {
+        Listed::Stuck(p) => Step::Stuck(p),
+        Listed::Ends { next, many, over } => {
+            store_places(heads, s.brackets, from, many);
+            let least = dues::first_due(s.least, dues::OVER, over);
+            Step::More(Stage {
+                at: next,
+                mode: Mode::Listed,
+                residues: s.residues,
+                group: s.group,
+                brackets: s.brackets,
+                run: s.run,
+                parts: s.parts,
+                least,
+            })
+        }
+    }
+}
+
 // ---- the end of the brackets at the front
 
 // `?` or `-`: they are settled.
@@ -463,7 +517,7 @@ fn term_ended(heads: &mut [u16], s: Stage) -> Stage
 
 // ---- the line
 
-// One byte further, or one bracket, one count, or all residues up to the next byte that is none.
+// One byte further, or one bracket, one count, one list of places, or all residues up to the next byte that is none.
 fn step_from(
     line: &[u8],
     letters: &mut [u8],
@@ -495,6 +549,7 @@ fn step_from(
         Act::Digit => Step::More(count_read(line, heads, s)),
         Act::RunEnds => Step::More(settled_in(s, Mode::Runs)),
         Act::TermEnds => Step::More(term_ended(heads, s)),
+        Act::Places => places_read(line, heads, s),
     }
 }
 

@@ -1,5 +1,5 @@
 -- What the pieces of a line are, by rank, and how they make up the canonical line. Assumes nothing.
-use mathlib.Core.Path.{_≡_, refl, sym, ap, _∙_}
+use mathlib.Core.Path.{_≡_, refl, sym, ap, ap₂, _∙_}
 use mathlib.Core.Bool.{Bool, true, false, cond, _&&_}
 use mathlib.Core.List.{List, [], _∷_, _++_, append-assoc, append-nil}
 use Prim.Native.Nat.{ℕ, zero, suc, _+_, _-_, _*_, _≤_, _<_}
@@ -11,7 +11,7 @@ use lib.Seq.{take-all}
 use borrow.Author.Tests.{eq-eqb, leb-true, leb-false}
 use Rattle.basics.specs.Choice.{took, by-test}
 use Rattle.scope.specs.declared.grammar.Kind.{Kind}
-use Rattle.scope.specs.declared.grammar.Kind.the-variants.{Unknown, Labile, NTerm, OnResidue, OnRange, CTerm}
+use Rattle.scope.specs.declared.grammar.Kind.the-variants.{Unknown, Labile, NTerm, OnResidue, OnRange, CTerm, Declared}
 use Rattle.scope.specs.declared.grammar.Section.the-variants.{Plain, RangeFirst, RangeNext, UnsureFirst, UnsureNext}
 use Rattle.scope.specs.Bytes.{question, dash}
 use Rattle.scope.specs.Limits.{residueLimit}
@@ -21,11 +21,11 @@ use Rattle.scope.specs.Kinds.{isKind}
 use Rattle.scope.specs.Lists.{keep, flat, tabled, laid}
 use Rattle.scope.specs.Layout.{sectionCode, sectionIn, residueIn, bracketIn, tablesIn, bracketsField, letterField, residuesField, sectionField}
 use Rattle.writer.specs.declared.Shape.{Shape}
-use Rattle.writer.specs.declared.Shape.the-variants.{Counted, Curly, Square}
+use Rattle.writer.specs.declared.Shape.the-variants.{Counted, Curly, Square, Angled}
 use Rattle.figures.specs.Written.{Puts, ceiling}
 use Rattle.writer.specs.Written.{WholeLine, residueMost, residuesMost}
 use Rattle.writer.specs.Here.{RoomFor}
-use Rattle.writer.specs.Ranks.{rankOf, rank, rankIn, cTermRank, ReadyToWrite, textAs, rankedText, runText, frontText, Walks, residueText, SpeltResidues, NoneBelow, Behind, Spells}
+use Rattle.writer.specs.Ranks.{rankOf, rank, rankIn, cTermRank, ReadyToWrite, textAs, rankedText, runText, chainFront, frontText, Walks, residueText, SpeltResidues, NoneBelow, Behind, Spells}
 use Rattle.figures.proofs.Storing.{stored-whole, puts-within, puts-length}
 use Rattle.writer.proofs.RankLaws.{rank-is, rank-within, rank-tells, tabled-from, tabled-over}
 use Rattle.writer.proofs.RunLaws.{run-one, none-of}
@@ -271,13 +271,14 @@ module _ (bs : List ℕ) (ns : List ℤ) {q : ℕ} (c : NoneBelow bs 0 q) where
 
   -- where the first bracket stands in the sequence or behind it
   pub front-none : rankOf NTerm 0 < q → [] ≡ frontText (tablesIn bs ns .brackets)
-  front-none h = rw (none-below Counted (rankOf Unknown 0) (omega arith), none-below Curly (rankOf Labile 0) (omega arith), none-below Square (rankOf NTerm 0) (omega arith))
+  front-none h =
+      rw (none-below Angled (rankOf Declared 0) (omega arith), none-below Counted (rankOf Unknown 0) (omega arith), none-below Curly (rankOf Labile 0) (omega arith), none-below Square (rankOf NTerm 0) (omega arith))
 
 regrouped : (a b c d : List ℕ) → (a ++ (b ++ c)) ++ d ≡ a ++ (b ++ (c ++ d))
 regrouped a b c d = simp append-assoc
 
 pub chain-text : {P : Type 0} (ks : List (Bracket P)) (rs : List (Residue P)) {n : ℕ} → n ≡ length rs
-    → frontText ks ++ (sequenceText ks 1 rs ++ ledBy dash (runText Square (rankOf CTerm (n + 1)) ks)) ≡ chainText ks 0 rs
+    → chainFront ks ++ (sequenceText ks 1 rs ++ ledBy dash (runText Square (rankOf CTerm (n + 1)) ks)) ≡ chainText ks 0 rs
 unfolding chainText
 chain-text ks rs {n} e =
     let last : n + 1 ≡ 1 + length rs = omega arith in
@@ -290,7 +291,10 @@ pub line-text :
     ++ (sequenceText (tablesIn bs ns .brackets) 1 (tablesIn bs ns .residues) ++ ledBy dash (runText Square (cTermRank bs) (tablesIn bs ns .brackets)))
     ≡ canonical (tablesIn bs ns)
 unfolding canonical
-line-text bs ns = chain-text (tablesIn bs ns .brackets) (tablesIn bs ns .residues) (sym (residues-many bs ns))
+line-text bs ns =
+    let ks = tablesIn bs ns .brackets in
+    append-assoc (runText Angled (rankOf Declared 0) ks) (chainFront ks) _
+    ∙ ap₂ (λ s t. s ++ t) (run-is Angled Declared 0 ks) (chain-text ks (tablesIn bs ns .residues) (sym (residues-many bs ns)))
 
 pub whole-line : {k : ℕ} {c o left : List ℕ} {r : ℕ} → k ≤ ceiling → Puts k o 0 c left r → WholeLine c o left r
 whole-line {c = c} {o = o} h a =

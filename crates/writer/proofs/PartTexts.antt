@@ -6,11 +6,10 @@ use Prim.Native.Nat.{ℕ, _+_, _-_}
 use lib.Dec.{eqb}
 use lib.IntN.{ℤ}
 use borrow.Author.Tests.{eq-eqb, ne-eqb}
-use Rattle.scope.specs.Bytes.{openRound, shutRound, hash, bar}
+use Rattle.scope.specs.Bytes.{openRound, shutRound, hash}
 use Rattle.scope.specs.Canonical.{massText, scoreText, valueText, labelText, partText}
 use Rattle.scope.specs.Lists.{given, part}
 use Rattle.scope.specs.Keys.{written, keyIn}
-use Rattle.scope.specs.Line.{Part}
 use Rattle.scope.specs.Layout.{massCode, textCode, compositionCode, textsAt, numberIn, scoreIn, labelIn, valueIn, partIn, decimalsField, keyField, labelField, massField, offsetField, scoreField, scoreNumber, textField, valueField}
 use Rattle.writer.specs.Written.{textAt, scoredText, nextText}
 
@@ -65,9 +64,10 @@ module _ (bs : List ℕ) (ns : List ℤ) (k : ℕ) where
     unfolding partText partIn
     part-text e = rw e
 
--- ---- parts in a row
-pub next-first : {P : Type 0} (j : ℕ) (p : Part P) → j ≡ 0 → partText p ≡ nextText j p
-next-first j p e = rw e
+-- ---- parts or places in a row
+module _ (b j : ℕ) (t : List ℕ) where
+  pub next-first : j ≡ 0 → t ≡ nextText b j t
+  next-first e = rw e
 
-pub next-later : {P : Type 0} (j : ℕ) (p : Part P) → (j ≡ 0 → ⊥) → (bar ∷ []) ++ partText p ≡ nextText j p
-next-later j p z = rw (ne-eqb j 0 z)
+  pub next-later : (j ≡ 0 → ⊥) → (b ∷ []) ++ t ≡ nextText b j t
+  next-later z = rw (ne-eqb j 0 z)

@@ -1,6 +1,6 @@
 -- Laws of ranks: of what the areas hold, of brackets in order, and of those of one rank. Assumes nothing.
 use mathlib.Core.Path.{_≡_, refl, sym, ap, ap₂, _∙_}
-use mathlib.Core.Bool.{Bool, true, false, _&&_}
+use mathlib.Core.Bool.{Bool, true, false, cond, _&&_}
 use mathlib.Core.List.{List, [], _∷_, _++_, append-assoc}
 use Prim.Native.Nat.{ℕ, zero, suc, _+_, _-_, _*_, _≤_, _<_}
 use native.Mathlib.Nat.{add-zero, zero-add, le-trans, le-refl}
@@ -13,17 +13,18 @@ use Rattle.basics.specs.Choice.{by-test}
 use Rattle.basics.specs.Kinds.{code-back, is-kind, each-kind}
 use Rattle.basics.specs.Tests.{both, both-of, same-test}
 use Rattle.scope.specs.declared.grammar.Kind.{Kind}
-use Rattle.scope.specs.declared.grammar.Kind.the-variants.{Unknown, Labile, CTerm}
-use Rattle.scope.specs.Line.{Part, Bracket}
-use Rattle.scope.specs.Bytes.{bar}
+use Rattle.scope.specs.declared.grammar.Kind.the-variants.{Unknown, Labile, CTerm, Declared}
+use Rattle.scope.specs.Line.{Place, Part, Bracket}
+use Rattle.scope.specs.Bytes.{bar, comma}
+use Rattle.scope.specs.Places.{siteText, placesText}
 use Rattle.scope.specs.Canonical.{partText, partsText}
 use Rattle.scope.specs.Lists.{tabled}
 use Rattle.scope.specs.Layout.{bracketIn, tablesIn, bracketsField, kindField, lastField, partsField}
-use Rattle.scope.specs.Kinds.{kindCode, kindIn, isKind}
+use Rattle.scope.specs.Kinds.{kindCode, kindIn, isKind, isDeclared}
 use Rattle.areas.specs.Bounds.{Bounds}
 use Rattle.writer.specs.Here.{BracketHere, PartHere}
 use Rattle.writer.specs.Written.{nextText}
-use Rattle.writer.specs.Ranks.{rankStep, rankOf, rank, rising, orderedb, InOrder, rankIn, cTermRank, ReadyToWrite}
+use Rattle.writer.specs.Ranks.{rankStep, kindRank, rankOf, rank, rising, orderedb, InOrder, rankIn, cTermRank, ReadyToWrite}
 
 -- ---- lists of what stands in a row
 module _ {A : Type 0} (f : ℕ → A) where
@@ -47,18 +48,35 @@ module _ {A : Type 0} (f : ℕ → A) where
       let e : m - k ≡ 0 = omega arith in
       rw e
 
--- ---- parts
-parts-snoc : {P : Type 0} (q : Part P) (l : List (Part P)) (p : Part P) → partsText ((q ∷ l) ++ (p ∷ [])) ≡ partsText (q ∷ l) ++ (bar ∷ partText p)
-unfolding partsText
-parts-snoc q [] p = refl
-parts-snoc q (r ∷ l) p =
-    ap (λ t. partText q ++ (bar ∷ t)) (parts-snoc r l p) ∙ sym (append-assoc (partText q) (bar ∷ partsText (r ∷ l)) (bar ∷ partText p))
+-- ---- a row that is split by a byte b: T is its text, and t that of one
+module _ {A : Type 0} (b : ℕ) (t : A → List ℕ) (T : List A → List ℕ) (none : T [] ≡ []) (one : (x : A) → T (x ∷ []) ≡ t x)
+    (split : (x y : A) (l : List A) → T (x ∷ y ∷ l) ≡ t x ++ (b ∷ T (y ∷ l))) where
+  split-snoc : (y : A) (l : List A) (x : A) → T ((y ∷ l) ++ (x ∷ [])) ≡ T (y ∷ l) ++ (b ∷ t x)
+  split-snoc y [] x = split y x [] ∙ rw (one x, one y)
+  split-snoc y (z ∷ l) x =
+      split y z (l ++ (x ∷ []))
+      ∙ ap (λ u. t y ++ (b ∷ u)) (split-snoc z l x)
+      ∙ sym (append-assoc (t y) (b ∷ T (z ∷ l)) (b ∷ t x))
+      ∙ ap (λ u. u ++ (b ∷ t x)) (sym (split y z l))
 
-pub parts-more : {P : Type 0} (f : ℕ → Part P) (j : ℕ) → partsText (tabled f 0 j) ++ nextText j (f j) ≡ partsText (tabled f 0 (j + 1))
-unfolding partsText tabled
-parts-more f zero = refl
-parts-more f (suc j) =
-    rw (ne-eqb (suc j) 0 (λ e. omega arith)) (sym (ap partsText (tabled-more f (suc j)) ∙ parts-snoc (f 0) (tabled f (0 + 1) j) (f (suc j))))
+  split-more : (f : ℕ → A) (j : ℕ) → T (tabled f 0 j) ++ nextText b j (t (f j)) ≡ T (tabled f 0 (j + 1))
+  unfolding tabled
+  split-more f zero = rw (none, one (f 0))
+  split-more f (suc j) =
+      rw (ne-eqb (suc j) 0 (λ e. omega arith)) (sym (ap T (tabled-more f (suc j)) ∙ split-snoc (f 0) (tabled f (0 + 1) j) (f (suc j))))
+
+-- ---- parts and places
+pub parts-more : {P : Type 0} (f : ℕ → Part P) (j : ℕ) → partsText (tabled f 0 j) ++ nextText bar j (partText (f j)) ≡ partsText (tabled f 0 (j + 1))
+unfolding partsText
+parts-more f = split-more bar partText partsText refl (λ p. refl) (λ p q l. refl) f
+
+pub places-more : {P : Type 0} (f : ℕ → Place P) (j : ℕ) → placesText (tabled f 0 j) ++ nextText comma j (siteText (f j .site)) ≡ placesText (tabled f 0 (j + 1))
+unfolding placesText
+places-more f = split-more comma (λ p. siteText (p .site)) placesText refl (λ p. refl) (λ p q l. refl) f
+
+pub no-places : {P : Type 0} (f : ℕ → Place P) → [] ≡ placesText (tabled f 0 0)
+unfolding placesText tabled
+no-places f = refl
 
 pub no-parts : {P : Type 0} (f : ℕ → Part P) → [] ≡ partsText (tabled f 0 0)
 unfolding partsText tabled
@@ -73,6 +91,7 @@ bracket-here bs ns k b h =
       numbers-room = b .numbers-room;
       low = omega (arith, b .few-brackets);
       few-parts = l .few-parts;
+      few-places = l .few-places;
       score = l .score;
       part = l .part;
     }
@@ -81,9 +100,15 @@ pub part-here : (bs : List ℕ) (ns : List ℤ) (k j : ℕ) → BracketHere bs n
 part-here bs ns k j b h = record { bracket = b; low = omega (arith, b .few-parts); bounds = b .part j h }
 
 -- ---- the rank in a row
--- of a code that is a kind's own, and of one that means an unknown position
+-- of a code that is a kind's own, of a declaration's, and of one that means an unknown position
 pub rank-coded : (c last : ℕ) → kindCode Labile ≤ c → c ≤ kindCode CTerm → rankStep * last + c ≡ rankOf (kindIn c) last
-rank-coded c last h l = ap (λ n. rankStep * last + n) (sym (code-back c (omega arith) l))
+rank-coded c last h l =
+    let e = code-back c (omega arith) (omega arith) in
+    let d : isDeclared (kindIn c) ≡ false = ne-eqb (kindCode (kindIn c)) (kindCode Declared) (λ q. omega (arith, e, q)) in
+    ap (λ n. rankStep * last + n) (sym e ∙ ap (λ t. cond t 0 (kindCode (kindIn c))) (sym d))
+
+pub rank-declared : (c last : ℕ) → c ≡ kindCode Declared → rankStep * last ≡ rankOf (kindIn c) last
+rank-declared c last e = rw e (sym (add-zero (rankStep * last)))
 
 pub rank-unknown : (c last : ℕ) → Unknown ≡ kindIn c → rankStep * last + kindCode Unknown ≡ rankOf (kindIn c) last
 rank-unknown c last e = ap (λ k. rankOf k last) e
@@ -95,9 +120,16 @@ pub rank-is : (bs : List ℕ) (ns : List ℤ) (k : ℕ) → rank (bracketIn bs n
 unfolding bracketIn
 rank-is bs ns k = refl
 
--- no kind's number is above that of the C-terminus
-kind-low : (k : Kind) → kindCode k ≤ kindCode CTerm
-kind-low k = leb-true (kindCode k) (kindCode CTerm) (each-kind (λ j. leb (kindCode j) (kindCode CTerm)) refl k)
+-- no kind's rank is above that of the C-terminus
+kind-low : (k : Kind) → kindRank k ≤ kindRank CTerm
+kind-low k = leb-true (kindRank k) (kindRank CTerm) (each-kind (λ j. leb (kindRank j) (kindRank CTerm)) refl k)
+
+-- the number of a kind, from its rank
+abbrev codeRanked : ℕ → ℕ
+codeRanked r = cond (eqb r 0) (kindCode Declared) r
+
+code-ranked : (k : Kind) → kindCode k ≡ codeRanked (kindRank k)
+code-ranked k = eqb-true (kindCode k) (codeRanked (kindRank k)) (each-kind (λ j. eqb (kindCode j) (codeRanked (kindRank j))) refl k)
 
 -- nor is a rank, of tables within bounds
 pub rank-within : (bs : List ℕ) (ns : List ℤ) (k : ℕ) → Bounds bs ns → k < bracketsField bs → rankIn bs k ≤ cTermRank bs
@@ -110,7 +142,9 @@ rank-tells j k last i =
     (λ e. let p = both-of (isKind j k) (eqb last i) e in eq-eqb _ _ (ap₂ rankOf (is-kind j k (p .0)) (eqb-true last i (p .1))))
     (λ e.
     let q = eqb-true (rankOf k last) (rankOf j i) e in
-    both (isKind j k) (eqb last i) (eq-eqb (kindCode k) (kindCode j) (omega (arith, kind-low j, kind-low k))) (eq-eqb last i (omega (arith, kind-low j, kind-low k))))
+    let same : kindRank k ≡ kindRank j = omega (arith, kind-low j, kind-low k) in
+    both (isKind j k) (eqb last i) (eq-eqb (kindCode k) (kindCode j) (code-ranked k ∙ ap codeRanked same ∙ sym (code-ranked j)))
+    (eq-eqb last i (omega (arith, kind-low j, kind-low k))))
 
 -- ---- whether they rise
 pub record Risen (bs : List ℕ) (m k q : ℕ) : Type 0 where

@@ -10,12 +10,12 @@ use lib.IntN.{ℤ}
 use borrow.Author.Tests.{eq-eqb, ne-eqb, leb-true, leb-false}
 use Rattle.basics.specs.Choice.{took, passed, by-test}
 use Rattle.scope.specs.Line.{Bracket}
-use Rattle.scope.specs.Canonical.{squareText, curlyText, countText}
+use Rattle.scope.specs.Canonical.{squareText, curlyText, declaredText, countText}
 use Rattle.scope.specs.Lists.{keep, flat, tabled}
 use Rattle.scope.specs.Layout.{bracketIn, tablesIn, bracketsField, countField}
 use Rattle.basics.specs.Lists.{keep-append, flat-append}
 use Rattle.writer.specs.declared.Shape.{Shape}
-use Rattle.writer.specs.declared.Shape.the-variants.{Counted, Curly, Square}
+use Rattle.writer.specs.declared.Shape.the-variants.{Counted, Curly, Square, Angled}
 use Rattle.figures.specs.Written.{Puts}
 use Rattle.writer.specs.Written.{bracketMost}
 use Rattle.writer.specs.Ranks.{rank, rankIn, ReadyToWrite, textAs, rankedText, runText, Walks}
@@ -34,6 +34,9 @@ module _ (bs : List ℕ) (ns : List ℤ) (k : ℕ) where
 
   pub as-square : {shape : Shape} → shape ≡ Square → squareText (bracketIn bs ns k) ≡ textAs shape (bracketIn bs ns k)
   as-square e = rw e
+
+  pub as-declared : {shape : Shape} → shape ≡ Angled → declaredText (bracketIn bs ns k) ≡ textAs shape (bracketIn bs ns k)
+  as-declared e = rw e
 
   module _ (shape : Shape) {r q : ℕ} (e : r ≡ rankIn bs k) where
     pub ranked-yes : r ≡ q → textAs shape (bracketIn bs ns k) ≡ rankedText shape q (bracketIn bs ns k)

@@ -4,18 +4,19 @@ use Prim.Native.Nat.{ℕ, _+_, _-_, _*_, _≤_, _<_}
 use mathlib.Core.List.{List}
 use lib.IntN.{ℤ}
 use lib.ListN.{length}
-use Rattle.scope.specs.Limits.{bracketLimit, partLimit, decimalLimit}
-use Rattle.scope.specs.Layout.{bytesSize, numbersSize, bracketsField, partsField, scoreField}
+use Rattle.scope.specs.Limits.{bracketLimit, partLimit, placeLimit, decimalLimit}
+use Rattle.scope.specs.Layout.{bytesSize, numbersSize, bracketsField, partsField, placesField, scoreField}
 use Rattle.areas.specs.Bounds.{PartBounds}
 use Rattle.figures.specs.Written.{ceiling}
 use Rattle.writer.specs.Written.{bracketMost}
 
--- bracket k, and its score
+-- bracket k, its score and its places
 pub record BracketHere (bs : List ℕ) (ns : List ℤ) (k : ℕ) : Type 0 where
   pub bytes-room : bytesSize ≤ length bs
   pub numbers-room : numbersSize ≤ length ns
   pub low : k < bracketLimit
   pub few-parts : partsField bs k ≤ partLimit
+  pub few-places : placesField bs k ≤ placeLimit
   pub score : scoreField bs k ≤ decimalLimit + 1
   pub part : (j : ℕ) → j < partsField bs k → PartBounds bs ns k j
 

@@ -5,19 +5,19 @@ use mathlib.Core.List.{List, [], _∷_, _++_}
 use Prim.Native.Nat.{ℕ, _+_, _-_, _*_, _≤_, _<_}
 use lib.Dec.{eqb}
 use lib.IntN.{ℤ}
-use Rattle.scope.specs.declared.grammar.Kind.the-variants.{Unknown, Labile, NTerm, OnResidue, OnRange, CTerm}
+use Rattle.scope.specs.declared.grammar.Kind.the-variants.{Unknown, Labile, NTerm, OnResidue, OnRange, CTerm, Declared}
 use Rattle.scope.specs.Bytes.{question, dash}
 use Rattle.scope.specs.Line.{Bracket, Residue}
 use Rattle.scope.specs.Lists.{keep, flat, tabled}
-use Rattle.scope.specs.Canonical.{unknownText, curlyText, squareText, endingAt, closedBy, opening, ending, goesOn, sequenceText}
+use Rattle.scope.specs.Canonical.{unknownText, curlyText, squareText, declaredText, endingAt, closedBy, opening, ending, goesOn, sequenceText}
 use Rattle.scope.specs.Layout.{residueIn, tablesIn, bracketsField, kindField, lastField, residuesField}
 use Rattle.scope.specs.Kinds.{kindIn}
 use Rattle.areas.specs.Bounds.{Bounds}
 use Rattle.writer.specs.declared.Shape.{Shape}
-use Rattle.writer.specs.declared.Shape.the-variants.{Counted, Curly, Square}
+use Rattle.writer.specs.declared.Shape.the-variants.{Counted, Curly, Square, Angled}
 use Rattle.figures.specs.Written.{Puts}
 use Rattle.writer.specs.Written.{bracketMost, residueMost}
-pub use Rattle.order_laws.specs.Ranks.{rankStep, rankOf, rank, InOrder}
+pub use Rattle.order_laws.specs.Ranks.{rankStep, kindRank, rankOf, rank, InOrder}
 unfoldable pub use Rattle.order_laws.specs.Ranks.{rising, orderedb}
 
 -- ---- the same in the areas
@@ -39,6 +39,7 @@ abbrev pub textAs : {P : Type 0} → Shape → Bracket P → List ℕ
 textAs Counted k = unknownText k
 textAs Curly k = curlyText k
 textAs Square k = squareText k
+textAs Angled k = declaredText k
 
 -- a bracket, where it has the rank that is asked for
 abbrev pub rankedText : {P : Type 0} → Shape → ℕ → Bracket P → List ℕ
@@ -48,10 +49,13 @@ rankedText shape q k = cond (eqb (rank k) q) (textAs shape k) []
 abbrev pub runText : {P : Type 0} → Shape → ℕ → List (Bracket P) → List ℕ
 runText shape q ks = flat (textAs shape) (keep (λ k. eqb (rank k) q) ks)
 
--- what stands before the sequence
-abbrev pub frontText : {P : Type 0} → List (Bracket P) → List ℕ
-frontText ks =
+-- what stands before the sequence: declarations, and the front of the chain
+abbrev pub chainFront : {P : Type 0} → List (Bracket P) → List ℕ
+chainFront ks =
     closedBy (runText Counted (rankOf Unknown 0) ks) question ++ (runText Curly (rankOf Labile 0) ks ++ closedBy (runText Square (rankOf NTerm 0) ks) dash)
+
+abbrev pub frontText : {P : Type 0} → List (Bracket P) → List ℕ
+frontText ks = runText Angled (rankOf Declared 0) ks ++ chainFront ks
 
 -- a step from bracket `from` to bracket `next`: the text t was put, with so many bytes outside brackets at most; every bracket before `next` has a
 -- rank below q

@@ -6,14 +6,14 @@ use lib.ListN.{length, take, drop}
 use mathlib.Core.Bool.{cond}
 use mathlib.Core.Option.{Option}
 use lib.Dec.{eqb}
-use Rattle.scope.specs.Bytes.{openRound, shutRound, bar}
-use Rattle.scope.specs.Limits.{residueLimit, bracketLimit, partLimit, textLimit, labelLimit}
-use Rattle.scope.specs.Line.{Number, Part}
+use Rattle.scope.specs.Bytes.{openRound, shutRound}
+use Rattle.scope.specs.Limits.{residueLimit, bracketLimit, partLimit, placeLimit, textLimit, labelLimit}
+use Rattle.scope.specs.Line.{Number}
 use Rattle.scope.specs.Lists.{given, part}
 use Rattle.scope.specs.Layout.{textsAt, textField, offsetField}
-use Rattle.scope.specs.Canonical.{scoreText, partText}
+use Rattle.scope.specs.Canonical.{scoreText}
 use Rattle.figures.specs.Written.{ceiling, numberMost, countMost}
-use Rattle.spelling.specs.Widths.{keyMost}
+use Rattle.spelling.specs.Widths.{keyMost, siteMost}
 
 -- ---- how many bytes each piece has at most, of any tables within bounds
 -- a mass or a text: no more than the two together
@@ -38,12 +38,23 @@ nextMost = 1 + partMost
 abbrev pub partsMost : ℕ
 partsMost = nextMost * partLimit
 
--- a bracket between its two bytes, and with its count; all brackets
+-- a bracket between its two bytes
 abbrev pub betweenMost : ℕ
 betweenMost = 1 + (partsMost + 1)
 
+-- a place with `,` before it; the places of a declaration; a declaration: `<`, its bracket, `@`, its places and `>`
+abbrev pub nextPlaceMost : ℕ
+nextPlaceMost = 1 + siteMost
+
+abbrev pub placesMost : ℕ
+placesMost = nextPlaceMost * placeLimit
+
+abbrev pub declaredMost : ℕ
+declaredMost = 1 + (betweenMost + (1 + (placesMost + 1)))
+
+-- a bracket with its count, or a declaration: no more than the two together; all brackets
 abbrev pub bracketMost : ℕ
-bracketMost = betweenMost + countMost
+bracketMost = declaredMost + countMost
 
 abbrev pub bracketsMost : ℕ
 bracketsMost = bracketMost * bracketLimit
@@ -72,9 +83,9 @@ textAt bs k j = part (textsAt + offsetField bs k j) (textField bs k j) bs
 abbrev pub scoredText : {P : Type 0} → Option (Number P) → List ℕ
 scoredText n = given n (λ s. openRound ∷ (scoreText s ++ (shutRound ∷ []))) []
 
--- part j of a bracket, with the `|` before it
-abbrev pub nextText : {P : Type 0} → ℕ → Part P → List ℕ
-nextText j p = cond (eqb j 0) (partText p) (bar ∷ partText p)
+-- the text t of number j in a row that is split by the byte b: b stands before all but the first
+abbrev pub nextText : ℕ → ℕ → List ℕ → List ℕ
+nextText b j t = cond (eqb j 0) t (b ∷ t)
 
 -- "Success leaves output past the written bytes .. unchanged"; of an output that is too short, as much as fits, and the length that is needed
 pub record WholeLine (c o left : List ℕ) (r : ℕ) : Type 0 where

@@ -5,21 +5,23 @@ use figures::put_count;
 use figures::put_number;
 use scope::tables::Tables;
 use spelling::put_key;
+use spelling::put_site;
 ghost use mathlib.Core.Path.{_≡_};
 ghost use mathlib.Core.List.{List, [], _∷_, _++_};
 ghost use Prim.Native.Nat.{ℕ, _+_, _-_, _*_, _<_, _≤_};
 ghost use lib.IntN.{ℤ};
 ghost use lib.ListN.{length};
 ghost use Rattle.scope.specs.declared.grammar.Kind.the-variants.{OnResidue, OnRange};
-ghost use Rattle.scope.specs.Bytes.{wideLimit, dash, shutRound};
-ghost use Rattle.scope.specs.Canonical.{valueText, labelText, partText, partsText, opening, ending, isNext, goesOn, sequenceText, closedBy, ledBy, canonical};
+ghost use Rattle.scope.specs.Bytes.{wideLimit, dash, shutRound, bar, comma};
+ghost use Rattle.scope.specs.Places.{siteText, placesText};
+ghost use Rattle.scope.specs.Canonical.{valueText, labelText, partText, partsText, declaredText, opening, ending, isNext, goesOn, sequenceText, closedBy, ledBy, canonical};
 ghost use Rattle.scope.specs.Lists.{given, tabled};
-ghost use Rattle.scope.specs.Limits.{residueLimit, bracketLimit, partLimit, textLimit};
-ghost use Rattle.scope.specs.Layout.{bytesSize, textsAt, scoreIn, labelIn, valueIn, partIn, sectionIn, residueIn, bracketIn, tablesIn, bracketsField, offsetField, partsField, residuesField};
+ghost use Rattle.scope.specs.Limits.{residueLimit, bracketLimit, partLimit, placeLimit, textLimit};
+ghost use Rattle.scope.specs.Layout.{bytesSize, textsAt, scoreIn, labelIn, valueIn, partIn, placeIn, sectionIn, residueIn, bracketIn, tablesIn, bracketsField, offsetField, partsField, placesField, residuesField, siteField};
 ghost use Rattle.scope.specs.Kinds.{kindIn};
 ghost use Rattle.areas.specs.Bounds.{Bounds};
 ghost use Rattle.figures.specs.Written.{Puts, ceiling};
-ghost use Rattle.writer.specs.Written.{valueMost, scoreMost, labelMost, partMost, nextMost, partsMost, betweenMost, bracketMost, residueMost, residuesMost, frontMost, lineMost, textAt, scoredText, nextText, WholeLine};
+ghost use Rattle.writer.specs.Written.{valueMost, scoreMost, labelMost, partMost, nextMost, partsMost, betweenMost, nextPlaceMost, placesMost, declaredMost, bracketMost, residueMost, residuesMost, frontMost, lineMost, textAt, scoredText, nextText, WholeLine};
 ghost use Rattle.writer.specs.Here.{BracketHere, PartHere, RoomFor};
 ghost use Rattle.writer.specs.Ranks.{rankOf, rankIn, cTermRank, orderedb, ReadyToWrite, textAs, rankedText, runText, frontText, Walks, residueText, NoneBelow, Behind, Spells, InOrder};
 
@@ -43,6 +45,8 @@ const ON_RANGE: usize = 5;
 
 const C_TERM: usize = 6;
 
+const DECLARED: usize = 7;
+
 // The codes of the sections.
 const PLAIN: usize = 0;
 
@@ -54,8 +58,12 @@ const UNSURE_FIRST: usize = 3;
 
 const UNSURE_NEXT: usize = 4;
 
-// From the ranks of a position to those of the next: a bracket's rank is that of its last position and the code of its kind.
+// From the ranks of a position to those of the next: a bracket's rank is that of its last position and the code of its kind, or 0 for a
+// declaration.
 const RANK_STEP: usize = 8;
+
+// The rank of the declarations at the front: no other is below it.
+const FIRST_RANK: usize = 0;
 
 // ---- parts
 
@@ -149,7 +157,7 @@ fn put_next_part(
     at: usize,
 ) -> usize
     requires { ⌜ PartHere (now bytes) (now numbers) k j × (at + nextMost ≤ ceiling) ⌝ }
-    ensures { λ r. ⌜ Puts nextMost (now (out .entry)) at (nextText j (partIn (now (bytes .entry)) (now (numbers .entry)) k j)) (now (out .exit)) r ⌝ }
+    ensures { λ r. ⌜ Puts nextMost (now (out .entry)) at (nextText bar j (partText (partIn (now (bytes .entry)) (now (numbers .entry)) k j))) (now (out .exit)) r ⌝ }
 {
     if j == 0 {
         return put_part(bytes, numbers, k, j, out, at);
@@ -193,11 +201,52 @@ fn put_between(
     put(out, e, closer)
 }
 
-// How a bracket is written: square with its count, as one of unknown position; curly, as a labile one; square.
+// Place j of bracket k, behind a `,` where it is not the first.
+fn put_next_place(bytes: &[u8], k: usize, j: usize, out: &mut [u8], at: usize) -> usize
+    requires { ⌜ (bytesSize ≤ length (now bytes)) × (k < bracketLimit) × (j < placeLimit) × (at + nextPlaceMost ≤ ceiling) ⌝ }
+    ensures { λ r. ⌜ Puts nextPlaceMost (now (out .entry)) at (nextText comma j (siteText (siteField (now (bytes .entry)) k j))) (now (out .exit)) r ⌝ }
+{
+    let s = areas::site(bytes, k, j);
+    if j == 0 {
+        return put_site(s, out, at);
+    }
+    let a = put(out, at, b',');
+    put_site(s, out, a)
+}
+
+// The places of bracket k, split by `,`.
+fn put_places(bytes: &[u8], k: usize, out: &mut [u8], at: usize) -> usize
+    requires { ⌜ (bytesSize ≤ length (now bytes)) × (k < bracketLimit) × (placesField (now bytes) k ≤ placeLimit) × (at + placesMost ≤ ceiling) ⌝ }
+    ensures { λ r. ⌜ Puts placesMost (now (out .entry)) at (placesText (tabled (placeIn (now (bytes .entry)) k) 0 (placesField (now (bytes .entry)) k))) (now (out .exit)) r ⌝ }
+{
+    let n = areas::places(bytes, k);
+    let mut j = 0;
+    let mut a = at;
+    while j < n {
+        a = put_next_place(bytes, k, j, out, a);
+        j += 1;
+    }
+    a
+}
+
+// Bracket k as a declaration: `<`, the bracket, `@`, its places and `>`.
+fn put_declared(bytes: &[u8], numbers: &[i64], k: usize, out: &mut [u8], at: usize) -> usize
+    requires { ⌜ BracketHere (now bytes) (now numbers) k × (at + declaredMost ≤ ceiling) ⌝ }
+    ensures { λ r. ⌜ Puts declaredMost (now (out .entry)) at (declaredText (bracketIn (now (bytes .entry)) (now (numbers .entry)) k)) (now (out .exit)) r ⌝ }
+{
+    let a = put(out, at, b'<');
+    let b = put_between(bytes, numbers, k, b'[', b']', out, a);
+    let c = put(out, b, b'@');
+    let e = put_places(bytes, k, out, c);
+    put(out, e, b'>')
+}
+
+// How a bracket is written: square with its count, as one of unknown position; curly, as a labile one; square; with its places, as a declaration.
 pub enum Shape {
     Counted,
     Curly,
     Square,
+    Angled,
 }
 
 // Bracket k, by its shape.
@@ -220,6 +269,7 @@ fn put_bracket(
         }
         Shape::Curly => put_between(bytes, numbers, k, b'{', b'}', out, at),
         Shape::Square => put_between(bytes, numbers, k, b'[', b']', out, at),
+        Shape::Angled => put_declared(bytes, numbers, k, out, at),
     }
 }
 
@@ -232,6 +282,7 @@ fn rank_of(c: usize, last: usize) -> usize
 {
     match c {
         LABILE..=C_TERM => RANK_STEP * last + c,
+        DECLARED => RANK_STEP * last,
         _ => RANK_STEP * last + UNKNOWN,
     }
 }
@@ -594,7 +645,10 @@ fn put_front(bytes: &[u8], numbers: &[i64], out: &mut [u8], at: usize) -> Pen
     if N_TERM < next_rank(bytes, 0) {
         return Pen { place: at, next: 0 };
     }
-    let unknown = put_closed(bytes, numbers, 0, UNKNOWN, Shape::Counted, b'?', out, at);
+    let declared = put_run(bytes, numbers, 0, FIRST_RANK, Shape::Angled, out, at);
+    let d = declared.place;
+    let h = declared.next;
+    let unknown = put_closed(bytes, numbers, h, UNKNOWN, Shape::Counted, b'?', out, d);
     let a = unknown.place;
     let i = unknown.next;
     let labile = put_run(bytes, numbers, i, LABILE, Shape::Curly, out, a);

@@ -21,10 +21,14 @@ returns-5 : tie.Need-returns-5
 returns-5 c = ap kindIn (sym (c .if5 .taken))
 
 returns-6 : tie.Need-returns-6
-returns-6 c =
+returns-6 c = ap kindIn (sym (c .if6 .taken))
+
+returns-7 : tie.Need-returns-7
+returns-7 c =
+    let else3 : tie.Else3 = search in
     let else2 : tie.Else2 = search in
     let else1 : tie.Else1 = search in
-    else-unknown _ (else1 .if1 .left) (else2 .if2 .left) (c .before .before .if3 .left) (c .before .if4 .left) (c .if5 .left)
+    else-unknown _ (else1 .if1 .left) (else2 .if2 .left) (else3 .if3 .left) (c .before .before .if4 .left) (c .before .if5 .left) (c .if6 .left)
 
 pub kind-of-spec : {M : Type 1} → statement M
-kind-of-spec = tie.close (tie.spec returns returns-2 returns-3 returns-4 returns-5 returns-6)
+kind-of-spec = tie.close (tie.spec returns returns-2 returns-3 returns-4 returns-5 returns-6 returns-7)

@@ -10,7 +10,8 @@ may-end-spec =
     (tie.spec
     (λ c. search needs) (λ c. search needs) (λ c. search needs) (λ c. search needs) (λ c. search needs) (λ c. search needs) (λ c. search needs)
     (λ c. search needs) (λ c. search needs) (λ c. search needs) (λ c. search needs) (λ c. search needs) (λ c. search needs) (λ c. search needs)
-    (λ c. search needs) (λ c. search needs) (λ c. search needs) (λ c. search needs) (λ c. search needs) (λ c. search needs) (λ c. search ends-in)
+    (λ c. search needs) (λ c. search needs) (λ c. search needs) (λ c. search needs) (λ c. search needs) (λ c. search needs) (λ c. search needs)
+    (λ c. search needs) (λ c. search needs) (λ c. search ends-in) (λ c. search ends-in) (λ c. search ends-in) (λ c. search ends-in) (λ c. search ends-in)
     (λ c. search ends-in) (λ c. search ends-in) (λ c. search ends-in) (λ c. search ends-in) (λ c. search ends-in) (λ c. search ends-in) (λ c. search ends-in)
     (λ c. search ends-in) (λ c. search ends-in) (λ c. search ends-in) (λ c. search ends-in) (λ c. search ends-in) (λ c. search ends-in) (λ c. search ends-in)
-    (λ c. search ends-in) (λ c. search ends-in) (λ c. search ends-in) (λ c. search ends-in) (λ c. search ends-in))
+    (λ c. search ends-in) (λ c. search ends-in) (λ c. search ends-in) (λ c. search ends-in))

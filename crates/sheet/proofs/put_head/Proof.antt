@@ -3,7 +3,7 @@ use Prim.Native.Nat.{_*_}
 use Rattle.sheet.specs.Rows.{headFields}
 use native.Mathlib.Omega.{arith}
 use lib.ListN.{length-set}
-use Rattle.sheet.proofs.Stores.{eleven-stores}
+use Rattle.sheet.proofs.Stores.{thirteen-stores}
 use borrow.Author.Needs.{needs}
 use Rattle.sheet.proofs.put_head.Statement.{statement}
 use Rattle.sheet.proofs.put_head.Tie as tie
@@ -11,7 +11,7 @@ use Rattle.sheet.proofs.put_head.Tie as tie
 returns : tie.Need-returns
 returns c =
     let s : tie.Start = search in
-    eleven-stores (s .args .heads .now) (s .args .k * headFields) _ _ _ _ _ _ _ _ _ _ _
+    thirteen-stores (s .args .heads .now) (s .args .k * headFields) _ _ _ _ _ _ _ _ _ _ _ _ _
 
 pub put-head-spec : {M : Type 1} → statement M
 put-head-spec =
@@ -24,4 +24,4 @@ put-head-spec =
     (λ c. search needs) (λ c. search needs) (λ c. search needs) (λ c. simp length-set (omega arith)) (λ c. search needs) (λ c. search needs)
     (λ c. search needs) (λ c. simp length-set (omega arith)) (λ c. search needs) (λ c. search needs) (λ c. search needs)
     (λ c. simp length-set (omega arith)) (λ c. search needs) (λ c. search needs) (λ c. search needs) (λ c. simp length-set (omega arith))
-    (λ c. search needs) (λ c. search needs) (λ c. search needs) (λ c. simp length-set (omega arith)) (λ c. simp length-set) returns)
+    (λ c. search needs) (λ c. search needs) (λ c. search needs) (λ c. simp length-set (omega arith)) (λ c. search needs) (λ c. search needs) (λ c. simp length-set (omega arith)) (λ c. search needs) (λ c. search needs) (λ c. simp length-set (omega arith)) (λ c. simp length-set) returns)

@@ -32,10 +32,10 @@ returns-2 c =
     let n : tie.After-bracket-noted = search in
     let f : tie.After-found2 = search in
     let b : tie.After-bracket-at = search in
-    let after-due-if : tie.After-due-if = search in
+    let before : tie.After-least-before = search in
     record {
       least = _;
-      least-is = after-due-if .due-if .ensures;
+      least-is = before .least-before .ensures;
       next = _;
       found = _;
       closes = then-closes _ _ (b .bracket-at .result) _ _ (b .bracket-at .ensures) (f .found2 .given .1);

@@ -4,6 +4,7 @@ use Rattle.walk.proofs.Further.{low, stopped, gone-on, run-end, term-en
 use Rattle.walk.proofs.OneRun.{run-more}
 use Rattle.walk.proofs.OneCount.{some-bracket, count-more}
 use Rattle.walk.proofs.OneBracket.{bracket-asks, bracket-step}
+use Rattle.walk.proofs.OnePlaces.{a-bracket, places-step}
 use Rattle.walk.proofs.step_from.Statement.{statement}
 use Rattle.walk.proofs.step_from.Tie as tie
 
@@ -66,6 +67,19 @@ returns-7 c =
     let o : tie.After-act-of = search in
     term-end (r .term-ended .ensures .0) (r .term-ended .ensures .1) (does-this (start o .pre) (o .act-of .ensures) (r .before .before .enum-told4 .given .1))
 
+places-read-requires : tie.Need-places-read-requires
+places-read-requires c κs =
+    let o : tie.After-act-of = search in
+    let d = does-this (start o .pre) (o .act-of .ensures) (c .before .enum-told5 .given .1) in
+    (low d, d .here, d .short, a-bracket d, d .upto .roomy .heads-room)
+
+returns-8 : tie.Need-returns-8
+returns-8 c =
+    let r : tie.After-places-read = search in
+    let told : tie.After-enum-told5 = search in
+    let o : tie.After-act-of = search in
+    places-step (does-this (start o .pre) (o .act-of .ensures) (told .enum-told5 .given .1)) (r .places-read .result) _ (r .places-read .ensures)
+
 pub step-from-spec : {M : Type 1} → statement M
 step-from-spec =
     tie.close
@@ -74,8 +88,9 @@ step-from-spec =
     (λ c κs. let o = c .before .before .before in low (does-this (start o .pre) (o .act-of .ensures) (c .before .act .given .1))) (λ c. search needs)
     residues-read-requires (λ c. search needs) bracket-read-requires (λ c. search needs) count-read-requires (λ c. search needs)
     (λ c κs. let o = c .before .before in low (does-this (start o .pre) (o .act-of .ensures) (c .enum-told3 .given .1))) (λ c. search needs)
-    term-ended-requires (λ c. let o = c .before .before in stopped (does-this (start o .pre) (o .act-of .ensures) (c .enum-told .given .1))) returns-2
+    term-ended-requires (λ c. search needs) places-read-requires
+    (λ c. let o = c .before .before in stopped (does-this (start o .pre) (o .act-of .ensures) (c .enum-told .given .1))) returns-2
     (λ c. search needs) (λ c. search needs) returns-3 (λ c. search needs) (λ c. search needs) (λ c. search needs) (λ c. search needs) returns-4
     (λ c. search needs) returns-5
     (λ c. let o = c .before .before .before in run-end (c .settled-in .ensures) (does-this (start o .pre) (o .act-of .ensures) (c .before .enum-told3 .given .1)))
-    (λ c. search needs) returns-7)
+    (λ c. search needs) returns-7 (λ c. search needs) returns-8)

@@ -4,7 +4,7 @@
  * A line is read into two lent areas, one of bytes and one of numbers; the other calls take the tables in these areas. Every call answers a number: 0, or the
  * number of a refusal.
  *
- * - What a caller lends to be written (areas, output, rows, entries, a listing, single values) a refusal leaves exactly as it was, and success leaves as it was
+ * - What a caller lends to be written (areas, output, rows, entries, positions, a listing, single values) a refusal leaves exactly as it was, and success leaves as it was
  *   past what the call says it writes. Only a refusal sets *place; only a refusal with 15 sets *length.
  * - Any bytes and any numbers are answered: junk in the areas is refused with 14, a slice that is too short with 13.
  * - A slice passes as a pointer and the number of its elements, which must be there; slices may be longer than is asked for. NO POINTER MAY BE NULL, not even
@@ -16,7 +16,7 @@
  * may run at the same time, on areas of their own.
  *
  * Stack, in KiB, the most that is measured on lines and areas made to take much (tests/stack.c): hwemiduk_version, hwemiduk_limits, hwemiduk_composition and hwemiduk_first_row 1,
- * hwemiduk_verdict and hwemiduk_read 11, hwemiduk_entry 25, hwemiduk_ledger and hwemiduk_rows 19, every other call 16. Have 64 KiB free.
+ * hwemiduk_verdict and hwemiduk_read 11, hwemiduk_entry 27, hwemiduk_ledger and hwemiduk_rows 20, every other call 16. Have 64 KiB free.
  *
  * Link libhwemiduk.a or libhwemiduk.so.0 (`make`, `make install`; pkg-config hwemiduk). The number behind .so is raised when a struct here changes its form or its
  * size, when a size or a limit that a macro here names changes, when the tables lie otherwise in the areas, when a call changes its arguments, or when an answer's
@@ -47,7 +47,7 @@ enum hwemiduk_answer {
     HWEMIDUK_BAD_BYTE = 3,        /* a byte outside 32 to 126 */
     HWEMIDUK_BAD_ORDER = 4,       /* not of the order of a line */
     HWEMIDUK_TOO_DEEP = 5,        /* pairs nested more than eight deep */
-    HWEMIDUK_TOO_MANY = 6,        /* too many residues (254), brackets (64) or parts (4), a text over 128 bytes or a label over 16 */
+    HWEMIDUK_TOO_MANY = 6,        /* too many residues (254), brackets (64), parts (4), declarations (8) or places (16), a text over 128 bytes or a label over 16 */
     HWEMIDUK_OUT_OF_RANGE = 7,    /* a mass or score of a million or more or with more than 6 decimals, a count outside 1 to 99 */
     HWEMIDUK_NOT_TAKEN = 8,       /* something that is not taken here: Formula, Position, Limit, CoMKP, CoMUP, labels XL.. and BRANCH */
     HWEMIDUK_NAME_OF_DIGITS = 9,  /* prefix U or M with a name of digits only */
@@ -60,7 +60,8 @@ enum hwemiduk_answer {
     HWEMIDUK_NO_MASS = 16,        /* a modification has no mass */
     HWEMIDUK_NO_FURTHER = 17,     /* no placement, no further one, no such row or bracket */
     HWEMIDUK_NOT_ALLOWED = 18,    /* a placement that is not allowed */
-    HWEMIDUK_NO_CUTTING = 19      /* a composition that cannot be cut into listed names and counts */
+    HWEMIDUK_NO_CUTTING = 19,     /* a composition that cannot be cut into listed names and counts */
+    HWEMIDUK_DECLARED_INFO = 21   /* only INFO in a declaration */
 };
 
 /* An answer in words. */
@@ -73,7 +74,7 @@ static inline const char *hwemiduk_words(uint8_t answer)
     case HWEMIDUK_BAD_BYTE: return "a byte outside 32 to 126";
     case HWEMIDUK_BAD_ORDER: return "not of the order of a line";
     case HWEMIDUK_TOO_DEEP: return "pairs nested more than eight deep";
-    case HWEMIDUK_TOO_MANY: return "too many residues (254), brackets (64) or parts (4), a text over 128 bytes or a label over 16";
+    case HWEMIDUK_TOO_MANY: return "too many residues (254), brackets (64), parts (4), declarations (8) or places (16), a text over 128 bytes or a label over 16";
     case HWEMIDUK_OUT_OF_RANGE: return "a mass or score of a million or more or with more than 6 decimals, a count outside 1 to 99";
     case HWEMIDUK_NOT_TAKEN: return "something that is not taken here: Formula, Position, Limit, CoMKP, CoMUP, labels XL.. and BRANCH";
     case HWEMIDUK_NAME_OF_DIGITS: return "prefix U or M with a name of digits only";
@@ -87,6 +88,7 @@ static inline const char *hwemiduk_words(uint8_t answer)
     case HWEMIDUK_NO_FURTHER: return "no placement, no further one, no such row or bracket";
     case HWEMIDUK_NOT_ALLOWED: return "a placement that is not allowed";
     case HWEMIDUK_NO_CUTTING: return "a composition that cannot be cut into listed names and counts";
+    case HWEMIDUK_DECLARED_INFO: return "only INFO in a declaration";
     default: return "an answer that this header does not know";
     }
 }
@@ -97,28 +99,32 @@ static inline const char *hwemiduk_words(uint8_t answer)
 #define HWEMIDUK_RESIDUES 254    /* residues of a line */
 #define HWEMIDUK_BRACKETS 64     /* brackets of a line */
 #define HWEMIDUK_PARTS 4         /* parts of a bracket */
+#define HWEMIDUK_DECLARATIONS 8  /* declarations of a line */
+#define HWEMIDUK_PLACES 16       /* places of a declaration */
 #define HWEMIDUK_COPIES 8        /* floating copies of a line: entries of a placement */
-#define HWEMIDUK_POSITIONS (HWEMIDUK_RESIDUES + 2)              /* entries of a ledger: N-terminus, residues, C-terminus */
+#define HWEMIDUK_POSITIONS (HWEMIDUK_RESIDUES + 2)              /* entries of a ledger, and of positions reached: N-terminus, residues, C-terminus */
 #define HWEMIDUK_ROWS (HWEMIDUK_COPIES * HWEMIDUK_POSITIONS)    /* rows of floater and position */
 #define HWEMIDUK_PIECES 42       /* pieces of a part's composition: a name has three bytes or more, and a text no more than 128 */
 #define HWEMIDUK_SUGARS 24       /* names that a composition is made of (hwemiduk_sugar) */
 
 typedef struct hwemiduk_limits_t {
-    size_t line;       /* bytes of a line, the end of line not counted */
-    size_t residues;   /* residues of a line */
-    size_t brackets;   /* brackets of a line, square and curly together */
-    size_t parts;      /* parts of a bracket */
-    size_t text;       /* bytes of a part's text, behind key or prefix */
-    size_t label;      /* bytes of a label, without its # */
-    size_t depth;      /* pairs [] and {} within each other in a text */
-    size_t count;      /* the largest count behind ^ */
-    size_t copies;     /* floating copies of a line: entries of a placement */
-    size_t rows;       /* rows of floater and position: elements of hwemiduk_site */
-    size_t positions;  /* entries of a ledger: elements of int64_t */
-    uint64_t size;     /* masses and scores are below this many units, signs apart: not millionths */
-    uint8_t decimals;  /* decimals of a mass or a score */
-    size_t bytes;      /* the area of bytes: elements of uint8_t */
-    size_t numbers;    /* the area of numbers: elements of int64_t, not bytes */
+    size_t line;          /* bytes of a line, the end of line not counted */
+    size_t residues;      /* residues of a line */
+    size_t brackets;      /* brackets of a line, square and curly together */
+    size_t parts;         /* parts of a bracket */
+    size_t text;          /* bytes of a part's text, behind key or prefix */
+    size_t label;         /* bytes of a label, without its # */
+    size_t depth;         /* pairs [] and {} within each other in a text */
+    size_t count;         /* the largest count behind ^ */
+    size_t declarations;  /* declarations of a line */
+    size_t places;        /* places of a declaration */
+    size_t copies;        /* floating copies of a line: entries of a placement */
+    size_t rows;          /* rows of floater and position: elements of hwemiduk_site */
+    size_t positions;     /* entries of a ledger: elements of int64_t; and of positions reached: elements of hwemiduk_position */
+    uint64_t size;        /* masses and scores are below this many units, signs apart: not millionths */
+    uint8_t decimals;     /* decimals of a mass or a score */
+    size_t bytes;         /* the area of bytes: elements of uint8_t */
+    size_t numbers;       /* the area of numbers: elements of int64_t, not bytes */
 } hwemiduk_limits_t;
 
 /* Writes all limits and sizes. */
@@ -138,15 +144,20 @@ void hwemiduk_limits(hwemiduk_limits_t *limits);
 #define HWEMIDUK_BRACKETS_AT (HWEMIDUK_SECTIONS_AT + HWEMIDUK_RESIDUES)           /* a row for each bracket, in order of appearance */
 #define HWEMIDUK_BRACKET_HEAD 8                                                   /* bytes before its parts (hwemiduk_head) */
 #define HWEMIDUK_PART_ROW 7                                                       /* bytes of a part (hwemiduk_part) */
-#define HWEMIDUK_BRACKET_ROW (HWEMIDUK_BRACKET_HEAD + HWEMIDUK_PARTS * HWEMIDUK_PART_ROW)
+#define HWEMIDUK_BRACKET_TAIL (1 + HWEMIDUK_PLACES)                               /* bytes behind its parts (hwemiduk_tail) */
+#define HWEMIDUK_BRACKET_ROW (HWEMIDUK_BRACKET_HEAD + HWEMIDUK_PARTS * HWEMIDUK_PART_ROW + HWEMIDUK_BRACKET_TAIL)
 #define HWEMIDUK_TEXTS_AT (HWEMIDUK_BRACKETS_AT + HWEMIDUK_BRACKETS * HWEMIDUK_BRACKET_ROW)
 #define HWEMIDUK_BYTES (HWEMIDUK_TEXTS_AT + HWEMIDUK_LINE)
 #define HWEMIDUK_NUMBER_ROW (HWEMIDUK_PARTS + 1)
 #define HWEMIDUK_NUMBERS (HWEMIDUK_BRACKETS * HWEMIDUK_NUMBER_ROW)
 
-/* Where the row of bracket k and of its part j begins in the bytes, and where its mass and the bracket's score stand in the numbers; k and j count from 0. */
+/*
+ * Where the row of bracket k, of its part j and of its places begins in the bytes, and where the part's mass and the bracket's score stand in the numbers; k and j count
+ * from 0.
+ */
 #define HWEMIDUK_BRACKET_AT(k) (HWEMIDUK_BRACKETS_AT + (k) * HWEMIDUK_BRACKET_ROW)
 #define HWEMIDUK_PART_AT(k, j) (HWEMIDUK_BRACKET_AT(k) + HWEMIDUK_BRACKET_HEAD + (j) * HWEMIDUK_PART_ROW)
+#define HWEMIDUK_PLACES_AT(k) HWEMIDUK_PART_AT(k, HWEMIDUK_PARTS)
 #define HWEMIDUK_MASS_AT(k, j) ((k) * HWEMIDUK_NUMBER_ROW + (j))
 #define HWEMIDUK_SCORE_AT(k) ((k) * HWEMIDUK_NUMBER_ROW + HWEMIDUK_PARTS)
 
@@ -166,7 +177,7 @@ typedef uint16_t hwemiduk_position;
 /* The bytes of a bracket's row before its parts. */
 enum hwemiduk_head {
     HWEMIDUK_HEAD_KIND = 0,     /* of hwemiduk_kind */
-    HWEMIDUK_HEAD_FIRST = 1,    /* first position, two bytes: of a residue, its own; of a range, its first residue's; 0 at the N-terminus, n + 1 at the C-terminus; 0 of an unknown or labile one */
+    HWEMIDUK_HEAD_FIRST = 1,    /* first position, two bytes: of a residue, its own; of a range, its first residue's; 0 at the N-terminus, n + 1 at the C-terminus; 0 of an unknown, labile or declared one */
     HWEMIDUK_HEAD_LAST = 3,     /* last position, two bytes: of a range, its last residue's; else the first one again */
     HWEMIDUK_HEAD_COUNT = 5,    /* the count behind ^, 1 to 99; 1 where none is written, and of all that are not of unknown position */
     HWEMIDUK_HEAD_PARTS = 6,    /* how many parts it has, 1 to 4; the rows of the others are zero */
@@ -182,6 +193,18 @@ enum hwemiduk_part {
     HWEMIDUK_PART_LABEL = 4,         /* bytes of its label; 0 where it has none */
     HWEMIDUK_PART_OFFSET = 5         /* where its text begins, counted from HWEMIDUK_TEXTS_AT, two bytes; its label directly follows the text. A mass or reference
                                         with a label has the label there. 0 where it has neither text nor label */
+};
+
+/* The bytes of a bracket's row behind its parts. */
+enum hwemiduk_tail {
+    HWEMIDUK_TAIL_PLACES = 0,    /* how many places it has: of a declaration 1 to 16, else 0 */
+    HWEMIDUK_TAIL_SITES = 1      /* its places, in the order in which they are written, one byte each: a letter in upper case, or of hwemiduk_terminus; the others are zero */
+};
+
+/* A place of a declaration that is no letter. */
+enum hwemiduk_terminus {
+    HWEMIDUK_N_TERMINUS = 1,     /* N-term */
+    HWEMIDUK_C_TERMINUS = 2      /* C-term */
 };
 
 /*
@@ -202,7 +225,8 @@ enum hwemiduk_kind {
     HWEMIDUK_NTERM = 3,         /* before - */
     HWEMIDUK_ON_RESIDUE = 4,    /* behind a residue */
     HWEMIDUK_ON_RANGE = 5,      /* behind a range (..) */
-    HWEMIDUK_CTERM = 6          /* behind - */
+    HWEMIDUK_CTERM = 6,         /* behind - */
+    HWEMIDUK_DECLARED = 7       /* in a declaration <[..]@K,N-term>. These come first: the line's first declaration is bracket 0, its second bracket 1 */
 };
 
 enum hwemiduk_value {
@@ -233,14 +257,14 @@ enum hwemiduk_key {
 /* ---- Reading and writing */
 
 /*
- * Whether a line is accepted: 0, or the lowest of 1 to 12 and 19 that is due, with the refusal's first place in the line in *place, bytes counted from 0; where the
- * line should go on and ends, it is the line's length.
+ * Whether a line is accepted: 0, or the first that is due of 1 to 10, 21, 11, 12 and 19, tried in this order, with the refusal's first place in the line in *place,
+ * bytes counted from 0; where the line should go on and ends, it is the line's length.
  */
 uint8_t hwemiduk_verdict(const uint8_t *line, size_t line_len, size_t *place);
 
 /*
- * Reads a line: 0 with its tables in the areas; or 13, if an area is shorter than limits.bytes or limits.numbers, with 0 in *place; or 1 to 12 or 19 and *place as
- * hwemiduk_verdict gives them.
+ * Reads a line: 0 with its tables in the areas; or 13, if an area is shorter than limits.bytes or limits.numbers, with 0 in *place; or 1 to 12, 19 or 21 and *place
+ * as hwemiduk_verdict gives them.
  */
 uint8_t hwemiduk_read(const uint8_t *line, size_t line_len, uint8_t *bytes, size_t bytes_len, int64_t *numbers, size_t numbers_len, size_t *place);
 
@@ -272,14 +296,16 @@ uint8_t hwemiduk_floater_brackets(const uint8_t *bytes, size_t bytes_len, const 
 /* ---- Masses: of the modifications only. The residues' own masses are not in them: the total of a line without modifications is 0. */
 
 /*
- * The sum of the masses of all modifications, in millionths of a Dalton, counts multiplied, labile ones too; the residues' own masses are not in it: 0 with it in
- * *millionths; or 16 with how many modifications have no mass, each copy counted, in *place; or 13 or 14 with 0 in *place.
+ * The sum of the masses of all modifications, in millionths of a Dalton, counts multiplied, labile ones too, a declared one once for each position that it reaches
+ * (hwemiduk_reached); the residues' own masses are not in it: 0 with it in *millionths; or 16 with how many modifications have no mass, each copy counted, and each
+ * position that a declaration reaches, in *place; or 13 or 14 with 0 in *place.
  */
 uint8_t hwemiduk_total(const uint8_t *bytes, size_t bytes_len, const int64_t *numbers, size_t numbers_len, int64_t *millionths, size_t *place);
 
 /*
- * The mass that bracket k has by itself, brackets counted from 0: its first mass that is not behind Obs, else its first one behind Obs; not multiplied by its count. 0
- * with it in *millionths; or 16, if it has none, with its count in *place; or 17, if there is no such bracket, or 13 or 14, with 0 in *place.
+ * The mass that bracket k has by itself, brackets counted from 0: its first mass that is not behind Obs, else its first one behind Obs; not multiplied by its count,
+ * nor by the positions that a declaration reaches. 0 with it in *millionths; or 16, if it has none, with its count in *place, which is 1 of a declaration; or 17, if
+ * there is no such bracket, or 13 or 14, with 0 in *place.
  */
 uint8_t hwemiduk_bracket_mass(const uint8_t *bytes, size_t bytes_len, const int64_t *numbers, size_t numbers_len, size_t bracket, int64_t *millionths,
     size_t *place);
@@ -309,6 +335,16 @@ static inline const char *hwemiduk_sugar(uint8_t number)
  * no pieces. 2 * HWEMIDUK_PIECES bytes are enough for each text in the areas, and two bytes for every three of any text.
  */
 uint8_t hwemiduk_composition(const uint8_t *text, size_t text_len, uint8_t *pieces, size_t pieces_len, size_t *length);
+
+/* ---- Declarations: <[Oxidation]@M,C-term> at the front of a line puts its modification on each position that a place names, beside what stands there. */
+
+/*
+ * The positions that bracket k reaches, brackets counted from 0, as a declaration: those that one of its places names, ascending, each once. 0 with them in the first
+ * *count of the positions lent; none are reached by a bracket that is no declaration, nor by a declaration whose places the line has not. Or 13 (also where fewer than
+ * limits.positions positions are lent) or 14; or 17, if there is no such bracket.
+ */
+uint8_t hwemiduk_reached(const uint8_t *bytes, size_t bytes_len, const int64_t *numbers, size_t numbers_len, size_t bracket, hwemiduk_position *positions,
+    size_t positions_len, size_t *count);
 
 /* ---- Placements: the position of each floating copy, limits.copies entries, unused ones 0. Of a longer slice the first entries count. */
 

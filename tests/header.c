@@ -23,6 +23,8 @@ int main(void)
     same("HWEMIDUK_RESIDUES", HWEMIDUK_RESIDUES, limits.residues);
     same("HWEMIDUK_BRACKETS", HWEMIDUK_BRACKETS, limits.brackets);
     same("HWEMIDUK_PARTS", HWEMIDUK_PARTS, limits.parts);
+    same("HWEMIDUK_DECLARATIONS", HWEMIDUK_DECLARATIONS, limits.declarations);
+    same("HWEMIDUK_PLACES", HWEMIDUK_PLACES, limits.places);
     same("HWEMIDUK_COPIES", HWEMIDUK_COPIES, limits.copies);
     same("HWEMIDUK_POSITIONS", HWEMIDUK_POSITIONS, limits.positions);
     same("HWEMIDUK_ROWS", HWEMIDUK_ROWS, limits.rows);
@@ -39,9 +41,10 @@ int main(void)
     same("letters", HWEMIDUK_LETTERS_AT, 3);
     same("sections", HWEMIDUK_SECTIONS_AT, 257);
     same("brackets", HWEMIDUK_BRACKET_AT(0), 511);
-    same("bracket's row", HWEMIDUK_BRACKET_AT(1), 511 + 36);
-    same("texts", HWEMIDUK_TEXTS_AT, 2815);
-    same("bytes", HWEMIDUK_BYTES, 6911);
+    same("bracket's places", HWEMIDUK_PLACES_AT(0), 511 + 36);
+    same("bracket's row", HWEMIDUK_BRACKET_AT(1), 511 + 53);
+    same("texts", HWEMIDUK_TEXTS_AT, 3903);
+    same("bytes", HWEMIDUK_BYTES, 7999);
     same("site", sizeof(hwemiduk_site), 4);
     same("site's position", offsetof(hwemiduk_site, position), 2);
     same("listing", sizeof(hwemiduk_listing), 18);

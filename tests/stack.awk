@@ -16,6 +16,10 @@ BEGIN {
     print "[+1]^8?AAAAAAA"
     print "(" all ")[+1][+2][+3][+4][+5][+6][+7][+8]"
     print "[a#a][b#b][c#c][d#d][e#e][f#f][g#g][h#h]?A[#a][#b]C[#b][#c]D[#c][#d]E[#d][#e]F[#e][#f]G[#f][#g]H[#g][#h]I[#h][#a]"
+    for (i = 1; i <= 8; i++) declared = declared "<[+1|x]@C,D,E,F,G,H,I,K,L,M,N,N-term,C-term,P,Q,A>"
+    print declared all
+    print declared "[+1]^8?" all
+    print "<[" text "]@A>A" substr(many, 5)
     print "A[x|y|z|Obs:+1.5]"
     print "A[+1#a(0.5)]C[#a(-0.25)]-[UNIMOD:35]"
     for (i = 1; i <= 42; i++) sugars = sugars "Hex"

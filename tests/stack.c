@@ -11,11 +11,11 @@
 #define SIZE (256 * 1024)
 #define PAINT 0xC3
 
-enum call { NOTHING, VERSION, LIMITS, VERDICT, READ, ENTRY, WRITE, RESIDUES, BRACKETS, FLOATERS, FLOATER_BRACKETS, TOTAL, BRACKET_MASS, SHOWN, ALLOWED, NEXT, LEDGER, ROWS, FIRST_ROW, COMPOSITION, CALLS };
+enum call { NOTHING, VERSION, LIMITS, VERDICT, READ, ENTRY, WRITE, RESIDUES, BRACKETS, FLOATERS, FLOATER_BRACKETS, TOTAL, BRACKET_MASS, SHOWN, ALLOWED, NEXT, LEDGER, ROWS, FIRST_ROW, COMPOSITION, REACHED, CALLS };
 static const char *const names[CALLS] = { "nothing", "version", "limits", "verdict", "read", "entry", "write", "residues", "brackets", "floaters", "floater_brackets", "total", "bracket_mass", "shown", "allowed", "next",
-    "ledger", "rows", "first_row", "composition" };
+    "ledger", "rows", "first_row", "composition", "reached" };
 /* in KiB, as the header says */
-static const size_t said[CALLS] = { 0, 1, 1, 11, 11, 25, 16, 16, 16, 16, 16, 16, 16, 16, 16, 16, 19, 19, 1, 1 };
+static const size_t said[CALLS] = { 0, 1, 1, 11, 11, 27, 16, 16, 16, 16, 16, 16, 16, 16, 16, 16, 20, 20, 1, 1, 16 };
 static size_t most[CALLS];
 
 static _Alignas(64) unsigned char stack[SIZE];
@@ -25,7 +25,7 @@ static const uint8_t *line;
 static size_t length;
 static hwemiduk_tables tables;
 static hwemiduk_site rows[HWEMIDUK_ROWS];
-static hwemiduk_position placement[HWEMIDUK_COPIES];
+static hwemiduk_position placement[HWEMIDUK_COPIES], positions[HWEMIDUK_POSITIONS];
 static int64_t entries[HWEMIDUK_POSITIONS];
 static uint8_t entry[HWEMIDUK_ENTRY], out[HWEMIDUK_LINE], of[HWEMIDUK_COPIES], copy[HWEMIDUK_COPIES];
 
@@ -62,6 +62,7 @@ static void run(void)
     case ROWS: hwemiduk_rows(HWEMIDUK_OF(&tables), rows, HWEMIDUK_ROWS, &place); break;
     case FIRST_ROW: hwemiduk_first_row(rows, HWEMIDUK_ROWS, HWEMIDUK_ROWS, 9, &index, &position); break;
     case COMPOSITION: hwemiduk_composition(line, length, out, sizeof out, &place); break;
+    case REACHED: hwemiduk_reached(HWEMIDUK_OF(&tables), 0, positions, HWEMIDUK_POSITIONS, &place); break;
     default: break;
     }
 }

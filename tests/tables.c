@@ -5,9 +5,10 @@
 #include <stdio.h>
 #include <string.h>
 
-/* kinds 1 to 6, all sections, a mass with a label, one without, a reference, scores, a count, keys, prefixes, two parts, a composition with a label */
-static const char line[] = "[+1#a(0.5)][Acetyl|INFO:x]^2?{Hex}[U:Oxidation]-(?ac)(DE)[M:y|Obs:-2.50]F[#a(-1.25)][x|glycan:HEXNAC1hex2#b]-[UNIMOD:35]";
-static const char texts[] = "aAcetylxHexOxidationyaxHexNAcHex2b35";
+/* kinds 1 to 7, all sections, a mass with a label, one without, a reference, scores, a count, keys, prefixes, two parts, a composition with a label, places of each sort */
+static const char line[] = "<[+3.5|Name]@c,N-TERM,C><[w]@c-term,a,a,a,a,a,a,a,a,a,a,a,a,a,a,z>[+1#a(0.5)][Acetyl|INFO:x]^2?{Hex}[U:Oxidation]-(?ac)(DE)[M:y|Obs:-2.50]F[#a(-1.25)][x|glycan:HEXNAC1hex2#b]-[UNIMOD:35]";
+static const char texts[] = "NamewaAcetylxHexOxidationyaxHexNAcHex2b35";
+#define ROWS 10
 
 static int wrong = 0;
 
@@ -32,15 +33,18 @@ int main(void)
         int kind, first, last, count, parts, score;
         long long score_millionths;
         struct { int value, key, decimals, text, label, offset; long long millionths; } part[2];
-    } rows[8] = {
-        { HWEMIDUK_UNKNOWN, 0, 0, 1, 1, 2, 500000, { { HWEMIDUK_MASS, HWEMIDUK_NO_KEY, 0, 0, 1, 0, 1000000 }, { 0, 0, 0, 0, 0, 0, 0 } } },
-        { HWEMIDUK_UNKNOWN, 0, 0, 2, 2, 0, 0, { { HWEMIDUK_TEXT, HWEMIDUK_NO_KEY, 0, 6, 0, 1, 0 }, { HWEMIDUK_TEXT, HWEMIDUK_INFO, 0, 1, 0, 7, 0 } } },
-        { HWEMIDUK_LABILE, 0, 0, 1, 1, 0, 0, { { HWEMIDUK_TEXT, HWEMIDUK_NO_KEY, 0, 3, 0, 8, 0 }, { 0, 0, 0, 0, 0, 0, 0 } } },
-        { HWEMIDUK_NTERM, 0, 0, 1, 1, 0, 0, { { HWEMIDUK_TEXT, HWEMIDUK_U, 0, 9, 0, 11, 0 }, { 0, 0, 0, 0, 0, 0, 0 } } },
-        { HWEMIDUK_ON_RANGE, 3, 4, 1, 2, 0, 0, { { HWEMIDUK_TEXT, HWEMIDUK_M, 0, 1, 0, 20, 0 }, { HWEMIDUK_MASS, HWEMIDUK_OBS, 2, 0, 0, 0, -2500000 } } },
-        { HWEMIDUK_ON_RESIDUE, 5, 5, 1, 1, 3, -1250000, { { HWEMIDUK_REFERENCE, HWEMIDUK_NO_KEY, 0, 0, 1, 21, 0 }, { 0, 0, 0, 0, 0, 0, 0 } } },
-        { HWEMIDUK_ON_RESIDUE, 5, 5, 1, 2, 0, 0, { { HWEMIDUK_TEXT, HWEMIDUK_NO_KEY, 0, 1, 0, 22, 0 }, { HWEMIDUK_COMPOSITION, HWEMIDUK_GLYCAN, 4, 10, 1, 23, 527184900 } } },
-        { HWEMIDUK_CTERM, 6, 6, 1, 1, 0, 0, { { HWEMIDUK_TEXT, HWEMIDUK_UNIMOD, 0, 2, 0, 34, 0 }, { 0, 0, 0, 0, 0, 0, 0 } } },
+        const char *sites; /* a terminus by its number */
+    } rows[ROWS] = {
+        { HWEMIDUK_DECLARED, 0, 0, 1, 2, 0, 0, { { HWEMIDUK_MASS, HWEMIDUK_NO_KEY, 1, 0, 0, 0, 3500000 }, { HWEMIDUK_TEXT, HWEMIDUK_NO_KEY, 0, 4, 0, 0, 0 } }, "C\1C" },
+        { HWEMIDUK_DECLARED, 0, 0, 1, 1, 0, 0, { { HWEMIDUK_TEXT, HWEMIDUK_NO_KEY, 0, 1, 0, 4, 0 }, { 0, 0, 0, 0, 0, 0, 0 } }, "\2AAAAAAAAAAAAAAZ" },
+        { HWEMIDUK_UNKNOWN, 0, 0, 1, 1, 2, 500000, { { HWEMIDUK_MASS, HWEMIDUK_NO_KEY, 0, 0, 1, 5, 1000000 }, { 0, 0, 0, 0, 0, 0, 0 } }, "" },
+        { HWEMIDUK_UNKNOWN, 0, 0, 2, 2, 0, 0, { { HWEMIDUK_TEXT, HWEMIDUK_NO_KEY, 0, 6, 0, 6, 0 }, { HWEMIDUK_TEXT, HWEMIDUK_INFO, 0, 1, 0, 12, 0 } }, "" },
+        { HWEMIDUK_LABILE, 0, 0, 1, 1, 0, 0, { { HWEMIDUK_TEXT, HWEMIDUK_NO_KEY, 0, 3, 0, 13, 0 }, { 0, 0, 0, 0, 0, 0, 0 } }, "" },
+        { HWEMIDUK_NTERM, 0, 0, 1, 1, 0, 0, { { HWEMIDUK_TEXT, HWEMIDUK_U, 0, 9, 0, 16, 0 }, { 0, 0, 0, 0, 0, 0, 0 } }, "" },
+        { HWEMIDUK_ON_RANGE, 3, 4, 1, 2, 0, 0, { { HWEMIDUK_TEXT, HWEMIDUK_M, 0, 1, 0, 25, 0 }, { HWEMIDUK_MASS, HWEMIDUK_OBS, 2, 0, 0, 0, -2500000 } }, "" },
+        { HWEMIDUK_ON_RESIDUE, 5, 5, 1, 1, 3, -1250000, { { HWEMIDUK_REFERENCE, HWEMIDUK_NO_KEY, 0, 0, 1, 26, 0 }, { 0, 0, 0, 0, 0, 0, 0 } }, "" },
+        { HWEMIDUK_ON_RESIDUE, 5, 5, 1, 2, 0, 0, { { HWEMIDUK_TEXT, HWEMIDUK_NO_KEY, 0, 1, 0, 27, 0 }, { HWEMIDUK_COMPOSITION, HWEMIDUK_GLYCAN, 4, 10, 1, 28, 527184900 } }, "" },
+        { HWEMIDUK_CTERM, 6, 6, 1, 1, 0, 0, { { HWEMIDUK_TEXT, HWEMIDUK_UNIMOD, 0, 2, 0, 39, 0 }, { 0, 0, 0, 0, 0, 0, 0 } }, "" },
     };
     static const int sections[5] = { HWEMIDUK_UNSURE_FIRST, HWEMIDUK_UNSURE_NEXT, HWEMIDUK_RANGE_FIRST, HWEMIDUK_RANGE_NEXT, HWEMIDUK_PLAIN };
     static hwemiduk_tables tables;
@@ -51,11 +55,11 @@ int main(void)
     same("answer", 0, hwemiduk_read((const uint8_t *)line, strlen(line), HWEMIDUK_OF(&tables), &place), HWEMIDUK_OK);
 
     wide(expected + HWEMIDUK_RESIDUES_AT, 5);
-    expected[HWEMIDUK_BRACKETS_USED_AT] = 8;
+    expected[HWEMIDUK_BRACKETS_USED_AT] = ROWS;
     memcpy(expected + HWEMIDUK_LETTERS_AT, "ACDEF", 5);
     for (int i = 0; i < 5; i++)
         expected[HWEMIDUK_SECTIONS_AT + i] = (uint8_t)sections[i];
-    for (int k = 0; k < 8; k++) {
+    for (int k = 0; k < ROWS; k++) {
         uint8_t *head = expected + HWEMIDUK_BRACKET_AT(k);
         head[HWEMIDUK_HEAD_KIND] = (uint8_t)rows[k].kind;
         wide(head + HWEMIDUK_HEAD_FIRST, rows[k].first);
@@ -74,6 +78,9 @@ int main(void)
             wide(part + HWEMIDUK_PART_OFFSET, rows[k].part[j].offset);
             numbers[HWEMIDUK_MASS_AT(k, j)] = rows[k].part[j].millionths;
         }
+        uint8_t *tail = expected + HWEMIDUK_PLACES_AT(k);
+        tail[HWEMIDUK_TAIL_PLACES] = (uint8_t)strlen(rows[k].sites);
+        memcpy(tail + HWEMIDUK_TAIL_SITES, rows[k].sites, strlen(rows[k].sites));
     }
     memcpy(expected + HWEMIDUK_TEXTS_AT, texts, strlen(texts));
     for (int i = 0; i < HWEMIDUK_BYTES; i++)
@@ -84,8 +91,13 @@ int main(void)
     static const uint8_t low_first[] = { 0x34, 0x92 };
     same("two bytes", 0, HWEMIDUK_WIDE_AT(low_first), 0x9234);
     same("residues", HWEMIDUK_RESIDUES_AT, HWEMIDUK_WIDE_AT(tables.bytes + HWEMIDUK_RESIDUES_AT), 5);
+    same("N-terminus", 0, HWEMIDUK_N_TERMINUS, 1);
+    same("C-terminus", 0, HWEMIDUK_C_TERMINUS, 2);
 
-    for (int answer = 1; answer <= 19; answer++)
-        printf("%d\t%s\n", answer, hwemiduk_words((uint8_t)answer));
+    /* there is no answer 20 */
+    for (int answer = 1; answer <= HWEMIDUK_DECLARED_INFO; answer++)
+        if (answer != 20)
+            printf("%d\t%s\n", answer, hwemiduk_words((uint8_t)answer));
+    same("unknown answers", 20, strcmp(hwemiduk_words(20), hwemiduk_words(255)), 0);
     return wrong;
 }

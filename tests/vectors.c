@@ -157,6 +157,43 @@ static void compositions(const uint8_t *bytes, size_t brackets)
         }
 }
 
+/*
+ * The positions that each bracket reaches, over junk, which stays behind them: those whose letter or terminus is among the places in its row, ascending. None of a bracket
+ * that is no declaration, and no bracket behind the last. Into one entry less than limits.positions, nothing is written.
+ */
+static void reached(const uint8_t *bytes, const int64_t *numbers, size_t residues, size_t brackets)
+{
+    const size_t size = limits.positions * sizeof(hwemiduk_position);
+    hwemiduk_position *positions = (hwemiduk_position *)room(size), *fewer = (hwemiduk_position *)room(size - sizeof *fewer);
+    size_t count = JUNK, declared = 0;
+    memset(fewer, JUNK, size - sizeof *fewer);
+    for (size_t k = 0; k < brackets; k++) {
+        const uint8_t *places = bytes + HWEMIDUK_PLACES_AT(k);
+        bool declares = bytes[HWEMIDUK_BRACKET_AT(k) + HWEMIDUK_HEAD_KIND] == HWEMIDUK_DECLARED;
+        size_t met = 0;
+        expect(declares == (places[HWEMIDUK_TAIL_PLACES] > 0) && (!declares || declared++ == k), "declarations have places, and come first");
+        memset(positions, JUNK, size);
+        expect(hwemiduk_reached(TABLES, k, positions, limits.positions, &count) == HWEMIDUK_OK && count <= residues + 2, "positions reached");
+        for (size_t x = 0; x < residues + 2; x++) {
+            uint8_t site = x == 0 ? HWEMIDUK_N_TERMINUS : x > residues ? HWEMIDUK_C_TERMINUS : bytes[HWEMIDUK_LETTERS_AT + x - 1];
+            if (memchr(places + HWEMIDUK_TAIL_SITES, site, places[HWEMIDUK_TAIL_PLACES]) != NULL) {
+                expect(met < count && positions[met] == x, "each position that a place names");
+                met++;
+            }
+        }
+        expect(met == count && is_junk(positions + count, size - count * sizeof *positions), "no other position, and those behind stay");
+        count = JUNK;
+        expect(hwemiduk_reached(TABLES, k, fewer, limits.positions - 1, &count) == HWEMIDUK_SHORT_AREA && count == JUNK, "one entry less is too short");
+    }
+    memset(positions, JUNK, size);
+    expect(declared <= limits.declarations, "no more declarations than there may be");
+    expect(hwemiduk_reached(TABLES, brackets, positions, limits.positions, &count) == HWEMIDUK_NO_FURTHER && count == JUNK, "no bracket behind the last");
+    expect(hwemiduk_reached(TABLES, SIZE_MAX, positions, limits.positions, &count) == HWEMIDUK_NO_FURTHER && count == JUNK, "no bracket there");
+    expect(is_junk(positions, size) && is_junk(fewer, size - sizeof *fewer), "a refusal changes no position");
+    free(fewer);
+    free(positions);
+}
+
 /* The rows; the same over junk, which stays behind them; and the first row of each floater and of two that there are not, whatever stands in the padding. */
 static void rows(const uint8_t *bytes, const int64_t *numbers, size_t floaters)
 {
@@ -232,6 +269,7 @@ static void any_content(const uint8_t *bytes, const int64_t *numbers)
     size_t count;
     double daltons;
     uint8_t of[HWEMIDUK_COPIES], copy[HWEMIDUK_COPIES];
+    hwemiduk_position positions[HWEMIDUK_POSITIONS];
     uint8_t written = hwemiduk_write(TABLES, out, limits.line, &count);
     bool none = written == HWEMIDUK_NO_TABLES;
     expect(written == HWEMIDUK_OK || none, "a line, or no tables");
@@ -247,6 +285,7 @@ static void any_content(const uint8_t *bytes, const int64_t *numbers)
     expect((hwemiduk_ledger(TABLES, placement, limits.copies, entries, limits.positions, &count) == HWEMIDUK_NO_TABLES) == none, "a ledger of tables");
     expect((hwemiduk_next(TABLES, &listing) == HWEMIDUK_NO_TABLES) == none, "a listing of tables");
     expect((hwemiduk_rows(TABLES, row, limits.rows, &count) == HWEMIDUK_NO_TABLES) == none, "rows of tables");
+    expect((hwemiduk_reached(TABLES, 0, positions, limits.positions, &count) == HWEMIDUK_NO_TABLES) == none, "positions reached of tables");
     free(entries);
     free(placement);
     free(out);
@@ -292,6 +331,7 @@ static void accepted(uint8_t *bytes, int64_t *numbers)
     put("\n");
     brackets_and_floaters(bytes, numbers, brackets, floaters);
     compositions(bytes, brackets);
+    reached(bytes, numbers, residues, brackets);
     rows(bytes, numbers, floaters);
     placements(bytes, numbers, has_total);
     changed(bytes, numbers);
@@ -327,6 +367,7 @@ static void short_areas(size_t bytes_len, size_t numbers_len, size_t copies, siz
     hwemiduk_position *placement = (hwemiduk_position *)room(copies * sizeof *placement), position = JUNK;
     int64_t *numbers = (int64_t *)room(numbers_len * sizeof *numbers), *entries = (int64_t *)room(positions * sizeof *entries), total = JUNK;
     hwemiduk_site *row = (hwemiduk_site *)room(rows_len * sizeof *row);
+    hwemiduk_position *at = (hwemiduk_position *)room(positions * sizeof *at);
     hwemiduk_listing listing = HWEMIDUK_LISTING;
     size_t count = JUNK, place;
     double daltons = JUNK;
@@ -336,6 +377,7 @@ static void short_areas(size_t bytes_len, size_t numbers_len, size_t copies, siz
     memset(copy, JUNK, sizeof copy);
     memset(entries, JUNK, positions * sizeof *entries);
     memset(row, JUNK, rows_len * sizeof *row);
+    memset(at, JUNK, positions * sizeof *at);
 #define SHORT bytes, bytes_len, numbers, numbers_len
 #define THIRTEEN(when, call) expect(!(when) || (call) == HWEMIDUK_SHORT_AREA, #call)
     THIRTEEN(tables, hwemiduk_read(&line, 1, SHORT, &place));
@@ -352,10 +394,12 @@ static void short_areas(size_t bytes_len, size_t numbers_len, size_t copies, siz
     THIRTEEN(tables || copies < limits.copies, hwemiduk_allowed(SHORT, placement, copies));
     THIRTEEN(tables || copies < limits.copies || positions < limits.positions, hwemiduk_ledger(SHORT, placement, copies, entries, positions, &place));
     THIRTEEN(tables || rows_len < limits.rows, hwemiduk_rows(SHORT, row, rows_len, &count));
+    THIRTEEN(tables || positions < limits.positions, hwemiduk_reached(SHORT, 0, at, positions, &count));
     THIRTEEN(rows_len < limits.rows, hwemiduk_first_row(row, rows_len, rows_len, 1, &count, &position));
     expect(is_junk(entries, positions * sizeof *entries) && is_junk(row, rows_len * sizeof *row), "13 changes nothing");
-    expect(is_junk(of, sizeof of) && is_junk(copy, sizeof copy), "13 changes no entry");
+    expect(is_junk(of, sizeof of) && is_junk(copy, sizeof copy) && is_junk(at, positions * sizeof *at), "13 changes no entry");
     expect(count == JUNK && total == JUNK && daltons == JUNK && position == JUNK && out == JUNK, "13 sets nothing");
+    free(at);
     free(row);
     free(entries);
     free(numbers);

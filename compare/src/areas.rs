@@ -4,11 +4,12 @@
 //! The bytes area, in order:
 //! - the number of residues and the number of brackets;
 //! - 254 letters in upper case, then 254 sections;
-//! - 64 rows of 36 bytes, one for each bracket: kind, first position, last
+//! - 64 rows of 53 bytes, one for each bracket: kind, first position, last
 //!   position, count, number of parts, score (0 none, else 1 + its decimals);
 //!   then for each of four parts: kind, key, decimals, length of its text,
 //!   length of its label, and the offset of its text, which its label directly
-//!   follows;
+//!   follows; then the number of places, and 16 places, each a letter, 1 for
+//!   the N-terminus or 2 for the C-terminus;
 //! - 4,096 bytes of texts.
 //!
 //! The number of residues, positions and offsets take two bytes, low byte
@@ -19,7 +20,7 @@
 
 use crate::canonical::canonical;
 use crate::line::{
-    Bracket, Composition, Content, Key, Kind, Label, Line, Number, Part, Residue, Section,
+    Bracket, Composition, Content, Key, Kind, Label, Line, Number, Part, Residue, Section, Site,
 };
 use crate::reader::read;
 
@@ -33,8 +34,10 @@ pub const SECTIONS: usize = LETTERS + Line::MOST_RESIDUES;
 pub const ROWS: usize = SECTIONS + Line::MOST_RESIDUES;
 const ROW_HEAD: usize = 8;
 const PART: usize = 7;
+/// Where a row's number of places stands, with the places behind it.
+pub const ROW_PLACES: usize = ROW_HEAD + Bracket::MOST_PARTS * PART;
 /// The bytes of a bracket's row.
-pub const ROW: usize = ROW_HEAD + Bracket::MOST_PARTS * PART;
+pub const ROW: usize = ROW_PLACES + 1 + Bracket::MOST_PLACES;
 /// Where the texts begin.
 pub const TEXTS: usize = ROWS + Line::MOST_BRACKETS * ROW;
 const NUMBER_ROW: usize = Bracket::MOST_PARTS + 1;
@@ -99,7 +102,8 @@ fn encode_bracket(
     number_row: &mut [i64],
     packer: &mut Packer,
 ) {
-    let (head, part_rows) = row.split_at_mut(ROW_HEAD);
+    let (head, behind) = row.split_at_mut(ROW_HEAD);
+    let (part_rows, places) = behind.split_at_mut(ROW_PLACES - ROW_HEAD);
     let score = line.label_of(bracket).and_then(|label| label.score);
     let [first_low, first_high] = two_bytes(bracket.first);
     let [last_low, last_high] = two_bytes(bracket.last);
@@ -122,6 +126,10 @@ fn encode_bracket(
             Content::Text(_) | Content::Reference => {}
         }
         encode_part(part, row, packer);
+    }
+    places[0] = bracket.place_count as u8;
+    for (site, byte) in line.places_of(bracket).iter().zip(&mut places[1..]) {
+        *byte = site.to_byte();
     }
 }
 
@@ -193,7 +201,8 @@ fn decode_bracket<'a>(
     texts: &'a [u8],
     line: &mut Line<'a>,
 ) -> Option<()> {
-    let (head, part_rows) = row.split_at(ROW_HEAD);
+    let (head, behind) = row.split_at(ROW_HEAD);
+    let (part_rows, places) = behind.split_at(ROW_PLACES - ROW_HEAD);
     let part_count = usize::from(head[6]);
     if !(1..=Bracket::MOST_PARTS).contains(&part_count) {
         return None;
@@ -211,6 +220,11 @@ fn decode_bracket<'a>(
         let labels = line.parts[first_part..].iter_mut();
         labels.filter_map(|part| part.label.as_mut()).next()?.score = Some(score);
     }
+    let place_count = usize::from(places[0]);
+    let first_place = line.places.len();
+    for &byte in places[1..].get(..place_count)? {
+        line.places.push(Site::from_byte(byte)?);
+    }
     line.brackets.push(Bracket {
         kind: Kind::from_byte(head[0])?,
         first: wide(head, 1),
@@ -218,6 +232,8 @@ fn decode_bracket<'a>(
         count: head[5],
         first_part,
         part_count,
+        first_place,
+        place_count,
     });
     Some(())
 }

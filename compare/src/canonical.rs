@@ -2,7 +2,7 @@
 //! always signed, scores signed only when negative, decimals as many as
 //! written".
 
-use crate::line::{Bracket, Content, Kind, Label, Line, Number, Part, Section};
+use crate::line::{Bracket, Content, Kind, Label, Line, Number, Part, Section, Site};
 
 /// The canonical line of an accepted line.
 pub fn canonical(line: &Line) -> Vec<u8> {
@@ -30,6 +30,7 @@ struct Writer<'w> {
 
 impl Writer<'_> {
     fn line(&mut self) {
+        self.declarations();
         if self.brackets(Kind::Unknown, 0) {
             self.out.push(b'?');
         }
@@ -42,6 +43,27 @@ impl Writer<'_> {
         if self.next(Kind::CTerminal, c_terminus).is_some() {
             self.out.push(b'-');
             self.brackets(Kind::CTerminal, c_terminus);
+        }
+    }
+
+    /// Each `<[mod]@K,N-term>`.
+    fn declarations(&mut self) {
+        while let Some(&bracket) = self.next(Kind::Declared, 0) {
+            self.out.push(b'<');
+            self.bracket(&bracket);
+            self.out.push(b'@');
+            for (index, &site) in self.line.places_of(&bracket).iter().enumerate() {
+                if index > 0 {
+                    self.out.push(b',');
+                }
+                match site {
+                    Site::Letter(letter) => self.out.push(letter),
+                    Site::NTerminus => self.out.extend_from_slice(b"N-term"),
+                    Site::CTerminus => self.out.extend_from_slice(b"C-term"),
+                }
+            }
+            self.out.push(b'>');
+            self.written += 1;
         }
     }
 

@@ -3,7 +3,7 @@
 use crate::generate::Random;
 
 /// A line with floating copies of every sort: unknown ones with counts, ones on ranges, labels that are defined anywhere and referred to on
-/// residues and termini; and placed modifications, which strike positions out, and INFO, which does not.
+/// residues and termini; and placed modifications and declared ones, which strike positions out, and INFO, which does not.
 pub fn crowded(random: &mut Random, most_residues: usize) -> Vec<u8> {
     let n = random.between(1, most_residues);
     let mut front = String::new();
@@ -53,7 +53,14 @@ pub fn crowded(random: &mut Random, most_residues: usize) -> Vec<u8> {
             *one += "[INFO:x]";
         }
     }
-    let mut line = front.clone();
+    let letters: Vec<char> = (0..n).map(|_| (b'A' + random.below(26) as u8) as char).collect();
+    let mut line = String::new();
+    while random.chance(12) {
+        let declared = bracket(random, "");
+        let letter = letters[random.below(n)];
+        line += &format!("<{declared}@{letter}{}>", random.pick(&["", "", ",N-term", ",c-term", ",K"]));
+    }
+    line += &front;
     if !front.is_empty() {
         line.push('?');
     }
@@ -68,7 +75,7 @@ pub fn crowded(random: &mut Random, most_residues: usize) -> Vec<u8> {
         if ranges.iter().any(|range| range.0 == residue) {
             line.push('(');
         }
-        line.push((b'A' + random.below(26) as u8) as char);
+        line.push(letters[residue - 1]);
         line += &at[residue];
         if ranges.iter().any(|range| range.1 == residue) {
             line.push(')');
@@ -107,6 +114,9 @@ pub fn adversarial() -> Vec<String> {
         format!("[+1]^7?{}(A)[+2]", free(253)),
         // eight anywhere
         format!("[+1]^8?{}", free(254)),
+        // eight anywhere, but for one residue that is declared; eight on nine, of which two are
+        format!("<[+2]@C>[+1]^8?{}C", free(253)),
+        "<[+2]@C>[+1]^8?AAAACAAAC".to_owned(),
         // eight on eight, and one position of nine struck out
         "[+1]^8?AAAAAAAA".to_owned(),
         "[+1]^8?AAAA[+5]AAAAA".to_owned(),

@@ -1,6 +1,6 @@
 //! Lines to compare on: deterministic, pseudo-random, of all kinds and sizes,
-//! near every limit and over it, and spoilt in every way that document 01
-//! gives a number to. No line holds a byte 10, so that lines can be put in a
+//! near every limit and over it, and spoilt in every way that documents 01 and
+//! 02 give a number to. No line holds a byte 10, so that lines can be put in a
 //! file.
 
 use crate::glycans::SUGARS;
@@ -66,6 +66,13 @@ struct Unknown {
     count: Option<Vec<u8>>,
 }
 
+/// A declaration: what stands in its bracket, and its places as they are
+/// written.
+struct Declaration {
+    inside: Inside,
+    places: Vec<Vec<u8>>,
+}
+
 struct DraftResidue {
     letter: u8,
     brackets: Vec<Inside>,
@@ -87,6 +94,7 @@ struct Piece {
 
 /// A line before it is written down.
 struct Draft {
+    declared: Vec<Declaration>,
     unknown: Vec<Unknown>,
     labile: Vec<Inside>,
     n_terminal: Vec<Inside>,
@@ -142,9 +150,20 @@ impl Draft {
         self.unknown.push(Unknown { inside, count });
     }
 
+    /// The letter of the residue with this index.
+    fn letter(&self, index: usize) -> u8 {
+        let mut residues = self.pieces.iter().flat_map(|piece| &piece.residues);
+        residues.nth(index).expect("a residue of the draft").letter
+    }
+
     /// Writes the line, its unknown runs split here and there.
     fn write(&self, random: &mut Random) -> Vec<u8> {
         let mut out = Vec::new();
+        for one in &self.declared {
+            out.push(b'<');
+            write_enclosed(b'[', &one.inside, b']', &mut out);
+            write_enclosed(b'@', &one.places.join(&b','), b'>', &mut out);
+        }
         self.write_unknown(random, &mut out);
         for inside in &self.labile {
             write_enclosed(b'{', inside, b'}', &mut out);
@@ -300,7 +319,12 @@ const NO_COMPOSITIONS: [&str; 9] = [
 const TELLING_IN_COMPOSITIONS: &[u8] = b"0129 SsNnAaEeXxHhPp,+-.()";
 
 /// Bytes that mean something somewhere in a line.
-const TELLING_BYTES: &[u8] = b"[]{}()|#^?-+.:AaUx012 ,";
+const TELLING_BYTES: &[u8] = b"[]{}()|#^?-+.:AaUx012 ,<>@";
+
+/// Places that are none.
+const NO_PLACES: [&str; 14] = [
+    "", " ", "KR", "N-te", "N-", "Nterm", "N-term:Q", "K-term", "C_term", "1", "[K]", "N-termC", "-term", "K ",
+];
 
 /// The lines.
 pub struct Generator {
@@ -337,6 +361,7 @@ impl Generator {
             20..=31 => self.line_near_limit(),
             32..=58 => self.spoilt(),
             59..=66 => self.crowded(),
+            67..=72 => self.declared(),
             _ => self.sound(),
         }
     }
@@ -368,9 +393,38 @@ impl Generator {
         let mut draft = self.bare_draft(residues);
         self.add_range_brackets(&mut draft);
         self.add_labels(&mut draft);
+        if self.random.chance(12) {
+            for _ in 0..self.few().min(draft.brackets_left) {
+                let places = self.random.between(1, 4);
+                self.add_declaration(&mut draft, places);
+            }
+        }
         self.add_front(&mut draft);
         self.add_residue_brackets(&mut draft);
         draft
+    }
+
+    /// A declaration with so many places.
+    fn add_declaration(&mut self, draft: &mut Draft, places: usize) {
+        let inside = self.modification();
+        let places = self.places(draft, places);
+        draft.declared.push(Declaration { inside, places });
+        draft.brackets_left = draft.brackets_left.saturating_sub(1);
+    }
+
+    /// So many places in some case or other; most letters are of the draft's.
+    fn places(&mut self, draft: &Draft, count: usize) -> Vec<Vec<u8>> {
+        let mut places = Vec::new();
+        for _ in 0..count {
+            places.push(match self.random.below(10) {
+                0 => self.cased("N-term"),
+                1 => self.cased("C-term"),
+                2 => vec![b'A' + self.random.below(26) as u8],
+                3 => self.random.pick(&["N", "C", "n", "c"]).into(),
+                _ => vec![draft.letter(self.random.below(draft.residue_count()))],
+            });
+        }
+        places
     }
 
     /// A draft with nothing but its sequence.
@@ -393,6 +447,7 @@ impl Generator {
             left -= length;
         }
         Draft {
+            declared: Vec::new(),
             unknown: Vec::new(),
             labile: Vec::new(),
             n_terminal: Vec::new(),
@@ -539,6 +594,38 @@ impl Generator {
         let count = self.few();
         let parts: Vec<Inside> = (0..count).map(|_| self.information_part()).collect();
         parts.join(&b'|')
+    }
+
+    // Lines with declarations
+
+    /// A short line with 0 to 10 declarations, each of 1 to 20 places; now and
+    /// then one has only INFO.
+    pub fn declared(&mut self) -> Vec<u8> {
+        let residues = self.random.between(1, 12);
+        let mut draft = self.bare_draft(residues);
+        self.add_range_brackets(&mut draft);
+        self.add_labels(&mut draft);
+        let declarations = match self.random.below(10) {
+            0 => self.random.between(9, 10),
+            1..=3 => self.random.between(5, 8),
+            _ => self.random.between(0, 4),
+        };
+        for _ in 0..declarations {
+            let places = match self.random.below(60) {
+                0 => self.random.between(17, 20),
+                1..=10 => self.random.between(5, 16),
+                _ => self.random.between(1, 4),
+            };
+            self.add_declaration(&mut draft, places);
+        }
+        if let Some(last) = draft.declared.last_mut() {
+            if self.random.chance(5) {
+                last.inside = self.information();
+            }
+        }
+        self.add_front(&mut draft);
+        self.add_residue_brackets(&mut draft);
+        draft.write(&mut self.random)
     }
 
     /// A bracket with a labelled part, perhaps among others.
@@ -804,7 +891,7 @@ impl Generator {
     // Faults
 
     fn spoil(&mut self, draft: &mut Draft) {
-        match self.random.below(22) {
+        match self.random.below(26) {
             0 => self.spoil_depth(draft),
             1..=2 => self.spoil_limits(draft),
             3..=4 => self.spoil_numbers(draft),
@@ -813,6 +900,7 @@ impl Generator {
             10..=11 => self.spoil_with_information(draft),
             12..=16 => self.spoil_labels(draft),
             17..=18 => self.spoil_floaters(draft),
+            19..=22 => self.spoil_declarations(draft),
             _ => self.spoil_composition(draft),
         }
     }
@@ -826,6 +914,11 @@ impl Generator {
                 Some(range) => range.brackets.push(inside),
                 None => draft.c_terminal.push(inside),
             },
+            3 if !inside.contains(&b'#') => {
+                let count = self.random.between(1, 3);
+                let places = self.places(draft, count);
+                draft.declared.push(Declaration { inside, places });
+            }
             _ => draft.single_position(&mut self.random).push(inside),
         }
     }
@@ -1052,6 +1145,38 @@ impl Generator {
         }
     }
 
+    /// Refusal 21; 6 for a ninth declaration and a seventeenth place; 4 for
+    /// labels, counts and what is no place.
+    fn spoil_declarations(&mut self, draft: &mut Draft) {
+        let count = self.random.between(1, 3);
+        let mut one = Declaration {
+            inside: self.modification(),
+            places: self.places(draft, count),
+        };
+        match self.random.below(8) {
+            0 => {
+                let count = self.random.between(17, 20);
+                one.places = self.places(draft, count);
+            }
+            1 => {
+                for _ in draft.declared.len()..self.random.between(8, 9) {
+                    self.add_declaration(draft, 1);
+                }
+            }
+            2 => {
+                let name = self.random.pick(&LABELS);
+                one.inside.extend(self.label(name));
+            }
+            3 => {
+                let index = self.random.below(one.places.len());
+                one.places[index] = self.random.pick(&NO_PLACES).into();
+            }
+            _ => one.inside = self.information(),
+        }
+        let index = self.random.below(draft.declared.len() + 1);
+        draft.declared.insert(index, one);
+    }
+
     /// Refusal 19.
     fn spoil_composition(&mut self, draft: &mut Draft) {
         let mut inside = self.cased("Glycan:");
@@ -1086,7 +1211,7 @@ impl Generator {
             0 => self.draft(),
             _ => self.bare_draft_without_groups(3),
         };
-        match self.random.below(12) {
+        match self.random.below(14) {
             0 => {
                 let residues = self.random.between(252, 257);
                 draft = self.bare_draft_without_groups(residues);
@@ -1126,6 +1251,15 @@ impl Generator {
                 inside.extend(self.composition_of_length(length));
                 self.put(&mut draft, inside);
             }
+            9 => {
+                for _ in draft.declared.len()..self.random.between(7, 10) {
+                    self.add_declaration(&mut draft, 2);
+                }
+            }
+            10 => {
+                let places = self.random.between(15, 18);
+                self.add_declaration(&mut draft, places);
+            }
             _ => {
                 let numbers = if self.random.chance(50) {
                     NUMBERS_IN_RANGE
@@ -1160,6 +1294,8 @@ impl Generator {
             if self.random.chance(10) {
                 let labile = self.modification();
                 draft.labile.push(labile);
+            } else if draft.declared.len() < 8 && self.random.chance(5) {
+                self.add_declaration(&mut draft, 1);
             } else {
                 draft.single_position(&mut self.random).push(inside);
             }
@@ -1244,6 +1380,10 @@ impl Generator {
             let inside = self.modification();
             draft.single_position(&mut self.random).push(inside);
         }
+        if self.random.chance(20) {
+            let places = self.random.between(1, 2);
+            self.add_declaration(&mut draft, places);
+        }
         draft.write(&mut self.random)
     }
 
@@ -1270,9 +1410,10 @@ impl Generator {
     /// A sound or spoilt line with bytes changed, inserted, removed, cut off
     /// or spliced.
     fn mutated(&mut self) -> Vec<u8> {
-        let mut line = match self.random.below(4) {
+        let mut line = match self.random.below(5) {
             0 => self.spoilt(),
             1 => self.crowded(),
+            2 => self.declared(),
             _ => self.sound(),
         };
         for _ in 0..self.few() {

@@ -25,6 +25,8 @@ pub struct Line<'a> {
     pub brackets: Vec<Bracket>,
     /// The parts of all brackets, in order of appearance.
     pub parts: Vec<Part<'a>>,
+    /// The places of all declarations, in order of appearance.
+    pub places: Vec<Site>,
 }
 
 impl<'a> Line<'a> {
@@ -36,10 +38,30 @@ impl<'a> Line<'a> {
     pub const MOST_BRACKETS: usize = 64;
     /// "floating copies 8"
     pub const MOST_FLOATERS: usize = 8;
+    /// "up to eight declarations"
+    pub const MOST_DECLARATIONS: usize = 8;
 
     /// The parts of one of this line's brackets.
     pub fn parts_of(&self, bracket: &Bracket) -> &[Part<'a>] {
         &self.parts[bracket.first_part..][..bracket.part_count]
+    }
+
+    /// The places of one of this line's brackets, which only a declaration
+    /// has.
+    pub fn places_of(&self, bracket: &Bracket) -> &[Site] {
+        &self.places[bracket.first_place..][..bracket.place_count]
+    }
+
+    /// What stands at a position, as a declaration names it.
+    pub fn site_at(&self, position: usize) -> Option<Site> {
+        match position.checked_sub(1) {
+            None => Some(Site::NTerminus),
+            Some(index) if index == self.residues.len() => Some(Site::CTerminus),
+            Some(index) => self
+                .residues
+                .get(index)
+                .map(|residue| Site::Letter(residue.letter)),
+        }
     }
 
     /// The C-terminus: "n+1 the C-terminus".
@@ -152,6 +174,9 @@ pub struct Bracket {
     /// Where its parts begin among the parts of the line.
     pub first_part: usize,
     pub part_count: usize,
+    /// Where its places begin among the places of the line.
+    pub first_place: usize,
+    pub place_count: usize,
 }
 
 impl Bracket {
@@ -160,6 +185,35 @@ impl Bracket {
     /// "count 1 to 99"
     pub const LEAST_COUNT: u64 = 1;
     pub const MOST_COUNT: u64 = 99;
+    /// Of a declaration: "up to 16 places"
+    pub const MOST_PLACES: usize = 16;
+}
+
+/// "a place being a letter, `N-term` or `C-term`"; a letter is in upper case.
+#[derive(Clone, Copy, Debug, PartialEq, Eq)]
+pub enum Site {
+    Letter(u8),
+    NTerminus,
+    CTerminus,
+}
+
+impl Site {
+    pub fn from_byte(byte: u8) -> Option<Self> {
+        Some(match byte {
+            1 => Self::NTerminus,
+            2 => Self::CTerminus,
+            b'A'..=b'Z' => Self::Letter(byte),
+            _ => return None,
+        })
+    }
+
+    pub fn to_byte(self) -> u8 {
+        match self {
+            Self::NTerminus => 1,
+            Self::CTerminus => 2,
+            Self::Letter(letter) => letter,
+        }
+    }
 }
 
 #[derive(Clone, Copy, Debug, PartialEq, Eq)]
@@ -171,6 +225,8 @@ pub enum Kind {
     Residue = 4,
     Range = 5,
     CTerminal = 6,
+    /// The bracket of a declaration.
+    Declared = 7,
 }
 
 impl Kind {
@@ -182,6 +238,7 @@ impl Kind {
             4 => Self::Residue,
             5 => Self::Range,
             6 => Self::CTerminal,
+            7 => Self::Declared,
             _ => return None,
         })
     }

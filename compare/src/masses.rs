@@ -2,8 +2,8 @@
 //! total for display. All masses are in millionths.
 
 use crate::areas::{tables_of_some_line, BYTES_SIZE, NUMBERS_SIZE};
-use crate::line::{Content, Key, Line, Number, Part, Refusal};
-use crate::positions::{floaters, is_allowed, Placement};
+use crate::line::{Bracket, Content, Key, Kind, Line, Number, Part, Refusal};
+use crate::positions::{floaters, is_allowed, placed_on, Placement};
 use crate::reader::read;
 
 /// "A bracket's mass is its first mass without `Obs`, else its first `Obs`
@@ -18,6 +18,15 @@ pub fn bracket_mass(parts: &[Part]) -> Option<i64> {
         })
     };
     mass_where(false).or_else(|| mass_where(true))
+}
+
+/// How often a modification counts: as its count says; of a declaration, "one
+/// for each position reached".
+fn times(line: &Line, bracket: &Bracket) -> usize {
+    match bracket.kind {
+        Kind::Declared => placed_on(line, bracket).len(),
+        _ => usize::from(bracket.count),
+    }
 }
 
 /// How many modifications lack a mass, "each copy counted".
@@ -48,8 +57,8 @@ fn sum(line: &Line) -> Sum {
     let modifications = line.brackets.iter().filter(|one| line.is_modification(one));
     for bracket in modifications {
         match bracket_mass(line.parts_of(bracket)) {
-            Some(mass) => sum.total += mass * i64::from(bracket.count),
-            None => sum.missing += usize::from(bracket.count),
+            Some(mass) => sum.total += mass * times(line, bracket) as i64,
+            None => sum.missing += times(line, bracket),
         }
     }
     sum
@@ -69,8 +78,8 @@ pub fn ledger(line: &Line, placement: &Placement) -> Result<Ledger, Refusal> {
     let mass_of = |index: usize| bracket_mass(line.parts_of(&line.brackets[index])).unwrap_or(0);
     let mut ledger = [0; 256];
     for (index, bracket) in line.brackets.iter().enumerate() {
-        if line.is_placed(bracket) {
-            ledger[bracket.first] += mass_of(index);
+        for position in placed_on(line, bracket).iter() {
+            ledger[usize::from(position)] += mass_of(index);
         }
     }
     for (floater, &position) in floaters.iter().zip(placement) {

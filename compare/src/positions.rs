@@ -118,11 +118,27 @@ pub fn floaters(line: &Line) -> Vec<Floater> {
 
 /// "A position with a placed modification is struck out".
 fn struck_out(line: &Line) -> Positions {
-    let mut struck_out = Positions::EMPTY;
-    for bracket in line.brackets.iter().filter(|one| line.is_placed(one)) {
-        struck_out.insert(bracket.first as Position);
+    let each = line.brackets.iter().map(|bracket| placed_on(line, bracket));
+    each.fold(Positions::EMPTY, Positions::union)
+}
+
+/// The positions where a bracket's modification is placed: its residue or
+/// terminus; of a declaration, "each matching position receives the
+/// modification as a placed one", once, however often it is named.
+pub fn placed_on(line: &Line, bracket: &Bracket) -> Positions {
+    let mut placed_on = Positions::EMPTY;
+    if line.is_placed(bracket) {
+        placed_on.insert(bracket.first as Position);
     }
-    struck_out
+    if bracket.kind == Kind::Declared && line.is_modification(bracket) {
+        let named = line.places_of(bracket);
+        for position in 0..=line.c_terminus() {
+            if line.site_at(position).is_some_and(|site| named.contains(&site)) {
+                placed_on.insert(position as Position);
+            }
+        }
+    }
+    placed_on
 }
 
 /// "Permitted positions: residues 1 to n for an unlabelled unknown one; the

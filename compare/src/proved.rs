@@ -95,6 +95,11 @@ pub fn composition(text: &[u8], pieces: &mut [u8]) -> Result<usize, Refusal> {
     written(outs::composition(text, pieces))
 }
 
+/// The positions that a bracket reaches as a declaration, into a slice: how many.
+pub fn reached(bytes: &[u8], numbers: &[i64], bracket: usize, positions: &mut [Position]) -> Result<usize, Refusal> {
+    count(outs::reached(bytes, numbers, bracket, positions))
+}
+
 /// The total in millionths.
 pub fn total(bytes: &[u8], numbers: &[i64]) -> Result<i64, Refusal> {
     let (number, millionths, place) = outs::total(bytes, numbers);

@@ -1,15 +1,16 @@
 //! The reader: "Reading tries 13, then 1 to 12 in that order; the lowest
 //! number wins, at its first place in the line." (13 is for lent areas, and
-//! this reader has none.) 19 and 20 come "both after 12" (document 02, L1).
+//! this reader has none.) 21 comes "after 10" (document 02, L2), and so before
+//! 11; 19 and 20 come "both after 12" (L1).
 //!
-//! One pass settles refusal 4 and notes the first places of 5 to 10; only a
-//! line that has none of them is asked about its labels (11, which the pass
-//! has noted for counts only), then about its floating copies (12), and then
-//! about its compositions (19, 20).
+//! One pass settles refusal 4 and notes the first places of 5 to 10 and of 21;
+//! only a line that has none of them is asked about its labels (11, which the
+//! pass has noted for counts only), then about its floating copies (12), and
+//! then about its compositions (19, 20).
 
 use crate::glycans::{cut, mass, spelled, Cutting};
 use crate::line::{
-    Bracket, Composition, Content, Key, Kind, Label, Line, Number, Part, Residue, Section,
+    Bracket, Composition, Content, Key, Kind, Label, Line, Number, Part, Residue, Section, Site,
 };
 
 pub use crate::line::Refusal;
@@ -19,7 +20,7 @@ pub fn read(line: &[u8]) -> Result<Line<'_>, Refusal> {
     check_bytes(line)?;
     let mut scanner = Scanner::new(line);
     scanner.line()?;
-    scanner.faults.refuse_first(10)?;
+    scanner.faults.refuse_first(21)?;
     scanner.check_labels();
     scanner.faults.refuse_first(11)?;
     scanner.check_floaters()?;
@@ -47,33 +48,39 @@ fn check_bytes(line: &[u8]) -> Result<(), Refusal> {
     }
 }
 
-/// The first places of refusals 5 to 11.
+/// The first places of refusals 5 to 11 and of 21.
 struct Faults {
-    places: [usize; Self::COUNT],
+    places: [usize; Self::ORDER.len()],
 }
 
 impl Faults {
-    const LOWEST: u8 = 5;
-    const COUNT: usize = 7;
+    /// The order of trying: 21 stands "after 10".
+    const ORDER: [u8; 8] = [5, 6, 7, 8, 9, 10, 21, 11];
     const NOWHERE: usize = usize::MAX;
 
     fn none() -> Self {
         Self {
-            places: [Self::NOWHERE; Self::COUNT],
+            places: [Self::NOWHERE; Self::ORDER.len()],
         }
     }
 
     fn note(&mut self, number: u8, place: usize) {
-        let first = &mut self.places[usize::from(number - Self::LOWEST)];
-        *first = place.min(*first);
+        for (one, first) in Self::ORDER.into_iter().zip(&mut self.places) {
+            if one == number {
+                *first = place.min(*first);
+            }
+        }
     }
 
-    /// "the lowest number wins, at its first place in the line"; numbers above
-    /// `highest` are not settled yet.
-    fn refuse_first(&self, highest: u8) -> Result<(), Refusal> {
-        for (number, &place) in (Self::LOWEST..=highest).zip(&self.places) {
+    /// The number that is tried first wins, "at its first place in the line";
+    /// those that are tried after `last` are not settled yet.
+    fn refuse_first(&self, last: u8) -> Result<(), Refusal> {
+        for (number, &place) in Self::ORDER.into_iter().zip(&self.places) {
             if place != Self::NOWHERE {
                 return Err(Refusal::new(number, place));
+            }
+            if number == last {
+                break;
             }
         }
         Ok(())
@@ -195,6 +202,12 @@ impl Inside {
         references: false,
         labels: false,
     };
+    /// Of declarations: "Their brackets carry no label".
+    const DECLARED: Self = Self {
+        references: false,
+        labels: false,
+        ..Self::SQUARE
+    };
 }
 
 struct Scanner<'a> {
@@ -268,9 +281,11 @@ impl<'a> Scanner<'a> {
         Ok(&rest[..length])
     }
 
-    /// "runs of unknown-position brackets [..]; labile `{..}`; N-terminal
-    /// brackets and `-`; the sequence; `-` and C-terminal brackets."
+    /// Declarations "at the front"; "runs of unknown-position brackets [..];
+    /// labile `{..}`; N-terminal brackets and `-`; the sequence; `-` and
+    /// C-terminal brackets."
     fn line(&mut self) -> Result<(), Refusal> {
+        self.declarations()?;
         self.front()?;
         self.sequence()?;
         self.c_terminus()?;
@@ -279,6 +294,72 @@ impl<'a> Scanner<'a> {
         } else {
             Err(self.not_of_the_order())
         }
+    }
+
+    /// "`<[mod]@K,N-term>` at the front, up to eight declarations"; "a ninth
+    /// declaration [..] is 6, there".
+    fn declarations(&mut self) -> Result<(), Refusal> {
+        let mut count = 0;
+        while self.sees(b'<') {
+            if count == Line::MOST_DECLARATIONS {
+                self.faults.note(6, self.at);
+            }
+            count += 1;
+            self.at += 1;
+            if !self.sees(b'[') {
+                return Err(self.not_of_the_order());
+            }
+            self.bracket(Kind::Declared, 0, 0, Inside::DECLARED)?;
+            self.expect(b'@')?;
+            self.places()?;
+            self.expect(b'>')?;
+        }
+        Ok(())
+    }
+
+    /// The places of the declaration whose bracket was read last: "a
+    /// seventeenth place is 6, there".
+    fn places(&mut self) -> Result<(), Refusal> {
+        let mut count = 0;
+        loop {
+            if count == Bracket::MOST_PLACES {
+                self.faults.note(6, self.at);
+            }
+            let site = self.site()?;
+            self.read.places.push(site);
+            count += 1;
+            if !self.take(b',') {
+                break;
+            }
+        }
+        if let Some(bracket) = self.read.brackets.last_mut() {
+            bracket.place_count = count;
+        }
+        Ok(())
+    }
+
+    /// "a letter, `N-term` or `C-term`", in either case.
+    fn site(&mut self) -> Result<Site, Refusal> {
+        let letter = match self.peek() {
+            Some(byte) if byte.is_ascii_alphabetic() => byte.to_ascii_uppercase(),
+            _ => return Err(self.not_of_the_order()),
+        };
+        self.at += 1;
+        let terminus = match letter {
+            b'N' => Site::NTerminus,
+            b'C' => Site::CTerminus,
+            _ => return Ok(Site::Letter(letter)),
+        };
+        if !self.take(b'-') {
+            return Ok(Site::Letter(letter));
+        }
+        for byte in *b"term" {
+            match self.peek() {
+                Some(given) if given.eq_ignore_ascii_case(&byte) => self.at += 1,
+                _ => return Err(self.not_of_the_order()),
+            }
+        }
+        Ok(terminus)
     }
 
     fn front(&mut self) -> Result<(), Refusal> {
@@ -341,7 +422,7 @@ impl<'a> Scanner<'a> {
     fn settle_unknown_run(&mut self, first: usize) {
         for index in first..self.read.brackets.len() {
             self.read.brackets[index].kind = Kind::Unknown;
-            self.check_information(index);
+            self.check_information(10, index);
         }
     }
 
@@ -472,9 +553,13 @@ impl<'a> Scanner<'a> {
             count: 1,
             first_part,
             part_count: self.read.parts.len() - first_part,
+            first_place: self.read.places.len(),
+            place_count: 0,
         });
-        if kind == Kind::Labile {
-            self.check_information(index);
+        match kind {
+            Kind::Labile => self.check_information(10, index),
+            Kind::Declared => self.check_information(21, index),
+            _ => {}
         }
         Ok(())
     }
@@ -483,10 +568,11 @@ impl<'a> Scanner<'a> {
         self.faults.note(number, self.bracket_places[index]);
     }
 
-    /// Refusal 10: "only INFO in an unknown or labile bracket".
-    fn check_information(&mut self, index: usize) {
+    /// Refusal 10: "only INFO in an unknown or labile bracket"; 21: "only INFO
+    /// in a declaration".
+    fn check_information(&mut self, number: u8, index: usize) {
         if self.read.is_only_information(&self.read.brackets[index]) {
-            self.note_at_bracket(10, index);
+            self.note_at_bracket(number, index);
         }
     }
 

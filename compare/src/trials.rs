@@ -3,8 +3,8 @@
 //! from document 01), the sequences of source document 001
 //! (vectors/sequences.txt, outcomes by the reader of this package), the
 //! vectors (vectors/lines.in, outcomes as they stand in lines.out), and lines
-//! with compositions (vectors/compositions.txt, outcomes written from document
-//! 02, L1).
+//! with compositions and with declarations (vectors/compositions.txt and
+//! vectors/declarations.txt, outcomes written from document 02, L1 and L2).
 
 use crate::register::answer;
 
@@ -13,6 +13,7 @@ const SEQUENCES: &str = include_str!("../vectors/sequences.txt");
 const LINES: &[u8] = include_bytes!("../vectors/lines.in");
 const ANSWERS: &[u8] = include_bytes!("../vectors/lines.out");
 const COMPOSITIONS: &str = include_str!("../vectors/compositions.txt");
+const DECLARATIONS: &str = include_str!("../vectors/declarations.txt");
 
 /// A line, and what is printed behind its number.
 pub struct Trial {
@@ -42,6 +43,11 @@ pub fn known() -> Vec<Trial> {
 /// The lines with compositions.
 pub fn compositions() -> Vec<Trial> {
     with_outcomes(COMPOSITIONS)
+}
+
+/// The lines with declarations.
+pub fn declarations() -> Vec<Trial> {
+    with_outcomes(DECLARATIONS)
 }
 
 fn with_outcomes(text: &str) -> Vec<Trial> {
@@ -78,6 +84,7 @@ pub fn all() -> Vec<Trial> {
     trials.extend(sequences().into_iter().map(|(_, trial)| trial));
     trials.extend(vectors());
     trials.extend(compositions());
+    trials.extend(declarations());
     trials
 }
 

@@ -1,10 +1,13 @@
 //! The examples of document 01, of the readings of it and of document 02
-//! (L1), and of document 001 where they lie within these.
+//! (L1, L2), and of document 001 where they lie within these.
 
 use compare::canonical::canonical;
 use compare::glycans::SUGARS;
+use compare::line::Kind;
 use compare::masses::{display, ledger, missing, total, Display};
-use compare::positions::{all_placements, floaters, rows, Placement, Position, Row};
+use compare::positions::{
+    all_placements, first_placement, floaters, rows, Placement, Position, Row,
+};
 use compare::reader::{read, Refusal};
 
 fn line(text: &str) -> compare::line::Line<'_> {
@@ -417,6 +420,134 @@ fn masses_of_compositions() {
     assert!(ledger.iter().all(|&entry| entry == 0));
 }
 
+// Document 02, L2
+
+/// The entries up to the C-terminus, in whole daltons, under the first
+/// placement.
+fn booked(text: &str) -> Vec<i64> {
+    let held = line(text);
+    let first = first_placement(&floaters(&held)).expect("a placement");
+    let entries = ledger(&held, &first).unwrap();
+    assert!(entries[held.residues.len() + 2..].iter().all(|&entry| entry == 0));
+    entries[..held.residues.len() + 2].iter().map(|entry| entry / 1_000_000).collect()
+}
+
+#[test]
+fn declarations() {
+    check_written(&[
+        ("<[+1]@k,n-TERM>Ak", "<[+1]@K,N-term>AK"),
+        ("<[+1]@K,k,K>AK", "<[+1]@K,K,K>AK"),
+        ("<[+1]@C-tERM,c>c", "<[+1]@C-term,C>C"),
+        ("<[glycan:hex1]@n>n", "<[Glycan:Hex]@N>N"),
+        ("<[+1]@K>[+2]?[+3]?K", "<[+1]@K>[+2][+3]?K"),
+        ("<[x]@W>a", "<[x]@W>A"),
+    ]);
+    check_accepted(&[
+        "<[a|b]@K>K",
+        "<[INFO:#a|x]@K>K",
+        "<[+1]@N>N",
+        "<[INFO:x|+1]@K>K",
+        "<[Gln->pyro-Glu]@N-term>QA",
+        &format!("{}A", "<[x]@A>".repeat(8)),
+        &format!("<[x]@A{}>A", ",A".repeat(15)),
+        &format!("<[x]@A>A{}", "[y]".repeat(63)),
+    ]);
+    check_refused(&[
+        ("[+1]?<[+2]@A>AC", 4, 5),
+        ("{x}<[+2]@A>A", 4, 3),
+        ("[x]-<[+2]@A>A", 4, 4),
+        ("A<[+2]@A>", 4, 1),
+        ("<[+1]@K", 4, 7),
+        ("<{x}@K>K", 4, 1),
+        ("<[a][b]@K>K", 4, 4),
+        ("<[+1]^2@K>K", 4, 5),
+        ("<[+1#a]@K>K", 4, 4),
+        ("<[#a]@K>K[+1#a]", 4, 2),
+        ("<[+1]@>K", 4, 6),
+        ("<[+1]@K,>K", 4, 8),
+        ("<[+1]@K, R>K", 4, 8),
+        ("<[+1]@KR>K", 4, 7),
+        ("<[+1]@N-term:Q>Q", 4, 12),
+        ("<[+1]@N-te>N", 4, 10),
+        ("<[+1]@Nterm>N", 4, 7),
+        ("<13C>A", 4, 1),
+        (&format!("{}A", "<[x]@A>".repeat(9)), 6, 56),
+        (&format!("<[x]@A{}>A", ",A".repeat(16)), 6, 37),
+        (&format!("<[x]@A>A{}", "[y]".repeat(64)), 6, 197),
+        ("<[U:35]@W>A", 9, 2),
+        ("<[CoMKP]@W>A", 8, 2),
+        ("<[Glycan:foo]@W>A", 19, 2),
+        ("<[+1000000]@K>K", 7, 2),
+        ("<[INFO:x]@K>A", 21, 1),
+        ("<[INFO:x]@K>A[#a]", 21, 1),
+        ("<[INFO:x]@K>{INFO:y}A", 10, 12),
+    ]);
+}
+
+#[test]
+fn declarations_in_tables() {
+    assert_eq!(line("<[+1]@k,n-TERM>Ak"), line("<[+1]@K,N-term>AK"));
+    // Places are kept as they are written, and in their order.
+    assert_ne!(line("<[+1]@K,K>AK"), line("<[+1]@K>AK"));
+    assert_ne!(line("<[+1]@A,K>AK"), line("<[+1]@K,A>AK"));
+    // "A declaration that reaches nothing is kept."
+    assert_ne!(line("<[x]@W>A"), line("A"));
+    let held = line("<[x]@A>A[y]");
+    assert_eq!(held.brackets.len(), 2);
+    let first = held.brackets[0];
+    assert_eq!((first.kind, first.first, first.last, first.count), (Kind::Declared, 0, 0, 1));
+}
+
+#[test]
+fn where_declarations_are_placed() {
+    assert_eq!(booked("<[+1]@k,n-TERM>Ak"), [1, 0, 1, 0]);
+    assert_eq!(booked("<[+1]@A>(?AC)(AD)[+2]"), [0, 1, 0, 1, 2, 0]);
+    assert_eq!(booked("<[+1]@K>K[+2]"), [0, 3, 0]);
+    assert_eq!(booked("<[+1]@K><[+1]@K>K"), [0, 2, 0]);
+    assert_eq!(booked("<[+1]@K,k,K>AK"), [0, 0, 1, 0]);
+    assert_eq!(booked("<[+1]@D>B"), [0, 0, 0]);
+    assert_eq!(booked("<[+1]@X,B,Z,J>XBZJN"), [0, 1, 1, 1, 1, 0, 0]);
+    assert_eq!(booked("<[+1]@K,N-term,C-term>[+2]-K[+3]"), [3, 4, 1]);
+    assert_eq!(booked("<[+1]@N-term,C-term>{+9}A"), [1, 0, 1]);
+    assert_eq!(placements("<[+1]@K>[+2]?KA"), [[2]]);
+    assert!(placements("<[+1]@K>[+2]?K").is_empty());
+    assert_eq!(placements("<[+1]@K>K[+2#a]A[#a]"), [[2]]);
+    assert_eq!(placements("<[+1]@N-term>[+2#a]-A[#a]"), [[1]]);
+    assert_eq!(placements("<[+1]@C-term>A[#a]-[+2#a]"), [[1]]);
+    assert_eq!(placements("<[+1]@K>(KAK)[+2]"), [[2]]);
+    assert_eq!(placements("<[x]@W>[+2]?KA"), [[1], [2]]);
+    let held = line("<[+1]@K>[+2]^2?KAC");
+    assert_eq!(pairs(&rows(&floaters(&held))), [(1, 2), (1, 3), (2, 2), (2, 3)]);
+}
+
+#[test]
+fn masses_of_declarations() {
+    for (text, millionths) in [
+        ("<[+1]@K,k,K>AK", 1_000_000),
+        ("<[+1]@K><[+1]@K>K", 2_000_000),
+        ("<[+1]@D>B", 0),
+        ("<[x]@W>A", 0),
+        ("<[Obs:+2|-1.5]@A>AA", -3_000_000),
+        ("<[+1]@K>[+2]^2?KAC", 5_000_000),
+    ] {
+        assert_eq!(total(&line(text)), Ok(millionths), "{text}");
+    }
+    for (text, lacking) in [("<[x]@A>AA", 2), ("<[x]@A,C-term,A>AAA[y]", 5), ("<[x]@W>A[y]", 1), ("<[x]@A><[x]@A>A", 2)] {
+        assert_eq!(missing(&line(text)), lacking, "{text}");
+        assert_eq!(total(&line(text)), Err(Refusal::new(16, lacking)), "{text}");
+        assert_eq!(display(&line(text)), Display::Missing(lacking), "{text}");
+    }
+    // Eight declarations at 256 positions, eight copies and 55 others.
+    let mass = "999999.999999";
+    let declared = format!("<[+{mass}]@A,N-term,C-term>").repeat(8);
+    let labile = format!("{{+{mass}}}").repeat(55);
+    let text = format!("{declared}[+{mass}]^8?{labile}{}", "A".repeat(254));
+    let largest = 2_111 * 999_999_999_999;
+    assert_eq!(total(&line(&text)), Ok(largest));
+    assert!(largest < 1 << 53);
+    assert!(placements(&text).is_empty());
+}
+
 #[test]
 fn what_a_ledger_refuses() {
     let refused = |text: &str, placement: Placement| ledger(&line(text), &placement).err();
@@ -499,6 +630,13 @@ fn sequences_of_document_001_within_document_01() {
         "NEEYN[Glycan:Hex5HexNAc4NeuAc1]K",
         "{Glycan:Hex}{Glycan:NeuAc}EMEVNESPEK",
         "SEQUEN[Glycan:HexNAc1Hex2]CE",
+        "<[Oxidation]@M>ATPEMILTCMGCLK",
+        "<[TMT6plex]@K,N-term>ATPEILTCNSIGCLK",
+        "<[S-carboxamidomethyl-L-cysteine]@C>ATPEILTCNSIGCLK",
+        "<[MOD:01090]@C>ATPEILTCNSIGCLK",
+        "<[Oxidation]@C,M>MTPEILTCNSIGCLK",
+        "<[Amidated]@C-term>QATPEILTCNSIGCLKG",
+        "<[Oxidation]@C,M>EPELVESGGGLAQP",
         // Its `Glycan` without a colon is a name.
         "YPVLN[#g1]VTMPN[Glycan#g1]NSNGKFDK",
     ]);
@@ -533,7 +671,13 @@ fn sequences_of_document_001_beyond_document_01() {
         ("P(RT(ESFRMS)[+19.0523]IS)[+19.0523]K", 4, 4),
         ("EM[x]EVT[#g1]S[Phospho#g1]ES[Phospho#g1]PEK", 11, 28),
         ("(>Heavy chain)EVQLVESG", 4, 1),
-        ("<13C>CARBON", 4, 0),
+        ("<13C>CARBON", 4, 1),
+        ("<[Oxidation]@W,C-term:G>QATPEILTCNSIGCLKG", 4, 21),
+        (
+            "<[Gln->pyro-Glu]@N-term:Q><[Oxidation]@W,C-term:G>QATPEILTCNSIGCLKG",
+            4,
+            23,
+        ),
         ("NEEYN+SEQUEN", 4, 5),
         ("SEQUEN/2", 4, 6),
         ("EK//SEFD", 4, 2),

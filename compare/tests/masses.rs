@@ -12,7 +12,7 @@ use compare::positions::{all_placements, floaters, is_allowed, Placement, Positi
 use compare::proved;
 use compare::reader::read;
 use json::Json;
-use lines::{for_crowded, for_generated, for_vectors, shown, Lent, JUNK_NUMBER};
+use lines::{for_crowded, for_declared, for_generated, for_vectors, shown, Lent, JUNK_NUMBER};
 
 const THIRTEEN: Refusal = Refusal::new(13, 0);
 
@@ -95,23 +95,67 @@ fn sums_of_generated_lines() {
     assert!(summed > share(10_000) && lacking > share(2_000), "{summed} {lacking}");
 }
 
-/// The largest totals that a line can have: "Below 71 times 10^12".
+/// The largest totals that a line can have: "Below 71 times 10^12" without declarations; with eight of them at all of 256 positions, 2,111 times.
 #[test]
 fn largest_totals() {
     for (sign, size) in [('+', 1), ('-', -1)] {
         let mass = format!("{sign}999999.999999");
-        let mut line = format!("[{mass}]^8?");
-        for _ in 0..63 {
-            line += &format!("{{{mass}}}");
+        let labile = |many: usize| format!("{{{mass}}}").repeat(many);
+        let declared = format!("<[{mass}]@A,N-term,C-term>").repeat(8);
+        for (line, times) in [
+            (format!("[{mass}]^8?{}A", labile(63)), 71),
+            (format!("{declared}[{mass}]^8?{}{}", labile(55), "A".repeat(254)), 2_111),
+            (format!("{declared}{}{}", labile(56), "A".repeat(254)), 2_104),
+        ] {
+            let held = read(line.as_bytes()).unwrap();
+            let lent = Lent::of(&held);
+            let expected = size * times * 999_999_999_999;
+            assert_eq!(proved::total(&lent.bytes, &lent.numbers), Ok(expected));
+            let daltons = Display::Daltons(expected as f64 / 1e6);
+            assert!(alike(proved::shown(&lent.bytes, &lent.numbers), daltons));
         }
-        line.push('A');
-        let held = read(line.as_bytes()).unwrap();
-        let lent = Lent::of(&held);
-        let expected = size * 71 * 999_999_999_999;
-        assert_eq!(proved::total(&lent.bytes, &lent.numbers), Ok(expected));
-        let daltons = Display::Daltons(expected as f64 / 1e6);
-        assert!(alike(proved::shown(&lent.bytes, &lent.numbers), daltons));
     }
+}
+
+/// Ledgers of lines with declarations, whole daltons up to the C-terminus, under the first placement; and eight declarations that reach every position.
+#[test]
+fn ledgers_of_declarations() {
+    for (line, expected) in [
+        ("<[+1]@k,n-TERM>Ak", &[1, 0, 1, 0][..]),
+        ("<[+1]@A>(?AC)(AD)[+2]", &[0, 1, 0, 1, 2, 0]),
+        ("<[+1]@K>K[+2]", &[0, 3, 0]),
+        ("<[+1]@K>[+2]?KA", &[0, 1, 2, 0]),
+        ("<[+1]@K>K[+2#a]A[#a]", &[0, 1, 2, 0]),
+        ("<[+1]@N-term>[+2#a]-A[#a]", &[1, 2, 0]),
+        ("<[+1]@K><[+1]@K>K", &[0, 2, 0]),
+        ("<[+1]@K,N-term,C-term>[+2]-K[+3]", &[3, 4, 1]),
+        ("<[+1]@D>B", &[0, 0, 0]),
+    ] {
+        let held = read(line.as_bytes()).unwrap();
+        let first = all_placements(&floaters(&held), 1).0[0];
+        let entries = booked(&Lent::of(&held), &first).unwrap();
+        let mut expected: Vec<i64> = expected.iter().map(|entry| entry * 1_000_000).collect();
+        expected.resize(256, 0);
+        assert_eq!(entries.to_vec(), expected, "{line}");
+    }
+    let line = "<[+999999.999999]@A,N-term,C-term>".repeat(8) + &"A".repeat(254);
+    let entries = booked(&Lent::of(&read(line.as_bytes()).unwrap()), &[0; 8]).unwrap();
+    assert!(entries.iter().all(|&entry| entry == 8 * 999_999_999_999));
+}
+
+/// Sums and ledgers of lines with 0 to 10 declarations.
+#[test]
+fn sums_of_declarations() {
+    let mut met = 0;
+    for_declared(36, 20_000, |line, held| {
+        check_sums(line, held);
+        let lent = Lent::of(held);
+        for placement in &all_placements(&floaters(held), 5).0 {
+            assert_eq!(booked(&lent, placement), ledger(held, placement), "{} {placement:?}", shown(line));
+            met += 1;
+        }
+    });
+    assert!(met > share(10_000), "{met}");
 }
 
 #[test]
@@ -142,7 +186,7 @@ fn labile(held: &Line) -> i64 {
 #[test]
 fn ledgers_of_every_placement() {
     let (mut written, mut lacking) = (0, 0);
-    for_crowded(33, 4_000, 5, |line, held| {
+    for_crowded(33, 5_000, 5, |line, held| {
         let lent = Lent::of(held);
         let before = lent.clone();
         let (placements, _) = all_placements(&floaters(held), 60);

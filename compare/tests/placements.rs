@@ -9,12 +9,13 @@ use std::time::{Duration, Instant};
 use compare::areas::LETTERS;
 use compare::floating::adversarial;
 use compare::generate::{share, Random};
-use compare::line::{Line, Refusal};
-use compare::positions::{self, floaters, is_allowed, next_placement, plain_next, Floater, Placement, Position, Row, Search};
+use compare::line::{Kind, Line, Refusal};
+use compare::positions::{self, floaters, is_allowed, next_placement, placed_on, plain_next, Floater, Placement, Position, Row, Search};
 use compare::proved::{self, Limits, Listing, Site};
 use compare::reader::read;
+use compare::trials::declarations;
 use json::Json;
-use lines::{for_crowded, for_generated, for_vectors, shown, Lent};
+use lines::{for_crowded, for_declared, for_generated, for_vectors, shown, Lent};
 
 const THIRTEEN: Refusal = Refusal::new(13, 0);
 const SEVENTEEN: Refusal = Refusal::new(17, 0);
@@ -34,12 +35,14 @@ fn limits() {
         label: 16,
         depth: 8,
         count: 99,
+        declarations: 8,
+        places: 16,
         copies: 8,
         rows: 2048,
         positions: 256,
         size: 1_000_000,
         decimals: 6,
-        bytes: 3 + 254 + 254 + 64 * (8 + 4 * 7) + 4096,
+        bytes: 3 + 254 + 254 + 64 * (8 + 4 * 7 + 1 + 16) + 4096,
         numbers: 64 * 5,
     };
     assert_eq!(proved::limits(), expected);
@@ -145,6 +148,40 @@ fn placements_by_plain_enumeration() {
         handed += expected.len();
     });
     assert!(met > share(20_000) && without > share(5_000) && handed > share(60_000), "{met} {without} {handed}");
+}
+
+/// A declared modification strikes out what it reaches, for every floater, labels too.
+#[test]
+fn placements_beside_declarations() {
+    for (line, expected) in [
+        ("<[+1]@K>[+2]?KA", &[&[2][..]][..]),
+        ("<[+1]@K>[+2]?K", &[]),
+        ("<[+1]@K>K[+2#a]A[#a]", &[&[2]]),
+        ("<[+1]@N-term>[+2#a]-A[#a]", &[&[1]]),
+        ("<[+1]@C-term>A[#a]-[+2#a]", &[&[1]]),
+        ("<[+1]@K>(KAK)[+2]", &[&[2]]),
+        ("<[x]@W>[+2]?KA", &[&[1], &[2]]),
+        ("<[+1]@K,W>[+2]^2?KACW", &[&[2, 3], &[3, 2]]),
+        ("<[+1]@A,C-term,N-term>A", &[&[]]),
+    ] {
+        let lent = Lent::of(&read(line.as_bytes()).unwrap());
+        let expected: Vec<Placement> = expected
+            .iter()
+            .map(|&used| {
+                let mut placement = NONE;
+                placement[..used.len()].copy_from_slice(used);
+                placement
+            })
+            .collect();
+        assert_eq!(listed(&lent, 9), (expected, Some(SEVENTEEN)), "{line}");
+    }
+    for_declared(40, 10_000, |line, held| {
+        let floaters = floaters(held);
+        if ways(&floaters) <= 400 {
+            let expected = enumerated(&floaters);
+            assert_eq!(listed(&Lent::of(held), expected.len() + 1), (expected, Some(SEVENTEEN)), "{}", shown(line));
+        }
+    });
 }
 
 /// At the last placement a record stays there, and answers 17 as often as it is asked.
@@ -410,10 +447,96 @@ fn rows_of_lines() {
     });
     for_generated(47, 20_000, |line, held| met += check_rows(line, held));
     for_crowded(48, 10_000, 12, |line, held| met += check_rows(line, held));
+    for_declared(49, 10_000, |line, held| met += check_rows(line, held));
     assert!(met > share(50_000), "{met}");
     // the most rows that a line has: eight floaters on 254 residues
     let line = format!("[+1]^8?{}", "A".repeat(254));
     assert_eq!(check_rows(line.as_bytes(), &read(line.as_bytes()).unwrap()), 8 * 254);
+}
+
+/// The positions that each bracket reaches, into slices of junk that are longer than need be and just long enough, by the independent reader: those where a declaration is
+/// placed, and none of another bracket. How many there are.
+fn check_reached(line: &[u8], held: &Line) -> usize {
+    const JUNK: Position = 0xA5C3;
+    let lent = Lent::of(held);
+    let before = lent.clone();
+    let (bytes, numbers) = (&lent.bytes, &lent.numbers);
+    let most = held.residues.len() % 5 + 256;
+    let mut met = 0;
+    for (k, bracket) in held.brackets.iter().enumerate() {
+        let ours: Vec<Position> = match bracket.kind {
+            Kind::Declared => placed_on(held, bracket).iter().collect(),
+            _ => Vec::new(),
+        };
+        for room in [most, 256] {
+            let mut positions = vec![JUNK; room];
+            assert_eq!(proved::reached(bytes, numbers, k, &mut positions), Ok(ours.len()), "{} {k}", shown(line));
+            assert_eq!(positions[..ours.len()], ours[..], "{} {k}", shown(line));
+            assert!(positions[ours.len()..].iter().all(|&one| one == JUNK), "{} {k}", shown(line));
+        }
+        met += ours.len();
+    }
+    // no such bracket; and 13 before it
+    let mut positions = vec![JUNK; most];
+    for none in [held.brackets.len(), 64, 65, 256, 1 << 32, usize::MAX] {
+        if none >= held.brackets.len() {
+            assert_eq!(proved::reached(bytes, numbers, none, &mut positions), Err(SEVENTEEN), "{} {none}", shown(line));
+        }
+    }
+    for room in [0, 1, 255] {
+        for k in [0, held.brackets.len(), usize::MAX] {
+            assert_eq!(proved::reached(bytes, numbers, k, &mut positions[..room]), Err(THIRTEEN), "{} {k}", shown(line));
+        }
+    }
+    assert!(positions.iter().all(|&one| one == JUNK) && lent.same(&before), "{}", shown(line));
+    met
+}
+
+#[test]
+fn positions_reached() {
+    let (mut met, mut most) = (0, 0);
+    let mut check = |line: &[u8], held: &Line| {
+        let reached = check_reached(line, held);
+        met += usize::from(reached > 0);
+        most = most.max(reached);
+    };
+    for_vectors(|line, held, _| check(line, held));
+    for_generated(37, 20_000, &mut check);
+    for_declared(38, 20_000, &mut check);
+    for one in declarations() {
+        if let Ok(held) = read(&one.line) {
+            check(&one.line, &held);
+        }
+    }
+    assert!(met > share(5_000), "{met}");
+    // eight declarations at each of 256 positions
+    assert_eq!(most, 8 * 256);
+}
+
+/// The positions that the readings of document 02 give (docs/DECISIONS.md), bracket by bracket.
+#[test]
+fn positions_reached_by_hand() {
+    for (line, expected) in [
+        ("<[+1]@k,n-TERM>Ak", &[&[0, 2][..]][..]),
+        ("<[+1]@K,k,K>AK", &[&[2]]),
+        ("<[+1]@A>(?AC)(AD)[+2]", &[&[1, 3], &[]]),
+        ("<[+1]@D>B", &[&[]]),
+        ("<[+1]@N>N", &[&[1]]),
+        ("<[+1]@K><[+1]@K>K", &[&[1], &[1]]),
+        ("<[+1]@K,N-term,C-term>[+2]-K[+3]", &[&[0, 1, 2], &[], &[]]),
+        ("<[+1]@N-term>[+2#a]-A[#a]", &[&[0], &[], &[]]),
+        ("<[TMT6plex]@K,N-term>ATPEILTCNSIGCLK", &[&[0, 15]]),
+        ("<[Oxidation]@C,M>MTPEILTCNSIGCLK", &[&[1, 8, 13]]),
+        ("<[Oxidation]@C,M>EPELVESGGGLAQP", &[&[]]),
+    ] {
+        let lent = Lent::of(&read(line.as_bytes()).unwrap());
+        for (k, ours) in expected.iter().enumerate() {
+            let mut positions = [9; 256];
+            assert_eq!(proved::reached(&lent.bytes, &lent.numbers, k, &mut positions), Ok(ours.len()), "{line} {k}");
+            assert_eq!(positions[..ours.len()], **ours, "{line} {k}");
+        }
+        assert_eq!(proved::reached(&lent.bytes, &lent.numbers, expected.len(), &mut [9; 256]), Err(SEVENTEEN), "{line}");
+    }
 }
 
 #[test]
@@ -492,6 +615,11 @@ fn areas_that_are_too_short_or_no_tables() {
         }
         assert_eq!(proved::rows(bytes, numbers, &mut rows), Err(Refusal::new(number, 0)));
         assert!(rows.iter().all(|&row| row == JUNK));
+        let mut positions = vec![JUNK.position; limits.positions];
+        for k in [0, 1, usize::MAX] {
+            assert_eq!(proved::reached(bytes, numbers, k, &mut positions), Err(Refusal::new(number, 0)));
+        }
+        assert!(positions.iter().all(|&one| one == JUNK.position));
     };
     check(&lent.bytes[..limits.bytes - 1], &lent.numbers, 13);
     check(&lent.bytes, &lent.numbers[..limits.numbers - 1], 13);
@@ -502,6 +630,7 @@ fn areas_that_are_too_short_or_no_tables() {
     none.bytes[LETTERS] = b'A';
     none.numbers[1] = 1;
     check(&none.bytes, &none.numbers, 14);
-    // 13 for the room of rows comes before 14
+    // 13 for the room of rows and of positions comes before 14
     assert_eq!(proved::rows(&none.bytes, &none.numbers, &mut []), Err(THIRTEEN));
+    assert_eq!(proved::reached(&none.bytes, &none.numbers, 0, &mut vec![0; limits.positions - 1]), Err(THIRTEEN));
 }

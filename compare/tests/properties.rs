@@ -8,11 +8,11 @@ use compare::areas::{
 use compare::canonical::canonical;
 use compare::generate::{share, Generator, Random};
 use compare::glycans::{cut, spelled, ways, Cutting, Piece, SUGARS};
-use compare::line::Line;
-use compare::masses::{display_areas, ledger, missing, total, Display};
+use compare::line::{Bracket, Kind, Line, Site};
+use compare::masses::{bracket_mass, display_areas, ledger, missing, total, Display};
 use compare::positions::{
-    all_placements, first_placement, first_row, floaters, is_allowed, next_placement, plain_next,
-    rows, Listing, Placement, Position, Row, Search, MOST_ROWS,
+    all_placements, first_placement, first_row, floaters, is_allowed, next_placement, placed_on,
+    plain_next, rows, Listing, Placement, Position, Row, Search, MOST_ROWS,
 };
 use compare::reader::{read, Refusal};
 
@@ -51,7 +51,7 @@ fn canonical_line_is_accepted_reads_to_the_same_and_is_no_longer() {
 fn areas_give_back_the_line() {
     for_accepted(12, 50_000, |bytes, line| {
         let (area, numbers) = encode(line);
-        assert_eq!((area.len(), numbers.len()), (6911, 320));
+        assert_eq!((area.len(), numbers.len()), (7999, 320));
         let decoded = decode(&area, &numbers);
         assert!(decoded.as_ref() == Some(line), "{}", shown(bytes));
         let written = tables_of_some_line(&area, &numbers);
@@ -136,7 +136,7 @@ fn areas_that_are_too_short_or_longer() {
 fn layout_of_the_areas() {
     let line = read(b"[u:x#ab(0.50)]?{-2.5|INFO:yz}d(Ec[+1])[G:p|obs:+7](?k)-[#ab]").unwrap();
     let (area, numbers) = encode(&line);
-    let mut expected = vec![0; 6911];
+    let mut expected = vec![0; 7999];
     expected[..3].copy_from_slice(&[4, 0, 5]);
     expected[3..7].copy_from_slice(b"DECK");
     expected[257..261].copy_from_slice(&[0, 1, 2, 3]);
@@ -148,9 +148,9 @@ fn layout_of_the_areas() {
         &[6, 5, 0, 5, 0, 1, 1, 0, 3, 0, 0, 0, 2, 6, 0],
     ];
     for (index, row) in rows.iter().enumerate() {
-        expected[511 + index * 36..][..row.len()].copy_from_slice(row);
+        expected[511 + index * 53..][..row.len()].copy_from_slice(row);
     }
-    expected[2815..2823].copy_from_slice(b"xabyzpab");
+    expected[3903..3911].copy_from_slice(b"xabyzpab");
     assert_eq!(area, expected);
     let mut expected = vec![0; 320];
     expected[4] = 500_000;
@@ -165,7 +165,7 @@ fn layout_of_the_areas() {
 fn layout_of_compositions() {
     let line = read(b"[glycan:hex1#a]?A[INFO:x|Glycan:HexNAc1Hex2#b]C[#a]").unwrap();
     let (area, numbers) = encode(&line);
-    let mut expected = vec![0; 6911];
+    let mut expected = vec![0; 7999];
     expected[..3].copy_from_slice(&[2, 0, 3]);
     expected[3..5].copy_from_slice(b"AC");
     let rows: [&[u8]; 3] = [
@@ -174,9 +174,9 @@ fn layout_of_compositions() {
         &[4, 2, 0, 2, 0, 1, 1, 0, 3, 0, 0, 0, 1, 16, 0],
     ];
     for (index, row) in rows.iter().enumerate() {
-        expected[511 + index * 36..][..row.len()].copy_from_slice(row);
+        expected[511 + index * 53..][..row.len()].copy_from_slice(row);
     }
-    expected[2815..2832].copy_from_slice(b"HexaxHexNAcHex2ba");
+    expected[3903..3920].copy_from_slice(b"HexaxHexNAcHex2ba");
     assert_eq!(area, expected);
     let mut expected = vec![0; 320];
     expected[0] = 162_052_800;
@@ -192,6 +192,237 @@ fn wrong_compositions_in_areas_are_refused() {
         assert_eq!(tables_of_some_line(&lent.bytes, &lent.numbers), None, "{what}");
         assert_eq!(display_areas(&lent.bytes, &lent.numbers), Display::Refused(14), "{what}");
     }
+}
+
+/// The same with declarations, which come first among the brackets.
+#[test]
+fn layout_of_declarations() {
+    let line = read(b"<[+1.5|x]@k,n-TERM,K><[u:y]@C-term,c,N>[+2]?Ak").unwrap();
+    let (area, numbers) = encode(&line);
+    let mut expected = vec![0; 7999];
+    expected[..3].copy_from_slice(&[2, 0, 3]);
+    expected[3..5].copy_from_slice(b"AK");
+    let rows: [(&[u8], &[u8]); 3] = [
+        (
+            &[7, 0, 0, 0, 0, 1, 2, 0, 1, 0, 1, 0, 0, 0, 0, 2, 0, 0, 1, 0, 0, 0],
+            &[3, 75, 1, 75],
+        ),
+        (&[7, 0, 0, 0, 0, 1, 1, 0, 2, 1, 0, 1, 0, 1, 0], &[3, 2, 67, 78]),
+        (&[1, 0, 0, 0, 0, 1, 1, 0, 1, 0, 0, 0, 0, 0, 0], &[]),
+    ];
+    for (index, (row, places)) in rows.iter().enumerate() {
+        expected[511 + index * 53..][..row.len()].copy_from_slice(row);
+        expected[511 + index * 53 + 36..][..places.len()].copy_from_slice(places);
+    }
+    expected[3903..3905].copy_from_slice(b"xy");
+    assert_eq!(area, expected);
+    let mut expected = vec![0; 320];
+    expected[0] = 1_500_000;
+    expected[10] = 2_000_000;
+    assert_eq!(numbers, expected);
+}
+
+#[test]
+fn wrong_places_in_areas_are_refused() {
+    let wrong = lines::wrong_places();
+    assert!(wrong.len() > 100);
+    for (what, lent) in wrong {
+        assert_eq!(tables_of_some_line(&lent.bytes, &lent.numbers), None, "{what}");
+        assert_eq!(display_areas(&lent.bytes, &lent.numbers), Display::Refused(14), "{what}");
+    }
+}
+
+/// The rows of a line with all kinds of brackets, and every byte of them with
+/// every value: of some line only if a line reads to just these.
+#[test]
+fn every_byte_of_a_row_with_places() {
+    let line = read(b"<[+1]@A,N-term,C-term><[x]@W>[+2]?A").unwrap();
+    let (area, numbers) = encode(&line);
+    let mut of_another = 0;
+    for at in (ROWS + 36..ROWS + 53).chain(ROWS + ROW + 36..ROWS + ROW + 53) {
+        for value in 0..=255 {
+            let mut area = area.clone();
+            let before = std::mem::replace(&mut area[at], value);
+            let used = matches!(at - ROWS, 37..=39 | 90);
+            let is_place = matches!(value, 1 | 2 | b'A'..=b'Z');
+            let good = value == before || (used && is_place);
+            let written = tables_of_some_line(&area, &numbers);
+            assert_eq!(written.is_some(), good, "{at} {value}");
+            of_another += usize::from(good && value != before);
+        }
+    }
+    assert_eq!(of_another, 4 * 27);
+}
+
+/// Calls with each of so many lines with declarations.
+fn for_declared(seed: u64, count: usize, mut check: impl FnMut(&[u8])) {
+    let mut generator = Generator::new(seed);
+    for _ in 0..share(count) {
+        let line = generator.declared();
+        check(&line);
+    }
+}
+
+/// A declaration adds its modification and nothing else: without the
+/// declarations a line is accepted too, its total is less by so many times
+/// each mass as a place of it is found in the line, and its floaters are
+/// permitted all that they were, and what was struck out.
+#[test]
+fn declarations_add_placed_modifications() {
+    let (mut met, mut reaching, mut struck) = (0, 0, 0);
+    let mut check = |bytes: &[u8]| {
+        let Ok(line) = read(bytes) else { return };
+        let is_declared = |one: &&Bracket| one.kind == Kind::Declared;
+        let declared: Vec<Bracket> = line.brackets.iter().filter(is_declared).copied().collect();
+        if declared.is_empty() {
+            return;
+        }
+        met += 1;
+        assert!(line.brackets.iter().take(declared.len()).all(|one| one.kind == Kind::Declared));
+        let mut bare = line.clone();
+        bare.brackets.drain(..declared.len());
+        let written = canonical(&bare);
+        let whole = canonical(&line);
+        assert!(whole.ends_with(&written) && whole[whole.len() - written.len() - 1] == b'>');
+        let bare = read(&written).unwrap_or_else(|no| panic!("{no:?} {}", shown(bytes)));
+        let (mut added, mut lacking) = (0, 0);
+        let mut reached = [false; 256];
+        for one in &declared {
+            let named = |site: Site| line.places_of(one).contains(&site);
+            let last = line.residues.len() + 1;
+            let mut positions = Vec::new();
+            positions.extend(named(Site::NTerminus).then_some(0));
+            for (residue, position) in line.residues.iter().zip(1..) {
+                positions.extend(named(Site::Letter(residue.letter)).then_some(position));
+            }
+            positions.extend(named(Site::CTerminus).then_some(last));
+            positions.iter().for_each(|&position| reached[position] = true);
+            let found: Vec<usize> = placed_on(&line, one).iter().map(usize::from).collect();
+            assert_eq!(found, positions, "{}", shown(bytes));
+            match bracket_mass(line.parts_of(one)) {
+                Some(mass) => added += mass * positions.len() as i64,
+                None => lacking += positions.len(),
+            }
+        }
+        assert_eq!(missing(&line), missing(&bare) + lacking, "{}", shown(bytes));
+        if missing(&line) == 0 {
+            assert_eq!(total(&line).unwrap(), total(&bare).unwrap() + added, "{}", shown(bytes));
+        }
+        let (with, without) = (floaters(&line), floaters(&bare));
+        assert_eq!(with.len(), without.len());
+        for (with, without) in with.iter().zip(&without) {
+            assert_eq!(with.bracket, without.bracket + declared.len());
+            for position in 0..256 {
+                let free = without.permitted.contains(position) && !reached[usize::from(position)];
+                assert_eq!(with.permitted.contains(position), free, "{}", shown(bytes));
+            }
+            struck += usize::from(with.permitted != without.permitted);
+        }
+        reaching += usize::from(reached.contains(&true));
+    };
+    for_declared(41, 20_000, &mut check);
+    for_generated(42, 20_000, &mut check);
+    assert!(met > share(10_000) && reaching > share(8_000) && struck > share(4_000), "{met} {reaching} {struck}");
+}
+
+/// Lines with declarations, with a byte changed, removed or inserted at every
+/// place: what is still accepted is written and read again, and a refusal
+/// stands within the line.
+#[test]
+fn damaged_declarations() {
+    const BYTES: &[u8] = b"<>@,[]{}|#^?-()+:NCnctermTERMKk1 ";
+    let mut random = Random::new(43);
+    let (mut accepted, mut refused) = (0, [0; 22]);
+    let mut check = |bytes: &[u8]| match read(bytes) {
+        Ok(line) => {
+            let written = canonical(&line);
+            let again = read(&written).unwrap_or_else(|no| panic!("{no:?} {}", shown(bytes)));
+            assert!(again == line, "{}", shown(bytes));
+            accepted += 1;
+        }
+        Err(refusal) => {
+            assert!(refusal.place <= bytes.len());
+            let at = bytes.get(refusal.place).copied();
+            match refusal.number {
+                21 => assert_eq!(at, Some(b'['), "{}", shown(bytes)),
+                10..=12 => assert!(matches!(at, Some(b'[' | b'{')), "{}", shown(bytes)),
+                _ => {}
+            }
+            refused[usize::from(refusal.number)] += 1;
+        }
+    };
+    let lines = share(300).max(30);
+    let mut generator = Generator::new(45);
+    for line in std::iter::repeat_with(|| generator.declared()).filter(|line| line.len() < 150).take(lines) {
+        check(&line);
+        for at in 0..line.len() {
+            let byte = BYTES[random.below(BYTES.len())];
+            let mut other = line.to_vec();
+            other[at] = byte;
+            check(&other);
+            other.insert(at, line[at]);
+            check(&other);
+            other.drain(at..at + 2);
+            check(&other);
+            check(&line[..at]);
+            check(&line[at..]);
+        }
+    }
+    assert!(accepted > 20 * lines, "{accepted}");
+    for number in [4, 6, 11, 21] {
+        assert!(refused[number] > lines, "{refused:?}");
+    }
+}
+
+/// Places against a plain splitting at commas.
+#[test]
+fn places_by_splitting() {
+    const PIECES: [&str; 30] = [
+        "K", "k", "N", "n", "C", "c", "N-term", "n-TERM", "C-term", "c-tErm", "A", "Z", "X", "R", "b", "K", "N-term", "C", "C-term", "Q",
+        "", "N-", "N-te", "NC", "Nterm", "N-term:Q", "K-term", "N-terms", " K", "1",
+    ];
+    let mut random = Random::new(44);
+    let (mut accepted, mut six, mut four) = (0, 0, 0);
+    for _ in 0..share(40_000) {
+        let good_only = random.chance(80);
+        let count = if random.chance(30) { random.between(13, 20) } else { random.between(1, 6) };
+        let pieces: Vec<&str> = (0..count).map(|_| PIECES[random.below(if good_only { 20 } else { 30 })]).collect();
+        let text = pieces.join(",");
+        let line = format!("<[+1]@{text}>KNcaZ");
+        let is_place = |piece: &str| match piece.as_bytes() {
+            [letter] => letter.is_ascii_alphabetic(),
+            _ => ["n-term", "c-term"].contains(&piece.to_ascii_lowercase().as_str()),
+        };
+        let outcome = read(line.as_bytes());
+        match pieces.iter().position(|piece| !is_place(piece)) {
+            Some(bad) => {
+                let first = 6 + pieces[..bad].iter().map(|piece| piece.len() + 1).sum::<usize>();
+                let refusal = outcome.expect_err("what is no place");
+                assert_eq!(refusal.number, 4, "{line}");
+                assert!((first..=first + pieces[bad].len()).contains(&refusal.place), "{line}");
+                four += 1;
+            }
+            None if count > 16 => {
+                let place = 6 + pieces[..16].iter().map(|piece| piece.len() + 1).sum::<usize>();
+                assert_eq!(outcome.err(), Some(Refusal::new(6, place)), "{line}");
+                six += 1;
+            }
+            None => {
+                let held = outcome.unwrap_or_else(|no| panic!("{no:?} {line}"));
+                let named = |place: &str| pieces.iter().any(|piece| piece.eq_ignore_ascii_case(place));
+                let reached = ["N-term", "K", "N", "C", "A", "Z", "C-term"].map(named);
+                let sum = ledger(&held, &[0; 8]).unwrap();
+                assert_eq!(reached.map(|one| i64::from(one) * 1_000_000), sum[..7], "{line}");
+                let written: Vec<String> = pieces
+                    .iter()
+                    .map(|piece| piece[..1].to_ascii_uppercase() + &piece[1..].to_ascii_lowercase())
+                    .collect();
+                assert_eq!(canonical(&held), format!("<[+1]@{}>KNCAZ", written.join(",")).as_bytes());
+                accepted += 1;
+            }
+        }
+    }
+    assert!(accepted > share(15_000) && six > share(2_000) && four > share(3_000), "{accepted} {six} {four}");
 }
 
 /// The counts that names are tried with, and how each is written.
@@ -453,7 +684,7 @@ fn rows_ledgers_and_totals_agree() {
 /// What a ledger leaves out of the total.
 fn labile_total(line: &Line) -> i64 {
     let mut only_labile = line.clone();
-    let is_labile = |bracket: &compare::line::Bracket| bracket.kind == compare::line::Kind::Labile;
+    let is_labile = |bracket: &Bracket| bracket.kind == Kind::Labile;
     only_labile.brackets.retain(is_labile);
     total(&only_labile).unwrap()
 }
@@ -472,7 +703,7 @@ fn refusal_four_stands_at_the_first_wrong_byte() {
         assert!(can_be_completed(&mut begun, 60), "{}", shown(bytes));
         if place < bytes.len() {
             let mut wrong = bytes[..=place].to_vec();
-            for ending in [&b""[..], b"]", b"1)]A", b"?A", b"-[x]"] {
+            for ending in [&b""[..], b"]", b"1)]A", b"?A", b"-[x]", b"]@K>A", b">A", b"-term>A"] {
                 wrong.truncate(place + 1);
                 wrong.extend_from_slice(ending);
                 assert_eq!(read(&wrong).err(), Some(Refusal::new(4, place)));
@@ -493,7 +724,7 @@ fn can_be_completed(begun: &mut Vec<u8>, bytes_left: usize) -> bool {
     if bytes_left == 0 {
         return false;
     }
-    b"]})?A-1[".iter().any(|&byte| {
+    b"]})?>A@-1[term".iter().any(|&byte| {
         begun.push(byte);
         let completed = can_be_completed(begun, bytes_left - 1);
         begun.pop();
@@ -504,7 +735,7 @@ fn can_be_completed(begun: &mut Vec<u8>, bytes_left: usize) -> bool {
 #[test]
 fn generated_lines_meet_every_number() {
     const COUNT: usize = 50_000;
-    let mut outcomes = [0; 21];
+    let mut outcomes = [0; 22];
     for_generated(19, COUNT, |bytes| {
         assert!(!bytes.contains(&10), "no byte 10");
         match read(bytes) {
@@ -524,6 +755,7 @@ fn generated_lines_meet_every_number() {
     );
     assert!(outcomes[19] >= share(COUNT) / 100, "{outcomes:?}");
     assert_eq!(outcomes[20], 0, "a second cutting");
+    assert!(outcomes[21] >= share(COUNT) / 100, "{outcomes:?}");
 }
 
 #[test]

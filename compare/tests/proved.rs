@@ -4,6 +4,7 @@ use compare::areas::{encode, BYTES_SIZE, NUMBERS_SIZE};
 use compare::generate::{share, Generator, Random};
 use compare::glycans::{cut, Cutting, SUGARS};
 use compare::line::Refusal;
+use compare::trials::declarations;
 use compare::{proved, reader, register};
 
 const JUNK_BYTE: u8 = 0xA5;
@@ -54,6 +55,9 @@ fn entries() {
     for line in Generator::new(29).take(share(5_000)) {
         entered(u64::MAX, &line);
     }
+    for one in declarations() {
+        entered(1, &one.line);
+    }
 }
 
 #[test]
@@ -92,7 +96,7 @@ fn vectors() {
 #[test]
 fn generated_lines() {
     let count = std::env::var("HWEMIDUK_LINES").ok().and_then(|n| n.parse().ok()).unwrap_or(share(200_000));
-    let mut refused = [0usize; 21];
+    let mut refused = [0usize; 22];
     for line in Generator::new(20261115).take(count) {
         alike(&line);
         if let Err(refusal) = reader::read(&line) {
@@ -100,7 +104,7 @@ fn generated_lines() {
         }
     }
     // a test that met no refusal of some number would show nothing of it
-    for number in (3..=12).chain([19]) {
+    for number in (3..=12).chain([19, 21]) {
         let met = refused[number];
         assert!(met * 200 >= count, "refusal {number} was met {met} times");
     }
@@ -196,6 +200,78 @@ fn compositions_in_lines() {
         alike(&line);
         alike(&[b"{+1|", &line[2..line.len() - 1], b"}A"].concat());
         alike(&[&line[..line.len() - 1], b"#a(0.5)]C[#a]"].concat());
+    }
+}
+
+/// The lines with declarations whose outcomes are written down.
+#[test]
+fn given_declarations() {
+    for one in declarations() {
+        alike(&one.line);
+        let outcome = String::from_utf8(one.outcome).unwrap();
+        let words: Vec<&str> = outcome.split(' ').collect();
+        let said = match proved::verdict(&one.line) {
+            Ok(()) => "ok".to_owned(),
+            Err(refusal) => format!("no {} {}", refusal.number, refusal.place),
+        };
+        let expected = if words[0] == "ok" { "ok" } else { outcome.as_str() };
+        assert_eq!(said, expected, "{}", String::from_utf8_lossy(&one.line));
+    }
+}
+
+/// Lines with 0 to 10 declarations of 1 to 20 places, and each with a byte changed, doubled, removed and cut off at every place.
+#[test]
+fn damaged_declarations() {
+    const BYTES: &[u8] = b"<>@,[]{}|#^?-()+:NCnctermTERMKk1 ";
+    let mut random = Random::new(36);
+    let mut generator = Generator::new(36);
+    for line in std::iter::repeat_with(|| generator.declared()).filter(|line| line.len() < 150).take(share(400).max(10)) {
+        alike(&line);
+        for at in 0..line.len() {
+            let mut other = line.clone();
+            other[at] = BYTES[random.below(BYTES.len())];
+            alike(&other);
+            other.insert(at, line[at]);
+            alike(&other);
+            other.drain(at..at + 2);
+            alike(&other);
+            alike(&line[..at]);
+        }
+    }
+}
+
+/// Every byte and pair of bytes where a place stands, behind a terminus's letter and between two declarations; every number of places and of declarations.
+#[test]
+fn places_of_declarations() {
+    for a in 0..=255u8 {
+        alike(&[b"<[x]@", &[a][..], b">K"].concat());
+        alike(&[b"<[x]@N-ter", &[a][..], b">K"].concat());
+        alike(&[b"<[x]@K>", &[a][..], b"<[x]@K>K"].concat());
+        alike(&[b"<[x]", &[a][..], b"@K>K"].concat());
+        alike(&[b"<", &[a][..], b"[x]@K>K"].concat());
+        for b in b'+'..=b'z' {
+            if !a.is_ascii_graphic() {
+                break;
+            }
+            alike(&[b"<[x]@", &[a, b][..], b">K"].concat());
+            alike(&[b"<[x]@C-", &[a, b][..], b"rm>K"].concat());
+            alike(&[b"<[x]@K", &[a, b][..], b">K"].concat());
+        }
+    }
+    for count in 0..=40 {
+        for place in ["K", "n-term", "C-TERM", "z"] {
+            let places = vec![place; count].join(",");
+            alike(format!("<[+1]@{places}>K").as_bytes());
+            alike(format!("<[+1]@K><[INFO:x]@{places}>K[#a]").as_bytes());
+        }
+        alike(format!("{}K", "<[+1|x]@K,N-term>".repeat(count)).as_bytes());
+        alike(format!("{}K{}", "<[+1]@K>".repeat(count), "[x]".repeat(60)).as_bytes());
+        alike(format!("{}[+1]^2?K", "<[INFO:x]@K>".repeat(count)).as_bytes());
+    }
+    for n in [1usize, 250, 4095, 4096, 4097] {
+        alike(&vec![b'<'; n]);
+        alike(&[b"<[x]@", &b"K,".repeat(n)[..], b"K>A"].concat());
+        alike(&[&b"<[x]@K>".repeat(n)[..], b"A"].concat());
     }
 }
 

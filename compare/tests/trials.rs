@@ -4,7 +4,7 @@ use std::fs::read;
 use std::path::{Path, PathBuf};
 
 use compare::register::answer;
-use compare::trials::{compositions, input, known, output, sequences, vectors, Trial};
+use compare::trials::{compositions, declarations, input, known, output, sequences, vectors, Trial};
 
 fn file(name: &str) -> PathBuf {
     Path::new(env!("CARGO_MANIFEST_DIR")).join("..").join(name)
@@ -37,12 +37,27 @@ fn the_reader_agrees_with_document_02_on_compositions() {
     alike(&compositions());
 }
 
+#[test]
+fn the_reader_agrees_with_document_02_on_declarations() {
+    alike(&declarations());
+}
+
 /// Each line that the definitions work out (crates/outcomes) is among them, with the same outcome.
 #[test]
 fn compositions_are_those_of_the_definitions() {
-    let definitions = String::from_utf8(read(file("crates/outcomes/specs/Compositions.antt")).unwrap()).unwrap();
+    assert_eq!(among("Compositions", compositions()), 39);
+}
+
+#[test]
+fn declarations_are_those_of_the_definitions() {
+    assert_eq!(among("Declarations", declarations()), 89);
+}
+
+/// How many lines a file of the definitions works out, all of them among these with the same outcome.
+fn among(name: &str, trials: Vec<Trial>) -> usize {
+    let definitions = String::from_utf8(read(file(&format!("crates/outcomes/specs/{name}.antt"))).unwrap()).unwrap();
     let ours: Vec<(String, String)> =
-        compositions().into_iter().map(|one| (String::from_utf8(one.line).unwrap(), String::from_utf8(one.outcome).unwrap())).collect();
+        trials.into_iter().map(|one| (String::from_utf8(one.line).unwrap(), String::from_utf8(one.outcome).unwrap())).collect();
     let mut met = 0;
     for row in definitions.lines().filter(|row| row.contains("sample \"")) {
         let texts: Vec<&str> = row.split('"').collect();
@@ -50,7 +65,7 @@ fn compositions_are_those_of_the_definitions() {
         assert!(ours.contains(&(texts[1].to_owned(), outcome.to_owned())), "{row}");
         met += 1;
     }
-    assert_eq!(met, 39);
+    met
 }
 
 /// Each sequence has its row on the page, under its section, in order.

@@ -4,15 +4,15 @@
 mod json;
 mod lines;
 
-use compare::areas::{encode, tables_of_some_line, BYTES_SIZE, LETTERS, NUMBERS_SIZE, ROW, ROWS, SECTIONS, TEXTS};
+use compare::areas::{encode, tables_of_some_line, BYTES_SIZE, LETTERS, NUMBERS_SIZE, ROW, ROWS, ROW_PLACES, SECTIONS, TEXTS};
 use compare::canonical::canonical;
 use compare::generate::{share, Random};
-use compare::line::{Line, Refusal};
+use compare::line::{Kind, Line, Refusal};
 use compare::masses::Display;
 use compare::proved::{self, Listing, Site};
 use compare::reader::read;
 use json::Json;
-use lines::{for_crowded, for_generated, for_vectors, shown, wrong_compositions, Lent, JUNK_BYTE, JUNK_NUMBER};
+use lines::{for_crowded, for_declared, for_generated, for_vectors, shown, wrong_compositions, wrong_places, Lent, JUNK_BYTE, JUNK_NUMBER};
 
 const FOURTEEN: Refusal = Refusal::new(14, 0);
 
@@ -89,6 +89,9 @@ fn named_lines() {
         ("[Acetyl]-A", "[Acetyl]-A"),
         ("A[gLYCAN:hexnac1HEX2]", "A[Glycan:HexNAcHex2]"),
         ("A[Glycan:hex1HEX2Hex]", "A[Glycan:HexHex2Hex]"),
+        ("<[+1]@k,n-TERM>Ak", "<[+1]@K,N-term>AK"),
+        ("<[+1]@K,k,K>AK", "<[+1]@K,K,K>AK"),
+        ("<[x]@W,c-TERM,n>[+1]?[+2]?A", "<[x]@W,C-term,N>[+1][+2]?A"),
     ] {
         let held = read(line.as_bytes()).unwrap();
         assert_eq!(written(&Lent::of(&held), 64).unwrap(), want.as_bytes());
@@ -240,6 +243,7 @@ fn each_entry_changed() {
         b"[+1#a(0.5)][Acetyl|INFO:x]^2?{Hex}[U:Oxidation]-(?AC)(DE)[M:x|Obs:-2]F[#a(-1.25)]-[UNIMOD:35]",
         b"A[RESID:AA0581][x#q][#q]B[#q]",
         b"[Glycan:Hex#a]?{Glycan:en,aHex12}A[+1|Glycan:HexNAcHex2]C[#a]",
+        b"<[+1|x]@K,N-term,C-term><[U:y]@A,a,A,A,A,A,A,A,A,A,A,A,A,A,A,A>[+2]?K",
     ] {
         let held = read(line).unwrap();
         let lent = Lent::of(&held);
@@ -276,6 +280,39 @@ fn areas_with_wrong_compositions() {
     for (what, lent) in wrong_compositions() {
         assert!(!check_any(&lent), "{what}");
     }
+}
+
+#[test]
+fn areas_with_wrong_places() {
+    for (what, lent) in wrong_places() {
+        assert!(!check_any(&lent), "{what}");
+    }
+}
+
+/// Areas of lines with declarations, whole and with an entry changed.
+#[test]
+fn declared_tables() {
+    let mut random = Random::new(27);
+    let (mut other, mut refused) = (0, 0);
+    for_declared(28, 20_000, |line, held| {
+        check_line(line, held);
+        let mut lent = Lent::of(held);
+        let before = lent.clone();
+        // most often in the places of a declaration
+        let declared = held.brackets.iter().filter(|one| one.kind == Kind::Declared).count();
+        if declared > 0 && random.chance(70) {
+            let at = ROWS + random.below(declared) * ROW + ROW_PLACES + random.below(1 + 16);
+            lent.bytes[at] = [0, 1, 2, 3, 16, 17, b'A', b'Z', b'[', b'k', 200][random.below(11)];
+        } else {
+            change(&mut random, held, &mut lent);
+        }
+        if !check_any(&lent) {
+            refused += 1;
+        } else if !lent.same(&before) {
+            other += 1;
+        }
+    });
+    assert!(other > share(1_000) && refused > share(5_000), "{other} {refused}");
 }
 
 #[test]

@@ -15,7 +15,7 @@ ROOT = Path(__file__).resolve().parent.parent.parent
 sys.path.insert(0, str(ROOT / "python" / "src"))
 
 import hwemiduk  # noqa: E402
-from hwemiduk import LIMITS, Bracket, Key, Kind, Label, Number, Part, Refusal, Section, read  # noqa: E402
+from hwemiduk import LIMITS, Bracket, Declaration, Key, Kind, Label, Number, Part, Refusal, Section, read  # noqa: E402
 from hwemiduk._library import FREE, Listing, Site, take  # noqa: E402
 
 SHARE = int(os.environ.get("HWEMIDUK_SHARE", 1))
@@ -329,6 +329,61 @@ class Tables(unittest.TestCase):
             self.assertEqual(refusal(hwemiduk.composition, text), (19, 0), text)
         self.assertRaises(TypeError, hwemiduk.composition, 5)
 
+    def test_declarations(self):
+        """Document 02, L2, on the lines of docs/DECISIONS.md: what a declaration holds, and where it stands."""
+        p = read("<[+01.5|x]@k,n-TERM><[Acetyl]@w>[+2]?aKk")
+        self.assertEqual(str(p), "<[+1.5|x]@K,N-term><[Acetyl]@W>[+2]?AKK")
+        parts = (Part(Key.NONE, Number(1_500_000, 1), None, None), Part(Key.NONE, None, "x", None))
+        first = Bracket(Kind.DECLARED, range(0), 1, parts, 1_500_000)
+        second = Bracket(Kind.DECLARED, range(0), 1, (Part(Key.NONE, None, "Acetyl", None),), None)
+        self.assertEqual(p.declared, (Declaration(first, ("K", "N-term"), (0, 2, 3)), Declaration(second, ("W",), ())))
+        self.assertEqual(p.brackets[:2], (first, second))
+        self.assertEqual([str(one) for one in p.declared], ["<[+1.5|x]@K,N-term>", "<[Acetyl]@W>"])
+        self.assertEqual((p.total(), len(p.floaters), read("A[+1]").declared), (6_500_000, 1, ()))
+        for line, placements in {
+            "<[+1]@K>[+2]?KA": [(2,)],
+            "<[+1]@K>[+2]?K": [],
+            "<[+1]@K>K[+2#a]A[#a]": [(2,)],
+            "<[+1]@N-term>[+2#a]-A[#a]": [(1,)],
+        }.items():
+            self.assertEqual(list(read(line).placements()), placements, line)
+        for line, ledger in {
+            "<[+1]@k,n-TERM>Ak": [1, 0, 1, 0],
+            "<[+1]@K>K[+2]": [0, 3, 0],
+            "<[+1]@K,k,K>AK": [0, 0, 1, 0],
+            "<[+1]@K><[+1]@K>K": [0, 2, 0],
+            "<[+1]@D>B": [0, 0, 0],
+        }.items():
+            self.assertEqual(read(line).ledger(), [entry * 1_000_000 for entry in ledger], line)
+        self.assertEqual((read("<[x]@A>AA").missing, refusal(read("<[x]@A>AA").total), read("<[x]@W>A").total()), (2, (16, 2), 0))
+        for line, number, place in [("<[INFO:x]@K>A", 21, 1), ("<[INFO:x]@K>{INFO:y}A", 10, 12), ("<[INFO:x]@K>A[#a]", 21, 1), ("<[+1#a]@K>K", 4, 4)]:
+            self.assertEqual(refusal(read, line), (number, place), line)
+
+    def test_every_position_is_reached(self):
+        line = "<[+1]@A,N-term,C-term>" * LIMITS.declarations + "A" * LIMITS.residues
+        self.assertEqual([one.positions for one in read(line).declared], [tuple(range(LIMITS.positions))] * LIMITS.declarations)
+
+    def test_lines_with_declarations(self):
+        """compare/vectors/declarations.txt: the entries; and of each accepted line that its declarations stand at its front as they say, reach what their places name, and
+        make the total with what else there is."""
+        rows = [row.split("\t") for row in (ROOT / "compare" / "vectors" / "declarations.txt").read_text().splitlines()]
+        self.assertGreater(len(rows), 150)
+        for line, printed in rows:
+            self.assertEqual(hwemiduk.entry(line, 7), "7 " + printed)
+            if printed.startswith("no"):
+                continue
+            p = read(line)
+            declared, residues, rest = p.declared, p.residues, p.brackets[len(p.declared) :]
+            front = "".join(map(str, declared))
+            self.assertTrue(str(p).startswith(front) and str(p)[len(front)] != "<", line)
+            sites = ["N-term", *residues, "C-term"]
+            for one in declared:
+                self.assertEqual(one.positions, tuple(at for at, site in enumerate(sites) if site in one.places), line)
+            times = [(one.bracket, len(one.positions)) for one in declared] + [(bracket, bracket.count) for bracket in rest if bracket.is_modification]
+            missing = sum(often for bracket, often in times if bracket.millionths is None)
+            total = sum(often * (bracket.millionths or 0) for bracket, often in times)
+            self.assertEqual(printed.split(" ")[4], f"?{missing}" if missing else f"{total:+}", line)
+
     def test_floaters(self):
         """Each copy of the unknown one, then the label of the range, which may stand on its residue without a modification or on the reference's."""
         p = read("[u:+01.50]^3?{Obs:-2}[unimod:4]-a(CD[R:x])[y|+0.5#g1(-0.25)](?ef[#g1])-[info:z[#|]]")
@@ -367,6 +422,17 @@ class Tables(unittest.TestCase):
             ],
         )
         self.assertEqual(read("AC").picture(), "  nACc")
+        self.assertEqual(
+            read("<[+1]@K><[x]@W><[y]@c-term,n-term>[+2]?KA[#a]-[+3#a]").picture().split("\n"),
+            [
+                "  nKAc",
+                "  .x..   <[+1]@K>",
+                "  ....   <[x]@W>",
+                "  x..x   <[y]@C-term,N-term>",
+                "1 ..o.   [+2]",
+                "2 ..o.   [+3#a]",
+            ],
+        )
 
     def test_numbers(self):
         number = read("A[-1.50]").brackets[0].parts[0].mass
@@ -443,7 +509,7 @@ class Junk(unittest.TestCase):
 
     def test_any_bytes(self):
         source = random.Random(20261115)
-        likely = b"ACacMm[]{}()?^-+#|:.0123456789xyINFOUobs"
+        likely = b"ACacMm[]{}()?^-+#|:.0123456789xyINFOUobs<>@,"
         accepted = 0
         for _ in range(20_000 // SHARE):
             pool = likely if source.random() < 0.9 else bytes(range(256))
@@ -451,7 +517,7 @@ class Junk(unittest.TestCase):
             try:
                 p = read(line)
             except Refusal as error:
-                self.assertTrue(error.number in (*range(1, 13), 19) and 0 <= error.place <= len(line), line)
+                self.assertTrue(error.number in (*range(1, 13), 19, 21) and 0 <= error.place <= len(line), line)
             else:
                 self.assertEqual(read(str(p)), p, line)
                 accepted += 1
@@ -466,7 +532,7 @@ class Junk(unittest.TestCase):
             self.assertEqual(library.hwemiduk_read(line, len(line), *areas.tables, areas.size_at), 0)
             areas.data[-1] = 1
             self.assertEqual(library.hwemiduk_write(*areas.tables, areas.out_at, LIMITS.line, areas.size_at), 14)
-            for call in [hwemiduk._peptidoform._rows, hwemiduk._peptidoform._count]:
+            for call in [hwemiduk._peptidoform._rows, hwemiduk._peptidoform._count, lambda areas: hwemiduk._tables._reached(areas, 0)]:
                 self.assertEqual(refusal(call, areas), (14, 0))
         finally:
             FREE.append(areas)
@@ -486,12 +552,14 @@ class LimitsOfLines(unittest.TestCase):
                 "label": 16,
                 "depth": 8,
                 "count": 99,
+                "declarations": 8,
+                "places": 16,
                 "copies": 8,
                 "rows": 2048,
                 "positions": 256,
                 "size": 1_000_000,
                 "decimals": 6,
-                "bytes": 6911,
+                "bytes": 7999,
                 "numbers": 320,
             },
         )
@@ -512,6 +580,8 @@ class LimitsOfLines(unittest.TestCase):
             ("A[+1.123456]", "A[+1.1234567]", 7, 2),
             ("[x]^8?A", "[x]^9?A", 12, 0),
             ("[x]^8?A", "[x]^100?A", 7, 4),
+            ("<[x]@A>" * 8 + "A", "<[x]@A>" * 9 + "A", 6, 56),
+            ("<[x]@A" + ",A" * 15 + ">A", "<[x]@A" + ",A" * 16 + ">A", 6, 37),
         ]:
             self.assertIsNone(refusal(read, good), good)
             self.assertEqual(refusal(read, bad), (number, place), bad)

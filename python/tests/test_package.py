@@ -45,7 +45,7 @@ class Objects(unittest.TestCase):
 
     def test_does_not_change(self):
         p = read("AC")
-        for name in ["_line", "residues", "brackets", "missing", "other"]:
+        for name in ["_line", "residues", "brackets", "declared", "missing", "other"]:
             with self.assertRaises(AttributeError):
                 setattr(p, name, "HELLO")
             with self.assertRaises(AttributeError):
@@ -84,8 +84,8 @@ class Objects(unittest.TestCase):
             pickle.loads(good.replace(b"AMMAM", b"AM[AM"))
 
     def test_what_it_holds_pickles(self):
-        p = read("[+1]^2?AM[+15.995]C[Oxidation#g(0.5)]K[#g]")
-        for held in [p.brackets, p.floaters, p.sections]:
+        p = read("<[+9]@A,N-term>[+1]^2?AM[+15.995]C[Oxidation#g(0.5)]K[#g]")
+        for held in [p.brackets, p.declared, p.floaters, p.sections]:
             self.assertEqual(pickle.loads(pickle.dumps(held)), held)
             hash(held)
         with self.assertRaises(AttributeError):
@@ -168,6 +168,12 @@ class Refusals(unittest.TestCase):
             codes = re.findall(r"HWEMIDUK_(\w+) = (\d+)", header[start : header.index("};", start)])
             plain = {int(code): re.sub("^(ON|NO)_|_|^KEY$", "", re.sub("^NO_KEY$", "NONE", name)) for name, code in codes}
             self.assertEqual(plain, {code: member.name.replace("_", "") for code, member in numbered.items()})
+
+    def test_termini_are_those_of_the_header(self):
+        header = (ROOT / "include" / "hwemiduk.h").read_text()
+        start = header.index("enum hwemiduk_terminus {")
+        codes = re.findall(r"HWEMIDUK_\w+ = (\d+),? */\* (\S+) \*/", header[start : header.index("};", start)])
+        self.assertEqual({int(code): name for code, name in codes}, hwemiduk._tables._termini)
 
     def test_sugars_are_those_of_the_header(self):
         header = (ROOT / "include" / "hwemiduk.h").read_text()
@@ -335,6 +341,22 @@ class Commands(unittest.TestCase):
             ],
         )
         self.assertEqual(status, 0)
+        self.assertEqual(
+            self.run_it("show", "<[+1]@k,n-term><[x]@w>AK")[1].split("\n"),
+            [
+                "canonical line: <[+1]@K,N-term><[x]@W>AK",
+                "residues: 2",
+                "brackets: 2",
+                "    [+1]  declared for K, N-term: at 0 2",
+                "    [x]  declared for W: nowhere here",
+                "sum of the modifications, without the residues: +2.000000 Da",
+                "floating copies: 0",
+                "      nAKc",
+                "      x.x.   <[+1]@K,N-term>",
+                "      ....   <[x]@W>",
+                "",
+            ],
+        )
         self.assertIn("a placement: there is none\n", self.run_it("show", "[+1]^2?A")[1])
         self.assertIn("not known: 1 without a mass\n", self.run_it("show", "A[x]")[1])
         self.assertEqual(self.run_it("show", "A[x")[:2], (1, f"refused: 4 at 3: {hwemiduk.WORDS[4]} (the line ends here and should go on)\n    A[x\n       ^\n"))

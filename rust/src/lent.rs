@@ -33,9 +33,13 @@ pub const RESIDUES: usize = 254;
 pub const BRACKETS: usize = 64;
 /// Parts of a bracket.
 pub const PARTS: usize = 4;
+/// Declarations of a line.
+pub const DECLARATIONS: usize = 8;
+/// Places of a declaration.
+pub const PLACES: usize = 16;
 /// Floating copies: entries of a placement.
 pub const COPIES: usize = 8;
-/// Entries of a ledger: the N-terminus, the residues, the C-terminus.
+/// Entries of a ledger, and of positions reached: the N-terminus, the residues, the C-terminus.
 pub const POSITIONS: usize = RESIDUES + 2;
 /// Rows of floater and position.
 pub const ROWS: usize = COPIES * POSITIONS;
@@ -48,9 +52,28 @@ pub const SUGARS: [&str; 24] = [
     "NeuGc", "Sug", "Tri", "Tet", "Pen", "Hep", "Oct", "Non", "Dec", "Fuc", "Sulfate", "Phosphate",
 ];
 /// The area of bytes.
-pub const BYTES: usize = 6911;
+pub const BYTES: usize = layout::TEXTS_AT + LINE;
 /// The area of numbers.
 pub const NUMBERS: usize = BRACKETS * (PARTS + 1);
+
+/// Where the tables lie in the area of bytes, as include/hwemiduk.h says it.
+#[cfg_attr(not(feature = "std"), allow(dead_code))]
+pub(crate) mod layout {
+    use super::{BRACKETS, PARTS, PLACES, RESIDUES};
+
+    // a bracket's row: its head, its parts, how many places it has, and its places
+    pub const HEAD: usize = 8;
+    pub const PART: usize = 7;
+    pub const PLACES_AT: usize = HEAD + PARTS * PART;
+    pub const ROW: usize = PLACES_AT + 1 + PLACES;
+
+    pub const RESIDUES_AT: usize = 0;
+    pub const BRACKETS_USED_AT: usize = 2;
+    pub const LETTERS_AT: usize = 3;
+    pub const SECTIONS_AT: usize = LETTERS_AT + RESIDUES;
+    pub const BRACKETS_AT: usize = SECTIONS_AT + RESIDUES;
+    pub const TEXTS_AT: usize = BRACKETS_AT + BRACKETS * ROW;
+}
 
 /// A position: 0 is the N-terminus, 1 to n are the residues, n + 1 is the C-terminus.
 pub type Position = u16;
@@ -113,11 +136,15 @@ pub struct Limits {
     pub depth: usize,
     /// The count behind ^.
     pub count: usize,
+    /// Declarations of a line.
+    pub declarations: usize,
+    /// Places of a declaration.
+    pub places: usize,
     /// Floating copies: entries of a placement.
     pub copies: usize,
     /// Rows of floater and position.
     pub rows: usize,
-    /// Entries of a ledger.
+    /// Entries of a ledger, and of positions reached.
     pub positions: usize,
     /// Masses and scores are below this in size.
     pub size: u64,
@@ -134,7 +161,7 @@ pub struct Limits {
 pub enum Shown {
     /// The sum of the masses of the modifications.
     Daltons(f64),
-    /// So many modifications have no mass, each copy counted.
+    /// So many modifications have no mass, each copy counted, and each position that a declaration reaches.
     Missing(usize),
 }
 
@@ -152,7 +179,7 @@ pub fn limits() -> Limits {
     limits
 }
 
-/// Whether a line is accepted: if not, the lowest of 1 to 12 and 19 that is due.
+/// Whether a line is accepted: if not, the first that is due of 1 to 10, 21, 11, 12 and 19, tried in this order.
 pub fn verdict(line: &[u8]) -> Result<(), Refusal> {
     let (number, place) = outs::verdict(line);
     answer(number, place, ())
@@ -202,7 +229,8 @@ pub fn floater_brackets(bytes: &[u8], numbers: &[i64], brackets: &mut [u8], copi
     answer(number, 0, count)
 }
 
-/// The sum of the masses of the modifications in millionths, without the residues; or 16, with how many have none as its place.
+/// The sum of the masses of the modifications in millionths, without the residues, a declared one once for each position that it reaches; or 16, with how many have none
+/// as its place, counted so too.
 pub fn total(bytes: &[u8], numbers: &[i64]) -> Result<i64, Refusal> {
     let (number, millionths, place) = outs::total(bytes, numbers);
     answer(number, place, millionths)
@@ -265,6 +293,24 @@ pub fn first_row(rows: &[Site], n: usize, floater: u8) -> Result<(usize, Positio
 pub fn composition(text: &[u8], pieces: &mut [u8]) -> Result<usize, Refusal> {
     let (number, length) = outs::composition(text, pieces);
     answer(number, if number == 15 { length } else { 0 }, length)
+}
+
+/// Writes the positions that a bracket reaches as a declaration, brackets counted from 0, ascending and each once, into at least [`POSITIONS`] entries, and answers how many
+/// there are. A bracket that is no declaration reaches none. Or 17 where there is no such bracket.
+///
+/// ```
+/// use hwemiduk::lent::{self, BYTES, NUMBERS, POSITIONS};
+///
+/// let (mut bytes, mut numbers, mut positions) = ([0; BYTES], [0; NUMBERS], [0; POSITIONS]);
+/// lent::read(b"<[+1]@K,N-term>AKKA", &mut bytes, &mut numbers)?;
+/// let count = lent::reached(&bytes, &numbers, 0, &mut positions)?;
+/// assert_eq!(positions[..count], [0, 2, 3]);
+/// assert_eq!(lent::reached(&bytes, &numbers, 1, &mut positions).unwrap_err().number(), 17);
+/// # Ok::<(), hwemiduk::Refusal>(())
+/// ```
+pub fn reached(bytes: &[u8], numbers: &[i64], bracket: usize, positions: &mut [Position]) -> Result<usize, Refusal> {
+    let (number, count) = outs::reached(bytes, numbers, bracket, positions);
+    answer(number, 0, count)
 }
 
 fn answer<T>(number: u8, place: usize, value: T) -> Result<T, Refusal> {
@@ -350,6 +396,15 @@ pub mod outs {
         (number, length)
     }
 
+    /// The number and the count.
+    pub fn reached(bytes: &[u8], numbers: &[i64], bracket: usize, positions: &mut [Position]) -> (u8, usize) {
+        let mut count = usize::MAX;
+        let (positions, positions_len) = (positions.as_mut_ptr(), positions.len());
+        let number =
+            unsafe { hwemiduk_reached(bytes.as_ptr(), bytes.len(), numbers.as_ptr(), numbers.len(), bracket, positions, positions_len, &mut count) };
+        (number, count)
+    }
+
     /// The number, the total in millionths, and the place.
     pub fn total(bytes: &[u8], numbers: &[i64]) -> (u8, i64, usize) {
         let (mut millionths, mut place) = (i64::MIN, usize::MAX);
@@ -433,5 +488,7 @@ extern "C" {
         entries: *mut i64, entries_len: usize, place: *mut usize) -> u8;
     fn hwemiduk_rows(bytes: *const u8, bytes_len: usize, numbers: *const i64, numbers_len: usize, rows: *mut Site, rows_len: usize, count: *mut usize) -> u8;
     fn hwemiduk_composition(text: *const u8, text_len: usize, pieces: *mut u8, pieces_len: usize, length: *mut usize) -> u8;
+    fn hwemiduk_reached(bytes: *const u8, bytes_len: usize, numbers: *const i64, numbers_len: usize, bracket: usize, positions: *mut Position,
+        positions_len: usize, count: *mut usize) -> u8;
     fn hwemiduk_first_row(rows: *const Site, rows_len: usize, n: usize, floater: u8, index: *mut usize, position: *mut Position) -> u8;
 }

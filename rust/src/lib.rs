@@ -40,4 +40,4 @@ pub use refusal::{Missing, Refusal, Show, WORDS};
 #[cfg(feature = "std")]
 pub use peptidoform::{entry, Peptidoform, Placement, Placements};
 #[cfg(feature = "std")]
-pub use tables::{composition, Bracket, Content, Floater, Key, Kind, Label, Number, Part, Section};
+pub use tables::{composition, Bracket, Content, Declaration, Floater, Key, Kind, Label, Number, Part, Place, Section};

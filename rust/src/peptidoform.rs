@@ -6,7 +6,7 @@ use std::ops::Deref;
 use std::str::FromStr;
 
 use crate::lent::{self, Listing, Position, Shown, Site, BYTES, COPIES, ENTRY, LINE, NUMBERS, POSITIONS, ROWS};
-use crate::tables::{held, Bracket, Floater, Section, Tables};
+use crate::tables::{held, Bracket, Declaration, Floater, Section, Tables};
 use crate::{Missing, Refusal};
 
 /// An accepted line. It is made by reading one, and holds nothing but the canonical line.
@@ -60,6 +60,21 @@ impl Peptidoform {
         self.tables().brackets()
     }
 
+    /// The modifications that are declared once for the line, in order, each with its bracket, its places and the positions that it reaches.
+    ///
+    /// ```
+    /// # use hwemiduk::{Peptidoform, Place};
+    /// let p: Peptidoform = "<[TMT6plex]@k,n-TERM>AKKA".parse()?;
+    /// let declared = p.declared();
+    /// assert_eq!(declared[0].to_string(), "<[TMT6plex]@K,N-term>");
+    /// assert_eq!(declared[0].places, [Place::Letter('K'), Place::NTerm]);
+    /// assert_eq!(declared[0].positions, [0, 2, 3]);
+    /// # Ok::<(), hwemiduk::Refusal>(())
+    /// ```
+    pub fn declared(&self) -> Vec<Declaration> {
+        self.tables().declared()
+    }
+
     /// The floating copies, in the order in which a placement gives their positions, each with its bracket and with where it may stand.
     ///
     /// ```
@@ -87,7 +102,7 @@ impl Peptidoform {
         rows_of(&self.tables())
     }
 
-    /// The sum of the masses of all modifications, in millionths; the residues' own masses are not in it.
+    /// The sum of the masses of all modifications, in millionths, a declared one once for each position that it reaches; the residues' own masses are not in it.
     ///
     /// ```
     /// # use hwemiduk::{Missing, Peptidoform};
@@ -112,7 +127,7 @@ impl Peptidoform {
         }
     }
 
-    /// How many modifications have no mass, each copy counted.
+    /// How many modifications have no mass, each copy counted, and each position that a declaration reaches.
     pub fn missing(&self) -> usize {
         match self.shown() {
             Shown::Daltons(_) => 0,

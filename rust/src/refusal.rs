@@ -2,14 +2,14 @@
 
 use core::fmt::{self, Display, Formatter};
 
-/// Each refusal in words: that of number n is at n - 1.
-pub const WORDS: [&str; 19] = [
+/// Each refusal in words: that of number n is at n - 1. No refusal has the number 20: its words are empty.
+pub const WORDS: [&str; 21] = [
     "the line is empty",
     "the line is longer than 4,096 bytes",
     "a byte outside 32 to 126",
     "not of the order of a line",
     "pairs nested more than eight deep",
-    "too many residues (254), brackets (64) or parts (4), a text over 128 bytes or a label over 16",
+    "too many residues (254), brackets (64), parts (4), declarations (8) or places (16), a text over 128 bytes or a label over 16",
     "a mass or score of a million or more or with more than 6 decimals, a count outside 1 to 99",
     "something that is not taken here: Formula, Position, Limit, CoMKP, CoMUP, labels XL.. and BRANCH",
     "prefix U or M with a name of digits only",
@@ -23,11 +23,13 @@ pub const WORDS: [&str; 19] = [
     "no placement, no further one, no such row or bracket",
     "a placement that is not allowed",
     "a composition that cannot be cut into listed names and counts",
+    "",
+    "only INFO in a declaration",
 ];
 
-/// Refusals 1 to 12 and 19 are of a line, and their place is one in the line.
+/// Refusals 1 to 12, 19 and 21 are of a line, and their place is one in the line.
 const fn is_of_a_line(number: u8) -> bool {
-    number <= 12 || number == 19
+    number <= 12 || number == 19 || number == 21
 }
 
 /// What the library refuses: a number, which says why, and a place.
@@ -42,13 +44,13 @@ impl Refusal {
         Self { number, place }
     }
 
-    /// The number, 1 to 19: [`words`](Self::words) says what it means.
+    /// The number, 1 to 19 or 21: [`words`](Self::words) says what it means.
     pub const fn number(&self) -> u8 {
         self.number
     }
 
-    /// Where in the line, for 1 to 12 and 19: bytes are counted from 0, and where the line should go on and ends, it is the line's length. For 15 it is the length that is
-    /// needed, for 16 how many modifications have no mass; else 0.
+    /// Where in the line, for 1 to 12, 19 and 21: bytes are counted from 0, and where the line should go on and ends, it is the line's length. For 15 it is the length that
+    /// is needed, for 16 how many modifications have no mass; else 0.
     pub const fn place(&self) -> usize {
         self.place
     }
@@ -108,7 +110,7 @@ impl Display for Show<'_> {
     }
 }
 
-/// How many modifications have no mass, each copy counted: why there is no total.
+/// How many modifications have no mass, each copy counted, and each position that a declaration reaches: why there is no total.
 #[derive(Clone, Copy, Debug, PartialEq, Eq, Hash)]
 pub struct Missing {
     /// How many.

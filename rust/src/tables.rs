@@ -3,7 +3,8 @@
 use std::fmt::{self, Display, Formatter};
 use std::ops::RangeInclusive;
 
-use crate::lent::{self, Position, BRACKETS, BYTES, LINE, NUMBERS, PARTS, RESIDUES, SUGARS};
+use crate::lent::layout::{BRACKETS_AT, BRACKETS_USED_AT, HEAD, LETTERS_AT, PART, PLACES_AT, RESIDUES_AT, ROW, SECTIONS_AT, TEXTS_AT};
+use crate::lent::{self, Position, BYTES, NUMBERS, PARTS, POSITIONS, SUGARS};
 use crate::Refusal;
 
 /// What a residue stands in.
@@ -36,6 +37,8 @@ pub enum Kind {
     Range,
     /// At the C-terminus.
     CTerm,
+    /// In a declaration: [`Declaration`](crate::Declaration) has its places and where these are.
+    Declared,
 }
 
 /// A part's key word or prefix.
@@ -61,7 +64,7 @@ pub enum Key {
 
 // In the order of their numbers in the tables: sections from 0, kinds from 1, keys from 0 but for the last, which is 15.
 const SECTIONS: [Section; 5] = [Section::Plain, Section::RangeFirst, Section::RangeNext, Section::UnsureFirst, Section::UnsureNext];
-const KINDS: [Kind; 6] = [Kind::Unknown, Kind::Labile, Kind::NTerm, Kind::Residue, Kind::Range, Kind::CTerm];
+const KINDS: [Kind; 7] = [Kind::Unknown, Kind::Labile, Kind::NTerm, Kind::Residue, Kind::Range, Kind::CTerm, Kind::Declared];
 const KEYS: [(Key, &str); 15] = [
     (Key::None, ""),
     (Key::U, "U:"),
@@ -83,6 +86,8 @@ const GLYCAN: u8 = 15;
 const MASS: u8 = 1;
 const TEXT: u8 = 2;
 const COMPOSITION: u8 = 4;
+const N_TERMINUS: u8 = 1;
+const C_TERMINUS: u8 = 2;
 
 impl Key {
     /// The key in its canonical spelling, with its colon.
@@ -212,9 +217,9 @@ impl Display for Part {
 pub struct Bracket {
     /// Where it stands.
     pub kind: Kind,
-    /// The positions it stands on; none where it is unknown or labile.
+    /// The positions it stands on; none where it is unknown, labile or declared.
     pub positions: Option<RangeInclusive<Position>>,
-    /// How many copies; 1 where no count is written.
+    /// How many copies; 1 where no count is written, and of a declaration, however many positions it reaches.
     pub count: u8,
     /// What it says, in synonyms.
     pub parts: Vec<Part>,
@@ -246,6 +251,60 @@ impl Display for Bracket {
     }
 }
 
+/// A place that a declaration names.
+#[derive(Clone, Copy, Debug, PartialEq, Eq, Hash)]
+pub enum Place {
+    /// Each residue with this letter, which is in upper case.
+    Letter(char),
+    /// The N-terminus.
+    NTerm,
+    /// The C-terminus.
+    CTerm,
+}
+
+impl Place {
+    fn of(site: u8) -> Self {
+        match site {
+            N_TERMINUS => Self::NTerm,
+            C_TERMINUS => Self::CTerm,
+            letter => Self::Letter(char::from(letter)),
+        }
+    }
+}
+
+/// As it is written in the canonical line.
+impl Display for Place {
+    fn fmt(&self, f: &mut Formatter<'_>) -> fmt::Result {
+        match self {
+            Self::Letter(letter) => write!(f, "{letter}"),
+            Self::NTerm => f.write_str("N-term"),
+            Self::CTerm => f.write_str("C-term"),
+        }
+    }
+}
+
+/// A modification that is declared once for the line: it is placed on each position that one of its places names.
+#[derive(Clone, Debug, PartialEq, Eq, Hash)]
+pub struct Declaration {
+    /// Its bracket: the first declaration has the first bracket of the line, the second the second one.
+    pub bracket: Bracket,
+    /// Its places, as they are written.
+    pub places: Vec<Place>,
+    /// The positions that it reaches, ascending and each once, as the library tells them.
+    pub positions: Vec<Position>,
+}
+
+/// As it is written in the canonical line.
+impl Display for Declaration {
+    fn fmt(&self, f: &mut Formatter<'_>) -> fmt::Result {
+        write!(f, "<{}", self.bracket)?;
+        for (index, place) in self.places.iter().enumerate() {
+            write!(f, "{}{place}", if index == 0 { "@" } else { "," })?;
+        }
+        f.write_str(">")
+    }
+}
+
 /// A floating copy: its bracket, which copy of it, and where it may stand.
 #[derive(Clone, Debug, PartialEq, Eq, Hash)]
 pub struct Floater {
@@ -258,18 +317,6 @@ pub struct Floater {
     /// The permitted positions, ascending: those with a placed modification are struck out.
     pub positions: Vec<Position>,
 }
-
-// Where the tables lie in the areas (include/hwemiduk.h).
-const HEAD: usize = 8;
-const PART: usize = 7;
-const ROW: usize = HEAD + PARTS * PART;
-const RESIDUES_AT: usize = 0;
-const BRACKETS_USED_AT: usize = 2;
-const LETTERS_AT: usize = 3;
-const SECTIONS_AT: usize = LETTERS_AT + RESIDUES;
-const BRACKETS_AT: usize = SECTIONS_AT + RESIDUES;
-const TEXTS_AT: usize = BRACKETS_AT + BRACKETS * ROW;
-const _: () = assert!(TEXTS_AT + LINE == BYTES);
 
 /// What a call answers over the tables of a canonical line, which is proved not to be refused.
 pub(crate) fn held<T>(answer: Result<T, Refusal>) -> T {
@@ -308,6 +355,24 @@ impl Tables {
         used.map(|(index, (row, numbers))| self.bracket(index, row, numbers)).collect()
     }
 
+    /// The declarations, whose brackets are the first ones of the line.
+    pub fn declared(&self) -> Vec<Declaration> {
+        let rows = self.bytes[BRACKETS_AT..TEXTS_AT].chunks_exact(ROW);
+        let declared = self.brackets().into_iter().take_while(|bracket| bracket.kind == Kind::Declared);
+        let declarations = declared.zip(rows).enumerate().map(|(index, (bracket, row))| {
+            let (used, sites) = (usize::from(row[PLACES_AT]), &row[PLACES_AT + 1..]);
+            Declaration { bracket, places: sites[..used].iter().map(|&site| Place::of(site)).collect(), positions: self.reached(index) }
+        });
+        declarations.collect()
+    }
+
+    fn reached(&self, bracket: usize) -> Vec<Position> {
+        let mut positions = vec![0; POSITIONS];
+        let count = held(lent::reached(&self.bytes, &self.numbers, bracket, &mut positions));
+        positions.truncate(count);
+        positions
+    }
+
     fn mass(&self, bracket: usize) -> Option<i64> {
         match lent::bracket_mass(&self.bytes, &self.numbers, bracket) {
             Err(refusal) if refusal.number() == 16 => None,
@@ -319,11 +384,12 @@ impl Tables {
         let (kind, first, last, count, parts, score) = (row[0], wide(row, 1), wide(row, 3), row[5], row[6], row[7]);
         let kind = KINDS[usize::from(kind) - 1];
         let score = score.checked_sub(1).map(|decimals| Number { millionths: numbers[PARTS], decimals });
+        let rows = row[HEAD..PLACES_AT].chunks_exact(PART).zip(numbers).take(usize::from(parts));
         Bracket {
             kind,
-            positions: (!matches!(kind, Kind::Unknown | Kind::Labile)).then_some(first..=last),
+            positions: (!matches!(kind, Kind::Unknown | Kind::Labile | Kind::Declared)).then_some(first..=last),
             count,
-            parts: row[HEAD..].chunks_exact(PART).zip(numbers).take(usize::from(parts)).map(|(row, &mass)| self.part(row, mass, score)).collect(),
+            parts: rows.map(|(row, &mass)| self.part(row, mass, score)).collect(),
             millionths: self.mass(index),
         }
     }

@@ -6,8 +6,8 @@ use std::error::Error;
 use std::iter::FusedIterator;
 
 use hwemiduk::{
-    composition, entry, lent, Bracket, Content, Key, Kind, Label, Missing, Number, Part, Peptidoform, Placement, Placements, Refusal, Section,
-    SUGARS, WORDS,
+    composition, entry, lent, Bracket, Content, Declaration, Key, Kind, Label, Missing, Number, Part, Peptidoform, Place, Placement, Placements,
+    Refusal, Section, SUGARS, WORDS,
 };
 
 fn of(line: &str) -> Peptidoform {
@@ -183,6 +183,56 @@ fn compositions() {
     assert_eq!(refusal.to_string(), "19 at 2: a composition that cannot be cut into listed names and counts");
 }
 
+/// Document 02, L2, on the lines of docs/DECISIONS.md: what a declaration holds and where it stands.
+#[test]
+fn declarations() {
+    let p = of("<[+01.5|x]@k,n-TERM><[Acetyl]@w>[+2]?aKk");
+    assert_eq!(p.as_str(), "<[+1.5|x]@K,N-term><[Acetyl]@W>[+2]?AKK");
+    let mass = Part { key: Key::None, content: Content::Mass(Number { millionths: 1_500_000, decimals: 1 }), label: None };
+    let text = |text: &str| Part { key: Key::None, content: Content::Text(text.into()), label: None };
+    let bracket = |parts, millionths| Bracket { kind: Kind::Declared, positions: None, count: 1, parts, millionths };
+    let expected = [
+        Declaration {
+            bracket: bracket(vec![mass, text("x")], Some(1_500_000)),
+            places: vec![Place::Letter('K'), Place::NTerm],
+            positions: vec![0, 2, 3],
+        },
+        Declaration { bracket: bracket(vec![text("Acetyl")], None), places: vec![Place::Letter('W')], positions: vec![] },
+    ];
+    assert_eq!(p.declared(), expected);
+    assert_eq!(p.brackets()[..2], expected.map(|one| one.bracket));
+    assert_eq!(p.declared().iter().map(ToString::to_string).collect::<Vec<_>>(), ["<[+1.5|x]@K,N-term>", "<[Acetyl]@W>"]);
+    assert_eq!((p.total(), p.floaters().len()), (Ok(6_500_000), 1));
+    assert_eq!(of("A[+1]").declared(), []);
+    for (line, placements) in
+        [("<[+1]@K>[+2]?KA", &[[2]][..]), ("<[+1]@K>[+2]?K", &[]), ("<[+1]@K>K[+2#a]A[#a]", &[[2]]), ("<[+1]@N-term>[+2#a]-A[#a]", &[[1]])]
+    {
+        assert_eq!(placed(line), placements, "{line}");
+    }
+    for (line, ledger) in [
+        ("<[+1]@k,n-TERM>Ak", &[1, 0, 1, 0][..]),
+        ("<[+1]@K>K[+2]", &[0, 3, 0]),
+        ("<[+1]@K,k,K>AK", &[0, 0, 1, 0]),
+        ("<[+1]@K><[+1]@K>K", &[0, 2, 0]),
+        ("<[+1]@D>B", &[0, 0, 0]),
+    ] {
+        let expected: Vec<i64> = ledger.iter().map(|daltons| daltons * 1_000_000).collect();
+        assert_eq!(of(line).ledger(&[]), Ok(expected), "{line}");
+    }
+    assert_eq!((of("<[x]@A>AA").missing(), of("<[x]@W>A").missing(), of("<[x]@W>A").total()), (2, 0, Ok(0)));
+    for (line, number, place) in [
+        ("<[INFO:x]@K>A", 21, 1),
+        ("<[+1#a]@K>K", 4, 4),
+        ("A<[+2]@A>", 4, 1),
+        (&("<[x]@A>".repeat(lent::DECLARATIONS + 1) + "A"), 6, 56),
+        (&format!("<[x]@A{}>A", ",A".repeat(lent::PLACES)), 6, 37),
+    ] {
+        let refusal = line.parse::<Peptidoform>().unwrap_err();
+        assert_eq!((refusal.number(), refusal.place(), refusal.column()), (number, place, Some(place + 1)), "{line}");
+    }
+    assert_eq!(Peptidoform::read(b"<[INFO:x]@K>A").unwrap_err().to_string(), "21 at 1: only INFO in a declaration");
+}
+
 /// The names are those of the header, in its order.
 #[test]
 fn sugars_are_those_of_the_header() {
@@ -287,7 +337,8 @@ fn words_are_those_of_the_list() {
     let mut rows = include_str!("../../refusals.tsv").lines().map(|row| row.split('\t').collect::<Vec<_>>());
     assert_eq!(rows.next().unwrap()[..2], ["number", "words"]);
     let listed: Vec<(usize, &str)> = rows.map(|row| (row[0].parse().unwrap(), row[1])).collect();
-    assert_eq!(listed, (1..).zip(WORDS).collect::<Vec<_>>());
+    assert_eq!(listed, (1..).zip(WORDS).filter(|(number, _)| *number != 20).collect::<Vec<_>>());
+    assert_eq!(WORDS[19], "");
 }
 
 #[test]

@@ -1,7 +1,9 @@
 //! The calls over lent slices: answers, refusals, and what they leave as it was.
 #![forbid(unsafe_code)]
 
-use hwemiduk::lent::{self, Limits, Listing, Shown, Site, BRACKETS, BYTES, COPIES, LINE, NUMBERS, PARTS, PIECES, POSITIONS, RESIDUES, ROWS};
+use hwemiduk::lent::{
+    self, Limits, Listing, Shown, Site, BRACKETS, BYTES, COPIES, DECLARATIONS, LINE, NUMBERS, PARTS, PIECES, PLACES, POSITIONS, RESIDUES, ROWS,
+};
 use hwemiduk::Refusal;
 
 fn tables(line: &str) -> ([u8; BYTES], [i64; NUMBERS]) {
@@ -21,6 +23,8 @@ fn constants_are_the_library_s() {
         residues: RESIDUES,
         brackets: BRACKETS,
         parts: PARTS,
+        declarations: DECLARATIONS,
+        places: PLACES,
         copies: COPIES,
         rows: ROWS,
         positions: POSITIONS,
@@ -119,6 +123,30 @@ fn compositions() {
     assert_eq!(lent::composition("Hex".repeat(PIECES).as_bytes(), &mut [0; 2 * PIECES]), Ok(2 * PIECES));
 }
 
+/// Document 02, L2: "Each matching position receives the modification", "once per declaration".
+#[test]
+fn positions_reached() {
+    let (bytes, numbers) = tables("<[+1]@K,k,N-term><[x]@W>[+2]?AKK");
+    let mut positions = [7; POSITIONS + 3];
+    assert_eq!(lent::reached(&bytes, &numbers, 0, &mut positions), Ok(3));
+    assert_eq!((&positions[..3], &positions[3..]), (&[0, 2, 3][..], &[7; POSITIONS][..]));
+    let mut positions = [7; POSITIONS];
+    for none in [1, 2] {
+        assert_eq!(lent::reached(&bytes, &numbers, none, &mut positions), Ok(0));
+    }
+    for beyond in [3, BRACKETS, usize::MAX] {
+        assert_eq!(refused(lent::reached(&bytes, &numbers, beyond, &mut positions)), (17, 0));
+        assert_eq!(lent::outs::reached(&bytes, &numbers, beyond, &mut positions), (17, usize::MAX));
+    }
+    assert_eq!(lent::outs::reached(&bytes, &numbers, 0, &mut positions[1..]), (13, usize::MAX));
+    assert_eq!(lent::outs::reached(&bytes[1..], &numbers, 0, &mut positions), (13, usize::MAX));
+    assert_eq!(lent::outs::reached(&bytes, &numbers[1..], 9, &mut positions), (13, usize::MAX));
+    assert_eq!(positions, [7; POSITIONS]);
+    let (bytes, numbers) = tables(&format!("<[+1]@A,N-term,C-term>{}", "A".repeat(RESIDUES)));
+    assert_eq!(lent::reached(&bytes, &numbers, 0, &mut positions), Ok(POSITIONS));
+    assert!(positions.iter().copied().eq(0..POSITIONS as u16));
+}
+
 /// Every call that takes tables answers 14 where a byte of junk stands in unused room.
 #[test]
 fn tables_of_no_line() {
@@ -135,4 +163,6 @@ fn tables_of_no_line() {
     assert_eq!(refused(lent::ledger(&bytes, &numbers, &[0; COPIES], &mut [0; POSITIONS])), fourteen);
     assert_eq!(refused(lent::next(&bytes, &numbers, &mut Listing::FRESH.clone())), fourteen);
     assert_eq!(refused(lent::rows(&bytes, &numbers, &mut [Site { floater: 0, position: 0 }; ROWS])), fourteen);
+    assert_eq!(refused(lent::reached(&bytes, &numbers, 0, &mut [0; POSITIONS])), fourteen);
+    assert_eq!(refused(lent::reached(&bytes, &numbers, BRACKETS, &mut [0; POSITIONS])), fourteen);
 }

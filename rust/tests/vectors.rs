@@ -27,15 +27,41 @@ fn every_entry() {
     assert_eq!(met, 2400);
 }
 
-#[test]
-fn every_line_with_compositions() {
+/// How many rows of a line and its outcome there are: each line has that entry.
+fn every_row(rows: &str) -> usize {
     let mut met = 0;
-    for (row, number) in include_str!("../../compare/vectors/compositions.txt").lines().zip(1..) {
+    for (row, number) in rows.lines().zip(1..) {
         let (line, printed) = row.split_once('\t').unwrap();
         assert_eq!(entry(number, line.as_bytes()), format!("{number} {printed}"));
         met += 1;
     }
-    assert!(met > 60, "{met}");
+    met
+}
+
+#[test]
+fn every_line_with_compositions() {
+    assert!(every_row(include_str!("../../compare/vectors/compositions.txt")) > 60);
+}
+
+/// The entries; and of each accepted line that its declarations stand at its front as they say, and make the total with what else there is.
+#[test]
+fn every_line_with_declarations() {
+    let rows = include_str!("../../compare/vectors/declarations.txt");
+    assert!(every_row(rows) > 150);
+    for row in rows.lines() {
+        let (line, printed) = row.split_once('\t').unwrap();
+        let Some(printed) = printed.strip_prefix("ok ") else { continue };
+        let p = Peptidoform::read(line.as_bytes()).unwrap();
+        let (declared, brackets) = (p.declared(), p.brackets());
+        let front: String = declared.iter().map(ToString::to_string).collect();
+        assert!(p.as_str().starts_with(&front) && !p.as_str()[front.len()..].starts_with('<'), "{line}");
+        let times = |index: usize| declared.get(index).map_or(usize::from(brackets[index].count), |one| one.positions.len());
+        let modifications = || brackets.iter().enumerate().filter(|(_, bracket)| bracket.is_modification());
+        let missing: usize = modifications().filter(|(_, bracket)| bracket.millionths.is_none()).map(|(index, _)| times(index)).sum();
+        let total: i64 = modifications().map(|(index, bracket)| times(index) as i64 * bracket.millionths.unwrap_or(0)).sum();
+        let shown = if missing > 0 { format!("?{missing}") } else { format!("{total:+}") };
+        assert_eq!(printed.splitn(5, ' ').nth(3), Some(shown.as_str()), "{line}");
+    }
 }
 
 #[test]

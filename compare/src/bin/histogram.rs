@@ -13,7 +13,7 @@ fn main() {
     let seed = argument(1);
     let count = argument(100_000) as usize;
 
-    let mut outcomes = [0_usize; 21];
+    let mut outcomes = [0_usize; 22];
     let mut floating = [0_usize; 9];
     let mut unplaceable = 0;
     for line in Generator::new(seed).take(count) {

@@ -1,10 +1,10 @@
 //! Lines to try, and areas to lend: what the areas hold is made by the independent code, with junk behind it.
 #![allow(dead_code)]
 
-use compare::areas::encode;
+use compare::areas::{encode, ROW, ROWS, ROW_PLACES};
 use compare::floating::crowded;
 use compare::generate::{share, Generator, Random};
-use compare::line::{Composition, Content, Key, Line, Number};
+use compare::line::{Composition, Content, Key, Kind, Label, Line, Number, Site};
 use compare::reader::read;
 
 pub const JUNK_BYTE: u8 = 0xA5;
@@ -66,6 +66,97 @@ pub fn wrong_compositions() -> Vec<(String, Lent)> {
     wrong
 }
 
+/// Areas with places or a declaration that no accepted line reads to, each with what is wrong in it.
+pub fn wrong_places() -> Vec<(String, Lent)> {
+    const LINE: &[u8] = b"<[+1]@K,N-term><[x]@C>[+2]?{+3}[+4]-KA[+5](CD)[+6]-[+7]";
+    let right = Lent::of(&read(LINE).unwrap());
+    let mut wrong = Vec::new();
+    // bytes of a row: where in it, and what is put there
+    let mut put = |what: String, row: usize, bytes: &[(usize, u8)]| {
+        let mut lent = right.clone();
+        for &(at, byte) in bytes {
+            lent.bytes[ROWS + row * ROW + at] = byte;
+        }
+        assert!(!lent.same(&right), "{what}");
+        wrong.push((what, lent));
+    };
+    let seventeen: Vec<(usize, u8)> = (1..=16).map(|at| (ROW_PLACES + at, b'K')).collect();
+    for many in [17, 18, 75, 255] {
+        put(format!("{many} places"), 0, &[(ROW_PLACES, many)]);
+        put(format!("{many} places and sites"), 0, &[&seventeen[..], &[(ROW_PLACES, many)]].concat());
+    }
+    put("no places".to_owned(), 0, &[(ROW_PLACES, 0), (ROW_PLACES + 1, 0), (ROW_PLACES + 2, 0)]);
+    for many in [0, 1, 3, 16] {
+        put(format!("two sites and {many} places"), 0, &[(ROW_PLACES, many)]);
+    }
+    for site in [0, 3, 64, 91, b'k', 127, 128, 200, 255] {
+        for at in 1..=2 {
+            put(format!("site {site} at {at}"), 0, &[(ROW_PLACES + at, site)]);
+        }
+    }
+    for site in [1, 2, 3, b'K', 200] {
+        for at in [3, 4, 15, 16] {
+            put(format!("site {site} behind the count at {at}"), 0, &[(ROW_PLACES + at, site)]);
+        }
+    }
+    // each kind of bracket but a declaration's, and a row that is not used
+    for row in 2..9 {
+        put(format!("a place in row {row}"), row, &[(ROW_PLACES, 1), (ROW_PLACES + 1, b'K')]);
+        put(format!("a terminus in row {row}"), row, &[(ROW_PLACES, 1), (ROW_PLACES + 1, 1)]);
+        put(format!("a site in row {row}"), row, &[(ROW_PLACES + 1, b'K')]);
+        put(format!("a number of places in row {row}"), row, &[(ROW_PLACES, 1)]);
+        put(format!("the last site in row {row}"), row, &[(ROW_PLACES + 16, 2)]);
+        put(format!("kind 7 in row {row}"), row, &[(0, 7)]);
+        // the first row behind the declarations may be one more
+        if row > 2 {
+            put(format!("kind 7 with a place in row {row}"), row, &[(0, 7), (ROW_PLACES, 1), (ROW_PLACES + 1, b'K')]);
+        }
+    }
+    for kind in [0, 1, 2, 3, 4, 5, 6, 8, 255] {
+        put(format!("kind {kind} with places"), 0, &[(0, kind)]);
+    }
+    for (at, name) in [(1, "first"), (2, "first, high"), (3, "last"), (4, "last, high"), (5, "count"), (7, "score")] {
+        for byte in [1, 2, 3] {
+            if (at, byte) != (5, 1) {
+                put(format!("{name} {byte}"), 0, &[(at, byte)]);
+            }
+        }
+    }
+    put("first and last 1".to_owned(), 0, &[(1, 1), (3, 1)]);
+    put("count 0".to_owned(), 1, &[(5, 0)]);
+    // what a declaration does not hold, and where none stands
+    let mut of = |what: &str, edit: &dyn Fn(&mut Line)| {
+        let mut line = read(LINE).unwrap();
+        edit(&mut line);
+        wrong.push((what.to_owned(), Lent::of(&line)));
+    };
+    let label = Label { name: b"a", score: None };
+    of("a label", &|line| line.parts[0].label = Some(label));
+    of("a reference", &|line| {
+        line.parts[0].content = Content::Reference;
+        line.parts[0].label = Some(label);
+    });
+    of("only INFO", &|line| {
+        line.parts[0].key = Key::Info;
+        line.parts[0].content = Content::Text(b"x");
+    });
+    of("a declaration behind an unknown one", &|line| line.brackets.swap(1, 2));
+    of("a declaration behind a labile one", &|line| line.brackets.swap(1, 3));
+    of("a declaration at the end", &|line| {
+        let last = line.brackets.len() - 1;
+        line.brackets.swap(0, last);
+    });
+    of("nine declarations", &|line| {
+        for _ in 0..7 {
+            let one = line.brackets[1];
+            line.brackets.insert(1, one);
+        }
+        assert_eq!(line.brackets.iter().filter(|one| one.kind == Kind::Declared).count(), 9);
+    });
+    of("a letter that is none", &|line| line.places[0] = Site::Letter(b'['));
+    wrong
+}
+
 pub fn shown(line: &[u8]) -> String {
     String::from_utf8_lossy(line).into_owned()
 }
@@ -107,6 +198,21 @@ pub fn for_generated(seed: u64, count: usize, mut check: impl FnMut(&[u8], &Line
         }
     }
     assert!(met * 4 > count, "{met} accepted");
+}
+
+/// Calls with each accepted one of so many lines with 0 to 10 declarations.
+pub fn for_declared(seed: u64, count: usize, mut check: impl FnMut(&[u8], &Line)) {
+    let mut generator = Generator::new(seeded(seed));
+    let mut met = 0;
+    let count = many(count);
+    for _ in 0..count {
+        let line = generator.declared();
+        if let Ok(held) = read(&line) {
+            check(&line, &held);
+            met += 1;
+        }
+    }
+    assert!(met * 3 > count, "{met} accepted");
 }
 
 /// Calls with so many short lines full of floating copies.

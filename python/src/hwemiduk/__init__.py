@@ -28,7 +28,7 @@ target/lib/libhwemiduk.so, which bin/build-shared links.
 from ._library import LIMITS, Limits, library_version
 from ._peptidoform import Line, Peptidoform, entry, read, read_lines
 from ._refusals import WORDS, Refusal
-from ._tables import SUGARS, Bracket, Floater, Key, Kind, Label, Number, Part, Section, composition
+from ._tables import SUGARS, Bracket, Declaration, Floater, Key, Kind, Label, Number, Part, Section, composition
 
 __version__ = "0.1.0"
 
@@ -37,6 +37,7 @@ __all__ = [
     "SUGARS",
     "WORDS",
     "Bracket",
+    "Declaration",
     "Floater",
     "Key",
     "Kind",

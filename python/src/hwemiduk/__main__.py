@@ -68,7 +68,7 @@ def _hinted(refusal: Refusal) -> str:
 
 
 def show(line: str) -> int:
-    """Prints what a line holds, and where its floating copies may stand."""
+    """Prints what a line holds, and where its declarations stand and its floating copies may stand."""
     try:
         p = Peptidoform(os.fsencode(line))
     except Refusal as refusal:
@@ -77,17 +77,20 @@ def show(line: str) -> int:
         return REFUSED
     print(f"canonical line: {p}")
     print(f"residues: {len(p.residues)}")
-    brackets = p.brackets
+    brackets, declared = p.brackets, p.declared
     print(f"brackets: {len(brackets)}")
-    for bracket in brackets:
+    for one in declared:
+        print(f"    {one.bracket}  declared for {', '.join(one.places)}: {'at ' + ' '.join(map(str, one.positions)) if one.positions else 'nowhere here'}")
+    for bracket in brackets[len(declared) :]:
         print(f"    {bracket}{'^' + str(bracket.count) if bracket.count != 1 else ''}  {_stands(bracket)}")
     missing = p.missing
     shift = f"not known: {missing} without a mass" if missing else f"{p.total() / 1e6:+.6f} Da"
     print(f"sum of the modifications, without the residues: {shift}")
     floaters = p.floaters
     print(f"floating copies: {len(floaters)}")
-    if floaters:
+    if declared or floaters:
         print("\n".join("    " + row for row in p.picture().split("\n")))
+    if floaters:
         print("a placement: " + (" ".join(map(str, next(p.placements(), ()))) or "there is none"))
     return ACCEPTED
 
@@ -134,7 +137,7 @@ def main(arguments: Optional[List[str]] = None) -> int:
         command = commands.add_parser(name, help=words)
         command.add_argument("file", nargs="*", default=["-"], help="a file of lines; '-', or none, is standard input")
         command.add_argument("--crlf", action="store_true", help="a line may end in CR LF")
-    one = commands.add_parser("show", help="print what a line holds, and where its floating copies may stand")
+    one = commands.add_parser("show", help="print what a line holds, and where its modifications stand or may stand")
     one.add_argument("line")
     given = parser.parse_args(arguments)
     try:

@@ -64,11 +64,15 @@ class Limits:
     depth: int
     #: the count behind ^
     count: int
+    #: declarations of a line
+    declarations: int
+    #: places of a declaration
+    places: int
     #: floating copies
     copies: int
     #: rows of floater and position
     rows: int
-    #: entries of a ledger
+    #: entries of a ledger, and of positions reached
     positions: int
     #: masses and scores are below this in size
     size: int
@@ -123,6 +127,7 @@ for _name, _arguments in {
     "ledger": (*_tables, POINTER(Position), c_size_t, POINTER(c_int64), c_size_t, c_void_p),
     "rows": (*_tables, POINTER(Site), c_size_t, c_void_p),
     "composition": (c_char_p, c_size_t, POINTER(c_uint8), c_size_t, POINTER(c_size_t)),
+    "reached": (*_tables, c_size_t, POINTER(Position), c_size_t, c_void_p),
 }.items():
     _function = getattr(library, "hwemiduk_" + _name)
     _function.argtypes, _function.restype = _arguments, c_uint8

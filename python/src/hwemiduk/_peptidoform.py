@@ -8,7 +8,7 @@ from typing import Any, Callable, Iterable, Iterator, List, NamedTuple, Optional
 from . import _tables
 from ._library import ENTRY, FRESH, FREE, LIMITS, Areas, Listing, Position, Site, give, library, take
 from ._refusals import Refusal
-from ._tables import Bracket, Floater, Section
+from ._tables import Bracket, Declaration, Floater, Section
 
 _read, _write = library.hwemiduk_read, library.hwemiduk_write
 _new = object.__new__
@@ -110,6 +110,16 @@ class Peptidoform:
         return self._with_tables(_tables.brackets)
 
     @property
+    def declared(self) -> Tuple[Declaration, ...]:
+        """The modifications that are declared once for the line, in order, each with its bracket, its places and the positions that it reaches.
+
+        >>> for one in Peptidoform("<[TMT6plex]@k,n-TERM>AKKA").declared:
+        ...     print(one.bracket, one.places, one.positions)
+        [TMT6plex] ('K', 'N-term') (0, 2, 3)
+        """
+        return self._with_tables(_tables.declared)
+
+    @property
     def floaters(self) -> Tuple[Floater, ...]:
         """The floating copies, in the order in which a placement gives their positions, each with its bracket and with where it may stand."""
         rows, brackets, floating = self._with_tables(lambda areas: (_rows(areas), _tables.brackets(areas), _floating(areas)))
@@ -123,21 +133,26 @@ class Peptidoform:
         return self._with_tables(_rows)
 
     def picture(self) -> str:
-        """Where each floater may stand: a row for each, `o` under the positions that are permitted, and its bracket.
+        """Where each declaration and each floater stands: a row for each declaration, `x` under the positions that it reaches; then a row for each floater, with its
+        number, `o` under the positions that are permitted, and its bracket.
 
-        >>> print(Peptidoform("[+1]^2?AM[+15.995]C[Oxidation#g]K[#g]").picture())
-          nAMCKc
-        1 .o.oo.   [+1]
-        2 .o.oo.   [+1]
-        3 ...oo.   [Oxidation#g]
+        >>> print(Peptidoform("<[+9]@A,N-term>[+1]^2?AM[+15.995]CC[Oxidation#g]K[#g]").picture())
+          nAMCCKc
+          xx.....   <[+9]@A,N-term>
+        1 ...ooo.   [+1]
+        2 ...ooo.   [+1]
+        3 ....oo.   [Oxidation#g]
 
         The first column is the N-terminus and the last the C-terminus.
         """
         residues = self.residues
+
+        def marks(positions: Tuple[int, ...], mark: str) -> str:
+            return "".join(mark if position in positions else "." for position in range(len(residues) + 2))
+
         lines = [f"  n{residues}c"]
-        for number, floater in enumerate(self.floaters, 1):
-            marks = "".join("o" if position in floater.positions else "." for position in range(len(residues) + 2))
-            lines.append(f"{number} {marks}   {floater.bracket}")
+        lines += [f"  {marks(one.positions, 'x')}   {one}" for one in self.declared]
+        lines += [f"{number} {marks(one.positions, 'o')}   {one.bracket}" for number, one in enumerate(self.floaters, 1)]
         return "\n".join(lines)
 
     # ---- Masses: of the modifications only
@@ -145,7 +160,7 @@ class Peptidoform:
     def total(self) -> int:
         """The sum of the masses of all modifications, in millionths; refused with 16 if one has no mass.
 
-        Counts are multiplied, labile ones are in it, a label is counted once. The residues' own masses are not in it.
+        Counts are multiplied, labile ones are in it, a label is counted once, a declared one once for each position that it reaches. The residues' own masses are not in it.
         """
         millionths = c_int64()
         self._ask(library.hwemiduk_total, byref(millionths))
@@ -162,7 +177,7 @@ class Peptidoform:
 
     @property
     def missing(self) -> int:
-        """How many modifications have no mass, each copy counted."""
+        """How many modifications have no mass, each copy counted, and each position that a declaration reaches."""
         return self._ask(library.hwemiduk_shown, byref(c_double()))
 
     # ---- Placements

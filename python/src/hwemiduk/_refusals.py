@@ -12,7 +12,7 @@ WORDS = {
     3: "a byte outside 32 to 126",
     4: "not of the order of a line",
     5: "pairs nested more than eight deep",
-    6: "too many residues (254), brackets (64) or parts (4), a text over 128 bytes or a label over 16",
+    6: "too many residues (254), brackets (64), parts (4), declarations (8) or places (16), a text over 128 bytes or a label over 16",
     7: "a mass or score of a million or more or with more than 6 decimals, a count outside 1 to 99",
     8: "something that is not taken here: Formula, Position, Limit, CoMKP, CoMUP, labels XL.. and BRANCH",
     9: "prefix U or M with a name of digits only",
@@ -27,20 +27,24 @@ WORDS = {
     17: "no placement, no further one, no such row or bracket",
     18: "a placement that is not allowed",
     19: "a composition that cannot be cut into listed names and counts",
+    21: "only INFO in a declaration",
 }
 
 #: These refusals are of a line, and their place is one in the line.
-_OF_A_LINE = (*range(1, 13), 19)
+_OF_A_LINE = (*range(1, 13), 19, 21)
 
 
 # Behind which a mass may begin, and behind which something must stand.
 _BEFORE_A_MASS = (b"[", b"|", b":")
 _GOES_ON = (*_BEFORE_A_MASS, b"(", b"{", b"?", b".", b"#", b"+", b"-")
+# What stands before a place in a declaration, and what before its places.
+_IN_PLACES = re.compile(rb"^<.*\]@[^>]*\Z")
+_BEFORE_PLACES = re.compile(rb"(?:^|>)<\[[^@]*\]\Z")
 
 
 def _hint(number: int, place: int, line: bytes) -> str:
     """The hint of bin/register, by the same tests in the same order."""
-    byte, before = line[place : place + 1], line[:place][-1:]
+    byte, before, head = line[place : place + 1], line[:place][-1:], line[:place]
     if number == 3:
         if byte == b"\r":
             return "CR: a file with Windows line ends? try --crlf" if place + 1 == len(line) else "CR: is a line end missing?"
@@ -56,21 +60,26 @@ def _hint(number: int, place: int, line: bytes) -> str:
     letter, then = byte.isalpha(), line[place + 1 : place + 2]
     for meant, words in (
         (place >= len(line), "the line ends here and should go on"),
+        (_IN_PLACES.search(head) and byte == b":", "a terminus of one residue is not taken here"),
+        (_IN_PLACES.search(head), "places are letters, N-term and C-term, with commas between: <[Oxidation]@M,C>"),
+        (before == b"<" and byte.isalnum(), "isotopes are not taken here"),
+        (before == b"<", "behind < stands a bracket: <[Oxidation]@M>"),
+        (_BEFORE_PLACES.search(head), "behind the bracket of a declaration stand its places: <[Oxidation]@M>"),
         (byte == b" ", "a blank: nothing is trimmed"),
         (byte == b"/" and then == b"/", "a second chain is not taken here"),
         (byte == b"/", "a charge is not taken here"),
-        (byte == b"<", "a global modification is not taken here"),
-        (byte == b">" or (byte == b"(" and then == b">"), "a line name is not taken here"),
+        (byte == b"<", "a declaration stands at the front of a line: <[Oxidation]@M>AM"),
+        ((byte == b">" and before in (b"", b"(")) or (byte == b"(" and then == b">"), "a line name is not taken here"),
         (byte == b"+" and before not in _BEFORE_A_MASS, "a second peptidoform behind + is not taken here"),
         (byte == b".", "a point: the peptide alone, without its neighbours"),
         (byte in (b",", b";", b'"'), "is this a table?"),
-        (byte in (b"]", b")", b"}"), "something is missing before it" if before in _GOES_ON else "nothing is open that it closes"),
+        (byte in (b"]", b")", b"}", b">"), "something is missing before it" if before in _GOES_ON else "nothing is open that it closes"),
         (before == b"-" and letter, "behind - stands a bracket: A-[Amidated]"),
         (before in (b"+", b"-"), "a sign starts a mass, and digits follow"),
         (byte == b"-", "a - joins brackets at a terminus: [Acetyl]-A, A-[Amidated]"),
         (byte == b"^", "a count stands in a run of unknown position: [+1]^2?A"),
         (byte == b"#", "no label or reference stands here"),
-        (letter and before in (b"]", b"}") and line[:1] in (b"[", b"{"), "a bracket at the front goes on with -, ? or ^"),
+        (letter and before in (b"]", b"}") and line[:1] in (b"[", b"{", b"<"), "a bracket at the front goes on with -, ? or ^"),
         (before == b")", "no bracket stands behind (?..)" if byte == b"[" else "a range (..) is followed by a bracket"),
         (byte == b"(", "ranges do not stand in each other"),
         (byte.isdigit() and before.isalpha(), "a number stands in brackets"),
@@ -96,8 +105,9 @@ def _hint_of_a_composition(text: bytes) -> str:
 class Refusal(ValueError):
     """What the library refuses: `number` says why (WORDS), and `place` where.
 
-    The place of refusals 1 to 12 and 19 is a byte of the line, counted from 0; where the line should go on and ends, it is the line's length. For 16, `place` is how
-    many modifications have no mass, each copy counted. `line` is the line that was refused (bytes), None where no line was read.
+    The place of refusals 1 to 12, 19 and 21 is a byte of the line, counted from 0; where the line should go on and ends, it is the line's length. For 16, `place` is how
+    many modifications have no mass, each copy counted, and each position that a declaration reaches. `line` is the line that was refused (bytes), None where no line
+    was read.
     """
 
     def __init__(self, number: int, place: int = 0, line: Optional[bytes] = None) -> None:

@@ -9,7 +9,7 @@ from dataclasses import dataclass
 from decimal import Decimal
 from typing import List, Optional, Tuple, Union
 
-from ._library import LIMITS, Areas, library
+from ._library import LIMITS, Areas, Position, library
 from ._refusals import Refusal
 
 
@@ -22,6 +22,7 @@ class Kind(enum.Enum):
     RESIDUE = "residue"
     RANGE = "range"
     C_TERM = "c-term"
+    DECLARED = "declared"
 
 
 class Section(enum.Enum):
@@ -133,11 +134,14 @@ class Part:
 
 @dataclass(frozen=True)
 class Bracket:
-    """A bracket: what it says, where it stands, and how often (`count`). `str()` is the bracket as it is written, without its count."""
+    """A bracket: what it says, where it stands, and how often (`count`). `str()` is the bracket as it is written, without its count and, in a declaration, without
+    its places."""
 
     kind: Kind
-    #: the positions it stands on: 0 is the N-terminus, 1 to n are the residues, n + 1 is the C-terminus; none where it is unknown or labile
+    #: the positions it stands on: 0 is the N-terminus, 1 to n are the residues, n + 1 is the C-terminus; none where it is unknown or labile, or declared: where that
+    #: one stands is in `Peptidoform.declared`
     positions: range
+    #: how many copies; 1 of a declaration, however many positions it reaches
     count: int
     parts: Tuple[Part, ...]
     #: the mass of one copy in millionths, as the library tells it: its first mass without Obs, else its first Obs mass; None where it has none
@@ -159,6 +163,21 @@ class Bracket:
 
 
 @dataclass(frozen=True)
+class Declaration:
+    """A modification that is declared once for the line: it is placed on each position that one of its places names. `str()` is the declaration as it is written."""
+
+    #: its bracket: that of the first declaration is the first of `Peptidoform.brackets`, that of the second the second
+    bracket: Bracket
+    #: its places, as they are written: letters, `N-term` and `C-term`
+    places: Tuple[str, ...]
+    #: the positions that it reaches, ascending and each once, as the library tells them
+    positions: Tuple[int, ...]
+
+    def __str__(self) -> str:
+        return f"<{self.bracket}@{','.join(self.places)}>"
+
+
+@dataclass(frozen=True)
 class Floater:
     """A floating copy: its bracket, which copy of it, and where it may stand."""
 
@@ -174,7 +193,9 @@ class Floater:
 # Where the tables lie in the area of bytes, and the numbers in a bracket's row, a part's row and before the letters: of one byte, or of two with the low one first
 # (include/hwemiduk.h).
 _HEAD, _PART = struct.Struct("<BHHBBB"), struct.Struct("<BBBBBH")
-_ROW = _HEAD.size + LIMITS.parts * _PART.size
+_PLACES = _HEAD.size + LIMITS.parts * _PART.size
+_SITES = _PLACES + 1
+_ROW = _SITES + LIMITS.places
 _COUNTS = struct.Struct("<HB")
 _LETTERS = _COUNTS.size
 _SECTIONS = _LETTERS + LIMITS.residues
@@ -189,6 +210,7 @@ _kinds = (Kind.UNKNOWN, *Kind)
 _sections = tuple(Section)
 _keys = dict(zip((*range(14), 15), Key))
 _MASS, _TEXT, _COMPOSITION = 1, 2, 4
+_termini = {1: "N-term", 2: "C-term"}
 _NO_MASS = 16
 
 
@@ -207,12 +229,32 @@ def brackets(areas: Areas) -> Tuple[Bracket, ...]:
     return tuple(_bracket(areas, index) for index in range(count))
 
 
+def declared(areas: Areas) -> Tuple[Declaration, ...]:
+    """The declarations: their brackets are the first ones."""
+    held = (bracket for bracket in brackets(areas) if bracket.kind is Kind.DECLARED)
+    return tuple(Declaration(bracket, _places(areas.data, index), _reached(areas, index)) for index, bracket in enumerate(held))
+
+
+def _places(data: bytearray, index: int) -> Tuple[str, ...]:
+    row = _BRACKETS + index * _ROW
+    sites = data[row + _SITES : row + _SITES + data[row + _PLACES]]
+    return tuple(_termini.get(site) or chr(site) for site in sites)
+
+
+def _reached(areas: Areas, index: int) -> Tuple[int, ...]:
+    positions = (Position * LIMITS.positions)()
+    number = library.hwemiduk_reached(*areas.tables, index, positions, LIMITS.positions, areas.size_at)
+    if number:
+        raise Refusal(number)
+    return tuple(positions[: areas.size.value])
+
+
 def _bracket(areas: Areas, index: int) -> Bracket:
     row = _BRACKETS + index * _ROW
     kind, first, last, count, parts, score = _HEAD.unpack_from(areas.data, row)
     numbers = areas.numbers[index * _NUMBERS : (index + 1) * _NUMBERS]
     scored = Number(numbers[LIMITS.parts], score - 1) if score else None
-    stands = range(0) if _kinds[kind] in (Kind.UNKNOWN, Kind.LABILE) else range(first, last + 1)
+    stands = range(0) if _kinds[kind] in (Kind.UNKNOWN, Kind.LABILE, Kind.DECLARED) else range(first, last + 1)
     held = tuple(_part(areas.data, row + _HEAD.size + k * _PART.size, numbers[k], scored) for k in range(parts))
     return Bracket(_kinds[kind], stands, count, held, _mass(areas, index))
 

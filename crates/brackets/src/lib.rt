@@ -1,5 +1,6 @@
 // The brackets, read from their rows. Each answer is the definition's, of the bracket in the areas, whatever the masses and scores are.
 use scope::grammar::Kind;
+use scope::tables::Tables;
 ghost use mathlib.Core.Path.{_≡_};
 ghost use mathlib.Core.Bool.{_&&_};
 ghost use mathlib.Core.List.{List, map};
@@ -40,11 +41,6 @@ const ON_RANGE: usize = 5;
 const C_TERM: usize = 6;
 
 const DECLARED: usize = 7;
-
-// the sites of the termini; that of a residue is its letter
-const N_TERMINUS: u8 = 1;
-
-const C_TERMINUS: u8 = 2;
 
 // How many parts there are.
 pub fn parts(bytes: &[u8], k: usize) -> usize
@@ -226,11 +222,11 @@ fn site_at(bytes: &[u8], x: usize) -> u8
     ensures { λ r. ⌜ ((ns : List ℤ) → r ≡ getD (sites (tablesIn (now (bytes .entry)) ns)) x 0) ⌝ }
 {
     if x == 0 {
-        return N_TERMINUS;
+        return Tables::N_TERMINUS;
     }
     let n = areas::residues(bytes);
     if n < x {
-        return C_TERMINUS;
+        return Tables::C_TERMINUS;
     }
     areas::letter(bytes, x - 1)
 }

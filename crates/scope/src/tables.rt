@@ -35,6 +35,11 @@ impl Tables {
     // of a declaration
     pub const PLACES: usize = 16;
 
+    // the sites of the termini, as places; that of a residue is its letter
+    pub const N_TERMINUS: u8 = 1;
+
+    pub const C_TERMINUS: u8 = 2;
+
     // a part's row
     pub const PART: usize = 7;
 

@@ -33,9 +33,13 @@ terminusAt line at = cond (eqb (getD line (at + 1) 0) dash) (terminusOr (upper (
 unfoldable pub placeOf : List ℕ → ℕ → Place ℕ
 placeOf line at = record { site = cond (eqb (terminusAt line at) 0) (upper (getD line at 0)) (terminusAt line at); at = at }
 
--- the byte behind it: behind a letter, or a word of six
+-- the bytes of `N-term` and `C-term`
+abbrev pub wordSize : ℕ
+wordSize = 6
+
+-- the byte behind it: behind a letter, or a word
 unfoldable pub placeEnd : List ℕ → ℕ → ℕ
-placeEnd line at = cond (eqb (terminusAt line at) 0) (at + 1) (at + 6)
+placeEnd line at = cond (eqb (terminusAt line at) 0) (at + 1) (at + wordSize)
 
 -- a site and the byte behind it, if a place stands there
 abbrev pub SiteIs : List ℕ → ℕ → ℕ → ℕ → Type 0

@@ -9,6 +9,9 @@ ghost use Rattle.scope.specs.Bytes.{comma};
 ghost use Rattle.scope.specs.Limits.{placeLimit};
 ghost use Rattle.sites.specs.Says.{terminusOr, terminusAt, SiteIs, WordSays, PlaceSays, ListSays};
 
+// The bytes of `N-term` and `C-term`.
+const WORD: usize = 6;
+
 // A list of places: the place where none goes on; or the byte behind it, how many places there are, and where there are too many, one more than the place of the first
 // past the limit, else 0.
 pub enum Listed {
@@ -126,10 +129,10 @@ fn terminus_of(letter: u8) -> u8
     ensures { λ r. ⌜ r ≡ terminusOr letter ⌝ }
 {
     if letter == b'N' {
-        return 1;
+        return Tables::N_TERMINUS;
     }
     if letter == b'C' {
-        return 2;
+        return Tables::C_TERMINUS;
     }
     0
 }
@@ -154,11 +157,11 @@ pub fn site_at(line: &[u8], at: usize) -> Site
             next: at + 1,
         };
     }
-    if line.len() - at < 6 {
+    if line.len() - at < WORD {
         return Site { site: 0, next: at };
     }
     Site {
         site: t,
-        next: at + 6,
+        next: at + WORD,
     }
 }

@@ -2,16 +2,12 @@
 use figures::copy;
 use figures::put;
 use figures::word;
+use scope::tables::Tables;
 ghost use Prim.Native.Nat.{_+_, _≤_};
 ghost use Rattle.scope.specs.Keys.{written, keyIn};
 ghost use Rattle.scope.specs.Places.{siteText};
 ghost use Rattle.figures.specs.Written.{Puts, ceiling};
 ghost use Rattle.spelling.specs.Widths.{keyMost, siteMost};
-
-// The sites of the termini; any other is a residue's letter.
-const N_TERMINUS: u8 = 1;
-
-const C_TERMINUS: u8 = 2;
 
 // The prefixes and key words, "written in the spelling given here", and the colon behind them; nothing for no key.
 pub fn put_key(c: usize, out: &mut [u8], at: usize) -> usize
@@ -34,10 +30,10 @@ pub fn put_site(s: u8, out: &mut [u8], at: usize) -> usize
     requires { ⌜ at + siteMost ≤ ceiling ⌝ }
     ensures { λ r. ⌜ Puts siteMost (now (out .entry)) at (siteText s) (now (out .exit)) r ⌝ }
 {
-    if s == N_TERMINUS {
+    if s == Tables::N_TERMINUS {
         return word(b"N-term", out, at);
     }
-    if s == C_TERMINUS {
+    if s == Tables::C_TERMINUS {
         return word(b"C-term", out, at);
     }
     put(out, at, s)

@@ -1,95 +1,134 @@
 -- Laws of the digits of a number. Assumes nothing.
 use mathlib.Core.Path.{_≡_, refl, sym, ap, ap₂, _∙_}
-use mathlib.Core.List.{List, [], _∷_, _++_, append-assoc}
+use mathlib.Core.Bool.{Bool, true, false, cond}
+use mathlib.Core.List.{List, [], _∷_, _++_, append-nil, append-assoc}
 use Prim.Native.Nat.{ℕ, zero, suc, _+_, _-_, _*_, _/_, _%_, _^_, _≤_, _<_}
-use native.Mathlib.Nat.{pow-suc, div-lt-iff-lt-mul, div-div-eq-div-mul}
+use native.Mathlib.Nat.{pow-suc, zero-add, mul-comm, div-one, div-le-self, le-div-iff-mul-le, div-lt-iff-lt-mul, div-div-eq-div-mul}
 use native.Mathlib.Numerals.{add-one}
 use native.Mathlib.Omega.{arith}
-use borrow.Author.Tests.{lt-ltb, le-ltb}
-use mathlib.Core.Bool.{Bool, true, false}
-use borrow.Author.Tests.{ne-eqb}
+use borrow.Author.Tests.{lt-ltb, le-ltb, ne-eqb}
+use lib.Arith.{mod-mul}
+use lib.Dec.{ltb}
 use lib.IntN.{ℤ, natAbs}
 use Rattle.scope.specs.Bytes.{plus, dash, dot, caret}
 use Rattle.scope.specs.Limits.{decimalLimit}
 use Rattle.scope.specs.Layout.{isNegative, numberIn}
 use Rattle.scope.specs.Canonical.{decimalUpTo, decimal, lastDigits, decimals, size, countText}
-use Rattle.figures.specs.Written.{numberOf, signText, numberText}
+use Rattle.figures.specs.Written.{decimalMost, DigitsIn, numberOf, signText, numberText}
+use Rattle.tens.proofs.Powers.{power-some}
 
-pub decimal-one : (k n : ℕ) → n < 10 → (48 + n) ∷ [] ≡ decimalUpTo k n
+-- ---- the last digits
+-- by tens: what is left of a number, and its last digit
+by-tens : (r q y : ℕ) → r ≡ q * 10 + y → y < 10 → (r / 10 ≡ q) × (r % 10 ≡ y)
+by-tens r q y e h = (omega arith, omega arith)
+
+tenth-far : (d n : ℕ) → n / 10 / 10 ^ d ≡ n / 10 ^ suc d
+tenth-far d n = div-div-eq-div-mul n 10 (10 ^ d) ∙ ap (λ p. n / p) (mul-comm 10 (10 ^ d) ∙ sym (pow-suc 10 d))
+
+-- no more of a number than its last d digits is asked
+pub only-last : (d n : ℕ) → lastDigits d n ≡ lastDigits d (n % 10 ^ d)
+unfolding lastDigits
+only-last zero n = refl
+only-last (suc d) n =
+    let whole : n % 10 ^ suc d ≡ n / 10 % 10 ^ d * 10 + n % 10 = rw (pow-suc 10 d) (mod-mul n (power-some d) (omega arith)) in
+    let cut = by-tens (n % 10 ^ suc d) (n / 10 % 10 ^ d) (n % 10) whole (omega arith) in
+    rw (cut .0, cut .1) (ap (λ t. t ++ ((48 + n % 10) ∷ [])) (only-last d (n / 10)))
+
+-- digits before the last d, and the last d
+pub last-split : (d a n : ℕ) → lastDigits (d + a) n ≡ lastDigits a (n / 10 ^ d) ++ lastDigits d n
+unfolding lastDigits
+last-split zero a n = rw (zero-add a, div-one n) (sym (append-nil (lastDigits a n)))
+last-split (suc d) a n =
+    let x = (48 + n % 10) ∷ [] in
+    let more : suc d + a ≡ suc (d + a) = omega arith in
+    rw more
+    (ap (λ t. t ++ x) (last-split d a (n / 10) ∙ ap (λ m. lastDigits a m ++ lastDigits d (n / 10)) (tenth-far d n))
+    ∙ append-assoc (lastDigits a (n / 10 ^ suc d)) (lastDigits d (n / 10)) x)
+
+-- the leading digit, and what is left
+pub lead : (k n : ℕ) → n < 10 ^ (k + 1) → lastDigits (k + 1) n ≡ (48 + n / 10 ^ k) ∷ lastDigits k (n % 10 ^ k)
+unfolding lastDigits
+lead k n h =
+    let small : n / 10 ^ k < 10 = div-lt-iff-lt-mul {k = 10 ^ k} {x = n} {y = 10} (power-some k) .1 (rw (mul-comm 10 (10 ^ k), sym (pow-suc 10 k), sym (add-one k)) h) in
+    let one : n / 10 ^ k % 10 ≡ n / 10 ^ k = omega arith in
+    last-split k 1 n ∙ ap₂ (λ x t. (48 + x) ∷ t) one (only-last k n)
+
+-- ---- a number without leading zeros
+decimal-one : (k n : ℕ) → n < 10 → decimalUpTo k n ≡ (48 + n) ∷ []
 unfolding decimalUpTo
 decimal-one zero n h = refl
 decimal-one (suc k) n h = rw (lt-ltb n 10 h)
 
-pub decimal-more : (k n : ℕ) → 0 < k → 10 ≤ n → decimalUpTo (k - 1) (n / 10) ++ ((48 + n % 10) ∷ []) ≡ decimalUpTo k n
+decimal-more : (k n : ℕ) → 10 ≤ n → decimalUpTo (suc k) n ≡ decimalUpTo k (n / 10) ++ ((48 + n % 10) ∷ [])
 unfolding decimalUpTo
-decimal-more zero n z h = absurd (omega arith)
-decimal-more (suc k) n z h =
-    let e : suc k - 1 ≡ k = omega arith in
-    rw (e, le-ltb n 10 h)
+decimal-more k n h = rw (le-ltb n 10 h)
 
-pub tenth-small : (k n : ℕ) → 0 < k → n < 10 ^ (k + 1) → n / 10 < 10 ^ (k - 1 + 1)
-tenth-small zero n z h = absurd (omega arith)
-tenth-small (suc k) n z h =
-    let e : suc k - 1 + 1 ≡ suc k = omega arith in
-    let p : 10 ^ (suc k + 1) ≡ 10 ^ suc k * 10 = rw (add-one (suc k)) (pow-suc 10 (suc k)) in
-    rw e (div-lt-iff-lt-mul {k = 10} {x = n} {y = 10 ^ suc k} (omega arith) .1 (rw p at h))
+-- a tenth has a digit less
+tenth-below : (k n : ℕ) → n < 10 ^ suc (suc k) → n / 10 < 10 ^ suc k
+tenth-below k n h = div-lt-iff-lt-mul {k = 10} {x = n} {y = 10 ^ suc k} (omega arith) .1 (rw (pow-suc 10 (suc k)) at h)
 
--- two digits
-pub decimal-two : (k n : ℕ) → 0 < k → 10 ≤ n → n < 100 → (48 + n / 10) ∷ (48 + n % 10) ∷ [] ≡ decimalUpTo k n
-decimal-two k n z h l = ap (λ t. t ++ ((48 + n % 10) ∷ [])) (decimal-one (k - 1) (n / 10) (omega arith)) ∙ decimal-more k n z h
+tenth-above : (k n : ℕ) → 10 ^ suc k ≤ n → 10 ^ k ≤ n / 10
+tenth-above k n h = le-div-iff-mul-le {k = 10} {x = 10 ^ k} {y = n} (omega arith) .1 (rw (pow-suc 10 k) at h)
 
--- the last two of a number, and the rest of it
-two-last : (n : ℕ) → (48 + n % 100 / 10) ∷ (48 + n % 100 % 10) ∷ [] ≡ (48 + n / 10 % 10) ∷ (48 + n % 10) ∷ []
-two-last n =
-    let rest : n / 10 / 10 ≡ n / 100 = div-div-eq-div-mul n 10 10 in
-    let high : n % 100 / 10 ≡ n / 10 % 10 = omega arith in
-    let low : n % 100 % 10 ≡ n % 10 = omega arith in
-    rw (low, high)
-
--- digits of which the last ones are found one after another, are found two by two
-by-two : (f : ℕ → ℕ → List ℕ) (k n : ℕ) → f (k - 1 - 1) (n / 10 / 10) ++ ((48 + n / 10 % 10) ∷ []) ≡ f (k - 1) (n / 10) → f (k - 1) (n / 10) ++ ((48 + n % 10) ∷ []) ≡ f k n
-    → f (k - 2) (n / 100) ++ ((48 + n % 100 / 10) ∷ (48 + n % 100 % 10) ∷ []) ≡ f k n
-by-two f k n p q =
-    let two : k - 2 ≡ k - 1 - 1 = omega arith in
-    rw (two-last n, ← div-div-eq-div-mul n 10 10, two, ← append-assoc (f (k - 1 - 1) (n / 10 / 10)) ((48 + n / 10 % 10) ∷ []) ((48 + n % 10) ∷ []))
-    (ap (λ t. t ++ ((48 + n % 10) ∷ [])) p ∙ q)
-
-pub decimal-pair : (k n : ℕ) → 1 < k → 100 ≤ n → decimalUpTo (k - 2) (n / 100) ++ ((48 + n % 100 / 10) ∷ (48 + n % 100 % 10) ∷ []) ≡ decimalUpTo k n
-decimal-pair k n z h = by-two decimalUpTo k n (decimal-more (k - 1) (n / 10) (omega arith) (omega arith)) (decimal-more k n (omega arith) (omega arith))
-
-pub hundredth-small : (k n : ℕ) → 1 < k → n < 10 ^ (k + 1) → n / 100 < 10 ^ (k - 2 + 1)
-hundredth-small k n z h =
-    let rest : n / 100 ≡ n / 10 / 10 = sym (div-div-eq-div-mul n 10 10) in
-    let two : k - 2 ≡ k - 1 - 1 = omega arith in
-    rw (rest, two) (tenth-small (k - 1) (n / 10) (omega arith) (tenth-small k n (omega arith) h))
-
-pub last-none : (d n : ℕ) → d ≡ 0 → [] ≡ lastDigits d n
+-- of a number of k + 1 digits, none of which is a zero in front, the last k + 1 are all
+as-last : (k m n : ℕ) → (0 < k → 10 ^ k ≤ n) → n < 10 ^ suc k → k ≤ m → decimalUpTo m n ≡ lastDigits (suc k) n
 unfolding lastDigits
-last-none d n e = rw e
+as-last zero m n h l f = let e : n % 10 ≡ n = omega arith in decimal-one m n (omega arith) ∙ ap (λ x. (48 + x) ∷ []) (sym e)
+as-last (suc k) zero n h l f = absurd (omega arith)
+as-last (suc k) (suc m) n h l f =
+    let above : 10 ^ k ≤ n / 10 = tenth-above k n (h (omega arith)) in
+    decimal-more m n (omega (arith, above, power-some k))
+    ∙ ap (λ t. t ++ ((48 + n % 10) ∷ [])) (as-last k m (n / 10) (λ z. above) (tenth-below k n l) (omega arith))
 
-pub last-more : (d n : ℕ) → (d ≡ 0 → ⊥) → lastDigits (d - 1) (n / 10) ++ ((48 + n % 10) ∷ []) ≡ lastDigits d n
+pub as-decimal : (k n : ℕ) → (0 < k → 10 ^ k ≤ n) → n < 10 ^ (k + 1) → k < decimalMost → decimal n ≡ lastDigits (k + 1) n
+unfolding decimal
+as-decimal k n h l f = rw (add-one k) (as-last k (decimalMost - 1) n h (rw (sym (add-one k)) l) (omega arith))
+
+-- one digit
+pub decimal-digit : (n : ℕ) {b : ℕ} → n < 10 → b ≡ 48 + n → b ∷ [] ≡ decimal n
+unfolding decimal
+decimal-digit n h e = ap (λ x. x ∷ []) e ∙ sym (decimal-one (decimalMost - 1) n h)
+
+-- no more digits than there is room for
+pub at-most : (k d n : ℕ) → 10 ^ k ≤ n → n < 10 ^ suc d → k ≤ d
+at-most zero d n h l = omega arith
+at-most (suc k) zero n h l = absurd (omega (arith, tenth-above k n h, power-some k))
+at-most (suc k) (suc d) n h l = let e = at-most k d (n / 10) (tenth-above k n h) (tenth-below d n l) in omega (arith, e)
+
+pub digits-in : (k n : ℕ) → (0 < k → 10 ^ k ≤ n) → n < 10 ^ (k + 1) → k < decimalMost → DigitsIn n (k + 1)
+digits-in k n h l f = record { whole = sym (as-decimal k n h l f); least = least k h }
+  where
+    least : (k : ℕ) → (0 < k → 10 ^ k ≤ n) → (d : ℕ) → n < 10 ^ (d + 1) → k + 1 ≤ d + 1
+    least zero h d l = omega arith
+    least (suc k) h d l = let e = at-most (suc k) d n (h (omega arith)) (rw (add-one d) at l) in omega (arith, e)
+
+-- room for one digit more changes nothing
+steady : (k n : ℕ) → n < 10 ^ suc k → decimalUpTo k n ≡ decimalUpTo (suc k) n
+unfolding decimalUpTo
+steady zero n h = sym (decimal-one 1 n (omega arith))
+steady (suc k) n h = ap (λ t. cond (ltb n 10) ((48 + n) ∷ []) (t ++ ((48 + n % 10) ∷ []))) (steady k (n / 10) (tenth-below k n h))
+
+-- the digits before the last d, and these
+behind-leading :
+    (d m n : ℕ) → 10 ^ d ≤ n → n < 10 ^ suc m → decimalUpTo m n ≡ decimalUpTo m (n / 10 ^ d) ++ lastDigits d n
 unfolding lastDigits
-last-more zero n z = absurd (z refl)
-last-more (suc d) n z =
-    let e : suc d - 1 ≡ d = omega arith in
-    rw e
+behind-leading zero m n h l = rw (div-one n) (sym (append-nil (decimalUpTo m n)))
+behind-leading (suc d) zero n h l = absurd (omega (arith, tenth-above d n h, power-some d))
+behind-leading (suc d) (suc m) n h l =
+    let x = (48 + n % 10) ∷ [] in
+    let above = tenth-above d n h in
+    let below = tenth-below m n l in
+    let far = tenth-far d n in
+    let less : n / 10 / 10 ^ d ≤ n / 10 = div-le-self (n / 10) (10 ^ d) in
+    let same = steady m (n / 10 / 10 ^ d) (omega (arith, less, below)) ∙ ap (decimalUpTo (suc m)) far in
+    decimal-more m n (omega (arith, above, power-some d))
+    ∙ ap (λ t. t ++ x) (behind-leading d m (n / 10) above below)
+    ∙ append-assoc (decimalUpTo m (n / 10 / 10 ^ d)) (lastDigits d (n / 10)) x
+    ∙ ap (λ t. t ++ (lastDigits d (n / 10) ++ x)) same
 
--- a number of more than one digit has room for one more
-pub room-for-more : (k n : ℕ) → 10 ≤ n → n < 10 ^ (k + 1) → 0 < k
-room-for-more zero n h l = absurd (omega arith)
-room-for-more (suc k) n h l = omega arith
-
-pub room-for-two : (k n : ℕ) → 100 ≤ n → n < 10 ^ (k + 1) → 1 < k
-room-for-two zero n h l = absurd (omega arith)
-room-for-two (suc zero) n h l = absurd (omega arith)
-room-for-two (suc (suc k)) n h l = omega arith
-
-pub last-one : (d n : ℕ) → (d ≡ 0 → ⊥) → d < 2 → (48 + n % 10) ∷ [] ≡ lastDigits d n
-unfolding lastDigits
-last-one d n z h = let e : d ≡ 1 = omega (arith, z) in rw e
-
-pub last-pair : (d n : ℕ) → 2 ≤ d → lastDigits (d - 2) (n / 100) ++ ((48 + n % 100 / 10) ∷ (48 + n % 100 % 10) ∷ []) ≡ lastDigits d n
-last-pair d n h = by-two lastDigits d n (last-more (d - 1) (n / 10) (λ e. omega arith)) (last-more d n (λ e. omega arith))
+pub decimal-behind : (d n : ℕ) → 10 ^ d ≤ n → n < 10 ^ decimalMost → decimal n ≡ decimal (n / 10 ^ d) ++ lastDigits d n
+unfolding decimal
+decimal-behind d n h l = behind-leading d (decimalMost - 1) n h l
 
 -- ---- numbers with their point and sign
 pub decimals-none : (d n : ℕ) → d ≡ 0 → [] ≡ decimals d n
@@ -131,6 +170,3 @@ count-one n e = rw e
 
 pub count-more : (n : ℕ) → (n ≡ 1 → ⊥) → (caret ∷ []) ++ decimal n ≡ countText n
 count-more n z = rw (ne-eqb n 1 z)
-
-pub up : (k n : ℕ) → n ≤ k → (k ≡ n → ⊥) → n + 1 ≤ k
-up k n h e = omega arith

@@ -1,3 +1,4 @@
-pub mod Storing
 pub mod Digits
+pub mod Storing
 pub mod Signs
+pub mod Progress

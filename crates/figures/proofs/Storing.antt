@@ -1,14 +1,16 @@
 -- Laws of `stored` and of `Puts`: nothing, one byte, one run behind another, and what the whole leaves. Assumes nothing.
 use mathlib.Core.Path.{_≡_, refl, sym, ap, _∙_}
 use mathlib.Core.List.{List, [], _∷_, _++_}
-use Prim.Native.Nat.{ℕ, zero, suc, _+_, _-_, _≤_, _<_, min}
+use Prim.Native.Nat.{ℕ, zero, suc, _+_, _-_, _/_, _%_, _^_, _≤_, _<_, min}
 use native.Mathlib.Nat.{add-zero}
 use native.Mathlib.Numerals.{add-one}
 use native.Mathlib.Omega.{arith}
 use lib.ListN.{length, set, take, drop, getD, length-append, length-take, length-drop, length-set}
 use lib.Seq.{set-out, drop-nil, take-suc, take-add, getD-drop}
 use Rattle.scope.specs.Lists.{part}
-use Rattle.figures.specs.Written.{stored, Puts}
+use Rattle.scope.specs.Canonical.{decimal, lastDigits}
+use Rattle.figures.specs.Written.{stored, Puts, decimalMost}
+use Rattle.figures.proofs.Digits.{only-last, lead, as-decimal}
 
 -- ---- runs of stores
 pub stored-append : (o : List ℕ) (at : ℕ) (s t : List ℕ) → stored o at (s ++ t) ≡ stored (stored o at s) (at + length s) t
@@ -91,6 +93,27 @@ puts-under e h a = puts-within (rw e h) a
 
 pub puts-of : {m : ℕ} {o : List ℕ} {at : ℕ} {s t : List ℕ} {p : List ℕ} {q : ℕ} → s ≡ t → Puts m o at s p q → Puts m o at t p q
 puts-of e a = rw e at a
+
+-- all digits of a number, which are k + 1
+pub puts-decimal :
+    (k n : ℕ) {o : List ℕ} {at : ℕ} {left : List ℕ} {r : ℕ} → (0 < k → 10 ^ k ≤ n) → n < 10 ^ (k + 1) → k < decimalMost
+    → Puts (k + 1) o at (lastDigits (k + 1) n) left r → Puts decimalMost o at (decimal n) left r
+puts-decimal k n h l f a = puts-of (sym (as-decimal k n h l f)) (puts-within (omega arith) a)
+
+-- the last k digits, where k is known
+pub puts-last :
+    (d n : ℕ) {k : ℕ} {o : List ℕ} {at : ℕ} {left : List ℕ} → k ≡ d → Puts d o at (lastDigits d (n % 10 ^ d)) left (at + d)
+    → Puts k o at (lastDigits k n) left (at + k)
+puts-last d n e a = rw e (puts-of (sym (only-last d n)) a)
+
+-- the leading digit, and behind it what is left
+pub puts-lead :
+    (k n : ℕ) {o : List ℕ} {at b : ℕ} {left : List ℕ} → n < 10 ^ (k + 1) → b ≡ 48 + n / 10 ^ k
+    → Puts k (set o at b) (at + 1) (lastDigits k (n % 10 ^ k)) left (at + 1 + k) → Puts (k + 1) o at (lastDigits (k + 1) n) left (at + (k + 1))
+puts-lead k n {o} {at} {b} h e f =
+    let behind : at + 1 + k ≡ at + (k + 1) = omega arith in
+    let most : 1 + k ≡ k + 1 = omega arith in
+    rw (behind, most) at (puts-of (ap (λ x. x ∷ lastDigits k (n % 10 ^ k)) e ∙ sym (lead k n h)) (puts-join (puts-stored o at b) f))
 
 -- ---- a list and a part of an area, byte by byte
 pub taken-more : (l : List ℕ) (i : ℕ) → i < length l → take i l ++ (getD l i 0 ∷ []) ≡ take (i + 1) l

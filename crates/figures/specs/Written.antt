@@ -2,13 +2,13 @@
 -- and not stored.
 use mathlib.Core.Path.{_≡_}
 use mathlib.Core.List.{List, [], _∷_}
-use Prim.Native.Nat.{ℕ, _+_, _≤_}
+use Prim.Native.Nat.{ℕ, _+_, _*_, _^_, _≤_, _<_}
 use lib.ListN.{length, set}
 use mathlib.Core.Bool.{Bool, cond}
 use Rattle.scope.specs.Bytes.{plus, dash}
 use Rattle.scope.specs.Limits.{decimalLimit}
 use Rattle.scope.specs.Line.{Number}
-use Rattle.scope.specs.Canonical.{massText, scoreText}
+use Rattle.scope.specs.Canonical.{decimal, lastDigits, massText, scoreText}
 
 -- the output after a run of bytes was stored from a place on, as far as there is room
 unfoldable pub stored : List ℕ → ℕ → List ℕ → List ℕ
@@ -30,6 +30,10 @@ ceiling = 1000000
 abbrev pub decimalMost : ℕ
 decimalMost = 20
 
+-- so many digits of it are written at once, at most
+abbrev pub groupSize : ℕ
+groupSize = 6
+
 -- the point, and the digits behind it
 abbrev pub fractionMost : ℕ
 fractionMost = 1 + decimalLimit
@@ -46,6 +50,15 @@ abbrev pub countMost : ℕ
 countMost = 1 + decimalMost
 
 -- ---- what is written
+-- a number of 64 bits that has g groups of digits behind its leading ones
+abbrev pub Grouped : ℕ → ℕ → Type 0
+Grouped g n = (10 ^ (groupSize * g) ≤ n) × (n < 10 ^ (groupSize * (g + 1))) × (n < 10 ^ decimalMost)
+
+-- r digits, no zero in front, are all that a number has
+pub record DigitsIn (n r : ℕ) : Type 0 where
+  pub whole : lastDigits r n ≡ decimal n
+  pub least : (d : ℕ) → n < 10 ^ (d + 1) → r ≤ d + 1
+
 -- the number of the tables with this sign, these digits and so many decimals
 abbrev pub numberOf : Bool → ℕ → ℕ → Number (Unit {0})
 numberOf minus digits decimals = record { minus = minus; digits = digits; decimals = decimals; at = tt }

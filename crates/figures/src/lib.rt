@@ -2,19 +2,20 @@
 use scope::tables::Number;
 ghost use mathlib.Core.Path.{_≡_};
 ghost use mathlib.Core.List.{[], _∷_};
-ghost use Prim.Native.Nat.{_+_, _-_, _/_, _%_, _^_, _<_, _≤_, min};
+ghost use Prim.Native.Nat.{_+_, _-_, _*_, _/_, _%_, _^_, _<_, _≤_, min};
 ghost use lib.IntN.{natAbs};
 ghost use lib.ListN.{length};
-ghost use Rattle.scope.specs.Canonical.{decimalUpTo, decimal, lastDigits, decimals, size, countText};
+ghost use Rattle.scope.specs.Canonical.{decimal, lastDigits, decimals, size, countText};
 ghost use Rattle.scope.specs.Lists.{part};
 ghost use Rattle.scope.specs.Limits.{decimalLimit};
 ghost use Rattle.scope.specs.Layout.{isNegative, numberIn};
-ghost use Rattle.figures.specs.Written.{Puts, ceiling, decimalMost, fractionMost, sizeMost, numberMost, countMost, numberOf, signText, numberText};
+ghost use Rattle.figures.specs.Written.{Puts, DigitsIn, Grouped, ceiling, decimalMost, groupSize, fractionMost, sizeMost, numberMost, countMost, numberOf, signText, numberText};
 
-// A number of 64 bits has at most so many digits: one, and so many more.
+// A number of 64 bits has at most so many digits.
 pub const DIGITS: usize = 20;
 
-const FURTHER_DIGITS: usize = DIGITS - 1;
+// So many of them are written at once, at most.
+const GROUP: usize = 6;
 
 // How many decimals a mass or a score has at most.
 const DECIMALS: usize = Number::DECIMALS as usize;
@@ -81,51 +82,166 @@ fn digit(n: u64) -> u8
     48 + n as u8
 }
 
-// One digit.
-fn put_digit(n: u64, out: &mut [u8], at: usize) -> usize
-    requires { ⌜ (n < 10) × (at + 1 ≤ ceiling) ⌝ }
-    ensures { λ r. ⌜ Puts 1 (now (out .entry)) at ((48 + n) ∷ []) (now (out .exit)) r ⌝ }
+// ---- digits: the leading one is stored, and what is left goes on to the next lower power of ten
+
+fn store_one(n: u64, out: &mut [u8], at: usize)
+    requires { ⌜ (n < 10 ^ 1) × (at + 1 ≤ length (now out)) ⌝ }
+    ensures { λ _. ⌜ Puts 1 (now (out .entry)) at (lastDigits 1 n) (now (out .exit)) (at + 1) ⌝ }
 {
-    put(out, at, digit(n))
+    out[at] = digit(n);
 }
 
-// Two digits.
-fn put_two(n: u64, out: &mut [u8], at: usize) -> usize
-    requires { ⌜ (n < 100) × (at + 2 ≤ ceiling) ⌝ }
-    ensures { λ r. ⌜ Puts 2 (now (out .entry)) at ((48 + n / 10) ∷ (48 + n % 10) ∷ []) (now (out .exit)) r ⌝ }
+fn store_two(n: u64, out: &mut [u8], at: usize)
+    requires { ⌜ (n < 10 ^ 2) × (at + 2 ≤ length (now out)) ⌝ }
+    ensures { λ _. ⌜ Puts 2 (now (out .entry)) at (lastDigits 2 n) (now (out .exit)) (at + 2) ⌝ }
 {
-    let a = put_digit(n / 10, out, at);
-    put_digit(n % 10, out, a)
+    out[at] = digit(n / tens::TEN);
+    store_one(n % tens::TEN, out, at + 1);
 }
 
-// The digits of n, at most k + 1 of them, two by two from behind.
-fn decimal_up_to(k: usize, n: u64, out: &mut [u8], at: usize) -> usize
-    requires { ⌜ (n < 10 ^ (k + 1)) × (at + k + 1 ≤ ceiling) ⌝ }
-    ensures { λ r. ⌜ Puts (k + 1) (now (out .entry)) at (decimalUpTo k n) (now (out .exit)) r ⌝ }
+fn store_three(n: u64, out: &mut [u8], at: usize)
+    requires { ⌜ (n < 10 ^ 3) × (at + 3 ≤ length (now out)) ⌝ }
+    ensures { λ _. ⌜ Puts 3 (now (out .entry)) at (lastDigits 3 n) (now (out .exit)) (at + 3) ⌝ }
 {
-    if n < 10 {
-        return put_digit(n, out, at);
-    }
-    if n < 100 {
-        return put_two(n, out, at);
-    }
-    let a = decimal_up_to(k - 2, n / 100, out, at);
-    put_two(n % 100, out, a)
+    out[at] = digit(n / tens::HUNDRED);
+    store_two(n % tens::HUNDRED, out, at + 1);
 }
 
-// The last d digits of n, two by two from behind.
-fn last_digits(d: usize, n: u64, out: &mut [u8], at: usize) -> usize
-    requires { ⌜ at + d ≤ ceiling ⌝ }
-    ensures { λ r. ⌜ Puts d (now (out .entry)) at (lastDigits d n) (now (out .exit)) r ⌝ }
+fn store_four(n: u64, out: &mut [u8], at: usize)
+    requires { ⌜ (n < 10 ^ 4) × (at + 4 ≤ length (now out)) ⌝ }
+    ensures { λ _. ⌜ Puts 4 (now (out .entry)) at (lastDigits 4 n) (now (out .exit)) (at + 4) ⌝ }
 {
-    if d == 0 {
-        return at;
+    out[at] = digit(n / tens::THOUSAND);
+    store_three(n % tens::THOUSAND, out, at + 1);
+}
+
+fn store_five(n: u64, out: &mut [u8], at: usize)
+    requires { ⌜ (n < 10 ^ 5) × (at + 5 ≤ length (now out)) ⌝ }
+    ensures { λ _. ⌜ Puts 5 (now (out .entry)) at (lastDigits 5 n) (now (out .exit)) (at + 5) ⌝ }
+{
+    out[at] = digit(n / tens::TEN_THOUSAND);
+    store_four(n % tens::TEN_THOUSAND, out, at + 1);
+}
+
+fn store_six(n: u64, out: &mut [u8], at: usize)
+    requires { ⌜ (n < 10 ^ 6) × (at + 6 ≤ length (now out)) ⌝ }
+    ensures { λ _. ⌜ Puts 6 (now (out .entry)) at (lastDigits 6 n) (now (out .exit)) (at + 6) ⌝ }
+{
+    out[at] = digit(n / tens::HUNDRED_THOUSAND);
+    store_five(n % tens::HUNDRED_THOUSAND, out, at + 1);
+}
+
+// The last k digits of a number, at most a group, into an output that has room for them.
+fn store_digits(n: u64, out: &mut [u8], at: usize, k: usize)
+    requires { ⌜ (k ≤ groupSize) × (at + k ≤ length (now out)) ⌝ }
+    ensures { λ _. ⌜ Puts k (now (out .entry)) at (lastDigits k n) (now (out .exit)) (at + k) ⌝ }
+{
+    match k {
+        0 => {}
+        1 => store_one(n % tens::TEN, out, at),
+        2 => store_two(n % tens::HUNDRED, out, at),
+        3 => store_three(n % tens::THOUSAND, out, at),
+        4 => store_four(n % tens::TEN_THOUSAND, out, at),
+        5 => store_five(n % tens::HUNDRED_THOUSAND, out, at),
+        _ => store_six(n % tens::MILLION, out, at),
     }
-    if d < 2 {
-        return put_digit(n % 10, out, at);
+}
+
+// The same where there is no room for all of them: one by one.
+fn put_each(n: u64, out: &mut [u8], at: usize, k: usize) -> usize
+    requires { ⌜ (k ≤ groupSize) × (at + k ≤ ceiling) ⌝ }
+    ensures { λ r. ⌜ Puts k (now (out .entry)) at (lastDigits k n) (now (out .exit)) r ⌝ }
+{
+    let mut i = k;
+    let mut a = at;
+    while 0 < i {
+        i -= 1;
+        a = put(out, a, digit(n / tens::power(i) % tens::TEN));
     }
-    let a = last_digits(d - 2, n / 100, out, at);
-    put_two(n % 100, out, a)
+    a
+}
+
+// The same into any output.
+fn put_digits(n: u64, out: &mut [u8], at: usize, k: usize) -> usize
+    requires { ⌜ (k ≤ groupSize) × (at + k ≤ ceiling) ⌝ }
+    ensures { λ r. ⌜ Puts k (now (out .entry)) at (lastDigits k n) (now (out .exit)) r ⌝ }
+{
+    if at + k <= out.len() {
+        store_digits(n, out, at, k);
+        return at + k;
+    }
+    put_each(n, out, at, k)
+}
+
+// How many digits a number of at most a group has.
+fn digits_in(n: u64) -> usize
+    requires { ⌜ n < 10 ^ groupSize ⌝ }
+    ensures { λ r. ⌜ DigitsIn n r ⌝ }
+{
+    let mut k = 1;
+    while k < GROUP {
+        if n < tens::power(k) {
+            return k;
+        }
+        k += 1;
+    }
+    k
+}
+
+// The last g groups of digits of a number.
+fn put_groups(n: u64, out: &mut [u8], at: usize, g: usize) -> usize
+    requires { ⌜ (groupSize * g < decimalMost) × (at + groupSize * g ≤ ceiling) ⌝ }
+    ensures { λ r. ⌜ Puts (groupSize * g) (now (out .entry)) at (lastDigits (groupSize * g) n) (now (out .exit)) r ⌝ }
+{
+    let mut i = g;
+    let mut a = at;
+    while 0 < i {
+        i -= 1;
+        a = put_digits(n / tens::power(GROUP * i), out, a, GROUP);
+    }
+    a
+}
+
+// A number that has g groups behind its leading digits.
+fn put_long(n: u64, out: &mut [u8], at: usize, g: usize) -> usize
+    requires { ⌜ Grouped g n × (at + decimalMost ≤ ceiling) ⌝ }
+    ensures { λ r. ⌜ Puts decimalMost (now (out .entry)) at (decimal n) (now (out .exit)) r ⌝ }
+{
+    let lead = n / tens::power(GROUP * g);
+    let a = put_digits(lead, out, at, digits_in(lead));
+    put_groups(n, out, a, g)
+}
+
+// A number without leading zeros, by its size.
+fn put_whole(n: u64, out: &mut [u8], at: usize) -> usize
+    requires { ⌜ at + decimalMost ≤ ceiling ⌝ }
+    ensures { λ r. ⌜ Puts decimalMost (now (out .entry)) at (decimal n) (now (out .exit)) r ⌝ }
+{
+    if n < tens::TEN {
+        return put_digits(n, out, at, 1);
+    }
+    if n < tens::HUNDRED {
+        return put_digits(n, out, at, 2);
+    }
+    if n < tens::THOUSAND {
+        return put_digits(n, out, at, 3);
+    }
+    if n < tens::TEN_THOUSAND {
+        return put_digits(n, out, at, 4);
+    }
+    if n < tens::HUNDRED_THOUSAND {
+        return put_digits(n, out, at, 5);
+    }
+    if n < tens::MILLION {
+        return put_digits(n, out, at, 6);
+    }
+    if n < tens::power(2 * GROUP) {
+        return put_long(n, out, at, 1);
+    }
+    if n < tens::power(3 * GROUP) {
+        return put_long(n, out, at, 2);
+    }
+    put_long(n, out, at, 3)
 }
 
 // ---- numbers
@@ -160,10 +276,10 @@ pub fn put_decimal(n: u64, out: &mut [u8], at: usize) -> usize
     requires { ⌜ at + decimalMost ≤ ceiling ⌝ }
     ensures { λ r. ⌜ Puts decimalMost (now (out .entry)) at (decimal n) (now (out .exit)) r ⌝ }
 {
-    if n < 10 {
-        return put_digit(n, out, at);
+    if n < tens::TEN {
+        return put(out, at, digit(n));
     }
-    decimal_up_to(FURTHER_DIGITS, n, out, at)
+    put_whole(n, out, at)
 }
 
 // The point and what stands behind it, where there are decimals.
@@ -175,7 +291,7 @@ fn put_decimals(d: usize, n: u64, out: &mut [u8], at: usize) -> usize
         return at;
     }
     let a = put(out, at, b'.');
-    last_digits(d, n, out, a)
+    put_digits(n, out, a, d)
 }
 
 // A number without its sign: "decimals as many as written".
@@ -183,7 +299,7 @@ fn put_size(minus: bool, n: u64, d: usize, out: &mut [u8], at: usize) -> usize
     requires { ⌜ (d ≤ decimalLimit) × (at + sizeMost ≤ ceiling) ⌝ }
     ensures { λ r. ⌜ Puts sizeMost (now (out .entry)) at (size (numberOf minus n d)) (now (out .exit)) r ⌝ }
 {
-    let a = put_decimal(n / tens::power(d), out, at);
+    let a = put_whole(n / tens::power(d), out, at);
     put_decimals(d, n, out, a)
 }
 

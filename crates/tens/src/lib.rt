@@ -3,8 +3,18 @@ ghost use mathlib.Core.Path.{_≡_};
 ghost use Prim.Native.Nat.{_^_, _<_};
 ghost use Rattle.tens.specs.Tens.{powerCount};
 
-// 10^6: a unit, in millionths.
-pub const MILLION: u64 = 1000000;
+pub const TEN: u64 = 10;
+
+pub const HUNDRED: u64 = 10 * TEN;
+
+pub const THOUSAND: u64 = 10 * HUNDRED;
+
+pub const TEN_THOUSAND: u64 = 10 * THOUSAND;
+
+pub const HUNDRED_THOUSAND: u64 = 10 * TEN_THOUSAND;
+
+// A unit, in millionths.
+pub const MILLION: u64 = 10 * HUNDRED_THOUSAND;
 
 // 10^d. A match is a table in the program; an array would be laid on the stack at each call.
 pub fn power(d: usize) -> u64
@@ -13,11 +23,11 @@ pub fn power(d: usize) -> u64
 {
     match d {
         0 => 1,
-        1 => 10,
-        2 => 100,
-        3 => 1000,
-        4 => 10000,
-        5 => 100000,
+        1 => TEN,
+        2 => HUNDRED,
+        3 => THOUSAND,
+        4 => TEN_THOUSAND,
+        5 => HUNDRED_THOUSAND,
         6 => MILLION,
         7 => 10000000,
         8 => 100000000,

@@ -213,9 +213,14 @@ module _ (bs : List ℕ) (e : ℕ) (o : List ℕ) (p at : ℕ) where
             spelt-bare bs ns n from first start (l .spells ns n j fits behind from first start s) h fits behind (sym f ∙ plain) b g;
       }
 
--- brackets of rank q and above stand behind the residues whose rank is below q
-pub behind-clear : (bs : List ℕ) {j q e : ℕ} → NoneBelow bs j q → ((i : ℕ) → i < e → rankOf OnResidue (i + 1) < q) → Behind bs j e
-behind-clear bs c h = λ i k l g w. omega (arith, c k g w, h i l)
+-- the letters whose rank is below that of bracket j stand before it
+pub letters-before :
+    (bs : List ℕ) {e n j q p at : ℕ} {o out : List ℕ} {i a : ℕ} → (e ≤ n) × ((l : ℕ) → l < e → rankOf OnResidue (l + 1) < q)
+    → ((ns : List ℤ) → ReadyToWrite bs ns → NoneBelow bs j q)
+    → (p ≤ i) × ((ns : List ℤ) (n j : ℕ) → e ≤ n → Behind bs j e → Spells bs ns n j o p at out i a)
+    → (p ≤ i) × ((ns : List ℤ) → ReadyToWrite bs ns → Spells bs ns n j o p at out i a)
+letters-before bs {n = n} {j = j} below none written =
+    (written .0, λ ns ready. written .1 ns n j (below .0) (λ i k l g w. omega (arith, none ns ready k g w, below .1 i l)))
 
 -- ---- what closes and what leads
 closed-none : (t : List ℕ) (b : ℕ) → length t ≡ 0 → t ≡ closedBy t b

@@ -559,12 +559,33 @@ fn put_letters(bytes: &[u8], p: usize, e: usize, out: &mut [u8], at: usize) -> P
     Pen { place: a, next: i }
 }
 
+// The same, in an output that has room for all of them.
+fn store_letters(bytes: &[u8], p: usize, e: usize, out: &mut [u8], at: usize) -> Pen
+    requires { ⌜ (bytesSize ≤ length (now bytes)) × (e ≤ residueLimit) × (at + e ≤ length (now out)) ⌝ }
+    ensures { λ r. ⌜ (p ≤ r .next) × ((ns : List ℤ) (n j : ℕ) → e ≤ n → Behind (now (bytes .entry)) j e → Spells (now (bytes .entry)) ns n j (now (out .entry)) p at (now (out .exit)) (r .next) (r .place)) ⌝ }
+{
+    let mut i = p;
+    let mut a = at;
+    while i < e {
+        if areas::section(bytes, i) != PLAIN {
+            return Pen { place: a, next: i };
+        }
+        out[a] = areas::letter(bytes, i);
+        a += 1;
+        i += 1;
+    }
+    Pen { place: a, next: i }
+}
+
 // The residues from index p on, of n, that stand by themselves and before bracket j.
 fn put_bare(bytes: &[u8], p: usize, n: usize, j: usize, out: &mut [u8], at: usize) -> Pen
     requires { ⌜ (bytesSize ≤ length (now bytes)) × (bracketsField (now bytes) ≤ bracketLimit) × (n ≤ residueLimit) × (at + (n - p) ≤ ceiling) ⌝ }
     ensures { λ r. ⌜ (p ≤ r .next) × ((ns : List ℤ) → ReadyToWrite (now (bytes .entry)) ns → Spells (now (bytes .entry)) ns n j (now (out .entry)) p at (now (out .exit)) (r .next) (r .place)) ⌝ }
 {
     let e = residues_before(n, next_rank(bytes, j));
+    if at + e <= out.len() {
+        return store_letters(bytes, p, e, out, at);
+    }
     put_letters(bytes, p, e, out, at)
 }
 

@@ -13,7 +13,7 @@ returns-2 : tie.Need-returns-2
 returns-2 c =
     let p = c .before .before in
     let q : tie.After-put = search in
-    puts-of (decimals-some _ _ (q .before .before .if1 .left)) (puts-within (omega arith) (puts-join (q .put .ensures) (p .last-digits .ensures)))
+    puts-of (decimals-some _ _ (q .before .before .if1 .left)) (puts-within (omega arith) (puts-join (q .put .ensures) (p .put-digits .ensures)))
 
 pub put-decimals-spec : {M : Type 1} → statement M
 put-decimals-spec =

@@ -6,18 +6,18 @@ use Rattle.tens.proofs.Powers.{power-some}
 use Rattle.figures.proofs.put_size.Statement.{statement}
 use Rattle.figures.proofs.put_size.Tie as tie
 
-div-put-decimal : tie.Need-div-put-decimal
-div-put-decimal c = rw (c .power .ensures) (power-some _)
+div-put-whole : tie.Need-div-put-whole
+div-put-whole c = rw (c .power .ensures) (power-some _)
 
 returns : tie.Need-returns
 returns c =
     let p = c .before .before in
-    let q : tie.After-put-decimal = search in
+    let q : tie.After-put-whole = search in
     let start : tie.Start = search in
-    puts-of (size-text (start .args .minus) _ _ _ (q .before .before .power .ensures)) (puts-join (q .put-decimal .ensures) (p .put-decimals .ensures))
+    puts-of (size-text (start .args .minus) _ _ _ (q .before .before .power .ensures)) (puts-join (q .put-whole .ensures) (p .put-decimals .ensures))
 
 pub put-size-spec : {M : Type 1} → statement M
 put-size-spec =
     tie.close
     (tie.spec
-    (λ c κs. search needs) div-put-decimal (λ c κs. search needs) (λ c κs. search needs) (λ c. search needs) returns)
+    (λ c κs. search needs) div-put-whole (λ c κs. search needs) (λ c κs. search needs) (λ c. search needs) returns)

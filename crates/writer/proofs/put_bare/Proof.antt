@@ -1,21 +1,33 @@
--- The residues with a rank below that of bracket j stand before it and all behind it. Assumes nothing.
+-- The residues with a rank below that of bracket j stand before it and all behind it, whether they are stored or put. Assumes nothing.
 use borrow.Author.Needs.{needs}
-use Rattle.writer.proofs.LineLaws.{behind-clear}
+use Rattle.writer.proofs.LineLaws.{letters-before}
 use Rattle.writer.proofs.put_bare.Statement.{statement}
 use Rattle.writer.proofs.put_bare.Tie as tie
 
 returns : tie.Need-returns
 returns c =
-    let l = c .before .before in
-    let b = l .before .before in
-    let q = b .before in
-    let start : tie.Start = search in
-    let bytes = start .args .bytes .now in
-    let below = b .residues-before .ensures in
-    let letters = l .put-letters .ensures in
-    (letters .0, λ ns d. letters .1 ns _ _ (below .0) (behind-clear bytes (q .next-rank .ensures ns d) (below .1)))
+    let l : tie.After-store-letters = search in
+    let b : tie.After-residues-before = search in
+    let s : tie.Start = search in
+    letters-before (s .args .bytes .now) (b .residues-before .ensures) (b .before .next-rank .ensures) (l .store-letters .ensures)
+
+returns-2 : tie.Need-returns-2
+returns-2 c =
+    let l : tie.After-put-letters = search in
+    let b : tie.After-residues-before = search in
+    let s : tie.Start = search in
+    letters-before (s .args .bytes .now) (b .residues-before .ensures) (b .before .next-rank .ensures) (l .put-letters .ensures)
 
 pub put-bare-spec : {M : Type 1} → statement M
 put-bare-spec =
     tie.close
-    (tie.spec (λ c κs. search needs) (λ c κs. search needs) (λ c κs. search needs) (λ c. search needs) returns)
+    (tie.spec
+    (λ c κs. search needs)
+    (λ c κs. search needs)
+    (λ c. search needs)
+    (λ c κs. search needs)
+    (λ c. search needs)
+    returns
+    (λ c κs. search needs)
+    (λ c. search needs)
+    returns-2)

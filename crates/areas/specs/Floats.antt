@@ -1,6 +1,6 @@
 -- The floaters of the tables in areas, and a table of bytes of where each may stand.
 use mathlib.Core.Path.{_≡_}
-use mathlib.Core.List.{List}
+use mathlib.Core.List.{List, map}
 use Prim.Native.Nat.{ℕ, _+_, _*_, _≤_}
 use lib.Dec.{eqb}
 use lib.IntN.{ℤ}
@@ -8,7 +8,7 @@ use lib.ListN.{length, getD, take}
 use Rattle.scope.specs.Limits.{copyLimit, rowLimit, positionLimit}
 use Rattle.scope.specs.Lists.{keep, tabled}
 use Rattle.scope.specs.Layout.{tablesIn}
-use Rattle.scope.specs.Positions.{floaters, floatersBy, bracketsOf, copiesOf, Floating, floatingOf}
+use Rattle.scope.specs.Positions.{floaters, floatersBy, bracketsOf, copiesOf, Floating, isFurther, floatingOf}
 
 -- the positions of floater f: those x whose byte, in the row of f, is 1
 unfoldable pub listIn : List ℕ → ℕ → List ℕ
@@ -18,9 +18,9 @@ listIn tab f = keep (λ x. eqb (getD tab (f * positionLimit + x) 0) 1) (tabled (
 unfoldable pub listsIn : List ℕ → ℕ → List (List ℕ)
 listsIn tab count = tabled (listIn tab) 0 count
 
--- what floats, by the table
-abbrev pub floatingIn : List ℕ → ℕ → Floating
-floatingIn tab count = record { lists = listsIn tab count }
+-- what floats, by the table and the numbers of the copies
+abbrev pub floatingIn : List ℕ → List ℕ → ℕ → Floating
+floatingIn tab copy count = record { lists = listsIn tab count; marks = map isFurther (take count copy) }
 
 -- a table with room for every floater, and so many of them
 pub record Sized (tab : List ℕ) (count : ℕ) : Type 0 where

@@ -1,7 +1,8 @@
--- A line has as many positions as residues and termini, and what stands at each; on which of them a modification is placed; and when the same floats.
-use mathlib.Core.Path.{_≡_, refl, ap, _∙_}
+-- A line has as many positions as residues and termini, and what stands at each; on which of them a modification is placed; when the same floats; and which
+-- copies are further ones.
+use mathlib.Core.Path.{_≡_, refl, ap, ap₂, _∙_}
 use mathlib.Core.Bool.{Bool, true, false, cond, _&&_}
-use mathlib.Core.List.{List, [], _∷_, _++_, map}
+use mathlib.Core.List.{List, [], _∷_, _++_, map, map-append}
 use Prim.Native.Nat.{ℕ, zero, suc, _+_, _<_}
 use native.Mathlib.Omega.{arith}
 use lib.Dec.{eqb}
@@ -9,11 +10,11 @@ use lib.IntN.{ℤ}
 use lib.ListN.{length, getD, length-append, length-map, List·getD-append}
 use Rattle.scope.specs.Layout.{tablesIn, residuesField}
 use Rattle.scope.specs.Line.{Bracket, Residue, Line}
-use Rattle.scope.specs.Lists.{keep, member}
+use Rattle.scope.specs.Lists.{keep, flat, tabled, member}
 use Rattle.scope.specs.Kinds.{isDeclared}
-use Rattle.scope.specs.Modifications.{isModification}
+use Rattle.scope.specs.Modifications.{isModification, copies}
 use Rattle.scope.specs.Places.{nTerminus, cTerminus}
-use Rattle.scope.specs.Positions.{sites, positions, names, reached, isPlaced, placedOn, Floating}
+use Rattle.scope.specs.Positions.{sites, positions, names, reached, isPlaced, placedOn, copiesAt, copiesFrom, copiesOf, Floating, isFurther}
 use Rattle.basics.specs.Members.{member-in, in-member, in-keep, keep-in}
 use Rattle.basics.specs.Tabled.{tabled-in, residues-many}
 use Rattle.basics.specs.Tests.{same-test}
@@ -58,9 +59,23 @@ module _ {P : Type 0} (t : Line P) where
       (λ e. in-keep (names t (k .places)) x (positions t) (member-in x _ e) .1)
       (λ e. in-member x _ (keep-in (names t (k .places)) x (positions t) (tabled-in 0 (length (sites t)) x (omega arith) (omega arith)) e))
 
--- the same floats where it has the same positions
-pub same-floats : (f g : Floating) → f .lists ≡ g .lists → f ≡ g
-same-floats f g e = ap (λ qs. record { lists = qs }) e
+-- the same floats where it has the same positions and the same further copies
+pub same-floats : (f g : Floating) → f .lists ≡ g .lists → f .marks ≡ g .marks → f ≡ g
+same-floats f g e h = ap₂ (λ qs ms. record { lists = qs; marks = ms }) e h
+
+-- which are further copies, bracket by bracket: all of one bracket's but its first
+tabled-marks : (i n j : ℕ) → map isFurther (copiesOf (tabled (λ c. record { bracket = i; copy = c }) j n)) ≡ tabled isFurther j n
+unfolding tabled
+tabled-marks i zero j = refl
+tabled-marks i (suc n) j = ap (λ l. isFurther j ∷ l) (tabled-marks i n (j + 1))
+
+pub marks-of : {P : Type 0} (i : ℕ) (ks : List (Bracket P)) → map isFurther (copiesOf (copiesFrom i ks)) ≡ flat (λ k. tabled isFurther 1 (copies k)) ks
+unfolding copiesFrom flat
+marks-of i [] = refl
+marks-of i (k ∷ ks) =
+    ap (map isFurther) (map-append (λ c. c .copy) (copiesAt i (copies k)) (copiesFrom (i + 1) ks))
+    ∙ map-append isFurther (copiesOf (copiesAt i (copies k))) (copiesOf (copiesFrom (i + 1) ks))
+    ∙ ap₂ _++_ (tabled-marks i (copies k) 1) (marks-of (i + 1) ks)
 
 -- a declaration is placed on what it reaches, any other on its own position
 pub placed-on : {P : Type 0} (t : Line P) (k : Bracket P) (x : ℕ)

@@ -1,11 +1,11 @@
--- What a test made of two says of each, and the other way round; and that equality is told either way round.
+-- What a test made of two says of each, and the other way round; that equality is told either way round; and that numbers are told apart.
 use mathlib.Core.Path.{_≡_, refl, sym, ap, _∙_}
 use mathlib.Core.Logic.{_⊎_, inl, inr}
 use mathlib.Core.Bool.{Bool, true, false, not, cond, _&&_, _||_, false≢true, true≢false}
-use Prim.Native.Nat.{ℕ}
+use Prim.Native.Nat.{ℕ, _<_, _≤_}
 use native.Mathlib.Decide.{ℕ-discrete}
-use borrow.Author.Tests.{eq-eqb, ne-eqb}
-use lib.Dec.{eqb}
+use borrow.Author.Tests.{eq-eqb, ne-eqb, eqb-true, eqb-false, ltb-true, ltb-false}
+use lib.Dec.{eqb, ltb}
 use Rattle.scope.specs.Bytes.{isLetter}
 
 pub and-left : (a b : Bool) → (a && b) ≡ true → a ≡ true
@@ -82,3 +82,18 @@ eqb-sym a b = by (ℕ-discrete a b)
 -- a letter is no other byte
 pub letter-not : (b c : ℕ) → isLetter b ≡ true → isLetter c ≡ false → eqb b c ≡ false
 letter-not b c e f = ne-eqb b c (λ z. true≢false (sym e ∙ ap isLetter z ∙ f))
+
+-- ---- numbers
+pub same? : (s t : ℕ) → (s ≡ t) ⊎ (s ≡ t → ⊥)
+same? s t = go (eqb s t) refl
+  where
+    go : (b : Bool) → eqb s t ≡ b → (s ≡ t) ⊎ (s ≡ t → ⊥)
+    go true e = inl (eqb-true s t e)
+    go false e = inr (eqb-false s t e)
+
+pub below? : (s t : ℕ) → (s < t) ⊎ (t ≤ s)
+below? s t = go (ltb s t) refl
+  where
+    go : (b : Bool) → ltb s t ≡ b → (s < t) ⊎ (t ≤ s)
+    go true e = inl (ltb-true s t e)
+    go false e = inr (ltb-false s t e)

@@ -1,7 +1,7 @@
 -- From the refusals that every call tries to its answer.
-use mathlib.Core.Path.{_≡_, refl, sym, ap, _∙_}
+use mathlib.Core.Path.{_≡_, refl, sym, ap, _∙_, subst}
 use mathlib.Core.Bool.{Bool, true, false, cond, _||_, true≢false}
-use mathlib.Core.List.{List}
+use mathlib.Core.List.{List, map}
 use Prim.Native.Nat.{ℕ, _<_, _≤_}
 use native.Mathlib.Omega.{arith}
 use borrow.Author.Tests.{lt-ltb, le-ltb, ltb-false}
@@ -12,11 +12,13 @@ use Rattle.scope.specs.Tables.{Tables}
 use Rattle.scope.specs.Layout.{bytesSize, numbersSize, tablesIn}
 use Rattle.scope.specs.Masses.{total, lacking, daltons}
 use Rattle.scope.specs.Placements.{allowed}
-use Rattle.scope.specs.Positions.{floatingOf}
+use Rattle.scope.specs.Positions.{isFurther, floatingOf}
 use Rattle.scope.specs.Answers.{allowable, bookable, books, entries, Said, good, refuses, Display, aMass, lack, displayOf, tooShort, areTables, overTables, weighed}
-use Rattle.areas.specs.Floats.{floatingIn}
+use Rattle.areas.specs.Floats.{floatingIn, FloatersAre}
 use Rattle.basics.specs.Positions.{same-floats}
 use Rattle.layout_laws.specs.Laws.{tables-held}
+use Rattle.placement_laws.specs.Terms.{Orderly}
+use Rattle.placement_laws.specs.Laws.{line-orderly}
 use Rattle.laws.specs.Proved.{demands}
 use Rattle.masses.specs.declared.Weight.{Weight}
 use Rattle.masses.specs.declared.Weight.the-variants.{Total, Lacks}
@@ -104,9 +106,14 @@ unfolding weightOf
 displayed t {w} {v} e f = ap saysDisplay (sym f ∙ e) ∙ display-of (eqb (lacking t) 0) (total t) (lacking t)
 
 -- ---- placements
--- what floats by the table is what floats
-pub floats-as : {bs : List ℕ} {ns : List ℤ} {k : ℕ} {old tab : List ℕ} → Filled bs ns k old tab → floatingIn tab k ≡ floatingOf (tablesIn bs ns)
-floats-as {bs} {ns} {k} {old} {tab} f = same-floats (floatingIn tab k) (floatingOf (tablesIn bs ns)) (f .table)
+-- what floats by the table and the numbers of the copies is what floats
+pub floats-as : {bs : List ℕ} {ns : List ℤ} {k : ℕ} {index copy old tab : List ℕ} → FloatersAre bs ns k index copy → Filled bs ns k old tab
+    → floatingIn tab copy k ≡ floatingOf (tablesIn bs ns)
+floats-as {bs} {ns} {k} {index} {copy} {old} {tab} a f = same-floats (floatingIn tab copy k) (floatingOf (tablesIn bs ns)) (f .table) (ap (map isFurther) (a .copies))
+
+pub floats-orderly : {bs : List ℕ} {ns : List ℤ} {k : ℕ} {index copy old tab : List ℕ} → FloatersAre bs ns k index copy → Filled bs ns k old tab
+    → Orderly (floatingIn tab copy k)
+floats-orderly {bs} {ns} a f = subst Orderly (sym (floats-as a f)) (line-orderly (tablesIn bs ns) (rw (sym (a .many)) (a .few)))
 
 pub allowed-yes : (t : Tables) (p : List ℕ) {r : Bool} → r ≡ allowed (floatingOf t) p → r ≡ true → good (tt {0}) ≡ allowable t p
 allowed-yes t p {r} e y = ap (λ b. cond b (good (tt {0})) (refuses 18 0)) (sym y ∙ e)

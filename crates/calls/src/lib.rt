@@ -267,7 +267,8 @@ fn is_allowed_by(bytes: &[u8], numbers: &[i64], p: Placement) -> bool
     let mut tab = [0u8; Placement::ROWS];
     fill_table(bytes, numbers, f, &mut tab);
     let k = f.count;
-    placements::is_allowed(&tab, k, p)
+    let copy = f.copy;
+    placements::is_allowed(&tab, copy, k, p)
 }
 
 // Whether a placement is an allowed one.
@@ -293,7 +294,8 @@ fn next_by(bytes: &[u8], numbers: &[i64], l: Listing) -> Next
     let mut tab = [0u8; Placement::ROWS];
     fill_table(bytes, numbers, f, &mut tab);
     let k = f.count;
-    placements::request(&tab, k, l)
+    let copy = f.copy;
+    placements::request(&tab, copy, k, l)
 }
 
 // "The listing in hand is a small record that each request moves on"

@@ -4,23 +4,11 @@ use mathlib.Core.Logic.{_⊎_, inl, inr, ⊎-elim}
 use mathlib.Core.Bool.{Bool, true, false}
 use Prim.Native.Nat.{ℕ, zero, suc, _<_, _≤_, _+_, _-_}
 use native.Mathlib.Omega.{arith}
-use lib.Dec.{eqb, ltb}
-use borrow.Author.Tests.{eqb-true, eqb-false, eq-eqb, ne-eqb, ltb-true, ltb-false}
-use Rattle.exchange.specs.Where.{Full, But, Same, FreeBut, Grown, Shifting}
-
-pub same? : (s t : ℕ) → (s ≡ t) ⊎ (s ≡ t → ⊥)
-same? s t = go (eqb s t) refl
-  where
-    go : (b : Bool) → eqb s t ≡ b → (s ≡ t) ⊎ (s ≡ t → ⊥)
-    go true e = inl (eqb-true s t e)
-    go false e = inr (eqb-false s t e)
-
-pub below? : (s t : ℕ) → (s < t) ⊎ (t ≤ s)
-below? s t = go (ltb s t) refl
-  where
-    go : (b : Bool) → ltb s t ≡ b → (s < t) ⊎ (t ≤ s)
-    go true e = inl (ltb-true s t e)
-    go false e = inr (ltb-false s t e)
+use lib.Dec.{eqb}
+use borrow.Author.Tests.{eq-eqb, ne-eqb}
+use Rattle.basics.specs.Tests.{same?, below?}
+use Rattle.placement_laws.specs.Standing.{Full, Same}
+use Rattle.exchange.specs.Where.{But, FreeBut, Grown, Shifting}
 
 -- v is w, with x at s
 pub record Put (s x : ℕ) (w v : ℕ → ℕ) : Type 0 where

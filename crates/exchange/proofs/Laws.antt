@@ -6,18 +6,19 @@ use mathlib.Core.Logic.{⊎-elim}
 use mathlib.Core.List.{List}
 use Prim.Native.Nat.{ℕ, _<_, _≤_, _+_, _*_, _-_}
 use native.Mathlib.Omega.{arith}
-use lib.Dec.{eqb, ltb}
+use lib.Dec.{eqb, leb, ltb}
 use lib.ListN.{length, getD, set}
 use lib.Seq.{getD-set-same, getD-set-other}
-use borrow.Author.Tests.{ltb-true, lt-ltb, eqb-true, eqb-false, eq-eqb, ne-eqb}
+use borrow.Author.Tests.{ltb-true, lt-ltb, leb-true, le-leb, lt-leb, eqb-true, eqb-false, eq-eqb, ne-eqb}
 use Rattle.scope.specs.Limits.{copyLimit, positionLimit}
-use Rattle.exchange.specs.Where.{Full, But, Same, FreeBut, Grown}
-use Rattle.exchange.proofs.Exchange.{Put, Shut, same?, below?, pigeon, grow-step, grow-start, stuck, shift-start, fill, full-but, take-over}
+use Rattle.placement_laws.specs.Standing.{place, Full, Same}
+use Rattle.exchange.specs.Where.{But, FreeBut, Grown}
+use Rattle.exchange.proofs.Exchange.{Put, Shut, pigeon, grow-step, grow-start, stuck, shift-start, fill, full-but, take-over}
 use Rattle.exchange.specs.Order.{Verdict, Tried}
-use Rattle.exchange.proofs.Least.{same-more, Nothing}
+use Rattle.exchange.proofs.Least.{same-more}
 use Rattle.areas.specs.Floats.{Sized}
-use Rattle.basics.specs.Tests.{and-left}
-use Rattle.exchange.specs.Table.{place, mayIn, StandsAt, Open, Owned, Walkable, Growing, Grew, GrownIn, Shifted, Taken, Augmentable, Augmented, ReadyFrom}
+use Rattle.basics.specs.Tests.{same?, below?, and-left, both-of, both}
+use Rattle.exchange.specs.Table.{mayIn, mayFrom, Open, Owned, Walkable, Growing, Grew, GrownIn, Shifted, Taken, Augmentable, Augmented, ReadyFrom}
 
 pub put-set : (l : List ℕ) (i x : ℕ) → i < length l → Put i x (place l) (place (set l i x))
 put-set l i x h = record { here = getD-set-same l i x 0 h; else = λ t n. getD-set-other l i t x 0 n }
@@ -25,6 +26,25 @@ put-set l i x h = record { here = getD-set-same l i x 0 h; else = λ t n. getD-s
 pub ok-small : (tab : List ℕ) (s x : ℕ) → mayIn tab s x ≡ true → x < positionLimit
 unfolding mayIn
 ok-small tab s x e = ltb-true x positionLimit (and-left (ltb x positionLimit) (eqb (getD tab (s * positionLimit + x) 0) 1) e)
+
+pub from-parts : (tab lows : List ℕ) (s x : ℕ) → mayFrom tab lows s x ≡ true → (place lows s ≤ x) × (mayIn tab s x ≡ true)
+unfolding mayFrom
+from-parts tab lows s x e = let z = both-of (leb (place lows s) x) (mayIn tab s x) e in (leb-true (place lows s) x (z .0), z .1)
+
+pub parts-from : (tab lows : List ℕ) (s x : ℕ) → place lows s ≤ x → mayIn tab s x ≡ true → mayFrom tab lows s x ≡ true
+unfolding mayFrom
+parts-from tab lows s x h e = both (leb (place lows s) x) (mayIn tab s x) (le-leb (place lows s) x h) e
+
+pub from-small : (tab lows : List ℕ) (s x : ℕ) → mayFrom tab lows s x ≡ true → x < positionLimit
+from-small tab lows s x e = ok-small tab s x (from-parts tab lows s x e .1)
+
+pub from-low : (tab lows : List ℕ) (s x : ℕ) → x < place lows s → mayFrom tab lows s x ≡ false
+unfolding mayFrom
+from-low tab lows s x h = rw (lt-leb (place lows s) x h)
+
+pub from-high : (tab lows : List ℕ) (s x : ℕ) → place lows s ≤ x → mayFrom tab lows s x ≡ mayIn tab s x
+unfolding mayFrom
+from-high tab lows s x h = rw (le-leb (place lows s) x h)
 
 pub ok-is : (tab : List ℕ) (s x : ℕ) → x < positionLimit → mayIn tab s x ≡ eqb (getD tab (s * positionLimit + x) 0) 1
 unfolding mayIn
@@ -42,9 +62,6 @@ yes {b} A B e v = rw e at v
 
 pub no : {b : Bool} (A B : Type 0) → b ≡ false → Verdict b A B → B
 no {b} A B e v = rw e at v
-
-pub stands-law : (w : List ℕ) (but x t : ℕ) → (t ≡ but → ⊥) → StandsAt w but x t (eqb (place w t) x)
-stands-law w but x t n = verdict-eq (place w t) x ((t ≡ but → ⊥) × (place w t ≡ x)) ((t ≡ but → ⊥) → place w t ≡ x → ⊥) (λ e. (n, e)) (λ m h e. m e)
 
 pub open-law : (tab w : List ℕ) (k j s x r : ℕ) → mayIn tab s x ≡ true → Owned w k j x r → Open tab w k j s x (eqb r k)
 open-law tab w k j s x r o h =
@@ -76,22 +93,22 @@ grown-less ok k f j w n order parent h t g ft tk hn new o =
           (grow-step ok k f j w n order parent (upd n t order) (upd n h parent) h t g ft tk hn new o (put-upd n t order) (put-upd n h parent)),
     )
 
-pub grew-same : (tab : List ℕ) (k f h : ℕ) (w : List ℕ) (t n : ℕ) (order parent : List ℕ) → Growing tab k f h w n order parent
-    → (mayIn tab (place order h) (place w t) ≡ true → (b : ℕ) × (b < n) × (place order b ≡ t)) → Grew tab k f h w t (t + 1) n order n order parent
-grew-same tab k f h w t n order parent g r =
+pub grew-same : (tab lows : List ℕ) (k f h : ℕ) (w : List ℕ) (t n : ℕ) (order parent : List ℕ) → Growing tab lows k f h w n order parent
+    → (mayFrom tab lows (place order h) (place w t) ≡ true → (b : ℕ) × (b < n) × (place order b ≡ t)) → Grew tab lows k f h w t (t + 1) n order n order parent
+grew-same tab lows k f h w t n order parent g r =
     record { grown = g .grown; more = omega arith; same = λ s l. refl; reach = reach }
   where
-    reach : (u : ℕ) → t ≤ u → u < t + 1 → mayIn tab (place order h) (place w u) ≡ true → (b : ℕ) × (b < n) × (place order b ≡ u)
+    reach : (u : ℕ) → t ≤ u → u < t + 1 → mayFrom tab lows (place order h) (place w u) ≡ true → (b : ℕ) × (b < n) × (place order b ≡ u)
     reach u l m o =
-        let e : t ≡ u = omega arith in subst (λ z. (b : ℕ) × (b < n) × (place order b ≡ z)) e (r (subst (λ z. mayIn tab (place order h) (place w z) ≡ true) (sym e) o))
+        let e : t ≡ u = omega arith in subst (λ z. (b : ℕ) × (b < n) × (place order b ≡ z)) e (r (subst (λ z. mayFrom tab lows (place order h) (place w z) ≡ true) (sym e) o))
 
-pub grew-push : (tab : List ℕ) (k f h : ℕ) (w : List ℕ) (t n : ℕ) (order parent : List ℕ) → Growing tab k f h w n order parent → f ≤ t → t < k
-    → ((a : ℕ) → a < n → place order a ≡ t → ⊥) → mayIn tab (place order h) (place w t) ≡ true → n < length order → n < length parent
-    → Grew tab k f h w t (t + 1) n order (n + 1) (set order n t) (set parent n h)
-grew-push tab k f h w t n order parent g ft tk new o lo lp =
+pub grew-push : (tab lows : List ℕ) (k f h : ℕ) (w : List ℕ) (t n : ℕ) (order parent : List ℕ) → Growing tab lows k f h w n order parent → f ≤ t → t < k
+    → ((a : ℕ) → a < n → place order a ≡ t → ⊥) → mayFrom tab lows (place order h) (place w t) ≡ true → n < length order → n < length parent
+    → Grew tab lows k f h w t (t + 1) n order (n + 1) (set order n t) (set parent n h)
+grew-push tab lows k f h w t n order parent g ft tk new o lo lp =
     record {
       grown =
-          grow-step (mayIn tab) k f (place order 0) (place w) n (place order) (place parent) (place (set order n t)) (place (set parent n h)) h t (g .grown) ft tk (g .inside) new o p (put-set parent n h lp);
+          grow-step (mayFrom tab lows) k f (place order 0) (place w) n (place order) (place parent) (place (set order n t)) (place (set parent n h)) h t (g .grown) ft tk (g .inside) new o p (put-set parent n h lp);
       more = omega arith;
       same = λ s l. sym (p .else s (λ e. omega arith));
       reach = reach;
@@ -100,25 +117,25 @@ grew-push tab k f h w t n order parent g ft tk new o lo lp =
     p : Put n t (place order) (place (set order n t))
     p = put-set order n t lo
 
-    reach : (u : ℕ) → t ≤ u → u < t + 1 → mayIn tab (place order h) (place w u) ≡ true → (b : ℕ) × (b < n + 1) × (place (set order n t) b ≡ u)
+    reach : (u : ℕ) → t ≤ u → u < t + 1 → mayFrom tab lows (place order h) (place w u) ≡ true → (b : ℕ) × (b < n + 1) × (place (set order n t) b ≡ u)
     reach u l m z = (n, omega arith, p .here ∙ omega arith)
 
-pub growing-on : (tab : List ℕ) (k f h : ℕ) (w : List ℕ) (a b n : ℕ) (order parent : List ℕ) (n′ : ℕ) (order′ parent′ : List ℕ)
-    → Growing tab k f h w n order parent
-    → Grew tab k f h w a b n order n′ order′ parent′ → Growing tab k f h w n′ order′ parent′
-growing-on tab k f h w a b n order parent n′ order′ parent′ g r =
+pub growing-on : (tab lows : List ℕ) (k f h : ℕ) (w : List ℕ) (a b n : ℕ) (order parent : List ℕ) (n′ : ℕ) (order′ parent′ : List ℕ)
+    → Growing tab lows k f h w n order parent
+    → Grew tab lows k f h w a b n order n′ order′ parent′ → Growing tab lows k f h w n′ order′ parent′
+growing-on tab lows k f h w a b n order parent n′ order′ parent′ g r =
     record { sized = g .sized; grown = rw e at (r .grown); but = rw e at (g .but); inside = omega (arith, g .inside, r .more) }
   where
     e : place order 0 ≡ place order′ 0
     e = r .same 0 (g .grown .some)
 
-pub grew-start : (tab : List ℕ) (k f h : ℕ) (w : List ℕ) (n : ℕ) (order parent : List ℕ) → Growing tab k f h w n order parent
-    → Grew tab k f h w f f n order n order parent
-grew-start tab k f h w n order parent g = record { grown = g .grown; more = omega arith; same = λ s l. refl; reach = λ t l m o. absurd (omega arith) }
+pub grew-start : (tab lows : List ℕ) (k f h : ℕ) (w : List ℕ) (n : ℕ) (order parent : List ℕ) → Growing tab lows k f h w n order parent
+    → Grew tab lows k f h w f f n order n order parent
+grew-start tab lows k f h w n order parent g = record { grown = g .grown; more = omega arith; same = λ s l. refl; reach = λ t l m o. absurd (omega arith) }
 
-pub grew-trans : (tab : List ℕ) (k f h : ℕ) (w : List ℕ) (t n : ℕ) (order parent : List ℕ) (n′ : ℕ) (order′ parent′ : List ℕ) (n″ : ℕ) (order″ parent″ : List ℕ) → Growing tab k f h w n order parent
-    → Grew tab k f h w f t n order n′ order′ parent′ → Grew tab k f h w t (t + 1) n′ order′ n″ order″ parent″ → Grew tab k f h w f (t + 1) n order n″ order″ parent″
-grew-trans tab k f h w t n order parent n′ order′ parent′ n″ order″ parent″ g a b =
+pub grew-trans : (tab lows : List ℕ) (k f h : ℕ) (w : List ℕ) (t n : ℕ) (order parent : List ℕ) (n′ : ℕ) (order′ parent′ : List ℕ) (n″ : ℕ) (order″ parent″ : List ℕ) → Growing tab lows k f h w n order parent
+    → Grew tab lows k f h w f t n order n′ order′ parent′ → Grew tab lows k f h w t (t + 1) n′ order′ n″ order″ parent″ → Grew tab lows k f h w f (t + 1) n order n″ order″ parent″
+grew-trans tab lows k f h w t n order parent n′ order′ parent′ n″ order″ parent″ g a b =
     record {
       grown =
           rw (sym (a .same 0 (g .grown .some))) at (b .grown);
@@ -127,39 +144,39 @@ grew-trans tab k f h w t n order parent n′ order′ parent′ n″ order″ pa
       reach = reach;
     }
   where
-    reach : (u : ℕ) → f ≤ u → u < t + 1 → mayIn tab (place order h) (place w u) ≡ true → (c : ℕ) × (c < n″) × (place order″ c ≡ u)
+    reach : (u : ℕ) → f ≤ u → u < t + 1 → mayFrom tab lows (place order h) (place w u) ≡ true → (c : ℕ) × (c < n″) × (place order″ c ≡ u)
     reach u l m o = ⊎-elim (λ (q : u < t). early (a .reach u l q o)) (λ (q : t ≤ u). b .reach u q m (rw (a .same h (g .inside)) at o)) (below? u t)
       where
         early : (c : ℕ) × (c < n′) × (place order′ c ≡ u) → (c : ℕ) × (c < n″) × (place order″ c ≡ u)
         early z = (z .0, omega (arith, z .1, b .more), sym (b .same (z .0) (z .1)) ∙ z .2)
 
-pub grew-cut : (tab : List ℕ) (k f h : ℕ) (w : List ℕ) (t t′ n : ℕ) (order : List ℕ) (n′ : ℕ) (order′ parent′ : List ℕ) → t′ ≤ t
-    → Grew tab k f h w f t n order n′ order′ parent′ → Grew tab k f h w f t′ n order n′ order′ parent′
-grew-cut tab k f h w t t′ n order n′ order′ parent′ l g =
+pub grew-cut : (tab lows : List ℕ) (k f h : ℕ) (w : List ℕ) (t t′ n : ℕ) (order : List ℕ) (n′ : ℕ) (order′ parent′ : List ℕ) → t′ ≤ t
+    → Grew tab lows k f h w f t n order n′ order′ parent′ → Grew tab lows k f h w f t′ n order n′ order′ parent′
+grew-cut tab lows k f h w t t′ n order n′ order′ parent′ l g =
     record { grown = g .grown; more = g .more; same = g .same; reach = λ u a b o. g .reach u a (omega arith) o }
 
-pub stands-well : (tab : List ℕ) (k j t : ℕ) (w : List ℕ) → But (mayIn tab) k j (place w) → t < k → (t ≡ j → ⊥) → place w t < positionLimit
-stands-well tab k j t w b l n = ok-small tab t (place w t) (b .fits t l n)
+pub stands-well : (tab lows : List ℕ) (k j t : ℕ) (w : List ℕ) → But (mayFrom tab lows) k j (place w) → t < k → (t ≡ j → ⊥) → place w t < positionLimit
+stands-well tab lows k j t w b l n = from-small tab lows t (place w t) (b .fits t l n)
 
 -- ---- the search for a way up
-pub record Searching (tab : List ℕ) (k f j : ℕ) (w : List ℕ) (n : ℕ) (order parent : List ℕ) (h : ℕ) : Type 0 where
+pub record Searching (tab lows : List ℕ) (k f j : ℕ) (w : List ℕ) (n : ℕ) (order parent : List ℕ) (h : ℕ) : Type 0 where
   pub inside : h ≤ n
-  pub grown : GrownIn tab k f j w n order parent
-  pub shut : (a : ℕ) → a < h → Shut (mayIn tab) k f j (place w) n (place order) (place order a)
+  pub grown : GrownIn tab lows k f j w n order parent
+  pub shut : (a : ℕ) → a < h → Shut (mayFrom tab lows) k f j (place w) n (place order) (place order a)
 
-module _ (tab : List ℕ) (k f j : ℕ) (w : List ℕ) (ready : Augmentable tab k f j w) where
-  pub searching-start : (order parent : List ℕ) → place order 0 ≡ j → Searching tab k f j w 1 order parent 0
+module _ (tab lows : List ℕ) (k f j : ℕ) (w : List ℕ) (ready : Augmentable tab lows k f j w) where
+  pub searching-start : (order parent : List ℕ) → place order 0 ≡ j → Searching tab lows k f j w 1 order parent 0
   searching-start order parent e =
       record {
         inside =
             omega arith;
-        grown = grow-start (mayIn tab) k f j (place w) (place order) (place parent) e (ready .low) (ready .high);
+        grown = grow-start (mayFrom tab lows) k f j (place w) (place order) (place parent) e (ready .low) (ready .high);
         shut = λ a l. absurd (omega arith);
       }
 
-  module _ (n : ℕ) (order parent : List ℕ) (h : ℕ) (s : Searching tab k f j w n order parent h) where
+  module _ (n : ℕ) (order parent : List ℕ) (h : ℕ) (s : Searching tab lows k f j w n order parent h) where
     pub searching-few : n ≤ k
-    searching-few = grown-le (mayIn tab) k f j (place w) n (place order) (place parent) (s .grown)
+    searching-few = grown-le (mayFrom tab lows) k f j (place w) n (place order) (place parent) (s .grown)
 
     pub searching-high : h < n → place order h < copyLimit
     searching-high l = omega (arith, s .grown .high h l, ready .sized .few)
@@ -174,38 +191,38 @@ module _ (tab : List ℕ) (k f j : ℕ) (w : List ℕ) (ready : Augmentable tab 
           back = s .grown .back;
         }
 
-    pub searching-found : (x : ℕ) (r : List ℕ) → h < n → mayIn tab (place order h) x ≡ true → FreeBut k j (place w) x → Shifted w n order parent h x r
-        → Full (mayIn tab) k (place r) × Same f (place w) (place r)
-    searching-found x r l o c m = m (mayIn tab) k f j (s .grown) (shift-start (mayIn tab) k f j (place w) n (place order) h x (ready .but) l o c)
+    pub searching-found : (x : ℕ) (r : List ℕ) → h < n → mayFrom tab lows (place order h) x ≡ true → FreeBut k j (place w) x → Shifted w n order parent h x r
+        → Full (mayFrom tab lows) k (place r) × Same f (place w) (place r)
+    searching-found x r l o c m = m (mayFrom tab lows) k f j (s .grown) (shift-start (mayFrom tab lows) k f j (place w) n (place order) h x (ready .but) l o c)
 
-    pub searching-growing : h < n → Growing tab k f h w n order parent
+    pub searching-growing : h < n → Growing tab lows k f h w n order parent
     searching-growing l =
         record { sized = ready .sized; grown = rw (sym (s .grown .root)) at (s .grown); but = rw (sym (s .grown .root)) at (ready .but); inside = l }
 
-    pub searching-step : (n′ : ℕ) (order′ parent′ : List ℕ) → h < n → Taken tab k j w (place order h) → Grew tab k f h w f k n order n′ order′ parent′
-        → Searching tab k f j w n′ order′ parent′ (h + 1)
+    pub searching-step : (n′ : ℕ) (order′ parent′ : List ℕ) → h < n → Taken tab lows k j w (place order h) → Grew tab lows k f h w f k n order n′ order′ parent′
+        → Searching tab lows k f j w n′ order′ parent′ (h + 1)
     searching-step n′ order′ parent′ l t g =
         record { inside = omega (arith, g .more); grown = rw (s .grown .root) at (g .grown); shut = shut }
       where
-        onward : (a : ℕ) → a < h → Shut (mayIn tab) k f j (place w) n (place order) (place order a)
-            → Shut (mayIn tab) k f j (place w) n′ (place order′) (place order a)
+        onward : (a : ℕ) → a < h → Shut (mayFrom tab lows) k f j (place w) n (place order) (place order a)
+            → Shut (mayFrom tab lows) k f j (place w) n′ (place order′) (place order a)
         onward a m q = record { full = q .full; reach = λ u lo hi o. go u (q .reach u lo hi o) }
           where
             go : (u : ℕ) → (b : ℕ) × (b < n) × (place order b ≡ u) → (b : ℕ) × (b < n′) × (place order′ b ≡ u)
             go u z = (z .0, omega (arith, z .1, g .more), sym (g .same (z .0) (z .1)) ∙ z .2)
 
-        shut : (a : ℕ) → a < h + 1 → Shut (mayIn tab) k f j (place w) n′ (place order′) (place order′ a)
+        shut : (a : ℕ) → a < h + 1 → Shut (mayFrom tab lows) k f j (place w) n′ (place order′) (place order′ a)
         shut a m = ⊎-elim
-            (λ (e : a ≡ h). subst (λ z. Shut (mayIn tab) k f j (place w) n′ (place order′) z) (g .same h l ∙ ap (place order′) (sym e)) (record { full = t; reach = g .reach }))
-            (λ d. let q : a < h = omega arith in subst (λ z. Shut (mayIn tab) k f j (place w) n′ (place order′) z) (g .same a (omega arith)) (onward a q (s .shut a q)))
+            (λ (e : a ≡ h). subst (λ z. Shut (mayFrom tab lows) k f j (place w) n′ (place order′) z) (g .same h l ∙ ap (place order′) (sym e)) (record { full = t; reach = g .reach }))
+            (λ d. let q : a < h = omega arith in subst (λ z. Shut (mayFrom tab lows) k f j (place w) n′ (place order′) z) (g .same a (omega arith)) (onward a q (s .shut a q)))
             (same? a h)
 
-    pub searching-end : n ≤ h → (u : ℕ → ℕ) → Full (mayIn tab) k u → Same f (place w) u → ⊥
-    searching-end l u g m = stuck (mayIn tab) k f j (place w) n (place order) (place parent) (s .grown) (λ a b. s .shut a (omega arith)) u g m
+    pub searching-end : n ≤ h → (u : ℕ → ℕ) → Full (mayFrom tab lows) k u → Same f (place w) u → ⊥
+    searching-end l u g m = stuck (mayFrom tab lows) k f j (place w) n (place order) (place parent) (s .grown) (λ a b. s .shut a (omega arith)) u g m
 
 -- ---- one floater at one position
-module _ (tab : List ℕ) (k i y : ℕ) (w : List ℕ) (ready : ReadyFrom tab k i w) (o : mayIn tab i y ≡ true) (t : ℕ) (h : Owned w k i y t) where
-  pub attempt-used : t < i → (u : ℕ → ℕ) → Full (mayIn tab) k u → Same i (place w) u → u i ≡ y → ⊥
+module _ (tab lows : List ℕ) (k i y : ℕ) (w : List ℕ) (ready : ReadyFrom tab lows k i w) (o : mayFrom tab lows i y ≡ true) (t : ℕ) (h : Owned w k i y t) where
+  pub attempt-used : t < i → (u : ℕ → ℕ) → Full (mayFrom tab lows) k u → Same i (place w) u → u i ≡ y → ⊥
   attempt-used l u f s e =
       let z : t ≡ i =
       f .apart t i (omega (arith, ready .inside)) (ready .inside) (sym (s t l) ∙ h .stands (omega (arith, ready .inside)) ∙ sym e) in omega arith
@@ -217,26 +234,26 @@ module _ (tab : List ℕ) (k i y : ℕ) (w : List ℕ) (ready : ReadyFrom tab k 
     below : Same i (place w) (place (set w i y))
     below s l = sym (put .else s (λ e. omega arith))
 
-    pub attempt-free : k ≤ t → Full (mayIn tab) k (place (set w i y)) × Same i (place w) (place (set w i y)) × (place (set w i y) i ≡ y)
+    pub attempt-free : k ≤ t → Full (mayFrom tab lows) k (place (set w i y)) × Same i (place w) (place (set w i y)) × (place (set w i y) i ≡ y)
     attempt-free l =
-        (fill (mayIn tab) k i y (place w) (place (set w i y)) (full-but (mayIn tab) k i (place w) (ready .full)) o (λ s m n e. h .before s (omega arith) n e) put, below, put .here)
+        (fill (mayFrom tab lows) k i y (place w) (place (set w i y)) (full-but (mayFrom tab lows) k i (place w) (ready .full)) o (λ s m n e. h .before s (omega arith) n e) put, below, put .here)
 
-    pub attempt-over : i ≤ t → t < k → Augmentable tab k (i + 1) t (set w i y)
+    pub attempt-over : i ≤ t → t < k → Augmentable tab lows k (i + 1) t (set w i y)
     attempt-over l m =
         record {
           sized = ready .sized;
           low = let n = h .other m in omega (arith, n);
           high = m;
-          but = take-over (mayIn tab) k i t y (place w) (place (set w i y)) (ready .full) (ready .inside) m (h .other m) o (h .stands m) put;
+          but = take-over (mayFrom tab lows) k i t y (place w) (place (set w i y)) (ready .full) (ready .inside) m (h .other m) o (h .stands m) put;
         }
 
-    pub attempt-augmented : (b : Bool) (r : List ℕ) → Augmented tab k (i + 1) (set w i y) b r → Tried (mayIn tab) k i y (place w) b (place r)
+    pub attempt-augmented : (b : Bool) (r : List ℕ) → Augmented tab lows k (i + 1) (set w i y) b r → Tried (mayFrom tab lows) k i y (place w) b (place r)
     attempt-augmented true r a = (a .0, (λ s l. below s l ∙ a .1 s (omega arith)), sym (a .1 i (omega arith)) ∙ put .here)
     attempt-augmented false r a = λ u f s e. a u f (same-more i (place (set w i y)) u (λ q l. sym (below q l) ∙ s q l) (put .here ∙ sym e))
 
-pub attempt-not : (tab : List ℕ) (k i y : ℕ) (w : List ℕ) → i < k → mayIn tab i y ≡ false → (u : ℕ → ℕ) → Full (mayIn tab) k u → Same i (place w) u
+pub attempt-not : (tab lows : List ℕ) (k i y : ℕ) (w : List ℕ) → i < k → mayFrom tab lows i y ≡ false → (u : ℕ → ℕ) → Full (mayFrom tab lows) k u → Same i (place w) u
     → u i ≡ y → ⊥
-attempt-not tab k i y w l n u f s e = true≢false (sym (rw e at (f .fits i l)) ∙ n)
+attempt-not tab lows k i y w l n u f s e = true≢false (sym (rw e at (f .fits i l)) ∙ n)
 
 -- ---- the first
 pub full-small : (tab : List ℕ) (k s : ℕ) (w : ℕ → ℕ) → Full (mayIn tab) k w → s < k → w s < positionLimit
@@ -248,8 +265,8 @@ full-none ok w = record { fits = λ s l. absurd (omega arith); apart = λ s t l 
 pub full-less : (ok : ℕ → ℕ → Bool) (k m : ℕ) (w : ℕ → ℕ) → m ≤ k → Full ok k w → Full ok m w
 full-less ok k m w l f = record { fits = λ s h. f .fits s (omega arith); apart = λ s t a b e. f .apart s t (omega arith) (omega arith) e }
 
-pub one-more : (tab : List ℕ) (k m : ℕ) (w : List ℕ) → Sized tab k → m < k → Full (mayIn tab) m (place w) → Augmentable tab (m + 1) 0 m w
-one-more tab k m w s l f =
+pub one-more : (tab lows : List ℕ) (k m : ℕ) (w : List ℕ) → Sized tab k → m < k → Full (mayFrom tab lows) m (place w) → Augmentable tab lows (m + 1) 0 m w
+one-more tab lows k m w s l f =
     record {
       sized = record { room = s .room; few = omega (arith, s .few) };
       low = omega arith;
@@ -259,6 +276,3 @@ one-more tab k m w s l f =
         apart = λ t u h g n o e. f .apart t u (omega arith) (omega arith) e;
       };
     }
-
-pub nothing-down : (ok : ℕ → ℕ → Bool) (k i : ℕ) (w : ℕ → ℕ) → 0 < i → Nothing ok k i w → Nothing ok k (i - 1 + 1) w
-nothing-down ok k i w l n = let e : i - 1 + 1 ≡ i = omega arith in rw e n

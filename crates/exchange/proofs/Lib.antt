@@ -1,3 +1,4 @@
 pub mod Exchange
 pub mod Least
 pub mod Laws
+pub mod Runs

@@ -1,21 +1,13 @@
--- Where floaters stand, by number: `ok s x` says whether floater s may stand at x, and `w s` is where s stands.
+-- Where floaters stand while one of them seeks a place: `ok s x` says whether floater s may stand at x, and `w s` is where s stands.
 use mathlib.Core.Path.{_≡_}
 use mathlib.Core.Bool.{Bool, true}
 use Prim.Native.Nat.{ℕ, _<_, _≤_}
+use Rattle.placement_laws.specs.Standing.{Same}
 
--- the first k floaters all stand, each where it may, no two on one position
-pub record Full (ok : ℕ → ℕ → Bool) (k : ℕ) (w : ℕ → ℕ) : Type 0 where
-  pub fits : (s : ℕ) → s < k → ok s (w s) ≡ true
-  pub apart : (s t : ℕ) → s < k → t < k → w s ≡ w t → s ≡ t
-
--- all of them but j
+-- the first k floaters all stand but j, each where it may, no two on one position
 pub record But (ok : ℕ → ℕ → Bool) (k j : ℕ) (w : ℕ → ℕ) : Type 0 where
   pub fits : (s : ℕ) → s < k → (s ≡ j → ⊥) → ok s (w s) ≡ true
   pub apart : (s t : ℕ) → s < k → t < k → (s ≡ j → ⊥) → (t ≡ j → ⊥) → w s ≡ w t → s ≡ t
-
--- the same below f
-abbrev pub Same : ℕ → (ℕ → ℕ) → (ℕ → ℕ) → Type 0
-Same f w v = (s : ℕ) → s < f → w s ≡ v s
 
 -- nobody but j stands at x
 abbrev pub FreeBut : ℕ → ℕ → (ℕ → ℕ) → ℕ → Type 0

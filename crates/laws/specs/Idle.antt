@@ -6,13 +6,13 @@ use Prim.Native.Nat.{ℕ}
 use lib.IntN.{pos, _*ℤ_}
 use lib.ListN.{length, replicate}
 use Rattle.scope.specs.Line.{Bracket, Residue, Line}
-use Rattle.scope.specs.Lists.{given, shared, keep, flat, member}
+use Rattle.scope.specs.Lists.{given, shared, keep, flat, tabled, member}
 use Rattle.scope.specs.Modifications.{onlyInfo, isReferring, isModification, isLabelled, copies, definedBy, referredBy, namesOf}
-use Rattle.scope.specs.Positions.{sites, reached, isPlaced, placedOn, struckOut, floaters, between, referredAt, isUnlabelledUnknown, ownPosition, mayStand, positions, permitted, floatingOf}
+use Rattle.scope.specs.Positions.{sites, reached, isPlaced, placedOn, struckOut, floaters, between, referredAt, isUnlabelledUnknown, ownPosition, mayStand, positions, permitted, isFurther, floatingOf}
 use Rattle.scope.specs.Masses.{massOf, massOr0, sum, sumℕ, modifications, times, total, lacking, labileMass}
 use Rattle.scope.specs.Kinds.{isLabile, isDeclared, onOnePosition}
 use Rattle.basics.specs.Lists.{flat-append, keep-append, keep-same, map-same, shared-nothing}
-use Rattle.basics.specs.Positions.{same-floats}
+use Rattle.basics.specs.Positions.{same-floats, marks-of}
 
 -- ---- an element that is not kept, or gives nothing
 keep-without : {A : Type 0} (f : A → Bool) (l m : List A) (x : A) → f x ≡ false → keep f (l ++ (x ∷ m)) ≡ keep f (l ++ m)
@@ -44,6 +44,11 @@ module _ {P : Type 0} (rs : List (Residue P)) (ks ls : List (Bracket P)) (k : Br
     pub floats-nowhere : floaters withIt ≡ floaters withoutIt
     unfolding floaters copies
     floats-nowhere = flat-without (λ b. replicate (copies b) b) ks ls k (rw idle)
+
+    same-marks : floatingOf withIt .marks ≡ floatingOf withoutIt .marks
+    unfolding copies tabled
+    same-marks =
+        marks-of 0 (ks ++ (k ∷ ls)) ∙ flat-without (λ b. tabled isFurther 1 (copies b)) ks ls k (rw idle) ∙ sym (marks-of 0 (ks ++ ls))
 
     same-modifications : modifications withIt ≡ modifications withoutIt
     same-modifications = keep-without isModification ks ls k idle
@@ -97,3 +102,4 @@ module _ {P : Type 0} (rs : List (Residue P)) (ks ls : List (Bracket P)) (k : Br
   info-blocks-nothing e f = same-floats (floatingOf withIt) (floatingOf withoutIt)
       (ap (map (permitted withIt)) (floats-nowhere (info-is-idle e))
       ∙ map-same (permitted withIt) (permitted withoutIt) (permitted-without (info-is-idle e) f) (floaters withoutIt))
+      (same-marks (info-is-idle e))

@@ -22,8 +22,8 @@ use Rattle.scope.specs.Refusals.{least, refusal1, refusal2, unprintable, refusa
 use Rattle.scope.specs.Canonical.{decimalUpTo, decimal, lastDigits, decimals, size, partText, partsText, sequenceText, chainText, canonical}
 use Rattle.scope.specs.Tables.{tablesOf, scoreOf}
 use Rattle.scope.specs.Layout.{partRows, rows, bytesOf, numbersOf, partIn, bracketIn, tablesIn}
-use Rattle.scope.specs.Positions.{sites, reached, isPlaced, placedOn, struckOut, floaters, referredAt, mayStand, permitted, rowsFrom, rowsOf, floatingOf}
-use Rattle.scope.specs.Placements.{distinct, choices, placements, firstPlacement}
+use Rattle.scope.specs.Positions.{sites, reached, isPlaced, placedOn, struckOut, floaters, copiesFrom, referredAt, mayStand, permitted, rowsFrom, rowsOf, floatingOf}
+use Rattle.scope.specs.Placements.{distinct, ascends, choices, placements, firstPlacement}
 use Rattle.scope.specs.Masses.{firstMass, massOf, sum, total, sumℕ, lacking, placedAt, putAt, ledger}
 use Rattle.scope.specs.Answers.{sameNumbers, areTables}
 use Rattle.scope.specs.Register.{fields, printed}
@@ -134,7 +134,7 @@ samples =
     ∷ []
 
 pub printed-alike : all agrees samples ≡ true
-unfolding upper sameFolded same spell keys keyAmong keyOf written digitStep numberEnd textStep partEnd valueEnd textEnd colonAfter innerStep element further groupFirst inGroup undecided counted referred act onLast placeStep placesEnd perform resume step run reading all keep flat among copies least refusal1 refusal2 unprintable refusal3 tooDeep refusal5 refusal6 refusal7 refusal8 isRuleName refusal9 refusal10 refusal21 shared wronglyLabelled refusal11 passing refusal12 sugars behindName starts cuttingsUpTo cuttings cuttingMass refusal19 kept firstDue outcome decimalUpTo decimal lastDigits decimals size partText partsText placesText sequenceText chainText canonical tablesOf partRows scoreOf rows bytesOf numbersOf tabled partIn bracketIn tablesIn member sites reached isPlaced placedOn struckOut floaters referredAt mayStand permitted rowsFrom rowsOf distinct choices placements firstPlacement firstMass massOf sum total sumℕ lacking placedAt putAt ledger sameNumbers areTables fields printed
+unfolding upper sameFolded same spell keys keyAmong keyOf written digitStep numberEnd textStep partEnd valueEnd textEnd colonAfter innerStep element further groupFirst inGroup undecided counted referred act onLast placeStep placesEnd perform resume step run reading all keep flat among copies least refusal1 refusal2 unprintable refusal3 tooDeep refusal5 refusal6 refusal7 refusal8 isRuleName refusal9 refusal10 refusal21 shared wronglyLabelled refusal11 passing refusal12 sugars behindName starts cuttingsUpTo cuttings cuttingMass refusal19 kept firstDue outcome decimalUpTo decimal lastDigits decimals size partText partsText placesText sequenceText chainText canonical tablesOf partRows scoreOf rows bytesOf numbersOf tabled partIn bracketIn tablesIn member sites reached isPlaced placedOn struckOut floaters copiesFrom referredAt mayStand permitted rowsFrom rowsOf distinct ascends choices placements firstPlacement firstMass massOf sum total sumℕ lacking placedAt putAt ledger sameNumbers areTables fields printed
 printed-alike = refl
 
 abbrev site : ℕ → ℕ → Site
@@ -193,7 +193,7 @@ pub booked-alike :
     × (of (outcome (bytes "<[+5]@N-term>[+1]^2?[INFO:q]-AKAADCKA")) ledgerIn ≡ some (pos 5000000 ∷ pos 1000000 ∷ pos 1000000 ∷ pos 0 ∷ pos 0 ∷ pos 0 ∷ pos 0 ∷ pos 0 ∷ pos 0 ∷ pos 0 ∷ []))
     × (of (outcome (bytes "<[+5]@N-term>[+2]?[+4]-KAAAKKK[+1#M1]")) rowsOf ≡ some (site 1 1 ∷ site 1 2 ∷ site 1 3 ∷ site 1 4 ∷ site 1 5 ∷ site 1 6 ∷ site 1 7 ∷ site 2 7 ∷ []))
     × (of (outcome (bytes "<[+5]@N-term>[+2]?[+4]-KAAAKKK[+1#M1]")) ledgerIn ≡ some (pos 9000000 ∷ pos 2000000 ∷ pos 0 ∷ pos 0 ∷ pos 0 ∷ pos 0 ∷ pos 0 ∷ pos 1000000 ∷ pos 0 ∷ []))
-unfolding upper sameFolded same spell keys keyAmong keyOf written digitStep numberEnd textStep partEnd valueEnd textEnd colonAfter innerStep element further groupFirst inGroup undecided counted referred act onLast placeStep placesEnd perform resume step run reading all keep flat among copies least refusal1 refusal2 unprintable refusal3 tooDeep refusal5 refusal6 refusal7 refusal8 isRuleName refusal9 refusal10 refusal21 shared wronglyLabelled refusal11 passing refusal12 sugars behindName starts cuttingsUpTo cuttings cuttingMass refusal19 kept firstDue outcome decimalUpTo decimal lastDigits decimals size partText partsText placesText sequenceText chainText canonical tablesOf partRows scoreOf rows bytesOf numbersOf tabled partIn bracketIn tablesIn member sites reached isPlaced placedOn struckOut floaters referredAt mayStand permitted rowsFrom rowsOf distinct choices placements firstPlacement firstMass massOf sum total sumℕ lacking placedAt putAt ledger sameNumbers areTables fields printed
+unfolding upper sameFolded same spell keys keyAmong keyOf written digitStep numberEnd textStep partEnd valueEnd textEnd colonAfter innerStep element further groupFirst inGroup undecided counted referred act onLast placeStep placesEnd perform resume step run reading all keep flat among copies least refusal1 refusal2 unprintable refusal3 tooDeep refusal5 refusal6 refusal7 refusal8 isRuleName refusal9 refusal10 refusal21 shared wronglyLabelled refusal11 passing refusal12 sugars behindName starts cuttingsUpTo cuttings cuttingMass refusal19 kept firstDue outcome decimalUpTo decimal lastDigits decimals size partText partsText placesText sequenceText chainText canonical tablesOf partRows scoreOf rows bytesOf numbersOf tabled partIn bracketIn tablesIn member sites reached isPlaced placedOn struckOut floaters copiesFrom referredAt mayStand permitted rowsFrom rowsOf distinct ascends choices placements firstPlacement firstMass massOf sum total sumℕ lacking placedAt putAt ledger sameNumbers areTables fields printed
 booked-alike = (refl, refl, refl, refl, refl, refl, refl, refl, refl, refl, refl, refl, refl, refl, refl, refl, refl, refl, refl, refl, refl, refl, refl, refl, refl, refl, refl, refl, refl, refl, refl, refl, refl, refl, refl, refl, refl, refl, refl, refl, refl, refl, refl, refl)
 
 -- the areas that a line is read to are accepted as tables
@@ -205,5 +205,5 @@ pub read-alike :
     all (λ s. isRead (outcome (bytes s)))
     ("<[+1]@k,n-TERM>Ak" ∷ "<[+1]@K,k,K><[x]@c-term>AK" ∷ "<[x]@W>[+2]?KA" ∷ "<[Glycan:hex1|INFO:#a]@N,N-term>{y}[+1#a]-N[#a]" ∷ [])
     ≡ true
-unfolding upper sameFolded same spell keys keyAmong keyOf written digitStep numberEnd textStep partEnd valueEnd textEnd colonAfter innerStep element further groupFirst inGroup undecided counted referred act onLast placeStep placesEnd perform resume step run reading all keep flat among copies least refusal1 refusal2 unprintable refusal3 tooDeep refusal5 refusal6 refusal7 refusal8 isRuleName refusal9 refusal10 refusal21 shared wronglyLabelled refusal11 passing refusal12 sugars behindName starts cuttingsUpTo cuttings cuttingMass refusal19 kept firstDue outcome decimalUpTo decimal lastDigits decimals size partText partsText placesText sequenceText chainText canonical tablesOf partRows scoreOf rows bytesOf numbersOf tabled partIn bracketIn tablesIn member sites reached isPlaced placedOn struckOut floaters referredAt mayStand permitted rowsFrom rowsOf distinct choices placements firstPlacement firstMass massOf sum total sumℕ lacking placedAt putAt ledger sameNumbers areTables fields printed
+unfolding upper sameFolded same spell keys keyAmong keyOf written digitStep numberEnd textStep partEnd valueEnd textEnd colonAfter innerStep element further groupFirst inGroup undecided counted referred act onLast placeStep placesEnd perform resume step run reading all keep flat among copies least refusal1 refusal2 unprintable refusal3 tooDeep refusal5 refusal6 refusal7 refusal8 isRuleName refusal9 refusal10 refusal21 shared wronglyLabelled refusal11 passing refusal12 sugars behindName starts cuttingsUpTo cuttings cuttingMass refusal19 kept firstDue outcome decimalUpTo decimal lastDigits decimals size partText partsText placesText sequenceText chainText canonical tablesOf partRows scoreOf rows bytesOf numbersOf tabled partIn bracketIn tablesIn member sites reached isPlaced placedOn struckOut floaters copiesFrom referredAt mayStand permitted rowsFrom rowsOf distinct ascends choices placements firstPlacement firstMass massOf sum total sumℕ lacking placedAt putAt ledger sameNumbers areTables fields printed
 read-alike = refl

@@ -18,8 +18,8 @@ use Rattle.scope.specs.Refusals.{least, refusal1, refusal2, unprintable, refusa
 use Rattle.scope.specs.Canonical.{decimalUpTo, decimal, lastDigits, decimals, size, partText, partsText, sequenceText, chainText, canonical}
 use Rattle.scope.specs.Tables.{tablesOf, scoreOf}
 use Rattle.scope.specs.Layout.{partRows, rows, bytesOf, numbersOf, partIn, bracketIn, tablesIn}
-use Rattle.scope.specs.Positions.{sites, reached, isPlaced, placedOn, struckOut, floaters, referredAt, mayStand, permitted, rowsFrom, rowsOf, firstRow, floatingOf}
-use Rattle.scope.specs.Placements.{distinct, fits, allowed, less, choices, placements, firstPlacement, nextPlacement}
+use Rattle.scope.specs.Positions.{sites, reached, isPlaced, placedOn, struckOut, floaters, copiesFrom, referredAt, mayStand, permitted, rowsFrom, rowsOf, firstRow, floatingOf}
+use Rattle.scope.specs.Placements.{distinct, fits, ascends, allowed, less, choices, placements, firstPlacement, nextPlacement}
 use Rattle.scope.specs.Masses.{firstMass, massOf, sum, total, sumℕ, lacking, placedAt, putAt, ledger, labileMass}
 use Rattle.scope.specs.Answers.{sameNumbers, areTables}
 use Rattle.scope.specs.Register.{fields, printed}
@@ -56,7 +56,9 @@ booked l = padded (pos 0) positionLimit l
 pub proved :
     (totalOf "AM[+15.995]C[-18.01]" ≡ some (minus 2015000))
     × (ledgerOf "AM[+15.995]C[-18.01]" ≡ some (booked (pos 0 ∷ pos 0 ∷ pos 15995000 ∷ minus 18010000 ∷ pos 0 ∷ [])))
-    × (placementsOf "[+1]^2?AC" ≡ some (placed (1 ∷ 2 ∷ []) ∷ placed (2 ∷ 1 ∷ []) ∷ []))
+    × (placementsOf "[+1]^2?AC" ≡ some (placed (1 ∷ 2 ∷ []) ∷ []))
+    × (placementsOf "[+1][+1]?AC" ≡ some (placed (1 ∷ 2 ∷ []) ∷ placed (2 ∷ 1 ∷ []) ∷ []))
+    × (placementsOf "[+1]^2[x]?ACD" ≡ some (placed (1 ∷ 2 ∷ 3 ∷ []) ∷ placed (1 ∷ 3 ∷ 2 ∷ []) ∷ placed (2 ∷ 3 ∷ 1 ∷ []) ∷ []))
     × (totalOf "[+1]^2?AC" ≡ some (pos 2000000))
     × (placementsOf "[+1]^2?A" ≡ some [])
     × (totalOf "[+1]^2?A" ≡ some (pos 2000000))
@@ -71,5 +73,5 @@ pub proved :
     × (lineWritten "A[-0]" ≡ some (bytes "A[+0]"))
     × (outcome (bytes "A[U:35]") ≡ refused 9 2)
     × (outcome (bytes "A[x]y]") ≡ refused 4 5)
-unfolding upper sameFolded same spell keys keyAmong keyOf written digitStep numberEnd textStep partEnd valueEnd textEnd colonAfter innerStep element further groupFirst inGroup undecided counted referred act onLast placeStep placesEnd perform resume step run reading all keep flat among copies least refusal1 refusal2 unprintable refusal3 tooDeep refusal5 refusal6 refusal7 refusal8 isRuleName refusal9 refusal10 refusal21 shared wronglyLabelled refusal11 passing refusal12 refusal19 kept firstDue outcome decimalUpTo decimal lastDigits decimals size partText partsText placesText sequenceText chainText canonical tablesOf partRows scoreOf rows bytesOf numbersOf tabled partIn bracketIn tablesIn member sites reached isPlaced placedOn struckOut floaters referredAt mayStand permitted rowsFrom rowsOf firstRow distinct fits allowed less choices placements firstPlacement nextPlacement firstMass massOf sum total sumℕ lacking placedAt putAt ledger labileMass sameNumbers areTables fields printed
-proved = (refl, refl, refl, refl, refl, refl, refl, refl, refl, refl, refl, refl, refl, refl, refl, refl, refl)
+unfolding upper sameFolded same spell keys keyAmong keyOf written digitStep numberEnd textStep partEnd valueEnd textEnd colonAfter innerStep element further groupFirst inGroup undecided counted referred act onLast placeStep placesEnd perform resume step run reading all keep flat among copies least refusal1 refusal2 unprintable refusal3 tooDeep refusal5 refusal6 refusal7 refusal8 isRuleName refusal9 refusal10 refusal21 shared wronglyLabelled refusal11 passing refusal12 refusal19 kept firstDue outcome decimalUpTo decimal lastDigits decimals size partText partsText placesText sequenceText chainText canonical tablesOf partRows scoreOf rows bytesOf numbersOf tabled partIn bracketIn tablesIn member sites reached isPlaced placedOn struckOut floaters copiesFrom referredAt mayStand permitted rowsFrom rowsOf firstRow distinct fits ascends allowed less choices placements firstPlacement nextPlacement firstMass massOf sum total sumℕ lacking placedAt putAt ledger labileMass sameNumbers areTables fields printed
+proved = (refl, refl, refl, refl, refl, refl, refl, refl, refl, refl, refl, refl, refl, refl, refl, refl, refl, refl, refl)

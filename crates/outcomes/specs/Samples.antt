@@ -21,8 +21,8 @@ use Rattle.scope.specs.Refusals.{least, refusal1, refusal2, unprintable, refusa
 use Rattle.scope.specs.Canonical.{decimalUpTo, decimal, lastDigits, decimals, size, partText, partsText, sequenceText, chainText, canonical}
 use Rattle.scope.specs.Tables.{tablesOf, scoreOf}
 use Rattle.scope.specs.Layout.{partRows, rows, bytesOf, numbersOf, partIn, bracketIn, tablesIn}
-use Rattle.scope.specs.Positions.{sites, reached, isPlaced, placedOn, struckOut, floaters, referredAt, mayStand, permitted, rowsFrom, rowsOf, firstRow, floatingOf}
-use Rattle.scope.specs.Placements.{distinct, fits, allowed, less, choices, placements, firstPlacement, nextPlacement}
+use Rattle.scope.specs.Positions.{sites, reached, isPlaced, placedOn, struckOut, floaters, copiesFrom, referredAt, mayStand, permitted, rowsFrom, rowsOf, firstRow, floatingOf}
+use Rattle.scope.specs.Placements.{distinct, fits, ascends, allowed, less, choices, placements, firstPlacement, nextPlacement}
 use Rattle.scope.specs.Masses.{firstMass, massOf, sum, total, sumℕ, lacking, placedAt, putAt, ledger, labileMass}
 use Rattle.scope.specs.Answers.{sameNumbers, areTables}
 use Rattle.scope.specs.Register.{fields, printed}
@@ -134,7 +134,7 @@ apart =
     ∷ []
 
 pub printed-alike : all agrees (samples ++ apart) ≡ true
-unfolding upper sameFolded same spell keys keyAmong keyOf written digitStep numberEnd textStep partEnd valueEnd textEnd colonAfter innerStep element further groupFirst inGroup undecided counted referred act onLast placeStep placesEnd perform resume step run reading all keep flat among copies least refusal1 refusal2 unprintable refusal3 tooDeep refusal5 refusal6 refusal7 refusal8 isRuleName refusal9 refusal10 refusal21 shared wronglyLabelled refusal11 passing refusal12 refusal19 kept firstDue outcome decimalUpTo decimal lastDigits decimals size partText partsText placesText sequenceText chainText canonical tablesOf partRows scoreOf rows bytesOf numbersOf tabled partIn bracketIn tablesIn member sites reached isPlaced placedOn struckOut floaters referredAt mayStand permitted rowsFrom rowsOf firstRow distinct fits allowed less choices placements firstPlacement nextPlacement firstMass massOf sum total sumℕ lacking placedAt putAt ledger labileMass sameNumbers areTables fields printed
+unfolding upper sameFolded same spell keys keyAmong keyOf written digitStep numberEnd textStep partEnd valueEnd textEnd colonAfter innerStep element further groupFirst inGroup undecided counted referred act onLast placeStep placesEnd perform resume step run reading all keep flat among copies least refusal1 refusal2 unprintable refusal3 tooDeep refusal5 refusal6 refusal7 refusal8 isRuleName refusal9 refusal10 refusal21 shared wronglyLabelled refusal11 passing refusal12 refusal19 kept firstDue outcome decimalUpTo decimal lastDigits decimals size partText partsText placesText sequenceText chainText canonical tablesOf partRows scoreOf rows bytesOf numbersOf tabled partIn bracketIn tablesIn member sites reached isPlaced placedOn struckOut floaters copiesFrom referredAt mayStand permitted rowsFrom rowsOf firstRow distinct fits ascends allowed less choices placements firstPlacement nextPlacement firstMass massOf sum total sumℕ lacking placedAt putAt ledger labileMass sameNumbers areTables fields printed
 printed-alike = refl
 
 abbrev site : ℕ → ℕ → Site
@@ -201,5 +201,5 @@ pub placed-alike :
     × (of (outcome (bytes "[-2]^3?F[UNIMOD:90724][INFO:Glu->pyro-Glu##]")) placementsIn ≡ some ([]))
     × (of (outcome (bytes "(A[#g1(+771.7742)]U[INFO:a^2|G:::][#g1][R:493#g1])[-1]")) rowsOf ≡ some (site 1 1 ∷ site 2 1 ∷ []))
     × (of (outcome (bytes "(A[#g1(+771.7742)]U[INFO:a^2|G:::][#g1][R:493#g1])[-1]")) placementsIn ≡ some ([]))
-unfolding upper sameFolded same spell keys keyAmong keyOf written digitStep numberEnd textStep partEnd valueEnd textEnd colonAfter innerStep element further groupFirst inGroup undecided counted referred act onLast placeStep placesEnd perform resume step run reading all keep flat among copies least refusal1 refusal2 unprintable refusal3 tooDeep refusal5 refusal6 refusal7 refusal8 isRuleName refusal9 refusal10 refusal21 shared wronglyLabelled refusal11 passing refusal12 refusal19 kept firstDue outcome decimalUpTo decimal lastDigits decimals size partText partsText placesText sequenceText chainText canonical tablesOf partRows scoreOf rows bytesOf numbersOf tabled partIn bracketIn tablesIn member sites reached isPlaced placedOn struckOut floaters referredAt mayStand permitted rowsFrom rowsOf firstRow distinct fits allowed less choices placements firstPlacement nextPlacement firstMass massOf sum total sumℕ lacking placedAt putAt ledger labileMass sameNumbers areTables fields printed
+unfolding upper sameFolded same spell keys keyAmong keyOf written digitStep numberEnd textStep partEnd valueEnd textEnd colonAfter innerStep element further groupFirst inGroup undecided counted referred act onLast placeStep placesEnd perform resume step run reading all keep flat among copies least refusal1 refusal2 unprintable refusal3 tooDeep refusal5 refusal6 refusal7 refusal8 isRuleName refusal9 refusal10 refusal21 shared wronglyLabelled refusal11 passing refusal12 refusal19 kept firstDue outcome decimalUpTo decimal lastDigits decimals size partText partsText placesText sequenceText chainText canonical tablesOf partRows scoreOf rows bytesOf numbersOf tabled partIn bracketIn tablesIn member sites reached isPlaced placedOn struckOut floaters copiesFrom referredAt mayStand permitted rowsFrom rowsOf firstRow distinct fits ascends allowed less choices placements firstPlacement nextPlacement firstMass massOf sum total sumℕ lacking placedAt putAt ledger labileMass sameNumbers areTables fields printed
 placed-alike = (refl, refl, refl, refl, refl, refl, refl, refl, refl, refl, refl, refl, refl, refl, refl, refl, refl, refl, refl, refl, refl, refl, refl, refl, refl, refl, refl, refl, refl, refl, refl, refl, refl, refl, refl, refl, refl, refl, refl)

@@ -1,20 +1,22 @@
--- An allowed placement, entry by entry: each floater stands at a permitted position, no two at one, and zeros stand behind them.
+-- An allowed placement, entry by entry: each floater stands at a permitted position, no two at one, a further copy above the copy before it, and zeros stand
+-- behind them.
 use mathlib.Core.Path.{_≡_, refl, sym, ap, _∙_, subst}
-use mathlib.Core.Bool.{true, not, false≢true}
+use mathlib.Core.Bool.{Bool, true, false, not, _||_, false≢true}
 use mathlib.Core.List.{List, [], _∷_}
-use Prim.Native.Nat.{ℕ, zero, suc, _≤_, _<_}
+use Prim.Native.Nat.{ℕ, zero, suc, _+_, _≤_, _<_}
 use native.Mathlib.Omega.{arith}
-use lib.Dec.{eqb}
-use lib.ListN.{length, getD, take}
+use lib.Dec.{eqb, ltb}
+use lib.ListN.{length, getD, take, drop}
 use lib.Seq.{getD-take, length-take-le}
-use borrow.Author.Tests.{eqb-true, eq-eqb}
+use borrow.Author.Tests.{eqb-true, eq-eqb, ltb-true, lt-ltb}
 use Rattle.scope.specs.Limits.{copyLimit}
 use Rattle.scope.specs.Lists.{all, member}
 use Rattle.scope.specs.Positions.{Floating}
-use Rattle.scope.specs.Placements.{distinct, fits}
-use Rattle.basics.specs.Tests.{both-of, both, falsely}
+use Rattle.scope.specs.Placements.{distinct, fits, ascends}
+use Rattle.basics.specs.Tests.{both-of, both, implied, falsely}
 use Rattle.basics.specs.Each.{In}
 use Rattle.basics.specs.Members.{member-in, in-member, in-at, at-in}
+use Rattle.placement_laws.specs.Standing.{place, Ascent}
 use Rattle.placement_laws.specs.Terms.{Allowed, Placing}
 use Rattle.placement_laws.specs.Members.{fits-cons, cons-fits, fits-none, cut, allowed-parts, parts-allowed}
 
@@ -80,6 +82,51 @@ at-distinct (x ∷ p) h =
     (λ k. let z = at-in x p 0 k in let q : 0 ≡ suc (z .0) = h 0 (suc (z .0)) (omega arith) (omega (arith, z .1)) (sym (z .2)) in omega arith)
     (at-distinct p (λ s t l m e. let z = h (suc s) (suc t) (omega arith) (omega arith) e in omega arith))
 
+-- ---- a further copy above the copy before it
+behind : (ms : List Bool) (s : ℕ) → getD (drop 1 ms) s false ≡ getD ms (suc s) false
+behind [] s = refl
+behind (m ∷ ms) s = refl
+
+ascends-cons : (ms : List Bool) (x y : ℕ) (p : List ℕ) → ascends ms (x ∷ y ∷ p) ≡ true → (getD ms 1 false ≡ true → x < y) × (ascends (drop 1 ms) (y ∷ p) ≡ true)
+unfolding ascends
+ascends-cons ms x y p e =
+    let z = both-of (not (getD ms 1 false) || ltb x y) (ascends (drop 1 ms) (y ∷ p)) e in
+    ((λ m. ltb-true x y (implied (getD ms 1 false) (ltb x y) (z .0) m)), z .1)
+
+cons-ascends : (ms : List Bool) (x y : ℕ) (p : List ℕ) → (getD ms 1 false ≡ true → x < y) → ascends (drop 1 ms) (y ∷ p) ≡ true → ascends ms (x ∷ y ∷ p) ≡ true
+unfolding ascends
+cons-ascends ms x y p h e = both (not (getD ms 1 false) || ltb x y) (ascends (drop 1 ms) (y ∷ p)) (go (getD ms 1 false) h) e
+  where
+    go : (m : Bool) → (m ≡ true → x < y) → (not m || ltb x y) ≡ true
+    go true k = lt-ltb x y (k refl)
+    go false k = refl
+
+ascends-at : (ms : List Bool) (p : List ℕ) → ascends ms p ≡ true → (s : ℕ) → suc s < length p → getD ms (suc s) false ≡ true → getD p s 0 < getD p (suc s) 0
+ascends-at ms [] e s l m = absurd (omega arith)
+ascends-at ms (x ∷ []) e s l m = absurd (omega arith)
+ascends-at ms (x ∷ y ∷ p) e zero l m = ascends-cons ms x y p e .0 m
+ascends-at ms (x ∷ y ∷ p) e (suc s) l m = ascends-at (drop 1 ms) (y ∷ p) (ascends-cons ms x y p e .1) s (omega arith) (behind ms (suc s) ∙ m)
+
+at-ascends : (ms : List Bool) (p : List ℕ) → ((s : ℕ) → suc s < length p → getD ms (suc s) false ≡ true → getD p s 0 < getD p (suc s) 0) → ascends ms p ≡ true
+unfolding ascends
+at-ascends ms [] h = refl
+at-ascends ms (x ∷ []) h = refl
+at-ascends ms (x ∷ y ∷ p) h =
+    cons-ascends ms x y p (h 0 (omega arith)) (at-ascends (drop 1 ms) (y ∷ p) (λ s l m. h (suc s) (omega arith) (sym (behind ms (suc s)) ∙ m)))
+
+-- of the first n
+front-ascends : (ms : List Bool) (p : List ℕ) (n : ℕ) → length (take n p) ≡ n → ascends ms (take n p) ≡ true → Ascent (λ s. getD ms s false) n (place p)
+front-ascends ms p n e h s l m =
+    let i : s + 1 ≡ suc s = omega arith in
+    let z = ascends-at ms (take n p) h s (omega arith) (rw i at m) in
+    rw i (omega (arith, z, getD-take n p s 0 (omega arith), getD-take n p (suc s) 0 (omega arith)))
+
+ascends-front : (ms : List Bool) (p : List ℕ) (n : ℕ) → length (take n p) ≡ n → Ascent (λ s. getD ms s false) n (place p) → ascends ms (take n p) ≡ true
+ascends-front ms p n e h = at-ascends ms (take n p) (λ s l m.
+    let i : suc s ≡ s + 1 = omega arith in
+    let z : place p s < place p (suc s) = rw i (h s (omega arith) (rw i at m)) in
+    omega (arith, z, getD-take n p s 0 (omega arith), getD-take n p (suc s) 0 (omega arith)))
+
 -- ---- allowed
 pub allowed-placing : (f : Floating) (p : List ℕ) → Allowed f p → Placing f p
 allowed-placing f p e =
@@ -91,6 +138,7 @@ allowed-placing f p e =
       permitted = λ i l. member-in (getD p i 0) (getD qs i []) (fits-at qs p (a .fit) i l);
       apart = λ i j l m q. distinct-at (take (length qs) p) (a .apart) i j (omega (arith, n, l)) (omega (arith, n, m))
           (getD-take (length qs) p i 0 l ∙ q ∙ sym (getD-take (length qs) p j 0 m));
+      ascent = front-ascends (f .marks) p (length qs) n (a .ascent);
       unused = fits-rest qs p (a .fit);
     }
 
@@ -106,4 +154,5 @@ placing-allowed f p few a =
           let u : i < length qs = omega (arith, n, l) in
           let v : j < length qs = omega (arith, n, m) in
           a .apart i j u v (sym (getD-take (length qs) p i 0 u) ∙ q ∙ getD-take (length qs) p j 0 v));
+      ascent = ascends-front (f .marks) p (length qs) n (a .ascent);
     })

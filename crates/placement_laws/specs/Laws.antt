@@ -1,5 +1,5 @@
--- The laws of placements and of the listing, over what floats: few copies, each with its positions in rising order; `line-orderly` says that what floats of
--- a line with few floaters is so.
+-- The laws of placements and of the listing, over what floats: few copies, each with its positions in rising order, those of one bracket alike; `line-orderly`
+-- says that what floats of a line with few floaters is so.
 use mathlib.Core.Path.{_≡_}
 use mathlib.Core.Logic.{_↔_}
 use mathlib.Core.Bool.{true}
@@ -11,14 +11,15 @@ use Rattle.scope.specs.Limits.{copyLimit}
 use Rattle.scope.specs.Line.{Line}
 use Rattle.scope.specs.Lists.{keep}
 use Rattle.scope.specs.Positions.{Floating, floaters, floatingOf}
-use Rattle.scope.specs.Placements.{distinct, allowed, choices, placements, firstPlacement, nextPlacement, freshListing}
+use Rattle.scope.specs.Placements.{distinct, ascends, allowed, choices, placements, firstPlacement, nextPlacement, freshListing}
 use Rattle.scope.specs.Answers.{refuses, findable, requested}
-use Rattle.placement_laws.specs.Terms.{Orderly, Ascending, Allowed, Placing, Further, Least, afterRequests, handedOut}
+use Rattle.placement_laws.specs.Terms.{Orderly, unmarked, Ascending, Allowed, Placing, Reordered, Further, Least, afterRequests, handedOut}
 use Rattle.basics.specs.Each.{In}
 use Rattle.placement_laws.specs.Members as members
 use Rattle.placement_laws.specs.Entries as entries
-use Rattle.placement_laws.specs.Sorted as sorted
+use Rattle.placement_laws.specs.Sorted as ordered
 use Rattle.placement_laws.specs.Leasts as leasts
+use Rattle.placement_laws.specs.Copies as copies
 use Rattle.placement_laws.specs.Requests as requests
 use Rattle.placement_laws.specs.Lines as lines
 
@@ -28,11 +29,11 @@ line-orderly t few = lines.line-orderly t few
 
 -- "With no floater there is one placement, all zeros."
 pub no-floater : (f : Floating) → f .lists ≡ [] → placements f ≡ replicate copyLimit 0 ∷ []
-unfolding placements choices keep distinct
+unfolding placements choices keep distinct ascends
 no-floater f e = rw e
 
 module _ (f : Floating) (ok : Orderly f) where
-  -- allowed, entry by entry: each floater at a permitted position, "and no two floaters share one"
+  -- allowed, entry by entry: each floater at a permitted position, "and no two floaters share one"; "positions of one bracket's copies ascend"
   pub by-entries : (p : List ℕ) → (allowed f p ≡ true) ↔ Placing f p
   by-entries p = (entries.allowed-placing f p, entries.placing-allowed f p (ok .few))
 
@@ -42,11 +43,11 @@ module _ (f : Floating) (ok : Orderly f) where
 
   -- "ordered as number lists"
   pub ascending : Ascending (placements f)
-  ascending = sorted.placements-ascending f (ok .rising)
+  ascending = ordered.placements-ascending f (ok .rising)
 
   -- each stands there once
   pub once : (i j : ℕ) → i < length (placements f) → j < length (placements f) → getD (placements f) i [] ≡ getD (placements f) j [] → i ≡ j
-  once i j h k e = sorted.once (placements f) ascending i j h k e
+  once i j h k e = ordered.once (placements f) ascending i j h k e
 
   -- the first is the least that is allowed; the next one the least that is allowed and above p; none exactly where there is none
   pub first : Least (Allowed f) (firstPlacement f)
@@ -54,6 +55,17 @@ module _ (f : Floating) (ok : Orderly f) where
 
   pub next : (p : List ℕ) → Least (Further f p) (nextPlacement f p)
   next p = leasts.next-least f ok p
+
+  -- "positions of one bracket's copies ascend": the first placement is the first one without that rule, and none exists exactly where none does without it
+  pub first-as-before : firstPlacement f ≡ firstPlacement (unmarked f)
+  first-as-before = copies.first-as-before f ok
+
+  pub none-as-before : ((p : List ℕ) → allowed f p ≡ true → ⊥) ↔ ((p : List ℕ) → allowed (unmarked f) p ≡ true → ⊥)
+  none-as-before = copies.none-as-before f ok
+
+  -- and every one that is allowed without it is an allowed one with the copies of one bracket in another order
+  pub sorted : (p : List ℕ) → allowed (unmarked f) p ≡ true → (q : List ℕ) × (allowed f q ≡ true) × Reordered f p q
+  sorted p a = copies.sorted f ok p a
 
   -- "requests from a fresh record over the same tables": after n of them the next one hands out placement number n (from 0), or answers 17
   pub request : (n : ℕ) → requested f (afterRequests f n freshListing) ≡ findable (getElem? (placements f) n)

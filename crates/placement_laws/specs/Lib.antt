@@ -1,5 +1,7 @@
+pub mod Standing
 pub mod Terms
 pub mod Laws
+pub mod Swaps
 pub mod Order
 pub mod Members
 pub mod Entries
@@ -7,3 +9,4 @@ pub mod Sorted
 pub mod Leasts
 pub mod Requests
 pub mod Lines
+pub mod Copies

@@ -1,4 +1,5 @@
--- What stands among the placements is what is allowed: a position from the list of each floater, no two the same, and zeros behind them.
+-- What stands among the placements is what is allowed: a position from the list of each floater, no two the same, those of one bracket's copies ascending, and
+-- zeros behind them.
 use mathlib.Core.Path.{_≡_, refl, sym, ap, _∙_, subst}
 use mathlib.Core.Logic.{inl, inr}
 use mathlib.Core.Bool.{true, _&&_, false≢true}
@@ -12,7 +13,7 @@ use borrow.Author.Tests.{eqb-true, eq-eqb}
 use Rattle.scope.specs.Limits.{copyLimit}
 use Rattle.scope.specs.Lists.{all, keep, padded, member}
 use Rattle.scope.specs.Positions.{Floating}
-use Rattle.scope.specs.Placements.{distinct, fits, allowed, choices, placements}
+use Rattle.scope.specs.Placements.{distinct, fits, ascends, inOrder, allowed, choices, placements}
 use Rattle.placement_laws.specs.Terms.{Allowed}
 use Rattle.basics.specs.Each.{In}
 use Rattle.basics.specs.Tests.{both-of, both}
@@ -109,32 +110,40 @@ pub record AllowedParts (f : Floating) (p : List ℕ) : Type 0 where
   pub eight : length p ≡ copyLimit
   pub fit : fits (f .lists) p ≡ true
   pub apart : distinct (take (length (f .lists)) p) ≡ true
+  pub ascent : ascends (f .marks) (take (length (f .lists)) p) ≡ true
 
 pub allowed-parts : (f : Floating) (p : List ℕ) → Allowed f p → AllowedParts f p
 unfolding allowed
 allowed-parts f p e =
-    let a = both-of (eqb (length p) copyLimit && fits (f .lists) p) (distinct (take (length (f .lists)) p)) e in
+    let r = take (length (f .lists)) p in
+    let a = both-of (eqb (length p) copyLimit && fits (f .lists) p) (inOrder f r) e in
     let b = both-of (eqb (length p) copyLimit) (fits (f .lists) p) (a .0) in
-    record { eight = eqb-true (length p) copyLimit (b .0); fit = b .1; apart = a .1 }
+    let c = both-of (distinct r) (ascends (f .marks) r) (a .1) in
+    record { eight = eqb-true (length p) copyLimit (b .0); fit = b .1; apart = c .0; ascent = c .1 }
 
 pub parts-allowed : (f : Floating) (p : List ℕ) → AllowedParts f p → Allowed f p
 unfolding allowed
 parts-allowed f p h =
-    both (eqb (length p) copyLimit && fits (f .lists) p) (distinct (take (length (f .lists)) p))
-    (both (eqb (length p) copyLimit) (fits (f .lists) p) (eq-eqb (length p) copyLimit (h .eight)) (h .fit)) (h .apart)
+    let r = take (length (f .lists)) p in
+    both (eqb (length p) copyLimit && fits (f .lists) p) (inOrder f r)
+    (both (eqb (length p) copyLimit) (fits (f .lists) p) (eq-eqb (length p) copyLimit (h .eight)) (h .fit)) (both (distinct r) (ascends (f .marks) r) (h .apart) (h .ascent))
 
 pub among-allowed : (f : Floating) (p : List ℕ) → length (f .lists) ≤ copyLimit → In p (placements f) → Allowed f p
 unfolding placements
-among-allowed f p few h = go (in-map (padded 0 copyLimit) p (keep distinct (choices (f .lists))) h)
+among-allowed f p few h = go (in-map (padded 0 copyLimit) p (keep (inOrder f) (choices (f .lists))) h)
   where
-    go : (r : List ℕ) × In r (keep distinct (choices (f .lists))) × (p ≡ padded 0 copyLimit r) → Allowed f p
-    go z = let k = in-keep distinct (z .0) (choices (f .lists)) (z .1) in
+    go : (r : List ℕ) × In r (keep (inOrder f) (choices (f .lists))) × (p ≡ padded 0 copyLimit r) → Allowed f p
+    go z =
+        let k = in-keep (inOrder f) (z .0) (choices (f .lists)) (z .1) in
         let c = choice-fits (f .lists) (z .0) (k .0) in
+        let o = both-of (distinct (z .0)) (ascends (f .marks) (z .0)) (k .1) in
+        let s : take (length (f .lists)) (padded 0 copyLimit (z .0)) ≡ z .0 = rw (sym (c .0)) (take-append-seam (z .0) (replicate (copyLimit - length (z .0)) 0)) in
         subst (Allowed f) (sym (z .2)) (parts-allowed f (padded 0 copyLimit (z .0)) (record {
           eight =
               length-append (z .0) (replicate (copyLimit - length (z .0)) 0) ∙ ap (λ n. length (z .0) + n) (length-replicate (copyLimit - length (z .0)) 0) ∙ omega (arith, c .0);
           fit = padded-fits (f .lists) (z .0) (copyLimit - length (z .0)) (c .0) (c .1);
-          apart = rw (sym (c .0), take-append-seam (z .0) (replicate (copyLimit - length (z .0)) 0)) (k .1);
+          apart = ap distinct s ∙ o .0;
+          ascent = ap (ascends (f .marks)) s ∙ o .1;
         }))
 
 pub allowed-among : (f : Floating) (p : List ℕ) → Allowed f p → In p (placements f)
@@ -146,5 +155,6 @@ allowed-among f p e =
     let r : List ℕ = take (length qs) p in
     let n : length p - length qs ≡ copyLimit - length r = omega (arith, a .eight, c .many) in
     let m : p ≡ padded 0 copyLimit r = c .split ∙ ap (λ i. r ++ replicate i 0) n in
-    subst (λ z. In z (map (padded 0 copyLimit) (keep distinct (choices qs)))) (sym m)
-    (map-in (padded 0 copyLimit) r (keep distinct (choices qs)) (keep-in distinct r (choices qs) (fits-choice qs r (c .many) (c .front)) (a .apart)))
+    subst (λ z. In z (map (padded 0 copyLimit) (keep (inOrder f) (choices qs)))) (sym m)
+    (map-in (padded 0 copyLimit) r (keep (inOrder f) (choices qs)) (keep-in (inOrder f) r (choices qs) (fits-choice qs r (c .many) (c .front))
+    (both (distinct r) (ascends (f .marks) r) (a .apart) (a .ascent))))

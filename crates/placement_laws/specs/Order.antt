@@ -1,15 +1,16 @@
--- "ordered as number lists": the order of placements.
+-- "ordered as number lists": the order of placements. Of two lists of one length the lesser comes before, at the first place where they differ.
 use mathlib.Core.Path.{_≡_, refl, sym, ap}
 use mathlib.Core.Logic.{_⊎_, inl, inr, ⊎-elim}
 use mathlib.Core.Option.{Option, none, some}
 use mathlib.Core.Bool.{true, _&&_, false≢true}
 use mathlib.Core.List.{List, [], _∷_, _++_}
-use Prim.Native.Nat.{ℕ, _<_}
+use Prim.Native.Nat.{ℕ, zero, suc, _<_}
 use native.Mathlib.Omega.{arith}
 use lib.Dec.{eqb, ltb}
 use lib.ListN.{length}
 use borrow.Author.Tests.{eqb-true, eq-eqb, ltb-true, lt-ltb}
 use Rattle.scope.specs.Placements.{less}
+use Rattle.placement_laws.specs.Standing.{place, Same, Before}
 use Rattle.placement_laws.specs.Terms.{Least}
 use Rattle.basics.specs.Tests.{both-of, both, one-of, or-first, or-second}
 
@@ -49,6 +50,31 @@ less-append (x ∷ p) (y ∷ q) a b e h = ⊎-elim
     (λ k. less-here x y (p ++ a) (q ++ b) k)
     (λ k. less-there x y (p ++ a) (q ++ b) (k .0) (less-append p q a b (omega arith) (k .1)))
     (less-cases x y p q h)
+
+-- ---- the same by places
+later : (x y : ℕ) (p q : List ℕ) → x ≡ y → Before (length p) (place p) (place q) → Before (suc (length p)) (place (x ∷ p)) (place (y ∷ q))
+later x y p q e b = record { d = suc (b .d); inside = omega (arith, b .inside); same = same; less = b .less }
+  where
+    same : (s : ℕ) → s < suc (b .d) → place (x ∷ p) s ≡ place (y ∷ q) s
+    same zero l = e
+    same (suc s) l = b .same s (omega arith)
+
+pub less-before : (p q : List ℕ) → length p ≡ length q → less p q ≡ true → Before (length p) (place p) (place q)
+unfolding less
+less-before [] [] e h = absurd (false≢true h)
+less-before [] (y ∷ q) e h = absurd (omega arith)
+less-before (x ∷ p) [] e h = absurd (omega arith)
+less-before (x ∷ p) (y ∷ q) e h = ⊎-elim
+    (λ k. record { d = 0; inside = omega arith; same = λ s l. absurd (omega arith); less = k })
+    (λ k. later x y p q (k .0) (less-before p q (omega arith) (k .1)))
+    (less-cases x y p q h)
+
+pub before-less : (d : ℕ) (p q : List ℕ) → d < length p → d < length q → Same d (place p) (place q) → place p d < place q d → less p q ≡ true
+before-less d [] q l m s h = absurd (omega arith)
+before-less d (x ∷ p) [] l m s h = absurd (omega arith)
+before-less zero (x ∷ p) (y ∷ q) l m s h = less-here x y p q h
+before-less (suc d) (x ∷ p) (y ∷ q) l m s h =
+    less-there x y p q (s 0 (omega arith)) (before-less d p q (omega arith) (omega arith) (λ t g. s (suc t) (omega arith)) h)
 
 -- there is only one least
 pub least-unique : (P : List ℕ → Type 0) (a b : Option (List ℕ)) → Least P a → Least P b → a ≡ b

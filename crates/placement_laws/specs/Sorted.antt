@@ -8,7 +8,7 @@ use lib.ListN.{length, getD, replicate}
 use Rattle.scope.specs.Limits.{copyLimit}
 use Rattle.scope.specs.Lists.{keep, flat, padded}
 use Rattle.scope.specs.Positions.{Floating}
-use Rattle.scope.specs.Placements.{distinct, less, choices, placements}
+use Rattle.scope.specs.Placements.{inOrder, less, choices, placements}
 use Rattle.placement_laws.specs.Terms.{Rising, AllRising, Ascending}
 use Rattle.basics.specs.Each.{In}
 use Rattle.basics.specs.Members.{in-at, ordered-append, ordered-keep, ordered-map, in-keep, in-map, in-flat}
@@ -41,13 +41,13 @@ choices-ascending (q ∷ qs) r = spread q (choices qs) (r .0) (choices-ascending
 pub placements-ascending : (f : Floating) → AllRising (f .lists) → Ascending (placements f)
 unfolding placements
 placements-ascending f r =
-    ordered-map Less Less (padded 0 copyLimit) (keep distinct (choices (f .lists))) padded-less
-    (ordered-keep Less distinct (choices (f .lists)) (choices-ascending (f .lists) r))
+    ordered-map Less Less (padded 0 copyLimit) (keep (inOrder f) (choices (f .lists))) padded-less
+    (ordered-keep Less (inOrder f) (choices (f .lists)) (choices-ascending (f .lists) r))
   where
-    long : (p : List ℕ) → In p (keep distinct (choices (f .lists))) → length p ≡ length (f .lists)
-    long p h = choice-fits (f .lists) p (in-keep distinct p (choices (f .lists)) h .0) .0
+    long : (p : List ℕ) → In p (keep (inOrder f) (choices (f .lists))) → length p ≡ length (f .lists)
+    long p h = choice-fits (f .lists) p (in-keep (inOrder f) p (choices (f .lists)) h .0) .0
 
-    padded-less : (p q : List ℕ) → In p (keep distinct (choices (f .lists))) → In q (keep distinct (choices (f .lists))) → less p q ≡ true
+    padded-less : (p q : List ℕ) → In p (keep (inOrder f) (choices (f .lists))) → In q (keep (inOrder f) (choices (f .lists))) → less p q ≡ true
         → less (padded 0 copyLimit p) (padded 0 copyLimit q) ≡ true
     padded-less p q h k e = less-append p q (replicate (copyLimit - length p) 0) (replicate (copyLimit - length q) 0) (long p h ∙ sym (long q k)) e
 

@@ -15,33 +15,40 @@ use Rattle.scope.specs.declared.answers.Request.the-variants.{Met, Refused}
 use Rattle.scope.specs.Placements.{allowed, firstPlacement, nextPlacement, freshMark, noMark, takenListing, following}
 use Rattle.scope.specs.Answers.{Said, refuses, findable, requested}
 use Rattle.areas.specs.Floats.{floatingIn, Sized}
-use Rattle.exchange.specs.Where.{Full}
 use Rattle.exchange.specs.Order.{Next as Following, IsFirst}
-use Rattle.exchange.specs.Table.{place, mayIn}
+use Rattle.exchange.specs.Table.{mayIn, markIn}
 use Rattle.exchange.proofs.Laws.{full-small}
 use Rattle.basics.specs.Choice.{pick-true, pick-false}
 use Rattle.basics.specs.Tests.{both-of, both, falsely}
 use Rattle.placements.specs.declared.Next.{Next}
 use Rattle.placements.specs.Steps.{Zeros, Stand, ArePositions, entries, found, Moves}
+use Rattle.placement_laws.specs.Standing.{place, Ascent, Good}
+use Rattle.placement_laws.specs.Terms.{Allowed, Orderly}
 use Rattle.placement_laws.specs.Entries.{zeros-at, at-zeros}
-use Rattle.placements.proofs.Right.{allowed-right, right-allowed}
+use Rattle.placements.proofs.Right.{Right, allowed-right, right-allowed, good-in, good-of}
 use Rattle.placements.proofs.Found.{first-found, next-found}
 
 -- ---- is it allowed?
-stand-allowed : (tab : List ℕ) (k : ℕ) (p : List ℕ) (r : Bool) → Sized tab k → length p ≡ copyLimit → Zeros k p → Stand tab k p r
-    → r ≡ allowed (floatingIn tab k) p
-stand-allowed tab k p true s e z f = sym (right-allowed tab k (s .few) p (record { eight = e; full = f; zeros = z }))
-stand-allowed tab k p false s e z f = sym (falsely (allowed (floatingIn tab k) p) (λ a. f (allowed-right tab k (s .few) p a .full)))
+module _ (tab copy : List ℕ) (k : ℕ) (p : List ℕ) (sized : Sized tab k) (long : length copy ≡ copyLimit) where
+  abbrev f : Floating
+  f = floatingIn tab copy k
 
-pub allowed-is : (tab : List ℕ) (k : ℕ) (p w : List ℕ) (r : Bool) → Sized tab k → length p ≡ copyLimit → Zeros k p → w ≡ p → Stand tab k w r
-    → r ≡ allowed (floatingIn tab k) p
-allowed-is tab k p w r s e z q f = stand-allowed tab k p r s e z (subst (λ v. Stand tab k v r) q f)
+  right : Allowed f p → Right tab (f .marks) k p
+  right a = allowed-right tab (f .marks) k (sized .few) p a
 
-pub allowed-not : (tab : List ℕ) (k : ℕ) (p : List ℕ) → Sized tab k → (Zeros k p → ⊥) → false ≡ allowed (floatingIn tab k) p
-allowed-not tab k p s f = sym (falsely (allowed (floatingIn tab k) p) (λ a. f (allowed-right tab k (s .few) p a .zeros)))
+  pub allowed-good : Allowed f p → Good (mayIn tab) (markIn copy) k (place p)
+  allowed-good a = good-in (mayIn tab) copy k (sized .few) long (place p) (right a .good)
 
-pub allowed-full : (tab : List ℕ) (k : ℕ) (p w : List ℕ) → Sized tab k → w ≡ p → allowed (floatingIn tab k) p ≡ true → Full (mayIn tab) k (place w)
-allowed-full tab k p w s q a = subst (λ v. Full (mayIn tab) k (place v)) (sym q) (allowed-right tab k (s .few) p a .full)
+  pub allowed-not : (Zeros k p → ⊥) → false ≡ allowed f p
+  allowed-not h = sym (falsely (allowed f p) (λ a. h (right a .zeros)))
+
+  pub allowed-descends : (Ascent (markIn copy) k (place p) → ⊥) → false ≡ allowed f p
+  allowed-descends h = sym (falsely (allowed f p) (λ a. h (allowed-good a .ascent)))
+
+  pub allowed-is : (r : Bool) → length p ≡ copyLimit → Zeros k p → Ascent (markIn copy) k (place p) → Stand tab k p r → r ≡ allowed f p
+  allowed-is true e z a h =
+      sym (right-allowed tab (f .marks) k (sized .few) p (record { eight = e; good = good-of (mayIn tab) copy k (sized .few) long (place p) (record { full = h; ascent = a }); zeros = z }))
+  allowed-is false e z a h = sym (falsely (allowed f p) (λ b. h (right b .good .full)))
 
 -- ---- requests, by the listing's mark
 -- eight zeros
@@ -61,32 +68,31 @@ pub other-asked : (f : Floating) (l : Listing) → (l .mark ≡ freshMark → �
 unfolding requested takenListing following
 other-asked f l m n = rw (ne-eqb (l .mark) freshMark m, ne-eqb (l .mark) noMark n)
 
-pub begun-found : (tab : List ℕ) (k : ℕ) (l : Listing) (b : Bool) (w : List ℕ) → Sized tab k → l .mark ≡ freshMark → length (l .at) ≡ copyLimit
-    → Zeros 0 (l .at)
-    → length w ≡ copyLimit → IsFirst (mayIn tab) k b (place w) → requested (floatingIn tab k) l ≡ findable (found k b w)
-begun-found tab k l b w s f e z m h =
-    fresh-asked (floatingIn tab k) l f
-    ∙ pick-true (zeros (l .at)) (findable (firstPlacement (floatingIn tab k))) (refuses 18 0)
+pub begun-found : (tab copy : List ℕ) (k : ℕ) (l : Listing) (b : Bool) (w : List ℕ) → Sized tab k → Orderly (floatingIn tab copy k) → l .mark ≡ freshMark
+    → length (l .at) ≡ copyLimit → Zeros 0 (l .at)
+    → length w ≡ copyLimit → IsFirst (mayIn tab) k b (place w) → requested (floatingIn tab copy k) l ≡ findable (found k b w)
+begun-found tab copy k l b w s o f e z m h =
+    fresh-asked (floatingIn tab copy k) l f
+    ∙ pick-true (zeros (l .at)) (findable (firstPlacement (floatingIn tab copy k))) (refuses 18 0)
     (both (eqb (length (l .at)) copyLimit) (all (eqb 0) (l .at)) (eq-eqb (length (l .at)) copyLimit e) (at-zeros (l .at) (λ i g. z i (omega arith) (omega (arith, e)))))
-    ∙ ap findable (first-found tab k (s .few) b w m h)
+    ∙ ap findable (first-found tab k (s .few) copy o b w m h)
 
-pub begun-refused : (tab : List ℕ) (k : ℕ) (l : Listing) → l .mark ≡ freshMark → (Zeros 0 (l .at) → ⊥) → requested (floatingIn tab k) l ≡ refuses 18 0
-begun-refused tab k l f n =
-    fresh-asked (floatingIn tab k) l f
-    ∙ pick-false (zeros (l .at)) (findable (firstPlacement (floatingIn tab k))) (refuses 18 0)
+pub begun-refused : (f : Floating) (l : Listing) → l .mark ≡ freshMark → (Zeros 0 (l .at) → ⊥) → requested f l ≡ refuses 18 0
+begun-refused f l e n =
+    fresh-asked f l e
+    ∙ pick-false (zeros (l .at)) (findable (firstPlacement f)) (refuses 18 0)
     (falsely (zeros (l .at)) (λ q. n (λ s g m. zeros-at (l .at) (both-of (eqb (length (l .at)) copyLimit) (all (eqb 0) (l .at)) q .1) s)))
 
-pub continued-found : (tab : List ℕ) (k : ℕ) (l : Listing) (w : List ℕ) (b : Bool) (v : List ℕ) → Sized tab k → l .mark ≡ noMark → w ≡ l .at
-    → allowed (floatingIn tab k) (l .at) ≡ true
-    → length v ≡ copyLimit → Following (mayIn tab) k (place w) b (place v) → requested (floatingIn tab k) l ≡ findable (found k b v)
-continued-found tab k l w b v s f q a m h =
-    held-asked (floatingIn tab k) l f ∙ pick-true (allowed (floatingIn tab k) (l .at)) (findable (nextPlacement (floatingIn tab k) (l .at))) (refuses 18 0) a
-    ∙ ap findable (next-found tab k (s .few) (l .at) (allowed-right tab k (s .few) (l .at) a) b v m (subst (λ u. Following (mayIn tab) k (place u) b (place v)) q h))
+pub continued-found : (tab copy : List ℕ) (k : ℕ) (l : Listing) (b : Bool) (v : List ℕ) → Sized tab k → length copy ≡ copyLimit → Orderly (floatingIn tab copy k)
+    → l .mark ≡ noMark → Allowed (floatingIn tab copy k) (l .at) → length v ≡ copyLimit
+    → Following (mayIn tab) (markIn copy) k (place (l .at)) b (place v) → requested (floatingIn tab copy k) l ≡ findable (found k b v)
+continued-found tab copy k l b v s n o f a m h =
+    let g = floatingIn tab copy k in
+    held-asked g l f ∙ pick-true (allowed g (l .at)) (findable (nextPlacement g (l .at))) (refuses 18 0) a
+    ∙ ap findable (next-found tab k (s .few) copy o n (l .at) (right tab copy k (l .at) s n a) b v m h)
 
-pub continued-refused : (tab : List ℕ) (k : ℕ) (l : Listing) → l .mark ≡ noMark → allowed (floatingIn tab k) (l .at) ≡ false
-    → requested (floatingIn tab k) l ≡ refuses 18 0
-continued-refused tab k l f a =
-    held-asked (floatingIn tab k) l f ∙ pick-false (allowed (floatingIn tab k) (l .at)) (findable (nextPlacement (floatingIn tab k) (l .at))) (refuses 18 0) a
+pub continued-refused : (f : Floating) (l : Listing) → l .mark ≡ noMark → allowed f (l .at) ≡ false → requested f l ≡ refuses 18 0
+continued-refused f l e a = held-asked f l e ∙ pick-false (allowed f (l .at)) (findable (nextPlacement f (l .at))) (refuses 18 0) a
 
 -- ---- the answer, by what is said
 pub through : {a b : Said (List ℕ)} {l : Listing} {r : Next} → a ≡ b → Moves b l r → Moves a l r
@@ -109,6 +115,6 @@ pub first-small : (tab : List ℕ) (k : ℕ) (b : Bool) (w : List ℕ) → IsFir
 first-small tab k true w h e s l = full-small tab k s (place w) (h .0) l
 first-small tab k false w h e s l = absurd (false≢true e)
 
-pub next-small : (tab : List ℕ) (k : ℕ) (b : Bool) (p w : List ℕ) → Following (mayIn tab) k (place p) b (place w) → b ≡ true → ArePositions k w
-next-small tab k true p w h e s l = full-small tab k s (place w) (h .0) l
-next-small tab k false p w h e s l = absurd (false≢true e)
+pub next-small : (tab copy : List ℕ) (k : ℕ) (b : Bool) (p w : List ℕ) → Following (mayIn tab) (markIn copy) k (place p) b (place w) → b ≡ true → ArePositions k w
+next-small tab copy k true p w h e s l = full-small tab k s (place w) (h .0 .full) l
+next-small tab copy k false p w h e s l = absurd (false≢true e)

@@ -1,18 +1,20 @@
--- The table as lists of positions: the list of a floater has exactly the positions where it may stand, in rising order.
-use mathlib.Core.Path.{_≡_, sym, ap, _∙_}
-use mathlib.Core.Bool.{true}
-use mathlib.Core.List.{List, []}
-use Prim.Native.Nat.{ℕ, _<_, _≤_, _+_, _*_}
+-- The table as lists of positions, and the numbers of the copies as marks: the list of a floater has exactly the positions where it may stand, in rising order.
+use mathlib.Core.Path.{_≡_, refl, sym, ap, _∙_}
+use mathlib.Core.Bool.{true, false}
+use mathlib.Core.List.{List, [], _∷_, map}
+use Prim.Native.Nat.{ℕ, zero, suc, _<_, _≤_, _+_, _*_}
 use native.Mathlib.Nat.{zero-add}
 use native.Mathlib.Omega.{arith}
 use lib.Dec.{eqb}
-use lib.ListN.{length, getD}
-use Rattle.scope.specs.Limits.{copyLimit, positionLimit}
+use lib.ListN.{length, getD, take}
+use lib.Seq.{getD-take, length-take-le}
+use Rattle.scope.specs.Limits.{positionLimit}
 use Rattle.scope.specs.Lists.{tabled}
-use Rattle.areas.specs.Floats.{listIn, listsIn, floatingIn}
-use Rattle.exchange.specs.Table.{mayIn}
+use Rattle.areas.specs.Floats.{listIn, listsIn}
+use Rattle.scope.specs.Positions.{isFurther}
+use Rattle.exchange.specs.Table.{mayIn, markIn}
 use Rattle.exchange.proofs.Laws.{ok-small, ok-is}
-use Rattle.placement_laws.specs.Terms.{Rising, Orderly}
+use Rattle.placement_laws.specs.Terms.{Rising, AllRising}
 use Rattle.basics.specs.Each.{In, each-tabled}
 use Rattle.basics.specs.Members.{in-keep, keep-in}
 use Rattle.basics.specs.Tabled.{length-tabled, getD-tabled, in-tabled, tabled-in}
@@ -30,9 +32,9 @@ list-rising : (tab : List ℕ) (f : ℕ) → Rising (listIn tab f)
 unfolding listIn
 list-rising tab f = kept-rising (λ x. eqb (getD tab (f * positionLimit + x) 0) 1) 0 positionLimit
 
-pub table-orderly : (tab : List ℕ) (k : ℕ) → k ≤ copyLimit → Orderly (floatingIn tab k)
+pub all-rising : (tab : List ℕ) (k : ℕ) → AllRising (listsIn tab k)
 unfolding listsIn
-table-orderly tab k few = record { few = omega (arith, length-tabled (listIn tab) 0 k); rising = each-tabled Rising (listIn tab) 0 k (λ i l. list-rising tab i) }
+all-rising tab k = each-tabled Rising (listIn tab) 0 k (λ i l. list-rising tab i)
 
 pub list-may : (tab : List ℕ) (s x : ℕ) → In x (listIn tab s) → mayIn tab s x ≡ true
 unfolding listIn
@@ -45,3 +47,12 @@ unfolding listIn
 may-list tab s x e =
     let h : x < positionLimit = ok-small tab s x e in
     keep-in (λ y. eqb (getD tab (s * positionLimit + y) 0) 1) x (tabled (λ y. y) 0 positionLimit) (tabled-in 0 positionLimit x (omega arith) h) (sym (ok-is tab s x h) ∙ e)
+
+-- ---- marks
+pub marks-at : (copy : List ℕ) (k s : ℕ) → s < k → k ≤ length copy → getD (map isFurther (take k copy)) s false ≡ markIn copy s
+marks-at copy k s l m = mapped (take k copy) s (omega (arith, length-take-le k copy m)) ∙ ap isFurther (getD-take k copy s 0 l)
+  where
+    mapped : (c : List ℕ) (s : ℕ) → s < length c → getD (map isFurther c) s false ≡ isFurther (getD c s 0)
+    mapped [] s h = absurd (omega arith)
+    mapped (x ∷ c) zero h = refl
+    mapped (x ∷ c) (suc s) h = mapped c s (omega arith)

@@ -3,15 +3,17 @@ use mathlib.Core.Path.{_≡_}
 use mathlib.Core.Option.{Option, none, some}
 use mathlib.Core.Bool.{Bool, true, false}
 use mathlib.Core.List.{List}
-use Prim.Native.Nat.{ℕ, _<_, _≤_}
+use Prim.Native.Nat.{ℕ, _<_, _≤_, _-_}
 use lib.ListN.{take}
 use Rattle.scope.specs.declared.answers.Listing.{Listing}
 use Rattle.scope.specs.Limits.{copyLimit, positionLimit}
 use Rattle.scope.specs.Lists.{padded}
-use Rattle.scope.specs.Answers.{Said, saysRequest, met, movedOn}
-use Rattle.exchange.specs.Where.{Full}
+use Rattle.scope.specs.Answers.{Said, saysRequest, met, requested, movedOn}
+use Rattle.areas.specs.Floats.{floatingIn}
+use Rattle.placement_laws.specs.Standing.{place, Full, Ascent}
+use Rattle.placement_laws.specs.Terms.{Orderly}
 use Rattle.exchange.specs.Order.{Verdict}
-use Rattle.exchange.specs.Table.{place, mayIn}
+use Rattle.exchange.specs.Table.{mayIn, markIn}
 use Rattle.placements.specs.declared.Next.{Next}
 
 -- "unused ones 0"
@@ -28,6 +30,13 @@ Alone tab k w s r =
 
 abbrev pub Stand : List ℕ → ℕ → List ℕ → Bool → Type 0
 Stand tab k w r = Verdict r (Full (mayIn tab) k (place w)) (Full (mayIn tab) k (place w) → ⊥)
+
+-- s is a further copy, and not above the copy before it
+abbrev pub Descends : List ℕ → List ℕ → ℕ → Bool → Type 0
+Descends copy w s r = Verdict r ((markIn copy s ≡ true) × (place w s ≤ place w (s - 1))) (markIn copy s ≡ true → place w (s - 1) < place w s)
+
+abbrev pub InOrder : List ℕ → ℕ → List ℕ → Bool → Type 0
+InOrder copy k w r = Verdict r (Ascent (markIn copy) k (place w)) (Ascent (markIn copy) k (place w) → ⊥)
 
 -- each of the first k is a position
 abbrev pub ArePositions : ℕ → List ℕ → Type 0
@@ -46,3 +55,7 @@ found k false w = none
 pub record Moves (a : Said (List ℕ)) (l : Listing) (r : Next) : Type 0 where
   pub says : saysRequest (r .request) ≡ met a
   pub listing-after : r .listing ≡ movedOn l a
+
+-- that of a request to a listing marked fresh, whichever copies there are
+abbrev pub Begins : List ℕ → ℕ → Listing → Next → Type 0
+Begins tab k l r = (copy : List ℕ) → Orderly (floatingIn tab copy k) → Moves (requested (floatingIn tab copy k) l) l r

@@ -12,7 +12,8 @@ ghost use Rattle.scope.specs.Limits.{copyLimit};
 ghost use Rattle.scope.specs.Placements.{allowed, freshMark, noMark};
 ghost use Rattle.scope.specs.Answers.{findable, requested};
 ghost use Rattle.areas.specs.Floats.{floatingIn, Sized};
-ghost use Rattle.placements.specs.Steps.{Unused, Alone, Stand, ArePositions, entries, found, Moves};
+ghost use Rattle.placement_laws.specs.Terms.{Orderly};
+ghost use Rattle.placements.specs.Steps.{Unused, Alone, Stand, Descends, InOrder, ArePositions, entries, found, Moves, Begins};
 
 // What a request is answered, and the listing after it.
 pub struct Next {
@@ -98,15 +99,43 @@ fn stand(tab: &[u8], k: usize, w: Standing) -> bool
     true
 }
 
+// Is s a further copy, and not above the copy before it?
+fn descends(copy: [u8; Placement::COPIES], w: Standing, s: usize) -> bool
+    requires { ⌜ (0 < s) × (s < copyLimit) ⌝ }
+    ensures { λ r. ⌜ Descends copy (w .at) s r ⌝ }
+{
+    if exchange::is_further(copy, s) {
+        return w.at[s] <= w.at[s - 1];
+    }
+    false
+}
+
+// Do the copies of each bracket stand in ascending order?
+fn in_order(copy: [u8; Placement::COPIES], k: usize, w: Standing) -> bool
+    requires { ⌜ k ≤ copyLimit ⌝ }
+    ensures { λ r. ⌜ InOrder copy k (w .at) r ⌝ }
+{
+    let mut s: usize = 1;
+    while s < k {
+        if descends(copy, w, s) {
+            return false;
+        }
+        s += 1;
+    }
+    true
+}
+
 // Is it an allowed placement of k floaters, each where the table says?
-pub fn is_allowed(tab: &[u8], k: usize, p: Placement) -> bool
+pub fn is_allowed(tab: &[u8], copy: [u8; Placement::COPIES], k: usize, p: Placement) -> bool
     requires { ⌜ Sized (now tab) k ⌝ }
-    ensures { λ r. ⌜ r ≡ allowed (floatingIn (now (tab .entry)) k) (p .at) ⌝ }
+    ensures { λ r. ⌜ r ≡ allowed (floatingIn (now (tab .entry)) copy k) (p .at) ⌝ }
 {
     let at = p.at;
     if unused(at, k) {
         let w = widened(at);
-        return stand(tab, k, w);
+        if in_order(copy, k, w) {
+            return stand(tab, k, w);
+        }
     }
     false
 }
@@ -134,10 +163,10 @@ fn told(k: usize, a: Answer, l: Listing) -> Next
     }
 }
 
-// A request to a listing marked fresh.
+// A request to a listing marked fresh, whichever copies there are: the least placement of all has them in order.
 fn begun(tab: &[u8], k: usize, l: Listing) -> Next
     requires { ⌜ Sized (now tab) k × (l .mark ≡ freshMark) ⌝ }
-    ensures { λ r. ⌜ Moves (requested (floatingIn (now (tab .entry)) k) l) l r ⌝ }
+    ensures { λ r. ⌜ Begins (now (tab .entry)) k l r ⌝ }
 {
     let at = l.at;
     if unused(at, 0) {
@@ -151,14 +180,14 @@ fn begun(tab: &[u8], k: usize, l: Listing) -> Next
 }
 
 // A request to an unmarked one.
-fn continued(tab: &[u8], k: usize, l: Listing) -> Next
-    requires { ⌜ Sized (now tab) k × (l .mark ≡ noMark) ⌝ }
-    ensures { λ r. ⌜ Moves (requested (floatingIn (now (tab .entry)) k) l) l r ⌝ }
+fn continued(tab: &[u8], copy: [u8; Placement::COPIES], k: usize, l: Listing) -> Next
+    requires { ⌜ Sized (now tab) k × Orderly (floatingIn (now tab) copy k) × (l .mark ≡ noMark) ⌝ }
+    ensures { λ r. ⌜ Moves (requested (floatingIn (now (tab .entry)) copy k) l) l r ⌝ }
 {
     let at = l.at;
-    if is_allowed(tab, k, Placement { at }) {
+    if is_allowed(tab, copy, k, Placement { at }) {
         let w = widened(at);
-        let further = exchange::next(tab, k, w);
+        let further = exchange::next(tab, copy, k, w);
         return told(k, further, l);
     }
     Next {
@@ -168,15 +197,15 @@ fn continued(tab: &[u8], k: usize, l: Listing) -> Next
 }
 
 // "a small record that each request moves on"; any mark but the two gets 18
-pub fn request(tab: &[u8], k: usize, l: Listing) -> Next
-    requires { ⌜ Sized (now tab) k ⌝ }
-    ensures { λ r. ⌜ Moves (requested (floatingIn (now (tab .entry)) k) l) l r ⌝ }
+pub fn request(tab: &[u8], copy: [u8; Placement::COPIES], k: usize, l: Listing) -> Next
+    requires { ⌜ Sized (now tab) k × Orderly (floatingIn (now tab) copy k) ⌝ }
+    ensures { λ r. ⌜ Moves (requested (floatingIn (now (tab .entry)) copy k) l) l r ⌝ }
 {
     if l.mark == Listing::FRESH {
         return begun(tab, k, l);
     }
     if l.mark == Listing::UNMARKED {
-        return continued(tab, k, l);
+        return continued(tab, copy, k, l);
     }
     Next {
         request: Request::Refused { number: 18 },

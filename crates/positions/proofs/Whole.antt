@@ -4,13 +4,13 @@ use mathlib.Core.Bool.{Bool, true, false, not, cond, _&&_, _||_, and-false}
 use mathlib.Core.List.{List, map}
 use Prim.Native.Nat.{ℕ, _+_, _-_, _*_, _/_, _%_, _≤_, _<_}
 use native.Mathlib.Omega.{arith}
-use borrow.Author.Tests.{eqb-true, eqb-false, ltb-true, ltb-false, lt-leb}
-use lib.Dec.{eqb, ltb, leb}
+use borrow.Author.Tests.{eqb-true, eqb-false, lt-leb}
+use lib.Dec.{eqb, leb}
 use lib.IntN.{ℤ}
 use lib.ListN.{length, getD, take, drop, length-map, length-take, length-drop}
 use lib.Seq.{getD-drop, ext-getD}
 use Rattle.scope.specs.Kinds.{unknownOrLabile}
-use Rattle.scope.specs.Limits.{copyLimit, rowLimit, positionLimit}
+use Rattle.scope.specs.Limits.{positionLimit}
 use Rattle.scope.specs.Lists.{keep, shared, tabled}
 use Rattle.scope.specs.Modifications.{definedBy, referredBy}
 use Rattle.scope.specs.Layout.{bracketIn, tablesIn, bracketsField, residuesField}
@@ -22,49 +22,9 @@ use Rattle.basics.specs.Tabled.{keep-as, keep-cut, tabled-map}
 use Rattle.positions.proofs.Found.{floaters-are, floaters-inside}
 use Rattle.positions.specs.Legible.{Legible}
 use Rattle.basics.specs.Lists.{map-joined as map-map}
-use Rattle.positions.specs.Marked.{RowSet, RowIs, always, Cleared, Filled, refersAt, referencesAt, struckAt, standsAt}
+use Rattle.positions.specs.Marked.{RowIs, Filled, refersAt, referencesAt, struckAt, standsAt}
 use Rattle.positions.proofs.Any.{any-none}
 use Rattle.positions.proofs.Rows.{references-at, stands-anywhere, stands-by-place}
-
--- ---- rows that are cleared, one after the other
-pub record Clearing (from g : ℕ) (old cur : List ℕ) : Type 0 where
-  pub low : from ≤ g
-  pub high : g ≤ copyLimit
-  pub kept : length cur ≡ length old
-  pub before : (i : ℕ) → i < from * positionLimit → getD cur i 0 ≡ getD old i 0
-  pub zeros : (i : ℕ) → from * positionLimit ≤ i → i < g * positionLimit → getD cur i 0 ≡ 0
-  pub after : (i : ℕ) → g * positionLimit ≤ i → getD cur i 0 ≡ getD old i 0
-
-pub clearing-start : (from : ℕ) (old : List ℕ) → from ≤ copyLimit → Clearing from from old old
-clearing-start from old h =
-    record { low = omega arith; high = h; kept = refl; before = λ i l. refl; zeros = λ i l j. absurd (omega arith); after = λ i l. refl }
-
-pub clearing-next : {from g : ℕ} {old cur new : List ℕ} → Clearing from g old cur → g < copyLimit → RowSet (g * positionLimit) (λ x. true) (always 0) cur new → Clearing from (g + 1) old new
-clearing-next {from} {g} {old} {cur} {new} c h m =
-    let lo : from ≤ g = c .low in
-    record {
-      low = omega arith;
-      high = omega arith;
-      kept = m .kept ∙ c .kept;
-      before = λ i l. m .before i (omega arith) ∙ c .before i l;
-      zeros = λ i l j. by-test (ltb i (g * positionLimit)) (λ t. let k : i < g * positionLimit = ltb-true i (g * positionLimit) t in m .before i k ∙ c .zeros i l k) (λ t. new-row i (ltb-false i (g * positionLimit) t) j);
-      after = λ i l. m .after i (omega arith) ∙ c .after i (omega arith);
-    }
-  where
-    new-row : (i : ℕ) → g * positionLimit ≤ i → i < (g + 1) * positionLimit → getD new i 0 ≡ 0
-    new-row i l j =
-        let e : i ≡ g * positionLimit + (i - g * positionLimit) = omega arith in
-        ap (λ n. getD new n 0) e ∙ m .inside (i - g * positionLimit) (omega arith)
-
-pub clearing-end : {from g : ℕ} {old cur : List ℕ} → Clearing from g old cur → copyLimit ≤ g → Cleared from old cur
-clearing-end {from} {g} {old} {cur} c h =
-    let hi : g ≤ copyLimit = c .high in
-    record {
-      kept = c .kept;
-      before = c .before;
-      zeros = λ i l j. c .zeros i l (omega arith);
-      after = λ i l. c .after i (omega arith);
-    }
 
 -- ---- rows that are filled, one after the other
 pub record Filling (bs : List ℕ) (ns : List ℤ) (index : List ℕ) (count g : ℕ) (old cur : List ℕ) : Type 0 where
@@ -154,27 +114,16 @@ at-most-one : (t : Bool) (n : ℕ) → n ≡ cond t 1 0 → n ≤ 1
 at-most-one true n e = omega arith
 at-most-one false n e = omega arith
 
-pub filling-end : {bs : List ℕ} {ns : List ℤ} {index copy : List ℕ} {count g : ℕ} {old cur new : List ℕ} → Filling bs ns index count g old cur → count ≤ g
-    → Legible bs → FloatersAre bs ns count index copy → Cleared count cur new → Filled bs ns count old new
-filling-end {bs} {ns} {index} {copy} {count} {g} {old} {cur} {new} f l b a c =
+pub filling-end : {bs : List ℕ} {ns : List ℤ} {index copy : List ℕ} {count g : ℕ} {old new : List ℕ} → Filling bs ns index count g old new → count ≤ g → Legible bs
+    → FloatersAre bs ns count index copy → Filled bs ns count old new
+filling-end {bs} {ns} {index} {copy} {count} {g} {old} {new} f l b a =
     let w : g ≤ count = f .within in
-    let few : count ≤ copyLimit = a .few in
-    record {
-      table = table-is new b a rows;
-      bits = bit;
-      unused = c .zeros;
-      past = same-past rowLimit old new (c .kept ∙ f .kept) (λ i j. c .after i j ∙ f .after i (omega arith));
-      kept = c .kept ∙ f .kept;
-    }
+    record { table = table-is new b a rows; bits = bit; past = same-past (count * positionLimit) old new (f .kept) (λ i j. f .after i (omega arith)); kept = f .kept }
   where
     rows : (h : ℕ) → h < count → (x : ℕ) → x < positionLimit → getD new (h * positionLimit + x) 0 ≡ cond (standsAt bs ns (getD index h 0) x) 1 0
-    rows h j x i = let w : g ≤ count = f .within in c .before (h * positionLimit + x) (omega arith) ∙ f .rows h (omega arith) x i
+    rows h j x i = f .rows h (omega arith) x i
 
-    bit : (i : ℕ) → i < rowLimit → getD new i 0 ≤ 1
+    bit : (i : ℕ) → i < count * positionLimit → getD new i 0 ≤ 1
     bit i j =
-        by-test (ltb i (count * positionLimit))
-        (λ t.
-        let k : i < count * positionLimit = ltb-true i (count * positionLimit) t in
         let e : i ≡ i / positionLimit * positionLimit + i % positionLimit = omega arith in
-        at-most-one (standsAt bs ns (getD index (i / positionLimit) 0) (i % positionLimit)) (getD new i 0) (ap (λ n. getD new n 0) e ∙ rows (i / positionLimit) (omega arith) (i % positionLimit) (omega arith)))
-        (λ t. let z : getD new i 0 ≡ 0 = c .zeros i (ltb-false i (count * positionLimit) t) j in omega arith)
+        at-most-one (standsAt bs ns (getD index (i / positionLimit) 0) (i % positionLimit)) (getD new i 0) (ap (λ n. getD new n 0) e ∙ rows (i / positionLimit) (omega arith) (i % positionLimit) (omega arith))

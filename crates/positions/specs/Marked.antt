@@ -5,7 +5,7 @@ use mathlib.Core.List.{List}
 use Prim.Native.Nat.{ℕ, _+_, _*_, _≤_, _<_}
 use lib.IntN.{ℤ}
 use lib.ListN.{length, getD, drop}
-use Rattle.scope.specs.Limits.{rowLimit, positionLimit}
+use Rattle.scope.specs.Limits.{positionLimit}
 use Rattle.scope.specs.Modifications.{definedBy, referredBy}
 use Rattle.scope.specs.Lists.{shared, member}
 use Rattle.scope.specs.Layout.{bracketIn, tablesIn}
@@ -66,17 +66,9 @@ FreeIs bs ns row = (x : ℕ) → x < positionLimit → heldIn row x ≡ cond (st
 abbrev pub standsAt : List ℕ → List ℤ → ℕ → ℕ → Bool
 standsAt bs ns k x = mayStand (tablesIn bs ns) (bracketIn bs ns k) x && not (struckAt bs ns x)
 
--- the rows of the floaters from so many on are zero
-pub record Cleared (from : ℕ) (old new : List ℕ) : Type 0 where
-  pub kept : length new ≡ length old
-  pub before : (i : ℕ) → i < from * positionLimit → getD new i 0 ≡ getD old i 0
-  pub zeros : (i : ℕ) → from * positionLimit ≤ i → i < rowLimit → getD new i 0 ≡ 0
-  pub after : (i : ℕ) → rowLimit ≤ i → getD new i 0 ≡ getD old i 0
-
--- the table of so many floaters: each byte of it is known, and what lies past it is as before
+-- the table of so many floaters: each byte of their rows is known, and what lies past them is as before
 pub record Filled (bs : List ℕ) (ns : List ℤ) (count : ℕ) (old new : List ℕ) : Type 0 where
   pub table : TableIs bs ns new count
-  pub bits : (i : ℕ) → i < rowLimit → getD new i 0 ≤ 1
-  pub unused : (i : ℕ) → count * positionLimit ≤ i → i < rowLimit → getD new i 0 ≡ 0
-  pub past : drop rowLimit new ≡ drop rowLimit old
+  pub bits : (i : ℕ) → i < count * positionLimit → getD new i 0 ≤ 1
+  pub past : drop (count * positionLimit) new ≡ drop (count * positionLimit) old
   pub kept : length new ≡ length old

@@ -1,5 +1,4 @@
 // The floaters of the tables in areas, and the table of bytes of where each may stand.
-use crate::marks::clear_row;
 use crate::marks::fill_row;
 use crate::marks::strike_out;
 use areas::Floaters;
@@ -16,7 +15,7 @@ ghost use Rattle.scope.specs.Positions.{floaters};
 ghost use Rattle.areas.specs.Bounds.{Bounds};
 ghost use Rattle.areas.specs.Floats.{FloatersAre};
 ghost use Rattle.positions.specs.Copies.{Added};
-ghost use Rattle.positions.specs.Marked.{Cleared, Filled};
+ghost use Rattle.positions.specs.Marked.{Filled};
 
 mod labels;
 mod marks;
@@ -62,19 +61,7 @@ pub fn find_floaters(bytes: &[u8], numbers: &[i64]) -> Floaters
     f
 }
 
-// The rows of the floaters from so many on are set to zero.
-fn clear_rest(tab: &mut [u8], from: usize)
-    requires { ⌜ (from ≤ copyLimit) × (rowLimit ≤ length (now tab)) ⌝ }
-    ensures { λ _. ⌜ Cleared from (now (tab .entry)) (now (tab .exit)) ⌝ }
-{
-    let mut g = from;
-    while g < Placement::COPIES {
-        clear_row(tab, g * Ledger::POSITIONS);
-        g += 1;
-    }
-}
-
-// The table of where each floater may stand: what is struck out is found once, for all of them.
+// The table of where each floater may stand: what is struck out is found once, for all of them. The rows behind them are left as they are.
 pub fn fill_table(bytes: &[u8], numbers: &[i64], f: Floaters, tab: &mut [u8])
     requires { ⌜ (Bounds (now bytes) (now numbers)) × (FloatersAre (now bytes) (now numbers) (f .count) (f .index) (f .copy)) × (rowLimit ≤ length (now tab)) ⌝ }
     ensures { λ _. ⌜ Filled (now (bytes .entry)) (now (numbers .entry)) (f .count) (now (tab .entry)) (now (tab .exit)) ⌝ }
@@ -89,5 +76,4 @@ pub fn fill_table(bytes: &[u8], numbers: &[i64], f: Floaters, tab: &mut [u8])
         fill_row(bytes, k, &free, tab, g * Ledger::POSITIONS);
         g += 1;
     }
-    clear_rest(tab, count);
 }

@@ -178,7 +178,7 @@ pub fn strike_out(bytes: &[u8], free: &mut [u8])
 }
 
 // The row at base is set to zero.
-pub fn clear_row(tab: &mut [u8], base: usize)
+fn clear_row(tab: &mut [u8], base: usize)
     requires { ⌜ base + positionLimit ≤ length (now tab) ⌝ }
     ensures { λ _. ⌜ RowSet base (λ x. true) (always 0) (now (tab .entry)) (now (tab .exit)) ⌝ }
 {

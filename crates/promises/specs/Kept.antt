@@ -40,6 +40,8 @@ demand-3 bs ns h =
     record {
       allowed = placed.allowed-so bs ns h;
       free = placed.free bs ns;
+      none-lost = placed.none-lost h;
+      sorted = placed.sorted h;
       by-value = listed.lists bs ns h;
       in-place = listed.lists bs ns h;
       adds-up = weights.adds-up bs ns h;

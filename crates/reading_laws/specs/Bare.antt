@@ -23,11 +23,11 @@ use Rattle.scope.specs.Canonical.{size, scoreText, valueText, labelText, partTe
 use Rattle.scope.specs.Tables.{bareNumber, bareLabel, bareValue, barePart, barePlace, bareBracket, bareResidue, tablesOf, millionths, scoreOf}
 use Rattle.scope.specs.Layout.{massIn, decimalsIn, packed, valueCode, partRow, partRows, scoreCode, placesRow, bracketRow, bracketTexts, rows, sectionCode, bytesOf, numberRow, numbersOf}
 use Rattle.scope.specs.Places.{nTerminus, cTerminus, placesText}
-use Rattle.scope.specs.Positions.{sites, names, reached, isPlaced, placedOn, struckOut, floaters, referredAt, mayStand, permitted, floatingOf, positions}
+use Rattle.scope.specs.Positions.{sites, names, reached, isPlaced, placedOn, struckOut, floaters, referredAt, mayStand, permitted, isFurther, floatingOf, positions}
 use Rattle.scope.specs.Masses.{valueMass, firstMass, massOf, massOr0, modifications, times, sum, sumℕ, total, lacking, placedAt, putAt, ledger}
 use Rattle.basics.specs.Lists.{map-map, flat-map, all-map, keep-map, keep-same, map-replicate, map-flat}
 use Rattle.basics.specs.Tabled.{tabled-same}
-use Rattle.basics.specs.Positions.{same-floats}
+use Rattle.basics.specs.Positions.{same-floats, marks-of}
 
 -- ---- the canonical line
 -- brackets that are changed into others of the same kind, place, count and texts
@@ -343,9 +343,16 @@ module _ {P : Type 0} where
       keep-same _ _ (λ x. ap₂ (λ a b. a && not (member x b)) (may-stand l k x) (struck-out l)) (positions (tablesOf l))
       ∙ ap (λ s. keep (λ x. mayStand l k x && not (member x (struckOut l))) (tabled (λ x. x) 0 (length s))) (same-sites l)
 
+  same-marks : (l : Line P) → floatingOf (tablesOf l) .marks ≡ floatingOf l .marks
+  unfolding tablesOf
+  same-marks l =
+      marks-of 0 (map bareBracket (l .brackets))
+      ∙ flat-map (λ k. tabled isFurther 1 (copies k)) (λ k. tabled isFurther 1 (copies k)) bareBracket (λ k. ap (tabled isFurther 1) (copies-bare k)) (l .brackets)
+      ∙ sym (marks-of 0 (l .brackets))
+
   pub same-floating : (l : Line P) → floatingOf (tablesOf l) ≡ floatingOf l
   same-floating l = same-floats (floatingOf (tablesOf l)) (floatingOf l)
-      (ap (map (permitted (tablesOf l))) (same-floaters l) ∙ map-map (permitted (tablesOf l)) (permitted l) bareBracket (permitted-bare l) (floaters l))
+      (ap (map (permitted (tablesOf l))) (same-floaters l) ∙ map-map (permitted (tablesOf l)) (permitted l) bareBracket (permitted-bare l) (floaters l)) (same-marks l)
 
   -- ---- masses
   value-mass : (v : Value P) → valueMass (bareValue v) ≡ valueMass v

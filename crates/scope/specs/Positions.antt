@@ -3,7 +3,7 @@ use Prim.Native.Nat.{ℕ, _+_, min}
 use mathlib.Core.Bool.{Bool, false, not, cond, _&&_, _||_}
 use mathlib.Core.Option.{Option, none, some}
 use mathlib.Core.List.{List, [], _∷_, _++_, map}
-use lib.Dec.{eqb, leb}
+use lib.Dec.{eqb, leb, ltb}
 use lib.ListN.{length, take, getD, replicate}
 use Rattle.scope.specs.declared.grammar.Kind.{Kind}
 use Rattle.scope.specs.declared.answers.Site.{Site}
@@ -93,12 +93,16 @@ mayStand t k x =
 unfoldable pub permitted : {P : Type 0} → Line P → Bracket P → List ℕ
 permitted t k = keep (λ x. mayStand t k x && not (member x (struckOut t))) (positions t)
 
--- ---- what placements are made of: for each floating copy, in order, the positions permitted to it
+-- ---- what placements are made of: for each floating copy, in order, the positions permitted to it, and whether it is a further copy of its bracket
 pub record Floating : Type 0 where
   pub lists : List (List ℕ)
+  pub marks : List Bool
+
+abbrev pub isFurther : ℕ → Bool
+isFurther copy = ltb 1 copy
 
 abbrev pub floatingOf : {P : Type 0} → Line P → Floating
-floatingOf t = record { lists = map (permitted t) (floaters t) }
+floatingOf t = record { lists = map (permitted t) (floaters t); marks = map isFurther (copiesOf (floatersBy t)) }
 
 -- ---- "rows of floater and position, ascending, with their number, floaters counted from 1"
 unfoldable pub rowsFrom : ℕ → List (List ℕ) → List Site

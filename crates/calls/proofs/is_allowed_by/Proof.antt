@@ -10,7 +10,8 @@ returns : tie.Need-returns
 returns c =
     let filled : tie.After-fill-table = search in
     let start : tie.Start = search in
-    c .is-allowed .ensures ∙ ap (λ f. allowed f (start .args .p .at)) (floats-as (filled .fill-table .ensures))
+    let found : tie.After-find-floaters = search in
+    c .is-allowed .ensures ∙ ap (λ f. allowed f (start .args .p .at)) (floats-as (found .find-floaters .ensures) (filled .fill-table .ensures))
 
 pub is-allowed-by-spec : {M : Type 1} → statement M
 is-allowed-by-spec =

@@ -3,15 +3,15 @@ use mathlib.Core.Path.{_≡_}
 use Prim.Native.Nat.{ℕ, _≤_, _<_, _-_}
 use native.Mathlib.Omega.{arith}
 use borrow.Author.Count.{below-more}
-use Rattle.exchange.specs.Table.{place}
+use Rattle.placement_laws.specs.Standing.{place}
 use Rattle.exchange.proofs.listed.Statement.{statement}
 use Rattle.exchange.proofs.listed.Tie as tie
 
 abbrev Inv-loop : tie.InvT-loop
-Inv-loop t tree n a₀ a = (a ≤ n) × ((b : ℕ) → b < a → place (tree .order) b ≡ t → ⊥)
+Inv-loop n t order a₀ a = (a ≤ n) × ((b : ℕ) → b < a → place order b ≡ t → ⊥)
 
 abbrev μ-loop : tie.MeasureT-loop
-μ-loop t tree n a₀ a = n - a
+μ-loop n t order a₀ a = n - a
 
 loop-holds : tie.Need-loop-holds Inv-loop μ-loop
 loop-holds c = (omega arith, λ u l. absurd (omega arith))

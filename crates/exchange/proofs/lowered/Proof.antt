@@ -1,8 +1,8 @@
 -- `exchange::lowered` meets its contract: the least below where i stands now, if `seek` finds one, and else where it stands.
 use native.Mathlib.Omega.{arith}
-use Rattle.exchange.proofs.Least.{lowered-yes, lowered-no}
-use Rattle.exchange.specs.Table.{place}
-use Rattle.exchange.proofs.Laws.{full-small}
+use Rattle.exchange.proofs.Least.{lowered-no}
+use Rattle.placement_laws.specs.Standing.{place}
+use Rattle.exchange.proofs.Laws.{from-small}
 use Rattle.exchange.proofs.lowered.Statement.{statement}
 use Rattle.exchange.proofs.lowered.Tie as tie
 
@@ -15,18 +15,18 @@ element-copy-out-x c = let p = c .before .pre in omega (arith, p .inside, p .siz
 seek-requires : tie.Need-seek-requires
 seek-requires c κs =
     let start = c .before .before in
-    let l = full-small _ _ (start .args .i) (place (start .args .t4 .at)) (start .pre .full) (start .pre .inside) in
+    let l = from-small _ _ (start .args .i) (place (start .args .t5 .at) (start .args .i)) (start .pre .full .fits (start .args .i) (start .pre .inside)) in
     (start .pre, omega (arith, l))
 
 returns : tie.Need-returns
 returns c =
-    let found = c .before .before .seek in lowered-yes _ _ _ _ (place (found .result .at .at)) (rw (c .before .if1 .taken) at (found .ensures))
+    let found = c .before .before .seek in rw (c .before .if1 .taken) at (found .ensures)
 
 returns-2 : tie.Need-returns-2
 returns-2 c =
     let sought = c .before in
     let start : tie.Start = search in
-    lowered-no _ _ _ (place (start .args .t4 .at)) (place (sought .seek .result .at .at)) (start .pre .full) (rw (c .if1 .left) at (sought .seek .ensures))
+    lowered-no _ _ _ (place (start .args .t5 .at)) (place (sought .seek .result .at .at)) (start .pre .full) (rw (c .if1 .left) at (sought .seek .ensures))
 
 pub lowered-spec : {M : Type 1} → statement M
 lowered-spec = tie.close (tie.spec mul-x element-copy-out-x seek-requires returns returns-2)

@@ -20,7 +20,7 @@ module _ (start : tie.Start) where
 returns : tie.Need-returns
 returns c =
     let start : tie.Start = search in
-    attempt-used _ _ _ _ _ (start .pre .0) (start .pre .1) _ (c .before .owner .ensures) (c .if1 .taken)
+    attempt-used _ _ _ _ _ _ (start .pre .0) (start .pre .1) _ (c .before .owner .ensures) (c .if1 .taken)
 
 mul-w : tie.Need-mul-w
 mul-w c =
@@ -41,20 +41,20 @@ augment-requires : tie.Need-augment-requires
 augment-requires c κs =
     let owned = c .before .before in
     let start = owned .before .before in
-    attempt-over _ _ _ _ _ (start .pre .0) (start .pre .1) _ (owned .owner .ensures) (long start) (c .before .if1 .left) (c .if2 .taken)
+    attempt-over _ _ _ _ _ _ (start .pre .0) (start .pre .1) _ (owned .owner .ensures) (long start) (c .before .if1 .left) (c .if2 .taken)
 
 returns-2 : tie.Need-returns-2
 returns-2 c =
     let owned : tie.After-owner = search in
     let start = owned .before .before in
     let r = c .augment in
-    attempt-augmented _ _ _ _ _ (start .pre .0) (start .pre .1) _ (owned .owner .ensures) (long start) (r .result .ok) (r .result .at .at) (r .ensures)
+    attempt-augmented _ _ _ _ _ _ (start .pre .0) (start .pre .1) _ (owned .owner .ensures) (long start) (r .result .ok) (r .result .at .at) (r .ensures)
 
 returns-3 : tie.Need-returns-3
 returns-3 c =
     let owned = c .before .before in
     let start = owned .before .before in
-    attempt-free _ _ _ _ _ (start .pre .0) (start .pre .1) _ (owned .owner .ensures) (long start) (c .if2 .left)
+    attempt-free _ _ _ _ _ _ (start .pre .0) (start .pre .1) _ (owned .owner .ensures) (long start) (c .if2 .left)
 
 pub placed-spec : {M : Type 1} → statement M
 placed-spec =

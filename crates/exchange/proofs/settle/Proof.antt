@@ -3,15 +3,16 @@ use mathlib.Core.Path.{_≡_}
 use Prim.Native.Nat.{_≤_, _-_}
 use native.Mathlib.Omega.{arith}
 use Rattle.exchange.proofs.Least.{Settling, settle-start, settle-step, settle-end}
-use Rattle.exchange.specs.Table.{place, mayIn}
+use Rattle.placement_laws.specs.Standing.{place}
+use Rattle.exchange.specs.Table.{mayFrom}
 use Rattle.exchange.proofs.settle.Statement.{statement}
 use Rattle.exchange.proofs.settle.Tie as tie
 
 abbrev Inv-loop : tie.InvT-loop
-Inv-loop tab k from w₀ i₀ w i = (from ≤ i) × (i ≤ k) × Settling (mayIn tab) k from i (place (w₀ .at)) (place (w .at))
+Inv-loop tab lows k from w₀ i₀ w i = (from ≤ i) × (i ≤ k) × Settling (mayFrom tab (lows .at)) k from i (place (w₀ .at)) (place (w .at))
 
 abbrev μ-loop : tie.MeasureT-loop
-μ-loop tab k from w₀ i₀ w i = k - i
+μ-loop tab lows k from w₀ i₀ w i = k - i
 
 loop-holds : tie.Need-loop-holds Inv-loop μ-loop
 loop-holds c = let p = c .before .pre in (omega arith, p .1, settle-start _ _ _ (place (c .before .args .p .at)) (p .2))

@@ -9,7 +9,7 @@ use lib.ListN.{length, length-set}
 use Rattle.scope.specs.Limits.{copyLimit}
 use Rattle.exchange.specs.Where.{Grown, Shifting}
 use Rattle.exchange.proofs.Exchange.{shift-step, shift-end}
-use Rattle.exchange.specs.Table.{place}
+use Rattle.placement_laws.specs.Standing.{place}
 use Rattle.exchange.proofs.Laws.{put-set}
 use Rattle.exchange.proofs.shift.Statement.{statement}
 use Rattle.exchange.proofs.shift.Tie as tie

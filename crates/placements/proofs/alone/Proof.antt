@@ -1,7 +1,7 @@
 -- `placements::alone` meets its contract: `open_at` says whether s may stand where it stands, alone; a number past the positions is none where it may.
 use native.Mathlib.Omega.{arith}
 use denote.Ref.{now}
-use Rattle.exchange.specs.Table.{place}
+use Rattle.placement_laws.specs.Standing.{place}
 use Rattle.exchange.proofs.Laws.{full-small}
 use Rattle.placements.proofs.Loops.{alone-open}
 use borrow.Author.Needs.{needs}

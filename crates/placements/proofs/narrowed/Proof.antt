@@ -5,8 +5,7 @@ use native.Mathlib.Omega.{arith}
 use lib.ListN.{length, getD, length-set, getD-replicate}
 use borrow.Author.Needs.{needs}
 use Rattle.scope.specs.Limits.{copyLimit}
-use Rattle.exchange.specs.Where.{Same}
-use Rattle.exchange.specs.Table.{place}
+use Rattle.placement_laws.specs.Standing.{place, Same}
 use Rattle.placements.specs.Steps.{Zeros}
 use Rattle.placements.proofs.Found.{are-entries}
 use Rattle.placements.proofs.Loops.{same-set, zeros-set}

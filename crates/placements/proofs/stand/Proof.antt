@@ -5,7 +5,8 @@ use Prim.Native.Nat.{ℕ, _≤_, _<_, _-_}
 use native.Mathlib.Omega.{arith}
 use borrow.Author.Tests.{not-true, not-false}
 use borrow.Author.Count.{below-more}
-use Rattle.exchange.specs.Table.{place, mayIn}
+use Rattle.placement_laws.specs.Standing.{place}
+use Rattle.exchange.specs.Table.{mayIn}
 use Rattle.exchange.proofs.Laws.{yes, no}
 use Rattle.placements.proofs.stand.Statement.{statement}
 use Rattle.placements.proofs.stand.Tie as tie

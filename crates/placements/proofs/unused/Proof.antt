@@ -4,7 +4,7 @@ use Prim.Native.Nat.{ℕ, _≤_, _<_, _-_}
 use native.Mathlib.Omega.{arith}
 use borrow.Author.Count.{below-more}
 use Rattle.scope.specs.Limits.{copyLimit}
-use Rattle.exchange.specs.Table.{place}
+use Rattle.placement_laws.specs.Standing.{place}
 use Rattle.placements.proofs.unused.Statement.{statement}
 use Rattle.placements.proofs.unused.Tie as tie
 

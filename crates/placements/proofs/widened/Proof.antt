@@ -6,8 +6,7 @@ use lib.ListN.{length, length-set}
 use lib.Seq.{ext-getD}
 use borrow.Author.Needs.{needs}
 use Rattle.scope.specs.Limits.{copyLimit}
-use Rattle.exchange.specs.Where.{Same}
-use Rattle.exchange.specs.Table.{place}
+use Rattle.placement_laws.specs.Standing.{place, Same}
 use Rattle.placements.proofs.Loops.{same-set}
 use Rattle.placements.proofs.widened.Statement.{statement}
 use Rattle.placements.proofs.widened.Tie as tie

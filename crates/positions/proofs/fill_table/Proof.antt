@@ -66,28 +66,16 @@ loop-again c =
     let turn = index .before in
     filling-next (turn .before .loop .inv) (turn .loop-test .taken) (index .wide .ensures .0) (c .before .before .fill-row .ensures _)
 
-clear-rest-requires : tie.Need-clear-rest-requires Inv-loop μ-loop
-clear-rest-requires c κs =
-    let loop = c .before .before in
-    let start : tie.Start Inv-loop μ-loop = search in
-    (start .pre .1 .few, omega (arith, loop .loop .inv .kept))
-
 same-length : tie.Need-same-length Inv-loop μ-loop
-same-length c =
-    let rest = c .before .before in
-    let loop : tie.At-loop Inv-loop μ-loop = search in
-    omega (arith, rest .clear-rest .kept, loop .loop .inv .kept)
+same-length c = c .before .loop .inv .kept
 
 returns : tie.Need-returns Inv-loop μ-loop
 returns c =
-    let rest = c .before .before in
-    let done = rest .before .before in
-    let loop = done .before in
     let start : tie.Start Inv-loop μ-loop = search in
-    filling-end (loop .loop .inv) (done .loop-test .left) (legible (start .pre .0)) (start .pre .1) (rest .clear-rest .ensures)
+    filling-end (c .before .loop .inv) (c .loop-test .left) (legible (start .pre .0)) (start .pre .1)
 
 pub fill-table-spec : {M : Type 1} → statement M
 fill-table-spec =
     tie.close
     (tie.spec Inv-loop μ-loop
-    slice-aggregate-strike-out strike-out-requires loop-holds array-read-wide wide-requires mul-fill-row fill-row-requires add-g loop-less loop-again clear-rest-requires same-length returns)
+    slice-aggregate-strike-out strike-out-requires loop-holds array-read-wide wide-requires mul-fill-row fill-row-requires add-g loop-less loop-again same-length returns)

@@ -31,6 +31,12 @@ impl Positions {
         }
     }
 
+    pub fn remove(&mut self, position: Position) {
+        if let Some(word) = self.words.get_mut(usize::from(position / 64)) {
+            *word &= !(1 << (position % 64));
+        }
+    }
+
     pub fn contains(&self, position: Position) -> bool {
         let word = self.words.get(usize::from(position / 64));
         word.is_some_and(|word| word >> (position % 64) & 1 == 1)
@@ -59,6 +65,16 @@ impl Positions {
         let mut words = self.words;
         for (word, &second) in words.iter_mut().zip(&other.words) {
             *word = with(*word, second);
+        }
+        Self { words }
+    }
+
+    /// The members above a position.
+    pub fn above(self, position: Position) -> Self {
+        let mut words = self.words;
+        for (index, word) in words.iter_mut().enumerate() {
+            let not_above = (usize::from(position) + 1).saturating_sub(index * 64);
+            *word &= u64::MAX.checked_shl(not_above as u32).unwrap_or(0);
         }
         Self { words }
     }
@@ -93,7 +109,7 @@ impl Positions {
 /// One floating copy.
 #[derive(Clone, Copy, Debug, PartialEq, Eq)]
 pub struct Floater {
-    /// The index of its bracket.
+    /// The index of its bracket: copies of one bracket are told by it.
     pub bracket: usize,
     /// Its permitted positions that are not struck out.
     pub permitted: Positions,
@@ -205,7 +221,8 @@ pub fn first_row(rows: &[Row], so_many: usize, floater: u8) -> Result<(usize, Po
 }
 
 /// Whether a placement is an allowed one: every floater at a permitted
-/// position, "no two floaters share one", unused entries 0.
+/// position, "no two floaters share one", unused entries 0; and "positions of
+/// one bracket's copies ascend" (02, L4).
 pub fn is_allowed(floaters: &[Floater], placement: &Placement) -> bool {
     let (used, unused) = placement.split_at(floaters.len());
     let mut taken = Positions::EMPTY;
@@ -215,30 +232,58 @@ pub fn is_allowed(floaters: &[Floater], placement: &Placement) -> bool {
             taken.insert(position);
             free && floater.permitted.contains(position)
         })
+        && copies_ascend(floaters, used)
 }
 
-/// Whether floaters can all be put somewhere, none at a taken position. By
-/// Hall's theorem they can exactly when any so many of them have at least so
-/// many free positions between them; often each has enough by itself.
-fn can_all_be_put(floaters: &[Floater], taken: Positions) -> bool {
-    let enough = |one: &Floater| one.permitted.without(taken).len() >= floaters.len();
-    if floaters.iter().all(enough) {
+/// Whether each copy stands above every copy of its bracket before it.
+fn copies_ascend(floaters: &[Floater], used: &[Position]) -> bool {
+    (0..floaters.len()).all(|at| {
+        let own = |before: &usize| floaters[*before].bracket == floaters[at].bracket;
+        (0..at).filter(own).all(|before| used[before] < used[at])
+    })
+}
+
+/// The positions that floaters which stand already leave to another one: not
+/// their own, and above the copies of its bracket that stand before it.
+fn left_to(floater: &Floater, standing: &[Floater], at: &Placement) -> Positions {
+    let mut left = floater.permitted;
+    for (other, &position) in standing.iter().zip(at) {
+        left.remove(position);
+        if other.bracket == floater.bracket {
+            left = left.above(position);
+        }
+    }
+    left
+}
+
+/// Whether the floaters behind the first so many can all be put somewhere,
+/// when these stand. By Hall's theorem they can, each at a position of its
+/// own, exactly when any so many of them have at least so many positions left
+/// between them; often each has enough by itself. That they ascend is no
+/// matter then: copies of one bracket have the same positions left, so that
+/// those which stand the wrong way round can change places.
+fn can_all_be_put(floaters: &[Floater], level: usize, placement: &Placement) -> bool {
+    let (standing, rest) = floaters.split_at(level);
+    let mut left = [Positions::EMPTY; Line::MOST_FLOATERS];
+    for (left, floater) in left.iter_mut().zip(rest) {
+        *left = left_to(floater, standing, placement);
+    }
+    if left[..rest.len()].iter().all(|one| one.len() >= rest.len()) {
         return true;
     }
-    let mut free_for = [Positions::EMPTY; 1 << Line::MOST_FLOATERS];
-    (1_usize..1 << floaters.len()).all(|some| {
+    let mut left_for = [Positions::EMPTY; 1 << Line::MOST_FLOATERS];
+    (1_usize..1 << rest.len()).all(|some| {
         let last = some.ilog2() as usize;
         let others = some & !(1 << last);
-        let free = floaters[last].permitted.without(taken);
-        free_for[some] = free_for[others].union(free);
-        free_for[some].len() >= some.count_ones() as usize
+        left_for[some] = left_for[others].union(left[last]);
+        left_for[some].len() >= some.count_ones() as usize
     })
 }
 
 /// The allowed placements, ascending, up to a cap, and whether these are all.
 pub fn all_placements(floaters: &[Floater], cap: usize) -> (Vec<Placement>, bool) {
     let mut found = Vec::new();
-    let complete = extend(floaters, 0, ALL_ZEROS, Positions::EMPTY, cap, &mut found);
+    let complete = extend(floaters, 0, ALL_ZEROS, cap, &mut found);
     (found, complete)
 }
 
@@ -248,23 +293,20 @@ fn extend(
     floaters: &[Floater],
     level: usize,
     mut placement: Placement,
-    taken: Positions,
     cap: usize,
     found: &mut Vec<Placement>,
 ) -> bool {
-    let Some((floater, rest)) = floaters[level..].split_first() else {
+    let Some(floater) = floaters.get(level) else {
         if found.len() == cap {
             return false;
         }
         found.push(placement);
         return true;
     };
-    for position in floater.permitted.without(taken).iter() {
-        let mut now_taken = taken;
-        now_taken.insert(position);
+    for position in left_to(floater, &floaters[..level], &placement).iter() {
         placement[level] = position;
-        let fits = can_all_be_put(rest, now_taken);
-        if fits && !extend(floaters, level + 1, placement, now_taken, cap, found) {
+        let fits = can_all_be_put(floaters, level + 1, &placement);
+        if fits && !extend(floaters, level + 1, placement, cap, found) {
             return false;
         }
     }
@@ -273,7 +315,7 @@ fn extend(
 
 /// The first allowed placement.
 pub fn first_placement(floaters: &[Floater]) -> Option<Placement> {
-    can_all_be_put(floaters, Positions::EMPTY).then(|| fill(floaters, 0, ALL_ZEROS))
+    can_all_be_put(floaters, 0, &ALL_ZEROS).then(|| fill(floaters, 0, ALL_ZEROS))
 }
 
 /// The allowed placement after an allowed one.
@@ -311,13 +353,11 @@ fn least_position(
     placement: &Placement,
     at_or_above: Position,
 ) -> Option<Position> {
-    let mut taken = Positions::EMPTY;
-    placement[..level].iter().for_each(|&one| taken.insert(one));
-    let free = floaters[level].permitted.without(taken);
-    let fitting = free.starting_at(at_or_above).find(|&position| {
-        let mut now_taken = taken;
-        now_taken.insert(position);
-        can_all_be_put(&floaters[level + 1..], now_taken)
+    let left = left_to(&floaters[level], &floaters[..level], placement);
+    let mut tried = *placement;
+    let fitting = left.starting_at(at_or_above).find(|&position| {
+        tried[level] = position;
+        can_all_be_put(floaters, level + 1, &tried)
     });
     fitting
 }
@@ -352,6 +392,13 @@ struct Backtracking<'f> {
 }
 
 impl Backtracking<'_> {
+    /// Whether a copy would stand below the copy of its bracket before it.
+    fn descends(&self, level: usize, position: Position) -> bool {
+        level > 0
+            && self.floaters[level - 1].bracket == self.floaters[level].bracket
+            && position < self.placement[level - 1]
+    }
+
     /// `above` tells that the entries so far are already above `after`.
     fn descend(&mut self, level: usize, above: bool) -> Option<Search> {
         if level == self.floaters.len() {
@@ -364,7 +411,7 @@ impl Backtracking<'_> {
                 return Some(Search::OutOfBudget);
             }
             self.budget -= 1;
-            if self.placement[..level].contains(&position) {
+            if self.placement[..level].contains(&position) || self.descends(level, position) {
                 continue;
             }
             self.placement[level] = position;

@@ -1,12 +1,12 @@
 //! The examples of document 01, of the readings of it and of document 02
-//! (L1, L2), and of document 001 where they lie within these.
+//! (L1, L2, L4), and of document 001 where they lie within these.
 
 use compare::canonical::canonical;
 use compare::glycans::SUGARS;
 use compare::line::Kind;
 use compare::masses::{display, ledger, missing, total, Display};
 use compare::positions::{
-    all_placements, first_placement, floaters, rows, Placement, Position, Row,
+    all_placements, first_placement, floaters, is_allowed, rows, Listing, Placement, Position, Row,
 };
 use compare::reader::{read, Refusal};
 
@@ -66,7 +66,7 @@ fn known_totals() {
 
 #[test]
 fn known_placements() {
-    assert_eq!(placements("[+1]^2?AC"), [[1, 2], [2, 1]]);
+    assert_eq!(placements("[+1]^2?AC"), [[1, 2]]);
     assert!(placements("[+1]^2?A").is_empty());
     assert!(placements("[+1]?A[+2]").is_empty());
     assert_eq!(placements("[+1]?A[INFO:x]"), [[1]]);
@@ -395,7 +395,7 @@ fn compositions_in_tables() {
     assert_ne!(line("A[Glycan:HexHex]"), line("A[Glycan:Hex2]"));
     assert_ne!(line("A[Glycan:HexFuc]"), line("A[Glycan:FucHex]"));
     assert_eq!(placements("A[Glycan:Hex#a]C[#a(0.5)]"), [[1], [2]]);
-    assert_eq!(placements("[Glycan:Hex]^2?NN"), [[1, 2], [2, 1]]);
+    assert_eq!(placements("[Glycan:Hex]^2?NN"), [[1, 2]]);
 }
 
 #[test]
@@ -559,6 +559,76 @@ fn what_a_ledger_refuses() {
     assert_eq!(refused("A", at(1)), Some(Refusal::new(18, 0)));
     assert_eq!(refused("[+1]?A", at(1)), None);
     assert_eq!(refused("[+1]?A", at(257)), Some(Refusal::new(18, 0)));
+}
+
+// Document 02, L4
+
+/// "positions of one bracket's copies ascend": those of one bracket, and no
+/// others. Rows, floaters and totals know nothing of it.
+#[test]
+fn copies_of_one_bracket_ascend() {
+    assert_eq!(placements("[+1]^2?AC"), [[1, 2]]);
+    assert_eq!(placements("[+1][+1]?AC"), [[1, 2], [2, 1]]);
+    assert_eq!(placements("[+1]?[+1]?AC"), [[1, 2], [2, 1]]);
+    assert_eq!(placements("[+1]^1[+1]?AC"), [[1, 2], [2, 1]]);
+    assert_eq!(placements("[+1]^2[x]?ACD"), [[1, 2, 3], [1, 3, 2], [2, 3, 1]]);
+    assert_eq!(placements("[x][+1]^2?ACD"), [[1, 2, 3], [2, 1, 3], [3, 1, 2]]);
+    assert_eq!(
+        placements("[+1]^2[+1]^2?ACDE"),
+        [[1, 2, 3, 4], [1, 3, 2, 4], [1, 4, 2, 3], [2, 3, 1, 4], [2, 4, 1, 3], [3, 4, 1, 2]]
+    );
+    assert_eq!(placements("[+1]^3?ACDE"), [[1, 2, 3], [1, 2, 4], [1, 3, 4], [2, 3, 4]]);
+    assert_eq!(placements("[+1]^2?(AC)[+1]"), [[0; 3]; 0]);
+    assert_eq!(placements("[+1]^2?(AC)[+1]D"), [[1, 3, 2], [2, 3, 1]]);
+    assert_eq!(placements("[+1]^2?A[+9]CD[#a]E[+2#a]"), [[2, 3, 4], [2, 4, 3]]);
+    assert_eq!(placements("<[+1]@K,W>[+2]^2?KACWD"), [[2, 3], [2, 5], [3, 5]]);
+    // two brackets on one range are two, however alike
+    assert_eq!(placements("(AC)[+1][+1]"), [[1, 2], [2, 1]]);
+    let held = line("[+1]^2?AC");
+    assert_eq!(pairs(&rows(&floaters(&held))), [(1, 1), (1, 2), (2, 1), (2, 2)]);
+    assert_eq!((held.floaters(), total(&held)), (2, Ok(2_000_000)));
+    check_refused(&[("[+1]^9?AC", 12, 0), ("[+1]^8[+1]?AC", 12, 6)]);
+}
+
+/// "descending copies get 18": of an allowed placement, a ledger and a listing
+/// record; and where nothing descends, 17 at the end, as before.
+#[test]
+fn descending_copies() {
+    let at = |used: &[Position]| {
+        let mut placement: Placement = [0; 8];
+        placement[..used.len()].copy_from_slice(used);
+        placement
+    };
+    let eighteen = Refusal::new(18, 0);
+    for (text, used) in [
+        ("[+1]^2?AC", &[2, 1][..]),
+        ("[+1]^2[+2]?ACD", &[2, 1, 3]),
+        ("[+1]^2[+2]?ACD", &[3, 2, 1]),
+        ("[+2][+1]^2?ACD", &[1, 3, 2]),
+        ("[+1]^3?ACD", &[1, 3, 2]),
+        ("[+1]^3?ACD", &[2, 1, 3]),
+        ("[+1]^2[+1]^2?ACDE", &[1, 2, 4, 3]),
+        ("[+1]^8?ACDEFGHIK", &[1, 2, 3, 4, 5, 6, 9, 8]),
+    ] {
+        let held = line(text);
+        let floaters = floaters(&held);
+        let placement = at(used);
+        assert!(!is_allowed(&floaters, &placement), "{text} {used:?}");
+        assert_eq!(ledger(&held, &placement), Err(eighteen), "{text} {used:?}");
+        let mut listing = Listing { fresh: false, placement };
+        assert_eq!(listing.request(&floaters), Err(eighteen), "{text} {used:?}");
+        assert_eq!(listing, Listing { fresh: false, placement }, "a refusal changes no record");
+    }
+    // with a mass missing, 16 is tried before 18
+    assert_eq!(ledger(&line("[+1]^2[x]?ACD"), &at(&[2, 1, 3])), Err(Refusal::new(16, 1)));
+    for (text, used) in [("[+1]^2?AC", &[1, 2][..]), ("[+1][+1]?AC", &[2, 1]), ("[+1]^2[+1]?ACD", &[2, 3, 1])] {
+        let held = line(text);
+        let placement = at(used);
+        assert!(is_allowed(&floaters(&held), &placement), "{text} {used:?}");
+        assert!(ledger(&held, &placement).is_ok(), "{text} {used:?}");
+        let mut listing = Listing { fresh: false, placement };
+        assert_eq!(listing.request(&floaters(&held)), Err(Refusal::new(17, 0)), "{text} {used:?}");
+    }
 }
 
 // Document 001

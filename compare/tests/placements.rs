@@ -4,10 +4,11 @@
 mod json;
 mod lines;
 
+use std::collections::BTreeSet;
 use std::time::{Duration, Instant};
 
 use compare::areas::LETTERS;
-use compare::floating::adversarial;
+use compare::floating::{adversarial, nested};
 use compare::generate::{share, Random};
 use compare::line::{Kind, Line, Refusal};
 use compare::positions::{self, floaters, is_allowed, next_placement, placed_on, plain_next, Floater, Placement, Position, Row, Search};
@@ -15,7 +16,7 @@ use compare::proved::{self, Limits, Listing, Site};
 use compare::reader::read;
 use compare::trials::declarations;
 use json::Json;
-use lines::{for_crowded, for_declared, for_generated, for_vectors, shown, Lent};
+use lines::{for_crowded, for_declared, for_generated, for_vectors, shown, Lent, JUNK_NUMBER};
 
 const THIRTEEN: Refusal = Refusal::new(13, 0);
 const SEVENTEEN: Refusal = Refusal::new(17, 0);
@@ -81,8 +82,28 @@ fn listed(lent: &Lent, most: usize) -> (Vec<Placement>, Option<Refusal>) {
     (found, None)
 }
 
-/// Plain enumeration: every way to give each floater one of its positions, as number lists ascending, of which those stay that use no position twice.
+/// Plain enumeration: every way to give each floater one of its positions, as number lists ascending, of which those stay that use no position twice and have the copies of each
+/// bracket in ascending order.
 fn enumerated(floaters: &[Floater]) -> Vec<Placement> {
+    let mut ways = in_any_order(floaters);
+    ways.retain(|way| sorted(floaters, way) == *way);
+    ways
+}
+
+/// A placement with the copies of each bracket put in ascending order.
+fn sorted(floaters: &[Floater], way: &Placement) -> Placement {
+    let mut sorted = *way;
+    let mut rest = &mut sorted[..];
+    for copies in floaters.chunk_by(|one, next| one.bracket == next.bracket) {
+        let (own, others) = rest.split_at_mut(copies.len());
+        own.sort();
+        rest = others;
+    }
+    sorted
+}
+
+/// The same before L4: copies of a bracket stand in any order.
+fn in_any_order(floaters: &[Floater]) -> Vec<Placement> {
     let mut ways = vec![(NONE, 0)];
     for floater in floaters {
         let positions: Vec<Position> = (0..512).filter(|&one| floater.permitted.contains(one)).collect();
@@ -150,6 +171,108 @@ fn placements_by_plain_enumeration() {
     assert!(met > share(20_000) && without > share(5_000) && handed > share(60_000), "{met} {without} {handed}");
 }
 
+/// A placement whose used entries are these.
+fn at(used: &[Position]) -> Placement {
+    let mut placement = NONE;
+    placement[..used.len()].copy_from_slice(used);
+    placement
+}
+
+/// A line lists these placements, and then answers 17.
+fn check_listed(line: &str, expected: &[&[Position]]) {
+    let lent = Lent::of(&read(line.as_bytes()).unwrap());
+    let expected: Vec<Placement> = expected.iter().map(|&used| at(used)).collect();
+    assert_eq!(listed(&lent, expected.len() + 1), (expected, Some(SEVENTEEN)), "{line}");
+}
+
+/// "positions of one bracket's copies ascend": written from document 02 by the readings of docs/DECISIONS.md. Equal brackets stay apart, and between copies of different
+/// brackets nothing is asked.
+#[test]
+fn copies_ascend() {
+    for (line, expected) in [
+        ("[+1]^2?AC", &[&[1, 2][..]][..]),
+        ("[+1]^2?A", &[]),
+        ("[+1][+1]?AC", &[&[1, 2], &[2, 1]]),
+        ("[+1]?[+1]?AC", &[&[1, 2], &[2, 1]]),
+        ("[+1]^2[x]?ACD", &[&[1, 2, 3], &[1, 3, 2], &[2, 3, 1]]),
+        ("[x][+1]^2?ACD", &[&[1, 2, 3], &[2, 1, 3], &[3, 1, 2]]),
+        ("[+1]^2[+1]^2?ACDE", &[&[1, 2, 3, 4], &[1, 3, 2, 4], &[1, 4, 2, 3], &[2, 3, 1, 4], &[2, 4, 1, 3], &[3, 4, 1, 2]]),
+        ("[+1]^3?ACDE", &[&[1, 2, 3], &[1, 2, 4], &[1, 3, 4], &[2, 3, 4]]),
+        ("[+1]^2?(AC)[+1]", &[]),
+        ("[+1]^2?(AC)[+1]D", &[&[1, 3, 2], &[2, 3, 1]]),
+        ("[+1]^2?A[+9]CD[#a]E[+2#a]", &[&[2, 3, 4], &[2, 4, 3]]),
+        ("(AC)[+1][+1]", &[&[1, 2], &[2, 1]]),
+        ("[+1]^8?ACDEFGHI", &[&[1, 2, 3, 4, 5, 6, 7, 8]]),
+    ] {
+        check_listed(line, expected);
+    }
+}
+
+/// Descending copies get 18 of an allowed placement, of a ledger, into which nothing is written, and of a listing record, which stays.
+fn check_descending(lent: &Lent, placement: &Placement, lacking: Option<Refusal>, line: &str) {
+    assert_eq!(proved::allowed(&lent.bytes, &lent.numbers, placement), Err(EIGHTEEN), "{line} {placement:?}");
+    let mut entries = vec![JUNK_NUMBER; 256];
+    let answer = proved::ledger(&lent.bytes, &lent.numbers, placement, &mut entries);
+    assert_eq!(answer, Err(lacking.unwrap_or(EIGHTEEN)), "{line} {placement:?}");
+    assert!(entries.iter().all(|&entry| entry == JUNK_NUMBER), "{line} {placement:?}");
+    assert_eq!(request(lent, &mut Listing::holding(*placement)), Err(EIGHTEEN), "{line} {placement:?}");
+}
+
+#[test]
+fn descending_copies() {
+    for (line, used, lacking) in [
+        ("[+1]^2?AC", &[2, 1][..], 0),
+        ("[+1]^2[+2]?ACD", &[2, 1, 3], 0),
+        ("[+1]^2[x]?ACD", &[3, 2, 1], 1),
+        ("[+2][+1]^2?ACD", &[1, 3, 2], 0),
+        ("[+1]^3?ACD", &[1, 3, 2], 0),
+        ("[+1]^3?ACD", &[2, 1, 3], 0),
+        ("[+1]^2[+1]^2?ACDE", &[1, 2, 4, 3], 0),
+        ("[+1]^8?ACDEFGHIK", &[1, 2, 3, 4, 5, 6, 9, 8], 0),
+        ("[+1]^8?ACDEFGHIK", &[2, 1, 3, 4, 5, 6, 7, 8], 0),
+    ] {
+        let lent = Lent::of(&read(line.as_bytes()).unwrap());
+        let lacking = (lacking > 0).then_some(Refusal::new(16, lacking));
+        check_descending(&lent, &at(used), lacking, line);
+    }
+    // the same positions where nothing asks for ascent
+    for (line, used) in [("[+1][+1]?AC", &[2, 1][..]), ("[+1]^2[+1]?ACD", &[2, 3, 1]), ("[+1][+1]^2?ACD", &[3, 1, 2]), ("(AC)[+1][+1]", &[2, 1])] {
+        let lent = Lent::of(&read(line.as_bytes()).unwrap());
+        assert_eq!(proved::allowed(&lent.bytes, &lent.numbers, &at(used)), Ok(()), "{line}");
+        assert_eq!(proved::ledger(&lent.bytes, &lent.numbers, &at(used), &mut [0; 256]), Ok(()), "{line}");
+        assert_eq!(request(&lent, &mut Listing::holding(at(used))), Err(SEVENTEEN), "{line}");
+    }
+}
+
+/// Each placement in any order is, its copies sorted, one that is listed, and no other is; where its copies descend it gets 18. 17 comes at the start exactly where none exists in any order.
+#[test]
+fn no_molecule_is_lost_or_new_by_ascent() {
+    let (mut met, mut copied, mut descending, mut none) = (0, 0, 0, 0);
+    for_crowded(52, 10_000, 6, |line, held| {
+        let floaters = floaters(held);
+        if ways(&floaters) > 2_000 {
+            return;
+        }
+        let lent = Lent::of(held);
+        let any = in_any_order(&floaters);
+        let molecules: BTreeSet<Placement> = any.iter().map(|way| sorted(&floaters, way)).collect();
+        let (found, last) = listed(&lent, molecules.len() + 1);
+        assert!(found.iter().eq(&molecules), "{}", shown(line));
+        assert_eq!(last, Some(SEVENTEEN), "{}", shown(line));
+        assert_eq!(request(&lent, &mut Listing::FRESH.clone()) == Err(SEVENTEEN), any.is_empty(), "{}", shown(line));
+        let lacking = proved::total(&lent.bytes, &lent.numbers).err();
+        for way in any.iter().filter(|way| sorted(&floaters, way) != **way).take(20) {
+            check_descending(&lent, way, lacking, &shown(line));
+            descending += 1;
+        }
+        let copies = floaters.windows(2).any(|pair| pair[0].bracket == pair[1].bracket);
+        met += 1;
+        copied += usize::from(copies && found.len() > 1);
+        none += usize::from(copies && any.is_empty());
+    });
+    assert!(met > share(8_000) && copied > share(700) && descending > share(5_000) && none > share(1_000), "{met} {copied} {descending} {none}");
+}
+
 /// A declared modification strikes out what it reaches, for every floater, labels too.
 #[test]
 fn placements_beside_declarations() {
@@ -161,19 +284,11 @@ fn placements_beside_declarations() {
         ("<[+1]@C-term>A[#a]-[+2#a]", &[&[1]]),
         ("<[+1]@K>(KAK)[+2]", &[&[2]]),
         ("<[x]@W>[+2]?KA", &[&[1], &[2]]),
-        ("<[+1]@K,W>[+2]^2?KACW", &[&[2, 3], &[3, 2]]),
+        ("<[+1]@K,W>[+2]^2?KACW", &[&[2, 3]]),
+        ("<[+1]@K,W>[+2][+2]?KACW", &[&[2, 3], &[3, 2]]),
         ("<[+1]@A,C-term,N-term>A", &[&[]]),
     ] {
-        let lent = Lent::of(&read(line.as_bytes()).unwrap());
-        let expected: Vec<Placement> = expected
-            .iter()
-            .map(|&used| {
-                let mut placement = NONE;
-                placement[..used.len()].copy_from_slice(used);
-                placement
-            })
-            .collect();
-        assert_eq!(listed(&lent, 9), (expected, Some(SEVENTEEN)), "{line}");
+        check_listed(line, expected);
     }
     for_declared(40, 10_000, |line, held| {
         let floaters = floaters(held);
@@ -191,9 +306,9 @@ fn last_placement() {
     let lent = Lent::of(&held);
     let mut listing = Listing::FRESH;
     assert_eq!(request(&lent, &mut listing), Ok([1, 2, 0, 0, 0, 0, 0, 0]));
-    assert_eq!(request(&lent, &mut listing), Ok([2, 1, 0, 0, 0, 0, 0, 0]));
     for _ in 0..3 {
         assert_eq!(request(&lent, &mut listing), Err(SEVENTEEN));
+        assert_eq!(listing, Listing::holding([1, 2, 0, 0, 0, 0, 0, 0]));
     }
     // with no floater there is one placement, all zeros
     let lent = Lent::of(&read(b"A").unwrap());
@@ -217,6 +332,9 @@ fn any_record() {
                 for (entry, floater) in at.iter_mut().zip(&floaters) {
                     let positions: Vec<Position> = floater.permitted.iter().collect();
                     *entry = if positions.is_empty() { 0 } else { positions[random.below(positions.len())] };
+                }
+                if random.chance(50) {
+                    at = sorted(&floaters, &at);
                 }
             }
             // another position, or one that is none: far off, also by its high byte alone
@@ -254,7 +372,7 @@ fn any_mark() {
 /// Every pair of positions, and every unused entry, on a line with two floaters.
 #[test]
 fn every_record_of_two_floaters() {
-    for line in [&b"[+1#a]?(AC)[+2]D[#a]-[#a]"[..], b"[+1]^2?AC[+3]D", b"[+1#a]?[#a]-AC[#a](DE)[x]"] {
+    for line in [&b"[+1#a]?(AC)[+2]D[#a]-[#a]"[..], b"[+1]^2?AC[+3]D", b"[+1][+1]?AC[+3]D", b"[+1]^2?ACDEFG", b"[+1#a]?[#a]-AC[#a](DE)[x]"] {
         let held = read(line).unwrap();
         let floaters = floaters(&held);
         let lent = Lent::of(&held);
@@ -322,6 +440,9 @@ fn requests_are_quick() {
                 let high = random.chance(60);
                 *entry = if positions.is_empty() { 0 } else { positions[if high { positions.len() - 1 - random.below(positions.len().min(9)) } else { random.below(positions.len()) }] };
             }
+            if random.chance(80) {
+                at = sorted(&floaters, &at);
+            }
             let mut listing = Listing::holding(at);
             let (time, answer) = timed(&lent, &mut listing);
             worst = worst.max(time);
@@ -342,17 +463,49 @@ fn plain_to_see() {
     assert_eq!(first(format!("[+1]^7?(A)[+2]{free}")), Ok([2, 3, 4, 5, 6, 7, 8, 1]));
     assert_eq!(first(format!("[+1]^7?{free}(A)[+2]")), Ok([1, 2, 3, 4, 5, 6, 7, 254]));
     assert_eq!(first("[+1]^8?AAAAAAA".to_owned()), Err(SEVENTEEN));
-    let lent = Lent::of(&read(format!("[+1]^8?A{free}").as_bytes()).unwrap());
+    let eight = "[+1]".repeat(8);
+    let lent = Lent::of(&read(format!("{eight}?A{free}").as_bytes()).unwrap());
     let mut last = Listing::holding([254, 253, 252, 251, 250, 249, 248, 247]);
     assert_eq!(request(&lent, &mut last), Err(SEVENTEEN));
     let mut carried = Listing::holding([1, 254, 253, 252, 251, 250, 249, 248]);
     assert_eq!(request(&lent, &mut carried), Ok([2, 1, 3, 4, 5, 6, 7, 8]));
+    // the copies of one bracket
+    let lent = Lent::of(&read(format!("[+1]^8?A{free}").as_bytes()).unwrap());
+    let mut last = Listing::holding([247, 248, 249, 250, 251, 252, 253, 254]);
+    assert_eq!(request(&lent, &mut last), Err(SEVENTEEN));
+    let mut carried = Listing::holding([1, 248, 249, 250, 251, 252, 253, 254]);
+    assert_eq!(request(&lent, &mut carried), Ok([2, 3, 4, 5, 6, 7, 8, 9]));
+    let mut within = Listing::holding([1, 2, 3, 4, 5, 252, 253, 254]);
+    assert_eq!(request(&lent, &mut within), Ok([1, 2, 3, 4, 6, 7, 8, 9]));
+    // two brackets of four: the first stays, and the second goes on
+    let lent = Lent::of(&read(format!("[+1]^4[+1]^4?A{free}").as_bytes()).unwrap());
+    let mut carried = Listing::holding([5, 6, 7, 8, 251, 252, 253, 254]);
+    assert_eq!(request(&lent, &mut carried), Ok([5, 6, 7, 9, 1, 2, 3, 4]));
+    let mut within = Listing::holding([1, 2, 253, 254, 3, 250, 251, 252]);
+    assert_eq!(request(&lent, &mut within), Ok([1, 2, 253, 254, 4, 5, 6, 7]));
 }
 
-/// Eight floaters on eight positions: all 40,320 orders, ascending.
+/// The first of eight nested labels can only stand on the last position, the second on the one before it, and so on; the last three have three positions between them.
+#[test]
+fn nested_labels() {
+    let orders = [[224, 235, 242], [224, 242, 235], [235, 224, 242], [235, 242, 224], [242, 224, 235], [242, 235, 224]];
+    let expected = orders.map(|[one, two, three]| [254, 252, 248, 247, 243, one, two, three]);
+    let lines = nested();
+    assert_eq!(lines.iter().map(|(_, line)| line.len()).collect::<Vec<_>>(), [451, 4_064, 455]);
+    for (name, line) in &lines[..2] {
+        let lent = Lent::of(&read(line.as_bytes()).unwrap());
+        assert_eq!(listed(&lent, 9), (expected.to_vec(), Some(SEVENTEEN)), "{name}");
+    }
+    // the last four have 1, 248, 249 and 250 between them, of which the last two may not take 250
+    let lent = Lent::of(&read(lines[2].1.as_bytes()).unwrap());
+    assert_eq!(request(&lent, &mut Listing::FRESH.clone()), Ok([254, 253, 252, 251, 1, 250, 248, 249]));
+}
+
+/// Eight floaters on eight positions: all 40,320 orders, ascending; of the copies of one bracket, one.
 #[test]
 fn eight_on_eight() {
-    let lent = Lent::of(&read(b"[+1]^8?AAAAAAAA").unwrap());
+    check_listed("[+1]^8?AAAAAAAA", &[&[1, 2, 3, 4, 5, 6, 7, 8]]);
+    let lent = Lent::of(&read(("[+1]".repeat(8) + "?AAAAAAAA").as_bytes()).unwrap());
     let mut listing = Listing::FRESH;
     let mut order: Placement = [1, 2, 3, 4, 5, 6, 7, 8];
     let mut met = 0;

@@ -2,17 +2,20 @@
 
 mod lines;
 
+use std::collections::BTreeSet;
+
 use compare::areas::{
     decode, encode, tables_of_some_line, BYTES_SIZE, LETTERS, NUMBERS_SIZE, ROW, ROWS, SECTIONS,
 };
 use compare::canonical::canonical;
+use compare::floating::crowded;
 use compare::generate::{share, Generator, Random};
 use compare::glycans::{cut, spelled, ways, Cutting, Piece, SUGARS};
 use compare::line::{Bracket, Kind, Line, Site};
 use compare::masses::{bracket_mass, display_areas, ledger, missing, total, Display};
 use compare::positions::{
     all_placements, first_placement, first_row, floaters, is_allowed, next_placement, placed_on,
-    plain_next, rows, Listing, Placement, Position, Row, Search, MOST_ROWS,
+    plain_next, rows, Floater, Listing, Placement, Position, Row, Search, MOST_ROWS,
 };
 use compare::reader::{read, Refusal};
 
@@ -637,13 +640,135 @@ fn a_listing_answers_seventeen_and_eighteen() {
     refused(false, [1, 1, 0, 0, 0, 0, 0, 0], 18);
     refused(false, [1, 2, 0, 0, 0, 0, 0, 1], 18);
     refused(false, [1, 258, 0, 0, 0, 0, 0, 0], 18);
-    refused(false, [2, 1, 0, 0, 0, 0, 0, 0], 17);
+    refused(false, [2, 1, 0, 0, 0, 0, 0, 0], 18);
+    refused(false, [1, 2, 0, 0, 0, 0, 0, 0], 17);
     let mut listing = Listing::FRESH;
     assert_eq!(listing.request(&floaters), Ok([1, 2, 0, 0, 0, 0, 0, 0]));
-    assert_eq!(listing.request(&floaters), Ok([2, 1, 0, 0, 0, 0, 0, 0]));
+    assert_eq!(listing.request(&floaters), Err(Refusal::new(17, 0)));
     let mut listing = Listing::FRESH;
     assert_eq!(listing.request(&[]), Ok([0; 8]));
     assert_eq!(listing.request(&[]), Err(Refusal::new(17, 0)));
+}
+
+/// Every way to give each floater a position of its own, whether copies of a
+/// bracket ascend or not: the rule of document 01 before L4. None where there
+/// are more ways than `most` to give each some position.
+fn in_any_order(floaters: &[Floater], most: usize) -> Option<Vec<Vec<Position>>> {
+    let many = floaters.iter().map(|one| one.permitted.len()).try_fold(1_usize, usize::checked_mul)?;
+    match many {
+        0 => return Some(Vec::new()),
+        _ if many > most => return None,
+        _ => {}
+    }
+    let mut ways = vec![Vec::new()];
+    for floater in floaters {
+        let longer = ways.iter().flat_map(|way: &Vec<Position>| {
+            let free = floater.permitted.iter().filter(move |position| !way.contains(position));
+            free.map(move |position| [&way[..], &[position]].concat())
+        });
+        ways = longer.collect();
+    }
+    Some(ways)
+}
+
+/// A placement with the copies of each bracket put in ascending order.
+fn copies_sorted(floaters: &[Floater], way: &[Position]) -> Vec<Position> {
+    let mut sorted: Vec<(usize, Position)> = floaters.iter().map(|one| one.bracket).zip(way.iter().copied()).collect();
+    sorted.sort();
+    sorted.into_iter().map(|(_, position)| position).collect()
+}
+
+/// Calls with short lines full of copies, and with generated ones.
+fn for_copied(seed: u64, mut check: impl FnMut(&[u8], &Line)) {
+    let mut random = Random::new(seed);
+    for _ in 0..share(20_000) {
+        let bytes = crowded(&mut random, 7);
+        if let Ok(line) = read(&bytes) {
+            check(&bytes, &line);
+        }
+    }
+    for_accepted(seed, 20_000, check);
+}
+
+/// "Two copies of one thing are alike": each placement in any order is, with
+/// its copies sorted, one in the list, and the list has no others. So 17 comes
+/// at the start of a listing exactly where no placement in any order exists.
+#[test]
+fn no_molecule_is_lost_or_new_by_ascent() {
+    let (mut met, mut fewer, mut none) = (0, 0, 0);
+    for_copied(20, |bytes, line| {
+        let floaters = floaters(line);
+        let Some(ways) = in_any_order(&floaters, 20_000) else {
+            return;
+        };
+        let molecules: BTreeSet<Vec<Position>> = ways.iter().map(|way| copies_sorted(&floaters, way)).collect();
+        let (all, complete) = all_placements(&floaters, 20_000);
+        let listed: Vec<Vec<Position>> = all.iter().map(|one| one[..floaters.len()].to_vec()).collect();
+        assert!(complete && listed.iter().eq(&molecules), "{}", shown(bytes));
+        // as many in any order as each bracket's copies can be put in
+        let orders: usize = floaters.chunk_by(|one, next| one.bracket == next.bracket).map(|copies| (1..=copies.len()).product::<usize>()).product();
+        assert_eq!(ways.len(), listed.len() * orders, "{}", shown(bytes));
+        let mut listing = Listing::FRESH;
+        assert_eq!(listing.request(&floaters) == Err(Refusal::new(17, 0)), ways.is_empty(), "{}", shown(bytes));
+        met += 1;
+        fewer += usize::from(orders > 1 && listed.len() > 1);
+        none += usize::from(orders > 1 && listed.is_empty());
+    });
+    assert!(met > share(20_000) && fewer > share(2_000) && none > share(2_000), "{met} {fewer} {none}");
+}
+
+/// Each placement in any order whose copies do not ascend gets 18, from an
+/// allowed placement, a ledger (16 before it) and a listing record, which stays;
+/// each that ascends is allowed.
+#[test]
+fn descending_copies_are_not_allowed() {
+    let (mut ascending, mut descending) = (0, 0);
+    for_copied(21, |bytes, line| {
+        let floaters = floaters(line);
+        for way in in_any_order(&floaters, 500).unwrap_or_default() {
+            let mut placement: Placement = [0; 8];
+            placement[..way.len()].copy_from_slice(&way);
+            let ascends = copies_sorted(&floaters, &way) == way;
+            assert_eq!(is_allowed(&floaters, &placement), ascends, "{} {way:?}", shown(bytes));
+            let expected = total(line).err().or((!ascends).then_some(Refusal::new(18, 0)));
+            assert_eq!(ledger(line, &placement).err(), expected, "{} {way:?}", shown(bytes));
+            if ascends {
+                ascending += 1;
+                continue;
+            }
+            let mut listing = Listing { fresh: false, placement };
+            assert_eq!(listing.request(&floaters), Err(Refusal::new(18, 0)), "{} {way:?}", shown(bytes));
+            assert_eq!(listing, Listing { fresh: false, placement }, "a refusal changes no record");
+            descending += 1;
+        }
+    });
+    assert!(ascending > share(50_000) && descending > share(20_000), "{ascending} {descending}");
+}
+
+/// Equal brackets side by side stay apart: with a bracket for each copy, the
+/// floaters and the rows are the same, and the copies stand in any order.
+#[test]
+fn equal_brackets_stay_apart() {
+    let mut met = 0;
+    for_copied(22, |bytes, line| {
+        if line.brackets.iter().all(|one| one.count == 1) {
+            return;
+        }
+        let mut again = line.clone();
+        let once = |bracket: &Bracket| std::iter::repeat_n(Bracket { count: 1, ..*bracket }, usize::from(bracket.count));
+        again.brackets = line.brackets.iter().flat_map(once).collect();
+        let (one, other) = (floaters(line), floaters(&again));
+        assert_eq!(rows(&one), rows(&other), "{}", shown(bytes));
+        assert_eq!(total(line), total(&again), "{}", shown(bytes));
+        let Some(ways) = in_any_order(&one, 2_000) else {
+            return;
+        };
+        let (all, complete) = all_placements(&other, 2_000);
+        let listed = all.iter().map(|placement| placement[..other.len()].to_vec());
+        assert!(complete && listed.eq(ways), "{}", shown(bytes));
+        met += 1;
+    });
+    assert!(met > share(3_000), "{met}");
 }
 
 #[test]

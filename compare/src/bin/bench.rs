@@ -8,7 +8,7 @@ use std::process::{Command, Stdio};
 use std::time::{Duration, Instant};
 
 use compare::areas::{decode, encode, tables_of_some_line};
-use compare::floating::adversarial;
+use compare::floating::{adversarial, nested};
 use compare::generate::{Generator, Random};
 use compare::line::Line;
 use compare::positions::{first_placement, floaters, next_placement, Placement};
@@ -31,6 +31,10 @@ fn main() {
     println!("worst lines, each read");
     for (name, line) in &worst {
         reading(name, &held(std::slice::from_ref(line)));
+    }
+    println!("the slowest requests known, each for the first placement");
+    for (name, line) in nested() {
+        first(name, &held(&[line.into_bytes()]).iter().collect::<Vec<_>>());
     }
     requests();
     program();
@@ -136,6 +140,12 @@ fn reading(name: &str, lines: &[Held]) {
     beside(name, &all, |one| proved::read(one.line, &mut area, &mut sums).is_ok(), |one| !encode(&reader::read(one.line).unwrap()).0.is_empty());
 }
 
+fn first(name: &str, placed: &[&Held]) {
+    beside(name, placed, |one| proved::next(&one.bytes, &one.numbers, &mut Listing::FRESH.clone()).is_ok(), |one| {
+        first_placement(&floaters(&tables(one))).is_some()
+    });
+}
+
 fn measure(name: &str, lines: &[Vec<u8>]) {
     let all = held(lines);
     let placed: Vec<&Held> = all.iter().filter(|one| one.first.is_some()).collect();
@@ -154,9 +164,7 @@ fn measure(name: &str, lines: &[Vec<u8>]) {
     beside("total", &all, |one| proved::total(&one.bytes, &one.numbers).is_ok() == one.weighed, |one| {
         masses::total(&tables(one)).is_ok() == one.weighed
     });
-    beside("first", &placed, |one| proved::next(&one.bytes, &one.numbers, &mut Listing::FRESH.clone()).is_ok(), |one| {
-        first_placement(&floaters(&tables(one))).is_some()
-    });
+    first("first", &placed);
     beside("next", &placed, |one| {
         let mut listing = Listing::holding(one.first.unwrap());
         black_box(proved::next(&one.bytes, &one.numbers, &mut listing)).map_or(true, |()| true)

@@ -16,13 +16,19 @@ fn main() {
     let mut outcomes = [0_usize; 22];
     let mut floating = [0_usize; 9];
     let mut unplaceable = 0;
+    let (mut copied, mut placeable) = (0, 0);
     for line in Generator::new(seed).take(count) {
         match read(&line) {
             Ok(read) => {
                 outcomes[0] += 1;
                 let floaters = floaters(&read);
                 floating[floaters.len()] += 1;
-                unplaceable += usize::from(all_placements(&floaters, CAP).0.is_empty());
+                let placements = all_placements(&floaters, CAP).0.len();
+                unplaceable += usize::from(placements == 0);
+                if floaters.windows(2).any(|pair| pair[0].bracket == pair[1].bracket) {
+                    copied += 1;
+                    placeable += usize::from(placements > 1);
+                }
             }
             Err(refusal) => outcomes[usize::from(refusal.number)] += 1,
         }
@@ -40,4 +46,5 @@ fn main() {
         println!("floaters {floaters} {lines:6} {:6.2}%", percent(lines));
     }
     println!("accepted, no placement {unplaceable}");
+    println!("accepted, copies of one bracket {copied}, of these more than one placement {placeable}");
 }

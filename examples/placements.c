@@ -1,4 +1,4 @@
-/* Lists the placements of a line with their ledgers, and its total: placements '[+1]^2?AC' */
+/* Lists the placements of a line with their ledgers, and its total: placements 'M[+16#a]C[#a]'. Copies of one bracket ([+1]^2?AC) stand in ascending order. */
 #include <hwemiduk.h>
 #include <inttypes.h>
 #include <stdio.h>

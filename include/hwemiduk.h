@@ -346,9 +346,14 @@ uint8_t hwemiduk_composition(const uint8_t *text, size_t text_len, uint8_t *piec
 uint8_t hwemiduk_reached(const uint8_t *bytes, size_t bytes_len, const int64_t *numbers, size_t numbers_len, size_t bracket, hwemiduk_position *positions,
     size_t positions_len, size_t *count);
 
-/* ---- Placements: the position of each floating copy, limits.copies entries, unused ones 0. Of a longer slice the first entries count. */
+/*
+ * ---- Placements: the position of each floating copy, limits.copies entries, unused ones 0. Of a longer slice the first entries count.
+ *
+ * In an allowed placement each floating copy stands at a position that it may take (hwemiduk_rows), no two at one, and copies of one bracket, which its count makes, stand in
+ * ascending order: they are alike, so that [+1]^2?AC has the one placement 1 2. Brackets side by side are not, however equal: [+1][+1]?AC has 1 2 and 2 1.
+ */
 
-/* Whether a placement is an allowed one: 0, or 13, 14 or 18. */
+/* Whether a placement is an allowed one: 0, or 13, 14 or 18, which copies of one bracket in another than ascending order get too. */
 uint8_t hwemiduk_allowed(const uint8_t *bytes, size_t bytes_len, const int64_t *numbers, size_t numbers_len, const hwemiduk_position *placement,
     size_t placement_len);
 
@@ -367,7 +372,8 @@ typedef struct hwemiduk_listing {
 
 /*
  * Moves a listing on: 0 with the next placement in listing->at, unmarked; or 17 at the last one, or if there is none at all; or 13, 14 or 18. From a
- * fresh listing, every allowed placement is handed out once, in ascending order. With no floater there is one placement, all zeros.
+ * fresh listing, every allowed placement is handed out once, in ascending order; in each, copies of one bracket stand in ascending order. With no floater there is one
+ * placement, all zeros.
  */
 uint8_t hwemiduk_next(const uint8_t *bytes, size_t bytes_len, const int64_t *numbers, size_t numbers_len, hwemiduk_listing *listing);
 

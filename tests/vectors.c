@@ -222,6 +222,42 @@ static void rows(const uint8_t *bytes, const int64_t *numbers, size_t floaters)
     free(row);
 }
 
+/*
+ * The copies of each bracket ascend in a placement that is handed out. With two of them in each other's place it is not allowed: 18, in a ledger too where there is a total, and
+ * nothing is written; a record that holds it stays.
+ */
+static void copies(const uint8_t *bytes, const int64_t *numbers, bool has_total, const hwemiduk_position *handed)
+{
+    const size_t size = limits.copies * sizeof *handed;
+    hwemiduk_position *placement = (hwemiduk_position *)room(size);
+    int64_t *entries = (int64_t *)room(limits.positions * sizeof *entries);
+    uint8_t *of = (uint8_t *)room(limits.copies), *copy = (uint8_t *)room(limits.copies);
+    hwemiduk_listing *listing = (hwemiduk_listing *)room(sizeof *listing);
+    size_t count, place;
+    expect(hwemiduk_floater_brackets(TABLES, of, limits.copies, copy, limits.copies, &count) == HWEMIDUK_OK, "floaters of brackets");
+    for (size_t i = 1; i < count; i++)
+        if (copy[i] > 1) {
+            expect(handed[i - 1] < handed[i], "copies of one bracket ascend");
+            memcpy(placement, handed, size);
+            placement[i - 1] = handed[i];
+            placement[i] = handed[i - 1];
+            memset(entries, JUNK, limits.positions * sizeof *entries);
+            memset(listing, 0, sizeof *listing);
+            memcpy(listing->at, placement, size);
+            expect(hwemiduk_allowed(TABLES, placement, limits.copies) == HWEMIDUK_NOT_ALLOWED, "descending copies are not allowed");
+            uint8_t answer = hwemiduk_ledger(TABLES, placement, limits.copies, entries, limits.positions, &place);
+            expect(answer == (has_total ? HWEMIDUK_NOT_ALLOWED : HWEMIDUK_NO_MASS), "descending copies have no ledger");
+            expect(is_junk(entries, limits.positions * sizeof *entries), "18 writes no entry");
+            expect(hwemiduk_next(TABLES, listing) == HWEMIDUK_NOT_ALLOWED, "descending copies are no listing");
+            expect(listing->mark == HWEMIDUK_UNMARKED && memcmp(listing->at, placement, size) == 0, "a listing refused stays");
+        }
+    free(listing);
+    free(copy);
+    free(of);
+    free(entries);
+    free(placement);
+}
+
 /* The first placements, each allowed, with their ledgers, where there is a total. */
 static void placements(const uint8_t *bytes, const int64_t *numbers, bool has_total)
 {
@@ -244,6 +280,7 @@ static void placements(const uint8_t *bytes, const int64_t *numbers, bool has_to
         expect(hwemiduk_allowed(TABLES, placement, limits.copies) == HWEMIDUK_OK, "a placement handed out is allowed");
         uint8_t answer = hwemiduk_ledger(TABLES, placement, limits.copies, entries, limits.positions, &place);
         expect(answer == (has_total ? HWEMIDUK_OK : HWEMIDUK_NO_MASS), "a ledger where there is a total");
+        copies(bytes, numbers, has_total, placement);
     }
     memset(placement, JUNK, size);
     memset(listing, 0, sizeof *listing);

@@ -8,7 +8,7 @@ import os
 import random
 import sys
 import unittest
-from itertools import islice
+from itertools import combinations, islice, permutations, product
 from pathlib import Path
 
 ROOT = Path(__file__).resolve().parent.parent.parent
@@ -61,7 +61,7 @@ class KnownLines(unittest.TestCase):
 
     def test_placements(self):
         for line, placements in {
-            "[+1]^2?AC": [(1, 2), (2, 1)],
+            "[+1]^2?AC": [(1, 2)],
             "[+1]^2?A": [],
             "[+1]?A[+2]": [],
             "[+1]?A[INFO:x]": [(1,)],
@@ -456,11 +456,29 @@ class Tables(unittest.TestCase):
 class Placements(unittest.TestCase):
     def test_not_allowed(self):
         p = read("[+1]^2?AC")
-        for placement in [(0, 0), (1, 1), (1, 3), (3, 1), (255, 255)]:
+        for placement in [(0, 0), (1, 1), (1, 3), (3, 1), (255, 255), (2, 1)]:
             self.assertFalse(p.allowed(placement))
             self.assertEqual(refusal(p.ledger, placement), (18, 0))
-        self.assertTrue(p.allowed([2, 1]))
-        self.assertEqual(p.ledger([2, 1]), [0, 1_000_000, 1_000_000, 0])
+        self.assertTrue(p.allowed([1, 2]))
+        self.assertEqual(p.ledger([1, 2]), [0, 1_000_000, 1_000_000, 0])
+
+    def test_copies_of_one_bracket_ascend(self):
+        """Document 02, L4: those that a count makes, and no others."""
+        for line, placements in {
+            "[+1][+1]?AC": [(1, 2), (2, 1)],
+            "[+1]^2[x]?ACD": [(1, 2, 3), (1, 3, 2), (2, 3, 1)],
+            "[x][+1]^2?ACD": [(1, 2, 3), (2, 1, 3), (3, 1, 2)],
+            "[+1]^3?ACDE": [(1, 2, 3), (1, 2, 4), (1, 3, 4), (2, 3, 4)],
+            "[+1]^2?(AC)[+1]D": [(1, 3, 2), (2, 3, 1)],
+        }.items():
+            with self.subTest(line):
+                p = read(line)
+                self.assertEqual(list(p.placements()), placements)
+                self.assertEqual([placement for placement in product(range(6), repeat=len(p.floaters)) if p.allowed(placement)], placements)
+        p = read("[+1]^2[+5]?ACD")
+        self.assertEqual(p.ledger((2, 3, 1)), [0, 5_000_000, 1_000_000, 1_000_000, 0])
+        self.assertEqual(refusal(p.ledger, (3, 2, 1)), (18, 0))
+        self.assertEqual(p.rows(), [(floater, position) for floater in (1, 2, 3) for position in (1, 2, 3)])
 
     def test_a_terminus_is_no_entry_left_out(self):
         """A label may stand at position 0: a placement that is too short must not be taken as one that ends in 0."""
@@ -480,17 +498,17 @@ class Placements(unittest.TestCase):
                 self.assertNotIsInstance(caught.exception, Refusal, (line, placement))
 
     def test_each_listing_is_its_own(self):
-        p = read("[+1]^2?AC")
+        p = read("[+1][+1]?AC")
         one, other = p.placements(), p.placements()
         self.assertEqual(next(one), next(other))
         read("[+1]^3?ACDEFG").total()
         self.assertEqual((next(one), next(one, None), next(other)), ((2, 1), None, (2, 1)))
 
     def test_many(self):
-        """Four floaters on six residues: 6 * 5 * 4 * 3 placements, ascending."""
-        placements = list(read("[+1]^4?ACDEFG").placements())
-        self.assertEqual(len(set(placements)), 360)
-        self.assertEqual(placements, sorted(placements))
+        """Four floaters on six residues: 6 * 5 * 4 * 3 placements, ascending; of copies of one bracket, those that ascend."""
+        placements = list(read("[+1][+1][+1][+1]?ACDEFG").placements())
+        self.assertEqual(placements, list(permutations(range(1, 7), 4)))
+        self.assertEqual(list(read("[+1]^4?ACDEFG").placements()), list(combinations(range(1, 7), 4)))
 
 
 class Junk(unittest.TestCase):

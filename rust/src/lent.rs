@@ -248,7 +248,8 @@ pub fn shown(bytes: &[u8], numbers: &[i64]) -> Result<Shown, Refusal> {
     answer(number, 0, if missing == 0 { Shown::Daltons(daltons) } else { Shown::Missing(missing) })
 }
 
-/// Whether a placement is an allowed one, else 18: the first [`COPIES`] entries of the slice count.
+/// Whether a placement is an allowed one, else 18: the first [`COPIES`] entries of the slice count. Each floater stands at a position that it may take, no two at one, and copies of
+/// one bracket stand in ascending order.
 pub fn allowed(bytes: &[u8], numbers: &[i64], placement: &[Position]) -> Result<(), Refusal> {
     answer(outs::allowed(bytes, numbers, placement), 0, ())
 }
@@ -259,7 +260,7 @@ pub fn ledger(bytes: &[u8], numbers: &[i64], placement: &[Position], entries: &m
     answer(number, place, ())
 }
 
-/// Moves a listing on to the next placement; or 17 at the last one, or if there is none at all, or 18.
+/// Moves a listing on to the next placement, in which copies of one bracket stand in ascending order; or 17 at the last one, or if there is none at all, or 18.
 pub fn next(bytes: &[u8], numbers: &[i64], listing: &mut Listing) -> Result<(), Refusal> {
     answer(outs::next(bytes, numbers, listing), 0, ())
 }

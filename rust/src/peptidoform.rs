@@ -151,13 +151,24 @@ impl Peptidoform {
     /// }
     /// # Ok::<(), hwemiduk::Refusal>(())
     /// ```
+    ///
+    /// Copies of one bracket are alike, and stand in ascending order. Brackets side by side are told apart, however equal.
+    ///
+    /// ```
+    /// # use hwemiduk::Peptidoform;
+    /// let placed = |p: Peptidoform| p.placements().map(|placement| placement.to_vec()).collect::<Vec<_>>();
+    /// assert_eq!(placed("[+1]^2?AC".parse()?), [[1, 2]]);
+    /// assert_eq!(placed("[+1][+1]?AC".parse()?), [[1, 2], [2, 1]]);
+    /// # Ok::<(), hwemiduk::Refusal>(())
+    /// ```
     pub fn placements(&self) -> Placements {
         let tables = Box::new(self.tables());
         let floaters = held(lent::floaters(&tables.bytes, &tables.numbers));
         Placements { tables, floaters, listing: Listing::FRESH, ended: false }
     }
 
-    /// Whether a placement, a position for each floater, is an allowed one.
+    /// Whether a placement, a position for each floater, is an allowed one: each floater where it may stand, no two at one position, and copies of one bracket in ascending
+    /// order.
     pub fn allowed(&self, placement: &[Position]) -> bool {
         let tables = self.tables();
         match lent::allowed(&tables.bytes, &tables.numbers, &lend(&tables, placement)) {

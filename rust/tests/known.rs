@@ -40,7 +40,7 @@ fn known_totals() {
 
 #[test]
 fn known_placements() {
-    assert_eq!(placed("[+1]^2?AC"), [[1, 2], [2, 1]]);
+    assert_eq!(placed("[+1]^2?AC"), [[1, 2]]);
     assert_eq!(placed("[+1]^2?A"), Vec::<Vec<_>>::new());
     assert_eq!(placed("[+1]?A[+2]"), Vec::<Vec<_>>::new());
     assert_eq!(placed("[+1]?A[INFO:x]"), [[1]]);
@@ -52,7 +52,7 @@ fn known_placements() {
 #[test]
 fn known_ledgers() {
     assert_eq!(of("AM[+15.995]C[-18.01]").ledger(&[]).unwrap(), [0, 0, 15_995_000, -18_010_000, 0]);
-    assert_eq!(of("[+1]^2?AC").ledger(&[2, 1]).unwrap(), [0, 1_000_000, 1_000_000, 0]);
+    assert_eq!(of("[+1]^2?AC").ledger(&[1, 2]).unwrap(), [0, 1_000_000, 1_000_000, 0]);
     let refused = of("[Acetyl]-A").ledger(&[]).unwrap_err();
     assert_eq!((refused.number(), refused.place()), (16, 1));
 }
@@ -109,6 +109,23 @@ fn placements_of_another_length() {
     assert_eq!(of("[x]?A").ledger(&[]).unwrap_err().number(), 16);
 }
 
+/// Copies of one bracket stand in ascending order; equal brackets are told apart, and between copies of different brackets nothing is asked.
+#[test]
+fn copies_of_one_bracket_ascend() {
+    assert_eq!(placed("[+1][+1]?AC"), [[1, 2], [2, 1]]);
+    assert_eq!(placed("[+1]^2[x]?ACD"), [[1, 2, 3], [1, 3, 2], [2, 3, 1]]);
+    assert_eq!(placed("[+1]^3?ACDE"), [[1, 2, 3], [1, 2, 4], [1, 3, 4], [2, 3, 4]]);
+    for (line, placement) in [("[+1]^2?AC", &[2, 1][..]), ("[+1]^2[+1]?ACD", &[3, 2, 1]), ("[+1][+1]^2?ACD", &[1, 3, 2])] {
+        assert!(!of(line).allowed(placement), "{line} {placement:?}");
+        let refused = of(line).ledger(placement).unwrap_err();
+        assert_eq!((refused.number(), refused.place()), (18, 0), "{line} {placement:?}");
+    }
+    for (line, placement) in [("[+1]^2?AC", &[1, 2][..]), ("[+1][+1]?AC", &[2, 1]), ("[+1]^2[+1]?ACD", &[2, 3, 1])] {
+        assert!(of(line).allowed(placement), "{line} {placement:?}");
+        assert_eq!(of(line).ledger(placement).unwrap().iter().sum::<i64>(), 1_000_000 * placement.len() as i64, "{line} {placement:?}");
+    }
+}
+
 #[test]
 fn a_listing_ends_for_good() {
     let mut placements = of("[+1]?A").placements();
@@ -118,7 +135,8 @@ fn a_listing_ends_for_good() {
         assert!(placements.next().is_none());
     }
     assert_eq!(copy.count(), 0);
-    assert_eq!(of("[+1]^4?ACDEFG").placements().count(), 6 * 5 * 4 * 3);
+    assert_eq!(of("[+1][+1][+1][+1]?ACDEFG").placements().count(), 6 * 5 * 4 * 3);
+    assert_eq!(of("[+1]^4?ACDEFG").placements().count(), 6 * 5 * 4 * 3 / (4 * 3 * 2));
     let few: Vec<Placement> = of(&format!("[+1]^8?{}", "A".repeat(254))).placements().take(3).collect();
     assert!(few[0] < few[1] && few[1] < few[2]);
     assert_eq!(few[2].len(), 8);

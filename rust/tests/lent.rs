@@ -76,6 +76,15 @@ fn counts_and_masses() {
 #[test]
 fn placements() {
     let (bytes, numbers) = tables("[+1]^2?AC");
+    let mut descending = Listing::holding([2, 1, 0, 0, 0, 0, 0, 0]);
+    let before = descending;
+    assert_eq!(refused(lent::next(&bytes, &numbers, &mut descending)), (18, 0));
+    assert_eq!(descending, before);
+    assert_eq!(refused(lent::allowed(&bytes, &numbers, &descending.at)), (18, 0));
+    let mut entries = [-7; POSITIONS];
+    assert_eq!(refused(lent::ledger(&bytes, &numbers, &descending.at, &mut entries)), (18, 0));
+    assert_eq!(entries, [-7; POSITIONS]);
+    let (bytes, numbers) = tables("[+1][+1]?AC");
     let mut listing = Listing::FRESH;
     for first_two in [[1, 2], [2, 1]] {
         assert_eq!(lent::next(&bytes, &numbers, &mut listing), Ok(()));

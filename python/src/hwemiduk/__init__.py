@@ -4,7 +4,7 @@
 >>> str(p)
 '[+1]^2?AC'
 >>> list(p.placements())
-[(1, 2), (2, 1)]
+[(1, 2)]
 >>> p.total(), p.shift(), p.missing
 (2000000, 2.0, 0)
 

@@ -185,11 +185,15 @@ class Peptidoform:
     def placements(self) -> Iterator[Tuple[int, ...]]:
         """Every allowed placement once, in ascending order: for each of `floaters` its position. With no floater there is one, `()`.
 
+        Copies of one bracket are alike, and stand in ascending order; brackets side by side are told apart, however equal.
+
         >>> list(Peptidoform("[+1]^2?AC").placements())
+        [(1, 2)]
+        >>> list(Peptidoform("[+1][+1]?AC").placements())
         [(1, 2), (2, 1)]
 
-        Each is handed out when it is asked for. There may be very many (eight copies on 254 residues: about 10^19), so take as many as are wanted by
-        `itertools.islice`.
+        Each is handed out when it is asked for. There may be very many (eight brackets on 254 residues: about 10^19; eight copies of one: about 4 * 10^14), so take as many
+        as are wanted by `itertools.islice`.
         """
         listing = Listing(mark=FRESH)
         areas = self._filled()
@@ -206,7 +210,12 @@ class Peptidoform:
             give(areas)
 
     def allowed(self, placement: Sequence[int]) -> bool:
-        """Whether a placement, a position for each of `floaters`, is an allowed one."""
+        """Whether a placement, a position for each of `floaters`, is an allowed one: each where it may stand, no two at one position, copies of one bracket in ascending order.
+
+        >>> p = Peptidoform("[+1]^2?AC")
+        >>> p.allowed((1, 2)), p.allowed((2, 1))
+        (True, False)
+        """
         areas = self._filled()
         try:
             number = library.hwemiduk_allowed(*areas.tables, _lent(placement, _count(areas)), LIMITS.copies)

@@ -11,7 +11,7 @@ use lib.Dec.{eqb}
 use lib.ListN.{length, set}
 use borrow.Author.Tests.{eq-eqb, ne-eqb}
 use Rattle.basics.specs.Tests.{same?, below?}
-use Rattle.placement_laws.specs.Standing.{place, Full, Ascent, Good, Alike, Same, Upto}
+use Rattle.placement_laws.specs.Standing.{place, Full, Ascent, Good, Alike, Upto}
 use Rattle.placement_laws.specs.Swaps.{Swapped, swap-same, swap-least}
 use Rattle.exchange.specs.Where.{But}
 use Rattle.exchange.specs.Order.{Settled}

@@ -20,7 +20,7 @@ use Rattle.scope.specs.Placements.{allowed, placements, freshListing}
 use Rattle.scope.specs.Masses.{massOf, modifications, times, massOr0, sum, total, lacking, ledger, labileMass}
 use Rattle.scope.specs.Answers.{Said, refuses, tooShort, SomeLine, areTables, overTables, requested}
 use Rattle.mass_laws.specs.Terms.{Fair, Limited, totalLimit}
-use Rattle.placement_laws.specs.Terms.{unmarked, Ascending, Reordered, afterRequests, handedOut}
+use Rattle.placement_laws.specs.Terms.{unmarked, Ascending, Rearranged, afterRequests, handedOut}
 use Rattle.basics.specs.Each.{In}
 
 -- what reading a line that holds l leaves in the lent areas
@@ -91,7 +91,7 @@ pub record LineDemand3 {P : Type 0} (t : Line P) : Type 0 where
   -- "positions of one bracket's copies ascend" (02, L4): none exists exactly where none did without that rule
   pub none-as-before : ((p : List ℕ) → allowed (floatingOf t) p ≡ true → ⊥) ↔ ((p : List ℕ) → allowed (unmarked (floatingOf t)) p ≡ true → ⊥)
   -- and every placement that was allowed without it is an allowed one with the copies of one bracket in another order
-  pub sorted : (p : List ℕ) → allowed (unmarked (floatingOf t)) p ≡ true → (q : List ℕ) × (allowed (floatingOf t) q ≡ true) × Reordered (floatingOf t) p q
+  pub sorted : (p : List ℕ) → allowed (unmarked (floatingOf t)) p ≡ true → (q : List ℕ) × (allowed (floatingOf t) q ≡ true) × Rearranged t p q
   -- "the masses at all positions under any allowed placement plus the labile ones equal the line's total, exactly"
   pub adds-up : (p : List ℕ) → allowed (floatingOf t) p ≡ true → sum (ledger t p) +ℤ labileMass t ≡ total t
   -- "each holds the masses .. of the floating copy put there, nothing else"; "entries past n+1 stay zero"

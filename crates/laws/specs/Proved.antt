@@ -41,7 +41,7 @@ demand-3-of t w fair limited =
       then-17 = placing.ended f ok;
       none-at-first = placing.no-placement f ok;
       none-as-before = placing.none-as-before f ok;
-      sorted = placing.sorted f ok;
+      sorted = λ p a. let z = placing.sorted f ok p a in (z .0, z .1, placing.rearranged t p (z .0) (z .2));
       adds-up = masses.adds-up t fair;
       own-entry = masses.own-entry t fair;
       past = masses.past t fair;

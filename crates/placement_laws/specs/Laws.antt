@@ -13,8 +13,9 @@ use Rattle.scope.specs.Lists.{keep}
 use Rattle.scope.specs.Positions.{Floating, floaters, floatingOf}
 use Rattle.scope.specs.Placements.{distinct, ascends, allowed, choices, placements, firstPlacement, nextPlacement, freshListing}
 use Rattle.scope.specs.Answers.{refuses, findable, requested}
-use Rattle.placement_laws.specs.Terms.{Orderly, unmarked, Ascending, Allowed, Placing, Reordered, Further, Least, afterRequests, handedOut}
+use Rattle.placement_laws.specs.Terms.{marked, Orderly, unmarked, Ascending, Allowed, Placing, bracketAt, Reordered, Rearranged, Further, Least, afterRequests, handedOut}
 use Rattle.basics.specs.Each.{In}
+use Rattle.placement_laws.specs.Standing.{Ascent}
 use Rattle.placement_laws.specs.Members as members
 use Rattle.placement_laws.specs.Entries as entries
 use Rattle.placement_laws.specs.Sorted as ordered
@@ -22,10 +23,19 @@ use Rattle.placement_laws.specs.Leasts as leasts
 use Rattle.placement_laws.specs.Copies as copies
 use Rattle.placement_laws.specs.Requests as requests
 use Rattle.placement_laws.specs.Lines as lines
+use Rattle.placement_laws.specs.Brackets as brackets
 
 -- what floats of a line: "Floating copies, in order of their brackets"
 pub line-orderly : {P : Type 0} (t : Line P) → length (floaters t) ≤ copyLimit → Orderly (floatingOf t)
 line-orderly t few = lines.line-orderly t few
+
+-- "positions of one bracket's copies ascend": of two floaters of one bracket the later stands higher
+pub by-brackets : {P : Type 0} (t : Line P) (w : ℕ → ℕ)
+    → Ascent (marked (floatingOf t)) (length (floaters t)) w ↔ ((i j : ℕ) → i < j → j < length (floaters t) → bracketAt t i ≡ bracketAt t j → w i < w j)
+by-brackets t w = brackets.ascent-brackets t w
+
+pub rearranged : {P : Type 0} (t : Line P) (p q : List ℕ) → Reordered (floatingOf t) p q → Rearranged t p q
+rearranged t p q h = brackets.rearranged t p q h
 
 -- "With no floater there is one placement, all zeros."
 pub no-floater : (f : Floating) → f .lists ≡ [] → placements f ≡ replicate copyLimit 0 ∷ []

@@ -9,4 +9,5 @@ pub mod Sorted
 pub mod Leasts
 pub mod Requests
 pub mod Lines
+pub mod Brackets
 pub mod Copies

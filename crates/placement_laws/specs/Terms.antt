@@ -9,7 +9,8 @@ use lib.ListN.{length, getD}
 use Rattle.scope.specs.declared.answers.Listing.{Listing}
 use Rattle.scope.specs.Limits.{copyLimit}
 use Rattle.scope.specs.Lists.{member}
-use Rattle.scope.specs.Positions.{Floating}
+use Rattle.scope.specs.Line.{Line}
+use Rattle.scope.specs.Positions.{floaters, floatersBy, bracketsOf, Floating}
 use Rattle.scope.specs.Placements.{allowed, less}
 use Rattle.scope.specs.Answers.{Said, good, refuses, requested, movedOn}
 use Rattle.basics.specs.Each.{Each, In, Ordered}
@@ -54,6 +55,10 @@ pub record Placing (f : Floating) (p : List ℕ) : Type 0 where
   pub ascent : Ascent (marked f) (length (f .lists)) (place p)
   pub unused : (i : ℕ) → length (f .lists) ≤ i → getD p i 0 ≡ 0
 
+-- the bracket, by its number, that floating copy s of a line is of
+abbrev pub bracketAt : {P : Type 0} → Line P → ℕ → ℕ
+bracketAt t s = getD (bracketsOf (floatersBy t)) s 0
+
 -- s and r are copies of one bracket: above the lower of them, up to the higher, all are further copies
 abbrev pub OneRun : Floating → ℕ → ℕ → Type 0
 OneRun f s r = ((t : ℕ) → s < t → t ≤ r → marked f t ≡ true) × ((t : ℕ) → r < t → t ≤ s → marked f t ≡ true)
@@ -61,6 +66,10 @@ OneRun f s r = ((t : ℕ) → s < t → t ≤ r → marked f t ≡ true) × ((t 
 -- q has each floater where p has a copy of the same bracket
 abbrev pub Reordered : Floating → List ℕ → List ℕ → Type 0
 Reordered f p q = (s : ℕ) → s < length (f .lists) → (r : ℕ) × (r < length (f .lists)) × OneRun f s r × (place q s ≡ place p r)
+
+-- q has each floater of a line where p has a copy of the same bracket
+abbrev pub Rearranged : {P : Type 0} → Line P → List ℕ → List ℕ → Type 0
+Rearranged t p q = (s : ℕ) → s < length (floaters t) → (r : ℕ) × (r < length (floaters t)) × (bracketAt t s ≡ bracketAt t r) × (place q s ≡ place p r)
 
 -- allowed, and above p
 abbrev pub Further : Floating → List ℕ → List ℕ → Type 0

@@ -29,7 +29,7 @@ use Rattle.placements.proofs.Right.{Right, allowed-right, right-allowed
 use Rattle.placements.proofs.Found.{first-found, next-found}
 
 -- ---- is it allowed?
-module _ (tab copy : List ℕ) (k : ℕ) (p : List ℕ) (sized : Sized tab k) (long : length copy ≡ copyLimit) where
+module _ (tab copy : List ℕ) (k : ℕ) (p : List ℕ) (sized : Sized tab k) where
   abbrev f : Floating
   f = floatingIn tab copy k
 
@@ -37,7 +37,7 @@ module _ (tab copy : List ℕ) (k : ℕ) (p : List ℕ) (sized : Sized tab k) (l
   right a = allowed-right tab (f .marks) k (sized .few) p a
 
   pub allowed-good : Allowed f p → Good (mayIn tab) (markIn copy) k (place p)
-  allowed-good a = good-in (mayIn tab) copy k (sized .few) long (place p) (right a .good)
+  allowed-good a = good-in (mayIn tab) copy k (place p) (right a .good)
 
   pub allowed-not : (Zeros k p → ⊥) → false ≡ allowed f p
   allowed-not h = sym (falsely (allowed f p) (λ a. h (right a .zeros)))
@@ -47,7 +47,7 @@ module _ (tab copy : List ℕ) (k : ℕ) (p : List ℕ) (sized : Sized tab k) (l
 
   pub allowed-is : (r : Bool) → length p ≡ copyLimit → Zeros k p → Ascent (markIn copy) k (place p) → Stand tab k p r → r ≡ allowed f p
   allowed-is true e z a h =
-      sym (right-allowed tab (f .marks) k (sized .few) p (record { eight = e; good = good-of (mayIn tab) copy k (sized .few) long (place p) (record { full = h; ascent = a }); zeros = z }))
+      sym (right-allowed tab (f .marks) k (sized .few) p (record { eight = e; good = good-of (mayIn tab) copy k (place p) (record { full = h; ascent = a }); zeros = z }))
   allowed-is false e z a h = sym (falsely (allowed f p) (λ b. h (right b .good .full)))
 
 -- ---- requests, by the listing's mark
@@ -83,13 +83,13 @@ begun-refused f l e n =
     ∙ pick-false (zeros (l .at)) (findable (firstPlacement f)) (refuses 18 0)
     (falsely (zeros (l .at)) (λ q. n (λ s g m. zeros-at (l .at) (both-of (eqb (length (l .at)) copyLimit) (all (eqb 0) (l .at)) q .1) s)))
 
-pub continued-found : (tab copy : List ℕ) (k : ℕ) (l : Listing) (b : Bool) (v : List ℕ) → Sized tab k → length copy ≡ copyLimit → Orderly (floatingIn tab copy k)
-    → l .mark ≡ noMark → Allowed (floatingIn tab copy k) (l .at) → length v ≡ copyLimit
+pub continued-found : (tab copy : List ℕ) (k : ℕ) (l : Listing) (b : Bool) (v : List ℕ) → Sized tab k → Orderly (floatingIn tab copy k) → l .mark ≡ noMark
+    → Allowed (floatingIn tab copy k) (l .at) → length v ≡ copyLimit
     → Following (mayIn tab) (markIn copy) k (place (l .at)) b (place v) → requested (floatingIn tab copy k) l ≡ findable (found k b v)
-continued-found tab copy k l b v s n o f a m h =
+continued-found tab copy k l b v s o f a m h =
     let g = floatingIn tab copy k in
     held-asked g l f ∙ pick-true (allowed g (l .at)) (findable (nextPlacement g (l .at))) (refuses 18 0) a
-    ∙ ap findable (next-found tab k (s .few) copy o n (l .at) (right tab copy k (l .at) s n a) b v m h)
+    ∙ ap findable (next-found tab k (s .few) copy o (l .at) (right tab copy k (l .at) s a) b v m h)
 
 pub continued-refused : (f : Floating) (l : Listing) → l .mark ≡ noMark → allowed f (l .at) ≡ false → requested f l ≡ refuses 18 0
 continued-refused f l e a = held-asked f l e ∙ pick-false (allowed f (l .at)) (findable (nextPlacement f (l .at))) (refuses 18 0) a

@@ -95,7 +95,7 @@ module _ (tab : List ℕ) (k : ℕ) (few : k ≤ copyLimit) where
     abbrev ms : List Bool
     ms = map isFurther (take k copy)
 
-    module _ (eight : length copy ≡ copyLimit) (p : List ℕ) (right : Right tab ms k p) where
+    module _ (p : List ℕ) (right : Right tab ms k p) where
       above-before : (q : List ℕ) → Right tab ms k q → less p q ≡ true → Before k (place p) (place q)
       above-before q r h = go (less-before p q (right .eight ∙ sym (r .eight)) h)
         where
@@ -113,14 +113,14 @@ module _ (tab : List ℕ) (k : ℕ) (few : k ≤ copyLimit) where
 
       next-found-least : (b : Bool) (v : List ℕ) → length v ≡ copyLimit → Next (mayIn tab) (markIn copy) k (place p) b (place v) → Least (Further f p) (found k b v)
       next-found-least true v l h =
-          let g = good-of (mayIn tab) copy k few eight (place v) (h .0) in (
+          let g = good-of (mayIn tab) copy k (place v) (h .0) in (
             (right-allowed tab ms k few (entries k v) (right-entries ms v l g), before-entries v l (h .1)),
             λ q a.
                 let r = allowed-right tab ms k few q (a .0) in
-                upto-either ms v l g q r (h .2 (place q) (good-in (mayIn tab) copy k few eight (place q) (r .good)) (above-before q r (a .1))),
+                upto-either ms v l g q r (h .2 (place q) (good-in (mayIn tab) copy k (place q) (r .good)) (above-before q r (a .1))),
           )
       next-found-least false v l h = λ q a.
-          let r = allowed-right tab ms k few q (a .0) in h (place q) (good-in (mayIn tab) copy k few eight (place q) (r .good)) (above-before q r (a .1))
+          let r = allowed-right tab ms k few q (a .0) in h (place q) (good-in (mayIn tab) copy k (place q) (r .good)) (above-before q r (a .1))
 
       pub next-found : (b : Bool) (v : List ℕ) → length v ≡ copyLimit → Next (mayIn tab) (markIn copy) k (place p) b (place v) → nextPlacement f p ≡ found k b v
       next-found b v l h = least-unique (Further f p) (nextPlacement f p) (found k b v) (next-least f ok p) (next-found-least b v l h)

@@ -64,25 +64,22 @@ module _ (tab : List ℕ) (ms : List Bool) (k : ℕ) (few : k ≤ copyLimit) whe
       unused s l = ⊎-elim (λ m. h .zeros s (omega (arith, many)) m) (λ m. List·getD-eq-default p 0 (omega (arith, h .eight))) (below? s copyLimit)
 
 -- ---- marks by the numbers of the copies, and no marks
-module _ (ok : ℕ → ℕ → Bool) (copy : List ℕ) (k : ℕ) (few : k ≤ copyLimit) (long : length copy ≡ copyLimit) where
-  same-mark : (s : ℕ) → s < k → markOf (map isFurther (take k copy)) s ≡ markIn copy s
-  same-mark s l = marks-at copy k s l (omega arith)
-
+module _ (ok : ℕ → ℕ → Bool) (copy : List ℕ) (k : ℕ) where
   pub good-in : (w : ℕ → ℕ) → Good ok (markOf (map isFurther (take k copy))) k w → Good ok (markIn copy) k w
-  good-in w g = record { full = g .full; ascent = λ s l m. g .ascent s l (same-mark (s + 1) l ∙ m) }
+  good-in w g = record { full = g .full; ascent = λ s l m. g .ascent s l (marks-at copy k (s + 1) l ∙ m) }
 
   pub good-of : (w : ℕ → ℕ) → Good ok (markIn copy) k w → Good ok (markOf (map isFurther (take k copy))) k w
-  good-of w g = record { full = g .full; ascent = λ s l m. g .ascent s l (sym (same-mark (s + 1) l) ∙ m) }
+  good-of w g = record { full = g .full; ascent = λ s l m. g .ascent s l (sym (marks-at copy k (s + 1) l) ∙ m) }
 
 pub good-free : (ok : ℕ → ℕ → Bool) (k : ℕ) (w : ℕ → ℕ) → Full ok k w → Good ok (markOf []) k w
 good-free ok k w f = record { full = f; ascent = λ s l m. absurd (false≢true m) }
 
 -- copies are alike in the table
-pub table-alike : (tab copy : List ℕ) (k : ℕ) → k ≤ copyLimit → length copy ≡ copyLimit → Orderly (floatingIn tab copy k) → Alike (mayIn tab) (markIn copy) k
-table-alike tab copy k few long ok s x y l m o q h =
+pub table-alike : (tab copy : List ℕ) (k : ℕ) → Orderly (floatingIn tab copy k) → Alike (mayIn tab) (markIn copy) k
+table-alike tab copy k ok s x y l m o q h =
     let n = lists-many tab k in
     let e = lists-at tab k s (omega arith) in
     let g = lists-at tab k (s + 1) l in
-    let z = ok .alike s x y (omega (arith, n)) (marks-at copy k (s + 1) l (omega arith) ∙ m)
+    let z = ok .alike s x y (omega (arith, n)) (marks-at copy k (s + 1) l ∙ m)
     (rw e (in-member x _ (may-list tab s x o))) (rw g (in-member y _ (may-list tab (s + 1) y q))) h in
     (list-may tab s y (member-in y _ (rw e at (z .0))), list-may tab (s + 1) x (member-in x _ (rw g at (z .1))))

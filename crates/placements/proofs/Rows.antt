@@ -1,13 +1,13 @@
 -- The table as lists of positions, and the numbers of the copies as marks: the list of a floater has exactly the positions where it may stand, in rising order.
-use mathlib.Core.Path.{_≡_, refl, sym, ap, _∙_}
+use mathlib.Core.Path.{_≡_, sym, ap, _∙_}
 use mathlib.Core.Bool.{true, false}
-use mathlib.Core.List.{List, [], _∷_, map}
-use Prim.Native.Nat.{ℕ, zero, suc, _<_, _≤_, _+_, _*_}
+use mathlib.Core.List.{List, [], map}
+use Prim.Native.Nat.{ℕ, _<_, _+_, _*_}
 use native.Mathlib.Nat.{zero-add}
 use native.Mathlib.Omega.{arith}
 use lib.Dec.{eqb}
-use lib.ListN.{length, getD, take}
-use lib.Seq.{getD-take, length-take-le}
+use lib.ListN.{length, getD, take, List·getD-map}
+use lib.Seq.{getD-take}
 use Rattle.scope.specs.Limits.{positionLimit}
 use Rattle.scope.specs.Lists.{tabled}
 use Rattle.areas.specs.Floats.{listIn, listsIn}
@@ -49,10 +49,5 @@ may-list tab s x e =
     keep-in (λ y. eqb (getD tab (s * positionLimit + y) 0) 1) x (tabled (λ y. y) 0 positionLimit) (tabled-in 0 positionLimit x (omega arith) h) (sym (ok-is tab s x h) ∙ e)
 
 -- ---- marks
-pub marks-at : (copy : List ℕ) (k s : ℕ) → s < k → k ≤ length copy → getD (map isFurther (take k copy)) s false ≡ markIn copy s
-marks-at copy k s l m = mapped (take k copy) s (omega (arith, length-take-le k copy m)) ∙ ap isFurther (getD-take k copy s 0 l)
-  where
-    mapped : (c : List ℕ) (s : ℕ) → s < length c → getD (map isFurther c) s false ≡ isFurther (getD c s 0)
-    mapped [] s h = absurd (omega arith)
-    mapped (x ∷ c) zero h = refl
-    mapped (x ∷ c) (suc s) h = mapped c s (omega arith)
+pub marks-at : (copy : List ℕ) (k s : ℕ) → s < k → getD (map isFurther (take k copy)) s false ≡ markIn copy s
+marks-at copy k s l = List·getD-map isFurther (take k copy) s 0 ∙ ap isFurther (getD-take k copy s 0 l)

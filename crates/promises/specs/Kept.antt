@@ -8,6 +8,9 @@ use Rattle.promises.specs.Weights as weights
 use Rattle.promises.specs.Placed as placed
 use Rattle.promises.specs.Rows as rows
 use Rattle.promises.specs.Listed as listed
+use Rattle.placement_laws.specs.Standing.{place}
+use Rattle.placement_laws.specs.Laws as placing
+use Rattle.scope.specs.Layout.{tablesIn}
 use Rattle.promises.specs.Pieced.{composing}
 use Rattle.promises.specs.Reached.{declaring}
 use mathlib.Core.List.{List}
@@ -40,6 +43,7 @@ demand-3 bs ns h =
     record {
       allowed = placed.allowed-so bs ns h;
       free = placed.free bs ns;
+      ascend = λ p. placing.by-brackets (tablesIn bs ns) (place p);
       none-lost = placed.none-lost h;
       sorted = placed.sorted h;
       by-value = listed.lists bs ns h;

@@ -18,7 +18,7 @@ use Rattle.scope.specs.Placements.{allowed}
 use Rattle.scope.specs.Answers.{good, saysRequest}
 use Rattle.basics.specs.Each.{In}
 use Rattle.basics.specs.Members.{in-member, flat-in}
-use Rattle.placement_laws.specs.Terms.{Orderly, unmarked, Placing, Reordered}
+use Rattle.placement_laws.specs.Terms.{Orderly, unmarked, Placing, Rearranged}
 use Rattle.placement_laws.specs.Copies.{unmarked-orderly}
 use Rattle.placement_laws.specs.Lines.{permitted-free}
 use Rattle.placement_laws.specs.Laws as placing
@@ -50,8 +50,8 @@ module _ {bs : List ℕ} {ns : List ℤ} (h : AreasTaken bs ns) where
         λ n p a. z .1 (λ q b. n q (without q .0 b)) p (placing.by-entries f ok p .1 a),
       )
 
-  pub sorted : (p : List ℕ) → Placing (unmarked f) p → (q : List ℕ) × Placing f q × Reordered f p q
-  sorted p a = let z = placing.sorted f ok p (without p .1 a) in (z .0, placing.by-entries f ok (z .0) .0 (z .1), z .2)
+  pub sorted : (p : List ℕ) → Placing (unmarked f) p → (q : List ℕ) × Placing f q × Rearranged (tablesIn bs ns) p q
+  sorted p a = let z = placing.sorted f ok p (without p .1 a) in (z .0, placing.by-entries f ok (z .0) .0 (z .1), placing.rearranged (tablesIn bs ns) p (z .0) (z .2))
 
 -- ---- no placed modification stands at a permitted position
 struck : (t : Tables) (k : Bracket (Unit {0})) (x : ℕ) → In k (t .brackets) → In x (placedOn t k) → member x (struckOut t) ≡ true

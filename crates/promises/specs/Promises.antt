@@ -37,7 +37,8 @@ use Rattle.scope.specs.Answers.{Said, good, refuses, aMass, lack, saysRead, say
 use Rattle.scope.specs.Grammar.{Spelling, print, good as wellSpelt, means}
 use Rattle.grammar_laws.specs.Laws.{Accepts, Refuses}
 use Rattle.glycan_laws.specs.Laws.{Cuts}
-use Rattle.placement_laws.specs.Terms.{Ascending, Placing, Reordered, Rising, unmarked}
+use Rattle.placement_laws.specs.Terms.{Ascending, bracketAt, marked, Placing, Rearranged, Rising, unmarked}
+use Rattle.placement_laws.specs.Standing.{place, Ascent}
 use Rattle.basics.specs.Each.{In, Ordered}
 use Rattle.verdict.specs.Says.{VerdictSays}
 use Rattle.reader.specs.ReadSays.{ReadSays}
@@ -249,17 +250,21 @@ pub record Rowed (bs : List ℕ) (ns : List ℤ) (room room′ : List Site) (n :
   pub first : (f : ℕ) (l : Lookup) → LookupSays room′ n f l → LeastOf (Permitted bs ns f) (saysLookup l)
 
 pub record Demand3 (bs : List ℕ) (ns : List ℤ) : Type 0 where
-  -- "an allowed placement gives each floating modification one of its permitted positions, none that a placed modification has, and no position twice";
-  -- "positions of one bracket's copies ascend" (02, L4)
+  -- "an allowed placement gives each floating modification one of its permitted positions, none that a placed modification has, and no position twice"
   pub allowed : (p : Placement) (r : Request) → AllowedSays bs ns p r → (saysRequest r ≡ good tt) ↔ Placing (floatingOf (tablesIn bs ns)) (p .at)
   pub free : (f x : ℕ) → Permitted bs ns f x → (k : Bracket (Unit {0})) → In k (tablesIn bs ns .brackets) → In x (placedOn (tablesIn bs ns) k) → ⊥
+  -- "positions of one bracket's copies ascend" (02, L4): what `Placing` asks of further copies, by the brackets that they are of
+  pub ascend :
+      (p : List ℕ)
+      → Ascent (marked (floatingOf (tablesIn bs ns))) (length (floaters (tablesIn bs ns))) (place p)
+      ↔ ((i j : ℕ) → i < j → j < length (floaters (tablesIn bs ns)) → bracketAt (tablesIn bs ns) i ≡ bracketAt (tablesIn bs ns) j → place p i < place p j)
   -- the rule on copies loses none: a placement exists exactly where one does without it, and each of those is an allowed one with copies of one bracket in
   -- another order
   pub none-lost :
       ((p : List ℕ) → Placing (floatingOf (tablesIn bs ns)) p → ⊥) ↔ ((p : List ℕ) → Placing (unmarked (floatingOf (tablesIn bs ns))) p → ⊥)
   pub sorted :
       (p : List ℕ) → Placing (unmarked (floatingOf (tablesIn bs ns))) p
-      → (q : List ℕ) × Placing (floatingOf (tablesIn bs ns)) q × Reordered (floatingOf (tablesIn bs ns)) p q
+      → (q : List ℕ) × Placing (floatingOf (tablesIn bs ns)) q × Rearranged (tablesIn bs ns) p q
   -- by the record handed over and handed back, and by the record moved on in place
   pub by-value : Lists bs ns (NextSays bs ns)
   pub in-place : Lists bs ns (λ l r. StepSays bs ns l (r .request) (r .listing))

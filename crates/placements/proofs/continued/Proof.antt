@@ -18,10 +18,6 @@ use borrow.Author.Needs.{needs}
 use Rattle.placements.proofs.continued.Statement.{statement}
 use Rattle.placements.proofs.continued.Tie as tie
 
-module _ (start : tie.Start) where
-  copy-long : length (start .args .copy) ≡ copyLimit
-  copy-long = search needs
-
 module _ (c : tie.After-widened) where
   abbrev start : tie.Start
   start = search
@@ -32,12 +28,12 @@ module _ (c : tie.After-widened) where
   good : Good (mayIn (now (start .args .tab))) (markIn (start .args .copy)) (start .args .k) (place (c .widened .result .at))
   good =
       subst (λ (v : List ℕ). Good (mayIn (now (start .args .tab))) (markIn (start .args .copy)) (start .args .k) (place v)) (sym (c .widened .ensures))
-      (allowed-good _ _ _ (start .args .l .at) (start .pre .0) (copy-long start) is-allowed)
+      (allowed-good _ _ _ (start .args .l .at) (start .pre .0) is-allowed)
 
 next-requires : tie.Need-next-requires
 next-requires c κs =
     let s = start c in
-    record { sized = s .pre .0; alike = table-alike _ _ _ (s .pre .0 .few) (copy-long s) (s .pre .1); good = good c }
+    record { sized = s .pre .0; alike = table-alike _ _ _ (s .pre .1); good = good c }
 
 told-requires : tie.Need-told-requires
 told-requires c κs =
@@ -54,7 +50,7 @@ returns c =
     let s = start d in
     let v = c .before .next in
     through
-    (continued-found (now (s .args .tab)) (s .args .copy) (s .args .k) (s .args .l) (v .result .ok) (v .result .at .at) (s .pre .0) (copy-long s) (s .pre .1) (s .pre .2)
+    (continued-found (now (s .args .tab)) (s .args .copy) (s .args .k) (s .args .l) (v .result .ok) (v .result .at .at) (s .pre .0) (s .pre .1) (s .pre .2)
     (is-allowed d) (long (c .before))
     (subst (λ (x : List ℕ). Following (mayIn (now (s .args .tab))) (markIn (s .args .copy)) (s .args .k) (place x) (v .result .ok) (place (v .result .at .at))) (d .widened .ensures) (v .ensures)))
     (c .told .ensures)

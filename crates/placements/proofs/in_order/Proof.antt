@@ -1,7 +1,7 @@
 -- `placements::in_order` meets its contract. The loop's invariant: each further copy below s stands above the copy before it.
 use mathlib.Core.Path.{_≡_}
 use mathlib.Core.Bool.{true}
-use Prim.Native.Nat.{ℕ, _≤_, _<_, _-_}
+use Prim.Native.Nat.{ℕ, _<_, _-_}
 use native.Mathlib.Omega.{arith}
 use borrow.Author.Count.{below-more}
 use Rattle.placement_laws.specs.Standing.{place}

@@ -9,12 +9,8 @@ use borrow.Author.Needs.{needs}
 use Rattle.placements.proofs.is_allowed.Statement.{statement}
 use Rattle.placements.proofs.is_allowed.Tie as tie
 
-module _ (start : tie.Start) where
-  long : length (start .args .p .at) ≡ copyLimit
-  long = search needs
-
-  copy-long : length (start .args .copy) ≡ copyLimit
-  copy-long = search needs
+long : (start : tie.Start) → length (start .args .p .at) ≡ copyLimit
+long start = search needs
 
 in-order-requires : tie.Need-in-order-requires
 in-order-requires c κs =
@@ -28,19 +24,19 @@ returns c =
     let asked : tie.After-in-order = search in
     let zeros = yes _ _ (widened .before .if1 .taken) (widened .before .before .unused .ensures) in
     let e = widened .widened .ensures in
-    allowed-is _ _ _ (start .args .p .at) (start .pre) (copy-long start) (c .stand .result) (long start) zeros
+    allowed-is _ _ _ (start .args .p .at) (start .pre) (c .stand .result) (long start) zeros
     (rw e at (yes _ _ (c .before .if2 .taken) (asked .in-order .ensures))) (rw e at (c .stand .ensures))
 
 returns-2 : tie.Need-returns-2
 returns-2 c =
     let start : tie.Start = search in
     let widened : tie.After-widened = search in
-    allowed-descends _ _ _ (start .args .p .at) (start .pre) (copy-long start) (rw (widened .widened .ensures) at (no _ _ (c .if2 .left) (c .before .in-order .ensures)))
+    allowed-descends _ _ _ (start .args .p .at) (start .pre) (rw (widened .widened .ensures) at (no _ _ (c .if2 .left) (c .before .in-order .ensures)))
 
 returns-3 : tie.Need-returns-3
 returns-3 c =
     let start : tie.Start = search in
-    allowed-not _ _ _ (start .args .p .at) (start .pre) (copy-long start) (no _ _ (c .if1 .left) (c .before .unused .ensures))
+    allowed-not _ _ _ (start .args .p .at) (start .pre) (no _ _ (c .if1 .left) (c .before .unused .ensures))
 
 pub is-allowed-spec : {M : Type 1} → statement M
 is-allowed-spec =

@@ -6,7 +6,7 @@ use lib.IntN.{ℤ}
 use Rattle.scope.specs.declared.answers.Site.{Site}
 use Rattle.scope.specs.declared.answers.Listing.{Listing}
 use Rattle.scope.specs.declared.tables.Limits.{Limits}
-use Rattle.scope.specs.Limits.{lineLimit, residueLimit, bracketLimit, partLimit, textLimit, labelLimit, depthLimit, countLimit, declarationLimit, placeLimit, copyLimit, rowLimit, positionLimit, sizeLimit, decimalLimit}
+use Rattle.scope.specs.Limits.{lineLimit, residueLimit, bracketLimit, partLimit, textLimit, labelLimit, depthLimit, countLimit, declarationLimit, placeLimit, copyLimit, rowLimit, positionLimit, sizeLimit, decimalLimit, blockSize, blockLimit}
 use Rattle.scope.specs.Layout.{bytesSize, numbersSize, tablesIn}
 use Rattle.scope.specs.Positions.{Found}
 use Rattle.scope.specs.Answers.{Said, rowsSaid, rowsAfter, requests, listingAfter}
@@ -34,7 +34,7 @@ MovedOn bytes numbers listing number listing′ = (number ≡ numberOf (requests
 
 -- "All limits and sizes"
 abbrev pub theLimits : Limits
-theLimits = record { line = lineLimit; residues = residueLimit; brackets = bracketLimit; parts = partLimit; text = textLimit; label = labelLimit; depth = depthLimit; count = countLimit; declarations = declarationLimit; places = placeLimit; copies = copyLimit; rows = rowLimit; positions = positionLimit; size = sizeLimit; decimals = decimalLimit; bytes = bytesSize; numbers = numbersSize }
+theLimits = record { line = lineLimit; residues = residueLimit; brackets = bracketLimit; parts = partLimit; text = textLimit; label = labelLimit; depth = depthLimit; count = countLimit; declarations = declarationLimit; places = placeLimit; copies = copyLimit; rows = rowLimit; positions = positionLimit; size = sizeLimit; decimals = decimalLimit; bytes = bytesSize; numbers = numbersSize; block = blockSize; blocks = blockLimit }
 
 -- the version, 0.1.0: 10000 times its first number, 100 times its second, and its third
 abbrev pub theVersion : ℕ

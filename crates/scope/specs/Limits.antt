@@ -60,3 +60,10 @@ positionLimit = residueLimit + 2
 -- "room is 2,048 rows": a row for each floating copy and position
 abbrev pub rowLimit : ℕ
 rowLimit = copyLimit * positionLimit
+
+-- "at most 128 blocks of 512 bytes" (02, L5)
+abbrev pub blockSize : ℕ
+blockSize = 512
+
+abbrev pub blockLimit : ℕ
+blockLimit = 128

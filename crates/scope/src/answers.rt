@@ -117,3 +117,9 @@ pub enum Shown {
     Missing(usize),
     Refused { number: u8 },
 }
+
+// Whether a lent area was changed: made, an entry added or removed.
+pub enum Change {
+    Made,
+    Refused { number: u8, place: usize },
+}

@@ -1,10 +1,11 @@
 // The tables' limits and sizes. "The limits stand once, with the type they belong to."
 ghost use mathlib.Core.Path.{_≡_};
 ghost use lib.IntN.{pos};
-ghost use Rattle.scope.specs.Limits.{lineLimit, residueLimit, bracketLimit, partLimit, textLimit, labelLimit, depthLimit, countLimit, copyLimit, declarationLimit, placeLimit, rowLimit, positionLimit, sizeLimit, decimalLimit};
+ghost use Rattle.scope.specs.Limits.{lineLimit, residueLimit, bracketLimit, partLimit, textLimit, labelLimit, depthLimit, countLimit, copyLimit, declarationLimit, placeLimit, rowLimit, positionLimit, sizeLimit, decimalLimit, blockSize, blockLimit};
 ghost use Rattle.scope.specs.Layout.{bytesSize, numbersSize};
 use crate::answers::Ledger;
 use crate::answers::Placement;
+use crate::blocks::Block;
 
 // How much the tables of a line hold: residues, brackets, bytes of text.
 pub struct Tables {
@@ -120,12 +121,14 @@ pub struct Limits {
     pub decimals: u8,
     pub bytes: usize,
     pub numbers: usize,
+    pub block: usize,
+    pub blocks: usize,
 }
 
 impl Limits {
     // The constants are the numbers that the definitions name.
     pub fn new() -> Self
-        ensures { λ r. ⌜ r ≡ record { line = lineLimit; residues = residueLimit; brackets = bracketLimit; parts = partLimit; text = textLimit; label = labelLimit; depth = depthLimit; count = countLimit; declarations = declarationLimit; places = placeLimit; copies = copyLimit; rows = rowLimit; positions = positionLimit; size = sizeLimit; decimals = decimalLimit; bytes = bytesSize; numbers = numbersSize } ⌝ }
+        ensures { λ r. ⌜ r ≡ record { line = lineLimit; residues = residueLimit; brackets = bracketLimit; parts = partLimit; text = textLimit; label = labelLimit; depth = depthLimit; count = countLimit; declarations = declarationLimit; places = placeLimit; copies = copyLimit; rows = rowLimit; positions = positionLimit; size = sizeLimit; decimals = decimalLimit; bytes = bytesSize; numbers = numbersSize; block = blockSize; blocks = blockLimit } ⌝ }
     {
         Self {
             line: Tables::LINE,
@@ -145,6 +148,8 @@ impl Limits {
             decimals: Number::DECIMALS,
             bytes: Tables::BYTES,
             numbers: Tables::NUMBERS,
+            block: Block::SIZE,
+            blocks: Block::MOST,
         }
     }
 }

@@ -8,3 +8,4 @@ pub mod Keys
 pub mod Wholes
 pub mod Kinds
 pub mod Positions
+pub mod Said

@@ -1,0 +1,4 @@
+pub mod LowFirst
+pub mod Sums
+pub mod Areas
+pub mod Fields

@@ -1,0 +1,1 @@
+// No code: the laws of one block and of an area of blocks (specs/).

@@ -259,7 +259,7 @@ pub fn shown(bytes: &[u8], numbers: &[i64]) -> Shown
 }
 
 // Whether a placement is allowed by the tables.
-fn is_allowed_by(bytes: &[u8], numbers: &[i64], p: Placement) -> bool
+pub fn is_allowed_by(bytes: &[u8], numbers: &[i64], p: Placement) -> bool
     requires { ⌜ (Bounds (now bytes) (now numbers)) × (length (floaters (tablesIn (now bytes) (now numbers))) ≤ copyLimit) ⌝ }
     ensures { λ r. ⌜ r ≡ allowed (floatingOf (tablesIn (now (bytes .entry)) (now (numbers .entry)))) (p .at) ⌝ }
 {

@@ -1,0 +1,4 @@
+pub mod Sums
+pub mod Zeros
+pub mod Fronts
+pub mod Answers

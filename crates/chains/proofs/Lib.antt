@@ -1,0 +1,4 @@
+pub mod Lent
+pub mod Content
+pub mod TooLong
+pub mod Following

@@ -1,0 +1,5 @@
+pub mod Whole
+pub mod Says
+pub mod Counted
+pub mod Nexts
+pub mod Finding

@@ -1,0 +1,4 @@
+pub mod Looks
+pub mod Calls
+pub mod Outputs
+pub mod Surveyed

@@ -1,0 +1,4 @@
+pub mod Looking
+pub mod Steps
+pub mod Sorts
+pub mod Says

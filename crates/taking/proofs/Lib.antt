@@ -1,0 +1,4 @@
+pub mod Wholes
+pub mod Lowest
+pub mod Chained
+pub mod Runs

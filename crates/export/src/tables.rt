@@ -170,7 +170,7 @@ pub extern "C" fn hwemiduk_shown(
 }
 
 // The placement that a slice begins with.
-fn placement_in(s: &[u16]) -> Placement
+pub fn placement_in(s: &[u16]) -> Placement
     requires { ⌜ copyLimit ≤ length (now s) ⌝ }
     ensures { λ r. ⌜ r .at ≡ take copyLimit (now (s .entry)) ⌝ }
 {

@@ -44,7 +44,8 @@ use Rattle.scope.specs.Glycans.{cuttings}
 use Rattle.glycans.specs.Pieces.{piecesOf, piecesSaid, PiecesSay}
 use Rattle.listing.specs.Says.{RowsSays, StepSays}
 use Rattle.promises.specs.Promises.{Answered, Nothing}
-use Rattle.promises.specs.Said.{not-both, same-number, met-refused, write-same, count-same, total-same, lookup-same, request-same, booked-same, shown-same}
+use Rattle.basics.specs.Said.{not-both, same-number}
+use Rattle.promises.specs.Said.{met-refused, write-same, count-same, total-same, lookup-same, request-same, booked-same, shown-same}
 
 -- ---- what can be said
 -- an answer says it, and a refusal has one of these numbers

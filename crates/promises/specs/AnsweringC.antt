@@ -28,19 +28,19 @@ use Rattle.calls.specs.Single.{weighsAt}
 use Rattle.scope.specs.Positions.{floatersBy, bracketsOf, copiesOf}
 use Rattle.calls.specs.Floating.{floatersSaid}
 use Rattle.calls.specs.Reaching.{reachedBy, reachedSaid}
-use Rattle.promises.specs.Promises.{lineNumbers, Answered, Nothing, told, Demand1C}
-use Rattle.promises.specs.Said.{not-both, same-number}
+use Rattle.promises.specs.Promises.{lineNumbers, Answered, Nothing, told, AnswersBlocksC, Demand1C}
+use Rattle.basics.specs.Said.{not-both, same-number}
 use Rattle.promises.specs.Answering as calls
 use Rattle.promises.specs.Readers as readers
 
 -- ---- outcomes of numbers
-pair2 : {A B : Type 0} {a c : A} {b d : B} → a ≡ c → b ≡ d → _≡_ {A = A × B} (a, b) (c, d)
+pub pair2 : {A B : Type 0} {a c : A} {b d : B} → a ≡ c → b ≡ d → _≡_ {A = A × B} (a, b) (c, d)
 pair2 {c = c} {b = b} e f = ap (λ x. (x, b)) e ∙ ap (λ y. (c, y)) f
 
-pair3 : {A B C : Type 0} {a d : A} {b e : B} {c f : C} → a ≡ d → b ≡ e → c ≡ f → _≡_ {A = A × B × C} (a, b, c) (d, e, f)
+pub pair3 : {A B C : Type 0} {a d : A} {b e : B} {c f : C} → a ≡ d → b ≡ e → c ≡ f → _≡_ {A = A × B × C} (a, b, c) (d, e, f)
 pair3 {d = d} {b = b} {e = e} {c = c} p q r = ap (λ x. (x, b, c)) p ∙ ap (λ y. (d, y, c)) q ∙ ap (λ z. (d, e, z)) r
 
-pair4 : {A B C D : Type 0} {a e : A} {b f : B} {c g : C} {d h : D} → a ≡ e → b ≡ f → c ≡ g → d ≡ h → _≡_ {A = A × B × C × D} (a, b, c, d) (e, f, g, h)
+pub pair4 : {A B C D : Type 0} {a e : A} {b f : B} {c g : C} {d h : D} → a ≡ e → b ≡ f → c ≡ g → d ≡ h → _≡_ {A = A × B × C × D} (a, b, c, d) (e, f, g, h)
 pair4 {e = e} {b = b} {f = f} {c = c} {g = g} {d = d} p q r s =
     ap (λ x. (x, b, c, d)) p ∙ ap (λ x. (e, x, c, d)) q ∙ ap (λ x. (e, f, x, d)) r ∙ ap (λ x. (e, f, g, x)) s
 
@@ -54,7 +54,7 @@ told-refused zero n p e = absurd (not-both e)
 told-refused (suc m) n p e = (m, refl, sym (same-number e))
 
 -- an exported call whose number is that of what is said
-in-c : {O A : Type 0} (Ensured Left : O → Type 0) (number : O → ℕ) (s : Said A) {numbers : List ℕ} (x : O) → Ensured x → ((o : O) → Ensured o → o ≡ x)
+pub in-c : {O A : Type 0} (Ensured Left : O → Type 0) (number : O → ℕ) (s : Said A) {numbers : List ℕ} (x : O) → Ensured x → ((o : O) → Ensured o → o ≡ x)
     → ((o : O) → Ensured o → number o ≡ numberOf s) → ((n p : ℕ) → s ≡ refuses n p → In n numbers)
     → ((o : O) → Ensured o → (n p : ℕ) → s ≡ refuses n p → Left o) → Answered Ensured (λ o. told (number o)) numbers Left
 in-c {O} Ensured Left number s x e only is among left =
@@ -222,8 +222,9 @@ composition t out count =
     (record { measured = record { number-is = refl; count-is = refl }; output-after = refl }) (λ o w. pair3 (w .measured .number-is) (w .measured .count-is) (w .output-after))
     (λ o w. w .measured .number-is) (calls.pieces-so t (length out) .number) (λ o w n p q. w .output-after ∙ ap (λ z. outputAfter z c out) q)
 
-pub demand-1 : Demand1C
-demand-1 =
+-- with the calls over an area of blocks (specs/AnsweringBlocks.antt)
+pub demand-1 : AnswersBlocksC → Demand1C
+demand-1 blocks =
     record {
       verdict = verdict;
       read = read;
@@ -240,4 +241,5 @@ demand-1 =
       rows = rows;
       first-row = first-row;
       composition = composition;
+      blocks = blocks;
     }

@@ -1,6 +1,7 @@
 -- The promises of specs/Promises.antt are kept.
 use Rattle.promises.specs.Promises.{Demand1, Demand3, Promises}
 use Rattle.promises.specs.Answering as calls
+use Rattle.promises.specs.AnsweringBlocks as blocks
 use Rattle.promises.specs.Readers as readers
 use Rattle.promises.specs.Wrong as wrong
 use Rattle.promises.specs.Written as written
@@ -13,6 +14,7 @@ use Rattle.placement_laws.specs.Laws as placing
 use Rattle.scope.specs.Layout.{tablesIn}
 use Rattle.promises.specs.Pieced.{composing}
 use Rattle.promises.specs.Reached.{declaring}
+use Rattle.promises.specs.Keeps.{keeping}
 use mathlib.Core.List.{List}
 use Prim.Native.Nat.{ℕ}
 use lib.IntN.{ℤ}
@@ -36,6 +38,7 @@ demand-1 =
       rows = calls.rows;
       first-row = calls.first-row;
       pieces = calls.pieces;
+      blocks = blocks.answers;
     }
 
 demand-3 : (bs : List ℕ) (ns : List ℤ) → weights.AreasTaken bs ns → Demand3 bs ns
@@ -69,4 +72,5 @@ promises =
           weights.reckoned a (weights.taken-after a) t (readers.line-means a t g p);
       composing = composing;
       declaring = declaring;
+      keeping = keeping;
     }

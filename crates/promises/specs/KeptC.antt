@@ -43,9 +43,11 @@ use Rattle.export.specs.Numbers.{numberOf, left, placeLeft, Exported}
 use Rattle.export.specs.Handed.{MovedOn, RowsHanded}
 use Rattle.export.specs.Shapes.{lengthLeft, massOf, lackOf, Written, Totalled, Displayed, allowsLent, AllowedLent, booksLent, entriesAfter, ReadEntered as EnteredLent}
 use Rattle.promises.specs.Promises.{meant, Holding, Filed, HandsOut, Lists, Rowed, Reckoned, EnteredC, FiledC, HandsOutC, Demand3C, CountedC, ReckonedC, PromisesC}
-use Rattle.promises.specs.Said.{not-both, same-number, same-place, met-good, met-refused}
+use Rattle.basics.specs.Said.{not-both, same-number, same-place}
+use Rattle.promises.specs.Said.{met-good, met-refused}
 use Rattle.promises.specs.Answering as calls
 use Rattle.promises.specs.AnsweringC as exported
+use Rattle.promises.specs.AnsweringBlocks as blocks
 use Rattle.promises.specs.Readers as readers
 use Rattle.promises.specs.Written as written
 use Rattle.promises.specs.Weights as weights
@@ -333,7 +335,7 @@ module _ (bs : List ℕ) (ns : List ℤ) (h : weights.AreasTaken bs ns) where
 pub promises-c : PromisesC
 promises-c =
     record {
-      demand-1 = exported.demand-1;
+      demand-1 = exported.demand-1 blocks.answers-c;
       accepts = accepts;
       tables = tables;
       refuses-by = refuses-by;

@@ -1,3 +1,4 @@
+pub mod Keeping
 pub mod Promises
 pub mod Said
 pub mod Answering
@@ -9,8 +10,10 @@ pub mod Rows
 pub mod Listed
 pub mod Pieced
 pub mod Reached
-pub mod Kept
 pub mod AnsweringC
+pub mod AnsweringBlocks
+pub mod Keeps
+pub mod Kept
 pub mod KeptC
 pub mod Linked
 pub mod LinkedC

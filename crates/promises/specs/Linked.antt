@@ -26,6 +26,7 @@ use Rattle.rows.specs.Says.{LookupSays}
 use Rattle.listing.specs.Says.{RowsSays, StepSays}
 use Rattle.verdict.specs.Says.{VerdictSays}
 use Rattle.glycans.specs.Pieces.{PiecesSay}
+use Rattle.keeping.specs.Says.{EmptySays, AddSays, FetchSays, RemoveSays, EntrySays, SurveySays}
 use Rattle.glycans.proofs.pieces as pieces
 use Rattle.verdict.proofs.verdict_on as verdict-on
 use Rattle.reader.proofs.read as read
@@ -44,6 +45,12 @@ use Rattle.calls.proofs.ledger as ledger
 use Rattle.rows.proofs.first_row as first-row
 use Rattle.listing.proofs.rows as rows
 use Rattle.listing.proofs.step as step
+use Rattle.keeping.proofs.empty as empty
+use Rattle.keeping.proofs.add as add
+use Rattle.keeping.proofs.fetch as fetch
+use Rattle.keeping.proofs.remove as remove
+use Rattle.keeping.proofs.entry_from as entry-from
+use Rattle.keeping.proofs.survey as survey
 
 module _ {M : Type 1} (𝓤 : URA M) (H : Heap 𝓤) (A : Atoms 𝓤) (mem : Memory → SProp 𝓤) (run : Routine → Fun 𝓤) where
   -- nothing is asked
@@ -108,3 +115,22 @@ module _ {M : Type 1} (𝓤 : URA M) (H : Heap 𝓤) (A : Atoms 𝓤) (mem : Mem
 
   pub pieces-is : (κs : Lfts 2) (t out : RefT (List ℕ)) → (pieces.clauses 𝓤 H A mem run κs (t, (out, tt)) .requires ≡ (λ g. Nothing)) × (pieces.clauses 𝓤 H A mem run κs (t, (out, tt)) .ensures ≡ (λ g r end. fact 𝓤 (PiecesSay (t .now) (out .now) r (end .1 .0 .now))))
   pieces-is κs t out = (refl, refl)
+
+  -- calls over an area of blocks
+  pub empty-is : (κs : Lfts 1) (a : RefT (List ℕ)) → (empty.clauses 𝓤 H A mem run κs (a, tt) .requires ≡ (λ g. Nothing)) × (empty.clauses 𝓤 H A mem run κs (a, tt) .ensures ≡ (λ g r end. fact 𝓤 (EmptySays (a .now) r (end .0 .now))))
+  empty-is κs a = (refl, refl)
+
+  pub add-is : (κs : Lfts 2) (a : RefT (List ℕ)) (n : ℕ) (p : Placement) (s : RefT (List ℕ)) → (add.clauses 𝓤 H A mem run κs (a, (n, (p, (s, tt)))) .requires ≡ (λ g. Nothing)) × (add.clauses 𝓤 H A mem run κs (a, (n, (p, (s, tt)))) .ensures ≡ (λ g r end. fact 𝓤 (AddSays (a .now) n p (s .now) r (end .0 .now))))
+  add-is κs a n p s = (refl, refl)
+
+  pub fetch-is : (κs : Lfts 2) (a : RefT (List ℕ)) (n : ℕ) (out : RefT (List ℕ)) → (fetch.clauses 𝓤 H A mem run κs (a, (n, (out, tt))) .requires ≡ (λ g. Nothing)) × (fetch.clauses 𝓤 H A mem run κs (a, (n, (out, tt))) .ensures ≡ (λ g r end. fact 𝓤 (FetchSays (a .now) n (out .now) r (end .1 .1 .0 .now))))
+  fetch-is κs a n out = (refl, refl)
+
+  pub remove-is : (κs : Lfts 1) (a : RefT (List ℕ)) (n : ℕ) → (remove.clauses 𝓤 H A mem run κs (a, (n, tt)) .requires ≡ (λ g. Nothing)) × (remove.clauses 𝓤 H A mem run κs (a, (n, tt)) .ensures ≡ (λ g r end. fact 𝓤 (RemoveSays (a .now) n r (end .0 .now))))
+  remove-is κs a n = (refl, refl)
+
+  pub entry-from-is : (κs : Lfts 1) (a : RefT (List ℕ)) (from : ℕ) → (entry-from.clauses 𝓤 H A mem run κs (a, (from, tt)) .requires ≡ (λ g. Nothing)) × (entry-from.clauses 𝓤 H A mem run κs (a, (from, tt)) .ensures ≡ (λ g r end. fact 𝓤 (EntrySays (a .now) from r)))
+  entry-from-is κs a from = (refl, refl)
+
+  pub survey-is : (κs : Lfts 1) (a : RefT (List ℕ)) → (survey.clauses 𝓤 H A mem run κs (a, tt) .requires ≡ (λ g. Nothing)) × (survey.clauses 𝓤 H A mem run κs (a, tt) .ensures ≡ (λ g r end. fact 𝓤 (SurveySays (a .now) r)))
+  survey-is κs a = (refl, refl)

@@ -21,6 +21,8 @@ use Rattle.calls.specs.Single.{weighsAt}
 use Rattle.export.specs.Numbers.{Judged, Exported}
 use Rattle.export.specs.Handed.{Counted, RowsHanded, LookedUp, MovedOn}
 use Rattle.export.specs.Shapes.{Written, Totalled, Displayed, AllowedLent, FloatersHanded, ReachedHanded, PiecesHanded, ReadEntered}
+use Rattle.blocks.specs.Answers.{listedFrom, surveySaid}
+use Rattle.export.specs.Blocks.{EmptyHanded, AddHanded, FetchHanded, RemoveHanded, HeadHanded, Surveyed}
 use Rattle.export.proofs.hwemiduk_verdict as verdict
 use Rattle.export.proofs.hwemiduk_read as read
 use Rattle.export.proofs.hwemiduk_composition as composition
@@ -38,6 +40,12 @@ use Rattle.export.proofs.tables.hwemiduk_ledger as ledger
 use Rattle.export.proofs.handed.hwemiduk_next as next
 use Rattle.export.proofs.handed.hwemiduk_rows as rows
 use Rattle.export.proofs.handed.hwemiduk_first_row as first-row
+use Rattle.export.proofs.kept.hwemiduk_blocks_empty as empty
+use Rattle.export.proofs.kept.hwemiduk_blocks_add as add
+use Rattle.export.proofs.kept.hwemiduk_blocks_fetch as fetch
+use Rattle.export.proofs.kept.hwemiduk_blocks_remove as remove
+use Rattle.export.proofs.kept.hwemiduk_blocks_entry as entry
+use Rattle.export.proofs.kept.hwemiduk_blocks_survey as survey
 
 module _ {M : Type 1} (𝓤 : URA M) (H : Heap 𝓤) (A : Atoms 𝓤) (mem : Memory → SProp 𝓤) (run : Routine → Fun 𝓤) where
   -- nothing is asked
@@ -94,3 +102,22 @@ module _ {M : Type 1} (𝓤 : URA M) (H : Heap 𝓤) (A : Atoms 𝓤) (mem : Mem
 
   pub composition-is : (κs : Lfts 3) (t out : RefT (List ℕ)) (c : RefT ℕ) → (composition.clauses 𝓤 H A mem run κs (t, (out, (c, tt))) .requires ≡ (λ g. Nothing)) × (composition.clauses 𝓤 H A mem run κs (t, (out, (c, tt))) .ensures ≡ (λ g r end. fact 𝓤 (PiecesHanded (t .now) (out .now) (c .now) r (end .1 .1 .0 .now) (end .1 .0 .now))))
   composition-is κs t out c = (refl, refl)
+
+  -- calls over an area of blocks
+  pub empty-is : (κs : Lfts 1) (a : RefT (List ℕ)) → (empty.clauses 𝓤 H A mem run κs (a, tt) .requires ≡ (λ g. Nothing)) × (empty.clauses 𝓤 H A mem run κs (a, tt) .ensures ≡ (λ g r end. fact 𝓤 (EmptyHanded (a .now) r (end .0 .now))))
+  empty-is κs a = (refl, refl)
+
+  pub add-is : (κs : Lfts 4) (a : RefT (List ℕ)) (n : ℕ) (p s : RefT (List ℕ)) (k : RefT ℕ) → (add.clauses 𝓤 H A mem run κs (a, (n, (p, (s, (k, tt))))) .requires ≡ (λ g. Nothing)) × (add.clauses 𝓤 H A mem run κs (a, (n, (p, (s, (k, tt))))) .ensures ≡ (λ g r end. fact 𝓤 (AddHanded (a .now) n (p .now) (s .now) (k .now) r (end .1 .1 .1 .1 .0 .now) (end .0 .now))))
+  add-is κs a n p s k = (refl, refl)
+
+  pub fetch-is : (κs : Lfts 4) (a : RefT (List ℕ)) (n : ℕ) (p out : RefT (List ℕ)) (c : RefT ℕ) → (fetch.clauses 𝓤 H A mem run κs (a, (n, (p, (out, (c, tt))))) .requires ≡ (λ g. Nothing)) × (fetch.clauses 𝓤 H A mem run κs (a, (n, (p, (out, (c, tt))))) .ensures ≡ (λ g r end. fact 𝓤 (FetchHanded (a .now) n (p .now) (out .now) (c .now) r (end .1 .1 .0 .now) (end .1 .1 .1 .0 .now) (end .1 .1 .1 .1 .0 .now))))
+  fetch-is κs a n p out c = (refl, refl)
+
+  pub remove-is : (κs : Lfts 1) (a : RefT (List ℕ)) (n : ℕ) → (remove.clauses 𝓤 H A mem run κs (a, (n, tt)) .requires ≡ (λ g. Nothing)) × (remove.clauses 𝓤 H A mem run κs (a, (n, tt)) .ensures ≡ (λ g r end. fact 𝓤 (RemoveHanded (a .now) n r (end .0 .now))))
+  remove-is κs a n = (refl, refl)
+
+  pub entry-is : (κs : Lfts 3) (a : RefT (List ℕ)) (from : ℕ) (b n : RefT ℕ) → (entry.clauses 𝓤 H A mem run κs (a, (from, (b, (n, tt)))) .requires ≡ (λ g. Nothing)) × (entry.clauses 𝓤 H A mem run κs (a, (from, (b, (n, tt)))) .ensures ≡ (λ g r end. fact 𝓤 (HeadHanded (listedFrom (a .now) from) (b .now) (n .now) r (end .1 .1 .0 .now) (end .1 .1 .1 .0 .now))))
+  entry-is κs a from b n = (refl, refl)
+
+  pub survey-is : (κs : Lfts 6) (a : RefT (List ℕ)) (f i u o n : RefT ℕ) → (survey.clauses 𝓤 H A mem run κs (a, (f, (i, (u, (o, (n, tt)))))) .requires ≡ (λ g. Nothing)) × (survey.clauses 𝓤 H A mem run κs (a, (f, (i, (u, (o, (n, tt)))))) .ensures ≡ (λ g r end. fact 𝓤 (Surveyed (surveySaid (a .now)) (f .now) (i .now) (u .now) (o .now) (n .now) r (end .1 .0 .now) (end .1 .1 .0 .now) (end .1 .1 .1 .0 .now) (end .1 .1 .1 .1 .0 .now) (end .1 .1 .1 .1 .1 .0 .now))))
+  survey-is κs a f i u o n = (refl, refl)

@@ -18,7 +18,7 @@ use Rattle.glycan_laws.specs.Enumerated.{every-way}
 use Rattle.glycan_laws.specs.Written.{first-cut}
 use Rattle.glycans.specs.Pieces.{pieceBytes, piecesOf, piecesSaid, PiecesSay}
 use Rattle.promises.specs.Promises.{Pieced, Composing}
-use Rattle.promises.specs.Said.{not-both, same-number, same-good}
+use Rattle.basics.specs.Said.{not-both, same-number, same-good}
 
 -- what is said by the list of ways
 abbrev saidBy : List (List Item) → ℕ → Said ℕ

@@ -1,5 +1,6 @@
 -- The demands of the tender, each sentence above its theorem, over what the calls ensure: `ReadSays` (crate reader), `WriteSays`, `CountSays`, `TotalSays`,
--- `ShownSays`, `AllowedSays`, `NextSays`, `LedgerSays` (calls), `LookupSays` (rows), `RowsSays` and `StepSays` (listing), `PiecesSay` (glycans), `ReachedSays` (calls). That each call asks nothing, and ensures
+-- `ShownSays`, `AllowedSays`, `NextSays`, `LedgerSays` (calls), `LookupSays` (rows), `RowsSays` and `StepSays` (listing), `PiecesSay` (glycans), `ReachedSays` (calls), `EmptySays`,
+-- `AddSays`, `FetchSays`, `RemoveSays`, `EntrySays` and `SurveySays` (keeping). That each call asks nothing, and ensures
 -- exactly its relation, is shown in specs/Linked.antt. An answer is spoken of by what it says (`saysRead` and its kin). The proofs: specs/Kept.antt, for a caller in C
 -- specs/KeptC.antt, and the files that they cite.
 use mathlib.Core.Path.{_≡_}
@@ -22,6 +23,7 @@ use Rattle.scope.specs.declared.answers.Listing.{Listing}
 use Rattle.scope.specs.declared.answers.Ledger.{Ledger}
 use Rattle.scope.specs.declared.answers.Site.{Site}
 use Rattle.scope.specs.declared.answers.Lookup.{Lookup}
+use Rattle.scope.specs.declared.answers.Change.{Change}
 use Rattle.scope.specs.Limits.{copyLimit, rowLimit, positionLimit}
 use Rattle.scope.specs.Line.{Bracket, Line}
 use Rattle.scope.specs.Glycans.{Item}
@@ -33,13 +35,16 @@ use Rattle.scope.specs.Lists.{flat, laid, tabled}
 use Rattle.scope.specs.Positions.{sites, names, placedOn, floaters, floatingOf, Found}
 use Rattle.scope.specs.Placements.{freshListing}
 use Rattle.scope.specs.Masses.{sum, total, lacking, labileMass, daltons}
-use Rattle.scope.specs.Answers.{Said, good, refuses, aMass, lack, saysRead, saysWrite, saysCount, saysTotal, saysShown, saysLookup, saysRequest, saysBooked, tooShort, counts, residueCount, bracketCount, floaterCount, totals, shows, looksUp}
+use Rattle.scope.specs.Answers.{Said, good, refuses, aMass, lack, saysRead, saysWrite, saysCount, saysTotal, saysShown, saysLookup, saysRequest, saysBooked, saysChange, tooShort, counts, residueCount, bracketCount, floaterCount, totals, shows, looksUp}
 use Rattle.scope.specs.Grammar.{Spelling, print, good as wellSpelt, means}
 use Rattle.grammar_laws.specs.Laws.{Accepts, Refuses}
 use Rattle.glycan_laws.specs.Laws.{Cuts}
 use Rattle.placement_laws.specs.Terms.{Ascending, bracketAt, marked, Placing, Rearranged, Rising, unmarked}
 use Rattle.placement_laws.specs.Standing.{place, Ascent}
 use Rattle.basics.specs.Each.{In, Ordered}
+use Rattle.blocks.specs.declared.Fetched.{Fetched}
+use Rattle.blocks.specs.Answers.{saysFetch, saysListed, listedFrom, saysSurvey, surveySaid}
+use Rattle.keeping.specs.Says.{EmptySays, AddSays, FetchSays, RemoveSays, EntrySays, SurveySays}
 use Rattle.verdict.specs.Says.{VerdictSays}
 use Rattle.reader.specs.ReadSays.{ReadSays}
 use Rattle.glycans.specs.Pieces.{pieceBytes, PiecesSay}
@@ -54,6 +59,8 @@ use Rattle.listing.specs.Says.{RowsSays, StepSays}
 use Rattle.export.specs.Numbers.{Judged, Exported}
 use Rattle.export.specs.Handed.{Counted, RowsHanded, LookedUp, MovedOn}
 use Rattle.export.specs.Shapes.{Written, Totalled, Displayed, AllowedLent, FloatersHanded, ReachedHanded, PiecesHanded, ReadEntered as EnteredLent}
+use Rattle.export.specs.Blocks.{EmptyHanded, AddHanded, FetchHanded, RemoveHanded, HeadHanded, Surveyed}
+use Rattle.promises.specs.Keeping.{Keeping}
 
 -- ======== demand 1
 -- "Every line of bytes, every set of tables and every lent area gets an answer, and the caller need not have checked anything."
@@ -102,6 +109,27 @@ pub record AnswersLines (Says : Reader) : Type 0 where
       (s bs : List ℕ) (ns : List ℤ) (r : Read) (bs′ : List ℕ) (ns′ : List ℤ) → Says s bs ns r bs′ ns′
       → (saysRead r ≡ good tt) ⊎ TurnedAway s bs ns r bs′ ns′
 
+-- ---- the calls over an area of blocks (02, L5)
+-- "Adding tries the line's own refusals and 18 first; then come 26, 25, 22 to 24": the numbers of adding
+abbrev pub addNumbers : List ℕ
+addNumbers = lineNumbers ++ (18 ∷ 23 ∷ 24 ∷ 25 ∷ 26 ∷ [])
+
+pub record AnswersBlocks : Type 0 where
+  pub empty : (a : List ℕ) → Answered (λ (o : Change × List ℕ). EmptySays a (o .0) (o .1)) (λ o. saysChange (o .0)) (26 ∷ []) (λ o. o .1 ≡ a)
+  pub add :
+      (a : List ℕ) (n : ℕ) (p : Placement) (s : List ℕ)
+      → Answered (λ (o : Change × List ℕ). AddSays a n p s (o .0) (o .1)) (λ o. saysChange (o .0)) addNumbers (λ o. o .1 ≡ a)
+  -- on a refusal the placement beside the answer is zeros
+  pub fetch :
+      (a : List ℕ) (n : ℕ) (out : List ℕ)
+      → Answered (λ (o : Fetched × List ℕ). FetchSays a n out (o .0) (o .1)) (λ o. saysFetch (o .0 .fetch)) (15 ∷ 22 ∷ 25 ∷ 26 ∷ [])
+      (λ o. _≡_ {A = List ℕ × List ℕ} (o .0 .at, o .1) (replicate copyLimit 0, out))
+  pub remove :
+      (a : List ℕ) (n : ℕ)
+      → Answered (λ (o : Change × List ℕ). RemoveSays a n (o .0) (o .1)) (λ o. saysChange (o .0)) (22 ∷ 25 ∷ 26 ∷ []) (λ o. o .1 ≡ a)
+  pub entry-from : (a : List ℕ) (from : ℕ) → Answered (EntrySays a from) saysListed (17 ∷ 26 ∷ []) Nothing
+  pub survey : (a : List ℕ) → Answered (SurveySays a) saysSurvey (26 ∷ []) Nothing
+
 -- ---- every call
 pub record Demand1 : Type 0 where
   pub read : AnswersLines ReadSays
@@ -138,6 +166,7 @@ pub record Demand1 : Type 0 where
   pub pieces :
       (t out : List ℕ)
       → Answered (λ (o : Write × List ℕ). PiecesSay t out (o .0) (o .1)) (λ o. saysWrite (o .0)) (15 ∷ 19 ∷ []) (λ o. o .1 ≡ out)
+  pub blocks : AnswersBlocks
 
 -- ======== demand 2
 
@@ -341,11 +370,32 @@ pub record Promises : Type 1 where
       → (t : Spelling) → wellSpelt t ≡ true → s ≡ print t → Reckoned t bs′ ns′
   pub composing : Composing
   pub declaring : Declaring
+  pub keeping : Keeping
 
 -- ======== the same over what a caller in C sees: the contracts of crate export. A number is 0 for a success, and else a refusal's.
 abbrev pub told : ℕ → Said (Unit {0})
 told zero = good tt
 told (suc n) = refuses (suc n) 0
+
+-- the calls over an area of blocks
+pub record AnswersBlocksC : Type 0 where
+  pub empty : (a : List ℕ) → Answered (λ (o : ℕ × List ℕ). EmptyHanded a (o .0) (o .1)) (λ o. told (o .0)) (26 ∷ []) (λ o. o .1 ≡ a)
+  pub add :
+      (a : List ℕ) (n : ℕ) (p s : List ℕ) (place : ℕ)
+      → Answered (λ (o : ℕ × ℕ × List ℕ). AddHanded a n p s place (o .0) (o .1) (o .2)) (λ o. told (o .0)) (13 ∷ addNumbers) (λ o. o .2 ≡ a)
+  pub fetch :
+      (a : List ℕ) (n : ℕ) (p out : List ℕ) (count : ℕ)
+      → Answered (λ (o : ℕ × List ℕ × List ℕ × ℕ). FetchHanded a n p out count (o .0) (o .1) (o .2) (o .3)) (λ o. told (o .0)) (13 ∷ 15 ∷ 22 ∷ 25 ∷ 26 ∷ [])
+      (λ o. (o .1 ≡ p) × (o .2 ≡ out))
+  pub remove : (a : List ℕ) (n : ℕ) → Answered (λ (o : ℕ × List ℕ). RemoveHanded a n (o .0) (o .1)) (λ o. told (o .0)) (22 ∷ 25 ∷ 26 ∷ []) (λ o. o .1 ≡ a)
+  pub entry :
+      (a : List ℕ) (from block entry : ℕ)
+      → Answered (λ (o : ℕ × ℕ × ℕ). HeadHanded (listedFrom a from) block entry (o .0) (o .1) (o .2)) (λ o. told (o .0)) (17 ∷ 26 ∷ [])
+      (λ o. (o .1 ≡ block) × (o .2 ≡ entry))
+  pub survey :
+      (a : List ℕ) (free first further other unsound : ℕ)
+      → Answered (λ (o : ℕ × (ℕ × ℕ) × (ℕ × ℕ × ℕ)). Surveyed (surveySaid a) free first further other unsound (o .0) (o .1 .0) (o .1 .1) (o .2 .0) (o .2 .1) (o .2 .2))
+      (λ o. told (o .0)) (26 ∷ []) (λ o. (o .1 ≡ (free, first)) × (o .2 ≡ (further, other, unsound)))
 
 -- demand 1, for every exported call: an outcome is the number, and everything lent as it is afterwards. A refusal leaves all as it was, but the place that it says.
 pub record Demand1C : Type 0 where
@@ -395,6 +445,7 @@ pub record Demand1C : Type 0 where
   pub composition :
       (t out : List ℕ) (count : ℕ)
       → Answered (λ (o : ℕ × ℕ × List ℕ). PiecesHanded t out count (o .0) (o .1) (o .2)) (λ o. told (o .0)) (15 ∷ 19 ∷ []) (λ o. o .2 ≡ out)
+  pub blocks : AnswersBlocksC
 
 -- demand 2
 -- a line that was read into areas, and m bytes of an output that were written from them

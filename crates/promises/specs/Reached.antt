@@ -26,7 +26,7 @@ use Rattle.placement_laws.specs.Lines.{kept-rising}
 use Rattle.calls.specs.Single.{elementAt}
 use Rattle.calls.specs.Reaching.{reachedBy, reachedAt, reachedSaid, ReachedSays}
 use Rattle.promises.specs.Promises.{Reaches, Declaring}
-use Rattle.promises.specs.Said.{not-both, same-good}
+use Rattle.basics.specs.Said.{not-both, same-good}
 
 matching : (t : Tables) (k : Bracket (Unit {0})) (x : ℕ) → In x (reached t k) ↔ ((x < length (sites t)) × (names t (k .places) x ≡ true))
 unfolding reached

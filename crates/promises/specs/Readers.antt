@@ -34,7 +34,8 @@ use Rattle.reader.proofs.Reading.{accepted-is}
 use Rattle.verdict.specs.Says.{VerdictSays}
 use Rattle.promises.specs.Promises.{meant, lineNumbers, Reader, ExactlyOne, Answered, Nothing, AnswersLines, TurnedAway, Holding, Accepting}
 use Rattle.promises.specs.Answering.{alone, among-numbers}
-use Rattle.promises.specs.Said.{not-both, same-number, same-place, read-same}
+use Rattle.basics.specs.Said.{not-both, same-number, same-place}
+use Rattle.promises.specs.Said.{read-same}
 
 -- ---- after a successful read
 pub record WasRead (s bs : List ℕ) (ns : List ℤ) (bs′ : List ℕ) (ns′ : List ℤ) : Type 0 where

@@ -19,22 +19,20 @@ use Rattle.scope.specs.declared.answers.Booked.{Booked}
 use Rattle.scope.specs.declared.answers.Booked.the-variants.{Done, Refused as bookedRefused}
 use Rattle.scope.specs.declared.answers.Shown.{Shown}
 use Rattle.scope.specs.declared.answers.Shown.the-variants.{Daltons, Missing, Refused as shownRefused}
+use Rattle.scope.specs.declared.answers.Change.{Change}
+use Rattle.scope.specs.declared.answers.Change.the-variants.{Made, Refused as changeRefused}
 use Rattle.scope.specs.Positions.{Found}
-use Rattle.scope.specs.Answers.{Said, good, refuses, met, aMass, lack, saysRead, saysWrite, saysCount, saysTotal, saysLookup, saysRequest, saysBooked, saysShown}
+use Rattle.basics.specs.Said.{not-both, same-good, same-number, same-place}
+use Rattle.scope.specs.Answers.{Said, good, refuses, met, aMass, lack, saysRead, saysWrite, saysCount, saysTotal, saysLookup, saysRequest, saysBooked, saysShown, saysChange}
+use Rattle.blocks.specs.declared.Fetch.{Fetch}
+use Rattle.blocks.specs.declared.Fetch.the-variants.{Line as fetchLine, Refused as fetchRefused}
+use Rattle.blocks.specs.declared.Listed.{Listed}
+use Rattle.blocks.specs.declared.Listed.the-variants.{Entry as listedEntry, Refused as listedRefused}
+use Rattle.blocks.specs.declared.Survey.{Survey}
+use Rattle.blocks.specs.declared.Survey.the-variants.{Blocks as surveyBlocks, Refused as surveyRefused}
+use Rattle.blocks.specs.Answers.{Head, Counts, saysFetch, saysListed, saysSurvey}
 
 -- ---- what is said
-pub not-both : {A : Type 0} {a : A} {n p : ℕ} → good a ≡ refuses n p → ⊥
-not-both e = let z : _≡_ {A = ℕ} 0 1 = cc in omega arith
-
-pub same-good : {A : Type 0} {a b : A} → _≡_ {A = Said A} (good a) (good b) → a ≡ b
-same-good e = cc
-
-pub same-number : {A : Type 0} {n p m q : ℕ} → _≡_ {A = Said A} (refuses n p) (refuses m q) → n ≡ m
-same-number e = cc
-
-pub same-place : {A : Type 0} {n p m q : ℕ} → _≡_ {A = Said A} (refuses n p) (refuses m q) → p ≡ q
-same-place e = cc
-
 -- a request that is met, or refused
 pub met-good : {A : Type 0} (a : Said A) → met a ≡ good tt → (x : A) × (a ≡ good x)
 met-good (good x) e = (x, refl)
@@ -110,3 +108,32 @@ shown-same (Missing m) (shownRefused n) e = absurd (not-both e)
 shown-same (shownRefused n) (Daltons b) e = absurd (not-both (sym e))
 shown-same (shownRefused n) (Missing m) e = absurd (not-both (sym e))
 shown-same (shownRefused n) (shownRefused m) e = ap shownRefused (same-number e)
+
+-- ---- over an area of blocks
+pub change-same : (x y : Change) → saysChange x ≡ saysChange y → x ≡ y
+change-same Made Made e = refl
+change-same Made (changeRefused n p) e = absurd (not-both e)
+change-same (changeRefused n p) Made e = absurd (not-both (sym e))
+change-same (changeRefused n p) (changeRefused m q) e = ap (λ k. changeRefused k p) (same-number e) ∙ ap (changeRefused m) (same-place e)
+
+pub fetch-same : (x y : Fetch) → saysFetch x ≡ saysFetch y → x ≡ y
+fetch-same (fetchLine m) (fetchLine n) e = ap fetchLine (same-good e)
+fetch-same (fetchLine m) (fetchRefused n p) e = absurd (not-both e)
+fetch-same (fetchRefused n p) (fetchLine m) e = absurd (not-both (sym e))
+fetch-same (fetchRefused n p) (fetchRefused m q) e = ap (λ k. fetchRefused k p) (same-number e) ∙ ap (fetchRefused m) (same-place e)
+
+pub listed-same : (x y : Listed) → saysListed x ≡ saysListed y → x ≡ y
+listed-same (listedEntry b n) (listedEntry c m) e =
+    let h : _≡_ {A = Head} (record { block = b; number = n }) (record { block = c; number = m }) = same-good e in
+    ap (λ z. listedEntry (z .block) (z .number)) h
+listed-same (listedEntry b n) (listedRefused m p) e = absurd (not-both e)
+listed-same (listedRefused m p) (listedEntry b n) e = absurd (not-both (sym e))
+listed-same (listedRefused n p) (listedRefused m q) e = ap (λ k. listedRefused k p) (same-number e) ∙ ap (listedRefused m) (same-place e)
+
+pub survey-same : (x y : Survey) → saysSurvey x ≡ saysSurvey y → x ≡ y
+survey-same (surveyBlocks f i u o n) (surveyBlocks g j v q m) e =
+    let h : _≡_ {A = Counts} (record { free = f; first = i; further = u; other = o; unsound = n }) (record { free = g; first = j; further = v; other = q; unsound = m }) = same-good e in
+    ap (λ z. surveyBlocks (z .free) (z .first) (z .further) (z .other) (z .unsound)) h
+survey-same (surveyBlocks f i u o n) (surveyRefused m p) e = absurd (not-both e)
+survey-same (surveyRefused m p) (surveyBlocks f i u o n) e = absurd (not-both (sym e))
+survey-same (surveyRefused n p) (surveyRefused m q) e = ap (λ k. surveyRefused k p) (same-number e) ∙ ap (surveyRefused m) (same-place e)

@@ -28,7 +28,8 @@ use Rattle.laws.specs.Demands as laws
 use Rattle.laws.specs.Proved.{demands}
 use Rattle.calls.specs.Says.{TotalSays, ShownSays, AllowedSays, LedgerSays}
 use Rattle.promises.specs.Promises.{meant, Reckoned}
-use Rattle.promises.specs.Said.{not-both, same-good, same-place, not-lack, same-lack}
+use Rattle.basics.specs.Said.{not-both, same-good, same-place}
+use Rattle.promises.specs.Said.{not-lack, same-lack}
 use Rattle.promises.specs.Readers.{WasRead, held-after}
 
 -- areas that every call takes

@@ -24,7 +24,7 @@ use Rattle.laws.specs.Proved.{demands}
 use Rattle.reader.specs.ReadSays.{ReadSays}
 use Rattle.calls.specs.Writing.{WriteSays}
 use Rattle.promises.specs.Promises.{Entered, Filed, Demand2}
-use Rattle.promises.specs.Said.{not-both, same-good}
+use Rattle.basics.specs.Said.{not-both, same-good}
 use Rattle.promises.specs.Readers.{WasRead, was-read, held-after}
 
 -- the line of areas that hold tables, where it fits

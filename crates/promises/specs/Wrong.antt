@@ -18,7 +18,7 @@ use Rattle.scope.specs.Layout.{bytesSize, numbersSize, bytesOf, numbersOf}
 use Rattle.scope.specs.Answers.{tooShort}
 use Rattle.grammar_laws.specs.Proved as spelled
 use Rattle.promises.specs.Promises.{Accepting, RefusesAll, OneTable}
-use Rattle.promises.specs.Said.{not-both}
+use Rattle.basics.specs.Said.{not-both}
 
 -- the line `A`, and what it holds
 abbrev letter : List ℕ

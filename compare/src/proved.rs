@@ -4,7 +4,7 @@
 use crate::line::Refusal;
 use crate::masses::Display;
 use hwemiduk::lent::outs;
-pub use hwemiduk::lent::{limits, Limits, Listing, Position, Site};
+pub use hwemiduk::lent::{limits, Limits, Listing, Position, Site, Survey};
 
 /// Two areas, of the sizes that the library names.
 pub fn areas() -> (Vec<u8>, Vec<i64>) {
@@ -156,4 +156,39 @@ pub fn first_row(rows: &[Site], n: usize, floater: u8) -> Result<(usize, Positio
 /// Moves a listing on to the next placement.
 pub fn next(bytes: &[u8], numbers: &[i64], listing: &mut Listing) -> Result<(), Refusal> {
     told(outs::next(bytes, numbers, listing))
+}
+
+/// Makes an empty area of blocks.
+pub fn blocks_empty(area: &mut [u8]) -> Result<(), Refusal> {
+    told(outs::blocks_empty(area))
+}
+
+/// Adds a line with a placement under a number.
+pub fn blocks_add(area: &mut [u8], number: u32, placement: &[Position], line: &[u8]) -> Result<(), Refusal> {
+    answer(outs::blocks_add(area, number, placement, line))
+}
+
+/// Fetches an entry into a placement and an output of any length: how long its line is.
+pub fn blocks_fetch(area: &[u8], number: u32, placement: &mut [Position], out: &mut [u8]) -> Result<usize, Refusal> {
+    written(outs::blocks_fetch(area, number, placement, out))
+}
+
+/// Removes an entry.
+pub fn blocks_remove(area: &mut [u8], number: u32) -> Result<(), Refusal> {
+    told(outs::blocks_remove(area, number))
+}
+
+/// The first sound first block from one on, and its number.
+pub fn blocks_entry(area: &[u8], from: usize) -> Result<(usize, u32), Refusal> {
+    let (answered, block, number) = outs::blocks_entry(area, from);
+    assert!(answered == 0 || (block, number) == (usize::MAX, outs::UNTOLD), "a refusal leaves both as they were");
+    told(answered).map(|()| (block, number))
+}
+
+/// How many blocks are of which sort.
+pub fn blocks_survey(area: &[u8]) -> Result<Survey, Refusal> {
+    let (answered, Survey { free, first, further, other, unsound }) = outs::blocks_survey(area);
+    let all = [free, first, further, other, unsound];
+    assert!(answered == 0 || all == [usize::MAX; 5], "a refusal leaves all counts as they were");
+    told(answered).map(|()| Survey { free, first, further, other, unsound })
 }

@@ -45,6 +45,8 @@ fn limits() {
         decimals: 6,
         bytes: 3 + 254 + 254 + 64 * (8 + 4 * 7 + 1 + 16) + 4096,
         numbers: 64 * 5,
+        block: 512,
+        blocks: 128,
     };
     assert_eq!(proved::limits(), expected);
     let (mut bytes, mut numbers) = proved::areas();

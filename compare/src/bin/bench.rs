@@ -8,6 +8,7 @@ use std::process::{Command, Stdio};
 use std::time::{Duration, Instant};
 
 use compare::areas::{decode, encode, tables_of_some_line};
+use compare::blocks::{self, BLOCK, MOST_BLOCKS};
 use compare::floating::{adversarial, nested};
 use compare::generate::{Generator, Random};
 use compare::line::Line;
@@ -37,6 +38,7 @@ fn main() {
         first(name, &held(&[line.into_bytes()]).iter().collect::<Vec<_>>());
     }
     requests();
+    full_area();
     program();
 }
 
@@ -237,6 +239,96 @@ fn requests() {
     }
     let (time, line) = worst;
     println!("slowest request on adversarial lines: {} ns, on {}", time.as_nanos(), &line[..line.len().min(60)]);
+}
+
+/// Calls over a full area of 128 blocks: typical lines, one to a block, and one line of 4,096 bytes in nine. Beside each call stands the independent code, and beside all of them one pass
+/// over the area that computes the sums of its blocks and does nothing else, which a call that needs every block to be sound cannot do without.
+fn full_area() {
+    let mut random = Random::new(3);
+    let mut area = vec![0; MOST_BLOCKS * BLOCK];
+    blocks::empty(&mut area).expect("whole blocks");
+    let longest = worst().into_iter().find(|(name, _)| *name == "texts of 128 bytes").expect("a line").1;
+    let longest: Vec<u8> = [&longest[..], &vec![b'A'; Line::LONGEST - longest.len()]].concat();
+    let mut lines = typical(MOST_BLOCKS);
+    lines.truncate(MOST_BLOCKS - 9);
+    for (number, line) in (0..).zip(&lines) {
+        let first = first_placement(&floaters(&reader::read(line).expect("an accepted line"))).expect("a placement");
+        blocks::add(&mut area, number, &first, line).expect("room");
+    }
+    let short = lines.len() as u32;
+    blocks::add(&mut area, short, &Placement::default(), &longest).expect("room for nine blocks");
+    assert_eq!(blocks::survey(&area).map(|survey| survey.free), Ok(0));
+    println!("a full area of 128 blocks: {short} typical lines, and one of 4,096 bytes");
+    println!("  {:<32} {:>12} {:>16} {:>8}", "call", "µs", "independent µs", "ratio");
+    let numbers: Vec<u32> = (0..CALLS).map(|_| random.below(short as usize) as u32).collect();
+    let (mut next, mut and_next) = (numbers.iter().cycle(), numbers.iter().cycle());
+    let (mut placement, mut out) = (Placement::default(), vec![0; Line::LONGEST]);
+    let (mut other_placement, mut other_out) = (placement, out.clone());
+    in_microseconds(
+        "fetch, a typical line",
+        || proved::blocks_fetch(&area, *next.next().unwrap(), &mut placement, &mut out).is_ok(),
+        || blocks::fetch(&area, *and_next.next().unwrap(), &mut other_placement, &mut other_out).is_ok(),
+    );
+    in_microseconds(
+        "fetch, 4,096 bytes",
+        || proved::blocks_fetch(&area, short, &mut placement, &mut out).is_ok(),
+        || blocks::fetch(&area, short, &mut other_placement, &mut other_out).is_ok(),
+    );
+    in_microseconds("fetch, no such entry", || proved::blocks_fetch(&area, short + 1, &mut placement, &mut out).is_err(), || {
+        blocks::fetch(&area, short + 1, &mut other_placement, &mut other_out).is_err()
+    });
+    // What a call changes is put back from the full area, or from one without the entry: its blocks alone.
+    for (name, number, line, from, many) in [("a typical line", short / 2, &lines[short as usize / 2], short as usize / 2, 1), ("4,096 bytes", short, &longest, short as usize, 9)] {
+        let own = from * BLOCK..(from + many) * BLOCK;
+        let first = first_placement(&floaters(&reader::read(line).expect("an accepted line"))).expect("a placement");
+        let mut without = area.clone();
+        blocks::remove(&mut without, number).expect("an entry");
+        let (mut ours, mut theirs) = (area.clone(), area.clone());
+        in_microseconds(
+            &format!("add, {name}"),
+            || {
+                ours[own.clone()].copy_from_slice(&without[own.clone()]);
+                proved::blocks_add(&mut ours, number, &first, line).is_ok()
+            },
+            || {
+                theirs[own.clone()].copy_from_slice(&without[own.clone()]);
+                blocks::add(&mut theirs, number, &first, line).is_ok()
+            },
+        );
+        assert!(ours == area && theirs == area);
+        in_microseconds(
+            &format!("remove, {name}"),
+            || {
+                ours[own.clone()].copy_from_slice(&area[own.clone()]);
+                proved::blocks_remove(&mut ours, number).is_ok()
+            },
+            || {
+                theirs[own.clone()].copy_from_slice(&area[own.clone()]);
+                blocks::remove(&mut theirs, number).is_ok()
+            },
+        );
+        assert!(ours == without && theirs == without);
+    }
+    in_microseconds("survey", || proved::blocks_survey(&area).is_ok(), || blocks::survey(&area).is_ok());
+    let (mut ours, mut theirs) = (area.clone(), area.clone());
+    in_microseconds("empty", || proved::blocks_empty(&mut ours).is_ok(), || blocks::empty(&mut theirs).is_ok());
+    let sums = || black_box(&area).chunks_exact(BLOCK).map(blocks::sum).fold(0, u32::wrapping_add) != 1;
+    in_microseconds("the sums of all blocks, alone", sums, sums);
+}
+
+/// One call by the library and by the independent code, in turns: the quickest round of each.
+fn in_microseconds(call: &str, mut ours: impl FnMut() -> bool, mut theirs: impl FnMut() -> bool) {
+    let (mut proved, mut independent) = (f64::MAX, f64::MAX);
+    for _ in 0..ROUNDS {
+        for (quickest, call) in [(&mut proved, &mut ours as &mut dyn FnMut() -> bool), (&mut independent, &mut theirs)] {
+            let start = Instant::now();
+            for _ in 0..CALLS / 10 {
+                assert!(black_box(call()));
+            }
+            *quickest = quickest.min(start.elapsed().as_nanos() as f64 / 1e3 / (CALLS / 10) as f64);
+        }
+    }
+    println!("  {call:<32} {proved:>12.2} {independent:>16.2} {:>8.2}", proved / independent);
 }
 
 /// The whole program on 300,000 typical lines, from a file to nowhere, beside the independent one: the quickest of five runs each.

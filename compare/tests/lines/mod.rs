@@ -179,11 +179,11 @@ fn asked(name: &str, otherwise: usize) -> usize {
     std::env::var(name).ok().and_then(|value| value.parse().ok()).unwrap_or(otherwise)
 }
 
-fn seeded(seed: u64) -> u64 {
+pub fn seeded(seed: u64) -> u64 {
     seed + 1_000 * asked("HWEMIDUK_SEED", 0) as u64
 }
 
-fn many(count: usize) -> usize {
+pub fn many(count: usize) -> usize {
     share(count * asked("HWEMIDUK_TIMES", 1))
 }
 

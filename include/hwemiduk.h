@@ -1,12 +1,12 @@
 /*
  * Hwemiduk: a register of peptidoforms, one molecule a line, in ProForma 2.1 notation.
  *
- * A line is read into two lent areas, one of bytes and one of numbers; the other calls take the tables in these areas. Every call answers a number: 0, or the
- * number of a refusal.
+ * A line is read into two lent areas, one of bytes and one of numbers; the other calls take the tables in these areas. A register of lines is kept in a lent area of
+ * blocks (hwemiduk_blocks_add). Every call answers a number: 0, or the number of a refusal.
  *
- * - What a caller lends to be written (areas, output, rows, entries, positions, a listing, single values) a refusal leaves exactly as it was, and success leaves as it was
- *   past what the call says it writes. Only a refusal sets *place; only a refusal with 15 sets *length.
- * - Any bytes and any numbers are answered: junk in the areas is refused with 14, a slice that is too short with 13.
+ * - What a caller lends to be written (areas, output, rows, entries, positions, a listing, blocks, a placement, single values) a refusal leaves exactly as it was, and success
+ *   leaves as it was past what the call says it writes. Only a refusal sets *place; only a refusal with 15 sets *length.
+ * - Any bytes and any numbers are answered: junk in the areas is refused with 14, a slice that is too short with 13, blocks that are damaged with 25.
  * - A slice passes as a pointer and the number of its elements, which must be there; slices may be longer than is asked for. NO POINTER MAY BE NULL, not even
  *   with a length of 0, and each is aligned as its type asks. What is written overlaps nothing else that is lent in the same call.
  * - Totals and ledgers are of the modifications only: the masses of the residues themselves are not in them.
@@ -16,7 +16,8 @@
  * may run at the same time, on areas of their own.
  *
  * Stack, in KiB, the most that is measured on lines and areas made to take much (tests/stack.c): hwemiduk_version, hwemiduk_limits, hwemiduk_composition and hwemiduk_first_row 1,
- * hwemiduk_verdict and hwemiduk_read 11, hwemiduk_entry 27, hwemiduk_ledger and hwemiduk_rows 20, every other call 16. Have 64 KiB free.
+ * hwemiduk_verdict and hwemiduk_read 11, hwemiduk_entry and hwemiduk_blocks_add 27, hwemiduk_ledger and hwemiduk_rows 20, hwemiduk_blocks_empty, hwemiduk_blocks_entry and hwemiduk_blocks_survey 1,
+ * hwemiduk_blocks_fetch and hwemiduk_blocks_remove 30, every other call 16. Have 64 KiB free.
  *
  * Link libhwemiduk.a or libhwemiduk.so.0 (`make`, `make install`; pkg-config hwemiduk). The number behind .so is raised when a struct here changes its form or its
  * size, when a size or a limit that a macro here names changes, when the tables lie otherwise in the areas, when a call changes its arguments, or when an answer's
@@ -61,7 +62,12 @@ enum hwemiduk_answer {
     HWEMIDUK_NO_FURTHER = 17,     /* no placement, no further one, no such row or bracket */
     HWEMIDUK_NOT_ALLOWED = 18,    /* a placement that is not allowed */
     HWEMIDUK_NO_CUTTING = 19,     /* a composition that cannot be cut into listed names and counts */
-    HWEMIDUK_DECLARED_INFO = 21   /* only INFO in a declaration */
+    HWEMIDUK_DECLARED_INFO = 21,  /* only INFO in a declaration */
+    HWEMIDUK_NO_ENTRY = 22,       /* no such entry */
+    HWEMIDUK_ENTRY_PRESENT = 23,  /* the entry is present already */
+    HWEMIDUK_NO_ROOM = 24,        /* fewer free sound blocks than are needed */
+    HWEMIDUK_DAMAGED = 25,        /* damaged: the entry's blocks are not as they should be, or none begins it and some block is unsound */
+    HWEMIDUK_NO_BLOCKS = 26       /* the area is not 1 to 128 whole blocks */
 };
 
 /* An answer in words. */
@@ -89,6 +95,11 @@ static inline const char *hwemiduk_words(uint8_t answer)
     case HWEMIDUK_NOT_ALLOWED: return "a placement that is not allowed";
     case HWEMIDUK_NO_CUTTING: return "a composition that cannot be cut into listed names and counts";
     case HWEMIDUK_DECLARED_INFO: return "only INFO in a declaration";
+    case HWEMIDUK_NO_ENTRY: return "no such entry";
+    case HWEMIDUK_ENTRY_PRESENT: return "the entry is present already";
+    case HWEMIDUK_NO_ROOM: return "fewer free sound blocks than are needed";
+    case HWEMIDUK_DAMAGED: return "damaged: the entry's blocks are not as they should be, or none begins it and some block is unsound";
+    case HWEMIDUK_NO_BLOCKS: return "the area is not 1 to 128 whole blocks";
     default: return "an answer that this header does not know";
     }
 }
@@ -106,6 +117,8 @@ static inline const char *hwemiduk_words(uint8_t answer)
 #define HWEMIDUK_ROWS (HWEMIDUK_COPIES * HWEMIDUK_POSITIONS)    /* rows of floater and position */
 #define HWEMIDUK_PIECES 42       /* pieces of a part's composition: a name has three bytes or more, and a text no more than 128 */
 #define HWEMIDUK_SUGARS 24       /* names that a composition is made of (hwemiduk_sugar) */
+#define HWEMIDUK_BLOCK 512       /* bytes of a block */
+#define HWEMIDUK_BLOCKS 128      /* blocks of an area at most */
 
 typedef struct hwemiduk_limits_t {
     size_t line;          /* bytes of a line, the end of line not counted */
@@ -125,6 +138,8 @@ typedef struct hwemiduk_limits_t {
     uint8_t decimals;     /* decimals of a mass or a score */
     size_t bytes;         /* the area of bytes: elements of uint8_t */
     size_t numbers;       /* the area of numbers: elements of int64_t, not bytes */
+    size_t block;         /* bytes of a block */
+    size_t blocks;        /* blocks of an area at most */
 } hwemiduk_limits_t;
 
 /* Writes all limits and sizes. */
@@ -403,6 +418,63 @@ uint8_t hwemiduk_rows(const uint8_t *bytes, size_t bytes_len, const int64_t *num
  * fewer than limits.rows rows are lent; or 17 where there is none. An n above limits.rows is read as limits.rows.
  */
 uint8_t hwemiduk_first_row(const hwemiduk_site *rows, size_t rows_len, size_t n, uint8_t floater, size_t *index, hwemiduk_position *position);
+
+/*
+ * ---- The register kept in blocks: entries by their numbers, in a lent area of 1 to HWEMIDUK_BLOCKS blocks of HWEMIDUK_BLOCK bytes. All of the slice is the area, and it may be
+ * kept in a file as it is. Any number of 32 bits may be an entry's.
+ *
+ * A block, to the byte; numbers have their low bytes first:
+ *   0          its kind (hwemiduk_block_kind)
+ *   1, 2       the used length: how many bytes of content it has, 0 to 500
+ *   3          the next block of its entry, blocks counted from 0, or 255 where there is none
+ *   4 to 7     the number of its entry
+ *   8 to 507   content, zero past the used length
+ *   508 to 511 the sum of (i + 1) times byte i, i from 0 to 507
+ * The content of an entry is its placement, a byte for each of limits.copies positions, and then its canonical line, over its blocks in a row; every block but its last is full.
+ * A free block holds zeros up to byte 507, apart from its kind and its next, which is 255.
+ *
+ * A block is sound where its sum is right and its next is in the area or 255. After one byte of an area that these calls have made changes, whichever it is, the entries with no block
+ * touched are fetched as before, and the touched one is refused with 25, as are numbers that no entry has. An entry is damaged (25) where two sound first blocks have its number; where
+ * from its sound first block on a block is unsound, of another kind than HWEMIDUK_BLOCK_FURTHER or of another number, or is met twice; where its content is not as said above, its line
+ * is not an accepted canonical one, or its placement is none that the line allows; and where no sound first block has its number while any block of the area is unsound. A damaged
+ * entry can be neither removed nor added again: fetch each entry that survives and add it to an empty area.
+ */
+enum hwemiduk_block_kind {
+    HWEMIDUK_BLOCK_FREE = 1,
+    HWEMIDUK_BLOCK_FIRST = 2,      /* the first of an entry */
+    HWEMIDUK_BLOCK_FURTHER = 3     /* a further one. A block of any other kind is never taken, and an entry that leads to one is damaged */
+};
+
+/* Makes an empty area, whatever it held: 0 with every block free; or 26. */
+uint8_t hwemiduk_blocks_empty(uint8_t *area, size_t area_len);
+
+/*
+ * Adds a line under a number, with one placement of it that is allowed (hwemiduk_next has them; of a longer slice the first entries count): 0 with the placement and the
+ * canonical line in the free blocks of lowest index, as many as they need. Or 13, if the placement has fewer than limits.copies entries, with 0 in *place; or what
+ * hwemiduk_verdict gives the line, with its place in *place; or, tried in this order, 18, 26, 25, 23 where the number has an entry, or 24, with 0 in *place.
+ */
+uint8_t hwemiduk_blocks_add(uint8_t *area, size_t area_len, uint32_t number, const hwemiduk_position *placement, size_t placement_len, const uint8_t *line,
+    size_t line_len, size_t *place);
+
+/*
+ * Fetches the entry with this number: 0 with its placement in the first limits.copies entries, its canonical line at the front of out, not ended by a zero, and the number of its
+ * bytes in *length; or 13, if the placement has fewer than limits.copies entries, 26, 25 or 22; or 15 with the length needed in *length. out may have any length; HWEMIDUK_LINE bytes
+ * are enough for each line.
+ */
+uint8_t hwemiduk_blocks_fetch(const uint8_t *area, size_t area_len, uint32_t number, hwemiduk_position *placement, size_t placement_len, uint8_t *out, size_t out_len,
+    size_t *length);
+
+/* Removes the entry with this number: 0 with its blocks free; or 26, 25 or 22. */
+uint8_t hwemiduk_blocks_remove(uint8_t *area, size_t area_len, uint32_t number);
+
+/*
+ * The first sound first block from block `from` on, blocks counted from 0: 0 with the block in *block and the number in it in *number; or 26, or 17 where there is none. Asked for
+ * again from *block + 1 on, it lists every entry that begins in a sound block; hwemiduk_blocks_fetch says which of them survive.
+ */
+uint8_t hwemiduk_blocks_entry(const uint8_t *area, size_t area_len, size_t from, size_t *block, uint32_t *number);
+
+/* Counts each block once: 0 with how many are sound and free, first, further, and of no such kind, and how many are unsound, whatever their kind; or 26. */
+uint8_t hwemiduk_blocks_survey(const uint8_t *area, size_t area_len, size_t *free, size_t *first, size_t *further, size_t *other, size_t *unsound);
 
 #ifdef __cplusplus
 }

@@ -30,6 +30,8 @@ int main(void)
     same("HWEMIDUK_ROWS", HWEMIDUK_ROWS, limits.rows);
     same("HWEMIDUK_BYTES", HWEMIDUK_BYTES, limits.bytes);
     same("HWEMIDUK_NUMBERS", HWEMIDUK_NUMBERS, limits.numbers);
+    same("HWEMIDUK_BLOCK", HWEMIDUK_BLOCK, limits.block);
+    same("HWEMIDUK_BLOCKS", HWEMIDUK_BLOCKS, limits.blocks);
     /* document 01's numbers for the limits that have no macro, which also show that the struct lies as the library writes it */
     same("text", 128, limits.text);
     same("label", 16, limits.label);
@@ -37,6 +39,9 @@ int main(void)
     same("count", 99, limits.count);
     same("size", 1000000, limits.size);
     same("decimals", 6, limits.decimals);
+    /* document 02's */
+    same("block", 512, limits.block);
+    same("blocks", 128, limits.blocks);
     /* the sizes that these give, and the structs, as crates/scope has them */
     same("letters", HWEMIDUK_LETTERS_AT, 3);
     same("sections", HWEMIDUK_SECTIONS_AT, 257);

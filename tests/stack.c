@@ -11,11 +11,12 @@
 #define SIZE (256 * 1024)
 #define PAINT 0xC3
 
-enum call { NOTHING, VERSION, LIMITS, VERDICT, READ, ENTRY, WRITE, RESIDUES, BRACKETS, FLOATERS, FLOATER_BRACKETS, TOTAL, BRACKET_MASS, SHOWN, ALLOWED, NEXT, LEDGER, ROWS, FIRST_ROW, COMPOSITION, REACHED, CALLS };
+enum call { NOTHING, VERSION, LIMITS, VERDICT, READ, ENTRY, WRITE, RESIDUES, BRACKETS, FLOATERS, FLOATER_BRACKETS, TOTAL, BRACKET_MASS, SHOWN, ALLOWED, NEXT, LEDGER, ROWS, FIRST_ROW, COMPOSITION, REACHED, BLOCKS_EMPTY,
+    BLOCKS_ADD, BLOCKS_FETCH, BLOCKS_REMOVE, BLOCKS_ENTRY, BLOCKS_SURVEY, CALLS };
 static const char *const names[CALLS] = { "nothing", "version", "limits", "verdict", "read", "entry", "write", "residues", "brackets", "floaters", "floater_brackets", "total", "bracket_mass", "shown", "allowed", "next",
-    "ledger", "rows", "first_row", "composition", "reached" };
+    "ledger", "rows", "first_row", "composition", "reached", "blocks_empty", "blocks_add", "blocks_fetch", "blocks_remove", "blocks_entry", "blocks_survey" };
 /* in KiB, as the header says */
-static const size_t said[CALLS] = { 0, 1, 1, 11, 11, 27, 16, 16, 16, 16, 16, 16, 16, 16, 16, 16, 20, 20, 1, 1, 16 };
+static const size_t said[CALLS] = { 0, 1, 1, 11, 11, 27, 16, 16, 16, 16, 16, 16, 16, 16, 16, 16, 20, 20, 1, 1, 16, 1, 27, 30, 30, 1, 1 };
 static size_t most[CALLS];
 
 static _Alignas(64) unsigned char stack[SIZE];
@@ -26,7 +27,11 @@ static size_t length;
 static hwemiduk_tables tables;
 static hwemiduk_site rows[HWEMIDUK_ROWS];
 static hwemiduk_position placement[HWEMIDUK_COPIES], positions[HWEMIDUK_POSITIONS];
+static const hwemiduk_position zeros[HWEMIDUK_COPIES];
 static int64_t entries[HWEMIDUK_POSITIONS];
+/* Nearly full of entries of one block, with room for the longest line. */
+static uint8_t area[HWEMIDUK_BLOCKS * HWEMIDUK_BLOCK];
+#define OTHERS (HWEMIDUK_BLOCKS - 9)
 static uint8_t entry[HWEMIDUK_ENTRY], out[HWEMIDUK_LINE], of[HWEMIDUK_COPIES], copy[HWEMIDUK_COPIES];
 
 static void run(void)
@@ -38,6 +43,8 @@ static void run(void)
     static int64_t total;
     static double daltons;
     static hwemiduk_position position;
+    static size_t counts[5];
+    static uint32_t number;
     switch (current) {
     case VERSION: hwemiduk_version(); break;
     case LIMITS: hwemiduk_limits(&limits); break;
@@ -63,6 +70,16 @@ static void run(void)
     case FIRST_ROW: hwemiduk_first_row(rows, HWEMIDUK_ROWS, HWEMIDUK_ROWS, 9, &index, &position); break;
     case COMPOSITION: hwemiduk_composition(line, length, out, sizeof out, &place); break;
     case REACHED: hwemiduk_reached(HWEMIDUK_OF(&tables), 0, positions, HWEMIDUK_POSITIONS, &place); break;
+    case BLOCKS_EMPTY: hwemiduk_blocks_empty(area, sizeof area); break;
+    case BLOCKS_ADD:
+        for (uint32_t k = 0; k < OTHERS; k++)
+            hwemiduk_blocks_add(area, sizeof area, k, zeros, HWEMIDUK_COPIES, (const uint8_t *)"A", 1, &place);
+        hwemiduk_blocks_add(area, sizeof area, UINT32_MAX, placement, HWEMIDUK_COPIES, line, length, &place);
+        break;
+    case BLOCKS_FETCH: hwemiduk_blocks_fetch(area, sizeof area, UINT32_MAX, positions, HWEMIDUK_POSITIONS, out, sizeof out, &place); break;
+    case BLOCKS_REMOVE: hwemiduk_blocks_remove(area, sizeof area, UINT32_MAX); break;
+    case BLOCKS_ENTRY: hwemiduk_blocks_entry(area, sizeof area, HWEMIDUK_BLOCKS - 1, &place, &number); break;
+    case BLOCKS_SURVEY: hwemiduk_blocks_survey(area, sizeof area, counts, counts + 1, counts + 2, counts + 3, counts + 4); break;
     default: break;
     }
 }

@@ -95,7 +95,7 @@ int main(void)
     same("C-terminus", 0, HWEMIDUK_C_TERMINUS, 2);
 
     /* there is no answer 20 */
-    for (int answer = 1; answer <= HWEMIDUK_DECLARED_INFO; answer++)
+    for (int answer = 1; answer <= HWEMIDUK_NO_BLOCKS; answer++)
         if (answer != 20)
             printf("%d\t%s\n", answer, hwemiduk_words((uint8_t)answer));
     same("unknown answers", 20, strcmp(hwemiduk_words(20), hwemiduk_words(255)), 0);

@@ -374,6 +374,47 @@ static void accepted(uint8_t *bytes, int64_t *numbers)
     changed(bytes, numbers);
 }
 
+/*
+ * The line kept in blocks under its number, with its first placement, in an area of just as many blocks as it needs: what is fetched is its canonical line, and removing it gives the
+ * area that was. A line that is refused with this at that place, and one without a placement, is refused here too, and changes no block.
+ */
+static void kept(const uint8_t *line, size_t length, uint8_t *bytes, int64_t *numbers, uint8_t refusal, size_t at)
+{
+    const size_t size = limits.copies * sizeof(hwemiduk_position);
+    hwemiduk_position *placement = (hwemiduk_position *)room(size), *again = (hwemiduk_position *)room(size);
+    hwemiduk_listing listing = HWEMIDUK_LISTING;
+    size_t written = 0, place, fetched = JUNK;
+    uint8_t *out = (uint8_t *)room(limits.line), expected = refusal;
+    if (refusal == HWEMIDUK_OK) {
+        expect(hwemiduk_read(line, length, TABLES, &place) == HWEMIDUK_OK && hwemiduk_write(TABLES, out, limits.line, &written) == HWEMIDUK_OK, "a line is read and written again");
+        if (hwemiduk_next(TABLES, &listing) != HWEMIDUK_OK)
+            expected = HWEMIDUK_NOT_ALLOWED;
+    }
+    memcpy(placement, listing.at, size);
+    size_t area_len = (written == 0 ? 1 : (limits.copies + written + limits.block - 13) / (limits.block - 12)) * limits.block;
+    uint8_t *area = (uint8_t *)room(area_len), *before = (uint8_t *)room(area_len), *line_again = (uint8_t *)room(written);
+    expect(hwemiduk_blocks_empty(area, area_len) == HWEMIDUK_OK, "an empty area is made");
+    memcpy(before, area, area_len);
+    uint32_t number = (uint32_t)line_number;
+    place = JUNK;
+    expect(hwemiduk_blocks_add(area, area_len, number, placement, limits.copies, line, length, &place) == expected, "a line is kept, or not");
+    expect(place == (expected == HWEMIDUK_OK ? JUNK : refusal == HWEMIDUK_OK ? 0 : at), "the place of its refusal");
+    if (expected == HWEMIDUK_OK) {
+        expect(hwemiduk_blocks_fetch(area, area_len, number, again, limits.copies, line_again, written, &fetched) == HWEMIDUK_OK && fetched == written, "it is fetched");
+        expect(memcmp(line_again, out, written) == 0 && memcmp(again, placement, size) == 0, "what is fetched is the canonical line, with its placement");
+        expect(hwemiduk_blocks_add(area, area_len, number, placement, limits.copies, line, length, &place) == HWEMIDUK_ENTRY_PRESENT && place == 0, "it is there already");
+        expect(hwemiduk_blocks_remove(area, area_len, number) == HWEMIDUK_OK, "it is removed");
+    }
+    expect(memcmp(area, before, area_len) == 0, "the area is what it was");
+    expect(hwemiduk_blocks_fetch(area, area_len, number, again, limits.copies, line_again, written, &fetched) == HWEMIDUK_NO_ENTRY, "it is there no more");
+    free(line_again);
+    free(before);
+    free(area);
+    free(out);
+    free(again);
+    free(placement);
+}
+
 static void take(const uint8_t *start, size_t length)
 {
     uint8_t *line = (uint8_t *)room(length);
@@ -391,6 +432,7 @@ static void take(const uint8_t *start, size_t length)
         refused(line, length, bytes, numbers);
     }
     entry(line, length);
+    kept(line, length, bytes, numbers, refusal, place);
     fwrite(printed, 1, printed_length, stdout);
     free(numbers);
     free(bytes);

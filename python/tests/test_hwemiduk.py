@@ -579,6 +579,8 @@ class LimitsOfLines(unittest.TestCase):
                 "decimals": 6,
                 "bytes": 7999,
                 "numbers": 320,
+                "block": 512,
+                "blocks": 128,
             },
         )
 

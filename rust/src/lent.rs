@@ -2,7 +2,7 @@
 //!
 //! A line is read into two areas, one of bytes and one of numbers; the other calls take the tables in these areas. What is lent to be written a refusal leaves
 //! exactly as it was, and success leaves as it was past what the call says it writes. Any content is answered: junk in the areas is refused with 14, a slice that is too
-//! short with 13. Slices may be longer than is asked for.
+//! short with 13, blocks that are damaged with 25. Slices may be longer than is asked for; but of an area of blocks all of the slice is the area.
 //!
 //! ```
 //! use hwemiduk::lent::{self, Listing, BYTES, NUMBERS};
@@ -51,6 +51,10 @@ pub const SUGARS: [&str; 24] = [
     "Hex", "HexNAc", "HexS", "HexP", "HexNAcS", "HexN", "HexNS", "dHex", "aHex", "en,aHex", "Neu", "NeuAc",
     "NeuGc", "Sug", "Tri", "Tet", "Pen", "Hep", "Oct", "Non", "Dec", "Fuc", "Sulfate", "Phosphate",
 ];
+/// Bytes of a block.
+pub const BLOCK: usize = 512;
+/// Blocks of an area at most.
+pub const BLOCKS: usize = 128;
 /// The area of bytes.
 pub const BYTES: usize = layout::TEXTS_AT + LINE;
 /// The area of numbers.
@@ -154,6 +158,10 @@ pub struct Limits {
     pub bytes: usize,
     /// The area of numbers.
     pub numbers: usize,
+    /// Bytes of a block.
+    pub block: usize,
+    /// Blocks of an area at most.
+    pub blocks: usize,
 }
 
 /// The total for display: either a mass or how many have none.
@@ -163,6 +171,21 @@ pub enum Shown {
     Daltons(f64),
     /// So many modifications have no mass, each copy counted, and each position that a declaration reaches.
     Missing(usize),
+}
+
+/// How many blocks of an area are of which sort: each is counted once.
+#[derive(Clone, Copy, Debug, Default, PartialEq, Eq, Hash)]
+pub struct Survey {
+    /// Sound and free.
+    pub free: usize,
+    /// Sound, and the first of an entry.
+    pub first: usize,
+    /// Sound, and a further one of an entry.
+    pub further: usize,
+    /// Sound, and of no such kind.
+    pub other: usize,
+    /// Not sound, whatever their kind.
+    pub unsound: usize,
 }
 
 /// The version of the library: 10000 times its first number, 100 times its second, and its third.
@@ -314,6 +337,55 @@ pub fn reached(bytes: &[u8], numbers: &[i64], bracket: usize, positions: &mut [P
     answer(number, 0, count)
 }
 
+/// Makes an empty area of 1 to [`BLOCKS`] blocks of [`BLOCK`] bytes, whatever it held; or 26.
+///
+/// ```
+/// use hwemiduk::lent::{self, BLOCK, COPIES, LINE};
+///
+/// let (mut area, mut placement, mut out) = ([0; 8 * BLOCK], [0; COPIES], [0; LINE]);
+/// lent::blocks_empty(&mut area)?;
+/// lent::blocks_add(&mut area, 17, &[1, 2, 0, 0, 0, 0, 0, 0], b"[+01]^2?ac")?;
+/// let length = lent::blocks_fetch(&area, 17, &mut placement, &mut out)?;
+/// assert_eq!((&out[..length], placement), (&b"[+1]^2?AC"[..], [1, 2, 0, 0, 0, 0, 0, 0]));
+/// area[100] ^= 1;
+/// assert_eq!(lent::blocks_fetch(&area, 17, &mut placement, &mut out).unwrap_err().number(), 25);
+/// # Ok::<(), hwemiduk::Refusal>(())
+/// ```
+pub fn blocks_empty(area: &mut [u8]) -> Result<(), Refusal> {
+    answer(outs::blocks_empty(area), 0, ())
+}
+
+/// Adds a line under a number, with an allowed placement of which the first [`COPIES`] entries count: 13, what [`verdict`] says, 18, 26, 25, 23 where the number has an entry, 24.
+/// The canonical line is kept, in the free blocks of lowest index.
+pub fn blocks_add(area: &mut [u8], number: u32, placement: &[Position], line: &[u8]) -> Result<(), Refusal> {
+    let (answered, place) = outs::blocks_add(area, number, placement, line);
+    answer(answered, place, ())
+}
+
+/// Fetches an entry: writes its placement into the first [`COPIES`] entries and its canonical line into an output of any length, and answers how many bytes it has; or 13, 26, 25,
+/// 22; or 15, with the length needed as its place. [`LINE`] bytes are enough.
+pub fn blocks_fetch(area: &[u8], number: u32, placement: &mut [Position], out: &mut [u8]) -> Result<usize, Refusal> {
+    let (answered, length) = outs::blocks_fetch(area, number, placement, out);
+    answer(answered, if answered == 15 { length } else { 0 }, length)
+}
+
+/// Removes an entry, whose blocks are then free; or 26, 25, 22.
+pub fn blocks_remove(area: &mut [u8], number: u32) -> Result<(), Refusal> {
+    answer(outs::blocks_remove(area, number), 0, ())
+}
+
+/// The first sound first block from one on, blocks counted from 0, and the number in it; or 26, or 17 where there is none.
+pub fn blocks_entry(area: &[u8], from: usize) -> Result<(usize, u32), Refusal> {
+    let (answered, block, number) = outs::blocks_entry(area, from);
+    answer(answered, 0, (block, number))
+}
+
+/// How many blocks are of which sort; or 26.
+pub fn blocks_survey(area: &[u8]) -> Result<Survey, Refusal> {
+    let (answered, survey) = outs::blocks_survey(area);
+    answer(answered, 0, survey)
+}
+
 fn answer<T>(number: u8, place: usize, value: T) -> Result<T, Refusal> {
     match number {
         0 => Ok(value),
@@ -463,6 +535,55 @@ pub mod outs {
         let number = unsafe { hwemiduk_first_row(rows.as_ptr(), rows.len(), n, floater, &mut index, &mut position) };
         (number, index, position)
     }
+
+    /// The number.
+    pub fn blocks_empty(area: &mut [u8]) -> u8 {
+        unsafe { hwemiduk_blocks_empty(area.as_mut_ptr(), area.len()) }
+    }
+
+    /// The number of the answer and the place.
+    pub fn blocks_add(area: &mut [u8], number: u32, placement: &[Position], line: &[u8]) -> (u8, usize) {
+        let mut place = usize::MAX;
+        let (placement, placement_len) = (placement.as_ptr(), placement.len());
+        let answered = unsafe {
+            hwemiduk_blocks_add(area.as_mut_ptr(), area.len(), number, placement, placement_len, line.as_ptr(), line.len(), &mut place)
+        };
+        (answered, place)
+    }
+
+    /// The number of the answer and the length.
+    pub fn blocks_fetch(area: &[u8], number: u32, placement: &mut [Position], out: &mut [u8]) -> (u8, usize) {
+        let mut length = usize::MAX;
+        let (placement, placement_len) = (placement.as_mut_ptr(), placement.len());
+        let answered = unsafe {
+            hwemiduk_blocks_fetch(area.as_ptr(), area.len(), number, placement, placement_len, out.as_mut_ptr(), out.len(), &mut length)
+        };
+        (answered, length)
+    }
+
+    /// The number of the answer.
+    pub fn blocks_remove(area: &mut [u8], number: u32) -> u8 {
+        unsafe { hwemiduk_blocks_remove(area.as_mut_ptr(), area.len(), number) }
+    }
+
+    /// The number of the answer, the block, and the entry's number, of which every value may be answered: [`UNTOLD`] before the call.
+    pub fn blocks_entry(area: &[u8], from: usize) -> (u8, usize, u32) {
+        let (mut block, mut number) = (usize::MAX, UNTOLD);
+        let answered = unsafe { hwemiduk_blocks_entry(area.as_ptr(), area.len(), from, &mut block, &mut number) };
+        (answered, block, number)
+    }
+
+    /// What a number of an entry is before [`blocks_entry`] tells it.
+    pub const UNTOLD: u32 = 0xa5c3_965a;
+
+    /// The number of the answer, and the counts.
+    pub fn blocks_survey(area: &[u8]) -> (u8, Survey) {
+        let junk = usize::MAX;
+        let mut told = Survey { free: junk, first: junk, further: junk, other: junk, unsound: junk };
+        let Survey { free, first, further, other, unsound } = &mut told;
+        let answered = unsafe { hwemiduk_blocks_survey(area.as_ptr(), area.len(), free, first, further, other, unsound) };
+        (answered, told)
+    }
 }
 
 // The calls as include/hwemiduk.h declares them.
@@ -492,4 +613,13 @@ extern "C" {
     fn hwemiduk_reached(bytes: *const u8, bytes_len: usize, numbers: *const i64, numbers_len: usize, bracket: usize, positions: *mut Position,
         positions_len: usize, count: *mut usize) -> u8;
     fn hwemiduk_first_row(rows: *const Site, rows_len: usize, n: usize, floater: u8, index: *mut usize, position: *mut Position) -> u8;
+    fn hwemiduk_blocks_empty(area: *mut u8, area_len: usize) -> u8;
+    fn hwemiduk_blocks_add(area: *mut u8, area_len: usize, number: u32, placement: *const Position, placement_len: usize, line: *const u8, line_len: usize,
+        place: *mut usize) -> u8;
+    fn hwemiduk_blocks_fetch(area: *const u8, area_len: usize, number: u32, placement: *mut Position, placement_len: usize, out: *mut u8, out_len: usize,
+        length: *mut usize) -> u8;
+    fn hwemiduk_blocks_remove(area: *mut u8, area_len: usize, number: u32) -> u8;
+    fn hwemiduk_blocks_entry(area: *const u8, area_len: usize, from: usize, block: *mut usize, number: *mut u32) -> u8;
+    fn hwemiduk_blocks_survey(area: *const u8, area_len: usize, free: *mut usize, first: *mut usize, further: *mut usize, other: *mut usize,
+        unsound: *mut usize) -> u8;
 }

@@ -21,6 +21,8 @@
 //!
 //! Totals, shifts and ledgers are of the modifications only: the residues' own masses are not in them.
 //!
+//! A register of entries is kept in [`Blocks`].
+//!
 //! [`lent`] has the library's own calls, over slices that the caller lends: it takes no heap, and needs no `std` (`default-features = false`).
 #![cfg_attr(not(feature = "std"), no_std)]
 #![deny(missing_docs, unsafe_code)]
@@ -30,13 +32,17 @@ pub mod lent;
 mod refusal;
 
 #[cfg(feature = "std")]
+mod blocks;
+#[cfg(feature = "std")]
 mod peptidoform;
 #[cfg(feature = "std")]
 mod tables;
 
-pub use lent::{Position, SUGARS};
+pub use lent::{Position, Survey, SUGARS};
 pub use refusal::{Missing, Refusal, Show, WORDS};
 
+#[cfg(feature = "std")]
+pub use blocks::{Blocks, Entry};
 #[cfg(feature = "std")]
 pub use peptidoform::{entry, Peptidoform, Placement, Placements};
 #[cfg(feature = "std")]

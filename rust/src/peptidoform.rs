@@ -195,6 +195,17 @@ impl Peptidoform {
         entries.truncate(held(lent::residues(&tables.bytes, &tables.numbers)) + 2);
         Ok(entries)
     }
+
+    /// A placement of this line as the library takes it.
+    pub(crate) fn lent_placement(&self, placement: &[Position]) -> [Position; COPIES] {
+        lend(&self.tables(), placement)
+    }
+
+    /// A placement of this line out of what the library hands out.
+    pub(crate) fn placed(&self, at: [Position; COPIES]) -> Placement {
+        let tables = self.tables();
+        Placement { at, floaters: held(lent::floaters(&tables.bytes, &tables.numbers)) }
+    }
 }
 
 /// What the register prints of a line with this number, without its end of line. A refused line has an entry too.

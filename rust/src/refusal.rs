@@ -3,7 +3,7 @@
 use core::fmt::{self, Display, Formatter};
 
 /// Each refusal in words: that of number n is at n - 1. No refusal has the number 20: its words are empty.
-pub const WORDS: [&str; 21] = [
+pub const WORDS: [&str; 26] = [
     "the line is empty",
     "the line is longer than 4,096 bytes",
     "a byte outside 32 to 126",
@@ -25,6 +25,11 @@ pub const WORDS: [&str; 21] = [
     "a composition that cannot be cut into listed names and counts",
     "",
     "only INFO in a declaration",
+    "no such entry",
+    "the entry is present already",
+    "fewer free sound blocks than are needed",
+    "damaged: the entry's blocks are not as they should be, or none begins it and some block is unsound",
+    "the area is not 1 to 128 whole blocks",
 ];
 
 /// Refusals 1 to 12, 19 and 21 are of a line, and their place is one in the line.
@@ -44,7 +49,7 @@ impl Refusal {
         Self { number, place }
     }
 
-    /// The number, 1 to 19 or 21: [`words`](Self::words) says what it means.
+    /// The number, 1 to 19 or 21 to 26: [`words`](Self::words) says what it means.
     pub const fn number(&self) -> u8 {
         self.number
     }

@@ -324,6 +324,7 @@ fn what_the_types_are() {
     fn told<T: Error + Send + Sync + Copy + 'static>() {}
     shared::<Peptidoform>();
     shared::<Placements>();
+    shared::<hwemiduk::Blocks>();
     ended::<Placements>();
     told::<Refusal>();
     told::<Missing>();

@@ -2,7 +2,7 @@
 #![forbid(unsafe_code)]
 
 use hwemiduk::lent::{
-    self, Limits, Listing, Shown, Site, BRACKETS, BYTES, COPIES, DECLARATIONS, LINE, NUMBERS, PARTS, PIECES, PLACES, POSITIONS, RESIDUES, ROWS,
+    self, Limits, Listing, Shown, Site, BLOCK, BLOCKS, BRACKETS, BYTES, COPIES, DECLARATIONS, LINE, NUMBERS, PARTS, PIECES, PLACES, POSITIONS, RESIDUES, ROWS,
 };
 use hwemiduk::Refusal;
 
@@ -30,6 +30,8 @@ fn constants_are_the_library_s() {
         positions: POSITIONS,
         bytes: BYTES,
         numbers: NUMBERS,
+        block: BLOCK,
+        blocks: BLOCKS,
         ..lent::limits()
     };
     assert_eq!(lent::limits(), expected);

@@ -19,6 +19,13 @@ A line that is refused raises a Refusal, a ValueError with a number, a place and
 Traceback (most recent call last):
 hwemiduk.Refusal: 9 at 2: prefix U or M with a name of digits only
 
+A register of entries is kept in a Store.
+
+>>> store = Store(blocks=8)
+>>> store.add(17, "[+1]^2?ac")
+>>> store[17]
+Entry(placement=(1, 2), line='[+1]^2?AC')
+
 A peptidoform pickles, so many lines are best read by several processes (`multiprocessing`); threads are safe and no quicker.
 
 The library is the file that HWEMIDUK_LIBRARY names; or libhwemiduk.so beside this package, where `pip install ./python` puts it; or, in the repository,
@@ -28,6 +35,7 @@ target/lib/libhwemiduk.so, which bin/build-shared links.
 from ._library import LIMITS, Limits, library_version
 from ._peptidoform import Line, Peptidoform, entry, read, read_lines
 from ._refusals import WORDS, Refusal
+from ._store import Block, Entry, Store, Survey
 from ._tables import SUGARS, Bracket, Declaration, Floater, Key, Kind, Label, Number, Part, Section, composition
 
 __version__ = "0.1.0"
@@ -36,8 +44,10 @@ __all__ = [
     "LIMITS",
     "SUGARS",
     "WORDS",
+    "Block",
     "Bracket",
     "Declaration",
+    "Entry",
     "Floater",
     "Key",
     "Kind",
@@ -49,6 +59,8 @@ __all__ = [
     "Peptidoform",
     "Refusal",
     "Section",
+    "Store",
+    "Survey",
     "__version__",
     "composition",
     "entry",

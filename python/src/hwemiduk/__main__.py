@@ -1,4 +1,4 @@
-"""python -m hwemiduk check|show|table: lines checked, one line shown, a table of lines for a spreadsheet.
+"""python -m hwemiduk check|show|table|store: lines checked, one line shown, a table of lines for a spreadsheet, a register of lines kept in a file.
 
 Status: 0 every line accepted; 1 some refused; 2 trouble.
 """
@@ -9,38 +9,10 @@ import argparse
 import csv
 import os
 import sys
-from contextlib import contextmanager
-from typing import BinaryIO, Iterator, List, Optional
+from typing import List, Optional
 
-from . import Bracket, Kind, Peptidoform, Refusal, __version__, read_lines
-
-ACCEPTED, REFUSED, TROUBLE = 0, 1, 2
-
-
-class _Trouble(Exception):
-    """What is said before the program ends with status 2."""
-
-
-@contextmanager
-def _opened(name: str) -> Iterator[BinaryIO]:
-    """A file that is open for bytes; `-` is standard input. What goes wrong with it, and with nothing else, is trouble with that name."""
-    if name == "-":
-        yield sys.stdin.buffer
-        return
-    try:
-        file = open(name, "rb")
-    except OSError as error:
-        raise _Trouble(f"{name}: {error.strerror}") from None
-    with file:
-        yield file
-
-
-def _lines(name: str, file: BinaryIO) -> Iterator[bytes]:
-    """The lines of a file. One that cannot be read to its end is trouble."""
-    try:
-        yield from file
-    except OSError as error:
-        raise _Trouble(f"{name}: it cannot be read to its end: {error.strerror}") from None
+from . import Bracket, Kind, Peptidoform, Refusal, __version__, _store_command, read_lines
+from ._console import ACCEPTED, REFUSED, TROUBLE, Trouble, hinted, lines, marked, opened
 
 
 def check(names: List[str], crlf: bool) -> int:
@@ -48,14 +20,14 @@ def check(names: List[str], crlf: bool) -> int:
     status = ACCEPTED
     for name in names:
         accepted = refused = 0
-        with _opened(name) as file:
-            for line in read_lines(_lines(name, file), crlf):
+        with opened(name) as file:
+            for line in read_lines(lines(name, file), crlf):
                 if line.refusal is None:
                     accepted += 1
                     continue
                 refused += 1
-                print(f"{name}:{line.number}:{line.refusal.column}: {line.refusal.number}: {line.refusal.words}{_hinted(line.refusal)}")
-                print("\n".join("    " + shown for shown in line.refusal.show().split("\n")))
+                print(f"{name}:{line.number}:{line.refusal.column}: {line.refusal.number}: {line.refusal.words}{hinted(line.refusal)}")
+                print(marked(line.refusal))
         sys.stdout.flush()
         total = accepted + refused
         print(f"hwemiduk: {name}: {total} line{'s' * (total != 1)}, {accepted} accepted, {refused} refused", file=sys.stderr)
@@ -63,17 +35,13 @@ def check(names: List[str], crlf: bool) -> int:
     return status
 
 
-def _hinted(refusal: Refusal) -> str:
-    return f" ({refusal.hint})" if refusal.hint else ""
-
-
 def show(line: str) -> int:
     """Prints what a line holds, and where its declarations stand and its floating copies may stand."""
     try:
         p = Peptidoform(os.fsencode(line))
     except Refusal as refusal:
-        print(f"refused: {refusal}{_hinted(refusal)}")
-        print("\n".join("    " + shown for shown in refusal.show().split("\n")))
+        print(f"refused: {refusal}{hinted(refusal)}")
+        print(marked(refusal))
         return REFUSED
     print(f"canonical line: {p}")
     print(f"residues: {len(p.residues)}")
@@ -114,8 +82,8 @@ def table(names: List[str], crlf: bool) -> int:
     rows = csv.writer(sys.stdout, lineterminator="\n")
     rows.writerow(COLUMNS)
     for name in names:
-        with _opened(name) as file:
-            for line in read_lines(_lines(name, file), crlf):
+        with opened(name) as file:
+            for line in read_lines(lines(name, file), crlf):
                 begin = (name, line.number, line.raw.decode("ascii", "backslashreplace"))
                 p = line.peptidoform
                 if p is None:
@@ -139,15 +107,18 @@ def main(arguments: Optional[List[str]] = None) -> int:
         command.add_argument("--crlf", action="store_true", help="a line may end in CR LF")
     one = commands.add_parser("show", help="print what a line holds, and where its modifications stand or may stand")
     one.add_argument("line")
+    _store_command.add_to(commands)
     given = parser.parse_args(arguments)
     try:
         if given.command == "show":
             status = show(given.line)
+        elif given.command == "store":
+            status = given.run(given)
         else:
             status = {"check": check, "table": table}[given.command](given.file, given.crlf)
         sys.stdout.flush()
         return status
-    except _Trouble as trouble:
+    except Trouble as trouble:
         words = str(trouble)
     except OSError as error:
         words = f"the output could not be written: {error.strerror}"

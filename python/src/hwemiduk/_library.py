@@ -82,6 +82,10 @@ class Limits:
     bytes: int
     #: the lent area of numbers
     numbers: int
+    #: bytes of a block
+    block: int
+    #: blocks of an area at most
+    blocks: int
 
 
 class _Limits(ctypes.Structure):
@@ -113,6 +117,7 @@ class Listing(ctypes.Structure):
 
 # A line passes as bytes; all else that is lent as an address, which costs least to pass on.
 _tables = (c_void_p, c_size_t, c_void_p, c_size_t)
+_area = (c_void_p, c_size_t)
 for _name, _arguments in {
     "read": (c_char_p, c_size_t, *_tables, c_void_p),
     "write": (*_tables, c_void_p, c_size_t, c_void_p),
@@ -128,6 +133,12 @@ for _name, _arguments in {
     "rows": (*_tables, POINTER(Site), c_size_t, c_void_p),
     "composition": (c_char_p, c_size_t, POINTER(c_uint8), c_size_t, POINTER(c_size_t)),
     "reached": (*_tables, c_size_t, POINTER(Position), c_size_t, c_void_p),
+    "blocks_empty": _area,
+    "blocks_add": (*_area, c_uint32, POINTER(Position), c_size_t, c_char_p, c_size_t, POINTER(c_size_t)),
+    "blocks_fetch": (*_area, c_uint32, POINTER(Position), c_size_t, c_void_p, c_size_t, c_void_p),
+    "blocks_remove": (*_area, c_uint32),
+    "blocks_entry": (*_area, c_size_t, POINTER(c_size_t), POINTER(c_uint32)),
+    "blocks_survey": (*_area, *[POINTER(c_size_t)] * 5),
 }.items():
     _function = getattr(library, "hwemiduk_" + _name)
     _function.argtypes, _function.restype = _arguments, c_uint8

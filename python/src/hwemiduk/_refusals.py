@@ -28,6 +28,11 @@ WORDS = {
     18: "a placement that is not allowed",
     19: "a composition that cannot be cut into listed names and counts",
     21: "only INFO in a declaration",
+    22: "no such entry",
+    23: "the entry is present already",
+    24: "fewer free sound blocks than are needed",
+    25: "damaged: the entry's blocks are not as they should be, or none begins it and some block is unsound",
+    26: "the area is not 1 to 128 whole blocks",
 }
 
 #: These refusals are of a line, and their place is one in the line.

@@ -2,7 +2,6 @@
 use mathlib.Core.Path.{_≡_, refl}
 use mathlib.Core.Bool.{Bool, true, false}
 use mathlib.Core.List.{List, [], _∷_}
-use Prim.Native.String.{String}
 use Rattle.scope.specs.Bytes.{upper, sameFolded, bytes}
 use Rattle.scope.specs.Lists.{same, onLast, all, keep, flat, among, shared, tabled}
 use Rattle.scope.specs.Keys.{spell, keys, keyAmong, keyOf, written}
@@ -20,17 +19,7 @@ use Rattle.scope.specs.Positions.{floaters}
 use Rattle.scope.specs.Masses.{firstMass, massOf, sum, total, sumℕ, lacking}
 use Rattle.scope.specs.Answers.{sameNumbers, areTables}
 use Rattle.scope.specs.Register.{fields, printed}
-
--- a line, and what is printed for it
-record Sample : Type 0 where
-  line : String
-  printing : String
-
-abbrev sample : String → String → Sample
-sample l p = record { line = l; printing = p }
-
-abbrev agrees : Sample → Bool
-agrees s = same (printed 1 (bytes (s .line))) (bytes (s .printing))
+use Rattle.outcomes.specs.Printing.{Sample, sample, agrees}
 
 abbrev samples : List Sample
 samples =

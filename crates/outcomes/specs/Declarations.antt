@@ -5,7 +5,6 @@ use mathlib.Core.Bool.{Bool, true, false}
 use mathlib.Core.Option.{Option, none, some}
 use mathlib.Core.List.{List, [], _∷_}
 use Prim.Native.Nat.{ℕ}
-use Prim.Native.String.{String}
 use lib.IntN.{ℤ, pos}
 use lib.ListN.{length, take}
 use Rattle.scope.specs.Bytes.{upper, sameFolded, bytes}
@@ -27,18 +26,8 @@ use Rattle.scope.specs.Placements.{distinct, ascends, choices, placements, firs
 use Rattle.scope.specs.Masses.{firstMass, massOf, sum, total, sumℕ, lacking, placedAt, putAt, ledger}
 use Rattle.scope.specs.Answers.{sameNumbers, areTables}
 use Rattle.scope.specs.Register.{fields, printed}
+use Rattle.outcomes.specs.Printing.{Sample, sample, agrees}
 use Rattle.scope.specs.declared.answers.Site.{Site}
-
--- a line, and what is printed for it
-record Sample : Type 0 where
-  line : String
-  printing : String
-
-abbrev sample : String → String → Sample
-sample l p = record { line = l; printing = p }
-
-abbrev agrees : Sample → Bool
-agrees s = same (printed 1 (bytes (s .line))) (bytes (s .printing))
 
 abbrev samples : List Sample
 samples =

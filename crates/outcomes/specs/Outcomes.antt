@@ -33,6 +33,9 @@ of (refused number place) f = none
 abbrev totalOf : String → Option ℤ
 totalOf s = of (outcome (bytes s)) total
 
+abbrev lackingOf : String → Option ℕ
+lackingOf s = of (outcome (bytes s)) lacking
+
 abbrev placementsOf : String → Option (List (List ℕ))
 placementsOf s = of (outcome (bytes s)) (λ l. placements (floatingOf l))
 
@@ -69,9 +72,11 @@ pub proved :
     × (placementsOf "M[+16#a]C[#a]" ≡ some (placed (1 ∷ []) ∷ placed (2 ∷ []) ∷ []))
     × (totalOf "M[+16#a]C[#a]" ≡ some (pos 16000000))
     × (totalOf "A[Obs:+2|+1]" ≡ some (pos 1000000))
+    × (lackingOf "A[Obs:+2|+1]" ≡ some 0)
+    × (lackingOf "A[Obs:+1]" ≡ some 1)
     × (lineWritten "a[+01.50]" ≡ some (bytes "A[+1.50]"))
     × (lineWritten "A[-0]" ≡ some (bytes "A[+0]"))
     × (outcome (bytes "A[U:35]") ≡ refused 9 2)
     × (outcome (bytes "A[x]y]") ≡ refused 4 5)
 unfolding upper sameFolded same spell keys keyAmong keyOf written digitStep numberEnd textStep partEnd valueEnd textEnd colonAfter innerStep element further groupFirst inGroup undecided counted referred act onLast placeStep placesEnd perform resume step run reading all keep flat among copies least refusal1 refusal2 unprintable refusal3 tooDeep refusal5 refusal6 refusal7 refusal8 isRuleName refusal9 refusal10 refusal21 shared wronglyLabelled refusal11 passing refusal12 refusal19 kept firstDue outcome decimalUpTo decimal lastDigits decimals size partText partsText placesText sequenceText chainText canonical tablesOf partRows scoreOf rows bytesOf numbersOf tabled partIn bracketIn tablesIn member sites reached isPlaced placedOn struckOut floaters copiesFrom referredAt mayStand permitted rowsFrom rowsOf firstRow distinct fits ascends allowed less choices placements firstPlacement nextPlacement firstMass massOf sum total sumℕ lacking placedAt putAt ledger labileMass sameNumbers areTables fields printed
-proved = (refl, refl, refl, refl, refl, refl, refl, refl, refl, refl, refl, refl, refl, refl, refl, refl, refl, refl, refl)
+proved = (refl, refl, refl, refl, refl, refl, refl, refl, refl, refl, refl, refl, refl, refl, refl, refl, refl, refl, refl, refl, refl)

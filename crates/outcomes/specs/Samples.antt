@@ -1,11 +1,10 @@
--- A sample of outside vectors, every outcome among them: what the register program prints for a line; and for some lines the rows, the placements
--- and the ledger under the first.
+-- A sample of outside vectors, every outcome among them: what the register program prints for a line, with 02's L6; and for some lines the rows, the placements
+-- and the ledger under the first, or how many masses are lacking.
 use mathlib.Core.Path.{_≡_, refl}
 use mathlib.Core.Bool.{Bool, true}
 use mathlib.Core.Option.{Option, none, some}
 use mathlib.Core.List.{List, [], _∷_, _++_}
 use Prim.Native.Nat.{ℕ, _+_}
-use Prim.Native.String.{String}
 use lib.IntN.{ℤ, pos, negℤ}
 use lib.ListN.{length, take}
 use Rattle.scope.specs.Bytes.{upper, sameFolded, bytes}
@@ -28,17 +27,7 @@ use Rattle.scope.specs.Answers.{sameNumbers, areTables}
 use Rattle.scope.specs.Register.{fields, printed}
 use Rattle.scope.specs.declared.answers.Site.{Site}
 use Rattle.scope.specs.Limits.{copyLimit}
-
-record Sample : Type 0 where
-  line : String
-  number : ℕ
-  printing : String
-
-abbrev sample : String → ℕ → String → Sample
-sample l n p = record { line = l; number = n; printing = p }
-
-abbrev agrees : Sample → Bool
-agrees s = same (printed (s .number) (bytes (s .line))) (bytes (s .printing))
+use Rattle.outcomes.specs.Printing.{Sample, numbered as sample, agrees}
 
 abbrev samples : List Sample
 samples =
@@ -57,13 +46,13 @@ samples =
     ∷ sample "[+0#c]?S[#c][#c(8.8254)](I[G:[a#b|c]])[INFO:a{{q}{p{II}{x}}{x}}b]" 535 "535 ok 2 5 1 ?1 [+0#c]?S[#c][#c(8.8254)](I[G:[a#b|c]])[INFO:a{{q}{p{II}{x}}{x}}b]"
     ∷ sample "Y[::]I[Jomupx][U:-7](Y)[inFO:u`9#a|UniMOD:394353](JJK)[iNfO:B,n]QC" 232 "232 ok 8 5 1 ?3 Y[::]I[Jomupx][U:-7](Y)[INFO:u`9#a|UNIMOD:394353](JJK)[INFO:B,n]QC"
     ∷ sample "{C:a[#[|[a#b|c][]]s]b}N[#a(0)][-811.7325#a][#a(-2)][#a(+813.815600)]" 335 "335 ok 1 5 1 ?1 {C:a[#[|[a#b|c][]]s]b}N[#a(0)][-811.7325#a][#a(-2)][#a(813.815600)]"
-    ∷ sample "[+78]-(?H[+1][y])K[GNO:RWCVZpY|-1.50][-0.5|RESID:vyc]U[Obs:-79.966331]" 1520 "1520 ok 3 6 0 ?1 [+78]-(?H[+1][y])K[GNO:RWCVZpY|-1.50][-0.5|RESID:vyc]U[Obs:-79.966331]"
-    ∷ sample "N[c:\\]B[x:+847|ql/fH]-[obs:+000000000000000000000007889| {#[|]#|}b][G:x]" 2112 "2112 ok 2 4 0 ?2 N[C:\\]B[X:+847|ql/fH]-[Obs:+7889| {#[|]#|}b][G:x]"
+    ∷ sample "[+78]-(?H[+1][y])K[GNO:RWCVZpY|-1.50][-0.5|RESID:vyc]U[Obs:-79.966331]" 1520 "1520 ok 3 6 0 ?2 [+78]-(?H[+1][y])K[GNO:RWCVZpY|-1.50][-0.5|RESID:vyc]U[Obs:-79.966331]"
+    ∷ sample "N[c:\\]B[x:+847|ql/fH]-[obs:+000000000000000000000007889| {#[|]#|}b][G:x]" 2112 "2112 ok 2 4 0 ?3 N[C:\\]B[X:+847|ql/fH]-[Obs:+7889| {#[|]#|}b][G:x]"
     ∷ sample "[+924#b]-D[U:INFO#g1][#1]K[#1][+353264|M:Uu:1][+15.995|+78.98957#1|A][#g1]" 242 "242 ok 2 7 3 ?1 [+924#b]-D[U:INFO#g1][#1]K[#1][+353264|M:Uu:1][+15.995|+78.98957#1|A][#g1]"
-    ∷ sample "[+3.698212#b(9938.6536)]?[#c(+16)]-N[#b][#b(5)][#b]C[-01.50][Obs:-0.5#c][#c(16)]" 1646 "1646 ok 2 8 2 +1698212 [+3.698212#b(9938.6536)]?[#c(16)]-N[#b][#b(5)][#b]C[-1.50][Obs:-0.5#c][#c(16)]"
+    ∷ sample "[+3.698212#b(9938.6536)]?[#c(+16)]-N[#b][#b(5)][#b]C[-01.50][Obs:-0.5#c][#c(16)]" 1646 "1646 ok 2 8 2 ?1 [+3.698212#b(9938.6536)]?[#c(16)]-N[#b][#b(5)][#b]C[-1.50][Obs:-0.5#c][#c(16)]"
     ∷ sample "[+1]?n[-2.262503#a(191)][#a(-143977.9)](nu)[INFO:a[[]{#{p[|]{x}}[]}]b|INFO:V5](i)[M:a{#}b]uKFS" 2166 "2166 ok 8 5 3 ?1 [+1]?N[-2.262503#a(191)][#a(-143977.9)](NU)[INFO:a[[]{#{p[|]{x}}[]}]b|INFO:V5](I)[M:a{#}b]UKFS"
-    ∷ sample "MX(G[G:Glu->pyro-Glu][INFO:%M|Obs:+2|INFO:::]F[INFO:\"|U| |-0.5])[Glycan|INFO :x|+194.752082][Obs:+19.87]" 1996 "1996 ok 4 5 2 ?1 MX(G[G:Glu->pyro-Glu][INFO:%M|Obs:+2|INFO:::]F[INFO:\"|U| |-0.5])[Glycan|INFO :x|+194.752082][Obs:+19.87]"
-    ∷ sample "T(z[X:Acetyl|-2127][iNFo:Glu->pyro-Glu])[Obs:+79.966331][InFO:-x#XL1]nSyzqLhH(?Q)-[+3786|U :x|Obs:-86.617|-4]" 158 "158 ok 11 5 1 +1738966331 T(Z[X:Acetyl|-2127][INFO:Glu->pyro-Glu])[Obs:+79.966331][INFO:-x#XL1]NSYZQLHH(?Q)-[+3786|U :x|Obs:-86.617|-4]"
+    ∷ sample "MX(G[G:Glu->pyro-Glu][INFO:%M|Obs:+2|INFO:::]F[INFO:\"|U| |-0.5])[Glycan|INFO :x|+194.752082][Obs:+19.87]" 1996 "1996 ok 4 5 2 ?3 MX(G[G:Glu->pyro-Glu][INFO:%M|Obs:+2|INFO:::]F[INFO:\"|U| |-0.5])[Glycan|INFO :x|+194.752082][Obs:+19.87]"
+    ∷ sample "T(z[X:Acetyl|-2127][iNFo:Glu->pyro-Glu])[Obs:+79.966331][InFO:-x#XL1]nSyzqLhH(?Q)-[+3786|U :x|Obs:-86.617|-4]" 158 "158 ok 11 5 1 ?1 T(Z[X:Acetyl|-2127][INFO:Glu->pyro-Glu])[Obs:+79.966331][INFO:-x#XL1]NSYZQLHH(?Q)-[+3786|U :x|Obs:-86.617|-4]"
     ∷ sample "[-630947.960#g1(01.50)]?I[+76605#b(0.000000)|-382752]c[#g1][#g1(01.50)]c[C:formula][#b(2.0)][#g1(007)][-1.50]" 1402 "1402 ok 3 8 2 ?1 [-630947.960#g1(1.50)]?I[+76605#b(0.000000)|-382752]C[#g1][#g1(1.50)]C[C:formula][#b(2.0)][#g1(7)][-1.50]"
     ∷ sample "[+79.966331|-2#1|+0.5|INFO:a{[][{p[x]#|}]#|}#XL1]?V[-15.995][+1.50#lab0(+643)][X:-0.01]y[#lab0][#1]C[#lab0(1)]" 1589 "1589 ok 3 7 2 +65461331 [+79.966331|-2#1|+0.5|INFO:a{[][{p[x]#|}]#|}#XL1]?V[-15.995][+1.50#lab0(643)][X:-0.01]Y[#lab0][#1]C[#lab0(1)]"
     ∷ sample "" 771 "771 no 1 0"
@@ -172,7 +161,7 @@ pub placed-alike :
     × (of (outcome (bytes "[-1.50#1]?FH[#1]g")) isRead ≡ some true)
     × (of (outcome (bytes "[Obs:+2#a]-CA[INFO:z]")) rowsOf ≡ some (site 1 0 ∷ []))
     × (of (outcome (bytes "[Obs:+2#a]-CA[INFO:z]")) placementsIn ≡ some (placed (0 ∷ []) ∷ []))
-    × (of (outcome (bytes "[Obs:+2#a]-CA[INFO:z]")) ledgerIn ≡ some (pos 2000000 ∷ pos 0 ∷ pos 0 ∷ pos 0 ∷ []))
+    × (of (outcome (bytes "[Obs:+2#a]-CA[INFO:z]")) lacking ≡ some 1)
     × (of (outcome (bytes "[Obs:+2#a]-CA[INFO:z]")) isRead ≡ some true)
     × (of (outcome (bytes "[GNO:LLp3k|+5506]?shQML")) rowsOf ≡ some (site 1 1 ∷ site 1 2 ∷ site 1 3 ∷ site 1 4 ∷ site 1 5 ∷ []))
     × (of (outcome (bytes "[GNO:LLp3k|+5506]?shQML")) placementsIn ≡ some (placed (1 ∷ []) ∷ placed (2 ∷ []) ∷ placed (3 ∷ []) ∷ placed (4 ∷ []) ∷ placed (5 ∷ []) ∷ []))
@@ -183,7 +172,7 @@ pub placed-alike :
     × (of (outcome (bytes "[-95|RESID:T]?(W)[-0.5]")) isRead ≡ some true)
     × (of (outcome (bytes "(?A)C[#a(1)]D[Obs:+2#a]C")) rowsOf ≡ some (site 1 2 ∷ site 1 3 ∷ []))
     × (of (outcome (bytes "(?A)C[#a(1)]D[Obs:+2#a]C")) placementsIn ≡ some (placed (2 ∷ []) ∷ placed (3 ∷ []) ∷ []))
-    × (of (outcome (bytes "(?A)C[#a(1)]D[Obs:+2#a]C")) ledgerIn ≡ some (pos 0 ∷ pos 0 ∷ pos 2000000 ∷ pos 0 ∷ pos 0 ∷ pos 0 ∷ []))
+    × (of (outcome (bytes "(?A)C[#a(1)]D[Obs:+2#a]C")) lacking ≡ some 1)
     × (of (outcome (bytes "(?A)C[#a(1)]D[Obs:+2#a]C")) isRead ≡ some true)
     × (of (outcome (bytes "R[-1.700#c](S[#c(2)])[INFO:y]")) rowsOf ≡ some (site 1 1 ∷ site 1 2 ∷ []))
     × (of (outcome (bytes "R[-1.700#c](S[#c(2)])[INFO:y]")) placementsIn ≡ some (placed (1 ∷ []) ∷ placed (2 ∷ []) ∷ []))

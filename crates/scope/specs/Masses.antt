@@ -7,6 +7,8 @@ use lib.Dec.{eqb}
 use lib.IntN.{ℤ, pos, _+ℤ_, _*ℤ_}
 use lib.ListN.{length}
 use lib.Ieee.{Float, binary64, div, ofInt}
+use Rattle.scope.specs.declared.answers.Mass.{Mass}
+use Rattle.scope.specs.declared.answers.Mass.the-variants.{Stated, Measured, None}
 use Rattle.scope.specs.declared.grammar.Key.the-variants.{Obs}
 use Rattle.scope.specs.Kinds.{isLabile, isDeclared}
 use Rattle.scope.specs.Limits.{positionLimit, decimalLimit}
@@ -28,8 +30,15 @@ unfoldable pub firstMass : {P : Type 0} → List (Part P) → Option ℤ
 firstMass [] = none
 firstMass (p ∷ ps) = given (valueMass (p .value)) some (firstMass ps)
 
-unfoldable pub massOf : {P : Type 0} → Bracket P → Option ℤ
-massOf k = given (firstMass (keep (λ p. not (isKey Obs p)) (k .parts))) some (firstMass (keep (isKey Obs) (k .parts)))
+-- "A bracket's mass now answers stated, only measured, or none." (02, L6)
+unfoldable pub massOf : {P : Type 0} → Bracket P → Mass
+massOf k = given (firstMass (keep (λ p. not (isKey Obs p)) (k .parts))) Stated (given (firstMass (keep (isKey Obs) (k .parts))) Measured None)
+
+-- "Only stated ones enter total, ledger, display ..; the others count as lacking." (02, L6)
+abbrev pub stated : Mass → Option ℤ
+stated (Stated m) = some m
+stated (Measured m) = none
+stated None = none
 
 -- ---- "The total is the sum over all modifications, counts multiplied, labile included, labels once."
 unfoldable pub sum : List ℤ → ℤ
@@ -44,7 +53,7 @@ abbrev pub times : {P : Type 0} → Line P → Bracket P → ℕ
 times t k = cond (isDeclared (k .kind)) (length (placedOn t k)) (k .count)
 
 abbrev pub massOr0 : {P : Type 0} → Bracket P → ℤ
-massOr0 k = given (massOf k) (λ m. m) (pos 0)
+massOr0 k = given (stated (massOf k)) (λ m. m) (pos 0)
 
 unfoldable pub total : {P : Type 0} → Line P → ℤ
 total t = sum (map (λ k. pos (times t k) *ℤ massOr0 k) (modifications t))
@@ -55,7 +64,7 @@ sumℕ [] = 0
 sumℕ (n ∷ ns) = n + sumℕ ns
 
 unfoldable pub lacking : {P : Type 0} → Line P → ℕ
-lacking t = sumℕ (map (λ k. given (massOf k) (λ m. 0) (times t k)) (modifications t))
+lacking t = sumℕ (map (λ k. given (stated (massOf k)) (λ m. 0) (times t k)) (modifications t))
 
 -- ---- "The ledger of a placement has one entry for each of the 256 positions ..; each holds the masses of the modifications placed there and of
 -- the floating copy put there, nothing else"

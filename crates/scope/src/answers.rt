@@ -29,6 +29,19 @@ pub enum Total {
     Refused { number: u8, place: usize },
 }
 
+// The mass of a bracket: "stated, only measured, or none" (02, L6).
+pub enum Mass {
+    Stated(i64),
+    Measured(i64),
+    None,
+}
+
+// The mass of one bracket of the tables, or a refusal.
+pub enum BracketMass {
+    Is(Mass),
+    Refused { number: u8 },
+}
+
 // A row of floater and position.
 #[repr(C)]
 pub struct Site {

@@ -1,23 +1,25 @@
 -- Demands 2 and 3 and refusal 14, stated over the definitions alone. Their proofs: specs/Proved.antt, and the files that it cites.
 use mathlib.Core.Path.{_≡_}
-use mathlib.Core.Bool.{true, false, _||_}
+use mathlib.Core.Bool.{true, false, cond, _||_}
 use mathlib.Core.Logic.{_↔_}
-use mathlib.Core.List.{List, []}
+use mathlib.Core.List.{List, [], map}
 use Prim.Native.Nat.{ℕ, _+_, _≤_, _<_}
 use lib.IntN.{ℤ, pos, natAbs, _+ℤ_}
 use lib.Dec.{eqb}
 use lib.ListN.{length, take, getD}
 use lib.Ieee.{binary64, ofInt, toSigned}
 use Rattle.scope.specs.Limits.{rowLimit}
-use Rattle.scope.specs.Line.{Bracket, Line}
+use Rattle.scope.specs.Line.{Number, Value, mass, text, reference, composition, Part, Bracket, Line}
 use Rattle.scope.specs.Refusals.{accepted, outcome}
 use Rattle.scope.specs.Canonical.{canonical}
 use Rattle.scope.specs.Tables.{Tables, tablesOf}
 use Rattle.scope.specs.Layout.{bytesOf, numbersOf, bytesSize, numbersSize, tablesIn}
+use Rattle.scope.specs.declared.grammar.Key.the-variants.{Obs}
 use Rattle.scope.specs.Lists.{there?, all, laid}
+use Rattle.scope.specs.Modifications.{isKey}
 use Rattle.scope.specs.Positions.{floaters, floatingOf, rowsOf}
 use Rattle.scope.specs.Placements.{allowed, placements, freshListing}
-use Rattle.scope.specs.Masses.{massOf, modifications, times, massOr0, sum, total, lacking, ledger, labileMass}
+use Rattle.scope.specs.Masses.{massOf, stated, modifications, times, massOr0, sum, total, lacking, ledger, labileMass}
 use Rattle.scope.specs.Answers.{Said, refuses, tooShort, SomeLine, areTables, overTables, requested}
 use Rattle.mass_laws.specs.Terms.{Fair, Limited, totalLimit}
 use Rattle.placement_laws.specs.Terms.{unmarked, Ascending, Rearranged, afterRequests, handedOut}
@@ -78,6 +80,32 @@ listed t n = handedOut (floatingOf t) n freshListing
 abbrev pub many : {P : Type 0} → Line P → ℕ
 many t = length (placements (floatingOf t))
 
+-- the line with another mass in the place of each one behind `Obs`
+abbrev pub otherMass : {P : Type 0} → (Number P → Number P) → Value P → Value P
+otherMass f (mass n) = mass (f n)
+otherMass f (text s) = text s
+otherMass f reference = reference
+otherMass f (composition s n) = composition s n
+
+abbrev pub remeasuredPart : {P : Type 0} → (Number P → Number P) → Part P → Part P
+remeasuredPart f p = record { key = p .key; value = cond (isKey Obs p) (otherMass f (p .value)) (p .value); label = p .label; at = p .at }
+
+abbrev pub remeasuredBracket : {P : Type 0} → (Number P → Number P) → Bracket P → Bracket P
+remeasuredBracket f k =
+    record {
+      kind = k .kind;
+      first = k .first;
+      last = k .last;
+      count = k .count;
+      counted = k .counted;
+      parts = map (remeasuredPart f) (k .parts);
+      places = k .places;
+      at = k .at;
+    }
+
+abbrev pub remeasured : {P : Type 0} → (Number P → Number P) → Line P → Line P
+remeasured f t = record { residues = t .residues; brackets = map (remeasuredBracket f) (t .brackets) }
+
 pub record LineDemand3 {P : Type 0} (t : Line P) : Type 0 where
   -- "The listing hands out every allowed placement once, ascending": in as many requests as there are placements, and none in any later one
   pub every-allowed : (p : List ℕ) → In p (listed t (many t)) ↔ (allowed (floatingOf t) p ≡ true)
@@ -103,8 +131,12 @@ pub record LineDemand3 {P : Type 0} (t : Line P) : Type 0 where
   pub total-below : natAbs (total t) < totalLimit
   -- "the whole number becomes a double with nothing lost": cast back, the double is the number
   pub nothing-lost : toSigned 63 (ofInt binary64 (total t)) ≡ total t
-  -- 16 "a modification has no mass": none lacks one exactly when each has one, but for declarations that reach nothing
-  pub all-stated : lacking t ≡ 0 ↔ all (λ k. there? (massOf k) || eqb (times t k) 0) (modifications t) ≡ true
+  -- "Measured masses stay out of sums" (02, L6): whatever else stands behind `Obs`, the line has the same total, as many masses lacking, and the same ledgers
+  pub stay-out :
+      (f : Number P → Number P)
+      → (total (remeasured f t) ≡ total t) × (lacking (remeasured f t) ≡ lacking t) × ((p : List ℕ) → ledger (remeasured f t) p ≡ ledger t p)
+  -- 16 "a modification has no mass": none lacks one exactly when each has a stated one, but for declarations that reach nothing
+  pub all-stated : lacking t ≡ 0 ↔ all (λ k. there? (stated (massOf k)) || eqb (times t k) 0) (modifications t) ≡ true
   -- "room is 2,048 rows"
   pub rows-fit : length (rowsOf t) ≤ rowLimit
 

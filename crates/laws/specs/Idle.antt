@@ -9,7 +9,7 @@ use Rattle.scope.specs.Line.{Bracket, Residue, Line}
 use Rattle.scope.specs.Lists.{given, shared, keep, flat, tabled, member}
 use Rattle.scope.specs.Modifications.{onlyInfo, isReferring, isModification, isLabelled, copies, definedBy, referredBy, namesOf}
 use Rattle.scope.specs.Positions.{sites, reached, isPlaced, placedOn, struckOut, floaters, between, referredAt, isUnlabelledUnknown, ownPosition, mayStand, positions, permitted, isFurther, floatingOf}
-use Rattle.scope.specs.Masses.{massOf, massOr0, sum, sumℕ, modifications, times, total, lacking, labileMass}
+use Rattle.scope.specs.Masses.{massOf, stated, massOr0, sum, sumℕ, modifications, times, total, lacking, labileMass}
 use Rattle.scope.specs.Kinds.{isLabile, isDeclared, onOnePosition}
 use Rattle.basics.specs.Lists.{flat-append, keep-append, keep-same, map-same, shared-nothing}
 use Rattle.basics.specs.Positions.{same-floats, marks-of}
@@ -59,7 +59,7 @@ module _ {P : Type 0} (rs : List (Residue P)) (ks ls : List (Bracket P)) (k : Br
 
     pub lacks-nothing : lacking withIt ≡ lacking withoutIt
     unfolding lacking placedOn reached sites
-    lacks-nothing = ap (λ ms. sumℕ (map (λ b. given (massOf b) (λ m. 0) (times withIt b)) ms)) same-modifications
+    lacks-nothing = ap (λ ms. sumℕ (map (λ b. given (stated (massOf b)) (λ m. 0) (times withIt b)) ms)) same-modifications
 
     pub no-labile-mass : labileMass withIt ≡ labileMass withoutIt
     unfolding labileMass

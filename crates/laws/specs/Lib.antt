@@ -5,3 +5,4 @@ pub mod Facts
 pub mod Bare
 pub mod Areas
 pub mod Idle
+pub mod Remeasured

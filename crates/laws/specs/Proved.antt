@@ -21,9 +21,11 @@ use Rattle.placement_laws.specs.Terms.{Ascending, handedOut}
 use Rattle.placement_laws.specs.Laws as placing
 use Rattle.mass_laws.specs.Terms.{Fair, Limited}
 use Rattle.mass_laws.specs.Laws as masses
+use Rattle.reading_laws.specs.Weighed as weighed
 use Rattle.laws.specs.Demands.{bytesRead, numbersRead, LineDemand3, SameAnswers, Demands}
 use Rattle.laws.specs.Facts.{accepted-fair, accepted-limited, tables-fair, tables-limited}
 use Rattle.laws.specs.Bare.{rows-bare, labile-bare}
+use Rattle.laws.specs.Remeasured.{remeasured-alike}
 use Rattle.laws.specs.Areas
 
 -- ---- demand 3
@@ -47,6 +49,7 @@ demand-3-of t w fair limited =
       past = masses.past t fair;
       total-below = masses.total-below t fair limited;
       nothing-lost = masses.nothing-lost t fair limited;
+      stay-out = λ f. let a = remeasured-alike f t in (weighed.same-total a, weighed.same-lacking a, weighed.same-ledger a);
       all-stated = masses.all-stated t fair;
       rows-fit = layout.rows-fit t w;
     }

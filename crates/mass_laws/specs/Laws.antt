@@ -1,7 +1,7 @@
 -- The laws of masses and ledgers. What they ask of a line, `Fair` and `Limited` of Terms.antt, are facts of every accepted line; a placement is an
 -- allowed one.
 use mathlib.Core.Path.{_≡_, refl, sym, ap, _∙_}
-use mathlib.Core.Bool.{true, false, _||_}
+use mathlib.Core.Bool.{true, false, not, _||_}
 use mathlib.Core.Logic.{_↔_}
 use mathlib.Core.List.{List}
 use Prim.Native.Nat.{ℕ, _+_, _*_, _^_, _≤_, _<_}
@@ -13,18 +13,20 @@ use lib.Ieee.{binary64, ofInt, toSigned}
 use Rattle.scope.specs.Limits.{positionLimit, copyLimit, declarationLimit}
 use Rattle.scope.specs.Line.{Bracket, Line}
 use Rattle.scope.specs.Layout.{tablesIn}
-use Rattle.scope.specs.Lists.{there?, all, member}
+use Rattle.scope.specs.declared.grammar.Key.the-variants.{Obs}
+use Rattle.scope.specs.Lists.{there?, all, keep, member}
+use Rattle.scope.specs.Modifications.{isKey}
 use Rattle.scope.specs.Positions.{struckOut, floaters, floatingOf}
 use Rattle.scope.specs.Placements.{allowed}
 use Rattle.scope.specs.Refusals.{declarations}
-use Rattle.scope.specs.Masses.{massOf, modifications, times, massOr0, sum, total, lacking, labileMass, placedAt, ledger}
+use Rattle.scope.specs.Masses.{firstMass, massOf, stated, modifications, times, massOr0, sum, total, lacking, labileMass, placedAt, ledger}
 use Rattle.areas.specs.Bounds.{Bounds}
 use Rattle.mass_laws.specs.Terms.{Fair, Limited, totalLimit}
 use Rattle.mass_laws.specs.Shares as shares
 use Rattle.mass_laws.specs.Splits as splits
 use Rattle.mass_laws.specs.Sizes as sizes
 use Rattle.mass_laws.specs.Exact as exact
-use Rattle.mass_laws.specs.Stated as stated
+use Rattle.mass_laws.specs.Stated as each-stated
 use Rattle.mass_laws.specs.Areas as areas
 
 module _ {P : Type 0} (t : Line P) (fair : Fair t) where
@@ -59,9 +61,9 @@ module _ {P : Type 0} (t : Line P) (fair : Fair t) where
   pub nothing-lost : Limited t → toSigned 63 (ofInt binary64 (total t)) ≡ total t
   nothing-lost l = exact.cast-back (total t) (sizes.total-size t fair l)
 
-  -- 16 "a modification has no mass": none lacks one exactly when each has one, but for declarations that reach nothing
-  pub all-stated : lacking t ≡ 0 ↔ all (λ k. there? (massOf k) || eqb (times t k) 0) (modifications t) ≡ true
-  all-stated = stated.all-stated t
+  -- 16 "a modification has no mass": none lacks one exactly when each has a stated one, but for declarations that reach nothing
+  pub all-stated : lacking t ≡ 0 ↔ all (λ k. there? (stated (massOf k)) || eqb (times t k) 0) (modifications t) ≡ true
+  all-stated = each-stated.all-stated t
 
 -- the tables in areas are limited so where they keep to the areas' bounds and have no more than eight floaters and eight declarations
 pub limited-in : {bs : List ℕ} {ns : List ℤ} → Bounds bs ns → length (floaters (tablesIn bs ns)) ≤ copyLimit → length (declarations (tablesIn bs ns .brackets)) ≤ declarationLimit
@@ -75,6 +77,10 @@ only-placed t p x h e = shares.only-placed t p x h e
 -- "zero at the start": an entry is zero where nothing is placed and nothing put
 pub untouched : {P : Type 0} (t : Line P) (p : List ℕ) (x : ℕ) → member x (struckOut t) ≡ false → member x (take (length (floaters t)) p) ≡ false → getD (ledger t p) x (pos 0) ≡ pos 0
 untouched t p x e f = shares.untouched t p x e f
+
+-- "Only stated ones enter total, ledger, display" (02, L6): the mass that does is told by a bracket's parts without `Obs` alone
+pub only-stated : {P : Type 0} (k : Bracket P) → stated (massOf k) ≡ firstMass (keep (λ p. not (isKey Obs p)) (k .parts))
+only-stated k = each-stated.stated-is k
 
 pub under-2^53 : totalLimit < 2 ^ 53
 under-2^53 = omega arith

@@ -1,6 +1,6 @@
 -- In areas that keep to the bounds of tables every mass is small: the first mass of some parts is the mass of one of them, and none is larger than the number
 -- that stands there.
-use mathlib.Core.Path.{_≡_, refl, sym, subst}
+use mathlib.Core.Path.{_≡_, refl, sym, ap, _∙_, subst}
 use mathlib.Core.Bool.{Bool, true, false, not, cond}
 use mathlib.Core.Option.{Option, none, some}
 use mathlib.Core.List.{List, [], _∷_, _++_}
@@ -16,10 +16,11 @@ use Rattle.scope.specs.Lists.{given, keep, tabled}
 use Rattle.scope.specs.Modifications.{isKey}
 use Rattle.scope.specs.Tables.{millionths}
 use Rattle.scope.specs.Layout.{massCode, textCode, compositionCode, isNegative, numberIn, partIn, bracketIn, bracketsField, decimalsField, massField, partsField, valueField}
-use Rattle.scope.specs.Masses.{valueMass, firstMass, massOf, massOr0}
+use Rattle.scope.specs.Masses.{valueMass, firstMass, massOf, stated, massOr0}
 use Rattle.areas.specs.Bounds.{Small, Bounds}
 use Rattle.basics.specs.Wholes.{abs-signed}
 use Rattle.mass_laws.specs.Terms.{massLimit}
+use Rattle.mass_laws.specs.Stated.{stated-is}
 
 -- ---- a number to so many decimals
 abs-millionths : (m : ℤ) (d : ℕ) → natAbs (millionths (numberIn m d)) ≤ natAbs m
@@ -81,7 +82,6 @@ module _ {bs : List ℕ} {ns : List ℤ} (b : Bounds bs ns) {k : ℕ} (h : k < b
   small-of g = small-first g (partIn bs ns k) massLimit (omega arith) 0 (partsField bs k) (λ i q. small-part i (omega arith))
 
   pub small-mass : Small (massOr0 (bracketIn bs ns k))
-  unfolding massOf bracketIn
+  unfolding bracketIn
   small-mass =
-      subst (λ n. n < massLimit) (size-is (massOf (bracketIn bs ns k)))
-      (small-given (firstOf (λ p. not (isKey Obs p))) (firstOf (isKey Obs)) massLimit (small-of (λ p. not (isKey Obs p))) (small-of (isKey Obs)))
+      subst (λ n. n < massLimit) (ap size (sym (stated-is (bracketIn bs ns k))) ∙ size-is (stated (massOf (bracketIn bs ns k)))) (small-of (λ p. not (isKey Obs p)))

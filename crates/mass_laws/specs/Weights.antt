@@ -9,7 +9,7 @@ use Rattle.scope.specs.Line.{Bracket, Line}
 use Rattle.scope.specs.Lists.{given, tabled, member}
 use Rattle.scope.specs.Modifications.{isModification}
 use Rattle.scope.specs.Positions.{placedOn}
-use Rattle.scope.specs.Masses.{massOf, massOr0, modifications, times, sum, sumℕ, total, lacking, placedAt}
+use Rattle.scope.specs.Masses.{massOf, stated, massOr0, modifications, times, sum, sumℕ, total, lacking, placedAt}
 use Rattle.basics.specs.Each.{Each}
 use Rattle.mass_laws.specs.Sums.{sum-zero, sum-members, sum-keep, sumℕ-keep}
 use Rattle.mass_laws.specs.Placed.{placed-distinct}
@@ -24,11 +24,11 @@ total-is t = sum-keep isModification (λ k. pos (times t k) *ℤ massOr0 k) (t .
 
 -- what it adds to the count of those without a mass: "each copy counted"
 unfoldable pub lack : {P : Type 0} → Line P → Bracket P → ℕ
-lack t k = cond (isModification k) (given (massOf k) (λ m. 0) (times t k)) 0
+lack t k = cond (isModification k) (given (stated (massOf k)) (λ m. 0) (times t k)) 0
 
 pub lacking-is : {P : Type 0} (t : Line P) → lacking t ≡ sumℕ (map (lack t) (t .brackets))
 unfolding lacking lack
-lacking-is t = sumℕ-keep isModification (λ k. given (massOf k) (λ m. 0) (times t k)) (t .brackets)
+lacking-is t = sumℕ-keep isModification (λ k. given (stated (massOf k)) (λ m. 0) (times t k)) (t .brackets)
 
 -- what it adds to the entry of position x
 unfoldable pub bookedAt : {P : Type 0} → Line P → ℕ → Bracket P → ℤ

@@ -5,12 +5,12 @@ use mathlib.Core.Option.{Option, none, some}
 use mathlib.Core.List.{List, [], _∷_, _++_, map}
 use Prim.Native.Nat.{ℕ, _+_}
 use lib.Dec.{eqb}
-use lib.IntN.{pos, _+ℤ_, _*ℤ_}
-use lib.ListN.{length, getD, replicate, length-map}
+use lib.IntN.{pos}
+use lib.ListN.{length, getD, length-map}
 use Rattle.scope.specs.declared.grammar.Key.the-variants.{Obs, Info}
 use Rattle.scope.specs.declared.grammar.Kind.{Kind}
 use Rattle.scope.specs.declared.grammar.Kind.the-variants.{Unknown, Labile, NTerm, OnResidue, OnRange, CTerm, Declared}
-use Rattle.scope.specs.Limits.{positionLimit, placeLimit}
+use Rattle.scope.specs.Limits.{placeLimit}
 use Rattle.scope.specs.Line.{Number, Label, Value, mass, text, reference, composition, Place, Part, Bracket, Residue, Line}
 use Rattle.scope.specs.Kinds.{isKind, isDeclared}
 use Rattle.scope.specs.Keys.{keyCode}
@@ -24,10 +24,11 @@ use Rattle.scope.specs.Tables.{bareNumber, bareLabel, bareValue, barePart, bare
 use Rattle.scope.specs.Layout.{massIn, decimalsIn, packed, valueCode, partRow, partRows, scoreCode, placesRow, bracketRow, bracketTexts, rows, sectionCode, bytesOf, numberRow, numbersOf}
 use Rattle.scope.specs.Places.{nTerminus, cTerminus, placesText}
 use Rattle.scope.specs.Positions.{sites, names, reached, isPlaced, placedOn, struckOut, floaters, referredAt, mayStand, permitted, isFurther, floatingOf, positions}
-use Rattle.scope.specs.Masses.{valueMass, firstMass, massOf, massOr0, modifications, times, sum, sumℕ, total, lacking, placedAt, putAt, ledger}
-use Rattle.basics.specs.Lists.{map-map, flat-map, all-map, keep-map, keep-same, map-replicate, map-flat}
-use Rattle.basics.specs.Tabled.{tabled-same}
+use Rattle.scope.specs.Masses.{valueMass, firstMass, massOf, stated, total, lacking, ledger}
+use Rattle.basics.specs.Lists.{map-map, flat-map, all-map, keep-map, keep-same}
 use Rattle.basics.specs.Positions.{same-floats, marks-of}
+use Rattle.reading_laws.specs.Weighed as weighed
+use Rattle.reading_laws.specs.Weighed.{Alike}
 
 -- ---- the canonical line
 -- brackets that are changed into others of the same kind, place, count and texts
@@ -319,13 +320,46 @@ module _ {P : Type 0} where
   unfolding struckOut tablesOf
   struck-out l = flat-map (placedOn (tablesOf l)) (placedOn l) bareBracket (placed-on l) (l .brackets)
 
+  -- ---- each bracket weighs as it does with its places
+  value-mass : (v : Value P) → valueMass (bareValue v) ≡ valueMass v
+  value-mass (mass n) = refl
+  value-mass (text t) = refl
+  value-mass reference = refl
+  value-mass (composition t n) = refl
+
+  first-mass : (ps : List (Part P)) → firstMass (map barePart ps) ≡ firstMass ps
+  unfolding firstMass
+  first-mass [] = refl
+  first-mass (p ∷ ps) = rw (value-mass (p .value), first-mass ps)
+
+  first-mass-kept :
+      (f : Part (Unit {0}) → Bool) (h : Part P → Bool) → ((p : Part P) → f (barePart p) ≡ h p) → (ps : List (Part P))
+      → firstMass (keep f (map barePart ps)) ≡ firstMass (keep h ps)
+  first-mass-kept f h e ps = ap firstMass (keep-map f h barePart e ps) ∙ first-mass (keep h ps)
+
+  pub mass-of : (k : Bracket P) → massOf (bareBracket k) ≡ massOf k
+  unfolding massOf
+  mass-of k =
+      rw (
+        first-mass-kept (λ p. not (isKey Obs p)) (λ p. not (isKey Obs p)) (λ p. refl) (k .parts),
+        first-mass-kept (isKey Obs) (isKey Obs) (λ p. refl) (k .parts),
+      )
+
+  pub alike-bare : (l : Line P) → Alike bareBracket l (tablesOf l)
+  unfolding tablesOf
+  alike-bare l =
+      record {
+        brackets = refl;
+        kind = λ k. refl;
+        count = λ k. refl;
+        modification = is-modification;
+        copied = copies-bare;
+        placed = placed-on l;
+        mass = λ k. ap stated (mass-of k);
+      }
+
   pub same-floaters : (l : Line P) → floaters (tablesOf l) ≡ map bareBracket (floaters l)
-  unfolding floaters tablesOf
-  same-floaters l =
-      flat-map (λ k. replicate (copies k) k) (λ k. replicate (copies k) (bareBracket k)) bareBracket
-      (λ k. ap (λ n. replicate n (bareBracket k)) (copies-bare k)) (l .brackets)
-      ∙ sym (map-flat bareBracket (λ k. replicate (copies k) k) (λ k. replicate (copies k) (bareBracket k))
-      (λ k. map-replicate bareBracket (copies k) k) (l .brackets))
+  same-floaters l = weighed.same-floaters (alike-bare l)
 
   referred-at : (k : Bracket P) (x : ℕ) (ks : List (Bracket P)) → referredAt (bareBracket k) x (map bareBracket ks) ≡ referredAt k x ks
   unfolding referredAt
@@ -355,71 +389,11 @@ module _ {P : Type 0} where
       (ap (map (permitted (tablesOf l))) (same-floaters l) ∙ map-map (permitted (tablesOf l)) (permitted l) bareBracket (permitted-bare l) (floaters l)) (same-marks l)
 
   -- ---- masses
-  value-mass : (v : Value P) → valueMass (bareValue v) ≡ valueMass v
-  value-mass (mass n) = refl
-  value-mass (text t) = refl
-  value-mass reference = refl
-  value-mass (composition t n) = refl
-
-  first-mass : (ps : List (Part P)) → firstMass (map barePart ps) ≡ firstMass ps
-  unfolding firstMass
-  first-mass [] = refl
-  first-mass (p ∷ ps) = rw (value-mass (p .value), first-mass ps)
-
-  first-mass-kept :
-      (f : Part (Unit {0}) → Bool) (h : Part P → Bool) → ((p : Part P) → f (barePart p) ≡ h p) → (ps : List (Part P))
-      → firstMass (keep f (map barePart ps)) ≡ firstMass (keep h ps)
-  first-mass-kept f h e ps = ap firstMass (keep-map f h barePart e ps) ∙ first-mass (keep h ps)
-
-  pub mass-of : (k : Bracket P) → massOf (bareBracket k) ≡ massOf k
-  unfolding massOf
-  mass-of k =
-      rw (
-        first-mass-kept (λ p. not (isKey Obs p)) (λ p. not (isKey Obs p)) (λ p. refl) (k .parts),
-        first-mass-kept (isKey Obs) (isKey Obs) (λ p. refl) (k .parts),
-      )
-
-  pub mass-or-0 : (k : Bracket P) → massOr0 (bareBracket k) ≡ massOr0 k
-  mass-or-0 k = rw (mass-of k)
-
-  pub modifications-bare : (l : Line P) → modifications (tablesOf l) ≡ map bareBracket (modifications l)
-  unfolding tablesOf
-  modifications-bare l = keep-map isModification isModification bareBracket is-modification (l .brackets)
-
-  times-bare : (l : Line P) (k : Bracket P) → times (tablesOf l) (bareBracket k) ≡ times l k
-  times-bare l k = ap (λ xs. cond (isDeclared (k .kind)) (length xs) (k .count)) (placed-on l k)
-
   pub same-total : (l : Line P) → total (tablesOf l) ≡ total l
-  unfolding total
-  same-total l =
-      ap sum
-      (ap (map (λ k. pos (times (tablesOf l) k) *ℤ massOr0 k)) (modifications-bare l)
-      ∙ map-map (λ k. pos (times (tablesOf l) k) *ℤ massOr0 k) (λ k. pos (times l k) *ℤ massOr0 k) bareBracket
-      (λ k. ap₂ (λ n m. pos n *ℤ m) (times-bare l k) (mass-or-0 k)) (modifications l))
+  same-total l = weighed.same-total (alike-bare l)
 
   pub same-lacking : (l : Line P) → lacking (tablesOf l) ≡ lacking l
-  unfolding lacking
-  same-lacking l =
-      ap sumℕ
-      (ap (map (λ k. given (massOf k) (λ m. 0) (times (tablesOf l) k))) (modifications-bare l)
-      ∙ map-map (λ k. given (massOf k) (λ m. 0) (times (tablesOf l) k)) (λ k. given (massOf k) (λ m. 0) (times l k)) bareBracket
-      (λ k. ap₂ (λ m n. given m (λ m. 0) n) (mass-of k) (times-bare l k)) (modifications l))
-
-  placed-at : (l : Line P) (x : ℕ) → placedAt (tablesOf l) x ≡ placedAt l x
-  unfolding placedAt
-  placed-at l x =
-      ap (λ ks. sum (map massOr0 (keep (λ k. member x (placedOn (tablesOf l) k)) ks))) (modifications-bare l)
-      ∙ ap (λ ks. sum (map massOr0 ks))
-      (keep-map (λ k. member x (placedOn (tablesOf l) k)) (λ k. member x (placedOn l k)) bareBracket (λ k. ap (member x) (placed-on l k)) (modifications l))
-      ∙ ap sum (map-map massOr0 massOr0 bareBracket mass-or-0 (keep (λ k. member x (placedOn l k)) (modifications l)))
-
-  put-at : (x : ℕ) (ks : List (Bracket P)) (q : List ℕ) → putAt x (map bareBracket ks) q ≡ putAt x ks q
-  unfolding putAt
-  put-at x [] q = refl
-  put-at x (k ∷ ks) [] = refl
-  put-at x (k ∷ ks) (y ∷ q) = rw (mass-or-0 k, put-at x ks q)
+  same-lacking l = weighed.same-lacking (alike-bare l)
 
   pub same-ledger : (l : Line P) (q : List ℕ) → ledger (tablesOf l) q ≡ ledger l q
-  unfolding ledger
-  same-ledger l q =
-      tabled-same _ _ (λ x. ap₂ _+ℤ_ (placed-at l x) (ap (λ ks. putAt x ks q) (same-floaters l) ∙ put-at x (floaters l) q)) 0 positionLimit
+  same-ledger l q = weighed.same-ledger (alike-bare l) q

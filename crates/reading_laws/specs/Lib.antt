@@ -6,6 +6,7 @@ pub mod Kept
 pub mod Places
 pub mod Run
 pub mod Unnoted
+pub mod Weighed
 pub mod Bare
 pub mod Compositions
 pub mod Reached

@@ -6,14 +6,12 @@ use Prim.Native.Nat.{ℕ, zero, suc, _+_, _<_, _≤_}
 use native.Mathlib.Nat.{add-zero, not-suc-le-zero, le-of-suc-le-suc}
 use native.Mathlib.Omega.{arith}
 use lib.IntN.{ℤ}
+use Rattle.scope.specs.declared.answers.Mass.{Mass}
 use Rattle.scope.specs.Lists.{given, tabled}
 use Rattle.scope.specs.Layout.{bracketIn, tablesIn, bracketsField}
 use Rattle.scope.specs.Masses.{massOf}
 use Rattle.scope.specs.Answers.{good, refuses}
-use Rattle.masses.specs.declared.Mass.{Mass}
-use Rattle.masses.specs.declared.Mass.the-variants.{Is, Lacking}
-use Rattle.masses.specs.Weights.{saysMass}
-use Rattle.calls.specs.Single.{elementAt, ownMass, massAt}
+use Rattle.calls.specs.Single.{elementAt, massAt}
 
 -- ---- the element at a place
 pub element-tabled : {A : Type 0} (f : ℕ → A) (i n j : ℕ) → j < n → elementAt (tabled f i n) j ≡ some (f (i + j))
@@ -39,17 +37,7 @@ module _ (bs : List ℕ) (ns : List ℤ) (i : ℕ) where
 
   -- ---- the answers
   pub mass-17 : {b : ℕ} → b ≡ bracketsField bs → b ≤ i → refuses 17 0 ≡ massAt (tablesIn bs ns) i
-  mass-17 e h = sym (ap (λ k. given k ownMass (refuses 17 0)) (no-bracket (omega arith)))
+  mass-17 e h = sym (ap (λ k. given k (λ k. good (massOf k)) (refuses 17 0)) (no-bracket (omega arith)))
 
-  mass-of : {b : ℕ} {r v : Mass} → b ≡ bracketsField bs → i < b → saysMass r ≡ massOf (bracketIn bs ns i) → r ≡ v
-      → massAt (tablesIn bs ns) i ≡ given (saysMass v) good (refuses 16 (bracketIn bs ns i .count))
-  mass-of e h s f =
-      ap (λ k. given k ownMass (refuses 17 0)) (bracket-at (omega arith))
-      ∙ ap (λ m. given m good (refuses 16 (bracketIn bs ns i .count))) (sym s ∙ ap saysMass f)
-
-  pub mass-is : {b : ℕ} {r : Mass} {m : ℤ} → b ≡ bracketsField bs → i < b → saysMass r ≡ massOf (bracketIn bs ns i) → r ≡ Is m → good m ≡ massAt (tablesIn bs ns) i
-  mass-is e h s f = sym (mass-of e h s f)
-
-  pub mass-16 : {b c : ℕ} {r : Mass} → b ≡ bracketsField bs → i < b → c ≡ bracketIn bs ns i .count → saysMass r ≡ massOf (bracketIn bs ns i) → r ≡ Lacking
-      → refuses 16 c ≡ massAt (tablesIn bs ns) i
-  mass-16 e h c s f = ap (refuses 16) c ∙ sym (mass-of e h s f)
+  pub mass-is : {b : ℕ} {r : Mass} → b ≡ bracketsField bs → i < b → r ≡ massOf (bracketIn bs ns i) → good r ≡ massAt (tablesIn bs ns) i
+  mass-is e h s = ap good s ∙ sym (ap (λ k. given k (λ k. good (massOf k)) (refuses 17 0)) (bracket-at (omega arith)))

@@ -6,6 +6,7 @@ use Prim.Native.Nat.{ℕ}
 use lib.IntN.{ℤ}
 use Rattle.scope.specs.declared.answers.Count.{Count}
 use Rattle.scope.specs.declared.answers.Total.{Total}
+use Rattle.scope.specs.declared.answers.BracketMass.{BracketMass}
 use Rattle.scope.specs.declared.answers.Shown.{Shown}
 use Rattle.scope.specs.declared.answers.Request.{Request}
 use Rattle.scope.specs.declared.answers.Placement.{Placement}
@@ -13,7 +14,7 @@ use Rattle.scope.specs.declared.answers.Listing.{Listing}
 use Rattle.scope.specs.declared.answers.Ledger.{Ledger}
 use Rattle.scope.specs.Tables.{Tables}
 use Rattle.scope.specs.Layout.{tablesIn}
-use Rattle.scope.specs.Answers.{saysCount, saysTotal, saysShown, saysRequest, saysBooked, met, counts, totals, shows, allows, requests, listingAfter, books, entries}
+use Rattle.scope.specs.Answers.{saysCount, saysTotal, saysMass, saysShown, saysRequest, saysBooked, met, counts, totals, shows, allows, requests, listingAfter, books, entries}
 use Rattle.placements.specs.declared.Next.{Next}
 use Rattle.calls.specs.Single.{weighsAt}
 
@@ -25,8 +26,8 @@ abbrev pub TotalSays : List ℕ → List ℤ → Total → Type 0
 TotalSays bs ns r = saysTotal r ≡ totals bs ns
 
 -- `bracket_mass`: of bracket i
-abbrev pub BracketMassSays : List ℕ → List ℤ → ℕ → Total → Type 0
-BracketMassSays bs ns i r = saysTotal r ≡ weighsAt bs ns i
+abbrev pub BracketMassSays : List ℕ → List ℤ → ℕ → BracketMass → Type 0
+BracketMassSays bs ns i r = saysMass r ≡ weighsAt bs ns i
 
 abbrev pub ShownSays : List ℕ → List ℤ → Shown → Type 0
 ShownSays bs ns r = saysShown r ≡ shows bs ns

@@ -1,5 +1,4 @@
 // The calls over lent areas. Each answers whatever the areas hold: 13 where one is too short, 14 where they are no tables, else its own.
-use masses::Mass;
 use masses::Weight;
 use masses::as_daltons;
 use masses::ledger_of;
@@ -8,6 +7,7 @@ use placements::Next;
 use positions::fill_table;
 use positions::find_floaters;
 use scope::answers::Booked;
+use scope::answers::BracketMass;
 use scope::answers::Count;
 use scope::answers::Ledger;
 use scope::answers::Listing;
@@ -214,33 +214,19 @@ pub fn total(bytes: &[u8], numbers: &[i64]) -> Total
     }
 }
 
-// A bracket's own mass, in millionths: 17 where there is no such bracket, 16 with its count where it has none.
-pub fn bracket_mass(bytes: &[u8], numbers: &[i64], k: usize) -> Total
+// A bracket's own mass, in millionths, "stated, only measured, or none": 17 where there is no such bracket.
+pub fn bracket_mass(bytes: &[u8], numbers: &[i64], k: usize) -> BracketMass
     ensures { λ r. ⌜ BracketMassSays (now (bytes .entry)) (now (numbers .entry)) k r ⌝ }
 {
     let why = why_not(bytes, numbers);
     if why != 0 {
-        return Total::Refused {
-            number: why,
-            place: 0,
-        };
+        return BracketMass::Refused { number: why };
     }
     let b = areas::brackets(bytes);
     if b <= k {
-        return Total::Refused {
-            number: 17,
-            place: 0,
-        };
+        return BracketMass::Refused { number: 17 };
     }
-    let copies = brackets::count(bytes, k);
-    let mass = masses::bracket_mass(bytes, numbers, k);
-    match mass {
-        Mass::Is(m) => Total::Millionths(m),
-        Mass::Lacking => Total::Refused {
-            number: 16,
-            place: copies,
-        },
-    }
+    BracketMass::Is(masses::bracket_mass(bytes, numbers, k))
 }
 
 // "either a mass as a double or the number of modifications without one"

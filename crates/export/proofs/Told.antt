@@ -7,11 +7,12 @@ use lib.IntN.{ℤ}
 use lib.Ieee.{Float}
 use lib.Dec.{eqb}
 use borrow.Author.Tests.{ne-eqb}
+use Rattle.scope.specs.declared.answers.Mass.{Mass}
 use Rattle.scope.specs.Answers.{Said, good, refuses, met, Display}
 use Rattle.scope.specs.Positions.{Found}
 use Rattle.export.specs.Numbers.{numberOf, Numbered}
 use Rattle.export.specs.Handed.{Counted, LookedUp}
-use Rattle.export.specs.Shapes.{Measured, Totalled, Displayed}
+use Rattle.export.specs.Shapes.{Measured, Totalled, Massed, Displayed}
 
 pub numbered-so : {said meant : Said (Unit {0})} {place number place′ : ℕ} → said ≡ meant → Numbered said place number place′ → Numbered meant place number place′
 numbered-so {place = p} {number = n} {place′ = p′} e h = subst (λ s. Numbered s p n p′) e h
@@ -28,6 +29,10 @@ measured-so {count = k} {number = n} {count′ = k′} e h = subst (λ s. Measur
 pub totalled-so : {said meant : Said ℤ} {millionths : ℤ} {place number : ℕ} {millionths′ : ℤ} {place′ : ℕ} → said ≡ meant
     → Totalled said millionths place number millionths′ place′ → Totalled meant millionths place number millionths′ place′
 totalled-so {millionths = m} {place = p} {number = n} {millionths′ = m′} {place′ = p′} e h = subst (λ s. Totalled s m p n m′ p′) e h
+
+pub massed-so : {said meant : Said Mass} {millionths : ℤ} {sort number : ℕ} {millionths′ : ℤ} {sort′ : ℕ} → said ≡ meant
+    → Massed said millionths sort number millionths′ sort′ → Massed meant millionths sort number millionths′ sort′
+massed-so {millionths = m} {sort = s} {number = n} {millionths′ = m′} {sort′ = s′} e h = subst (λ x. Massed x m s n m′ s′) e h
 
 pub displayed-so : {said meant : Said Display} {mass : Float} {missing number : ℕ} {mass′ : Float} {missing′ : ℕ} → said ≡ meant
     → Displayed said mass missing number mass′ missing′ → Displayed meant mass missing number mass′ missing′

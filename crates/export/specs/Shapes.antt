@@ -7,6 +7,8 @@ use lib.Dec.{eqb, ltb}
 use lib.IntN.{ℤ, pos}
 use lib.Ieee.{Float}
 use lib.ListN.{length, take}
+use Rattle.scope.specs.declared.answers.Mass.{Mass}
+use Rattle.scope.specs.declared.answers.Mass.the-variants.{Stated, Measured as OnlyMeasured, None}
 use Rattle.scope.specs.Limits.{copyLimit, positionLimit}
 use Rattle.scope.specs.Canonical.{canonical}
 use Rattle.scope.specs.Tables.{Tables}
@@ -45,6 +47,22 @@ pub record PiecesHanded (t old : List ℕ) (count number count′ : ℕ) (new : 
 pub record Totalled (said : Said ℤ) (millionths : ℤ) (place number : ℕ) (millionths′ : ℤ) (place′ : ℕ) : Type 0 where
   pub numbered : Numbered said place number place′
   pub millionths-is : millionths′ ≡ left said (λ m. m) millionths
+
+-- ---- the mass of a bracket: its millionths, 0 where there is none, and its sort, none, stated, only measured
+abbrev pub millionthsOf : Mass → ℤ
+millionthsOf (Stated m) = m
+millionthsOf (OnlyMeasured m) = m
+millionthsOf None = pos 0
+
+abbrev pub sortOf : Mass → ℕ
+sortOf None = 0
+sortOf (Stated m) = 1
+sortOf (OnlyMeasured m) = 2
+
+pub record Massed (said : Said Mass) (millionths : ℤ) (sort number : ℕ) (millionths′ : ℤ) (sort′ : ℕ) : Type 0 where
+  pub number-is : number ≡ numberOf said
+  pub millionths-is : millionths′ ≡ left said millionthsOf millionths
+  pub sort-is : sort′ ≡ left said sortOf sort
 
 -- ---- a display: the mass, 0.0 where there is none; how many modifications lack one, else 0
 abbrev pub massOf : Display → Float

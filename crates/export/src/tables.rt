@@ -3,7 +3,9 @@ use crate::request_number;
 use crate::tell_count;
 use crate::tell_write;
 use scope::answers::Booked;
+use scope::answers::BracketMass;
 use scope::answers::Ledger;
+use scope::answers::Mass;
 use scope::answers::Placement;
 use scope::answers::Shown;
 use scope::answers::Total;
@@ -12,10 +14,10 @@ ghost use mathlib.Core.List.{_++_};
 ghost use Prim.Native.Nat.{_≤_};
 ghost use lib.ListN.{length, take, drop};
 ghost use Rattle.scope.specs.Limits.{copyLimit};
-ghost use Rattle.scope.specs.Answers.{saysTotal, saysShown, counts, residueCount, bracketCount, floaterCount, totals, shows};
+ghost use Rattle.scope.specs.Answers.{saysTotal, saysMass, saysShown, counts, residueCount, bracketCount, floaterCount, totals, shows};
 ghost use Rattle.calls.specs.Single.{weighsAt};
 ghost use Rattle.export.specs.Handed.{Counted};
-ghost use Rattle.export.specs.Shapes.{Written, Totalled, Displayed, AllowedLent, ReadEntered, FloatersHanded, ReachedHanded};
+ghost use Rattle.export.specs.Shapes.{Written, Totalled, Massed, Displayed, AllowedLent, ReadEntered, FloatersHanded, ReachedHanded};
 
 // How many residues there are: 0 and the count; else 13 or 14.
 #[no_mangle]
@@ -121,19 +123,54 @@ pub extern "C" fn hwemiduk_total(
     tell_total(t, millionths, place)
 }
 
-// A bracket's own mass, brackets counted from 0: 0 and the millionths; else 13, 14, 16 or 17, and in `place` its count (16) or 0.
+// How a bracket's mass is told to C: none, stated, only measured.
+const NONE: u8 = 0;
+
+const STATED: u8 = 1;
+
+const MEASURED: u8 = 2;
+
+// A bracket's mass, handed out.
+fn tell_mass(b: BracketMass, millionths: &mut i64, sort: &mut u8) -> u8
+    ensures { λ r. ⌜ Massed (saysMass b) (now (millionths .entry)) (now (sort .entry)) r (now (millionths .exit)) (now (sort .exit)) ⌝ }
+{
+    match b {
+        BracketMass::Is(mass) => {
+            match mass {
+                Mass::Stated(m) => {
+                    *millionths = m;
+                    *sort = STATED;
+                    0
+                }
+                Mass::Measured(m) => {
+                    *millionths = m;
+                    *sort = MEASURED;
+                    0
+                }
+                Mass::None => {
+                    *millionths = 0;
+                    *sort = NONE;
+                    0
+                }
+            }
+        }
+        BracketMass::Refused { number } => number,
+    }
+}
+
+// A bracket's own mass, brackets counted from 0: 0 with the millionths and whether they are stated or only measured, or none; else 13, 14 or 17.
 #[no_mangle]
 pub extern "C" fn hwemiduk_bracket_mass(
     bytes: &[u8],
     numbers: &[i64],
     bracket: usize,
     millionths: &mut i64,
-    place: &mut usize,
+    sort: &mut u8,
 ) -> u8
-    ensures { λ r. ⌜ Totalled (weighsAt (now (bytes .entry)) (now (numbers .entry)) bracket) (now (millionths .entry)) (now (place .entry)) r (now (millionths .exit)) (now (place .exit)) ⌝ }
+    ensures { λ r. ⌜ Massed (weighsAt (now (bytes .entry)) (now (numbers .entry)) bracket) (now (millionths .entry)) (now (sort .entry)) r (now (millionths .exit)) (now (sort .exit)) ⌝ }
 {
-    let t = calls::bracket_mass(bytes, numbers, bracket);
-    tell_total(t, millionths, place)
+    let b = calls::bracket_mass(bytes, numbers, bracket);
+    tell_mass(b, millionths, sort)
 }
 
 // A display, handed out.

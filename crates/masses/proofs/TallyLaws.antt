@@ -20,15 +20,15 @@ use Rattle.scope.specs.Modifications.{isModification}
 use Rattle.scope.specs.Positions.{reached, placedOn}
 use Rattle.scope.specs.Tables.{Tables}
 use Rattle.scope.specs.Layout.{bracketIn, tablesIn, bracketsField}
-use Rattle.scope.specs.Masses.{massOf, massOr0, times, sum, sumℕ, total, lacking}
+use Rattle.scope.specs.Masses.{massOf, stated, massOr0, times, sum, sumℕ, total, lacking}
 use Rattle.areas.specs.Bounds.{Small, Bounds}
 use Rattle.basics.specs.Tabled.{tabled-at, tabled-end, tabled-all, residues-many}
 use Rattle.basics.specs.Choice.{branch}
-use Rattle.masses.specs.declared.Mass.{Mass}
-use Rattle.masses.specs.declared.Mass.the-variants.{Is, Lacking}
+use Rattle.scope.specs.declared.answers.Mass.{Mass}
+use Rattle.scope.specs.declared.answers.Mass.the-variants.{Stated}
 use Rattle.masses.specs.declared.Weight.the-variants.{Total, Lacks}
 use Rattle.masses.specs.Reach.{Reach}
-use Rattle.masses.specs.Weights.{saysMass, weightOf}
+use Rattle.masses.specs.Weights.{weightOf}
 use Rattle.mass_laws.specs.Terms.{massLimit}
 use Rattle.mass_laws.specs.Placed.{placed-few}
 use Rattle.mass_laws.specs.Weights.{weight, total-is, lack, lacking-is}
@@ -68,7 +68,7 @@ module _ {bs : List ℕ} {ns : List ℤ} {k : ℕ} (r : Reach bs ns k) where
 
   pub lack-few : lack (tablesIn bs ns) (bracketIn bs ns k) ≤ positionLimit
   unfolding lack
-  lack-few = lack-by (isModification (bracketIn bs ns k)) (massOf (bracketIn bs ns k))
+  lack-few = lack-by (isModification (bracketIn bs ns k)) (stated (massOf (bracketIn bs ns k)))
 
 -- ---- how often a modification counts, by whether it is declared
 module _ (bs : List ℕ) (k : ℕ) {d : Bool} {c : Kind} (kind : (ns : List ℤ) → c ≡ bracketIn bs ns k .kind) (said : d ≡ isDeclared c) where
@@ -81,7 +81,7 @@ module _ (bs : List ℕ) (k : ℕ) {d : Bool} {c : Kind} (kind : (ns : List ℤ)
 
 -- ---- one bracket more
 module _ (t : Tables) (b : Bracket (Unit {0})) {is : Bool} (e : is ≡ isModification b) where
-  pub tallied-mass : {n lacks : ℕ} {o : Mass} {m p sum sum′ : ℤ} → is ≡ true → n ≡ times t b → saysMass o ≡ massOf b → o ≡ Is m → p ≡ pos n *ℤ m → sum′ ≡ sum +ℤ p → Tallied t b sum lacks sum′ lacks
+  pub tallied-mass : {n lacks : ℕ} {o : Mass} {m p sum sum′ : ℤ} → is ≡ true → n ≡ times t b → o ≡ massOf b → o ≡ Stated m → p ≡ pos n *ℤ m → sum′ ≡ sum +ℤ p → Tallied t b sum lacks sum′ lacks
   unfolding weight lack
   tallied-mass {n} {lacks} {o} {m} {p} {sum} y c s i f g =
       record {
@@ -89,18 +89,18 @@ module _ (t : Tables) (b : Bracket (Unit {0})) {is : Bool} (e : is ≡ isModific
             g ∙ ap (λ x. sum +ℤ x) (f ∙ ap (λ x. pos x *ℤ m) c ∙ ap (λ x. pos (times t b) *ℤ x) (is-mass b s i) ∙ ap (λ x. cond x (pos (times t b) *ℤ massOr0 b) (pos 0)) (sym y ∙ e));
         lacks-is =
             sym (add-zero lacks)
-            ∙ ap (λ x. lacks + x) (ap (λ x. given x (λ m. 0) (times t b)) (sym (ap saysMass i) ∙ s) ∙ ap (λ x. cond x (given (massOf b) (λ m. 0) (times t b)) 0) (sym y ∙ e));
+            ∙ ap (λ x. lacks + x) (ap (λ x. given (stated x) (λ m. 0) (times t b)) (sym i ∙ s) ∙ ap (λ x. cond x (given (stated (massOf b)) (λ m. 0) (times t b)) 0) (sym y ∙ e));
       }
 
-  pub tallied-lack : {n lacks : ℕ} {o : Mass} {sum : ℤ} → is ≡ true → n ≡ times t b → saysMass o ≡ massOf b → o ≡ Lacking → Tallied t b sum lacks sum (lacks + n)
+  pub tallied-lack : {n lacks : ℕ} {sum : ℤ} → is ≡ true → n ≡ times t b → stated (massOf b) ≡ none → Tallied t b sum lacks sum (lacks + n)
   unfolding weight lack
-  tallied-lack {n} {lacks} {o} {sum} y c s i =
+  tallied-lack {n} {lacks} {sum} y c s =
       record {
         sum-is =
             sym (+ℤ-idr sum)
-            ∙ ap (λ x. sum +ℤ x) (times-none (times t b) ∙ ap (λ x. pos (times t b) *ℤ given x (λ m. m) (pos 0)) (sym (ap saysMass i) ∙ s) ∙ ap (λ x. cond x (pos (times t b) *ℤ massOr0 b) (pos 0)) (sym y ∙ e));
+            ∙ ap (λ x. sum +ℤ x) (times-none (times t b) ∙ ap (λ x. pos (times t b) *ℤ given x (λ m. m) (pos 0)) (sym s) ∙ ap (λ x. cond x (pos (times t b) *ℤ massOr0 b) (pos 0)) (sym y ∙ e));
         lacks-is =
-            ap (λ x. lacks + x) (c ∙ ap (λ x. given x (λ m. 0) (times t b)) (sym (ap saysMass i) ∙ s) ∙ ap (λ x. cond x (given (massOf b) (λ m. 0) (times t b)) 0) (sym y ∙ e));
+            ap (λ x. lacks + x) (c ∙ ap (λ x. given x (λ m. 0) (times t b)) (sym s) ∙ ap (λ x. cond x (given (stated (massOf b)) (λ m. 0) (times t b)) 0) (sym y ∙ e));
       }
     where
       times-none : (n : ℕ) → pos 0 ≡ pos n *ℤ pos 0
@@ -111,11 +111,11 @@ module _ (t : Tables) (b : Bracket (Unit {0})) {is : Bool} (e : is ≡ isModific
   tallied-none {lacks} {sum} y =
       record {
         sum-is = sym (+ℤ-idr sum) ∙ ap (λ x. sum +ℤ cond x (pos (times t b) *ℤ massOr0 b) (pos 0)) (sym y ∙ e);
-        lacks-is = sym (add-zero lacks) ∙ ap (λ x. lacks + cond x (given (massOf b) (λ m. 0) (times t b)) 0) (sym y ∙ e);
+        lacks-is = sym (add-zero lacks) ∙ ap (λ x. lacks + cond x (given (stated (massOf b)) (λ m. 0) (times t b)) 0) (sym y ∙ e);
       }
 
 -- the same, as the machine adds it: what it reads back from the bits of the sum, of the mass and of their product
-module _ {bs : List ℕ} {ns : List ℤ} {k w : ℕ} {s : ℤ} (t : CanTally bs ns k s w) {n : ℕ} {o : Mass} {m m′ : ℤ} (c : n ≡ times (tablesIn bs ns) (bracketIn bs ns k)) (f : saysMass o ≡ massOf (bracketIn bs ns k)) (q : o ≡ Is m) (read : m′ ≡ m) where
+module _ {bs : List ℕ} {ns : List ℤ} {k w : ℕ} {s : ℤ} (t : CanTally bs ns k s w) {n : ℕ} {o : Mass} {m m′ : ℤ} (c : n ≡ times (tablesIn bs ns) (bracketIn bs ns k)) (f : o ≡ massOf (bracketIn bs ns k)) (q : o ≡ Stated m) (read : m′ ≡ m) where
   mass-known : m′ ≡ massOr0 (bracketIn bs ns k)
   mass-known = read ∙ is-mass (bracketIn bs ns k) f q
 
@@ -149,12 +149,12 @@ module _ {bs : List ℕ} {ns : List ℤ} {k w : ℕ} {s : ℤ} (t : CanTally bs 
   tallied-by-machine {is} {p} e y g h i =
       tallied-mass (tablesIn bs ns) (bracketIn bs ns k) e y c f q (product-back g ∙ ap (λ x. pos n *ℤ x) read) (i ∙ h ∙ ap (λ x. x +ℤ toZ w64 (ofZ w64 p)) sum-back)
 
-pub lacked-by-machine : {bs : List ℕ} {ns : List ℤ} {k w n : ℕ} {s : ℤ} {is : Bool} {o : Mass} → CanTally bs ns k s w → is ≡ isModification (bracketIn bs ns k) → is ≡ true → n ≡ times (tablesIn bs ns) (bracketIn bs ns k) → saysMass o ≡ massOf (bracketIn bs ns k) → o ≡ Lacking
+pub lacked-by-machine : {bs : List ℕ} {ns : List ℤ} {k w n : ℕ} {s : ℤ} {is : Bool} → CanTally bs ns k s w → is ≡ isModification (bracketIn bs ns k) → is ≡ true → n ≡ times (tablesIn bs ns) (bracketIn bs ns k) → stated (massOf (bracketIn bs ns k)) ≡ none
     → Tallied (tablesIn bs ns) (bracketIn bs ns k) s w (toZ w64 (ofZ w64 s)) (w + n)
-lacked-by-machine {bs} {ns} {k} {w} {n} {s} t e y c f q =
+lacked-by-machine {bs} {ns} {k} {w} {n} {s} t e y c f =
     subst (λ x. Tallied (tablesIn bs ns) (bracketIn bs ns k) s w x (w + n))
     (sym (back s (omega (arith, reach-row (t .reach) .inside, t .before .small))))
-    (tallied-lack (tablesIn bs ns) (bracketIn bs ns k) e y c f q)
+    (tallied-lack (tablesIn bs ns) (bracketIn bs ns k) e y c f)
 
 -- ---- the total of the brackets from k on
 abbrev weights : Tables → List (Bracket (Unit {0})) → ℤ

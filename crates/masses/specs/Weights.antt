@@ -1,7 +1,6 @@
 -- What the answers of this crate say, by their cases.
 use mathlib.Core.Path.{_≡_, refl}
-use mathlib.Core.Bool.{Bool, true, false, not, cond, _||_}
-use mathlib.Core.Option.{Option, none, some}
+use mathlib.Core.Bool.{Bool, true, false, cond, _||_}
 use Prim.Native.Nat.{ℕ}
 use lib.Dec.{eqb}
 use lib.IntN.{ℤ}
@@ -10,26 +9,14 @@ use Rattle.scope.specs.Line.{Line}
 use Rattle.scope.specs.Tables.{Tables}
 use Rattle.scope.specs.Answers.{Said, good, refuses, weighed}
 use Rattle.scope.specs.Masses.{total, lacking}
-use Rattle.masses.specs.declared.Mass.{Mass}
-use Rattle.masses.specs.declared.Mass.the-variants.{Is, Lacking}
 use Rattle.masses.specs.declared.Weight.{Weight}
 use Rattle.masses.specs.declared.Weight.the-variants.{Total, Lacks}
-
--- the mass of a bracket, where it has one
-abbrev pub saysMass : Mass → Option ℤ
-saysMass (Is m) = some m
-saysMass Lacking = none
 
 -- by its code, a value has a mass: it is one, or a composition
 abbrev pub weighs : ℕ → Bool
 weighs v = eqb v massCode || eqb v compositionCode
 
--- a test for `Obs`, or for its absence
-abbrev pub wanted : Bool → Bool → Bool
-wanted true t = t
-wanted false t = not t
-
--- the total where every modification has a mass, else how many have none
+-- the total where every modification has a stated mass, else how many have none
 unfoldable pub weightOf : {P : Type 0} → Line P → Weight
 weightOf t = cond (eqb (lacking t) 0) (Total (total t)) (Lacks (lacking t))
 

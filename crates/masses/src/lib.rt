@@ -12,11 +12,12 @@ use brackets::parts;
 use brackets::reached;
 use scope::answers::Booked;
 use scope::answers::Ledger;
+use scope::answers::Mass;
 use scope::answers::Placement;
 use scope::grammar::Kind;
 use scope::tables::Number;
 ghost use mathlib.Core.Path.{_≡_};
-ghost use mathlib.Core.Bool.{true, _&&_};
+ghost use mathlib.Core.Bool.{true};
 ghost use mathlib.Core.List.{List};
 ghost use Prim.Native.Nat.{min, _+_, _*_, _-_, _<_, _≤_, _^_};
 ghost use lib.Dec.{eqb};
@@ -24,27 +25,20 @@ ghost use lib.IntN.{ℤ, pos, natAbs, _+ℤ_, _*ℤ_};
 ghost use Rattle.scope.specs.declared.grammar.Key.the-variants.{Obs};
 ghost use Rattle.scope.specs.declared.answers.Booked.the-variants.{Done};
 ghost use Rattle.scope.specs.Limits.{residueLimit, partLimit, decimalLimit, countLimit, copyLimit, positionLimit};
-ghost use Rattle.scope.specs.Lists.{keep};
 ghost use Rattle.scope.specs.Keys.{keyCode};
-ghost use Rattle.scope.specs.Modifications.{isKey, isModification, copies};
+ghost use Rattle.scope.specs.Modifications.{isModification, copies};
 ghost use Rattle.scope.specs.Tables.{millionths};
 ghost use Rattle.scope.specs.Layout.{numberIn, bracketIn, tablesIn, decimalsField, keyField, massField, residuesField, valueField};
-ghost use Rattle.scope.specs.Masses.{firstMass, massOf, massOr0, times, ledger, daltons};
+ghost use Rattle.scope.specs.Masses.{massOf, massOr0, times, ledger, daltons};
 ghost use Rattle.areas.specs.Bounds.{Small, Bounds};
 ghost use Rattle.brackets.specs.Row.{Row};
 ghost use Rattle.masses.specs.Reach.{Reach, ReachPart};
-ghost use Rattle.masses.specs.Weights.{saysMass, weighs, wanted, weightOf};
+ghost use Rattle.masses.specs.Weights.{weighs, weightOf};
 ghost use Rattle.mass_laws.specs.Terms.{totalLimit};
 ghost use Rattle.masses.specs.Tallies.{CanTally, Tallied};
 ghost use Rattle.masses.specs.Booking.{CanBook, booked, CanBookNamed, NamedBooked, CanPlace, BracketPlaced, PlacedBooked, CanPut, CanFloat, CopiesPut};
 
-// The mass of a bracket.
-pub enum Mass {
-    Is(i64),
-    Lacking,
-}
-
-// The total, or how many modifications have no mass.
+// The total, or how many modifications have no stated mass.
 pub enum Weight {
     Total(i64),
     Lacks(usize),
@@ -53,7 +47,7 @@ pub enum Weight {
 // How many decimals a mass has at most.
 const DECIMALS: usize = Number::DECIMALS as usize;
 
-// The sum so far, and how many modifications had no mass.
+// The sum so far, and how many modifications had no stated mass.
 struct Tally {
     sum: i64,
     lacks: usize,
@@ -77,59 +71,57 @@ fn part_mass(bytes: &[u8], numbers: &[i64], k: usize, j: usize) -> i64
     to_decimals(areas::mass(numbers, k, j), areas::decimals(bytes, k, j))
 }
 
-// Whether part j of bracket k has a mass, that is a mass or a composition, behind `Obs` or not as asked.
-fn has_mass(bytes: &[u8], k: usize, j: usize, obs: bool) -> bool
+// Whether part j of bracket k has a mass: it is one, or a composition.
+fn has_mass(bytes: &[u8], k: usize, j: usize) -> bool
     requires { ⌜ (Row (now bytes) k) × (j < partLimit) ⌝ }
-    ensures { λ r. ⌜ r ≡ weighs (valueField (now (bytes .entry)) k j) && wanted obs (eqb (keyField (now (bytes .entry)) k j) (keyCode Obs)) ⌝ }
+    ensures { λ r. ⌜ r ≡ weighs (valueField (now (bytes .entry)) k j) ⌝ }
 {
     let value = areas::value(bytes, k, j);
-    if !((value == brackets::MASS) | (value == brackets::COMPOSITION)) {
-        return false;
-    }
-    let key = areas::key(bytes, k, j);
-    if obs {
-        return key == brackets::OBS;
-    }
-    key != brackets::OBS
+    (value == brackets::MASS) | (value == brackets::COMPOSITION)
 }
 
-// The first mass of bracket k, among those behind `Obs` or the others.
-fn first_mass(bytes: &[u8], numbers: &[i64], k: usize, obs: bool) -> Mass
-    requires { ⌜ Reach (now bytes) (now numbers) k ⌝ }
-    ensures { λ r. ⌜ saysMass r ≡ firstMass (keep (λ p. wanted obs (isKey Obs p)) (bracketIn (now (bytes .entry)) (now (numbers .entry)) k .parts)) ⌝ }
+// Whether it stands behind `Obs`.
+fn is_measured(bytes: &[u8], k: usize, j: usize) -> bool
+    requires { ⌜ (Row (now bytes) k) × (j < partLimit) ⌝ }
+    ensures { λ r. ⌜ r ≡ eqb (keyField (now (bytes .entry)) k j) (keyCode Obs) ⌝ }
 {
-    let m = parts(bytes, k);
+    areas::key(bytes, k, j) == brackets::OBS
+}
+
+// "its first mass without `Obs`, else its first `Obs` mass, else none": stated, only measured, or none.
+pub fn bracket_mass(bytes: &[u8], numbers: &[i64], k: usize) -> Mass
+    requires { ⌜ Reach (now bytes) (now numbers) k ⌝ }
+    ensures { λ r. ⌜ r ≡ massOf (bracketIn (now (bytes .entry)) (now (numbers .entry)) k) ⌝ }
+{
+    let n = parts(bytes, k);
+    let mut measured = n;
     let mut j: usize = 0;
-    while j < m {
-        if has_mass(bytes, k, j, obs) {
-            return Mass::Is(part_mass(bytes, numbers, k, j));
+    while j < n {
+        if has_mass(bytes, k, j) {
+            if !is_measured(bytes, k, j) {
+                return Mass::Stated(part_mass(bytes, numbers, k, j));
+            }
+            if measured == n {
+                measured = j;
+            }
         }
         j += 1;
     }
-    Mass::Lacking
-}
-
-// "its first mass without `Obs`, else its first `Obs` mass, else none"
-pub fn bracket_mass(bytes: &[u8], numbers: &[i64], k: usize) -> Mass
-    requires { ⌜ Reach (now bytes) (now numbers) k ⌝ }
-    ensures { λ r. ⌜ saysMass r ≡ massOf (bracketIn (now (bytes .entry)) (now (numbers .entry)) k) ⌝ }
-{
-    let own = first_mass(bytes, numbers, k, false);
-    match own {
-        Mass::Is(m) => Mass::Is(m),
-        Mass::Lacking => first_mass(bytes, numbers, k, true),
+    if measured < n {
+        return Mass::Measured(part_mass(bytes, numbers, k, measured));
     }
+    Mass::None
 }
 
-// The same, and 0 for none.
+// What it adds to a sum: a stated mass, and nothing else.
 fn mass_or_0(bytes: &[u8], numbers: &[i64], k: usize) -> i64
     requires { ⌜ Reach (now bytes) (now numbers) k ⌝ }
     ensures { λ r. ⌜ r ≡ massOr0 (bracketIn (now (bytes .entry)) (now (numbers .entry)) k) ⌝ }
 {
     let mass = bracket_mass(bytes, numbers, k);
     match mass {
-        Mass::Is(m) => m,
-        Mass::Lacking => 0,
+        Mass::Stated(m) => m,
+        Mass::Measured(_) | Mass::None => 0,
     }
 }
 
@@ -170,13 +162,13 @@ fn tally_with(bytes: &[u8], numbers: &[i64], k: usize, t: Tally) -> Tally
         let n = counts(bytes, k);
         let mass = bracket_mass(bytes, numbers, k);
         match mass {
-            Mass::Is(m) => {
+            Mass::Stated(m) => {
                 return Tally {
                     sum: add(t.sum, times(n, m)),
                     lacks: t.lacks,
                 };
             }
-            Mass::Lacking => {
+            Mass::Measured(_) | Mass::None => {
                 return Tally {
                     sum: t.sum,
                     lacks: t.lacks + n,
@@ -187,7 +179,7 @@ fn tally_with(bytes: &[u8], numbers: &[i64], k: usize, t: Tally) -> Tally
     t
 }
 
-// The total of the tables, or how many modifications have no mass.
+// The total of the tables, or how many modifications have no stated mass.
 pub fn weigh(bytes: &[u8], numbers: &[i64]) -> Weight
     requires { ⌜ Bounds (now bytes) (now numbers) ⌝ }
     ensures { λ r. ⌜ r ≡ weightOf (tablesIn (now (bytes .entry)) (now (numbers .entry))) ⌝ }

@@ -1,13 +1,9 @@
--- `calls::bracket_mass` meets its contract: 13 or 14 where they are due, 17 past the last bracket, then its mass or 16.
-use mathlib.Core.Path.{_≡_, sym, ap, _∙_}
-use Rattle.scope.specs.Answers.{good}
-use Rattle.brackets.specs.Row.{row}
+-- `calls::bracket_mass` meets its contract: 13 or 14 where they are due, 17 past the last bracket, then its mass.
+use mathlib.Core.Path.{sym, _∙_}
 use Rattle.calls.specs.Single.{massAt}
 use Rattle.calls.proofs.Laws.{refused-law, held, answers}
-use Rattle.calls.proofs.SingleLaws.{mass-17, mass-is, mass-16}
+use Rattle.calls.proofs.SingleLaws.{mass-17, mass-is}
 use native.Mathlib.Omega.{arith}
-use mir.Syntax.{w64}
-use mir.Val.{toZ, ofZ}
 use borrow.Author.Needs.{needs}
 use Rattle.calls.proofs.bracket_mass.Statement.{statement}
 use Rattle.calls.proofs.bracket_mass.Tie as tie
@@ -27,12 +23,6 @@ returns-2 c =
     let h = held (after-why-not .why-not .ensures) (c .before .before .if1 .left) in
     mass-17 _ _ _ (c .before .brackets .ensures .0) (c .if2 .taken) ∙ sym (answers (λ t. massAt t (start .args .k)) h)
 
-count-requires : tie.Need-count-requires
-count-requires c κs =
-    let after-why-not : tie.After-why-not = search in
-    let h = held (after-why-not .why-not .ensures) (c .before .before .if1 .left) in
-    row (h .bounds) _ (omega arith)
-
 bracket-mass-requires : tie.Need-bracket-mass-requires
 bracket-mass-requires c κs =
     let else1 : tie.Else1 = search in
@@ -42,27 +32,14 @@ bracket-mass-requires c κs =
 
 returns-3 : tie.Need-returns-3
 returns-3 c =
-    let m = c .before .mass .given .0 .0 in
-    let read : toZ w64 (ofZ w64 m) ≡ m = search needs in
-    let weighed : tie.After-bracket-mass = search in
-    let tested = weighed .before .before in
+    let tested = c .before in
     let tried : tie.After-why-not = search in
     let h = held (tried .why-not .ensures) (tested .before .before .if1 .left) in
-    ap good read ∙ mass-is _ _ _ (tested .before .brackets .ensures .0) (tested .if2 .left) (weighed .bracket-mass .ensures) (c .before .mass .given .1)
-    ∙ sym (answers (λ t. massAt t (tried .before .before .args .k)) h)
-
-returns-4 : tie.Need-returns-4
-returns-4 c =
-    let weighed = c .before .before in
-    let tested = weighed .before .before in
-    let tried : tie.After-why-not = search in
-    let h = held (tried .why-not .ensures) (tested .before .before .if1 .left) in
-    mass-16 _ _ _ (tested .before .brackets .ensures .0) (tested .if2 .left) (weighed .before .count .ensures .0 _) (weighed .bracket-mass .ensures) (c .enum-told .given .1)
+    mass-is _ _ _ (tested .before .brackets .ensures .0) (tested .if2 .left) (c .bracket-mass .ensures)
     ∙ sym (answers (λ t. massAt t (tried .before .before .args .k)) h)
 
 pub bracket-mass-spec : {M : Type 1} → statement M
 bracket-mass-spec =
     tie.close
     (tie.spec
-    (λ c κs. search needs) returns brackets-requires returns-2 count-requires bracket-mass-requires (λ c. search needs) (λ c. search needs) returns-3
-    returns-4)
+    (λ c κs. search needs) returns brackets-requires returns-2 bracket-mass-requires returns-3)

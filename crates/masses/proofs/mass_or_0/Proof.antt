@@ -2,7 +2,7 @@
 use mathlib.Core.Path.{_≡_, _∙_}
 use mir.Syntax.{w64}
 use mir.Val.{toZ, ofZ}
-use Rattle.masses.proofs.PartLaws.{is-mass, no-mass-is-0}
+use Rattle.masses.proofs.PartLaws.{is-mass, unstated-is-0}
 use borrow.Author.Needs.{needs}
 use Rattle.masses.proofs.mass_or_0.Statement.{statement}
 use Rattle.masses.proofs.mass_or_0.Tie as tie
@@ -14,8 +14,7 @@ returns c =
     read ∙ is-mass _ (after-bracket-mass .bracket-mass .ensures) (c .before .mass .given .1)
 
 returns-2 : tie.Need-returns-2
-returns-2 c = no-mass-is-0 _ (c .before .before .bracket-mass .ensures) (c .enum-told .given .1)
+returns-2 c = unstated-is-0 _ (c .before .bracket-mass .ensures) (c .match .keys2)
 
 pub mass-or-0-spec : {M : Type 1} → statement M
-mass-or-0-spec =
-    tie.close (tie.spec (λ c κs. search needs) (λ c. search needs) (λ c. search needs) returns returns-2)
+mass-or-0-spec = tie.close (tie.spec (λ c κs. search needs) (λ c. search needs) returns returns-2)

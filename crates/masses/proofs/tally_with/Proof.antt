@@ -8,7 +8,7 @@ use Rattle.scope.specs.Layout.{bracketIn, tablesIn}
 use Rattle.scope.specs.Line.{Bracket}
 use Rattle.scope.specs.Masses.{times}
 use Rattle.scope.specs.Tables.{Tables}
-use Rattle.masses.proofs.PartLaws.{reach-row}
+use Rattle.masses.proofs.PartLaws.{is-unstated, reach-row}
 use Rattle.masses.proofs.TallyLaws.{asks-times, asks-add, tallied-by-machine, lacked-by-machine, tallied-none}
 use borrow.Author.Needs.{needs}
 use Rattle.masses.proofs.tally_with.Statement.{statement}
@@ -69,7 +69,8 @@ returns-2 c =
     let then1 : tie.Then1 = search in
     let after-is-modification : tie.After-is-modification = search in
     let start : tie.Start = search in
-    lacked-by-machine (start .pre) (after-is-modification .is-modification .ensures _) (then1 .if1 .taken) (counted after-counts) (after-bracket-mass .bracket-mass .ensures) (c .before .before .enum-told .given .1)
+    lacked-by-machine (start .pre) (after-is-modification .is-modification .ensures _) (then1 .if1 .taken) (counted after-counts)
+    (is-unstated _ (after-bracket-mass .bracket-mass .ensures) (c .before .before .match .keys2))
 
 returns-3 : tie.Need-returns-3
 returns-3 c = tallied-none _ _ (c .before .is-modification .ensures _) (c .if1 .left)
@@ -79,4 +80,4 @@ tally-with-spec =
     tie.close
     (tie.spec
     is-modification-requires counts-requires (λ c κs. search needs) (λ c. search needs) times-requires add-requires returns (λ c. search needs)
-    (λ c. search needs) returns-2 returns-3)
+    returns-2 returns-3)

@@ -15,6 +15,7 @@ use Rattle.scope.specs.declared.answers.Write.the-variants.{Written, Refused as
 use Rattle.scope.specs.declared.answers.Count.{Count}
 use Rattle.scope.specs.declared.answers.Count.the-variants.{Is, Refused as countRefused}
 use Rattle.scope.specs.declared.answers.Total.the-variants.{Millionths, Refused as totalRefused}
+use Rattle.scope.specs.declared.answers.BracketMass.the-variants.{Is as itsMass, Refused as massRefused}
 use Rattle.scope.specs.declared.answers.Lookup.the-variants.{Row, Refused as lookupRefused}
 use Rattle.scope.specs.declared.answers.Request.{Request}
 use Rattle.scope.specs.declared.answers.Request.the-variants.{Met, Refused as requestRefused}
@@ -32,10 +33,10 @@ use Rattle.scope.specs.Layout.{tablesIn}
 use Rattle.scope.specs.Positions.{reached as reaches, floatersBy, bracketsOf, copiesOf, Floating, floatingOf, rowsOf, Found, lookup}
 use Rattle.scope.specs.Placements.{allowed, takenListing, following}
 use Rattle.scope.specs.Masses.{massOf, total, lacking, daltons}
-use Rattle.scope.specs.Answers.{Said, good, refuses, findable, aMass, lack, displayOf, saysWrite, saysCount, saysTotal, saysLookup, saysRequest, saysBooked, saysShown, tooShort, areTables, overTables, fitting, writes, outputAfter, counts, floaterCount, weighed, totals, shows, rowsSaid, rowsAfter, looksUp, allows, met, requested, movedOn, requests, listingAfter, allowable, bookable, books, entries}
+use Rattle.scope.specs.Answers.{Said, good, refuses, findable, aMass, lack, displayOf, saysWrite, saysCount, saysTotal, saysMass, saysLookup, saysRequest, saysBooked, saysShown, tooShort, areTables, overTables, fitting, writes, outputAfter, counts, floaterCount, weighed, totals, shows, rowsSaid, rowsAfter, looksUp, allows, met, requested, movedOn, requests, listingAfter, allowable, bookable, books, entries}
 use Rattle.basics.specs.Each.{In}
 use Rattle.calls.specs.Writing.{WriteSays}
-use Rattle.calls.specs.Single.{elementAt, ownMass, massAt, weighsAt}
+use Rattle.calls.specs.Single.{elementAt, massAt, weighsAt}
 use Rattle.calls.specs.Floating.{floatersSaid, FloatersSay}
 use Rattle.calls.specs.Reaching.{reachedBy, reachedAt, reachedSaid, ReachedSays}
 use Rattle.calls.specs.Says.{CountSays, TotalSays, BracketMassSays, ShownSays, AllowedSays, NextSays, LedgerSays}
@@ -45,7 +46,7 @@ use Rattle.glycans.specs.Pieces.{piecesOf, piecesSaid, PiecesSay}
 use Rattle.listing.specs.Says.{RowsSays, StepSays}
 use Rattle.promises.specs.Promises.{Answered, Nothing}
 use Rattle.basics.specs.Said.{not-both, same-number}
-use Rattle.promises.specs.Said.{met-refused, write-same, count-same, total-same, lookup-same, request-same, booked-same, shown-same}
+use Rattle.promises.specs.Said.{met-refused, write-same, count-same, total-same, mass-same, lookup-same, request-same, booked-same, shown-same}
 
 -- ---- what can be said
 -- an answer says it, and a refusal has one of these numbers
@@ -153,22 +154,18 @@ module _ (bs : List ℕ) (ns : List ℤ) where
   pub totalled : Answered (TotalSays bs ns) saysTotal (13 ∷ 14 ∷ 16 ∷ []) Nothing
   totalled = alone total-same totals-so
 
-  own-so : (o : Option ℤ) (c : ℕ) → Sayable saysTotal (13 ∷ 14 ∷ 16 ∷ 17 ∷ []) (given o good (refuses 16 c))
-  own-so none c = refusal (totalRefused 16 c) refl (inr (inr (inl refl)))
-  own-so (some m) c = success (Millionths m) refl
+  mass-so : (o : Option (Bracket (Unit {0}))) → Sayable saysMass (13 ∷ 14 ∷ 17 ∷ []) (given o (λ k. good (massOf k)) (refuses 17 0))
+  mass-so none = refusal (massRefused 17) refl (inr (inr (inl refl)))
+  mass-so (some k) = success (itsMass (massOf k)) refl
 
-  mass-so : (o : Option (Bracket (Unit {0}))) → Sayable saysTotal (13 ∷ 14 ∷ 16 ∷ 17 ∷ []) (given o ownMass (refuses 17 0))
-  mass-so none = refusal (totalRefused 17 0) refl (inr (inr (inr (inl refl))))
-  mass-so (some k) = own-so (massOf k) (k .count)
-
-  pub weighs-so : (i : ℕ) → Sayable saysTotal (13 ∷ 14 ∷ 16 ∷ 17 ∷ []) (weighsAt bs ns i)
+  pub weighs-so : (i : ℕ) → Sayable saysMass (13 ∷ 14 ∷ 17 ∷ []) (weighsAt bs ns i)
   weighs-so i =
-      over (Sayable saysTotal (13 ∷ 14 ∷ 16 ∷ 17 ∷ [])) bs ns (λ t. massAt t i)
-      (refusal (totalRefused 13 0) refl (inl refl)) (refusal (totalRefused 14 0) refl (inr (inl refl)))
+      over (Sayable saysMass (13 ∷ 14 ∷ 17 ∷ [])) bs ns (λ t. massAt t i)
+      (refusal (massRefused 13) refl (inl refl)) (refusal (massRefused 14) refl (inr (inl refl)))
       (mass-so (elementAt (tablesIn bs ns .brackets) i))
 
-  pub bracket-mass : (i : ℕ) → Answered (BracketMassSays bs ns i) saysTotal (13 ∷ 14 ∷ 16 ∷ 17 ∷ []) Nothing
-  bracket-mass i = alone total-same (weighs-so i)
+  pub bracket-mass : (i : ℕ) → Answered (BracketMassSays bs ns i) saysMass (13 ∷ 14 ∷ 17 ∷ []) Nothing
+  bracket-mass i = alone mass-same (weighs-so i)
 
   display : (b : Bool) (m : ℤ) (n : ℕ) → Sayable saysShown (13 ∷ 14 ∷ []) (good (cond b (aMass (daltons m)) (lack n)))
   display true m n = success (Daltons (daltons m)) refl

@@ -21,7 +21,7 @@ use Rattle.scope.specs.Answers.{Said, good, refuses, met, saysRequest, saysBook
 use Rattle.basics.specs.Each.{In}
 use Rattle.export.specs.Numbers.{numberOf, left, placeLeft, Judged, Exported}
 use Rattle.export.specs.Handed.{Counted, RowsHanded, LookedUp, MovedOn}
-use Rattle.export.specs.Shapes.{lengthLeft, massOf, lackOf, Written, Totalled, Displayed, allowsLent, AllowedLent, booksLent, entriesAfter, ReadEntered as EnteredLent, FloatersHanded, ReachedHanded, PiecesHanded}
+use Rattle.export.specs.Shapes.{lengthLeft, millionthsOf, sortOf, massOf, lackOf, Written, Totalled, Massed, Displayed, allowsLent, AllowedLent, booksLent, entriesAfter, ReadEntered as EnteredLent, FloatersHanded, ReachedHanded, PiecesHanded}
 use Rattle.scope.specs.Glycans.{cuttings}
 use Rattle.glycans.specs.Pieces.{piecesOf, piecesSaid}
 use Rattle.calls.specs.Single.{weighsAt}
@@ -125,13 +125,14 @@ module _ (bs : List ℕ) (ns : List ℤ) where
       (record { numbered = record { number-is = refl; place-is = refl }; millionths-is = refl }) (λ o w. pair3 (w .numbered .number-is) (w .millionths-is) (w .numbered .place-is))
       (λ o w. w .numbered .number-is) (calls.totals-so bs ns .number) (λ o w n p q. w .millionths-is ∙ ap (λ z. left z (λ x. x) m) q)
 
-  bracket-mass : (i : ℕ) (m : ℤ) (place : ℕ)
-      → Answered (λ (o : ℕ × ℤ × ℕ). Totalled (weighsAt bs ns i) m place (o .0) (o .1) (o .2)) (λ o. told (o .0)) (13 ∷ 14 ∷ 16 ∷ 17 ∷ []) (λ o. o .1 ≡ m)
-  bracket-mass i m place =
+  bracket-mass : (i : ℕ) (m : ℤ) (sort : ℕ)
+      → Answered (λ (o : ℕ × ℤ × ℕ). Massed (weighsAt bs ns i) m sort (o .0) (o .1) (o .2)) (λ o. told (o .0)) (13 ∷ 14 ∷ 17 ∷ []) (λ o. (o .1 ≡ m) × (o .2 ≡ sort))
+  bracket-mass i m sort =
       let said = weighsAt bs ns i in
-      in-c (λ (o : ℕ × ℤ × ℕ). Totalled (weighsAt bs ns i) m place (o .0) (o .1) (o .2)) (λ o. o .1 ≡ m) (λ o. o .0) said (numberOf said, left said (λ x. x) m, placeLeft said place)
-      (record { numbered = record { number-is = refl; place-is = refl }; millionths-is = refl }) (λ o w. pair3 (w .numbered .number-is) (w .millionths-is) (w .numbered .place-is))
-      (λ o w. w .numbered .number-is) (calls.weighs-so bs ns i .number) (λ o w n p q. w .millionths-is ∙ ap (λ z. left z (λ x. x) m) q)
+      in-c (λ (o : ℕ × ℤ × ℕ). Massed (weighsAt bs ns i) m sort (o .0) (o .1) (o .2)) (λ o. (o .1 ≡ m) × (o .2 ≡ sort)) (λ o. o .0) said
+      (numberOf said, left said millionthsOf m, left said sortOf sort) (record { number-is = refl; millionths-is = refl; sort-is = refl })
+      (λ o w. pair3 (w .number-is) (w .millionths-is) (w .sort-is)) (λ o w. w .number-is) (calls.weighs-so bs ns i .number)
+      (λ o w n p q. (w .millionths-is ∙ ap (λ z. left z millionthsOf m) q, w .sort-is ∙ ap (λ z. left z sortOf sort) q))
 
   floater-brackets : (brs cps : List ℕ) (count : ℕ)
       → Answered (λ (o : ℕ × ℕ × List ℕ × List ℕ). FloatersHanded bs ns brs cps count (o .0) (o .1) (o .2) (o .3)) (λ o. told (o .0)) (13 ∷ 14 ∷ [])

@@ -14,6 +14,7 @@ use Rattle.placement_laws.specs.Laws as placing
 use Rattle.scope.specs.Layout.{tablesIn}
 use Rattle.promises.specs.Pieced.{composing}
 use Rattle.promises.specs.Reached.{declaring}
+use Rattle.promises.specs.Measured.{measuring}
 use Rattle.promises.specs.Keeps.{keeping}
 use mathlib.Core.List.{List}
 use Prim.Native.Nat.{ℕ}
@@ -72,5 +73,6 @@ promises =
           weights.reckoned a (weights.taken-after a) t (readers.line-means a t g p);
       composing = composing;
       declaring = declaring;
+      measuring = λ s bs ns r bs′ ns′ w q. measuring bs′ ns′ (weights.taken-after (readers.was-read s bs ns r bs′ ns′ w q));
       keeping = keeping;
     }

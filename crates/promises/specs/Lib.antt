@@ -10,6 +10,7 @@ pub mod Rows
 pub mod Listed
 pub mod Pieced
 pub mod Reached
+pub mod Measured
 pub mod AnsweringC
 pub mod AnsweringBlocks
 pub mod Keeps

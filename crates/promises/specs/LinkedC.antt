@@ -20,7 +20,7 @@ use Rattle.scope.specs.Answers.{counts, residueCount, bracketCount, floaterCoun
 use Rattle.calls.specs.Single.{weighsAt}
 use Rattle.export.specs.Numbers.{Judged, Exported}
 use Rattle.export.specs.Handed.{Counted, RowsHanded, LookedUp, MovedOn}
-use Rattle.export.specs.Shapes.{Written, Totalled, Displayed, AllowedLent, FloatersHanded, ReachedHanded, PiecesHanded, ReadEntered}
+use Rattle.export.specs.Shapes.{Written, Totalled, Massed, Displayed, AllowedLent, FloatersHanded, ReachedHanded, PiecesHanded, ReadEntered}
 use Rattle.blocks.specs.Answers.{listedFrom, surveySaid}
 use Rattle.export.specs.Blocks.{EmptyHanded, AddHanded, FetchHanded, RemoveHanded, HeadHanded, Surveyed}
 use Rattle.export.proofs.hwemiduk_verdict as verdict
@@ -91,7 +91,7 @@ module _ {M : Type 1} (𝓤 : URA M) (H : Heap 𝓤) (A : Atoms 𝓤) (mem : Mem
   pub first-row-is : (κs : Lfts 3) (rs : RefT (List Site)) (n f : ℕ) (i x : RefT ℕ) → (first-row.clauses 𝓤 H A mem run κs (rs, (n, (f, (i, (x, tt))))) .requires ≡ (λ g. Nothing)) × (first-row.clauses 𝓤 H A mem run κs (rs, (n, (f, (i, (x, tt))))) .ensures ≡ (λ g r end. fact 𝓤 (LookedUp (looksUp (rs .now) n f) (i .now) (x .now) r (end .1 .1 .1 .0 .now) (end .1 .1 .1 .1 .0 .now))))
   first-row-is κs rs n f i x = (refl, refl)
 
-  pub bracket-mass-is : (κs : Lfts 4) (bs : RefT (List ℕ)) (ns : RefT (List ℤ)) (i : ℕ) (m : RefT ℤ) (p : RefT ℕ) → (bracket-mass.clauses 𝓤 H A mem run κs (bs, (ns, (i, (m, (p, tt))))) .requires ≡ (λ g. Nothing)) × (bracket-mass.clauses 𝓤 H A mem run κs (bs, (ns, (i, (m, (p, tt))))) .ensures ≡ (λ g r end. fact 𝓤 (Totalled (weighsAt (bs .now) (ns .now) i) (m .now) (p .now) r (end .1 .1 .1 .0 .now) (end .1 .1 .1 .1 .0 .now))))
+  pub bracket-mass-is : (κs : Lfts 4) (bs : RefT (List ℕ)) (ns : RefT (List ℤ)) (i : ℕ) (m : RefT ℤ) (p : RefT ℕ) → (bracket-mass.clauses 𝓤 H A mem run κs (bs, (ns, (i, (m, (p, tt))))) .requires ≡ (λ g. Nothing)) × (bracket-mass.clauses 𝓤 H A mem run κs (bs, (ns, (i, (m, (p, tt))))) .ensures ≡ (λ g r end. fact 𝓤 (Massed (weighsAt (bs .now) (ns .now) i) (m .now) (p .now) r (end .1 .1 .1 .0 .now) (end .1 .1 .1 .1 .0 .now))))
   bracket-mass-is κs bs ns i m p = (refl, refl)
 
   pub floater-brackets-is : (κs : Lfts 5) (bs : RefT (List ℕ)) (ns : RefT (List ℤ)) (b c : RefT (List ℕ)) (k : RefT ℕ) → (floater-brackets.clauses 𝓤 H A mem run κs (bs, (ns, (b, (c, (k, tt))))) .requires ≡ (λ g. Nothing)) × (floater-brackets.clauses 𝓤 H A mem run κs (bs, (ns, (b, (c, (k, tt))))) .ensures ≡ (λ g r end. fact 𝓤 (FloatersHanded (bs .now) (ns .now) (b .now) (c .now) (k .now) r (end .1 .1 .1 .1 .0 .now) (end .1 .1 .0 .now) (end .1 .1 .1 .0 .now))))

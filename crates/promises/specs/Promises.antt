@@ -16,6 +16,8 @@ use Rattle.scope.specs.declared.answers.Read.{Read}
 use Rattle.scope.specs.declared.answers.Write.{Write}
 use Rattle.scope.specs.declared.answers.Count.{Count}
 use Rattle.scope.specs.declared.answers.Total.{Total}
+use Rattle.scope.specs.declared.answers.Mass.the-variants.{Stated}
+use Rattle.scope.specs.declared.answers.BracketMass.{BracketMass}
 use Rattle.scope.specs.declared.answers.Shown.{Shown}
 use Rattle.scope.specs.declared.answers.Request.{Request}
 use Rattle.scope.specs.declared.answers.Placement.{Placement}
@@ -25,7 +27,7 @@ use Rattle.scope.specs.declared.answers.Site.{Site}
 use Rattle.scope.specs.declared.answers.Lookup.{Lookup}
 use Rattle.scope.specs.declared.answers.Change.{Change}
 use Rattle.scope.specs.Limits.{copyLimit, rowLimit, positionLimit}
-use Rattle.scope.specs.Line.{Bracket, Line}
+use Rattle.scope.specs.Line.{Number, Bracket, Line}
 use Rattle.scope.specs.Glycans.{Item}
 use Rattle.scope.specs.Kept.{kept}
 use Rattle.scope.specs.Refusals.{outcome}
@@ -34,14 +36,16 @@ use Rattle.scope.specs.Layout.{bytesOf, numbersOf, tablesIn}
 use Rattle.scope.specs.Lists.{flat, laid, tabled}
 use Rattle.scope.specs.Positions.{sites, names, placedOn, floaters, floatingOf, Found}
 use Rattle.scope.specs.Placements.{freshListing}
-use Rattle.scope.specs.Masses.{sum, total, lacking, labileMass, daltons}
-use Rattle.scope.specs.Answers.{Said, good, refuses, aMass, lack, saysRead, saysWrite, saysCount, saysTotal, saysShown, saysLookup, saysRequest, saysBooked, saysChange, tooShort, counts, residueCount, bracketCount, floaterCount, totals, shows, looksUp}
+use Rattle.scope.specs.Modifications.{isModification}
+use Rattle.scope.specs.Masses.{times, sum, total, lacking, labileMass, daltons}
+use Rattle.scope.specs.Answers.{Said, good, refuses, aMass, lack, saysRead, saysWrite, saysCount, saysTotal, saysMass, saysShown, saysLookup, saysRequest, saysBooked, saysChange, tooShort, areTables, counts, residueCount, bracketCount, floaterCount, totals, shows, looksUp}
 use Rattle.scope.specs.Grammar.{Spelling, print, good as wellSpelt, means}
 use Rattle.grammar_laws.specs.Laws.{Accepts, Refuses}
 use Rattle.glycan_laws.specs.Laws.{Cuts}
 use Rattle.placement_laws.specs.Terms.{Ascending, bracketAt, marked, Placing, Rearranged, Rising, unmarked}
 use Rattle.placement_laws.specs.Standing.{place, Ascent}
 use Rattle.basics.specs.Each.{In, Ordered}
+use Rattle.laws.specs.Demands.{remeasured}
 use Rattle.blocks.specs.declared.Fetched.{Fetched}
 use Rattle.blocks.specs.Answers.{saysFetch, saysListed, listedFrom, saysSurvey, surveySaid}
 use Rattle.keeping.specs.Says.{EmptySays, AddSays, FetchSays, RemoveSays, EntrySays, SurveySays}
@@ -58,7 +62,7 @@ use Rattle.rows.specs.Says.{LookupSays}
 use Rattle.listing.specs.Says.{RowsSays, StepSays}
 use Rattle.export.specs.Numbers.{Judged, Exported}
 use Rattle.export.specs.Handed.{Counted, RowsHanded, LookedUp, MovedOn}
-use Rattle.export.specs.Shapes.{Written, Totalled, Displayed, AllowedLent, FloatersHanded, ReachedHanded, PiecesHanded, ReadEntered as EnteredLent}
+use Rattle.export.specs.Shapes.{Written, Totalled, Massed, Displayed, AllowedLent, FloatersHanded, ReachedHanded, PiecesHanded, ReadEntered as EnteredLent}
 use Rattle.export.specs.Blocks.{EmptyHanded, AddHanded, FetchHanded, RemoveHanded, HeadHanded, Surveyed}
 use Rattle.promises.specs.Keeping.{Keeping}
 
@@ -140,7 +144,7 @@ pub record Demand1 : Type 0 where
       → Answered (λ (o : Write × List ℕ). WriteSays bs ns out (o .0) (o .1)) (λ o. saysWrite (o .0)) (13 ∷ 14 ∷ 15 ∷ []) (λ o. o .1 ≡ out)
   pub count : (f : Tables → ℕ) (bs : List ℕ) (ns : List ℤ) → Answered (CountSays f bs ns) saysCount (13 ∷ 14 ∷ []) Nothing
   pub total : (bs : List ℕ) (ns : List ℤ) → Answered (TotalSays bs ns) saysTotal (13 ∷ 14 ∷ 16 ∷ []) Nothing
-  pub bracket-mass : (bs : List ℕ) (ns : List ℤ) (i : ℕ) → Answered (BracketMassSays bs ns i) saysTotal (13 ∷ 14 ∷ 16 ∷ 17 ∷ []) Nothing
+  pub bracket-mass : (bs : List ℕ) (ns : List ℤ) (i : ℕ) → Answered (BracketMassSays bs ns i) saysMass (13 ∷ 14 ∷ 17 ∷ []) Nothing
   pub floater-brackets :
       (bs : List ℕ) (ns : List ℤ) (brs cps : List ℕ)
       → Answered (λ (o : Count × (List ℕ × List ℕ)). FloatersSay bs ns brs cps (o .0) (o .1 .0) (o .1 .1)) (λ o. saysCount (o .0)) (13 ∷ 14 ∷ [])
@@ -344,6 +348,27 @@ pub record Declaring : Type 0 where
       (bs : List ℕ) (ns : List ℤ) (i : ℕ) (out : List ℕ) (r : Count) (out′ : List ℕ) → ReachedSays bs ns i out r out′ → (n : ℕ) → saysCount r ≡ good n
       → (k : Bracket (Unit {0})) × ((elementAt (tablesIn bs ns .brackets) i ≡ some k) × Reaches (tablesIn bs ns) k out out′ n)
 
+-- ======== measured masses (02, L6)
+-- bracket i of the tables t is a modification, and counts: each does, but a declaration that reaches nothing
+pub record Counting (t : Tables) (i : ℕ) : Type 0 where
+  pub bracket : Bracket (Unit {0})
+  pub at : elementAt (t .brackets) i ≡ some bracket
+  pub modification : isModification bracket ≡ true
+  pub counted : 0 < times t bracket
+
+pub record Measuring (bs : List ℕ) (ns : List ℤ) : Type 0 where
+  -- "Only stated ones enter total ..; the others count as lacking": a total is answered exactly where each modification that counts is answered a stated mass
+  pub stated-only :
+      (q : Total) → TotalSays bs ns q
+      → ((m : ℤ) × (saysTotal q ≡ good m))
+      ↔ ((i : ℕ) → Counting (tablesIn bs ns) i → (r : BracketMass) → BracketMassSays bs ns i r → (m : ℤ) × (saysMass r ≡ good (Stated m)))
+  -- "Measured masses stay out of sums": of tables with any other masses behind `Obs` the same is answered, for display too
+  pub stay-out :
+      (f : Number (Unit {0}) → Number (Unit {0})) (cs : List ℕ) (ms : List ℤ) → tooShort cs ms ≡ false → areTables cs ms ≡ true
+      → tablesIn cs ms ≡ remeasured f (tablesIn bs ns)
+      → ((q r : Total) → TotalSays bs ns q → TotalSays cs ms r → saysTotal r ≡ saysTotal q)
+      × ((q r : Shown) → ShownSays bs ns q → ShownSays cs ms r → saysShown r ≡ saysShown q)
+
 -- ======== the wrong readers that document 01 names
 -- "a reader that refuses all, or gives one table for all"
 abbrev pub RefusesAll : Reader
@@ -370,6 +395,8 @@ pub record Promises : Type 1 where
       → (t : Spelling) → wellSpelt t ≡ true → s ≡ print t → Reckoned t bs′ ns′
   pub composing : Composing
   pub declaring : Declaring
+  pub measuring :
+      (s bs : List ℕ) (ns : List ℤ) (r : Read) (bs′ : List ℕ) (ns′ : List ℤ) → ReadSays s bs ns r bs′ ns′ → saysRead r ≡ good tt → Measuring bs′ ns′
   pub keeping : Keeping
 
 -- ======== the same over what a caller in C sees: the contracts of crate export. A number is 0 for a success, and else a refusal's.
@@ -415,8 +442,9 @@ pub record Demand1C : Type 0 where
       (bs : List ℕ) (ns : List ℤ) (m : ℤ) (place : ℕ)
       → Answered (λ (o : ℕ × ℤ × ℕ). Totalled (totals bs ns) m place (o .0) (o .1) (o .2)) (λ o. told (o .0)) (13 ∷ 14 ∷ 16 ∷ []) (λ o. o .1 ≡ m)
   pub bracket-mass :
-      (bs : List ℕ) (ns : List ℤ) (i : ℕ) (m : ℤ) (place : ℕ)
-      → Answered (λ (o : ℕ × ℤ × ℕ). Totalled (weighsAt bs ns i) m place (o .0) (o .1) (o .2)) (λ o. told (o .0)) (13 ∷ 14 ∷ 16 ∷ 17 ∷ []) (λ o. o .1 ≡ m)
+      (bs : List ℕ) (ns : List ℤ) (i : ℕ) (m : ℤ) (sort : ℕ)
+      → Answered (λ (o : ℕ × ℤ × ℕ). Massed (weighsAt bs ns i) m sort (o .0) (o .1) (o .2)) (λ o. told (o .0)) (13 ∷ 14 ∷ 17 ∷ [])
+      (λ o. (o .1 ≡ m) × (o .2 ≡ sort))
   pub floater-brackets :
       (bs : List ℕ) (ns : List ℤ) (brs cps : List ℕ) (count : ℕ)
       → Answered (λ (o : ℕ × ℕ × List ℕ × List ℕ). FloatersHanded bs ns brs cps count (o .0) (o .1) (o .2) (o .3)) (λ o. told (o .0)) (13 ∷ 14 ∷ [])

@@ -11,6 +11,8 @@ use Rattle.scope.specs.declared.answers.Count.{Count}
 use Rattle.scope.specs.declared.answers.Count.the-variants.{Is, Refused as countRefused}
 use Rattle.scope.specs.declared.answers.Total.{Total}
 use Rattle.scope.specs.declared.answers.Total.the-variants.{Millionths, Refused as totalRefused}
+use Rattle.scope.specs.declared.answers.BracketMass.{BracketMass}
+use Rattle.scope.specs.declared.answers.BracketMass.the-variants.{Is as itsMass, Refused as massRefused}
 use Rattle.scope.specs.declared.answers.Lookup.{Lookup}
 use Rattle.scope.specs.declared.answers.Lookup.the-variants.{Row, Refused as lookupRefused}
 use Rattle.scope.specs.declared.answers.Request.{Request}
@@ -23,7 +25,7 @@ use Rattle.scope.specs.declared.answers.Change.{Change}
 use Rattle.scope.specs.declared.answers.Change.the-variants.{Made, Refused as changeRefused}
 use Rattle.scope.specs.Positions.{Found}
 use Rattle.basics.specs.Said.{not-both, same-good, same-number, same-place}
-use Rattle.scope.specs.Answers.{Said, good, refuses, met, aMass, lack, saysRead, saysWrite, saysCount, saysTotal, saysLookup, saysRequest, saysBooked, saysShown, saysChange}
+use Rattle.scope.specs.Answers.{Said, good, refuses, met, aMass, lack, saysRead, saysWrite, saysCount, saysTotal, saysMass, saysLookup, saysRequest, saysBooked, saysShown, saysChange}
 use Rattle.blocks.specs.declared.Fetch.{Fetch}
 use Rattle.blocks.specs.declared.Fetch.the-variants.{Line as fetchLine, Refused as fetchRefused}
 use Rattle.blocks.specs.declared.Listed.{Listed}
@@ -70,6 +72,12 @@ total-same (Millionths m) (Millionths n) e = ap Millionths (same-good e)
 total-same (Millionths m) (totalRefused n p) e = absurd (not-both e)
 total-same (totalRefused n p) (Millionths m) e = absurd (not-both (sym e))
 total-same (totalRefused n p) (totalRefused m q) e = refused totalRefused e
+
+pub mass-same : (x y : BracketMass) → saysMass x ≡ saysMass y → x ≡ y
+mass-same (itsMass m) (itsMass n) e = ap itsMass (same-good e)
+mass-same (itsMass m) (massRefused n) e = absurd (not-both e)
+mass-same (massRefused n) (itsMass m) e = absurd (not-both (sym e))
+mass-same (massRefused n) (massRefused m) e = ap massRefused (same-number e)
 
 pub lookup-same : (x y : Lookup) → saysLookup x ≡ saysLookup y → x ≡ y
 lookup-same (Row i x) (Row j y) e = ap (λ (f : Found). Row (f .index) (f .position)) (same-good e)

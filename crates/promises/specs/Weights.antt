@@ -75,13 +75,13 @@ module _ (bs : List ℕ) (ns : List ℤ) (h : AreasTaken bs ns) where
   abbrev t : Tables
   t = tablesIn bs ns
 
-  total-said : (q : Total) → TotalSays bs ns q → saysTotal q ≡ weighed t (total t)
+  pub total-said : (q : Total) → TotalSays bs ns q → saysTotal q ≡ weighed t (total t)
   total-said q w = w ∙ says-itself h (λ t. weighed t (total t))
 
-  total-so : (m : ℤ) (q : Total) → TotalSays bs ns q → saysTotal q ≡ good m → (eqb (lacking t) 0 ≡ true) × (total t ≡ m)
+  pub total-so : (m : ℤ) (q : Total) → TotalSays bs ns q → saysTotal q ≡ good m → (eqb (lacking t) 0 ≡ true) × (total t ≡ m)
   total-so m q w e = weighed-so (eqb (lacking t) 0) (total t) m (lacking t) (sym (total-said q w) ∙ e)
 
-  shown-said : (r : Shown) → ShownSays bs ns r → saysShown r ≡ good (displayOf t)
+  pub shown-said : (r : Shown) → ShownSays bs ns r → saysShown r ≡ good (displayOf t)
   shown-said r w = w ∙ says-itself h (λ t. good (displayOf t))
 
   pub displays : (m : ℤ) (q : Total) → TotalSays bs ns q → saysTotal q ≡ good m → (r : Shown) → ShownSays bs ns r → saysShown r ≡ good (aMass (daltons m))

@@ -1,4 +1,7 @@
-/* Lists the placements of a line with their ledgers, and its total: placements 'M[+16#a]C[#a]'. Copies of one bracket ([+1]^2?AC) stand in ascending order. */
+/*
+ * Lists the placements of a line with their ledgers, and its total: placements 'M[+16#a]C[#a]'. Copies of one bracket ([+1]^2?AC) stand in ascending order. Where there is no
+ * total, it names the brackets with only a measured mass: placements 'A[Obs:+1]'.
+ */
 #include <hwemiduk.h>
 #include <inttypes.h>
 #include <stdio.h>
@@ -31,14 +34,21 @@ int main(int argc, char **argv)
                 if (ledger[position] != 0)
                     printf(" %" PRId64 " at %zu", ledger[position], position);
         } else {
-            printf(" %zu without a mass", missing);
+            printf(" %zu without a stated mass", missing);
         }
         printf("\n");
     }
     int64_t total;
-    if (hwemiduk_total(HWEMIDUK_OF(&tables), &total, &missing) == HWEMIDUK_OK)
+    if (hwemiduk_total(HWEMIDUK_OF(&tables), &total, &missing) == HWEMIDUK_OK) {
         printf("total: %" PRId64 "\n", total);
-    else
-        printf("total: %zu without a mass\n", missing);
+        return 0;
+    }
+    printf("total: %zu without a stated mass", missing);
+    int64_t mass;
+    uint8_t sort;
+    for (size_t k = 0; hwemiduk_bracket_mass(HWEMIDUK_OF(&tables), k, &mass, &sort) == HWEMIDUK_OK; k++)
+        if (sort == HWEMIDUK_MASS_MEASURED)
+            printf("; bracket %zu only measured: %" PRId64, k, mass);
+    printf("\n");
     return 0;
 }

@@ -9,7 +9,7 @@
  * - Any bytes and any numbers are answered: junk in the areas is refused with 14, a slice that is too short with 13, blocks that are damaged with 25.
  * - A slice passes as a pointer and the number of its elements, which must be there; slices may be longer than is asked for. NO POINTER MAY BE NULL, not even
  *   with a length of 0, and each is aligned as its type asks. What is written overlaps nothing else that is lent in the same call.
- * - Totals and ledgers are of the modifications only: the masses of the residues themselves are not in them.
+ * - Totals and ledgers are of the modifications only: the masses of the residues themselves are not in them. Only stated masses enter them: one behind Obs is measured.
  *
  * What it needs: a processor and a system of the x86-64 System V convention (Linux), the registers of SSE2, and of the C library `memcpy` and `memset` alone, so that
  * it also links without one. The code is position independent. It has no state, no locks and no thread storage, takes no memory, and does no input or output: calls
@@ -58,7 +58,7 @@ enum hwemiduk_answer {
     HWEMIDUK_SHORT_AREA = 13,     /* a lent area is too short */
     HWEMIDUK_NO_TABLES = 14,      /* tables that no accepted line reads to */
     HWEMIDUK_SHORT_OUTPUT = 15,   /* the output is shorter than what is to be written */
-    HWEMIDUK_NO_MASS = 16,        /* a modification has no mass */
+    HWEMIDUK_NO_MASS = 16,        /* a modification has no stated mass */
     HWEMIDUK_NO_FURTHER = 17,     /* no placement, no further one, no such row or bracket */
     HWEMIDUK_NOT_ALLOWED = 18,    /* a placement that is not allowed */
     HWEMIDUK_NO_CUTTING = 19,     /* a composition that cannot be cut into listed names and counts */
@@ -90,7 +90,7 @@ static inline const char *hwemiduk_words(uint8_t answer)
     case HWEMIDUK_SHORT_AREA: return "a lent area is too short";
     case HWEMIDUK_NO_TABLES: return "tables that no accepted line reads to";
     case HWEMIDUK_SHORT_OUTPUT: return "the output is shorter than what is to be written";
-    case HWEMIDUK_NO_MASS: return "a modification has no mass";
+    case HWEMIDUK_NO_MASS: return "a modification has no stated mass";
     case HWEMIDUK_NO_FURTHER: return "no placement, no further one, no such row or bracket";
     case HWEMIDUK_NOT_ALLOWED: return "a placement that is not allowed";
     case HWEMIDUK_NO_CUTTING: return "a composition that cannot be cut into listed names and counts";
@@ -308,26 +308,38 @@ uint8_t hwemiduk_floaters(const uint8_t *bytes, size_t bytes_len, const int64_t 
 uint8_t hwemiduk_floater_brackets(const uint8_t *bytes, size_t bytes_len, const int64_t *numbers, size_t numbers_len, uint8_t *brackets, size_t brackets_len,
     uint8_t *copies, size_t copies_len, size_t *count);
 
-/* ---- Masses: of the modifications only. The residues' own masses are not in them: the total of a line without modifications is 0. */
+/*
+ * ---- Masses: of the modifications only. The residues' own masses are not in them: the total of a line without modifications is 0.
+ *
+ * A mass behind Obs is measured, every other mass and each composition is stated. Only stated ones enter total, display and ledger: a modification with only a measured one
+ * counts as one without.
+ */
 
 /*
- * The sum of the masses of all modifications, in millionths of a Dalton, counts multiplied, labile ones too, a declared one once for each position that it reaches
- * (hwemiduk_reached); the residues' own masses are not in it: 0 with it in *millionths; or 16 with how many modifications have no mass, each copy counted, and each
- * position that a declaration reaches, in *place; or 13 or 14 with 0 in *place.
+ * The sum of the stated masses of all modifications, in millionths of a Dalton, counts multiplied, labile ones too, a declared one once for each position that it reaches
+ * (hwemiduk_reached); the residues' own masses are not in it: 0 with it in *millionths; or 16 with how many modifications have no stated mass, those with only a measured
+ * one (behind Obs) among them, each copy counted, and each position that a declaration reaches, in *place; or 13 or 14 with 0 in *place.
  */
 uint8_t hwemiduk_total(const uint8_t *bytes, size_t bytes_len, const int64_t *numbers, size_t numbers_len, int64_t *millionths, size_t *place);
 
-/*
- * The mass that bracket k has by itself, brackets counted from 0: its first mass that is not behind Obs, else its first one behind Obs; not multiplied by its count,
- * nor by the positions that a declaration reaches. 0 with it in *millionths; or 16, if it has none, with its count in *place, which is 1 of a declaration; or 17, if
- * there is no such bracket, or 13 or 14, with 0 in *place.
- */
-uint8_t hwemiduk_bracket_mass(const uint8_t *bytes, size_t bytes_len, const int64_t *numbers, size_t numbers_len, size_t bracket, int64_t *millionths,
-    size_t *place);
+/* Of which sort the mass of a bracket is. */
+enum hwemiduk_mass_sort {
+    HWEMIDUK_MASS_NONE = 0,       /* none: no part of it has one */
+    HWEMIDUK_MASS_STATED = 1,     /* its first mass or composition that is not behind Obs */
+    HWEMIDUK_MASS_MEASURED = 2    /* only measured: its first mass behind Obs, where it has no other. No sum has it */
+};
 
 /*
- * The sum of all modifications for display: 0 with the mass in *daltons and 0 in *missing; or, where modifications have no mass, also 0, with how many in *missing and 0.0 in
- * *daltons; or 13 or 14.
+ * The mass that bracket k has by itself, brackets counted from 0; not multiplied by its count, nor by the positions that a declaration reaches. 0 with it in *millionths,
+ * 0 where there is none, and with its sort (hwemiduk_mass_sort) in *sort; or 13, 14, or 17, if there is no such bracket, which leave both as they were. The brackets with
+ * only a measured mass are those for which *sort is HWEMIDUK_MASS_MEASURED: ask for each from 0 on, until 17 is answered.
+ */
+uint8_t hwemiduk_bracket_mass(const uint8_t *bytes, size_t bytes_len, const int64_t *numbers, size_t numbers_len, size_t bracket, int64_t *millionths,
+    uint8_t *sort);
+
+/*
+ * The sum of the stated masses of all modifications for display: 0 with the mass in *daltons and 0 in *missing; or, where modifications have no stated mass, those with only
+ * a measured one (behind Obs) among them, also 0, with how many in *missing and 0.0 in *daltons; or 13 or 14.
  */
 uint8_t hwemiduk_shown(const uint8_t *bytes, size_t bytes_len, const int64_t *numbers, size_t numbers_len, double *daltons, size_t *missing);
 
@@ -393,8 +405,8 @@ typedef struct hwemiduk_listing {
 uint8_t hwemiduk_next(const uint8_t *bytes, size_t bytes_len, const int64_t *numbers, size_t numbers_len, hwemiduk_listing *listing);
 
 /*
- * The ledger of a placement: 0 with the mass at each position, in millionths, in the first limits.positions entries; or 16 with how many modifications have no
- * mass in *place; or 13, 14 or 18 with 0 in *place.
+ * The ledger of a placement: 0 with the stated mass at each position, in millionths, in the first limits.positions entries; or 16 with how many modifications have no
+ * stated mass, those with only a measured one (behind Obs) among them, in *place; or 13, 14 or 18 with 0 in *place.
  */
 uint8_t hwemiduk_ledger(const uint8_t *bytes, size_t bytes_len, const int64_t *numbers, size_t numbers_len, const hwemiduk_position *placement,
     size_t placement_len, int64_t *entries, size_t entries_len, size_t *place);

@@ -31,8 +31,9 @@ def refusal(call, *arguments):
 
 
 def load_tests(loader, tests, pattern):
-    """Adds the examples of the package and of the README."""
-    tests.addTests(doctest.DocTestSuite(hwemiduk))
+    """Adds the examples of the package, those of methods too, and of the README."""
+    examples = doctest.DocTestFinder().find(hwemiduk, "hwemiduk", module=False, globs=vars(hwemiduk))
+    tests.addTests(doctest.DocTestCase(one) for one in examples if one.examples)
     tests.addTests(doctest.DocFileSuite(str(ROOT / "README.md"), module_relative=False))
     return tests
 
@@ -125,6 +126,7 @@ class Entries(unittest.TestCase):
         self.assertEqual(hwemiduk.entry("[+1]^2?ac"), "1 ok 2 1 2 +2000000 [+1]^2?AC")
         self.assertEqual(hwemiduk.entry(b"A[U:35]", 2), "2 no 9 2")
         self.assertEqual(hwemiduk.entry("[Acetyl]-A", 3), "3 ok 1 1 0 ?1 [Acetyl]-A")
+        self.assertEqual(hwemiduk.entry("A[Obs:+1]", 4), "4 ok 1 1 0 ?1 A[Obs:+1]")
 
     def test_any_line_and_number(self):
         self.assertEqual(hwemiduk.entry(b"", 0), "0 no 1 0")
@@ -207,8 +209,20 @@ class Vectors(unittest.TestCase):
                     met += 1
         self.assertGreater(met, 100 // SHARE)
 
+    def test_brackets_weigh_what_their_parts_say(self):
+        """The first mass that is not behind Obs is stated; only where there is none, the first one behind it is measured."""
+        met = 0
+        for p, _ in self.accepted:
+            for bracket in p.brackets:
+                masses = [(part.key is Key.OBS, part.mass.millionths) for part in bracket.parts if part.mass is not None]
+                stated = next((mass for measured, mass in masses if not measured), None)
+                measured = next((mass for _, mass in masses), None) if stated is None else None
+                self.assertEqual((bracket.millionths, bracket.measured), (stated, measured), p)
+                met += measured is not None
+        self.assertGreater(met, 100 // SHARE)
+
     def test_modifications_make_the_total(self):
-        """The masses of the modifications, each copy counted, are the total, and those without one are missing."""
+        """The stated masses of the modifications, each copy counted, are the total, and those without one are missing."""
         for p, outcome in self.accepted:
             held = [bracket for bracket in p.brackets if bracket.is_modification]
             self.assertEqual(sum(bracket.count for bracket in held if bracket.millionths is None), outcome["missing"], p)
@@ -259,31 +273,60 @@ class Tables(unittest.TestCase):
         self.assertEqual(
             p.brackets,
             (
-                Bracket(Kind.UNKNOWN, range(0), 3, (Part(Key.U, Number(1_500_000, 2), None, None),), 1_500_000),
-                Bracket(Kind.LABILE, range(0), 1, (Part(Key.OBS, Number(-2_000_000, 0), None, None),), -2_000_000),
-                Bracket(Kind.N_TERM, range(0, 1), 1, (Part(Key.UNIMOD, None, "4", None),), None),
-                Bracket(Kind.RESIDUE, range(3, 4), 1, (Part(Key.R, None, "x", None),), None),
-                Bracket(Kind.RANGE, range(2, 4), 1, (Part(Key.NONE, None, "y", None), Part(Key.NONE, Number(500_000, 1), None, label)), 500_000),
-                Bracket(Kind.RESIDUE, range(5, 6), 1, (Part(Key.NONE, None, None, Label("g1", None)),), None),
-                Bracket(Kind.C_TERM, range(6, 7), 1, (Part(Key.INFO, None, "z[#|]", None),), None),
+                Bracket(Kind.UNKNOWN, range(0), 3, (Part(Key.U, Number(1_500_000, 2), None, None),), 1_500_000, None),
+                Bracket(Kind.LABILE, range(0), 1, (Part(Key.OBS, Number(-2_000_000, 0), None, None),), None, -2_000_000),
+                Bracket(Kind.N_TERM, range(0, 1), 1, (Part(Key.UNIMOD, None, "4", None),), None, None),
+                Bracket(Kind.RESIDUE, range(3, 4), 1, (Part(Key.R, None, "x", None),), None, None),
+                Bracket(Kind.RANGE, range(2, 4), 1, (Part(Key.NONE, None, "y", None), Part(Key.NONE, Number(500_000, 1), None, label)), 500_000, None),
+                Bracket(Kind.RESIDUE, range(5, 6), 1, (Part(Key.NONE, None, None, Label("g1", None)),), None, None),
+                Bracket(Kind.C_TERM, range(6, 7), 1, (Part(Key.INFO, None, "z[#|]", None),), None, None),
             ),
         )
         self.assertEqual([bracket.label for bracket in p.brackets], [None] * 4 + [label, Label("g1", None), None])
         self.assertEqual([bracket.is_modification for bracket in p.brackets], [True] * 5 + [False] * 2)
 
     def test_a_bracket_s_mass(self):
-        """Document 01: "its first mass without `Obs`, else its first `Obs` mass, else none"; of one copy."""
-        for line, millionths in {
-            "A[Obs:+2|+1]": 1_000_000,
-            "A[Obs:+1|U:+2|+3]": 2_000_000,
-            "A[x|Obs:-2|Obs:+3]": -2_000_000,
-            "[+0.5]^7?A": 500_000,
-            "A[-0]": 0,
-            "A[INFO:+1]": None,
-            "A[15.99]": None,
-            "A[x|Obs:-2|Glycan:Sug2]": 84_021_200,
+        """Document 01: "its first mass without `Obs`, else its first `Obs` mass, else none"; document 02, L6: "stated, only measured, or none"; of one copy."""
+        for line, stated, measured in [
+            ("A[Obs:+2|+1]", 1_000_000, None),
+            ("A[+1|Obs:+2]", 1_000_000, None),
+            ("A[Obs:+1|U:+2|+3]", 2_000_000, None),
+            ("A[Obs:+1]", None, 1_000_000),
+            ("A[x|Obs:-2|Obs:+3]", None, -2_000_000),
+            ("A[Obs:-0]", None, 0),
+            ("[Obs:+0.5]^7?A", None, 500_000),
+            ("<[Obs:+0.5]@A>AA", None, 500_000),
+            ("[+0.5]^7?A", 500_000, None),
+            ("A[-0]", 0, None),
+            ("A[INFO:+1]", None, None),
+            ("A[15.99]", None, None),
+            ("A[x|Obs:-2|Glycan:Sug2]", 84_021_200, None),
+        ]:
+            bracket = read(line).brackets[0]
+            self.assertEqual((bracket.millionths, bracket.measured), (stated, measured), line)
+
+    def test_measured_masses_stay_out_of_sums(self):
+        """Document 02, L6: "Only stated ones enter total, ledger, display and the program's sixth field; the others count as lacking"."""
+        for line, count in {
+            "A[Obs:+1]": 1,
+            "A[Obs:-0]": 1,
+            "A[x|Obs:-2|Obs:+3]": 1,
+            "A[INFO:x|Obs:+1]": 1,
+            "{Obs:+1}A": 1,
+            "[Obs:+1]-A-[Obs:+1]": 2,
+            "M[Obs:+16#a]C[#a]": 1,
+            "A[Obs:+1]C[x]D[+5]": 2,
+            "[Obs:+1]^3?ACD[+1]": 3,
+            "<[Obs:+1]@A>AA": 2,
         }.items():
-            self.assertEqual(read(line).brackets[0].millionths, millionths, line)
+            p = read(line)
+            self.assertEqual((refusal(p.total), p.shift(), p.missing), ((16, count), None, count), line)
+            self.assertEqual(refusal(p.ledger, [0] * len(p.floaters)), (16, count), line)
+            self.assertEqual(hwemiduk.entry(line).split(" ")[5], f"?{count}", line)
+        for line, total in {"A[Obs:+2|+1]": 1_000_000, "A[+1|Obs:+2]C[-0.5]": 500_000, "<[Obs:+1]@W>A": 0}.items():
+            p = read(line)
+            self.assertEqual((p.total(), p.missing, sum(p.ledger())), (total, 0, total), line)
+        self.assertEqual([list(read(line).placements()) for line in ("[+1]?A[Obs:+2]C", "[Obs:+1]?AC")], [[(2,)], [(1,), (2,)]])
 
     def test_compositions(self):
         """Document 02, L1: "The list's spelling is written, a count of 1 dropped."; "a mass without `Obs`"; "a label may end the part"."""
@@ -304,6 +347,21 @@ class Tables(unittest.TestCase):
         self.assertEqual(read("N[Glycan:Hex1]"), read("N[glycan:hex]"))
         self.assertNotEqual(read("N[Glycan:HexHex]"), read("N[Glycan:Hex2]"))
         self.assertEqual(list(read("A[Glycan:Hex#a]C[#a(0.5)]").placements()), [(1,), (2,)])
+
+    def test_lines_with_measured_masses(self):
+        """compare/vectors/measured.txt, written from document 02: the entries; and of each accepted line that its brackets make the total, or lack their stated masses."""
+        rows = [row.split("\t") for row in (ROOT / "compare" / "vectors" / "measured.txt").read_text().splitlines()]
+        self.assertGreater(len(rows), 50)
+        for line, printed in rows:
+            self.assertEqual(hwemiduk.entry(line, 7), "7 " + printed)
+            if printed.startswith("ok"):
+                p = read(line)
+                times = [len(one.positions) for one in p.declared] + [bracket.count for bracket in p.brackets[len(p.declared) :]]
+                counted = [(n, bracket) for n, bracket in zip(times, p.brackets) if bracket.is_modification]
+                missing = sum(n for n, bracket in counted if bracket.millionths is None)
+                total = sum(n * (bracket.millionths or 0) for n, bracket in counted)
+                self.assertEqual(printed.split(" ")[4], f"?{missing}" if missing else f"{total:+}")
+                self.assertTrue(all(bracket.measured is None or bracket.millionths is None for bracket in p.brackets))
 
     def test_lines_with_compositions(self):
         """compare/vectors/compositions.txt, written from document 02 and the list of names and masses."""
@@ -334,8 +392,8 @@ class Tables(unittest.TestCase):
         p = read("<[+01.5|x]@k,n-TERM><[Acetyl]@w>[+2]?aKk")
         self.assertEqual(str(p), "<[+1.5|x]@K,N-term><[Acetyl]@W>[+2]?AKK")
         parts = (Part(Key.NONE, Number(1_500_000, 1), None, None), Part(Key.NONE, None, "x", None))
-        first = Bracket(Kind.DECLARED, range(0), 1, parts, 1_500_000)
-        second = Bracket(Kind.DECLARED, range(0), 1, (Part(Key.NONE, None, "Acetyl", None),), None)
+        first = Bracket(Kind.DECLARED, range(0), 1, parts, 1_500_000, None)
+        second = Bracket(Kind.DECLARED, range(0), 1, (Part(Key.NONE, None, "Acetyl", None),), None, None)
         self.assertEqual(p.declared, (Declaration(first, ("K", "N-term"), (0, 2, 3)), Declaration(second, ("W",), ())))
         self.assertEqual(p.brackets[:2], (first, second))
         self.assertEqual([str(one) for one in p.declared], ["<[+1.5|x]@K,N-term>", "<[Acetyl]@W>"])
@@ -550,7 +608,8 @@ class Junk(unittest.TestCase):
             self.assertEqual(library.hwemiduk_read(line, len(line), *areas.tables, areas.size_at), 0)
             areas.data[-1] = 1
             self.assertEqual(library.hwemiduk_write(*areas.tables, areas.out_at, LIMITS.line, areas.size_at), 14)
-            for call in [hwemiduk._peptidoform._rows, hwemiduk._peptidoform._count, lambda areas: hwemiduk._tables._reached(areas, 0)]:
+            held = hwemiduk._tables
+            for call in [hwemiduk._peptidoform._rows, hwemiduk._peptidoform._count, lambda areas: held._reached(areas, 0), lambda areas: held._mass(areas, 0)]:
                 self.assertEqual(refusal(call, areas), (14, 0))
         finally:
             FREE.append(areas)

@@ -116,7 +116,11 @@ class Refusals(unittest.TestCase):
         self.assertEqual(error.words, hwemiduk.WORDS[9])
 
     def test_no_mass(self):
-        for line, words in {"[Acetyl]-A": "16: 1 modification has no mass", "[x]^3?A": "16: 3 modifications have no mass"}.items():
+        for line, words in {
+            "[Acetyl]-A": "16: 1 modification has no stated mass",
+            "A[Obs:+1]": "16: 1 modification has no stated mass",
+            "[x]^3?A": "16: 3 modifications have no stated mass",
+        }.items():
             with self.assertRaises(Refusal) as caught:
                 read(line).total()
             self.assertEqual(str(caught.exception), words)
@@ -174,6 +178,13 @@ class Refusals(unittest.TestCase):
         start = header.index("enum hwemiduk_terminus {")
         codes = re.findall(r"HWEMIDUK_\w+ = (\d+),? */\* (\S+) \*/", header[start : header.index("};", start)])
         self.assertEqual({int(code): name for code, name in codes}, hwemiduk._tables._termini)
+
+    def test_sorts_of_masses_are_those_of_the_header(self):
+        header = (ROOT / "include" / "hwemiduk.h").read_text()
+        start = header.index("enum hwemiduk_mass_sort {")
+        codes = re.findall(r"HWEMIDUK_MASS_(\w+) = (\d+)", header[start : header.index("};", start)])
+        tables = hwemiduk._tables
+        self.assertEqual({name: int(code) for name, code in codes}, {"NONE": 0, "STATED": tables._STATED, "MEASURED": tables._MEASURED})
 
     def test_sugars_are_those_of_the_header(self):
         header = (ROOT / "include" / "hwemiduk.h").read_text()
@@ -310,6 +321,9 @@ class Commands(unittest.TestCase):
             ],
         )
         self.assertEqual((status, error), (1, ""))
+        self.write(b"A[Obs:+2|+1]\nA[Obs:+1]\n")
+        rows = list(csv.DictReader(io.StringIO(self.run_it("table", self.file)[1])))
+        self.assertEqual([(row["total"], row["missing"]) for row in rows], [("1000000", "0"), ("", "1")])
 
     def test_table_of_any_bytes(self):
         self.write(b'A\xff,"\xc3\xa9\n')
@@ -358,7 +372,30 @@ class Commands(unittest.TestCase):
             ],
         )
         self.assertIn("a placement: there is none\n", self.run_it("show", "[+1]^2?A")[1])
-        self.assertIn("not known: 1 without a mass\n", self.run_it("show", "A[x]")[1])
+        self.assertIn("not known: 1 without a stated mass\n", self.run_it("show", "A[x]")[1])
+        self.assertEqual(
+            self.run_it("show", "<[Obs:+1]@c,w><[Obs:+2]@w>[Obs:+3]^2?{Obs:-1}AC[Obs:+2|+1]D[Obs:+4]")[1].split("\n"),
+            [
+                "canonical line: <[Obs:+1]@C,W><[Obs:+2]@W>[Obs:+3]^2?{Obs:-1}AC[Obs:+2|+1]D[Obs:+4]",
+                "residues: 3",
+                "brackets: 6",
+                "    [Obs:+1]  declared for C, W: at 2, only measured: not in the sum",
+                "    [Obs:+2]  declared for W: nowhere here, only measured: not in the sum",
+                "    [Obs:+3]^2  anywhere, only measured: not in the sum",
+                "    {Obs:-1}  labile, only measured: not in the sum",
+                "    [Obs:+2|+1]  on residue 2",
+                "    [Obs:+4]  on residue 3, only measured: not in the sum",
+                "sum of the modifications, without the residues: not known: 5 without a stated mass",
+                "floating copies: 2",
+                "      nACDc",
+                "      ..x..   <[Obs:+1]@C,W>",
+                "      .....   <[Obs:+2]@W>",
+                "    1 .o...   [Obs:+3]",
+                "    2 .o...   [Obs:+3]",
+                "a placement: there is none",
+                "",
+            ],
+        )
         self.assertEqual(self.run_it("show", "A[x")[:2], (1, f"refused: 4 at 3: {hwemiduk.WORDS[4]} (the line ends here and should go on)\n    A[x\n       ^\n"))
 
     def test_trouble(self):

@@ -164,12 +164,45 @@ pub struct Limits {
     pub blocks: usize,
 }
 
-/// The total for display: either a mass or how many have none.
+/// The mass that a bracket has by itself, in millionths: not multiplied by its count, nor by the positions that a declaration reaches.
+#[derive(Clone, Copy, Debug, PartialEq, Eq, Hash)]
+pub enum Mass {
+    /// Its first mass or composition that is not behind `Obs`. Only a stated mass enters total, ledger and display.
+    Stated(i64),
+    /// Only measured: its first mass behind `Obs`, where it has no other. In sums it counts as none.
+    Measured(i64),
+    /// No part of it has one.
+    None,
+}
+
+impl Mass {
+    /// The mass, where it is stated.
+    pub const fn stated(self) -> Option<i64> {
+        match self {
+            Self::Stated(millionths) => Some(millionths),
+            Self::Measured(_) | Self::None => None,
+        }
+    }
+
+    /// The mass, where it is only measured.
+    pub const fn measured(self) -> Option<i64> {
+        match self {
+            Self::Measured(millionths) => Some(millionths),
+            Self::Stated(_) | Self::None => None,
+        }
+    }
+}
+
+// The numbers that include/hwemiduk.h gives the sorts of a mass: a third one, 0, is none.
+const STATED: u8 = 1;
+const MEASURED: u8 = 2;
+
+/// The total for display: either a mass or how many have none that is stated.
 #[derive(Clone, Copy, Debug, PartialEq)]
 pub enum Shown {
-    /// The sum of the masses of the modifications.
+    /// The sum of the stated masses of the modifications.
     Daltons(f64),
-    /// So many modifications have no mass, each copy counted, and each position that a declaration reaches.
+    /// So many modifications have no stated mass, those with only a measured one among them, each copy counted, and each position that a declaration reaches.
     Missing(usize),
 }
 
@@ -252,20 +285,37 @@ pub fn floater_brackets(bytes: &[u8], numbers: &[i64], brackets: &mut [u8], copi
     answer(number, 0, count)
 }
 
-/// The sum of the masses of the modifications in millionths, without the residues, a declared one once for each position that it reaches; or 16, with how many have none
-/// as its place, counted so too.
+/// The sum of the stated masses of the modifications in millionths, without the residues, a declared one once for each position that it reaches; or 16, with how many have
+/// none, or only a measured one (behind `Obs`), as its place, counted so too.
 pub fn total(bytes: &[u8], numbers: &[i64]) -> Result<i64, Refusal> {
     let (number, millionths, place) = outs::total(bytes, numbers);
     answer(number, place, millionths)
 }
 
-/// The mass that a bracket has by itself, in millionths, brackets counted from 0; or 16, with its count as its place, where it has none, or 17 where there is no such bracket.
-pub fn bracket_mass(bytes: &[u8], numbers: &[i64], bracket: usize) -> Result<i64, Refusal> {
-    let (number, millionths, place) = outs::bracket_mass(bytes, numbers, bracket);
-    answer(number, place, millionths)
+/// The mass that a bracket has by itself, brackets counted from 0: stated, only measured, or none; or 17 where there is no such bracket.
+///
+/// ```
+/// use hwemiduk::lent::{self, Mass, BYTES, NUMBERS};
+///
+/// let (mut bytes, mut numbers) = ([0; BYTES], [0; NUMBERS]);
+/// lent::read(b"A[Obs:+2|+1]C[Obs:+2]D[x]", &mut bytes, &mut numbers)?;
+/// assert_eq!(lent::bracket_mass(&bytes, &numbers, 0), Ok(Mass::Stated(1_000_000)));
+/// assert_eq!(lent::bracket_mass(&bytes, &numbers, 1), Ok(Mass::Measured(2_000_000)));
+/// assert_eq!(lent::bracket_mass(&bytes, &numbers, 2), Ok(Mass::None));
+/// assert_eq!(lent::bracket_mass(&bytes, &numbers, 3).unwrap_err().number(), 17);
+/// # Ok::<(), hwemiduk::Refusal>(())
+/// ```
+pub fn bracket_mass(bytes: &[u8], numbers: &[i64], bracket: usize) -> Result<Mass, Refusal> {
+    let (number, millionths, sort) = outs::bracket_mass(bytes, numbers, bracket);
+    let mass = match sort {
+        STATED => Mass::Stated(millionths),
+        MEASURED => Mass::Measured(millionths),
+        _ => Mass::None,
+    };
+    answer(number, 0, mass)
 }
 
-/// The total for display: it is never refused with 16.
+/// The total for display, of stated masses only: it is never refused with 16.
 pub fn shown(bytes: &[u8], numbers: &[i64]) -> Result<Shown, Refusal> {
     let (number, daltons, missing) = outs::shown(bytes, numbers);
     answer(number, 0, if missing == 0 { Shown::Daltons(daltons) } else { Shown::Missing(missing) })
@@ -277,7 +327,8 @@ pub fn allowed(bytes: &[u8], numbers: &[i64], placement: &[Position]) -> Result<
     answer(outs::allowed(bytes, numbers, placement), 0, ())
 }
 
-/// Writes the mass at each position under a placement, in millionths, into the first [`POSITIONS`] entries; or 16, with how many have no mass as its place, or 18.
+/// Writes the stated mass at each position under a placement, in millionths, into the first [`POSITIONS`] entries; or 16, with how many have none, or only a measured one
+/// (behind `Obs`), as its place, or 18.
 pub fn ledger(bytes: &[u8], numbers: &[i64], placement: &[Position], entries: &mut [i64]) -> Result<(), Refusal> {
     let (number, place) = outs::ledger(bytes, numbers, placement, entries);
     answer(number, place, ())
@@ -485,16 +536,15 @@ pub mod outs {
         (number, millionths, place)
     }
 
-    /// The number, the mass in millionths, and the place.
-    pub fn bracket_mass(bytes: &[u8], numbers: &[i64], bracket: usize) -> (u8, i64, usize) {
-        let (mut millionths, mut place) = (i64::MIN, usize::MAX);
-        let number = unsafe {
-            hwemiduk_bracket_mass(bytes.as_ptr(), bytes.len(), numbers.as_ptr(), numbers.len(), bracket, &mut millionths, &mut place)
-        };
-        (number, millionths, place)
+    /// The number, the mass in millionths, 0 where there is none, and its sort: 0 none, 1 stated, 2 only measured.
+    pub fn bracket_mass(bytes: &[u8], numbers: &[i64], bracket: usize) -> (u8, i64, u8) {
+        let (mut millionths, mut sort) = (i64::MIN, u8::MAX);
+        let number =
+            unsafe { hwemiduk_bracket_mass(bytes.as_ptr(), bytes.len(), numbers.as_ptr(), numbers.len(), bracket, &mut millionths, &mut sort) };
+        (number, millionths, sort)
     }
 
-    /// The number, the mass in Daltons, and how many have none.
+    /// The number, the mass in Daltons, and how many have none that is stated.
     pub fn shown(bytes: &[u8], numbers: &[i64]) -> (u8, f64, usize) {
         let (mut daltons, mut missing) = (f64::NAN, usize::MAX);
         let number = unsafe { hwemiduk_shown(bytes.as_ptr(), bytes.len(), numbers.as_ptr(), numbers.len(), &mut daltons, &mut missing) };
@@ -602,7 +652,7 @@ extern "C" {
         copies: *mut u8, copies_len: usize, count: *mut usize) -> u8;
     fn hwemiduk_total(bytes: *const u8, bytes_len: usize, numbers: *const i64, numbers_len: usize, millionths: *mut i64, place: *mut usize) -> u8;
     fn hwemiduk_bracket_mass(bytes: *const u8, bytes_len: usize, numbers: *const i64, numbers_len: usize, bracket: usize, millionths: *mut i64,
-        place: *mut usize) -> u8;
+        sort: *mut u8) -> u8;
     fn hwemiduk_shown(bytes: *const u8, bytes_len: usize, numbers: *const i64, numbers_len: usize, daltons: *mut f64, missing: *mut usize) -> u8;
     fn hwemiduk_allowed(bytes: *const u8, bytes_len: usize, numbers: *const i64, numbers_len: usize, placement: *const Position, placement_len: usize) -> u8;
     fn hwemiduk_next(bytes: *const u8, bytes_len: usize, numbers: *const i64, numbers_len: usize, listing: *mut Listing) -> u8;

@@ -19,7 +19,17 @@
 //! assert_eq!(refusal.show(b"A[U:35]").to_string(), "9 at 2: prefix U or M with a name of digits only\nA[U:35]\n  ^");
 //! ```
 //!
-//! Totals, shifts and ledgers are of the modifications only: the residues' own masses are not in them.
+//! Totals, shifts and ledgers are of the modifications only: the residues' own masses are not in them. Only stated masses enter them. One behind `Obs` is measured: a
+//! modification with only such a mass counts as one without, and [`Bracket::mass`] tells which it is.
+//!
+//! ```
+//! use hwemiduk::{Mass, Missing, Peptidoform};
+//!
+//! let p: Peptidoform = "A[Obs:+1]".parse()?;
+//! assert_eq!(p.total(), Err(Missing { count: 1 }));
+//! assert_eq!(p.brackets()[0].mass, Mass::Measured(1_000_000));
+//! # Ok::<(), hwemiduk::Refusal>(())
+//! ```
 //!
 //! A register of entries is kept in [`Blocks`].
 //!
@@ -38,7 +48,7 @@ mod peptidoform;
 #[cfg(feature = "std")]
 mod tables;
 
-pub use lent::{Position, Survey, SUGARS};
+pub use lent::{Mass, Position, Survey, SUGARS};
 pub use refusal::{Missing, Refusal, Show, WORDS};
 
 #[cfg(feature = "std")]

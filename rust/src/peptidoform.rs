@@ -14,7 +14,7 @@ use crate::{Missing, Refusal};
 /// Two are equal where their canonical lines are, which is where the lines read to the same tables; they are ordered and hashed by that line. Whatever else one tells
 /// is asked of the library when it is asked for.
 ///
-/// Totals, shifts and ledgers are of the modifications only: the residues' own masses are not in them.
+/// Totals, shifts and ledgers are of the modifications only: the residues' own masses are not in them, and no mass that is only measured.
 #[derive(Clone, PartialEq, Eq, Hash, PartialOrd, Ord)]
 pub struct Peptidoform {
     line: Box<str>,
@@ -102,13 +102,16 @@ impl Peptidoform {
         rows_of(&self.tables())
     }
 
-    /// The sum of the masses of all modifications, in millionths, a declared one once for each position that it reaches; the residues' own masses are not in it.
+    /// The sum of the stated masses of all modifications, in millionths, a declared one once for each position that it reaches; the residues' own masses are not in it. A mass
+    /// behind `Obs` is measured, and left out: a modification that has no other is missing.
     ///
     /// ```
     /// # use hwemiduk::{Missing, Peptidoform};
     /// assert_eq!("AM[+15.995]C[-18.01]".parse::<Peptidoform>()?.total(), Ok(-2_015_000));
     /// assert_eq!("PEPTIDE".parse::<Peptidoform>()?.total(), Ok(0));
     /// assert_eq!("[Acetyl]-A".parse::<Peptidoform>()?.total(), Err(Missing { count: 1 }));
+    /// assert_eq!("A[Obs:+2|+1]".parse::<Peptidoform>()?.total(), Ok(1_000_000));
+    /// assert_eq!("A[Obs:+1]".parse::<Peptidoform>()?.total(), Err(Missing { count: 1 }));
     /// # Ok::<(), hwemiduk::Refusal>(())
     /// ```
     pub fn total(&self) -> Result<i64, Missing> {
@@ -119,7 +122,7 @@ impl Peptidoform {
         }
     }
 
-    /// What the modifications add to the peptide's mass, in Daltons; none where one has no mass. The residues' own masses are not in it.
+    /// What the modifications add to the peptide's mass, in Daltons; none where one has no stated mass. The residues' own masses are not in it, and no measured one is.
     pub fn shift(&self) -> Option<f64> {
         match self.shown() {
             Shown::Daltons(daltons) => Some(daltons),
@@ -127,7 +130,18 @@ impl Peptidoform {
         }
     }
 
-    /// How many modifications have no mass, each copy counted, and each position that a declaration reaches.
+    /// How many modifications have no stated mass, those with only a measured one (behind `Obs`) among them, each copy counted, and each position that a declaration reaches.
+    /// Which brackets have only a measured one, their masses tell:
+    ///
+    /// ```
+    /// # use hwemiduk::Peptidoform;
+    /// let p: Peptidoform = "[Obs:+1]^3?ACD[x]E[Obs:+2|+1]".parse()?;
+    /// assert_eq!(p.missing(), 4);
+    /// let measured: Vec<_> = p.brackets().into_iter().filter(|bracket| bracket.mass.measured().is_some()).collect();
+    /// assert_eq!(measured.len(), 1);
+    /// assert_eq!((measured[0].to_string(), measured[0].mass.measured()), ("[Obs:+1]".to_owned(), Some(1_000_000)));
+    /// # Ok::<(), hwemiduk::Refusal>(())
+    /// ```
     pub fn missing(&self) -> usize {
         match self.shown() {
             Shown::Daltons(_) => 0,
@@ -180,8 +194,8 @@ impl Peptidoform {
         }
     }
 
-    /// The mass of the modifications at each position under a placement, in millionths: the N-terminus, each residue, the C-terminus. The residues' own masses are not
-    /// in it. Refused with 16 if a modification has no mass, with 18 if the placement, a position for each floater, is not an allowed one.
+    /// The stated mass of the modifications at each position under a placement, in millionths: the N-terminus, each residue, the C-terminus. The residues' own masses are not
+    /// in it. Refused with 16 if a modification has no stated mass, with 18 if the placement, a position for each floater, is not an allowed one.
     ///
     /// ```
     /// # use hwemiduk::Peptidoform;

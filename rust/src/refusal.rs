@@ -19,7 +19,7 @@ pub const WORDS: [&str; 26] = [
     "a lent area is too short",
     "tables that no accepted line reads to",
     "the output is shorter than what is to be written",
-    "a modification has no mass",
+    "a modification has no stated mass",
     "no placement, no further one, no such row or bracket",
     "a placement that is not allowed",
     "a composition that cannot be cut into listed names and counts",
@@ -55,7 +55,7 @@ impl Refusal {
     }
 
     /// Where in the line, for 1 to 12, 19 and 21: bytes are counted from 0, and where the line should go on and ends, it is the line's length. For 15 it is the length that
-    /// is needed, for 16 how many modifications have no mass; else 0.
+    /// is needed, for 16 how many modifications have no stated mass; else 0.
     pub const fn place(&self) -> usize {
         self.place
     }
@@ -115,7 +115,8 @@ impl Display for Show<'_> {
     }
 }
 
-/// How many modifications have no mass, each copy counted, and each position that a declaration reaches: why there is no total.
+/// How many modifications have no stated mass, those with only a measured one (behind `Obs`) among them, each copy counted, and each position that a declaration reaches: why
+/// there is no total.
 #[derive(Clone, Copy, Debug, PartialEq, Eq, Hash)]
 pub struct Missing {
     /// How many.
@@ -125,8 +126,8 @@ pub struct Missing {
 impl Display for Missing {
     fn fmt(&self, f: &mut Formatter<'_>) -> fmt::Result {
         match self.count {
-            1 => f.write_str("1 modification has no mass"),
-            count => write!(f, "{count} modifications have no mass"),
+            1 => f.write_str("1 modification has no stated mass"),
+            count => write!(f, "{count} modifications have no stated mass"),
         }
     }
 }

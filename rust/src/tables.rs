@@ -4,7 +4,7 @@ use std::fmt::{self, Display, Formatter};
 use std::ops::RangeInclusive;
 
 use crate::lent::layout::{BRACKETS_AT, BRACKETS_USED_AT, HEAD, LETTERS_AT, PART, PLACES_AT, RESIDUES_AT, ROW, SECTIONS_AT, TEXTS_AT};
-use crate::lent::{self, Position, BYTES, NUMBERS, PARTS, POSITIONS, SUGARS};
+use crate::lent::{self, Mass, Position, BYTES, NUMBERS, PARTS, POSITIONS, SUGARS};
 use crate::Refusal;
 
 /// What a residue stands in.
@@ -223,8 +223,8 @@ pub struct Bracket {
     pub count: u8,
     /// What it says, in synonyms.
     pub parts: Vec<Part>,
-    /// The mass of one copy in millionths, as the library tells it: its first mass without Obs, else its first Obs mass; none where it has neither.
-    pub millionths: Option<i64>,
+    /// The mass of one copy, as the library tells it: stated, only measured, or none. Only a stated one enters sums.
+    pub mass: Mass,
 }
 
 impl Bracket {
@@ -373,13 +373,6 @@ impl Tables {
         positions
     }
 
-    fn mass(&self, bracket: usize) -> Option<i64> {
-        match lent::bracket_mass(&self.bytes, &self.numbers, bracket) {
-            Err(refusal) if refusal.number() == 16 => None,
-            answer => Some(held(answer)),
-        }
-    }
-
     fn bracket(&self, index: usize, row: &[u8], numbers: &[i64]) -> Bracket {
         let (kind, first, last, count, parts, score) = (row[0], wide(row, 1), wide(row, 3), row[5], row[6], row[7]);
         let kind = KINDS[usize::from(kind) - 1];
@@ -390,7 +383,7 @@ impl Tables {
             positions: (!matches!(kind, Kind::Unknown | Kind::Labile | Kind::Declared)).then_some(first..=last),
             count,
             parts: rows.map(|(row, &mass)| self.part(row, mass, score)).collect(),
-            millionths: self.mass(index),
+            mass: held(lent::bracket_mass(&self.bytes, &self.numbers, index)),
         }
     }
 

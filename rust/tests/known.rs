@@ -6,8 +6,8 @@ use std::error::Error;
 use std::iter::FusedIterator;
 
 use hwemiduk::{
-    composition, entry, lent, Bracket, Content, Declaration, Key, Kind, Label, Missing, Number, Part, Peptidoform, Place, Placement, Placements,
-    Refusal, Section, SUGARS, WORDS,
+    composition, entry, lent, Bracket, Content, Declaration, Key, Kind, Label, Mass, Missing, Number, Part, Peptidoform, Place, Placement,
+    Placements, Refusal, Section, SUGARS, WORDS,
 };
 
 fn of(line: &str) -> Peptidoform {
@@ -150,17 +150,17 @@ fn what_the_tables_hold() {
     assert_eq!(p.sections(), [Section::Plain, Section::RangeFirst, Section::RangeNext, Section::UnsureFirst, Section::UnsureNext]);
     let mass = |key, millionths, decimals| Part { key, content: Content::Mass(Number { millionths, decimals }), label: None };
     let text = |key, text: &str| Part { key, content: Content::Text(text.into()), label: None };
-    let one = |kind, positions, parts, millionths| Bracket { kind, positions, count: 1, parts, millionths };
+    let one = |kind, positions, parts, mass| Bracket { kind, positions, count: 1, parts, mass };
     let label = |score| Some(Label { name: "g1".into(), score });
     let score = Some(Number { millionths: -250_000, decimals: 2 });
     let expected = [
-        Bracket { count: 3, ..one(Kind::Unknown, None, vec![mass(Key::U, 1_500_000, 2)], Some(1_500_000)) },
-        one(Kind::Labile, None, vec![mass(Key::Obs, -2_000_000, 0)], Some(-2_000_000)),
-        one(Kind::NTerm, Some(0..=0), vec![text(Key::Unimod, "4")], None),
-        one(Kind::Residue, Some(3..=3), vec![text(Key::R, "x")], None),
-        one(Kind::Range, Some(2..=3), vec![text(Key::None, "y"), Part { label: label(score), ..mass(Key::None, 500_000, 1) }], Some(500_000)),
-        one(Kind::Residue, Some(5..=5), vec![Part { key: Key::None, content: Content::Reference, label: label(None) }], None),
-        one(Kind::CTerm, Some(6..=6), vec![text(Key::Info, "z[#|]")], None),
+        Bracket { count: 3, ..one(Kind::Unknown, None, vec![mass(Key::U, 1_500_000, 2)], Mass::Stated(1_500_000)) },
+        one(Kind::Labile, None, vec![mass(Key::Obs, -2_000_000, 0)], Mass::Measured(-2_000_000)),
+        one(Kind::NTerm, Some(0..=0), vec![text(Key::Unimod, "4")], Mass::None),
+        one(Kind::Residue, Some(3..=3), vec![text(Key::R, "x")], Mass::None),
+        one(Kind::Range, Some(2..=3), vec![text(Key::None, "y"), Part { label: label(score), ..mass(Key::None, 500_000, 1) }], Mass::Stated(500_000)),
+        one(Kind::Residue, Some(5..=5), vec![Part { key: Key::None, content: Content::Reference, label: label(None) }], Mass::None),
+        one(Kind::CTerm, Some(6..=6), vec![text(Key::Info, "z[#|]")], Mass::None),
     ];
     assert_eq!(p.brackets(), expected);
     let spelled: Vec<String> = expected.iter().map(ToString::to_string).collect();
@@ -208,14 +208,14 @@ fn declarations() {
     assert_eq!(p.as_str(), "<[+1.5|x]@K,N-term><[Acetyl]@W>[+2]?AKK");
     let mass = Part { key: Key::None, content: Content::Mass(Number { millionths: 1_500_000, decimals: 1 }), label: None };
     let text = |text: &str| Part { key: Key::None, content: Content::Text(text.into()), label: None };
-    let bracket = |parts, millionths| Bracket { kind: Kind::Declared, positions: None, count: 1, parts, millionths };
+    let bracket = |parts, mass| Bracket { kind: Kind::Declared, positions: None, count: 1, parts, mass };
     let expected = [
         Declaration {
-            bracket: bracket(vec![mass, text("x")], Some(1_500_000)),
+            bracket: bracket(vec![mass, text("x")], Mass::Stated(1_500_000)),
             places: vec![Place::Letter('K'), Place::NTerm],
             positions: vec![0, 2, 3],
         },
-        Declaration { bracket: bracket(vec![text("Acetyl")], None), places: vec![Place::Letter('W')], positions: vec![] },
+        Declaration { bracket: bracket(vec![text("Acetyl")], Mass::None), places: vec![Place::Letter('W')], positions: vec![] },
     ];
     assert_eq!(p.declared(), expected);
     assert_eq!(p.brackets()[..2], expected.map(|one| one.bracket));
@@ -274,21 +274,56 @@ fn pieces_of_texts() {
     }
 }
 
-/// Document 01: "its first mass without `Obs`, else its first `Obs` mass, else none"; of one copy.
+/// Document 01: "its first mass without `Obs`, else its first `Obs` mass, else none"; document 02, L6: "stated, only measured, or none"; of one copy.
 #[test]
 fn a_bracket_s_mass() {
-    for (line, millionths) in [
-        ("A[Obs:+2|+1]", Some(1_000_000)),
-        ("A[Obs:+1|U:+2|+3]", Some(2_000_000)),
-        ("A[x|Obs:-2|Obs:+3]", Some(-2_000_000)),
-        ("[+0.5]^7?A", Some(500_000)),
-        ("A[-0]", Some(0)),
-        ("A[INFO:+1]", None),
-        ("A[15.99]", None),
-        ("A[x|Obs:-2|Glycan:Sug2]", Some(84_021_200)),
+    for (line, mass) in [
+        ("A[Obs:+2|+1]", Mass::Stated(1_000_000)),
+        ("A[+1|Obs:+2]", Mass::Stated(1_000_000)),
+        ("A[Obs:+1|U:+2|+3]", Mass::Stated(2_000_000)),
+        ("A[Obs:+1]", Mass::Measured(1_000_000)),
+        ("A[x|Obs:-2|Obs:+3]", Mass::Measured(-2_000_000)),
+        ("A[Obs:-0]", Mass::Measured(0)),
+        ("[Obs:+0.5]^7?A", Mass::Measured(500_000)),
+        ("<[Obs:+0.5]@A>AA", Mass::Measured(500_000)),
+        ("[+0.5]^7?A", Mass::Stated(500_000)),
+        ("A[-0]", Mass::Stated(0)),
+        ("A[INFO:+1]", Mass::None),
+        ("A[15.99]", Mass::None),
+        ("A[x|Obs:-2|Glycan:Sug2]", Mass::Stated(84_021_200)),
     ] {
-        assert_eq!(of(line).brackets()[0].millionths, millionths, "{line}");
+        assert_eq!(of(line).brackets()[0].mass, mass, "{line}");
     }
+    let told = |mass: Mass| (mass.stated(), mass.measured());
+    assert_eq!([Mass::Stated(7), Mass::Measured(7), Mass::None].map(told), [(Some(7), None), (None, Some(7)), (None, None)]);
+}
+
+/// Document 02, L6: "Only stated ones enter total, ledger, display and the program's sixth field; the others count as lacking."
+#[test]
+fn measured_masses_stay_out_of_sums() {
+    for (line, count) in [
+        ("A[Obs:+1]", 1),
+        ("A[Obs:-0]", 1),
+        ("A[x|Obs:-2|Obs:+3]", 1),
+        ("A[INFO:x|Obs:+1]", 1),
+        ("{Obs:+1}A", 1),
+        ("[Obs:+1]-A-[Obs:+1]", 2),
+        ("M[Obs:+16#a]C[#a]", 1),
+        ("A[Obs:+1]C[x]D[+5]", 2),
+        ("[Obs:+1]^3?ACD[+1]", 3),
+        ("<[Obs:+1]@A>AA", 2),
+    ] {
+        let p = of(line);
+        assert_eq!((p.total(), p.shift(), p.missing()), (Err(Missing { count }), None, count), "{line}");
+        assert_eq!(entry(1, line.as_bytes()).split(' ').nth(5), Some(format!("?{count}").as_str()), "{line}");
+        let refused = p.ledger(&vec![0; p.floaters().len()]).unwrap_err();
+        assert_eq!((refused.number(), refused.place()), (16, count), "{line}");
+    }
+    for (line, total) in [("A[Obs:+2|+1]", 1_000_000), ("A[+1|Obs:+2]C[-0.5]", 500_000), ("<[Obs:+1]@W>A", 0)] {
+        let p = of(line);
+        assert_eq!((p.total(), p.missing(), p.ledger(&[]).unwrap().iter().sum()), (Ok(total), 0, total), "{line}");
+    }
+    assert_eq!((placed("[+1]?A[Obs:+2]C"), placed("[Obs:+1]?AC")), (vec![vec![2]], vec![vec![1], vec![2]]));
 }
 
 /// Document 01's three lines, and the longest entry.
@@ -333,7 +368,7 @@ fn what_the_types_are() {
     }
     assert_eq!(total("A[+1]").unwrap(), 1_000_000);
     assert_eq!(total("A[").unwrap_err().to_string(), "4 at 2: not of the order of a line");
-    assert_eq!(total("A[x]").unwrap_err().to_string(), "1 modification has no mass");
+    assert_eq!(total("A[x]").unwrap_err().to_string(), "1 modification has no stated mass");
 }
 
 #[test]
@@ -347,7 +382,7 @@ fn refusals_in_words() {
     let refusal = lent::total(&bytes, &numbers).unwrap_err();
     assert_eq!((refusal.number(), refusal.column()), (14, None));
     assert_eq!(refusal.show(b"A").to_string(), "14: tables that no accepted line reads to");
-    assert_eq!(of("[x]^2?A").ledger(&[1, 1]).unwrap_err().to_string(), "16: 2 modifications have no mass");
+    assert_eq!(of("[x]^2?A").ledger(&[1, 1]).unwrap_err().to_string(), "16: 2 modifications have no stated mass");
 }
 
 /// The words of each number, in its order, are those of refusals.tsv.

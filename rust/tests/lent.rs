@@ -2,7 +2,8 @@
 #![forbid(unsafe_code)]
 
 use hwemiduk::lent::{
-    self, Limits, Listing, Shown, Site, BLOCK, BLOCKS, BRACKETS, BYTES, COPIES, DECLARATIONS, LINE, NUMBERS, PARTS, PIECES, PLACES, POSITIONS, RESIDUES, ROWS,
+    self, Limits, Listing, Mass, Shown, Site, BLOCK, BLOCKS, BRACKETS, BYTES, COPIES, DECLARATIONS, LINE, NUMBERS, PARTS, PIECES, PLACES, POSITIONS,
+    RESIDUES, ROWS,
 };
 use hwemiduk::Refusal;
 
@@ -73,6 +74,33 @@ fn counts_and_masses() {
     let mut entries = [-7; POSITIONS];
     assert_eq!(refused(lent::ledger(&bytes, &numbers, &[0; COPIES], &mut entries)), (16, 3));
     assert!(entries == [-7; POSITIONS]);
+    let (bytes, numbers) = tables("[Obs:+1]^3?ACD[+1]");
+    assert_eq!(refused(lent::total(&bytes, &numbers)), (16, 3));
+    assert_eq!(lent::shown(&bytes, &numbers), Ok(Shown::Missing(3)));
+    assert_eq!(refused(lent::ledger(&bytes, &numbers, &[0; COPIES], &mut entries)), (16, 3));
+    assert!(entries == [-7; POSITIONS]);
+}
+
+/// Document 02, L6: "A bracket's mass now answers stated, only measured, or none."
+#[test]
+fn masses_of_brackets() {
+    let (bytes, numbers) = tables("[Obs:-2.5]^3?A[Obs:+2|+1]C[x]D[+0]E[INFO:y]");
+    for (bracket, outs, mass) in [
+        (0, (0, -2_500_000, 2), Mass::Measured(-2_500_000)),
+        (1, (0, 1_000_000, 1), Mass::Stated(1_000_000)),
+        (2, (0, 0, 0), Mass::None),
+        (3, (0, 0, 1), Mass::Stated(0)),
+        (4, (0, 0, 0), Mass::None),
+    ] {
+        assert_eq!(lent::outs::bracket_mass(&bytes, &numbers, bracket), outs);
+        assert_eq!(lent::bracket_mass(&bytes, &numbers, bracket), Ok(mass));
+    }
+    for beyond in [5, BRACKETS, usize::MAX] {
+        assert_eq!(refused(lent::bracket_mass(&bytes, &numbers, beyond)), (17, 0));
+        assert_eq!(lent::outs::bracket_mass(&bytes, &numbers, beyond), (17, i64::MIN, u8::MAX));
+    }
+    assert_eq!(lent::outs::bracket_mass(&bytes[1..], &numbers, 0), (13, i64::MIN, u8::MAX));
+    assert_eq!(lent::outs::bracket_mass(&bytes, &numbers[1..], 9), (13, i64::MIN, u8::MAX));
 }
 
 #[test]
@@ -170,6 +198,8 @@ fn tables_of_no_line() {
     }
     assert_eq!(refused(lent::total(&bytes, &numbers)), fourteen);
     assert_eq!(refused(lent::shown(&bytes, &numbers)), fourteen);
+    assert_eq!(lent::outs::bracket_mass(&bytes, &numbers, 0), (14, i64::MIN, u8::MAX));
+    assert_eq!(refused(lent::bracket_mass(&bytes, &numbers, BRACKETS)), fourteen);
     assert_eq!(refused(lent::allowed(&bytes, &numbers, &[0; COPIES])), fourteen);
     assert_eq!(refused(lent::ledger(&bytes, &numbers, &[0; COPIES], &mut [0; POSITIONS])), fourteen);
     assert_eq!(refused(lent::next(&bytes, &numbers, &mut Listing::FRESH.clone())), fourteen);

@@ -6,7 +6,7 @@
 #[path = "../../compare/tests/json/mod.rs"]
 mod json;
 
-use hwemiduk::{entry, Missing, Peptidoform, Position};
+use hwemiduk::{entry, Bracket, Content, Key, Mass, Missing, Peptidoform, Position};
 use json::Json;
 
 const LINES: &[u8] = include_bytes!("../../compare/vectors/lines.in");
@@ -15,6 +15,18 @@ const PRINTED: &str = include_str!("../../compare/vectors/lines.out");
 
 fn positions(numbers: &Json, floaters: usize) -> Vec<Position> {
     numbers.numbers()[..floaters].iter().map(|&position| position as Position).collect()
+}
+
+/// The mass of a bracket by what its parts say: the first that is not behind `Obs`, which is stated, else the first behind it, which is only measured.
+fn mass_of_parts(bracket: &Bracket) -> Mass {
+    let first = |measured: bool| {
+        let parts = bracket.parts.iter().filter(|part| (part.key == Key::Obs) == measured);
+        parts.map(|part| &part.content).find_map(|content| match content {
+            Content::Mass(mass) | Content::Composition { mass, .. } => Some(mass.millionths),
+            Content::Text(_) | Content::Reference => None,
+        })
+    };
+    first(false).map(Mass::Stated).or(first(true).map(Mass::Measured)).unwrap_or(Mass::None)
 }
 
 #[test]
@@ -43,6 +55,11 @@ fn every_line_with_compositions() {
     assert!(every_row(include_str!("../../compare/vectors/compositions.txt")) > 60);
 }
 
+#[test]
+fn every_line_with_measured_masses() {
+    assert!(every_row(include_str!("../../compare/vectors/measured.txt")) > 50);
+}
+
 /// The entries; and of each accepted line that its declarations stand at its front as they say, and make the total with what else there is.
 #[test]
 fn every_line_with_declarations() {
@@ -57,8 +74,8 @@ fn every_line_with_declarations() {
         assert!(p.as_str().starts_with(&front) && !p.as_str()[front.len()..].starts_with('<'), "{line}");
         let times = |index: usize| declared.get(index).map_or(usize::from(brackets[index].count), |one| one.positions.len());
         let modifications = || brackets.iter().enumerate().filter(|(_, bracket)| bracket.is_modification());
-        let missing: usize = modifications().filter(|(_, bracket)| bracket.millionths.is_none()).map(|(index, _)| times(index)).sum();
-        let total: i64 = modifications().map(|(index, bracket)| times(index) as i64 * bracket.millionths.unwrap_or(0)).sum();
+        let missing: usize = modifications().filter(|(_, bracket)| bracket.mass.stated().is_none()).map(|(index, _)| times(index)).sum();
+        let total: i64 = modifications().map(|(index, bracket)| times(index) as i64 * bracket.mass.stated().unwrap_or(0)).sum();
         let shown = if missing > 0 { format!("?{missing}") } else { format!("{total:+}") };
         assert_eq!(printed.splitn(5, ' ').nth(3), Some(shown.as_str()), "{line}");
     }
@@ -66,7 +83,7 @@ fn every_line_with_declarations() {
 
 #[test]
 fn every_vector() {
-    let (mut accepted, mut refused, mut weighed) = (0, 0, 0);
+    let (mut accepted, mut refused, mut weighed, mut measured) = (0, 0, 0, 0);
     for (line, outcome) in LINES.split(|&byte| byte == 10).zip(OUTCOMES.lines()) {
         let outcome = Json::read(outcome);
         let shown = String::from_utf8_lossy(line);
@@ -94,17 +111,21 @@ fn every_vector() {
         }
 
         // masses
+        for bracket in &brackets {
+            assert_eq!(bracket.mass, mass_of_parts(bracket), "{shown}");
+            measured += usize::from(bracket.mass.measured().is_some());
+        }
         let missing = outcome.get("missing").number() as usize;
         assert_eq!(p.missing(), missing, "{shown}");
         let modifications = || brackets.iter().filter(|bracket| bracket.is_modification());
-        let without: usize = modifications().filter(|bracket| bracket.millionths.is_none()).map(|bracket| usize::from(bracket.count)).sum();
+        let without: usize = modifications().filter(|bracket| bracket.mass.stated().is_none()).map(|bracket| usize::from(bracket.count)).sum();
         assert_eq!(without, missing, "{shown}");
         if missing > 0 {
             assert_eq!((p.total(), p.shift()), (Err(Missing { count: missing }), None), "{shown}");
         } else {
             let total = outcome.get("total").number();
             assert_eq!((p.total(), p.shift()), (Ok(total), Some(total as f64 / 1e6)), "{shown}");
-            let sum: i64 = modifications().map(|bracket| i64::from(bracket.count) * bracket.millionths.unwrap()).sum();
+            let sum: i64 = modifications().map(|bracket| i64::from(bracket.count) * bracket.mass.stated().unwrap()).sum();
             assert_eq!(sum, total, "{shown}");
         }
 
@@ -125,12 +146,12 @@ fn every_vector() {
             let answer = p.ledger(&first[0]).unwrap();
             assert_eq!(answer, ledger.numbers(), "{shown}");
             for (floater, &at) in floaters.iter().zip(&first[0]) {
-                assert_eq!(floater.bracket.millionths, Some(answer[usize::from(at)]), "{shown}");
+                assert_eq!(floater.bracket.mass, Mass::Stated(answer[usize::from(at)]), "{shown}");
             }
             weighed += 1;
         }
         accepted += 1;
     }
     assert_eq!((accepted, refused), (1132, 1268));
-    assert!(weighed > 300, "{weighed}");
+    assert!(weighed > 250 && measured > 100, "{weighed} {measured}");
 }

@@ -8,10 +8,14 @@
 >>> p.total(), p.shift(), p.missing
 (2000000, 2.0, 0)
 
-Totals, shifts and ledgers are of the modifications only: the residues' own masses are not in them.
+Totals, shifts and ledgers are of the modifications only: the residues' own masses are not in them. Only stated masses enter them. One behind `Obs` is measured: a
+modification with only such a mass counts as one without.
 
 >>> Peptidoform("PEPTIDE").shift()
 0.0
+>>> p = Peptidoform("A[Obs:+1]")
+>>> p.shift(), p.missing, p.brackets[0].millionths, p.brackets[0].measured
+(None, 1, None, 1000000)
 
 A line that is refused raises a Refusal, a ValueError with a number, a place and words; `read_lines` reads a whole file and raises none.
 

@@ -48,11 +48,12 @@ def show(line: str) -> int:
     brackets, declared = p.brackets, p.declared
     print(f"brackets: {len(brackets)}")
     for one in declared:
-        print(f"    {one.bracket}  declared for {', '.join(one.places)}: {'at ' + ' '.join(map(str, one.positions)) if one.positions else 'nowhere here'}")
+        stands = "at " + " ".join(map(str, one.positions)) if one.positions else "nowhere here"
+        print(f"    {one.bracket}  declared for {', '.join(one.places)}: {stands}{_measured(one.bracket)}")
     for bracket in brackets[len(declared) :]:
-        print(f"    {bracket}{'^' + str(bracket.count) if bracket.count != 1 else ''}  {_stands(bracket)}")
+        print(f"    {bracket}{'^' + str(bracket.count) if bracket.count != 1 else ''}  {_stands(bracket)}{_measured(bracket)}")
     missing = p.missing
-    shift = f"not known: {missing} without a mass" if missing else f"{p.total() / 1e6:+.6f} Da"
+    shift = f"not known: {missing} without a stated mass" if missing else f"{p.total() / 1e6:+.6f} Da"
     print(f"sum of the modifications, without the residues: {shift}")
     floaters = p.floaters
     print(f"floating copies: {len(floaters)}")
@@ -72,7 +73,11 @@ def _stands(bracket: Bracket) -> str:
     return {Kind.UNKNOWN: "anywhere", Kind.LABILE: "labile", Kind.N_TERM: "at the N-terminus", Kind.C_TERM: "at the C-terminus"}[bracket.kind]
 
 
-#: The columns of a table. `total` is of the modifications only, in millionths, and empty where `missing` of them have no mass.
+def _measured(bracket: Bracket) -> str:
+    return "" if bracket.measured is None else ", only measured: not in the sum"
+
+
+#: The columns of a table. `total` is of the modifications only, in millionths, and empty where `missing` of them have no stated mass.
 COLUMNS = ("file", "number", "line", "canonical", "residues", "brackets", "floaters", "total", "missing", "refusal", "column", "words")
 
 

@@ -125,7 +125,7 @@ for _name, _arguments in {
     "floaters": (*_tables, c_void_p),
     "floater_brackets": (*_tables, POINTER(c_uint8), c_size_t, POINTER(c_uint8), c_size_t, c_void_p),
     "total": (*_tables, POINTER(c_int64), c_void_p),
-    "bracket_mass": (*_tables, c_size_t, POINTER(c_int64), c_void_p),
+    "bracket_mass": (*_tables, c_size_t, POINTER(c_int64), POINTER(c_uint8)),
     "shown": (*_tables, POINTER(c_double), c_void_p),
     "allowed": (*_tables, POINTER(Position), c_size_t),
     "next": (*_tables, POINTER(Listing)),

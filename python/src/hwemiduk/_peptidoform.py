@@ -26,7 +26,7 @@ class Peptidoform:
     are pickled by it: a pickle is read again, so that a bad one is refused. Nothing in one can be set. Whatever else it tells is asked of the library when it is
     asked for: keep what is needed twice.
 
-    Totals, shifts and ledgers are of the modifications only: the residues' own masses are not in them.
+    Totals, shifts and ledgers are of the modifications only: the residues' own masses are not in them, and no mass that is only measured.
     """
 
     __slots__ = ("_line",)
@@ -158,18 +158,25 @@ class Peptidoform:
     # ---- Masses: of the modifications only
 
     def total(self) -> int:
-        """The sum of the masses of all modifications, in millionths; refused with 16 if one has no mass.
+        """The sum of the stated masses of all modifications, in millionths; refused with 16 if one has no stated mass.
 
         Counts are multiplied, labile ones are in it, a label is counted once, a declared one once for each position that it reaches. The residues' own masses are not in it.
+        A mass behind `Obs` is measured, and left out: a modification that has no other counts as one without.
+
+        >>> Peptidoform("A[Obs:+2|+1]").total()
+        1000000
+        >>> Peptidoform("A[Obs:+1]").total()
+        Traceback (most recent call last):
+        hwemiduk.Refusal: 16: 1 modification has no stated mass
         """
         millionths = c_int64()
         self._ask(library.hwemiduk_total, byref(millionths))
         return millionths.value
 
     def shift(self) -> Optional[float]:
-        """What the modifications add to the peptide's mass, in Daltons; None where one has no mass (`missing` says how many).
+        """What the modifications add to the peptide's mass, in Daltons; None where one has no stated mass (`missing` says how many).
 
-        This is `total()` for display. The residues' own masses are not in it.
+        This is `total()` for display. The residues' own masses are not in it, and no measured one is.
         """
         daltons = c_double()
         missing = self._ask(library.hwemiduk_shown, byref(daltons))
@@ -177,7 +184,13 @@ class Peptidoform:
 
     @property
     def missing(self) -> int:
-        """How many modifications have no mass, each copy counted, and each position that a declaration reaches."""
+        """How many modifications have no stated mass, those with only a measured one (behind `Obs`) among them, each copy counted, and each position that a declaration
+        reaches. Which brackets have only a measured one, `Bracket.measured` tells.
+
+        >>> p = Peptidoform("[Obs:+1]^3?ACD[x]E[Obs:+2|+1]")
+        >>> p.missing, [str(bracket) for bracket in p.brackets if bracket.measured is not None]
+        (4, ['[Obs:+1]'])
+        """
         return self._ask(library.hwemiduk_shown, byref(c_double()))
 
     # ---- Placements
@@ -226,9 +239,9 @@ class Peptidoform:
         return number == 0
 
     def ledger(self, placement: Sequence[int] = ()) -> List[int]:
-        """The mass of the modifications at each position under a placement, in millionths: the N-terminus, each residue, the C-terminus.
+        """The stated mass of the modifications at each position under a placement, in millionths: the N-terminus, each residue, the C-terminus.
 
-        A placement has a position for each of `floaters`; where nothing floats it may be left out. Refused with 16 if a modification has no mass, with 18 if the
+        A placement has a position for each of `floaters`; where nothing floats it may be left out. Refused with 16 if a modification has no stated mass, with 18 if the
         placement is not an allowed one. The residues' own masses are not in it.
         """
         entries = (c_int64 * LIMITS.positions)()
@@ -329,8 +342,8 @@ def entry(line: Union[str, bytes, bytearray, memoryview], number: int = 1) -> st
     >>> entry("[+1]^2?ac"), entry("A[U:35]", 2)
     ('1 ok 2 1 2 +2000000 [+1]^2?AC', '2 no 9 2')
 
-    An accepted line: its number, `ok`, residues, brackets, floating copies, the total in millionths (or `?` and how many modifications have no mass), and the
-    canonical line. A refused one: its number, `no`, the refusal and its place, counted from 0.
+    An accepted line: its number, `ok`, residues, brackets, floating copies, the total in millionths (or `?` and how many modifications have no stated
+    mass), and the canonical line. A refused one: its number, `no`, the refusal and its place, counted from 0.
     """
     raw = _bytes(line)
     if not 0 <= number < 1 << 64:

@@ -23,7 +23,7 @@ WORDS = {
     13: "a lent area is too short",
     14: "tables that no accepted line reads to",
     15: "the output is shorter than what is to be written",
-    16: "a modification has no mass",
+    16: "a modification has no stated mass",
     17: "no placement, no further one, no such row or bracket",
     18: "a placement that is not allowed",
     19: "a composition that cannot be cut into listed names and counts",
@@ -111,8 +111,8 @@ class Refusal(ValueError):
     """What the library refuses: `number` says why (WORDS), and `place` where.
 
     The place of refusals 1 to 12, 19 and 21 is a byte of the line, counted from 0; where the line should go on and ends, it is the line's length. For 16, `place` is how
-    many modifications have no mass, each copy counted, and each position that a declaration reaches. `line` is the line that was refused (bytes), None where no line
-    was read.
+    many modifications have no stated mass, those with only a measured one (behind Obs) among them, each copy counted, and each position that a declaration reaches.
+    `line` is the line that was refused (bytes), None where no line was read.
     """
 
     def __init__(self, number: int, place: int = 0, line: Optional[bytes] = None) -> None:
@@ -138,7 +138,7 @@ class Refusal(ValueError):
 
     def __str__(self) -> str:
         if self.number == 16:
-            return f"16: {self.place} modification{' has' if self.place == 1 else 's have'} no mass"
+            return f"16: {self.place} modification{' has' if self.place == 1 else 's have'} no stated mass"
         at = f" at {self.place}" if self.column is not None else ""
         return f"{self.number}{at}: {self.words}"
 

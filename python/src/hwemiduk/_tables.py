@@ -144,8 +144,10 @@ class Bracket:
     #: how many copies; 1 of a declaration, however many positions it reaches
     count: int
     parts: Tuple[Part, ...]
-    #: the mass of one copy in millionths, as the library tells it: its first mass without Obs, else its first Obs mass; None where it has none
+    #: the stated mass of one copy in millionths, as the library tells it: its first mass or composition that is not behind Obs; None where it has none
     millionths: Optional[int]
+    #: the measured mass of one copy in millionths where it has only that, its first mass behind Obs: no sum has it; None where a mass is stated, or none is there
+    measured: Optional[int]
 
     def __str__(self) -> str:
         inside = "|".join(map(str, self.parts))
@@ -211,7 +213,8 @@ _sections = tuple(Section)
 _keys = dict(zip((*range(14), 15), Key))
 _MASS, _TEXT, _COMPOSITION = 1, 2, 4
 _termini = {1: "N-term", 2: "C-term"}
-_NO_MASS = 16
+# The sorts of a bracket's mass; a third one, 0, is none.
+_STATED, _MEASURED = 1, 2
 
 
 def residues(areas: Areas) -> str:
@@ -256,15 +259,16 @@ def _bracket(areas: Areas, index: int) -> Bracket:
     scored = Number(numbers[LIMITS.parts], score - 1) if score else None
     stands = range(0) if _kinds[kind] in (Kind.UNKNOWN, Kind.LABILE, Kind.DECLARED) else range(first, last + 1)
     held = tuple(_part(areas.data, row + _HEAD.size + k * _PART.size, numbers[k], scored) for k in range(parts))
-    return Bracket(_kinds[kind], stands, count, held, _mass(areas, index))
+    return Bracket(_kinds[kind], stands, count, held, *_mass(areas, index))
 
 
-def _mass(areas: Areas, index: int) -> Optional[int]:
-    millionths = c_int64()
-    number = library.hwemiduk_bracket_mass(*areas.tables, index, byref(millionths), areas.size_at)
-    if number not in (0, _NO_MASS):
-        raise Refusal(number, areas.size.value)
-    return None if number else millionths.value
+def _mass(areas: Areas, index: int) -> Tuple[Optional[int], Optional[int]]:
+    """The stated mass of a bracket, and the measured one where it has only that."""
+    millionths, sort = c_int64(), c_uint8()
+    number = library.hwemiduk_bracket_mass(*areas.tables, index, byref(millionths), byref(sort))
+    if number:
+        raise Refusal(number)
+    return millionths.value if sort.value == _STATED else None, millionths.value if sort.value == _MEASURED else None
 
 
 def _part(data: bytearray, at: int, mass: int, score: Optional[Number]) -> Part:

@@ -41,6 +41,7 @@ static void run(void)
     static const hwemiduk_listing fresh = HWEMIDUK_LISTING;
     static size_t place, index;
     static int64_t total;
+    static uint8_t sort;
     static double daltons;
     static hwemiduk_position position;
     static size_t counts[5];
@@ -57,7 +58,7 @@ static void run(void)
     case FLOATERS: hwemiduk_floaters(HWEMIDUK_OF(&tables), &place); break;
     case FLOATER_BRACKETS: hwemiduk_floater_brackets(HWEMIDUK_OF(&tables), of, sizeof of, copy, sizeof copy, &place); break;
     case TOTAL: hwemiduk_total(HWEMIDUK_OF(&tables), &total, &place); break;
-    case BRACKET_MASS: hwemiduk_bracket_mass(HWEMIDUK_OF(&tables), 0, &total, &place); break;
+    case BRACKET_MASS: hwemiduk_bracket_mass(HWEMIDUK_OF(&tables), 0, &total, &sort); break;
     case SHOWN: hwemiduk_shown(HWEMIDUK_OF(&tables), &daltons, &place); break;
     case ALLOWED: hwemiduk_allowed(HWEMIDUK_OF(&tables), placement, HWEMIDUK_COPIES); break;
     case NEXT:

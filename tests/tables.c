@@ -1,5 +1,6 @@
 /*
- * The tables of a line to the byte, as the header says that they lie: what is expected here is written by hand from the line. Then the words of each answer, one a line.
+ * The tables of a line to the byte, as the header says that they lie, and the mass of each of its brackets: what is expected here is written by hand from the line. Then the
+ * words of each answer, one a line.
  */
 #include <hwemiduk.h>
 #include <stdio.h>
@@ -34,17 +35,19 @@ int main(void)
         long long score_millionths;
         struct { int value, key, decimals, text, label, offset; long long millionths; } part[2];
         const char *sites; /* a terminus by its number */
+        int sort;
+        long long mass;
     } rows[ROWS] = {
-        { HWEMIDUK_DECLARED, 0, 0, 1, 2, 0, 0, { { HWEMIDUK_MASS, HWEMIDUK_NO_KEY, 1, 0, 0, 0, 3500000 }, { HWEMIDUK_TEXT, HWEMIDUK_NO_KEY, 0, 4, 0, 0, 0 } }, "C\1C" },
-        { HWEMIDUK_DECLARED, 0, 0, 1, 1, 0, 0, { { HWEMIDUK_TEXT, HWEMIDUK_NO_KEY, 0, 1, 0, 4, 0 }, { 0, 0, 0, 0, 0, 0, 0 } }, "\2AAAAAAAAAAAAAAZ" },
-        { HWEMIDUK_UNKNOWN, 0, 0, 1, 1, 2, 500000, { { HWEMIDUK_MASS, HWEMIDUK_NO_KEY, 0, 0, 1, 5, 1000000 }, { 0, 0, 0, 0, 0, 0, 0 } }, "" },
-        { HWEMIDUK_UNKNOWN, 0, 0, 2, 2, 0, 0, { { HWEMIDUK_TEXT, HWEMIDUK_NO_KEY, 0, 6, 0, 6, 0 }, { HWEMIDUK_TEXT, HWEMIDUK_INFO, 0, 1, 0, 12, 0 } }, "" },
-        { HWEMIDUK_LABILE, 0, 0, 1, 1, 0, 0, { { HWEMIDUK_TEXT, HWEMIDUK_NO_KEY, 0, 3, 0, 13, 0 }, { 0, 0, 0, 0, 0, 0, 0 } }, "" },
-        { HWEMIDUK_NTERM, 0, 0, 1, 1, 0, 0, { { HWEMIDUK_TEXT, HWEMIDUK_U, 0, 9, 0, 16, 0 }, { 0, 0, 0, 0, 0, 0, 0 } }, "" },
-        { HWEMIDUK_ON_RANGE, 3, 4, 1, 2, 0, 0, { { HWEMIDUK_TEXT, HWEMIDUK_M, 0, 1, 0, 25, 0 }, { HWEMIDUK_MASS, HWEMIDUK_OBS, 2, 0, 0, 0, -2500000 } }, "" },
-        { HWEMIDUK_ON_RESIDUE, 5, 5, 1, 1, 3, -1250000, { { HWEMIDUK_REFERENCE, HWEMIDUK_NO_KEY, 0, 0, 1, 26, 0 }, { 0, 0, 0, 0, 0, 0, 0 } }, "" },
-        { HWEMIDUK_ON_RESIDUE, 5, 5, 1, 2, 0, 0, { { HWEMIDUK_TEXT, HWEMIDUK_NO_KEY, 0, 1, 0, 27, 0 }, { HWEMIDUK_COMPOSITION, HWEMIDUK_GLYCAN, 4, 10, 1, 28, 527184900 } }, "" },
-        { HWEMIDUK_CTERM, 6, 6, 1, 1, 0, 0, { { HWEMIDUK_TEXT, HWEMIDUK_UNIMOD, 0, 2, 0, 39, 0 }, { 0, 0, 0, 0, 0, 0, 0 } }, "" },
+        { HWEMIDUK_DECLARED, 0, 0, 1, 2, 0, 0, { { HWEMIDUK_MASS, HWEMIDUK_NO_KEY, 1, 0, 0, 0, 3500000 }, { HWEMIDUK_TEXT, HWEMIDUK_NO_KEY, 0, 4, 0, 0, 0 } }, "C\1C", HWEMIDUK_MASS_STATED, 3500000 },
+        { HWEMIDUK_DECLARED, 0, 0, 1, 1, 0, 0, { { HWEMIDUK_TEXT, HWEMIDUK_NO_KEY, 0, 1, 0, 4, 0 }, { 0, 0, 0, 0, 0, 0, 0 } }, "\2AAAAAAAAAAAAAAZ", HWEMIDUK_MASS_NONE, 0 },
+        { HWEMIDUK_UNKNOWN, 0, 0, 1, 1, 2, 500000, { { HWEMIDUK_MASS, HWEMIDUK_NO_KEY, 0, 0, 1, 5, 1000000 }, { 0, 0, 0, 0, 0, 0, 0 } }, "", HWEMIDUK_MASS_STATED, 1000000 },
+        { HWEMIDUK_UNKNOWN, 0, 0, 2, 2, 0, 0, { { HWEMIDUK_TEXT, HWEMIDUK_NO_KEY, 0, 6, 0, 6, 0 }, { HWEMIDUK_TEXT, HWEMIDUK_INFO, 0, 1, 0, 12, 0 } }, "", HWEMIDUK_MASS_NONE, 0 },
+        { HWEMIDUK_LABILE, 0, 0, 1, 1, 0, 0, { { HWEMIDUK_TEXT, HWEMIDUK_NO_KEY, 0, 3, 0, 13, 0 }, { 0, 0, 0, 0, 0, 0, 0 } }, "", HWEMIDUK_MASS_NONE, 0 },
+        { HWEMIDUK_NTERM, 0, 0, 1, 1, 0, 0, { { HWEMIDUK_TEXT, HWEMIDUK_U, 0, 9, 0, 16, 0 }, { 0, 0, 0, 0, 0, 0, 0 } }, "", HWEMIDUK_MASS_NONE, 0 },
+        { HWEMIDUK_ON_RANGE, 3, 4, 1, 2, 0, 0, { { HWEMIDUK_TEXT, HWEMIDUK_M, 0, 1, 0, 25, 0 }, { HWEMIDUK_MASS, HWEMIDUK_OBS, 2, 0, 0, 0, -2500000 } }, "", HWEMIDUK_MASS_MEASURED, -2500000 },
+        { HWEMIDUK_ON_RESIDUE, 5, 5, 1, 1, 3, -1250000, { { HWEMIDUK_REFERENCE, HWEMIDUK_NO_KEY, 0, 0, 1, 26, 0 }, { 0, 0, 0, 0, 0, 0, 0 } }, "", HWEMIDUK_MASS_NONE, 0 },
+        { HWEMIDUK_ON_RESIDUE, 5, 5, 1, 2, 0, 0, { { HWEMIDUK_TEXT, HWEMIDUK_NO_KEY, 0, 1, 0, 27, 0 }, { HWEMIDUK_COMPOSITION, HWEMIDUK_GLYCAN, 4, 10, 1, 28, 527184900 } }, "", HWEMIDUK_MASS_STATED, 527184900 },
+        { HWEMIDUK_CTERM, 6, 6, 1, 1, 0, 0, { { HWEMIDUK_TEXT, HWEMIDUK_UNIMOD, 0, 2, 0, 39, 0 }, { 0, 0, 0, 0, 0, 0, 0 } }, "", HWEMIDUK_MASS_NONE, 0 },
     };
     static const int sections[5] = { HWEMIDUK_UNSURE_FIRST, HWEMIDUK_UNSURE_NEXT, HWEMIDUK_RANGE_FIRST, HWEMIDUK_RANGE_NEXT, HWEMIDUK_PLAIN };
     static hwemiduk_tables tables;
@@ -87,6 +90,22 @@ int main(void)
         same("byte", i, tables.bytes[i], expected[i]);
     for (int i = 0; i < HWEMIDUK_NUMBERS; i++)
         same("number", i, tables.numbers[i] == numbers[i], 1);
+
+    for (int k = 0; k < ROWS; k++) {
+        int64_t mass = 7;
+        uint8_t sort = 0xA5;
+        same("answer of a mass", k, hwemiduk_bracket_mass(HWEMIDUK_OF(&tables), (size_t)k, &mass, &sort), HWEMIDUK_OK);
+        same("sort of a mass", k, sort, rows[k].sort);
+        same("mass", k, mass == rows[k].mass, 1);
+    }
+    same("none", 0, HWEMIDUK_MASS_NONE, 0);
+    same("stated", 0, HWEMIDUK_MASS_STATED, 1);
+    same("measured", 0, HWEMIDUK_MASS_MEASURED, 2);
+    /* w at A and at the C-terminus, Acetyl twice, Hex, Oxidation, y with a measured mass, UNIMOD:35 */
+    int64_t total = 7;
+    same("answer of the total", 0, hwemiduk_total(HWEMIDUK_OF(&tables), &total, &place), HWEMIDUK_NO_MASS);
+    same("lacking", 0, (int)place, 8);
+    same("total", 0, total == 7, 1);
 
     static const uint8_t low_first[] = { 0x34, 0x92 };
     same("two bytes", 0, HWEMIDUK_WIDE_AT(low_first), 0x9234);

@@ -100,18 +100,61 @@ static void entry(const uint8_t *line, size_t line_len)
     free(out);
 }
 
-/* Each bracket has a mass, or none with its count; there is none behind the last. Each floater has a bracket, and is a copy that this one has. */
-static void brackets_and_floaters(const uint8_t *bytes, const int64_t *numbers, size_t brackets, size_t floaters)
+/*
+ * The mass of each bracket, over junk: that of its first part with one that is not behind Obs, and stated; else that of its first part behind Obs, and measured; else none, and
+ * 0. There is no bracket behind the last, and nothing is set. The stated masses of the modifications, each as often as it counts, are the total; the others lack one.
+ */
+static void masses(const uint8_t *bytes, const int64_t *numbers, size_t brackets, bool has_total, int64_t total, size_t without)
+{
+    const size_t size = limits.positions * sizeof(hwemiduk_position);
+    hwemiduk_position *positions = (hwemiduk_position *)room(size);
+    int64_t mass, sum = 0;
+    uint8_t sort;
+    size_t lacking = 0;
+    for (size_t k = 0; k < brackets; k++) {
+        const uint8_t *head = bytes + HWEMIDUK_BRACKET_AT(k);
+        size_t parts = head[HWEMIDUK_HEAD_PARTS], stated = parts, measured = parts, times = head[HWEMIDUK_HEAD_COUNT];
+        bool modifies = false;
+        for (size_t j = 0; j < parts; j++) {
+            const uint8_t *part = bytes + HWEMIDUK_PART_AT(k, j);
+            bool weighs = part[HWEMIDUK_PART_VALUE] == HWEMIDUK_MASS || part[HWEMIDUK_PART_VALUE] == HWEMIDUK_COMPOSITION;
+            bool obs = part[HWEMIDUK_PART_KEY] == HWEMIDUK_OBS;
+            if (weighs && !obs && stated == parts)
+                stated = j;
+            if (weighs && obs && measured == parts)
+                measured = j;
+            if (part[HWEMIDUK_PART_KEY] != HWEMIDUK_INFO && part[HWEMIDUK_PART_VALUE] != HWEMIDUK_REFERENCE)
+                modifies = true;
+        }
+        mass = JUNK;
+        sort = JUNK;
+        uint8_t answer = hwemiduk_bracket_mass(TABLES, k, &mass, &sort);
+        if (stated < parts)
+            expect(answer == HWEMIDUK_OK && sort == HWEMIDUK_MASS_STATED && mass == numbers[HWEMIDUK_MASS_AT(k, stated)], "a mass that is stated");
+        else if (measured < parts)
+            expect(answer == HWEMIDUK_OK && sort == HWEMIDUK_MASS_MEASURED && mass == numbers[HWEMIDUK_MASS_AT(k, measured)], "one that is only measured");
+        else
+            expect(answer == HWEMIDUK_OK && sort == HWEMIDUK_MASS_NONE && mass == 0, "no mass, and 0");
+        if (head[HWEMIDUK_HEAD_KIND] == HWEMIDUK_DECLARED)
+            expect(hwemiduk_reached(TABLES, k, positions, limits.positions, &times) == HWEMIDUK_OK, "positions reached");
+        if (modifies && sort == HWEMIDUK_MASS_STATED)
+            sum += mass * (int64_t)times;
+        else if (modifies)
+            lacking += times;
+    }
+    expect(has_total == (lacking == 0) && (has_total ? sum == total : lacking == without), "the stated masses are the total, the others lack one");
+    mass = JUNK;
+    sort = JUNK;
+    expect(hwemiduk_bracket_mass(TABLES, brackets, &mass, &sort) == HWEMIDUK_NO_FURTHER && mass == JUNK && sort == JUNK, "no bracket behind the last");
+    expect(hwemiduk_bracket_mass(TABLES, SIZE_MAX, &mass, &sort) == HWEMIDUK_NO_FURTHER && mass == JUNK && sort == JUNK, "no bracket there");
+    free(positions);
+}
+
+/* Each floater has a bracket, and is a copy that this one has. */
+static void floating(const uint8_t *bytes, const int64_t *numbers, size_t brackets, size_t floaters)
 {
     uint8_t *of = (uint8_t *)room(limits.copies), *copy = (uint8_t *)room(limits.copies);
-    size_t count, place = 0;
-    int64_t mass = JUNK;
-    for (size_t k = 0; k < brackets; k++) {
-        uint8_t answer = hwemiduk_bracket_mass(TABLES, k, &mass, &place);
-        expect(answer == HWEMIDUK_OK || (answer == HWEMIDUK_NO_MASS && place == bytes[HWEMIDUK_BRACKET_AT(k) + HWEMIDUK_HEAD_COUNT]), "a mass, or none and its count");
-    }
-    mass = JUNK;
-    expect(hwemiduk_bracket_mass(TABLES, brackets, &mass, &place) == HWEMIDUK_NO_FURTHER && place == 0 && mass == JUNK, "no bracket behind the last");
+    size_t count;
     expect(hwemiduk_floater_brackets(TABLES, of, limits.copies, copy, limits.copies, &count) == HWEMIDUK_OK && count == floaters, "as many floaters");
     for (size_t i = 0; i < floaters; i++) {
         bool same = i > 0 && of[i] == of[i - 1];
@@ -302,10 +345,10 @@ static void any_content(const uint8_t *bytes, const int64_t *numbers)
     hwemiduk_site *row = (hwemiduk_site *)room(limits.rows * sizeof *row);
     uint8_t *out = (uint8_t *)room(limits.line);
     hwemiduk_position *placement = (hwemiduk_position *)room(limits.copies * sizeof *placement);
-    int64_t *entries = (int64_t *)room(limits.positions * sizeof *entries), total;
+    int64_t *entries = (int64_t *)room(limits.positions * sizeof *entries), total, mass = JUNK;
     size_t count;
     double daltons;
-    uint8_t of[HWEMIDUK_COPIES], copy[HWEMIDUK_COPIES];
+    uint8_t of[HWEMIDUK_COPIES], copy[HWEMIDUK_COPIES], sort = JUNK;
     hwemiduk_position positions[HWEMIDUK_POSITIONS];
     uint8_t written = hwemiduk_write(TABLES, out, limits.line, &count);
     bool none = written == HWEMIDUK_NO_TABLES;
@@ -316,7 +359,8 @@ static void any_content(const uint8_t *bytes, const int64_t *numbers)
     expect((hwemiduk_floaters(TABLES, &count) == HWEMIDUK_NO_TABLES) == none, "floaters of tables");
     expect((hwemiduk_total(TABLES, &total, &count) == HWEMIDUK_NO_TABLES) == none, "a total of tables");
     expect((hwemiduk_shown(TABLES, &daltons, &count) == HWEMIDUK_NO_TABLES) == none, "a display of tables");
-    expect((hwemiduk_bracket_mass(TABLES, 0, &total, &count) == HWEMIDUK_NO_TABLES) == none, "a bracket's mass of tables");
+    expect((hwemiduk_bracket_mass(TABLES, 0, &mass, &sort) == HWEMIDUK_NO_TABLES) == none, "a bracket's mass of tables");
+    expect(!none || (mass == JUNK && sort == JUNK), "14 sets no mass");
     expect((hwemiduk_floater_brackets(TABLES, of, sizeof of, copy, sizeof copy, &count) == HWEMIDUK_NO_TABLES) == none, "floaters' brackets of tables");
     expect((hwemiduk_allowed(TABLES, placement, limits.copies) == HWEMIDUK_NO_TABLES) == none, "a placement of tables");
     expect((hwemiduk_ledger(TABLES, placement, limits.copies, entries, limits.positions, &count) == HWEMIDUK_NO_TABLES) == none, "a ledger of tables");
@@ -366,7 +410,8 @@ static void accepted(uint8_t *bytes, int64_t *numbers)
         put("?%zu ", without);
     canonical(bytes, numbers);
     put("\n");
-    brackets_and_floaters(bytes, numbers, brackets, floaters);
+    masses(bytes, numbers, brackets, has_total, total, without);
+    floating(bytes, numbers, brackets, floaters);
     compositions(bytes, brackets);
     reached(bytes, numbers, residues, brackets);
     rows(bytes, numbers, floaters);
@@ -450,7 +495,7 @@ static void short_areas(size_t bytes_len, size_t numbers_len, size_t copies, siz
     hwemiduk_listing listing = HWEMIDUK_LISTING;
     size_t count = JUNK, place;
     double daltons = JUNK;
-    uint8_t of[HWEMIDUK_COPIES], copy[HWEMIDUK_COPIES];
+    uint8_t of[HWEMIDUK_COPIES], copy[HWEMIDUK_COPIES], sort = JUNK;
     bool tables = bytes_len < limits.bytes || numbers_len < limits.numbers;
     memset(of, JUNK, sizeof of);
     memset(copy, JUNK, sizeof copy);
@@ -466,7 +511,7 @@ static void short_areas(size_t bytes_len, size_t numbers_len, size_t copies, siz
     THIRTEEN(tables, hwemiduk_floaters(SHORT, &count));
     THIRTEEN(tables, hwemiduk_total(SHORT, &total, &place));
     THIRTEEN(tables, hwemiduk_shown(SHORT, &daltons, &count));
-    THIRTEEN(tables, hwemiduk_bracket_mass(SHORT, 0, &total, &place));
+    THIRTEEN(tables, hwemiduk_bracket_mass(SHORT, 0, &total, &sort));
     THIRTEEN(tables || copies < limits.copies, hwemiduk_floater_brackets(SHORT, of, copies, copy, limits.copies, &count));
     THIRTEEN(tables || copies < limits.copies, hwemiduk_floater_brackets(SHORT, of, limits.copies, copy, copies, &count));
     THIRTEEN(tables, hwemiduk_next(SHORT, &listing));
@@ -477,7 +522,7 @@ static void short_areas(size_t bytes_len, size_t numbers_len, size_t copies, siz
     THIRTEEN(rows_len < limits.rows, hwemiduk_first_row(row, rows_len, rows_len, 1, &count, &position));
     expect(is_junk(entries, positions * sizeof *entries) && is_junk(row, rows_len * sizeof *row), "13 changes nothing");
     expect(is_junk(of, sizeof of) && is_junk(copy, sizeof copy) && is_junk(at, positions * sizeof *at), "13 changes no entry");
-    expect(count == JUNK && total == JUNK && daltons == JUNK && position == JUNK && out == JUNK, "13 sets nothing");
+    expect(count == JUNK && total == JUNK && sort == JUNK && daltons == JUNK && position == JUNK && out == JUNK, "13 sets nothing");
     free(at);
     free(row);
     free(entries);

@@ -71,7 +71,7 @@ pub fn crowded(random: &mut Random, most_residues: usize) -> Vec<u8> {
         line.push('?');
     }
     if random.chance(15) {
-        line += &format!("{{+{}}}", random.below(50));
+        line += &format!("{{{}+{}}}", random.pick(&["", "", "", "", "", "", "", "", "", "Obs:"]), random.below(50));
     }
     if !at[0].is_empty() {
         line += &at[0];
@@ -95,12 +95,13 @@ pub fn crowded(random: &mut Random, most_residues: usize) -> Vec<u8> {
     line.into_bytes()
 }
 
-/// A bracket with a mass, or now and then without one.
+/// A bracket with a stated mass, now and then with one that is only measured, or without one.
 fn bracket(random: &mut Random, label: &str) -> String {
     let mass = random.between(1, 99);
     match random.below(40) {
         0 => format!("[Oxidation{label}]"),
-        1..=9 => format!("[Obs:+7|-{mass}.5{label}]"),
+        1 => format!("[Obs:+{mass}{label}]"),
+        2..=9 => format!("[Obs:+7|-{mass}.5{label}]"),
         _ => format!("[+{mass}{label}]"),
     }
 }

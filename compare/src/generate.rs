@@ -326,11 +326,22 @@ const NO_PLACES: [&str; 14] = [
     "", " ", "KR", "N-te", "N-", "Nterm", "N-term:Q", "K-term", "C_term", "1", "[K]", "N-termC", "-term", "K ",
 ];
 
+/// What masses the modifications of a draft have.
+#[derive(Clone, Copy)]
+enum Masses {
+    /// Each has a stated one.
+    Stated,
+    /// Each has one, stated or only measured.
+    Given,
+    /// Each has one or none.
+    Any,
+}
+
 /// The lines.
 pub struct Generator {
     random: Random,
-    /// Whether all modifications of the draft in hand are to have a mass.
-    with_masses: bool,
+    /// What masses the modifications of the draft in hand have.
+    masses: Masses,
 }
 
 impl Iterator for Generator {
@@ -345,13 +356,13 @@ impl Generator {
     pub fn new(seed: u64) -> Self {
         Self {
             random: Random::new(seed),
-            with_masses: false,
+            masses: Masses::Any,
         }
     }
 
     /// The next line.
     pub fn line(&mut self) -> Vec<u8> {
-        self.with_masses = self.random.chance(45);
+        self.choose_masses();
         match self.random.below(100) {
             0 => Vec::new(),
             1..=2 => self.line_of_length_near_limit(),
@@ -364,6 +375,14 @@ impl Generator {
             67..=72 => self.declared(),
             _ => self.sound(),
         }
+    }
+
+    fn choose_masses(&mut self) {
+        self.masses = match self.random.below(20) {
+            0..=8 => Masses::Stated,
+            9..=11 => Masses::Given,
+            _ => Masses::Any,
+        };
     }
 
     /// A line that is of the order and mostly accepted.
@@ -601,6 +620,7 @@ impl Generator {
     /// A short line with 0 to 10 declarations, each of 1 to 20 places; now and
     /// then one has only INFO.
     pub fn declared(&mut self) -> Vec<u8> {
+        self.choose_masses();
         let residues = self.random.between(1, 12);
         let mut draft = self.bare_draft(residues);
         self.add_range_brackets(&mut draft);
@@ -654,10 +674,10 @@ impl Generator {
     }
 
     fn any_part(&mut self) -> Inside {
-        if self.random.chance(40) {
-            self.information_part()
-        } else {
-            self.modification_part()
+        match self.random.below(10) {
+            0..=3 => self.information_part(),
+            4..=5 => self.measured_part(),
+            _ => self.modification_part(),
         }
     }
 
@@ -669,11 +689,11 @@ impl Generator {
     }
 
     fn modification_part(&mut self) -> Inside {
-        match self.random.below(20) {
-            12..=14 => self.composition_part(),
-            _ if self.with_masses => self.mass_part(),
-            0..=8 => self.mass_part(),
-            9..=11 => self.accession_part(),
+        match (self.random.below(20), self.masses) {
+            (12..=14, _) => self.composition_part(),
+            (_, Masses::Stated) => self.stated_part(),
+            (_, Masses::Given) | (0..=8, _) => self.mass_part(),
+            (9..=11, _) => self.accession_part(),
             _ => self.name_part(),
         }
     }
@@ -753,11 +773,29 @@ impl Generator {
     }
 
     fn mass_part(&mut self) -> Inside {
-        let mut part = match self.random.below(10) {
-            0..=5 => Vec::new(),
-            6..=7 => self.prefix(),
-            _ => self.cased("Obs:"),
+        if self.random.chance(35) {
+            self.measured_part()
+        } else {
+            self.stated_part()
+        }
+    }
+
+    fn stated_part(&mut self) -> Inside {
+        let part = if self.random.chance(25) {
+            self.prefix()
+        } else {
+            Vec::new()
         };
+        self.with_mass(part)
+    }
+
+    fn measured_part(&mut self) -> Inside {
+        let part = self.cased("Obs:");
+        self.with_mass(part)
+    }
+
+    /// A mass behind a key or prefix, or behind none.
+    fn with_mass(&mut self, mut part: Inside) -> Inside {
         part.push(if self.random.chance(60) { b'+' } else { b'-' });
         part.extend(self.number());
         part

@@ -6,10 +6,30 @@ use crate::line::{Bracket, Content, Key, Kind, Line, Number, Part, Refusal};
 use crate::positions::{floaters, is_allowed, placed_on, Placement};
 use crate::reader::read;
 
+/// "A bracket's mass now answers stated, only measured, or none." "A measured
+/// shift, written with `Obs`".
+#[derive(Clone, Copy, Debug, PartialEq, Eq)]
+pub enum Mass {
+    Stated(i64),
+    Measured(i64),
+    None,
+}
+
+impl Mass {
+    /// "Only stated ones enter total, ledger, display and the program's sixth
+    /// field; the others count as lacking."
+    pub fn stated(self) -> Option<i64> {
+        match self {
+            Self::Stated(millionths) => Some(millionths),
+            Self::Measured(_) | Self::None => None,
+        }
+    }
+}
+
 /// "A bracket's mass is its first mass without `Obs`, else its first `Obs`
 /// mass, else none. Parts are synonyms and never added up." "A composition
 /// enters demand 3 as a mass without `Obs`".
-pub fn bracket_mass(parts: &[Part]) -> Option<i64> {
+pub fn bracket_mass(parts: &[Part]) -> Mass {
     let mass_where = |observed: bool| {
         parts.iter().find_map(|part| match &part.content {
             Content::Mass(mass) if (part.key == Key::Obs) == observed => Some(mass.millionths),
@@ -17,7 +37,11 @@ pub fn bracket_mass(parts: &[Part]) -> Option<i64> {
             _ => None,
         })
     };
-    mass_where(false).or_else(|| mass_where(true))
+    match (mass_where(false), mass_where(true)) {
+        (Some(millionths), _) => Mass::Stated(millionths),
+        (None, Some(millionths)) => Mass::Measured(millionths),
+        (None, None) => Mass::None,
+    }
 }
 
 /// How often a modification counts: as its count says; of a declaration, "one
@@ -29,13 +53,13 @@ fn times(line: &Line, bracket: &Bracket) -> usize {
     }
 }
 
-/// How many modifications lack a mass, "each copy counted".
+/// How many modifications have no stated mass, "each copy counted".
 pub fn missing(line: &Line) -> usize {
     sum(line).missing
 }
 
 /// "The total is the sum over all modifications, counts multiplied, labile
-/// included, labels once." Refusal 16 leaves how many have no mass.
+/// included, labels once." Refusal 16 leaves how many have no stated mass.
 pub fn total(line: &Line) -> Result<i64, Refusal> {
     match sum(line) {
         Sum { total, missing: 0 } => Ok(total),
@@ -44,7 +68,7 @@ pub fn total(line: &Line) -> Result<i64, Refusal> {
 }
 
 struct Sum {
-    /// Over the modifications that have a mass.
+    /// Over the modifications that have a stated mass.
     total: i64,
     missing: usize,
 }
@@ -56,7 +80,7 @@ fn sum(line: &Line) -> Sum {
     };
     let modifications = line.brackets.iter().filter(|one| line.is_modification(one));
     for bracket in modifications {
-        match bracket_mass(line.parts_of(bracket)) {
+        match bracket_mass(line.parts_of(bracket)).stated() {
             Some(mass) => sum.total += mass * times(line, bracket) as i64,
             None => sum.missing += times(line, bracket),
         }
@@ -75,7 +99,10 @@ pub fn ledger(line: &Line, placement: &Placement) -> Result<Ledger, Refusal> {
     if !is_allowed(&floaters, placement) {
         return Err(Refusal::new(18, 0));
     }
-    let mass_of = |index: usize| bracket_mass(line.parts_of(&line.brackets[index])).unwrap_or(0);
+    let mass_of = |index: usize| {
+        let mass = bracket_mass(line.parts_of(&line.brackets[index]));
+        mass.stated().expect("a stated mass, or there is no total")
+    };
     let mut ledger = [0; 256];
     for (index, bracket) in line.brackets.iter().enumerate() {
         for position in placed_on(line, bracket).iter() {

@@ -2,7 +2,7 @@
 //! set what they are to set, and leave the rest as it was.
 
 use crate::line::Refusal;
-use crate::masses::Display;
+use crate::masses::{Display, Mass};
 use hwemiduk::lent::outs;
 pub use hwemiduk::lent::{limits, Limits, Listing, Position, Site, Survey};
 
@@ -107,11 +107,22 @@ pub fn total(bytes: &[u8], numbers: &[i64]) -> Result<i64, Refusal> {
     answer((number, place)).map(|()| millionths)
 }
 
-/// A bracket's own mass in millionths.
-pub fn bracket_mass(bytes: &[u8], numbers: &[i64], bracket: usize) -> Result<i64, Refusal> {
-    let (number, millionths, place) = outs::bracket_mass(bytes, numbers, bracket);
-    assert!(number == 0 || millionths == i64::MIN, "a refusal leaves the mass as it was");
-    answer((number, place)).map(|()| millionths)
+/// A bracket's own mass: stated, only measured, or none.
+pub fn bracket_mass(bytes: &[u8], numbers: &[i64], bracket: usize) -> Result<Mass, Refusal> {
+    let (number, millionths, sort) = outs::bracket_mass(bytes, numbers, bracket);
+    if number != 0 {
+        assert_eq!((millionths, sort), (i64::MIN, u8::MAX), "a refusal leaves both as they were");
+        return Err(Refusal::new(number, 0));
+    }
+    match sort {
+        0 => {
+            assert_eq!(millionths, 0, "where there is no mass, 0");
+            Ok(Mass::None)
+        }
+        1 => Ok(Mass::Stated(millionths)),
+        2 => Ok(Mass::Measured(millionths)),
+        _ => panic!("a mass of sort {sort}"),
+    }
 }
 
 /// The total for display.

@@ -3,8 +3,9 @@
 //! from document 01), the sequences of source document 001
 //! (vectors/sequences.txt, outcomes by the reader of this package), the
 //! vectors (vectors/lines.in, outcomes as they stand in lines.out), and lines
-//! with compositions and with declarations (vectors/compositions.txt and
-//! vectors/declarations.txt, outcomes written from document 02, L1 and L2).
+//! with compositions, with declarations and with measured masses
+//! (vectors/compositions.txt, declarations.txt and measured.txt, outcomes
+//! written from document 02, L1, L2 and L6).
 
 use crate::register::answer;
 
@@ -14,6 +15,7 @@ const LINES: &[u8] = include_bytes!("../vectors/lines.in");
 const ANSWERS: &[u8] = include_bytes!("../vectors/lines.out");
 const COMPOSITIONS: &str = include_str!("../vectors/compositions.txt");
 const DECLARATIONS: &str = include_str!("../vectors/declarations.txt");
+const MEASURED: &str = include_str!("../vectors/measured.txt");
 
 /// A line, and what is printed behind its number.
 pub struct Trial {
@@ -48,6 +50,11 @@ pub fn compositions() -> Vec<Trial> {
 /// The lines with declarations.
 pub fn declarations() -> Vec<Trial> {
     with_outcomes(DECLARATIONS)
+}
+
+/// The lines with measured masses.
+pub fn measured() -> Vec<Trial> {
+    with_outcomes(MEASURED)
 }
 
 fn with_outcomes(text: &str) -> Vec<Trial> {
@@ -85,6 +92,7 @@ pub fn all() -> Vec<Trial> {
     trials.extend(vectors());
     trials.extend(compositions());
     trials.extend(declarations());
+    trials.extend(measured());
     trials
 }
 

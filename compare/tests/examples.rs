@@ -1,10 +1,10 @@
 //! The examples of document 01, of the readings of it and of document 02
-//! (L1, L2, L4), and of document 001 where they lie within these.
+//! (L1, L2, L4, L6), and of document 001 where they lie within these.
 
 use compare::canonical::canonical;
 use compare::glycans::SUGARS;
 use compare::line::Kind;
-use compare::masses::{display, ledger, missing, total, Display};
+use compare::masses::{bracket_mass, display, ledger, missing, total, Display, Mass};
 use compare::positions::{
     all_placements, first_placement, floaters, is_allowed, rows, Listing, Placement, Position, Row,
 };
@@ -629,6 +629,98 @@ fn descending_copies() {
         let mut listing = Listing { fresh: false, placement };
         assert_eq!(listing.request(&floaters(&held)), Err(Refusal::new(17, 0)), "{text} {used:?}");
     }
+}
+
+// Document 02, L6
+
+/// "A bracket's mass now answers stated, only measured, or none": of each
+/// bracket, in whole daltons.
+#[test]
+fn masses_of_brackets() {
+    let (stated, measured, none) = (
+        |daltons: i64| Mass::Stated(daltons * 1_000_000),
+        |daltons: i64| Mass::Measured(daltons * 1_000_000),
+        Mass::None,
+    );
+    for (text, expected) in [
+        ("A[Obs:+1]", &[measured(1)][..]),
+        ("A[Obs:+2|+1]", &[stated(1)]),
+        ("A[+1|Obs:+2]", &[stated(1)]),
+        ("A[Obs:+1|U:+2|+3]", &[stated(2)]),
+        ("A[Obs:+1|Obs:-2]", &[measured(1)]),
+        ("A[x|obs:-2|UNIMOD:4|INFO:y]", &[measured(-2)]),
+        ("A[Obs:+0][Obs:+1|+0][x]", &[measured(0), stated(0), none]),
+        ("A[INFO:Obs:+1][U:Obs:+1][Obs]", &[none, none, none]),
+        ("A[Obs:+16#a|+2]C[#a]", &[stated(2), none]),
+        ("<[Obs:+1]@W>[Obs:+2]^3?{Obs:-3}(AC)[Obs:+4]", &[measured(1), measured(2), measured(-3), measured(4)]),
+    ] {
+        let held = line(text);
+        let masses: Vec<Mass> = held.brackets.iter().map(|one| bracket_mass(held.parts_of(one))).collect();
+        assert_eq!(masses, expected, "{text}");
+    }
+    let held = line("A[Obs:+9|Glycan:Hex]");
+    assert_eq!(bracket_mass(held.parts_of(&held.brackets[0])), Mass::Stated(162_052_800));
+}
+
+/// "Only stated ones enter total, ledger, display .. ; the others count as
+/// lacking": each copy, and each position that a declaration reaches. Of a
+/// ledger, 16 whatever the placement.
+#[test]
+fn measured_masses_lack() {
+    for (text, lacking) in [
+        ("A[Obs:+1]", 1),
+        ("[Obs:+1]^3?ACD[+1]", 3),
+        ("A[Obs:+0]", 1),
+        ("A[Obs:+1|Obs:-2]", 1),
+        ("A[U:Oxidation|Obs:+15.995]", 1),
+        ("A[Obs:+15.995|INFO:x]", 1),
+        ("A[Obs:+1][x]C[UNIMOD:4]D[+2]", 3),
+        ("A[Obs:+1#a]C[#a]", 1),
+        ("(AC)[Obs:+1]", 1),
+        ("[Obs:+1]-A-[Obs:+2]", 2),
+        ("{Obs:-2}A", 1),
+        ("[Obs:+1]?A", 1),
+        ("[Obs:+1]^2[x]^2[+1]?ACDEF", 4),
+        ("<[Obs:+1]@A>AAC", 2),
+        ("<[Obs:+1]@A,C-term,A>AAC[Obs:+1]", 4),
+        ("EM[U:+15.995]EVEES[Obs:+79.978]PEK", 1),
+        ("ELVIS[U:Phospho|Obs:+79.978]K", 1),
+        ("ELVIS[Obs:+79.966|Phospho|Sulfo]K", 1),
+    ] {
+        let held = line(text);
+        let sixteen = Refusal::new(16, lacking);
+        assert_eq!(missing(&held), lacking, "{text}");
+        assert_eq!(total(&held), Err(sixteen), "{text}");
+        assert_eq!(display(&held), Display::Missing(lacking), "{text}");
+        for placement in first_placement(&floaters(&held)).iter().chain(&[[0; 8], [9; 8]]) {
+            assert_eq!(ledger(&held, placement), Err(sixteen), "{text} {placement:?}");
+        }
+    }
+}
+
+#[test]
+fn measured_masses_beside_stated_ones() {
+    for (text, millionths) in [
+        ("A[Obs:+2|+1]", 1_000_000),
+        ("A[+1|Obs:+2]", 1_000_000),
+        ("A[Obs:+2|+0]", 0),
+        ("A[Obs:+1|Obs:-2|+3|+4]", 3_000_000),
+        ("A[Glycan:Hex|Obs:+162.1]", 162_052_800),
+        ("A[Obs:+16#a|+2]C[#a]", 2_000_000),
+        ("[Obs:+2|+1]^3?ACD", 3_000_000),
+        ("<[Obs:+1|+2]@A>AAC", 4_000_000),
+        ("A[INFO:Obs:+1]", 0),
+        // what reaches nothing lacks nothing
+        ("<[Obs:+1]@W>AAC", 0),
+        ("<[Obs:+1]@W>AAC[+2]", 2_000_000),
+    ] {
+        assert_eq!(total(&line(text)), Ok(millionths), "{text}");
+        assert_eq!(display(&line(text)), Display::Daltons(millionths as f64 / 1e6), "{text}");
+    }
+    assert_eq!(booked("A[Obs:+2|+1]"), [0, 1, 0]);
+    assert_eq!(booked("[Obs:+2|+1]^2?AC[+3|Obs:+4]D"), [0, 1, 3, 1, 0]);
+    assert_eq!(booked("<[Obs:+1|+2]@A,N-term>{Obs:+3|+4}AAC"), [2, 2, 2, 0, 0]);
+    assert_eq!(booked("<[Obs:+1]@W>A[+2]"), [0, 2, 0]);
 }
 
 // Document 001

@@ -11,8 +11,8 @@ use compare::canonical::canonical;
 use compare::floating::crowded;
 use compare::generate::{share, Generator, Random};
 use compare::glycans::{cut, spelled, ways, Cutting, Piece, SUGARS};
-use compare::line::{Bracket, Kind, Line, Site};
-use compare::masses::{bracket_mass, display_areas, ledger, missing, total, Display};
+use compare::line::{Bracket, Key, Kind, Line, Site};
+use compare::masses::{bracket_mass, display, display_areas, ledger, missing, total, Display, Mass};
 use compare::positions::{
     all_placements, first_placement, first_row, floaters, is_allowed, next_placement, placed_on,
     plain_next, rows, Floater, Listing, Placement, Position, Row, Search, MOST_ROWS,
@@ -302,7 +302,7 @@ fn declarations_add_placed_modifications() {
             positions.iter().for_each(|&position| reached[position] = true);
             let found: Vec<usize> = placed_on(&line, one).iter().map(usize::from).collect();
             assert_eq!(found, positions, "{}", shown(bytes));
-            match bracket_mass(line.parts_of(one)) {
+            match bracket_mass(line.parts_of(one)).stated() {
                 Some(mass) => added += mass * positions.len() as i64,
                 None => lacking += positions.len(),
             }
@@ -812,6 +812,73 @@ fn labile_total(line: &Line) -> i64 {
     let is_labile = |bracket: &Bracket| bracket.kind == Kind::Labile;
     only_labile.brackets.retain(is_labile);
     total(&only_labile).unwrap()
+}
+
+/// "Measured masses stay out of sums": with other ones, and with names in their
+/// place, a line has the same total or as many that lack one, the same display
+/// and the same ledgers.
+#[test]
+fn measured_masses_stay_out_of_sums() {
+    let (mut summed, mut lacking) = (0, 0);
+    for_copied(46, |bytes, line| {
+        let others = lines::remeasured(line);
+        if others[0] == *line {
+            return;
+        }
+        let (all, _) = all_placements(&floaters(line), 3);
+        for other in &others {
+            assert_eq!(total(other), total(line), "{}", shown(bytes));
+            assert_eq!(display(other), display(line), "{}", shown(bytes));
+            for placement in &all {
+                assert_eq!(ledger(other, placement), ledger(line, placement), "{}", shown(bytes));
+            }
+        }
+        match total(line) {
+            Ok(_) => summed += 1,
+            Err(_) => lacking += 1,
+        }
+    });
+    assert!(summed > share(5_000) && lacking > share(4_000), "{summed} {lacking}");
+}
+
+/// Were the measured masses stated ones, so many fewer would lack one as there
+/// are copies, and positions reached, of brackets with only a measured mass.
+/// Generated lines have enough of these in every kind, and lack nothing else.
+#[test]
+fn generated_lines_measure_in_every_kind() {
+    // By the numbers of the kinds; then counted ones, labelled ones, and
+    // declarations that reach nothing.
+    let mut met = [0; 11];
+    let mut check = |bytes: &[u8], line: &Line| {
+        let mut stated = line.clone();
+        stated.parts.iter_mut().filter(|part| part.key == Key::Obs).for_each(|part| part.key = Key::None);
+        let mut fewer = 0;
+        let mut kinds = [false; 11];
+        for one in &line.brackets {
+            if !matches!(bracket_mass(line.parts_of(one)), Mass::Measured(_)) {
+                continue;
+            }
+            let reached = placed_on(line, one).len();
+            let counted = if one.kind == Kind::Declared { reached } else { usize::from(one.count) };
+            fewer += counted;
+            kinds[if counted == 0 { 10 } else { one.kind as usize }] = true;
+            kinds[8] |= one.count > 1;
+            kinds[9] |= line.label_of(one).is_some();
+        }
+        assert_eq!(missing(line), missing(&stated) + fewer, "{}", shown(bytes));
+        if missing(&stated) == 0 {
+            met.iter_mut().zip(kinds).for_each(|(met, kind)| *met += usize::from(kind));
+        }
+    };
+    for_copied(47, &mut check);
+    for_accepted(48, 30_000, &mut check);
+    for_declared(49, 20_000, |bytes| {
+        if let Ok(line) = read(bytes) {
+            check(bytes, &line);
+        }
+    });
+    assert_eq!(met[0], 0);
+    assert!(met[1..].iter().all(|&lines| lines > share(60)), "{met:?}");
 }
 
 /// "first byte with which no line of any length begins so": up to that byte

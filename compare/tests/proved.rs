@@ -4,7 +4,7 @@ use compare::areas::{encode, BYTES_SIZE, NUMBERS_SIZE};
 use compare::generate::{share, Generator, Random};
 use compare::glycans::{cut, Cutting, SUGARS};
 use compare::line::Refusal;
-use compare::trials::declarations;
+use compare::trials::{declarations, measured};
 use compare::{proved, reader, register};
 
 const JUNK_BYTE: u8 = 0xA5;
@@ -55,7 +55,7 @@ fn entries() {
     for line in Generator::new(29).take(share(5_000)) {
         entered(u64::MAX, &line);
     }
-    for one in declarations() {
+    for one in declarations().iter().chain(&measured()) {
         entered(1, &one.line);
     }
 }
@@ -216,6 +216,18 @@ fn given_declarations() {
         };
         let expected = if words[0] == "ok" { "ok" } else { outcome.as_str() };
         assert_eq!(said, expected, "{}", String::from_utf8_lossy(&one.line));
+    }
+}
+
+/// The lines with measured masses: the register prints what is written down.
+#[test]
+fn given_measured_masses() {
+    for one in measured() {
+        alike(&one.line);
+        let expected = [b"7 ", &one.outcome[..], b"\n"].concat();
+        let mut out = vec![JUNK_BYTE; expected.len()];
+        assert_eq!(proved::entry(7, &one.line, &mut out), Ok(expected.len()));
+        assert_eq!(String::from_utf8_lossy(&out), String::from_utf8_lossy(&expected));
     }
 }
 

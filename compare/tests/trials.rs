@@ -4,7 +4,7 @@ use std::fs::read;
 use std::path::{Path, PathBuf};
 
 use compare::register::answer;
-use compare::trials::{compositions, declarations, input, known, output, sequences, vectors, Trial};
+use compare::trials::{compositions, declarations, input, known, measured, output, sequences, vectors, Trial};
 
 fn file(name: &str) -> PathBuf {
     Path::new(env!("CARGO_MANIFEST_DIR")).join("..").join(name)
@@ -40,6 +40,11 @@ fn the_reader_agrees_with_document_02_on_compositions() {
 #[test]
 fn the_reader_agrees_with_document_02_on_declarations() {
     alike(&declarations());
+}
+
+#[test]
+fn the_reader_agrees_with_document_02_on_measured_masses() {
+    alike(&measured());
 }
 
 /// Each line that the definitions work out (crates/outcomes) is among them, with the same outcome.

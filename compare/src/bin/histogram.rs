@@ -1,6 +1,7 @@
 //! How the generated lines fare: `histogram [SEED [COUNT]]`.
 
 use compare::generate::Generator;
+use compare::masses::{bracket_mass, missing, Mass};
 use compare::positions::{all_placements, floaters};
 use compare::reader::read;
 
@@ -17,6 +18,7 @@ fn main() {
     let mut floating = [0_usize; 9];
     let mut unplaceable = 0;
     let (mut copied, mut placeable) = (0, 0);
+    let (mut lacking, mut measured) = (0, 0);
     for line in Generator::new(seed).take(count) {
         match read(&line) {
             Ok(read) => {
@@ -29,6 +31,9 @@ fn main() {
                     copied += 1;
                     placeable += usize::from(placements > 1);
                 }
+                lacking += usize::from(missing(&read) > 0);
+                let only_measured = |mass: Mass| matches!(mass, Mass::Measured(_));
+                measured += usize::from(read.brackets.iter().any(|one| only_measured(bracket_mass(read.parts_of(one)))));
             }
             Err(refusal) => outcomes[usize::from(refusal.number)] += 1,
         }
@@ -47,4 +52,5 @@ fn main() {
     }
     println!("accepted, no placement {unplaceable}");
     println!("accepted, copies of one bracket {copied}, of these more than one placement {placeable}");
+    println!("accepted, a mass lacking {lacking}; a bracket with only a measured mass {measured}");
 }

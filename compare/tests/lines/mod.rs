@@ -157,6 +157,19 @@ pub fn wrong_places() -> Vec<(String, Lent)> {
     wrong
 }
 
+/// The line with another mass in the place of each measured one, and with a name in the place of each.
+pub fn remeasured<'a>(line: &Line<'a>) -> [Line<'a>; 2] {
+    let with = |key: Key, content: Content<'a>| {
+        let mut other = line.clone();
+        for part in other.parts.iter_mut().filter(|part| part.key == Key::Obs) {
+            part.key = key;
+            part.content = content.clone();
+        }
+        other
+    };
+    [with(Key::Obs, Content::Mass(Number { millionths: 98_765_432_101, decimals: 6 })), with(Key::None, Content::Text(b"x"))]
+}
+
 pub fn shown(line: &[u8]) -> String {
     String::from_utf8_lossy(line).into_owned()
 }

@@ -1,1 +1,2 @@
 // No code: what every accepted line keeps to, as theorems over the definitions (specs/).
+#![tactic(auto)]

@@ -1,1 +1,2 @@
 // No code: the laws of one block and of an area of blocks (specs/).
+#![tactic(auto)]

@@ -1,4 +1,6 @@
 // The two lent areas, field by field: a reader for each field and a writer for each row. No other crate knows where a field lies.
+#![tactic(auto)]
+
 ghost use Rattle.std.specs.Prelude.{◌≡◌, ◌+◌, ◌*◌, ◌<◌, ◌≤◌, length, set};
 ghost use Rattle.std.proofs.lemmas.List.Edits.{sets};
 ghost use Rattle.scope.specs.Bytes.{byte_limit, wide_limit};

@@ -93,6 +93,7 @@ module _ {A : Type 0} (Q : A → Type 0) where
 
   -- what holds of each holds of whatever stands in the list
   pub each_in : (l : List A) (x : A) → In x l → Each Q l → Q x
+  each_in [] x m h = elim m [ ]
   each_in (y ∷ l) x (inl e) h = subst Q (sym e) h.0
   each_in (y ∷ l) x (inr m) h = each_in l x m h.1
 

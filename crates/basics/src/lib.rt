@@ -1,1 +1,2 @@
 // No code: small laws that many proofs cite.
+#![tactic(auto)]

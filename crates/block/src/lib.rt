@@ -1,4 +1,6 @@
 // One block, lent as a slice of its bytes: what it says, whether it is sound, and what is written into it.
+#![tactic(auto)]
+
 ghost use Rattle.std.specs.Prelude.{◌≡◌, ◌&&◌, suc, ◌+◌, ◌*◌, ◌≤◌, ◌<◌, eqb, length, take};
 ghost use Rattle.scope.specs.Bytes.{wide_limit};
 ghost use Rattle.scope.specs.Limits.{block_size};

@@ -1,1 +1,2 @@
 // Laws of the register kept in blocks: specs/Laws.antt; over sequences of calls: specs/AsMap.antt.
+#![tactic(auto)]

@@ -1,4 +1,6 @@
 // The register kept in blocks (02, L5): what its calls answer. Definitions: specs/, to be read in the order of its Lib.antt.
+#![tactic(auto)]
+
 use scope::answers::Placement;
 
 // Fetching an entry: how many bytes its line has, or a refusal (15 with the length needed).

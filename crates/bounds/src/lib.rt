@@ -1,4 +1,6 @@
 // Whether the numbers in lent areas keep to the bounds of tables. The areas may hold anything.
+#![tactic(auto)]
+
 ghost use Rattle.std.specs.Prelude.{◌≡◌, ◌++◌, ◌<◌, ◌≤◌, length, take, drop};
 ghost use Rattle.scope.specs.Limits.{bracket_limit, part_limit};
 ghost use Rattle.scope.specs.Layout.{bytes_size, numbers_size, parts_field};

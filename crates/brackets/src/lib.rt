@@ -1,4 +1,6 @@
 // The brackets, read from their rows. Each answer is the definition's, of the bracket in the areas, whatever the masses and scores are.
+#![tactic(auto)]
+
 ghost use Rattle.std.specs.Prelude.{◌≡◌, ◌&&◌, List, map, ◌<◌, ◌≤◌, ℤ, length, get_or};
 ghost use Rattle.scope.specs.Bytes.{byte_limit};
 ghost use Rattle.scope.specs.Limits.{residue_limit, part_limit, position_limit};

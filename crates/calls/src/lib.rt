@@ -1,4 +1,6 @@
 // The calls over lent areas. Each answers whatever the areas hold: 13 where one is too short, 14 where they are no tables, else its own.
+#![tactic(auto)]
+
 ghost use Rattle.std.specs.Prelude.{◌≡◌, ◌≤◌, length};
 ghost use Rattle.scope.specs.Layout.{tables_in};
 ghost use Rattle.scope.specs.Limits.{copy_limit, row_limit};

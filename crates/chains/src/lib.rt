@@ -1,4 +1,6 @@
 // The blocks of an area: the first blocks of an entry, and its chain gathered. A block is lent as a part of the area.
+#![tactic(auto)]
+
 ghost use Rattle.std.specs.Prelude.{◌≡◌, ◌+◌, ◌≤◌, ◌<◌, length};
 ghost use Rattle.scope.specs.Bytes.{wide_limit};
 ghost use Rattle.scope.specs.Lists.{part};

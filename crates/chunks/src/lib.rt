@@ -2,6 +2,8 @@
 //
 // Between two chunks there is a state: the number of the line that is begun, how many lines before it were refused, and the bytes that are held of it.
 // `feed` goes on from it by a part of a chunk, and `finish` ends the input; what they put is exactly what the definitions put out in that state for those bytes.
+#![tactic(auto)]
+
 ghost use Rattle.std.specs.Prelude.{◌≡◌, cond, not, ◌||◌, ◌+◌, ◌<◌, ◌≤◌, min, eqb, length, take};
 ghost use Rattle.scope.specs.Refusals.{outcome};
 ghost use Rattle.entries.specs.Entry.{entry, entry_limit, is_refused, Printed};

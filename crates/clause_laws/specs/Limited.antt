@@ -5,7 +5,7 @@ use Rattle.std.proofs.lemmas.Bool.{false≢true}
 use Rattle.std.proofs.Math.Option.{Option, none, some}
 use Rattle.scope.specs.Bytes.{is_printable, is_opening}
 use Rattle.scope.specs.Limits.{line_limit, residue_limit, bracket_limit, part_limit, text_limit, label_limit, depth_limit, size_limit, decimal_limit, count_limit, copy_limit, declaration_limit, place_limit}
-use Rattle.scope.specs.Line.{Number, Label, Value, mass, text, reference, Place, Part, Bracket, Residue, Line}
+use Rattle.scope.specs.Line.{Number, Label, Value, mass, text, reference, composition, Place, Part, Bracket, Residue, Line}
 use Rattle.scope.specs.Keys.{written}
 use Rattle.scope.specs.Lists.{given, none?, flat}
 use Rattle.scope.specs.Modifications.{copies}
@@ -145,6 +145,7 @@ mass_iff j p = (there p.value refl, λ v. subst (λ (x : Value ℕ). In j (wide_
     there (mass n) e q = (n, (e, (wide_iff j n).0 q))
     there (text t) e q = absurd q
     there reference e q = absurd q
+    there (composition u n) e q = absurd q
 
 score_iff : (j : ℕ) (p : Part ℕ) → In j (wide_score p) ↔ WideScore j p
 score_iff j p = (there p.label refl, back)

@@ -1,4 +1,6 @@
 // The content of an entry: a placement and a canonical line, made of a line, and whether it is as stated.
+#![tactic(auto)]
+
 ghost use Rattle.std.specs.Prelude.{◌≡◌, ◌≤◌, ◌<◌, length, take};
 ghost use Rattle.scope.specs.Limits.{line_limit};
 ghost use Rattle.scope.specs.Lists.{same, laid};

@@ -1,4 +1,6 @@
 // The first refusal due, as one number: its rank in the order of trying, then the place. Of two, the lower is the first.
+#![tactic(auto)]
+
 ghost use Rattle.std.specs.Prelude.{◌≡◌, not, ◌&&◌, List, map, ℕ, min, ◌+◌, ◌-◌, ◌/◌, ◌%◌, ◌<◌, ◌≤◌, length};
 ghost use Rattle.scope.specs.Bytes.{wide_limit, is_digit};
 ghost use Rattle.scope.specs.Keys.{key_code, written};

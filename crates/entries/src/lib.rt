@@ -1,5 +1,7 @@
 // The register's entries: what it prints for a line. The verdict leaves the line noted in the sheet, and its tables come from there. The areas are lent clean and
 // given back clean, and what the verdict has shown of the tables is not tried again.
+#![tactic(auto)]
+
 ghost use Rattle.std.specs.Prelude.{◌≡◌, ◌∷◌, ◌+◌, ◌≤◌, length};
 ghost use Rattle.scope.specs.Canonical.{decimal};
 ghost use Rattle.scope.specs.Register.{signed_text, total_text, fields, report};

@@ -2,6 +2,8 @@
 // another only where the others can move. No search through all placements is made. Each floater has a least position that it may take. The next placement is the
 // least one in which a floater and the further copies of its bracket behind it all stand above where that floater stands now: in the least one, the copies of a bracket
 // stand in ascending order without being asked to.
+#![tactic(auto)]
+
 ghost use Rattle.std.specs.Prelude.{◌≡◌, true, length, set, ◌+◌, ◌≤◌, ◌<◌};
 ghost use Rattle.scope.specs.Limits.{copy_limit, row_limit, position_limit};
 ghost use Rattle.areas.specs.Floats.{Sized};

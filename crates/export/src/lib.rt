@@ -1,4 +1,6 @@
 // The boundary to C, Rust and Python: numbers and lent slices. A refusal leaves what is lent as it was, but for its place; a success leaves the place.
+#![tactic(auto)]
+
 pub mod handed;
 pub mod kept;
 pub mod printed;

@@ -1,4 +1,6 @@
 // Writes bytes and numbers into an output: what fits is stored, and all is counted.
+#![tactic(auto)]
+
 ghost use Rattle.std.specs.Prelude.{◌≡◌, [], ◌∷◌, ◌+◌, ◌-◌, ◌*◌, ◌/◌, ◌%◌, ◌^◌, ◌<◌, ◌≤◌, min, nat_abs, length};
 ghost use Rattle.scope.specs.Canonical.{decimal, last_digits, decimals, size, count_text};
 ghost use Rattle.scope.specs.Lists.{part};

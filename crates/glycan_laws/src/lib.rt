@@ -1,1 +1,2 @@
 // Laws of glycan compositions, over the definitions alone: specs/Laws.antt. No code.
+#![tactic(auto)]

@@ -1,4 +1,6 @@
 // Glycan compositions, cut "into listed names and counts" from the right, where the longest listed name that ends a text is the last one: one pass, no search.
+#![tactic(auto)]
+
 ghost use Rattle.std.specs.Prelude.{◌≡◌, true, false, cond, ◌+◌, ◌-◌, ◌≤◌, ◌<◌, ltb, length};
 ghost use Rattle.scope.specs.Bytes.{is_digit};
 ghost use Rattle.scope.specs.Lists.{part, none?, laid};

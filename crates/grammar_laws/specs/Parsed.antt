@@ -702,6 +702,25 @@ left_nil Single single_ends = no_squares true Tail [] no_tail
 left_nil Ranged ranged_ends = no_squares false Tail [] no_tail
 left_nil UnsureEnd unsure_ends = no_tail
 left_nil CTerms cterms_end = no_squares true Empty [] refl
+left_nil Front e = elim e [ ]
+left_nil Angle e = elim e [ ]
+left_nil Tagged e = elim e [ ]
+left_nil Listed e = elim e [ ]
+left_nil Runs e = elim e [ ]
+left_nil Undecided e = elim e [ ]
+left_nil Counted e = elim e [ ]
+left_nil Referred e = elim e [ ]
+left_nil Caret e = elim e [ ]
+left_nil Counting e = elim e [ ]
+left_nil Labiles e = elim e [ ]
+left_nil NTerms e = elim e [ ]
+left_nil Start e = elim e [ ]
+left_nil Opened e = elim e [ ]
+left_nil UnsureOpened e = elim e [ ]
+left_nil InRange e = elim e [ ]
+left_nil InUnsure e = elim e [ ]
+left_nil RangeEnd e = elim e [ ]
+left_nil CStart e = elim e [ ]
 
 -- ---- a line that is accepted from a state on
 abbrev Accepts : State Place → List ℕ → Type 0

@@ -1,5 +1,7 @@
 // Whether lent areas hold the tables of an accepted line that is noted in the sheet: notes and texts are compared with the areas piece by piece, and unused room with
 // zero. The areas may hold anything.
+#![tactic(auto)]
+
 ghost use Rattle.std.specs.Prelude.{◌≡◌, List, map, ℕ, ◌+◌, ◌^◌, ◌<◌, ◌≤◌, max, pos, length, get_or, take, replicate};
 ghost use Rattle.scope.specs.Limits.{line_limit, residue_limit, bracket_limit, part_limit};
 ghost use Rattle.scope.specs.Line.{Place, Bracket, Line};

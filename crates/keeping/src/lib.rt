@@ -1,4 +1,6 @@
 // The register kept in blocks: the calls over a lent area. Each answers whatever the area holds; a refusal changes nothing.
+#![tactic(auto)]
+
 ghost use Rattle.std.specs.Prelude.{◌≡◌, ◌≤◌, ◌<◌, length};
 ghost use Rattle.scope.specs.Answers.{refuses, says_change};
 ghost use Rattle.blocks.specs.Block.{new_kind};

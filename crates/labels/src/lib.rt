@@ -1,4 +1,6 @@
 // A label and its score, from the byte behind its `#` up to the byte behind it.
+#![tactic(auto)]
+
 ghost use Rattle.std.specs.Prelude.{◌≡◌, ℕ, ◌+◌, ◌-◌, ◌<◌, ◌≤◌, length};
 ghost use Rattle.std.proofs.Math.Option.{Option, some};
 ghost use Rattle.scope.specs.Line.{Number as Written};

@@ -173,7 +173,7 @@ module _ {P : Type 0} where
   step_clean i (placing h s) b w = places_clean (places_go i b h s) w
 
   -- ---- no labels, no names
-  no_names : (ps : List (PartMut P)) → NoLabels ps → flat name_of ps ≡ []
+  no_names : (ps : List (Part P)) → NoLabels ps → flat name_of ps ≡ []
   unfolding flat
   no_names [] w = refl
   no_names (p ∷ ps) w = rw w.0 (no_names ps w.1)

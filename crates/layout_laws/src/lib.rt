@@ -1,1 +1,2 @@
 // No code: laws of the tables as they lie in the lent areas, as theorems over the definitions (specs/).
+#![tactic(auto)]

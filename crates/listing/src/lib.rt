@@ -1,4 +1,6 @@
 // What is handed out through lent structs: the permitted positions as rows, and the listing moved on in place.
+#![tactic(auto)]
+
 ghost use Rattle.std.specs.Prelude.{◌≡◌};
 ghost use Rattle.scope.specs.Answers.{says_count};
 ghost use Rattle.calls.specs.Rows.{RowsReady};

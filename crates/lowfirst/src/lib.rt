@@ -1,4 +1,6 @@
 // Numbers in bytes, low bytes first, from a place of a slice on.
+#![tactic(auto)]
+
 ghost use Rattle.std.specs.Prelude.{◌≡◌, ◌+◌, ◌^◌, ◌≤◌, ◌<◌, length};
 ghost use Rattle.scope.specs.Bytes.{byte_limit, wide_limit};
 ghost use Rattle.scope.specs.Lists.{part};

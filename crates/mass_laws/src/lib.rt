@@ -1,1 +1,2 @@
 // Laws of masses and ledgers, over the definitions alone: specs/Laws.antt.
+#![tactic(auto)]

@@ -1,4 +1,6 @@
 // Masses: a bracket's, the total, the ledger of a placement, and the display.
+#![tactic(auto)]
+
 ghost use Rattle.std.specs.Prelude.{◌≡◌, true, List, min, ◌+◌, ◌*◌, ◌-◌, ◌<◌, ◌≤◌, ◌^◌, eqb, ℤ, pos, nat_abs, ◌+ℤ◌, ◌*ℤ◌};
 ghost use Rattle.scope.specs.declared.grammar.Key.TheVariants.{Obs};
 ghost use Rattle.scope.specs.declared.answers.Booked.TheVariants.{Done};

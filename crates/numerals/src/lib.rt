@@ -1,4 +1,6 @@
 // Numbers: "sign, digits, perhaps `.` and digits", in millionths; and counts.
+#![tactic(auto)]
+
 ghost use Rattle.std.specs.Prelude.{◌≡◌, true, false, ℕ, ◌+◌, ◌*◌, ◌≤◌, min, drop};
 ghost use Rattle.scope.specs.Bytes.{is_digit, value};
 ghost use Rattle.scope.specs.Content.{signed, whole, pointed, number_of};

@@ -1,4 +1,6 @@
 // What a byte does outside brackets, by how far the order of the line has come.
+#![tactic(auto)]
+
 ghost use Rattle.std.specs.Prelude.{◌≡◌, cond, eqb};
 ghost use Rattle.scope.specs.Bytes.{open_square};
 ghost use Rattle.scope.specs.Reading.{square, front, labile, declared, element, further, group_first, in_group, undecided, counted, referred, at_front, act, may_end};

@@ -1,1 +1,2 @@
 // No code: the order of a line's brackets, as theorems over the definitions (specs/).
+#![tactic(auto)]

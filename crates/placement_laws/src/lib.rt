@@ -1,1 +1,2 @@
 // Laws of placements and of the listing, over the definitions alone: specs/Laws.antt.
+#![tactic(auto)]

@@ -1,4 +1,6 @@
 // Whether a placement is allowed, and the listing that hands them out one by one. Where the floaters stand is found by crate exchange.
+#![tactic(auto)]
+
 ghost use Rattle.std.specs.Prelude.{◌≡◌, true, false, ◌<◌, ◌≤◌};
 ghost use Rattle.scope.specs.Limits.{copy_limit};
 ghost use Rattle.scope.specs.Placements.{allowed, fresh_mark, no_mark};

@@ -1,4 +1,6 @@
 // The floaters of the tables in areas, and the table of bytes of where each may stand.
+#![tactic(auto)]
+
 ghost use Rattle.std.specs.Prelude.{◌+◌, ◌≤◌, length};
 ghost use Rattle.scope.specs.Limits.{copy_limit, row_limit};
 ghost use Rattle.scope.specs.Layout.{tables_in};

@@ -1,1 +1,2 @@
 // The tender's demands, over what the calls ensure: specs/Promises.antt. No code.
+#![tactic(auto)]

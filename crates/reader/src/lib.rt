@@ -1,4 +1,6 @@
 // Reading a line into the lent areas.
+#![tactic(auto)]
+
 ghost use Rattle.std.specs.Prelude.{◌≡◌, ◌+◌, ◌≤◌, length};
 ghost use Rattle.scope.specs.Layout.{bytes_size, numbers_size};
 ghost use Rattle.reader.specs.ReadSays.{ReadSays, HoldSome, Stores, Stored, Wiped, wiped};

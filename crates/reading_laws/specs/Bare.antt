@@ -98,10 +98,10 @@ module _ {P Q : Type 0} (g : Bracket P → Bracket Q) (w : Texted g) (h : Residu
 
 -- ---- what a bracket is
 -- parts that are changed into others with the same key and name of a label, a reference into a reference
-pub record Likewise {P Q : Type 0} (f : PartMut P → PartMut Q) : Type 0 where
-  pub key : (p : PartMut P) → (f p).key ≡ p.key
-  pub refers : (p : PartMut P) → is_reference (f p).value ≡ is_reference p.value
-  pub names : (p : PartMut P) → name_of (f p) ≡ name_of p
+pub record Likewise {P Q : Type 0} (f : Part P → Part Q) : Type 0 where
+  pub key : (p : Part P) → (f p).key ≡ p.key
+  pub refers : (p : Part P) → is_reference (f p).value ≡ is_reference p.value
+  pub names : (p : Part P) → name_of (f p) ≡ name_of p
 
 module _ {P Q : Type 0} (f : Part P → Part Q) (w : Likewise f) where
   pub same_info : (ps : List (Part P)) → all (is_key Info) (map f ps) ≡ all (is_key Info) ps
@@ -111,7 +111,7 @@ module _ {P Q : Type 0} (f : Part P → Part Q) (w : Likewise f) where
   same_refers [] = refl
   same_refers (p ∷ ps) = w.refers p
 
-  pub same_names : (ps : List (PartMut P)) → flat name_of (map f ps) ≡ flat name_of ps
+  pub same_names : (ps : List (Part P)) → flat name_of (map f ps) ≡ flat name_of ps
   same_names ps = flat_map name_of name_of f w.names ps
 
 module _ {P : Type 0} where

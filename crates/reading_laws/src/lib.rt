@@ -1,1 +1,2 @@
 // No code: laws of the reader and of the refusals, as theorems over the definitions (specs/).
+#![tactic(auto)]

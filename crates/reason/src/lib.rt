@@ -1,5 +1,7 @@
 // Why there is no placement: the smallest set of floaters with fewer positions than members, among equals the first by floater order. Where all can stand there is no
 // such set (Hall). Else floater by floater the set is tried with it and without it, and left where no set that can still come of it has too few positions and is smaller than the best one found.
+#![tactic(auto)]
+
 ghost use Rattle.std.specs.Prelude.{◌≡◌, length, ◌≤◌, ◌<◌};
 ghost use Rattle.scope.specs.Limits.{copy_limit, row_limit, position_limit};
 ghost use Rattle.areas.specs.Floats.{Sized};

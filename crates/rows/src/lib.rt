@@ -1,5 +1,7 @@
 // The permitted positions as rows of floater and position, in a lent slice of structs: one thin fill and one thin first-row lookup over
 // functions on plain numbers.
+#![tactic(auto)]
+
 ghost use Rattle.std.specs.Prelude.{◌≡◌, ◌+◌, ◌*◌, ◌<◌, ◌≤◌, length, get_or};
 ghost use Rattle.scope.specs.Limits.{row_limit, position_limit};
 ghost use Rattle.scope.specs.Lists.{laid};

@@ -1,4 +1,6 @@
 // Refusals 10, 21, 11 and 12, over the rows of brackets and parts in which a line is noted.
+#![tactic(auto)]
+
 ghost use Rattle.std.specs.Prelude.{◌≡◌, List, ℕ, ◌+◌, ◌<◌, ◌≤◌, length};
 ghost use Rattle.scope.specs.Bytes.{wide_limit};
 ghost use Rattle.scope.specs.Limits.{bracket_limit};

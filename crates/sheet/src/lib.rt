@@ -1,4 +1,6 @@
 // The tables in which the walk notes a line: their sizes, a reader for each field and a writer for each row. No other crate knows where a field lies.
+#![tactic(auto)]
+
 ghost use Rattle.std.specs.Prelude.{◌≡◌, [], ◌∷◌, ◌+◌, ◌*◌, ◌<◌, ◌≤◌, eqb, length, get_or, set};
 ghost use Rattle.std.proofs.lemmas.List.Edits.{sets};
 ghost use Rattle.scope.specs.Bytes.{wide_limit};

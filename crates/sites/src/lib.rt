@@ -1,4 +1,6 @@
 // Places of a declaration, behind its `@`: where a list of them ends, and the site of each.
+#![tactic(auto)]
+
 ghost use Rattle.std.specs.Prelude.{◌≡◌, cond, ◌&&◌, ◌+◌, ◌≤◌, ◌<◌, eqb, ltb, length, get_or};
 ghost use Rattle.scope.specs.Bytes.{comma};
 ghost use Rattle.scope.specs.Limits.{place_limit};

@@ -1,4 +1,6 @@
 // Writes keys and places, each in the spelling that a canonical line gives it.
+#![tactic(auto)]
+
 ghost use Rattle.std.specs.Prelude.{◌+◌, ◌≤◌};
 ghost use Rattle.scope.specs.Keys.{written, key_in};
 ghost use Rattle.scope.specs.Places.{site_text};

@@ -1,4 +1,6 @@
 // The tables of an accepted line, put into the lent areas from the sheet in which the walk noted it.
+#![tactic(auto)]
+
 ghost use Rattle.std.specs.Prelude.{◌≡◌, List, ◌++◌, ℕ, ◌<◌, ◌≤◌, pos, length, get_or, drop, replicate};
 ghost use Rattle.std.proofs.lemmas.List.Edits.{sets};
 ghost use Rattle.scope.specs.Line.{Place, Part, Bracket, Line};

@@ -7,6 +7,8 @@
 // part, and `hand_last` once, is to be read in `drain` and `close`: no contract can speak of a call. The state counts the refused lines too, and at the end
 // of the input there are as many as among the lines of what was read (`refused_in_one`). Of the system it is assumed that a read leaves at the
 // front of the room what it answers for, and that a write takes the front of what it is handed, in order, as its answer counts.
+#![tactic(auto)]
+
 ghost use Rattle.std.specs.Prelude.{◌≡◌, ◌+◌, ◌<◌, ◌≤◌, length, take};
 ghost use Rattle.chunks.specs.Lent.{number_limit, output_limit, sheet_of, Ready};
 ghost use Rattle.chunks.specs.Puts.{Fronts};

@@ -1,4 +1,6 @@
 // Refusal 14: whether the areas hold tables that some accepted line reads to. They may hold anything.
+#![tactic(auto)]
+
 ghost use Rattle.std.specs.Prelude.{◌≡◌, ◌≤◌, length, take};
 ghost use Rattle.scope.specs.Limits.{line_limit};
 ghost use Rattle.scope.specs.Refusals.{outcome};

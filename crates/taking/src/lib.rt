@@ -1,4 +1,6 @@
 // Blocks taken and given back: free ones found, a chain written into them, and a chain freed. "Blocks are taken lowest free first, freed ones again."
+#![tactic(auto)]
+
 ghost use Rattle.std.specs.Prelude.{◌≡◌, ◌+◌, ◌*◌, ◌≤◌, ◌<◌, length, take, drop, get_or};
 ghost use Rattle.scope.specs.Limits.{block_size};
 ghost use Rattle.scope.specs.Lists.{part};

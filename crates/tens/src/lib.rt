@@ -1,4 +1,6 @@
 // The powers of ten that 64 bits hold.
+#![tactic(auto)]
+
 ghost use Rattle.std.specs.Prelude.{◌≡◌, ◌^◌, ◌<◌};
 ghost use Rattle.tens.specs.Tens.{power_count};
 

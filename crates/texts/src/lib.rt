@@ -1,4 +1,6 @@
 // Texts: "a text is plain bytes and closed pairs that hold texts".
+#![tactic(auto)]
+
 ghost use Rattle.std.specs.Prelude.{◌≡◌, true, [], ◌+◌, ◌*◌, ◌/◌, ◌<◌, drop};
 ghost use Rattle.scope.specs.Bytes.{byte_limit, is_shutting, closer_of};
 ghost use Rattle.classes.specs.Runs.{span};

@@ -1,4 +1,6 @@
 // The value of a part: its key and its mass or text, up to the byte behind it.
+#![tactic(auto)]
+
 ghost use Rattle.std.specs.Prelude.{◌≡◌, true, false, ◌&&◌, List, [], ℕ, ◌+◌, ◌-◌, ◌<◌, ◌≤◌, eqb, length, drop, get_or};
 ghost use Rattle.scope.specs.Bytes.{hash, dash, is_sign};
 ghost use Rattle.scope.specs.declared.grammar.Key.TheVariants.{NoKey};

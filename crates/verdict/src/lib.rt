@@ -1,4 +1,6 @@
 // Refusals 1 to 12, 21 "after 10" and 19 "after 12": the first that is due in this order, "at its first place in the line".
+#![tactic(auto)]
+
 ghost use Rattle.std.specs.Prelude.{◌≡◌, ℕ};
 ghost use Rattle.scope.specs.Bytes.{is_printable};
 ghost use Rattle.scope.specs.Line.{Line};

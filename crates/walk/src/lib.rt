@@ -1,4 +1,6 @@
 // A line, walked once: a row for each bracket and each part, the letters, and the first refusal due of 5 to 9 and 19; or the place of refusal 4.
+#![tactic(auto)]
+
 ghost use Rattle.std.specs.Prelude.{◌≡◌, cond, ◌∷◌, map, ◌+◌, ◌-◌, ◌*◌, ◌<◌, ◌≤◌, min, ltb, length, drop, set, replicate};
 ghost use Rattle.std.proofs.lemmas.List.Edits.{sets};
 ghost use Rattle.scope.specs.Bytes.{is_letter, upper as inUpper, wide_limit};

@@ -1,4 +1,6 @@
 // The fixed words of the notation, each once and in the spelling in which it is written; and the key that bytes spell in either case.
+#![tactic(auto)]
+
 ghost use Rattle.std.specs.Prelude.{◌≡◌, true, cond, ◌-◌, ◌≤◌, eqb, length, take};
 ghost use Rattle.scope.specs.declared.grammar.Key.{Key as TheKey};
 ghost use Rattle.scope.specs.Bytes.{same_folded};

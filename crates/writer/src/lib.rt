@@ -1,4 +1,6 @@
 // Writes the canonical line of the tables in the areas.
+#![tactic(auto)]
+
 ghost use Rattle.std.specs.Prelude.{◌≡◌, List, [], ◌∷◌, ◌++◌, ℕ, ◌+◌, ◌-◌, ◌*◌, ◌<◌, ◌≤◌, ℤ, length};
 ghost use Rattle.scope.specs.declared.grammar.Kind.TheVariants.{OnResidue, OnRange};
 ghost use Rattle.scope.specs.Bytes.{wide_limit, dash, shut_round, bar, comma};

@@ -109,7 +109,7 @@ module _ {X : Type 0} (w : Sort X) (one : (i : ℕ) (x : X) → w.good x ≡ tru
 pub each_along_lem : {A B : Type 0} (Q : B → Type 0) (prints : A → List ℕ) (f : ℕ → A → B) → ((i : ℕ) (x : A) → Q (f i x)) → (i : ℕ) (l : List A) → Each Q (along prints f i l)
 unfolding along
 each_along_lem Q prints f h i [] = tt
-each_along_lem Q prints f h i (x ∷ l) = (h i x, each_along_lem Q prints f h _ l)
+each_along_lem Q prints f h i (x ∷ l) = (h i x, each_along_lem Q prints f h (i + length (prints x)) l)
 
 -- ---- in square or in curly brackets
 abbrev pub boxes : ℕ → ℕ → Bool → Bool → Kind → ℕ → ℕ → Sort Inside

@@ -59,7 +59,7 @@ targets_text i (y ∷ xs) x g = head i x y xs ∙ ap₂ (λ a l. a ++ (comma ∷
 targets_same : (i j : ℕ) (xs : List Target) (x : Target) → map bare_place (means_targets j (plain_target x) (map plain_target xs)) ≡ map bare_place (means_targets i x xs)
 unfolding means_targets
 targets_same i j [] x = ap (λ s. record { site = s; at = tt } ∷ []) (target_site x)
-targets_same i j (y ∷ xs) x = ap₂ (λ s l. record { site = s; at = tt } ∷ l) (target_site x) (targets_same _ _ xs y)
+targets_same i j (y ∷ xs) x = ap₂ (λ s l. record { site = s; at = tt } ∷ l) (target_site x) (targets_same (i + length (print_target x) + 1) (j + length (print_target (plain_target x)) + 1) xs y)
 
 targets_short : (xs : List Target) (x : Target) → all good_target (x ∷ xs) ≡ true → length (print_targets (plain_target x) (map plain_target xs)) ≤ length (print_targets x xs)
 unfolding all print_targets

@@ -32,7 +32,7 @@ use Rattle.canonical_laws.specs.Refusals.{same_length}
 along_length : {A B : Type 0} (prints : A → List ℕ) (f : ℕ → A → B) (i : ℕ) (l : List A) → length (along prints f i l) ≡ length l
 unfolding along
 along_length prints f i [] = refl
-along_length prints f i (x ∷ l) = ap suc (along_length prints f _ l)
+along_length prints f i (x ∷ l) = ap suc (along_length prints f (i + length (prints x)) l)
 
 -- ---- letters
 lower_range : (b : ℕ) → is_lower b ≡ true → (97 ≤ b) × (b ≤ 122)
@@ -56,7 +56,7 @@ upper_letter b e =
 same_residues : (c : Section) (i j : ℕ) (ss : List Spot) → map bare_residue (along print_spot (residue_of c) j (map plain_spot ss)) ≡ map bare_residue (along print_spot (residue_of c) i ss)
 unfolding along
 same_residues c i j [] = refl
-same_residues c i j (s ∷ ss) = ap₂ (λ b rs. record { letter = b; section = c; at = tt } ∷ rs) (upper_twice s.letter) (same_residues c _ _ ss)
+same_residues c i j (s ∷ ss) = ap₂ (λ b rs. record { letter = b; section = c; at = tt } ∷ rs) (upper_twice s.letter) (same_residues c (i + length (print_spot s)) (j + length (print_spot (plain_spot s))) ss)
 
 element_residues : (i j : ℕ) (e : Element) → map bare_residue (residues_in j (plain_element e)) ≡ map bare_residue (residues_in i e)
 element_residues i j (single s) = ap (λ b. record { letter = b; section = Plain; at = tt } ∷ []) (upper_twice s.letter)
@@ -233,7 +233,7 @@ element_plain n i (range s ss x xs) f w =
     spelt_as (spelt_led open_round (spelt_append (λ k. k + length (flat print_spot (map plain_spot (s ∷ ss)))) spots (spelt_led shut_round on)))
     (ap (λ ks. sequence_text ks (n + 1) (residues_in i (range s ss x xs))) split
     ∙ group_text (n + 1) last at (x ∷ xs) RangeFirst RangeNext (n + 1) (i + 1) s ss (λ u. (refl, refl, refl)) refl good.0 fits)
-    split (λ j. rw (length-map ss plain_spot))
+    split (λ j. ap (λ m. brackets_on (n + 1) (j + 1) (map plain_spot (s ∷ ss)) ++ means_squares OnRange (n + 1) (n + 1 + m) (j + 1 + length (flat print_spot (map plain_spot (s ∷ ss))) + 1) (plain_insides (x ∷ xs))) (sym (length-map ss plain_spot)))
 element_plain n i (unsure s ss) f w =
     spelt_as (spelt_led open_round (spelt_led question (spelt_closed shut_round (spots_plain (n + 1) (i + 1 + 1) (s ∷ ss) f w))))
     (ap (λ ks. sequence_text ks (n + 1) (residues_in i (unsure s ss))) (sym (append-nil _))

@@ -8,7 +8,7 @@ use Rattle.scope.specs.Line.{Number, Label, Value, mass, text, reference, compos
 use Rattle.scope.specs.Lists.{flat}
 use Rattle.scope.specs.Refusals.{in_range, text_in}
 use Rattle.scope.specs.Layout.{bracket_texts}
-use Rattle.reading_laws.specs.Taken.{Taken}
+use Rattle.reading_laws.proofs.Taken.{Taken}
 use Rattle.basics.specs.Tests.{and_right}
 use Rattle.basics.specs.Each.{OfGiven, each_one, each_two}
 use Rattle.accepted_laws.specs.Within.{Byte, NumberWithin, LabelWithin, ValueWithin, PartWithin, BracketWithin, Within}

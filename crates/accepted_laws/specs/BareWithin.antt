@@ -16,7 +16,7 @@ use Rattle.scope.specs.Positions.{floaters}
 use Rattle.basics.specs.Each.{OfGiven, IsGiven, each_map, each_one}
 use Rattle.accepted_laws.specs.Within.{Byte, NumberWithin, LabelWithin, ValueWithin, PartWithin, BracketWithin, Within}
 use Rattle.basics.specs.Lists.{flat_map, keep_map}
-use Rattle.reading_laws.specs.Bare.{names_of_lem, bracket_texts_lem, same_floaters, is_reference_lem}
+use Rattle.reading_laws.proofs.Bare.{names_of_lem, bracket_texts_lem, same_floaters, is_reference_lem}
 
 module _ {P : Type 0} where
   number_within : (n : Number P) → NumberWithin n → NumberWithin (bare_number n)

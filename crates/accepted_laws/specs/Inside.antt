@@ -16,7 +16,7 @@ use Rattle.scope.specs.Refusals.{text_in, text_of}
 use Rattle.scope.specs.Layout.{packed}
 use Rattle.basics.specs.Tests.{and_right}
 use Rattle.basics.specs.Lists.{flat_append_length, flat_one_length}
-use Rattle.reading_laws.specs.Goes.{Valued, of_plain, of_number, of_code, of_text, Over, of_value, of_label, of_score, On, mass_begins, plain_begins, text_begins, refers, plain_on, plain_text_lem, no_key, key_name, key_code_lem, key_text, keyed_mass, keyed_text, mass_on, code_on, text_on, hash_on, label_begins, label_on, score_opens, score_sign, score_digit, score_on, score_over, Goes, stops, goes_on_lem, part_over, shuts, goes}
+use Rattle.reading_laws.proofs.Goes.{Valued, of_plain, of_number, of_code, of_text, Over, of_value, of_label, of_score, On, mass_begins, plain_begins, text_begins, refers, plain_on, plain_text_lem, no_key, key_name, key_code_lem, key_text, keyed_mass, keyed_text, mass_on, code_on, text_on, hash_on, label_begins, label_on, score_opens, score_sign, score_digit, score_on, score_over, Goes, stops, goes_on_lem, part_over, shuts, goes}
 use Rattle.basics.specs.Each.{Each, OfGiven, each_append, each_one}
 use Rattle.accepted_laws.specs.Within.{Byte, ReferenceWithin}
 

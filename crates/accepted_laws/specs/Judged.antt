@@ -18,7 +18,7 @@ use Rattle.scope.specs.Positions.{floaters}
 use Rattle.basics.specs.Lists.{not_due, nil_front, nil_back, flat_none}
 use Rattle.basics.specs.Tests.{or_left, or_right}
 use Rattle.basics.specs.Each.{Each, OfGiven, each_three}
-use Rattle.reading_laws.specs.Taken.{Taken, not_long}
+use Rattle.reading_laws.proofs.Taken.{Taken, not_long}
 use Rattle.accepted_laws.specs.Within.{KeyWithin}
 
 -- ---- nothing is due

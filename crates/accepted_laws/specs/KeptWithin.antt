@@ -23,10 +23,10 @@ use Rattle.basics.specs.Each.{Each, each_map, each_one}
 use Rattle.basics.specs.Keys.{key_back}
 use Rattle.basics.specs.Lists.{keep_map}
 use Rattle.basics.specs.Tests.{and_left, and_right, both}
-use Rattle.reading_laws.specs.Compositions.{likewise_kept, names_kept, floaters_kept}
+use Rattle.reading_laws.proofs.Compositions.{likewise_kept, names_kept, floaters_kept}
 use Rattle.glycan_laws.specs.Laws.{Cuts}
-use Rattle.glycan_laws.specs.Masses.{no_longer, small}
-use Rattle.glycan_laws.specs.Written.{first_cut, not_empty, plain}
+use Rattle.glycan_laws.proofs.Masses.{no_longer, small}
+use Rattle.glycan_laws.proofs.Written.{first_cut, not_empty, plain}
 use Rattle.accepted_laws.specs.Within.{Byte, NumberWithin, TextWithin, ValueWithin, PartWithin, BracketWithin, Within}
 
 -- ---- compositions

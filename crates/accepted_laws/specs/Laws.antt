@@ -7,7 +7,7 @@ use Rattle.scope.specs.Line.{Bracket, Line}
 use Rattle.scope.specs.Refusals.{accepted, outcome}
 use Rattle.scope.specs.Tables.{tables_of}
 use Rattle.scope.specs.Layout.{bracket_texts}
-use Rattle.reading_laws.specs.Taken.{Taken, taken, not_long}
+use Rattle.reading_laws.proofs.Taken.{Taken, taken, not_long}
 use Rattle.accepted_laws.specs.Within.{BracketWithin, Within, first_few, last_few}
 use Rattle.accepted_laws.specs.BareWithin
 use Rattle.accepted_laws.specs.KeptWithin

@@ -27,9 +27,9 @@ use Rattle.scope.specs.Layout.{bracket_texts}
 use Rattle.basics.specs.Tests.{and_left, and_right, implied}
 use Rattle.basics.specs.Lists.{flat_append_length, flat_one_length}
 use Rattle.basics.specs.Choice.{branch}
-use Rattle.reading_laws.specs.Acts.{ways, each_mode, act_rule, some_way, ends_term, waits}
-use Rattle.reading_laws.specs.Listed.{PlaceOn, place_begins, place_over, word_begins, word_on, PlacesGo, places_on, places_over, places_stop, places_go}
-use Rattle.reading_laws.specs.Kept.{reading_whole_from, put_by, digit_by}
+use Rattle.reading_laws.proofs.Acts.{ways, each_mode, act_rule, some_way, ends_term, waits}
+use Rattle.reading_laws.proofs.Listed.{PlaceOn, place_begins, place_over, word_begins, word_on, PlacesGo, places_on, places_over, places_stop, places_go}
+use Rattle.reading_laws.proofs.Kept.{reading_whole_from, put_by, digit_by}
 use Rattle.basics.specs.Each.{each_last, Each, OfGiven, each_append, each_snoc, each_map, each_one, each_two}
 use Rattle.accepted_laws.specs.Within.{Byte, StoodAt}
 use Rattle.accepted_laws.specs.Inside.{PartShape, PartsShape, Carried, InnerKeeps, ContentKeeps, inner_step_lem}

@@ -16,12 +16,12 @@ use Rattle.basics.specs.Each.{Each, In, each_append, each_one, each_all, each_ma
 use Rattle.basics.specs.Lists.{same_law}
 use Rattle.basics.specs.Members.{member_in}
 use Rattle.basics.specs.Tests.{both, and_right}
-use Rattle.reading_laws.specs.Taken.{taken}
-use Rattle.reading_laws.specs.Bare.{same_floating}
+use Rattle.reading_laws.proofs.Taken.{taken}
+use Rattle.reading_laws.proofs.Bare.{same_floating}
 use Rattle.accepted_laws.specs.Within.{Byte}
 use Rattle.accepted_laws.specs.Laws.{accepted_within}
 use Rattle.accepted_laws.specs.Judged.{judged_line}
-use Rattle.canonical_laws.specs.Proved as canonical-laws
+use Rattle.canonical_laws.proofs.Proved as canonical-laws
 use Rattle.placement_laws.specs.Lines.{permitted_inside}
 use Rattle.placement_laws.specs.Members.{zeros_of, fits_cons, allowed_parts}
 use Rattle.blocks.specs.Block.{new_kind}

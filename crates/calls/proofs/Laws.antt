@@ -16,10 +16,10 @@ use Rattle.scope.specs.Positions.{is_further, floating_of}
 use Rattle.scope.specs.Answers.{allowable, bookable, books, entries, Said, good, refuses, Display, a_mass, lack, display_of, too_short, are_tables, over_tables, weighed}
 use Rattle.areas.specs.Floats.{floating_in, FloatersAre}
 use Rattle.basics.specs.Positions.{same_floats}
-use Rattle.layout_laws.specs.Laws.{tables_held}
+use Rattle.layout_laws.proofs.Laws.{tables_held}
 use Rattle.placement_laws.specs.Terms.{Orderly}
 use Rattle.placement_laws.specs.Laws.{line_orderly}
-use Rattle.laws.specs.Proved.{demands}
+use Rattle.laws.proofs.Proved.{demands}
 use Rattle.masses.specs.declared.Weight.{Weight}
 use Rattle.masses.specs.declared.Weight.TheVariants.{Total, Lacks}
 use Rattle.masses.specs.Weights.{weight_of, says_weight, weight_said}

@@ -1,14 +1,2 @@
 pub mod Laws
-pub mod Decimal
 pub mod Plainly
-pub mod Short
-pub mod PlainNumbers
-pub mod PlainParts
-pub mod Refusals
-pub mod Shortened
-pub mod Endings
-pub mod PlainBrackets
-pub mod PlainSequence
-pub mod PlainDeclarations
-pub mod PlainLines
-pub mod Proved

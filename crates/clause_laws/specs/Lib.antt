@@ -1,5 +1,1 @@
 pub mod Clauses
-pub mod Iff
-pub mod Rules
-pub mod Limited
-pub mod Proved

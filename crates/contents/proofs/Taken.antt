@@ -25,10 +25,10 @@ use Rattle.basics.specs.Tests.{neither}
 use Rattle.order_laws.specs.Ranks.{orderedb}
 use Rattle.order_laws.specs.Laws.{accepted_ordered, same_order}
 use Rattle.accepted_laws.specs.Laws.{accepted_short, accepted_within}
-use Rattle.reading_laws.specs.Bare.{same_canonical, same_floating}
-use Rattle.canonical_laws.specs.Proved as canonicals
-use Rattle.layout_laws.specs.Holds.{Holds}
-use Rattle.layout_laws.specs.Laws.{accepted_held, laid_bytes, laid_numbers}
+use Rattle.reading_laws.proofs.Bare.{same_canonical, same_floating}
+use Rattle.canonical_laws.proofs.Proved as canonicals
+use Rattle.layout_laws.proofs.Holds.{Holds}
+use Rattle.layout_laws.proofs.Laws.{accepted_held, laid_bytes, laid_numbers}
 use Rattle.reader.specs.ReadSays.{ReadSays}
 use Rattle.blocks.specs.Block.{new_kind}
 use Rattle.blocks.specs.Entry.{position_bytes, positions_of, content_for, stated, is_stated}

@@ -17,7 +17,7 @@ use Rattle.scope.specs.Layout.{mass_code, text_code}
 use Rattle.scope.specs.Line.{Value as Written, mass, text, reference, composition, Part}
 use Rattle.scope.specs.Lists.{part, none?, all}
 use Rattle.scope.specs.Refusals.{due_at, least, text_in, text_of, is_rule_name, too_deep, in_range, wide_mass}
-use Rattle.reading_laws.specs.Inside.{under_least, under_deep}
+use Rattle.reading_laws.proofs.Inside.{under_least, under_deep}
 use Rattle.glycans.specs.Cut.{CutIs}
 use Rattle.glycans.specs.Kept.{is_uncut_lem}
 use Rattle.values.specs.declared.Value.{Value}

@@ -7,8 +7,8 @@ use Rattle.scope.specs.Line.{Line}
 use Rattle.scope.specs.Reading.{holds, reading}
 use Rattle.scope.specs.Refusals.{line_refusals}
 use Rattle.basics.specs.Each.{Each, each_one}
-use Rattle.reading_laws.specs.Within.{reading_within}
-use Rattle.reading_laws.specs.Inside.{Under, line_under}
+use Rattle.reading_laws.proofs.Within.{reading_within}
+use Rattle.reading_laws.proofs.Inside.{Under, line_under}
 use Rattle.dues.specs.First.{Fits}
 
 pub places_fit : (line : List ℕ) (l : Line ℕ) → reading line ≡ holds l → length line ≤ line_limit → Each Fits (line_refusals l)

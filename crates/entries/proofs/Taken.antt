@@ -15,8 +15,8 @@ use Rattle.scope.specs.Register.{total_text, fields, report}
 use Rattle.order_laws.specs.Ranks.{orderedb}
 use Rattle.order_laws.specs.Laws.{accepted_ordered, same_order}
 use Rattle.accepted_laws.specs.Laws.{accepted_short}
-use Rattle.reading_laws.specs.Bare.{same_canonical, same_total, same_lacking}
-use Rattle.canonical_laws.specs.Proved as canonicals
+use Rattle.reading_laws.proofs.Bare.{same_canonical, same_total, same_lacking}
+use Rattle.canonical_laws.proofs.Proved as canonicals
 use Rattle.reader.specs.ReadSays.{Stored}
 use Rattle.store.specs.Filled.{Fills}
 use Rattle.store.proofs.NotedLine.{is_accepted, residues_many, brackets_many}

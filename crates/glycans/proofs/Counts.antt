@@ -11,9 +11,9 @@ use borrow.Author.Tests.{leb-true, eqb-true, eqb-false, eq-eqb, ne_eqb, lt-leb, 
 use Rattle.scope.specs.Bytes.{upper, is_lower, is_digit, value}
 use Rattle.scope.specs.Glycans.{way, count_text}
 use Rattle.basics.specs.Tests.{and_left, and_right}
-use Rattle.glycan_laws.specs.Digits.{one_digit, two_digits, behind_digit, last_count, one_digit_lem, two_digits_lem}
-use Rattle.glycan_laws.specs.Enumerated.{a_digit}
-use Rattle.glycan_laws.specs.Last.{upper_digit}
+use Rattle.glycan_laws.proofs.Digits.{one_digit, two_digits, behind_digit, last_count, one_digit_lem, two_digits_lem}
+use Rattle.glycan_laws.proofs.Enumerated.{a_digit}
+use Rattle.glycan_laws.proofs.Last.{upper_digit}
 use Rattle.glycans.specs.Cut.{back, digits_text, CountIs}
 use Rattle.glycans.proofs.Texts.{back_cons, back_nothing}
 

@@ -12,7 +12,7 @@ use Rattle.scope.specs.Lists.{given, all, none?}
 use Rattle.scope.specs.Glycans.{way, sugars, name_at}
 use Rattle.basics.specs.Tests.{and_left, and_right}
 use Rattle.glycan_laws.specs.Back.{Backward, backward, backwards, tried, is_front, first_front}
-use Rattle.glycan_laws.specs.Last.{with_name, with_count, last_item}
+use Rattle.glycan_laws.proofs.Last.{with_name, with_count, last_item}
 use Rattle.glycans.specs.Cut.{SugarIs, back, NameIs, digits_text, CountAt, CountIs, PieceIs}
 use Rattle.glycans.proofs.Texts.{back_nothing, back_length, back_split, front_length}
 

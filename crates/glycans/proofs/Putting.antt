@@ -13,8 +13,8 @@ use Rattle.scope.specs.Glycans.{Item, sugars, name_at, item_text, cuttings, shor
 use Rattle.basics.specs.Each.{each_back}
 use Rattle.basics.specs.Lists.{flat_cons, flat_snoc, flat_map}
 use Rattle.glycan_laws.specs.Laws.{ItemGood, Cuts}
-use Rattle.glycan_laws.specs.Last.{one_way}
-use Rattle.glycan_laws.specs.Rightward.{last_off, last_always, none_last}
+use Rattle.glycan_laws.proofs.Last.{one_way}
+use Rattle.glycan_laws.proofs.Rightward.{last_off, last_always, none_last}
 use Rattle.glycans.specs.Cut.{SugarIs, digits_text, piece_text, PieceAt, PieceIs, short_of, Room, PutBefore}
 use Rattle.glycans.specs.Pieces.{piece_bytes, pieces_of}
 use Rattle.glycans.proofs.Texts.{part_length, part_whole}

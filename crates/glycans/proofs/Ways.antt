@@ -15,11 +15,11 @@ use Rattle.scope.specs.Limits.{count_limit}
 use Rattle.scope.specs.Glycans.{Item, way, sugar_at, name_at, item_text, cuttings, short, short_text, count_of, item_mass, cutting_mass}
 use Rattle.basics.specs.Each.{In}
 use Rattle.glycan_laws.specs.Laws.{Cuts}
-use Rattle.glycan_laws.specs.Last.{last_item, one_way}
-use Rattle.glycan_laws.specs.Enumerated.{every_way}
-use Rattle.glycan_laws.specs.Written.{first_cut}
-use Rattle.glycan_laws.specs.Masses.{no_longer, small}
-use Rattle.glycan_laws.specs.Rightward.{last_on, last_off, last_always, none_last}
+use Rattle.glycan_laws.proofs.Last.{last_item, one_way}
+use Rattle.glycan_laws.proofs.Enumerated.{every_way}
+use Rattle.glycan_laws.proofs.Written.{first_cut}
+use Rattle.glycan_laws.proofs.Masses.{no_longer, small}
+use Rattle.glycan_laws.proofs.Rightward.{last_on, last_off, last_always, none_last}
 use Rattle.glycans.specs.Cut.{SugarIs, back, digits_text, piece_text, PieceAt, short_of, items_of, weight_of, weight_most, CutIs}
 use Rattle.glycans.proofs.Listed.{heaviest, mass_most}
 use Rattle.glycans.proofs.Texts.{part_length}

@@ -7,8 +7,8 @@ use Rattle.scope.specs.Lists.{part, keep, none?}
 use Rattle.scope.specs.Limits.{text_limit, size_limit, count_limit, decimal_limit}
 use Rattle.scope.specs.Glycans.{Item, way, sugar_at, name_at, mass_decimals, count_text, cuttings, short_count, short_text, count_of, cutting_mass}
 use Rattle.glycan_laws.specs.Back.{begins, backward, order, tried, first_front}
-use Rattle.glycan_laws.specs.Digits.{last_count}
-use Rattle.glycan_laws.specs.Last.{last_item}
+use Rattle.glycan_laws.proofs.Digits.{last_count}
+use Rattle.glycan_laws.proofs.Last.{last_item}
 
 -- ---- the list
 pub record SugarIs (i size : ℕ) (letters : List ℕ) (mass : ℕ) : Type 0 where

@@ -12,7 +12,7 @@ use Rattle.scope.specs.Refusals.{accepted, refused, line_refusals, byte_refusals
 use Rattle.scope.specs.Tables.{Tables, tables_of}
 use Rattle.reading_laws.specs.Laws.{Clear, First}
 use Rattle.clause_laws.specs.Clauses.{NoneDue}
-use Rattle.reading_laws.specs.Unnoted.{digit_run}
+use Rattle.reading_laws.proofs.Unnoted.{digit_run}
 use Rattle.scope.specs.Grammar.{Word, good_word, print_word, Numeral, print_numeral, good_numeral, means_numeral, Text, print_text, good_text, outer_byte, Inside, print_inside, good_inside, means_inside, Spelling, print, good, means}
 use Rattle.grammar_laws.specs.Texts.{text_run}
 use Rattle.grammar_laws.specs.Runs.{context, noted_run}

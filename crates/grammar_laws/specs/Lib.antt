@@ -1,16 +1,3 @@
-pub mod Lists
-pub mod Numerals
 pub mod Texts
-pub mod Words
-pub mod Bare
 pub mod Runs
-pub mod Printed
-pub mod Spelled
-pub mod Targets
-pub mod Written
-pub mod Parsed
-pub mod Examples
 pub mod Laws
-pub mod Lines
-pub mod Judged
-pub mod Proved

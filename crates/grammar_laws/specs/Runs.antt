@@ -6,9 +6,9 @@ use Rattle.scope.specs.declared.grammar.Slot.{Slot}
 use Rattle.scope.specs.Line.{Part}
 use Rattle.scope.specs.Content.{Context, Inner, Content, lost, closed, going, inner_step}
 use Rattle.scope.specs.Reading.{act, Held, with_bracket, State, outside, inside, perform, mode_after, resume, step, run}
-use Rattle.reading_laws.specs.Places.{map_content, inner_step_map}
-use Rattle.reading_laws.specs.Run.{run_nil, run_cons, run_append, unnoted}
-use Rattle.reading_laws.specs.Unnoted.{content_step, content_run, lost_closed, going_closed, closed_same}
+use Rattle.reading_laws.proofs.Places.{map_content, inner_step_map}
+use Rattle.reading_laws.proofs.Run.{run_nil, run_cons, run_append, unnoted}
+use Rattle.reading_laws.proofs.Unnoted.{content_step, content_run, lost_closed, going_closed, closed_same}
 
 abbrev pub Parts : Type 0
 Parts = List (Part ℕ)

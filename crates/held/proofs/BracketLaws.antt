@@ -12,7 +12,7 @@ use Rattle.scope.specs.Lists.{given, padded}
 use Rattle.scope.specs.Tables.{millionths, score_of}
 use Rattle.scope.specs.Layout.{numbers_size, part_size, row_at, part_at, places_at, mass_at, packed, part_rows, places_row}
 use Rattle.layout_laws.specs.At.{At}
-use Rattle.layout_laws.specs.Layout.{padded_length, part_rows_length, head_of}
+use Rattle.layout_laws.proofs.LayoutLaws.{padded_length, part_rows_length, head_of}
 use Rattle.sheet.specs.Fields.{parts_field, base_field, places_field, many_field}
 use Rattle.sheet.proofs.FieldLaws.{Among, among}
 use Rattle.store.specs.PartPut.{RowFits, PartNoted}

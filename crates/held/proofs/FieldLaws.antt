@@ -10,7 +10,7 @@ use Rattle.scope.specs.Limits.{bracket_limit, part_limit}
 use Rattle.scope.specs.Layout.{bytes_size, residues_at, brackets_at, letters_at, row_at, first_at, last_at, count_at, parts_at, score_at, part_at, two_bytes, part_fields, head_row, counts_row, byte_at, wide_at, residues_field, brackets_field, kind_field, first_field, last_field, count_field, parts_field, score_field, value_field, key_field, decimals_field, text_field, label_field, offset_field}
 use Rattle.held.specs.Tells.{Tells}
 use Rattle.layout_laws.specs.At.{At}
-use Rattle.layout_laws.specs.Fields.{CountsRead, HeadRead, FieldsRead, counts_read, head_read, fields_read}
+use Rattle.layout_laws.proofs.Fields.{CountsRead, HeadRead, FieldsRead, counts_read, head_read, fields_read}
 use Rattle.held.proofs.Joins.{tells_as, tells_both}
 use Rattle.held.proofs.Places.{at_nil, at_cons}
 

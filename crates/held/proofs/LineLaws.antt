@@ -17,9 +17,9 @@ use Rattle.basics.specs.Tests.{both_of, both, same_test}
 use Rattle.basics.specs.Lists.{same_law}
 use Rattle.accepted_laws.specs.Within.{Within}
 use Rattle.layout_laws.specs.At.{At, at_part}
-use Rattle.layout_laws.specs.Same.{begins_with}
-use Rattle.layout_laws.specs.Layout.{padded_length, bracket_row_length, number_row_length, rows_length, number_rows_length, bytes_length, numbers_length}
-use Rattle.layout_laws.specs.Laws.{same_numbers_law}
+use Rattle.layout_laws.proofs.Same.{begins_with}
+use Rattle.layout_laws.proofs.LayoutLaws.{padded_length, bracket_row_length, number_row_length, rows_length, number_rows_length, bytes_length, numbers_length}
+use Rattle.layout_laws.proofs.Laws.{same_numbers_law}
 use Rattle.sheet.specs.Rows.{LineNoted}
 use Rattle.sheet.proofs.FieldLaws.{Among, among}
 use Rattle.store.specs.BracketPut.{BracketNoted}

@@ -17,7 +17,7 @@ use Rattle.scope.specs.Reading.{Held, inside, resume, stuck}
 use Rattle.scope.specs.Tables.{score_of}
 use Rattle.basics.specs.Choice.{by_test}
 use Rattle.basics.specs.Tests.{and_left}
-use Rattle.reading_laws.specs.Run.{rest, rest_dead}
+use Rattle.reading_laws.proofs.Run.{rest, rest_dead}
 use Rattle.dues.specs.Ranks.{lowest}
 use Rattle.values.specs.declared.Value.{Value}
 use Rattle.values.specs.declared.ValueAt.{ValueAt}

@@ -10,7 +10,7 @@ use Rattle.scope.specs.Keys.{key_code}
 use Rattle.scope.specs.Content.{Context, begin, is_reference, Content, value_end}
 use Rattle.scope.specs.Reading.{Held, inside, stuck}
 use Rattle.scope.specs.Layout.{mass_code, text_code, reference_code}
-use Rattle.reading_laws.specs.Run.{rest}
+use Rattle.reading_laws.proofs.Run.{rest}
 use Rattle.sheet.specs.Rows.{parts_room, masses_room}
 use Rattle.sheet.specs.Fields.{part_row}
 use Rattle.values.specs.declared.Value.{Value}

@@ -9,7 +9,7 @@ use Rattle.scope.specs.Content.{Context, begin}
 use Rattle.scope.specs.Reading.{Held, inside, outside, refers?, mode_after, with_bracket, stuck}
 use Rattle.scope.specs.Modifications.{is_key, name_of}
 use Rattle.scope.specs.Tables.{score_of}
-use Rattle.reading_laws.specs.Run.{rest}
+use Rattle.reading_laws.proofs.Run.{rest}
 use Rattle.sheet.specs.Rows.{parts_room, masses_room, part_fields, part_note, mass_noted, score_noted, points_noted, AllStand}
 use Rattle.dues.specs.Ranks.{lowest}
 use Rattle.dues.specs.Lines.{parts_codes}

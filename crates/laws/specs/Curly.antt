@@ -19,10 +19,10 @@ use Rattle.scope.specs.Modifications.{name_of, is_labelled}
 use Rattle.scope.specs.Places.{Placing}
 use Rattle.mass_laws.specs.Terms.{labelless}
 use Rattle.basics.specs.Each.{Each, each_append as every_append, each_last as every-last, each_map, each_one}
-use Rattle.reading_laws.specs.Acts.{of_slot, act_rule}
-use Rattle.reading_laws.specs.Goes.{Valued, of_plain, of_number, of_code, of_text, Over, of_value, of_label, of_score, On, mass_begins, plain_begins, text_begins, refers, plain_on, plain_text_lem, no_key, key_name, key_code_lem, key_text, keyed_mass, keyed_text, mass_on, code_on, text_on, hash_on, label_begins, label_on, score_opens, score_sign, score_digit, score_on, score_over, Goes, stops, goes_on_lem, part_over, shuts, goes}
-use Rattle.reading_laws.specs.Listed.{PlacesGo, places_on, places_over, places_stop, places_go}
-use Rattle.reading_laws.specs.Kept.{reading_whole, put_by, digit_by}
+use Rattle.reading_laws.proofs.Acts.{of_slot, act_rule}
+use Rattle.reading_laws.proofs.Goes.{Valued, of_plain, of_number, of_code, of_text, Over, of_value, of_label, of_score, On, mass_begins, plain_begins, text_begins, refers, plain_on, plain_text_lem, no_key, key_name, key_code_lem, key_text, keyed_mass, keyed_text, mass_on, code_on, text_on, hash_on, label_begins, label_on, score_opens, score_sign, score_digit, score_on, score_over, Goes, stops, goes_on_lem, part_over, shuts, goes}
+use Rattle.reading_laws.proofs.Listed.{PlacesGo, places_on, places_over, places_stop, places_go}
+use Rattle.reading_laws.proofs.Kept.{reading_whole, put_by, digit_by}
 use Rattle.basics.specs.Tests.{and_left, and_right}
 
 -- ---- inside a bracket that may hold neither a reference nor a label, as `{}` may not

@@ -1,8 +1,2 @@
 pub mod Demands
-pub mod Proved
 pub mod Curly
-pub mod Facts
-pub mod Bare
-pub mod Areas
-pub mod Idle
-pub mod Remeasured

@@ -1,12 +1,2 @@
-pub mod Holds
-pub mod Laws
 pub mod At
 pub mod TwoBytes
-pub mod Fields
-pub mod Stored
-pub mod Fits
-pub mod Numbers
-pub mod Layout
-pub mod Bounded
-pub mod Same
-pub mod RowsFit

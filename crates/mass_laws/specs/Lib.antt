@@ -1,12 +1,4 @@
 pub mod Terms
 pub mod Sums
 pub mod Placed
-pub mod Shares
-pub mod Splits
-pub mod Sizes
-pub mod Exact
-pub mod Stated
-pub mod Areas
-pub mod Laws
 pub mod Weights
-pub mod Small

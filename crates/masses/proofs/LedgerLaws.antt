@@ -28,7 +28,7 @@ use Rattle.basics.specs.Tabled.{tabled_at, tabled_end, tabled_all, length_tabled
 use Rattle.masses.specs.Reach.{Reach}
 use Rattle.mass_laws.specs.Terms.{mass_limit}
 use Rattle.mass_laws.specs.Sums.{share, share_else}
-use Rattle.mass_laws.specs.Shares.{put_none, put_cons}
+use Rattle.mass_laws.proofs.Shares.{put_none, put_cons}
 use Rattle.mass_laws.specs.Weights.{booked_at, placed_is, not_booked}
 use Rattle.masses.specs.Booking.{EntriesKept, CanBook, booked, CanBookNamed, NamedBooked, CanPlace, BracketPlaced, PlacedBooked, CanPut, CanFloat, CopiesPut}
 use Rattle.masses.proofs.PartLaws.{reach_row}

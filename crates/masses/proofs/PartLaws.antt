@@ -35,7 +35,7 @@ use Rattle.scope.specs.declared.answers.Mass.TheVariants.{Stated, Measured, None
 use Rattle.masses.specs.Reach.{Reach, ReachPart}
 use Rattle.masses.proofs.Whole.{back}
 use Rattle.masses.specs.Weights.{weighs}
-use Rattle.mass_laws.specs.Small.{first_cons}
+use Rattle.mass_laws.proofs.Small.{first_cons}
 
 -- ---- the first mass among the parts, behind `Obs` or not: part j's, if it has one and is such a part
 abbrev behind : Bool → Bool → Bool

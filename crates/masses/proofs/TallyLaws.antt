@@ -36,7 +36,7 @@ use Rattle.masses.specs.Tallies.{TalliedBefore, CanTally, Tallied}
 use Rattle.masses.proofs.Whole.{back}
 use Rattle.basics.specs.Wholes.{abs_add, abs_mul}
 use Rattle.masses.proofs.PartLaws.{is_mass, reach_row}
-use Rattle.mass_laws.specs.Small.{small_mass}
+use Rattle.mass_laws.proofs.Small.{small_mass}
 
 module _ {bs : List ℕ} {ns : List ℤ} {k : ℕ} (r : Reach bs ns k) where
   pub mass_small : Small (mass_or0 (bracket_in bs ns k))

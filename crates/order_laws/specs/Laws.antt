@@ -6,7 +6,7 @@ use Rattle.scope.specs.Line.{Line}
 use Rattle.scope.specs.Reading.{holds, reading}
 use Rattle.scope.specs.Refusals.{accepted, outcome}
 use Rattle.scope.specs.Tables.{tables_of}
-use Rattle.reading_laws.specs.Taken.{taken}
+use Rattle.reading_laws.proofs.Taken.{taken}
 use Rattle.order_laws.specs.Ranks.{orderedb, InOrder}
 use Rattle.order_laws.specs.Climbs as climbs
 use Rattle.order_laws.specs.Reader as reader

@@ -10,7 +10,7 @@ use Rattle.scope.specs.declared.grammar.Act.{Act}
 use Rattle.scope.specs.declared.grammar.Act.TheVariants.{Stop, Go, Residue as a_residue, Begin, Digit, RunEnds, TermEnds, Places}
 use Rattle.scope.specs.Kinds.{is_kind, is_on_range}
 use Rattle.scope.specs.Reading.{act, position_of}
-use Rattle.reading_laws.specs.Acts.{act_rule}
+use Rattle.reading_laws.proofs.Acts.{act_rule}
 use Rattle.order_laws.specs.Ranks.{rank_step, kind_rank, rank_of}
 
 -- ---- heights: ranks, less what the residues that are read add to every rank

@@ -19,8 +19,8 @@ use Rattle.scope.specs.Places.{Placing}
 use Rattle.basics.specs.Choice.{branch}
 use Rattle.basics.specs.Each.{Each, each_append, each_last, each_map, each_one}
 use Rattle.basics.specs.Tests.{both_of}
-use Rattle.reading_laws.specs.Listed.{PlacesGo, places_on, places_over, places_stop, places_go}
-use Rattle.reading_laws.specs.Kept.{reading_whole, put_by, digit_by}
+use Rattle.reading_laws.proofs.Listed.{PlacesGo, places_on, places_over, places_stop, places_go}
+use Rattle.reading_laws.proofs.Kept.{reading_whole, put_by, digit_by}
 use Rattle.order_laws.specs.Ranks.{rank_step, kind_rank, rank_of, rank, InOrder, orderedb}
 use Rattle.order_laws.specs.Climbs.{Climbs, higher, level_climbs, climbs_append, climbs_last, climbs_rising}
 use Rattle.order_laws.specs.Modes.{height_of, rank_height, height, keeps, act_keeps}

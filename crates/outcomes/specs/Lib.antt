@@ -1,8 +1,6 @@
 pub mod Outcomes
 pub mod Printing
-pub mod Samples
 pub mod Compositions
 pub mod Declarations
 pub mod Measured
 pub mod Reasons
-pub mod Blocks

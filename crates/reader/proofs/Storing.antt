@@ -10,8 +10,8 @@ use Rattle.scope.specs.Line.{Line}
 use Rattle.scope.specs.Refusals.{accepted, outcome}
 use Rattle.scope.specs.Layout.{bytes_size, numbers_size, bytes_of, numbers_of}
 use Rattle.scope.specs.Lists.{laid}
-use Rattle.layout_laws.specs.Holds.{Holds}
-use Rattle.layout_laws.specs.Laws.{accepted_held, bytes_fill, numbers_fill, laid_bytes, laid_numbers}
+use Rattle.layout_laws.proofs.Holds.{Holds}
+use Rattle.layout_laws.proofs.Laws.{accepted_held, bytes_fill, numbers_fill, laid_bytes, laid_numbers}
 use Rattle.accepted_laws.specs.Laws.{accepted_within}
 use Rattle.sheet.specs.Rows.{LineNoted}
 use Rattle.store.specs.Filled.{Clean, Fills, FilledAll}

@@ -11,8 +11,8 @@ use Rattle.scope.specs.Line.{Line}
 use Rattle.scope.specs.Lists.{flat, padded, laid}
 use Rattle.scope.specs.Layout.{bytes_size, numbers_size, row_size, number_row_size, residues_at, letters_at, sections_at, rows_at, texts_at, counts_row, section_code, bracket_texts, rows, number_row, bytes_of, numbers_of, brackets_field, residues_field}
 use Rattle.store.proofs.NotedLine.{is_accepted}
-use Rattle.layout_laws.specs.Layout.{AreasRead, padded_length, rows_length, number_rows_length, areas_read}
-use Rattle.layout_laws.specs.Laws.{bytes_fill, numbers_fill}
+use Rattle.layout_laws.proofs.LayoutLaws.{AreasRead, padded_length, rows_length, number_rows_length, areas_read}
+use Rattle.layout_laws.proofs.Laws.{bytes_fill, numbers_fill}
 use Rattle.accepted_laws.specs.Laws.{accepted_within, accepted_short, accepted_texts}
 use Rattle.store.specs.Filled.{Fills}
 use Rattle.reader.specs.ReadSays.{HoldSome, Stored, Wiped, wiped}

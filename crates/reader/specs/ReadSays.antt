@@ -5,7 +5,7 @@ use Rattle.scope.specs.Line.{Line}
 use Rattle.scope.specs.Refusals.{accepted, outcome}
 use Rattle.scope.specs.Layout.{bytes_size, numbers_size, bytes_of, numbers_of}
 use Rattle.scope.specs.Lists.{laid}
-use Rattle.layout_laws.specs.Holds.{Holds}
+use Rattle.layout_laws.proofs.Holds.{Holds}
 use Rattle.sheet.specs.Rows.{LineNoted}
 use Rattle.store.specs.Filled.{Clean}
 use Rattle.scope.specs.Answers.{says_read, says_outcome, read_outcome, bytes_after, numbers_after}

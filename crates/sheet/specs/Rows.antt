@@ -13,7 +13,7 @@ use Rattle.scope.specs.Refusals.{text_of, in_range}
 use Rattle.scope.specs.Tables.{millionths, score_of}
 use Rattle.scope.specs.Layout.{value_code, section_code}
 use Rattle.basics.specs.Each.{Each}
-use Rattle.reading_laws.specs.Taken.{Taken}
+use Rattle.reading_laws.proofs.Taken.{Taken}
 use Rattle.sites.specs.Says.{Stand}
 
 -- ---- a part

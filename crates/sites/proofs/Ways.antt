@@ -13,7 +13,7 @@ use Rattle.scope.specs.Bytes.{bytes, upper, is_letter, comma, dash}
 use Rattle.scope.specs.Line.{Place}
 use Rattle.scope.specs.Places.{Placing, expected, placed, owing, owed, terminus_of, place_step, places_end}
 use Rattle.scope.specs.Reading.{Held, with_places, State, dead, outside, placing, step, stuck}
-use Rattle.reading_laws.specs.Run.{rest, rest_step, rest_end, rest_dead}
+use Rattle.reading_laws.proofs.Run.{rest, rest_step, rest_end, rest_dead}
 
 module _ (line : List ℕ) (h : Held ℕ) (ps : List (Place ℕ)) (i : ℕ) where
   -- the line is over

@@ -9,7 +9,7 @@ use Rattle.scope.specs.Lists.{given}
 use Rattle.scope.specs.Places.{terminus_of, expected, placed, owed}
 use Rattle.scope.specs.Reading.{Held, with_places, outside, placing, stuck}
 use Rattle.scope.specs.Refusals.{least}
-use Rattle.reading_laws.specs.Run.{rest}
+use Rattle.reading_laws.proofs.Run.{rest}
 use Rattle.texts.specs.Texts.{coded}
 use Rattle.sites.specs.declared.PlaceAt.{PlaceAt}
 use Rattle.sites.specs.declared.PlaceAt.TheVariants.{Stuck as PlaceStuck, Ends as PlaceEnds}

@@ -13,7 +13,7 @@ use Rattle.scope.specs.Lists.{given, flat, padded}
 use Rattle.scope.specs.Tables.{millionths, score_of}
 use Rattle.scope.specs.Layout.{part_size, head_size, places_size, row_size, rows_at, texts_at, numbers_size, number_row_size, row_at, part_at, places_at, mass_at, mass_in, packed, part_row, part_rows, places_row, bracket_row, bracket_texts, rows, number_row}
 use Rattle.basics.specs.Lists.{flat_snoc}
-use Rattle.layout_laws.specs.Layout.{padded_length, part_rows_length, bracket_row_length, head_of}
+use Rattle.layout_laws.proofs.LayoutLaws.{padded_length, part_rows_length, bracket_row_length, head_of}
 use Rattle.sheet.proofs.RowLaws.{sets_in}
 use Rattle.store.specs.Areas.{area_with, numbers_with, Pieces, AreasAre, head_added, brackets_added}
 use Rattle.store.specs.PartPut.{PartsPut}

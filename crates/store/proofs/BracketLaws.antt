@@ -12,7 +12,7 @@ use Rattle.scope.specs.Line.{Place, Part, Bracket}
 use Rattle.scope.specs.Lists.{flat}
 use Rattle.scope.specs.Layout.{row_at, places_at, mass_at, bracket_texts}
 use Rattle.basics.specs.Lists.{flat_append_length, flat_cons, flat_snoc}
-use Rattle.layout_laws.specs.Layout.{head_of}
+use Rattle.layout_laws.proofs.LayoutLaws.{head_of}
 use Rattle.sheet.specs.Fields.{parts_field, base_field, places_field, many_field}
 use Rattle.sheet.proofs.FieldLaws.{Among, among}
 use Rattle.store.specs.Areas.{Pieces, head_added, brackets_added}

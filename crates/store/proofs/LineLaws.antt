@@ -12,7 +12,7 @@ use Rattle.scope.specs.Lists.{flat, padded}
 use Rattle.scope.specs.Refusals.{outcome, accepted}
 use Rattle.scope.specs.Layout.{row_size, residues_at, letters_at, sections_at, bytes_size, numbers_size, section_code, bracket_texts, rows, counts_row, bytes_of, numbers_of}
 use Rattle.accepted_laws.specs.Within.{Within}
-use Rattle.layout_laws.specs.Layout.{padded_length, bytes_length, numbers_length}
+use Rattle.layout_laws.proofs.LayoutLaws.{padded_length, bytes_length, numbers_length}
 use Rattle.sheet.proofs.RowLaws.{sets_in}
 use Rattle.store.specs.Areas.{front_with, area_with, Pieces, AreasAre}
 use Rattle.store.specs.BracketPut.{BracketsFit, SomeBracketsFit, BracketsPut}

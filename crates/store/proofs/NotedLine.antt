@@ -16,7 +16,7 @@ use Rattle.scope.specs.Refusals.{due_at, is_uncut, refusal19, accepted, outcome}
 use Rattle.scope.specs.Tables.{score_of}
 use Rattle.basics.specs.Each.{Each, each_one, each_back}
 use Rattle.basics.specs.Lists.{flat_none, not_due}
-use Rattle.reading_laws.specs.Taken.{taken_back}
+use Rattle.reading_laws.proofs.Taken.{taken_back}
 use Rattle.accepted_laws.specs.Within.{PartWithin, BracketWithin, Within}
 use Rattle.accepted_laws.specs.Laws.{accepted_within, read_within}
 use Rattle.sheet.specs.Rows.{part_fields, head_fields, mass_noted, points_noted, part_note, AllStand, heads_from, parts_of, few_brackets, PlacesStand, LineNoted}

@@ -30,8 +30,8 @@ use Rattle.basics.specs.Kinds.{kind_byte}
 use Rattle.basics.specs.Tests.{and_left}
 use Rattle.accepted_laws.specs.Within.{NumberWithin, LabelWithin, KeyWithin, ValueWithin}
 use Rattle.accepted_laws.specs.Laws.{first_within, last_within}
-use Rattle.layout_laws.specs.Numbers.{few_decimals}
-use Rattle.layout_laws.specs.Layout.{score_within, head_of}
+use Rattle.layout_laws.proofs.Numbers.{few_decimals}
+use Rattle.layout_laws.proofs.LayoutLaws.{score_within, head_of}
 use Rattle.sites.specs.Says.{Stand}
 use Rattle.sheet.specs.Rows.{text_from, text_to, label_from, label_to, decimals_noted, mass_noted, AsRead, score_noted, points_noted, places_from, heads_room, parts_room, masses_room}
 use Rattle.sheet.specs.Fields.{kind_field, first_field, last_field, parts_field, score_field, places_field, many_field, value_field, key_field, decimals_field}

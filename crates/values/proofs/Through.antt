@@ -14,7 +14,7 @@ use Rattle.basics.specs.Choice.{by_test}
 use Rattle.scope.specs.declared.grammar.Slot.{Slot}
 use Rattle.scope.specs.Content.{Inner, Content, lost, going, inner_step}
 use Rattle.scope.specs.Reading.{Held, inside, resume, step, stuck}
-use Rattle.reading_laws.specs.Run.{rest, rest_step, rest_end, rest_dead}
+use Rattle.reading_laws.proofs.Run.{rest, rest_step, rest_end, rest_dead}
 use Rattle.classes.specs.Runs.{span}
 use Rattle.classes.proofs.Runs.{run_in}
 use Rattle.values.specs.Says.{through}

@@ -9,7 +9,7 @@ use Rattle.scope.specs.Content.{Context, begin, Content, inner_step, value_end}
 use Rattle.scope.specs.Reading.{Held, resume, Reading, stuck}
 use Rattle.scope.specs.Refusals.{least, deep_part, in_range}
 use Rattle.scope.specs.Layout.{mass_code, text_code, reference_code, composition_code}
-use Rattle.reading_laws.specs.Run.{rest}
+use Rattle.reading_laws.proofs.Run.{rest}
 pub use Rattle.texts.specs.Texts.{coded}
 use Rattle.sheet.specs.Rows.{text_to, decimals_noted, mass_noted, Stands}
 use Rattle.values.specs.declared.Value.{Value}

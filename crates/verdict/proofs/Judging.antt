@@ -18,10 +18,10 @@ use Rattle.scope.specs.Positions.{floaters}
 use Rattle.scope.specs.Answers.{good, refuses, says_outcome}
 use Rattle.basics.specs.Each.{Each}
 use Rattle.accepted_laws.specs.Laws.{accepted_within}
-use Rattle.reading_laws.specs.Compositions.{floaters_kept}
+use Rattle.reading_laws.proofs.Compositions.{floaters_kept}
 use Rattle.reading_laws.specs.Laws.{Clear}
-use Rattle.reading_laws.specs.Printable.{order_printable}
-use Rattle.reading_laws.specs.Taken.{Taken, taken, taken_back}
+use Rattle.reading_laws.proofs.Printable.{order_printable}
+use Rattle.reading_laws.proofs.Taken.{Taken, taken, taken_back}
 use Rattle.classes.specs.Runs.{span}
 use Rattle.sheet.specs.Rows.{Roomy, LineNoted}
 use Rattle.dues.specs.Ranks.{code, lowest, no_code, number_at, decoded}

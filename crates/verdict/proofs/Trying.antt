@@ -11,8 +11,8 @@ use Rattle.scope.specs.Line.{Line}
 use Rattle.scope.specs.Lists.{given}
 use Rattle.scope.specs.Reading.{stuck, holds, reading}
 use Rattle.scope.specs.Refusals.{least, refusal1, refusal2, refusal3, first_due, refused, judged, outcome}
-use Rattle.reading_laws.specs.Printable.{order_printable}
-use Rattle.reading_laws.specs.Taken.{none_long}
+use Rattle.reading_laws.proofs.Printable.{order_printable}
+use Rattle.reading_laws.proofs.Taken.{none_long}
 
 in_order_lem : (s : List ℕ) → outcome s ≡ given (least (refusal1 s)) (refused 1) (given (least (refusal2 s)) (refused 2) (given (least (refusal3 s)) (refused 3) (judged (reading s))))
 unfolding outcome first_due

@@ -17,7 +17,7 @@ use Rattle.scope.specs.Line.{Bracket}
 use Rattle.scope.specs.Reading.{Held, State, act, times, count_digit, outside, perform, step, run, ended}
 use Rattle.classes.specs.Runs.{span}
 use Rattle.numerals.specs.Numerals.{digits_from}
-use Rattle.reading_laws.specs.Run.{rest, rest_step}
+use Rattle.reading_laws.proofs.Run.{rest, rest_step}
 use Rattle.basics.specs.Lists.{on_last_lem}
 
 -- the last bracket of the run has the count n, which stands at p

@@ -18,8 +18,8 @@ use Rattle.scope.specs.Reading.{Held, act, put, times, declared_at, refers?, mod
 use Rattle.basics.specs.Choice.{branch}
 use Rattle.basics.specs.Each.{Each, each_front, each_back, each_snoc}
 use Rattle.basics.specs.Tests.{and_left, and_right, implied}
-use Rattle.reading_laws.specs.Acts.{act_rule}
-use Rattle.reading_laws.specs.Kept.{put_by}
+use Rattle.reading_laws.proofs.Acts.{act_rule}
+use Rattle.reading_laws.proofs.Kept.{put_by}
 use Rattle.walk.specs.Stages.{LastBare, takes_list, declaring, Declares}
 
 -- ---- the rule

@@ -15,7 +15,7 @@ use Rattle.scope.specs.Kinds.{is_declared}
 use Rattle.scope.specs.Limits.{bracket_limit, line_limit}
 use Rattle.scope.specs.Line.{Bracket}
 use Rattle.scope.specs.Reading.{outside, perform, step, settled_run, as_nTerm, act, may_end, nothing, stuck, holds, line_of, reading}
-use Rattle.reading_laws.specs.Run.{rest, rest_start, rest_step, rest_end, rest_dead}
+use Rattle.reading_laws.proofs.Run.{rest, rest_start, rest_step, rest_end, rest_dead}
 use Rattle.sheet.specs.Rows.{Noted}
 use Rattle.dues.specs.Ranks.{lowest}
 use Rattle.dues.specs.Lines.{met_codes}

@@ -23,8 +23,8 @@ use Rattle.scope.specs.Reading.{Held, State, act, in_group, first_of, with_resid
 use Rattle.classes.specs.Runs.{span}
 use Rattle.classes.proofs.Runs.{span_le}
 use Rattle.order.specs.Letters.{single_letter}
-use Rattle.reading_laws.specs.Acts.{Way, is_of, elements, furthers, ways, pick, act_ways}
-use Rattle.reading_laws.specs.Run.{rest, rest_step}
+use Rattle.reading_laws.proofs.Acts.{Way, is_of, elements, furthers, ways, pick, act_ways}
+use Rattle.reading_laws.proofs.Run.{rest, rest_step}
 use Rattle.walk.specs.Steps.{behind, group_of, run_at, sections_of}
 
 -- ---- a letter behind a residue

@@ -15,7 +15,7 @@ use Rattle.scope.specs.Reading.{act, may_end, refers?, mode_after}
 use Rattle.scope.specs.Kinds.{is_unknown}
 use Rattle.basics.specs.Choice.{branch, pick_true, pick_false}
 use Rattle.basics.specs.Tests.{and_left, and_right, implied}
-use Rattle.reading_laws.specs.Acts.{act_rule, of_slot, ByteOf, act_byte, Ending, single_ends, ranged_ends, unsure_ends, cterms_end, ending}
+use Rattle.reading_laws.proofs.Acts.{act_rule, of_slot, ByteOf, act_byte, Ending, single_ends, ranged_ends, unsure_ends, cterms_end, ending}
 use Rattle.classes.specs.Runs.{span}
 use Rattle.walk.specs.Stages.{LastFresh, Waiting, none_waits, last_fresh, any_waits, digits_over, WaitsFor, waiting, ModeFits}
 

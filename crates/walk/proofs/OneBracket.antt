@@ -20,8 +20,8 @@ use Rattle.scope.specs.Limits.{bracket_limit, part_limit, declaration_limit}
 use Rattle.scope.specs.Line.{Part, Bracket}
 use Rattle.scope.specs.Reading.{Held, put, bracket_of, mode_after, outside, perform, stuck, reading}
 use Rattle.scope.specs.Refusals.{due_at, declarations}
-use Rattle.reading_laws.specs.Kept.{put_by}
-use Rattle.reading_laws.specs.Run.{rest}
+use Rattle.reading_laws.proofs.Kept.{put_by}
+use Rattle.reading_laws.proofs.Run.{rest}
 use Rattle.sheet.specs.Rows.{head_fields, Noted}
 use Rattle.sheet.specs.Fields.{head_row}
 use Rattle.dues.specs.Ranks.{code, lowest}

@@ -17,7 +17,7 @@ use Rattle.scope.specs.Reading.{Held, times, outside}
 use Rattle.scope.specs.Refusals.{due_at}
 use Rattle.classes.specs.Runs.{span}
 use Rattle.numerals.specs.Numerals.{digits_from, CountAt}
-use Rattle.reading_laws.specs.Run.{rest}
+use Rattle.reading_laws.proofs.Run.{rest}
 use Rattle.sheet.specs.Rows.{Noted}
 use Rattle.sheet.specs.Fields.{count_at, written_count}
 use Rattle.dues.specs.Ranks.{code, lowest}

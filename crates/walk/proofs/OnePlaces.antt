@@ -13,7 +13,7 @@ use Rattle.scope.specs.declared.grammar.Act.TheVariants.{Places}
 use Rattle.scope.specs.Limits.{bracket_limit, place_limit}
 use Rattle.scope.specs.Line.{Place, Bracket}
 use Rattle.scope.specs.Reading.{Held, declared_at, with_places, outside, perform, reading, stuck}
-use Rattle.reading_laws.specs.Run.{rest}
+use Rattle.reading_laws.proofs.Run.{rest}
 use Rattle.sites.specs.Says.{place_of, Stand, ListReads}
 use Rattle.sites.specs.declared.Listed.{Listed as List-at}
 use Rattle.sites.specs.declared.Listed.TheVariants.{Stuck as stuck_at, Ends}

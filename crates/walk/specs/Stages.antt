@@ -12,8 +12,8 @@ use Rattle.scope.specs.Line.{Bracket, Residue}
 use Rattle.scope.specs.Reading.{Held, act, outside, reading}
 use Rattle.basics.specs.Each.{Each}
 use Rattle.classes.specs.Runs.{span}
-use Rattle.reading_laws.specs.Acts.{ways, some_way, ends_run, ends_term, counts}
-use Rattle.reading_laws.specs.Run.{rest}
+use Rattle.reading_laws.proofs.Acts.{ways, some_way, ends_run, ends_term, counts}
+use Rattle.reading_laws.proofs.Run.{rest}
 use Rattle.sheet.specs.Rows.{masses_room, Noted, Lettered, Roomy}
 use Rattle.dues.specs.Ranks.{code, lowest}
 use Rattle.dues.specs.Lines.{uncut_rank, met_codes}

@@ -19,7 +19,7 @@ use Rattle.scope.specs.Reading.{Held, inside, placing, bracket_of, as_nTerm, rea
 use Rattle.scope.specs.Refusals.{due_at}
 use Rattle.classes.specs.Runs.{span}
 use Rattle.numerals.specs.Numerals.{CountAt}
-use Rattle.reading_laws.specs.Run.{rest}
+use Rattle.reading_laws.proofs.Run.{rest}
 use Rattle.sheet.specs.declared.Head.{Head}
 use Rattle.sheet.specs.Rows.{head_fields, head_note, heads_from, heads_room, parts_room, masses_room}
 use Rattle.sheet.specs.Fields.{count_at, places_at, written_count, head_row, HeadFits}

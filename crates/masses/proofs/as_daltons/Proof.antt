@@ -3,7 +3,7 @@ use borrow.Author.Rules.{rules}
 use lib.Ieee.{div, of_int, of_bits}
 use mir.Syntax.{w64}
 use mir.ValLaws.{to_z-of_z}
-use Rattle.mass_laws.specs.Exact.{exact}
+use Rattle.mass_laws.proofs.Exact.{exact}
 use Rattle.masses.proofs.as_daltons.Statement.{statement}
 use Rattle.masses.proofs.as_daltons.Tie as tie
 

@@ -1,0 +1,12 @@
+pub mod Decimal
+pub mod Short
+pub mod PlainNumbers
+pub mod PlainParts
+pub mod Refusals
+pub mod Shortened
+pub mod Endings
+pub mod PlainBrackets
+pub mod PlainSequence
+pub mod PlainDeclarations
+pub mod PlainLines
+pub mod Proved

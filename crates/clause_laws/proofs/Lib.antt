@@ -1,0 +1,4 @@
+pub mod Iff
+pub mod Rules
+pub mod Limited
+pub mod Proved

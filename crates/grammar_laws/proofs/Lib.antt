@@ -1,0 +1,13 @@
+pub mod Lists
+pub mod Numerals
+pub mod Words
+pub mod Bare
+pub mod Printed
+pub mod Spelled
+pub mod Targets
+pub mod Written
+pub mod Parsed
+pub mod Examples
+pub mod Lines
+pub mod Judged
+pub mod Proved

@@ -1,0 +1,10 @@
+pub mod Holds
+pub mod Laws
+pub mod Fields
+pub mod Stored
+pub mod Fits
+pub mod Numbers
+pub mod LayoutLaws
+pub mod Bounded
+pub mod Same
+pub mod RowsFit

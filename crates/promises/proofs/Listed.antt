@@ -1,0 +1,154 @@
+-- Demand 3 of the listing: requests from a fresh record come to 17, and what they handed out until then is every allowed placement once, ascending.
+use Rattle.std.specs.Prelude.{◌≡◌, refl, ◌↔◌, ℤ, length, drop, get_or}
+use Rattle.std.proofs.Common.{sym, ◌∙◌, subst, arith}
+use Rattle.std.proofs.Math.Path.{ap}
+use Rattle.std.proofs.Math.Option.{none, some}
+use mathlib.Core.List.{List, [], ◌∷◌, ◌++◌}
+use Prim.Native.Nat.{ℕ, zero, suc, ◌+◌, ◌≤◌}
+use Rattle.std.proofs.Math.ListN.{get_elem?}
+use Rattle.scope.specs.declared.answers.Request.{Request}
+use Rattle.scope.specs.declared.answers.Placement.{Placement}
+use Rattle.scope.specs.declared.answers.Listing.{Listing}
+use Rattle.scope.specs.Tables.{Tables}
+use Rattle.scope.specs.Layout.{tables_in}
+use Rattle.scope.specs.Positions.{Floating, floating_of}
+use Rattle.scope.specs.Placements.{placements, fresh_listing}
+use Rattle.scope.specs.Answers.{good, refuses, findable, says_request, met, requested, moved_on, requests}
+use Rattle.placement_laws.specs.Terms.{Ascending, after_requests, out_of, handed_out}
+use Rattle.basics.specs.Each.{In}
+use Rattle.placement_laws.specs.Laws as placing
+use Rattle.laws.specs.Demands as laws
+use Rattle.laws.proofs.Proved.{demands}
+use Rattle.placements.specs.declared.Next.{Next}
+use Rattle.calls.specs.Says.{AllowedSays, NextSays}
+use Rattle.promises.specs.Promises.{HandsOut, Lists}
+use Rattle.promises.proofs.Said.{met_good, met_refused}
+use Rattle.promises.proofs.Answering.{is_allowed, next_placement_lem}
+use Rattle.promises.proofs.Weights.{AreasTaken, says_itself, orderly}
+use Rattle.promises.proofs.Weights.{is_allowed as allowed_so}
+
+-- ---- a list at a place, and at its end
+past_end : (l : List (List ℕ)) (n : ℕ) → length l ≤ n → (get_elem? l n ≡ none) × (drop n l ≡ [])
+past_end [] zero h = (refl, refl)
+past_end [] (suc n) h = (refl, refl)
+past_end (p ∷ l) zero h = absurd (omega arith)
+past_end (p ∷ l) (suc n) h = past_end l n (omega arith)
+
+at_place : (l : List (List ℕ)) (n : ℕ) → suc n ≤ length l → (get_elem? l n ≡ some (get_or l n [])) × (drop n l ≡ get_or l n [] ∷ drop (suc n) l)
+at_place [] n h = absurd (omega arith)
+at_place (p ∷ l) zero h = (refl, refl)
+at_place (p ∷ l) (suc n) h = at_place l n (omega arith)
+
+-- ---- requests by what is said of them
+none_further : (f : Floating) (l : Listing) → requested f l ≡ refuses 17 0 → (n : ℕ) → handed_out f n l ≡ []
+unfolding handed_out
+none_further f l e zero = refl
+none_further f l e (suc n) = ap (λ a. out_of a ++ handed_out f n (moved_on l a)) e ∙ none_further f l e n
+
+after_next : (f : Floating) (n : ℕ) (l : Listing) → after_requests f (suc n) l ≡ moved_on (after_requests f n l) (requested f (after_requests f n l))
+unfolding after_requests
+after_next f zero l = refl
+after_next f (suc n) l = after_next f n (moved_on l (requested f l))
+
+module _ (bs : List ℕ) (ns : List ℤ) (h : AreasTaken bs ns) where
+  abbrev t : Tables
+  t = tables_in bs ns
+
+  abbrev f : Floating
+  f = floating_of t
+
+  requests_so : (l : Listing) → requests bs ns l ≡ requested f l
+  requests_so l = says_itself h (λ t. requested (floating_of t) l)
+
+  -- what a call answers, and the record afterwards, from what is said
+  answer_so : (l : Listing) (r : Next) → NextSays bs ns l r → says_request r.request ≡ met (requested f l)
+  answer_so l r w = w.0 ∙ ap met (requests_so l)
+
+  after_so : (l : Listing) (r : Next) → NextSays bs ns l r → r.listing ≡ moved_on l (requested f l)
+  after_so l r w = w.1 ∙ ap (moved_on l) (requests_so l)
+
+  said_17 : (l : Listing) (r : Next) → NextSays bs ns l r → says_request r.request ≡ refuses 17 0 → requested f l ≡ refuses 17 0
+  said_17 l r w e = met_refused (requested f l) (sym (answer_so l r w) ∙ e)
+
+  -- what is handed out until 17 is what as many requests hand out, or more
+  handed_so : (ps : List (List ℕ)) (l : Listing) → HandsOut (NextSays bs ns) l ps → (n : ℕ) → length ps ≤ n → handed_out f n l ≡ ps
+  unfolding handed_out
+  handed_so [] l w n k = none_further f l (said_17 l w.0 w.1.0 w.1.1) n
+  handed_so (p ∷ ps) l w zero k = absurd (omega arith)
+  handed_so (p ∷ ps) l w (suc n) k =
+      let m = met_good (requested f l) (sym (answer_so l w.0 w.1.0) ∙ w.1.1.0) in
+      let moved : w.0.listing ≡ moved_on l (good m.0) = after_so l w.0 w.1.0 ∙ ap (moved_on l) m.1 in
+      ap (λ a. out_of a ++ handed_out f n (moved_on l a)) m.1
+      ∙ ap (λ (x : Listing). x.at ∷ handed_out f n x) (sym moved)
+      ∙ ap (λ x. x ∷ handed_out f n w.0.listing) w.1.1.1.0
+      ∙ ap (λ x. p ∷ x) (handed_so ps w.0.listing w.1.1.1.1 n (omega arith))
+
+  all_handed : (ps : List (List ℕ)) → HandsOut (NextSays bs ns) fresh_listing ps → ps ≡ laws.listed t (laws.many t)
+  all_handed ps w =
+      let n = length ps + laws.many t in
+      sym (handed_so ps fresh_listing w n (omega arith)) ∙ (demands.demand_3_in bs ns h.taken).no_further n (omega arith)
+
+  every_allowed : (ps : List (List ℕ)) → HandsOut (NextSays bs ns) fresh_listing ps → (p : Placement) (r : Request) → AllowedSays bs ns p r
+      → In p.at ps ↔ (says_request r ≡ good tt)
+  every_allowed ps w p r v =
+      let d = (demands.demand_3_in bs ns h.taken).every_allowed p.at in
+      let e = all_handed ps w in
+      let k = allowed_so h p r v in
+      ((λ q. k.0 (d.0 (subst (λ x. In p.at x) e q))), (λ q. subst (λ x. In p.at x) (sym e) (d.1 (k.1 q))))
+
+  ascending : (ps : List (List ℕ)) → HandsOut (NextSays bs ns) fresh_listing ps → Ascending ps
+  ascending ps w = subst Ascending (sym (all_handed ps w)) (demands.demand_3_in bs ns h.taken).ascending
+
+  -- ---- "'none' exactly when none exists"
+  none_exists : (r : Next) → NextSays bs ns fresh_listing r
+      → (says_request r.request ≡ refuses 17 0) ↔ ((p : Placement) (q : Request) → AllowedSays bs ns p q → says_request q ≡ good tt → ⊥)
+  none_exists r w =
+      let d = (demands.demand_3_in bs ns h.taken).none_at_first in (
+        (λ e p q v a. d.0 (said_17 fresh_listing r w e) p.at ((allowed_so h p q v).1 a)),
+        (λ no.
+            answer_so fresh_listing r w
+            ∙ ap met
+            (d.1
+            (λ p a.
+            let x = (is_allowed bs ns (record { at = p })).exactly_one in
+            no (record { at = p }) x.outcome x.ensured ((allowed_so h (record { at = p }) x.outcome x.ensured).0 a)))),
+      )
+
+  -- ---- the requests end
+  requested_nth : (n : ℕ) → requested f (after_requests f n fresh_listing) ≡ findable (get_elem? (placements f) n)
+  requested_nth n = placing.request f (orderly h) n
+
+  -- from the record after n requests on
+  handed_from : (k n : ℕ) → length (placements f) ≡ n + k → HandsOut (NextSays bs ns) (after_requests f n fresh_listing) (drop n (placements f))
+  handed_from zero n e =
+      let l = after_requests f n fresh_listing in
+      let p = past_end (placements f) n (omega arith) in
+      let x = (next_placement_lem bs ns l).exactly_one in
+      let q = requested_nth n ∙ ap findable p.0 in
+      subst (HandsOut (NextSays bs ns) l) (sym p.1) (x.outcome, (x.ensured, answer_so l x.outcome x.ensured ∙ ap met q))
+  handed_from (suc k) n e =
+      let l = after_requests f n fresh_listing in
+      let p = at_place (placements f) n (omega arith) in
+      let x = (next_placement_lem bs ns l).exactly_one in
+      let q = requested_nth n ∙ ap findable p.0 in
+      let a = after_so l x.outcome x.ensured in
+      subst (HandsOut (NextSays bs ns) l) (sym p.1) (
+        x.outcome,
+        (
+          x.ensured,
+          (
+            answer_so l x.outcome x.ensured ∙ ap met q,
+            (
+              ap (λ (y : Listing). y.at) (a ∙ ap (moved_on l) q),
+              subst (λ y. HandsOut (NextSays bs ns) y (drop (suc n) (placements f))) (after_next f n fresh_listing ∙ sym a) (handed_from k (suc n) (omega arith)),
+            ),
+          ),
+        ),
+      )
+
+  ends : (ps : List (List ℕ)) × HandsOut (NextSays bs ns) fresh_listing ps
+  unfolding after_requests
+  ends = (placements f, handed_from (length (placements f)) 0 (omega arith))
+
+  pub lists : Lists bs ns (NextSays bs ns)
+  lists = record { ends = ends; every_allowed = every_allowed; ascending = ascending; none = none_exists }

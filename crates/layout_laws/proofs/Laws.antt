@@ -32,10 +32,10 @@ laid_length l old h =
 module _ {P : Type 0} (l : Line P) (within : Within l) where
   -- "Lent areas have the fixed sizes these give"
   pub bytes_fill : length (bytes_of l) ≡ bytes_size
-  bytes_fill = Layout.bytes_length l within
+  bytes_fill = LayoutLaws.bytes_length l within
 
   pub numbers_fill : length (numbers_of l) ≡ numbers_size
-  numbers_fill = Layout.numbers_length l within
+  numbers_fill = LayoutLaws.numbers_length l within
 
   pub bytes_are_bytes : Each Byte (bytes_of l)
   bytes_are_bytes = Bounded.bytes_are_bytes l within
@@ -49,10 +49,10 @@ module _ {P : Type 0} (l : Line P) (within : Within l) where
 
   -- the tables are read back, whatever stands behind them
   pub tables_back : (bs : List ℕ) (ns : List ℤ) → tables_in (laid (bytes_of l) bs) (laid (numbers_of l) ns) ≡ tables_of l
-  tables_back bs ns = Layout.tables_back l within (drop (length (bytes_of l)) bs) (drop (length (numbers_of l)) ns)
+  tables_back bs ns = LayoutLaws.tables_back l within (drop (length (bytes_of l)) bs) (drop (length (numbers_of l)) ns)
 
   pub tables_exact : tables_in (bytes_of l) (numbers_of l) ≡ tables_of l
-  tables_exact = ap₂ tables_in (sym (append-nil (bytes_of l))) (sym (append-nil (numbers_of l))) ∙ Layout.tables_back l within _ _
+  tables_exact = ap₂ tables_in (sym (append-nil (bytes_of l))) (sym (append-nil (numbers_of l))) ∙ LayoutLaws.tables_back l within _ _
 
   pub laid_bounds : (bs : List ℕ) (ns : List ℤ) → Bounds (laid (bytes_of l) bs) (laid (numbers_of l) ns)
   laid_bounds bs ns = Bounded.bounds l within (drop (length (bytes_of l)) bs) (drop (length (numbers_of l)) ns)

@@ -23,7 +23,7 @@ returns-in-MassOrName c =
     let f = form_is c.args.key _ MassOrName c.form_of-form.ensures c.in-MassOrName.is in
     key_name c.args.line.now at c.args.key c.args.from f
     (key_unsigned c.args.line.now c.args.from _ _ _ c.in-MassOrName.is refl c.mass_behind.ensures c.if-mass_behind.false) _
-    (c.text_from_is.ensures at (ap hash_is_plain f) w (omega arith))
+    (c.text_from.ensures at (ap hash_is_plain f) w (omega arith))
 
 pub returns-in-MassOnly : goal.returns-in-MassOnly
 returns-in-MassOnly c =

@@ -16,4 +16,4 @@ returns-then-line-next-ne41 c = λ n is a k. not_closed _ _ _ n _ c.if-line-next
 
 pub returns : goal.returns
 returns c =
-    λ n is a k. closed_score _ _ _ n _ c.if-line-next.false c.if-line-next-ne41.false _ (c.label_end.ensures (some n) (scored_told (to_z-of_z c.fits.points) is) (omega arith) (search rules))
+    λ n is a k. closed_score _ _ _ n _ c.if-line-next.false c.if-line-next-ne41.false _ (c.label_end.ensures (some n) (scored_told (to_z-of_z c.ranges.points) is) (omega arith) (search rules))

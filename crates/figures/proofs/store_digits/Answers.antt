@@ -31,6 +31,5 @@ returns-in-5 c = puts_last 5 _ c.in-5.is c.store_five.ensures
 
 pub returns-in_default : goal.returns-in_default
 returns-in_default c =
-    let rest = c.in_default.in_default-own.rest in
-    let six : c.args.k ≡ group_size = omega (arith, rest.1, rest.0.1, rest.0.0.1, rest.0.0.0.1, rest.0.0.0.0.1, rest.0.0.0.0.0.1, c.requires.0) in
+    let six : c.args.k ≡ group_size = omega arith in
     puts_last group_size _ six c.store_six.ensures

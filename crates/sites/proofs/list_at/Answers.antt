@@ -17,7 +17,7 @@ returns-in-Stuck c = list_stuck _ _ _ _ _ c.loop-p.invariant _ c.place_at.ensure
 
 pub returns-then-not-more_at : goal.returns-then-not-more_at
 returns-then-not-more_at c =
-    list_ends _ _ _ _ _ c.loop-p.invariant _ (place_read _ _ _ c.place_at.ensures _ c.in-Ends.is) _ c.first_over-over.ensures (sym c.more_at.ensures ∙ not-true _ c.if-not-more_at.true)
+    list_ends _ _ _ _ _ c.loop-p.invariant _ (place_read _ _ _ c.place_at.ensures _ c.in-Ends.is) _ c.first_over-over.ensures (sym c.more_at.ensures ∙ c.if-not-more_at.true)
 
 pub loop-p-smaller : goal.loop-p-smaller
 loop-p-smaller c =
@@ -26,4 +26,4 @@ loop-p-smaller c =
 
 pub loop-p-preserved : goal.loop-p-preserved
 loop-p-preserved c =
-    list_more _ _ _ _ _ c.loop-p.invariant _ (place_read _ _ _ c.place_at.ensures _ c.in-Ends.is) _ c.first_over-over.ensures (sym c.more_at.ensures ∙ not-false _ c.if-not-more_at.false)
+    list_more _ _ _ _ _ c.loop-p.invariant _ (place_read _ _ _ c.place_at.ensures _ c.in-Ends.is) _ c.first_over-over.ensures (sym c.more_at.ensures ∙ c.if-not-more_at.false)

@@ -24,7 +24,7 @@ label-length-requires c κs = search rules
 returns : tie.Need-returns invariant-loop decreases-loop
 returns c =
     let loop : tie.At-loop invariant-loop decreases-loop = search in
-    labels_found loop.loop.inv c.before.before.loop-test.true c.before.label_length_is.ensures.0 c.if1.true
+    labels_found loop.loop.inv c.before.before.loop-test.true c.before.label-length.ensures.0 c.if1.true
 
 add-j : tie.Need-overflow-add-j invariant-loop decreases-loop
 add-j c = search rules
@@ -35,7 +35,7 @@ loop_less c = omega arith
 loop_again : tie.Need-loop-preserved invariant-loop decreases-loop
 loop_again c =
     let loop : tie.At-loop invariant-loop decreases-loop = search in
-    labels_next loop.loop.inv c.before.before.loop-test.true c.before.label_length_is.ensures.0 c.if1.false
+    labels_next loop.loop.inv c.before.before.loop-test.true c.before.label-length.ensures.0 c.if1.false
 
 returns_2 : tie.Need-returns-2 invariant-loop decreases-loop
 returns_2 c = labels_end c.before.loop.invariant c.loop-test.false

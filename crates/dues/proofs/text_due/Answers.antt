@@ -21,7 +21,7 @@ is_rule-requires c =
 
 pub returns-then-code-eq-NO_KEY : goal.returns-then-code-eq-NO_KEY
 returns-then-code-eq-NO_KEY c =
-    λ q g. due_rule _ _ _ q g c.requires.1 _ c.first_due.ensures c.due_if-b.ensures c.key_code-code.ensures c.if-code-eq-NO_KEY.true c.is_rule.ensures c.due_if.ensures
+    λ q g. due_rule _ _ _ q g c.requires.1 _ c.first_due-a.ensures c.due_if-b.ensures c.key_code-code.ensures c.if-code-eq-NO_KEY.true c.is_rule.ensures c.due_if.ensures
 
 pub is_number-requires : goal.is_number-requires
 is_number-requires c =
@@ -30,11 +30,11 @@ is_number-requires c =
 
 pub returns-then-code-lt-R : goal.returns-then-code-lt-R
 returns-then-code-lt-R c =
-    λ q g. due_number _ _ _ q g c.requires.1 _ c.first_due.ensures c.due_if-b.ensures c.key_code-code.ensures c.if-code-eq-NO_KEY.false c.if-code-lt-R.true c.is_number.ensures c.due_if-then-code-lt-R.ensures
+    λ q g. due_number _ _ _ q g c.requires.1 _ c.first_due-a.ensures c.due_if-b.ensures c.key_code-code.ensures c.if-code-eq-NO_KEY.false c.if-code-lt-R.true c.is_number.ensures c.due_if-then-code-lt-R.ensures
 
 pub returns-then-code-lt-FORMULA : goal.returns-then-code-lt-FORMULA
 returns-then-code-lt-FORMULA c =
-    λ q g. due_none _ _ _ q g c.requires.1 _ c.first_due.ensures c.due_if-b.ensures c.key_code-code.ensures c.if-code-lt-R.false c.if-code-lt-FORMULA.true
+    λ q g. due_none _ _ _ q g c.requires.1 _ c.first_due-a.ensures c.due_if-b.ensures c.key_code-code.ensures c.if-code-lt-R.false c.if-code-lt-FORMULA.true
 
 pub cut-requires : goal.cut-requires
 cut-requires c =
@@ -43,8 +43,8 @@ cut-requires c =
 
 pub returns-then-code-eq-GLYCAN : goal.returns-then-code-eq-GLYCAN
 returns-then-code-eq-GLYCAN c =
-    λ q g. due_uncut _ _ _ q g c.requires.1 _ c.first_due.ensures c.due_if-b.ensures c.key_code-code.ensures c.if-code-eq-GLYCAN.true c.cut.ensures c.due_if-then-code-eq-GLYCAN.ensures
+    λ q g. due_uncut _ _ _ q g c.requires.1 _ c.first_due-a.ensures c.due_if-b.ensures c.key_code-code.ensures c.if-code-eq-GLYCAN.true c.cut.ensures c.due_if-then-code-eq-GLYCAN.ensures
 
 pub returns : goal.returns
 returns c =
-    λ q g. due_barred _ _ _ q g c.requires.1 _ c.first_due.ensures c.due_if-b.ensures c.key_code-code.ensures c.if-code-lt-FORMULA.false c.if-code-eq-GLYCAN.false c.due.ensures
+    λ q g. due_barred _ _ _ q g c.requires.1 _ c.first_due-a.ensures c.due_if-b.ensures c.key_code-code.ensures c.if-code-lt-FORMULA.false c.if-code-eq-GLYCAN.false c.due.ensures

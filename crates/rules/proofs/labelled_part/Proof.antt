@@ -33,14 +33,14 @@ returns c =
     let l = c.before.before in
     let start : tie.Start invariant-loop decreases-loop = search in
     let s = start.args in
-    seek_found s.parts.now (base_field s.heads.now s.k) (parts_field s.heads.now s.k - 1) _ _ l.before.loop.invariant l.loop-test.true c.before.label_to_is.ensures.0 c.if1.true
+    seek_found s.parts.now (base_field s.heads.now s.k) (parts_field s.heads.now s.k - 1) _ _ l.before.loop.invariant l.loop-test.true c.before.label-to.ensures.0 c.if1.true
 
 loop_again : tie.Need-loop-preserved invariant-loop decreases-loop
 loop_again c =
     let l = c.before.before in
     let start : tie.Start invariant-loop decreases-loop = search in
     let s = start.args in
-    seek_more s.parts.now (base_field s.heads.now s.k) (parts_field s.heads.now s.k - 1) _ _ l.before.loop.invariant l.loop-test.true c.before.label_to_is.ensures.0 c.if1.false
+    seek_more s.parts.now (base_field s.heads.now s.k) (parts_field s.heads.now s.k - 1) _ _ l.before.loop.invariant l.loop-test.true c.before.label-to.ensures.0 c.if1.false
 
 returns_2 : tie.Need-returns-2 invariant-loop decreases-loop
 returns_2 c =

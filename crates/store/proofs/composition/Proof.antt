@@ -14,7 +14,7 @@ returns c =
     let to : tie.After-text-to = search in
     let from : tie.After-text-from = search in
     let s : tie.Start = search in
-    short_is s.pre from.text_from_is.ensures.0 to.text_to_is.ensures.0 u.cut.ensures
+    short_is s.pre from.text-from.ensures.0 to.text-to.ensures.0 u.cut.ensures
 
 pub composition-spec : {M : Type 1} → statement M
 composition-spec = tie.close (tie.spec (λ c κs. search rules) (λ c κs. search rules) cut-requires returns)

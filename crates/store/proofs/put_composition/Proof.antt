@@ -12,8 +12,8 @@ put-short-requires c κs =
     let to : tie.After-text-to = search in
     let from : tie.After-text-from = search in
     let s : tie.Start = search in
-    let ef = from.text_from_is.ensures.0 in
-    let et = to.text_to_is.ensures.0 in
+    let ef = from.text-from.ensures.0 in
+    let et = to.text-to.ensures.0 in
     (omega arith, omega arith, cut_some s.pre.0 ef et, subst (Room s.args.out.now s.args.at) (sym (cut_put s.pre.0 ef et)) s.pre.1)
 
 returns : tie.Need-returns
@@ -22,7 +22,7 @@ returns c =
     let to : tie.After-text-to = search in
     let from : tie.After-text-from = search in
     let s : tie.Start = search in
-    let same = cut_put s.pre.0 from.text_from_is.ensures.0 to.text_to_is.ensures.0 in
+    let same = cut_put s.pre.0 from.text-from.ensures.0 to.text-to.ensures.0 in
     rw same at u.put-short.ensures
 
 pub put-composition-spec : {M : Type 1} → statement M

@@ -22,7 +22,7 @@ add-result-2 c =
     let e : tie.After-label-to = search in
     let l : tie.After-label-from = search in
     let s : tie.Start = search in
-    omega (arith, s.pre.fits.texts_room, u.composition.ensures.sized, e.label_to_is.ensures.0, l.label_from_is.ensures.0)
+    omega (arith, s.pre.fits.texts_room, u.composition.ensures.sized, e.label-to.ensures.0, l.label-from.ensures.0)
 
 returns : tie.Need-returns
 returns c =
@@ -36,7 +36,7 @@ returns c =
     let l : tie.After-label-from = search in
     let s : tie.Start = search in
     let w = s.pre.composed_row in
-    row_put s.pre.fits u.composition.ensures.sized l.label_from_is.ensures.0 (ap₂ (λ a b. a - b) e.label_to_is.ensures.0 l.label_from_is.ensures.0)
+    row_put s.pre.fits u.composition.ensures.sized l.label-from.ensures.0 (ap₂ (λ a b. a - b) e.label-to.ensures.0 l.label-from.ensures.0)
     (put_behind_texts (texts_at + s.args.t) x.put-composition.ensures refl u.composition.ensures.sized) y.copy.ensures
     (cut_value_lem w) (cut_key w) (cut_decimals w) o.offset-of.ensures.0 r.put-part.ensures (cut_mass w s.args.masses.now u.composition.ensures (to_z_pos w64 u.composition.result.mass u.composition.ensures.fits)) p.put-mass.ensures
 

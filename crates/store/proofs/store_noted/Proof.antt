@@ -11,7 +11,7 @@ cast-put-part c =
     let w : tie.After-text-to = search in
     let f : tie.After-text-from = search in
     let s : tie.Start = search in
-    omega (arith, s.pre.fits.short_text_lem, f.text_from_is.ensures.0, w.text_to_is.ensures.0)
+    omega (arith, s.pre.fits.short_text_lem, f.text-from.ensures.0, w.text-to.ensures.0)
 
 cast-put-part-2 : tie.Need-overflow-cast-put-part-2
 cast-put-part-2 c =
@@ -19,7 +19,7 @@ cast-put-part-2 c =
     let e : tie.After-label-to = search in
     let l : tie.After-label-from = search in
     let s : tie.Start = search in
-    omega (arith, s.pre.fits.short_label, l.label_from_is.ensures.0, e.label_to_is.ensures.0)
+    omega (arith, s.pre.fits.short_label, l.label-from.ensures.0, e.label-to.ensures.0)
 
 put-part-requires : tie.Need-put-part-requires
 put-part-requires c κs =
@@ -45,7 +45,7 @@ add-result c =
     let w = l.before in
     let f = w.before in
     let start : tie.Start = search in
-    omega (arith, noted_ends start.pre.fits start.pre f.text_from_is.ensures.0 w.text_to_is.ensures.0 l.label_from_is.ensures.0 e.label_to_is.ensures.0)
+    omega (arith, noted_ends start.pre.fits start.pre f.text-from.ensures.0 w.text-to.ensures.0 l.label-from.ensures.0 e.label-to.ensures.0)
 
 add-result-2 : tie.Need-overflow-add-result-2
 add-result-2 c =
@@ -54,7 +54,7 @@ add-result-2 c =
     let w = l.before in
     let f = w.before in
     let start : tie.Start = search in
-    omega (arith, noted_ends start.pre.fits start.pre f.text_from_is.ensures.0 w.text_to_is.ensures.0 l.label_from_is.ensures.0 e.label_to_is.ensures.0)
+    omega (arith, noted_ends start.pre.fits start.pre f.text-from.ensures.0 w.text-to.ensures.0 l.label-from.ensures.0 e.label-to.ensures.0)
 
 returns : tie.Need-returns
 returns c =
@@ -72,7 +72,7 @@ returns c =
     let w = l.before in
     let f = w.before in
     let s : tie.Start = search in
-    noted_put s.pre.fits s.pre.plain f.text_from_is.ensures.0 w.text_to_is.ensures.0 l.label_from_is.ensures.0 e.label_to_is.ensures.0 x.copy.ensures y.copy2.ensures
+    noted_put s.pre.fits s.pre.plain f.text-from.ensures.0 w.text-to.ensures.0 l.label-from.ensures.0 e.label-to.ensures.0 x.copy.ensures y.copy2.ensures
     v.value_of.ensures.0 k.key_of.ensures.0 d.decimals-of.ensures.0 o.offset-of.ensures.0 r.put-part.ensures (back _ n.number.type-inv n.number.ensures) p.put-mass.ensures
 
 pub store-noted-spec : {M : Type 1} → statement M

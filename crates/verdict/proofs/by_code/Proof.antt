@@ -5,7 +5,7 @@ use Rattle.verdict.proofs.by_code.Statement.{statement}
 use Rattle.verdict.proofs.by_code.Tie as tie
 
 returns : tie.Need-returns
-returns c = λ l. code_refuses _ _ _ _ l c.before.before.if1.true (c.before.number_of_lem.ensures l) c.place_of.ensures
+returns c = λ l. code_refuses _ _ _ _ l c.before.before.if1.true (c.before.number-of.ensures l) c.place_of.ensures
 
 returns_2 : tie.Need-returns-2
 returns_2 c = λ l. code_holds _ _ _ _ l c.if1.false

@@ -38,7 +38,7 @@ returns_4 c =
     let after-sections : tie.After-sections = search in
     let l : tie.After-letters = search in
     let roomy = still_roomy start.pre l.letters.given after-sections.sections.given after-heads.heads.given after-parts.parts.given s.before.masses.given s.scores.given in
-    line_says _ e.before.if1.left e.if2.left _ _ _ _ _ _ (rw k.walked2.given.1 at w.walk.ensures) roomy _ _ _ c.before.first_due_lem.ensures c.by_code.ensures
+    line_says _ e.before.if1.left e.if2.left _ _ _ _ _ _ (rw k.walked2.given.1 at w.walk.ensures) roomy _ _ _ c.before.first-due.ensures c.by_code.ensures
 
 pub judge-spec : {M : Type 1} → statement M
 judge-spec =

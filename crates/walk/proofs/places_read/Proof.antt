@@ -46,7 +46,7 @@ returns_2 c =
       over = _;
       reads = w;
       least = _;
-      least_is = due.first_due_lem.ensures (drop place_limit (map (λ p. p.at) w.sites)) w.counts.over_is;
+      least_is = due.first-due.ensures (drop place_limit (map (λ p. p.at) w.sites)) w.counts.over_is;
       stage = refl;
       put = stored.store-places.ensures;
     }

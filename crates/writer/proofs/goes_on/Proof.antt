@@ -12,7 +12,7 @@ returns c =
 returns_2 : tie.Need-returns-2
 returns_2 c =
     let e = c.before.before in
-    goes_next e.before.before.args.bytes.now _ _ e.if1.false c.before.section.ensures.0 c.is_next_is.ensures
+    goes_next e.before.before.args.bytes.now _ _ e.if1.false c.before.section.ensures.0 c.is-next.ensures
 
 pub goes-on-spec : {M : Type 1} → statement M
 goes-on-spec = tie.close (tie.spec returns (λ c κs. search rules) (λ c κs. search rules) returns_2)

@@ -11,7 +11,7 @@ returns c =
     let n = c.before in
     let start : tie.Start = search in
     let a = start.args in
-    puts_of (label_none a.bytes.now a.numbers.now a.k a.j n.label_length_is.ensures.0 c.if1.true) (puts_within (omega arith) (puts_none _ _))
+    puts_of (label_none a.bytes.now a.numbers.now a.k a.j n.label-length.ensures.0 c.if1.true) (puts_within (omega arith) (puts_none _ _))
 
 returns_2 : tie.Need-returns-2
 returns_2 c =
@@ -24,9 +24,9 @@ returns_2 c =
     let n = i.before in
     let s : tie.Start = search in
     let a = s.args in
-    let long = n.label_length_is.ensures.0 in
+    let long = n.label-length.ensures.0 in
     puts_of
-    (label_some a.bytes.now a.numbers.now a.k a.j long i.if1.left t.text_length_is.ensures.0 from.text_from_is.ensures)
+    (label_some a.bytes.now a.numbers.now a.k a.j long i.if1.left t.text-length.ensures.0 from.text-from.ensures)
     (puts_join hash.put.ensures (puts_join (puts_under long s.pre.0.bounds.short_label name.copy.ensures) scored.put-scored.ensures))
 
 pub put-label-spec : {M : Type 1} → statement M

@@ -12,8 +12,8 @@ returns c =
     let from : tie.After-text-from = search in
     let n : tie.After-text-length = search in
     let s : tie.Start = search in
-    let long = n.text_length_is.ensures.0 in
-    puts_of (ap₂ (λ x y. part x y s.args.bytes.now) from.text_from_is.ensures long) (puts_under long s.pre.0.1.bounds.short_text_lem copied.copy.ensures)
+    let long = n.text-length.ensures.0 in
+    puts_of (ap₂ (λ x y. part x y s.args.bytes.now) from.text-from.ensures long) (puts_under long s.pre.0.1.bounds.short_text_lem copied.copy.ensures)
 
 pub put-text-spec : {M : Type 1} → statement M
 put-text-spec = tie.close (tie.spec (λ c κs. search rules) (λ c κs. search rules) (λ c κs. search rules) (λ c. search rules) returns)

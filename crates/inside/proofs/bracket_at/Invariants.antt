@@ -6,7 +6,7 @@ use Rattle.inside.proofs.bracket_at.Given as goal
 
 abbrev pub invariant-loop-p : goal.invariant-loop-p
 invariant-loop-p l = Sofar l.line
-    (record { l.at = l.at; l.shut = l.shut; l.refers = l.refers; l.labels = l.labels; l.room = l.room; l.base = l.base; l.least = l.least; l.parts = l.initial.parts; l.masses = l.initial.masses })
+    (record { at = l.at; shut = l.shut; refers = l.refers; labels = l.labels; room = l.room; base = l.base; least = l.least; parts = l.initial.parts; masses = l.initial.masses })
     l.i l.s l.parts l.masses
 
 abbrev pub decreases-loop-p : goal.decreases-loop-p

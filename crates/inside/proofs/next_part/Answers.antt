@@ -23,7 +23,7 @@ with_value-t-requires c = omega (arith, c.requires.few, c.requires.within, c.req
 pub labelled-requires : goal.labelled-requires
 labelled-requires c =
     let r = a_value _ _ _ _ _ (c.value_at-found.ensures c.requires.within) c.in-Read.is in
-    label_asked _ _ _ _ _ _ c.args.s _ _ c.requires _ _ r.is_value _ _ _ _ _ _ c.has_room-stored.ensures refl c.has_label.ensures c.if-has_label.true c.with_value-t.ensures c.store_part.kept.0
+    label_asked _ _ _ _ _ _ c.args.s _ _ c.requires _ _ r.is_value _ _ _ _ _ _ c.has_room-stored.ensures refl c.has_label.ensures c.if-has_label.true c.with_value-t.ensures c.store_part.auto.parts
 
 pub returns-then-has_label : goal.returns-then-has_label
 returns-then-has_label c =

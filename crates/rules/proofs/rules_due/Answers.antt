@@ -17,16 +17,16 @@ copies_of-requires c =
 pub overflow_add-after : goal.overflow_add-after
 overflow_add-after c =
     let p = c.requires.1 in
-    omega (arith, p.few, c.loop-k-test.true, c.loop-k.invariant.low, c.Copies-of.ensures.1)
+    omega (arith, p.few, c.loop-k-test.true, c.loop-k.invariant.low, c.copies_of.ensures.1)
 
 pub bracket_due-first-requires : goal.bracket_due-first-requires
 bracket_due-first-requires c =
     let p = c.requires.1 in
-    (all_legible p, c.loop-k-test.true, ap (λ t. c.loop-k.floaters + t) c.Copies-of.ensures.0)
+    (all_legible p, c.loop-k-test.true, ap (λ t. c.loop-k.floaters + t) c.copies_of.ensures.0)
 
 pub loop-k-preserved : goal.loop-k-preserved
 loop-k-preserved c =
-    gather_more _ _ _ _ _ _ _ _ c.loop-k.invariant c.loop-k-test.true c.Copies-of.ensures.0 c.Copies-of.ensures.1 c.bracket_due-first.ensures
+    gather_more _ _ _ _ _ _ _ _ c.loop-k.invariant c.loop-k-test.true c.copies_of.ensures.0 c.copies_of.ensures.1 c.bracket_due-first.ensures
 
 pub returns : goal.returns
 returns c =

@@ -22,8 +22,8 @@ use Rattle.basics.specs.Tests.{both_of}
 use Rattle.reading_laws.proofs.Listed.{PlacesGo, places_on, places_over, places_stop, places_go}
 use Rattle.reading_laws.proofs.Kept.{reading_whole, put_by, digit_by}
 use Rattle.order_laws.specs.Ranks.{rank_step, kind_rank, rank_of, rank, InOrder, orderedb}
-use Rattle.order_laws.specs.Climbs.{Climbs, higher, level_climbs, climbs_append, climbs_last, climbs_rising}
-use Rattle.order_laws.specs.Modes.{height_of, rank_height, height, keeps, act_keeps}
+use Rattle.order_laws.proofs.Climbs.{Climbs, higher, level_climbs, climbs_append, climbs_last, climbs_rising}
+use Rattle.order_laws.proofs.Modes.{height_of, rank_height, height, keeps, act_keeps}
 
 -- a bracket at the front waits as an unknown one, at the position that reading has come to
 abbrev Waits : {P : Type 0} → ℕ → Bracket P → Type 0

@@ -1,6 +1,6 @@
 -- Whether bytes are all zero, as a loop finds it out: its answer so far and the bytes that are left together are the answer.
 use mathlib.Core.Path.{◌≡◌, refl, sym, ap, ◌∙◌}
-use mathlib.Core.Bool.{Bool, true, ◌&&◌, and_assoc, and_true}
+use mathlib.Core.Bool.{Bool, true, ◌&&◌, and_assoc, and-true}
 use mathlib.Core.List.{List}
 use Prim.Native.Nat.{ℕ, suc, ◌+◌, ◌-◌, ◌≤◌, ◌<◌}
 use native.Mathlib.Omega.{arith}
@@ -41,4 +41,4 @@ zeros_more {l} {from} {i} {so} w h k =
     }
 
 pub zeros_end : {l : List ℕ} {from i : ℕ} {so : Bool} → ZerosLeft l from so i → sum_at ≤ i → so ≡ zero_from l from
-zeros_end {l} {from} {i} {so} w h = sym (and_true so) ∙ ap (λ t. so && t) (sym (zero_none l i h)) ∙ w.whole
+zeros_end {l} {from} {i} {so} w h = sym (and-true so) ∙ ap (λ t. so && t) (sym (zero_none l i h)) ∙ w.whole

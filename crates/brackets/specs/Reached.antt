@@ -1,7 +1,7 @@
 -- The positions that a declaration reaches, as a test over all numbers: those of the line whose sites its places name; and as a loop over the positions meets them.
 use Rattle.std.specs.Prelude.{◌≡◌, Bool, false, ◌&&◌, List, ℕ, ◌+◌, ◌≤◌, eqb, ltb, ℤ, length}
 use Rattle.std.proofs.Common.{sym, ap, ◌∙◌, arith, eqb-true, ltb-true, ltb-false, lt-ltb, le-ltb}
-use Rattle.std.proofs.Math.Bool.{and_false}
+use Rattle.std.proofs.Math.Bool.{and-false}
 use Rattle.std.proofs.lemmas.Bool.{eqb-false}
 use Rattle.scope.specs.Layout.{bracket_in, tables_in, residues_field}
 use Rattle.scope.specs.Limits.{position_limit}
@@ -38,7 +38,7 @@ next_test x y ne =
 -- where x is not named, the named ones before the next are those before x
 pub next_unnamed : (x y : ℕ) (u : Bool) → (y ≡ x → u ≡ false) → (ltb y (x + 1) && u) ≡ (ltb y x && u)
 next_unnamed x y u f =
-    by_test (eqb y x) (λ e. rw (f (eqb-true y x e), and_false (ltb y (x + 1)), and_false (ltb y x))) (λ e. ap (λ w. w && u) (next_test x y (eqb-false y x e)))
+    by_test (eqb y x) (λ e. rw (f (eqb-true y x e), and-false (ltb y (x + 1)), and-false (ltb y x))) (λ e. ap (λ w. w && u) (next_test x y (eqb-false y x e)))
 
 -- ---- the n positions that bracket k's places name, ascending, are laid over what a slice begins with; the rest of it is as it was
 pub record ReachedPut (bs : List ℕ) (k n : ℕ) (old new : List ℕ) : Type 0 where

@@ -2,7 +2,7 @@
 use Prim.Native.Nat.{ℕ, ◌≤◌}
 use native.Mathlib.Omega.{arith}
 use mathlib.Core.Path.{◌≡◌, refl, sym, ◌∙◌}
-use mathlib.Core.Bool.{Bool, true, false, not, ◌&&◌, ◌||◌, and_true}
+use mathlib.Core.Bool.{Bool, true, false, not, ◌&&◌, ◌||◌, and-true}
 use mathlib.Core.List.{[], ◌∷◌}
 use borrow.Author.Tests.{ne_eqb, le-leb, leb-true, not-true}
 use lib.Dec.{eqb, leb}
@@ -14,7 +14,7 @@ use Rattle.scope.specs.Content.{is_plain}
 -- a byte that has no meaning of its own is plain where it is printable
 pub plain_else : (b : ℕ) → NoneOf (58 ∷ 35 ∷ 124 ∷ 125 ∷ 123 ∷ 93 ∷ 91 ∷ []) b → is_printable b ≡ is_plain b
 plain_else b (((((((_, p), q), r), s), t), u), v) =
-    simp (ne_eqb _ _ p, ne_eqb _ _ q, ne_eqb _ _ r, ne_eqb _ _ s, ne_eqb _ _ t, ne_eqb _ _ u, ne_eqb _ _ v, and_true)
+    simp (ne_eqb _ _ p, ne_eqb _ _ q, ne_eqb _ _ r, ne_eqb _ _ s, ne_eqb _ _ t, ne_eqb _ _ u, ne_eqb _ _ v, and-true)
 
 -- a letter is plain
 between : (a z b : ℕ) → leb a b && leb b z ≡ true → (a ≤ b) × (b ≤ z)

@@ -1,6 +1,6 @@
 -- What a value that was found says of its part, and so what is due of it. Assumes nothing.
 use mathlib.Core.Path.{◌≡◌, refl, sym, ap, ap₂, subst, ◌∙◌}
-use mathlib.Core.Bool.{Bool, true, false, not, cond, ◌&&◌, ◌||◌, and_false, or-false}
+use mathlib.Core.Bool.{Bool, true, false, not, cond, ◌&&◌, ◌||◌, and-false, or-false}
 use mathlib.Core.Option.{Option, none, some}
 use mathlib.Core.List.{List, [], ◌++◌, map, append-nil}
 use Prim.Native.Nat.{ℕ, ◌+◌, ◌-◌, ◌<◌, ◌≤◌, min}
@@ -65,7 +65,7 @@ nothing_cut = refl
 no_text : (k i a : ℕ) → text_codes k i a [] ≡ key_codes k i
 unfolding is_rule_name same_folded too_deep
 no_text k i a =
-    rw (and_false (eqb k 0), and_false (eqb k 1 || eqb k 2), nothing_cut, and_false (eqb k (key_code Glycan)), or-false (barred_key k))
+    rw (and-false (eqb k 0), and-false (eqb k 1 || eqb k 2), nothing_cut, and-false (eqb k (key_code Glycan)), or-false (barred_key k))
     (append-nil (key_codes k i ++ []) ∙ append-nil (key_codes k i))
 
 -- ---- only a text has the code of a text

@@ -8,16 +8,14 @@ use scope::answers::{Listing, Lookup, Site};
 use scope::tables::Limits;
 
 // The listing moved on: 0 with the next placement in it, else the number of the refusal (13, 14, 17, 18) with the listing as it was. It may hold any bytes.
-#[unsafe(no_mangle)]
-pub extern "C" fn hwemiduk_next(bytes: &[u8], numbers: &[i64], listing: &mut Listing) -> u8
+pub fn hwemiduk_next(bytes: &[u8], numbers: &[i64], listing: &mut Listing) -> u8
     ensures { MovedOn bytes.now numbers.now listing.old result listing.new }
 {
     request_number(listing::step(bytes, numbers, listing))
 }
 
 // The permitted positions as rows, ascending: 0 with their number in `count`, and rows past them as they were; else the number of the refusal (13, 14).
-#[unsafe(no_mangle)]
-pub extern "C" fn hwemiduk_rows(
+pub fn hwemiduk_rows(
     bytes: &[u8],
     numbers: &[i64],
     rows: &mut [Site],
@@ -46,8 +44,7 @@ fn tell_lookup(l: Lookup, index: &mut usize, position: &mut u16) -> u8
 }
 
 // The first row of a floater among the first n: 0 with its index and its position; else the number of the refusal (13, 17).
-#[unsafe(no_mangle)]
-pub extern "C" fn hwemiduk_first_row(
+pub fn hwemiduk_first_row(
     rows: &[Site],
     n: usize,
     floater: u8,
@@ -60,16 +57,14 @@ pub extern "C" fn hwemiduk_first_row(
 }
 
 // All limits and sizes.
-#[unsafe(no_mangle)]
-pub extern "C" fn hwemiduk_limits(limits: &mut Limits)
+pub fn hwemiduk_limits(limits: &mut Limits)
     ensures { limits.new ≡ the_limits }
 {
     *limits = Limits::new();
 }
 
 // The version: 10000 times its first number, 100 times its second, and its third.
-#[unsafe(no_mangle)]
-pub extern "C" fn hwemiduk_version() -> u32
+pub fn hwemiduk_version() -> u32
     ensures { result ≡ the_version }
 {
     100

@@ -35,8 +35,7 @@ fn tell_change(c: Change, place: &mut usize) -> u8
 }
 
 // Makes an empty area, whatever it held: 0; else 26, with the area as it was.
-#[unsafe(no_mangle)]
-pub extern "C" fn hwemiduk_blocks_empty(area: &mut [u8]) -> u8
+pub fn hwemiduk_blocks_empty(area: &mut [u8]) -> u8
     ensures { EmptyHanded area.old result area.new }
 {
     let c = keeping::empty(area);
@@ -45,8 +44,7 @@ pub extern "C" fn hwemiduk_blocks_empty(area: &mut [u8]) -> u8
 
 // Adds a line with an allowed placement under a number: 0; else 13 where fewer entries than a placement has are lent, the line's own refusals, 18, 26, 25, 23 or 24,
 // with the place, and the area as it was.
-#[unsafe(no_mangle)]
-pub extern "C" fn hwemiduk_blocks_add(
+pub fn hwemiduk_blocks_add(
     area: &mut [u8],
     number: u32,
     placement: &[u16],
@@ -78,8 +76,7 @@ fn put_placement(at: [u16; Placement::COPIES], placement: &mut [u16])
 
 // Fetches the entry under a number: 0 with its placement in the first entries lent, its line at the front of an output of any length and the line's length; else 13
 // where fewer entries than a placement has are lent, 26, 25 or 22, or 15 with the length needed, and all else as it was.
-#[unsafe(no_mangle)]
-pub extern "C" fn hwemiduk_blocks_fetch(
+pub fn hwemiduk_blocks_fetch(
     area: &[u8],
     number: u32,
     placement: &mut [u16],
@@ -111,8 +108,7 @@ pub extern "C" fn hwemiduk_blocks_fetch(
 }
 
 // Removes the entry under a number: 0; else 26, 25 or 22, with the area as it was.
-#[unsafe(no_mangle)]
-pub extern "C" fn hwemiduk_blocks_remove(area: &mut [u8], number: u32) -> u8
+pub fn hwemiduk_blocks_remove(area: &mut [u8], number: u32) -> u8
     ensures { RemoveHanded area.old number result area.new }
 {
     let c = keeping::remove(area, number);
@@ -140,8 +136,7 @@ fn tell_listed(l: Listed, block: &mut usize, number: &mut u32) -> u8
 }
 
 // The first sound first block from a block on, and its entry's number: 0 with both; else 26, or 17 where there is none.
-#[unsafe(no_mangle)]
-pub extern "C" fn hwemiduk_blocks_entry(
+pub fn hwemiduk_blocks_entry(
     area: &[u8],
     from: usize,
     block: &mut usize,
@@ -187,8 +182,7 @@ fn tell_survey(
 }
 
 // How many blocks of an area are free, first and further ones, of no such kind, and unsound: 0 with all five; else 26.
-#[unsafe(no_mangle)]
-pub extern "C" fn hwemiduk_blocks_survey(
+pub fn hwemiduk_blocks_survey(
     area: &[u8],
     free: &mut usize,
     first: &mut usize,

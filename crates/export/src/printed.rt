@@ -21,8 +21,7 @@ fn hand_out(text: &[u8], n: usize, out: &mut [u8], needed: &mut usize) -> u8
 
 // What the register prints of a line with this number, and byte 10: 0 and how many bytes were written, with those behind them as they were; else 15 and the length
 // needed, with the output as it was.
-#[unsafe(no_mangle)]
-pub extern "C" fn hwemiduk_entry(number: u64, line: &[u8], out: &mut [u8], length: &mut usize) -> u8
+pub fn hwemiduk_entry(number: u64, line: &[u8], out: &mut [u8], length: &mut usize) -> u8
     ensures { EntryHanded number line.now out.old length.old result length.new out.new }
 {
     let mut letters = [0u8; Tables::RESIDUES];

@@ -10,8 +10,7 @@ use crate::{request_number, tell_count, tell_write};
 use scope::answers::{Booked, BracketMass, Count, Ledger, Mass, Placement, Shown, Total};
 
 // How many residues there are: 0 and the count; else 13 or 14.
-#[unsafe(no_mangle)]
-pub extern "C" fn hwemiduk_residues(bytes: &[u8], numbers: &[i64], count: &mut usize) -> u8
+pub fn hwemiduk_residues(bytes: &[u8], numbers: &[i64], count: &mut usize) -> u8
     ensures { Counted (counts bytes.now numbers.now residue_count) count.old result count.new }
 {
     let c = calls::residue_count(bytes, numbers);
@@ -19,8 +18,7 @@ pub extern "C" fn hwemiduk_residues(bytes: &[u8], numbers: &[i64], count: &mut u
 }
 
 // How many brackets, likewise.
-#[unsafe(no_mangle)]
-pub extern "C" fn hwemiduk_brackets(bytes: &[u8], numbers: &[i64], count: &mut usize) -> u8
+pub fn hwemiduk_brackets(bytes: &[u8], numbers: &[i64], count: &mut usize) -> u8
     ensures { Counted (counts bytes.now numbers.now bracket_count) count.old result count.new }
 {
     let c = calls::bracket_count(bytes, numbers);
@@ -28,8 +26,7 @@ pub extern "C" fn hwemiduk_brackets(bytes: &[u8], numbers: &[i64], count: &mut u
 }
 
 // How many floating copies, likewise.
-#[unsafe(no_mangle)]
-pub extern "C" fn hwemiduk_floaters(bytes: &[u8], numbers: &[i64], count: &mut usize) -> u8
+pub fn hwemiduk_floaters(bytes: &[u8], numbers: &[i64], count: &mut usize) -> u8
     ensures { Counted (counts bytes.now numbers.now floater_count) count.old result count.new }
 {
     let c = calls::floater_count(bytes, numbers);
@@ -38,8 +35,7 @@ pub extern "C" fn hwemiduk_floaters(bytes: &[u8], numbers: &[i64], count: &mut u
 
 // The floaters in order, for each its bracket, counted from 0, and which copy of it it is, counted from 1: 0 with their number, and entries past them as they
 // were; else 13, also where a slice has fewer entries than there may be floaters, or 14.
-#[unsafe(no_mangle)]
-pub extern "C" fn hwemiduk_floater_brackets(
+pub fn hwemiduk_floater_brackets(
     bytes: &[u8],
     numbers: &[i64],
     brackets: &mut [u8],
@@ -54,8 +50,7 @@ pub extern "C" fn hwemiduk_floater_brackets(
 
 // The positions that the places of a bracket name, brackets counted from 0: 0 with their number, ascending in the slice, and entries past them as they were;
 // else 13, also where the slice has fewer entries than there may be positions, 14 or 17. A bracket that is no declaration names none.
-#[unsafe(no_mangle)]
-pub extern "C" fn hwemiduk_reached(
+pub fn hwemiduk_reached(
     bytes: &[u8],
     numbers: &[i64],
     bracket: usize,
@@ -70,8 +65,7 @@ pub extern "C" fn hwemiduk_reached(
 
 // Why there is no placement: 0 with how many floaters have too few positions together, none where there is a placement, and their numbers, from 1 and ascending, in the
 // slice, with entries past them as they were; else 13, also where the slice has fewer entries than there may be floaters, or 14.
-#[unsafe(no_mangle)]
-pub extern "C" fn hwemiduk_why_none(
+pub fn hwemiduk_why_none(
     bytes: &[u8],
     numbers: &[i64],
     floaters: &mut [u8],
@@ -97,8 +91,7 @@ pub extern "C" fn hwemiduk_why_none(
 
 // The canonical line into an output of any length: 0 and how many bytes were written, with those behind them as they were; else 15 and the length needed, or 13
 // or 14, with the output as it was.
-#[unsafe(no_mangle)]
-pub extern "C" fn hwemiduk_write(
+pub fn hwemiduk_write(
     bytes: &[u8],
     numbers: &[i64],
     out: &mut [u8],
@@ -127,8 +120,7 @@ fn tell_total(t: Total, millionths: &mut i64, place: &mut usize) -> u8
 }
 
 // The total: 0 and the millionths; else 13, 14 or 16, and in `place` how many modifications lack a mass (16) or 0.
-#[unsafe(no_mangle)]
-pub extern "C" fn hwemiduk_total(
+pub fn hwemiduk_total(
     bytes: &[u8],
     numbers: &[i64],
     millionths: &mut i64,
@@ -176,8 +168,7 @@ fn tell_mass(b: BracketMass, millionths: &mut i64, sort: &mut u8) -> u8
 }
 
 // A bracket's own mass, brackets counted from 0: 0 with the millionths and whether they are stated or only measured, or none; else 13, 14 or 17.
-#[unsafe(no_mangle)]
-pub extern "C" fn hwemiduk_bracket_mass(
+pub fn hwemiduk_bracket_mass(
     bytes: &[u8],
     numbers: &[i64],
     bracket: usize,
@@ -210,8 +201,7 @@ fn tell_shown(s: Shown, daltons: &mut f64, missing: &mut usize) -> u8
 }
 
 // The total for display: 0 with the mass and none missing, or with 0.0 and how many lack one; else 13 or 14.
-#[unsafe(no_mangle)]
-pub extern "C" fn hwemiduk_shown(
+pub fn hwemiduk_shown(
     bytes: &[u8],
     numbers: &[i64],
     daltons: &mut f64,
@@ -238,8 +228,7 @@ pub fn placement_in(s: &[u16]) -> Placement
 }
 
 // Whether the placement in the first eight entries is an allowed one: 0, or 13, 14, 18.
-#[unsafe(no_mangle)]
-pub extern "C" fn hwemiduk_allowed(bytes: &[u8], numbers: &[i64], placement: &[u16]) -> u8
+pub fn hwemiduk_allowed(bytes: &[u8], numbers: &[i64], placement: &[u16]) -> u8
     ensures { AllowedLent bytes.now numbers.now placement.now result }
 {
     if placement.len() < Placement::COPIES {
@@ -264,8 +253,7 @@ fn copy_entries(from: &[i64], n: usize, to: &mut [i64])
 
 // The ledger of the placement in the first eight entries: 0 with an entry written for each position; else 13, 14, 16 or 18, the entries as they were, and in `place`
 // how many modifications lack a mass (16) or 0.
-#[unsafe(no_mangle)]
-pub extern "C" fn hwemiduk_ledger(
+pub fn hwemiduk_ledger(
     bytes: &[u8],
     numbers: &[i64],
     placement: &[u16],

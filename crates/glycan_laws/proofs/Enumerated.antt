@@ -14,7 +14,8 @@ use Rattle.basics.specs.Each.{In}
 use Rattle.basics.specs.Members.{in_left, in_right, in_either, in_map, map_in, in_flat, flat_in}
 use Rattle.scope.specs.Glycans.{Sugar, Item, Way, way, sugars, sugar_at, name_at, count_text, item_text, cutting_text, behind_name, is_first_digit, second_digit, counts, counted, starts, over, cuttings_up_to, cuttings}
 use Rattle.glycan_laws.specs.Laws.{CountGood, ItemGood, Cuts}
-use Rattle.glycan_laws.specs.Back.{all_below, at_each}
+use Rattle.glycan_laws.specs.Back.{all_below}
+use Rattle.glycan_laws.proofs.Back.{at_each}
 use Rattle.glycan_laws.proofs.Digits.{digit, one_digit_lem, two_digits_lem, digits_of_lem}
 use Rattle.glycan_laws.proofs.Last.{upper_digit}
 

@@ -13,7 +13,8 @@ use Rattle.scope.specs.Lists.{flat}
 use Rattle.basics.specs.Tests.{and_left, and_right}
 use Rattle.scope.specs.Glycans.{Item, Way, way, sugars, name_at, count_text, item_text, cutting_text}
 use Rattle.glycan_laws.specs.Laws.{CountGood, ItemGood, AllGood, Cuts}
-use Rattle.glycan_laws.specs.Back.{Backward, backward, backwards, tried, is_starter, StartsWell, begins_one, is_front, first_front, all_below, at_each, found}
+use Rattle.glycan_laws.specs.Back.{Backward, backward, backwards, tried, is_starter, StartsWell, begins_one, is_front, first_front, all_below}
+use Rattle.glycan_laws.proofs.Back.{at_each, found}
 use Rattle.glycan_laws.proofs.Digits.{last_count, digit, by_digits, count_found}
 
 -- ---- the last item, of a text in upper case from the right

@@ -1,3 +1,4 @@
+pub mod Back
 pub mod Digits
 pub mod Last
 pub mod Enumerated

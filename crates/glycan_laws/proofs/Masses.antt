@@ -8,7 +8,8 @@ use Rattle.scope.specs.Lists.{flat}
 use Rattle.basics.specs.Tests.{and_left, and_right}
 use Rattle.scope.specs.Glycans.{Sugar, Item, sugars, mass_decimals, sugar_at, name_at, count_text, item_text, cutting_text, short_count, short, short_text, count_of, item_mass, cutting_mass}
 use Rattle.glycan_laws.specs.Laws.{CountGood, ItemGood, AllGood, Cuts}
-use Rattle.glycan_laws.specs.Back.{all_below, at_each}
+use Rattle.glycan_laws.specs.Back.{all_below}
+use Rattle.glycan_laws.proofs.Back.{at_each}
 use Rattle.glycan_laws.proofs.Digits.{one_digit_lem, two_digits_lem}
 
 -- ---- counts of 1 dropped

@@ -12,7 +12,8 @@ use Rattle.basics.specs.Each.{each_append, each_front, each_back}
 use Rattle.basics.specs.Tests.{and_left, and_right, both}
 use Rattle.scope.specs.Glycans.{Item, Way, way, sugars, count_text, cutting_text}
 use Rattle.glycan_laws.specs.Laws.{CountGood, ItemGood, AllGood, Cuts}
-use Rattle.glycan_laws.specs.Back.{Backward, backward, backwards, order, tried, is_front, first_front, Among, at_each}
+use Rattle.glycan_laws.specs.Back.{Backward, backward, backwards, order, tried, is_front, first_front, Among}
+use Rattle.glycan_laws.proofs.Back.{at_each}
 use Rattle.glycan_laws.proofs.Digits.{one_digit, two_digits, behind_digit, last_count, one_digit_lem}
 use Rattle.glycan_laws.proofs.Last.{with_name, with_count, last_item, back_item, spelled_back, ends_plain, ends_plain_lem, starts_well, last_found, nothing_last, back_text, all_back}
 use Rattle.glycan_laws.proofs.Enumerated.{first_digit, a_digit, two_of}

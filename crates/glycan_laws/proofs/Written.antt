@@ -11,7 +11,8 @@ use Rattle.scope.specs.Kept.{cut_as, cut_value, composition_mass}
 use Rattle.basics.specs.Each.{In}
 use Rattle.basics.specs.Lists.{nil_front, all_append}
 use Rattle.glycan_laws.specs.Laws.{CountGood, AllGood, Cuts}
-use Rattle.glycan_laws.specs.Back.{all_below, at_each}
+use Rattle.glycan_laws.specs.Back.{all_below}
+use Rattle.glycan_laws.proofs.Back.{at_each}
 use Rattle.glycan_laws.proofs.Digits.{digits_of_lem}
 use Rattle.glycan_laws.proofs.Last.{one_way}
 use Rattle.glycan_laws.proofs.Enumerated.{every_way}

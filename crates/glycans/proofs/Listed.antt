@@ -14,7 +14,8 @@ use Rattle.scope.specs.Glycans.{Sugar, sugars, sugar_at, name_at}
 use Rattle.basics.specs.Each.{NoneOf}
 use Rattle.basics.specs.Members.{member_cons}
 use Rattle.basics.specs.Tests.{falsely, and_left, and_right}
-use Rattle.glycan_laws.specs.Back.{begins, order, all_below, at_each}
+use Rattle.glycan_laws.specs.Back.{begins, order, all_below}
+use Rattle.glycan_laws.proofs.Back.{at_each}
 use Rattle.glycans.specs.Cut.{SugarIs, ending_in, most_alike, LikelyIs}
 
 -- ---- a name and its mass

@@ -18,7 +18,7 @@ use Rattle.glycan_laws.proofs.Rightward.{last_off, last_always, none_last}
 use Rattle.glycans.specs.Cut.{SugarIs, digits_text, piece_text, PieceAt, PieceIs, short_of, Room, PutBefore}
 use Rattle.glycans.specs.Pieces.{piece_bytes, pieces_of}
 use Rattle.glycans.proofs.Texts.{part_length, part_whole}
-use Rattle.glycans.proofs.Counts.{dropped, one_written, two_written}
+use Rattle.glycans.proofs.Counts.{one_written, two_written}
 use Rattle.glycans.proofs.Ways.{cut_nothing, short_item_lem, some_way_lem}
 
 -- ---- stores apart from each other
@@ -62,9 +62,6 @@ put_laid {area} {at} {w} {new} {r} p e h =
     p.put ∙ ap (λ i. sets area i w) z ∙ sets-eq w area 0 (omega arith) ∙ ap (λ n. w ++ drop n area) (zero-add (length w))
 
 -- ---- the digits of a count
-pub put_dropped : {area : List ℕ} {at n : ℕ} → n ≡ 1 → PutBefore area at (digits_text n) area at
-put_dropped {area} {at} e = subst (λ w. PutBefore area at w area at) (sym (dropped e)) (put_nothing area at)
-
 pub put_one : {area : List ℕ} {at n : ℕ} → (n ≡ 1 → ⊥) → n < 10 → Room area at (digits_text n) → PutBefore area at (digits_text n) (set area (at - 1) (48 + n)) (at - 1)
 put_one {area} {at} {n} h l room =
     let e = one_written h l in
@@ -80,9 +77,6 @@ put_two {area} {at} {n} l room =
 
 pub room_one : {area : List ℕ} {at n : ℕ} → (n ≡ 1 → ⊥) → n < 10 → Room area at (digits_text n) → (1 ≤ at) × (at ≤ length area)
 room_one h l room = (omega (arith, ap length (one_written h l), room.front), room.inside)
-
-pub room_two : {area : List ℕ} {at n : ℕ} → 10 ≤ n → Room area at (digits_text n) → (2 ≤ at) × (at ≤ length area)
-room_two l room = (omega (arith, ap length (two_written l), room.front), room.inside)
 
 -- ---- the letters of a name, one after another
 sets_snoc : {A : Type 0} (d : List A) (n : ℕ) (l : List A) (v : A) → sets d n (l ++ (v ∷ [])) ≡ set (sets d n l) (n + length l) v

@@ -1,6 +1,6 @@
 -- What the small tests answer, and the byte behind a part.
 use mathlib.Core.Path.{◌≡◌, sym, ap, ap₂, ◌∙◌}
-use mathlib.Core.Bool.{Bool, true, false, cond, ◌&&◌, and_true, and_false}
+use mathlib.Core.Bool.{Bool, true, false, cond, ◌&&◌, and-true, and-false}
 use mathlib.Core.List.{List, [], ◌∷◌}
 use Prim.Native.Nat.{ℕ, ◌+◌, ◌*◌, ◌^◌, ◌<◌, ◌≤◌}
 use native.Mathlib.Omega.{arith}
@@ -33,12 +33,12 @@ use Rattle.inside.proofs.Lists.{none_long}
 
 -- ---- whether a reference may stand here
 pub first_part : (refers : Bool) (n : ℕ) → n ≡ 0 → (ps : List (Part ℕ)) → n ≡ length ps → (refers && none? ps) ≡ refers
-first_part refers n e [] f = and_true refers
+first_part refers n e [] f = and-true refers
 first_part refers n e (p ∷ ps) f = absurd (omega arith)
 
 pub later_part : (refers : Bool) (n : ℕ) → (n ≡ 0 → ⊥) → (ps : List (Part ℕ)) → n ≡ length ps → (refers && none? ps) ≡ false
 later_part refers n e [] f = absurd (e f)
-later_part refers n e (p ∷ ps) f = and_false refers
+later_part refers n e (p ∷ ps) f = and-false refers
 
 -- ---- whether a label follows
 module _ (line : List ℕ) (at : ℕ) (labels : Bool) where
@@ -71,7 +71,7 @@ module _ (line : List ℕ) (shut : ℕ) (ref : Bool) (next : ℕ) (s : Parts) wh
 
   pub byte_refused : next < length line → (get_or line next 0 ≡ shut → ⊥) → ref ≡ true → Lost next ≡ behind_part line shut ref next s
   unfolding byte_behind
-  byte_refused h e g = sym (behind_byte h ∙ rw (ne_eqb (get_or line next 0) shut e, g, and_false (eqb (get_or line next 0) bar)))
+  byte_refused h e g = sym (behind_byte h ∙ rw (ne_eqb (get_or line next 0) shut e, g, and-false (eqb (get_or line next 0) bar)))
 
   pub byte_splits : next < length line → (get_or line next 0 ≡ shut → ⊥) → get_or line next 0 ≡ bar → ref ≡ false → More (next + 1) s ≡ behind_part line shut ref next s
   unfolding byte_behind

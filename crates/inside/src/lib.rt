@@ -22,7 +22,7 @@ use values::{Value, ValueAt};
 
 // The parts of a bracket: how many, how many labels they have, whether all are INFO, whether the first is a reference, the score of the first label that has one (0
 // where none has, else one more than its decimals, or above all of these where it is out of range) in millionths, and the first refusal due.
-#[derive(Drop)]
+#[derive(Clone, Copy)]
 pub struct Parts {
     pub count: usize,
     pub labels: usize,

@@ -14,7 +14,7 @@ use numerals::Num;
 use scope::tables::Number;
 
 // Where its name begins and the place behind that; its score (0 none, else one more than its decimals, 8 where it is out of range) in millionths; the place behind it all.
-#[derive(Drop)]
+#[derive(Clone, Copy)]
 pub struct Label {
     pub from: usize,
     pub to: usize,

@@ -1,7 +1,7 @@
 -- When a number is in range, by its digits kept at the cap or below. Assumes nothing.
 use Prim.Native.Nat.{ℕ, ◌-◌, ◌*◌, ◌^◌, ◌≤◌, ◌<◌, min}
 use mathlib.Core.Path.{◌≡◌, refl, sym, ap, ap₂, subst, ◌∙◌}
-use mathlib.Core.Bool.{Bool, true, false, not, ◌&&◌, and_true}
+use mathlib.Core.Bool.{Bool, true, false, not, ◌&&◌, and-true}
 use native.Mathlib.Omega.{arith}
 use native.Mathlib.Nat.{zero-mul, mul_assoc, mul-le-mul, mul-lt-mul_of_pos_right, le_of_mul-le-mul_right, lt_of_mul-lt-mul_right}
 use lib.Dec.{eqb}
@@ -51,7 +51,7 @@ sign_kept s m k = go (eqb m 0) refl
     go true e =
         let z : m * k ≡ 0 = ap (λ n. n * k) (eqb-true m 0 e) ∙ zero-mul k in
         rw z (of_zero s)
-    go false e = ap (λ b. signed b (m * k)) (sym (and_true s))
+    go false e = ap (λ b. signed b (m * k)) (sym (and-true s))
 
 module _ (p : ℕ) (s : Bool) (m d i : ℕ) where
   pub wide_decimals : decimal_limit < d → Wide i ≡ num_of (found (number_of p s m d) i)

@@ -1,6 +1,6 @@
 -- Whether a test holds at one of n numbers from i on; and what loops that try them one after the other have found. Assumes nothing.
 use mathlib.Core.Path.{◌≡◌, refl, sym, ap, ◌∙◌}
-use mathlib.Core.Bool.{Bool, true, false, ◌||◌, or-false, or_true, or_assoc}
+use mathlib.Core.Bool.{Bool, true, false, ◌||◌, or-false, or-true, or_assoc}
 use mathlib.Core.List.{List}
 use Prim.Native.Nat.{ℕ, zero, suc, ◌+◌, ◌≤◌, ◌<◌}
 use native.Mathlib.Nat.{add-zero}
@@ -26,7 +26,7 @@ any_some q i (suc n) j a b e =
     by_test (eqb i j) (λ t. ap (λ x. x || any_of q (i + 1) n) (ap q (eqb-true i j t) ∙ e))
     (λ t.
     let ne : i ≡ j → ⊥ = eqb-false i j t in
-    ap (λ x. q i || x) (any_some q (i + 1) n j (omega arith) (omega arith) e) ∙ or_true (q i))
+    ap (λ x. q i || x) (any_some q (i + 1) n j (omega arith) (omega arith) e) ∙ or-true (q i))
 
 -- one more at the end
 pub any_last : (q : ℕ → Bool) (i n : ℕ) → any_of q i (suc n) ≡ any_of q i n || q (i + n)

@@ -1,6 +1,6 @@
 -- Laws of marking positions in a row of the table. Assumes nothing.
 use mathlib.Core.Path.{◌≡◌, refl, sym, ap, ◌∙◌, subst}
-use mathlib.Core.Bool.{Bool, true, false, not, cond, ◌&&◌, ◌||◌, and_true, and_false}
+use mathlib.Core.Bool.{Bool, true, false, not, cond, ◌&&◌, ◌||◌, and-true, and-false}
 use mathlib.Core.List.{List, []}
 use Prim.Native.Nat.{ℕ, zero, suc, ◌+◌, ◌-◌, ◌≤◌, ◌<◌}
 use native.Mathlib.Nat.{zero-add}
@@ -296,13 +296,13 @@ module _ (bs : List ℕ) (k : ℕ) {l : Bool} (labelled : (ns : List ℤ) → l 
   pub not_anywhere : l ≡ true → (ns : List ℤ) → false ≡ is_unlabelled_unknown (bracket_in bs ns k) (bracket_in bs ns k).kind
   not_anywhere t ns =
       sym
-      (ap (λ s. is_unknown (bracket_in bs ns k).kind && not s) (sym (labelled ns) ∙ t) ∙ and_false (is_unknown (bracket_in bs ns k).kind))
+      (ap (λ s. is_unknown (bracket_in bs ns k).kind && not s) (sym (labelled ns) ∙ t) ∙ and-false (is_unknown (bracket_in bs ns k).kind))
 
   pub anywhere_by_kind : {r : Bool} {c : Kind} → l ≡ false → ((ns : List ℤ) → c ≡ (bracket_in bs ns k).kind) → r ≡ is_unknown c → (ns : List ℤ) → r ≡ is_unlabelled_unknown (bracket_in bs ns k) (bracket_in bs ns k).kind
   anywhere_by_kind t g h ns =
       h ∙ ap is_unknown (g ns)
       ∙ sym
-      (ap (λ s. is_unknown (bracket_in bs ns k).kind && not s) (sym (labelled ns) ∙ t) ∙ and_true (is_unknown (bracket_in bs ns k).kind))
+      (ap (λ s. is_unknown (bracket_in bs ns k).kind && not s) (sym (labelled ns) ∙ t) ∙ and-true (is_unknown (bracket_in bs ns k).kind))
 
 module _ (bs : List ℕ) (k : ℕ) {base : ℕ} {v : ℕ → ℕ} {old : List ℕ} {z : Bool} {c : Kind} (kind : (ns : List ℤ) → c ≡ (bracket_in bs ns k).kind) (place : z ≡ not (unknown_or_labile c)) where
   pub own_marked : {a e : ℕ} {cur : List ℕ} → z ≡ true → RowSet base (between a e) v old cur → ((ns : List ℤ) → a ≡ (bracket_in bs ns k).first) → ((ns : List ℤ) → e ≡ (bracket_in bs ns k).last) → (ns : List ℤ) → RowSet base (own_at bs ns k) v old cur

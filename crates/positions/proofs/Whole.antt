@@ -1,6 +1,6 @@
 -- Laws of the whole table: row by row, and as the lists of permitted positions. Assumes nothing.
 use mathlib.Core.Path.{◌≡◌, refl, sym, ap, ◌∙◌}
-use mathlib.Core.Bool.{Bool, true, false, not, cond, ◌&&◌, ◌||◌, and_false}
+use mathlib.Core.Bool.{Bool, true, false, not, cond, ◌&&◌, ◌||◌, and-false}
 use mathlib.Core.List.{List, map}
 use Prim.Native.Nat.{ℕ, ◌+◌, ◌-◌, ◌*◌, ◌/◌, ◌%◌, ◌≤◌, ◌<◌}
 use native.Mathlib.Omega.{arith}
@@ -51,7 +51,7 @@ filling_next {bs} {ns} {index} {count} {g} {k} {old} {cur} {new} f l e r =
 
 -- ---- no floater stands behind the C-terminus
 outside : (a e x : ℕ) → e < x → between a e x ≡ false
-outside a e x h = ap (λ t. leb a x && t) (lt-leb x e h) ∙ and_false (leb a x)
+outside a e x h = ap (λ t. leb a x && t) (lt-leb x e h) ∙ and-false (leb a x)
 
 last_of : (bs : List ℕ) (ns : List ℤ) (k x : ℕ) → Legible bs → k < brackets_field bs → residues_field bs + 2 ≤ x → (bracket_in bs ns k).last < x
 unfolding bracket_in
@@ -66,7 +66,7 @@ not_behind bs ns k x l h o =
     ∙ any_none (λ r. refers_at bs ns k r x) 0 (brackets_field bs) (λ r a b. none_of (shared (defined_by (bracket_in bs ns k)) (referred_by (bracket_in bs ns r))) r (omega arith)))
   where
     none_of : (s : Bool) (r : ℕ) → r < brackets_field bs → (s && between (bracket_in bs ns r).first (bracket_in bs ns r).last x) ≡ false
-    none_of s r j = ap (λ t. s && t) (outside (bracket_in bs ns r).first (bracket_in bs ns r).last x (last_of bs ns r x l j o)) ∙ and_false s
+    none_of s r j = ap (λ t. s && t) (outside (bracket_in bs ns r).first (bracket_in bs ns r).last x (last_of bs ns r x l j o)) ∙ and-false s
 
 -- ---- the positions that a row keeps
 is_one_lem : (t : Bool) → eqb (cond t 1 0) 1 ≡ t

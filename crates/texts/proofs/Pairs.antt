@@ -1,7 +1,7 @@
 -- Laws of one byte inside a pair and outside every pair, and one law for each arm of `text_end`. Assumes nothing.
 use Prim.Native.Nat.{ℕ, ◌+◌, ◌≤◌, ◌<◌}
 use mathlib.Core.Path.{◌≡◌, refl, sym, ap, ◌∙◌}
-use mathlib.Core.Bool.{Bool, true, false, not, ◌&&◌, and_true}
+use mathlib.Core.Bool.{Bool, true, false, not, ◌&&◌, and-true}
 use mathlib.Core.Option.{Option, none, some}
 use mathlib.Core.List.{List, [], ◌∷◌}
 use lib.ListN.{length, get_or, drop}
@@ -40,7 +40,7 @@ inner_shut hashes c cs b h e =
 inner_none : (hashes : Bool) (c : ℕ) (cs : List ℕ) (b : ℕ) → is_inner b ≡ false → is_opening b ≡ false → (b ≡ c → ⊥) → text_step hashes (c ∷ cs) b ≡ none
 unfolding text_step is_inner
 inner_none hashes c cs b e o d =
-    let q : is_printable b && not (is_shutting b) ≡ false = sym (and_true _) ∙ ap (λ x. is_printable b && not (is_shutting b) && not x) (sym o) ∙ e in
+    let q : is_printable b && not (is_shutting b) ≡ false = sym (and-true _) ∙ ap (λ x. is_printable b && not (is_shutting b) && not x) (sym o) ∙ e in
     rw (o, ne_eqb b c d, q)
 
 module _ (s : List ℕ) (i : ℕ) (l : i < length s) where

@@ -1,7 +1,7 @@
 -- Laws of the step of a text, and of `scan_deep` at a place. Assumes nothing.
 use Prim.Native.Nat.{ℕ, suc, ◌+◌, ◌≤◌, ◌<◌}
 use mathlib.Core.Path.{◌≡◌, refl, sym, ap, ◌∙◌}
-use mathlib.Core.Bool.{Bool, true, false, not, cond, ◌&&◌, ◌||◌, true≢false, and_true}
+use mathlib.Core.Bool.{Bool, true, false, not, cond, ◌&&◌, ◌||◌, true≢false, and-true}
 use mathlib.Core.Option.{some}
 use mathlib.Core.List.{List, [], ◌∷◌}
 use native.Mathlib.Numerals.{add-one}
@@ -97,7 +97,7 @@ scan_end hashes cs s i d h = rw (drop_of_length-le s h)
 -- a byte that opens and closes nothing is plain inside a pair where it is printable
 pub inner_else : (b : ℕ) → NoneOf (125 ∷ 123 ∷ 93 ∷ 91 ∷ []) b → is_printable b ≡ is_inner b
 unfolding is_inner
-inner_else b ((((_, p), q), r), s) = simp (ne_eqb _ _ p, ne_eqb _ _ q, ne_eqb _ _ r, ne_eqb _ _ s, and_true)
+inner_else b ((((_, p), q), r), s) = simp (ne_eqb _ _ p, ne_eqb _ _ q, ne_eqb _ _ r, ne_eqb _ _ s, and-true)
 
 -- a letter is plain inside a pair
 pub letter_inner : (b : ℕ) → is_letter b ≡ true → true ≡ is_inner b

@@ -18,7 +18,7 @@ use texts::TextEnd;
 // The key; what stands behind it (1 a mass, 2 a text, 3 a reference, 5 a mass out of range); where that begins (the first byte of a text, the sign of a mass, the `#` of
 // a reference) and the place behind it (of a reference, its `#`); of a mass in range its millionths and decimals; of a text, one more than the place where a pair is
 // too deep, or 0.
-#[derive(Drop)]
+#[derive(Clone, Copy)]
 pub struct Value {
     pub key: Key,
     pub code: u8,
@@ -48,7 +48,7 @@ pub enum ValueAt {
 }
 
 // What may stand behind a key: a mass or a name; a mass; digits; letters or digits; a text in which `#` is plain; a composition.
-#[derive(Drop)]
+#[derive(Clone, Copy)]
 enum Form {
     MassOrName,
     MassOnly,

@@ -34,7 +34,7 @@ pub enum Walked {
 
 // How far a line is walked: the place, how far its order has come, the number of residues, the position of the group's first, the numbers of brackets, of those that
 // are settled and of parts that are noted, and the first refusal due.
-#[derive(Drop)]
+#[derive(Clone, Copy)]
 struct Stage {
     at: usize,
     mode: Mode,

@@ -237,7 +237,7 @@ fn put_declared(bytes: &[u8], numbers: &[i64], k: usize, out: &mut [u8], at: usi
 }
 
 // How a bracket is written: square with its count, as one of unknown position; curly, as a labile one; square; with its places, as a declaration.
-#[derive(Drop)]
+#[derive(Clone, Copy)]
 pub enum Shape {
     Counted,
     Curly,

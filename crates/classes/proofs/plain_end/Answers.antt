@@ -1,0 +1,16 @@
+use Prim.Native.Nat.{◌-◌}
+use Rattle.scope.specs.Content.{is_plain}
+use Rattle.classes.proofs.Runs.{run_enters, run_goes_on, run_stops, run_ends}
+use Rattle.classes.proofs.plain_end.Goals as goal
+
+pub loop-i-init : goal.loop-i-init
+loop-i-init c = run_enters
+
+pub loop-i-preserved : goal.loop-i-preserved
+loop-i-preserved c = run_goes_on c.loop-i.invariant c.loop-i-test.true c.is_plain.ensures c.if-is_plain.true
+
+pub returns-else-is_plain : goal.returns-else-is_plain
+returns-else-is_plain c = run_stops c.loop-i.invariant c.loop-i-test.true c.is_plain.ensures c.if-is_plain.false
+
+pub returns : goal.returns
+returns c = run_ends c.loop-i.invariant c.loop-i-test.false

@@ -1,0 +1,24 @@
+-- The line is over; no letter; a letter by itself; the word of a terminus.
+use borrow.Author.Rules.{rules}
+use borrow.Author.Tests.{not-true, not-false}
+use mathlib.Core.Path.{sym, ◌∙◌}
+use Rattle.sites.proofs.Lists.{place_over, place_not, letter_reads, word_inside, word_says}
+use Rattle.sites.proofs.place_at.Goals as goal
+
+pub returns-then-at-line : goal.returns-then-at-line
+returns-then-at-line c = place_over _ _ c.if-at-line.true
+
+pub returns-then-not-is_letter : goal.returns-then-not-is_letter
+returns-then-not-is_letter c = place_not _ _ (search rules) (sym c.is_letter.ensures ∙ c.if-not-is_letter.true)
+
+pub returns-then-terminus_at-eq0 : goal.returns-then-terminus_at-eq0
+returns-then-terminus_at-eq0 c =
+    letter_reads _ _ (search rules) (sym c.is_letter.ensures ∙ c.if-not-is_letter.false) (sym c.terminus_at.ensures ∙ c.if-terminus_at-eq0.true)
+
+pub word_at-requires : goal.word_at-requires
+word_at-requires c =
+    word_inside _ _ (search rules) (sym c.is_letter.ensures ∙ c.if-not-is_letter.false) (λ z. c.if-terminus_at-eq0.false (c.terminus_at.ensures ∙ z))
+
+pub returns : goal.returns
+returns c =
+    word_says _ _ (search rules) (sym c.is_letter.ensures ∙ c.if-not-is_letter.false) (λ z. c.if-terminus_at-eq0.false (c.terminus_at.ensures ∙ z)) _ c.word_at.ensures

@@ -14,13 +14,13 @@ ghost use Rattle.exchange.specs.Table.{may_in, may_from, mark_in, Owned, Open, S
 use scope::answers::{Ledger, Placement};
 
 // Where each floater stands.
-#[derive(Drop)]
+#[derive(Clone, Copy)]
 pub struct Standing {
     pub at: [usize; Placement::COPIES],
 }
 
 // The least position that each floater may take.
-#[derive(Drop)]
+#[derive(Clone, Copy)]
 pub struct Lows {
     pub at: [usize; Placement::COPIES],
 }
@@ -33,7 +33,7 @@ pub struct Answer {
 }
 
 // The floaters that may have to move, in the order found: each but the first with the index of the one that wants its position.
-#[derive(Drop)]
+#[derive(Clone, Copy)]
 pub struct Tree {
     pub n: usize,
     pub order: [usize; Placement::COPIES],

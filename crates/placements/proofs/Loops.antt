@@ -6,7 +6,6 @@ use mathlib.Core.List.{List}
 use Prim.Native.Nat.{ℕ, ◌<◌, ◌≤◌, ◌+◌, ◌-◌}
 use native.Mathlib.Omega.{arith}
 use lib.ListN.{length, set}
-use Rattle.scope.specs.Placements.{fits}
 use Rattle.basics.specs.Tests.{same?}
 use Rattle.placement_laws.specs.Standing.{place, Ascent, Same}
 use Rattle.exchange.specs.Table.{Open}

@@ -14,14 +14,14 @@ ghost use Rattle.reason.specs.Named.{numbers_of, Named, Competing};
 use scope::answers::{Ledger, Placement};
 
 // A set of floaters: how many, and a 1 for each.
-#[derive(Drop)]
+#[derive(Clone, Copy)]
 pub struct Set {
     pub n: usize,
     pub marks: [u8; Placement::COPIES],
 }
 
 // The positions of a set: how many, and a 1 for each.
-#[derive(Drop)]
+#[derive(Clone, Copy)]
 pub struct Cover {
     pub n: usize,
     pub at: [u8; Ledger::POSITIONS],

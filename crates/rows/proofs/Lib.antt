@@ -1,3 +1,2 @@
 pub mod Ones
 pub mod Firsts
-pub mod Truth

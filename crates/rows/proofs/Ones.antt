@@ -1,13 +1,15 @@
 -- Laws of the places that hold 1, and of the rows that they give. Assumes nothing.
 use mathlib.Core.Path.{◌≡◌, refl, sym, ap, ◌∙◌}
+use mathlib.Core.Logic.{⊎_elim}
 use mathlib.Core.Bool.{Bool, true, false, cond}
 use mathlib.Core.List.{List, [], ◌∷◌, ◌++◌, map, append_assoc, map-append}
 use Prim.Native.Nat.{ℕ, zero, suc, ◌+◌, ◌-◌, ◌*◌, ◌/◌, ◌%◌, ◌≤◌, ◌<◌}
 use native.Mathlib.Nat.{add-zero}
+use native.Mathlib.Numerals.{add-one}
 use native.Mathlib.Omega.{arith}
 use borrow.Author.Tests.{eq-eqb, ne_eqb}
 use lib.Dec.{eqb}
-use lib.ListN.{length, get_or, take, drop, set, length-append, length-drop, get_or-eq_default}
+use lib.ListN.{length, get_or, take, drop, set, length-map, get_or-map, get_or-eq_default}
 use lib.Seq.{drop-cons, take-suc, take_all, length-take-le, set-append_seam}
 use Rattle.scope.specs.declared.answers.Site.{Site}
 use Rattle.scope.specs.Limits.{position_limit}
@@ -15,6 +17,7 @@ use Rattle.scope.specs.Lists.{keep, tabled, laid}
 use Rattle.scope.specs.Positions.{rows_from}
 use Rattle.areas.specs.Floats.{list_in, lists_in}
 use Rattle.basics.specs.Choice.{by_test}
+use Rattle.basics.specs.Tests.{same?}
 use Rattle.basics.specs.Tabled.{tabled_at, tabled_end, tabled_append}
 use Rattle.basics.specs.Lists.{keep_append}
 use Rattle.rows.specs.Places.{ones_from, site_of}
@@ -115,9 +118,6 @@ few_ones tab end = omega (arith, length_keep (λ x. eqb (get_or tab x 0) 1) 0 (e
 pub laid_all : (rows old : List Site) → laid (take (length rows) rows) old ≡ laid rows old
 laid_all rows old = ap (λ l. laid l old) (take_all (length rows) rows (omega arith))
 
-pub length_laid : (l old : List Site) → length l ≤ length old → length (laid l old) ≡ length old
-length_laid l old h = length-append l (drop (length l) old) ∙ ap (λ n. length l + n) (length-drop (length l) old) ∙ omega arith
-
 pub laid_next : (rows old : List Site) (i : ℕ) (d : Site) → i < length rows → length rows ≤ length old → set (laid (take i rows) old) i (get_or rows i d) ≡ laid (take (suc i) rows) old
 laid_next rows old i d h l =
     let e : length (take i rows) ≡ i = length-take-le i rows (omega arith) in
@@ -165,3 +165,26 @@ unfolding lists_in
 rows_are tab count =
     ap (λ n. map site_of (keep (λ y. eqb (get_or tab y 0) 1) (tabled (λ y. y) 0 n))) (let e : count * position_limit - 0 ≡ count * position_limit = omega arith in e)
     ∙ rows_of_floaters tab 0 count
+
+-- ---- rows filled in one after the other
+module _ (tab : List ℕ) (end : ℕ) where
+  -- a place before the end is one of them
+  pub place_more : (i : ℕ) → i ≤ length (ones_from tab 0 end) → place_at tab end i < end → i < length (ones_from tab 0 end)
+  place_more i l h = ⊎_elim
+      (λ (e : i ≡ length (ones_from tab 0 end)). absurd (let last : place_at tab end i ≡ end = ap (place_at tab end) e ∙ place_last tab end in omega arith))
+      (λ d. omega arith) (same? i (length (ones_from tab 0 end)))
+
+  -- the end is behind all of them
+  pub place_all : (i : ℕ) → i ≤ length (ones_from tab 0 end) → end ≤ place_at tab end i → i ≡ length (ones_from tab 0 end)
+  place_all i l h = ⊎_elim
+      (λ (e : i ≡ length (ones_from tab 0 end)). e)
+      (λ d. absurd (let below = place_below tab end i (omega arith) in omega arith)) (same? i (length (ones_from tab 0 end)))
+
+-- the row of place i laid over what the first i left
+pub laid_site : (ones : List ℕ) (old : List Site) (i d : ℕ) → i < length ones → length ones ≤ length old
+    → set (laid (take i (map site_of ones)) old) i (site_of (get_or ones i d)) ≡ laid (take (i + 1) (map site_of ones)) old
+laid_site ones old i d h l =
+    let e : length (map site_of ones) ≡ length ones = length-map ones site_of in
+    rw (add-one i)
+    (ap (λ (s : Site). set (laid (take i (map site_of ones)) old) i s) (sym (get_or-map site_of ones i d))
+    ∙ laid_next (map site_of ones) old i (site_of d) (omega arith) (omega arith))

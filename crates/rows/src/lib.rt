@@ -95,7 +95,7 @@ fn first_seen(rows: &[Site], n: usize, wanted: u8) -> Seen
     };
     let mut i: usize = 0;
     while i < n {
-        let s = rows[i];
+        let s = &rows[i];
         seen = see(seen, i, s.floater, s.position, wanted);
         i += 1;
     }

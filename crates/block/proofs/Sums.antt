@@ -25,12 +25,6 @@ weight_more l i h =
 abbrev pub term_most : ℕ
 term_most = sum_at * (byte_limit - 1)
 
-pub small_term : (i b : ℕ) → i < sum_at → b < byte_limit → (i + 1) * b ≤ term_most
-small_term i b h k = mul-le-mul {n₂ = sum_at} {m₂ = byte_limit - 1} (omega arith) (omega arith)
-
-pub factor : (i b : ℕ) → (i + 1) * b ≡ suc i * b
-factor i b = let e : i + 1 ≡ suc i = omega arith in ap (λ x. x * b) e
-
 -- ---- the loop: i bytes are summed
 pub record SoFar (l : List ℕ) (total i : ℕ) : Type 0 where
   pub inside : i ≤ sum_at

@@ -109,9 +109,6 @@ module _ {line : List ℕ} {at n k : ℕ} {bytes₀ : List ℕ} {i j : ℕ} {byt
                 (subst (λ x. PlacedUpto line k ps f.next bytes₀ (x + 1) (j + 1) (set bytes (site_at k j) (place_of line i).site)) (sym (e there).1) (more ps f h).then);
           }
 
-    pub placing_long : (ps : List (Place ℕ)) × PlacesFit line at n k ps entry → length bytes ≡ length entry
-    placing_long s = w.bytes_long ∙ ap length e₀ ∙ length-set entry (places_at k) n
-
     pub placing_end : n ≤ j → (ps : List (Place ℕ)) → PlacesFit line at n k ps entry → bytes ≡ sets entry (places_at k) (places_put ps)
     placing_end h ps f =
         let u = w.upto ps (places_still e₀ f) in

@@ -7,19 +7,12 @@ use lib.Seq.{length-take-le}
 use Rattle.scope.specs.Limits.{residue_limit}
 use Rattle.held.proofs.Joins.{tells_joined}
 use Rattle.held.proofs.Places.{at_padded}
-use borrow.Author.Rules.{rules}
-use Rattle.held.proofs.padded_held.Statement.{statement}
-use Rattle.held.proofs.padded_held.Tie as tie
+use Rattle.held.proofs.padded_held.Goals as goal
 
-returns : tie.Need-returns
+pub returns : goal.returns
 returns c =
-    let start : tie.Start = search in
-    let s = start.args in
+    let s = c.args in
     let l = take s.n s.from.now in
     let long : length l ≡ s.n = length-take-le s.n s.from.now (omega arith) in
     tells_joined (at_padded s.bytes.now 0 residue_limit s.at (s.at + s.n) (residue_limit - s.n) l (omega arith) (omega arith))
-    c.before.same_bytes.ensures c.zero-bytes.ensures
-
-pub padded-held-spec : {M : Type 1} → statement M
-padded-held-spec =
-    tie.close (tie.spec (λ c κs. search rules) (λ c. search rules) (λ c. search rules) (λ c κs. search rules) returns)
+    c.same_bytes.ensures c.zero_bytes.ensures

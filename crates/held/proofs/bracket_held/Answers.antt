@@ -1,0 +1,47 @@
+use native.Mathlib.Omega.{arith}
+use mathlib.Core.Path.{refl}
+use Rattle.held.proofs.BracketLaws.{frame_fits, some_places, parting_start, parting_fits, parting_next, parting_end}
+use Rattle.held.proofs.bracket_held.Goals as goal
+
+pub base_of-m-requires : goal.base_of-m-requires
+base_of-m-requires c =
+    let f = c.requires.1 in
+    (f.heads_room_is, f.few_brackets_lem)
+
+pub parts_of-n-requires : goal.parts_of-n-requires
+parts_of-n-requires c =
+    let f = c.requires.1 in
+    (f.heads_room_is, f.few_brackets_lem)
+
+pub places_of-at-requires : goal.places_of-at-requires
+places_of-at-requires c =
+    let f = c.requires.1 in
+    (f.heads_room_is, f.few_brackets_lem)
+
+pub many_of-many-requires : goal.many_of-many-requires
+many_of-many-requires c =
+    let f = c.requires.1 in
+    (f.heads_room_is, f.few_brackets_lem)
+
+pub frame_held-requires : goal.frame_held-requires
+frame_held-requires c = frame_fits c.parts_of-n.ensures.0 c.requires
+
+pub places_held-requires : goal.places_held-requires
+places_held-requires c = some_places c.places_of-at.ensures.0 c.many_of-many.ensures.0 c.requires
+
+pub loop-j-init : goal.loop-j-init
+loop-j-init c = parting_start _ c.requires c.base_of-m.ensures.0 c.parts_of-n.ensures.0
+
+pub overflow_add-m : goal.overflow_add-m
+overflow_add-m c = omega (arith, c.base_of-m.ensures.1, c.parts_of-n.ensures.1)
+
+pub part_held-upto-requires : goal.part_held-upto-requires
+part_held-upto-requires c = parting_fits c.loop-j.invariant (omega arith)
+
+pub loop-j-preserved : goal.loop-j-preserved
+loop-j-preserved c = parting_next c.loop-j.invariant (omega arith) c.part_held-upto.ensures
+
+pub returns : goal.returns
+returns c =
+    parting_end c.loop-j.invariant (omega arith) refl c.frame_held.ensures c.places_of-at.ensures.0 c.many_of-many.ensures.0
+    c.places_held.ensures

@@ -3,7 +3,7 @@ use mathlib.Core.Path.{◌≡◌, refl, sym, ap, ◌∙◌, subst}
 use mathlib.Core.List.{List, [], ◌∷◌, ◌++◌, append_assoc, append-nil}
 use Prim.Native.Nat.{ℕ, zero, suc, ◌+◌, ◌-◌, ◌≤◌, ◌<◌}
 use native.Mathlib.Omega.{arith}
-use lib.ListN.{length, set, take, drop, replicate, length-append, length-set, length-replicate, drop_of_length-le, length-drop}
+use lib.ListN.{length, set, take, drop, replicate, length-append, length-set, length-replicate, drop_of_length-le}
 use lib.Seq.{append_snoc, take_at, drop-drop, take-length, take-suc-set, length-take-le}
 use Rattle.scope.specs.Lists.{padded}
 use Rattle.scope.specs.Limits.{block_size}

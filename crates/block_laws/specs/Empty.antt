@@ -1,9 +1,9 @@
 -- An empty area: each of its blocks is the free block, so all are sound and free, and nothing is found under any number.
 use Prim.Native.Nat.{ℕ, zero, suc, ◌+◌, ◌*◌, ◌<◌}
 use native.Mathlib.Omega.{arith}
-use Rattle.std.specs.Prelude.{◌≡◌, refl, true, List, ◌++◌, eqb, drop}
+use Rattle.std.specs.Prelude.{◌≡◌, true, List, ◌++◌, eqb, drop}
 use Rattle.std.proofs.Math.Path.{ap}
-use Rattle.std.proofs.Common.{◌∙◌, length-append, eq-eqb}
+use Rattle.std.proofs.Common.{◌∙◌, eq-eqb}
 use Rattle.std.proofs.Math.ListN.{length, take}
 use Rattle.std.proofs.Math.Seq.{take_at, drop-append-add}
 use Rattle.scope.specs.Limits.{block_size}

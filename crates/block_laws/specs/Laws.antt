@@ -17,7 +17,6 @@ use Rattle.blocks.specs.Answers.{fetch_said, remove_after, placing, Head, is_hea
 use Rattle.area_laws.specs.LowFirst as lows
 use Rattle.area_laws.specs.Fields as fields
 use Rattle.block_laws.specs.Apart as apart
-use Rattle.block_laws.specs.OneByte as changes
 use Rattle.block_laws.specs.Taken as taken
 use Rattle.block_laws.specs.Freed as frees-again
 use Rattle.block_laws.specs.Listing as listing
@@ -97,8 +96,19 @@ pub listed_found :
     → (b : ℕ) × ((is_head a b ≡ true) × (listed_from a b ≡ good (record { block = b; number = n })))
 listed_found a n bs e whole there = listing.listed_found a n bs e whole there
 
--- ---- "After one byte changes": in an area of sound blocks, at i to another byte c
-module _
+-- ---- "After one byte changes": at i to another byte c, of what bears the number n
+pub record OneByte (a : List ℕ) (i c n : ℕ) : Type 0 where
+  -- "the entries with no block touched are fetched as before and the touched one is refused"
+  pub one_byte : (bs : List ℕ) (e : Entry) → look a n ≡ present bs e → look (set a i c) n ≡ cond (member (i / block_size) bs) damaged (present bs e)
+  pub one_byte_fetch :
+      (bs : List ℕ) (e : Entry) → look a n ≡ present bs e → (room : ℕ)
+      → fetch_said (set a i c) n room ≡ cond (member (i / block_size) bs) (refuses 25 0) (fetch_said a n room)
+  -- 25 "when no sound first block has it while some block is unsound": also of a number that has no entry
+  pub one_byte_absent : look a n ≡ absent → look (set a i c) n ≡ damaged
+
+-- in an area of sound blocks. Proof: OneByteLaws of proofs/
+abbrev pub OneByteLaw : Type 0
+OneByteLaw =
     (a : List ℕ)
     (whole : whole_blocks a ≡ true)
     (sound : all_sound a ≡ true)
@@ -108,16 +118,4 @@ module _
     (byte : c < byte_limit)
     (other : c ≡ get_or a i 0 → ⊥)
     (n : ℕ)
-  where
-    -- "the entries with no block touched are fetched as before and the touched one is refused"
-    pub one_byte : (bs : List ℕ) (e : Entry) → look a n ≡ present bs e → look (set a i c) n ≡ cond (member (i / block_size) bs) damaged (present bs e)
-    one_byte bs e h = changes.one_byte a whole sound bytes i c inside byte other n bs e h
-
-    pub one_byte_fetch :
-        (bs : List ℕ) (e : Entry) → look a n ≡ present bs e → (room : ℕ)
-        → fetch_said (set a i c) n room ≡ cond (member (i / block_size) bs) (refuses 25 0) (fetch_said a n room)
-    one_byte_fetch bs e h room = changes.one_byte_fetch a whole sound bytes i c inside byte other n bs e h room
-
-    -- 25 "when no sound first block has it while some block is unsound": also of a number that has no entry
-    pub one_byte_absent : look a n ≡ absent → look (set a i c) n ≡ damaged
-    one_byte_absent h = changes.one_byte_absent a whole sound bytes i c inside byte other n h
+    → OneByte a i c n

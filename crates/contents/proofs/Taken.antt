@@ -23,7 +23,7 @@ use Rattle.scope.specs.Answers.{Said, good, refuses, too_short, read_outcome, sa
 use Rattle.basics.specs.Choice.{pick_true, pick_false}
 use Rattle.basics.specs.Tests.{neither}
 use Rattle.order_laws.specs.Ranks.{orderedb}
-use Rattle.order_laws.specs.Laws.{accepted_ordered, same_order}
+use Rattle.order_laws.proofs.Proved.{accepted_ordered, same_order}
 use Rattle.accepted_laws.specs.Laws.{accepted_short, accepted_within}
 use Rattle.reading_laws.proofs.Bare.{same_canonical, same_floating}
 use Rattle.canonical_laws.proofs.Proved as canonicals

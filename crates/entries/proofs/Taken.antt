@@ -13,7 +13,7 @@ use Rattle.scope.specs.Layout.{tables_in}
 use Rattle.scope.specs.Positions.{floaters}
 use Rattle.scope.specs.Register.{total_text, fields, report}
 use Rattle.order_laws.specs.Ranks.{orderedb}
-use Rattle.order_laws.specs.Laws.{accepted_ordered, same_order}
+use Rattle.order_laws.proofs.Proved.{accepted_ordered, same_order}
 use Rattle.accepted_laws.specs.Laws.{accepted_short}
 use Rattle.reading_laws.proofs.Bare.{same_canonical, same_total, same_lacking}
 use Rattle.canonical_laws.proofs.Proved as canonicals

@@ -1,4 +1,4 @@
--- What is shown of compositions, stated. Proofs: specs/Proved.antt, and the files that it cites.
+-- What is shown of compositions, stated. Proofs: proofs/Proved.antt, and the files that it cites.
 use Rattle.std.specs.Prelude.{ℕ, ◌*◌, ◌^◌, ◌≤◌, ◌<◌, ◌≡◌, ◌↔◌, true, false, List, [], map, length}
 use Rattle.std.proofs.Math.Option.{Option}
 use Rattle.scope.specs.Bytes.{upper}

@@ -19,7 +19,8 @@ use Rattle.layout_laws.proofs.Laws.{tables_back, laid_bounds}
 use Rattle.accepted_laws.specs.Laws.{accepted_within, first_within, tables_within}
 use Rattle.mass_laws.specs.Terms.{FairBracket, Fair, Limited}
 use Rattle.mass_laws.proofs.Laws.{limited_in}
-use Rattle.laws.specs.Curly.{Unlabelled, labelless_unlabelled}
+use Rattle.laws.specs.Curly.{Unlabelled}
+use Rattle.laws.proofs.CurlyLaws.{labelless_unlabelled}
 
 module _ {P : Type 0} where
   fair_bracket : (n : ℕ) (k : Bracket P) → BracketWithin n k → Unlabelled k → FairBracket n k

@@ -1,3 +1,4 @@
+pub mod CurlyLaws
 pub mod Proved
 pub mod Facts
 pub mod Bare

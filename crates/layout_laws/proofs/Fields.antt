@@ -5,7 +5,7 @@ use Rattle.scope.specs.Limits.{place_limit}
 use Rattle.scope.specs.Line.{Place}
 use Rattle.scope.specs.Layout.{residues_at, row_at, part_at, places_at, site_at, counts_row, head_row, part_fields, residues_field, brackets_field, kind_field, first_field, last_field, count_field, parts_field, score_field, value_field, key_field, decimals_field, text_field, label_field, offset_field, places_row, places_field}
 use Rattle.layout_laws.specs.At.{At, at_read, at_head, at_first, at_next}
-use Rattle.layout_laws.specs.TwoBytes.{wide_read}
+use Rattle.layout_laws.proofs.TwoBytesLaws.{wide_read}
 
 -- the numbers of residues and of brackets
 pub record CountsRead (bs : List ℕ) (residues brackets : ℕ) : Type 0 where

@@ -1,3 +1,4 @@
+pub mod TwoBytesLaws
 pub mod Holds
 pub mod Laws
 pub mod Fields

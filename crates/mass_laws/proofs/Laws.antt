@@ -74,7 +74,7 @@ untouched t p x e f = shares.untouched t p x e f
 
 -- "Only stated ones enter total, ledger, display" (02, L6): the mass that does is told by a bracket's parts without `Obs` alone
 pub only_stated : {P : Type 0} (k : Bracket P) → stated (mass_of k) ≡ first_mass (keep (λ p. not (is_key Obs p)) k.parts)
-only_stated k = each_stated.only_stated k
+only_stated k = each_stated.stated_is k
 
 pub under-2^53 : total_limit < 2 ^ 53
 under-2^53 = omega arith

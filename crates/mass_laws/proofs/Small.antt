@@ -16,7 +16,7 @@ use Rattle.scope.specs.Masses.{value_mass, first_mass, mass_of, stated, mass_or0
 use Rattle.areas.specs.Bounds.{Small, Bounds}
 use Rattle.basics.specs.Wholes.{abs_signed}
 use Rattle.mass_laws.specs.Terms.{mass_limit}
-use Rattle.mass_laws.proofs.Stated.{only_stated}
+use Rattle.mass_laws.proofs.Stated.{stated_is}
 
 -- ---- a number to so many decimals
 abs_millionths : (m : ℤ) (d : ℕ) → nat_abs (millionths (number_in m d)) ≤ nat_abs m
@@ -80,4 +80,4 @@ module _ {bs : List ℕ} {ns : List ℤ} (b : Bounds bs ns) {k : ℕ} (h : k < b
   pub small_mass : Small (mass_or0 (bracket_in bs ns k))
   unfolding bracket_in
   small_mass =
-      subst (λ n. n < mass_limit) (ap size (sym (only_stated (bracket_in bs ns k))) ∙ size_is (stated (mass_of (bracket_in bs ns k)))) (small_of (λ p. not (is_key Obs p)))
+      subst (λ n. n < mass_limit) (ap size (sym (stated_is (bracket_in bs ns k))) ∙ size_is (stated (mass_of (bracket_in bs ns k)))) (small_of (λ p. not (is_key Obs p)))

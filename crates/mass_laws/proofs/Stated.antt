@@ -14,9 +14,9 @@ use Rattle.scope.specs.Modifications.{is_key, is_modification}
 use Rattle.scope.specs.Masses.{first_mass, mass_of, stated, modifications, times, sumℕ, lacking}
 
 -- the stated mass is told by the parts without `Obs`: whatever was measured is in no sum
-pub only_stated : {P : Type 0} (k : Bracket P) → stated (mass_of k) ≡ first_mass (keep (λ p. not (is_key Obs p)) k.parts)
+pub stated_is : {P : Type 0} (k : Bracket P) → stated (mass_of k) ≡ first_mass (keep (λ p. not (is_key Obs p)) k.parts)
 unfolding mass_of
-only_stated k = by (first_mass (keep (λ p. not (is_key Obs p)) k.parts)) (first_mass (keep (is_key Obs) k.parts))
+stated_is k = by (first_mass (keep (λ p. not (is_key Obs p)) k.parts)) (first_mass (keep (is_key Obs) k.parts))
   where
     by : (o r : Option ℤ) → stated (given o Stated (given r Measured None)) ≡ o
     by (some m) r = refl

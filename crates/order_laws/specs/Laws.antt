@@ -1,24 +1,16 @@
 -- The order of a line's brackets: declarations "at the front", then "A line has this order: runs of unknown-position brackets ..; labile `{..}`; N-terminal brackets and `-`; the
--- sequence; `-` and C-terminal brackets." Ranks: Ranks.antt.
+-- sequence; `-` and C-terminal brackets." Ranks: Ranks.antt. Proofs: proofs/Proved.antt, and the files that it cites.
 use Rattle.std.specs.Prelude.{◌≡◌, List, ℕ}
-use Rattle.std.proofs.Common.{ap, ◌∙◌}
 use Rattle.scope.specs.Line.{Line}
 use Rattle.scope.specs.Reading.{holds, reading}
 use Rattle.scope.specs.Refusals.{accepted, outcome}
 use Rattle.scope.specs.Tables.{tables_of}
-use Rattle.reading_laws.proofs.Taken.{taken}
 use Rattle.order_laws.specs.Ranks.{orderedb, InOrder}
-use Rattle.order_laws.specs.Climbs as climbs
-use Rattle.order_laws.specs.Reader as reader
 
--- of every line of the order, limits apart
-pub read_ordered : (s : List ℕ) (l : Line ℕ) → reading s ≡ holds l → InOrder l
-read_ordered s l e = reader.read_ordered s l e
-
--- of every accepted line
-pub accepted_ordered : (s : List ℕ) (l : Line ℕ) → outcome s ≡ accepted l → InOrder l
-accepted_ordered s l e = let t = taken s l e in ap orderedb t.keeps ∙ climbs.ordered_kept t.read ∙ reader.read_ordered s t.read t.reads
-
--- places do not matter
-pub same_order : {P : Type 0} (l : Line P) → orderedb (tables_of l) ≡ orderedb l
-same_order l = climbs.ordered_bare l
+pub record Laws : Type 1 where
+  -- of every line of the order, limits apart
+  pub read_ordered : (s : List ℕ) (l : Line ℕ) → reading s ≡ holds l → InOrder l
+  -- of every accepted line
+  pub accepted_ordered : (s : List ℕ) (l : Line ℕ) → outcome s ≡ accepted l → InOrder l
+  -- places do not matter
+  pub same_order : {P : Type 0} (l : Line P) → orderedb (tables_of l) ≡ orderedb l

@@ -1,2 +1,2 @@
-// No code: the order of a line's brackets, as theorems over the definitions (specs/).
+// No code: the order of a line's brackets, as theorems over the definitions (specs/Laws.antt).
 #![tactic(auto)]

@@ -24,7 +24,7 @@ use Rattle.blocks.specs.Entry.{Entry, positions_of, Looked, absent, damaged, pre
 use Rattle.blocks.specs.Answers.{area_after, empty_said, empty_after, fetched, fetch_said, fetched_length, fetched_placement, out_after, says_fetch, removed, removing, done, remove_said, remove_after, blocks_for, add_said, add_after, is_head, says_listed}
 use Rattle.blocks.specs.Map.{Call, adds, fetches, removes, Answer, told, handed, answer, after, answers, run, map_answers, AllNumbered}
 use Rattle.block_laws.specs.AsMap as laws
-use Rattle.block_laws.specs.OneByte as one
+use Rattle.block_laws.proofs.OneByteLaws as one
 use Rattle.block_laws.specs.Listing as list
 use Rattle.block_laws.specs.Added.{taken_for}
 use Rattle.block_laws.specs.Calls.{content_of, add_accepted}

@@ -20,7 +20,7 @@ use Rattle.scope.specs.Kinds.{kind_code}
 use Rattle.scope.specs.Lists.{given, none?, part}
 use Rattle.scope.specs.Modifications.{is_key}
 use Rattle.scope.specs.Glycans.{Item, cuttings, short_text}
-use Rattle.scope.specs.Kept.{composition_mass, cut_as, cut_value, kept_part, kept_bracket}
+use Rattle.scope.specs.Kept.{composition_mass, cut_as, cut_value, kept_part}
 use Rattle.scope.specs.Refusals.{in_range, text_in, text_of}
 use Rattle.scope.specs.Tables.{millionths, label_of, score_of}
 use Rattle.scope.specs.Layout.{bytes_size, numbers_size, text_code, value_code, mass_in, decimals_in, packed, offset, part_fields, part_row, score_code}

@@ -14,7 +14,7 @@ use Rattle.scope.specs.Answers.{reads_to, are_tables}
 use Rattle.basics.specs.Choice.{by_test}
 use Rattle.layout_laws.proofs.Laws.{tables_held}
 use Rattle.order_laws.specs.Ranks.{orderedb}
-use Rattle.order_laws.specs.Laws.{accepted_ordered, same_order}
+use Rattle.order_laws.proofs.Proved.{accepted_ordered, same_order}
 use Rattle.writer.specs.Written.{WholeLine}
 use Rattle.tabled.specs.LineOf.{LineOf}
 

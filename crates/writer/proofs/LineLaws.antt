@@ -42,14 +42,6 @@ opening_other (suc (suc (suc zero))) p q = absurd (q refl)
 opening_other (suc (suc (suc (suc zero)))) p q = refl
 opening_other (suc (suc (suc (suc (suc c))))) p q = refl
 
-pub next_other : (c : ℕ) → (c ≡ section_code RangeNext → ⊥) → (c ≡ section_code UnsureNext → ⊥) → false ≡ is_next (section_in c)
-next_other zero p q = refl
-next_other (suc zero) p q = refl
-next_other (suc (suc zero)) p q = absurd (p refl)
-next_other (suc (suc (suc zero))) p q = refl
-next_other (suc (suc (suc (suc zero)))) p q = absurd (q refl)
-next_other (suc (suc (suc (suc (suc c))))) p q = refl
-
 pub ending_other :
     (c : ℕ) (t : List ℕ) → (c ≡ section_code RangeFirst → ⊥) → (c ≡ section_code RangeNext → ⊥) → (c ≡ section_code UnsureFirst → ⊥)
     → (c ≡ section_code UnsureNext → ⊥) → [] ≡ ending (section_in c) t

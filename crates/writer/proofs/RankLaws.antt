@@ -2,7 +2,7 @@
 use mathlib.Core.Path.{◌≡◌, refl, sym, ap, ap₂, ◌∙◌}
 use mathlib.Core.Bool.{Bool, true, false, cond, ◌&&◌}
 use mathlib.Core.List.{List, [], ◌∷◌, ◌++◌, append_assoc}
-use Prim.Native.Nat.{ℕ, zero, suc, ◌+◌, ◌-◌, ◌*◌, ◌≤◌, ◌<◌}
+use Prim.Native.Nat.{ℕ, zero, suc, ◌+◌, ◌-◌, ◌≤◌, ◌<◌}
 use native.Mathlib.Nat.{add-zero, zero-add, le_trans, le_refl}
 use native.Mathlib.Numerals.{add-one}
 use native.Mathlib.Omega.{arith}
@@ -10,21 +10,21 @@ use lib.Dec.{eqb, leb}
 use lib.IntN.{ℤ}
 use borrow.Author.Tests.{eq-eqb, ne_eqb, eqb-true, le-leb, lt-leb, leb-true, leb-false}
 use Rattle.basics.specs.Choice.{by_test}
-use Rattle.basics.specs.Kinds.{code_back, is_kind_lem, each_kind}
+use Rattle.basics.specs.Kinds.{is_kind_lem, each_kind}
 use Rattle.basics.specs.Tests.{both, both_of, same_test}
 use Rattle.scope.specs.declared.grammar.Kind.{Kind}
-use Rattle.scope.specs.declared.grammar.Kind.TheVariants.{Unknown, Labile, CTerm, Declared}
+use Rattle.scope.specs.declared.grammar.Kind.TheVariants.{CTerm, Declared}
 use Rattle.scope.specs.Line.{Place, Part, Bracket}
 use Rattle.scope.specs.Bytes.{bar, comma}
 use Rattle.scope.specs.Places.{site_text, places_text}
 use Rattle.scope.specs.Canonical.{part_text, parts_text}
 use Rattle.scope.specs.Lists.{tabled}
-use Rattle.scope.specs.Layout.{bracket_in, tables_in, brackets_field, kind_field, last_field, parts_field}
-use Rattle.scope.specs.Kinds.{kind_code, kind_in, is_kind, is_declared}
+use Rattle.scope.specs.Layout.{bracket_in, tables_in, brackets_field, kind_field, parts_field}
+use Rattle.scope.specs.Kinds.{kind_code, kind_in, is_kind}
 use Rattle.areas.specs.Bounds.{Bounds}
 use Rattle.writer.specs.Here.{BracketHere, PartHere}
 use Rattle.writer.specs.Written.{next_text}
-use Rattle.writer.specs.Ranks.{rank_step, kind_rank, rank_of, rank, rising, orderedb, InOrder, rank_in, c_term_rank, ReadyToWrite}
+use Rattle.writer.specs.Ranks.{kind_rank, rank_of, rank, rising, orderedb, InOrder, rank_in, c_term_rank, ReadyToWrite}
 
 -- ---- lists of what stands in a row
 module _ {A : Type 0} (f : ℕ → A) where
@@ -100,22 +100,6 @@ pub part_here : (bs : List ℕ) (ns : List ℤ) (k j : ℕ) → BracketHere bs n
 part_here bs ns k j b h = record { bracket = b; low = omega (arith, b.few_parts_lem); bounds = b.part j h }
 
 -- ---- the rank in a row
--- of a code that is a kind's own, of a declaration's, and of one that means an unknown position
-pub rank_coded : (c last : ℕ) → kind_code Labile ≤ c → c ≤ kind_code CTerm → rank_step * last + c ≡ rank_of (kind_in c) last
-rank_coded c last h l =
-    let e = code_back c (omega arith) (omega arith) in
-    let d : is_declared (kind_in c) ≡ false = ne_eqb (kind_code (kind_in c)) (kind_code Declared) (λ q. omega (arith, e, q)) in
-    ap (λ n. rank_step * last + n) (sym e ∙ ap (λ t. cond t 0 (kind_code (kind_in c))) (sym d))
-
-pub rank_declared : (c last : ℕ) → c ≡ kind_code Declared → rank_step * last ≡ rank_of (kind_in c) last
-rank_declared c last e = rw e (sym (add-zero (rank_step * last)))
-
-pub rank_unknown : (c last : ℕ) → Unknown ≡ kind_in c → rank_step * last + kind_code Unknown ≡ rank_of (kind_in c) last
-rank_unknown c last e = ap (λ k. rank_of k last) e
-
-pub rank_row : {c last r : ℕ} (bs : List ℕ) (k : ℕ) → c ≡ kind_field bs k → last ≡ last_field bs k → r ≡ rank_of (kind_in c) last → r ≡ rank_in bs k
-rank_row bs k e f g = g ∙ ap₂ (λ c last. rank_of (kind_in c) last) e f
-
 pub rank_is : (bs : List ℕ) (ns : List ℤ) (k : ℕ) → rank (bracket_in bs ns k) ≡ rank_in bs k
 unfolding bracket_in
 rank_is bs ns k = refl

@@ -29,8 +29,8 @@ same-bytes-requires-2 c κs =
     let s : tie.Start = search in
     let h = s.pre.fits in
     record {
-      inside = omega (arith, h.label_order, h.label_inside, e.label_to_is.ensures.0, l.label_from_is.ensures.0);
-      room = omega (arith, h.texts_room, h.bytes_long, u.composition.ensures.sized, e.label_to_is.ensures.0, l.label_from_is.ensures.0);
+      inside = omega (arith, h.label_order, h.label_inside, e.label-to.ensures.0, l.label-from.ensures.0);
+      room = omega (arith, h.texts_room, h.bytes_long, u.composition.ensures.sized, e.label-to.ensures.0, l.label-from.ensures.0);
     }
 
 mass-requires : tie.Need-mass-requires
@@ -51,7 +51,7 @@ add-t27 c =
     let e : tie.After-label-to = search in
     let l : tie.After-label-from = search in
     let s : tie.Start = search in
-    omega (arith, s.pre.fits.texts_room, u.composition.ensures.sized, e.label_to_is.ensures.0, l.label_from_is.ensures.0)
+    omega (arith, s.pre.fits.texts_room, u.composition.ensures.sized, e.label-to.ensures.0, l.label-from.ensures.0)
 
 returns : tie.Need-returns
 returns c =
@@ -66,7 +66,7 @@ returns c =
     let e : tie.After-label-to = search in
     let l : tie.After-label-from = search in
     let s : tie.Start = search in
-    cut_seen s.args.seen s.pre.fits s.pre.composed_row l.label_from_is.ensures.0 e.label_to_is.ensures.0 u.composition.ensures x.put-composition.ensures
+    cut_seen s.args.seen s.pre.fits s.pre.composed_row l.label-from.ensures.0 e.label-to.ensures.0 u.composition.ensures x.put-composition.ensures
     (omega (arith, length-replicate {A = ℕ} text_limit 0)) o.offset-of.ensures.0 f.fields-held.ensures a.same_bytes.ensures b.same-bytes2.ensures (back _ m.mass.ok m.mass.ensures) i.is-mass.ensures
 
 pub composition-held-spec : {M : Type 1} → statement M

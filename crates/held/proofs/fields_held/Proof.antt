@@ -22,8 +22,8 @@ returns c =
     (tells_equal values.value.ensures.0 refl)
     (tells_equal keys.key.ensures.0 refl)
     (tells_equal decimals.decimals.ensures.0 refl)
-    (tells_equal texts.text_length_is.ensures.0 refl)
-    (tells_equal labels.label_length_is.ensures.0 refl)
+    (tells_equal texts.text-length.ensures.0 refl)
+    (tells_equal labels.label-length.ensures.0 refl)
     (tells_equal offsets.offset.ensures.0 refl)
 
 pub fields-held-spec : {M : Type 1} → statement M

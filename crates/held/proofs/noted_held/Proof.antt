@@ -22,7 +22,7 @@ returns c =
     let to = label_at.before in
     let text_at = to.before in
     let start : tie.Start = search in
-    noted_seen start.args.seen start.pre.fits start.pre.plain text_at.text_from_is.ensures.0 to.text_to_is.ensures.0 label_at.label_from_is.ensures.0 ends.label_to_is.ensures.0
+    noted_seen start.args.seen start.pre.fits start.pre.plain text_at.text-from.ensures.0 to.text-to.ensures.0 label_at.label-from.ensures.0 ends.label-to.ensures.0
     offset.offset-of.ensures.0 value.value_of.ensures.0 key.key_of.ensures.0 decimals.decimals-of.ensures.0 fields.fields-held.ensures text.same_bytes.ensures
     label.same-bytes2.ensures (back _ mass.mass.type-inv mass.mass.ensures) number.is_number.ensures
 
@@ -44,7 +44,7 @@ add-t20 c =
     let e : tie.After-text-to = search in
     let a : tie.After-text-from = search in
     let s : tie.Start = search in
-    omega (arith, s.pre.fits.texts_room, e.text_to_is.ensures.0, a.text_from_is.ensures.0)
+    omega (arith, s.pre.fits.texts_room, e.text-to.ensures.0, a.text-from.ensures.0)
 
 add-t25 : tie.Need-overflow-add-t25
 add-t25 c =
@@ -53,7 +53,7 @@ add-t25 c =
     let e : tie.After-text-to = search in
     let a : tie.After-text-from = search in
     let s : tie.Start = search in
-    omega (arith, s.pre.fits.texts_room, e.text_to_is.ensures.0, a.text_from_is.ensures.0, q.label_to_is.ensures.0, l.label_from_is.ensures.0)
+    omega (arith, s.pre.fits.texts_room, e.text-to.ensures.0, a.text-from.ensures.0, q.label-to.ensures.0, l.label-from.ensures.0)
 
 pub noted-held-spec : {M : Type 1} → statement M
 noted-held-spec =

@@ -11,7 +11,7 @@ use Rattle.export.proofs.tables.hwemiduk_why_none.Tie as tie
 returns : tie.Need-returns
 returns c = why_short _ _ _ _ c.if1.true
 
-long : (c : tie.After-why-none) → length c.why_none_lem.result.at ≡ copy_limit
+long : (c : tie.After-why-none) → length c.why-none.result.at ≡ copy_limit
 long c = search rules
 
 copy-bytes-requires : tie.Need-copy-bytes-requires
@@ -19,7 +19,7 @@ copy-bytes-requires c κs =
     let called : tie.After-why-none = search in
     let else1 : tie.Else1 = search in
     let told : tie.After-c = search in
-    let fits = why_fits _ _ called.why_none_lem.ensures told.c.given.1 (long called) in
+    let fits = why_fits _ _ called.why-none.ensures told.c.given.1 (long called) in
     (omega (arith, fits, long called), omega (arith, fits, else1.if1.left))
 
 returns_2 : tie.Need-returns-2
@@ -28,14 +28,14 @@ returns_2 c =
     let else1 : tie.Else1 = search in
     let told : tie.After-c = search in
     let copied : tie.After-copy-bytes = search in
-    why_told _ _ _ _ else1.if1.left called.why_none_lem.ensures told.c.given.1 copied.copy-bytes.ensures
+    why_told _ _ _ _ else1.if1.left called.why-none.ensures told.c.given.1 copied.copy-bytes.ensures
 
 returns_3 : tie.Need-returns-3
 returns_3 c =
     let called : tie.After-why-none = search in
     let else1 : tie.Else1 = search in
     let told : tie.After-c2 = search in
-    why_refused _ _ _ _ else1.if1.left called.why_none_lem.ensures told.c2.given.1
+    why_refused _ _ _ _ else1.if1.left called.why-none.ensures told.c2.given.1
 
 pub hwemiduk-why-none-spec : {M : Type 1} → statement M
 hwemiduk-why-none-spec =

@@ -6,7 +6,7 @@ use Rattle.positions.proofs.labels.is_label.Statement.{statement}
 use Rattle.positions.proofs.labels.is_label.Tie as tie
 
 returns : tie.Need-returns
-returns c = among_none _ _ _ _ c.before.label_length_is.ensures.0 c.if1.true
+returns c = among_none _ _ _ _ c.before.label-length.ensures.0 c.if1.true
 
 same-bytes-requires : tie.Need-same-bytes-requires
 same-bytes-requires c κs =
@@ -16,7 +16,7 @@ same-bytes-requires c κs =
 returns_2 : tie.Need-returns-2
 returns_2 c =
     let after-label-length : tie.After-label-length = search in
-    among_one _ _ _ _ after-label-length.label_length_is.ensures.0 c.before.before.if1.false c.before.label_from_is.ensures c.same_bytes.ensures
+    among_one _ _ _ _ after-label-length.label-length.ensures.0 c.before.before.if1.false c.before.label-from.ensures c.same_bytes.ensures
 
 pub is-label-spec : {M : Type 1} → statement M
 is-label-spec =

@@ -6,7 +6,7 @@ use Rattle.positions.proofs.labels.shares_label.Statement.{statement}
 use Rattle.positions.proofs.labels.shares_label.Tie as tie
 
 returns : tie.Need-returns
-returns c = shared_none _ _ _ _ c.before.label_length_is.ensures.0 c.if1.true
+returns c = shared_none _ _ _ _ c.before.label-length.ensures.0 c.if1.true
 
 has-label-requires : tie.Need-has-label-requires
 has-label-requires c κs =
@@ -16,7 +16,7 @@ has-label-requires c κs =
 returns_2 : tie.Need-returns-2
 returns_2 c =
     let after-label-length : tie.After-label-length = search in
-    shared_one _ _ _ _ after-label-length.label_length_is.ensures.0 c.before.before.if1.false c.before.label_from_is.ensures c.has-label.ensures
+    shared_one _ _ _ _ after-label-length.label-length.ensures.0 c.before.before.if1.false c.before.label-from.ensures c.has-label.ensures
 
 pub shares-label-spec : {M : Type 1} → statement M
 shares-label-spec =

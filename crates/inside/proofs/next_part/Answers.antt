@@ -1,0 +1,49 @@
+-- The next part: its value read, stored, counted, and what is due of it; then its label, or the byte behind it.
+use mathlib.Core.Path.{refl, sym, ◌∙◌}
+use native.Mathlib.Omega.{arith}
+use Rattle.inside.proofs.OnePart.{value_refers}
+use Rattle.inside.proofs.Reading.{a_value, no_value, unlabelled_end, a_part}
+use Rattle.inside.proofs.Steps.{stored_fits, value_found, value_places, label_asked, value_read, at_label}
+use Rattle.inside.proofs.next_part.Goals as goal
+
+pub store_part-requires : goal.store_part-requires
+store_part-requires c =
+    let r = a_value _ _ _ _ _ (c.value_at-found.ensures c.requires.within) c.in-Read.is in
+    let p = value_places _ _ _ _ r.is_value c.requires.short in
+    (c.requires.parts_room_is, c.requires.masses_room_is, stored_fits _ _ _ _ _ _ c.args.s _ _ c.requires _ c.has_room-stored.ensures, p.0, p.1)
+
+pub value_due-due-requires : goal.value_due-due-requires
+value_due-due-requires c =
+    let r = a_value _ _ _ _ _ (c.value_at-found.ensures c.requires.within) c.in-Read.is in
+    value_found _ _ _ _ r.is_value c.requires.short
+
+pub with_value-t-requires : goal.with_value-t-requires
+with_value-t-requires c = omega (arith, c.requires.few, c.requires.within, c.requires.short)
+
+pub labelled-requires : goal.labelled-requires
+labelled-requires c =
+    let r = a_value _ _ _ _ _ (c.value_at-found.ensures c.requires.within) c.in-Read.is in
+    label_asked _ _ _ _ _ _ c.args.s _ _ c.requires _ _ r.is_value _ _ _ _ _ _ c.has_room-stored.ensures refl c.has_label.ensures c.if-has_label.true c.with_value-t.ensures c.store_part.auto.parts
+
+pub returns-then-has_label : goal.returns-then-has_label
+returns-then-has_label c =
+    let r = a_value _ _ _ _ _ (c.value_at-found.ensures c.requires.within) c.in-Read.is in
+    λ from least old masses₀ z.
+    c.labelled.ensures _ _ _ _
+    (at_label _ _ _ c.args.s _ _ z _ c.may_refer-first.ensures c.requires.with_labels _ r _ _ _ _ _ _ _
+    (value_read _ _ _ c.args.s _ _ z _ c.may_refer-first.ensures c.requires.with_labels _ r _ _ _ _ _ _ _ c.has_room-stored.ensures refl (stored_fits _ _ _ _ _ _ c.args.s _ _ c.requires _ c.has_room-stored.ensures) c.requires.parts_room_is c.requires.masses_room_is c.store_part.ensures.0 c.store_part.ensures.1 c.value_due-due.ensures c.due_if-least.ensures c.with_value-t.ensures)
+    c.has_room-stored.ensures refl c.has_label.ensures c.if-has_label.true (c.is_reference-reference.ensures ∙ value_refers _ _ _ _ r.is_value))
+
+pub returns-in-Stuck : goal.returns-in-Stuck
+returns-in-Stuck c =
+    λ from least old masses₀ z. no_value _ _ _ c.args.s _ _ z _ c.may_refer-first.ensures c.requires.with_labels _ _ (c.value_at-found.ensures c.requires.within) c.in-Stuck.is
+
+pub returns-else-has_label : goal.returns-else-has_label
+returns-else-has_label c =
+    let r = a_value _ _ _ _ _ (c.value_at-found.ensures c.requires.within) c.in-Read.is in
+    λ from least old masses₀ z.
+    a_part _ _ _ _ _ _ _ _ _
+    (unlabelled_end _ _ _ _ _ _ _ _
+    (value_read _ _ _ c.args.s _ _ z _ c.may_refer-first.ensures c.requires.with_labels _ r _ _ _ _ _ _ _ c.has_room-stored.ensures refl (stored_fits _ _ _ _ _ _ c.args.s _ _ c.requires _ c.has_room-stored.ensures) c.requires.parts_room_is c.requires.masses_room_is c.store_part.ensures.0 c.store_part.ensures.1 c.value_due-due.ensures c.due_if-least.ensures c.with_value-t.ensures)
+    (sym c.has_label.ensures ∙ c.if-has_label.false))
+    r.is_value.past _ _ _ refl (c.is_reference-reference.ensures ∙ value_refers _ _ _ _ r.is_value) c.behind.ensures

@@ -1,0 +1,4 @@
+pub mod Climbs
+pub mod Modes
+pub mod Reader
+pub mod Proved

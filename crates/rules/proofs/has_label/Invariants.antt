@@ -1,0 +1,11 @@
+-- `has_label` meets its contract: the loop's invariant is that the parts passed have other labels. Assumes nothing.
+use Rattle.rules.proofs.Searched.{NotAmong}
+use Rattle.rules.specs.Told.{name_at}
+use Prim.Native.Nat.{◌-◌}
+use Rattle.rules.proofs.has_label.Given as goal
+
+abbrev pub invariant-loop-i : goal.invariant-loop-i
+invariant-loop-i l = NotAmong (name_at l.line l.parts l.x) (name_at l.line l.parts) l.y l.m l.i
+
+abbrev pub decreases-loop-i : goal.decreases-loop-i
+decreases-loop-i l = l.m - l.i

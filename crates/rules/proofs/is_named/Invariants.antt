@@ -1,0 +1,11 @@
+-- `is_named` meets its contract: the loop's invariant is that the brackets passed do not name it. Assumes nothing.
+use Rattle.rules.proofs.Searched.{NotNamed}
+use Rattle.rules.specs.Told.{name_at}
+use Prim.Native.Nat.{◌-◌}
+use Rattle.rules.proofs.is_named.Given as goal
+
+abbrev pub invariant-loop-k : goal.invariant-loop-k
+invariant-loop-k l = NotNamed l.line l.heads l.parts l.refers (name_at l.line l.parts l.x) l.e l.k
+
+abbrev pub decreases-loop-k : goal.decreases-loop-k
+decreases-loop-k l = l.e - l.k

@@ -1,0 +1,11 @@
+-- `rules_due` meets its contract: the loop's invariant is that what the brackets passed give, codes and copies, with those ahead is what all give.
+-- Assumes nothing.
+use Rattle.rules.proofs.Gathered.{Gathering}
+use Prim.Native.Nat.{◌-◌}
+use Rattle.rules.proofs.rules_due.Given as goal
+
+abbrev pub invariant-loop-k : goal.invariant-loop-k
+invariant-loop-k l = Gathering l.line l.heads l.parts l.n l.least l.first l.floaters l.k
+
+abbrev pub decreases-loop-k : goal.decreases-loop-k
+decreases-loop-k l = l.n - l.k

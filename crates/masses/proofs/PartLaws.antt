@@ -2,8 +2,8 @@
 use mathlib.Core.Path.{◌≡◌, refl, sym, ap, ◌∙◌, subst}
 use mathlib.Core.Bool.{Bool, true, false, not, cond, ◌&&◌, ◌||◌}
 use mathlib.Core.Option.{Option, none, some}
-use mathlib.Core.Logic.{inl, inr}
-use mathlib.Core.List.{List, [], ◌∷◌}
+use mathlib.Core.Logic.{◌⊎◌, inl, inr}
+use mathlib.Core.List.{List, ◌∷◌}
 use Prim.Native.Nat.{ℕ, ◌+◌, ◌-◌, ◌≤◌, ◌<◌}
 use native.Mathlib.Nat.{le_refl}
 use native.Mathlib.Omega.{arith}
@@ -27,9 +27,6 @@ use Rattle.brackets.specs.Row.{Row, row}
 use Rattle.basics.specs.Choice.{by_test}
 use Rattle.basics.specs.Tabled.{tabled_at, tabled_end, tabled_all}
 use Rattle.brackets.specs.Codes.{key_is}
-use types.Run.{OneOf}
-use denote.Enum.Declared.{tag_of}
-use Rattle.scope.specs.contracts.answers.Mass as mass-type
 use Rattle.scope.specs.declared.answers.Mass.{Mass}
 use Rattle.scope.specs.declared.answers.Mass.TheVariants.{Stated, Measured, None}
 use Rattle.masses.specs.Reach.{Reach, ReachPart}
@@ -195,21 +192,19 @@ module _ (bs : List ℕ) (ns : List ℤ) (k : ℕ) where
     pub sought_nothing : m ≤ i → None ≡ mass_of (bracket_in bs ns k)
     sought_nothing q = sym (ended ∙ rw (le-ltb i m q))
 
--- ---- what a mass adds to a sum, by its cases: of the arm without a stated mass the numbers of its two variants are known
-unstated_by_tag : (m : Mass) → OneOf (1 ∷ 2 ∷ []) (tag_of mass-type.the_type m) → stated m ≡ none
-unstated_by_tag (Stated m) (inl e) = absurd (omega (arith, e))
-unstated_by_tag (Stated m) (inr e) = absurd (omega (arith, e))
-unstated_by_tag (Measured m) o = refl
-unstated_by_tag None o = refl
+-- ---- what a mass adds to a sum, by its cases: a measured mass and none are not stated
+unstated : (m : Mass) → ((x : ℤ) × (m ≡ Measured x)) ⊎ (m ≡ None) → stated m ≡ none
+unstated m (inl e) = ap stated e.1
+unstated m (inr e) = ap stated e
 
 module _ (b : Bracket (Unit {0})) {r : Mass} (e : r ≡ mass_of b) where
   pub is_mass : {m : ℤ} → r ≡ Stated m → m ≡ mass_or0 b
   is_mass q = ap (λ x. given (stated x) (λ z. z) (pos 0)) (sym q ∙ e)
 
-  pub is_unstated : OneOf (1 ∷ 2 ∷ []) (tag_of mass-type.the_type r) → stated (mass_of b) ≡ none
-  is_unstated o = ap stated (sym e) ∙ unstated_by_tag r o
+  pub is_unstated : ((x : ℤ) × (r ≡ Measured x)) ⊎ (r ≡ None) → stated (mass_of b) ≡ none
+  is_unstated o = ap stated (sym e) ∙ unstated r o
 
-  pub unstated_is_0 : OneOf (1 ∷ 2 ∷ []) (tag_of mass-type.the_type r) → pos 0 ≡ mass_or0 b
+  pub unstated_is_0 : ((x : ℤ) × (r ≡ Measured x)) ⊎ (r ≡ None) → pos 0 ≡ mass_or0 b
   unstated_is_0 o = ap (λ x. given x (λ z. z) (pos 0)) (sym (is_unstated o))
 
 -- ---- what the bounds give where a bracket or a part of it is read

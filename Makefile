@@ -1,5 +1,5 @@
 # What is installed: the library, static and shared, its header, its description for pkg-config, the register program, and the one behind `register --no-placement`. What is
-# proved is built by `rt`; make only puts it in its place.
+# proved is built by bin/prove; make only puts it in its place.
 #   make                          the library in target/lib, the programs in target/bin
 #   make install PREFIX= DESTDIR=
 #   make uninstall PREFIX= DESTDIR=
@@ -14,10 +14,10 @@ bin = $(DESTDIR)$(PREFIX)/bin
 all: target/lib/libhwemiduk.so.0 target/bin/register target/bin/why-none
 
 target/staticlib/libexport.a:
-	rt staticlib export
+	bin/prove export
 
 target/bin/register:
-	rt check register
+	bin/prove register
 
 target/lib/libhwemiduk.so.0: target/staticlib/libexport.a bin/build-shared
 	bin/build-shared

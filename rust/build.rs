@@ -1,5 +1,5 @@
 //! Links the proved archive: libhwemiduk.a or libexport.a in the folder that HWEMIDUK_LIB_DIR names; or target/staticlib/libexport.a of the repository, which
-//! `rt staticlib export` writes; or lib/libhwemiduk.a of the release that this crate stands in.
+//! `bin/prove export` writes; or lib/libhwemiduk.a of the release that this crate stands in.
 
 use std::env::var;
 use std::path::{Path, PathBuf};
@@ -12,7 +12,7 @@ fn main() {
         _ => ["target/staticlib/libexport.a", "lib/libhwemiduk.a"].map(|name| Path::new(env!("CARGO_MANIFEST_DIR")).join("..").join(name)).into(),
     };
     let Some(archive) = places.iter().find(|path| path.is_file()) else {
-        eprintln!("hwemiduk: {} is not there: `rt staticlib export` writes it, or set HWEMIDUK_LIB_DIR to a release's lib/", places[0].display());
+        eprintln!("hwemiduk: {} is not there: `bin/prove export` writes it, or set HWEMIDUK_LIB_DIR to a release's lib/", places[0].display());
         exit(1);
     };
     if var("CARGO_CFG_TARGET_ARCH").as_deref() != Ok("x86_64") {

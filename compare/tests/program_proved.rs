@@ -1,6 +1,6 @@
-//! The proved register program, target/bin/register, which `rt check register`
-//! builds: the same trials as for this package's own, and the two against each
-//! other.
+//! The proved register program, target/bin/register, which `bin/prove
+//! register` builds: the same trials as for this package's own, and the two
+//! against each other.
 
 mod programs;
 
@@ -17,7 +17,7 @@ use programs::{printed, printed_in_chunks, started};
 
 fn program() -> PathBuf {
     let built = Path::new(env!("CARGO_MANIFEST_DIR")).join("../target/bin/register");
-    assert!(built.exists(), "{} is not there: `rt check register` builds it", built.display());
+    assert!(built.exists(), "{} is not there: `bin/prove register` builds it", built.display());
     built
 }
 

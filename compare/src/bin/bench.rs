@@ -1,5 +1,5 @@
 //! How long the calls of the proved library take, beside the independent code doing the same, in one run:
-//! `cargo run --release --bins && ../target/compare/release/bench` (after `rt staticlib export` and `rt check register`).
+//! `cargo run --release --bins && ../target/compare/release/bench` (after `bin/prove export` and `bin/prove register`).
 
 use std::fs::File;
 use std::hint::black_box;

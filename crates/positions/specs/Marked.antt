@@ -38,8 +38,8 @@ abbrev pub references_at : List ℕ → List ℤ → ℕ → ℕ → Bool
 references_at bs ns k x = referred_at (bracket_in bs ns k) x (tables_in bs ns).brackets
 
 -- x is a position of bracket k's own
-abbrev pub field_own : List ℕ → List ℤ → ℕ → ℕ → Bool
-field_own bs ns k x = own_position (bracket_in bs ns k) x (bracket_in bs ns k).kind
+abbrev pub own_at : List ℕ → List ℤ → ℕ → ℕ → Bool
+own_at bs ns k x = own_position (bracket_in bs ns k) x (bracket_in bs ns k).kind
 
 -- bracket k reaches x, as a declaration
 abbrev pub reached_at : List ℕ → List ℤ → ℕ → ℕ → Bool

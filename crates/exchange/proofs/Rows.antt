@@ -1,4 +1,4 @@
--- The table as lists of positions, and the numbers of the copies as marks: the list of a floater has exactly the positions where it may stand, in rising order.
+-- The table as lists of positions, and the numbers of the copies as marks: the list of a floater has exactly the positions where it may stand.
 use mathlib.Core.Path.{◌≡◌, sym, ap, ◌∙◌}
 use mathlib.Core.Bool.{true, false}
 use mathlib.Core.List.{List, [], map}

@@ -1,5 +1,5 @@
 -- Blocks in a row, piece by piece of a content: the block at a place and those behind it, what comes next, and the piece that goes into it.
-use mathlib.Core.Path.{◌≡◌, refl, sym, ap, ◌∙◌}
+use mathlib.Core.Path.{◌≡◌, sym, ap, ◌∙◌}
 use mathlib.Core.Logic.{⊎_elim}
 use mathlib.Core.List.{List, [], ◌∷◌}
 use Prim.Native.Nat.{ℕ, zero, suc, ◌+◌, ◌-◌, ◌*◌, ◌≤◌, ◌<◌}
@@ -10,9 +10,9 @@ use lib.Seq.{drop-cons, get_or-take, length-take-le, take_all}
 use Rattle.scope.specs.Lists.{part}
 use Rattle.basics.specs.Each.{Each}
 use Rattle.basics.specs.Tests.{below?}
-use Rattle.blocks.specs.Block.{content_room, no_next, further_kind, entry_block}
+use Rattle.blocks.specs.Block.{content_room, further_kind, entry_block}
 use Rattle.blocks.specs.Area.{put_at}
-use Rattle.blocks.specs.Answers.{blocks_for, next_in}
+use Rattle.blocks.specs.Answers.{blocks_for}
 use Rattle.taking.specs.Says.{kind_of}
 
 -- ---- of so many, the one at a place, and those behind it
@@ -38,18 +38,7 @@ module _ (blocks : List ℕ) (many k : ℕ) (room : many ≤ length blocks) wher
       let found = each_at (λ b. b < n) (take many blocks) k e (omega (arith, long)) in
       omega (arith, same, found)
 
-  -- the next one, or none
-  pub next_at_lem : k < many → get_or blocks k 0 ≡ next_in (drop k (take many blocks))
-  next_at_lem h = ap next_in (sym (chain_at h))
-
-  pub next_past : many ≤ k → no_next ≡ next_in (drop k (take many blocks))
-  next_past h = ap next_in (sym (chain_end h))
-
 -- ---- kinds
-pub further_kind_lem : (k : ℕ) → (k ≡ 0 → ⊥) → further_kind ≡ kind_of k
-further_kind_lem zero h = absurd (h refl)
-further_kind_lem (suc k) h = refl
-
 pub kind_behind : (k : ℕ) → kind_of (k + 1) ≡ further_kind
 kind_behind k = ap kind_of (add-one k)
 

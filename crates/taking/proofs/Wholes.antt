@@ -1,14 +1,13 @@
 -- An area of whole blocks, of which one is lent as a part and put anew: it has as many blocks as before.
-use mathlib.Core.Path.{◌≡◌, sym, ap, ◌∙◌}
-use mathlib.Core.List.{List, ◌++◌}
-use Prim.Native.Nat.{ℕ, ◌+◌, ◌-◌, ◌*◌, ◌/◌, ◌<◌}
+use mathlib.Core.Path.{◌≡◌, ap, ◌∙◌}
+use mathlib.Core.List.{List}
+use Prim.Native.Nat.{ℕ, ◌*◌, ◌/◌, ◌<◌}
 use native.Mathlib.Omega.{arith}
-use lib.ListN.{length, take, drop}
+use lib.ListN.{length}
 use Rattle.scope.specs.Limits.{block_size}
 use Rattle.blocks.specs.Area.{put_at}
 use Rattle.chains.specs.Whole.{Whole}
 use Rattle.area_laws.specs.Areas.{put_long}
-use Rattle.block.proofs.Fronts.{part_put}
 
 -- an area as long has as many
 pub whole_as : {a : List ℕ} {n : ℕ} (o : List ℕ) → Whole a n → length o ≡ length a → Whole o n
@@ -16,12 +15,3 @@ whole_as o w e = record { long = e ∙ w.long; many = ap (λ m. m / block_size) 
 
 pub whole_put : {a : List ℕ} {n : ℕ} (b : ℕ) (x : List ℕ) → Whole a n → b < n → length x ≡ block_size → Whole (put_at (block_size * b) x a) n
 whole_put {a} {n} b x w h e = whole_as (put_at (block_size * b) x a) w (put_long (block_size * b) x a (omega (arith, w.long)))
-
--- a block lent from its place on, changed and given back
-pub block_put : (l x y : List ℕ) (b : ℕ) → y ≡ x → length x ≡ block_size
-    → take (b * block_size) l ++ (y ++ drop (b * block_size + block_size - b * block_size) (drop (b * block_size) l)) ≡ put_at (block_size * b) x l
-block_put l x y b e h =
-    let at : b * block_size ≡ block_size * b = omega arith in
-    let size : b * block_size + block_size - b * block_size ≡ block_size = omega arith in
-    ap (λ z. take (b * block_size) l ++ (z ++ drop (b * block_size + block_size - b * block_size) (drop (b * block_size) l))) e
-    ∙ part_put (b * block_size) (b * block_size + block_size - b * block_size) l x (h ∙ sym size) ∙ ap (λ i. put_at i x l) at

@@ -22,8 +22,8 @@ pub returns-in-Refused : goal.returns-in-Refused
 returns-in-Refused c =
     let w = rw c.in-Refused.is at c.judge-judged.ensures in (
       record {
-        puts = puts_of (refused_text c.args.line.now w) (puts_within (omega arith) c.put_refused.ensures);
-        out_long = puts_length c.put_refused.ensures;
+        puts = puts_of (refused_text c.args.line.now w) (puts_within (omega arith) c.put_refused-next.ensures);
+        out_long = puts_length c.put_refused-next.ensures;
         bytes_same = refl;
         numbers_same = refl;
       },

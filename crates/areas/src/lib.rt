@@ -11,7 +11,7 @@ use scope::answers::Placement;
 use scope::tables::Tables;
 
 // The floaters: how many there are, the number of each one's bracket, and which of its copies it is, from 1.
-#[derive(Drop)]
+#[derive(Clone, Copy)]
 pub struct Floaters {
     pub count: usize,
     pub index: [u8; Placement::COPIES],

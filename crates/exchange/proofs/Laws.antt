@@ -129,10 +129,6 @@ growing_on tab lows k f h w a b n order parent n' order' parent' g r =
     e : place order 0 ≡ place order' 0
     e = r.same 0 g.grown.some
 
-pub grew_start : (tab lows : List ℕ) (k f h : ℕ) (w : List ℕ) (n : ℕ) (order parent : List ℕ) → Growing tab lows k f h w n order parent
-    → Grew tab lows k f h w f f n order n order parent
-grew_start tab lows k f h w n order parent g = record { grown = g.grown; more = omega arith; same = λ s l. refl; reach = λ t l m o. absurd (omega arith) }
-
 pub grew_trans : (tab lows : List ℕ) (k f h : ℕ) (w : List ℕ) (t n : ℕ) (order parent : List ℕ) (n' : ℕ) (order' parent' : List ℕ) (n'' : ℕ) (order'' parent'' : List ℕ) → Growing tab lows k f h w n order parent
     → Grew tab lows k f h w f t n order n' order' parent' → Grew tab lows k f h w t (t + 1) n' order' n'' order'' parent'' → Grew tab lows k f h w f (t + 1) n order n'' order'' parent''
 grew_trans tab lows k f h w t n order parent n' order' parent' n'' order'' parent'' g a b =
@@ -149,11 +145,6 @@ grew_trans tab lows k f h w t n order parent n' order' parent' n'' order'' paren
       where
         early : (c : ℕ) × (c < n') × (place order' c ≡ u) → (c : ℕ) × (c < n'') × (place order'' c ≡ u)
         early z = (z.0, omega (arith, z.1, b.more), sym (b.same z.0 z.1) ∙ z.2)
-
-pub grew_cut : (tab lows : List ℕ) (k f h : ℕ) (w : List ℕ) (t t' n : ℕ) (order : List ℕ) (n' : ℕ) (order' parent' : List ℕ) → t' ≤ t
-    → Grew tab lows k f h w f t n order n' order' parent' → Grew tab lows k f h w f t' n order n' order' parent'
-grew_cut tab lows k f h w t t' n order n' order' parent' l g =
-    record { grown = g.grown; more = g.more; same = g.same; reach = λ u a b o. g.reach u a (omega arith) o }
 
 pub stands_well : (tab lows : List ℕ) (k j t : ℕ) (w : List ℕ) → But (may_from tab lows) k j (place w) → t < k → (t ≡ j → ⊥) → place w t < position_limit
 stands_well tab lows k j t w b l n = from_small tab lows t (place w t) (b.fits t l n)

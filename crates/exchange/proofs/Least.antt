@@ -85,14 +85,8 @@ module _ (ok : ℕ → ℕ → Bool) (mark : ℕ → Bool) (k : ℕ) where
       (λ m. inl (record { d = c.d; inside = omega (arith, c.inside); same = c.same; less = c.less }))
       (same? c.d i)
 
-  pub nothing_start : (w : ℕ → ℕ) → Nothing k w
-  nothing_start w u f b = b
-
   pub nothing_step : (i : ℕ) (w : ℕ → ℕ) → Nothing (i + 1) w → ((u : ℕ → ℕ) → Good ok mark k u → Above i w u → ⊥) → Nothing i w
   nothing_step i w n h u f b = ⊎_elim (λ c. c) (λ a. absurd (h u f a)) (either (n u f b))
-
-  pub next_end : (w : ℕ → ℕ) → Nothing 0 w → (u : ℕ → ℕ) → Good ok mark k u → Before k w u → ⊥
-  next_end w n u f b = let z = n u f b in omega (arith, z.inside)
 
   pub next_found : (i : ℕ) (w v : ℕ → ℕ) → i < k → Nothing (i + 1) w → Good ok mark k v → Above i w v
       → ((u : ℕ → ℕ) → Good ok mark k u → Above i w u → Upto k v u) → Next ok mark k w true v

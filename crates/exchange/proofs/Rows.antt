@@ -1,4 +1,4 @@
--- The table as lists of positions, and the numbers of the copies as marks: the list of a floater has exactly the positions where it may stand, in rising order.
+-- The table as lists of positions, and the numbers of the copies as marks: the list of a floater has exactly the positions where it may stand.
 use mathlib.Core.Path.{◌≡◌, sym, ap, ◌∙◌}
 use mathlib.Core.Bool.{true, false}
 use mathlib.Core.List.{List, [], map}
@@ -14,11 +14,9 @@ use Rattle.areas.specs.Floats.{list_in, lists_in}
 use Rattle.scope.specs.Positions.{is_further}
 use Rattle.exchange.specs.Table.{may_in, mark_in}
 use Rattle.exchange.proofs.Laws.{ok_small, ok_is}
-use Rattle.placement_laws.specs.Terms.{Rising, AllRising}
-use Rattle.basics.specs.Each.{In, each_tabled}
+use Rattle.basics.specs.Each.{In}
 use Rattle.basics.specs.Members.{in_keep, keep_in}
 use Rattle.basics.specs.Tabled.{length_tabled, get_d_tabled, in_tabled, tabled_in}
-use Rattle.placement_laws.specs.Lines.{kept_rising}
 
 pub lists_many : (tab : List ℕ) (k : ℕ) → length (lists_in tab k) ≡ k
 unfolding lists_in
@@ -27,14 +25,6 @@ lists_many tab k = length_tabled (list_in tab) 0 k
 pub lists_at : (tab : List ℕ) (k s : ℕ) → s < k → get_or (lists_in tab k) s [] ≡ list_in tab s
 unfolding lists_in
 lists_at tab k s h = get_d_tabled (list_in tab) 0 k s [] h ∙ ap (list_in tab) (zero-add s)
-
-list_rising : (tab : List ℕ) (f : ℕ) → Rising (list_in tab f)
-unfolding list_in
-list_rising tab f = kept_rising (λ x. eqb (get_or tab (f * position_limit + x) 0) 1) 0 position_limit
-
-pub all_rising : (tab : List ℕ) (k : ℕ) → AllRising (lists_in tab k)
-unfolding lists_in
-all_rising tab k = each_tabled Rising (list_in tab) 0 k (λ i l. list_rising tab i)
 
 pub list_may : (tab : List ℕ) (s x : ℕ) → In x (list_in tab s) → may_in tab s x ≡ true
 unfolding list_in

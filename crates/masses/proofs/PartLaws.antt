@@ -10,19 +10,15 @@ use native.Mathlib.Omega.{arith}
 use borrow.Author.Tests.{eqb-true, lt-ltb, le-ltb}
 use lib.Dec.{eqb, ltb}
 use lib.IntN.{ℤ, pos}
-use lib.ListN.{length}
 use Rattle.scope.specs.declared.grammar.Key.TheVariants.{Obs}
-use mir.Syntax.{w64}
-use mir.Val.{to_z, of_z}
-use Rattle.scope.specs.Limits.{bracket_limit, part_limit, decimal_limit}
+use Rattle.scope.specs.Limits.{part_limit}
 use Rattle.scope.specs.Line.{Number, mass, text, reference, composition, Part, Bracket}
 use Rattle.scope.specs.Keys.{key_code}
 use Rattle.scope.specs.Lists.{given, keep, tabled}
 use Rattle.scope.specs.Modifications.{is_key}
 use Rattle.scope.specs.Tables.{millionths}
-use Rattle.scope.specs.Layout.{mass_code, text_code, composition_code, bytes_size, numbers_size, number_in, part_in, bracket_in, decimals_field, key_field, mass_field, parts_field, value_field}
+use Rattle.scope.specs.Layout.{mass_code, text_code, composition_code, number_in, part_in, bracket_in, decimals_field, key_field, mass_field, parts_field, value_field}
 use Rattle.scope.specs.Masses.{value_mass, first_mass, mass_of, stated, mass_or0}
-use Rattle.areas.specs.Bounds.{Small, PartBounds}
 use Rattle.brackets.specs.Row.{Row, row}
 use Rattle.basics.specs.Choice.{by_test}
 use Rattle.basics.specs.Tabled.{tabled_at, tabled_end, tabled_all}
@@ -30,7 +26,6 @@ use Rattle.brackets.specs.Codes.{key_is}
 use Rattle.scope.specs.declared.answers.Mass.{Mass}
 use Rattle.scope.specs.declared.answers.Mass.TheVariants.{Stated, Measured, None}
 use Rattle.masses.specs.Reach.{Reach, ReachPart}
-use Rattle.masses.proofs.Whole.{back}
 use Rattle.masses.specs.Weights.{weighs}
 use Rattle.mass_laws.proofs.Small.{first_cons}
 
@@ -212,36 +207,5 @@ module _ {bs : List ℕ} {ns : List ℤ} {k : ℕ} where
   pub reach_row : Reach bs ns k → Row bs k
   reach_row r = row r.bounds k r.inside
 
-  pub reach_bracket : Reach bs ns k → (bytes_size ≤ length bs) × (k < bracket_limit)
-  reach_bracket r = ((reach_row r).room, (reach_row r).inside)
-
   pub reach_next : {m j : ℕ} → Reach bs ns k → m ≡ parts_field bs k → j < m → ReachPart bs ns k j
   reach_next r e h = record { reach = r; part = rw (← e) h }
-
-module _ {bs : List ℕ} {ns : List ℤ} {k j : ℕ} (r : ReachPart bs ns k j) where
-  few_brackets_lem : k < bracket_limit
-  few_brackets_lem = (reach_row r.reach).inside
-
-  few_parts_lem : j < part_limit
-  few_parts_lem = omega (arith, r.part, (reach_row r.reach).few_parts_lem)
-
-  abbrev bounds : PartBounds bs ns k j
-  bounds = (r.reach.bounds.bracket k r.reach.inside).part j r.part
-
-  pub reach_mass : (numbers_size ≤ length ns) × (k < bracket_limit) × (j < part_limit)
-  reach_mass = (r.reach.bounds.numbers_room, few_brackets_lem, few_parts_lem)
-
-  pub reach_part : (bytes_size ≤ length bs) × (k < bracket_limit) × (j < part_limit)
-  reach_part = (r.reach.bounds.bytes_room, few_brackets_lem, few_parts_lem)
-
-  number_back : {m : ℤ} → m ≡ mass_field ns k j → to_z w64 (of_z w64 m) ≡ m
-  number_back {m} e = back m (rw e (omega (arith, bounds.small)))
-
-  pub reach_decimals : {m : ℤ} {d : ℕ} → m ≡ mass_field ns k j → d ≡ decimals_field bs k j → Small (to_z w64 (of_z w64 m)) × (d ≤ decimal_limit)
-  reach_decimals {m} {d} e f = (rw (number_back e, e) bounds.small, rw f bounds.few_decimals)
-
-  pub mass_is : {x m : ℤ} {d : ℕ} → m ≡ mass_field ns k j → d ≡ decimals_field bs k j → x ≡ millionths (number_in (to_z w64 (of_z w64 m)) d)
-      → x ≡ millionths (number_in (mass_field ns k j) (decimals_field bs k j))
-  mass_is {x} {m} {d} e f g =
-      g ∙ ap (λ z. millionths (number_in z d)) (number_back e ∙ e)
-      ∙ ap (λ n. millionths (number_in (mass_field ns k j) n)) f

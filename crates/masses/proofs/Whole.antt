@@ -1,19 +1,19 @@
 -- Whole numbers of the machine. `omega` reads no ℤ: a size, `nat_abs`, is a ℕ, and what follows is said of sizes. Assumes nothing.
 use mathlib.Core.Path.{◌≡◌, refl, ap, ◌∙◌}
-use Prim.Native.Nat.{ℕ, zero, suc, ◌+◌, ◌-◌, ◌*◌, ◌/◌, ◌^◌, ◌≤◌, ◌<◌}
-use native.Mathlib.Nat.{div-le_self, div-mul-le_self, zero-mul, mul-le-mul}
+use Prim.Native.Nat.{ℕ, zero, suc, ◌-◌, ◌*◌, ◌/◌, ◌^◌, ◌≤◌, ◌<◌}
+use native.Mathlib.Nat.{div-le_self, div-mul-le_self, zero-mul}
 use native.Mathlib.Omega.{arith}
-use lib.IntN.{ℤ, pos, negsuc, nat_abs, neg_ℤ, ◌+ℤ◌, ◌*ℤ◌}
+use lib.IntN.{ℤ, pos, negsuc, nat_abs, neg_ℤ, ◌*ℤ◌}
 use lib.Signed.{quot_z}
 use mir.Syntax.{w64}
 use mir.Val.{SFits, to_z, of_z}
 use mir.ValLaws.{to_z-of_z, to_z_pos}
-use Rattle.scope.specs.Limits.{position_limit, decimal_limit}
+use Rattle.scope.specs.Limits.{decimal_limit}
 use Rattle.scope.specs.Tables.{signed, millionths}
 use Rattle.scope.specs.Layout.{is_negative, number_in}
 use Rattle.tens.proofs.Powers.{power_some, power_few}
 use Rattle.mass_laws.specs.Terms.{mass_limit}
-use Rattle.basics.specs.Wholes.{abs_add, abs_neg, abs_mul, abs_signed}
+use Rattle.basics.specs.Wholes.{abs_neg, abs_signed}
 
 -- a small size fits an `i64`, and is read back from its bits
 pub abs_fits : (z : ℤ) → nat_abs z < 2 ^ 63 → SFits w64 z
@@ -22,45 +22,6 @@ abs_fits (negsuc n) h = record { sfits = omega arith }
 
 pub back : (z : ℤ) → nat_abs z < 2 ^ 63 → to_z w64 (of_z w64 z) ≡ z
 back z h = to_z-of_z w64 z (abs_fits z h)
-
--- ---- a sum and a product, by what the machine reads back
-module _ (a b : ℤ) (h : nat_abs a + nat_abs b < 2 ^ 63) where
-  back_a : to_z w64 (of_z w64 a) ≡ a
-  back_a = back a (omega arith)
-
-  back_b : to_z w64 (of_z w64 b) ≡ b
-  back_b = back b (omega arith)
-
-  pub can_add : SFits w64 (to_z w64 (of_z w64 a) +ℤ to_z w64 (of_z w64 b))
-  can_add = rw (back_a, back_b) (abs_fits (a +ℤ b) (omega (arith, abs_add a b)))
-
-  pub sum_back : to_z w64 (of_z w64 (to_z w64 (of_z w64 a) +ℤ to_z w64 (of_z w64 b))) ≡ a +ℤ b
-  sum_back = rw (back_a, back_b) (back (a +ℤ b) (omega (arith, abs_add a b)))
-
-  -- the same, where both are read from their bits and the sum is stored
-  pub stored_fit : nat_abs (to_z w64 (of_z w64 a)) + nat_abs (to_z w64 (of_z w64 b)) < 2 ^ 63
-  stored_fit = rw (back_a, back_b) h
-
-  pub stored_sum : {r : ℤ} → r ≡ to_z w64 (of_z w64 a) +ℤ to_z w64 (of_z w64 b) → to_z w64 (of_z w64 r) ≡ a +ℤ b
-  stored_sum e = rw e sum_back
-
-module _ (n : ℕ) (m : ℤ) (few : n ≤ position_limit) (small : nat_abs m < mass_limit) where
-  back_n : to_z w64 n ≡ pos n
-  back_n = to_z_pos w64 n (omega arith)
-
-  back_m : to_z w64 (of_z w64 m) ≡ m
-  back_m = back m (omega arith)
-
-  product : nat_abs (pos n *ℤ m) < 2 ^ 63
-  product =
-      let less : nat_abs m ≤ mass_limit = omega arith in
-      omega (arith, abs_mul n m, mul-le-mul few less)
-
-  pub can_times : SFits w64 (to_z w64 n *ℤ to_z w64 (of_z w64 m))
-  can_times = rw (back_n, back_m) (abs_fits (pos n *ℤ m) product)
-
-  pub times_back : to_z w64 (of_z w64 (to_z w64 n *ℤ to_z w64 (of_z w64 m))) ≡ pos n *ℤ m
-  times_back = rw (back_n, back_m) (back (pos n *ℤ m) product)
 
 -- ---- a number to so many decimals
 neg_mul : (n p : ℕ) → neg_ℤ (pos n) *ℤ pos p ≡ neg_ℤ (pos (n * p))

@@ -20,7 +20,7 @@ pub enum Write {
 }
 
 // A count of residues, brackets, floating copies or rows.
-#[derive(Drop)]
+#[derive(Clone, Copy)]
 pub enum Count {
     Is(usize),
     Refused { number: u8, place: usize },
@@ -65,7 +65,7 @@ pub enum Lookup {
 
 // A placement: the position of each floating copy, unused entries 0.
 #[repr(C)]
-#[derive(Drop)]
+#[derive(Clone, Copy)]
 pub struct Placement {
     pub at: [u16; Placement::COPIES],
 }
@@ -96,7 +96,7 @@ pub struct Why {
 
 // The listing in hand: marked fresh, with zeros; or unmarked, with the placement last handed out.
 #[repr(C)]
-#[derive(Drop)]
+#[derive(Clone, Copy)]
 pub struct Listing {
     pub at: [u16; Placement::COPIES],
     pub mark: u8,

@@ -3,7 +3,7 @@ use mathlib.Core.Path.{◌≡◌, refl, sym, ap, ◌∙◌, subst}
 use mathlib.Core.List.{List, [], ◌∷◌, ◌++◌, append_assoc, append-nil}
 use Prim.Native.Nat.{ℕ, zero, suc, ◌+◌, ◌-◌, ◌*◌, ◌≤◌, ◌<◌}
 use native.Mathlib.Omega.{arith}
-use lib.ListN.{length, get_or, take, drop, length-append, length-take, drop_of_length-le}
+use lib.ListN.{length, get_or, take, drop, length-take, drop_of_length-le}
 use lib.Seq.{take_at, drop-append-add, drop-drop}
 use Rattle.scope.specs.Lists.{part, tabled}
 use Rattle.scope.specs.Limits.{block_size}

@@ -92,8 +92,8 @@ module _ {s bs : List ℕ} {ns : List ℤ} {r : Read} {bs' : List ℕ} {ns' : Li
           let z : ◌≡◌ {A = ℕ} 0 1 = cc in
           absurd (omega arith)
 
-  pub read_refused : {number place : ℕ} → r ≡ read_refused number place → outcome s ≡ refused number place
-  read_refused {number} {place} a = go (outcome s) refl
+  pub read_refused_lem : {number place : ℕ} → r ≡ read_refused number place → outcome s ≡ refused number place
+  read_refused_lem {number} {place} a = go (outcome s) refl
     where
       go : (o : Outcome) → outcome s ≡ o → outcome s ≡ refused number place
       go (accepted l) e =

@@ -8,7 +8,7 @@ use types.Logic.{Logic}
 use contract.Lifetimes.{Lfts}
 use contract.Monad.{Fun, fact}
 use contract.Notation.{connectives}
-use Rattle.std.specs.Borrow.{Bor}
+use Rattle.std.specs.Borrow.{Bor, MutBor}
 use Rattle.scope.specs.declared.answers.Placement.{Placement}
 use Rattle.scope.specs.declared.answers.Listing.{Listing}
 use Rattle.scope.specs.declared.answers.Site.{Site}
@@ -90,20 +90,20 @@ module _ {M : Type 1} {𝓤 : Ura M} (𝓛 : Logic 𝓤) (mem : Memory → SProp
 
   -- calls that are lent something to write to, which ends as said
   module _ (κs : Lfts 3) (x : Bor (List ℕ)) (y : Bor (List ℤ)) where
-    pub write_is : (out : Bor (List ℕ)) → ((write.clauses 𝓛 mem run κs (x, (y, (out, tt)))).requires ≡ (λ g. Nothing)) × ((write.clauses 𝓛 mem run κs (x, (y, (out, tt)))).ensures ≡ (λ g r end. fact 𝓤 (WriteSays x.now y.now out.now r end.1.1.0.now)))
+    pub write_is : (out : MutBor (List ℕ)) → ((write.clauses 𝓛 mem run κs (x, (y, (out, tt)))).requires ≡ (λ g. Nothing)) × ((write.clauses 𝓛 mem run κs (x, (y, (out, tt)))).ensures ≡ (λ g r end. fact 𝓤 (WriteSays x.now y.now out.now r end.1.1.0.now)))
     write_is out = (refl, refl)
 
-    pub reached_is : (i : ℕ) (out : Bor (List ℕ)) → ((reached.clauses 𝓛 mem run κs (x, (y, (i, (out, tt))))).requires ≡ (λ g. Nothing)) × ((reached.clauses 𝓛 mem run κs (x, (y, (i, (out, tt))))).ensures ≡ (λ g r end. fact 𝓤 (ReachedSays x.now y.now i out.now r end.1.1.1.0.now)))
+    pub reached_is : (i : ℕ) (out : MutBor (List ℕ)) → ((reached.clauses 𝓛 mem run κs (x, (y, (i, (out, tt))))).requires ≡ (λ g. Nothing)) × ((reached.clauses 𝓛 mem run κs (x, (y, (i, (out, tt))))).ensures ≡ (λ g r end. fact 𝓤 (ReachedSays x.now y.now i out.now r end.1.1.1.0.now)))
     reached_is i out = (refl, refl)
 
-    pub rows_is : (room : Bor (List Site)) → ((rows.clauses 𝓛 mem run κs (x, (y, (room, tt)))).requires ≡ (λ g. Nothing)) × ((rows.clauses 𝓛 mem run κs (x, (y, (room, tt)))).ensures ≡ (λ g r end. fact 𝓤 (RowsSays x.now y.now room.now r end.1.1.0.now)))
+    pub rows_is : (room : MutBor (List Site)) → ((rows.clauses 𝓛 mem run κs (x, (y, (room, tt)))).requires ≡ (λ g. Nothing)) × ((rows.clauses 𝓛 mem run κs (x, (y, (room, tt)))).ensures ≡ (λ g r end. fact 𝓤 (RowsSays x.now y.now room.now r end.1.1.0.now)))
     rows_is room = (refl, refl)
 
-    pub step_is : (l : Bor Listing) → ((step.clauses 𝓛 mem run κs (x, (y, (l, tt)))).requires ≡ (λ g. Nothing)) × ((step.clauses 𝓛 mem run κs (x, (y, (l, tt)))).ensures ≡ (λ g r end. fact 𝓤 (StepSays x.now y.now l.now r end.1.1.0.now)))
+    pub step_is : (l : MutBor Listing) → ((step.clauses 𝓛 mem run κs (x, (y, (l, tt)))).requires ≡ (λ g. Nothing)) × ((step.clauses 𝓛 mem run κs (x, (y, (l, tt)))).ensures ≡ (λ g r end. fact 𝓤 (StepSays x.now y.now l.now r end.1.1.0.now)))
     step_is l = (refl, refl)
 
-    pub read_is : (s : Bor (List ℕ)) → ((read.clauses 𝓛 mem run κs (s, (x, (y, tt)))).requires ≡ (λ g. Nothing)) × ((read.clauses 𝓛 mem run κs (s, (x, (y, tt)))).ensures ≡ (λ g r end. fact 𝓤 (ReadSays s.now x.now y.now r end.1.0.now end.1.1.0.now)))
-    read_is s = (refl, refl)
+  pub read_is : (κs : Lfts 3) (s : Bor (List ℕ)) (x : MutBor (List ℕ)) (y : MutBor (List ℤ)) → ((read.clauses 𝓛 mem run κs (s, (x, (y, tt)))).requires ≡ (λ g. Nothing)) × ((read.clauses 𝓛 mem run κs (s, (x, (y, tt)))).ensures ≡ (λ g r end. fact 𝓤 (ReadSays s.now x.now y.now r end.1.0.now end.1.1.0.now)))
+  read_is κs s x y = (refl, refl)
 
   pub verdict_is : (κs : Lfts 1) (s : Bor (List ℕ)) → ((verdict-on.clauses 𝓛 mem run κs (s, tt)).requires ≡ (λ g. Nothing)) × ((verdict-on.clauses 𝓛 mem run κs (s, tt)).ensures ≡ (λ g r end. fact 𝓤 (VerdictSays s.now r)))
   verdict_is κs s = (refl, refl)
@@ -111,23 +111,23 @@ module _ {M : Type 1} {𝓤 : Ura M} (𝓛 : Logic 𝓤) (mem : Memory → SProp
   pub first_row_is : (κs : Lfts 1) (rs : Bor (List Site)) (n f : ℕ) → ((first_row_lem.clauses 𝓛 mem run κs (rs, (n, (f, tt)))).requires ≡ (λ g. Nothing)) × ((first_row_lem.clauses 𝓛 mem run κs (rs, (n, (f, tt)))).ensures ≡ (λ g r end. fact 𝓤 (LookupSays rs.now n f r)))
   first_row_is κs rs n f = (refl, refl)
 
-  pub floater_brackets_is : (κs : Lfts 4) (x : Bor (List ℕ)) (y : Bor (List ℤ)) (b c : Bor (List ℕ)) → ((floater_brackets.clauses 𝓛 mem run κs (x, (y, (b, (c, tt))))).requires ≡ (λ g. Nothing)) × ((floater_brackets.clauses 𝓛 mem run κs (x, (y, (b, (c, tt))))).ensures ≡ (λ g r end. fact 𝓤 (FloatersSay x.now y.now b.now c.now r end.1.1.0.now end.1.1.1.0.now)))
+  pub floater_brackets_is : (κs : Lfts 4) (x : Bor (List ℕ)) (y : Bor (List ℤ)) (b c : MutBor (List ℕ)) → ((floater_brackets.clauses 𝓛 mem run κs (x, (y, (b, (c, tt))))).requires ≡ (λ g. Nothing)) × ((floater_brackets.clauses 𝓛 mem run κs (x, (y, (b, (c, tt))))).ensures ≡ (λ g r end. fact 𝓤 (FloatersSay x.now y.now b.now c.now r end.1.1.0.now end.1.1.1.0.now)))
   floater_brackets_is κs x y b c = (refl, refl)
 
-  pub pieces_is : (κs : Lfts 2) (t out : Bor (List ℕ)) → ((pieces.clauses 𝓛 mem run κs (t, (out, tt))).requires ≡ (λ g. Nothing)) × ((pieces.clauses 𝓛 mem run κs (t, (out, tt))).ensures ≡ (λ g r end. fact 𝓤 (PiecesSay t.now out.now r end.1.0.now)))
+  pub pieces_is : (κs : Lfts 2) (t : Bor (List ℕ)) (out : MutBor (List ℕ)) → ((pieces.clauses 𝓛 mem run κs (t, (out, tt))).requires ≡ (λ g. Nothing)) × ((pieces.clauses 𝓛 mem run κs (t, (out, tt))).ensures ≡ (λ g r end. fact 𝓤 (PiecesSay t.now out.now r end.1.0.now)))
   pieces_is κs t out = (refl, refl)
 
   -- calls over an area of blocks
-  pub empty_is : (κs : Lfts 1) (a : Bor (List ℕ)) → ((empty.clauses 𝓛 mem run κs (a, tt)).requires ≡ (λ g. Nothing)) × ((empty.clauses 𝓛 mem run κs (a, tt)).ensures ≡ (λ g r end. fact 𝓤 (EmptySays a.now r end.0.now)))
+  pub empty_is : (κs : Lfts 1) (a : MutBor (List ℕ)) → ((empty.clauses 𝓛 mem run κs (a, tt)).requires ≡ (λ g. Nothing)) × ((empty.clauses 𝓛 mem run κs (a, tt)).ensures ≡ (λ g r end. fact 𝓤 (EmptySays a.now r end.0.now)))
   empty_is κs a = (refl, refl)
 
-  pub add_is : (κs : Lfts 2) (a : Bor (List ℕ)) (n : ℕ) (p : Placement) (s : Bor (List ℕ)) → ((add.clauses 𝓛 mem run κs (a, (n, (p, (s, tt))))).requires ≡ (λ g. Nothing)) × ((add.clauses 𝓛 mem run κs (a, (n, (p, (s, tt))))).ensures ≡ (λ g r end. fact 𝓤 (AddSays a.now n p s.now r end.0.now)))
+  pub add_is : (κs : Lfts 2) (a : MutBor (List ℕ)) (n : ℕ) (p : Placement) (s : Bor (List ℕ)) → ((add.clauses 𝓛 mem run κs (a, (n, (p, (s, tt))))).requires ≡ (λ g. Nothing)) × ((add.clauses 𝓛 mem run κs (a, (n, (p, (s, tt))))).ensures ≡ (λ g r end. fact 𝓤 (AddSays a.now n p s.now r end.0.now)))
   add_is κs a n p s = (refl, refl)
 
-  pub fetch_is : (κs : Lfts 2) (a : Bor (List ℕ)) (n : ℕ) (out : Bor (List ℕ)) → ((fetch.clauses 𝓛 mem run κs (a, (n, (out, tt)))).requires ≡ (λ g. Nothing)) × ((fetch.clauses 𝓛 mem run κs (a, (n, (out, tt)))).ensures ≡ (λ g r end. fact 𝓤 (FetchSays a.now n out.now r end.1.1.0.now)))
+  pub fetch_is : (κs : Lfts 2) (a : Bor (List ℕ)) (n : ℕ) (out : MutBor (List ℕ)) → ((fetch.clauses 𝓛 mem run κs (a, (n, (out, tt)))).requires ≡ (λ g. Nothing)) × ((fetch.clauses 𝓛 mem run κs (a, (n, (out, tt)))).ensures ≡ (λ g r end. fact 𝓤 (FetchSays a.now n out.now r end.1.1.0.now)))
   fetch_is κs a n out = (refl, refl)
 
-  pub remove_is : (κs : Lfts 1) (a : Bor (List ℕ)) (n : ℕ) → ((remove.clauses 𝓛 mem run κs (a, (n, tt))).requires ≡ (λ g. Nothing)) × ((remove.clauses 𝓛 mem run κs (a, (n, tt))).ensures ≡ (λ g r end. fact 𝓤 (RemoveSays a.now n r end.0.now)))
+  pub remove_is : (κs : Lfts 1) (a : MutBor (List ℕ)) (n : ℕ) → ((remove.clauses 𝓛 mem run κs (a, (n, tt))).requires ≡ (λ g. Nothing)) × ((remove.clauses 𝓛 mem run κs (a, (n, tt))).ensures ≡ (λ g r end. fact 𝓤 (RemoveSays a.now n r end.0.now)))
   remove_is κs a n = (refl, refl)
 
   pub entry_from_is : (κs : Lfts 1) (a : Bor (List ℕ)) (from : ℕ) → ((entry_from.clauses 𝓛 mem run κs (a, (from, tt))).requires ≡ (λ g. Nothing)) × ((entry_from.clauses 𝓛 mem run κs (a, (from, tt))).ensures ≡ (λ g r end. fact 𝓤 (EntrySays a.now from r)))

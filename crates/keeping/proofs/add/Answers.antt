@@ -16,7 +16,7 @@ use Rattle.keeping.proofs.add.Goals as goal
 pub add_content-requires : goal.add_content-requires
 add_content-requires c =
     let long : ℕ = c.in-Made.length in
-    let room_of : List ℕ = c.make_content-content.new.1.1.0 in
+    let room_of : List ℕ = c.make_content-content.new.room in
     let content-of : (content_for (outcome c.args.line.now) c.args.p.at ≡ good (take long room_of)) × (1 ≤ long) × (long ≤ content_most) = content_made c.args.line.now c.args.p.at room_of c.make_content-content.ensures c.in-Made.is in
     let is = content-of in
     let e = ap length (front_part long room_of) ∙ length-take long room_of in
@@ -24,11 +24,11 @@ add_content-requires c =
 
 pub returns-in-Refused : goal.returns-in-Refused
 returns-in-Refused c =
-    refused_add (content_not c.args.line.now c.args.p.at c.make_content-content.last.1.1.0 c.make_content-content.ensures c.in-Refused.is) refl
+    refused_add (content_not c.args.line.now c.args.p.at c.make_content-content.new.room c.make_content-content.ensures c.in-Refused.is) refl
 
 pub returns-in-Made : goal.returns-in-Made
 returns-in-Made c =
     let long : ℕ = c.in-Made.length in
-    let room_of : List ℕ = c.make_content-content.new.1.1.0 in
+    let room_of : List ℕ = c.make_content-content.new.room in
     let content-of : (content_for (outcome c.args.line.now) c.args.p.at ≡ good (take long room_of)) × (1 ≤ long) × (long ≤ content_most) = content_made c.args.line.now c.args.p.at room_of c.make_content-content.ensures c.in-Made.is in
     content_add (content-of.0 ∙ ap good (sym (front_part long room_of))) c.add_content.ensures

@@ -22,7 +22,7 @@ look-found-requires c = (counted_whole _ c.blocks_in-n.ensures c.if-n-eq0.false,
 pub hand_out-requires : goal.hand_out-requires
 hand_out-requires c =
     let long : ℕ = c.look-found.result.chain.length in
-    let room_of : List ℕ = c.look-found.new.1.1.1.0 in
+    let room_of : List ℕ = c.look-found.new.room in
     let entry_at : Found (blocks_in c.args.area.now) (look c.args.area.now c.args.number) c.look-found.result.chain.many long c.look-found.result.chain.blocks room_of = c.look-found.ensures.is_present c.in-Present.is in
     let found = entry_at in
     let e = ap length (front_part long room_of) ∙ length-take long room_of in
@@ -39,6 +39,6 @@ returns-in-Damaged c =
 pub returns-in-Present : goal.returns-in-Present
 returns-in-Present c =
     let long : ℕ = c.look-found.result.chain.length in
-    let room_of : List ℕ = c.look-found.new.1.1.1.0 in
+    let room_of : List ℕ = c.look-found.new.room in
     let entry_at : Found (blocks_in c.args.area.now) (look c.args.area.now c.args.number) c.look-found.result.chain.many long c.look-found.result.chain.blocks room_of = c.look-found.ensures.is_present c.in-Present.is in
     handed_as (fetch_entry _ _ _ c.blocks_in-n.ensures c.if-n-eq0.false entry_at (front_part long room_of)) c.hand_out.ensures

@@ -8,9 +8,9 @@ returns-then-chain-eq0 c = says_damaged c.not_found.ensures (c.gather-chain.ensu
 
 pub returns-then-is_stated : goal.returns-then-is_stated
 returns-then-is_stated c =
-    says_present refl (entry_found c.gather-chain.ensures c.if-chain-eq0.false (front_part c.gather-chain.result.length c.gather-chain.last.1.1.1.1.0) c.is_stated.ensures c.if-is_stated.true)
+    says_present refl (entry_found c.gather-chain.ensures c.if-chain-eq0.false (front_part c.gather-chain.result.length c.gather-chain.new.room) c.is_stated.ensures c.if-is_stated.true)
 
 pub returns : goal.returns
 returns c =
     says_damaged c.not_found-2.ensures
-    (entry_unstated c.gather-chain.ensures c.if-chain-eq0.false (front_part c.gather-chain.result.length c.gather-chain.last.1.1.1.1.0) c.is_stated.ensures c.if-is_stated.false)
+    (entry_unstated c.gather-chain.ensures c.if-chain-eq0.false (front_part c.gather-chain.result.length c.gather-chain.new.room) c.is_stated.ensures c.if-is_stated.false)

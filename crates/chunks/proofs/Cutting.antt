@@ -5,7 +5,6 @@ use mathlib.Core.List.{List, [], ◌∷◌, ◌++◌, append_assoc}
 use Prim.Native.Nat.{ℕ, suc, ◌+◌, ◌-◌, ◌<◌, ◌≤◌, min}
 use native.Mathlib.Omega.{arith}
 use native.Mathlib.Nat.{sub_self}
-use borrow.Rule.Slice.Part.{mid_len}
 use borrow.Author.Tests.{ne_eqb, leb-true, leb-false, not-false}
 use lib.Dec.{eqb, leb}
 use lib.ListN.{length, take, drop, get_or, length-drop, length-take}
@@ -128,7 +127,7 @@ keeps chunk from end hold held n ys old rest w k l e a same =
     let h = take held hold in
     let t = part from end chunk in
     let hl : length h ≡ held = length-take-le held hold (omega arith) in
-    let tl : length t ≡ end - from = mid_len from end chunk w in
+    let tl : length t ≡ end - from = omega (arith, length-take (end - from) (drop from chunk), length-drop from chunk) in
     let q : h ++ (ys ++ rest) ≡ h ++ (take n t ++ (old ++ rest)) = ap (λ z. h ++ (z ++ rest)) a ∙ ap (λ z. h ++ z) (append_assoc (take n t) old rest) in
     record {
       room = same ∙ l;

@@ -15,12 +15,7 @@ pub fn hwemiduk_next(bytes: &[u8], numbers: &[i64], listing: &mut Listing) -> u8
 }
 
 // The permitted positions as rows, ascending: 0 with their number in `count`, and rows past them as they were; else the number of the refusal (13, 14).
-pub fn hwemiduk_rows(
-    bytes: &[u8],
-    numbers: &[i64],
-    rows: &mut [Site],
-    count: &mut usize,
-) -> u8
+pub fn hwemiduk_rows(bytes: &[u8], numbers: &[i64], rows: &mut [Site], count: &mut usize) -> u8
     ensures { RowsHanded bytes.now numbers.now rows.old count.old result count.new rows.new }
 {
     tell_count(listing::rows(bytes, numbers, rows), count)

@@ -136,12 +136,7 @@ fn tell_listed(l: Listed, block: &mut usize, number: &mut u32) -> u8
 }
 
 // The first sound first block from a block on, and its entry's number: 0 with both; else 26, or 17 where there is none.
-pub fn hwemiduk_blocks_entry(
-    area: &[u8],
-    from: usize,
-    block: &mut usize,
-    number: &mut u32,
-) -> u8
+pub fn hwemiduk_blocks_entry(area: &[u8], from: usize, block: &mut usize, number: &mut u32) -> u8
     ensures { HeadHanded (listed_from area.now from) block.old number.old result block.new number.new }
 {
     let l = keeping::entry_from(area, from);

@@ -91,12 +91,7 @@ pub fn hwemiduk_why_none(
 
 // The canonical line into an output of any length: 0 and how many bytes were written, with those behind them as they were; else 15 and the length needed, or 13
 // or 14, with the output as it was.
-pub fn hwemiduk_write(
-    bytes: &[u8],
-    numbers: &[i64],
-    out: &mut [u8],
-    length: &mut usize,
-) -> u8
+pub fn hwemiduk_write(bytes: &[u8], numbers: &[i64], out: &mut [u8], length: &mut usize) -> u8
     ensures { Written bytes.now numbers.now out.old length.old result length.new out.new }
 {
     let w = calls::write(bytes, numbers, out);
@@ -120,12 +115,7 @@ fn tell_total(t: Total, millionths: &mut i64, place: &mut usize) -> u8
 }
 
 // The total: 0 and the millionths; else 13, 14 or 16, and in `place` how many modifications lack a mass (16) or 0.
-pub fn hwemiduk_total(
-    bytes: &[u8],
-    numbers: &[i64],
-    millionths: &mut i64,
-    place: &mut usize,
-) -> u8
+pub fn hwemiduk_total(bytes: &[u8], numbers: &[i64], millionths: &mut i64, place: &mut usize) -> u8
     ensures { Totalled (totals bytes.now numbers.now) millionths.old place.old result millionths.new place.new }
 {
     let t = calls::total(bytes, numbers);
@@ -201,12 +191,7 @@ fn tell_shown(s: Shown, daltons: &mut f64, missing: &mut usize) -> u8
 }
 
 // The total for display: 0 with the mass and none missing, or with 0.0 and how many lack one; else 13 or 14.
-pub fn hwemiduk_shown(
-    bytes: &[u8],
-    numbers: &[i64],
-    daltons: &mut f64,
-    missing: &mut usize,
-) -> u8
+pub fn hwemiduk_shown(bytes: &[u8], numbers: &[i64], daltons: &mut f64, missing: &mut usize) -> u8
     ensures { Displayed (shows bytes.now numbers.now) daltons.old missing.old result daltons.new missing.new }
 {
     let s = calls::shown(bytes, numbers);

@@ -16,7 +16,12 @@ pub extern "C" fn hwemiduk_next(bytes: &[u8], numbers: &[i64], listing: &mut Lis
 
 // The permitted positions as rows, ascending: 0 with their number in `count`, and rows past them as they were; else the number of the refusal (13, 14).
 #[unsafe(no_mangle)]
-pub extern "C" fn hwemiduk_rows(bytes: &[u8], numbers: &[i64], rows: &mut [Site], count: &mut usize) -> u8
+pub extern "C" fn hwemiduk_rows(
+    bytes: &[u8],
+    numbers: &[i64],
+    rows: &mut [Site],
+    count: &mut usize,
+) -> u8
     ensures { RowsHanded bytes.now numbers.now rows.old count.old result count.new rows.new }
 {
     export::handed::hwemiduk_rows(bytes, numbers, rows, count)
@@ -24,7 +29,13 @@ pub extern "C" fn hwemiduk_rows(bytes: &[u8], numbers: &[i64], rows: &mut [Site]
 
 // The first row of a floater among the first n: 0 with its index and its position; else the number of the refusal (13, 17).
 #[unsafe(no_mangle)]
-pub extern "C" fn hwemiduk_first_row(rows: &[Site], n: usize, floater: u8, index: &mut usize, position: &mut u16) -> u8
+pub extern "C" fn hwemiduk_first_row(
+    rows: &[Site],
+    n: usize,
+    floater: u8,
+    index: &mut usize,
+    position: &mut u16,
+) -> u8
     ensures { LookedUp (looks_up rows.now n floater) index.old position.old result index.new position.new }
 {
     export::handed::hwemiduk_first_row(rows, n, floater, index, position)

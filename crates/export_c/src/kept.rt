@@ -13,7 +13,13 @@ pub extern "C" fn hwemiduk_blocks_empty(area: &mut [u8]) -> u8
 // Adds a line with an allowed placement under a number: 0; else 13 where fewer entries than a placement has are lent, the line's own refusals, 18, 26, 25, 23 or 24,
 // with the place, and the area as it was.
 #[unsafe(no_mangle)]
-pub extern "C" fn hwemiduk_blocks_add(area: &mut [u8], number: u32, placement: &[u16], line: &[u8], place: &mut usize) -> u8
+pub extern "C" fn hwemiduk_blocks_add(
+    area: &mut [u8],
+    number: u32,
+    placement: &[u16],
+    line: &[u8],
+    place: &mut usize,
+) -> u8
     ensures { AddHanded area.old number placement.now line.now place.old result place.new area.new }
 {
     export::kept::hwemiduk_blocks_add(area, number, placement, line, place)
@@ -22,7 +28,13 @@ pub extern "C" fn hwemiduk_blocks_add(area: &mut [u8], number: u32, placement: &
 // Fetches the entry under a number: 0 with its placement in the first entries lent, its line at the front of an output of any length and the line's length; else 13
 // where fewer entries than a placement has are lent, 26, 25 or 22, or 15 with the length needed, and all else as it was.
 #[unsafe(no_mangle)]
-pub extern "C" fn hwemiduk_blocks_fetch(area: &[u8], number: u32, placement: &mut [u16], out: &mut [u8], needed: &mut usize) -> u8
+pub extern "C" fn hwemiduk_blocks_fetch(
+    area: &[u8],
+    number: u32,
+    placement: &mut [u16],
+    out: &mut [u8],
+    needed: &mut usize,
+) -> u8
     ensures { FetchHanded area.now number placement.old out.old needed.old result placement.new out.new needed.new }
 {
     export::kept::hwemiduk_blocks_fetch(area, number, placement, out, needed)
@@ -38,7 +50,12 @@ pub extern "C" fn hwemiduk_blocks_remove(area: &mut [u8], number: u32) -> u8
 
 // The first sound first block from a block on, and its entry's number: 0 with both; else 26, or 17 where there is none.
 #[unsafe(no_mangle)]
-pub extern "C" fn hwemiduk_blocks_entry(area: &[u8], from: usize, block: &mut usize, number: &mut u32) -> u8
+pub extern "C" fn hwemiduk_blocks_entry(
+    area: &[u8],
+    from: usize,
+    block: &mut usize,
+    number: &mut u32,
+) -> u8
     ensures { HeadHanded (listed_from area.now from) block.old number.old result block.new number.new }
 {
     export::kept::hwemiduk_blocks_entry(area, from, block, number)
@@ -46,7 +63,14 @@ pub extern "C" fn hwemiduk_blocks_entry(area: &[u8], from: usize, block: &mut us
 
 // How many blocks of an area are free, first and further ones, of no such kind, and unsound: 0 with all five; else 26.
 #[unsafe(no_mangle)]
-pub extern "C" fn hwemiduk_blocks_survey(area: &[u8], free: &mut usize, first: &mut usize, further: &mut usize, other: &mut usize, unsound: &mut usize) -> u8
+pub extern "C" fn hwemiduk_blocks_survey(
+    area: &[u8],
+    free: &mut usize,
+    first: &mut usize,
+    further: &mut usize,
+    other: &mut usize,
+    unsound: &mut usize,
+) -> u8
     ensures { Surveyed (survey_said area.now) free.old first.old further.old other.old unsound.old result free.new first.new further.new other.new unsound.new }
 {
     export::kept::hwemiduk_blocks_survey(area, free, first, further, other, unsound)

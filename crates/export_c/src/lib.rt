@@ -20,7 +20,12 @@ pub extern "C" fn hwemiduk_verdict(line: &[u8], place: &mut usize) -> u8
 // Reads any bytes into the two areas: 0 where the line is accepted, with its tables in the areas and what lies past the fixed sizes as it was; else the number of
 // the refusal, with the place in `place` and the areas as they were.
 #[unsafe(no_mangle)]
-pub extern "C" fn hwemiduk_read(line: &[u8], bytes: &mut [u8], numbers: &mut [i64], place: &mut usize) -> u8
+pub extern "C" fn hwemiduk_read(
+    line: &[u8],
+    bytes: &mut [u8],
+    numbers: &mut [i64],
+    place: &mut usize,
+) -> u8
     ensures { Exported line.now bytes.old numbers.old place.old result place.new bytes.new numbers.new }
 {
     export::hwemiduk_read(line, bytes, numbers, place)

@@ -13,10 +13,10 @@ loop-i-init c = copied_start
 
 pub loop-i-preserved : goal.loop-i-preserved
 loop-i-preserved c =
-    let long : length c.args.t1 ≡ copy_limit = search rules in
+    let long : length c.args.at ≡ copy_limit = search rules in
     copied_more 0 c.loop-i.invariant c.loop-i-test.true (omega arith) c.requires
 
 pub returns : goal.returns
 returns c =
-    let long : length c.args.t1 ≡ copy_limit = search rules in
-    copied_all c.loop-i.invariant c.loop-i-test.false ∙ laid_all c.args.t1 c.args.placement.now long
+    let long : length c.args.at ≡ copy_limit = search rules in
+    copied_all c.loop-i.invariant c.loop-i-test.false ∙ laid_all c.args.at c.args.placement.now long

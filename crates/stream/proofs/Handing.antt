@@ -1,21 +1,21 @@
--- Laws of what is handed over: it is owed, a whole chunk is taken in piece by piece, and the input ends.
+-- Laws of what is handed over: it is owed, a whole chunk is taken in piece by piece, and a write fails.
 use mathlib.Core.Path.{◌≡◌, refl, sym, ap, ◌∙◌}
-use mathlib.Core.Bool.{Bool, true, false, cond, false≢true}
+use mathlib.Core.Bool.{Bool, true, false, false≢true}
 use mathlib.Core.List.{List, ◌++◌}
 use Prim.Native.Nat.{ℕ, ◌+◌, ◌-◌, ◌*◌, ◌<◌, ◌≤◌}
 use native.Mathlib.Omega.{arith}
 use lib.IntN.{ℤ}
 use lib.ListN.{length, take, length-append}
 use lib.Seq.{take-add, take_all, length-take-le}
-use Rattle.chunks.specs.Feeding.{Between, holding, after, put, last_put, last_refused, part}
+use Rattle.chunks.specs.Feeding.{Between, holding, after, put, part}
 use Rattle.chunks.specs.Laws.{after_append, put_append}
 use Rattle.chunks.specs.Lent.{output_limit, Lent, Ready}
 use Rattle.chunks.specs.Puts.{Fronts, Feeds}
 use Rattle.chunks.proofs.Room.{SameLong, same_long, long_twice}
 use Rattle.stream.specs.declared.End.{End}
 use Rattle.stream.specs.declared.End.TheVariants.{Whole, Unread, Unwritten}
-use Rattle.stream.specs.Owed.{Owed, OwedLast}
-use Rattle.stream.specs.Turns.{Drains, ClosesAt}
+use Rattle.stream.specs.Owed.{Owed}
+use Rattle.stream.specs.Turns.{Drains}
 
 -- a text that stands at the front has the length that is told
 front_length : {t out outs : List ℕ} {n : ℕ} → Fronts t out outs n → n ≡ length t
@@ -133,17 +133,3 @@ drains_lost ends h =
       taken = λ e. absurd (false≢true e);
       lost = λ _ e. unwritten e;
     }
-
--- ---- the end of the input
-pub owed_last : {number : ℕ} {hold : List ℕ} {held : ℕ} {out outs : List ℕ} {n : ℕ} → Fronts (last_put number (take held hold)) out outs n
-    → OwedLast number hold held outs n
-owed_last f = record { fits = f.fits; text = f.front }
-
-pub closes_whole : {number refused : ℕ} {hold : List ℕ} {held : ℕ} {out outs : List ℕ} {n : ℕ} {so : Bool} {one took : ℕ}
-    → Fronts (last_put number (take held hold)) out outs n × (so ≡ last_refused (take held hold)) → (one ≡ cond so 1 0) × (one ≤ 1)
-    → took ≤ n → n ≤ took → ClosesAt number refused hold held number (refused + one) took false Whole
-closes_whole {refused = refused} f o a z =
-    record { same = refl; over = refl; taken = λ _. omega (arith, front_length f.0); counted = λ _. ap (λ y. refused + y) (o.0 ∙ ap (λ y. cond y 1 0) f.1) }
-
-pub closes_lost : {number refused : ℕ} {hold : List ℕ} {held total took : ℕ} → ClosesAt number refused hold held number total took false Unwritten
-closes_lost = record { same = refl; over = refl; taken = λ e. absurd (unwritten e); counted = λ e. absurd (unwritten e) }

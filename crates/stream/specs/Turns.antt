@@ -1,5 +1,6 @@
 -- One read, and what comes of it: a whole chunk taken in, the end of the input, or a failure.
-use Rattle.std.specs.Prelude.{◌≡◌, Bool, true, false, List, ℕ, ◌+◌, ◌≤◌, ℤ, length, take}
+use Rattle.std.specs.Prelude.{◌≡◌, Bool, true, false, List, Option, ℕ, ◌+◌, ◌<◌, ◌≤◌, ℤ, length, take}
+use Rattle.std.specs.Io.KnownBytes.{Consumes, IsAtEnd, Keeps}
 use Rattle.chunks.specs.Feeding.{holding, after, put, finished, refused_at_end}
 use Rattle.chunks.specs.Lent.{Lent, Ready}
 use Rattle.stream.specs.declared.End.{End}
@@ -15,6 +16,11 @@ read_limit = 8192
 abbrev pub Received : ℕ → Got → Type 0
 Received room (Came n) = n ≤ room
 Received room Failed = Unit {0}
+
+-- what a read brought was next in the input, where that is known, and where it brought nothing, the input is at its end; one that failed took nothing
+abbrev pub Brought : Option (List ℕ) → Option (List ℕ) → List ℕ → Got → Type 0
+Brought old new room (Came n) = Consumes old new (take n room) × (n ≡ 0 → 0 < length room → IsAtEnd new)
+Brought old new room Failed = Keeps old new
 
 -- a whole chunk is taken in, and all that is put out for it was taken; unless a write failed
 pub record Drains (chunk : List ℕ) (number refused : ℕ) (hold : List ℕ) (held line total : ℕ) (holds : List ℕ) (n sent : ℕ) (more : Bool) (end : End) : Type 0 where

@@ -1,27 +1,33 @@
 // The register program: standard input is read in chunks, and the entries of its lines go to standard output.
 //
-// What is said of the bytes that the program reads and writes. `hand` and `hand_last` alone write to standard output, and each asks that the bytes
-// handed over are exactly those that the definitions put out, in the state before, for the bytes just taken in (`Owed`, `OwedLast`); every caller proves
-// it. `turn` says that the state goes on by the bytes that the room holds from the read, and that as many bytes were taken as are put out for them. Pieces
-// owed so, one behind the other from the start, are `register` of what was read (specs/Whole.antt, `handed_over`). That `hand` is called once for each
-// part, and `hand_last` once, is to be read in `drain` and `close`: no contract can speak of a call. The state counts the refused lines too, and at the end
-// of the input there are as many as among the lines of what was read (`refused_in_one`). Of the system it is assumed that a read leaves at the
-// front of the room what it answers for, and that a write takes the front of what it is handed, in order, as its answer counts.
+// The streams are whatever reads and writes (`Read`, `Write`); main hands over the three of the process. What is said of the bytes that the program reads and
+// writes. `receive` says that what it brought was next in the input, and `send` that the bytes which it counts stand behind what the output held, wherever the
+// type of a stream knows its bytes; of the three of the process nothing is known, and of the system it is assumed that a read leaves at the front of the room
+// what it answers for, and that a write takes the front of what it is handed, in order, as its answer counts. `hand` and `hand_last` alone write to the
+// output, and each asks that the bytes handed over are exactly those that the definitions put out, in the state before, for the bytes just taken in (`Owed`,
+// `OwedLast`); every caller proves it. `turn` says that the state goes on by the bytes that the room holds from the read, and that as many bytes were taken as
+// are put out for them. Pieces owed so, one behind the other from the start, are `register` of what was read (specs/Whole.antt, `handed_over`). That `hand` is
+// called once for each part, and `hand_last` once, is to be read in `drain` and `close`. The state counts the refused lines too, and at the end of the input
+// there are as many as among the lines of what was read (`refused_in_one`).
 #![tactic(auto)]
 
-ghost use Rattle.std.specs.Prelude.{◌≡◌, ◌+◌, ◌<◌, ◌≤◌, length, take};
+ghost use Rattle.std.specs.Prelude.{◌≡◌, ◌+◌, ◌<◌, ◌≤◌, drop, length, take};
+ghost use Rattle.std.specs.Io.KnownBytes.{Appends};
 ghost use Rattle.chunks.specs.Lent.{number_limit, output_limit, sheet_of, Ready};
 ghost use Rattle.chunks.specs.Puts.{Fronts};
 ghost use Rattle.stream.specs.Owed.{Owed, OwedLast};
 ghost use Rattle.stream.specs.Told.{line_ends, notice_room, noticed};
-ghost use Rattle.stream.specs.Turns.{read_limit, Received, Drains, ClosesAt, Turns};
+ghost use Rattle.stream.specs.Turns.{read_limit, Received, Brought, Drains, ClosesAt, Turns};
 
 use bounds::copy_bytes;
 use chunks::{HOLD, OUTPUT, feed, finish, one_if};
 use entries::NEWLINE;
-use libc::{STDERR_FILENO, STDIN_FILENO, STDOUT_FILENO};
 use scope::tables::Tables;
 use sheet::Sheet;
+use std::io::{Error, ErrorKind, Read, Write};
+use std::rt::Clock;
+use std::thread;
+use std::time::Duration;
 
 // So many bytes are read at once, at most.
 const READ: usize = 8192;
@@ -29,7 +35,7 @@ const READ: usize = 8192;
 // More reads than any run makes: at a million a second, 35 years.
 const TURNS: u64 = 1 << 50;
 
-// So often in a row is a call made that is interrupted or would block: days, at a million a second.
+// So often in a row is a call made that is interrupted or would block: days, at a million a second. Where it would block, others run first, and it is years.
 const PATIENCE: u64 = 1 << 40;
 
 // How reading ended: with the input, with a read or with a write that failed.
@@ -52,49 +58,54 @@ struct Kept {
     end: End,
 }
 
-// ---- the system calls
+// ---- the streams
 
 // Whether a call that failed is to be made again: it was interrupted; or it would have blocked, and then others run first.
-fn again() -> bool {
-    let e = os::errno();
-    if e == libc::EINTR {
-        return true;
+fn again<C: Clock>(clock: &C, error: &Error) -> bool {
+    match error.kind() {
+        ErrorKind::Interrupted => true,
+        ErrorKind::WouldBlock => {
+            thread::sleep(clock, Duration::ZERO);
+            true
+        }
+        _ => false,
     }
-    if e == libc::EAGAIN {
-        libc::sched_yield();
-        return true;
-    }
-    false
 }
 
 // How many bytes a write took of those from a place up to another; none, where it failed.
-fn send_some(to: i32, text: &[u8], from: usize, end: usize) -> usize
+fn send_some<W: Write, C: Clock>(
+    clock: &C,
+    to: &mut W,
+    text: &[u8],
+    from: usize,
+    end: usize,
+) -> usize
     requires { (from ≤ end) × (end ≤ length text.now) }
-    ensures { from + result ≤ end }
+    ensures within { from + result ≤ end }
+    ensures written { Appends (W.contents to.old) (W.contents to.new) (take result (drop from text.now)) }
 {
-    let mut tries: u64 = PATIENCE;
-    while tries > 0 {
-        let rest = &text[from..end];
-        let got = libc::write(to, rest);
-        if got >= 0 {
-            return io::count(got, rest);
+    for _ in 0..PATIENCE {
+        match to.write(&text[from..end]) {
+            Ok(got) => return got,
+            Err(error) => {
+                if !again(clock, &error) {
+                    return 0;
+                }
+            }
         }
-        if !again() {
-            return 0;
-        }
-        tries -= 1;
     }
     0
 }
 
 // How many of the first n bytes were taken: all of them, where no write failed.
-fn send(to: i32, text: &[u8], n: usize) -> usize
+fn send<W: Write, C: Clock>(clock: &C, to: &mut W, text: &[u8], n: usize) -> usize
     requires { n ≤ length text.now }
-    ensures { result ≤ n }
+    ensures within { result ≤ n }
+    ensures written { Appends (W.contents to.old) (W.contents to.new) (take result text.now) }
 {
     let mut done: usize = 0;
     while done < n {
-        let got = send_some(to, text, done, n);
+        let got = send_some(clock, to, text, done, n);
         if got == 0 {
             return done;
         }
@@ -103,9 +114,11 @@ fn send(to: i32, text: &[u8], n: usize) -> usize
     done
 }
 
-// The entries of the lines that end in a part of a chunk, to standard output: the first n bytes of the output, which are all that is put out for that
+// The entries of the lines that end in a part of a chunk, to the output: the first n bytes of what was put out, which are all that is put out for that
 // part. How many were taken.
-fn hand(
+fn hand<W: Write, C: Clock>(
+    clock: &C,
+    output: &mut W,
     chunk: &[u8],
     from: usize,
     next: usize,
@@ -117,17 +130,27 @@ fn hand(
     n: usize,
 ) -> usize
     requires { Owed chunk.now from next number refused hold.now held out.now n }
-    ensures { result ≤ n }
+    ensures within { result ≤ n }
+    ensures written { Appends (W.contents output.old) (W.contents output.new) (take result out.now) }
 {
-    send(STDOUT_FILENO, out, n)
+    send(clock, output, out, n)
 }
 
 // The same at the end of the input.
-fn hand_last(number: u64, hold: &[u8], held: usize, out: &[u8], n: usize) -> usize
+fn hand_last<W: Write, C: Clock>(
+    clock: &C,
+    output: &mut W,
+    number: u64,
+    hold: &[u8],
+    held: usize,
+    out: &[u8],
+    n: usize,
+) -> usize
     requires { OwedLast number hold.now held out.now n }
-    ensures { result ≤ n }
+    ensures within { result ≤ n }
+    ensures written { Appends (W.contents output.old) (W.contents output.new) (take result out.now) }
 {
-    send(STDOUT_FILENO, out, n)
+    send(clock, output, out, n)
 }
 
 // What a read brought: so many bytes at the front of the room, or nothing, as it failed.
@@ -137,19 +160,19 @@ enum Got {
     Failed,
 }
 
-fn receive(room: &mut [u8]) -> Got
-    ensures { Received (length room.old) result }
+fn receive<R: Read, C: Clock>(clock: &C, input: &mut R, room: &mut [u8]) -> Got
+    ensures fits { Received (length room.old) result }
+    ensures brought { Brought (R.remaining input.old) (R.remaining input.new) room.new result }
 {
-    let mut tries: u64 = PATIENCE;
-    while tries > 0 {
-        let got = libc::read(STDIN_FILENO, room);
-        if got >= 0 {
-            return Got::Came(io::count(got, room));
+    for _ in 0..PATIENCE {
+        match input.read(room) {
+            Ok(got) => return Got::Came(got),
+            Err(error) => {
+                if !again(clock, &error) {
+                    return Got::Failed;
+                }
+            }
         }
-        if !again() {
-            return Got::Failed;
-        }
-        tries -= 1;
     }
     Got::Failed
 }
@@ -182,23 +205,32 @@ fn notice(words: &[u8], number: u64, out: &mut [u8]) -> usize
 }
 
 // A notice to standard error. Whether it is taken is not asked.
-fn say(words: &[u8], number: u64, out: &[u8], n: usize)
+fn say<W: Write, C: Clock>(
+    clock: &C,
+    errors: &mut W,
+    words: &[u8],
+    number: u64,
+    out: &[u8],
+    n: usize,
+)
     requires { (n ≤ length out.now) × (take n out.now ≡ noticed words.now number) }
 {
-    send(STDERR_FILENO, out, n);
+    send(clock, errors, out, n);
 }
 
-fn tell(words: &[u8], number: u64, out: &mut [u8])
+fn tell<W: Write, C: Clock>(clock: &C, errors: &mut W, words: &[u8], number: u64, out: &mut [u8])
     requires { (length words.now + notice_room ≤ length out.old) × (length out.old ≤ output_limit) }
 {
     let n = notice(words, number, out);
-    say(words, number, out, n);
+    say(clock, errors, words, number, out, n);
 }
 
 // ---- the program
 
 // Takes a whole chunk in and hands over what it ends, piece by piece.
-fn drain(
+fn drain<W: Write, C: Clock>(
+    clock: &C,
+    output: &mut W,
     chunk: &[u8],
     number: u64,
     refused: u64,
@@ -229,7 +261,9 @@ fn drain(
         );
         let next = fed.next;
         let put = fed.put;
-        let taken = hand(chunk, from, next, line, total, hold, n, out, put);
+        let taken = hand(
+            clock, output, chunk, from, next, line, total, hold, n, out, put,
+        );
         if taken < put {
             return Kept {
                 number: line + lines_in(out, taken),
@@ -257,7 +291,9 @@ fn drain(
 }
 
 // The input is at its end, and a line that is begun ends with it.
-fn close(
+fn close<W: Write, C: Clock>(
+    clock: &C,
+    output: &mut W,
     number: u64,
     refused: u64,
     hold: &[u8],
@@ -279,7 +315,7 @@ fn close(
         number, hold, held, letters, sections, heads, parts, masses, scores, bytes, numbers, out,
     );
     let put = last.next;
-    let taken = hand_last(number, hold, held, out, put);
+    let taken = hand_last(clock, output, number, hold, held, out, put);
     if taken < put {
         return Kept {
             number,
@@ -302,7 +338,9 @@ fn close(
 }
 
 // What a read brought is taken in; where it brought nothing, that is all.
-fn take_in(
+fn take_in<W: Write, C: Clock>(
+    clock: &C,
+    output: &mut W,
     room: &[u8],
     n: usize,
     number: u64,
@@ -324,11 +362,13 @@ fn take_in(
 {
     if n == 0 {
         return close(
-            number, refused, hold, held, letters, sections, heads, parts, masses, scores, bytes,
-            numbers, out,
+            clock, output, number, refused, hold, held, letters, sections, heads, parts, masses,
+            scores, bytes, numbers, out,
         );
     }
     drain(
+        clock,
+        output,
         &room[..n],
         number,
         refused,
@@ -347,7 +387,10 @@ fn take_in(
 }
 
 // One read. A line that is begun when a read fails is not answered: nothing says that it has ended.
-fn turn(
+fn turn<R: Read, W: Write, C: Clock>(
+    clock: &C,
+    input: &mut R,
+    output: &mut W,
     room: &mut [u8],
     number: u64,
     refused: u64,
@@ -366,11 +409,11 @@ fn turn(
     requires { (length room.old ≤ read_limit) × (number + read_limit + output_limit ≤ number_limit) × Ready hold.old held (sheet_of letters.old sections.old heads.old parts.old masses.old scores.old) bytes.old numbers.old out.old × (refused < number) }
     ensures { Turns room.new number refused hold.old held result.number result.refused hold.new result.held (sheet_of letters.new sections.new heads.new parts.new masses.new scores.new) bytes.new numbers.new out.new result.sent result.more result.end }
 {
-    let got = receive(room);
+    let got = receive(clock, input, room);
     match got {
         Got::Came(n) => take_in(
-            room, n, number, refused, hold, held, letters, sections, heads, parts, masses, scores,
-            bytes, numbers, out,
+            clock, output, room, n, number, refused, hold, held, letters, sections, heads, parts,
+            masses, scores, bytes, numbers, out,
         ),
         Got::Failed => Kept {
             number,
@@ -384,7 +427,10 @@ fn turn(
 }
 
 // Reads to the end of the input. A proved loop has to end, and nothing says that the input does: so the loop counts its turns down.
-fn serve(
+fn serve<R: Read, W: Write, C: Clock>(
+    clock: &C,
+    input: &mut R,
+    output: &mut W,
     room: &mut [u8],
     hold: &mut [u8],
     letters: &mut [u8],
@@ -406,8 +452,8 @@ fn serve(
     let mut turns: u64 = TURNS;
     while turns > 0 {
         let kept = turn(
-            room, number, refused, hold, held, letters, sections, heads, parts, masses, scores,
-            bytes, numbers, out,
+            clock, input, output, room, number, refused, hold, held, letters, sections, heads,
+            parts, masses, scores, bytes, numbers, out,
         );
         if !kept.more {
             return kept;
@@ -428,17 +474,22 @@ fn serve(
 }
 
 // How many lines of the whole input were refused, where there are any. A program has no status: who wants to know looks here.
-fn tell_refused(refused: u64, out: &mut [u8])
+fn tell_refused<W: Write, C: Clock>(clock: &C, errors: &mut W, refused: u64, out: &mut [u8])
     requires { length out.old ≡ output_limit }
 {
     if refused > 0 {
-        tell(b"register: lines refused: ", refused, out);
+        tell(clock, errors, b"register: lines refused: ", refused, out);
     }
 }
 
-// The register program: the lines of standard input, and their entries to standard output. At the end a line to standard error says how many lines were
-// refused, where there are any; or, where a read or a write fails for good, after which line what was read, or what is out, ends.
-pub fn run() {
+// The register program: the lines of the input, and their entries to the output. At the end a line to the third stream, standard error, says how many lines
+// were refused, where there are any; or, where a read or a write fails for good, after which line what was read, or what is out, ends.
+pub fn run<R: Read, W: Write, E: Write, C: Clock>(
+    clock: &C,
+    input: &mut R,
+    output: &mut W,
+    errors: &mut E,
+) {
     let mut room = [0u8; READ];
     let mut hold = [0u8; HOLD];
     let mut letters = [0u8; Tables::RESIDUES];
@@ -451,6 +502,9 @@ pub fn run() {
     let mut numbers = [0i64; Tables::NUMBERS];
     let mut out = [0u8; OUTPUT];
     let last = serve(
+        clock,
+        input,
+        output,
         &mut room,
         &mut hold,
         &mut letters,
@@ -466,13 +520,17 @@ pub fn run() {
     let line = last.number - 1;
     let end = last.end;
     match end {
-        End::Whole => tell_refused(last.refused, &mut out),
+        End::Whole => tell_refused(clock, errors, last.refused, &mut out),
         End::Unread => tell(
+            clock,
+            errors,
             b"register: the input could not be read: it ends after line ",
             line,
             &mut out,
         ),
         End::Unwritten => tell(
+            clock,
+            errors,
             b"register: the output could not be written: it ends after line ",
             line,
             &mut out,

@@ -1,0 +1,6 @@
+-- A read that fails takes nothing.
+use Rattle.std.specs.Io.KnownBytes.{Keeps}
+use Rattle.stream.proofs.receive.Given as goal
+
+abbrev pub invariant-loop : goal.invariant-loop
+invariant-loop g l = Keeps (g.R.Read.remaining l.initial.input) (g.R.Read.remaining l.input)

@@ -1,0 +1,18 @@
+-- `stream::turn` meets its contract: a read that brought something, or nothing, or failed. Assumes nothing.
+use mathlib.Core.Path.{◌≡◌}
+use native.Mathlib.Omega.{arith}
+use lib.ListN.{length}
+use borrow.Author.Rules.{rules}
+use Rattle.stream.proofs.Turning.{came_fits, turns_failed}
+use Rattle.stream.proofs.turn.Goals as goal
+
+pub take_in-requires : goal.take_in-requires
+take_in-requires g c =
+    let same : length c.receive-got.new.room ≡ length c.args.room.now = search rules in
+    (came_fits c.in-Came.is c.receive-got.ensures.fits same, omega (arith, c.requires.0, same), c.requires.1, c.requires.2, c.requires.3)
+
+pub returns-in-Came : goal.returns-in-Came
+returns-in-Came g c = c.take_in.ensures
+
+pub returns-in-Failed : goal.returns-in-Failed
+returns-in-Failed g c = turns_failed

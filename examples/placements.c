@@ -1,7 +1,6 @@
 /*
  * Lists the placements of a line with their ledgers, and its total: placements 'M[+16#a]C[#a]'. Copies of one bracket ([+1]^2?AC) stand in ascending order. Where there is no
- * placement, it names the floaters, counted from 1, that have too few positions: placements '[+1]^3?A'. Where there is no total, it names the brackets with only a measured mass:
- * placements 'A[Obs:+1]'.
+ * total, it names the brackets with only a measured mass: placements 'A[Obs:+1]'.
  */
 #include <hwemiduk.h>
 #include <inttypes.h>
@@ -38,15 +37,6 @@ int main(int argc, char **argv)
             printf(" %zu without a stated mass", missing);
         }
         printf("\n");
-    }
-    uint8_t competing[HWEMIDUK_COPIES];
-    size_t count;
-    hwemiduk_why_none(HWEMIDUK_OF(&tables), competing, HWEMIDUK_COPIES, &count);
-    if (count > 0) {
-        printf("no placement: floater%s", count == 1 ? "" : "s");
-        for (size_t i = 0; i < count; i++)
-            printf(" %d", competing[i]);
-        printf(count == 1 ? " has no position\n" : " have too few positions\n");
     }
     int64_t total;
     if (hwemiduk_total(HWEMIDUK_OF(&tables), &total, &missing) == HWEMIDUK_OK) {

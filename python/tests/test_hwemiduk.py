@@ -206,21 +206,6 @@ class Vectors(unittest.TestCase):
                 met += 1
         self.assertGreater(met, 50 // SHARE)
 
-    def test_pictures(self):
-        """A row for the residues and one for each floater; where there is no placement also marks and a row in words, and nowhere else."""
-        for p, outcome in self.accepted:
-            rows = [f"  n{p.residues}c"]
-            for number, floater in enumerate(p.floaters, 1):
-                permitted = [at for row, at in outcome["rows"] if row == number]
-                rows.append(f"{number} {''.join('o' if at in permitted else '.' for at in range(outcome['res'] + 2))}   {floater.bracket}")
-            picture = p.picture().split("\n")
-            if outcome["placements"]:
-                self.assertEqual(picture, rows)
-            else:
-                self.assertTrue(picture[-1].startswith("no placement: "), p)
-                self.assertEqual([row[:1] + " " + row[2:] for row in picture[:-1]], rows)
-                self.assertEqual([int(row[0]) for row in picture[:-1] if row[1] == "!"], list(p.why_none()))
-
     def test_ledgers(self):
         for p, outcome in self.accepted:
             if outcome["ledger"] is not None:
@@ -514,29 +499,10 @@ class Tables(unittest.TestCase):
                 "  .x..   <[+1]@K>",
                 "  ....   <[x]@W>",
                 "  x..x   <[y]@C-term,N-term>",
-                "1!..o.   [+2]",
-                "2!..o.   [+3#a]",
-                "no placement: 1 and 2 have 1 position together",
+                "1 ..o.   [+2]",
+                "2 ..o.   [+3#a]",
             ],
         )
-
-    def test_picture_without_a_placement(self):
-        """The floaters that say why are marked, and the columns stay."""
-        for line, rows in {
-            "[+1]^3?A": ["  nAc", "1!.o.   [+1]", "2!.o.   [+1]", "3 .o.   [+1]", "no placement: 1 and 2 have 1 position together"],
-            "[+1]?A[+2]": ["  nAc", "1!...   [+1]", "no placement: 1 has no position"],
-            "[+1]^3?A[+2#a][+9]C": ["  nACc", "1 ..o.   [+1]", "2 ..o.   [+1]", "3 ..o.   [+1]", "4!....   [+2#a]", "no placement: 4 has no position"],
-            "(AC)[+1][+2][+3]": ["  nACc", "1!.oo.   [+1]", "2!.oo.   [+2]", "3!.oo.   [+3]", "no placement: 1, 2 and 3 have 2 positions together"],
-            "<[+9]@K>[+1#a][+2#b]?K[#a][#b]A[#a][#b]": [
-                "  nKAc",
-                "  .x..   <[+9]@K>",
-                "1!..o.   [+1#a]",
-                "2!..o.   [+2#b]",
-                "no placement: 1 and 2 have 1 position together",
-            ],
-        }.items():
-            with self.subTest(line):
-                self.assertEqual(read(line).picture().split("\n"), rows)
 
     def test_numbers(self):
         number = read("A[-1.50]").brackets[0].parts[0].mass

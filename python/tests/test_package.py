@@ -372,10 +372,6 @@ class Commands(unittest.TestCase):
             ],
         )
         self.assertIn("a placement: there is none\n", self.run_it("show", "[+1]^2?A")[1])
-        self.assertEqual(
-            self.run_it("show", "[+1][+2]?A[+3]")[1].split("\n")[-6:],
-            ["      nAc", "    1!...   [+1]", "    2 ...   [+2]", "    no placement: 1 has no position", "a placement: there is none", ""],
-        )
         self.assertIn("not known: 1 without a stated mass\n", self.run_it("show", "A[x]")[1])
         self.assertEqual(
             self.run_it("show", "<[Obs:+1]@c,w><[Obs:+2]@w>[Obs:+3]^2?{Obs:-1}AC[Obs:+2|+1]D[Obs:+4]")[1].split("\n"),
@@ -394,9 +390,8 @@ class Commands(unittest.TestCase):
                 "      nACDc",
                 "      ..x..   <[Obs:+1]@C,W>",
                 "      .....   <[Obs:+2]@W>",
-                "    1!.o...   [Obs:+3]",
-                "    2!.o...   [Obs:+3]",
-                "    no placement: 1 and 2 have 1 position together",
+                "    1 .o...   [Obs:+3]",
+                "    2 .o...   [Obs:+3]",
                 "a placement: there is none",
                 "",
             ],

@@ -470,9 +470,7 @@ class Command(unittest.TestCase):
         for line, words in {
             b"18\tA[U:35]": f"-:1:6: 9: {WORDS[9]}\n    A[U:35]\n      ^\n",
             b"18\t": f"-:1:4: 1: {WORDS[1]}\n    \n    ^\n",
-            b"18\t[+1]^2?A": f"-:1: entry 18: 18: {WORDS[18]} (the line allows none: floaters 1 and 2 have 1 position together; it cannot be kept)\n",
-            b"18\t[+1]?A[+2]": f"-:1: entry 18: 18: {WORDS[18]} (the line allows none: floater 1 has no position; it cannot be kept)\n",
-            b"18\t[+1]^2?A\t1,1": f"-:1: entry 18: 18: {WORDS[18]}\n",
+            b"18\t[+1]^2?A": f"-:1: entry 18: 18: {WORDS[18]} (the line allows none: it cannot be kept)\n",
             b"18\t[+1]?AC\t3": f"-:1: entry 18: 18: {WORDS[18]}\n",
             b"18\t[+1]?AC\t1,2": "-:1: entry 18: a placement of this line has a position for each of 1 floaters, not 2\n",
             b"17\tA": f"-:1: entry 17: 23: {WORDS[23]} (remove it first, or take another number)\n",

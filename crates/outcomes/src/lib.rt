@@ -1,2 +1,2 @@
-// No code: document 01's lines with known outcomes, and a sample of outside vectors, as theorems over the definitions (specs/).
+// No code: document 01's lines with known outcomes, and a sample of outside vectors, as theorems over the definitions (specs/, and Samples and Blocks of proofs/).
 #![tactic(auto)]

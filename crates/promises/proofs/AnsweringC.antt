@@ -245,7 +245,7 @@ composition t out count =
     (record { measured = record { number_is = refl; count_is = refl }; output_after_is = refl }) (λ o w. pair3 w.measured.number_is w.measured.count_is w.output_after_is)
     (λ o w. w.measured.number_is) (calls.pieces_so t (length out)).number (λ o w n p q. w.output_after_is ∙ ap (λ z. output_after z c out) q)
 
--- with the calls over an area of blocks (specs/AnsweringBlocks.antt)
+-- with the calls over an area of blocks (proofs/AnsweringBlocks.antt)
 pub demand_1 : AnswersBlocksC → Demand1C
 demand_1 blocks =
     record {

@@ -1,4 +1,4 @@
--- The contracts that the promises for C speak of are those of the exported calls: each asks nothing, and ensures, as it stands, the relation of that name.
+-- The contracts that the promises for C speak of are those of the calls of crates/export, which export_c exports under their names with the same clauses (its proofs/Linked.antt): each asks nothing, and ensures, as it stands, the relation of that name.
 use Rattle.std.specs.Prelude.{◌≡◌, refl, List, ℕ, ℤ, Float}
 use seplogic.Ra.Ura.{Ura}
 use base.Logic.{SProp}

@@ -1,5 +1,5 @@
 -- The register kept in blocks (02, L5): what is promised of its calls, each sentence above its theorem, over what they ensure: `EmptySays`, `AddSays`, `FetchSays`,
--- `RemoveSays`, `EntrySays` (crate keeping). The proofs: specs/Keeps.antt.
+-- `RemoveSays`, `EntrySays` (crate keeping). The proofs: proofs/Keeps.antt.
 use Rattle.std.specs.Prelude.{◌≡◌, true, false, List, [], ◌∷◌, ◌++◌, ℕ, ◌-◌, ◌/◌, ◌^◌, ◌≤◌, ◌<◌, length, take, get_or, set}
 use Rattle.scope.specs.declared.answers.Change.{Change}
 use Rattle.scope.specs.declared.answers.Placement.{Placement}

@@ -1,8 +1,8 @@
 -- The demands of the tender, each sentence above its theorem, over what the calls ensure: `ReadSays` (crate reader), `WriteSays`, `CountSays`, `TotalSays`,
 -- `ShownSays`, `AllowedSays`, `NextSays`, `LedgerSays` (calls), `LookupSays` (rows), `RowsSays` and `StepSays` (listing), `PiecesSay` (glycans), `ReachedSays` (calls), `EmptySays`,
 -- `AddSays`, `FetchSays`, `RemoveSays`, `EntrySays` and `SurveySays` (keeping). That each call asks nothing, and ensures
--- exactly its relation, is shown in specs/Linked.antt. An answer is spoken of by what it says (`says_read` and its kin). The proofs: specs/Kept.antt, for a caller in C
--- specs/KeptC.antt, and the files that they cite.
+-- exactly its relation, is shown in proofs/Linked.antt. An answer is spoken of by what it says (`says_read` and its kin). The proofs: proofs/Kept.antt, for a caller in C
+-- proofs/KeptC.antt, and the files that they cite.
 use Rattle.std.specs.Prelude.{◌≡◌, ◌↔◌, ◌⊎◌, true, false, List, [], ◌∷◌, ◌++◌, ℕ, zero, suc, ◌≤◌, ◌<◌, ℤ, pos, ◌+ℤ◌, Float, length, take, drop, get_or, replicate}
 use Rattle.std.proofs.Math.Option.{some}
 use Rattle.scope.specs.declared.answers.Read.{Read}

@@ -143,26 +143,16 @@ class Peptidoform:
         2 ...ooo.   [+1]
         3 ....oo.   [Oxidation#g]
 
-        The first column is the N-terminus and the last the C-terminus. Where there is no placement, `!` marks the floaters that say why (`why_none`), and a last row says it in words.
-
-        >>> print(Peptidoform("[+1]^3?A").picture())
-          nAc
-        1!.o.   [+1]
-        2!.o.   [+1]
-        3 .o.   [+1]
-        no placement: 1 and 2 have 1 position together
+        The first column is the N-terminus and the last the C-terminus.
         """
-        residues, floaters, short = self.residues, self.floaters, self.why_none()
+        residues = self.residues
 
         def marks(positions: Tuple[int, ...], mark: str) -> str:
             return "".join(mark if position in positions else "." for position in range(len(residues) + 2))
 
         lines = [f"  n{residues}c"]
         lines += [f"  {marks(one.positions, 'x')}   {one}" for one in self.declared]
-        for number, one in enumerate(floaters, 1):
-            lines.append(f"{number}{'!' if number in short else ' '}{marks(one.positions, 'o')}   {one.bracket}")
-        if short:
-            lines.append("no placement: " + _lacking(short, floaters))
+        lines += [f"{number} {marks(one.positions, 'o')}   {one.bracket}" for number, one in enumerate(self.floaters, 1)]
         return "\n".join(lines)
 
     # ---- Masses: of the modifications only
@@ -239,7 +229,7 @@ class Peptidoform:
         >>> Peptidoform("[+1]^3?A").why_none(), Peptidoform("[+1]?A[+2]").why_none(), Peptidoform("[+1]?AC").why_none()
         ((1, 2), (1,), ())
 
-        Without any one of them the others of the set can be placed. `picture` marks them.
+        Without any one of them the others of the set can be placed.
         """
         floaters = (c_uint8 * LIMITS.copies)()
         return tuple(floaters[: self._ask(library.hwemiduk_why_none, floaters, LIMITS.copies)])
@@ -346,14 +336,6 @@ def _floating(areas: Areas) -> List[Tuple[int, int]]:
     if number:
         raise Refusal(number)
     return list(zip(brackets, copies))[: areas.size.value]
-
-
-def _lacking(short: Tuple[int, ...], floaters: Sequence[Floater]) -> str:
-    """In words how many positions the floaters with these numbers have: fewer than they are."""
-    if len(short) == 1:
-        return f"{short[0]} has no position"
-    together = len({position for number in short for position in floaters[number - 1].positions})
-    return f"{', '.join(map(str, short[:-1]))} and {short[-1]} have {together} position{'s' * (together != 1)} together"
 
 
 def _lent(placement: Sequence[int], floaters: int) -> Any:

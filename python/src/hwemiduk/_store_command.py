@@ -10,7 +10,6 @@ from typing import Any, Iterator, List, Optional, Sequence, Tuple
 from . import Peptidoform, Refusal
 from ._console import ACCEPTED, REFUSED, Trouble, hinted, lines, marked, opened
 from ._library import LIMITS
-from ._peptidoform import _lacking
 from ._store import FIRST, FURTHER, Block, Entry, Store
 
 _NOT_ALLOWED, _NO_ENTRY, _PRESENT, _NO_ROOM, _DAMAGED, _NO_BLOCKS = 18, 22, 23, 24, 25, 26
@@ -157,17 +156,11 @@ def _added(store: Store, raw: bytes, numbered: Optional[int]) -> Optional[str]:
     try:
         store.add(number, p, placement)
     except Refusal as refusal:
-        none = _none(p) if placement is None and refusal.number == _NOT_ALLOWED else ""
+        none = " (the line allows none: it cannot be kept)" if placement is None and refusal.number == _NOT_ALLOWED else ""
         return f" entry {number}: {_refused(refusal, store)}{none}"
     except ValueError as error:
         return f" entry {number}: {error}"
     return None
-
-
-def _none(p: Peptidoform) -> str:
-    """Of a line without an allowed placement, which floaters have too few positions."""
-    short = p.why_none()
-    return f" (the line allows none: floater{'s' * (len(short) != 1)} {_lacking(short, p.floaters)}; it cannot be kept)"
 
 
 def list_(given: argparse.Namespace) -> int:

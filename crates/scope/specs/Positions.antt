@@ -2,6 +2,7 @@
 use Rattle.std.specs.Prelude.{ℕ, ◌+◌, min, Bool, false, not, cond, ◌&&◌, ◌||◌, List, [], ◌∷◌, ◌++◌, map, eqb, leb, ltb, length, take, get_or, replicate}
 use Rattle.std.proofs.Math.Option.{Option, none, some}
 use Rattle.scope.specs.declared.grammar.Kind.{Kind}
+use Rattle.scope.specs.declared.answers.Row.{Row}
 use Rattle.scope.specs.declared.answers.Site.{Site}
 use Rattle.scope.specs.Kinds.{is_unknown, is_declared, unknown_or_labile, on_one_position}
 use Rattle.scope.specs.Limits.{row_limit}
@@ -109,14 +110,10 @@ unfoldable pub rows_of : {P : Type 0} → Line P → List Site
 rows_of t = rows_from 1 (floating_of t).lists
 
 -- ---- "A lookup in any rows, ordered or not, gives the index (from 0) and the position of a floater's first row among the first so many"
-pub record Found : Type 0 where
-  pub index : ℕ
-  pub position : ℕ
-
-unfoldable pub first_row : ℕ → ℕ → List Site → Option Found
+unfoldable pub first_row : ℕ → ℕ → List Site → Option Row
 first_row f i [] = none
 first_row f i (r ∷ rs) = cond (eqb r.floater f) (some (record { index = i; position = r.position })) (first_row f (i + 1) rs)
 
 -- "a number above 2,048 is read as 2,048"
-abbrev pub lookup : List Site → ℕ → ℕ → Option Found
+abbrev pub lookup : List Site → ℕ → ℕ → Option Row
 lookup rs n f = first_row f 0 (take (min n row_limit) rs)

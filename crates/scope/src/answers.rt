@@ -1,71 +1,36 @@
-// What the calls answer, and what they are lent besides the areas. Each answer's number and values, by its cases: specs/Answers.antt.
+// What the calls hand out, and what they are lent besides the areas. A call answers `Ok` with it, or `Err` with a refusal. What is said by an answer: specs/Answers.antt.
 ghost use Rattle.std.specs.Prelude.{◌≡◌, replicate};
 ghost use Rattle.scope.specs.Limits.{copy_limit};
 ghost use Rattle.scope.specs.Placements.{fresh_listing};
 
 use crate::tables::Tables;
 
-// Reading a line.
-#[derive(Drop)]
-pub enum Read {
-    Accepted,
-    Refused { number: u8, place: usize },
-}
-
-// Writing the canonical line: how many bytes, or a refusal (15 with the length needed).
-#[derive(Drop)]
-pub enum Write {
-    Written(usize),
-    Refused { number: u8, place: usize },
-}
-
-// A count of residues, brackets, floating copies or rows.
-#[derive(Clone, Copy)]
-pub enum Count {
-    Is(usize),
-    Refused { number: u8, place: usize },
-}
-
-// The total in millionths, or a refusal (16 with how many lack a mass).
-#[derive(Drop)]
-pub enum Total {
-    Millionths(i64),
-    Refused { number: u8, place: usize },
-}
-
-// The mass of a bracket: "stated, only measured, or none" (02, L6).
-#[derive(Drop)]
+// The mass of a bracket: "stated, only measured, or none" (02, L6). Of the two that are a mass each tells which it is, so this is no Option.
+#[derive(Clone, Copy, Debug, PartialEq, Eq)]
 pub enum Mass {
     Stated(i64),
     Measured(i64),
     None,
 }
 
-// The mass of one bracket of the tables, or a refusal.
-#[derive(Drop)]
-pub enum BracketMass {
-    Is(Mass),
-    Refused { number: u8 },
-}
-
 // A row of floater and position.
 #[repr(C)]
-#[derive(Drop)]
+#[derive(Clone, Copy, Debug, PartialEq, Eq)]
 pub struct Site {
     pub floater: u8,
     pub position: u16,
 }
 
-// The first row of a floater.
-#[derive(Drop)]
-pub enum Lookup {
-    Row { index: usize, position: u16 },
-    Refused { number: u8 },
+// The first row of a floater: its number among the rows, and its position.
+#[derive(Clone, Copy, Debug, PartialEq, Eq)]
+pub struct Row {
+    pub index: usize,
+    pub position: u16,
 }
 
 // A placement: the position of each floating copy, unused entries 0.
 #[repr(C)]
-#[derive(Clone, Copy)]
+#[derive(Clone, Copy, Debug, PartialEq, Eq)]
 pub struct Placement {
     pub at: [u16; Placement::COPIES],
 }
@@ -88,15 +53,15 @@ impl Placement {
 }
 
 // Why there is no placement: how many floaters have too few positions together, none where there is a placement; and their numbers, ascending, unused entries 0.
-#[derive(Drop)]
+#[derive(Clone, Copy, Debug, PartialEq, Eq)]
 pub struct Why {
-    pub count: Count,
+    pub count: usize,
     pub at: [u8; Placement::COPIES],
 }
 
 // The listing in hand: marked fresh, with zeros; or unmarked, with the placement last handed out.
 #[repr(C)]
-#[derive(Clone, Copy)]
+#[derive(Clone, Copy, Debug, PartialEq, Eq)]
 pub struct Listing {
     pub at: [u16; Placement::COPIES],
     pub mark: u8,
@@ -118,17 +83,9 @@ impl Listing {
     }
 }
 
-// Whether a ledger was booked.
-#[derive(Drop)]
-pub enum Booked {
-    Done,
-    Refused { number: u8, place: usize },
-}
-
-// The ledger of a placement, with the answer beside it: an entry for each position.
-#[derive(Drop)]
+// The ledger of a placement: an entry for each position.
+#[derive(Clone, Copy, Debug, PartialEq, Eq)]
 pub struct Ledger {
-    pub booked: Booked,
     pub at: [i64; Ledger::POSITIONS],
 }
 
@@ -137,24 +94,9 @@ impl Ledger {
     pub const POSITIONS: usize = Tables::RESIDUES + 2;
 }
 
-// Whether a placement is an allowed one, or a request was met.
-#[derive(Drop)]
-pub enum Request {
-    Met,
-    Refused { number: u8 },
-}
-
-// The total for display.
-#[derive(Drop)]
+// The total for display: "either a mass as a double or the number of modifications without one".
+#[derive(Clone, Copy, Debug)]
 pub enum Shown {
     Daltons(f64),
     Missing(usize),
-    Refused { number: u8 },
-}
-
-// Whether a lent area was changed: made, an entry added or removed.
-#[derive(Drop)]
-pub enum Change {
-    Made,
-    Refused { number: u8, place: usize },
 }

@@ -10,12 +10,12 @@ use Rattle.scope.specs.Refusals.{Outcome, accepted, refused, outcome}
 use Rattle.scope.specs.Canonical.{canonical}
 use Rattle.scope.specs.Positions.{floating_of}
 use Rattle.scope.specs.Placements.{allowed}
-use Rattle.scope.specs.Answers.{good, refuses}
+use Rattle.scope.specs.Answers.{good, refuses, met}
 use Rattle.basics.specs.Tests.{both, both_of}
 use Rattle.blocks.specs.Block.{new_kind}
 use Rattle.blocks.specs.Area.{blocks_in, whole_blocks, frees, Put}
 use Rattle.blocks.specs.Entry.{Entry, positions_of, content_for, Looked, absent, damaged, present, look}
-use Rattle.blocks.specs.Answers.{fetched, fetch_said, removed, removing, removed_from, remove_after, done, blocks_for, pieces, written, room_for, placing, putting, adding_of, adding, add_said, added_to, add_after}
+use Rattle.blocks.specs.Answers.{fetched, fetch_said, removed, removing, removed_from, remove_after, blocks_for, pieces, written, room_for, placing, putting, adding_of, adding, add_said, added_to, add_after}
 use Rattle.area_laws.specs.Areas.{blocks_many, whole_length}
 use Rattle.block_laws.specs.Stated.{content_bytes, content_some, content_stated}
 use Rattle.block_laws.specs.Added.{taken_for, with_entry, Adds}
@@ -78,7 +78,7 @@ module _ (a : List ℕ) (number : ℕ) (p s : List ℕ) where
       go : (o : Outcome) → outcome s ≡ o → (l : Line ℕ) × (outcome s ≡ accepted l)
       go (accepted l) e = (l, e)
       go (refused n place) e =
-          let f : done {A = List Put} (refuses n place) ≡ good tt = ap done (sym (add_refused n place e)) ∙ h in let z : ◌≡◌ {A = ℕ} 0 1 = cc in absurd (omega arith)
+          let f : met {A = List Put} (refuses n place) ≡ good tt = ap met (sym (add_refused n place e)) ∙ h in let z : ◌≡◌ {A = ℕ} 0 1 = cc in absurd (omega arith)
 
   module _ (l : Line ℕ) (e : outcome s ≡ accepted l) where
     pub add_not_allowed : allowed (floating_of l) p ≡ false → adding a number p s ≡ refuses 18 0
@@ -115,32 +115,32 @@ module _ (a : List ℕ) (number : ℕ) (p s : List ℕ) where
 
     pub add_succeeds : add_said a number p s ≡ good tt → Success a number p l
     unfolding adding placing
-    add_succeeds h = fits (allowed (floating_of l) p) refl (ap (λ o. done (adding_of a number (content_for o p))) (sym e) ∙ h)
+    add_succeeds h = fits (allowed (floating_of l) p) refl (ap (λ o. met (adding_of a number (content_for o p))) (sym e) ∙ h)
       where
-        no : (n place : ℕ) → done {A = List Put} (refuses n place) ≡ good tt → ⊥
+        no : (n place : ℕ) → met {A = List Put} (refuses n place) ≡ good tt → ⊥
         no n place f = let z : ◌≡◌ {A = ℕ} 0 1 = cc in omega arith
 
         lasts :
             allowed (floating_of l) p ≡ true → whole_blocks a ≡ true → look a number ≡ absent → (t : Bool)
             → ltb (length (frees a)) (blocks_for (length (content_of l p))) ≡ t
-            → done (putting a number (content_of l p) (cond t (refuses 24 0) (good (taken_for a (content_of l p))))) ≡ good tt → Success a number p l
+            → met (putting a number (content_of l p) (cond t (refuses 24 0) (good (taken_for a (content_of l p))))) ≡ good tt → Success a number p l
         lasts ok blocks nothing true q f = absurd (no 24 0 f)
         lasts ok blocks nothing false q f = record { ok = ok; blocks = blocks; nothing = nothing; room = q }
 
         finds :
             allowed (floating_of l) p ≡ true → whole_blocks a ≡ true → (x : Looked) → look a number ≡ x
-            → done (putting a number (content_of l p) (room_for x (frees a) (blocks_for (length (content_of l p))))) ≡ good tt → Success a number p l
+            → met (putting a number (content_of l p) (room_for x (frees a) (blocks_for (length (content_of l p))))) ≡ good tt → Success a number p l
         finds ok blocks absent q f = lasts ok blocks q (ltb (length (frees a)) (blocks_for (length (content_of l p)))) refl f
         finds ok blocks damaged q f = absurd (no 25 0 f)
         finds ok blocks (present bs x) q f = absurd (no 23 0 f)
 
         goes :
             allowed (floating_of l) p ≡ true → (t : Bool) → whole_blocks a ≡ t
-            → done (putting a number (content_of l p) (cond t (room_for (look a number) (frees a) (blocks_for (length (content_of l p)))) (refuses 26 0))) ≡ good tt
+            → met (putting a number (content_of l p) (cond t (room_for (look a number) (frees a) (blocks_for (length (content_of l p)))) (refuses 26 0))) ≡ good tt
             → Success a number p l
         goes ok true q f = finds ok q (look a number) refl f
         goes ok false q f = absurd (no 26 0 f)
 
-        fits : (t : Bool) → allowed (floating_of l) p ≡ t → done (adding_of a number (cond t (good (content_of l p)) (refuses 18 0))) ≡ good tt → Success a number p l
+        fits : (t : Bool) → allowed (floating_of l) p ≡ t → met (adding_of a number (cond t (good (content_of l p)) (refuses 18 0))) ≡ good tt → Success a number p l
         fits true q f = goes q (whole_blocks a) refl f
         fits false q f = absurd (no 18 0 f)

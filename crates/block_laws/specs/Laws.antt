@@ -13,7 +13,7 @@ use Rattle.blocks.specs.Block.{content_room, sum_at, sum_size, no_next, entry_nu
 use Rattle.blocks.specs.Area.{blocks_in, whole_blocks, block_at, all_sound, is_free, frees}
 use Rattle.blocks.specs.Chain.{Chain, follow}
 use Rattle.blocks.specs.Entry.{Entry, absent, damaged, present, look}
-use Rattle.blocks.specs.Answers.{fetch_said, remove_after, placing, Head, is_head, listed_from}
+use Rattle.blocks.specs.Answers.{fetch_said, remove_after, placing, is_head, listed_from}
 use Rattle.area_laws.specs.LowFirst as lows
 use Rattle.area_laws.specs.Fields as fields
 use Rattle.block_laws.specs.Apart as apart
@@ -21,6 +21,7 @@ use Rattle.block_laws.specs.Taken as taken
 use Rattle.block_laws.specs.Freed as frees-again
 use Rattle.block_laws.specs.Listing as listing
 use Rattle.block_laws.specs.Listing.{FirstOf, NoneOf}
+use Rattle.blocks.specs.declared.Listed.{Listed}
 
 -- ---- one block
 -- "low bytes first": a number that its bytes have room for is read as it was written
@@ -83,7 +84,7 @@ freed_again a whole number bs e h b = frees-again.freed_again a whole number bs 
 -- ---- "Copies must show which entries survived": the listing
 -- from a block on, the first sound first block, with the number in it; or 17 where there is none
 pub listed_next :
-    (a : List ℕ) (from : ℕ) (h : Head) → listed_from a from ≡ good h
+    (a : List ℕ) (from : ℕ) (h : Listed) → listed_from a from ≡ good h
     → FirstOf (is_head a) from (blocks_in a - from) h.block × (h.number ≡ entry_number (block_at a h.block))
 listed_next a from h e = listing.listed_next a from h e
 

@@ -15,8 +15,9 @@ use Rattle.basics.specs.Tests.{and_left, and_right, both, same?}
 use Rattle.blocks.specs.Block.{is_first, block_kind, entry_number}
 use Rattle.blocks.specs.Area.{blocks_in, whole_blocks, block_at, sound_at, carries}
 use Rattle.blocks.specs.Entry.{Entry, present, look}
-use Rattle.blocks.specs.Answers.{Head, is_head, heads, head_at, listed_from}
+use Rattle.blocks.specs.Answers.{is_head, heads, head_at, listed_from}
 use Rattle.block_laws.specs.Looking.{found, only_first}
+use Rattle.blocks.specs.declared.Listed.{Listed}
 
 -- ---- the first of some numbers that passes a test, if one does
 pub record FirstOf (test : ℕ → Bool) (from many b : ℕ) : Type 0 where
@@ -60,7 +61,7 @@ first_told test (suc many) from =
 
 -- ---- what the listing hands out
 -- 26, 17, or the head at a block
-abbrev told : List ℕ → Bool → Option ℕ → Said Head
+abbrev told : List ℕ → Bool → Option ℕ → Said Listed
 told a whole o = cond whole (given o (λ b. good (head_at a b)) (refuses 17 0)) (refuses 26 0)
 
 module _ (a : List ℕ) (from : ℕ) where
@@ -68,7 +69,7 @@ module _ (a : List ℕ) (from : ℕ) where
   left = blocks_in a - from
 
   -- from a block on, the first sound first block, with the number in it
-  pub listed_next : (h : Head) → listed_from a from ≡ good h → FirstOf (is_head a) from left h.block × (h.number ≡ entry_number (block_at a h.block))
+  pub listed_next : (h : Listed) → listed_from a from ≡ good h → FirstOf (is_head a) from left h.block × (h.number ≡ entry_number (block_at a h.block))
   unfolding listed_from
   listed_next h e = go (whole_blocks a) (first_in (heads a from)) (first_told (is_head a) left from) e
     where

@@ -10,12 +10,12 @@ use Rattle.scope.specs.Refusals.{Outcome, accepted, refused, outcome}
 use Rattle.scope.specs.Canonical.{canonical}
 use Rattle.scope.specs.Positions.{floating_of}
 use Rattle.scope.specs.Placements.{allowed}
-use Rattle.scope.specs.Answers.{Said, good, refuses}
+use Rattle.scope.specs.Answers.{Said, good, refuses, met}
 use Rattle.basics.specs.Tests.{same?, test}
 use Rattle.blocks.specs.Block.{free_block}
 use Rattle.blocks.specs.Area.{whole_blocks, block_at, all_sound, is_free, frees, times, Put}
 use Rattle.blocks.specs.Entry.{Entry, absent, present, look}
-use Rattle.blocks.specs.Answers.{fetch_said, removing, removed_from, done, blocks_for, putting, adding, added_to}
+use Rattle.blocks.specs.Answers.{fetch_said, removing, removed_from, blocks_for, putting, adding, added_to}
 use Rattle.blocks.specs.Map.{Call, adds, fetches, removes, told, handed, answer, after, answers, run, Kept, found, without, blocks_of, blocks_taken, room_in, map_adds, map_removes, changed, map_left, map_answer, map_after, map_answers, Numbered, AllNumbered}
 use Rattle.area_laws.specs.Areas.{blocks_many}
 use Rattle.block_laws.specs.Written.{Bytes}
@@ -176,10 +176,10 @@ module _ {k : ℕ} {a : List ℕ} {m : List Kept} (w : Keeps k a m) (n : ℕ) (i
   module _ (p s : List ℕ) where
     answered :
         (r : Said (List Put)) (t : Said (List Kept)) → adding a n p s ≡ r → map_adds k m n p (outcome s) ≡ t
-        → done r ≡ changed t → Keeps k (added_to a r) (map_left m t) → Step k a m (adds n p s)
+        → met r ≡ changed t → Keeps k (added_to a r) (map_left m t) → Step k a m (adds n p s)
     answered r t e f h g =
         record {
-          says = ap (λ x. told (done x)) e ∙ ap told h ∙ ap (λ x. told (changed x)) (sym f);
+          says = ap (λ x. told (met x)) e ∙ ap told h ∙ ap (λ x. told (changed x)) (sym f);
           keeps = subst (λ x. Keeps k (added_to a x) (map_left m (map_adds k m n p (outcome s)))) (sym e) (subst (λ x. Keeps k (added_to a r) (map_left m x)) (sym f) g);
         }
 
@@ -239,10 +239,10 @@ module _ {k : ℕ} {a : List ℕ} {m : List Kept} (w : Keeps k a m) (n : ℕ) (i
       by none f = fetch_says a n (keeps_whole w) room absent (w.nothing n inside f)
 
   -- ---- removing
-  left : (r : Said (List ℕ)) (t : Said (List Kept)) → removing a n ≡ r → map_removes m n ≡ t → done r ≡ changed t → Keeps k (removed_from a r) (map_left m t) → Step k a m (removes n)
+  left : (r : Said (List ℕ)) (t : Said (List Kept)) → removing a n ≡ r → map_removes m n ≡ t → met r ≡ changed t → Keeps k (removed_from a r) (map_left m t) → Step k a m (removes n)
   left r t e f h g =
       record {
-        says = ap (λ x. told (done x)) e ∙ ap told h ∙ ap (λ x. told (changed x)) (sym f);
+        says = ap (λ x. told (met x)) e ∙ ap told h ∙ ap (λ x. told (changed x)) (sym f);
         keeps = subst (λ x. Keeps k (removed_from a x) (map_left m (map_removes m n))) (sym e) (subst (λ x. Keeps k (removed_from a r) (map_left m x)) (sym f) g);
       }
 

@@ -3,13 +3,9 @@ use Rattle.std.specs.Prelude.{ℕ, suc, ◌+◌, ◌-◌, ◌*◌, ◌/◌, Bool
 use Rattle.scope.specs.Lists.{given, keep, first_in, part, tabled, laid}
 use Rattle.scope.specs.Limits.{copy_limit}
 use Rattle.scope.specs.Refusals.{outcome}
-use Rattle.scope.specs.Answers.{Said, good, refuses}
-use Rattle.blocks.specs.declared.Fetch.{Fetch}
-use Rattle.blocks.specs.declared.Fetch.TheVariants.{Line, Refused as fetch_refused}
+use Rattle.scope.specs.Answers.{Said, good, refuses, met}
 use Rattle.blocks.specs.declared.Listed.{Listed}
-use Rattle.blocks.specs.declared.Listed.TheVariants.{Entry as listed_entry, Refused as listed_refused}
 use Rattle.blocks.specs.declared.Survey.{Survey}
-use Rattle.blocks.specs.declared.Survey.TheVariants.{Blocks as survey_blocks, Refused as survey_refused}
 use Rattle.blocks.specs.Block.{content_room, free_kind, further_kind, is_first, new_kind, no_next, block_kind, entry_number, free_block, entry_block}
 use Rattle.blocks.specs.Area.{blocks_in, whole_blocks, block_at, block_numbers, sound_at, is_free, frees, times, Put, replaced}
 use Rattle.blocks.specs.Entry.{Entry, content_for, Looked, absent, damaged, present, look}
@@ -52,10 +48,6 @@ abbrev pub out_after : Said Entry → List ℕ → List ℕ
 out_after (good e) out = laid e.line out
 out_after (refuses number place) out = out
 
-abbrev pub says_fetch : Fetch → Said ℕ
-says_fetch (Line n) = good n
-says_fetch (fetch_refused number place) = refuses number place
-
 -- ---- remove: 26, 25, 22
 abbrev pub removed : Looked → Said (List ℕ)
 removed absent = refuses 22 0
@@ -66,12 +58,8 @@ removed (present bs e) = good bs
 unfoldable pub removing : List ℕ → ℕ → Said (List ℕ)
 removing a number = over_blocks a (removed (look a number))
 
-abbrev pub done : {A : Type 0} → Said A → Said (Unit {0})
-done (good x) = good tt
-done (refuses number place) = refuses number place
-
 abbrev pub remove_said : List ℕ → ℕ → Said (Unit {0})
-remove_said a number = done (removing a number)
+remove_said a number = met (removing a number)
 
 -- blocks made free
 abbrev pub freed : List ℕ → List Put
@@ -124,7 +112,7 @@ unfoldable pub adding : List ℕ → ℕ → List ℕ → List ℕ → Said (Lis
 adding a number p s = adding_of a number (content_for (outcome s) p)
 
 abbrev pub add_said : List ℕ → ℕ → List ℕ → List ℕ → Said (Unit {0})
-add_said a number p s = done (adding a number p s)
+add_said a number p s = met (adding a number p s)
 
 abbrev pub added_to : List ℕ → Said (List Put) → List ℕ
 added_to a (good ps) = replaced ps a
@@ -134,34 +122,19 @@ abbrev pub add_after : List ℕ → ℕ → List ℕ → List ℕ → List ℕ
 add_after a number p s = added_to a (adding a number p s)
 
 -- ---- the listing: the first sound first block from one on; 26, 17
-pub record Head : Type 0 where
-  pub block : ℕ
-  pub number : ℕ
-
 unfoldable pub is_head : List ℕ → ℕ → Bool
 is_head a b = is_first (block_kind (block_at a b)) && sound_at a b
 
 abbrev pub heads : List ℕ → ℕ → List ℕ
 heads a from = keep (is_head a) (tabled (λ b. b) from (blocks_in a - from))
 
-abbrev pub head_at : List ℕ → ℕ → Head
+abbrev pub head_at : List ℕ → ℕ → Listed
 head_at a b = record { block = b; number = entry_number (block_at a b) }
 
-unfoldable pub listed_from : List ℕ → ℕ → Said Head
+unfoldable pub listed_from : List ℕ → ℕ → Said Listed
 listed_from a from = over_blocks a (given (first_in (heads a from)) (λ b. good (head_at a b)) (refuses 17 0))
 
-abbrev pub says_listed : Listed → Said Head
-says_listed (listed_entry b n) = good (record { block = b; number = n })
-says_listed (listed_refused number place) = refuses number place
-
 -- ---- the survey: how many blocks are of each sort; 26
-pub record Counts : Type 0 where
-  pub free : ℕ
-  pub first : ℕ
-  pub further : ℕ
-  pub other : ℕ
-  pub unsound : ℕ
-
 abbrev pub how_many : (ℕ → Bool) → List ℕ → ℕ
 how_many test a = length (keep test (block_numbers a))
 
@@ -172,7 +145,7 @@ unfoldable pub is_other : List ℕ → ℕ → Bool
 is_other a b =
     not (eqb (block_kind (block_at a b)) free_kind || is_first (block_kind (block_at a b)) || eqb (block_kind (block_at a b)) further_kind) && sound_at a b
 
-unfoldable pub counts_of : List ℕ → Counts
+unfoldable pub counts_of : List ℕ → Survey
 counts_of a =
     record {
       free = how_many (is_free a) a;
@@ -182,9 +155,5 @@ counts_of a =
       unsound = how_many (λ b. not (sound_at a b)) a;
     }
 
-abbrev pub survey_said : List ℕ → Said Counts
+abbrev pub survey_said : List ℕ → Said Survey
 survey_said a = over_blocks a (good (counts_of a))
-
-abbrev pub says_survey : Survey → Said Counts
-says_survey (survey_blocks f i u o n) = good (record { free = f; first = i; further = u; other = o; unsound = n })
-says_survey (survey_refused number place) = refuses number place

@@ -8,18 +8,20 @@ use native.Mathlib.Omega.{arith}
 use borrow.Author.Tests.{lt-ltb, le-ltb}
 use Rattle.scope.specs.Limits.{copy_limit}
 use Rattle.scope.specs.Lists.{laid}
-use Rattle.scope.specs.Answers.{Said, good, refuses}
+use Rattle.scope.specs.Answers.{Said, good, refuses, met}
 use Rattle.basics.specs.Said.{not_both}
 use Rattle.blocks.specs.Area.{Put}
 use Rattle.blocks.specs.Entry.{Entry}
-use Rattle.blocks.specs.Answers.{Head, Counts, done, fetch_said, fetched_length, fetched_placement, out_after, adding, added_to}
+use Rattle.blocks.specs.Answers.{fetch_said, fetched_length, fetched_placement, out_after, adding, added_to}
 use Rattle.export.specs.Numbers.{number_of, Numbered}
 use Rattle.export.specs.Blocks.{adds_lent, EntryAdded, AddHanded, fetches_lent, EntryFetched, FetchHanded, HeadHanded, Surveyed}
 use Rattle.export.proofs.Told.{length_kept}
+use Rattle.blocks.specs.declared.Listed.{Listed}
+use Rattle.blocks.specs.declared.Survey.{Survey}
 
 -- ---- adding
 -- whether something was put says as much as what was put
-numbered_done : {A : Type 0} (said : Said A) {place number place' : ℕ} → Numbered (done said) place number place' → Numbered said place number place'
+numbered_done : {A : Type 0} (said : Said A) {place number place' : ℕ} → Numbered (met said) place number place' → Numbered said place number place'
 numbered_done (good x) h = record { number_is = h.number_is; place_is = h.place_is }
 numbered_done (refuses n p) h = record { number_is = h.number_is; place_is = h.place_is }
 
@@ -31,7 +33,7 @@ added_short a n p s place h =
 
 -- q is the placement that the slice begins with
 pub added_long : (a : List ℕ) (n : ℕ) (p s q : List ℕ) → q ≡ take copy_limit p → copy_limit ≤ length p → {told : Said (Unit {0})} {place number place' : ℕ} {a' : List ℕ}
-    → told ≡ done (adding a n q s) → a' ≡ added_to a (adding a n q s) → Numbered told place number place' → AddHanded a n p s place number place' a'
+    → told ≡ met (adding a n q s) → a' ≡ added_to a (adding a n q s) → Numbered told place number place' → AddHanded a n p s place number place' a'
 added_long a n p s q begins h {told} {place} {number} {place'} {a'} e area w =
     let is : adding a n q s ≡ adds_lent a n p s = ap (λ z. adding a n z s) begins ∙ sym (rw (le-ltb (length p) copy_limit h)) in
     subst (λ x. EntryAdded a x place number place' a') is
@@ -99,11 +101,11 @@ module _ (a : List ℕ) (n : ℕ) (p out : List ℕ) {number place : ℕ} (count
       subst (λ x. EntryFetched x p out count number p out' place) (long_enough a n p out h) (handed_15 (fetch_said a n (length out)) p out count s o l)
 
 -- ---- the listing and the survey
-pub head_so : {said meant : Said Head} {block entry number block' entry' : ℕ} → said ≡ meant → HeadHanded said block entry number block' entry'
+pub head_so : {said meant : Said Listed} {block entry number block' entry' : ℕ} → said ≡ meant → HeadHanded said block entry number block' entry'
     → HeadHanded meant block entry number block' entry'
 head_so {block = b} {entry = e} {number = n} {block' = b'} {entry' = e'} same h = subst (λ s. HeadHanded s b e n b' e') same h
 
-pub survey_so : {said meant : Said Counts} {free first further other unsound number free' first' further' other' unsound' : ℕ} → said ≡ meant
+pub survey_so : {said meant : Said Survey} {free first further other unsound number free' first' further' other' unsound' : ℕ} → said ≡ meant
     → Surveyed said free first further other unsound number free' first' further' other' unsound'
     → Surveyed meant free first further other unsound number free' first' further' other' unsound'
 survey_so {free = f} {first = i} {further = u} {other = o} {unsound = w} {number = n} {free' = f'} {first' = i'} {further' = u'} {other' = o'} {unsound' = w'} same h =

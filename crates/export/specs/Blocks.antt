@@ -5,9 +5,11 @@ use Rattle.scope.specs.Lists.{laid}
 use Rattle.scope.specs.Answers.{Said, good, refuses}
 use Rattle.blocks.specs.Area.{Put}
 use Rattle.blocks.specs.Entry.{Entry}
-use Rattle.blocks.specs.Answers.{Head, Counts, empty_said, empty_after, fetch_said, fetched_length, out_after, remove_said, remove_after, adding, added_to}
+use Rattle.blocks.specs.Answers.{empty_said, empty_after, fetch_said, fetched_length, out_after, remove_said, remove_after, adding, added_to}
 use Rattle.export.specs.Numbers.{number_of, left, Numbered}
 use Rattle.export.specs.Shapes.{Measured}
+use Rattle.blocks.specs.declared.Listed.{Listed}
+use Rattle.blocks.specs.declared.Survey.{Survey}
 
 pub record EmptyHanded (a : List ℕ) (number : ℕ) (a' : List ℕ) : Type 0 where
   pub number_is : number ≡ number_of (empty_said a)
@@ -42,13 +44,13 @@ pub record RemoveHanded (a : List ℕ) (n number : ℕ) (a' : List ℕ) : Type 0
   pub area_after_is : a' ≡ remove_after a n
 
 -- an entry of the listing: its first block, and its number
-pub record HeadHanded (said : Said Head) (block entry number block' entry' : ℕ) : Type 0 where
+pub record HeadHanded (said : Said Listed) (block entry number block' entry' : ℕ) : Type 0 where
   pub number_is : number ≡ number_of said
   pub block_is : block' ≡ left said (λ h. h.block) block
   pub entry_is : entry' ≡ left said (λ h. h.number) entry
 
 -- how many blocks are of each sort
-pub record Surveyed (said : Said Counts) (free first further other unsound number free' first' further' other' unsound' : ℕ) : Type 0 where
+pub record Surveyed (said : Said Survey) (free first further other unsound number free' first' further' other' unsound' : ℕ) : Type 0 where
   pub number_is : number ≡ number_of said
   pub free_is : free' ≡ left said (λ c. c.free) free
   pub first_is : first' ≡ left said (λ c. c.first) first

@@ -10,14 +10,14 @@ use Rattle.scope.specs.declared.answers.Change.{Change}
 use Rattle.scope.specs.declared.answers.Placement.{Placement}
 use Rattle.scope.specs.Lists.{given, first_in, keep, tabled}
 use Rattle.scope.specs.Refusals.{outcome}
-use Rattle.scope.specs.Answers.{Said, good, refuses, says_change}
+use Rattle.scope.specs.Answers.{Said, good, refuses, says_change, met}
 use Rattle.basics.specs.Choice.{pick_true, pick_false}
 use Rattle.basics.specs.Each.{Each}
 use Rattle.basics.specs.Tabled.{tabled_end}
 use Rattle.blocks.specs.Block.{free_block, entry_number}
 use Rattle.blocks.specs.Area.{blocks_in, whole_blocks, block_at, times, Put, frees}
 use Rattle.blocks.specs.Entry.{Looked, absent, look, content_for}
-use Rattle.blocks.specs.Answers.{over_blocks, area_after, empty_said, removed, removing, done, freed, removed_from, blocks_for, room_for, placing, putting, adding_of, adding, added_to, Head, is_head, heads, head_at, listed_from}
+use Rattle.blocks.specs.Answers.{over_blocks, area_after, empty_said, removed, removing, freed, removed_from, blocks_for, room_for, placing, putting, adding_of, adding, added_to, is_head, heads, head_at, listed_from}
 use Rattle.blocks.specs.Sizes.{content_most, chain_most}
 use Rattle.chains.specs.Whole.{Whole, whole_many, NextOf}
 use Rattle.chains.specs.Counted.{counted_passes, counted_none}
@@ -29,6 +29,7 @@ use Rattle.taking.specs.Says.{FreesAre, Blocks}
 use Rattle.keeping.specs.Looking.{Found}
 use Rattle.keeping.specs.Steps.{Changed}
 use Rattle.keeping.specs.Says.{EmptySays, AddSays, RemoveSays}
+use Rattle.blocks.specs.declared.Listed.{Listed}
 
 -- ---- 26
 module _ (a : List ℕ) {n : ℕ} (told : n ≡ whole_many a) {A : Type 0} (said : Said A) where
@@ -44,12 +45,12 @@ pub empty_so : {a : List ℕ} {r : Change} {a' : List ℕ} {s : Said (Unit {0})}
 empty_so {a} e f g = record { says = f ∙ sym e; area_after_is = g ∙ ap (λ s. area_after s (times (blocks_in a) free_block) a) (sym e) }
 
 -- ---- add
-pub changed_so : {a : List ℕ} {said : Said (List Put)} {r : Change} {a' : List ℕ} (s : Said (List Put)) → said ≡ s → says_change r ≡ done s → a' ≡ added_to a s
+pub changed_so : {a : List ℕ} {said : Said (List Put)} {r : Change} {a' : List ℕ} (s : Said (List Put)) → said ≡ s → says_change r ≡ met s → a' ≡ added_to a s
     → Changed a said r a'
-changed_so {a} s e f g = record { says = f ∙ ap done (sym e); area_after_is = g ∙ ap (added_to a) (sym e) }
+changed_so {a} s e f g = record { says = f ∙ ap met (sym e); area_after_is = g ∙ ap (added_to a) (sym e) }
 
 -- the same of what is to be put, where it is put into these blocks
-pub placed_so : {a : List ℕ} (number : ℕ) (c : List ℕ) {said : Said (List ℕ)} {r : Change} {a' : List ℕ} (s : Said (List ℕ)) → said ≡ s → says_change r ≡ done (putting a number c s)
+pub placed_so : {a : List ℕ} (number : ℕ) (c : List ℕ) {said : Said (List ℕ)} {r : Change} {a' : List ℕ} (s : Said (List ℕ)) → said ≡ s → says_change r ≡ met (putting a number c s)
     → a' ≡ added_to a (putting a number c s) → Changed a (putting a number c said) r a'
 placed_so {a} number c s e f g = changed_so (putting a number c s) (ap (putting a number c) e) f g
 
@@ -94,14 +95,14 @@ pub refused_add : {a : List ℕ} {number : ℕ} {p : Placement} {s : List ℕ} {
 unfolding adding
 refused_add {a} {number} {p} {s} e f =
     let d : adding a number p.at s ≡ refuses _ _ = ap (adding_of a number) e in
-    record { says = f ∙ ap done (sym d); area_after_is = ap (added_to a) (sym d) }
+    record { says = f ∙ ap met (sym d); area_after_is = ap (added_to a) (sym d) }
 
 pub content_add : {a : List ℕ} {number : ℕ} {p : Placement} {s c : List ℕ} {r : Change} {a' : List ℕ} → content_for (outcome s) p.at ≡ good c
     → Changed a (putting a number c (placing a number (blocks_for (length c)))) r a' → AddSays a number p s r a'
 unfolding adding
 content_add {a} {number} {p} {s} {c} e w =
     let d : adding a number p.at s ≡ putting a number c (placing a number (blocks_for (length c))) = ap (adding_of a number) e in
-    record { says = w.says ∙ ap done (sym d); area_after_is = w.area_after_is ∙ ap (added_to a) (sym d) }
+    record { says = w.says ∙ ap met (sym d); area_after_is = w.area_after_is ∙ ap (added_to a) (sym d) }
 
 -- a content that was made, or not
 pub content_made : (s p : List ℕ) {r : Content} {n : ℕ} (room : List ℕ) → ContentSays s p r room → r ≡ Made n
@@ -121,9 +122,9 @@ module _ (a : List ℕ) (number : ℕ) where
   unfolding removing
   removing_by told p l e = over_rest a told (removed (look a number)) p ∙ ap removed e
 
-pub removed_so : {a : List ℕ} {number : ℕ} {r : Change} {a' : List ℕ} (s : Said (List ℕ)) → removing a number ≡ s → says_change r ≡ done s → a' ≡ removed_from a s
+pub removed_so : {a : List ℕ} {number : ℕ} {r : Change} {a' : List ℕ} (s : Said (List ℕ)) → removing a number ≡ s → says_change r ≡ met s → a' ≡ removed_from a s
     → RemoveSays a number r a'
-removed_so {a} s e f g = record { says = f ∙ ap done (sym e); area_after_is = g ∙ ap (removed_from a) (sym e) }
+removed_so {a} s e f g = record { says = f ∙ ap met (sym e); area_after_is = g ∙ ap (removed_from a) (sym e) }
 
 -- the blocks of an entry, to be freed
 pub to_free : {a : List ℕ} {n : ℕ} {l : Looked} {many long : ℕ} {blocks room : List ℕ} → Whole a n → Found (blocks_in a) l many long blocks room → Blocks a n many blocks
@@ -132,7 +133,7 @@ to_free {many = many} {blocks = blocks} whole w =
 
 -- ---- the listing
 module _ (a : List ℕ) (from : ℕ) {n : ℕ} (told : n ≡ whole_many a) where
-  abbrev listed : List ℕ → Said Head
+  abbrev listed : List ℕ → Said Listed
   listed hs = given (first_in hs) (λ b. good (head_at a b)) (refuses 17 0)
 
   pub listed_26 : n ≡ 0 → refuses 26 0 ≡ listed_from a from

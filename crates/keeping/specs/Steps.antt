@@ -2,16 +2,16 @@
 use Rattle.std.specs.Prelude.{ℕ, ◌≡◌, cond, List, ltb, length, replicate}
 use Rattle.scope.specs.declared.answers.Change.{Change}
 use Rattle.scope.specs.Limits.{copy_limit}
-use Rattle.scope.specs.Answers.{Said, good, refuses, says_change}
+use Rattle.scope.specs.Answers.{Said, good, refuses, says_change, met}
 use Rattle.blocks.specs.declared.Fetched.{Fetched}
 use Rattle.blocks.specs.Block.{new_kind}
 use Rattle.blocks.specs.Area.{Put, frees}
 use Rattle.blocks.specs.Entry.{Entry, entry_in, absent}
-use Rattle.blocks.specs.Answers.{done, blocks_for, room_for, placing, putting, added_to, fetched_length, fetched_placement, out_after, says_fetch}
+use Rattle.blocks.specs.Answers.{blocks_for, room_for, placing, putting, added_to, fetched_length, fetched_placement, out_after, says_fetch}
 
 -- an area was changed by what was to be put, or a refusal left it
 pub record Changed (a : List ℕ) (said : Said (List Put)) (r : Change) (a' : List ℕ) : Type 0 where
-  pub says : says_change r ≡ done said
+  pub says : says_change r ≡ met said
   pub area_after_is : a' ≡ added_to a said
 
 -- a content into free blocks, where its number is free

@@ -11,7 +11,7 @@ use Rattle.scope.specs.Refusals.{Outcome, accepted, refused, outcome}
 use Rattle.scope.specs.Positions.{floating_of}
 use Rattle.scope.specs.Placements.{allowed}
 use Rattle.scope.specs.Canonical.{canonical}
-use Rattle.scope.specs.Answers.{Said, good, refuses, says_change}
+use Rattle.scope.specs.Answers.{Said, good, refuses, says_change, met}
 use Rattle.basics.specs.Each.{In}
 use Rattle.basics.specs.Members.{in_left, in_right}
 use Rattle.blocks.specs.declared.Fetch.{Fetch}
@@ -22,7 +22,7 @@ use Rattle.blocks.specs.declared.Survey.TheVariants.{Blocks as survey_blocks, Re
 use Rattle.blocks.specs.Block.{free_block}
 use Rattle.blocks.specs.Area.{blocks_in, whole_blocks, frees, times, Put}
 use Rattle.blocks.specs.Entry.{Entry, positions_of, content_for, Looked, absent, damaged, present, look}
-use Rattle.blocks.specs.Answers.{Head, head_at, heads, Counts, counts_of, area_after, empty_said, empty_after, fetched, fetch_said, fetched_length, fetched_placement, out_after, says_fetch, removed, removing, done, remove_said, removed_from, remove_after, blocks_for, room_for, placing, putting, adding_of, adding, add_said, added_to, add_after, listed_from, says_listed, survey_said, says_survey}
+use Rattle.blocks.specs.Answers.{head_at, heads, counts_of, area_after, empty_said, empty_after, fetched, fetch_said, fetched_length, fetched_placement, out_after, says_fetch, removed, removing, remove_said, removed_from, remove_after, blocks_for, room_for, placing, putting, adding_of, adding, add_said, added_to, add_after, listed_from, says_listed, survey_said, says_survey}
 use Rattle.keeping.specs.Steps.{Handed}
 use Rattle.keeping.specs.Says.{EmptySays, AddSays, FetchSays, RemoveSays, EntrySays, SurveySays}
 use Rattle.export.specs.Numbers.{number_of, left, place_left}
@@ -34,6 +34,8 @@ use Rattle.promises.proofs.Said.{change_same, fetch_same, listed_same, survey_sa
 use Rattle.promises.proofs.Answering as calls
 use Rattle.promises.proofs.AnsweringC as exported
 use Rattle.promises.proofs.Readers as readers
+use Rattle.blocks.specs.declared.Listed.{Listed}
+use Rattle.blocks.specs.declared.Survey.{Survey}
 
 -- ---- what can be said: a refusal has one of these numbers
 record Among {A : Type 0} (numbers : List ℕ) (s : Said A) : Type 0 where
@@ -49,12 +51,12 @@ one_of {numbers = numbers} i = record { number = λ n p e. subst (λ k. In k num
 both : {A : Type 0} {numbers : List ℕ} (b : Bool) {x y : Said A} → Among numbers x → Among numbers y → Among numbers (cond b x y)
 both {A = A} {numbers = numbers} b x y = calls.either (Among numbers) b x y
 
--- whether something was done has the numbers of what was
-done_among : {A : Type 0} {numbers : List ℕ} (s : Said A) → Among numbers s → Among numbers (done s)
+-- whether something was met has the numbers of what was
+done_among : {A : Type 0} {numbers : List ℕ} (s : Said A) → Among numbers s → Among numbers (met s)
 done_among (good x) h = fine
 done_among (refuses m q) h = one_of (h.number m q refl)
 
-done_refused : {A : Type 0} (s : Said A) {n p : ℕ} → done s ≡ refuses n p → s ≡ refuses n p
+done_refused : {A : Type 0} (s : Said A) {n p : ℕ} → met s ≡ refuses n p → s ≡ refuses n p
 done_refused (good x) e = absurd (not_both e)
 done_refused (refuses m q) e = ap₂ refuses (same_number_lem e) (same_place e)
 
@@ -67,11 +69,11 @@ fetch_so : {numbers : List ℕ} (s : Said Entry) → Among numbers s → calls.S
 fetch_so (good e) h = calls.success (fetch_line (length e.line)) refl
 fetch_so (refuses m q) h = calls.refusal (fetch_refused m q) refl (h.number m q refl)
 
-listed_so : {numbers : List ℕ} (s : Said Head) → Among numbers s → calls.Sayable says_listed numbers s
+listed_so : {numbers : List ℕ} (s : Said Listed) → Among numbers s → calls.Sayable says_listed numbers s
 listed_so (good x) h = calls.success (listed_entry x.block x.number) refl
 listed_so (refuses m q) h = calls.refusal (listed_refused m q) refl (h.number m q refl)
 
-survey_so : {numbers : List ℕ} (s : Said Counts) → Among numbers s → calls.Sayable says_survey numbers s
+survey_so : {numbers : List ℕ} (s : Said Survey) → Among numbers s → calls.Sayable says_survey numbers s
 survey_so (good x) h = calls.success (survey_blocks x.free x.first x.further x.other x.unsound) refl
 survey_so (refuses m q) h = calls.refusal (survey_refused m q) refl (h.number m q refl)
 

@@ -12,7 +12,7 @@ use Rattle.scope.specs.Line.{Line}
 use Rattle.scope.specs.Lists.{member, laid}
 use Rattle.scope.specs.Refusals.{accepted, outcome}
 use Rattle.scope.specs.Canonical.{canonical}
-use Rattle.scope.specs.Answers.{Said, good, refuses, says_change}
+use Rattle.scope.specs.Answers.{Said, good, refuses, says_change, met}
 use Rattle.basics.specs.Each.{Each}
 use Rattle.blocks.specs.declared.Fetch.{Fetch}
 use Rattle.blocks.specs.declared.Fetch.TheVariants.{Line as fetch_line, Refused as fetch_refused}
@@ -21,7 +21,7 @@ use Rattle.blocks.specs.Block.{free_block}
 use Rattle.blocks.specs.declared.Listed.{Listed}
 use Rattle.blocks.specs.Area.{blocks_in, whole_blocks, all_sound, frees, times}
 use Rattle.blocks.specs.Entry.{Entry, positions_of, Looked, absent, damaged, present, look}
-use Rattle.blocks.specs.Answers.{area_after, empty_said, empty_after, fetched, fetch_said, fetched_length, fetched_placement, out_after, says_fetch, removed, removing, done, remove_said, remove_after, blocks_for, add_said, add_after, is_head, says_listed}
+use Rattle.blocks.specs.Answers.{area_after, empty_said, empty_after, fetched, fetch_said, fetched_length, fetched_placement, out_after, says_fetch, removed, removing, remove_said, remove_after, blocks_for, add_said, add_after, is_head, says_listed}
 use Rattle.blocks.specs.Map.{Call, adds, fetches, removes, Answer, told, handed, answer, after, answers, run, map_answers, AllNumbered}
 use Rattle.block_laws.specs.AsMap as laws
 use Rattle.block_laws.proofs.OneByteLaws as one
@@ -172,7 +172,7 @@ removes_added a n h p s added =
     let z = add_accepted a n p s added in
     let whole = laws.added_whole a n p s h z.0 z.1 added in
     let found = laws.fetch_added a n p s h z.0 z.1 added in
-    ap (λ b. done (cond b (removed (look (add_after a n p s) n)) (refuses 26 0))) whole ∙ ap (λ x. done (removed x)) found
+    ap (λ b. met (cond b (removed (look (add_after a n p s) n)) (refuses 26 0))) whole ∙ ap (λ x. met (removed x)) found
 
 again_then : (k : ℕ) (cs : List Call) (xs : List Answer) (a : List ℕ) → Undamaged k cs xs a
     → (n : ℕ) → n < 2 ^ 32 → (p : Placement) (s : List ℕ) (r : Change) (a₁ : List ℕ) → AddSays a n p s r a₁ → says_change r ≡ good tt

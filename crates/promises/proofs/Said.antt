@@ -30,7 +30,7 @@ use Rattle.blocks.specs.declared.Listed.{Listed}
 use Rattle.blocks.specs.declared.Listed.TheVariants.{Entry as listed_entry, Refused as listed_refused}
 use Rattle.blocks.specs.declared.Survey.{Survey}
 use Rattle.blocks.specs.declared.Survey.TheVariants.{Blocks as survey_blocks, Refused as survey_refused}
-use Rattle.blocks.specs.Answers.{Head, Counts, says_fetch, says_listed, says_survey}
+use Rattle.blocks.specs.Answers.{says_fetch, says_listed, says_survey}
 
 -- ---- what is said
 -- a request that is met, or refused
@@ -130,7 +130,7 @@ fetch_same (fetch_refused n p) (fetch_refused m q) e = ap (λ k. fetch_refused k
 
 pub listed_same : (x y : Listed) → says_listed x ≡ says_listed y → x ≡ y
 listed_same (listed_entry b n) (listed_entry c m) e =
-    let h : ◌≡◌ {A = Head} (record { block = b; number = n }) (record { block = c; number = m }) = same_good e in
+    let h : ◌≡◌ {A = Listed} (record { block = b; number = n }) (record { block = c; number = m }) = same_good e in
     ap (λ z. listed_entry z.block z.number) h
 listed_same (listed_entry b n) (listed_refused m p) e = absurd (not_both e)
 listed_same (listed_refused m p) (listed_entry b n) e = absurd (not_both (sym e))
@@ -138,7 +138,7 @@ listed_same (listed_refused n p) (listed_refused m q) e = ap (λ k. listed_refus
 
 pub survey_same : (x y : Survey) → says_survey x ≡ says_survey y → x ≡ y
 survey_same (survey_blocks f i u o n) (survey_blocks g j v q m) e =
-    let h : ◌≡◌ {A = Counts} (record { free = f; first = i; further = u; other = o; unsound = n }) (record { free = g; first = j; further = v; other = q; unsound = m }) = same_good e in
+    let h : ◌≡◌ {A = Survey} (record { free = f; first = i; further = u; other = o; unsound = n }) (record { free = g; first = j; further = v; other = q; unsound = m }) = same_good e in
     ap (λ z. survey_blocks z.free z.first z.further z.other z.unsound) h
 survey_same (survey_blocks f i u o n) (survey_refused m p) e = absurd (not_both e)
 survey_same (survey_refused m p) (survey_blocks f i u o n) e = absurd (not_both (sym e))

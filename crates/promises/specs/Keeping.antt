@@ -16,7 +16,7 @@ use Rattle.blocks.specs.declared.Fetched.{Fetched}
 use Rattle.blocks.specs.declared.Listed.{Listed}
 use Rattle.blocks.specs.Area.{blocks_in, frees}
 use Rattle.blocks.specs.Entry.{Entry, positions_of, absent, present, look}
-use Rattle.blocks.specs.Answers.{says_fetch, blocks_for, Head, is_head, says_listed}
+use Rattle.blocks.specs.Answers.{says_fetch, blocks_for, is_head, says_listed}
 use Rattle.blocks.specs.Map.{Call, adds, fetches, removes, Answer, told, handed, map_answers, AllNumbered}
 use Rattle.block_laws.specs.Listing.{FirstOf, NoneOf}
 use Rattle.keeping.specs.Says.{EmptySays, AddSays, FetchSays, RemoveSays, EntrySays}
@@ -94,5 +94,5 @@ pub record Keeping : Type 0 where
   pub listed :
       (a : List ℕ) (n : ℕ) (out : List ℕ) (f : Fetched) (out' : List ℕ) → FetchSays a n out f out' → (m : ℕ) → says_fetch f.fetch ≡ good m
       → (b : ℕ) × ((is_head a b ≡ true) × ((r : Listed) → EntrySays a b r → says_listed r ≡ good (record { block = b; number = n })))
-  pub none_passed : (a : List ℕ) (from : ℕ) (r : Listed) → EntrySays a from r → (h : Head) → says_listed r ≡ good h → FirstOf (is_head a) from (blocks_in a - from) h.block
+  pub none_passed : (a : List ℕ) (from : ℕ) (r : Listed) → EntrySays a from r → (h : Listed) → says_listed r ≡ good h → FirstOf (is_head a) from (blocks_in a - from) h.block
   pub none_left : (a : List ℕ) (from : ℕ) (r : Listed) → EntrySays a from r → says_listed r ≡ refuses 17 0 → NoneOf (is_head a) from (blocks_in a - from)

@@ -5,13 +5,17 @@ use Rattle.scope.specs.Limits.{copy_limit}
 use Rattle.scope.specs.Layout.{tables_in}
 use Rattle.scope.specs.Positions.{floaters}
 use Rattle.scope.specs.Masses.{total}
-use Rattle.scope.specs.Answers.{too_short, are_tables}
+use Rattle.scope.specs.Answers.{Said, good, refuses, too_short, are_tables, over_tables}
 use Rattle.areas.specs.Bounds.{Bounds}
 use Rattle.mass_laws.specs.Terms.{total_limit}
 
--- 13, 14, or 0 where neither is due
-unfoldable pub why_not : List ℕ → List ℤ → ℕ
-why_not bs ns = cond (too_short bs ns) 13 (cond (are_tables bs ns) 0 14)
+-- 13, or nothing where both areas are long enough
+abbrev pub length_said : List ℕ → List ℤ → Said (Unit {0})
+length_said bs ns = cond (too_short bs ns) (refuses 13 0) (good tt)
+
+-- 13, 14, or nothing where neither is due
+abbrev pub held_said : List ℕ → List ℤ → Said (Unit {0})
+held_said bs ns = over_tables bs ns (λ t. good tt)
 
 -- what holds where neither is
 pub record Grounds (bs : List ℕ) (ns : List ℤ) : Type 0 where

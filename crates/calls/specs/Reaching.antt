@@ -1,13 +1,13 @@
 -- What `reached` ensures: the positions that the places of a bracket name. A bracket that is no declaration has no places, and reaches none.
-use Rattle.std.specs.Prelude.{◌≡◌, cond, List, [], ℕ, ltb, ℤ, length}
-use Rattle.scope.specs.declared.answers.Count.{Count}
+use Rattle.std.specs.Prelude.{◌≡◌, cond, List, [], ℕ, ltb, ℤ, length, Result}
 use Rattle.scope.specs.Limits.{position_limit}
 use Rattle.scope.specs.Lists.{given}
 use Rattle.scope.specs.Tables.{Tables}
 use Rattle.scope.specs.Layout.{tables_in}
 use Rattle.scope.specs.Positions.{reached}
-use Rattle.scope.specs.Answers.{Said, good, refuses, says_count, over_tables, output_after}
+use Rattle.scope.specs.Answers.{Said, good, refuses, over_tables, output_after, says}
 use Rattle.calls.specs.Single.{element_at}
+use Rattle.scope.specs.declared.refusals.Refusal.{Refusal}
 
 -- the positions that bracket i reaches, ascending, brackets counted from 0
 abbrev pub reached_by : Tables → ℕ → List ℕ
@@ -21,6 +21,6 @@ reached_at t i = given (element_at t.brackets i) (λ k. good (length (reached t 
 abbrev pub reached_said : List ℕ → List ℤ → ℕ → List ℕ → Said ℕ
 reached_said bs ns i out = cond (ltb (length out) position_limit) (refuses 13 0) (over_tables bs ns (λ t. reached_at t i))
 
-pub record ReachedSays (bs : List ℕ) (ns : List ℤ) (i : ℕ) (out : List ℕ) (r : Count) (out' : List ℕ) : Type 0 where
-  pub says : says_count r ≡ reached_said bs ns i out
+pub record ReachedSays (bs : List ℕ) (ns : List ℤ) (i : ℕ) (out : List ℕ) (r : Result ℕ Refusal) (out' : List ℕ) : Type 0 where
+  pub says : says r ≡ reached_said bs ns i out
   pub after : out' ≡ output_after (reached_said bs ns i out) (reached_by (tables_in bs ns) i) out

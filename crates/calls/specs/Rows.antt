@@ -1,12 +1,11 @@
 -- What is ready before the rows are filled in: a refusal, or the table of where each floater may stand.
-use Rattle.std.specs.Prelude.{◌≡◌, List, ℕ, ◌≤◌, ℤ, length}
+use Rattle.std.specs.Prelude.{◌≡◌, List, ℕ, ◌≤◌, ℤ, length, Result, Ok, Err}
 use Rattle.scope.specs.declared.answers.Site.{Site}
-use Rattle.scope.specs.declared.answers.Count.{Count}
-use Rattle.scope.specs.declared.answers.Count.TheVariants.{Is, Refused}
 use Rattle.scope.specs.Limits.{row_limit}
-use Rattle.scope.specs.Answers.{refuses, rows_said}
+use Rattle.scope.specs.Answers.{says, rows_said}
 use Rattle.areas.specs.Floats.{Sized, TableIs}
 use Rattle.calls.specs.Held.{Grounds}
+use Rattle.scope.specs.declared.refusals.Refusal.{Refusal}
 
 -- so many floaters, and their table
 pub record RowsTable (bs : List ℕ) (ns : List ℤ) (room : ℕ) (tab : List ℕ) (k : ℕ) : Type 0 where
@@ -15,6 +14,6 @@ pub record RowsTable (bs : List ℕ) (ns : List ℤ) (room : ℕ) (tab : List �
   pub sized : Sized tab k
   pub table : TableIs bs ns tab k
 
-abbrev pub RowsReady : List ℕ → List ℤ → ℕ → Count → List ℕ → Type 0
-RowsReady bs ns room (Is k) tab = RowsTable bs ns room tab k
-RowsReady bs ns room (Refused n p) tab = (out : List Site) → length out ≡ room → refuses n p ≡ rows_said bs ns out
+abbrev pub RowsReady : List ℕ → List ℤ → ℕ → Result ℕ Refusal → List ℕ → Type 0
+RowsReady bs ns room (Ok k) tab = RowsTable bs ns room tab k
+RowsReady bs ns room (Err e) tab = (out : List Site) → length out ≡ room → says (Err e) ≡ rows_said bs ns out

@@ -8,11 +8,12 @@ use lib.Ieee.{Float}
 use lib.Dec.{eqb}
 use borrow.Author.Tests.{ne_eqb}
 use Rattle.scope.specs.declared.answers.Mass.{Mass}
-use Rattle.scope.specs.Answers.{Said, good, refuses, met, Display}
-use Rattle.scope.specs.Positions.{Found}
+use Rattle.scope.specs.Answers.{Said, good, refuses, met}
 use Rattle.export.specs.Numbers.{number_of, Numbered}
 use Rattle.export.specs.Handed.{Counted, LookedUp}
 use Rattle.export.specs.Shapes.{Measured, Totalled, Massed, Displayed}
+use Rattle.scope.specs.declared.answers.Row.{Row}
+use Rattle.scope.specs.declared.answers.Shown.{Shown}
 
 pub numbered_so : {said meant : Said (Unit {0})} {place number place' : ℕ} → said ≡ meant → Numbered said place number place' → Numbered meant place number place'
 numbered_so {place = p} {number = n} {place' = p'} e h = subst (λ s. Numbered s p n p') e h
@@ -20,7 +21,7 @@ numbered_so {place = p} {number = n} {place' = p'} e h = subst (λ s. Numbered s
 pub counted_so : {said meant : Said ℕ} {count number count' : ℕ} → said ≡ meant → Counted said count number count' → Counted meant count number count'
 counted_so {count = k} {number = n} {count' = k'} e h = subst (λ s. Counted s k n k') e h
 
-pub looked_so : {said meant : Said Found} {index position number index' position' : ℕ} → said ≡ meant → LookedUp said index position number index' position' → LookedUp meant index position number index' position'
+pub looked_so : {said meant : Said Row} {index position number index' position' : ℕ} → said ≡ meant → LookedUp said index position number index' position' → LookedUp meant index position number index' position'
 looked_so {index = i} {position = x} {number = n} {index' = i'} {position' = x'} e h = subst (λ s. LookedUp s i x n i' x') e h
 
 pub measured_so : {said meant : Said ℕ} {count number count' : ℕ} → said ≡ meant → Measured said count number count' → Measured meant count number count'
@@ -34,7 +35,7 @@ pub massed_so : {said meant : Said Mass} {millionths : ℤ} {sort number : ℕ} 
     → Massed said millionths sort number millionths' sort' → Massed meant millionths sort number millionths' sort'
 massed_so {millionths = m} {sort = s} {number = n} {millionths' = m'} {sort' = s'} e h = subst (λ x. Massed x m s n m' s') e h
 
-pub displayed_so : {said meant : Said Display} {mass : Float} {missing number : ℕ} {mass' : Float} {missing' : ℕ} → said ≡ meant
+pub displayed_so : {said meant : Said Shown} {mass : Float} {missing number : ℕ} {mass' : Float} {missing' : ℕ} → said ≡ meant
     → Displayed said mass missing number mass' missing' → Displayed meant mass missing number mass' missing'
 displayed_so {mass = x} {missing = k} {number = n} {mass' = x'} {missing' = k'} e h = subst (λ s. Displayed s x k n x' k') e h
 

@@ -5,9 +5,9 @@ use Rattle.scope.specs.declared.answers.Listing.{Listing}
 use Rattle.scope.specs.declared.tables.Limits.{Limits}
 use Rattle.scope.specs.Limits.{line_limit, residue_limit, bracket_limit, part_limit, text_limit, label_limit, depth_limit, count_limit, declaration_limit, place_limit, copy_limit, row_limit, position_limit, size_limit, decimal_limit, block_size, block_limit}
 use Rattle.scope.specs.Layout.{bytes_size, numbers_size, tables_in}
-use Rattle.scope.specs.Positions.{Found}
 use Rattle.scope.specs.Answers.{Said, rows_said, rows_after, requests, listing_after}
 use Rattle.export.specs.Numbers.{number_of, left}
+use Rattle.scope.specs.declared.answers.Row.{Row}
 
 -- a count: how many there are
 pub record Counted (said : Said ℕ) (count number count' : ℕ) : Type 0 where
@@ -20,7 +20,7 @@ pub record RowsHanded (bytes : List ℕ) (numbers : List ℤ) (rows : List Site)
   pub rows_after_lem : rows' ≡ rows_after (rows_said bytes numbers rows) (tables_in bytes numbers) rows
 
 -- what a lookup answers: the index and the position of the row
-pub record LookedUp (said : Said Found) (index position number index' position' : ℕ) : Type 0 where
+pub record LookedUp (said : Said Row) (index position number index' position' : ℕ) : Type 0 where
   pub number_is : number ≡ number_of said
   pub index_is : index' ≡ left said (λ f. f.index) index
   pub position_is : position' ≡ left said (λ f. f.position) position

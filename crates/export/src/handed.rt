@@ -1,17 +1,18 @@
 // Counts, rows, their lookup, the listing and the limits for C, Rust and Python: values and structs that the caller lends.
 ghost use Rattle.std.specs.Prelude.{◌≡◌};
-ghost use Rattle.scope.specs.Answers.{says_lookup, looks_up};
+ghost use Rattle.scope.specs.Answers.{looks_up, says};
 ghost use Rattle.export.specs.Handed.{RowsHanded, LookedUp, MovedOn, the_limits, the_version};
 
-use crate::{request_number, tell_count};
-use scope::answers::{Listing, Lookup, Site};
+use crate::{number_of, tell_count};
+use scope::answers::{Listing, Row, Site};
+use scope::refusals::Refusal;
 use scope::tables::Limits;
 
 // The listing moved on: 0 with the next placement in it, else the number of the refusal (13, 14, 17, 18) with the listing as it was. It may hold any bytes.
 pub fn hwemiduk_next(bytes: &[u8], numbers: &[i64], listing: &mut Listing) -> u8
     ensures { MovedOn bytes.now numbers.now listing.old result listing.new }
 {
-    request_number(listing::step(bytes, numbers, listing))
+    number_of(listing::step(bytes, numbers, listing))
 }
 
 // The permitted positions as rows, ascending: 0 with their number in `count`, and rows past them as they were; else the number of the refusal (13, 14).
@@ -22,19 +23,16 @@ pub fn hwemiduk_rows(bytes: &[u8], numbers: &[i64], rows: &mut [Site], count: &m
 }
 
 // A lookup, handed out.
-fn tell_lookup(l: Lookup, index: &mut usize, position: &mut u16) -> u8
-    ensures { LookedUp (says_lookup l) index.old position.old result index.new position.new }
+fn tell_row(answer: Result<Row, Refusal>, index: &mut usize, position: &mut u16) -> u8
+    ensures { LookedUp (says answer) index.old position.old result index.new position.new }
 {
-    match l {
-        Lookup::Row {
-            index: i,
-            position: x,
-        } => {
-            *index = i;
-            *position = x;
+    match answer {
+        Ok(row) => {
+            *index = row.index;
+            *position = row.position;
             0
         }
-        Lookup::Refused { number } => number,
+        Err(refusal) => refusal.reason as u8,
     }
 }
 
@@ -48,7 +46,7 @@ pub fn hwemiduk_first_row(
 ) -> u8
     ensures { LookedUp (looks_up rows.now n floater) index.old position.old result index.new position.new }
 {
-    tell_lookup(rows::first_row(rows, n, floater), index, position)
+    tell_row(rows::first_row(rows, n, floater), index, position)
 }
 
 // All limits and sizes.

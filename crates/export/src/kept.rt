@@ -2,44 +2,22 @@
 ghost use Rattle.std.specs.Prelude.{◌≡◌, ◌≤◌, length};
 ghost use Rattle.scope.specs.Limits.{copy_limit};
 ghost use Rattle.scope.specs.Lists.{laid};
-ghost use Rattle.scope.specs.Answers.{says_change};
-ghost use Rattle.blocks.specs.Answers.{listed_from, says_listed, survey_said, says_survey};
+ghost use Rattle.blocks.specs.Answers.{listed_from, survey_said};
 ghost use Rattle.export.specs.Numbers.{number_of, Numbered};
 ghost use Rattle.export.specs.Blocks.{EmptyHanded, AddHanded, FetchHanded, RemoveHanded, HeadHanded, Surveyed};
+ghost use Rattle.scope.specs.Answers.{says};
 
 use crate::tables::placement_in;
-use blocks::{Fetch, Listed, Survey};
-use scope::answers::{Change, Placement};
-
-// The number of a change.
-fn change_number(c: Change) -> u8
-    ensures { result ≡ number_of (says_change c) }
-{
-    match c {
-        Change::Made => 0,
-        Change::Refused { number, place: _ } => number,
-    }
-}
-
-// A change, with the place of a refusal.
-fn tell_change(c: Change, place: &mut usize) -> u8
-    ensures { Numbered (says_change c) place.old result place.new }
-{
-    match c {
-        Change::Made => 0,
-        Change::Refused { number, place: p } => {
-            *place = p;
-            number
-        }
-    }
-}
+use crate::{number_of, tell};
+use blocks::{Listed, Survey};
+use scope::answers::Placement;
+use scope::refusals::{Reason, Refusal};
 
 // Makes an empty area, whatever it held: 0; else 26, with the area as it was.
 pub fn hwemiduk_blocks_empty(area: &mut [u8]) -> u8
     ensures { EmptyHanded area.old result area.new }
 {
-    let c = keeping::empty(area);
-    change_number(c)
+    number_of(keeping::empty(area))
 }
 
 // Adds a line with an allowed placement under a number: 0; else 13 where fewer entries than a placement has are lent, the line's own refusals, 18, 26, 25, 23 or 24,
@@ -55,23 +33,12 @@ pub fn hwemiduk_blocks_add(
 {
     if placement.len() < Placement::COPIES {
         *place = 0;
-        return 13;
+        return Reason::ShortArea as u8;
     }
-    let p = placement_in(placement);
-    let c = keeping::add(area, number, p, line);
-    tell_change(c, place)
-}
-
-// The entries of a placement, at the front of a slice.
-fn put_placement(at: [u16; Placement::COPIES], placement: &mut [u16])
-    requires { copy_limit ≤ length placement.old }
-    ensures { placement.new ≡ laid at placement.old }
-{
-    let mut i: usize = 0;
-    while i < Placement::COPIES {
-        placement[i] = at[i];
-        i += 1;
-    }
+    tell(
+        keeping::add(area, number, placement_in(placement), line),
+        place,
+    )
 }
 
 // Fetches the entry under a number: 0 with its placement in the first entries lent, its line at the front of an output of any length and the line's length; else 13
@@ -86,23 +53,19 @@ pub fn hwemiduk_blocks_fetch(
     ensures { FetchHanded area.now number placement.old out.old needed.old result placement.new out.new needed.new }
 {
     if placement.len() < Placement::COPIES {
-        return 13;
+        return Reason::ShortArea as u8;
     }
-    let f = keeping::fetch(area, number, out);
-    let fetch = f.fetch;
-    let at = f.at;
-    match fetch {
-        Fetch::Line(n) => {
-            put_placement(at, placement);
-            *needed = n;
+    match keeping::fetch(area, number, out) {
+        Ok(fetched) => {
+            placement[..Placement::COPIES].copy_from_slice(&fetched.at);
+            *needed = fetched.size;
             0
         }
-        Fetch::Refused { number: m, place } => {
-            if m == 15 {
-                *needed = place;
-                return m;
+        Err(refusal) => {
+            if refusal.reason == Reason::ShortOutput {
+                *needed = refusal.place;
             }
-            m
+            refusal.reason as u8
         }
     }
 }
@@ -111,27 +74,20 @@ pub fn hwemiduk_blocks_fetch(
 pub fn hwemiduk_blocks_remove(area: &mut [u8], number: u32) -> u8
     ensures { RemoveHanded area.old number result area.new }
 {
-    let c = keeping::remove(area, number);
-    change_number(c)
+    number_of(keeping::remove(area, number))
 }
 
 // A listed entry, handed out.
-fn tell_listed(l: Listed, block: &mut usize, number: &mut u32) -> u8
-    ensures { HeadHanded (says_listed l) block.old number.old result block.new number.new }
+fn tell_listed(answer: Result<Listed, Refusal>, block: &mut usize, number: &mut u32) -> u8
+    ensures { HeadHanded (says answer) block.old number.old result block.new number.new }
 {
-    match l {
-        Listed::Entry {
-            block: b,
-            number: m,
-        } => {
-            *block = b;
-            *number = m;
+    match answer {
+        Ok(listed) => {
+            *block = listed.block;
+            *number = listed.number;
             0
         }
-        Listed::Refused {
-            number: m,
-            place: _,
-        } => m,
+        Err(refusal) => refusal.reason as u8,
     }
 }
 
@@ -139,40 +95,30 @@ fn tell_listed(l: Listed, block: &mut usize, number: &mut u32) -> u8
 pub fn hwemiduk_blocks_entry(area: &[u8], from: usize, block: &mut usize, number: &mut u32) -> u8
     ensures { HeadHanded (listed_from area.now from) block.old number.old result block.new number.new }
 {
-    let l = keeping::entry_from(area, from);
-    tell_listed(l, block, number)
+    tell_listed(keeping::entry_from(area, from), block, number)
 }
 
 // A survey, handed out.
 fn tell_survey(
-    s: Survey,
+    answer: Result<Survey, Refusal>,
     free: &mut usize,
     first: &mut usize,
     further: &mut usize,
     other: &mut usize,
     unsound: &mut usize,
 ) -> u8
-    ensures { Surveyed (says_survey s) free.old first.old further.old other.old unsound.old result free.new first.new further.new other.new unsound.new }
+    ensures { Surveyed (says answer) free.old first.old further.old other.old unsound.old result free.new first.new further.new other.new unsound.new }
 {
-    match s {
-        Survey::Blocks {
-            free: f,
-            first: i,
-            further: u,
-            other: o,
-            unsound: n,
-        } => {
-            *free = f;
-            *first = i;
-            *further = u;
-            *other = o;
-            *unsound = n;
+    match answer {
+        Ok(survey) => {
+            *free = survey.free;
+            *first = survey.first;
+            *further = survey.further;
+            *other = survey.other;
+            *unsound = survey.unsound;
             0
         }
-        Survey::Refused {
-            number: m,
-            place: _,
-        } => m,
+        Err(refusal) => refusal.reason as u8,
     }
 }
 
@@ -187,6 +133,5 @@ pub fn hwemiduk_blocks_survey(
 ) -> u8
     ensures { Surveyed (survey_said area.now) free.old first.old further.old other.old unsound.old result free.new first.new further.new other.new unsound.new }
 {
-    let s = keeping::survey(area);
-    tell_survey(s, free, first, further, other, unsound)
+    tell_survey(keeping::survey(area), free, first, further, other, unsound)
 }

@@ -7,64 +7,63 @@ pub mod printed;
 pub mod tables;
 
 ghost use Rattle.std.specs.Prelude.{◌≡◌};
-ghost use Rattle.scope.specs.Answers.{says_read, says_write, says_count, says_request};
 ghost use Rattle.export.specs.Numbers.{Numbered, Judged, Exported, number_of};
 ghost use Rattle.export.specs.Handed.{Counted};
 ghost use Rattle.export.specs.Shapes.{Measured, PiecesHanded};
+ghost use Rattle.scope.specs.Answers.{says};
 
-use scope::answers::{Count, Read, Request, Write};
+use scope::refusals::{Reason, Refusal};
 
-// A reader's answer, handed out.
-fn tell_read(r: Read, place: &mut usize) -> u8
-    ensures { Numbered (says_read r) place.old result place.new }
+// 0, or the number of a refusal.
+fn number_of(answer: Result<(), Refusal>) -> u8
+    ensures { result ≡ number_of (says answer) }
 {
-    match r {
-        Read::Accepted => 0,
-        Read::Refused { number, place: p } => {
-            *place = p;
-            number
-        }
+    match answer {
+        Ok(()) => 0,
+        Err(refusal) => refusal.reason as u8,
     }
 }
 
-// The number of a request's answer.
-fn request_number(r: Request) -> u8
-    ensures { result ≡ number_of (says_request r) }
+// The same, with the place of a refusal.
+fn tell(answer: Result<(), Refusal>, place: &mut usize) -> u8
+    ensures { Numbered (says answer) place.old result place.new }
 {
-    match r {
-        Request::Met => 0,
-        Request::Refused { number } => number,
+    match answer {
+        Ok(()) => 0,
+        Err(refusal) => {
+            *place = refusal.place;
+            refusal.reason as u8
+        }
     }
 }
 
 // A count, handed out.
-fn tell_count(c: Count, count: &mut usize) -> u8
-    ensures { Counted (says_count c) count.old result count.new }
+fn tell_count(answer: Result<usize, Refusal>, count: &mut usize) -> u8
+    ensures { Counted (says answer) count.old result count.new }
 {
-    match c {
-        Count::Is(n) => {
+    match answer {
+        Ok(n) => {
             *count = n;
             0
         }
-        Count::Refused { number, place: _ } => number,
+        Err(refusal) => refusal.reason as u8,
     }
 }
 
-// A writer's answer, handed out.
-fn tell_write(w: Write, length: &mut usize) -> u8
-    ensures { Measured (says_write w) length.old result length.new }
+// How long what was written is, or with 15 the length needed.
+fn tell_length(answer: Result<usize, Refusal>, length: &mut usize) -> u8
+    ensures { Measured (says answer) length.old result length.new }
 {
-    match w {
-        Write::Written(n) => {
+    match answer {
+        Ok(n) => {
             *length = n;
             0
         }
-        Write::Refused { number, place } => {
-            if number == 15 {
-                *length = place;
-                return number;
+        Err(refusal) => {
+            if refusal.reason == Reason::ShortOutput {
+                *length = refusal.place;
             }
-            number
+            refusal.reason as u8
         }
     }
 }
@@ -73,8 +72,7 @@ fn tell_write(w: Write, length: &mut usize) -> u8
 pub fn hwemiduk_verdict(line: &[u8], place: &mut usize) -> u8
     ensures { Judged line.now place.old result place.new }
 {
-    let r = verdict::verdict_on(line);
-    tell_read(r, place)
+    tell(verdict::verdict_on(line), place)
 }
 
 // Reads any bytes into the two areas: 0 where the line is accepted, with its tables in the areas and what lies past the fixed sizes as it was; else the number of
@@ -82,8 +80,7 @@ pub fn hwemiduk_verdict(line: &[u8], place: &mut usize) -> u8
 pub fn hwemiduk_read(line: &[u8], bytes: &mut [u8], numbers: &mut [i64], place: &mut usize) -> u8
     ensures { Exported line.now bytes.old numbers.old place.old result place.new bytes.new numbers.new }
 {
-    let r = reader::read(line, bytes, numbers);
-    tell_read(r, place)
+    tell(reader::read(line, bytes, numbers), place)
 }
 
 // The pieces of a text behind `Glycan:`, two bytes each, into an output of any length: 0 and how many bytes were written, with those behind them as they were; else 15
@@ -91,6 +88,5 @@ pub fn hwemiduk_read(line: &[u8], bytes: &mut [u8], numbers: &mut [i64], place: 
 pub fn hwemiduk_composition(text: &[u8], pieces: &mut [u8], length: &mut usize) -> u8
     ensures { PiecesHanded text.now pieces.old length.old result length.new pieces.new }
 {
-    let w = glycans::pieces(text, pieces);
-    tell_write(w, length)
+    tell_length(glycans::pieces(text, pieces), length)
 }

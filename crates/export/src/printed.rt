@@ -3,6 +3,7 @@ ghost use Rattle.std.specs.Prelude.{◌≤◌, length, take};
 ghost use Rattle.export.specs.Shapes.{Fitted, EntryHanded};
 
 use entries::{ENTRY, put_entry};
+use scope::refusals::Reason;
 use scope::tables::Tables;
 use sheet::Sheet;
 
@@ -13,7 +14,7 @@ fn hand_out(text: &[u8], n: usize, out: &mut [u8], needed: &mut usize) -> u8
 {
     *needed = n;
     if out.len() < n {
-        return 15;
+        return Reason::ShortOutput as u8;
     }
     bounds::copy_bytes(text, n, out);
     0

@@ -1,36 +1,34 @@
 // The calls over tables in lent areas: the two areas are only read, and any content of theirs is answered.
 ghost use Rattle.std.specs.Prelude.{◌≡◌, ◌++◌, ◌≤◌, length, take, drop};
 ghost use Rattle.scope.specs.Limits.{copy_limit};
-ghost use Rattle.scope.specs.Answers.{says_total, says_mass, says_shown, counts, residue_count, bracket_count, floater_count, totals, shows};
+ghost use Rattle.scope.specs.Answers.{counts, residue_count, bracket_count, floater_count, totals, shows, says};
 ghost use Rattle.calls.specs.Single.{weighs_at};
 ghost use Rattle.export.specs.Handed.{Counted};
 ghost use Rattle.export.specs.Shapes.{Written, Totalled, Massed, Displayed, AllowedLent, ReadEntered, FloatersHanded, WhyHanded, ReachedHanded};
 
-use crate::{request_number, tell_count, tell_write};
-use scope::answers::{Booked, BracketMass, Count, Ledger, Mass, Placement, Shown, Total};
+use crate::{number_of, tell, tell_count, tell_length};
+use scope::answers::{Ledger, Mass, Placement, Shown};
+use scope::refusals::{Reason, Refusal};
 
 // How many residues there are: 0 and the count; else 13 or 14.
 pub fn hwemiduk_residues(bytes: &[u8], numbers: &[i64], count: &mut usize) -> u8
     ensures { Counted (counts bytes.now numbers.now residue_count) count.old result count.new }
 {
-    let c = calls::residue_count(bytes, numbers);
-    tell_count(c, count)
+    tell_count(calls::residue_count(bytes, numbers), count)
 }
 
 // How many brackets, likewise.
 pub fn hwemiduk_brackets(bytes: &[u8], numbers: &[i64], count: &mut usize) -> u8
     ensures { Counted (counts bytes.now numbers.now bracket_count) count.old result count.new }
 {
-    let c = calls::bracket_count(bytes, numbers);
-    tell_count(c, count)
+    tell_count(calls::bracket_count(bytes, numbers), count)
 }
 
 // How many floating copies, likewise.
 pub fn hwemiduk_floaters(bytes: &[u8], numbers: &[i64], count: &mut usize) -> u8
     ensures { Counted (counts bytes.now numbers.now floater_count) count.old result count.new }
 {
-    let c = calls::floater_count(bytes, numbers);
-    tell_count(c, count)
+    tell_count(calls::floater_count(bytes, numbers), count)
 }
 
 // The floaters in order, for each its bracket, counted from 0, and which copy of it it is, counted from 1: 0 with their number, and entries past them as they
@@ -44,8 +42,10 @@ pub fn hwemiduk_floater_brackets(
 ) -> u8
     ensures { FloatersHanded bytes.now numbers.now brackets.old copies.old count.old result count.new brackets.new copies.new }
 {
-    let c = calls::floater_brackets(bytes, numbers, brackets, copies);
-    tell_count(c, count)
+    tell_count(
+        calls::floater_brackets(bytes, numbers, brackets, copies),
+        count,
+    )
 }
 
 // The positions that the places of a bracket name, brackets counted from 0: 0 with their number, ascending in the slice, and entries past them as they were;
@@ -59,8 +59,7 @@ pub fn hwemiduk_reached(
 ) -> u8
     ensures { ReachedHanded bytes.now numbers.now bracket positions.old count.old result count.new positions.new }
 {
-    let c = calls::reached(bytes, numbers, bracket, positions);
-    tell_count(c, count)
+    tell_count(calls::reached(bytes, numbers, bracket, positions), count)
 }
 
 // Why there is no placement: 0 with how many floaters have too few positions together, none where there is a placement, and their numbers, from 1 and ascending, in the
@@ -74,18 +73,15 @@ pub fn hwemiduk_why_none(
     ensures { WhyHanded bytes.now numbers.now floaters.old count.old result count.new floaters.new }
 {
     if floaters.len() < Placement::COPIES {
-        return 13;
+        return Reason::ShortArea as u8;
     }
-    let w = calls::why_none(bytes, numbers);
-    let c = w.count;
-    let at = w.at;
-    match c {
-        Count::Is(n) => {
-            bounds::copy_bytes(&at, n, floaters);
-            *count = n;
+    match calls::why_none(bytes, numbers) {
+        Ok(why) => {
+            bounds::copy_bytes(&why.at, why.count, floaters);
+            *count = why.count;
             0
         }
-        Count::Refused { number, place: _ } => number,
+        Err(refusal) => refusal.reason as u8,
     }
 }
 
@@ -94,22 +90,21 @@ pub fn hwemiduk_why_none(
 pub fn hwemiduk_write(bytes: &[u8], numbers: &[i64], out: &mut [u8], length: &mut usize) -> u8
     ensures { Written bytes.now numbers.now out.old length.old result length.new out.new }
 {
-    let w = calls::write(bytes, numbers, out);
-    tell_write(w, length)
+    tell_length(calls::write(bytes, numbers, out), length)
 }
 
 // A total, handed out.
-fn tell_total(t: Total, millionths: &mut i64, place: &mut usize) -> u8
-    ensures { Totalled (says_total t) millionths.old place.old result millionths.new place.new }
+fn tell_total(answer: Result<i64, Refusal>, millionths: &mut i64, place: &mut usize) -> u8
+    ensures { Totalled (says answer) millionths.old place.old result millionths.new place.new }
 {
-    match t {
-        Total::Millionths(m) => {
+    match answer {
+        Ok(m) => {
             *millionths = m;
             0
         }
-        Total::Refused { number, place: p } => {
-            *place = p;
-            number
+        Err(refusal) => {
+            *place = refusal.place;
+            refusal.reason as u8
         }
     }
 }
@@ -118,8 +113,7 @@ fn tell_total(t: Total, millionths: &mut i64, place: &mut usize) -> u8
 pub fn hwemiduk_total(bytes: &[u8], numbers: &[i64], millionths: &mut i64, place: &mut usize) -> u8
     ensures { Totalled (totals bytes.now numbers.now) millionths.old place.old result millionths.new place.new }
 {
-    let t = calls::total(bytes, numbers);
-    tell_total(t, millionths, place)
+    tell_total(calls::total(bytes, numbers), millionths, place)
 }
 
 // How a bracket's mass is told to C: none, stated, only measured.
@@ -130,31 +124,19 @@ const STATED: u8 = 1;
 const MEASURED: u8 = 2;
 
 // A bracket's mass, handed out.
-fn tell_mass(b: BracketMass, millionths: &mut i64, sort: &mut u8) -> u8
-    ensures { Massed (says_mass b) millionths.old sort.old result millionths.new sort.new }
+fn tell_mass(answer: Result<Mass, Refusal>, millionths: &mut i64, sort: &mut u8) -> u8
+    ensures { Massed (says answer) millionths.old sort.old result millionths.new sort.new }
 {
-    match b {
-        BracketMass::Is(mass) => {
-            match mass {
-                Mass::Stated(m) => {
-                    *millionths = m;
-                    *sort = STATED;
-                    0
-                }
-                Mass::Measured(m) => {
-                    *millionths = m;
-                    *sort = MEASURED;
-                    0
-                }
-                Mass::None => {
-                    *millionths = 0;
-                    *sort = NONE;
-                    0
-                }
-            }
-        }
-        BracketMass::Refused { number } => number,
-    }
+    let mass = match answer {
+        Ok(mass) => mass,
+        Err(refusal) => return refusal.reason as u8,
+    };
+    (*millionths, *sort) = match mass {
+        Mass::Stated(m) => (m, STATED),
+        Mass::Measured(m) => (m, MEASURED),
+        Mass::None => (0, NONE),
+    };
+    0
 }
 
 // A bracket's own mass, brackets counted from 0: 0 with the millionths and whether they are stated or only measured, or none; else 13, 14 or 17.
@@ -167,35 +149,33 @@ pub fn hwemiduk_bracket_mass(
 ) -> u8
     ensures { Massed (weighs_at bytes.now numbers.now bracket) millionths.old sort.old result millionths.new sort.new }
 {
-    let b = calls::bracket_mass(bytes, numbers, bracket);
-    tell_mass(b, millionths, sort)
+    tell_mass(
+        calls::bracket_mass(bytes, numbers, bracket),
+        millionths,
+        sort,
+    )
 }
 
 // A display, handed out.
-fn tell_shown(s: Shown, daltons: &mut f64, missing: &mut usize) -> u8
-    ensures { Displayed (says_shown s) daltons.old missing.old result daltons.new missing.new }
+fn tell_shown(answer: Result<Shown, Refusal>, daltons: &mut f64, missing: &mut usize) -> u8
+    ensures { Displayed (says answer) daltons.old missing.old result daltons.new missing.new }
 {
-    match s {
-        Shown::Daltons(x) => {
-            *daltons = x;
-            *missing = 0;
-            0
-        }
-        Shown::Missing(n) => {
-            *daltons = 0.0;
-            *missing = n;
-            0
-        }
-        Shown::Refused { number } => number,
-    }
+    let shown = match answer {
+        Ok(shown) => shown,
+        Err(refusal) => return refusal.reason as u8,
+    };
+    (*daltons, *missing) = match shown {
+        Shown::Daltons(x) => (x, 0),
+        Shown::Missing(n) => (0.0, n),
+    };
+    0
 }
 
 // The total for display: 0 with the mass and none missing, or with 0.0 and how many lack one; else 13 or 14.
 pub fn hwemiduk_shown(bytes: &[u8], numbers: &[i64], daltons: &mut f64, missing: &mut usize) -> u8
     ensures { Displayed (shows bytes.now numbers.now) daltons.old missing.old result daltons.new missing.new }
 {
-    let s = calls::shown(bytes, numbers);
-    tell_shown(s, daltons, missing)
+    tell_shown(calls::shown(bytes, numbers), daltons, missing)
 }
 
 // The placement that a slice begins with.
@@ -204,11 +184,7 @@ pub fn placement_in(s: &[u16]) -> Placement
     ensures { result.at ≡ take copy_limit s.now }
 {
     let mut at = [0u16; Placement::COPIES];
-    let mut i: usize = 0;
-    while i < Placement::COPIES {
-        at[i] = s[i];
-        i += 1;
-    }
+    at.copy_from_slice(&s[..Placement::COPIES]);
     Placement { at }
 }
 
@@ -217,23 +193,9 @@ pub fn hwemiduk_allowed(bytes: &[u8], numbers: &[i64], placement: &[u16]) -> u8
     ensures { AllowedLent bytes.now numbers.now placement.now result }
 {
     if placement.len() < Placement::COPIES {
-        return 13;
+        return Reason::ShortArea as u8;
     }
-    let p = placement_in(placement);
-    let r = calls::is_allowed(bytes, numbers, p);
-    request_number(r)
-}
-
-// The first n entries of one slice into another, whose other entries stay.
-fn copy_entries(from: &[i64], n: usize, to: &mut [i64])
-    requires { (n ≤ length from.now) × (n ≤ length to.old) }
-    ensures { to.new ≡ take n from.now ++ drop n to.old }
-{
-    let mut i: usize = 0;
-    while i < n {
-        to[i] = from[i];
-        i += 1;
-    }
+    number_of(calls::is_allowed(bytes, numbers, placement_in(placement)))
 }
 
 // The ledger of the placement in the first eight entries: 0 with an entry written for each position; else 13, 14, 16 or 18, the entries as they were, and in `place`
@@ -247,26 +209,18 @@ pub fn hwemiduk_ledger(
 ) -> u8
     ensures { ReadEntered bytes.now numbers.now placement.now entries.old place.old result place.new entries.new }
 {
-    if placement.len() < Placement::COPIES {
+    if placement.len() < Placement::COPIES || entries.len() < Ledger::POSITIONS {
         *place = 0;
-        return 13;
+        return Reason::ShortArea as u8;
     }
-    if entries.len() < Ledger::POSITIONS {
-        *place = 0;
-        return 13;
-    }
-    let p = placement_in(placement);
-    let l = calls::ledger(bytes, numbers, p);
-    let booked = l.booked;
-    let at = l.at;
-    match booked {
-        Booked::Done => {
-            copy_entries(&at, Ledger::POSITIONS, entries);
+    match calls::ledger(bytes, numbers, placement_in(placement)) {
+        Ok(ledger) => {
+            entries[..Ledger::POSITIONS].copy_from_slice(&ledger.at);
             0
         }
-        Booked::Refused { number, place: why } => {
-            *place = why;
-            number
+        Err(refusal) => {
+            *place = refusal.place;
+            refusal.reason as u8
         }
     }
 }

@@ -1,9 +1,7 @@
 -- Demand 1 for the calls over an area of blocks: what each says is a success or a refusal with one of its numbers, an answer says it, and only one does.
-use Rattle.std.specs.Prelude.{◌≡◌, refl, ◌⊎◌, Bool, true, false, cond, List, [], ◌∷◌, ◌++◌, ℕ, ◌≤◌, ltb, length, take, replicate}
+use Rattle.std.specs.Prelude.{◌≡◌, refl, ◌⊎◌, Bool, true, false, cond, List, [], ◌∷◌, ◌++◌, ℕ, ◌≤◌, ltb, length, take, replicate, Result, Ok}
 use Rattle.std.proofs.Common.{sym, ap, ap₂, subst, ◌∙◌, inl, inr}
 use Rattle.std.proofs.Math.Option.{Option, none, some}
-use Rattle.scope.specs.declared.answers.Change.{Change}
-use Rattle.scope.specs.declared.answers.Change.TheVariants.{Made, Refused as change_refused}
 use Rattle.scope.specs.declared.answers.Placement.{Placement}
 use Rattle.scope.specs.Limits.{copy_limit}
 use Rattle.scope.specs.Lists.{given, first_in, laid}
@@ -11,18 +9,14 @@ use Rattle.scope.specs.Refusals.{Outcome, accepted, refused, outcome}
 use Rattle.scope.specs.Positions.{floating_of}
 use Rattle.scope.specs.Placements.{allowed}
 use Rattle.scope.specs.Canonical.{canonical}
-use Rattle.scope.specs.Answers.{Said, good, refuses, says_change, met}
+use Rattle.scope.specs.Answers.{Said, good, refuses, met, says}
 use Rattle.basics.specs.Each.{In}
 use Rattle.basics.specs.Members.{in_left, in_right}
-use Rattle.blocks.specs.declared.Fetch.{Fetch}
-use Rattle.blocks.specs.declared.Fetch.TheVariants.{Line as fetch_line, Refused as fetch_refused}
 use Rattle.blocks.specs.declared.Fetched.{Fetched}
-use Rattle.blocks.specs.declared.Listed.TheVariants.{Entry as listed_entry, Refused as listed_refused}
-use Rattle.blocks.specs.declared.Survey.TheVariants.{Blocks as survey_blocks, Refused as survey_refused}
 use Rattle.blocks.specs.Block.{free_block}
 use Rattle.blocks.specs.Area.{blocks_in, whole_blocks, frees, times, Put}
 use Rattle.blocks.specs.Entry.{Entry, positions_of, content_for, Looked, absent, damaged, present, look}
-use Rattle.blocks.specs.Answers.{head_at, heads, counts_of, area_after, empty_said, empty_after, fetched, fetch_said, fetched_length, fetched_placement, out_after, says_fetch, removed, removing, remove_said, removed_from, remove_after, blocks_for, room_for, placing, putting, adding_of, adding, add_said, added_to, add_after, listed_from, says_listed, survey_said, says_survey}
+use Rattle.blocks.specs.Answers.{head_at, heads, counts_of, area_after, empty_said, empty_after, fetched, fetch_said, fetched_length, fetched_placement, out_after, removed, removing, remove_said, removed_from, remove_after, blocks_for, room_for, placing, putting, adding_of, adding, add_said, added_to, add_after, listed_from, survey_said}
 use Rattle.keeping.specs.Steps.{Handed}
 use Rattle.keeping.specs.Says.{EmptySays, AddSays, FetchSays, RemoveSays, EntrySays, SurveySays}
 use Rattle.export.specs.Numbers.{number_of, left, place_left}
@@ -36,6 +30,7 @@ use Rattle.promises.proofs.AnsweringC as exported
 use Rattle.promises.proofs.Readers as readers
 use Rattle.blocks.specs.declared.Listed.{Listed}
 use Rattle.blocks.specs.declared.Survey.{Survey}
+use Rattle.scope.specs.declared.refusals.Refusal.{Refusal}
 
 -- ---- what can be said: a refusal has one of these numbers
 record Among {A : Type 0} (numbers : List ℕ) (s : Said A) : Type 0 where
@@ -61,19 +56,19 @@ done_refused (good x) e = absurd (not_both e)
 done_refused (refuses m q) e = ap₂ refuses (same_number_lem e) (same_place e)
 
 -- ---- what is said can be answered
-change_so : {numbers : List ℕ} (s : Said (Unit {0})) → Among numbers s → calls.Sayable says_change numbers s
-change_so (good x) h = calls.success Made refl
+change_so : {numbers : List ℕ} (s : Said (Unit {0})) → Among numbers s → calls.Sayable says numbers s
+change_so (good x) h = calls.success (Ok tt) refl
 change_so (refuses m q) h = calls.refusal (change_refused m q) refl (h.number m q refl)
 
-fetch_so : {numbers : List ℕ} (s : Said Entry) → Among numbers s → calls.Sayable says_fetch numbers (fetched_length s)
-fetch_so (good e) h = calls.success (fetch_line (length e.line)) refl
+fetch_so : {numbers : List ℕ} (s : Said Entry) → Among numbers s → calls.Sayable says numbers (fetched_length s)
+fetch_so (good e) h = calls.success (Ok (length e.line)) refl
 fetch_so (refuses m q) h = calls.refusal (fetch_refused m q) refl (h.number m q refl)
 
-listed_so : {numbers : List ℕ} (s : Said Listed) → Among numbers s → calls.Sayable says_listed numbers s
+listed_so : {numbers : List ℕ} (s : Said Listed) → Among numbers s → calls.Sayable says numbers s
 listed_so (good x) h = calls.success (listed_entry x.block x.number) refl
 listed_so (refuses m q) h = calls.refusal (listed_refused m q) refl (h.number m q refl)
 
-survey_so : {numbers : List ℕ} (s : Said Survey) → Among numbers s → calls.Sayable says_survey numbers s
+survey_so : {numbers : List ℕ} (s : Said Survey) → Among numbers s → calls.Sayable says numbers s
 survey_so (good x) h = calls.success (survey_blocks x.free x.first x.further x.other x.unsound) refl
 survey_so (refuses m q) h = calls.refusal (survey_refused m q) refl (h.number m q refl)
 
@@ -145,23 +140,23 @@ survey_among : (a : List ℕ) → Among (26 ∷ []) (survey_said a)
 survey_among a = over a (inl refl) fine
 
 -- ---- each call
-empty : (a : List ℕ) → Answered (λ (o : Change × List ℕ). EmptySays a o.0 o.1) (λ o. says_change o.0) (26 ∷ []) (λ o. o.1 ≡ a)
+empty : (a : List ℕ) → Answered (λ (o : (Result (Unit {0}) Refusal) × List ℕ). EmptySays a o.0 o.1) (λ o. says o.0) (26 ∷ []) (λ o. o.1 ≡ a)
 empty a =
-    calls.lent (calls.pair Change (List ℕ)) {says = says_change} (λ o. EmptySays a o.0 o.1) (empty_after a) a
+    calls.lent (calls.pair (Result (Unit {0}) Refusal) (List ℕ)) {says = says} (λ o. EmptySays a o.0 o.1) (empty_after a) a
     (λ o. ((λ w. (w.says, w.area_after_is)), (λ w. record { says = w.0; area_after_is = w.1 }))) change_same (change_so (empty_said a) (empty_among a))
     (λ n p q. ap (λ s. area_after s (times (blocks_in a) free_block) a) q)
 
 add : (a : List ℕ) (n : ℕ) (p : Placement) (s : List ℕ)
-    → Answered (λ (o : Change × List ℕ). AddSays a n p s o.0 o.1) (λ o. says_change o.0) add_numbers (λ o. o.1 ≡ a)
+    → Answered (λ (o : (Result (Unit {0}) Refusal) × List ℕ). AddSays a n p s o.0 o.1) (λ o. says o.0) add_numbers (λ o. o.1 ≡ a)
 add a n p s =
-    calls.lent (calls.pair Change (List ℕ)) {says = says_change} (λ o. AddSays a n p s o.0 o.1) (add_after a n p.at s) a
+    calls.lent (calls.pair (Result (Unit {0}) Refusal) (List ℕ)) {says = says} (λ o. AddSays a n p s o.0 o.1) (add_after a n p.at s) a
     (λ o. ((λ w. (w.says, w.area_after_is)), (λ w. record { says = w.0; area_after_is = w.1 }))) change_same
     (change_so (add_said a n p.at s) (done_among (adding a n p.at s) (add_among a n p.at s)))
     (λ m k q. ap (added_to a) (done_refused (adding a n p.at s) q))
 
-remove : (a : List ℕ) (n : ℕ) → Answered (λ (o : Change × List ℕ). RemoveSays a n o.0 o.1) (λ o. says_change o.0) (22 ∷ 25 ∷ 26 ∷ []) (λ o. o.1 ≡ a)
+remove : (a : List ℕ) (n : ℕ) → Answered (λ (o : (Result (Unit {0}) Refusal) × List ℕ). RemoveSays a n o.0 o.1) (λ o. says o.0) (22 ∷ 25 ∷ 26 ∷ []) (λ o. o.1 ≡ a)
 remove a n =
-    calls.lent (calls.pair Change (List ℕ)) {says = says_change} (λ o. RemoveSays a n o.0 o.1) (remove_after a n) a
+    calls.lent (calls.pair (Result (Unit {0}) Refusal) (List ℕ)) {says = says} (λ o. RemoveSays a n o.0 o.1) (remove_after a n) a
     (λ o. ((λ w. (w.says, w.area_after_is)), (λ w. record { says = w.0; area_after_is = w.1 }))) change_same
     (change_so (remove_said a n) (done_among (removing a n) (remove_among a n))) (λ m k q. ap (removed_from a) (done_refused (removing a n) q))
 
@@ -170,7 +165,7 @@ length_refused (good e) q = absurd (not_both q)
 length_refused (refuses m k) q = ap₂ refuses (same_number_lem q) (same_place q)
 
 fetch : (a : List ℕ) (n : ℕ) (out : List ℕ)
-    → Answered (λ (o : Fetched × List ℕ). FetchSays a n out o.0 o.1) (λ o. says_fetch o.0.fetch) (15 ∷ 22 ∷ 25 ∷ 26 ∷ [])
+    → Answered (λ (o : Fetched × List ℕ). FetchSays a n out o.0 o.1) (λ o. says o.0.fetch) (15 ∷ 22 ∷ 25 ∷ 26 ∷ [])
     (λ o. ◌≡◌ {A = List ℕ × List ℕ} (o.0.at, o.1) (replicate copy_limit 0, out))
 fetch a n out =
     let said = fetch_said a n (length out) in
@@ -183,7 +178,7 @@ fetch a n out =
       answers = λ r l. refl;
       leaves = λ r l. refl;
     })
-    {says = says_fetch} (λ o. FetchSays a n out o.0 o.1) (fetched_placement said, out_after said out) (replicate copy_limit 0, out)
+    {says = says} (λ o. FetchSays a n out o.0 o.1) (fetched_placement said, out_after said out) (replicate copy_limit 0, out)
     (λ o. (
       (λ w. (w.says, exported.pair2 w.placement w.output_after_is)),
       (λ w. record { says = w.0; placement = ap (λ z. z.0) w.1; output_after_is = ap (λ z. z.1) w.1 }),

@@ -1,9 +1,6 @@
 -- Demand 1 over what a caller in C sees: every exported call has exactly one outcome of numbers and lent slices, and refuses only with its own numbers.
 use Rattle.std.specs.Prelude.{◌≡◌, refl, List, [], ◌∷◌, ℕ, zero, suc, ◌≤◌, ltb, ℤ, Float, length, take}
 use Rattle.std.proofs.Common.{sym, ap, ◌∙◌, subst, inl, arith}
-use Rattle.scope.specs.declared.answers.Count.TheVariants.{Refused as count_refused}
-use Rattle.scope.specs.declared.answers.Request.TheVariants.{Refused as request_refused}
-use Rattle.scope.specs.declared.answers.Booked.TheVariants.{Refused as booked_refused}
 use Rattle.scope.specs.declared.answers.Listing.{Listing}
 use Rattle.scope.specs.declared.answers.Site.{Site}
 use Rattle.scope.specs.Limits.{copy_limit, position_limit}
@@ -11,7 +8,7 @@ use Rattle.scope.specs.Refusals.{outcome}
 use Rattle.scope.specs.Canonical.{canonical}
 use Rattle.scope.specs.Tables.{Tables}
 use Rattle.scope.specs.Layout.{tables_in}
-use Rattle.scope.specs.Answers.{Said, good, refuses, met, says_count, says_request, says_booked, read_outcome, says_outcome, bytes_after, numbers_after, writes, output_after, counts, totals, shows, rows_said, rows_after, looks_up, requests, listing_after, moved_on}
+use Rattle.scope.specs.Answers.{Said, good, refuses, met, read_outcome, says_outcome, bytes_after, numbers_after, writes, output_after, counts, totals, shows, rows_said, rows_after, looks_up, requests, listing_after, moved_on, says}
 use Rattle.basics.specs.Each.{In}
 use Rattle.export.specs.Numbers.{number_of, left, place_left, Judged, Exported}
 use Rattle.export.specs.Handed.{Counted, RowsHanded, LookedUp, MovedOn}
@@ -144,9 +141,9 @@ module _ (bs : List ℕ) (ns : List ℤ) where
       (λ o w. pair4 w.counted.number_is w.counted.count_is w.brackets_after w.copies_after) (λ o w. w.counted.number_is) (calls.floaters_so bs ns brs cps).number
       (λ o w n p q. (w.counted.count_is ∙ ap (λ z. left z (λ n. n) count) q, w.brackets_after ∙ ap (λ z. output_after z l brs) q, w.copies_after ∙ ap (λ z. output_after z m cps) q))
 
-  why_lent_so : (old l : List ℕ) → calls.Sayable says_count (13 ∷ 14 ∷ []) (why_lent bs ns old l)
+  why_lent_so : (old l : List ℕ) → calls.Sayable says (13 ∷ 14 ∷ []) (why_lent bs ns old l)
   why_lent_so old l =
-      calls.either (calls.Sayable says_count (13 ∷ 14 ∷ [])) (ltb (length old) copy_limit) (calls.refusal (count_refused 13 0) refl (inl refl)) (calls.why_so bs ns l)
+      calls.either (calls.Sayable says (13 ∷ 14 ∷ [])) (ltb (length old) copy_limit) (calls.refusal (count_refused 13 0) refl (inl refl)) (calls.why_so bs ns l)
 
   -- whichever set is named, it is the one that is meant
   why_so : (old : List ℕ) (count number count' : ℕ) (new : List ℕ) → WhyHanded bs ns old count number count' new → (l : List ℕ) → Reason (floating_of (tables_in bs ns)) l
@@ -189,9 +186,9 @@ module _ (bs : List ℕ) (ns : List ℤ) where
       (λ o w. pair3 w.number_is w.mass_is w.missing_is) (λ o w. w.number_is) (calls.shows_so bs ns).number
       (λ o w n p q. (w.mass_is ∙ ap (λ z. left z mass_of x) q, w.missing_is ∙ ap (λ z. left z lack_of k) q))
 
-  pub allows_lent_so : (p : List ℕ) → calls.Sayable says_request (13 ∷ 14 ∷ 18 ∷ []) (allows_lent bs ns p)
+  pub allows_lent_so : (p : List ℕ) → calls.Sayable says (13 ∷ 14 ∷ 18 ∷ []) (allows_lent bs ns p)
   allows_lent_so p =
-      calls.either (calls.Sayable says_request (13 ∷ 14 ∷ 18 ∷ [])) (ltb (length p) copy_limit) (calls.refusal (request_refused 13) refl (inl refl)) (calls.allows_so bs ns (take copy_limit p))
+      calls.either (calls.Sayable says (13 ∷ 14 ∷ 18 ∷ [])) (ltb (length p) copy_limit) (calls.refusal (request_refused 13) refl (inl refl)) (calls.allows_so bs ns (take copy_limit p))
 
   allowed : (p : List ℕ) → Answered (AllowedLent bs ns p) told (13 ∷ 14 ∷ 18 ∷ []) Nothing
   allowed p =
@@ -203,9 +200,9 @@ module _ (bs : List ℕ) (ns : List ℤ) where
       in_c (λ (o : ℕ × Listing). MovedOn bs ns l o.0 o.1) (λ o. o.1 ≡ l) (λ o. o.0) said (number_of said, listing_after bs ns l) (refl, refl) (λ o w. pair2 w.0 w.1) (λ o w. w.0)
       (λ n p q. (calls.requests_so bs ns l).number n p (ap met q)) (λ o w n p q. w.1 ∙ ap (moved_on l) q)
 
-  books_lent_so : (p : List ℕ) (old : List ℤ) → calls.Sayable says_booked (13 ∷ 14 ∷ 16 ∷ 18 ∷ []) (books_lent bs ns p old)
+  books_lent_so : (p : List ℕ) (old : List ℤ) → calls.Sayable says (13 ∷ 14 ∷ 16 ∷ 18 ∷ []) (books_lent bs ns p old)
   books_lent_so p old =
-      let P = calls.Sayable says_booked (13 ∷ 14 ∷ 16 ∷ 18 ∷ []) in
+      let P = calls.Sayable says (13 ∷ 14 ∷ 16 ∷ 18 ∷ []) in
       calls.either P (ltb (length p) copy_limit) (calls.refusal (booked_refused 13 0) refl (inl refl))
       (calls.either P (ltb (length old) position_limit) (calls.refusal (booked_refused 13 0) refl (inl refl)) (calls.books_so bs ns (take copy_limit p)))
 

@@ -1,10 +1,9 @@
 -- The calls over an area of blocks keep what is promised: each answers what the definitions say, so calls one after another are a run of the definitions, of which the
 -- laws of crate block_laws speak.
-use Rattle.std.specs.Prelude.{◌≡◌, refl, Bool, true, false, cond, ◌&&◌, List, [], ◌∷◌, ◌++◌, ℕ, ◌/◌, ◌%◌, ◌*◌, ◌^◌, ◌≤◌, ◌<◌, eqb, leb, ltb, length, take, drop, get_or, set}
+use Rattle.std.specs.Prelude.{◌≡◌, refl, Bool, true, false, cond, ◌&&◌, List, [], ◌∷◌, ◌++◌, ℕ, ◌/◌, ◌%◌, ◌*◌, ◌^◌, ◌≤◌, ◌<◌, eqb, leb, ltb, length, take, drop, get_or, set, Result, Ok}
 use Rattle.std.proofs.Common.{sym, ap, ap₂, subst, ◌∙◌, arith, leb-true, le-ltb, length-set}
 use Rattle.std.proofs.lemmas.Bool.{false≢true}
 use Rattle.std.proofs.Math.Seq.{take-append_seam}
-use Rattle.scope.specs.declared.answers.Change.{Change}
 use Rattle.scope.specs.declared.answers.Placement.{Placement}
 use Rattle.scope.specs.Bytes.{byte_limit}
 use Rattle.scope.specs.Limits.{block_size, block_limit}
@@ -12,16 +11,14 @@ use Rattle.scope.specs.Line.{Line}
 use Rattle.scope.specs.Lists.{member, laid}
 use Rattle.scope.specs.Refusals.{accepted, outcome}
 use Rattle.scope.specs.Canonical.{canonical}
-use Rattle.scope.specs.Answers.{Said, good, refuses, says_change, met}
+use Rattle.scope.specs.Answers.{Said, good, refuses, met, says}
 use Rattle.basics.specs.Each.{Each}
-use Rattle.blocks.specs.declared.Fetch.{Fetch}
-use Rattle.blocks.specs.declared.Fetch.TheVariants.{Line as fetch_line, Refused as fetch_refused}
 use Rattle.blocks.specs.declared.Fetched.{Fetched}
 use Rattle.blocks.specs.Block.{free_block}
 use Rattle.blocks.specs.declared.Listed.{Listed}
 use Rattle.blocks.specs.Area.{blocks_in, whole_blocks, all_sound, frees, times}
 use Rattle.blocks.specs.Entry.{Entry, positions_of, Looked, absent, damaged, present, look}
-use Rattle.blocks.specs.Answers.{area_after, empty_said, empty_after, fetched, fetch_said, fetched_length, fetched_placement, out_after, says_fetch, removed, removing, remove_said, remove_after, blocks_for, add_said, add_after, is_head, says_listed}
+use Rattle.blocks.specs.Answers.{area_after, empty_said, empty_after, fetched, fetch_said, fetched_length, fetched_placement, out_after, removed, removing, remove_said, remove_after, blocks_for, add_said, add_after, is_head}
 use Rattle.blocks.specs.Map.{Call, adds, fetches, removes, Answer, told, handed, answer, after, answers, run, map_answers, AllNumbered}
 use Rattle.block_laws.specs.AsMap as laws
 use Rattle.block_laws.proofs.OneByteLaws as one
@@ -32,16 +29,17 @@ use Rattle.keeping.specs.Steps.{Handed}
 use Rattle.keeping.specs.Says.{EmptySays, AddSays, FetchSays, RemoveSays, EntrySays}
 use Rattle.promises.specs.Keeping.{entry_fetched, FetchMade, CallSays, CallsSay, Undamaged, Keeping}
 use Rattle.basics.specs.Said.{not_both, same_good, same_number_lem, same_place}
+use Rattle.scope.specs.declared.refusals.Refusal.{Refusal}
 
 -- ---- what was fetched is what is said of it
-entry_said_lem : (said : Said Entry) (f : Fetch) (at out out' : List ℕ) → says_fetch f ≡ fetched_length said → at ≡ fetched_placement said → out' ≡ out_after said out
+entry_said_lem : (said : Said Entry) (f : Fetch) (at out out' : List ℕ) → says f ≡ fetched_length said → at ≡ fetched_placement said → out' ≡ out_after said out
     → entry_fetched f at out' ≡ said
-entry_said_lem (good e) (fetch_line m) at out out' s p o =
+entry_said_lem (good e) (Ok m) at out out' s p o =
     let long : m ≡ length e.line = same_good s in
     let front : take m out' ≡ e.line = ap₂ take long o ∙ take-append_seam e.line (drop (length e.line) out) in
     ap₂ (λ x y. good (record { placement = x; line = y })) p front
 entry_said_lem (good e) (fetch_refused n q) at out out' s p o = absurd (not_both (sym s))
-entry_said_lem (refuses n q) (fetch_line m) at out out' s p o = absurd (not_both s)
+entry_said_lem (refuses n q) (Ok m) at out out' s p o = absurd (not_both s)
 entry_said_lem (refuses n q) (fetch_refused m r) at out out' s p o = ap₂ refuses (same_number_lem s) (same_place s)
 
 fetch_made : (a : List ℕ) (n room : ℕ) (x : Answer) → FetchMade a n room x → x ≡ handed (fetch_said a n room)
@@ -141,7 +139,7 @@ whole_set a i c w = ap (λ n. eqb (n % block_size) 0 && leb 1 (n / block_size) &
 
 -- an entry that is found, fetched into an output that has room for it
 fetched_whole : (e : Entry) (out : List ℕ) (f : Fetched) (out' : List ℕ) (bs : List ℕ) → length e.line ≤ length out → Handed (fetched (present bs e) (length out)) out f out'
-    → (says_fetch f.fetch ≡ good (length e.line)) × (f.at ≡ e.placement) × (out' ≡ laid e.line out)
+    → (says f.fetch ≡ good (length e.line)) × (f.at ≡ e.placement) × (out' ≡ laid e.line out)
 fetched_whole e out f out' bs h w =
     let fits : fetched (present bs e) (length out) ≡ good e = ap (λ b. cond b (refuses 15 (length e.line)) (good e)) (le-ltb (length out) (length e.line) h) in
     let v = subst (λ s. Handed s out f out') fits w in
@@ -156,9 +154,9 @@ sound_then k cs xs a u =
     let w = known k cs xs a u in
     subst (λ b. (whole_blocks b ≡ true) × (all_sound b ≡ true) × Each (λ x. x < byte_limit) b) (sym w.area_is) (laws.run_sound k w.some w.few cs w.numbered)
 
-added_then : (a : List ℕ) (n : ℕ) → n < 2 ^ 32 → (p : Placement) (s : List ℕ) (r : Change) (a' : List ℕ) → AddSays a n p s r a' → says_change r ≡ good tt
+added_then : (a : List ℕ) (n : ℕ) → n < 2 ^ 32 → (p : Placement) (s : List ℕ) (r : Result (Unit {0}) Refusal) (a' : List ℕ) → AddSays a n p s r a' → says r ≡ good tt
     → (l : Line ℕ) → outcome s ≡ accepted l → (out : List ℕ) → length (canonical l) ≤ length out → (f : Fetched) (out' : List ℕ) → FetchSays a' n out f out'
-    → (says_fetch f.fetch ≡ good (length (canonical l))) × (f.at ≡ p.at) × (out' ≡ laid (canonical l) out)
+    → (says f.fetch ≡ good (length (canonical l))) × (f.at ≡ p.at) × (out' ≡ laid (canonical l) out)
 added_then a n h p s r a' w g l e out fits f out' v =
     let added : add_said a n p.at s ≡ good tt = sym w.says ∙ g in
     let entry : Entry = record { placement = p.at; line = canonical l } in
@@ -175,8 +173,8 @@ removes_added a n h p s added =
     ap (λ b. met (cond b (removed (look (add_after a n p s) n)) (refuses 26 0))) whole ∙ ap (λ x. met (removed x)) found
 
 again_then : (k : ℕ) (cs : List Call) (xs : List Answer) (a : List ℕ) → Undamaged k cs xs a
-    → (n : ℕ) → n < 2 ^ 32 → (p : Placement) (s : List ℕ) (r : Change) (a₁ : List ℕ) → AddSays a n p s r a₁ → says_change r ≡ good tt
-    → (q : Change) (a₂ : List ℕ) → RemoveSays a₁ n q a₂ → (says_change q ≡ good tt) × (a₂ ≡ a)
+    → (n : ℕ) → n < 2 ^ 32 → (p : Placement) (s : List ℕ) (r : Result (Unit {0}) Refusal) (a₁ : List ℕ) → AddSays a n p s r a₁ → says r ≡ good tt
+    → (q : Result (Unit {0}) Refusal) (a₂ : List ℕ) → RemoveSays a₁ n q a₂ → (says q ≡ good tt) × (a₂ ≡ a)
 again_then k cs xs a u n h p s r a₁ w g q a₂ v =
     let z = known k cs xs a u in
     let reached = run (times k free_block) cs in
@@ -199,19 +197,19 @@ module _ (k : ℕ) (cs : List Call) (xs : List Answer) (a : List ℕ) (u : Undam
         let two = fetch_said_lem a n (length out) (present bs e) s.0 found in
         fetch_moves (set a i c) a n out f out' (one ∙ sym two) w
 
-    touched_then : member (i / block_size) bs ≡ true → (out : List ℕ) (f : Fetched) (out' : List ℕ) → FetchSays (set a i c) n out f out' → says_fetch f.fetch ≡ refuses 25 0
+    touched_then : member (i / block_size) bs ≡ true → (out : List ℕ) (f : Fetched) (out' : List ℕ) → FetchSays (set a i c) n out f out' → says f.fetch ≡ refuses 25 0
     touched_then q out f out' w =
         let s = sound_then k cs xs a u in
         w.says ∙ ap fetched_length (fetch_said_lem (set a i c) n (length out) damaged (whole_set a i c s.0) (by_blocks q))
 
-  absent_after : look a n ≡ absent → (out : List ℕ) (f : Fetched) (out' : List ℕ) → FetchSays (set a i c) n out f out' → says_fetch f.fetch ≡ refuses 25 0
+  absent_after : look a n ≡ absent → (out : List ℕ) (f : Fetched) (out' : List ℕ) → FetchSays (set a i c) n out f out' → says f.fetch ≡ refuses 25 0
   absent_after q out f out' w =
       let s = sound_then k cs xs a u in
       let found = one.one_byte_absent a s.0 s.1 s.2 i c h l other n q in
       w.says ∙ ap fetched_length (fetch_said_lem (set a i c) n (length out) damaged (whole_set a i c s.0) found)
 
 -- ---- what was added lies in the lowest free blocks
-lowest_then : (a : List ℕ) (n : ℕ) → n < 2 ^ 32 → (p : Placement) (s : List ℕ) (r : Change) (a' : List ℕ) → AddSays a n p s r a' → says_change r ≡ good tt
+lowest_then : (a : List ℕ) (n : ℕ) → n < 2 ^ 32 → (p : Placement) (s : List ℕ) (r : Result (Unit {0}) Refusal) (a' : List ℕ) → AddSays a n p s r a' → says r ≡ good tt
     → (l : Line ℕ) → outcome s ≡ accepted l
     → look a' n ≡ present (take (blocks_for (length (positions_of p.at ++ canonical l))) (frees a)) (record { placement = p.at; line = canonical l })
 lowest_then a n h p s r a' w g l e = ap (λ x. look x n) w.area_after_is ∙ laws.fetch_added a n p.at s h l e (sym w.says ∙ g)
@@ -233,8 +231,8 @@ fetchable a n room m e = go (whole_blocks a) refl (look a n) refl e
     go true p damaged q f = absurd (not_both f)
     go true p (present bs x) q f = record { whole = p; blocks = bs; entry = x; there = q }
 
-listed_then : (a : List ℕ) (n : ℕ) (out : List ℕ) (f : Fetched) (out' : List ℕ) → FetchSays a n out f out' → (m : ℕ) → says_fetch f.fetch ≡ good m
-    → (b : ℕ) × ((is_head a b ≡ true) × ((r : Listed) → EntrySays a b r → says_listed r ≡ good (record { block = b; number = n })))
+listed_then : (a : List ℕ) (n : ℕ) (out : List ℕ) (f : Fetched) (out' : List ℕ) → FetchSays a n out f out' → (m : ℕ) → says f.fetch ≡ good m
+    → (b : ℕ) × ((is_head a b ≡ true) × ((r : Listed) → EntrySays a b r → says r ≡ good (record { block = b; number = n })))
 listed_then a n out f out' w m e =
     let z = fetchable a n (length out) m (sym e ∙ w.says) in
     let b = list.listed_found a n z.blocks z.entry z.whole z.there in

@@ -1,17 +1,10 @@
 -- Demands 2 and 3 over what a caller in C sees: each exported contract gives the inner one, of the answer that its numbers tell.
-use Rattle.std.specs.Prelude.{◌≡◌, ◌↔◌, ◌⊎◌, true, false, List, [], ◌∷◌, ℕ, zero, suc, ◌≤◌, ℤ, ◌+ℤ◌, Float, length, take, drop}
+use Rattle.std.specs.Prelude.{◌≡◌, ◌↔◌, ◌⊎◌, true, false, List, [], ◌∷◌, ℕ, zero, suc, ◌≤◌, ℤ, ◌+ℤ◌, Float, length, take, drop, Result, Ok}
 use Rattle.std.proofs.Math.Path.{refl, sym, ap}
 use Rattle.std.proofs.Common.{◌∙◌, subst, true≢false, arith, le-ltb, take_all}
 use Rattle.std.proofs.Math.Seq.{take-append_seam, drop-append_seam}
-use Rattle.scope.specs.declared.answers.Read.{Read}
-use Rattle.scope.specs.declared.answers.Read.TheVariants.{Accepted, Refused as read_refused}
-use Rattle.scope.specs.declared.answers.Count.{Count}
 use Rattle.scope.specs.declared.answers.Shown.{Shown}
 use Rattle.scope.specs.declared.answers.Site.{Site}
-use Rattle.scope.specs.declared.answers.Total.{Total}
-use Rattle.scope.specs.declared.answers.Total.TheVariants.{Millionths, Refused as total_refused}
-use Rattle.scope.specs.declared.answers.Request.{Request}
-use Rattle.scope.specs.declared.answers.Request.TheVariants.{Met, Refused as request_refused}
 use Rattle.scope.specs.declared.answers.Placement.{Placement}
 use Rattle.scope.specs.declared.answers.Listing.{Listing}
 use Rattle.scope.specs.Limits.{copy_limit, position_limit, row_limit}
@@ -23,7 +16,7 @@ use Rattle.scope.specs.Positions.{floating_of, floaters}
 use Rattle.scope.specs.Placements.{fresh_listing, allowed}
 use Rattle.scope.specs.Reasons.{Reason}
 use Rattle.scope.specs.Masses.{sum, ledger, labile_mass, daltons}
-use Rattle.scope.specs.Answers.{Said, good, refuses, met, Display, a_mass, lack, says_read, says_count, says_shown, says_total, says_request, counts, residue_count, bracket_count, floater_count, shows, rows_said, too_short, read_outcome, says_outcome, writes, output_after, totals, allows, requests, books, entries}
+use Rattle.scope.specs.Answers.{Said, good, refuses, met, counts, residue_count, bracket_count, floater_count, shows, rows_said, too_short, read_outcome, says_outcome, writes, output_after, totals, allows, requests, books, entries, says}
 use Rattle.scope.specs.Grammar.{Spelling, print, good as well_spelt}
 use Rattle.grammar_laws.specs.Laws.{Accepts, Refuses}
 use Rattle.basics.specs.Lists.{no_length}
@@ -49,18 +42,20 @@ use Rattle.promises.proofs.Weights as weights
 use Rattle.promises.proofs.Rows as rows
 use Rattle.promises.proofs.Listed as listed
 use Rattle.promises.proofs.Whys as whys
+use Rattle.scope.specs.declared.answers.Shown.TheVariants.{Daltons, Missing}
+use Rattle.scope.specs.declared.refusals.Refusal.{Refusal}
 
 -- ---- the answers that numbers tell
-abbrev read_told : ℕ → ℕ → Read
-read_told zero p = Accepted
+abbrev read_told : ℕ → ℕ → (Result (Unit {0}) Refusal)
+read_told zero p = (Ok tt)
 read_told (suc n) p = read_refused (suc n) p
 
-abbrev total_told : ℕ → ℤ → ℕ → Total
-total_told zero m p = Millionths m
+abbrev total_told : ℕ → ℤ → ℕ → (Result ℤ Refusal)
+total_told zero m p = Ok m
 total_told (suc n) m p = total_refused (suc n) p
 
-abbrev request_told : ℕ → Request
-request_told zero = Met
+abbrev request_told : ℕ → (Result (Unit {0}) Refusal)
+request_told zero = (Ok tt)
 request_told (suc n) = request_refused (suc n)
 
 -- no refusal has the number 0
@@ -71,22 +66,22 @@ no_zero : (numbers : List ℕ) → member 0 numbers ≡ false → (n : ℕ) → 
 no_zero numbers e zero i = absurd (true≢false (sym (in_member 0 numbers i) ∙ e))
 no_zero numbers e (suc n) i = omega arith
 
-told_read : (s : Said (Unit {0})) → Above s → (place : ℕ) → says_read (read_told (number_of s) (place_left s place)) ≡ s
+told_read : (s : Said (Unit {0})) → Above s → (place : ℕ) → says (read_told (number_of s) (place_left s place)) ≡ s
 told_read (good x) h place = refl
 told_read (refuses zero p) h place = absurd (let z = h zero p refl in omega (arith, z))
 told_read (refuses (suc n) p) h place = refl
 
-told_total : (s : Said ℤ) → Above s → (m : ℤ) (place : ℕ) → says_total (total_told (number_of s) (left s (λ x. x) m) (place_left s place)) ≡ s
+told_total : (s : Said ℤ) → Above s → (m : ℤ) (place : ℕ) → says (total_told (number_of s) (left s (λ x. x) m) (place_left s place)) ≡ s
 told_total (good x) h m place = refl
 told_total (refuses zero p) h m place = absurd (let z = h zero p refl in omega (arith, z))
 told_total (refuses (suc n) p) h m place = refl
 
 -- a request's refusal is at 0
-at_0 : (r : Request) {n p : ℕ} → says_request r ≡ refuses n p → 0 ≡ p
-at_0 Met e = absurd (not_both e)
+at_0 : (r : Result (Unit {0}) Refusal) {n p : ℕ} → says r ≡ refuses n p → 0 ≡ p
+at_0 (Ok tt) e = absurd (not_both e)
 at_0 (request_refused m) e = same_place e
 
-told_request : (s : Said (Unit {0})) → Above s → (r : Request) → says_request r ≡ s → says_request (request_told (number_of s)) ≡ s
+told_request : (s : Said (Unit {0})) → Above s → (r : Result (Unit {0}) Refusal) → says r ≡ s → says (request_told (number_of s)) ≡ s
 told_request (good x) h r e = refl
 told_request (refuses zero p) h r e = absurd (let z = h zero p refl in omega (arith, z))
 told_request (refuses (suc n) p) h r e = ap (refuses (suc n)) (at_0 r e)
@@ -96,15 +91,15 @@ number_met (good x) = refl
 number_met (refuses n p) = refl
 
 -- 0 is a success
-read_0 : (n p : ℕ) → (n ≡ 0) ↔ (says_read (read_told n p) ≡ good tt)
+read_0 : (n p : ℕ) → (n ≡ 0) ↔ (says (read_told n p) ≡ good tt)
 read_0 zero p = ((λ e. refl), (λ e. refl))
 read_0 (suc n) p = ((λ e. absurd (omega (arith, e))), (λ e. absurd (not_both (sym e))))
 
-request_0 : (n : ℕ) → (says_request (request_told n) ≡ good tt) ↔ (n ≡ 0)
+request_0 : (n : ℕ) → (says (request_told n) ≡ good tt) ↔ (n ≡ 0)
 request_0 zero = ((λ e. refl), (λ e. refl))
 request_0 (suc n) = ((λ e. absurd (not_both (sym e))), (λ e. absurd (omega (arith, e))))
 
-request_17 : (n : ℕ) → (says_request (request_told n) ≡ refuses 17 0) ↔ (n ≡ 17)
+request_17 : (n : ℕ) → (says (request_told n) ≡ refuses 17 0) ↔ (n ≡ 17)
 request_17 zero = ((λ e. absurd (not_both e)), (λ e. absurd (omega (arith, e))))
 request_17 (suc n) = ((λ e. same_number_lem e), (λ e. ap (λ z. refuses z 0) e))
 
@@ -114,7 +109,7 @@ read_inner s bs ns place n p bs' ns' w =
     let said = says_outcome (read_outcome bs ns s) in
     record {
       says =
-          ap (λ k. says_read (read_told k p)) w.numbered.number_is ∙ ap (λ k. says_read (read_told (number_of said) k)) w.numbered.place_is
+          ap (λ k. says (read_told k p)) w.numbered.number_is ∙ ap (λ k. says (read_told (number_of said) k)) w.numbered.place_is
           ∙ told_read said (λ k i q. (readers.read_said s bs ns k i (readers.outcome_refused (read_outcome bs ns s) q)).from_1) place;
       bytes_after_is = w.bytes_after_is;
       numbers_after_is = w.numbers_after_is;
@@ -128,7 +123,7 @@ accepts s bs ns place n p bs' ns' w =
 
 tables : (s bs : List ℕ) (ns : List ℤ) (place p : ℕ) (bs' : List ℕ) (ns' : List ℤ) → Exported s bs ns place 0 p bs' ns'
     → (t : Spelling) → well_spelt t ≡ true → s ≡ print t → Holding t bs ns bs' ns'
-tables s bs ns place p bs' ns' w t g e = (readers.accepting).tables s bs ns Accepted bs' ns' (read_inner s bs ns place 0 p bs' ns' w) refl t g e
+tables s bs ns place p bs' ns' w t g e = (readers.accepting).tables s bs ns (Ok tt) bs' ns' (read_inner s bs ns place 0 p bs' ns' w) refl t g e
 
 refuses_by : (s bs : List ℕ) (ns : List ℤ) (place n p : ℕ) (bs' : List ℕ) (ns' : List ℤ) → Exported s bs ns place n p bs' ns' → (n ≡ 0 → ⊥)
     → ((too_short bs ns ≡ true) × (n ≡ 13) × (p ≡ 0)) ⊎ ((too_short bs ns ≡ false) × Refuses s n p)
@@ -152,7 +147,7 @@ reads_back : (s bs : List ℕ) (ns : List ℤ) (place p : ℕ) (bs' : List ℕ) 
 reads_back s bs ns place p bs' ns' w out count n long out' v h =
     let x = (calls.write bs' ns' out).exactly_one in
     let i = write_inner bs' ns' out count n long out' v in
-    let r = (written.demand_2).reads_back s bs ns Accepted bs' ns' (read_inner s bs ns place 0 p bs' ns' w) refl out x.outcome.0 out' i h in
+    let r = (written.demand_2).reads_back s bs ns (Ok tt) bs' ns' (read_inner s bs ns place 0 p bs' ns' w) refl out x.outcome.0 out' i h in
     let said : writes bs' ns' out ≡ good r.long = sym i.says ∙ r.says in
     let e : long ≡ r.long = v.measured.count_is ∙ ap (λ z. length_left z count) said in
     record {
@@ -170,7 +165,7 @@ filed_inner {s} {bs} {ns} {bs'} {ns'} {out'} {m} f =
     let i = write_inner bs' ns' f.out f.count 0 m out' f.written in
     let g = f.written.measured in
     record {
-      answer = Accepted;
+      answer = (Ok tt);
       read = read_inner s bs ns f.place 0 f.place' bs' ns' f.read;
       accepted = refl;
       out = f.out;
@@ -188,14 +183,14 @@ module _ (bs : List ℕ) (ns : List ℤ) (h : weights.AreasTaken bs ns) where
   next_inner l n l' w =
       let said = met (requests bs ns l) in
       let can = calls.requests_so bs ns l in (
-        ap (λ k. says_request (request_told k)) (w.0 ∙ sym (number_met (requests bs ns l)))
+        ap (λ k. says (request_told k)) (w.0 ∙ sym (number_met (requests bs ns l)))
             ∙ told_request said (λ k i q. no_zero (13 ∷ 14 ∷ 17 ∷ 18 ∷ []) refl k (can.number k i q)) can.answer can.says_so,
         w.1,
       )
 
   to_inner : (ps : List (List ℕ)) (l : Listing) → HandsOutC bs ns l ps → HandsOut (NextSays bs ns) l ps
   to_inner [] l w = (record { request = request_refused 17; listing = w.0 }, (next_inner l 17 w.0 w.1, refl))
-  to_inner (p ∷ ps) l w = (record { request = Met; listing = w.0 }, (next_inner l 0 w.0 w.1.0, (refl, (w.1.1.0, to_inner ps w.0 w.1.1.1))))
+  to_inner (p ∷ ps) l w = (record { request = (Ok tt); listing = w.0 }, (next_inner l 0 w.0 w.1.0, (refl, (w.1.1.0, to_inner ps w.0 w.1.1.1))))
 
   of_inner : (ps : List (List ℕ)) (l : Listing) → HandsOut (NextSays bs ns) l ps → HandsOutC bs ns l ps
   of_inner [] l w = (w.0.listing, (sym (ap number_of (met_refused (requests bs ns l) (sym w.1.0.0 ∙ w.1.1))), w.1.0.1))
@@ -217,14 +212,14 @@ module _ (bs : List ℕ) (ns : List ℤ) (h : weights.AreasTaken bs ns) where
       let said = allows bs ns (take copy_limit p) in
       let can = calls.allows_so bs ns (take copy_limit p) in
       let e : allows_lent bs ns p ≡ said = rw (le-ltb (length p) copy_limit long) in
-      ap (λ k. says_request (request_told k)) (w ∙ ap number_of e)
+      ap (λ k. says (request_told k)) (w ∙ ap number_of e)
       ∙ told_request said (λ k i q. no_zero (13 ∷ 14 ∷ 18 ∷ []) refl k (can.number k i q)) can.answer can.says_so
 
   abbrev inner : Lists bs ns (NextSays bs ns)
   inner = listed.lists bs ns h
 
   -- an allowed placement, lent as a slice
-  lent_so : (p : Placement) (q : Request) → AllowedSays bs ns p q → says_request q ≡ good tt → (copy_limit ≤ length p.at) × AllowedLent bs ns p.at 0
+  lent_so : (p : Placement) (q : Result (Unit {0}) Refusal) → AllowedSays bs ns p q → says q ≡ good tt → (copy_limit ≤ length p.at) × AllowedLent bs ns p.at 0
   lent_so p q v e =
       let k = (allowed_parts (floating_of (tables_in bs ns)) p.at ((weights.is_allowed h p q v).1 e)).eight in
       let long : copy_limit ≤ length p.at = omega (arith, k) in
@@ -235,7 +230,7 @@ module _ (bs : List ℕ) (ns : List ℤ) (h : weights.AreasTaken bs ns) where
   none : (n : ℕ) (l' : Listing) → MovedOn bs ns fresh_listing n l' → (n ≡ 17) ↔ ((p : List ℕ) → copy_limit ≤ length p → AllowedLent bs ns p 0 → ⊥)
   none n l' w =
       let d = inner.none (record { request = request_told n; listing = l' }) (next_inner fresh_listing n l' w) in (
-        (λ e p long v. d.0 ((request_17 n).1 e) (placement p) Met (allowed_inner p long 0 v) refl),
+        (λ e p long v. d.0 ((request_17 n).1 e) (placement p) (Ok tt) (allowed_inner p long 0 v) refl),
         (λ f. (request_17 n).0 (d.1 (λ p q v e. let k = lent_so p q v e in f p.at k.0 k.1))),
       )
 
@@ -252,7 +247,7 @@ module _ (bs : List ℕ) (ns : List ℤ) (h : weights.AreasTaken bs ns) where
       lent_so (record { at = p }) o.outcome o.ensured ((weights.is_allowed h (record { at = p }) o.outcome o.ensured).0 e)
 
   allowed_lent : (p : List ℕ) → copy_limit ≤ length p → AllowedLent bs ns p 0 → allowed (floating_of (tables_in bs ns)) (take copy_limit p) ≡ true
-  allowed_lent p long w = (weights.is_allowed h (placement p) Met (allowed_inner p long 0 w)).1 refl
+  allowed_lent p long w = (weights.is_allowed h (placement p) (Ok tt) (allowed_inner p long 0 w)).1 refl
 
   why : (old : List ℕ) → copy_limit ≤ length old → (c n c' : ℕ) (new : List ℕ) → WhyHanded bs ns old c n c' new
       → (n ≡ 0) × Reason (floating_of (tables_in bs ns)) (take c' new) × (drop c' new ≡ drop c' old)
@@ -278,8 +273,8 @@ module _ (bs : List ℕ) (ns : List ℤ) (h : weights.AreasTaken bs ns) where
   unfolding member
   total_inner m₀ k₀ n m k w =
       let said = totals bs ns in
-      ap (λ z. says_total (total_told z m k)) w.numbered.number_is ∙ ap (λ z. says_total (total_told (number_of said) z k)) w.millionths_is
-      ∙ ap (λ z. says_total (total_told (number_of said) (left said (λ x. x) m₀) z)) w.numbered.place_is
+      ap (λ z. says (total_told z m k)) w.numbered.number_is ∙ ap (λ z. says (total_told (number_of said) z k)) w.millionths_is
+      ∙ ap (λ z. says (total_told (number_of said) (left said (λ x. x) m₀) z)) w.numbered.place_is
       ∙ told_total said (λ n p q. no_zero (13 ∷ 14 ∷ 16 ∷ []) refl n ((calls.totals_so bs ns).number n p q)) m₀ k₀
 
   ledger_long : (t : Tables) (p : List ℕ) → length (ledger t p) ≡ position_limit
@@ -294,7 +289,7 @@ module _ (bs : List ℕ) (ns : List ℤ) (h : weights.AreasTaken bs ns) where
       let q = take copy_limit p in
       let x = (calls.ledger bs ns (placement p)).exactly_one in
       let r = x.outcome in
-      let s = weights.adds_up bs ns h m (Millionths m) (total_inner m₀ k₀ 0 m k w) refl (placement p) Met (allowed_inner p long 0 v) refl r x.ensured in
+      let s = weights.adds_up bs ns h m (Ok m) (total_inner m₀ k₀ 0 m k w) refl (placement p) (Ok tt) (allowed_inner p long 0 v) refl r x.ensured in
       let b : books bs ns q ≡ good tt = sym x.ensured.0 ∙ s.0 in
       let said : books_lent bs ns p old ≡ good tt = rw (le-ltb (length p) copy_limit long, le-ltb (length old) position_limit room) b in
       let at : r.at ≡ ledger t q = x.ensured.1 ∙ ap (λ z. entries z t q) b in
@@ -305,20 +300,20 @@ module _ (bs : List ℕ) (ns : List ℤ) (h : weights.AreasTaken bs ns) where
       (e.numbered.number_is ∙ ap number_of said, ap (λ z. sum z +ℤ labile_mass t) (front ∙ sym at) ∙ s.1)
 
   -- the display that is ensured, and what of it is told
-  shown_is : (m₀ : ℤ) (k₀ n : ℕ) (m : ℤ) (k : ℕ) → Totalled (totals bs ns) m₀ k₀ n m k → (d : Display)
-      → ((r : Shown) → ShownSays bs ns r → says_shown r ≡ good d) → shows bs ns ≡ good d
+  shown_is : (m₀ : ℤ) (k₀ n : ℕ) (m : ℤ) (k : ℕ) → Totalled (totals bs ns) m₀ k₀ n m k → (d : Shown)
+      → ((r : Shown) → ShownSays bs ns r → says r ≡ good d) → shows bs ns ≡ good d
   shown_is m₀ k₀ n m k w d f = let o = (calls.shown bs ns).exactly_one in sym o.ensured ∙ f o.outcome o.ensured
 
   displays : (m₀ : ℤ) (k₀ : ℕ) (m : ℤ) (k : ℕ) → Totalled (totals bs ns) m₀ k₀ 0 m k
       → (x₀ : Float) (j₀ n : ℕ) (x : Float) (j : ℕ) → Displayed (shows bs ns) x₀ j₀ n x j → (n ≡ 0) × (x ≡ daltons m) × (j ≡ 0)
   displays m₀ k₀ m k w x₀ j₀ n x j d =
-      let e = shown_is m₀ k₀ 0 m k w (a_mass (daltons m)) (weights.displays bs ns h m (Millionths m) (total_inner m₀ k₀ 0 m k w) refl) in
+      let e = shown_is m₀ k₀ 0 m k w (Daltons (daltons m)) (weights.displays bs ns h m (Ok m) (total_inner m₀ k₀ 0 m k w) refl) in
       (d.number_is ∙ ap number_of e, d.mass_is ∙ ap (λ z. left z mass_of x₀) e, d.missing_is ∙ ap (λ z. left z lack_of j₀) e)
 
   lacks : (m₀ : ℤ) (k₀ : ℕ) (m : ℤ) (k : ℕ) → Totalled (totals bs ns) m₀ k₀ 16 m k
       → (x₀ : Float) (j₀ n : ℕ) (x : Float) (j : ℕ) → Displayed (shows bs ns) x₀ j₀ n x j → (n ≡ 0) × (j ≡ k)
   lacks m₀ k₀ m k w x₀ j₀ n x j d =
-      let e = shown_is m₀ k₀ 16 m k w (lack k) (λ r v. (weights.lacks bs ns h k (total_refused 16 k) (total_inner m₀ k₀ 16 m k w) r v).1 refl) in
+      let e = shown_is m₀ k₀ 16 m k w (Missing k) (λ r v. (weights.lacks bs ns h k (total_refused 16 k) (total_inner m₀ k₀ 16 m k w) r v).1 refl) in
       (d.number_is ∙ ap number_of e, d.missing_is ∙ ap (λ z. left z lack_of j₀) e)
 
   rows_c : (room : List Site) → row_limit ≤ length room → (c n c' : ℕ) (room' : List Site) → RowsHanded bs ns room c n c' room'
@@ -330,7 +325,7 @@ module _ (bs : List ℕ) (ns : List ℤ) (h : weights.AreasTaken bs ns) where
       let many : c' ≡ r.0 = w.counted.count_is ∙ ap (λ z. left z (λ k. k) c) said in
       (w.counted.number_is ∙ ap number_of said, subst (λ z. Rowed bs ns room room' z) (sym many) r.1.1)
 
-  counted_c : (f : Tables → ℕ) (many : ℕ) → ((r : Count) → CountSays f bs ns r → says_count r ≡ good many) → CountedC bs ns f many
+  counted_c : (f : Tables → ℕ) (many : ℕ) → ((r : Result ℕ Refusal) → CountSays f bs ns r → says r ≡ good many) → CountedC bs ns f many
   counted_c f many says c n c' w =
       let o = (calls.count bs ns f).exactly_one in
       let said : counts bs ns f ≡ good many = sym o.ensured ∙ says o.outcome o.ensured in
@@ -369,9 +364,9 @@ promises_c =
       one_entry = λ s bs ns bs₁ ns₁ out₁ m f t cs ms bs₂ ns₂ out₂ n g.
           (written.demand_2).one_entry s bs ns bs₁ ns₁ out₁ m (filed_inner f) t cs ms bs₂ ns₂ out₂ n (filed_inner g);
       demand_3 = λ s bs ns place p bs' ns' w.
-          demand_3 bs' ns' (weights.taken_after (readers.was_read s bs ns Accepted bs' ns' (read_inner s bs ns place 0 p bs' ns' w) refl));
+          demand_3 bs' ns' (weights.taken_after (readers.was_read s bs ns (Ok tt) bs' ns' (read_inner s bs ns place 0 p bs' ns' w) refl));
       reckoned = λ s bs ns place p bs' ns' w t g e.
-          let a = readers.was_read s bs ns Accepted bs' ns' (read_inner s bs ns place 0 p bs' ns' w) refl in
+          let a = readers.was_read s bs ns (Ok tt) bs' ns' (read_inner s bs ns place 0 p bs' ns' w) refl in
           let h = weights.taken_after a in
           reckoned_c bs' ns' h t (weights.reckoned a h t (readers.line_means a t g e));
     }

@@ -1,19 +1,18 @@
 -- Demand 3 of the listing: requests from a fresh record come to 17, and what they handed out until then is every allowed placement once, ascending.
-use Rattle.std.specs.Prelude.{◌≡◌, refl, ◌↔◌, ℤ, length, drop, get_or}
+use Rattle.std.specs.Prelude.{◌≡◌, refl, ◌↔◌, ℤ, length, drop, get_or, Result}
 use Rattle.std.proofs.Common.{sym, ◌∙◌, subst, arith}
 use Rattle.std.proofs.Math.Path.{ap}
 use Rattle.std.proofs.Math.Option.{none, some}
 use mathlib.Core.List.{List, [], ◌∷◌, ◌++◌}
 use Prim.Native.Nat.{ℕ, zero, suc, ◌+◌, ◌≤◌}
 use Rattle.std.proofs.Math.ListN.{get_elem?}
-use Rattle.scope.specs.declared.answers.Request.{Request}
 use Rattle.scope.specs.declared.answers.Placement.{Placement}
 use Rattle.scope.specs.declared.answers.Listing.{Listing}
 use Rattle.scope.specs.Tables.{Tables}
 use Rattle.scope.specs.Layout.{tables_in}
 use Rattle.scope.specs.Positions.{Floating, floating_of}
 use Rattle.scope.specs.Placements.{placements, fresh_listing}
-use Rattle.scope.specs.Answers.{good, refuses, findable, says_request, met, requested, moved_on, requests}
+use Rattle.scope.specs.Answers.{good, refuses, findable, met, requested, moved_on, requests, says}
 use Rattle.placement_laws.specs.Terms.{Ascending, after_requests, out_of, handed_out}
 use Rattle.basics.specs.Each.{In}
 use Rattle.placement_laws.specs.Laws as placing
@@ -26,6 +25,7 @@ use Rattle.promises.proofs.Said.{met_good, met_refused}
 use Rattle.promises.proofs.Answering.{is_allowed, next_placement_lem}
 use Rattle.promises.proofs.Weights.{AreasTaken, says_itself, orderly}
 use Rattle.promises.proofs.Weights.{is_allowed as allowed_so}
+use Rattle.scope.specs.declared.refusals.Refusal.{Refusal}
 
 -- ---- a list at a place, and at its end
 past_end : (l : List (List ℕ)) (n : ℕ) → length l ≤ n → (get_elem? l n ≡ none) × (drop n l ≡ [])
@@ -61,13 +61,13 @@ module _ (bs : List ℕ) (ns : List ℤ) (h : AreasTaken bs ns) where
   requests_so l = says_itself h (λ t. requested (floating_of t) l)
 
   -- what a call answers, and the record afterwards, from what is said
-  answer_so : (l : Listing) (r : Next) → NextSays bs ns l r → says_request r.request ≡ met (requested f l)
+  answer_so : (l : Listing) (r : Next) → NextSays bs ns l r → says r.request ≡ met (requested f l)
   answer_so l r w = w.0 ∙ ap met (requests_so l)
 
   after_so : (l : Listing) (r : Next) → NextSays bs ns l r → r.listing ≡ moved_on l (requested f l)
   after_so l r w = w.1 ∙ ap (moved_on l) (requests_so l)
 
-  said_17 : (l : Listing) (r : Next) → NextSays bs ns l r → says_request r.request ≡ refuses 17 0 → requested f l ≡ refuses 17 0
+  said_17 : (l : Listing) (r : Next) → NextSays bs ns l r → says r.request ≡ refuses 17 0 → requested f l ≡ refuses 17 0
   said_17 l r w e = met_refused (requested f l) (sym (answer_so l r w) ∙ e)
 
   -- what is handed out until 17 is what as many requests hand out, or more
@@ -88,8 +88,8 @@ module _ (bs : List ℕ) (ns : List ℤ) (h : AreasTaken bs ns) where
       let n = length ps + laws.many t in
       sym (handed_so ps fresh_listing w n (omega arith)) ∙ (demands.demand_3_in bs ns h.taken).no_further n (omega arith)
 
-  every_allowed : (ps : List (List ℕ)) → HandsOut (NextSays bs ns) fresh_listing ps → (p : Placement) (r : Request) → AllowedSays bs ns p r
-      → In p.at ps ↔ (says_request r ≡ good tt)
+  every_allowed : (ps : List (List ℕ)) → HandsOut (NextSays bs ns) fresh_listing ps → (p : Placement) (r : Result (Unit {0}) Refusal) → AllowedSays bs ns p r
+      → In p.at ps ↔ (says r ≡ good tt)
   every_allowed ps w p r v =
       let d = (demands.demand_3_in bs ns h.taken).every_allowed p.at in
       let e = all_handed ps w in
@@ -101,7 +101,7 @@ module _ (bs : List ℕ) (ns : List ℤ) (h : AreasTaken bs ns) where
 
   -- ---- "'none' exactly when none exists"
   none_exists : (r : Next) → NextSays bs ns fresh_listing r
-      → (says_request r.request ≡ refuses 17 0) ↔ ((p : Placement) (q : Request) → AllowedSays bs ns p q → says_request q ≡ good tt → ⊥)
+      → (says r.request ≡ refuses 17 0) ↔ ((p : Placement) (q : Result (Unit {0}) Refusal) → AllowedSays bs ns p q → says q ≡ good tt → ⊥)
   none_exists r w =
       let d = (demands.demand_3_in bs ns h.taken).none_at_first in (
         (λ e p q v a. d.0 (said_17 fresh_listing r w e) p.at ((allowed_so h p q v).1 a)),

@@ -1,6 +1,6 @@
 -- What the calls promise of measured masses: a total is answered exactly where no mass is lacking, and none is where each modification that counts is answered a
 -- stated one; and other measured masses change neither the total nor how many are lacking.
-use Rattle.std.specs.Prelude.{◌≡◌, refl, ◌↔◌, Bool, true, false, cond, ◌||◌, eqb, ℤ}
+use Rattle.std.specs.Prelude.{◌≡◌, refl, ◌↔◌, Bool, true, false, cond, ◌||◌, eqb, ℤ, Result, Ok}
 use Rattle.std.proofs.Common.{sym, ap₂, ◌∙◌, arith, eqb-true, eq-eqb, ne_eqb}
 use Rattle.std.proofs.Math.Path.{ap}
 use Rattle.std.proofs.Math.Logic.{inl, inr}
@@ -10,9 +10,6 @@ use mathlib.Core.List.{List, [], ◌∷◌}
 use Prim.Native.Nat.{ℕ, zero, suc}
 use Rattle.scope.specs.declared.answers.Mass.{Mass}
 use Rattle.scope.specs.declared.answers.Mass.TheVariants.{Stated, Measured, None}
-use Rattle.scope.specs.declared.answers.BracketMass.{BracketMass}
-use Rattle.scope.specs.declared.answers.BracketMass.TheVariants.{Is as its_mass}
-use Rattle.scope.specs.declared.answers.Total.{Total}
 use Rattle.scope.specs.declared.answers.Shown.{Shown}
 use Rattle.scope.specs.Line.{Number, Bracket}
 use Rattle.scope.specs.Lists.{given, there?, all}
@@ -20,7 +17,7 @@ use Rattle.scope.specs.Modifications.{is_modification}
 use Rattle.scope.specs.Tables.{Tables}
 use Rattle.scope.specs.Layout.{tables_in}
 use Rattle.scope.specs.Masses.{mass_of, stated, modifications, times, total, lacking, daltons}
-use Rattle.scope.specs.Answers.{good, refuses, a_mass, lack, says_total, says_mass, says_shown, too_short, are_tables}
+use Rattle.scope.specs.Answers.{good, refuses, too_short, are_tables, says}
 use Rattle.basics.specs.Each.{In}
 use Rattle.basics.specs.Members.{in_keep, keep_in, all_in, in_all}
 use Rattle.basics.specs.Said.{same_good}
@@ -30,6 +27,8 @@ use Rattle.calls.specs.Single.{element_at, mass_at}
 use Rattle.calls.specs.Says.{TotalSays, BracketMassSays, ShownSays}
 use Rattle.promises.specs.Promises.{Counting, Measuring}
 use Rattle.promises.proofs.Weights.{AreasTaken, says_itself, total_said, total_so, shown_said}
+use Rattle.scope.specs.declared.answers.Shown.TheVariants.{Daltons, Missing}
+use Rattle.scope.specs.declared.refusals.Refusal.{Refusal}
 
 -- ---- the elements of a list by their places, and a test of all of them
 module _ {A : Type 0} where
@@ -63,12 +62,12 @@ module _ (bs : List ℕ) (ns : List ℤ) (h : AreasTaken bs ns) where
   abbrev fine : Bracket (Unit {0}) → Bool
   fine k = there? (stated (mass_of k)) || eqb (times t k) 0
 
-  mass_said : (i : ℕ) (k : Bracket (Unit {0})) → element_at t.brackets i ≡ some k → (r : BracketMass) → BracketMassSays bs ns i r ↔ (says_mass r ≡ good (mass_of k))
+  mass_said : (i : ℕ) (k : Bracket (Unit {0})) → element_at t.brackets i ≡ some k → (r : Result Mass Refusal) → BracketMassSays bs ns i r ↔ (says r ≡ good (mass_of k))
   mass_said i k e r =
       let said = says_itself h (λ t. mass_at t i) ∙ ap (λ o. given o (λ k. good (mass_of k)) (refuses 17 0)) e in
       ((λ w. w ∙ said), (λ w. w ∙ sym said))
 
-  each_stated : all fine (modifications t) ≡ true → (i : ℕ) → Counting t i → (r : BracketMass) → BracketMassSays bs ns i r → (m : ℤ) × (says_mass r ≡ good (Stated m))
+  each_stated : all fine (modifications t) ≡ true → (i : ℕ) → Counting t i → (r : Result Mass Refusal) → BracketMassSays bs ns i r → (m : ℤ) × (says r ≡ good (Stated m))
   each_stated a i c r w =
       let k = c.bracket in
       let some-time : eqb (times t k) 0 ≡ false = ne_eqb (times t k) 0 (λ z. omega (arith, c.counted, z)) in
@@ -76,7 +75,7 @@ module _ (bs : List ℕ) (ns : List ℤ) (h : AreasTaken bs ns) where
       let s = is_stated_lem (mass_of k) (or_first (there? (stated (mass_of k))) (eqb (times t k) 0) some-time is-fine) in
       (s.0, (mass_said i k c.at r).0 w ∙ ap good s.1)
 
-  none_lacking : ((i : ℕ) → Counting t i → (r : BracketMass) → BracketMassSays bs ns i r → (m : ℤ) × (says_mass r ≡ good (Stated m))) → all fine (modifications t) ≡ true
+  none_lacking : ((i : ℕ) → Counting t i → (r : Result Mass Refusal) → BracketMassSays bs ns i r → (m : ℤ) × (says r ≡ good (Stated m))) → all fine (modifications t) ≡ true
   none_lacking g = in_all fine (modifications t) (λ k i. let b = in_keep is_modification k t.brackets i in by k (element_in t.brackets k b.0) b.1 (eqb (times t k) 0) refl)
     where
       by : (k : Bracket (Unit {0})) → (i : ℕ) × (element_at t.brackets i ≡ some k) → is_modification k ≡ true → (b : Bool) → eqb (times t k) 0 ≡ b
@@ -89,11 +88,11 @@ module _ (bs : List ℕ) (ns : List ℤ) (h : AreasTaken bs ns) where
       by k at is false e =
           let some-time = eqb-false (times t k) 0 e in
           let c : Counting t at.0 = record { bracket = k; at = at.1; modification = is; counted = omega (arith, some-time) } in
-          let s = g at.0 c (its_mass (mass_of k)) ((mass_said at.0 k at.1 (its_mass (mass_of k))).1 refl) in
+          let s = g at.0 c (Ok (mass_of k)) ((mass_said at.0 k at.1 (Ok (mass_of k))).1 refl) in
           ap (λ m. there? (stated m) || false) (same_good s.1)
 
-  pub stated_only : (q : Total) → TotalSays bs ns q
-      → ((m : ℤ) × (says_total q ≡ good m)) ↔ ((i : ℕ) → Counting t i → (r : BracketMass) → BracketMassSays bs ns i r → (m : ℤ) × (says_mass r ≡ good (Stated m)))
+  pub stated_only : (q : Result ℤ Refusal) → TotalSays bs ns q
+      → ((m : ℤ) × (says q ≡ good m)) ↔ ((i : ℕ) → Counting t i → (r : Result Mass Refusal) → BracketMassSays bs ns i r → (m : ℤ) × (says r ≡ good (Stated m)))
   stated_only q w =
       let all_stated = (demands.demand_3_in bs ns h.taken).all_stated in (
         (λ z. each_stated (all_stated.0 (eqb-true (lacking t) 0 (total_so bs ns h z.0 q w z.1).0))),
@@ -112,12 +111,12 @@ module _ (bs : List ℕ) (ns : List ℤ) (h : AreasTaken bs ns) where
     same_lacking : lacking (tables_in cs ms) ≡ lacking t
     same_lacking = ap lacking other ∙ ((demands.demand_3_in bs ns h.taken).stay_out f).1
 
-    total_alike : (q r : Total) → TotalSays bs ns q → TotalSays cs ms r → says_total r ≡ says_total q
+    total_alike : (q r : Result ℤ Refusal) → TotalSays bs ns q → TotalSays cs ms r → says r ≡ says q
     total_alike q r w v = total_said cs ms there r v ∙ ap₂ (λ n x. cond (eqb n 0) (good x) (refuses 16 n)) same_lacking same_total ∙ sym (total_said bs ns h q w)
 
-    shown_alike : (q r : Shown) → ShownSays bs ns q → ShownSays cs ms r → says_shown r ≡ says_shown q
+    shown_alike : (q r : Shown) → ShownSays bs ns q → ShownSays cs ms r → says r ≡ says q
     shown_alike q r w v =
-        shown_said cs ms there r v ∙ ap₂ (λ n x. good (cond (eqb n 0) (a_mass (daltons x)) (lack n))) same_lacking same_total ∙ sym (shown_said bs ns h q w)
+        shown_said cs ms there r v ∙ ap₂ (λ n x. good (cond (eqb n 0) (Daltons (daltons x)) (Missing n))) same_lacking same_total ∙ sym (shown_said bs ns h q w)
 
   pub measuring : Measuring bs ns
   measuring =

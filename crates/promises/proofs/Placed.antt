@@ -1,8 +1,7 @@
 -- Demand 3 of a placement: what `is_allowed` allows gives each floater one of its permitted positions, no position twice, copies of one bracket in ascending order;
 -- without that order there are no others; and no permitted position has a placed modification.
-use Rattle.std.specs.Prelude.{◌≡◌, ◌↔◌, true, List, [], ◌∷◌, map, ℕ, zero, suc, ℤ, get_or}
+use Rattle.std.specs.Prelude.{◌≡◌, ◌↔◌, true, List, [], ◌∷◌, map, ℕ, zero, suc, ℤ, get_or, Result}
 use Rattle.std.proofs.Common.{sym, ◌∙◌, true≢false}
-use Rattle.scope.specs.declared.answers.Request.{Request}
 use Rattle.scope.specs.declared.answers.Placement.{Placement}
 use Rattle.scope.specs.Lists.{flat, member}
 use Rattle.scope.specs.Line.{Bracket}
@@ -10,7 +9,7 @@ use Rattle.scope.specs.Tables.{Tables}
 use Rattle.scope.specs.Layout.{tables_in}
 use Rattle.scope.specs.Positions.{placed_on, struck_out, floaters, permitted, Floating, floating_of}
 use Rattle.scope.specs.Placements.{allowed}
-use Rattle.scope.specs.Answers.{good, says_request}
+use Rattle.scope.specs.Answers.{good, says}
 use Rattle.basics.specs.Each.{In}
 use Rattle.basics.specs.Members.{in_member, flat_in}
 use Rattle.placement_laws.specs.Terms.{Orderly, unmarked, Placing, Rearranged}
@@ -20,10 +19,11 @@ use Rattle.placement_laws.specs.Laws as placing
 use Rattle.calls.specs.Says.{AllowedSays}
 use Rattle.promises.specs.Promises.{Permitted}
 use Rattle.promises.proofs.Weights.{AreasTaken, orderly, is_allowed}
+use Rattle.scope.specs.declared.refusals.Refusal.{Refusal}
 
 -- ---- allowed: each stands where it may, alone
-pub allowed_so : (bs : List ℕ) (ns : List ℤ) → AreasTaken bs ns → (p : Placement) (r : Request) → AllowedSays bs ns p r
-    → (says_request r ≡ good tt) ↔ Placing (floating_of (tables_in bs ns)) p.at
+pub allowed_so : (bs : List ℕ) (ns : List ℤ) → AreasTaken bs ns → (p : Placement) (r : Result (Unit {0}) Refusal) → AllowedSays bs ns p r
+    → (says r ≡ good tt) ↔ Placing (floating_of (tables_in bs ns)) p.at
 allowed_so bs ns h p r w =
     let a = is_allowed h p r w in let b = placing.by_entries (floating_of (tables_in bs ns)) (orderly h) p.at in ((λ e. b.0 (a.1 e)), (λ x. a.0 (b.1 x)))
 

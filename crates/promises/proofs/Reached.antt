@@ -1,16 +1,15 @@
 -- What the call for the positions that a declaration reaches promises: they are kept of all positions, in their order.
-use Rattle.std.specs.Prelude.{◌≡◌, refl, ◌↔◌, Bool, true, false, cond, List, [], ◌++◌, ℕ, ◌<◌, ltb, ℤ, length, take, drop}
+use Rattle.std.specs.Prelude.{◌≡◌, refl, ◌↔◌, Bool, true, false, cond, List, [], ◌++◌, ℕ, ◌<◌, ltb, ℤ, length, take, drop, Result}
 use Rattle.std.proofs.Common.{sym, ap, subst, ◌∙◌, arith}
 use Rattle.std.proofs.Math.Option.{Option, none, some}
 use Rattle.std.proofs.Math.Seq.{take-append_seam, drop-append_seam}
-use Rattle.scope.specs.declared.answers.Count.{Count}
 use Rattle.scope.specs.Limits.{position_limit}
 use Rattle.scope.specs.Line.{Bracket}
 use Rattle.scope.specs.Lists.{given}
 use Rattle.scope.specs.Tables.{Tables}
 use Rattle.scope.specs.Layout.{tables_in}
 use Rattle.scope.specs.Positions.{sites, positions, names, reached}
-use Rattle.scope.specs.Answers.{Said, good, refuses, says_count, too_short, are_tables, over_tables, output_after}
+use Rattle.scope.specs.Answers.{Said, good, refuses, too_short, are_tables, over_tables, output_after, says}
 use Rattle.basics.specs.Each.{In}
 use Rattle.basics.specs.Members.{in_keep, keep_in}
 use Rattle.basics.specs.Tabled.{in_tabled, tabled_in}
@@ -20,6 +19,7 @@ use Rattle.calls.specs.Single.{element_at}
 use Rattle.calls.specs.Reaching.{reached_by, reached_at, reached_said, ReachedSays}
 use Rattle.promises.specs.Promises.{Reaches, Declaring}
 use Rattle.basics.specs.Said.{not_both, same_good}
+use Rattle.scope.specs.declared.refusals.Refusal.{Refusal}
 
 matching : (t : Tables) (k : Bracket (Unit {0})) (x : ℕ) → In x (reached t k) ↔ ((x < length (sites t)) × (names t k.places x ≡ true))
 unfolding reached
@@ -45,7 +45,7 @@ said_good false false true t i n e = go (element_at t.brackets i) refl e
     go none q f = absurd (not_both (sym f))
     go (some k) q f = (k, (q, sym (same_good f)))
 
-reaches : (bs : List ℕ) (ns : List ℤ) (i : ℕ) (out : List ℕ) (r : Count) (out' : List ℕ) → ReachedSays bs ns i out r out' → (n : ℕ) → says_count r ≡ good n
+reaches : (bs : List ℕ) (ns : List ℤ) (i : ℕ) (out : List ℕ) (r : Result ℕ Refusal) (out' : List ℕ) → ReachedSays bs ns i out r out' → (n : ℕ) → says r ≡ good n
     → (k : Bracket (Unit {0})) × ((element_at (tables_in bs ns).brackets i ≡ some k) × Reaches (tables_in bs ns) k out out' n)
 reaches bs ns i out r out' w n e =
     let t = tables_in bs ns in

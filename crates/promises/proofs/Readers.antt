@@ -1,9 +1,7 @@
 -- Demands 1 and 2 of reading: every line gets one answer; it is accepted exactly as the grammar says, and refused with the number and at the place that the
 -- clauses say; nothing else reads so.
-use Rattle.std.specs.Prelude.{◌≡◌, refl, ◌↔◌, ◌⊎◌, Bool, true, false, cond, List, [], ◌∷◌, ◌++◌, ℕ, ◌≤◌, eqb, ℤ, length}
+use Rattle.std.specs.Prelude.{◌≡◌, refl, ◌↔◌, ◌⊎◌, Bool, true, false, cond, List, [], ◌∷◌, ◌++◌, ℕ, ◌≤◌, eqb, ℤ, length, Result, Ok}
 use Rattle.std.proofs.Common.{sym, ap, ◌∙◌, subst, inl, inr, arith, eqb-true}
-use Rattle.scope.specs.declared.answers.Read.{Read}
-use Rattle.scope.specs.declared.answers.Read.TheVariants.{Accepted, Refused as read_refused}
 use Rattle.scope.specs.Line.{Line}
 use Rattle.scope.specs.Lists.{laid, tabled}
 use Rattle.scope.specs.Reading.{Reading, stuck, holds, reading}
@@ -11,7 +9,7 @@ use Rattle.scope.specs.Kept.{kept}
 use Rattle.scope.specs.Refusals.{refusal4, Due, due, Outcome, accepted, refused, byte_refusals, outcome}
 use Rattle.scope.specs.Tables.{tables_of}
 use Rattle.scope.specs.Layout.{bytes_of, numbers_of}
-use Rattle.scope.specs.Answers.{good, refuses, says_read, too_short, read_outcome, says_outcome, bytes_after, numbers_after}
+use Rattle.scope.specs.Answers.{good, refuses, too_short, read_outcome, says_outcome, bytes_after, numbers_after, says}
 use Rattle.basics.specs.Each.{Each, In, each_in}
 use Rattle.basics.specs.Members.{in_left, in_right}
 use Rattle.reading_laws.specs.Laws.{places_of, behind, dues}
@@ -28,6 +26,7 @@ use Rattle.promises.specs.Promises.{meant, line_numbers, Reader, ExactlyOne, Ans
 use Rattle.promises.proofs.Answering.{alone, among_numbers}
 use Rattle.basics.specs.Said.{not_both, same_number_lem, same_place}
 use Rattle.promises.proofs.Said.{read_same}
+use Rattle.scope.specs.declared.refusals.Refusal.{Refusal}
 
 -- ---- after a successful read
 pub record WasRead (s bs : List ℕ) (ns : List ℤ) (bs' : List ℕ) (ns' : List ℤ) : Type 0 where
@@ -40,7 +39,7 @@ accepted_so : (a : Bool) (o : Outcome) → good tt ≡ says_outcome (cond a (ref
 accepted_so true o e = absurd (not_both e)
 accepted_so false o e = let a = accepted_is o e in (a.0, refl, a.1)
 
-pub was_read : (s bs : List ℕ) (ns : List ℤ) (r : Read) (bs' : List ℕ) (ns' : List ℤ) → ReadSays s bs ns r bs' ns' → says_read r ≡ good tt
+pub was_read : (s bs : List ℕ) (ns : List ℤ) (r : Result (Unit {0}) Refusal) (bs' : List ℕ) (ns' : List ℤ) → ReadSays s bs ns r bs' ns' → says r ≡ good tt
     → WasRead s bs ns bs' ns'
 was_read s bs ns r bs' ns' w q =
     let a = accepted_so (too_short bs ns) (outcome s) (sym q ∙ w.says) in
@@ -70,23 +69,23 @@ line_means {s} r t g p =
     taken.keeps ∙ ap kept d
 
 -- ---- demand 1
-read_of : Outcome → Read
-read_of (accepted l) = Accepted
+read_of : Outcome → (Result (Unit {0}) Refusal)
+read_of (accepted l) = (Ok tt)
 read_of (refused n p) = read_refused n p
 
-says_of : (o : Outcome) → says_read (read_of o) ≡ says_outcome o
+says_of : (o : Outcome) → says (read_of o) ≡ says_outcome o
 unfolding read_of
 says_of (accepted l) = refl
 says_of (refused n p) = refl
 
-exactly_one : (s bs : List ℕ) (ns : List ℤ) → ExactlyOne (λ (o : Read × List ℕ × List ℤ). ReadSays s bs ns o.0 o.1 o.2)
+exactly_one : (s bs : List ℕ) (ns : List ℤ) → ExactlyOne (λ (o : (Result (Unit {0}) Refusal) × List ℕ × List ℤ). ReadSays s bs ns o.0 o.1 o.2)
 exactly_one s bs ns =
     let o = read_outcome bs ns s in
     record {
       outcome = (read_of o, bytes_after o bs, numbers_after o ns);
       ensured = record { says = says_of o; bytes_after_is = refl; numbers_after_is = refl };
       only = λ q w.
-          ap (λ (r : Read). (r, q.1, q.2)) (read_same q.0 (read_of o) (w.says ∙ sym (says_of o))) ∙ ap (λ (b : List ℕ). (read_of o, b, q.2)) w.bytes_after_is
+          ap (λ (r : Result (Unit {0}) Refusal). (r, q.1, q.2)) (read_same q.0 (read_of o) (w.says ∙ sym (says_of o))) ∙ ap (λ (b : List ℕ). (read_of o, b, q.2)) w.bytes_after_is
           ∙ ap (λ (n : List ℤ). (read_of o, bytes_after o bs, n)) w.numbers_after_is;
     }
 
@@ -161,11 +160,11 @@ pub outcome_refused : (o : Outcome) {n p : ℕ} → says_outcome o ≡ refuses n
 outcome_refused (accepted l) e = absurd (not_both e)
 outcome_refused (refused m q) {n} e = ap (λ z. refused z q) (same_number_lem e) ∙ ap (refused n) (same_place e)
 
-answered : (s bs : List ℕ) (ns : List ℤ) (r : Read) (bs' : List ℕ) (ns' : List ℤ) → ReadSays s bs ns r bs' ns'
-    → (says_read r ≡ good tt) ⊎ TurnedAway s bs ns r bs' ns'
+answered : (s bs : List ℕ) (ns : List ℤ) (r : Result (Unit {0}) Refusal) (bs' : List ℕ) (ns' : List ℤ) → ReadSays s bs ns r bs' ns'
+    → (says r ≡ good tt) ⊎ TurnedAway s bs ns r bs' ns'
 answered s bs ns r bs' ns' w = go (read_outcome bs ns s) refl
   where
-    go : (o : Outcome) → read_outcome bs ns s ≡ o → (says_read r ≡ good tt) ⊎ TurnedAway s bs ns r bs' ns'
+    go : (o : Outcome) → read_outcome bs ns s ≡ o → (says r ≡ good tt) ⊎ TurnedAway s bs ns r bs' ns'
     go (accepted l) e = inl (w.says ∙ ap says_outcome e)
     go (refused n p) e =
         let q = read_said s bs ns n p e in
@@ -180,7 +179,7 @@ answered s bs ns r bs' ns' w = go (read_outcome bs ns s) refl
           numbers = w.numbers_after_is ∙ ap (λ z. numbers_after z ns) e;
         })
 
-pub verdict : (s : List ℕ) → Answered (VerdictSays s) says_read line_numbers Nothing
+pub verdict : (s : List ℕ) → Answered (VerdictSays s) says line_numbers Nothing
 verdict s =
     alone read_same
     (record {
@@ -193,21 +192,21 @@ pub answers_lines : AnswersLines ReadSays
 answers_lines = record { exactly_one = exactly_one; answered = answered }
 
 -- ---- demand 2
-accepts : (s bs : List ℕ) (ns : List ℤ) (r : Read) (bs' : List ℕ) (ns' : List ℤ) → ReadSays s bs ns r bs' ns'
-    → (says_read r ≡ good tt) ↔ ((too_short bs ns ≡ false) × ((l : Line ℕ) × Accepts s l))
+accepts : (s bs : List ℕ) (ns : List ℤ) (r : Result (Unit {0}) Refusal) (bs' : List ℕ) (ns' : List ℤ) → ReadSays s bs ns r bs' ns'
+    → (says r ≡ good tt) ↔ ((too_short bs ns ≡ false) × ((l : Line ℕ) × Accepts s l))
 accepts s bs ns r bs' ns' w = (there, back)
   where
-    there : says_read r ≡ good tt → (too_short bs ns ≡ false) × ((l : Line ℕ) × Accepts s l)
+    there : says r ≡ good tt → (too_short bs ns ≡ false) × ((l : Line ℕ) × Accepts s l)
     there e =
         let a = accepted_so (too_short bs ns) (outcome s) (sym e ∙ w.says) in
         (a.1, (a.0, ((spelled.laws).accepts s a.0).0 a.2))
 
-    back : (too_short bs ns ≡ false) × ((l : Line ℕ) × Accepts s l) → says_read r ≡ good tt
+    back : (too_short bs ns ≡ false) × ((l : Line ℕ) × Accepts s l) → says r ≡ good tt
     back a =
         let o : read_outcome bs ns s ≡ accepted a.1.0 = ap (λ z. cond z (refused 13 0) (outcome s)) a.0 ∙ ((spelled.laws).accepts s a.1.0).1 a.1.1 in
         w.says ∙ ap says_outcome o
 
-tables : (s bs : List ℕ) (ns : List ℤ) (r : Read) (bs' : List ℕ) (ns' : List ℤ) → ReadSays s bs ns r bs' ns' → says_read r ≡ good tt
+tables : (s bs : List ℕ) (ns : List ℤ) (r : Result (Unit {0}) Refusal) (bs' : List ℕ) (ns' : List ℤ) → ReadSays s bs ns r bs' ns' → says r ≡ good tt
     → (t : Spelling) → well_spelt t ≡ true → s ≡ print t → Holding t bs ns bs' ns'
 tables s bs ns r bs' ns' w q t g p =
     let h = was_read s bs ns r bs' ns' w q in
@@ -221,8 +220,8 @@ tables s bs ns r bs' ns' w q t g p =
 abbrev RefusedBy : List ℕ → List ℕ → List ℤ → ℕ → ℕ → Type 0
 RefusedBy s bs ns k i = ((too_short bs ns ≡ true) × (k ≡ 13) × (i ≡ 0)) ⊎ ((too_short bs ns ≡ false) × Refuses s k i)
 
-refuses_by : (s bs : List ℕ) (ns : List ℤ) (r : Read) (bs' : List ℕ) (ns' : List ℤ) → ReadSays s bs ns r bs' ns' → (k i : ℕ)
-    → (says_read r ≡ refuses k i) ↔ RefusedBy s bs ns k i
+refuses_by : (s bs : List ℕ) (ns : List ℤ) (r : Result (Unit {0}) Refusal) (bs' : List ℕ) (ns' : List ℤ) → ReadSays s bs ns r bs' ns' → (k i : ℕ)
+    → (says r ≡ refuses k i) ↔ RefusedBy s bs ns k i
 refuses_by s bs ns r bs' ns' w k i = (there, back)
   where
     go : (t : Bool) → too_short bs ns ≡ t → cond t (refused 13 0) (outcome s) ≡ refused k i → RefusedBy s bs ns k i
@@ -232,10 +231,10 @@ refuses_by s bs ns r bs' ns' w k i = (there, back)
         inl (e, x, y)
     go false e f = inr (e, ((spelled.laws).refuses s k i).0 f)
 
-    there : says_read r ≡ refuses k i → RefusedBy s bs ns k i
+    there : says r ≡ refuses k i → RefusedBy s bs ns k i
     there e = go (too_short bs ns) refl (outcome_refused (read_outcome bs ns s) (sym w.says ∙ e))
 
-    back : RefusedBy s bs ns k i → says_read r ≡ refuses k i
+    back : RefusedBy s bs ns k i → says r ≡ refuses k i
     back (inl a) =
         let o : read_outcome bs ns s ≡ refused 13 0 = ap (λ z. cond z (refused 13 0) (outcome s)) a.0 in
         w.says ∙ ap says_outcome o ∙ ap (λ z. refuses z 0) (sym a.1) ∙ ap (refuses k) (sym a.2)
@@ -247,31 +246,31 @@ pub accepting : Accepting ReadSays
 accepting = record { accepts = accepts; tables = tables; refuses_by = refuses_by }
 
 -- ---- no other reader
-pub only_reader : (Says : Reader) → AnswersLines Says → Accepting Says → (s bs : List ℕ) (ns : List ℤ) (r : Read) (bs' : List ℕ) (ns' : List ℤ)
+pub only_reader : (Says : Reader) → AnswersLines Says → Accepting Says → (s bs : List ℕ) (ns : List ℤ) (r : Result (Unit {0}) Refusal) (bs' : List ℕ) (ns' : List ℤ)
     → Says s bs ns r bs' ns' → ReadSays s bs ns r bs' ns'
 only_reader Says d a s bs ns r bs' ns' w =
     let v = exactly_one s bs ns in
     let o = v.outcome in
     go o.0 o.1 o.2 v.ensured (answered s bs ns o.0 o.1 o.2 v.ensured)
   where
-    same : (q : Read) (b : List ℕ) (n : List ℤ) → ReadSays s bs ns q b n → says_read r ≡ says_read q → bs' ≡ b → ns' ≡ n → ReadSays s bs ns r bs' ns'
+    same : (q : Result (Unit {0}) Refusal) (b : List ℕ) (n : List ℤ) → ReadSays s bs ns q b n → says r ≡ says q → bs' ≡ b → ns' ≡ n → ReadSays s bs ns r bs' ns'
     same q b n v e f g = record { says = e ∙ v.says; bytes_after_is = f ∙ v.bytes_after_is; numbers_after_is = g ∙ v.numbers_after_is }
 
-    taken : (q : Read) (b : List ℕ) (n : List ℤ) → ReadSays s bs ns q b n → says_read q ≡ good tt → (too_short bs ns ≡ false) × ((l : Line ℕ) × Accepts s l)
+    taken : (q : Result (Unit {0}) Refusal) (b : List ℕ) (n : List ℤ) → ReadSays s bs ns q b n → says q ≡ good tt → (too_short bs ns ≡ false) × ((l : Line ℕ) × Accepts s l)
         → ReadSays s bs ns r bs' ns'
     taken q b n v c x =
-        let e : says_read r ≡ good tt = (a.accepts s bs ns r bs' ns' w).1 x in
+        let e : says r ≡ good tt = (a.accepts s bs ns r bs' ns' w).1 x in
         let t = x.1.1.spelt in
         let h = a.tables s bs ns r bs' ns' w e t.tree t.fine t.prints in
         let k = tables s bs ns q b n v c t.tree t.fine t.prints in
         same q b n v (e ∙ sym c) (h.bytes ∙ sym k.bytes) (h.numbers ∙ sym k.numbers)
 
-    left : (q : Read) (b : List ℕ) (n : List ℤ) → ReadSays s bs ns q b n → (t : TurnedAway s bs ns q b n) → says_read r ≡ refuses t.number t.place
-        → (says_read r ≡ good tt) ⊎ TurnedAway s bs ns r bs' ns' → ReadSays s bs ns r bs' ns'
+    left : (q : Result (Unit {0}) Refusal) (b : List ℕ) (n : List ℤ) → ReadSays s bs ns q b n → (t : TurnedAway s bs ns q b n) → says r ≡ refuses t.number t.place
+        → (says r ≡ good tt) ⊎ TurnedAway s bs ns r bs' ns' → ReadSays s bs ns r bs' ns'
     left q b n v t e (inl x) = absurd (not_both (sym x ∙ e))
     left q b n v t e (inr x) = same q b n v (e ∙ sym t.says) (x.bytes ∙ sym t.bytes) (x.numbers ∙ sym t.numbers)
 
-    go : (q : Read) (b : List ℕ) (n : List ℤ) → ReadSays s bs ns q b n → (says_read q ≡ good tt) ⊎ TurnedAway s bs ns q b n → ReadSays s bs ns r bs' ns'
+    go : (q : Result (Unit {0}) Refusal) (b : List ℕ) (n : List ℤ) → ReadSays s bs ns q b n → (says q ≡ good tt) ⊎ TurnedAway s bs ns q b n → ReadSays s bs ns r bs' ns'
     go q b n v (inl c) = taken q b n v c ((accepts s bs ns q b n v).0 c)
     go q b n v (inr t) =
         left q b n v t ((a.refuses_by s bs ns r bs' ns' w t.number t.place).1 ((refuses_by s bs ns q b n v t.number t.place).0 t.says))

@@ -1,15 +1,14 @@
 -- Demand 3 of rows: they are exactly the permitted positions, ascending, and a floater's first row among them has its least.
-use Rattle.std.specs.Prelude.{◌≡◌, refl, ◌↔◌, ◌⊎◌, Bool, true, false, cond, List, [], ◌∷◌, map, ℕ, zero, suc, ◌+◌, ◌≤◌, ◌<◌, min, eqb, ℤ, length, take, drop, get_or}
+use Rattle.std.specs.Prelude.{◌≡◌, refl, ◌↔◌, ◌⊎◌, Bool, true, false, cond, List, [], ◌∷◌, map, ℕ, zero, suc, ◌+◌, ◌≤◌, ◌<◌, min, eqb, ℤ, length, take, drop, get_or, Result}
 use Rattle.std.proofs.Common.{sym, ap, ◌∙◌, subst, inl, inr, true≢false, arith, eqb-true, eq-eqb, le-ltb, length-append, length-drop}
 use Rattle.std.proofs.Math.Option.{Option, none, some}
 use Rattle.std.proofs.Math.Seq.{take-append_seam, drop-append_seam}
-use Rattle.scope.specs.declared.answers.Count.{Count}
 use Rattle.scope.specs.declared.answers.Site.{Site}
 use Rattle.scope.specs.Limits.{row_limit}
 use Rattle.scope.specs.Lists.{laid}
 use Rattle.scope.specs.Layout.{tables_in}
-use Rattle.scope.specs.Positions.{floating_of, rows_from, rows_of, Found, first_row, lookup}
-use Rattle.scope.specs.Answers.{good, refuses, findable, says_count, rows_said, rows_after, looks_up}
+use Rattle.scope.specs.Positions.{floating_of, rows_from, rows_of, first_row, lookup}
+use Rattle.scope.specs.Answers.{good, refuses, findable, rows_said, rows_after, looks_up, says}
 use Rattle.placement_laws.specs.Terms.{AllRising}
 use Rattle.basics.specs.Each.{In}
 use Rattle.basics.specs.Members.{in_left, in_right, in_either, in_map, map_in, ordered_append, ordered_map}
@@ -17,6 +16,8 @@ use Rattle.laws.proofs.Proved.{demands}
 use Rattle.listing.specs.Says.{RowsSays}
 use Rattle.promises.specs.Promises.{Permitted, Below, Climbing, LeastOf, Rowed}
 use Rattle.promises.proofs.Weights.{AreasTaken, orderly}
+use Rattle.scope.specs.declared.answers.Row.{Row}
+use Rattle.scope.specs.declared.refusals.Refusal.{Refusal}
 
 abbrev site : ℕ → ℕ → Site
 site f x = record { floater = f; position = x }
@@ -67,7 +68,7 @@ climbing k (q ∷ qs) r =
         inl (omega (arith, e, l))
 
 -- ---- the first row of a floater
-abbrev Best : ℕ → List Site → Option Found → Type 0
+abbrev Best : ℕ → List Site → Option Row → Type 0
 Best f rs none = (y : ℕ) → In (site f y) rs → ⊥
 Best f rs (some x) = In (site f x.position) rs × ((y : ℕ) → In (site f y) rs → x.position ≤ y)
 
@@ -89,7 +90,7 @@ best f i (r ∷ rs) c = go (eqb r.floater f) refl (first_row f (i + 1) rs) (best
     others e y ih (inl q) = absurd (true≢false (sym (eq-eqb r.floater f (sym (ap (λ (s : Site). s.floater) q))) ∙ e))
     others e y ih (inr h) = ih h
 
-    go : (t : Bool) → eqb r.floater f ≡ t → (o : Option Found) → Best f rs o → Best f (r ∷ rs) (cond t (some (record { index = i; position = r.position })) o)
+    go : (t : Bool) → eqb r.floater f ≡ t → (o : Option Row) → Best f rs o → Best f (r ∷ rs) (cond t (some (record { index = i; position = r.position })) o)
     go true e o ih = let z = eqb-true r.floater f e in (inl (ap (λ g. site g r.position) (sym z)), least z)
     go false e none ih = λ y h. others e y (ih y) h
     go false e (some x) ih = (inr ih.0, (λ y h. others e y (ih.1 y) h))
@@ -121,7 +122,7 @@ module _ (bs : List ℕ) (ns : List ℤ) (h : AreasTaken bs ns) where
   unfolding rows_of
   rows_climb = climbing 1 qs (orderly h).rising
 
-  least_of : (f : ℕ) (o : Option Found) → Best f rows o → LeastOf (Permitted bs ns f) (findable o)
+  least_of : (f : ℕ) (o : Option Row) → Best f rows o → LeastOf (Permitted bs ns f) (findable o)
   least_of f none b = (refl, λ y h. b y ((permitted_rows f y).1 h))
   least_of f (some x) b = ((permitted_rows f x.position).0 b.0, λ y h. b.1 y ((permitted_rows f y).1 h))
 
@@ -154,7 +155,7 @@ module _ (bs : List ℕ) (ns : List ℤ) (h : AreasTaken bs ns) where
           first = λ f l w. subst (LeastOf (Permitted bs ns f)) (sym (w ∙ looked f)) (least_of f (first_row f 0 rows) (best f 0 rows rows_climb));
         }
 
-    pub rows_kept : (r : Count) (room' : List Site) → RowsSays bs ns room r room' → (n : ℕ) × ((says_count r ≡ good n) × Rowed bs ns room room' n)
+    pub rows_kept : (r : Result ℕ Refusal) (room' : List Site) → RowsSays bs ns room r room' → (n : ℕ) × ((says r ≡ good n) × Rowed bs ns room room' n)
     rows_kept r room' w =
         let after : room' ≡ laid rows room = w.1 ∙ ap (λ s. rows_after s (tables_in bs ns) room) said in
         (length rows, (w.0 ∙ said, subst (λ z. Rowed bs ns room z (length rows)) (sym after) rowed))

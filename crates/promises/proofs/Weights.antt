@@ -1,9 +1,7 @@
 -- Demand 3 of masses, and what is counted: the total, the ledger and the display agree, and all are what the line means.
-use Rattle.std.specs.Prelude.{◌≡◌, refl, ◌↔◌, Bool, true, false, cond, List, ℕ, eqb, ℤ, ◌+ℤ◌, length}
+use Rattle.std.specs.Prelude.{◌≡◌, refl, ◌↔◌, Bool, true, false, cond, List, ℕ, eqb, ℤ, ◌+ℤ◌, length, Result}
 use Rattle.std.proofs.Common.{sym, ap, ◌∙◌, subst, eq-eqb, ne_eqb}
-use Rattle.scope.specs.declared.answers.Total.{Total}
 use Rattle.scope.specs.declared.answers.Shown.{Shown}
-use Rattle.scope.specs.declared.answers.Request.{Request}
 use Rattle.scope.specs.declared.answers.Placement.{Placement}
 use Rattle.scope.specs.declared.answers.Ledger.{Ledger}
 use Rattle.scope.specs.Lists.{laid}
@@ -12,7 +10,7 @@ use Rattle.scope.specs.Layout.{bytes_of, tables_in}
 use Rattle.scope.specs.Positions.{floaters, floating_of}
 use Rattle.scope.specs.Placements.{allowed}
 use Rattle.scope.specs.Masses.{sum, total, lacking, labile_mass, daltons}
-use Rattle.scope.specs.Answers.{Said, good, refuses, a_mass, lack, display_of, says_total, says_shown, says_request, says_booked, too_short, are_tables, over_tables, residue_count, bracket_count, floater_count, weighed, allowable, bookable, books, entries}
+use Rattle.scope.specs.Answers.{Said, good, refuses, display_of, too_short, are_tables, over_tables, residue_count, bracket_count, floater_count, weighed, allowable, bookable, books, entries, says}
 use Rattle.scope.specs.Grammar.{Spelling}
 use Rattle.layout_laws.proofs.Laws.{tables_held}
 use Rattle.placement_laws.specs.Terms.{Orderly}
@@ -24,6 +22,8 @@ use Rattle.promises.specs.Promises.{meant, Reckoned}
 use Rattle.basics.specs.Said.{not_both, same_good, same_place}
 use Rattle.promises.proofs.Said.{not_lack, same_lack}
 use Rattle.promises.proofs.Readers.{WasRead, held_after}
+use Rattle.scope.specs.declared.answers.Shown.TheVariants.{Daltons, Missing}
+use Rattle.scope.specs.declared.refusals.Refusal.{Refusal}
 
 -- areas that every call takes
 pub record AreasTaken (bs : List ℕ) (ns : List ℤ) : Type 0 where
@@ -43,10 +43,10 @@ said_allowed : (b : Bool) → good (tt {0}) ≡ cond b (good (tt {0})) (refuses 
 said_allowed true e = refl
 said_allowed false e = absurd (not_both e)
 
-pub is_allowed : {bs : List ℕ} {ns : List ℤ} → AreasTaken bs ns → (p : Placement) (r : Request) → AllowedSays bs ns p r
-    → (allowed (floating_of (tables_in bs ns)) p.at ≡ true) ↔ (says_request r ≡ good tt)
+pub is_allowed : {bs : List ℕ} {ns : List ℤ} → AreasTaken bs ns → (p : Placement) (r : Result (Unit {0}) Refusal) → AllowedSays bs ns p r
+    → (allowed (floating_of (tables_in bs ns)) p.at ≡ true) ↔ (says r ≡ good tt)
 is_allowed {bs} {ns} h p r w =
-    let answered : says_request r ≡ allowable (tables_in bs ns) p.at = w ∙ says_itself h (λ t. allowable t p.at) in (
+    let answered : says r ≡ allowable (tables_in bs ns) p.at = w ∙ says_itself h (λ t. allowable t p.at) in (
       (λ e. answered ∙ ap (λ b. cond b (good tt) (refuses 18 0)) e),
       (λ e. said_allowed (allowed (floating_of (tables_in bs ns)) p.at) (sym e ∙ answered)),
     )
@@ -60,36 +60,36 @@ weighed_so : (b : Bool) (x m : ℤ) (k : ℕ) → cond b (good x) (refuses 16 k)
 weighed_so true x m k e = (refl, same_good e)
 weighed_so false x m k e = absurd (not_both (sym e))
 
-lack_so : (b : Bool) (x : ℤ) (k n : ℕ) → (good (cond b (a_mass (daltons x)) (lack k)) ≡ good (lack n)) ↔ (cond b (good x) (refuses 16 k) ≡ refuses 16 n)
+lack_so : (b : Bool) (x : ℤ) (k n : ℕ) → (good (cond b (Daltons (daltons x)) (Missing k)) ≡ good (Missing n)) ↔ (cond b (good x) (refuses 16 k) ≡ refuses 16 n)
 lack_so true x k n = ((λ e. absurd (not_lack (same_good e))), (λ e. absurd (not_both e)))
-lack_so false x k n = ((λ e. ap (refuses 16) (same_lack (same_good e))), (λ e. ap (λ z. good (lack z)) (same_place e)))
+lack_so false x k n = ((λ e. ap (refuses 16) (same_lack (same_good e))), (λ e. ap (λ z. good (Missing z)) (same_place e)))
 
 module _ (bs : List ℕ) (ns : List ℤ) (h : AreasTaken bs ns) where
   abbrev t : Tables
   t = tables_in bs ns
 
-  pub total_said : (q : Total) → TotalSays bs ns q → says_total q ≡ weighed t (total t)
+  pub total_said : (q : Result ℤ Refusal) → TotalSays bs ns q → says q ≡ weighed t (total t)
   total_said q w = w ∙ says_itself h (λ t. weighed t (total t))
 
-  pub total_so : (m : ℤ) (q : Total) → TotalSays bs ns q → says_total q ≡ good m → (eqb (lacking t) 0 ≡ true) × (total t ≡ m)
+  pub total_so : (m : ℤ) (q : Result ℤ Refusal) → TotalSays bs ns q → says q ≡ good m → (eqb (lacking t) 0 ≡ true) × (total t ≡ m)
   total_so m q w e = weighed_so (eqb (lacking t) 0) (total t) m (lacking t) (sym (total_said q w) ∙ e)
 
-  pub shown_said : (r : Shown) → ShownSays bs ns r → says_shown r ≡ good (display_of t)
+  pub shown_said : (r : Shown) → ShownSays bs ns r → says r ≡ good (display_of t)
   shown_said r w = w ∙ says_itself h (λ t. good (display_of t))
 
-  pub displays : (m : ℤ) (q : Total) → TotalSays bs ns q → says_total q ≡ good m → (r : Shown) → ShownSays bs ns r → says_shown r ≡ good (a_mass (daltons m))
+  pub displays : (m : ℤ) (q : Result ℤ Refusal) → TotalSays bs ns q → says q ≡ good m → (r : Shown) → ShownSays bs ns r → says r ≡ good (Daltons (daltons m))
   displays m q w e r v =
       let k = total_so m q w e in
-      shown_said r v ∙ ap (λ b. good (cond b (a_mass (daltons (total t))) (lack (lacking t)))) k.0 ∙ ap (λ x. good (a_mass (daltons x))) k.1
+      shown_said r v ∙ ap (λ b. good (cond b (Daltons (daltons (total t))) (Missing (lacking t)))) k.0 ∙ ap (λ x. good (Daltons (daltons x))) k.1
 
-  pub lacks : (n : ℕ) (q : Total) → TotalSays bs ns q → (r : Shown) → ShownSays bs ns r → (says_shown r ≡ good (lack n)) ↔ (says_total q ≡ refuses 16 n)
+  pub lacks : (n : ℕ) (q : Result ℤ Refusal) → TotalSays bs ns q → (r : Shown) → ShownSays bs ns r → (says r ≡ good (Missing n)) ↔ (says q ≡ refuses 16 n)
   lacks n q w r v =
       let k = lack_so (eqb (lacking t) 0) (total t) (lacking t) n in
       ((λ e. total_said q w ∙ k.0 (sym (shown_said r v) ∙ e)), (λ e. shown_said r v ∙ k.1 (sym (total_said q w) ∙ e)))
 
   -- ---- the ledger
-  pub adds_up : (m : ℤ) (q : Total) → TotalSays bs ns q → says_total q ≡ good m → (p : Placement) (a : Request) → AllowedSays bs ns p a → says_request a ≡ good tt
-      → (r : Ledger) → LedgerSays bs ns p r → (says_booked r.booked ≡ good tt) × (sum r.at +ℤ labile_mass t ≡ m)
+  pub adds_up : (m : ℤ) (q : Result ℤ Refusal) → TotalSays bs ns q → says q ≡ good m → (p : Placement) (a : Result (Unit {0}) Refusal) → AllowedSays bs ns p a → says a ≡ good tt
+      → (r : Ledger) → LedgerSays bs ns p r → (says r.booked ≡ good tt) × (sum r.at +ℤ labile_mass t ≡ m)
   adds_up m q w e p a v f r l =
       let k = total_so m q w e in
       let ok = (is_allowed h p a v).1 f in

@@ -7,7 +7,7 @@ use Rattle.scope.specs.Lists.{padded}
 use Rattle.scope.specs.Layout.{tables_in}
 use Rattle.scope.specs.Positions.{Floating, floating_of}
 use Rattle.scope.specs.Reasons.{too_few, Reason}
-use Rattle.scope.specs.Answers.{good, says_count}
+use Rattle.scope.specs.Answers.{good, says}
 use Rattle.placement_laws.specs.Terms.{may_stand_at, Allowed, Placing}
 use Rattle.placement_laws.specs.Laws as placing
 use Rattle.placement_laws.specs.Lines.{line_inside}
@@ -40,7 +40,7 @@ module _ (bs : List ℕ) (ns : List ℤ) where
         )
 
     pub why : (r : Why) → WhySays bs ns r
-        → (l : List ℕ) × Reason f l × (says_count r.count ≡ good (length l)) × (r.at ≡ padded 0 copy_limit l) × ((l ≡ []) ↔ ((p : List ℕ) × Placing f p))
+        → (l : List ℕ) × Reason f l × (says r.count ≡ good (length l)) × (r.at ≡ padded 0 copy_limit l) × ((l ≡ []) ↔ ((p : List ℕ) × Placing f p))
     why r w =
         let own = says_itself h (λ t. good (length w.set)) in
         let z = empty_why w.set w.reason in (

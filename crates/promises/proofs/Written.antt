@@ -1,16 +1,14 @@
 -- Demand 2 of writing: the line that is written reads back, and two lines share it exactly when their tables are equal.
-use Rattle.std.specs.Prelude.{◌≡◌, ◌↔◌, Bool, true, false, cond, List, [], ◌++◌, ℕ, ◌≤◌, ltb, ℤ, length, take, drop}
+use Rattle.std.specs.Prelude.{◌≡◌, ◌↔◌, Bool, true, false, cond, List, [], ◌++◌, ℕ, ◌≤◌, ltb, ℤ, length, take, drop, Result}
 use Rattle.std.proofs.Common.{sym, ap, ◌∙◌, subst, arith, le-ltb}
 use Rattle.std.proofs.Math.Seq.{take-append_seam, drop-append_seam}
-use Rattle.scope.specs.declared.answers.Read.{Read}
-use Rattle.scope.specs.declared.answers.Write.{Write}
 use Rattle.scope.specs.Line.{Line}
 use Rattle.scope.specs.Lists.{laid}
 use Rattle.scope.specs.Refusals.{accepted, refused, outcome}
 use Rattle.scope.specs.Canonical.{canonical}
 use Rattle.scope.specs.Tables.{tables_of}
 use Rattle.scope.specs.Layout.{bytes_of, numbers_of, tables_in}
-use Rattle.scope.specs.Answers.{good, refuses, says_read, says_write, too_short, are_tables, read_outcome, says_outcome, bytes_after, numbers_after, fitting, writes, output_after}
+use Rattle.scope.specs.Answers.{good, refuses, too_short, are_tables, read_outcome, says_outcome, bytes_after, numbers_after, fitting, writes, output_after, says}
 use Rattle.laws.specs.Demands as laws
 use Rattle.laws.proofs.Proved.{demands}
 use Rattle.reader.specs.ReadSays.{ReadSays}
@@ -18,6 +16,7 @@ use Rattle.calls.specs.Writing.{WriteSays}
 use Rattle.promises.specs.Promises.{Entered, Filed, Demand2}
 use Rattle.basics.specs.Said.{not_both, same_good}
 use Rattle.promises.proofs.Readers.{WasRead, was_read, held_after}
+use Rattle.scope.specs.declared.refusals.Refusal.{Refusal}
 
 -- the line of areas that hold tables, where it fits
 fits : (c : List ℕ) (n : ℕ) → length c ≤ n → fitting c n ≡ good (length c)
@@ -28,8 +27,8 @@ written_so : (bs : List ℕ) (ns : List ℤ) (out : List ℕ) → too_short bs n
 written_so bs ns out a e = rw (a, e)
 
 -- reading a line into areas that it reads to
-read_again : (c bs : List ℕ) (ns : List ℤ) → too_short bs ns ≡ false → laws.ReadsBack c bs ns → (r : Read) (bs' : List ℕ) (ns' : List ℤ)
-    → ReadSays c bs ns r bs' ns' → (says_read r ≡ good tt) × (bs' ≡ bs) × (ns' ≡ ns)
+read_again : (c bs : List ℕ) (ns : List ℤ) → too_short bs ns ≡ false → laws.ReadsBack c bs ns → (r : Result (Unit {0}) Refusal) (bs' : List ℕ) (ns' : List ℤ)
+    → ReadSays c bs ns r bs' ns' → (says r ≡ good tt) × (bs' ≡ bs) × (ns' ≡ ns)
 read_again c bs ns a b r bs' ns' w =
     let o : read_outcome bs ns c ≡ accepted b.line = ap (λ z. cond z (refused 13 0) (outcome c)) a ∙ b.reads in (
       w.says ∙ ap says_outcome o,
@@ -37,8 +36,8 @@ read_again c bs ns a b r bs' ns' w =
       w.numbers_after_is ∙ ap (λ z. numbers_after z ns) o ∙ b.numbers,
     )
 
-reads_back : (s bs : List ℕ) (ns : List ℤ) (q : Read) (bs' : List ℕ) (ns' : List ℤ) → ReadSays s bs ns q bs' ns' → says_read q ≡ good tt
-    → (out : List ℕ) (w : Write) (out' : List ℕ) → WriteSays bs' ns' out w out' → length s ≤ length out → Entered s bs' ns' out w out'
+reads_back : (s bs : List ℕ) (ns : List ℤ) (q : Result (Unit {0}) Refusal) (bs' : List ℕ) (ns' : List ℤ) → ReadSays s bs ns q bs' ns' → says q ≡ good tt
+    → (out : List ℕ) (w : Result ℕ Refusal) (out' : List ℕ) → WriteSays bs' ns' out w out' → length s ≤ length out → Entered s bs' ns' out w out'
 reads_back s bs ns q bs' ns' rd e out w out' wr h =
     let r = was_read s bs ns q bs' ns' rd e in
     let t = held_after r in
@@ -55,14 +54,14 @@ reads_back s bs ns q bs' ns' rd e out w out' wr h =
       no_longer = k;
       rest = ap (drop (length c)) o ∙ drop-append_seam c (drop (length c) out);
       back =
-          subst (λ z. (q : Read) (b : List ℕ) (n : List ℤ) → ReadSays z bs' ns' q b n → (says_read q ≡ good tt) × (b ≡ bs') × (n ≡ ns'))
+          subst (λ z. (q : Result (Unit {0}) Refusal) (b : List ℕ) (n : List ℤ) → ReadSays z bs' ns' q b n → (says q ≡ good tt) × (b ≡ bs') × (n ≡ ns'))
           (sym (ap (take (length c)) o ∙ take-append_seam c (drop (length c) out)))
           (read_again c bs' ns' t.long_enough (demands.demand_2.reads_back bs' ns' t.taken));
     }
 
 -- the line that was written
-line_written_lem : (bs : List ℕ) (ns : List ℤ) (out : List ℕ) (w : Write) (out' : List ℕ) (n : ℕ) → too_short bs ns ≡ false → are_tables bs ns ≡ true
-    → WriteSays bs ns out w out' → says_write w ≡ good n → take n out' ≡ canonical (tables_in bs ns)
+line_written_lem : (bs : List ℕ) (ns : List ℤ) (out : List ℕ) (w : Result ℕ Refusal) (out' : List ℕ) (n : ℕ) → too_short bs ns ≡ false → are_tables bs ns ≡ true
+    → WriteSays bs ns out w out' → says w ≡ good n → take n out' ≡ canonical (tables_in bs ns)
 line_written_lem bs ns out w out' n a e v q =
     let c = canonical (tables_in bs ns) in
     let said : writes bs ns out ≡ good n = sym v.says ∙ q in

@@ -1,7 +1,6 @@
 -- The two wrong readers that document 01 names do not meet what is promised of reading: the line `A` is to be accepted, and the empty one is not.
 use Rattle.std.specs.Prelude.{◌≡◌, refl, false, List, [], ◌∷◌, ℕ, ℤ, pos, replicate}
 use Rattle.std.proofs.Common.{sym, arith}
-use Rattle.scope.specs.declared.answers.Read.TheVariants.{Accepted, Refused as read_refused}
 use Rattle.scope.specs.declared.grammar.Section.TheVariants.{Plain}
 use Rattle.scope.specs.Bytes.{upper}
 use Rattle.scope.specs.Lists.{keep, flat, laid}
@@ -50,5 +49,5 @@ accepted_refused l e = let z : ◌≡◌ {A = ℕ} 0 1 = cc (empty_refused, e) i
 
 pub not_one_table : (l : Line ℕ) → Accepting (OneTable l) → ⊥
 not_one_table l a =
-    let so = (a.accepts [] bytes numbers Accepted (laid (bytes_of l) bytes) (laid (numbers_of l) numbers) (refl, refl, refl)).0 refl in
+    let so = (a.accepts [] bytes numbers (Ok tt) (laid (bytes_of l) bytes) (laid (numbers_of l) numbers) (refl, refl, refl)).0 refl in
     accepted_refused so.1.0 (((spelled.laws).accepts [] so.1.0).1 so.1.1)

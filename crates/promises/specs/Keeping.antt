@@ -1,7 +1,6 @@
 -- The register kept in blocks (02, L5): what is promised of its calls, each sentence above its theorem, over what they ensure: `EmptySays`, `AddSays`, `FetchSays`,
 -- `RemoveSays`, `EntrySays` (crate keeping). The proofs: proofs/Keeps.antt.
-use Rattle.std.specs.Prelude.{◌≡◌, true, false, List, [], ◌∷◌, ◌++◌, ℕ, ◌-◌, ◌/◌, ◌^◌, ◌≤◌, ◌<◌, length, take, get_or, set}
-use Rattle.scope.specs.declared.answers.Change.{Change}
+use Rattle.std.specs.Prelude.{◌≡◌, true, false, List, [], ◌∷◌, ◌++◌, ℕ, ◌-◌, ◌/◌, ◌^◌, ◌≤◌, ◌<◌, length, take, get_or, set, Result, Ok}
 use Rattle.scope.specs.declared.answers.Placement.{Placement}
 use Rattle.scope.specs.Bytes.{byte_limit}
 use Rattle.scope.specs.Limits.{block_size}
@@ -9,22 +8,21 @@ use Rattle.scope.specs.Line.{Line}
 use Rattle.scope.specs.Lists.{member, laid}
 use Rattle.scope.specs.Refusals.{accepted, outcome}
 use Rattle.scope.specs.Canonical.{canonical}
-use Rattle.scope.specs.Answers.{Said, good, refuses, says_change}
-use Rattle.blocks.specs.declared.Fetch.{Fetch}
-use Rattle.blocks.specs.declared.Fetch.TheVariants.{Line as fetch_line, Refused as fetch_refused}
+use Rattle.scope.specs.Answers.{Said, good, refuses, says}
 use Rattle.blocks.specs.declared.Fetched.{Fetched}
 use Rattle.blocks.specs.declared.Listed.{Listed}
 use Rattle.blocks.specs.Area.{blocks_in, frees}
 use Rattle.blocks.specs.Entry.{Entry, positions_of, absent, present, look}
-use Rattle.blocks.specs.Answers.{says_fetch, blocks_for, is_head, says_listed}
+use Rattle.blocks.specs.Answers.{blocks_for, is_head}
 use Rattle.blocks.specs.Map.{Call, adds, fetches, removes, Answer, told, handed, map_answers, AllNumbered}
 use Rattle.block_laws.specs.Listing.{FirstOf, NoneOf}
 use Rattle.keeping.specs.Says.{EmptySays, AddSays, FetchSays, RemoveSays, EntrySays}
+use Rattle.scope.specs.declared.refusals.Refusal.{Refusal}
 
 -- ---- calls one after another
 -- what was fetched: the placement, and the line at the front of the output
 abbrev pub entry_fetched : Fetch → List ℕ → List ℕ → Said Entry
-entry_fetched (fetch_line m) at out = good (record { placement = at; line = take m out })
+entry_fetched (Ok m) at out = good (record { placement = at; line = take m out })
 entry_fetched (fetch_refused number place) at out = refuses number place
 
 -- a fetch was answered so, into some output with so much room
@@ -38,9 +36,9 @@ pub record FetchMade (a : List ℕ) (n room : ℕ) (x : Answer) : Type 0 where
 
 -- a call was answered as it ensures: the answer, and the area afterwards
 abbrev pub CallSays : List ℕ → Call → Answer → List ℕ → Type 0
-CallSays a (adds n p s) x a' = (r : Change) × (AddSays a n (record { at = p }) s r a' × (x ≡ told (says_change r)))
+CallSays a (adds n p s) x a' = (r : Result (Unit {0}) Refusal) × (AddSays a n (record { at = p }) s r a' × (x ≡ told (says r)))
 CallSays a (fetches n room) x a' = FetchMade a n room x × (a' ≡ a)
-CallSays a (removes n) x a' = (r : Change) × (RemoveSays a n r a' × (x ≡ told (says_change r)))
+CallSays a (removes n) x a' = (r : Result (Unit {0}) Refusal) × (RemoveSays a n r a' × (x ≡ told (says r)))
 
 abbrev pub CallsSay : List ℕ → List Call → List Answer → List ℕ → Type 0
 CallsSay a [] [] a' = a' ≡ a
@@ -52,10 +50,10 @@ CallsSay a (c ∷ cs) (x ∷ xs) a' = (b : List ℕ) × (CallSays a c x b × Cal
 pub record Undamaged (k : ℕ) (cs : List Call) (xs : List Answer) (a : List ℕ) : Type 0 where
   pub before : List ℕ
   pub many : blocks_in before ≡ k
-  pub answer : Change
+  pub answer : (Result (Unit {0}) Refusal)
   pub made : List ℕ
   pub empties : EmptySays before answer made
-  pub success : says_change answer ≡ good tt
+  pub success : says answer ≡ good tt
   pub numbered : AllNumbered cs
   pub calls : CallsSay made cs xs a
 
@@ -64,19 +62,19 @@ pub record Keeping : Type 0 where
   pub as_a_map : (k : ℕ) (cs : List Call) (xs : List Answer) (a : List ℕ) → Undamaged k cs xs a → xs ≡ map_answers k [] cs
   -- what is fetched is what was added: the placement, and the canonical line; whatever area it was added to
   pub fetch_added :
-      (a : List ℕ) (n : ℕ) → n < 2 ^ 32 → (p : Placement) (s : List ℕ) (r : Change) (a' : List ℕ) → AddSays a n p s r a' → says_change r ≡ good tt
+      (a : List ℕ) (n : ℕ) → n < 2 ^ 32 → (p : Placement) (s : List ℕ) (r : Result (Unit {0}) Refusal) (a' : List ℕ) → AddSays a n p s r a' → says r ≡ good tt
       → (l : Line ℕ) → outcome s ≡ accepted l → (out : List ℕ) → length (canonical l) ≤ length out → (f : Fetched) (out' : List ℕ) → FetchSays a' n out f out'
-      → (says_fetch f.fetch ≡ good (length (canonical l))) × (f.at ≡ p.at) × (out' ≡ laid (canonical l) out)
+      → (says f.fetch ≡ good (length (canonical l))) × (f.at ≡ p.at) × (out' ≡ laid (canonical l) out)
   -- "Blocks are taken lowest free first": what was added lies in the lowest free blocks, in their order
   pub lowest_first :
-      (a : List ℕ) (n : ℕ) → n < 2 ^ 32 → (p : Placement) (s : List ℕ) (r : Change) (a' : List ℕ) → AddSays a n p s r a' → says_change r ≡ good tt
+      (a : List ℕ) (n : ℕ) → n < 2 ^ 32 → (p : Placement) (s : List ℕ) (r : Result (Unit {0}) Refusal) (a' : List ℕ) → AddSays a n p s r a' → says r ≡ good tt
       → (l : Line ℕ) → outcome s ≡ accepted l
       → look a' n ≡ present (take (blocks_for (length (positions_of p.at ++ canonical l))) (frees a)) (record { placement = p.at; line = canonical l })
   -- "freed ones again": what was added and removed leaves the area as it was
   pub back_again :
       (k : ℕ) (cs : List Call) (xs : List Answer) (a : List ℕ) → Undamaged k cs xs a
-      → (n : ℕ) → n < 2 ^ 32 → (p : Placement) (s : List ℕ) (r : Change) (a₁ : List ℕ) → AddSays a n p s r a₁ → says_change r ≡ good tt
-      → (q : Change) (a₂ : List ℕ) → RemoveSays a₁ n q a₂ → (says_change q ≡ good tt) × (a₂ ≡ a)
+      → (n : ℕ) → n < 2 ^ 32 → (p : Placement) (s : List ℕ) (r : Result (Unit {0}) Refusal) (a₁ : List ℕ) → AddSays a n p s r a₁ → says r ≡ good tt
+      → (q : Result (Unit {0}) Refusal) (a₂ : List ℕ) → RemoveSays a₁ n q a₂ → (says q ≡ good tt) × (a₂ ≡ a)
   -- "After one byte changes, the entries with no block touched are fetched as before and the touched one is refused."
   pub untouched :
       (k : ℕ) (cs : List Call) (xs : List Answer) (a : List ℕ) → Undamaged k cs xs a → (i c : ℕ) → i < length a → c < byte_limit → (c ≡ get_or a i 0 → ⊥)
@@ -85,14 +83,14 @@ pub record Keeping : Type 0 where
   pub touched :
       (k : ℕ) (cs : List Call) (xs : List Answer) (a : List ℕ) → Undamaged k cs xs a → (i c : ℕ) → i < length a → c < byte_limit → (c ≡ get_or a i 0 → ⊥)
       → (n : ℕ) (bs : List ℕ) (e : Entry) → look a n ≡ present bs e → member (i / block_size) bs ≡ true
-      → (out : List ℕ) (f : Fetched) (out' : List ℕ) → FetchSays (set a i c) n out f out' → says_fetch f.fetch ≡ refuses 25 0
+      → (out : List ℕ) (f : Fetched) (out' : List ℕ) → FetchSays (set a i c) n out f out' → says f.fetch ≡ refuses 25 0
   -- and numbers that were not there are refused so, too
   pub absent_then :
       (k : ℕ) (cs : List Call) (xs : List Answer) (a : List ℕ) → Undamaged k cs xs a → (i c : ℕ) → i < length a → c < byte_limit → (c ≡ get_or a i 0 → ⊥)
-      → (n : ℕ) → look a n ≡ absent → (out : List ℕ) (f : Fetched) (out' : List ℕ) → FetchSays (set a i c) n out f out' → says_fetch f.fetch ≡ refuses 25 0
+      → (n : ℕ) → look a n ≡ absent → (out : List ℕ) (f : Fetched) (out' : List ℕ) → FetchSays (set a i c) n out f out' → says f.fetch ≡ refuses 25 0
   -- "Copies must show which entries survived": every entry that is fetched is listed, asked for from its first block on; and the listing passes none over
   pub listed :
-      (a : List ℕ) (n : ℕ) (out : List ℕ) (f : Fetched) (out' : List ℕ) → FetchSays a n out f out' → (m : ℕ) → says_fetch f.fetch ≡ good m
-      → (b : ℕ) × ((is_head a b ≡ true) × ((r : Listed) → EntrySays a b r → says_listed r ≡ good (record { block = b; number = n })))
-  pub none_passed : (a : List ℕ) (from : ℕ) (r : Listed) → EntrySays a from r → (h : Listed) → says_listed r ≡ good h → FirstOf (is_head a) from (blocks_in a - from) h.block
-  pub none_left : (a : List ℕ) (from : ℕ) (r : Listed) → EntrySays a from r → says_listed r ≡ refuses 17 0 → NoneOf (is_head a) from (blocks_in a - from)
+      (a : List ℕ) (n : ℕ) (out : List ℕ) (f : Fetched) (out' : List ℕ) → FetchSays a n out f out' → (m : ℕ) → says f.fetch ≡ good m
+      → (b : ℕ) × ((is_head a b ≡ true) × ((r : Listed) → EntrySays a b r → says r ≡ good (record { block = b; number = n })))
+  pub none_passed : (a : List ℕ) (from : ℕ) (r : Listed) → EntrySays a from r → (h : Listed) → says r ≡ good h → FirstOf (is_head a) from (blocks_in a - from) h.block
+  pub none_left : (a : List ℕ) (from : ℕ) (r : Listed) → EntrySays a from r → says r ≡ refuses 17 0 → NoneOf (is_head a) from (blocks_in a - from)

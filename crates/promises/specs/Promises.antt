@@ -1,25 +1,17 @@
 -- The demands of the tender, each sentence above its theorem, over what the calls ensure: `ReadSays` (crate reader), `WriteSays`, `CountSays`, `TotalSays`,
 -- `ShownSays`, `AllowedSays`, `NextSays`, `LedgerSays` (calls), `LookupSays` (rows), `RowsSays` and `StepSays` (listing), `PiecesSay` (glycans), `ReachedSays` (calls), `EmptySays`,
 -- `AddSays`, `FetchSays`, `RemoveSays`, `EntrySays` and `SurveySays` (keeping). That each call asks nothing, and ensures
--- exactly its relation, is shown in proofs/Linked.antt. An answer is spoken of by what it says (`says_read` and its kin). The proofs: proofs/Kept.antt, for a caller in C
+-- exactly its relation, is shown in proofs/Linked.antt. An answer is spoken of by what it says (`says` and its kin). The proofs: proofs/Kept.antt, for a caller in C
 -- proofs/KeptC.antt, and the files that they cite.
-use Rattle.std.specs.Prelude.{◌≡◌, ◌↔◌, ◌⊎◌, true, false, List, [], ◌∷◌, ◌++◌, ℕ, zero, suc, ◌≤◌, ◌<◌, ℤ, pos, ◌+ℤ◌, Float, length, take, drop, get_or, replicate}
+use Rattle.std.specs.Prelude.{◌≡◌, ◌↔◌, ◌⊎◌, true, false, List, [], ◌∷◌, ◌++◌, ℕ, zero, suc, ◌≤◌, ◌<◌, ℤ, pos, ◌+ℤ◌, Float, length, take, drop, get_or, replicate, Result}
 use Rattle.std.proofs.Math.Option.{some}
-use Rattle.scope.specs.declared.answers.Read.{Read}
-use Rattle.scope.specs.declared.answers.Write.{Write}
-use Rattle.scope.specs.declared.answers.Count.{Count}
-use Rattle.scope.specs.declared.answers.Total.{Total}
 use Rattle.scope.specs.declared.answers.Mass.TheVariants.{Stated}
-use Rattle.scope.specs.declared.answers.BracketMass.{BracketMass}
 use Rattle.scope.specs.declared.answers.Shown.{Shown}
-use Rattle.scope.specs.declared.answers.Request.{Request}
 use Rattle.scope.specs.declared.answers.Placement.{Placement}
 use Rattle.scope.specs.declared.answers.Listing.{Listing}
 use Rattle.scope.specs.declared.answers.Ledger.{Ledger}
 use Rattle.scope.specs.declared.answers.Why.{Why}
 use Rattle.scope.specs.declared.answers.Site.{Site}
-use Rattle.scope.specs.declared.answers.Lookup.{Lookup}
-use Rattle.scope.specs.declared.answers.Change.{Change}
 use Rattle.scope.specs.Limits.{copy_limit, row_limit, position_limit}
 use Rattle.scope.specs.Line.{Number, Bracket, Line}
 use Rattle.scope.specs.Glycans.{Item}
@@ -28,12 +20,12 @@ use Rattle.scope.specs.Refusals.{outcome}
 use Rattle.scope.specs.Tables.{Tables, tables_of}
 use Rattle.scope.specs.Layout.{bytes_of, numbers_of, tables_in}
 use Rattle.scope.specs.Lists.{flat, laid, tabled, padded}
-use Rattle.scope.specs.Positions.{sites, names, placed_on, floaters, floating_of, Found}
+use Rattle.scope.specs.Positions.{sites, names, placed_on, floaters, floating_of}
 use Rattle.scope.specs.Placements.{fresh_listing}
 use Rattle.scope.specs.Reasons.{too_few, Reason}
 use Rattle.scope.specs.Modifications.{is_modification}
 use Rattle.scope.specs.Masses.{times, sum, total, lacking, labile_mass, daltons}
-use Rattle.scope.specs.Answers.{Said, good, refuses, a_mass, lack, says_read, says_write, says_count, says_total, says_mass, says_shown, says_lookup, says_request, says_booked, says_change, too_short, are_tables, counts, residue_count, bracket_count, floater_count, totals, shows, looks_up}
+use Rattle.scope.specs.Answers.{Said, good, refuses, too_short, are_tables, counts, residue_count, bracket_count, floater_count, totals, shows, looks_up, says}
 use Rattle.scope.specs.Grammar.{Spelling, print, good as well_spelt, means}
 use Rattle.grammar_laws.specs.Laws.{Accepts, Refuses}
 use Rattle.glycan_laws.specs.Laws.{Cuts}
@@ -42,7 +34,7 @@ use Rattle.placement_laws.specs.Standing.{place, Ascent}
 use Rattle.basics.specs.Each.{In, Ordered}
 use Rattle.laws.specs.Demands.{remeasured}
 use Rattle.blocks.specs.declared.Fetched.{Fetched}
-use Rattle.blocks.specs.Answers.{says_fetch, says_listed, listed_from, says_survey, survey_said}
+use Rattle.blocks.specs.Answers.{listed_from, survey_said}
 use Rattle.keeping.specs.Says.{EmptySays, AddSays, FetchSays, RemoveSays, EntrySays, SurveySays}
 use Rattle.verdict.specs.Says.{VerdictSays}
 use Rattle.reader.specs.ReadSays.{ReadSays}
@@ -61,6 +53,9 @@ use Rattle.export.specs.Handed.{Counted, RowsHanded, LookedUp, MovedOn}
 use Rattle.export.specs.Shapes.{Written, Totalled, Massed, Displayed, AllowedLent, FloatersHanded, WhyHanded, ReachedHanded, PiecesHanded, ReadEntered as EnteredLent}
 use Rattle.export.specs.Blocks.{EmptyHanded, AddHanded, FetchHanded, RemoveHanded, HeadHanded, Surveyed}
 use Rattle.promises.specs.Keeping.{Keeping}
+use Rattle.scope.specs.declared.answers.Row.{Row}
+use Rattle.scope.specs.declared.answers.Shown.TheVariants.{Daltons, Missing}
+use Rattle.scope.specs.declared.refusals.Refusal.{Refusal}
 
 -- ======== demand 1
 -- "Every line of bytes, every set of tables and every lent area gets an answer, and the caller need not have checked anything."
@@ -87,27 +82,27 @@ Nothing o = Unit {0}
 -- ---- reading
 -- What a reader says of a line, two areas, its answer, and the areas afterwards. What follows is stated of any, and promised of `ReadSays`.
 abbrev pub Reader : Type 1
-Reader = List ℕ → List ℕ → List ℤ → Read → List ℕ → List ℤ → Type 0
+Reader = List ℕ → List ℕ → List ℤ → Result (Unit {0}) Refusal → List ℕ → List ℤ → Type 0
 
 -- "Reading tries 13, then 1 to 12", 21 "after 10", and 19 "after 12": the numbers of a line
 abbrev pub line_numbers : List ℕ
 line_numbers = tabled (λ n. n) 1 12 ++ (19 ∷ 21 ∷ [])
 
 -- "A line outside the rules is refused with a number and a place; the tables then hold what they held before."
-pub record TurnedAway (s bs : List ℕ) (ns : List ℤ) (r : Read) (bs' : List ℕ) (ns' : List ℤ) : Type 0 where
+pub record TurnedAway (s bs : List ℕ) (ns : List ℤ) (r : Result (Unit {0}) Refusal) (bs' : List ℕ) (ns' : List ℤ) : Type 0 where
   pub number : ℕ
   pub place : ℕ
-  pub says : says_read r ≡ refuses number place
+  pub says : says r ≡ refuses number place
   pub one_of : In number (13 ∷ line_numbers)
   pub inside : place ≤ length s
   pub bytes : bs' ≡ bs
   pub numbers : ns' ≡ ns
 
 pub record AnswersLines (Says : Reader) : Type 0 where
-  pub exactly_one : (s bs : List ℕ) (ns : List ℤ) → ExactlyOne (λ (o : Read × List ℕ × List ℤ). Says s bs ns o.0 o.1 o.2)
+  pub exactly_one : (s bs : List ℕ) (ns : List ℤ) → ExactlyOne (λ (o : (Result (Unit {0}) Refusal) × List ℕ × List ℤ). Says s bs ns o.0 o.1 o.2)
   pub answered :
-      (s bs : List ℕ) (ns : List ℤ) (r : Read) (bs' : List ℕ) (ns' : List ℤ) → Says s bs ns r bs' ns'
-      → (says_read r ≡ good tt) ⊎ TurnedAway s bs ns r bs' ns'
+      (s bs : List ℕ) (ns : List ℤ) (r : Result (Unit {0}) Refusal) (bs' : List ℕ) (ns' : List ℤ) → Says s bs ns r bs' ns'
+      → (says r ≡ good tt) ⊎ TurnedAway s bs ns r bs' ns'
 
 -- ---- the calls over an area of blocks (02, L5)
 -- "Adding tries the line's own refusals and 18 first; then come 26, 25, 22 to 24": the numbers of adding
@@ -115,59 +110,59 @@ abbrev pub add_numbers : List ℕ
 add_numbers = line_numbers ++ (18 ∷ 23 ∷ 24 ∷ 25 ∷ 26 ∷ [])
 
 pub record AnswersBlocks : Type 0 where
-  pub empty : (a : List ℕ) → Answered (λ (o : Change × List ℕ). EmptySays a o.0 o.1) (λ o. says_change o.0) (26 ∷ []) (λ o. o.1 ≡ a)
+  pub empty : (a : List ℕ) → Answered (λ (o : (Result (Unit {0}) Refusal) × List ℕ). EmptySays a o.0 o.1) (λ o. says o.0) (26 ∷ []) (λ o. o.1 ≡ a)
   pub add :
       (a : List ℕ) (n : ℕ) (p : Placement) (s : List ℕ)
-      → Answered (λ (o : Change × List ℕ). AddSays a n p s o.0 o.1) (λ o. says_change o.0) add_numbers (λ o. o.1 ≡ a)
+      → Answered (λ (o : (Result (Unit {0}) Refusal) × List ℕ). AddSays a n p s o.0 o.1) (λ o. says o.0) add_numbers (λ o. o.1 ≡ a)
   -- on a refusal the placement beside the answer is zeros
   pub fetch :
       (a : List ℕ) (n : ℕ) (out : List ℕ)
-      → Answered (λ (o : Fetched × List ℕ). FetchSays a n out o.0 o.1) (λ o. says_fetch o.0.fetch) (15 ∷ 22 ∷ 25 ∷ 26 ∷ [])
+      → Answered (λ (o : Fetched × List ℕ). FetchSays a n out o.0 o.1) (λ o. says o.0.fetch) (15 ∷ 22 ∷ 25 ∷ 26 ∷ [])
       (λ o. ◌≡◌ {A = List ℕ × List ℕ} (o.0.at, o.1) (replicate copy_limit 0, out))
   pub remove :
       (a : List ℕ) (n : ℕ)
-      → Answered (λ (o : Change × List ℕ). RemoveSays a n o.0 o.1) (λ o. says_change o.0) (22 ∷ 25 ∷ 26 ∷ []) (λ o. o.1 ≡ a)
-  pub entry_from : (a : List ℕ) (from : ℕ) → Answered (EntrySays a from) says_listed (17 ∷ 26 ∷ []) Nothing
-  pub survey : (a : List ℕ) → Answered (SurveySays a) says_survey (26 ∷ []) Nothing
+      → Answered (λ (o : (Result (Unit {0}) Refusal) × List ℕ). RemoveSays a n o.0 o.1) (λ o. says o.0) (22 ∷ 25 ∷ 26 ∷ []) (λ o. o.1 ≡ a)
+  pub entry_from : (a : List ℕ) (from : ℕ) → Answered (EntrySays a from) says (17 ∷ 26 ∷ []) Nothing
+  pub survey : (a : List ℕ) → Answered (SurveySays a) says (26 ∷ []) Nothing
 
 -- ---- every call
 pub record Demand1 : Type 0 where
   pub read : AnswersLines ReadSays
   -- the same answers, with no areas
-  pub verdict : (s : List ℕ) → Answered (VerdictSays s) says_read line_numbers Nothing
+  pub verdict : (s : List ℕ) → Answered (VerdictSays s) says line_numbers Nothing
   pub write :
       (bs : List ℕ) (ns : List ℤ) (out : List ℕ)
-      → Answered (λ (o : Write × List ℕ). WriteSays bs ns out o.0 o.1) (λ o. says_write o.0) (13 ∷ 14 ∷ 15 ∷ []) (λ o. o.1 ≡ out)
-  pub count : (f : Tables → ℕ) (bs : List ℕ) (ns : List ℤ) → Answered (CountSays f bs ns) says_count (13 ∷ 14 ∷ []) Nothing
-  pub total : (bs : List ℕ) (ns : List ℤ) → Answered (TotalSays bs ns) says_total (13 ∷ 14 ∷ 16 ∷ []) Nothing
-  pub bracket_mass : (bs : List ℕ) (ns : List ℤ) (i : ℕ) → Answered (BracketMassSays bs ns i) says_mass (13 ∷ 14 ∷ 17 ∷ []) Nothing
+      → Answered (λ (o : (Result ℕ Refusal) × List ℕ). WriteSays bs ns out o.0 o.1) (λ o. says o.0) (13 ∷ 14 ∷ 15 ∷ []) (λ o. o.1 ≡ out)
+  pub count : (f : Tables → ℕ) (bs : List ℕ) (ns : List ℤ) → Answered (CountSays f bs ns) says (13 ∷ 14 ∷ []) Nothing
+  pub total : (bs : List ℕ) (ns : List ℤ) → Answered (TotalSays bs ns) says (13 ∷ 14 ∷ 16 ∷ []) Nothing
+  pub bracket_mass : (bs : List ℕ) (ns : List ℤ) (i : ℕ) → Answered (BracketMassSays bs ns i) says (13 ∷ 14 ∷ 17 ∷ []) Nothing
   pub floater_brackets :
       (bs : List ℕ) (ns : List ℤ) (brs cps : List ℕ)
-      → Answered (λ (o : Count × (List ℕ × List ℕ)). FloatersSay bs ns brs cps o.0 o.1.0 o.1.1) (λ o. says_count o.0) (13 ∷ 14 ∷ [])
+      → Answered (λ (o : (Result ℕ Refusal) × (List ℕ × List ℕ)). FloatersSay bs ns brs cps o.0 o.1.0 o.1.1) (λ o. says o.0) (13 ∷ 14 ∷ [])
       (λ o. o.1 ≡ (brs, cps))
   pub reached :
       (bs : List ℕ) (ns : List ℤ) (i : ℕ) (out : List ℕ)
-      → Answered (λ (o : Count × List ℕ). ReachedSays bs ns i out o.0 o.1) (λ o. says_count o.0) (13 ∷ 14 ∷ 17 ∷ []) (λ o. o.1 ≡ out)
-  pub shown : (bs : List ℕ) (ns : List ℤ) → Answered (ShownSays bs ns) says_shown (13 ∷ 14 ∷ []) Nothing
-  pub is_allowed : (bs : List ℕ) (ns : List ℤ) (p : Placement) → Answered (AllowedSays bs ns p) says_request (13 ∷ 14 ∷ 18 ∷ []) Nothing
+      → Answered (λ (o : (Result ℕ Refusal) × List ℕ). ReachedSays bs ns i out o.0 o.1) (λ o. says o.0) (13 ∷ 14 ∷ 17 ∷ []) (λ o. o.1 ≡ out)
+  pub shown : (bs : List ℕ) (ns : List ℤ) → Answered (ShownSays bs ns) says (13 ∷ 14 ∷ []) Nothing
+  pub is_allowed : (bs : List ℕ) (ns : List ℤ) (p : Placement) → Answered (AllowedSays bs ns p) says (13 ∷ 14 ∷ 18 ∷ []) Nothing
   pub why_none_lem :
-      (bs : List ℕ) (ns : List ℤ) → Answered (WhySays bs ns) (λ o. says_count o.count) (13 ∷ 14 ∷ []) (λ o. o.at ≡ replicate copy_limit 0)
+      (bs : List ℕ) (ns : List ℤ) → Answered (WhySays bs ns) (λ o. says o.count) (13 ∷ 14 ∷ []) (λ o. o.at ≡ replicate copy_limit 0)
   pub next_placement_lem :
       (bs : List ℕ) (ns : List ℤ) (l : Listing)
-      → Answered (NextSays bs ns l) (λ o. says_request o.request) (13 ∷ 14 ∷ 17 ∷ 18 ∷ []) (λ o. o.listing ≡ l)
+      → Answered (NextSays bs ns l) (λ o. says o.request) (13 ∷ 14 ∷ 17 ∷ 18 ∷ []) (λ o. o.listing ≡ l)
   pub step :
       (bs : List ℕ) (ns : List ℤ) (l : Listing)
-      → Answered (λ (o : Request × Listing). StepSays bs ns l o.0 o.1) (λ o. says_request o.0) (13 ∷ 14 ∷ 17 ∷ 18 ∷ []) (λ o. o.1 ≡ l)
+      → Answered (λ (o : (Result (Unit {0}) Refusal) × Listing). StepSays bs ns l o.0 o.1) (λ o. says o.0) (13 ∷ 14 ∷ 17 ∷ 18 ∷ []) (λ o. o.1 ≡ l)
   pub ledger :
       (bs : List ℕ) (ns : List ℤ) (p : Placement)
-      → Answered (LedgerSays bs ns p) (λ o. says_booked o.booked) (13 ∷ 14 ∷ 16 ∷ 18 ∷ []) (λ o. o.at ≡ replicate position_limit (pos 0))
+      → Answered (LedgerSays bs ns p) (λ o. says o.booked) (13 ∷ 14 ∷ 16 ∷ 18 ∷ []) (λ o. o.at ≡ replicate position_limit (pos 0))
   pub rows :
       (bs : List ℕ) (ns : List ℤ) (room : List Site)
-      → Answered (λ (o : Count × List Site). RowsSays bs ns room o.0 o.1) (λ o. says_count o.0) (13 ∷ 14 ∷ []) (λ o. o.1 ≡ room)
-  pub first_row_lem : (rs : List Site) (n f : ℕ) → Answered (LookupSays rs n f) says_lookup (13 ∷ 17 ∷ []) Nothing
+      → Answered (λ (o : (Result ℕ Refusal) × List Site). RowsSays bs ns room o.0 o.1) (λ o. says o.0) (13 ∷ 14 ∷ []) (λ o. o.1 ≡ room)
+  pub first_row_lem : (rs : List Site) (n f : ℕ) → Answered (LookupSays rs n f) says (13 ∷ 17 ∷ []) Nothing
   pub pieces :
       (t out : List ℕ)
-      → Answered (λ (o : Write × List ℕ). PiecesSay t out o.0 o.1) (λ o. says_write o.0) (15 ∷ 19 ∷ []) (λ o. o.1 ≡ out)
+      → Answered (λ (o : (Result ℕ Refusal) × List ℕ). PiecesSay t out o.0 o.1) (λ o. says o.0) (15 ∷ 19 ∷ []) (λ o. o.1 ≡ out)
   pub blocks : AnswersBlocks
 
 -- ======== demand 2
@@ -187,42 +182,42 @@ pub record Accepting (Says : Reader) : Type 0 where
   -- enough, a good spelling prints it, it is no longer than the limit, and none of 5 to 12 is due of what the spelling means, nor 19 or 21; any spelling of it means
   -- these tables
   pub accepts :
-      (s bs : List ℕ) (ns : List ℤ) (r : Read) (bs' : List ℕ) (ns' : List ℤ) → Says s bs ns r bs' ns'
-      → (says_read r ≡ good tt) ↔ ((too_short bs ns ≡ false) × ((l : Line ℕ) × Accepts s l))
+      (s bs : List ℕ) (ns : List ℤ) (r : Result (Unit {0}) Refusal) (bs' : List ℕ) (ns' : List ℤ) → Says s bs ns r bs' ns'
+      → (says r ≡ good tt) ↔ ((too_short bs ns ≡ false) × ((l : Line ℕ) × Accepts s l))
   pub tables :
-      (s bs : List ℕ) (ns : List ℤ) (r : Read) (bs' : List ℕ) (ns' : List ℤ) → Says s bs ns r bs' ns' → says_read r ≡ good tt
+      (s bs : List ℕ) (ns : List ℤ) (r : Result (Unit {0}) Refusal) (bs' : List ℕ) (ns' : List ℤ) → Says s bs ns r bs' ns' → says r ≡ good tt
       → (t : Spelling) → well_spelt t ≡ true → s ≡ print t → Holding t bs ns bs' ns'
   -- "and otherwise refused as document 01 says": "Reading tries 13, then 1 to 12 in that order; the lowest number wins, at its first place in the line"; 21 "after 10", 19
   -- "after 12"
   pub refuses_by :
-      (s bs : List ℕ) (ns : List ℤ) (r : Read) (bs' : List ℕ) (ns' : List ℤ) → Says s bs ns r bs' ns' → (k i : ℕ)
-      → (says_read r ≡ refuses k i) ↔ (((too_short bs ns ≡ true) × (k ≡ 13) × (i ≡ 0)) ⊎ ((too_short bs ns ≡ false) × Refuses s k i))
+      (s bs : List ℕ) (ns : List ℤ) (r : Result (Unit {0}) Refusal) (bs' : List ℕ) (ns' : List ℤ) → Says s bs ns r bs' ns' → (k i : ℕ)
+      → (says r ≡ refuses k i) ↔ (((too_short bs ns ≡ true) × (k ≡ 13) × (i ≡ 0)) ⊎ ((too_short bs ns ≡ false) × Refuses s k i))
 
 -- areas that a line s was read into, and an output that was written from them
-pub record Entered (s bs : List ℕ) (ns : List ℤ) (out : List ℕ) (w : Write) (out' : List ℕ) : Type 0 where
+pub record Entered (s bs : List ℕ) (ns : List ℤ) (out : List ℕ) (w : Result ℕ Refusal) (out' : List ℕ) : Type 0 where
   -- the line is written, and is no longer than s; the rest of the output is as it was
   pub long : ℕ
-  pub says : says_write w ≡ good long
+  pub says : says w ≡ good long
   pub no_longer : long ≤ length s
   pub rest : drop long out' ≡ drop long out
   -- reading it is a success, and leaves the areas as they are
-  pub back : (r : Read) (bs' : List ℕ) (ns' : List ℤ) → ReadSays (take long out') bs ns r bs' ns' → (says_read r ≡ good tt) × (bs' ≡ bs) × (ns' ≡ ns)
+  pub back : (r : Result (Unit {0}) Refusal) (bs' : List ℕ) (ns' : List ℤ) → ReadSays (take long out') bs ns r bs' ns' → (says r ≡ good tt) × (bs' ≡ bs) × (ns' ≡ ns)
 
 -- a line that was read into areas, and what was then written from them: m bytes of an output
 pub record Filed (s bs : List ℕ) (ns : List ℤ) (bs' : List ℕ) (ns' : List ℤ) (out' : List ℕ) (m : ℕ) : Type 0 where
-  pub answer : Read
+  pub answer : (Result (Unit {0}) Refusal)
   pub read : ReadSays s bs ns answer bs' ns'
-  pub accepted : says_read answer ≡ good tt
+  pub accepted : says answer ≡ good tt
   pub out : List ℕ
-  pub wrote : Write
+  pub wrote : (Result ℕ Refusal)
   pub written : WriteSays bs' ns' out wrote out'
-  pub length_is : says_write wrote ≡ good m
+  pub length_is : says wrote ≡ good m
 
 pub record Demand2 : Type 0 where
   -- "Tables are written as one canonical line; reading that line gives the same tables back."
   pub reads_back :
-      (s bs : List ℕ) (ns : List ℤ) (r : Read) (bs' : List ℕ) (ns' : List ℤ) → ReadSays s bs ns r bs' ns' → says_read r ≡ good tt
-      → (out : List ℕ) (w : Write) (out' : List ℕ) → WriteSays bs' ns' out w out' → length s ≤ length out → Entered s bs' ns' out w out'
+      (s bs : List ℕ) (ns : List ℤ) (r : Result (Unit {0}) Refusal) (bs' : List ℕ) (ns' : List ℤ) → ReadSays s bs ns r bs' ns' → says r ≡ good tt
+      → (out : List ℕ) (w : Result ℕ Refusal) (out' : List ℕ) → WriteSays bs' ns' out w out' → length s ≤ length out → Entered s bs' ns' out w out'
   -- "Two accepted lines share a canonical line exactly when their tables are equal", whatever areas they were read into
   pub one_entry :
       (s bs : List ℕ) (ns : List ℤ) (bs₁ : List ℕ) (ns₁ : List ℤ) (out₁ : List ℕ) (m : ℕ) → Filed s bs ns bs₁ ns₁ out₁ m
@@ -240,20 +235,20 @@ pub record Demand2 : Type 0 where
 -- A call that moves a listing on, from a record to its answer and the record afterwards. Requests one after another hand out these placements, and then one
 -- answers 17.
 abbrev pub HandsOut : (Listing → Next → Type 0) → Listing → List (List ℕ) → Type 0
-HandsOut Moves l [] = (r : Next) × (Moves l r × (says_request r.request ≡ refuses 17 0))
-HandsOut Moves l (p ∷ ps) = (r : Next) × (Moves l r × ((says_request r.request ≡ good tt) × ((r.listing.at ≡ p) × HandsOut Moves r.listing ps)))
+HandsOut Moves l [] = (r : Next) × (Moves l r × (says r.request ≡ refuses 17 0))
+HandsOut Moves l (p ∷ ps) = (r : Next) × (Moves l r × ((says r.request ≡ good tt) × ((r.listing.at ≡ p) × HandsOut Moves r.listing ps)))
 
 pub record Lists (bs : List ℕ) (ns : List ℤ) (Moves : Listing → Next → Type 0) : Type 0 where
   -- "The listing hands out every allowed placement once, in ascending order"
   pub ends : (ps : List (List ℕ)) × HandsOut Moves fresh_listing ps
   pub every_allowed :
-      (ps : List (List ℕ)) → HandsOut Moves fresh_listing ps → (p : Placement) (r : Request) → AllowedSays bs ns p r
-      → In p.at ps ↔ (says_request r ≡ good tt)
+      (ps : List (List ℕ)) → HandsOut Moves fresh_listing ps → (p : Placement) (r : Result (Unit {0}) Refusal) → AllowedSays bs ns p r
+      → In p.at ps ↔ (says r ≡ good tt)
   pub ascending : (ps : List (List ℕ)) → HandsOut Moves fresh_listing ps → Ascending ps
   -- "and says 'none' exactly when none exists"
   pub none :
       (r : Next) → Moves fresh_listing r
-      → (says_request r.request ≡ refuses 17 0) ↔ ((p : Placement) (q : Request) → AllowedSays bs ns p q → says_request q ≡ good tt → ⊥)
+      → (says r.request ≡ refuses 17 0) ↔ ((p : Placement) (q : Result (Unit {0}) Refusal) → AllowedSays bs ns p q → says q ≡ good tt → ⊥)
 
 -- ---- rows
 -- x is a permitted position of floater f, floaters counted from 1
@@ -269,7 +264,7 @@ abbrev pub Climbing : List Site → Type 0
 Climbing rs = Ordered Below rs
 
 -- the least number that P has; 17 exactly where it has none
-abbrev pub LeastOf : (ℕ → Type 0) → Said Found → Type 0
+abbrev pub LeastOf : (ℕ → Type 0) → Said Row → Type 0
 LeastOf P (good x) = P x.position × ((y : ℕ) → P y → x.position ≤ y)
 LeastOf P (refuses number place) = (number ≡ 17) × ((y : ℕ) → P y → ⊥)
 
@@ -278,11 +273,11 @@ pub record Rowed (bs : List ℕ) (ns : List ℤ) (room room' : List Site) (n : �
   pub permitted : (f x : ℕ) → In (record { floater = f; position = x }) (take n room') ↔ Permitted bs ns f x
   pub climbing : Climbing (take n room')
   pub rest : drop n room' ≡ drop n room
-  pub first : (f : ℕ) (l : Lookup) → LookupSays room' n f l → LeastOf (Permitted bs ns f) (says_lookup l)
+  pub first : (f : ℕ) (l : Result Row Refusal) → LookupSays room' n f l → LeastOf (Permitted bs ns f) (says l)
 
 pub record Demand3 (bs : List ℕ) (ns : List ℤ) : Type 0 where
   -- "an allowed placement gives each floating modification one of its permitted positions, none that a placed modification has, and no position twice"
-  pub allowed : (p : Placement) (r : Request) → AllowedSays bs ns p r → (says_request r ≡ good tt) ↔ Placing (floating_of (tables_in bs ns)) p.at
+  pub allowed : (p : Placement) (r : Result (Unit {0}) Refusal) → AllowedSays bs ns p r → (says r ≡ good tt) ↔ Placing (floating_of (tables_in bs ns)) p.at
   pub free : (f x : ℕ) → Permitted bs ns f x → (k : Bracket (Unit {0})) → In k (tables_in bs ns).brackets → In x (placed_on (tables_in bs ns) k) → ⊥
   -- "positions of one bracket's copies ascend" (02, L4): what `Placing` asks of further copies, by the brackets that they are of
   pub ascend :
@@ -301,7 +296,7 @@ pub record Demand3 (bs : List ℕ) (ns : List ℤ) : Type 0 where
   -- "Give the smallest; among equals the first by floater order": what is named is that set, which at most one is, and none exactly where a placement exists
   pub why :
       (r : Why) → WhySays bs ns r
-      → (l : List ℕ) × Reason (floating_of (tables_in bs ns)) l × (says_count r.count ≡ good (length l)) × (r.at ≡ padded 0 copy_limit l)
+      → (l : List ℕ) × Reason (floating_of (tables_in bs ns)) l × (says r.count ≡ good (length l)) × (r.at ≡ padded 0 copy_limit l)
       × ((l ≡ []) ↔ ((p : List ℕ) × Placing (floating_of (tables_in bs ns)) p))
   pub one_why : (l m : List ℕ) → Reason (floating_of (tables_in bs ns)) l → Reason (floating_of (tables_in bs ns)) m → l ≡ m
   -- by the record handed over and handed back, and by the record moved on in place
@@ -310,23 +305,23 @@ pub record Demand3 (bs : List ℕ) (ns : List ℤ) : Type 0 where
   -- "Where every modification has a stated mass, the masses at all positions under any allowed placement, plus the labile ones, add to the line's total exactly,
   -- in millionths of a dalton."
   pub adds_up :
-      (m : ℤ) (q : Total) → TotalSays bs ns q → says_total q ≡ good m → (p : Placement) (a : Request) → AllowedSays bs ns p a → says_request a ≡ good tt
-      → (r : Ledger) → LedgerSays bs ns p r → (says_booked r.booked ≡ good tt) × (sum r.at +ℤ labile_mass (tables_in bs ns) ≡ m)
+      (m : ℤ) (q : Result ℤ Refusal) → TotalSays bs ns q → says q ≡ good m → (p : Placement) (a : Result (Unit {0}) Refusal) → AllowedSays bs ns p a → says a ≡ good tt
+      → (r : Ledger) → LedgerSays bs ns p r → (says r.booked ≡ good tt) × (sum r.at +ℤ labile_mass (tables_in bs ns) ≡ m)
   -- the display is that total as a double, or how many modifications have no mass
-  pub displays : (m : ℤ) (q : Total) → TotalSays bs ns q → says_total q ≡ good m → (r : Shown) → ShownSays bs ns r → says_shown r ≡ good (a_mass (daltons m))
-  pub lacks : (n : ℕ) (q : Total) → TotalSays bs ns q → (r : Shown) → ShownSays bs ns r → (says_shown r ≡ good (lack n)) ↔ (says_total q ≡ refuses 16 n)
+  pub displays : (m : ℤ) (q : Result ℤ Refusal) → TotalSays bs ns q → says q ≡ good m → (r : Shown) → ShownSays bs ns r → says r ≡ good (Daltons (daltons m))
+  pub lacks : (n : ℕ) (q : Result ℤ Refusal) → TotalSays bs ns q → (r : Shown) → ShownSays bs ns r → (says r ≡ good (Missing n)) ↔ (says q ≡ refuses 16 n)
   -- the permitted positions as rows, wherever there is room for them
   pub rows :
-      (room : List Site) → row_limit ≤ length room → (r : Count) (room' : List Site) → RowsSays bs ns room r room'
-      → (n : ℕ) × ((says_count r ≡ good n) × Rowed bs ns room room' n)
+      (room : List Site) → row_limit ≤ length room → (r : Result ℕ Refusal) (room' : List Site) → RowsSays bs ns room r room'
+      → (n : ℕ) × ((says r ≡ good n) × Rowed bs ns room room' n)
 
 -- "That total is reckoned from the line's entries and counts alone": what is answered of areas that a spelling of t was read into is what t means
 pub record Reckoned (t : Spelling) (bs : List ℕ) (ns : List ℤ) : Type 0 where
-  pub residues : (r : Count) → CountSays residue_count bs ns r → says_count r ≡ good (length (meant t).residues)
-  pub brackets : (r : Count) → CountSays bracket_count bs ns r → says_count r ≡ good (length (meant t).brackets)
-  pub floating : (r : Count) → CountSays floater_count bs ns r → says_count r ≡ good (length (floaters (meant t)))
-  pub mass : (r : Total) → TotalSays bs ns r → lacking (meant t) ≡ 0 → says_total r ≡ good (total (meant t))
-  pub missing : (r : Total) → TotalSays bs ns r → (lacking (meant t) ≡ 0 → ⊥) → says_total r ≡ refuses 16 (lacking (meant t))
+  pub residues : (r : Result ℕ Refusal) → CountSays residue_count bs ns r → says r ≡ good (length (meant t).residues)
+  pub brackets : (r : Result ℕ Refusal) → CountSays bracket_count bs ns r → says r ≡ good (length (meant t).brackets)
+  pub floating : (r : Result ℕ Refusal) → CountSays floater_count bs ns r → says r ≡ good (length (floaters (meant t)))
+  pub mass : (r : Result ℤ Refusal) → TotalSays bs ns r → lacking (meant t) ≡ 0 → says r ≡ good (total (meant t))
+  pub missing : (r : Result ℤ Refusal) → TotalSays bs ns r → (lacking (meant t) ≡ 0 → ⊥) → says r ≡ refuses 16 (lacking (meant t))
 
 -- ======== compositions (02, L1)
 -- n bytes of an output are the pieces of the text t, and the bytes behind them are as they were. No text is cut in two ways (`one_way` of crates/glycan_laws)
@@ -338,8 +333,8 @@ pub record Pieced (t out out' : List ℕ) (n : ℕ) : Type 0 where
 
 pub record Composing : Type 0 where
   -- 19 "no cutting": exactly where listed names and counts spell the text in no way
-  pub no_cutting : (t out : List ℕ) (r : Write) (out' : List ℕ) → PiecesSay t out r out' → (says_write r ≡ refuses 19 0) ↔ ((xs : List Item) → Cuts xs t → ⊥)
-  pub pieces : (t out : List ℕ) (r : Write) (out' : List ℕ) → PiecesSay t out r out' → (n : ℕ) → says_write r ≡ good n → Pieced t out out' n
+  pub no_cutting : (t out : List ℕ) (r : Result ℕ Refusal) (out' : List ℕ) → PiecesSay t out r out' → (says r ≡ refuses 19 0) ↔ ((xs : List Item) → Cuts xs t → ⊥)
+  pub pieces : (t out : List ℕ) (r : Result ℕ Refusal) (out' : List ℕ) → PiecesSay t out r out' → (n : ℕ) → says r ≡ good n → Pieced t out out' n
 
 -- ======== declarations (02, L2)
 -- n entries of a slice are the positions that bracket k of the tables t reaches: exactly the "matching" ones, at which one of its places names what stands there,
@@ -351,7 +346,7 @@ pub record Reaches (t : Tables) (k : Bracket (Unit {0})) (out out' : List ℕ) (
 
 pub record Declaring : Type 0 where
   pub reaches :
-      (bs : List ℕ) (ns : List ℤ) (i : ℕ) (out : List ℕ) (r : Count) (out' : List ℕ) → ReachedSays bs ns i out r out' → (n : ℕ) → says_count r ≡ good n
+      (bs : List ℕ) (ns : List ℤ) (i : ℕ) (out : List ℕ) (r : Result ℕ Refusal) (out' : List ℕ) → ReachedSays bs ns i out r out' → (n : ℕ) → says r ≡ good n
       → (k : Bracket (Unit {0})) × ((element_at (tables_in bs ns).brackets i ≡ some k) × Reaches (tables_in bs ns) k out out' n)
 
 -- ======== measured masses (02, L6)
@@ -365,23 +360,23 @@ pub record Counting (t : Tables) (i : ℕ) : Type 0 where
 pub record Measuring (bs : List ℕ) (ns : List ℤ) : Type 0 where
   -- "Only stated ones enter total ..; the others count as lacking": a total is answered exactly where each modification that counts is answered a stated mass
   pub stated_only :
-      (q : Total) → TotalSays bs ns q
-      → ((m : ℤ) × (says_total q ≡ good m))
-      ↔ ((i : ℕ) → Counting (tables_in bs ns) i → (r : BracketMass) → BracketMassSays bs ns i r → (m : ℤ) × (says_mass r ≡ good (Stated m)))
+      (q : Result ℤ Refusal) → TotalSays bs ns q
+      → ((m : ℤ) × (says q ≡ good m))
+      ↔ ((i : ℕ) → Counting (tables_in bs ns) i → (r : Result Mass Refusal) → BracketMassSays bs ns i r → (m : ℤ) × (says r ≡ good (Stated m)))
   -- "Measured masses stay out of sums": of tables with any other masses behind `Obs` the same is answered, for display too
   pub stay_out :
       (f : Number (Unit {0}) → Number (Unit {0})) (cs : List ℕ) (ms : List ℤ) → too_short cs ms ≡ false → are_tables cs ms ≡ true
       → tables_in cs ms ≡ remeasured f (tables_in bs ns)
-      → ((q r : Total) → TotalSays bs ns q → TotalSays cs ms r → says_total r ≡ says_total q)
-      × ((q r : Shown) → ShownSays bs ns q → ShownSays cs ms r → says_shown r ≡ says_shown q)
+      → ((q r : Result ℤ Refusal) → TotalSays bs ns q → TotalSays cs ms r → says r ≡ says q)
+      × ((q r : Shown) → ShownSays bs ns q → ShownSays cs ms r → says r ≡ says q)
 
 -- ======== the wrong readers that document 01 names
 -- "a reader that refuses all, or gives one table for all"
 abbrev pub RefusesAll : Reader
-RefusesAll s bs ns r bs' ns' = (says_read r ≡ refuses 4 0) × (bs' ≡ bs) × (ns' ≡ ns)
+RefusesAll s bs ns r bs' ns' = (says r ≡ refuses 4 0) × (bs' ≡ bs) × (ns' ≡ ns)
 
 abbrev pub OneTable : Line ℕ → Reader
-OneTable l s bs ns r bs' ns' = (says_read r ≡ good tt) × (bs' ≡ laid (bytes_of l) bs) × (ns' ≡ laid (numbers_of l) ns)
+OneTable l s bs ns r bs' ns' = (says r ≡ good tt) × (bs' ≡ laid (bytes_of l) bs) × (ns' ≡ laid (numbers_of l) ns)
 
 -- ======== all
 pub record Promises : Type 1 where
@@ -391,18 +386,18 @@ pub record Promises : Type 1 where
   pub not_one_table : (l : Line ℕ) → Accepting (OneTable l) → ⊥
   -- no other reader meets both
   pub only_reader :
-      (Says : Reader) → AnswersLines Says → Accepting Says → (s bs : List ℕ) (ns : List ℤ) (r : Read) (bs' : List ℕ) (ns' : List ℤ)
+      (Says : Reader) → AnswersLines Says → Accepting Says → (s bs : List ℕ) (ns : List ℤ) (r : Result (Unit {0}) Refusal) (bs' : List ℕ) (ns' : List ℤ)
       → Says s bs ns r bs' ns' → ReadSays s bs ns r bs' ns'
   pub demand_2 : Demand2
   pub demand_3 :
-      (s bs : List ℕ) (ns : List ℤ) (r : Read) (bs' : List ℕ) (ns' : List ℤ) → ReadSays s bs ns r bs' ns' → says_read r ≡ good tt → Demand3 bs' ns'
+      (s bs : List ℕ) (ns : List ℤ) (r : Result (Unit {0}) Refusal) (bs' : List ℕ) (ns' : List ℤ) → ReadSays s bs ns r bs' ns' → says r ≡ good tt → Demand3 bs' ns'
   pub reckoned :
-      (s bs : List ℕ) (ns : List ℤ) (r : Read) (bs' : List ℕ) (ns' : List ℤ) → ReadSays s bs ns r bs' ns' → says_read r ≡ good tt
+      (s bs : List ℕ) (ns : List ℤ) (r : Result (Unit {0}) Refusal) (bs' : List ℕ) (ns' : List ℤ) → ReadSays s bs ns r bs' ns' → says r ≡ good tt
       → (t : Spelling) → well_spelt t ≡ true → s ≡ print t → Reckoned t bs' ns'
   pub composing : Composing
   pub declaring : Declaring
   pub measuring :
-      (s bs : List ℕ) (ns : List ℤ) (r : Read) (bs' : List ℕ) (ns' : List ℤ) → ReadSays s bs ns r bs' ns' → says_read r ≡ good tt → Measuring bs' ns'
+      (s bs : List ℕ) (ns : List ℤ) (r : Result (Unit {0}) Refusal) (bs' : List ℕ) (ns' : List ℤ) → ReadSays s bs ns r bs' ns' → says r ≡ good tt → Measuring bs' ns'
   pub keeping : Keeping
 
 -- ======== the same over what a caller in C sees: the contracts of crate export. A number is 0 for a success, and else a refusal's.

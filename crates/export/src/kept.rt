@@ -1,9 +1,5 @@
 // The register kept in blocks, for C, Rust and Python: an area of blocks is lent, and any content of its is answered.
-ghost use Rattle.std.specs.Prelude.{◌≡◌, ◌≤◌, length};
-ghost use Rattle.scope.specs.Limits.{copy_limit};
-ghost use Rattle.scope.specs.Lists.{laid};
 ghost use Rattle.blocks.specs.Answers.{listed_from, survey_said};
-ghost use Rattle.export.specs.Numbers.{number_of, Numbered};
 ghost use Rattle.export.specs.Blocks.{EmptyHanded, AddHanded, FetchHanded, RemoveHanded, HeadHanded, Surveyed};
 ghost use Rattle.scope.specs.Answers.{says};
 

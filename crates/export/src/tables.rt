@@ -1,5 +1,5 @@
 // The calls over tables in lent areas: the two areas are only read, and any content of theirs is answered.
-ghost use Rattle.std.specs.Prelude.{◌≡◌, ◌++◌, ◌≤◌, length, take, drop};
+ghost use Rattle.std.specs.Prelude.{◌≡◌, ◌≤◌, length, take};
 ghost use Rattle.scope.specs.Limits.{copy_limit};
 ghost use Rattle.scope.specs.Answers.{counts, residue_count, bracket_count, floater_count, totals, shows, says};
 ghost use Rattle.calls.specs.Single.{weighs_at};

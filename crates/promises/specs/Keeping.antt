@@ -1,6 +1,6 @@
 -- The register kept in blocks (02, L5): what is promised of its calls, each sentence above its theorem, over what they ensure: `EmptySays`, `AddSays`, `FetchSays`,
 -- `RemoveSays`, `EntrySays` (crate keeping). The proofs: proofs/Keeps.antt.
-use Rattle.std.specs.Prelude.{◌≡◌, true, false, List, [], ◌∷◌, ◌++◌, ℕ, ◌-◌, ◌/◌, ◌^◌, ◌≤◌, ◌<◌, length, take, get_or, set, Result, Ok}
+use Rattle.std.specs.Prelude.{◌≡◌, true, false, List, [], ◌∷◌, ◌++◌, ℕ, ◌-◌, ◌/◌, ◌^◌, ◌≤◌, ◌<◌, length, take, get_or, set, Result}
 use Rattle.scope.specs.declared.answers.Placement.{Placement}
 use Rattle.scope.specs.Bytes.{byte_limit}
 use Rattle.scope.specs.Limits.{block_size}
@@ -8,7 +8,7 @@ use Rattle.scope.specs.Line.{Line}
 use Rattle.scope.specs.Lists.{member, laid}
 use Rattle.scope.specs.Refusals.{accepted, outcome}
 use Rattle.scope.specs.Canonical.{canonical}
-use Rattle.scope.specs.Answers.{Said, good, refuses, says}
+use Rattle.scope.specs.Answers.{Said, good, refuses, of_good, says}
 use Rattle.blocks.specs.declared.Fetched.{Fetched}
 use Rattle.blocks.specs.declared.Listed.{Listed}
 use Rattle.blocks.specs.Area.{blocks_in, frees}
@@ -21,18 +21,17 @@ use Rattle.scope.specs.declared.refusals.Refusal.{Refusal}
 
 -- ---- calls one after another
 -- what was fetched: the placement, and the line at the front of the output
-abbrev pub entry_fetched : Fetch → List ℕ → List ℕ → Said Entry
-entry_fetched (Ok m) at out = good (record { placement = at; line = take m out })
-entry_fetched (fetch_refused number place) at out = refuses number place
+abbrev pub entry_fetched : Result Fetched Refusal → List ℕ → Said Entry
+entry_fetched r out = of_good (λ f. record { placement = f.at; line = take f.size out }) (says r)
 
 -- a fetch was answered so, into some output with so much room
 pub record FetchMade (a : List ℕ) (n room : ℕ) (x : Answer) : Type 0 where
   pub out : List ℕ
   pub long : length out ≡ room
-  pub answer : Fetched
+  pub answer : Result Fetched Refusal
   pub out' : List ℕ
   pub ensured : FetchSays a n out answer out'
-  pub is : x ≡ handed (entry_fetched answer.fetch answer.at out')
+  pub is : x ≡ handed (entry_fetched answer out')
 
 -- a call was answered as it ensures: the answer, and the area afterwards
 abbrev pub CallSays : List ℕ → Call → Answer → List ℕ → Type 0
@@ -50,7 +49,7 @@ CallsSay a (c ∷ cs) (x ∷ xs) a' = (b : List ℕ) × (CallSays a c x b × Cal
 pub record Undamaged (k : ℕ) (cs : List Call) (xs : List Answer) (a : List ℕ) : Type 0 where
   pub before : List ℕ
   pub many : blocks_in before ≡ k
-  pub answer : (Result (Unit {0}) Refusal)
+  pub answer : Result (Unit {0}) Refusal
   pub made : List ℕ
   pub empties : EmptySays before answer made
   pub success : says answer ≡ good tt
@@ -63,8 +62,8 @@ pub record Keeping : Type 0 where
   -- what is fetched is what was added: the placement, and the canonical line; whatever area it was added to
   pub fetch_added :
       (a : List ℕ) (n : ℕ) → n < 2 ^ 32 → (p : Placement) (s : List ℕ) (r : Result (Unit {0}) Refusal) (a' : List ℕ) → AddSays a n p s r a' → says r ≡ good tt
-      → (l : Line ℕ) → outcome s ≡ accepted l → (out : List ℕ) → length (canonical l) ≤ length out → (f : Fetched) (out' : List ℕ) → FetchSays a' n out f out'
-      → (says f.fetch ≡ good (length (canonical l))) × (f.at ≡ p.at) × (out' ≡ laid (canonical l) out)
+      → (l : Line ℕ) → outcome s ≡ accepted l → (out : List ℕ) → length (canonical l) ≤ length out → (r' : Result Fetched Refusal) (out' : List ℕ) → FetchSays a' n out r' out'
+      → (says r' ≡ good (record { size = length (canonical l); at = p.at })) × (out' ≡ laid (canonical l) out)
   -- "Blocks are taken lowest free first": what was added lies in the lowest free blocks, in their order
   pub lowest_first :
       (a : List ℕ) (n : ℕ) → n < 2 ^ 32 → (p : Placement) (s : List ℕ) (r : Result (Unit {0}) Refusal) (a' : List ℕ) → AddSays a n p s r a' → says r ≡ good tt
@@ -79,18 +78,18 @@ pub record Keeping : Type 0 where
   pub untouched :
       (k : ℕ) (cs : List Call) (xs : List Answer) (a : List ℕ) → Undamaged k cs xs a → (i c : ℕ) → i < length a → c < byte_limit → (c ≡ get_or a i 0 → ⊥)
       → (n : ℕ) (bs : List ℕ) (e : Entry) → look a n ≡ present bs e → member (i / block_size) bs ≡ false
-      → (out : List ℕ) (f : Fetched) (out' : List ℕ) → FetchSays (set a i c) n out f out' → FetchSays a n out f out'
+      → (out : List ℕ) (f : Result Fetched Refusal) (out' : List ℕ) → FetchSays (set a i c) n out f out' → FetchSays a n out f out'
   pub touched :
       (k : ℕ) (cs : List Call) (xs : List Answer) (a : List ℕ) → Undamaged k cs xs a → (i c : ℕ) → i < length a → c < byte_limit → (c ≡ get_or a i 0 → ⊥)
       → (n : ℕ) (bs : List ℕ) (e : Entry) → look a n ≡ present bs e → member (i / block_size) bs ≡ true
-      → (out : List ℕ) (f : Fetched) (out' : List ℕ) → FetchSays (set a i c) n out f out' → says f.fetch ≡ refuses 25 0
+      → (out : List ℕ) (f : Result Fetched Refusal) (out' : List ℕ) → FetchSays (set a i c) n out f out' → says f ≡ refuses 25 0
   -- and numbers that were not there are refused so, too
   pub absent_then :
       (k : ℕ) (cs : List Call) (xs : List Answer) (a : List ℕ) → Undamaged k cs xs a → (i c : ℕ) → i < length a → c < byte_limit → (c ≡ get_or a i 0 → ⊥)
-      → (n : ℕ) → look a n ≡ absent → (out : List ℕ) (f : Fetched) (out' : List ℕ) → FetchSays (set a i c) n out f out' → says f.fetch ≡ refuses 25 0
+      → (n : ℕ) → look a n ≡ absent → (out : List ℕ) (f : Result Fetched Refusal) (out' : List ℕ) → FetchSays (set a i c) n out f out' → says f ≡ refuses 25 0
   -- "Copies must show which entries survived": every entry that is fetched is listed, asked for from its first block on; and the listing passes none over
   pub listed :
-      (a : List ℕ) (n : ℕ) (out : List ℕ) (f : Fetched) (out' : List ℕ) → FetchSays a n out f out' → (m : ℕ) → says f.fetch ≡ good m
-      → (b : ℕ) × ((is_head a b ≡ true) × ((r : Listed) → EntrySays a b r → says r ≡ good (record { block = b; number = n })))
-  pub none_passed : (a : List ℕ) (from : ℕ) (r : Listed) → EntrySays a from r → (h : Listed) → says r ≡ good h → FirstOf (is_head a) from (blocks_in a - from) h.block
-  pub none_left : (a : List ℕ) (from : ℕ) (r : Listed) → EntrySays a from r → says r ≡ refuses 17 0 → NoneOf (is_head a) from (blocks_in a - from)
+      (a : List ℕ) (n : ℕ) (out : List ℕ) (f : Result Fetched Refusal) (out' : List ℕ) → FetchSays a n out f out' → (e : Fetched) → says f ≡ good e
+      → (b : ℕ) × ((is_head a b ≡ true) × ((r : Result Listed Refusal) → EntrySays a b r → says r ≡ good (record { block = b; number = n })))
+  pub none_passed : (a : List ℕ) (from : ℕ) (r : Result Listed Refusal) → EntrySays a from r → (h : Listed) → says r ≡ good h → FirstOf (is_head a) from (blocks_in a - from) h.block
+  pub none_left : (a : List ℕ) (from : ℕ) (r : Result Listed Refusal) → EntrySays a from r → says r ≡ refuses 17 0 → NoneOf (is_head a) from (blocks_in a - from)

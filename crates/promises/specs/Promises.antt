@@ -1,10 +1,11 @@
 -- The demands of the tender, each sentence above its theorem, over what the calls ensure: `ReadSays` (crate reader), `WriteSays`, `CountSays`, `TotalSays`,
 -- `ShownSays`, `AllowedSays`, `NextSays`, `LedgerSays` (calls), `LookupSays` (rows), `RowsSays` and `StepSays` (listing), `PiecesSay` (glycans), `ReachedSays` (calls), `EmptySays`,
 -- `AddSays`, `FetchSays`, `RemoveSays`, `EntrySays` and `SurveySays` (keeping). That each call asks nothing, and ensures
--- exactly its relation, is shown in proofs/Linked.antt. An answer is spoken of by what it says (`says` and its kin). The proofs: proofs/Kept.antt, for a caller in C
+-- exactly its relation, is shown in proofs/Linked.antt. An answer is spoken of by what it says (`says`). The proofs: proofs/Kept.antt, for a caller in C
 -- proofs/KeptC.antt, and the files that they cite.
-use Rattle.std.specs.Prelude.{◌≡◌, ◌↔◌, ◌⊎◌, true, false, List, [], ◌∷◌, ◌++◌, ℕ, zero, suc, ◌≤◌, ◌<◌, ℤ, pos, ◌+ℤ◌, Float, length, take, drop, get_or, replicate, Result}
+use Rattle.std.specs.Prelude.{◌≡◌, ◌↔◌, ◌⊎◌, true, false, List, [], ◌∷◌, ◌++◌, ℕ, zero, suc, ◌≤◌, ◌<◌, ℤ, pos, ◌+ℤ◌, Float, length, take, drop, get_or, Result, Ok, Err}
 use Rattle.std.proofs.Math.Option.{some}
+use Rattle.scope.specs.declared.answers.Mass.{Mass}
 use Rattle.scope.specs.declared.answers.Mass.TheVariants.{Stated}
 use Rattle.scope.specs.declared.answers.Shown.{Shown}
 use Rattle.scope.specs.declared.answers.Placement.{Placement}
@@ -39,7 +40,6 @@ use Rattle.keeping.specs.Says.{EmptySays, AddSays, FetchSays, RemoveSays, EntryS
 use Rattle.verdict.specs.Says.{VerdictSays}
 use Rattle.reader.specs.ReadSays.{ReadSays}
 use Rattle.glycans.specs.Pieces.{piece_bytes, PiecesSay}
-use Rattle.placements.specs.declared.Next.{Next}
 use Rattle.calls.specs.Writing.{WriteSays}
 use Rattle.calls.specs.Single.{element_at, weighs_at}
 use Rattle.calls.specs.Competing.{WhySays}
@@ -114,11 +114,9 @@ pub record AnswersBlocks : Type 0 where
   pub add :
       (a : List ℕ) (n : ℕ) (p : Placement) (s : List ℕ)
       → Answered (λ (o : (Result (Unit {0}) Refusal) × List ℕ). AddSays a n p s o.0 o.1) (λ o. says o.0) add_numbers (λ o. o.1 ≡ a)
-  -- on a refusal the placement beside the answer is zeros
   pub fetch :
       (a : List ℕ) (n : ℕ) (out : List ℕ)
-      → Answered (λ (o : Fetched × List ℕ). FetchSays a n out o.0 o.1) (λ o. says o.0.fetch) (15 ∷ 22 ∷ 25 ∷ 26 ∷ [])
-      (λ o. ◌≡◌ {A = List ℕ × List ℕ} (o.0.at, o.1) (replicate copy_limit 0, out))
+      → Answered (λ (o : (Result Fetched Refusal) × List ℕ). FetchSays a n out o.0 o.1) (λ o. says o.0) (15 ∷ 22 ∷ 25 ∷ 26 ∷ []) (λ o. o.1 ≡ out)
   pub remove :
       (a : List ℕ) (n : ℕ)
       → Answered (λ (o : (Result (Unit {0}) Refusal) × List ℕ). RemoveSays a n o.0 o.1) (λ o. says o.0) (22 ∷ 25 ∷ 26 ∷ []) (λ o. o.1 ≡ a)
@@ -145,17 +143,14 @@ pub record Demand1 : Type 0 where
       → Answered (λ (o : (Result ℕ Refusal) × List ℕ). ReachedSays bs ns i out o.0 o.1) (λ o. says o.0) (13 ∷ 14 ∷ 17 ∷ []) (λ o. o.1 ≡ out)
   pub shown : (bs : List ℕ) (ns : List ℤ) → Answered (ShownSays bs ns) says (13 ∷ 14 ∷ []) Nothing
   pub is_allowed : (bs : List ℕ) (ns : List ℤ) (p : Placement) → Answered (AllowedSays bs ns p) says (13 ∷ 14 ∷ 18 ∷ []) Nothing
-  pub why_none_lem :
-      (bs : List ℕ) (ns : List ℤ) → Answered (WhySays bs ns) (λ o. says o.count) (13 ∷ 14 ∷ []) (λ o. o.at ≡ replicate copy_limit 0)
-  pub next_placement_lem :
-      (bs : List ℕ) (ns : List ℤ) (l : Listing)
-      → Answered (NextSays bs ns l) (λ o. says o.request) (13 ∷ 14 ∷ 17 ∷ 18 ∷ []) (λ o. o.listing ≡ l)
+  pub why_none_lem : (bs : List ℕ) (ns : List ℤ) → Answered (WhySays bs ns) says (13 ∷ 14 ∷ []) Nothing
+  -- on a refusal the record is as it was: none is handed back
+  pub next_placement_lem : (bs : List ℕ) (ns : List ℤ) (l : Listing) → Answered (NextSays bs ns l) says (13 ∷ 14 ∷ 17 ∷ 18 ∷ []) Nothing
   pub step :
       (bs : List ℕ) (ns : List ℤ) (l : Listing)
       → Answered (λ (o : (Result (Unit {0}) Refusal) × Listing). StepSays bs ns l o.0 o.1) (λ o. says o.0) (13 ∷ 14 ∷ 17 ∷ 18 ∷ []) (λ o. o.1 ≡ l)
-  pub ledger :
-      (bs : List ℕ) (ns : List ℤ) (p : Placement)
-      → Answered (LedgerSays bs ns p) (λ o. says o.booked) (13 ∷ 14 ∷ 16 ∷ 18 ∷ []) (λ o. o.at ≡ replicate position_limit (pos 0))
+  -- on a refusal there are no entries
+  pub ledger : (bs : List ℕ) (ns : List ℤ) (p : Placement) → Answered (LedgerSays bs ns p) says (13 ∷ 14 ∷ 16 ∷ 18 ∷ []) Nothing
   pub rows :
       (bs : List ℕ) (ns : List ℤ) (room : List Site)
       → Answered (λ (o : (Result ℕ Refusal) × List Site). RowsSays bs ns room o.0 o.1) (λ o. says o.0) (13 ∷ 14 ∷ []) (λ o. o.1 ≡ room)
@@ -205,11 +200,11 @@ pub record Entered (s bs : List ℕ) (ns : List ℤ) (out : List ℕ) (w : Resul
 
 -- a line that was read into areas, and what was then written from them: m bytes of an output
 pub record Filed (s bs : List ℕ) (ns : List ℤ) (bs' : List ℕ) (ns' : List ℤ) (out' : List ℕ) (m : ℕ) : Type 0 where
-  pub answer : (Result (Unit {0}) Refusal)
+  pub answer : Result (Unit {0}) Refusal
   pub read : ReadSays s bs ns answer bs' ns'
   pub accepted : says answer ≡ good tt
   pub out : List ℕ
-  pub wrote : (Result ℕ Refusal)
+  pub wrote : Result ℕ Refusal
   pub written : WriteSays bs' ns' out wrote out'
   pub length_is : says wrote ≡ good m
 
@@ -234,11 +229,16 @@ pub record Demand2 : Type 0 where
 -- ---- the listing
 -- A call that moves a listing on, from a record to its answer and the record afterwards. Requests one after another hand out these placements, and then one
 -- answers 17.
-abbrev pub HandsOut : (Listing → Next → Type 0) → Listing → List (List ℕ) → Type 0
-HandsOut Moves l [] = (r : Next) × (Moves l r × (says r.request ≡ refuses 17 0))
-HandsOut Moves l (p ∷ ps) = (r : Next) × (Moves l r × ((says r.request ≡ good tt) × ((r.listing.at ≡ p) × HandsOut Moves r.listing ps)))
+abbrev pub HandsOut : (Listing → Result Listing Refusal → Type 0) → Listing → List (List ℕ) → Type 0
+HandsOut Moves l [] = (r : Result Listing Refusal) × (Moves l r × (says r ≡ refuses 17 0))
+HandsOut Moves l (p ∷ ps) = (k : Listing) × (Moves l (Ok k) × ((k.at ≡ p) × HandsOut Moves k ps))
 
-pub record Lists (bs : List ℕ) (ns : List ℤ) (Moves : Listing → Next → Type 0) : Type 0 where
+-- a request to a record in place, as one that hands the record back: a refusal leaves it as it was
+abbrev pub InPlace : (Listing → Result (Unit {0}) Refusal → Listing → Type 0) → Listing → Result Listing Refusal → Type 0
+InPlace Steps l (Ok k) = Steps l (Ok tt) k
+InPlace Steps l (Err e) = Steps l (Err e) l
+
+pub record Lists (bs : List ℕ) (ns : List ℤ) (Moves : Listing → Result Listing Refusal → Type 0) : Type 0 where
   -- "The listing hands out every allowed placement once, in ascending order"
   pub ends : (ps : List (List ℕ)) × HandsOut Moves fresh_listing ps
   pub every_allowed :
@@ -247,8 +247,8 @@ pub record Lists (bs : List ℕ) (ns : List ℤ) (Moves : Listing → Next → T
   pub ascending : (ps : List (List ℕ)) → HandsOut Moves fresh_listing ps → Ascending ps
   -- "and says 'none' exactly when none exists"
   pub none :
-      (r : Next) → Moves fresh_listing r
-      → (says r.request ≡ refuses 17 0) ↔ ((p : Placement) (q : Result (Unit {0}) Refusal) → AllowedSays bs ns p q → says q ≡ good tt → ⊥)
+      (r : Result Listing Refusal) → Moves fresh_listing r
+      → (says r ≡ refuses 17 0) ↔ ((p : Placement) (q : Result (Unit {0}) Refusal) → AllowedSays bs ns p q → says q ≡ good tt → ⊥)
 
 -- ---- rows
 -- x is a permitted position of floater f, floaters counted from 1
@@ -295,21 +295,22 @@ pub record Demand3 (bs : List ℕ) (ns : List ℤ) : Type 0 where
   pub too_few_lem : ((l : List ℕ) × (too_few (floating_of (tables_in bs ns)) l ≡ true)) ↔ ((p : List ℕ) → Placing (floating_of (tables_in bs ns)) p → ⊥)
   -- "Give the smallest; among equals the first by floater order": what is named is that set, which at most one is, and none exactly where a placement exists
   pub why :
-      (r : Why) → WhySays bs ns r
-      → (l : List ℕ) × Reason (floating_of (tables_in bs ns)) l × (says r.count ≡ good (length l)) × (r.at ≡ padded 0 copy_limit l)
+      (r : Result Why Refusal) → WhySays bs ns r
+      → (l : List ℕ) × Reason (floating_of (tables_in bs ns)) l × (says r ≡ good (record { count = length l; at = padded 0 copy_limit l }))
       × ((l ≡ []) ↔ ((p : List ℕ) × Placing (floating_of (tables_in bs ns)) p))
   pub one_why : (l m : List ℕ) → Reason (floating_of (tables_in bs ns)) l → Reason (floating_of (tables_in bs ns)) m → l ≡ m
   -- by the record handed over and handed back, and by the record moved on in place
   pub by_value : Lists bs ns (NextSays bs ns)
-  pub in_place : Lists bs ns (λ l r. StepSays bs ns l r.request r.listing)
+  pub in_place : Lists bs ns (InPlace (StepSays bs ns))
   -- "Where every modification has a stated mass, the masses at all positions under any allowed placement, plus the labile ones, add to the line's total exactly,
   -- in millionths of a dalton."
   pub adds_up :
       (m : ℤ) (q : Result ℤ Refusal) → TotalSays bs ns q → says q ≡ good m → (p : Placement) (a : Result (Unit {0}) Refusal) → AllowedSays bs ns p a → says a ≡ good tt
-      → (r : Ledger) → LedgerSays bs ns p r → (says r.booked ≡ good tt) × (sum r.at +ℤ labile_mass (tables_in bs ns) ≡ m)
+      → (r : Result Ledger Refusal) → LedgerSays bs ns p r
+      → (es : Ledger) × ((says r ≡ good es) × (sum es.at +ℤ labile_mass (tables_in bs ns) ≡ m))
   -- the display is that total as a double, or how many modifications have no mass
-  pub displays : (m : ℤ) (q : Result ℤ Refusal) → TotalSays bs ns q → says q ≡ good m → (r : Shown) → ShownSays bs ns r → says r ≡ good (Daltons (daltons m))
-  pub lacks : (n : ℕ) (q : Result ℤ Refusal) → TotalSays bs ns q → (r : Shown) → ShownSays bs ns r → (says r ≡ good (Missing n)) ↔ (says q ≡ refuses 16 n)
+  pub displays : (m : ℤ) (q : Result ℤ Refusal) → TotalSays bs ns q → says q ≡ good m → (r : Result Shown Refusal) → ShownSays bs ns r → says r ≡ good (Daltons (daltons m))
+  pub lacks : (n : ℕ) (q : Result ℤ Refusal) → TotalSays bs ns q → (r : Result Shown Refusal) → ShownSays bs ns r → (says r ≡ good (Missing n)) ↔ (says q ≡ refuses 16 n)
   -- the permitted positions as rows, wherever there is room for them
   pub rows :
       (room : List Site) → row_limit ≤ length room → (r : Result ℕ Refusal) (room' : List Site) → RowsSays bs ns room r room'
@@ -368,7 +369,7 @@ pub record Measuring (bs : List ℕ) (ns : List ℤ) : Type 0 where
       (f : Number (Unit {0}) → Number (Unit {0})) (cs : List ℕ) (ms : List ℤ) → too_short cs ms ≡ false → are_tables cs ms ≡ true
       → tables_in cs ms ≡ remeasured f (tables_in bs ns)
       → ((q r : Result ℤ Refusal) → TotalSays bs ns q → TotalSays cs ms r → says r ≡ says q)
-      × ((q r : Shown) → ShownSays bs ns q → ShownSays cs ms r → says r ≡ says q)
+      × ((q r : Result Shown Refusal) → ShownSays bs ns q → ShownSays cs ms r → says r ≡ says q)
 
 -- ======== the wrong readers that document 01 names
 -- "a reader that refuses all, or gives one table for all"

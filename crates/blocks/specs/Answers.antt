@@ -4,6 +4,7 @@ use Rattle.scope.specs.Lists.{given, keep, first_in, part, tabled, laid}
 use Rattle.scope.specs.Limits.{copy_limit}
 use Rattle.scope.specs.Refusals.{outcome}
 use Rattle.scope.specs.Answers.{Said, good, refuses, met}
+use Rattle.blocks.specs.declared.Fetched.{Fetched}
 use Rattle.blocks.specs.declared.Listed.{Listed}
 use Rattle.blocks.specs.declared.Survey.{Survey}
 use Rattle.blocks.specs.Block.{content_room, free_kind, further_kind, is_first, new_kind, no_next, block_kind, entry_number, free_block, entry_block}
@@ -35,14 +36,13 @@ fetched (present bs e) room = cond (ltb room (length e.line)) (refuses 15 (lengt
 unfoldable pub fetch_said : List ℕ → ℕ → ℕ → Said Entry
 fetch_said a number room = over_blocks a (fetched (look a number) room)
 
--- the length of the line that was fetched, the placement beside it, and the output
+-- the length of the line that was fetched; with the placement beside it; and the output
 abbrev pub fetched_length : Said Entry → Said ℕ
 fetched_length (good e) = good (length e.line)
 fetched_length (refuses number place) = refuses number place
 
-abbrev pub fetched_placement : Said Entry → List ℕ
-fetched_placement (good e) = e.placement
-fetched_placement (refuses number place) = replicate copy_limit 0
+abbrev pub fetched_as : Entry → Fetched
+fetched_as e = record { size = length e.line; at = e.placement }
 
 abbrev pub out_after : Said Entry → List ℕ → List ℕ
 out_after (good e) out = laid e.line out

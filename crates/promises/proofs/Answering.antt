@@ -33,7 +33,7 @@ use Rattle.placement_laws.specs.Reasons.{one_reason}
 use Rattle.placement_laws.specs.Answered.{some_reason}
 use Rattle.promises.specs.Promises.{Answered, Nothing}
 use Rattle.basics.specs.Said.{not_both, same_number_lem}
-use Rattle.promises.proofs.Said.{met_refused, write_same, count_same, total_same, mass_same, lookup_same, request_same, booked_same, shown_same}
+use Rattle.promises.proofs.Said.{met_refused, says_same}
 use Rattle.scope.specs.declared.answers.Row.{Row}
 use Rattle.scope.specs.declared.refusals.Refusal.{Refusal}
 
@@ -114,47 +114,47 @@ module _ (bs : List ℕ) (ns : List ℤ) where
   writes_so out =
       let c = canonical (tables_in bs ns) in
       over (Sayable says (13 ∷ 14 ∷ 15 ∷ [])) bs ns (λ t. fitting (canonical t) (length out))
-      (refusal (write_refused 13 0) refl (inl refl)) (refusal (write_refused 14 0) refl (inr (inl refl)))
-      (either (Sayable says (13 ∷ 14 ∷ 15 ∷ [])) (ltb (length out) (length c)) (refusal (write_refused 15 (length c)) refl (inr (inr (inl refl)))) (success (Ok (length c)) refl))
+      (refusal (Err (refusal_of 13 0)) refl (inl refl)) (refusal (Err (refusal_of 14 0)) refl (inr (inl refl)))
+      (either (Sayable says (13 ∷ 14 ∷ 15 ∷ [])) (ltb (length out) (length c)) (refusal (Err (refusal_of 15 (length c))) refl (inr (inr (inl refl)))) (success (Ok (length c)) refl))
 
   pub write : (out : List ℕ)
       → Answered (λ (o : (Result ℕ Refusal) × List ℕ). WriteSays bs ns out o.0 o.1) (λ o. says o.0) (13 ∷ 14 ∷ 15 ∷ []) (λ o. o.1 ≡ out)
   write out =
       let c = canonical (tables_in bs ns) in
       lent (pair (Result ℕ Refusal) (List ℕ)) {says = says} (λ o. WriteSays bs ns out o.0 o.1) (output_after (writes bs ns out) c out) out
-      (λ o. ((λ w. (w.says, w.output_after_is)), (λ w. record { says = w.0; output_after_is = w.1 }))) write_same (writes_so out)
+      (λ o. ((λ w. (w.says, w.output_after_is)), (λ w. record { says = w.0; output_after_is = w.1 }))) says_same (writes_so out)
       (λ n p q. ap (λ s. output_after s c out) q)
 
   pub counts_so : (f : Tables → ℕ) → Sayable says (13 ∷ 14 ∷ []) (counts bs ns f)
   counts_so f =
-      over (Sayable says (13 ∷ 14 ∷ [])) bs ns (λ t. good (f t)) (refusal (count_refused 13 0) refl (inl refl)) (refusal (count_refused 14 0) refl (inr (inl refl)))
+      over (Sayable says (13 ∷ 14 ∷ [])) bs ns (λ t. good (f t)) (refusal (Err (refusal_of 13 0)) refl (inl refl)) (refusal (Err (refusal_of 14 0)) refl (inr (inl refl)))
       (success (Ok (f (tables_in bs ns))) refl)
 
   pub count : (f : Tables → ℕ) → Answered (CountSays f bs ns) says (13 ∷ 14 ∷ []) Nothing
-  count f = alone count_same (counts_so f)
+  count f = alone says_same (counts_so f)
 
   pub totals_so : Sayable says (13 ∷ 14 ∷ 16 ∷ []) (totals bs ns)
   totals_so =
       let t = tables_in bs ns in
       over (Sayable says (13 ∷ 14 ∷ 16 ∷ [])) bs ns (λ t. weighed t (total t))
-      (refusal (total_refused 13 0) refl (inl refl)) (refusal (total_refused 14 0) refl (inr (inl refl)))
-      (either (Sayable says (13 ∷ 14 ∷ 16 ∷ [])) (eqb (lacking t) 0) (success (Ok (total t)) refl) (refusal (total_refused 16 (lacking t)) refl (inr (inr (inl refl)))))
+      (refusal (Err (refusal_of 13 0)) refl (inl refl)) (refusal (Err (refusal_of 14 0)) refl (inr (inl refl)))
+      (either (Sayable says (13 ∷ 14 ∷ 16 ∷ [])) (eqb (lacking t) 0) (success (Ok (total t)) refl) (refusal (Err (refusal_of 16 (lacking t))) refl (inr (inr (inl refl)))))
 
   pub totalled : Answered (TotalSays bs ns) says (13 ∷ 14 ∷ 16 ∷ []) Nothing
-  totalled = alone total_same totals_so
+  totalled = alone says_same totals_so
 
   mass_so : (o : Option (Bracket (Unit {0}))) → Sayable says (13 ∷ 14 ∷ 17 ∷ []) (given o (λ k. good (mass_of k)) (refuses 17 0))
-  mass_so none = refusal (mass_refused 17) refl (inr (inr (inl refl)))
+  mass_so none = refusal (Err (refusal_of 17 0)) refl (inr (inr (inl refl)))
   mass_so (some k) = success (Ok (mass_of k)) refl
 
   pub weighs_so : (i : ℕ) → Sayable says (13 ∷ 14 ∷ 17 ∷ []) (weighs_at bs ns i)
   weighs_so i =
       over (Sayable says (13 ∷ 14 ∷ 17 ∷ [])) bs ns (λ t. mass_at t i)
-      (refusal (mass_refused 13) refl (inl refl)) (refusal (mass_refused 14) refl (inr (inl refl)))
+      (refusal (Err (refusal_of 13 0)) refl (inl refl)) (refusal (Err (refusal_of 14 0)) refl (inr (inl refl)))
       (mass_so (element_at (tables_in bs ns).brackets i))
 
   pub bracket_mass : (i : ℕ) → Answered (BracketMassSays bs ns i) says (13 ∷ 14 ∷ 17 ∷ []) Nothing
-  bracket_mass i = alone mass_same (weighs_so i)
+  bracket_mass i = alone says_same (weighs_so i)
 
   display : (b : Bool) (m : ℤ) (n : ℕ) → Sayable says (13 ∷ 14 ∷ []) (good (cond b (Daltons (daltons m)) (Missing n)))
   display true m n = success (Daltons (daltons m)) refl
@@ -164,36 +164,36 @@ module _ (bs : List ℕ) (ns : List ℤ) where
   shows_so =
       let t = tables_in bs ns in
       over (Sayable says (13 ∷ 14 ∷ [])) bs ns (λ t. good (display_of t))
-      (refusal (shown_refused 13) refl (inl refl)) (refusal (shown_refused 14) refl (inr (inl refl)))
+      (refusal (Err (refusal_of 13 0)) refl (inl refl)) (refusal (Err (refusal_of 14 0)) refl (inr (inl refl)))
       (display (eqb (lacking t) 0) (total t) (lacking t))
 
   pub shown : Answered (ShownSays bs ns) says (13 ∷ 14 ∷ []) Nothing
-  shown = alone shown_same shows_so
+  shown = alone says_same shows_so
 
   pub allows_so : (p : List ℕ) → Sayable says (13 ∷ 14 ∷ 18 ∷ []) (allows bs ns p)
   allows_so p =
       over (Sayable says (13 ∷ 14 ∷ 18 ∷ [])) bs ns (λ t. allowable t p)
-      (refusal (request_refused 13) refl (inl refl)) (refusal (request_refused 14) refl (inr (inl refl)))
-      (either (Sayable says (13 ∷ 14 ∷ 18 ∷ [])) (allowed (floating_of (tables_in bs ns)) p) (success (Ok tt) refl) (refusal (request_refused 18) refl (inr (inr (inl refl)))))
+      (refusal (Err (refusal_of 13 0)) refl (inl refl)) (refusal (Err (refusal_of 14 0)) refl (inr (inl refl)))
+      (either (Sayable says (13 ∷ 14 ∷ 18 ∷ [])) (allowed (floating_of (tables_in bs ns)) p) (success (Ok tt) refl) (refusal (Err (refusal_of 18 0)) refl (inr (inr (inl refl)))))
 
   pub is_allowed : (p : Placement) → Answered (AllowedSays bs ns p) says (13 ∷ 14 ∷ 18 ∷ []) Nothing
-  is_allowed p = alone request_same (allows_so p.at)
+  is_allowed p = alone says_same (allows_so p.at)
 
   -- what is left to hand out, or 17; 18 before it
   following_so : (o : Option (List ℕ)) → Sayable says (13 ∷ 14 ∷ 17 ∷ 18 ∷ []) (met (findable o))
-  following_so none = refusal (request_refused 17) refl (inr (inr (inl refl)))
+  following_so none = refusal (Err (refusal_of 17 0)) refl (inr (inr (inl refl)))
   following_so (some p) = success (Ok tt) refl
 
   requested_so : (f : Floating) (l : Listing) → Sayable says (13 ∷ 14 ∷ 17 ∷ 18 ∷ []) (met (requested f l))
   unfolding requested
   requested_so f l =
       either (λ s. Sayable says (13 ∷ 14 ∷ 17 ∷ 18 ∷ []) (met s)) (taken_listing f l) (following_so (following f l))
-      (refusal (request_refused 18) refl (inr (inr (inr (inl refl)))))
+      (refusal (Err (refusal_of 18 0)) refl (inr (inr (inr (inl refl)))))
 
   pub requests_so : (l : Listing) → Sayable says (13 ∷ 14 ∷ 17 ∷ 18 ∷ []) (met (requests bs ns l))
   requests_so l =
       over (λ s. Sayable says (13 ∷ 14 ∷ 17 ∷ 18 ∷ []) (met s)) bs ns (λ t. requested (floating_of t) l)
-      (refusal (request_refused 13) refl (inl refl)) (refusal (request_refused 14) refl (inr (inl refl)))
+      (refusal (Err (refusal_of 13 0)) refl (inl refl)) (refusal (Err (refusal_of 14 0)) refl (inr (inl refl)))
       (requested_so (floating_of (tables_in bs ns)) l)
 
   stays : (l : Listing) (n p : ℕ) → met (requests bs ns l) ≡ refuses n p → listing_after bs ns l ≡ l
@@ -203,22 +203,22 @@ module _ (bs : List ℕ) (ns : List ℤ) where
   next_placement_lem l =
       lent
       (record { make = λ r k. record { request = r; listing = k }; answer = λ o. o.request; left = λ o. o.listing; whole = λ o. refl; answers = λ r k. refl; leaves = λ r k. refl })
-      {says = says} (NextSays bs ns l) (listing_after bs ns l) l (λ o. ((λ w. w), (λ w. w))) request_same (requests_so l) (stays l)
+      {says = says} (NextSays bs ns l) (listing_after bs ns l) l (λ o. ((λ w. w), (λ w. w))) says_same (requests_so l) (stays l)
 
   pub step : (l : Listing)
       → Answered (λ (o : (Result (Unit {0}) Refusal) × Listing). StepSays bs ns l o.0 o.1) (λ o. says o.0) (13 ∷ 14 ∷ 17 ∷ 18 ∷ []) (λ o. o.1 ≡ l)
   step l =
       lent (pair (Result (Unit {0}) Refusal) Listing) {says = says} (λ o. StepSays bs ns l o.0 o.1) (listing_after bs ns l) l
-      (λ o. ((λ w. w), (λ w. w))) request_same (requests_so l) (stays l)
+      (λ o. ((λ w. w), (λ w. w))) says_same (requests_so l) (stays l)
 
   pub books_so : (p : List ℕ) → Sayable says (13 ∷ 14 ∷ 16 ∷ 18 ∷ []) (books bs ns p)
   books_so p =
       let t = tables_in bs ns in
       over (Sayable says (13 ∷ 14 ∷ 16 ∷ 18 ∷ [])) bs ns (λ t. bookable t p)
-      (refusal (booked_refused 13 0) refl (inl refl)) (refusal (booked_refused 14 0) refl (inr (inl refl)))
+      (refusal (Err (refusal_of 13 0)) refl (inl refl)) (refusal (Err (refusal_of 14 0)) refl (inr (inl refl)))
       (either (Sayable says (13 ∷ 14 ∷ 16 ∷ 18 ∷ [])) (eqb (lacking t) 0)
-      (either (Sayable says (13 ∷ 14 ∷ 16 ∷ 18 ∷ [])) (allowed (floating_of t) p) (success (Ok tt) refl) (refusal (booked_refused 18 0) refl (inr (inr (inr (inl refl))))))
-      (refusal (booked_refused 16 (lacking t)) refl (inr (inr (inl refl)))))
+      (either (Sayable says (13 ∷ 14 ∷ 16 ∷ 18 ∷ [])) (allowed (floating_of t) p) (success (Ok tt) refl) (refusal (Err (refusal_of 18 0)) refl (inr (inr (inr (inl refl))))))
+      (refusal (Err (refusal_of 16 (lacking t))) refl (inr (inr (inl refl)))))
 
   pub ledger : (p : Placement)
       → Answered (LedgerSays bs ns p) (λ o. says o.booked) (13 ∷ 14 ∷ 16 ∷ 18 ∷ []) (λ o. o.at ≡ replicate position_limit (pos 0))
@@ -226,22 +226,22 @@ module _ (bs : List ℕ) (ns : List ℤ) where
       lent
       (record { make = λ b es. record { booked = b; at = es }; answer = λ o. o.booked; left = λ o. o.at; whole = λ o. refl; answers = λ b es. refl; leaves = λ b es. refl })
       {says = says} (LedgerSays bs ns p) (entries (books bs ns p.at) (tables_in bs ns) p.at) (replicate position_limit (pos 0))
-      (λ o. ((λ w. w), (λ w. w))) booked_same (books_so p.at) (λ n k q. ap (λ s. entries s (tables_in bs ns) p.at) q)
+      (λ o. ((λ w. w), (λ w. w))) says_same (books_so p.at) (λ n k q. ap (λ s. entries s (tables_in bs ns) p.at) q)
 
   pub rows_so : (room : List Site) → Sayable says (13 ∷ 14 ∷ []) (rows_said bs ns room)
   rows_so room =
-      either (Sayable says (13 ∷ 14 ∷ [])) (ltb (length room) row_limit) (refusal (count_refused 13 0) refl (inl refl)) (counts_so (λ t. length (rows_of t)))
+      either (Sayable says (13 ∷ 14 ∷ [])) (ltb (length room) row_limit) (refusal (Err (refusal_of 13 0)) refl (inl refl)) (counts_so (λ t. length (rows_of t)))
 
   pub rows : (room : List Site)
       → Answered (λ (o : (Result ℕ Refusal) × List Site). RowsSays bs ns room o.0 o.1) (λ o. says o.0) (13 ∷ 14 ∷ []) (λ o. o.1 ≡ room)
   rows room =
       lent (pair (Result ℕ Refusal) (List Site)) {says = says} (λ o. RowsSays bs ns room o.0 o.1) (rows_after (rows_said bs ns room) (tables_in bs ns) room) room
-      (λ o. ((λ w. w), (λ w. w))) count_same (rows_so room) (λ n p q. ap (λ s. rows_after s (tables_in bs ns) room) q)
+      (λ o. ((λ w. w), (λ w. w))) says_same (rows_so room) (λ n p q. ap (λ s. rows_after s (tables_in bs ns) room) q)
 
   pub floaters_so : (brs cps : List ℕ) → Sayable says (13 ∷ 14 ∷ []) (floaters_said bs ns brs cps)
   floaters_so brs cps =
-      either (Sayable says (13 ∷ 14 ∷ [])) (ltb (length brs) copy_limit) (refusal (count_refused 13 0) refl (inl refl))
-      (either (Sayable says (13 ∷ 14 ∷ [])) (ltb (length cps) copy_limit) (refusal (count_refused 13 0) refl (inl refl)) (counts_so floater_count))
+      either (Sayable says (13 ∷ 14 ∷ [])) (ltb (length brs) copy_limit) (refusal (Err (refusal_of 13 0)) refl (inl refl))
+      (either (Sayable says (13 ∷ 14 ∷ [])) (ltb (length cps) copy_limit) (refusal (Err (refusal_of 13 0)) refl (inl refl)) (counts_so floater_count))
 
   pub floater_brackets : (brs cps : List ℕ)
       → Answered (λ (o : (Result ℕ Refusal) × (List ℕ × List ℕ)). FloatersSay bs ns brs cps o.0 o.1.0 o.1.1) (λ o. says o.0) (13 ∷ 14 ∷ [])
@@ -255,7 +255,7 @@ module _ (bs : List ℕ) (ns : List ℤ) where
         (λ w. (w.says, ap (λ z. (z, o.1.1)) w.brackets_after ∙ ap (λ z. (output_after said l brs, z)) w.copies_after)),
         (λ w. record { says = w.0; brackets_after = ap (λ z. z.0) w.1; copies_after = ap (λ z. z.1) w.1 }),
       ))
-      count_same (floaters_so brs cps) (λ n p q. ap (λ s. (output_after s l brs, output_after s m cps)) q)
+      says_same (floaters_so brs cps) (λ n p q. ap (λ s. (output_after s l brs, output_after s m cps)) q)
 
   -- the answer is that of the one set that is meant
   pub why_so : (l : List ℕ) → Sayable says (13 ∷ 14 ∷ []) (counts bs ns (λ t. length l))
@@ -276,18 +276,18 @@ module _ (bs : List ℕ) (ns : List ℤ) where
         )),
         (λ w. record { set = l; reason = z.1; says = w.0; names = w.1 }),
       ))
-      count_same (why_so l) (λ n p q. ap (λ s. names_of s l) q)
+      says_same (why_so l) (λ n p q. ap (λ s. names_of s l) q)
 
   reaches_so : (o : Option (Bracket (Unit {0})))
       → Sayable says (13 ∷ 14 ∷ 17 ∷ []) (given o (λ k. good (length (reaches (tables_in bs ns) k))) (refuses 17 0))
-  reaches_so none = refusal (count_refused 17 0) refl (inr (inr (inl refl)))
+  reaches_so none = refusal (Err (refusal_of 17 0)) refl (inr (inr (inl refl)))
   reaches_so (some k) = success (Ok (length (reaches (tables_in bs ns) k))) refl
 
   pub reached_so : (i : ℕ) (out : List ℕ) → Sayable says (13 ∷ 14 ∷ 17 ∷ []) (reached_said bs ns i out)
   reached_so i out =
-      either (Sayable says (13 ∷ 14 ∷ 17 ∷ [])) (ltb (length out) position_limit) (refusal (count_refused 13 0) refl (inl refl))
+      either (Sayable says (13 ∷ 14 ∷ 17 ∷ [])) (ltb (length out) position_limit) (refusal (Err (refusal_of 13 0)) refl (inl refl))
       (over (Sayable says (13 ∷ 14 ∷ 17 ∷ [])) bs ns (λ t. reached_at t i)
-      (refusal (count_refused 13 0) refl (inl refl)) (refusal (count_refused 14 0) refl (inr (inl refl)))
+      (refusal (Err (refusal_of 13 0)) refl (inl refl)) (refusal (Err (refusal_of 14 0)) refl (inr (inl refl)))
       (reaches_so (element_at (tables_in bs ns).brackets i)))
 
   pub reached : (i : ℕ) (out : List ℕ)
@@ -295,29 +295,29 @@ module _ (bs : List ℕ) (ns : List ℤ) where
   reached i out =
       let l = reached_by (tables_in bs ns) i in
       lent (pair (Result ℕ Refusal) (List ℕ)) {says = says} (λ o. ReachedSays bs ns i out o.0 o.1) (output_after (reached_said bs ns i out) l out) out
-      (λ o. ((λ w. (w.says, w.after)), (λ w. record { says = w.0; after = w.1 }))) count_same (reached_so i out) (λ n p q. ap (λ s. output_after s l out) q)
+      (λ o. ((λ w. (w.says, w.after)), (λ w. record { says = w.0; after = w.1 }))) says_same (reached_so i out) (λ n p q. ap (λ s. output_after s l out) q)
 
 found_so : (o : Option Row) → Sayable says (13 ∷ 17 ∷ []) (findable o)
-found_so none = refusal (lookup_refused 17) refl (inr (inl refl))
+found_so none = refusal (Err (refusal_of 17 0)) refl (inr (inl refl))
 found_so (some x) = success (Row x.index x.position) refl
 
 pub looks_so : (rs : List Site) (n f : ℕ) → Sayable says (13 ∷ 17 ∷ []) (looks_up rs n f)
-looks_so rs n f = either (Sayable says (13 ∷ 17 ∷ [])) (ltb (length rs) row_limit) (refusal (lookup_refused 13) refl (inl refl)) (found_so (lookup rs n f))
+looks_so rs n f = either (Sayable says (13 ∷ 17 ∷ [])) (ltb (length rs) row_limit) (refusal (Err (refusal_of 13 0)) refl (inl refl)) (found_so (lookup rs n f))
 
 pub first_row_lem : (rs : List Site) (n f : ℕ) → Answered (LookupSays rs n f) says (13 ∷ 17 ∷ []) Nothing
-first_row_lem rs n f = alone lookup_same (looks_so rs n f)
+first_row_lem rs n f = alone says_same (looks_so rs n f)
 
 -- ---- the pieces of a text
 pub pieces_so : (t : List ℕ) (room : ℕ) → Sayable says (15 ∷ 19 ∷ []) (pieces_said t room)
 pieces_so t room =
     let c = pieces_of (cuttings t) in
-    either (Sayable says (15 ∷ 19 ∷ [])) (none? (cuttings t)) (refusal (write_refused 19 0) refl (inr (inl refl)))
-    (either (Sayable says (15 ∷ 19 ∷ [])) (ltb room (length c)) (refusal (write_refused 15 (length c)) refl (inl refl)) (success (Ok (length c)) refl))
+    either (Sayable says (15 ∷ 19 ∷ [])) (none? (cuttings t)) (refusal (Err (refusal_of 19 0)) refl (inr (inl refl)))
+    (either (Sayable says (15 ∷ 19 ∷ [])) (ltb room (length c)) (refusal (Err (refusal_of 15 (length c))) refl (inl refl)) (success (Ok (length c)) refl))
 
 pub pieces : (t out : List ℕ)
     → Answered (λ (o : (Result ℕ Refusal) × List ℕ). PiecesSay t out o.0 o.1) (λ o. says o.0) (15 ∷ 19 ∷ []) (λ o. o.1 ≡ out)
 pieces t out =
     let c = pieces_of (cuttings t) in
     lent (pair (Result ℕ Refusal) (List ℕ)) {says = says} (λ o. PiecesSay t out o.0 o.1) (output_after (pieces_said t (length out)) c out) out
-    (λ o. ((λ w. (w.says, w.output_after_is)), (λ w. record { says = w.0; output_after_is = w.1 }))) write_same (pieces_so t (length out))
+    (λ o. ((λ w. (w.says, w.output_after_is)), (λ w. record { says = w.0; output_after_is = w.1 }))) says_same (pieces_so t (length out))
     (λ n p q. ap (λ s. output_after s c out) q)

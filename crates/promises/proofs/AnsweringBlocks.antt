@@ -24,7 +24,7 @@ use Rattle.export.specs.Shapes.{length_left}
 use Rattle.export.specs.Blocks.{EmptyHanded, adds_lent, AddHanded, fetches_lent, FetchHanded, RemoveHanded, HeadHanded, Surveyed}
 use Rattle.promises.specs.Promises.{line_numbers, add_numbers, Answered, Nothing, told, AnswersBlocks, AnswersBlocksC}
 use Rattle.basics.specs.Said.{not_both, same_number_lem, same_place}
-use Rattle.promises.proofs.Said.{change_same, fetch_same, listed_same, survey_same}
+use Rattle.promises.proofs.Said.{says_same}
 use Rattle.promises.proofs.Answering as calls
 use Rattle.promises.proofs.AnsweringC as exported
 use Rattle.promises.proofs.Readers as readers
@@ -143,21 +143,21 @@ survey_among a = over a (inl refl) fine
 empty : (a : List ℕ) → Answered (λ (o : (Result (Unit {0}) Refusal) × List ℕ). EmptySays a o.0 o.1) (λ o. says o.0) (26 ∷ []) (λ o. o.1 ≡ a)
 empty a =
     calls.lent (calls.pair (Result (Unit {0}) Refusal) (List ℕ)) {says = says} (λ o. EmptySays a o.0 o.1) (empty_after a) a
-    (λ o. ((λ w. (w.says, w.area_after_is)), (λ w. record { says = w.0; area_after_is = w.1 }))) change_same (change_so (empty_said a) (empty_among a))
+    (λ o. ((λ w. (w.says, w.area_after_is)), (λ w. record { says = w.0; area_after_is = w.1 }))) says_same (change_so (empty_said a) (empty_among a))
     (λ n p q. ap (λ s. area_after s (times (blocks_in a) free_block) a) q)
 
 add : (a : List ℕ) (n : ℕ) (p : Placement) (s : List ℕ)
     → Answered (λ (o : (Result (Unit {0}) Refusal) × List ℕ). AddSays a n p s o.0 o.1) (λ o. says o.0) add_numbers (λ o. o.1 ≡ a)
 add a n p s =
     calls.lent (calls.pair (Result (Unit {0}) Refusal) (List ℕ)) {says = says} (λ o. AddSays a n p s o.0 o.1) (add_after a n p.at s) a
-    (λ o. ((λ w. (w.says, w.area_after_is)), (λ w. record { says = w.0; area_after_is = w.1 }))) change_same
+    (λ o. ((λ w. (w.says, w.area_after_is)), (λ w. record { says = w.0; area_after_is = w.1 }))) says_same
     (change_so (add_said a n p.at s) (done_among (adding a n p.at s) (add_among a n p.at s)))
     (λ m k q. ap (added_to a) (done_refused (adding a n p.at s) q))
 
 remove : (a : List ℕ) (n : ℕ) → Answered (λ (o : (Result (Unit {0}) Refusal) × List ℕ). RemoveSays a n o.0 o.1) (λ o. says o.0) (22 ∷ 25 ∷ 26 ∷ []) (λ o. o.1 ≡ a)
 remove a n =
     calls.lent (calls.pair (Result (Unit {0}) Refusal) (List ℕ)) {says = says} (λ o. RemoveSays a n o.0 o.1) (remove_after a n) a
-    (λ o. ((λ w. (w.says, w.area_after_is)), (λ w. record { says = w.0; area_after_is = w.1 }))) change_same
+    (λ o. ((λ w. (w.says, w.area_after_is)), (λ w. record { says = w.0; area_after_is = w.1 }))) says_same
     (change_so (remove_said a n) (done_among (removing a n) (remove_among a n))) (λ m k q. ap (removed_from a) (done_refused (removing a n) q))
 
 length_refused : (s : Said Entry) {n p : ℕ} → fetched_length s ≡ refuses n p → s ≡ refuses n p
@@ -183,7 +183,7 @@ fetch a n out =
       (λ w. (w.says, exported.pair2 w.placement w.output_after_is)),
       (λ w. record { says = w.0; placement = ap (λ z. z.0) w.1; output_after_is = ap (λ z. z.1) w.1 }),
     ))
-    fetch_same (fetch_so said (fetch_among a n (length out))) (λ m k q. ap (λ s. (fetched_placement s, out_after s out)) (length_refused said q))
+    says_same (fetch_so said (fetch_among a n (length out))) (λ m k q. ap (λ s. (fetched_placement s, out_after s out)) (length_refused said q))
 
 pub answers : AnswersBlocks
 answers =
@@ -192,8 +192,8 @@ answers =
       add = add;
       fetch = fetch;
       remove = remove;
-      entry_from = λ a from. calls.alone listed_same (listed_so (listed_from a from) (listed_among a from));
-      survey = λ a. calls.alone survey_same (survey_so (survey_said a) (survey_among a));
+      entry_from = λ a from. calls.alone says_same (listed_so (listed_from a from) (listed_among a from));
+      survey = λ a. calls.alone says_same (survey_so (survey_said a) (survey_among a));
     }
 
 -- ---- from C

@@ -143,7 +143,7 @@ module _ (bs : List ℕ) (ns : List ℤ) where
 
   why_lent_so : (old l : List ℕ) → calls.Sayable says (13 ∷ 14 ∷ []) (why_lent bs ns old l)
   why_lent_so old l =
-      calls.either (calls.Sayable says (13 ∷ 14 ∷ [])) (ltb (length old) copy_limit) (calls.refusal (count_refused 13 0) refl (inl refl)) (calls.why_so bs ns l)
+      calls.either (calls.Sayable says (13 ∷ 14 ∷ [])) (ltb (length old) copy_limit) (calls.refusal (Err (refusal_of 13 0)) refl (inl refl)) (calls.why_so bs ns l)
 
   -- whichever set is named, it is the one that is meant
   why_so : (old : List ℕ) (count number count' : ℕ) (new : List ℕ) → WhyHanded bs ns old count number count' new → (l : List ℕ) → Reason (floating_of (tables_in bs ns)) l
@@ -188,7 +188,7 @@ module _ (bs : List ℕ) (ns : List ℤ) where
 
   pub allows_lent_so : (p : List ℕ) → calls.Sayable says (13 ∷ 14 ∷ 18 ∷ []) (allows_lent bs ns p)
   allows_lent_so p =
-      calls.either (calls.Sayable says (13 ∷ 14 ∷ 18 ∷ [])) (ltb (length p) copy_limit) (calls.refusal (request_refused 13) refl (inl refl)) (calls.allows_so bs ns (take copy_limit p))
+      calls.either (calls.Sayable says (13 ∷ 14 ∷ 18 ∷ [])) (ltb (length p) copy_limit) (calls.refusal (Err (refusal_of 13 0)) refl (inl refl)) (calls.allows_so bs ns (take copy_limit p))
 
   allowed : (p : List ℕ) → Answered (AllowedLent bs ns p) told (13 ∷ 14 ∷ 18 ∷ []) Nothing
   allowed p =
@@ -203,8 +203,8 @@ module _ (bs : List ℕ) (ns : List ℤ) where
   books_lent_so : (p : List ℕ) (old : List ℤ) → calls.Sayable says (13 ∷ 14 ∷ 16 ∷ 18 ∷ []) (books_lent bs ns p old)
   books_lent_so p old =
       let P = calls.Sayable says (13 ∷ 14 ∷ 16 ∷ 18 ∷ []) in
-      calls.either P (ltb (length p) copy_limit) (calls.refusal (booked_refused 13 0) refl (inl refl))
-      (calls.either P (ltb (length old) position_limit) (calls.refusal (booked_refused 13 0) refl (inl refl)) (calls.books_so bs ns (take copy_limit p)))
+      calls.either P (ltb (length p) copy_limit) (calls.refusal (Err (refusal_of 13 0)) refl (inl refl))
+      (calls.either P (ltb (length old) position_limit) (calls.refusal (Err (refusal_of 13 0)) refl (inl refl)) (calls.books_so bs ns (take copy_limit p)))
 
   entered : (p : List ℕ) (old : List ℤ) (place : ℕ)
       → Answered (λ (o : ℕ × ℕ × List ℤ). EnteredLent bs ns p old place o.0 o.1 o.2) (λ o. told o.0) (13 ∷ 14 ∷ 16 ∷ 18 ∷ []) (λ o. o.2 ≡ old)

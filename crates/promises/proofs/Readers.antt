@@ -25,7 +25,7 @@ use Rattle.verdict.specs.Says.{VerdictSays}
 use Rattle.promises.specs.Promises.{meant, line_numbers, Reader, ExactlyOne, Answered, Nothing, AnswersLines, TurnedAway, Holding, Accepting}
 use Rattle.promises.proofs.Answering.{alone, among_numbers}
 use Rattle.basics.specs.Said.{not_both, same_number_lem, same_place}
-use Rattle.promises.proofs.Said.{read_same}
+use Rattle.promises.proofs.Said.{says_same}
 use Rattle.scope.specs.declared.refusals.Refusal.{Refusal}
 
 -- ---- after a successful read
@@ -85,7 +85,7 @@ exactly_one s bs ns =
       outcome = (read_of o, bytes_after o bs, numbers_after o ns);
       ensured = record { says = says_of o; bytes_after_is = refl; numbers_after_is = refl };
       only = λ q w.
-          ap (λ (r : Result (Unit {0}) Refusal). (r, q.1, q.2)) (read_same q.0 (read_of o) (w.says ∙ sym (says_of o))) ∙ ap (λ (b : List ℕ). (read_of o, b, q.2)) w.bytes_after_is
+          ap (λ (r : Result (Unit {0}) Refusal). (r, q.1, q.2)) (says_same q.0 (read_of o) (w.says ∙ sym (says_of o))) ∙ ap (λ (b : List ℕ). (read_of o, b, q.2)) w.bytes_after_is
           ∙ ap (λ (n : List ℤ). (read_of o, bytes_after o bs, n)) w.numbers_after_is;
     }
 
@@ -181,7 +181,7 @@ answered s bs ns r bs' ns' w = go (read_outcome bs ns s) refl
 
 pub verdict : (s : List ℕ) → Answered (VerdictSays s) says line_numbers Nothing
 verdict s =
-    alone read_same
+    alone says_same
     (record {
       answer = read_of (outcome s);
       says_so = says_of (outcome s);

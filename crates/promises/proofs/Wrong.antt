@@ -42,7 +42,7 @@ long = refl
 pub not_refuses_all : Accepting RefusesAll → ⊥
 not_refuses_all a =
     let yes = ((spelled.laws).accepts letter held).0 letter_good in
-    not_both (sym ((a.accepts letter bytes numbers (read_refused 4 0) bytes numbers (refl, refl, refl)).1 (long, (held, yes))))
+    not_both (sym ((a.accepts letter bytes numbers (Err (refusal_of 4 0)) bytes numbers (refl, refl, refl)).1 (long, (held, yes))))
 
 accepted_refused : (l : Line ℕ) → outcome [] ≡ accepted l → ⊥
 accepted_refused l e = let z : ◌≡◌ {A = ℕ} 0 1 = cc (empty_refused, e) in omega arith

@@ -1,6 +1,7 @@
 -- What each call over tables ensures, by a name: an equation of what its answer says with the definitions of crate scope. What writing ensures stands in
 -- specs/Writing.antt.
 use Rattle.std.specs.Prelude.{◌≡◌, List, ℕ, ℤ, Result}
+use Rattle.scope.specs.declared.answers.Mass.{Mass}
 use Rattle.scope.specs.declared.answers.Shown.{Shown}
 use Rattle.scope.specs.declared.answers.Placement.{Placement}
 use Rattle.scope.specs.declared.answers.Listing.{Listing}
@@ -22,7 +23,7 @@ TotalSays bs ns r = says r ≡ totals bs ns
 abbrev pub BracketMassSays : List ℕ → List ℤ → ℕ → Result Mass Refusal → Type 0
 BracketMassSays bs ns i r = says r ≡ weighs_at bs ns i
 
-abbrev pub ShownSays : List ℕ → List ℤ → Shown → Type 0
+abbrev pub ShownSays : List ℕ → List ℤ → Result Shown Refusal → Type 0
 ShownSays bs ns r = says r ≡ shows bs ns
 
 abbrev pub AllowedSays : List ℕ → List ℤ → Placement → Result (Unit {0}) Refusal → Type 0

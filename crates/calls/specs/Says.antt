@@ -8,7 +8,7 @@ use Rattle.scope.specs.declared.answers.Listing.{Listing}
 use Rattle.scope.specs.declared.answers.Ledger.{Ledger}
 use Rattle.scope.specs.Tables.{Tables}
 use Rattle.scope.specs.Layout.{tables_in}
-use Rattle.scope.specs.Answers.{says, of_good, counts, totals, shows, allows, requests, moved, ledger_said}
+use Rattle.scope.specs.Answers.{says, says_shown, of_good, counts, totals, shows, allows, requests, moved, ledger_said}
 use Rattle.calls.specs.Single.{weighs_at}
 use Rattle.scope.specs.declared.refusals.Refusal.{Refusal}
 
@@ -23,8 +23,8 @@ TotalSays bs ns r = says r ≡ totals bs ns
 abbrev pub BracketMassSays : List ℕ → List ℤ → ℕ → Result Mass Refusal → Type 0
 BracketMassSays bs ns i r = says r ≡ weighs_at bs ns i
 
-abbrev pub ShownSays : List ℕ → List ℤ → Result Shown Refusal → Type 0
-ShownSays bs ns r = says r ≡ shows bs ns
+abbrev pub ShownSays : List ℕ → List ℤ → Shown → Type 0
+ShownSays bs ns r = says_shown r ≡ shows bs ns
 
 abbrev pub AllowedSays : List ℕ → List ℤ → Placement → Result (Unit {0}) Refusal → Type 0
 AllowedSays bs ns p r = says r ≡ allows bs ns p.at

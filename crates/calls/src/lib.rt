@@ -178,13 +178,15 @@ pub fn bracket_mass(bytes: &[u8], numbers: &[i64], k: usize) -> Result<Mass, Ref
 }
 
 // "either a mass as a double or the number of modifications without one"
-pub fn shown(bytes: &[u8], numbers: &[i64]) -> Result<Shown, Refusal>
+pub fn shown(bytes: &[u8], numbers: &[i64]) -> Shown
     ensures { ShownSays bytes.now numbers.now result }
 {
-    held(bytes, numbers)?;
+    if let Err(refusal) = held(bytes, numbers) {
+        return Shown::Refused(refusal.reason);
+    }
     match weigh(bytes, numbers) {
-        Ok(m) => Ok(Shown::Daltons(as_daltons(m))),
-        Err(lacking) => Ok(Shown::Missing(lacking.count)),
+        Ok(m) => Shown::Daltons(as_daltons(m)),
+        Err(lacking) => Shown::Missing(lacking.count),
     }
 }
 

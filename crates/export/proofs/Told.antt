@@ -8,12 +8,11 @@ use lib.Ieee.{Float}
 use lib.Dec.{eqb}
 use borrow.Author.Tests.{ne_eqb}
 use Rattle.scope.specs.declared.answers.Mass.{Mass}
-use Rattle.scope.specs.Answers.{Said, good, refuses, met}
+use Rattle.scope.specs.Answers.{Said, good, refuses, met, Display}
 use Rattle.export.specs.Numbers.{number_of, Numbered}
 use Rattle.export.specs.Handed.{Counted, LookedUp}
 use Rattle.export.specs.Shapes.{Measured, Totalled, Massed, Displayed}
 use Rattle.scope.specs.declared.answers.Row.{Row}
-use Rattle.scope.specs.declared.answers.Shown.{Shown}
 
 pub numbered_so : {said meant : Said (Unit {0})} {place number place' : ℕ} → said ≡ meant → Numbered said place number place' → Numbered meant place number place'
 numbered_so {place = p} {number = n} {place' = p'} e h = subst (λ s. Numbered s p n p') e h
@@ -35,7 +34,7 @@ pub massed_so : {said meant : Said Mass} {millionths : ℤ} {sort number : ℕ} 
     → Massed said millionths sort number millionths' sort' → Massed meant millionths sort number millionths' sort'
 massed_so {millionths = m} {sort = s} {number = n} {millionths' = m'} {sort' = s'} e h = subst (λ x. Massed x m s n m' s') e h
 
-pub displayed_so : {said meant : Said Shown} {mass : Float} {missing number : ℕ} {mass' : Float} {missing' : ℕ} → said ≡ meant
+pub displayed_so : {said meant : Said Display} {mass : Float} {missing number : ℕ} {mass' : Float} {missing' : ℕ} → said ≡ meant
     → Displayed said mass missing number mass' missing' → Displayed meant mass missing number mass' missing'
 displayed_so {mass = x} {missing = k} {number = n} {mass' = x'} {missing' = k'} e h = subst (λ s. Displayed s x k n x' k') e h
 

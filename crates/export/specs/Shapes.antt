@@ -8,7 +8,7 @@ use Rattle.scope.specs.Tables.{Tables}
 use Rattle.scope.specs.Layout.{tables_in}
 use Rattle.scope.specs.Lists.{laid}
 use Rattle.scope.specs.Masses.{ledger, daltons}
-use Rattle.scope.specs.Answers.{Said, good, refuses, writes, output_after, counts, allows, books, fitting}
+use Rattle.scope.specs.Answers.{Said, good, refuses, writes, output_after, counts, allows, books, fitting, Display, a_mass, lack}
 use Rattle.entries.specs.Entry.{entry}
 use Rattle.scope.specs.Positions.{floaters_by, brackets_of, copies_of, floating_of}
 use Rattle.scope.specs.Reasons.{Reason}
@@ -18,8 +18,6 @@ use Rattle.calls.specs.Floating.{floaters_said}
 use Rattle.calls.specs.Reaching.{reached_by, reached_said}
 use Rattle.export.specs.Numbers.{number_of, left, Numbered}
 use Rattle.export.specs.Handed.{Counted}
-use Rattle.scope.specs.declared.answers.Shown.{Shown}
-use Rattle.scope.specs.declared.answers.Shown.TheVariants.{Daltons, Missing}
 
 -- ---- a line that was written: its length, with 15 the length needed, and the output
 abbrev pub length_left : Said ℕ → ℕ → ℕ
@@ -60,16 +58,16 @@ pub record Massed (said : Said Mass) (millionths : ℤ) (sort number : ℕ) (mil
   pub millionths_is : millionths' ≡ left said millionths_of millionths
   pub sort_is : sort' ≡ left said sort_of sort
 
--- ---- a display: the mass, 0.0 where there is none; how many modifications Missing one, else 0
-abbrev pub mass_of : Shown → Float
-mass_of (Daltons x) = x
-mass_of (Missing n) = daltons (pos 0)
+-- ---- a display: the mass, 0.0 where there is none; how many modifications lack one, else 0
+abbrev pub mass_of : Display → Float
+mass_of (a_mass x) = x
+mass_of (lack n) = daltons (pos 0)
 
-abbrev pub lack_of : Shown → ℕ
-lack_of (Daltons x) = 0
-lack_of (Missing n) = n
+abbrev pub lack_of : Display → ℕ
+lack_of (a_mass x) = 0
+lack_of (lack n) = n
 
-pub record Displayed (said : Said Shown) (mass : Float) (missing number : ℕ) (mass' : Float) (missing' : ℕ) : Type 0 where
+pub record Displayed (said : Said Display) (mass : Float) (missing number : ℕ) (mass' : Float) (missing' : ℕ) : Type 0 where
   pub number_is : number ≡ number_of said
   pub mass_is : mass' ≡ left said mass_of mass
   pub missing_is : missing' ≡ left said lack_of missing

@@ -1,7 +1,7 @@
 // The calls over tables in lent areas: the two areas are only read, and any content of theirs is answered.
 ghost use Rattle.std.specs.Prelude.{◌≡◌, ◌≤◌, length, take};
 ghost use Rattle.scope.specs.Limits.{copy_limit};
-ghost use Rattle.scope.specs.Answers.{counts, residue_count, bracket_count, floater_count, totals, shows, says};
+ghost use Rattle.scope.specs.Answers.{counts, residue_count, bracket_count, floater_count, totals, shows, says, says_shown};
 ghost use Rattle.calls.specs.Single.{weighs_at};
 ghost use Rattle.export.specs.Handed.{Counted};
 ghost use Rattle.export.specs.Shapes.{Written, Totalled, Massed, Displayed, AllowedLent, ReadEntered, FloatersHanded, WhyHanded, ReachedHanded};
@@ -157,18 +157,22 @@ pub fn hwemiduk_bracket_mass(
 }
 
 // A display, handed out.
-fn tell_shown(answer: Result<Shown, Refusal>, daltons: &mut f64, missing: &mut usize) -> u8
-    ensures { Displayed (says answer) daltons.old missing.old result daltons.new missing.new }
+fn tell_shown(shown: Shown, daltons: &mut f64, missing: &mut usize) -> u8
+    ensures { Displayed (says_shown shown) daltons.old missing.old result daltons.new missing.new }
 {
-    let shown = match answer {
-        Ok(shown) => shown,
-        Err(refusal) => return refusal.reason as u8,
-    };
-    (*daltons, *missing) = match shown {
-        Shown::Daltons(x) => (x, 0),
-        Shown::Missing(n) => (0.0, n),
-    };
-    0
+    match shown {
+        Shown::Daltons(x) => {
+            *daltons = x;
+            *missing = 0;
+            0
+        }
+        Shown::Missing(n) => {
+            *daltons = 0.0;
+            *missing = n;
+            0
+        }
+        Shown::Refused(reason) => reason as u8,
+    }
 }
 
 // The total for display: 0 with the mass and none missing, or with 0.0 and how many lack one; else 13 or 14.

@@ -26,7 +26,7 @@ use Rattle.scope.specs.Placements.{fresh_listing}
 use Rattle.scope.specs.Reasons.{too_few, Reason}
 use Rattle.scope.specs.Modifications.{is_modification}
 use Rattle.scope.specs.Masses.{times, sum, total, lacking, labile_mass, daltons}
-use Rattle.scope.specs.Answers.{Said, good, refuses, too_short, are_tables, counts, residue_count, bracket_count, floater_count, totals, shows, looks_up, says}
+use Rattle.scope.specs.Answers.{Said, good, refuses, too_short, are_tables, counts, residue_count, bracket_count, floater_count, totals, shows, looks_up, says, a_mass, lack, says_shown}
 use Rattle.scope.specs.Grammar.{Spelling, print, good as well_spelt, means}
 use Rattle.grammar_laws.specs.Laws.{Accepts, Refuses}
 use Rattle.glycan_laws.specs.Laws.{Cuts}
@@ -54,7 +54,6 @@ use Rattle.export.specs.Shapes.{Written, Totalled, Massed, Displayed, AllowedLen
 use Rattle.export.specs.Blocks.{EmptyHanded, AddHanded, FetchHanded, RemoveHanded, HeadHanded, Surveyed}
 use Rattle.promises.specs.Keeping.{Keeping}
 use Rattle.scope.specs.declared.answers.Row.{Row}
-use Rattle.scope.specs.declared.answers.Shown.TheVariants.{Daltons, Missing}
 use Rattle.scope.specs.declared.refusals.Refusal.{Refusal}
 
 -- ======== demand 1
@@ -141,7 +140,7 @@ pub record Demand1 : Type 0 where
   pub reached :
       (bs : List ℕ) (ns : List ℤ) (i : ℕ) (out : List ℕ)
       → Answered (λ (o : (Result ℕ Refusal) × List ℕ). ReachedSays bs ns i out o.0 o.1) (λ o. says o.0) (13 ∷ 14 ∷ 17 ∷ []) (λ o. o.1 ≡ out)
-  pub shown : (bs : List ℕ) (ns : List ℤ) → Answered (ShownSays bs ns) says (13 ∷ 14 ∷ []) Nothing
+  pub shown : (bs : List ℕ) (ns : List ℤ) → Answered (ShownSays bs ns) says_shown (13 ∷ 14 ∷ []) Nothing
   pub is_allowed : (bs : List ℕ) (ns : List ℤ) (p : Placement) → Answered (AllowedSays bs ns p) says (13 ∷ 14 ∷ 18 ∷ []) Nothing
   pub why_none_lem : (bs : List ℕ) (ns : List ℤ) → Answered (WhySays bs ns) says (13 ∷ 14 ∷ []) Nothing
   -- on a refusal the record is as it was: none is handed back
@@ -309,8 +308,8 @@ pub record Demand3 (bs : List ℕ) (ns : List ℤ) : Type 0 where
       → (r : Result Ledger Refusal) → LedgerSays bs ns p r
       → (es : Ledger) × ((says r ≡ good es) × (sum es.at +ℤ labile_mass (tables_in bs ns) ≡ m))
   -- the display is that total as a double, or how many modifications have no mass
-  pub displays : (m : ℤ) (q : Result ℤ Refusal) → TotalSays bs ns q → says q ≡ good m → (r : Result Shown Refusal) → ShownSays bs ns r → says r ≡ good (Daltons (daltons m))
-  pub lacks : (n : ℕ) (q : Result ℤ Refusal) → TotalSays bs ns q → (r : Result Shown Refusal) → ShownSays bs ns r → (says r ≡ good (Missing n)) ↔ (says q ≡ refuses 16 n)
+  pub displays : (m : ℤ) (q : Result ℤ Refusal) → TotalSays bs ns q → says q ≡ good m → (r : Shown) → ShownSays bs ns r → says_shown r ≡ good (a_mass (daltons m))
+  pub lacks : (n : ℕ) (q : Result ℤ Refusal) → TotalSays bs ns q → (r : Shown) → ShownSays bs ns r → (says_shown r ≡ good (lack n)) ↔ (says q ≡ refuses 16 n)
   -- the permitted positions as rows, wherever there is room for them
   pub rows :
       (room : List Site) → row_limit ≤ length room → (r : Result ℕ Refusal) (room' : List Site) → RowsSays bs ns room r room'
@@ -369,7 +368,7 @@ pub record Measuring (bs : List ℕ) (ns : List ℤ) : Type 0 where
       (f : Number (Unit {0}) → Number (Unit {0})) (cs : List ℕ) (ms : List ℤ) → too_short cs ms ≡ false → are_tables cs ms ≡ true
       → tables_in cs ms ≡ remeasured f (tables_in bs ns)
       → ((q r : Result ℤ Refusal) → TotalSays bs ns q → TotalSays cs ms r → says r ≡ says q)
-      × ((q r : Result Shown Refusal) → ShownSays bs ns q → ShownSays cs ms r → says r ≡ says q)
+      × ((q r : Shown) → ShownSays bs ns q → ShownSays cs ms r → says_shown r ≡ says_shown q)
 
 -- ======== the wrong readers that document 01 names
 -- "a reader that refuses all, or gives one table for all"

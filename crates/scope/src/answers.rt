@@ -3,6 +3,7 @@ ghost use Rattle.std.specs.Prelude.{◌≡◌, replicate};
 ghost use Rattle.scope.specs.Limits.{copy_limit};
 ghost use Rattle.scope.specs.Placements.{fresh_listing};
 
+use crate::refusals::Reason;
 use crate::tables::Tables;
 
 // The mass of a bracket: "stated, only measured, or none" (02, L6). Of the two that are a mass each tells which it is, so this is no Option.
@@ -94,9 +95,10 @@ impl Ledger {
     pub const POSITIONS: usize = Tables::RESIDUES + 2;
 }
 
-// The total for display: "either a mass as a double or the number of modifications without one".
+// The total for display: "either a mass as a double or the number of modifications without one". Document 01 names this enum of three, so it is no Result.
 #[derive(Clone, Copy, Debug)]
 pub enum Shown {
     Daltons(f64),
     Missing(usize),
+    Refused(Reason),
 }

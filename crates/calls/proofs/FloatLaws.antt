@@ -5,21 +5,22 @@ use Prim.Native.Nat.{ℕ, ◌≤◌, ◌<◌}
 use borrow.Author.Tests.{lt-ltb, le-ltb}
 use lib.IntN.{ℤ}
 use lib.ListN.{length, take, drop, length-map}
-use Rattle.scope.specs.declared.answers.Count.{Count}
-use Rattle.scope.specs.declared.answers.Count.TheVariants.{Is, Refused}
+use Rattle.std.specs.Prelude.{Result, Ok, Err}
+use Rattle.scope.specs.declared.refusals.Refusal.{Refusal}
+use Rattle.scope.specs.declared.refusals.Reason.TheVariants.{ShortArea}
 use Rattle.scope.specs.Limits.{copy_limit}
 use Rattle.scope.specs.Lists.{laid}
 use Rattle.scope.specs.Positions.{floaters_by, brackets_of, copies_of}
 use Rattle.scope.specs.Layout.{tables_in}
-use Rattle.scope.specs.Answers.{Said, good, refuses, says_count, counts, floater_count, output_after}
+use Rattle.scope.specs.Answers.{Said, good, refuses, says, counts, floater_count, output_after}
 use Rattle.areas.specs.Floats.{FloatersAre}
 use Rattle.positions.proofs.Found.{floaters_many}
 use Rattle.calls.specs.Floating.{floaters_said, FloatersSay}
-use Rattle.calls.specs.Held.{why_not, Grounds}
+use Rattle.calls.specs.Held.{held_said, Grounds}
 use Rattle.calls.proofs.Laws.{refused_law, answers}
 
 module _ (bs : List ℕ) (ns : List ℤ) (brs cps : List ℕ) where
-  said_so : (r : Count) (brs' cps' : List ℕ) {s : Said ℕ} → floaters_said bs ns brs cps ≡ s → says_count r ≡ s
+  said_so : (r : Result ℕ Refusal) (brs' cps' : List ℕ) {s : Said ℕ} → floaters_said bs ns brs cps ≡ s → says r ≡ s
       → brs' ≡ output_after s (brackets_of (floaters_by (tables_in bs ns))) brs → cps' ≡ output_after s (copies_of (floaters_by (tables_in bs ns))) cps
       → FloatersSay bs ns brs cps r brs' cps'
   said_so r brs' cps' {s} e f g h =
@@ -29,24 +30,24 @@ module _ (bs : List ℕ) (ns : List ℤ) (brs cps : List ℕ) where
         copies_after = h ∙ ap (λ z. output_after z (copies_of (floaters_by (tables_in bs ns))) cps) (sym e);
       }
 
-  pub short_brackets : length brs < copy_limit → FloatersSay bs ns brs cps (Refused 13 0) brs cps
-  short_brackets h = said_so (Refused 13 0) brs cps {s = refuses 13 0} (rw (lt-ltb (length brs) copy_limit h)) refl refl refl
+  pub short_brackets : length brs < copy_limit → FloatersSay bs ns brs cps (Err (record { reason = ShortArea; place = 0 })) brs cps
+  short_brackets h = said_so (Err (record { reason = ShortArea; place = 0 })) brs cps {s = refuses 13 0} (rw (lt-ltb (length brs) copy_limit h)) refl refl refl
 
-  pub short_copies : copy_limit ≤ length brs → length cps < copy_limit → FloatersSay bs ns brs cps (Refused 13 0) brs cps
-  short_copies h l = said_so (Refused 13 0) brs cps {s = refuses 13 0} (rw (le-ltb (length brs) copy_limit h, lt-ltb (length cps) copy_limit l)) refl refl refl
+  pub short_copies : copy_limit ≤ length brs → length cps < copy_limit → FloatersSay bs ns brs cps (Err (record { reason = ShortArea; place = 0 })) brs cps
+  short_copies h l = said_so (Err (record { reason = ShortArea; place = 0 })) brs cps {s = refuses 13 0} (rw (le-ltb (length brs) copy_limit h, lt-ltb (length cps) copy_limit l)) refl refl refl
 
   -- slices that are long enough
   module _ (h : copy_limit ≤ length brs) (l : copy_limit ≤ length cps) where
     long_both : floaters_said bs ns brs cps ≡ counts bs ns floater_count
     long_both = rw (le-ltb (length brs) copy_limit h, le-ltb (length cps) copy_limit l)
 
-    pub no_floaters : {w : ℕ} → w ≡ why_not bs ns → (w ≡ 0 → ⊥) → FloatersSay bs ns brs cps (Refused w 0) brs cps
-    no_floaters {w} e n = said_so (Refused w 0) brs cps {s = refuses w 0} (long_both ∙ sym (refused_law bs ns e n (λ t. good (floater_count t)))) refl refl refl
+    pub no_floaters : (e : Refusal) → says (Err e) ≡ held_said bs ns → FloatersSay bs ns brs cps (Err e) brs cps
+    no_floaters e h = said_so (Err e) brs cps (long_both ∙ sym (refused_law bs ns h (λ t. good (floater_count t)))) refl refl refl
 
     pub floaters_found : {n : ℕ} {b c brs' cps' : List ℕ} → Grounds bs ns → FloatersAre bs ns n b c → brs' ≡ take n b ++ drop n brs
-        → cps' ≡ take n c ++ drop n cps → FloatersSay bs ns brs cps (Is n) brs' cps'
+        → cps' ≡ take n c ++ drop n cps → FloatersSay bs ns brs cps (Ok n) brs' cps'
     floaters_found {n} {b} {c} {brs'} {cps'} held a p q =
-        said_so (Is n) brs' cps' {s = good n} (long_both ∙ answers (λ t. good (floater_count t)) held ∙ ap good (sym a.many)) refl
+        said_so (Ok n) brs' cps' {s = good n} (long_both ∙ answers (λ t. good (floater_count t)) held ∙ ap good (sym a.many)) refl
         (p ∙ laid_so brs a.brackets (length-map (floaters_by (tables_in bs ns)) (λ c. c.bracket)))
         (q ∙ laid_so cps a.copies (length-map (floaters_by (tables_in bs ns)) (λ c. c.copy)))
       where

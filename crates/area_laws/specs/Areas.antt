@@ -1,5 +1,5 @@
 -- Areas of whole blocks: a block that is put lies there, and nothing else changes. Lists are compared index by index: index j of block b is index
--- blockSize * b + j of the area.
+-- block_size * b + j of the area.
 use Rattle.std.specs.Prelude.{ℕ, zero, suc, ◌+◌, ◌-◌, ◌*◌, ◌/◌, ◌%◌, ◌≤◌, ◌<◌, ◌≡◌, refl, true, ◌&&◌, List, ◌++◌, length, get_or, take, drop, set}
 use Rattle.std.proofs.Math.Path.{sym, ap}
 use Rattle.std.proofs.Common.{◌∙◌, mod-lt, arith, eqb-true, length-append, length-take, length-drop, length-set, take_at, drop_at, length-take-le, get_or-take, get_or-drop, get_or-append-add, ext_get_or}

@@ -13,18 +13,18 @@ use Rattle.scope.specs.Positions.{rows_from, rows_of}
 use Rattle.scope.specs.Answers.{good, refuses, rows_said, rows_after}
 use Rattle.areas.specs.Floats.{lists_in}
 use Rattle.positions.specs.Marked.{Filled}
-use Rattle.calls.specs.Held.{why_not, Grounds}
+use Rattle.calls.specs.Held.{held_said, Grounds}
 use Rattle.calls.specs.Rows.{RowsTable}
 use Rattle.calls.proofs.Laws.{refused_law, answers}
 
 pub no_room : (bs : List ℕ) (ns : List ℤ) {room : ℕ} → room < row_limit → (out : List Site) → length out ≡ room → refuses 13 0 ≡ rows_said bs ns out
 no_room bs ns {room} h out e = let k : length out < row_limit = subst (λ z. z < row_limit) (sym e) h in rw (lt-ltb (length out) row_limit k)
 
-pub no_tables : (bs : List ℕ) (ns : List ℤ) {room w : ℕ} → row_limit ≤ room → w ≡ why_not bs ns → (w ≡ 0 → ⊥) → (out : List Site) → length out ≡ room
-    → refuses w 0 ≡ rows_said bs ns out
-no_tables bs ns {room} {w} h e n out q =
+pub no_tables : (bs : List ℕ) (ns : List ℤ) {room : ℕ} → row_limit ≤ room → {m q : ℕ} → refuses m q ≡ held_said bs ns → (out : List Site) → length out ≡ room
+    → refuses m q ≡ rows_said bs ns out
+no_tables bs ns {room} h e out q =
     let k : row_limit ≤ length out = subst (λ z. row_limit ≤ z) (sym q) h in
-    rw (le-ltb (length out) row_limit k) (refused_law bs ns e n (λ t. good (length (rows_of t))))
+    rw (le-ltb (length out) row_limit k) (refused_law bs ns e (λ t. good (length (rows_of t))))
 
 pub table_ready : {bs : List ℕ} {ns : List ℤ} {room k : ℕ} {old tab : List ℕ} → row_limit ≤ room → Grounds bs ns → row_limit ≤ length old → k ≤ copy_limit
     → Filled bs ns k old tab → RowsTable bs ns room tab k

@@ -1,4 +1,4 @@
--- Laws of the canonical line, stated. Their proofs: specs/Proved.antt, and the files that it cites.
+-- Laws of the canonical line, stated. Their proofs: proofs/Proved.antt, and the files that it cites.
 use Rattle.std.specs.Prelude.{ℕ, ◌≤◌, ◌≡◌, ◌↔◌, List, length}
 use Rattle.scope.specs.Line.{Line}
 use Rattle.scope.specs.Refusals.{accepted, outcome}

@@ -1,5 +1,5 @@
 -- What refusals 1 to 3 ask of the bytes, and refusals 5 to 12, 19 and 21 of a line, clause by clause in the words of documents 01 and 02, as relations apart from the tests
--- of Refusals.antt. Their proofs: specs/Proved.antt.
+-- of Refusals.antt. Their proofs: proofs/Proved.antt.
 use Rattle.std.specs.Prelude.{ℕ, ◌+◌, ◌-◌, ◌*◌, ◌^◌, ◌≤◌, ◌<◌, ◌≡◌, ◌↔◌, ◌⊎◌, true, false, cond, List, [], ◌∷◌, ◌++◌, length, take, drop}
 use Prim.Native.String.{String}
 use Rattle.std.proofs.Math.Option.{some}

@@ -1,4 +1,4 @@
--- What the inside of a bracket means with nothing noted of places: for the way from the reader to trees (specs/Spelled.antt), where only the shape counts.
+-- What the inside of a bracket means with nothing noted of places: for the way from the reader to trees (proofs/Spelled.antt), where only the shape counts.
 use Rattle.std.proofs.Math.Option.{Option, none, some}
 use Rattle.std.specs.Prelude.{List, [], ◌∷◌, map}
 use Rattle.scope.specs.declared.grammar.Key.TheVariants.{NoKey}

@@ -1,4 +1,4 @@
--- The grammar and the reader, stated. Their proofs: specs/Proved.antt, and the files that it cites. Limits are apart.
+-- The grammar and the reader, stated. Their proofs: proofs/Proved.antt, and the files that it cites. Limits are apart.
 use Rattle.std.specs.Prelude.{ℕ, ◌+◌, ◌≤◌, ◌<◌, ◌≡◌, ◌↔◌, Bool, true, List, [], ◌∷◌, ◌++◌, length, take}
 use Rattle.std.proofs.Math.Option.{some}
 use Rattle.scope.specs.Bytes.{is_shutting}

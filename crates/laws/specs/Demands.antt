@@ -1,4 +1,4 @@
--- Demands 2 and 3 and refusal 14, stated over the definitions alone. Their proofs: specs/Proved.antt, and the files that it cites.
+-- Demands 2 and 3 and refusal 14, stated over the definitions alone. Their proofs: proofs/Proved.antt, and the files that it cites.
 use Rattle.std.specs.Prelude.{◌≡◌, true, false, cond, ◌||◌, ◌↔◌, List, [], map, ℕ, ◌+◌, ◌≤◌, ◌<◌, ℤ, pos, nat_abs, ◌+ℤ◌, eqb, length, take, get_or}
 use Rattle.std.specs.Float.{binary64}
 use Rattle.std.specs.Float.Ieee.{of_int, to_signed}

@@ -1,4 +1,4 @@
--- The areas of a line keep to the bounds, and each of their bytes is one: what stands in a row is what the bracket holds (Layout), which is within the limits.
+-- The areas of a line keep to the bounds, and each of their bytes is one: what stands in a row is what the bracket holds (LayoutLaws), which is within the limits.
 use Rattle.std.specs.Prelude.{◌≡◌, ℤ, pos, get_or}
 use Rattle.std.proofs.Common.{sym, ap, subst, inl, inr, add-zero, zero-add, lit<}
 use Rattle.std.proofs.Math.Option.{Option, none, some}

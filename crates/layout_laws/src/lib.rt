@@ -1,2 +1,2 @@
-// No code: laws of the tables as they lie in the lent areas, as theorems over the definitions (specs/).
+// No code: laws of the tables as they lie in the lent areas, as theorems over the definitions (proofs/).
 #![tactic(auto)]

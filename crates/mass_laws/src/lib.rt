@@ -1,2 +1,2 @@
-// Laws of masses and ledgers, over the definitions alone: specs/Laws.antt.
+// Laws of masses and ledgers, over the definitions alone: proofs/Laws.antt.
 #![tactic(auto)]

@@ -1,6 +1,6 @@
 -- The reader outside brackets, as a table: for each mode the ways on from it, each with the sort of its byte, in the order of trying. What a byte
--- does is what the first way does whose sort it is of (act-ways). So a rule over acts is one test, computed over the table (act-rule), and a rule
--- over modes is one test, computed over the modes (each-mode).
+-- does is what the first way does whose sort it is of (act_ways). So a rule over acts is one test, computed over the table (act_rule), and a rule
+-- over modes is one test, computed over the modes (each_mode).
 use Rattle.std.specs.Prelude.{ℕ, zero, suc, ◌≡◌, refl, Bool, true, false, cond, ◌&&◌, ◌||◌, List, [], ◌∷◌, eqb}
 use Rattle.std.proofs.Common.{sym, ◌∙◌, subst}
 use Rattle.std.proofs.lemmas.Bool.{false≢true}

@@ -1,5 +1,5 @@
 -- The places of a declaration, as a relation: each way on from a state with one more byte, and what is known there. Every step is one of them
--- (places-go), so a rule over places has a clause for each, and opens no definition.
+-- (places_go), so a rule over places has a clause for each, and opens no definition.
 use Rattle.std.specs.Prelude.{ℕ, ◌≡◌, true, List, [], ◌∷◌, ◌++◌, eqb}
 use Rattle.std.proofs.Math.Option.{some}
 use Rattle.scope.specs.declared.grammar.Mode.TheVariants.{Front, Listed}

@@ -1,4 +1,4 @@
--- Laws of the reader and of the refusals, stated. Their proofs: specs/Proved.antt, and the files that it cites.
+-- Laws of the reader and of the refusals, stated. Their proofs: proofs/Proved.antt, and the files that it cites.
 use Rattle.std.specs.Prelude.{ℕ, ◌+◌, ◌≤◌, ◌<◌, ◌≡◌, ◌↔◌, ◌⊎◌, cond, List, [], ◌∷◌, ◌++◌, eqb, length, take}
 use Rattle.std.proofs.Math.Option.{none, some}
 use Rattle.scope.specs.Line.{Line}

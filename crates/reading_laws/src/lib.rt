@@ -1,2 +1,2 @@
-// No code: laws of the reader and of the refusals, as theorems over the definitions (specs/).
+// No code: laws of the reader and of the refusals, as theorems over the definitions (specs/Laws.antt, proofs/).
 #![tactic(auto)]

@@ -76,87 +76,85 @@ fn two_bytes(bytes: &[u8], at: usize) -> usize
 }
 
 // How many residues there are.
-pub fn residues(bytes: &[u8]) -> usize
-    requires { bytes_size ≤ length bytes.now }
+pub fn residues(bytes: &[u8; Tables::BYTES]) -> usize
     ensures { (result ≡ residues_field bytes.now) × (result < wide_limit) }
 {
     two_bytes(bytes, RESIDUES)
 }
 
 // How many brackets there are.
-pub fn brackets(bytes: &[u8]) -> usize
-    requires { bytes_size ≤ length bytes.now }
+pub fn brackets(bytes: &[u8; Tables::BYTES]) -> usize
     ensures { (result ≡ brackets_field bytes.now) × (result < byte_limit) }
 {
     byte(bytes, BRACKETS)
 }
 
 // The letter of residue i, counted from 0, and the code of its section.
-pub fn letter(bytes: &[u8], i: usize) -> u8
-    requires { (bytes_size ≤ length bytes.now) × (i < residue_limit) }
+pub fn letter(bytes: &[u8; Tables::BYTES], i: usize) -> u8
+    requires { (i < residue_limit) }
     ensures { result ≡ letter_field bytes.now i }
 {
     bytes[Tables::LETTERS + i]
 }
 
-pub fn section(bytes: &[u8], i: usize) -> usize
-    requires { (bytes_size ≤ length bytes.now) × (i < residue_limit) }
+pub fn section(bytes: &[u8; Tables::BYTES], i: usize) -> usize
+    requires { (i < residue_limit) }
     ensures { (result ≡ section_field bytes.now i) × (result < byte_limit) }
 {
     byte(bytes, Tables::SECTIONS + i)
 }
 
 // The code of the kind of bracket k.
-pub fn kind(bytes: &[u8], k: usize) -> usize
-    requires { (bytes_size ≤ length bytes.now) × (k < bracket_limit) }
+pub fn kind(bytes: &[u8; Tables::BYTES], k: usize) -> usize
+    requires { (k < bracket_limit) }
     ensures { (result ≡ kind_field bytes.now k) × (result < byte_limit) }
 {
     byte(bytes, Tables::ROWS + k * Tables::ROW)
 }
 
 // The first position it stands on.
-pub fn first(bytes: &[u8], k: usize) -> usize
-    requires { (bytes_size ≤ length bytes.now) × (k < bracket_limit) }
+pub fn first(bytes: &[u8; Tables::BYTES], k: usize) -> usize
+    requires { (k < bracket_limit) }
     ensures { (result ≡ first_field bytes.now k) × (result < wide_limit) }
 {
     two_bytes(bytes, Tables::ROWS + k * Tables::ROW + FIRST)
 }
 
 // The last.
-pub fn last(bytes: &[u8], k: usize) -> usize
-    requires { (bytes_size ≤ length bytes.now) × (k < bracket_limit) }
+pub fn last(bytes: &[u8; Tables::BYTES], k: usize) -> usize
+    requires { (k < bracket_limit) }
     ensures { (result ≡ last_field bytes.now k) × (result < wide_limit) }
 {
     two_bytes(bytes, Tables::ROWS + k * Tables::ROW + LAST)
 }
 
 // Its count.
-pub fn count(bytes: &[u8], k: usize) -> usize
-    requires { (bytes_size ≤ length bytes.now) × (k < bracket_limit) }
+pub fn count(bytes: &[u8; Tables::BYTES], k: usize) -> usize
+    requires { (k < bracket_limit) }
     ensures { (result ≡ count_field bytes.now k) × (result < byte_limit) }
 {
     byte(bytes, Tables::ROWS + k * Tables::ROW + COUNT)
 }
 
 // How many parts it has.
-pub fn parts(bytes: &[u8], k: usize) -> usize
-    requires { (bytes_size ≤ length bytes.now) × (k < bracket_limit) }
+pub fn parts(bytes: &[u8; Tables::BYTES], k: usize) -> usize
+    requires { (k < bracket_limit) }
     ensures { (result ≡ parts_field bytes.now k) × (result < byte_limit) }
 {
     byte(bytes, Tables::ROWS + k * Tables::ROW + PARTS)
 }
 
 // 0 for no score, else one more than its decimals.
-pub fn score(bytes: &[u8], k: usize) -> usize
-    requires { (bytes_size ≤ length bytes.now) × (k < bracket_limit) }
+pub fn score(bytes: &[u8; Tables::BYTES], k: usize) -> usize
+    requires { (k < bracket_limit) }
     ensures { (result ≡ score_field bytes.now k) × (result < byte_limit) }
 {
     byte(bytes, Tables::ROWS + k * Tables::ROW + SCORE)
 }
 
 // The code of the value of its part j.
-pub fn value(bytes: &[u8], k: usize, j: usize) -> usize
-    requires { (bytes_size ≤ length bytes.now) × (k < bracket_limit) × (j < part_limit) }
+pub fn value(bytes: &[u8; Tables::BYTES], k: usize, j: usize) -> usize
+    requires { (k < bracket_limit) × (j < part_limit) }
     ensures { (result ≡ value_field bytes.now k j) × (result < byte_limit) }
 {
     byte(
@@ -166,8 +164,8 @@ pub fn value(bytes: &[u8], k: usize, j: usize) -> usize
 }
 
 // The code of its key.
-pub fn key(bytes: &[u8], k: usize, j: usize) -> usize
-    requires { (bytes_size ≤ length bytes.now) × (k < bracket_limit) × (j < part_limit) }
+pub fn key(bytes: &[u8; Tables::BYTES], k: usize, j: usize) -> usize
+    requires { (k < bracket_limit) × (j < part_limit) }
     ensures { (result ≡ key_field bytes.now k j) × (result < byte_limit) }
 {
     byte(
@@ -177,8 +175,8 @@ pub fn key(bytes: &[u8], k: usize, j: usize) -> usize
 }
 
 // The decimals of its mass.
-pub fn decimals(bytes: &[u8], k: usize, j: usize) -> usize
-    requires { (bytes_size ≤ length bytes.now) × (k < bracket_limit) × (j < part_limit) }
+pub fn decimals(bytes: &[u8; Tables::BYTES], k: usize, j: usize) -> usize
+    requires { (k < bracket_limit) × (j < part_limit) }
     ensures { (result ≡ decimals_field bytes.now k j) × (result < byte_limit) }
 {
     byte(
@@ -188,8 +186,8 @@ pub fn decimals(bytes: &[u8], k: usize, j: usize) -> usize
 }
 
 // The length of its text.
-pub fn text_length(bytes: &[u8], k: usize, j: usize) -> usize
-    requires { (bytes_size ≤ length bytes.now) × (k < bracket_limit) × (j < part_limit) }
+pub fn text_length(bytes: &[u8; Tables::BYTES], k: usize, j: usize) -> usize
+    requires { (k < bracket_limit) × (j < part_limit) }
     ensures { (result ≡ text_field bytes.now k j) × (result < byte_limit) }
 {
     byte(
@@ -199,8 +197,8 @@ pub fn text_length(bytes: &[u8], k: usize, j: usize) -> usize
 }
 
 // The length of its label.
-pub fn label_length(bytes: &[u8], k: usize, j: usize) -> usize
-    requires { (bytes_size ≤ length bytes.now) × (k < bracket_limit) × (j < part_limit) }
+pub fn label_length(bytes: &[u8; Tables::BYTES], k: usize, j: usize) -> usize
+    requires { (k < bracket_limit) × (j < part_limit) }
     ensures { (result ≡ label_field bytes.now k j) × (result < byte_limit) }
 {
     byte(
@@ -210,8 +208,8 @@ pub fn label_length(bytes: &[u8], k: usize, j: usize) -> usize
 }
 
 // Where its text begins among the texts, and its label behind that.
-pub fn offset(bytes: &[u8], k: usize, j: usize) -> usize
-    requires { (bytes_size ≤ length bytes.now) × (k < bracket_limit) × (j < part_limit) }
+pub fn offset(bytes: &[u8; Tables::BYTES], k: usize, j: usize) -> usize
+    requires { (k < bracket_limit) × (j < part_limit) }
     ensures { (result ≡ offset_field bytes.now k j) × (result < wide_limit) }
 {
     two_bytes(
@@ -221,8 +219,8 @@ pub fn offset(bytes: &[u8], k: usize, j: usize) -> usize
 }
 
 // How many places bracket k has.
-pub fn places(bytes: &[u8], k: usize) -> usize
-    requires { (bytes_size ≤ length bytes.now) × (k < bracket_limit) }
+pub fn places(bytes: &[u8; Tables::BYTES], k: usize) -> usize
+    requires { (k < bracket_limit) }
     ensures { (result ≡ places_field bytes.now k) × (result < byte_limit) }
 {
     byte(
@@ -232,24 +230,24 @@ pub fn places(bytes: &[u8], k: usize) -> usize
 }
 
 // The site of its place j.
-pub fn site(bytes: &[u8], k: usize, j: usize) -> u8
-    requires { (bytes_size ≤ length bytes.now) × (k < bracket_limit) × (j < place_limit) }
+pub fn site(bytes: &[u8; Tables::BYTES], k: usize, j: usize) -> u8
+    requires { (k < bracket_limit) × (j < place_limit) }
     ensures { result ≡ site_field bytes.now k j }
 {
     bytes[Tables::ROWS + k * Tables::ROW + Tables::HEAD + PLACES + 1 + j]
 }
 
 // Its mass.
-pub fn mass(numbers: &[i64], k: usize, j: usize) -> i64
-    requires { (numbers_size ≤ length numbers.now) × (k < bracket_limit) × (j < part_limit) }
+pub fn mass(numbers: &[i64; Tables::NUMBERS], k: usize, j: usize) -> i64
+    requires { (k < bracket_limit) × (j < part_limit) }
     ensures { result ≡ mass_field numbers.now k j }
 {
     numbers[k * Tables::MASSES + j]
 }
 
 // The score of bracket k.
-pub fn score_number(numbers: &[i64], k: usize) -> i64
-    requires { (numbers_size ≤ length numbers.now) × (k < bracket_limit) }
+pub fn score_number(numbers: &[i64; Tables::NUMBERS], k: usize) -> i64
+    requires { (k < bracket_limit) }
     ensures { result ≡ score_number numbers.now k }
 {
     numbers[k * Tables::MASSES + Tables::PARTS]
@@ -258,8 +256,8 @@ pub fn score_number(numbers: &[i64], k: usize) -> i64
 // ---- writing
 
 // The numbers of residues and brackets.
-pub fn put_counts(bytes: &mut [u8], residues: usize, brackets: usize)
-    requires { (bytes_size ≤ length bytes.old) × (residues ≤ residue_limit) × (brackets ≤ bracket_limit) }
+pub fn put_counts(bytes: &mut [u8; Tables::BYTES], residues: usize, brackets: usize)
+    requires { (residues ≤ residue_limit) × (brackets ≤ bracket_limit) }
     ensures { bytes.new ≡ sets bytes.old residues_at (counts_row residues brackets) }
 {
     bytes[RESIDUES] = (residues % BYTE) as u8;
@@ -268,8 +266,8 @@ pub fn put_counts(bytes: &mut [u8], residues: usize, brackets: usize)
 }
 
 // The letter of residue i and the code of its section.
-pub fn put_residue(bytes: &mut [u8], i: usize, letter: u8, section: u8)
-    requires { (bytes_size ≤ length bytes.old) × (i < residue_limit) }
+pub fn put_residue(bytes: &mut [u8; Tables::BYTES], i: usize, letter: u8, section: u8)
+    requires { (i < residue_limit) }
     ensures { bytes.new ≡ set (set bytes.old (letters_at + i) letter) (sections_at + i) section }
 {
     bytes[Tables::LETTERS + i] = letter;
@@ -278,7 +276,7 @@ pub fn put_residue(bytes: &mut [u8], i: usize, letter: u8, section: u8)
 
 // The head of bracket k's row.
 pub fn put_head(
-    bytes: &mut [u8],
+    bytes: &mut [u8; Tables::BYTES],
     k: usize,
     kind: u8,
     first: usize,
@@ -287,7 +285,7 @@ pub fn put_head(
     parts: u8,
     score: u8,
 )
-    requires { (bytes_size ≤ length bytes.old) × (k < bracket_limit) × (first < position_limit) × (last < position_limit) }
+    requires { (k < bracket_limit) × (first < position_limit) × (last < position_limit) }
     ensures { bytes.new ≡ sets bytes.old (row_at k) (head_row kind first last count parts score) }
 {
     let at = Tables::ROWS + k * Tables::ROW;
@@ -302,16 +300,16 @@ pub fn put_head(
 }
 
 // Its kind alone.
-pub fn put_kind(bytes: &mut [u8], k: usize, kind: u8)
-    requires { (bytes_size ≤ length bytes.old) × (k < bracket_limit) }
+pub fn put_kind(bytes: &mut [u8; Tables::BYTES], k: usize, kind: u8)
+    requires { (k < bracket_limit) }
     ensures { bytes.new ≡ set bytes.old (row_at k) kind }
 {
     bytes[Tables::ROWS + k * Tables::ROW] = kind;
 }
 
 // Its count alone.
-pub fn put_count(bytes: &mut [u8], k: usize, count: u8)
-    requires { (bytes_size ≤ length bytes.old) × (k < bracket_limit) }
+pub fn put_count(bytes: &mut [u8; Tables::BYTES], k: usize, count: u8)
+    requires { (k < bracket_limit) }
     ensures { bytes.new ≡ set bytes.old (count_at k) count }
 {
     bytes[Tables::ROWS + k * Tables::ROW + COUNT] = count;
@@ -319,7 +317,7 @@ pub fn put_count(bytes: &mut [u8], k: usize, count: u8)
 
 // The row of its part j.
 pub fn put_part(
-    bytes: &mut [u8],
+    bytes: &mut [u8; Tables::BYTES],
     k: usize,
     j: usize,
     value: u8,
@@ -329,7 +327,7 @@ pub fn put_part(
     label: u8,
     offset: usize,
 )
-    requires { (bytes_size ≤ length bytes.old) × (k < bracket_limit) × (j < part_limit) × (offset < wide_limit) }
+    requires { (k < bracket_limit) × (j < part_limit) × (offset < wide_limit) }
     ensures { bytes.new ≡ sets bytes.old (part_at k j) (part_fields value key decimals text label offset) }
 {
     let at = Tables::ROWS + k * Tables::ROW + Tables::HEAD + j * Tables::PART;
@@ -343,32 +341,32 @@ pub fn put_part(
 }
 
 // The number of bracket k's places.
-pub fn put_places(bytes: &mut [u8], k: usize, places: u8)
-    requires { (bytes_size ≤ length bytes.old) × (k < bracket_limit) }
+pub fn put_places(bytes: &mut [u8; Tables::BYTES], k: usize, places: u8)
+    requires { (k < bracket_limit) }
     ensures { bytes.new ≡ set bytes.old (places_at k) places }
 {
     bytes[Tables::ROWS + k * Tables::ROW + Tables::HEAD + PLACES] = places;
 }
 
 // The site of its place j.
-pub fn put_site(bytes: &mut [u8], k: usize, j: usize, site: u8)
-    requires { (bytes_size ≤ length bytes.old) × (k < bracket_limit) × (j < place_limit) }
+pub fn put_site(bytes: &mut [u8; Tables::BYTES], k: usize, j: usize, site: u8)
+    requires { (k < bracket_limit) × (j < place_limit) }
     ensures { bytes.new ≡ set bytes.old (site_at k j) site }
 {
     bytes[Tables::ROWS + k * Tables::ROW + Tables::HEAD + PLACES + 1 + j] = site;
 }
 
 // Its mass.
-pub fn put_mass(numbers: &mut [i64], k: usize, j: usize, mass: i64)
-    requires { (numbers_size ≤ length numbers.old) × (k < bracket_limit) × (j < part_limit) }
+pub fn put_mass(numbers: &mut [i64; Tables::NUMBERS], k: usize, j: usize, mass: i64)
+    requires { (k < bracket_limit) × (j < part_limit) }
     ensures { numbers.new ≡ set numbers.old (mass_at k j) mass }
 {
     numbers[k * Tables::MASSES + j] = mass;
 }
 
 // The score of bracket k.
-pub fn put_score(numbers: &mut [i64], k: usize, score: i64)
-    requires { (numbers_size ≤ length numbers.old) × (k < bracket_limit) }
+pub fn put_score(numbers: &mut [i64; Tables::NUMBERS], k: usize, score: i64)
+    requires { (k < bracket_limit) }
     ensures { numbers.new ≡ set numbers.old (mass_at k part_limit) score }
 {
     numbers[k * Tables::MASSES + Tables::PARTS] = score;

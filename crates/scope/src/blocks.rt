@@ -2,7 +2,7 @@
 use crate::tables::Tables;
 
 // What stands at the front of a block: its kind, how many bytes of content it has, the block behind it in its entry, and the entry's number.
-#[derive(Drop)]
+#[derive(Clone, Copy, Debug, PartialEq, Eq)]
 pub struct Block {
     pub kind: u8,
     pub used: usize,

@@ -7,7 +7,7 @@ use crate::answers::{Ledger, Placement};
 use crate::blocks::Block;
 
 // How much the tables of a line hold: residues, brackets, bytes of text.
-#[derive(Drop)]
+#[derive(Clone, Copy, Debug, PartialEq, Eq)]
 pub struct Tables {
     pub residues: usize,
     pub brackets: usize,
@@ -79,7 +79,7 @@ impl Tables {
 }
 
 // A mass or a score: its value in millionths and its count of decimals.
-#[derive(Drop)]
+#[derive(Clone, Copy, Debug, PartialEq, Eq)]
 pub struct Number {
     pub millionths: i64,
     pub decimals: u8,
@@ -104,7 +104,7 @@ impl Number {
 
 // All limits and sizes in one struct, for callers in other languages.
 #[repr(C)]
-#[derive(Drop)]
+#[derive(Clone, Copy, Debug, PartialEq, Eq)]
 pub struct Limits {
     pub line: usize,
     pub residues: usize,

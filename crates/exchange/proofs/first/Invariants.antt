@@ -1,12 +1,8 @@
 -- `exchange::first` meets its contract. The loop's invariant: the first m floaters all stand. One that cannot be placed beside those before it leaves no
 -- placement at all; once all stand, `settle` from the first floater on gives the least.
-use Prim.Native.Nat.{◌≤◌, ◌-◌}
 use Rattle.placement_laws.specs.Standing.{place, Full}
 use Rattle.exchange.specs.Table.{may_from}
 use Rattle.exchange.proofs.first.Given as goal
 
 abbrev pub invariant-loop-m : goal.invariant-loop-m
-invariant-loop-m l = (l.m ≤ l.k) × Full (may_from l.tab l.lows.at) l.m (place l.w.at)
-
-abbrev pub decreases-loop-m : goal.decreases-loop-m
-decreases-loop-m l = l.k - l.m
+invariant-loop-m l = Full (may_from l.tab l.lows) l.m (place l.w.at)

@@ -1,13 +1,9 @@
 -- `exchange::lowest` meets its contract. The loop's invariant: no floater below s may stand below its least position.
 use mathlib.Core.Path.{◌≡◌}
-use Prim.Native.Nat.{◌≤◌, ◌-◌}
 use lib.ListN.{length}
 use Rattle.scope.specs.Limits.{copy_limit}
 use Rattle.exchange.specs.Table.{Lowest}
 use Rattle.exchange.proofs.lowest.Given as goal
 
 abbrev pub invariant-loop-s : goal.invariant-loop-s
-invariant-loop-s l = (l.s ≤ l.k) × (length l.lows.at ≡ copy_limit) × Lowest l.tab l.s l.lows.at
-
-abbrev pub decreases-loop-s : goal.decreases-loop-s
-decreases-loop-s l = l.k - l.s
+invariant-loop-s l = (length l.lows ≡ copy_limit) × Lowest l.tab l.s l.lows

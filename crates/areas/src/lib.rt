@@ -10,6 +10,11 @@ ghost use Rattle.scope.specs.Layout.{bytes_size, numbers_size, residues_at, lett
 use scope::answers::Placement;
 use scope::tables::Tables;
 
+// The two lent areas, of their fixed sizes: bytes, and whole numbers of 64 bits.
+pub type Bytes = [u8; Tables::BYTES];
+
+pub type Numbers = [i64; Tables::NUMBERS];
+
 // The floaters: how many there are, the number of each one's bracket, and which of its copies it is, from 1.
 #[derive(Clone, Copy)]
 pub struct Floaters {
@@ -58,7 +63,7 @@ pub fn wide(b: u8) -> usize
     b as usize
 }
 
-fn byte(bytes: &[u8], at: usize) -> usize
+fn byte(bytes: &Bytes, at: usize) -> usize
     requires { at < length bytes.now }
     ensures { (result ≡ byte_at bytes.now at) × (result < byte_limit) }
 {
@@ -66,7 +71,7 @@ fn byte(bytes: &[u8], at: usize) -> usize
 }
 
 // The number in two bytes, low byte first.
-fn two_bytes(bytes: &[u8], at: usize) -> usize
+fn two_bytes(bytes: &Bytes, at: usize) -> usize
     requires { at + 1 < length bytes.now }
     ensures { (result ≡ wide_at bytes.now at) × (result < wide_limit) }
 {
@@ -76,84 +81,84 @@ fn two_bytes(bytes: &[u8], at: usize) -> usize
 }
 
 // How many residues there are.
-pub fn residues(bytes: &[u8; Tables::BYTES]) -> usize
+pub fn residues(bytes: &Bytes) -> usize
     ensures { (result ≡ residues_field bytes.now) × (result < wide_limit) }
 {
     two_bytes(bytes, RESIDUES)
 }
 
 // How many brackets there are.
-pub fn brackets(bytes: &[u8; Tables::BYTES]) -> usize
+pub fn brackets(bytes: &Bytes) -> usize
     ensures { (result ≡ brackets_field bytes.now) × (result < byte_limit) }
 {
     byte(bytes, BRACKETS)
 }
 
 // The letter of residue i, counted from 0, and the code of its section.
-pub fn letter(bytes: &[u8; Tables::BYTES], i: usize) -> u8
-    requires { (i < residue_limit) }
+pub fn letter(bytes: &Bytes, i: usize) -> u8
+    requires { i < residue_limit }
     ensures { result ≡ letter_field bytes.now i }
 {
     bytes[Tables::LETTERS + i]
 }
 
-pub fn section(bytes: &[u8; Tables::BYTES], i: usize) -> usize
-    requires { (i < residue_limit) }
+pub fn section(bytes: &Bytes, i: usize) -> usize
+    requires { i < residue_limit }
     ensures { (result ≡ section_field bytes.now i) × (result < byte_limit) }
 {
     byte(bytes, Tables::SECTIONS + i)
 }
 
 // The code of the kind of bracket k.
-pub fn kind(bytes: &[u8; Tables::BYTES], k: usize) -> usize
-    requires { (k < bracket_limit) }
+pub fn kind(bytes: &Bytes, k: usize) -> usize
+    requires { k < bracket_limit }
     ensures { (result ≡ kind_field bytes.now k) × (result < byte_limit) }
 {
     byte(bytes, Tables::ROWS + k * Tables::ROW)
 }
 
 // The first position it stands on.
-pub fn first(bytes: &[u8; Tables::BYTES], k: usize) -> usize
-    requires { (k < bracket_limit) }
+pub fn first(bytes: &Bytes, k: usize) -> usize
+    requires { k < bracket_limit }
     ensures { (result ≡ first_field bytes.now k) × (result < wide_limit) }
 {
     two_bytes(bytes, Tables::ROWS + k * Tables::ROW + FIRST)
 }
 
 // The last.
-pub fn last(bytes: &[u8; Tables::BYTES], k: usize) -> usize
-    requires { (k < bracket_limit) }
+pub fn last(bytes: &Bytes, k: usize) -> usize
+    requires { k < bracket_limit }
     ensures { (result ≡ last_field bytes.now k) × (result < wide_limit) }
 {
     two_bytes(bytes, Tables::ROWS + k * Tables::ROW + LAST)
 }
 
 // Its count.
-pub fn count(bytes: &[u8; Tables::BYTES], k: usize) -> usize
-    requires { (k < bracket_limit) }
+pub fn count(bytes: &Bytes, k: usize) -> usize
+    requires { k < bracket_limit }
     ensures { (result ≡ count_field bytes.now k) × (result < byte_limit) }
 {
     byte(bytes, Tables::ROWS + k * Tables::ROW + COUNT)
 }
 
 // How many parts it has.
-pub fn parts(bytes: &[u8; Tables::BYTES], k: usize) -> usize
-    requires { (k < bracket_limit) }
+pub fn parts(bytes: &Bytes, k: usize) -> usize
+    requires { k < bracket_limit }
     ensures { (result ≡ parts_field bytes.now k) × (result < byte_limit) }
 {
     byte(bytes, Tables::ROWS + k * Tables::ROW + PARTS)
 }
 
 // 0 for no score, else one more than its decimals.
-pub fn score(bytes: &[u8; Tables::BYTES], k: usize) -> usize
-    requires { (k < bracket_limit) }
+pub fn score(bytes: &Bytes, k: usize) -> usize
+    requires { k < bracket_limit }
     ensures { (result ≡ score_field bytes.now k) × (result < byte_limit) }
 {
     byte(bytes, Tables::ROWS + k * Tables::ROW + SCORE)
 }
 
 // The code of the value of its part j.
-pub fn value(bytes: &[u8; Tables::BYTES], k: usize, j: usize) -> usize
+pub fn value(bytes: &Bytes, k: usize, j: usize) -> usize
     requires { (k < bracket_limit) × (j < part_limit) }
     ensures { (result ≡ value_field bytes.now k j) × (result < byte_limit) }
 {
@@ -164,7 +169,7 @@ pub fn value(bytes: &[u8; Tables::BYTES], k: usize, j: usize) -> usize
 }
 
 // The code of its key.
-pub fn key(bytes: &[u8; Tables::BYTES], k: usize, j: usize) -> usize
+pub fn key(bytes: &Bytes, k: usize, j: usize) -> usize
     requires { (k < bracket_limit) × (j < part_limit) }
     ensures { (result ≡ key_field bytes.now k j) × (result < byte_limit) }
 {
@@ -175,7 +180,7 @@ pub fn key(bytes: &[u8; Tables::BYTES], k: usize, j: usize) -> usize
 }
 
 // The decimals of its mass.
-pub fn decimals(bytes: &[u8; Tables::BYTES], k: usize, j: usize) -> usize
+pub fn decimals(bytes: &Bytes, k: usize, j: usize) -> usize
     requires { (k < bracket_limit) × (j < part_limit) }
     ensures { (result ≡ decimals_field bytes.now k j) × (result < byte_limit) }
 {
@@ -186,7 +191,7 @@ pub fn decimals(bytes: &[u8; Tables::BYTES], k: usize, j: usize) -> usize
 }
 
 // The length of its text.
-pub fn text_length(bytes: &[u8; Tables::BYTES], k: usize, j: usize) -> usize
+pub fn text_length(bytes: &Bytes, k: usize, j: usize) -> usize
     requires { (k < bracket_limit) × (j < part_limit) }
     ensures { (result ≡ text_field bytes.now k j) × (result < byte_limit) }
 {
@@ -197,7 +202,7 @@ pub fn text_length(bytes: &[u8; Tables::BYTES], k: usize, j: usize) -> usize
 }
 
 // The length of its label.
-pub fn label_length(bytes: &[u8; Tables::BYTES], k: usize, j: usize) -> usize
+pub fn label_length(bytes: &Bytes, k: usize, j: usize) -> usize
     requires { (k < bracket_limit) × (j < part_limit) }
     ensures { (result ≡ label_field bytes.now k j) × (result < byte_limit) }
 {
@@ -208,7 +213,7 @@ pub fn label_length(bytes: &[u8; Tables::BYTES], k: usize, j: usize) -> usize
 }
 
 // Where its text begins among the texts, and its label behind that.
-pub fn offset(bytes: &[u8; Tables::BYTES], k: usize, j: usize) -> usize
+pub fn offset(bytes: &Bytes, k: usize, j: usize) -> usize
     requires { (k < bracket_limit) × (j < part_limit) }
     ensures { (result ≡ offset_field bytes.now k j) × (result < wide_limit) }
 {
@@ -219,8 +224,8 @@ pub fn offset(bytes: &[u8; Tables::BYTES], k: usize, j: usize) -> usize
 }
 
 // How many places bracket k has.
-pub fn places(bytes: &[u8; Tables::BYTES], k: usize) -> usize
-    requires { (k < bracket_limit) }
+pub fn places(bytes: &Bytes, k: usize) -> usize
+    requires { k < bracket_limit }
     ensures { (result ≡ places_field bytes.now k) × (result < byte_limit) }
 {
     byte(
@@ -230,7 +235,7 @@ pub fn places(bytes: &[u8; Tables::BYTES], k: usize) -> usize
 }
 
 // The site of its place j.
-pub fn site(bytes: &[u8; Tables::BYTES], k: usize, j: usize) -> u8
+pub fn site(bytes: &Bytes, k: usize, j: usize) -> u8
     requires { (k < bracket_limit) × (j < place_limit) }
     ensures { result ≡ site_field bytes.now k j }
 {
@@ -238,7 +243,7 @@ pub fn site(bytes: &[u8; Tables::BYTES], k: usize, j: usize) -> u8
 }
 
 // Its mass.
-pub fn mass(numbers: &[i64; Tables::NUMBERS], k: usize, j: usize) -> i64
+pub fn mass(numbers: &Numbers, k: usize, j: usize) -> i64
     requires { (k < bracket_limit) × (j < part_limit) }
     ensures { result ≡ mass_field numbers.now k j }
 {
@@ -246,8 +251,8 @@ pub fn mass(numbers: &[i64; Tables::NUMBERS], k: usize, j: usize) -> i64
 }
 
 // The score of bracket k.
-pub fn score_number(numbers: &[i64; Tables::NUMBERS], k: usize) -> i64
-    requires { (k < bracket_limit) }
+pub fn score_number(numbers: &Numbers, k: usize) -> i64
+    requires { k < bracket_limit }
     ensures { result ≡ score_number numbers.now k }
 {
     numbers[k * Tables::MASSES + Tables::PARTS]
@@ -256,7 +261,7 @@ pub fn score_number(numbers: &[i64; Tables::NUMBERS], k: usize) -> i64
 // ---- writing
 
 // The numbers of residues and brackets.
-pub fn put_counts(bytes: &mut [u8; Tables::BYTES], residues: usize, brackets: usize)
+pub fn put_counts(bytes: &mut Bytes, residues: usize, brackets: usize)
     requires { (residues ≤ residue_limit) × (brackets ≤ bracket_limit) }
     ensures { bytes.new ≡ sets bytes.old residues_at (counts_row residues brackets) }
 {
@@ -266,8 +271,8 @@ pub fn put_counts(bytes: &mut [u8; Tables::BYTES], residues: usize, brackets: us
 }
 
 // The letter of residue i and the code of its section.
-pub fn put_residue(bytes: &mut [u8; Tables::BYTES], i: usize, letter: u8, section: u8)
-    requires { (i < residue_limit) }
+pub fn put_residue(bytes: &mut Bytes, i: usize, letter: u8, section: u8)
+    requires { i < residue_limit }
     ensures { bytes.new ≡ set (set bytes.old (letters_at + i) letter) (sections_at + i) section }
 {
     bytes[Tables::LETTERS + i] = letter;
@@ -276,7 +281,7 @@ pub fn put_residue(bytes: &mut [u8; Tables::BYTES], i: usize, letter: u8, sectio
 
 // The head of bracket k's row.
 pub fn put_head(
-    bytes: &mut [u8; Tables::BYTES],
+    bytes: &mut Bytes,
     k: usize,
     kind: u8,
     first: usize,
@@ -300,16 +305,16 @@ pub fn put_head(
 }
 
 // Its kind alone.
-pub fn put_kind(bytes: &mut [u8; Tables::BYTES], k: usize, kind: u8)
-    requires { (k < bracket_limit) }
+pub fn put_kind(bytes: &mut Bytes, k: usize, kind: u8)
+    requires { k < bracket_limit }
     ensures { bytes.new ≡ set bytes.old (row_at k) kind }
 {
     bytes[Tables::ROWS + k * Tables::ROW] = kind;
 }
 
 // Its count alone.
-pub fn put_count(bytes: &mut [u8; Tables::BYTES], k: usize, count: u8)
-    requires { (k < bracket_limit) }
+pub fn put_count(bytes: &mut Bytes, k: usize, count: u8)
+    requires { k < bracket_limit }
     ensures { bytes.new ≡ set bytes.old (count_at k) count }
 {
     bytes[Tables::ROWS + k * Tables::ROW + COUNT] = count;
@@ -317,7 +322,7 @@ pub fn put_count(bytes: &mut [u8; Tables::BYTES], k: usize, count: u8)
 
 // The row of its part j.
 pub fn put_part(
-    bytes: &mut [u8; Tables::BYTES],
+    bytes: &mut Bytes,
     k: usize,
     j: usize,
     value: u8,
@@ -341,15 +346,15 @@ pub fn put_part(
 }
 
 // The number of bracket k's places.
-pub fn put_places(bytes: &mut [u8; Tables::BYTES], k: usize, places: u8)
-    requires { (k < bracket_limit) }
+pub fn put_places(bytes: &mut Bytes, k: usize, places: u8)
+    requires { k < bracket_limit }
     ensures { bytes.new ≡ set bytes.old (places_at k) places }
 {
     bytes[Tables::ROWS + k * Tables::ROW + Tables::HEAD + PLACES] = places;
 }
 
 // The site of its place j.
-pub fn put_site(bytes: &mut [u8; Tables::BYTES], k: usize, j: usize, site: u8)
+pub fn put_site(bytes: &mut Bytes, k: usize, j: usize, site: u8)
     requires { (k < bracket_limit) × (j < place_limit) }
     ensures { bytes.new ≡ set bytes.old (site_at k j) site }
 {
@@ -357,7 +362,7 @@ pub fn put_site(bytes: &mut [u8; Tables::BYTES], k: usize, j: usize, site: u8)
 }
 
 // Its mass.
-pub fn put_mass(numbers: &mut [i64; Tables::NUMBERS], k: usize, j: usize, mass: i64)
+pub fn put_mass(numbers: &mut Numbers, k: usize, j: usize, mass: i64)
     requires { (k < bracket_limit) × (j < part_limit) }
     ensures { numbers.new ≡ set numbers.old (mass_at k j) mass }
 {
@@ -365,8 +370,8 @@ pub fn put_mass(numbers: &mut [i64; Tables::NUMBERS], k: usize, j: usize, mass: 
 }
 
 // The score of bracket k.
-pub fn put_score(numbers: &mut [i64; Tables::NUMBERS], k: usize, score: i64)
-    requires { (k < bracket_limit) }
+pub fn put_score(numbers: &mut Numbers, k: usize, score: i64)
+    requires { k < bracket_limit }
     ensures { numbers.new ≡ set numbers.old (mass_at k part_limit) score }
 {
     numbers[k * Tables::MASSES + Tables::PARTS] = score;

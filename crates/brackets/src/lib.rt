@@ -13,6 +13,7 @@ ghost use Rattle.brackets.specs.Row.{Row, Position};
 ghost use Rattle.brackets.specs.Content.{content_in};
 ghost use Rattle.brackets.specs.Reached.{ReachedPut};
 
+use areas::Bytes;
 use scope::grammar::{Key, Kind};
 use scope::tables::Tables;
 
@@ -26,7 +27,7 @@ pub enum Content {
 }
 
 // How many parts there are.
-pub fn parts(bytes: &[u8], k: usize) -> usize
+pub fn parts(bytes: &Bytes, k: usize) -> usize
     requires { Row bytes.now k }
     ensures { (result ≡ parts_field bytes.now k) × (result ≤ part_limit) }
 {
@@ -35,7 +36,7 @@ pub fn parts(bytes: &[u8], k: usize) -> usize
 
 // The count.
 #[tactic(auto, unfolding(scope::specs::Layout::bracket_in))]
-pub fn count(bytes: &[u8], k: usize) -> usize
+pub fn count(bytes: &Bytes, k: usize) -> usize
     requires { Row bytes.now k }
     ensures { ((ns : List ℤ) → result ≡ (bracket_in bytes.now ns k).count) × (result < byte_limit) }
 {
@@ -59,7 +60,7 @@ fn kind_of(code: usize) -> Kind
 
 // The kind.
 #[tactic(auto, unfolding(scope::specs::Layout::bracket_in))]
-pub fn kind(bytes: &[u8], k: usize) -> Kind
+pub fn kind(bytes: &Bytes, k: usize) -> Kind
     requires { Row bytes.now k }
     ensures { (ns : List ℤ) → result ≡ (bracket_in bytes.now ns k).kind }
 {
@@ -79,7 +80,7 @@ fn content_of(code: usize) -> Content
 }
 
 // What part j has as its value.
-pub fn content_at(bytes: &[u8], k: usize, j: usize) -> Content
+pub fn content_at(bytes: &Bytes, k: usize, j: usize) -> Content
     requires { (Row bytes.now k) × (j < part_limit) }
     ensures { result ≡ content_in (value_field bytes.now k j) }
 {
@@ -87,7 +88,7 @@ pub fn content_at(bytes: &[u8], k: usize, j: usize) -> Content
 }
 
 // Whether all its parts are INFO.
-fn only_info(bytes: &[u8], k: usize) -> bool
+fn only_info(bytes: &Bytes, k: usize) -> bool
     requires { Row bytes.now k }
     ensures { (ns : List ℤ) → result ≡ only_info (bracket_in bytes.now ns k) }
 {
@@ -102,7 +103,7 @@ fn only_info(bytes: &[u8], k: usize) -> bool
 }
 
 // Whether it is a reference.
-pub fn is_referring(bytes: &[u8], k: usize) -> bool
+pub fn is_referring(bytes: &Bytes, k: usize) -> bool
     requires { Row bytes.now k }
     ensures { (ns : List ℤ) → result ≡ is_referring (bracket_in bytes.now ns k) }
 {
@@ -110,7 +111,7 @@ pub fn is_referring(bytes: &[u8], k: usize) -> bool
 }
 
 // Whether a part of it has a label.
-pub fn is_labelled(bytes: &[u8], k: usize) -> bool
+pub fn is_labelled(bytes: &Bytes, k: usize) -> bool
     requires { Row bytes.now k }
     ensures { (ns : List ℤ) → result ≡ is_labelled (bracket_in bytes.now ns k) }
 {
@@ -125,7 +126,7 @@ pub fn is_labelled(bytes: &[u8], k: usize) -> bool
 }
 
 // Whether it is a modification.
-pub fn is_modification(bytes: &[u8], k: usize) -> bool
+pub fn is_modification(bytes: &Bytes, k: usize) -> bool
     requires { Row bytes.now k }
     ensures { (ns : List ℤ) → result ≡ is_modification (bracket_in bytes.now ns k) }
 {
@@ -141,7 +142,7 @@ fn on_one_position(kind: Kind) -> bool
 
 // Whether it is placed.
 #[tactic(auto, unfolding(scope::specs::Positions::is_placed))]
-pub fn is_placed(bytes: &[u8], k: usize) -> bool
+pub fn is_placed(bytes: &Bytes, k: usize) -> bool
     requires { Row bytes.now k }
     ensures { (ns : List ℤ) → result ≡ is_placed (bracket_in bytes.now ns k) }
 {
@@ -149,7 +150,7 @@ pub fn is_placed(bytes: &[u8], k: usize) -> bool
 }
 
 // Whether it is a declared modification: one that is placed wherever a place of it names what stands there.
-pub fn is_declared(bytes: &[u8], k: usize) -> bool
+pub fn is_declared(bytes: &Bytes, k: usize) -> bool
     requires { Row bytes.now k }
     ensures { (ns : List ℤ) → result ≡ is_declared (bracket_in bytes.now ns k).kind && is_modification (bracket_in bytes.now ns k) }
 {
@@ -157,7 +158,7 @@ pub fn is_declared(bytes: &[u8], k: usize) -> bool
 }
 
 // Whether one of its places is this site.
-fn is_named(bytes: &[u8], k: usize, site: u8) -> bool
+fn is_named(bytes: &Bytes, k: usize, site: u8) -> bool
     requires { Row bytes.now k }
     ensures { (ns : List ℤ) → result ≡ member site (map (λ p. p.site) (bracket_in bytes.now ns k).places) }
 {
@@ -172,7 +173,7 @@ fn is_named(bytes: &[u8], k: usize, site: u8) -> bool
 }
 
 // What stands at position x.
-fn site_at(bytes: &[u8], x: usize) -> u8
+fn site_at(bytes: &Bytes, x: usize) -> u8
     requires { Position bytes.now x }
     ensures { (ns : List ℤ) → result ≡ get_or (sites (tables_in bytes.now ns)) x 0 }
 {
@@ -186,7 +187,7 @@ fn site_at(bytes: &[u8], x: usize) -> u8
 }
 
 // Whether one of the places of bracket k names what stands at position x.
-pub fn names(bytes: &[u8], k: usize, x: usize) -> bool
+pub fn names(bytes: &Bytes, k: usize, x: usize) -> bool
     requires { (Row bytes.now k) × (Position bytes.now x) }
     ensures { (ns : List ℤ) → result ≡ names (tables_in bytes.now ns) (bracket_in bytes.now ns k).places x }
 {
@@ -194,7 +195,7 @@ pub fn names(bytes: &[u8], k: usize, x: usize) -> bool
 }
 
 // How many positions they name.
-pub fn reached(bytes: &[u8], k: usize) -> usize
+pub fn reached(bytes: &Bytes, k: usize) -> usize
     requires { (Row bytes.now k) × (residues_field bytes.now ≤ residue_limit) }
     ensures { ((ns : List ℤ) → result ≡ length (reached (tables_in bytes.now ns) (bracket_in bytes.now ns k))) × (result ≤ position_limit) }
 {
@@ -209,7 +210,7 @@ pub fn reached(bytes: &[u8], k: usize) -> usize
 }
 
 // The positions that they name, ascending, into the first entries of a slice: how many.
-pub fn put_reached(bytes: &[u8], k: usize, out: &mut [u16]) -> usize
+pub fn put_reached(bytes: &Bytes, k: usize, out: &mut [u16]) -> usize
     requires { (Row bytes.now k) × (residues_field bytes.now ≤ residue_limit) × (position_limit ≤ length out.old) }
     ensures { ReachedPut bytes.now k result out.old out.new }
 {
@@ -237,7 +238,7 @@ fn unlabelled_copies(kind: Kind, count: usize) -> usize
 
 // How many copies of it float.
 #[tactic(auto, unfolding(scope::specs::Modifications::copies))]
-pub fn copies_of(bytes: &[u8], k: usize) -> usize
+pub fn copies_of(bytes: &Bytes, k: usize) -> usize
     requires { Row bytes.now k }
     ensures { (ns : List ℤ) → result ≡ copies (bracket_in bytes.now ns k) }
 {

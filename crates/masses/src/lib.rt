@@ -17,7 +17,7 @@ ghost use Rattle.mass_laws.specs.Terms.{total_limit};
 ghost use Rattle.masses.specs.Tallies.{CanTally, Tallied};
 ghost use Rattle.masses.specs.Booking.{CanBook, booked, CanBookNamed, NamedBooked, CanPlace, BracketPlaced, PlacedBooked, CanPut, CanFloat, CopiesPut};
 
-use areas::{count, first, residues};
+use areas::{Bytes, Numbers, count, first, residues};
 use brackets::{
     Content, content_at, copies_of, is_declared, is_modification, is_placed, kind, names, parts,
     reached,
@@ -52,7 +52,7 @@ fn to_decimals(m: i64, decimals: usize) -> i64
 }
 
 // The mass of part j of bracket k.
-fn part_mass(bytes: &[u8], numbers: &[i64], k: usize, j: usize) -> i64
+fn part_mass(bytes: &Bytes, numbers: &Numbers, k: usize, j: usize) -> i64
     requires { ReachPart bytes.now numbers.now k j }
     ensures { result ≡ millionths (number_in (mass_field numbers.now k j) (decimals_field bytes.now k j)) }
 {
@@ -60,7 +60,7 @@ fn part_mass(bytes: &[u8], numbers: &[i64], k: usize, j: usize) -> i64
 }
 
 // Whether part j of bracket k has a mass: it is one, or a composition.
-fn has_mass(bytes: &[u8], k: usize, j: usize) -> bool
+fn has_mass(bytes: &Bytes, k: usize, j: usize) -> bool
     requires { (Row bytes.now k) × (j < part_limit) }
     ensures { result ≡ weighs (value_field bytes.now k j) }
 {
@@ -71,7 +71,7 @@ fn has_mass(bytes: &[u8], k: usize, j: usize) -> bool
 }
 
 // Whether it stands behind `Obs`.
-fn is_measured(bytes: &[u8], k: usize, j: usize) -> bool
+fn is_measured(bytes: &Bytes, k: usize, j: usize) -> bool
     requires { (Row bytes.now k) × (j < part_limit) }
     ensures { result ≡ eqb (key_field bytes.now k j) (key_code Obs) }
 {
@@ -79,7 +79,7 @@ fn is_measured(bytes: &[u8], k: usize, j: usize) -> bool
 }
 
 // "its first mass without `Obs`, else its first `Obs` mass, else none": stated, only measured, or none.
-pub fn bracket_mass(bytes: &[u8], numbers: &[i64], k: usize) -> Mass
+pub fn bracket_mass(bytes: &Bytes, numbers: &Numbers, k: usize) -> Mass
     requires { Reach bytes.now numbers.now k }
     ensures { result ≡ mass_of (bracket_in bytes.now numbers.now k) }
 {
@@ -100,7 +100,7 @@ pub fn bracket_mass(bytes: &[u8], numbers: &[i64], k: usize) -> Mass
 }
 
 // What it adds to a sum: a stated mass, and nothing else.
-fn mass_or_0(bytes: &[u8], numbers: &[i64], k: usize) -> i64
+fn mass_or_0(bytes: &Bytes, numbers: &Numbers, k: usize) -> i64
     requires { Reach bytes.now numbers.now k }
     ensures { result ≡ mass_or0 (bracket_in bytes.now numbers.now k) }
 {
@@ -128,7 +128,7 @@ fn times(n: usize, m: i64) -> i64
 }
 
 // How often bracket k counts, if it is a modification: a declared one once for each position that it reaches.
-fn counts(bytes: &[u8], k: usize) -> usize
+fn counts(bytes: &Bytes, k: usize) -> usize
     requires { (Row bytes.now k) × (residues_field bytes.now ≤ residue_limit) }
     ensures { ((ns : List ℤ) → is_modification (bracket_in bytes.now ns k) ≡ true → result ≡ times (tables_in bytes.now ns) (bracket_in bytes.now ns k)) × (result ≤ position_limit) }
 {
@@ -140,7 +140,7 @@ fn counts(bytes: &[u8], k: usize) -> usize
 }
 
 // The tally with bracket k.
-fn tally_with(bytes: &[u8], numbers: &[i64], k: usize, t: Tally) -> Tally
+fn tally_with(bytes: &Bytes, numbers: &Numbers, k: usize, t: Tally) -> Tally
     requires { CanTally bytes.now numbers.now k t.sum t.lacks }
     ensures { Tallied (tables_in bytes.now numbers.now) (bracket_in bytes.now numbers.now k) t.sum t.lacks result.sum result.lacks }
 {
@@ -161,7 +161,7 @@ fn tally_with(bytes: &[u8], numbers: &[i64], k: usize, t: Tally) -> Tally
 }
 
 // The total of the tables, or how many modifications have no stated mass.
-pub fn weigh(bytes: &[u8], numbers: &[i64]) -> Result<i64, Lacking>
+pub fn weigh(bytes: &Bytes, numbers: &Numbers) -> Result<i64, Lacking>
     requires { Bounds bytes.now numbers.now }
     ensures { result ≡ weight_of (tables_in bytes.now numbers.now) }
 {
@@ -197,7 +197,7 @@ fn book(l: &mut [i64; Ledger::POSITIONS], position: u16, m: i64)
 }
 
 // A mass is booked at every position that a place of bracket k names.
-fn book_named(bytes: &[u8], k: usize, l: &mut [i64; Ledger::POSITIONS], m: i64)
+fn book_named(bytes: &Bytes, k: usize, l: &mut [i64; Ledger::POSITIONS], m: i64)
     requires { CanBookNamed bytes.now k l.old m }
     ensures { NamedBooked bytes.now k l.old l.new m }
 {
@@ -210,7 +210,7 @@ fn book_named(bytes: &[u8], k: usize, l: &mut [i64; Ledger::POSITIONS], m: i64)
 }
 
 // What bracket k adds to the ledger where it is placed: a declared modification its mass at each position that it reaches, any other at its own.
-fn book_placed(bytes: &[u8], numbers: &[i64], k: usize, l: &mut [i64; Ledger::POSITIONS])
+fn book_placed(bytes: &Bytes, numbers: &Numbers, k: usize, l: &mut [i64; Ledger::POSITIONS])
     requires { CanPlace bytes.now numbers.now k l.old }
     ensures { BracketPlaced bytes.now numbers.now k l.old l.new }
 {
@@ -225,7 +225,7 @@ fn book_placed(bytes: &[u8], numbers: &[i64], k: usize, l: &mut [i64; Ledger::PO
 }
 
 // The ledger with the placed modifications.
-fn placed_ledger(bytes: &[u8], numbers: &[i64]) -> Ledger
+fn placed_ledger(bytes: &Bytes, numbers: &Numbers) -> Ledger
     requires { Bounds bytes.now numbers.now }
     ensures { PlacedBooked bytes.now numbers.now result.at }
 {
@@ -259,8 +259,8 @@ fn book_copies(
 
 // The floating copies of bracket k.
 fn book_bracket(
-    bytes: &[u8],
-    numbers: &[i64],
+    bytes: &Bytes,
+    numbers: &Numbers,
     k: usize,
     l: &mut [i64; Ledger::POSITIONS],
     at: [u16; Placement::COPIES],
@@ -278,7 +278,7 @@ fn book_bracket(
 }
 
 // The ledger of a placement.
-pub fn ledger_of(bytes: &[u8], numbers: &[i64], p: Placement) -> Ledger
+pub fn ledger_of(bytes: &Bytes, numbers: &Numbers, p: Placement) -> Ledger
     requires { Bounds bytes.now numbers.now }
     ensures { result.at ≡ ledger (tables_in bytes.now numbers.now) p.at }
 {

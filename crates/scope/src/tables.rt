@@ -79,7 +79,7 @@ impl Tables {
 }
 
 // A mass or a score: its value in millionths and its count of decimals.
-#[derive(Drop)]
+#[derive(Clone, Copy, Debug, PartialEq, Eq)]
 pub struct Number {
     pub millionths: i64,
     pub decimals: u8,

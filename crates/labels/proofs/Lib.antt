@@ -1,3 +1,4 @@
 pub mod Saying
 pub mod Names
 pub mod Scores
+pub mod Kept

@@ -7,7 +7,6 @@ use Prim.Native.Nat.{ℕ, ◌+◌, ◌-◌, ◌<◌, ◌≤◌}
 use native.Mathlib.Omega.{arith}
 use borrow.Author.Tests.{eq-eqb, ne_eqb, ltb-true, ltb-false}
 use lib.Dec.{ltb}
-use lib.IntN.{ℤ, pos}
 use lib.ListN.{length, get_or, drop, length-take, length-drop}
 use Rattle.basics.specs.Choice.{by_test}
 use Rattle.classes.specs.Runs.{span}
@@ -20,8 +19,11 @@ use Rattle.scope.specs.Content.{Context, Content, hashed, in_label, scoring, par
 use Rattle.scope.specs.Reading.{Held}
 use Rattle.values.specs.Says.{through}
 use Rattle.values.proofs.Through.{through_run, through_same, through_going}
-use Rattle.labels.specs.declared.LabelAt.{LabelAt}
-use Rattle.labels.specs.declared.LabelAt.TheVariants.{Stuck, Read}
+use Rattle.std.specs.Prelude.{None, Result, Ok, Err}
+use Rattle.std.specs.Prelude.{Option as Perhaps}
+use Rattle.scope.specs.declared.grammar.Stuck.{Stuck}
+use Rattle.labels.specs.declared.Label.{Label}
+use Rattle.labels.specs.declared.Score.{Score}
 use Rattle.labels.specs.Within.{SaysFrom, Scored}
 use Rattle.labels.proofs.Saying.{said_before, over, lost_there}
 
@@ -30,7 +32,7 @@ module _ (line : List ℕ) (at : ℕ) where
   begun q c = inner_step at (hashed c q)
 
   -- no byte of a name
-  pub no_name : at ≤ length line → at + span is_alnum (drop at line) ≡ at → SaysFrom line at at begun (Stuck at)
+  pub no_name : at ≤ length line → at + span is_alnum (drop at line) ≡ at → SaysFrom line at at begun (Err (record { at = at }))
   unfolding inner_step
   no_name n e =
       by_test (ltb at (length line))
@@ -54,15 +56,15 @@ module _ (line : List ℕ) (at : ℕ) where
         (through_run line s o h is_alnum (λ t. in_label c q at t) (λ i b t e. rw e) (begun q c) (drop at line) at (λ b f e. rw e) refl (omega (arith, run, further)))
 
     -- and the line is over
-    pub name_over : n ≤ length line → length line ≤ n → SaysFrom line at at begun (Stuck n)
+    pub name_over : n ≤ length line → length line ≤ n → SaysFrom line at at begun (Err (record { at = n }))
     name_over k m =
-        said_before line at at n begun (λ q c. inner_step n (in_label c q at name)) named (Stuck n) (over line at n (λ q c. inner_step n (in_label c q at name)) m k)
+        said_before line at at n begun (λ q c. inner_step n (in_label c q at name)) named (Err (record { at = n })) (over line at n (λ q c. inner_step n (in_label c q at name)) m k)
 
     not_alnum : n < length line → is_alnum (get_or line n 0) ≡ false
     not_alnum k = run_next is_alnum line at n run k
 
     -- a score follows
-    pub name_scored : n < length line → get_or line n 0 ≡ open_round → (r : LabelAt) → SaysFrom line at (n + 1) (λ q c. inner_step (n + 1) (scoring c q at name)) r
+    pub name_scored : n < length line → get_or line n 0 ≡ open_round → (r : Result Label Stuck) → SaysFrom line at (n + 1) (λ q c. inner_step (n + 1) (scoring c q at name)) r
         → SaysFrom line at at begun r
     unfolding inner_step
     name_scored k e r w =
@@ -71,7 +73,7 @@ module _ (line : List ℕ) (at : ℕ) where
         ∙ through_going line s o h n (inner_step n (in_label c q at name)) (scoring c q at name) k (rw (not_alnum k, eq-eqb _ _ e))) r w
 
     -- the label ends
-    pub name_ends : n < length line → (get_or line n 0 ≡ open_round → ⊥) → (r : LabelAt) → SaysFrom line at n (λ q c. part_end c (labelled q at name none)) r
+    pub name_ends : n < length line → (get_or line n 0 ≡ open_round → ⊥) → (r : Result Label Stuck) → SaysFrom line at n (λ q c. part_end c (labelled q at name none)) r
         → SaysFrom line at at begun r
     unfolding inner_step
     name_ends k e r w =
@@ -79,11 +81,11 @@ module _ (line : List ℕ) (at : ℕ) where
         (λ q s o h c. named q s o h c
         ∙ through_same line s o h n (inner_step n (in_label c q at name)) (part_end c (labelled q at name none)) (λ m. rw (not_alnum k, ne_eqb _ _ e))) r w
 
-    pub unscored : n ≤ length line → Scored line at n 0 (pos 0) none
-    unscored k = record { some_name = further; to_inside = k; score_is = refl; points_are = refl; score_place = tt }
+    pub unscored : n ≤ length line → Scored line at n None none
+    unscored k = record { some_name = further; to_inside = k; score_is = refl; score_place = tt }
 
 -- ---- the whole label, with the place behind it
-module _ (line : List ℕ) (from to score : ℕ) (points told : ℤ) (same : told ≡ points) (next : ℕ) (s : Option (Number ℕ)) (is : Scored line from to score points s)
+module _ (line : List ℕ) (from to : ℕ) (score : Perhaps Score) (next : ℕ) (s : Option (Number ℕ)) (is : Scored line from to score s)
     (behind : to ≤ next) where
   abbrev whole_name : List ℕ
   whole_name = part from (to - from) line
@@ -92,7 +94,7 @@ module _ (line : List ℕ) (from to score : ℕ) (points told : ℤ) (same : tol
   long = length-take (to - from) (drop from line) ∙ (let e = length-drop from line in omega (arith, is.to_inside))
 
   pub label_read : next < length line
-      → SaysFrom line from next (λ q c. part_end c (labelled q from whole_name s)) (Read (record { from = from; to = to; score = score; points = told; next = next }))
+      → SaysFrom line from next (λ q c. part_end c (labelled q from whole_name s)) (Ok (record { from = from; to = to; score = score; next = next }))
   unfolding SaysFrom
   label_read k =
       record {
@@ -104,7 +106,6 @@ module _ (line : List ℕ) (from to score : ℕ) (points told : ℤ) (same : tol
           to_is = omega (arith, long, is.some_name);
           some_name = is.some_name;
           score_is = is.score_is;
-          points_are = same ∙ is.points_are;
           score_place = is.score_place;
           to_inside = is.to_inside;
           past = omega (arith, is.some_name);

@@ -5,53 +5,39 @@ use mathlib.Core.Option.{Option, none, some}
 use mathlib.Core.List.{List, []}
 use Prim.Native.Nat.{ℕ, ◌+◌, ◌-◌, ◌<◌, ◌≤◌}
 use native.Mathlib.Omega.{arith}
-use borrow.Author.Tests.{eq-eqb, ne_eqb, leb-true}
-use lib.Dec.{eqb, leb}
-use lib.IntN.{ℤ, pos}
-use lib.ListN.{length, get_or, drop, get_or-eq_default, drop_of_length-le}
+use borrow.Author.Tests.{eq-eqb, ne_eqb}
+use lib.Dec.{eqb}
+use lib.ListN.{length, get_or, drop}
 use Rattle.basics.specs.Choice.{by_test}
-use Rattle.basics.specs.Tests.{and_left, or_right}
+use Rattle.basics.specs.Tests.{or_right}
 use Rattle.scope.specs.Bytes.{plus, dash, shut_round, is_digit, is_sign}
 use Rattle.scope.specs.declared.grammar.Slot.{Slot}
 use Rattle.scope.specs.declared.tables.Number.{Number as Kept}
-use Rattle.scope.specs.Limits.{decimal_limit}
 use Rattle.scope.specs.declared.grammar.Key.TheVariants.{NoKey}
 use Rattle.scope.specs.Line.{Number, reference, Part}
 use Rattle.scope.specs.Lists.{given, part}
 use Rattle.scope.specs.Content.{Digits, signed, digit_step, number_end, Context, Content, lost, going, in_score, scored, scoring, part_end, unlabelled, labelled, inner_step}
 use Rattle.scope.specs.Reading.{Held, nothing, front}
-use Rattle.scope.specs.Refusals.{in_range}
 use Rattle.numerals.specs.declared.Num.{Num}
-use Rattle.numerals.specs.declared.Num.TheVariants.{Value, Wide, NoNumber}
-use Rattle.numerals.specs.Numerals.{Scanned, found, scan_number, kept, num_of}
-use Rattle.sheet.specs.Rows.{score_noted, points_noted}
+use Rattle.numerals.specs.Numerals.{Scanned, found, scan_number, num_of}
+use Rattle.labels.specs.declared.Score.{Score}
 use Rattle.values.specs.Says.{through}
 use Rattle.values.proofs.Through.{through_same, through_going}
-use Rattle.values.proofs.Numbers.{NumberSays, number_says, in_range_lem, out_of_range, no_number}
+use Rattle.values.proofs.Numbers.{NumberSays, number_says, number_found, no_number}
 use Rattle.values.proofs.Begins.{stands_inside}
-use Rattle.labels.specs.declared.LabelAt.{LabelAt}
-use Rattle.labels.specs.declared.LabelAt.TheVariants.{Stuck}
+use Rattle.std.specs.Prelude.{Some, Result, Ok, Err}
+use Rattle.std.specs.Prelude.{Option as Perhaps}
+use Rattle.scope.specs.declared.grammar.Stuck.{Stuck}
+use Rattle.labels.specs.declared.Label.{Label}
 use Rattle.labels.specs.Within.{SaysFrom, Scored, score_end, digits_at, scan_signed}
 use Rattle.labels.proofs.Saying.{said_before, lost_there}
-
--- ---- the points as they are handed over
-pub scored_told : {line : List ℕ} {from to score : ℕ} {points told : ℤ} {s : Option (Number ℕ)} → told ≡ points → Scored line from to score points s
-    → Scored line from to score told s
-scored_told same is =
-    record {
-      some_name = is.some_name;
-      to_inside = is.to_inside;
-      score_is = is.score_is;
-      points_are = same ∙ is.points_are;
-      score_place = is.score_place;
-    }
 
 -- ---- behind the number
 module _ (line : List ℕ) (from : ℕ) (name : List ℕ) (n : Number ℕ) (j : ℕ) (inside : j < length line) where
   abbrev ended : Part ℕ → Context ℕ → ℕ → Content ℕ
   ended q c = score_end c q from name n
 
-  pub not_closed : (get_or line j 0 ≡ shut_round → ⊥) → SaysFrom line from j ended (Stuck j)
+  pub not_closed : (get_or line j 0 ≡ shut_round → ⊥) → SaysFrom line from j ended (Err (record { at = j }))
   unfolding score_end
   not_closed e = lost_there line from j ended inside (λ q c. rw (ne_eqb (get_or line j 0) shut_round e))
 
@@ -59,7 +45,7 @@ module _ (line : List ℕ) (from : ℕ) (name : List ℕ) (n : Number ℕ) (j : 
   unfolding score_end
   closes e q c = rw (eq-eqb (get_or line j 0) shut_round e)
 
-  pub closed_score : get_or line j 0 ≡ shut_round → (r : LabelAt) → SaysFrom line from (j + 1) (λ q c. part_end c (labelled q from name (some n))) r → SaysFrom line from j ended r
+  pub closed_score : get_or line j 0 ≡ shut_round → (r : Result Label Stuck) → SaysFrom line from (j + 1) (λ q c. part_end c (labelled q from name (some n))) r → SaysFrom line from j ended r
   unfolding inner_step
   closed_score e r w =
       said_before line from j (j + 1) ended (λ q c. part_end c (labelled q from name (some n)))
@@ -71,16 +57,12 @@ no_minus : (b : ℕ) → is_sign b ≡ false → eqb b dash ≡ false
 no_minus b e = or_right (eqb b plus) (eqb b dash) e
 
 module _ (line : List ℕ) (at : ℕ) where
-  pub number_over : length line ≤ at → NoNumber at ≡ num_of (scan_signed line at)
-  unfolding scan_signed scan_number number_end
-  number_over k = rw (get_or-eq_default line 0 k, drop_of_length-le line k)
-
-  pub number_signed : (b : ℕ) → b ≡ get_or line at 0 → is_sign b ≡ true → (r : Num) → r ≡ num_of (scan_number at (signed (eqb b dash)) (drop (at + 1) line) (at + 1))
+  pub number_signed : (b : ℕ) → b ≡ get_or line at 0 → is_sign b ≡ true → (r : Result Num Stuck) → r ≡ num_of (scan_number at (signed (eqb b dash)) (drop (at + 1) line) (at + 1))
       → r ≡ num_of (scan_signed line at)
   unfolding scan_signed
   number_signed b e f r w = let z : is_sign (get_or line at 0) ≡ true = ap is_sign (sym e) ∙ f in rw z (rw e at w)
 
-  pub number_unsigned : is_sign (get_or line at 0) ≡ false → (r : Num) → r ≡ num_of (scan_number at (signed false) (drop at line) at) → r ≡ num_of (scan_signed line at)
+  pub number_unsigned : is_sign (get_or line at 0) ≡ false → (r : Result Num Stuck) → r ≡ num_of (scan_number at (signed false) (drop at line) at) → r ≡ num_of (scan_signed line at)
   unfolding scan_signed
   number_unsigned f r w = rw (f, no_minus (get_or line at 0) f) w
 
@@ -152,62 +134,35 @@ module _ (line : List ℕ) (from : ℕ) (name : List ℕ) (j : ℕ) (inside : j 
   score_at_lem n e f =
       let facts = score_says (found n e) f some_part front 0 nothing some_context in (omega (arith, facts.0, digits_past), facts.1, facts.2)
 
-  score_found : (n : Number ℕ) (e : ℕ) → scan_signed line j ≡ found n e → (r : LabelAt) → SaysFrom line from e (λ q c. score_end c q from name n) r → SaysFrom line from j opened r
+  score_found : (n : Number ℕ) (e : ℕ) → scan_signed line j ≡ found n e → (r : Result Label Stuck) → SaysFrom line from e (λ q c. score_end c q from name n) r → SaysFrom line from j opened r
   score_found n e f r w =
       said_before line from j e opened (λ q c. score_end c q from name n) (λ q s o h c. score_opens q s o h c ∙ (score_says (found n e) f q s o h c).3) r w
 
-  pub score_none : (num : Num) → num ≡ num_of (scan_signed line j) → (e : ℕ) → num ≡ NoNumber e → SaysFrom line from j opened (Stuck e)
+  pub score_none : (e : Stuck) → Err e ≡ num_of (scan_signed line j) → SaysFrom line from j opened (Err e)
   unfolding SaysFrom
-  score_none num scanned e t = λ q s o h c. score_opens q s o h c ∙ score_says _ (no_number (scan_signed line j) e (sym scanned ∙ t)) q s o h c
+  score_none e t = λ q s o h c. score_opens q s o h c ∙ score_says _ (no_number (scan_signed line j) e t) q s o h c
 
--- a number in range has few decimals
-pub few_decimals : (line : List ℕ) (at : ℕ) (num : Num) → num ≡ num_of (scan_signed line at) → (v : Kept) (e : ℕ) → num ≡ Value v e → v.decimals ≤ decimal_limit
-few_decimals line at num scanned v e t =
-    let i = in_range_lem (scan_signed line at) v e (sym scanned ∙ t) in
-    let d : i.number.decimals ≡ v.decimals = ap (λ x. x.decimals) i.value in
-    let k = leb-true i.number.decimals decimal_limit (and_left (leb i.number.decimals decimal_limit) _ i.range) in
-    omega (arith, d, k)
-
--- a score in range as it is noted
-score_kept : (n : Number ℕ) (v : Kept) → in_range n ≡ true → kept n ≡ v → v.decimals + 1 ≡ score_noted (some n)
-score_kept n v r k = ap (λ x. x.decimals + 1) (sym k) ∙ rw r
-
-points_kept : (n : Number ℕ) (v : Kept) → in_range n ≡ true → kept n ≡ v → v.millionths ≡ points_noted (some n)
-points_kept n v r k = ap (λ x. x.millionths) (sym k) ∙ rw r
-
--- ---- the score of the name from `from` to `to`, by how its number is told
-module _ (line : List ℕ) (from to : ℕ) (named : (from < to) × (to < length line)) (num : Num) (scanned : num ≡ num_of (scan_signed line (to + 1))) where
+-- ---- the score of the name from `from` to `to`
+module _ (line : List ℕ) (from to : ℕ) (named : (from < to) × (to < length line)) where
   abbrev score_name : List ℕ
   score_name = part from (to - from) line
 
-  abbrev Ends : ℕ → ℤ → ℕ → LabelAt → Type 0
-  Ends score points e r =
-      (n : Number ℕ) → Scored line from to score points (some n) → to ≤ e → e ≤ length line → SaysFrom line from e (λ q c. score_end c q from score_name n) r
-
-  score_told : (n : Number ℕ) (e : ℕ) → scan_signed line (to + 1) ≡ found n e → (score : ℕ) (points : ℤ) → score ≡ score_noted (some n) → points ≡ points_noted (some n)
-      → (r : LabelAt) → Ends score points e r → SaysFrom line from (to + 1) (λ q c. inner_step (to + 1) (scoring c q from score_name)) r
-  score_told n e f score points p q r w =
+  pub score_some : (num : Num) → Ok num ≡ num_of (scan_signed line (to + 1)) → (r : Result Label Stuck)
+      → ((n : Number ℕ) → Scored line from to (Some (record { number = num.number })) (some n) → to ≤ num.next → num.next ≤ length line
+      → SaysFrom line from num.next (λ q c. score_end c q from score_name n) r)
+      → SaysFrom line from (to + 1) (λ q c. inner_step (to + 1) (scoring c q from score_name)) r
+  score_some num t r w =
       let k : to + 1 ≤ length line = omega (arith, named.1) in
-      let i = score_at_lem line from score_name (to + 1) k n e f in
-      score_found line from score_name (to + 1) k n e f r
-      (w n
+      let f = number_found (scan_signed line (to + 1)) num t in
+      let i = score_at_lem line from score_name (to + 1) k f.number num.next f.is in
+      score_found line from score_name (to + 1) k f.number num.next f.is r
+      (w f.number
       (record {
         some_name = named.0;
         to_inside = omega (arith, named.1);
-        score_is = p;
-        points_are = q;
+        score_is = ap made f.told;
         score_place = i.2;
       }) (omega (arith, i.0)) i.1)
-
-  pub score_value : (v : Kept) (e : ℕ) → num ≡ Value v e → (m : ℤ) → m ≡ v.millionths → (r : LabelAt) → Ends (v.decimals + 1) m e r
-      → SaysFrom line from (to + 1) (λ q c. inner_step (to + 1) (scoring c q from score_name)) r
-  score_value v e t m same r w =
-      let i = in_range_lem (scan_signed line (to + 1)) v e (sym scanned ∙ t) in
-      score_told i.number e i.is (v.decimals + 1) m (score_kept i.number v i.range i.value) (same ∙ points_kept i.number v i.range i.value) r w
-
-  pub score_wide : (e : ℕ) → num ≡ Wide e → (r : LabelAt) → Ends (decimal_limit + 2) (pos 0) e r
-      → SaysFrom line from (to + 1) (λ q c. inner_step (to + 1) (scoring c q from score_name)) r
-  score_wide e t r w =
-      let i = out_of_range (scan_signed line (to + 1)) e (sym scanned ∙ t) in
-      let n = i.range in
-      score_told i.number e i.is (decimal_limit + 2) (pos 0) (rw n) (rw n) r w
+    where
+      made : Perhaps Kept → Perhaps Score
+      made o = Some (record { number = o })

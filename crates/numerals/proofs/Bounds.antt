@@ -18,16 +18,21 @@ use Rattle.scope.specs.Refusals.{in_range}
 use Rattle.scope.specs.Tables.{millionths}
 use Rattle.scope.specs.Tables as tables
 use Rattle.numerals.specs.declared.Num.{Num}
-use Rattle.numerals.specs.declared.Num.TheVariants.{Value, Wide, NoNumber}
+use Rattle.std.specs.Prelude.{Result, Ok, Err, Some, None, Option as Perhaps}
+use Rattle.scope.specs.declared.tables.Number.{Number as Kept}
+use Rattle.scope.specs.declared.grammar.Stuck.{Stuck}
 use Rattle.numerals.specs.Numerals.{cap, Scanned, found, lost, scan_number, kept, num_of}
 use Rattle.basics.specs.Tests.{both_of}
 use Rattle.numerals.proofs.Ranges.{below_cap}
 
 -- a number that starts at i ends behind i and before n, with at most 6 decimals and below 1,000,000 where it is in range
-abbrev pub Ended : Num → ℕ → ℕ → Type 0
-Ended (Value v j) i n = (i < j) × (j ≤ n) × (v.decimals ≤ decimal_limit) × (nat_abs v.millionths < cap)
-Ended (Wide j) i n = (i < j) × (j ≤ n)
-Ended (NoNumber j) i n = (i ≤ j) × (j ≤ n)
+abbrev pub Small : Perhaps Kept → Type 0
+Small (Some v) = (v.decimals ≤ decimal_limit) × (nat_abs v.millionths < cap)
+Small None = Unit {0}
+
+abbrev pub Ended : Result Num Stuck → ℕ → ℕ → Type 0
+Ended (Ok r) i n = (i < r.next) × (r.next ≤ n) × Small r.number
+Ended (Err e) i n = (i ≤ e.at) × (e.at ≤ n)
 
 abbrev Past : Scanned → ℕ → ℕ → Type 0
 Past (found x j) i n = (i ≤ j) × (j ≤ n)
@@ -61,13 +66,13 @@ abs_signed false m = refl
 ended_found : (x : Number ℕ) (j i n : ℕ) → i < j → j ≤ n → Ended (num_of (found x j)) i n
 ended_found x j i n h l = go (in_range x) refl
   where
-    go : (b : Bool) → in_range x ≡ b → Ended (cond b (Value (kept x) j) (Wide j)) i n
+    go : (b : Bool) → in_range x ≡ b → (i < j) × (j ≤ n) × Small (cond b (Some (kept x)) None)
     go true e =
         let p = both_of (leb x.decimals decimal_limit) (ltb x.digits (size_limit * 10 ^ x.decimals)) e in
         let k = leb-true x.decimals decimal_limit p.0 in
         let a = abs_signed x.minus (x.digits * 10 ^ (decimal_limit - x.decimals)) in
-        (h, l, k, subst (λ (y : ℕ). y < cap) (sym a) (below_cap k (ltb-true _ _ p.1)))
-    go false e = (h, l)
+        (h, l, (k, subst (λ (y : ℕ). y < cap) (sym a) (below_cap k (ltb-true _ _ p.1))))
+    go false e = (h, l, tt)
 
 ended_behind : (r : Scanned) (i n : ℕ) → Past r (i + 1) n → Ended (num_of r) i n
 ended_behind (found x j) i n h = ended_found x j i n (omega arith) (omega arith)
@@ -82,7 +87,7 @@ ended_signed p s (b ∷ l) i n e = go (is_digit b)
     go true = ended_behind (scan_number p (whole s (value b)) l (i + 1)) i n (past p (whole s (value b)) l (i + 1) n (omega arith))
     go false = (omega arith, omega arith)
 
-pub number_in : (p : ℕ) (minus : Bool) (s : List ℕ) (at : ℕ) {r : Num} → at ≤ length s → r ≡ num_of (scan_number p (signed minus) (drop at s) at)
+pub number_in : (p : ℕ) (minus : Bool) (s : List ℕ) (at : ℕ) {r : Result Num Stuck} → at ≤ length s → r ≡ num_of (scan_number p (signed minus) (drop at s) at)
     → Ended r at (length s)
 number_in p minus s at h e =
-    subst (λ (x : Num). Ended x at (length s)) (sym e) (ended_signed p minus (drop at s) at (length s) (omega (arith, length-drop at s)))
+    subst (λ (x : Result Num Stuck). Ended x at (length s)) (sym e) (ended_signed p minus (drop at s) at (length s) (omega (arith, length-drop at s)))

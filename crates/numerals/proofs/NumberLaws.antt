@@ -14,7 +14,8 @@ use Rattle.classes.specs.Runs.{span}
 use Rattle.classes.proofs.Runs.{run_done}
 use Rattle.numerals.specs.Numerals.{found, lost, scan_number, num_of, digits_from, DigitsAt}
 use Rattle.numerals.specs.declared.Num.{Num}
-use Rattle.numerals.specs.declared.Num.TheVariants.{NoNumber}
+use Rattle.scope.specs.declared.grammar.Stuck.{Stuck}
+use Rattle.std.specs.Prelude.{Result, Err}
 
 module _ (p : ℕ) (s : Bool) where
   -- a run of digits before the point, and behind it
@@ -146,10 +147,10 @@ module _ (p : ℕ) (s : Bool) (t : List ℕ) (at : ℕ) where
     ends_at : drop (span is_digit (drop at t)) (drop at t) ≡ drop k t
     ends_at = drop-drop (span is_digit (drop at t)) at t ∙ ap (λ j. drop j t) (sym d.ends)
 
-    pub sign_none : k ≡ at → NoNumber at ≡ num_of (scan_number p (signed s) (drop at t) at)
+    pub sign_none : k ≡ at → Err (record { at = at }) ≡ num_of (scan_number p (signed s) (drop at t) at)
     sign_none e = ap num_of (sym (signed_none p s (drop at t) at (no_digit e)))
 
-    pub sign_some : {r : Num} → (k ≡ at → ⊥) → r ≡ num_of (scan_number p (whole s (digits_from 0 (drop at t))) (drop k t) k)
+    pub sign_some : {r : Result Num Stuck} → (k ≡ at → ⊥) → r ≡ num_of (scan_number p (whole s (digits_from 0 (drop at t))) (drop k t) k)
         → r ≡ num_of (scan_number p (signed s) (drop at t) at)
     sign_some n q =
         q
@@ -158,10 +159,10 @@ module _ (p : ℕ) (s : Bool) (t : List ℕ) (at : ℕ) where
         ∙ ap (λ l. scan_number p (whole s (digits_from 0 (drop at t))) l (at + span is_digit (drop at t))) ends_at
         ∙ ap (λ j. scan_number p (whole s (digits_from 0 (drop at t))) (drop k t) j) (sym d.ends)))
 
-    pub point_none : (m : ℕ) → k ≡ at → NoNumber at ≡ num_of (scan_number p (pointed s m) (drop at t) at)
+    pub point_none : (m : ℕ) → k ≡ at → Err (record { at = at }) ≡ num_of (scan_number p (pointed s m) (drop at t) at)
     point_none m e = ap num_of (sym (pointed_none p s (drop at t) m at (no_digit e)))
 
-    pub point_some : (m : ℕ) {r : Num} → (k ≡ at → ⊥) → r ≡ num_of (found (number_of p s (digits_from m (drop at t)) (k - at)) k)
+    pub point_some : (m : ℕ) {r : Result Num Stuck} → (k ≡ at → ⊥) → r ≡ num_of (found (number_of p s (digits_from m (drop at t)) (k - at)) k)
         → r ≡ num_of (scan_number p (pointed s m) (drop at t) at)
     point_some m n q =
         let g : 0 + span is_digit (drop at t) ≡ k - at = omega (arith, d.ends) in

@@ -11,8 +11,9 @@ use Rattle.scope.specs.Content.{number_of}
 use Rattle.scope.specs.Limits.{size_limit, decimal_limit}
 use Rattle.scope.specs.Tables.{signed}
 use Rattle.tens.proofs.Powers.{power_some, power_up, power_few, power_split}
-use Rattle.numerals.specs.declared.Num.TheVariants.{Value, Wide}
-use Rattle.numerals.specs.Numerals.{cap, found, num_of}
+use Rattle.scope.specs.declared.tables.Number.{Number as Kept}
+use Rattle.std.specs.Prelude.{Option, Some, None}
+use Rattle.numerals.specs.Numerals.{cap, kept_in_range}
 
 -- ---- the cap, with d decimals before those that are left
 cap_split : {d : ℕ} → d ≤ decimal_limit → cap ≡ size_limit * 10 ^ d * 10 ^ (decimal_limit - d)
@@ -53,18 +54,21 @@ sign_kept s m k = go (eqb m 0) refl
         rw z (of_zero s)
     go false e = ap (λ b. signed b (m * k)) (sym (and-true s))
 
-module _ (p : ℕ) (s : Bool) (m d i : ℕ) where
-  pub wide_decimals : decimal_limit < d → Wide i ≡ num_of (found (number_of p s m d) i)
+abbrev some_kept : ℤ → ℕ → Option Kept
+some_kept z d = Some (record { millionths = z; decimals = d })
+
+module _ (p : ℕ) (s : Bool) (m d : ℕ) where
+  pub wide_decimals : decimal_limit < d → None ≡ kept_in_range (number_of p s m d)
   wide_decimals h = simp (lt-leb _ _ h)
 
   -- u is what one more of the last digit makes, in millionths
   module _ (v : ℕ) (e : v ≡ min cap m) (l : d ≤ decimal_limit) {u : ℕ} (q : u ≡ 10 ^ (decimal_limit - d)) where
-    pub wide_size : cap ≤ v * u → Wide i ≡ num_of (found (number_of p s m d) i)
+    pub wide_size : cap ≤ v * u → None ≡ kept_in_range (number_of p s m d)
     wide_size h = simp (le-leb _ _ l, le-ltb _ _ (over v m e l (rw q at h)))
 
-    pub in_range_lem : v * u < cap → {x : ℤ} → x ≡ signed s (v * u) → Value (record { millionths = x; decimals = d }) i ≡ num_of (found (number_of p s m d) i)
+    pub in_range_lem : v * u < cap → {x : ℤ} → x ≡ signed s (v * u) → Some (record { millionths = x; decimals = d }) ≡ kept_in_range (number_of p s m d)
     in_range_lem h f =
         let b = under v m e l (rw q at h) in
         rw (le-leb _ _ l, lt-ltb _ _ b.0)
-        (ap (λ z. Value (record { millionths = z; decimals = d }) i)
+        (ap (λ (z : ℤ). some_kept z d)
         (f ∙ ap₂ (λ n k. signed s (n * k)) b.1 q ∙ sign_kept s m (10 ^ (decimal_limit - d))))

@@ -1,5 +1,6 @@
 -- Numbers in a line: scope's own step, as far as it goes.
-use Rattle.std.specs.Prelude.{ℕ, ◌+◌, ◌*◌, ◌^◌, ◌≤◌, min, ◌≡◌, cond, List, [], ◌∷◌, drop}
+use Rattle.std.specs.Prelude.{ℕ, ◌+◌, ◌*◌, ◌^◌, ◌≤◌, min, ◌≡◌, cond, List, [], ◌∷◌, drop, Option, Some, None, Result, Ok, Err}
+use Rattle.scope.specs.declared.grammar.Stuck.{Stuck}
 use Rattle.scope.specs.declared.tables.Number.{Number as Kept}
 use Rattle.scope.specs.Bytes.{is_digit, value}
 use Rattle.scope.specs.Limits.{size_limit, decimal_limit, count_limit}
@@ -11,7 +12,6 @@ use Rattle.scope.specs.Refusals.{in_range}
 use Rattle.scope.specs.Tables.{millionths}
 use Rattle.classes.specs.Runs.{span}
 use Rattle.numerals.specs.declared.Num.{Num}
-use Rattle.numerals.specs.declared.Num.TheVariants.{Value, Wide, NoNumber}
 
 -- a number and the place behind it, or the place where no number goes on
 pub data Scanned : Type 0 where
@@ -31,9 +31,12 @@ scan_number p d (b ∷ l) i = given (digit_step d b) (λ d'. scan_number p d' l 
 abbrev pub kept : {P : Type 0} → Number P → Kept
 kept n = record { millionths = millionths n; decimals = n.decimals }
 
-abbrev pub num_of : Scanned → Num
-num_of (found n i) = cond (in_range n) (Value (kept n) i) (Wide i)
-num_of (lost i) = NoNumber i
+abbrev pub kept_in_range : {P : Type 0} → Number P → Option Kept
+kept_in_range n = cond (in_range n) (Some (kept n)) None
+
+abbrev pub num_of : Scanned → Result Num Stuck
+num_of (found n i) = Ok (record { number = kept_in_range n; next = i })
+num_of (lost i) = Err (record { at = i })
 
 -- the digits that the list begins with, behind a number m
 unfoldable pub digits_from : ℕ → List ℕ → ℕ

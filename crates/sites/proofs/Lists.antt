@@ -1,5 +1,5 @@
 -- A list of places: a word byte by byte, a place by its word, and the list place by place. Assumes nothing.
-use mathlib.Core.Path.{◌≡◌, refl, sym, ap, ◌∙◌}
+use mathlib.Core.Path.{◌≡◌, refl, sym, ap, subst, ◌∙◌}
 use mathlib.Core.Bool.{true, false, cond, ◌&&◌}
 use mathlib.Core.Option.{Option, none, some}
 use mathlib.Core.List.{List, [], ◌∷◌, ◌++◌, map, map-append}
@@ -21,9 +21,10 @@ use Rattle.scope.specs.Reading.{Held, placing, stuck}
 use Rattle.scope.specs.Refusals.{least}
 use Rattle.reading_laws.proofs.Run.{rest}
 use Rattle.texts.specs.Texts.{coded}
-use Rattle.sites.specs.declared.PlaceAt.{PlaceAt}
-use Rattle.sites.specs.declared.PlaceAt.TheVariants.{Stuck, Ends}
-use Rattle.sites.specs.Says.{terminus_at, place_of, place_end, Stand, WordSays, PlaceReads, PlaceSays, Counts, ListReads}
+use Rattle.std.specs.Prelude.{Some, None, Result, Ok, Err}
+use Rattle.std.specs.Prelude.{Option as Perhaps}
+use Rattle.scope.specs.declared.grammar.Stuck.{Stuck}
+use Rattle.sites.specs.Says.{terminus_at, place_of, place_end, Stand, WordSays, PlaceReads, PlaceSays, Counts, Before, ListReads}
 use Rattle.sites.proofs.Ways.{over, begins, begins_not, word_begins, word_on, word_off, follows, listed}
 use Rattle.sites.proofs.Termini.{line_ends_lem, word_of, or_none}
 
@@ -37,7 +38,7 @@ module _ (line : List ℕ) (at : ℕ) (word : List ℕ) where
   word_starts h ps p = rw add-zero
 
   module _ (k : ℕ) (on : WordOn line at word k) where
-    pub word_whole : length word ≤ k → k ≤ length word → at + k ≤ length line → WordSays line at word (Ends (at + k))
+    pub word_whole : length word ≤ k → k ≤ length word → at + k ≤ length line → WordSays line at word (Ok (at + k))
     unfolding WordOn WordSays
     word_whole a b w =
         let e : k ≡ length word = omega arith in
@@ -53,12 +54,12 @@ module _ (line : List ℕ) (at : ℕ) (word : List ℕ) where
       unfolding WordOn
       opened h ps p = on h ps p ∙ ap (λ z. rest line (at + k) (placing h (owed ps p z))) (drop-cons word k 0 a)
 
-      pub word_ends_early : at + k ≡ length line → WordSays line at word (Stuck (at + k))
+      pub word_ends_early : at + k ≡ length line → WordSays line at word (Err (record { at = at + k }))
       unfolding WordSays
       word_ends_early e h ps p = opened h ps p ∙ over line h ps (at + k) _ (omega arith) ∙ ap stuck (sym e)
 
       module _ (b : at + k < length line) (u v : ℕ) (e : u ≡ upper (get_or word k 0)) (f : v ≡ upper (get_or line (at + k) 0)) where
-        pub word_differs : (u ≡ v → ⊥) → WordSays line at word (Stuck (at + k))
+        pub word_differs : (u ≡ v → ⊥) → WordSays line at word (Err (record { at = at + k }))
         unfolding WordSays
         word_differs n h ps p =
             opened h ps p ∙ word_off line h ps (at + k) p (get_or word k 0) (drop (suc k) word) b (ne_eqb _ _ (λ z. n (e ∙ z ∙ sym f)))
@@ -73,17 +74,17 @@ module _ (line : List ℕ) (at : ℕ) (word : List ℕ) where
 
 -- ---- a place
 module _ (line : List ℕ) (at : ℕ) where
-  pub place_over : at ≡ length line → PlaceSays line at (Stuck at)
+  pub place_over : at ≡ length line → PlaceSays line at (Err (record { at = at }))
   unfolding PlaceSays
   place_over e h ps = over line h ps at (expected ps) (omega arith) ∙ ap stuck (sym e)
 
   module _ (k : at < length line) where
-    pub place_not : is_letter (get_or line at 0) ≡ false → PlaceSays line at (Stuck at)
+    pub place_not : is_letter (get_or line at 0) ≡ false → PlaceSays line at (Err (record { at = at }))
     unfolding PlaceSays
     place_not e h ps = begins_not line h ps at k e
 
     module _ (l : is_letter (get_or line at 0) ≡ true) where
-      pub letter_reads : terminus_at line at ≡ 0 → PlaceSays line at (Ends (at + 1))
+      pub letter_reads : terminus_at line at ≡ 0 → PlaceSays line at (Ok (at + 1))
       unfolding place_of place_end PlaceSays
       letter_reads z =
           record {
@@ -115,10 +116,10 @@ module _ (line : List ℕ) (at : ℕ) where
             ∙ word_begins line h ps (at + 1) (record { site = upper (get_or line at 0); at = at }) (terminus_at line at) (omega arith) w.0 w.1
             ∙ rw (m, ne_eqb (terminus_at line at) 0 n)
 
-        pub word_says : (r : PlaceAt) → WordSays line (at + 2) (bytes "term") r → PlaceSays line at r
+        pub word_says : (r : Result ℕ Stuck) → WordSays line (at + 2) (bytes "term") r → PlaceSays line at r
         unfolding place_of place_end WordSays PlaceSays
-        word_says (Stuck i) s = λ h ps. to_word h ps ∙ s h ps (place_of line at)
-        word_says (Ends next) s =
+        word_says (Err e) s = λ h ps. to_word h ps ∙ s h ps (place_of line at)
+        word_says (Ok next) s =
             record {
               is_next_is = s.is_next_is ∙ rw (ne_eqb (terminus_at line at) 0 n) (let m : at + 2 + 4 ≡ at + 6 = omega arith in m);
               past = omega (arith, s.is_next_is);
@@ -127,9 +128,9 @@ module _ (line : List ℕ) (at : ℕ) where
               whole = λ d. rw (ne_eqb (terminus_at line at) 0 n) (word_of line at n).2;
             }
 
-pub place_read : (line : List ℕ) (at : ℕ) (r : PlaceAt) → PlaceSays line at r → (next : ℕ) → r ≡ Ends next → PlaceReads line at next
+pub place_read : (line : List ℕ) (at next : ℕ) → PlaceSays line at (Ok next) → PlaceReads line at next
 unfolding PlaceSays
-place_read line at r p next e = rw e at p
+place_read line at next p = p
 
 -- ---- the first place past a limit, with one place more behind
 least_snoc : (l : List ℕ) (i : ℕ) → least (l ++ (i ∷ [])) ≡ some (given (least l) (λ m. min m i) i)
@@ -142,16 +143,16 @@ least_snoc (x ∷ l) i = rw (least_snoc l i) (ap some (go (least l)))
     go (some m) = omega arith
 
 -- it is told once and stays
-told_first : (o : Option ℕ) (i : ℕ) → (o ≡ none → ⊥) → coded o ≤ i → coded (some (given o (λ m. min m i) i)) ≡ coded o
+told_first : (o : Option ℕ) (i : ℕ) → (o ≡ none → ⊥) → Before (coded o) i → coded (some (given o (λ m. min m i) i)) ≡ coded o
 told_first none i n h = absurd (n refl)
-told_first (some m) i n h = omega arith
+told_first (some m) i n h = let e : min m i ≡ m = omega arith in rw e
 
 some_left : (l : List ℕ) → 0 < length l → least l ≡ none → ⊥
 unfolding least
 some_left [] h e = omega arith
 some_left (x ∷ l) h e = let z : ◌≡◌ {A = ℕ} 0 1 = cc in omega arith
 
-pub first_past : (n : ℕ) (l : List ℕ) (i x : ℕ) → x ≡ coded (least (drop n l)) → x ≤ i → cond (eqb (length l) n) (i + 1) x ≡ coded (least (drop n (l ++ (i ∷ []))))
+pub first_past : (n : ℕ) (l : List ℕ) (i : ℕ) (x : Perhaps ℕ) → x ≡ coded (least (drop n l)) → Before x i → cond (eqb (length l) n) (Some i) x ≡ coded (least (drop n (l ++ (i ∷ []))))
 unfolding least
 first_past n l i x e h =
     by_test (ltb (length l) n)
@@ -164,20 +165,20 @@ first_past n l i x e h =
     (λ s. let m = eqb-true (length l) n s in rw (s, drop_of_length-le l {i = n} (omega arith)))
     (λ s. let m = eqb-false (length l) n s in
     let q : 0 < length (drop n l) = by_test (ltb n (length l)) (λ u. omega (arith, length-drop n l, ltb-true n (length l) u)) (λ u. absurd (m (let v = ltb-false n (length l) u in omega arith))) in
-    rw s (e ∙ sym (told_first (least (drop n l)) i (some_left (drop n l) q) (omega (arith, e)))))))
+    rw s (e ∙ sym (told_first (least (drop n l)) i (some_left (drop n l) q) (subst (λ o. Before o i) e h))))))
 
 -- ---- the list, before the place at i
-pub record SoFar (line : List ℕ) (at i many x : ℕ) : Type 0 where
+pub record SoFar (line : List ℕ) (at i many : ℕ) (x : Perhaps ℕ) : Type 0 where
   pub sites : List (Place ℕ)
   pub counts : Counts sites many x
   pub from : at ≤ i
   pub within : i ≤ length line
   pub few : many ≤ i
-  pub before : x ≤ i
+  pub before : Before x i
   pub stand : Stand line at sites i
   pub on : (h : Held ℕ) → rest line at (placing h (expected [])) ≡ rest line i (placing h (expected sites))
 
-pub so_far_none : (line : List ℕ) (at : ℕ) → at ≤ length line → SoFar line at at 0 0
+pub so_far_none : (line : List ℕ) (at : ℕ) → at ≤ length line → SoFar line at at 0 None
 unfolding least
 so_far_none line at k =
     record {
@@ -186,7 +187,7 @@ so_far_none line at k =
       from = omega arith;
       within = k;
       few = omega arith;
-      before = omega arith;
+      before = tt;
       stand = refl;
       on = λ h. refl;
     }
@@ -196,8 +197,8 @@ stand_more : (line : List ℕ) (at : ℕ) (ps : List (Place ℕ)) (i : ℕ) → 
 stand_more line at [] i e k = rw e (k, refl, refl)
 stand_more line at (p ∷ ps) i s k = (s.0, s.1, stand_more line (place_end line at + 1) ps i s.2 k)
 
-count_more : (line : List ℕ) (ps : List (Place ℕ)) (many x i : ℕ) → Counts ps many x → x ≤ i
-    → Counts (ps ++ (place_of line i ∷ [])) (many + 1) (cond (eqb many place_limit) (i + 1) x)
+count_more : (line : List ℕ) (ps : List (Place ℕ)) (many : ℕ) (x : Perhaps ℕ) (i : ℕ) → Counts ps many x → Before x i
+    → Counts (ps ++ (place_of line i ∷ [])) (many + 1) (cond (eqb many place_limit) (Some i) x)
 unfolding place_of
 count_more line ps many x i c k =
     let l = map (λ p. p.at) ps in
@@ -205,17 +206,21 @@ count_more line ps many x i c k =
     record {
       many_is = omega (arith, c.many_is, length-append ps (place_of line i ∷ []));
       over_is =
-          ap (λ n. cond (eqb n place_limit) (i + 1) x) (sym e)
+          ap (λ n. cond (eqb n place_limit) (Some i) x) (sym e)
           ∙ first_past place_limit l i x c.over_is k
           ∙ ap (λ z. coded (least (drop place_limit z))) (sym (map-append (λ p. p.at) ps (place_of line i ∷ [])));
     }
 
-module _ (line : List ℕ) (at i many x : ℕ) (s : SoFar line at i many x) where
-  pub list_stuck : (r : PlaceAt) → PlaceSays line i r → (j : ℕ) → r ≡ Stuck j → (h : Held ℕ) → rest line at (placing h (expected [])) ≡ stuck j
-  unfolding PlaceSays
-  list_stuck r p j e h = let q = rw e at p in s.on h ∙ q h s.sites
+before_more : (x : Perhaps ℕ) (i j : ℕ) → Before x i → i < j → Before x j
+before_more None i j h l = tt
+before_more (Some k) i j h l = omega arith
 
-  module _ (next : ℕ) (p : PlaceReads line i next) (y : ℕ) (e : y ≡ cond (eqb many place_limit) (i + 1) x) where
+module _ (line : List ℕ) (at i many : ℕ) (x : Perhaps ℕ) (s : SoFar line at i many x) where
+  pub list_stuck : (e : Stuck) → PlaceSays line i (Err e) → (h : Held ℕ) → rest line at (placing h (expected [])) ≡ stuck e.at
+  unfolding PlaceSays
+  list_stuck e p h = s.on h ∙ p h s.sites
+
+  module _ (next : ℕ) (p : PlaceReads line i next) (y : Perhaps ℕ) (e : y ≡ cond (eqb many place_limit) (Some i) x) where
     abbrev more : List (Place ℕ)
     more = s.sites ++ (place_of line i ∷ [])
 
@@ -225,8 +230,8 @@ module _ (line : List ℕ) (at i many x : ℕ) (s : SoFar line at i many x) wher
     stood : Stand line at more (next + 1)
     stood = rw p.is_next_is (stand_more line at s.sites i s.stand (let w = p.within in let q = p.is_next_is in omega arith))
 
-    behind : y ≤ i + 1
-    behind = rw e (by_test (eqb many place_limit) (λ t. rw t (omega arith)) (λ t. rw t (let b = s.before in omega arith)))
+    behind : Before y next
+    behind = rw e (by_test (eqb many place_limit) (λ t. rw t p.past) (λ t. rw t (before_more x i next s.before p.past)))
 
     to_place : (h : Held ℕ) → rest line at (placing h (expected [])) ≡ rest line next (placing h (placed s.sites (place_of line i)))
     to_place h = s.on h ∙ p.on h s.sites
@@ -239,7 +244,7 @@ module _ (line : List ℕ) (at i many x : ℕ) (s : SoFar line at i many x) wher
           past = omega (arith, s.from, p.past);
           within = p.within;
           many_within = omega (arith, s.few, p.past);
-          over_within = omega (arith, behind, p.past);
+          over_within = behind;
           stand = stood;
           on = λ h. to_place h ∙ listed line h s.sites next (place_of line i) (λ k. rw (lt-ltb next (length line) k) at n) p.whole;
         }
@@ -253,7 +258,7 @@ module _ (line : List ℕ) (at i many x : ℕ) (s : SoFar line at i many x) wher
           from = omega (arith, s.from, p.past);
           within = omega arith;
           few = omega (arith, s.few, p.past);
-          before = omega (arith, behind, p.past);
+          before = before_more y next (next + 1) behind (omega arith);
           stand = stood;
           on = λ h. to_place h ∙ follows line h s.sites next (place_of line i) k (and_right (ltb next (length line)) (eqb (get_or line next 0) comma) t);
         }

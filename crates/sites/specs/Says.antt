@@ -1,5 +1,7 @@
 -- What a list of places that was found in a line says: which places they are, where each stands, and how reading goes on behind them.
-use Rattle.std.specs.Prelude.{◌≡◌, true, cond, List, [], ◌∷◌, map, ℕ, ◌+◌, ◌≤◌, ◌<◌, eqb, length, get_or, drop}
+use Rattle.std.specs.Prelude.{◌≡◌, true, cond, List, [], ◌∷◌, map, ℕ, ◌+◌, ◌≤◌, ◌<◌, eqb, length, get_or, drop, Some, None, Result, Ok, Err}
+use Rattle.std.specs.Prelude.{Option as Perhaps}
+use Rattle.scope.specs.declared.grammar.Stuck.{Stuck}
 use Rattle.std.proofs.Math.Option.{none}
 use Rattle.scope.specs.declared.grammar.Mode.TheVariants.{Listed as behind_list}
 use Rattle.scope.specs.Bytes.{upper, dash}
@@ -11,10 +13,7 @@ use Rattle.scope.specs.Reading.{Held, with_places, outside, placing, stuck}
 use Rattle.scope.specs.Refusals.{least}
 use Rattle.reading_laws.proofs.Run.{rest}
 use Rattle.texts.specs.Texts.{coded}
-use Rattle.sites.specs.declared.PlaceAt.{PlaceAt}
-use Rattle.sites.specs.declared.PlaceAt.TheVariants.{Stuck as PlaceStuck, Ends as PlaceEnds}
 use Rattle.sites.specs.declared.Listed.{Listed}
-use Rattle.sites.specs.declared.Listed.TheVariants.{Stuck, Ends}
 
 -- ---- a place, by the bytes of a line
 -- the terminus whose word begins with a letter, or 0
@@ -51,9 +50,9 @@ pub record WordReads (line : List ℕ) (at : ℕ) (word : List ℕ) (next : ℕ)
   pub within : next ≤ length line
   pub on : (h : Held ℕ) (ps : List (Place ℕ)) (p : Place ℕ) → rest line at (placing h (owed ps p word)) ≡ rest line next (placing h (placed ps p))
 
-unfoldable pub WordSays : List ℕ → ℕ → List ℕ → PlaceAt → Type 0
-WordSays line at word (PlaceStuck i) = (h : Held ℕ) (ps : List (Place ℕ)) (p : Place ℕ) → rest line at (placing h (owed ps p word)) ≡ stuck i
-WordSays line at word (PlaceEnds next) = WordReads line at word next
+unfoldable pub WordSays : List ℕ → ℕ → List ℕ → Result ℕ Stuck → Type 0
+WordSays line at word (Err e) = (h : Held ℕ) (ps : List (Place ℕ)) (p : Place ℕ) → rest line at (placing h (owed ps p word)) ≡ stuck e.at
+WordSays line at word (Ok next) = WordReads line at word next
 
 -- ---- a place, behind any others
 pub record PlaceReads (line : List ℕ) (at next : ℕ) : Type 0 where
@@ -64,27 +63,32 @@ pub record PlaceReads (line : List ℕ) (at next : ℕ) : Type 0 where
   -- no word begins with it
   pub whole : eqb (get_or line next 0) dash ≡ true → terminus_of (place_of line at).site ≡ none
 
-unfoldable pub PlaceSays : List ℕ → ℕ → PlaceAt → Type 0
-PlaceSays line at (PlaceStuck i) = (h : Held ℕ) (ps : List (Place ℕ)) → rest line at (placing h (expected ps)) ≡ stuck i
-PlaceSays line at (PlaceEnds next) = PlaceReads line at next
+unfoldable pub PlaceSays : List ℕ → ℕ → Result ℕ Stuck → Type 0
+PlaceSays line at (Err e) = (h : Held ℕ) (ps : List (Place ℕ)) → rest line at (placing h (expected ps)) ≡ stuck e.at
+PlaceSays line at (Ok next) = PlaceReads line at next
 
 -- ---- a list of them
 -- how many, and the first past the limit
-pub record Counts (ps : List (Place ℕ)) (many over : ℕ) : Type 0 where
+pub record Counts (ps : List (Place ℕ)) (many : ℕ) (over : Perhaps ℕ) : Type 0 where
   pub many_is : many ≡ length ps
   pub over_is : over ≡ coded (least (drop place_limit (map (λ p. p.at) ps)))
 
+-- a place, if there is one, stands before another
+abbrev pub Before : Perhaps ℕ → ℕ → Type 0
+Before None next = Unit {0}
+Before (Some i) next = i < next
+
 -- whatever is held, reading on from `at`, where a list begins, comes at `next` to the mode behind one
-pub record ListReads (line : List ℕ) (at next many over : ℕ) : Type 0 where
+pub record ListReads (line : List ℕ) (at next many : ℕ) (over : Perhaps ℕ) : Type 0 where
   pub sites : List (Place ℕ)
   pub counts : Counts sites many over
   pub past : at < next
   pub within : next ≤ length line
   pub many_within : many ≤ next
-  pub over_within : over ≤ next
+  pub over_within : Before over next
   pub stand : Stand line at sites (next + 1)
   pub on : (h : Held ℕ) → rest line at (placing h (expected [])) ≡ rest line next (outside behind_list (with_places sites h))
 
-abbrev pub ListSays : List ℕ → ℕ → Listed → Type 0
-ListSays line at (Stuck i) = (h : Held ℕ) → rest line at (placing h (expected [])) ≡ stuck i
-ListSays line at (Ends next many over) = ListReads line at next many over
+abbrev pub ListSays : List ℕ → ℕ → Result Listed Stuck → Type 0
+ListSays line at (Err e) = (h : Held ℕ) → rest line at (placing h (expected [])) ≡ stuck e.at
+ListSays line at (Ok r) = ListReads line at r.next r.many r.over

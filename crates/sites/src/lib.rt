@@ -6,109 +6,88 @@ ghost use Rattle.scope.specs.Bytes.{comma};
 ghost use Rattle.scope.specs.Limits.{place_limit};
 ghost use Rattle.sites.specs.Says.{terminus_or, terminus_at, SiteIs, WordSays, PlaceSays, ListSays};
 
+use scope::grammar::Stuck;
 use scope::tables::Tables;
 
 // The bytes of `N-term` and `C-term`.
 const WORD: usize = 6;
 
-// A list of places: the place where none goes on; or the byte behind it, how many places there are, and where there are too many, one more than the place of the first
-// past the limit, else 0.
-#[derive(Drop)]
-pub enum Listed {
-    Stuck(usize),
-    Ends {
-        next: usize,
-        many: usize,
-        over: usize,
-    },
+// A list of places: the byte behind it, how many places there are, and the first past the limit, if there is one.
+#[derive(Clone, Copy, Debug, PartialEq, Eq)]
+pub struct Listed {
+    pub next: usize,
+    pub many: usize,
+    pub over: Option<usize>,
 }
 
 // The list that begins at `at`.
-pub fn list_at(line: &[u8], at: usize) -> Listed
+pub fn list_at(line: &[u8], at: usize) -> Result<Listed, Stuck>
     requires { at ≤ length line.now }
     ensures { ListSays line.now at result }
 {
     let mut i = at;
     let mut many = 0;
-    let mut over = 0;
+    let mut over = None;
     loop {
-        match place_at(line, i) {
-            PlaceAt::Stuck(p) => {
-                return Listed::Stuck(p);
-            }
-            PlaceAt::Ends(next) => {
-                over = first_over(over, many, i + 1);
-                many += 1;
-                if !more_at(line, next) {
-                    return Listed::Ends { next, many, over };
-                }
-                i = next + 1;
-            }
+        let next = place_at(line, i)?;
+        over = first_over(over, many, i);
+        many += 1;
+        if !more_at(line, next) {
+            return Ok(Listed { next, many, over });
         }
+        i = next + 1;
     }
 }
 
 // With one place more behind so many: the first past the limit.
-fn first_over(over: usize, many: usize, place: usize) -> usize
-    ensures { result ≡ cond (eqb many place_limit) place over }
+fn first_over(over: Option<usize>, many: usize, place: usize) -> Option<usize>
+    ensures { result ≡ cond (eqb many place_limit) (Some place) over }
 {
     if many == Tables::PLACES {
-        return place;
+        Some(place)
+    } else {
+        over
     }
-    over
 }
 
 // Whether a place more follows.
 fn more_at(line: &[u8], at: usize) -> bool
     ensures { result ≡ (ltb at (length line.now) && eqb (get_or line.now at 0) comma) }
 {
-    if at < line.len() {
-        return line[at] == b',';
-    }
-    false
+    at < line.len() && line[at] == b','
 }
 
-// One place, or the rest of its word: the place where it goes on no further, or the byte behind it.
-#[derive(Drop)]
-enum PlaceAt {
-    Stuck(usize),
-    Ends(usize),
-}
-
-// The place that begins at `at`.
-fn place_at(line: &[u8], at: usize) -> PlaceAt
+// The place that begins at `at`: the byte behind it.
+fn place_at(line: &[u8], at: usize) -> Result<usize, Stuck>
     requires { at ≤ length line.now }
     ensures { PlaceSays line.now at result }
 {
-    if at == line.len() {
-        return PlaceAt::Stuck(at);
-    }
-    if !classes::is_letter(line[at]) {
-        return PlaceAt::Stuck(at);
+    if at == line.len() || !classes::is_letter(line[at]) {
+        return Err(Stuck { at });
     }
     if terminus_at(line, at) == 0 {
-        return PlaceAt::Ends(at + 1);
+        return Ok(at + 1);
     }
     word_at(line, at + 2, b"term")
 }
 
-// The rest of a word, in either case.
-fn word_at(line: &[u8], at: usize, word: &[u8]) -> PlaceAt
+// The rest of a word, in either case: the byte behind it.
+fn word_at(line: &[u8], at: usize, word: &[u8]) -> Result<usize, Stuck>
     requires { at ≤ length line.now }
     ensures { WordSays line.now at word.now result }
 {
     let mut k = 0;
     while k < word.len() {
         if at + k == line.len() {
-            return PlaceAt::Stuck(at + k);
+            return Err(Stuck { at: at + k });
         }
         if classes::upper(word[k]) == classes::upper(line[at + k]) {
             k += 1;
         } else {
-            return PlaceAt::Stuck(at + k);
+            return Err(Stuck { at: at + k });
         }
     }
-    PlaceAt::Ends(at + k)
+    Ok(at + k)
 }
 
 // The site of the terminus whose word begins at `at`: 0 where none does.
@@ -116,30 +95,26 @@ fn terminus_at(line: &[u8], at: usize) -> u8
     requires { at < length line.now }
     ensures { result ≡ terminus_at line.now at }
 {
-    if at + 1 == line.len() {
-        return 0;
+    if at + 1 < line.len() && line[at + 1] == b'-' {
+        terminus_of(classes::upper(line[at]))
+    } else {
+        0
     }
-    if line[at + 1] == b'-' {
-        return terminus_of(classes::upper(line[at]));
-    }
-    0
 }
 
 // The terminus whose word begins with a letter, given in upper case.
 fn terminus_of(letter: u8) -> u8
     ensures { result ≡ terminus_or letter }
 {
-    if letter == b'N' {
-        return Tables::N_TERMINUS;
+    match letter {
+        b'N' => Tables::N_TERMINUS,
+        b'C' => Tables::C_TERMINUS,
+        _ => 0,
     }
-    if letter == b'C' {
-        return Tables::C_TERMINUS;
-    }
-    0
 }
 
 // A place: its site, a letter in upper case, 1 the N-terminus, 2 the C-terminus; and the byte behind it.
-#[derive(Drop)]
+#[derive(Clone, Copy, Debug, PartialEq, Eq)]
 pub struct Site {
     pub site: u8,
     pub next: usize,

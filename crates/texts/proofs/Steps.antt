@@ -10,6 +10,7 @@ use lib.Dec.{eqb}
 use lib.ListN.{length, get_or, drop, drop_of_length-le}
 use lib.Seq.{drop-cons, drop-drop}
 use borrow.Author.Tests.{ne_eqb, eqb-true, not-true}
+use Rattle.std.specs.Prelude.{Option as Perhaps}
 use Rattle.basics.specs.Each.{NoneOf}
 use Rattle.basics.specs.Tests.{both_of}
 use Rattle.scope.specs.Bytes.{is_printable, is_letter, is_opening, is_shutting}
@@ -60,7 +61,7 @@ inner_quiet b e = not-true (is_opening b) (both_of (is_printable b && not (is_sh
 
 -- bytes that leave the closers as they are, and open nothing
 module _ (p : ℕ → Bool) (hashes : Bool) (cs : List ℕ) (still : (b : ℕ) → p b ≡ true → text_step hashes cs b ≡ some cs) (quiet : (b : ℕ) → p b ≡ true → is_opening b ≡ false) where
-  scan_over : (l : List ℕ) (i d : ℕ) → scan_deep hashes cs l i d ≡ scan_deep hashes cs (drop (span p l) l) (i + span p l) d
+  scan_over : (l : List ℕ) (i : ℕ) (d : Perhaps ℕ) → scan_deep hashes cs l i d ≡ scan_deep hashes cs (drop (span p l) l) (i + span p l) d
   unfolding scan_deep span
   scan_over [] i d =
       let e : i + 0 ≡ i = omega arith in
@@ -77,20 +78,20 @@ module _ (p : ℕ → Bool) (hashes : Bool) (cs : List ℕ) (still : (b : ℕ) �
           let f : i + 0 ≡ i = omega arith in
           rw f
 
-  pub scan_run : (s : List ℕ) (at i d : ℕ) → i ≡ at + span p (drop at s) → scan_deep hashes cs (drop at s) at d ≡ scan_deep hashes cs (drop i s) i d
+  pub scan_run : (s : List ℕ) (at i : ℕ) (d : Perhaps ℕ) → i ≡ at + span p (drop at s) → scan_deep hashes cs (drop at s) at d ≡ scan_deep hashes cs (drop i s) i d
   scan_run s at i d e =
       scan_over (drop at s) at d
       ∙ ap (λ l. scan_deep hashes cs l (at + span p (drop at s)) d) (drop-drop (span p (drop at s)) at s)
       ∙ ap (λ j. scan_deep hashes cs (drop j s) j d) (sym e)
 
 -- one byte of a text, and none
-pub scan_at : (hashes : Bool) (cs s : List ℕ) (i d : ℕ) → i < length s
+pub scan_at : (hashes : Bool) (cs s : List ℕ) (i : ℕ) (d : Perhaps ℕ) → i < length s
     → scan_deep hashes cs (drop i s) i d
     ≡ given (text_step hashes cs (get_or s i 0)) (λ cs'. scan_deep hashes cs' (drop (i + 1) s) (i + 1) (deeper cs (get_or s i 0) i d)) (stopped_deep cs i d)
 unfolding scan_deep
 scan_at hashes cs s i d h = rw (drop-cons s i 0, add-one)
 
-pub scan_end : (hashes : Bool) (cs s : List ℕ) (i d : ℕ) → length s ≤ i → scan_deep hashes cs (drop i s) i d ≡ stopped_deep cs i d
+pub scan_end : (hashes : Bool) (cs s : List ℕ) (i : ℕ) (d : Perhaps ℕ) → length s ≤ i → scan_deep hashes cs (drop i s) i d ≡ stopped_deep cs i d
 unfolding scan_deep
 scan_end hashes cs s i d h = rw (drop_of_length-le s h)
 

@@ -13,10 +13,11 @@ use Rattle.scope.specs.Bytes.{is_printable, is_opening, is_shutting, closer_of, 
 use Rattle.scope.specs.Lists.{given, part}
 use Rattle.scope.specs.Content.{is_plain, text_step}
 use Rattle.scope.specs.Refusals.{due_at, least, depth_after, too_deep}
-use Rattle.texts.specs.declared.TextEnd.{TextEnd}
-use Rattle.texts.specs.declared.TextEnd.TheVariants.{Ends, Stuck}
-use Rattle.texts.specs.Texts.{TextScanned, ends, stuck, stopped, scan_text, coded, told, opens_too_deep, first_of, deeper, stopped_deep, scan_deep, is_outer}
-use Rattle.texts.proofs.Firsts.{first_none, first_first, first_some}
+use Rattle.std.specs.Prelude.{Some, None, Ok, Err}
+use Rattle.std.specs.Prelude.{Option as Perhaps}
+use Rattle.std.specs.Option.{option_or}
+use Rattle.texts.specs.Texts.{TextScanned, ends, stuck, stopped, scan_text, coded, Told, ended, stuck_at, told, opens_too_deep, deeper, stopped_deep, scan_deep, is_outer}
+use Rattle.texts.proofs.Firsts.{first_none, first_first}
 use Rattle.texts.proofs.Bounds.{place_of, in_scan}
 use Rattle.texts.proofs.Steps.{outer_quiet}
 
@@ -46,10 +47,13 @@ pub lowest : (i : ℕ) (o : Option ℕ) → Above (i + 1) o → given o (min i) 
 lowest i none h = refl
 lowest i (some k) h = omega arith
 
+abbrev some_at : ℕ → Perhaps ℕ
+some_at i = Some i
+
 -- the first place, from i on, with d pairs open
-unfoldable deep_from : ℕ → ℕ → List ℕ → ℕ
-deep_from d i [] = 0
-deep_from d i (b ∷ t) = cond (opens_too_deep d b) (i + 1) (deep_from (depth_after d b) (i + 1) t)
+unfoldable deep_from : ℕ → ℕ → List ℕ → Perhaps ℕ
+deep_from d i [] = None
+deep_from d i (b ∷ t) = cond (opens_too_deep d b) (Some i) (deep_from (depth_after d b) (i + 1) t)
 
 deep_is : (t : List ℕ) (d i : ℕ) → deep_from d i t ≡ coded (least (too_deep d i t))
 unfolding deep_from too_deep least
@@ -57,8 +61,8 @@ deep_is [] d i = refl
 deep_is (b ∷ t) d i = go (opens_too_deep d b) (deep_is t (depth_after d b) (i + 1))
   where
     go : (x : Bool) → deep_from (depth_after d b) (i + 1) t ≡ coded (least (too_deep (depth_after d b) (i + 1) t))
-        → cond x (i + 1) (deep_from (depth_after d b) (i + 1) t) ≡ coded (least (due_at x i ++ too_deep (depth_after d b) (i + 1) t))
-    go true ih = ap (λ k. k + 1) (sym (lowest i (least (too_deep (depth_after d b) (i + 1) t)) (above (depth_after d b) (i + 1) t)))
+        → cond x (Some i) (deep_from (depth_after d b) (i + 1) t) ≡ coded (least (due_at x i ++ too_deep (depth_after d b) (i + 1) t))
+    go true ih = ap some_at (sym (lowest i (least (too_deep (depth_after d b) (i + 1) t)) (above (depth_after d b) (i + 1) t)))
     go false ih = ih
 
 -- ---- the closers that are owed are as many as the pairs that are open
@@ -112,35 +116,35 @@ stepped hashes (c ∷ cs) cs' b h e = go (is_opening b) refl (eqb b c) refl (is_
     go false p false q false r f = absurd (let w : ◌≡◌ {A = ℕ} 0 1 = cc in omega arith)
 
 -- ---- behind what is told before i, with n pairs open there
-abbrev told_from : ℕ → ℕ → ℕ → List ℕ → TextScanned → TextEnd
-told_from d n i l (ends e) = Ends e (first_of d (deep_from n i (take (e - i) l)))
-told_from d n i l (stuck e) = Stuck e
+abbrev told_from : Perhaps ℕ → ℕ → ℕ → List ℕ → TextScanned → Told
+told_from d n i l (ends e) = ended e (option_or d (deep_from n i (take (e - i) l)))
+told_from d n i l (stuck e) = stuck_at e
 
-told_stopped : (cs l : List ℕ) (i d : ℕ) → stopped_deep cs i d ≡ told_from d (length cs) i l (stopped cs i)
+told_stopped : (cs l : List ℕ) (i : ℕ) (d : Perhaps ℕ) → stopped_deep cs i d ≡ told_from d (length cs) i l (stopped cs i)
 unfolding deep_from
 told_stopped [] l i d =
     let z : i - i ≡ 0 = omega arith in
-    rw z (ap (Ends i) (sym (first_none d)))
+    rw z (ap (ended i) (sym (first_none d)))
 told_stopped (c ∷ cs) l i d = refl
 
-one_more : (n i d b : ℕ) (t : List ℕ) → first_of (cond (opens_too_deep n b) (first_of d (i + 1)) d) (deep_from (depth_after n b) (i + 1) t) ≡ first_of d (deep_from n i (b ∷ t))
+one_more : (n i : ℕ) (d : Perhaps ℕ) (b : ℕ) (t : List ℕ) → option_or (cond (opens_too_deep n b) (option_or d (Some i)) d) (deep_from (depth_after n b) (i + 1) t) ≡ option_or d (deep_from n i (b ∷ t))
 unfolding deep_from
 one_more n i d b t = go (opens_too_deep n b)
   where
-    go : (x : Bool) → first_of (cond x (first_of d (i + 1)) d) (deep_from (depth_after n b) (i + 1) t) ≡ first_of d (cond x (i + 1) (deep_from (depth_after n b) (i + 1) t))
-    go true = first_first d (i + 1) (deep_from (depth_after n b) (i + 1) t) ∙ ap (first_of d) (first_some (i + 1) (deep_from (depth_after n b) (i + 1) t) (λ e. omega arith))
+    go : (x : Bool) → option_or (cond x (option_or d (Some i)) d) (deep_from (depth_after n b) (i + 1) t) ≡ option_or d (cond x (Some i) (deep_from (depth_after n b) (i + 1) t))
+    go true = first_first d (Some i) (deep_from (depth_after n b) (i + 1) t)
     go false = refl
 
-told_on : (cs cs' l : List ℕ) (b i d : ℕ) → Stepped cs cs' b → (r : TextScanned) → i + 1 ≤ place_of r
+told_on : (cs cs' l : List ℕ) (b i : ℕ) (d : Perhaps ℕ) → Stepped cs cs' b → (r : TextScanned) → i + 1 ≤ place_of r
     → told_from (deeper cs b i d) (length cs') (i + 1) l r ≡ told_from d (length cs) i (b ∷ l) r
 unfolding deeper
 told_on cs cs' l b i d w (ends e) k =
     let m : e - i ≡ suc (e - (i + 1)) = omega arith in
     let n = w.deep in
-    rw (n, m) (ap (Ends e) (one_more (length cs) i d b (take (e - (i + 1)) l)))
+    rw (n, m) (ap (ended e) (one_more (length cs) i d b (take (e - (i + 1)) l)))
 told_on cs cs' l b i d w (stuck e) k = refl
 
-scan_told : (hashes : Bool) (cs l : List ℕ) (i d : ℕ) → Shut cs → scan_deep hashes cs l i d ≡ told_from d (length cs) i l (scan_text hashes cs l i)
+scan_told : (hashes : Bool) (cs l : List ℕ) (i : ℕ) (d : Perhaps ℕ) → Shut cs → scan_deep hashes cs l i d ≡ told_from d (length cs) i l (scan_text hashes cs l i)
 unfolding scan_deep scan_text
 scan_told hashes cs [] i d h = told_stopped cs [] i d
 scan_told hashes cs (b ∷ l) i d h = go (text_step hashes cs b) refl (λ cs' w. scan_told hashes cs' l (i + 1) (deeper cs b i d) w)
@@ -154,19 +158,26 @@ scan_told hashes cs (b ∷ l) i d h = go (text_step hashes cs b) refl (λ cs' w.
         ih cs' w.shut ∙ told_on cs cs' l b i d w (scan_text hashes cs' l (i + 1)) (in_scan hashes cs' l (i + 1) (i + 1 + length l) refl).0
     go none e ih = told_stopped cs (b ∷ l) i d
 
-told_whole : (s : List ℕ) (at : ℕ) (r : TextScanned) → told_from 0 0 at (drop at s) r ≡ told s at r
-unfolding first_of
-told_whole s at (ends e) = ap (Ends e) (deep_is (take (e - at) (drop at s)) 0 at)
+told_whole : (s : List ℕ) (at : ℕ) (r : TextScanned) → told_from None 0 at (drop at s) r ≡ told s at r
+told_whole s at (ends e) = ap (ended e) (deep_is (take (e - at) (drop at s)) 0 at)
 told_whole s at (stuck e) = refl
 
-pub text_told : (hashes : Bool) (s : List ℕ) (at : ℕ) → scan_deep hashes [] (drop at s) at 0 ≡ told s at (scan_text hashes [] (drop at s) at)
-text_told hashes s at = scan_told hashes [] (drop at s) at 0 tt ∙ told_whole s at (scan_text hashes [] (drop at s) at)
+pub text_told : (hashes : Bool) (s : List ℕ) (at : ℕ) → scan_deep hashes [] (drop at s) at None ≡ told s at (scan_text hashes [] (drop at s) at)
+text_told hashes s at = scan_told hashes [] (drop at s) at None tt ∙ told_whole s at (scan_text hashes [] (drop at s) at)
 
 -- ---- and the other way round
-pub told_ends : (s : List ℕ) (at : ℕ) (r : TextScanned) (e y : ℕ) → Ends e y ≡ told s at r → (ends e ≡ r) × (y ≡ coded (least (too_deep 0 at (part at (e - at) s))))
-told_ends s at (ends i) e y f = let same : e ≡ i = cc in let deep : y ≡ coded (least (too_deep 0 at (part at (i - at) s))) = cc in rw same (refl, deep)
+abbrev end_of : Told → ℕ
+end_of (Ok r) = r.to
+end_of (Err e) = e.at
+
+abbrev deep_of : Told → Perhaps ℕ
+deep_of (Ok r) = r.deep
+deep_of (Err e) = None
+
+pub told_ends : (s : List ℕ) (at : ℕ) (r : TextScanned) (e : ℕ) (y : Perhaps ℕ) → ended e y ≡ told s at r → (ends e ≡ r) × (y ≡ coded (least (too_deep 0 at (part at (e - at) s))))
+told_ends s at (ends i) e y f = let same : e ≡ i = ap end_of f in rw same (refl, ap deep_of f)
 told_ends s at (stuck i) e y f = absurd (let z : ◌≡◌ {A = ℕ} 0 1 = cc in omega arith)
 
-pub told_stuck : (s : List ℕ) (at : ℕ) (r : TextScanned) (e : ℕ) → Stuck e ≡ told s at r → stuck e ≡ r
+pub told_stuck : (s : List ℕ) (at : ℕ) (r : TextScanned) (e : ℕ) → stuck_at e ≡ told s at r → stuck e ≡ r
 told_stuck s at (ends i) e f = absurd (let z : ◌≡◌ {A = ℕ} 0 1 = cc in omega arith)
-told_stuck s at (stuck i) e f = cc
+told_stuck s at (stuck i) e f = ap stuck (ap end_of f)

@@ -1,5 +1,8 @@
 -- How far a text goes, and where a pair in it is too deep: scope's own step, as far as it goes.
-use Rattle.std.specs.Prelude.{ℕ, ◌+◌, ◌-◌, ◌%◌, ◌≤◌, ◌<◌, ◌≡◌, Bool, not, cond, ◌&&◌, ◌||◌, List, [], ◌∷◌, eqb, leb, length, drop}
+use Rattle.std.specs.Prelude.{ℕ, ◌+◌, ◌-◌, ◌%◌, ◌≤◌, ◌<◌, ◌≡◌, Bool, not, cond, ◌&&◌, ◌||◌, List, [], ◌∷◌, eqb, leb, length, drop, Some, None, Result, Ok, Err}
+use Rattle.std.specs.Prelude.{Option as Perhaps}
+use Rattle.std.specs.Option.{option_or}
+use Rattle.scope.specs.declared.grammar.Stuck.{Stuck}
 use Rattle.std.proofs.Math.Option.{Option, none, some}
 use Rattle.scope.specs.Bytes.{is_printable, is_opening, is_shutting, shut_square, shut_curly, colon, hash}
 use Rattle.scope.specs.Limits.{depth_limit}
@@ -7,7 +10,6 @@ use Rattle.scope.specs.Lists.{given, part}
 use Rattle.scope.specs.Content.{is_plain, text_step}
 use Rattle.scope.specs.Refusals.{least, too_deep}
 use Rattle.texts.specs.declared.TextEnd.{TextEnd}
-use Rattle.texts.specs.declared.TextEnd.TheVariants.{Ends, Stuck}
 
 -- a text ends at a place, or is stuck there inside a pair
 pub data TextScanned : Type 0 where
@@ -24,15 +26,25 @@ unfoldable pub scan_text : Bool → List ℕ → List ℕ → ℕ → TextScanne
 scan_text hashes cs [] i = stopped cs i
 scan_text hashes cs (b ∷ l) i = given (text_step hashes cs b) (λ cs'. scan_text hashes cs' l (i + 1)) (stopped cs i)
 
--- 0 where there is no place, else one more than it
-abbrev pub coded : Option ℕ → ℕ
-coded none = 0
-coded (some i) = i + 1
+-- a place, if there is one, as a program has it
+abbrev pub coded : Option ℕ → Perhaps ℕ
+coded none = None
+coded (some i) = Some i
+
+-- where a text ends, with a place at which a pair is too deep, and where one is stuck, likewise
+abbrev pub Told : Type 0
+Told = Result TextEnd Stuck
+
+abbrev pub ended : ℕ → Perhaps ℕ → Told
+ended e d = Ok (record { to = e; deep = d })
+
+abbrev pub stuck_at : ℕ → Told
+stuck_at i = Err (record { at = i })
 
 -- a text that starts at `at`, as it is told: where it ends, and the first place in it at which a pair is too deep
-abbrev pub told : List ℕ → ℕ → TextScanned → TextEnd
-told line at (ends e) = Ends e (coded (least (too_deep 0 at (part at (e - at) line))))
-told line at (stuck i) = Stuck i
+abbrev pub told : List ℕ → ℕ → TextScanned → Told
+told line at (ends e) = ended e (coded (least (too_deep 0 at (part at (e - at) line))))
+told line at (stuck i) = stuck_at i
 
 -- a byte of a text outside every pair, and one inside a pair, that opens and closes nothing
 unfoldable pub is_outer : Bool → ℕ → Bool
@@ -46,49 +58,45 @@ is_inner b = is_printable b && not (is_shutting b) && not (is_opening b)
 abbrev pub opens_too_deep : ℕ → ℕ → Bool
 opens_too_deep d b = is_opening b && leb depth_limit d
 
--- the first of two places, each 0 where there is none, of which the other stands behind it
-unfoldable pub first_of : ℕ → ℕ → ℕ
-first_of a b = cond (eqb a 0) b a
-
 -- the first place at which a pair is too deep, behind the byte b at i
-unfoldable pub deeper : List ℕ → ℕ → ℕ → ℕ → ℕ
-deeper cs b i d = cond (opens_too_deep (length cs) b) (first_of d (i + 1)) d
+unfoldable pub deeper : List ℕ → ℕ → ℕ → Perhaps ℕ → Perhaps ℕ
+deeper cs b i d = cond (opens_too_deep (length cs) b) (option_or d (Some i)) d
 
-abbrev pub stopped_deep : List ℕ → ℕ → ℕ → TextEnd
-stopped_deep [] i d = Ends i d
-stopped_deep (c ∷ cs) i d = Stuck i
+abbrev pub stopped_deep : List ℕ → ℕ → Perhaps ℕ → Told
+stopped_deep [] i d = ended i d
+stopped_deep (c ∷ cs) i d = stuck_at i
 
 -- the bytes from the place i on, with the closers owed, and the first place before i at which a pair is too deep
-unfoldable pub scan_deep : Bool → List ℕ → List ℕ → ℕ → ℕ → TextEnd
+unfoldable pub scan_deep : Bool → List ℕ → List ℕ → ℕ → Perhaps ℕ → Told
 scan_deep hashes cs [] i d = stopped_deep cs i d
 scan_deep hashes cs (b ∷ l) i d = given (text_step hashes cs b) (λ cs'. scan_deep hashes cs' l (i + 1) (deeper cs b i d)) (stopped_deep cs i d)
 
 -- reading on behind a pair
-abbrev pub behind : TextEnd → (ℕ → ℕ → TextEnd) → TextEnd
-behind (Ends j x) go = go j x
-behind (Stuck j) go = Stuck j
+abbrev pub behind : Told → (ℕ → Perhaps ℕ → Told) → Told
+behind (Ok r) go = go r.to r.deep
+behind (Err e) go = Err e
 
-abbrev pub EndsPast : TextEnd → ℕ → ℕ → Type 0
-EndsPast (Ends j x) at n = (at < j) × (j ≤ n)
-EndsPast (Stuck j) at n = Unit {0}
+abbrev pub EndsPast : Told → ℕ → ℕ → Type 0
+EndsPast (Ok r) at n = (at < r.to) × (r.to ≤ n)
+EndsPast (Err e) at n = Unit {0}
 
 -- what is told behind the byte before `at`, which opens a pair with so many around it
-unfoldable pub entered : ℕ → ℕ → ℕ → ℕ
-entered level at d = cond (leb depth_limit level) (first_of d at) d
+unfoldable pub entered : ℕ → ℕ → Perhaps ℕ → Perhaps ℕ
+entered level at d = cond (leb depth_limit level) (option_or d (Some (at - 1))) d
 
 -- r says where the pair that c closes is closed, read from at, with so many pairs around it, whatever closes these
-pub record Closed (s : List ℕ) (at c level : ℕ) (r : TextEnd) : Type 0 where
-  pub reads : (hashes : Bool) (cs : List ℕ) (d : ℕ) → length cs ≡ level
-      → scan_deep hashes (c ∷ cs) (drop at s) at (entered level at d) ≡ behind r (λ j x. scan_deep hashes cs (drop j s) j (first_of d x))
+pub record Closed (s : List ℕ) (at c level : ℕ) (r : Told) : Type 0 where
+  pub reads : (hashes : Bool) (cs : List ℕ) (d : Perhaps ℕ) → length cs ≡ level
+      → scan_deep hashes (c ∷ cs) (drop at s) at (entered level at d) ≡ behind r (λ j x. scan_deep hashes cs (drop j s) j (option_or d x))
   pub past : EndsPast r at (length s)
 
-abbrev pub TellsAt : TextEnd → ℕ → Type 0
-TellsAt (Ends j x) at = x ≡ at
-TellsAt (Stuck j) at = Unit {0}
+abbrev pub TellsAt : Told → ℕ → Type 0
+TellsAt (Ok r) at = r.deep ≡ Some (at - 1)
+TellsAt (Err e) at = Unit {0}
 
 -- the same of a pair that is too deep: with its place, or one before it, nothing in it is told
-pub record Crowded (s : List ℕ) (at c : ℕ) (r : TextEnd) : Type 0 where
-  pub reads : (hashes : Bool) (cs : List ℕ) (d : ℕ) → (d ≡ 0 → ⊥) → scan_deep hashes (c ∷ cs) (drop at s) at d ≡ behind r (λ j x. scan_deep hashes cs (drop j s) j d)
+pub record Crowded (s : List ℕ) (at c : ℕ) (r : Told) : Type 0 where
+  pub reads : (hashes : Bool) (cs : List ℕ) (d : Perhaps ℕ) → (d ≡ None → ⊥) → scan_deep hashes (c ∷ cs) (drop at s) at d ≡ behind r (λ j x. scan_deep hashes cs (drop j s) j d)
   pub past : EndsPast r at (length s)
   pub tells : TellsAt r at
 

@@ -22,8 +22,9 @@ use Rattle.classes.specs.Runs.{span}
 use Rattle.classes.proofs.Runs.{run_next, run_in}
 use Rattle.values.specs.declared.Form.{Form as FormTold}
 use Rattle.values.specs.declared.Form.TheVariants.{MassOrName, MassOnly, Digits, Alnums, Free, Composed}
-use Rattle.values.specs.declared.ValueAt.{ValueAt}
-use Rattle.values.specs.declared.ValueAt.TheVariants.{Stuck}
+use Rattle.std.specs.Prelude.{Result, Err}
+use Rattle.scope.specs.declared.grammar.Stuck.{Stuck}
+use Rattle.values.specs.declared.Value.{Value}
 use Rattle.values.specs.Says.{through}
 use Rattle.values.specs.Within.{SaysFrom, told, takes_mass, key_before}
 use Rattle.values.proofs.Through.{through_same, through_going, through_span, through_run}
@@ -40,7 +41,7 @@ unfolding inner_step
 sign_keyed c at k j b e = rw e
 
 pub sign_begins : (line : List ℕ) (at : ℕ) (key : Key) (j : ℕ) → j < length line → (F : Context ℕ → ℕ → Content ℕ)
-    → ((c : Context ℕ) → F c (get_or line j 0) ≡ going (in_number c at key j (signed (eqb (get_or line j 0) dash)))) → (r : ValueAt)
+    → ((c : Context ℕ) → F c (get_or line j 0) ≡ going (in_number c at key j (signed (eqb (get_or line j 0) dash)))) → (r : Result Value Stuck)
     → SaysFrom line at (j + 1) (λ c. inner_step (j + 1) (in_number c at key j (signed (eqb (get_or line j 0) dash)))) r → SaysFrom line at j F r
 sign_begins line at key j inside F f r w =
     said_before line at j (j + 1) F (λ c. inner_step (j + 1) (in_number c at key j (signed (eqb (get_or line j 0) dash))))
@@ -95,7 +96,7 @@ module _ (line : List ℕ) (from : ℕ) (t : FormTold) (b : Bool) where
   key_unsigned u e y f g = let z : takes_mass t ≡ true = ap takes_mass e ∙ y in rw z at (sym f ∙ g)
 
 module _ (line : List ℕ) (at : ℕ) (k : Key) (from : ℕ) where
-  pub key_mass : (t : FormTold) → t ≡ told (form k) → (takes_mass t && is_sign (get_or line from 0)) ≡ true → (r : ValueAt)
+  pub key_mass : (t : FormTold) → t ≡ told (form k) → (takes_mass t && is_sign (get_or line from 0)) ≡ true → (r : Result Value Stuck)
       → SaysFrom line at (from + 1) (λ c. inner_step (from + 1) (in_number c at k from (signed (eqb (get_or line from 0) dash)))) r → SaysFrom line at from (opened at k from) r
   key_mass t e f r w =
       let y = and_right (takes_mass t) _ f in
@@ -113,7 +114,7 @@ module _ (line : List ℕ) (at : ℕ) (k : Key) (from : ℕ) where
   unfolding inner_step text_end
   name_first c b f e = rw (f, e, f)
 
-  pub key_name : form k ≡ mass_or_name → is_sign (get_or line from 0) ≡ false → (r : ValueAt)
+  pub key_name : form k ≡ mass_or_name → is_sign (get_or line from 0) ≡ false → (r : Result Value Stuck)
       → SaysFrom line at from (λ c. inner_step from (in_text c at k (part from (from - from) line) [])) r → SaysFrom line at from (opened at k from) r
   key_name f e r w =
       alike line at from (opened at k from) (λ c. inner_step from (in_text c at k (part from (from - from) line) []))
@@ -123,14 +124,14 @@ module _ (line : List ℕ) (at : ℕ) (k : Key) (from : ℕ) where
   unfolding inner_step
   no_name c b f e = rw (f, e, f)
 
-  pub key_nothing : form k ≡ mass_only → is_sign (get_or line from 0) ≡ false → from ≤ length line → SaysFrom line at from (opened at k from) (Stuck from)
+  pub key_nothing : form k ≡ mass_only → is_sign (get_or line from 0) ≡ false → from ≤ length line → SaysFrom line at from (opened at k from) (Err (record { at = from }))
   key_nothing f e n =
       by_test (ltb from (length line))
       (λ t. lost_there line at from (opened at k from) (ltb-true from (length line) t) (λ c. no_name c (get_or line from 0) f e))
       (λ t. over line at from (opened at k from) (ltb-false from (length line) t) n)
 
   -- a text from the first byte on, whatever it is
-  pub key_text : (g : Form) → form k ≡ g → ((c : Context ℕ) → behind_key c at k g ≡ in_text c at k [] []) → (r : ValueAt)
+  pub key_text : (g : Form) → form k ≡ g → ((c : Context ℕ) → behind_key c at k g ≡ in_text c at k [] []) → (r : Result Value Stuck)
       → SaysFrom line at from (λ c. inner_step from (in_text c at k (part from (from - from) line) [])) r → SaysFrom line at from (opened at k from) r
   key_text g f texts r w =
       alike line at from (opened at k from) (λ c. inner_step from (in_text c at k (part from (from - from) line) []))
@@ -156,7 +157,7 @@ module _ (line : List ℕ) (at : ℕ) (k : Key) (from : ℕ) where
         let e = sym run in
         rw (e, long) at (through_span line s o h p (λ t. in_code c at k t) (code_step c) (drop from line) from [] refl)
 
-    pub key_code_lem : (r : ValueAt) → SaysFrom line at to (λ c. text_end c at k (part from (to - from) line) []) r → SaysFrom line at from (opened at k from) r
+    pub key_code_lem : (r : Result Value Stuck) → SaysFrom line at to (λ c. text_end c at k (part from (to - from) line) []) r → SaysFrom line at from (opened at k from) r
     key_code_lem r w =
         said_before line at from to (opened at k from) (λ c. text_end c at k (part from (to - from) line) [])
         (λ s o h c. ap (λ x. through line s o h from (inner_step from x)) (codes c) ∙ code_run s o h c
@@ -192,7 +193,7 @@ module _ (line : List ℕ) (at : ℕ) (inside : at < length line) (unsigned : is
   unfolding inner_step text_end
   not_plain e c = rw (unsigned, e, ne_eqb (get_or line at 0) hash no_hash)
 
-  no_word : n ≡ at → (r : ValueAt) → SaysFrom line at n (λ c. inner_step n (in_text c at NoKey word [])) r → SaysFrom line at at first r
+  no_word : n ≡ at → (r : Result Value Stuck) → SaysFrom line at n (λ c. inner_step n (in_text c at NoKey word [])) r → SaysFrom line at at first r
   no_word e r w =
       said_before line at at n first (λ c. inner_step n (in_text c at NoKey word []))
       (λ s o h c. through_same line s o h at (first c) (inner_step at (in_text c at NoKey [] [])) (λ m. not_plain (run_next is_plain line at at (sym e ∙ run) inside) c)
@@ -225,7 +226,7 @@ module _ (line : List ℕ) (at : ℕ) (inside : at < length line) (unsigned : is
         (λ t. word_colon c at n (get_or line n 0) word (eqb-true (get_or line n 0) colon t) (no_key word (rw t at e)))
         (λ t. word_text c at n (get_or line n 0) word (omega (arith, word_long)) (run_next is_plain line at n run k) (eqb-false (get_or line n 0) colon t))
 
-  pub word_name : key_before line at n ≡ NoKey → (r : ValueAt) → SaysFrom line at n (λ c. inner_step n (in_text c at NoKey word [])) r → SaysFrom line at at first r
+  pub word_name : key_before line at n ≡ NoKey → (r : Result Value Stuck) → SaysFrom line at n (λ c. inner_step n (in_text c at NoKey word [])) r → SaysFrom line at at first r
   word_name e r w =
       by_test (eqb n at) (λ t. no_word (eqb-true n at t) r w)
       (λ t. let m = further (eqb-false n at t) in
@@ -246,7 +247,7 @@ key_within line at n k e f = let here = key_inside line at n k e f in stands_ins
 
 module _ (line : List ℕ) (at : ℕ) (inside : at < length line) (unsigned : is_sign (get_or line at 0) ≡ false) (no_hash : get_or line at 0 ≡ hash → ⊥) (n : ℕ)
     (run : n ≡ at + span is_plain (drop at line)) where
-  pub word_key : (k : Key) → k ≡ key_before line at n → (k ≡ NoKey → ⊥) → (r : ValueAt)
+  pub word_key : (k : Key) → k ≡ key_before line at n → (k ≡ NoKey → ⊥) → (r : Result Value Stuck)
       → (n + 1 ≡ at + length (written k) → n + 1 ≤ length line → SaysFrom line at (n + 1) (opened at k (n + 1)) r) → SaysFrom line at at (λ c. inner_step at (begin c)) r
   unfolding key_before
   word_key k e f r w =

@@ -14,6 +14,7 @@ use Rattle.classes.specs.Runs.{span}
 use Rattle.classes.proofs.Classes.{letter_plain, plain_quiet}
 use Rattle.scope.specs.Bytes.{is_letter, is_digit, is_alnum, is_opening, is_shutting}
 use Rattle.scope.specs.Refusals.{least, too_deep}
+use Rattle.std.specs.Prelude.{None}
 use Rattle.values.specs.Says.{coded}
 use Rattle.values.specs.Within.{deep_in}
 
@@ -52,7 +53,7 @@ module _ (p : ℕ → Bool) (quiet : (b : ℕ) → p b ≡ true → Quiet b) whe
       go false e q ih = absurd (omega arith)
 
   -- a text of such bytes has no pair
-  pub none_deep : (line : List ℕ) (from to : ℕ) → to ≤ from + span p (drop from line) → 0 ≡ deep_in line from to
+  pub none_deep : (line : List ℕ) (from to : ℕ) → to ≤ from + span p (drop from line) → None ≡ deep_in line from to
   unfolding least too_deep
   none_deep line from to k =
       sym
@@ -71,6 +72,6 @@ module _ (p : ℕ → Bool) (quiet : (b : ℕ) → p b ≡ true → Quiet b) whe
       ∙ rw y))
 
 -- and so has none at all
-pub empty_deep : (i : ℕ) → 0 ≡ coded (least (too_deep 0 i []))
+pub empty_deep : (i : ℕ) → None ≡ coded (least (too_deep 0 i []))
 unfolding least too_deep
 empty_deep i = refl

@@ -8,3 +8,4 @@ pub mod Values
 pub mod Spelled
 pub mod Begins
 pub mod Words
+pub mod Bodies

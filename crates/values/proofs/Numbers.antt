@@ -1,6 +1,5 @@
 -- A number is read as far as it goes.
 use mathlib.Core.Path.{◌≡◌, refl, sym, ap, ◌∙◌}
-use mathlib.Core.Bool.{Bool, true, false, cond}
 use mathlib.Core.Option.{Option, none, some}
 use mathlib.Core.List.{List, [], ◌∷◌}
 use Prim.Native.Nat.{ℕ, ◌+◌, ◌<◌, ◌≤◌}
@@ -16,9 +15,11 @@ use Rattle.scope.specs.Lists.{given}
 use Rattle.scope.specs.Content.{Digits, signed, whole, pointed, broken, digit_step, number_end, Inner, Content, going, inner_step}
 use Rattle.scope.specs.Content as content
 use Rattle.scope.specs.Reading.{Held, stuck}
-use Rattle.scope.specs.Refusals.{in_range}
-use Rattle.numerals.specs.declared.Num.TheVariants.{Value, Wide, NoNumber}
-use Rattle.numerals.specs.Numerals.{Scanned, found, lost, ended, scan_number, kept, num_of}
+use Rattle.std.specs.Prelude.{None, Result, Ok, Err}
+use Rattle.std.specs.Prelude.{Option as Perhaps}
+use Rattle.scope.specs.declared.grammar.Stuck.{Stuck}
+use Rattle.numerals.specs.declared.Num.{Num}
+use Rattle.numerals.specs.Numerals.{Scanned, found, lost, ended, scan_number, kept_in_range, num_of}
 use Rattle.values.specs.Says.{through}
 use Rattle.values.proofs.Through.{below, byte_there, drop_on, through_end, through_same, through_lost, through_going}
 
@@ -77,37 +78,23 @@ module _ (line : List ℕ) (s : Slot) (o : ℕ) (h : Held ℕ) (p : ℕ) (c : Di
       go none e ih = stop j d k (λ m. ap (digit_step d) (byte_there line j b l w) ∙ e)
 
 -- ---- what was scanned, by what it was told as
-pub record InRange (sc : Scanned) (v : Kept) (e : ℕ) : Type 0 where
+abbrev next_of : Result Num Stuck → ℕ
+next_of (Ok r) = r.next
+next_of (Err e) = e.at
+
+abbrev number_told : Result Num Stuck → Perhaps Kept
+number_told (Ok r) = r.number
+number_told (Err e) = None
+
+pub record Found (sc : Scanned) (r : Num) : Type 0 where
   pub number : Number ℕ
-  pub is : sc ≡ found number e
-  pub range : in_range number ≡ true
-  pub value : kept number ≡ v
+  pub is : sc ≡ found number r.next
+  pub told : r.number ≡ kept_in_range number
 
-pub in_range_lem : (sc : Scanned) (v : Kept) (e : ℕ) → num_of sc ≡ Value v e → InRange sc v e
-in_range_lem (found n i) v e w = go (in_range n) refl w
-  where
-    go : (x : Bool) → in_range n ≡ x → cond x (Value (kept n) i) (Wide i) ≡ Value v e → InRange (found n i) v e
-    go true r u = record { number = n; is = cc; range = r; value = cc }
-    go false r u = absurd (let z : ◌≡◌ {A = ℕ} 0 1 = cc in omega arith)
-in_range_lem (lost i) v e w = absurd (let z : ◌≡◌ {A = ℕ} 0 1 = cc in omega arith)
+pub number_found : (sc : Scanned) (r : Num) → Ok r ≡ num_of sc → Found sc r
+number_found (found n i) r w = record { number = n; is = ap (found n) (sym (ap next_of w)); told = ap number_told w }
+number_found (lost i) r w = absurd (let z : ◌≡◌ {A = ℕ} 0 1 = cc in omega arith)
 
-pub record OutOfRange (sc : Scanned) (e : ℕ) : Type 0 where
-  pub number : Number ℕ
-  pub is : sc ≡ found number e
-  pub range : in_range number ≡ false
-
-pub out_of_range : (sc : Scanned) (e : ℕ) → num_of sc ≡ Wide e → OutOfRange sc e
-out_of_range (found n i) e w = go (in_range n) refl w
-  where
-    go : (x : Bool) → in_range n ≡ x → cond x (Value (kept n) i) (Wide i) ≡ Wide e → OutOfRange (found n i) e
-    go true r v = absurd (let z : ◌≡◌ {A = ℕ} 0 1 = cc in omega arith)
-    go false r v = record { number = n; is = cc; range = r }
-out_of_range (lost i) e w = absurd (let z : ◌≡◌ {A = ℕ} 0 1 = cc in omega arith)
-
-pub no_number : (sc : Scanned) (e : ℕ) → num_of sc ≡ NoNumber e → sc ≡ lost e
-no_number (found n i) e w = go (in_range n) w
-  where
-    go : (x : Bool) → cond x (Value (kept n) i) (Wide i) ≡ NoNumber e → found n i ≡ lost e
-    go true v = absurd (let z : ◌≡◌ {A = ℕ} 0 1 = cc in omega arith)
-    go false v = absurd (let z : ◌≡◌ {A = ℕ} 0 1 = cc in omega arith)
-no_number (lost i) e w = cc
+pub no_number : (sc : Scanned) (e : Stuck) → Err e ≡ num_of sc → sc ≡ lost e.at
+no_number (found n i) e w = absurd (let z : ◌≡◌ {A = ℕ} 0 1 = cc in omega arith)
+no_number (lost i) e w = ap lost (sym (ap next_of w))

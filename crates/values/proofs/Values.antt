@@ -1,70 +1,47 @@
 -- Masses and texts as values: from what was scanned to what is said.
-use mathlib.Core.Path.{◌≡◌, refl, sym, ap, subst, ◌∙◌}
-use mathlib.Core.Bool.{Bool, true, false}
+use mathlib.Core.Path.{◌≡◌, refl, sym, ap, ap₂, subst, ◌∙◌}
+use mathlib.Core.Bool.{Bool, false}
 use mathlib.Core.Option.{none, some}
 use mathlib.Core.List.{List, [], ◌++◌}
-use Prim.Native.Nat.{ℕ, suc, ◌+◌, ◌-◌, ◌^◌, ◌<◌, ◌≤◌}
+use Prim.Native.Nat.{ℕ, suc, ◌+◌, ◌-◌, ◌<◌, ◌≤◌}
 use native.Mathlib.Omega.{arith}
 use borrow.Author.Tests.{ltb-true, ltb-false}
-use mir.Syntax.{w64}
-use mir.Val.{of_z, to_z, hbits}
-use lib.Signed.{mag}
-use mir.Facts.{to_z-of_z}
 use lib.Dec.{ltb}
-use lib.IntN.{ℤ, pos}
 use lib.ListN.{length, get_or, take, drop, length-take, length-drop}
 use lib.Seq.{drop-cons, take-add, drop-drop}
 use Rattle.basics.specs.Choice.{by_test}
 use Rattle.scope.specs.declared.grammar.Slot.{Slot}
 use Rattle.scope.specs.declared.grammar.Key.{Key}
-use Rattle.scope.specs.declared.tables.Number.{Number as Kept}
 use Rattle.scope.specs.Line.{Number, mass, text}
 use Rattle.scope.specs.Keys.{written, form, hash_is_plain}
-use Rattle.scope.specs.Layout.{mass_code, text_code}
 use Rattle.scope.specs.Lists.{given, part}
 use Rattle.scope.specs.Content.{Digits, digit_step, number_end, Context, in_number, in_text, Content, lost, going, value_end, text_end, unlabelled, inner_step}
 use Rattle.scope.specs.Reading.{Held, nothing, front}
-use Rattle.scope.specs.Refusals.{in_range, least, too_deep}
+use Rattle.scope.specs.Refusals.{least, too_deep}
 use Rattle.numerals.specs.declared.Num.{Num}
-use Rattle.numerals.specs.declared.Num.TheVariants.{Value as NumValue, Wide as NumWide, NoNumber}
-use Rattle.numerals.specs.Numerals.{Scanned, found, scan_number, kept, num_of}
+use Rattle.numerals.specs.Numerals.{Scanned, found, scan_number, kept_in_range, num_of}
 use Rattle.texts.specs.Texts.{TextScanned, ends, stuck as text_over, scan_text}
 use Rattle.texts.proofs.Bounds.{text_in_lem}
-use Rattle.sheet.specs.Rows.{mass_noted, decimals_noted}
+use Rattle.values.specs.declared.Body.{Body}
+use Rattle.values.specs.declared.Body.TheVariants.{Mass, Text}
+use Rattle.std.specs.Prelude.{Option as Perhaps}
+use Rattle.std.specs.Prelude.{Result, Ok, Err}
+use Rattle.scope.specs.declared.grammar.Stuck.{Stuck}
 use Rattle.values.specs.declared.Value.{Value}
-use Rattle.values.specs.declared.ValueAt.{ValueAt}
-use Rattle.values.specs.declared.ValueAt.TheVariants.{Stuck, Read}
-use Rattle.values.specs.Says.{through, wide_code, code_of, coded}
+use Rattle.values.specs.Says.{through, coded}
 use Rattle.values.specs.Within.{SaysFrom, deep_in}
 use Rattle.values.proofs.Through.{through_same}
 use Rattle.values.proofs.Saying.{said_before, over, lost_there}
 use Rattle.values.proofs.Texts.{TextSays, text_says}
-use Rattle.values.proofs.Numbers.{NumberSays, number_says, in_range_lem, out_of_range, no_number}
-use Rattle.values.proofs.Depths.{empty_deep}
+use Rattle.values.proofs.Numbers.{NumberSays, number_says, number_found, no_number}
 
 -- a value, by its fields
-abbrev pub made : Key → ℕ → ℕ → ℕ → ℤ → ℕ → ℕ → Value
-made k c f t m d x = record { key = k; code = c; from = f; to = t; mass = m; decimals = d; deep = x }
-
-pub same_value : (k : Key) (t : ℕ) {c c' f f' : ℕ} {m m' : ℤ} {d d' x x' : ℕ} → c ≡ c' → f ≡ f' → m ≡ m' → d ≡ d' → x ≡ x' → made k c f t m d x ≡ made k c' f' t m' d' x'
-same_value k t {c} {c'} {f} {f'} {m} {m'} {d} {d'} {x} {x'} p q r u v =
-    ap (λ z. made k z f t m d x) p ∙ ap (λ z. made k c' z t m d x) q ∙ ap (λ z. made k c' f' t z d x) r ∙ ap (λ z. made k c' f' t m' z x) u
-    ∙ ap (λ z. made k c' f' t m' d' z) v
+abbrev pub made : Key → Body → ℕ → ℕ → Value
+made k b f t = record { key = k; body = b; from = f; to = t }
 
 -- some bracket, for what holds of every one
 abbrev some_context : Context ℕ
 some_context = record { shut = 0; refers = false; labels = false; parts = [] }
-
--- a number that fits is told as it is
-pub told_whole : (z : ℤ) → mag z < 2 ^ hbits w64 → to_z w64 (of_z w64 z) ≡ z
-told_whole z h = to_z-of_z {w = w64} {z = z} (record { sfits = h })
-
--- a mass in range as it is noted
-mass_kept : (n : Number ℕ) (v : Kept) → in_range n ≡ true → kept n ≡ v → v.millionths ≡ mass_noted (mass n)
-mass_kept n v r k = ap (λ x. x.millionths) (sym k) ∙ rw r
-
-decimals_kept : (n : Number ℕ) (v : Kept) → in_range n ≡ true → kept n ≡ v → v.decimals ≡ decimals_noted (mass n)
-decimals_kept n v r k = ap (λ x. x.decimals) (sym k) ∙ rw r
 
 -- ---- masses, whose sign stands at `sign`
 module _ (line : List ℕ) (at : ℕ) (key : Key) (sign j : ℕ) (d : Digits) (starts : at ≤ sign) (behind : sign < j) (inside : j ≤ length line) where
@@ -89,15 +66,14 @@ module _ (line : List ℕ) (at : ℕ) (key : Key) (sign j : ℕ) (d : Digits) (s
       (number_says line s o h sign (λ y. in_number c at key sign y) (λ m. value_end c (unlabelled at key (mass m))) (mass_goes c) (mass_stops c) (drop j line) j d refl inside)
 
   -- it is a number
-  mass_found : (n : Number ℕ) (e : ℕ) → scan_number sign d (drop j line) j ≡ found n e → (c : ℕ) (m : ℤ) (x : ℕ)
-      → c ≡ code_of (mass n) → m ≡ mass_noted (mass n) → x ≡ decimals_noted (mass n) → SaysFrom line at j mass_start (Read (made key c sign e m x 0))
+  mass_found : (n : Number ℕ) (e : ℕ) → scan_number sign d (drop j line) j ≡ found n e → SaysFrom line at j mass_start (Ok (made key (Mass (kept_in_range n)) sign e))
   unfolding SaysFrom
-  mass_found n e f c m x p q r =
+  mass_found n e f =
       let facts = mass_says (found n e) f front 0 nothing some_context in
       record {
         found = unlabelled at key (mass n);
         is_value = record {
-          is = same_value key e p (sym facts.2) q r (empty_deep (at + length (written key)));
+          is = ap (λ i. made key (Mass (kept_in_range n)) i e) (sym facts.2);
           place = refl;
           bare = refl;
           stands = record { as_read = tt; text_is = refl; text_inside = omega arith; label_is = refl; label_inside = omega arith };
@@ -109,32 +85,23 @@ module _ (line : List ℕ) (at : ℕ) (key : Key) (sign j : ℕ) (d : Digits) (s
         on = λ s o h c. (mass_says (found n e) f s o h c).3;
       }
 
-  module _ (num : Num) (scanned : num ≡ num_of (scan_number sign d (drop j line) j)) where
-    pub mass_value : (v : Kept) (e : ℕ) → num ≡ NumValue v e → (m : ℤ) → m ≡ v.millionths
-        → SaysFrom line at j mass_start (Read (made key mass_code sign e m v.decimals 0))
-    mass_value v e t m same =
-        let i = in_range_lem (scan_number sign d (drop j line) j) v e (sym scanned ∙ t) in
-        let n = i.range in
-        mass_found i.number e i.is mass_code m v.decimals (rw n) (same ∙ mass_kept i.number v n i.value) (decimals_kept i.number v n i.value)
+  pub mass_some : (r : Num) → Ok r ≡ num_of (scan_number sign d (drop j line) j) → SaysFrom line at j mass_start (Ok (made key (Mass r.number) sign r.next))
+  mass_some r t =
+      let i = number_found (scan_number sign d (drop j line) j) r t in
+      rw i.told (mass_found i.number r.next i.is)
 
-    pub mass_wide : (e : ℕ) → num ≡ NumWide e → SaysFrom line at j mass_start (Read (made key wide_code sign e (pos 0) 0 0))
-    mass_wide e t =
-        let i = out_of_range (scan_number sign d (drop j line) j) e (sym scanned ∙ t) in
-        let n = i.range in
-        mass_found i.number e i.is wide_code (pos 0) 0 (rw n) (rw n) (rw n)
-
-    pub mass_none : (e : ℕ) → num ≡ NoNumber e → SaysFrom line at j mass_start (Stuck e)
-    unfolding SaysFrom
-    mass_none e t = λ s o h c. mass_says _ (no_number (scan_number sign d (drop j line) j) e (sym scanned ∙ t)) s o h c
+  pub mass_none : (e : Stuck) → Err e ≡ num_of (scan_number sign d (drop j line) j) → SaysFrom line at j mass_start (Err e)
+  unfolding SaysFrom
+  mass_none e t = λ s o h c. mass_says _ (no_number (scan_number sign d (drop j line) j) e t) s o h c
 
 -- ---- texts
-module _ (line : List ℕ) (at : ℕ) (key : Key) (from to deep : ℕ) (behind : from ≡ at + length (written key)) (before : from ≤ to) (inside : to ≤ length line)
+module _ (line : List ℕ) (at : ℕ) (key : Key) (from to : ℕ) (deep : Perhaps ℕ) (behind : from ≡ at + length (written key)) (before : from ≤ to) (inside : to ≤ length line)
     (depth : deep ≡ deep_in line from to) where
   abbrev words : List ℕ
   words = part from (to - from) line
 
   -- an empty one
-  pub text_none : from ≡ to → SaysFrom line at to (λ c. text_end c at key words []) (Stuck to)
+  pub text_none : from ≡ to → SaysFrom line at to (λ c. text_end c at key words []) (Err (record { at = to }))
   unfolding text_end
   text_none e =
       let z : to - from ≡ 0 = omega arith in
@@ -153,13 +120,13 @@ module _ (line : List ℕ) (at : ℕ) (key : Key) (from to deep : ℕ) (behind :
   long : length words ≡ to - from
   long = length-take (to - from) (drop from line) ∙ (let e = length-drop from line in omega arith)
 
-  pub text_some : (from ≡ to → ⊥) → SaysFrom line at to (λ c. text_end c at key words []) (Read (made key text_code from to (pos 0) 0 deep))
+  pub text_some : (from ≡ to → ⊥) → SaysFrom line at to (λ c. text_end c at key words []) (Ok (made key (Text deep) from to))
   unfolding SaysFrom
   text_some f =
       record {
         found = unlabelled at key (text words);
         is_value = record {
-          is = same_value key to refl behind refl refl (depth ∙ ap (λ i. coded (least (too_deep 0 i words))) behind);
+          is = ap₂ (λ d i. made key (Text d) i to) (depth ∙ ap (λ i. coded (least (too_deep 0 i words))) behind) behind;
           place = refl;
           bare = refl;
           stands = record {
@@ -198,13 +165,13 @@ module _ (line : List ℕ) (at : ℕ) (key : Key) (from scan : ℕ) (hashes : Bo
       subst (λ x. TextSays line s o h c at key hashes plain scan first_words [] (drop scan line) x) (sym f)
       (text_says line s o h c at key hashes plain (drop scan line) scan first_words [] refl inside)
 
-  pub text_ends : (e : ℕ) → ends e ≡ scan_text hashes [] (drop scan line) scan → (r : ValueAt)
+  pub text_ends : (e : ℕ) → ends e ≡ scan_text hashes [] (drop scan line) scan → (r : Result Value Stuck)
       → SaysFrom line at e (λ c. text_end c at key (part from (e - from) line) []) r
       → SaysFrom line at scan (λ c. inner_step scan (in_text c at key first_words [])) r
   text_ends e f r says =
       said_before line at scan e (λ c. inner_step scan (in_text c at key first_words [])) (λ c. text_end c at key (part from (e - from) line) [])
       (λ s o h c. (text_facts (ends e) f s o h c).2 ∙ ap (λ x. through line s o h e (text_end c at key x [])) (whole e (text_end_within line scan hashes inside e f).0)) r says
 
-  pub text_stuck : (e : ℕ) → text_over e ≡ scan_text hashes [] (drop scan line) scan → SaysFrom line at scan (λ c. inner_step scan (in_text c at key first_words [])) (Stuck e)
+  pub text_stuck : (e : ℕ) → text_over e ≡ scan_text hashes [] (drop scan line) scan → SaysFrom line at scan (λ c. inner_step scan (in_text c at key first_words [])) (Err (record { at = e }))
   unfolding SaysFrom
   text_stuck e f = λ s o h c. text_facts (text_over e) f s o h c

@@ -1,5 +1,7 @@
 -- What a value that was found in a line says: which part it begins, and how reading goes on behind it.
-use Rattle.std.specs.Prelude.{◌≡◌, Bool, true, cond, ◌&&◌, List, ℕ, ◌+◌, ◌≤◌, ltb, length, get_or}
+use Rattle.std.specs.Prelude.{◌≡◌, Bool, true, cond, ◌&&◌, List, ℕ, ◌+◌, ◌≤◌, ltb, length, get_or, pos, Some, None, Result, Ok, Err}
+use Rattle.scope.specs.declared.grammar.Stuck.{Stuck}
+use Rattle.scope.specs.declared.tables.Number.{Number as Kept}
 use Rattle.std.proofs.Math.Option.{none}
 use Rattle.scope.specs.declared.grammar.Slot.{Slot}
 use Rattle.scope.specs.Line.{Value as Written, mass, text, reference, composition, Part}
@@ -7,14 +9,15 @@ use Rattle.scope.specs.Keys.{written}
 use Rattle.scope.specs.Lists.{none?}
 use Rattle.scope.specs.Content.{Context, begin, Content, inner_step, value_end}
 use Rattle.scope.specs.Reading.{Held, resume, Reading, stuck}
-use Rattle.scope.specs.Refusals.{least, deep_part, in_range}
-use Rattle.scope.specs.Layout.{mass_code, text_code, reference_code, composition_code}
+use Rattle.scope.specs.Refusals.{least, deep_part}
+use Rattle.scope.specs.Layout.{mass_code, text_code, reference_code}
 use Rattle.reading_laws.proofs.Run.{rest}
 pub use Rattle.texts.specs.Texts.{coded}
-use Rattle.sheet.specs.Rows.{text_to, decimals_noted, mass_noted, Stands}
+use Rattle.numerals.specs.Numerals.{kept_in_range}
+use Rattle.sheet.specs.Rows.{text_to, Stands}
 use Rattle.values.specs.declared.Value.{Value}
-use Rattle.values.specs.declared.ValueAt.{ValueAt}
-use Rattle.values.specs.declared.ValueAt.TheVariants.{Stuck, Read}
+use Rattle.values.specs.declared.Body.{Body}
+use Rattle.values.specs.declared.Body.TheVariants.{Mass, Text, Reference}
 
 -- ---- reading on: the byte at j, where there is one, does f inside the bracket
 unfoldable pub through : List ℕ → Slot → ℕ → Held ℕ → ℕ → (ℕ → Content ℕ) → Reading
@@ -29,15 +32,24 @@ abbrev pub GoesOn : List ℕ → ℕ → (Context ℕ → Type 0) → (Context �
 GoesOn line j C F i G = (s : Slot) (o : ℕ) (h : Held ℕ) (c : Context ℕ) → C c → through line s o h j (F c) ≡ through line s o h i (G c)
 
 -- ---- a part that has no label yet, as a value
--- a mass out of range has a code of its own, above those that the tables have
-abbrev pub wide_code : ℕ
-wide_code = composition_code + 1
+-- a mass keeps its number where that is in range, a text where it is too deep; a composition is read as a text
+abbrev pub body_of : Part ℕ → Written ℕ → Body
+body_of q (mass n) = Mass (kept_in_range n)
+body_of q (text t) = Text (coded (least (deep_part q)))
+body_of q reference = Reference
+body_of q (composition t n) = Text (coded (least (deep_part q)))
 
-abbrev pub code_of : Written ℕ → ℕ
-code_of (mass n) = cond (in_range n) mass_code wide_code
-code_of (text t) = text_code
-code_of reference = reference_code
-code_of (composition t n) = composition_code
+-- the code in a part's row, and the number that is noted
+abbrev pub body_code : Body → ℕ
+body_code (Mass n) = mass_code
+body_code (Text d) = text_code
+body_code Reference = reference_code
+
+abbrev pub number_in : Body → Kept
+number_in (Mass (Some n)) = n
+number_in (Mass None) = record { millionths = pos 0; decimals = 0 }
+number_in (Text d) = record { millionths = pos 0; decimals = 0 }
+number_in Reference = record { millionths = pos 0; decimals = 0 }
 
 abbrev pub from_of : Part ℕ → Written ℕ → ℕ
 from_of q (mass n) = n.at
@@ -49,12 +61,9 @@ abbrev pub value_of : Part ℕ → ℕ → Value
 value_of q to =
     record {
       key = q.key;
-      code = code_of q.value;
+      body = body_of q q.value;
       from = from_of q q.value;
       to = to;
-      mass = mass_noted q.value;
-      decimals = decimals_noted q.value;
-      deep = coded (least (deep_part q));
     }
 
 -- a text ends where its value ends, and a reference is only its `#`
@@ -85,6 +94,6 @@ pub record ValueReads (line : List ℕ) (at : ℕ) (refers : Bool) (v : Value) :
   pub is_value : IsValue line at v found
   pub on : GoesOn line at (Opens refers) (λ c. inner_step at (begin c)) v.to (λ c. value_end c found)
 
-abbrev pub ValueSays : List ℕ → ℕ → Bool → ValueAt → Type 0
-ValueSays line at refers (Stuck p) = Stops line at (Opens refers) (λ c. inner_step at (begin c)) p
-ValueSays line at refers (Read v) = ValueReads line at refers v
+abbrev pub ValueSays : List ℕ → ℕ → Bool → Result Value Stuck → Type 0
+ValueSays line at refers (Err e) = Stops line at (Opens refers) (λ c. inner_step at (begin c)) e.at
+ValueSays line at refers (Ok v) = ValueReads line at refers v

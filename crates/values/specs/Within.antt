@@ -1,5 +1,7 @@
 -- What is said from a place within a part's value on, whatever bracket the part stands in.
-use Rattle.std.specs.Prelude.{◌≡◌, Bool, true, false, cond, List, ℕ, ◌+◌, ◌-◌, ◌≤◌, eqb, drop, get_or}
+use Rattle.std.specs.Prelude.{◌≡◌, Bool, true, false, cond, List, ℕ, ◌+◌, ◌-◌, ◌≤◌, eqb, drop, get_or, Result, Ok, Err}
+use Rattle.std.specs.Prelude.{Option as Perhaps}
+use Rattle.scope.specs.declared.grammar.Stuck.{Stuck}
 use Rattle.scope.specs.declared.grammar.Slot.{Slot}
 use Rattle.scope.specs.declared.grammar.Key.{Key}
 use Rattle.scope.specs.declared.grammar.Key.TheVariants.{NoKey}
@@ -16,8 +18,6 @@ use Rattle.values.specs.Says.{through, coded, IsValue}
 use Rattle.values.specs.declared.Form.{Form}
 use Rattle.values.specs.declared.Form.TheVariants.{MassOrName, MassOnly, Digits, Alnums, Free, Composed}
 use Rattle.values.specs.declared.Value.{Value}
-use Rattle.values.specs.declared.ValueAt.{ValueAt}
-use Rattle.values.specs.declared.ValueAt.TheVariants.{Stuck, Read}
 
 -- from j on, where the byte does F, the value of the part that begins at `at` is read
 pub record ValueReadsFrom (line : List ℕ) (at j : ℕ) (F : Context ℕ → ℕ → Content ℕ) (v : Value) : Type 0 where
@@ -25,9 +25,9 @@ pub record ValueReadsFrom (line : List ℕ) (at j : ℕ) (F : Context ℕ → �
   pub is_value : IsValue line at v found
   pub on : (s : Slot) (o : ℕ) (h : Held ℕ) (c : Context ℕ) → through line s o h j (F c) ≡ through line s o h v.to (value_end c found)
 
-unfoldable pub SaysFrom : List ℕ → ℕ → ℕ → (Context ℕ → ℕ → Content ℕ) → ValueAt → Type 0
-SaysFrom line at j F (Stuck p) = (s : Slot) (o : ℕ) (h : Held ℕ) (c : Context ℕ) → through line s o h j (F c) ≡ stuck p
-SaysFrom line at j F (Read v) = ValueReadsFrom line at j F v
+unfoldable pub SaysFrom : List ℕ → ℕ → ℕ → (Context ℕ → ℕ → Content ℕ) → Result Value Stuck → Type 0
+SaysFrom line at j F (Err e) = (s : Slot) (o : ℕ) (h : Held ℕ) (c : Context ℕ) → through line s o h j (F c) ≡ stuck e.at
+SaysFrom line at j F (Ok v) = ValueReadsFrom line at j F v
 
 -- what may stand behind a key, as it is told
 abbrev pub told : FormOf → Form
@@ -56,5 +56,5 @@ abbrev pub PlainTo : List ℕ → ℕ → ℕ → Type 0
 PlainTo line from to = to ≤ from + span is_plain (drop from line)
 
 -- where the text between two places has a pair that is too deep
-abbrev pub deep_in : List ℕ → ℕ → ℕ → ℕ
+abbrev pub deep_in : List ℕ → ℕ → ℕ → Perhaps ℕ
 deep_in line from to = coded (least (too_deep 0 from (part from (to - from) line)))

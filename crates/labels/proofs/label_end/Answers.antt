@@ -1,5 +1,4 @@
 -- A label is read where the line goes on behind it.
-use mir.Facts.{to_z-of_z}
 use Rattle.scope.specs.Content.{part_end, labelled}
 use Rattle.labels.proofs.Saying.{over}
 use Rattle.labels.proofs.Names.{label_read}
@@ -9,4 +8,4 @@ pub returns-then-line-next : goal.returns-then-line-next
 returns-then-line-next c s is a k = over _ _ _ (λ q x. part_end x (labelled q _ _ s)) c.if-line-next.true k
 
 pub returns : goal.returns
-returns c s is a k = label_read _ _ _ _ _ _ (to_z-of_z c.ranges.points) _ s is a c.if-line-next.false
+returns c s is a k = label_read _ _ _ _ _ s is a c.if-line-next.false

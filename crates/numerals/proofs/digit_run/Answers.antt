@@ -1,4 +1,3 @@
-use Prim.Native.Nat.{◌-◌}
 use mathlib.Core.Path.{sym, ◌∙◌}
 use Rattle.numerals.proofs.DigitLaws.{digits_start, digits_more, digits_stop, digits_end}
 use Rattle.numerals.proofs.digit_run.Goals as goal

@@ -1,29 +1,30 @@
-use Prim.Native.Nat.{◌-◌}
 use mathlib.Core.Path.{sym, ◌∙◌}
 use native.Mathlib.Omega.{arith}
 use borrow.Author.Rules.{rules}
-use borrow.Author.Tests.{not-true, not-false}
+use Rattle.std.proofs.lemmas.Result.{err_from_is_err_and}
 use Rattle.sites.proofs.Lists.{so_far_none, place_read, list_stuck, list_ends, list_more}
 use Rattle.sites.proofs.list_at.Goals as goal
 
-pub loop-p-init : goal.loop-p-init
-loop-p-init c = so_far_none _ _ (search rules)
+pub loop-next-init : goal.loop-next-init
+loop-next-init c = so_far_none _ _ (search rules)
 
 pub place_at-requires : goal.place_at-requires
-place_at-requires c = c.loop-p.invariant.within
+place_at-requires c = c.loop-next.invariant.within
 
-pub returns-in-Stuck : goal.returns-in-Stuck
-returns-in-Stuck c = list_stuck _ _ _ _ _ c.loop-p.invariant _ c.place_at.ensures _ c.in-Stuck.is
+pub returns-in_err-next : goal.returns-in_err-next
+returns-in_err-next c =
+    let p = err_from_is_err_and c.from_residual.result c.from_residual.ensures.1 in
+    rw (p.1, p.2) (list_stuck _ _ _ _ _ c.loop-next.invariant _ c.in_err-next.ensures)
 
 pub returns-then-not-more_at : goal.returns-then-not-more_at
 returns-then-not-more_at c =
-    list_ends _ _ _ _ _ c.loop-p.invariant _ (place_read _ _ _ c.place_at.ensures _ c.in-Ends.is) _ c.first_over-over.ensures (sym c.more_at.ensures ∙ c.if-not-more_at.true)
+    list_ends _ _ _ _ _ c.loop-next.invariant _ (place_read _ _ _ c.in_ok-next.ensures) _ c.first_over-over.ensures (sym c.more_at.ensures ∙ c.if-not-more_at.true)
 
-pub loop-p-smaller : goal.loop-p-smaller
-loop-p-smaller c =
-    let q = place_read _ _ _ c.place_at.ensures _ c.in-Ends.is in
+pub loop-next-smaller : goal.loop-next-smaller
+loop-next-smaller c =
+    let q = place_read _ _ _ c.in_ok-next.ensures in
     omega (arith, q.past, q.within)
 
-pub loop-p-preserved : goal.loop-p-preserved
-loop-p-preserved c =
-    list_more _ _ _ _ _ c.loop-p.invariant _ (place_read _ _ _ c.place_at.ensures _ c.in-Ends.is) _ c.first_over-over.ensures (sym c.more_at.ensures ∙ c.if-not-more_at.false)
+pub loop-next-preserved : goal.loop-next-preserved
+loop-next-preserved c =
+    list_more _ _ _ _ _ c.loop-next.invariant _ (place_read _ _ _ c.in_ok-next.ensures) _ c.first_over-over.ensures (sym c.more_at.ensures ∙ c.if-not-more_at.false)

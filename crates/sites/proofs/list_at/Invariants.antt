@@ -4,8 +4,8 @@ use lib.ListN.{length}
 use Rattle.sites.proofs.Lists.{SoFar}
 use Rattle.sites.proofs.list_at.Given as goal
 
-abbrev pub invariant-loop-p : goal.invariant-loop-p
-invariant-loop-p l = SoFar l.line l.at l.i l.many l.over
+abbrev pub invariant-loop-next : goal.invariant-loop-next
+invariant-loop-next l = SoFar l.line l.at l.i l.many l.over
 
-abbrev pub decreases-loop-p : goal.decreases-loop-p
-decreases-loop-p l = length l.line + 1 - l.i
+abbrev pub decreases-loop-next : goal.decreases-loop-next
+decreases-loop-next l = length l.line + 1 - l.i

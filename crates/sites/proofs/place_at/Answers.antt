@@ -1,15 +1,16 @@
--- The line is over; no letter; a letter by itself; the word of a terminus.
+-- The line is over, or no letter; a letter by itself; the word of a terminus.
 use borrow.Author.Rules.{rules}
-use borrow.Author.Tests.{not-true, not-false}
 use mathlib.Core.Path.{sym, ◌∙◌}
 use Rattle.sites.proofs.Lists.{place_over, place_not, letter_reads, word_inside, word_says}
 use Rattle.sites.proofs.place_at.Goals as goal
+use Rattle.sites.proofs.place_at.Goals.{then-at-line-via-then-at-line, then-at-line-via-else-at-line+then-not-is_letter}
 
 pub returns-then-at-line : goal.returns-then-at-line
-returns-then-at-line c = place_over _ _ c.if-at-line.true
-
-pub returns-then-not-is_letter : goal.returns-then-not-is_letter
-returns-then-not-is_letter c = place_not _ _ (search rules) (sym c.is_letter.ensures ∙ c.if-not-is_letter.true)
+returns-then-at-line c =
+    elim c.then-at-line.branch [
+      | then-at-line-via-then-at-line w ↦ place_over _ _ w.if-at-line.true
+      | then-at-line-via-else-at-line+then-not-is_letter w ↦ place_not _ _ (search rules) (sym w.is_letter.ensures ∙ w.if-not-is_letter.true)
+    ]
 
 pub returns-then-terminus_at-eq0 : goal.returns-then-terminus_at-eq0
 returns-then-terminus_at-eq0 c =

@@ -1,4 +1,3 @@
-use Prim.Native.Nat.{◌-◌}
 use borrow.Author.Rules.{rules}
 use Rattle.sites.proofs.Lists.{word_starts, word_whole, word_ends_early, word_differs, word_more}
 use Rattle.sites.proofs.word_at.Goals as goal

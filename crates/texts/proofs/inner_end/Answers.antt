@@ -1,5 +1,3 @@
-use Prim.Native.Nat.{◌-◌}
-use Rattle.texts.specs.Texts.{is_inner}
 use Rattle.classes.proofs.Runs.{run_enters, run_goes_on, run_stops, run_ends}
 use Rattle.texts.proofs.inner_end.Goals as goal
 

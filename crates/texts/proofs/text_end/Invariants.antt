@@ -4,8 +4,8 @@ use lib.ListN.{length}
 use Rattle.texts.proofs.Pairs.{Outside}
 use Rattle.texts.proofs.text_end.Given as goal
 
-abbrev pub invariant-loop-i : goal.invariant-loop-i
-invariant-loop-i l = Outside l.line l.at l.hashes l.i l.deep
+abbrev pub invariant-loop-to : goal.invariant-loop-to
+invariant-loop-to l = Outside l.line l.at l.hashes l.to l.deep
 
-abbrev pub decreases-loop-i : goal.decreases-loop-i
-decreases-loop-i l = length l.line - l.i
+abbrev pub decreases-loop-to : goal.decreases-loop-to
+decreases-loop-to l = length l.line - l.to

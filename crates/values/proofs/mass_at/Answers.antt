@@ -1,14 +1,14 @@
--- A number behind a sign is a mass in range or out of range, or is stuck.
+-- A number behind a sign is a mass, or is stuck.
 use borrow.Author.Rules.{rules}
-use Rattle.values.proofs.Values.{told_whole, mass_value, mass_wide, mass_none}
+use Rattle.std.proofs.lemmas.Result.{err_from_is_err_and}
+use Rattle.values.proofs.Values.{mass_some, mass_none}
 use Rattle.values.proofs.mass_at.Goals as goal
 
-pub returns-in-Value : goal.returns-in-Value
-returns-in-Value c =
-    λ at a. mass_value _ at _ _ _ _ a (search rules) (search rules) _ (c.number_after_sign-n.ensures _) _ _ c.in-Value.is _ (told_whole _ c.struct_told-1.given.0.1)
+pub returns-in_err-mass : goal.returns-in_err-mass
+returns-in_err-mass c =
+    λ at a.
+    let p = err_from_is_err_and c.from_residual.result c.from_residual.ensures.1 in
+    rw (p.1, p.2) (mass_none _ at _ _ _ _ a (search rules) (search rules) _ (c.in_err-mass.ensures _))
 
-pub returns-in-Wide : goal.returns-in-Wide
-returns-in-Wide c = λ at a. mass_wide _ at _ _ _ _ a (search rules) (search rules) _ (c.number_after_sign-n.ensures _) _ c.in-Wide.is
-
-pub returns-in-NoNumber : goal.returns-in-NoNumber
-returns-in-NoNumber c = λ at a. mass_none _ at _ _ _ _ a (search rules) (search rules) _ (c.number_after_sign-n.ensures _) _ c.in-NoNumber.is
+pub returns : goal.returns
+returns c = λ at a. mass_some _ at _ _ _ _ a (search rules) (search rules) _ (c.in_ok-mass.ensures _)

@@ -2,8 +2,8 @@
 use Rattle.values.proofs.Words.{refers, refers_not}
 use Rattle.values.proofs.reference_at.Goals as goal
 
-pub returns-then-refers : goal.returns-then-refers
-returns-then-refers c line k e = refers line _ _ k e c.if-refers.true
+pub returns-then-not-refers : goal.returns-then-not-refers
+returns-then-not-refers c line k e = refers_not line _ _ k e c.if-not-refers.true
 
 pub returns : goal.returns
-returns c line k e = refers_not line _ _ k e c.if-refers.false
+returns c line k e = refers line _ _ k e c.if-not-refers.false

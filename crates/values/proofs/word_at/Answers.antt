@@ -1,9 +1,7 @@
 -- Plain bytes are a key before its colon, or begin a name.
 use native.Mathlib.Omega.{arith}
 use mathlib.Core.Path.{sym, ◌∙◌}
-use borrow.Enum.Refused.{opened}
 use Rattle.scope.specs.Content.{is_plain}
-use Rattle.values.proofs.Tags.{other_key}
 use Rattle.values.proofs.Through.{run_inside}
 use Rattle.values.proofs.Begins.{word_name, word_key, key_within}
 use Rattle.values.proofs.word_at.Goals as goal

@@ -1,13 +1,15 @@
 -- Laws of `stored` and of `Puts`: nothing, one byte, one run behind another, and what the whole leaves. Assumes nothing.
 use mathlib.Core.Path.{◌≡◌, refl, sym, ap, ◌∙◌}
+use mathlib.Core.Bool.{Bool, true, false}
 use mathlib.Core.List.{List, [], ◌∷◌, ◌++◌}
 use Prim.Native.Nat.{ℕ, zero, suc, ◌+◌, ◌-◌, ◌/◌, ◌%◌, ◌^◌, ◌≤◌, ◌<◌, min}
 use native.Mathlib.Nat.{add-zero}
-use native.Mathlib.Numerals.{add-one}
 use native.Mathlib.Omega.{arith}
-use lib.ListN.{length, set, take, drop, get_or, length-append, length-take, length-drop, length-set}
-use lib.Seq.{set_out, drop-nil, take-suc, take-add, get_or-drop}
-use Rattle.scope.specs.Lists.{part}
+use lib.Dec.{leb}
+use lib.ListN.{length, set, take, drop, length-append, length-drop, length-set, drop_of_length-le}
+use lib.Seq.{set_out, drop-nil, take_all}
+use borrow.Author.Tests.{leb-true, leb-false}
+use borrow.Rule.Slice.PartMut.{put_mid}
 use Rattle.scope.specs.Canonical.{decimal, last_digits}
 use Rattle.figures.specs.Written.{stored, Puts, decimal_most}
 use Rattle.figures.proofs.Digits.{only_last, lead, as_decimal}
@@ -115,48 +117,35 @@ puts_lead k n {o} {at} {b} h e f =
     let most : 1 + k ≡ k + 1 = omega arith in
     rw (behind, most) at (puts_of (ap (λ x. x ∷ last_digits k (n % 10 ^ k)) e ∙ sym (lead k n h)) (puts_join (puts_stored o at b) f))
 
--- ---- a list and a part of an area, byte by byte
-pub taken_more : (l : List ℕ) (i : ℕ) → i < length l → take i l ++ (get_or l i 0 ∷ []) ≡ take (i + 1) l
-taken_more l i h = rw (add-one i) (sym (take-suc l i 0 h))
-
-part_more : (l : List ℕ) (at i : ℕ) → at + i < length l → part at i l ++ (get_or l (at + i) 0 ∷ []) ≡ part at (i + 1) l
-part_more l at i h =
-    let e : length (drop at l) ≡ _ = length-drop at l in
-    rw (sym (get_or-drop at l i 0)) (taken_more (drop at l) i (omega arith))
-
-part_length : (l : List ℕ) (at n : ℕ) → at + n ≤ length l → length (part at n l) ≡ n
-part_length l at n h = simp (length-take, length-drop) (omega arith)
-
-rest_over : (o : List ℕ) (at k : ℕ) (l : List ℕ) → (0 < k → length o ≤ at) → stored o at (take k l) ≡ o
-unfolding stored
-rest_over o at zero l h = refl
-rest_over o at (suc k) l h = stored_over o at (take (suc k) l) (h (omega arith))
-
+-- ---- a run of bytes at once: as many as fit, from a place on
 pub copied_none : (o : List ℕ) (at : ℕ) → Puts 0 o at [] o (at + 0)
 copied_none o at = rw (add-zero at) (puts_none o at)
 
-module _ (l : List ℕ) (start : ℕ) {o : List ℕ} {at : ℕ} {left : List ℕ} where
-  -- one byte of it more is stored
-  pub copied_more :
-      {i : ℕ} → start + i < length l → Puts i o at (part start i l) left (at + i)
-      → Puts (i + 1) o at (part start (i + 1) l) (set left (at + i) (get_or l (start + i) 0)) (at + (i + 1))
-  copied_more {i} h a =
-      let e : at + i + 1 ≡ at + (i + 1) = omega arith in
-      rw e at (puts_of (part_more l start i h) (puts_join a (puts_stored left (at + i) (get_or l (start + i) 0))))
+-- the output ends before the place
+pub copied_over : (w : List ℕ) {o : List ℕ} {at : ℕ} → length o ≤ at → Puts (length w) o at w o (at + length w)
+copied_over w {o} {at} h = record { holds = sym (stored_over o at w h); ends = refl; near = omega arith }
 
-  -- as many bytes of it as fit are stored: that is all
-  pub copied_all :
-      {m n : ℕ} → m ≡ min n (length o - at) → start + n ≤ length l → Puts m o at (part start m l) left (at + m)
-      → Puts n o at (part start n l) left (at + n)
-  copied_all {m} {n} e h a =
-      let s = part start m l in
-      let rest = part m (n - m) (drop start l) in
-      let w : m + (n - m) ≡ n = omega arith in
-      let split : part start n l ≡ s ++ rest = sym (ap (λ i. part start i l) w) ∙ take-add m (n - m) (drop start l) in
-      let long : length (part start n l) ≡ n = part_length l start n h in
-      let over = rest_over left (at + m) (n - m) (drop m (drop start l)) (λ z. omega (arith, puts_length a)) in
-      record {
-        holds = a.holds ∙ sym (ap (stored o at) split ∙ stored_append o at s rest ∙ rw (sym a.holds, sym a.ends) over);
-        ends = rw long;
-        near = omega arith;
-      }
+pub copied_all : (w o : List ℕ) (at m : ℕ) {u : List ℕ} {k : ℕ} → at < length o → m ≡ min (length w) (length o - at) → k ≡ m → u ≡ take m w
+    → Puts (length w) o at w (put_mid at k o u) (at + length w)
+copied_all w o at m {u} {k} h e q f =
+    let rest = drop at o in
+    let long : length rest ≡ length o - at = length-drop at o in
+    let whole : put_mid at k o u ≡ take at o ++ (take m w ++ drop m rest) = rw (q, f) refl in
+    record {
+      holds =
+          whole
+          ∙ ap (λ z. take at o ++ z) (fitting (leb (length w) (length rest)) refl)
+          ∙ sym (stored_from at o w ∙ ap (λ z. take at o ++ z) (stored_whole rest w));
+      ends = refl;
+      near = omega arith;
+    }
+  where
+    fitting : (b : Bool) → leb (length w) (length (drop at o)) ≡ b → take m w ++ drop m (drop at o) ≡ take (length (drop at o)) w ++ drop (length w) (drop at o)
+    fitting true z =
+        let l = leb-true (length w) (length (drop at o)) z in
+        let s : m ≡ length w = omega (arith, length-drop at o) in
+        rw s (ap (λ t. t ++ drop (length w) (drop at o)) (take_all (length w) w (omega arith) ∙ sym (take_all (length (drop at o)) w l)))
+    fitting false z =
+        let l = leb-false (length w) (length (drop at o)) z in
+        let s : m ≡ length (drop at o) = omega (arith, length-drop at o) in
+        rw s (ap (λ t. take (length (drop at o)) w ++ t) (drop_of_length-le (drop at o) {i = length (drop at o)} (omega arith) ∙ sym (drop_of_length-le (drop at o) {i = length w} (omega arith))))

@@ -1,9 +1,8 @@
 // Writes bytes and numbers into an output: what fits is stored, and all is counted.
 #![tactic(auto)]
 
-ghost use Rattle.std.specs.Prelude.{◌≡◌, [], ◌∷◌, ◌+◌, ◌-◌, ◌*◌, ◌/◌, ◌%◌, ◌^◌, ◌<◌, ◌≤◌, min, nat_abs, length};
+ghost use Rattle.std.specs.Prelude.{◌≡◌, [], ◌∷◌, ◌+◌, ◌-◌, ◌*◌, ◌/◌, ◌%◌, ◌^◌, ◌<◌, ◌≤◌, nat_abs, length};
 ghost use Rattle.scope.specs.Canonical.{decimal, last_digits, decimals, size, count_text};
-ghost use Rattle.scope.specs.Lists.{part};
 ghost use Rattle.scope.specs.Limits.{decimal_limit};
 ghost use Rattle.scope.specs.Layout.{is_negative, number_in};
 ghost use Rattle.figures.specs.Written.{Puts, DigitsIn, Grouped, ceiling, decimal_most, group_size, fraction_most, size_most, number_most, count_most, number_of, sign_text, number_text};
@@ -26,51 +25,20 @@ pub fn put(out: &mut [u8], at: usize, b: u8) -> usize
 {
     if at < out.len() {
         out[at] = b;
-        return at + 1;
     }
     at + 1
 }
 
-// How many of n bytes an output of so many has room for, from a place on.
-fn fitting(room: usize, at: usize, n: usize) -> usize
-    requires { at + n ≤ ceiling }
-    ensures { result ≡ min n (room - at) }
-{
-    if at + n <= room {
-        return n;
-    }
-    if room <= at {
-        return 0;
-    }
-    room - at
-}
-
-// A run of bytes of an area: those that fit are stored, and all are counted.
-pub fn copy(from: &[u8], start: usize, n: usize, out: &mut [u8], at: usize) -> usize
-    requires { (start + n ≤ length from.now) × (at + n ≤ ceiling) }
-    ensures { Puts n out.old at (part start n from.now) out.new result }
-{
-    let m = fitting(out.len(), at, n);
-    let mut i = 0;
-    while i < m {
-        out[at + i] = from[start + i];
-        i += 1;
-    }
-    at + n
-}
-
-// A fixed byte string.
+// A byte string: what fits is stored, and all is counted.
 pub fn word(w: &[u8], out: &mut [u8], at: usize) -> usize
     requires { at + length w.now ≤ ceiling }
     ensures { Puts (length w.now) out.old at w.now out.new result }
 {
-    let mut i = 0;
-    let mut a = at;
-    while i < w.len() {
-        a = put(out, a, w[i]);
-        i += 1;
+    if at < out.len() {
+        let m = w.len().min(out.len() - at);
+        out[at..at + m].copy_from_slice(&w[..m]);
     }
-    a
+    at + w.len()
 }
 
 // The byte of a digit.
@@ -78,10 +46,11 @@ fn digit(n: u64) -> u8
     requires { n < 10 }
     ensures { result ≡ 48 + n }
 {
-    48 + n as u8
+    b'0' + n as u8
 }
 
-// ---- digits: the leading one is stored, and what is left goes on to the next lower power of ten
+// ---- digits: the leading one is stored, and what is left goes on to the next lower power of ten. One function for each number of digits: each
+// divides by a constant, and a const argument cannot be worked out from another (`store::<{K - 1}>`); a loop would divide by a variable
 
 fn store_one(n: u64, out: &mut [u8], at: usize)
     requires { (n < 10 ^ 1) × (at + 1 ≤ length out.old) }
@@ -151,10 +120,8 @@ fn put_each(n: u64, out: &mut [u8], at: usize, k: usize) -> usize
     requires { (k ≤ group_size) × (at + k ≤ ceiling) }
     ensures { Puts k out.old at (last_digits k n) out.new result }
 {
-    let mut i = k;
     let mut a = at;
-    while 0 < i {
-        i -= 1;
+    for i in (0..k).rev() {
         a = put(out, a, digit(n / tens::power(i) % tens::TEN));
     }
     a
@@ -167,9 +134,10 @@ fn put_digits(n: u64, out: &mut [u8], at: usize, k: usize) -> usize
 {
     if at + k <= out.len() {
         store_digits(n, out, at, k);
-        return at + k;
+        at + k
+    } else {
+        put_each(n, out, at, k)
     }
-    put_each(n, out, at, k)
 }
 
 // How many digits a number of at most a group has.
@@ -177,14 +145,12 @@ fn digits_in(n: u64) -> usize
     requires { n < 10 ^ group_size }
     ensures { DigitsIn n result }
 {
-    let mut k = 1;
-    while k < GROUP {
+    for k in 1..GROUP {
         if n < tens::power(k) {
             return k;
         }
-        k += 1;
     }
-    k
+    GROUP
 }
 
 // The last g groups of digits of a number.
@@ -192,10 +158,8 @@ fn put_groups(n: u64, out: &mut [u8], at: usize, g: usize) -> usize
     requires { (group_size * g < decimal_most) × (at + group_size * g ≤ ceiling) }
     ensures { Puts (group_size * g) out.old at (last_digits (group_size * g) n) out.new result }
 {
-    let mut i = g;
     let mut a = at;
-    while 0 < i {
-        i -= 1;
+    for i in (0..g).rev() {
         a = put_digits(n / tens::power(GROUP * i), out, a, GROUP);
     }
     a
@@ -216,43 +180,26 @@ fn put_whole(n: u64, out: &mut [u8], at: usize) -> usize
     requires { at + decimal_most ≤ ceiling }
     ensures { Puts decimal_most out.old at (decimal n) out.new result }
 {
-    if n < tens::TEN {
-        return put_digits(n, out, at, 1);
+    match n {
+        0..tens::TEN => put_digits(n, out, at, 1),
+        tens::TEN..tens::HUNDRED => put_digits(n, out, at, 2),
+        tens::HUNDRED..tens::THOUSAND => put_digits(n, out, at, 3),
+        tens::THOUSAND..tens::TEN_THOUSAND => put_digits(n, out, at, 4),
+        tens::TEN_THOUSAND..tens::HUNDRED_THOUSAND => put_digits(n, out, at, 5),
+        tens::HUNDRED_THOUSAND..tens::MILLION => put_digits(n, out, at, 6),
+        tens::MILLION..1_000_000_000_000 => put_long(n, out, at, 1),
+        1_000_000_000_000..1_000_000_000_000_000_000 => put_long(n, out, at, 2),
+        _ => put_long(n, out, at, 3),
     }
-    if n < tens::HUNDRED {
-        return put_digits(n, out, at, 2);
-    }
-    if n < tens::THOUSAND {
-        return put_digits(n, out, at, 3);
-    }
-    if n < tens::TEN_THOUSAND {
-        return put_digits(n, out, at, 4);
-    }
-    if n < tens::HUNDRED_THOUSAND {
-        return put_digits(n, out, at, 5);
-    }
-    if n < tens::MILLION {
-        return put_digits(n, out, at, 6);
-    }
-    if n < tens::power(2 * GROUP) {
-        return put_long(n, out, at, 1);
-    }
-    if n < tens::power(3 * GROUP) {
-        return put_long(n, out, at, 2);
-    }
-    put_long(n, out, at, 3)
 }
 
 // ---- numbers
 
-// The size of a number: of a negative one by way of one less, which fits.
+// The size of a number.
 pub fn magnitude(m: i64) -> u64
     ensures { result ≡ nat_abs m }
 {
-    if m < 0 {
-        return (-1 - m) as u64 + 1;
-    }
-    m as u64
+    m.unsigned_abs()
 }
 
 // Whether a number is below zero.
@@ -276,9 +223,10 @@ pub fn put_decimal(n: u64, out: &mut [u8], at: usize) -> usize
     ensures { Puts decimal_most out.old at (decimal n) out.new result }
 {
     if n < tens::TEN {
-        return put(out, at, digit(n));
+        put(out, at, digit(n))
+    } else {
+        put_whole(n, out, at)
     }
-    put_whole(n, out, at)
 }
 
 // The point and what stands behind it, where there are decimals.
@@ -307,13 +255,11 @@ fn put_sign(minus: bool, always: bool, out: &mut [u8], at: usize) -> usize
     requires { at + 1 ≤ ceiling }
     ensures { Puts 1 out.old at (sign_text always minus) out.new result }
 {
-    if minus {
-        return put(out, at, b'-');
+    match (minus, always) {
+        (true, _) => put(out, at, b'-'),
+        (false, true) => put(out, at, b'+'),
+        (false, false) => at,
     }
-    if always {
-        return put(out, at, b'+');
-    }
-    at
 }
 
 // "masses always signed, scores signed only when negative"

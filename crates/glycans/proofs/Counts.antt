@@ -1,21 +1,18 @@
 -- The count that ends a text: the last byte, and the one before it. Assumes nothing.
-use Prim.Native.Nat.{ℕ, ◌+◌, ◌-◌, ◌*◌, ◌/◌, ◌%◌, ◌≤◌, ◌<◌}
-use native.Mathlib.Omega.{arith}
-use mathlib.Core.Path.{◌≡◌, refl, sym, ap, ap₂, ◌∙◌}
-use mathlib.Core.Bool.{Bool, true, false, cond, ◌&&◌}
-use mathlib.Core.Option.{none, some}
-use mathlib.Core.List.{List, [], ◌∷◌}
-use lib.Dec.{eqb, ltb, leb}
-use lib.ListN.{length, get_or}
-use borrow.Author.Tests.{leb-true, eqb-true, eqb-false, eq-eqb, ne_eqb, lt-leb, ltb-true, ltb-false}
+use Rattle.std.proofs.Common.{◌≡◌, refl, sym, ap, ap₂, ◌∙◌, arith, Bool, true, false, cond, ◌&&◌, List, [], ◌∷◌, ℕ, ◌+◌, ◌-◌, ◌*◌, ◌/◌, ◌%◌, ◌≤◌, ◌<◌, eqb, ltb, leb, length, get_or, take, length-take, leb-true, eqb-true, eq-eqb, ne_eqb, ltb-true, ltb-false}
+use Rattle.std.proofs.Math.Option.{none, some}
+use Rattle.std.proofs.lemmas.Bool.{lt-leb, eqb-false}
+use Rattle.std.specs.Prelude.{Option as Perhaps, Some, None}
+use lib.Seq.{take_all, take-take, get_or-take}
 use Rattle.scope.specs.Bytes.{upper, is_lower, is_digit, value}
 use Rattle.scope.specs.Glycans.{way, count_text}
 use Rattle.basics.specs.Tests.{and_left, and_right}
 use Rattle.glycan_laws.proofs.Digits.{one_digit, two_digits, behind_digit, last_count, one_digit_lem, two_digits_lem}
 use Rattle.glycan_laws.proofs.Enumerated.{a_digit}
 use Rattle.glycan_laws.proofs.Last.{upper_digit}
-use Rattle.glycans.specs.Cut.{back, digits_text, CountIs}
-use Rattle.glycans.proofs.Texts.{back_cons, back_nothing}
+use Rattle.glycans.specs.declared.Count.{Count}
+use Rattle.glycans.specs.Cut.{back, digits_text, CountAt, CountIs, DigitIs}
+use Rattle.glycans.proofs.Texts.{back_cons}
 
 -- ---- the digits written of a count
 pub dropped : {n : ℕ} → n ≡ 1 → digits_text n ≡ []
@@ -46,10 +43,6 @@ most_written n = by (ltb n 10) refl
 pub digit_range : (b : ℕ) → is_digit b ≡ true → (48 ≤ b) × (b ≤ 57)
 digit_range b e = (leb-true 48 b (and_left (leb 48 b) (leb b 57) e), leb-true b 57 (and_right (leb 48 b) (leb b 57) e))
 
-pub two_ranges : (s : List ℕ) (to : ℕ) → is_digit (get_or s (to - 1) 0) ≡ true → is_digit (get_or s (to - 2) 0) ≡ true
-    → (48 ≤ get_or s (to - 1) 0) × (get_or s (to - 1) 0 ≤ 57) × (48 ≤ get_or s (to - 2) 0) × (get_or s (to - 2) 0 ≤ 57)
-two_ranges s to e f = let b = digit_range (get_or s (to - 1) 0) e in let c = digit_range (get_or s (to - 2) 0) f in (b.0, b.1, c.0, c.1)
-
 digit_same : (b : ℕ) → is_digit b ≡ true → upper b ≡ b
 digit_same b e = let d = a_digit b e in ap upper d.1 ∙ upper_digit (value b) d.0 ∙ sym d.1
 
@@ -69,111 +62,106 @@ other_same b e = by (is_lower b) refl
     by false q = e
 
 -- ---- the last bytes of a text
-module _ (s : List ℕ) {from to : ℕ} (low : from < to) (high : to ≤ length s) where
+pub no_bytes : (t : List ℕ) → length t ≡ 0 → CountAt t 0 1
+unfolding last_count
+no_bytes [] e = record { written = none; counted = refl; few = omega arith; room = omega (arith, ap length (dropped {n = 1} refl)); last = refl }
+no_bytes (b ∷ t) e = absurd (omega arith)
+
+module _ (t : List ℕ) (some_byte : 0 < length t) where
   abbrev b : ℕ
-  b = get_or s (to - 1) 0
+  b = get_or t (length t - 1) 0
 
   abbrev c : ℕ
-  c = get_or s (to - 2) 0
+  c = get_or t (length t - 2) 0
 
-  last_byte : back s from to ≡ upper b ∷ back s from (to - 1)
-  last_byte = back_cons s from to low high
+  abbrev front : List ℕ
+  front = take (length t - 1) t
+
+  last_byte : back t ≡ upper b ∷ back front
+  last_byte = back_cons t some_byte
 
   -- no digit: no count is written
-  pub no_count : is_digit b ≡ false → CountIs s from to to 1
+  pub no_count : is_digit b ≡ false → CountAt t (length t) 1
   unfolding last_count
   no_count e =
       record {
-        there = λ h.
-            record {
-              written = none;
-              counted = refl;
-              few = omega arith;
-              behind = omega arith;
-              room = omega (arith, ap length (dropped {n = 1} refl));
-              last =
-                  ap last_count last_byte
-                  ∙ ap (λ z. cond z (behind_digit (upper b) (back s from (to - 1))) (some (way none (upper b ∷ back s from (to - 1))))) (other_same b e)
-                  ∙ ap (λ z. some (way none z)) (sym last_byte);
-            };
-        wrong = λ h. absurd (omega arith);
+        written = none;
+        counted = refl;
+        few = omega arith;
+        room = omega (arith, ap length (dropped {n = 1} refl));
+        last =
+            ap last_count last_byte
+            ∙ ap (λ z. cond z (behind_digit (upper b) (back front)) (some (way none (upper b ∷ back front)))) (other_same b e)
+            ∙ ap (λ z. some (way none z)) (sym last_byte ∙ ap back (sym (take_all (length t) t (omega arith))));
       }
 
   module _ (digit : is_digit b ≡ true) where
-    starts : back s from to ≡ b ∷ back s from (to - 1)
-    starts = last_byte ∙ ap (λ z. z ∷ back s from (to - 1)) (digit_same b digit)
-
-    behind_digit_lem : last_count (back s from to) ≡ behind_digit b (back s from (to - 1))
+    behind_digit_lem : last_count (back t) ≡ behind_digit b (back front)
     unfolding last_count
-    behind_digit_lem = ap last_count starts ∙ ap (λ z. cond z (behind_digit b (back s from (to - 1))) (some (way none (b ∷ back s from (to - 1))))) digit
+    behind_digit_lem =
+        ap last_count (last_byte ∙ ap (λ z. z ∷ back front) (digit_same b digit))
+        ∙ ap (λ z. cond z (behind_digit b (back front)) (some (way none (b ∷ back front)))) digit
 
     -- one digit: 0 is no count
-    one_is : behind_digit b (back s from (to - 1)) ≡ one_digit b (back s from (to - 1)) → {start n : ℕ} → (start ≡ to - 1) × (n ≡ b - 48) → CountIs s from to start n
-    one_is e {start} {n} r =
+    one_is : behind_digit b (back front) ≡ one_digit b (back front) → (r : Perhaps Count) → DigitIs b (length t) r → CountIs t r
+    one_is e None q = behind_digit_lem ∙ e ∙ ap (λ z. cond z none (some (way (some (value b)) (back front)))) (eq-eqb b 48 q)
+    one_is e (Some k) q =
         let range = digit_range b digit in
-        let same : back s from start ≡ back s from (to - 1) = ap (back s from) r.0 in
         record {
-          there = λ h.
-              let other : b ≡ 48 → ⊥ = λ q. h (omega (arith, r.1)) in
-              record {
-                written = some n;
-                counted = refl;
-                few = omega (arith, r.1);
-                behind = omega (arith, r.0);
-                room = omega (arith, r.0, few_written n (omega (arith, r.1)));
-                last =
-                    behind_digit_lem ∙ e
-                    ∙ ap (λ z. cond z none (some (way (some (value b)) (back s from (to - 1))))) (ne_eqb b 48 other)
-                    ∙ ap₂ (λ x y. some (way (some x) y)) (sym r.1) (sym same);
-              };
-          wrong = λ h. behind_digit_lem ∙ e ∙ ap (λ z. cond z none (some (way (some (value b)) (back s from (to - 1))))) (eq-eqb b 48 (omega (arith, r.1)));
+          written = some k.count;
+          counted = refl;
+          few = omega (arith, q.2);
+          room = omega (arith, q.1, few_written k.count (omega (arith, q.2)));
+          last =
+              behind_digit_lem ∙ e
+              ∙ ap (λ z. cond z none (some (way (some (value b)) (back front)))) (ne_eqb b 48 q.0)
+              ∙ ap₂ (λ x y. some (way (some x) (back (take y t)))) (sym q.2) (sym q.1);
         }
 
-    pub first_byte : to - 1 ≡ from → {start n : ℕ} → (start ≡ to - 1) × (n ≡ b - 48) → CountIs s from to start n
-    first_byte e r = let none = back_nothing s e in one_is (ap (behind_digit b) none ∙ ap (one_digit b) (sym none)) r
+    pub first_byte : length t ≡ 1 → (r : Perhaps Count) → DigitIs b (length t) r → CountIs t r
+    first_byte e =
+        let none : front ≡ [] = let z : length t - 1 ≡ 0 = omega arith in ap (λ n. take n t) z in
+        one_is (ap (λ z. behind_digit b (back z)) none ∙ ap (λ z. one_digit b (back z)) (sym none))
 
-    module _ (more : to - 1 ≡ from → ⊥) where
-      before : back s from (to - 1) ≡ upper c ∷ back s from (to - 2)
+    module _ (more : length t ≡ 1 → ⊥) where
+      abbrev more_front : List ℕ
+      more_front = take (length t - 2) t
+
+      before : back front ≡ upper c ∷ back more_front
       before =
-          let e : (to - 1) - 1 ≡ to - 2 = omega arith in
-          back_cons s from (to - 1) (omega (arith, more)) (omega arith) ∙ ap (λ z. upper (get_or s z 0) ∷ back s from z) e
+          let long : length front ≡ length t - 1 = omega (arith, length-take (length t - 1) t) in
+          let e : length front - 1 ≡ length t - 2 = omega arith in
+          back_cons front (omega (arith, more))
+          ∙ ap₂ (λ x y. upper x ∷ back y)
+          (ap (λ n. get_or front n 0) e ∙ get_or-take (length t - 1) t (length t - 2) 0 (omega (arith, more)))
+          (ap (λ n. take n front) e ∙ take-take (length t - 2) (length t - 1) t (omega arith))
 
-      pub after_name : is_digit c ≡ false → {start n : ℕ} → (start ≡ to - 1) × (n ≡ b - 48) → CountIs s from to start n
-      after_name e r =
+      pub after_name : is_digit c ≡ false → (r : Perhaps Count) → DigitIs b (length t) r → CountIs t r
+      after_name e =
           one_is
           (ap (behind_digit b) before
-          ∙ ap (λ z. cond z (two_digits b (upper c) (back s from (to - 2))) (one_digit b (upper c ∷ back s from (to - 2)))) (other_same c e)
+          ∙ ap (λ z. cond z (two_digits b (upper c) (back more_front)) (one_digit b (upper c ∷ back more_front))) (other_same c e)
           ∙ ap (one_digit b) (sym before))
-          r
 
       module _ (digit-2 : is_digit c ≡ true) where
-        two_is : last_count (back s from to) ≡ two_digits b c (back s from (to - 2))
+        two_is : last_count (back t) ≡ two_digits b c (back more_front)
         two_is =
             behind_digit_lem
-            ∙ ap (behind_digit b) (before ∙ ap (λ z. z ∷ back s from (to - 2)) (digit_same c digit-2))
-            ∙ ap (λ z. cond z (two_digits b c (back s from (to - 2))) (one_digit b (c ∷ back s from (to - 2)))) digit-2
+            ∙ ap (behind_digit b) (before ∙ ap (λ z. z ∷ back more_front) (digit_same c digit-2))
+            ∙ ap (λ z. cond z (two_digits b c (back more_front)) (one_digit b (c ∷ back more_front))) digit-2
 
         -- "no leading zeros"
-        pub zero_first : c ≡ 48 → CountIs s from to (to - 2) 0
-        zero_first e =
-            record {
-              there = λ h. absurd (h refl);
-              wrong = λ h. two_is ∙ ap (λ z. cond z none (some (way (some (value c * 10 + value b)) (back s from (to - 2))))) (eq-eqb c 48 e);
-            }
+        pub zero_first : c ≡ 48 → last_count (back t) ≡ none
+        zero_first e = two_is ∙ ap (λ z. cond z none (some (way (some (value c * 10 + value b)) (back more_front)))) (eq-eqb c 48 e)
 
-        pub two_digits_is : (c ≡ 48 → ⊥) → CountIs s from to (to - 2) ((c - 48) * 10 + (b - 48))
+        pub two_digits_is : (c ≡ 48 → ⊥) → CountAt t (length t - 2) ((c - 48) * 10 + (b - 48))
         two_digits_is e =
             let x = digit_range b digit in
             let y = digit_range c digit-2 in
             record {
-              there = λ h.
-                  record {
-                    written = some ((c - 48) * 10 + (b - 48));
-                    counted = refl;
-                    few = omega arith;
-                    behind = omega (arith, more);
-                    room = omega (arith, most_written ((c - 48) * 10 + (b - 48)));
-                    last = two_is ∙ ap (λ z. cond z none (some (way (some (value c * 10 + value b)) (back s from (to - 2))))) (ne_eqb c 48 e);
-                  };
-              wrong = λ h. absurd (omega (arith, e));
+              written = some ((c - 48) * 10 + (b - 48));
+              counted = refl;
+              few = omega arith;
+              room = omega (arith, more, most_written ((c - 48) * 10 + (b - 48)));
+              last = two_is ∙ ap (λ z. cond z none (some (way (some (value c * 10 + value b)) (back more_front)))) (ne_eqb c 48 e);
             }

@@ -1,5 +1,5 @@
-pub mod Listed
 pub mod Texts
+pub mod Sugars
 pub mod Names
 pub mod Counts
 pub mod Ending

@@ -1,19 +1,15 @@
 -- The longest name that ends a text, among those with its last letter, tried one after another. Assumes nothing.
-use Prim.Native.Nat.{ℕ, suc, ◌+◌, ◌-◌, ◌≤◌, ◌<◌}
-use native.Mathlib.Omega.{arith}
-use native.Mathlib.Numerals.{add-one}
-use mathlib.Core.Path.{◌≡◌, refl, sym, ap, ◌∙◌}
-use mathlib.Core.Bool.{Bool, true, false, not, cond, ◌&&◌, false≢true}
-use mathlib.Core.Option.{some}
-use mathlib.Core.List.{List, [], ◌∷◌, ◌++◌, map, reverse}
-use lib.ListN.{length, get_or, take, drop, length-take, drop_of_length-le}
-use lib.Seq.{drop-cons, get_or-take}
+use Rattle.std.proofs.Common.{◌≡◌, refl, sym, ap, ◌∙◌, arith, Bool, true, false, not, cond, ◌&&◌, List, [], ◌∷◌, ◌++◌, ℕ, ◌+◌, ◌-◌, ◌<◌, ◌≤◌, map, reverse, length, get_or, take, drop, drop-cons, add-one}
+use Rattle.std.proofs.Math.Option.{some}
+use Rattle.std.proofs.lemmas.Bool.{false≢true}
+use Rattle.std.specs.Prelude.{Some, None}
+use lib.ListN.{drop_of_length-le}
 use Rattle.scope.specs.Bytes.{upper}
 use Rattle.scope.specs.Lists.{all, keep, none?}
 use Rattle.scope.specs.Glycans.{sugars, name_at}
 use Rattle.basics.specs.Tests.{and_left, and_right}
 use Rattle.glycan_laws.specs.Back.{backward, backwards, begins, order, tried, is_front, first_front}
-use Rattle.glycans.specs.Cut.{back, ending_in, most_alike, LikelyIs, NameIs}
+use Rattle.glycans.specs.Cut.{back, ending_in, NameIs}
 use Rattle.glycans.proofs.Texts.{back_cons}
 
 -- ---- a name with another last letter does not end the text
@@ -43,57 +39,37 @@ some_letters : all (λ i. not (none? (letters_of i))) order ≡ true
 unfolding all sugars upper
 some_letters = refl
 
--- ---- the loop: what is left to try
-pub record Trying (r : List ℕ) (n : ℕ) (names : List ℕ) (k : ℕ) : Type 0 where
-  pub upto : k ≤ n
-  pub fits : n ≤ length names
-  pub few : n ≤ most_alike
-  pub left : first_front tried r ≡ first_front (backwards (drop k (take n names))) r
+-- ---- the loop: the names from index k on are left to try
+abbrev pub Trying : List ℕ → List ℕ → ℕ → Type 0
+Trying t names k = first_front tried (back t) ≡ first_front (backwards (drop k names)) (back t)
 
-pub trying_start : (s : List ℕ) {from to : ℕ} → from < to → to ≤ length s → {u n : ℕ} {names : List ℕ} → u ≡ upper (get_or s (to - 1) 0)
-    → LikelyIs u n names → Trying (back s from to) n names 0
+-- an empty text ends with none
+pub no_text : (t : List ℕ) → length t < 1 → NameIs t None
+unfolding first_front is_front tried backwards sugars
+no_text [] h = refl
+no_text (b ∷ t) h = absurd (omega arith)
+
+pub trying_start : (t : List ℕ) {u : ℕ} {names : List ℕ} → 0 < length t → u ≡ upper (get_or t (length t - 1) 0) → names ≡ ending_in u order → Trying t names 0
 unfolding tried
-trying_start s {from} {to} h k {u} {n} {names} e l =
-    let whole : back s from to ≡ u ∷ back s from (to - 1) = back_cons s from to h k ∙ ap (λ z. z ∷ back s from (to - 1)) (sym e) in
-    record {
-      upto = omega arith;
-      fits = omega (arith, l.sized, ap length l.named, length-take n names);
-      few = l.few;
-      left =
-          ap (first_front tried) whole
-          ∙ among_likely order u (back s from (to - 1)) some_letters
-          ∙ ap (first_front (backwards (ending_in u order))) (sym whole)
-          ∙ ap (λ z. first_front (backwards z) (back s from to)) (sym l.named);
-    }
+trying_start t {u} {names} h e l =
+    let whole : back t ≡ u ∷ back (take (length t - 1) t) = back_cons t h ∙ ap (λ z. z ∷ back (take (length t - 1) t)) (sym e) in
+    ap (first_front tried) whole
+    ∙ among_likely order u (back (take (length t - 1) t)) some_letters
+    ∙ ap (first_front (backwards (ending_in u order))) (sym whole)
+    ∙ ap (λ z. first_front (backwards z) (back t)) (sym l)
 
-module _ {r : List ℕ} {n : ℕ} {names : List ℕ} {k : ℕ} (h : Trying r n names k) where
-  pub trying_reads : k < n → k < most_alike
-  trying_reads l = omega (arith, h.few)
-
-  this_one : k < n → drop k (take n names) ≡ get_or names k 0 ∷ drop (k + 1) (take n names)
-  this_one l =
-      drop-cons (take n names) k 0 (omega (arith, length-take n names, h.fits))
-      ∙ ap (λ x. x ∷ drop (suc k) (take n names)) (get_or-take n names k 0 l)
-      ∙ ap (λ j. get_or names k 0 ∷ drop j (take n names)) (sym (add-one k))
-
-  step : k < n → first_front tried r ≡ cond (is_front (backward (get_or names k 0)).letters r) (some (backward (get_or names k 0))) (first_front (backwards (drop (k + 1) (take n names))) r)
+module _ (t names : List ℕ) {k : ℕ} (h : Trying t names k) where
+  step : k < length names
+      → first_front tried (back t) ≡ cond (is_front (back (name_at (get_or names k 0))) (back t)) (some (backward (get_or names k 0))) (first_front (backwards (drop (k + 1) names)) (back t))
   unfolding first_front backwards backward
-  step l = h.left ∙ ap (λ z. first_front (backwards z) r) (this_one l)
+  step l = h ∙ ap (λ z. first_front (backwards z) (back t)) (drop-cons names k 0 l ∙ ap (λ j. get_or names k 0 ∷ drop j names) (sym (add-one k)))
 
-  pub trying_found : k < n → {b : Bool} → b ≡ is_front (backward (get_or names k 0)).letters r → b ≡ true → NameIs r true (get_or names k 0)
-  trying_found l e q =
-      record { first = step l ∙ ap (λ z. cond z (some (backward (get_or names k 0))) (first_front (backwards (drop (k + 1) (take n names))) r)) (sym e ∙ q) }
+  pub trying_found : k < length names → {b : Bool} → b ≡ is_front (back (name_at (get_or names k 0))) (back t) → b ≡ true → NameIs t (Some (get_or names k 0))
+  trying_found l e q = step l ∙ ap (λ z. cond z (some (backward (get_or names k 0))) (first_front (backwards (drop (k + 1) names)) (back t))) (sym e ∙ q)
 
-  pub trying_next : k < n → {b : Bool} → b ≡ is_front (backward (get_or names k 0)).letters r → b ≡ false → Trying r n names (k + 1)
-  trying_next l e q =
-      record {
-        upto = omega arith;
-        fits = h.fits;
-        few = h.few;
-        left = step l ∙ ap (λ z. cond z (some (backward (get_or names k 0))) (first_front (backwards (drop (k + 1) (take n names))) r)) (sym e ∙ q);
-      }
+  pub trying_next : k < length names → {b : Bool} → b ≡ is_front (back (name_at (get_or names k 0))) (back t) → b ≡ false → Trying t names (k + 1)
+  trying_next l e q = step l ∙ ap (λ z. cond z (some (backward (get_or names k 0))) (first_front (backwards (drop (k + 1) names)) (back t))) (sym e ∙ q)
 
-  pub trying_ends : n ≤ k → (i : ℕ) → NameIs r false i
+  pub trying_ends : length names ≤ k → NameIs t None
   unfolding first_front backwards
-  trying_ends l i =
-      record { first = h.left ∙ ap (λ z. first_front (backwards z) r) (drop_of_length-le (take n names) {i = k} (omega (arith, length-take n names))) }
+  trying_ends l = h ∙ ap (λ z. first_front (backwards z) (back t)) (drop_of_length-le names {i = k} l)

@@ -1,24 +1,17 @@
 -- Bytes put before others into an area; and what is put of a composition, piece by piece from the right: its short text, its pieces. Assumes nothing.
-use Prim.Native.Nat.{ℕ, suc, ◌+◌, ◌-◌, ◌/◌, ◌%◌, ◌≤◌, ◌<◌}
-use native.Mathlib.Omega.{arith}
-use native.Mathlib.Nat.{add-zero, zero-add}
-use native.Mathlib.Numerals.{add-one}
-use mathlib.Core.Path.{◌≡◌, refl, sym, ap, ap₂, ◌∙◌, subst}
-use mathlib.Core.Bool.{Bool, true, false}
-use mathlib.Core.List.{List, [], ◌∷◌, ◌++◌, append_assoc, append-nil}
-use lib.ListN.{length, get_or, take, drop, set, length-append, length-take}
-use lib.Seq.{set_comm, sets, sets-eq, length-sets, take-suc}
-use Rattle.scope.specs.Lists.{part, flat, none?, laid}
+use Rattle.std.proofs.Common.{◌≡◌, refl, sym, ap, ap₂, ◌∙◌, subst, arith, false, List, [], ◌∷◌, ◌++◌, append_assoc, append-nil, ℕ, suc, ◌+◌, ◌-◌, ◌≤◌, ◌<◌, length, take, drop, set, length-append, add-zero, zero-add}
+use Rattle.std.proofs.Math.Option.{none}
+use lib.Seq.{drop-drop, set_comm, sets, sets-eq, length-sets}
+use borrow.Rule.Slice.PartMut.{put_mid}
+use Rattle.scope.specs.Lists.{flat, none?, laid}
 use Rattle.scope.specs.Glycans.{Item, sugars, name_at, item_text, cuttings, short}
 use Rattle.basics.specs.Each.{each_back}
 use Rattle.basics.specs.Lists.{flat_cons, flat_snoc, flat_map}
 use Rattle.glycan_laws.specs.Laws.{ItemGood, Cuts}
-use Rattle.glycan_laws.proofs.Last.{one_way}
+use Rattle.glycan_laws.proofs.Last.{last_item, one_way}
 use Rattle.glycan_laws.proofs.Rightward.{last_off, last_always, none_last}
-use Rattle.glycans.specs.Cut.{SugarIs, digits_text, piece_text, PieceAt, PieceIs, short_of, Room, PutBefore}
+use Rattle.glycans.specs.Cut.{back, digits_text, piece_text, PieceAt, short_of, Room, PutBefore}
 use Rattle.glycans.specs.Pieces.{piece_bytes, pieces_of}
-use Rattle.glycans.proofs.Texts.{part_length, part_whole}
-use Rattle.glycans.proofs.Counts.{one_written, two_written}
 use Rattle.glycans.proofs.Ways.{cut_nothing, short_item_lem, some_way_lem}
 
 -- ---- stores apart from each other
@@ -61,86 +54,31 @@ put_laid {area} {at} {w} {new} {r} p e h =
     let z : r ≡ 0 = omega (arith, p.begins) in
     p.put ∙ ap (λ i. sets area i w) z ∙ sets-eq w area 0 (omega arith) ∙ ap (λ n. w ++ drop n area) (zero-add (length w))
 
--- ---- the digits of a count
-pub put_one : {area : List ℕ} {at n : ℕ} → (n ≡ 1 → ⊥) → n < 10 → Room area at (digits_text n) → PutBefore area at (digits_text n) (set area (at - 1) (48 + n)) (at - 1)
-put_one {area} {at} {n} h l room =
-    let e = one_written h l in
-    let k = ap length e in
-    let f = room.front in
-    subst (λ w. PutBefore area at w (set area (at - 1) (48 + n)) (at - 1)) (sym e) (record { begins = omega arith; put = refl })
+-- ---- the letters of a name, which end before a place
+pub put_copied : {area : List ℕ} {at : ℕ} {w : List ℕ} → Room area at w → PutBefore area at w (put_mid (at - length w) (at - (at - length w)) area w) (at - length w)
+put_copied {area} {at} {w} room =
+    let i = at - length w in
+    let k : at - i ≡ length w = omega (arith, room.front) in
+    record {
+      begins = omega (arith, room.front);
+      put =
+          ap (λ z. take i area ++ (w ++ z)) (ap (λ n. drop n (drop i area)) k ∙ drop-drop (length w) i area)
+          ∙ sym (append_assoc (take i area) w (drop (i + length w) area))
+          ∙ sym (sets-eq w area i (omega (arith, room.front, room.inside)));
+    }
 
-pub put_two : {area : List ℕ} {at n : ℕ} → 10 ≤ n → Room area at (digits_text n) → PutBefore area at (digits_text n) (set (set area (at - 2) (48 + n / 10)) (at - 1) (48 + n % 10)) (at - 2)
-put_two {area} {at} {n} l room =
-    let e = two_written l in
-    let two : 2 ≤ at = omega (arith, ap length e, room.front) in
-    subst (λ w. PutBefore area at w (set (set area (at - 2) (48 + n / 10)) (at - 1) (48 + n % 10)) (at - 2)) (sym e) (put_pair two (omega arith))
-
-pub room_one : {area : List ℕ} {at n : ℕ} → (n ≡ 1 → ⊥) → n < 10 → Room area at (digits_text n) → (1 ≤ at) × (at ≤ length area)
-room_one h l room = (omega (arith, ap length (one_written h l), room.front), room.inside)
-
--- ---- the letters of a name, one after another
-sets_snoc : {A : Type 0} (d : List A) (n : ℕ) (l : List A) (v : A) → sets d n (l ++ (v ∷ [])) ≡ set (sets d n l) (n + length l) v
-sets_snoc d n [] v = ap (λ i. set d i v) (sym (add-zero n))
-sets_snoc d n (x ∷ l) v =
-    let e : suc n + length l ≡ n + suc (length l) = omega arith in
-    sets_snoc (set d n x) (suc n) l v ∙ ap (λ i. set (sets (set d n x) (suc n) l) i v) e
-
-pub record Laying (area : List ℕ) (at : ℕ) (l : List ℕ) (n start k : ℕ) (cur : List ℕ) : Type 0 where
-  pub upto : k ≤ n
-  pub fits : n ≤ length l
-  pub begins : start + n ≡ at
-  pub inside : at ≤ length area
-  pub long : length cur ≡ length area
-  pub is : cur ≡ sets area start (take k l)
-
-pub laying_start : {area : List ℕ} {at i n : ℕ} {l : List ℕ} {m : ℕ} → SugarIs i n l m → n ≤ length l → Room area at (name_at i) → Laying area at l n (at - n) 0 area
-laying_start s h room = record { upto = omega arith; fits = h; begins = omega (arith, s.sized, room.front); inside = room.inside; long = refl; is = refl }
-
-module _ {area : List ℕ} {at : ℕ} {l : List ℕ} {n start k : ℕ} {cur : List ℕ} (h : Laying area at l n start k cur) where
-  pub laying_room : k < n → start + k < length cur
-  laying_room b = omega (arith, h.long, h.inside, h.begins)
-
-  pub laying_next : k < n → Laying area at l n start (k + 1) (set cur (start + k) (get_or l k 0))
-  laying_next b =
-      let within : k < length l = omega (arith, h.fits) in
-      let so-long : length (take k l) ≡ k = omega (arith, length-take k l) in
-      record {
-        upto = omega arith;
-        fits = h.fits;
-        begins = h.begins;
-        inside = h.inside;
-        long = ap length new ∙ length-sets area start (take (k + 1) l);
-        is = new;
-      }
-    where
-      new : set cur (start + k) (get_or l k 0) ≡ sets area start (take (k + 1) l)
-      new =
-          let within : k < length l = omega (arith, h.fits) in
-          let so-long : k ≡ length (take k l) = omega (arith, length-take k l) in
-          ap₂ (λ z j. set z (start + j) (get_or l k 0)) h.is so-long
-          ∙ sym (sets_snoc area start (take k l) (get_or l k 0))
-          ∙ ap (sets area start) (sym (take-suc l k 0 within) ∙ ap (λ j. take j l) (sym (add-one k)))
-
-  pub laying_ends : {i m : ℕ} → n ≤ k → SugarIs i n l m → PutBefore area at (name_at i) cur start
-  laying_ends {i} b s =
-      let e : k ≡ n = omega (arith, h.upto) in
-      record { begins = omega (arith, s.sized, h.begins); put = h.is ∙ ap (λ j. sets area start (take j l)) e ∙ ap (sets area start) s.spelled }
-
--- ---- the loop, whatever f puts of a piece; w is the whole
-pub record Putting (f : Item → List ℕ) (s : List ℕ) (from : ℕ) (w area : List ℕ) (at end : ℕ) (cur : List ℕ) (a : ℕ) : Type 0 where
+-- ---- the loop, whatever f puts of a piece: the whole w is what it puts of the pieces that are left and of those behind them
+pub record Putting (f : Item → List ℕ) (w area : List ℕ) (at : ℕ) (rest cur : List ℕ) (a : ℕ) : Type 0 where
   pub left : List Item
   pub behind : List Item
-  pub cuts : Cuts left (part from (end - from) s)
+  pub cuts : Cuts left rest
   pub whole : w ≡ flat f left ++ flat f behind
   pub put : PutBefore area at (flat f behind) cur a
   pub room : Room area at w
-  pub low : from ≤ end
-  pub high : end ≤ length s
 
-pub putting_start : (f : Item → List ℕ) {s : List ℕ} {from to : ℕ} {w area : List ℕ} {at : ℕ} {xs : List Item} → from ≤ to → to ≤ length s
-    → Cuts xs (part from (to - from) s) → w ≡ flat f xs → Room area at w → Putting f s from w area at to area at
+putting_start : (f : Item → List ℕ) {t w area : List ℕ} {at : ℕ} {xs : List Item} → Cuts xs t → w ≡ flat f xs → Room area at w → Putting f w area at t area at
 unfolding flat
-putting_start f {s} {from} {to} {w} {area} {at} {xs} h k c e room =
+putting_start f {t} {w} {area} {at} {xs} c e room =
     record {
       left = xs;
       behind = [];
@@ -148,34 +86,19 @@ putting_start f {s} {from} {to} {w} {area} {at} {xs} h k c e room =
       whole = e ∙ sym (append-nil (flat f xs));
       put = put_nothing area at;
       room = room;
-      low = h;
-      high = k;
     }
 
-module _ {f : Item → List ℕ} {s : List ℕ} {from : ℕ} {w area : List ℕ} {at end : ℕ} {cur : List ℕ} {a : ℕ} (h : Putting f s from w area at end cur a) where
-  pub putting_long : length cur ≡ length area
+module _ {f : Item → List ℕ} {w area : List ℕ} {at : ℕ} {rest cur : List ℕ} {a : ℕ} (h : Putting f w area at rest cur a) where
+  putting_long : length cur ≡ length area
   putting_long = put_long h.put
 
-  -- while something is left, a piece ends it
-  pub piece_found : from < end → {found : Bool} {start i n : ℕ} → PieceIs s from end found start i n → PieceAt s from end start i n
-  piece_found l {found} {start} {i} {n} p = by found refl
-    where
-      by : (b : Bool) → found ≡ b → PieceAt s from end start i n
-      by true q = p.there q
-      by false q =
-          let empty = none_last (part from (end - from) s) (p.nothing q) h.left h.cuts in
-          absurd (omega (arith, ap length empty, part_length s from end h.high))
-
-  module _ {start i n : ℕ} (p : PieceAt s from end start i n) where
-    abbrev rest : List ℕ
-    rest = part from (start - from) s
-
+  module _ {start i n : ℕ} (p : PieceAt rest start i n) where
     -- the pieces before it
     front : (zs : List Item) × (h.left ≡ zs ++ (p.item ∷ []))
-    front = last_always (part from (end - from) s) rest p.item p.last h.left h.cuts
+    front = last_always rest (take start rest) p.item p.last h.left h.cuts
 
-    cuts_front : Cuts (front.0 ++ (p.item ∷ [])) (part from (end - from) s)
-    cuts_front = subst (λ z. Cuts z (part from (end - from) s)) front.1 h.cuts
+    cuts_front : Cuts (front.0 ++ (p.item ∷ [])) rest
+    cuts_front = subst (λ z. Cuts z rest) front.1 h.cuts
 
     -- its name is of the list
     pub piece_listed : i < length sugars
@@ -208,25 +131,22 @@ module _ {f : Item → List ℕ} {s : List ℕ} {from : ℕ} {w area : List ℕ}
             inside = omega (arith, putting_long, h.put.begins, h.room.inside);
           }
 
-      pub putting_next : {new : List ℕ} {r : ℕ} → PutBefore cur a b new r → Putting f s from w area at start new r
+      pub putting_next : {new : List ℕ} {r : ℕ} → PutBefore cur a b new r → Putting f w area at (take start rest) new r
       putting_next {new} {r} q =
           record {
             left = front.0;
             behind = p.item ∷ h.behind;
-            cuts = last_off (part from (end - from) s) rest p.item p.last front.0 cuts_front;
+            cuts = last_off rest (take start rest) p.item p.last front.0 cuts_front;
             whole = parts ∙ ap (λ z. flat f front.0 ++ z) (sym behind_next);
             put = subst (λ z. PutBefore area at z new r) (sym behind_next) (put_more h.put q);
             room = h.room;
-            low = p.behind;
-            high = omega (arith, p.before, h.high);
           }
 
-  -- nothing is left
-  pub putting_ends : end ≤ from → PutBefore area at w cur a
+  -- no piece ends what is left: then nothing is left
+  pub putting_ends : last_item (back rest) ≡ none → PutBefore area at w cur a
   unfolding flat
-  putting_ends l =
-      let z : end - from ≡ 0 = omega arith in
-      let c : Cuts h.left [] = subst (λ n. Cuts h.left (part from n s)) z h.cuts in
+  putting_ends e =
+      let c : Cuts h.left [] = subst (λ r. Cuts h.left r) (none_last rest e h.left h.cuts) h.cuts in
       let none : h.left ≡ [] = one_way [] h.left [] c cut_nothing in
       subst (λ z. PutBefore area at z cur a) (sym (h.whole ∙ ap (λ x. flat f x ++ flat f h.behind) none)) h.put
 
@@ -234,14 +154,12 @@ module _ {f : Item → List ℕ} {s : List ℕ} {from : ℕ} {w area : List ℕ}
 abbrev pub short_item : Item → List ℕ
 short_item x = item_text (short x)
 
-pub short_start : {s : List ℕ} {from to : ℕ} {area : List ℕ} {at : ℕ} → from ≤ to → to ≤ length s → none? (cuttings (part from (to - from) s)) ≡ false
-    → Room area at (short_of (cuttings (part from (to - from) s))) → Putting short_item s from (short_of (cuttings (part from (to - from) s))) area at to area at
-short_start {s} {from} {to} h k e room =
-    let w = some_way_lem (part from (to - from) s) e in
-    putting_start short_item h k w.1.cuts (ap short_of w.1.is ∙ flat_map item_text short_item short (λ x. refl) w.0) room
+pub short_start : (t : List ℕ) {area : List ℕ} {at : ℕ} → none? (cuttings t) ≡ false → Room area at (short_of (cuttings t)) → Putting short_item (short_of (cuttings t)) area at t area at
+short_start t e room =
+    let w = some_way_lem t e in
+    putting_start short_item w.1.cuts (ap short_of w.1.is ∙ flat_map item_text short_item short (λ x. refl) w.0) room
 
-module _ {s : List ℕ} {from : ℕ} {w area : List ℕ} {at end : ℕ} {cur : List ℕ} {a : ℕ} (h : Putting short_item s from w area at end cur a)
-    {start i n : ℕ} (p : PieceAt s from end start i n) where
+module _ {w area : List ℕ} {at : ℕ} {rest cur : List ℕ} {a : ℕ} (h : Putting short_item w area at rest cur a) {start i n : ℕ} (p : PieceAt rest start i n) where
   short_piece : short_item p.item ≡ piece_text i n
   short_piece = short_item_lem p.item ∙ ap₂ piece_text p.named p.counted
 
@@ -253,19 +171,15 @@ module _ {s : List ℕ} {from : ℕ} {w area : List ℕ} {at end : ℕ} {cur : L
     pub room_name : Room mid b (name_at i)
     room_name = room_first (name_at i) (digits_text n) (room_piece h p short_piece) q
 
-    pub short_next : {new : List ℕ} {r : ℕ} → PutBefore mid b (name_at i) new r → Putting short_item s from w area at start new r
+    pub short_next : {new : List ℕ} {r : ℕ} → PutBefore mid b (name_at i) new r → Putting short_item w area at (take start rest) new r
     short_next o = putting_next h p short_piece (put_more q o)
 
 -- ---- the pieces
-pub pieces_start : {s area : List ℕ} {at : ℕ} → none? (cuttings s) ≡ false → at ≡ length (pieces_of (cuttings s)) → at ≤ length area
-    → Putting piece_bytes s 0 (pieces_of (cuttings s)) area at (length s) area at
-pieces_start {s} {area} {at} e f h =
-    let w = some_way_lem s e in
-    putting_start piece_bytes (omega arith) (omega arith) (subst (Cuts w.0) (sym (part_whole s)) w.1.cuts) (ap pieces_of w.1.is)
-    (record { front = omega arith; inside = h })
+pub pieces_start : (t : List ℕ) {area : List ℕ} {at : ℕ} → none? (cuttings t) ≡ false → at ≡ length (pieces_of (cuttings t)) → at ≤ length area
+    → Putting piece_bytes (pieces_of (cuttings t)) area at t area at
+pieces_start t e f h = let w = some_way_lem t e in putting_start piece_bytes w.1.cuts (ap pieces_of w.1.is) (record { front = omega arith; inside = h })
 
-module _ {s : List ℕ} {from : ℕ} {w area : List ℕ} {at end : ℕ} {cur : List ℕ} {a : ℕ} (h : Putting piece_bytes s from w area at end cur a)
-    {start i n : ℕ} (p : PieceAt s from end start i n) where
+module _ {w area : List ℕ} {at : ℕ} {rest cur : List ℕ} {a : ℕ} (h : Putting piece_bytes w area at rest cur a) {start i n : ℕ} (p : PieceAt rest start i n) where
   piece_bytes_lem : piece_bytes p.item ≡ i ∷ n ∷ []
   piece_bytes_lem = ap₂ (λ x y. x ∷ y ∷ []) p.named p.counted
 
@@ -277,5 +191,5 @@ module _ {s : List ℕ} {from : ℕ} {w area : List ℕ} {at end : ℕ} {cur : L
   unfolding sugars
   name_byte = omega (arith, piece_listed h p)
 
-  pub pieces_next : {k : ℕ} → k ≡ suc (a - 2) → Putting piece_bytes s from w area at start (set (set cur (a - 2) i) k n) (a - 2)
+  pub pieces_next : {k : ℕ} → k ≡ suc (a - 2) → Putting piece_bytes w area at (take start rest) (set (set cur (a - 2) i) k n) (a - 2)
   pieces_next e = putting_next h p piece_bytes_lem (put_pair room_pair.0 e)

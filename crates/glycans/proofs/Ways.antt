@@ -1,16 +1,9 @@
 -- A text cut piece by piece from the right: the ways to cut it are those to cut what is left, with the pieces found behind them. Assumes nothing.
-use Prim.Native.Nat.{ℕ, ◌+◌, ◌-◌, ◌*◌, ◌≤◌, ◌<◌}
-use native.Mathlib.Omega.{arith}
+use Rattle.std.proofs.Common.{◌≡◌, refl, sym, ap, ap₂, ◌∙◌, subst, arith, Bool, true, false, cond, true≢false, List, [], ◌∷◌, ◌++◌, append_assoc, append-nil, ℕ, ◌+◌, ◌*◌, ◌≤◌, ◌<◌, ltb, map, reverse, length, take, length-append, length-take, ltb-true, lt-ltb}
+use Rattle.std.proofs.Math.Option.{Option, none, some}
 use native.Mathlib.Nat.{mul-le-mul}
-use mathlib.Core.Path.{◌≡◌, refl, sym, ap, ap₂, ◌∙◌, subst}
-use mathlib.Core.Bool.{Bool, true, false, not, cond, true≢false}
-use mathlib.Core.Option.{Option, none, some}
-use mathlib.Core.List.{List, [], ◌∷◌, ◌++◌, map, reverse, append-nil, append_assoc}
-use lib.Dec.{ltb}
-use lib.ListN.{length, length-append}
-use borrow.Author.Tests.{ltb-true, lt-ltb}
 use Rattle.scope.specs.Bytes.{upper}
-use Rattle.scope.specs.Lists.{part, flat, none?}
+use Rattle.scope.specs.Lists.{flat, none?}
 use Rattle.scope.specs.Limits.{count_limit}
 use Rattle.scope.specs.Glycans.{Item, way, sugar_at, name_at, item_text, cuttings, short, short_text, count_of, item_mass, cutting_mass}
 use Rattle.basics.specs.Each.{In}
@@ -20,9 +13,8 @@ use Rattle.glycan_laws.proofs.Enumerated.{every_way}
 use Rattle.glycan_laws.proofs.Written.{first_cut}
 use Rattle.glycan_laws.proofs.Masses.{no_longer, small}
 use Rattle.glycan_laws.proofs.Rightward.{last_on, last_off, last_always, none_last}
-use Rattle.glycans.specs.Cut.{SugarIs, back, digits_text, piece_text, PieceAt, short_of, items_of, weight_of, weight_most, CutIs}
-use Rattle.glycans.proofs.Listed.{heaviest, mass_most}
-use Rattle.glycans.proofs.Texts.{part_length}
+use Rattle.glycans.specs.Cut.{back, digits_text, piece_text, PieceAt, short_of, items_of, weight_of, weight_most, Composed}
+use Rattle.glycans.proofs.Sugars.{mass_most}
 
 -- ---- the ways to cut a text, where ys are found behind the rest
 pub record Found (t rest : List ℕ) (ys : List Item) : Type 0 where
@@ -88,25 +80,23 @@ pub short_cons : (x : Item) (ys : List Item) {i n : ℕ} → x.name ≡ i → co
 unfolding flat
 short_cons x ys p q = ap (λ z. z ++ short_text ys) (short_item_lem x ∙ ap₂ piece_text p q)
 
--- ---- the loop
-pub record Cutting (s : List ℕ) (from to end size mass pieces : ℕ) : Type 0 where
+-- ---- the loop: what is left of the text t, and what was found behind it
+pub record SoFar (t rest : List ℕ) (size mass pieces : ℕ) : Type 0 where
   pub items : List Item
-  pub found : Found (part from (to - from) s) (part from (end - from) s) items
-  pub behind : from ≤ end
-  pub room : end + size ≤ to
+  pub found : Found t rest items
+  pub room : length rest + size ≤ length t
   pub sized : size ≡ length (short_text items)
   pub weighs : cutting_mass items < weight_most → mass ≡ cutting_mass items
   pub light : mass < weight_most + weight_most
   pub counted : pieces ≡ length items
-  pub few : end + pieces ≤ to
+  pub few : length rest + pieces ≤ length t
 
-pub cutting_start : (s : List ℕ) {from to : ℕ} → from ≤ to → Cutting s from to to 0 0 0
+pub so_far_start : (t : List ℕ) → SoFar t t 0 0 0
 unfolding flat cutting_mass
-cutting_start s {from} {to} h =
+so_far_start t =
     record {
       items = [];
-      found = found_start (part from (to - from) s);
-      behind = h;
+      found = found_start t;
       room = omega arith;
       sized = refl;
       weighs = λ l. refl;
@@ -116,65 +106,43 @@ cutting_start s {from} {to} h =
     }
 
 -- the mass of a piece
-pub piece_light : {i size : ℕ} {l : List ℕ} {m n : ℕ} → SugarIs i size l m → n ≤ count_limit → n * m ≤ weight_most
-piece_light {i} {size} {l} {m} {n} is few =
-    let light : m ≤ heaviest = subst (λ z. z ≤ heaviest) (sym is.weighs) (mass_most i) in
-    let most = mul-le-mul few light in
-    omega arith
+piece_light : (i n : ℕ) → n ≤ count_limit → n * (sugar_at i).mass ≤ weight_most
+piece_light i n few = let most = mul-le-mul few (mass_most i) in omega arith
 
-module _ {s : List ℕ} {from to end size mass pieces : ℕ} (h : Cutting s from to end size mass pieces) (high : to ≤ length s) where
-  pub end_within : end ≤ length s
-  end_within = omega (arith, h.room)
-
+module _ {t rest : List ℕ} {size mass pieces : ℕ} (h : SoFar t rest size mass pieces) where
   -- no piece ends what is left
-  pub cut_not : from < end → last_item (back s from end) ≡ none → CutIs (part from (to - from) s) false 0 0 0
-  cut_not l e =
-      let t = part from (to - from) s in
-      let r = h.room in
-      let uncut : (xs : List Item) → Cuts xs t → ⊥ = λ xs c.
-      let z = h.found.off xs c in
-      let empty = none_last (part from (end - from) s) e z.0 z.1.1 in
-      omega (arith, ap length empty, part_length s from end (omega arith)) in
-      let none = no_way t uncut in
-      record {
-        so = sym (ap (λ z. not (none? z)) none);
-        sized = sym (ap (λ z. length (short_of z)) none);
-        weighs = λ _. sym (ap (λ z. weight_of z * 100) none);
-        no_longer = omega arith;
-        small = λ _. omega arith;
-        fits = omega arith;
-        counted = sym (ap (λ z. length (items_of z)) none);
-        few = omega arith;
-      }
+  pub cut_not : last_item (back rest) ≡ none → 0 < length rest → none? (cuttings t) ≡ true
+  cut_not e l = ap none? (no_way t uncut)
+    where
+      uncut : (xs : List Item) → Cuts xs t → ⊥
+      uncut xs c =
+          let z = h.found.off xs c in
+          let empty = none_last rest e z.0 z.1.1 in
+          omega (arith, ap length empty)
 
   -- a piece ends it
-  module _ {start i n : ℕ} (p : PieceAt s from end start i n) {k : ℕ} {l : List ℕ} {m : ℕ} (is : SugarIs i k l m)
-      {d : ℕ} (digits : d ≡ length (digits_text n)) {w : ℕ} (wide : w ≡ n) where
-    piece_long : length (piece_text i n) ≡ k + d
-    piece_long = length-append (name_at i) (digits_text n) ∙ ap₂ ◌+◌ (sym is.sized) (sym digits)
+  module _ {start i n : ℕ} (p : PieceAt rest start i n) {d : ℕ} (digits : d ≡ length (digits_text n)) where
+    piece_long : length (piece_text i n) ≡ length (name_at i) + d
+    piece_long = length-append (name_at i) (digits_text n) ∙ ap (λ z. length (name_at i) + z) (sym digits)
 
-    pub piece_fits : start + (k + d) ≤ end
-    piece_fits = omega (arith, p.room, piece_long)
+    pub size_fits : size + (length (name_at i) + d) ≤ length t
+    size_fits = omega (arith, p.room, piece_long, h.room)
 
-    pub size_fits : size + (k + d) ≤ to
-    size_fits = let f = piece_fits in let r = h.room in omega arith
+    weight : item_mass p.item ≡ n * (sugar_at i).mass
+    weight = ap₂ (λ x y. x * (sugar_at y).mass) p.counted p.named
 
-    weight : item_mass p.item ≡ w * m
-    weight = ap₂ (λ x y. x * (sugar_at y).mass) (p.counted ∙ sym wide) p.named ∙ ap (λ z. w * z) (sym is.weighs)
+    pub weight_most_lem : n * (sugar_at i).mass ≤ weight_most
+    weight_most_lem = piece_light i n p.few
 
-    pub weight_most_lem : w * m ≤ weight_most
-    weight_most_lem = piece_light is (omega (arith, wide, p.few))
-
-    pub cutting_next : {mass' : ℕ} → mass' ≡ cond (ltb mass weight_most) (mass + w * m) mass → Cutting s from to start (size + (k + d)) mass' (pieces + 1)
+    pub so_far_next : {mass' : ℕ} → mass' ≡ cond (ltb mass weight_most) (mass + n * (sugar_at i).mass) mass
+        → SoFar t (take start rest) (size + (length (name_at i) + d)) mass' (pieces + 1)
     unfolding cutting_mass
-    cutting_next {mass'} e =
-        let f = piece_fits in
-        let r = h.room in
+    so_far_next {mass'} e =
+        let long : length (take start rest) ≡ start = omega (arith, length-take start rest, p.before) in
         record {
           items = p.item ∷ h.items;
-          found = found_next h.found (part from (start - from) s) p.item p.last;
-          behind = p.behind;
-          room = omega arith;
+          found = found_next h.found (take start rest) p.item p.last;
+          room = omega (arith, p.room, piece_long, h.room);
           sized =
               ap₂ ◌+◌ h.sized (sym piece_long)
               ∙ swap (length (short_text h.items)) (length (piece_text i n))
@@ -193,27 +161,29 @@ module _ {s : List ℕ} {from to end size mass pieces : ℕ} (h : Cutting s from
         added_up b =
             let before : mass ≡ cutting_mass h.items = h.weighs (omega arith) in
             let few : mass < weight_most = omega arith in
-            e ∙ ap (λ z. cond z (mass + w * m) mass) (lt-ltb mass weight_most few) ∙ ap₂ ◌+◌ before (sym weight) ∙ swap (cutting_mass h.items) (item_mass p.item)
+            e ∙ ap (λ z. cond z (mass + n * (sugar_at i).mass) mass) (lt-ltb mass weight_most few) ∙ ap₂ ◌+◌ before (sym weight) ∙ swap (cutting_mass h.items) (item_mass p.item)
 
-        e_light : (b : Bool) → ltb mass weight_most ≡ b → mass' ≡ cond b (mass + w * m) mass → mass' < weight_most + weight_most
+        e_light : (b : Bool) → ltb mass weight_most ≡ b → mass' ≡ cond b (mass + n * (sugar_at i).mass) mass → mass' < weight_most + weight_most
         e_light true q f = let l = ltb-true mass weight_most q in let z = weight_most_lem in omega arith
         e_light false q f = let l = h.light in omega arith
 
   -- nothing is left
-  pub cut_so : end ≤ from → CutIs (part from (to - from) s) true size (mass * 100) pieces
-  cut_so l =
-      let t = part from (to - from) s in
-      let z : end - from ≡ 0 = omega arith in
-      let c : Cuts h.items t = h.found.on [] (subst (λ n. Cuts [] (part from n s)) (sym z) cut_nothing) in
+  pub cut_so : length rest ≡ 0 → Composed t (record { size = size; mass = mass * 100; pieces = pieces })
+  cut_so z =
+      let c : Cuts h.items t = h.found.on [] (subst (λ r. Cuts [] r) (sym (nothing rest z)) cut_nothing) in
       let w = the_way t h.items c in
       let light = h.light in
       record {
-        so = sym (ap (λ l. not (none? l)) w.is);
+        cuts = ap none? w.is;
         sized = h.sized ∙ ap (λ l. length (short_of l)) (sym w.is);
         weighs = λ k. ap (λ x. x * 100) (h.weighs (small t h.items c k) ∙ ap weight_of (sym w.is));
         no_longer = subst (λ x. x ≤ length t) (sym h.sized) (no_longer t h.items c);
         small = λ k. let e = h.weighs (small t h.items c k) in let f = small t h.items c k in omega arith;
         fits = omega arith;
         counted = h.counted ∙ ap (λ l. length (items_of l)) (sym w.is);
-        few = omega (arith, h.few, h.behind, part_length s from to high);
+        few = omega (arith, h.few);
       }
+    where
+      nothing : (l : List ℕ) → length l ≡ 0 → l ≡ []
+      nothing [] e = refl
+      nothing (x ∷ l) e = absurd (omega arith)

@@ -1,5 +1,5 @@
 -- What is kept of a text behind `Glycan:`, by what `cut` says of it: for those that check, store and compare it.
-use Rattle.std.specs.Prelude.{ℕ, ◌+◌, ◌≤◌, ◌≡◌, refl, Bool, true, false, not, List, [], ◌∷◌, pos, length}
+use Rattle.std.specs.Prelude.{ℕ, ◌+◌, ◌≤◌, ◌≡◌, refl, true, false, List, [], ◌∷◌, pos, length, Option as Perhaps, Some, None, is_none}
 use Rattle.std.proofs.Common.{arith, sym, ap, ◌∙◌, true≢false}
 use Rattle.std.proofs.lemmas.Bool.{false≢true}
 use Rattle.std.proofs.lemmas.List.Edits.{sets}
@@ -9,15 +9,13 @@ use Rattle.scope.specs.Line.{Number, text, composition}
 use Rattle.scope.specs.Layout.{mass_in}
 use Rattle.scope.specs.Glycans.{Item, mass_decimals, cuttings}
 use Rattle.scope.specs.Kept.{cut_as, cut_value}
-use Rattle.glycans.specs.Cut.{short_of, weight_of, CutIs, Room, PutBefore}
+use Rattle.glycans.specs.declared.Cutting.{Cutting}
+use Rattle.glycans.specs.Cut.{short_of, weight_of, Composed, CutIs, Room, PutBefore}
 
 -- whether refusal 19 is due
-pub is_uncut_lem : {t : List ℕ} {cut : Bool} {size mass pieces : ℕ} → CutIs t cut size mass pieces → none? (cuttings t) ≡ not cut
-is_uncut_lem {t} c = twice (none? (cuttings t)) ∙ ap not (sym c.so)
-  where
-    twice : (b : Bool) → b ≡ not (not b)
-    twice true = refl
-    twice false = refl
+pub is_uncut_lem : (t : List ℕ) (r : Perhaps Cutting) → CutIs t r → none? (cuttings t) ≡ is_none r
+is_uncut_lem t None e = e
+is_uncut_lem t (Some c) w = w.cuts
 
 -- the number that is kept
 abbrev pub weight_number : {P : Type 0} → P → ℕ → Number P
@@ -31,24 +29,24 @@ left_as : {P : Type 0} (at : P) (t : List ℕ) (l : List (List Item)) → none? 
 left_as at t [] e = refl
 left_as at t (xs ∷ l) e = absurd (false≢true e)
 
-module _ {t : List ℕ} {size mass pieces : ℕ} {P : Type 0} (at : P) where
+module _ {t : List ℕ} {P : Type 0} (at : P) where
   -- a composition, with its short text and its mass
-  pub kept_so : CutIs t true size mass pieces → cut_value at (text t) ≡ composition (short_of (cuttings t)) (weight_number at (weight_of (cuttings t)))
-  kept_so c = kept_as at t (cuttings t) (is_uncut_lem c)
+  pub kept_so : {c : Cutting} → Composed t c → cut_value at (text t) ≡ composition (short_of (cuttings t)) (weight_number at (weight_of (cuttings t)))
+  kept_so w = kept_as at t (cuttings t) w.cuts
 
-  pub mass_so : CutIs t true size mass pieces → length t ≤ text_limit → mass_in (cut_value at (text t)) ≡ pos mass
-  mass_so c h = ap mass_in (kept_so c) ∙ ap pos (sym (c.weighs h))
+  pub mass_so : {c : Cutting} → Composed t c → length t ≤ text_limit → mass_in (cut_value at (text t)) ≡ pos c.mass
+  mass_so w h = ap mass_in (kept_so w) ∙ ap pos (sym (w.weighs h))
 
   -- a text that cannot be cut stays
-  pub kept_not : CutIs t false size mass pieces → cut_value at (text t) ≡ text t
-  kept_not c = left_as at t (cuttings t) (is_uncut_lem c)
+  pub kept_not : none? (cuttings t) ≡ true → cut_value at (text t) ≡ text t
+  kept_not e = left_as at t (cuttings t) e
 
 -- ---- the short text at a place a of an area, where `cut` told its size
-pub room_at : (area : List ℕ) (a : ℕ) {t : List ℕ} {cut : Bool} {size mass pieces : ℕ} → CutIs t cut size mass pieces → a + size ≤ length area → Room area (a + size) (short_of (cuttings t))
-room_at area a c h = record { front = omega (arith, c.sized); inside = h }
+pub room_at : (area : List ℕ) (a : ℕ) {t : List ℕ} {c : Cutting} → Composed t c → a + c.size ≤ length area → Room area (a + c.size) (short_of (cuttings t))
+room_at area a w h = record { front = omega (arith, w.sized); inside = h }
 
-pub put_at_lem : {area : List ℕ} (a : ℕ) {t : List ℕ} {cut : Bool} {size mass pieces : ℕ} {area' : List ℕ} {r : ℕ} → CutIs t cut size mass pieces
-    → PutBefore area (a + size) (short_of (cuttings t)) area' r → area' ≡ sets area a (short_of (cuttings t))
-put_at_lem {area} a {t} {cut} {size} {mass} {pieces} {area'} {r} c p =
-    let e : r ≡ a = omega (arith, p.begins, c.sized) in
+pub put_at_lem : {area : List ℕ} (a : ℕ) {t : List ℕ} {c : Cutting} {area' : List ℕ} {r : ℕ} → Composed t c
+    → PutBefore area (a + c.size) (short_of (cuttings t)) area' r → area' ≡ sets area a (short_of (cuttings t))
+put_at_lem {area} a {t} {c} {area'} {r} w p =
+    let e : r ≡ a = omega (arith, p.begins, w.sized) in
     p.put ∙ ap (λ z. sets area z (short_of (cuttings t))) e

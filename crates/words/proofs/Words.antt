@@ -8,7 +8,8 @@ use native.Mathlib.Omega.{arith}
 use lib.Dec.{eqb, leb}
 use lib.ListN.{length, get_or, take, drop, length-take, length-drop, get_or-eq_default}
 use lib.Seq.{take-take, get_or-take, get_or-drop}
-use borrow.Author.Tests.{eqb-true, eqb-false, eq-eqb, leb-true}
+use borrow.Author.Tests.{eqb-true, eq-eqb, ne_eqb, leb-true}
+use Rattle.std.proofs.lemmas.Bool.{lt-leb}
 use Rattle.scope.specs.declared.grammar.Key.{Key}
 use Rattle.scope.specs.declared.grammar.Key.TheVariants.{NoKey}
 use Rattle.scope.specs.Bytes.{upper, same_folded}
@@ -20,100 +21,44 @@ use Rattle.basics.specs.Members.{member_cons}
 use Rattle.basics.specs.Tests.{falsely, and_left, and_right, implied}
 use Rattle.words.specs.Words.{longest, may_be, key_found}
 
--- ---- a word and the bytes from a place to another
-module _ (word s : List ℕ) {at end : ℕ} (low : at ≤ end) (high : end ≤ length s) where
-  abbrev bytes : List ℕ
-  bytes = part at (end - at) s
+-- ---- a text of another size than a word
+pub other_size : (word t : List ℕ) → (length word ≡ length t → ⊥) → eqb (length word) (length t) ≡ same_folded word t
+other_size word t e = ne_eqb _ _ e ∙ sym (falsely (same_folded word t) (λ so. e (folded_length word t so)))
 
-  long : length bytes ≡ end - at
-  long = omega (arith, length-take (end - at) (drop at s), length-drop at s)
-
-  -- they are as many as the word has, or not
-  pub same_size : {b : Bool} → length word ≡ end - at → b ≡ same_folded word (part at (length word) s) → b ≡ same_folded word bytes
-  same_size e r = r ∙ ap (λ k. same_folded word (part at k s)) e
-
-  pub other_size : (length word ≡ end - at → ⊥) → false ≡ same_folded word bytes
-  other_size e = sym (falsely (same_folded word bytes) (λ t. e (folded_length word bytes t ∙ long)))
-
-  -- they are no fewer, or they are
-  pub room_for : {b : Bool} → length word ≤ end - at → b ≡ same_folded word (part at (length word) s) → b ≡ same_folded word (take (length word) bytes)
-  room_for e r = r ∙ ap (same_folded word) (sym (take-take (length word) (end - at) (drop at s) (omega arith)))
-
-  pub too_few_lem : end - at < length word → false ≡ same_folded word (take (length word) bytes)
-  too_few_lem e =
-      sym
-      (falsely (same_folded word (take (length word) bytes)) (λ t.
-      let f = folded_length word (take (length word) bytes) t in
-      let g = length-take (length word) bytes in
-      omega (arith, f, g, long)))
+pub too_short : (word t : List ℕ) → length t < length word → leb (length word) (length t) ≡ same_folded word (take (length word) t)
+too_short word t e =
+    lt-leb _ _ e
+    ∙ sym (falsely (same_folded word (take (length word) t)) (λ so. absurd (omega (arith, folded_length word (take (length word) t) so, length-take (length word) t))))
 
 -- ---- the key that first letter and size leave
--- what is answered for a first letter, by the size: right for every key that begins so, which is one test over the keys
-abbrev right_for : ℕ → (ℕ → Key) → Key → Bool
-right_for first f k = not (eqb (upper (get_or (spell k) 0 0)) first) || eqb (key_code (f (length (spell k)))) (key_code k)
-
 same_code : (j k : Key) → key_code j ≡ key_code k → j ≡ k
 same_code j k e = sym (key_back j) ∙ ap key_in e ∙ key_back k
 
-pub likely_so : {first size : ℕ} {r : Key} (n : ℕ) (f : ℕ → Key) → all (right_for n f) (NoKey ∷ keys) ≡ true → first ≡ n → r ≡ f size
+-- where every key whose word has such a first letter and size is this one, which is one test over the keys
+abbrev right_for : (ℕ → ℕ → Bool) → Key → Key → Bool
+right_for such r k = not (such (upper (get_or (spell k) 0 0)) (length (spell k))) || eqb (key_code r) (key_code k)
+
+pub only_key : {first size : ℕ} (such : ℕ → ℕ → Bool) (r : Key) → all (right_for such r) (NoKey ∷ keys) ≡ true → such first size ≡ true
     → (k : Key) → may_be first size k ≡ true → r ≡ k
-likely_so {first} {size} {r} n f e p q k m =
-    let begins : eqb (upper (get_or (spell k) 0 0)) n ≡ true =
-    eq-eqb (upper (get_or (spell k) 0 0)) n (eqb-true (upper (get_or (spell k) 0 0)) first (and_left _ (eqb (length (spell k)) size) m) ∙ p) in
+only_key {first} {size} such r e h k m =
+    let begins = eqb-true (upper (get_or (spell k) 0 0)) first (and_left _ (eqb (length (spell k)) size) m) in
     let sized = eqb-true (length (spell k)) size (and_right (eqb (upper (get_or (spell k) 0 0)) first) _ m) in
-    let right = implied (eqb (upper (get_or (spell k) 0 0)) n) (eqb (key_code (f (length (spell k)))) (key_code k)) (each_key (right_for n f) e k) begins in
-    q ∙ ap f (sym sized) ∙ same_code (f (length (spell k))) k (eqb-true (key_code (f (length (spell k)))) (key_code k) right)
+    let so : such (upper (get_or (spell k) 0 0)) (length (spell k)) ≡ true = rw (begins, sized) h in
+    same_code r k (eqb-true (key_code r) (key_code k) (implied (such (upper (get_or (spell k) 0 0)) (length (spell k))) _ (each_key (right_for such r) e k) so))
 
 -- no key begins otherwise: the letters of the arms before, the last one first
-abbrev NoneOf : List ℕ → ℕ → Type 0
+abbrev pub NoneOf : List ℕ → ℕ → Type 0
 NoneOf [] x = Unit {0}
 NoneOf (b ∷ bs) x = NoneOf bs x × (x ≡ b → ⊥)
 
-none_of : (bs : List ℕ) (x : ℕ) → NoneOf bs x → member x bs ≡ true → ⊥
+pub none_of : (bs : List ℕ) (x : ℕ) → NoneOf bs x → member x bs ≡ true → ⊥
 unfolding member
 none_of [] x h e = let y : ◌≡◌ {A = ℕ} 0 1 = cc in omega arith
 none_of (b ∷ bs) x h e = ⊎_elim h.1 (λ q. none_of bs x h.0 q) (member_cons x b bs e)
 
-abbrev begun_in : List ℕ → Key → Bool
-begun_in bs k = member (upper (get_or (spell k) 0 0)) bs || eqb (key_code NoKey) (key_code k)
-
-pub unlikely : (first size : ℕ) (bs : List ℕ) → all (begun_in bs) (NoKey ∷ keys) ≡ true → NoneOf bs first → (k : Key) → may_be first size k ≡ true → NoKey ≡ k
-unlikely first size bs e h k m =
-    let begins = eqb-true (upper (get_or (spell k) 0 0)) first (and_left _ (eqb (length (spell k)) size) m) in
-    let out : member (upper (get_or (spell k) 0 0)) bs ≡ false = falsely (member (upper (get_or (spell k) 0 0)) bs) (λ t. none_of bs first h (ap (λ x. member x bs) (sym begins) ∙ t)) in
-    let none : eqb (key_code NoKey) (key_code k) ≡ true = rw out at (each_key (begun_in bs) e k) in
-    same_code NoKey k (eqb-true (key_code NoKey) (key_code k) none)
-
--- ---- words and numbers of keys
-pub laid : {r n : ℕ} {l w t : List ℕ} → n ≡ length t → take n w ≡ t → (r ≡ n) × (l ≡ w) → (r ≡ length t) × (take r l ≡ t)
-laid {r} {n} {l} {w} p q e = (e.0 ∙ p, ap (λ k. take k l) e.0 ∙ ap (take n) e.1 ∙ q)
-
-pub word_fits : (n : ℕ) (l : List ℕ) {t : List ℕ} → (n ≡ length t) × (take n l ≡ t) → n ≤ length l
-word_fits n l e = omega (arith, e.0, ap length e.1, length-take n l)
-
-pub word_counted : (n : ℕ) (l : List ℕ) {t : List ℕ} → (n ≡ length t) × (take n l ≡ t) → n ≡ length (take n l)
-word_counted n l e = e.0 ∙ ap length (sym e.1)
-
 pub short : (k : Key) → length (spell k) ≤ longest
 unfolding all keys spell
 short k = leb-true (length (spell k)) longest (each_key (λ k. leb (length (spell k)) longest) refl k)
-
--- none of the numbers 1 to k
-abbrev NoneTo : ℕ → ℕ → Type 0
-NoneTo zero x = Unit {0}
-NoneTo (suc k) x = NoneTo k x × (x ≡ suc k → ⊥)
-
-none_to : (k x : ℕ) → NoneTo k x → (x ≡ 0 → ⊥) → k < x
-none_to zero x h z = omega (arith, z)
-none_to (suc k) x h z = let below = none_to k x h.0 z in let other = h.1 in omega arith
-
-pub no_number : {c : ℕ} → NoneTo 17 c → NoKey ≡ key_in c
-unfolding keys
-no_number {c} h = go (eqb c 0) refl
-  where
-    go : (so : Bool) → eqb c 0 ≡ so → NoKey ≡ key_in c
-    go true e = rw (eqb-true c 0 e)
-    go false e = sym (get_or-eq_default (NoKey ∷ keys) NoKey {n = c} (none_to 17 c h (eqb-false c 0 e)))
 
 -- ---- the key that a text spells
 first_same : (x t : List ℕ) → 0 < length t → same_folded x t ≡ true → upper (get_or x 0 0) ≡ upper (get_or t 0 0)
@@ -166,40 +111,18 @@ module _ (t : List ℕ) (some_text : 0 < length t) (key : Key) (one : (k : Key) 
   unfolding key_of
   key_is e = sym (decided keys ∙ rw (not_all e))
 
--- ---- the bytes from a place to another, at least one
-module _ (s : List ℕ) {at end : ℕ} where
-  pub no_bytes : at ≡ end → NoKey ≡ key_found (part at (end - at) s)
-  unfolding key_of key_among keys spell same_folded
-  no_bytes e = let z : end - at ≡ 0 = omega arith in rw z
+-- ---- a text, by its first byte and its size
+pub no_bytes : (t : List ℕ) → length t ≡ 0 → NoKey ≡ key_found t
+unfolding key_of key_among keys spell same_folded
+no_bytes [] e = refl
+no_bytes (b ∷ t) e = absurd (omega arith)
 
-  module _ (low : at ≤ end) (high : end ≤ length s) (some : at ≡ end → ⊥) {u : ℕ} (p : u ≡ upper (get_or s at 0))
-      {key : Key} (q : (k : Key) → may_be u (end - at) k ≡ true → key ≡ k)
-      {word : List ℕ} (w : word ≡ spell key) {b : Bool} (r : b ≡ same_folded word (part at (end - at) s)) where
-    abbrev text : List ℕ
-    text = part at (end - at) s
+module _ (t : List ℕ) (some : 0 < length t) {u : ℕ} (p : u ≡ upper (get_or t 0 0)) {key : Key} (q : (k : Key) → may_be u (length t) k ≡ true → key ≡ k) where
+  one : (k : Key) → same_folded (spell k) t ≡ true → key ≡ k
+  one k e = q k (rw (eq-eqb (upper (get_or (spell k) 0 0)) u (first_same (spell k) t some e ∙ sym p), eq-eqb (length (spell k)) (length t) (folded_length (spell k) t e)))
 
-    size : length text ≡ end - at
-    size = omega (arith, length-take (end - at) (drop at s), length-drop at s)
+  pub key_decided : {b : Bool} → b ≡ same_folded (spell key) t → b ≡ true → key ≡ key_found t
+  key_decided r e = key_is t some key one (sym r ∙ e)
 
-    text_there : 0 < length text
-    text_there = omega (arith, size, some)
-
-    first_byte : get_or text 0 0 ≡ get_or s at 0
-    first_byte = get_or-take (end - at) (drop at s) 0 0 (omega (arith, some)) ∙ get_or-drop at s 0 0 ∙ ap (λ j. get_or s j 0) (let z : at + 0 ≡ at = omega arith in z)
-
-    one : (k : Key) → same_folded (spell k) text ≡ true → key ≡ k
-    one k e =
-        q k
-        (rw (
-          eq-eqb (upper (get_or (spell k) 0 0)) u (first_same (spell k) text text_there e ∙ ap upper first_byte ∙ sym p),
-          eq-eqb (length (spell k)) (end - at) (folded_length (spell k) text e ∙ size),
-        ))
-
-    spelled : same_folded (spell key) text ≡ b
-    spelled = ap (λ x. same_folded x text) (sym w) ∙ sym r
-
-    pub key_decided : b ≡ true → key ≡ key_found text
-    key_decided e = key_is text text_there key one (spelled ∙ e)
-
-    pub key_refused : b ≡ false → NoKey ≡ key_found text
-    key_refused e = key_is_not text text_there key one (spelled ∙ e)
+  pub key_refused : {b : Bool} → b ≡ same_folded (spell key) t → b ≡ false → NoKey ≡ key_found t
+  key_refused r e = key_is_not t some key one (sym r ∙ e)

@@ -25,4 +25,4 @@ pub returns : goal.returns
 returns c =
     let i = c.loop-k.invariant in
     let all : i.0 + 1 ≡ group_size = omega (arith, i.1, i.2) in
-    rw i.1 (digits_in i.0 _ i.3 (rw all c.requires) (omega (arith, i.2)))
+    rw all at (digits_in i.0 _ i.3 (rw all c.requires) (omega (arith, i.2)))

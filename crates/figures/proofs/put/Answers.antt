@@ -1,9 +1,11 @@
 -- A byte is stored where there is room, and counted in any case. Assumes nothing.
 use Rattle.figures.proofs.Storing.{puts_stored, puts_counted}
 use Rattle.figures.proofs.put.Goals as goal
-
-pub returns-then-at-out : goal.returns-then-at-out
-returns-then-at-out c = puts_stored _ _ _
+use Rattle.figures.proofs.put.Goals.{then-at-out, else-at-out}
 
 pub returns : goal.returns
-returns c = puts_counted _ _ _ c.if-at-out.false
+returns c =
+    elim c.if-at-out.branch [
+      | then-at-out w ↦ rw w.out-is (puts_stored _ _ _)
+      | else-at-out w ↦ rw w.out-is (puts_counted _ _ _ w.if-at-out.false)
+    ]

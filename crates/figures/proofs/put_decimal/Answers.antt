@@ -6,6 +6,3 @@ use Rattle.figures.proofs.put_decimal.Goals as goal
 
 pub returns-then-n-lt-TEN : goal.returns-then-n-lt-TEN
 returns-then-n-lt-TEN c = puts_of (decimal_digit _ c.if-n-lt-TEN.true c.digit.ensures) (puts_within (omega arith) c.put.ensures)
-
-pub returns : goal.returns
-returns c = c.put_whole.ensures

@@ -4,11 +4,7 @@ use native.Mathlib.Omega.{arith}
 use Rattle.scope.specs.Canonical.{last_digits}
 use Rattle.figures.specs.Written.{group_size}
 use Rattle.figures.proofs.Storing.{copied_none, puts_last}
-use borrow.Author.Rules.{rules}
 use Rattle.figures.proofs.store_digits.Goals as goal
-
-pub store_six-requires : goal.store_six-requires
-store_six-requires c = (search rules, search rules)
 
 pub returns-in-0 : goal.returns-in-0
 unfolding last_digits

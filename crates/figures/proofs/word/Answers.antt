@@ -1,22 +1,12 @@
-use mathlib.Core.Path.{◌≡◌}
-use native.Mathlib.Omega.{arith}
-use lib.ListN.{length}
-use lib.Seq.{take-length}
-use Rattle.figures.proofs.Storing.{puts_none, puts_of, puts_join, taken_more}
-use borrow.Author.Rules.{rules}
+-- As many bytes as fit are copied at once. Assumes nothing.
+use Rattle.std.proofs.Common.{arith, rules}
+use Rattle.figures.proofs.Storing.{copied_over, copied_all}
 use Rattle.figures.proofs.word.Goals as goal
-
-pub loop-i-init : goal.loop-i-init
-loop-i-init c = (search rules, puts_none _ _)
-
-pub loop-i-preserved : goal.loop-i-preserved
-loop-i-preserved c =
-    let w = c.args.w.now in
-    (search rules, puts_of (taken_more w c.loop-i.i (omega arith)) (puts_join c.loop-i.invariant.1 c.put-a.ensures))
+use Rattle.figures.proofs.word.Goals.{then-at-out, else-at-out}
 
 pub returns : goal.returns
 returns c =
-    let l = c.loop-i in
-    let w = c.args.w.now in
-    let e : l.i ≡ length w = omega arith in
-    puts_of (take-length w) (rw e at l.invariant.1)
+    elim c.if-at-out.branch [
+      | then-at-out w ↦ rw w.out-is (copied_all c.args.w.now c.args.out.now c.args.at w.min-m.result w.if-at-out.true (search rules) (omega arith) w.copy_from_slice.ensures.after)
+      | else-at-out w ↦ rw w.out-is (copied_over c.args.w.now w.if-at-out.false)
+    ]

@@ -1,9 +1,11 @@
--- Piece by piece from the right, until nothing is left or no piece ends what is left. Assumes nothing.
-use Rattle.glycans.proofs.Ways.{Cutting}
+-- Piece by piece from the right, until no piece ends what is left. Assumes nothing.
+use Rattle.std.proofs.Common.{◌-◌, length}
+use Rattle.scope.specs.Lists.{part}
+use Rattle.glycans.proofs.Ways.{SoFar}
 use Rattle.glycans.proofs.cut.Given as goal
 
-abbrev pub invariant-loop-end : goal.invariant-loop-end
-invariant-loop-end l = Cutting l.line l.from l.to l.end l.size l.mass l.pieces
+abbrev pub invariant-loop-p : goal.invariant-loop-p
+invariant-loop-p l = SoFar (part l.from (l.to - l.from) l.line) l.rest l.size l.mass l.pieces
 
-abbrev pub decreases-loop-end : goal.decreases-loop-end
-decreases-loop-end l = l.end
+abbrev pub decreases-loop-p : goal.decreases-loop-p
+decreases-loop-p l = length l.rest

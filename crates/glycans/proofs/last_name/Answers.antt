@@ -1,24 +1,19 @@
-use native.Mathlib.Omega.{arith}
-use Rattle.glycans.proofs.Names.{trying_start, trying_reads, trying_found, trying_next, trying_ends}
+-- No byte ends with no name; else the names with the last letter are tried. Assumes nothing.
+use Rattle.std.proofs.Common.{arith}
+use Rattle.glycans.proofs.Names.{no_text, trying_start, trying_found, trying_next, trying_ends}
 use Rattle.glycans.proofs.last_name.Goals as goal
 
-pub loop-k-init : goal.loop-k-init
-loop-k-init c = trying_start _ c.requires.0 c.requires.1 c.upper.ensures c.ending_in-l.ensures
+pub returns-in_default : goal.returns-in_default
+returns-in_default c = no_text _ c.in_default.len_below
 
-pub offset_bounds-names-k : goal.offset_bounds-names-k
-offset_bounds-names-k c = omega (arith, trying_reads c.loop-k.invariant c.loop-k-test.true)
-
-pub bounds-names-k : goal.bounds-names-k
-bounds-names-k c = omega (arith, trying_reads c.loop-k.invariant c.loop-k-test.true)
-
-pub ends-requires : goal.ends-requires
-ends-requires c = omega (arith, c.requires)
+pub loop-i-init : goal.loop-i-init
+loop-i-init c = trying_start c.args.text.now (omega arith) c.upper.ensures c.ending_in-names.ensures
 
 pub returns-then-ends : goal.returns-then-ends
-returns-then-ends c = trying_found c.loop-k.invariant c.loop-k-test.true c.ends.ensures c.if-ends.true
+returns-then-ends c = trying_found c.args.text.now c.ending_in-names.result.now c.loop-i.invariant c.loop-i-test.true (rw c.sugar_at.ensures.0 at c.ends.ensures) c.if-ends.true
 
-pub loop-k-preserved : goal.loop-k-preserved
-loop-k-preserved c = trying_next c.loop-k.invariant c.loop-k-test.true c.ends.ensures c.if-ends.false
+pub loop-i-preserved : goal.loop-i-preserved
+loop-i-preserved c = trying_next c.args.text.now c.ending_in-names.result.now c.loop-i.invariant c.loop-i-test.true (rw c.sugar_at.ensures.0 at c.ends.ensures) c.if-ends.false
 
 pub returns : goal.returns
-returns c = trying_ends c.loop-k.invariant c.loop-k-test.false 0
+returns c = trying_ends c.args.text.now c.ending_in-names.result.now c.loop-i.invariant c.loop-i-test.false

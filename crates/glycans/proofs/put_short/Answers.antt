@@ -1,31 +1,19 @@
-use native.Mathlib.Omega.{arith}
-use Rattle.glycans.proofs.Putting.{piece_found, putting_ends, short_start, room_digits, room_name, short_next}
+-- Piece by piece from the right: its digits, and its name before them. Assumes nothing.
+use Rattle.std.proofs.Common.{arith}
+use Rattle.glycans.proofs.Putting.{short_start, room_digits, room_name, short_next, putting_ends}
 use Rattle.glycans.proofs.put_short.Goals as goal
 
-pub loop-end-init : goal.loop-end-init
-loop-end-init c = short_start c.requires.0 c.requires.1 c.requires.2 c.requires.3
-
-pub last_piece-p-requires : goal.last_piece-p-requires
-last_piece-p-requires c = (c.loop-end-test.true, c.loop-end.invariant.high)
+pub loop-p-init : goal.loop-p-init
+loop-p-init c = short_start _ c.requires.2 c.requires.3
 
 pub put_digits-a-requires : goal.put_digits-a-requires
-put_digits-a-requires c =
-    let i = c.loop-end.invariant in
-    let f = piece_found i c.loop-end-test.true c.last_piece-p.ensures in
-    (omega (arith, f.few), room_digits i f)
+put_digits-a-requires c = (omega (arith, c.in-Some.ensures.few), room_digits c.loop-p.invariant c.in-Some.ensures)
 
 pub put_name-a-requires : goal.put_name-a-requires
-put_name-a-requires c =
-    let i = c.loop-end.invariant in
-    room_name i (piece_found i c.loop-end-test.true c.last_piece-p.ensures) c.put_digits-a.ensures
+put_name-a-requires c = room_name c.loop-p.invariant c.in-Some.ensures c.put_digits-a.ensures
 
-pub loop-end-smaller : goal.loop-end-smaller
-loop-end-smaller c = (piece_found c.loop-end.invariant c.loop-end-test.true c.last_piece-p.ensures).before
-
-pub loop-end-preserved : goal.loop-end-preserved
-loop-end-preserved c =
-    let i = c.loop-end.invariant in
-    short_next i (piece_found i c.loop-end-test.true c.last_piece-p.ensures) c.put_digits-a.ensures c.put_name-a.ensures
+pub loop-p-preserved : goal.loop-p-preserved
+loop-p-preserved c = short_next c.loop-p.invariant c.in-Some.ensures c.put_digits-a.ensures c.put_name-a.ensures
 
 pub returns : goal.returns
-returns c = putting_ends c.loop-end.invariant c.loop-end-test.false
+returns c = putting_ends c.loop-p.invariant c.in_default.ensures

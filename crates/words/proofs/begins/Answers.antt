@@ -1,9 +1,6 @@
--- Fewer bytes than the word has do not begin with it. Assumes nothing.
-use Rattle.words.proofs.Words.{room_for, too_few_lem}
+-- A text that is shorter than the word does not begin with it. Assumes nothing.
+use Rattle.words.proofs.Words.{too_short}
 use Rattle.words.proofs.begins.Goals as goal
 
-pub returns-then-word-end : goal.returns-then-word-end
-returns-then-word-end c = room_for _ _ c.requires.0 c.requires.1 c.if-word-end.true c.key_at.ensures
-
-pub returns : goal.returns
-returns c = too_few_lem _ _ c.requires.0 c.requires.1 c.if-word-end.false
+pub returns-else-word-text : goal.returns-else-word-text
+returns-else-word-text c = too_short _ _ c.if-word-text.false

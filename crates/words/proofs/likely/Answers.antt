@@ -1,79 +1,87 @@
--- For each first letter the answer is right for every key that begins so, which is one test over the keys; no key begins otherwise. Assumes nothing.
-use mathlib.Core.Path.{refl, ap, ◌∙◌}
-use mathlib.Core.Bool.{cond}
-use mathlib.Core.List.{[], ◌∷◌}
-use lib.Dec.{eqb}
-use Rattle.scope.specs.declared.grammar.Key.TheVariants.{U, M, R, X, G, C, Obs, Unimod, Mod, Xlmod, Resid, Gno, Info, Formula, Glycan, Position, Limit}
+-- Every key whose word has such a first letter and size is the one that is answered. Assumes nothing.
+use Rattle.std.proofs.Common.{rules, refl, ◌&&◌, not, eqb, ne_eqb, [], ◌∷◌}
+use Rattle.scope.specs.declared.grammar.Key.TheVariants.{NoKey, U, M, R, X, G, C, Obs, Unimod, Mod, Xlmod, Resid, Gno, Info, Formula, Glycan, Position, Limit}
 use Rattle.scope.specs.Bytes.{upper}
 use Rattle.scope.specs.Keys.{spell, keys}
 use Rattle.scope.specs.Lists.{all, member}
-use Rattle.words.proofs.Words.{likely_so, unlikely}
+use Rattle.basics.specs.Tests.{falsely}
+use Rattle.words.proofs.Words.{NoneOf, only_key, none_of}
 use Rattle.words.proofs.likely.Goals as goal
 
-pub sized-requires : goal.sized-requires
-sized-requires c = tt
-
-pub sized-requires-in-77 : goal.sized-requires-in-77
-sized-requires-in-77 c = tt
-
-pub sized-requires-in-82 : goal.sized-requires-in-82
-sized-requires-in-82 c = tt
-
-pub sized-requires-in-88 : goal.sized-requires-in-88
-sized-requires-in-88 c = tt
-
-pub sized-requires-in-71 : goal.sized-requires-in-71
-sized-requires-in-71 c = tt
-
-pub sized-requires-in-71-2 : goal.sized-requires-in-71-2
-sized-requires-in-71-2 c = tt
-
-pub returns-in-85 : goal.returns-in-85
+pub returns-then-size-eq1 : goal.returns-then-size-eq1
 unfolding all keys spell upper
-returns-in-85 c = likely_so 85 (λ n. cond (eqb n 1) U Unimod) refl c.in-85.is c.sized.ensures
+returns-then-size-eq1 c = only_key (λ f n. eqb f 85 && eqb n 1) U refl (rw (c.in-85.is, c.if-size-eq1.true))
 
-pub returns-in-77 : goal.returns-in-77
+pub returns-else-size-eq1 : goal.returns-else-size-eq1
 unfolding all keys spell upper
-returns-in-77 c = likely_so 77 (λ n. cond (eqb n 1) M Mod) refl c.in-77.is c.sized-in-77.ensures
+returns-else-size-eq1 c = only_key (λ f n. eqb f 85 && not (eqb n 1)) Unimod refl (rw (c.in-85.is, ne_eqb _ _ c.if-size-eq1.false))
 
-pub returns-in-82 : goal.returns-in-82
+pub returns-then-size-eq1-2 : goal.returns-then-size-eq1-2
 unfolding all keys spell upper
-returns-in-82 c = likely_so 82 (λ n. cond (eqb n 1) R Resid) refl c.in-82.is c.sized-in-82.ensures
+returns-then-size-eq1-2 c = only_key (λ f n. eqb f 77 && eqb n 1) M refl (rw (c.in-77.is, c.if-size-eq1-2.true))
 
-pub returns-in-88 : goal.returns-in-88
+pub returns-else-size-eq1-2 : goal.returns-else-size-eq1-2
 unfolding all keys spell upper
-returns-in-88 c = likely_so 88 (λ n. cond (eqb n 1) X Xlmod) refl c.in-88.is c.sized-in-88.ensures
+returns-else-size-eq1-2 c = only_key (λ f n. eqb f 77 && not (eqb n 1)) Mod refl (rw (c.in-77.is, ne_eqb _ _ c.if-size-eq1-2.false))
 
-pub returns-in-71 : goal.returns-in-71
+pub returns-then-size-eq1-3 : goal.returns-then-size-eq1-3
 unfolding all keys spell upper
-returns-in-71 c =
-    likely_so 71 (λ n. cond (eqb n 1) G (cond (eqb n 3) Gno Glycan)) refl c.in-71.is
-    (c.sized-in-71-2.ensures ∙ ap (cond (eqb c.args.size 1) G) c.sized-in-71.ensures)
+returns-then-size-eq1-3 c = only_key (λ f n. eqb f 82 && eqb n 1) R refl (rw (c.in-82.is, c.if-size-eq1-3.true))
+
+pub returns-else-size-eq1-3 : goal.returns-else-size-eq1-3
+unfolding all keys spell upper
+returns-else-size-eq1-3 c = only_key (λ f n. eqb f 82 && not (eqb n 1)) Resid refl (rw (c.in-82.is, ne_eqb _ _ c.if-size-eq1-3.false))
+
+pub returns-then-size-eq1-4 : goal.returns-then-size-eq1-4
+unfolding all keys spell upper
+returns-then-size-eq1-4 c = only_key (λ f n. eqb f 88 && eqb n 1) X refl (rw (c.in-88.is, c.if-size-eq1-4.true))
+
+pub returns-else-size-eq1-4 : goal.returns-else-size-eq1-4
+unfolding all keys spell upper
+returns-else-size-eq1-4 c = only_key (λ f n. eqb f 88 && not (eqb n 1)) Xlmod refl (rw (c.in-88.is, ne_eqb _ _ c.if-size-eq1-4.false))
+
+pub returns-in-1 : goal.returns-in-1
+unfolding all keys spell upper
+returns-in-1 c = only_key (λ f n. eqb f 71 && eqb n 1) G refl (rw (c.in-71.is, c.in-1.is))
+
+pub returns-in-3 : goal.returns-in-3
+unfolding all keys spell upper
+returns-in-3 c = only_key (λ f n. eqb f 71 && eqb n 3) Gno refl (rw (c.in-71.is, c.in-3.is))
+
+pub returns-in_default-size : goal.returns-in_default-size
+unfolding all keys spell upper member
+returns-in_default-size c =
+    let other : NoneOf (3 ∷ 1 ∷ []) c.args.size = search rules in
+    let not_among = falsely (member c.args.size (3 ∷ 1 ∷ [])) (none_of (3 ∷ 1 ∷ []) c.args.size other) in
+    only_key (λ f n. eqb f 71 && not (member n (3 ∷ 1 ∷ []))) Glycan refl (rw (c.in-71.is, not_among))
 
 pub returns-in-67 : goal.returns-in-67
 unfolding all keys spell upper
-returns-in-67 c = likely_so 67 (λ n. C) refl c.in-67.is refl
+returns-in-67 c = only_key (λ f n. eqb f 67) C refl (rw c.in-67.is)
 
 pub returns-in-79 : goal.returns-in-79
 unfolding all keys spell upper
-returns-in-79 c = likely_so 79 (λ n. Obs) refl c.in-79.is refl
+returns-in-79 c = only_key (λ f n. eqb f 79) Obs refl (rw c.in-79.is)
 
 pub returns-in-73 : goal.returns-in-73
 unfolding all keys spell upper
-returns-in-73 c = likely_so 73 (λ n. Info) refl c.in-73.is refl
+returns-in-73 c = only_key (λ f n. eqb f 73) Info refl (rw c.in-73.is)
 
 pub returns-in-70 : goal.returns-in-70
 unfolding all keys spell upper
-returns-in-70 c = likely_so 70 (λ n. Formula) refl c.in-70.is refl
+returns-in-70 c = only_key (λ f n. eqb f 70) Formula refl (rw c.in-70.is)
 
 pub returns-in-80 : goal.returns-in-80
 unfolding all keys spell upper
-returns-in-80 c = likely_so 80 (λ n. Position) refl c.in-80.is refl
+returns-in-80 c = only_key (λ f n. eqb f 80) Position refl (rw c.in-80.is)
 
 pub returns-in-76 : goal.returns-in-76
 unfolding all keys spell upper
-returns-in-76 c = likely_so 76 (λ n. Limit) refl c.in-76.is refl
+returns-in-76 c = only_key (λ f n. eqb f 76) Limit refl (rw c.in-76.is)
 
 pub returns-in_default : goal.returns-in_default
-unfolding all member keys spell upper
-returns-in_default c = unlikely _ _ (76 ∷ 80 ∷ 70 ∷ 73 ∷ 79 ∷ 67 ∷ 71 ∷ 88 ∷ 82 ∷ 77 ∷ 85 ∷ []) refl c.in_default.in_default-own.rest
+unfolding all keys spell upper member
+returns-in_default c =
+    let other : NoneOf (76 ∷ 80 ∷ 70 ∷ 73 ∷ 79 ∷ 67 ∷ 71 ∷ 88 ∷ 82 ∷ 77 ∷ 85 ∷ []) c.args.first = search rules in
+    let not_among = falsely (member c.args.first (76 ∷ 80 ∷ 70 ∷ 73 ∷ 79 ∷ 67 ∷ 71 ∷ 88 ∷ 82 ∷ 77 ∷ 85 ∷ [])) (none_of (76 ∷ 80 ∷ 70 ∷ 73 ∷ 79 ∷ 67 ∷ 71 ∷ 88 ∷ 82 ∷ 77 ∷ 85 ∷ []) c.args.first other) in
+    only_key (λ f n. not (member f (76 ∷ 80 ∷ 70 ∷ 73 ∷ 79 ∷ 67 ∷ 71 ∷ 88 ∷ 82 ∷ 77 ∷ 85 ∷ []))) NoKey refl (rw (not_among))

@@ -3,21 +3,21 @@ use Prim.Native.Nat.{ℕ, ◌≤◌, ◌<◌}
 use mathlib.Core.Path.{◌≡◌, refl, sym, ap, ◌∙◌, subst}
 use mathlib.Core.List.{List, ◌++◌}
 use lib.ListN.{length, take, drop}
-use lib.Seq.{take_all}
 use native.Mathlib.Omega.{arith}
 use borrow.Author.Tests.{lt-ltb, le-ltb}
 use Rattle.scope.specs.Limits.{copy_limit}
 use Rattle.scope.specs.Lists.{laid}
-use Rattle.scope.specs.Answers.{Said, good, refuses, met}
-use Rattle.basics.specs.Said.{not_both}
+use Rattle.scope.specs.Answers.{Said, good, refuses, met, of_good}
+use Rattle.basics.specs.Said.{not_both, same_good}
 use Rattle.blocks.specs.Area.{Put}
 use Rattle.blocks.specs.Entry.{Entry}
-use Rattle.blocks.specs.Answers.{fetch_said, fetched_length, fetched_placement, out_after, adding, added_to}
+use Rattle.blocks.specs.Answers.{fetch_said, fetched_length, fetched_as, out_after, adding, added_to}
 use Rattle.export.specs.Numbers.{number_of, Numbered}
 use Rattle.export.specs.Blocks.{adds_lent, EntryAdded, AddHanded, fetches_lent, EntryFetched, FetchHanded, HeadHanded, Surveyed}
 use Rattle.export.proofs.Told.{length_kept}
 use Rattle.blocks.specs.declared.Listed.{Listed}
 use Rattle.blocks.specs.declared.Survey.{Survey}
+use Rattle.blocks.specs.declared.Fetched.{Fetched}
 
 -- ---- adding
 -- whether something was put says as much as what was put
@@ -50,23 +50,24 @@ fetched_short a n p out count h =
 long_enough : (a : List ℕ) (n : ℕ) (p out : List ℕ) → copy_limit ≤ length p → fetch_said a n (length out) ≡ fetches_lent a n p out
 long_enough a n p out h = sym (rw (le-ltb (length p) copy_limit h))
 
-handed_line : (said : Said Entry) (p out : List ℕ) {m : ℕ} (count : ℕ) {at p' out' : List ℕ} → good m ≡ fetched_length said → at ≡ fetched_placement said → out' ≡ out_after said out
-    → p' ≡ laid at p → EntryFetched said p out count 0 p' out' m
-handed_line (good e) p out count {at} {p'} s f o l =
+handed_line : (said : Said Entry) (p out : List ℕ) (count : ℕ) {f : Fetched} {p' out' : List ℕ} → good f ≡ of_good fetched_as said → out' ≡ out_after said out
+    → p' ≡ laid f.at p → EntryFetched said p out count 0 p' out' f.size
+handed_line (good e) p out count {f} s o l =
+    let same : f ≡ fetched_as e = same_good s in
     record {
-      measured = record { number_is = refl; count_is = cc };
-      placement_after = l ∙ ap (λ z. laid z p) f;
+      measured = record { number_is = refl; count_is = ap (λ x. x.size) same };
+      placement_after = l ∙ ap (λ x. laid x.at p) same;
       output_after_is = o;
     }
-handed_line (refuses n q) p out count s f o l = absurd (not_both s)
+handed_line (refuses n q) p out count s o l = absurd (not_both s)
 
-pub fetched_line : (a : List ℕ) (n : ℕ) (p out : List ℕ) {m : ℕ} (count : ℕ) {at p' out' : List ℕ} → copy_limit ≤ length p → good m ≡ fetched_length (fetch_said a n (length out))
-    → at ≡ fetched_placement (fetch_said a n (length out)) → out' ≡ out_after (fetch_said a n (length out)) out → p' ≡ laid at p → FetchHanded a n p out count 0 p' out' m
-fetched_line a n p out {m} count {at} {p'} {out'} h s f o l =
-    subst (λ x. EntryFetched x p out count 0 p' out' m) (long_enough a n p out h) (handed_line (fetch_said a n (length out)) p out count s f o l)
+pub fetched_line : (a : List ℕ) (n : ℕ) (p out : List ℕ) (count : ℕ) {f : Fetched} {p' out' : List ℕ} → copy_limit ≤ length p
+    → good f ≡ of_good fetched_as (fetch_said a n (length out)) → out' ≡ out_after (fetch_said a n (length out)) out → p' ≡ laid f.at p → FetchHanded a n p out count 0 p' out' f.size
+fetched_line a n p out count {f} {p'} {out'} h s o l =
+    subst (λ x. EntryFetched x p out count 0 p' out' f.size) (long_enough a n p out h) (handed_line (fetch_said a n (length out)) p out count s o l)
 
 -- a refusal but 15 leaves the length; 15 tells the one that is needed
-handed_refusal : (said : Said Entry) (p out : List ℕ) {n q : ℕ} (count : ℕ) {out' : List ℕ} → refuses n q ≡ fetched_length said → out' ≡ out_after said out → (n ≡ 15 → ⊥)
+handed_refusal : (said : Said Entry) (p out : List ℕ) {n q : ℕ} (count : ℕ) {out' : List ℕ} → refuses n q ≡ of_good fetched_as said → out' ≡ out_after said out → (n ≡ 15 → ⊥)
     → EntryFetched said p out count n p out' count
 handed_refusal (good e) p out count s o h = absurd (not_both (sym s))
 handed_refusal (refuses m r) p out {n} {q} count s o h =
@@ -77,7 +78,7 @@ handed_refusal (refuses m r) p out {n} {q} count s o h =
       output_after_is = o;
     }
 
-handed_15 : (said : Said Entry) (p out : List ℕ) {n q : ℕ} (count : ℕ) {out' : List ℕ} → refuses n q ≡ fetched_length said → out' ≡ out_after said out → n ≡ 15
+handed_15 : (said : Said Entry) (p out : List ℕ) {n q : ℕ} (count : ℕ) {out' : List ℕ} → refuses n q ≡ of_good fetched_as said → out' ≡ out_after said out → n ≡ 15
     → EntryFetched said p out count n p out' q
 handed_15 (good e) p out count s o h = absurd (not_both (sym s))
 handed_15 (refuses m r) p out {n} {q} count s o h =
@@ -91,7 +92,7 @@ handed_15 (refuses m r) p out {n} {q} count s o h =
     }
 
 module _ (a : List ℕ) (n : ℕ) (p out : List ℕ) {number place : ℕ} (count : ℕ) {out' : List ℕ} (h : copy_limit ≤ length p)
-    (s : refuses number place ≡ fetched_length (fetch_said a n (length out))) (o : out' ≡ out_after (fetch_said a n (length out)) out) where
+    (s : refuses number place ≡ of_good fetched_as (fetch_said a n (length out))) (o : out' ≡ out_after (fetch_said a n (length out)) out) where
   pub fetched_refusal : (number ≡ 15 → ⊥) → FetchHanded a n p out count number p out' count
   fetched_refusal l =
       subst (λ x. EntryFetched x p out count number p out' count) (long_enough a n p out h) (handed_refusal (fetch_said a n (length out)) p out count s o l)
@@ -112,5 +113,5 @@ survey_so {free = f} {first = i} {further = u} {other = o} {unsound = w} {number
     subst (λ s. Surveyed s f i u o w n f' i' u' o' w') same h
 
 -- a whole array, copied to the front
-pub laid_all : (at old : List ℕ) → length at ≡ copy_limit → take copy_limit at ++ drop copy_limit old ≡ laid at old
-laid_all at old e = subst (λ n. take n at ++ drop n old ≡ laid at old) e (ap (λ z. z ++ drop (length at) old) (take_all (length at) at (omega arith)))
+pub laid_all : (at old : List ℕ) → length at ≡ copy_limit → at ++ drop copy_limit old ≡ laid at old
+laid_all at old e = ap (λ n. at ++ drop n old) (sym e)

@@ -4,16 +4,16 @@ use mathlib.Core.Path.{◌≡◌, sym, ap, ◌∙◌, subst}
 use mathlib.Core.List.{List, ◌++◌}
 use lib.IntN.{ℤ}
 use lib.ListN.{length, take, drop}
-use lib.Seq.{take_all}
-use native.Mathlib.Omega.{arith}
 use borrow.Author.Tests.{lt-ltb, le-ltb}
 use Rattle.scope.specs.Limits.{copy_limit, position_limit}
 use Rattle.scope.specs.Layout.{tables_in}
 use Rattle.scope.specs.Lists.{laid}
 use Rattle.scope.specs.Masses.{ledger}
-use Rattle.scope.specs.Answers.{Said, good, refuses, allows, books, entries}
+use Rattle.scope.specs.Answers.{Said, good, refuses, allows, books, ledger_said}
 use Rattle.export.specs.Numbers.{number_of, place_left}
 use Rattle.export.specs.Shapes.{allows_lent, books_lent, entries_after, ReadEntered}
+use Rattle.scope.specs.declared.answers.Ledger.{Ledger}
+use Rattle.export.proofs.Told.{refused_back, good_back}
 
 module _ (bs : List ℕ) (ns : List ℤ) (p : List ℕ) where
   pub allows_short : length p < copy_limit → allows_lent bs ns p ≡ refuses 13 0
@@ -46,14 +46,14 @@ module _ (bs : List ℕ) (ns : List ℤ) (p : List ℕ) where
       said_of : {said : Said (Unit {0})} → said ≡ books bs ns q → books_lent bs ns p old ≡ said
       said_of e = books_long h l ∙ ap (books bs ns) (sym begins) ∙ sym e
 
-      pub refused_long : {number why : ℕ} → refuses number why ≡ books bs ns q → ReadEntered bs ns p old place number why old
-      refused_long {number} {why} e = entered {said = refuses number why} (said_of e)
+      pub refused_long : {number why : ℕ} → refuses number why ≡ ledger_said bs ns q → ReadEntered bs ns p old place number why old
+      refused_long {number} {why} e = entered {said = refuses number why} (said_of (refused_back (λ x. record { at = ledger (tables_in bs ns) q }) (books bs ns q) e))
 
-      pub booked_long : {at new : List ℤ} → good tt ≡ books bs ns q → at ≡ entries (books bs ns q) (tables_in bs ns) q → length at ≡ position_limit
-          → new ≡ take position_limit at ++ drop position_limit old → ReadEntered bs ns p old place 0 place new
-      booked_long {at} {new} e is long put =
+      pub booked_long : {l' : Ledger} {new : List ℤ} → good l' ≡ ledger_said bs ns q → length l'.at ≡ position_limit
+          → new ≡ l'.at ++ drop position_limit old → ReadEntered bs ns p old place 0 place new
+      booked_long {l'} {new} e long put =
+          let back = good_back (λ (x : Unit {0}). record { at = ledger (tables_in bs ns) q }) (books bs ns q) e in
           let booked = ledger (tables_in bs ns) (take copy_limit p) in
-          let here : at ≡ booked = is ∙ ap (λ s. entries s (tables_in bs ns) q) (sym e) ∙ ap (ledger (tables_in bs ns)) begins in
-          let whole : take position_limit at ≡ booked = take_all position_limit at (omega (arith, long)) ∙ here in
-          let after : new ≡ laid booked old = put ∙ ap (λ a. a ++ drop position_limit old) whole ∙ ap (λ n. booked ++ drop n old) (sym long ∙ ap length here) in
-          subst (ReadEntered bs ns p old place 0 place) (sym after) (entered {said = good tt} (said_of e))
+          let here : l'.at ≡ booked = ap (λ (z : Ledger). z.at) back.1.1 ∙ ap (ledger (tables_in bs ns)) begins in
+          let after : new ≡ laid booked old = put ∙ ap (λ a. a ++ drop position_limit old) here ∙ ap (λ n. booked ++ drop n old) (sym long ∙ ap length here) in
+          subst (ReadEntered bs ns p old place 0 place) (sym after) (entered {said = good back.0} (said_of back.1.0))

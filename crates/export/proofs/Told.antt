@@ -1,6 +1,6 @@
 -- An answer that says the same is handed out the same; and a request that is met or refused has the number of what is said of it.
 use Prim.Native.Nat.{ℕ}
-use mathlib.Core.Path.{◌≡◌, refl, sym, ap, subst}
+use mathlib.Core.Path.{◌≡◌, refl, sym, ap, ap₂, subst}
 use mathlib.Core.Bool.{cond}
 use mathlib.Core.List.{List}
 use lib.IntN.{ℤ}
@@ -8,7 +8,8 @@ use lib.Ieee.{Float}
 use lib.Dec.{eqb}
 use borrow.Author.Tests.{ne_eqb}
 use Rattle.scope.specs.declared.answers.Mass.{Mass}
-use Rattle.scope.specs.Answers.{Said, good, refuses, met, Display}
+use Rattle.basics.specs.Said.{not_both, same_good, same_number_lem, same_place}
+use Rattle.scope.specs.Answers.{Said, good, refuses, of_good, met, Display}
 use Rattle.export.specs.Numbers.{number_of, Numbered}
 use Rattle.export.specs.Handed.{Counted, LookedUp}
 use Rattle.export.specs.Shapes.{Measured, Totalled, Massed, Displayed}
@@ -44,3 +45,16 @@ met_number (refuses number place) = refl
 
 pub length_kept : (number place old : ℕ) → (number ≡ 15 → ⊥) → old ≡ cond (eqb number 15) place old
 length_kept number place old h = ap (λ b. cond b place old) (sym (ne_eqb number 15 h))
+
+-- ---- what was worked out of what was handed out
+-- a refusal of another kind of answer is the same refusal
+pub as_refused : {A B : Type 0} {m q n p : ℕ} → ◌≡◌ {A = Said A} (refuses m q) (refuses n p) → ◌≡◌ {A = Said B} (refuses m q) (refuses n p)
+as_refused e = ap₂ refuses (same_number_lem e) (same_place e)
+
+pub refused_back : {A B : Type 0} (f : A → B) (s : Said A) {m q : ℕ} → refuses m q ≡ of_good f s → refuses m q ≡ s
+refused_back f (good x) e = absurd (not_both (sym e))
+refused_back f (refuses n p) e = as_refused e
+
+pub good_back : {A B : Type 0} (f : A → B) (s : Said A) {y : B} → good y ≡ of_good f s → (x : A) × ((good x ≡ s) × (y ≡ f x))
+good_back f (good x) e = (x, (refl, same_good e))
+good_back f (refuses n p) e = absurd (not_both e)

@@ -13,43 +13,60 @@ use Rattle.scope.specs.Lists.{padded, laid}
 use Rattle.scope.specs.Layout.{tables_in}
 use Rattle.scope.specs.Positions.{floating_of}
 use Rattle.scope.specs.Reasons.{Reason}
-use Rattle.scope.specs.Answers.{Said, good, refuses, too_short, are_tables, counts, output_after, says}
+use Rattle.scope.specs.Answers.{Said, good, refuses, too_short, are_tables, counts, output_after, says, reason_number}
 use Rattle.basics.specs.Said.{not_both, same_good}
 use Rattle.placement_laws.specs.Answered.{some_reason}
-use Rattle.calls.specs.Competing.{names_of, WhySays}
+use Rattle.calls.specs.Competing.{told_of, WhySays}
 use Rattle.export.specs.Numbers.{number_of, left}
 use Rattle.export.specs.Shapes.{why_lent, WhyHanded}
 use Rattle.scope.specs.declared.refusals.Refusal.{Refusal}
-use Rattle.std.specs.Prelude.{Result, Ok}
+use Rattle.std.specs.Prelude.{Result, Ok, Err}
+use Rattle.scope.specs.declared.answers.Why.{Why}
+use Rattle.export.proofs.Told.{as_refused}
 
--- a count that is told is the one that is meant
-said_many : (short taken : Bool) {n m : ℕ} → good n ≡ cond short (refuses 13 0) (cond taken (good m) (refuses 14 0)) → n ≡ m
-said_many true taken e = absurd (not_both e)
-said_many false true e = same_good e
-said_many false false e = absurd (not_both e)
+-- ---- what is told of the set, in both forms: with its numbers, and how many they are
+said_same : {A : Type 0} (short taken : Bool) {x y : A} → good x ≡ cond short (refuses 13 0) (cond taken (good y) (refuses 14 0)) → x ≡ y
+said_same true taken e = absurd (not_both e)
+said_same false true e = same_good e
+said_same false false e = absurd (not_both e)
+
+said_good : {A B : Type 0} (short taken : Bool) {x y : A} {m n : B} → good x ≡ cond short (refuses 13 0) (cond taken (good y) (refuses 14 0)) → m ≡ n
+    → good m ≡ cond short (refuses 13 0) (cond taken (good n) (refuses 14 0))
+said_good true taken e f = absurd (not_both e)
+said_good false true e f = ap good f
+said_good false false e f = absurd (not_both e)
+
+said_refused : {A B : Type 0} (short taken : Bool) {x : A} {n : B} {m q : ℕ} → refuses m q ≡ cond short (refuses 13 0) (cond taken (good x) (refuses 14 0))
+    → refuses m q ≡ cond short (refuses 13 0) (cond taken (good n) (refuses 14 0))
+said_refused true taken e = as_refused e
+said_refused false true e = absurd (not_both (sym e))
+said_refused false false e = as_refused e
 
 -- the set that is named: its numbers stand at the front of the entries
-module _ (bs : List ℕ) (ns : List ℤ) {c : (Result ℕ Refusal)} {at : List ℕ} (w : WhySays bs ns (record { count = c; at = at })) {n : ℕ} (e : c ≡ Ok n) where
-  said : good n ≡ counts bs ns (λ t. length w.set)
-  said = ap says (sym e) ∙ w.says
+module _ (bs : List ℕ) (ns : List ℤ) {r : Why} (w : WhySays bs ns (Ok r)) where
+  named : r ≡ told_of w.set
+  named = said_same (too_short bs ns) (are_tables bs ns) w.says
 
-  many : n ≡ length w.set
-  many = said_many (too_short bs ns) (are_tables bs ns) said
+  many : r.count ≡ length w.set
+  many = ap (λ x. x.count) named
 
-  names : at ≡ padded 0 copy_limit w.set
-  names = w.names ∙ ap (λ s. names_of s w.set) (sym said)
+  names : r.at ≡ padded 0 copy_limit w.set
+  names = ap (λ x. x.at) named
 
-  pub why_fits : length at ≡ copy_limit → n ≤ copy_limit
+  counted : good r.count ≡ counts bs ns (λ t. length w.set)
+  counted = said_good (too_short bs ns) (are_tables bs ns) w.says many
+
+  pub why_fits : length r.at ≡ copy_limit → r.count ≤ copy_limit
   why_fits long =
       let behind = copy_limit - length w.set in
-      let whole : length at ≡ length w.set + behind = ap length names ∙ length-append w.set (replicate behind 0) ∙ ap (λ k. length w.set + k) (length-replicate behind 0) in
+      let whole : length r.at ≡ length w.set + behind = ap length names ∙ length-append w.set (replicate behind 0) ∙ ap (λ k. length w.set + k) (length-replicate behind 0) in
       omega (arith, whole, long, many)
 
-  begins : take n at ≡ w.set
-  begins = ap (λ k. take k at) many ∙ ap (take (length w.set)) names ∙ take-append_seam w.set (replicate (copy_limit - length w.set) 0)
+  begins : take r.count r.at ≡ w.set
+  begins = ap (λ k. take k r.at) many ∙ ap (take (length w.set)) names ∙ take-append_seam w.set (replicate (copy_limit - length w.set) 0)
 
-  laid_so : (old : List ℕ) → take n at ++ drop n old ≡ laid w.set old
-  laid_so old = ap (λ z. z ++ drop n old) begins ∙ ap (λ k. w.set ++ drop k old) many
+  laid_so : (old : List ℕ) → take r.count r.at ++ drop r.count old ≡ laid w.set old
+  laid_so old = ap (λ z. z ++ drop r.count old) begins ∙ ap (λ k. w.set ++ drop k old) many
 
 module _ (bs : List ℕ) (ns : List ℤ) (old : List ℕ) (count : ℕ) where
   -- what is said decides what is left
@@ -66,13 +83,16 @@ module _ (bs : List ℕ) (ns : List ℤ) (old : List ℕ) (count : ℕ) where
   pub why_short : length old < copy_limit → WhyHanded bs ns old count 13 count old
   why_short h = handed (some_reason _) {said = refuses 13 0} (sym (rw (lt-ltb (length old) copy_limit h)))
 
-  module _ (h : copy_limit ≤ length old) {c : (Result ℕ Refusal)} {at : List ℕ} (w : WhySays bs ns (record { count = c; at = at })) where
-    long_enough : {a : (Result ℕ Refusal)} → c ≡ a → says a ≡ why_lent bs ns old w.set
-    long_enough e = ap says (sym e) ∙ w.says ∙ sym (rw (le-ltb (length old) copy_limit h))
+  module _ (h : copy_limit ≤ length old) where
+    long_enough : (l : List ℕ) → counts bs ns (λ t. length l) ≡ why_lent bs ns old l
+    long_enough l = sym (rw (le-ltb (length old) copy_limit h))
 
-    pub why_refused : {number place : ℕ} → c ≡ Refused number place → WhyHanded bs ns old count number count old
-    why_refused {number} {place} e = handed (w.set, w.reason) {said = refuses number place} (long_enough e)
+    pub why_refused : {e : Refusal} → WhySays bs ns (Err e) → WhyHanded bs ns old count (reason_number e.reason) count old
+    why_refused {e} w =
+        handed (w.set, w.reason) {said = refuses (reason_number e.reason) e.place}
+        (said_refused (too_short bs ns) (are_tables bs ns) w.says ∙ long_enough w.set)
 
-    pub why_told : {n : ℕ} → c ≡ Ok n → {new : List ℕ} → new ≡ take n at ++ drop n old → WhyHanded bs ns old count 0 n new
-    why_told {n} e copied =
-        subst (λ z. WhyHanded bs ns old count 0 n z) (sym (copied ∙ laid_so bs ns w e old)) (handed (w.set, w.reason) {said = good n} (long_enough e))
+    pub why_told : {r : Why} → WhySays bs ns (Ok r) → {new : List ℕ} → new ≡ take r.count r.at ++ drop r.count old → WhyHanded bs ns old count 0 r.count new
+    why_told {r} w copied =
+        subst (λ z. WhyHanded bs ns old count 0 r.count z) (sym (copied ∙ laid_so bs ns w old))
+        (handed (w.set, w.reason) {said = good r.count} (counted bs ns w ∙ long_enough w.set))

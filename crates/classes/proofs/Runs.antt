@@ -1,14 +1,18 @@
 -- Laws of `span` at a place of a list, whatever the class. Assumes nothing.
 use Prim.Native.Nat.{ℕ, suc, ◌+◌, ◌≤◌, ◌<◌}
-use mathlib.Core.Path.{◌≡◌, refl, sym, ◌∙◌}
+use mathlib.Core.Path.{◌≡◌, refl, sym, ap, ◌∙◌}
 use mathlib.Core.Bool.{Bool, true, false, cond}
 use mathlib.Core.List.{List, [], ◌∷◌}
 use native.Mathlib.Numerals.{add-one}
 use native.Mathlib.Omega.{arith}
 use lib.Dec.{ltb}
 use borrow.Author.Tests.{ltb-true, ltb-false}
-use lib.ListN.{length, get_or, drop, drop_of_length-le, length-drop}
-use lib.Seq.{drop-cons, get_or-drop}
+use lib.ListN.{length, get_or, take, drop, drop_of_length-le, length-drop}
+use mathlib.Core.Logic.{◌⊎◌, inl, inr}
+use lib.Seq.{drop-cons, get_or-drop, take-length}
+use Rattle.std.specs.Prelude.{Option, MatchOption, HoldsAt, unwrap_or}
+use Rattle.std.specs.List.{AllWithin, slice_range}
+use Rattle.std.proofs.lemmas.Iterator.{index_from_first}
 use Rattle.classes.specs.Runs.{span}
 
 module _ (p : ℕ → Bool) (s : List ℕ) (i : ℕ) where
@@ -44,6 +48,22 @@ module _ {p : ℕ → Bool} {s : List ℕ} {at i : ℕ} (r : RunGoesOn p s at i)
 
   pub run_ends : length s ≤ i → i ≡ at + span p (drop at s)
   run_ends h = omega (arith, span_end p s i h, r.same_end)
+
+-- the rest of a list from a place on, and a place past its end
+pub range_to_end : (s : List ℕ) (at : ℕ) → slice_range s at (length s) ≡ drop at s
+range_to_end s at = ap (λ n. take n (drop at s)) (sym (length-drop at s)) ∙ take-length (drop at s)
+
+pub past_end : {at n : ℕ} → ◌⊎◌ (n < at) (n < n) → n ≤ at
+past_end (inl h) = omega arith
+past_end (inr h) = absurd (omega arith)
+
+-- the first byte that is not of the class, or the end of the list
+pub span_found : (p : ℕ → Bool) (xs : List ℕ) (r : Option ℕ)
+    → MatchOption r (AllWithin (λ b. p b ≡ true) xs 0 (length xs)) (λ i. (i < length xs) × HoldsAt (λ b. p b ≡ false) xs i × AllWithin (λ b. p b ≡ true) xs 0 i)
+    → span p xs ≡ unwrap_or r (length xs)
+unfolding span
+span_found p xs r f =
+    index_from_first (span p) (λ b. p b ≡ false) (λ b. p b ≡ true) refl (λ x l e. rw e) (λ x l e. rw (e, add-one)) xs r f
 
 -- ---- where a run ends
 pub span_le : (p : ℕ → Bool) (l : List ℕ) → span p l ≤ length l

@@ -152,27 +152,11 @@ fn is_inner(b: u8) -> bool
 fn outer_end(line: &[u8], at: usize, hashes: bool) -> usize
     ensures { result ≡ at + span (is_outer hashes) (drop at line.now) }
 {
-    let mut i = at;
-    while i < line.len() {
-        if is_outer(line[i], hashes) {
-            i += 1;
-        } else {
-            return i;
-        }
-    }
-    i
+    classes::run_end(line, at, |b| is_outer(b, hashes))
 }
 
 fn inner_end(line: &[u8], at: usize) -> usize
     ensures { result ≡ at + span is_inner (drop at line.now) }
 {
-    let mut i = at;
-    while i < line.len() {
-        if is_inner(line[i]) {
-            i += 1;
-        } else {
-            return i;
-        }
-    }
-    i
+    classes::run_end(line, at, is_inner)
 }

@@ -1,16 +1,6 @@
--- Below a, above z, and between, where the letter stands 32 places further.
-use Rattle.basics.specs.Choice.{steps}
-use Rattle.scope.specs.Bytes.{upper}
+use mathlib.Core.Path.{◌∙◌}
+use Rattle.classes.proofs.Same.{upper_is}
 use Rattle.classes.proofs.upper.Goals as goal
 
-pub returns-then-b-lt97 : goal.returns-then-b-lt97
-unfolding upper
-returns-then-b-lt97 c = search steps
-
-pub returns-then-b-gt122 : goal.returns-then-b-gt122
-unfolding upper
-returns-then-b-gt122 c = search steps
-
 pub returns : goal.returns
-unfolding upper
-returns c = search steps
+returns c = c.to_ascii_uppercase.ensures.value ∙ upper_is c.args.b

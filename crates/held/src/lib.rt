@@ -11,7 +11,8 @@ ghost use Rattle.scope.specs.Layout.{bytes_size, numbers_size, row_at, part_at, 
 ghost use Rattle.scope.specs.Answers.{reads_to};
 ghost use Rattle.held.specs.Tells.{Tells};
 ghost use Rattle.layout_laws.specs.At.{At};
-ghost use Rattle.sheet.specs.Rows.{heads_room, LineNoted};
+ghost use Rattle.sheet.specs.Rows.{masses_room};
+ghost use Rattle.sheet.specs.Kept.{LineNoted};
 ghost use Rattle.store.specs.PartPut.{Copies, RowFits, ComposedFits, NotedFits};
 ghost use Rattle.store.specs.BracketPut.{head_from, PlacesFit};
 ghost use Rattle.store.specs.Filled.{FrontFits};
@@ -19,6 +20,7 @@ ghost use Rattle.held.specs.Held.{FrontHeld, PartSeen, FrameFits, FrameHeld, Bra
 
 use glycans::Cutting;
 use scope::tables::Tables;
+use sheet::Sheet;
 
 // What was looked at so far: whether all of it is held, and how many bytes of texts it has.
 #[derive(Drop)]
@@ -80,12 +82,20 @@ fn zero_numbers(numbers: &[i64], at: usize, n: usize) -> bool
     so
 }
 
-// Is this the mass or the score at a place of the sheet?
-fn is_number(numbers: &[i64], at: usize, x: i64) -> bool
-    requires { at < length numbers.now }
-    ensures { Tells result (x ≡ get_or numbers.now at (pos 0)) }
+// Is this the mass of row m?
+fn is_noted(sheet: &Sheet, m: usize, x: i64) -> bool
+    requires { m < masses_room }
+    ensures { Tells result (x ≡ get_or sheet.now.masses m (pos 0)) }
 {
-    x == numbers[at]
+    x == sheet.mass_of(m)
+}
+
+// Is this the score of bracket k?
+fn is_scored(sheet: &Sheet, k: usize, x: i64) -> bool
+    requires { k < bracket_limit }
+    ensures { Tells result (x ≡ get_or sheet.now.scores k (pos 0)) }
+{
+    x == sheet.points_of(k)
 }
 
 // Is this that mass, in millionths?
@@ -107,20 +117,14 @@ fn padded_held(from: &[u8], n: usize, bytes: &[u8], at: usize) -> bool
 }
 
 // The numbers of residues and brackets, the letters and the sections?
-fn front_held(
-    letters: &[u8],
-    sections: &[u8],
-    residues: usize,
-    brackets: usize,
-    bytes: &[u8],
-) -> bool
-    requires { FrontFits letters.now sections.now residues brackets bytes.now }
-    ensures { Tells result (FrontHeld (counts_row residues brackets) (take residues letters.now) (take residues sections.now) bytes.now) }
+fn front_held(sheet: &Sheet, residues: usize, brackets: usize, bytes: &[u8]) -> bool
+    requires { FrontFits sheet.now.letters sheet.now.sections residues brackets bytes.now }
+    ensures { Tells result (FrontHeld (counts_row residues brackets) (take residues sheet.now.letters) (take residues sheet.now.sections) bytes.now) }
 {
     (areas::residues(bytes) == residues)
         & (areas::brackets(bytes) == brackets)
-        & padded_held(letters, residues, bytes, Tables::LETTERS)
-        & padded_held(sections, residues, bytes, Tables::SECTIONS)
+        & padded_held(&sheet.letters, residues, bytes, Tables::LETTERS)
+        & padded_held(&sheet.sections, residues, bytes, Tables::SECTIONS)
 }
 
 // ---- a part
@@ -151,8 +155,7 @@ fn fields_held(
 // Row m as part j of bracket k: its fields, its text and its label behind the texts seen, and its mass.
 fn part_held(
     line: &[u8],
-    parts: &[u16],
-    masses: &[i64],
+    sheet: &Sheet,
     m: usize,
     k: usize,
     j: usize,
@@ -160,20 +163,19 @@ fn part_held(
     numbers: &[i64],
     seen: Seen,
 ) -> Seen
-    requires { RowFits line.now parts.now masses.now m k j seen.texts bytes.now numbers.now }
-    ensures { PartSeen line.now parts.now masses.now m k j bytes.now numbers.now seen result }
+    requires { RowFits line.now sheet.now.parts sheet.now.masses m k j seen.texts bytes.now numbers.now }
+    ensures { PartSeen line.now sheet.now.parts sheet.now.masses m k j bytes.now numbers.now seen result }
 {
-    if store::is_composition(parts, m) {
-        return composition_held(line, parts, masses, m, k, j, bytes, numbers, seen);
+    if store::is_composition(sheet, m) {
+        return composition_held(line, sheet, m, k, j, bytes, numbers, seen);
     }
-    noted_held(line, parts, masses, m, k, j, bytes, numbers, seen)
+    noted_held(line, sheet, m, k, j, bytes, numbers, seen)
 }
 
 // The same of a composition: its short text is put into an array, and compared there.
 fn composition_held(
     line: &[u8],
-    parts: &[u16],
-    masses: &[i64],
+    sheet: &Sheet,
     m: usize,
     k: usize,
     j: usize,
@@ -181,16 +183,16 @@ fn composition_held(
     numbers: &[i64],
     seen: Seen,
 ) -> Seen
-    requires { ComposedFits line.now parts.now masses.now m k j seen.texts bytes.now numbers.now }
-    ensures { PartSeen line.now parts.now masses.now m k j bytes.now numbers.now seen result }
+    requires { ComposedFits line.now sheet.now.parts sheet.now.masses m k j seen.texts bytes.now numbers.now }
+    ensures { PartSeen line.now sheet.now.parts sheet.now.masses m k j bytes.now numbers.now seen result }
 {
     let t = seen.texts;
-    let label = sheet::label_from(parts, m);
-    let l = sheet::label_to(parts, m) - label;
-    let c = store::composition(line, parts, m);
+    let label = sheet.label_from(m);
+    let l = sheet.label_to(m) - label;
+    let c = store::composition(line, sheet, m);
     let n = c.size;
     let mut short = [0u8; Tables::TEXT];
-    store::put_composition(line, parts, m, &mut short, n);
+    store::put_composition(line, sheet, m, &mut short, n);
     let offset = store::offset_of(n + l, t);
     let so = fields_held(
         Cutting::VALUE,
@@ -214,8 +216,7 @@ fn composition_held(
 // The same of any other part: as it is noted.
 fn noted_held(
     line: &[u8],
-    parts: &[u16],
-    masses: &[i64],
+    sheet: &Sheet,
     m: usize,
     k: usize,
     j: usize,
@@ -223,22 +224,22 @@ fn noted_held(
     numbers: &[i64],
     seen: Seen,
 ) -> Seen
-    requires { NotedFits line.now parts.now masses.now m k j seen.texts bytes.now numbers.now }
-    ensures { PartSeen line.now parts.now masses.now m k j bytes.now numbers.now seen result }
+    requires { NotedFits line.now sheet.now.parts sheet.now.masses m k j seen.texts bytes.now numbers.now }
+    ensures { PartSeen line.now sheet.now.parts sheet.now.masses m k j bytes.now numbers.now seen result }
 {
     let t = seen.texts;
-    let text = sheet::text_from(parts, m);
-    let n = sheet::text_to(parts, m) - text;
-    let label = sheet::label_from(parts, m);
-    let l = sheet::label_to(parts, m) - label;
+    let text = sheet.text_from(m);
+    let n = sheet.text_to(m) - text;
+    let label = sheet.label_from(m);
+    let l = sheet.label_to(m) - label;
     let offset = store::offset_of(n + l, t);
-    let value = sheet::value_of(parts, m);
-    let key = sheet::key_of(parts, m);
-    let decimals = sheet::decimals_of(parts, m);
+    let value = sheet.value_of(m);
+    let key = sheet.key_of(m);
+    let decimals = sheet.decimals_of(m);
     let so = fields_held(value, key, decimals, n, l, offset, k, j, bytes)
         & same_bytes(line, text, n, bytes, Tables::TEXTS + t)
         & same_bytes(line, label, l, bytes, Tables::TEXTS + t + n)
-        & is_number(masses, m, areas::mass(numbers, k, j));
+        & is_noted(sheet, m, areas::mass(numbers, k, j));
     Seen {
         so: seen.so & so,
         texts: t + n + l,
@@ -248,36 +249,29 @@ fn noted_held(
 // ---- a bracket
 
 // The head of bracket k?
-fn head_held(heads: &[u16], k: usize, bytes: &[u8]) -> bool
-    requires { (heads_room ≤ length heads.now) × (k < bracket_limit) × (bytes_size ≤ length bytes.now) }
-    ensures { Tells result (At bytes.now (row_at k) (head_from heads.now k)) }
+fn head_held(sheet: &Sheet, k: usize, bytes: &[u8]) -> bool
+    requires { (k < bracket_limit) × (bytes_size ≤ length bytes.now) }
+    ensures { Tells result (At bytes.now (row_at k) (head_from sheet.now.heads k)) }
 {
-    (areas::kind(bytes, k) == sheet::kind_of(heads, k))
-        & (areas::first(bytes, k) == sheet::first_of(heads, k))
-        & (areas::last(bytes, k) == sheet::last_of(heads, k))
-        & (areas::count(bytes, k) == sheet::count_of(heads, k))
-        & (areas::parts(bytes, k) == sheet::parts_of(heads, k))
-        & (areas::score(bytes, k) == sheet::score_of(heads, k))
+    (areas::kind(bytes, k) == sheet.kind_of(k))
+        & (areas::first(bytes, k) == sheet.first_of(k))
+        & (areas::last(bytes, k) == sheet.last_of(k))
+        & (areas::count(bytes, k) == sheet.count_of(k))
+        & (areas::parts(bytes, k) == sheet.parts_of(k))
+        & (areas::score(bytes, k) == sheet.score_of(k))
 }
 
 // What bracket k has beside its n parts: its head, zeros for the parts that it lacks, its score?
-fn frame_held(
-    heads: &[u16],
-    scores: &[i64],
-    k: usize,
-    n: usize,
-    bytes: &[u8],
-    numbers: &[i64],
-) -> bool
-    requires { FrameFits heads.now scores.now k n bytes.now numbers.now }
-    ensures { Tells result (FrameHeld heads.now scores.now k n bytes.now numbers.now) }
+fn frame_held(sheet: &Sheet, k: usize, n: usize, bytes: &[u8], numbers: &[i64]) -> bool
+    requires { FrameFits sheet.now.heads sheet.now.scores k n bytes.now numbers.now }
+    ensures { Tells result (FrameHeld sheet.now.heads sheet.now.scores k n bytes.now numbers.now) }
 {
     let lacking = Tables::PARTS - n;
     let behind = Tables::ROWS + k * Tables::ROW + Tables::HEAD + n * Tables::PART;
-    head_held(heads, k, bytes)
+    head_held(sheet, k, bytes)
         & zero_bytes(bytes, behind, lacking * Tables::PART)
         & zero_numbers(numbers, k * Tables::MASSES + n, lacking)
-        & is_number(scores, k, areas::score_number(numbers, k))
+        & is_scored(sheet, k, areas::score_number(numbers, k))
 }
 
 // The sites of bracket k: those of the n places that stand in the line from `at` on?
@@ -311,32 +305,26 @@ fn places_held(line: &[u8], at: usize, n: usize, k: usize, bytes: &[u8]) -> bool
 // Bracket k: what it has beside its parts, and each part.
 fn bracket_held(
     line: &[u8],
-    heads: &[u16],
-    parts: &[u16],
-    masses: &[i64],
-    scores: &[i64],
+    sheet: &Sheet,
     k: usize,
     bytes: &[u8],
     numbers: &[i64],
     seen: Seen,
 ) -> Seen
-    requires { (b : Bracket ℕ) × BracketThere line.now heads.now parts.now masses.now scores.now k seen.texts b bytes.now numbers.now }
-    ensures { (b : Bracket ℕ) → BracketThere line.now heads.now parts.now masses.now scores.now k seen.texts b bytes.now numbers.now → BracketSeen k b bytes.now numbers.now seen result }
+    requires { (b : Bracket ℕ) × BracketThere line.now sheet.now.heads sheet.now.parts sheet.now.masses sheet.now.scores k seen.texts b bytes.now numbers.now }
+    ensures { (b : Bracket ℕ) → BracketThere line.now sheet.now.heads sheet.now.parts sheet.now.masses sheet.now.scores k seen.texts b bytes.now numbers.now → BracketSeen k b bytes.now numbers.now seen result }
 {
-    let m = sheet::base_of(heads, k);
-    let n = sheet::parts_of(heads, k);
-    let at = sheet::places_of(heads, k);
-    let many = sheet::many_of(heads, k);
-    let so = frame_held(heads, scores, k, n, bytes, numbers)
-        & places_held(line, at, many, k, bytes);
+    let m = sheet.base_of(k);
+    let n = sheet.parts_of(k);
+    let at = sheet.places_of(k);
+    let many = sheet.many_of(k);
+    let so = frame_held(sheet, k, n, bytes, numbers) & places_held(line, at, many, k, bytes);
     let mut upto = Seen {
         so: seen.so & so,
         texts: seen.texts,
     };
-    let mut j: usize = 0;
-    while j < n {
-        upto = part_held(line, parts, masses, m + j, k, j, bytes, numbers, upto);
-        j += 1;
+    for j in 0..n {
+        upto = part_held(line, sheet, m + j, k, j, bytes, numbers, upto);
     }
     upto
 }
@@ -357,28 +345,21 @@ fn rest_held(n: usize, t: usize, bytes: &[u8], numbers: &[i64]) -> bool
 // Do the areas hold the tables of an accepted line, which is noted in the sheet?
 pub fn holds(
     line: &[u8],
-    letters: &[u8],
-    sections: &[u8],
-    heads: &[u16],
-    parts: &[u16],
-    masses: &[i64],
-    scores: &[i64],
+    sheet: &Sheet,
     residues: usize,
     brackets: usize,
     bytes: &[u8],
     numbers: &[i64],
 ) -> bool
-    requires { ((l : Line ℕ) × LineNoted line.now letters.now sections.now heads.now parts.now masses.now scores.now residues brackets l) × (bytes_size ≤ length bytes.now) × (numbers_size ≤ length numbers.now) }
+    requires { ((l : Line ℕ) × LineNoted line.now sheet.now residues brackets l) × (bytes_size ≤ length bytes.now) × (numbers_size ≤ length numbers.now) }
     ensures { result ≡ reads_to (outcome line.now) (take bytes_size bytes.now) (take numbers_size numbers.now) }
 {
     let mut seen = Seen {
-        so: front_held(letters, sections, residues, brackets, bytes),
+        so: front_held(sheet, residues, brackets, bytes),
         texts: 0,
     };
-    let mut k: usize = 0;
-    while k < brackets {
-        seen = bracket_held(line, heads, parts, masses, scores, k, bytes, numbers, seen);
-        k += 1;
+    for k in 0..brackets {
+        seen = bracket_held(line, sheet, k, bytes, numbers, seen);
     }
     seen.so & rest_held(brackets, seen.texts, bytes, numbers)
 }

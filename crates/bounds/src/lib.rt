@@ -11,7 +11,7 @@ ghost use Rattle.bounds.specs.Pieces.{Room, RowRoom, PlaceBounds, HeadBounds, Pa
 use scope::tables::{Number, Tables};
 
 // What a mass or score stays below in size, in millionths.
-const CAP: i64 = (Number::SIZE * tens::MILLION) as i64;
+const CAP: u64 = Number::SIZE * tens::MILLION;
 
 // How many decimals it has at most.
 const DECIMALS: usize = Number::DECIMALS as usize;
@@ -20,10 +20,7 @@ const DECIMALS: usize = Number::DECIMALS as usize;
 fn is_small(m: i64) -> bool
     ensures { Verdict result (Small m) }
 {
-    if m < CAP {
-        return 0 - CAP < m;
-    }
-    false
+    m.unsigned_abs() < CAP
 }
 
 // Does part j of bracket k keep to its bounds?
@@ -31,23 +28,13 @@ fn part_in_bounds(bytes: &[u8], numbers: &[i64], k: usize, j: usize) -> bool
     requires { RowRoom bytes.now numbers.now k × (j < part_limit) }
     ensures { Verdict result (PartBounds bytes.now numbers.now k j) }
 {
-    let decimals = areas::decimals(bytes, k, j);
-    if DECIMALS < decimals {
-        return false;
-    }
     let text = areas::text_length(bytes, k, j);
-    if Tables::TEXT < text {
-        return false;
-    }
     let label = areas::label_length(bytes, k, j);
-    if Tables::LABEL < label {
-        return false;
-    }
-    let from = areas::offset(bytes, k, j);
-    if Tables::LINE < from + text + label {
-        return false;
-    }
-    is_small(areas::mass(numbers, k, j))
+    areas::decimals(bytes, k, j) <= DECIMALS
+        && text <= Tables::TEXT
+        && label <= Tables::LABEL
+        && areas::offset(bytes, k, j) + text + label <= Tables::LINE
+        && is_small(areas::mass(numbers, k, j))
 }
 
 // Do the positions of bracket k?
@@ -56,10 +43,7 @@ fn place_in_bounds(bytes: &[u8], k: usize) -> bool
     ensures { Verdict result (PlaceBounds bytes.now k) }
 {
     let end = areas::residues(bytes) + 1;
-    if end < areas::first(bytes, k) {
-        return false;
-    }
-    areas::last(bytes, k) <= end
+    areas::first(bytes, k) <= end && areas::last(bytes, k) <= end
 }
 
 // Do its count, its numbers of parts and places, and its score?
@@ -68,25 +52,12 @@ fn head_in_bounds(bytes: &[u8], numbers: &[i64], k: usize) -> bool
     ensures { Verdict result (HeadBounds bytes.now numbers.now k) }
 {
     let count = areas::count(bytes, k);
-    if count == 0 {
-        return false;
-    }
-    if Tables::COUNT < count {
-        return false;
-    }
-    let parts = areas::parts(bytes, k);
-    if Tables::PARTS < parts {
-        return false;
-    }
-    let places = areas::places(bytes, k);
-    if Tables::PLACES < places {
-        return false;
-    }
-    let score = areas::score(bytes, k);
-    if DECIMALS + 1 < score {
-        return false;
-    }
-    is_small(areas::score_number(numbers, k))
+    count != 0
+        && count <= Tables::COUNT
+        && areas::parts(bytes, k) <= Tables::PARTS
+        && areas::places(bytes, k) <= Tables::PLACES
+        && areas::score(bytes, k) <= DECIMALS + 1
+        && is_small(areas::score_number(numbers, k))
 }
 
 // Do its parts, of which there are at most as many as a row holds?
@@ -94,12 +65,8 @@ fn parts_in_bounds(bytes: &[u8], numbers: &[i64], k: usize) -> bool
     requires { RowRoom bytes.now numbers.now k × (parts_field bytes.now k ≤ part_limit) }
     ensures { Verdict result (PartsBounds bytes.now numbers.now k) }
 {
-    let m = areas::parts(bytes, k);
-    let mut j: usize = 0;
-    while j < m {
-        if part_in_bounds(bytes, numbers, k, j) {
-            j += 1;
-        } else {
+    for j in 0..areas::parts(bytes, k) {
+        if !part_in_bounds(bytes, numbers, k, j) {
             return false;
         }
     }
@@ -111,12 +78,9 @@ fn bracket_in_bounds(bytes: &[u8], numbers: &[i64], k: usize) -> bool
     requires { RowRoom bytes.now numbers.now k }
     ensures { Verdict result (BracketBounds bytes.now numbers.now k) }
 {
-    if place_in_bounds(bytes, k) {
-        if head_in_bounds(bytes, numbers, k) {
-            return parts_in_bounds(bytes, numbers, k);
-        }
-    }
-    false
+    place_in_bounds(bytes, k)
+        && head_in_bounds(bytes, numbers, k)
+        && parts_in_bounds(bytes, numbers, k)
 }
 
 // Do the first n brackets, of which there are at most as many as the areas have rows for?
@@ -124,11 +88,8 @@ fn brackets_in_bounds(bytes: &[u8], numbers: &[i64], n: usize) -> bool
     requires { Room bytes.now numbers.now × (n ≤ bracket_limit) }
     ensures { Verdict result (BracketsBounds bytes.now numbers.now n) }
 {
-    let mut k: usize = 0;
-    while k < n {
-        if bracket_in_bounds(bytes, numbers, k) {
-            k += 1;
-        } else {
+    for k in 0..n {
+        if !bracket_in_bounds(bytes, numbers, k) {
             return false;
         }
     }
@@ -141,17 +102,11 @@ pub fn in_bounds(bytes: &[u8], numbers: &[i64]) -> bool
     ensures { Verdict result (Bounds bytes.now numbers.now) }
 {
     let n = areas::residues(bytes);
-    if n == 0 {
-        return false;
-    }
-    if Tables::RESIDUES < n {
-        return false;
-    }
     let m = areas::brackets(bytes);
-    if Tables::BRACKETS < m {
-        return false;
-    }
-    brackets_in_bounds(bytes, numbers, m)
+    n != 0
+        && n <= Tables::RESIDUES
+        && m <= Tables::BRACKETS
+        && brackets_in_bounds(bytes, numbers, m)
 }
 
 // The first n bytes of one area into another, whose other bytes stay.
@@ -159,9 +114,5 @@ pub fn copy_bytes(from: &[u8], n: usize, to: &mut [u8])
     requires { (n ≤ length from.now) × (n ≤ length to.old) }
     ensures { to.new ≡ take n from.now ++ drop n to.old }
 {
-    let mut i: usize = 0;
-    while i < n {
-        to[i] = from[i];
-        i += 1;
-    }
+    to[..n].copy_from_slice(&from[..n]);
 }

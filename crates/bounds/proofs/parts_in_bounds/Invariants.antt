@@ -1,10 +1,7 @@
--- `bounds::parts_in_bounds` meets its contract. The loop: the parts below j keep to their bounds. Assumes nothing.
-use Prim.Native.Nat.{◌-◌}
-use Rattle.bounds.proofs.Laws.{Parts}
+-- The parts below j keep to their bounds. Assumes nothing.
+use Rattle.std.proofs.Common.{ℕ, ◌<◌}
+use Rattle.areas.specs.Bounds.{PartBounds}
 use Rattle.bounds.proofs.parts_in_bounds.Given as goal
 
 abbrev pub invariant-loop-j : goal.invariant-loop-j
-invariant-loop-j l = Parts l.bytes l.numbers l.k l.m l.j
-
-abbrev pub decreases-loop-j : goal.decreases-loop-j
-decreases-loop-j l = l.m - l.j
+invariant-loop-j l = (i : ℕ) → i < l.j → PartBounds l.bytes l.numbers l.k i

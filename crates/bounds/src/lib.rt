@@ -8,6 +8,7 @@ ghost use Rattle.areas.specs.Bounds.{Small, PartBounds, BracketBounds, Bounds};
 ghost use Rattle.bounds.specs.Verdict.{Verdict};
 ghost use Rattle.bounds.specs.Pieces.{Room, RowRoom, PlaceBounds, HeadBounds, PartsBounds, BracketsBounds};
 
+use areas::{Bytes, Numbers};
 use scope::tables::{Number, Tables};
 
 // What a mass or score stays below in size, in millionths.
@@ -24,7 +25,7 @@ fn is_small(m: i64) -> bool
 }
 
 // Does part j of bracket k keep to its bounds?
-fn part_in_bounds(bytes: &[u8], numbers: &[i64], k: usize, j: usize) -> bool
+fn part_in_bounds(bytes: &Bytes, numbers: &Numbers, k: usize, j: usize) -> bool
     requires { RowRoom bytes.now numbers.now k × (j < part_limit) }
     ensures { Verdict result (PartBounds bytes.now numbers.now k j) }
 {
@@ -38,8 +39,8 @@ fn part_in_bounds(bytes: &[u8], numbers: &[i64], k: usize, j: usize) -> bool
 }
 
 // Do the positions of bracket k?
-fn place_in_bounds(bytes: &[u8], k: usize) -> bool
-    requires { (bytes_size ≤ length bytes.now) × (k < bracket_limit) }
+fn place_in_bounds(bytes: &Bytes, k: usize) -> bool
+    requires { k < bracket_limit }
     ensures { Verdict result (PlaceBounds bytes.now k) }
 {
     let end = areas::residues(bytes) + 1;
@@ -47,7 +48,7 @@ fn place_in_bounds(bytes: &[u8], k: usize) -> bool
 }
 
 // Do its count, its numbers of parts and places, and its score?
-fn head_in_bounds(bytes: &[u8], numbers: &[i64], k: usize) -> bool
+fn head_in_bounds(bytes: &Bytes, numbers: &Numbers, k: usize) -> bool
     requires { RowRoom bytes.now numbers.now k }
     ensures { Verdict result (HeadBounds bytes.now numbers.now k) }
 {
@@ -61,7 +62,7 @@ fn head_in_bounds(bytes: &[u8], numbers: &[i64], k: usize) -> bool
 }
 
 // Do its parts, of which there are at most as many as a row holds?
-fn parts_in_bounds(bytes: &[u8], numbers: &[i64], k: usize) -> bool
+fn parts_in_bounds(bytes: &Bytes, numbers: &Numbers, k: usize) -> bool
     requires { RowRoom bytes.now numbers.now k × (parts_field bytes.now k ≤ part_limit) }
     ensures { Verdict result (PartsBounds bytes.now numbers.now k) }
 {
@@ -74,7 +75,7 @@ fn parts_in_bounds(bytes: &[u8], numbers: &[i64], k: usize) -> bool
 }
 
 // Does bracket k?
-fn bracket_in_bounds(bytes: &[u8], numbers: &[i64], k: usize) -> bool
+fn bracket_in_bounds(bytes: &Bytes, numbers: &Numbers, k: usize) -> bool
     requires { RowRoom bytes.now numbers.now k }
     ensures { Verdict result (BracketBounds bytes.now numbers.now k) }
 {
@@ -84,7 +85,7 @@ fn bracket_in_bounds(bytes: &[u8], numbers: &[i64], k: usize) -> bool
 }
 
 // Do the first n brackets, of which there are at most as many as the areas have rows for?
-fn brackets_in_bounds(bytes: &[u8], numbers: &[i64], n: usize) -> bool
+fn brackets_in_bounds(bytes: &Bytes, numbers: &Numbers, n: usize) -> bool
     requires { Room bytes.now numbers.now × (n ≤ bracket_limit) }
     ensures { Verdict result (BracketsBounds bytes.now numbers.now n) }
 {
@@ -97,8 +98,7 @@ fn brackets_in_bounds(bytes: &[u8], numbers: &[i64], n: usize) -> bool
 }
 
 // Do the numbers in the areas keep to the bounds of tables?
-pub fn in_bounds(bytes: &[u8], numbers: &[i64]) -> bool
-    requires { (bytes_size ≤ length bytes.now) × (numbers_size ≤ length numbers.now) }
+pub fn in_bounds(bytes: &Bytes, numbers: &Numbers) -> bool
     ensures { Verdict result (Bounds bytes.now numbers.now) }
 {
     let n = areas::residues(bytes);

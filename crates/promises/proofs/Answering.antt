@@ -1,27 +1,28 @@
 -- Demand 1 for the calls that are no reader: what each says is a success or a refusal with one of its numbers, an answer says it, and only one does.
-use Rattle.std.specs.Prelude.{◌≡◌, ◌↔◌, ◌⊎◌, Bool, true, false, cond, List, [], ◌∷◌, ℕ, zero, suc, ◌+◌, ◌≤◌, ◌<◌, eqb, ltb, ℤ, pos, length, replicate, Result, Ok}
+use Rattle.std.specs.Prelude.{◌≡◌, ◌↔◌, ◌⊎◌, Bool, true, false, cond, List, [], ◌∷◌, ℕ, zero, suc, ◌+◌, ◌≤◌, ◌<◌, eqb, ltb, ℤ, Float, length, Result, Ok, Err}
 use Rattle.std.proofs.Math.Path.{refl}
 use Rattle.std.proofs.Common.{sym, ap, ◌∙◌, subst, inl, inr, arith, ltb-true, ltb-false}
 use Rattle.std.proofs.Math.Option.{Option, none, some}
-use Rattle.scope.specs.declared.answers.Shown.TheVariants.{Daltons, Missing}
 use Rattle.scope.specs.declared.answers.Placement.{Placement}
 use Rattle.scope.specs.declared.answers.Listing.{Listing}
-use Rattle.scope.specs.declared.answers.Why.{Why}
 use Rattle.scope.specs.declared.answers.Site.{Site}
+use Rattle.scope.specs.declared.answers.Shown.{Shown}
+use Rattle.scope.specs.declared.answers.Shown.TheVariants.{Daltons, Missing, Refused as shown_refused}
+use Rattle.scope.specs.declared.refusals.Reason.TheVariants.{ShortArea, NoTables}
+use Rattle.scope.specs.declared.refusals.Refusal.{Refusal}
 use Rattle.scope.specs.Limits.{row_limit, position_limit, copy_limit}
-use Rattle.scope.specs.Line.{Bracket}
 use Rattle.scope.specs.Lists.{given, tabled, none?}
 use Rattle.scope.specs.Canonical.{canonical}
 use Rattle.scope.specs.Tables.{Tables}
 use Rattle.scope.specs.Layout.{tables_in}
 use Rattle.scope.specs.Positions.{reached as reaches, floaters_by, brackets_of, copies_of, Floating, floating_of, rows_of, lookup}
 use Rattle.scope.specs.Placements.{allowed, taken_listing, following}
-use Rattle.scope.specs.Masses.{mass_of, total, lacking, daltons}
-use Rattle.scope.specs.Answers.{Said, good, refuses, findable, display_of, too_short, are_tables, over_tables, fitting, writes, output_after, counts, floater_count, weighed, totals, shows, rows_said, rows_after, looks_up, allows, met, requested, moved_on, requests, listing_after, allowable, bookable, books, entries, says}
+use Rattle.scope.specs.Masses.{mass_of, total, lacking, daltons, ledger as ledger_entries}
+use Rattle.scope.specs.Answers.{Said, good, refuses, display_of, too_short, are_tables, over_tables, fitting, writes, output_after, floater_count, weighed, totals, rows_said, rows_after, looks_up, allows, of_good, requested, moved, moved_on, requests, listing_after, allowable, bookable, books, says, a_mass, lack, says_shown}
 use Rattle.basics.specs.Each.{In}
 use Rattle.calls.specs.Writing.{WriteSays}
 use Rattle.calls.specs.Single.{element_at, mass_at, weighs_at}
-use Rattle.calls.specs.Competing.{names_of, WhySays}
+use Rattle.calls.specs.Competing.{told_of, WhySays}
 use Rattle.calls.specs.Floating.{floaters_said, FloatersSay}
 use Rattle.calls.specs.Reaching.{reached_by, reached_at, reached_said, ReachedSays}
 use Rattle.calls.specs.Says.{CountSays, TotalSays, BracketMassSays, ShownSays, AllowedSays, NextSays, LedgerSays}
@@ -33,31 +34,51 @@ use Rattle.placement_laws.specs.Reasons.{one_reason}
 use Rattle.placement_laws.specs.Answered.{some_reason}
 use Rattle.promises.specs.Promises.{Answered, Nothing}
 use Rattle.basics.specs.Said.{not_both, same_number_lem}
-use Rattle.promises.proofs.Said.{met_refused, says_same}
-use Rattle.scope.specs.declared.answers.Row.{Row}
-use Rattle.scope.specs.declared.refusals.Refusal.{Refusal}
+use Rattle.promises.proofs.Said.{all_known, known_in, refusal_of, met_refused, says_same, shown_same}
 
 -- ---- what can be said
--- an answer says it, and a refusal has one of these numbers
-pub record Sayable {R A : Type 0} (says : R → Said A) (numbers : List ℕ) (s : Said A) : Type 0 where
-  pub answer : R
-  pub says_so : says answer ≡ s
+-- a refusal has one of these numbers
+pub record Among {A : Type 0} (numbers : List ℕ) (s : Said A) : Type 0 where
   pub number : (n p : ℕ) → s ≡ refuses n p → In n numbers
 
-pub success : {R A : Type 0} {says : R → Said A} {numbers : List ℕ} (r : R) {x : A} → says r ≡ good x → Sayable says numbers (good x)
-success r e = record { answer = r; says_so = e; number = λ n p q. absurd (not_both q) }
+pub fine : {A : Type 0} {numbers : List ℕ} {x : A} → Among numbers (good x)
+fine = record { number = λ n p q. absurd (not_both q) }
 
-pub refusal : {R A : Type 0} {says : R → Said A} {numbers : List ℕ} (r : R) {m q : ℕ} → says r ≡ refuses m q → In m numbers → Sayable says numbers (refuses m q)
-refusal {numbers = numbers} r e i = record { answer = r; says_so = e; number = λ n p f. subst (λ k. In k numbers) (same_number_lem f) i }
+pub one_of : {A : Type 0} {numbers : List ℕ} {m q : ℕ} → In m numbers → Among {A = A} numbers (refuses m q)
+one_of {numbers = numbers} i = record { number = λ n p e. subst (λ k. In k numbers) (same_number_lem e) i }
 
--- ---- by cases: 13, 14, and what the call says itself
-pub either : {A : Type 0} (P : Said A → Type 0) (b : Bool) {x y : Said A} → P x → P y → P (cond b x y)
-either P true x y = x
-either P false x y = y
+-- one more number
+pub more : {A : Type 0} {numbers : List ℕ} {m : ℕ} {s : Said A} → Among numbers s → Among (m ∷ numbers) s
+more h = record { number = λ n p q. inr (h.number n p q) }
 
-pub over : {A : Type 0} (P : Said A → Type 0) (bs : List ℕ) (ns : List ℤ) (f : Tables → Said A) → P (refuses 13 0) → P (refuses 14 0) → P (f (tables_in bs ns))
-    → P (over_tables bs ns f)
-over P bs ns f x y z = either P (too_short bs ns) x (either P (are_tables bs ns) z y)
+-- by cases
+pub both : {A : Type 0} {numbers : List ℕ} (b : Bool) {x y : Said A} → Among numbers x → Among numbers y → Among numbers (cond b x y)
+both true x y = x
+both false x y = y
+
+-- 13, or what is said where a lent area is long enough
+pub long_or : {A : Type 0} {numbers : List ℕ} (b : Bool) {s : Said A} → Among (13 ∷ numbers) s → Among (13 ∷ numbers) (cond b (refuses 13 0) s)
+long_or b h = both b (one_of (inl refl)) h
+
+-- 13, 14, and what the call says itself
+pub over : {A : Type 0} {numbers : List ℕ} (bs : List ℕ) (ns : List ℤ) (f : Tables → Said A) → Among (13 ∷ 14 ∷ numbers) (f (tables_in bs ns))
+    → Among (13 ∷ 14 ∷ numbers) (over_tables bs ns f)
+over bs ns f h = long_or (too_short bs ns) (both (are_tables bs ns) h (one_of (inr (inl refl))))
+
+-- what there is, or 17
+pub found : {A B : Type 0} {numbers : List ℕ} (f : A → B) (o : Option A) → In 17 numbers → Among numbers (given o (λ x. good (f x)) (refuses 17 0))
+found f none i = one_of i
+found f (some x) i = fine
+
+-- what is worked out of what is said has its numbers
+pub of_among : {A B : Type 0} {numbers : List ℕ} (f : A → B) (s : Said A) → Among numbers s → Among numbers (of_good f s)
+of_among f (good x) h = fine
+of_among f (refuses m q) h = one_of (h.number m q refl)
+
+-- an answer says it
+pub said_so : {A : Type 0} {numbers : List ℕ} → all_known numbers ≡ true → (s : Said A) → Among numbers s → (r : Result A Refusal) × (says r ≡ s)
+said_so k (good x) h = (Ok x, refl)
+said_so {numbers = numbers} k (refuses n p) h = (Err (refusal_of n p), ap (λ m. refuses m p) (known_in numbers k n (h.number n p refl)))
 
 -- the numbers from i on, k of them
 pub among_numbers : (k i n : ℕ) → i ≤ n → n < i + k → In n (tabled (λ x. x) i k)
@@ -70,178 +91,126 @@ among_numbers (suc k) i n h l = go (ltb i n) (ltb-true i n) (ltb-false i n) (λ 
     go false f g ih = let z = g refl in inl (omega (arith, z))
 
 -- ---- an answer alone
-pub alone : {R A : Type 0} {says : R → Said A} {numbers : List ℕ} {s : Said A} → ((x y : R) → says x ≡ says y → x ≡ y) → Sayable says numbers s
-    → Answered (λ (r : R). says r ≡ s) says numbers Nothing
-alone one h =
+pub alone : {R A : Type 0} {what_says : R → Said A} {numbers : List ℕ} {s : Said A} (Ensured : R → Type 0) → ((r : R) → Ensured r ↔ (what_says r ≡ s))
+    → ((x y : R) → what_says x ≡ what_says y → x ≡ y) → (r : R) × (what_says r ≡ s) → Among numbers s → Answered Ensured what_says numbers Nothing
+alone Ensured is one a h =
     record {
-      exactly_one = record { outcome = h.answer; ensured = h.says_so; only = λ r e. one r h.answer (e ∙ sym h.says_so) };
-      only_refuses = λ r e. record { number = λ n p q. h.number n p (sym e ∙ q); left = λ n p q. tt };
+      exactly_one = record { outcome = a.0; ensured = (is a.0).1 a.1; only = λ r e. one r a.0 ((is r).0 e ∙ sym a.1) };
+      only_refuses = λ r e. record { number = λ n p q. h.number n p (sym ((is r).0 e) ∙ q); left = λ n p q. tt };
     }
 
--- ---- an answer, and something lent that is `after` then: an outcome is made of the two
-pub record Made (O R L : Type 0) : Type 0 where
-  pub make : R → L → O
-  pub answer : O → R
-  pub left : O → L
-  pub whole : (o : O) → make (answer o) (left o) ≡ o
-  pub answers : (r : R) (l : L) → answer (make r l) ≡ r
-  pub leaves : (r : R) (l : L) → left (make r l) ≡ l
+pub plain : {A : Type 0} {numbers : List ℕ} {s : Said A} → all_known numbers ≡ true → Among numbers s → Answered (λ (r : Result A Refusal). says r ≡ s) says numbers Nothing
+plain {s = s} k h = alone (λ r. says r ≡ s) (λ r. ((λ w. w), (λ w. w))) says_same (said_so k s h) h
 
-abbrev pub pair : (R L : Type 0) → Made (R × L) R L
-pair R L = record { make = λ r l. (r, l); answer = λ o. o.0; left = λ o. o.1; whole = λ o. refl; answers = λ r l. refl; leaves = λ r l. refl }
-
-pub lent : {O R L A : Type 0} (made : Made O R L) {says : R → Said A} {numbers : List ℕ} {s : Said A} (Ensured : O → Type 0) (after old : L)
-    → ((o : O) → Ensured o ↔ ((says (made.answer o) ≡ s) × (made.left o ≡ after))) → ((x y : R) → says x ≡ says y → x ≡ y) → Sayable says numbers s
+-- ---- an answer, and something lent that is `after` then
+pub lent : {A L : Type 0} {numbers : List ℕ} {s : Said A} (Ensured : Result A Refusal → L → Type 0) (after old : L)
+    → ((r : Result A Refusal) (l : L) → Ensured r l ↔ ((says r ≡ s) × (l ≡ after))) → all_known numbers ≡ true → Among numbers s
     → ((n p : ℕ) → s ≡ refuses n p → after ≡ old)
-    → Answered Ensured (λ o. says (made.answer o)) numbers (λ o. made.left o ≡ old)
-lent made {says = says} Ensured after old is one h kept =
+    → Answered (λ (o : (Result A Refusal) × L). Ensured o.0 o.1) (λ o. says o.0) numbers (λ o. o.1 ≡ old)
+lent {s = s} Ensured after old is k h kept =
+    let a = said_so k s h in
     record {
       exactly_one =
           record {
-            outcome = made.make h.answer after;
-            ensured = (is (made.make h.answer after)).1 (ap says (made.answers h.answer after) ∙ h.says_so, made.leaves h.answer after);
+            outcome = (a.0, after);
+            ensured = (is a.0 after).1 (a.1, refl);
             only = λ o e.
-                sym (made.whole o) ∙ ap (λ r. made.make r (made.left o)) (one (made.answer o) h.answer (((is o).0 e).0 ∙ sym h.says_so))
-                ∙ ap (made.make h.answer) ((is o).0 e).1;
+                let w = (is o.0 o.1).0 e in
+                ap (λ r. (r, o.1)) (says_same o.0 a.0 (w.0 ∙ sym a.1)) ∙ ap (λ l. (a.0, l)) w.1;
           };
       only_refuses = λ o e.
-          record { number = λ n p q. h.number n p (sym ((is o).0 e).0 ∙ q); left = λ n p q. ((is o).0 e).1 ∙ kept n p (sym ((is o).0 e).0 ∙ q) };
+          let w = (is o.0 o.1).0 e in
+          record { number = λ n p q. h.number n p (sym w.0 ∙ q); left = λ n p q. w.1 ∙ kept n p (sym w.0 ∙ q) };
     }
 
 -- ---- each call
 module _ (bs : List ℕ) (ns : List ℤ) where
-  pub writes_so : (out : List ℕ) → Sayable says (13 ∷ 14 ∷ 15 ∷ []) (writes bs ns out)
+  pub writes_so : (out : List ℕ) → Among (13 ∷ 14 ∷ 15 ∷ []) (writes bs ns out)
   writes_so out =
-      let c = canonical (tables_in bs ns) in
-      over (Sayable says (13 ∷ 14 ∷ 15 ∷ [])) bs ns (λ t. fitting (canonical t) (length out))
-      (refusal (Err (refusal_of 13 0)) refl (inl refl)) (refusal (Err (refusal_of 14 0)) refl (inr (inl refl)))
-      (either (Sayable says (13 ∷ 14 ∷ 15 ∷ [])) (ltb (length out) (length c)) (refusal (Err (refusal_of 15 (length c))) refl (inr (inr (inl refl)))) (success (Ok (length c)) refl))
+      over bs ns (λ t. fitting (canonical t) (length out)) (both (ltb (length out) (length (canonical (tables_in bs ns)))) (one_of (inr (inr (inl refl)))) fine)
 
   pub write : (out : List ℕ)
       → Answered (λ (o : (Result ℕ Refusal) × List ℕ). WriteSays bs ns out o.0 o.1) (λ o. says o.0) (13 ∷ 14 ∷ 15 ∷ []) (λ o. o.1 ≡ out)
   write out =
       let c = canonical (tables_in bs ns) in
-      lent (pair (Result ℕ Refusal) (List ℕ)) {says = says} (λ o. WriteSays bs ns out o.0 o.1) (output_after (writes bs ns out) c out) out
-      (λ o. ((λ w. (w.says, w.output_after_is)), (λ w. record { says = w.0; output_after_is = w.1 }))) says_same (writes_so out)
-      (λ n p q. ap (λ s. output_after s c out) q)
+      lent (WriteSays bs ns out) (output_after (writes bs ns out) c out) out
+      (λ r l. ((λ w. (w.says, w.output_after_is)), (λ w. record { says = w.0; output_after_is = w.1 }))) refl (writes_so out) (λ n p q. ap (λ s. output_after s c out) q)
 
-  pub counts_so : (f : Tables → ℕ) → Sayable says (13 ∷ 14 ∷ []) (counts bs ns f)
-  counts_so f =
-      over (Sayable says (13 ∷ 14 ∷ [])) bs ns (λ t. good (f t)) (refusal (Err (refusal_of 13 0)) refl (inl refl)) (refusal (Err (refusal_of 14 0)) refl (inr (inl refl)))
-      (success (Ok (f (tables_in bs ns))) refl)
+  pub counts_so : {A : Type 0} (f : Tables → A) → Among (13 ∷ 14 ∷ []) (over_tables bs ns (λ t. good (f t)))
+  counts_so f = over bs ns (λ t. good (f t)) fine
 
   pub count : (f : Tables → ℕ) → Answered (CountSays f bs ns) says (13 ∷ 14 ∷ []) Nothing
-  count f = alone says_same (counts_so f)
+  count f = plain refl (counts_so f)
 
-  pub totals_so : Sayable says (13 ∷ 14 ∷ 16 ∷ []) (totals bs ns)
-  totals_so =
-      let t = tables_in bs ns in
-      over (Sayable says (13 ∷ 14 ∷ 16 ∷ [])) bs ns (λ t. weighed t (total t))
-      (refusal (Err (refusal_of 13 0)) refl (inl refl)) (refusal (Err (refusal_of 14 0)) refl (inr (inl refl)))
-      (either (Sayable says (13 ∷ 14 ∷ 16 ∷ [])) (eqb (lacking t) 0) (success (Ok (total t)) refl) (refusal (Err (refusal_of 16 (lacking t))) refl (inr (inr (inl refl)))))
+  pub totals_so : Among (13 ∷ 14 ∷ 16 ∷ []) (totals bs ns)
+  totals_so = over bs ns (λ t. weighed t (total t)) (both (eqb (lacking (tables_in bs ns)) 0) fine (one_of (inr (inr (inl refl)))))
 
   pub totalled : Answered (TotalSays bs ns) says (13 ∷ 14 ∷ 16 ∷ []) Nothing
-  totalled = alone says_same totals_so
+  totalled = plain refl totals_so
 
-  mass_so : (o : Option (Bracket (Unit {0}))) → Sayable says (13 ∷ 14 ∷ 17 ∷ []) (given o (λ k. good (mass_of k)) (refuses 17 0))
-  mass_so none = refusal (Err (refusal_of 17 0)) refl (inr (inr (inl refl)))
-  mass_so (some k) = success (Ok (mass_of k)) refl
-
-  pub weighs_so : (i : ℕ) → Sayable says (13 ∷ 14 ∷ 17 ∷ []) (weighs_at bs ns i)
-  weighs_so i =
-      over (Sayable says (13 ∷ 14 ∷ 17 ∷ [])) bs ns (λ t. mass_at t i)
-      (refusal (Err (refusal_of 13 0)) refl (inl refl)) (refusal (Err (refusal_of 14 0)) refl (inr (inl refl)))
-      (mass_so (element_at (tables_in bs ns).brackets i))
+  pub weighs_so : (i : ℕ) → Among (13 ∷ 14 ∷ 17 ∷ []) (weighs_at bs ns i)
+  weighs_so i = over bs ns (λ t. mass_at t i) (found mass_of (element_at (tables_in bs ns).brackets i) (inr (inr (inl refl))))
 
   pub bracket_mass : (i : ℕ) → Answered (BracketMassSays bs ns i) says (13 ∷ 14 ∷ 17 ∷ []) Nothing
-  bracket_mass i = alone says_same (weighs_so i)
+  bracket_mass i = plain refl (weighs_so i)
 
-  display : (b : Bool) (m : ℤ) (n : ℕ) → Sayable says (13 ∷ 14 ∷ []) (good (cond b (Daltons (daltons m)) (Missing n)))
-  display true m n = success (Daltons (daltons m)) refl
-  display false m n = success (Missing n) refl
+  -- a display is refused at 0
+  displayed : (short taken whole : Bool) (x : Float) (n : ℕ)
+      → (r : Shown) × (says_shown r ≡ cond short (refuses 13 0) (cond taken (good (cond whole (a_mass x) (lack n))) (refuses 14 0)))
+  displayed true taken whole x n = (shown_refused ShortArea, refl)
+  displayed false false whole x n = (shown_refused NoTables, refl)
+  displayed false true true x n = (Daltons x, refl)
+  displayed false true false x n = (Missing n, refl)
 
-  pub shows_so : Sayable says (13 ∷ 14 ∷ []) (shows bs ns)
-  shows_so =
+  pub shown : Answered (ShownSays bs ns) says_shown (13 ∷ 14 ∷ []) Nothing
+  shown =
       let t = tables_in bs ns in
-      over (Sayable says (13 ∷ 14 ∷ [])) bs ns (λ t. good (display_of t))
-      (refusal (Err (refusal_of 13 0)) refl (inl refl)) (refusal (Err (refusal_of 14 0)) refl (inr (inl refl)))
-      (display (eqb (lacking t) 0) (total t) (lacking t))
+      alone (ShownSays bs ns) (λ r. ((λ w. w), (λ w. w))) shown_same
+      (displayed (too_short bs ns) (are_tables bs ns) (eqb (lacking t) 0) (daltons (total t)) (lacking t)) (counts_so display_of)
 
-  pub shown : Answered (ShownSays bs ns) says (13 ∷ 14 ∷ []) Nothing
-  shown = alone says_same shows_so
-
-  pub allows_so : (p : List ℕ) → Sayable says (13 ∷ 14 ∷ 18 ∷ []) (allows bs ns p)
-  allows_so p =
-      over (Sayable says (13 ∷ 14 ∷ 18 ∷ [])) bs ns (λ t. allowable t p)
-      (refusal (Err (refusal_of 13 0)) refl (inl refl)) (refusal (Err (refusal_of 14 0)) refl (inr (inl refl)))
-      (either (Sayable says (13 ∷ 14 ∷ 18 ∷ [])) (allowed (floating_of (tables_in bs ns)) p) (success (Ok tt) refl) (refusal (Err (refusal_of 18 0)) refl (inr (inr (inl refl)))))
+  pub allows_so : (p : List ℕ) → Among (13 ∷ 14 ∷ 18 ∷ []) (allows bs ns p)
+  allows_so p = over bs ns (λ t. allowable t p) (both (allowed (floating_of (tables_in bs ns)) p) fine (one_of (inr (inr (inl refl)))))
 
   pub is_allowed : (p : Placement) → Answered (AllowedSays bs ns p) says (13 ∷ 14 ∷ 18 ∷ []) Nothing
-  is_allowed p = alone says_same (allows_so p.at)
+  is_allowed p = plain refl (allows_so p.at)
 
   -- what is left to hand out, or 17; 18 before it
-  following_so : (o : Option (List ℕ)) → Sayable says (13 ∷ 14 ∷ 17 ∷ 18 ∷ []) (met (findable o))
-  following_so none = refusal (Err (refusal_of 17 0)) refl (inr (inr (inl refl)))
-  following_so (some p) = success (Ok tt) refl
-
-  requested_so : (f : Floating) (l : Listing) → Sayable says (13 ∷ 14 ∷ 17 ∷ 18 ∷ []) (met (requested f l))
+  requested_so : (f : Floating) (l : Listing) → Among (13 ∷ 14 ∷ 17 ∷ 18 ∷ []) (requested f l)
   unfolding requested
-  requested_so f l =
-      either (λ s. Sayable says (13 ∷ 14 ∷ 17 ∷ 18 ∷ []) (met s)) (taken_listing f l) (following_so (following f l))
-      (refusal (Err (refusal_of 18 0)) refl (inr (inr (inr (inl refl)))))
+  requested_so f l = both (taken_listing f l) (found (λ p. p) (following f l) (inr (inr (inl refl)))) (one_of (inr (inr (inr (inl refl)))))
 
-  pub requests_so : (l : Listing) → Sayable says (13 ∷ 14 ∷ 17 ∷ 18 ∷ []) (met (requests bs ns l))
-  requests_so l =
-      over (λ s. Sayable says (13 ∷ 14 ∷ 17 ∷ 18 ∷ []) (met s)) bs ns (λ t. requested (floating_of t) l)
-      (refusal (Err (refusal_of 13 0)) refl (inl refl)) (refusal (Err (refusal_of 14 0)) refl (inr (inl refl)))
-      (requested_so (floating_of (tables_in bs ns)) l)
+  pub requests_so : (l : Listing) → Among (13 ∷ 14 ∷ 17 ∷ 18 ∷ []) (requests bs ns l)
+  requests_so l = over bs ns (λ t. requested (floating_of t) l) (requested_so (floating_of (tables_in bs ns)) l)
 
-  stays : (l : Listing) (n p : ℕ) → met (requests bs ns l) ≡ refuses n p → listing_after bs ns l ≡ l
-  stays l n p q = ap (moved_on l) (met_refused (requests bs ns l) q)
-
-  pub next_placement_lem : (l : Listing) → Answered (NextSays bs ns l) (λ o. says o.request) (13 ∷ 14 ∷ 17 ∷ 18 ∷ []) (λ o. o.listing ≡ l)
-  next_placement_lem l =
-      lent
-      (record { make = λ r k. record { request = r; listing = k }; answer = λ o. o.request; left = λ o. o.listing; whole = λ o. refl; answers = λ r k. refl; leaves = λ r k. refl })
-      {says = says} (NextSays bs ns l) (listing_after bs ns l) l (λ o. ((λ w. w), (λ w. w))) says_same (requests_so l) (stays l)
+  pub next_placement_lem : (l : Listing) → Answered (NextSays bs ns l) says (13 ∷ 14 ∷ 17 ∷ 18 ∷ []) Nothing
+  next_placement_lem l = plain refl (of_among moved (requests bs ns l) (requests_so l))
 
   pub step : (l : Listing)
       → Answered (λ (o : (Result (Unit {0}) Refusal) × Listing). StepSays bs ns l o.0 o.1) (λ o. says o.0) (13 ∷ 14 ∷ 17 ∷ 18 ∷ []) (λ o. o.1 ≡ l)
   step l =
-      lent (pair (Result (Unit {0}) Refusal) Listing) {says = says} (λ o. StepSays bs ns l o.0 o.1) (listing_after bs ns l) l
-      (λ o. ((λ w. w), (λ w. w))) says_same (requests_so l) (stays l)
+      lent (StepSays bs ns l) (listing_after bs ns l) l (λ r k. ((λ w. w), (λ w. w))) refl (of_among (λ x. tt) (requests bs ns l) (requests_so l))
+      (λ n p q. ap (moved_on l) (met_refused (requests bs ns l) q))
 
-  pub books_so : (p : List ℕ) → Sayable says (13 ∷ 14 ∷ 16 ∷ 18 ∷ []) (books bs ns p)
+  pub books_so : (p : List ℕ) → Among (13 ∷ 14 ∷ 16 ∷ 18 ∷ []) (books bs ns p)
   books_so p =
       let t = tables_in bs ns in
-      over (Sayable says (13 ∷ 14 ∷ 16 ∷ 18 ∷ [])) bs ns (λ t. bookable t p)
-      (refusal (Err (refusal_of 13 0)) refl (inl refl)) (refusal (Err (refusal_of 14 0)) refl (inr (inl refl)))
-      (either (Sayable says (13 ∷ 14 ∷ 16 ∷ 18 ∷ [])) (eqb (lacking t) 0)
-      (either (Sayable says (13 ∷ 14 ∷ 16 ∷ 18 ∷ [])) (allowed (floating_of t) p) (success (Ok tt) refl) (refusal (Err (refusal_of 18 0)) refl (inr (inr (inr (inl refl))))))
-      (refusal (Err (refusal_of 16 (lacking t))) refl (inr (inr (inl refl)))))
+      over bs ns (λ t. bookable t p)
+      (both (eqb (lacking t) 0) (both (allowed (floating_of t) p) fine (one_of (inr (inr (inr (inl refl)))))) (one_of (inr (inr (inl refl)))))
 
-  pub ledger : (p : Placement)
-      → Answered (LedgerSays bs ns p) (λ o. says o.booked) (13 ∷ 14 ∷ 16 ∷ 18 ∷ []) (λ o. o.at ≡ replicate position_limit (pos 0))
-  ledger p =
-      lent
-      (record { make = λ b es. record { booked = b; at = es }; answer = λ o. o.booked; left = λ o. o.at; whole = λ o. refl; answers = λ b es. refl; leaves = λ b es. refl })
-      {says = says} (LedgerSays bs ns p) (entries (books bs ns p.at) (tables_in bs ns) p.at) (replicate position_limit (pos 0))
-      (λ o. ((λ w. w), (λ w. w))) says_same (books_so p.at) (λ n k q. ap (λ s. entries s (tables_in bs ns) p.at) q)
+  pub ledger : (p : Placement) → Answered (LedgerSays bs ns p) says (13 ∷ 14 ∷ 16 ∷ 18 ∷ []) Nothing
+  ledger p = plain refl (of_among (λ x. record { at = ledger_entries (tables_in bs ns) p.at }) (books bs ns p.at) (books_so p.at))
 
-  pub rows_so : (room : List Site) → Sayable says (13 ∷ 14 ∷ []) (rows_said bs ns room)
-  rows_so room =
-      either (Sayable says (13 ∷ 14 ∷ [])) (ltb (length room) row_limit) (refusal (Err (refusal_of 13 0)) refl (inl refl)) (counts_so (λ t. length (rows_of t)))
+  pub rows_so : (room : List Site) → Among (13 ∷ 14 ∷ []) (rows_said bs ns room)
+  rows_so room = long_or (ltb (length room) row_limit) (counts_so (λ t. length (rows_of t)))
 
   pub rows : (room : List Site)
       → Answered (λ (o : (Result ℕ Refusal) × List Site). RowsSays bs ns room o.0 o.1) (λ o. says o.0) (13 ∷ 14 ∷ []) (λ o. o.1 ≡ room)
   rows room =
-      lent (pair (Result ℕ Refusal) (List Site)) {says = says} (λ o. RowsSays bs ns room o.0 o.1) (rows_after (rows_said bs ns room) (tables_in bs ns) room) room
-      (λ o. ((λ w. w), (λ w. w))) says_same (rows_so room) (λ n p q. ap (λ s. rows_after s (tables_in bs ns) room) q)
+      lent (RowsSays bs ns room) (rows_after (rows_said bs ns room) (tables_in bs ns) room) room (λ r l. ((λ w. w), (λ w. w))) refl (rows_so room)
+      (λ n p q. ap (λ s. rows_after s (tables_in bs ns) room) q)
 
-  pub floaters_so : (brs cps : List ℕ) → Sayable says (13 ∷ 14 ∷ []) (floaters_said bs ns brs cps)
-  floaters_so brs cps =
-      either (Sayable says (13 ∷ 14 ∷ [])) (ltb (length brs) copy_limit) (refusal (Err (refusal_of 13 0)) refl (inl refl))
-      (either (Sayable says (13 ∷ 14 ∷ [])) (ltb (length cps) copy_limit) (refusal (Err (refusal_of 13 0)) refl (inl refl)) (counts_so floater_count))
+  pub floaters_so : (brs cps : List ℕ) → Among (13 ∷ 14 ∷ []) (floaters_said bs ns brs cps)
+  floaters_so brs cps = long_or (ltb (length brs) copy_limit) (long_or (ltb (length cps) copy_limit) (counts_so floater_count))
 
   pub floater_brackets : (brs cps : List ℕ)
       → Answered (λ (o : (Result ℕ Refusal) × (List ℕ × List ℕ)). FloatersSay bs ns brs cps o.0 o.1.0 o.1.1) (λ o. says o.0) (13 ∷ 14 ∷ [])
@@ -250,74 +219,49 @@ module _ (bs : List ℕ) (ns : List ℤ) where
       let said = floaters_said bs ns brs cps in
       let l = brackets_of (floaters_by (tables_in bs ns)) in
       let m = copies_of (floaters_by (tables_in bs ns)) in
-      lent (pair (Result ℕ Refusal) (List ℕ × List ℕ)) {says = says} (λ o. FloatersSay bs ns brs cps o.0 o.1.0 o.1.1) (output_after said l brs, output_after said m cps) (brs, cps)
-      (λ o. (
-        (λ w. (w.says, ap (λ z. (z, o.1.1)) w.brackets_after ∙ ap (λ z. (output_after said l brs, z)) w.copies_after)),
-        (λ w. record { says = w.0; brackets_after = ap (λ z. z.0) w.1; copies_after = ap (λ z. z.1) w.1 }),
+      lent (λ r (z : List ℕ × List ℕ). FloatersSay bs ns brs cps r z.0 z.1) (output_after said l brs, output_after said m cps) (brs, cps)
+      (λ r z. (
+        (λ w. (w.says, ap (λ y. (y, z.1)) w.brackets_after ∙ ap (λ y. (output_after said l brs, y)) w.copies_after)),
+        (λ w. record { says = w.0; brackets_after = ap (λ y. y.0) w.1; copies_after = ap (λ y. y.1) w.1 }),
       ))
-      says_same (floaters_so brs cps) (λ n p q. ap (λ s. (output_after s l brs, output_after s m cps)) q)
+      refl (floaters_so brs cps) (λ n p q. ap (λ s. (output_after s l brs, output_after s m cps)) q)
 
   -- the answer is that of the one set that is meant
-  pub why_so : (l : List ℕ) → Sayable says (13 ∷ 14 ∷ []) (counts bs ns (λ t. length l))
-  why_so l = counts_so (λ t. length l)
-
-  pub why_none_lem : Answered (WhySays bs ns) (λ (o : Why). says o.count) (13 ∷ 14 ∷ []) (λ o. o.at ≡ replicate copy_limit 0)
+  pub why_none_lem : Answered (WhySays bs ns) says (13 ∷ 14 ∷ []) Nothing
   why_none_lem =
       let z = some_reason (floating_of (tables_in bs ns)) in
-      let l = z.0 in
-      let said = counts bs ns (λ t. length l) in
-      lent
-      (record { make = λ c a. record { count = c; at = a }; answer = λ (o : Why). o.count; left = λ o. o.at; whole = λ o. refl; answers = λ c a. refl; leaves = λ c a. refl })
-      {says = says} (WhySays bs ns) (names_of said l) (replicate copy_limit 0)
-      (λ o. (
-        (λ w. let e : w.set ≡ l = one_reason _ w.set l w.reason z.1 in (
-          w.says ∙ ap (λ m. counts bs ns (λ t. length m)) e,
-          w.names ∙ ap (λ m. names_of (counts bs ns (λ t. length m)) m) e,
-        )),
-        (λ w. record { set = l; reason = z.1; says = w.0; names = w.1 }),
+      alone (WhySays bs ns)
+      (λ r. (
+        (λ w. w.says ∙ ap (λ m. over_tables bs ns (λ t. good (told_of m))) (one_reason _ w.set z.0 w.reason z.1)),
+        (λ w. record { set = z.0; reason = z.1; says = w }),
       ))
-      says_same (why_so l) (λ n p q. ap (λ s. names_of s l) q)
+      says_same (said_so refl (over_tables bs ns (λ t. good (told_of z.0))) (counts_so (λ t. told_of z.0))) (counts_so (λ t. told_of z.0))
 
-  reaches_so : (o : Option (Bracket (Unit {0})))
-      → Sayable says (13 ∷ 14 ∷ 17 ∷ []) (given o (λ k. good (length (reaches (tables_in bs ns) k))) (refuses 17 0))
-  reaches_so none = refusal (Err (refusal_of 17 0)) refl (inr (inr (inl refl)))
-  reaches_so (some k) = success (Ok (length (reaches (tables_in bs ns) k))) refl
-
-  pub reached_so : (i : ℕ) (out : List ℕ) → Sayable says (13 ∷ 14 ∷ 17 ∷ []) (reached_said bs ns i out)
+  pub reached_so : (i : ℕ) (out : List ℕ) → Among (13 ∷ 14 ∷ 17 ∷ []) (reached_said bs ns i out)
   reached_so i out =
-      either (Sayable says (13 ∷ 14 ∷ 17 ∷ [])) (ltb (length out) position_limit) (refusal (Err (refusal_of 13 0)) refl (inl refl))
-      (over (Sayable says (13 ∷ 14 ∷ 17 ∷ [])) bs ns (λ t. reached_at t i)
-      (refusal (Err (refusal_of 13 0)) refl (inl refl)) (refusal (Err (refusal_of 14 0)) refl (inr (inl refl)))
-      (reaches_so (element_at (tables_in bs ns).brackets i)))
+      long_or (ltb (length out) position_limit)
+      (over bs ns (λ t. reached_at t i) (found (λ k. length (reaches (tables_in bs ns) k)) (element_at (tables_in bs ns).brackets i) (inr (inr (inl refl)))))
 
   pub reached : (i : ℕ) (out : List ℕ)
       → Answered (λ (o : (Result ℕ Refusal) × List ℕ). ReachedSays bs ns i out o.0 o.1) (λ o. says o.0) (13 ∷ 14 ∷ 17 ∷ []) (λ o. o.1 ≡ out)
   reached i out =
       let l = reached_by (tables_in bs ns) i in
-      lent (pair (Result ℕ Refusal) (List ℕ)) {says = says} (λ o. ReachedSays bs ns i out o.0 o.1) (output_after (reached_said bs ns i out) l out) out
-      (λ o. ((λ w. (w.says, w.after)), (λ w. record { says = w.0; after = w.1 }))) says_same (reached_so i out) (λ n p q. ap (λ s. output_after s l out) q)
+      lent (ReachedSays bs ns i out) (output_after (reached_said bs ns i out) l out) out
+      (λ r z. ((λ w. (w.says, w.after)), (λ w. record { says = w.0; after = w.1 }))) refl (reached_so i out) (λ n p q. ap (λ s. output_after s l out) q)
 
-found_so : (o : Option Row) → Sayable says (13 ∷ 17 ∷ []) (findable o)
-found_so none = refusal (Err (refusal_of 17 0)) refl (inr (inl refl))
-found_so (some x) = success (Row x.index x.position) refl
-
-pub looks_so : (rs : List Site) (n f : ℕ) → Sayable says (13 ∷ 17 ∷ []) (looks_up rs n f)
-looks_so rs n f = either (Sayable says (13 ∷ 17 ∷ [])) (ltb (length rs) row_limit) (refusal (Err (refusal_of 13 0)) refl (inl refl)) (found_so (lookup rs n f))
+pub looks_so : (rs : List Site) (n f : ℕ) → Among (13 ∷ 17 ∷ []) (looks_up rs n f)
+looks_so rs n f = long_or (ltb (length rs) row_limit) (found (λ x. x) (lookup rs n f) (inr (inl refl)))
 
 pub first_row_lem : (rs : List Site) (n f : ℕ) → Answered (LookupSays rs n f) says (13 ∷ 17 ∷ []) Nothing
-first_row_lem rs n f = alone says_same (looks_so rs n f)
+first_row_lem rs n f = plain refl (looks_so rs n f)
 
 -- ---- the pieces of a text
-pub pieces_so : (t : List ℕ) (room : ℕ) → Sayable says (15 ∷ 19 ∷ []) (pieces_said t room)
-pieces_so t room =
-    let c = pieces_of (cuttings t) in
-    either (Sayable says (15 ∷ 19 ∷ [])) (none? (cuttings t)) (refusal (Err (refusal_of 19 0)) refl (inr (inl refl)))
-    (either (Sayable says (15 ∷ 19 ∷ [])) (ltb room (length c)) (refusal (Err (refusal_of 15 (length c))) refl (inl refl)) (success (Ok (length c)) refl))
+pub pieces_so : (t : List ℕ) (room : ℕ) → Among (15 ∷ 19 ∷ []) (pieces_said t room)
+pieces_so t room = both (none? (cuttings t)) (one_of (inr (inl refl))) (both (ltb room (length (pieces_of (cuttings t)))) (one_of (inl refl)) fine)
 
 pub pieces : (t out : List ℕ)
     → Answered (λ (o : (Result ℕ Refusal) × List ℕ). PiecesSay t out o.0 o.1) (λ o. says o.0) (15 ∷ 19 ∷ []) (λ o. o.1 ≡ out)
 pieces t out =
     let c = pieces_of (cuttings t) in
-    lent (pair (Result ℕ Refusal) (List ℕ)) {says = says} (λ o. PiecesSay t out o.0 o.1) (output_after (pieces_said t (length out)) c out) out
-    (λ o. ((λ w. (w.says, w.output_after_is)), (λ w. record { says = w.0; output_after_is = w.1 }))) says_same (pieces_so t (length out))
-    (λ n p q. ap (λ s. output_after s c out) q)
+    lent (PiecesSay t out) (output_after (pieces_said t (length out)) c out) out
+    (λ r l. ((λ w. (w.says, w.output_after_is)), (λ w. record { says = w.0; output_after_is = w.1 }))) refl (pieces_so t (length out)) (λ n p q. ap (λ s. output_after s c out) q)

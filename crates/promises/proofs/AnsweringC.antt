@@ -1,6 +1,6 @@
 -- Demand 1 over what a caller in C sees: every exported call has exactly one outcome of numbers and lent slices, and refuses only with its own numbers.
 use Rattle.std.specs.Prelude.{◌≡◌, refl, List, [], ◌∷◌, ℕ, zero, suc, ◌≤◌, ltb, ℤ, Float, length, take}
-use Rattle.std.proofs.Common.{sym, ap, ◌∙◌, subst, inl, arith}
+use Rattle.std.proofs.Common.{sym, ap, ◌∙◌, subst, arith}
 use Rattle.scope.specs.declared.answers.Listing.{Listing}
 use Rattle.scope.specs.declared.answers.Site.{Site}
 use Rattle.scope.specs.Limits.{copy_limit, position_limit}
@@ -8,8 +8,7 @@ use Rattle.scope.specs.Refusals.{outcome}
 use Rattle.scope.specs.Canonical.{canonical}
 use Rattle.scope.specs.Tables.{Tables}
 use Rattle.scope.specs.Layout.{tables_in}
-use Rattle.scope.specs.Answers.{Said, good, refuses, met, read_outcome, says_outcome, bytes_after, numbers_after, writes, output_after, counts, totals, shows, rows_said, rows_after, looks_up, requests, listing_after, moved_on, says}
-use Rattle.basics.specs.Each.{In}
+use Rattle.scope.specs.Answers.{Said, good, refuses, display_of, read_outcome, says_outcome, bytes_after, numbers_after, writes, output_after, counts, totals, shows, rows_said, rows_after, looks_up, requests, listing_after, moved_on}
 use Rattle.export.specs.Numbers.{number_of, left, place_left, Judged, Exported}
 use Rattle.export.specs.Handed.{Counted, RowsHanded, LookedUp, MovedOn}
 use Rattle.export.specs.Shapes.{length_left, millionths_of, sort_of, mass_of, lack_of, Written, Totalled, Massed, Displayed, allows_lent, AllowedLent, books_lent, entries_after, ReadEntered as EnteredLent, FloatersHanded, why_lent, WhyHanded, ReachedHanded, PiecesHanded}
@@ -39,7 +38,7 @@ pair4 {e = e} {b = b} {f = f} {c = c} {g = g} {d = d} p q r s =
     ap (λ x. (x, b, c, d)) p ∙ ap (λ x. (e, x, c, d)) q ∙ ap (λ x. (e, f, x, d)) r ∙ ap (λ x. (e, f, g, x)) s
 
 -- a number that is no success is a refusal's
-number_said : {A : Type 0} (s : Said A) (n : ℕ) → number_of s ≡ suc n → (p : ℕ) × (s ≡ refuses (suc n) p)
+pub number_said : {A : Type 0} (s : Said A) (n : ℕ) → number_of s ≡ suc n → (p : ℕ) × (s ≡ refuses (suc n) p)
 number_said (good x) n e = absurd (omega (arith, e))
 number_said (refuses m q) n e = (q, ap (λ z. refuses z q) e)
 
@@ -49,14 +48,14 @@ told_refused (suc m) n p e = (m, refl, sym (same_number_lem e))
 
 -- an exported call whose number is that of what is said
 pub in_c : {O A : Type 0} (Ensured Left : O → Type 0) (number : O → ℕ) (s : Said A) {numbers : List ℕ} (x : O) → Ensured x → ((o : O) → Ensured o → o ≡ x)
-    → ((o : O) → Ensured o → number o ≡ number_of s) → ((n p : ℕ) → s ≡ refuses n p → In n numbers)
+    → ((o : O) → Ensured o → number o ≡ number_of s) → calls.Among numbers s
     → ((o : O) → Ensured o → (n p : ℕ) → s ≡ refuses n p → Left o) → Answered Ensured (λ o. told (number o)) numbers Left
 in_c {O} Ensured Left number s x e only is among left =
     record {
       exactly_one = record { outcome = x; ensured = e; only = only };
       only_refuses = λ o w.
           record {
-            number = λ n p q. let z = said o w n p q in among n z.0 z.1;
+            number = λ n p q. let z = said o w n p q in among.number n z.0 z.1;
             left = λ n p q. let z = said o w n p q in left o w n z.0 z.1;
           };
     }
@@ -73,7 +72,7 @@ verdict s place =
     let said = says_outcome (outcome s) in
     in_c (λ (o : ℕ × ℕ). Judged s place o.0 o.1) (λ o. o.1 ≤ length s) (λ o. o.0) said (number_of said, place_left said place) (record { number_is = refl; place_is = refl })
     (λ o w. pair2 w.number_is w.place_is) (λ o w. w.number_is)
-    (λ n p q. (readers.line_said s n p (readers.outcome_refused (outcome s) q)).one_of)
+    (readers.line_among s)
     (λ o w n p q. subst (λ k. k ≤ length s) (sym (w.place_is ∙ ap (λ z. place_left z place) q)) (readers.line_said s n p (readers.outcome_refused (outcome s) q)).inside)
 
 read : (s bs : List ℕ) (ns : List ℤ) (place : ℕ)
@@ -86,7 +85,7 @@ read s bs ns place =
     (number_of said, place_left said place, bytes_after o bs, numbers_after o ns)
     (record { numbered = record { number_is = refl; place_is = refl }; bytes_after_is = refl; numbers_after_is = refl })
     (λ o w. pair4 w.numbered.number_is w.numbered.place_is w.bytes_after_is w.numbers_after_is) (λ o w. w.numbered.number_is)
-    (λ n p q. (readers.read_said s bs ns n p (readers.outcome_refused (read_outcome bs ns s) q)).one_of)
+    (readers.read_among s bs ns)
     (λ x w n p q.
     let e = readers.outcome_refused (read_outcome bs ns s) q in (
       subst (λ k. k ≤ length s) (sym (w.numbered.place_is ∙ ap (λ z. place_left z place) q)) (readers.read_said s bs ns n p e).inside,
@@ -102,13 +101,13 @@ module _ (bs : List ℕ) (ns : List ℤ) where
       let c = canonical (tables_in bs ns) in
       in_c (λ (o : ℕ × ℕ × List ℕ). Written bs ns out count o.0 o.1 o.2) (λ o. o.2 ≡ out) (λ o. o.0) said (number_of said, length_left said count, output_after said c out)
       (record { measured = record { number_is = refl; count_is = refl }; output_after_is = refl }) (λ o w. pair3 w.measured.number_is w.measured.count_is w.output_after_is)
-      (λ o w. w.measured.number_is) (calls.writes_so bs ns out).number (λ o w n p q. w.output_after_is ∙ ap (λ z. output_after z c out) q)
+      (λ o w. w.measured.number_is) (calls.writes_so bs ns out) (λ o w n p q. w.output_after_is ∙ ap (λ z. output_after z c out) q)
 
   count : (f : Tables → ℕ) (old : ℕ) → Answered (λ (o : ℕ × ℕ). Counted (counts bs ns f) old o.0 o.1) (λ o. told o.0) (13 ∷ 14 ∷ []) (λ o. o.1 ≡ old)
   count f old =
       let said = counts bs ns f in
       in_c (λ (o : ℕ × ℕ). Counted (counts bs ns f) old o.0 o.1) (λ o. o.1 ≡ old) (λ o. o.0) said (number_of said, left said (λ n. n) old)
-      (record { number_is = refl; count_is = refl }) (λ o w. pair2 w.number_is w.count_is) (λ o w. w.number_is) (calls.counts_so bs ns f).number
+      (record { number_is = refl; count_is = refl }) (λ o w. pair2 w.number_is w.count_is) (λ o w. w.number_is) (calls.counts_so bs ns f)
       (λ o w n p q. w.count_is ∙ ap (λ z. left z (λ n. n) old) q)
 
   total : (m : ℤ) (place : ℕ)
@@ -117,7 +116,7 @@ module _ (bs : List ℕ) (ns : List ℤ) where
       let said = totals bs ns in
       in_c (λ (o : ℕ × ℤ × ℕ). Totalled (totals bs ns) m place o.0 o.1 o.2) (λ o. o.1 ≡ m) (λ o. o.0) said (number_of said, left said (λ x. x) m, place_left said place)
       (record { numbered = record { number_is = refl; place_is = refl }; millionths_is = refl }) (λ o w. pair3 w.numbered.number_is w.millionths_is w.numbered.place_is)
-      (λ o w. w.numbered.number_is) (calls.totals_so bs ns).number (λ o w n p q. w.millionths_is ∙ ap (λ z. left z (λ x. x) m) q)
+      (λ o w. w.numbered.number_is) (calls.totals_so bs ns) (λ o w n p q. w.millionths_is ∙ ap (λ z. left z (λ x. x) m) q)
 
   bracket_mass : (i : ℕ) (m : ℤ) (sort : ℕ)
       → Answered (λ (o : ℕ × ℤ × ℕ). Massed (weighs_at bs ns i) m sort o.0 o.1 o.2) (λ o. told o.0) (13 ∷ 14 ∷ 17 ∷ []) (λ o. (o.1 ≡ m) × (o.2 ≡ sort))
@@ -125,7 +124,7 @@ module _ (bs : List ℕ) (ns : List ℤ) where
       let said = weighs_at bs ns i in
       in_c (λ (o : ℕ × ℤ × ℕ). Massed (weighs_at bs ns i) m sort o.0 o.1 o.2) (λ o. (o.1 ≡ m) × (o.2 ≡ sort)) (λ o. o.0) said
       (number_of said, left said millionths_of m, left said sort_of sort) (record { number_is = refl; millionths_is = refl; sort_is = refl })
-      (λ o w. pair3 w.number_is w.millionths_is w.sort_is) (λ o w. w.number_is) (calls.weighs_so bs ns i).number
+      (λ o w. pair3 w.number_is w.millionths_is w.sort_is) (λ o w. w.number_is) (calls.weighs_so bs ns i)
       (λ o w n p q. (w.millionths_is ∙ ap (λ z. left z millionths_of m) q, w.sort_is ∙ ap (λ z. left z sort_of sort) q))
 
   floater_brackets : (brs cps : List ℕ) (count : ℕ)
@@ -138,12 +137,11 @@ module _ (bs : List ℕ) (ns : List ℤ) where
       in_c (λ (o : ℕ × ℕ × List ℕ × List ℕ). FloatersHanded bs ns brs cps count o.0 o.1 o.2 o.3) (λ o. (o.1 ≡ count) × (o.2 ≡ brs) × (o.3 ≡ cps)) (λ o. o.0) said
       (number_of said, left said (λ n. n) count, output_after said l brs, output_after said m cps)
       (record { counted = record { number_is = refl; count_is = refl }; brackets_after = refl; copies_after = refl })
-      (λ o w. pair4 w.counted.number_is w.counted.count_is w.brackets_after w.copies_after) (λ o w. w.counted.number_is) (calls.floaters_so bs ns brs cps).number
+      (λ o w. pair4 w.counted.number_is w.counted.count_is w.brackets_after w.copies_after) (λ o w. w.counted.number_is) (calls.floaters_so bs ns brs cps)
       (λ o w n p q. (w.counted.count_is ∙ ap (λ z. left z (λ n. n) count) q, w.brackets_after ∙ ap (λ z. output_after z l brs) q, w.copies_after ∙ ap (λ z. output_after z m cps) q))
 
-  why_lent_so : (old l : List ℕ) → calls.Sayable says (13 ∷ 14 ∷ []) (why_lent bs ns old l)
-  why_lent_so old l =
-      calls.either (calls.Sayable says (13 ∷ 14 ∷ [])) (ltb (length old) copy_limit) (calls.refusal (Err (refusal_of 13 0)) refl (inl refl)) (calls.why_so bs ns l)
+  why_lent_so : (old l : List ℕ) → calls.Among (13 ∷ 14 ∷ []) (why_lent bs ns old l)
+  why_lent_so old l = calls.long_or (ltb (length old) copy_limit) (calls.counts_so bs ns (λ t. length l))
 
   -- whichever set is named, it is the one that is meant
   why_so : (old : List ℕ) (count number count' : ℕ) (new : List ℕ) → WhyHanded bs ns old count number count' new → (l : List ℕ) → Reason (floating_of (tables_in bs ns)) l
@@ -161,7 +159,7 @@ module _ (bs : List ℕ) (ns : List ℤ) where
       (number_of said, left said (λ n. n) count, output_after said l old)
       (record { set = l; reason = z.1; counted = record { number_is = refl; count_is = refl }; floaters_after = refl })
       (λ o w. let y = why_so old count o.0 o.1 o.2 w l z.1 in pair3 y.0.number_is y.0.count_is y.1)
-      (λ o w. (why_so old count o.0 o.1 o.2 w l z.1).0.number_is) (why_lent_so old l).number
+      (λ o w. (why_so old count o.0 o.1 o.2 w l z.1).0.number_is) (why_lent_so old l)
       (λ o w n p q.
       let y = why_so old count o.0 o.1 o.2 w l z.1 in
       (y.0.count_is ∙ ap (λ s. left s (λ n. n) count) q, y.1 ∙ ap (λ s. output_after s l old) q))
@@ -174,7 +172,7 @@ module _ (bs : List ℕ) (ns : List ℤ) where
       let l = reached_by (tables_in bs ns) i in
       in_c (λ (o : ℕ × ℕ × List ℕ). ReachedHanded bs ns i out count o.0 o.1 o.2) (λ o. (o.1 ≡ count) × (o.2 ≡ out)) (λ o. o.0) said
       (number_of said, left said (λ n. n) count, output_after said l out) (record { counted = record { number_is = refl; count_is = refl }; positions_after = refl })
-      (λ o w. pair3 w.counted.number_is w.counted.count_is w.positions_after) (λ o w. w.counted.number_is) (calls.reached_so bs ns i out).number
+      (λ o w. pair3 w.counted.number_is w.counted.count_is w.positions_after) (λ o w. w.counted.number_is) (calls.reached_so bs ns i out)
       (λ o w n p q. (w.counted.count_is ∙ ap (λ z. left z (λ n. n) count) q, w.positions_after ∙ ap (λ z. output_after z l out) q))
 
   shown : (x : Float) (k : ℕ)
@@ -183,28 +181,24 @@ module _ (bs : List ℕ) (ns : List ℤ) where
       let said = shows bs ns in
       in_c (λ (o : ℕ × Float × ℕ). Displayed (shows bs ns) x k o.0 o.1 o.2) (λ o. (o.1 ≡ x) × (o.2 ≡ k)) (λ o. o.0) said
       (number_of said, left said mass_of x, left said lack_of k) (record { number_is = refl; mass_is = refl; missing_is = refl })
-      (λ o w. pair3 w.number_is w.mass_is w.missing_is) (λ o w. w.number_is) (calls.shows_so bs ns).number
+      (λ o w. pair3 w.number_is w.mass_is w.missing_is) (λ o w. w.number_is) (calls.counts_so bs ns display_of)
       (λ o w n p q. (w.mass_is ∙ ap (λ z. left z mass_of x) q, w.missing_is ∙ ap (λ z. left z lack_of k) q))
 
-  pub allows_lent_so : (p : List ℕ) → calls.Sayable says (13 ∷ 14 ∷ 18 ∷ []) (allows_lent bs ns p)
-  allows_lent_so p =
-      calls.either (calls.Sayable says (13 ∷ 14 ∷ 18 ∷ [])) (ltb (length p) copy_limit) (calls.refusal (Err (refusal_of 13 0)) refl (inl refl)) (calls.allows_so bs ns (take copy_limit p))
+  pub allows_lent_so : (p : List ℕ) → calls.Among (13 ∷ 14 ∷ 18 ∷ []) (allows_lent bs ns p)
+  allows_lent_so p = calls.long_or (ltb (length p) copy_limit) (calls.allows_so bs ns (take copy_limit p))
 
   allowed : (p : List ℕ) → Answered (AllowedLent bs ns p) told (13 ∷ 14 ∷ 18 ∷ []) Nothing
   allowed p =
-      in_c (AllowedLent bs ns p) Nothing (λ o. o) (allows_lent bs ns p) (number_of (allows_lent bs ns p)) refl (λ o w. w) (λ o w. w) (allows_lent_so p).number (λ o w n p q. tt)
+      in_c (AllowedLent bs ns p) Nothing (λ o. o) (allows_lent bs ns p) (number_of (allows_lent bs ns p)) refl (λ o w. w) (λ o w. w) (allows_lent_so p) (λ o w n p q. tt)
 
   next : (l : Listing) → Answered (λ (o : ℕ × Listing). MovedOn bs ns l o.0 o.1) (λ o. told o.0) (13 ∷ 14 ∷ 17 ∷ 18 ∷ []) (λ o. o.1 ≡ l)
   next l =
       let said = requests bs ns l in
       in_c (λ (o : ℕ × Listing). MovedOn bs ns l o.0 o.1) (λ o. o.1 ≡ l) (λ o. o.0) said (number_of said, listing_after bs ns l) (refl, refl) (λ o w. pair2 w.0 w.1) (λ o w. w.0)
-      (λ n p q. (calls.requests_so bs ns l).number n p (ap met q)) (λ o w n p q. w.1 ∙ ap (moved_on l) q)
+      (calls.requests_so bs ns l) (λ o w n p q. w.1 ∙ ap (moved_on l) q)
 
-  books_lent_so : (p : List ℕ) (old : List ℤ) → calls.Sayable says (13 ∷ 14 ∷ 16 ∷ 18 ∷ []) (books_lent bs ns p old)
-  books_lent_so p old =
-      let P = calls.Sayable says (13 ∷ 14 ∷ 16 ∷ 18 ∷ []) in
-      calls.either P (ltb (length p) copy_limit) (calls.refusal (Err (refusal_of 13 0)) refl (inl refl))
-      (calls.either P (ltb (length old) position_limit) (calls.refusal (Err (refusal_of 13 0)) refl (inl refl)) (calls.books_so bs ns (take copy_limit p)))
+  books_lent_so : (p : List ℕ) (old : List ℤ) → calls.Among (13 ∷ 14 ∷ 16 ∷ 18 ∷ []) (books_lent bs ns p old)
+  books_lent_so p old = calls.long_or (ltb (length p) copy_limit) (calls.long_or (ltb (length old) position_limit) (calls.books_so bs ns (take copy_limit p)))
 
   entered : (p : List ℕ) (old : List ℤ) (place : ℕ)
       → Answered (λ (o : ℕ × ℕ × List ℤ). EnteredLent bs ns p old place o.0 o.1 o.2) (λ o. told o.0) (13 ∷ 14 ∷ 16 ∷ 18 ∷ []) (λ o. o.2 ≡ old)
@@ -213,7 +207,7 @@ module _ (bs : List ℕ) (ns : List ℤ) where
       in_c (λ (o : ℕ × ℕ × List ℤ). EnteredLent bs ns p old place o.0 o.1 o.2) (λ o. o.2 ≡ old) (λ o. o.0) said
       (number_of said, place_left said place, entries_after said (tables_in bs ns) (take copy_limit p) old)
       (record { numbered = record { number_is = refl; place_is = refl }; entries_after_is = refl }) (λ o w. pair3 w.numbered.number_is w.numbered.place_is w.entries_after_is)
-      (λ o w. w.numbered.number_is) (books_lent_so p old).number (λ o w n k q. w.entries_after_is ∙ ap (λ z. entries_after z (tables_in bs ns) (take copy_limit p) old) q)
+      (λ o w. w.numbered.number_is) (books_lent_so p old) (λ o w n k q. w.entries_after_is ∙ ap (λ z. entries_after z (tables_in bs ns) (take copy_limit p) old) q)
 
   rows : (room : List Site) (count : ℕ)
       → Answered (λ (o : ℕ × ℕ × List Site). RowsHanded bs ns room count o.0 o.1 o.2) (λ o. told o.0) (13 ∷ 14 ∷ []) (λ o. (o.1 ≡ count) × (o.2 ≡ room))
@@ -221,7 +215,7 @@ module _ (bs : List ℕ) (ns : List ℤ) where
       let said = rows_said bs ns room in
       in_c (λ (o : ℕ × ℕ × List Site). RowsHanded bs ns room count o.0 o.1 o.2) (λ o. (o.1 ≡ count) × (o.2 ≡ room)) (λ o. o.0) said
       (number_of said, left said (λ n. n) count, rows_after said (tables_in bs ns) room) (record { counted = record { number_is = refl; count_is = refl }; rows_after_lem = refl })
-      (λ o w. pair3 w.counted.number_is w.counted.count_is w.rows_after_lem) (λ o w. w.counted.number_is) (calls.rows_so bs ns room).number
+      (λ o w. pair3 w.counted.number_is w.counted.count_is w.rows_after_lem) (λ o w. w.counted.number_is) (calls.rows_so bs ns room)
       (λ o w n p q. (w.counted.count_is ∙ ap (λ z. left z (λ n. n) count) q, w.rows_after_lem ∙ ap (λ z. rows_after z (tables_in bs ns) room) q))
 
 first_row_lem : (rs : List Site) (n f i x : ℕ)
@@ -230,7 +224,7 @@ first_row_lem rs n f i x =
     let said = looks_up rs n f in
     in_c (λ (o : ℕ × ℕ × ℕ). LookedUp (looks_up rs n f) i x o.0 o.1 o.2) (λ o. (o.1 ≡ i) × (o.2 ≡ x)) (λ o. o.0) said
     (number_of said, left said (λ r. r.index) i, left said (λ r. r.position) x) (record { number_is = refl; index_is = refl; position_is = refl })
-    (λ o w. pair3 w.number_is w.index_is w.position_is) (λ o w. w.number_is) (calls.looks_so rs n f).number
+    (λ o w. pair3 w.number_is w.index_is w.position_is) (λ o w. w.number_is) (calls.looks_so rs n f)
     (λ o w n p q. (w.index_is ∙ ap (λ z. left z (λ r. r.index) i) q, w.position_is ∙ ap (λ z. left z (λ r. r.position) x) q))
 
 composition : (t out : List ℕ) (count : ℕ)
@@ -240,7 +234,7 @@ composition t out count =
     let c = pieces_of (cuttings t) in
     in_c (λ (o : ℕ × ℕ × List ℕ). PiecesHanded t out count o.0 o.1 o.2) (λ o. o.2 ≡ out) (λ o. o.0) said (number_of said, length_left said count, output_after said c out)
     (record { measured = record { number_is = refl; count_is = refl }; output_after_is = refl }) (λ o w. pair3 w.measured.number_is w.measured.count_is w.output_after_is)
-    (λ o w. w.measured.number_is) (calls.pieces_so t (length out)).number (λ o w n p q. w.output_after_is ∙ ap (λ z. output_after z c out) q)
+    (λ o w. w.measured.number_is) (calls.pieces_so t (length out)) (λ o w n p q. w.output_after_is ∙ ap (λ z. output_after z c out) q)
 
 -- with the calls over an area of blocks (proofs/AnsweringBlocks.antt)
 pub demand_1 : AnswersBlocksC → Demand1C

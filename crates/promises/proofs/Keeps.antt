@@ -1,7 +1,7 @@
 -- The calls over an area of blocks keep what is promised: each answers what the definitions say, so calls one after another are a run of the definitions, of which the
 -- laws of crate block_laws speak.
-use Rattle.std.specs.Prelude.{◌≡◌, refl, Bool, true, false, cond, ◌&&◌, List, [], ◌∷◌, ◌++◌, ℕ, ◌/◌, ◌%◌, ◌*◌, ◌^◌, ◌≤◌, ◌<◌, eqb, leb, ltb, length, take, drop, get_or, set, Result, Ok}
-use Rattle.std.proofs.Common.{sym, ap, ap₂, subst, ◌∙◌, arith, leb-true, le-ltb, length-set}
+use Rattle.std.specs.Prelude.{◌≡◌, refl, Bool, true, false, cond, ◌&&◌, List, [], ◌∷◌, ◌++◌, ℕ, ◌/◌, ◌%◌, ◌^◌, ◌≤◌, ◌<◌, eqb, leb, length, take, drop, get_or, set, Result}
+use Rattle.std.proofs.Common.{sym, ap, ap₂, subst, ◌∙◌, leb-true, le-ltb, length-set}
 use Rattle.std.proofs.lemmas.Bool.{false≢true}
 use Rattle.std.proofs.Math.Seq.{take-append_seam}
 use Rattle.scope.specs.declared.answers.Placement.{Placement}
@@ -11,14 +11,14 @@ use Rattle.scope.specs.Line.{Line}
 use Rattle.scope.specs.Lists.{member, laid}
 use Rattle.scope.specs.Refusals.{accepted, outcome}
 use Rattle.scope.specs.Canonical.{canonical}
-use Rattle.scope.specs.Answers.{Said, good, refuses, met, says}
+use Rattle.scope.specs.Answers.{Said, good, refuses, of_good, met, says}
 use Rattle.basics.specs.Each.{Each}
 use Rattle.blocks.specs.declared.Fetched.{Fetched}
 use Rattle.blocks.specs.Block.{free_block}
 use Rattle.blocks.specs.declared.Listed.{Listed}
 use Rattle.blocks.specs.Area.{blocks_in, whole_blocks, all_sound, frees, times}
 use Rattle.blocks.specs.Entry.{Entry, positions_of, Looked, absent, damaged, present, look}
-use Rattle.blocks.specs.Answers.{area_after, empty_said, empty_after, fetched, fetch_said, fetched_length, fetched_placement, out_after, removed, removing, remove_said, remove_after, blocks_for, add_said, add_after, is_head}
+use Rattle.blocks.specs.Answers.{area_after, fetched, fetch_said, fetched_as, out_after, removed, removing, remove_said, remove_after, blocks_for, add_said, add_after, is_head}
 use Rattle.blocks.specs.Map.{Call, adds, fetches, removes, Answer, told, handed, answer, after, answers, run, map_answers, AllNumbered}
 use Rattle.block_laws.specs.AsMap as laws
 use Rattle.block_laws.proofs.OneByteLaws as one
@@ -26,27 +26,22 @@ use Rattle.block_laws.specs.Listing as list
 use Rattle.block_laws.specs.Added.{taken_for}
 use Rattle.block_laws.specs.Calls.{content_of, add_accepted}
 use Rattle.keeping.specs.Steps.{Handed}
-use Rattle.keeping.specs.Says.{EmptySays, AddSays, FetchSays, RemoveSays, EntrySays}
+use Rattle.keeping.specs.Says.{AddSays, FetchSays, RemoveSays, EntrySays}
 use Rattle.promises.specs.Keeping.{entry_fetched, FetchMade, CallSays, CallsSay, Undamaged, Keeping}
-use Rattle.basics.specs.Said.{not_both, same_good, same_number_lem, same_place}
+use Rattle.basics.specs.Said.{not_both}
 use Rattle.scope.specs.declared.refusals.Refusal.{Refusal}
 
 -- ---- what was fetched is what is said of it
-entry_said_lem : (said : Said Entry) (f : Fetch) (at out out' : List ℕ) → says f ≡ fetched_length said → at ≡ fetched_placement said → out' ≡ out_after said out
-    → entry_fetched f at out' ≡ said
-entry_said_lem (good e) (Ok m) at out out' s p o =
-    let long : m ≡ length e.line = same_good s in
-    let front : take m out' ≡ e.line = ap₂ take long o ∙ take-append_seam e.line (drop (length e.line) out) in
-    ap₂ (λ x y. good (record { placement = x; line = y })) p front
-entry_said_lem (good e) (fetch_refused n q) at out out' s p o = absurd (not_both (sym s))
-entry_said_lem (refuses n q) (Ok m) at out out' s p o = absurd (not_both s)
-entry_said_lem (refuses n q) (fetch_refused m r) at out out' s p o = ap₂ refuses (same_number_lem s) (same_place s)
+entry_said_lem : (said : Said Entry) (r : Result Fetched Refusal) (out out' : List ℕ) → says r ≡ of_good fetched_as said → out' ≡ out_after said out → entry_fetched r out' ≡ said
+entry_said_lem (good e) r out out' s o =
+    ap (of_good (λ (f : Fetched). record { placement = f.at; line = take f.size out' })) s
+    ∙ ap (λ l. good (record { placement = e.placement; line = l })) (ap (take (length e.line)) o ∙ take-append_seam e.line (drop (length e.line) out))
+entry_said_lem (refuses n q) r out out' s o = ap (of_good (λ (f : Fetched). record { placement = f.at; line = take f.size out' })) s
 
 fetch_made : (a : List ℕ) (n room : ℕ) (x : Answer) → FetchMade a n room x → x ≡ handed (fetch_said a n room)
 fetch_made a n room x h =
     let w = h.ensured in
-    h.is ∙ ap handed (entry_said_lem (fetch_said a n (length h.out)) h.answer.fetch h.answer.at h.out h.out' w.says w.placement w.output_after_is)
-    ∙ ap (λ r. handed (fetch_said a n r)) h.long
+    h.is ∙ ap handed (entry_said_lem (fetch_said a n (length h.out)) h.answer h.out h.out' w.says w.output_after_is) ∙ ap (λ r. handed (fetch_said a n r)) h.long
 
 -- ---- one call, and calls one after another
 call_answer : (a : List ℕ) (c : Call) (x : Answer) (a' : List ℕ) → CallSays a c x a' → x ≡ answer a c
@@ -129,7 +124,7 @@ unfolding fetch_said
 fetch_said_lem a n room x w e = ap (λ b. cond b (fetched (look a n) room) (refuses 26 0)) w ∙ ap (λ l. fetched l room) e
 
 -- an outcome that is right for one area is right for another where as much is said
-fetch_moves : (a b : List ℕ) (n : ℕ) (out : List ℕ) (f : Fetched) (out' : List ℕ) → fetch_said a n (length out) ≡ fetch_said b n (length out) → FetchSays a n out f out'
+fetch_moves : (a b : List ℕ) (n : ℕ) (out : List ℕ) (f : Result Fetched Refusal) (out' : List ℕ) → fetch_said a n (length out) ≡ fetch_said b n (length out) → FetchSays a n out f out'
     → FetchSays b n out f out'
 fetch_moves a b n out f out' e w = subst (λ s. Handed s out f out') e w
 
@@ -138,12 +133,12 @@ unfolding whole_blocks
 whole_set a i c w = ap (λ n. eqb (n % block_size) 0 && leb 1 (n / block_size) && leb (n / block_size) block_limit) (length-set a i c) ∙ w
 
 -- an entry that is found, fetched into an output that has room for it
-fetched_whole : (e : Entry) (out : List ℕ) (f : Fetched) (out' : List ℕ) (bs : List ℕ) → length e.line ≤ length out → Handed (fetched (present bs e) (length out)) out f out'
-    → (says f.fetch ≡ good (length e.line)) × (f.at ≡ e.placement) × (out' ≡ laid e.line out)
+fetched_whole : (e : Entry) (out : List ℕ) (f : Result Fetched Refusal) (out' : List ℕ) (bs : List ℕ) → length e.line ≤ length out → Handed (fetched (present bs e) (length out)) out f out'
+    → (says f ≡ good (fetched_as e)) × (out' ≡ laid e.line out)
 fetched_whole e out f out' bs h w =
     let fits : fetched (present bs e) (length out) ≡ good e = ap (λ b. cond b (refuses 15 (length e.line)) (good e)) (le-ltb (length out) (length e.line) h) in
     let v = subst (λ s. Handed s out f out') fits w in
-    (v.says, v.placement, v.output_after_is)
+    (v.says, v.output_after_is)
 
 as_map : (k : ℕ) (cs : List Call) (xs : List Answer) (a : List ℕ) → Undamaged k cs xs a → xs ≡ map_answers k [] cs
 as_map k cs xs a u = let w = known k cs xs a u in w.answers_are ∙ laws.as_a_map k w.some w.few cs w.numbered
@@ -155,8 +150,8 @@ sound_then k cs xs a u =
     subst (λ b. (whole_blocks b ≡ true) × (all_sound b ≡ true) × Each (λ x. x < byte_limit) b) (sym w.area_is) (laws.run_sound k w.some w.few cs w.numbered)
 
 added_then : (a : List ℕ) (n : ℕ) → n < 2 ^ 32 → (p : Placement) (s : List ℕ) (r : Result (Unit {0}) Refusal) (a' : List ℕ) → AddSays a n p s r a' → says r ≡ good tt
-    → (l : Line ℕ) → outcome s ≡ accepted l → (out : List ℕ) → length (canonical l) ≤ length out → (f : Fetched) (out' : List ℕ) → FetchSays a' n out f out'
-    → (says f.fetch ≡ good (length (canonical l))) × (f.at ≡ p.at) × (out' ≡ laid (canonical l) out)
+    → (l : Line ℕ) → outcome s ≡ accepted l → (out : List ℕ) → length (canonical l) ≤ length out → (f : Result Fetched Refusal) (out' : List ℕ) → FetchSays a' n out f out'
+    → (says f ≡ good (record { size = length (canonical l); at = p.at })) × (out' ≡ laid (canonical l) out)
 added_then a n h p s r a' w g l e out fits f out' v =
     let added : add_said a n p.at s ≡ good tt = sym w.says ∙ g in
     let entry : Entry = record { placement = p.at; line = canonical l } in
@@ -190,23 +185,23 @@ module _ (k : ℕ) (cs : List Call) (xs : List Answer) (a : List ℕ) (u : Undam
     by_blocks : {b : Bool} → member (i / block_size) bs ≡ b → look (set a i c) n ≡ cond b damaged (present bs e)
     by_blocks q = let s = sound_then k cs xs a u in one.one_byte a s.0 s.1 s.2 i c h l other n bs e found ∙ ap (λ b. cond b damaged (present bs e)) q
 
-    untouched_then : member (i / block_size) bs ≡ false → (out : List ℕ) (f : Fetched) (out' : List ℕ) → FetchSays (set a i c) n out f out' → FetchSays a n out f out'
+    untouched_then : member (i / block_size) bs ≡ false → (out : List ℕ) (f : Result Fetched Refusal) (out' : List ℕ) → FetchSays (set a i c) n out f out' → FetchSays a n out f out'
     untouched_then q out f out' w =
         let s = sound_then k cs xs a u in
         let one = fetch_said_lem (set a i c) n (length out) (present bs e) (whole_set a i c s.0) (by_blocks q) in
         let two = fetch_said_lem a n (length out) (present bs e) s.0 found in
         fetch_moves (set a i c) a n out f out' (one ∙ sym two) w
 
-    touched_then : member (i / block_size) bs ≡ true → (out : List ℕ) (f : Fetched) (out' : List ℕ) → FetchSays (set a i c) n out f out' → says f.fetch ≡ refuses 25 0
+    touched_then : member (i / block_size) bs ≡ true → (out : List ℕ) (f : Result Fetched Refusal) (out' : List ℕ) → FetchSays (set a i c) n out f out' → says f ≡ refuses 25 0
     touched_then q out f out' w =
         let s = sound_then k cs xs a u in
-        w.says ∙ ap fetched_length (fetch_said_lem (set a i c) n (length out) damaged (whole_set a i c s.0) (by_blocks q))
+        w.says ∙ ap (of_good fetched_as) (fetch_said_lem (set a i c) n (length out) damaged (whole_set a i c s.0) (by_blocks q))
 
-  absent_after : look a n ≡ absent → (out : List ℕ) (f : Fetched) (out' : List ℕ) → FetchSays (set a i c) n out f out' → says f.fetch ≡ refuses 25 0
+  absent_after : look a n ≡ absent → (out : List ℕ) (f : Result Fetched Refusal) (out' : List ℕ) → FetchSays (set a i c) n out f out' → says f ≡ refuses 25 0
   absent_after q out f out' w =
       let s = sound_then k cs xs a u in
       let found = one.one_byte_absent a s.0 s.1 s.2 i c h l other n q in
-      w.says ∙ ap fetched_length (fetch_said_lem (set a i c) n (length out) damaged (whole_set a i c s.0) found)
+      w.says ∙ ap (of_good fetched_as) (fetch_said_lem (set a i c) n (length out) damaged (whole_set a i c s.0) found)
 
 -- ---- what was added lies in the lowest free blocks
 lowest_then : (a : List ℕ) (n : ℕ) → n < 2 ^ 32 → (p : Placement) (s : List ℕ) (r : Result (Unit {0}) Refusal) (a' : List ℕ) → AddSays a n p s r a' → says r ≡ good tt
@@ -221,18 +216,18 @@ record Fetchable (a : List ℕ) (n : ℕ) : Type 0 where
   entry : Entry
   there : look a n ≡ present blocks entry
 
-fetchable : (a : List ℕ) (n room m : ℕ) → good m ≡ fetched_length (fetch_said a n room) → Fetchable a n
+fetchable : (a : List ℕ) (n room : ℕ) (m : Fetched) → good m ≡ of_good fetched_as (fetch_said a n room) → Fetchable a n
 unfolding fetch_said
 fetchable a n room m e = go (whole_blocks a) refl (look a n) refl e
   where
-    go : (b : Bool) → whole_blocks a ≡ b → (x : Looked) → look a n ≡ x → good m ≡ fetched_length (cond b (fetched x room) (refuses 26 0)) → Fetchable a n
+    go : (b : Bool) → whole_blocks a ≡ b → (x : Looked) → look a n ≡ x → good m ≡ of_good fetched_as (cond b (fetched x room) (refuses 26 0)) → Fetchable a n
     go false p x q f = absurd (not_both f)
     go true p absent q f = absurd (not_both f)
     go true p damaged q f = absurd (not_both f)
     go true p (present bs x) q f = record { whole = p; blocks = bs; entry = x; there = q }
 
-listed_then : (a : List ℕ) (n : ℕ) (out : List ℕ) (f : Fetched) (out' : List ℕ) → FetchSays a n out f out' → (m : ℕ) → says f.fetch ≡ good m
-    → (b : ℕ) × ((is_head a b ≡ true) × ((r : Listed) → EntrySays a b r → says r ≡ good (record { block = b; number = n })))
+listed_then : (a : List ℕ) (n : ℕ) (out : List ℕ) (f : Result Fetched Refusal) (out' : List ℕ) → FetchSays a n out f out' → (m : Fetched) → says f ≡ good m
+    → (b : ℕ) × ((is_head a b ≡ true) × ((r : Result Listed Refusal) → EntrySays a b r → says r ≡ good (record { block = b; number = n })))
 listed_then a n out f out' w m e =
     let z = fetchable a n (length out) m (sym e ∙ w.says) in
     let b = list.listed_found a n z.blocks z.entry z.whole z.there in

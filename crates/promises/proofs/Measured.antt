@@ -17,7 +17,7 @@ use Rattle.scope.specs.Modifications.{is_modification}
 use Rattle.scope.specs.Tables.{Tables}
 use Rattle.scope.specs.Layout.{tables_in}
 use Rattle.scope.specs.Masses.{mass_of, stated, modifications, times, total, lacking, daltons}
-use Rattle.scope.specs.Answers.{good, refuses, too_short, are_tables, says}
+use Rattle.scope.specs.Answers.{good, refuses, too_short, are_tables, says, a_mass, lack, says_shown}
 use Rattle.basics.specs.Each.{In}
 use Rattle.basics.specs.Members.{in_keep, keep_in, all_in, in_all}
 use Rattle.basics.specs.Said.{same_good}
@@ -27,7 +27,6 @@ use Rattle.calls.specs.Single.{element_at, mass_at}
 use Rattle.calls.specs.Says.{TotalSays, BracketMassSays, ShownSays}
 use Rattle.promises.specs.Promises.{Counting, Measuring}
 use Rattle.promises.proofs.Weights.{AreasTaken, says_itself, total_said, total_so, shown_said}
-use Rattle.scope.specs.declared.answers.Shown.TheVariants.{Daltons, Missing}
 use Rattle.scope.specs.declared.refusals.Refusal.{Refusal}
 
 -- ---- the elements of a list by their places, and a test of all of them
@@ -114,9 +113,9 @@ module _ (bs : List ℕ) (ns : List ℤ) (h : AreasTaken bs ns) where
     total_alike : (q r : Result ℤ Refusal) → TotalSays bs ns q → TotalSays cs ms r → says r ≡ says q
     total_alike q r w v = total_said cs ms there r v ∙ ap₂ (λ n x. cond (eqb n 0) (good x) (refuses 16 n)) same_lacking same_total ∙ sym (total_said bs ns h q w)
 
-    shown_alike : (q r : Shown) → ShownSays bs ns q → ShownSays cs ms r → says r ≡ says q
+    shown_alike : (q r : Shown) → ShownSays bs ns q → ShownSays cs ms r → says_shown r ≡ says_shown q
     shown_alike q r w v =
-        shown_said cs ms there r v ∙ ap₂ (λ n x. good (cond (eqb n 0) (Daltons (daltons x)) (Missing n))) same_lacking same_total ∙ sym (shown_said bs ns h q w)
+        shown_said cs ms there r v ∙ ap₂ (λ n x. good (cond (eqb n 0) (a_mass (daltons x)) (lack n))) same_lacking same_total ∙ sym (shown_said bs ns h q w)
 
   pub measuring : Measuring bs ns
   measuring =

@@ -9,7 +9,7 @@ use Rattle.scope.specs.Lists.{given}
 use Rattle.scope.specs.Tables.{Tables}
 use Rattle.scope.specs.Layout.{tables_in}
 use Rattle.scope.specs.Positions.{sites, positions, names, reached}
-use Rattle.scope.specs.Answers.{Said, good, refuses, too_short, are_tables, over_tables, output_after, says}
+use Rattle.scope.specs.Answers.{good, refuses, too_short, are_tables, output_after, says}
 use Rattle.basics.specs.Each.{In}
 use Rattle.basics.specs.Members.{in_keep, keep_in}
 use Rattle.basics.specs.Tabled.{in_tabled, tabled_in}

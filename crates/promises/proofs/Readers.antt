@@ -1,6 +1,6 @@
 -- Demands 1 and 2 of reading: every line gets one answer; it is accepted exactly as the grammar says, and refused with the number and at the place that the
 -- clauses say; nothing else reads so.
-use Rattle.std.specs.Prelude.{◌≡◌, refl, ◌↔◌, ◌⊎◌, Bool, true, false, cond, List, [], ◌∷◌, ◌++◌, ℕ, ◌≤◌, eqb, ℤ, length, Result, Ok}
+use Rattle.std.specs.Prelude.{◌≡◌, refl, ◌↔◌, ◌⊎◌, Bool, true, false, cond, List, [], ◌∷◌, ◌++◌, ℕ, ◌≤◌, eqb, ℤ, length, Result}
 use Rattle.std.proofs.Common.{sym, ap, ◌∙◌, subst, inl, inr, arith, eqb-true}
 use Rattle.scope.specs.Line.{Line}
 use Rattle.scope.specs.Lists.{laid, tabled}
@@ -23,9 +23,9 @@ use Rattle.reader.specs.ReadSays.{ReadSays}
 use Rattle.reader.proofs.Reading.{accepted_is}
 use Rattle.verdict.specs.Says.{VerdictSays}
 use Rattle.promises.specs.Promises.{meant, line_numbers, Reader, ExactlyOne, Answered, Nothing, AnswersLines, TurnedAway, Holding, Accepting}
-use Rattle.promises.proofs.Answering.{alone, among_numbers}
+use Rattle.promises.proofs.Answering.{Among, said_so, plain, among_numbers}
 use Rattle.basics.specs.Said.{not_both, same_number_lem, same_place}
-use Rattle.promises.proofs.Said.{says_same}
+use Rattle.promises.proofs.Said.{all_known, says_same}
 use Rattle.scope.specs.declared.refusals.Refusal.{Refusal}
 
 -- ---- after a successful read
@@ -69,26 +69,6 @@ line_means {s} r t g p =
     taken.keeps ∙ ap kept d
 
 -- ---- demand 1
-read_of : Outcome → (Result (Unit {0}) Refusal)
-read_of (accepted l) = (Ok tt)
-read_of (refused n p) = read_refused n p
-
-says_of : (o : Outcome) → says (read_of o) ≡ says_outcome o
-unfolding read_of
-says_of (accepted l) = refl
-says_of (refused n p) = refl
-
-exactly_one : (s bs : List ℕ) (ns : List ℤ) → ExactlyOne (λ (o : (Result (Unit {0}) Refusal) × List ℕ × List ℤ). ReadSays s bs ns o.0 o.1 o.2)
-exactly_one s bs ns =
-    let o = read_outcome bs ns s in
-    record {
-      outcome = (read_of o, bytes_after o bs, numbers_after o ns);
-      ensured = record { says = says_of o; bytes_after_is = refl; numbers_after_is = refl };
-      only = λ q w.
-          ap (λ (r : Result (Unit {0}) Refusal). (r, q.1, q.2)) (says_same q.0 (read_of o) (w.says ∙ sym (says_of o))) ∙ ap (λ (b : List ℕ). (read_of o, b, q.2)) w.bytes_after_is
-          ∙ ap (λ (n : List ℤ). (read_of o, bytes_after o bs, n)) w.numbers_after_is;
-    }
-
 -- one of 1 to 12, or 19, or 21
 abbrev OfALine : ℕ → Type 0
 OfALine n = ((1 ≤ n) × (n ≤ 12)) ⊎ ((n ≡ 19) ⊎ (n ≡ 21))
@@ -100,11 +80,6 @@ among_lines n (inl h) =
     in_left n (tabled (λ x. x) 1 12) (19 ∷ 21 ∷ []) (among_numbers 12 1 n a (omega (arith, b)))
 among_lines n (inr (inl e)) = in_right n (tabled (λ x. x) 1 12) (19 ∷ 21 ∷ []) (inl e)
 among_lines n (inr (inr e)) = in_right n (tabled (λ x. x) 1 12) (19 ∷ 21 ∷ []) (inr (inl e))
-
-from_one : {n : ℕ} → OfALine n → 1 ≤ n
-from_one (inl h) = h.0
-from_one (inr (inl e)) = omega (arith, e)
-from_one (inr (inr e)) = omega (arith, e)
 
 -- each number of the list is one of these
 abbrev Numbered : List Due → Type 0
@@ -137,14 +112,13 @@ dues_numbered s = go (reading s)
 -- a refusal's number and place
 pub record RefusalPlaced (numbers s : List ℕ) (n p : ℕ) : Type 0 where
   pub one_of : In n numbers
-  pub from_1 : 1 ≤ n
   pub inside : p ≤ length s
 
 pub line_said : (s : List ℕ) (n p : ℕ) → outcome s ≡ refused n p → RefusalPlaced line_numbers s n p
 line_said s n p e =
     let d = ((reads.laws).first_of_its_places s n p e).member in
     let r = numbered (dues s) n p (dues_numbered s) d in
-    record { one_of = among_lines n r; from_1 = from_one r; inside = (each_in _ (places_of (dues s) n) p d ((reads.laws).inside_line s n)).0 }
+    record { one_of = among_lines n r; inside = (each_in _ (places_of (dues s) n) p d ((reads.laws).inside_line s n)).0 }
 
 pub read_said : (s bs : List ℕ) (ns : List ℤ) (n p : ℕ) → read_outcome bs ns s ≡ refused n p → RefusalPlaced (13 ∷ line_numbers) s n p
 read_said s bs ns n p e = go (too_short bs ns) e
@@ -153,12 +127,34 @@ read_said s bs ns n p e = go (too_short bs ns) e
     go true f =
         let x : n ≡ 13 = cc in
         let y : 0 ≡ p = cc in
-        record { one_of = inl x; from_1 = omega (arith, x); inside = omega arith }
-    go false f = let r = line_said s n p f in record { one_of = inr r.one_of; from_1 = r.from_1; inside = r.inside }
+        record { one_of = inl x; inside = omega arith }
+    go false f = let r = line_said s n p f in record { one_of = inr r.one_of; inside = r.inside }
 
 pub outcome_refused : (o : Outcome) {n p : ℕ} → says_outcome o ≡ refuses n p → o ≡ refused n p
 outcome_refused (accepted l) e = absurd (not_both e)
 outcome_refused (refused m q) {n} e = ap (λ z. refused z q) (same_number_lem e) ∙ ap (refused n) (same_place e)
+
+pub line_among : (s : List ℕ) → Among line_numbers (says_outcome (outcome s))
+line_among s = record { number = λ n p q. (line_said s n p (outcome_refused (outcome s) q)).one_of }
+
+pub read_among : (s bs : List ℕ) (ns : List ℤ) → Among (13 ∷ line_numbers) (says_outcome (read_outcome bs ns s))
+read_among s bs ns = record { number = λ n p q. (read_said s bs ns n p (outcome_refused (read_outcome bs ns s) q)).one_of }
+
+pub lines_known : all_known (13 ∷ line_numbers) ≡ true
+unfolding tabled
+lines_known = refl
+
+exactly_one : (s bs : List ℕ) (ns : List ℤ) → ExactlyOne (λ (o : (Result (Unit {0}) Refusal) × List ℕ × List ℤ). ReadSays s bs ns o.0 o.1 o.2)
+exactly_one s bs ns =
+    let o = read_outcome bs ns s in
+    let a = said_so lines_known (says_outcome o) (read_among s bs ns) in
+    record {
+      outcome = (a.0, bytes_after o bs, numbers_after o ns);
+      ensured = record { says = a.1; bytes_after_is = refl; numbers_after_is = refl };
+      only = λ q w.
+          ap (λ (r : Result (Unit {0}) Refusal). (r, q.1, q.2)) (says_same q.0 a.0 (w.says ∙ sym a.1)) ∙ ap (λ (b : List ℕ). (a.0, b, q.2)) w.bytes_after_is
+          ∙ ap (λ (n : List ℤ). (a.0, bytes_after o bs, n)) w.numbers_after_is;
+    }
 
 answered : (s bs : List ℕ) (ns : List ℤ) (r : Result (Unit {0}) Refusal) (bs' : List ℕ) (ns' : List ℤ) → ReadSays s bs ns r bs' ns'
     → (says r ≡ good tt) ⊎ TurnedAway s bs ns r bs' ns'
@@ -180,13 +176,7 @@ answered s bs ns r bs' ns' w = go (read_outcome bs ns s) refl
         })
 
 pub verdict : (s : List ℕ) → Answered (VerdictSays s) says line_numbers Nothing
-verdict s =
-    alone says_same
-    (record {
-      answer = read_of (outcome s);
-      says_so = says_of (outcome s);
-      number = λ n p q. (line_said s n p (outcome_refused (outcome s) q)).one_of;
-    })
+verdict s = plain lines_known (line_among s)
 
 pub answers_lines : AnswersLines ReadSays
 answers_lines = record { exactly_one = exactly_one; answered = answered }

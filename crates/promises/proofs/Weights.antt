@@ -9,8 +9,8 @@ use Rattle.scope.specs.Tables.{Tables}
 use Rattle.scope.specs.Layout.{bytes_of, tables_in}
 use Rattle.scope.specs.Positions.{floaters, floating_of}
 use Rattle.scope.specs.Placements.{allowed}
-use Rattle.scope.specs.Masses.{sum, total, lacking, labile_mass, daltons}
-use Rattle.scope.specs.Answers.{Said, good, refuses, display_of, too_short, are_tables, over_tables, residue_count, bracket_count, floater_count, weighed, allowable, bookable, books, entries, says}
+use Rattle.scope.specs.Masses.{sum, total, lacking, ledger, labile_mass, daltons}
+use Rattle.scope.specs.Answers.{Said, good, refuses, of_good, display_of, too_short, are_tables, over_tables, residue_count, bracket_count, floater_count, weighed, allowable, bookable, says, a_mass, lack, says_shown}
 use Rattle.scope.specs.Grammar.{Spelling}
 use Rattle.layout_laws.proofs.Laws.{tables_held}
 use Rattle.placement_laws.specs.Terms.{Orderly}
@@ -22,7 +22,6 @@ use Rattle.promises.specs.Promises.{meant, Reckoned}
 use Rattle.basics.specs.Said.{not_both, same_good, same_place}
 use Rattle.promises.proofs.Said.{not_lack, same_lack}
 use Rattle.promises.proofs.Readers.{WasRead, held_after}
-use Rattle.scope.specs.declared.answers.Shown.TheVariants.{Daltons, Missing}
 use Rattle.scope.specs.declared.refusals.Refusal.{Refusal}
 
 -- areas that every call takes
@@ -60,9 +59,9 @@ weighed_so : (b : Bool) (x m : ℤ) (k : ℕ) → cond b (good x) (refuses 16 k)
 weighed_so true x m k e = (refl, same_good e)
 weighed_so false x m k e = absurd (not_both (sym e))
 
-lack_so : (b : Bool) (x : ℤ) (k n : ℕ) → (good (cond b (Daltons (daltons x)) (Missing k)) ≡ good (Missing n)) ↔ (cond b (good x) (refuses 16 k) ≡ refuses 16 n)
+lack_so : (b : Bool) (x : ℤ) (k n : ℕ) → (good (cond b (a_mass (daltons x)) (lack k)) ≡ good (lack n)) ↔ (cond b (good x) (refuses 16 k) ≡ refuses 16 n)
 lack_so true x k n = ((λ e. absurd (not_lack (same_good e))), (λ e. absurd (not_both e)))
-lack_so false x k n = ((λ e. ap (refuses 16) (same_lack (same_good e))), (λ e. ap (λ z. good (Missing z)) (same_place e)))
+lack_so false x k n = ((λ e. ap (refuses 16) (same_lack (same_good e))), (λ e. ap (λ z. good (lack z)) (same_place e)))
 
 module _ (bs : List ℕ) (ns : List ℤ) (h : AreasTaken bs ns) where
   abbrev t : Tables
@@ -74,31 +73,32 @@ module _ (bs : List ℕ) (ns : List ℤ) (h : AreasTaken bs ns) where
   pub total_so : (m : ℤ) (q : Result ℤ Refusal) → TotalSays bs ns q → says q ≡ good m → (eqb (lacking t) 0 ≡ true) × (total t ≡ m)
   total_so m q w e = weighed_so (eqb (lacking t) 0) (total t) m (lacking t) (sym (total_said q w) ∙ e)
 
-  pub shown_said : (r : Shown) → ShownSays bs ns r → says r ≡ good (display_of t)
+  pub shown_said : (r : Shown) → ShownSays bs ns r → says_shown r ≡ good (display_of t)
   shown_said r w = w ∙ says_itself h (λ t. good (display_of t))
 
-  pub displays : (m : ℤ) (q : Result ℤ Refusal) → TotalSays bs ns q → says q ≡ good m → (r : Shown) → ShownSays bs ns r → says r ≡ good (Daltons (daltons m))
+  pub displays : (m : ℤ) (q : Result ℤ Refusal) → TotalSays bs ns q → says q ≡ good m → (r : Shown) → ShownSays bs ns r → says_shown r ≡ good (a_mass (daltons m))
   displays m q w e r v =
       let k = total_so m q w e in
-      shown_said r v ∙ ap (λ b. good (cond b (Daltons (daltons (total t))) (Missing (lacking t)))) k.0 ∙ ap (λ x. good (Daltons (daltons x))) k.1
+      shown_said r v ∙ ap (λ b. good (cond b (a_mass (daltons (total t))) (lack (lacking t)))) k.0 ∙ ap (λ x. good (a_mass (daltons x))) k.1
 
-  pub lacks : (n : ℕ) (q : Result ℤ Refusal) → TotalSays bs ns q → (r : Shown) → ShownSays bs ns r → (says r ≡ good (Missing n)) ↔ (says q ≡ refuses 16 n)
+  pub lacks : (n : ℕ) (q : Result ℤ Refusal) → TotalSays bs ns q → (r : Shown) → ShownSays bs ns r → (says_shown r ≡ good (lack n)) ↔ (says q ≡ refuses 16 n)
   lacks n q w r v =
       let k = lack_so (eqb (lacking t) 0) (total t) (lacking t) n in
       ((λ e. total_said q w ∙ k.0 (sym (shown_said r v) ∙ e)), (λ e. shown_said r v ∙ k.1 (sym (total_said q w) ∙ e)))
 
   -- ---- the ledger
   pub adds_up : (m : ℤ) (q : Result ℤ Refusal) → TotalSays bs ns q → says q ≡ good m → (p : Placement) (a : Result (Unit {0}) Refusal) → AllowedSays bs ns p a → says a ≡ good tt
-      → (r : Ledger) → LedgerSays bs ns p r → (says r.booked ≡ good tt) × (sum r.at +ℤ labile_mass t ≡ m)
+      → (r : Result Ledger Refusal) → LedgerSays bs ns p r → (es : Ledger) × ((says r ≡ good es) × (sum es.at +ℤ labile_mass t ≡ m))
   adds_up m q w e p a v f r l =
       let k = total_so m q w e in
-      let ok = (is_allowed h p a v).1 f in
-      let b : books bs ns p.at ≡ good tt =
-      says_itself h (λ t. bookable t p.at) ∙ ap (λ b. cond b (allowable t p.at) (refuses 16 (lacking t))) k.0
-      ∙ ap (λ b. cond b (good tt) (refuses 18 0)) ok
-      in (
-        l.0 ∙ b,
-        ap (λ x. sum x +ℤ labile_mass t) (l.1 ∙ ap (λ x. entries x t p.at) b) ∙ (demands.demand_3_in bs ns h.taken).adds_up p.at ok ∙ k.1,
+      let ok = (is_allowed h p a v).1 f in (
+        record { at = ledger t p.at },
+        (
+          l
+              ∙ ap (of_good (λ x. record { at = ledger t p.at }))
+              (says_itself h (λ t. bookable t p.at) ∙ ap (λ b. cond b (allowable t p.at) (refuses 16 (lacking t))) k.0 ∙ ap (λ b. cond b (good tt) (refuses 18 0)) ok),
+          (demands.demand_3_in bs ns h.taken).adds_up p.at ok ∙ k.1,
+        ),
       )
 
 -- ---- what the line means

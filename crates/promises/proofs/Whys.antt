@@ -1,9 +1,9 @@
 -- What is promised of why there is no placement: over the tables in areas that every call takes, the law of the sets with too few positions.
-use Rattle.std.specs.Prelude.{◌≡◌, ◌↔◌, true, List, [], ℕ, ◌<◌, ℤ, length}
-use Rattle.std.proofs.Common.{ap, ◌∙◌, arith}
+use Rattle.std.specs.Prelude.{◌≡◌, ◌↔◌, true, List, [], ℕ, ◌<◌, ℤ, Result}
+use Rattle.std.proofs.Common.{◌∙◌, arith}
 use Rattle.scope.specs.declared.answers.Why.{Why}
-use Rattle.scope.specs.Limits.{copy_limit, position_limit}
-use Rattle.scope.specs.Lists.{padded}
+use Rattle.scope.specs.declared.refusals.Refusal.{Refusal}
+use Rattle.scope.specs.Limits.{position_limit}
 use Rattle.scope.specs.Layout.{tables_in}
 use Rattle.scope.specs.Positions.{Floating, floating_of}
 use Rattle.scope.specs.Reasons.{too_few, Reason}
@@ -13,7 +13,7 @@ use Rattle.placement_laws.specs.Laws as placing
 use Rattle.placement_laws.specs.Lines.{line_inside}
 use Rattle.placement_laws.specs.Reasons as reasons
 use Rattle.layout_laws.proofs.Laws.{tables_held}
-use Rattle.calls.specs.Competing.{names_of, WhySays}
+use Rattle.calls.specs.Competing.{told_of, WhySays}
 use Rattle.promises.proofs.Weights.{AreasTaken, says_itself, orderly}
 
 module _ (bs : List ℕ) (ns : List ℤ) where
@@ -39,15 +39,13 @@ module _ (bs : List ℕ) (ns : List ℤ) where
           (λ n. z.1 (λ p a. n p ((placing.by_entries f (orderly h) p).0 a))),
         )
 
-    pub why : (r : Why) → WhySays bs ns r
-        → (l : List ℕ) × Reason f l × (says r.count ≡ good (length l)) × (r.at ≡ padded 0 copy_limit l) × ((l ≡ []) ↔ ((p : List ℕ) × Placing f p))
+    pub why : (r : Result Why Refusal) → WhySays bs ns r
+        → (l : List ℕ) × Reason f l × (says r ≡ good (told_of l)) × ((l ≡ []) ↔ ((p : List ℕ) × Placing f p))
     why r w =
-        let own = says_itself h (λ t. good (length w.set)) in
         let z = empty_why w.set w.reason in (
           w.set,
           w.reason,
-          w.says ∙ own,
-          w.names ∙ ap (λ s. names_of s w.set) own,
+          w.says ∙ says_itself h (λ t. good (told_of w.set)),
           (
             (λ e. let y = z.0 e in (y.0, (placing.by_entries f (orderly h) y.0).0 y.1)),
             (λ y. z.1 (y.0, (placing.by_entries f (orderly h) y.0).1 y.1)),

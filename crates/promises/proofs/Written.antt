@@ -50,7 +50,7 @@ reads_back s bs ns q bs' ns' rd e out w out' wr h =
     let o : out' ≡ c ++ drop (length c) out = wr.output_after_is ∙ ap (λ z. output_after z c out) g in
     record {
       long = length c;
-      says = wr.says ∙ g;
+      said = wr.says ∙ g;
       no_longer = k;
       rest = ap (drop (length c)) o ∙ drop-append_seam c (drop (length c) out);
       back =

@@ -1,5 +1,5 @@
 -- The two wrong readers that document 01 names do not meet what is promised of reading: the line `A` is to be accepted, and the empty one is not.
-use Rattle.std.specs.Prelude.{◌≡◌, refl, false, List, [], ◌∷◌, ℕ, ℤ, pos, replicate}
+use Rattle.std.specs.Prelude.{◌≡◌, refl, false, List, [], ◌∷◌, ℕ, ℤ, pos, replicate, Ok, Err}
 use Rattle.std.proofs.Common.{sym, arith}
 use Rattle.scope.specs.declared.grammar.Section.TheVariants.{Plain}
 use Rattle.scope.specs.Bytes.{upper}
@@ -13,6 +13,7 @@ use Rattle.scope.specs.Answers.{too_short}
 use Rattle.grammar_laws.proofs.Proved as spelled
 use Rattle.promises.specs.Promises.{Accepting, RefusesAll, OneTable}
 use Rattle.basics.specs.Said.{not_both}
+use Rattle.promises.proofs.Said.{refusal_of}
 
 -- the line `A`, and what it holds
 abbrev letter : List ℕ

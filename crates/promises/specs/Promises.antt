@@ -1,9 +1,9 @@
 -- The demands of the tender, each sentence above its theorem, over what the calls ensure: `ReadSays` (crate reader), `WriteSays`, `CountSays`, `TotalSays`,
 -- `ShownSays`, `AllowedSays`, `NextSays`, `LedgerSays` (calls), `LookupSays` (rows), `RowsSays` and `StepSays` (listing), `PiecesSay` (glycans), `ReachedSays` (calls), `EmptySays`,
 -- `AddSays`, `FetchSays`, `RemoveSays`, `EntrySays` and `SurveySays` (keeping). That each call asks nothing, and ensures
--- exactly its relation, is shown in proofs/Linked.antt. An answer is spoken of by what it says (`says`). The proofs: proofs/Kept.antt, for a caller in C
+-- exactly its relation, is shown in proofs/Linked.antt. An answer is spoken of by what it says (`says`, of a display `says_shown`). The proofs: proofs/Kept.antt, for a caller in C
 -- proofs/KeptC.antt, and the files that they cite.
-use Rattle.std.specs.Prelude.{◌≡◌, ◌↔◌, ◌⊎◌, true, false, List, [], ◌∷◌, ◌++◌, ℕ, zero, suc, ◌≤◌, ◌<◌, ℤ, pos, ◌+ℤ◌, Float, length, take, drop, get_or, Result, Ok, Err}
+use Rattle.std.specs.Prelude.{◌≡◌, ◌↔◌, ◌⊎◌, true, false, List, [], ◌∷◌, ◌++◌, ℕ, zero, suc, ◌≤◌, ◌<◌, ℤ, ◌+ℤ◌, Float, length, take, drop, get_or, Result, Ok, Err}
 use Rattle.std.proofs.Math.Option.{some}
 use Rattle.scope.specs.declared.answers.Mass.{Mass}
 use Rattle.scope.specs.declared.answers.Mass.TheVariants.{Stated}
@@ -17,7 +17,6 @@ use Rattle.scope.specs.Limits.{copy_limit, row_limit, position_limit}
 use Rattle.scope.specs.Line.{Number, Bracket, Line}
 use Rattle.scope.specs.Glycans.{Item}
 use Rattle.scope.specs.Kept.{kept}
-use Rattle.scope.specs.Refusals.{outcome}
 use Rattle.scope.specs.Tables.{Tables, tables_of}
 use Rattle.scope.specs.Layout.{bytes_of, numbers_of, tables_in}
 use Rattle.scope.specs.Lists.{flat, laid, tabled, padded}
@@ -191,7 +190,7 @@ pub record Accepting (Says : Reader) : Type 0 where
 pub record Entered (s bs : List ℕ) (ns : List ℤ) (out : List ℕ) (w : Result ℕ Refusal) (out' : List ℕ) : Type 0 where
   -- the line is written, and is no longer than s; the rest of the output is as it was
   pub long : ℕ
-  pub says : says w ≡ good long
+  pub said : says w ≡ good long
   pub no_longer : long ≤ length s
   pub rest : drop long out' ≡ drop long out
   -- reading it is a success, and leaves the areas as they are

@@ -10,13 +10,13 @@ use Rattle.scope.specs.declared.refusals.Refusal.{Refusal}
 use Rattle.scope.specs.declared.refusals.Reason.TheVariants.{ShortArea}
 use Rattle.scope.specs.Limits.{copy_limit}
 use Rattle.scope.specs.Lists.{laid}
-use Rattle.scope.specs.Positions.{floaters_by, brackets_of, copies_of}
+use Rattle.scope.specs.Positions.{floaters_by, brackets_of, copies_of, floaters}
 use Rattle.scope.specs.Layout.{tables_in}
 use Rattle.scope.specs.Answers.{Said, good, refuses, says, counts, floater_count, output_after}
 use Rattle.areas.specs.Floats.{FloatersAre}
 use Rattle.positions.proofs.Found.{floaters_many}
 use Rattle.calls.specs.Floating.{floaters_said, FloatersSay}
-use Rattle.calls.specs.Held.{held_said, Grounds}
+use Rattle.calls.specs.Held.{held_said, Held}
 use Rattle.calls.proofs.Laws.{refused_law, answers}
 
 module _ (bs : List ℕ) (ns : List ℤ) (brs cps : List ℕ) where
@@ -44,12 +44,13 @@ module _ (bs : List ℕ) (ns : List ℤ) (brs cps : List ℕ) where
     pub no_floaters : (e : Refusal) → says (Err e) ≡ held_said bs ns → FloatersSay bs ns brs cps (Err e) brs cps
     no_floaters e h = said_so (Err e) brs cps (long_both ∙ sym (refused_law bs ns h (λ t. good (floater_count t)))) refl refl refl
 
-    pub floaters_found : {n : ℕ} {b c brs' cps' : List ℕ} → Grounds bs ns → FloatersAre bs ns n b c → brs' ≡ take n b ++ drop n brs
+    pub floaters_found : {b : List ℕ} {m : List ℤ} {n : ℕ} {i c brs' cps' : List ℕ} → Held bs ns b m → FloatersAre b m n i c → brs' ≡ take n i ++ drop n brs
         → cps' ≡ take n c ++ drop n cps → FloatersSay bs ns brs cps (Ok n) brs' cps'
-    floaters_found {n} {b} {c} {brs'} {cps'} held a p q =
+    floaters_found {b} {m} {n} {i} {c} {brs'} {cps'} held a p q =
         said_so (Ok n) brs' cps' {s = good n} (long_both ∙ answers (λ t. good (floater_count t)) held ∙ ap good (sym a.many)) refl
-        (p ∙ laid_so brs a.brackets (length-map (floaters_by (tables_in bs ns)) (λ c. c.bracket)))
-        (q ∙ laid_so cps a.copies (length-map (floaters_by (tables_in bs ns)) (λ c. c.copy)))
+        (p ∙ laid_so brs (a.brackets ∙ ap (λ t. brackets_of (floaters_by t)) held.same) (length-map (floaters_by (tables_in bs ns)) (λ c. c.bracket)))
+        (q ∙ laid_so cps (a.copies ∙ ap (λ t. copies_of (floaters_by t)) held.same) (length-map (floaters_by (tables_in bs ns)) (λ c. c.copy)))
       where
         laid_so : (old : List ℕ) {new l : List ℕ} → new ≡ l → length l ≡ length (floaters_by (tables_in bs ns)) → new ++ drop n old ≡ laid l old
-        laid_so old {new} {l} e g = ap₂ (λ x m. x ++ drop m old) e (a.many ∙ sym (g ∙ floaters_many bs ns))
+        laid_so old {new} {l} e g =
+            ap₂ (λ x m. x ++ drop m old) e (a.many ∙ ap (λ t. length (floaters t)) held.same ∙ sym (g ∙ floaters_many bs ns))

@@ -1,52 +1,34 @@
 -- From the refusals that every call tries to its answer.
 use mathlib.Core.Path.{◌≡◌, refl, sym, ap, ap₂, ◌∙◌, subst}
 use Rattle.std.specs.Prelude.{Result, Ok, Err}
-use mathlib.Core.Bool.{Bool, true, false, cond, ◌||◌, true≢false}
+use mathlib.Core.Bool.{Bool, true, false, cond, true≢false}
 use mathlib.Core.List.{List, map}
-use Prim.Native.Nat.{ℕ, ◌<◌, ◌≤◌}
+use Prim.Native.Nat.{ℕ}
 use native.Mathlib.Omega.{arith}
-use borrow.Author.Tests.{lt-ltb, le-ltb, ltb-false}
-use lib.Dec.{ltb, eqb}
+use lib.Dec.{eqb}
 use lib.IntN.{ℤ}
-use lib.ListN.{length}
+use lib.ListN.{length, take}
+use lib.Seq.{take-take}
 use Rattle.scope.specs.Tables.{Tables}
 use Rattle.scope.specs.Layout.{bytes_size, numbers_size, tables_in}
 use Rattle.scope.specs.Masses.{total, lacking, ledger, daltons}
 use Rattle.scope.specs.Placements.{allowed}
 use Rattle.scope.specs.Positions.{is_further, floating_of}
-use Rattle.scope.specs.Answers.{allowable, bookable, books, ledger_said, of_good, Said, good, refuses, Display, a_mass, lack, display_of, too_short, are_tables, over_tables, weighed}
+use Rattle.scope.specs.Answers.{allowable, bookable, books, ledger_said, of_good, Said, good, refuses, Display, a_mass, lack, display_of, too_short, SomeLine, are_tables, over_tables, weighed}
 use Rattle.areas.specs.Floats.{floating_in, FloatersAre}
+use Rattle.basics.specs.Choice.{by_test}
 use Rattle.basics.specs.Positions.{same_floats}
 use Rattle.basics.specs.Said.{not_both, same_number_lem, same_place}
-use Rattle.layout_laws.proofs.Laws.{tables_held}
+use Rattle.layout_laws.proofs.Laws.{tables_held, accepted_held}
 use Rattle.placement_laws.specs.Terms.{Orderly}
 use Rattle.placement_laws.specs.Laws.{line_orderly}
 use Rattle.laws.proofs.Proved.{demands}
 use Rattle.masses.specs.declared.Lacking.{Lacking}
 use Rattle.masses.specs.Weights.{weight_of, says_weight, weight_said}
 use Rattle.positions.specs.Marked.{Filled}
-use Rattle.calls.specs.Held.{length_said, held_said, Grounds}
+use Rattle.calls.specs.Held.{length_said, held_said, Grounds, Sized, Held}
 
 -- ---- 13 and 14
--- areas that are long enough
-pub roomy : (bs : List ℕ) (ns : List ℤ) → good (tt {0}) ≡ length_said bs ns → too_short bs ns ≡ false
-roomy bs ns e = go (too_short bs ns) e
-  where
-    go : (b : Bool) → good (tt {0}) ≡ cond b (refuses 13 0) (good tt) → b ≡ false
-    go true q = absurd (not_both q)
-    go false q = refl
-
-pub long_both : (bs : List ℕ) (ns : List ℤ) → too_short bs ns ≡ false → (bytes_size ≤ length bs) × (numbers_size ≤ length ns)
-long_both bs ns e = go (ltb (length bs) bytes_size) (ltb (length ns) numbers_size) (ltb-false (length bs) bytes_size) (ltb-false (length ns) numbers_size) e
-  where
-    go : (a b : Bool) → (a ≡ false → bytes_size ≤ length bs) → (b ≡ false → numbers_size ≤ length ns) → (a || b) ≡ false → (bytes_size ≤ length bs) × (numbers_size ≤ length ns)
-    go true b f g q = absurd (true≢false q)
-    go false b f g q = (f refl, g q)
-
--- what is said of the tables once the lengths are tried
-pub after_length : (bs : List ℕ) (ns : List ℤ) → too_short bs ns ≡ false → held_said bs ns ≡ cond (are_tables bs ns) (good tt) (refuses 14 0)
-after_length bs ns e = ap (λ b. cond b (refuses 13 0) (cond (are_tables bs ns) (good (tt {0})) (refuses 14 0))) e
-
 -- a refusal of another kind of answer is the same refusal
 pub as_refused : {A B : Type 0} {m q n p : ℕ} → ◌≡◌ {A = Said A} (refuses m q) (refuses n p) → ◌≡◌ {A = Said B} (refuses m q) (refuses n p)
 as_refused e = ap₂ refuses (same_number_lem e) (same_place e)
@@ -74,18 +56,49 @@ held_of bs ns a e =
     let h = (tables_held bs ns e).1 in
     record { long = a; tables = e; bounds = h.bounds; few = h.tables_within.few_copies; below = (demands.demand_3_in bs ns e).total_below }
 
--- no refusal is due
-pub held : {bs : List ℕ} {ns : List ℤ} → good (tt {0}) ≡ held_said bs ns → Grounds bs ns
-held {bs} {ns} e = let n = go (too_short bs ns) (are_tables bs ns) e in held_of bs ns n.0 n.1
-  where
-    go : (a b : Bool) → good (tt {0}) ≡ cond a (refuses 13 0) (cond b (good tt) (refuses 14 0)) → (a ≡ false) × (b ≡ true)
-    go true b q = absurd (not_both q)
-    go false true q = (refl, refl)
-    go false false q = absurd (not_both q)
+-- ---- the arrays at the front of what is lent hold what is lent
+module _ (bs : List ℕ) (ns : List ℤ) {b : List ℕ} {n : List ℤ} (z : Sized bs ns b n) where
+  bytes_front : take bytes_size b ≡ take bytes_size bs
+  bytes_front = ap (take bytes_size) z.bytes ∙ take-take bytes_size bytes_size bs (omega arith)
 
--- what the call answers by itself
-pub answers : {A : Type 0} {bs : List ℕ} {ns : List ℤ} (f : Tables → Said A) → Grounds bs ns → over_tables bs ns f ≡ f (tables_in bs ns)
-answers {A} {bs} {ns} f h = rw (h.long, h.tables)
+  numbers_front : take numbers_size n ≡ take numbers_size ns
+  numbers_front = ap (take numbers_size) z.numbers ∙ take-take numbers_size numbers_size ns (omega arith)
+
+  line_there : SomeLine bs ns → SomeLine b n
+  line_there w = record { text = w.text; line = w.line; reads = w.reads; bytes = bytes_front ∙ w.bytes; numbers = numbers_front ∙ w.numbers }
+
+  line_back : SomeLine b n → SomeLine bs ns
+  line_back w = record { text = w.text; line = w.line; reads = w.reads; bytes = sym bytes_front ∙ w.bytes; numbers = sym numbers_front ∙ w.numbers }
+
+  -- they are tables where what is lent is
+  pub taken_there : are_tables b n ≡ true → are_tables bs ns ≡ true
+  taken_there e = (demands.exactly_tables bs ns).1 (line_back ((demands.exactly_tables b n).0 e))
+
+  pub not_there : are_tables b n ≡ false → are_tables bs ns ≡ false
+  not_there e = by_test (are_tables bs ns) (λ f. absurd (true≢false (sym ((demands.exactly_tables b n).1 (line_there ((demands.exactly_tables bs ns).0 f))) ∙ e))) (λ f. f)
+
+  -- and hold the same
+  pub same_tables : are_tables bs ns ≡ true → tables_in b n ≡ tables_in bs ns
+  same_tables e =
+      let w = (demands.exactly_tables bs ns).0 e in
+      let v = line_there w in
+      (accepted_held b n v.text v.line v.reads v.bytes v.numbers).tables ∙ sym (accepted_held bs ns w.text w.line w.reads w.bytes w.numbers).tables
+
+  pub held_so : too_short b n ≡ false → are_tables b n ≡ true → Held bs ns b n
+  held_so long e =
+      let f = taken_there e in
+      record { grounds = held_of b n long e; same = same_tables f; tried = z.long; taken = f }
+
+  pub refused_14 : are_tables b n ≡ false → refuses 14 0 ≡ held_said bs ns
+  refused_14 e = sym (rw (z.long, not_there e) refl)
+
+-- tables are answered by themselves
+pub answers_here : {A : Type 0} {bs : List ℕ} {ns : List ℤ} (f : Tables → Said A) → too_short bs ns ≡ false → are_tables bs ns ≡ true → over_tables bs ns f ≡ f (tables_in bs ns)
+answers_here f h k = rw (h, k)
+
+-- what the call answers, by the arrays
+pub answers : {A : Type 0} {bs : List ℕ} {ns : List ℤ} {b : List ℕ} {n : List ℤ} (f : Tables → Said A) → Held bs ns b n → over_tables bs ns f ≡ f (tables_in b n)
+answers f h = answers_here f h.tried h.taken ∙ ap f (sym h.same)
 
 -- ---- the total
 pub weighed_so : (t : Tables) {w v : Result ℤ Lacking} → w ≡ weight_of t → w ≡ v → says_weight v ≡ weighed t (total t)

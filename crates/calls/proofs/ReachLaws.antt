@@ -15,7 +15,7 @@ use Rattle.scope.specs.Layout.{tables_in, brackets_field}
 use Rattle.scope.specs.Positions.{reached}
 use Rattle.scope.specs.Answers.{Said, good, refuses, says, over_tables, output_after}
 use Rattle.brackets.specs.Reached.{ReachedPut}
-use Rattle.calls.specs.Held.{held_said, Grounds}
+use Rattle.calls.specs.Held.{held_said, Held}
 use Rattle.calls.specs.Reaching.{reached_by, reached_at, reached_said, ReachedSays}
 use Rattle.calls.proofs.Laws.{refused_law, answers}
 use Rattle.calls.proofs.SingleLaws.{bracket_at_lem, no_bracket_lem}
@@ -38,19 +38,19 @@ module _ (bs : List ℕ) (ns : List ℤ) (i : ℕ) (out : List ℕ) where
     no_reach e h = said_so (Err e) out (long_slice ∙ sym (refused_law bs ns h (λ t. reached_at t i))) refl refl
 
     -- areas that hold tables
-    module _ {b : ℕ} (held : Grounds bs ns) (e : b ≡ brackets_field bs) where
-      pub reach_17 : b ≤ i → ReachedSays bs ns i out (Err (record { reason = NotFound; place = 0 })) out
+    module _ {b : List ℕ} {n : List ℤ} (held : Held bs ns b n) {k : ℕ} (e : k ≡ brackets_field b) where
+      pub reach_17 : k ≤ i → ReachedSays bs ns i out (Err (record { reason = NotFound; place = 0 })) out
       reach_17 l =
           said_so (Err (record { reason = NotFound; place = 0 })) out {s = refuses 17 0}
           (long_slice ∙ answers (λ t. reached_at t i) held
-          ∙ ap (λ k. given k (λ z. good (length (reached (tables_in bs ns) z))) (refuses 17 0)) (no_bracket_lem bs ns i (omega arith)))
+          ∙ ap (λ k. given k (λ z. good (length (reached (tables_in b n) z))) (refuses 17 0)) (no_bracket_lem b n i (omega (arith, e, l))))
           refl refl
 
-      pub reach_found : {n : ℕ} {out' : List ℕ} → i < b → ReachedPut bs i n out out' → ReachedSays bs ns i out (Ok n) out'
-      reach_found {n} {out'} l p =
-          let at = bracket_at_lem bs ns i (omega arith) in
-          said_so (Ok n) out' {s = good n}
+      pub reach_found : {m : ℕ} {out' : List ℕ} → i < k → ReachedPut b i m out out' → ReachedSays bs ns i out (Ok m) out'
+      reach_found {m} {out'} l p =
+          let at = bracket_at_lem b n i (omega (arith, e, l)) in
+          said_so (Ok m) out' {s = good m}
           (long_slice ∙ answers (λ t. reached_at t i) held
-          ∙ ap (λ k. given k (λ z. good (length (reached (tables_in bs ns) z))) (refuses 17 0)) at ∙ ap good (sym (p.many ns)))
+          ∙ ap (λ k. given k (λ z. good (length (reached (tables_in b n) z))) (refuses 17 0)) at ∙ ap good (sym (p.many n)))
           refl
-          (p.put ns ∙ ap (λ k. laid (given k (reached (tables_in bs ns)) []) out) (sym at))
+          (p.put n ∙ ap (λ k. laid (given k (reached (tables_in b n)) []) out) (sym at) ∙ ap (λ t. laid (reached_by t i) out) held.same)

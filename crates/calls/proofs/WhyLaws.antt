@@ -15,7 +15,7 @@ use Rattle.scope.specs.Answers.{good, says}
 use Rattle.placement_laws.specs.Answered.{some_reason}
 use Rattle.reason.specs.Named.{Competing}
 use Rattle.areas.specs.Floats.{floating_in}
-use Rattle.calls.specs.Held.{held_said, Grounds}
+use Rattle.calls.specs.Held.{held_said, Held}
 use Rattle.calls.specs.Competing.{told_of, Competes, WhySays}
 use Rattle.calls.proofs.Laws.{refused_law, answers}
 
@@ -28,8 +28,13 @@ module _ (bs : List ℕ) (ns : List ℤ) where
       let z = some_reason floats in
       record { set = z.0; reason = z.1; says = refused_law bs ns h (λ t. good (told_of z.0)) }
 
-  pub why_said : {r : Why} → Grounds bs ns → Competes floats r → WhySays bs ns (Ok r)
-  why_said h c = record { set = c.set; reason = c.reason; says = ap good c.told ∙ sym (answers (λ t. good (told_of c.set)) h) }
+  pub why_said : {b : List ℕ} {n : List ℤ} {r : Why} → Held bs ns b n → Competes (floating_of (tables_in b n)) r → WhySays bs ns (Ok r)
+  why_said h c =
+      record {
+        set = c.set;
+        reason = subst (λ t. Reason (floating_of t) c.set) h.same c.reason;
+        says = ap good c.told ∙ sym (answers (λ t. good (told_of c.set)) h);
+      }
 
 -- by the table that holds what floats
 pub competes_in : (tab copy : List ℕ) (k : ℕ) {n : ℕ} {at : List ℕ} {f : Floating} → floating_in tab copy k ≡ f → Competing tab k n at → Competes f (record { count = n; at = at })

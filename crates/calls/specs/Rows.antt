@@ -1,16 +1,16 @@
 -- What is ready before the rows are filled in: a refusal, or the table of where each floater may stand.
-use Rattle.std.specs.Prelude.{◌≡◌, List, ℕ, ◌≤◌, ℤ, length, Result, Ok, Err}
+use Rattle.std.specs.Prelude.{◌≡◌, List, ℕ, ◌≤◌, ℤ, length, Result, Ok, Err, true, false}
 use Rattle.scope.specs.declared.answers.Site.{Site}
 use Rattle.scope.specs.Limits.{row_limit}
-use Rattle.scope.specs.Answers.{says, rows_said}
+use Rattle.scope.specs.Answers.{says, rows_said, too_short, are_tables}
 use Rattle.areas.specs.Floats.{Sized, TableIs}
-use Rattle.calls.specs.Held.{Grounds}
 use Rattle.scope.specs.declared.refusals.Refusal.{Refusal}
 
 -- so many floaters, and their table
 pub record RowsTable (bs : List ℕ) (ns : List ℤ) (room : ℕ) (tab : List ℕ) (k : ℕ) : Type 0 where
   pub roomy : row_limit ≤ room
-  pub held : Grounds bs ns
+  pub tried : too_short bs ns ≡ false
+  pub taken : are_tables bs ns ≡ true
   pub sized : Sized tab k
   pub table : TableIs bs ns tab k
 

@@ -1,7 +1,7 @@
 // The calls over lent areas. Each answers whatever the areas hold: 13 where one is too short, 14 where they are no tables, else its own.
 #![tactic(auto)]
 
-ghost use Rattle.std.specs.Prelude.{◌≡◌, ◌≤◌, length};
+ghost use Rattle.std.specs.Prelude.{◌≡◌, ◌≤◌, length, MatchResult};
 ghost use Rattle.scope.specs.Layout.{tables_in};
 ghost use Rattle.scope.specs.Limits.{copy_limit, row_limit};
 ghost use Rattle.scope.specs.Positions.{floaters, floating_of};
@@ -11,38 +11,45 @@ ghost use Rattle.areas.specs.Bounds.{Bounds};
 ghost use Rattle.scope.specs.Answers.{says, of_good, allowable, moved, requested, residue_count, bracket_count, floater_count, weighed};
 ghost use Rattle.calls.specs.Competing.{Competes, WhySays};
 ghost use Rattle.calls.specs.Floating.{FloatersSay};
-ghost use Rattle.calls.specs.Held.{length_said, held_said};
+ghost use Rattle.calls.specs.Held.{says_refusal, length_said, held_said, Sized, Held};
 ghost use Rattle.calls.specs.Reaching.{ReachedSays};
 ghost use Rattle.calls.specs.Rows.{RowsReady};
 ghost use Rattle.calls.specs.Writing.{WriteSays};
 ghost use Rattle.calls.specs.Says.{CountSays, TotalSays, BracketMassSays, ShownSays, AllowedSays, NextSays, LedgerSays};
 
+use areas::{Bytes, Numbers};
 use masses::{as_daltons, ledger_of, weigh};
 use positions::{fill_table, find_floaters};
 use scope::answers::{Ledger, Listing, Mass, Placement, Shown, Why};
 use scope::refusals::{Reason, Refusal};
 use scope::tables::Tables;
 
-// 13 "a lent area is shorter than its fixed size"
-fn long_enough(bytes: &[u8], numbers: &[i64]) -> Result<(), Refusal>
-    ensures { says result ≡ length_said bytes.now numbers.now }
+// The areas of their fixed sizes, at the front of what is lent: 13 "a lent area is shorter than its fixed size".
+fn sized<'a>(bytes: &'a [u8], numbers: &'a [i64]) -> Result<(&'a Bytes, &'a Numbers), Refusal>
+    ensures { MatchResult result (λ t. Sized bytes.now numbers.now t.0.now t.1.now) (λ e. says_refusal e ≡ length_said bytes.now numbers.now) }
 {
-    if bytes.len() < Tables::BYTES || numbers.len() < Tables::NUMBERS {
+    let Some(bytes) = bytes.first_chunk() else {
         return Err(Refusal {
             reason: Reason::ShortArea,
             place: 0,
         });
-    }
-    Ok(())
+    };
+    let Some(numbers) = numbers.first_chunk() else {
+        return Err(Refusal {
+            reason: Reason::ShortArea,
+            place: 0,
+        });
+    };
+    Ok((bytes, numbers))
 }
 
-// 13 and 14, which every call over tables tries first.
-fn held(bytes: &[u8], numbers: &[i64]) -> Result<(), Refusal>
-    ensures { says result ≡ held_said bytes.now numbers.now }
+// The areas, where they hold tables: 13 and 14, which every call over tables tries first.
+fn held<'a>(bytes: &'a [u8], numbers: &'a [i64]) -> Result<(&'a Bytes, &'a Numbers), Refusal>
+    ensures { MatchResult result (λ t. Held bytes.now numbers.now t.0.now t.1.now) (λ e. says_refusal e ≡ held_said bytes.now numbers.now) }
 {
-    long_enough(bytes, numbers)?;
+    let (bytes, numbers) = sized(bytes, numbers)?;
     if tabled::are_tables(bytes, numbers) {
-        Ok(())
+        Ok((bytes, numbers))
     } else {
         Err(Refusal {
             reason: Reason::NoTables,
@@ -55,15 +62,14 @@ fn held(bytes: &[u8], numbers: &[i64]) -> Result<(), Refusal>
 pub fn write(bytes: &[u8], numbers: &[i64], out: &mut [u8]) -> Result<usize, Refusal>
     ensures { WriteSays bytes.now numbers.now out.old result out.new }
 {
-    long_enough(bytes, numbers)?;
+    let (bytes, numbers) = sized(bytes, numbers)?;
     let mut line = [0u8; Tables::LINE];
-    let n = tabled::line_of(bytes, numbers, &mut line);
-    if n == 0 {
+    let Some(n) = tabled::line_of(bytes, numbers, &mut line) else {
         return Err(Refusal {
             reason: Reason::NoTables,
             place: 0,
         });
-    }
+    };
     if out.len() < n {
         return Err(Refusal {
             reason: Reason::ShortOutput,
@@ -78,7 +84,7 @@ pub fn write(bytes: &[u8], numbers: &[i64], out: &mut [u8]) -> Result<usize, Ref
 pub fn residue_count(bytes: &[u8], numbers: &[i64]) -> Result<usize, Refusal>
     ensures { CountSays residue_count bytes.now numbers.now result }
 {
-    held(bytes, numbers)?;
+    let (bytes, _) = held(bytes, numbers)?;
     Ok(areas::residues(bytes))
 }
 
@@ -86,7 +92,7 @@ pub fn residue_count(bytes: &[u8], numbers: &[i64]) -> Result<usize, Refusal>
 pub fn bracket_count(bytes: &[u8], numbers: &[i64]) -> Result<usize, Refusal>
     ensures { CountSays bracket_count bytes.now numbers.now result }
 {
-    held(bytes, numbers)?;
+    let (bytes, _) = held(bytes, numbers)?;
     Ok(areas::brackets(bytes))
 }
 
@@ -94,7 +100,7 @@ pub fn bracket_count(bytes: &[u8], numbers: &[i64]) -> Result<usize, Refusal>
 pub fn floater_count(bytes: &[u8], numbers: &[i64]) -> Result<usize, Refusal>
     ensures { CountSays floater_count bytes.now numbers.now result }
 {
-    held(bytes, numbers)?;
+    let (bytes, numbers) = held(bytes, numbers)?;
     Ok(find_floaters(bytes, numbers).count)
 }
 
@@ -113,7 +119,7 @@ pub fn floater_brackets(
             place: 0,
         });
     }
-    held(bytes, numbers)?;
+    let (bytes, numbers) = held(bytes, numbers)?;
     let f = find_floaters(bytes, numbers);
     bounds::copy_bytes(&f.index, f.count, brackets);
     bounds::copy_bytes(&f.copy, f.count, copies);
@@ -131,7 +137,7 @@ pub fn reached(bytes: &[u8], numbers: &[i64], k: usize, out: &mut [u16]) -> Resu
             place: 0,
         });
     }
-    held(bytes, numbers)?;
+    let (bytes, numbers) = held(bytes, numbers)?;
     if areas::brackets(bytes) <= k {
         return Err(Refusal {
             reason: Reason::NotFound,
@@ -142,7 +148,7 @@ pub fn reached(bytes: &[u8], numbers: &[i64], k: usize, out: &mut [u16]) -> Resu
 }
 
 // The total, where every modification has a mass; 16 and how many lack one.
-fn weighed(bytes: &[u8], numbers: &[i64]) -> Result<i64, Refusal>
+fn weighed(bytes: &Bytes, numbers: &Numbers) -> Result<i64, Refusal>
     requires { Bounds bytes.now numbers.now }
     ensures { says result ≡ weighed (tables_in bytes.now numbers.now) (total (tables_in bytes.now numbers.now)) }
 {
@@ -159,7 +165,7 @@ fn weighed(bytes: &[u8], numbers: &[i64]) -> Result<i64, Refusal>
 pub fn total(bytes: &[u8], numbers: &[i64]) -> Result<i64, Refusal>
     ensures { TotalSays bytes.now numbers.now result }
 {
-    held(bytes, numbers)?;
+    let (bytes, numbers) = held(bytes, numbers)?;
     weighed(bytes, numbers)
 }
 
@@ -167,7 +173,7 @@ pub fn total(bytes: &[u8], numbers: &[i64]) -> Result<i64, Refusal>
 pub fn bracket_mass(bytes: &[u8], numbers: &[i64], k: usize) -> Result<Mass, Refusal>
     ensures { BracketMassSays bytes.now numbers.now k result }
 {
-    held(bytes, numbers)?;
+    let (bytes, numbers) = held(bytes, numbers)?;
     if areas::brackets(bytes) <= k {
         return Err(Refusal {
             reason: Reason::NotFound,
@@ -181,17 +187,17 @@ pub fn bracket_mass(bytes: &[u8], numbers: &[i64], k: usize) -> Result<Mass, Ref
 pub fn shown(bytes: &[u8], numbers: &[i64]) -> Shown
     ensures { ShownSays bytes.now numbers.now result }
 {
-    if let Err(refusal) = held(bytes, numbers) {
-        return Shown::Refused(refusal.reason);
-    }
-    match weigh(bytes, numbers) {
-        Ok(m) => Shown::Daltons(as_daltons(m)),
-        Err(lacking) => Shown::Missing(lacking.count),
+    match held(bytes, numbers) {
+        Ok((bytes, numbers)) => match weigh(bytes, numbers) {
+            Ok(m) => Shown::Daltons(as_daltons(m)),
+            Err(lacking) => Shown::Missing(lacking.count),
+        },
+        Err(refusal) => Shown::Refused(refusal.reason),
     }
 }
 
 // Whether a placement is allowed by the tables.
-pub fn is_allowed_by(bytes: &[u8], numbers: &[i64], p: Placement) -> bool
+pub fn is_allowed_by(bytes: &Bytes, numbers: &Numbers, p: Placement) -> bool
     requires { (Bounds bytes.now numbers.now) × (length (floaters (tables_in bytes.now numbers.now)) ≤ copy_limit) }
     ensures { result ≡ allowed (floating_of (tables_in bytes.now numbers.now)) p.at }
 {
@@ -202,7 +208,7 @@ pub fn is_allowed_by(bytes: &[u8], numbers: &[i64], p: Placement) -> bool
 }
 
 // Whether it is: 18.
-fn allowable(bytes: &[u8], numbers: &[i64], p: Placement) -> Result<(), Refusal>
+fn allowable(bytes: &Bytes, numbers: &Numbers, p: Placement) -> Result<(), Refusal>
     requires { (Bounds bytes.now numbers.now) × (length (floaters (tables_in bytes.now numbers.now)) ≤ copy_limit) }
     ensures { says result ≡ allowable (tables_in bytes.now numbers.now) p.at }
 {
@@ -220,12 +226,12 @@ fn allowable(bytes: &[u8], numbers: &[i64], p: Placement) -> Result<(), Refusal>
 pub fn is_allowed(bytes: &[u8], numbers: &[i64], p: Placement) -> Result<(), Refusal>
     ensures { AllowedSays bytes.now numbers.now p result }
 {
-    held(bytes, numbers)?;
+    let (bytes, numbers) = held(bytes, numbers)?;
     allowable(bytes, numbers, p)
 }
 
 // The floaters that have too few positions by the tables.
-fn competing_by(bytes: &[u8], numbers: &[i64]) -> Why
+fn competing_by(bytes: &Bytes, numbers: &Numbers) -> Why
     requires { (Bounds bytes.now numbers.now) × (length (floaters (tables_in bytes.now numbers.now)) ≤ copy_limit) }
     ensures { Competes (floating_of (tables_in bytes.now numbers.now)) result }
 {
@@ -243,12 +249,12 @@ fn competing_by(bytes: &[u8], numbers: &[i64]) -> Why
 pub fn why_none(bytes: &[u8], numbers: &[i64]) -> Result<Why, Refusal>
     ensures { WhySays bytes.now numbers.now result }
 {
-    held(bytes, numbers)?;
+    let (bytes, numbers) = held(bytes, numbers)?;
     Ok(competing_by(bytes, numbers))
 }
 
 // A listing moved on by the tables.
-fn next_by(bytes: &[u8], numbers: &[i64], l: Listing) -> Result<Listing, Refusal>
+fn next_by(bytes: &Bytes, numbers: &Numbers, l: Listing) -> Result<Listing, Refusal>
     requires { (Bounds bytes.now numbers.now) × (length (floaters (tables_in bytes.now numbers.now)) ≤ copy_limit) }
     ensures { says result ≡ of_good moved (requested (floating_of (tables_in bytes.now numbers.now)) l) }
 {
@@ -262,7 +268,7 @@ fn next_by(bytes: &[u8], numbers: &[i64], l: Listing) -> Result<Listing, Refusal
 pub fn next_placement(bytes: &[u8], numbers: &[i64], l: Listing) -> Result<Listing, Refusal>
     ensures { NextSays bytes.now numbers.now l result }
 {
-    held(bytes, numbers)?;
+    let (bytes, numbers) = held(bytes, numbers)?;
     next_by(bytes, numbers, l)
 }
 
@@ -270,7 +276,7 @@ pub fn next_placement(bytes: &[u8], numbers: &[i64], l: Listing) -> Result<Listi
 pub fn ledger(bytes: &[u8], numbers: &[i64], p: Placement) -> Result<Ledger, Refusal>
     ensures { LedgerSays bytes.now numbers.now p result }
 {
-    held(bytes, numbers)?;
+    let (bytes, numbers) = held(bytes, numbers)?;
     weighed(bytes, numbers)?;
     allowable(bytes, numbers, p)?;
     Ok(ledger_of(bytes, numbers, p))
@@ -292,7 +298,7 @@ pub fn table_for(
             place: 0,
         });
     }
-    held(bytes, numbers)?;
+    let (bytes, numbers) = held(bytes, numbers)?;
     let f = find_floaters(bytes, numbers);
     fill_table(bytes, numbers, f, tab);
     Ok(f.count)

@@ -1,6 +1,7 @@
 -- 14 "tables that no accepted line reads to": the ways in which areas fail to be tables.
-use Rattle.std.specs.Prelude.{◌≡◌, refl, Bool, true, false, not, List, [], ◌∷◌, ◌++◌, ℕ, ◌<◌, ◌≤◌, eqb, ℤ, length, take, drop}
-use Rattle.std.proofs.Common.{sym, ap, ◌∙◌, subst, arith, lt-ltb, ne_eqb, take_all}
+use Rattle.std.specs.Prelude as O
+use Rattle.std.specs.Prelude.{◌≡◌, refl, Bool, true, false, List, [], ◌∷◌, ◌++◌, ℕ, ◌<◌, ◌≤◌, ℤ, Some, None, is_some, length, take, drop}
+use Rattle.std.proofs.Common.{sym, ap, ◌∙◌, subst, arith, lt-ltb, take_all}
 use Rattle.std.proofs.lemmas.Bool.{false≢true}
 use Rattle.std.proofs.Math.Option.{Option, none, some}
 use Rattle.std.proofs.Math.Seq.{take-append_seam}
@@ -74,26 +75,20 @@ unfolding outcome first_due least refusal1
 some_bytes [] bs ns e = absurd (false≢true e)
 some_bytes (b ∷ s) bs ns e = omega arith
 
-pub no_line : (bs : List ℕ) (ns : List ℤ) {line : List ℕ} → are_tables bs ns ≡ false → LineOf bs ns line 0
-no_line bs ns n = record { none = λ _. refl; tables = λ e. absurd (false≢true (sym n ∙ e)) }
-
 pub its_line : (bs : List ℕ) (ns : List ℤ) {o left : List ℕ} {r : ℕ} → WholeLine (canonical (tables_in bs ns)) o left r → r ≤ length o → r ≤ line_limit
-    → are_tables bs ns ≡ true → LineOf bs ns left r
+    → are_tables bs ns ≡ true → LineOf bs ns left (Some r)
 unfolding are_tables
-its_line bs ns {o} {left} {r} w h k y =
-    record {
-      none = λ n. absurd (false≢true (sym n ∙ y));
-      tables = λ e. record {
-        long = w.long;
-        front = front (canonical (tables_in bs ns)) o left r w h;
-        some = subst (λ z. 1 ≤ z) (sym w.long) (some_bytes (canonical (tables_in bs ns)) (take bytes_size bs) (take numbers_size ns) y);
-        low = k;
-      };
-    }
+its_line bs ns {o} {left} {r} w h k y = (
+  y,
+  record {
+    long = w.long;
+    front = front (canonical (tables_in bs ns)) o left r w h;
+    some = subst (λ z. 1 ≤ z) (sym w.long) (some_bytes (canonical (tables_in bs ns)) (take bytes_size bs) (take numbers_size ns) y);
+    low = k;
+  },
+)
 
 -- whether there is a line says whether they are tables
-pub said_by_line : (bs : List ℕ) (ns : List ℤ) {line : List ℕ} {r : ℕ} → LineOf bs ns line r → not (eqb r 0) ≡ are_tables bs ns
-said_by_line bs ns {line} {r} w =
-    by_test (are_tables bs ns)
-    (λ e. let k = (w.tables e).some in rw (ne_eqb r 0 (omega arith), e))
-    (λ e. rw (w.none e, e))
+pub said_by_line : (bs : List ℕ) (ns : List ℤ) {line : List ℕ} (r : O.Option ℕ) → LineOf bs ns line r → is_some r ≡ are_tables bs ns
+said_by_line bs ns None w = sym w
+said_by_line bs ns (Some n) w = sym w.0

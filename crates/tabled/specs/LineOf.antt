@@ -1,5 +1,5 @@
 -- The canonical line of what areas hold, or none where they are no tables: "14 tables that no accepted line reads to".
-use Rattle.std.specs.Prelude.{◌≡◌, true, false, List, ℕ, ◌≤◌, ℤ, length, take}
+use Rattle.std.specs.Prelude.{◌≡◌, true, false, List, ℕ, ◌≤◌, ℤ, Option, Some, None, length, take}
 use Rattle.scope.specs.Limits.{line_limit}
 use Rattle.scope.specs.Canonical.{canonical}
 use Rattle.scope.specs.Layout.{tables_in}
@@ -12,6 +12,6 @@ pub record TablesLine (bs : List ℕ) (ns : List ℤ) (line : List ℕ) (r : ℕ
   pub some : 1 ≤ r
   pub low : r ≤ line_limit
 
-pub record LineOf (bs : List ℕ) (ns : List ℤ) (line : List ℕ) (r : ℕ) : Type 0 where
-  pub none : are_tables bs ns ≡ false → r ≡ 0
-  pub tables : are_tables bs ns ≡ true → TablesLine bs ns line r
+abbrev pub LineOf : List ℕ → List ℤ → List ℕ → Option ℕ → Type 0
+LineOf bs ns line None = are_tables bs ns ≡ false
+LineOf bs ns line (Some r) = (are_tables bs ns ≡ true) × TablesLine bs ns line r

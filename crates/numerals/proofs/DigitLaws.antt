@@ -7,11 +7,12 @@ use native.Mathlib.Numerals.{add-one}
 use native.Mathlib.Omega.{arith}
 use lib.Dec.{leb}
 use lib.ListN.{length, get_or, drop, drop_of_length-le}
-use lib.Seq.{drop-cons}
+use lib.Seq.{drop-cons, get_or-drop}
+use Rattle.std.specs.List.{slice_range}
 use borrow.Author.Tests.{leb-true}
 use Rattle.scope.specs.Bytes.{is_digit, value}
 use Rattle.basics.specs.Tests.{both_of}
-use Rattle.classes.proofs.Runs.{RunGoesOn, run_enters, run_goes_on, run_stops, run_ends}
+use Rattle.classes.proofs.Runs.{range_to_end, RunGoesOn, run_enters, run_goes_on, run_stops, run_ends}
 use Rattle.numerals.specs.Numerals.{cap, digits_from, DigitsAt}
 
 -- 0 to 9 are 48 to 57
@@ -80,6 +81,10 @@ module _ {s : List ℕ} {at v m i : ℕ} (f : SoFar s at v m i) where
 
   pub digits_end : length s ≤ i → DigitsAt s at v m i
   digits_end h = record { low = f.low; valued = omega (arith, f.low, f.same, value_end_lem s i m h); ends = run_ends f.run h }
+
+-- a byte of the rest of a list
+pub rest_byte : (s r : List ℕ) (at n : ℕ) → r ≡ slice_range s at (length s) → get_or r n 0 ≡ get_or s (at + n) 0
+rest_byte s r at n e = ap (λ l. get_or l n 0) (e ∙ range_to_end s at) ∙ get_or-drop at s n 0
 
 -- the digits behind a number that is kept at the cap
 pub cap_behind : (s : List ℕ) (at v w k : ℕ) → DigitsAt s at v w k → (m : ℕ) → v ≡ min cap m → w ≡ min cap (digits_from m (drop at s))

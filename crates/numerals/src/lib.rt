@@ -28,10 +28,10 @@ pub struct Num {
 }
 
 // A run of digits: its value, kept at the cap or below, and the place behind it.
-#[derive(Clone, Copy, Debug, PartialEq, Eq)]
-pub struct DigitRun {
-    pub value: u64,
-    pub next: usize,
+#[derive(Clone, Copy)]
+struct DigitRun {
+    value: u64,
+    next: usize,
 }
 
 // The digits of a count: their value, kept at the cap of counts or below, and the place behind them.
@@ -64,18 +64,23 @@ fn digit_run(line: &[u8], at: usize, v: u64) -> DigitRun
     requires { v ≤ cap }
     ensures { DigitsAt line.now at v result.value result.next }
 {
-    let mut m = v;
-    let mut i = at;
-    while i < line.len() {
-        let b = line[i];
-        if classes::is_digit(b) {
-            m = with_digit(m, b);
-            i += 1;
-        } else {
-            return DigitRun { value: m, next: i };
+    let Some(rest) = line.get(at..) else {
+        return DigitRun { value: v, next: at };
+    };
+    let mut value = v;
+    for (n, &b) in rest.iter().enumerate() {
+        if !classes::is_digit(b) {
+            return DigitRun {
+                value,
+                next: at + n,
+            };
         }
+        value = with_digit(value, b);
     }
-    DigitRun { value: m, next: i }
+    DigitRun {
+        value,
+        next: at + rest.len(),
+    }
 }
 
 // One digit more, and never above 10^12.
@@ -90,7 +95,7 @@ fn digit_value(b: u8) -> u64
     requires { is_digit b ≡ true }
     ensures { (result ≡ value b) × (result ≤ 9) }
 {
-    (b - 48) as u64
+    u64::from(b - b'0')
 }
 
 // Behind the digits before the point.
@@ -150,7 +155,7 @@ fn with_sign(minus: bool, m: u64) -> i64
     requires { m ≤ cap }
     ensures { result ≡ with_sign minus m }
 {
-    if minus { 0 - (m as i64) } else { m as i64 }
+    if minus { -(m as i64) } else { m as i64 }
 }
 
 // The digits of a count, from `at` on.

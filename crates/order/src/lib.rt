@@ -63,232 +63,236 @@ fn declared_slot() -> Slot
 }
 
 // Where an element of the sequence may begin.
+#[tactic(auto, unfolding(scope::specs::Reading::element))]
 fn at_element(b: u8) -> Act
     ensures { result ≡ element b }
 {
-    if is_letter(b) {
-        return Act::Residue(Section::Plain, Mode::Single);
+    match b {
+        _ if is_letter(b) => Act::Residue(Section::Plain, Mode::Single),
+        b'(' => Act::Go(Mode::Opened),
+        _ => Act::Stop,
     }
-    if b == b'(' {
-        return Act::Go(Mode::Opened);
-    }
-    Act::Stop
 }
 
 // The same, behind an element: or the C-terminus.
+#[tactic(auto, unfolding(scope::specs::Reading::further))]
 fn behind_element(b: u8) -> Act
     ensures { result ≡ further b }
 {
     if b == b'-' {
-        return Act::Go(Mode::CStart);
+        Act::Go(Mode::CStart)
+    } else {
+        at_element(b)
     }
-    at_element(b)
 }
 
+#[tactic(auto, unfolding(scope::specs::Reading::group_first))]
 fn at_group(section: Section, mode: Mode, b: u8) -> Act
     ensures { result ≡ group_first section mode b }
 {
     if is_letter(b) {
-        return Act::Residue(section, mode);
+        Act::Residue(section, mode)
+    } else {
+        Act::Stop
     }
-    Act::Stop
 }
 
+#[tactic(auto, unfolding(scope::specs::Reading::in_group))]
 fn within_group(section: Section, mode: Mode, end: Mode, b: u8) -> Act
     ensures { result ≡ in_group section mode end b }
 {
-    if is_letter(b) {
-        return Act::Residue(section, mode);
+    match b {
+        _ if is_letter(b) => Act::Residue(section, mode),
+        b'[' => Act::Begin(square_slot(Kind::OnResidue, true, mode)),
+        b')' => Act::Go(end),
+        _ => Act::Stop,
     }
-    if b == b'[' {
-        return Act::Begin(square_slot(Kind::OnResidue, true, mode));
-    }
-    if b == b')' {
-        return Act::Go(end);
-    }
-    Act::Stop
 }
 
 // Behind a bracket at the front.
+#[tactic(auto, unfolding(scope::specs::Reading::undecided))]
 fn behind_undecided(b: u8) -> Act
     ensures { result ≡ undecided b }
 {
-    if b == b'[' {
-        return Act::Begin(front_slot());
+    match b {
+        b'[' => Act::Begin(front_slot()),
+        b'?' => Act::RunEnds,
+        b'-' => Act::TermEnds,
+        _ => Act::Stop,
     }
-    if b == b'?' {
-        return Act::RunEnds;
-    }
-    if b == b'-' {
-        return Act::TermEnds;
-    }
-    Act::Stop
 }
 
 // The same, after a count in this run.
+#[tactic(auto, unfolding(scope::specs::Reading::counted))]
 fn behind_counted(b: u8) -> Act
     ensures { result ≡ counted b }
 {
-    if b == b'[' {
-        return Act::Begin(square_slot(Kind::Unknown, false, Mode::Counted));
+    match b {
+        b'[' => Act::Begin(square_slot(Kind::Unknown, false, Mode::Counted)),
+        b'?' => Act::RunEnds,
+        _ => Act::Stop,
     }
-    if b == b'?' {
-        return Act::RunEnds;
-    }
-    Act::Stop
 }
 
 // The same, after a reference.
+#[tactic(auto, unfolding(scope::specs::Reading::referred))]
 fn behind_referred(b: u8) -> Act
     ensures { result ≡ referred b }
 {
-    if b == b'[' {
-        return Act::Begin(square_slot(Kind::Unknown, true, Mode::Referred));
+    match b {
+        b'[' => Act::Begin(square_slot(Kind::Unknown, true, Mode::Referred)),
+        b'-' => Act::TermEnds,
+        _ => Act::Stop,
     }
-    if b == b'-' {
-        return Act::TermEnds;
-    }
-    Act::Stop
 }
 
 // Where a run, a labile bracket, the N-terminus or the sequence may begin.
 fn at_front(b: u8) -> Act
     ensures { result ≡ at_front b }
 {
-    if b == b'[' {
-        return Act::Begin(front_slot());
+    match b {
+        b'[' => Act::Begin(front_slot()),
+        b'{' => Act::Begin(labile_slot()),
+        _ => at_element(b),
     }
-    if b == b'{' {
-        return Act::Begin(labile_slot());
-    }
-    at_element(b)
 }
 
 // The same, where a declaration may begin.
+#[tactic(auto, unfolding(scope::specs::Reading::act))]
 fn at_declarations(b: u8) -> Act
     ensures { result ≡ act Mode.Front b }
 {
     if b == b'<' {
-        return Act::Go(Mode::Angle);
+        Act::Go(Mode::Angle)
+    } else {
+        at_front(b)
     }
-    at_front(b)
 }
 
+#[tactic(auto, unfolding(scope::specs::Reading::act))]
 fn at_angle(b: u8) -> Act
     ensures { result ≡ act Mode.Angle b }
 {
     if b == b'[' {
-        return Act::Begin(declared_slot());
+        Act::Begin(declared_slot())
+    } else {
+        Act::Stop
     }
-    Act::Stop
 }
 
+#[tactic(auto, unfolding(scope::specs::Reading::act))]
 fn behind_tagged(b: u8) -> Act
     ensures { result ≡ act Mode.Tagged b }
 {
-    if b == b'@' {
-        return Act::Places;
-    }
-    Act::Stop
+    if b == b'@' { Act::Places } else { Act::Stop }
 }
 
+#[tactic(auto, unfolding(scope::specs::Reading::act))]
 fn behind_listed(b: u8) -> Act
     ensures { result ≡ act Mode.Listed b }
 {
     if b == b'>' {
-        return Act::Go(Mode::Front);
+        Act::Go(Mode::Front)
+    } else {
+        Act::Stop
     }
-    Act::Stop
 }
 
+#[tactic(auto, unfolding(scope::specs::Reading::act))]
 fn behind_labile(b: u8) -> Act
     ensures { result ≡ act Mode.Labiles b }
 {
-    if b == b'{' {
-        return Act::Begin(labile_slot());
+    match b {
+        b'{' => Act::Begin(labile_slot()),
+        b'[' => Act::Begin(square_slot(Kind::NTerm, true, Mode::NTerms)),
+        _ => at_element(b),
     }
-    if b == b'[' {
-        return Act::Begin(square_slot(Kind::NTerm, true, Mode::NTerms));
-    }
-    at_element(b)
 }
 
+#[tactic(auto, unfolding(scope::specs::Reading::act))]
 fn behind_nterm(b: u8) -> Act
     ensures { result ≡ act Mode.NTerms b }
 {
-    if b == b'[' {
-        return Act::Begin(square_slot(Kind::NTerm, true, Mode::NTerms));
+    match b {
+        b'[' => Act::Begin(square_slot(Kind::NTerm, true, Mode::NTerms)),
+        b'-' => Act::Go(Mode::Start),
+        _ => Act::Stop,
     }
-    if b == b'-' {
-        return Act::Go(Mode::Start);
-    }
-    Act::Stop
 }
 
 fn bracket_only(b: u8, kind: Kind, refers: bool, after: Mode) -> Act
     ensures { result ≡ cond (eqb b open_square) (Act.Begin (square kind refers after)) Act.Stop }
 {
     if b == b'[' {
-        return Act::Begin(square_slot(kind, refers, after));
+        Act::Begin(square_slot(kind, refers, after))
+    } else {
+        Act::Stop
     }
-    Act::Stop
 }
 
 fn bracket_or_further(b: u8, kind: Kind, refers: bool, after: Mode) -> Act
     ensures { result ≡ cond (eqb b open_square) (Act.Begin (square kind refers after)) (further b) }
 {
     if b == b'[' {
-        return Act::Begin(square_slot(kind, refers, after));
+        Act::Begin(square_slot(kind, refers, after))
+    } else {
+        behind_element(b)
     }
-    behind_element(b)
 }
 
+#[tactic(auto, unfolding(scope::specs::Reading::act))]
 fn at_undecided(b: u8) -> Act
     ensures { result ≡ act Mode.Undecided b }
 {
     if b == b'^' {
-        return Act::Go(Mode::Caret);
+        Act::Go(Mode::Caret)
+    } else {
+        behind_undecided(b)
     }
-    behind_undecided(b)
 }
 
+#[tactic(auto, unfolding(scope::specs::Reading::act))]
 fn at_counted(b: u8) -> Act
     ensures { result ≡ act Mode.Counted b }
 {
     if b == b'^' {
-        return Act::Go(Mode::Caret);
+        Act::Go(Mode::Caret)
+    } else {
+        behind_counted(b)
     }
-    behind_counted(b)
 }
 
+#[tactic(auto, unfolding(scope::specs::Reading::act))]
 fn at_caret(b: u8) -> Act
     ensures { result ≡ act Mode.Caret b }
 {
-    if is_digit(b) {
-        return Act::Digit;
-    }
-    Act::Stop
+    if is_digit(b) { Act::Digit } else { Act::Stop }
 }
 
+#[tactic(auto, unfolding(scope::specs::Reading::act))]
 fn at_counting(b: u8) -> Act
     ensures { result ≡ act Mode.Counting b }
 {
     if is_digit(b) {
-        return Act::Digit;
+        Act::Digit
+    } else {
+        behind_counted(b)
     }
-    behind_counted(b)
 }
 
+#[tactic(auto, unfolding(scope::specs::Reading::act))]
 fn at_opened(b: u8) -> Act
     ensures { result ≡ act Mode.Opened b }
 {
     if b == b'?' {
-        return Act::Go(Mode::UnsureOpened);
+        Act::Go(Mode::UnsureOpened)
+    } else {
+        at_group(Section::RangeFirst, Mode::InRange, b)
     }
-    at_group(Section::RangeFirst, Mode::InRange, b)
 }
 
 // What a byte does.
+#[tactic(auto, unfolding(scope::specs::Reading::act))]
 pub fn act_of(mode: Mode, b: u8) -> Act
     ensures { result ≡ act mode b }
 {
@@ -314,8 +318,7 @@ pub fn act_of(mode: Mode, b: u8) -> Act
         Mode::RangeEnd => bracket_only(b, Kind::OnRange, false, Mode::Ranged),
         Mode::Ranged => bracket_or_further(b, Kind::OnRange, false, Mode::Ranged),
         Mode::UnsureEnd => behind_element(b),
-        Mode::CStart => bracket_only(b, Kind::CTerm, true, Mode::CTerms),
-        Mode::CTerms => bracket_only(b, Kind::CTerm, true, Mode::CTerms),
+        Mode::CStart | Mode::CTerms => bracket_only(b, Kind::CTerm, true, Mode::CTerms),
     }
 }
 
@@ -323,29 +326,8 @@ pub fn act_of(mode: Mode, b: u8) -> Act
 pub fn may_end(mode: Mode) -> bool
     ensures { result ≡ may_end mode }
 {
-    match mode {
-        Mode::Front => false,
-        Mode::Angle => false,
-        Mode::Tagged => false,
-        Mode::Listed => false,
-        Mode::Runs => false,
-        Mode::Undecided => false,
-        Mode::Counted => false,
-        Mode::Referred => false,
-        Mode::Caret => false,
-        Mode::Counting => false,
-        Mode::Labiles => false,
-        Mode::NTerms => false,
-        Mode::Start => false,
-        Mode::Single => true,
-        Mode::Opened => false,
-        Mode::UnsureOpened => false,
-        Mode::InRange => false,
-        Mode::InUnsure => false,
-        Mode::RangeEnd => false,
-        Mode::Ranged => true,
-        Mode::UnsureEnd => true,
-        Mode::CStart => false,
-        Mode::CTerms => true,
-    }
+    matches!(
+        mode,
+        Mode::Single | Mode::Ranged | Mode::UnsureEnd | Mode::CTerms
+    )
 }

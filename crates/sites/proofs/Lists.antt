@@ -26,7 +26,7 @@ use Rattle.std.specs.Prelude.{Option as Perhaps}
 use Rattle.scope.specs.declared.grammar.Stuck.{Stuck}
 use Rattle.sites.specs.Says.{terminus_at, place_of, place_end, Stand, WordSays, PlaceReads, PlaceSays, Counts, Before, ListReads}
 use Rattle.sites.proofs.Ways.{over, begins, begins_not, word_begins, word_on, word_off, follows, listed}
-use Rattle.sites.proofs.Termini.{line_ends_lem, word_of, or_none}
+use Rattle.sites.proofs.Termini.{line_ends_lem, found_none, word_of, or_none}
 
 -- ---- a word: k of its bytes are read
 unfoldable pub WordOn : List ℕ → ℕ → List ℕ → ℕ → Type 0
@@ -97,7 +97,7 @@ module _ (line : List ℕ) (at : ℕ) where
 
       module _ (n : terminus_at line at ≡ 0 → ⊥) where
         pub word_inside : at + 2 ≤ length line
-        word_inside = by_test (ltb (at + 1) (length line)) (λ t. omega (arith, lt_of t)) (λ t. absurd (n (sym (line_ends_lem line at (le_of t)))))
+        word_inside = by_test (ltb (at + 1) (length line)) (λ t. omega (arith, lt_of t)) (λ t. absurd (n (found_none line at (sym (line_ends_lem line at (le_of t))))))
           where
             lt_of : ltb (at + 1) (length line) ≡ true → at + 1 < length line
             lt_of t = ltb-true (at + 1) (length line) t

@@ -24,6 +24,10 @@ terminus_or s = given (terminus_of s) (λ t. t) 0
 unfoldable pub terminus_at : List ℕ → ℕ → ℕ
 terminus_at line at = cond (eqb (get_or line (at + 1) 0) dash) (terminus_or (upper (get_or line at 0))) 0
 
+-- the same, as it is found
+unfoldable pub word_found : List ℕ → ℕ → Perhaps ℕ
+word_found line at = cond (eqb (get_or line (at + 1) 0) dash) (coded (terminus_of (upper (get_or line at 0)))) None
+
 unfoldable pub place_of : List ℕ → ℕ → Place ℕ
 place_of line at = record { site = cond (eqb (terminus_at line at) 0) (upper (get_or line at 0)) (terminus_at line at); at = at }
 

@@ -4,7 +4,9 @@
 ghost use Rattle.std.specs.Prelude.{◌≡◌, cond, ◌&&◌, ◌+◌, ◌≤◌, ◌<◌, eqb, ltb, length, get_or};
 ghost use Rattle.scope.specs.Bytes.{comma};
 ghost use Rattle.scope.specs.Limits.{place_limit};
-ghost use Rattle.sites.specs.Says.{terminus_or, terminus_at, SiteIs, WordSays, PlaceSays, ListSays};
+ghost use Rattle.scope.specs.Places.{terminus_of};
+ghost use Rattle.texts.specs.Texts.{coded};
+ghost use Rattle.sites.specs.Says.{word_found, SiteIs, WordSays, PlaceSays, ListSays};
 
 use scope::grammar::Stuck;
 use scope::tables::Tables;
@@ -65,10 +67,10 @@ fn place_at(line: &[u8], at: usize) -> Result<usize, Stuck>
     if at == line.len() || !classes::is_letter(line[at]) {
         return Err(Stuck { at });
     }
-    if terminus_at(line, at) == 0 {
-        return Ok(at + 1);
+    match terminus_at(line, at) {
+        None => Ok(at + 1),
+        Some(_) => word_at(line, at + 2, b"term"),
     }
-    word_at(line, at + 2, b"term")
 }
 
 // The rest of a word, in either case: the byte behind it.
@@ -76,40 +78,34 @@ fn word_at(line: &[u8], at: usize, word: &[u8]) -> Result<usize, Stuck>
     requires { at ≤ length line.now }
     ensures { WordSays line.now at word.now result }
 {
-    let mut k = 0;
-    while k < word.len() {
-        if at + k == line.len() {
-            return Err(Stuck { at: at + k });
-        }
-        if classes::upper(word[k]) == classes::upper(line[at + k]) {
-            k += 1;
-        } else {
+    for (k, &b) in word.iter().enumerate() {
+        if at + k == line.len() || classes::upper(b) != classes::upper(line[at + k]) {
             return Err(Stuck { at: at + k });
         }
     }
-    Ok(at + k)
+    Ok(at + word.len())
 }
 
-// The site of the terminus whose word begins at `at`: 0 where none does.
-fn terminus_at(line: &[u8], at: usize) -> u8
+// The site of the terminus whose word begins at `at`, if one does.
+fn terminus_at(line: &[u8], at: usize) -> Option<u8>
     requires { at < length line.now }
-    ensures { result ≡ terminus_at line.now at }
+    ensures { result ≡ word_found line.now at }
 {
     if at + 1 < line.len() && line[at + 1] == b'-' {
         terminus_of(classes::upper(line[at]))
     } else {
-        0
+        None
     }
 }
 
 // The terminus whose word begins with a letter, given in upper case.
-fn terminus_of(letter: u8) -> u8
-    ensures { result ≡ terminus_or letter }
+fn terminus_of(letter: u8) -> Option<u8>
+    ensures { result ≡ coded (terminus_of letter) }
 {
     match letter {
-        b'N' => Tables::N_TERMINUS,
-        b'C' => Tables::C_TERMINUS,
-        _ => 0,
+        b'N' => Some(Tables::N_TERMINUS),
+        b'C' => Some(Tables::C_TERMINUS),
+        _ => None,
     }
 }
 
@@ -127,18 +123,14 @@ pub fn site_at(line: &[u8], at: usize) -> Site
     if line.len() <= at {
         return Site { site: 0, next: at };
     }
-    let t = terminus_at(line, at);
-    if t == 0 {
-        return Site {
+    match terminus_at(line, at) {
+        None => Site {
             site: classes::upper(line[at]),
             next: at + 1,
-        };
-    }
-    if line.len() - at < WORD {
-        return Site { site: 0, next: at };
-    }
-    Site {
-        site: t,
-        next: at + WORD,
+        },
+        Some(site) => Site {
+            site,
+            next: at + WORD,
+        },
     }
 }
